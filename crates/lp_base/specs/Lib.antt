@@ -6,3 +6,4 @@ pub mod Written
 pub mod Read
 pub mod Files
 pub mod Sinks
+pub mod Schedule

@@ -13,6 +13,8 @@ mod memory;
 mod outside;
 // Places and pieces of a text.
 mod place;
+// Which calls of an object in memory are to fail.
+mod schedule;
 // Sinks in memory.
 mod sinks;
 // How a run ended, with its number.

@@ -3,8 +3,10 @@ ghost use Rattle.std.specs.Prelude.{◌≡◌, ◌+◌, ◌<◌, ◌≤◌, ◌�
 ghost use Rattle.lp_base.specs.Counts.{Counts};
 ghost use Rattle.lp_base.specs.Files.{found};
 ghost use Rattle.lp_base.specs.Held.{Held, Puts, Spares};
+ghost use Rattle.lp_base.specs.Schedule.{IsDue, CalledOnce, IsNew};
 ghost use Rattle.lp_base.specs.Read.{IfTooLong, IsTooLong, IsLonger};
 
+use crate::schedule::Schedule;
 use crate::{Folder, ReadErr, SureFolder, WriteErr};
 use std::alloc::Global;
 
@@ -12,8 +14,7 @@ use std::alloc::Global;
 #[derive(Drop)]
 pub struct MemFolder {
     folder: SureFolder,
-    fail: Vec<u64>,
-    calls: u64,
+    schedule: Schedule,
     read_faults: u64,
     write_faults: u64,
 }
@@ -27,11 +28,11 @@ impl MemFolder {
         ensures write_faults { ⟦<MemFolder as Folder>⟧.write_faults result ≡ 0 }
         ensures misses { ⟦<MemFolder as Folder>⟧.misses result ≡ 0 }
         ensures overs { ⟦<MemFolder as Folder>⟧.overs result ≡ 0 }
+        ensures schedule { IsNew result.schedule fail.items }
     {
         MemFolder {
             folder: SureFolder::new(files),
-            fail,
-            calls: 0,
+            schedule: Schedule::new(fail),
             read_faults: 0,
             write_faults: 0,
         }
@@ -42,17 +43,6 @@ impl MemFolder {
         ensures { IfSome (⟦<MemFolder as Folder>⟧.held self.now) (λ files. option_map (λ bytes. bytes.now) result ≡ files name.now) }
     {
         self.folder.get(name)
-    }
-
-    // Counts a call, and says whether it is to fail.
-    fn is_due(&mut self) -> bool
-        ensures due { IsTrue result ↔ Contains self.old.fail.items self.old.calls }
-        ensures same { self.new ≡ record self.old { calls = self.new.calls } }
-        ensures counted { self.new.calls ≡ min (self.old.calls + 1) (2 ^ 64 - 1) }
-    {
-        let due = self.fail.contains(&self.calls);
-        self.calls = self.calls.saturating_add(1);
-        due
     }
 }
 
@@ -67,16 +57,42 @@ impl Folder for MemFolder {
 
     ghost overs = { λ m. ⟦<SureFolder as Folder>⟧.overs m.folder };
 
-    fn read(&mut self, alloc: Global, name: &str, limit: u64) -> Result<Vec<u8>, ReadErr> {
-        if self.is_due() {
+    fn read(&mut self, alloc: Global, name: &str, limit: u64) -> Result<Vec<u8>, ReadErr>
+        ensures short { IfOk result (λ bytes. length bytes.items ≤ limit) }
+        ensures told { IfOk result (λ bytes. IfSome (⟦<MemFolder as Folder>⟧.held self.old) (λ files. files name.now ≡ Some bytes.items)) }
+        ensures missing_only { IsErrOf result ReadErr.Missing → IfSome (⟦<MemFolder as Folder>⟧.held self.old) (λ files. files name.now ≡ None) }
+        ensures missing { IfSome (⟦<MemFolder as Folder>⟧.held self.old) (λ files. files name.now ≡ None
+            → IsErrOf result ReadErr.Failed ⊎ IsErrOf result ReadErr.Missing ⊎ IsErrOf result ReadErr.Memory) }
+        ensures too_long { IfTooLong result (λ n. limit < n) }
+        ensures too_long_only { IsTooLong result → IfSome (⟦<MemFolder as Folder>⟧.held self.old) (λ files. IsLonger (files name.now) limit) }
+        ensures read_faults { Counts (IsErrOf result ReadErr.Failed) (⟦<MemFolder as Folder>⟧.read_faults self.old) (⟦<MemFolder as Folder>⟧.read_faults self.new) }
+        ensures misses { Counts (IsErrOf result ReadErr.Missing) (⟦<MemFolder as Folder>⟧.misses self.old) (⟦<MemFolder as Folder>⟧.misses self.new) }
+        ensures overs { Counts (IsTooLong result) (⟦<MemFolder as Folder>⟧.overs self.old) (⟦<MemFolder as Folder>⟧.overs self.new) }
+        ensures write_faults { ⟦<MemFolder as Folder>⟧.write_faults self.new ≡ ⟦<MemFolder as Folder>⟧.write_faults self.old }
+        ensures same { ⟦<MemFolder as Folder>⟧.held self.new ≡ ⟦<MemFolder as Folder>⟧.held self.old }
+        ensures due { IsErrOf result ReadErr.Failed ↔ IsDue self.old.schedule }
+        ensures called { CalledOnce self.old.schedule self.new.schedule }
+    {
+        if self.schedule.is_due() {
             self.read_faults = self.read_faults.saturating_add(1);
             return Err(ReadErr::Failed);
         }
         self.folder.read(alloc, name, limit)
     }
 
-    fn write(&mut self, alloc: Global, name: &str, bytes: &[u8]) -> Result<(), WriteErr> {
-        if self.is_due() {
+    fn write(&mut self, alloc: Global, name: &str, bytes: &[u8]) -> Result<(), WriteErr>
+        ensures told { OnOk result (IfSome (⟦<MemFolder as Folder>⟧.held self.old) (λ old. IfSome (⟦<MemFolder as Folder>⟧.held self.new) (λ new. Puts name.now bytes.now old new))) }
+        ensures failed { IsErrOf result WriteErr.Failed → IfSome (⟦<MemFolder as Folder>⟧.held self.old) (λ old. IfSome (⟦<MemFolder as Folder>⟧.held self.new) (λ new. Spares name.now old new)) }
+        ensures memory { IsErrOf result WriteErr.Memory → ⟦<MemFolder as Folder>⟧.held self.new ≡ ⟦<MemFolder as Folder>⟧.held self.old }
+        ensures tells { (⟦<MemFolder as Folder>⟧.held self.new ≡ None) ↔ (⟦<MemFolder as Folder>⟧.held self.old ≡ None) }
+        ensures write_faults { Counts (IsErrOf result WriteErr.Failed) (⟦<MemFolder as Folder>⟧.write_faults self.old) (⟦<MemFolder as Folder>⟧.write_faults self.new) }
+        ensures read_faults { ⟦<MemFolder as Folder>⟧.read_faults self.new ≡ ⟦<MemFolder as Folder>⟧.read_faults self.old }
+        ensures misses { ⟦<MemFolder as Folder>⟧.misses self.new ≡ ⟦<MemFolder as Folder>⟧.misses self.old }
+        ensures overs { ⟦<MemFolder as Folder>⟧.overs self.new ≡ ⟦<MemFolder as Folder>⟧.overs self.old }
+        ensures due { IsErrOf result WriteErr.Failed ↔ IsDue self.old.schedule }
+        ensures called { CalledOnce self.old.schedule self.new.schedule }
+    {
+        if self.schedule.is_due() {
             self.write_faults = self.write_faults.saturating_add(1);
             return Err(WriteErr::Failed);
         }

@@ -1,9 +1,11 @@
 // Sinks in memory, into room that the caller made.
-ghost use Rattle.std.specs.Prelude.{◌≡◌, ◌+◌, ◌++◌, ◌<◌, ◌≤◌, ◌-◌, ◌^◌, ◌↔◌, ℕ, List, Option, length, min, None, Some, OnOk, OnErr, IfSome, IsErr, take, vec_capacity, if◌then◌else◌, option_map};
+ghost use Rattle.std.specs.Prelude.{◌≡◌, ◌+◌, ◌++◌, ◌<◌, ◌≤◌, ◌⊎◌, ◌-◌, ◌^◌, ◌↔◌, ℕ, List, Option, length, min, None, Some, OnOk, OnErr, IfSome, IsSome, IsErr, take, vec_capacity, if◌then◌else◌, option_map};
 ghost use Rattle.lp_base.specs.Counts.{Counts};
-ghost use Rattle.lp_base.specs.Sinks.{sure_count};
+ghost use Rattle.lp_base.specs.Schedule.{IsDue, CalledOnce, IsNew};
+ghost use Rattle.lp_base.specs.Sinks.{IsFull, HasRoom, sure_count};
 ghost use Rattle.lp_base.specs.Written.{Appends, AppendsPrefix};
 
+use crate::schedule::Schedule;
 use crate::{Failed, Sink};
 
 // Appends a piece that fits the room that is left.
@@ -19,8 +21,7 @@ fn fill(room: &mut Vec<u8>, piece: &[u8])
 #[derive(Drop)]
 pub struct MemSink {
     room: Vec<u8>,
-    fail: Vec<u64>,
-    calls: u64,
+    schedule: Schedule,
     faults: u64,
 }
 
@@ -30,11 +31,11 @@ impl MemSink {
     pub fn new(room: Vec<u8>, fail: Vec<u64>) -> MemSink
         ensures written { ⟦<MemSink as Sink>⟧.written result ≡ Some room.items }
         ensures faults { ⟦<MemSink as Sink>⟧.faults result ≡ 0 }
+        ensures schedule { IsNew result.schedule fail.items }
     {
         MemSink {
             room,
-            fail,
-            calls: 0,
+            schedule: Schedule::new(fail),
             faults: 0,
         }
     }
@@ -52,10 +53,18 @@ impl Sink for MemSink {
 
     ghost faults = { λ s. s.faults };
 
-    fn put(&mut self, piece: &[u8]) -> Result<(), Failed> {
-        let due = self.fail.contains(&self.calls);
-        self.calls = self.calls.saturating_add(1);
-        if due || self.room.capacity() - self.room.len() < piece.len() {
+    fn put(&mut self, piece: &[u8]) -> Result<(), Failed>
+        ensures appended { OnOk result (Appends (⟦<MemSink as Sink>⟧.written self.old) (⟦<MemSink as Sink>⟧.written self.new) piece.now) }
+        ensures prefix { OnErr result (AppendsPrefix (⟦<MemSink as Sink>⟧.written self.old) (⟦<MemSink as Sink>⟧.written self.new) piece.now) }
+        ensures faults { Counts (IsErr result) (⟦<MemSink as Sink>⟧.faults self.old) (⟦<MemSink as Sink>⟧.faults self.new) }
+        ensures fails { IsErr result ↔ (IsDue self.old.schedule ⊎ IsFull self.old piece.now) }
+        ensures called { CalledOnce self.old.schedule self.new.schedule }
+    {
+        if self.schedule.is_due() {
+            self.faults = self.faults.saturating_add(1);
+            return Err(Failed);
+        }
+        if self.room.capacity() - self.room.len() < piece.len() {
             self.faults = self.faults.saturating_add(1);
             return Err(Failed);
         }
@@ -110,7 +119,13 @@ impl Sink for SureSink {
 
     ghost faults = { λ _. 0 };
 
-    fn put(&mut self, piece: &[u8]) -> Result<(), Failed> {
+    fn put(&mut self, piece: &[u8]) -> Result<(), Failed>
+        ensures appended { OnOk result (Appends (⟦<SureSink as Sink>⟧.written self.old) (⟦<SureSink as Sink>⟧.written self.new) piece.now) }
+        ensures prefix { OnErr result (AppendsPrefix (⟦<SureSink as Sink>⟧.written self.old) (⟦<SureSink as Sink>⟧.written self.new) piece.now) }
+        ensures faults { Counts (IsErr result) (⟦<SureSink as Sink>⟧.faults self.old) (⟦<SureSink as Sink>⟧.faults self.new) }
+        ensures tells { IsSome (⟦<SureSink as Sink>⟧.written self.new) ↔ HasRoom self.old piece.now }
+        ensures count { sure_count self.new ≡ min (sure_count self.old + length piece.now) (2 ^ 64 - 1) }
+    {
         self.count = self.count.saturating_add(piece.len() as u64);
         if self.is_full || self.room.capacity() - self.room.len() < piece.len() {
             self.is_full = true;
