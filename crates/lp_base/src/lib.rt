@@ -31,3 +31,6 @@ pub use place::{Place, Spot};
 pub use sinks::{MemSink, SureSink};
 pub use status::Status;
 pub use sure_folder::SureFolder;
+
+#[cfg(test)]
+mod tests;
