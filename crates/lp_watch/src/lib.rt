@@ -1,0 +1,21 @@
+//! Notes of a search, and watchers that take them.
+#![tactic(auto)]
+
+// The watcher that counts.
+mod counter;
+// All watchers of a run.
+mod crowd;
+// The notes, and what is answered to one.
+mod note;
+// How many notes of each kind.
+mod tally;
+// The watcher that keeps its notes.
+mod tracer;
+// A watcher as the search sees it.
+mod watch;
+
+pub use counter::Counter;
+pub use crowd::{Crowd, Lent};
+pub use note::{Go, Note};
+pub use tracer::Tracer;
+pub use watch::Watch;
