@@ -3,3 +3,4 @@ pub mod Seen
 pub mod Reports
 pub mod Kept
 pub mod Crowd
+pub mod Told

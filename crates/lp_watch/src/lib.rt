@@ -5,6 +5,8 @@
 mod counter;
 // All watchers of a run.
 mod crowd;
+// What many notes do.
+mod laws;
 // The notes, and what is answered to one.
 mod note;
 // How many notes of each kind.
@@ -16,6 +18,10 @@ mod watch;
 
 pub use counter::Counter;
 pub use crowd::{Crowd, Lent};
+pub use laws::{each_has_the_notes, notes_add_up, places_add_up, who_stays};
 pub use note::{Go, Note};
 pub use tracer::Tracer;
 pub use watch::Watch;
+
+#[cfg(test)]
+mod tests;
