@@ -1,0 +1,9 @@
+pub mod Status
+pub mod Limit
+pub mod Counts
+pub mod Held
+pub mod Written
+pub mod Read
+pub mod Files
+pub mod Sinks
+pub mod Schedule

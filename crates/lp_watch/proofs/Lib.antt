@@ -1,0 +1,3 @@
+mod Walk
+mod Steps
+mod Told

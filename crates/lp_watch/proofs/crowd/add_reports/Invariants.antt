@@ -1,0 +1,6 @@
+use Rattle.std.proofs.Common.{◌≡◌, ◌++◌, take}
+use Rattle.std.specs.List.{flat_map}
+use Rattle.lp_watch.proofs.crowd.add_reports.Given as goal
+
+abbrev pub invariant-loop-watcher : goal.invariant-loop-watcher
+invariant-loop-watcher g l = l.out.items ≡ l.fn.out.items ++ flat_map g.W.Watch.report (take l.watcher-index l.watchers)

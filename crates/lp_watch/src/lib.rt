@@ -1,0 +1,27 @@
+//! Notes of a search, and watchers that take them.
+#![tactic(auto)]
+
+// The watcher that counts.
+mod counter;
+// All watchers of a run.
+mod crowd;
+// What many notes do.
+mod laws;
+// The notes, and what is answered to one.
+mod note;
+// How many notes of each kind.
+mod tally;
+// The watcher that keeps its notes.
+mod tracer;
+// A watcher as the search sees it.
+mod watch;
+
+pub use counter::Counter;
+pub use crowd::{Crowd, Lent};
+pub use laws::{each_has_the_notes, notes_add_up, places_add_up, who_stays};
+pub use note::{Go, Note};
+pub use tracer::Tracer;
+pub use watch::Watch;
+
+#[cfg(test)]
+mod tests;
