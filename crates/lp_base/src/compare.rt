@@ -1,0 +1,10 @@
+// The comparisons of arithmetic goals.
+
+/// A comparison of two integers: `<`, `>`, `=<` or `>=`.
+#[derive(Clone, Copy, Debug, PartialEq, Eq)]
+pub enum Compare {
+    Less,
+    Greater,
+    AtMost,
+    AtLeast,
+}
