@@ -1,5 +1,5 @@
 -- A contraction of the redex that a term's head and first argument are.
-use Rattle.std.proofs.Common.{◌≡◌, ℕ, suc, ◌+◌, ◌<◌, ◌≤◌, ◌^◌, List, [], ◌∷◌, ◌++◌, length, map, reverse, refl, sym, ap, subst, ◌∙◌, arith, Option, Some}
+use Rattle.std.proofs.Common.{◌≡◌, ℕ, suc, ◌+◌, ◌-◌, ◌<◌, ◌≤◌, ◌^◌, List, [], ◌∷◌, ◌++◌, length, map, reverse, refl, sym, ap, subst, ◌∙◌, arith, Option, Some}
 use Rattle.std.specs.Prelude.{All, IsSome}
 use Rattle.std.proofs.lemmas.List.Elements.{All-push, All-weaker, All-head}
 use Rattle.lp_calculus.specs.Term.{Term, abs, apply, substitute}
@@ -34,12 +34,12 @@ module _ (d : ℕ) (b : Nodes) (head body arg : TermId) (args rest : List TermId
   pub redex_ahead : head_step (whole b d head args) ≡ Some (abstractions d (apply (substitute (tree b arg.0) (tree b body.0)) (trees b rest)))
   redex_ahead = ap head_step shape ∙ redex_step d (tree b body.0) (tree b arg.0) (trees b rest)
 
-  pub redex_fits : IsSound b → length b.terms < 2 ^ 62 → body.0 < length b.terms → All (λ t. t.0 < length b.terms) args → d ≤ 2 ^ 62 → LooseBelow (2 ^ 32) 0 (whole b d head args) →
+  pub redex_fits : (limit : ℕ) → IsSound b → length b.terms < 2 ^ 62 → body.0 < length b.terms → All (λ t. t.0 < length b.terms) args → limit + d ≤ 2 ^ 63 → LooseBelow limit 0 (whole b d head args) →
       Everywhere (FitsPut (tree b arg.0)) 0 (tree b body.0)
-  redex_fits s n h a e l =
-      let k = loose_redex (2 ^ 32) d (tree b body.0) (tree b arg.0) (trees b rest) (subst (LooseBelow (2 ^ 32) 0) shape l) in
+  redex_fits limit s n h a e l =
+      let k = loose_redex limit d (tree b body.0) (tree b arg.0) (trees b rest) (subst (LooseBelow limit 0) shape l) in
       let i : arg.0 < length b.terms = All-head (λ t. t.0 < length b.terms) arg [] (All-back (λ t. t.0 < length b.terms) rest (arg ∷ []) (rw p at a)) in
-      fits (2 ^ 32 + d) (tree b arg.0) (tree b body.0) k.1 (omega (arith, height_below b s body.0 h, height_below b s arg.0 i))
+      fits (limit + d) (tree b arg.0) (tree b body.0) k.1 (omega (arith, height_below b s body.0 h, height_below b s arg.0 i))
 
   pub redex_loose : (c : Nodes) (next : TermId) → Extends b c → All (λ t. t.0 < length b.terms) args → tree c next.0 ≡ substitute (tree b arg.0) (tree b body.0) →
       whole c d next rest ≡ abstractions d (apply (substitute (tree b arg.0) (tree b body.0)) (trees b rest))
@@ -47,10 +47,10 @@ module _ (d : ℕ) (b : Nodes) (head body arg : TermId) (args rest : List TermId
       ap (abstractions d) (ap (λ t. apply t (trees c rest)) h ∙
       ap (apply (substitute (tree b arg.0) (tree b body.0))) (trees_stay b c rest e (All-front (λ t. t.0 < length b.terms) rest (arg ∷ []) (rw p at a))))
 
-  pub still_loose : (c : Nodes) (next : TermId) → Extends b c → All (λ t. t.0 < length b.terms) args → tree c next.0 ≡ substitute (tree b arg.0) (tree b body.0) →
-      LooseBelow (2 ^ 32) 0 (whole b d head args) → LooseBelow (2 ^ 32) 0 (whole c d next rest)
-  still_loose c next e a h l =
-      subst (LooseBelow (2 ^ 32) 0) (sym (redex_loose c next e a h)) (loose_step (2 ^ 32) d (tree b body.0) (tree b arg.0) (trees b rest) (subst (LooseBelow (2 ^ 32) 0) shape l))
+  pub still_loose : (limit : ℕ) (c : Nodes) (next : TermId) → Extends b c → All (λ t. t.0 < length b.terms) args → tree c next.0 ≡ substitute (tree b arg.0) (tree b body.0) →
+      LooseBelow limit 0 (whole b d head args) → LooseBelow limit 0 (whole c d next rest)
+  still_loose limit c next e a h l =
+      subst (LooseBelow limit 0) (sym (redex_loose c next e a h)) (loose_step limit d (tree b body.0) (tree b arg.0) (trees b rest) (subst (LooseBelow limit 0) shape l))
 
   pub one_more_step : (c : Nodes) (next : TermId) → Extends b c → All (λ t. t.0 < length b.terms) args → tree c next.0 ≡ substitute (tree b arg.0) (tree b body.0) →
       (n m : ℕ) (t : Term) → m ≡ suc n → steps head_step n t ≡ Some (whole b d head args) → steps head_step m t ≡ Some (whole c d next rest)
@@ -78,3 +78,12 @@ pub reduced : (limit n d : ℕ) (b c e : Nodes) (head top id : TermId) (args : L
 reduced limit n d b c e head top id args t l k h p q =
     let r : tree e id.0 ≡ whole b d head args = q ∙ ap (abstractions d) p in
     (n, l, k ∙ ap (λ s. Some s) (sym r), ap head_step r ∙ normal_head d (tree b head.0) (trees b args) h)
+
+-- where no step was taken the term itself is the form
+pub untouched : (limit left d : ℕ) (b : Nodes) (head : TermId) (args : List TermId) (t s : Term) → left ≡ limit → steps head_step (limit - left) t ≡ Some (whole b d head args) →
+    IsNoRedexHead (tree b head.0) → s ≡ t → IsReducedWithin limit t s
+untouched limit left d b head args t s e k h q =
+    let z : limit - left ≡ 0 = omega arith in
+    let same : Some t ≡ Some (whole b d head args) = ap (λ n. steps head_step n t) (sym z) ∙ k in
+    let r : s ≡ whole b d head args = q ∙ (let i : t ≡ whole b d head args = cc in i) in
+    (0, omega arith, ap (λ x. Some x) (sym q), ap head_step r ∙ normal_head d (tree b head.0) (trees b args) h)

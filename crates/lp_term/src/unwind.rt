@@ -7,19 +7,22 @@ use crate::bank::Bank;
 use crate::node::{TermId, TermNode};
 use lp_base::Memory;
 
+/// No term is taken apart below more abstractions than this.
 pub(crate) const DEEPEST: u64 = 1 << 62;
 
-/// Moves the head's abstractions and arguments out of it. The body is told where an abstraction meets an argument.
+/// Moves the head's abstractions, at most so many, and its arguments out of it. The body is told where an abstraction meets an
+/// argument.
 pub(crate) fn unwind(
     bank: &Bank,
+    most: u64,
     depth: &mut u64,
     head: &mut TermId,
     args: &mut Vec<TermId>,
 ) -> Result<Option<TermId>, Memory>
     requires head { head.old.0 < length bank.now.terms }
     requires args { All (λ t. t.0 < length bank.now.terms) args.old.items }
-    requires depth { depth.old ≤ 2 ^ 62 }
-    ensures depth { OnOk result (depth.new ≤ 2 ^ 62) }
+    requires depth { depth.old ≤ most }
+    ensures depth { OnOk result (depth.new ≤ most) }
     ensures same { OnOk result (whole bank.now depth.new head.new args.new.items ≡ whole bank.now depth.old head.old args.old.items) }
     ensures head { OnOk result (head.new.0 < length bank.now.terms) }
     ensures args { OnOk result (All (λ t. t.0 < length bank.now.terms) args.new.items) }
@@ -35,7 +38,7 @@ pub(crate) fn unwind(
                 if !args.is_empty() {
                     return Ok(Some(body));
                 }
-                if *depth >= DEEPEST {
+                if *depth >= most {
                     return Err(Memory);
                 }
                 *depth += 1;

@@ -8,7 +8,7 @@ use Rattle.lp_term.proofs.unwind.unwind.Given as goal
 abbrev pub invariant-down : goal.invariant-down
 invariant-down l = record {
   same : whole l.bank l.depth l.head l.args.items ≡ whole l.bank l.fn.depth l.fn.head l.fn.args.items;
-  depth : l.depth ≤ 2 ^ 62;
+  depth : l.depth ≤ l.fn.most;
   head : l.head.0 < length l.bank.terms;
   args : All (λ t. t.0 < length l.bank.terms) l.args.items;
 }
