@@ -1,10 +1,10 @@
 -- Normal forms, the counts of steps that lead to them, nodes, and large terms.
-use Rattle.std.specs.Prelude.{◌≡◌, ℕ, zero, suc, ◌+◌, ◌<◌, ◌≤◌, nat_eq, not, Bool, true, ◌&&◌, if◌then◌else◌, Some, IsNone, IsSome, ◌⊎◌}
+use Rattle.std.specs.Prelude.{◌≡◌, ℕ, zero, suc, ◌+◌, ◌<◌, ◌≤◌, nat_eq, not, Bool, true, ◌&&◌, if◌then◌else◌, Some, None, IsSome, ◌⊎◌}
 use Rattle.lp_calculus.specs.Term.{Term, index, atom, abs, app, substitute}
 use Rattle.lp_calculus.specs.Convert.{Anywhere, BetaEta, head_step, leftmost_step, steps, IsHeadNormal, ReducesTo}
 
 abbrev pub IsBetaNormal : Term → Type 0
-IsBetaNormal t = IsNone (leftmost_step t)
+IsBetaNormal t = leftmost_step t ≡ None
 
 -- no beta step and no eta step can be taken
 abbrev pub IsNormal : Term → Type 0
