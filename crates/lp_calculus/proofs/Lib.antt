@@ -1,0 +1,15 @@
+pub mod Sigma
+pub mod Plain
+pub mod Parallel
+pub mod Confluent
+pub mod Eta
+pub mod BetaEta
+pub mod Leftmost
+pub mod TypeLaws
+pub mod Fills
+pub mod Steps
+pub mod Rigid
+pub mod Subject
+pub mod Countings
+pub mod Commutations
+pub mod Typings
