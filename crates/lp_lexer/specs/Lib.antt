@@ -1,0 +1,4 @@
+pub mod Bytes
+pub mod Front
+pub mod Lexis
+pub mod Laws
