@@ -36,7 +36,7 @@ comment_nests bs n d h e f g = rw (drop_two bs n h, e, f, ne_eqb d 1 g) (later_l
 pub comment_closes : (bs : List ℕ) (n : ℕ) → n + 1 < length bs → get_or bs n 0 ≡ 42 → get_or bs (n + 1) 0 ≡ 47 → later n (comment_len 1 (drop n bs)) ≡ Some (n + 2)
 comment_closes bs n h e f = rw (drop_two bs n h, e, f) refl
 
-comment_by : (d b c : ℕ) (bs : List ℕ) → (nat_eq b 47 && nat_eq c 42) ≡ false → (nat_eq b 42 && nat_eq c 47) ≡ false → comment_len d (b ∷ c ∷ bs) ≡ later 1 (comment_len d (c ∷ bs))
+pub comment_by : (d b c : ℕ) (bs : List ℕ) → (nat_eq b 47 && nat_eq c 42) ≡ false → (nat_eq b 42 && nat_eq c 47) ≡ false → comment_len d (b ∷ c ∷ bs) ≡ later 1 (comment_len d (c ∷ bs))
 comment_by d b c bs e f = rw (e, f) refl
 
 pub comment_goes : (bs : List ℕ) (n d : ℕ) → n + 1 < length bs → (nat_eq (get_or bs n 0) 47 && nat_eq (get_or bs (n + 1) 0) 42) ≡ false → (nat_eq (get_or bs n 0) 42 && nat_eq (get_or bs (n + 1) 0) 47) ≡ false → later n (comment_len d (drop n bs)) ≡ later (n + 1) (comment_len d (drop (n + 1) bs))

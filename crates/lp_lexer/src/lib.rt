@@ -12,6 +12,9 @@ mod read;
 // Tokens and faults.
 mod token;
 
-pub use laws::one_reading;
+pub use laws::{comments_nest, one_reading, some_reading};
 pub use read::tokens;
 pub use token::{LexFault, Token, TokenKind};
+
+#[cfg(test)]
+mod tests;
