@@ -13,7 +13,7 @@ mod read;
 mod token;
 
 pub use laws::{comments_nest, one_reading, some_reading};
-pub use read::tokens;
+pub use read::{end_place, tokens};
 pub use token::{LexFault, Token, TokenKind};
 
 #[cfg(test)]

@@ -95,3 +95,10 @@ pub fn tokens(alloc: Global, text: &[u8]) -> Result<Vec<Token>, LexFault>
     }
     Ok(out)
 }
+
+/// The place behind a text.
+pub fn end_place(text: &[u8]) -> Place
+    ensures { result ≡ place_at text.now (length text.now) }
+{
+    moved(Place { line: 1, column: 1 }, text)
+}

@@ -1,6 +1,6 @@
 // Each class of token and each escape with its spans, and each fault with its place.
 
-use crate::{LexFault, Token, TokenKind, tokens};
+use crate::{LexFault, Token, TokenKind, end_place, tokens};
 use lp_base::Place;
 use std::alloc::Global;
 
@@ -156,6 +156,7 @@ fn classes_and_spans(rt: HostRuntime) {
         "a symbol before a comment"
     );
     assert!(rt; ends_at(alloc, b"a\n\t\"b\" c", 2, 6), "columns in bytes");
+    assert!(rt; end_place(b"a\nbc") == at(2, 3), "behind a text");
 }
 
 #[test]
