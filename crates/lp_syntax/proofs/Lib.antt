@@ -1,0 +1,12 @@
+pub mod Arena
+pub mod Views
+pub mod Closing
+pub mod Stepping
+pub mod Finishing
+pub mod Fitting
+pub mod Settled
+pub mod Complete
+pub mod Spans
+pub mod Sound
+pub mod Reading
+pub mod Ambiguity

@@ -1,0 +1,8 @@
+use Rattle.std.proofs.Common.{◌≡◌, ◌<◌, ◌≤◌, ◌-◌, ◌+◌, length}
+use Rattle.lp_syntax.proofs.parts.list.Given as goal
+
+abbrev pub invariant-over : goal.invariant-over
+invariant-over l = record { within : l.at ≤ length l.input.tokens.now; from : l.from ≤ l.at }
+
+abbrev pub decreases-over : goal.decreases-over
+decreases-over l = length l.input.tokens.now - l.at

@@ -1,0 +1,38 @@
+use Rattle.std.proofs.Common.{◌≡◌, ◌++◌, [], ◌∷◌, refl, arith, ap, is_ok, sym, ◌∙◌}
+use Rattle.std.proofs.lemmas.Grind.{common_steps}
+use Rattle.std.proofs.ResultArms.{chosen}
+use Rattle.lp_syntax.specs.declared.held.Held.TheVariants.{Waits, Under, Inside, Item, Tail}
+use Rattle.lp_syntax.specs.declared.held.Doing.TheVariants.{Wants}
+use Rattle.lp_syntax.specs.declared.symbol.Sym.TheVariants.{ClosesList}
+use Rattle.lp_syntax.specs.Machine.{close, begins, attach, wants, fresh_list, closes_name}
+use Rattle.std.specs.Prelude.{Some, None}
+use Rattle.lp_syntax.proofs.Views.{each_more, pushed_below}
+use Rattle.lp_syntax.proofs.Closing.{push_steps}
+use Rattle.lp_syntax.proofs.Stepping.{stops_on, stops_empty, named_closed, empty_closed, after_node, operates_after, waits_else}
+use Rattle.lp_syntax.proofs.step.closes_name.Goals as goal
+
+pub returns-in-Some-Inside : goal.returns-in-Some-Inside
+returns-in-Some-Inside c =
+    let st : c.args.frames.now.items ≡ c.pop.new.self.items ++ Inside c.in-Some-Inside.fun ∷ [] = grind (arith, common_steps) in
+    let l = c.in_ok-leaf-in-Some-Inside.ensures in
+    named_closed _ _ _ _ c.in-Some-Inside.fun c.args.o c.in_ok-leaf-in-Some-Inside.leaf st l.grows c.requires.frames l.within l.tree
+
+pub returns-in-Some-Waits : goal.returns-in-Some-Waits
+returns-in-Some-Waits c =
+    let st : c.args.frames.now.items ≡ c.pop.new.self.items ++ Waits c.in-Some-Waits.field-0-0 c.in-Some-Waits.field-0-1 ∷ [] = grind (arith, common_steps) in
+    stops_on (λ fs. closes_name fs c.args.o) _ _ _ _ (Waits c.in-Some-Waits.field-0-0 c.in-Some-Waits.field-0-1) _ st refl
+
+pub returns-in-Some-Under : goal.returns-in-Some-Under
+returns-in-Some-Under c =
+    let st : c.args.frames.now.items ≡ c.pop.new.self.items ++ Under c.in-Some-Under.field-0-0 c.in-Some-Under.field-0-1 c.in-Some-Under.field-0-2 ∷ [] = grind (arith, common_steps) in
+    stops_on (λ fs. closes_name fs c.args.o) _ _ _ _ (Under c.in-Some-Under.field-0-0 c.in-Some-Under.field-0-1 c.in-Some-Under.field-0-2) _ st refl
+
+pub returns-in-Some-Item : goal.returns-in-Some-Item
+returns-in-Some-Item c =
+    let st : c.args.frames.now.items ≡ c.pop.new.self.items ++ Item c.in-Some-Item.field-0-0 c.in-Some-Item.field-0-1 c.in-Some-Item.field-0-2 ∷ [] = grind (arith, common_steps) in
+    stops_on (λ fs. closes_name fs c.args.o) _ _ _ _ (Item c.in-Some-Item.field-0-0 c.in-Some-Item.field-0-1 c.in-Some-Item.field-0-2) _ st refl
+
+pub returns : goal.returns
+returns c =
+    let st : c.args.frames.now.items ≡ c.pop.new.self.items ++ Tail c.in-Some-Tail.field-0-0 c.in-Some-Tail.field-0-1 ∷ [] = grind (arith, common_steps) in
+    stops_on (λ fs. closes_name fs c.args.o) _ _ _ _ (Tail c.in-Some-Tail.field-0-0 c.in-Some-Tail.field-0-1) _ st refl
