@@ -1,1 +1,5 @@
+pub mod Lists
+pub mod Stacks
+pub mod Wholes
+pub mod Ends
 pub mod FamilyRows
