@@ -5,4 +5,5 @@ pub mod Ends
 pub mod Contexts
 pub mod HornTerms
 pub mod HornUnifies
+pub mod HornBranches
 pub mod FamilyRows
