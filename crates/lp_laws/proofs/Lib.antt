@@ -6,4 +6,6 @@ pub mod Contexts
 pub mod HornTerms
 pub mod HornUnifies
 pub mod HornBranches
+pub mod InStep
+pub mod HornCorrect
 pub mod FamilyRows
