@@ -9,3 +9,12 @@ pub mod HornProofs
 pub mod HornUnify
 pub mod HornSearch
 pub mod HornRight
+pub mod Patterns
+pub mod Eigens
+pub mod Look
+pub mod Same
+pub mod Types
+pub mod Pair
+pub mod Scan
+pub mod Rule
+pub mod Unify
