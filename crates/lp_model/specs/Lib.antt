@@ -18,3 +18,7 @@ pub mod Pair
 pub mod Scan
 pub mod Rule
 pub mod Unify
+pub mod Standard
+pub mod Flat
+pub mod Flatten
+pub mod Values
