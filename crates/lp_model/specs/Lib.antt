@@ -22,3 +22,5 @@ pub mod Standard
 pub mod Flat
 pub mod Flatten
 pub mod Values
+pub mod Branch
+pub mod Search
