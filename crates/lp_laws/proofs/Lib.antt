@@ -12,3 +12,5 @@ pub mod Moves
 pub mod HornEnds
 pub mod HornTyped
 pub mod FamilyRows
+pub mod Worked
+pub mod Rows

@@ -24,3 +24,4 @@ pub mod Flatten
 pub mod Values
 pub mod Branch
 pub mod Search
+pub mod Proofs
