@@ -25,3 +25,4 @@ pub mod Values
 pub mod Branch
 pub mod Search
 pub mod Proofs
+pub mod Answers
