@@ -12,5 +12,6 @@ pub mod Moves
 pub mod HornEnds
 pub mod HornTyped
 pub mod FamilyRows
+pub mod Uniforms
 pub mod Worked
 pub mod Rows
