@@ -7,11 +7,7 @@ use Rattle.lp_calculus.specs.Convert.{Converts}
 use Rattle.lp_calculus.specs.Typing.{type_at}
 use Rattle.lp_calculus.specs.Instance.{instance_term}
 use Rattle.lp_model.specs.Flatten.{ClauseFormula}
-use Rattle.lp_model.specs.Proofs.{Declared, IsFormula, Proof, Conv, True, And, Left, Right, Witness, All, Assume, Equal, Arith, Back, Focus, FConv, FAll, FTake, FNeed, FHit, assumed, proves, focuses, Provable}
-
--- each clause of P stands in R, maybe elsewhere
-pub record Stands (P R : List ClauseFormula) : Type 0 where
-  pub at : (i : ℕ) (D : ClauseFormula) → slice_get P i ≡ Some D → (j : ℕ) × (slice_get R j ≡ Some D)
+use Rattle.lp_model.specs.Proofs.{Declared, IsFormula, Proof, Conv, True, And, Left, Right, Witness, All, Assume, Equal, Arith, Back, Focus, FConv, FAll, FTake, FNeed, FHit, assumed, proves, focuses, Provable, Stands}
 
 pub record Focusable (d : Declared) (E : List Ty) (P : List ClauseFormula) (D A : Term) : Type 0 where
   pub focus : Focus

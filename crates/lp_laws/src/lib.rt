@@ -5,3 +5,7 @@
 pub mod horn;
 /// The search over a stack, whatever a task is.
 pub mod skeleton;
+/// Uniform proofs.
+pub mod proofs;
+/// The plain search of hereditary Harrop goals.
+pub mod search;

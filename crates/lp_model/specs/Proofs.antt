@@ -109,3 +109,7 @@ abbrev mutual
 pub record Provable (d : Declared) (E : List Ty) (P : List ClauseFormula) (G : Term) : Type 0 where
   pub proof : Proof
   pub holds : proves d E P G proof
+
+-- each clause of P stands in R, maybe elsewhere
+pub record Stands (P R : List ClauseFormula) : Type 0 where
+  pub at : (i : ℕ) (D : ClauseFormula) → slice_get P i ≡ Some D → (j : ℕ) × (slice_get R j ≡ Some D)
