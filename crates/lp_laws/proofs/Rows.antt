@@ -1,6 +1,6 @@
 -- Worked runs of the plain search, computed.
-use Rattle.std.proofs.Common.{◌≡◌, ℕ, zero, suc, List, [], ◌∷◌, ◌++◌, map, Option, Some, None, refl}
-use Rattle.lp_calculus.specs.Types.{Ty, var, con, arrow, types, no_types}
+use Rattle.std.proofs.Common.{◌≡◌, ℕ, List, [], ◌∷◌, Option, Some, refl}
+use Rattle.lp_calculus.specs.Types.{Ty, var, arrow}
 use Rattle.lp_calculus.specs.Term.{Term, index, atom, abs, app, constant, integer, text, logic}
 use Rattle.lp_calculus.specs.Typing.{Scheme, o_type, int_type, string_type, list_type}
 use Rattle.lp_model.specs.declared.ending.Ending.TheVariants.{NoMore, NoMoreCut, Steps, Flexible, Arithmetic}

@@ -2,7 +2,6 @@
 use Rattle.std.proofs.Common.{◌≡◌, ℕ, ◌+◌, List, [], ◌∷◌, ◌++◌, length, Option, Some, None, arith, ◌<◌}
 use Rattle.lp_calculus.specs.Term.{Term}
 use Rattle.lp_model.specs.declared.ending.Ending.{Ending}
-use Rattle.lp_model.specs.declared.ending.Ending.TheVariants.{Deep}
 use Rattle.lp_model.specs.Skeleton.{State, run, View}
 use Rattle.lp_model.specs.Faithful.{total, OpensLighter, Falls}
 use Rattle.lp_model.specs.Spine.{head_of, arguments}
@@ -14,7 +13,7 @@ use Rattle.lp_calculus.specs.Instance.{instance_term}
 use Rattle.lp_model.specs.Flat.{Goal, Atomic, Cut, Either, Exists, Forall, Assume, Clause, clause, Goals, goal_list, instantiate_goals, type_goals}
 use Rattle.lp_model.specs.Look.{head_normal}
 use Rattle.lp_model.specs.Branch.{entries, Entry, Branch, Answer, Task, Go, Try, Stop}
-use Rattle.lp_calculus.specs.Term.{index, atom, abs, app, Atom, constant, integer, text, eigen, logic, param}
+use Rattle.lp_calculus.specs.Term.{index, atom, abs, app, constant, integer, text, eigen, logic, param}
 use Rattle.lp_model.specs.Search.{follow, with_goals, tried, try_clause, renewed, slotted, slots_of, pairs_of, look_atom, look_form, look_normal, look_goal, look_branch, look}
 use Rattle.lp_laws.proofs.Ends.{ends}
 

@@ -1,12 +1,11 @@
 -- Worked runs of the plain search, computed from formulas: what each row needs to be written down.
-use Rattle.std.proofs.Common.{◌≡◌, ℕ, zero, suc, List, [], ◌∷◌, ◌++◌, map, Option, Some, None, refl}
+use Rattle.std.proofs.Common.{ℕ, zero, suc, List, [], ◌∷◌, ◌++◌, map, Option, Some, None}
 use Rattle.std.specs.Prelude.{◌-◌}
-use Rattle.lp_calculus.specs.Types.{Ty, con, arrow, no_types}
-use Rattle.lp_calculus.specs.Term.{Term, index, atom, abs, app, constant}
-use Rattle.lp_calculus.specs.Typing.{Scheme, o_type}
-use Rattle.lp_model.specs.declared.ending.Ending.{Ending}
+use Rattle.lp_calculus.specs.Types.{Ty, con, no_types}
+use Rattle.lp_calculus.specs.Term.{Term, atom, app, constant}
+use Rattle.lp_calculus.specs.Typing.{Scheme}
 use Rattle.lp_model.specs.Skeleton.{Told, run}
-use Rattle.lp_model.specs.Standard.{two, pi_of}
+use Rattle.lp_model.specs.Standard.{two}
 use Rattle.lp_model.specs.Flat.{Clause, Clauses, clause_list, Goals, no_goals}
 use Rattle.lp_model.specs.Flatten.{ClauseFormula, flatten, flatten_query}
 use Rattle.lp_model.specs.Pair.{Pair}

@@ -10,5 +10,4 @@ ghost use Rattle.lp_model.specs.Skeleton.{State, run};
 /// Each search ends.
 pub fn search_ends()
     ensures { (n : ℕ) → (P : List Clause) → (s : State Task) → (m : ℕ) × (e : Ending) × ((run (look n P) m s).ending ≡ Some e) }
-{
-}
+{}

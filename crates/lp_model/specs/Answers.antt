@@ -1,19 +1,19 @@
 -- Typings of answers, their closings and closed instances, provable instances of a query, and what makes the answers of a search right.
-use Rattle.std.specs.Prelude.{◌≡◌, ℕ, suc, ◌+◌, ◌-◌, ◌≤◌, nat_eq, if◌then◌else◌, List, [], ◌∷◌, ◌++◌, map, length, Option, Some, None, slice_get}
+use Rattle.std.specs.Prelude.{◌≡◌, ℕ, suc, ◌-◌, ◌≤◌, nat_eq, if◌then◌else◌, List, [], ◌∷◌, ◌++◌, map, length, Option, Some, None, slice_get}
 use Rattle.lp_calculus.specs.Types.{Ty, instance}
-use Rattle.lp_calculus.specs.Term.{Term, Atom, index, atom, abs, app, constant, integer, text, eigen, logic, param}
+use Rattle.lp_calculus.specs.Term.{Term, Atom, constant, integer, text, eigen, logic, param}
 use Rattle.lp_calculus.specs.Convert.{Converts}
 use Rattle.lp_calculus.specs.Fill.{Within}
-use Rattle.lp_calculus.specs.Typing.{Context, Typed, o_type, type_at}
+use Rattle.lp_calculus.specs.Typing.{Context, Typed, type_at}
 use Rattle.lp_calculus.specs.Instance.{instance_term}
-use Rattle.lp_calculus.specs.Closed.{AreClosed, IsClosedType, IsClosedAt, IsPositive}
+use Rattle.lp_calculus.specs.Closed.{AreClosed, IsClosedType}
 use Rattle.lp_model.specs.declared.ending.Ending.TheVariants.{NoMore}
 use Rattle.lp_model.specs.Skeleton.{Told}
 use Rattle.lp_model.specs.Faithful.{AnyOf, EachOf}
 use Rattle.lp_model.specs.Index.{instantiate, at}
 use Rattle.lp_model.specs.Pair.{Pair, Closing, closed, SolvesAll}
 use Rattle.lp_model.specs.Flatten.{ClauseFormula}
-use Rattle.lp_model.specs.Proofs.{Declared, under, IsWitness, Provable}
+use Rattle.lp_model.specs.Proofs.{Declared, IsWitness, Provable}
 use Rattle.lp_model.specs.Branch.{Answer}
 
 -- a query: the types of its variables, over its type variables, and its formula, in which the first variable is the outermost index

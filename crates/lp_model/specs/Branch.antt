@@ -1,14 +1,14 @@
 -- Branches of the plain search of hereditary Harrop goals: goals with their assumptions, levels and cut marks; logic variables and type
 -- variables, numbered in the order made; the terms and types of the query's variables; the residual pairs.
-use Rattle.std.specs.Prelude.{ℕ, zero, suc, ◌+◌, ◌-◌, List, [], ◌∷◌, ◌++◌, map}
-use Rattle.lp_calculus.specs.Types.{Ty, var, instance}
-use Rattle.lp_calculus.specs.Term.{Term, atom, logic}
-use Rattle.lp_calculus.specs.Fill.{Binding, put, put_all}
+use Rattle.std.specs.Prelude.{ℕ, List, [], ◌∷◌, map}
+use Rattle.lp_calculus.specs.Types.{Ty}
+use Rattle.lp_calculus.specs.Term.{Term}
+use Rattle.lp_calculus.specs.Fill.{Binding, put_all}
 use Rattle.lp_model.specs.declared.ending.Ending.{Ending}
 use Rattle.lp_model.specs.Types.{TypeBinding, one_type, put_types}
 use Rattle.lp_model.specs.Pair.{Pair, put_types_in}
 use Rattle.lp_model.specs.Unify.{State}
-use Rattle.lp_model.specs.Flat.{Goal, Goals, Clause, goal_list, put_goal, put_clause, type_goal, type_clause}
+use Rattle.lp_model.specs.Flat.{Goal, Clause, put_goal, put_clause, type_goal, type_clause}
 
 -- a goal without loose indices; the assumptions are its own, newest first; a cut in it keeps the oldest `mark` alternatives
 pub record Entry : Type 0 where

@@ -1,8 +1,8 @@
 -- Flattened clauses and goals. Their variables are de Bruijn indices: a clause binds as many as it has types, the innermost first,
 -- and `Exists` and `Forall` bind one each. How they read as formulas, and terms and types put into them.
-use Rattle.std.specs.Prelude.{ℕ, zero, suc, ◌+◌, List, [], ◌∷◌, map, length}
+use Rattle.std.specs.Prelude.{ℕ, zero, suc, List, [], ◌∷◌, map}
 use Rattle.lp_calculus.specs.Types.{Ty, instance}
-use Rattle.lp_calculus.specs.Term.{Term, index, atom, abs, app, shift}
+use Rattle.lp_calculus.specs.Term.{Term, abs, shift}
 use Rattle.lp_calculus.specs.Fill.{Binding, put}
 use Rattle.lp_calculus.specs.Instance.{instance_term}
 use Rattle.lp_model.specs.Index.{instantiate, lifted}

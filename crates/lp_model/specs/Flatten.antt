@@ -1,14 +1,14 @@
 -- Goal form, clause form and flattening of a beta-normal formula (Miller, Nadathur, Pfenning and Scedrov 1991: hereditary Harrop
 -- formulas). None where the formula has not the form.
-use Rattle.std.specs.Prelude.{ℕ, zero, suc, ◌+◌, nat_lt, nat_le, Bool, true, false, ◌&&◌, if◌then◌else◌, List, [], ◌∷◌, ◌++◌, map, Option, Some, None, option_map, slice_index_or}
+use Rattle.std.specs.Prelude.{ℕ, zero, suc, nat_le, Bool, true, false, ◌&&◌, List, [], ◌∷◌, ◌++◌, map, Option, Some, None, option_map, slice_index_or}
 use Rattle.lp_calculus.specs.Types.{Ty, var, param as type_param, con, arrow}
-use Rattle.lp_calculus.specs.Term.{Term, index, atom, abs, app, shift, Atom, constant, integer, text, eigen, logic, param}
+use Rattle.lp_calculus.specs.Term.{Term, index, atom, abs, app, shift, constant, integer, text, eigen, logic, param}
 use Rattle.lp_calculus.specs.Typing.{Scheme}
 use Rattle.lp_model.specs.Spine.{head_of, arguments}
 use Rattle.lp_model.specs.Look.{◌>>=◌}
 use Rattle.lp_model.specs.Eigens.{beta_normal}
 use Rattle.lp_model.specs.Standard.{Form, Truth, Cutting, Both, OneOf, Implies, Every, Exist, Plain, form_of, are_positive}
-use Rattle.lp_model.specs.Flat.{Goal, Atomic, Cut, Either, Exists, Forall, Assume, Goals, no_goals, goals, Clause, clause, Clauses, no_clauses, clauses, add_goals, add_clauses, raise_goals}
+use Rattle.lp_model.specs.Flat.{Atomic, Cut, Either, Exists, Forall, Assume, Goals, no_goals, goals, clause, Clauses, no_clauses, clauses, add_clauses, raise_goals}
 
 -- a standard constant has a number below the first declared one
 abbrev pub is_declared : ℕ → Bool

@@ -1,5 +1,5 @@
 -- The six rules for one pair.
-use Rattle.std.specs.Prelude.{ℕ, zero, suc, ◌+◌, nat_eq, Bool, true, false, ◌&&◌, if◌then◌else◌, List, [], ◌∷◌, ◌++◌, length, map, Option, Some, None, option_map}
+use Rattle.std.specs.Prelude.{ℕ, zero, suc, ◌+◌, nat_eq, Bool, true, false, ◌&&◌, List, [], ◌∷◌, ◌++◌, length, map, Option, Some, None, option_map}
 use Rattle.lp_calculus.specs.Term.{Term, atom, app, apply, constant, eigen, logic, param}
 use Rattle.lp_calculus.specs.Fill.{Binding, abstracted}
 use Rattle.lp_model.specs.Patterns.{eigens, agreeing}

@@ -1,26 +1,23 @@
 -- Plain depth-first search of hereditary Harrop goals, as a look at tasks (Miller, Nadathur, Pfenning and Scedrov 1991; levels of Nadathur 1993).
 -- Where a head reduction needs n steps or more the look halts with `Deep`: head reduction of typed terms ends, so a large n never shows.
-use Rattle.std.specs.Prelude.{ℕ, zero, suc, ◌+◌, ◌-◌, nat_eq, nat_le, nat_lt, Bool, true, false, not, ◌&&◌, if◌then◌else◌, List, [], ◌∷◌, ◌++◌, map, length, filter, Option, Some, None}
-use Rattle.std.specs.Ordering.{int_eq}
+use Rattle.std.specs.Prelude.{ℕ, zero, suc, ◌+◌, ◌-◌, nat_eq, nat_le, nat_lt, Bool, true, false, ◌&&◌, if◌then◌else◌, List, [], ◌∷◌, ◌++◌, map, length, filter, Option, Some, None}
 use Rattle.lp_calculus.specs.Types.{Ty, var}
 use Rattle.lp_calculus.specs.Term.{Term, index, atom, abs, app, substitute, Atom, constant, integer, text, eigen, logic, param}
 use Rattle.lp_calculus.specs.Instance.{instance_term}
 use Rattle.lp_calculus.specs.Normal.{is_absent}
-use Rattle.lp_model.specs.declared.ending.Ending.{Ending}
 use Rattle.lp_model.specs.declared.ending.Ending.TheVariants.{Flexible, Arithmetic, Deep}
 use Rattle.lp_model.specs.declared.ending.Fault.TheVariants.{NotClosed}
 use Rattle.lp_model.specs.Index.{instantiate}
 use Rattle.lp_model.specs.Spine.{head_of, arguments}
 use Rattle.lp_model.specs.Skeleton.{View, Gives, Opens, Parts, Takes, Cuts, Halts, named, eigenconstant, variable, State, starts}
 use Rattle.lp_model.specs.Look.{head_normal}
-use Rattle.lp_model.specs.Same.{same_name, same_numbers}
-use Rattle.lp_model.specs.Types.{TypePair}
+use Rattle.lp_model.specs.Same.{same_name}
 use Rattle.lp_model.specs.Pair.{Pair}
 use Rattle.lp_model.specs.Rule.{type_pairs}
 use Rattle.lp_model.specs.Unify.{Unified, Fail, Solution, Spent, solve, unit_limit}
 use Rattle.lp_model.specs.Standard.{Form, Truth, Cutting, Both, OneOf, Implies, Every, Exist, Plain, form_of}
 use Rattle.lp_model.specs.Flat.{Goal, Atomic, Cut, Either, Exists, Forall, Assume, Goals, Clause, clause, goal_list, clause_list, instantiate_goals, type_goals}
-use Rattle.lp_model.specs.Values.{Outcome, Is, Faults, Value, Number, Bytes, evaluate, term_of, ordered}
+use Rattle.lp_model.specs.Values.{Outcome, Is, Faults, Number, Bytes, evaluate, term_of, ordered}
 use Rattle.lp_model.specs.Branch.{Entry, Branch, Answer, Task, Go, Try, Stop, resume, entries}
 
 -- the branch with these goals

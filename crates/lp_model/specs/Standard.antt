@@ -1,27 +1,36 @@
 -- The standard constants, by their numbers, and the connective at the top of a formula.
-use Rattle.std.specs.Prelude.{ℕ, nat_eq, nat_lt, Bool, true, false, ◌&&◌, ◌||◌, not, if◌then◌else◌, List, [], ◌∷◌}
+use Rattle.std.specs.Prelude.{ℕ, nat_eq, Bool, true, ◌&&◌, ◌||◌, not, if◌then◌else◌, List, [], ◌∷◌}
 use Rattle.lp_calculus.specs.Types.{Ty}
-use Rattle.lp_calculus.specs.Term.{Term, index, atom, abs, app, shift, Atom, constant, integer, text, eigen, logic, param}
+use Rattle.lp_calculus.specs.Term.{Term, index, atom, abs, app, shift, constant, integer, text, eigen, logic, param}
 use Rattle.lp_model.specs.Spine.{head_of, arguments}
 
 abbrev pub both_constant : ℕ
 both_constant = 0
+
 abbrev pub either_constant : ℕ
 either_constant = 1
+
 abbrev pub implies_constant : ℕ
 implies_constant = 2
+
 abbrev pub if_constant : ℕ
 if_constant = 3
+
 abbrev pub pi_constant : ℕ
 pi_constant = 4
+
 abbrev pub sigma_constant : ℕ
 sigma_constant = 5
+
 abbrev pub true_constant : ℕ
 true_constant = 6
+
 abbrev pub cut_constant : ℕ
 cut_constant = 7
+
 abbrev pub equal_constant : ℕ
 equal_constant = 8
+
 abbrev pub is_constant : ℕ
 is_constant = 9
 

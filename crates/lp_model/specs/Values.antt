@@ -1,6 +1,6 @@
 -- The value of an expression: a closed tree of integers, strings and the operations on them.
-use Rattle.std.specs.Prelude.{◌≡◌, ℕ, nat_eq, if◌then◌else◌, Bool, true, false, ◌&&◌, ◌||◌, nat_le, List, [], ◌∷◌, ◌++◌, length, Option, Some, None, option_map, ℤ, pos, neg_ℤ, ◌+ℤ◌, ◌-ℤ◌, ◌*ℤ◌, int_le, int_lt, int_div, int_rem}
-use Rattle.lp_calculus.specs.Term.{Term, index, atom, abs, app, Atom, constant, integer, text, eigen, logic, param}
+use Rattle.std.specs.Prelude.{◌≡◌, ℕ, nat_eq, if◌then◌else◌, Bool, ◌&&◌, ◌||◌, nat_le, List, ◌++◌, length, Option, option_map, ℤ, pos, neg_ℤ, ◌+ℤ◌, ◌-ℤ◌, ◌*ℤ◌, int_le, int_lt, int_div, int_rem}
+use Rattle.lp_calculus.specs.Term.{Term, atom, app, constant, integer, text}
 use Rattle.lp_calculus.specs.Normal.{IsFormOf, eta_normal}
 use Rattle.lp_model.specs.declared.ending.Fault.{Fault}
 use Rattle.lp_model.specs.declared.ending.Fault.TheVariants.{Overflow, ZeroDivisor, NotClosed}
