@@ -19,6 +19,7 @@ pub mod Scan
 pub mod Rule
 pub mod Unify
 pub mod Standard
+pub mod Schemes
 pub mod Flat
 pub mod Flatten
 pub mod Values
