@@ -4,6 +4,7 @@ use Rattle.std.proofs.lemmas.Bool.Decides.{nat_tests}
 use mathlib.Core.Path.{fun_ext}
 use Rattle.lp_calculus.specs.Term.{Term, index, atom, abs, app, shift}
 use Rattle.lp_calculus.specs.Convert.{ReducesTo, Anywhere, here, in_abs, in_head, in_argument, Beta, beta, BetaEta, by_beta, by_eta, done, then_step, same, forth, back, Converts, Reduces}
+use Rattle.lp_calculus.specs.Normal.{IsNormal}
 use Rattle.lp_calculus.proofs.Sigma.{lift, rename, subst, instead}
 use Rattle.lp_calculus.proofs.Plain.{shift-rename, bump}
 use Rattle.lp_calculus.proofs.Parallel.{Par, par_same, par_abs, par_app, par_beta}
@@ -263,11 +264,7 @@ pub conversion_meets : {t s : Term} → Converts t s → (w : Term) × ReducesTo
 conversion_meets c = let d = meet c in (d.0, boths_are d.1, boths_are d.2)
 
 -- so normal terms that convert are one term
-pub IsNormal : Term → Type 0
-IsNormal t = (s : Term) → Anywhere BetaEta t s → ⊥
-
 stays : {t s : Term} → IsNormal t → ReducesTo t s → t ≡ s
-unfolding IsNormal
 stays n (done t) = refl
 stays n (then_step p ps) = absurd (n _ p)
 

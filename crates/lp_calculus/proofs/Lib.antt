@@ -10,3 +10,6 @@ pub mod Fills
 pub mod Steps
 pub mod Rigid
 pub mod Subject
+pub mod Countings
+pub mod Commutations
+pub mod Typings

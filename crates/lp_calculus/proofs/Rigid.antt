@@ -2,6 +2,7 @@
 use Rattle.std.proofs.Common.{◌≡◌, ℕ, suc, ◌+◌, List, [], ◌∷◌, length, refl, ap, arith}
 use Rattle.lp_calculus.specs.Term.{Term, index, atom, abs, app, apply, Atom, constant, integer, text, eigen, logic, param}
 use Rattle.lp_calculus.specs.Convert.{here, in_head, in_argument, Converts, ReducesTo, done, then_step, ConvertAll, convert_none, convert_more}
+pub use Rattle.lp_calculus.specs.Normal.{IsHead}
 use Rattle.lp_calculus.proofs.BetaEta.{conversion_meets}
 use Rattle.lp_calculus.specs.Fill.{Within}
 use Rattle.lp_calculus.proofs.Steps.{Step, converts_on, converts_sym, converts_reduces, within_reduces}
@@ -146,13 +147,6 @@ rigid_reaches P h ts r q c w =
     head_is _ _ i (alike_index j) k = k
     head_is _ _ i (alike_atom a) k = k
     head_is _ _ i (alike_app j d) k = absurd i
-
--- an index or an atom
-abbrev pub IsHead : Term → Type 0
-IsHead (index i) = Unit {0}
-IsHead (atom a) = Unit {0}
-IsHead (abs b) = ⊥
-IsHead (app t u) = ⊥
 
 pub rigid_head : (h : Term) → IsRigid h → IsHead h
 rigid_head (index i) r = tt

@@ -54,7 +54,7 @@ typed_subst τ C D θ h (atom a) T w = w
 typed_subst τ C D θ h (abs b) T w = (w.0, w.1, w.2, typed_subst τ (w.0 ∷ C) (w.0 ∷ D) (up θ) (substitutes_up τ C D θ w.0 h) b w.1 w.3)
 typed_subst τ C D θ h (app t u) T w = (w.0, typed_subst τ C D θ h t (arrow w.0 T) w.1, typed_subst τ C D θ h u w.0 w.2)
 
-typed_instead : (τ : Atom → Option Ty) (C : List Ty) (u : Term) (A : Ty) → HasType τ C u A → Substitutes τ (A ∷ C) C (instead u)
+pub typed_instead : (τ : Atom → Option Ty) (C : List Ty) (u : Term) (A : Ty) → HasType τ C u A → Substitutes τ (A ∷ C) C (instead u)
 typed_instead τ C u A w zero B e = let q : A ≡ B = cc in transport (HasType τ C u) q w
 typed_instead τ C u A w (suc i) B e = e
 

@@ -1,18 +1,25 @@
 -- Normal forms, the counts of steps that lead to them, nodes, and large terms.
-use Rattle.std.specs.Prelude.{◌≡◌, ℕ, zero, suc, ◌+◌, ◌<◌, ◌≤◌, nat_eq, not, Bool, true, ◌&&◌, if◌then◌else◌, Some, IsNone, IsSome, ◌⊎◌}
+use Rattle.std.specs.Prelude.{◌≡◌, ℕ, zero, suc, ◌+◌, ◌<◌, nat_eq, not, Bool, true, ◌&&◌, if◌then◌else◌, Some, None, IsSome, ◌⊎◌}
 use Rattle.lp_calculus.specs.Term.{Term, index, atom, abs, app, substitute}
-use Rattle.lp_calculus.specs.Convert.{Anywhere, BetaEta, head_step, leftmost_step, steps, IsHeadNormal, ReducesTo}
+use Rattle.lp_calculus.specs.Convert.{Anywhere, BetaEta, head_step, leftmost_step, steps, ReducesTo}
 
 abbrev pub IsBetaNormal : Term → Type 0
-IsBetaNormal t = IsNone (leftmost_step t)
+IsBetaNormal t = leftmost_step t ≡ None
 
 -- no beta step and no eta step can be taken
 abbrev pub IsNormal : Term → Type 0
 IsNormal t = (s : Term) → Anywhere BetaEta t s → ⊥
 
+-- an index or an atom
+abbrev pub IsHead : Term → Type 0
+IsHead (index i) = Unit {0}
+IsHead (atom a) = Unit {0}
+IsHead (abs b) = ⊥
+IsHead (app t u) = ⊥
+
 -- leftmost head reduction takes n steps from t to the head-normal form s
 abbrev pub HeadNormalisesTo : ℕ → Term → Term → Type 0
-HeadNormalisesTo n t s = (steps head_step n t ≡ Some s) × IsHeadNormal s
+HeadNormalisesTo n t s = (steps head_step n t ≡ Some s) × (head_step s ≡ None)
 
 -- leftmost reduction takes n steps from t to the beta-normal form s
 abbrev pub NormalisesTo : ℕ → Term → Term → Type 0

@@ -58,6 +58,11 @@ HasType τ C (atom a) T = τ a ≡ Some T
 HasType τ C (abs b) T = (A : Ty) × (B : Ty) × (T ≡ arrow A B) × HasType τ (A ∷ C) b B
 HasType τ C (app t u) T = (A : Ty) × HasType τ C t (arrow A T) × HasType τ C u A
 
+-- a head of type A on these arguments has type T
+abbrev pub HaveTypes : (τ : Atom → Option Ty) → (C : List Ty) → (A : Ty) → List Term → (T : Ty) → Type 0
+HaveTypes τ C A [] T = A ≡ T
+HaveTypes τ C A (t ∷ ts) T = (B : Ty) × (D : Ty) × (A ≡ arrow B D) × HasType τ C t B × HaveTypes τ C D ts T
+
 -- the term has the type in a context
 abbrev pub Typed : Context → (C : List Ty) → Term → Ty → Type 0
 Typed K C t T = HasType (atom_type K) C t T

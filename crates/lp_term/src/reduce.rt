@@ -11,7 +11,7 @@ use crate::node::{TermId, TermNode};
 use crate::putting::substitute;
 use crate::unwind::{DEEPEST, unwind};
 use lp_base::Memory;
-use std::alloc::Global;
+use std::alloc::{AllocFailed, Global};
 
 #[derive(Debug, Drop)]
 pub enum TermRefusal {
@@ -26,6 +26,17 @@ impl From<Memory> for TermRefusal {
     ghost from_gives = { λ _ e. e ≡ refusal.Memory };
 
     fn from(_: Memory) -> TermRefusal {
+        TermRefusal::Memory
+    }
+}
+
+impl<T: Drop> From<AllocFailed<T>> for TermRefusal {
+    ghost use Rattle.std.specs.Prelude.{◌≡◌};
+    ghost use Rattle.lp_term.specs.declared.reduce.TermRefusal.TheVariants as refusal;
+
+    ghost from_gives = { λ _ e. e ≡ refusal.Memory };
+
+    fn from(_: AllocFailed<T>) -> TermRefusal {
         TermRefusal::Memory
     }
 }
@@ -63,7 +74,11 @@ fn put_application(
 }
 
 // The term below so many abstractions.
-fn put_abstractions(bank: &mut Bank, mut depth: u64, term: TermId) -> Result<TermId, Memory>
+pub(crate) fn put_abstractions(
+    bank: &mut Bank,
+    mut depth: u64,
+    term: TermId,
+) -> Result<TermId, Memory>
     requires { term.0 < length bank.old.terms }
     ensures kept { Extends bank.old bank.new }
     ensures within { IfOk result (λ id. id.0 < length bank.new.terms) }
