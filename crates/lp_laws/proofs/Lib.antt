@@ -12,6 +12,7 @@ pub mod Moves
 pub mod HornEnds
 pub mod HornTyped
 pub mod FamilyRows
+pub mod Formulas
 pub mod ProofRows
 pub mod SearchEnds
 pub mod Uniforms
