@@ -12,6 +12,8 @@ pub mod Moves
 pub mod HornEnds
 pub mod HornTyped
 pub mod FamilyRows
+pub mod Assumptions
+pub mod Roots
 pub mod Formulas
 pub mod ProofRows
 pub mod SearchEnds

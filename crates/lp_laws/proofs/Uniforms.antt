@@ -7,11 +7,7 @@ use Rattle.lp_calculus.specs.Convert.{Converts}
 use Rattle.lp_calculus.specs.Typing.{type_at}
 use Rattle.lp_calculus.specs.Instance.{instance_term}
 use Rattle.lp_model.specs.Flatten.{ClauseFormula}
-use Rattle.lp_model.specs.Proofs.{Declared, IsFormula, Proof, Conv, True, And, Left, Right, Witness, All, Assume, Equal, Arith, Back, Focus, FConv, FAll, FTake, FNeed, FHit, assumed, proves, focuses, Provable, Stands}
-
-pub record Focusable (d : Declared) (E : List Ty) (P : List ClauseFormula) (D A : Term) : Type 0 where
-  pub focus : Focus
-  pub holds : focuses d E P D A focus
+use Rattle.lp_model.specs.Proofs.{Declared, IsFormula, Proof, Conv, True, And, Left, Right, Witness, All, Assume, Equal, Arith, Back, Focus, FConv, FAll, FTake, FNeed, FHit, assumed, proves, focuses, Provable, Focusable, Stands}
 
 get_last : (P : List ClauseFormula) (D : ClauseFormula) (i : ℕ) (D' : ClauseFormula) → slice_get (P ++ D ∷ []) i ≡ Some D' → (slice_get P i ≡ Some D') ⊎ (D ≡ D')
 get_last [] D zero D' e = let f : D ≡ D' = cc in inr f

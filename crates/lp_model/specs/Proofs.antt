@@ -113,3 +113,20 @@ pub record Provable (d : Declared) (E : List Ty) (P : List ClauseFormula) (G : T
 -- each clause of P stands in R, maybe elsewhere
 pub record Stands (P R : List ClauseFormula) : Type 0 where
   pub at : (i : ℕ) (D : ClauseFormula) → slice_get P i ≡ Some D → (j : ℕ) × (slice_get R j ≡ Some D)
+
+pub record Focusable (d : Declared) (E : List Ty) (P : List ClauseFormula) (D A : Term) : Type 0 where
+  pub focus : Focus
+  pub holds : focuses d E P D A focus
+
+-- how a formula is proved, where the proof does not begin with a conversion
+pub data Rooted (d : Declared) (E : List Ty) (P : List ClauseFormula) (G : Term) : Type 0 where
+  trivially : (G ≡ truth) ⊎ (G ≡ cut) → Rooted d E P G
+  both_sides : (A B : Term) → G ≡ two 0 [] A B → Provable d E P A → Provable d E P B → Rooted d E P G
+  left_side : (A B : Term) → G ≡ two 1 [] A B → Provable d E P A → Rooted d E P G
+  right_side : (A B : Term) → G ≡ two 1 [] A B → Provable d E P B → Rooted d E P G
+  at_witness : (T : Ty) → (s t : Term) → G ≡ sigma_of T s → IsWitness d E t T → Provable d E P (app s t) → Rooted d E P G
+  for_all : (T : Ty) → (s : Term) → G ≡ pi_of T s → Provable d (E ++ T ∷ []) P (app s (atom (eigen (suc (length E))))) → Rooted d E P G
+  under_assumption : (D A : Term) → IsImplication G D A → Provable d E (P ++ assumed D ∷ []) A → Rooted d E P G
+  equally : (T : Ty) → (t u : Term) → G ≡ two 8 (T ∷ []) t u → Converts t u → Rooted d E P G
+  by_arithmetic : IsArith G → Rooted d E P G
+  by_clause : (i : ℕ) → (D : ClauseFormula) → (ts : List Ty) → slice_get P i ≡ Some D → length ts ≡ D.type_vars → AreClosed ts → IsAtomHead (head_of G) → Focusable d E P (instance_term (type_at ts) D.formula) G → Rooted d E P G
