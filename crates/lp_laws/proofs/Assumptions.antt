@@ -1,6 +1,6 @@
 -- A clause may be replaced by one that it converts to: by induction on proof trees and their focuses together.
-use Rattle.std.proofs.Common.{◌≡◌, ℕ, zero, suc, ◌+◌, List, [], ◌∷◌, ◌++◌, length, Option, Some, None, refl, sym, ap, ◌∙◌, subst, inl, inr}
-use Rattle.std.specs.Prelude.{slice_get, Bool, true, false, ◌⊎◌}
+use Rattle.std.proofs.Common.{◌≡◌, ℕ, zero, suc, List, [], ◌∷◌, ◌++◌, length, Some, refl, sym, ap, ◌∙◌, subst, inl, inr}
+use Rattle.std.specs.Prelude.{slice_get, true, false, ◌⊎◌}
 use Rattle.lp_calculus.specs.Types.{Ty}
 use Rattle.lp_calculus.specs.Term.{Term, atom, app, eigen}
 use Rattle.lp_calculus.specs.Convert.{Converts}
@@ -21,14 +21,17 @@ record StandAs (d : Declared) (E : List Ty) (P R : List ClauseFormula) : Type 0 
 more_eigens : (d : Declared) (E F : List Ty) (P R : List ClauseFormula) → StandAs d E P R → StandAs d (E ++ F) P R
 more_eigens d E F P R st = record {
   at = λ i D e.
-      let r = st.at i D e in
-      (r.0, r.1, record {
-        type_vars = r.2.type_vars;
-        stands = elim r.2.stands [
-          | inl s ↦ inl s
-          | inr f ↦ inr (λ ts l. let g = f ts l in (formula_eigens d E F (instance_term (type_at ts) D.formula) g.0, g.1))
-        ];
-      });
+      let r = st.at i D e in (
+        r.0,
+        r.1,
+        record {
+          type_vars = r.2.type_vars;
+          stands = elim r.2.stands [
+            | inl s ↦ inl s
+            | inr f ↦ inr (λ ts l. let g = f ts l in (formula_eigens d E F (instance_term (type_at ts) D.formula) g.0, g.1))
+          ];
+        },
+      );
 }
 
 get_end : (d : Declared) (E : List Ty) (P R : List ClauseFormula) → length P ≡ length R → (A B : ClauseFormula) → Replaced d E A B → ((i : ℕ) (D : ClauseFormula) → slice_get P i ≡ Some D → (D' : ClauseFormula) × (slice_get R i ≡ Some D') × Replaced d E D D') → (i : ℕ) (D : ClauseFormula) → slice_get (P ++ A ∷ []) i ≡ Some D → (D' : ClauseFormula) × (slice_get (R ++ B ∷ []) i ≡ Some D') × Replaced d E D D'

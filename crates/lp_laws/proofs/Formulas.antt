@@ -1,16 +1,14 @@
 -- Closed formulas: with more eigenconstants, under types for type variables, and the parts of a typed connective.
-use Rattle.std.proofs.Common.{◌≡◌, ℕ, zero, suc, ◌+◌, ◌≤◌, ◌<◌, List, [], ◌∷◌, ◌++◌, map, length, Option, Some, None, refl, sym, ap, ◌∙◌, subst, arith, length-append}
+use Rattle.std.proofs.Common.{◌≡◌, ℕ, zero, suc, ◌≤◌, List, [], ◌∷◌, ◌++◌, map, length, Option, Some, refl, sym, ap, ◌∙◌, subst, arith, length-append}
 use Rattle.std.specs.Prelude.{slice_get}
 use Rattle.lp_calculus.specs.Types.{Ty, Tys, var, param as type_param, con, arrow, no_types, types, instance, instances}
 use Rattle.lp_calculus.specs.Term.{Term, index, atom, abs, app, Atom, constant, integer, text, eigen, logic, param}
-use Rattle.lp_calculus.specs.Fill.{fill, Within}
-use Rattle.lp_calculus.specs.Typing.{Context, HasType, Typed, atom_type, eigen_type, scheme_type, o_type, type_at}
+use Rattle.lp_calculus.specs.Typing.{HasType, Typed, atom_type, eigen_type, scheme_type, o_type}
 use Rattle.lp_calculus.specs.Instance.{instance_atom, instance_term}
 use Rattle.lp_calculus.specs.Closed.{AreClosed, IsClosedType, AreClosedTypes, IsClosedAtom, IsClosedAt}
 use Rattle.lp_calculus.proofs.Fills.{fill_none, within_more}
 use Rattle.lp_calculus.proofs.Commutations.{instance_fill}
-use Rattle.lp_model.specs.Standard.{two, pi_of, sigma_of}
-use Rattle.lp_model.specs.Schemes.{IsStandard}
+use Rattle.lp_model.specs.Standard.{two}
 use Rattle.lp_model.specs.Proofs.{Declared, under, IsFormula, IsWitness}
 use Rattle.lp_laws.proofs.Contexts.{get_front}
 

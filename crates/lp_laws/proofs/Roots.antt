@@ -1,21 +1,21 @@
 -- Inversion of the connectives: a provable formula that is an atom of the calculus on arguments has a proof that begins with the rule of its head. Conversions are
 -- stripped off, and what remains has the same head, since rigid heads are kept, and arguments that convert one by one.
-use Rattle.std.proofs.Common.{◌≡◌, ℕ, zero, suc, ◌+◌, ◌≤◌, ◌<◌, List, [], ◌∷◌, ◌++◌, length, Option, Some, None, refl, sym, ap, ◌∙◌, subst, arith, inl, inr}
-use Rattle.std.specs.Prelude.{slice_get, ◌⊎◌, Bool, true, false}
+use Rattle.std.proofs.Common.{◌≡◌, ℕ, zero, suc, ◌<◌, List, [], ◌∷◌, ◌++◌, length, Some, refl, sym, ap, ◌∙◌, subst, arith, inl, inr}
+use Rattle.std.specs.Prelude.{true, false}
 use Rattle.lp_calculus.specs.Types.{Ty, arrow}
-use Rattle.lp_calculus.specs.Term.{Term, index, atom, abs, app, apply, Atom, constant, integer, text, eigen, logic, param}
+use Rattle.lp_calculus.specs.Term.{Term, index, atom, abs, app, apply, Atom, constant, eigen}
 use Rattle.lp_calculus.specs.Convert.{Converts, same, ReducesTo, done, then_step, ConvertAll, convert_none, convert_more}
 use Rattle.lp_calculus.specs.Normal.{IsNormal}
-use Rattle.lp_calculus.specs.Typing.{Typed, o_type, scheme_type}
+use Rattle.lp_calculus.specs.Typing.{o_type, scheme_type}
 use Rattle.lp_calculus.proofs.BetaEta.{conversion_meets}
-use Rattle.lp_calculus.proofs.Steps.{converts_on, converts_sym, converts_is, converts_app, converts_reduces}
-use Rattle.lp_calculus.proofs.Rigid.{AreJoint, heads_joint}
+use Rattle.lp_calculus.proofs.Steps.{converts_on, converts_sym, converts_app, converts_reduces}
+use Rattle.lp_calculus.proofs.Rigid.{heads_joint}
 use Rattle.lp_model.specs.Spine.{head_of, arguments, arguments_and}
-use Rattle.lp_model.specs.Standard.{truth, cut, two, pi_of, sigma_of}
+use Rattle.lp_model.specs.Standard.{two}
 use Rattle.lp_model.specs.Flatten.{ClauseFormula}
-use Rattle.lp_model.specs.Values.{Value, HasValue, term_of}
+use Rattle.lp_model.specs.Values.{Value, HasValue}
 use Rattle.lp_model.specs.Schemes.{IsStandard}
-use Rattle.lp_model.specs.Proofs.{Declared, under, IsFormula, IsWitness, Proof, Conv, True, And, Left, Right, Witness, All, Assume, Equal, Arith, Back, Focus, FConv, FAll, FTake, FNeed, FHit, IsAtomHead, IsImplication, IsArith, assumed, proves, focuses, Provable, Focusable, Rooted, trivially, both_sides, left_side, right_side, at_witness, for_all, under_assumption, equally, by_arithmetic, by_clause}
+use Rattle.lp_model.specs.Proofs.{Declared, IsFormula, Proof, Conv, True, And, Left, Right, Witness, All, Assume, Equal, Arith, Back, Focus, FConv, FAll, FTake, FNeed, FHit, IsAtomHead, IsArith, assumed, proves, focuses, Provable, Focusable, Rooted, trivially, both_sides, left_side, right_side, at_witness, for_all, under_assumption, equally, by_arithmetic, by_clause}
 use Rattle.lp_laws.proofs.Formulas.{parts, quantified, at_eigen}
 use Rattle.lp_laws.proofs.Formulas as formulas
 use Rattle.lp_laws.proofs.Assumptions.{converted_assumption}

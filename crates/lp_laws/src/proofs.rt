@@ -21,11 +21,9 @@ pub fn provable_up_to_conversion()
 /// An assumption may give way to one that it converts to.
 pub fn assumptions_convert()
     ensures { (d : Declared) → (E : List Ty) → (P : List ClauseFormula) → (D F G : Term) → IsFormula d E D → IsFormula d E F → Converts D F → Provable d E (P ++ assumed D ∷ []) G → Provable d E (P ++ assumed F ∷ []) G }
-{
-}
+{}
 
 /// Inversion: a provable formula with an atom of the calculus at its head, as each connective has, has a proof that begins with the rule of that head.
 pub fn proofs_begin_at_the_head()
     ensures { (d : Declared) → IsStandard d → (E : List Ty) → (P : List ClauseFormula) → (a : Atom) → (us : List Term) → IsFormula d E (apply (atom a) us) → Provable d E P (apply (atom a) us) → Rooted d E P (apply (atom a) us) }
-{
-}
+{}
