@@ -1,6 +1,6 @@
 -- Plain depth-first search of hereditary Harrop goals, as a look at tasks (Miller, Nadathur, Pfenning and Scedrov 1991; levels of Nadathur 1993).
 -- Where a head reduction needs n steps or more the look halts with `Deep`: head reduction of typed terms ends, so a large n never shows.
-use Rattle.std.specs.Prelude.{ℕ, zero, suc, ◌+◌, ◌-◌, nat_eq, nat_le, nat_lt, Bool, true, false, ◌&&◌, if◌then◌else◌, List, [], ◌∷◌, ◌++◌, map, length, filter, Option, Some, None}
+use Rattle.std.specs.Prelude.{ℕ, zero, suc, ◌+◌, ◌-◌, nat_eq, nat_le, nat_lt, Bool, true, false, ◌&&◌, if◌then◌else◌, List, [], ◌∷◌, ◌++◌, map, length, filter, Option, Some, None, option_map}
 use Rattle.lp_calculus.specs.Types.{Ty, var}
 use Rattle.lp_calculus.specs.Term.{Term, index, atom, abs, app, substitute, Atom, constant, integer, text, eigen, logic, param}
 use Rattle.lp_calculus.specs.Instance.{instance_term}
@@ -70,24 +70,25 @@ may_meet (Some a) (Some b) = same_name (atom a) (atom b)
 may_meet (Some a) None = true
 may_meet None o = true
 
-abbrev pub key_after : Option Term → Option Atom
-key_after None = None
-key_after (Some t) = key_of t
-
--- the first arguments of a clause's head and of the goal, the goal's head-normalised, do not differ at their heads
-abbrev pub passes : ℕ → (heads goals : List Term) → Bool
-passes n (h ∷ hs) (t ∷ ts) = may_meet (key_of h) (key_after (head_normal n t))
-passes n hs ts = true
+abbrev pub first_key : List Term → Option Atom
+first_key [] = None
+first_key (h ∷ hs) = key_of h
 
 abbrev pub has_head : Term → Clause → Bool
 has_head t (clause k vs h b) = same_name (head_of h) (head_of t)
 
-abbrev pub filtered : ℕ → Term → Clause → Bool
-filtered n t (clause k vs h b) = same_name (head_of h) (head_of t) && passes n (arguments h) (arguments t)
+-- a program clause is kept out where its first head argument and the goal's first argument, whose key is given, differ at their heads
+abbrev pub passes : Term → (key : Option Atom) → Clause → Bool
+passes t key (clause k vs h b) = same_name (head_of h) (head_of t) && may_meet (first_key (arguments h)) key
 
 -- first the assumed clauses, the newest first, then the program's that pass the filter, in order
-abbrev pub candidates : ℕ → (program assumed : List Clause) → Term → List Clause
-candidates n P A t = filter (has_head t) A ++ filter (filtered n t) P
+abbrev pub candidates : (program assumed : List Clause) → Term → (key : Option Atom) → List Clause
+candidates P A t key = filter (has_head t) A ++ filter (passes t key) P
+
+-- the key of the goal's first argument, head-normalised; the outer None: more than n steps are needed
+abbrev pub goal_key : ℕ → List Term → Option (Option Atom)
+goal_key n [] = Some None
+goal_key n (t ∷ ts) = option_map key_of (head_normal n t)
 
 -- trying a candidate
 
@@ -151,8 +152,10 @@ try_clause n (clause k vs h body) t e b mark =
 
 -- a goal known only at run time, by its head-normal form
 
-abbrev pub tries : List Clause → (goal : Term) → Entry → (rest : Branch) → (mark : ℕ) → List Task
-tries cs t e b mark = map (λ c. Try c t e b mark) cs
+-- each candidate as a task, where the key of the goal's first argument was found
+abbrev pub tries : (program : List Clause) → (goal : Term) → Entry → (rest : Branch) → (mark : ℕ) → Option (Option Atom) → List Task
+tries P t e b mark None = Stop Deep ∷ []
+tries P t e b mark (Some key) = map (λ c. Try c t e b mark) (candidates P e.assumed t key)
 
 -- the goals of the entry's place
 abbrev pub in_place : Entry → List Term → List Entry
@@ -165,12 +168,12 @@ at_next_level e t = record { goal = Atomic t; assumed = e.assumed; level = suc e
 -- the atom takes a step; b is the rest of the branch, its goals those behind the atom
 abbrev pub look_constant : ℕ → List Clause → (height : ℕ) → Entry → Branch → Term → (constant : ℕ) → List Term → List Task
 look_constant n P height e b t c (l ∷ r ∷ []) =
-    if nat_eq c 8 then equated n e.level l r b else (if nat_eq c 9 then assigned n e.level l b (evaluate n r) else (if nat_le 10 c && nat_le c 13 then compared c b (evaluate n l) (evaluate n r) else tries (candidates n P e.assumed t) t e b height))
-look_constant n P height e b t c ts = tries (candidates n P e.assumed t) t e b height
+    if nat_eq c 8 then equated n e.level l r b else (if nat_eq c 9 then assigned n e.level l b (evaluate n r) else (if nat_le 10 c && nat_le c 13 then compared c b (evaluate n l) (evaluate n r) else tries P t e b height (goal_key n (arguments t))))
+look_constant n P height e b t c ts = tries P t e b height (goal_key n (arguments t))
 
 abbrev pub look_atom : ℕ → List Clause → (height : ℕ) → Entry → Branch → Term → (head : Term) → View Task Answer
 look_atom n P height e b t (atom (constant c ts)) = Takes (named c) (look_constant n P height e b t c (arguments t))
-look_atom n P height e b t (atom (eigen k)) = Takes (eigenconstant k) (tries (candidates n P e.assumed t) t e b height)
+look_atom n P height e b t (atom (eigen k)) = Takes (eigenconstant k) (tries P t e b height (goal_key n (arguments t)))
 look_atom n P height e b t (atom (logic x l)) = Takes variable (Stop Flexible ∷ [])
 -- no well-typed goal has another head
 look_atom n P height e b t h = Takes variable []
