@@ -12,6 +12,8 @@ pub mod Moves
 pub mod HornEnds
 pub mod HornTyped
 pub mod FamilyRows
+pub mod MoreSteps
+pub mod MoreRules
 pub mod Assumptions
 pub mod Roots
 pub mod Formulas
