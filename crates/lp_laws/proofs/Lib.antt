@@ -12,6 +12,7 @@ pub mod Moves
 pub mod HornEnds
 pub mod HornTyped
 pub mod FamilyRows
+pub mod MoreFuel
 pub mod MoreSteps
 pub mod MoreRules
 pub mod Assumptions

@@ -1,15 +1,15 @@
 -- More steps change no answer of the rules of unification.
-use Rattle.std.proofs.Common.{◌≡◌, ℕ, zero, suc, ◌+◌, ◌≤◌, List, [], ◌∷◌, ◌++◌, map, length, refl, arith, Bool, true, false, Option, Some, None, not, ◌||◌}
-use Rattle.std.specs.Prelude.{option_map, option_and_then, nat_lt, nat_eq, ◌&&◌}
+use Rattle.std.proofs.Common.{ℕ, zero, suc, ◌+◌, ◌≤◌, List, [], ◌∷◌, ◌++◌, map, length, arith, Bool, true, false, Option, Some, None}
+use Rattle.std.specs.Prelude.{option_map, option_and_then, nat_eq, ◌&&◌}
 use Rattle.lp_calculus.specs.Term.{Term, atom, app, apply, substitute, eigen, logic}
-use Rattle.lp_calculus.specs.Fill.{Binding, abstraction, put}
+use Rattle.lp_calculus.specs.Fill.{abstraction, put}
 use Rattle.lp_model.specs.Patterns.{eigens}
 use Rattle.lp_model.specs.Same.{same_name}
 use Rattle.lp_model.specs.Look.{Look, an_abs, rigid, flexible, look, pattern_of}
 use Rattle.lp_model.specs.Types.{TypePair, TypeBinding, TypeVerdict, differ, parts, bound, TypeOutcome, none as no_types_solve, type_rule, same_top, put_in_pair, solve_types}
 use Rattle.lp_model.specs.Pair.{Pair}
 use Rattle.lp_model.specs.Scan.{Side, Scanned, broken, whole, scan, Pattern, first_misfit, renewal, Pruned, led_by, prune, settle, settle_all}
-use Rattle.lp_model.specs.Rule.{Compared, dearer, open_with, type_pairs, compare_types, compare, compare_looks, compare_all, Ruled, ruled, decompose, with_types, joined, has_head, solve_for, side, by_pattern, pattern_side, by_rule_5, by_rule_4, dear, by_looks, rule, fails, gives, delays, binds, bound as made_by}
+use Rattle.lp_model.specs.Rule.{Compared, dearer, open_with, type_pairs, compare_types, compare, compare_looks, compare_all, Ruled, ruled, decompose, with_types, joined, has_head, solve_for, by_pattern, pattern_side, by_rule_5, by_rule_4, dear, by_looks, rule, fails, gives, delays, binds, bound as made_by}
 use Rattle.lp_laws.proofs.MoreSteps.{Below, below_none, below_same, below_then, below_map, look_more, pattern_more, scan_more}
 
 below_if : {A : Type 0} (b : Bool) (x x' y y' : Option A) → Below x x' → Below y y' → Below (elim b [ true ↦ x | false ↦ y ]) (elim b [ true ↦ x' | false ↦ y' ])

@@ -7,7 +7,7 @@ use Rattle.lp_model.specs.declared.ending.Ending.TheVariants.{NoMore, NoMoreCut,
 use Rattle.lp_model.specs.declared.ending.Fault.TheVariants.{Overflow, ZeroDivisor, NotClosed}
 use Rattle.lp_model.specs.Skeleton.{GoalNote, BackNote, AnswerNote, named}
 use Rattle.std.specs.Prelude.{pos, neg_ℤ}
-use Rattle.lp_model.specs.Standard.{two, pi_of}
+use Rattle.lp_model.specs.Standard.{two, pi_of, sigma_of}
 use Rattle.lp_model.specs.Flatten.{ClauseFormula}
 use Rattle.lp_laws.proofs.Worked.{known, kind, on, on2, conj, impl, plain_type, declares, fact, told, values, residues}
 
@@ -242,3 +242,49 @@ split_notes = refl
 
 split_end : (told lists appends 0 2 (append int_type (x 1) (x 0) (cons int_type (int 1) (nil int_type))) 1000 100).ending ≡ Some NoMore
 split_end = refl
+
+-- X = a ; X = b: left, then right
+alternatives : values (told fun [] 0 1 (two 1 [] (eq (x 0) (known 32)) (eq (x 0) (on2 33 (known 32) (known 32)))) 1000 100) ≡ (known 32 ∷ []) ∷ (on2 33 (known 32) (known 32) ∷ []) ∷ []
+alternatives = refl
+
+alternatives_notes : (told fun [] 0 1 (two 1 [] (eq (x 0) (known 32)) (eq (x 0) (on2 33 (known 32) (known 32)))) 1000 100).notes ≡ GoalNote (named 8) ∷ AnswerNote 1 ∷ BackNote ∷ GoalNote (named 8) ∷ AnswerNote 2 ∷ []
+alternatives_notes = refl
+
+-- sigma y\ (X = f y y)
+some_term : values (told fun [] 0 1 (sigma_of i (abs (eq (x 1) (on2 33 (x 0) (x 0))))) 1000 100) ≡ (on2 33 (free 1) (free 1) ∷ []) ∷ []
+some_term = refl
+
+-- an assumption is gone behind its goal: (q a => q a), q a, with a 33 in module hyp
+scoped : values (told hyp [] 0 0 (conj (impl (on 32 (known 33)) (on 32 (known 33))) (on 32 (known 33))) 1000 100) ≡ []
+scoped = refl
+
+-- the newest assumption is tried first: q a => q b => q X
+newest_first : values (told hyp [] 0 1 (impl (on 32 (known 33)) (impl (on 32 (known 34)) (on 32 (x 0)))) 1000 100) ≡ (known 34 ∷ []) ∷ (known 33 ∷ []) ∷ []
+newest_first = refl
+
+-- a cut is local to its clause: r X :- p X, s.  s :- !.  s.  with r 35 and s 36
+abbrev local : ℕ → Option Scheme
+local = declares (plain_type i ∷ plain_type i ∷ plain_type (arrow i o_type) ∷ plain_type (arrow i o_type) ∷ plain_type o_type ∷ [])
+
+abbrev local_rules : List ClauseFormula
+local_rules =
+    fact (on 34 (known 32))
+    ∷ fact (on 34 (known 33))
+    ∷ fact (every i (two 3 [] (on 35 (x 0)) (conj (on 34 (x 0)) (known 36))))
+    ∷ fact (two 3 [] (known 36) (known 7))
+    ∷ fact (known 36)
+    ∷ []
+
+local_cut : values (told local local_rules 0 1 (on 35 (x 0)) 1000 100) ≡ (known 32 ∷ []) ∷ (known 33 ∷ []) ∷ []
+local_cut = refl
+
+local_cut_end : (told local local_rules 0 1 (on 35 (x 0)) 1000 100).ending ≡ Some NoMoreCut
+local_cut_end = refl
+
+-- a goal that is a conjunction only when it is run: P = (x\ (p x , p x)), P a
+conjunction_at_run_time : (told once once_rules 0 1 (conj (two 8 (arrow i o_type ∷ []) (x 0) (abs (conj (on 34 (x 0)) (on 34 (x 0))))) (app (x 0) (known 32))) 1000 100).steps ≡ 3
+conjunction_at_run_time = refl
+
+-- a delayed pair is taken up when its variable is bound: F a = a, F = (x\ x)
+woken : residues (told fun [] 0 1 (conj (eq (app (x 0) (known 32)) (known 32)) (two 8 (arrow i i ∷ []) (x 0) (abs (x 0)))) 1000 100) ≡ [] ∷ []
+woken = refl
