@@ -42,7 +42,7 @@ closed_instance n θ t h = instance_fill θ t ∙ fill_none (IsClosedAtom n) (λ
 
 -- with more types of atoms
 
-typed_more : (τ κ : Atom → Option Ty) → ((a : Atom) (T : Ty) → τ a ≡ Some T → κ a ≡ Some T) → (C : List Ty) (t : Term) (T : Ty) → HasType τ C t T → HasType κ C t T
+pub typed_more : (τ κ : Atom → Option Ty) → ((a : Atom) (T : Ty) → τ a ≡ Some T → κ a ≡ Some T) → (C : List Ty) (t : Term) (T : Ty) → HasType τ C t T → HasType κ C t T
 typed_more τ κ f C (index i) T h = h
 typed_more τ κ f C (atom a) T h = f a T h
 typed_more τ κ f C (abs b) T h = (h.0, h.1, h.2, typed_more τ κ f (h.0 ∷ C) b h.1 h.3)
@@ -52,7 +52,7 @@ eigen_more : (E F : List Ty) (k : ℕ) (T : Ty) → eigen_type E k ≡ Some T �
 eigen_more E F zero T h = cc
 eigen_more E F (suc k) T h = get_front E F k T h
 
-atom_more : (d : Declared) (E F : List Ty) (a : Atom) (T : Ty) → atom_type (under d E) a ≡ Some T → atom_type (under d (E ++ F)) a ≡ Some T
+pub atom_more : (d : Declared) (E F : List Ty) (a : Atom) (T : Ty) → atom_type (under d E) a ≡ Some T → atom_type (under d (E ++ F)) a ≡ Some T
 atom_more d E F (constant c ts) T h = h
 atom_more d E F (integer z) T h = h
 atom_more d E F (text s) T h = h
@@ -60,7 +60,7 @@ atom_more d E F (eigen k) T h = eigen_more E F k T h
 atom_more d E F (logic x l) T h = cc
 atom_more d E F (param k U) T h = h
 
-closed_atom_more : (n m : ℕ) → n ≤ m → (a : Atom) → IsClosedAtom n a → IsClosedAtom m a
+pub closed_atom_more : (n m : ℕ) → n ≤ m → (a : Atom) → IsClosedAtom n a → IsClosedAtom m a
 closed_atom_more n m l (constant c ts) h = h
 closed_atom_more n m l (integer z) h = h
 closed_atom_more n m l (text s) h = h

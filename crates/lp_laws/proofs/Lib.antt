@@ -12,6 +12,9 @@ pub mod Moves
 pub mod HornEnds
 pub mod HornTyped
 pub mod FamilyRows
+pub mod Openings
+pub mod Forms
+pub mod Heads
 pub mod MoreFuel
 pub mod MoreSteps
 pub mod MoreRules
