@@ -1,0 +1,105 @@
+-- A clause may be replaced by one that it converts to: by induction on proof trees and their focuses together.
+use Rattle.std.proofs.Common.{◌≡◌, ℕ, zero, suc, List, [], ◌∷◌, ◌++◌, length, Some, refl, sym, ap, ◌∙◌, subst, inl, inr}
+use Rattle.std.specs.Prelude.{slice_get, true, false, ◌⊎◌}
+use Rattle.lp_calculus.specs.Types.{Ty}
+use Rattle.lp_calculus.specs.Term.{Term, atom, app, eigen}
+use Rattle.lp_calculus.specs.Convert.{Converts}
+use Rattle.lp_calculus.specs.Typing.{type_at}
+use Rattle.lp_calculus.specs.Instance.{instance_term}
+use Rattle.lp_model.specs.Flatten.{ClauseFormula}
+use Rattle.lp_model.specs.Proofs.{Declared, IsFormula, Proof, Conv, True, And, Left, Right, Witness, All, Assume, Equal, Arith, Back, Focus, FConv, FAll, FTake, FNeed, FHit, assumed, proves, focuses, Provable, Focusable}
+use Rattle.lp_laws.proofs.Formulas.{formula_eigens, closed_instance}
+
+-- in the place of a clause stands the same one, or one that it converts to
+record Replaced (d : Declared) (E : List Ty) (D R : ClauseFormula) : Type 0 where
+  type_vars : R.type_vars ≡ D.type_vars
+  stands : (D ≡ R) ⊎ ((ts : List Ty) → length ts ≡ D.type_vars → IsFormula d E (instance_term (type_at ts) D.formula) × Converts (instance_term (type_at ts) D.formula) (instance_term (type_at ts) R.formula))
+
+record StandAs (d : Declared) (E : List Ty) (P R : List ClauseFormula) : Type 0 where
+  at : (i : ℕ) (D : ClauseFormula) → slice_get P i ≡ Some D → (D' : ClauseFormula) × (slice_get R i ≡ Some D') × Replaced d E D D'
+
+more_eigens : (d : Declared) (E F : List Ty) (P R : List ClauseFormula) → StandAs d E P R → StandAs d (E ++ F) P R
+more_eigens d E F P R st = record {
+  at = λ i D e.
+      let r = st.at i D e in (
+        r.0,
+        r.1,
+        record {
+          type_vars = r.2.type_vars;
+          stands = elim r.2.stands [
+            | inl s ↦ inl s
+            | inr f ↦ inr (λ ts l. let g = f ts l in (formula_eigens d E F (instance_term (type_at ts) D.formula) g.0, g.1))
+          ];
+        },
+      );
+}
+
+get_end : (d : Declared) (E : List Ty) (P R : List ClauseFormula) → length P ≡ length R → (A B : ClauseFormula) → Replaced d E A B → ((i : ℕ) (D : ClauseFormula) → slice_get P i ≡ Some D → (D' : ClauseFormula) × (slice_get R i ≡ Some D') × Replaced d E D D') → (i : ℕ) (D : ClauseFormula) → slice_get (P ++ A ∷ []) i ≡ Some D → (D' : ClauseFormula) × (slice_get (R ++ B ∷ []) i ≡ Some D') × Replaced d E D D'
+get_end d E [] [] l A B h f zero D e = let g : A ≡ D = cc in (B, refl, subst (λ X. Replaced d E X B) g h)
+get_end d E [] [] l A B h f (suc i) D e = cc
+get_end d E [] (r ∷ R) l A B h f i D e = cc
+get_end d E (p ∷ P) [] l A B h f i D e = cc
+get_end d E (p ∷ P) (r ∷ R) l A B h f zero D e = let q = f zero D e in (q.0, q.1, q.2)
+get_end d E (p ∷ P) (r ∷ R) l A B h f (suc i) D e = let m : length P ≡ length R = cc in get_end d E P R m A B h (λ j D' e'. f (suc j) D' e') i D e
+
+same_clause : (d : Declared) (E : List Ty) (D : ClauseFormula) → Replaced d E D D
+same_clause d E D = record { type_vars = refl; stands = inl refl }
+
+record Stand (d : Declared) (E : List Ty) (P R : List ClauseFormula) : Type 0 where
+  long : length P ≡ length R
+  stand : StandAs d E P R
+
+long_end : (P R : List ClauseFormula) (A B : ClauseFormula) → length P ≡ length R → length (P ++ A ∷ []) ≡ length (R ++ B ∷ [])
+long_end [] [] A B l = refl
+long_end [] (r ∷ R) A B l = cc
+long_end (p ∷ P) [] A B l = cc
+long_end (p ∷ P) (r ∷ R) A B l = let m : length P ≡ length R = cc in ap suc (long_end P R A B m)
+
+one_more : (d : Declared) (E : List Ty) (P R : List ClauseFormula) (A B : ClauseFormula) → Stand d E P R → Replaced d E A B → Stand d E (P ++ A ∷ []) (R ++ B ∷ [])
+one_more d E P R A B st h = record { long = long_end P R A B st.long; stand = record { at = λ i D e. get_end d E P R st.long A B h (λ j D' e'. st.stand.at j D' e') i D e } }
+
+mutual
+  proof_as : (d : Declared) (E : List Ty) (P R : List ClauseFormula) (G : Term) (p : Proof) → Stand d E P R → proves d E P G p → Provable d E R G
+  proof_as d E P R G (Conv H p) st h = let r = proof_as d E P R H p st h.2 in record { proof = Conv H r.proof; holds = (h.0, h.1, r.holds) }
+  proof_as d E P R G True st h = record { proof = True; holds = h }
+  proof_as d E P R G (And p q) st h = let a = proof_as d E P R h.0 p st h.3 in let b = proof_as d E P R h.1 q st h.4 in record { proof = And a.proof b.proof; holds = (h.0, h.1, h.2, a.holds, b.holds) }
+  proof_as d E P R G (Left p) st h = let a = proof_as d E P R h.0 p st h.3 in record { proof = Left a.proof; holds = (h.0, h.1, h.2, a.holds) }
+  proof_as d E P R G (Right p) st h = let a = proof_as d E P R h.1 p st h.3 in record { proof = Right a.proof; holds = (h.0, h.1, h.2, a.holds) }
+  proof_as d E P R G (Witness t p) st h = let a = proof_as d E P R (app h.1 t) p st h.4 in record { proof = Witness t a.proof; holds = (h.0, h.1, h.2, h.3, a.holds) }
+  proof_as d E P R G (All p) st h =
+      let a = proof_as d (E ++ h.0 ∷ []) P R (app h.1 (atom (eigen (suc (length E))))) p (record { long = st.long; stand = more_eigens d E (h.0 ∷ []) P R st.stand }) h.3 in
+      record { proof = All a.proof; holds = (h.0, h.1, h.2, a.holds) }
+  proof_as d E P R G (Assume p) st h =
+      let a = proof_as d E (P ++ assumed h.0 ∷ []) (R ++ assumed h.0 ∷ []) h.1 p (one_more d E P R (assumed h.0) (assumed h.0) st (same_clause d E (assumed h.0))) h.3 in
+      record { proof = Assume a.proof; holds = (h.0, h.1, h.2, a.holds) }
+  proof_as d E P R G Equal st h = record { proof = Equal; holds = h }
+  proof_as d E P R G Arith st h = record { proof = Arith; holds = h }
+  proof_as d E P R G (Back i ts f) st h =
+      let a = focus_as d E P R (instance_term (type_at ts) h.0.formula) G f st h.5 in
+      let j = st.stand.at i h.0 h.1 in
+      elim j.2.stands [
+        | inl s ↦ record { proof = Back i ts a.focus; holds = (j.0, j.1, h.2 ∙ sym j.2.type_vars, h.3, h.4, subst (λ D. focuses d E R (instance_term (type_at ts) D.formula) G a.focus) s a.holds) }
+        | inr g ↦ let w = g ts h.2 in record { proof = Back i ts (FConv (instance_term (type_at ts) h.0.formula) a.focus); holds = (j.0, j.1, h.2 ∙ sym j.2.type_vars, h.3, h.4, (w.0, w.1, a.holds)) }
+      ]
+
+  focus_as : (d : Declared) (E : List Ty) (P R : List ClauseFormula) (D A : Term) (f : Focus) → Stand d E P R → focuses d E P D A f → Focusable d E R D A
+  focus_as d E P R D A (FConv H f) st h = let r = focus_as d E P R H A f st h.2 in record { focus = FConv H r.focus; holds = (h.0, h.1, r.holds) }
+  focus_as d E P R D A (FAll t f) st h = let r = focus_as d E P R (app h.1 t) A f st h.4 in record { focus = FAll t r.focus; holds = (h.0, h.1, h.2, h.3, r.holds) }
+  focus_as d E P R D A (FTake true f) st h = let r = focus_as d E P R h.1 A f st h.3 in record { focus = FTake true r.focus; holds = (h.0, h.1, h.2, r.holds) }
+  focus_as d E P R D A (FTake false f) st h = let r = focus_as d E P R h.0 A f st h.3 in record { focus = FTake false r.focus; holds = (h.0, h.1, h.2, r.holds) }
+  focus_as d E P R D A (FNeed p f) st h = let a = proof_as d E P R h.0 p st h.3 in let r = focus_as d E P R h.1 A f st h.4 in record { focus = FNeed a.proof r.focus; holds = (h.0, h.1, h.2, a.holds, r.holds) }
+  focus_as d E P R D A FHit st h = record { focus = FHit; holds = h }
+
+all_same : (d : Declared) (E : List Ty) (P : List ClauseFormula) → Stand d E P P
+all_same d E P = record { long = refl; stand = record { at = λ i D e. (D, e, same_clause d E D) } }
+
+-- an assumption in the place of another that converts to it
+pub converted_assumption : (d : Declared) (E : List Ty) (P : List ClauseFormula) (D D' G : Term) → IsFormula d E D → IsFormula d E D' → Converts D D' → Provable d E (P ++ assumed D ∷ []) G → Provable d E (P ++ assumed D' ∷ []) G
+converted_assumption d E P D D' G f f' c h =
+    proof_as d E (P ++ assumed D ∷ []) (P ++ assumed D' ∷ []) G h.proof (one_more d E P P (assumed D) (assumed D') (all_same d E P) (record {
+      type_vars = refl;
+      stands = inr (λ ts l.
+          let e = closed_instance (length E) (type_at ts) D f.closed in
+          let e' = closed_instance (length E) (type_at ts) D' f'.closed in
+          (subst (IsFormula d E) (sym e) f, subst (λ t. Converts t (instance_term (type_at ts) D')) (sym e) (subst (Converts D) (sym e') c)));
+    })) h.holds
