@@ -1,31 +1,62 @@
 //! A branch after a clause fitted its first goal.
 
+ghost use Rattle.std.specs.Prelude.{◌≡◌, ◌+◌, ◌<◌, ◌^◌, ◌++◌, map, reverse, IfOk, OnOk};
+ghost use Rattle.lp_calculus.specs.Fill.{put_all};
+ghost use Rattle.lp_model.specs.HornSearch.{renamed};
+ghost use Rattle.lp_plain.specs.Meaning.{value_term, pattern_term, goal_term, bindings_of};
+
 use crate::atom::{Binding, Branch, Goal, Pattern, Rule, Value};
 use crate::matching::{opened, under};
 use lp_base::Memory;
 use std::alloc::Global;
 
 // A goal of a clause's body, for a branch.
-fn instance(alloc: Global, pattern: &Pattern, base: u64, bindings: &[Binding]) -> Result<Goal, Memory> {
-    let args = pattern.args.iter().map(|slot| under(bindings, opened(base, *slot))).collect(alloc)?;
+fn instance(
+    alloc: Global,
+    pattern: &Pattern,
+    base: u64,
+    bindings: &[Binding],
+) -> Result<Goal, Memory>
+    requires { base < 2 ^ 63 }
+    ensures { IfOk result (λ goal. goal_term goal ≡ put_all (bindings_of bindings.now) (renamed base (pattern_term pattern.now))) }
+{
+    let mut args = Vec::new(alloc);
+    for slot in &pattern.args {
+        args.push(under(bindings, opened(base, *slot)))?;
+    }
     Ok(Goal {
         name: pattern.name,
         args,
     })
 }
 
-fn values_under(alloc: Global, bindings: &[Binding], values: &[Value]) -> Result<Vec<Value>, Memory> {
-    Ok(values.iter().map(|value| under(bindings, *value)).collect(alloc)?)
+fn values_under(
+    alloc: Global,
+    bindings: &[Binding],
+    values: &[Value],
+) -> Result<Vec<Value>, Memory>
+    ensures { IfOk result (λ made. map value_term made.items ≡ map (put_all (bindings_of bindings.now)) (map value_term values.now)) }
+{
+    let mut made = Vec::new(alloc);
+    for value in values {
+        made.push(under(bindings, *value))?;
+    }
+    Ok(made)
 }
 
-fn goal_under(alloc: Global, bindings: &[Binding], goal: &Goal) -> Result<Goal, Memory> {
+fn goal_under(alloc: Global, bindings: &[Binding], goal: &Goal) -> Result<Goal, Memory>
+    ensures { IfOk result (λ made. goal_term made ≡ put_all (bindings_of bindings.now) (goal_term goal.now)) }
+{
+    let args = values_under(alloc, bindings, &goal.args)?;
     Ok(Goal {
         name: goal.name,
-        args: values_under(alloc, bindings, &goal.args)?,
+        args,
     })
 }
 
-fn goals_under(alloc: Global, bindings: &[Binding], goals: &[Goal]) -> Result<Vec<Goal>, Memory> {
+fn goals_under(alloc: Global, bindings: &[Binding], goals: &[Goal]) -> Result<Vec<Goal>, Memory>
+    ensures { IfOk result (λ made. map goal_term made.items ≡ map (put_all (bindings_of bindings.now)) (map goal_term goals.now)) }
+{
     let mut made = Vec::new(alloc);
     for goal in goals {
         made.push(goal_under(alloc, bindings, goal)?)?;
@@ -33,7 +64,17 @@ fn goals_under(alloc: Global, bindings: &[Binding], goals: &[Goal]) -> Result<Ve
     Ok(made)
 }
 
-fn push_body(alloc: Global, body: &[Pattern], base: u64, bindings: &[Binding], goals: &mut Vec<Goal>) -> Result<(), Memory> {
+/// Puts a clause's body behind the goals, for a branch.
+pub(crate) fn push_body(
+    alloc: Global,
+    body: &[Pattern],
+    base: u64,
+    bindings: &[Binding],
+    goals: &mut Vec<Goal>,
+) -> Result<(), Memory>
+    requires { base < 2 ^ 63 }
+    ensures { OnOk result (map goal_term goals.new.items ≡ map goal_term goals.old.items ++ map (put_all (bindings_of bindings.now)) (map (renamed base) (map pattern_term body.now))) }
+{
     for pattern in body {
         goals.push(instance(alloc, pattern, base, bindings)?)?;
     }
@@ -41,7 +82,17 @@ fn push_body(alloc: Global, body: &[Pattern], base: u64, bindings: &[Binding], g
 }
 
 /// A copy of the branch under the bindings, the clause's body in front of it.
-pub(crate) fn resumed(alloc: Global, rule: &Rule, bindings: &[Binding], rest: &Branch) -> Result<Branch, Memory> {
+pub(crate) fn resumed(
+    alloc: Global,
+    rule: &Rule,
+    bindings: &[Binding],
+    rest: &Branch,
+) -> Result<Branch, Memory>
+    requires { rest.now.vars < 2 ^ 63 }
+    ensures vars { IfOk result (λ branch. branch.vars ≡ rest.now.vars + rule.now.vars) }
+    ensures goals { IfOk result (λ branch. map goal_term branch.goals.items ≡ map (put_all (bindings_of bindings.now)) (map goal_term rest.now.goals.items) ++ map (put_all (bindings_of bindings.now)) (map (renamed rest.now.vars) (map pattern_term rule.now.body.items))) }
+    ensures query { IfOk result (λ branch. map value_term branch.query.items ≡ map (put_all (bindings_of bindings.now)) (map value_term rest.now.query.items)) }
+{
     let mut goals = goals_under(alloc, bindings, &rest.goals)?;
     push_body(alloc, &rule.body, rest.vars, bindings, &mut goals)?;
     let query = values_under(alloc, bindings, &rest.query)?;
@@ -50,11 +101,4 @@ pub(crate) fn resumed(alloc: Global, rule: &Rule, bindings: &[Binding], rest: &B
         goals,
         query,
     })
-}
-
-/// The goals of the query, its variables the first logic variables.
-pub(crate) fn opened_goals(alloc: Global, body: &[Pattern]) -> Result<Vec<Goal>, Memory> {
-    let mut goals = Vec::new(alloc);
-    push_body(alloc, body, 0, &[], &mut goals)?;
-    Ok(goals)
 }

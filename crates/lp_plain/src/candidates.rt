@@ -1,32 +1,19 @@
-//! The clauses that may fit a goal.
+//! The clauses of a goal's predicate.
 
-use crate::atom::{Goal, Pattern, Rule, Slot, Value};
+ghost use Rattle.lp_plain.specs.Candidates.{IsFound};
 
-// Whether the head may fit the goal: the same predicate, and no other constant as its first argument.
-fn is_candidate(goal: &Goal, head: &Pattern) -> bool {
-    if head.name != goal.name {
-        return false;
-    }
-    if head.args.is_empty() || goal.args.is_empty() {
-        return true;
-    }
-    match head.args[0] {
-        Slot::Variable(_) => true,
-        Slot::Constant(name) => match goal.args[0] {
-            Value::Variable(_) => true,
-            Value::Constant(other) => name == other,
-        },
-    }
-}
+use crate::atom::Rule;
 
-/// The number of the first candidate from a number on, or of clauses where there is none.
-pub(crate) fn next_candidate(rules: &[Rule], goal: &Goal, from: usize) -> usize {
+/// The number of the first clause of a predicate, from a number on.
+pub(crate) fn next_candidate(rules: &[Rule], name: u32, from: usize) -> Option<usize>
+    ensures { IsFound rules.now name from result }
+{
     let mut at = from;
-    while at < rules.len() {
-        if is_candidate(goal, &rules[at].head) {
-            return at;
+    'clauses: while at < rules.len() {
+        if rules[at].head.name == name {
+            return Some(at);
         }
         at += 1;
     }
-    at
+    None
 }

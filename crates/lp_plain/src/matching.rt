@@ -1,11 +1,20 @@
 //! A clause's head against a goal.
 
-use crate::atom::{Binding, Pattern, Goal, Slot, Value};
+ghost use Rattle.std.specs.Prelude.{◌≡◌, ◌<◌, ◌^◌, [], map, option_map, IfOk};
+ghost use Rattle.lp_calculus.specs.Fill.{put, put_all};
+ghost use Rattle.lp_model.specs.HornSearch.{renamed};
+ghost use Rattle.lp_model.specs.HornUnify as unification;
+ghost use Rattle.lp_plain.specs.Meaning.{slot_term, value_term, binding_term, bindings_of, step_bindings};
+
+use crate::atom::{Binding, Slot, Value};
 use lp_base::Memory;
 use std::alloc::Global;
 
-/// A clause's argument as a goal's, where its variables are the logic variables from `base` on.
-pub(crate) fn opened(base: u64, slot: Slot) -> Value {
+/// A clause's argument as a goal's, where the clause's variables are the logic variables from `base` on.
+pub(crate) fn opened(base: u64, slot: Slot) -> Value
+    requires { base < 2 ^ 63 }
+    ensures { value_term result ≡ renamed base (slot_term slot) }
+{
     match slot {
         Slot::Constant(name) => Value::Constant(name),
         Slot::Variable(number) => Value::Variable(base + number as u64),
@@ -13,60 +22,90 @@ pub(crate) fn opened(base: u64, slot: Slot) -> Value {
 }
 
 // The value, where one variable was bound.
-fn put(binding: Binding, value: Value) -> Value {
+fn put_one(binding: Binding, value: Value) -> Value
+    ensures { value_term result ≡ put (binding_term binding) (value_term value) }
+{
     match value {
         Value::Constant(_) => value,
         Value::Variable(number) => {
-            if number == binding.variable { binding.value } else { value }
+            if number == binding.variable {
+                binding.value
+            } else {
+                value
+            }
         }
     }
 }
 
 /// The value under the bindings, the oldest first.
-pub(crate) fn under(bindings: &[Binding], value: Value) -> Value {
+pub(crate) fn under(bindings: &[Binding], value: Value) -> Value
+    ensures { value_term result ≡ put_all (bindings_of bindings.now) (value_term value) }
+{
     let mut now = value;
     for binding in bindings {
-        now = put(*binding, now);
+        now = put_one(*binding, now);
     }
     now
 }
 
-// What binds two values to each other, where something does.
-enum Step {
+/// What makes two values one.
+#[derive(Clone, Copy)]
+pub(crate) enum Step {
     Same,
     Binds(Binding),
     Fails,
 }
 
-fn unify_two(left: Value, right: Value) -> Step {
+fn bind(variable: u64, value: Value) -> Step
+    ensures { result ≡ Step.Binds (record { variable = variable; value = value }) }
+{
+    Step::Binds(Binding { variable, value })
+}
+
+fn unify_two(left: Value, right: Value) -> Step
+    ensures { step_bindings result ≡ unification.unify_two (value_term left) (value_term right) }
+{
     match left {
         Value::Constant(name) => match right {
-            Value::Constant(other) => { if name == other { Step::Same } else { Step::Fails } }
-            Value::Variable(variable) => Step::Binds(Binding { variable, value: left }),
+            Value::Constant(other) => {
+                if name == other {
+                    Step::Same
+                } else {
+                    Step::Fails
+                }
+            }
+            Value::Variable(other) => bind(other, left),
         },
         Value::Variable(variable) => match right {
-            Value::Constant(_) => Step::Binds(Binding { variable, value: right }),
+            Value::Constant(_) => bind(variable, right),
             Value::Variable(other) => {
-                if variable == other { return Step::Same; }
-                if variable < other {
-                    Step::Binds(Binding { variable: other, value: left })
+                if variable == other {
+                    Step::Same
                 } else {
-                    Step::Binds(Binding { variable, value: right })
+                    bind(variable, right)
                 }
             }
         },
     }
 }
 
-/// The bindings that make the head, its variables the logic variables from `base` on, the goal.
-pub(crate) fn unify(alloc: Global, goal: &Goal, head: &Pattern, base: u64) -> Result<Option<Vec<Binding>>, Memory> {
-    let mut bindings = Vec::new(alloc);
-    if goal.args.len() != head.args.len() {
+/// The bindings that make a goal's arguments those of a head, whose variables are the logic variables from `base` on.
+pub(crate) fn unify(
+    alloc: Global,
+    goal: &[Value],
+    head: &[Slot],
+    base: u64,
+) -> Result<Option<Vec<Binding>>, Memory>
+    requires { base < 2 ^ 63 }
+    ensures { IfOk result (λ o. option_map (λ v. bindings_of v.items) o ≡ unification.unify (map value_term goal.now) (map (renamed base) (map slot_term head.now)) []) }
+{
+    if goal.len() != head.len() {
         return Ok(None);
     }
-    for i in 0..goal.args.len() {
-        let left = under(&bindings, goal.args[i]);
-        let right = under(&bindings, opened(base, head.args[i]));
+    let mut bindings = Vec::new(alloc);
+    for i in 0..goal.len() {
+        let left = under(&bindings, goal[i]);
+        let right = under(&bindings, opened(base, head[i]));
         match unify_two(left, right) {
             Step::Same => {}
             Step::Binds(binding) => bindings.push(binding)?,
