@@ -1,5 +1,5 @@
 -- What a contract sees of a search, and what its next event owes.
-use Rattle.std.specs.Prelude.{◌≡◌, ℕ, ◌<◌, List, Bool, false, map, length, All}
+use Rattle.std.specs.Prelude.{◌≡◌, ℕ, ◌<◌, ◌-◌, List, Bool, false, map, length, All}
 use Rattle.lp_calculus.specs.Term.{Term}
 use Rattle.lp_term.specs.Nodes.{Nodes, tree, Extends}
 use Rattle.lp_term.specs.declared.node.TermId.{TermId}
@@ -11,7 +11,9 @@ use Rattle.lp_model.specs.Horn as model
 use Rattle.lp_model.specs.HornSearch.{TaskOf, AnswerOf, by_number, look}
 use Rattle.lp_plain.specs.declared.horn.HornEvent.{HornEvent}
 use Rattle.lp_plain.specs.declared.horn.HornEvent.TheVariants.{Answer, NoMore, Enough, Steps}
+use Rattle.lp_plain.specs.declared.search.Search.{Search}
 use Rattle.lp_plain.specs.Condition.{trees}
+use Rattle.lp_plain.specs.Stack.{clauses_of, stack_of, at_state}
 
 -- a search between its events: the clauses, the definition's state, the bank of the answers' values, and whether memory ran out
 pub record Held : Type 0 where
@@ -19,6 +21,14 @@ pub record Held : Type 0 where
   pub state : State (TaskOf ℕ)
   pub bank : Nodes
   pub failed : Bool
+
+unfoldable pub held : Search → Held
+held s = record {
+  clauses = clauses_of s.rules.items;
+  state = at_state s.steps (s.answers - s.given) s.given (stack_of (clauses_of s.rules.items) s.stack.items);
+  bank = s.bank;
+  failed = s.failed;
+}
 
 -- the values stand in the bank
 pub record Stands (b : Nodes) (ids : List TermId) (values : List Term) : Type 0 where

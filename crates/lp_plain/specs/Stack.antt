@@ -1,19 +1,21 @@
 -- The stack that the code keeps, as the definition's tasks, and what its turns owe.
-use Rattle.std.specs.Prelude.{◌≡◌, ◌+◌, ◌-◌, ◌*◌, ◌^◌, ◌≤◌, ◌<◌, ℕ, suc, List, [], ◌∷◌, ◌++◌, map, drop, length, All, false, Option, Some, None}
+use Rattle.std.specs.Prelude.{◌≡◌, ◌+◌, ◌-◌, ◌*◌, ◌^◌, ◌≤◌, ◌<◌, ℕ, suc, List, [], ◌∷◌, ◌++◌, map, drop, length, max, false, Option, Some, None}
 use Rattle.lp_calculus.specs.Term.{Term}
+use Rattle.lp_calculus.specs.Fill.{put_all}
 use Rattle.lp_model.specs.declared.ending.Ending.TheVariants as ending
 use Rattle.lp_model.specs.Skeleton.{State, row_limit}
 use Rattle.lp_model.specs.Events.{Gave, Over, Advances, Comes, Event}
 use Rattle.lp_model.specs.Horn as model
-use Rattle.lp_model.specs.HornSearch.{BranchOf, TaskOf, Go, AnswerOf, by_number, tries, look}
+use Rattle.lp_model.specs.HornSearch.{BranchOf, TaskOf, Go, AnswerOf, by_number, tries, look, renamed, start}
 use Rattle.lp_plain.specs.declared.atom.Rule.{Rule}
 use Rattle.lp_plain.specs.declared.atom.Goal.{Goal}
 use Rattle.lp_plain.specs.declared.atom.Branch.{Branch}
+use Rattle.lp_plain.specs.declared.atom.Binding.{Binding}
 use Rattle.lp_plain.specs.declared.atom.Choice.{Choice}
 use Rattle.lp_plain.specs.declared.atom.Choice.TheVariants.{Going, Trying}
 use Rattle.lp_plain.specs.declared.turn.Told.{Told}
 use Rattle.lp_plain.specs.declared.turn.Told.TheVariants.{Answered, Emptied, Stopped}
-use Rattle.lp_plain.specs.Meaning.{rule_clause, goal_term, branch_state, value_term}
+use Rattle.lp_plain.specs.Meaning.{rule_clause, goal_term, branch_state, value_term, bindings_of}
 
 unfoldable pub clauses_of : List Rule → List model.Horn
 clauses_of rules = map rule_clause rules
@@ -36,9 +38,9 @@ at_state n k g ts = record { steps = n; answers = k; given = g; row = row_limit;
 unfoldable pub Passes : List model.Horn → (steps : ℕ) → List (TaskOf ℕ) → (steps : ℕ) → List (TaskOf ℕ) → Type 0
 Passes P n before m after = (k g : ℕ) → Comes (look by_number P) (at_state n (suc k) g before) (at_state m (suc k) g after)
 
-pub record Answers (P : List model.Horn) (n : ℕ) (before : List (TaskOf ℕ)) (values : List Term) (m : ℕ) (after : List (TaskOf ℕ)) : Type 0 where
+pub record Answers (P : List model.Horn) (n : ℕ) (before : List (TaskOf ℕ)) (given : List Term) (m : ℕ) (after : List (TaskOf ℕ)) : Type 0 where
   pub answer : AnswerOf ℕ
-  pub values : answer.values ≡ values
+  pub values : answer.values ≡ given
   pub next : (k g : ℕ) → Advances (look by_number P) (at_state n (suc k) g before) (Gave answer) (at_state m k (suc g) after)
 
 -- what is told next
@@ -52,6 +54,35 @@ abbrev pub IsTurn : List model.Horn → (steps : ℕ) → List (TaskOf ℕ) → 
 IsTurn P n before None m after = Passes P n before m after
 IsTurn P n before (Some t) m after = Tells P n before t m after
 
+-- the definition's first task is to go on with this branch
+abbrev pub IsFirst : model.HornQuery → Branch → Type 0
+IsFirst q b = (steps answers : ℕ) → start by_number q steps answers ≡ at_state steps answers 0 (Go (branch_state b) ∷ [])
+
+-- the tasks that are left for a goal, of which the first is next
+abbrev pub tasks_left : List model.Horn → Option ℕ → Goal → Branch → List (TaskOf ℕ)
+tasks_left P None g b = []
+tasks_left P (Some next) g b = tasks_of P (Trying next g b)
+
+-- what is left for a goal behind a candidate that fitted
+abbrev pub alternatives : Option ℕ → Goal → Branch → List Choice
+alternatives None g b = []
+alternatives (Some next) g b = Trying next g b ∷ []
+
+-- the branch that a clause with its bindings makes of the rest of a goal's branch
+unfoldable pub state_after : Rule → List Binding → Branch → BranchOf ℕ
+state_after r bs b = record {
+  vars = b.vars + r.vars;
+  goals = map (put_all (bindings_of bs)) (map (renamed b.vars) (rule_clause r).body ++ (branch_state b).goals);
+  query = map (put_all (bindings_of bs)) (branch_state b).query;
+}
+
+-- the branch that the clause made is pushed, and below it what is left for the goal
+pub record Pushes (r : Rule) (bs : List Binding) (left : Option ℕ) (g : Goal) (b : Branch) (old new : List Choice) : Type 0 where
+  pub made : Branch
+  pub room : made.vars ≤ b.vars + 2 ^ 32
+  pub state : branch_state made ≡ state_after r bs b
+  pub pushed : new ≡ old ++ (alternatives left g b ++ Going made ∷ [])
+
 -- how much work a choice still holds, where there are n clauses
 unfoldable pub weight_of : ℕ → Choice → ℕ
 weight_of n (Going b) = 1
@@ -64,10 +95,15 @@ weight n (c ∷ cs) = weight n cs + weight_of n c
 abbrev pub work : ℕ → ℕ → List Choice → ℕ
 work n steps cs = steps * (2 * n + 1) + weight n cs
 
--- the variables of a choice can be numbered as long as steps are left: each step adds fewer than 2 ^ 32
-abbrev pub HasRoom : ℕ → Choice → Type 0
-HasRoom n (Going b) = b.vars + (n + 1) * 2 ^ 32 ≤ 2 ^ 62
-HasRoom n (Trying next g b) = b.vars + (n + 2) * 2 ^ 32 ≤ 2 ^ 62
+-- how far the variables of a choice go, where a try adds fewer than 2 ^ 32
+unfoldable pub reach_of : Choice → ℕ
+reach_of (Going b) = b.vars
+reach_of (Trying next g b) = b.vars + 2 ^ 32
 
-unfoldable pub HaveRoom : ℕ → List Choice → Type 0
-HaveRoom n cs = All (HasRoom n) cs
+unfoldable pub reach : List Choice → ℕ
+reach [] = 0
+reach (c ∷ cs) = max (reach_of c) (reach cs)
+
+-- the variables can be numbered as long as steps are left
+abbrev pub HaveRoom : ℕ → List Choice → Type 0
+HaveRoom n cs = reach cs + (n + 1) * 2 ^ 32 ≤ 2 ^ 62

@@ -1,6 +1,6 @@
 //! A branch after a clause fitted its first goal.
 
-ghost use Rattle.std.specs.Prelude.{◌≡◌, ◌+◌, ◌<◌, ◌^◌, ◌++◌, map, reverse, IfOk, OnOk};
+ghost use Rattle.std.specs.Prelude.{◌≡◌, ◌+◌, ◌<◌, ◌≤◌, ◌^◌, ◌++◌, map, reverse, IfOk, OnOk};
 ghost use Rattle.lp_calculus.specs.Fill.{put_all};
 ghost use Rattle.lp_model.specs.HornSearch.{renamed};
 ghost use Rattle.lp_plain.specs.Meaning.{value_term, pattern_term, goal_term, bindings_of};
@@ -90,6 +90,7 @@ pub(crate) fn resumed(
 ) -> Result<Branch, Memory>
     requires { rest.now.vars < 2 ^ 63 }
     ensures vars { IfOk result (λ branch. branch.vars ≡ rest.now.vars + rule.now.vars) }
+    ensures room { IfOk result (λ branch. branch.vars ≤ rest.now.vars + 2 ^ 32) }
     ensures goals { IfOk result (λ branch. map goal_term branch.goals.items ≡ map (put_all (bindings_of bindings.now)) (map goal_term rest.now.goals.items) ++ map (put_all (bindings_of bindings.now)) (map (renamed rest.now.vars) (map pattern_term rule.now.body.items))) }
     ensures query { IfOk result (λ branch. map value_term branch.query.items ≡ map (put_all (bindings_of bindings.now)) (map value_term rest.now.query.items)) }
 {
@@ -101,4 +102,53 @@ pub(crate) fn resumed(
         goals,
         query,
     })
+}
+
+// The values under the bindings, in their place.
+fn bind_values(bindings: &[Binding], values: &mut Vec<Value>)
+    ensures { map value_term values.new.items ≡ map (put_all (bindings_of bindings.now)) (map value_term values.old.items) }
+{
+    for value in values.iter_mut() {
+        *value = under(bindings, *value);
+    }
+}
+
+// The goals under the bindings, in their place.
+fn bind_goals(bindings: &[Binding], goals: &mut Vec<Goal>)
+    ensures { map goal_term goals.new.items ≡ map (put_all (bindings_of bindings.now)) (map goal_term goals.old.items) }
+{
+    for goal in goals.iter_mut() {
+        bind_values(bindings, &mut goal.args);
+    }
+}
+
+// Where nothing was bound, nothing is looked at.
+fn bind_branch(bindings: &[Binding], branch: &mut Branch)
+    ensures vars { branch.new.vars ≡ branch.old.vars }
+    ensures goals { map goal_term branch.new.goals.items ≡ map (put_all (bindings_of bindings.now)) (map goal_term branch.old.goals.items) }
+    ensures query { map value_term branch.new.query.items ≡ map (put_all (bindings_of bindings.now)) (map value_term branch.old.query.items) }
+{
+    if !bindings.is_empty() {
+        bind_goals(bindings, &mut branch.goals);
+        bind_values(bindings, &mut branch.query);
+    }
+}
+
+/// The branch itself under the bindings, the clause's body in front of it.
+pub(crate) fn resume(
+    alloc: Global,
+    rule: &Rule,
+    bindings: &[Binding],
+    mut rest: Branch,
+) -> Result<Branch, Memory>
+    requires { rest.vars < 2 ^ 63 }
+    ensures vars { IfOk result (λ branch. branch.vars ≡ rest.vars + rule.now.vars) }
+    ensures room { IfOk result (λ branch. branch.vars ≤ rest.vars + 2 ^ 32) }
+    ensures goals { IfOk result (λ branch. map goal_term branch.goals.items ≡ map (put_all (bindings_of bindings.now)) (map goal_term rest.goals.items) ++ map (put_all (bindings_of bindings.now)) (map (renamed rest.vars) (map pattern_term rule.now.body.items))) }
+    ensures query { IfOk result (λ branch. map value_term branch.query.items ≡ map (put_all (bindings_of bindings.now)) (map value_term rest.query.items)) }
+{
+    bind_branch(bindings, &mut rest);
+    push_body(alloc, &rule.body, rest.vars, bindings, &mut rest.goals)?;
+    rest.vars += rule.vars as u64;
+    Ok(rest)
 }

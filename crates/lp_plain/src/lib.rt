@@ -4,8 +4,10 @@
 mod atom;
 mod branch;
 mod candidates;
+mod events;
 mod horn;
 mod matching;
+mod query;
 mod reading;
 mod search;
 mod turn;

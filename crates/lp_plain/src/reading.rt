@@ -1,6 +1,6 @@
 //! Clauses and queries, read from the bank.
 
-ghost use Rattle.std.specs.Prelude.{◌≡◌, ◌<◌, ◌^◌, length, map, reverse, All, IfOk};
+ghost use Rattle.std.specs.Prelude.{◌≡◌, ◌<◌, ◌^◌, [], length, map, reverse, All, IfOk};
 ghost use Rattle.lp_term.specs.Nodes.{tree, term_at};
 ghost use Rattle.lp_plain.specs.Condition.{IsArgumentNode, IsName, IsAtomIn, AreAtomsIn, IsClauseIn, clause_of, trees};
 ghost use Rattle.lp_plain.specs.Meaning.{slot_term, predicate, pattern_term, rule_clause};

@@ -1,12 +1,10 @@
 //! The turns of a search, until it tells something.
 
 ghost use Rattle.std.specs.Prelude.{◌≡◌, ◌+◌, ◌-◌, ◌*◌, ◌<◌, ◌≤◌, ◌^◌, ◌++◌, ℕ, length, OnOk, IfOk};
-ghost use Rattle.lp_model.specs.HornSearch.{tries};
-ghost use Rattle.lp_plain.specs.Meaning.{goal_term, branch_state};
-ghost use Rattle.lp_plain.specs.Stack.{clauses_of, tasks_of, stack_of, Passes, Tells, IsTurn, weight, weight_of, work, HasRoom, HaveRoom};
+ghost use Rattle.lp_plain.specs.Stack.{clauses_of, tasks_of, stack_of, Passes, Tells, IsTurn, weight, Pushes, work, HaveRoom};
 
-use crate::atom::{Branch, Choice, Goal, Rule, Value};
-use crate::branch::resumed;
+use crate::atom::{Binding, Branch, Choice, Goal, Rule, Value};
+use crate::branch::{resume, resumed};
 use crate::candidates::next_candidate;
 use crate::matching::unify;
 use lp_base::Memory;
@@ -20,6 +18,34 @@ pub(crate) enum Told {
     Stopped,
 }
 
+// Pushes the branch that a clause made of a goal's, and below it what is left for the goal. Where nothing is left the
+// branch is not copied.
+fn push_made(
+    alloc: Global,
+    rule: &Rule,
+    bindings: &[Binding],
+    left: Option<usize>,
+    goal: Goal,
+    rest: Branch,
+    stack: &mut Vec<Choice>,
+) -> Result<(), Memory>
+    requires { rest.vars < 2 ^ 63 }
+    ensures { OnOk result (Pushes rule.now bindings.now left goal rest stack.old.items stack.new.items) }
+{
+    match left {
+        None => {
+            let made = resume(alloc, rule, bindings, rest)?;
+            stack.push(Choice::Going(made))?;
+        }
+        Some(next) => {
+            let made = resumed(alloc, rule, bindings, &rest)?;
+            stack.push(Choice::Trying(next, goal, rest))?;
+            stack.push(Choice::Going(made))?;
+        }
+    }
+    Ok(())
+}
+
 // Tries the candidates for the goal from a number on, until one fits.
 fn try_from(
     alloc: Global,
@@ -31,21 +57,15 @@ fn try_from(
 ) -> Result<(), Memory>
     requires { rest.vars < 2 ^ 62 }
     ensures passes { OnOk result ((n : ℕ) → Passes (clauses_of rules.now) n (tasks_of (clauses_of rules.now) (Choice.Trying from goal rest) ++ stack_of (clauses_of rules.now) stack.old.items) n (stack_of (clauses_of rules.now) stack.new.items)) }
-    ensures smaller { OnOk result (weight (length rules.now) stack.new.items < weight (length rules.now) stack.old.items + weight_of (length rules.now) (Choice.Trying from goal rest)) }
-    ensures fresh { OnOk result (from ≡ 0 → weight (length rules.now) stack.new.items ≤ weight (length rules.now) stack.old.items + 2 * length rules.now) }
-    ensures room { OnOk result ((n : ℕ) → HasRoom n (Choice.Trying from goal rest) → HaveRoom n stack.old.items → HaveRoom n stack.new.items) }
+    ensures smaller { OnOk result (weight (length rules.now) stack.new.items ≤ weight (length rules.now) stack.old.items + 2 * (length rules.now - from)) }
+    ensures room { OnOk result ((n : ℕ) → rest.vars + 2 ^ 32 + (n + 1) * 2 ^ 32 ≤ 2 ^ 62 → HaveRoom n stack.old.items → HaveRoom n stack.new.items) }
 {
     let mut found = next_candidate(rules, goal.name, from);
     'candidates: while let Some(at) = found {
         let rule = &rules[at];
         found = next_candidate(rules, goal.name, at + 1);
         if let Some(bindings) = unify(alloc, &goal.args, &rule.head.args, rest.vars)? {
-            let made = resumed(alloc, rule, &bindings, &rest)?;
-            if let Some(after) = found {
-                stack.push(Choice::Trying(after, goal, rest))?;
-            }
-            stack.push(Choice::Going(made))?;
-            return Ok(());
+            return push_made(alloc, rule, &bindings, found, goal, rest, stack);
         }
     }
     Ok(())
