@@ -1,0 +1,11 @@
+pub mod Lists
+pub mod Stacks
+pub mod Wholes
+pub mod Ends
+pub mod Contexts
+pub mod HornTerms
+pub mod HornUnifies
+pub mod HornBranches
+pub mod InStep
+pub mod HornCorrect
+pub mod FamilyRows

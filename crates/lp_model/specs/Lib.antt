@@ -1,0 +1,10 @@
+pub mod Skeleton
+pub mod Events
+pub mod Faithful
+pub mod Index
+pub mod Spine
+pub mod Horn
+pub mod HornProofs
+pub mod HornUnify
+pub mod HornSearch
+pub mod HornRight
