@@ -15,3 +15,6 @@ mod values;
 
 pub use horn::{Horn, HornEvent};
 pub use search::Search;
+
+#[cfg(test)]
+mod tests;
