@@ -4,3 +4,6 @@ pub mod Counts
 pub mod Held
 pub mod Written
 pub mod Read
+pub mod Files
+pub mod Sinks
+pub mod Schedule
