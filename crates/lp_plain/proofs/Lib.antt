@@ -1,2 +1,10 @@
-pub mod Terms
 pub mod Lists
+pub mod Terms
+pub mod Banks
+pub mod Unifying
+pub mod Branches
+pub mod Moves
+pub mod Tries
+pub mod Turns
+pub mod Begins
+pub mod Nexts

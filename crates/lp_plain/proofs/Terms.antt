@@ -1,5 +1,5 @@
 -- A predicate on arguments: its head, its arguments, and the same under bindings and renamed.
-use Rattle.std.proofs.Common.{◌≡◌, ℕ, zero, suc, ◌+◌, ◌<◌, ◌≤◌, List, [], ◌∷◌, ◌++◌, map, take, drop, length, get_or, Option, Some, refl, sym, ap, ◌∙◌, arith}
+use Rattle.std.proofs.Common.{◌≡◌, ℕ, zero, suc, ◌+◌, ◌<◌, ◌≤◌, List, [], ◌∷◌, ◌++◌, map, take, drop, length, get_or, Some, refl, sym, ap, ◌∙◌, arith}
 use Rattle.std.proofs.lemmas.List.{drop_more}
 use Rattle.lp_calculus.specs.Term.{Term, atom, app, apply, constant, logic}
 use Rattle.lp_calculus.specs.Fill as fill
@@ -70,3 +70,9 @@ vars_more n = let e : n + 1 ≡ suc n = omega arith in let z : 0 + n ≡ n = ome
 
 pub constant_predicate : (c : ℕ) (args : List Term) → constant_of_head (predicate c args) ≡ Some c
 constant_predicate c args = constant_apply (atom (constant c [])) args
+
+-- where nothing was bound, each term stays
+pub none_bound : (bs : List Binding) (xs : List Term) → length bs ≡ 0 → xs ≡ map (fill.put_all (bindings_of bs)) xs
+none_bound [] [] h = refl
+none_bound [] (x ∷ xs) h = ap (λ ys. x ∷ ys) (none_bound [] xs refl)
+none_bound (b ∷ bs) xs h = absurd (omega arith)

@@ -1,10 +1,10 @@
 -- The stack that the code keeps, as the definition's tasks, and what its turns owe.
-use Rattle.std.specs.Prelude.{◌≡◌, ◌+◌, ◌-◌, ◌*◌, ◌^◌, ◌≤◌, ◌<◌, ℕ, suc, List, [], ◌∷◌, ◌++◌, map, drop, length, max, false, Option, Some, None}
+use Rattle.std.specs.Prelude.{◌≡◌, ◌+◌, ◌-◌, ◌*◌, ◌^◌, ◌≤◌, ℕ, suc, List, [], ◌∷◌, ◌++◌, map, drop, max, false, Option, Some, None}
 use Rattle.lp_calculus.specs.Term.{Term}
 use Rattle.lp_calculus.specs.Fill.{put_all}
 use Rattle.lp_model.specs.declared.ending.Ending.TheVariants as ending
 use Rattle.lp_model.specs.Skeleton.{State, row_limit}
-use Rattle.lp_model.specs.Events.{Gave, Over, Advances, Comes, Event}
+use Rattle.lp_model.specs.Events.{Gave, Over, Advances, Comes}
 use Rattle.lp_model.specs.Horn as model
 use Rattle.lp_model.specs.HornSearch.{BranchOf, TaskOf, Go, AnswerOf, by_number, tries, look, renamed, start}
 use Rattle.lp_plain.specs.declared.atom.Rule.{Rule}

@@ -33,9 +33,9 @@ fn instance(
 fn values_under(
     alloc: Global,
     bindings: &[Binding],
-    values: &[Value],
+    values: &Vec<Value>,
 ) -> Result<Vec<Value>, Memory>
-    ensures { IfOk result (λ made. map value_term made.items ≡ map (put_all (bindings_of bindings.now)) (map value_term values.now)) }
+    ensures { IfOk result (λ made. map value_term made.items ≡ map (put_all (bindings_of bindings.now)) (map value_term values.now.items)) }
 {
     let mut made = Vec::new(alloc);
     for value in values {
@@ -54,8 +54,8 @@ fn goal_under(alloc: Global, bindings: &[Binding], goal: &Goal) -> Result<Goal, 
     })
 }
 
-fn goals_under(alloc: Global, bindings: &[Binding], goals: &[Goal]) -> Result<Vec<Goal>, Memory>
-    ensures { IfOk result (λ made. map goal_term made.items ≡ map (put_all (bindings_of bindings.now)) (map goal_term goals.now)) }
+fn goals_under(alloc: Global, bindings: &[Binding], goals: &Vec<Goal>) -> Result<Vec<Goal>, Memory>
+    ensures { IfOk result (λ made. map goal_term made.items ≡ map (put_all (bindings_of bindings.now)) (map goal_term goals.now.items)) }
 {
     let mut made = Vec::new(alloc);
     for goal in goals {
@@ -67,13 +67,13 @@ fn goals_under(alloc: Global, bindings: &[Binding], goals: &[Goal]) -> Result<Ve
 /// Puts a clause's body behind the goals, for a branch.
 pub(crate) fn push_body(
     alloc: Global,
-    body: &[Pattern],
+    body: &Vec<Pattern>,
     base: u64,
     bindings: &[Binding],
     goals: &mut Vec<Goal>,
 ) -> Result<(), Memory>
     requires { base < 2 ^ 63 }
-    ensures { OnOk result (map goal_term goals.new.items ≡ map goal_term goals.old.items ++ map (put_all (bindings_of bindings.now)) (map (renamed base) (map pattern_term body.now))) }
+    ensures { OnOk result (map goal_term goals.new.items ≡ map goal_term goals.old.items ++ map (put_all (bindings_of bindings.now)) (map (renamed base) (map pattern_term body.now.items))) }
 {
     for pattern in body {
         goals.push(instance(alloc, pattern, base, bindings)?)?;

@@ -55,6 +55,7 @@ impl Search {
     }
 
     /// The next event: the next answer, or how the search ended. After an end, the same end again; after `Memory`, `Memory`.
+    #[tactic(auto, unfolding(crate::specs::Held::held))]
     pub fn next(&mut self) -> Result<HornEvent, Memory>
         ensures next { IfOk result (λ told. Continues (held self.old) told (held self.new)) }
         ensures fails { OnErr result ((held self.new).failed ≡ true) }
@@ -67,16 +68,21 @@ impl Search {
             return Ok(HornEvent::Enough);
         }
         self.failed = true;
-        let event = match run(self.alloc, &self.rules, &mut self.stack, &mut self.steps)? {
+        match run(self.alloc, &self.rules, &mut self.stack, &mut self.steps)? {
             Told::Answered(values) => {
                 let ids = put_values(self.alloc, &mut self.bank, &values)?;
                 self.given += 1;
-                HornEvent::Answer(ids)
+                self.failed = false;
+                Ok(HornEvent::Answer(ids))
             }
-            Told::Emptied => HornEvent::NoMore,
-            Told::Stopped => HornEvent::Steps,
-        };
-        self.failed = false;
-        Ok(event)
+            Told::Emptied => {
+                self.failed = false;
+                Ok(HornEvent::NoMore)
+            }
+            Told::Stopped => {
+                self.failed = false;
+                Ok(HornEvent::Steps)
+            }
+        }
     }
 }

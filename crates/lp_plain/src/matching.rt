@@ -92,12 +92,12 @@ fn unify_two(left: Value, right: Value) -> Step
 /// The bindings that make a goal's arguments those of a head, whose variables are the logic variables from `base` on.
 pub(crate) fn unify(
     alloc: Global,
-    goal: &[Value],
-    head: &[Slot],
+    goal: &Vec<Value>,
+    head: &Vec<Slot>,
     base: u64,
 ) -> Result<Option<Vec<Binding>>, Memory>
     requires { base < 2 ^ 63 }
-    ensures { IfOk result (λ o. option_map (λ v. bindings_of v.items) o ≡ unification.unify (map value_term goal.now) (map (renamed base) (map slot_term head.now)) []) }
+    ensures { IfOk result (λ o. option_map (λ v. bindings_of v.items) o ≡ unification.unify (map value_term goal.now.items) (map (renamed base) (map slot_term head.now.items)) []) }
 {
     if goal.len() != head.len() {
         return Ok(None);

@@ -1,6 +1,6 @@
 //! The branch that a search begins with.
 
-ghost use Rattle.std.specs.Prelude.{◌≡◌, map, IfOk};
+ghost use Rattle.std.specs.Prelude.{◌≡◌, ◌<◌, ◌^◌, map, IfOk};
 ghost use Rattle.lp_model.specs.HornSearch.{vars_from, renamed};
 ghost use Rattle.lp_plain.specs.Condition.{AreAtomsIn, query_of};
 ghost use Rattle.lp_plain.specs.Meaning.{value_term, pattern_term, goal_term};
@@ -15,8 +15,8 @@ use lp_term::Bank;
 use std::alloc::Global;
 
 // The goals of the query, its variables the first logic variables.
-fn opened_goals(alloc: Global, body: &[Pattern]) -> Result<Vec<Goal>, Memory>
-    ensures { IfOk result (λ goals. map goal_term goals.items ≡ map (renamed 0) (map pattern_term body.now)) }
+fn opened_goals(alloc: Global, body: &Vec<Pattern>) -> Result<Vec<Goal>, Memory>
+    ensures { IfOk result (λ goals. map goal_term goals.items ≡ map (renamed 0) (map pattern_term body.now.items)) }
 {
     let mut goals = Vec::new(alloc);
     push_body(alloc, body, 0, &[], &mut goals)?;
@@ -37,7 +37,7 @@ fn unbound(alloc: Global, vars: u32) -> Result<Vec<Value>, Memory>
 /// The query's goals, with its variables unbound.
 pub(crate) fn first_branch(alloc: Global, bank: &Bank, query: &Horn) -> Result<Branch, Memory>
     requires { AreAtomsIn bank.now query.now.vars query.now.body.items }
-    ensures vars { IfOk result (λ branch. branch.vars ≡ query.now.vars) }
+    ensures few { IfOk result (λ branch. branch.vars < 2 ^ 32) }
     ensures first { IfOk result (λ branch. IsFirst (query_of bank.now query.now) branch) }
 {
     let body = read_body(alloc, bank, &query.body, query.vars)?;

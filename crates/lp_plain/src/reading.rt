@@ -98,11 +98,7 @@ fn read_rule(alloc: Global, bank: &Bank, horn: &Horn) -> Result<Rule, Memory>
 }
 
 /// The clauses that stand in the bank.
-pub(crate) fn read_rules(
-    alloc: Global,
-    bank: &Bank,
-    clauses: &[Horn],
-) -> Result<Vec<Rule>, Memory>
+pub(crate) fn read_rules(alloc: Global, bank: &Bank, clauses: &[Horn]) -> Result<Vec<Rule>, Memory>
     requires { All (IsClauseIn bank.now) clauses.now }
     ensures { IfOk result (λ rules. map rule_clause rules.items ≡ map (clause_of bank.now) clauses.now) }
 {

@@ -65,7 +65,8 @@ fn try_from(
         let rule = &rules[at];
         found = next_candidate(rules, goal.name, at + 1);
         if let Some(bindings) = unify(alloc, &goal.args, &rule.head.args, rest.vars)? {
-            return push_made(alloc, rule, &bindings, found, goal, rest, stack);
+            push_made(alloc, rule, &bindings, found, goal, rest, stack)?;
+            return Ok(());
         }
     }
     Ok(())

@@ -1,7 +1,7 @@
-use Rattle.std.proofs.Common.{◌≡◌, ◌++◌, map, take, drop}
+use Rattle.std.proofs.Common.{◌≡◌, map, take}
 use Rattle.lp_calculus.specs.Fill.{put_all}
 use Rattle.lp_model.specs.HornSearch.{renamed}
-use Rattle.lp_plain.specs.Meaning.{slot_term, value_term, pattern_term, goal_term, bindings_of}
+use Rattle.lp_plain.specs.Meaning.{slot_term, value_term, bindings_of}
 use Rattle.lp_plain.proofs.branch.instance.Given as goal
 
 abbrev pub invariant-loop-slot : goal.invariant-loop-slot

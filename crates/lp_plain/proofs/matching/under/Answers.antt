@@ -1,5 +1,3 @@
-use Rattle.std.proofs.Common.{◌≡◌, ◌<◌, ◌≤◌, ◌++◌, [], ◌∷◌, length, map, get_or, sym, ap, ◌∙◌, refl, arith}
-use Rattle.std.proofs.lemmas.Grind.{common_steps}
 use Rattle.lp_plain.proofs.Terms.{under_more}
 use Rattle.lp_plain.proofs.matching.under.Goals as goal
 

@@ -1,0 +1,98 @@
+use Rattle.std.proofs.Common.{◌≡◌, ◌<◌, ◌++◌, ◌-◌, [], ◌∷◌, refl, arith}
+use Rattle.std.proofs.lemmas.Grind.{common_steps}
+use Rattle.lp_plain.specs.declared.atom.Choice.TheVariants.{Going, Trying}
+use Rattle.lp_plain.specs.declared.atom.Branch.{Branch}
+use Rattle.lp_plain.specs.Stack.{reach_of}
+use Rattle.lp_plain.proofs.Turns.{took, went_on, gave, stays, ran_out, took_smaller, went_smaller, room_below, room_fewer, room_step, room_again}
+use Rattle.lp_plain.proofs.turn.take_turn.Goals as goal
+
+pub returns-in-None-clause-turn : goal.returns-in-None-clause-turn
+returns-in-None-clause-turn c =
+    let same : c.args.stack.now.items ≡ c.pop.new.self.items = grind (arith, common_steps) in
+    let none : c.pop.new.self.items ≡ [] = grind (arith, common_steps) in
+    rw same (ran_out _ _ _ none)
+
+pub returns-in-None-pop-clause-turn : goal.returns-in-None-pop-clause-turn
+returns-in-None-pop-clause-turn c =
+    let st : c.args.stack.now.items ≡ c.pop.new.self.items ++ Going c.in-Some-Going.branch ∷ [] = grind (arith, common_steps) in
+    let none : c.in-Some-Going.branch.goals.items ≡ [] = grind (arith, common_steps) in
+    rw st (gave _ c.pop.new.self.items c.in-Some-Going.branch _ none)
+
+pub returns-in-None-pop-clause-room : goal.returns-in-None-pop-clause-room
+returns-in-None-pop-clause-room c =
+    let st : c.args.stack.now.items ≡ c.pop.new.self.items ++ Going c.in-Some-Going.branch ∷ [] = grind (arith, common_steps) in
+    (room_below _ _ _ (rw st at c.requires)).0
+
+pub returns-then-steps-eq0-clause-turn : goal.returns-then-steps-eq0-clause-turn
+returns-then-steps-eq0-clause-turn c =
+    let b = c.in-Some-Going.branch in
+    let st : c.args.stack.now.items ≡ c.pop.new.self.items ++ Going b ∷ [] = grind (arith, common_steps) in
+    let gs : b.goals.items ≡ c.pop-in-Some-Going.new.self.items ++ c.in-Some.goal ∷ [] = grind (arith, common_steps) in
+    let again : Branch = record { vars = b.vars; goals = c.push.new.self; query = b.query } in
+    let rest : Branch = record { vars = b.vars; goals = c.pop-in-Some-Going.new.self; query = b.query } in
+    let new : c.push-then-steps-eq0.new.self.items ≡ c.pop.new.self.items ++ Going again ∷ [] = c.in_ok-push-in-Some-2.ensures.items in
+    rw (st, new) (stays _ c.pop.new.self.items b again rest c.in-Some.goal _ c.if-steps-eq0.true gs refl refl c.in_ok-push-in-Some.ensures.items refl refl)
+
+pub returns-then-steps-eq0-clause-room : goal.returns-then-steps-eq0-clause-room
+returns-then-steps-eq0-clause-room c =
+    let b = c.in-Some-Going.branch in
+    let st : c.args.stack.now.items ≡ c.pop.new.self.items ++ Going b ∷ [] = grind (arith, common_steps) in
+    let again : Branch = record { vars = b.vars; goals = c.push.new.self; query = b.query } in
+    let new : c.push-then-steps-eq0.new.self.items ≡ c.pop.new.self.items ++ Going again ∷ [] = c.in_ok-push-in-Some-2.ensures.items in
+    rw new (room_again c.pop.new.self.items b again _ refl (rw st at c.requires))
+
+pub try_from-requires : goal.try_from-requires
+unfolding reach_of
+try_from-requires c =
+    let st : c.args.stack.now.items ≡ c.pop.new.self.items ++ Going c.in-Some-Going.branch ∷ [] = grind (arith, common_steps) in
+    let r = (room_below _ (Going c.in-Some-Going.branch) _ (rw st at c.requires)).1 in
+    omega (arith, r)
+
+pub try_from-requires-in-Some-Trying : goal.try_from-requires-in-Some-Trying
+unfolding reach_of
+try_from-requires-in-Some-Trying c =
+    let st : c.args.stack.now.items ≡ c.pop.new.self.items ++ Trying c.in-Some-Trying.from c.in-Some-Trying.goal c.in-Some-Trying.rest ∷ [] = grind (arith, common_steps) in
+    let r = (room_below _ (Trying c.in-Some-Trying.from c.in-Some-Trying.goal c.in-Some-Trying.rest) _ (rw st at c.requires)).1 in
+    omega (arith, r)
+
+pub returns-in_ok-try_from-in-Some-clause-turn : goal.returns-in_ok-try_from-in-Some-clause-turn
+returns-in_ok-try_from-in-Some-clause-turn c =
+    let b = c.in-Some-Going.branch in
+    let st : c.args.stack.now.items ≡ c.pop.new.self.items ++ Going b ∷ [] = grind (arith, common_steps) in
+    let gs : b.goals.items ≡ c.pop-in-Some-Going.new.self.items ++ c.in-Some.goal ∷ [] = grind (arith, common_steps) in
+    let rest : Branch = record { vars = b.vars; goals = c.pop-in-Some-Going.new.self; query = b.query } in
+    let l : 0 < c.args.steps.now = omega arith in
+    rw st (took _ c.pop.new.self.items _ b rest c.in-Some.goal c.args.steps.now gs refl refl l (c.in_ok-try_from-in-Some.ensures.passes (c.args.steps.now - 1)))
+
+pub returns-in_ok-try_from-in-Some-clause-smaller : goal.returns-in_ok-try_from-in-Some-clause-smaller
+returns-in_ok-try_from-in-Some-clause-smaller c =
+    let b = c.in-Some-Going.branch in
+    let st : c.args.stack.now.items ≡ c.pop.new.self.items ++ Going b ∷ [] = grind (arith, common_steps) in
+    let l : 0 < c.args.steps.now = omega arith in
+    λ _. rw st (took_smaller _ c.pop.new.self.items _ b c.args.steps.now l c.in_ok-try_from-in-Some.ensures.smaller)
+
+pub returns-in_ok-try_from-in-Some-clause-room : goal.returns-in_ok-try_from-in-Some-clause-room
+unfolding reach_of
+returns-in_ok-try_from-in-Some-clause-room c =
+    let b = c.in-Some-Going.branch in
+    let st : c.args.stack.now.items ≡ c.pop.new.self.items ++ Going b ∷ [] = grind (arith, common_steps) in
+    let l : 0 < c.args.steps.now = omega arith in
+    let r = room_below _ (Going b) _ (rw st at c.requires) in
+    c.in_ok-try_from-in-Some.ensures.room (c.args.steps.now - 1) (room_step b.vars c.args.steps.now l r.1) (room_fewer c.pop.new.self.items c.args.steps.now l r.0)
+
+pub returns-in_ok-try_from-in-Some-Trying-clause-turn : goal.returns-in_ok-try_from-in-Some-Trying-clause-turn
+returns-in_ok-try_from-in-Some-Trying-clause-turn c =
+    let st : c.args.stack.now.items ≡ c.pop.new.self.items ++ Trying c.in-Some-Trying.from c.in-Some-Trying.goal c.in-Some-Trying.rest ∷ [] = grind (arith, common_steps) in
+    rw st (went_on _ c.pop.new.self.items _ _ _ _ c.args.steps.now (c.in_ok-try_from-in-Some-Trying.ensures.passes c.args.steps.now))
+
+pub returns-in_ok-try_from-in-Some-Trying-clause-smaller : goal.returns-in_ok-try_from-in-Some-Trying-clause-smaller
+returns-in_ok-try_from-in-Some-Trying-clause-smaller c =
+    let st : c.args.stack.now.items ≡ c.pop.new.self.items ++ Trying c.in-Some-Trying.from c.in-Some-Trying.goal c.in-Some-Trying.rest ∷ [] = grind (arith, common_steps) in
+    λ _. rw st (went_smaller _ c.pop.new.self.items _ _ _ _ c.args.steps.now c.in_ok-try_from-in-Some-Trying.ensures.smaller)
+
+pub returns-in_ok-try_from-in-Some-Trying-clause-room : goal.returns-in_ok-try_from-in-Some-Trying-clause-room
+unfolding reach_of
+returns-in_ok-try_from-in-Some-Trying-clause-room c =
+    let st : c.args.stack.now.items ≡ c.pop.new.self.items ++ Trying c.in-Some-Trying.from c.in-Some-Trying.goal c.in-Some-Trying.rest ∷ [] = grind (arith, common_steps) in
+    let r = room_below _ (Trying c.in-Some-Trying.from c.in-Some-Trying.goal c.in-Some-Trying.rest) _ (rw st at c.requires) in
+    c.in_ok-try_from-in-Some-Trying.ensures.room c.args.steps.now r.1 r.0
