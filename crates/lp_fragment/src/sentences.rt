@@ -54,6 +54,15 @@ impl Model for Variables {
     ghost view = { λ v. record { names = v.names; kinds = v.kinds.items } };
 }
 
+impl Variables {
+    /// How many variables there are.
+    pub fn count(&self) -> u32
+        ensures { result ≡ length self.now.names }
+    {
+        self.names.count() as u32
+    }
+}
+
 /// What an atom has so far.
 #[derive(Drop)]
 struct Taken {
