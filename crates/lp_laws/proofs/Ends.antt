@@ -1,10 +1,10 @@
 -- Every run ends, where some weight of tasks falls: the steps and answers left, then the goals that may still be taken apart in a row,
 -- then the weight of the stack go down. A run that is over tells the same with more moves.
-use Rattle.std.proofs.Common.{◌≡◌, ℕ, zero, suc, ◌+◌, ◌<◌, ◌≤◌, List, [], ◌∷◌, ◌++◌, length, Option, Some, None, refl, ap, ◌∙◌, arith}
+use Rattle.std.proofs.Common.{◌≡◌, ℕ, zero, suc, ◌+◌, ◌<◌, ◌≤◌, List, [], ◌∷◌, ◌++◌, length, Some, refl, ap, arith}
 use Rattle.std.specs.Prelude.{Bool, true, false}
 use Rattle.lp_model.specs.declared.ending.Ending.{Ending}
 use Rattle.lp_model.specs.declared.ending.Ending.TheVariants.{NoMore, NoMoreCut, Enough, Steps, Deep}
-use Rattle.lp_model.specs.Skeleton.{View, Gives, Opens, Parts, Takes, Cuts, Halts, State, Move, Goes, Tells, Stops, Told, oldest, row_limit, move_view, move_at, move, told_after, run}
+use Rattle.lp_model.specs.Skeleton.{View, Gives, Opens, Parts, Takes, Cuts, Halts, State, Move, Goes, Tells, Stops, Told, move_view, move_at, move, told_after, run}
 use Rattle.lp_model.specs.Faithful.{total, OpensLighter, Falls}
 
 total_append : {A : Type 0} (w : A → ℕ) (xs ys : List A) → total w (xs ++ ys) ≡ total w xs + total w ys

@@ -4,22 +4,22 @@ use Rattle.std.specs.Prelude.{slice_get, Bool, true, false, filter, nat_eq}
 use Rattle.std.proofs.lemmas.Bool.{eq-eqb, eqb-true}
 use Rattle.std.proofs.lemmas.List.{map-append, get_or-map}
 use Rattle.std.proofs.lemmas.Option.{slice_get_within}
-use Rattle.lp_calculus.specs.Types.{Ty, arrow}
+use Rattle.lp_calculus.specs.Types.{Ty}
 use Rattle.lp_calculus.specs.Term.{Term, index, atom, apply, constant, logic}
 use Rattle.lp_calculus.specs.Typing.{scheme_type, o_type}
 use Rattle.lp_calculus.specs.Fill.{close, Binding, put_all}
 use Rattle.lp_model.specs.Index.{instantiate, at}
-use Rattle.lp_model.specs.Spine.{arguments, constant_of_head, same_name, goal_name}
+use Rattle.lp_model.specs.Spine.{arguments, constant_of_head, same_name}
 use Rattle.lp_model.specs.Faithful.{AnyOf, EachOf, Covers, AreFine, Faithful}
-use Rattle.lp_model.specs.Horn.{Declared, Clause, Query, IsArgument, AreArguments, IsAtom, IsClause, IsValue, AreValues, arrows}
+use Rattle.lp_model.specs.Horn.{Declared, Clause, Query, AreArguments, IsAtom, IsClause, IsValue, AreValues, arrows}
 use Rattle.lp_model.specs.HornProofs.{Proof, Done, Back, proves, Provable}
 use Rattle.lp_model.specs.HornUnify.{unify}
 use Rattle.lp_model.specs.HornSearch.{BranchOf, TaskOf, Go, Try, by_type, vars_from, renamed, is_candidate, tries, resumed, look_goals, look}
-use Rattle.lp_model.specs.HornRight.{Closes, Answer, IsInstance, IsAnswer}
+use Rattle.lp_model.specs.HornRight.{Closes, IsInstance, IsAnswer}
 use Rattle.lp_laws.proofs.Lists.{each_append, each_map}
 use Rattle.lp_laws.proofs.Contexts.{get_front, get_back, get_split, join, join_front, join_back}
-use Rattle.lp_laws.proofs.HornTerms.{bound, Agree, Sends, is_variable, arguments_apply, constant_apply, close_agree, close_value, put_argument, argument_front, renamed_argument, map_arguments, arguments_map, values_map, at_values, closed_atom, instantiated_atom, atom_agree, closes_puts, atom_close_put, closes_renamed, atom_close_renamed, atom_put, atom_front, atom_renamed}
-use Rattle.lp_laws.proofs.HornUnifies.{IsUnifier, Kept, unify_is_unifier}
+use Rattle.lp_laws.proofs.HornTerms.{bound, Agree, is_variable, arguments_apply, constant_apply, close_agree, close_value, put_argument, argument_front, renamed_argument, map_arguments, arguments_map, values_map, at_values, closed_atom, instantiated_atom, atom_agree, closes_puts, atom_close_put, closes_renamed, atom_close_renamed, atom_put, atom_front, atom_renamed}
+use Rattle.lp_laws.proofs.HornUnifies.{IsUnifier, unify_is_unifier}
 
 -- a branch, and a task, with types
 abbrev pub Branch : Type 0
@@ -325,9 +325,9 @@ module _ (d : Declared) (P : List Clause) (q : Query) (hP : EachOf (IsClause d) 
         let typed = vars_types d W c.vars n (λ x T e. get_back b.vars c.vars x ∙ e) in
         let terms = map (close tau) vars in
         let reads : (x : ℕ) (T : Ty) → slice_get c.vars x ≡ Some T → tau (n + x) 0 ≡ at terms x = λ x T e.
-            let l = slice_get_within c.vars x T e in
-            let m : x < length vars = subst (λ y. x < y) (sym (long_vars (length c.vars) n)) l in
-            ap (close tau) (sym (at_vars (length c.vars) n x l)) ∙ sym (get_or-map (close tau) vars x (index 0) (index 0) m) in
+        let l = slice_get_within c.vars x T e in
+        let m : x < length vars = subst (λ y. x < y) (sym (long_vars (length c.vars) n)) l in
+        ap (close tau) (sym (at_vars (length c.vars) n x l)) ∙ sym (get_or-map (close tau) vars x (index 0) (index 0) m) in
         let solved = ap (map (close rho)) (U.solves made refl) in
         let args = sym (closes_renamed d n c.vars tau terms reads ok.clause.head.args ok.clause.head.types ok.clause.head.typed) ∙ sym (closes_puts d rho made W (map (renamed n) ok.clause.head.args) ok.goal.types up_head) ∙ sym solved ∙ closes_puts d rho made W ok.goal.args ok.goal.types up_args in
         let parts = split_proofs d P (map (close tau) (map (renamed n) c.body)) (map (close tau) b.goals) _ (subst (λ gs. Provable d P gs) (all_goals rho made) h.goals).holds in

@@ -1,20 +1,20 @@
 -- Soundness and exhaustion of the search over Horn clauses, with types, and with the number of the variables in their place.
 use Rattle.std.proofs.Common.{◌≡◌, ℕ, suc, ◌+◌, ◌<◌, List, [], ◌∷◌, ◌++◌, map, length, Option, Some, None, inl, inr, refl, sym, ap, ◌∙◌, subst, arith, cond, length-append}
-use Rattle.std.specs.Prelude.{slice_get, filter, Bool, true, false, nat_eq}
+use Rattle.std.specs.Prelude.{slice_get, filter, Bool, true, false}
 use Rattle.std.proofs.lemmas.List.{get_or-map}
 use Rattle.std.proofs.lemmas.Option.{slice_get_within}
 use Rattle.lp_calculus.specs.Types.{Ty}
-use Rattle.lp_calculus.specs.Term.{Term, index, atom, logic}
+use Rattle.lp_calculus.specs.Term.{Term, index}
 use Rattle.lp_calculus.specs.Fill.{close, Binding, put_all}
 use Rattle.lp_model.specs.Index.{instantiate, at}
 use Rattle.lp_model.specs.Spine.{arguments, goal_name}
-use Rattle.lp_model.specs.Skeleton.{View, Opens, Takes, Told, run}
+use Rattle.lp_model.specs.Skeleton.{Opens, Takes, run}
 use Rattle.lp_model.specs.Faithful.{AnyOf, EachOf}
-use Rattle.lp_model.specs.Horn.{Declared, Clause, Query, Horn, counted, counted_query, AreArguments, IsAtom, IsClause, IsQuery, AreValues}
+use Rattle.lp_model.specs.Horn.{Declared, Clause, Query, Horn, counted, IsAtom, IsClause, IsQuery, AreValues}
 use Rattle.lp_model.specs.HornProofs.{Provable, IsProvable}
 use Rattle.lp_model.specs.HornUnify.{unify}
-use Rattle.lp_model.specs.HornSearch.{BranchOf, TaskOf, Go, Try, AnswerOf, by_type, by_number, vars_from, renamed, is_candidate, tries, resumed, look_goals, look, start}
-use Rattle.lp_model.specs.HornRight.{Closes, Answer, HornAnswer, IsInstance, IsRight, counted_answer, counted_told, IsRightCounted, HornSearchIsRight}
+use Rattle.lp_model.specs.HornSearch.{BranchOf, TaskOf, Go, Try, by_type, by_number, vars_from, renamed, is_candidate, tries, resumed, look_goals, look, start}
+use Rattle.lp_model.specs.HornRight.{IsInstance, IsRight, counted_answer, HornSearchIsRight}
 use Rattle.lp_laws.proofs.Lists.{each_from_any, each_map}
 use Rattle.lp_laws.proofs.Stacks.{sound, exhausts, fine}
 use Rattle.lp_laws.proofs.InStep.{view_map, in_step}
@@ -63,9 +63,9 @@ module _ (d : Declared) (P : List Clause) (q : Query) where
       let vars = vars_from (length q.vars) 0 in
       let typed = vars_types d q.vars q.vars 0 (λ x T e. let g : 0 + x ≡ x = omega arith in ap (slice_get q.vars) g ∙ e) in
       let reads : (x : ℕ) (T : Ty) → slice_get q.vars x ≡ Some T → h.closing (0 + x) 0 ≡ at i x = λ x T e.
-          let l = slice_get_within q.vars x T e in
-          let n : x < length vars = subst (λ y. x < y) (sym (long_vars (length q.vars) 0)) l in
-          ap (close h.closing) (sym (at_vars (length q.vars) 0 x l)) ∙ sym (get_or-map (close h.closing) vars x (index 0) (index 0) n) ∙ ap (λ ts. at ts x) h.gives in
+      let l = slice_get_within q.vars x T e in
+      let n : x < length vars = subst (λ y. x < y) (sym (long_vars (length q.vars) 0)) l in
+      ap (close h.closing) (sym (at_vars (length q.vars) 0 x l)) ∙ sym (get_or-map (close h.closing) vars x (index 0) (index 0) n) ∙ ap (λ ts. at ts x) h.gives in
       record {
         values = subst (λ ts. AreValues d ts q.vars) h.gives (values_map d q.vars [] (close h.closing) (λ t T k. close_value d q.vars h.closing h.closes t T k) vars q.vars typed);
         proved = subst (λ gs. Provable d P gs) (goals_at hq h.closing i reads) h.goals;

@@ -1,15 +1,13 @@
 -- Arguments and atoms of the fragment under closings and bindings: they compose, keep types, and agree where they agree on the variables.
-use Rattle.std.proofs.Common.{◌≡◌, ℕ, zero, suc, ◌+◌, ◌≤◌, List, [], ◌∷◌, ◌++◌, map, length, Option, Some, None, refl, sym, ap, ◌∙◌, subst, arith}
+use Rattle.std.proofs.Common.{◌≡◌, ℕ, zero, suc, ◌+◌, ◌≤◌, List, [], ◌∷◌, ◌++◌, map, length, Some, refl, sym, ap, ◌∙◌, subst, arith}
 use Rattle.std.specs.Prelude.{slice_get}
 use Rattle.lp_calculus.specs.Types.{Ty}
 use Rattle.lp_calculus.specs.Term.{Term, index, atom, abs, app, apply, constant, integer, text, eigen, logic, param}
 use Rattle.lp_calculus.specs.Fill.{fill, at_variables, close, Binding, put, put_all}
-use Rattle.lp_calculus.specs.Typing.{scheme_type, o_type, Typed}
-use Rattle.lp_calculus.specs.Closed.{AreClosed, IsClosedAt}
-use Rattle.lp_model.specs.Faithful.{EachOf}
+use Rattle.lp_calculus.specs.Closed.{AreClosed}
 use Rattle.lp_model.specs.Index.{instantiate, at}
 use Rattle.lp_model.specs.Spine.{arguments, arguments_and, constant_of_head}
-use Rattle.lp_model.specs.Horn.{Declared, over, IsSimple, IsArgument, AreArguments, IsAtom, IsValue, AreValues, arrows, first_declared}
+use Rattle.lp_model.specs.Horn.{Declared, IsSimple, IsArgument, AreArguments, IsAtom, IsValue, AreValues, first_declared}
 use Rattle.lp_model.specs.HornSearch.{renamed}
 use Rattle.lp_model.specs.HornRight.{Closes}
 use Rattle.lp_laws.proofs.Contexts.{get_front, get_back}

@@ -1,16 +1,15 @@
 -- Unification of constants and variables keeps each solution, adds none, and keeps types.
-use Rattle.std.proofs.Common.{◌≡◌, ℕ, zero, suc, List, [], ◌∷◌, ◌++◌, map, Option, Some, None, inl, inr, refl, sym, ap, ◌∙◌, subst, arith, append_assoc, append-nil}
+use Rattle.std.proofs.Common.{◌≡◌, ℕ, zero, suc, List, [], ◌∷◌, ◌++◌, map, Option, Some, None, refl, sym, ap, ◌∙◌, subst, append_assoc, append-nil}
 use Rattle.std.specs.Prelude.{slice_get, nat_eq, if◌then◌else◌, Bool, true, false, ◌&&◌}
 use Rattle.std.proofs.lemmas.Bool.{eq-eqb, eqb-true}
 use Rattle.lp_calculus.specs.Types.{Ty}
-use Rattle.lp_calculus.specs.Term.{Term, index, atom, abs, app, Atom, constant, integer, text, eigen, logic, param}
+use Rattle.lp_calculus.specs.Term.{Term, index, atom, abs, app, constant, integer, text, eigen, logic, param}
 use Rattle.lp_calculus.specs.Fill.{close, Binding, one, put, put_all}
 use Rattle.lp_model.specs.Faithful.{EachOf}
 use Rattle.lp_model.specs.Horn.{Declared, IsSimple, IsArgument, AreArguments}
 use Rattle.lp_model.specs.HornUnify.{bind, unify_constant, unify_variable, unify_two, unify_on, unify}
-use Rattle.lp_model.specs.HornRight.{Closes}
 use Rattle.lp_laws.proofs.Lists.{each_append}
-use Rattle.lp_laws.proofs.HornTerms.{bound, Agree, Sends, variable_type, is_variable, is_constant, close_agree, close_put, put_argument, put_all_append}
+use Rattle.lp_laws.proofs.HornTerms.{bound, Agree, Sends, variable_type, is_variable, put_all_append}
 
 -- where two numbers and two levels are the same
 both_true : (x y l m : ℕ) → (nat_eq x y && nat_eq l m) ≡ true → (x ≡ y) × (l ≡ m)

@@ -1,5 +1,5 @@
 -- Two searches in step: where each look of the one is the image of the other's, so is each run.
-use Rattle.std.proofs.Common.{◌≡◌, ℕ, zero, suc, ◌+◌, List, [], ◌∷◌, ◌++◌, map, length, Option, Some, None, refl, sym, ap, ◌∙◌}
+use Rattle.std.proofs.Common.{◌≡◌, ℕ, zero, suc, List, [], ◌∷◌, ◌++◌, map, length, refl, sym, ap, ◌∙◌}
 use Rattle.std.specs.Prelude.{◌-◌, ◌||◌, nat_lt, drop, Bool, true, false}
 use Rattle.std.proofs.lemmas.List.{map-append, length-map}
 use Rattle.lp_model.specs.Skeleton.{View, Gives, Opens, Parts, Takes, Cuts, Halts, State, Move, Goes, Tells, Stops, Note, AnswerNote, GoalNote, CutNote, Told, oldest, back, back_for_more, row_limit, move_view, move_at, move, told_after, run}

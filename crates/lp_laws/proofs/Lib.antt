@@ -8,4 +8,7 @@ pub mod HornUnifies
 pub mod HornBranches
 pub mod InStep
 pub mod HornCorrect
+pub mod Moves
+pub mod HornEnds
+pub mod HornTyped
 pub mod FamilyRows

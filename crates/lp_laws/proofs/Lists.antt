@@ -1,5 +1,5 @@
 -- Some and all elements of lists that are put together, mapped or shortened.
-use Rattle.std.proofs.Common.{◌≡◌, ℕ, zero, suc, List, [], ◌∷◌, ◌++◌, map, inl, inr}
+use Rattle.std.proofs.Common.{ℕ, zero, suc, List, [], ◌∷◌, ◌++◌, map, inl, inr}
 use Rattle.std.specs.Prelude.{◌⊎◌, drop}
 use Rattle.lp_model.specs.Faithful.{AnyOf, EachOf}
 

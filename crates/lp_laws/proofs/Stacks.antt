@@ -1,11 +1,10 @@
 -- Soundness and exhaustion of a search over a stack, for every faithful look: by induction on the moves, since the solutions of a
 -- task are those of what it turns out to be. After a cut that removed something the search never ends with `NoMore`.
-use Rattle.std.proofs.Common.{◌≡◌, ℕ, zero, suc, List, [], ◌∷◌, ◌++◌, Option, Some, None, inl, inr, refl, sym, ap, ◌∙◌, subst, arith, length, ◌≤◌, ◌<◌}
-use Rattle.std.specs.Prelude.{◌⊎◌, ◌≢◌, ◌-◌, ◌||◌, Bool, true, false, drop, nat_lt}
+use Rattle.std.proofs.Common.{◌≡◌, ℕ, zero, suc, List, [], ◌∷◌, Some, inl, inr, refl, sym, ap, subst, arith, length, ◌≤◌}
+use Rattle.std.specs.Prelude.{◌⊎◌, ◌-◌, Bool, true, false, drop, nat_lt}
 use Rattle.std.proofs.lemmas.Bool.{cases_lt, lt-ltb, or_right}
-use Rattle.lp_model.specs.declared.ending.Ending.{Ending}
-use Rattle.lp_model.specs.declared.ending.Ending.TheVariants.{NoMore, NoMoreCut, Enough, Steps, Deep}
-use Rattle.lp_model.specs.Skeleton.{View, Gives, Opens, Parts, Takes, Cuts, Halts, State, Move, Told, oldest, move_view, move_at, told_after, run}
+use Rattle.lp_model.specs.declared.ending.Ending.TheVariants.{NoMore}
+use Rattle.lp_model.specs.Skeleton.{View, Gives, Opens, Parts, Takes, Cuts, Halts, State, Told, oldest, move_view, move_at, told_after, run}
 use Rattle.lp_model.specs.Faithful.{AnyOf, EachOf, Covers, AreFine, Faithful}
 use Rattle.lp_laws.proofs.Lists.{any_append, any_front, any_back, any_drop, each_append, each_drop}
 

@@ -1,10 +1,10 @@
 -- Events in a row make up a run: what comes before an event is told first, and each answer leaves one fewer.
-use Rattle.std.proofs.Common.{◌≡◌, ℕ, zero, suc, ◌+◌, ◌<◌, List, [], ◌∷◌, ◌++◌, length, Option, Some, None, refl, sym, ap, ◌∙◌, arith, append_assoc, append-nil}
+use Rattle.std.proofs.Common.{◌≡◌, ℕ, zero, suc, ◌<◌, List, [], ◌∷◌, ◌++◌, length, Option, Some, refl, sym, ap, ◌∙◌, arith, append_assoc, append-nil}
 use Rattle.std.specs.Prelude.{Bool, true, false}
 use Rattle.lp_model.specs.declared.ending.Ending.{Ending}
 use Rattle.lp_model.specs.declared.ending.Ending.TheVariants.{NoMore, NoMoreCut, Enough, Steps, Deep}
-use Rattle.lp_model.specs.Skeleton.{View, Gives, Opens, Parts, Takes, Cuts, Halts, State, Move, Goes, Tells, Stops, Note, move_view, move_at, move, Told, told_after, run}
-use Rattle.lp_model.specs.Events.{Event, Gave, Over, first_after, first, Advances, Comes, Gathers}
+use Rattle.lp_model.specs.Skeleton.{View, Gives, Opens, Parts, Takes, Cuts, Halts, State, Move, Goes, Tells, Stops, move_view, move_at, move, told_after, run}
+use Rattle.lp_model.specs.Events.{Event, Gave, Over, first_after, first, Advances, Gathers}
 
 module _ {T A : Type 0} (look : ℕ → T → View T A) where
   pair_left : (x y : Event A) (s t : State T) → ◌≡◌ {A = Option (Event A × State T)} (Some (x, s)) (Some (y, t)) → (x ≡ y) × (s ≡ t)

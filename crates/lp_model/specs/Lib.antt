@@ -1,5 +1,6 @@
 pub mod Skeleton
 pub mod Events
+pub mod Moves
 pub mod Faithful
 pub mod Index
 pub mod Spine

@@ -1,0 +1,49 @@
+// The search over a stack, whatever a task is. (Soundness and exhaustion for every faithful look speak of all predicates on tasks,
+// which a contract cannot: they are the lemmas `sound`, `fine` and `exhausts` of proofs/Stacks.)
+
+ghost use Rattle.std.specs.Prelude.{◌≡◌, ◌++◌, ◌<◌, ◌≤◌, ◌∷◌, [], ℕ, List, Some};
+ghost use Rattle.lp_model.specs.declared.ending.Ending.{Ending};
+ghost use Rattle.lp_model.specs.Events.{Advances, Event, Gathers, Gave, Over};
+ghost use Rattle.lp_model.specs.Faithful.{Falls};
+ghost use Rattle.lp_model.specs.Moves.{answers_noted, moves, numbers_after, steps_noted, told_of};
+ghost use Rattle.lp_model.specs.Skeleton.{State, View, run};
+
+/// Every run ends, where some weight of tasks falls at each task that opens others at no step.
+pub fn every_run_ends<Task, Answer>()
+    ensures { (look : ℕ → Task → View Task Answer) → (w : Task → ℕ) → Falls look w → (s : State Task) → (n : ℕ) × (e : Ending) × ((run look n s).ending ≡ Some e) }
+{}
+
+/// A run that is over tells the same with more moves.
+pub fn ended_run_stays<Task, Answer>()
+    ensures { (look : ℕ → Task → View Task Answer) → (n m : ℕ) → n ≤ m → (s : State Task) → (e : Ending) → (run look n s).ending ≡ Some e → run look m s ≡ run look n s }
+{}
+
+/// A run tells what its moves tell.
+pub fn moves_tell<Task, Answer>()
+    ensures { (look : ℕ → Task → View Task Answer) → (n : ℕ) → (s : State Task) → run look n s ≡ told_of (moves look n s) }
+{}
+
+/// The steps of a run are its notes of goals and cuts.
+pub fn steps_are_noted<Task, Answer>()
+    ensures { (look : ℕ → Task → View Task Answer) → (n : ℕ) → (s : State Task) → (run look n s).steps ≡ steps_noted (run look n s).notes }
+{}
+
+/// The answers of a run are noted, numbered in a row.
+pub fn answers_are_noted<Task, Answer>()
+    ensures { (look : ℕ → Task → View Task Answer) → (n : ℕ) → (s : State Task) → answers_noted (run look n s).notes ≡ numbers_after s.given (run look n s).answers }
+{}
+
+/// Answers that come one after the other, and then the end, are those of a run.
+pub fn events_make_a_run<Task, Answer>()
+    ensures { (look : ℕ → Task → View Task Answer) → (s t u : State Task) → (told : List Answer) → (e : Ending) → Gathers look s told t → Advances look t (Over e) u → (n : ℕ) × ((run look n s).answers ≡ told) × ((run look n s).ending ≡ Some e) }
+{}
+
+/// One more answer that comes behind others.
+pub fn answers_gather<Task, Answer>()
+    ensures { (look : ℕ → Task → View Task Answer) → (s t u : State Task) → (told : List Answer) → (a : Answer) → Gathers look s told t → Advances look t (Gave a) u → Gathers look s (told ++ a ∷ []) u }
+{}
+
+/// Each answer leaves one fewer.
+pub fn answers_left_fall<Task, Answer>()
+    ensures { (look : ℕ → Task → View Task Answer) → (t u : State Task) → (a : Answer) → Advances look t (Gave a) u → u.answers < t.answers }
+{}
