@@ -1,0 +1,4 @@
+pub mod Lexed
+pub mod Ways
+pub mod Places
+pub mod WellKinded

@@ -1,0 +1,5 @@
+pub mod Zips
+pub mod Standing
+pub mod Puts
+pub mod Lines
+pub mod Typed
