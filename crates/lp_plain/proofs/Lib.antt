@@ -8,3 +8,4 @@ pub mod Tries
 pub mod Turns
 pub mod Begins
 pub mod Nexts
+pub mod Indexes

@@ -1,6 +1,8 @@
 -- The clauses of a goal's predicate.
-use Rattle.std.specs.Prelude.{◌≡◌, ℕ, ◌<◌, ◌≤◌, ◌-◌, List, [], drop, filter, length, Bool, nat_eq, Option, Some, None, slice_get}
+use Rattle.std.specs.Prelude.{◌≡◌, ℕ, suc, ◌∷◌, ◌++◌, cond, ◌<◌, ◌≤◌, ◌-◌, List, [], drop, filter, length, Bool, nat_eq, Option, Some, None, slice_get}
+use Rattle.std.specs.HashMap.{get}
 use Rattle.lp_plain.specs.declared.atom.Rule.{Rule}
+use Rattle.lp_plain.specs.declared.candidates.Index.{Index}
 
 abbrev pub is_named : ℕ → Rule → Bool
 is_named name r = nat_eq r.head.name name
@@ -15,6 +17,20 @@ pub record IsNext (rules : List Rule) (name from i : ℕ) : Type 0 where
 abbrev pub IsFound : List Rule → (name from : ℕ) → Option ℕ → Type 0
 IsFound rules name from None = filter (is_named name) (drop from rules) ≡ []
 IsFound rules name from (Some i) = IsNext rules name from i
+
+-- the number of the first clause of a predicate, where the first of the list has the number i
+abbrev pub first_from : ℕ → List Rule → ℕ → Option ℕ
+first_from i [] name = None
+first_from i (r ∷ rs) name = cond (nat_eq r.head.name name) (Some i) (first_from (suc i) rs name)
+
+-- for each clause the next one of its predicate, the last clause's first
+abbrev pub nexts_from : ℕ → List Rule → List (Option ℕ)
+nexts_from i [] = []
+nexts_from i (r ∷ rs) = nexts_from (suc i) rs ++ first_from (suc i) rs r.head.name ∷ []
+
+-- the table finds the first clause of each predicate, and behind each clause the next one
+abbrev pub IsIndex : List Rule → Index → Type 0
+IsIndex rules index = ((name : ℕ) → get nat_eq index.first name ≡ first_from 0 rules name) × (index.nexts.items ≡ nexts_from 0 rules)
 
 -- a clause of the predicate that a loop came to, or none
 pub record IsHere (rules : List Rule) (name from i : ℕ) : Type 0 where

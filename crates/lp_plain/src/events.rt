@@ -6,6 +6,7 @@ ghost use Rattle.lp_plain.specs.Condition.{IsClauseIn, AreAtomsIn, clause_of, qu
 ghost use Rattle.lp_plain.specs.Held.{held, Continues};
 
 use crate::atom::Choice;
+use crate::candidates::index_of;
 use crate::horn::{Horn, HornEvent};
 use crate::query::first_branch;
 use crate::reading::read_rules;
@@ -32,6 +33,7 @@ impl Search {
         ensures { IfOk result (λ s. held s ≡ record { clauses = map (clause_of bank) clauses.items; state = start_of by_number (query_of bank query) steps answers; bank = bank; failed = false }) }
     {
         let rules = read_rules(alloc, &bank, &clauses)?;
+        let index = index_of(alloc, &rules)?;
         let first = first_branch(alloc, &bank, &query)?;
         let mut stack = Vec::new(alloc);
         stack.push(Choice::Going(first))?;
@@ -39,6 +41,7 @@ impl Search {
             alloc,
             bank,
             rules,
+            index,
             stack,
             steps,
             answers,
@@ -68,7 +71,13 @@ impl Search {
             return Ok(HornEvent::Enough);
         }
         self.failed = true;
-        match run(self.alloc, &self.rules, &mut self.stack, &mut self.steps)? {
+        match run(
+            self.alloc,
+            &self.rules,
+            &self.index,
+            &mut self.stack,
+            &mut self.steps,
+        )? {
             Told::Answered(values) => {
                 let ids = put_values(self.alloc, &mut self.bank, &values)?;
                 self.given += 1;

@@ -1,6 +1,7 @@
 ghost use Rattle.std.specs.Prelude.{◌≡◌, ◌≤◌, ◌<◌, ◌^◌, IfOk};
 
 use crate::atom::{Branch, Choice, Goal, Pattern, Rule, Slot, Value};
+use crate::candidates::index_of;
 use crate::{Horn, HornEvent, Search};
 use lp_base::Memory;
 use lp_term::{Bank, TermNode};
@@ -93,10 +94,13 @@ fn search(
         goals,
         query,
     }))?;
+    let rules = family(alloc)?;
+    let index = index_of(alloc, &rules)?;
     Ok(Search {
         alloc,
         bank: Bank::new(alloc),
-        rules: family(alloc)?,
+        rules,
+        index,
         stack,
         steps,
         answers,

@@ -12,6 +12,7 @@ invariant_of-result c =
     let l = c.requires in
     let few : c.args.steps ≤ 100000000 = omega (arith, l) in
     record {
+      indexed = (c.in_ok-index.ensures.0, c.in_ok-index.ensures.1);
       counted = omega arith;
       room = λ _. first_room _ first _ s (omega arith) few;
     }

@@ -5,7 +5,7 @@ use Rattle.lp_plain.proofs.Moves.{passes_here, passes_on, tells_on}
 use Rattle.lp_plain.proofs.turn.run.Goals as goal
 
 pub turns-init : goal.turns-init
-turns-init c = record { passes = passes_here _ _ _ _ refl; room = c.requires }
+turns-init c = record { passes = passes_here _ _ _ _ refl; room = c.requires.room }
 
 pub turns-preserved : goal.turns-preserved
 turns-preserved c =

@@ -11,6 +11,7 @@ pub invariant_of-result : goal.invariant_of-result
 invariant_of-result c =
     let s : c.push.new.self.items ≡ Going c.in_ok-first.first ∷ [] = grind (arith, common_steps) in
     record {
+      indexed = (c.in_ok-index.ensures.0, c.in_ok-index.ensures.1);
       counted = omega arith;
       room = λ _. first_room _ c.in_ok-first.first _ s c.in_ok-first.ensures.few c.requires.steps;
     }
