@@ -32,24 +32,35 @@ fn raise(bank: &mut Bank, id: TermId, depth: u64, at: u64, by: u64) -> Result<Te
     Ok(made)
 }
 
-// The value, raised by the depth, if that is known.
-fn raised_value(bank: &Bank, memo: &Memo, value: TermId, depth: u64) -> Option<TermId>
-    requires value { value.0 < length bank.now.terms }
-    requires known { All (IsKnown bank.now) (values memo.now) }
-    ensures { IfSome result (λ made. (made.0 < length bank.now.terms) × (tree bank.now made.0 ≡ shift 0 depth (tree bank.now value.0))) }
+// The value, raised by the depth, if that can be told at once.
+fn raised_value(
+    bank: &mut Bank,
+    memo: &Memo,
+    value: TermId,
+    depth: u64,
+) -> Result<Option<TermId>, Memory>
+    requires value { value.0 < length bank.old.terms }
+    requires fits { Everywhere (FitsRaised depth) 0 (tree bank.old value.0) }
+    requires known { All (IsKnown bank.old) (values memo.now) }
+    ensures kept { Extends bank.old bank.new }
+    ensures made { IfOk result (λ found. IfSome found (λ made. (made.0 < length bank.new.terms) × (tree bank.new made.0 ≡ shift 0 depth (tree bank.old value.0)))) }
 {
     if depth == 0 {
-        return Some(value);
+        return Ok(Some(value));
     }
     if bank.is_known_below(value, 0) {
-        return Some(value);
+        return Ok(Some(value));
     }
     let place = Place {
         id: value,
         depth: 0,
         change: Change::Raise(depth),
     };
-    recall(memo, place)
+    let TermNode::Index(at) = bank.term_node(value) else {
+        return Ok(recall(memo, place));
+    };
+    let made = raise(bank, value, 0, at, depth)?;
+    Ok(Some(made))
 }
 
 // The index of the node, the value in its place, or the index one lower. The value, raised, may not be known yet.
@@ -64,6 +75,7 @@ fn put_in_place(
     requires id { id.0 < length bank.old.terms }
     requires value { value.0 < length bank.old.terms }
     requires index { tree bank.old id.0 ≡ index at }
+    requires fits { FitsPut (tree bank.old value.0) depth at }
     requires known { All (IsKnown bank.old) (values memo.now) }
     ensures kept { Extends bank.old bank.new }
     ensures made { IfOk result (λ found. IfSome found (λ made. (made.0 < length bank.new.terms) × (tree bank.new made.0 ≡ put_for (tree bank.old value.0) depth at))) }
@@ -72,7 +84,8 @@ fn put_in_place(
         return Ok(Some(id));
     }
     if at == depth {
-        return Ok(raised_value(bank, memo, value, depth));
+        let made = raised_value(bank, memo, value, depth)?;
+        return Ok(made);
     }
     let made = bank.put_term(TermNode::Index(at - 1))?;
     Ok(Some(made))
