@@ -1,0 +1,7 @@
+mod Appending
+mod Counting
+mod Files
+mod Loading
+mod Orders
+mod Progress
+mod Statuses

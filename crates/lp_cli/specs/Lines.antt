@@ -1,0 +1,51 @@
+-- The lines that the program writes, and the status of each ending.
+use Rattle.std.specs.Prelude.{ℕ, List, ◌++◌, codes}
+use Rattle.lp_base.specs.declared.status.Status.{Status}
+use Rattle.lp_base.specs.declared.status.Status.TheVariants as variant
+use Rattle.lp_model.specs.declared.ending.Ending.{Ending}
+use Rattle.lp_model.specs.declared.ending.Ending.TheVariants.{NoMore, NoMoreCut, Enough, Steps, Flexible, Arithmetic, Deep}
+use Rattle.lp_model.specs.declared.ending.Fault.{Fault}
+use Rattle.lp_model.specs.declared.ending.Fault.TheVariants.{Overflow, ZeroDivisor, NotClosed}
+
+unfoldable pub usage_line : List ℕ
+usage_line = codes "usage: solve M Q | compile M | link M | query M Q | trial N\n"
+
+-- the texts are not in the language that is built so far
+unfoldable pub not_built_line : List ℕ
+not_built_line = codes "source: not built yet\n"
+
+unfoldable pub memory_line : List ℕ
+memory_line = codes "stopped: memory\n"
+
+unfoldable pub long_file_line : List ℕ
+long_file_line = codes "limit: file\n"
+
+unfoldable pub missing_line : (file : List ℕ) → List ℕ
+missing_line file = codes "missing: " ++ file ++ codes "\n"
+
+unfoldable pub read_fault_line : (file : List ℕ) → List ℕ
+read_fault_line file = codes "read fault: " ++ file ++ codes "\n"
+
+unfoldable pub fault_line : Fault → List ℕ
+fault_line Overflow = codes "stopped: arithmetic: overflow\n"
+fault_line ZeroDivisor = codes "stopped: arithmetic: zero divisor\n"
+fault_line NotClosed = codes "stopped: arithmetic: not closed\n"
+
+-- the last line of a search
+unfoldable pub ending_line : Ending → List ℕ
+ending_line NoMore = codes "no more answers\n"
+ending_line NoMoreCut = codes "no more answers; some were cut away\n"
+ending_line Enough = codes "stopped: answers\n"
+ending_line Steps = codes "stopped: steps\n"
+ending_line Flexible = codes "stopped: flexible goal\n"
+ending_line (Arithmetic fault) = fault_line fault
+ending_line Deep = codes "stopped: term too deep\n"
+
+unfoldable pub ending_status : Ending → Status
+ending_status NoMore = variant.Done
+ending_status NoMoreCut = variant.Done
+ending_status Enough = variant.Done
+ending_status Steps = variant.Steps
+ending_status Flexible = variant.Flexible
+ending_status (Arithmetic fault) = variant.Arithmetic
+ending_status Deep = variant.Deep
