@@ -1,5 +1,5 @@
 -- The loop over the answers of a search: what was written is the text of the answers gathered so far.
-use Rattle.std.proofs.Common.{◌≡◌, ◌≢◌, ℕ, zero, suc, ◌+◌, ◌-◌, ◌<◌, ◌≤◌, List, [], ◌∷◌, ◌++◌, length, map, Option, Some, None, refl, sym, ap, ap₂, ◌∙◌, subst, arith, append_assoc, length-append, codes, All}
+use Rattle.std.proofs.Common.{◌≡◌, ℕ, suc, ◌+◌, ◌<◌, ◌≤◌, List, [], ◌∷◌, ◌++◌, length, map, Option, Some, None, refl, sym, ap, ap₂, ◌∙◌, subst, arith, append_assoc, length-append, All}
 use Rattle.std.proofs.lemmas.List.{append-nil}
 use Rattle.lp_base.specs.Counts.{HasRisen}
 use Rattle.lp_base.specs.Written.{Appends, AppendsPrefix}
@@ -7,11 +7,11 @@ use Rattle.lp_base.specs.declared.status.Status.{Status}
 use Rattle.lp_base.specs.declared.status.Status.TheVariants as status
 use Rattle.lp_calculus.specs.Term.{Term}
 use Rattle.lp_calculus.specs.Fill.{Binding}
-use Rattle.lp_term.specs.Nodes.{Nodes, tree}
+use Rattle.lp_term.specs.Nodes.{tree}
 use Rattle.lp_term.specs.declared.node.TermId.{TermId}
 use Rattle.lp_model.specs.declared.ending.Ending.{Ending}
 use Rattle.lp_model.specs.declared.ending.Ending.TheVariants as ending
-use Rattle.lp_model.specs.Skeleton.{State, Told, run}
+use Rattle.lp_model.specs.Skeleton.{State, run}
 use Rattle.lp_model.specs.Events.{Event, Gave, Over, Advances, Gathers}
 use Rattle.lp_model.specs.Faithful.{total, OpensLighter, Falls}
 use Rattle.lp_model.specs.Spine.{arguments}
@@ -23,7 +23,6 @@ use Rattle.lp_laws.proofs.Wholes.{gathers_none, gathers_more, gathers_over, gath
 use Rattle.lp_laws.proofs.HornCorrect.{horn_search_is_right}
 use Rattle.lp_plain.specs.declared.horn.HornEvent.{HornEvent}
 use Rattle.lp_plain.specs.declared.horn.HornEvent.TheVariants as event
-use Rattle.lp_plain.specs.Condition.{trees}
 use Rattle.lp_plain.specs.Held.{Held, Stands, Shows, Continues}
 use Rattle.lp_fragment.specs.Kinds.{IsMeaning}
 use Rattle.lp_fragment.specs.Meaning.{Meaning}
@@ -31,10 +30,10 @@ use Rattle.lp_horn.specs.Program.{declared_by, clause_term, query_term}
 use Rattle.lp_horn.specs.Shown.{answer_text}
 use Rattle.lp_horn.proofs.Typed.{meaning_typed}
 use Rattle.lp_cli.specs.Output.{step_limit, answer_limit, searched, answers_from, end_line, last_line, status_of, output}
-use Rattle.lp_cli.specs.Reply.{memory_line, IsTrue, IsSearchReply, solved, no_memory, memory_after}
+use Rattle.lp_cli.specs.Reply.{memory_line, IsTrue, IsSearchReply, solved, memory_after}
 use Rattle.lp_cli.specs.Says.{Says}
 use Rattle.lp_cli.specs.Starts.{IsStart}
-use Rattle.lp_cli.proofs.Saying.{weaker, behind, appends_both, appends_none, cut_short}
+use Rattle.lp_cli.proofs.Saying.{behind, appends_both, appends_none, cut_short}
 
 -- the clauses and the start of a meaning's search
 abbrev clauses_of : Meaning → List Horn

@@ -1,6 +1,6 @@
 -- The three words that ask, and what stands in their way.
-use Rattle.std.proofs.Common.{◌≡◌, ℕ, ◌<◌, ◌≤◌, List, [], ◌∷◌, length, map, get_or, codes, true, false, refl, sym, ap, ap₂, ◌∙◌, subst, arith, String, Global, string_bytes, suc}
-use Rattle.lp_cli.specs.Words.{is_module_name, Asks, IsCommand}
+use Rattle.std.proofs.Common.{◌≡◌, ℕ, ◌<◌, ◌≤◌, List, [], ◌∷◌, length, map, get_or, codes, true, refl, sym, ap, ap₂, ◌∙◌, arith, String, Global, string_bytes}
+use Rattle.lp_cli.specs.Words.{is_module_name, Asks}
 
 abbrev bytes : List (String Global) → List (List ℕ)
 bytes words = map string_bytes words

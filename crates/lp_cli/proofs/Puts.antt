@@ -1,5 +1,5 @@
 -- A put that was tested: it was taken, or it failed and was counted.
-use Rattle.std.proofs.Common.{◌≡◌, ℕ, ◌<◌, ◌≤◌, Bool, true, false, Result, Ok, Err, refl, sym, ap, ◌∙◌, arith}
+use Rattle.std.proofs.Common.{◌≡◌, ℕ, ◌<◌, Bool, true, false, Result, Ok, Err, refl, arith}
 use Rattle.std.specs.Prelude.{OnOk, OnErr, IsErr, is_err}
 use Rattle.lp_base.specs.Counts.{HasRisen, Counts}
 

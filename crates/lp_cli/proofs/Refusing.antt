@@ -1,5 +1,5 @@
 -- What is said where a file was refused.
-use Rattle.std.proofs.Common.{◌≡◌, ℕ, ◌<◌, List, ◌++◌, length, Option, Some, None, codes, refl, sym, ap, ◌∙◌, subst}
+use Rattle.std.proofs.Common.{◌≡◌, ℕ, List, Option, codes, sym, ◌∙◌, subst}
 use Rattle.lp_base.specs.Held.{Held}
 use Rattle.lp_base.specs.declared.outside.ReadErr.{ReadErr}
 use Rattle.lp_base.specs.declared.outside.ReadErr.TheVariants as fault

@@ -1,5 +1,5 @@
 -- The texts and the words: what was said of them is a reply.
-use Rattle.std.proofs.Common.{◌≡◌, ◌≢◌, ℕ, ◌<◌, ◌≤◌, List, [], ◌∷◌, ◌++◌, length, map, Option, Some, None, codes, refl, sym, ap, ◌∙◌, subst}
+use Rattle.std.proofs.Common.{◌≡◌, ℕ, ◌≤◌, List, length, Option, Some, None, refl, sym, ap, ◌∙◌, subst}
 use Rattle.std.specs.Prelude.{IfSome, Err, IsErrOf}
 use Rattle.lp_base.specs.Read.{IsTooLong, IsLonger}
 use Rattle.lp_base.specs.declared.outside.ReadErr.TheVariants as fault
@@ -7,10 +7,9 @@ use Rattle.lp_base.specs.Held.{Held}
 use Rattle.lp_base.specs.declared.status.Status.{Status}
 use Rattle.lp_base.specs.declared.status.Status.TheVariants as status
 use Rattle.lp_base.specs.declared.outside.ReadErr.{ReadErr}
-use Rattle.lp_fragment.specs.Meaning.{Meaning, meaning}
 use Rattle.lp_cli.specs.Faults.{Fits}
 use Rattle.lp_cli.specs.Output.{file_limit}
-use Rattle.lp_cli.specs.Reply.{sig_of, mod_of, memory_line, usage_line, Reads, IsNext, the_signature, the_module, IsSearchReply, no_memory, IsTextReply, not_built, searched_reply, not_read, IsRefusal, no_memory_left, IsReply, usage, refused, answered}
+use Rattle.lp_cli.specs.Reply.{sig_of, mod_of, memory_line, usage_line, IsNext, the_signature, the_module, IsTextReply, no_memory_left, IsReply, usage, refused, answered}
 use Rattle.lp_cli.specs.Says.{Says}
 use Rattle.lp_cli.specs.Words.{Asks, IsCommand}
 use Rattle.lp_cli.proofs.Refusing.{Refuses}

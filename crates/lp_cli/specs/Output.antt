@@ -1,17 +1,15 @@
 -- What a run writes: the lines of its refusals, and the output of a search from what it told.
-use Rattle.std.specs.Prelude.{◌≡◌, ◌<◌, ◌≤◌, ℕ, suc, ◌+◌, List, [], ◌∷◌, ◌++◌, map, length, codes, Option, Some, None}
-use Rattle.lp_base.specs.Held.{Held}
+use Rattle.std.specs.Prelude.{ℕ, suc, List, [], ◌∷◌, ◌++◌, map, codes, Option, Some, None}
 use Rattle.lp_base.specs.declared.status.Status.{Status}
 use Rattle.lp_base.specs.declared.status.Status.TheVariants as status
 use Rattle.lp_model.specs.declared.ending.Ending.{Ending}
 use Rattle.lp_model.specs.declared.ending.Ending.TheVariants as ending
 use Rattle.lp_model.specs.Skeleton.{Told, run}
 use Rattle.lp_model.specs.Horn.{counted, counted_query}
-use Rattle.lp_model.specs.HornSearch.{AnswerOf, TaskOf, by_number, look, start}
-use Rattle.lp_fragment.specs.Meaning.{Meaning, meaning}
+use Rattle.lp_model.specs.HornSearch.{AnswerOf, by_number, look, start}
+use Rattle.lp_fragment.specs.Meaning.{Meaning}
 use Rattle.lp_horn.specs.Program.{clause_term, query_term}
 use Rattle.lp_horn.specs.Shown.{answer_text}
-use Rattle.lp_cli.specs.Words.{IsCommand, Asks}
 
 -- the limits of a run
 abbrev pub step_limit : ℕ

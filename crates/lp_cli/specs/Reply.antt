@@ -1,10 +1,8 @@
 -- What a run may answer on a folder that holds these files: its status and what it writes.
-use Rattle.std.specs.Prelude.{◌≡◌, ◌<◌, ◌≤◌, ℕ, List, [], ◌∷◌, ◌++◌, map, length, codes, Option, Some, None}
+use Rattle.std.specs.Prelude.{◌≡◌, ◌<◌, ◌≤◌, ℕ, List, ◌++◌, map, length, codes, Some, None}
 use Rattle.lp_base.specs.Held.{Held}
 use Rattle.lp_base.specs.declared.status.Status.{Status}
 use Rattle.lp_base.specs.declared.status.Status.TheVariants as status
-use Rattle.lp_base.specs.declared.outside.ReadErr.{ReadErr}
-use Rattle.lp_base.specs.declared.outside.ReadErr.TheVariants as fault
 use Rattle.lp_model.specs.declared.ending.Ending.{Ending}
 use Rattle.lp_model.specs.HornRight.{IsRightCounted}
 use Rattle.lp_fragment.specs.Meaning.{Meaning, meaning}

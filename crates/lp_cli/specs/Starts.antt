@@ -1,5 +1,5 @@
 -- The search of a meaning as it begins.
-use Rattle.std.specs.Prelude.{◌≡◌, false, map}
+use Rattle.std.specs.Prelude.{◌≡◌, map}
 use Rattle.lp_model.specs.Horn.{counted, counted_query}
 use Rattle.lp_model.specs.HornSearch.{by_number, start}
 use Rattle.lp_plain.specs.Held.{Held}

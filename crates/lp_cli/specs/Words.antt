@@ -1,5 +1,5 @@
 -- What the words ask for.
-use Rattle.std.specs.Prelude.{◌≡◌, ℕ, List, [], ◌∷◌, length, codes, Bool, true, false, ◌&&◌, ◌||◌, nat_le, nat_eq, IsTrue}
+use Rattle.std.specs.Prelude.{◌≡◌, ℕ, List, [], ◌∷◌, length, codes, Bool, false, ◌&&◌, ◌||◌, nat_le, nat_eq, IsTrue}
 use Rattle.std.specs.List.{list_all}
 
 abbrev pub is_letter : ℕ → Bool

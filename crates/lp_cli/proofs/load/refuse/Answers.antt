@@ -1,4 +1,4 @@
-use Rattle.std.proofs.Common.{sym, ap, ◌∙◌}
+use Rattle.std.proofs.Common.{◌∙◌}
 use Rattle.lp_cli.proofs.Refusing.{says_memory, says_missing, says_unread, says_long}
 use Rattle.lp_cli.proofs.load.refuse.Goals as goal
 

@@ -1,7 +1,7 @@
-use Rattle.std.proofs.Common.{sym, ap, ◌∙◌, subst, refl, ◌≡◌, ◌≤◌, length, None}
+use Rattle.std.proofs.Common.{sym, ◌∙◌, subst, refl, ◌≡◌, ◌≤◌, length, None}
 use Rattle.std.specs.Prelude.{IfSome}
-use Rattle.lp_base.specs.Read.{IsLonger, IsTooLong}
-use Rattle.lp_cli.specs.Reply.{sig_of, mod_of}
+use Rattle.lp_base.specs.Read.{IsLonger}
+use Rattle.lp_cli.specs.Reply.{sig_of}
 use Rattle.lp_cli.proofs.Replying.{Read, memory_reply, refused_reply, texts_reply, next_signature, next_module, fits_of}
 use Rattle.lp_cli.proofs.run.solve.Goals as goal
 

@@ -1,4 +1,4 @@
-use Rattle.std.proofs.Common.{sym, ap, ap₂, ◌∙◌, subst, refl, map, ◌+◌}
+use Rattle.std.proofs.Common.{ap₂, ◌∙◌, subst, refl, map, ◌+◌}
 use Rattle.lp_base.specs.Written.{Appends, AppendsPrefix}
 use Rattle.lp_term.specs.Nodes.{tree}
 use Rattle.lp_model.specs.declared.ending.Ending.TheVariants as ending

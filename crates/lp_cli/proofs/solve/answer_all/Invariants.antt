@@ -1,4 +1,3 @@
-use Rattle.std.proofs.Common.{◌≡◌}
 use Rattle.lp_plain.specs.Held.{held}
 use Rattle.lp_cli.proofs.Answering.{Answered}
 use Rattle.lp_cli.proofs.solve.answer_all.Given as goal
