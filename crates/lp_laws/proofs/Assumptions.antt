@@ -24,7 +24,7 @@ pub extends_then : (E F : List Ty) (G : List Ty) → Extends (E ++ F) G → Exte
 extends_then E F G h = record { rest = F ++ h.rest; is = h.is ∙ append_assoc E F h.rest }
 
 -- whoever focuses on the first clause for an atom can focus on the second one
-pub Focuses : (d : Declared) (E : List Ty) (D R : Term) → Type 0
+unfoldable pub Focuses : (d : Declared) (E : List Ty) (D R : Term) → Type 0
 Focuses d E D R = (F : List Ty) → Extends E F → (P : List ClauseFormula) → (A : Term) → IsAtomHead (head_of A) → Focusable d F P D A → Focusable d F P R A
 
 -- in the place of a clause stands the same one, or one on which one can focus instead
