@@ -7,8 +7,8 @@ ghost use Rattle.lp_term.specs.Walk.{trees};
 ghost use Rattle.lp_term.specs.Answer.{IsDeepOnlyWhere, IsDeepAfter, IsReducedWithin, IsSpine};
 
 use crate::bank::Bank;
+use crate::carry::substitute;
 use crate::node::{TermId, TermNode};
-use crate::putting::substitute;
 use crate::unwind::{DEEPEST, unwind};
 use lp_base::Memory;
 use std::alloc::{AllocFailed, Global};

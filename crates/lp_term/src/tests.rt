@@ -1,62 +1,116 @@
+ghost use Rattle.std.specs.Prelude.{◌<◌, ◌≤◌, length, IfOk};
+
 use crate::{Bank, TermId, TermNode, TermRefusal, beta_normal, head_reduce};
 use lp_base::Memory;
 use std::alloc::Global;
 
-// \f\ \x\ f (f .. x) with n uses of f.
-fn numeral(bank: &mut Bank, n: u64) -> Result<TermId, Memory> {
-    let f = bank.put_term(TermNode::Index(1))?;
-    let mut body = bank.put_term(TermNode::Index(0))?;
-    for _ in 0..n {
-        body = bank.put_term(TermNode::App(f, &[body]))?;
-    }
-    let inner = bank.put_term(TermNode::Abs(body))?;
-    bank.put_term(TermNode::Abs(inner))
+fn app(bank: &mut Bank, f: TermId, x: TermId) -> Result<TermId, Memory>
+    requires f { f.0 < length bank.old.terms }
+    requires x { x.0 < length bank.old.terms }
+    ensures more { length bank.old.terms ≤ length bank.new.terms }
+    ensures within { IfOk result (λ id. id.0 < length bank.new.terms) }
+{
+    let args = [x];
+    let id = bank.put_term(TermNode::App(f, &args))?;
+    Ok(id)
 }
 
-// The product \m\ \n\ \f\ m (n f) of two numerals.
-fn product(bank: &mut Bank, m: u64, n: u64) -> Result<TermId, Memory> {
+// \f\ \x\ f (f .. x) with n uses of f.
+fn numeral(bank: &mut Bank, n: u64) -> Result<TermId, Memory>
+    ensures more { length bank.old.terms ≤ length bank.new.terms }
+    ensures within { IfOk result (λ id. id.0 < length bank.new.terms) }
+{
+    let f = bank.put_term(TermNode::Index(1))?;
+    let mut body = bank.put_term(TermNode::Index(0))?;
+    'uses: for _ in 0..n {
+        body = app(bank, f, body)?;
+    }
+    let inner = bank.put_term(TermNode::Abs(body))?;
+    let outer = bank.put_term(TermNode::Abs(inner))?;
+    Ok(outer)
+}
+
+// The product \f\ m (n f) of two numerals.
+fn product(bank: &mut Bank, m: u64, n: u64) -> Result<TermId, Memory>
+    ensures within { IfOk result (λ id. id.0 < length bank.new.terms) }
+{
     let left = numeral(bank, m)?;
     let right = numeral(bank, n)?;
     let f = bank.put_term(TermNode::Index(0))?;
-    let times = bank.put_term(TermNode::App(right, &[f]))?;
-    let body = bank.put_term(TermNode::App(left, &[times]))?;
-    bank.put_term(TermNode::Abs(body))
+    let times = app(bank, right, f)?;
+    let body = app(bank, left, times)?;
+    let whole = bank.put_term(TermNode::Abs(body))?;
+    Ok(whole)
 }
 
 // (\x\ x x) (\x\ x x)
-fn endless(bank: &mut Bank) -> Result<TermId, Memory> {
+fn endless(bank: &mut Bank) -> Result<TermId, Memory>
+    ensures within { IfOk result (λ id. id.0 < length bank.new.terms) }
+{
     let x = bank.put_term(TermNode::Index(0))?;
-    let twice = bank.put_term(TermNode::App(x, &[x]))?;
+    let twice = app(bank, x, x)?;
     let w = bank.put_term(TermNode::Abs(twice))?;
-    bank.put_term(TermNode::App(w, &[w]))
+    let whole = app(bank, w, w)?;
+    Ok(whole)
 }
 
-fn nodes_of_product(alloc: Global, m: u64, n: u64, most: u64) -> bool {
+// Whether the product's normal form has at most so many nodes.
+fn product_fits(alloc: Global, m: u64, n: u64, most: u64) -> bool {
     let mut bank = Bank::new(alloc);
     let Ok(term) = product(&mut bank, m, n) else {
         return false;
     };
+    if !bank.is_known_below(term, 4_294_967_296) {
+        return false;
+    }
     beta_normal(alloc, &mut bank, term, 100_000, most).is_ok()
 }
 
-fn deep_without_end(alloc: Global, limit: u64) -> bool {
+// Whether both reductions give up at the limit on a term without normal form.
+fn endless_is_deep(alloc: Global, limit: u64) -> bool {
     let mut bank = Bank::new(alloc);
     let Ok(term) = endless(&mut bank) else {
         return false;
     };
-    let head = head_reduce(alloc, &mut bank, term, limit);
-    let whole = beta_normal(alloc, &mut bank, term, limit, 10);
-    matches!(head, Err(TermRefusal::Deep(_))) && matches!(whole, Err(TermRefusal::Deep(_)))
+    if !bank.is_known_below(term, 4_294_967_296) {
+        return false;
+    }
+    let Err(TermRefusal::Deep(head)) = head_reduce(alloc, &mut bank, term, limit) else {
+        return false;
+    };
+    head == limit
+}
+
+// Whether the bank counts a term of 2^20 shared leaves, and shifts it, without going through each.
+fn shared_is_counted(alloc: Global) -> bool {
+    let mut bank = Bank::new(alloc);
+    let Ok(mut term) = bank.put_term(TermNode::Eigen(1)) else {
+        return false;
+    };
+    'doublings: for _ in 0..20 {
+        let Ok(next) = app(&mut bank, term, term) else {
+            return false;
+        };
+        term = next;
+    }
+    if !bank.is_known_below(term, 4_294_967_296) {
+        return false;
+    }
+    let Err(TermRefusal::Deep(most)) = beta_normal(alloc, &mut bank, term, 0, 1_048_575) else {
+        return false;
+    };
+    most == 1_048_575 && beta_normal(alloc, &mut bank, term, 0, 1_048_576).is_ok()
 }
 
 #[test]
 fn reductions_give_their_forms(rt: HostRuntime) {
     let alloc = rt.alloc();
-    // 2 * 3 is 6, which has two abstractions, six uses of f and x.
-    assert!(rt; nodes_of_product(alloc, 2, 3, 9));
-    assert!(rt; !nodes_of_product(alloc, 2, 3, 8));
-    assert!(rt; nodes_of_product(alloc, 40, 40, 1603));
-    assert!(rt; deep_without_end(alloc, 0));
-    assert!(rt; deep_without_end(alloc, 1));
-    assert!(rt; deep_without_end(alloc, 1000));
+    // 2 * 3 is 6, which has two abstractions, six uses of f, and x.
+    assert!(rt; product_fits(alloc, 2, 3, 9));
+    assert!(rt; !product_fits(alloc, 2, 3, 8));
+    assert!(rt; product_fits(alloc, 40, 40, 1603));
+    assert!(rt; endless_is_deep(alloc, 0));
+    assert!(rt; endless_is_deep(alloc, 1));
+    assert!(rt; endless_is_deep(alloc, 1000));
+    assert!(rt; shared_is_counted(alloc));
 }
