@@ -39,14 +39,17 @@ more_eigens : (d : Declared) (E F : List Ty) (P R : List ClauseFormula) → Stan
 unfolding Focuses
 more_eigens d E F P R st = record {
   at = λ i D e.
-      let r = st.at i D e in
-      (r.0, r.1, record {
-        type_vars = r.2.type_vars;
-        stands = elim r.2.stands [
-          | inl s ↦ inl s
-          | inr f ↦ inr (λ ts l G g. f ts l G (extends_then E F G g))
-        ];
-      });
+      let r = st.at i D e in (
+        r.0,
+        r.1,
+        record {
+          type_vars = r.2.type_vars;
+          stands = elim r.2.stands [
+            | inl s ↦ inl s
+            | inr f ↦ inr (λ ts l G g. f ts l G (extends_then E F G g))
+          ];
+        },
+      );
 }
 
 get_end : (d : Declared) (E : List Ty) (P R : List ClauseFormula) → length P ≡ length R → (A B : ClauseFormula) → Replaced d E A B → ((i : ℕ) (D : ClauseFormula) → slice_get P i ≡ Some D → (D' : ClauseFormula) × (slice_get R i ≡ Some D') × Replaced d E D D') → (i : ℕ) (D : ClauseFormula) → slice_get (P ++ A ∷ []) i ≡ Some D → (D' : ClauseFormula) × (slice_get (R ++ B ∷ []) i ≡ Some D') × Replaced d E D D'

@@ -1,27 +1,26 @@
 -- What flattened clauses stand for: one can focus on them, for an atom, exactly where one can focus on the clause.
-use Rattle.std.proofs.Common.{◌≡◌, ℕ, zero, suc, ◌+◌, ◌≤◌, ◌<◌, List, [], ◌∷◌, ◌++◌, map, length, Option, Some, None, refl, sym, ap, ◌∙◌, subst, arith, inl, inr}
-use Rattle.std.specs.Prelude.{◌⊎◌, Bool, true, false}
-use Rattle.lp_calculus.specs.Types.{Ty, arrow}
+use Rattle.std.proofs.Common.{◌≡◌, ℕ, List, [], ◌∷◌, ◌++◌, map, length, refl, sym, ap, subst, arith, inl, inr}
+use Rattle.std.specs.Prelude.{◌⊎◌, true, false}
+use Rattle.lp_calculus.specs.Types.{Ty}
 use Rattle.lp_calculus.specs.Term.{Term, app, abs, shift}
 use Rattle.lp_calculus.specs.Typing.{o_type, atom_type}
 use Rattle.lp_calculus.specs.Closed.{AreClosed, IsClosedType, IsClosedAtom}
 use Rattle.lp_calculus.proofs.Steps.{converts_sym}
 use Rattle.lp_calculus.proofs.Subject.{typed_shift}
 use Rattle.lp_calculus.proofs.Fills.{within_shift}
-use Rattle.lp_model.specs.Index.{lifted, instantiate}
+use Rattle.lp_model.specs.Index.{instantiate}
 use Rattle.lp_model.specs.Spine.{head_of}
 use Rattle.lp_model.specs.Faithful.{EachOf}
 use Rattle.lp_model.specs.Standard.{truth, two, pi_of, body_of}
 use Rattle.lp_model.specs.Flat.{Goals, no_goals, goals, Clause, clause, Clauses, no_clauses, clauses, add_clauses, all_of, formula_of_goals, formula_of_clause, formula_of_clauses}
 use Rattle.lp_model.specs.Flatten.{ClauseFormula}
 use Rattle.lp_model.specs.Schemes.{IsStandard}
-use Rattle.lp_model.specs.Proofs.{Declared, under, IsFormula, IsWitness, IsAtomHead, Focus, FAll, FTake, FNeed, Provable, Focusable}
-use Rattle.lp_laws.proofs.Lists.{each_append}
+use Rattle.lp_model.specs.Proofs.{Declared, under, IsWitness, IsAtomHead, FAll, FTake, FNeed, Provable, Focusable}
 use Rattle.lp_laws.proofs.Formulas.{quantified, at_witness}
 use Rattle.lp_laws.proofs.Openings.{cons, IsOpen, Fits, open_formula, fits_cons, abs_at, body_at, past_shift, open_two, open_parts, open_function, open_body, open_quantified}
 use Rattle.lp_laws.proofs.Roots.{connective, pi_type}
 use Rattle.lp_laws.proofs.FocusRoots.{fconv, truth_focus, both_focus, pi_focus, implied_focus, if_focus}
-use Rattle.lp_laws.proofs.FlatGoals.{open_truth, truth_proved, GoalLaw, ClauseLaw}
+use Rattle.lp_laws.proofs.FlatGoals.{open_truth, truth_proved, ClauseLaw}
 
 -- a formula under goals, the outermost first
 abbrev pub imps : List Term → Term → Term

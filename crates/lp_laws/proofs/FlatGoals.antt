@@ -1,22 +1,20 @@
 -- What each kind of flattened goal stands for: under closed terms for the indices, the flattened goals of a formula, with those behind it, are provable
 -- exactly where the formula and those behind it are.
-use Rattle.std.proofs.Common.{◌≡◌, ℕ, zero, suc, ◌+◌, ◌≤◌, ◌<◌, List, [], ◌∷◌, ◌++◌, map, length, Option, Some, None, refl, sym, ap, ◌∙◌, subst, arith, inl, inr, length-append}
-use Rattle.std.specs.Prelude.{◌⊎◌, slice_get}
-use Rattle.lp_calculus.specs.Types.{Ty, arrow}
-use Rattle.lp_calculus.specs.Term.{Term, index, atom, abs, app, shift, replace, raised, constant, eigen}
-use Rattle.lp_calculus.specs.Convert.{Converts}
+use Rattle.std.proofs.Common.{◌≡◌, ℕ, suc, List, [], ◌∷◌, ◌++◌, map, length, refl, sym, ap, ◌∙◌, subst, arith, inl, inr, length-append}
+use Rattle.lp_calculus.specs.Types.{Ty}
+use Rattle.lp_calculus.specs.Term.{Term, atom, abs, app, shift, eigen}
 use Rattle.lp_calculus.specs.Typing.{Typed, o_type, scheme_type}
 use Rattle.lp_calculus.specs.Closed.{IsClosedType, IsClosedAt}
 use Rattle.lp_calculus.proofs.Steps.{converts_sym}
-use Rattle.lp_model.specs.Index.{lifted, instantiate}
+use Rattle.lp_model.specs.Index.{instantiate}
 use Rattle.lp_model.specs.Standard.{truth, cut, two, pi_of, sigma_of, body_of}
 use Rattle.lp_model.specs.Flat.{Goal, Atomic, Cut, Either, Exists, Forall, Assume, Goals, no_goals, goals, Clause, clause, Clauses, no_clauses, clauses, under_all, map_goal, map_goals, map_clause, map_clauses, same_type, raise_goals, all_of, formula_of_goal, formula_of_goals, formula_of_clause, formula_of_clauses}
 use Rattle.lp_model.specs.Flatten.{ClauseFormula}
 use Rattle.lp_model.specs.Schemes.{IsStandard}
-use Rattle.lp_model.specs.Proofs.{Declared, under, IsFormula, IsWitness, IsAtomHead, assumed, Proof, True, And, Left, Right, Witness, All, Assume as assuming, Provable, Focusable}
+use Rattle.lp_model.specs.Proofs.{Declared, under, IsAtomHead, assumed, True, And, Left, Right, Witness, All, Assume as assuming, Provable, Focusable}
 use Rattle.lp_model.specs.Spine.{head_of}
 use Rattle.lp_laws.proofs.Formulas.{quantified, at_witness, at_eigen, last_type}
-use Rattle.lp_laws.proofs.Openings.{cons, IsOpen, Fits, open_formula, closed_open, fits_cons, fits_more, abs_at, body_at, past_shift, open_two, open_parts, open_function, open_body, open_quantified}
+use Rattle.lp_laws.proofs.Openings.{cons, IsOpen, Fits, open_formula, closed_open, fits_cons, fits_more, abs_at, body_at, past_shift, open_two, open_function, open_body, open_quantified}
 use Rattle.lp_laws.proofs.Roots.{connective, sigma_type, pi_type}
 use Rattle.lp_laws.proofs.Heads.{both_root, either_root, sigma_root, pi_root, implied_root, if_root}
 use Rattle.lp_laws.proofs.FocusRoots.{pconv}

@@ -1,22 +1,21 @@
 -- Flattening reads back: by induction on its depth, the flattened goals of a formula stand for it, and the flattened clauses of a clause stand for it.
 use Rattle.std.proofs.Common.{◌≡◌, ℕ, zero, suc, List, [], ◌∷◌, ◌++◌, map, length, Option, Some, None, refl, sym, ap, ◌∙◌, subst, arith, inl, inr}
-use Rattle.std.specs.Prelude.{◌⊎◌, ◌&&◌, Bool, true, false, option_map, option_and_then, nat_eq, if◌then◌else◌}
+use Rattle.std.specs.Prelude.{◌&&◌, Bool, true, false, option_map, option_and_then, nat_eq, if◌then◌else◌}
 use Rattle.std.proofs.lemmas.Bool.{ne_eqb}
 use Rattle.lp_calculus.specs.Types.{Ty, instance}
 use Rattle.lp_calculus.specs.Term.{Term, atom, constant, shift}
-use Rattle.lp_calculus.specs.Typing.{Scheme, Typed, o_type, scheme_type, type_at}
+use Rattle.lp_calculus.specs.Typing.{Scheme, o_type, scheme_type, type_at}
 use Rattle.lp_calculus.specs.Closed.{AreClosed}
-use Rattle.lp_model.specs.Index.{instantiate}
 use Rattle.lp_model.specs.Spine.{head_of, arguments}
 use Rattle.lp_model.specs.Faithful.{EachOf}
 use Rattle.lp_model.specs.Standard.{truth, cut, two, pi_of, sigma_of, body_of, Form, Truth, Cutting, Both, OneOf, Implies, Every, Exist, Plain, form_of, are_positive}
-use Rattle.lp_model.specs.Flat.{Goal, Atomic, Cut, Either, Exists, Forall, Assume, Goals, no_goals, goals, Clause, clause, Clauses, no_clauses, clauses, add_clauses, raise_goals, all_of, formula_of_goals, formula_of_clauses}
-use Rattle.lp_model.specs.Flatten.{ClauseFormula, only, is_goal_head, is_clause_head, flat_goal, flat_goal_form, flat_list, flat_clause, flat_clause_form}
+use Rattle.lp_model.specs.Flat.{Atomic, Cut, Either, Exists, Forall, Assume, Goals, no_goals, goals, clause, Clauses, no_clauses, clauses, add_clauses, raise_goals, all_of, formula_of_goals}
+use Rattle.lp_model.specs.Flatten.{only, is_goal_head, is_clause_head, flat_goal, flat_goal_form, flat_list, flat_clause, flat_clause_form}
 use Rattle.lp_model.specs.Schemes.{IsStandard}
-use Rattle.lp_model.specs.Proofs.{Declared, under, Provable}
+use Rattle.lp_model.specs.Proofs.{Declared}
 use Rattle.lp_laws.proofs.Lists.{each_append}
 use Rattle.lp_laws.proofs.Forms.{Shape, form_shape}
-use Rattle.lp_laws.proofs.Openings.{IsOpen, Fits, open_parts, open_function, open_body}
+use Rattle.lp_laws.proofs.Openings.{IsOpen, open_parts, open_function, open_body}
 use Rattle.lp_laws.proofs.Roots.{connective, sigma_type, pi_type}
 use Rattle.lp_laws.proofs.FlatGoals.{open_truth, open_cut, truth_proved, formula_raise, GoalLaw, in_front, truth_law, both_law, either_law, every_law, exist_law, ClauseLaw, implied_law, if_law}
 use Rattle.lp_laws.proofs.FlatClauses.{imps, open_shift, open_shifts, both_clauses, implied_clauses, if_clauses, every_clauses, ListLaw, one_clause}

@@ -1,6 +1,6 @@
 -- Inversion of a focus on a clause for an atom, connective by connective.
-use Rattle.std.proofs.Common.{◌≡◌, ℕ, zero, suc, ◌+◌, ◌≤◌, ◌<◌, List, [], ◌∷◌, ◌++◌, length, refl, sym, ap, ◌∙◌, subst, arith, inl, inr}
-use Rattle.std.specs.Prelude.{◌⊎◌, Bool, true, false}
+use Rattle.std.proofs.Common.{◌≡◌, ℕ, ◌≤◌, ◌<◌, List, [], ◌∷◌, refl, sym, ap, ◌∙◌, subst, arith, inl, inr}
+use Rattle.std.specs.Prelude.{◌⊎◌, true, false}
 use Rattle.lp_calculus.specs.Types.{Ty}
 use Rattle.lp_calculus.specs.Term.{Term, index, atom, abs, app, apply, Atom, constant}
 use Rattle.lp_calculus.specs.Convert.{Converts, same}
@@ -10,7 +10,7 @@ use Rattle.lp_model.specs.Spine.{head_of, arguments}
 use Rattle.lp_model.specs.Standard.{truth, two, pi_of}
 use Rattle.lp_model.specs.Flatten.{ClauseFormula}
 use Rattle.lp_model.specs.Schemes.{IsStandard}
-use Rattle.lp_model.specs.Proofs.{Declared, IsFormula, IsWitness, IsAtomHead, IsImplication, Focus, FConv, FAll, FTake, FNeed, FHit, proves, focuses, Provable, Focusable, Proof, Conv}
+use Rattle.lp_model.specs.Proofs.{Declared, IsFormula, IsWitness, IsAtomHead, IsImplication, Focus, FConv, FAll, FTake, FNeed, FHit, focuses, Provable, Focusable, Conv}
 use Rattle.lp_laws.proofs.Forms.{apply_arguments}
 use Rattle.lp_laws.proofs.Formulas.{parts, quantified}
 use Rattle.lp_laws.proofs.Formulas as formulas

@@ -12,6 +12,7 @@ pub mod Moves
 pub mod HornEnds
 pub mod HornTyped
 pub mod FamilyRows
+pub mod ReadsBack
 pub mod Flattens
 pub mod FlatClauses
 pub mod FlatGoals

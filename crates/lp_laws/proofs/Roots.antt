@@ -10,7 +10,7 @@ use Rattle.lp_calculus.specs.Typing.{o_type, scheme_type}
 use Rattle.lp_calculus.proofs.BetaEta.{conversion_meets}
 use Rattle.lp_calculus.proofs.Steps.{converts_on, converts_sym, converts_app, converts_reduces}
 use Rattle.lp_calculus.proofs.Rigid.{heads_joint}
-use Rattle.lp_model.specs.Spine.{head_of, arguments, arguments_and}
+use Rattle.lp_model.specs.Spine.{head_of, arguments}
 use Rattle.lp_model.specs.Standard.{two}
 use Rattle.lp_model.specs.Flatten.{ClauseFormula}
 use Rattle.lp_model.specs.Values.{Value, HasValue}
