@@ -1,24 +1,42 @@
--- A clause may be replaced by one that it converts to: by induction on proof trees and their focuses together.
-use Rattle.std.proofs.Common.{◌≡◌, ℕ, zero, suc, List, [], ◌∷◌, ◌++◌, length, Some, refl, sym, ap, ◌∙◌, subst, inl, inr}
+-- A clause may be replaced by one on which one can focus instead, so by one that it converts to: by induction on proof trees and their focuses together.
+use Rattle.std.proofs.Common.{◌≡◌, ℕ, zero, suc, List, [], ◌∷◌, ◌++◌, length, Some, refl, sym, ap, ◌∙◌, subst, inl, inr, append_assoc, append-nil}
 use Rattle.std.specs.Prelude.{slice_get, true, false, ◌⊎◌}
 use Rattle.lp_calculus.specs.Types.{Ty}
 use Rattle.lp_calculus.specs.Term.{Term, atom, app, eigen}
 use Rattle.lp_calculus.specs.Convert.{Converts}
 use Rattle.lp_calculus.specs.Typing.{type_at}
 use Rattle.lp_calculus.specs.Instance.{instance_term}
+use Rattle.lp_calculus.specs.Closed.{IsClosedAt}
+use Rattle.lp_model.specs.Spine.{head_of}
 use Rattle.lp_model.specs.Flatten.{ClauseFormula}
-use Rattle.lp_model.specs.Proofs.{Declared, IsFormula, Proof, Conv, True, And, Left, Right, Witness, All, Assume, Equal, Arith, Back, Focus, FConv, FAll, FTake, FNeed, FHit, assumed, proves, focuses, Provable, Focusable}
+use Rattle.lp_model.specs.Proofs.{Declared, IsFormula, Proof, Conv, True, And, Left, Right, Witness, All, Assume, Equal, Arith, Back, Focus, FConv, FAll, FTake, FNeed, FHit, IsAtomHead, assumed, proves, focuses, Provable, Focusable}
 use Rattle.lp_laws.proofs.Formulas.{formula_eigens, closed_instance}
 
--- in the place of a clause stands the same one, or one that it converts to
+-- E' has more eigenconstants than E
+pub record Extends (E F : List Ty) : Type 0 where
+  pub rest : List Ty
+  pub is : F ≡ E ++ rest
+
+pub extends_self : (E : List Ty) → Extends E E
+extends_self E = record { rest = []; is = sym (append-nil E) }
+
+pub extends_then : (E F : List Ty) (G : List Ty) → Extends (E ++ F) G → Extends E G
+extends_then E F G h = record { rest = F ++ h.rest; is = h.is ∙ append_assoc E F h.rest }
+
+-- whoever focuses on the first clause for an atom can focus on the second one
+unfoldable pub Focuses : (d : Declared) (E : List Ty) (D R : Term) → Type 0
+Focuses d E D R = (F : List Ty) → Extends E F → (P : List ClauseFormula) → (A : Term) → IsAtomHead (head_of A) → Focusable d F P D A → Focusable d F P R A
+
+-- in the place of a clause stands the same one, or one on which one can focus instead
 record Replaced (d : Declared) (E : List Ty) (D R : ClauseFormula) : Type 0 where
   type_vars : R.type_vars ≡ D.type_vars
-  stands : (D ≡ R) ⊎ ((ts : List Ty) → length ts ≡ D.type_vars → IsFormula d E (instance_term (type_at ts) D.formula) × Converts (instance_term (type_at ts) D.formula) (instance_term (type_at ts) R.formula))
+  stands : (D ≡ R) ⊎ ((ts : List Ty) → length ts ≡ D.type_vars → Focuses d E (instance_term (type_at ts) D.formula) (instance_term (type_at ts) R.formula))
 
 record StandAs (d : Declared) (E : List Ty) (P R : List ClauseFormula) : Type 0 where
   at : (i : ℕ) (D : ClauseFormula) → slice_get P i ≡ Some D → (D' : ClauseFormula) × (slice_get R i ≡ Some D') × Replaced d E D D'
 
 more_eigens : (d : Declared) (E F : List Ty) (P R : List ClauseFormula) → StandAs d E P R → StandAs d (E ++ F) P R
+unfolding Focuses
 more_eigens d E F P R st = record {
   at = λ i D e.
       let r = st.at i D e in (
@@ -28,7 +46,7 @@ more_eigens d E F P R st = record {
           type_vars = r.2.type_vars;
           stands = elim r.2.stands [
             | inl s ↦ inl s
-            | inr f ↦ inr (λ ts l. let g = f ts l in (formula_eigens d E F (instance_term (type_at ts) D.formula) g.0, g.1))
+            | inr f ↦ inr (λ ts l G g. f ts l G (extends_then E F G g))
           ];
         },
       );
@@ -59,6 +77,8 @@ one_more : (d : Declared) (E : List Ty) (P R : List ClauseFormula) (A B : Clause
 one_more d E P R A B st h = record { long = long_end P R A B st.long; stand = record { at = λ i D e. get_end d E P R st.long A B h (λ j D' e'. st.stand.at j D' e') i D e } }
 
 mutual
+  unfolding Focuses
+
   proof_as : (d : Declared) (E : List Ty) (P R : List ClauseFormula) (G : Term) (p : Proof) → Stand d E P R → proves d E P G p → Provable d E R G
   proof_as d E P R G (Conv H p) st h = let r = proof_as d E P R H p st h.2 in record { proof = Conv H r.proof; holds = (h.0, h.1, r.holds) }
   proof_as d E P R G True st h = record { proof = True; holds = h }
@@ -79,7 +99,7 @@ mutual
       let j = st.stand.at i h.0 h.1 in
       elim j.2.stands [
         | inl s ↦ record { proof = Back i ts a.focus; holds = (j.0, j.1, h.2 ∙ sym j.2.type_vars, h.3, h.4, subst (λ D. focuses d E R (instance_term (type_at ts) D.formula) G a.focus) s a.holds) }
-        | inr g ↦ let w = g ts h.2 in record { proof = Back i ts (FConv (instance_term (type_at ts) h.0.formula) a.focus); holds = (j.0, j.1, h.2 ∙ sym j.2.type_vars, h.3, h.4, (w.0, w.1, a.holds)) }
+        | inr g ↦ let r = g ts h.2 E (extends_self E) R G h.4 a in record { proof = Back i ts r.focus; holds = (j.0, j.1, h.2 ∙ sym j.2.type_vars, h.3, h.4, r.holds) }
       ]
 
   focus_as : (d : Declared) (E : List Ty) (P R : List ClauseFormula) (D A : Term) (f : Focus) → Stand d E P R → focuses d E P D A f → Focusable d E R D A
@@ -93,13 +113,19 @@ mutual
 all_same : (d : Declared) (E : List Ty) (P : List ClauseFormula) → Stand d E P P
 all_same d E P = record { long = refl; stand = record { at = λ i D e. (D, e, same_clause d E D) } }
 
--- an assumption in the place of another that converts to it
-pub converted_assumption : (d : Declared) (E : List Ty) (P : List ClauseFormula) (D D' G : Term) → IsFormula d E D → IsFormula d E D' → Converts D D' → Provable d E (P ++ assumed D ∷ []) G → Provable d E (P ++ assumed D' ∷ []) G
-converted_assumption d E P D D' G f f' c h =
+-- an assumption in the place of another on which one can focus instead
+pub replaced_assumption : (d : Declared) (E : List Ty) (P : List ClauseFormula) (D D' G : Term) → IsClosedAt (length E) D → IsClosedAt (length E) D' → Focuses d E D D' → Provable d E (P ++ assumed D ∷ []) G → Provable d E (P ++ assumed D' ∷ []) G
+replaced_assumption d E P D D' G f f' c h =
     proof_as d E (P ++ assumed D ∷ []) (P ++ assumed D' ∷ []) G h.proof (one_more d E P P (assumed D) (assumed D') (all_same d E P) (record {
       type_vars = refl;
       stands = inr (λ ts l.
-          let e = closed_instance (length E) (type_at ts) D f.closed in
-          let e' = closed_instance (length E) (type_at ts) D' f'.closed in
-          (subst (IsFormula d E) (sym e) f, subst (λ t. Converts t (instance_term (type_at ts) D')) (sym e) (subst (Converts D) (sym e') c)));
+          let e = closed_instance (length E) (type_at ts) D f in
+          let e' = closed_instance (length E) (type_at ts) D' f' in
+          subst (λ t. Focuses d E t (instance_term (type_at ts) D')) (sym e) (subst (Focuses d E D) (sym e') c));
     })) h.holds
+
+-- an assumption in the place of another that converts to it
+pub converted_assumption : (d : Declared) (E : List Ty) (P : List ClauseFormula) (D D' G : Term) → IsFormula d E D → IsFormula d E D' → Converts D D' → Provable d E (P ++ assumed D ∷ []) G → Provable d E (P ++ assumed D' ∷ []) G
+unfolding Focuses
+converted_assumption d E P D D' G f f' c h =
+    replaced_assumption d E P D D' G f.closed f'.closed (λ F x R A i r. record { focus = FConv D r.focus; holds = (subst (λ z. IsFormula d z D) (sym x.is) (formula_eigens d E x.rest D f), c, r.holds) }) h

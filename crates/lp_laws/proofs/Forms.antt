@@ -1,9 +1,9 @@
 -- What a term is by its form.
-use Rattle.std.proofs.Common.{◌≡◌, ℕ, List, [], ◌∷◌, refl, sym, ap, ◌∙◌, subst, inl, inr}
+use Rattle.std.proofs.Common.{◌≡◌, ℕ, List, [], ◌∷◌, refl, ap, subst, inl, inr}
 use Rattle.std.specs.Prelude.{◌⊎◌, Bool, true, false, nat_eq, if◌then◌else◌}
 use Rattle.std.proofs.lemmas.Bool.{eqb-true}
 use Rattle.lp_calculus.specs.Types.{Ty}
-use Rattle.lp_calculus.specs.Term.{Term, index, atom, abs, app, apply, Atom, constant, integer, text, eigen, logic, param}
+use Rattle.lp_calculus.specs.Term.{Term, index, atom, abs, app, apply, constant, integer, text, eigen, logic, param}
 use Rattle.lp_model.specs.Spine.{head_of, arguments, arguments_and}
 use Rattle.lp_model.specs.Standard.{two, pi_of, sigma_of, body_of, Form, Truth, Cutting, Both, OneOf, Implies, Every, Exist, Plain, form_of_constant, form_at, form_of}
 

@@ -81,7 +81,7 @@ pub formula_eigens : (d : Declared) (E F : List Ty) (t : Term) → IsFormula d E
 formula_eigens d E F t h = record { typed = typed_eigens d E F t o_type h.typed; closed = closed_eigens E F t h.closed }
 
 -- the new eigenconstant has its type
-last_type : (E : List Ty) (T : Ty) → slice_get (E ++ T ∷ []) (length E) ≡ Some T
+pub last_type : (E : List Ty) (T : Ty) → slice_get (E ++ T ∷ []) (length E) ≡ Some T
 last_type [] T = refl
 last_type (U ∷ E) T = last_type E T
 

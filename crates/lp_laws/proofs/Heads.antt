@@ -1,13 +1,12 @@
 -- Inversion, connective by connective.
-use Rattle.std.proofs.Common.{◌≡◌, ℕ, zero, suc, ◌+◌, ◌≤◌, ◌<◌, List, [], ◌∷◌, ◌++◌, length, Option, Some, None, refl, sym, ap, ◌∙◌, subst, arith, inl, inr}
+use Rattle.std.proofs.Common.{◌≡◌, ℕ, suc, ◌≤◌, List, [], ◌∷◌, ◌++◌, length, subst, arith, inl, inr}
 use Rattle.std.specs.Prelude.{◌⊎◌}
 use Rattle.lp_calculus.specs.Types.{Ty}
-use Rattle.lp_calculus.specs.Term.{Term, index, atom, abs, app, apply, Atom, constant, eigen}
-use Rattle.lp_calculus.specs.Convert.{Converts}
-use Rattle.lp_model.specs.Standard.{truth, cut, two, pi_of, sigma_of}
+use Rattle.lp_calculus.specs.Term.{Term, atom, app, constant, eigen}
+use Rattle.lp_model.specs.Standard.{two, pi_of, sigma_of}
 use Rattle.lp_model.specs.Flatten.{ClauseFormula}
 use Rattle.lp_model.specs.Schemes.{IsStandard}
-use Rattle.lp_model.specs.Proofs.{Declared, IsFormula, IsWitness, assumed, IsImplication, IsArith, Provable, Rooted, trivially, both_sides, left_side, right_side, at_witness, for_all, under_assumption, equally, by_arithmetic, by_clause}
+use Rattle.lp_model.specs.Proofs.{Declared, IsFormula, IsWitness, assumed, IsArith, Provable, Rooted, trivially, both_sides, left_side, right_side, at_witness, for_all, under_assumption, equally, by_arithmetic, by_clause}
 use Rattle.lp_laws.proofs.Roots.{rooted}
 
 no_arith_both : (A B : Term) → IsArith (two 0 [] A B) → ⊥

@@ -12,6 +12,11 @@ pub mod Moves
 pub mod HornEnds
 pub mod HornTyped
 pub mod FamilyRows
+pub mod ReadsBack
+pub mod Flattens
+pub mod FlatClauses
+pub mod FlatGoals
+pub mod FocusRoots
 pub mod Openings
 pub mod Forms
 pub mod Heads

@@ -1,9 +1,9 @@
 -- Formulas with loose indices, over the types of the indices, and what they become when closed terms are put for the indices.
-use Rattle.std.proofs.Common.{◌≡◌, ℕ, zero, suc, ◌+◌, ◌≤◌, ◌<◌, List, [], ◌∷◌, ◌++◌, length, Option, Some, None, refl, sym, ap, ◌∙◌, subst as transport, arith}
+use Rattle.std.proofs.Common.{◌≡◌, ℕ, zero, suc, ◌<◌, List, [], ◌∷◌, ◌++◌, length, Option, Some, refl, sym, ap, ◌∙◌, subst as transport, arith}
 use Rattle.std.specs.Prelude.{slice_get}
 use mathlib.Core.Path.{fun_ext}
 use Rattle.lp_calculus.specs.Types.{Ty, arrow}
-use Rattle.lp_calculus.specs.Term.{Term, index, atom, abs, app, shift, substitute, Atom, constant}
+use Rattle.lp_calculus.specs.Term.{Term, index, atom, abs, app, shift, substitute, constant}
 use Rattle.lp_calculus.specs.Fill.{Within}
 use Rattle.lp_calculus.specs.Convert.{Converts, same, forth, here, by_beta}
 use Rattle.lp_calculus.specs.Typing.{Typed, atom_type, scheme_type, o_type}

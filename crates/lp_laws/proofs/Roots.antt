@@ -10,7 +10,7 @@ use Rattle.lp_calculus.specs.Typing.{o_type, scheme_type}
 use Rattle.lp_calculus.proofs.BetaEta.{conversion_meets}
 use Rattle.lp_calculus.proofs.Steps.{converts_on, converts_sym, converts_app, converts_reduces}
 use Rattle.lp_calculus.proofs.Rigid.{heads_joint}
-use Rattle.lp_model.specs.Spine.{head_of, arguments, arguments_and}
+use Rattle.lp_model.specs.Spine.{head_of, arguments}
 use Rattle.lp_model.specs.Standard.{two}
 use Rattle.lp_model.specs.Flatten.{ClauseFormula}
 use Rattle.lp_model.specs.Values.{Value, HasValue}
@@ -18,43 +18,38 @@ use Rattle.lp_model.specs.Schemes.{IsStandard}
 use Rattle.lp_model.specs.Proofs.{Declared, IsFormula, Proof, Conv, True, And, Left, Right, Witness, All, Assume, Equal, Arith, Back, Focus, FConv, FAll, FTake, FNeed, FHit, IsAtomHead, IsArith, assumed, proves, focuses, Provable, Focusable, Rooted, trivially, both_sides, left_side, right_side, at_witness, for_all, under_assumption, equally, by_arithmetic, by_clause}
 use Rattle.lp_laws.proofs.Formulas.{parts, quantified, at_eigen}
 use Rattle.lp_laws.proofs.Formulas as formulas
+use Rattle.lp_laws.proofs.Forms.{apply_arguments}
 use Rattle.lp_laws.proofs.Assumptions.{converted_assumption}
 
 -- what converts to an atom of the calculus on arguments has the atom, and arguments that convert
 
-none_joint : (c : ℕ) (ts : List Ty) (a : Atom) (us : List Term) → Converts (atom (constant c ts)) (apply (atom a) us) → apply (atom a) us ≡ atom (constant c ts)
+pub none_joint : (c : ℕ) (ts : List Ty) (a : Atom) (us : List Term) → Converts (atom (constant c ts)) (apply (atom a) us) → apply (atom a) us ≡ atom (constant c ts)
 none_joint c ts a us v = let j = heads_joint (atom (constant c ts)) (atom a) [] us tt tt v in go us j.arguments j.heads
   where
     go : (vs : List Term) → ConvertAll [] vs → atom (constant c ts) ≡ atom a → apply (atom a) vs ≡ atom (constant c ts)
     go _ convert_none e = sym e
 
-OneJoint : (c : ℕ) (ts : List Ty) (s : Term) (G : Term) → Type 0
+unfoldable pub OneJoint : (c : ℕ) (ts : List Ty) (s : Term) (G : Term) → Type 0
 OneJoint c ts s G = (r : Term) × (G ≡ app (atom (constant c ts)) r) × Converts s r
 
-one_joint : (c : ℕ) (ts : List Ty) (s : Term) (a : Atom) (us : List Term) → Converts (app (atom (constant c ts)) s) (apply (atom a) us) → OneJoint c ts s (apply (atom a) us)
+pub one_joint : (c : ℕ) (ts : List Ty) (s : Term) (a : Atom) (us : List Term) → Converts (app (atom (constant c ts)) s) (apply (atom a) us) → OneJoint c ts s (apply (atom a) us)
 unfolding OneJoint
 one_joint c ts s a us v = let j = heads_joint (atom (constant c ts)) (atom a) (s ∷ []) us tt tt v in go us j.arguments j.heads
   where
     go : (vs : List Term) → ConvertAll (s ∷ []) vs → atom (constant c ts) ≡ atom a → (r : Term) × (apply (atom a) vs ≡ app (atom (constant c ts)) r) × Converts s r
     go _ (convert_more {u = r} p convert_none) e = (r, ap (λ h. app h r) (sym e), p)
 
-TwoJoint : (c : ℕ) (ts : List Ty) (s t : Term) (G : Term) → Type 0
+unfoldable pub TwoJoint : (c : ℕ) (ts : List Ty) (s t : Term) (G : Term) → Type 0
 TwoJoint c ts s t G = (A : Term) × (B : Term) × (G ≡ two c ts A B) × Converts s A × Converts t B
 
-two_joint : (c : ℕ) (ts : List Ty) (s t : Term) (a : Atom) (us : List Term) → Converts (two c ts s t) (apply (atom a) us) → TwoJoint c ts s t (apply (atom a) us)
+pub two_joint : (c : ℕ) (ts : List Ty) (s t : Term) (a : Atom) (us : List Term) → Converts (two c ts s t) (apply (atom a) us) → TwoJoint c ts s t (apply (atom a) us)
 unfolding TwoJoint
 two_joint c ts s t a us v = let j = heads_joint (atom (constant c ts)) (atom a) (s ∷ t ∷ []) us tt tt v in go us j.arguments j.heads
   where
     go : (vs : List Term) → ConvertAll (s ∷ t ∷ []) vs → atom (constant c ts) ≡ atom a → (A : Term) × (B : Term) × (apply (atom a) vs ≡ two c ts A B) × Converts s A × Converts t B
     go _ (convert_more {u = A} p (convert_more {u = B} q convert_none)) e = (A, B, ap (λ h. app (app h A) B) (sym e), p, q)
 
-apply_arguments : (t : Term) (more : List Term) → apply (head_of t) (arguments_and t more) ≡ apply t more
-apply_arguments (index i) more = refl
-apply_arguments (atom a) more = refl
-apply_arguments (abs b) more = refl
-apply_arguments (app f u) more = apply_arguments f (u ∷ more)
-
-head_apply : (h : Term) (ts : List Term) → head_of (apply h ts) ≡ head_of h
+pub head_apply : (h : Term) (ts : List Term) → head_of (apply h ts) ≡ head_of h
 head_apply h [] = refl
 head_apply h (t ∷ ts) = head_apply (app h t) ts
 
@@ -80,17 +75,17 @@ focus_converts d E P D A B (FNeed p f) c h = let r = focus_converts d E P h.1 A 
 focus_converts d E P D A B FHit c h = record { focus = FHit; holds = converts_on h c }
 
 module _ (d : Declared) (std : IsStandard d) where
-  connective : (c : ℕ) → c < 4 → scheme_type [] (d c) ≡ Some (arrow o_type (arrow o_type o_type))
+  pub connective : (c : ℕ) → c < 4 → scheme_type [] (d c) ≡ Some (arrow o_type (arrow o_type o_type))
   connective zero l = ap (scheme_type []) (std.at 0 (omega arith))
   connective (suc zero) l = ap (scheme_type []) (std.at 1 (omega arith))
   connective (suc (suc zero)) l = ap (scheme_type []) (std.at 2 (omega arith))
   connective (suc (suc (suc zero))) l = ap (scheme_type []) (std.at 3 (omega arith))
   connective (suc (suc (suc (suc n)))) l = absurd (omega arith)
 
-  sigma_type : (T : Ty) → scheme_type (T ∷ []) (d 5) ≡ Some (arrow (arrow T o_type) o_type)
+  pub sigma_type : (T : Ty) → scheme_type (T ∷ []) (d 5) ≡ Some (arrow (arrow T o_type) o_type)
   sigma_type T = ap (scheme_type (T ∷ [])) (std.at 5 (omega arith))
 
-  pi_type : (T : Ty) → scheme_type (T ∷ []) (d 4) ≡ Some (arrow (arrow T o_type) o_type)
+  pub pi_type : (T : Ty) → scheme_type (T ∷ []) (d 4) ≡ Some (arrow (arrow T o_type) o_type)
   pi_type T = ap (scheme_type (T ∷ [])) (std.at 4 (omega arith))
 
   -- without the conversions at the root

@@ -27,4 +27,3 @@ pub mod Branch
 pub mod Search
 pub mod Proofs
 pub mod Answers
-pub mod Readings

@@ -1,0 +1,19 @@
+// Flattening reads back.
+
+ghost use Rattle.std.specs.Prelude.{◌≡◌, ◌++◌, ◌∷◌, [], ℕ, List, Some};
+ghost use Rattle.lp_calculus.specs.Term.{Term};
+ghost use Rattle.lp_calculus.specs.Types.{Ty};
+ghost use Rattle.lp_model.specs.Flat.{Clauses, Goals, formula_of_clauses, formula_of_goals, no_goals};
+ghost use Rattle.lp_model.specs.Flatten.{ClauseFormula, flat_clause, flat_goal};
+ghost use Rattle.lp_model.specs.Proofs.{Declared, IsFormula, Provable, assumed};
+ghost use Rattle.lp_model.specs.Schemes.{IsStandard};
+
+/// The flattened goals of a closed formula are provable exactly where the formula is.
+pub fn flattened_goals_read_back()
+    ensures { (d : Declared) → IsStandard d → (n : ℕ) → (t : Term) → (gs : Goals) → flat_goal n d [] t no_goals ≡ Some gs → IsFormula d [] t → (E : List Ty) → (P : List ClauseFormula) → (Provable d E P t → Provable d E P (formula_of_goals gs)) × (Provable d E P (formula_of_goals gs) → Provable d E P t) }
+{}
+
+/// The flattened clauses of a closed clause prove exactly what the clause proves.
+pub fn flattened_clauses_read_back()
+    ensures { (d : Declared) → IsStandard d → (n : ℕ) → (c : Term) → (cs : Clauses) → flat_clause n d [] c [] [] ≡ Some cs → IsFormula d [] c → (E : List Ty) → (P : List ClauseFormula) → (G : Term) → (Provable d E (P ++ assumed c ∷ []) G → Provable d E (P ++ assumed (formula_of_clauses cs) ∷ []) G) × (Provable d E (P ++ assumed (formula_of_clauses cs) ∷ []) G → Provable d E (P ++ assumed c ∷ []) G) }
+{}
