@@ -5,3 +5,4 @@ pub mod Fill
 pub mod Typing
 pub mod Instance
 pub mod Closed
+pub mod Normal
