@@ -1,3 +1,5 @@
+ghost use Rattle.std.specs.Prelude.{◌≡◌};
+
 /// A cell of a store.
 #[derive(Clone, Copy, PartialEq, Eq)]
 pub struct CellId(pub usize);
@@ -5,24 +7,40 @@ pub struct CellId(pub usize);
 /// Cells, or bytes, that stand one behind the other.
 #[derive(Clone, Copy)]
 pub struct Span {
-    pub from: usize,
-    pub count: usize,
+    pub(crate) from: usize,
+    pub(crate) count: usize,
 }
 
-/// An environment: 0 is the empty one.
+/// An environment: entries, one in front of another.
 #[derive(Clone, Copy)]
-pub struct Env(pub usize);
+pub struct Env(pub(crate) usize);
 
+impl Env {
+    /// The environment without entries.
+    pub const fn nil() -> Env
+        ensures { result.0 ≡ 0 }
+    {
+        Env(0)
+    }
+}
+
+/// An entry of an environment: a term with the number of abstractions that it was bound under, or the index of an
+/// abstraction that stands under so many others.
 #[derive(Clone, Copy)]
 pub enum EnvEntry {
     Value(CellId, u64),
     Dummy(u64),
 }
 
+/// What a cell holds. The first three are types. A suspension is its term with a substitution that is not yet carried
+/// out: so many indices are taken from the environment, and so many abstractions stand around the result.
 #[derive(Clone, Copy)]
 pub enum Cell {
+    TypeVar,
+    TypeCon(u32, Span),
+    TypeArrow(CellId, CellId),
     Ref(CellId),
-    Const(u32),
+    Const(u32, Span),
     Int(i64),
     Text(Span),
     Eigen(u64),
@@ -49,9 +67,9 @@ pub(crate) struct Change {
 /// How much a store had.
 #[derive(Clone, Copy)]
 pub struct Mark {
-    pub cells: usize,
-    pub items: usize,
-    pub bytes: usize,
-    pub envs: usize,
-    pub trail: usize,
+    pub(crate) cells: usize,
+    pub(crate) items: usize,
+    pub(crate) bytes: usize,
+    pub(crate) envs: usize,
+    pub(crate) trail: usize,
 }

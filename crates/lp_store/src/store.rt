@@ -1,9 +1,13 @@
-ghost use Rattle.std.specs.Prelude.{◌≡◌, ℕ, ◌+◌, ◌<◌, ◌≤◌, length, List, [], ◌∷◌, IfOk, OnOk, OnErr, All, MatchOption};
+ghost use Rattle.std.specs.Prelude.{◌≡◌, ◌⊎◌, ℕ, ◌+◌, ◌<◌, ◌≤◌, length, List, [], ◌∷◌, IfOk, OnOk, OnErr, All, MatchOption};
+ghost use Rattle.lp_calculus.specs.Types.{Ty, instance};
 ghost use Rattle.lp_calculus.specs.Term.{Term};
 ghost use Rattle.lp_calculus.specs.Convert.{Converts, Reduces};
+ghost use Rattle.lp_calculus.specs.Fill.{put};
+ghost use Rattle.lp_calculus.specs.Instance.{instance_term};
 ghost use Rattle.lp_store.specs.Contents.{Contents, cell_at, span, env_list, as_at};
-ghost use Rattle.lp_store.specs.Reading.{Avoids, AvoidsAll, parts, top, Reads, ReadAll, Leads, Stands, StandsEntry, IsSound};
-ghost use Rattle.lp_store.specs.Change.{changed, with_cell, with_items, with_bytes, with_env, lengths, Extends, IsMark, KeepsMarks, IsNoLater, IsUnbound, HasNoLoose, fill};
+ghost use Rattle.lp_store.specs.Reading.{Avoids, AvoidsAll, MayBeTerm, MayBeType, parts, types_in, terms_in, top, type_top, Reads, ReadAll, ReadsType, ReadTypes, Leads};
+ghost use Rattle.lp_store.specs.Sound.{Stands, StandsEntry, IsSound};
+ghost use Rattle.lp_store.specs.Change.{changed, with_cell, with_items, with_bytes, with_env, lengths, Extends, IsMark, KeepsMarks, IsNoLater, HasNoLoose, type_for};
 
 use crate::cell::{Cell, CellId, Change, Env, EnvEntry, EnvNode, Mark, Span};
 use lp_base::Memory;
@@ -27,7 +31,7 @@ impl Model for Store {
 
     ghost view = { λ s. record { cells = s.cells.items; items = s.items.items; bytes = s.bytes.items; envs = s.envs.items; trail = s.trail.items } };
 
-    ghost use Rattle.lp_store.specs.Reading.{IsSound};
+    ghost use Rattle.lp_store.specs.Sound.{IsSound};
 
     ghost invariant = { λ s. IsSound (record { cells = s.cells.items; items = s.items.items; bytes = s.bytes.items; envs = s.envs.items; trail = s.trail.items }) };
 }
@@ -52,7 +56,8 @@ impl Store {
         requires { Stands self.old cell }
         ensures id { IfOk result (λ id. id.0 ≡ length self.old.cells) }
         ensures pushed { OnOk result (self.new ≡ with_cell self.old cell) }
-        ensures reads { IfOk result (λ id. (ts : List Term) → ReadAll self.old (parts self.old cell) ts → Reads self.new id.0 (top self.old id.0 cell ts)) }
+        ensures reads { IfOk result (λ id. (ts : List Term) → ReadAll self.old (terms_in self.old cell) ts → MayBeTerm cell → (Ts : List Ty) → ReadTypes self.old (types_in self.old cell) Ts → Reads self.new id.0 (top self.old id.0 cell Ts ts)) }
+        ensures reads_type { IfOk result (λ id. MayBeType cell → (Ts : List Ty) → ReadTypes self.old (parts self.old cell) Ts → ReadsType self.new id.0 (type_top id.0 cell Ts)) }
         ensures avoids { IfOk result (λ id. (c : ℕ) → c < length self.old.cells → AvoidsAll self.old c (parts self.old cell) → Avoids self.new c id.0) }
         ensures kept { Extends self.old self.new }
         ensures marks { KeepsMarks self.old self.new }
@@ -126,6 +131,22 @@ impl Store {
         &self.items[list.from..list.from + list.count]
     }
 
+    /// All but the first cell of a list.
+    pub fn tail(&self, list: Span) -> Span
+        requires list { list.from + list.count ≤ length self.now.items }
+        requires some { 0 < list.count }
+        ensures from { result.from ≡ list.from + 1 }
+        ensures count { result.count + 1 ≡ list.count }
+    {
+        if list.from >= self.items.len() {
+            unreachable!()
+        }
+        Span {
+            from: list.from + 1,
+            count: list.count - 1,
+        }
+    }
+
     pub fn bytes(&self, list: Span) -> &[u8]
         requires { list.from + list.count ≤ length self.now.bytes }
         ensures { result.now ≡ span self.now.bytes list.from list.count }
@@ -181,15 +202,25 @@ impl Store {
         self.envs.truncate(mark.envs);
     }
 
-    /// Binds an unbound variable.
+    /// Binds an unbound variable of types to a type, or of terms to a term. Each reading has what the cell reads as in the
+    /// place of the variable.
     pub fn bind(&mut self, variable: CellId, to: CellId) -> Result<(), Memory>
         requires variable { variable.0 < length self.old.cells }
-        requires unbound { IsUnbound (cell_at self.old variable.0) }
+        requires unbound { (cell_at self.old variable.0 ≡ Cell.TypeVar) ⊎ ((level : ℕ) × (cell_at self.old variable.0 ≡ Cell.Logic level)) }
         requires to { to.0 < length self.old.cells }
         requires no_circle { Leads self.old to.0 variable.0 → ⊥ }
-        requires closed { (t : Term) → Reads self.old to.0 t → HasNoLoose 0 t }
+        requires closed { (t : Term) → Reads self.old to.0 t → HasNoLoose t }
         ensures changed { OnOk result (self.new ≡ changed self.old variable.0 to) }
-        ensures reads { OnOk result ((i : ℕ) (t u : Term) → Reads self.old to.0 u → Reads self.old i t → Reads self.new i (fill variable.0 u t)) }
+        ensures terms { OnOk result ((level : ℕ) → (cell_at self.old variable.0 ≡ Cell.Logic level) → (u : Term) → Reads self.old to.0 u →
+            (i : ℕ) (t : Term) → Reads self.old i t → Reads self.new i (put (record { id = variable.0; level = level; value = u }) t)) }
+        ensures types_stay { OnOk result ((level : ℕ) → (cell_at self.old variable.0 ≡ Cell.Logic level) → (i : ℕ) (T : Ty) → ReadsType self.old i T → ReadsType self.new i T) }
+        ensures types { OnOk result ((cell_at self.old variable.0 ≡ Cell.TypeVar) → (S : Ty) → ReadsType self.old to.0 S →
+            (i : ℕ) (T : Ty) → ReadsType self.old i T → ReadsType self.new i (instance (type_for variable.0 S) T)) }
+        ensures types_of_terms { OnOk result ((cell_at self.old variable.0 ≡ Cell.TypeVar) → (S : Ty) → ReadsType self.old to.0 S →
+            (i : ℕ) (t : Term) → Reads self.old i t → Reads self.new i (instance_term (type_for variable.0 S) t)) }
+        ensures target { OnOk result ((t : Term) → Reads self.old to.0 t → Reads self.new to.0 t) }
+        ensures target_type { OnOk result ((T : Ty) → ReadsType self.old to.0 T → ReadsType self.new to.0 T) }
+        ensures avoids { OnOk result ((c : ℕ) → (Avoids self.old c variable.0 → Avoids self.old c to.0) → (i : ℕ) → Avoids self.old c i → Avoids self.new c i) }
         ensures marks { KeepsMarks self.old self.new }
         ensures unchanged { OnErr result (self.new ≡ self.old) }
     {
@@ -199,16 +230,20 @@ impl Store {
         Ok(())
     }
 
-    /// Lets a cell refer to one that reads as a convertible term.
+    /// Lets a cell refer to one that reads as the same type, or as a convertible term.
     pub fn overwrite(&mut self, at: CellId, to: CellId) -> Result<(), Memory>
         requires at { at.0 < length self.old.cells }
         requires to { to.0 < length self.old.cells }
         requires no_circle { Leads self.old to.0 at.0 → ⊥ }
-        requires converts { (t u : Term) → Reads self.old at.0 t → Reads self.old to.0 u → Converts t u }
+        requires same_type { (T : Ty) → ReadsType self.old at.0 T → ReadsType self.old to.0 T }
+        requires converts { (t : Term) → Reads self.old at.0 t → (u : Term) × Reads self.old to.0 u × Converts t u }
         ensures changed { OnOk result (self.new ≡ changed self.old at.0 to) }
-        ensures reads { OnOk result ((i : ℕ) (t : Term) → Reads self.old i t → (u : Term) × Reads self.new i u × Converts t u) }
-        ensures same { OnOk result (((t u : Term) → Reads self.old at.0 t → Reads self.old to.0 u → t ≡ u) → (i : ℕ) (t : Term) → Reads self.old i t → Reads self.new i t) }
-        ensures reduces { OnOk result (((t u : Term) → Reads self.old at.0 t → Reads self.old to.0 u → Reduces t u) → (i : ℕ) (t : Term) → Reads self.old i t → (u : Term) × Reads self.new i u × Reduces t u) }
+        ensures types { OnOk result ((i : ℕ) (T : Ty) → ReadsType self.old i T → ReadsType self.new i T) }
+        ensures converts { OnOk result ((i : ℕ) (t : Term) → Reads self.old i t → (u : Term) × Reads self.new i u × Converts t u) }
+        ensures same { OnOk result (((t : Term) → Reads self.old at.0 t → Reads self.old to.0 t) → (i : ℕ) (t : Term) → Reads self.old i t → Reads self.new i t) }
+        ensures reduces { OnOk result (((t : Term) → Reads self.old at.0 t → (u : Term) × Reads self.old to.0 u × Reduces t u) → (i : ℕ) (t : Term) → Reads self.old i t → (u : Term) × Reads self.new i u × Reduces t u) }
+        ensures target { OnOk result ((t : Term) → Reads self.old to.0 t → Reads self.new to.0 t) }
+        ensures avoids { OnOk result ((c : ℕ) → (Avoids self.old c at.0 → Avoids self.old c to.0) → (i : ℕ) → Avoids self.old c i → Avoids self.new c i) }
         ensures marks { KeepsMarks self.old self.new }
         ensures unchanged { OnErr result (self.new ≡ self.old) }
     {
