@@ -1,0 +1,4 @@
+pub mod Reading
+pub mod Looking
+pub mod Counting
+pub mod Sharing

@@ -1,0 +1,13 @@
+pub mod Types
+pub mod Looks
+pub mod Solves
+pub mod Ends
+pub mod Counts
+pub mod Elaborations
+pub mod Principal
+pub mod Typed
+pub mod Rows
+pub mod Within
+pub mod Equal
+pub mod Follows
+pub mod GoingOn
