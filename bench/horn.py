@@ -3,7 +3,8 @@
 
     bench/horn.py [--cmd ./lprolog]
 
-For each program: steps (atomic goals taken), seconds, steps a second, peak memory, and how often SWI-Prolog's time.
+For each program: steps (atomic goals taken), seconds, steps a second, peak memory, and how often the seconds that SWI-Prolog takes
+for the query alone (of ours the start and the reading of the files are counted too).
 """
 import argparse
 import os
@@ -29,18 +30,23 @@ def chain(length):
 
 
 def same_generation(depth):
-    """A binary tree and the pairs of one generation, most of them found by going up and down again."""
-    sig, facts, count = [], [], 1
+    """A binary tree and all pairs of one generation, found by going up and down again."""
+    facts, last = [], 1
     for node in range(1, 2 ** depth):
         for child in (2 * node, 2 * node + 1):
             facts.append('up n%d n%d.' % (child, node))
             facts.append('down n%d n%d.' % (node, child))
-            count = child
-    names = ', '.join('n%d' % i for i in range(1, count + 1))
+            last = child
+    names = ', '.join('n%d' % i for i in range(1, last + 1))
     sig = ['sig tree.', 'kind p type.', 'type %s p.' % names, 'type nowhere p.',
            'type up, down, same p -> p -> o.', 'type never p -> o.']
     rules = ['same X X.', 'same X Y :- up X U, same U V, down V Y.', 'never nowhere.']
-    return 'tree', sig, ['module tree.'] + facts + rules, 'same n%d X, never X' % count, None
+    # one goal `up` of the query; for each node its goal `same`, and a goal `never` for every node of its generation
+    steps, below = 1, 2
+    for level in range(1, depth + 1):
+        below = 2 + below + 2 ** (level - 1)
+        steps += 2 ** level * (below + 2 ** level)
+    return 'tree', sig, ['module tree.'] + facts + rules, 'up X U, same X Y, never Y', steps
 
 
 def loop():
@@ -74,16 +80,16 @@ def prolog_goal(query):
 
 
 def swi(program, folder):
+    """The seconds of processor that SWI-Prolog takes for the query alone, its start and the reading of the file left out."""
     name, _, sentences, query, _ = program
     if shutil.which('swipl') is None:
         return None
     path = os.path.join(folder, name + '.pl')
-    limit = ':- set_prolog_flag(verbose, silent).\n:- style_check(-discontiguous).\n:- style_check(-singleton).\n'
     with open(path, 'w') as f:
-        f.write(limit + prolog_text(sentences) + prolog_goal(query) + '\n')
-    goal = 'goal, fail ; true' if name != 'loop' else 'catch(call_with_inference_limit(goal, 1000000, _), _, true)'
-    base = run(['swipl', '-q', '-g', 'true', '-t', 'halt', path], folder)[0]
-    return max(run(['swipl', '-q', '-g', goal, '-t', 'halt', path], folder)[0] - base, 0.001)
+        f.write(':- style_check(-discontiguous).\n:- style_check(-singleton).\n' + prolog_text(sentences) + prolog_goal(query) + '\n')
+    goal = '(goal, fail ; true)' if name != 'loop' else '(call_with_inference_limit(goal, 1000000, _) ; true)'
+    timed = 'statistics(cputime, A), %s, statistics(cputime, B), T is B - A, print(T), nl' % goal
+    return float(run(['swipl', '-q', '-g', timed, '-t', 'halt', path], folder)[3])
 
 
 def main():
@@ -92,7 +98,7 @@ def main():
     arguments = parser.parse_args()
     command = os.path.abspath(arguments.cmd)
     print('%-8s %10s %9s %12s %8s %10s  %s' % ('program', 'steps', 'seconds', 'steps/s', 'MiB', 'of SWI', 'last line'))
-    for program in (chain(300), same_generation(9), loop()):
+    for program in (chain(300), same_generation(8), loop()):
         name, sig, sentences, query, steps = program
         folder = tempfile.mkdtemp(prefix='bench')
         try:
@@ -104,7 +110,7 @@ def main():
             last = output.splitlines()[-1] if output else errors[-60:]
             print('%-8s %10s %9.2f %12s %8.0f %10s  %s (%d)' % (
                 name, steps or '?', seconds, '%.0f' % (steps / seconds) if steps else '?', memory,
-                'x %.1f' % (seconds / other) if other else '-', last, status))
+                'x %.0f' % (seconds / other) if other else '-', last, status))
         finally:
             shutil.rmtree(folder)
 
