@@ -1,15 +1,19 @@
 -- Head contractions that are counted, while parts of the term are reduced besides.
-use Rattle.std.specs.Prelude.{◌≡◌, ℕ, zero, suc, Some, IsSome}
+use Rattle.std.specs.Prelude.{◌≡◌, ℕ, zero, suc, Option, Some, None, IsSome, ◌⊎◌, ◌<◌}
 use Rattle.lp_calculus.specs.Term.{Term, app}
-use Rattle.lp_calculus.specs.Convert.{head_step, steps, Reduces}
+use Rattle.lp_calculus.specs.Convert.{head_step, leftmost_step, steps, Reduces}
 use Rattle.lp_term.specs.declared.reduce.TermRefusal.{TermRefusal}
 use Rattle.lp_term.specs.declared.reduce.TermRefusal.TheVariants.{Deep, Memory}
 
--- so many steps of leftmost head reduction, and reductions elsewhere between them, lead from one term to the other
-pub data Works : ℕ → Term → Term → Type 0 where
-  rests : (t : Term) → Works zero t t
-  contracts : {n : ℕ} {t r u : Term} → head_step t ≡ Some r → Works n r u → Works (suc n) t u
-  elsewhere : {n : ℕ} {t r u : Term} → Reduces t r → Works n r u → Works n t u
+-- so many steps of a reduction, and reductions elsewhere between them, lead from one term to the other
+pub data Counts (f : Term → Option Term) : ℕ → Term → Term → Type 0 where
+  rests : (t : Term) → Counts f zero t t
+  contracts : {n : ℕ} {t r u : Term} → f t ≡ Some r → Counts f n r u → Counts f (suc n) t u
+  elsewhere : {n : ℕ} {t r u : Term} → Reduces t r → Counts f n r u → Counts f n t u
+
+-- steps of leftmost head reduction are counted
+abbrev pub Works : ℕ → Term → Term → Type 0
+Works = Counts head_step
 
 abbrev pub IsApplication : Term → Type 0
 IsApplication t = (x : Term) × (y : Term) × (t ≡ app x y)
@@ -23,3 +27,8 @@ IsStopped limit left t Memory = Unit {0}
 abbrev pub IsDeepOnlyWhere : ℕ → Term → TermRefusal → Type 0
 IsDeepOnlyWhere limit t (Deep n) = (n ≡ limit) × IsSome (steps head_step (suc limit) t)
 IsDeepOnlyWhere limit t Memory = Unit {0}
+
+-- the limit is told, and leftmost reduction takes more steps than the limit
+abbrev pub IsDeepBeta : ℕ → Term → TermRefusal → Type 0
+IsDeepBeta limit t (Deep n) = (n ≡ limit) × IsSome (steps leftmost_step (suc limit) t)
+IsDeepBeta limit t Memory = Unit {0}

@@ -1,8 +1,9 @@
 ghost use Rattle.std.specs.Prelude.{◌<◌, length, IfOk};
 
-use crate::head_normal;
+use crate::{head_normal, read_back};
 use lp_base::Memory;
 use lp_store::{Cell, CellId, Store};
+use lp_term::{Bank, TermNode};
 
 // (\x\ y\ x) on the eigenconstants of levels 5 and 6, as two applications.
 fn first_of_two(store: &mut Store) -> Result<CellId, Memory>
@@ -39,4 +40,20 @@ fn reads_the_first(rt: HostRuntime) {
     store.undo(mark);
     let back = matches!(store.cell(two), Cell::App(_, _));
     assert!(rt; back);
+}
+
+#[test]
+fn reads_back_what_it_reduces_to(rt: HostRuntime) {
+    let mut store = Store::new(rt.alloc());
+    let Ok(two) = first_of_two(&mut store) else {
+        return;
+    };
+    let mut bank = Bank::new(rt.alloc());
+    let read = read_back(rt.alloc(), &mut store, two, &mut bank, 10);
+    assert!(rt; read.is_ok());
+    let Ok(id) = read else {
+        return;
+    };
+    let reached = matches!(bank.term_node(id), TermNode::Eigen(5));
+    assert!(rt; reached);
 }

@@ -38,6 +38,11 @@ drop_removed [] i y lt = absurd (omega arith)
 drop_removed (x ∷ xs) zero y lt = refl
 drop_removed (x ∷ xs) (suc i) y lt = drop_removed xs i y (omega arith)
 
+pub still_within : {X : Type 0} (xs : List X) (i : ℕ) (y : X) → i < length xs → i ≤ length (remove (set xs i y) i)
+still_within [] i y lt = absurd (omega arith)
+still_within (x ∷ xs) zero y lt = omega arith
+still_within (x ∷ xs) (suc i) y lt = let rest = still_within xs i y (omega arith) in omega arith
+
 pub map_set : {X Y : Type 0} (f : X → Y) (xs : List X) (i : ℕ) (y : X) → i < length xs → map f (set xs i y) ≡ map f (take i xs) ++ f y ∷ map f (drop (suc i) xs)
 map_set f [] i y lt = absurd (omega arith)
 map_set f (x ∷ xs) zero y lt = refl

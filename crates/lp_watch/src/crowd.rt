@@ -1,5 +1,5 @@
 // All watchers of a run, over a list that was lent.
-ghost use Rattle.std.specs.Prelude.{◌≡◌, ◌≤◌, ◌<◌, ◌++◌, ℕ, [], None, Some, set, IfOk, OnOk, OnErr, map, length, replicate};
+ghost use Rattle.std.specs.Prelude.{◌≡◌, ◌≤◌, ◌<◌, ◌++◌, ℕ, [], None, Some, set, remove, IfOk, OnOk, OnErr, map, length, replicate};
 ghost use Rattle.std.specs.List.{AllZip, flat_map};
 ghost use Rattle.lp_watch.specs.Crowd.{crowd_after, ReachesPart, places, open_places, Noted, text_at};
 ghost use Rattle.lp_watch.specs.Notes.{event_of};
@@ -46,11 +46,20 @@ fn make_places(texts: &mut Vec<Option<Vec<u8>>>, watchers: usize) -> Result<(), 
     Ok(())
 }
 
-// Puts the text of a watcher that is gone into its place.
-fn keep_text(texts: &mut Vec<Option<Vec<u8>>>, place: usize, text: Vec<u8>)
-    requires { place < length texts.old.items }
-    ensures { texts.new.items ≡ set texts.old.items place (Some text) }
+// Drops a watcher that is done, and puts its text into its place.
+fn dismiss<W: Drop>(
+    watchers: &mut Vec<W>,
+    i: usize,
+    texts: &mut Vec<Option<Vec<u8>>>,
+    place: usize,
+    text: Vec<u8>,
+)
+    requires watcher { i < length watchers.old.items }
+    requires place { place < length texts.old.items }
+    ensures watchers { watchers.new.items ≡ remove watchers.old.items i }
+    ensures texts { texts.new.items ≡ set texts.old.items place (Some text) }
 {
+    watchers.remove(i);
     texts[place] = Some(text);
 }
 
@@ -79,8 +88,7 @@ fn tell_places<W: Watch>(
             continue;
         }
         let text = watchers[i].text(alloc)?;
-        watchers.remove(i);
-        keep_text(texts, place, text);
+        dismiss(watchers, i, texts, place, text);
     }
     Ok(())
 }

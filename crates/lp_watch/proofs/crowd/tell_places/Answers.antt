@@ -2,7 +2,7 @@ use Rattle.std.proofs.Common.{rules, ◌≡◌, true, false, map, take, drop}
 use Rattle.lp_watch.specs.Crowd.{places}
 use Rattle.lp_watch.specs.Notes.{event_of}
 use Rattle.lp_watch.specs.Seen.{stays}
-use Rattle.lp_watch.proofs.Steps.{skip_at, stay_at, leave_at, stop_at, stop_after_at, over_at, over_all, after_error}
+use Rattle.lp_watch.proofs.Steps.{skip_at, stay_at, leave_at, stop_at, stop_after_at, over_at, over_all, still_within, after_error}
 use Rattle.lp_watch.proofs.crowd.tell_places.Goals as goal
 
 pub loop-place-preserved-then-is_some : goal.loop-place-preserved-then-is_some
@@ -60,8 +60,11 @@ loop-place-preserved g c =
     let here = c.loop-place in
     let done : stays (g.W.Watch.seen c.index_mut.result.now).left ≡ false = search rules in
     let walk = leave_at g.W.Watch.seen g.W.Watch.report (event_of c.args.note) before old here.texts.items here.watchers.items here.place here.i c.index.result.now c.index_mut.result.now c.note.new.self c.in_ok-text.text
-    (search rules) (search rules) (search rules) (search rules) (search rules) done (search rules) (search rules) here.invariant.0 in
-    (rw (c.keep_text.ensures, c.remove.ensures.items) walk, search rules, search rules)
+    (search rules) (search rules) (search rules) (search rules) (search rules) done (search rules) (search rules) here.invariant.0 in (
+      rw (c.dismiss.ensures.texts, c.dismiss.ensures.watchers) walk,
+      search rules,
+      rw c.dismiss.ensures.watchers (still_within here.watchers.items here.i c.note.new.self (search rules)),
+    )
 
 pub returns-clause-noted : goal.returns-clause-noted
 returns-clause-noted g c =
