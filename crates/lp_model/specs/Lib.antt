@@ -27,3 +27,4 @@ pub mod Branch
 pub mod Search
 pub mod Proofs
 pub mod Answers
+pub mod Readings

@@ -1,5 +1,10 @@
-//! What the search of a logic program is, on plain terms: the definitions that every layer above is proved against.
+//! What the search of a logic program is, on plain terms: the definitions that every layer above is proved against, and the types that
+//! they speak of.
 #![tactic(auto)]
 
+/// Answers and the events of a search.
+pub mod answer;
 /// How a search ends.
 pub mod ending;
+/// Programs and typed formulas.
+pub mod program;
