@@ -29,5 +29,7 @@ pub mod Formulas
 pub mod ProofRows
 pub mod SearchEnds
 pub mod Uniforms
+pub mod Renamed
+pub mod Renamings
 pub mod Worked
 pub mod Rows

@@ -1,11 +1,13 @@
 // Uniform proofs.
 
-ghost use Rattle.std.specs.Prelude.{◌++◌, ◌∷◌, [], ℕ, List};
+ghost use Rattle.std.specs.Prelude.{◌++◌, ◌∷◌, [], length, map, ℕ, List};
 ghost use Rattle.lp_calculus.specs.Convert.{Converts};
 ghost use Rattle.lp_calculus.specs.Term.{Atom, Term, apply, atom};
 ghost use Rattle.lp_calculus.specs.Types.{Ty};
+ghost use Rattle.lp_model.specs.Faithful.{EachOf};
 ghost use Rattle.lp_model.specs.Flatten.{ClauseFormula};
 ghost use Rattle.lp_model.specs.Proofs.{Declared, IsFormula, Provable, Rooted, Stands, assumed};
+ghost use Rattle.lp_model.specs.Renaming.{HasLevel, IsRenaming, renamed, renamed_clause};
 ghost use Rattle.lp_model.specs.Schemes.{IsStandard};
 
 /// What is provable stays so with more clauses, in any order.
@@ -26,4 +28,10 @@ pub fn assumptions_convert()
 /// Inversion: a provable formula with an atom of the calculus at its head, as each connective has, has a proof that begins with the rule of that head.
 pub fn proofs_begin_at_the_head()
     ensures { (d : Declared) → IsStandard d → (E : List Ty) → (P : List ClauseFormula) → (a : Atom) → (us : List Term) → IsFormula d E (apply (atom a) us) → Provable d E P (apply (atom a) us) → Rooted d E P (apply (atom a) us) }
+{}
+
+/// Eigenconstants may be renamed: with others of their types in their place, two of them maybe the same, a proof goes through, whatever stands
+/// beside them. So which fresh one a `pi` is opened with does not matter.
+pub fn eigenconstants_may_be_renamed()
+    ensures { (d : Declared) → (E F : List Ty) → (ρ : ℕ → ℕ) → IsRenaming E F ρ → (P : List ClauseFormula) → (G : Term) → EachOf (λ D. HasLevel (length E) D.formula) P → HasLevel (length E) G → Provable d E P G → Provable d F (map (renamed_clause ρ) P) (renamed ρ G) }
 {}

@@ -26,5 +26,6 @@ pub mod Values
 pub mod Branch
 pub mod Search
 pub mod Proofs
+pub mod Renaming
 pub mod Answers
 pub mod Readings
