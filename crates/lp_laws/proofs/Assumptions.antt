@@ -6,7 +6,7 @@ use Rattle.lp_calculus.specs.Term.{Term, atom, app, eigen}
 use Rattle.lp_calculus.specs.Convert.{Converts}
 use Rattle.lp_calculus.specs.Typing.{type_at}
 use Rattle.lp_calculus.specs.Instance.{instance_term}
-use Rattle.lp_calculus.specs.Closed.{IsClosedAt}
+use Rattle.lp_calculus.specs.Closed.{AreClosed, IsClosedAt}
 use Rattle.lp_model.specs.Spine.{head_of}
 use Rattle.lp_model.specs.Flatten.{ClauseFormula}
 use Rattle.lp_model.specs.Proofs.{Declared, IsFormula, Proof, Conv, True, And, Left, Right, Witness, All, Assume, Equal, Arith, Back, Focus, FConv, FAll, FTake, FNeed, FHit, IsAtomHead, assumed, proves, focuses, Provable, Focusable}
@@ -30,7 +30,7 @@ Focuses d E D R = (F : List Ty) → Extends E F → (P : List ClauseFormula) →
 -- in the place of a clause stands the same one, or one on which one can focus instead
 record Replaced (d : Declared) (E : List Ty) (D R : ClauseFormula) : Type 0 where
   type_vars : R.type_vars ≡ D.type_vars
-  stands : (D ≡ R) ⊎ ((ts : List Ty) → length ts ≡ D.type_vars → Focuses d E (instance_term (type_at ts) D.formula) (instance_term (type_at ts) R.formula))
+  stands : (D ≡ R) ⊎ ((ts : List Ty) → length ts ≡ D.type_vars → AreClosed ts → Focuses d E (instance_term (type_at ts) D.formula) (instance_term (type_at ts) R.formula))
 
 record StandAs (d : Declared) (E : List Ty) (P R : List ClauseFormula) : Type 0 where
   at : (i : ℕ) (D : ClauseFormula) → slice_get P i ≡ Some D → (D' : ClauseFormula) × (slice_get R i ≡ Some D') × Replaced d E D D'
@@ -46,7 +46,7 @@ more_eigens d E F P R st = record {
           type_vars = r.2.type_vars;
           stands = elim r.2.stands [
             | inl s ↦ inl s
-            | inr f ↦ inr (λ ts l G g. f ts l G (extends_then E F G g))
+            | inr f ↦ inr (λ ts l k G g. f ts l k G (extends_then E F G g))
           ];
         },
       );
@@ -99,7 +99,7 @@ mutual
       let j = st.stand.at i h.0 h.1 in
       elim j.2.stands [
         | inl s ↦ record { proof = Back i ts a.focus; holds = (j.0, j.1, h.2 ∙ sym j.2.type_vars, h.3, h.4, subst (λ D. focuses d E R (instance_term (type_at ts) D.formula) G a.focus) s a.holds) }
-        | inr g ↦ let r = g ts h.2 E (extends_self E) R G h.4 a in record { proof = Back i ts r.focus; holds = (j.0, j.1, h.2 ∙ sym j.2.type_vars, h.3, h.4, r.holds) }
+        | inr g ↦ let r = g ts h.2 h.3 E (extends_self E) R G h.4 a in record { proof = Back i ts r.focus; holds = (j.0, j.1, h.2 ∙ sym j.2.type_vars, h.3, h.4, r.holds) }
       ]
 
   focus_as : (d : Declared) (E : List Ty) (P R : List ClauseFormula) (D A : Term) (f : Focus) → Stand d E P R → focuses d E P D A f → Focusable d E R D A
@@ -113,12 +113,24 @@ mutual
 all_same : (d : Declared) (E : List Ty) (P : List ClauseFormula) → Stand d E P P
 all_same d E P = record { long = refl; stand = record { at = λ i D e. (D, e, same_clause d E D) } }
 
+and_more : (d : Declared) (E : List Ty) (P R S : List ClauseFormula) → Stand d E P R → Stand d E (P ++ S) (R ++ S)
+and_more d E P R [] st = subst (λ Q. Stand d E Q (R ++ [])) (sym (append-nil P)) (subst (Stand d E P) (sym (append-nil R)) st)
+and_more d E P R (D ∷ S) st =
+    subst (λ Q. Stand d E Q (R ++ D ∷ S)) (append_assoc P (D ∷ []) S) (subst (Stand d E ((P ++ D ∷ []) ++ S)) (append_assoc R (D ∷ []) S) (and_more d E (P ++ D ∷ []) (R ++ D ∷ []) S (one_more d E P R D D st (same_clause d E D))))
+
+-- a clause among others in the place of another on which one can focus instead, with each types for their type variables
+pub replaced_clause : (d : Declared) (E : List Ty) (P S : List ClauseFormula) (D D' : ClauseFormula) (G : Term) → D'.type_vars ≡ D.type_vars → ((ts : List Ty) → length ts ≡ D.type_vars → AreClosed ts → Focuses d E (instance_term (type_at ts) D.formula) (instance_term (type_at ts) D'.formula)) → Provable d E (P ++ D ∷ S) G → Provable d E (P ++ D' ∷ S) G
+replaced_clause d E P S D D' G v f h =
+    let st = and_more d E (P ++ D ∷ []) (P ++ D' ∷ []) S (one_more d E P P D D' (all_same d E P) (record { type_vars = v; stands = inr f })) in
+    let p = subst (λ Q. Provable d E Q G) (sym (append_assoc P (D ∷ []) S)) h in
+    subst (λ Q. Provable d E Q G) (append_assoc P (D' ∷ []) S) (proof_as d E ((P ++ D ∷ []) ++ S) ((P ++ D' ∷ []) ++ S) G p.proof st p.holds)
+
 -- an assumption in the place of another on which one can focus instead
 pub replaced_assumption : (d : Declared) (E : List Ty) (P : List ClauseFormula) (D D' G : Term) → IsClosedAt (length E) D → IsClosedAt (length E) D' → Focuses d E D D' → Provable d E (P ++ assumed D ∷ []) G → Provable d E (P ++ assumed D' ∷ []) G
 replaced_assumption d E P D D' G f f' c h =
     proof_as d E (P ++ assumed D ∷ []) (P ++ assumed D' ∷ []) G h.proof (one_more d E P P (assumed D) (assumed D') (all_same d E P) (record {
       type_vars = refl;
-      stands = inr (λ ts l.
+      stands = inr (λ ts l k.
           let e = closed_instance (length E) (type_at ts) D f in
           let e' = closed_instance (length E) (type_at ts) D' f' in
           subst (λ t. Focuses d E t (instance_term (type_at ts) D')) (sym e) (subst (Focuses d E D) (sym e') c));

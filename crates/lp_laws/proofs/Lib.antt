@@ -29,6 +29,8 @@ pub mod Formulas
 pub mod ProofRows
 pub mod SearchEnds
 pub mod Uniforms
+pub mod TypedForms
+pub mod TypedFlat
 pub mod Renamed
 pub mod Renamings
 pub mod Worked

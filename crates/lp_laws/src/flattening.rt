@@ -5,7 +5,7 @@ ghost use Rattle.lp_calculus.specs.Term.{Term};
 ghost use Rattle.lp_calculus.specs.Types.{Ty};
 ghost use Rattle.lp_model.specs.Flat.{Clauses, Goals, formula_of_clauses, formula_of_goals, no_goals};
 ghost use Rattle.lp_model.specs.Flatten.{ClauseFormula, flat_clause, flat_goal};
-ghost use Rattle.lp_model.specs.Proofs.{Declared, IsFormula, Provable, assumed};
+ghost use Rattle.lp_model.specs.Proofs.{Declared, IsFormula, IsSentence, Provable, assumed};
 ghost use Rattle.lp_model.specs.Schemes.{IsStandard};
 
 /// The flattened goals of a closed formula are provable exactly where the formula is.
@@ -16,4 +16,10 @@ pub fn flattened_goals_read_back()
 /// The flattened clauses of a closed clause prove exactly what the clause proves.
 pub fn flattened_clauses_read_back()
     ensures { (d : Declared) → IsStandard d → (n : ℕ) → (c : Term) → (cs : Clauses) → flat_clause n d [] c [] [] ≡ Some cs → IsFormula d [] c → (E : List Ty) → (P : List ClauseFormula) → (G : Term) → (Provable d E (P ++ assumed c ∷ []) G → Provable d E (P ++ assumed (formula_of_clauses cs) ∷ []) G) × (Provable d E (P ++ assumed (formula_of_clauses cs) ∷ []) G → Provable d E (P ++ assumed c ∷ []) G) }
+{}
+
+/// With type variables: the flattened clauses of a sentence, read as a formula over the same type variables, prove in its place exactly what the
+/// sentence proves, whatever stands before and behind it.
+pub fn sentences_read_back()
+    ensures { (d : Declared) → IsStandard d → (n : ℕ) → (D : ClauseFormula) → (cs : Clauses) → flat_clause n d [] D.formula [] [] ≡ Some cs → IsSentence d D → (E : List Ty) → (P R : List ClauseFormula) → (G : Term) → (Provable d E (P ++ D ∷ R) G → Provable d E (P ++ record { type_vars = D.type_vars; formula = formula_of_clauses cs } ∷ R) G) × (Provable d E (P ++ record { type_vars = D.type_vars; formula = formula_of_clauses cs } ∷ R) G → Provable d E (P ++ D ∷ R) G) }
 {}

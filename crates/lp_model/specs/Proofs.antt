@@ -24,6 +24,10 @@ pub record IsFormula (d : Declared) (E : List Ty) (t : Term) : Type 0 where
   pub typed : Typed (under d E) [] t o_type
   pub closed : IsClosedAt (length E) t
 
+-- a clause of a program, which may have type variables: with closed types for them it is a closed formula
+pub record IsSentence (d : Declared) (D : ClauseFormula) : Type 0 where
+  pub instances : (ts : List Ty) → length ts ≡ D.type_vars → AreClosed ts → IsFormula d [] (instance_term (type_at ts) D.formula)
+
 -- what may be put for a variable of type T at the level of E: a positive closed term of the type
 pub record IsWitness (d : Declared) (E : List Ty) (t : Term) (T : Ty) : Type 0 where
   pub typed : Typed (under d E) [] t T
