@@ -61,6 +61,10 @@ standard_entries = weak_entries ++ (relation_entries ++ strong_entries)
 abbrev pub standard : List ℕ → Option (Fixity × ℕ)
 standard name = with_entries standard_entries (λ _. None) name
 
+-- each entry of the old table is one of the new table
+abbrev pub Extends : Table → Table → Type 0
+Extends old new = (name : List ℕ) (e : Fixity × ℕ) → entry_of old name ≡ Some e → entry_of new name ≡ Some e
+
 -- the table has this entry at the name
 abbrev pub HasEntry : Table → List ℕ → Fixity × ℕ → Type 0
 HasEntry table name wanted = entry_of table name ≡ Some wanted

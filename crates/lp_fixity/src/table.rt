@@ -1,7 +1,7 @@
 // The table of operators, a finite map from names.
 ghost use Rattle.std.specs.Prelude.{◌≡◌, ◌<◌, ℕ, List, Some, None, Err, Ok, IfOk, ◌≤◌, IfErr, OnOk, OnErr, codes, if◌then◌else◌};
 ghost use Rattle.std.specs.Str.{bytes_eq};
-ghost use Rattle.lp_fixity.specs.Table.{entry_of, standard, strong_entries, relation_entries, weak_entries, with_entry, with_entries, HasEntry, HasOther, IsCause};
+ghost use Rattle.lp_fixity.specs.Table.{entry_of, standard, strong_entries, relation_entries, weak_entries, with_entry, with_entries, Extends, HasEntry, HasOther, IsCause};
 ghost use Rattle.lp_fixity.specs.declared.fixity.FixFault.TheVariants as fault;
 
 use crate::fixity::{FixFault, Fixity};
@@ -88,6 +88,7 @@ impl Table {
     pub fn declare(&mut self, name: &[u8], fixity: Fixity, number: u32) -> Result<(), FixFault>
         ensures declared { OnOk result ((other : List ℕ) → entry_of self.new other ≡ with_entry (name.now, (fixity, number)) (entry_of self.old) other) }
         ensures kept { OnErr result ((other : List ℕ) → entry_of self.new other ≡ entry_of self.old other) }
+        ensures extends { Extends self.old self.new }
         ensures cause { IfErr result (IsCause self.old name.now (fixity, number)) }
         ensures too_high { 255 < number → result ≡ Err (fault.TooHigh number) }
         ensures otherwise { number ≤ 255 → HasOther self.old name.now (fixity, number) → result ≡ Err fault.Otherwise }
