@@ -27,6 +27,7 @@ pub mod Assumptions
 pub mod Roots
 pub mod Formulas
 pub mod ProofRows
+pub mod ShownRows
 pub mod SearchEnds
 pub mod Uniforms
 pub mod TypedForms

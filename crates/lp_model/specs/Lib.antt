@@ -29,3 +29,4 @@ pub mod Proofs
 pub mod Renaming
 pub mod Answers
 pub mod Readings
+pub mod Shown
