@@ -29,4 +29,5 @@ pub mod Proofs
 pub mod Renaming
 pub mod Answers
 pub mod Readings
+pub mod Flattened
 pub mod Shown

@@ -4,7 +4,17 @@
 
 /// Answers and the events of a search.
 pub mod answer;
+/// Flattened clauses and goals.
+pub mod clause;
 /// How a search ends.
 pub mod ending;
 /// Programs and typed formulas.
 pub mod program;
+
+pub use answer::{Answer, Event, Pair};
+pub use clause::{Clause, Goal};
+pub use ending::{Ending, Fault};
+pub use program::{ClauseFormula, Declared, Program, Typed};
+
+#[cfg(test)]
+mod tests;
