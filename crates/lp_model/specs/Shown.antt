@@ -36,16 +36,18 @@ abbrev pub is_taken : List Entry → ℕ → Bool
 is_taken [] k = false
 is_taken (e ∷ es) k = (nat_eq e.hidden 0 && bytes_eq e.name (codes "x" ++ decimal k)) || is_taken es k
 
--- from k on, the number of the first name that is not taken but for d such
-abbrev pub free_number : (fuel : ℕ) → List Entry → (k d : ℕ) → ℕ
-free_number zero es k d = k
-free_number (suc n) es k d =
-    if is_taken es k then free_number n es (suc k) d else (if nat_eq d 0 then k else free_number n es (suc k) (d - 1))
+-- from k on, the number of the first name that is not taken: of n + 1 names in a row one is free where there are n constants
+abbrev pub next_free : (n : ℕ) → List Entry → (k : ℕ) → ℕ
+next_free zero es k = k
+next_free (suc n) es k = if is_taken es k then next_free n es (suc k) else k
 
--- the name of the binder under d others: of `x1`, `x2` .. those that are no constants. Among the first d + 1 + n names, with n constants,
--- at least d + 1 are free
+-- the binder under d others has the next name behind theirs of `x1`, `x2` .. that is no constant
+abbrev pub binder_number : List Entry → ℕ → ℕ
+binder_number es zero = next_free (length es) es 1
+binder_number es (suc d) = next_free (length es) es (suc (binder_number es d))
+
 abbrev pub binder_name : List Entry → ℕ → List ℕ
-binder_name es d = codes "x" ++ decimal (free_number (d + length es) es 1 d)
+binder_name es d = codes "x" ++ decimal (binder_number es d)
 
 -- what a shown term is, for those around it
 pub data Shape : Type 0 where
