@@ -1,6 +1,6 @@
 -- How terms and answers are shown: binders get names, operators stand between their operands with parentheses where the table of
 -- operators asks for them, and variables are numbered as they come (the notation of Nadathur and Miller 1988).
-use Rattle.std.specs.Prelude.{ℕ, zero, suc, ◌+◌, ◌-◌, nat_eq, Bool, true, false, ◌&&◌, ◌||◌, if◌then◌else◌, List, [], ◌∷◌, ◌++◌, length, Option, Some, None, option_and_then, unwrap_or, slice_index_or, codes, decimal}
+use Rattle.std.specs.Prelude.{ℕ, zero, suc, ◌-◌, nat_eq, Bool, true, false, ◌&&◌, ◌||◌, if◌then◌else◌, List, [], ◌∷◌, ◌++◌, length, Option, Some, None, option_and_then, unwrap_or, slice_index_or, codes, decimal}
 use Rattle.std.specs.Str.{bytes_eq}
 use Rattle.std.specs.Fmt.{signed_decimal}
 use Rattle.lp_fixity.specs.declared.fixity.Fixity.{Fixity}
@@ -130,44 +130,44 @@ escaped (b ∷ bs) =
     else (if nat_eq b 9 then codes "\\t" ++ escaped bs
     else b ∷ escaped bs)))
 
--- logic variables by number and level, in the order of their first places
-abbrev pub Seen : Type 0
-Seen = List (ℕ × ℕ)
+-- the numbers of logic variables in the order of their first places. A variable's number tells its level
+abbrev pub place_of : ℕ → List ℕ → ℕ
+place_of x [] = 0
+place_of x (v ∷ vs) = if nat_eq x v then 0 else suc (place_of x vs)
 
-abbrev pub place_of : ℕ → ℕ → Seen → ℕ
-place_of x l [] = 0
-place_of x l (v ∷ vs) = if nat_eq x v.0 && nat_eq l v.1 then 0 else suc (place_of x l vs)
+abbrev pub is_seen : ℕ → List ℕ → Bool
+is_seen x [] = false
+is_seen x (v ∷ vs) = nat_eq x v || is_seen x vs
 
-abbrev pub is_seen : ℕ → ℕ → Seen → Bool
-is_seen x l [] = false
-is_seen x l (v ∷ vs) = (nat_eq x v.0 && nat_eq l v.1) || is_seen x l vs
+abbrev pub with_variable : ℕ → List ℕ → List ℕ
+with_variable x vs = if is_seen x vs then vs else vs ++ x ∷ []
 
-abbrev pub with_variables : Seen → Term → Seen
-with_variables vs (atom (logic x l)) = if is_seen x l vs then vs else vs ++ (x, l) ∷ []
+abbrev pub with_variables : List ℕ → Term → List ℕ
+with_variables vs (atom (logic x l)) = with_variable x vs
 with_variables vs (atom a) = vs
 with_variables vs (index i) = vs
 with_variables vs (abs b) = with_variables vs b
 with_variables vs (app t u) = with_variables (with_variables vs t) u
 
 -- an atom on arguments. A parameter stands in no answer
-abbrev pub atom_piece : List Entry → Seen → Atom → List Piece → Piece
+abbrev pub atom_piece : List Entry → List ℕ → Atom → List Piece → Piece
 atom_piece es vs (constant c ts) ps = constant_piece (entry_in es c) ps
 atom_piece es vs (integer z) ps = applied (signed_decimal z) ps
 atom_piece es vs (text s) ps = applied (codes "\"" ++ (escaped s ++ codes "\"")) ps
 atom_piece es vs (eigen k) ps = applied (codes "#" ++ decimal k) ps
-atom_piece es vs (logic x l) ps = applied (codes "_" ++ decimal (suc (place_of x l vs))) ps
+atom_piece es vs (logic x l) ps = applied (codes "_" ++ decimal (suc (place_of x vs))) ps
 atom_piece es vs (param k T) ps = applied [] ps
 
 -- d binders stand outside
 abbrev mutual
-  pub piece : List Entry → Seen → (d : ℕ) → Term → Piece
+  pub piece : List Entry → List ℕ → (d : ℕ) → Term → Piece
   piece es vs d (index i) = applied (binder_name es (d - 1 - i)) []
   piece es vs d (atom a) = atom_piece es vs a []
   piece es vs d (abs b) = record { shape = Abstracted; text = binder_name es d ++ (codes "\\ " ++ (piece es vs (suc d) b).text) }
   piece es vs d (app t u) = headed es vs d t (piece es vs d u ∷ [])
 
   -- a term on arguments that are shown already
-  pub headed : List Entry → Seen → (d : ℕ) → Term → List Piece → Piece
+  pub headed : List Entry → List ℕ → (d : ℕ) → Term → List Piece → Piece
   headed es vs d (index i) ps = applied (binder_name es (d - 1 - i)) ps
   headed es vs d (atom a) ps = atom_piece es vs a ps
   headed es vs d (abs b) ps = applied (bracketed (binder_name es d ++ (codes "\\ " ++ (piece es vs (suc d) b).text))) ps
@@ -185,22 +185,22 @@ abbrev pub values_shown : List (List ℕ) → List Term → List (List ℕ × Te
 values_shown (n ∷ ns) (t ∷ ts) = if is_shown n then (n, t) ∷ values_shown ns ts else values_shown ns ts
 values_shown ns ts = []
 
-abbrev pub variables_of_values : Seen → List (List ℕ × Term) → Seen
+abbrev pub variables_of_values : List ℕ → List (List ℕ × Term) → List ℕ
 variables_of_values vs [] = vs
 variables_of_values vs (b ∷ bs) = variables_of_values (with_variables vs b.1) bs
 
-abbrev pub variables_of_pairs : Seen → List (Term × Term) → Seen
+abbrev pub variables_of_pairs : List ℕ → List (Term × Term) → List ℕ
 variables_of_pairs vs [] = vs
 variables_of_pairs vs (p ∷ ps) = variables_of_pairs (with_variables (with_variables vs p.0) p.1) ps
 
-abbrev pub value_lines : List Entry → Seen → List (List ℕ × Term) → List ℕ
+abbrev pub value_lines : List Entry → List ℕ → List (List ℕ × Term) → List ℕ
 value_lines es vs [] = []
 value_lines es vs (b ∷ bs) = (codes "  " ++ (b.0 ++ (codes " = " ++ ((piece es vs 0 b.1).text ++ codes "\n")))) ++ value_lines es vs bs
 
-abbrev pub side : List Entry → Seen → Term → List ℕ
+abbrev pub side : List Entry → List ℕ → Term → List ℕ
 side es vs t = as_side (piece es vs 0 t).shape (piece es vs 0 t).text
 
-abbrev pub pair_lines : List Entry → Seen → List (Term × Term) → List ℕ
+abbrev pub pair_lines : List Entry → List ℕ → List (Term × Term) → List ℕ
 pair_lines es vs [] = []
 pair_lines es vs (p ∷ ps) = (codes "  where " ++ (side es vs p.0 ++ (codes " == " ++ (side es vs p.1 ++ codes "\n")))) ++ pair_lines es vs ps
 

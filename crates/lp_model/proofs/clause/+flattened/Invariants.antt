@@ -1,4 +1,4 @@
-use Rattle.std.proofs.Common.{◌≡◌, ℕ, ◌+◌, ◌-◌, ◌*◌, ◌<◌, ◌≤◌, length}
+use Rattle.std.proofs.Common.{◌≤◌}
 use Rattle.lp_model.proofs.clause.Goal.TheLaws.{the_size}
 use Rattle.lp_model.proofs.clause.+flattened.Given as goal
 
