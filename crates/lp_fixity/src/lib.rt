@@ -3,6 +3,8 @@
 
 // The seven fixities, and why an operator cannot be declared.
 mod fixity;
+// What may stand beside an operator.
+mod operands;
 // The table.
 mod table;
 
