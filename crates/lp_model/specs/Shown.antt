@@ -31,10 +31,13 @@ abbrev pub entry_in : List Entry → ℕ → Entry
 entry_in [] c = plain_entry c
 entry_in (e ∷ es) c = if nat_eq e.number c then e else entry_in es c
 
--- `x` and the number is the name of a constant that is not hidden
+-- the name is that of a constant that is not hidden
+abbrev pub has_name : List ℕ → List Entry → Bool
+has_name n [] = false
+has_name n (e ∷ es) = (nat_eq e.hidden 0 && bytes_eq n e.name) || has_name n es
+
 abbrev pub is_taken : List Entry → ℕ → Bool
-is_taken [] k = false
-is_taken (e ∷ es) k = (nat_eq e.hidden 0 && bytes_eq e.name (codes "x" ++ decimal k)) || is_taken es k
+is_taken es k = has_name (codes "x" ++ decimal k) es
 
 -- from k on, the number of the first name that is not taken: of n + 1 names in a row one is free where there are n constants
 abbrev pub next_free : (n : ℕ) → List Entry → (k : ℕ) → ℕ
