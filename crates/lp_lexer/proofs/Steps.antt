@@ -53,11 +53,11 @@ comment_short d (b ∷ c ∷ bs) h = absurd (omega arith)
 pub comment_done : (bs : List ℕ) (n d : ℕ) → length bs ≤ n + 1 → later n (comment_len d (drop n bs)) ≡ None
 comment_done bs n d h = ap (later n) (comment_short d (drop n bs) (omega (arith, length-drop n bs)))
 
-text_cons : (b : ℕ) (bs : List ℕ) → nat_eq b 92 ≡ false → nat_eq b 34 ≡ false → nat_eq b 10 ≡ false → text_end (b ∷ bs) ≡ (if is_in Inside b then further 1 (text_end bs) else BadAt 0)
+pub text_cons : (b : ℕ) (bs : List ℕ) → nat_eq b 92 ≡ false → nat_eq b 34 ≡ false → nat_eq b 10 ≡ false → text_end (b ∷ bs) ≡ (if is_in Inside b then further 1 (text_end bs) else BadAt 0)
 text_cons b [] e f g = rw (e, f, g) refl
 text_cons b (c ∷ bs) e f g = rw (e, f, g) refl
 
-text_close : (bs : List ℕ) → text_end (34 ∷ bs) ≡ Closed 1
+pub text_close : (bs : List ℕ) → text_end (34 ∷ bs) ≡ Closed 1
 text_close [] = refl
 text_close (c ∷ bs) = refl
 
@@ -99,7 +99,7 @@ number_passed ds i v n h e big =
 pub run_goes : (k : Class) (bs : List ℕ) (n : ℕ) → n < length bs → is_in k (get_or bs n 0) ≡ true → n + run k (drop n bs) ≡ n + 1 + run k (drop (n + 1) bs)
 run_goes k bs n h e = rw (drop_one bs n h, e) (omega arith)
 
-take_one : (bs : List ℕ) (n : ℕ) → n < length bs → take (n + 1) bs ≡ take n bs ++ get_or bs n 0 ∷ []
+pub take_one : (bs : List ℕ) (n : ℕ) → n < length bs → take (n + 1) bs ≡ take n bs ++ get_or bs n 0 ∷ []
 take_one [] n h = absurd (omega arith)
 take_one (b ∷ bs) zero h = refl
 take_one (b ∷ bs) (suc n) h = let e : suc n + 1 ≡ suc (n + 1) = omega arith in rw e (ap (λ l. b ∷ l) (take_one bs n (omega arith)))
@@ -114,7 +114,7 @@ digit_low b h = leb-true 48 b (and_parts _ _ h).0
 pub digits_low : (ds : List ℕ) (i : ℕ) → All (λ d. IsTrue (is_in Digit d)) ds → i < length ds → 48 ≤ get_or ds i 0
 digits_low ds i all h = digit_low _ (All-get_or (λ d. IsTrue (is_in Digit d)) ds i 0 h all)
 
-closes_quote : (bs : List ℕ) → closes (34 ∷ bs) ≡ true
+pub closes_quote : (bs : List ℕ) → closes (34 ∷ bs) ≡ true
 closes_quote [] = refl
 closes_quote (c ∷ bs) = refl
 
@@ -128,7 +128,7 @@ closes_at_quote bs n h e = rw (drop_one bs n h, e) (closes_quote (drop (n + 1) b
 pub closes_at_line : (bs : List ℕ) (n : ℕ) → n < length bs → get_or bs n 0 ≡ 10 → closes (drop n bs) ≡ false
 closes_at_line bs n h e = rw (drop_one bs n h, e) (closes_line (drop (n + 1) bs))
 
-closes_escape : (c : ℕ) (bs : List ℕ) → is_in Escaped c ≡ true → closes (92 ∷ c ∷ bs) ≡ closes bs
+pub closes_escape : (c : ℕ) (bs : List ℕ) → is_in Escaped c ≡ true → closes (92 ∷ c ∷ bs) ≡ closes bs
 closes_escape c bs e = rw e refl
 
 pub closes_at_escape : (bs : List ℕ) (n : ℕ) → n + 1 < length bs → (nat_eq (get_or bs n 0) 92 && is_in Escaped (get_or bs (n + 1) 0)) ≡ true → closes (drop n bs) ≡ closes (drop (n + 2) bs)
@@ -137,7 +137,7 @@ closes_at_escape bs n h e =
     let q : get_or bs n 0 ≡ 92 = eqb-true (get_or bs n 0) 92 p.0 in
     rw (drop_two bs n h, q) (closes_escape _ (drop (n + 2) bs) p.1)
 
-closes_by : (b : ℕ) (bs : List ℕ) → nat_eq b 34 ≡ false → nat_eq b 10 ≡ false → (nat_eq b 92 && is_in Escaped (get_or bs 0 0)) ≡ false → closes (b ∷ bs) ≡ closes bs
+pub closes_by : (b : ℕ) (bs : List ℕ) → nat_eq b 34 ≡ false → nat_eq b 10 ≡ false → (nat_eq b 92 && is_in Escaped (get_or bs 0 0)) ≡ false → closes (b ∷ bs) ≡ closes bs
 closes_by b [] e f g = e
 closes_by b (c ∷ bs) e f g = rw (e, f, g) refl
 

@@ -18,7 +18,7 @@ if_run : (t : Bool) (n len : ℕ) → n ≤ len → (if t then suc n else 0) ≤
 if_run true n len h = omega arith
 if_run false n len h = omega arith
 
-run_within : (k : Class) (bs : List ℕ) → run k bs ≤ length bs
+pub run_within : (k : Class) (bs : List ℕ) → run k bs ≤ length bs
 run_within k [] = omega arith
 run_within k (b ∷ bs) = if_run (is_in k b) (run k bs) (length bs) (run_within k bs)
 
@@ -29,7 +29,7 @@ if_both : (P : ℕ → Type 0) (t : Bool) (x y : ℕ) → P x → P y → P (if 
 if_both P true x y a b = a
 if_both P false x y a b = b
 
-symbol_within : (bs : List ℕ) → symbol_len bs ≤ length bs
+pub symbol_within : (bs : List ℕ) → symbol_len bs ≤ length bs
 symbol_within [] = omega arith
 symbol_within (b ∷ []) = if_both (λ n. n ≤ 1) (is_in Symbol b) 1 0 (omega arith) (omega arith)
 symbol_within (b ∷ c ∷ bs) = if_both (λ n. n ≤ suc (suc (length bs))) (nat_eq b 47 && nat_eq c 42) 0 _ (omega arith) (if_run (is_in Symbol b) (symbol_len (c ∷ bs)) _ (symbol_within (c ∷ bs)))
@@ -46,7 +46,7 @@ if_option : (P : Option ℕ → Type 0) (t : Bool) (x y : Option ℕ) → P x �
 if_option P true x y a b = a
 if_option P false x y a b = b
 
-comment_within : (d : ℕ) (bs : List ℕ) → IfSome (comment_len d bs) (λ n. n ≤ length bs)
+pub comment_within : (d : ℕ) (bs : List ℕ) → IfSome (comment_len d bs) (λ n. n ≤ length bs)
 comment_within d [] = tt
 comment_within d (b ∷ []) = tt
 comment_within d (b ∷ c ∷ bs) =
@@ -67,7 +67,7 @@ if_ended : (P : Ended → Type 0) (t : Bool) (x y : Ended) → P x → P y → P
 if_ended P true x y a b = a
 if_ended P false x y a b = b
 
-text_within : (bs : List ℕ) → IsEndWithin (length bs) (text_end bs)
+pub text_within : (bs : List ℕ) → IsEndWithin (length bs) (text_end bs)
 text_within [] = tt
 text_within (b ∷ []) =
     let P = IsEndWithin 1 in
@@ -93,7 +93,7 @@ comment_at_within : (len : ℕ) (o : Option ℕ) → IfSome o (λ n. n ≤ len) 
 comment_at_within len None h = tt
 comment_at_within len (Some n) h = (omega arith, omega arith)
 
-digit_there : (bs : List ℕ) (i : ℕ) → is_in Digit (slice_index bs i) ≡ true → i < length bs
+pub digit_there : (bs : List ℕ) (i : ℕ) → is_in Digit (slice_index bs i) ≡ true → i < length bs
 digit_there bs i h = elim (cases_lt i (length bs)) [ inl l ↦ l | inr l ↦ absurd (true≢false (sym h ∙ no_digit_past bs i l)) ]
 
 some_more : (n r : ℕ) → 0 < n + 1 + r
@@ -105,14 +105,14 @@ sum_within n r len rest a b e = omega (arith, a, b, e)
 value_within : (n len v : ℕ) → 0 < n → n ≤ len → IsWithin len (number_of n v)
 value_within n len v p h = if_piece (IsWithin len) (nat_lt v (2 ^ 63)) (Found (kind.Number (pos v)) n) BigNumber (λ _. (p, h)) (λ _. tt)
 
-real_within : (n : ℕ) (bs : List ℕ) → (nat_eq (slice_index bs n) 46 && is_in Digit (slice_index bs (n + 1))) ≡ true → IsWithin (length bs) (Found kind.Real (n + 1 + run Digit (drop (n + 1) bs)))
+pub real_within : (n : ℕ) (bs : List ℕ) → (nat_eq (slice_index bs n) 46 && is_in Digit (slice_index bs (n + 1))) ≡ true → IsWithin (length bs) (Found kind.Real (n + 1 + run Digit (drop (n + 1) bs)))
 real_within n bs e =
     let l : n + 1 < length bs = digit_there bs (n + 1) (and_parts (nat_eq (slice_index bs n) 46) (is_in Digit (slice_index bs (n + 1))) e).1 in
     let r = run_within Digit (drop (n + 1) bs) in
     let d = length-drop (n + 1) bs in
     (some_more n (run Digit (drop (n + 1) bs)), sum_within n (run Digit (drop (n + 1) bs)) (length bs) (length (drop (n + 1) bs)) l r d)
 
-digits_within : (n : ℕ) (bs : List ℕ) → 0 < n → n ≤ length bs → IsWithin (length bs) (number_at n bs)
+pub digits_within : (n : ℕ) (bs : List ℕ) → 0 < n → n ≤ length bs → IsWithin (length bs) (number_at n bs)
 digits_within n bs p h =
     if_piece (IsWithin (length bs)) (nat_eq (slice_index bs n) 46 && is_in Digit (slice_index bs (n + 1))) (Found kind.Real (n + 1 + run Digit (drop (n + 1) bs))) (number_of n (decimal_from 0 (take n bs)))
     (real_within n bs) (λ _. value_within n (length bs) (decimal_from 0 (take n bs)) p h)
@@ -129,7 +129,7 @@ comment_front b (c ∷ bs) h =
     let two : 2 + length bs ≡ suc (suc (length bs)) = omega arith in
     subst (λ len. IsWithin len (comment_at (comment_len 1 bs))) two (comment_at_within (length bs) _ (comment_within 1 bs))
 
-symbol_front : (b : ℕ) (bs : List ℕ) → (nat_eq b 47 && nat_eq (slice_index (b ∷ bs) 1) 42) ≡ false → is_in Symbol b ≡ true → 0 < symbol_len (b ∷ bs)
+pub symbol_front : (b : ℕ) (bs : List ℕ) → (nat_eq b 47 && nat_eq (slice_index (b ∷ bs) 1) 42) ≡ false → is_in Symbol b ≡ true → 0 < symbol_len (b ∷ bs)
 symbol_front b [] e f = symbol_some b [] e f
 symbol_front b (c ∷ bs) e f = symbol_some b (c ∷ bs) e f
 

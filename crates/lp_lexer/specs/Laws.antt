@@ -1,10 +1,12 @@
 -- The laws of the reading of a text.
-use Rattle.std.specs.Prelude.{◌≡◌, ℕ, List, Result, Ok, Err, Some}
+use Rattle.std.specs.Prelude.{◌≡◌, ◌<◌, ℕ, List, length, Result, Ok, Err, Some}
 use Rattle.lp_base.specs.declared.place.Place.{Place}
 use Rattle.lp_lexer.specs.declared.token.Token.{Token}
 use Rattle.lp_lexer.specs.declared.token.LexFault.{LexFault}
 use Rattle.lp_lexer.specs.Comments.{Ends}
-use Rattle.lp_lexer.specs.Front.{comment_len}
+use Rattle.lp_lexer.specs.declared.token.Piece.{Piece}
+use Rattle.lp_lexer.specs.Front.{comment_len, front}
+use Rattle.lp_lexer.specs.Stands.{Stands}
 use Rattle.lp_lexer.specs.Lexis.{Lexes}
 use Rattle.lp_lexer.specs.Lexed.{lexed}
 
@@ -24,3 +26,7 @@ HasReading = (text : List ℕ) → Reads text (lexed text)
 -- a comment ends where the grammar of comments lets it end, and nowhere else
 abbrev pub NestsComments : Type 0
 NestsComments = (n : ℕ) (bytes : List ℕ) → record { ends : Ends n bytes → comment_len 1 bytes ≡ Some n; only : comment_len 1 bytes ≡ Some n → Ends n bytes }
+
+-- at each place the tests in turn find what the forms of tokens say that stands there, and nothing else
+abbrev pub TakesLongest : Type 0
+TakesLongest = (text : List ℕ) (p : Piece) → 0 < length text → record { stands : front text ≡ p → Stands text p; only : Stands text p → front text ≡ p }

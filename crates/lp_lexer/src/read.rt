@@ -64,7 +64,9 @@ fn moved(place: Place, bytes: &[u8]) -> Place
     at
 }
 
-/// The tokens of a text, or its first fault.
+/// The tokens of a text in order, or its first fault. From the left to the right, what is taken at each place is the longest token or the longest gap
+/// there (`tokens_are_longest`); a text has one reading (`one_reading`, `some_reading`). Spans are in bytes from 0; lines and columns count from 1,
+/// columns in bytes. `Memory` may come at any text that has a token.
 pub fn tokens(alloc: Global, text: &[u8]) -> Result<Vec<Token>, LexFault>
     ensures { MatchResult result (λ v. HasTokens text.now v.items) (HasFault text.now) }
 {
