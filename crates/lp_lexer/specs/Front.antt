@@ -1,4 +1,5 @@
--- What stands at the front of the rest of a text.
+-- What stands at the front of the rest of a text, as the tests of the code find it in turn. `Stands` says it by the forms of tokens, and
+-- `tokens_are_longest` that the two agree.
 use Rattle.std.specs.Prelude.{ℕ, ◌<◌, ◌≤◌, suc, ◌+◌, ◌-◌, ◌*◌, ◌^◌, List, [], ◌∷◌, ◌&&◌, nat_eq, nat_lt, take, drop, slice_index, pos, Bool, true, false, Option, Some, None, if◌then◌else◌}
 use Rattle.lp_lexer.specs.declared.class.Class.TheVariants.{Blank, Lower, Upper, Digit, Word, Symbol, Alone, Escaped, Line, Inside}
 use Rattle.lp_lexer.specs.declared.token.TokenKind.TheVariants as kind

@@ -1,4 +1,4 @@
-// Each class of token and each escape with its spans, and each fault with its place.
+// Each class of token and each escape with its spans, each fault with its place, and each byte at each place.
 
 use crate::{LexFault, Token, TokenKind, end_place, tokens};
 use lp_base::Place;
@@ -222,4 +222,69 @@ fn faults_and_places(rt: HostRuntime) {
         refuses(alloc, b"{ \"", LexFault::BadByte(at(1, 1))),
         "the first of two"
     );
+}
+
+// What a byte is by itself.
+fn is_as_listed(alloc: Global, b: u8) -> bool {
+    use TokenKind::{
+        Backslash, Bar, Close, CloseList, Dot, Lower, Number, Open, OpenList, Symbol, Upper,
+    };
+    let text = [b];
+    let kind = match b {
+        9 | 10 | 13 | 32 | 37 => return reads(alloc, &text, &[]),
+        34 => return refuses(alloc, &text, LexFault::OpenText(at(1, 1))),
+        48..=57 => Number((b - 48) as i64),
+        65..=90 | 95 => Upper,
+        97..=122 => Lower,
+        33 | 35 | 36 | 38 | 42..=45 | 47 | 58..=62 | 64 | 94 | 126 => Symbol,
+        40 => Open,
+        41 => Close,
+        91 => OpenList,
+        93 => CloseList,
+        124 => Bar,
+        46 => Dot,
+        92 => Backslash,
+        _ => return refuses(alloc, &text, LexFault::BadByte(at(1, 1))),
+    };
+    reads(alloc, &text, &[(kind, 0, 1)])
+}
+
+// What a byte does in a string, behind a \ in a string, in a comment, and behind a name.
+fn is_as_placed(alloc: Global, b: u8) -> bool {
+    let string = [34, b, 34];
+    let inside = match b {
+        10 | 92 => refuses(alloc, &string, LexFault::OpenText(at(1, 1))),
+        34 => refuses(alloc, &string, LexFault::OpenText(at(1, 3))),
+        9 | 13 | 32..=126 => reads(alloc, &string, &[(TokenKind::Text, 0, 3)]),
+        _ => refuses(alloc, &string, LexFault::BadByte(at(1, 2))),
+    };
+    let escape = [34, 92, b, 34];
+    let escaped = match b {
+        34 | 92 | 110 | 116 => reads(alloc, &escape, &[(TokenKind::Text, 0, 4)]),
+        10 => refuses(alloc, &escape, LexFault::OpenText(at(1, 1))),
+        _ => refuses(alloc, &escape, LexFault::BadByte(at(1, 2))),
+    };
+    let comment = [47, 42, b, 42, 47];
+    let skipped = match b {
+        47 => refuses(alloc, &comment, LexFault::OpenComment(at(1, 1))),
+        _ => reads(alloc, &comment, &[]),
+    };
+    let name = [97, b];
+    let goes_on = match b {
+        39 | 48..=57 | 63 | 65..=90 | 95 | 97..=122 => true,
+        _ => false,
+    };
+    inside
+        && escaped
+        && skipped
+        && reads(alloc, &name, &[(TokenKind::Lower, 0, 2)]) == goes_on
+}
+
+#[test]
+fn every_byte(rt: HostRuntime) {
+    let alloc = rt.alloc();
+    for b in 0..256u32 {
+        assert!(rt; is_as_listed(alloc, b as u8), "by itself");
+        assert!(rt; is_as_placed(alloc, b as u8), "at its place");
+    }
 }
