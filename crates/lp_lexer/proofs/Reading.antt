@@ -24,7 +24,7 @@ taken : (text : List ℕ) (i n : ℕ) (k : _) (r : Result (List Token) LexFault)
 taken text i n k (Ok ts) h e (p, d) = (p, takes i n k ts _ h e d)
 taken text i n k (Err f) h e (ts, d) = (token text i k n ∷ ts, takes i n k ts _ h e d)
 
-within_rest : (text : List ℕ) (i : ℕ) → i < length text → IsWithin (length text - i) (front (drop i text))
+pub within_rest : (text : List ℕ) (i : ℕ) → i < length text → IsWithin (length text - i) (front (drop i text))
 within_rest text i h =
     let P : List ℕ → Type 0 = λ l. IsWithin (length l) (front l) in
     let w : P (drop i text) = subst P (sym (drop-cons text i 0 h)) (front_within (get_or text i 0) (drop (suc i) text)) in

@@ -38,7 +38,7 @@ HasNoToken text = (k : TokenKind) (m : ℕ) → Begins text k m → ⊥
 abbrev pub HasNoGap : List ℕ → Type 0
 HasNoGap text = (m : ℕ) → m ≤ length text → IsGap (take m text) → ⊥
 
--- a number has 63 bits
+-- a number is below 2 ^ 63
 abbrev pub IsBounded : TokenKind → Type 0
 IsBounded k = (v : ℕ) → k ≡ kind.Number (pos v) → v < 2 ^ 63
 

@@ -274,10 +274,7 @@ fn is_as_placed(alloc: Global, b: u8) -> bool {
         39 | 48..=57 | 63 | 65..=90 | 95 | 97..=122 => true,
         _ => false,
     };
-    inside
-        && escaped
-        && skipped
-        && reads(alloc, &name, &[(TokenKind::Lower, 0, 2)]) == goes_on
+    inside && escaped && skipped && reads(alloc, &name, &[(TokenKind::Lower, 0, 2)]) == goes_on
 }
 
 #[test]
