@@ -1,7 +1,7 @@
 #!/usr/bin/env bash
 # Times of the lexer alone on the four texts of texts.sh, and of making one of them without reading it (`fill`).
 # Run it from any folder: bash bench/lexer.sh. It adds the five tests below to a copy of lp_lexer, builds them natively (about a
-# minute), and runs each by itself. Measured on a desktop: tokens 0.03 s, comment 0.01 s, string 0.01 s, brackets 0.09 s, fill 0.00 s.
+# minute), and runs each by itself. Seen on a shared machine of four processors: tokens 0.03 s, comment 0.01 s, string 0.01 s, brackets 0.09 s, fill 0.00 s.
 root=$(cd "$(dirname "$0")/.." && pwd)
 work=$(mktemp -d)
 trap 'rm -rf "$work"' EXIT
