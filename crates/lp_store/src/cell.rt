@@ -57,7 +57,7 @@ pub(crate) struct EnvNode {
     pub(crate) rest: Env,
 }
 
-// The old content of a cell that was bound or overwritten.
+// The old content of a cell that was bound or overwritten, as contracts see it.
 #[derive(Clone, Copy)]
 pub(crate) struct Change {
     pub(crate) at: CellId,

@@ -3,10 +3,16 @@
 
 // Cells, and what they name.
 mod cell;
+// The cells of a store, each in 24 bytes.
+mod cells;
+// A cell as it is kept.
+mod slot;
 // The store, and what its calls promise of readings and marks.
 mod store;
 #[cfg(test)]
 mod tests;
+// What bound and overwritten cells were.
+mod trail;
 
 pub use cell::{Cell, CellId, Env, EnvEntry, Mark, Span, Span as List};
 pub use store::Store;

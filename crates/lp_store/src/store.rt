@@ -9,7 +9,10 @@ ghost use Rattle.lp_store.specs.Reading.{Avoids, AvoidsAll, MayBeTerm, MayBeType
 ghost use Rattle.lp_store.specs.Sound.{Stands, StandsEntry, IsSound};
 ghost use Rattle.lp_store.specs.Change.{changed, with_cell, with_items, with_bytes, with_env, lengths, Extends, IsMark, KeepsMarks, IsNoLater, HasNoLoose, type_for};
 
-use crate::cell::{Cell, CellId, Change, Env, EnvEntry, EnvNode, Mark, Span};
+use crate::cell::{Cell, CellId, Env, EnvEntry, EnvNode, Mark, Span};
+use crate::cells::Cells;
+use crate::slot::slot_of;
+use crate::trail::{Kept, Trail};
 use lp_base::Memory;
 use std::alloc::Global;
 use std::marker::Model;
@@ -17,11 +20,11 @@ use std::marker::Model;
 /// Cells that are bound and overwritten in place. A trail keeps what they were.
 #[derive(Drop)]
 pub struct Store {
-    cells: Vec<Cell>,
+    cells: Cells,
     items: Vec<CellId>,
     bytes: Vec<u8>,
     envs: Vec<EnvNode>,
-    trail: Vec<Change>,
+    trail: Trail,
 }
 
 impl Model for Store {
@@ -29,11 +32,11 @@ impl Model for Store {
 
     ghost Value = { Contents };
 
-    ghost view = { λ s. record { cells = s.cells.items; items = s.items.items; bytes = s.bytes.items; envs = s.envs.items; trail = s.trail.items } };
+    ghost view = { λ s. record { cells = s.cells; items = s.items.items; bytes = s.bytes.items; envs = s.envs.items; trail = s.trail } };
 
     ghost use Rattle.lp_store.specs.Sound.{IsSound};
 
-    ghost invariant = { λ s. IsSound (record { cells = s.cells.items; items = s.items.items; bytes = s.bytes.items; envs = s.envs.items; trail = s.trail.items }) };
+    ghost invariant = { λ s. IsSound (record { cells = s.cells; items = s.items.items; bytes = s.bytes.items; envs = s.envs.items; trail = s.trail }) };
 }
 
 impl Store {
@@ -43,11 +46,11 @@ impl Store {
         ensures sound { IsSound result }
     {
         Store {
-            cells: Vec::new(alloc),
+            cells: Cells::new(alloc),
             items: Vec::new(alloc),
             bytes: Vec::new(alloc),
             envs: Vec::new(alloc),
-            trail: Vec::new(alloc),
+            trail: Trail::new(alloc),
         }
     }
 
@@ -120,7 +123,7 @@ impl Store {
         ensures stands { Stands self.now result }
         ensures sound { IsSound self.now }
     {
-        self.cells[id.0]
+        self.cells.get(id.0)
     }
 
     pub fn items(&self, list: Span) -> &[CellId]
@@ -189,11 +192,11 @@ impl Store {
         ensures sound { IsSound self.new }
     {
         'changes: while self.trail.len() > mark.trail {
-            let Some(change) = self.trail.pop() else {
+            let Some(kept) = self.trail.pop() else {
                 unreachable!()
             };
-            if change.at.0 < self.cells.len() {
-                self.cells[change.at.0] = change.was;
+            if kept.at < self.cells.len() {
+                self.cells.put(kept.at, kept.was);
             }
         }
         self.cells.truncate(mark.cells);
@@ -224,9 +227,13 @@ impl Store {
         ensures marks { KeepsMarks self.old self.new }
         ensures unchanged { OnErr result (self.new ≡ self.old) }
     {
-        let was = self.cells[variable.0];
-        self.trail.push(Change { at: variable, was })?;
-        self.cells[variable.0] = Cell::Ref(to);
+        let was = self.cells.slot(variable.0);
+        let slot = slot_of(Cell::Ref(to))?;
+        self.trail.push(Kept {
+            at: variable.0,
+            was,
+        })?;
+        self.cells.put(variable.0, slot);
         Ok(())
     }
 
@@ -247,9 +254,10 @@ impl Store {
         ensures marks { KeepsMarks self.old self.new }
         ensures unchanged { OnErr result (self.new ≡ self.old) }
     {
-        let was = self.cells[at.0];
-        self.trail.push(Change { at, was })?;
-        self.cells[at.0] = Cell::Ref(to);
+        let was = self.cells.slot(at.0);
+        let slot = slot_of(Cell::Ref(to))?;
+        self.trail.push(Kept { at: at.0, was })?;
+        self.cells.put(at.0, slot);
         Ok(())
     }
 }

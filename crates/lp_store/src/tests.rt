@@ -1,6 +1,7 @@
 ghost use Rattle.std.specs.Prelude.{◌≡◌, ◌<◌, length, IfOk};
 ghost use Rattle.lp_store.specs.Contents.{cell_at};
 
+use crate::slot::Slot;
 use crate::{Cell, CellId, Env, EnvEntry, Store};
 use lp_base::Memory;
 use std::mem::size_of;
@@ -30,8 +31,8 @@ fn undo_takes_back_a_binding(rt: HostRuntime) {
 }
 
 #[test]
-fn a_cell_takes_forty_bytes(rt: HostRuntime) {
-    assert!(rt; size_of::<Cell>() == 40);
+fn a_cell_takes_24_bytes(rt: HostRuntime) {
+    assert!(rt; size_of::<Slot>() == 24);
 }
 
 #[test]
