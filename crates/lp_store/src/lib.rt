@@ -5,6 +5,8 @@
 mod cell;
 // The cells of a store, each in 24 bytes.
 mod cells;
+/// What holds of readings.
+pub mod laws;
 // A cell as it is kept.
 mod slot;
 // The store, and what its calls promise of readings and marks.

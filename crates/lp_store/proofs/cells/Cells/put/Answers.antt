@@ -1,4 +1,4 @@
-use Rattle.std.proofs.Common.{sym, ap, ◌∙◌, set}
+use Rattle.std.proofs.Common.{ap, ◌∙◌, set}
 use Rattle.lp_store.specs.Slots.{cell_of}
 use Rattle.lp_store.proofs.Maps.{map_set}
 use Rattle.lp_store.proofs.cells.Cells.put.Goals as goal
