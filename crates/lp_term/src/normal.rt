@@ -54,7 +54,7 @@ fn open(
 }
 
 // The head on the arguments, in order.
-fn apply_done(bank: &mut Bank, head: TermId, done: &[TermId]) -> Result<TermId, Memory>
+pub(crate) fn apply_done(bank: &mut Bank, head: TermId, done: &[TermId]) -> Result<TermId, Memory>
     requires head { head.0 < length bank.old.terms }
     requires done { All (λ t. t.0 < length bank.old.terms) done.now }
     ensures kept { Extends bank.old bank.new }
@@ -125,7 +125,7 @@ fn step(
 }
 
 // The beta-normal form, in at most `limit` contractions.
-fn contracted(
+pub(crate) fn contracted(
     alloc: Global,
     bank: &mut Bank,
     term: TermId,

@@ -49,7 +49,8 @@ pub(crate) fn unwind(
     }
 }
 
-fn push_reversed(more: &[TermId], args: &mut Vec<TermId>) -> Result<(), Memory>
+// Puts the terms behind the others, the last one first.
+pub(crate) fn push_reversed(more: &[TermId], args: &mut Vec<TermId>) -> Result<(), Memory>
     ensures { OnOk result (args.new.items ≡ args.old.items ++ reverse more.now) }
 {
     let mut left = more.len();
