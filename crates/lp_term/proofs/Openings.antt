@@ -6,9 +6,9 @@ use Rattle.std.proofs.lemmas.List.Elements.{All-push, All-weaker, All-nil, All-h
 use Rattle.lp_calculus.specs.Term.{Term, index, atom, abs, app, apply}
 use Rattle.lp_calculus.specs.Normal.{contracted, eta_normal, nodes}
 use Rattle.lp_term.specs.Nodes.{Nodes, tree, Extends}
-use Rattle.lp_term.specs.Walk.{trees, size}
+use Rattle.lp_term.specs.Walk.{trees, size, sizes}
 use Rattle.lp_term.specs.Frame.{in_order}
-use Rattle.lp_term.specs.Opened.{joined, formed, HasParts, IsOpened, IsWaiting, Awaits, IsForm, IsNext, sizes, work, all_work}
+use Rattle.lp_term.specs.Opened.{joined, formed, HasParts, IsOpened, IsWaiting, Awaits, IsForm, IsNext, work, all_work}
 use Rattle.lp_term.specs.declared.node.TermId.{TermId}
 use Rattle.lp_term.specs.declared.form.Opened.{Opened}
 use Rattle.lp_term.specs.declared.form.Form.{Form}

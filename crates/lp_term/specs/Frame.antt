@@ -1,10 +1,10 @@
 -- Terms that are open on the way to a normal form: an outer one has the next inner one in the place of an argument.
-use Rattle.std.specs.Prelude.{◌≡◌, ℕ, suc, ◌+◌, ◌<◌, ◌≤◌, ◌^◌, List, [], ◌∷◌, ◌++◌, length, map, All, None, Some, IsSome, ◌⊎◌}
+use Rattle.std.specs.Prelude.{◌≡◌, ℕ, suc, ◌+◌, ◌*◌, ◌<◌, ◌≤◌, ◌^◌, List, [], ◌∷◌, ◌++◌, length, map, All, None, Some, IsSome, ◌⊎◌}
 use Rattle.lp_calculus.specs.Term.{Term, index, apply}
 use Rattle.lp_calculus.specs.Convert.{leftmost_step, steps}
 use Rattle.lp_calculus.specs.Normal.{NormalisesTo, IsFormOf, nodes}
 use Rattle.lp_term.specs.Nodes.{Nodes, tree}
-use Rattle.lp_term.specs.Walk.{trees}
+use Rattle.lp_term.specs.Walk.{trees, sizes}
 use Rattle.lp_term.specs.Spine.{LooseBelow, abstractions, IsNoRedexHead}
 use Rattle.lp_term.specs.declared.node.TermId.{TermId}
 use Rattle.lp_term.specs.declared.normal.Frame.{Frame}
@@ -56,3 +56,8 @@ IsBetaForm limit t s = (n : ℕ) × (n ≤ limit) × NormalisesTo n t s
 abbrev pub IsDeepBeta : (contractions most : ℕ) → Term → TermRefusal → Type 0
 IsDeepBeta m n t (Deep k) = ((k ≡ m) × IsSome (steps leftmost_step (suc m) t)) ⊎ ((k ≡ n) × ((s : Term) × IsBetaForm m t s × (n < nodes s)))
 IsDeepBeta m n t Memory = Unit {0}
+
+-- how much is left to be done in open terms without a contraction
+abbrev pub load : Nodes → List Frame → ℕ
+load b [] = 0
+load b (f ∷ fs) = 1 + 2 * sizes b f.left.items + load b fs

@@ -4,7 +4,7 @@ use Rattle.lp_calculus.specs.Term.{Term, index, abs, apply}
 use Rattle.lp_calculus.specs.Convert.{leftmost_step, steps}
 use Rattle.lp_calculus.specs.Normal.{contracted, eta_normal, nodes, IsFormOf}
 use Rattle.lp_term.specs.Nodes.{Nodes, tree}
-use Rattle.lp_term.specs.Walk.{trees, size}
+use Rattle.lp_term.specs.Walk.{trees, sizes}
 use Rattle.lp_term.specs.Frame.{in_order, IsBetaForm}
 use Rattle.lp_term.specs.declared.node.TermId.{TermId}
 use Rattle.lp_term.specs.declared.form.Opened.{Opened}
@@ -53,10 +53,6 @@ pub record IsForm (b : Nodes) (f : Form) : Type 0 where
   pub same : tree b f.made.0 ≡ eta_normal (tree b f.id.0)
 
 -- how much is left to be done
-abbrev pub sizes : Nodes → List TermId → ℕ
-sizes b [] = 0
-sizes b (t ∷ ts) = size (tree b t.0) + sizes b ts
-
 abbrev pub work : Nodes → Opened → ℕ
 work b f = 1 + 2 * sizes b f.left.items
 

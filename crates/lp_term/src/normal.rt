@@ -1,11 +1,12 @@
 //! Leftmost reduction to the beta-normal form. Terms on the way down are open, with the arguments that are normal already and those that are left.
-ghost use Rattle.std.specs.Prelude.{◌≡◌, ℕ, suc, ◌+◌, ◌-◌, ◌<◌, ◌≤◌, ◌^◌, length, List, [], ◌∷◌, ◌++◌, IfOk, OnOk, IfErr, All, None, Some, MatchOption};
+ghost use Rattle.std.specs.Prelude.{◌≡◌, ℕ, suc, ◌+◌, ◌-◌, ◌*◌, ◌<◌, ◌≤◌, ◌^◌, length, List, [], ◌∷◌, ◌++◌, IfOk, OnOk, IfErr, All, None, Some, MatchOption};
 ghost use Rattle.lp_calculus.specs.Term.{Term, apply};
 ghost use Rattle.lp_calculus.specs.Convert.{leftmost_step, steps};
 ghost use Rattle.lp_calculus.specs.Normal.{nodes as nodes_of_term};
 ghost use Rattle.lp_term.specs.Nodes.{Nodes, tree, Extends};
 ghost use Rattle.lp_term.specs.Spine.{LooseBelow};
-ghost use Rattle.lp_term.specs.Frame.{closed, in_order, standing, IsFrame, IsSpent, IsBetaForm, IsDeepBeta};
+ghost use Rattle.lp_term.specs.Walk.{size, sizes};
+ghost use Rattle.lp_term.specs.Frame.{closed, in_order, standing, load, IsFrame, IsSpent, IsBetaForm, IsDeepBeta};
 
 use crate::bank::Bank;
 use crate::node::{TermId, TermNode};
@@ -40,6 +41,7 @@ fn open(
     ensures left { OnOk result (left.new ≤ left.old) }
     ensures frame { IfOk result (IsFrame bank.new) }
     ensures taken { IfOk result (λ f. steps leftmost_step (left.old - left.new) (tree bank.old term.0) ≡ Some (closed bank.new f)) }
+    ensures load { IfOk result (λ f. left.new ≡ left.old → 1 + 2 * sizes bank.new f.left.items < 2 * size (tree bank.old term.0)) }
     ensures refused { IfErr result (IsSpent limit left.old (tree bank.old term.0)) }
 {
     let spine = reduce_spine(alloc, bank, base, term, limit, *left)?;
@@ -98,6 +100,7 @@ fn step(
     ensures taken { IfOk result (λ made. MatchOption made
         (steps leftmost_step (left.old - left.new) (standing bank.old frames.old.items) ≡ Some (standing bank.new frames.new.items))
         (λ id. (steps leftmost_step (left.old - left.new) (standing bank.old frames.old.items) ≡ Some (tree bank.new id.0)) × (leftmost_step (tree bank.new id.0) ≡ None))) }
+    ensures load { IfOk result (λ made. made ≡ None → left.new ≡ left.old → load bank.new frames.new.items < load bank.old frames.old.items) }
     ensures refused { IfErr result (IsSpent limit left.old (standing bank.old frames.old.items)) }
 {
     let Some(mut frame) = frames.pop() else {
@@ -124,6 +127,37 @@ fn step(
     Ok(None)
 }
 
+// Moves up to a contraction, or to the normal form.
+fn go_on(
+    alloc: Global,
+    bank: &mut Bank,
+    frames: &mut Vec<Frame>,
+    limit: u64,
+    left: &mut u64,
+) -> Result<Option<TermId>, TermRefusal>
+    requires some { 0 < length frames.old.items }
+    requires frames { All (IsFrame bank.old) frames.old.items }
+    ensures kept { Extends bank.old bank.new }
+    ensures left { OnOk result (left.new ≤ left.old) }
+    ensures fewer { IfOk result (λ made. made ≡ None → left.new < left.old) }
+    ensures frames { IfOk result (λ made. MatchOption made ((0 < length frames.new.items) × All (IsFrame bank.new) frames.new.items) (λ id. id.0 < length bank.new.terms)) }
+    ensures taken { IfOk result (λ made. MatchOption made
+        (steps leftmost_step (left.old - left.new) (standing bank.old frames.old.items) ≡ Some (standing bank.new frames.new.items))
+        (λ id. (steps leftmost_step (left.old - left.new) (standing bank.old frames.old.items) ≡ Some (tree bank.new id.0)) × (leftmost_step (tree bank.new id.0) ≡ None))) }
+    ensures refused { IfErr result (IsSpent limit left.old (standing bank.old frames.old.items)) }
+{
+    let before = *left;
+    'moves: loop {
+        let made = step(alloc, bank, frames, limit, left)?;
+        if made.is_some() {
+            return Ok(made);
+        }
+        if *left < before {
+            return Ok(None);
+        }
+    }
+}
+
 // The beta-normal form, in at most `limit` contractions.
 pub(crate) fn contracted(
     alloc: Global,
@@ -145,13 +179,11 @@ pub(crate) fn contracted(
     let mut frames = Vec::new(alloc);
     let outermost = open(alloc, bank, 0, term, limit, &mut left)?;
     frames.push(outermost)?;
-    // A natural measure is not at hand: between contractions the open terms shrink, and the count of contractions ends the rest.
-    'moves: for _ in 0..u64::MAX {
-        if let Some(id) = step(alloc, bank, &mut frames, limit, &mut left)? {
+    'contractions: loop {
+        if let Some(id) = go_on(alloc, bank, &mut frames, limit, &mut left)? {
             return Ok(id);
         }
     }
-    Err(TermRefusal::Memory)
 }
 
 /// The beta-normal form. `Deep(contractions)` where leftmost reduction takes more contractions, and `Deep(nodes)` where it does not

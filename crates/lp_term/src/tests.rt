@@ -1,10 +1,10 @@
 ghost use Rattle.std.specs.Prelude.{◌<◌, ◌≤◌, length, IfOk};
 
-use crate::{Bank, TermId, TermNode, TermRefusal, beta_normal, head_reduce};
+use crate::{Bank, TermId, TermNode, TermRefusal, beta_normal, head_reduce, normal_form};
 use lp_base::Memory;
 use std::alloc::Global;
 
-fn app(bank: &mut Bank, f: TermId, x: TermId) -> Result<TermId, Memory>
+pub(crate) fn app(bank: &mut Bank, f: TermId, x: TermId) -> Result<TermId, Memory>
     requires f { f.0 < length bank.old.terms }
     requires x { x.0 < length bank.old.terms }
     ensures more { length bank.old.terms ≤ length bank.new.terms }
@@ -55,7 +55,7 @@ fn endless(bank: &mut Bank) -> Result<TermId, Memory>
 }
 
 // Whether the product's normal form has at most so many nodes.
-fn product_fits(alloc: Global, m: u64, n: u64, most: u64) -> bool {
+pub(crate) fn product_fits(alloc: Global, m: u64, n: u64, most: u64) -> bool {
     let mut bank = Bank::new(alloc);
     let Ok(term) = product(&mut bank, m, n) else {
         return false;
@@ -100,6 +100,116 @@ fn shared_is_counted(alloc: Global) -> bool {
         return false;
     };
     most == 1_048_575 && beta_normal(alloc, &mut bank, term, 0, 1_048_576).is_ok()
+}
+
+// \x1\ .. \xn\ f x1 .. xn
+fn expanded(bank: &mut Bank, n: u64) -> Result<TermId, Memory>
+    ensures within { IfOk result (λ id. id.0 < length bank.new.terms) }
+{
+    let mut term = bank.put_term(TermNode::Eigen(1))?;
+    'arguments: for at in 0..n {
+        let x = bank.put_term(TermNode::Index(n - 1 - at))?;
+        term = app(bank, term, x)?;
+    }
+    'levels: for _ in 0..n {
+        term = bank.put_term(TermNode::Abs(term))?;
+    }
+    Ok(term)
+}
+
+// \x\ \y\ f x y with both arguments in one node, or \x\ f x x
+fn both(bank: &mut Bank, twice: bool) -> Result<TermId, Memory>
+    ensures within { IfOk result (λ id. id.0 < length bank.new.terms) }
+{
+    let f = bank.put_term(TermNode::Eigen(1))?;
+    let x = bank.put_term(TermNode::Index(1))?;
+    let y = bank.put_term(TermNode::Index(0))?;
+    let first = if twice { y } else { x };
+    let args = [first, y];
+    let body = bank.put_term(TermNode::App(f, &args))?;
+    let inner = bank.put_term(TermNode::Abs(body))?;
+    if twice {
+        return Ok(inner);
+    }
+    let outer = bank.put_term(TermNode::Abs(inner))?;
+    Ok(outer)
+}
+
+// \x\ f (\y\ x y)
+fn nested(bank: &mut Bank) -> Result<TermId, Memory>
+    ensures within { IfOk result (λ id. id.0 < length bank.new.terms) }
+{
+    let f = bank.put_term(TermNode::Eigen(1))?;
+    let x = bank.put_term(TermNode::Index(1))?;
+    let y = bank.put_term(TermNode::Index(0))?;
+    let body = app(bank, x, y)?;
+    let inner = bank.put_term(TermNode::Abs(body))?;
+    let whole = app(bank, f, inner)?;
+    let outer = bank.put_term(TermNode::Abs(whole))?;
+    Ok(outer)
+}
+
+// (\g\ \x\ g x) f
+fn applied(bank: &mut Bank) -> Result<TermId, Memory>
+    ensures within { IfOk result (λ id. id.0 < length bank.new.terms) }
+{
+    let f = bank.put_term(TermNode::Eigen(1))?;
+    let g = bank.put_term(TermNode::Index(1))?;
+    let x = bank.put_term(TermNode::Index(0))?;
+    let body = app(bank, g, x)?;
+    let inner = bank.put_term(TermNode::Abs(body))?;
+    let outer = bank.put_term(TermNode::Abs(inner))?;
+    let whole = app(bank, outer, f)?;
+    Ok(whole)
+}
+
+const FORM: u64 = 1_000_000_000;
+
+// What refuses the beta-eta normal form within the limits: the number of the limit, or FORM where there is one.
+fn refused(
+    alloc: Global,
+    bank: &mut Bank,
+    made: Result<TermId, Memory>,
+    contractions: u64,
+    nodes: u64,
+) -> Option<u64>
+    requires { IfOk made (λ id. id.0 < length bank.old.terms) }
+{
+    let Ok(term) = made else {
+        return None;
+    };
+    if !bank.is_known_below(term, 4_294_967_296) {
+        return None;
+    }
+    match normal_form(alloc, bank, term, contractions, nodes) {
+        Ok(_) => Some(FORM),
+        Err(TermRefusal::Deep(most)) => Some(most),
+        Err(TermRefusal::Memory) => None,
+    }
+}
+
+#[test]
+fn eta_gives_its_forms(rt: HostRuntime) {
+    let alloc = rt.alloc();
+    let mut bank = Bank::new(alloc);
+    let none = bank.put_term(TermNode::Eigen(1));
+    assert!(rt; refused(alloc, &mut bank, none, 0, 1) == Some(FORM));
+    let three = expanded(&mut bank, 3);
+    assert!(rt; refused(alloc, &mut bank, three, 0, 1) == Some(FORM));
+    let many = expanded(&mut bank, 300);
+    assert!(rt; refused(alloc, &mut bank, many, 0, 1) == Some(FORM));
+    let two = both(&mut bank, false);
+    assert!(rt; refused(alloc, &mut bank, two, 0, 1) == Some(FORM));
+    let twice = both(&mut bank, true);
+    assert!(rt; refused(alloc, &mut bank, twice, 0, 4) == Some(FORM));
+    let twice = both(&mut bank, true);
+    assert!(rt; refused(alloc, &mut bank, twice, 0, 3) == Some(3));
+    let inner = nested(&mut bank);
+    assert!(rt; refused(alloc, &mut bank, inner, 0, 1) == Some(FORM));
+    let redex = applied(&mut bank);
+    assert!(rt; refused(alloc, &mut bank, redex, 1, 1) == Some(FORM));
+    let redex = applied(&mut bank);
+    assert!(rt; refused(alloc, &mut bank, redex, 0, 7) == Some(0));
 }
 
 #[test]

@@ -4,6 +4,7 @@ use Rattle.lp_term.specs.Nodes.{tree}
 use Rattle.lp_term.specs.Frame.{IsSpent, IsFrame, standing}
 use Rattle.lp_term.proofs.Frames.{frames_stay, frame_stays}
 use Rattle.lp_term.proofs.Moves.{passed_up, with_left, innermost, put_back, taken_frame, taken_argument, done_frame, unmoved, skipped, shut, deeper, went_in, spent_inside}
+use Rattle.lp_term.proofs.Loads.{shut_load, skipped_load, deeper_load}
 use Rattle.lp_term.proofs.normal.step.Goals as goal
 
 pub returns-in_default-pop-clause-frames : goal.returns-in_default-pop-clause-frames
@@ -70,3 +71,22 @@ returns-clause-taken c =
     went_in b c.open.new.bank c.args.frames.now.items c.push-2.new.self.items c.push-3.new.self.items c.in_ok-inner.inner c.in-Some-pop.arg (c.args.left.now - c.open.new.left)
     (deeper b c.args.frames.now.items c.pop.new.self.items c.push-2.new.self.items c.in-Some.frame c.pop-2.new.self c.in-Some-pop.arg c.in-Some.ensures.items q c.in_ok-push-5.ensures.items)
     m.1 c.open.ensures.kept c.in_ok-inner.ensures.taken c.in_ok-push-6.ensures.items
+
+pub returns-in_default-pop-clause-load : goal.returns-in_default-pop-clause-load
+returns-in_default-pop-clause-load c = λ z e.
+    shut_load c.args.bank.now c.close.new.bank c.args.frames.now.items c.pop.new.self.items c.pop-in_default-pop.new.self.items c.push-in_default-pop.new.self.items c.in-Some.frame c.in-Some-pop-2.outer c.push.new.self
+    c.close.ensures.kept c.requires.frames c.in-Some.ensures.items c.in-Some-pop-2.ensures.items c.in_ok-push-2.ensures.items
+
+pub returns-then-is_known_normal-clause-load : goal.returns-then-is_known_normal-clause-load
+returns-then-is_known_normal-clause-load c = λ z e.
+    skipped_load c.args.bank.now c.args.frames.now.items c.pop.new.self.items c.push-then-is_known_normal-2.new.self.items c.in-Some.frame c.pop-2.new.self c.push-then-is_known_normal.new.self c.in-Some-pop.arg
+    c.in-Some.ensures.items c.in-Some-pop.ensures.items c.in_ok-push-4.ensures.items
+
+pub returns-clause-load : goal.returns-clause-load
+returns-clause-load c = λ z e.
+    let b = c.args.bank.now in
+    let i = innermost b c.args.frames.now.items c.pop.new.self.items c.in-Some.frame c.in-Some.ensures.items c.requires.frames in
+    let q = c.in-Some-pop.ensures.items in
+    let m = put_back b c.push-2.new.self.items c.pop.new.self.items (with_left c.in-Some.frame c.pop-2.new.self) c.in_ok-push-5.ensures.items i.0 (taken_frame b c.in-Some.frame c.pop-2.new.self c.in-Some-pop.arg q i.1) in
+    deeper_load b c.open.new.bank c.args.frames.now.items c.pop.new.self.items c.push-2.new.self.items c.push-3.new.self.items c.in-Some.frame c.in_ok-inner.inner c.pop-2.new.self c.in-Some-pop.arg c.open.ensures.kept m.1
+    c.in-Some.ensures.items q c.in_ok-push-5.ensures.items c.in_ok-push-6.ensures.items (c.in_ok-inner.ensures.load e)
