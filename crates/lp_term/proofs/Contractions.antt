@@ -1,15 +1,15 @@
 -- What eta makes of an abstraction over an application.
-use Rattle.std.proofs.Common.{◌≡◌, ℕ, zero, suc, ◌<◌, ◌≤◌, ◌≢◌, List, [], ◌∷◌, ◌++◌, length, map, refl, sym, ap, ◌∙◌, subst as transport, arith, Bool, true, false, if◌then◌else◌, inr, Option, Some, None}
+use Rattle.std.proofs.Common.{◌≡◌, ℕ, zero, suc, ◌<◌, ◌≢◌, List, [], ◌∷◌, ◌++◌, length, map, refl, sym, ap, ◌∙◌, subst as transport, arith, Bool, true, false, if◌then◌else◌, inr, Option, Some, None}
 use Rattle.std.specs.Prelude.{All, IfSome}
 use Rattle.std.proofs.lemmas.List.Elements.{All-nil, All-head, All-tail, All-cons}
 use Rattle.lp_calculus.specs.Term.{Term, index, atom, abs, app, apply, substitute}
 use Rattle.lp_calculus.specs.Normal.{contracted, eta_normal, is_absent, nodes, IsFormOf}
 use Rattle.lp_term.specs.Node.{TermBelow}
-use Rattle.lp_term.specs.Nodes.{Nodes, tree, node_tree, Extends}
+use Rattle.lp_term.specs.Nodes.{Nodes, tree, node_tree}
 use Rattle.lp_term.specs.Walk.{Everywhere}
 use Rattle.lp_term.specs.Raise.{FitsPut}
 use Rattle.lp_term.specs.Frame.{in_order, IsBetaForm}
-use Rattle.lp_term.specs.Opened.{IsFormWithin, IsDeepForm}
+use Rattle.lp_term.specs.Opened.{IsDeepForm}
 use Rattle.lp_term.specs.Shapes.{term_shape}
 use Rattle.lp_term.specs.declared.node.TermId.{TermId}
 use Rattle.lp_term.specs.declared.node.TermNode.{TermNode}

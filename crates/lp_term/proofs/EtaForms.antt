@@ -1,11 +1,11 @@
 -- The eta-normal form of a beta-normal term is its beta-eta normal form, and a term has no other.
-use Rattle.std.proofs.Common.{◌≡◌, ℕ, zero, suc, ◌+◌, ◌-◌, ◌<◌, ◌≤◌, refl, sym, ap, ◌∙◌, subst as transport, arith, Bool, true, false, nat_lt, nat_eq, if◌then◌else◌, Option, Some, None}
+use Rattle.std.proofs.Common.{◌≡◌, ℕ, zero, suc, ◌+◌, ◌-◌, refl, sym, ap, ◌∙◌, subst as transport, arith, Bool, true, false, nat_lt, nat_eq, if◌then◌else◌, Option, Some, None}
 use Rattle.std.specs.Prelude.{not, ◌&&◌}
 use Rattle.std.proofs.lemmas.Bool.Decides.{nat_tests}
 use mathlib.Core.Path.{fun_ext}
 use Rattle.lp_calculus.specs.Term.{Term, index, atom, abs, app, replace, raised, put_for, shift, substitute}
-use Rattle.lp_calculus.specs.Convert.{Anywhere, here, in_abs, in_head, in_argument, BetaEta, by_beta, by_eta, done, then_step, ReducesTo, Converts, leftmost_step, option_term, or_else, steps}
-use Rattle.lp_calculus.specs.Normal.{IsNormal, IsFormOf, NormalisesTo, is_absent, contracted, eta_normal}
+use Rattle.lp_calculus.specs.Convert.{Anywhere, here, in_abs, in_head, in_argument, BetaEta, by_beta, by_eta, done, then_step, ReducesTo, leftmost_step, option_term, or_else, steps}
+use Rattle.lp_calculus.specs.Normal.{IsFormOf, NormalisesTo, is_absent, contracted, eta_normal}
 use Rattle.lp_calculus.proofs.Sigma.{rename, rename-rename}
 use Rattle.lp_calculus.proofs.Plain.{bump, shift-rename}
 use Rattle.lp_calculus.proofs.BetaEta.{many_on, normal_same}

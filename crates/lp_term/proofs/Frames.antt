@@ -1,18 +1,17 @@
 -- A leftmost step of the innermost open term is one of the whole term, and moves without a step leave the whole term as it is.
-use Rattle.std.proofs.Common.{◌≡◌, ℕ, zero, suc, ◌+◌, ◌-◌, ◌<◌, ◌≤◌, ◌^◌, List, [], ◌∷◌, ◌++◌, length, map, refl, sym, ap, ◌∙◌, subst as transport, arith, Option, Some, None}
+use Rattle.std.proofs.Common.{◌≡◌, ℕ, zero, suc, ◌+◌, ◌<◌, ◌^◌, List, [], ◌∷◌, ◌++◌, length, refl, sym, ap, ◌∙◌, subst as transport, arith, Option, Some, None}
 use Rattle.std.specs.Prelude.{All, IsSome}
-use Rattle.std.proofs.lemmas.List.{map-append}
-use Rattle.std.proofs.lemmas.List.Elements.{All-push, All-weaker, All-nil, All-head, All-tail, All-cons}
-use Rattle.lp_calculus.specs.Term.{Term, index, atom, abs, app, apply, substitute}
+use Rattle.std.proofs.lemmas.List.Elements.{All-weaker, All-nil, All-head, All-tail, All-cons}
+use Rattle.lp_calculus.specs.Term.{Term, index, atom, abs, app, apply}
 use Rattle.lp_calculus.specs.Convert.{head_step, leftmost_step, option_term, or_else, steps}
 use Rattle.lp_term.specs.Nodes.{Nodes, tree, Extends}
 use Rattle.lp_term.specs.Walk.{trees}
-use Rattle.lp_term.specs.Spine.{abstractions, IsNoRedexHead, LooseBelow, whole}
+use Rattle.lp_term.specs.Spine.{abstractions, IsNoRedexHead, LooseBelow}
 use Rattle.lp_term.specs.Facts.{IsNoAbstraction}
 use Rattle.lp_term.specs.Frame.{in_order, with_hole, closed, plug, standing, IsFrame}
 use Rattle.lp_term.specs.declared.node.TermId.{TermId}
 use Rattle.lp_term.specs.declared.normal.Frame.{Frame}
-use Rattle.lp_term.proofs.Walks.{trees-push, trees_stay, All-front, All-back}
+use Rattle.lp_term.proofs.Walks.{trees_stay}
 use Rattle.lp_term.proofs.Knowing.{normal_app}
 
 -- head steps are leftmost steps

@@ -1,15 +1,14 @@
 -- What is known of a term follows from what is known of its parts, and stays known as the bank grows.
-use Rattle.std.proofs.Common.{◌≡◌, ℕ, zero, suc, ◌+◌, ◌-◌, ◌<◌, ◌≤◌, List, [], ◌∷◌, ◌++◌, length, map, take, get_or, refl, sym, ap, ◌∙◌, subst as transport, arith, Option, Some, None, true, false, length-append, ◌⊎◌, inl, inr, ◌≢◌, add-one}
+use Rattle.std.proofs.Common.{◌≡◌, ℕ, zero, suc, ◌-◌, ◌<◌, ◌≤◌, List, [], ◌∷◌, ◌++◌, length, map, take, get_or, refl, sym, ap, ◌∙◌, subst as transport, arith, Option, Some, None, length-append, ◌⊎◌, inl, inr, ◌≢◌}
 use Rattle.std.specs.Prelude.{All}
 use Rattle.std.proofs.lemmas.List.Elements.{All-head, All-tail}
 use Rattle.lp_term.specs.declared.node.TermId.{TermId}
 use Rattle.lp_calculus.specs.Term.{Term, index, atom, abs, app, apply}
 use Rattle.lp_calculus.specs.Convert.{leftmost_step, option_term, or_else}
-use Rattle.lp_calculus.specs.Normal.{nodes}
-use Rattle.lp_term.specs.Node.{TypeShape, TermShape, abs_node, app_node, index_node, const_node, int_node, text_node, eigen_node, logic_node, typed_param_node, TermBelow}
+use Rattle.lp_term.specs.Node.{TermShape, abs_node, app_node, index_node, const_node, int_node, text_node, eigen_node, logic_node, typed_param_node, TermBelow}
 use Rattle.lp_term.specs.Nodes.{Nodes, tree, node_tree, Extends}
 use Rattle.lp_term.specs.Spine.{LooseBelow}
-use Rattle.lp_term.specs.Facts.{AreFacts, IsReach, AreNodes, IsNoAbstraction, AreKnown, no_facts}
+use Rattle.lp_term.specs.Facts.{AreFacts, AreNodes, IsNoAbstraction, AreKnown, no_facts}
 use Rattle.lp_term.specs.declared.facts.Facts.{Facts}
 use Rattle.lp_term.specs.declared.node.TypeCell.{TypeCell}
 use Rattle.lp_term.specs.declared.bank.Entry.{Entry}

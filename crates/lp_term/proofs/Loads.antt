@@ -1,5 +1,5 @@
 -- Between contractions the open terms have less and less to be done.
-use Rattle.std.proofs.Common.{◌≡◌, ℕ, zero, suc, ◌+◌, ◌-◌, ◌*◌, ◌<◌, ◌≤◌, List, [], ◌∷◌, ◌++◌, length, map, reverse, refl, sym, ap, ◌∙◌, subst as transport, arith, Some, None, Option, Vec, Global}
+use Rattle.std.proofs.Common.{◌≡◌, ℕ, zero, suc, ◌+◌, ◌-◌, ◌*◌, ◌<◌, ◌≤◌, List, [], ◌∷◌, ◌++◌, length, map, reverse, refl, sym, ap, ◌∙◌, arith, Some, Vec, Global}
 use Rattle.std.specs.Prelude.{All}
 use Rattle.std.proofs.lemmas.List.{reverse-append}
 use Rattle.std.proofs.lemmas.List.Elements.{All-head, All-tail}
@@ -11,7 +11,6 @@ use Rattle.lp_term.specs.Spine.{abstractions, whole}
 use Rattle.lp_term.specs.Frame.{IsFrame, load}
 use Rattle.lp_term.specs.declared.node.TermId.{TermId}
 use Rattle.lp_term.specs.declared.normal.Frame.{Frame}
-use Rattle.lp_term.proofs.Walks.{All-front, All-back}
 use Rattle.lp_term.proofs.Moves.{with_left, with_done, innermost}
 
 pub size_some : (t : Term) → 0 < size t

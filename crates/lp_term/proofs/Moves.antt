@@ -1,13 +1,13 @@
 -- The moves of leftmost reduction: what each leaves of the open terms and of the whole.
-use Rattle.std.proofs.Common.{◌≡◌, ℕ, zero, suc, ◌+◌, ◌-◌, ◌<◌, ◌≤◌, ◌^◌, List, [], ◌∷◌, ◌++◌, length, map, refl, sym, ap, ◌∙◌, subst as transport, arith, Option, Some, None, Vec, Global, Result, Ok, Err}
+use Rattle.std.proofs.Common.{◌≡◌, ℕ, suc, ◌+◌, ◌-◌, ◌<◌, ◌≤◌, ◌^◌, List, [], ◌∷◌, ◌++◌, length, map, refl, sym, ap, ◌∙◌, subst as transport, arith, Some, None, Vec, Global, Result, Ok, Err}
 use Rattle.std.specs.Prelude.{All, IsSome, IfErr}
 use Rattle.std.specs.Result.{IsErrAnd}
 use Rattle.std.proofs.lemmas.List.Elements.{All-push, All-weaker, All-nil, All-head, All-tail, All-cons}
-use Rattle.lp_calculus.specs.Term.{Term, index, atom, abs, app, apply}
+use Rattle.lp_calculus.specs.Term.{Term, app, apply}
 use Rattle.lp_calculus.specs.Convert.{head_step, leftmost_step, steps}
 use Rattle.lp_term.specs.Nodes.{Nodes, tree, Extends}
 use Rattle.lp_term.specs.Walk.{trees}
-use Rattle.lp_term.specs.Spine.{abstractions, IsNoRedexHead, LooseBelow, whole}
+use Rattle.lp_term.specs.Spine.{abstractions, LooseBelow, whole}
 use Rattle.lp_term.specs.Answer.{IsDeepAfter, IsSpine}
 use Rattle.lp_term.specs.Frame.{in_order, with_hole, closed, plug, standing, IsFrame, IsSpent}
 use Rattle.lp_term.specs.declared.node.TermId.{TermId}
@@ -17,7 +17,7 @@ use Rattle.lp_term.specs.declared.reduce.TermRefusal.{TermRefusal}
 use Rattle.lp_term.specs.declared.reduce.TermRefusal.TheVariants.{Deep, Memory}
 use Rattle.lp_term.proofs.Walks.{trees-push, All-front, All-back, All-unreverse}
 use Rattle.lp_term.proofs.Loose.{loose_abstractions, loose_in}
-use Rattle.lp_term.proofs.Frames.{head_steps_leftmost, steps_more, normal_apply, normal_under, firm_no, firm_normal, all_in_order, some_of, plug_steps, plug-append, standing-push, hole_stays, plug_stays, frame_stays, frames_stay}
+use Rattle.lp_term.proofs.Frames.{head_steps_leftmost, steps_more, normal_apply, normal_under, firm_no, firm_normal, all_in_order, some_of, plug_steps, plug-append, standing-push, hole_stays, plug_stays}
 
 -- `?` passes a refusal up as it is
 pub passed_up : {T E : Type 0} (r : Result T E) (e : E) (P : E → Type 0) → IsErrAnd r (λ y. y ≡ e) → P e → IfErr r P

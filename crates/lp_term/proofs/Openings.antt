@@ -1,10 +1,10 @@
 -- The moves on the way to an eta-normal form.
-use Rattle.std.proofs.Common.{◌≡◌, ℕ, zero, suc, ◌+◌, ◌*◌, ◌<◌, ◌≤◌, ◌≢◌, List, [], ◌∷◌, ◌++◌, length, map, reverse, refl, sym, ap, ◌∙◌, subst as transport, arith, Bool, true, false, Vec, Global, length-append}
+use Rattle.std.proofs.Common.{◌≡◌, ℕ, ◌+◌, ◌*◌, ◌<◌, ◌≤◌, ◌≢◌, List, [], ◌∷◌, ◌++◌, length, map, reverse, refl, sym, ap, ◌∙◌, subst as transport, arith, Bool, true, false, Vec, Global, length-append}
 use Rattle.std.specs.Prelude.{All}
 use Rattle.std.proofs.lemmas.List.{reverse-append}
 use Rattle.std.proofs.lemmas.List.Elements.{All-push, All-weaker, All-nil, All-head, All-tail, All-cons}
 use Rattle.lp_calculus.specs.Term.{Term, index, atom, abs, app, apply}
-use Rattle.lp_calculus.specs.Normal.{contracted, eta_normal, nodes}
+use Rattle.lp_calculus.specs.Normal.{eta_normal, nodes}
 use Rattle.lp_term.specs.Nodes.{Nodes, tree, Extends}
 use Rattle.lp_term.specs.Walk.{trees, size, sizes}
 use Rattle.lp_term.specs.Frame.{in_order}
@@ -56,10 +56,10 @@ sizes_apply b h (t ∷ ts) = omega (arith, sizes_apply b (app h (tree b t.0)) ts
 abbrev pub an_opened : TermId → Bool → Bool → Vec TermId Global → Vec TermId Global → Opened
 an_opened id a c d l = record { id = id; abstraction = a; changed = c; done = d; left = l }
 
-one : {X : Type 0} (P : X → Type 0) (xs : List X) (x : X) → xs ≡ x ∷ [] → P x → All P xs
+pub one : {X : Type 0} (P : X → Type 0) (xs : List X) (x : X) → xs ≡ x ∷ [] → P x → All P xs
 one P xs x q h = transport (All P) (sym q) (All-cons P x [] h (All-nil P))
 
-none : {X : Type 0} (P : X → Type 0) (xs : List X) → xs ≡ [] → All P xs
+pub none : {X : Type 0} (P : X → Type 0) (xs : List X) → xs ≡ [] → All P xs
 none P xs q = transport (All P) (sym q) (All-nil P)
 
 pub opened_abs : (b : Nodes) (id body : TermId) (done left : Vec TermId Global) → done.items ≡ [] → left.items ≡ body ∷ [] → id.0 < length b.terms → abs (tree b body.0) ≡ tree b id.0 → body.0 < id.0 →
@@ -76,7 +76,7 @@ opened_abs b id body done left d l i e k = (
   omega (arith, ap (sizes b) l, ap size e),
 )
 
-trees_args : (b : Nodes) (head : TermId) (args : List TermId) → trees b (reverse args ++ head ∷ []) ≡ tree b head.0 ∷ in_order b args
+pub trees_args : (b : Nodes) (head : TermId) (args : List TermId) → trees b (reverse args ++ head ∷ []) ≡ tree b head.0 ∷ in_order b args
 trees_args b head args = trees-push b (reverse args) head ∙ ap (λ l. tree b head.0 ∷ l) (trees-append b [] args ∙ nil (in_order b args))
   where
     nil : (xs : List Term) → xs ++ [] ≡ xs
@@ -87,14 +87,14 @@ unmapped : (n : ℕ) (ids : List TermId) → All (λ i. i < n) (map (λ t. t.0) 
 unmapped n [] a = All-nil (λ t. t.0 < n)
 unmapped n (i ∷ ids) a = All-cons (λ t. t.0 < n) i ids (All-head (λ j. j < n) i.0 (map (λ t. t.0) ids) a) (unmapped n ids (All-tail (λ j. j < n) i.0 (map (λ t. t.0) ids) a))
 
-all_reverse : {X : Type 0} (P : X → Type 0) (xs : List X) → All P xs → All P (reverse xs)
+pub all_reverse : {X : Type 0} (P : X → Type 0) (xs : List X) → All P xs → All P (reverse xs)
 all_reverse P [] a = a
 all_reverse P (x ∷ xs) a = rw (reverse-append (x ∷ []) xs) (All-push P (reverse xs) x (all_reverse P xs (All-tail P x xs a)) (All-head P x xs a))
 
 pub both_pushed : (none args reversed left : List TermId) (head : TermId) → none ≡ [] → reversed ≡ none ++ reverse args → left ≡ reversed ++ head ∷ [] → left ≡ reverse args ++ head ∷ []
 both_pushed none args reversed left head e q r = r ∙ ap (λ l. l ++ head ∷ []) (q ∙ ap (λ l. l ++ reverse args) e)
 
-some : (ids : List TermId) → map (λ t. t.0) ids ≢ [] → 0 < length ids
+pub some : (ids : List TermId) → map (λ t. t.0) ids ≢ [] → 0 < length ids
 some [] n = absurd (n refl)
 some (t ∷ ts) n = omega arith
 
@@ -132,7 +132,7 @@ opened_leaf b id done left d l i e = (
 )
 
 -- a part has its form
-in_order_push : (b : Nodes) (ds : List TermId) (t : TermId) (k : List Term) → in_order b (ds ++ t ∷ []) ++ k ≡ in_order b ds ++ tree b t.0 ∷ k
+pub in_order_push : (b : Nodes) (ds : List TermId) (t : TermId) (k : List Term) → in_order b (ds ++ t ∷ []) ++ k ≡ in_order b ds ++ tree b t.0 ∷ k
 in_order_push b [] t k = refl
 in_order_push b (d ∷ ds) t k = ap (λ l. tree b d.0 ∷ l) (in_order_push b ds t k)
 

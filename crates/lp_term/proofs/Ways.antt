@@ -1,5 +1,5 @@
 -- What becomes of a place follows from what becomes of its parts, and stays as the bank grows.
-use Rattle.std.proofs.Common.{◌≡◌, ℕ, zero, suc, ◌+◌, ◌-◌, ◌<◌, ◌≤◌, ◌^◌, ◌≢◌, List, [], ◌∷◌, ◌++◌, length, map, take, get_or, refl, sym, ap, ◌∙◌, subst as transport, arith, Bool, true, false, nat_lt, nat_eq, if◌then◌else◌, add-one}
+use Rattle.std.proofs.Common.{◌≡◌, ℕ, suc, ◌+◌, ◌-◌, ◌<◌, ◌^◌, List, [], ◌∷◌, ◌++◌, length, map, refl, sym, ap, ◌∙◌, subst as transport, arith, true, false, nat_lt, nat_eq, if◌then◌else◌, add-one}
 use Rattle.std.specs.Prelude.{All}
 use Rattle.std.specs.List.{IsAmong}
 use Rattle.std.specs.List.Sorted.{IsPermutation}
@@ -9,10 +9,9 @@ use Rattle.std.specs.Prelude.{Option, Some, None, MatchOption}
 use Rattle.std.proofs.lemmas.Bool.Decides.{nat_tests}
 use Rattle.std.proofs.lemmas.Map.Views.{All-map-IsPermutation}
 use Rattle.std.specs.Prelude.{IfSome}
-use Rattle.std.proofs.lemmas.List.Elements.{All-push, All-weaker, All-nil, All-head, All-tail, All-cons, All-map}
+use Rattle.std.proofs.lemmas.List.Elements.{All-weaker, All-nil, All-head, All-tail, All-cons}
 use Rattle.lp_calculus.specs.Term.{Term, index, atom, abs, app, apply, replace, raised, put_for, shift}
 use Rattle.lp_calculus.proofs.Plain.{shift-none}
-use Rattle.lp_term.specs.Node.{app_node, TermBelow}
 use Rattle.lp_term.specs.Nodes.{Nodes, tree, Extends}
 use Rattle.lp_term.specs.Walk.{Everywhere}
 use Rattle.lp_term.specs.Raise.{FitsRaised, FitsPut}
@@ -24,7 +23,6 @@ use Rattle.lp_term.specs.declared.change.Change.{Change}
 use Rattle.lp_term.specs.declared.change.Change.TheVariants.{Raise, Put}
 use Rattle.lp_term.specs.declared.change.Place.{Place}
 use Rattle.lp_term.specs.declared.change.Known.{Known}
-use Rattle.lp_term.proofs.Walks.{map_map, no_nil}
 
 -- more nodes change nothing
 change_stays : (b e : Nodes) → Extends b e → (c : Change) (d : ℕ) (t : Term) → IsChange b c d t → IsChange e c d t
@@ -51,9 +49,6 @@ known_stays b e x k i = record {
   made = omega (arith, i.made, x.more_terms);
   same = x.same_terms k.made.0 i.made ∙ i.same ∙ sym (value_stays b e x k.place i.place);
 }
-
-pub places_stay : (b e : Nodes) → Extends b e → (ps : List Place) → All (IsPlace b) ps → All (IsPlace e) ps
-places_stay b e x ps a = All-weaker (IsPlace b) (IsPlace e) (λ p i. place_stays b e x p i) ps a
 
 pub all_known_stay : (b e : Nodes) → Extends b e → (ks : List Known) → All (IsKnown b) ks → All (IsKnown e) ks
 all_known_stay b e x ks a = All-weaker (IsKnown b) (IsKnown e) (λ k i. known_stays b e x k i) ks a
@@ -149,21 +144,6 @@ pub value_parts : (b : Nodes) (p : Place) (head : TermId) (args : List TermId) �
     apply (value b (record { id = head; depth = p.depth; change = p.change })) (map (replace (changed b p.change) p.depth) (in_order b args)) ≡ value b p
 value_parts b p head args e = sym (replace-apply (changed b p.change) p.depth (tree b head.0) (in_order b args)) ∙ ap (replace (changed b p.change) p.depth) (sym e)
 
-length_order : (b : Nodes) (ids : List TermId) → length (in_order b ids) ≡ length ids
-length_order b [] = refl
-length_order b (t ∷ ts) = ap suc (length_order b ts)
-
-length_map : {X Y : Type 0} (f : X → Y) (xs : List X) → length (map f xs) ≡ length xs
-length_map f [] = refl
-length_map f (x ∷ xs) = ap suc (length_map f xs)
-
--- what was made of the parts can be put together
-pub parts_fit : (b e : Nodes) (n : ℕ) (f : Term → Term) (top : TermId) (made args : List TermId) → in_order e made ≡ map f (in_order b args) → 0 < length args → top.0 < length e.terms → All (λ t. t.0 < length e.terms) made →
-    TermBelow n (length e.terms) (app_node top.0 (map (λ t. t.0) made))
-parts_fit b e n f top made args q l h a =
-    let some : 0 < length made = omega (arith, ap length q, length_order e made, length_map f (in_order b args), length_order b args) in
-    (h, All-map (λ i. i < length e.terms) (λ t. t.0) made a, no_nil (λ t. t.0) made some)
-
 pub in_order_stay : (b e : Nodes) (ids : List TermId) → Extends b e → All (λ t. t.0 < length b.terms) ids → in_order e ids ≡ in_order b ids
 in_order_stay b e [] x a = refl
 in_order_stay b e (t ∷ ts) x a = λ j. x.same_terms t.0 (a 0 t (omega arith)) j ∷ in_order_stay b e ts x (All-tail (λ t. t.0 < length b.terms) t ts a) j
@@ -171,13 +151,6 @@ in_order_stay b e (t ∷ ts) x a = λ j. x.same_terms t.0 (a 0 t (omega arith)) 
 pub in_order_last : (b : Nodes) (ids : List TermId) (t : TermId) → in_order b (ids ++ t ∷ []) ≡ in_order b ids ++ tree b t.0 ∷ []
 in_order_last b [] t = refl
 in_order_last b (x ∷ xs) t = ap (λ l. tree b x.0 ∷ l) (in_order_last b xs t)
-
--- the first parts, and one more
-pub parts_next : (b : Nodes) (f : Term → Term) (ids : List TermId) (k m : ℕ) (d : TermId) → m ≡ suc k → k < length ids →
-    map f (in_order b (take m ids)) ≡ map f (in_order b (take k ids)) ++ f (tree b (get_or ids k d).0) ∷ []
-parts_next b f [] k m d e l = absurd (omega arith)
-parts_next b f (x ∷ xs) zero m d e l = ap (λ n. map f (in_order b (take n (x ∷ xs)))) e
-parts_next b f (x ∷ xs) (suc k) m d e l = ap (λ n. map f (in_order b (take n (x ∷ xs)))) e ∙ ap (λ y. f (tree b x.0) ∷ y) (parts_next b f xs k (suc k) d refl (omega arith))
 
 -- one more entry of a map, whatever tells its keys apart
 pub one_more : {K X S : Type 0} (P : X → Type 0) (m n : HashMap K X S) (k : K) (v : X) (old : Option X) (es : List (K × X)) → MatchOption old (IsPermutation ((k, v) ∷ m.entries) n.entries) (λ _. n.entries ≡ es) →
@@ -190,22 +163,6 @@ pub recalled : (b : Nodes) (ks : List Known) → All (IsKnown b) ks → (p : Pla
 recalled b ks a p None h = tt
 recalled b ks a p (Some made) h = let k = among (IsKnown b) ks (record { place = p; made = made }) a h in (k.made, k.same)
 
-ids_below : (b : Nodes) (c : Change) (d : ℕ) (ids : List TermId) → ArePlaces b c d ids → All (λ t. t.0 < length b.terms) ids
-ids_below b c d ids a = All-weaker (λ t. IsPlace b (record { id = t; depth = d; change = c })) (λ t. t.0 < length b.terms) (λ t i. i.id) ids a
-
 -- what a place becomes is kept in a bank that has grown
 pub keeps : (b e : Nodes) → Extends b e → (p : Place) (made : TermId) → IsPlace b p → made.0 < length e.terms → tree e made.0 ≡ value b p → IsKnown e (record { place = p; made = made })
 keeps b e x p made i l q = record { place = place_stays b e x p i; made = l; same = q ∙ sym (value_stays b e x p i) }
-
--- an abstraction that is made
-pub made_below : (b n : Nodes) (p : Place) (body below : TermId) (t : Term) → t ≡ abs (tree n below.0) → tree n below.0 ≡ value b (record { id = body; depth = p.depth + 1; change = p.change }) → tree b p.id.0 ≡ abs (tree b body.0) → t ≡ value b p
-made_below b n p body below t q h e = q ∙ ap abs h ∙ value_below b p body e
-
--- an application that is made: the head in a first bank, the arguments in a second
-pub made_beside : (b n m : Nodes) → Extends b n → Extends n m → (p : Place) (head top : TermId) (args made : List TermId) (t : Term) → IsPlace b p → ArePlaces b p.change p.depth args →
-    tree b p.id.0 ≡ apply (tree b head.0) (in_order b args) → top.0 < length n.terms → tree n top.0 ≡ value b (record { id = head; depth = p.depth; change = p.change }) →
-    in_order m made ≡ map (replace (changed n p.change) p.depth) (in_order n args) → t ≡ apply (tree m top.0) (in_order m made) → t ≡ value b p
-made_beside b n m x y p head top args made t i a e l h k q =
-    q ∙ (λ j. apply ((y.same_terms top.0 l ∙ h) j) (k j)) ∙
-    (λ j. apply (value b (record { id = head; depth = p.depth; change = p.change })) (map (replace (changed_stays b n x p.change p.depth (tree b p.id.0) i.change j) p.depth) (in_order_stay b n args x (ids_below b p.change p.depth args a) j))) ∙
-    value_parts b p head args e

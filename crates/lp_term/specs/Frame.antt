@@ -1,8 +1,8 @@
 -- Terms that are open on the way to a normal form: an outer one has the next inner one in the place of an argument.
-use Rattle.std.specs.Prelude.{◌≡◌, ℕ, suc, ◌+◌, ◌*◌, ◌<◌, ◌≤◌, ◌^◌, List, [], ◌∷◌, ◌++◌, length, map, All, None, Some, IsSome, ◌⊎◌}
+use Rattle.std.specs.Prelude.{◌≡◌, ℕ, suc, ◌+◌, ◌*◌, ◌<◌, ◌≤◌, ◌^◌, List, [], ◌∷◌, ◌++◌, length, map, All, None, IsSome, ◌⊎◌}
 use Rattle.lp_calculus.specs.Term.{Term, index, apply}
 use Rattle.lp_calculus.specs.Convert.{leftmost_step, steps}
-use Rattle.lp_calculus.specs.Normal.{NormalisesTo, IsFormOf, nodes}
+use Rattle.lp_calculus.specs.Normal.{NormalisesTo, nodes}
 use Rattle.lp_term.specs.Nodes.{Nodes, tree}
 use Rattle.lp_term.specs.Walk.{trees, sizes}
 use Rattle.lp_term.specs.Spine.{LooseBelow, abstractions, IsNoRedexHead}

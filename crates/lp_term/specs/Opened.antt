@@ -1,5 +1,5 @@
 -- Terms that are open on the way to the eta-normal form: each waits for the form of one of its parts.
-use Rattle.std.specs.Prelude.{◌≡◌, ℕ, suc, ◌+◌, ◌*◌, ◌<◌, List, [], ◌∷◌, ◌++◌, length, map, All, Bool, true, false, Some, None, ◌⊎◌, IsSome}
+use Rattle.std.specs.Prelude.{◌≡◌, ℕ, suc, ◌+◌, ◌*◌, ◌<◌, List, [], ◌∷◌, ◌++◌, length, map, All, Bool, true, false, ◌⊎◌, IsSome}
 use Rattle.lp_calculus.specs.Term.{Term, index, abs, apply}
 use Rattle.lp_calculus.specs.Convert.{leftmost_step, steps}
 use Rattle.lp_calculus.specs.Normal.{contracted, eta_normal, nodes, IsFormOf}

@@ -1,8 +1,7 @@
 -- What a bank shows of its lists, and what it knows beside that.
-use Rattle.std.specs.Prelude.{List, map, ◌≡◌, ℕ, ◌<◌, length, get_or, Some, true}
-use Rattle.lp_term.specs.Nodes.{Nodes, tree}
+use Rattle.std.specs.Prelude.{List, map}
+use Rattle.lp_term.specs.Nodes.{Nodes}
 use Rattle.lp_term.specs.Shapes.{type_cell_shape, term_cell_shape}
-use Rattle.lp_term.specs.Facts.{AreFacts}
 use Rattle.lp_term.specs.declared.node.TypeCell.{TypeCell}
 use Rattle.lp_term.specs.declared.bank.Entry.{Entry}
 use Rattle.lp_term.specs.declared.facts.Facts.{Facts}

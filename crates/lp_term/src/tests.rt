@@ -54,8 +54,8 @@ fn endless(bank: &mut Bank) -> Result<TermId, Memory>
     Ok(whole)
 }
 
-// Whether the product's normal form has at most so many nodes.
-pub(crate) fn product_fits(alloc: Global, m: u64, n: u64, most: u64) -> bool {
+// Whether the product has a normal form of at most so many nodes in so many contractions.
+pub(crate) fn product_fits(alloc: Global, m: u64, n: u64, contractions: u64, most: u64) -> bool {
     let mut bank = Bank::new(alloc);
     let Ok(term) = product(&mut bank, m, n) else {
         return false;
@@ -63,7 +63,7 @@ pub(crate) fn product_fits(alloc: Global, m: u64, n: u64, most: u64) -> bool {
     if !bank.is_known_below(term, 4_294_967_296) {
         return false;
     }
-    beta_normal(alloc, &mut bank, term, 100_000, most).is_ok()
+    beta_normal(alloc, &mut bank, term, contractions, most).is_ok()
 }
 
 // Whether both reductions give up at the limit on a term without normal form.
@@ -216,9 +216,11 @@ fn eta_gives_its_forms(rt: HostRuntime) {
 fn reductions_give_their_forms(rt: HostRuntime) {
     let alloc = rt.alloc();
     // 2 * 3 is 6, which has two abstractions, six uses of f, and x.
-    assert!(rt; product_fits(alloc, 2, 3, 9));
-    assert!(rt; !product_fits(alloc, 2, 3, 8));
-    assert!(rt; product_fits(alloc, 40, 40, 1603));
+    assert!(rt; product_fits(alloc, 2, 3, 5, 9));
+    assert!(rt; !product_fits(alloc, 2, 3, 5, 8));
+    // One contraction for the outer numeral, and two for each of its uses of the inner one.
+    assert!(rt; product_fits(alloc, 40, 40, 81, 1603));
+    assert!(rt; !product_fits(alloc, 40, 40, 80, 1603));
     assert!(rt; endless_is_deep(alloc, 0));
     assert!(rt; endless_is_deep(alloc, 1));
     assert!(rt; endless_is_deep(alloc, 1000));

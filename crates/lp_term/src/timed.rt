@@ -59,9 +59,9 @@ fn deep_is_its_form(alloc: Global, n: u64) -> bool {
 }
 
 #[test]
-fn nothing(rt: HostRuntime) {
+fn a_product_of_1_and_1(rt: HostRuntime) {
     let alloc = rt.alloc();
-    assert!(rt; product_fits(alloc, 1, 1, 3));
+    assert!(rt; product_fits(alloc, 1, 1, 3, 4));
 }
 
 // 81 contractions each
@@ -69,7 +69,7 @@ fn nothing(rt: HostRuntime) {
 fn a_hundred_products_of_40_and_40(rt: HostRuntime) {
     let alloc = rt.alloc();
     for _ in 0..100 {
-        assert!(rt; product_fits(alloc, 40, 40, 1603));
+        assert!(rt; product_fits(alloc, 40, 40, 81, 1603));
     }
 }
 

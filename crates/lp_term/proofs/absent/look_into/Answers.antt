@@ -1,5 +1,3 @@
-use Rattle.lp_term.specs.Absent.{places}
-use Rattle.lp_term.specs.Nodes.{tree}
 use Rattle.lp_term.proofs.Absences.{node_parts}
 use Rattle.lp_term.proofs.absent.look_into.Goals as goal
 

@@ -1,5 +1,4 @@
-use Rattle.std.proofs.Common.{arith, subst as transport, sym, max, ◌∙◌}
-use Rattle.lp_term.specs.Spine.{LooseBelow}
+use Rattle.std.proofs.Common.{arith, subst as transport}
 use Rattle.lp_term.specs.Facts.{IsReach}
 use Rattle.lp_term.proofs.Knowing.{loose_more}
 use Rattle.lp_term.proofs.facts.higher.Goals as goal

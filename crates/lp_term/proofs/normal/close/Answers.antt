@@ -1,9 +1,9 @@
-use Rattle.std.proofs.Common.{◌≡◌, ◌∙◌, ap}
+use Rattle.std.proofs.Common.{◌∙◌, ap}
 use Rattle.lp_calculus.specs.Term.{apply}
 use Rattle.lp_calculus.specs.Convert.{leftmost_step}
 use Rattle.lp_term.specs.Nodes.{tree}
 use Rattle.lp_term.specs.Spine.{abstractions}
-use Rattle.lp_term.specs.Frame.{in_order, closed}
+use Rattle.lp_term.specs.Frame.{in_order}
 use Rattle.lp_term.proofs.Moves.{closed_done, closed_normal}
 use Rattle.lp_term.proofs.normal.close.Goals as goal
 

@@ -1,7 +1,5 @@
 use Rattle.std.proofs.Common.{◌-◌, arith}
-use Rattle.std.specs.Prelude.{All}
-use Rattle.lp_term.specs.Nodes.{tree}
-use Rattle.lp_term.specs.Frame.{IsSpent, IsFrame, standing}
+use Rattle.lp_term.specs.Frame.{IsSpent, standing}
 use Rattle.lp_term.proofs.Frames.{frames_stay, frame_stays}
 use Rattle.lp_term.proofs.Moves.{passed_up, with_left, innermost, put_back, taken_frame, taken_argument, done_frame, unmoved, skipped, shut, deeper, went_in, spent_inside}
 use Rattle.lp_term.proofs.Loads.{shut_load, skipped_load, deeper_load}

@@ -3,7 +3,7 @@ use Rattle.lp_calculus.specs.Convert.{head_step, steps}
 use Rattle.lp_term.specs.Nodes.{tree}
 use Rattle.lp_term.proofs.Trees.{extends-trans}
 use Rattle.lp_term.specs.Spine.{whole, LooseBelow}
-use Rattle.lp_term.proofs.Contract.{deep, redex_fits, still_loose, one_more_step, rest_within, reduced}
+use Rattle.lp_term.proofs.Contract.{deep, redex_fits, still_loose, one_more_step, rest_within}
 use Rattle.lp_term.proofs.reduce.reduce_spine.Goals as goal
 
 pub returns-then-left-eq0-clause-refused : goal.returns-then-left-eq0-clause-refused

@@ -1,4 +1,4 @@
-use Rattle.std.proofs.Common.{◌≡◌, sym, ap, subst as transport, arith, map, add-one}
+use Rattle.std.proofs.Common.{sym, subst as transport, arith, map, add-one}
 use Rattle.lp_calculus.specs.Term.{apply}
 use Rattle.lp_term.specs.Nodes.{tree}
 use Rattle.lp_term.specs.Facts.{AreFacts, IsNoAbstraction}

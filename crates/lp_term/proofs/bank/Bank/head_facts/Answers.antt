@@ -1,4 +1,4 @@
-use Rattle.std.proofs.Common.{◌≡◌, subst as transport, sym, ap, ◌∙◌, map, refl}
+use Rattle.std.proofs.Common.{◌≡◌, subst as transport, refl}
 use Rattle.lp_term.specs.Shapes.{term_shape}
 use Rattle.lp_term.specs.Node.{abs_node}
 use Rattle.lp_term.specs.Facts.{IsNoAbstraction}

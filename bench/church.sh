@@ -1,0 +1,36 @@
+#!/usr/bin/env bash
+# Times of reductions in the bank, by the rows of crates/lp_term/src/timed.rt, which `rt test` builds:
+#   - a hundred products of two Church numerals of 40, normalised: 81 contractions each, and the contractions a second;
+#   - head reduction of a spine of 100,000 and of 1,000,000 arguments, one contraction each: ten times the time, so it is linear;
+#   - a million abstractions, of which the beta-eta normal form is the term itself.
+# Run it from any folder: bash bench/church.sh. Each is the best of five runs, less the time of a run that does nothing.
+root=$(cd "$(dirname "$0")/.." && pwd)
+tests="$root/crates/lp_term/out/lp_term_tests"
+[ -x "$tests" ] || ( cd "$root/crates/lp_term" && rt test ) || exit 1
+
+# the best of five runs, in microseconds
+best() {
+    local least=
+    for _ in 1 2 3 4 5; do
+        local start end
+        start=$(date +%s%N)
+        "$tests" "timed::$1" > /dev/null || exit 1
+        end=$(date +%s%N)
+        local took=$(((end - start) / 1000))
+        [ -z "$least" ] || [ "$took" -lt "$least" ] && least=$took
+    done
+    echo "$least"
+}
+
+nothing=$(best a_product_of_1_and_1) || exit 1
+for row in 'a_hundred_products_of_40_and_40 8100' 'a_spine_of_100000 100000' 'a_spine_of_1000000 1000000' 'a_million_abstractions 0'; do
+    set -- $row
+    took=$(best "$1") || exit 1
+    took=$((took - nothing))
+    [ "$took" -gt 0 ] || took=1
+    awk -v name="$1" -v took="$took" -v steps="$2" 'BEGIN {
+        printf "%s: %.3f s", name, took / 1000000
+        if (steps > 0) printf ", %d contractions a second", steps * 1000000 / took
+        printf "\n"
+    }'
+done
