@@ -1,8 +1,8 @@
 #!/usr/bin/env bash
 # Times of reductions in the bank, by the rows of crates/lp_term/src/timed.rt, which `rt test` builds:
-#   - a hundred products of two Church numerals of 40, normalised: 81 contractions each, and the contractions a second;
-#   - head reduction of a spine of 100,000 and of 1,000,000 arguments, one contraction each: ten times the time, so it is linear;
-#   - a million abstractions, of which the beta-eta normal form is the term itself.
+#   - twenty products of two Church numerals of 40, normalised: 81 contractions each, and the contractions a second;
+#   - head reduction of a spine of 10,000 and of 100,000 arguments, one contraction each: ten times the time, so it is linear;
+#   - 100,000 abstractions, of which the beta-eta normal form is the term itself.
 # Run it from any folder: bash bench/church.sh. Each is the best of five runs, less the time of a run that does nothing.
 root=$(cd "$(dirname "$0")/.." && pwd)
 tests="$root/crates/lp_term/out/lp_term_tests"
@@ -23,7 +23,7 @@ best() {
 }
 
 nothing=$(best a_product_of_1_and_1) || exit 1
-for row in 'a_hundred_products_of_40_and_40 8100' 'a_spine_of_100000 100000' 'a_spine_of_1000000 1000000' 'a_million_abstractions 0'; do
+for row in 'twenty_products_of_40_and_40 1620' 'a_spine_of_10000 10000' 'a_spine_of_100000 100000' 'abstractions_100000 0'; do
     set -- $row
     took=$(best "$1") || exit 1
     took=$((took - nothing))

@@ -1,6 +1,9 @@
 ghost use Rattle.std.specs.Prelude.{◌<◌, ◌≤◌, length, IfOk};
 
-use crate::{Bank, TermId, TermNode, TermRefusal, beta_normal, head_reduce, normal_form};
+use crate::{
+    Bank, TermId, TermNode, TermRefusal, TypeNode, beta_normal, head_reduce, normal_form, shift,
+    substitute,
+};
 use lp_base::Memory;
 use std::alloc::Global;
 
@@ -81,18 +84,27 @@ fn endless_is_deep(alloc: Global, limit: u64) -> bool {
     head == limit
 }
 
-// Whether the bank counts a term of 2^20 shared leaves, and shifts it, without going through each.
+// A term of 2^20 shared leaves.
+fn doubled(bank: &mut Bank, leaf: TermId) -> Result<TermId, Memory>
+    requires leaf { leaf.0 < length bank.old.terms }
+    ensures within { IfOk result (λ id. id.0 < length bank.new.terms) }
+{
+    let mut term = leaf;
+    'doublings: for _ in 0..20 {
+        term = app(bank, term, term)?;
+    }
+    Ok(term)
+}
+
+// Whether the bank counts a term of 2^20 shared leaves without going through each.
 fn shared_is_counted(alloc: Global) -> bool {
     let mut bank = Bank::new(alloc);
-    let Ok(mut term) = bank.put_term(TermNode::Eigen(1)) else {
+    let Ok(leaf) = bank.put_term(TermNode::Eigen(1)) else {
         return false;
     };
-    'doublings: for _ in 0..20 {
-        let Ok(next) = app(&mut bank, term, term) else {
-            return false;
-        };
-        term = next;
-    }
+    let Ok(term) = doubled(&mut bank, leaf) else {
+        return false;
+    };
     if !bank.is_known_below(term, 4_294_967_296) {
         return false;
     }
@@ -104,6 +116,7 @@ fn shared_is_counted(alloc: Global) -> bool {
 
 // \x1\ .. \xn\ f x1 .. xn
 fn expanded(bank: &mut Bank, n: u64) -> Result<TermId, Memory>
+    ensures more { length bank.old.terms ≤ length bank.new.terms }
     ensures within { IfOk result (λ id. id.0 < length bank.new.terms) }
 {
     let mut term = bank.put_term(TermNode::Eigen(1))?;
@@ -133,6 +146,16 @@ fn both(bank: &mut Bank, twice: bool) -> Result<TermId, Memory>
     }
     let outer = bank.put_term(TermNode::Abs(inner))?;
     Ok(outer)
+}
+
+// 2^20 shared leaves, each f (\x\ f x)
+fn expanded_leaves(bank: &mut Bank) -> Result<TermId, Memory>
+    ensures within { IfOk result (λ id. id.0 < length bank.new.terms) }
+{
+    let f = bank.put_term(TermNode::Eigen(1))?;
+    let inner = expanded(bank, 1)?;
+    let leaf = app(bank, f, inner)?;
+    doubled(bank, leaf)
 }
 
 // \x\ f (\y\ x y)
@@ -188,6 +211,62 @@ fn refused(
     }
 }
 
+// Whether the type i -> i has its node.
+fn types_have_nodes(alloc: Global) -> bool {
+    let mut bank = Bank::new(alloc);
+    let Ok(i) = bank.put_type(TypeNode::Con(7, &[])) else {
+        return false;
+    };
+    let Ok(f) = bank.put_type(TypeNode::Arrow(i, i)) else {
+        return false;
+    };
+    match bank.type_node(f) {
+        TypeNode::Arrow(a, b) => a.0 == i.0 && b.0 == i.0,
+        _ => false,
+    }
+}
+
+// Whether index 3 is raised by 5.
+fn index_is_raised(alloc: Global) -> bool {
+    let mut bank = Bank::new(alloc);
+    let Ok(three) = bank.put_term(TermNode::Index(3)) else {
+        return false;
+    };
+    let Ok(eight) = shift(alloc, &mut bank, three, 0, 5) else {
+        return false;
+    };
+    match bank.term_node(eight) {
+        TermNode::Index(at) => at == 8,
+        _ => false,
+    }
+}
+
+// Whether a value is put for index 0.
+fn value_is_put(alloc: Global) -> bool {
+    let mut bank = Bank::new(alloc);
+    let Ok(value) = bank.put_term(TermNode::Eigen(1)) else {
+        return false;
+    };
+    let Ok(first) = bank.put_term(TermNode::Index(0)) else {
+        return false;
+    };
+    let Ok(made) = substitute(alloc, &mut bank, first, value) else {
+        return false;
+    };
+    match bank.term_node(made) {
+        TermNode::Eigen(level) => level == 1,
+        _ => false,
+    }
+}
+
+#[test]
+fn nodes_and_indices(rt: HostRuntime) {
+    let alloc = rt.alloc();
+    assert!(rt; types_have_nodes(alloc));
+    assert!(rt; index_is_raised(alloc));
+    assert!(rt; value_is_put(alloc));
+}
+
 #[test]
 fn eta_gives_its_forms(rt: HostRuntime) {
     let alloc = rt.alloc();
@@ -204,6 +283,10 @@ fn eta_gives_its_forms(rt: HostRuntime) {
     assert!(rt; refused(alloc, &mut bank, twice, 0, 4) == Some(FORM));
     let twice = both(&mut bank, true);
     assert!(rt; refused(alloc, &mut bank, twice, 0, 3) == Some(3));
+    let leaves = expanded_leaves(&mut bank);
+    assert!(rt; refused(alloc, &mut bank, leaves, 0, 2_097_152) == Some(FORM));
+    let leaves = expanded_leaves(&mut bank);
+    assert!(rt; refused(alloc, &mut bank, leaves, 0, 2_097_151) == Some(2_097_151));
     let inner = nested(&mut bank);
     assert!(rt; refused(alloc, &mut bank, inner, 0, 1) == Some(FORM));
     let redex = applied(&mut bank);

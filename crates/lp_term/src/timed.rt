@@ -66,11 +66,17 @@ fn a_product_of_1_and_1(rt: HostRuntime) {
 
 // 81 contractions each
 #[test]
-fn a_hundred_products_of_40_and_40(rt: HostRuntime) {
+fn twenty_products_of_40_and_40(rt: HostRuntime) {
     let alloc = rt.alloc();
-    for _ in 0..100 {
+    for _ in 0..20 {
         assert!(rt; product_fits(alloc, 40, 40, 81, 1603));
     }
+}
+
+#[test]
+fn a_spine_of_10000(rt: HostRuntime) {
+    let alloc = rt.alloc();
+    assert!(rt; spine_reduces(alloc, 10_000));
 }
 
 #[test]
@@ -80,13 +86,7 @@ fn a_spine_of_100000(rt: HostRuntime) {
 }
 
 #[test]
-fn a_spine_of_1000000(rt: HostRuntime) {
+fn abstractions_100000(rt: HostRuntime) {
     let alloc = rt.alloc();
-    assert!(rt; spine_reduces(alloc, 1_000_000));
-}
-
-#[test]
-fn a_million_abstractions(rt: HostRuntime) {
-    let alloc = rt.alloc();
-    assert!(rt; deep_is_its_form(alloc, 1_000_000));
+    assert!(rt; deep_is_its_form(alloc, 100_000));
 }
