@@ -13,8 +13,9 @@ use Rattle.lp_syntax.specs.Machine.{Frame, Waits, Under, Inside, Item, Tail, Wan
 use Rattle.lp_syntax.proofs.Fitting.{level_of, right_level, item_level, same_number, postfix_no_right, whole_left}
 use Rattle.lp_syntax.proofs.Settled.{Settled, has_term, has_form, waiting, step_operator, step_close, EndBar, Starts, starts_wants, starts_term, admits_whole, admits_left, attach_admitted}
 use Rattle.lp_syntax.proofs.Complete.{run_step, complete, derives_begins, begins_more, begins_op, begins_well, fresh_same, fresh_list_same, takes_infix, wants_op, attach_comma, comma_left, comma_infix}
-use Rattle.lp_syntax.proofs.Spans.{Spans, span_between, span_before}
-use Rattle.lp_syntax.proofs.Sound.{Before, ItemsBefore, items_first, items_next, tail_first, Stack, bottom, waits_left, waits_first, binder, bracket, item, rest, Reads, at_operand, at_bracket, at_list, at_name, behind_term, behind_form, Keeps, keeps_step, with_before}
+use Rattle.lp_syntax.specs.Opened.{AmbiguousAt, Spans, Before, ItemsBefore, items_first, items_next, tail_first, Stack, bottom, waits_left, waits_first, binder, bracket, item, rest}
+use Rattle.lp_syntax.proofs.Spans.{span_between, span_before}
+use Rattle.lp_syntax.proofs.Sound.{Reads, at_operand, at_bracket, at_list, at_name, behind_term, behind_form, Keeps, keeps_step, with_before}
 use Rattle.lp_syntax.proofs.Reading.{failing, reads_first}
 
 span_begins : (k : Kind) (ks bs : List Sym) (t : Tree) → Spans k ks bs t → begins_well ks ≡ true
@@ -79,19 +80,6 @@ stack_read all ks fs (rest gs fn done js bs _ s e (tail_first v is b f _ ms _ t 
     ∙ items_read gs fn v is js bs ms e x (span_begins (Part b f) ms (Bar ∷ ks) t d)
     ∙ z.reaches
     ∙ run_step z.last Bar ks _ (step_close (Item v fn is ∷ gs) b f t z.last EndBar z.settled)
-
--- an operator of the same number stands before the operand that the next one, an infix or postfix operator, stands behind
-pub record AmbiguousAt (all cs : List Sym) (o : Oper) : Type 0 where
-  pub frames : List Frame
-  pub earlier : Oper
-  pub left : Option Tree
-  pub from : List Sym
-  pub form : Form
-  pub operand : Tree
-  pub stack : Stack all (Waits earlier left ∷ frames) from
-  pub spans : Spans (Part false form) from (Op o ∷ cs) operand
-  pub fits : fits_right form earlier.fixity earlier.number ≡ true
-  pub same : earlier.number ≡ o.number
 
 takes_goes : (fs : List Frame) (t : Tree) (o : Oper) (x : Fault) → takes fs t o ≡ Stops x → ⊥
 takes_goes fs t o x e = go (is_postfix o.fixity) e
@@ -210,7 +198,7 @@ operator_ambiguous all ks cs fs f t o s d a h = go (is_prefix o.fixity) (fits_le
     go false true k = attach_ambiguous all ks cs fs f t o s d a k
     go false false k = cc
 
-prefixed_other : (fs : List Frame) (o : Oper) → prefixed fs o ≡ Stops Ambiguous → ⊥
+pub prefixed_other : (fs : List Frame) (o : Oper) → prefixed fs o ≡ Stops Ambiguous → ⊥
 prefixed_other fs o h = go (is_prefix o.fixity) (admits fs (By o.fixity o.number)) h
   where
     go : (b c : Bool) → (if b then (if c then at (Waits o None ∷ fs) Wants else Stops Unexpected) else Stops Unexpected) ≡ Stops Ambiguous → ⊥
@@ -218,7 +206,7 @@ prefixed_other fs o h = go (is_prefix o.fixity) (admits fs (By o.fixity o.number
     go true false k = cc
     go false c k = cc
 
-named_other : (fs : List Frame) (o q : Oper) → named_else fs o (Op q) ≡ Stops Ambiguous → ⊥
+pub named_other : (fs : List Frame) (o q : Oper) → named_else fs o (Op q) ≡ Stops Ambiguous → ⊥
 named_other fs o q h = go (is_prefix o.fixity) h
   where
     go : (b : Bool) → (if b then prefixed (Waits o None ∷ fs) q else Stops Unexpected) ≡ Stops Ambiguous → ⊥
@@ -253,3 +241,10 @@ ambiguous_only all cs o h =
   where
     same_head : (a b : Sym) (as' bs : List Sym) → a ∷ as' ≡ b ∷ bs → a ≡ b
     same_head a b as' bs e = cc
+
+-- the reader comes to the operator
+pub ambiguous_reached : (all cs : List Sym) (o : Oper) → AmbiguousAt all cs o → (s : State) × (run (st [] Wants) all ≡ run s (Op o ∷ cs))
+ambiguous_reached all cs o m =
+    let r = stack_read all m.from (Waits m.earlier m.left ∷ m.frames) m.stack (span_begins (Part false m.form) m.from (Op o ∷ cs) m.operand m.spans) in
+    let z = span_ends (Waits m.earlier m.left ∷ m.frames) false m.form m.operand m.from (Op o ∷ cs) m.fits m.spans in
+    (z.last, r ∙ z.reaches)

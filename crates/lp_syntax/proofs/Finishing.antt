@@ -1,5 +1,5 @@
 -- What the end of a term comes to.
-use Rattle.std.proofs.Common.{◌≡◌, ℕ, ◌<◌, ◌≤◌, List, [], ◌∷◌, ◌++◌, length, Option, Some, None, refl, sym, ap, ◌∙◌, subst}
+use Rattle.std.proofs.Common.{◌≡◌, ℕ, ◌<◌, List, [], ◌∷◌, ◌++◌, length, Option, Some, None, sym, ap, ◌∙◌}
 use Rattle.std.specs.Prelude.{Result, Ok, Err, IfOk}
 use Rattle.lp_syntax.specs.declared.held.Held.{Held}
 use Rattle.lp_syntax.specs.declared.node.Node.{Node}
@@ -7,7 +7,7 @@ use Rattle.lp_syntax.specs.Symbols.{Tree}
 use Rattle.lp_syntax.specs.Machine.{finish}
 use Rattle.lp_syntax.specs.Nodes.{trees, at, Grows}
 use Rattle.lp_syntax.specs.Views.{frame_of, frames_of, EachBelow, Finishes}
-use Rattle.lp_syntax.proofs.Arena.{grows_none, grows_on}
+use Rattle.lp_syntax.proofs.Arena.{grows_on}
 use Rattle.lp_syntax.proofs.Views.{frames_kept}
 use Rattle.lp_syntax.proofs.Stepping.{on_top}
 

@@ -10,3 +10,16 @@ pub mod Spans
 pub mod Sound
 pub mod Reading
 pub mod Ambiguity
+pub mod TypeReading
+pub mod TypeSteps
+pub mod Tokens
+pub mod TypeFaults
+pub mod Spelling
+pub mod TermFaults
+pub mod OpenBrackets
+pub mod TermSteps
+pub mod QueryFaults
+pub mod Classes
+pub mod RawTrees
+pub mod FaultKinds
+pub mod TypeTrees

@@ -1,16 +1,17 @@
 -- A text has at most one tree, which is read, and a fault is where it is due.
-use Rattle.std.proofs.Common.{◌≡◌, Bool, true, false, List, [], ◌∷◌, ◌++◌, Option, Some, None, refl, sym, ap, ◌∙◌, subst, append_assoc, append-nil}
+use Rattle.std.proofs.Common.{◌≡◌, ℕ, suc, Bool, true, false, List, [], ◌∷◌, ◌++◌, Option, Some, None, refl, sym, ap, ◌∙◌, subst, append_assoc, append-nil}
 use Rattle.lp_syntax.specs.declared.symbol.Sym.{Sym}
 use Rattle.lp_syntax.specs.declared.symbol.Sym.TheVariants.{Atom, Op, Closes, ClosesList}
 use Rattle.lp_syntax.specs.declared.symbol.Fault.{Fault}
 use Rattle.lp_syntax.specs.Symbols.{Tree, Leaf, Nil, App, Lam, Form, Whole, By, apply, binary}
 use Rattle.lp_syntax.specs.Grammar.{Part, Derives}
-use Rattle.lp_syntax.specs.Machine.{Frame, Waits, Under, Inside, Item, Tail, Wants, Has, State, st, Goes, Stops, Move, admits, step, wrap, Run, Reached, Failed, go_on, run, finish, ended, Given, Faulty, outcome_at, outcome, read}
+use Rattle.lp_syntax.specs.Machine.{Frame, Waits, Under, Inside, Item, Tail, Wants, Fresh, FreshList, Named, Has, Formed, Mode, State, st, Goes, Stops, Move, admits, step, wrap, Run, Reached, Failed, go_on, run, finish, ended, Given, Faulty, outcome_at, outcome, read}
 use Rattle.lp_syntax.specs.Text.{IsTerm, Begins, FaultAt}
 use Rattle.lp_syntax.proofs.Settled.{Settled, has_term, has_form, waiting, under, step_close, EndBracket, EndList, admits_whole}
 use Rattle.lp_syntax.proofs.Complete.{run_step, complete}
-use Rattle.lp_syntax.proofs.Spans.{Spans, span_between, span_before}
-use Rattle.lp_syntax.proofs.Sound.{Stack, bottom, waits_left, waits_first, binder, bracket, item, rest, Reads, at_operand, at_bracket, at_list, at_name, behind_term, behind_form, Keeps, keeps_step, with_before, with_binder}
+use Rattle.lp_syntax.specs.Opened.{Spans, Stack, bottom, waits_left, waits_first, binder, bracket, item, rest}
+use Rattle.lp_syntax.proofs.Spans.{span_between, span_before}
+use Rattle.lp_syntax.proofs.Sound.{Reads, at_operand, at_bracket, at_list, at_name, behind_term, behind_form, Keeps, keeps_step, with_before, with_binder}
 
 settled_end : (fs : List Frame) (b : Bool) (f : Form) (t : Tree) (s : State) → Settled fs b f t s → ended s ≡ finish fs t
 settled_end fs b f t s (has_term _ fn x w) = refl
@@ -69,7 +70,7 @@ term_of_end all u e = record { open_end = e.open_end; form = e.form; derives = s
 pub reads_first : (all : List Sym) → Reads all (st [] Wants) all
 reads_first all = at_operand [] all bottom
 
-term_of_run : (ts : List Sym) (s : State) (t : Tree) → run (st [] Wants) ts ≡ Reached s → ended s ≡ Some t → IsTerm ts t
+pub term_of_run : (ts : List Sym) (s : State) (t : Tree) → run (st [] Wants) ts ≡ Reached s → ended s ≡ Some t → IsTerm ts t
 term_of_run ts s t e h = term_of_end ts t (sound_end ts s t (sound_run ts ts (st [] Wants) s (reads_first ts) e) h)
 
 -- what is read is in the grammar
@@ -85,14 +86,14 @@ term_of_read ts t e = go (run (st [] Wants) ts) refl e
     go (Reached s) h k = end s h (ended s) refl k
     go (Failed f cs) h k = cc
 
--- the marks that close what is open
-abbrev closers : List Frame → List Sym
-closers [] = []
-closers (Waits o l ∷ fs) = closers fs
-closers (Under v y fn ∷ fs) = closers fs
-closers (Inside fn ∷ fs) = Closes ∷ closers fs
-closers (Item v fn done ∷ fs) = ClosesList 0 ∷ closers fs
-closers (Tail fn done ∷ fs) = ClosesList 0 ∷ closers fs
+-- the marks that close what is open, from this number on
+abbrev pub closers : ℕ → List Frame → List Sym
+closers n [] = []
+closers n (Waits o l ∷ fs) = closers n fs
+closers n (Under v y fn ∷ fs) = closers n fs
+closers n (Inside fn ∷ fs) = Closes ∷ closers (suc n) fs
+closers n (Item v fn done ∷ fs) = ClosesList n ∷ closers (suc n) fs
+closers n (Tail fn done ∷ fs) = ClosesList n ∷ closers (suc n) fs
 
 record Finishes (s : State) (ws : List Sym) : Type 0 where
   last : State
@@ -103,28 +104,36 @@ record Finishes (s : State) (ws : List Sym) : Type 0 where
 finishes_on : (s t : State) (c : Sym) (ws : List Sym) → step s c ≡ Goes t → Finishes t ws → Finishes s (c ∷ ws)
 finishes_on s t c ws e f = record { last = f.last; tree = f.tree; ends = f.ends; reaches = run_step s c ws t e ∙ f.reaches }
 
-closes_all : (all ks : List Sym) (fs : List Frame) (b : Bool) (f : Form) (t : Tree) (s : State) → Stack all fs ks → Settled fs b f t s → admits fs f ≡ true → Finishes s (closers fs)
-closes_all all ks fs b f t s bottom d a = record { last = s; tree = t; ends = settled_end [] b f t s d; reaches = refl }
-closes_all all ks fs b f t s (waits_left gs o g x js _ k e p q l a') d a = closes_all all js gs b (By o.fixity o.number) (binary o.spot x t) s k (waiting gs o (Some x) b f t s a d) a'
-closes_all all ks fs b f t s (waits_first gs o _ k p a') d a = closes_all all (Op o ∷ ks) gs b (By o.fixity o.number) (App (Leaf o.spot) t) s k (waiting gs o None b f t s a d) a'
-closes_all all ks fs b f t s (binder gs v y fn js _ k e) d a = closes_all all js gs true Whole (apply fn (Lam v y t)) s k (under gs v y fn b f t s d) (admits_whole gs)
-closes_all all ks fs b f t s (bracket gs fn js _ k e) d a = finishes_on s _ Closes (closers gs) (step_close (Inside fn ∷ gs) b f t s EndBracket d) (closes_all all js gs false Whole (apply fn t) (st gs (Has fn t None)) k (has_term gs fn t None) (admits_whole gs))
-closes_all all ks fs b f t s (item gs v fn done js bs _ k e i) d a = finishes_on s _ (ClosesList 0) (closers gs) (step_close (Item v fn done ∷ gs) b f t s (EndList 0) d) (closes_all all js gs false Whole _ (st gs (Has fn (wrap ((v, t) ∷ done) (Nil 0)) None)) k (has_term gs fn _ None) (admits_whole gs))
-closes_all all ks fs b f t s (rest gs fn done js bs _ k e i) d a = finishes_on s _ (ClosesList 0) (closers gs) (step_close (Tail fn done ∷ gs) b f t s (EndList 0) d) (closes_all all js gs false Whole _ (st gs (Has fn (wrap done t) None)) k (has_term gs fn _ None) (admits_whole gs))
+closes_all : (all : List Sym) (n : ℕ) (ks : List Sym) (fs : List Frame) (b : Bool) (f : Form) (t : Tree) (s : State) → Stack all fs ks → Settled fs b f t s → admits fs f ≡ true → Finishes s (closers n fs)
+closes_all all n ks fs b f t s bottom d a = record { last = s; tree = t; ends = settled_end [] b f t s d; reaches = refl }
+closes_all all n ks fs b f t s (waits_left gs o g x js _ k e p q l a') d a = closes_all all n js gs b (By o.fixity o.number) (binary o.spot x t) s k (waiting gs o (Some x) b f t s a d) a'
+closes_all all n ks fs b f t s (waits_first gs o _ k p a') d a = closes_all all n (Op o ∷ ks) gs b (By o.fixity o.number) (App (Leaf o.spot) t) s k (waiting gs o None b f t s a d) a'
+closes_all all n ks fs b f t s (binder gs v y fn js _ k e) d a = closes_all all n js gs true Whole (apply fn (Lam v y t)) s k (under gs v y fn b f t s d) (admits_whole gs)
+closes_all all n ks fs b f t s (bracket gs fn js _ k e) d a = finishes_on s _ Closes (closers (suc n) gs) (step_close (Inside fn ∷ gs) b f t s EndBracket d) (closes_all all (suc n) js gs false Whole (apply fn t) (st gs (Has fn t None)) k (has_term gs fn t None) (admits_whole gs))
+closes_all all n ks fs b f t s (item gs v fn done js bs _ k e i) d a = finishes_on s _ (ClosesList n) (closers (suc n) gs) (step_close (Item v fn done ∷ gs) b f t s (EndList n) d) (closes_all all (suc n) js gs false Whole _ (st gs (Has fn (wrap ((v, t) ∷ done) (Nil n)) None)) k (has_term gs fn _ None) (admits_whole gs))
+closes_all all n ks fs b f t s (rest gs fn done js bs _ k e i) d a = finishes_on s _ (ClosesList n) (closers (suc n) gs) (step_close (Tail fn done ∷ gs) b f t s (EndList n) d) (closes_all all (suc n) js gs false Whole _ (st gs (Has fn (wrap done t) None)) k (has_term gs fn _ None) (admits_whole gs))
 
-record Completes (s : State) : Type 0 where
-  with : List Sym
-  finishes : Finishes s with
+-- what completes a term
+abbrev completion_in : ℕ → List Frame → Mode → List Sym
+completion_in n fs Wants = Atom n ∷ closers (suc n) fs
+completion_in n fs Fresh = Atom n ∷ closers (suc n) fs
+completion_in n fs FreshList = closers n fs
+completion_in n fs (Named o) = closers n fs
+completion_in n fs (Has fn x w) = closers n fs
+completion_in n fs (Formed f k t) = closers n fs
 
-completes : (all cs : List Sym) (s : State) → Reads all s cs → Completes s
-completes all cs s (at_operand fs _ k) = record { with = Atom 0 ∷ closers fs; finishes = finishes_on s _ (Atom 0) (closers fs) refl (closes_all all cs fs false Whole (Leaf 0) (st fs (Has None (Leaf 0) None)) k (has_term fs None (Leaf 0) None) (admits_whole fs)) }
-completes all cs s (at_bracket fs fn ks _ k e) = record { with = Atom 0 ∷ Closes ∷ closers fs; finishes = finishes_on s _ (Atom 0) (Closes ∷ closers fs) refl (closes_all all cs (Inside fn ∷ fs) false Whole (Leaf 0) (st (Inside fn ∷ fs) (Has None (Leaf 0) None)) (bracket fs fn ks cs k e) (has_term (Inside fn ∷ fs) None (Leaf 0) None) refl) }
-completes all cs s (at_list fs v fn ks _ k e) = record { with = ClosesList 0 ∷ closers fs; finishes = finishes_on s _ (ClosesList 0) (closers fs) refl (closes_all all ks fs false Whole (apply fn (Nil 0)) (st fs (Has fn (Nil 0) None)) k (has_term fs fn (Nil 0) None) (admits_whole fs)) }
-completes all cs s (at_name fs fn o ks _ k e) = record { with = Closes ∷ closers fs; finishes = finishes_on s _ Closes (closers fs) refl (closes_all all ks fs false Whole (apply fn (Leaf o.spot)) (st fs (Has fn (Leaf o.spot) None)) k (has_term fs fn (Leaf o.spot) None) (admits_whole fs)) }
-completes all cs s (behind_term fs fn x w ks bs _ k e d i) = record { with = closers fs; finishes = closes_all all ks fs false Whole (apply fn x) s k (has_term fs fn x w) (admits_whole fs) }
-completes all cs s (behind_form fs f n t ks _ k d a z) = record { with = closers fs; finishes = closes_all all ks fs false (By f n) t s k (has_form fs f n t z) a }
+abbrev pub completion : ℕ → State → List Sym
+completion n s = completion_in n s.frames s.mode
 
-run_append : (s t : State) (us ws : List Sym) → run s us ≡ Reached t → run s (us ++ ws) ≡ run t ws
+completes : (n : ℕ) (all cs : List Sym) (s : State) → Reads all s cs → Finishes s (completion n s)
+completes n all cs s (at_operand fs _ k) = finishes_on s _ (Atom n) (closers (suc n) fs) refl (closes_all all (suc n) cs fs false Whole (Leaf n) (st fs (Has None (Leaf n) None)) k (has_term fs None (Leaf n) None) (admits_whole fs))
+completes n all cs s (at_bracket fs fn ks _ k e) = finishes_on s _ (Atom n) (closers (suc n) (Inside fn ∷ fs)) refl (closes_all all (suc n) cs (Inside fn ∷ fs) false Whole (Leaf n) (st (Inside fn ∷ fs) (Has None (Leaf n) None)) (bracket fs fn ks cs k e) (has_term (Inside fn ∷ fs) None (Leaf n) None) refl)
+completes n all cs s (at_list fs v fn ks _ k e) = finishes_on s _ (ClosesList n) (closers (suc n) fs) refl (closes_all all (suc n) ks fs false Whole (apply fn (Nil n)) (st fs (Has fn (Nil n) None)) k (has_term fs fn (Nil n) None) (admits_whole fs))
+completes n all cs s (at_name fs fn o ks _ k e) = finishes_on s _ Closes (closers (suc n) fs) refl (closes_all all (suc n) ks fs false Whole (apply fn (Leaf o.spot)) (st fs (Has fn (Leaf o.spot) None)) k (has_term fs fn (Leaf o.spot) None) (admits_whole fs))
+completes n all cs s (behind_term fs fn x w ks bs _ k e d i) = closes_all all n ks fs false Whole (apply fn x) s k (has_term fs fn x w) (admits_whole fs)
+completes n all cs s (behind_form fs f m t ks _ k d a z) = closes_all all n ks fs false (By f m) t s k (has_form fs f m t z) a
+
+pub run_append : (s t : State) (us ws : List Sym) → run s us ≡ Reached t → run s (us ++ ws) ≡ run t ws
 run_append s t [] ws e = let f : s ≡ t = cc in ap (λ q. run q ws) f
 run_append s t (c ∷ cs) ws e = go (λ q h. run_append q t cs ws h) (step s c) refl
   where
@@ -132,11 +141,19 @@ run_append s t (c ∷ cs) ws e = go (λ q h. run_append q t cs ws h) (step s c) 
     go on (Goes q) h = run_step s c (cs ++ ws) q h ∙ on q (sym (run_step s c cs q h) ∙ e)
     go on (Stops f) h = let g : Failed f (c ∷ cs) ≡ Reached t = sym (ap (go_on (λ u. run u cs) c cs) h) ∙ e in cc
 
+-- what was read goes on to a term, the next token having this number
+pub record CompletesTo (ts : List Sym) (ws : List Sym) : Type 0 where
+  pub tree : Tree
+  pub whole : IsTerm (ts ++ ws) tree
+
+pub completed_run : (n : ℕ) (ts : List Sym) (s : State) → run (st [] Wants) ts ≡ Reached s → CompletesTo ts (completion n s)
+completed_run n ts s e =
+    let c = completes n ts [] s (sound_run ts ts (st [] Wants) s (reads_first ts) e) in
+    record { tree = c.tree; whole = term_of_run (ts ++ completion n s) c.last c.tree (run_append (st [] Wants) s ts (completion n s) e ∙ c.reaches) c.ends }
+
 -- some text in the grammar begins with what was read
 pub begins_of_run : (ts : List Sym) (s : State) → run (st [] Wants) ts ≡ Reached s → Begins ts
-begins_of_run ts s e =
-    let c = completes ts [] s (sound_run ts ts (st [] Wants) s (reads_first ts) e) in
-    record { after = c.with; tree = c.finishes.tree; whole = term_of_run (ts ++ c.with) c.finishes.last c.finishes.tree (run_append (st [] Wants) s ts c.with e ∙ c.finishes.reaches) c.finishes.ends }
+begins_of_run ts s e = let c = completed_run 0 ts s e in record { after = completion 0 s; tree = c.tree; whole = c.whole }
 
 pub record Failing (s : State) (ts : List Sym) (f : Fault) (rest' : List Sym) : Type 0 where
   pub front : List Sym

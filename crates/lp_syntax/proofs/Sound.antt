@@ -9,38 +9,15 @@ use Rattle.lp_syntax.specs.Symbols.{Tree, Leaf, Nil, App, Lam, Form, Whole, By, 
 use Rattle.lp_syntax.specs.Grammar.{Single, Part, Items}
 use Rattle.lp_syntax.specs.Machine.{Frame, Waits, Under, Inside, Item, Tail, Wants, Fresh, FreshList, Named, Has, Formed, State, st, Goes, Stops, Move, admits, takes, attach, close, begins, prefixed, wants, fresh, fresh_list, named_else, is_named, binds, operator, has, formed, step, wrap}
 use Rattle.lp_syntax.proofs.Settled.{admits_whole}
-use Rattle.lp_syntax.proofs.Spans.{Spans, span_word, span_atom, span_named, span_empty, span_parens, span_listed, span_last, span_tail, span_more, span_single, span_applied, span_abstracted, span_bound, span_between, span_before, span_behind}
-
--- the function before an atom, if there is one
-abbrev pub Before : Option Tree → List Sym → List Sym → Type 0
-Before None ks bs = ks ≡ bs
-Before (Some f) ks bs = Spans (Part false Whole) ks bs f
-
--- the items of a list, up to a place
-pub data ItemsBefore : ℕ → List (ℕ × Tree) → List Sym → List Sym → Type 0 where
-  items_first : (v : ℕ) (cs : List Sym) → ItemsBefore v [] (OpensList v ∷ cs) cs
-  items_next : (v : ℕ) (o : Oper) (done : List (ℕ × Tree)) (f : Form) (bs ks cs : List Sym) (t : Tree) → separates o ≡ true → is_item f ≡ true → ItemsBefore v done bs ks → Spans (Part false f) ks (Op o ∷ cs) t → ItemsBefore o.spot ((v, t) ∷ done) bs cs
+use Rattle.lp_syntax.specs.Opened.{Spans, Before, ItemsBefore, items_first, items_next, TailBefore, tail_first, Stack, bottom, waits_left, waits_first, binder, bracket, item, rest}
+use Rattle.lp_syntax.proofs.Spans.{span_word, span_atom, span_named, span_empty, span_parens, span_listed, span_last, span_tail, span_more, span_single, span_applied, span_abstracted, span_bound, span_between, span_before, span_behind}
 
 items_on : (v : ℕ) (done : List (ℕ × Tree)) (bs cs ds : List Sym) (u : Tree) → ItemsBefore v done bs cs → Spans (Items v) cs ds u → Spans Single bs ds (wrap done u)
 items_on v done bs cs ds u (items_first _ _) e = span_listed e
 items_on v done bs cs ds u (items_next w o is f _ ks _ t q i h d) e = items_on w is bs ks ds (cons w t u) h (span_more w o q i d e)
 
--- a list, up to a place behind its bar
-pub data TailBefore : List (ℕ × Tree) → List Sym → List Sym → Type 0 where
-  tail_first : (v : ℕ) (done : List (ℕ × Tree)) (b : Bool) (f : Form) (bs ks cs : List Sym) (t : Tree) → is_item f ≡ true → ItemsBefore v done bs ks → Spans (Part b f) ks (Bar ∷ cs) t → TailBefore ((v, t) ∷ done) bs cs
-
 tail_on : (done : List (ℕ × Tree)) (bs cs : List Sym) (c : ℕ) (ds : List Sym) (b : Bool) (f : Form) (u : Tree) → TailBefore done bs cs → Spans (Part b f) cs (ClosesList c ∷ ds) u → Spans Single bs ds (wrap done u)
 tail_on done bs cs c ds b f u (tail_first v is b' f' _ ks _ t i h d) e = items_on v is bs ks ds (cons v t u) h (span_tail v c i d e)
-
--- the tokens of a text up to a place are these frames
-pub data Stack (all : List Sym) : List Frame → List Sym → Type 0 where
-  bottom : Stack all [] all
-  waits_left : (fs : List Frame) (o : Oper) (f : Form) (l : Tree) (ks bs : List Sym) → Stack all fs ks → Spans (Part false f) ks (Op o ∷ bs) l → is_prefix o.fixity ≡ false → is_postfix o.fixity ≡ false → fits_left f o.fixity o.number ≡ true → admits fs (By o.fixity o.number) ≡ true → Stack all (Waits o (Some l) ∷ fs) bs
-  waits_first : (fs : List Frame) (o : Oper) (bs : List Sym) → Stack all fs (Op o ∷ bs) → is_prefix o.fixity ≡ true → admits fs (By o.fixity o.number) ≡ true → Stack all (Waits o None ∷ fs) bs
-  binder : (fs : List Frame) (v : ℕ) (y : Option ℕ) (fn : Option Tree) (ks bs : List Sym) → Stack all fs ks → Before fn ks (Word v ∷ Binds y ∷ bs) → Stack all (Under v y fn ∷ fs) bs
-  bracket : (fs : List Frame) (fn : Option Tree) (ks bs : List Sym) → Stack all fs ks → Before fn ks (Opens ∷ bs) → Stack all (Inside fn ∷ fs) bs
-  item : (fs : List Frame) (v : ℕ) (fn : Option Tree) (done : List (ℕ × Tree)) (ks bs cs : List Sym) → Stack all fs ks → Before fn ks bs → ItemsBefore v done bs cs → Stack all (Item v fn done ∷ fs) cs
-  rest : (fs : List Frame) (fn : Option Tree) (done : List (ℕ × Tree)) (ks bs cs : List Sym) → Stack all fs ks → Before fn ks bs → TailBefore done bs cs → Stack all (Tail fn done ∷ fs) cs
 
 abbrev pub IsBare : Option ℕ → List Sym → List Sym → Type 0
 IsBare None bs cs = Unit {0}

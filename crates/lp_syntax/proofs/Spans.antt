@@ -4,13 +4,8 @@ use Rattle.lp_syntax.specs.declared.symbol.Oper.{Oper}
 use Rattle.lp_syntax.specs.declared.symbol.Sym.{Sym}
 use Rattle.lp_syntax.specs.declared.symbol.Sym.TheVariants.{Word, Atom, Op, Opens, Closes, OpensList, ClosesList, Bar, Binds}
 use Rattle.lp_syntax.specs.Symbols.{Tree, Leaf, Nil, App, Lam, Form, Whole, By, is_prefix, is_postfix, fits_left, fits_right, is_item, binary, cons, separates}
+use Rattle.lp_syntax.specs.Opened.{Spans}
 use Rattle.lp_syntax.specs.Grammar.{Kind, Single, Part, Items, Derives, word, atom, parens, named, empty, listed, last, tail, more, single, applied, abstracted, bound, between, before, behind}
-
--- from here to there stands this
-pub record Spans (k : Kind) (ks bs : List Sym) (t : Tree) : Type 0 where
-  pub tokens : List Sym
-  pub are : ks ≡ tokens ++ bs
-  pub derives : Derives k tokens t
 
 span : (k : Kind) (ks bs : List Sym) (t : Tree) (ts : List Sym) → ks ≡ ts ++ bs → Derives k ts t → Spans k ks bs t
 span k ks bs t ts e d = record { tokens = ts; are = e; derives = d }

@@ -1,5 +1,5 @@
 -- What one symbol comes to, from the parts of the step.
-use Rattle.std.proofs.Common.{◌≡◌, ℕ, ◌<◌, ◌≤◌, List, [], ◌∷◌, ◌++◌, length, Option, Some, None, Bool, true, false, refl, sym, ap, ◌∙◌, subst}
+use Rattle.std.proofs.Common.{◌≡◌, ℕ, ◌<◌, List, [], ◌∷◌, ◌++◌, length, Option, None, true, false, refl, sym, ap, ◌∙◌}
 use Rattle.std.specs.Prelude.{Result, IfOk}
 use Rattle.lp_syntax.specs.declared.held.Held.{Held}
 use Rattle.lp_syntax.specs.declared.held.Held.TheVariants as held
@@ -11,9 +11,9 @@ use Rattle.lp_syntax.specs.declared.symbol.Sym.{Sym}
 use Rattle.lp_syntax.specs.declared.symbol.Sym.TheVariants as sym_of
 use Rattle.lp_syntax.specs.declared.symbol.Oper.{Oper}
 use Rattle.lp_syntax.specs.declared.symbol.Fault.{Fault}
-use Rattle.lp_syntax.specs.Symbols.{Tree, Leaf, Nil, Whole, apply, fits_left, is_prefix}
-use Rattle.lp_syntax.specs.Machine.{Frame, Item, Inside, Waits, Move, Goes, Stops, Has, st, attach, close, begins, wants, fresh_list, closes_name, named_else, operator}
-use Rattle.lp_syntax.specs.Nodes.{trees, at, maybe, IsMaybeBelow, Grows}
+use Rattle.lp_syntax.specs.Symbols.{Tree, Leaf, Nil, Whole, fits_left, is_prefix}
+use Rattle.lp_syntax.specs.Machine.{Frame, Move, Stops, attach, wants, fresh_list, closes_name, named_else, operator}
+use Rattle.lp_syntax.specs.Nodes.{trees, at, Grows}
 use Rattle.lp_syntax.specs.Views.{frame_of, frames_of, EachBelow, Steps}
 use Rattle.lp_syntax.proofs.Arena.{grows_none}
 use Rattle.lp_syntax.proofs.Views.{Items, frames_push, frames_kept, popped, if_ok}

@@ -176,3 +176,8 @@ wrapped old now new is n t t' x m l e g g' b h s =
     (λ k. wrap (done_kept now new (take n is) g' (items_take (length now) is n (items_more (length old) (length now) is g.longer b)) k) (h k))
     ∙ sym (ap (λ l. wrap l (at (trees now) t)) (ap (done_of (trees now)) (take_more is n l) ∙ done_push (trees now) (take n is) (get_or is n (0, 0)) ∙ ap (λ y. (y.0, at (trees now) y.1) ∷ done_of (trees now) (take n is)) (sym e)))
     ∙ s
+
+-- nothing waits
+pub none_takes : (old now new : List Node) (ks hs hs'' : List Held) (x : ℕ) (o : Oper) (m : Move) → Grows old now → ks ≡ [] → hs ≡ [] → attach (frames_of (trees now) ks) (at (trees now) x) o ≡ m → {E : Type 0} → (r : Result Step E) → IfOk r (λ s. Steps now new hs'' s (takes (frames_of (trees now) hs) (at (trees now) x) o)) → IfOk r (λ s. Steps old new hs'' s m)
+none_takes old now new ks hs hs'' x o m g e f s r i =
+    if_ok old now new hs'' _ m g (ap (λ l. takes (frames_of (trees now) l) (at (trees now) x) o) f ∙ sym (ap (λ l. attach (frames_of (trees now) l) (at (trees now) x) o) e) ∙ s) r i

@@ -1,5 +1,5 @@
 -- The trees of numbered nodes.
-use Rattle.std.specs.Prelude.{◌≡◌, ℕ, ◌<◌, ◌≤◌, List, [], ◌∷◌, ◌++◌, length, get_or, Option, Some, None}
+use Rattle.std.specs.Prelude.{◌≡◌, ℕ, ◌<◌, ◌≤◌, List, [], ◌∷◌, ◌++◌, length, get_or, slice_get, Option, Some, None}
 use Rattle.lp_syntax.specs.declared.node.Node.{Node}
 use Rattle.lp_syntax.specs.declared.node.Node.TheVariants as node
 use Rattle.lp_syntax.specs.Symbols.{Tree, Leaf, Cons, Nil, App, Lam}
@@ -32,7 +32,20 @@ IsMaybeBelow n (Some i) = i < n
 abbrev pub IsBelow : ℕ → ℕ → Type 0
 IsBelow n i = i < n
 
--- nodes were added, and the older ones have their trees
+-- a node names nodes below this number
+abbrev pub IsNodeBelow : ℕ → Node → Type 0
+IsNodeBelow n (node.Leaf s) = Unit {0}
+IsNodeBelow n (node.Cons s) = Unit {0}
+IsNodeBelow n (node.Nil s) = Unit {0}
+IsNodeBelow n (node.App f x) = (f < n) × (x < n)
+IsNodeBelow n (node.Lam s y x) = x < n
+
+-- each node names older ones
+abbrev pub IsOrdered : List Node → Type 0
+IsOrdered ns = (i : ℕ) (n : Node) → slice_get ns i ≡ Some n → IsNodeBelow i n
+
+-- nodes were added, each of which names older ones, and the older ones have their trees
 pub record Grows (old new : List Node) : Type 0 where
   pub longer : length old ≤ length new
   pub kept : (i : ℕ) → i < length old → at (trees new) i ≡ at (trees old) i
+  pub ordered : IsOrdered old → IsOrdered new

@@ -1,4 +1,4 @@
--- Trees, and what fits beside an operator.
+-- The trees of terms, whose leaves are the numbers of tokens, and what fits beside an operator. A binder has the number of its annotation.
 use Rattle.lp_fixity.specs.declared.fixity.Fixity.{Fixity}
 use Rattle.lp_fixity.specs.declared.fixity.Fixity.TheVariants.{Infixl, Infixr, Prefix, Prefixr, Postfix, Postfixl}
 use Rattle.lp_syntax.specs.declared.symbol.Oper.{Oper}

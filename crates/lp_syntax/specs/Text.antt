@@ -1,4 +1,4 @@
--- What is promised of a text.
+-- Terms, the beginnings of terms, and where a fault is.
 use Rattle.std.specs.Prelude.{◌≡◌, Bool, List, [], ◌∷◌, ◌++◌}
 use Rattle.lp_syntax.specs.declared.symbol.Sym.{Sym}
 use Rattle.lp_syntax.specs.Symbols.{Tree, Form}

@@ -1,4 +1,7 @@
 // The tokens as the grammar tells them apart.
+ghost use Rattle.std.specs.Prelude.{◌≡◌, ◌≢◌, true, false};
+ghost use Rattle.std.specs.Str.{bytes_eq};
+ghost use Rattle.lp_syntax.specs.Classes.{is_among, entry, unsupported, fixities, keywords, lower, symbol, class_of};
 
 use lp_fixity::Fixity;
 use lp_lexer::TokenKind;
@@ -46,7 +49,9 @@ pub enum Class {
 }
 
 /// The class of a token with this text.
-pub fn class_of(kind: TokenKind, text: &[u8]) -> Class {
+pub fn class_of(kind: TokenKind, text: &[u8]) -> Class
+    ensures { result ≡ class_of kind text.now }
+{
     match kind {
         TokenKind::Lower => lower(text),
         TokenKind::Upper => Class::Upper,
@@ -65,24 +70,32 @@ pub fn class_of(kind: TokenKind, text: &[u8]) -> Class {
 }
 
 // The text is this word.
-pub fn is(text: &[u8], word: &str) -> bool {
-    text == word.as_bytes()
+pub fn is(text: &[u8], word: &[u8]) -> bool
+    ensures { result ≡ bytes_eq text.now word.now }
+{
+    text == word
 }
 
-fn symbol(text: &[u8]) -> Class {
-    if is(text, ",") {
+#[tactic(auto, unfolding(crate::specs::Classes::symbol))]
+fn symbol(text: &[u8]) -> Class
+    ensures { result ≡ symbol text.now }
+{
+    if is(text, b",") {
         return Class::Comma;
     }
-    if is(text, ":") {
+    if is(text, b":") {
         return Class::Colon;
     }
-    if is(text, "->") {
+    if is(text, b"->") {
         return Class::Arrow;
     }
     Class::Symbol
 }
 
-fn lower(text: &[u8]) -> Class {
+#[tactic(auto, unfolding(crate::specs::Classes::lower))]
+fn lower(text: &[u8]) -> Class
+    ensures { result ≡ lower text.now }
+{
     if is_unsupported(text) {
         return Class::Unsupported;
     }
@@ -95,67 +108,73 @@ fn lower(text: &[u8]) -> Class {
     }
 }
 
-fn is_unsupported(text: &[u8]) -> bool {
-    is(text, "import")
-        || is(text, "use_sig")
-        || is(text, "useonly")
-        || is(text, "exportdef")
-        || is(text, "closed")
-        || is(text, "not")
-        || is(text, "print")
+fn is_unsupported(text: &[u8]) -> bool
+    ensures { result ≡ is_among unsupported text.now }
+{
+    is(text, b"import")
+        || is(text, b"use_sig")
+        || is(text, b"useonly")
+        || is(text, b"exportdef")
+        || is(text, b"closed")
+        || is(text, b"not")
+        || is(text, b"print")
 }
 
-fn fixity(text: &[u8]) -> Option<Fixity> {
-    if is(text, "infix") {
+fn fixity(text: &[u8]) -> Option<Fixity>
+    ensures { result ≡ entry fixities text.now }
+{
+    if is(text, b"infix") {
         return Some(Fixity::Infix);
     }
-    if is(text, "infixl") {
+    if is(text, b"infixl") {
         return Some(Fixity::Infixl);
     }
-    if is(text, "infixr") {
+    if is(text, b"infixr") {
         return Some(Fixity::Infixr);
     }
-    if is(text, "prefix") {
+    if is(text, b"prefix") {
         return Some(Fixity::Prefix);
     }
-    if is(text, "prefixr") {
+    if is(text, b"prefixr") {
         return Some(Fixity::Prefixr);
     }
-    if is(text, "postfix") {
+    if is(text, b"postfix") {
         return Some(Fixity::Postfix);
     }
-    if is(text, "postfixl") {
+    if is(text, b"postfixl") {
         return Some(Fixity::Postfixl);
     }
     None
 }
 
-fn keyword_of(text: &[u8]) -> Option<Keyword> {
-    if is(text, "sig") {
+fn keyword_of(text: &[u8]) -> Option<Keyword>
+    ensures { result ≡ entry keywords text.now }
+{
+    if is(text, b"sig") {
         return Some(Keyword::Sig);
     }
-    if is(text, "module") {
+    if is(text, b"module") {
         return Some(Keyword::Module);
     }
-    if is(text, "kind") {
+    if is(text, b"kind") {
         return Some(Keyword::Kind);
     }
-    if is(text, "type") {
+    if is(text, b"type") {
         return Some(Keyword::Type);
     }
-    if is(text, "typeabbrev") {
+    if is(text, b"typeabbrev") {
         return Some(Keyword::Typeabbrev);
     }
-    if is(text, "local") {
+    if is(text, b"local") {
         return Some(Keyword::Local);
     }
-    if is(text, "localkind") {
+    if is(text, b"localkind") {
         return Some(Keyword::Localkind);
     }
-    if is(text, "accumulate") {
+    if is(text, b"accumulate") {
         return Some(Keyword::Accumulate);
     }
-    if is(text, "accum_sig") {
+    if is(text, b"accum_sig") {
         return Some(Keyword::AccumSig);
     }
     None

@@ -1,5 +1,9 @@
 // Declarations, from the word behind their keyword to their full stop.
-ghost use Rattle.std.specs.Prelude.{◌≡◌, ◌<◌, ◌≤◌, length, IfOk, true};
+ghost use Rattle.std.specs.Prelude.{◌≡◌, ◌<◌, ◌≤◌, ◌+◌, length, IfOk, true};
+ghost use Rattle.lp_syntax.specs.declared.class.Keyword.TheVariants as keyword;
+ghost use Rattle.lp_syntax.specs.declared.class.Class.TheVariants as class;
+ghost use Rattle.lp_syntax.specs.Tokens.{lexemes, class_at, spot_at};
+ghost use Rattle.lp_syntax.specs.Declarations.{IsDeclared};
 
 use crate::class::{Class, Keyword};
 use crate::fault::SyntaxFault;
@@ -13,6 +17,7 @@ fn kinds(alloc: Global, input: &Input<'_>, from: usize) -> Result<(Declaration, 
     requires { from ≤ length input.now.tokens.now }
     ensures within { IfOk result (λ r. r.1 ≤ length input.now.tokens.now) }
     ensures further { IfOk result (λ r. from < r.1) }
+    ensures declared { IfOk result (λ r. IsDeclared (spot_at input.now.file input.now.source.now input.now.tokens.now) (lexemes input.now.source.now input.now.tokens.now) keyword.Kind from r.1 r.0) }
 {
     let (names, at) = names(alloc, input, from)?;
     let (arguments, at) = kind(input, at)?;
@@ -21,9 +26,10 @@ fn kinds(alloc: Global, input: &Input<'_>, from: usize) -> Result<(Declaration, 
 }
 
 fn is_dot(input: &Input<'_>, at: usize) -> bool
-    ensures { result ≡ true → at < length input.now.tokens.now }
+    ensures within { result ≡ true → at < length input.now.tokens.now }
+    ensures class { result ≡ true → class_at (lexemes input.now.source.now input.now.tokens.now) at ≡ class.Dot }
 {
-    at < input.tokens.len() && input.class(at) == Class::Dot
+    at < input.tokens.len() && matches!(input.class(at), Class::Dot)
 }
 
 fn local_kinds(
@@ -34,6 +40,7 @@ fn local_kinds(
     requires { from ≤ length input.now.tokens.now }
     ensures within { IfOk result (λ r. r.1 ≤ length input.now.tokens.now) }
     ensures further { IfOk result (λ r. from < r.1) }
+    ensures declared { IfOk result (λ r. IsDeclared (spot_at input.now.file input.now.source.now input.now.tokens.now) (lexemes input.now.source.now input.now.tokens.now) keyword.Localkind from r.1 r.0) }
 {
     let (names, at) = names(alloc, input, from)?;
     if is_dot(input, at) {
@@ -52,11 +59,13 @@ fn constants(
     requires { from ≤ length input.now.tokens.now }
     ensures within { IfOk result (λ r. r.1 ≤ length input.now.tokens.now) }
     ensures further { IfOk result (λ r. from < r.1) }
+    ensures declared { IfOk result (λ r. IsDeclared (spot_at input.now.file input.now.source.now input.now.tokens.now) (lexemes input.now.source.now input.now.tokens.now) keyword.Type from r.1 r.0) }
 {
     let (names, at) = names(alloc, input, from)?;
-    let (ty, at) = declared_type(alloc, input, at)?;
+    let (text, at) = declared_type(alloc, input, at)?;
     let end = input.dot(at)?;
-    Ok((Declaration::Constants(names, ty.within()?), end))
+    let ty = text.within()?;
+    Ok((Declaration::Constants(names, ty), end))
 }
 
 fn locals(
@@ -67,14 +76,16 @@ fn locals(
     requires { from ≤ length input.now.tokens.now }
     ensures within { IfOk result (λ r. r.1 ≤ length input.now.tokens.now) }
     ensures further { IfOk result (λ r. from < r.1) }
+    ensures declared { IfOk result (λ r. IsDeclared (spot_at input.now.file input.now.source.now input.now.tokens.now) (lexemes input.now.source.now input.now.tokens.now) keyword.Local from r.1 r.0) }
 {
     let (names, at) = names(alloc, input, from)?;
     if is_dot(input, at) {
         return Ok((Declaration::Locals(names, None), at + 1));
     }
-    let (ty, at) = declared_type(alloc, input, at)?;
+    let (text, at) = declared_type(alloc, input, at)?;
     let end = input.dot(at)?;
-    Ok((Declaration::Locals(names, Some(ty.within()?)), end))
+    let ty = text.within()?;
+    Ok((Declaration::Locals(names, Some(ty)), end))
 }
 
 fn abbreviation(
@@ -85,14 +96,13 @@ fn abbreviation(
     requires { from ≤ length input.now.tokens.now }
     ensures within { IfOk result (λ r. r.1 ≤ length input.now.tokens.now) }
     ensures further { IfOk result (λ r. from < r.1) }
+    ensures declared { IfOk result (λ r. IsDeclared (spot_at input.now.file input.now.source.now input.now.tokens.now) (lexemes input.now.source.now input.now.tokens.now) keyword.Typeabbrev from r.1 r.0) }
 {
     let (name, parameters, at) = abbreviated(alloc, input, from)?;
-    let (body, at) = declared_type(alloc, input, at)?;
+    let (text, at) = declared_type(alloc, input, at)?;
     let end = input.dot(at)?;
-    Ok((
-        Declaration::Abbreviation(name, parameters, body.within()?),
-        end,
-    ))
+    let body = text.within()?;
+    Ok((Declaration::Abbreviation(name, parameters, body), end))
 }
 
 fn accumulate(
@@ -103,6 +113,7 @@ fn accumulate(
     requires { from ≤ length input.now.tokens.now }
     ensures within { IfOk result (λ r. r.1 ≤ length input.now.tokens.now) }
     ensures further { IfOk result (λ r. from < r.1) }
+    ensures declared { IfOk result (λ r. IsDeclared (spot_at input.now.file input.now.source.now input.now.tokens.now) (lexemes input.now.source.now input.now.tokens.now) keyword.Accumulate from r.1 r.0) }
 {
     let (words, at) = words(alloc, input, from)?;
     let end = input.dot(at)?;
@@ -117,6 +128,7 @@ fn accum_sig(
     requires { from ≤ length input.now.tokens.now }
     ensures within { IfOk result (λ r. r.1 ≤ length input.now.tokens.now) }
     ensures further { IfOk result (λ r. from < r.1) }
+    ensures declared { IfOk result (λ r. IsDeclared (spot_at input.now.file input.now.source.now input.now.tokens.now) (lexemes input.now.source.now input.now.tokens.now) keyword.AccumSig from r.1 r.0) }
 {
     let (words, at) = words(alloc, input, from)?;
     let end = input.dot(at)?;
@@ -132,6 +144,7 @@ fn fixities(
     requires { from ≤ length input.now.tokens.now }
     ensures within { IfOk result (λ r. r.1 ≤ length input.now.tokens.now) }
     ensures further { IfOk result (λ r. from < r.1) }
+    ensures declared { IfOk result (λ r. IsDeclared (spot_at input.now.file input.now.source.now input.now.tokens.now) (lexemes input.now.source.now input.now.tokens.now) (keyword.Fixity fixity) from r.1 r.0) }
 {
     let (names, at) = names(alloc, input, from)?;
     let (number, at) = number(input, at)?;
@@ -149,6 +162,7 @@ pub fn declaration(
     requires { from < length input.now.tokens.now }
     ensures within { IfOk result (λ r. r.1 ≤ length input.now.tokens.now) }
     ensures further { IfOk result (λ r. from < r.1) }
+    ensures declared { IfOk result (λ r. IsDeclared (spot_at input.now.file input.now.source.now input.now.tokens.now) (lexemes input.now.source.now input.now.tokens.now) keyword (from + 1) r.1 r.0) }
 {
     match keyword {
         Keyword::Sig | Keyword::Module => Err(input.refusal(from, None)),

@@ -20,20 +20,15 @@ fn head_depth(nodes: &[Node], depths: &[usize], head: usize) -> usize {
 }
 
 // An annotation stands below its binder.
-fn node_depth(nodes: &[Node], depths: &[usize], notes: &[usize], node: Node) -> usize {
+fn node_depth(nodes: &[Node], depths: &[usize], note: usize, node: Node) -> usize {
     match node {
         Node::App(f, x) => head_depth(nodes, depths, f).max(depth_at(depths, x).saturating_add(1)),
-        Node::Lam(_, None, x) => depth_at(depths, x).saturating_add(1),
-        Node::Lam(_, Some(note), x) => {
-            depth_at(depths, x)
-                .max(depth_at(notes, note))
-                .saturating_add(1)
-        }
+        Node::Lam(_, _, x) => depth_at(depths, x).max(note).saturating_add(1),
         _ => 1,
     }
 }
 
-/// How deep the term at `root` is, where `notes` has the depths of the annotations. Each node names older ones.
+/// How deep the term at `root` is, where `notes` has the depth of each node's annotation. Each node names older ones.
 pub fn term_depth(
     alloc: Global,
     nodes: &[Node],
@@ -41,8 +36,8 @@ pub fn term_depth(
     root: usize,
 ) -> Result<usize, AllocError> {
     let mut depths: Vec<usize> = Vec::new(alloc);
-    for node in nodes {
-        let depth = node_depth(nodes, &depths, notes, *node);
+    for (i, node) in nodes.iter().enumerate() {
+        let depth = node_depth(nodes, &depths, depth_at(notes, i), *node);
         depths.push(depth)?;
     }
     Ok(depth_at(&depths, root))

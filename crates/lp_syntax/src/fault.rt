@@ -22,18 +22,33 @@ pub enum SyntaxFault {
 }
 
 impl From<AllocError> for SyntaxFault {
+    ghost use Rattle.std.specs.Prelude.{◌≡◌};
+    ghost use Rattle.lp_syntax.specs.declared.fault.SyntaxFault.TheVariants as fault;
+
+    ghost from_gives = { λ _ e. e ≡ fault.Memory };
+
     fn from(_: AllocError) -> SyntaxFault {
         SyntaxFault::Memory
     }
 }
 
 impl<T: Drop> From<AllocFailed<T>> for SyntaxFault {
+    ghost use Rattle.std.specs.Prelude.{◌≡◌};
+    ghost use Rattle.lp_syntax.specs.declared.fault.SyntaxFault.TheVariants as fault;
+
+    ghost from_gives = { λ _ e. e ≡ fault.Memory };
+
     fn from(_: AllocFailed<T>) -> SyntaxFault {
         SyntaxFault::Memory
     }
 }
 
 impl From<Memory> for SyntaxFault {
+    ghost use Rattle.std.specs.Prelude.{◌≡◌};
+    ghost use Rattle.lp_syntax.specs.declared.fault.SyntaxFault.TheVariants as fault;
+
+    ghost from_gives = { λ _ e. e ≡ fault.Memory };
+
     fn from(_: Memory) -> SyntaxFault {
         SyntaxFault::Memory
     }

@@ -1,6 +1,8 @@
 // The end of a term, and its nodes as they are handed out.
 ghost use Rattle.std.specs.Prelude.{◌≡◌, ◌<◌, length, IfOk};
 ghost use Rattle.lp_syntax.specs.Nodes.{trees, at};
+ghost use Rattle.lp_syntax.specs.Tokens.{lexemes, spot_at};
+ghost use Rattle.lp_syntax.specs.Raw.{leaf, IsReadNote, IsRaw, AreRaw};
 ghost use Rattle.lp_syntax.specs.Machine.{finish, ended_in};
 ghost use Rattle.lp_syntax.specs.Views.{frames_of, mode_of, EachBelow, IsDoingBelow, Finishes};
 
@@ -10,6 +12,7 @@ use crate::held::{Doing, Held};
 use crate::input::Input;
 use crate::node::{Node, apply, operated};
 use crate::text::{RawNode, RawType};
+use crate::types::{TypeEnd, read_type};
 use std::alloc::{AllocError, Global};
 
 // The whole term, if no bracket is open.
@@ -65,12 +68,15 @@ pub fn finish(
 }
 
 // A name, a number or a string; `&` is read as `,`.
-fn leaf(input: &Input<'_>, token: usize) -> RawNode {
+#[tactic(auto, unfolding(crate::specs::Raw::leaf))]
+fn leaf(input: &Input<'_>, token: usize) -> RawNode
+    ensures { result ≡ leaf (spot_at input.now.file input.now.source.now input.now.tokens.now) (lexemes input.now.source.now input.now.tokens.now) token }
+{
     match input.class(token) {
         Class::Number(n) => RawNode::Number(n, input.spot(token)),
         Class::Text => RawNode::Text(input.spot(token)),
         _ => {
-            if is(input.text(token), "&") {
+            if is(input.text(token), b"&") {
                 return RawNode::Known(0, input.spot(token));
             }
             RawNode::Name(input.spot(token))
@@ -78,33 +84,56 @@ fn leaf(input: &Input<'_>, token: usize) -> RawNode {
     }
 }
 
-fn annotation(notes: &mut Vec<Option<RawType>>, number: Option<usize>) -> Option<RawType> {
-    match notes.get_mut(number?) {
-        None => None,
-        Some(note) => note.take(),
+// The type behind a colon, and how deep it is.
+fn annotation(
+    alloc: Global,
+    input: &Input<'_>,
+    colon: Option<usize>,
+) -> Result<(Option<RawType>, usize), AllocError>
+    ensures { IfOk result (λ r. IsReadNote (spot_at input.now.file input.now.source.now input.now.tokens.now) (lexemes input.now.source.now input.now.tokens.now) colon r.0) }
+{
+    let Some(at) = colon else {
+        return Ok((None, 0));
+    };
+    if at >= input.tokens.len() {
+        return Ok((None, 0));
+    }
+    match read_type(alloc, input, at + 1)? {
+        TypeEnd::Stopped(_, _) => Ok((None, 0)),
+        TypeEnd::Read(note, depth, _) => Ok((Some(note), depth)),
     }
 }
 
-fn raw_node(input: &Input<'_>, notes: &mut Vec<Option<RawType>>, node: Node) -> RawNode {
+// A node as it is handed out, and how deep its annotation is.
+fn raw_node(alloc: Global, input: &Input<'_>, node: Node) -> Result<(RawNode, usize), AllocError>
+    ensures { IfOk result (λ r. IsRaw (spot_at input.now.file input.now.source.now input.now.tokens.now) (lexemes input.now.source.now input.now.tokens.now) node r.0) }
+{
     match node {
-        Node::Leaf(token) => leaf(input, token),
-        Node::Cons(token) => RawNode::Known(14, input.spot(token)),
-        Node::Nil(token) => RawNode::Known(15, input.spot(token)),
-        Node::App(f, x) => RawNode::App(f, x),
-        Node::Lam(token, note, x) => { RawNode::Abs(input.spot(token), annotation(notes, note), x) }
+        Node::Leaf(token) => Ok((leaf(input, token), 0)),
+        Node::Cons(token) => Ok((RawNode::Known(14, input.spot(token)), 0)),
+        Node::Nil(token) => Ok((RawNode::Known(15, input.spot(token)), 0)),
+        Node::App(f, x) => Ok((RawNode::App(f, x), 0)),
+        Node::Lam(token, colon, x) => {
+            let (note, depth) = annotation(alloc, input, colon)?;
+            Ok((RawNode::Abs(input.spot(token), note, x), depth))
+        }
     }
 }
 
-/// The nodes with their spots and annotations.
+/// The nodes with their spots and annotations, and how deep the annotation of each is.
 pub fn raw_nodes(
     alloc: Global,
     input: &Input<'_>,
-    notes: &mut Vec<Option<RawType>>,
     nodes: &[Node],
-) -> Result<Vec<RawNode>, AllocError> {
+) -> Result<(Vec<RawNode>, Vec<usize>), AllocError>
+    ensures { IfOk result (λ r. AreRaw (spot_at input.now.file input.now.source.now input.now.tokens.now) (lexemes input.now.source.now input.now.tokens.now) nodes.now r.0.items) }
+{
     let mut raw = Vec::new(alloc);
+    let mut depths = Vec::new(alloc);
     for node in nodes {
-        raw.push(raw_node(input, notes, *node))?;
+        let (text, depth) = raw_node(alloc, input, *node)?;
+        raw.push(text)?;
+        depths.push(depth)?;
     }
-    Ok(raw)
+    Ok((raw, depths))
 }

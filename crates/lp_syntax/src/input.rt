@@ -1,5 +1,9 @@
 // A text with its tokens, by their numbers.
-ghost use Rattle.std.specs.Prelude.{◌≡◌, ◌≤◌, ◌+◌, length, IfOk};
+ghost use Rattle.std.specs.Prelude.{◌≡◌, ◌≢◌, ◌≤◌, ◌+◌, length, true, false, None, IfOk};
+ghost use Rattle.lp_syntax.specs.declared.class.Class.TheVariants.{Dot};
+ghost use Rattle.std.specs.Prelude.{IfErr};
+ghost use Rattle.lp_syntax.specs.Tokens.{piece, lexemes, bytes_at, class_at, spot_at};
+ghost use Rattle.lp_syntax.specs.Faults.{refused};
 
 use crate::class::{Class, class_of};
 use crate::fault::SyntaxFault;
@@ -14,27 +18,52 @@ pub struct Input<'a> {
     pub file: u32,
 }
 
+// A full stop.
+pub fn is_dot(class: Class) -> bool
+    ensures yes { result ≡ true → class ≡ Dot }
+    ensures no { result ≡ false → class ≢ Dot }
+{
+    matches!(class, Class::Dot)
+}
+
 impl<'a> Input<'a> {
-    // The bytes of a token, none behind the last one.
-    pub fn text(&self, at: usize) -> &'a [u8] {
-        match self.tokens.get(at) {
+    // These bytes, none where they do not lie in the text.
+    #[tactic(auto, unfolding(crate::specs::Tokens::piece))]
+    pub fn piece(&self, from: usize, to: usize) -> &'a [u8]
+        ensures { result.now ≡ piece self.now.source.now from to }
+    {
+        match self.source.get(from..to) {
             None => &[],
-            Some(token) => match self.source.get(token.from..token.to) {
-                None => &[],
-                Some(text) => text,
-            },
+            Some(text) => text,
         }
     }
 
-    pub fn class(&self, at: usize) -> Class {
+    // The bytes of a token, none behind the last one.
+    #[tactic(auto, unfolding(crate::specs::Tokens::bytes_at))]
+    pub fn text(&self, at: usize) -> &'a [u8]
+        ensures { result.now ≡ bytes_at (lexemes self.now.source.now self.now.tokens.now) at }
+    {
+        match self.tokens.get(at) {
+            None => &[],
+            Some(token) => self.piece(token.from, token.to),
+        }
+    }
+
+    #[tactic(auto, unfolding(crate::specs::Tokens::class_at))]
+    pub fn class(&self, at: usize) -> Class
+        ensures { result ≡ class_at (lexemes self.now.source.now self.now.tokens.now) at }
+    {
         match self.tokens.get(at) {
             None => Class::End,
-            Some(token) => class_of(token.kind, self.text(at)),
+            Some(token) => class_of(token.kind, self.piece(token.from, token.to)),
         }
     }
 
     // The spot of a token; behind the last one, the place behind the text.
-    pub fn spot(&self, at: usize) -> Spot {
+    #[tactic(auto, unfolding(crate::specs::Tokens::spot_at))]
+    pub fn spot(&self, at: usize) -> Spot
+        ensures { result ≡ spot_at self.now.file self.now.source.now self.now.tokens.now at }
+    {
         match self.tokens.get(at) {
             None => Spot {
                 file: self.file,
@@ -52,12 +81,14 @@ impl<'a> Input<'a> {
     }
 
     // Why this token does not go on, with the number of the innermost open bracket.
-    pub fn refusal(&self, at: usize, open: Option<usize>) -> SyntaxFault {
+    pub fn refusal(&self, at: usize, bracket: Option<usize>) -> SyntaxFault
+        ensures { result ≡ refused (spot_at self.now.file self.now.source.now self.now.tokens.now) at bracket (class_at (lexemes self.now.source.now self.now.tokens.now) at) }
+    {
         match self.class(at) {
             Class::Unsupported => SyntaxFault::Unsupported(self.spot(at)),
-            Class::End => match open {
+            Class::End => match bracket {
                 None => SyntaxFault::Unexpected(self.spot(at)),
-                Some(bracket) => SyntaxFault::Unclosed(self.spot(bracket)),
+                Some(number) => SyntaxFault::Unclosed(self.spot(number)),
             },
             _ => SyntaxFault::Unexpected(self.spot(at)),
         }
@@ -67,8 +98,10 @@ impl<'a> Input<'a> {
     pub fn dot(&self, at: usize) -> Result<usize, SyntaxFault>
         ensures further { IfOk result (λ end. end ≡ at + 1) }
         ensures within { IfOk result (λ end. end ≤ length self.now.tokens.now) }
+        ensures dot { IfOk result (λ _. class_at (lexemes self.now.source.now self.now.tokens.now) at ≡ Dot) }
+        ensures refused { IfErr result (λ fault. fault ≡ refused (spot_at self.now.file self.now.source.now self.now.tokens.now) at None (class_at (lexemes self.now.source.now self.now.tokens.now) at)) }
     {
-        if at < self.tokens.len() && self.class(at) == Class::Dot {
+        if at < self.tokens.len() && is_dot(self.class(at)) {
             return Ok(at + 1);
         }
         Err(self.refusal(at, None))

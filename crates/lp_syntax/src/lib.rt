@@ -5,6 +5,8 @@
 mod attach;
 // What begins an operand.
 mod begin;
+// Open brackets.
+mod brackets;
 // The tokens as the grammar tells them apart.
 mod class;
 // Closing marks.
@@ -23,6 +25,8 @@ mod fits;
 mod held;
 // A text with its tokens.
 mod input;
+// What holds of the grammar of terms.
+mod laws;
 // Nodes while they are built.
 mod node;
 // What a text says of other files.
@@ -43,6 +47,7 @@ mod types;
 mod whole;
 
 pub use fault::SyntaxFault;
+pub use laws::{faults_first, one_query, one_tree, reads_the_grammar};
 pub use outline::references;
 pub use text::{
     Declaration, FixityLine, ModuleText, RawNode, RawQuery, RawTerm, RawType, RawTypeNode,

@@ -1,12 +1,13 @@
 ghost use Rattle.std.specs.Prelude.{◌≡◌, ◌<◌, ◌≤◌, ◌+◌, ◌++◌, [], ◌∷◌, length, OnOk, IfOk};
 ghost use Rattle.lp_syntax.specs.Symbols.{apply};
 ghost use Rattle.lp_syntax.specs.Machine.{operated};
-ghost use Rattle.lp_syntax.specs.Nodes.{trees, at, maybe, IsBelow, IsMaybeBelow, Grows, node_tree};
+ghost use Rattle.lp_syntax.specs.Nodes.{trees, at, maybe, IsBelow, IsMaybeBelow, IsNodeBelow, Grows, node_tree};
 
 use crate::symbol::Oper;
 use std::alloc::AllocError;
 
-/// A node of a tree. Each node names older ones.
+/// A node of a tree. Each node names older ones; a leaf and a binder have the numbers of their tokens, and an annotation that
+/// of its colon.
 #[derive(Clone, Copy)]
 pub enum Node {
     Leaf(usize),
@@ -18,6 +19,7 @@ pub enum Node {
 
 // A new node.
 pub fn add(nodes: &mut Vec<Node>, node: Node) -> Result<usize, AllocError>
+    requires { IsNodeBelow (length nodes.old.items) node }
     ensures within { IfOk result (λ i. i < length nodes.new.items) }
     ensures grows { OnOk result (Grows nodes.old.items nodes.new.items) }
     ensures tree { IfOk result (λ i. at (trees nodes.new.items) i ≡ node_tree (trees nodes.old.items) node) }

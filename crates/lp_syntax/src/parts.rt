@@ -1,5 +1,9 @@
 // The parts of declarations: lists of names and words, kinds, types.
-ghost use Rattle.std.specs.Prelude.{◌≡◌, ◌<◌, ◌≤◌, length, IfOk, true};
+ghost use Rattle.std.specs.Prelude.{◌≡◌, ◌<◌, ◌≤◌, ◌+◌, length, IfOk, true, false};
+ghost use Rattle.lp_syntax.specs.declared.class.Keyword.TheVariants as keyword;
+ghost use Rattle.lp_syntax.specs.declared.class.Class.TheVariants as class;
+ghost use Rattle.lp_syntax.specs.Tokens.{lexemes, class_at, spot_at};
+ghost use Rattle.lp_syntax.specs.Declarations.{is_name, is_word, is_listed, one_more, saturated, AreListed, IsKindText, IsHead, HasNumber, IsTypeAt};
 
 use crate::class::{Class, Keyword};
 use crate::fault::SyntaxFault;
@@ -20,7 +24,9 @@ pub struct TypeText {
 }
 
 impl TypeText {
-    pub fn within(self) -> Result<RawType, SyntaxFault> {
+    pub fn within(self) -> Result<RawType, SyntaxFault>
+        ensures { IfOk result (λ ty. ty ≡ self.text) }
+    {
         if self.depth > TYPE_DEPTH {
             return Err(SyntaxFault::Limit(Limit::Nesting));
         }
@@ -28,15 +34,21 @@ impl TypeText {
     }
 }
 
-fn is_name(class: Class) -> bool {
+fn is_name(class: Class) -> bool
+    ensures { result ≡ is_name class }
+{
     matches!(class, Class::Lower | Class::Symbol | Class::Comma)
 }
 
-fn is_word(class: Class) -> bool {
+fn is_word(class: Class) -> bool
+    ensures { result ≡ is_word class }
+{
     matches!(class, Class::Lower | Class::Upper)
 }
 
-fn is_listed(class: Class, words: bool) -> bool {
+fn is_listed(class: Class, words: bool) -> bool
+    ensures { result ≡ is_listed words class }
+{
     if words {
         is_word(class)
     } else {
@@ -55,13 +67,14 @@ fn list(
     requires { from ≤ length input.now.tokens.now }
     ensures within { IfOk result (λ r. r.1 ≤ length input.now.tokens.now) }
     ensures further { IfOk result (λ r. from < r.1) }
+    ensures listed { IfOk result (λ r. AreListed (spot_at input.now.file input.now.source.now input.now.tokens.now) (lexemes input.now.source.now input.now.tokens.now) words from r.1 r.0.items) }
 {
     let mut spots = Vec::new(alloc);
     let mut at = from;
     'over: while at < input.tokens.len() && is_listed(input.class(at), words) {
         spots.push(input.spot(at))?;
         at += 1;
-        if at >= input.tokens.len() || input.class(at) != Class::Comma {
+        if !is_comma(input, at) {
             return Ok((spots, at));
         }
         at += 1;
@@ -78,6 +91,7 @@ pub fn names(
     requires { from ≤ length input.now.tokens.now }
     ensures within { IfOk result (λ r. r.1 ≤ length input.now.tokens.now) }
     ensures further { IfOk result (λ r. from < r.1) }
+    ensures listed { IfOk result (λ r. AreListed (spot_at input.now.file input.now.source.now input.now.tokens.now) (lexemes input.now.source.now input.now.tokens.now) false from r.1 r.0.items) }
 {
     list(alloc, input, from, false)
 }
@@ -91,20 +105,51 @@ pub fn words(
     requires { from ≤ length input.now.tokens.now }
     ensures within { IfOk result (λ r. r.1 ≤ length input.now.tokens.now) }
     ensures further { IfOk result (λ r. from < r.1) }
+    ensures listed { IfOk result (λ r. AreListed (spot_at input.now.file input.now.source.now input.now.tokens.now) (lexemes input.now.source.now input.now.tokens.now) true from r.1 r.0.items) }
 {
     list(alloc, input, from, true)
 }
 
 fn is_type(input: &Input<'_>, at: usize) -> bool
-    ensures { result ≡ true → at < length input.now.tokens.now }
+    ensures within { result ≡ true → at < length input.now.tokens.now }
+    ensures class { result ≡ true → class_at (lexemes input.now.source.now input.now.tokens.now) at ≡ class.Keyword keyword.Type }
 {
-    at < input.tokens.len() && input.class(at) == Class::Keyword(Keyword::Type)
+    at < input.tokens.len() && matches!(input.class(at), Class::Keyword(Keyword::Type))
 }
 
 fn is_arrow(input: &Input<'_>, at: usize) -> bool
-    ensures { result ≡ true → at < length input.now.tokens.now }
+    ensures within { result ≡ true → at < length input.now.tokens.now }
+    ensures class { result ≡ true → class_at (lexemes input.now.source.now input.now.tokens.now) at ≡ class.Arrow }
 {
-    at < input.tokens.len() && input.class(at) == Class::Arrow
+    at < input.tokens.len() && matches!(input.class(at), Class::Arrow)
+}
+
+fn is_comma(input: &Input<'_>, at: usize) -> bool
+    ensures within { result ≡ true → at < length input.now.tokens.now }
+    ensures class { result ≡ true → class_at (lexemes input.now.source.now input.now.tokens.now) at ≡ class.Comma }
+{
+    at < input.tokens.len() && matches!(input.class(at), Class::Comma)
+}
+
+fn is_lower(input: &Input<'_>, at: usize) -> bool
+    ensures within { result ≡ true → at < length input.now.tokens.now }
+    ensures class { result ≡ true → class_at (lexemes input.now.source.now input.now.tokens.now) at ≡ class.Lower }
+{
+    at < input.tokens.len() && matches!(input.class(at), Class::Lower)
+}
+
+fn is_upper(input: &Input<'_>, at: usize) -> bool
+    ensures within { result ≡ true → at < length input.now.tokens.now }
+    ensures class { result ≡ true → class_at (lexemes input.now.source.now input.now.tokens.now) at ≡ class.Upper }
+{
+    at < input.tokens.len() && matches!(input.class(at), Class::Upper)
+}
+
+fn is_close(input: &Input<'_>, at: usize) -> bool
+    ensures within { result ≡ true → at < length input.now.tokens.now }
+    ensures class { result ≡ true → class_at (lexemes input.now.source.now input.now.tokens.now) at ≡ class.Close }
+{
+    at < input.tokens.len() && matches!(input.class(at), Class::Close)
 }
 
 /// The count of arguments of a kind, and the number of the token behind it.
@@ -112,6 +157,7 @@ pub fn kind(input: &Input<'_>, from: usize) -> Result<(u32, usize), SyntaxFault>
     requires { from ≤ length input.now.tokens.now }
     ensures within { IfOk result (λ r. r.1 ≤ length input.now.tokens.now) }
     ensures further { IfOk result (λ r. from ≤ r.1) }
+    ensures kind { IfOk result (λ r. IsKindText (lexemes input.now.source.now input.now.tokens.now) from r.1 r.0) }
 {
     let mut arguments: u32 = 0;
     let mut at = from;
@@ -135,6 +181,7 @@ pub fn declared_type(
     requires { from ≤ length input.now.tokens.now }
     ensures within { IfOk result (λ r. r.1 ≤ length input.now.tokens.now) }
     ensures further { IfOk result (λ r. from ≤ r.1) }
+    ensures typed { IfOk result (λ r. IsTypeAt (spot_at input.now.file input.now.source.now input.now.tokens.now) (lexemes input.now.source.now input.now.tokens.now) from r.1 r.0.text) }
 {
     match read_type(alloc, input, from)? {
         TypeEnd::Stopped(at, open) => Err(input.refusal(at, open)),
@@ -151,6 +198,7 @@ pub fn abbreviated(
     requires { from ≤ length input.now.tokens.now }
     ensures within { IfOk result (λ r. r.2 ≤ length input.now.tokens.now) }
     ensures further { IfOk result (λ r. from ≤ r.2) }
+    ensures head { IfOk result (λ r. IsHead (spot_at input.now.file input.now.source.now input.now.tokens.now) (lexemes input.now.source.now input.now.tokens.now) from r.2 r.0 r.1.items) }
 {
     if from >= input.tokens.len() {
         return Err(input.refusal(from, None));
@@ -168,22 +216,24 @@ fn parameters(
     input: &Input<'_>,
     from: usize,
 ) -> Result<(Spot, Vec<Spot>, usize), SyntaxFault>
-    requires { from < length input.now.tokens.now }
+    requires within { from < length input.now.tokens.now }
+    requires bracket { class_at (lexemes input.now.source.now input.now.tokens.now) from ≡ class.Open }
     ensures within { IfOk result (λ r. r.2 ≤ length input.now.tokens.now) }
     ensures further { IfOk result (λ r. from ≤ r.2) }
+    ensures head { IfOk result (λ r. IsHead (spot_at input.now.file input.now.source.now input.now.tokens.now) (lexemes input.now.source.now input.now.tokens.now) from r.2 r.0 r.1.items) }
 {
     let mut parameters = Vec::new(alloc);
     let mut at = from + 1;
-    if at >= input.tokens.len() || input.class(at) != Class::Lower {
+    if !is_lower(input, at) {
         return Err(input.refusal(at, Some(from)));
     }
     let name = input.spot(at);
     at += 1;
-    'over: while at < input.tokens.len() && input.class(at) == Class::Upper {
+    'over: while is_upper(input, at) {
         parameters.push(input.spot(at))?;
         at += 1;
     }
-    if at >= input.tokens.len() || input.class(at) != Class::Close {
+    if !is_close(input, at) {
         return Err(input.refusal(at, Some(from)));
     }
     Ok((name, parameters, at + 1))
@@ -194,6 +244,8 @@ pub fn number(input: &Input<'_>, at: usize) -> Result<(u32, usize), SyntaxFault>
     requires { at ≤ length input.now.tokens.now }
     ensures within { IfOk result (λ r. r.1 ≤ length input.now.tokens.now) }
     ensures further { IfOk result (λ r. at ≤ r.1) }
+    ensures number { IfOk result (λ r. HasNumber (lexemes input.now.source.now input.now.tokens.now) at r.0) }
+    ensures end { IfOk result (λ r. r.1 ≡ at + 1) }
 {
     if at >= input.tokens.len() {
         return Err(input.refusal(at, None));
@@ -204,7 +256,9 @@ pub fn number(input: &Input<'_>, at: usize) -> Result<(u32, usize), SyntaxFault>
     }
 }
 
-fn saturated(n: i64) -> u32 {
+fn saturated(n: i64) -> u32
+    ensures { result ≡ saturated n }
+{
     if n < 0 {
         return 0;
     }

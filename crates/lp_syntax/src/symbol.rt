@@ -24,7 +24,7 @@ pub enum Sym {
     OpensList(usize),
     ClosesList(usize),
     Bar,
-    /// The backslash, with the number of the annotation before it.
+    /// The backslash, with the number of the colon of the annotation before it.
     Binds(Option<usize>),
     Other,
 }

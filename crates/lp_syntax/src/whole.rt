@@ -1,5 +1,10 @@
 // Whole texts: signatures, modules and queries.
 ghost use Rattle.std.specs.Prelude.{◌≡◌, ◌<◌, ◌≤◌, length, IfOk};
+ghost use Rattle.std.specs.Prelude.{IfErr};
+ghost use Rattle.lp_fixity.specs.Table.{Extends, entry_of};
+ghost use Rattle.lp_syntax.specs.Tokens.{lexemes, spot_at};
+ghost use Rattle.lp_syntax.specs.Symbols.{Tree};
+ghost use Rattle.lp_syntax.specs.Queries.{IsQuery, IsQueryText, IsQueryRefusal, IsGiven};
 
 use crate::class::{Class, Keyword};
 use crate::declaration::declaration;
@@ -91,11 +96,10 @@ fn declare_one(
     name: Spot,
     fixity: Fixity,
     number: u32,
-) -> Result<(), SyntaxFault> {
-    let text: &[u8] = match input.source.get(name.from..name.to) {
-        None => &[],
-        Some(text) => text,
-    };
+) -> Result<(), SyntaxFault>
+    ensures { Extends table.old table.new }
+{
+    let text = input.piece(name.from, name.to);
     match table.declare(text, fixity, number) {
         Ok(()) => Ok(()),
         Err(FixFault::Memory) => Err(SyntaxFault::Memory),
@@ -104,7 +108,9 @@ fn declare_one(
 }
 
 // The fixities of a sentence are in force behind it.
-fn declare(input: &Input<'_>, table: &mut Table, line: &Declaration) -> Result<(), SyntaxFault> {
+fn declare(input: &Input<'_>, table: &mut Table, line: &Declaration) -> Result<(), SyntaxFault>
+    ensures { Extends table.old table.new }
+{
     if let Declaration::Fixities(names, fixity, number) = line {
         for name in names {
             declare_one(input, table, *name, *fixity, *number)?;
@@ -147,7 +153,9 @@ pub fn module_text(
     tokens: &[Token],
     file: u32,
     table: &mut Table,
-) -> Result<ModuleText, SyntaxFault> {
+) -> Result<ModuleText, SyntaxFault>
+    ensures { Extends table.old table.new }
+{
     let input = Input {
         source,
         tokens,
@@ -167,23 +175,28 @@ pub fn module_text(
     Ok(ModuleText { header, lines })
 }
 
-/// The query that these tokens are. A full stop may end it.
-///
-/// # Errors
-/// The first fault of the text.
-pub fn query_text(
+// The query that these tokens are.
+fn read_query(
     alloc: Global,
     source: &[u8],
     tokens: &[Token],
     table: &Table,
-) -> Result<RawQuery, SyntaxFault> {
+) -> Result<RawQuery, SyntaxFault>
+    ensures tree { IfOk result (IsQueryText (spot_at 0 source.now tokens.now) (entry_of table.now) (lexemes source.now tokens.now)) }
+    ensures fault { IfErr result (IsQueryRefusal (spot_at 0 source.now tokens.now) (entry_of table.now) (lexemes source.now tokens.now)) }
+{
     let input = Input {
         source,
         tokens,
         file: 0,
     };
     let text = read_term(alloc, &input, table, 0)?;
-    let end = behind(&input, text.end);
+    if text.end >= tokens.len() {
+        return Ok(RawQuery {
+            term: text.within()?,
+        });
+    }
+    let end = text.end + 1;
     if end < tokens.len() {
         return Err(input.refusal(end, None));
     }
@@ -192,10 +205,19 @@ pub fn query_text(
     })
 }
 
-// Behind a full stop, if one is here.
-fn behind(input: &Input<'_>, at: usize) -> usize {
-    match input.dot(at) {
-        Ok(end) => end,
-        Err(_) => at,
-    }
+/// The query that these tokens are. A full stop may end it.
+///
+/// # Errors
+/// The first fault of the text, the limit of nesting behind it, or want of memory.
+pub fn query_text(
+    alloc: Global,
+    source: &[u8],
+    tokens: &[Token],
+    table: &Table,
+) -> Result<RawQuery, SyntaxFault>
+    ensures tree { IfOk result (IsQueryText (spot_at 0 source.now tokens.now) (entry_of table.now) (lexemes source.now tokens.now)) }
+    ensures only { (t : Tree) → IsQuery (entry_of table.now) (lexemes source.now tokens.now) t → IsGiven (spot_at 0 source.now tokens.now) (lexemes source.now tokens.now) t result }
+    ensures fault { IfErr result (IsQueryRefusal (spot_at 0 source.now tokens.now) (entry_of table.now) (lexemes source.now tokens.now)) }
+{
+    read_query(alloc, source, tokens, table)
 }

@@ -3,7 +3,7 @@ use Rattle.std.proofs.ResultArms.{chosen}
 use Rattle.std.proofs.lemmas.Grind.{common_steps}
 use Rattle.lp_syntax.specs.declared.held.Held.TheVariants.{Waits, Under, Inside, Item, Tail}
 use Rattle.lp_syntax.proofs.Arena.{grows_on}
-use Rattle.lp_syntax.proofs.Views.{ends_takes, waits_takes, ends_item, reduced, stopped, popped, each_more}
+use Rattle.lp_syntax.proofs.Views.{none_takes, ends_takes, waits_takes, ends_item, reduced, stopped, popped, each_more}
 use Rattle.lp_syntax.proofs.attach.attach.Goals as goal
 
 pub operated-requires-clause-left : goal.operated-requires-clause-left
@@ -67,3 +67,9 @@ pub returns-in-Some-Tail : goal.returns-in-Some-Tail
 returns-in-Some-Tail c =
     let st : c.over.frames.items ≡ c.pop.new.self.items ++ Tail c.in-Some-Tail.fun c.in-Some-Tail.done ∷ [] = grind (arith, common_steps) in
     ends_takes _ _ _ _ _ _ _ (Tail c.in-Some-Tail.fun c.in-Some-Tail.done) c.over.x c.args.o _ c.over.invariant.grows st (chosen _ _ _ _ c.push-in-Some-Tail.ensures.items (ap is_ok c.in_ok-push-in-Some-Tail.was)) refl c.over.invariant.same c.takes-in-Some-Tail.result c.takes-in-Some-Tail.ensures
+
+pub returns-in-None : goal.returns-in-None
+returns-in-None c =
+    let st : c.over.frames.items ≡ [] = grind (arith, common_steps) in
+    let st' : c.pop.new.self.items ≡ [] = grind (arith, common_steps) in
+    none_takes _ _ _ _ _ _ c.over.x c.args.o _ c.over.invariant.grows st st' c.over.invariant.same c.takes.result c.takes.ensures

@@ -3,7 +3,7 @@ use Rattle.std.proofs.lemmas.Grind.{common_steps}
 use Rattle.lp_syntax.specs.declared.held.Held.TheVariants.{Waits, Under, Inside, Item, Tail}
 use Rattle.lp_syntax.proofs.Arena.{grows_on}
 use Rattle.lp_syntax.proofs.Views.{popped, each_more}
-use Rattle.lp_syntax.proofs.Finishing.{waits_finished, stays_open, is_whole}
+use Rattle.lp_syntax.proofs.Finishing.{waits_finished, stays_open}
 use Rattle.lp_syntax.proofs.finish.fold.Goals as goal
 
 pub operated-requires-clause-left : goal.operated-requires-clause-left

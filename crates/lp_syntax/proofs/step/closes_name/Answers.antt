@@ -1,14 +1,8 @@
-use Rattle.std.proofs.Common.{◌≡◌, ◌++◌, [], ◌∷◌, refl, arith, ap, is_ok, sym, ◌∙◌}
+use Rattle.std.proofs.Common.{◌≡◌, ◌++◌, [], ◌∷◌, refl, arith}
 use Rattle.std.proofs.lemmas.Grind.{common_steps}
-use Rattle.std.proofs.ResultArms.{chosen}
 use Rattle.lp_syntax.specs.declared.held.Held.TheVariants.{Waits, Under, Inside, Item, Tail}
-use Rattle.lp_syntax.specs.declared.held.Doing.TheVariants.{Wants}
-use Rattle.lp_syntax.specs.declared.symbol.Sym.TheVariants.{ClosesList}
-use Rattle.lp_syntax.specs.Machine.{close, begins, attach, wants, fresh_list, closes_name}
-use Rattle.std.specs.Prelude.{Some, None}
-use Rattle.lp_syntax.proofs.Views.{each_more, pushed_below}
-use Rattle.lp_syntax.proofs.Closing.{push_steps}
-use Rattle.lp_syntax.proofs.Stepping.{stops_on, stops_empty, named_closed, empty_closed, after_node, operates_after, waits_else}
+use Rattle.lp_syntax.specs.Machine.{closes_name}
+use Rattle.lp_syntax.proofs.Stepping.{stops_on, named_closed}
 use Rattle.lp_syntax.proofs.step.closes_name.Goals as goal
 
 pub returns-in-Some-Inside : goal.returns-in-Some-Inside

@@ -1,4 +1,4 @@
-use Rattle.std.proofs.Common.{◌≡◌, ◌<◌, ◌≤◌, ◌-◌, ◌+◌, length}
+use Rattle.std.proofs.Common.{◌≤◌, ◌-◌, length}
 use Rattle.lp_syntax.proofs.whole.signature_text.Given as goal
 
 abbrev pub invariant-over : goal.invariant-over

@@ -1,0 +1,12 @@
+use Rattle.std.proofs.Common.{◌≡◌, ◌≤◌, ◌+◌, ◌++◌, [], ◌∷◌, length, refl, sym, ap, ◌∙◌, subst, arith, is_ok}
+use Rattle.std.proofs.ResultArms.{chosen}
+use Rattle.std.proofs.lemmas.Grind.{common_steps}
+use Rattle.lp_syntax.specs.Tokens.{lexemes, spot_at, class_at}
+use Rattle.lp_syntax.specs.Declarations.{local_kinds, local_kinds_of, IsTypeAt}
+use Rattle.lp_syntax.proofs.declaration.local_kinds.Goals as goal
+
+pub returns-then-is_dot-clause-declared : goal.returns-then-is_dot-clause-declared
+returns-then-is_dot-clause-declared c = local_kinds c.args.from c.in_ok-names.at _ c.in_ok-names.names c.in_ok-names.ensures.listed (c.if-is_dot.ensures.class refl, refl)
+
+pub returns-clause-declared : goal.returns-clause-declared
+returns-clause-declared c = local_kinds_of c.args.from c.in_ok-names.at c.in_ok-arguments.at _ _ c.in_ok-names.names c.in_ok-names.ensures.listed c.in_ok-arguments.ensures.kind (c.in_ok-end.ensures.dot, c.in_ok-end.ensures.further)

@@ -1,0 +1,8 @@
+use Rattle.std.proofs.Common.{◌≡◌, ◌++◌, ◌+◌, [], ◌∷◌, refl, sym, ◌∙◌, ap, subst, is_ok}
+use Rattle.std.proofs.ResultArms.{chosen}
+use Rattle.lp_syntax.specs.Tokens.{lexemes, spot_at}
+use Rattle.lp_syntax.proofs.TypeSteps.{pushed_waits}
+use Rattle.lp_syntax.proofs.types.TypeReader.opens.Goals as goal
+
+pub returns-clause-moves : goal.returns-clause-moves
+returns-clause-moves c = pushed_waits c.args.self.now.waiting.items _ c.args.waiting (chosen _ _ _ _ c.push.ensures.items (ap is_ok c.in_ok-push.was))

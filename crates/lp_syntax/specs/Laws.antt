@@ -1,0 +1,25 @@
+-- The laws of the grammar of terms.
+use Rattle.std.specs.Prelude.{◌≡◌, List}
+use Rattle.lp_syntax.specs.declared.symbol.Sym.{Sym}
+use Rattle.lp_syntax.specs.declared.symbol.Fault.{Fault}
+use Rattle.lp_syntax.specs.Symbols.{Tree}
+use Rattle.lp_syntax.specs.Machine.{read, Given, Faulty}
+use Rattle.lp_syntax.specs.Text.{IsTerm, FaultAt}
+use Rattle.lp_syntax.specs.Tokens.{Lexeme, Operators}
+use Rattle.lp_syntax.specs.Queries.{IsQuery}
+
+-- a text of symbols is a term in one way
+abbrev pub HasOneTree : Type 0
+HasOneTree = (ts : List Sym) (t u : Tree) → IsTerm ts t → IsTerm ts u → t ≡ u
+
+-- the reader gives the tree that the grammar gives, and gives it wherever the grammar does
+abbrev pub ReadsTheGrammar : Type 0
+ReadsTheGrammar = (ts : List Sym) (t : Tree) → record { sound : read ts ≡ Given t → IsTerm ts t; complete : IsTerm ts t → read ts ≡ Given t }
+
+-- a fault of the reader is at the first symbol such that no term begins with the symbols up to it
+abbrev pub FaultsFirst : Type 0
+FaultsFirst = (ts : List Sym) (f : Fault) (rest : List Sym) → read ts ≡ Faulty f rest → FaultAt ts rest
+
+-- a text is a query in one way
+abbrev pub HasOneQuery : Type 0
+HasOneQuery = (ops : Operators) (ls : List Lexeme) (t u : Tree) → IsQuery ops ls t → IsQuery ops ls u → t ≡ u

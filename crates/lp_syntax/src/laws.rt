@@ -1,0 +1,23 @@
+// What holds of the grammar of terms and of its reader. Each law is the contract of a function without a body.
+
+ghost use Rattle.lp_syntax.specs.Laws.{HasOneQuery, HasOneTree, ReadsTheGrammar, FaultsFirst};
+
+/// A term has one tree.
+pub fn one_tree()
+    ensures { HasOneTree }
+{}
+
+/// The reader gives exactly the trees of the grammar.
+pub fn reads_the_grammar()
+    ensures { ReadsTheGrammar }
+{}
+
+/// A fault is at the first symbol with which no term goes on.
+pub fn faults_first()
+    ensures { FaultsFirst }
+{}
+
+/// A query has one tree.
+pub fn one_query()
+    ensures { HasOneQuery }
+{}
