@@ -3,7 +3,7 @@ ghost use Rattle.lp_syntax.specs.Machine.{takes, attach, Item};
 ghost use Rattle.lp_syntax.specs.Nodes.{trees, at, maybe, IsMaybeBelow};
 ghost use Rattle.lp_syntax.specs.Views.{frames_of, done_of, EachBelow, AreItemsBelow, Steps};
 
-use crate::fits::{fits_left, fits_right, is_item, is_postfix, separates};
+use crate::fits::{is_item, separates};
 use crate::held::{Doing, Held, Step};
 use crate::node::{Node, add, operated};
 use crate::symbol::{Fault, Oper};
@@ -20,7 +20,7 @@ fn takes(
     requires frames { EachBelow (length nodes.old.items) frames.old.items }
     ensures { IfOk result (λ r. Steps nodes.old.items nodes.new.items frames.new.items r (takes (frames_of (trees nodes.old.items) frames.old.items) (at (trees nodes.old.items) x) o)) }
 {
-    if is_postfix(o.fixity) {
+    if o.fixity.is_postfix() {
         let leaf = add(nodes, Node::Leaf(o.spot))?;
         let form = add(nodes, Node::App(leaf, x))?;
         return Ok(Step::Goes(Doing::Formed(o.fixity, o.number, form)));
@@ -45,11 +45,11 @@ pub fn attach(
         match frames.pop() {
             None => return takes(nodes, frames, x, o),
             Some(Held::Waits(p, left)) => {
-                if fits_right(o.fixity, o.number, p) {
+                if o.fixity.fits_right(o.number, p.fixity, p.number) {
                     frames.push(Held::Waits(p, left))?;
                     return takes(nodes, frames, x, o);
                 }
-                if !fits_left(p.fixity, p.number, o) {
+                if !p.fixity.fits_left(p.number, o.fixity, o.number) {
                     return Ok(Step::Stops(Fault::Ambiguous));
                 }
                 x = operated(nodes, p, left, x)?;

@@ -6,7 +6,7 @@ ghost use Rattle.lp_syntax.specs.Views.{frames_of, EachBelow, Steps, AdmitsAs};
 
 use crate::attach::attach;
 use crate::close::close;
-use crate::fits::{fits_left, fits_right, is_item, is_prefix};
+use crate::fits::is_item;
 use crate::held::{Doing, Held, Step};
 use crate::node::{Node, add};
 use crate::symbol::{Fault, Oper, Sym};
@@ -55,7 +55,7 @@ fn admits(frames: &[Held], g: Fixity, k: u8) -> bool
         return true;
     }
     match &frames[n - 1] {
-        Held::Waits(p, _) => fits_right(g, k, *p),
+        Held::Waits(p, _) => g.fits_right(k, p.fixity, p.number),
         Held::Item(_, _, _) => is_item(g, k),
         Held::Under(_, _, _) => true,
         Held::Inside(_) => true,
@@ -68,7 +68,7 @@ pub fn prefixed(nodes: &mut Vec<Node>, frames: &mut Vec<Held>, o: Oper) -> Resul
     requires frames { EachBelow (length nodes.old.items) frames.old.items }
     ensures { IfOk result (λ r. Steps nodes.old.items nodes.new.items frames.new.items r (prefixed (frames_of (trees nodes.old.items) frames.old.items) o)) }
 {
-    if !is_prefix(o.fixity) {
+    if !o.fixity.is_prefix() {
         return Ok(Step::Stops(Fault::Unexpected));
     }
     if !admits(frames, o.fixity, o.number) {
@@ -91,10 +91,10 @@ pub fn operator_behind(
     requires frames { EachBelow (length nodes.old.items) frames.old.items }
     ensures { IfOk result (λ r. Steps nodes.old.items nodes.new.items frames.new.items r (operator (frames_of (trees nodes.old.items) frames.old.items) (By f n) (at (trees nodes.old.items) x) o)) }
 {
-    if is_prefix(o.fixity) {
+    if o.fixity.is_prefix() {
         return Ok(Step::Stops(Fault::Unexpected));
     }
-    if !fits_left(f, n, o) {
+    if !f.fits_left(n, o.fixity, o.number) {
         return Ok(Step::Stops(Fault::Unexpected));
     }
     attach(nodes, frames, x, o)

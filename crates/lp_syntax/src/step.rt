@@ -8,7 +8,6 @@ ghost use Rattle.lp_syntax.specs.Views.{frames_of, mode_of, EachBelow, IsDoingBe
 use crate::attach::attach;
 use crate::begin::{begins, formed, prefixed};
 use crate::close::close;
-use crate::fits::is_prefix;
 use crate::held::{Doing, Held, Step};
 use crate::node::{Node, add, apply};
 use crate::symbol::{Fault, Oper, Sym};
@@ -109,7 +108,7 @@ fn named_else(
     requires frames { EachBelow (length nodes.old.items) frames.old.items }
     ensures { IfOk result (λ r. Steps nodes.old.items nodes.new.items frames.new.items r (named_else (frames_of (trees nodes.old.items) frames.old.items) o c)) }
 {
-    if !is_prefix(o.fixity) {
+    if !o.fixity.is_prefix() {
         return Ok(Step::Stops(Fault::Unexpected));
     }
     frames.push(Held::Waits(o, None))?;
@@ -167,7 +166,7 @@ fn operates(
     requires x { x < length nodes.old.items }
     ensures { IfOk result (λ r. Steps nodes.old.items nodes.new.items frames.new.items r (operator (frames_of (trees nodes.old.items) frames.old.items) Whole (apply (maybe (trees nodes.old.items) fun) (at (trees nodes.old.items) x)) o)) }
 {
-    if is_prefix(o.fixity) {
+    if o.fixity.is_prefix() {
         return Ok(Step::Stops(Fault::Unexpected));
     }
     let whole = apply(nodes, fun, x)?;
