@@ -1,0 +1,322 @@
+// Types of a text, with abbreviations replaced.
+ghost use Rattle.std.specs.Prelude.{◌≡◌, ◌⊎◌, [], ◌∷◌, IfErr, IfOk, IfSome};
+ghost use Rattle.lp_sig.specs.Refusals.{IsFaultOf, named, typed, headed, words_of};
+
+use crate::fault::SigFault;
+use crate::making::{Making, Meaning};
+use crate::pieces::{is_variable, spelled_at};
+use indexmap::IndexMap;
+use lp_base::{Limit, Memory, Spot};
+use lp_syntax::{RawType, RawTypeNode};
+use lp_term::TypeId;
+use std::alloc::Global;
+
+// The type variables of a declared type, or the parameters of an abbreviation, with their numbers.
+#[derive(Drop)]
+pub(crate) struct Variables {
+    alloc: Global,
+    numbers: IndexMap<Vec<u8>, u64>,
+    closed: bool,
+    next: u64,
+}
+
+impl Variables {
+    // Each name is taken as it comes.
+    pub(crate) fn open(alloc: Global) -> Variables {
+        Variables {
+            alloc,
+            numbers: IndexMap::new(alloc),
+            closed: false,
+            next: 0,
+        }
+    }
+
+    // These parameters alone, or the first of them that stands a second time.
+    pub(crate) fn parameters(
+        alloc: Global,
+        source: &[u8],
+        parameters: &[Spot],
+    ) -> Result<Variables, SigFault>
+        ensures { IfErr result (IsFaultOf source.now (record { names = []; heads = []; parameters = parameters.now; words = [] }) ⊥) }
+    {
+        let mut variables = Variables::open(alloc);
+        for spot in parameters {
+            if variables.numbers.contains_key(spelled_at(source, *spot)) {
+                return Err(SigFault::Differ(*spot));
+            }
+            variables.add(spelled_at(source, *spot))?;
+        }
+        variables.closed = true;
+        Ok(variables)
+    }
+
+    fn add(&mut self, name: &[u8]) -> Result<u64, Memory> {
+        let number = self.next;
+        let key = Vec::from_slice(self.alloc, name)?;
+        self.numbers.insert(key, number)?;
+        self.next = self.next.saturating_add(1);
+        Ok(number)
+    }
+
+    // The number of a name; in a declared type `_` is new at each place.
+    fn number(&mut self, name: &[u8]) -> Result<Option<u64>, Memory> {
+        if self.closed {
+            return Ok(self.numbers.get(name).copied());
+        }
+        if name == b"_".as_slice() {
+            let number = self.next;
+            self.next = self.next.saturating_add(1);
+            return Ok(Some(number));
+        }
+        if let Some(number) = self.numbers.get(name) {
+            return Ok(Some(*number));
+        }
+        let number = self.add(name)?;
+        Ok(Some(number))
+    }
+}
+
+// A word with its arguments: a type, or one that is not known yet, or a fault of the word.
+#[derive(Clone, Copy)]
+enum Made {
+    Type(TypeId),
+    Open,
+    Unknown,
+    Arity,
+}
+
+// The types at these places, if all are known.
+fn types_at(
+    alloc: Global,
+    done: &[Option<TypeId>],
+    places: &[usize],
+) -> Result<Option<Vec<TypeId>>, Memory> {
+    let mut types = Vec::new(alloc);
+    for place in places.iter().copied() {
+        match done.get(place) {
+            Some(Some(id)) => types.push(*id)?,
+            _ => return Ok(None),
+        }
+    }
+    Ok(Some(types))
+}
+
+// The type at a place, if it is known.
+fn type_at(done: &[Option<TypeId>], place: usize) -> Option<TypeId> {
+    match done.get(place) {
+        Some(id) => *id,
+        None => None,
+    }
+}
+
+// The earlier of two faults in the text, if there are any.
+fn earlier(
+    first: Option<(usize, SigFault)>,
+    other: Option<(usize, SigFault)>,
+) -> Option<(usize, SigFault)>
+    ensures { (result ≡ first) ⊎ (result ≡ other) }
+{
+    match (first, other) {
+        (Some((at, known)), Some((from, fault))) => {
+            if at <= from {
+                return Some((at, known));
+            }
+            Some((from, fault))
+        }
+        (Some((at, known)), None) => Some((at, known)),
+        (None, _) => other,
+    }
+}
+
+impl Making {
+    fn word(
+        &mut self,
+        source: &[u8],
+        spot: Spot,
+        arguments: &[usize],
+        done: &[Option<TypeId>],
+        variables: &mut Variables,
+    ) -> Result<Made, Memory> {
+        let name = spelled_at(source, spot);
+        if is_variable(name) {
+            let Some(number) = variables.number(name)? else {
+                return Ok(Made::Unknown);
+            };
+            let id = self.types.var(number)?;
+            return Ok(Made::Type(id));
+        }
+        match self.meaning(name) {
+            None => Ok(Made::Unknown),
+            Some(Meaning::Kind(number, arity)) => {
+                if arguments.len() as u64 != arity as u64 {
+                    return Ok(Made::Arity);
+                }
+                let Some(parts) = types_at(self.alloc, done, arguments)? else {
+                    return Ok(Made::Open);
+                };
+                let id = self.types.con(number, parts.as_slice())?;
+                Ok(Made::Type(id))
+            }
+            Some(Meaning::Abbreviation(place)) => self.replaced(place, arguments, done),
+        }
+    }
+
+    // An abbreviation on its arguments.
+    fn replaced(
+        &mut self,
+        place: usize,
+        arguments: &[usize],
+        done: &[Option<TypeId>],
+    ) -> Result<Made, Memory> {
+        let Some(known) = self.abbreviations.get(place) else {
+            return Ok(Made::Open);
+        };
+        if arguments.len() != known.parameters {
+            return Ok(Made::Arity);
+        }
+        let Some(body) = known.body else {
+            return Ok(Made::Open);
+        };
+        let Some(parts) = types_at(self.alloc, done, arguments)? else {
+            return Ok(Made::Open);
+        };
+        let id = self.types.instance(body, parts.as_slice())?;
+        Ok(Made::Type(id))
+    }
+
+    // A function type between the types at two places.
+    fn between(
+        &mut self,
+        from: usize,
+        to: usize,
+        done: &[Option<TypeId>],
+    ) -> Result<Option<TypeId>, Memory> {
+        let Some(left) = type_at(done, from) else {
+            return Ok(None);
+        };
+        let Some(right) = type_at(done, to) else {
+            return Ok(None);
+        };
+        let id = self.types.arrow(left, right)?;
+        Ok(Some(id))
+    }
+
+    // The type of a node whose parts were looked at before, or the fault of its word with its place.
+    fn expand_node(
+        &mut self,
+        source: &[u8],
+        node: &RawTypeNode,
+        done: &mut Vec<Option<TypeId>>,
+        variables: &mut Variables,
+    ) -> Result<Option<(usize, SigFault)>, Memory>
+        ensures { IfOk result (λ fault. IfSome fault (λ f. IsFaultOf source.now (typed [] (words_of (node.now ∷ []))) ⊥ f.1)) }
+    {
+        match node {
+            RawTypeNode::Arrow(from, to) => {
+                let made = self.between(*from, *to, done.as_slice())?;
+                done.push(made)?;
+                Ok(None)
+            }
+            RawTypeNode::Word(spot, arguments) => {
+                match self.word(
+                    source,
+                    *spot,
+                    arguments.as_slice(),
+                    done.as_slice(),
+                    variables,
+                )? {
+                    Made::Type(id) => {
+                        done.push(Some(id))?;
+                        Ok(None)
+                    }
+                    Made::Open => {
+                        done.push(None)?;
+                        Ok(None)
+                    }
+                    Made::Unknown => {
+                        done.push(None)?;
+                        Ok(Some((spot.from, SigFault::UnknownKind(*spot))))
+                    }
+                    Made::Arity => {
+                        done.push(None)?;
+                        Ok(Some((spot.from, SigFault::Arity(*spot))))
+                    }
+                }
+            }
+        }
+    }
+
+    // A type of a text with its abbreviations replaced, or its first fault. It is none where it has an abbreviation that has a
+    // fault of its own.
+    pub(crate) fn expand(
+        &mut self,
+        source: &[u8],
+        raw: &RawType,
+        variables: &mut Variables,
+    ) -> Result<Option<TypeId>, SigFault>
+        ensures { IfErr result (IsFaultOf source.now (typed [] (words_of raw.now.nodes.items)) ⊥) }
+    {
+        let mut done = Vec::new(self.alloc);
+        let mut fault = None;
+        for node in &raw.nodes {
+            let found = self.expand_node(source, node, &mut done, variables)?;
+            fault = earlier(fault, found);
+        }
+        if let Some((_, first)) = fault {
+            return Err(first);
+        }
+        Ok(type_at(done.as_slice(), raw.root))
+    }
+
+    // A declared type, its variables numbered by first place, with their count.
+    pub(crate) fn scheme(
+        &mut self,
+        source: &[u8],
+        raw: &RawType,
+    ) -> Result<Option<(u8, TypeId)>, SigFault>
+        ensures { IfErr result (IsFaultOf source.now (typed [] (words_of raw.now.nodes.items)) (Unit {0})) }
+    {
+        if has_many_arguments(raw) {
+            return Err(SigFault::Limit(Limit::Arguments));
+        }
+        let mut variables = Variables::open(self.alloc);
+        let Some(whole) = self.expand(source, raw, &mut variables)? else {
+            return Ok(None);
+        };
+        let found = self.types.variables(whole)?;
+        if found.len() > 255 {
+            return Err(SigFault::Limit(Limit::Arguments));
+        }
+        let names = self.new_names(found.as_slice(), variables.next)?;
+        let scheme = self.types.instance(whole, names.as_slice())?;
+        Ok(Some((found.len() as u8, scheme)))
+    }
+
+    // For each variable below a number its new one: its place among those that were found.
+    fn new_names(&mut self, found: &[u64], next: u64) -> Result<Vec<TypeId>, Memory> {
+        let first = self.types.var(0)?;
+        let mut names = Vec::new(self.alloc);
+        for _ in 0..next {
+            names.push(first)?;
+        }
+        for place in 0..found.len() {
+            let id = self.types.var(place as u64)?;
+            if let Some(slot) = names.get_mut(found[place] as usize) {
+                *slot = id;
+            }
+        }
+        Ok(names)
+    }
+}
+
+// Whether a type as written has more than 255 arguments.
+fn has_many_arguments(raw: &RawType) -> bool {
+    let mut at = raw.root;
+    for _ in 0..256 {
+        match raw.nodes.get(at) {
+            Some(RawTypeNode::Arrow(_, to)) => at = *to,
+            _ => return false,
+        }
+    }
+    true
+}

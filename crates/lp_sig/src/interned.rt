@@ -1,0 +1,262 @@
+// Types of which each stands once in a bank, so that equal types have equal numbers.
+
+ghost use Rattle.std.specs.Prelude.{◌≡◌, ◌<◌, length, map, true, All};
+
+use indexmap::{IndexMap, IndexSet};
+use lp_base::Memory;
+use lp_term::{Bank, TypeId, TypeNode};
+use std::alloc::Global;
+
+#[derive(PartialEq, Eq, Hash, Drop)]
+enum TypeKey {
+    Var(u64),
+    Con(u32, Vec<usize>),
+    Arrow(usize, usize),
+}
+
+// The numbers of types.
+fn numbers_of(alloc: Global, ids: &[TypeId]) -> Result<Vec<usize>, Memory> {
+    let mut numbers = Vec::new(alloc);
+    for id in ids {
+        numbers.push(id.0)?;
+    }
+    Ok(numbers)
+}
+
+// Whether all types are in the bank.
+pub(crate) fn are_known(bank: &Bank, ids: &[TypeId]) -> bool
+    ensures { result ≡ true → All (λ i. i < length bank.now.types) (map (λ t. t.0) ids.now) }
+{
+    for id in ids.iter().copied() {
+        if id.0 >= bank.type_count() {
+            return false;
+        }
+    }
+    true
+}
+
+#[derive(Drop)]
+pub(crate) struct Types {
+    alloc: Global,
+    bank: Bank,
+    known: IndexMap<TypeKey, usize>,
+}
+
+// What is left to do for an instance of a type.
+#[derive(Clone, Copy)]
+enum Task {
+    Visit(TypeId),
+    Build(TypeId),
+}
+
+impl Types {
+    pub(crate) fn new(alloc: Global) -> Types {
+        Types {
+            alloc,
+            bank: Bank::new(alloc),
+            known: IndexMap::new(alloc),
+        }
+    }
+
+    pub(crate) fn into_bank(self) -> Bank {
+        self.bank
+    }
+
+    pub(crate) fn var(&mut self, number: u64) -> Result<TypeId, Memory> {
+        if let Some(id) = self.known.get(&TypeKey::Var(number)) {
+            return Ok(TypeId(*id));
+        }
+        let id = self.bank.put_type(TypeNode::Var(number))?;
+        self.known.insert(TypeKey::Var(number), id.0)?;
+        Ok(id)
+    }
+
+    pub(crate) fn con(&mut self, kind: u32, parts: &[TypeId]) -> Result<TypeId, Memory> {
+        let key = TypeKey::Con(kind, numbers_of(self.alloc, parts)?);
+        if let Some(id) = self.known.get(&key) {
+            return Ok(TypeId(*id));
+        }
+        if !are_known(&self.bank, parts) {
+            return Err(Memory);
+        }
+        let id = self.bank.put_type(TypeNode::Con(kind, parts))?;
+        self.known.insert(key, id.0)?;
+        Ok(id)
+    }
+
+    pub(crate) fn arrow(&mut self, from: TypeId, to: TypeId) -> Result<TypeId, Memory> {
+        let key = TypeKey::Arrow(from.0, to.0);
+        if let Some(id) = self.known.get(&key) {
+            return Ok(TypeId(*id));
+        }
+        if from.0 >= self.bank.type_count() || to.0 >= self.bank.type_count() {
+            return Err(Memory);
+        }
+        let id = self.bank.put_type(TypeNode::Arrow(from, to))?;
+        self.known.insert(key, id.0)?;
+        Ok(id)
+    }
+
+    // The type with other types for its variables; a variable without one stays.
+    pub(crate) fn instance(&mut self, body: TypeId, args: &[TypeId]) -> Result<TypeId, Memory> {
+        if args.is_empty() {
+            return Ok(body);
+        }
+        let mut made = IndexMap::new(self.alloc);
+        let mut work = Vec::new(self.alloc);
+        work.push(Task::Visit(body))?;
+        for _ in 0..u64::MAX {
+            match work.pop() {
+                None => return copy_of(&made, body),
+                Some(Task::Visit(id)) => self.visit(id, args, &mut made, &mut work)?,
+                Some(Task::Build(id)) => self.build(id, &mut made)?,
+            }
+        }
+        Err(Memory)
+    }
+
+    // Looks at a node that has no copy yet; its parts come first.
+    fn visit(
+        &mut self,
+        id: TypeId,
+        args: &[TypeId],
+        made: &mut IndexMap<usize, usize>,
+        work: &mut Vec<Task>,
+    ) -> Result<(), Memory> {
+        if made.contains_key(&id.0) {
+            return Ok(());
+        }
+        if id.0 >= self.bank.type_count() {
+            return Err(Memory);
+        }
+        match self.bank.type_node(id) {
+            TypeNode::Var(number) => {
+                let copy = if number < args.len() as u64 {
+                    args[number as usize]
+                } else {
+                    id
+                };
+                made.insert(id.0, copy.0)?;
+            }
+            TypeNode::Param(_) => {
+                made.insert(id.0, id.0)?;
+            }
+            TypeNode::Con(_, parts) => {
+                work.push(Task::Build(id))?;
+                push_visits(parts, work)?;
+            }
+            TypeNode::Arrow(from, to) => {
+                work.push(Task::Build(id))?;
+                work.push(Task::Visit(to))?;
+                work.push(Task::Visit(from))?;
+            }
+        }
+        Ok(())
+    }
+
+    // Copies a node whose parts have copies.
+    fn build(&mut self, id: TypeId, made: &mut IndexMap<usize, usize>) -> Result<(), Memory> {
+        if id.0 >= self.bank.type_count() {
+            return Err(Memory);
+        }
+        match self.bank.type_node(id) {
+            TypeNode::Var(_) => {}
+            TypeNode::Param(_) => {}
+            TypeNode::Con(kind, parts) => {
+                let copies = copies_of(self.alloc, made, parts)?;
+                let copy = self.con(kind, copies.as_slice())?;
+                made.insert(id.0, copy.0)?;
+            }
+            TypeNode::Arrow(from, to) => {
+                let left = copy_of(made, from)?;
+                let right = copy_of(made, to)?;
+                let copy = self.arrow(left, right)?;
+                made.insert(id.0, copy.0)?;
+            }
+        }
+        Ok(())
+    }
+
+    // The variables of a type, by first place.
+    pub(crate) fn variables(&self, body: TypeId) -> Result<Vec<u64>, Memory> {
+        let mut found = IndexSet::new(self.alloc);
+        let mut seen = IndexSet::new(self.alloc);
+        let mut work = Vec::new(self.alloc);
+        work.push(body)?;
+        for _ in 0..u64::MAX {
+            let Some(id) = work.pop() else {
+                return list_of(self.alloc, &found);
+            };
+            if seen.insert(id.0)? {
+                self.meet(id, &mut found, &mut work)?;
+            }
+        }
+        Err(Memory)
+    }
+
+    // Notes a variable; the parts of any other type come next.
+    fn meet(
+        &self,
+        id: TypeId,
+        found: &mut IndexSet<u64>,
+        work: &mut Vec<TypeId>,
+    ) -> Result<(), Memory> {
+        if id.0 >= self.bank.type_count() {
+            return Err(Memory);
+        }
+        match self.bank.type_node(id) {
+            TypeNode::Var(number) => {
+                found.insert(number)?;
+            }
+            TypeNode::Param(_) => {}
+            TypeNode::Con(_, parts) => push_reversed(parts, work)?,
+            TypeNode::Arrow(from, to) => {
+                work.push(to)?;
+                work.push(from)?;
+            }
+        }
+        Ok(())
+    }
+}
+
+fn push_reversed(ids: &[TypeId], work: &mut Vec<TypeId>) -> Result<(), Memory> {
+    for id in ids.iter().rev().copied() {
+        work.push(id)?;
+    }
+    Ok(())
+}
+
+fn push_visits(ids: &[TypeId], work: &mut Vec<Task>) -> Result<(), Memory> {
+    for id in ids.iter().rev().copied() {
+        work.push(Task::Visit(id))?;
+    }
+    Ok(())
+}
+
+fn list_of(alloc: Global, set: &IndexSet<u64>) -> Result<Vec<u64>, Memory> {
+    let mut list = Vec::new(alloc);
+    for number in set.iter() {
+        list.push(*number)?;
+    }
+    Ok(list)
+}
+
+// The copy of a node, which was made before it.
+fn copy_of(made: &IndexMap<usize, usize>, id: TypeId) -> Result<TypeId, Memory> {
+    match made.get(&id.0) {
+        Some(copy) => Ok(TypeId(*copy)),
+        None => Err(Memory),
+    }
+}
+
+fn copies_of(
+    alloc: Global,
+    made: &IndexMap<usize, usize>,
+    ids: &[TypeId],
+) -> Result<Vec<TypeId>, Memory> {
+    let mut copies = Vec::new(alloc);
+    for id in ids.iter().copied() {
+        copies.push(copy_of(made, id)?)?;
+    }
+    Ok(copies)
+}

@@ -1,0 +1,41 @@
+//! Signatures: the kinds, constants, abbreviations and fixities that a text or an image declares.
+#![tactic(auto)]
+
+// The kinds and abbreviations of a text, before its lines.
+mod announce;
+// What the declarations of a text say, line by line.
+mod declare;
+// Entries of a signature.
+mod entries;
+// Types of a text, with abbreviations replaced.
+mod expand;
+// Why a signature is refused.
+mod fault;
+// Types of which each stands once in a bank.
+mod interned;
+// The declarations so far.
+mod making;
+// The words of a text.
+mod pieces;
+// Names with the place at which each stands first.
+mod places;
+// The bodies of abbreviations.
+mod settle;
+// Signatures and what they tell.
+mod signature;
+// The names of every text.
+mod standard;
+// From texts to a signature.
+mod texts;
+// The order of signatures, and circles of accum_sig.
+mod walk;
+
+pub use entries::{AbbreviationEntry, ConstantEntry, FixityEntry, KindEntry};
+pub use fault::SigFault;
+pub use pieces::{is_variable, spelled_at};
+pub use signature::Signature;
+pub use standard::{standard_constant, standard_kind};
+pub use texts::elaborate;
+
+#[cfg(test)]
+mod tests;

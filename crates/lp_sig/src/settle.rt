@@ -1,0 +1,154 @@
+// The bodies of abbreviations, those that a body names before it.
+
+use crate::expand::Variables;
+use crate::fault::SigFault;
+use crate::making::Making;
+use indexmap::IndexSet;
+use lp_base::{Memory, Spot};
+use lp_syntax::{Declaration, RawType, SignatureText};
+use lp_term::TypeId;
+
+// Where an abbreviation is on its way to be settled.
+#[derive(Clone, Copy)]
+enum Visit {
+    Enter(usize),
+    Leave(usize),
+}
+
+// The parameters and the body of the abbreviation that a line declares.
+fn declared_by(text: &SignatureText, line: usize) -> Option<(&[Spot], &RawType)> {
+    match text.lines.get(line)? {
+        Declaration::Abbreviation(_, parameters, body) => Some((parameters.as_slice(), body)),
+        _ => None,
+    }
+}
+
+impl Making {
+    // The line of the text at work that declares an abbreviation.
+    fn line_of(&self, place: usize) -> Option<usize> {
+        self.abbreviations.get(place)?.line
+    }
+
+    // The uses of the abbreviations of a text, from a place on.
+    fn note_uses(
+        &mut self,
+        source: &[u8],
+        text: &SignatureText,
+        from: usize,
+    ) -> Result<(), Memory> {
+        for place in from..self.abbreviations.len() {
+            if let Some(line) = self.line_of(place) {
+                if let Some((_, raw)) = declared_by(text, line) {
+                    let uses = self.uses_of(source, raw)?;
+                    if let Some(known) = self.abbreviations.get_mut(place) {
+                        known.uses = uses;
+                    }
+                }
+            }
+        }
+        Ok(())
+    }
+
+    // The body of an abbreviation, if it has no fault and those that it names are settled.
+    fn body_of(
+        &mut self,
+        source: &[u8],
+        text: &SignatureText,
+        place: usize,
+    ) -> Result<Option<TypeId>, Memory> {
+        let Some(line) = self.line_of(place) else {
+            return Ok(None);
+        };
+        let Some((parameters, raw)) = declared_by(text, line) else {
+            return Ok(None);
+        };
+        let mut variables = match Variables::parameters(self.alloc, source, parameters) {
+            Ok(variables) => variables,
+            Err(SigFault::Memory) => return Err(Memory),
+            Err(_) => return Ok(None),
+        };
+        match self.expand(source, raw, &mut variables) {
+            Ok(body) => Ok(body),
+            Err(SigFault::Memory) => Err(Memory),
+            Err(_) => Ok(None),
+        }
+    }
+
+    // Puts the abbreviations that one names on a stack.
+    fn push_uses(&self, place: usize, work: &mut Vec<Visit>) -> Result<(), Memory> {
+        if let Some(known) = self.abbreviations.get(place) {
+            for used in known.uses.iter().copied() {
+                work.push(Visit::Enter(used))?;
+            }
+        }
+        Ok(())
+    }
+
+    // Settles an abbreviation of the text behind those that it names.
+    fn settle_from(
+        &mut self,
+        source: &[u8],
+        text: &SignatureText,
+        start: usize,
+        seen: &mut IndexSet<usize>,
+    ) -> Result<(), Memory> {
+        let mut work = Vec::new(self.alloc);
+        work.push(Visit::Enter(start))?;
+        for _ in 0..u64::MAX {
+            match work.pop() {
+                None => return Ok(()),
+                Some(Visit::Enter(place)) => {
+                    if seen.insert(place)? {
+                        work.push(Visit::Leave(place))?;
+                        self.push_uses(place, &mut work)?;
+                    }
+                }
+                Some(Visit::Leave(place)) => {
+                    let body = self.body_of(source, text, place)?;
+                    if let Some(known) = self.abbreviations.get_mut(place) {
+                        known.body = body;
+                    }
+                }
+            }
+        }
+        Err(Memory)
+    }
+
+    // Settles the abbreviations of a text, from a place on.
+    pub(crate) fn settle(
+        &mut self,
+        source: &[u8],
+        text: &SignatureText,
+        from: usize,
+    ) -> Result<(), Memory> {
+        self.note_uses(source, text, from)?;
+        let mut seen = IndexSet::new(self.alloc);
+        for place in 0..from {
+            seen.insert(place)?;
+        }
+        for place in from..self.abbreviations.len() {
+            self.settle_from(source, text, place, &mut seen)?;
+        }
+        Ok(())
+    }
+
+    // Whether these abbreviations lead to one.
+    pub(crate) fn leads_to(&self, uses: &[usize], to: usize) -> Result<bool, Memory> {
+        let mut seen = IndexSet::new(self.alloc);
+        let mut work = Vec::from_slice(self.alloc, uses)?;
+        for _ in 0..u64::MAX {
+            let Some(place) = work.pop() else {
+                return Ok(false);
+            };
+            if place == to {
+                return Ok(true);
+            }
+            if seen.insert(place)? {
+                if let Some(known) = self.abbreviations.get(place) {
+                    work.extend_from_slice(known.uses.as_slice())?;
+                }
+            }
+        }
+        Err(Memory)
+    }
+}

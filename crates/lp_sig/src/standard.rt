@@ -1,0 +1,168 @@
+// The names of every text. Declared kinds have numbers from 8, and declared constants from 32.
+
+ghost use Rattle.std.specs.Prelude.{◌≡◌};
+ghost use Rattle.lp_sig.specs.Rows.{found};
+ghost use Rattle.lp_sig.specs.Standard.{standard_kinds, standard_constants, connectives, relations, operations};
+
+use crate::interned::Types;
+use lp_base::Memory;
+use lp_term::TypeId;
+
+pub(crate) const FIRST_KIND: u32 = 8;
+
+pub(crate) const FIRST_CONSTANT: u32 = 32;
+
+pub(crate) const END_OF_NUMBERS: u32 = 65535;
+
+/// The number of a standard kind, and its count of arguments.
+pub fn standard_kind(name: &[u8]) -> Option<(u32, u8)>
+    ensures { result ≡ found name.now standard_kinds }
+{
+    if name == b"o".as_slice() {
+        return Some((0, 0));
+    }
+    if name == b"int".as_slice() {
+        return Some((1, 0));
+    }
+    if name == b"string".as_slice() {
+        return Some((2, 0));
+    }
+    if name == b"list".as_slice() {
+        return Some((3, 1));
+    }
+    None
+}
+
+fn connective(name: &[u8]) -> Option<u32>
+    ensures { result ≡ found name.now connectives }
+{
+    if name == b",".as_slice() {
+        return Some(0);
+    }
+    if name == b";".as_slice() {
+        return Some(1);
+    }
+    if name == b"=>".as_slice() {
+        return Some(2);
+    }
+    if name == b":-".as_slice() {
+        return Some(3);
+    }
+    if name == b"pi".as_slice() {
+        return Some(4);
+    }
+    if name == b"sigma".as_slice() {
+        return Some(5);
+    }
+    if name == b"true".as_slice() {
+        return Some(6);
+    }
+    if name == b"!".as_slice() {
+        return Some(7);
+    }
+    None
+}
+
+fn relation(name: &[u8]) -> Option<u32>
+    ensures { result ≡ found name.now relations }
+{
+    if name == b"=".as_slice() {
+        return Some(8);
+    }
+    if name == b"is".as_slice() {
+        return Some(9);
+    }
+    if name == b"<".as_slice() {
+        return Some(10);
+    }
+    if name == b">".as_slice() {
+        return Some(11);
+    }
+    if name == b"=<".as_slice() {
+        return Some(12);
+    }
+    if name == b">=".as_slice() {
+        return Some(13);
+    }
+    if name == b"::".as_slice() {
+        return Some(14);
+    }
+    if name == b"nil".as_slice() {
+        return Some(15);
+    }
+    None
+}
+
+fn operation(name: &[u8]) -> Option<u32>
+    ensures { result ≡ found name.now operations }
+{
+    if name == b"+".as_slice() {
+        return Some(16);
+    }
+    if name == b"-".as_slice() {
+        return Some(17);
+    }
+    if name == b"*".as_slice() {
+        return Some(18);
+    }
+    if name == b"div".as_slice() {
+        return Some(19);
+    }
+    if name == b"mod".as_slice() {
+        return Some(20);
+    }
+    if name == b"~".as_slice() {
+        return Some(21);
+    }
+    if name == b"^".as_slice() {
+        return Some(22);
+    }
+    if name == b"size".as_slice() {
+        return Some(23);
+    }
+    None
+}
+
+/// The number of a standard constant.
+pub fn standard_constant(name: &[u8]) -> Option<u32>
+    ensures { result ≡ found name.now standard_constants }
+{
+    if let Some(number) = connective(name) {
+        return Some(number);
+    }
+    if let Some(number) = relation(name) {
+        return Some(number);
+    }
+    operation(name)
+}
+
+// `left -> right -> to`.
+fn on_two(types: &mut Types, left: TypeId, right: TypeId, to: TypeId) -> Result<TypeId, Memory> {
+    let inner = types.arrow(right, to)?;
+    types.arrow(left, inner)
+}
+
+// The type of a standard constant, in which the only type variable is 0.
+pub(crate) fn standard_type(types: &mut Types, number: u32) -> Result<TypeId, Memory> {
+    let goal = types.con(0, &[])?;
+    let int = types.con(1, &[])?;
+    let string = types.con(2, &[])?;
+    let any = types.var(0)?;
+    let list = types.con(3, &[any])?;
+    match number {
+        0 | 1 | 2 | 3 => on_two(types, goal, goal, goal),
+        4 | 5 => {
+            let body = types.arrow(any, goal)?;
+            types.arrow(body, goal)
+        }
+        6 | 7 => Ok(goal),
+        8 | 9 => on_two(types, any, any, goal),
+        10 | 11 | 12 | 13 => on_two(types, int, int, goal),
+        14 => on_two(types, any, list, list),
+        15 => Ok(list),
+        16 | 17 | 18 | 19 | 20 => on_two(types, int, int, int),
+        21 => types.arrow(int, int),
+        22 => on_two(types, string, string, string),
+        _ => types.arrow(string, int),
+    }
+}

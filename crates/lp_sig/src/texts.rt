@@ -1,0 +1,106 @@
+// From texts to a signature.
+ghost use Rattle.std.specs.Global.{Global};
+ghost use Rattle.std.specs.Prelude.{◌≡◌, ◌≢◌, List, IfErr, String, string_bytes};
+ghost use Rattle.lp_sig.specs.Pieces.{spelled};
+ghost use Rattle.lp_sig.specs.Refusals.{IsRefusal};
+ghost use Rattle.lp_sig.specs.declared.fault.SigFault.TheVariants as fault;
+
+use crate::fault::SigFault;
+use crate::making::Making;
+use crate::pieces::spelled_at;
+use crate::signature::Signature;
+use crate::walk::{Step, Ways};
+use lp_base::Memory;
+use lp_syntax::SignatureText;
+use std::alloc::Global;
+
+// A header has the name of its file.
+fn check_header(name: &String, source: &[u8], text: &SignatureText) -> Result<(), SigFault>
+    ensures { IfErr result (λ e. (e ≡ fault.Header text.now.header) × (spelled source.now text.now.header ≢ string_bytes name.now)) }
+{
+    if spelled_at(source, text.header) != name.as_bytes() {
+        return Err(SigFault::Header(text.header));
+    }
+    Ok(())
+}
+
+// The header of a signature.
+fn enter(
+    names: &[String],
+    sources: &[Vec<u8>],
+    texts: &[SignatureText],
+    at: usize,
+) -> Result<(), SigFault>
+    ensures { IfErr result (IsRefusal names.now sources.now texts.now) }
+{
+    let Some(name) = names.get(at) else {
+        return Err(SigFault::Memory);
+    };
+    let Some(source) = sources.get(at) else {
+        return Err(SigFault::Memory);
+    };
+    let Some(text) = texts.get(at) else {
+        return Err(SigFault::Memory);
+    };
+    check_header(name, source.as_slice(), text)
+}
+
+// The declarations of a signature.
+fn declare(
+    making: &mut Making,
+    sources: &[Vec<u8>],
+    texts: &[SignatureText],
+    at: usize,
+) -> Result<(), SigFault>
+    ensures { (names : List (String Global)) → IfErr result (IsRefusal names sources.now texts.now) }
+{
+    let Some(source) = sources.get(at) else {
+        return Err(SigFault::Memory);
+    };
+    let Some(text) = texts.get(at) else {
+        return Err(SigFault::Memory);
+    };
+    making.declare(source.as_slice(), text)
+}
+
+// Takes a step.
+fn take(
+    making: &mut Making,
+    names: &[String],
+    sources: &[Vec<u8>],
+    texts: &[SignatureText],
+    step: Step,
+) -> Result<(), SigFault>
+    ensures { IfErr result (IsRefusal names.now sources.now texts.now) }
+{
+    match step {
+        Step::Enter(at) => enter(names, sources, texts, at),
+        Step::Declare(at) => declare(making, sources, texts, at),
+    }
+}
+
+/// The signature of the text of number `root`: its declarations are those of the signatures that it names by accum_sig, in
+/// order, then its own. A signature is found by its name in `names`; a word that is no such name is passed over.
+///
+/// # Errors
+/// `CyclicSignature` at the first word of accum_sig that leads back to the signature in which it stands goes first. Else the
+/// first fault in text order: of each signature its header, then the signatures that it names, then its own declarations.
+pub fn elaborate(
+    alloc: Global,
+    names: &[String],
+    sources: &[Vec<u8>],
+    texts: &[SignatureText],
+    root: u32,
+) -> Result<Signature, SigFault>
+    ensures refused { IfErr result (IsRefusal names.now sources.now texts.now) }
+{
+    let ways = Ways::of(alloc, names, sources, texts)?;
+    let steps = ways.steps(alloc, root as usize)?;
+    ways.check_circles(alloc, steps.as_slice())?;
+    let mut making = Making::new(alloc);
+    for step in &steps {
+        take(&mut making, names, sources, texts, *step)?;
+    }
+    let signature = making.finish()?;
+    Ok(signature)
+}
