@@ -1,0 +1,12 @@
+pub mod Glossary
+pub mod Named
+pub mod Places
+pub mod Scene
+pub mod Spines
+pub mod Operators
+pub mod Tasks
+pub mod Endings
+pub mod Forms
+pub mod Sides
+pub mod Lines
+pub mod Written
