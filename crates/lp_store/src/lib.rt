@@ -13,6 +13,8 @@ mod slot;
 mod store;
 #[cfg(test)]
 mod tests;
+#[cfg(test)]
+mod timed;
 // What bound and overwritten cells were.
 mod trail;
 

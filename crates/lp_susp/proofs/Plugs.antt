@@ -53,7 +53,7 @@ none_head_neutral t us u e = go t u us e
 pub under_none : (b : Term) → head_step (abs b) ≡ None → head_step b ≡ None
 under_none b e = none_of abs (head_step b) e
 
-neutral_beta : {t s : Term} → IsNeutral t → BetaStep t s → IsNeutral s
+pub neutral_beta : {t s : Term} → IsNeutral t → BetaStep t s → IsNeutral s
 neutral_beta h (here (beta b u)) = absurd h
 neutral_beta h (in_abs p) = absurd h
 neutral_beta h (in_head u p) = neutral_beta h p

@@ -1,5 +1,5 @@
 -- The steps of reading back: downwards to the parts of a cell, and upwards with what is built.
-use Rattle.std.proofs.Common.{◌≡◌, ℕ, zero, suc, ◌+◌, ◌-◌, ◌<◌, ◌≤◌, List, [], ◌∷◌, ◌++◌, length, map, refl, sym, ap, ◌∙◌, subst, arith, Option, Some, None, slice_index_or}
+use Rattle.std.proofs.Common.{◌≡◌, ℕ, zero, suc, ◌+◌, ◌-◌, ◌<◌, ◌≤◌, inl, List, [], ◌∷◌, ◌++◌, length, map, refl, sym, ap, ◌∙◌, subst, arith, Option, Some, None, slice_index_or}
 use Rattle.std.specs.Prelude.{All, IsSome}
 use Rattle.lp_calculus.specs.Term.{Term, abs, app, apply}
 use Rattle.lp_calculus.specs.Convert.{head_step, leftmost_step, option_term, steps}
@@ -90,7 +90,7 @@ stopped_beta s b fs limit told left done t x w (Deep n) same a g h c p k =
     let r = some_of (head_step k.1) k.3 in
     let v = plug_step s b fs k.1 r.0 q.0 q.1 (head_leftmost k.1 r.0 r.1) in
     let m = counts_on c q.2 limit (omega arith) in
-    (k.0 ∙ g, counts_longer m 1 (suc limit) (omega arith) (one_more_step q.0 v.0 v.1))
+    (k.0 ∙ g, inl (counts_longer m 1 (suc limit) (omega arith) (one_more_step q.0 v.0 v.1)))
 
 pub some_count : {A : Type 0} (xs : List A) (from count : ℕ) → 0 < length (span xs from count) → 0 < count
 some_count xs from zero h = h

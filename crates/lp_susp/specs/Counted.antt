@@ -2,6 +2,7 @@
 use Rattle.std.specs.Prelude.{◌≡◌, ℕ, zero, suc, Option, Some, None, IsSome, ◌⊎◌, ◌<◌}
 use Rattle.lp_calculus.specs.Term.{Term, app}
 use Rattle.lp_calculus.specs.Convert.{head_step, leftmost_step, steps, Reduces}
+use Rattle.lp_calculus.specs.Normal.{nodes, IsBetaNormal}
 use Rattle.lp_term.specs.declared.reduce.TermRefusal.{TermRefusal}
 use Rattle.lp_term.specs.declared.reduce.TermRefusal.TheVariants.{Deep, Memory}
 
@@ -28,7 +29,12 @@ abbrev pub IsDeepOnlyWhere : ℕ → Term → TermRefusal → Type 0
 IsDeepOnlyWhere limit t (Deep n) = (n ≡ limit) × IsSome (steps head_step (suc limit) t)
 IsDeepOnlyWhere limit t Memory = Unit {0}
 
--- the limit is told, and leftmost reduction takes more steps than the limit
+-- the limit is told, and leftmost reduction takes more steps than the limit, or each beta-normal form of the term has more nodes than the limit
 abbrev pub IsDeepBeta : ℕ → Term → TermRefusal → Type 0
-IsDeepBeta limit t (Deep n) = (n ≡ limit) × IsSome (steps leftmost_step (suc limit) t)
+IsDeepBeta limit t (Deep n) = (n ≡ limit) × (IsSome (steps leftmost_step (suc limit) t) ⊎ ((s : Term) → Reduces t s → IsBetaNormal s → limit < nodes s))
 IsDeepBeta limit t Memory = Unit {0}
+
+-- the limit is told, and all that the term reduces to has more nodes than the limit
+abbrev pub StaysLarge : ℕ → Term → TermRefusal → Type 0
+StaysLarge limit t (Deep n) = (n ≡ limit) × ((s : Term) → Reduces t s → limit < nodes s)
+StaysLarge limit t Memory = Unit {0}

@@ -2,6 +2,7 @@
 use Rattle.std.specs.Prelude.{◌≡◌, ℕ, ◌+◌, ◌<◌, ◌≤◌, List, [], ◌∷◌, length, map, None}
 use Rattle.lp_calculus.specs.Term.{Term, index, atom, abs, app, apply}
 use Rattle.lp_calculus.specs.Convert.{head_step, leftmost_step}
+use Rattle.lp_calculus.specs.Normal.{nodes}
 use Rattle.lp_store.specs.declared.cell.CellId.{CellId}
 use Rattle.lp_store.specs.declared.cell.Span.{Span}
 use Rattle.lp_store.specs.Contents.{Contents, span}
@@ -52,3 +53,19 @@ abbrev pub StateOf : Contents → Nodes → State → Term → Type 0
 StateOf s b (Fresh c) x = Reads s c.0 x
 StateOf s b (Known c) x = Reads s c.0 x × (head_step x ≡ None)
 StateOf s b (Built i) x = (x ≡ tree b i.0) × (leftmost_step x ≡ None)
+
+-- how many nodes the frame has that are built
+abbrev pub nodes_of_frame : Nodes → Frame → ℕ
+nodes_of_frame b Under = 1
+nodes_of_frame b (Head l) = 0
+nodes_of_frame b (Argument d l) = nodes (tree b d.0)
+
+abbrev pub nodes_around : Nodes → List Frame → ℕ
+nodes_around b [] = 0
+nodes_around b (f ∷ fs) = nodes_of_frame b f + nodes_around b fs
+
+-- and how many the state has that are built
+abbrev pub nodes_built : Nodes → State → ℕ
+nodes_built b (Fresh c) = 0
+nodes_built b (Known c) = 0
+nodes_built b (Built i) = nodes (tree b i.0)

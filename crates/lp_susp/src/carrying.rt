@@ -4,7 +4,7 @@ ghost use Rattle.lp_store.specs.Contents.{Contents, cell_at, span, env_list};
 ghost use Rattle.lp_store.specs.Reading.{Avoids, AvoidsAll, parts, Reads, ReadAll, values, carried, FitsEntry};
 ghost use Rattle.lp_store.specs.Sound.{Stands, StandsEntry};
 ghost use Rattle.lp_store.specs.Change.{Extends, KeepsMarks};
-ghost use Rattle.lp_susp.specs.Pending.{IsPending, Carries, entry_of};
+ghost use Rattle.lp_susp.specs.Pending.{IsPending, Carries, Raises, entry_of};
 ghost use Rattle.lp_susp.specs.Kept.{IsExposed};
 
 use lp_base::Memory;
@@ -94,6 +94,57 @@ fn carry_index(
     }
 }
 
+// The environment, with the value in front of it raised in a cell of its own to stand below so many abstractions: all that
+// take the value there share that cell.
+fn raise_first(store: &mut Store, env: Env, nl: u64) -> Result<Env, Memory>
+    requires env { env.0 ≤ length store.old.envs }
+    requires fits { All (FitsEntry nl) (env_list store.old.envs env.0) }
+    ensures raises { IfOk result (λ made. Raises store.old store.new nl (env_list store.old.envs env.0) (env_list store.new.envs made.0)) }
+    ensures avoids { IfOk result (λ made. (c : ℕ) → c < length store.old.cells → AvoidsAll store.old c (values (env_list store.old.envs env.0)) → AvoidsAll store.new c (values (env_list store.new.envs made.0))) }
+    ensures within { IfOk result (λ made. made.0 ≤ length store.new.envs) }
+    ensures kept { Extends store.old store.new }
+    ensures marks { KeepsMarks store.old store.new }
+{
+    let _mark = store.mark();
+    let Some((first, rest)) = store.entry(env) else {
+        return Ok(env);
+    };
+    let EnvEntry::Value(value, level) = first else {
+        return Ok(env);
+    };
+    let raise = Pending {
+        ol: 0,
+        nl: nl - level,
+        env: Env::nil(),
+    };
+    let raised = suspend(store, value, raise)?;
+    let made = store.env(EnvEntry::Value(raised, nl), rest)?;
+    Ok(made)
+}
+
+// The suspension below one more abstraction.
+fn below(store: &mut Store, pending: Pending) -> Result<Pending, Memory>
+    requires pending { IsPending store.old pending }
+    ensures pending { IfOk result (IsPending store.new) }
+    ensures carries { IfOk result (λ inner. (m r : Term) → Carries store.old pending (abs m) r → (n : Term) × Carries store.new inner m n × (abs n ≡ r)) }
+    ensures avoids { IfOk result (λ inner. (c : ℕ) → c < length store.old.cells → AvoidsAll store.old c (values (env_list store.old.envs pending.env.0)) → AvoidsAll store.new c (values (env_list store.new.envs inner.env.0))) }
+    ensures kept { Extends store.old store.new }
+    ensures marks { KeepsMarks store.old store.new }
+{
+    if pending.nl == u64::MAX || pending.ol == u64::MAX {
+        return Err(Memory);
+    }
+    let nl = pending.nl + 1;
+    let raised = raise_first(store, pending.env, nl)?;
+    let _mark = store.mark();
+    let env = store.env(EnvEntry::Dummy(pending.nl), raised)?;
+    Ok(Pending {
+        ol: pending.ol + 1,
+        nl,
+        env,
+    })
+}
+
 fn carry_abstraction(store: &mut Store, body: CellId, pending: Pending) -> Result<CellId, Memory>
     requires body { body.0 < length store.old.cells }
     requires pending { IsPending store.old pending }
@@ -103,16 +154,8 @@ fn carry_abstraction(store: &mut Store, body: CellId, pending: Pending) -> Resul
     ensures kept { Extends store.old store.new }
     ensures marks { KeepsMarks store.old store.new }
 {
-    if pending.nl == u64::MAX || pending.ol == u64::MAX {
-        return Err(Memory);
-    }
     let _mark = store.mark();
-    let env = store.env(EnvEntry::Dummy(pending.nl), pending.env)?;
-    let inner = Pending {
-        ol: pending.ol + 1,
-        nl: pending.nl + 1,
-        env,
-    };
+    let inner = below(store, pending)?;
     let inside = suspend(store, body, inner)?;
     let id = store.push(Cell::Abs(inside))?;
     Ok(id)

@@ -1,13 +1,14 @@
 ghost use Rattle.std.specs.Prelude.{◌≡◌, ℕ, ◌+◌, ◌<◌, ◌≤◌, length, List, [], ◌∷◌, ◌++◌, slice_index_or, IfOk, IfErr, OnOk, All, IfSome, None};
 ghost use Rattle.lp_calculus.specs.Term.{Term};
 ghost use Rattle.lp_calculus.specs.Convert.{head_step, leftmost_step, Reduces};
+ghost use Rattle.lp_calculus.specs.Normal.{nodes};
 ghost use Rattle.lp_store.specs.Contents.{Contents, cell_at, span};
 ghost use Rattle.lp_store.specs.Reading.{Reads};
 ghost use Rattle.lp_store.specs.Change.{KeepsMarks};
 ghost use Rattle.lp_term.specs.Nodes.{Nodes, tree, Extends};
 ghost use Rattle.lp_susp.specs.Kept.{IsExposed, Reduced};
-ghost use Rattle.lp_susp.specs.Counted.{IsDeepBeta};
-ghost use Rattle.lp_susp.specs.Frames.{Plugged, FrameStands, StateStands, StateOf};
+ghost use Rattle.lp_susp.specs.Counted.{IsDeepBeta, StaysLarge};
+ghost use Rattle.lp_susp.specs.Frames.{Plugged, FrameStands, StateStands, StateOf, nodes_around, nodes_built};
 
 use crate::exposing::expose;
 use crate::reducing::{Budget, reduce};
@@ -41,6 +42,7 @@ fn put_leaf(alloc: Global, store: &Store, leaf: CellId, bank: &mut Bank) -> Resu
     ensures kept { Extends bank.old bank.new }
     ensures within { IfOk result (λ id. id.0 < length bank.new.terms) }
     ensures tree { IfOk result (λ id. (x : Term) → Reads store.now leaf.0 x → (tree bank.new id.0 ≡ x) × (leftmost_step x ≡ None)) }
+    ensures one { IfOk result (λ id. nodes (tree bank.new id.0) ≡ 1) }
 {
     match store.cell(leaf) {
         Cell::Const(name, list) => {
@@ -75,26 +77,35 @@ fn put_leaf(alloc: Global, store: &Store, leaf: CellId, bank: &mut Bank) -> Resu
     }
 }
 
-// From an exposed cell that reads head-normal one node downwards.
+// From an exposed cell that reads head-normal one node downwards. `Deep` where it is one node too many.
 fn descend(
     alloc: Global,
     store: &Store,
     exposed: CellId,
     bank: &mut Bank,
     frames: &mut Vec<Frame>,
-) -> Result<State, Memory>
+    room: &mut Budget,
+) -> Result<State, TermRefusal>
     requires cell { exposed.0 < length store.now.cells }
     requires exposed { IsExposed (cell_at store.now exposed.0) }
     requires frames { All (FrameStands store.now bank.old) frames.old.items }
+    requires counted { nodes_around bank.old frames.old.items + room.old.left ≡ room.old.limit }
     ensures kept { Extends bank.old bank.new }
     ensures frames { OnOk result (All (FrameStands store.now bank.new) frames.new.items) }
     ensures stands { IfOk result (StateStands store.now bank.new) }
     ensures state { IfOk result (λ state. (x w : Term) → Reads store.now exposed.0 x → (head_step x ≡ None) → Plugged store.now bank.old frames.old.items x w →
         (y : Term) × StateOf store.now bank.new state y × Plugged store.now bank.new frames.new.items y w) }
+    ensures counted { IfOk result (λ state. nodes_built bank.new state + nodes_around bank.new frames.new.items + room.new.left ≡ room.new.limit) }
+    ensures refused { IfErr result (λ e. (x w : Term) → Plugged store.now bank.old frames.old.items x w → StaysLarge room.old.limit w e) }
+    ensures limit { room.new.limit ≡ room.old.limit }
 {
     match store.cell(exposed) {
         Cell::Abs(body) => {
+            if room.left == 0 {
+                return Err(TermRefusal::Deep(room.limit));
+            }
             frames.push(Frame::Under)?;
+            room.left -= 1;
             Ok(State::Known(body))
         }
         Cell::App(head, arguments) => {
@@ -102,7 +113,11 @@ fn descend(
             Ok(State::Known(head))
         }
         _ => {
+            if room.left == 0 {
+                return Err(TermRefusal::Deep(room.limit));
+            }
             let id = put_leaf(alloc, store, exposed, bank)?;
+            room.left -= 1;
             Ok(State::Built(id))
         }
     }
@@ -140,6 +155,7 @@ fn ascend(
     ensures stands { IfOk result (λ next. IfSome next (StateStands store.now bank.new)) }
     ensures state { IfOk result (λ next. IfSome next (λ state. (x w : Term) → (x ≡ tree bank.old built.0) → (leftmost_step x ≡ None) → Plugged store.now bank.old frames.old.items x w →
         (y : Term) × StateOf store.now bank.new state y × Plugged store.now bank.new frames.new.items y w)) }
+    ensures counted { IfOk result (λ next. IfSome next (λ state. nodes_built bank.new state + nodes_around bank.new frames.new.items ≡ nodes (tree bank.old built.0) + nodes_around bank.old frames.old.items)) }
     ensures ended { IfOk result (λ next. (next ≡ None) → (frames.old.items ≡ []) × (bank.new ≡ bank.old)) }
 {
     let Some(frame) = frames.pop() else {
@@ -165,8 +181,9 @@ fn ascend(
     }
 }
 
-/// The beta-normal form of the cell's term in the bank, which its reading reduces to. What is contracted on the way is contracted in the store, so that nothing is reduced twice.
-/// `Deep` comes only where leftmost reduction takes more than `limit` steps.
+/// The beta-normal form of the cell's term in the bank, which its reading reduces to: a form of at most `limit` nodes, where a node is a head or an abstraction.
+/// What is contracted on the way is contracted in the store, so that nothing is reduced twice. `Deep` comes only where leftmost reduction takes more than `limit`
+/// steps, or where the form has more nodes.
 pub fn read_back(
     alloc: Global,
     store: &mut Store,
@@ -176,6 +193,7 @@ pub fn read_back(
 ) -> Result<TermId, TermRefusal>
     requires { cell.0 < length store.old.cells }
     ensures term { IfOk result (λ id. (t : Term) → Reads store.old cell.0 t → Reduces t (tree bank.new id.0) × (leftmost_step (tree bank.new id.0) ≡ None)) }
+    ensures nodes { IfOk result (λ id. nodes (tree bank.new id.0) ≤ limit) }
     ensures refused { IfErr result (λ e. (t : Term) → Reads store.old cell.0 t → IsDeepBeta limit t e) }
     ensures within { IfOk result (λ id. id.0 < length bank.new.terms) }
     ensures kept { Extends bank.old bank.new }
@@ -183,6 +201,7 @@ pub fn read_back(
     ensures marks { KeepsMarks store.old store.new }
 {
     let mut budget = Budget { limit, left: limit };
+    let mut room = Budget { limit, left: limit };
     let mut frames: Vec<Frame> = Vec::new(alloc);
     let mut state = State::Fresh(cell);
     for _step in 0..u64::MAX {
@@ -192,12 +211,18 @@ pub fn read_back(
                     Ok(id) => id,
                     Err(refusal) => return Err(refusal),
                 };
-                state = descend(alloc, store, id, bank, &mut frames)?;
+                match descend(alloc, store, id, bank, &mut frames, &mut room) {
+                    Ok(next) => state = next,
+                    Err(refusal) => return Err(refusal),
+                }
                 continue;
             }
             State::Known(at) => {
                 let id = expose(alloc, store, at)?;
-                state = descend(alloc, store, id, bank, &mut frames)?;
+                match descend(alloc, store, id, bank, &mut frames, &mut room) {
+                    Ok(next) => state = next,
+                    Err(refusal) => return Err(refusal),
+                }
                 continue;
             }
             State::Built(id) => {

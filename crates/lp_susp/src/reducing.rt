@@ -14,7 +14,7 @@ use lp_store::{Cell, CellId, Env, EnvEntry, Span, Store};
 use lp_term::TermRefusal;
 use std::alloc::Global;
 
-// How many contractions may be made in all, and how many are left.
+// How many contractions may be made, or nodes put into a bank, in all, and how many are left.
 #[derive(Clone, Copy)]
 pub(crate) struct Budget {
     pub(crate) limit: u64,

@@ -3,7 +3,7 @@ ghost use Rattle.std.specs.Prelude.{◌<◌, length, IfOk};
 use crate::{head_normal, read_back};
 use lp_base::Memory;
 use lp_store::{Cell, CellId, Store};
-use lp_term::{Bank, TermNode};
+use lp_term::{Bank, TermNode, TermRefusal};
 
 // (\x\ y\ x) on the eigenconstants of levels 5 and 6, as two applications.
 fn first_of_two(store: &mut Store) -> Result<CellId, Memory>
@@ -56,4 +56,28 @@ fn reads_back_what_it_reduces_to(rt: HostRuntime) {
     };
     let reached = matches!(bank.term_node(id), TermNode::Eigen(5));
     assert!(rt; reached);
+}
+
+// A term of 2^60 leaves, all of them one cell.
+fn doubled(store: &mut Store) -> Result<CellId, Memory>
+    ensures { IfOk result (λ id. id.0 < length store.new.cells) }
+{
+    let mut term = store.push(Cell::Eigen(1))?;
+    'doublings: for _ in 0..60 {
+        let list = store.list(&[term])?;
+        term = store.push(Cell::App(term, list))?;
+    }
+    Ok(term)
+}
+
+#[test]
+fn a_form_of_too_many_nodes_is_refused(rt: HostRuntime) {
+    let mut store = Store::new(rt.alloc());
+    let Ok(term) = doubled(&mut store) else {
+        return;
+    };
+    let mut bank = Bank::new(rt.alloc());
+    let read = read_back(rt.alloc(), &mut store, term, &mut bank, 1000);
+    let stopped = matches!(read, Err(TermRefusal::Deep(1000)));
+    assert!(rt; stopped);
 }

@@ -11,6 +11,7 @@ use Rattle.lp_susp.proofs.Chains.{all_front, all_last}
 use Rattle.lp_susp.proofs.Keeping.{grows_same}
 use Rattle.lp_susp.proofs.Routes.{empty_list}
 use Rattle.lp_susp.proofs.Plugs.{all_stand_more}
+use Rattle.lp_susp.proofs.Sizes.{up_abs_counted, up_last_counted, up_head_counted, up_next_counted}
 use Rattle.lp_susp.proofs.Readbacks.{up_abs, up_head, up_last, up_next, some_count}
 use Rattle.lp_susp.proofs.reading.ascend.Goals.{Then-is_empty, In_ok-state-in-Argument}
 use Rattle.lp_susp.proofs.reading.ascend.Goals as goal
@@ -103,3 +104,40 @@ returns-in_ok-state-in-Argument-clause-state c = λ x w g n p.
     let k = up_next s b d front c.args.frames.now.items c.next_argument-in-Argument.new.frames.items c.args.built c.in_ok-id-in-Argument.id c.in-Argument.head r put.0 next.0 next.0 c.in_ok-id-in-Argument.ensures.kept (all_front (FrameStands s b) front c.in-Some.frame a)
     (c.in-Some.ensures.items ∙ ap (λ f. front ++ f ∷ []) c.in-Argument.is) c.in_ok-id-in-Argument.ensures.tree h.0 i put.1 put.2 put.3 next.2 x w g n p in
     (k.0, subst (λ y. StateOf s d y k.0) (sym next.1) k.1, k.2)
+
+pub returns-then-is_empty-clause-counted : goal.returns-then-is_empty-clause-counted
+returns-then-is_empty-clause-counted c =
+    let s = c.args.store.now in
+    let b = c.args.bank.now in
+    let front = c.pop.new.self.items in
+    let a = subst (λ l. All (FrameStands s b) l) c.in-Some.ensures.items c.requires.frames in
+    up_last_counted s b c.put_term-in-Argument.new.self front c.args.frames.now.items c.args.built c.in_ok-id-in-Argument.id c.in-Argument.head c.in-Argument.rest c.in_ok-id-in-Argument.ensures.kept (all_front (FrameStands s b) front c.in-Some.frame a)
+    (c.in-Some.ensures.items ∙ ap (λ f. front ++ f ∷ []) c.in-Argument.is) c.in_ok-id-in-Argument.ensures.tree
+
+pub returns-in_ok-id-in-Under-clause-counted : goal.returns-in_ok-id-in-Under-clause-counted
+returns-in_ok-id-in-Under-clause-counted c =
+    let s = c.args.store.now in
+    let b = c.args.bank.now in
+    let front = c.pop.new.self.items in
+    let a = subst (λ l. All (FrameStands s b) l) c.in-Some.ensures.items c.requires.frames in
+    up_abs_counted s b c.put_term.new.self front c.args.frames.now.items c.args.built c.in_ok-id-in-Under.id c.in_ok-id-in-Under.ensures.kept (all_front (FrameStands s b) front c.in-Some.frame a)
+    (c.in-Some.ensures.items ∙ ap (λ f. front ++ f ∷ []) c.in-Under.is) c.in_ok-id-in-Under.ensures.tree
+
+pub returns-in_ok-state-in-Head-clause-counted : goal.returns-in_ok-state-in-Head-clause-counted
+returns-in_ok-state-in-Head-clause-counted c =
+    let front = c.pop.new.self.items in
+    let put = c.in_ok-state-in-Head.ensures.put in
+    let next = c.in_ok-state-in-Head.ensures.next in
+    up_head_counted c.args.bank.now front c.args.frames.now.items c.next_argument.new.frames.items c.args.built c.in-Head.arguments put.0 next.0 c.in_ok-state-in-Head.state (c.in-Some.ensures.items ∙ ap (λ f. front ++ f ∷ []) c.in-Head.is) put.3 next.1
+
+pub returns-in_ok-state-in-Argument-clause-counted : goal.returns-in_ok-state-in-Argument-clause-counted
+returns-in_ok-state-in-Argument-clause-counted c =
+    let s = c.args.store.now in
+    let b = c.args.bank.now in
+    let d = c.put_term-in-Argument.new.self in
+    let front = c.pop.new.self.items in
+    let a = subst (λ l. All (FrameStands s b) l) c.in-Some.ensures.items c.requires.frames in
+    let put = c.in_ok-state-in-Argument.ensures.put in
+    let next = c.in_ok-state-in-Argument.ensures.next in
+    up_next_counted s b d front c.args.frames.now.items c.next_argument-in-Argument.new.frames.items c.args.built c.in_ok-id-in-Argument.id c.in-Argument.head c.in-Argument.rest put.0 next.0 c.in_ok-state-in-Argument.state c.in_ok-id-in-Argument.ensures.kept
+    (all_front (FrameStands s b) front c.in-Some.frame a) (c.in-Some.ensures.items ∙ ap (λ f. front ++ f ∷ []) c.in-Argument.is) c.in_ok-id-in-Argument.ensures.tree put.3 next.1

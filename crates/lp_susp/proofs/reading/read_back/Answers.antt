@@ -4,13 +4,14 @@ use Rattle.lp_calculus.specs.Term.{Term}
 use Rattle.lp_calculus.specs.Convert.{leftmost_step, Reduces, done}
 use Rattle.lp_store.specs.Reading.{Reads}
 use Rattle.lp_term.specs.Nodes.{tree}
-use Rattle.lp_susp.specs.Counted.{Counts, rests, elsewhere}
-use Rattle.lp_susp.specs.Frames.{Plugged, FrameStands, StateOf}
+use Rattle.lp_susp.specs.Counted.{Counts, rests, elsewhere, StaysLarge}
+use Rattle.lp_susp.specs.Frames.{Plugged, FrameStands, StateOf, nodes_around}
 use Rattle.lp_susp.proofs.Chains.{marks_on}
 use Rattle.lp_susp.proofs.Keeping.{reduced_same, reduced_of, reduced_on}
 use Rattle.lp_susp.proofs.TypeWorks.{bank_same, bank_on}
 use Rattle.lp_susp.proofs.Plugs.{plug_works, plug_kept, counts_on, counts_reduce}
 use Rattle.lp_susp.proofs.Readbacks.{stopped_beta}
+use Rattle.lp_susp.proofs.Sizes.{large_beta}
 use Rattle.lp_susp.proofs.reading.read_back.Goals as goal
 
 pub loop-step-init : goal.loop-step-init
@@ -22,6 +23,8 @@ loop-step-init c = record {
   marks = λ m k. (k, refl);
   left = omega arith;
   limit = refl;
+  size = refl;
+  counted = (let q : nodes_around c.args.bank.now c.new-frames.result.items ≡ 0 = ap (nodes_around c.args.bank.now) c.new-frames.ensures.items in omega (arith, q));
   reads = λ t r.
       (let q : 0 ≡ c.args.limit - c.args.limit = omega arith in
       (t, t, r, subst (λ l. Plugged c.args.store.now c.args.bank.now l t t) (sym c.new-frames.ensures.items) refl, subst (λ n. Counts leftmost_step n t t) q (rests t)));
@@ -39,8 +42,37 @@ returns-in-Err-clause-refused c = λ t r.
 pub returns-in-Err-clause-reduced : goal.returns-in-Err-clause-reduced
 returns-in-Err-clause-reduced c = reduced_on c.args.store.now c.loop-step.store c.reduce.new.store c.loop-step.invariant.reduced c.in-Err.ensures.reduced
 
-pub returns-in_err-state-in-Fresh-clause-reduced : goal.returns-in_err-state-in-Fresh-clause-reduced
-returns-in_err-state-in-Fresh-clause-reduced c = reduced_on c.args.store.now c.loop-step.store c.reduce.new.store c.loop-step.invariant.reduced c.in-Ok.ensures.reduced
+pub returns-in-Err-descend-clause-reduced : goal.returns-in-Err-descend-clause-reduced
+returns-in-Err-descend-clause-reduced c = reduced_on c.args.store.now c.loop-step.store c.reduce.new.store c.loop-step.invariant.reduced c.in-Ok.ensures.reduced
+
+pub returns-in-Err-descend-clause-refused : goal.returns-in-Err-descend-clause-refused
+returns-in-Err-descend-clause-refused c = λ t r.
+    let s = c.loop-step.store in
+    let z = c.reduce.new.store in
+    let b = c.loop-step.bank in
+    let fs = c.loop-step.frames.items in
+    let ok = c.in-Ok.ensures in
+    let left = c.reduce.new.budget.left in
+    let v = c.loop-step.invariant.reads t r in
+    let q = ok.works v.0 (subst (λ y. StateOf s b y v.0) c.in-Fresh.is v.2) in
+    let p = plug_works s b fs c.loop-step.invariant.frames (reduced_same s) q.3 v.1 v.3 in
+    let k = plug_kept s z b ok.reduced fs c.loop-step.invariant.frames q.0 q.0 p.0 (done q.0) p.1 in
+    let n = counts_on v.4 p.2 (c.args.limit - left) (omega (arith, ok.left, c.loop-step.invariant.left)) in
+    let m = counts_on n (elsewhere k.2 (rests k.0)) (c.args.limit - left) (omega arith) in
+    large_beta c.args.limit t k.0 c.in-Err-descend.refusal m (subst (λ j. StaysLarge j k.0 c.in-Err-descend.refusal) c.loop-step.invariant.size (c.in-Err-descend.ensures.refused q.0 k.0 k.1))
+
+pub returns-in-Err-descend-2-clause-refused : goal.returns-in-Err-descend-2-clause-refused
+returns-in-Err-descend-2-clause-refused c = λ t r.
+    let s = c.loop-step.store in
+    let z = c.expose.new.store in
+    let b = c.loop-step.bank in
+    let fs = c.loop-step.frames.items in
+    let n = reduced_of s z c.in_ok-id-in-Known.ensures.kept in
+    let v = c.loop-step.invariant.reads t r in
+    let k = plug_kept s z b n fs c.loop-step.invariant.frames v.0 v.0 v.1 (done v.0) v.3 in
+    let j = c.args.limit - c.loop-step.budget.left in
+    let m = counts_on v.4 (elsewhere k.2 (rests k.0)) j (omega arith) in
+    large_beta c.args.limit t k.0 c.in-Err-descend-2.refusal m (subst (λ i. StaysLarge i k.0 c.in-Err-descend-2.refusal) c.loop-step.invariant.size (c.in-Err-descend-2.ensures.refused v.0 k.0 k.1))
 
 pub loop-step-preserved-in-Fresh : goal.loop-step-preserved-in-Fresh
 loop-step-preserved-in-Fresh c =
@@ -49,7 +81,7 @@ loop-step-preserved-in-Fresh c =
     let b = c.loop-step.bank in
     let fs = c.loop-step.frames.items in
     let ok = c.in-Ok.ensures in
-    let e = c.in_ok-state-in-Fresh.ensures in
+    let e = c.in-Ok-descend.ensures in
     let left = c.reduce.new.budget.left in
     record {
       stands = e.stands;
@@ -59,6 +91,8 @@ loop-step-preserved-in-Fresh c =
       marks = marks_on c.args.store.now s z c.loop-step.invariant.marks ok.marks;
       left = omega (arith, ok.left, c.loop-step.invariant.left);
       limit = ok.limit ∙ c.loop-step.invariant.limit;
+      size = e.limit ∙ c.loop-step.invariant.size;
+      counted = e.counted ∙ e.limit ∙ c.loop-step.invariant.size;
       reads = λ t r.
           (let v = c.loop-step.invariant.reads t r in
           let q = ok.works v.0 (subst (λ y. StateOf s b y v.0) c.in-Fresh.is v.2) in
@@ -76,7 +110,7 @@ loop-step-preserved-in-Known c =
     let b = c.loop-step.bank in
     let fs = c.loop-step.frames.items in
     let ok = c.in_ok-id-in-Known.ensures in
-    let e = c.in_ok-state-in-Known.ensures in
+    let e = c.in-Ok-descend-2.ensures in
     let n = reduced_of s z ok.kept in
     record {
       stands = e.stands;
@@ -86,6 +120,8 @@ loop-step-preserved-in-Known c =
       marks = marks_on c.args.store.now s z c.loop-step.invariant.marks ok.marks;
       left = c.loop-step.invariant.left;
       limit = c.loop-step.invariant.limit;
+      size = e.limit ∙ c.loop-step.invariant.size;
+      counted = e.counted ∙ e.limit ∙ c.loop-step.invariant.size;
       reads = λ t r.
           (let v = c.loop-step.invariant.reads t r in
           let x = subst (λ y. StateOf s b y v.0) c.in-Known.is v.2 in

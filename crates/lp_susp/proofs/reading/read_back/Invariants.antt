@@ -1,4 +1,4 @@
-use Rattle.std.proofs.Common.{ℕ, ◌≡◌, ◌≤◌, ◌-◌}
+use Rattle.std.proofs.Common.{ℕ, ◌≡◌, ◌≤◌, ◌+◌, ◌-◌}
 use Rattle.std.specs.Prelude.{All}
 use Rattle.lp_calculus.specs.Term.{Term}
 use Rattle.lp_calculus.specs.Convert.{leftmost_step}
@@ -7,7 +7,7 @@ use Rattle.lp_store.specs.Change.{KeepsMarks}
 use Rattle.lp_term.specs.Nodes.{Extends}
 use Rattle.lp_susp.specs.Kept.{Reduced}
 use Rattle.lp_susp.specs.Counted.{Counts}
-use Rattle.lp_susp.specs.Frames.{Plugged, FrameStands, StateStands, StateOf}
+use Rattle.lp_susp.specs.Frames.{Plugged, FrameStands, StateStands, StateOf, nodes_around, nodes_built}
 use Rattle.lp_susp.proofs.reading.read_back.Given as goal
 
 abbrev pub invariant-loop-step : goal.invariant-loop-step
@@ -19,6 +19,8 @@ invariant-loop-step l = record {
   marks : KeepsMarks l.fn.store l.store;
   left : l.budget.left ≤ l.limit;
   limit : l.budget.limit ≡ l.limit;
+  size : l.room.limit ≡ l.limit;
+  counted : nodes_built l.bank l.state + nodes_around l.bank l.frames.items + l.room.left ≡ l.limit;
   reads : (t : Term) → Reads l.fn.store l.fn.cell.0 t →
       (x : Term) × (w : Term) × StateOf l.store l.bank l.state x × Plugged l.store l.bank l.frames.items x w × Counts leftmost_step (l.limit - l.budget.left) t w;
 }
