@@ -7,7 +7,7 @@ use lp_lexer::tokens;
 use lp_model::program::Typed;
 use lp_sig::{Signature, elaborate};
 use lp_syntax::{RawQuery, query_text, signature_text};
-use lp_term::{Bank, TermNode};
+use lp_term::Bank;
 use std::alloc::Global;
 
 // What a query came to: the counts of its type variables and of its variables, or its fault with the bytes of its spot.
@@ -127,27 +127,5 @@ fn doubling_chain(rt: HostRuntime) {
             assert!(rt; got == Came::Typed(1, 1001));
         }
         Err(Memory) => assert!(rt; false),
-    }
-}
-
-// The formula of `X = Y`: the first variable is the outermost index.
-#[test]
-fn first_variable_is_outermost(rt: HostRuntime) {
-    let query: &[u8] = b"X = Y";
-    let (Some(known), Some(raw)) = (declared(rt.alloc(), b"sig s."), read(rt.alloc(), query)) else {
-        assert!(rt; false);
-        return;
-    };
-    let mut bank = Bank::new(rt.alloc());
-    match type_query(rt.alloc(), &known, query, &raw, &mut bank) {
-        Ok(typed) => match bank.term_node(typed.formula) {
-            TermNode::App(_, arguments) => {
-                assert!(rt; arguments.len() == 2);
-                assert!(rt; matches!(bank.term_node(arguments[0]), TermNode::Index(1)));
-                assert!(rt; matches!(bank.term_node(arguments[1]), TermNode::Index(0)));
-            }
-            _ => assert!(rt; false),
-        },
-        Err(_) => assert!(rt; false),
     }
 }
