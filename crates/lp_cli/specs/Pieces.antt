@@ -3,7 +3,7 @@ use Rattle.std.specs.Prelude.{◌≡◌, ℕ, suc, List, map}
 use Rattle.lp_model.specs.Events.{Event, Gave, Over, Advances}
 use Rattle.lp_model.specs.Horn.{counted}
 use Rattle.lp_model.specs.HornSearch.{AnswerOf, by_number, look}
-use Rattle.lp_plain.specs.Held.{Held}
+use Rattle.lp_horn_search.specs.Held.{Held}
 use Rattle.lp_fragment.specs.Meaning.{Meaning}
 use Rattle.lp_cli.specs.Answered.{clauses, first_state, shown}
 use Rattle.lp_cli.specs.declared.answer.Piece.{Piece}

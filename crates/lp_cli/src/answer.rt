@@ -2,7 +2,7 @@
 ghost use Rattle.std.specs.Prelude.{◌≡◌, ◌≢◌, ◌+◌, ◌++◌, ◌<◌, ◌≤◌, ◌⊎◌, ◌^◌, ℕ, List, length, map, Some, None, IfOk, IfSome};
 ghost use Rattle.lp_base.specs.Counts.{HasRisen, Counts};
 ghost use Rattle.lp_base.specs.Written.{Appends, AppendsPrefix};
-ghost use Rattle.lp_plain.specs.Held.{held};
+ghost use Rattle.lp_horn_search.specs.Held.{held};
 ghost use Rattle.lp_fragment.specs.Kinds.{IsMeaning};
 ghost use Rattle.lp_cli.specs.Order.{Search as Searching};
 ghost use Rattle.lp_cli.specs.Ends.{Writes, WritesPrefix};
@@ -14,7 +14,7 @@ use lp_base::{Memory, Sink, Status};
 use lp_fragment::Reading;
 use lp_horn::{answer_text, program_of};
 use lp_model::ending::Ending;
-use lp_plain::{HornEvent, Search};
+use lp_horn_search::{HornEvent, Search};
 use std::alloc::Global;
 
 /// The lines of the next answer, or how the search ended.

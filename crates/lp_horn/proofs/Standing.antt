@@ -7,11 +7,11 @@ use Rattle.std.proofs.Math.Seq.{get_or-append_seam}
 use Rattle.std.proofs.lemmas.List.Elements.{All-nil, All-cons}
 use Rattle.lp_calculus.specs.Term.{Term, atom, apply}
 use Rattle.lp_calculus.specs.Term as term
-use Rattle.lp_plain.specs.declared.horn.Horn.{Horn}
+use Rattle.lp_horn_search.specs.declared.horn.Horn.{Horn}
 use Rattle.lp_term.specs.Node.{TermShape, const_node, index_node, app_node, TermBelow}
 use Rattle.lp_term.specs.Nodes.{Nodes, term_at, tree, node_tree, Extends}
 use Rattle.lp_term.specs.declared.node.TermId.{TermId}
-use Rattle.lp_plain.specs.Condition.{IsArgumentNode, IsName, IsAtomNode, IsAtomIn, AreAtomsIn, IsHeadIn, IsClauseIn, head_tree, clause_of, query_of}
+use Rattle.lp_horn_search.specs.Condition.{IsArgumentNode, IsName, IsAtomNode, IsAtomIn, AreAtomsIn, IsHeadIn, IsClauseIn, head_tree, clause_of, query_of}
 use Rattle.lp_model.specs.Horn.{Horn as ModelHorn, HornQuery, counted, counted_query}
 use Rattle.lp_fragment.specs.Declarations.{Constants}
 use Rattle.lp_fragment.specs.Sentences.{Argument, constant, variable, Atom, Goals}

@@ -4,7 +4,7 @@ use Rattle.std.specs.List.{AllZip}
 use Rattle.lp_term.specs.Node.{TermShape, const_node, index_node, app_node}
 use Rattle.lp_term.specs.Nodes.{Nodes, term_at, tree}
 use Rattle.lp_term.specs.declared.node.TermId.{TermId}
-use Rattle.lp_plain.specs.declared.horn.Horn.{Horn}
+use Rattle.lp_horn_search.specs.declared.horn.Horn.{Horn}
 use Rattle.lp_fragment.specs.Sentences.{Argument, constant, variable, Atom, Goals}
 use Rattle.lp_horn.specs.Program.{argument_term, atom_term}
 

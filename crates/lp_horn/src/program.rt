@@ -8,7 +8,7 @@ ghost use Rattle.lp_horn.specs.Stands.{argument_node, ArgumentStands, ArgumentsS
 
 use lp_base::Memory;
 use lp_fragment::{Argument, Atom, Goals, Reading};
-use lp_plain::Horn;
+use lp_horn_search::Horn;
 use lp_term::{Bank, TermId, TermNode};
 use std::alloc::Global;
 

@@ -5,7 +5,7 @@ use Rattle.lp_base.specs.declared.status.Status.TheVariants as variant
 use Rattle.lp_cli.specs.Ends.{Writes, WritesPrefix}
 use Rattle.lp_cli.specs.Order.{Search}
 use Rattle.lp_cli.specs.Pieces.{IsNext}
-use Rattle.lp_plain.specs.Held.{held}
+use Rattle.lp_horn_search.specs.Held.{held}
 use Rattle.lp_cli.proofs.Counting.{same_count}
 use Rattle.lp_cli.proofs.Progress.{progress_none, progress_more, progress_fewer, memory_ends, memory_begins, answer_begins, search_ends, end_begins, ends_without_fault}
 use Rattle.lp_cli.proofs.answer.write_answers.Goals as goal

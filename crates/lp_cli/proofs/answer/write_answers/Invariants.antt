@@ -1,5 +1,5 @@
 use Rattle.std.proofs.Common.{◌≡◌}
-use Rattle.lp_plain.specs.Held.{held}
+use Rattle.lp_horn_search.specs.Held.{held}
 use Rattle.lp_cli.proofs.Progress.{Progress}
 use Rattle.lp_cli.proofs.answer.write_answers.Given as goal
 
