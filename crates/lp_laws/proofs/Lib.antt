@@ -36,3 +36,4 @@ pub mod Renamed
 pub mod Renamings
 pub mod Worked
 pub mod Rows
+pub mod Binders

@@ -9,5 +9,7 @@ pub mod horn;
 pub mod skeleton;
 /// Uniform proofs.
 pub mod proofs;
+/// Shown text.
+pub mod shown;
 /// The plain search of hereditary Harrop goals.
 pub mod search;
