@@ -1,0 +1,5 @@
+pub mod Levels
+pub mod Right
+pub mod TypeSolutions
+pub mod Solutions
+pub mod Untyped
