@@ -1,5 +1,5 @@
 //! What the type variables are bound to.
-ghost use Rattle.std.specs.Prelude.{◌≡◌, ℕ, ◌<◌, length, List, [], ◌∷◌, ◌++◌, OnOk, OnErr, Some, None, Option, nat_eq, if◌then◌else◌};
+ghost use Rattle.std.specs.Prelude.{◌≡◌, ℕ, ◌<◌, length, List, [], ◌∷◌, ◌++◌, OnOk, OnErr, Some, None, Option, nat_eq, if◌then◌else◌, slice_get};
 ghost use Rattle.indexmap.specs.IndexMap.{get};
 ghost use Rattle.lp_calculus.specs.Types.{instance};
 ghost use Rattle.lp_term.specs.Nodes.{type_tree};
@@ -39,6 +39,23 @@ impl Bindings {
         ensures { result ≡ get nat_eq self.now.made variable }
     {
         self.made.get(&variable).copied()
+    }
+
+    /// How many variables are bound.
+    pub fn len(&self) -> usize
+        ensures { result ≡ length self.now.made.entries }
+    {
+        self.made.len()
+    }
+
+    /// The variable that was bound at this place in the order, with its type.
+    pub fn entry(&self, place: usize) -> Option<(u64, TypeId)>
+        ensures { result ≡ slice_get self.now.made.entries place }
+    {
+        match self.made.get_index(place) {
+            Some((variable, to)) => Some((*variable, *to)),
+            None => None,
+        }
     }
 
     // Binds a variable that is not bound.

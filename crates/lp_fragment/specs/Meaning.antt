@@ -1,5 +1,5 @@
 -- What the three texts of a module and a query mean, where they are in the fragment.
-use Rattle.std.specs.Prelude.{ℕ, List, [], ◌∷◌, codes, Option, Some, None, option_map, option_and_then, Bool, false, not, ◌&&◌, if◌then◌else◌}
+use Rattle.std.specs.Prelude.{ℕ, List, [], ◌∷◌, codes, Option, Some, None, option_map, option_and_then, Bool, false, not, is_some, ◌&&◌, if◌then◌else◌}
 use Rattle.std.specs.Str.{bytes_eq}
 use Rattle.lp_fragment.specs.Words.{Word, lower, upper, words}
 use Rattle.lp_fragment.specs.Lists.{each, split, closed}
@@ -32,6 +32,10 @@ sentences_under key name ws = option_and_then (under_header key name) (closed (s
 
 unfoldable pub signature : Name → List Word → Option Constants
 signature name ws = option_and_then (λ ss. option_and_then declared (each declaration ss)) (sentences_under (codes "sig") name ws)
+
+-- a text by itself is that of `name.sig` in the fragment
+unfoldable pub is_signature : Name → (sig : List ℕ) → Bool
+is_signature name sig = is_some (option_and_then (signature name) (words sig))
 
 unfoldable pub clauses : Constants → Name → List Word → Option (List Goals)
 clauses cs name ws = option_and_then (each (sentence cs)) (sentences_under (codes "module") name ws)

@@ -21,5 +21,5 @@ mod words;
 pub use constants::{Constant, Constants};
 pub use laws::meanings_are_well_kinded;
 pub use names::Names;
-pub use reading::{Reading, read};
+pub use reading::{Reading, is_signature, read};
 pub use sentences::{Argument, Atom, Goals, Variables};

@@ -4,7 +4,7 @@ ghost use Rattle.lp_fragment.specs.Words.{word_of, words};
 ghost use Rattle.lp_fragment.specs.Lists.{each};
 ghost use Rattle.lp_fragment.specs.Declarations.{declaration};
 ghost use Rattle.lp_fragment.specs.Sentences.{sentence};
-ghost use Rattle.lp_fragment.specs.Meaning.{is_header, sentences_under, signature, clauses, meaning};
+ghost use Rattle.lp_fragment.specs.Meaning.{is_header, sentences_under, signature, is_signature, clauses, meaning};
 ghost use Rattle.lp_fragment.specs.Views.{words_in, line};
 
 use crate::constants::{Constants, declared};
@@ -148,6 +148,18 @@ fn clauses(
         return Ok(None);
     };
     clauses_of(alloc, constants, text, &sentences)
+}
+
+/// Whether a text by itself is that of `name.sig` in the fragment.
+#[tactic(auto, unfolding(crate::specs::Meaning::is_signature))]
+pub fn is_signature(alloc: Global, name: &[u8], sig: &[u8]) -> Result<bool, Memory>
+    ensures { IfOk result (λ b. b ≡ is_signature name.now sig.now) }
+{
+    let Some(tokens) = tokens_of(alloc, sig)? else {
+        return Ok(false);
+    };
+    let constants = signature(alloc, name, sig, &tokens)?;
+    Ok(constants.is_some())
 }
 
 /// What the texts of `name.sig`, of `name.mod` and of a query mean, or none where they are not in the fragment.
