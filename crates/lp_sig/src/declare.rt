@@ -14,7 +14,7 @@ use lp_syntax::{Declaration, RawType, SignatureText};
 use lp_term::TypeId;
 
 // A declared name has at most 255 bytes.
-fn check_length(source: &[u8], name: Spot) -> Result<(), SigFault>
+pub(crate) fn check_length(source: &[u8], name: Spot) -> Result<(), SigFault>
     ensures { IfErr result (IsFaultOf source.now (named (name ∷ [])) ⊥) }
 {
     if spelled_at(source, name).len() > 255 {
@@ -23,7 +23,7 @@ fn check_length(source: &[u8], name: Spot) -> Result<(), SigFault>
     Ok(())
 }
 
-fn check_lengths(source: &[u8], names: &[Spot]) -> Result<(), SigFault>
+pub(crate) fn check_lengths(source: &[u8], names: &[Spot]) -> Result<(), SigFault>
     ensures { IfErr result (IsFaultOf source.now (named names.now) ⊥) }
 {
     for name in names {
@@ -34,7 +34,7 @@ fn check_lengths(source: &[u8], names: &[Spot]) -> Result<(), SigFault>
 
 impl Making {
     // A kind has the count of arguments with which it was announced first.
-    fn declare_kind(&self, source: &[u8], name: Spot, arity: u32) -> Result<(), SigFault>
+    pub(crate) fn declare_kind(&self, source: &[u8], name: Spot, arity: u32) -> Result<(), SigFault>
         ensures { IfErr result (IsFaultOf source.now (named (name ∷ [])) ⊥) }
     {
         check_length(source, name)?;
@@ -52,7 +52,7 @@ impl Making {
         }
     }
 
-    fn declare_kinds(&self, source: &[u8], names: &[Spot], arity: u32) -> Result<(), SigFault>
+    pub(crate) fn declare_kinds(&self, source: &[u8], names: &[Spot], arity: u32) -> Result<(), SigFault>
         ensures { IfErr result (IsFaultOf source.now (named names.now) (255 < arity)) }
     {
         for name in names {
@@ -64,7 +64,7 @@ impl Making {
         Ok(())
     }
 
-    fn add_constant(&mut self, word: &[u8], type_vars: u8, scheme: TypeId) -> Result<(), SigFault>
+    pub(crate) fn add_constant(&mut self, word: &[u8], type_vars: u8, scheme: TypeId) -> Result<(), SigFault>
         ensures { IfErr result IsWant }
     {
         let place = self.constants.len();
@@ -84,7 +84,7 @@ impl Making {
     }
 
     // The type with which a constant was declared before.
-    fn known_scheme(&mut self, word: &[u8]) -> Result<Option<TypeId>, Memory> {
+    pub(crate) fn known_scheme(&mut self, word: &[u8]) -> Result<Option<TypeId>, Memory> {
         if let Some(number) = standard_constant(word) {
             let known = standard_type(&mut self.types, number)?;
             return Ok(Some(known));
@@ -98,7 +98,7 @@ impl Making {
         }
     }
 
-    fn declare_constant(
+    pub(crate) fn declare_constant(
         &mut self,
         source: &[u8],
         name: Spot,
@@ -136,7 +136,7 @@ impl Making {
     }
 
     // A fault of the type goes before names that are declared otherwise, since there is no type to compare.
-    fn declare_constants(
+    pub(crate) fn declare_constants(
         &mut self,
         source: &[u8],
         names: &[Spot],
@@ -186,7 +186,7 @@ impl Making {
         }
     }
 
-    fn declare_abbreviation(
+    pub(crate) fn declare_abbreviation(
         &mut self,
         source: &[u8],
         name: Spot,
@@ -211,7 +211,7 @@ impl Making {
         Ok(())
     }
 
-    fn declare_fixity(&mut self, word: &[u8], fixity: Fixity, number: u8) -> Result<(), Memory> {
+    pub(crate) fn declare_fixity(&mut self, word: &[u8], fixity: Fixity, number: u8) -> Result<(), Memory> {
         if self.fixity_places.of(word).is_some() {
             return Ok(());
         }

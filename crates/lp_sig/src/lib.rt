@@ -13,12 +13,22 @@ mod expand;
 mod fault;
 // Types of which each stands once in a bank.
 mod interned;
+// The declarations of a text by their lines.
+mod lines;
 // The declarations so far.
 mod making;
+// Why a module's declarations are refused.
+mod module_fault;
+// What the declarations of a module say, line by line.
+mod module_lines;
+// From a module's declarations to the signature of what it sees.
+mod module_text;
 // The words of a text.
 mod pieces;
 // Names with the place at which each stands first.
 mod places;
+// What a text sees of other signatures.
+mod see;
 // The bodies of abbreviations.
 mod settle;
 // Signatures and what they tell.
@@ -32,9 +42,13 @@ mod walk;
 
 pub use entries::{AbbreviationEntry, ConstantEntry, FixityEntry, KindEntry};
 pub use fault::SigFault;
+pub use module_fault::ModuleSigFault;
+pub use module_text::module_signature;
 pub use pieces::{is_variable, spelled_at};
 pub use signature::Signature;
-pub use standard::{standard_constant, standard_kind};
+pub use standard::{
+    END_OF_NUMBERS, FIRST_CONSTANT, FIRST_KIND, standard_constant, standard_kind,
+};
 pub use texts::elaborate;
 
 #[cfg(test)]

@@ -2,10 +2,11 @@
 
 use crate::expand::Variables;
 use crate::fault::SigFault;
+use crate::lines::Lines;
 use crate::making::Making;
 use indexmap::IndexSet;
 use lp_base::{Memory, Spot};
-use lp_syntax::{Declaration, RawType, SignatureText};
+use lp_syntax::{Declaration, RawType};
 use lp_term::TypeId;
 
 // Where an abbreviation is on its way to be settled.
@@ -16,8 +17,8 @@ enum Visit {
 }
 
 // The parameters and the body of the abbreviation that a line declares.
-fn declared_by(text: &SignatureText, line: usize) -> Option<(&[Spot], &RawType)> {
-    match text.lines.get(line)? {
+fn declared_by<T: Lines>(text: &T, line: usize) -> Option<(&[Spot], &RawType)> {
+    match text.declaration(line)? {
         Declaration::Abbreviation(_, parameters, body) => Some((parameters.as_slice(), body)),
         _ => None,
     }
@@ -30,10 +31,10 @@ impl Making {
     }
 
     // The uses of the abbreviations of a text, from a place on.
-    fn note_uses(
+    fn note_uses<T: Lines>(
         &mut self,
         source: &[u8],
-        text: &SignatureText,
+        text: &T,
         from: usize,
     ) -> Result<(), Memory> {
         for place in from..self.abbreviations.len() {
@@ -50,10 +51,10 @@ impl Making {
     }
 
     // The body of an abbreviation, if it has no fault and those that it names are settled.
-    fn body_of(
+    fn body_of<T: Lines>(
         &mut self,
         source: &[u8],
-        text: &SignatureText,
+        text: &T,
         place: usize,
     ) -> Result<Option<TypeId>, Memory> {
         let Some(line) = self.line_of(place) else {
@@ -85,10 +86,10 @@ impl Making {
     }
 
     // Settles an abbreviation of the text behind those that it names.
-    fn settle_from(
+    fn settle_from<T: Lines>(
         &mut self,
         source: &[u8],
-        text: &SignatureText,
+        text: &T,
         start: usize,
         seen: &mut IndexSet<usize>,
     ) -> Result<(), Memory> {
@@ -115,10 +116,10 @@ impl Making {
     }
 
     // Settles the abbreviations of a text, from a place on.
-    pub(crate) fn settle(
+    pub(crate) fn settle<T: Lines>(
         &mut self,
         source: &[u8],
-        text: &SignatureText,
+        text: &T,
         from: usize,
     ) -> Result<(), Memory> {
         self.note_uses(source, text, from)?;

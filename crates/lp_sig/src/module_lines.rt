@@ -1,0 +1,335 @@
+// What the declarations of a module say, line by line.
+
+use crate::declare::check_lengths;
+use crate::fault::SigFault;
+use crate::making::Making;
+use crate::module_fault::ModuleSigFault;
+use crate::pieces::spelled_at;
+use crate::see::Sight;
+use crate::signature::Signature;
+use crate::standard::{standard_constant, standard_kind};
+use indexmap::{IndexMap, IndexSet};
+use lp_base::{Limit, Memory, Spot};
+use lp_syntax::{Declaration, ModuleText, RawType, Sentence};
+use std::alloc::Global;
+
+// The names that a module's text declares with a kind or a type, and its words of accum_sig and accumulate with the numbers of the
+// signatures that they name.
+#[derive(Drop)]
+pub(crate) struct Said {
+    alloc: Global,
+    kinds: IndexSet<Vec<u8>>,
+    constants: IndexSet<Vec<u8>>,
+    accum_sigs: IndexMap<Vec<u8>, usize>,
+    accumulates: IndexMap<Vec<u8>, usize>,
+}
+
+// Notes names.
+fn note(
+    alloc: Global,
+    source: &[u8],
+    names: &[Spot],
+    set: &mut IndexSet<Vec<u8>>,
+) -> Result<(), Memory> {
+    for name in names {
+        let key = Vec::from_slice(alloc, spelled_at(source, *name))?;
+        set.insert(key)?;
+    }
+    Ok(())
+}
+
+// Numbers words by first place.
+fn number(
+    alloc: Global,
+    source: &[u8],
+    words: &[Spot],
+    numbers: &mut IndexMap<Vec<u8>, usize>,
+) -> Result<(), Memory> {
+    for word in words {
+        let name = spelled_at(source, *word);
+        if !numbers.contains_key(name) {
+            let key = Vec::from_slice(alloc, name)?;
+            let next = numbers.len();
+            numbers.insert(key, next)?;
+        }
+    }
+    Ok(())
+}
+
+impl Said {
+    fn hear(&mut self, source: &[u8], declaration: &Declaration) -> Result<(), Memory> {
+        match declaration {
+            Declaration::Kinds(names, _) => note(self.alloc, source, names, &mut self.kinds),
+            Declaration::LocalKinds(names, Some(_)) => {
+                note(self.alloc, source, names, &mut self.kinds)
+            }
+            Declaration::Constants(names, _) => {
+                note(self.alloc, source, names, &mut self.constants)
+            }
+            Declaration::Locals(names, Some(_)) => {
+                note(self.alloc, source, names, &mut self.constants)
+            }
+            Declaration::Accumulate(words) => {
+                number(self.alloc, source, words, &mut self.accumulates)
+            }
+            Declaration::AccumSig(words) => number(self.alloc, source, words, &mut self.accum_sigs),
+            _ => Ok(()),
+        }
+    }
+
+    pub(crate) fn of(alloc: Global, source: &[u8], text: &ModuleText) -> Result<Said, Memory> {
+        let mut said = Said {
+            alloc,
+            kinds: IndexSet::new(alloc),
+            constants: IndexSet::new(alloc),
+            accum_sigs: IndexMap::new(alloc),
+            accumulates: IndexMap::new(alloc),
+        };
+        for line in &text.lines {
+            if let Sentence::Declares(declaration) = line {
+                said.hear(source, declaration)?;
+            }
+        }
+        Ok(said)
+    }
+
+    // How the signature that a word of accum_sig names goes with those before it.
+    fn sight_of_accum_sig(&self, sights: &[Sight], word: &[u8]) -> Option<Sight> {
+        let number = self.accum_sigs.get(word)?;
+        sights.get(*number).copied()
+    }
+
+    // How the signature that a word of accumulate names goes with those before it.
+    fn sight_of_accumulate(&self, sights: &[Sight], word: &[u8]) -> Option<Sight> {
+        let number = self.accumulates.get(word)?;
+        sights
+            .get(number.saturating_add(self.accum_sigs.len()))
+            .copied()
+    }
+}
+
+// A word that names a signature.
+fn check_word(word: Spot, sight: Option<Sight>) -> Result<(), ModuleSigFault> {
+    match sight {
+        Some(Sight::Alike) => Ok(()),
+        Some(Sight::Otherwise) => Err(ModuleSigFault::Sig(SigFault::Differ(word))),
+        Some(Sight::TooMany) => Err(ModuleSigFault::Sig(SigFault::Limit(Limit::Names))),
+        None => Err(ModuleSigFault::Sig(SigFault::Memory)),
+    }
+}
+
+// The lines of a module: its text, its own signature, what the text says of names and words, and how the signatures that it sees go with
+// one another.
+#[derive(Drop)]
+pub(crate) struct ModuleLines<'a> {
+    pub source: &'a [u8],
+    pub own: &'a Signature,
+    pub said: &'a Said,
+    pub sights: &'a [Sight],
+}
+
+impl<'a> ModuleLines<'a> {
+    // Whether the own signature declares a kind or an abbreviation.
+    fn exports_kind(&self, name: Spot) -> bool {
+        let word = spelled_at(self.source, name);
+        if standard_kind(word).is_some() {
+            return false;
+        }
+        self.own.kind(word).is_some() || self.own.abbreviation(word).is_some()
+    }
+
+    // Whether the own signature declares a constant.
+    fn exports_constant(&self, name: Spot) -> bool {
+        let word = spelled_at(self.source, name);
+        if standard_constant(word).is_some() {
+            return false;
+        }
+        self.own.declared(word).is_some()
+    }
+
+    // An exported name that is declared otherwise is blamed as such.
+    fn kinds_blamed(&self, fault: SigFault) -> ModuleSigFault {
+        match fault {
+            SigFault::Differ(name) => {
+                if self.exports_kind(name) {
+                    return ModuleSigFault::Exported(name);
+                }
+                ModuleSigFault::Sig(fault)
+            }
+            _ => ModuleSigFault::Sig(fault),
+        }
+    }
+
+    fn constants_blamed(&self, fault: SigFault) -> ModuleSigFault {
+        match fault {
+            SigFault::Differ(name) => {
+                if self.exports_constant(name) {
+                    return ModuleSigFault::Exported(name);
+                }
+                ModuleSigFault::Sig(fault)
+            }
+            _ => ModuleSigFault::Sig(fault),
+        }
+    }
+
+    fn kinds(&self, making: &Making, names: &[Spot], arity: u32) -> Result<(), ModuleSigFault> {
+        match making.declare_kinds(self.source, names, arity) {
+            Ok(()) => Ok(()),
+            Err(fault) => Err(self.kinds_blamed(fault)),
+        }
+    }
+
+    // Local kinds are not exported.
+    fn local_kinds(
+        &self,
+        making: &Making,
+        names: &[Spot],
+        arity: u32,
+    ) -> Result<(), ModuleSigFault> {
+        for name in names {
+            if self.exports_kind(*name) {
+                return Err(ModuleSigFault::Exported(*name));
+            }
+            making.declare_kind(self.source, *name, arity)?;
+        }
+        if arity > 255 {
+            return Err(ModuleSigFault::Sig(SigFault::Limit(Limit::Arguments)));
+        }
+        Ok(())
+    }
+
+    // Local kinds without a count of arguments are declared elsewhere in the text.
+    fn known_kinds(&self, names: &[Spot]) -> Result<(), ModuleSigFault> {
+        for name in names {
+            if self.exports_kind(*name) {
+                return Err(ModuleSigFault::Exported(*name));
+            }
+            if !self.said.kinds.contains(spelled_at(self.source, *name)) {
+                return Err(ModuleSigFault::Sig(SigFault::UnknownKind(*name)));
+            }
+        }
+        Ok(())
+    }
+
+    fn constants(
+        &self,
+        making: &mut Making,
+        names: &[Spot],
+        raw: &RawType,
+    ) -> Result<(), ModuleSigFault> {
+        match making.declare_constants(self.source, names, raw) {
+            Ok(()) => Ok(()),
+            Err(fault) => Err(self.constants_blamed(fault)),
+        }
+    }
+
+    // No local constant is exported.
+    fn check_locals(&self, names: &[Spot]) -> Result<(), ModuleSigFault> {
+        for name in names {
+            if self.exports_constant(*name) {
+                return Err(ModuleSigFault::Exported(*name));
+            }
+        }
+        Ok(())
+    }
+
+    // Local constants of a type. That one is exported goes before a fault of the type.
+    fn locals(
+        &self,
+        making: &mut Making,
+        names: &[Spot],
+        raw: &RawType,
+    ) -> Result<(), ModuleSigFault> {
+        match making.scheme(self.source, raw) {
+            Err(fault) => {
+                self.check_locals(names)?;
+                check_lengths(self.source, names)?;
+                Err(ModuleSigFault::Sig(fault))
+            }
+            Ok(None) => {
+                self.check_locals(names)?;
+                check_lengths(self.source, names)?;
+                Ok(())
+            }
+            Ok(Some((type_vars, scheme))) => {
+                for name in names {
+                    if self.exports_constant(*name) {
+                        return Err(ModuleSigFault::Exported(*name));
+                    }
+                    making.declare_constant(self.source, *name, type_vars, scheme)?;
+                }
+                Ok(())
+            }
+        }
+    }
+
+    // Local constants without a type are declared elsewhere in the text.
+    fn known_constants(&self, names: &[Spot]) -> Result<(), ModuleSigFault> {
+        for name in names {
+            if self.exports_constant(*name) {
+                return Err(ModuleSigFault::Exported(*name));
+            }
+            if !self.said.constants.contains(spelled_at(self.source, *name)) {
+                return Err(ModuleSigFault::Undeclared(*name));
+            }
+        }
+        Ok(())
+    }
+
+    fn abbreviation(
+        &self,
+        making: &mut Making,
+        name: Spot,
+        parameters: &[Spot],
+        raw: &RawType,
+    ) -> Result<(), ModuleSigFault> {
+        match making.declare_abbreviation(self.source, name, parameters, raw) {
+            Ok(()) => Ok(()),
+            Err(fault) => Err(self.kinds_blamed(fault)),
+        }
+    }
+
+    fn accumulate(&self, words: &[Spot]) -> Result<(), ModuleSigFault> {
+        for word in words {
+            let sight = self
+                .said
+                .sight_of_accumulate(self.sights, spelled_at(self.source, *word));
+            check_word(*word, sight)?;
+        }
+        Ok(())
+    }
+
+    fn accum_sig(&self, words: &[Spot]) -> Result<(), ModuleSigFault> {
+        for word in words {
+            let sight = self
+                .said
+                .sight_of_accum_sig(self.sights, spelled_at(self.source, *word));
+            check_word(*word, sight)?;
+        }
+        Ok(())
+    }
+
+    // Takes up a declaration.
+    pub(crate) fn declare(
+        &self,
+        making: &mut Making,
+        declaration: &Declaration,
+    ) -> Result<(), ModuleSigFault> {
+        match declaration {
+            Declaration::Kinds(names, arity) => self.kinds(making, names.as_slice(), *arity),
+            Declaration::LocalKinds(names, Some(arity)) => {
+                self.local_kinds(making, names.as_slice(), *arity)
+            }
+            Declaration::LocalKinds(names, None) => self.known_kinds(names.as_slice()),
+            Declaration::Constants(names, raw) => self.constants(making, names.as_slice(), raw),
+            Declaration::Locals(names, Some(raw)) => self.locals(making, names.as_slice(), raw),
+            Declaration::Locals(names, None) => self.known_constants(names.as_slice()),
+            Declaration::Abbreviation(name, parameters, raw) => {
+                self.abbreviation(making, *name, parameters.as_slice(), raw)
+            }
+            Declaration::Accumulate(words) => self.accumulate(words.as_slice()),
+            Declaration::AccumSig(words) => self.accum_sig(words.as_slice()),
+            Declaration::Fixities(_, _, _) => Ok(()),
+        }
+    }
+}

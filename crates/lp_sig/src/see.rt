@@ -1,0 +1,223 @@
+// What a text sees of other signatures. A name that is seen again otherwise keeps its first declaration.
+
+use crate::entries::{AbbreviationEntry, ConstantEntry, KindEntry};
+use crate::fault::SigFault;
+use crate::making::{Abbreviated, Making, Meaning};
+use crate::signature::Signature;
+use crate::standard::{END_OF_NUMBERS, FIRST_KIND};
+use indexmap::IndexMap;
+use lp_base::{Limit, Memory};
+use lp_term::{Bank, TypeId, TypeNode};
+use std::alloc::Global;
+
+/// How a signature goes with what was seen before it.
+#[derive(Clone, Copy, PartialEq, Eq)]
+pub(crate) enum Sight {
+    Alike,
+    // It declares a name otherwise.
+    Otherwise,
+    // There are too many names.
+    TooMany,
+}
+
+impl Sight {
+    // The first thing that is wrong.
+    fn and(self, other: Sight) -> Sight {
+        match self {
+            Sight::Alike => other,
+            _ => self,
+        }
+    }
+
+    fn if_alike(alike: bool) -> Sight {
+        if alike {
+            Sight::Alike
+        } else {
+            Sight::Otherwise
+        }
+    }
+}
+
+// The number here of a kind that is seen.
+fn kind_here(kinds: &IndexMap<u32, u32>, number: u32) -> Result<u32, Memory> {
+    if number < FIRST_KIND {
+        return Ok(number);
+    }
+    match kinds.get(&number) {
+        Some(here) => Ok(*here),
+        None => Err(Memory),
+    }
+}
+
+// A type here, which was made before.
+fn type_here(made: &[TypeId], id: TypeId) -> Result<TypeId, Memory> {
+    match made.get(id.0) {
+        Some(here) => Ok(*here),
+        None => Err(Memory),
+    }
+}
+
+fn types_here(alloc: Global, made: &[TypeId], ids: &[TypeId]) -> Result<Vec<TypeId>, Memory> {
+    let mut here = Vec::new(alloc);
+    for id in ids.iter().copied() {
+        let made = type_here(made, id)?;
+        here.push(made)?;
+    }
+    Ok(here)
+}
+
+impl Making {
+    // A kind that is seen, with its number here.
+    fn see_kind(&mut self, entry: &KindEntry) -> Result<(u32, Sight), Memory> {
+        let name = entry.name.as_slice();
+        self.announce_kind(name, entry.arity as u32)?;
+        match self.meaning(name) {
+            Some(Meaning::Kind(number, arity)) => {
+                let sight = Sight::if_alike(arity == entry.arity as u32);
+                if number >= END_OF_NUMBERS {
+                    return Ok((number, sight.and(Sight::TooMany)));
+                }
+                Ok((number, sight))
+            }
+            _ => {
+                let number = self.add_kind(name, entry.arity as u32)?;
+                Ok((number, Sight::Otherwise))
+            }
+        }
+    }
+
+    fn see_kinds(
+        &mut self,
+        entries: &[KindEntry],
+        kinds: &mut IndexMap<u32, u32>,
+    ) -> Result<Sight, Memory> {
+        let mut all = Sight::Alike;
+        for entry in entries {
+            let (number, sight) = self.see_kind(entry)?;
+            kinds.insert(entry.number, number)?;
+            all = all.and(sight);
+        }
+        Ok(all)
+    }
+
+    // A type that is seen, whose parts were made before.
+    fn see_type(
+        &mut self,
+        bank: &Bank,
+        id: TypeId,
+        kinds: &IndexMap<u32, u32>,
+        made: &[TypeId],
+    ) -> Result<TypeId, Memory> {
+        if id.0 >= bank.type_count() {
+            return Err(Memory);
+        }
+        match bank.type_node(id) {
+            TypeNode::Var(number) => self.types.var(number),
+            TypeNode::Param(_) => Err(Memory),
+            TypeNode::Con(kind, ids) => {
+                let number = kind_here(kinds, kind)?;
+                let parts = types_here(self.alloc, made, ids)?;
+                self.types.con(number, parts.as_slice())
+            }
+            TypeNode::Arrow(from, to) => {
+                let left = type_here(made, from)?;
+                let right = type_here(made, to)?;
+                self.types.arrow(left, right)
+            }
+        }
+    }
+
+    // The types of a bank, in order.
+    fn see_types(
+        &mut self,
+        bank: &Bank,
+        kinds: &IndexMap<u32, u32>,
+    ) -> Result<Vec<TypeId>, Memory> {
+        let mut made = Vec::new(self.alloc);
+        for number in 0..bank.type_count() {
+            let here = self.see_type(bank, TypeId(number), kinds, made.as_slice())?;
+            made.push(here)?;
+        }
+        Ok(made)
+    }
+
+    // An abbreviation that is seen; it names no others.
+    fn add_abbreviation(
+        &mut self,
+        name: &[u8],
+        parameters: usize,
+        body: TypeId,
+    ) -> Result<(), Memory> {
+        let place = self.abbreviations.len();
+        let key = Vec::from_slice(self.alloc, name)?;
+        self.abbreviations.push(Abbreviated {
+            name: Vec::from_slice(self.alloc, name)?,
+            parameters,
+            body: Some(body),
+            uses: Vec::new(self.alloc),
+            line: None,
+        })?;
+        self.meanings.insert(key, Meaning::Abbreviation(place))?;
+        Ok(())
+    }
+
+    fn see_abbreviation(
+        &mut self,
+        entry: &AbbreviationEntry,
+        made: &[TypeId],
+    ) -> Result<Sight, Memory> {
+        let name = entry.name.as_slice();
+        let parameters = entry.type_vars as usize;
+        let body = type_here(made, entry.body)?;
+        match self.meaning(name) {
+            None => {
+                self.add_abbreviation(name, parameters, body)?;
+                Ok(Sight::Alike)
+            }
+            Some(Meaning::Kind(_, _)) => Ok(Sight::Otherwise),
+            Some(Meaning::Abbreviation(place)) => match self.abbreviations.get(place) {
+                Some(known) => Ok(Sight::if_alike(
+                    known.parameters == parameters && known.body == Some(body),
+                )),
+                None => Err(Memory),
+            },
+        }
+    }
+
+    fn see_constant(&mut self, entry: &ConstantEntry, made: &[TypeId]) -> Result<Sight, Memory> {
+        let name = entry.name.as_slice();
+        let scheme = type_here(made, entry.scheme)?;
+        if let Some(known) = self.known_scheme(name)? {
+            return Ok(Sight::if_alike(known == scheme));
+        }
+        match self.add_constant(name, entry.type_vars, scheme) {
+            Ok(()) => Ok(Sight::Alike),
+            Err(SigFault::Limit(Limit::Names)) => Ok(Sight::TooMany),
+            Err(_) => Err(Memory),
+        }
+    }
+
+    // Takes up the names of a signature.
+    pub(crate) fn see(&mut self, signature: &Signature) -> Result<Sight, Memory> {
+        let mut kinds = IndexMap::new(self.alloc);
+        let mut all = self.see_kinds(signature.kinds(), &mut kinds)?;
+        let made = self.see_types(signature.bank(), &kinds)?;
+        for entry in signature.abbreviations().iter() {
+            let sight = self.see_abbreviation(entry, made.as_slice())?;
+            all = all.and(sight);
+        }
+        for entry in signature.constants().iter() {
+            let sight = self.see_constant(entry, made.as_slice())?;
+            all = all.and(sight);
+        }
+        Ok(all)
+    }
+
+    // Takes up the fixities of a signature.
+    pub(crate) fn see_fixities(&mut self, signature: &Signature) -> Result<(), Memory> {
+        for entry in signature.fixities().iter() {
+            self.declare_fixity(entry.name.as_slice(), entry.fixity, entry.number)?;
+        }
+        Ok(())
+    }
+}
