@@ -32,7 +32,7 @@ shorter k [] h = cc
 shorter k (e ∷ es) h = go (shorter k es) (has_number k e) h
   where
     go : (is_taken es k ≡ true → length (without k es) < length es) → (b : Bool) → (b || is_taken es k) ≡ true
-      → length (if b then without k es else e ∷ without k es) < suc (length es)
+        → length (if b then without k es else e ∷ without k es) < suc (length es)
     go f true h = let i = no_longer k es in omega arith
     go f false h = let i = f h in omega arith
 
@@ -51,7 +51,7 @@ others k j l b [] = refl
 others k j l b (e ∷ es) = go (others k j l b es) (has_number k e) refl (has_number j e) refl
   where
     go : is_taken (without k es) j ≡ is_taken es j → (h : Bool) → has_number k e ≡ h → (g : Bool) → has_number j e ≡ g
-      → is_taken (if h then without k es else e ∷ without k es) j ≡ (g || is_taken es j)
+        → is_taken (if h then without k es else e ∷ without k es) j ≡ (g || is_taken es j)
     go i true p true q = let s = number_of j k b (omega arith) e q p in absurd (omega arith)
     go i true p false q = i
     go i false p g q = ap (λ x. x || is_taken (without k es) j) q ∙ ap (λ x. g || x) i
@@ -83,7 +83,7 @@ is_free zero (e ∷ es) k l b = absurd (omega arith)
 is_free (suc n) es k l b = go (λ s. is_free n (without k es) (suc k) (omega arith) (omega arith)) (is_taken es k) refl
   where
     go : (length (without k es) < length es → is_taken (without k es) (next_free n (without k es) (suc k)) ≡ false)
-      → (t : Bool) → is_taken es k ≡ t → is_taken es (if t then next_free n es (suc k) else k) ≡ false
+        → (t : Bool) → is_taken es k ≡ t → is_taken es (if t then next_free n es (suc k) else k) ≡ false
     go f false q = q
     go f true q =
         let e = same_search n k (suc k) (omega arith) (omega arith) es in

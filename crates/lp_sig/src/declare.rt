@@ -52,7 +52,12 @@ impl Making {
         }
     }
 
-    pub(crate) fn declare_kinds(&self, source: &[u8], names: &[Spot], arity: u32) -> Result<(), SigFault>
+    pub(crate) fn declare_kinds(
+        &self,
+        source: &[u8],
+        names: &[Spot],
+        arity: u32,
+    ) -> Result<(), SigFault>
         ensures { IfErr result (IsFaultOf source.now (named names.now) (255 < arity)) }
     {
         for name in names {
@@ -64,7 +69,12 @@ impl Making {
         Ok(())
     }
 
-    pub(crate) fn add_constant(&mut self, word: &[u8], type_vars: u8, scheme: TypeId) -> Result<(), SigFault>
+    pub(crate) fn add_constant(
+        &mut self,
+        word: &[u8],
+        type_vars: u8,
+        scheme: TypeId,
+    ) -> Result<(), SigFault>
         ensures { IfErr result IsWant }
     {
         let place = self.constants.len();
@@ -211,7 +221,12 @@ impl Making {
         Ok(())
     }
 
-    pub(crate) fn declare_fixity(&mut self, word: &[u8], fixity: Fixity, number: u8) -> Result<(), Memory> {
+    pub(crate) fn declare_fixity(
+        &mut self,
+        word: &[u8],
+        fixity: Fixity,
+        number: u8,
+    ) -> Result<(), Memory> {
         if self.fixity_places.of(word).is_some() {
             return Ok(());
         }

@@ -10,11 +10,7 @@ use lp_syntax::{ModuleText, Sentence};
 use std::alloc::Global;
 
 // Takes up the names that the text of a module sees of other signatures, and tells how these go with one another.
-fn see_all(
-    making: &mut Making,
-    own: &Signature,
-    used: &[Signature],
-) -> Result<Vec<Sight>, Memory> {
+fn see_all(making: &mut Making, own: &Signature, used: &[Signature]) -> Result<Vec<Sight>, Memory> {
     making.see(own)?;
     making.see_fixities(own)?;
     let mut sights = Vec::new(making.alloc);

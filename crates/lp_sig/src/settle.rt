@@ -31,12 +31,7 @@ impl Making {
     }
 
     // The uses of the abbreviations of a text, from a place on.
-    fn note_uses<T: Lines>(
-        &mut self,
-        source: &[u8],
-        text: &T,
-        from: usize,
-    ) -> Result<(), Memory> {
+    fn note_uses<T: Lines>(&mut self, source: &[u8], text: &T, from: usize) -> Result<(), Memory> {
         for place in from..self.abbreviations.len() {
             if let Some(line) = self.line_of(place) {
                 if let Some((_, raw)) = declared_by(text, line) {

@@ -190,7 +190,7 @@ pub pattern_instance : (θ : ℕ → Ty) (n l : ℕ) (ts : List Term) → patter
 pattern_instance θ n l ts = ap (option_map (only_if (λ ks. are_distinct ks && are_above l ks))) (as_eigens_instance θ n ts)
 
 -- scans
-head_instance : (θ : ℕ → Ty) (s : Side) (h : Term) → allows_head s (instance_term θ h) ≡ allows_head s h
+pub head_instance : (θ : ℕ → Ty) (s : Side) (h : Term) → allows_head s (instance_term θ h) ≡ allows_head s h
 head_instance θ s (index i) = refl
 head_instance θ s (atom (logic x l)) = refl
 head_instance θ s (atom (constant c us)) = refl

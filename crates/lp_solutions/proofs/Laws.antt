@@ -49,10 +49,10 @@ pub failures_have_no_solution : (d : Declared) (V : List Variable) (n limit : �
 failures_have_no_solution d V n limit eqs ps ds c i e h =
     solve_right c.types d V n limit eqs ps ds (length V) Fail (input_of c.types d V eqs ps ds i) e c.terms h.levels h.typed (solution_of d V c eqs ps ds h)
 
-comes : (θ : ℕ → Ty) (d : Declared) (V : List Variable) (n limit : ℕ) (eqs : List TypePair) (ps ds : List Pair) (s : State) → IsTypedInput θ d V eqs ps ds → solve n limit eqs ps ds (length V) ≡ Some (Solution s) → Comes θ d V eqs (length V) ps ds s
+pub comes : (θ : ℕ → Ty) (d : Declared) (V : List Variable) (n limit : ℕ) (eqs : List TypePair) (ps ds : List Pair) (s : State) → IsTypedInput θ d V eqs ps ds → solve n limit eqs ps ds (length V) ≡ Some (Solution s) → Comes θ d V eqs (length V) ps ds s
 comes θ d V n limit eqs ps ds s i e = solve_right θ d V n limit eqs ps ds (length V) (Solution s) (input_of θ d V eqs ps ds i) e
 
-typings : (θ : ℕ → Ty) (d : Declared) (V : List Variable) (ps ds : List Pair) (s : State) → (a : Arrives θ d V (length V) ps ds s) → KeepsTypings θ d V s
+unfoldable pub typings : (θ : ℕ → Ty) (d : Declared) (V : List Variable) (ps ds : List Pair) (s : State) → (a : Arrives θ d V (length V) ps ds s) → KeepsTypings θ d V s
 typings θ d V ps ds s a = record { after = a.after; more = a.more; count = a.is_state.count; bindings = a.typed; residual = typings_of d a.after (at_types θ s.delayed) a.is_state.delayed }
 
 pub typings_are_kept : (d : Declared) (V : List Variable) (n limit : ℕ) (eqs : List TypePair) (ps ds : List Pair) (s : State) (θ : ℕ → Ty) → IsTypedInput θ d V eqs ps ds → solve n limit eqs ps ds (length V) ≡ Some (Solution s) → Satisfies θ s.types → KeepsTypings θ d V s

@@ -32,9 +32,14 @@ pub mod Decomposing
 pub mod Opening
 pub mod RuleAt
 pub mod PairLists
+pub mod Identities
 pub mod Runs
 pub mod Unifications
 pub mod Stuck
 pub mod Laws
+pub mod TypedInstances
+pub mod Trimmed
+pub mod NewInstances
+pub mod Principal
 pub mod PairLaws
 pub mod UntypedRows

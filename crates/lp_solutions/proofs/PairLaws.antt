@@ -22,7 +22,7 @@ use Rattle.lp_solutions.proofs.Looks.{seen, look_reduces}
 use Rattle.lp_solutions.proofs.Firm.{look_firm}
 use Rattle.lp_solutions.proofs.Plainly.{opened_right}
 use Rattle.lp_solutions.proofs.Scopes.{got_before}
-use Rattle.lp_solutions.proofs.Rules.{IsBinding, IsTypedAt, map_ruled}
+use Rattle.lp_solutions.proofs.Rules.{IsBinding, binding_keeps, IsTypedAt, map_ruled}
 use Rattle.lp_solutions.proofs.RuleAt.{IsGivenAt, IsRightAt, decomposed_at, rule_at}
 use Rattle.lp_solutions.proofs.Instances.{instance_look, look_instance}
 use Rattle.lp_solutions.proofs.PairLists.{left_term, right_term}
@@ -118,7 +118,7 @@ right_for : (d : Declared) (V : List Variable) (c : Closing) (p : Pair) (v : Ver
 right_for d V c p fails l h = λ g s. h c.terms l g s
 right_for d V c p (gives ts ps) l h = given_same d V c p ts ps l h
 right_for d V c p (binds bs next) l h = (
-  (λ g s. comes_through d V c p bs next h (h.keeps c.terms l g s)),
+  (λ g s. comes_through d V c p bs next h (binding_keeps d V (length V) (instance_pair c.types p) (bindings_at c.types bs) next h c.terms l g s)),
   transport (λ τ. SolvedBy τ (instance_pair c.types p)) (fun_ext (λ x. fun_ext (λ k. gives_through c.types c.terms bs x k))) (h.solves c.terms l),
 )
 right_for d V c p delays l h = tt

@@ -1,5 +1,5 @@
 -- Pruning and lowering keep each solution and the types of terms; each new variable has a type.
-use Rattle.std.proofs.Common.{◌≡◌, ℕ, zero, suc, ◌<◌, ◌≤◌, min, List, [], ◌∷◌, ◌++◌, length, ◌∙◌, refl, sym, ap, subst as transport, arith, Bool, true, false, nat_eq, if◌then◌else◌, ◌||◌, Option, Some, None, inr}
+use Rattle.std.proofs.Common.{◌≡◌, ℕ, zero, suc, ◌<◌, ◌≤◌, min, List, [], ◌∷◌, ◌++◌, map, length, ◌∙◌, refl, sym, ap, subst as transport, arith, Bool, true, false, nat_eq, if◌then◌else◌, ◌||◌, Option, Some, None, inr}
 use Rattle.std.specs.Prelude.{◌&&◌, nat_le, nat_lt, option_map}
 use Rattle.std.proofs.lemmas.Option.{option_and_then_some}
 use Rattle.std.proofs.lemmas.Bool.Decides.{nat_tests}
@@ -19,7 +19,7 @@ use Rattle.lp_solutions.proofs.Closings.{WithinAll, within_apply, apply_within}
 use Rattle.lp_solutions.proofs.News.{Among, Reach, extended, extended_closing, abstracted_closed, renewed_scoped, renewed_through}
 use Rattle.lp_solutions.proofs.Scans.{Seen, Scans, ScansAll, scans_abs, scans_rigid, scans_pattern, scans_flexible, scans_none, scans_more, scan_tells}
 use Rattle.lp_solutions.proofs.Cleans.{Clean, IsClean, clean_like, CleanPattern, EachClean, clean_none, clean_more, clean_patterns, EachFits}
-use Rattle.lp_calculus.specs.Types.{Ty}
+use Rattle.lp_calculus.specs.Types.{Ty, instance}
 use Rattle.lp_calculus.specs.Typing.{HasType}
 use Rattle.lp_model.specs.Proofs.{Declared}
 use Rattle.lp_model.specs.Answers.{Variable, IsPrefix, IsScopedAtom}
@@ -28,6 +28,10 @@ use Rattle.lp_solutions.proofs.NewVariables.{AreClosedIn, closed_arrows, IsTyped
 use Rattle.lp_solutions.proofs.TypedBindings.{IsTypedTerm, term_more, binding_more, put_typed, AreTypedBindings}
 use Rattle.lp_solutions.proofs.Placed.{IsScopedVariable, scoped_variable, IsPlaced, ArePlaced, scans_placed, IsTypedSide, side_more, eigens_grow, eigens_chosen, eigens_append, closed_grow, closed_chosen, closed_append, side_closed, shorter}
 use Rattle.lp_calculus.specs.Closed.{IsClosedType}
+use Rattle.lp_calculus.specs.Instance.{instance_term}
+use Rattle.lp_solutions.proofs.Instances.{instance_binding, put_instance, renewed_instance}
+use Rattle.lp_solutions.proofs.TypedInstances.{length_variables}
+use Rattle.lp_solutions.proofs.NewInstances.{variables_at, scope_at, pair_term, scans_instance, eigens_at, prefix_at, new_at, with_new_at, side_at}
 use Rattle.lp_solutions.proofs.Throughs.{put_within, pair_next_term, gives_term}
 
 -- membership
@@ -148,7 +152,7 @@ pub record Renews (d : Declared) (E : List Ty) (V : List Variable) (s : Side) (p
   pub scope : List Ty
   pub type : Ty
   pub new : IsNew V context scope p.id p.level (min s.level p.level) p.arguments (given s p.level p.arguments) type
-  pub closed : (σ : ℕ → ℕ → Term) → IsTypedClosing d V σ → AreClosedIn context (given s p.level p.arguments)
+  pub closed : (κ : ℕ → Ty) (σ : ℕ → ℕ → Term) → IsTypedClosing d (variables_at κ V) σ → AreClosedIn (scope_at κ context) (given s p.level p.arguments)
 
 pub renews : (d : Declared) (E : List Ty) (V : List Variable) (s : Side) (T : Ty) → IsTypedSide d E V s T → (p : Pattern) → IsPlaced d E V p → Renews d E V s p
 renews d E V s T h p i =
@@ -158,29 +162,33 @@ renews d E V s T h p i =
     let own : IsPrefix v.variable.scope F = prefix_on (i.scoped v.variable v.is) (prefix_more E i.locals) in
     let c = shorter F h.variable.scope v.variable.scope (prefix_on h.scope (prefix_more E i.locals)) own in
     let q : min (length h.variable.scope) (length v.variable.scope) ≡ min s.level p.level = (λ k. min (sym h.level k) (sym v.level k)) in
+    let n : IsNew V F c.scope p.id p.level (min s.level p.level) p.arguments (given s p.level p.arguments) i.type = record {
+      variable = v.variable;
+      is = v.is;
+      level = v.level;
+      type = v.type;
+      arguments = r.1;
+      own = own;
+      scope = c.prefix;
+      inner = c.inner;
+      length = c.length_is ∙ q;
+      chosen = eigens_append F (chosen (λ k. nat_le k p.level) s.arguments) (chosen (allows s) p.arguments)
+          (eigens_chosen F (λ k. nat_le k p.level) s.arguments (eigens_grow E F (prefix_more E i.locals) s.arguments h.arguments))
+          (eigens_chosen F (allows s) p.arguments r.1);
+      low = omega arith;
+      reach = reach_given s p.level p.arguments;
+    } in
     record {
       context = F;
       scope = c.scope;
       type = i.type;
-      closed = λ σ g. closed_append F (chosen (λ k. nat_le k p.level) s.arguments) (chosen (allows s) p.arguments)
-          (closed_chosen F (λ k. nat_le k p.level) s.arguments (closed_grow E F (prefix_more E i.locals) s.arguments h.arguments (side_closed d E V s T h σ g)))
-          (closed_chosen F (allows s) p.arguments (closed_arrows F p.arguments i.type (transport IsClosedType v.type (g p.id v.variable v.is).type_closed)).0);
-      new = record {
-        variable = v.variable;
-        is = v.is;
-        level = v.level;
-        type = v.type;
-        arguments = r.1;
-        own = own;
-        scope = c.prefix;
-        inner = c.inner;
-        length = c.length_is ∙ q;
-        chosen = eigens_append F (chosen (λ k. nat_le k p.level) s.arguments) (chosen (allows s) p.arguments)
-            (eigens_chosen F (λ k. nat_le k p.level) s.arguments (eigens_grow E F (prefix_more E i.locals) s.arguments h.arguments))
-            (eigens_chosen F (allows s) p.arguments r.1);
-        low = omega arith;
-        reach = reach_given s p.level p.arguments;
-      };
+      closed = λ κ σ g.
+          let x = new_at κ V F c.scope p.id p.level (min s.level p.level) p.arguments (given s p.level p.arguments) i.type n in
+          closed_append (scope_at κ F) (chosen (λ k. nat_le k p.level) s.arguments) (chosen (allows s) p.arguments)
+          (closed_chosen (scope_at κ F) (λ k. nat_le k p.level) s.arguments (closed_grow (scope_at κ E) (scope_at κ F) (prefix_at κ E F (prefix_more E i.locals)) s.arguments (eigens_at κ E s.arguments h.arguments)
+          (side_closed d (scope_at κ E) (variables_at κ V) s (instance κ T) (side_at κ d E V s T h) σ g)))
+          (closed_chosen (scope_at κ F) (allows s) p.arguments (closed_arrows (scope_at κ F) p.arguments (instance κ i.type) (transport IsClosedType x.type (g p.id x.variable x.is).type_closed)).0);
+      new = n;
     }
 
 abbrev pub renewed_context : (d : Declared) (E : List Ty) (V : List Variable) (s : Side) (p : Pattern) → Renews d E V s p → List Variable
@@ -190,8 +198,10 @@ pub renewal_typed : (d : Declared) (E : List Ty) (V : List Variable) (s : Side) 
 renewal_typed d E V s next p e r = transport (λ z. IsTypedBinding d (renewed_context d E V s p r) (renewal s z p)) e
     (new_binding d V r.context r.scope p.id p.level (min s.level p.level) p.arguments (given s p.level p.arguments) r.type r.new)
 
-pub renewal_keeps : (d : Declared) (E : List Ty) (V : List Variable) (s : Side) (next : ℕ) (p : Pattern) → length V ≡ next → (r : Renews d E V s p) → (σ : ℕ → ℕ → Term) → IsClosing σ → IsTypedClosing d V σ → CleanPattern s next σ p → Keeps (IsTypedClosing d (renewed_context d E V s p r)) next (renewal s next p ∷ []) σ
-renewal_keeps d E V s next p e r σ c g h =
+pub renewal_keeps : (Good : (ℕ → ℕ → Term) → Type 0) (s : Side) (next : ℕ) (p : Pattern) (σ : ℕ → ℕ → Term) → IsClosing σ →
+    ((w : Term) → ReducesTo (apply (σ p.id p.level) (eigens p.arguments)) w → Within (Among (min s.level p.level) (given s p.level p.arguments)) 0 w → Good (extended σ next (min s.level p.level) (abstracted (given s p.level p.arguments) w))) →
+    CleanPattern s next σ p → Keeps Good next (renewal s next p ∷ []) σ
+renewal_keeps Good s next p σ c good h =
     let y = p.id in
     let m = p.level in
     let b = p.arguments in
@@ -208,10 +218,24 @@ renewal_keeps d E V s next p e r σ c g h =
     record {
       closing = extended σ next l (abstracted cs w);
       is_closing = extended_closing σ next l (abstracted cs w) c (abstracted_closed l cs w q);
-      is_good = transport (λ z. IsTypedClosing d (renewed_context d E V s p r) (extended σ z l (abstracted cs w))) e
-          (new_closing d V r.context r.scope y m l b cs r.type r.new σ w g (r.closed σ g) meet.1 q);
+      is_good = good w meet.1 q;
       gives = renewed_through σ next y m l b cs w c low h.other.distinct h.other.above (reach_given s m b) q (converts_reduces meet.1);
     }
+
+-- the new variable has a value of its type, under types for type variables
+pub renewal_good : (κ : ℕ → Ty) (d : Declared) (E : List Ty) (V : List Variable) (s : Side) (next : ℕ) (p : Pattern) → length V ≡ next → (r : Renews d E V s p) → (σ : ℕ → ℕ → Term) → IsTypedClosing d (variables_at κ V) σ → (w : Term) →
+    ReducesTo (apply (σ p.id p.level) (eigens p.arguments)) w → Within (Among (min s.level p.level) (given s p.level p.arguments)) 0 w →
+    IsTypedClosing d (variables_at κ (renewed_context d E V s p r)) (extended σ next (min s.level p.level) (abstracted (given s p.level p.arguments) w))
+renewal_good κ d E V s next p e r σ g w a q =
+    let l = min s.level p.level in
+    let cs = given s p.level p.arguments in
+    transport (λ W. IsTypedClosing d W (extended σ next l (abstracted cs w))) (sym (with_new_at κ V r.context r.scope cs r.type r.new.chosen))
+    (transport (λ z. IsTypedClosing d (with_new (variables_at κ V) (new_variable (scope_at κ r.context) (scope_at κ r.scope) cs (instance κ r.type))) (extended σ z l (abstracted cs w))) (length_variables κ V ∙ e)
+    (new_closing d (variables_at κ V) (scope_at κ r.context) (scope_at κ r.scope) p.id p.level l p.arguments cs (instance κ r.type)
+    (new_at κ V r.context r.scope p.id p.level l p.arguments cs r.type r.new) σ w g (r.closed κ σ g) a q))
+
+pub renewal_at : (κ : ℕ → Ty) (s : Side) (next : ℕ) (p : Pattern) → instance_binding κ (renewal s next p) ≡ renewal s next p
+renewal_at κ s next p = renewed_instance κ next p.id p.level (min s.level p.level) p.arguments (given s p.level p.arguments)
 
 pub renewal_scoped : (s : Side) (next : ℕ) (p : Pattern) → Within (IsPairAtom (suc next) (renewal s next p).level) 0 (renewal s next p).value
 renewal_scoped s next p = renewed_scoped next p.id p.level (min s.level p.level) p.arguments (given s p.level p.arguments) (omega arith) (reach_given s p.level p.arguments)
@@ -278,7 +302,7 @@ pub record PruneRight (d : Declared) (E : List Ty) (V : List Variable) (T : Ty) 
   pub count : length after ≡ r.next
   pub typed : AreTypedBindings d after r.bindings
   pub term_typed : IsTypedTerm d E after r.term T
-  pub keeps : (σ : ℕ → ℕ → Term) → IsClosing σ → IsTypedClosing d V σ → IsClean s (close σ t) → Keeps (IsTypedClosing d after) next r.bindings σ
+  pub keeps : (κ : ℕ → Ty) (σ : ℕ → ℕ → Term) → IsClosing σ → IsTypedClosing d (variables_at κ V) σ → IsClean s (close σ (instance_term κ t)) → Keeps (IsTypedClosing d (variables_at κ after)) next (map (instance_binding κ) r.bindings) σ
 
 -- no pattern is left to change
 done_right : (d : Declared) (E : List Ty) (V : List Variable) (T : Ty) (s : Side) (next : ℕ) (t : Term) (ps : List Pattern) → length V ≡ next → IsTypedTerm d E V t T → Within (IsPairAtom next s.pair) 0 t → Scans s next false s.pair t ps → EachFits s ps → PruneRight d E V T s next t (record { bindings = []; next = next; term = t })
@@ -296,7 +320,7 @@ done_right d E V T s next t ps l ty w i f = record {
   count = l;
   typed = tt;
   term_typed = ty;
-  keeps = λ σ c g h. record { closing = σ; is_closing = c; is_good = g; gives = λ x l q. same (σ x l) };
+  keeps = λ κ σ c g h. record { closing = σ; is_closing = c; is_good = g; gives = λ x l q. same (σ x l) };
 }
 
 step_right : (d : Declared) (E : List Ty) (V : List Variable) (T : Ty) (s : Side) (next : ℕ) (t : Term) (p : Pattern) (ps : List Pattern) (r : Pruned) → length V ≡ next → (x : Renews d E V s p) → Within (IsPairAtom next s.pair) 0 t → Scans s next false s.pair t ps → first_misfit s ps ≡ Some p → is_side s p.id p.level ≡ false →
@@ -318,18 +342,20 @@ step_right d E V T s next t p ps r l x w i e o h =
       count = h.count;
       typed = (binding_more d (renewed_context d E V s p x) h.after h.more b (renewal_typed d E V s next p l x), h.typed);
       term_typed = h.term_typed;
-      keeps = λ σ c g k.
-          let first = renewal_keeps d E V s next p l x σ c g (misfit_clean s next σ (clean_patterns s next σ c i (omega arith) (inr k)) p e) in
-          let agrees = gives_term σ first.closing (b ∷ []) next s.pair first.gives t w in
-          let rest = h.keeps first.closing first.is_closing first.is_good (clean_like (converts_sym agrees) k) in
-          record {
+      keeps = λ κ σ c g k.
+          let W = variables_at κ (renewed_context d E V s p x) in
+          let first = renewal_keeps (IsTypedClosing d W) s next p σ c (renewal_good κ d E V s next p l x σ g) (misfit_clean s next σ (clean_patterns s next σ c (scans_instance κ s next i) (omega arith) (inr k)) p e) in
+          let one : put b (instance_term κ t) ≡ instance_term κ (put b t) = ap (λ z. put z (instance_term κ t)) (sym (renewal_at κ s next p)) ∙ put_instance κ b t in
+          let agrees = converts_on (gives_term σ first.closing (b ∷ []) next s.pair first.gives (instance_term κ t) (pair_term next s.pair κ t w)) (converts_is (ap (close first.closing) one)) in
+          let rest = h.keeps κ first.closing first.is_closing first.is_good (clean_like (converts_sym agrees) k) in
+          transport (λ z. Keeps (IsTypedClosing d (variables_at κ h.after)) next (z ∷ map (instance_binding κ) r.bindings) σ) (sym (renewal_at κ s next p)) (record {
             closing = rest.closing;
             is_closing = rest.is_closing;
             is_good = rest.is_good;
             gives = λ x l q. converts_on (first.gives x l q)
-                (gives_term first.closing rest.closing r.bindings (suc next) l rest.gives (put b (atom (logic x l)))
+                (gives_term first.closing rest.closing (map (instance_binding κ) r.bindings) (suc next) l rest.gives (put b (atom (logic x l)))
                 (put_within (suc next) l b (renewal_scoped s next p) (atom (logic x l)) (older x next q, (let z : l ≤ l = omega arith in z))));
-          };
+          });
     }
   where
     older : (x n : ℕ) → x < n → x < suc n

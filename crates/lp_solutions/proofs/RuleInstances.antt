@@ -26,7 +26,7 @@ map_last : {A B : Type 0} (f : A → B) (xs : List A) (x : A) → map f (xs ++ x
 map_last f [] x = refl
 map_last f (y ∷ xs) x = ap (λ z. f y ∷ z) (map_last f xs x)
 
-bound_instance : (θ : ℕ → Ty) (s : Side) (bs : List Binding) (t : Term) → bound s (map (instance_binding θ) bs) (instance_term θ t) ≡ map (instance_binding θ) (bound s bs t)
+pub bound_instance : (θ : ℕ → Ty) (s : Side) (bs : List Binding) (t : Term) → bound s (map (instance_binding θ) bs) (instance_term θ t) ≡ map (instance_binding θ) (bound s bs t)
 bound_instance θ s bs t =
     ap (λ z. map (instance_binding θ) bs ++ record { id = s.id; level = s.level; value = z } ∷ []) (abstracted_instance θ s.arguments t) ∙
     sym (map_last (instance_binding θ) bs (record { id = s.id; level = s.level; value = abstracted s.arguments t }))

@@ -1,9 +1,17 @@
 -- Rules 4 and 5 on a typed pair: each keeps the solutions and the types, and adds none.
-use Rattle.std.proofs.Common.{◌≡◌, ◌≤◌, ℕ, suc, List, [], ◌∷◌, ◌++◌, length, ◌∙◌, refl, sym, ap, subst as transport, arith, true, false, nat_eq, Option, Some, None}
+use Rattle.std.proofs.Common.{◌≡◌, ◌≤◌, ℕ, suc, List, [], ◌∷◌, ◌++◌, map, length, ◌∙◌, refl, sym, ap, subst as transport, arith, true, false, nat_eq, Option, Some, None}
 use Rattle.std.specs.Prelude.{◌&&◌, option_map, option_and_then}
 use Rattle.std.proofs.lemmas.Option.{option_and_then_some}
 use Rattle.std.proofs.lemmas.Bool.Decides.{nat_tests}
-use Rattle.lp_calculus.specs.Types.{Ty}
+use Rattle.lp_calculus.specs.Types.{Ty, var, instance}
+use Rattle.lp_solutions.proofs.Identities.{pair_same, variables_same, bindings_same}
+use Rattle.lp_calculus.specs.Instance.{instance_term}
+use Rattle.lp_calculus.proofs.Commutations.{instance_converts}
+use Rattle.lp_solutions.proofs.Instances.{instance_binding, instance_pattern, renewed_instance}
+use Rattle.lp_solutions.proofs.RuleInstances.{instance_pair, bound_instance}
+use Rattle.lp_solutions.proofs.PairLists.{put_all_instance}
+use Rattle.lp_solutions.proofs.TypedInstances.{length_variables}
+use Rattle.lp_solutions.proofs.NewInstances.{variables_at, scope_at, pair_term, scoped_at, reduces_instance, fit_instance, with_new_at, side_at}
 use Rattle.lp_calculus.specs.Term.{Term, atom, app, apply, eigen, logic}
 use Rattle.lp_calculus.specs.Convert.{Converts, same, ReducesTo, done, ConvertAll, convert_more}
 use Rattle.lp_calculus.specs.Fill.{Within, Binding, close, at_variables, abstracted}
@@ -36,7 +44,7 @@ use Rattle.lp_solutions.proofs.Settles.{settle_tells, nf_within}
 use Rattle.lp_solutions.proofs.Solving.{IsSide, Meets, meets_clean, side_scoped, scoped_append, bound_meets, bound_keeps, bound_typed}
 use Rattle.lp_solutions.proofs.Breaks.{Occurs, occurs_here, occurs_under, occurs_in, break_tells}
 use Rattle.lp_solutions.proofs.Totals.{no_occurrence}
-use Rattle.lp_solutions.proofs.Joining.{joined_context, joined_typed, joined_keeps, joined_scoped, joined_meets}
+use Rattle.lp_solutions.proofs.Joining.{joined_new, joined_context, joined_typed, joined_keeps, joined_scoped, joined_meets}
 
 -- bindings that keep each solution of a pair and add none, with the variables that are there then
 pub record IsBinding (d : Declared) (V : List Variable) (next : ℕ) (p : Pair) (bs : List Binding) (next' : ℕ) : Type 0 where
@@ -46,8 +54,16 @@ pub record IsBinding (d : Declared) (V : List Variable) (next : ℕ) (p : Pair) 
   pub more : IsMore V after
   pub count : length after ≡ next'
   pub typed : AreTypedBindings d after bs
-  pub keeps : (σ : ℕ → ℕ → Term) → IsClosing σ → IsTypedClosing d V σ → SolvedBy σ p → Keeps (IsTypedClosing d after) next bs σ
+  -- under any types for type variables
+  pub keeps : (κ : ℕ → Ty) (σ : ℕ → ℕ → Term) → IsClosing σ → IsTypedClosing d (variables_at κ V) σ → SolvedBy σ (instance_pair κ p) → Keeps (IsTypedClosing d (variables_at κ after)) next (map (instance_binding κ) bs) σ
   pub solves : (σ : ℕ → ℕ → Term) → IsClosing σ → SolvedBy (through bs σ) p
+
+-- with no types put
+pub binding_keeps : (d : Declared) (V : List Variable) (next : ℕ) (p : Pair) (bs : List Binding) (next' : ℕ) → (i : IsBinding d V next p bs next') → (σ : ℕ → ℕ → Term) → IsClosing σ → IsTypedClosing d V σ → SolvedBy σ p → Keeps (IsTypedClosing d i.after) next bs σ
+binding_keeps d V next p bs next' i σ c g s =
+    transport (λ z. Keeps (IsTypedClosing d i.after) next z σ) (bindings_same bs)
+    (transport (λ W. Keeps (IsTypedClosing d W) next (map (instance_binding var) bs) σ) (variables_same i.after)
+    (i.keeps var σ c (transport (λ W. IsTypedClosing d W σ) (sym (variables_same V)) g) (transport (SolvedBy σ) (sym (pair_same p)) s)))
 
 -- what rules 4, 5 and 6 may say of a pair
 abbrev pub IsSolved : Declared → List Variable → ℕ → Pair → Verdict → Type 0
@@ -118,6 +134,9 @@ pub map_ruled : {A : Type 0} (f : A → Ruled) (o : Option A) (r : Ruled) → op
 map_ruled f None r e = absurd (cc)
 map_ruled f (Some x) r e = let z : f x ≡ r = cc in (x, refl, z)
 
+pattern_at : (κ : ℕ → Ty) (s : Side) (l : Term) → Converts l (pattern_term (pattern s.id s.level s.arguments)) → Converts (instance_term κ l) (pattern_term (pattern s.id s.level s.arguments))
+pattern_at κ s l c = converts_on (instance_converts κ l (pattern_term (pattern s.id s.level s.arguments)) c) (converts_is (instance_pattern κ s.arguments (atom (logic s.id s.level))))
+
 bound_right : (d : Declared) (E : List Ty) (V : List Variable) (T : Ty) (n next : ℕ) (s : Side) (l t : Term) (q : Pruned) (u : Term) → length V ≡ next → IsSide s next → IsTypedSide d E V s T → IsTypedTerm d E V t T → Converts l (pattern_term (pattern s.id s.level s.arguments)) → Within (IsPairAtom next s.pair) 0 t →
     prune n s next t ≡ Some q → settle n s.pair q.term ≡ Some u → IsBinding d V next (record { left = l; right = t; level = s.pair }) (bound s q.bindings u) q.next
 bound_right d E V T n next s l t q u k i side ty c w e f =
@@ -132,7 +151,12 @@ bound_right d E V T n next s l t q u k i side ty c w e f =
       more = p.more;
       count = p.count;
       typed = bound_typed d E V T T s next t q u side p x v;
-      keeps = λ σ c' g h. bound_keeps d E V T s next t q u i w p x v σ c' g (converts_on (converts_sym (meets_of s l t σ c)) h);
+      keeps = λ κ σ c' g h.
+          let m : Meets σ s (instance_term κ t) = converts_on (converts_sym (meets_of s (instance_term κ l) (instance_term κ t) σ (pattern_at κ s l c))) h in
+          let k = p.keeps κ σ c' g (meets_clean s σ (instance_term κ t) c' m) in
+          transport (λ z. Keeps (IsTypedClosing d (variables_at κ p.after)) next z σ) (bound_instance κ s q.bindings u)
+          (bound_keeps (IsTypedClosing d (variables_at κ p.after)) s next q.next (instance_term κ t) (instance_term κ q.term) (instance_term κ u) (map (instance_binding κ) q.bindings) i (pair_term next s.pair κ t w) p.grows (scoped_at q.next κ q.bindings p.scoped)
+          (put_all_instance κ q.bindings t ∙ ap (instance_term κ) p.term) (put_all_instance κ q.bindings (atom (logic s.id s.level)) ∙ ap (instance_term κ) p.side) (reduces_instance κ x.reduces) (fit_instance s q.next s.pair κ u v) σ k m);
       solves = λ σ c'. converts_on (meets_of s l t (through (bound s q.bindings u) σ) c) (bound_meets d E V T s next t q u i p x v σ c');
     }
 
@@ -171,7 +195,7 @@ flipped_right d V next p (binds bs n) h = record {
   more = h.more;
   count = h.count;
   typed = h.typed;
-  keeps = λ σ c g s. h.keeps σ c g (converts_sym s);
+  keeps = λ κ σ c g s. h.keeps κ σ c g (converts_sym s);
   solves = λ σ c. converts_sym (h.solves σ c);
 }
 flipped_right d V next p delays h = tt
@@ -229,6 +253,7 @@ rule_5_right d E V T n next p v w r ty k a b e = option_and_then_some _ (pattern
 
 -- rule 4
 joined_right : (d : Declared) (E : List Ty) (V : List Variable) (T : Ty) (next : ℕ) (p : Pair) (x l : ℕ) (ts us : List Term) (a b : List ℕ) → IsTypedAt d E V next p T → Looked next p (flexible x l ts) (flexible x l us) → length a ≡ length b → IsPattern l ts a → IsPattern l us b → IsSolved d V next p (joined next x l a b)
+unfolding side_at
 joined_right d E V T next p x l ts us a b ty k e i j =
     let s : Side = record { id = x; level = l; arguments = a; pair = p.level } in
     let o : Side = record { id = x; level = l; arguments = b; pair = p.level } in
@@ -245,7 +270,13 @@ joined_right d E V T next p x l ts us a b ty k e i j =
       more = one_more V v;
       count = length_last V v ∙ ap suc ty.count;
       typed = (joined_typed d E V s T next ty.count h b, tt);
-      keeps = λ σ c g q. joined_keeps d E V s T next ty.count h b σ c g e i.distinct i.above (converts_on (converts_sym (left σ)) (converts_on q (right σ)));
+      keeps = λ κ σ c g q.
+          let cs = agreeing a b in
+          let left_at = meets_of s (instance_term κ p.left) (instance_term κ p.right) σ (pattern_at κ s p.left (converts_reduces first)) in
+          let right_at = meets_of o (instance_term κ p.right) (instance_term κ p.left) σ (pattern_at κ o p.right (converts_reduces second)) in
+          let k = joined_keeps d (scope_at κ E) (variables_at κ V) s (instance κ T) next (length_variables κ V ∙ ty.count) (side_at κ d E V s T h) b σ c g e i.distinct i.above (converts_on (converts_sym left_at) (converts_on q right_at)) in
+          transport (λ z. Keeps (IsTypedClosing d (variables_at κ (joined_context d E V s T h b))) next (z ∷ []) σ) (sym (renewed_instance κ next x l l a cs))
+          (transport (λ W. Keeps (IsTypedClosing d W) next (renewed next x l l a cs ∷ []) σ) (sym (with_new_at κ V E h.variable.scope cs T (joined_new d E V s T h b).chosen)) k);
       solves = λ σ c.
           let τ = through (renewed next x l l a (agreeing a b) ∷ []) σ in
           converts_on (left τ) (converts_on (joined_meets next x l a b σ c e i.distinct i.above) (converts_sym (right τ)));

@@ -3,7 +3,7 @@ use Rattle.std.proofs.Common.{◌≡◌, ℕ, ◌<◌, ◌≤◌, List, [], ◌�
 use Rattle.std.specs.Prelude.{◌&&◌, nat_le, nat_lt}
 use Rattle.std.proofs.lemmas.Bool.Decides.{nat_tests}
 use Rattle.lp_calculus.specs.Term.{Term, atom, apply, Atom, constant, integer, text, eigen, logic, param}
-use Rattle.lp_calculus.specs.Convert.{Converts, same}
+use Rattle.lp_calculus.specs.Convert.{Converts, same, ReducesTo}
 use Rattle.lp_calculus.specs.Fill.{Within, close, at_variables, one, Binding, put, put_all, abstracted}
 use Rattle.lp_model.specs.Patterns.{eigens, member}
 use Rattle.lp_model.specs.Look.{are_distinct, are_above}
@@ -169,22 +169,21 @@ if_like : (b : Bool) (σ : ℕ → ℕ → Term) (s t u : Term) → (b ≡ true 
 if_like true σ s t u h k = h refl
 if_like false σ s t u h k = k
 
-pub bound_keeps : (d : Declared) (E : List Ty) (V : List Variable) (T : Ty) (s : Side) (next : ℕ) (t : Term) (r : Pruned) (u : Term) → IsSide s next → Within (IsPairAtom next s.pair) 0 t → (h : PruneRight d E V T s next t r) → IsSettled r.term u → Within (Fit s r.next s.pair) 0 u →
-    (σ : ℕ → ℕ → Term) → IsClosing σ → IsTypedClosing d V σ → Meets σ s t → Keeps (IsTypedClosing d h.after) next (bound s r.bindings u) σ
-bound_keeps d E V T s next t r u i v h f w σ c g e =
+pub bound_keeps : (Good : (ℕ → ℕ → Term) → Type 0) (s : Side) (next next' : ℕ) (t r u : Term) (bs : List Binding) → IsSide s next → Within (IsPairAtom next s.pair) 0 t → next ≤ next' → AreScoped next' bs → put_all bs t ≡ r → put_all bs (atom (logic s.id s.level)) ≡ atom (logic s.id s.level) → ReducesTo r u → Within (Fit s next' s.pair) 0 u →
+    (σ : ℕ → ℕ → Term) → Keeps Good next bs σ → Meets σ s t → Keeps Good next (bound s bs u) σ
+bound_keeps Good s next next' t r u bs i v grown scoped ht hs f w σ k e =
     let β = side_binding s u in
-    let k = h.keeps σ c g (meets_clean s σ t c e) in
     let σ' = k.closing in
-    let same_side : Converts (σ s.id s.level) (σ' s.id s.level) = converts_on (k.gives s.id s.level i.older) (converts_is (ap (close σ') h.side)) in
+    let same_side : Converts (σ s.id s.level) (σ' s.id s.level) = converts_on (k.gives s.id s.level i.older) (converts_is (ap (close σ') hs)) in
     let sides : Converts (apply (σ' s.id s.level) (eigens s.arguments)) (close σ' u) =
     converts_on (converts_apply (eigens s.arguments) (converts_sym same_side)) (converts_on e
-    (converts_on (gives_term σ σ' r.bindings next s.pair k.gives t v)
-    (converts_on (converts_is (ap (close σ') h.term)) (converts_fill (at_variables σ') (converts_reduces f.reduces))))) in
+    (converts_on (gives_term σ σ' bs next s.pair k.gives t v)
+    (converts_on (converts_is (ap (close σ') ht)) (converts_fill (at_variables σ') (converts_reduces f))))) in
     let avoids : Within (Avoids s.arguments) 0 (σ' s.id s.level) = within_more (IsLevelAtom s.level) (Avoids s.arguments) 0 0 (closed_avoids s.level s.arguments i.above) (omega arith) (σ' s.id s.level) (k.is_closing.closed s.id s.level) in
     let value : Converts (σ' s.id s.level) (close σ' β.value) =
     converts_on (converts_sym (abstracted_eta s.arguments (σ' s.id s.level) (distinct_tells s.arguments i.distinct) avoids))
-    (converts_on (converts_abstracted s.arguments sides) (converts_is (sym (close_value s next r.next σ' u i k.is_closing w)))) in
-    let last : (x l : ℕ) → x < r.next → Converts (σ' x l) (through (β ∷ []) σ' x l) =
+    (converts_on (converts_abstracted s.arguments sides) (converts_is (sym (close_value s next next' σ' u i k.is_closing w)))) in
+    let last : (x l : ℕ) → x < next' → Converts (σ' x l) (through (β ∷ []) σ' x l) =
     (λ x l q. if_like (nat_eq x s.id && nat_eq l s.level) σ' (σ' x l) β.value (atom (logic x l))
     (λ z. let b = both (nat_eq x s.id) (nat_eq l s.level) z in
     let e₁ = same_number x s.id b.0 in
@@ -195,15 +194,15 @@ bound_keeps d E V T s next t r u i v h f w σ c g e =
       closing = σ';
       is_closing = k.is_closing;
       is_good = k.is_good;
-      gives = λ x l q. converts_on (k.gives x l q) (converts_on (gives_any σ' (β ∷ []) x l q last) (converts_is (ap (close σ') (sym (put_all_append r.bindings (β ∷ []) (atom (logic x l)))))));
+      gives = λ x l q. converts_on (k.gives x l q) (converts_on (gives_any σ' (β ∷ []) x l q last) (converts_is (ap (close σ') (sym (put_all_append bs (β ∷ []) (atom (logic x l)))))));
     }
   where
-    gives_any : (τ : ℕ → ℕ → Term) (bs : List Binding) (x l : ℕ) → x < next → ((y m : ℕ) → y < r.next → Converts (τ y m) (through bs τ y m)) → Converts (close τ (put_all r.bindings (atom (logic x l)))) (close τ (put_all bs (put_all r.bindings (atom (logic x l)))))
-    gives_any τ bs x l q f =
-        let grows : next ≤ r.next = h.grows in
-        let old : x < r.next = omega arith in
+    gives_any : (τ : ℕ → ℕ → Term) (cs : List Binding) (x l : ℕ) → x < next → ((y m : ℕ) → y < next' → Converts (τ y m) (through cs τ y m)) → Converts (close τ (put_all bs (atom (logic x l)))) (close τ (put_all cs (put_all bs (atom (logic x l)))))
+    gives_any τ cs x l q f =
+        let grows : next ≤ next' = grown in
+        let old : x < next' = omega arith in
         let low : l ≤ l = omega arith in
-        gives_term τ τ bs r.next l f (put_all r.bindings (atom (logic x l))) (put_all_within r.next l r.bindings h.scoped (atom (logic x l)) (old, low))
+        gives_term τ τ cs next' l f (put_all bs (atom (logic x l))) (put_all_within next' l bs scoped (atom (logic x l)) (old, low))
 
 -- what the variable becomes has its type
 fit_scoped : (d : Declared) (E : List Ty) (V : List Variable) (s : Side) (T : Ty) (next : ℕ) → (h : IsTypedSide d E V s T) → (a : Atom) → (Fit s next s.pair a × IsAtomOf d E V a) × Avoids s.arguments a → IsScopedAtom V h.variable.scope a

@@ -26,8 +26,9 @@ use Rattle.lp_solutions.proofs.NewVariables.{IsTypedClosing}
 use Rattle.lp_solutions.proofs.TypedBindings.{AreTypedBindings, bindings_more, bindings_append}
 use Rattle.lp_solutions.proofs.TypeSolving.{AreSolved, satisfies_append, satisfies_split, types_right}
 use Rattle.lp_solutions.proofs.Instances.{instance_binding}
+use Rattle.lp_solutions.proofs.NewInstances.{variables_at, scoped_at}
 use Rattle.lp_solutions.proofs.PairLists.{EachTyped, at_types, types_satisfied}
-use Rattle.lp_solutions.proofs.Runs.{bindings_at, IsStateAt, SolvesAt, Reaches, Leads, NoSolution, TurnRight, right_goes, right_fails, right_solved, stays, turn_right}
+use Rattle.lp_solutions.proofs.Runs.{bindings_at, IsStateAt, SolvesAt, SolvesTwice, Reaches, Leads, NoSolution, TurnRight, right_goes, right_fails, right_solved, stays, turn_right}
 
 -- closings through bindings are closings
 abbrev Level : ℕ → Atom → Type 0
@@ -122,6 +123,22 @@ reaches_on θ d V s s' s'' a b =
             }),
             next.1,
           );
+      keeps_at = λ κ σ c g k.
+          let first = a.keeps_at κ σ c g k in
+          let next = b.keeps_at κ first.0.closing first.0.is_closing first.0.is_good first.1 in
+          let cs' = bindings_at κ cs in
+          let es' = bindings_at κ es in (
+            transport (λ z. Keeps (IsTypedClosing d (variables_at κ b.after)) s.next z σ) (sym (ap (bindings_at κ) e ∙ bindings_two κ cs es)) (record {
+              closing = next.0.closing;
+              is_closing = next.0.is_closing;
+              is_good = next.0.is_good;
+              gives = λ x l q. converts_on (first.0.gives x l q) (converts_on
+                  (gives_term first.0.closing next.0.closing es' s'.next l next.0.gives (put_all cs' (atom (logic x l)))
+                  (put_all_within s'.next l cs' (scoped_at s'.next κ cs a.scoped) (atom (logic x l)) (let i : x < s'.next = omega arith in let j : l ≤ l = omega arith in (i, j))))
+                  (converts_is (ap (close next.0.closing) (sym (put_all_append cs' es' (atom (logic x l)))))));
+            }),
+            next.1,
+          );
       solves = λ σ c k. transport (λ z. SolvesAt θ (through z σ) s) (sym e)
           (transport (λ τ. SolvesAt θ τ s) (through_append cs es σ) (a.solves (through es σ) (through_closing s''.next es σ b.scoped c) (b.solves σ c k)));
     }
@@ -137,6 +154,7 @@ nothing_yet θ d V s w = record {
   is_state = w;
   typed = tt;
   keeps = λ σ c g k. (stays d V s.next σ c g, k);
+  keeps_at = λ κ σ c g k. (stays d (variables_at κ V) s.next σ c g, k);
   solves = λ σ c k. k;
 }
 
@@ -272,6 +290,7 @@ pub record Arrives (θ : ℕ → Ty) (d : Declared) (V : List Variable) (next : 
   pub is_state : IsStateAt θ d after s'
   pub typed : AreTypedBindings d after (bindings_at θ s'.bindings)
   pub keeps : (σ : ℕ → ℕ → Term) → IsClosing σ → IsTypedClosing d V σ → AllSolvedBy σ (at_types θ ps) → AllSolvedBy σ (at_types θ ds) → (k : Keeps (IsTypedClosing d after) next (bindings_at θ s'.bindings) σ) × SolvesAt θ k.closing s'
+  pub keeps_at : (κ : ℕ → Ty) (σ : ℕ → ℕ → Term) → IsClosing σ → IsTypedClosing d (variables_at κ V) σ → AllSolvedBy σ (at_types κ (at_types θ ps)) → AllSolvedBy σ (at_types κ (at_types θ ds)) → (k : Keeps (IsTypedClosing d (variables_at κ after)) next (bindings_at κ (bindings_at θ s'.bindings)) σ) × SolvesTwice κ θ k.closing s'
   pub solves : (σ : ℕ → ℕ → Term) → IsClosing σ → SolvesAt θ σ s' → AllSolvedBy (through (bindings_at θ s'.bindings) σ) (at_types θ ps) × AllSolvedBy (through (bindings_at θ s'.bindings) σ) (at_types θ ds)
 
 pub record Comes (θ : ℕ → Ty) (d : Declared) (V : List Variable) (eqs : List TypePair) (next : ℕ) (ps ds : List Pair) (s' : State) : Type 0 where
@@ -313,6 +332,9 @@ from_start θ d V eqs next ps ds ts u t (Solution s') a f =
             keeps = λ σ c g x y.
                 let k = r.keeps σ c g (record { pairs = transport (AllSolvedBy σ) (sym (types_satisfied θ ts m ps)) x; delayed = transport (AllSolvedBy σ) (sym (types_satisfied θ ts m ds)) y }) in
                 transport (λ z. (k : Keeps (IsTypedClosing d r.after) next (bindings_at θ z) σ) × SolvesAt θ k.closing s') e k;
+            keeps_at = λ κ σ c g x y.
+                let k = r.keeps_at κ σ c g (record { pairs = transport (λ z. AllSolvedBy σ (at_types κ z)) (sym (types_satisfied θ ts m ps)) x; delayed = transport (λ z. AllSolvedBy σ (at_types κ z)) (sym (types_satisfied θ ts m ds)) y }) in
+                transport (λ z. (k : Keeps (IsTypedClosing d (variables_at κ r.after)) next (bindings_at κ (bindings_at θ z)) σ) × SolvesTwice κ θ k.closing s') e k;
             solves = λ σ c k.
                 let b = transport (λ z. SolvesAt θ (through (bindings_at θ z) σ) s) e (r.solves σ c k) in
                 (transport (AllSolvedBy (through (bindings_at θ s'.bindings) σ)) (types_satisfied θ ts m ps) b.pairs, transport (AllSolvedBy (through (bindings_at θ s'.bindings) σ)) (types_satisfied θ ts m ds) b.delayed);

@@ -1,6 +1,6 @@
 -- Inputs of unification that are typed, their solutions, those of what a run leaves, and what a run owes between the two.
 use Rattle.std.specs.Prelude.{◌≡◌, ℕ, List, [], ◌∷◌, ◌++◌, map, length, Some, slice_get}
-use Rattle.lp_calculus.specs.Types.{Ty}
+use Rattle.lp_calculus.specs.Types.{Ty, instance}
 use Rattle.lp_calculus.specs.Term.{Term, atom, logic}
 use Rattle.lp_calculus.specs.Convert.{Converts}
 use Rattle.lp_calculus.specs.Fill.{Within, Binding, put_all}
@@ -11,16 +11,22 @@ use Rattle.lp_model.specs.Pair.{Pair, Closing, closed, Solves, SolvesAll}
 use Rattle.lp_model.specs.Rule.{Ruled, Verdict, fails, gives, binds, delays, rule}
 use Rattle.lp_model.specs.Unify.{State}
 use Rattle.lp_model.specs.Proofs.{Declared, IsWitness}
-use Rattle.lp_model.specs.Answers.{Variable, over, IsScopedAtom, PairTyping, AreTypedPairs}
+use Rattle.lp_model.specs.Answers.{Variable, over, IsScopedAtom, PairTyping, AreTypedPairs, Closes}
 use Rattle.lp_solutions.specs.Levels.{IsClosing}
 use Rattle.lp_solutions.specs.TypeSolutions.{Unifies, Satisfies}
 
--- types for type variables, in pairs and in bindings
+-- types for type variables, in pairs, in variables, in typings and in bindings
 abbrev pub instance_pair : (ℕ → Ty) → Pair → Pair
 instance_pair θ p = record { left = instance_term θ p.left; right = instance_term θ p.right; level = p.level }
 
 abbrev pub at_types : (ℕ → Ty) → List Pair → List Pair
 at_types θ ps = map (instance_pair θ) ps
+
+abbrev pub instance_variable : (ℕ → Ty) → Variable → Variable
+instance_variable θ v = record { type = instance θ v.type; scope = map (instance θ) v.scope }
+
+abbrev pub instance_typing : (ℕ → Ty) → PairTyping → PairTyping
+instance_typing θ q = record { eigens = map (instance θ) q.eigens; type = instance θ q.type }
 
 abbrev pub instance_binding : (ℕ → Ty) → Binding → Binding
 instance_binding θ b = record { id = b.id; level = b.level; value = instance_term θ b.value }
@@ -129,3 +135,30 @@ pub record IsStuck (n : ℕ) (p : Pair) : Type 0 where
 abbrev pub AreStuck : ℕ → List Pair → Type 0
 AreStuck n [] = Unit {0}
 AreStuck n (p ∷ ps) = IsStuck n p × AreStuck n ps
+
+-- a closing of lp_model that solves type equations and pairs: what it gives to a variable of V is closed, positive, and of the
+-- variable's type, in its scope
+pub record IsClosedSolution (d : Declared) (V : List Variable) (c : Closing) (eqs : List TypePair) (ps ds : List Pair) : Type 0 where
+  pub closes : Closes d V c
+  pub types : Unifies c.types eqs
+  pub pairs : SolvesAll c ps
+  pub delayed : SolvesAll c ds
+
+-- with the types of a closing in the variables
+abbrev pub closed_variables : Closing → List Variable → List Variable
+closed_variables c V = map (instance_variable c.types) V
+
+-- a closing of the variables that are there then, with the same types, that solves the residual pairs and gives the same values
+pub record KeptClosing (d : Declared) (V W : List Variable) (c : Closing) (bs : List Binding) (residual : List Pair) : Type 0 where
+  pub closing : Closing
+  pub types : closing.types ≡ c.types
+  pub closes : Closes d W closing
+  pub solves : SolvesAll closing residual
+  pub gives : (x : ℕ) (v : Variable) → slice_get V x ≡ Some v → Converts (c.terms x (length v.scope)) ((through_bindings bs closing).terms x (length v.scope))
+
+-- with the types θ put in, bindings and residual pairs are typed over one list of variables, and its closings that solve the residual
+-- pairs are, through the bindings, the closings that solve the pairs
+pub record HasSameClosings (θ : ℕ → Ty) (d : Declared) (V : List Variable) (ps ds : List Pair) (s : State) : Type 0 where
+  pub typings : KeepsTypings θ d V s
+  pub keeps : (c : Closing) → Closes d V c → SolvesAll c (at_types θ ps) → SolvesAll c (at_types θ ds) → KeptClosing d V typings.after c (map (instance_binding θ) s.bindings) (at_types θ s.delayed)
+  pub adds_none : (c : Closing) → Closes d typings.after c → SolvesAll c (at_types θ s.delayed) → SolvesAll (through_bindings (map (instance_binding θ) s.bindings) c) (at_types θ ps) × SolvesAll (through_bindings (map (instance_binding θ) s.bindings) c) (at_types θ ds)

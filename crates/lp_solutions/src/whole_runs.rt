@@ -1,16 +1,16 @@
 // Whole runs of unification: from type equations, pairs and delayed pairs to types, bindings and residual pairs (Robinson 1965 for the
 // types, Miller 1991 and Nadathur 1993 for the pairs). The pairs have a typing under each choice of types that solves the equations.
 
-ghost use Rattle.std.specs.Prelude.{◌≡◌, ℕ, List, [], length, Some};
+ghost use Rattle.std.specs.Prelude.{◌≡◌, ℕ, List, [], length, map, Some};
 ghost use Rattle.lp_calculus.specs.Types.{Ty};
 ghost use Rattle.lp_model.specs.Types.{TypePair, TypeBinding, none, solved, solve_types};
 ghost use Rattle.lp_model.specs.Pair.{Pair, Closing, SolvesAll};
 ghost use Rattle.lp_model.specs.Unify.{State, Fail, Solution, solve};
 ghost use Rattle.lp_model.specs.Proofs.{Declared};
-ghost use Rattle.lp_model.specs.Answers.{Variable};
+ghost use Rattle.lp_model.specs.Answers.{Variable, PairTyping, IsTypedPair};
 ghost use Rattle.lp_solutions.specs.Levels.{IsClosing};
 ghost use Rattle.lp_solutions.specs.TypeSolutions.{Unifies, Satisfies};
-ghost use Rattle.lp_solutions.specs.Solutions.{IsTypedInput, IsSolution, through_bindings, KeepsTypings, KeepsSolution, AreStuck};
+ghost use Rattle.lp_solutions.specs.Solutions.{instance_pair, instance_variable, instance_typing, IsTypedInput, IsSolution, IsClosedSolution, closed_variables, through_bindings, KeepsTypings, KeepsSolution, AreStuck, HasSameClosings};
 
 /// Types solve type equations exactly where they satisfy the bindings that solving them makes.
 pub fn types_solve_all()
@@ -45,4 +45,25 @@ pub fn typings_are_kept()
 /// The residual pairs are the delayed ones, and no rule applies to any of them.
 pub fn residual_pairs_are_stuck()
     ensures { (n limit : ℕ) (eqs : List TypePair) (ps ds : List Pair) (next : ℕ) (s : State) → AreStuck n ds → solve n limit eqs ps ds next ≡ Some (Solution s) → (s.pairs ≡ []) × AreStuck n s.delayed }
+{}
+
+/// A typed pair is typed with types for its type variables, over variables with these types: so a typing gives what the laws ask for.
+pub fn typings_have_instances()
+    ensures { (θ : ℕ → Ty) (d : Declared) (V : List Variable) (q : PairTyping) (p : Pair) → IsTypedPair d V q p → IsTypedPair d (map (instance_variable θ) V) (instance_typing θ q) (instance_pair θ p) }
+{}
+
+/// Where a run fails no closing of the variables solves the input.
+pub fn closings_have_none()
+    ensures { (d : Declared) (V : List Variable) (n limit : ℕ) (eqs : List TypePair) (ps ds : List Pair) (c : Closing) → IsTypedInput c.types d (closed_variables c V) eqs ps ds → solve n limit eqs ps ds (length V) ≡ Some Fail → IsClosedSolution d V c eqs ps ds → ⊥ }
+{}
+
+/// Each closing of the variables that solves the input comes, up to conversion, from one that solves the residual pairs.
+pub fn closings_are_kept()
+    ensures { (d : Declared) (V : List Variable) (n limit : ℕ) (eqs : List TypePair) (ps ds : List Pair) (s : State) (c : Closing) → IsTypedInput c.types d (closed_variables c V) eqs ps ds → solve n limit eqs ps ds (length V) ≡ Some (Solution s) → IsClosedSolution d V c eqs ps ds → KeepsSolution d (closed_variables c V) c s }
+{}
+
+/// Under types that satisfy the type bindings, bindings and residual pairs are typed over one list of variables, and its closings that solve the
+/// residual pairs are, up to conversion and through the bindings, the closings that solve the pairs.
+pub fn closings_are_the_same()
+    ensures { (d : Declared) (V : List Variable) (n limit : ℕ) (eqs : List TypePair) (ps ds : List Pair) (s : State) (θ : ℕ → Ty) → IsTypedInput θ d V eqs ps ds → solve n limit eqs ps ds (length V) ≡ Some (Solution s) → AreStuck n ds → Satisfies θ s.types → HasSameClosings θ d V ps ds s }
 {}

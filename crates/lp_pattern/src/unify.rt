@@ -1,0 +1,153 @@
+// The unification of pairs.
+ghost use Rattle.std.specs.Prelude.{◌≡◌, ◌≤◌, length, true, All, IfOk};
+ghost use Rattle.lp_term.specs.Nodes.{Extends};
+ghost use Rattle.lp_pattern.specs.Growing.{Grows, IsPairOf};
+
+use crate::bindings::Bindings;
+use crate::fault::PatternRefusal;
+use crate::rules::{Verdict, take};
+use crate::types::solve_types;
+use crate::units::spend;
+use lp_base::Memory;
+use lp_model::Pair;
+use lp_term::{Bank, TermId, TypeId};
+use std::alloc::Global;
+
+/// What variables are bound to, in the order in which they were bound, and the pairs that are left.
+#[derive(Drop)]
+pub struct Solved {
+    pub bindings: Vec<(u64, TermId)>,
+    pub types: Vec<(u64, TypeId)>,
+    pub residual: Vec<Pair>,
+}
+
+// Puts pairs on a stack, so that the first of them comes first.
+fn push_pairs(pairs: &[Pair], todo: &mut Vec<Pair>) -> Result<(), Memory> {
+    for pair in pairs.iter().rev().copied() {
+        todo.push(pair)?;
+    }
+    Ok(())
+}
+
+// Whether the sides of all pairs are in the bank.
+fn stand(bank: &Bank, pairs: &[Pair]) -> bool
+    ensures { result ≡ true → All (IsPairOf (length bank.now.terms)) pairs.now }
+{
+    for pair in pairs.iter().copied() {
+        if pair.left.0 >= bank.term_count() || pair.right.0 >= bank.term_count() {
+            return false;
+        }
+    }
+    true
+}
+
+// Takes the pairs until none is left. Says whether a variable was bound.
+fn take_all(
+    alloc: Global,
+    bank: &mut Bank,
+    bindings: &mut Bindings,
+    todo: &mut Vec<Pair>,
+    waiting: &mut Vec<Pair>,
+    next: &mut u64,
+    units: &mut u64,
+) -> Result<bool, PatternRefusal>
+    ensures kept { Extends bank.old bank.new }
+    ensures more { next.old ≤ next.new }
+    ensures grown { Grows bindings.old bindings.new }
+{
+    let before = bindings.mark();
+    'pairs: for _ in 0..u64::MAX {
+        let Some(pair) = todo.pop() else {
+            return Ok(bindings.mark() != before);
+        };
+        spend(units)?;
+        match take(alloc, bank, bindings, next, pair, todo, units)? {
+            Verdict::Gone => {}
+            Verdict::Delayed(pair) => waiting.push(pair)?,
+        }
+    }
+    Err(PatternRefusal::Memory)
+}
+
+/// Unifies under bindings and adds to them: first the type equations, in order, then the pairs. The delayed pairs, oldest first, are
+/// taken up again when something was bound. The result is the residual pairs. After a refusal some variables may have been bound: the
+/// caller undoes to a mark.
+///
+/// `next` is above the number of each variable, and is raised past the new ones. Each variable has one level. A pair that is taken, a
+/// pair of types, and a node that a scan visits are units; `Deep` comes where they pass the limit.
+pub fn solve_under(
+    alloc: Global,
+    bank: &mut Bank,
+    bindings: &mut Bindings,
+    types: &[(TypeId, TypeId)],
+    pairs: &[Pair],
+    delayed: &[Pair],
+    next: &mut u64,
+    limit: u64,
+) -> Result<Vec<Pair>, PatternRefusal>
+    ensures kept { Extends bank.old bank.new }
+    ensures more { next.old ≤ next.new }
+    ensures grown { Grows bindings.old bindings.new }
+    ensures within { IfOk result (λ left. All (IsPairOf (length bank.new.terms)) left.items) }
+{
+    let mut units = limit;
+    let mut waiting = Vec::from_slice(alloc, delayed)?;
+    let mut todo = Vec::new(alloc);
+    push_pairs(pairs, &mut todo)?;
+    let before = bindings.mark();
+    solve_types(alloc, bank, bindings, types, &mut units)?;
+    let mut has_types = bindings.mark() != before;
+    'rounds: for _ in 0..u64::MAX {
+        let is_bound = take_all(
+            alloc,
+            bank,
+            bindings,
+            &mut todo,
+            &mut waiting,
+            next,
+            &mut units,
+        )?;
+        if !is_bound && !has_types {
+            if !stand(bank, waiting.as_slice()) {
+                return Err(PatternRefusal::Memory);
+            }
+            return Ok(waiting);
+        }
+        has_types = false;
+        push_pairs(waiting.as_slice(), &mut todo)?;
+        waiting.clear();
+    }
+    Err(PatternRefusal::Memory)
+}
+
+/// Unifies, with nothing bound at the start.
+pub fn solve(
+    alloc: Global,
+    bank: &mut Bank,
+    types: &[(TypeId, TypeId)],
+    pairs: &[Pair],
+    delayed: &[Pair],
+    next: &mut u64,
+    limit: u64,
+) -> Result<Solved, PatternRefusal>
+    ensures kept { Extends bank.old bank.new }
+    ensures more { next.old ≤ next.new }
+    ensures within { IfOk result (λ found. All (IsPairOf (length bank.new.terms)) found.residual.items) }
+{
+    let mut bindings = Bindings::new(alloc);
+    let residual = solve_under(
+        alloc,
+        bank,
+        &mut bindings,
+        types,
+        pairs,
+        delayed,
+        next,
+        limit,
+    )?;
+    Ok(Solved {
+        bindings: bindings.term_entries(alloc)?,
+        types: bindings.type_entries(alloc)?,
+        residual,
+    })
+}
