@@ -344,7 +344,7 @@ fn chain(
     if last_first {
         pairs.reverse();
     }
-    let mut next = length + 1;
+    let mut next = NEXT;
     let solution = solve(
         alloc,
         &mut bank,
