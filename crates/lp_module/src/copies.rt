@@ -1,0 +1,258 @@
+// The program of a set of modules.
+
+use crate::carry::{Types, carry_terms};
+use crate::fault::ModuleFault;
+use crate::module::Module;
+use crate::numbers::{Names, Open};
+use crate::tree::{Copied, Step, Tree};
+use indexmap::IndexMap;
+use itoa::Buffer;
+use lp_base::Memory;
+use lp_model::{ClauseFormula, Declared, Program};
+use lp_sig::{ConstantEntry, FIRST_CONSTANT, FIRST_KIND};
+use lp_term::{Bank, TermId, TypeId};
+use std::alloc::Global;
+
+/// A kind or constant of a program: its name, and 0 where it is global; else it is the hidden one of this number among those of its name, from 1.
+#[derive(Drop)]
+pub struct GlobalName {
+    pub name: Vec<u8>,
+    pub hidden: u16,
+}
+
+/// The program of a set of modules. The entries of `kinds` have the numbers from 8, those of `constants` from 32.
+#[derive(Drop)]
+pub struct Assembled {
+    pub program: Program,
+    pub kinds: Vec<GlobalName>,
+    pub constants: Vec<GlobalName>,
+}
+
+#[derive(Drop)]
+struct Making {
+    alloc: Global,
+    bank: Bank,
+    declared: Vec<Declared>,
+    clauses: Vec<ClauseFormula>,
+    kinds: Vec<GlobalName>,
+    constants: Vec<GlobalName>,
+    hidden_kinds: IndexMap<Vec<u8>, u16>,
+    hidden_constants: IndexMap<Vec<u8>, u16>,
+}
+
+// The number of the next hidden name of this name, from 1.
+fn next_hidden(
+    alloc: Global,
+    counts: &mut IndexMap<Vec<u8>, u16>,
+    name: &[u8],
+) -> Result<u16, Memory> {
+    if let Some(count) = counts.get_mut(name) {
+        *count = count.saturating_add(1);
+        return Ok(*count);
+    }
+    let key = Vec::from_slice(alloc, name)?;
+    counts.insert(key, 1)?;
+    Ok(1)
+}
+
+// A name as it is shown: the k-th hidden one of a name with `$k`.
+fn shown(alloc: Global, name: &[u8], hidden: u16) -> Result<Vec<u8>, Memory> {
+    let mut text = Vec::from_slice(alloc, name)?;
+    if hidden > 0 {
+        let mut buffer = Buffer::new();
+        text.push(b'$')?;
+        text.extend_from_slice(buffer.format(hidden).as_bytes())?;
+    }
+    Ok(text)
+}
+
+impl Making {
+    fn new(alloc: Global) -> Making {
+        Making {
+            alloc,
+            bank: Bank::new(alloc),
+            declared: Vec::new(alloc),
+            clauses: Vec::new(alloc),
+            kinds: Vec::new(alloc),
+            constants: Vec::new(alloc),
+            hidden_kinds: IndexMap::new(alloc),
+            hidden_constants: IndexMap::new(alloc),
+        }
+    }
+
+    fn add_kind(&mut self, name: &[u8], hidden: u16) -> Result<(), Memory> {
+        let name = Vec::from_slice(self.alloc, name)?;
+        self.kinds.push(GlobalName { name, hidden })?;
+        Ok(())
+    }
+
+    fn add_constant(
+        &mut self,
+        entry: &ConstantEntry,
+        hidden: u16,
+        scheme: TypeId,
+    ) -> Result<(), Memory> {
+        let name = Vec::from_slice(self.alloc, entry.name.as_slice())?;
+        let shown = shown(self.alloc, entry.name.as_slice(), hidden)?;
+        self.constants.push(GlobalName { name, hidden })?;
+        self.declared.push(Declared {
+            shown,
+            type_vars: entry.type_vars,
+            scheme,
+        })?;
+        Ok(())
+    }
+
+    // The global names, which are those that the root exports.
+    fn add_global(&mut self, root: &Open<'_>) -> Result<(), Memory> {
+        let signature = &root.module.signature;
+        for kind in root.names.exported_kinds.iter().copied() {
+            let Some(entry) = signature.kinds().get(kind) else {
+                return Err(Memory);
+            };
+            self.add_kind(entry.name.as_slice(), 0)?;
+        }
+        let mut types = Types::new(self.alloc);
+        for constant in root.names.exported_constants.iter().copied() {
+            let Some(entry) = signature.constants().get(constant) else {
+                return Err(Memory);
+            };
+            let scheme = types.carry(
+                signature.bank(),
+                entry.scheme,
+                &root.names.kinds,
+                &mut self.bank,
+            )?;
+            self.add_constant(entry, 0, scheme)?;
+        }
+        Ok(())
+    }
+
+    // The hidden kinds of a copy.
+    fn add_hidden_kinds(&mut self, copy: &Open<'_>) -> Result<(), Memory> {
+        let kinds = copy.module.signature.kinds();
+        for number in copy.module.hidden_kinds.iter().copied() {
+            let Some(entry) = kinds.get(number.saturating_sub(FIRST_KIND) as usize) else {
+                return Err(Memory);
+            };
+            let hidden = next_hidden(self.alloc, &mut self.hidden_kinds, entry.name.as_slice())?;
+            self.add_kind(entry.name.as_slice(), hidden)?;
+        }
+        Ok(())
+    }
+
+    // The hidden constants of a copy.
+    fn add_hidden_constants(&mut self, copy: &Open<'_>) -> Result<(), Memory> {
+        let signature = &copy.module.signature;
+        let mut types = Types::new(self.alloc);
+        for number in copy.module.hidden_constants.iter().copied() {
+            let place = number.saturating_sub(FIRST_CONSTANT) as usize;
+            let Some(entry) = signature.constants().get(place) else {
+                return Err(Memory);
+            };
+            let scheme = types.carry(
+                signature.bank(),
+                entry.scheme,
+                &copy.names.kinds,
+                &mut self.bank,
+            )?;
+            let hidden = next_hidden(
+                self.alloc,
+                &mut self.hidden_constants,
+                entry.name.as_slice(),
+            )?;
+            self.add_constant(entry, hidden, scheme)?;
+        }
+        Ok(())
+    }
+
+    fn add_clause(&mut self, type_vars: u32, formula: TermId) -> Result<(), Memory> {
+        if formula.0 >= self.bank.term_count() {
+            return Err(Memory);
+        }
+        self.clauses.push(ClauseFormula { type_vars, formula })?;
+        Ok(())
+    }
+
+    // The clauses of a copy.
+    fn add_clauses(&mut self, copy: &Open<'_>) -> Result<(), Memory> {
+        let made = carry_terms(self.alloc, &copy.module.bank, &copy.names, &mut self.bank)?;
+        for clause in copy.module.clauses.iter() {
+            let Some(formula) = made.get(clause.formula.0).copied() else {
+                return Err(Memory);
+            };
+            self.add_clause(clause.type_vars, formula)?;
+        }
+        Ok(())
+    }
+
+    // A copy, behind those below it.
+    fn add_copy(&mut self, copy: &Open<'_>) -> Result<(), Memory> {
+        self.add_hidden_kinds(copy)?;
+        self.add_hidden_constants(copy)?;
+        self.add_clauses(copy)
+    }
+
+    fn finish(self) -> Assembled {
+        Assembled {
+            program: Program {
+                bank: self.bank,
+                constants: self.declared,
+                clauses: self.clauses,
+            },
+            kinds: self.kinds,
+            constants: self.constants,
+        }
+    }
+
+    // Enters a copy: its names are known from those of the copy above, which is the last open one.
+    fn enter<'a>(
+        &mut self,
+        modules: &'a [Module],
+        copied: Copied,
+        open: &mut Vec<Open<'a>>,
+    ) -> Result<(), Memory> {
+        let Some(module) = modules.get(copied.module) else {
+            return Err(Memory);
+        };
+        let names = match open.as_slice().last() {
+            None => Names::of_root(self.alloc, module, copied)?,
+            Some(above) => Names::below(self.alloc, module, copied, above)?,
+        };
+        let copy = Open { module, names };
+        if open.is_empty() {
+            self.add_global(&copy)?;
+        }
+        open.push(copy)?;
+        Ok(())
+    }
+}
+
+/// The program of the modules that the root accumulates, copy by copy: those below a copy in order, then the copy itself. The global
+/// names have the first numbers, in the root's order; then come the hidden ones of each copy.
+///
+/// # Errors
+/// `Limit(Copies)` where there are more than 4,096 copies, else `Limit(Names)` where a kind's or a constant's number would not be below
+/// 65,535.
+pub fn assemble(alloc: Global, modules: &[Module], root: u32) -> Result<Assembled, ModuleFault> {
+    let tree = Tree::of(alloc, modules, root as usize)?;
+    let mut making = Making::new(alloc);
+    let mut open = Vec::new(alloc);
+    for step in &tree.steps {
+        match step {
+            Step::Enter(at) => {
+                let Some(copied) = tree.copies.get(*at) else {
+                    return Err(ModuleFault::Memory);
+                };
+                making.enter(modules, *copied, &mut open)?;
+            }
+            Step::Leave(_) => {
+                let Some(copy) = open.pop() else {
+                    return Err(ModuleFault::Memory);
+                };
+                making.add_copy(&copy)?;
+            }
+        }
+    }
+    Ok(making.finish())
+}

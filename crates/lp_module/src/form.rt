@@ -1,0 +1,78 @@
+// The form of clauses and queries, and the limits on their normal forms.
+ghost use Rattle.std.specs.Prelude.{◌<◌, length, IfOk};
+ghost use Rattle.lp_term.specs.Nodes.{Extends};
+
+use crate::fault::ModuleFault;
+use crate::heads::Heads;
+use crate::judge::{Judge, Position};
+use crate::reading::LOOSE;
+use lp_base::{Limit, Spot};
+use lp_model::Typed;
+use lp_term::{Bank, TermId, TermRefusal, beta_normal};
+use std::alloc::Global;
+
+// The greatest numbers of contractions and of nodes of a normal form, and of type variables.
+const CONTRACTIONS: u64 = 1_000_000;
+
+const NODES: u64 = 1_000_000;
+
+const TYPE_VARIABLES: u64 = 255;
+
+// The beta-normal form of a formula.
+fn normal_of(alloc: Global, bank: &mut Bank, formula: TermId) -> Result<TermId, ModuleFault>
+    ensures kept { Extends bank.old bank.new }
+    ensures within { IfOk result (λ id. id.0 < length bank.new.terms) }
+{
+    if formula.0 >= bank.term_count() {
+        return Err(ModuleFault::Memory);
+    }
+    if !bank.is_known_below(formula, LOOSE) {
+        return Err(ModuleFault::Memory);
+    }
+    match beta_normal(alloc, bank, formula, CONTRACTIONS, NODES) {
+        Ok(normal) => Ok(normal),
+        Err(TermRefusal::Deep(_)) => Err(ModuleFault::Limit(Limit::NormalForm)),
+        Err(TermRefusal::Memory) => Err(ModuleFault::Memory),
+    }
+}
+
+/// Whether a sentence or query is within the limits and has the form of its position. `first` is the spot of its first token.
+pub(crate) fn check_form(
+    alloc: Global,
+    bank: &mut Bank,
+    heads: &Heads,
+    position: Position,
+    typed: &Typed,
+    first: Spot,
+) -> Result<(), ModuleFault>
+    ensures kept { Extends bank.old bank.new }
+{
+    let normal = normal_of(alloc, bank, typed.formula)?;
+    let mut judge = Judge::new(alloc, heads);
+    let verdict = judge.judge(bank, position, normal)?;
+    if verdict.deep {
+        return Err(ModuleFault::Limit(Limit::Nesting));
+    }
+    if verdict.wide || typed.type_vars > TYPE_VARIABLES {
+        return Err(ModuleFault::Limit(Limit::Arguments));
+    }
+    if verdict.in_term {
+        return Err(ModuleFault::InTerm(first));
+    }
+    if verdict.other {
+        return Err(ModuleFault::NotClause(first));
+    }
+    Ok(())
+}
+
+/// Whether a query is within the limits and is a goal. `first` is the spot of its first token.
+pub fn query_form(
+    alloc: Global,
+    bank: &mut Bank,
+    query: &Typed,
+    first: Spot,
+) -> Result<(), ModuleFault>
+    ensures kept { Extends bank.old bank.new }
+{
+    check_form(alloc, bank, &Heads::Any, Position::Goal, query, first)
+}

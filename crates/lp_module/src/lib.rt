@@ -1,0 +1,44 @@
+//! Modules: their order, what one means, the program of a set of them, and the form of clauses and queries.
+#![tactic(auto)]
+
+// Types and terms with their kinds and constants renumbered.
+mod carry;
+// The program of a set of modules.
+mod copies;
+// Why a module is refused.
+mod fault;
+// The form of clauses and queries, and the limits on their normal forms.
+mod form;
+// Which constants can head a clause.
+mod heads;
+// The parts of a formula in goal and in clause position.
+mod judge;
+// What a module means.
+mod meaning;
+// What the terms of a formula are like.
+mod measure;
+// Modules as they are handed out.
+mod module;
+// The numbers that the names of a copy have in the program.
+mod numbers;
+// What a formula is by the constant at its top.
+mod reading;
+// The sentences of a module.
+mod sentences;
+// The tree of copies.
+mod tree;
+// The order of modules, and circles of accumulate.
+mod walk;
+// The words of accumulate.
+mod words;
+
+pub use copies::{Assembled, GlobalName, assemble};
+pub use fault::ModuleFault;
+pub use form::query_form;
+pub use meaning::elaborate;
+pub use module::Module;
+pub use sentences::has_many_arguments;
+pub use walk::order;
+
+#[cfg(test)]
+mod tests;

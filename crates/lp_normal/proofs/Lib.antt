@@ -1,0 +1,11 @@
+mod Forming
+mod Deriving
+mod Shifts
+mod Bounds
+mod Inversions
+mod Comings
+mod Steps
+mod Scopes
+mod Meanings
+mod ClauseSteps
+mod Turnings

@@ -1,0 +1,14 @@
+use Rattle.std.proofs.Common.{[]}
+use Rattle.std.specs.Prelude.{All}
+use Rattle.lp_term.specs.Nodes.{Extends}
+use Rattle.lp_normal.specs.Within.{IsFrameIn, IsInnerIn}
+use Rattle.lp_normal.specs.Making.{Flat, InnerComesTo}
+use Rattle.lp_normal.proofs.flattening.run.Given as goal
+
+abbrev pub invariant-moves : goal.invariant-moves
+invariant-moves l = record {
+  kept : Extends l.fn.bank l.bank;
+  frames : All (IsFrameIn l.bank) l.frames.items;
+  inner : IsInnerIn l.bank l.inner;
+  comes : (whole : Flat) → InnerComesTo l.fn.bank l.fn.first [] whole → InnerComesTo l.bank l.inner l.frames.items whole;
+}

@@ -1,0 +1,21 @@
+use Rattle.std.proofs.Common.{◌∙◌, ap, sym, refl}
+use Rattle.lp_calculus.specs.Term.{shift}
+use Rattle.lp_term.specs.Nodes.{tree}
+use Rattle.lp_model.specs.Standard.{Implies, form_of}
+use Rattle.lp_normal.proofs.Steps.{implies_next}
+use Rattle.lp_normal.proofs.Comings.{next_later}
+use Rattle.lp_normal.proofs.step.assume.Goals as goal
+
+pub returns-clause-comes : goal.returns-clause-comes
+returns-clause-comes c = λ out h.
+    let b = c.args.bank.now in
+    let n = c.raised.new.bank in
+    let x = c.in_ok-formula.ensures.kept in
+    let e = c.in_ok-inner.ensures in
+    let l = c.args.list in
+    let w = c.args.next in
+    let u = tree b c.args.clause.0 in
+    implies_next n l w out c.in_ok-inner.inner (record { outer = l; goal = record { formula = c.args.goal; level = w.level } }) c.in_ok-formula.formula c.args.goal refl refl e.type_vars e.assumed e.done e.waiting e.around u
+    (c.in_ok-formula.ensures.tree ∙ ap (λ k. shift 0 k u) c.raise_from-by.ensures)
+    (ap form_of (x.same_terms w.formula.0 c.requires.next.formula) ∙ c.requires.form ∙ ap (Implies u) (sym (x.same_terms c.args.goal.0 c.requires.goal)))
+    (next_later b n x l w out c.requires.list c.requires.next h)

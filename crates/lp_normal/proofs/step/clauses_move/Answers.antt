@@ -1,0 +1,32 @@
+use Rattle.std.proofs.Common.{arith}
+use Rattle.std.specs.Prelude.{option_to_list}
+use Rattle.lp_term.proofs.Moves.{nothing}
+use Rattle.lp_normal.proofs.Turnings.{part_popped_in, part_popped, left_in, left_comes}
+use Rattle.lp_normal.proofs.step.clauses_move.Goals as goal
+
+pub next_part-requires-clause-list : goal.next_part-requires-clause-list
+next_part-requires-clause-list c = (part_popped_in c.args.bank.now c.args.list c.pop.new.self c.in-Some.next c.in-Some.ensures.items c.requires.list).0
+
+pub next_part-requires-clause-part : goal.next_part-requires-clause-part
+next_part-requires-clause-part c =
+    let k = (part_popped_in c.args.bank.now c.args.list c.pop.new.self c.in-Some.next c.in-Some.ensures.items c.requires.list).1 in
+    rw c.in-Visit.is at k
+
+pub returns-in_ok-inner-in-Visit-clause-comes : goal.returns-in_ok-inner-in-Visit-clause-comes
+returns-in_ok-inner-in-Visit-clause-comes c = λ whole h.
+    let q = rw c.in-Visit.is at c.in-Some.ensures.items in
+    c.in_ok-inner-in-Visit.ensures.comes h.0 whole (part_popped c.args.bank.now c.args.list c.pop.new.self c.in-Visit.part h.0 q h.1) h.2
+
+pub returns-in-Leave-clause-within : goal.returns-in-Leave-clause-within
+returns-in-Leave-clause-within c =
+    let q = rw c.in-Leave.is at c.in-Some.ensures.items in
+    left_in c.args.bank.now c.args.list c.pop.new.self c.pop-link.new.self (option_to_list c.pop-link.result) c.pop-link.ensures.items q c.requires.list
+
+pub returns-in-Leave-clause-comes : goal.returns-in-Leave-clause-comes
+returns-in-Leave-clause-comes c = λ whole h.
+    let q = rw c.in-Leave.is at c.in-Some.ensures.items in (
+      h.0,
+      left_comes c.args.bank.now c.args.list c.pop.new.self c.pop-link.new.self c.pop-link.result h.0 c.pop-link.ensures.items
+          (λ e. let k = rw e at c.pop-link.ensures.cases in nothing c.args.list.around.items (omega (arith, k.0, c.args.list.around.ok))) q h.1,
+      h.2,
+    )

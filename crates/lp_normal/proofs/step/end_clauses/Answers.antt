@@ -1,0 +1,21 @@
+use Rattle.std.proofs.Common.{sym, subst, reverse}
+use Rattle.lp_normal.specs.Making.{AssumedComesTo, AllTurn}
+use Rattle.lp_normal.proofs.Turnings.{ends_made, clauses_made, assumed_made}
+use Rattle.lp_normal.proofs.step.end_clauses.Goals as goal
+
+pub returns-in-None-clause-comes : goal.returns-in-None-clause-comes
+returns-in-None-clause-comes c = λ whole h.
+    let b = c.args.bank.now in
+    let l = c.args.list in
+    let p = ends_made b l h.0 c.requires.waiting h.1 in
+    let q = subst (λ z. AssumedComesTo b z p.0 h.0) c.in-None.is p.2 in
+    clauses_made b c.args.frames.now.items l.done p.0 whole p.1 (subst (λ z. AllTurn b (reverse c.args.frames.now.items) z whole) (sym q) h.2)
+
+pub returns-clause-comes : goal.returns-clause-comes
+returns-clause-comes c = λ whole h.
+    let b = c.args.bank.now in
+    let l = c.args.list in
+    let p = ends_made b l h.0 c.requires.waiting h.1 in
+    let q = subst (λ z. AssumedComesTo b z p.0 h.0) c.in-Some.is p.2 in
+    let e = c.in_ok-inner-in-Some.ensures in
+    assumed_made b c.in-Some.assumed p.0 l.done c.in_ok-inner-in-Some.inner c.args.frames.now.items c.push.new.self.items h.0 whole p.1 q e.opened e.done e.waiting e.level c.in_ok-push-in-Some.ensures.items h.2

@@ -1,0 +1,25 @@
+use Rattle.std.proofs.Common.{◌∙◌, ap, sym, reverse}
+use Rattle.lp_calculus.specs.Term.{shift}
+use Rattle.lp_term.specs.Nodes.{tree}
+use Rattle.lp_model.specs.Standard.{Every, body_of, form_of}
+use Rattle.lp_normal.specs.Within.{IsFrameIn}
+use Rattle.lp_normal.specs.Making.{these_goals}
+use Rattle.lp_normal.proofs.Bounds.{All-reverse}
+use Rattle.lp_normal.proofs.Steps.{every_next}
+use Rattle.lp_normal.proofs.Comings.{next_later, all_turn_later}
+use Rattle.lp_normal.proofs.step.for_all.Goals as goal
+
+pub returns-clause-comes : goal.returns-clause-comes
+returns-clause-comes c = λ out whole h t.
+    let b = c.args.bank.now in
+    let n = c.raised_body.new.bank in
+    let x = c.in_ok-formula.ensures.kept in
+    let e = c.in_ok-inner.ensures in
+    let l = c.args.list in
+    let w = c.args.next in
+    let fs = c.args.frames.now.items in
+    let u = tree b c.args.on.0 in
+    every_next n l w out whole c.in_ok-inner.inner fs c.push.new.self.items c.args.bound c.in_ok-formula.formula e.opened e.done e.waiting e.level c.in_ok-push.ensures.items u
+    (c.in_ok-formula.ensures.tree ∙ ap (λ k. body_of (shift 0 k u)) c.raise_from-by.ensures)
+    (ap form_of (x.same_terms w.formula.0 c.requires.next.formula) ∙ c.requires.form ∙ ap (λ T. Every T (body_of u)) (sym (x.same_types c.args.bound.0 c.requires.bound)))
+    (next_later b n x l w out c.requires.list c.requires.next h) (all_turn_later b n x (reverse fs) (these_goals out) whole (All-reverse (IsFrameIn b) fs c.requires.frames) t)

@@ -1,0 +1,4 @@
+pub mod Flats
+pub mod Formed
+pub mod Within
+pub mod Making

@@ -1,0 +1,104 @@
+// The flattening of sentences and queries.
+ghost use Rattle.std.specs.Prelude.{◌≡◌, ◌<◌, ℕ, ◌^◌, length, [], IfOk, Option, Some, true};
+ghost use Rattle.lp_calculus.specs.Typing.{Scheme};
+ghost use Rattle.lp_term.specs.Nodes.{Nodes, Extends, tree};
+ghost use Rattle.lp_term.specs.Spine.{LooseBelow};
+ghost use Rattle.lp_term.specs.Frame.{IsBetaForm};
+ghost use Rattle.lp_model.specs.Flat.{Clauses, Goals};
+ghost use Rattle.lp_model.specs.Flatten.{flatten, flatten_query};
+ghost use Rattle.lp_model.specs.Flattened.{clauses_of, goals_of};
+ghost use Rattle.lp_model.specs.Readings.{formula_of};
+ghost use Rattle.lp_normal.specs.Within.{AreGoalsIn, AreClausesIn, IsInnerIn, IsMadeIn};
+ghost use Rattle.lp_normal.specs.Making.{Flat, InnerComesTo, IsMadeOf};
+
+use crate::clauses::ClauseList;
+use crate::fault::NormalRefusal;
+use crate::frame::{Inner, Made, Move};
+use crate::goals::{GoalList, Waiting};
+use crate::step::step;
+use lp_base::Memory;
+use lp_model::{Clause, ClauseFormula, Goal, Typed};
+use lp_term::{Bank, TermId, beta_normal};
+use std::alloc::Global;
+
+// The most contractions and nodes of a beta-normal form.
+const MOST_CONTRACTIONS: u64 = 1_000_000;
+
+const MOST_NODES: u64 = 1_000_000;
+
+// The bound of the loose indices of a formula.
+const MOST_LOOSE: u64 = 4_294_967_296;
+
+// Whether the formula stands in the bank, and its loose indices are below their bound.
+fn is_formula(bank: &Bank, formula: TermId) -> bool
+    ensures known { result ≡ true → formula.0 < length bank.now.terms }
+    ensures loose { result ≡ true → LooseBelow (2 ^ 32) 0 (tree bank.now formula.0) }
+{
+    formula.0 < bank.term_count() && bank.is_known_below(formula, MOST_LOOSE)
+}
+
+// The beta-normal form of a formula.
+fn form(alloc: Global, bank: &mut Bank, formula: TermId) -> Result<TermId, Memory>
+    ensures kept { Extends bank.old bank.new }
+    ensures within { IfOk result (λ id. id.0 < length bank.new.terms) }
+    ensures form { IfOk result (λ id. IsBetaForm 1000000 (tree bank.old formula.0) (tree bank.new id.0)) }
+{
+    if !is_formula(bank, formula) {
+        return Err(Memory);
+    }
+    match beta_normal(alloc, bank, formula, MOST_CONTRACTIONS, MOST_NODES) {
+        Ok(id) => Ok(id),
+        Err(_) => Err(Memory),
+    }
+}
+
+// The list in the making, made.
+fn run(alloc: Global, bank: &mut Bank, first: Inner) -> Result<Made, NormalRefusal>
+    requires { IsInnerIn bank.old first }
+    ensures kept { Extends bank.old bank.new }
+    ensures within { IfOk result (IsMadeIn bank.new) }
+    ensures made { IfOk result (λ made. (whole : Flat) → InnerComesTo bank.old first [] whole → IsMadeOf bank.new made whole) }
+{
+    let mut frames = Vec::new(alloc);
+    let mut count = 0;
+    let mut inner = first;
+    'moves: for _ in 0..u64::MAX {
+        match step(alloc, bank, &mut frames, &mut count, inner)? {
+            Move::On(next) => inner = next,
+            Move::Done(made) => return Ok(made),
+        }
+    }
+    Err(NormalRefusal::Memory)
+}
+
+/// The flattened clauses of a closed clause formula, in written order.
+pub fn normalise(
+    alloc: Global,
+    bank: &mut Bank,
+    formula: ClauseFormula,
+) -> Result<Vec<Clause>, NormalRefusal>
+    ensures kept { Extends bank.old bank.new }
+    ensures within { IfOk result (λ cs. AreClausesIn bank.new cs.items) }
+    ensures flattened { IfOk result (λ cs. (n : ℕ) (d : ℕ → Option Scheme) (flat : Clauses) (later : Nodes) → flatten n d (formula_of bank.old formula) ≡ Some flat → Extends bank.new later → clauses_of later cs.items ≡ flat) }
+{
+    let id = form(alloc, bank, formula.formula)?;
+    let list = ClauseList::of(alloc, id, formula.type_vars, None)?;
+    match run(alloc, bank, Inner::Clauses(list))? {
+        Made::Clauses(clauses) => Ok(clauses),
+        Made::Goals(_) => Err(NormalRefusal::Memory),
+    }
+}
+
+/// The flattened goals of a query. Its variables are the outermost indices, the first of them the greatest.
+pub fn query_body(alloc: Global, bank: &mut Bank, query: &Typed) -> Result<Vec<Goal>, NormalRefusal>
+    ensures kept { Extends bank.old bank.new }
+    ensures within { IfOk result (λ gs. AreGoalsIn bank.new gs.items) }
+    ensures flattened { IfOk result (λ gs. (n : ℕ) (d : ℕ → Option Scheme) (flat : Goals) (later : Nodes) → flatten_query n d (tree bank.old query.now.formula.0) ≡ Some flat → Extends bank.new later → goals_of later gs.items ≡ flat) }
+{
+    let formula = form(alloc, bank, query.formula)?;
+    let list = GoalList::of(alloc, Waiting { formula, level: 0 }, 0)?;
+    match run(alloc, bank, Inner::Goals(list))? {
+        Made::Goals(goals) => Ok(goals),
+        Made::Clauses(_) => Err(NormalRefusal::Memory),
+    }
+}

@@ -1,0 +1,170 @@
+// Atomic goals: a step each.
+
+use crate::arithmetic::{Outcome, Value, evaluate, holds, term_of};
+use crate::attempt::attempt;
+use crate::candidates::Candidate;
+use crate::choice::{Call, Untried};
+use crate::form::Form;
+use crate::frame::Place;
+use crate::head::{Head, key_of};
+use crate::machine::Machine;
+use crate::name::{tell_constant, tell_eigen, tell_variable};
+use crate::outcome::{Turn, take_step, turn_of};
+use crate::unified::{equate, head_normal};
+use lp_base::{Compare, Memory};
+use lp_model::{Ending, Fault};
+use lp_term::TermId;
+use lp_watch::{Crowd, Note, Watch};
+
+fn order_number(order: Compare) -> u32 {
+    match order {
+        Compare::Less => 10,
+        Compare::Greater => 11,
+        Compare::AtMost => 12,
+        Compare::AtLeast => 13,
+    }
+}
+
+// Tells that an atomic goal is taken.
+fn tell_goal<W: Watch>(
+    machine: &Machine,
+    crowd: &mut Crowd<'_, W>,
+    form: Form,
+) -> Result<(), Memory> {
+    match form {
+        Form::Equal(_, _) => tell_constant(machine, crowd, 8),
+        Form::Is(_, _) => tell_constant(machine, crowd, 9),
+        Form::Order(order, _, _) => tell_constant(machine, crowd, order_number(order)),
+        Form::Call(Head::Constant(number), _) => tell_constant(machine, crowd, number),
+        Form::Call(Head::Eigen(level), _) => tell_eigen(machine.alloc, crowd, level),
+        _ => tell_variable(crowd),
+    }
+}
+
+fn assign(machine: &mut Machine, left: TermId, right: TermId, level: u64) -> Result<Turn, Memory> {
+    match evaluate(machine, right)? {
+        Outcome::Deep => Ok(Turn::Ended(Ending::Deep)),
+        Outcome::Faults(fault) => Ok(Turn::Ended(Ending::Arithmetic(fault))),
+        Outcome::Is(value) => {
+            let term = term_of(&mut machine.bank, value)?;
+            let unified = equate(machine, left, term, level)?;
+            Ok(turn_of(unified))
+        }
+    }
+}
+
+// The number that an expression is, or how the search ends.
+fn number(machine: &mut Machine, term: TermId) -> Result<Result<i64, Ending>, Memory> {
+    match evaluate(machine, term)? {
+        Outcome::Deep => Ok(Err(Ending::Deep)),
+        Outcome::Faults(fault) => Ok(Err(Ending::Arithmetic(fault))),
+        Outcome::Is(Value::Number(value)) => Ok(Ok(value)),
+        Outcome::Is(Value::Text(_)) => Ok(Err(Ending::Arithmetic(Fault::NotClosed))),
+    }
+}
+
+fn compare(
+    machine: &mut Machine,
+    order: Compare,
+    left: TermId,
+    right: TermId,
+) -> Result<Turn, Memory> {
+    let one = match number(machine, left)? {
+        Ok(value) => value,
+        Err(ending) => return Ok(Turn::Ended(ending)),
+    };
+    let other = match number(machine, right)? {
+        Ok(value) => value,
+        Err(ending) => return Ok(Turn::Ended(ending)),
+    };
+    if holds(order, one, other) {
+        Ok(Turn::On)
+    } else {
+        Ok(Turn::Back)
+    }
+}
+
+/// Tries a candidate for a goal; those behind it are an alternative.
+pub(crate) fn try_candidate(
+    machine: &mut Machine,
+    call: &Call,
+    candidate: Candidate,
+) -> Result<Turn, Memory> {
+    let mark = machine.choices.len();
+    if let Some(next) = machine.candidate_after(call, candidate) {
+        machine.put_choice(Untried::Clauses(*call, next))?;
+    }
+    let unified = attempt(machine, call, candidate, mark)?;
+    Ok(turn_of(unified))
+}
+
+fn take_call(
+    machine: &mut Machine,
+    goal: TermId,
+    head: Head,
+    first: Option<TermId>,
+    place: Place,
+    behind: Option<usize>,
+) -> Result<Turn, Memory> {
+    let mut key = None;
+    if let Some(arg) = first {
+        let Some(form) = head_normal(machine, arg)? else {
+            return Ok(Turn::Ended(Ending::Deep));
+        };
+        key = key_of(&machine.bank, form)?;
+    }
+    let call = Call {
+        goal,
+        head,
+        key,
+        place,
+        behind,
+    };
+    match machine.first_candidate(&call) {
+        Some(candidate) => try_candidate(machine, &call, candidate),
+        None => Ok(Turn::Back),
+    }
+}
+
+/// Takes an atomic goal: one step.
+pub(crate) fn take_atom<W: Watch>(
+    machine: &mut Machine,
+    crowd: &mut Crowd<'_, W>,
+    goal: TermId,
+    form: Form,
+    place: Place,
+    behind: Option<usize>,
+) -> Result<Turn, Memory> {
+    if !take_step(machine) {
+        return Ok(Turn::Ended(Ending::Steps));
+    }
+    tell_goal(machine, crowd, form)?;
+    machine.branch.goals = behind;
+    match form {
+        Form::Equal(left, right) => {
+            let unified = equate(machine, left, right, place.level)?;
+            Ok(turn_of(unified))
+        }
+        Form::Is(left, right) => assign(machine, left, right, place.level),
+        Form::Order(order, left, right) => compare(machine, order, left, right),
+        Form::Call(head, first) => take_call(machine, goal, head, first, place, behind),
+        Form::Flexible => Ok(Turn::Ended(Ending::Flexible)),
+        _ => Ok(Turn::Back),
+    }
+}
+
+/// Takes a `!`: one step.
+pub(crate) fn take_cut<W: Watch>(
+    machine: &mut Machine,
+    crowd: &mut Crowd<'_, W>,
+    place: Place,
+    behind: Option<usize>,
+) -> Result<Turn, Memory> {
+    if !take_step(machine) {
+        return Ok(Turn::Ended(Ending::Steps));
+    }
+    crowd.tell(Note::Cut)?;
+    machine.cut(place.mark);
+    machine.branch.goals = behind;
+    Ok(Turn::On)
+}

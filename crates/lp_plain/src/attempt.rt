@@ -1,0 +1,251 @@
+// One try of a clause for a goal.
+
+use crate::candidates::Candidate;
+use crate::choice::Call;
+use crate::frame::Place;
+use crate::head::HeadPair;
+use crate::instance::{Values, instance};
+use crate::known::known;
+use crate::machine::Machine;
+use crate::scope::Scopes;
+use crate::spine::{Spine, unwound};
+use crate::types::renewed;
+use crate::unified::{Unified, unify};
+use lp_base::Memory;
+use lp_model::Pair;
+use lp_term::{Bank, TermId, TermNode, TypeId};
+use std::alloc::Global;
+
+// The number of the candidate's clause, and what stands around it. A program clause gets new type variables.
+fn clause_of(machine: &mut Machine, candidate: Candidate) -> Result<(usize, Values), Memory> {
+    match candidate {
+        Candidate::Assumed(number) => {
+            let Some(assumption) = machine.assumptions.get(number) else {
+                return Err(Memory);
+            };
+            Ok((assumption.rule, assumption.values))
+        }
+        Candidate::Program(number) => {
+            let types = new_types(machine, number)?;
+            Ok((number, Values { scope: None, types }))
+        }
+    }
+}
+
+// By how much the type variables of a program clause are raised.
+fn new_types(machine: &mut Machine, rule: usize) -> Result<u64, Memory> {
+    let Some(found) = machine.table.rules.get(rule) else {
+        return Err(Memory);
+    };
+    if found.type_vars == 0 {
+        return Ok(0);
+    }
+    let types = machine.branch.next_type;
+    let Some(next) = types.checked_add(found.type_vars as u64) else {
+        return Err(Memory);
+    };
+    machine.branch.next_type = next;
+    Ok(types)
+}
+
+// What a variable of the clause becomes: the goal's argument, or a new variable.
+fn slot_value(
+    bank: &mut Bank,
+    slot: Option<usize>,
+    args: &[TermId],
+    id: u64,
+    level: u64,
+) -> Result<TermId, Memory> {
+    if let Some(place) = slot {
+        if let Some(arg) = args.get(place) {
+            return Ok(*arg);
+        }
+    }
+    bank.put_term(TermNode::Logic { id, level })
+}
+
+// The values of the clause's variables, where the goal has these arguments and the next new variable has this number.
+fn slot_values(
+    alloc: Global,
+    bank: &mut Bank,
+    slots: &Vec<Option<usize>>,
+    args: &[TermId],
+    next: u64,
+    level: u64,
+) -> Result<Vec<TermId>, Memory> {
+    let mut values = Vec::new(alloc);
+    let mut id = next;
+    for slot in slots {
+        values.push(slot_value(bank, *slot, args, id, level)?)?;
+        let Some(more) = id.checked_add(1) else {
+            return Err(Memory);
+        };
+        id = more;
+    }
+    Ok(values)
+}
+
+// Opens the scope of a clause for a goal with these arguments.
+fn open(
+    machine: &mut Machine,
+    rule: usize,
+    args: &[TermId],
+    level: u64,
+    around: Values,
+) -> Result<Values, Memory> {
+    let Some(found) = machine.table.rules.get(rule) else {
+        return Err(Memory);
+    };
+    let values = slot_values(
+        machine.alloc,
+        &mut machine.bank,
+        &found.slots,
+        args,
+        machine.branch.next,
+        level,
+    )?;
+    let Some(next) = machine.branch.next.checked_add(values.len() as u64) else {
+        return Err(Memory);
+    };
+    machine.branch.next = next;
+    let scope = machine.scopes.open(around.scope, values.as_slice())?;
+    Ok(Values {
+        scope,
+        types: around.types,
+    })
+}
+
+// The type arguments of two constants, place by place.
+fn zipped_types(
+    alloc: Global,
+    bank: &Bank,
+    goal: TermId,
+    clause: TermId,
+) -> Result<Vec<(TypeId, TypeId)>, Memory> {
+    let mut pairs = Vec::new(alloc);
+    known(bank, goal)?;
+    known(bank, clause)?;
+    let TermNode::Const(_, lefts) = bank.term_node(goal) else {
+        return Ok(pairs);
+    };
+    let TermNode::Const(_, rights) = bank.term_node(clause) else {
+        return Ok(pairs);
+    };
+    let mut place = 0usize;
+    for left in lefts.iter().copied() {
+        let Some(right) = rights.get(place) else {
+            return Ok(pairs);
+        };
+        pairs.push((left, *right))?;
+        place = place.saturating_add(1);
+    }
+    Ok(pairs)
+}
+
+// The type arguments of the heads, with new type variables on the clause's side.
+fn type_pairs(
+    alloc: Global,
+    bank: &mut Bank,
+    goal: TermId,
+    clause: TermId,
+    types: u64,
+) -> Result<Vec<(TypeId, TypeId)>, Memory> {
+    let old = zipped_types(alloc, bank, goal, clause)?;
+    let mut new = Vec::new(alloc);
+    for pair in old.iter().copied() {
+        let right = renewed(alloc, bank, pair.1, types)?;
+        new.push((pair.0, right))?;
+    }
+    Ok(new)
+}
+
+// The arguments of the heads that are to be made one.
+fn term_pairs(
+    alloc: Global,
+    bank: &mut Bank,
+    scopes: &Scopes,
+    heads: &Vec<HeadPair>,
+    args: &[TermId],
+    values: Values,
+    level: u64,
+) -> Result<Vec<Pair>, Memory> {
+    let mut pairs = Vec::new(alloc);
+    for head in heads {
+        let Some(arg) = args.get(head.place) else {
+            continue;
+        };
+        let right = instance(alloc, bank, scopes, values, head.term)?;
+        pairs.push(Pair {
+            left: *arg,
+            right,
+            level,
+        })?;
+    }
+    Ok(pairs)
+}
+
+// Unifies the goal with the head of the clause.
+fn meet(
+    machine: &mut Machine,
+    rule: usize,
+    goal: TermId,
+    args: &[TermId],
+    values: Values,
+    level: u64,
+) -> Result<Unified, Memory> {
+    let alloc = machine.alloc;
+    let Some(found) = machine.table.rules.get(rule) else {
+        return Err(Memory);
+    };
+    let types = type_pairs(alloc, &mut machine.bank, goal, found.head, values.types)?;
+    let pairs = term_pairs(
+        alloc,
+        &mut machine.bank,
+        &machine.scopes,
+        &found.pairs,
+        args,
+        values,
+        level,
+    )?;
+    unify(machine, types.as_slice(), pairs.as_slice())
+}
+
+// Puts the body of the clause in front of the goals behind the goal.
+fn put_body(
+    machine: &mut Machine,
+    rule: usize,
+    place: Place,
+    behind: Option<usize>,
+) -> Result<(), Memory> {
+    let Some(found) = machine.table.rules.get(rule) else {
+        return Err(Memory);
+    };
+    let body = found.body;
+    machine.branch.goals = machine.put_list(body, place, behind)?;
+    Ok(())
+}
+
+/// Tries a clause for the goal. Where it fits, its body is to be proved next; a cut in it keeps the oldest `mark`
+/// alternatives.
+pub(crate) fn attempt(
+    machine: &mut Machine,
+    call: &Call,
+    candidate: Candidate,
+    mark: usize,
+) -> Result<Unified, Memory> {
+    let Spine { head, args } = unwound(machine.alloc, &machine.bank, call.goal)?;
+    let level = call.place.level;
+    let (rule, around) = clause_of(machine, candidate)?;
+    let values = open(machine, rule, args.as_slice(), level, around)?;
+    let unified = meet(machine, rule, head, args.as_slice(), values, level)?;
+    if unified == Unified::Fits {
+        let place = Place {
+            values,
+            assumed: call.place.assumed,
+            level,
+            mark,
+        };
+        put_body(machine, rule, place, call.behind)?;
+    }
+    Ok(unified)
+}

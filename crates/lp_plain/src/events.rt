@@ -1,0 +1,148 @@
+// A search, from one event to the next.
+ghost use Rattle.std.specs.Prelude.{◌≡◌, true, false, length, Ok, None, Some, IfOk, OnOk, OnErr, IsErr};
+ghost use Rattle.lp_model.specs.declared.ending.Ending.{Ending};
+ghost use Rattle.lp_model.specs.declared.answer.Event.TheVariants as told;
+ghost use Rattle.lp_plain.specs.Answers.{IsTold, Keeps};
+ghost use Rattle.lp_plain.specs.Held.{variables_of, ended, failed};
+
+use crate::answer::answer_of;
+use crate::machine::Machine;
+use crate::outcome::Turn;
+use crate::search::Search;
+use crate::start::{Started, begin};
+use crate::turn::{go_back, take_goal, tell_back};
+use lp_base::Memory;
+use lp_model::{Ending, Event, Program, Typed};
+use lp_watch::{Crowd, Note, Watch};
+use std::alloc::Global;
+
+#[derive(Clone, Copy)]
+enum Told {
+    Answered,
+    Ended(Ending),
+}
+
+// Goes on until something is to be told.
+fn run<W: Watch>(
+    machine: &mut Machine,
+    crowd: &mut Crowd<'_, W>,
+    first: Turn,
+) -> Result<Told, Memory> {
+    let mut turn = first;
+    for _ in 0..u64::MAX {
+        turn = match turn {
+            Turn::On => take_goal(machine, crowd)?,
+            Turn::Back => go_back(machine)?,
+            Turn::Answered => return Ok(Told::Answered),
+            Turn::Ended(ending) => return Ok(Told::Ended(ending)),
+        };
+        if turn == Turn::Back {
+            tell_back(machine, crowd)?;
+        }
+    }
+    Err(Memory)
+}
+
+impl Search {
+    /// The search of a query over a program, with these limits of steps and of answers. Program and query are dropped on a refusal.
+    #[tactic(auto, unfolding(crate::specs::Held::variables_of))]
+    pub fn start(
+        alloc: Global,
+        program: Program,
+        query: Typed,
+        steps: u64,
+        answers: u64,
+    ) -> Result<Search, Memory>
+        ensures variables { IfOk result (λ s. variables_of s ≡ length query.vars.items) }
+    {
+        let Started { machine, variables } = begin(alloc, program, query, steps)?;
+        Ok(Search {
+            machine,
+            variables,
+            answers,
+            given: 0,
+            ended: None,
+            failed: false,
+        })
+    }
+
+    #[tactic(auto, unfolding(crate::specs::Held::variables_of, crate::specs::Held::ended, crate::specs::Held::failed))]
+    fn end(&mut self, ending: Ending) -> Event
+        ensures variables { variables_of self.new ≡ variables_of self.old }
+        ensures told { IsTold (variables_of self.old) result }
+        ensures ended { Keeps result (ended self.new) }
+        ensures failed { failed self.new ≡ failed self.old }
+    {
+        self.ended = Some(ending);
+        Event::Ended(ending)
+    }
+
+    // Tells of an answer, and that the search goes back from it where more are wanted.
+    #[tactic(auto, unfolding(crate::specs::Held::variables_of, crate::specs::Held::ended, crate::specs::Held::failed))]
+    fn tell_answer<W: Watch>(&mut self, crowd: &mut Crowd<'_, W>) -> Result<(), Memory>
+        ensures variables { variables_of self.new ≡ variables_of self.old }
+        ensures ended { ended self.new ≡ ended self.old }
+        ensures failed { failed self.new ≡ failed self.old }
+    {
+        self.given = self.given.saturating_add(1);
+        self.machine.counts.row = 0;
+        crowd.tell(Note::Answer(self.given))?;
+        if self.given >= self.answers {
+            return Ok(());
+        }
+        tell_back(&self.machine, crowd)
+    }
+
+    #[tactic(auto, unfolding(crate::specs::Held::variables_of, crate::specs::Held::ended, crate::specs::Held::failed))]
+    fn advance<W: Watch>(&mut self, crowd: &mut Crowd<'_, W>) -> Result<Event, Memory>
+        ensures variables { variables_of self.new ≡ variables_of self.old }
+        ensures told { IfOk result (IsTold (variables_of self.old)) }
+        ensures ended { ended self.old ≡ None → IfOk result (λ event. Keeps event (ended self.new)) }
+        ensures failed { failed self.new ≡ failed self.old }
+    {
+        if self.given >= self.answers {
+            return Ok(self.end(Ending::Enough));
+        }
+        let first = if self.given == 0 {
+            Turn::On
+        } else {
+            Turn::Back
+        };
+        match run(&mut self.machine, crowd, first)? {
+            Told::Ended(ending) => Ok(self.end(ending)),
+            Told::Answered => {
+                self.tell_answer(crowd)?;
+                let answer = answer_of(&mut self.machine, &self.variables)?;
+                Ok(Event::Answer(answer))
+            }
+        }
+    }
+
+    /// The next answer, or how the search ended. After an end the same end, after `Memory` always `Memory`.
+    #[tactic(auto, unfolding(crate::specs::Held::variables_of, crate::specs::Held::ended, crate::specs::Held::failed))]
+    pub fn next<W: Watch>(&mut self, crowd: &mut Crowd<'_, W>) -> Result<Event, Memory>
+        ensures variables { variables_of self.new ≡ variables_of self.old }
+        ensures told { IfOk result (IsTold (variables_of self.old)) }
+        ensures fails { OnErr result (failed self.new ≡ true) }
+        ensures failed { failed self.old ≡ true → IsErr result }
+        ensures going { OnOk result (failed self.new ≡ false) }
+        ensures ended { IfOk result (λ event. Keeps event (ended self.new)) }
+        ensures stays { failed self.old ≡ false → (e : Ending) → ended self.old ≡ Some e → result ≡ Ok (told.Ended e) }
+    {
+        if self.failed {
+            return Err(Memory);
+        }
+        if let Some(ending) = self.ended {
+            return Ok(Event::Ended(ending));
+        }
+        self.failed = true;
+        let event = self.advance(crowd)?;
+        self.failed = false;
+        Ok(event)
+    }
+
+    /// The steps taken.
+    pub fn steps(&self) -> u64 {
+        self.machine.counts.steps
+    }
+}

@@ -1,0 +1,57 @@
+//! Plain search: depth-first search of a program's clauses for the answers of a query.
+#![tactic(auto)]
+
+// An answer in a bank of its own.
+mod answer;
+// The values of expressions.
+mod arithmetic;
+// One try of a clause for a goal.
+mod attempt;
+// Atomic goals: a step each.
+mod atomic;
+// The clauses that may meet a goal.
+mod candidates;
+// What is left to try.
+mod choice;
+// Terms and types from one bank in another.
+mod copy;
+// A search, from one event to the next.
+mod events;
+// A goal by its head-normal form.
+mod form;
+// Goals that are to be proved, and assumed clauses.
+mod frame;
+// What is told of a clause's head before it is tried.
+mod head;
+// Terms of a clause with values for its variables.
+mod instance;
+// Terms and types whose numbers are tested.
+mod known;
+// What a search works on.
+mod machine;
+// The names of goals, as a note tells them.
+mod name;
+// The values of bound variables.
+mod scope;
+// How the search goes on, and what is counted on its way.
+mod outcome;
+// Goals that are taken apart.
+mod parts;
+// A search, between its events.
+mod search;
+// The head and the arguments of a term.
+mod spine;
+// The start of a search.
+mod start;
+// Flattened goals and clauses by number.
+mod table;
+#[cfg(test)]
+mod tests;
+// The next goal of a branch.
+mod turn;
+// Types with new type variables.
+mod types;
+// Unification in the branch at work.
+mod unified;
+
+pub use search::Search;

@@ -1,0 +1,167 @@
+// What a search works on: one bank and one list of bindings for all branches. An alternative holds what leads back to
+// its branch.
+
+use crate::candidates::{Candidate, Index, candidate_after, first_candidate};
+use crate::choice::{Call, Choice, Lengths, Untried};
+use crate::frame::{Assumption, Frame, Place, Todo};
+use crate::instance::instance;
+use crate::scope::Scopes;
+use crate::table::Table;
+use lp_base::Memory;
+use lp_model::{Declared, Pair};
+use lp_pattern::Bindings;
+use lp_term::{Bank, TermId, TermNode};
+use std::alloc::Global;
+
+/// The branch at work: its goals, the numbers of its next logic variable and next type variable, its residual pairs.
+#[derive(Drop)]
+pub(crate) struct Branch {
+    pub(crate) goals: Option<usize>,
+    pub(crate) next: u64,
+    pub(crate) next_type: u64,
+    pub(crate) pairs: Vec<Pair>,
+}
+
+/// The steps that may be taken and were taken, the goals taken apart in a row, and whether a cut removed an alternative.
+#[derive(Clone, Copy)]
+pub(crate) struct Counts {
+    pub(crate) limit: u64,
+    pub(crate) steps: u64,
+    pub(crate) row: u64,
+    pub(crate) lost: bool,
+}
+
+#[derive(Drop)]
+pub(crate) struct Machine {
+    pub(crate) alloc: Global,
+    pub(crate) bank: Bank,
+    pub(crate) constants: Vec<Declared>,
+    pub(crate) table: Table,
+    pub(crate) index: Index,
+    pub(crate) bindings: Bindings,
+    pub(crate) scopes: Scopes,
+    pub(crate) frames: Vec<Frame>,
+    pub(crate) assumptions: Vec<Assumption>,
+    pub(crate) choices: Vec<Choice>,
+    pub(crate) branch: Branch,
+    pub(crate) counts: Counts,
+}
+
+impl Machine {
+    /// A list of goals of the table in front of others.
+    pub(crate) fn put_list(
+        &mut self,
+        list: usize,
+        place: Place,
+        behind: Option<usize>,
+    ) -> Result<Option<usize>, Memory> {
+        let span = self.table.list(list)?;
+        if span.from >= span.to {
+            return Ok(behind);
+        }
+        self.put_frame(Todo::Goals(span), place, behind)
+    }
+
+    pub(crate) fn put_frame(
+        &mut self,
+        todo: Todo,
+        place: Place,
+        behind: Option<usize>,
+    ) -> Result<Option<usize>, Memory> {
+        let number = self.frames.len();
+        self.frames.push(Frame {
+            todo,
+            place,
+            behind,
+        })?;
+        Ok(Some(number))
+    }
+
+    /// A new logic variable of a level.
+    pub(crate) fn new_variable(&mut self, level: u64) -> Result<TermId, Memory> {
+        let id = self.branch.next;
+        let Some(next) = id.checked_add(1) else {
+            return Err(Memory);
+        };
+        self.branch.next = next;
+        self.bank.put_term(TermNode::Logic { id, level })
+    }
+
+    /// The clause's term in a place.
+    pub(crate) fn instance(&mut self, term: TermId, place: Place) -> Result<TermId, Memory> {
+        instance(self.alloc, &mut self.bank, &self.scopes, place.values, term)
+    }
+
+    pub(crate) fn first_candidate(&self, call: &Call) -> Option<Candidate> {
+        first_candidate(
+            &self.bank,
+            &self.table,
+            &self.index,
+            &self.assumptions,
+            call,
+        )
+    }
+
+    pub(crate) fn candidate_after(&self, call: &Call, candidate: Candidate) -> Option<Candidate> {
+        candidate_after(
+            &self.bank,
+            &self.table,
+            &self.index,
+            &self.assumptions,
+            call,
+            candidate,
+        )
+    }
+
+    fn lengths(&self) -> Lengths {
+        Lengths {
+            frames: self.frames.len(),
+            assumptions: self.assumptions.len(),
+            scopes: self.scopes.mark(),
+        }
+    }
+
+    /// Keeps an alternative of the branch as it stands.
+    pub(crate) fn put_choice(&mut self, untried: Untried) -> Result<(), Memory> {
+        let pairs = Vec::from_slice(self.alloc, self.branch.pairs.as_slice())?;
+        let lengths = self.lengths();
+        self.choices.push(Choice {
+            bindings: self.bindings.mark(),
+            lengths,
+            next: self.branch.next,
+            next_type: self.branch.next_type,
+            pairs,
+            untried,
+        })?;
+        Ok(())
+    }
+
+    // Goes back to the branch of an alternative.
+    fn restore(&mut self, choice: &Choice) -> Result<(), Memory> {
+        self.bindings.undo(choice.bindings);
+        self.frames.truncate(choice.lengths.frames);
+        self.assumptions.truncate(choice.lengths.assumptions);
+        self.scopes.undo(choice.lengths.scopes);
+        self.branch.next = choice.next;
+        self.branch.next_type = choice.next_type;
+        self.branch.pairs = Vec::from_slice(self.alloc, choice.pairs.as_slice())?;
+        Ok(())
+    }
+
+    /// Takes the newest alternative: goes back to its branch, and gives what was left to try.
+    pub(crate) fn take_choice(&mut self) -> Result<Option<Untried>, Memory> {
+        let Some(choice) = self.choices.pop() else {
+            return Ok(None);
+        };
+        self.restore(&choice)?;
+        Ok(Some(choice.untried))
+    }
+
+    /// Keeps only the oldest alternatives.
+    pub(crate) fn cut(&mut self, mark: usize) {
+        if self.choices.len() > mark {
+            self.counts.lost = true;
+        }
+        self.choices.truncate(mark);
+    }
+}

@@ -1,0 +1,43 @@
+// How the search goes on, and what is counted on its way.
+
+use crate::machine::Machine;
+use crate::unified::{LIMIT, Unified};
+use lp_model::Ending;
+
+/// How the search goes on: with the branch at work, with the newest alternative, with the answer that the branch is, or
+/// not at all.
+#[derive(Clone, Copy, PartialEq, Eq)]
+pub(crate) enum Turn {
+    On,
+    Back,
+    Answered,
+    Ended(Ending),
+}
+
+/// How the search goes on after a unification.
+pub(crate) fn turn_of(unified: Unified) -> Turn {
+    match unified {
+        Unified::Fits => Turn::On,
+        Unified::Fails => Turn::Back,
+        Unified::Deep => Turn::Ended(Ending::Deep),
+    }
+}
+
+/// Counts a goal that is taken apart. Whether it may be.
+pub(crate) fn take_apart(machine: &mut Machine) -> bool {
+    if machine.counts.row >= LIMIT {
+        return false;
+    }
+    machine.counts.row += 1;
+    true
+}
+
+/// Counts a step. Whether it may be taken.
+pub(crate) fn take_step(machine: &mut Machine) -> bool {
+    if machine.counts.steps >= machine.counts.limit {
+        return false;
+    }
+    machine.counts.steps += 1;
+    machine.counts.row = 0;
+    true
+}

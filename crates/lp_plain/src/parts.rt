@@ -1,0 +1,214 @@
+// Goals that are taken apart.
+
+use crate::choice::Untried;
+use crate::form::Form;
+use crate::frame::{Assumption, Place, Todo};
+use crate::head::Head;
+use crate::instance::Values;
+use crate::known::{known, put_application};
+use crate::machine::Machine;
+use crate::outcome::{Turn, take_apart};
+use crate::table::{Flat, Span};
+use lp_base::Memory;
+use lp_model::Ending;
+use lp_term::{TermId, TermNode};
+
+// The place inside the scope of one more variable.
+fn bound(machine: &mut Machine, place: Place, value: TermId) -> Result<Place, Memory> {
+    let one = [value];
+    let scope = machine.scopes.open(place.values.scope, &one)?;
+    Ok(Place {
+        values: Values {
+            scope,
+            types: place.values.types,
+        },
+        ..place
+    })
+}
+
+// The place one level up, and the eigenconstant of that level.
+fn raised(machine: &mut Machine, place: Place) -> Result<(Place, TermId), Memory> {
+    let Some(level) = place.level.checked_add(1) else {
+        return Err(Memory);
+    };
+    let eigen = machine.bank.put_term(TermNode::Eigen(level))?;
+    Ok((Place { level, ..place }, eigen))
+}
+
+fn put_either(
+    machine: &mut Machine,
+    left: usize,
+    right: usize,
+    place: Place,
+    behind: Option<usize>,
+) -> Result<(), Memory> {
+    let other = machine.put_list(right, place, behind)?;
+    machine.put_choice(Untried::Goals(other))?;
+    machine.branch.goals = machine.put_list(left, place, behind)?;
+    Ok(())
+}
+
+fn put_some(
+    machine: &mut Machine,
+    goals: usize,
+    place: Place,
+    behind: Option<usize>,
+) -> Result<(), Memory> {
+    let variable = machine.new_variable(place.level)?;
+    let inner = bound(machine, place, variable)?;
+    machine.branch.goals = machine.put_list(goals, inner, behind)?;
+    Ok(())
+}
+
+fn put_all(
+    machine: &mut Machine,
+    goals: usize,
+    place: Place,
+    behind: Option<usize>,
+) -> Result<(), Memory> {
+    let (above, eigen) = raised(machine, place)?;
+    let inner = bound(machine, above, eigen)?;
+    machine.branch.goals = machine.put_list(goals, inner, behind)?;
+    Ok(())
+}
+
+// The head of an assumed clause, in the place in which it is assumed.
+fn assumed_head(machine: &Machine, rule: usize, place: Place) -> Result<Option<Head>, Memory> {
+    let Some(found) = machine.table.rules.get(rule) else {
+        return Err(Memory);
+    };
+    known(&machine.bank, found.head)?;
+    match machine.bank.term_node(found.head) {
+        TermNode::Const(number, _) => Ok(Some(Head::Constant(number))),
+        TermNode::Index(at) => {
+            let Some(outer) = at.checked_sub(found.slots.len() as u64) else {
+                return Ok(None);
+            };
+            let Some(value) = machine.scopes.value(place.values.scope, outer) else {
+                return Ok(None);
+            };
+            known(&machine.bank, value)?;
+            match machine.bank.term_node(value) {
+                TermNode::Eigen(level) => Ok(Some(Head::Eigen(level))),
+                _ => Ok(None),
+            }
+        }
+        _ => Ok(None),
+    }
+}
+
+// Assumes clauses, the first of them to be tried first. The newest assumption then.
+fn assume(machine: &mut Machine, rules: Span, place: Place) -> Result<Option<usize>, Memory> {
+    let mut newest = place.assumed;
+    for rule in (rules.from..rules.to).rev() {
+        let head = assumed_head(machine, rule, place)?;
+        let number = machine.assumptions.len();
+        machine.assumptions.push(Assumption {
+            rule,
+            values: place.values,
+            head,
+            older: newest,
+        })?;
+        newest = Some(number);
+    }
+    Ok(newest)
+}
+
+fn put_assume(
+    machine: &mut Machine,
+    rules: Span,
+    goals: usize,
+    place: Place,
+    behind: Option<usize>,
+) -> Result<(), Memory> {
+    let assumed = assume(machine, rules, place)?;
+    machine.branch.goals = machine.put_list(goals, Place { assumed, ..place }, behind)?;
+    Ok(())
+}
+
+/// Takes a flattened goal apart.
+pub(crate) fn put_parts(
+    machine: &mut Machine,
+    goal: Flat,
+    place: Place,
+    behind: Option<usize>,
+) -> Result<Turn, Memory> {
+    if !take_apart(machine) {
+        return Ok(Turn::Ended(Ending::Deep));
+    }
+    match goal {
+        Flat::Either(left, right) => put_either(machine, left, right, place, behind)?,
+        Flat::Some(goals) => put_some(machine, goals, place, behind)?,
+        Flat::All(goals) => put_all(machine, goals, place, behind)?,
+        Flat::Assume(rules, goals) => put_assume(machine, rules, goals, place, behind)?,
+        Flat::Atom(_) => {}
+        Flat::Cut => {}
+    }
+    Ok(Turn::On)
+}
+
+// Terms as goals of a place, in front of others.
+fn put_both(
+    machine: &mut Machine,
+    left: TermId,
+    right: TermId,
+    place: Place,
+    behind: Option<usize>,
+) -> Result<(), Memory> {
+    let second = machine.put_frame(Todo::Term(right), place, behind)?;
+    machine.branch.goals = machine.put_frame(Todo::Term(left), place, second)?;
+    Ok(())
+}
+
+fn put_one_of(
+    machine: &mut Machine,
+    left: TermId,
+    right: TermId,
+    place: Place,
+    behind: Option<usize>,
+) -> Result<(), Memory> {
+    let other = machine.put_frame(Todo::Term(right), place, behind)?;
+    machine.put_choice(Untried::Goals(other))?;
+    machine.branch.goals = machine.put_frame(Todo::Term(left), place, behind)?;
+    Ok(())
+}
+
+// The term on a value, as the goal of a place.
+fn put_applied(
+    machine: &mut Machine,
+    term: TermId,
+    value: TermId,
+    place: Place,
+    behind: Option<usize>,
+) -> Result<(), Memory> {
+    let args = [value];
+    let goal = put_application(&mut machine.bank, term, &args)?;
+    machine.branch.goals = machine.put_frame(Todo::Term(goal), place, behind)?;
+    Ok(())
+}
+
+/// Takes a goal that is known at run time apart.
+pub(crate) fn put_form(
+    machine: &mut Machine,
+    form: Form,
+    place: Place,
+    behind: Option<usize>,
+) -> Result<Turn, Memory> {
+    if !take_apart(machine) {
+        return Ok(Turn::Ended(Ending::Deep));
+    }
+    match form {
+        Form::Both(left, right) => put_both(machine, left, right, place, behind)?,
+        Form::OneOf(left, right) => put_one_of(machine, left, right, place, behind)?,
+        Form::Every(term) => {
+            let (above, eigen) = raised(machine, place)?;
+            put_applied(machine, term, eigen, above, behind)?;
+        }
+        Form::Exist(term) => {
+            let variable = machine.new_variable(place.level)?;
+            put_applied(machine, term, variable, place, behind)?;
+        }
+        _ => machine.branch.goals = behind,
+    }
+    Ok(Turn::On)
+}

@@ -1,0 +1,116 @@
+// The next goal of the branch at work, and the way back to an alternative.
+
+use crate::atomic::{take_atom, take_cut, try_candidate};
+use crate::choice::Untried;
+use crate::form::{Form, form_of};
+use crate::frame::{Place, Todo};
+use crate::machine::Machine;
+use crate::outcome::Turn;
+use crate::parts::{put_form, put_parts};
+use crate::table::{Flat, Span};
+use crate::unified::head_normal;
+use lp_base::Memory;
+use lp_model::Ending;
+use lp_term::TermId;
+use lp_watch::{Crowd, Note, Watch};
+
+fn take_flat<W: Watch>(
+    machine: &mut Machine,
+    crowd: &mut Crowd<'_, W>,
+    goal: Flat,
+    place: Place,
+    behind: Option<usize>,
+) -> Result<Turn, Memory> {
+    match goal {
+        Flat::Atom(term) => {
+            let atom = machine.instance(term, place)?;
+            take_term(machine, crowd, atom, place, behind)
+        }
+        Flat::Cut => take_cut(machine, crowd, place, behind),
+        _ => put_parts(machine, goal, place, behind),
+    }
+}
+
+// Takes a goal by its head-normal form.
+fn take_term<W: Watch>(
+    machine: &mut Machine,
+    crowd: &mut Crowd<'_, W>,
+    term: TermId,
+    place: Place,
+    behind: Option<usize>,
+) -> Result<Turn, Memory> {
+    let Some(goal) = head_normal(machine, term)? else {
+        return Ok(Turn::Ended(Ending::Deep));
+    };
+    let form = form_of(machine.alloc, &machine.bank, goal)?;
+    match form {
+        Form::Truth => put_form(machine, form, place, behind),
+        Form::Both(_, _) => put_form(machine, form, place, behind),
+        Form::OneOf(_, _) => put_form(machine, form, place, behind),
+        Form::Every(_) => put_form(machine, form, place, behind),
+        Form::Exist(_) => put_form(machine, form, place, behind),
+        _ => take_atom(machine, crowd, goal, form, place, behind),
+    }
+}
+
+// Takes the first of the flattened goals; the others stay in front of those behind.
+fn take_first<W: Watch>(
+    machine: &mut Machine,
+    crowd: &mut Crowd<'_, W>,
+    goals: Span,
+    place: Place,
+    behind: Option<usize>,
+) -> Result<Turn, Memory> {
+    let goal = machine.table.goal(goals.from)?;
+    let second = goals.from.saturating_add(1);
+    if second >= goals.to {
+        return take_flat(machine, crowd, goal, place, behind);
+    }
+    let others = Span {
+        from: second,
+        to: goals.to,
+    };
+    let rest = machine.put_frame(Todo::Goals(others), place, behind)?;
+    take_flat(machine, crowd, goal, place, rest)
+}
+
+/// Takes the first goal of the branch at work.
+pub(crate) fn take_goal<W: Watch>(
+    machine: &mut Machine,
+    crowd: &mut Crowd<'_, W>,
+) -> Result<Turn, Memory> {
+    let Some(number) = machine.branch.goals else {
+        return Ok(Turn::Answered);
+    };
+    let Some(frame) = machine.frames.get(number).copied() else {
+        return Err(Memory);
+    };
+    match frame.todo {
+        Todo::Goals(goals) => take_first(machine, crowd, goals, frame.place, frame.behind),
+        Todo::Term(term) => take_term(machine, crowd, term, frame.place, frame.behind),
+    }
+}
+
+/// Tells that the search goes back to an alternative, where there is one.
+pub(crate) fn tell_back<W: Watch>(
+    machine: &Machine,
+    crowd: &mut Crowd<'_, W>,
+) -> Result<(), Memory> {
+    if machine.choices.is_empty() {
+        return Ok(());
+    }
+    crowd.tell(Note::Back)
+}
+
+/// Goes on with the newest alternative.
+pub(crate) fn go_back(machine: &mut Machine) -> Result<Turn, Memory> {
+    match machine.take_choice()? {
+        Some(Untried::Goals(goals)) => {
+            machine.branch.goals = goals;
+            Ok(Turn::On)
+        }
+        Some(Untried::Clauses(call, candidate)) => try_candidate(machine, &call, candidate),
+        None if machine.counts.lost => Ok(Turn::Ended(Ending::NoMoreCut)),
+        None => Ok(Turn::Ended(Ending::NoMore)),
+    }
+}

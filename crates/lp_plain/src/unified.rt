@@ -1,0 +1,98 @@
+// Unification in the branch at work.
+
+use crate::known::known;
+use crate::machine::Machine;
+use lp_base::Memory;
+use lp_model::Pair;
+use lp_pattern::{PatternRefusal, head_under, solve_under};
+use lp_term::{Bank, TermId, TermNode, TermRefusal, TypeId};
+
+/// Each limit of a run.
+pub(crate) const LIMIT: u64 = 1_000_000;
+
+/// What a unification came to.
+#[derive(Clone, Copy, PartialEq, Eq)]
+pub(crate) enum Unified {
+    Fits,
+    Fails,
+    Deep,
+}
+
+/// Solves the types and the pairs in the branch at work.
+pub(crate) fn unify(
+    machine: &mut Machine,
+    types: &[(TypeId, TypeId)],
+    pairs: &[Pair],
+) -> Result<Unified, Memory> {
+    if types.is_empty() && pairs.is_empty() {
+        return Ok(Unified::Fits);
+    }
+    match solve_under(
+        machine.alloc,
+        &mut machine.bank,
+        &mut machine.bindings,
+        types,
+        pairs,
+        machine.branch.pairs.as_slice(),
+        &mut machine.branch.next,
+        LIMIT,
+    ) {
+        Ok(residual) => {
+            machine.branch.pairs = residual;
+            Ok(Unified::Fits)
+        }
+        Err(PatternRefusal::Fails) => Ok(Unified::Fails),
+        Err(PatternRefusal::Deep) => Ok(Unified::Deep),
+        Err(PatternRefusal::Memory) => Err(Memory),
+    }
+}
+
+/// Makes two terms one in the branch at work.
+pub(crate) fn equate(
+    machine: &mut Machine,
+    left: TermId,
+    right: TermId,
+    level: u64,
+) -> Result<Unified, Memory> {
+    let pairs = [Pair { left, right, level }];
+    unify(machine, &[], &pairs)
+}
+
+// Whether the term is a constant, an eigenconstant or a literal.
+fn is_rigid_head(bank: &Bank, head: TermId) -> Result<bool, Memory> {
+    known(bank, head)?;
+    match bank.term_node(head) {
+        TermNode::Const(_, _) => Ok(true),
+        TermNode::Eigen(_) => Ok(true),
+        TermNode::Int(_) => Ok(true),
+        TermNode::Text(_) => Ok(true),
+        _ => Ok(false),
+    }
+}
+
+// Whether the term is seen to be head-normal at once: a rigid head, or one on arguments.
+fn is_rigid(bank: &Bank, term: TermId) -> Result<bool, Memory> {
+    known(bank, term)?;
+    match bank.term_node(term) {
+        TermNode::App(head, _) => is_rigid_head(bank, head),
+        _ => is_rigid_head(bank, term),
+    }
+}
+
+/// The head-normal form in the branch at work; none where it takes too many contractions.
+pub(crate) fn head_normal(machine: &mut Machine, term: TermId) -> Result<Option<TermId>, Memory> {
+    if is_rigid(&machine.bank, term)? {
+        return Ok(Some(term));
+    }
+    match head_under(
+        machine.alloc,
+        &mut machine.bank,
+        &machine.bindings,
+        term,
+        LIMIT,
+    ) {
+        Ok(form) => Ok(Some(form)),
+        Err(TermRefusal::Deep(_)) => Ok(None),
+        Err(TermRefusal::Memory) => Err(Memory),
+    }
+}
