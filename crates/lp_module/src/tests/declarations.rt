@@ -1,0 +1,215 @@
+// Declarations of modules, right and wrong, with the places of their faults.
+
+use super::sets::{Came, beside};
+
+#[test]
+fn declarations(rt: HostRuntime) {
+    let rows: [(
+        &'static [u8],
+        &'static [u8],
+        &'static [u8],
+        &'static [u8],
+        Came,
+    ); 28] = [
+        (
+            b"sig s.",
+            b"module s.",
+            b"sig t.",
+            b"sig u.",
+            Came::Program(0, 0, 0),
+        ),
+        (
+            b"sig s.",
+            b"module t.",
+            b"sig t.",
+            b"sig u.",
+            Came::Header(7, 8),
+        ),
+        (
+            b"sig s. kind i type. type a i.",
+            b"module s. type b i. kind j type.",
+            b"sig t.",
+            b"sig u.",
+            Came::Program(2, 2, 0),
+        ),
+        (
+            b"sig s. kind i type. type a i.",
+            b"module s. type a i -> i.",
+            b"sig t.",
+            b"sig u.",
+            Came::Otherwise(15, 16),
+        ),
+        (
+            b"sig s. kind i type. type a i.",
+            b"module s. kind i type -> type.",
+            b"sig t.",
+            b"sig u.",
+            Came::Otherwise(15, 16),
+        ),
+        (
+            b"sig s. kind i type. type a i.",
+            b"module s. typeabbrev i int.",
+            b"sig t.",
+            b"sig u.",
+            Came::Otherwise(21, 22),
+        ),
+        (
+            b"sig s. kind i type. type a i.",
+            b"module s. type b i. local a.",
+            b"sig t.",
+            b"sig u.",
+            Came::Otherwise(26, 27),
+        ),
+        (
+            b"sig s. kind i type. type a i.",
+            b"module s. local b. type b i.",
+            b"sig t.",
+            b"sig u.",
+            Came::Program(1, 2, 0),
+        ),
+        (
+            b"sig s. kind i type. type a i.",
+            b"module s. local b i.",
+            b"sig t.",
+            b"sig u.",
+            Came::Program(1, 2, 0),
+        ),
+        (
+            b"sig s. kind i type. type a i.",
+            b"module s. local b.",
+            b"sig t.",
+            b"sig u.",
+            Came::Undeclared(16, 17),
+        ),
+        (
+            b"sig s. kind i type. type a i.",
+            b"module s. local b, a k.",
+            b"sig t.",
+            b"sig u.",
+            Came::Otherwise(19, 20),
+        ),
+        (
+            b"sig s. kind i type. type a i.",
+            b"module s. local b k.",
+            b"sig t.",
+            b"sig u.",
+            Came::UnknownKind(18, 19),
+        ),
+        (
+            b"sig s. kind i type. type a i.",
+            b"module s. localkind j.",
+            b"sig t.",
+            b"sig u.",
+            Came::UnknownKind(20, 21),
+        ),
+        (
+            b"sig s. kind i type. type a i.",
+            b"module s. localkind j type.",
+            b"sig t.",
+            b"sig u.",
+            Came::Program(2, 1, 0),
+        ),
+        (
+            b"sig s. kind i type. type a i.",
+            b"module s. localkind i.",
+            b"sig t.",
+            b"sig u.",
+            Came::Otherwise(20, 21),
+        ),
+        (
+            b"sig s.",
+            b"module s. type b list.",
+            b"sig t.",
+            b"sig u.",
+            Came::Arity(17, 21),
+        ),
+        (
+            b"sig s.",
+            b"module s. type nil int.",
+            b"sig t.",
+            b"sig u.",
+            Came::Differ(15, 18),
+        ),
+        (
+            b"sig s.",
+            b"module s. local nil.",
+            b"sig t.",
+            b"sig u.",
+            Came::Undeclared(16, 19),
+        ),
+        (
+            b"sig s.",
+            b"module s. local nil list A.",
+            b"sig t.",
+            b"sig u.",
+            Came::Program(0, 0, 0),
+        ),
+        (
+            b"sig s.",
+            b"module s. typeabbrev a b. typeabbrev b a.",
+            b"sig t.",
+            b"sig u.",
+            Came::CyclicAbbreviation(21, 22),
+        ),
+        (
+            b"sig s.",
+            b"module s. accumulate t. type c k.",
+            b"sig t. kind k type. type c k.",
+            b"sig u.",
+            Came::Program(1, 1, 0),
+        ),
+        (
+            b"sig s.",
+            b"module s. accumulate t. type c int.",
+            b"sig t. kind k type. type c k.",
+            b"sig u.",
+            Came::Differ(29, 30),
+        ),
+        (
+            b"sig s. type c int.",
+            b"module s. accumulate t.",
+            b"sig t. kind k type. type c k.",
+            b"sig u.",
+            Came::Differ(21, 22),
+        ),
+        (
+            b"sig s.",
+            b"module s. accumulate t. accum_sig u.",
+            b"sig t. kind k type.",
+            b"sig u. kind k type -> type.",
+            Came::Differ(21, 22),
+        ),
+        (
+            b"sig s.",
+            b"module s. accum_sig t. accumulate u.",
+            b"sig t. typeabbrev k int.",
+            b"sig u. kind k type.",
+            Came::Differ(34, 35),
+        ),
+        (
+            b"sig s.",
+            b"module s. type d k. accumulate t, u.",
+            b"sig t. kind k type. type c k.",
+            b"sig u. kind k type. type c k.",
+            Came::Program(1, 2, 0),
+        ),
+        (
+            b"sig s.",
+            b"module s. type d k. accumulate t, u.",
+            b"sig t. type c int.",
+            b"sig u. type c string.",
+            Came::UnknownKind(17, 18),
+        ),
+        (
+            b"sig s.",
+            b"module s. accumulate t, t, t.",
+            b"sig t. kind k type. type c k.",
+            b"sig u.",
+            Came::Program(1, 1, 0),
+        ),
+    ];
+    for (signature, text, other, third, want) in rows {
+        let got = beside(rt.alloc(), signature, text, other, third);
+        assert!(rt; got == want);
+    }
+}
