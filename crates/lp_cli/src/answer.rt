@@ -13,8 +13,8 @@ use crate::say::say;
 use lp_base::{Memory, Sink, Status};
 use lp_fragment::Reading;
 use lp_horn::{answer_text, program_of};
-use lp_model::ending::Ending;
 use lp_horn_search::{HornEvent, Search};
+use lp_model::ending::Ending;
 use std::alloc::Global;
 
 /// The lines of the next answer, or how the search ended.
