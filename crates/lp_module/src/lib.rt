@@ -39,6 +39,3 @@ pub use meaning::elaborate;
 pub use module::Module;
 pub use sentences::has_many_arguments;
 pub use walk::order;
-
-#[cfg(test)]
-mod tests;
