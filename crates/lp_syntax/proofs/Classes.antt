@@ -1,6 +1,6 @@
 -- The class of a token that is there, and the fault at it.
-use Rattle.std.proofs.Common.{◌≡◌, ◌≢◌, ℕ, suc, ◌<◌, ◌≤◌, Bool, true, false, List, length, refl, sym, ap, ◌∙◌, subst, arith, get_or}
-use Rattle.std.specs.Prelude.{Option, Some, None, slice_get, if◌then◌else◌, codes}
+use Rattle.std.proofs.Common.{◌≡◌, ◌≢◌, ℕ, ◌<◌, Bool, true, false, List, length, refl, sym, ap, ◌∙◌, get_or}
+use Rattle.std.specs.Prelude.{Option, Some, None, if◌then◌else◌, codes}
 use Rattle.std.specs.Str.{bytes_eq}
 use Rattle.std.proofs.lemmas.Option.{slice_get-get_or}
 use Rattle.lp_base.specs.declared.place.Spot.{Spot}
@@ -10,7 +10,6 @@ use Rattle.lp_lexer.specs.declared.token.TokenKind.TheVariants as kind
 use Rattle.lp_syntax.specs.declared.class.Keyword.{Keyword as Reserved}
 use Rattle.lp_syntax.specs.declared.class.Class.{Class}
 use Rattle.lp_syntax.specs.declared.class.Class.TheVariants.{Lower, Upper, Symbol, Comma, Colon, Arrow, Number, Text, Open, Close, OpenList, CloseList, Bar, Dot, Backslash, Keyword, Unsupported, End}
-use Rattle.lp_syntax.specs.declared.fault.SyntaxFault.{SyntaxFault}
 use Rattle.lp_syntax.specs.Classes.{class_of, lower, symbol, is_among, entry, unsupported, fixities, keywords, of_keyword, of_fixity}
 use Rattle.lp_syntax.specs.Tokens.{Lexeme, class_at, class_in}
 use Rattle.lp_syntax.specs.Faults.{refused}

@@ -1,13 +1,13 @@
 -- Which faults are ambiguities.
-use Rattle.std.proofs.Common.{◌≡◌, ◌≢◌, ℕ, zero, suc, ◌+◌, ◌<◌, ◌≤◌, Bool, true, false, ◌⊎◌, inl, inr, List, [], ◌∷◌, ◌++◌, length, refl, sym, ap, ◌∙◌, subst, arith, append_assoc, append-nil, length-append}
+use Rattle.std.proofs.Common.{◌≡◌, ◌≢◌, ℕ, suc, ◌<◌, Bool, true, false, inl, inr, List, [], ◌∷◌, ◌++◌, length, refl, sym, ap, ◌∙◌, subst, arith, append-nil, length-append}
 use Rattle.std.specs.Prelude.{Option, Some, None, if◌then◌else◌}
 use Rattle.lp_syntax.specs.declared.symbol.Oper.{Oper}
 use Rattle.lp_syntax.specs.declared.symbol.Sym.{Sym}
 use Rattle.lp_syntax.specs.declared.symbol.Sym.TheVariants.{Word, Atom, Op, Opens, Closes, OpensList, ClosesList, Bar, Binds, Other}
 use Rattle.lp_syntax.specs.declared.symbol.Fault.{Fault}
 use Rattle.lp_syntax.specs.declared.symbol.Fault.TheVariants.{Unexpected, Ambiguous}
-use Rattle.lp_syntax.specs.Symbols.{Tree, Form, Whole, By, is_prefix, fits_left, apply}
-use Rattle.lp_syntax.specs.Machine.{Frame, Waits, Under, Inside, Item, Tail, Mode, Wants, Fresh, FreshList, Named, Has, Formed, State, st, Move, Goes, Stops, admits, attach, close, operated, wants, fresh_list, is_named, binds, operator, step, step_in, Run, Reached, Failed, go_on, run, Faulty, outcome, read}
+use Rattle.lp_syntax.specs.Symbols.{Tree, is_prefix, apply}
+use Rattle.lp_syntax.specs.Machine.{Frame, Waits, Under, Inside, Item, Tail, Mode, Wants, Fresh, FreshList, Named, Has, Formed, State, st, Move, Goes, Stops, close, wants, fresh_list, is_named, binds, step, step_in, Run, Reached, Failed, go_on, run, Faulty, outcome, read}
 use Rattle.lp_base.specs.declared.place.Spot.{Spot}
 use Rattle.lp_syntax.specs.declared.class.Class.TheVariants.{Colon}
 use Rattle.lp_syntax.specs.declared.fault.SyntaxFault.{SyntaxFault}

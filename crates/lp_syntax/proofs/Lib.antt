@@ -23,3 +23,16 @@ pub mod Classes
 pub mod RawTrees
 pub mod FaultKinds
 pub mod TypeTrees
+pub mod Lines
+pub mod LineSound
+pub mod LineStops
+pub mod LineEnds
+pub mod LineOpen
+pub mod SignatureFaults
+pub mod SignatureTexts
+pub mod LineCode
+pub mod LineParts
+pub mod SignatureCode
+pub mod TypeUnique
+pub mod LineUnique
+pub mod Referring

@@ -1,11 +1,11 @@
 -- Open brackets, and those that a type opens.
-use Rattle.std.proofs.Common.{◌≡◌, ℕ, zero, suc, ◌+◌, ◌-◌, ◌<◌, ◌≤◌, List, [], ◌∷◌, ◌++◌, length, take, refl, sym, ap, ◌∙◌, subst, arith, length-append, append_assoc, append-nil}
-use Rattle.std.specs.Prelude.{Option, Some, None, slice_get}
+use Rattle.std.proofs.Common.{◌≡◌, ℕ, zero, suc, ◌+◌, ◌-◌, ◌≤◌, List, [], ◌∷◌, ◌++◌, length, take, refl, sym, ap, ◌∙◌, subst, arith, length-append, append_assoc, append-nil}
+use Rattle.std.specs.Prelude.{Some, None, slice_get}
 use Rattle.lp_syntax.specs.declared.class.Class.{Class}
 use Rattle.lp_syntax.specs.declared.class.Class.TheVariants.{Lower, Upper, Symbol, Comma, Colon, Arrow, Number, Text, Open, Close, OpenList, CloseList, Bar, Dot, Backslash, Keyword, Unsupported, End}
 use Rattle.lp_syntax.specs.Tokens.{Lexeme, class_at, open_behind, open_on, open_brackets}
 use Rattle.lp_syntax.specs.Faults.{innermost}
-use Rattle.lp_syntax.specs.TypeMachine.{Wait, AtArrow, AtGroup, AtArgument, Need, Wants, Applies, Has, TypeState, TypeMove, Goes, Ends, Stops, ts, closed, left, type_wants, type_has, type_applies, type_step, Runs, stays, goes}
+use Rattle.lp_syntax.specs.TypeMachine.{Wait, AtArrow, AtGroup, AtArgument, Need, Wants, Applies, Has, TypeState, TypeMove, Goes, Ends, Stops, ts, closed, left, type_has, type_step, Runs, stays, goes}
 use Rattle.lp_syntax.proofs.TypeReading.{runs_up}
 
 pub brackets_none : (ls : List Lexeme) (from : ℕ) → [] ≡ open_brackets ls from from
@@ -22,7 +22,7 @@ brackets_more ls from at bs l e =
     let m : suc (at - from) ≡ (at + 1) - from = omega (arith, l) in
     ap (open_behind at (class_at ls at)) e ∙ sym (on_more ls [] from (at - from) at (omega (arith, l))) ∙ ap (open_on ls [] from) m
 
-on_split : (ls : List Lexeme) (bs : List ℕ) (i n m k : ℕ) → k ≡ n + m → open_on ls bs i k ≡ open_on ls (open_on ls bs i n) (i + n) m
+pub on_split : (ls : List Lexeme) (bs : List ℕ) (i n m k : ℕ) → k ≡ n + m → open_on ls bs i k ≡ open_on ls (open_on ls bs i n) (i + n) m
 unfolding open_on
 on_split ls bs i zero m k e = let z : k ≡ m = omega (arith, e) in let y : i ≡ i + 0 = omega arith in (λ h. open_on ls bs (y h) (z h))
 on_split ls bs i (suc n) m zero e = absurd (omega (arith, e))
@@ -105,7 +105,7 @@ has_open i (Keyword k) bs os ws e = left_open i (Keyword k) bs os ws
 has_open i Unsupported bs os ws e = left_open i Unsupported bs os ws
 has_open i End bs os ws e = left_open i End bs os ws
 
-step_open : (i : ℕ) (n : Need) (c : Class) (bs os : List ℕ) (ws : List Wait) → length os ≡ brackets ws → KeepsOpen i c bs os (type_step (ts ws n) c)
+pub step_open : (i : ℕ) (n : Need) (c : Class) (bs os : List ℕ) (ws : List Wait) → length os ≡ brackets ws → KeepsOpen i c bs os (type_step (ts ws n) c)
 step_open i Wants Lower bs os ws e = (refl, e)
 step_open i Wants Upper bs os ws e = (refl, e)
 step_open i Wants Symbol bs os ws e = tt
@@ -247,7 +247,7 @@ note_brackets ls from at p bs q l c e d =
     ∙ ap (λ b. open_on ls b (at + 1) (p - (at + 1))) (sym (append-nil bs))
     ∙ (runs_open ls (ts [] Wants) q (at + 1) p d bs [] refl).same
 
-is_empty : (os : List ℕ) → length os ≡ 0 → os ≡ []
+pub is_empty : (os : List ℕ) → length os ≡ 0 → os ≡ []
 is_empty [] e = refl
 is_empty (o ∷ os) e = absurd (omega (arith, e))
 

@@ -1,17 +1,15 @@
 -- The nodes that are handed out show the tree of the nodes that were built.
-use Rattle.std.proofs.Common.{◌≡◌, ◌≢◌, ℕ, zero, suc, ◌+◌, ◌<◌, ◌≤◌, Bool, ◌⊎◌, inl, inr, List, [], ◌∷◌, ◌++◌, length, take, refl, sym, ap, ◌∙◌, subst, arith, append_assoc, length-append, get_or}
+use Rattle.std.proofs.Common.{◌≡◌, ℕ, zero, suc, ◌+◌, ◌<◌, ◌≤◌, inl, inr, List, [], ◌∷◌, ◌++◌, length, take, refl, sym, ap, ◌∙◌, subst, arith, append_assoc, length-append, get_or}
 use Rattle.std.specs.Prelude.{Option, Some, None, slice_get}
-use Rattle.std.proofs.lemmas.Option.{slice_get_within}
 use Rattle.lp_base.specs.declared.place.Spot.{Spot}
 use Rattle.lp_syntax.specs.declared.class.Class.TheVariants.{Colon, Backslash}
 use Rattle.lp_syntax.specs.declared.node.Node.{Node}
 use Rattle.lp_syntax.specs.declared.node.Node.TheVariants as node
-use Rattle.lp_syntax.specs.declared.symbol.Oper.{Oper}
 use Rattle.lp_syntax.specs.declared.symbol.Sym.{Sym}
 use Rattle.lp_syntax.specs.declared.symbol.Sym.TheVariants as symbol
 use Rattle.lp_syntax.specs.declared.text.RawNode.{RawNode}
 use Rattle.lp_syntax.specs.declared.text.RawType.{RawType}
-use Rattle.lp_syntax.specs.Symbols.{Tree, Leaf, Cons, Nil, App, Lam, Form}
+use Rattle.lp_syntax.specs.Symbols.{Tree, Leaf, Cons, Nil, App, Lam}
 use Rattle.lp_syntax.specs.Grammar.{Kind, Derives, word, atom, parens, named, empty, listed, last, tail, more, single, applied, abstracted, bound, between, before, behind}
 use Rattle.lp_syntax.specs.Nodes.{trees, trees_from, node_tree, at, IsNodeBelow, IsOrdered}
 use Rattle.lp_fixity.specs.declared.fixity.Fixity.{Fixity}
@@ -19,8 +17,7 @@ use Rattle.lp_syntax.specs.declared.class.Class.{Class}
 use Rattle.lp_syntax.specs.declared.class.Class.TheVariants as class
 use Rattle.lp_syntax.specs.Tokens.{Lexeme, Operators, class_at, bytes_at, symbol_of, symbol_at}
 use Rattle.lp_syntax.specs.Types.{TypeTree, IsType, Whole}
-use Rattle.lp_syntax.specs.TypeMachine.{Ends, Stops, type_step, IsHalt}
-use Rattle.lp_syntax.specs.TypeViews.{ComesTo}
+use Rattle.lp_syntax.specs.TypeMachine.{Ends, Stops, IsHalt}
 use Rattle.lp_syntax.specs.Terms.{Spells, done, token, note, TermAt}
 use Rattle.lp_syntax.specs.Raw.{IsNoted, Shows, leaf_node, cons_node, nil_node, app_node, abs_node, IsReadNote, IsRaw, AreRaw}
 use Rattle.lp_syntax.proofs.Arena.{at_front, at_end, trees_more, longer_from, length_trees}

@@ -1,14 +1,13 @@
 -- The symbols of the tokens of a text.
-use Rattle.std.proofs.Common.{◌≡◌, ◌≢◌, ℕ, zero, suc, ◌+◌, ◌<◌, ◌≤◌, List, [], ◌∷◌, ◌++◌, length, refl, sym, ap, ◌∙◌, subst, arith, append_assoc}
-use Rattle.std.specs.Prelude.{Option, Some, None, slice_get}
+use Rattle.std.proofs.Common.{◌≡◌, ◌≢◌, ℕ, suc, ◌+◌, ◌<◌, ◌≤◌, List, [], ◌∷◌, ◌++◌, length, refl, sym, ap, ◌∙◌, subst, arith}
+use Rattle.std.specs.Prelude.{Some, slice_get}
 use Rattle.lp_lexer.specs.declared.token.TokenKind.TheVariants as kind
-use Rattle.lp_syntax.specs.declared.class.Class.{Class}
 use Rattle.lp_syntax.specs.declared.class.Class.TheVariants.{Colon, Backslash}
 use Rattle.lp_syntax.specs.declared.symbol.Sym.{Sym}
 use Rattle.lp_syntax.specs.declared.symbol.Sym.TheVariants.{Atom, Closes, ClosesList, Binds}
 use Rattle.lp_syntax.specs.Tokens.{Lexeme, Operators, class_at, class_in, symbol_at, symbol_of, Agree}
 use Rattle.lp_syntax.specs.Types.{TypeTree, IsType, Whole}
-use Rattle.lp_syntax.specs.TypeMachine.{TypeState, Ends, type_step, IsHalt}
+use Rattle.lp_syntax.specs.TypeMachine.{IsHalt}
 use Rattle.lp_syntax.specs.Machine.{Frame, Waits, Under, Inside, Item, Tail, Mode, Wants, Fresh, FreshList, Named, Has, Formed, State}
 use Rattle.lp_syntax.specs.Terms.{Spells, done, token, note}
 use Rattle.lp_syntax.proofs.Tokens.{class_same, symbol_same, class_stands, symbol_stands, Stands}

@@ -1,23 +1,23 @@
 -- How far a term is read, and what follows where it stops.
-use Rattle.std.proofs.Common.{◌≡◌, ◌≢◌, ℕ, suc, ◌+◌, ◌<◌, ◌≤◌, List, [], ◌∷◌, ◌++◌, length, refl, sym, ap, ◌∙◌, subst, arith, append_assoc, append-nil}
-use Rattle.std.specs.Prelude.{Option, Some, None}
-use Rattle.lp_syntax.specs.declared.class.Class.TheVariants.{Colon, Backslash, Dot}
+use Rattle.std.proofs.Common.{◌≡◌, ◌≢◌, ℕ, suc, ◌<◌, ◌≤◌, List, [], ◌∷◌, ◌++◌, length, refl, sym, ap, ◌∙◌, subst, arith, append-nil}
+use Rattle.std.specs.Prelude.{Some, None}
+use Rattle.lp_syntax.specs.declared.class.Class.TheVariants.{Colon, Backslash}
 use Rattle.lp_syntax.specs.declared.symbol.Sym.{Sym}
 use Rattle.lp_syntax.specs.declared.symbol.Sym.TheVariants.{Binds}
 use Rattle.lp_syntax.specs.declared.symbol.Fault.{Fault}
 use Rattle.lp_syntax.specs.Symbols.{Tree}
-use Rattle.lp_syntax.specs.Machine.{State, Wants, st, step, Move, Goes, Stops, Run, Reached, Failed, go_on, run, ended, Given, Faulty, Unfinished, outcome_at, outcome, read}
+use Rattle.lp_syntax.specs.Machine.{State, Wants, st, step, Goes, Stops, Run, Reached, Failed, go_on, run, ended, Given, Faulty, Unfinished, outcome_at, outcome, read}
 use Rattle.lp_syntax.specs.Text.{IsTerm}
 use Rattle.lp_syntax.specs.Tokens.{Lexeme, Operators, class_at, symbol_at, Agree}
-use Rattle.lp_syntax.specs.Types.{TypeTree, IsType, Whole}
-use Rattle.lp_syntax.specs.TypeMachine.{TypeState, Ends, Runs, ts, type_step, IsHalt, Wants as NeedsType}
+use Rattle.lp_syntax.specs.Types.{Whole}
+use Rattle.lp_syntax.specs.TypeMachine.{TypeState, Ends, Runs, ts, Wants as NeedsType}
 use Rattle.lp_syntax.specs.TypeViews.{ComesTo}
 use Rattle.lp_syntax.specs.Terms.{Spells, done, token, note, TermAt, CanGoOn, NoneOver}
 use Rattle.lp_syntax.specs.TermViews.{HasRead, IsNoNote}
 use Rattle.lp_syntax.proofs.Complete.{run_step}
 use Rattle.lp_syntax.proofs.Reading.{one_tree, run_append, read_of_term, term_of_run, completed_run, completion}
-use Rattle.lp_syntax.proofs.Tokens.{class_same, symbol_same, agree_less, going_on}
-use Rattle.lp_syntax.proofs.TypeReading.{type_sound, runs_on, runs_up}
+use Rattle.lp_syntax.proofs.Tokens.{class_same, agree_less, going_on}
+use Rattle.lp_syntax.proofs.TypeReading.{type_sound, runs_on}
 use Rattle.lp_syntax.proofs.TypeFaults.{type_up, runs_same, type_end, type_completion, completes_type}
 use Rattle.lp_syntax.proofs.Spelling.{spells_on, spells_same, spells_further, spells_up, first_plain, first_note, completing, completion_marks, marks_spell}
 

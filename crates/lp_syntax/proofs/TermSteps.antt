@@ -1,7 +1,7 @@
 -- The code of the reader of terms against the grammar: what it has read, and the fault where it stops.
 use Rattle.std.proofs.Common.{Vec, Global}
 use Rattle.std.proofs.Common.{◌≡◌, ◌≢◌, ℕ, suc, ◌+◌, ◌<◌, ◌≤◌, Bool, true, false, ◌⊎◌, inl, inr, List, [], ◌∷◌, ◌++◌, length, append-nil, refl, sym, ap, ◌∙◌, subst, arith}
-use Rattle.std.specs.Prelude.{Option, Some, None, slice_get, if◌then◌else◌, Result, Ok, Err, IfErr, IsErrAnd}
+use Rattle.std.specs.Prelude.{Option, Some, None, if◌then◌else◌, Result, Ok, Err, IfErr, IsErrAnd}
 use Rattle.std.proofs.lemmas.Option.{slice_get_past, slice_get-get_or}
 use Rattle.std.proofs.Common.{get_or}
 use Rattle.lp_base.specs.declared.place.Spot.{Spot}
@@ -22,21 +22,20 @@ use Rattle.lp_syntax.specs.declared.symbol.Fault.{Fault}
 use Rattle.lp_syntax.specs.declared.symbol.Fault.TheVariants.{Unexpected}
 use Rattle.lp_syntax.specs.declared.term.Reader.{Reader}
 use Rattle.lp_syntax.specs.declared.term.TermText.{TermText}
-use Rattle.lp_syntax.specs.declared.types.TypeEnd.TheVariants.{Read, Stopped}
+use Rattle.lp_syntax.specs.declared.types.TypeEnd.TheVariants.{Stopped}
 use Rattle.lp_syntax.specs.Symbols.{Tree, is_prefix}
-use Rattle.lp_syntax.specs.Machine.{Frame, Waits, Under, Inside, Item, Tail, Mode, Wants, Fresh, FreshList, Named, Has, Formed, State, st, Move, Goes, Stops, wants, fresh_list, step, step_in, ended, ended_in}
+use Rattle.lp_syntax.specs.Machine.{Frame, Waits, Under, Inside, Item, Tail, Mode, Wants, Fresh, FreshList, Named, Has, Formed, State, st, Goes, Stops, wants, fresh_list, step, step_in, ended}
 use Rattle.lp_syntax.specs.Nodes.{trees, at, maybe, IsMaybeBelow, IsOrdered}
 use Rattle.lp_syntax.specs.Raw.{Shows, AreRaw}
 use Rattle.lp_syntax.proofs.RawTrees.{shows, term_notes}
-use Rattle.lp_syntax.specs.Views.{frames_of, mode_of, move_of, EachBelow, IsDoingBelow, IsStepBelow, Steps, Finishes}
+use Rattle.lp_syntax.specs.Views.{frames_of, move_of, EachBelow, IsDoingBelow, IsStepBelow, Steps, Finishes}
 use Rattle.lp_syntax.specs.Tokens.{Lexeme, Operators, class_at, symbol_of, symbol_at, bytes_at, open_behind, open_brackets, Agree}
 use Rattle.lp_syntax.specs.TypeMachine.{TypeState, Ends, Runs, ts, type_step, IsHalt, Wants as NeedsType, Stops as TypeStops}
 use Rattle.lp_syntax.specs.TypeViews.{ComesTo, IsTypeEnd}
 use Rattle.lp_syntax.specs.Faults.{refused, innermost}
-use Rattle.lp_syntax.specs.Terms.{TermAt, CanGoOn, NoneOver, StopsAt, IsKind, TermFault, MemoryOr}
+use Rattle.lp_syntax.specs.Terms.{TermAt, NoneOver, IsKind, TermFault, MemoryOr}
 use Rattle.lp_syntax.specs.TermViews.{HasRead, IsNoNote, NoteFault, state_of, IsReading, IsNew, MayBind, IsOver, IsTermText}
 use Rattle.lp_syntax.proofs.Tokens.{class_same, symbol_same, agree_less, past_end}
-use Rattle.lp_syntax.proofs.TypeReading.{runs_up}
 use Rattle.lp_syntax.proofs.TypeFaults.{runs_same, closing}
 use Rattle.lp_syntax.proofs.TermFaults.{nothing_read, read_token, read_note, same_read, can_go_on, note_goes_on, token_stops, colon_stops, note_stops, read_ends, read_is_open}
 use Rattle.lp_syntax.proofs.OpenBrackets.{brackets_none, brackets_more, note_brackets, note_closed, type_closed, innermost_outer, innermost_inner}

@@ -1,10 +1,10 @@
 -- The tokens of a text by their numbers.
-use Rattle.std.proofs.Common.{◌≡◌, ℕ, zero, suc, ◌+◌, ◌<◌, ◌≤◌, List, [], ◌∷◌, ◌++◌, length, map, take, refl, sym, ap, ◌∙◌, subst, arith, length-append, append_assoc}
-use Rattle.std.specs.Prelude.{Option, Some, None, slice_get}
+use Rattle.std.proofs.Common.{◌≡◌, ℕ, zero, suc, ◌+◌, ◌<◌, ◌≤◌, List, [], ◌∷◌, ◌++◌, length, take, refl, sym, ap, ◌∙◌, subst, arith, length-append, append_assoc}
+use Rattle.std.specs.Prelude.{Some, slice_get}
 use Rattle.std.proofs.lemmas.Option.{slice_get_past}
 use Rattle.lp_lexer.specs.declared.token.Token.{Token}
 use Rattle.lp_syntax.specs.declared.class.Class.TheVariants.{End}
-use Rattle.lp_syntax.specs.Tokens.{Lexeme, Operators, lexeme, lexemes, class_in, class_at, bytes_in, bytes_at, symbol_of, symbol_at, Agree}
+use Rattle.lp_syntax.specs.Tokens.{Lexeme, Operators, lexemes, class_in, class_at, bytes_in, bytes_at, symbol_of, symbol_at, Agree}
 
 pub length_lexemes : (source : List ℕ) (ts : List Token) → length (lexemes source ts) ≡ length ts
 length_lexemes source [] = refl

@@ -1,14 +1,12 @@
 -- Where a type ends and where it stops, whatever follows.
-use Rattle.std.proofs.Common.{◌≡◌, ◌≢◌, ℕ, zero, suc, ◌+◌, ◌<◌, ◌≤◌, List, [], ◌∷◌, ◌++◌, length, refl, sym, ap, ◌∙◌, subst, arith}
-use Rattle.std.specs.Prelude.{Some, slice_get}
+use Rattle.std.proofs.Common.{◌≡◌, ℕ, zero, suc, ◌+◌, ◌<◌, ◌≤◌, List, [], ◌∷◌, length, refl, sym, ap, ◌∙◌, arith}
 use Rattle.lp_lexer.specs.declared.token.TokenKind.TheVariants as kind
-use Rattle.lp_syntax.specs.declared.class.Class.{Class}
-use Rattle.lp_syntax.specs.declared.class.Class.TheVariants.{Lower, Upper, Open, Close, Arrow, Backslash}
+use Rattle.lp_syntax.specs.declared.class.Class.TheVariants.{Backslash}
 use Rattle.lp_syntax.specs.Tokens.{Lexeme, class_at, Agree}
 use Rattle.lp_syntax.specs.Types.{TypeTree, Level, Whole, IsType, word, variable, group, head, applied, side_head, side_argument, target, arrow}
-use Rattle.lp_syntax.specs.TypeMachine.{Wait, AtArrow, AtGroup, AtArgument, Need, Wants, Applies, Has, TypeState, TypeMove, Goes, Ends, Stops, ts, closed, left, type_step, Runs, stays, goes, IsHalt}
+use Rattle.lp_syntax.specs.TypeMachine.{Wait, AtArrow, AtGroup, AtArgument, Need, Wants, Applies, Has, TypeState, TypeMove, Goes, Ends, Stops, ts, type_step, Runs, stays, goes, IsHalt}
 use Rattle.lp_syntax.proofs.Tokens.{class_same, class_stands, Stands}
-use Rattle.lp_syntax.proofs.TypeReading.{runs_on, one_run, runs_up, runs_further, above_close, Above, behind_word, behind_type, below_arrow, above_left, type_complete, type_sound}
+use Rattle.lp_syntax.proofs.TypeReading.{runs_up, runs_further, above_close, Above, behind_word, behind_type, below_arrow, above_left, type_complete}
 
 pub type_up : (ls : List Lexeme) (v : Level) (i j : ℕ) (t : TypeTree) → IsType ls v i j t → i < j
 type_up ls v i j t (word _ e) = omega arith
@@ -47,7 +45,7 @@ runs_same n ls ms a s r i j l (goes _ q _ _ _ e d) =
 pub ended_there : (ls : List Lexeme) (from i : ℕ) (t : TypeTree) → IsType ls Whole from i t → class_at ls i ≡ Backslash → (s : TypeState) × Runs ls (ts [] Wants) from s i × (type_step s (class_at ls i) ≡ Ends)
 ended_there ls from i t d b = let r = type_complete ls Whole from i t d [] in (r.0, r.2, ap (type_step r.0) b ∙ above_left [] r.0 r.1)
 
-goes_further : (ls : List Lexeme) (s r : TypeState) (i j : ℕ) → Runs ls s i r j → i < j → (q : TypeState) × (type_step s (class_at ls i) ≡ Goes q)
+pub goes_further : (ls : List Lexeme) (s r : TypeState) (i j : ℕ) → Runs ls s i r j → i < j → (q : TypeState) × (type_step s (class_at ls i) ≡ Goes q)
 goes_further ls s r i j (stays _ _) l = absurd (omega (arith, l))
 goes_further ls s r i j (goes _ q _ _ _ e d) l = (q, e)
 
@@ -72,7 +70,7 @@ compared (suc a) (suc b) = go (compared a b)
     go (same e) = same (ap suc e)
     go (more l) = more (omega (arith, l))
 
-ends_no_more : (m : TypeMove) (q : TypeState) → m ≡ Ends → m ≡ Goes q → ⊥
+pub ends_no_more : (m : TypeMove) (q : TypeState) → m ≡ Ends → m ≡ Goes q → ⊥
 ends_no_more m q e f = let g : Ends ≡ Goes q = sym e ∙ f in cc
 
 same_state : (ls : List Lexeme) (a c : TypeState) (m n : ℕ) → m ≡ n → Runs ls a m c n → a ≡ c

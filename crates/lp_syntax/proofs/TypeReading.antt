@@ -1,10 +1,10 @@
 -- The reader of types reads the grammar of types.
-use Rattle.std.proofs.Common.{◌≡◌, ◌≢◌, ℕ, suc, ◌+◌, ◌<◌, ◌≤◌, List, [], ◌∷◌, ◌++◌, refl, sym, ap, ◌∙◌, subst, arith}
+use Rattle.std.proofs.Common.{◌≡◌, ℕ, suc, ◌≤◌, List, [], ◌∷◌, refl, sym, ap, ◌∙◌, subst, arith}
 use Rattle.lp_syntax.specs.declared.class.Class.{Class}
 use Rattle.lp_syntax.specs.declared.class.Class.TheVariants.{Lower, Upper, Symbol, Comma, Colon, Arrow, Number, Text, Open, Close, OpenList, CloseList, Bar, Dot, Backslash, Keyword, Unsupported, End}
 use Rattle.lp_syntax.specs.Tokens.{Lexeme, class_at}
 use Rattle.lp_syntax.specs.Types.{TypeTree, Named, Applied, Arrows, Level, Argument, Head, Side, Whole, IsType, word, variable, group, head, applied, side_head, side_argument, target, arrow}
-use Rattle.lp_syntax.specs.TypeMachine.{Wait, AtArrow, AtGroup, AtArgument, Need, Wants, Applies, Has, TypeState, TypeMove, Goes, Ends, Stops, ts, closed, left, type_wants, type_has, type_applies, type_step, Runs, stays, goes}
+use Rattle.lp_syntax.specs.TypeMachine.{Wait, AtArrow, AtGroup, AtArgument, Wants, Applies, Has, TypeState, TypeMove, Goes, Ends, Stops, ts, closed, left, type_wants, type_has, type_applies, type_step, Runs, stays, goes}
 
 pub runs_on : (ls : List Lexeme) (s r q : TypeState) (i j k : ℕ) → Runs ls s i r j → Runs ls r j q k → Runs ls s i q k
 runs_on ls s r q i j k (stays _ _) e = e

@@ -1,12 +1,10 @@
 -- The code of the reader of types against its machine.
-use Rattle.std.proofs.Common.{◌≡◌, ◌≢◌, ℕ, suc, ◌+◌, ◌-◌, ◌≤◌, List, [], ◌∷◌, ◌++◌, refl, sym, ap, ◌∙◌, subst, arith, length, length-append}
+use Rattle.std.proofs.Common.{◌≡◌, ℕ, suc, ◌+◌, List, [], ◌∷◌, ◌++◌, refl, sym, ap, ◌∙◌, subst, arith, length, length-append}
 use Rattle.lp_syntax.specs.declared.class.Class.TheVariants.{End}
 use Rattle.lp_syntax.specs.declared.types.Waiting.{Waiting}
-use Rattle.lp_syntax.specs.declared.types.Waiting.TheVariants as waiting
-use Rattle.lp_syntax.specs.declared.types.Due.{Due}
 use Rattle.lp_syntax.specs.Tokens.{Lexeme, class_at}
-use Rattle.lp_syntax.specs.TypeMachine.{Wait, Need, Wants, Applies, Has, TypeState, TypeMove, Goes, Ends, Stops, ts, left, type_step, Runs, stays, goes, AtArrow, AtGroup, AtArgument}
-use Rattle.lp_syntax.specs.TypeViews.{wait_of, waits_of, need_of, state_of, ComesTo}
+use Rattle.lp_syntax.specs.TypeMachine.{Wait, Need, Wants, Applies, Has, TypeState, Goes, ts, left, type_step, Runs, AtArrow, AtGroup, AtArgument}
+use Rattle.lp_syntax.specs.TypeViews.{wait_of, waits_of}
 use Rattle.lp_syntax.proofs.TypeReading.{runs_on, one_run}
 
 pub waits_push : (hs : List Waiting) (h : Waiting) → waits_of (hs ++ h ∷ []) ≡ wait_of h ∷ waits_of hs

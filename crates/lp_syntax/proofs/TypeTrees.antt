@@ -1,6 +1,6 @@
 -- The nodes of the reader of types and their trees.
 use Rattle.std.proofs.Common.{◌≡◌, ◌≢◌, ℕ, zero, suc, ◌+◌, ◌<◌, ◌≤◌, List, [], ◌∷◌, ◌++◌, length, refl, sym, ap, ◌∙◌, subst, arith, length-append}
-use Rattle.std.specs.Prelude.{Option, Some, None, slice_get}
+use Rattle.std.specs.Prelude.{Some, slice_get}
 use Rattle.std.specs.Global.{Global}
 use Rattle.std.specs.Prelude.{Vec}
 use Rattle.lp_base.specs.declared.place.Spot.{Spot}
@@ -13,8 +13,8 @@ use Rattle.lp_syntax.specs.declared.types.Turn.TheVariants as turn
 use Rattle.lp_syntax.specs.declared.types.Due.TheVariants as due
 use Rattle.lp_syntax.specs.declared.types.Waiting.{Waiting}
 use Rattle.lp_syntax.specs.declared.types.Waiting.TheVariants as waiting
-use Rattle.lp_syntax.specs.Tokens.{Lexeme, class_at}
-use Rattle.lp_syntax.specs.Types.{TypeTree, Named, Applied, Arrows, Argument, Head, Side, Whole, IsType, word, variable, group, head, applied, side_head, side_argument, target, arrow}
+use Rattle.lp_syntax.specs.Tokens.{class_at}
+use Rattle.lp_syntax.specs.Types.{TypeTree, Named, Applied, Arrows, Argument, Head, Side, Whole, IsType, variable, group, head, applied, side_head, side_argument, target, arrow}
 use Rattle.lp_syntax.specs.RawTypes.{Part, Node, OnNodes, AreBelow, ShowsType, on_none, on_more, word_node, arrow_node}
 use Rattle.lp_syntax.specs.TypeHeld.{TypeText, AreKept, IsHeld, at_none, at_arrow, at_group, at_argument, IsApplied, IsBuilt, IsWhole, IsRoot, IsGrouped, IsInner, IsTurned}
 use Rattle.lp_syntax.specs.TypeMachine.{Wait, left, type_has, type_applies}

@@ -1,7 +1,6 @@
--- The grammar of declarations, for the tokens from one number up to another.
-use Rattle.std.specs.Prelude.{◌≡◌, ℕ, ◌+◌, ◌-◌, ◌^◌, min, Bool, true, false, nat_lt, List, [], ◌∷◌, ◌++◌, Option, Some, None, ℤ, pos, negsuc, if◌then◌else◌}
-use Rattle.std.specs.Global.{Global}
-use Rattle.std.specs.Prelude.{Vec}
+-- The grammar of declarations, from behind their keyword up to behind their full stop: their trees, whose words are the numbers of
+-- tokens, and what is handed out of them.
+use Rattle.std.specs.Prelude.{◌≡◌, ℕ, ◌+◌, ◌-◌, ◌^◌, min, Bool, true, false, nat_lt, List, [], ◌∷◌, ◌++◌, map, Option, Some, None, ℤ, pos, negsuc, if◌then◌else◌}
 use Rattle.lp_base.specs.declared.place.Spot.{Spot}
 use Rattle.lp_fixity.specs.declared.fixity.Fixity.{Fixity}
 use Rattle.lp_syntax.specs.declared.class.Keyword.{Keyword}
@@ -12,6 +11,8 @@ use Rattle.lp_syntax.specs.declared.text.Declaration.{Declaration}
 use Rattle.lp_syntax.specs.declared.text.Declaration.TheVariants.{Kinds, LocalKinds, Constants, Locals, Abbreviation, Accumulate, AccumSig, Fixities}
 use Rattle.lp_syntax.specs.declared.text.RawType.{RawType}
 use Rattle.lp_syntax.specs.Tokens.{Lexeme, class_at}
+use Rattle.lp_syntax.specs.Types.{TypeTree, Whole, IsType}
+use Rattle.lp_syntax.specs.RawTypes.{Node, ShowsType}
 use Rattle.lp_syntax.specs.TypeHeld.{IsRoot, type_text}
 
 -- names, and words
@@ -30,18 +31,18 @@ abbrev pub is_listed : Bool → Class → Bool
 is_listed words c = if words then is_word c else is_name c
 
 -- names, or words, with a comma behind each
-pub data WithCommas (spot : ℕ → Spot) (ls : List Lexeme) (words : Bool) (i : ℕ) : ℕ → List Spot → Type 0 where
-  none_listed : WithCommas spot ls words i i []
-  one_listed : (k j : ℕ) (ss ts : List Spot) → WithCommas spot ls words i k ss → is_listed words (class_at ls k) ≡ true → class_at ls (k + 1) ≡ class.Comma → j ≡ k + 1 + 1 → ts ≡ ss ++ spot k ∷ [] → WithCommas spot ls words i j ts
+pub data WithCommas (ls : List Lexeme) (words : Bool) (i : ℕ) : ℕ → List ℕ → Type 0 where
+  none_listed : WithCommas ls words i i []
+  one_listed : (k j : ℕ) (ns ms : List ℕ) → WithCommas ls words i k ns → is_listed words (class_at ls k) ≡ true → class_at ls (k + 1) ≡ class.Comma → j ≡ k + 1 + 1 → ms ≡ ns ++ k ∷ [] → WithCommas ls words i j ms
 
 -- one or more names, or words, with commas between
-pub record AreListed (spot : ℕ → Spot) (ls : List Lexeme) (words : Bool) (i j : ℕ) (ss : List Spot) : Type 0 where
+pub record AreNames (ls : List Lexeme) (words : Bool) (i j : ℕ) (ns : List ℕ) : Type 0 where
   pub final : ℕ
-  pub front : List Spot
-  pub before : WithCommas spot ls words i final front
+  pub front : List ℕ
+  pub before : WithCommas ls words i final front
   pub fits : is_listed words (class_at ls final) ≡ true
   pub end : j ≡ final + 1
-  pub all : ss ≡ front ++ spot final ∷ []
+  pub all : ns ≡ front ++ final ∷ []
 
 -- numbers are counted up to 4294967295
 abbrev pub one_more : ℕ → ℕ
@@ -60,14 +61,14 @@ pub record IsKindText (ls : List Lexeme) (i j n : ℕ) : Type 0 where
   pub end : j ≡ final + 1
 
 -- upper-case names
-pub data Parameters (spot : ℕ → Spot) (ls : List Lexeme) (i : ℕ) : ℕ → List Spot → Type 0 where
-  no_parameter : Parameters spot ls i i []
-  parameter : (k j : ℕ) (ss ts : List Spot) → Parameters spot ls i k ss → class_at ls k ≡ class.Upper → j ≡ k + 1 → ts ≡ ss ++ spot k ∷ [] → Parameters spot ls i j ts
+pub data Parameters (ls : List Lexeme) (i : ℕ) : ℕ → List ℕ → Type 0 where
+  no_parameter : Parameters ls i i []
+  parameter : (k j : ℕ) (ns ms : List ℕ) → Parameters ls i k ns → class_at ls k ≡ class.Upper → j ≡ k + 1 → ms ≡ ns ++ k ∷ [] → Parameters ls i j ms
 
 -- the name of an abbreviation, alone or in brackets with its parameters
-pub data IsHead (spot : ℕ → Spot) (ls : List Lexeme) : ℕ → ℕ → Spot → List Spot → Type 0 where
-  bare : (i j : ℕ) (s : Spot) (ss : List Spot) → class_at ls i ≡ class.Lower → j ≡ i + 1 → s ≡ spot i → ss ≡ [] → IsHead spot ls i j s ss
-  bracketed : (i k j : ℕ) (s : Spot) (ss : List Spot) → class_at ls i ≡ class.Open → class_at ls (i + 1) ≡ class.Lower → s ≡ spot (i + 1) → Parameters spot ls (i + 1 + 1) k ss → class_at ls k ≡ class.Close → j ≡ k + 1 → IsHead spot ls i j s ss
+pub data IsHeadAt (ls : List Lexeme) : ℕ → ℕ → ℕ → List ℕ → Type 0 where
+  bare : (i j n : ℕ) (ns : List ℕ) → class_at ls i ≡ class.Lower → j ≡ i + 1 → n ≡ i → ns ≡ [] → IsHeadAt ls i j n ns
+  bracketed : (i k j n : ℕ) (ns : List ℕ) → class_at ls i ≡ class.Open → class_at ls (i + 1) ≡ class.Lower → n ≡ i + 1 → Parameters ls (i + 1 + 1) k ns → class_at ls k ≡ class.Close → j ≡ k + 1 → IsHeadAt ls i j n ns
 
 -- the number of a fixity, 4294967295 where it is greater
 abbrev pub saturated : ℤ → ℕ
@@ -79,22 +80,71 @@ pub record HasNumber (ls : List Lexeme) (i n : ℕ) : Type 0 where
   pub there : class_at ls i ≡ class.Number written
   pub is : n ≡ saturated written
 
-abbrev pub IsTypeAt : (ℕ → Spot) → List Lexeme → ℕ → ℕ → RawType → Type 0
-IsTypeAt spot ls i j ty = IsRoot (type_text spot ls i) ty.nodes.items j ty.root
-
 -- a full stop, and the number of the token behind it
 abbrev pub EndsAt : List Lexeme → ℕ → ℕ → Type 0
 EndsAt ls i e = (class_at ls i ≡ class.Dot) × (e ≡ i + 1)
 
+-- the trees of declarations
+pub data Line : Type 0 where
+  KindLine : List ℕ → ℕ → Line
+  LocalKindLine : List ℕ → Option ℕ → Line
+  ConstantLine : List ℕ → TypeTree → Line
+  LocalLine : List ℕ → Option TypeTree → Line
+  AbbreviationLine : ℕ → List ℕ → TypeTree → Line
+  AccumulateLine : List ℕ → Line
+  AccumSigLine : List ℕ → Line
+  FixityLine : List ℕ → Fixity → ℕ → Line
+
 -- a declaration from behind its keyword up to behind its full stop
-pub data IsDeclared (spot : ℕ → Spot) (ls : List Lexeme) : Keyword → ℕ → ℕ → Declaration → Type 0 where
-  kinds : (i j k e n : ℕ) (ss : Vec Spot Global) → AreListed spot ls false i j ss.items → IsKindText ls j k n → EndsAt ls k e → IsDeclared spot ls keyword.Kind i e (Kinds ss n)
-  local_kinds : (i j e : ℕ) (ss : Vec Spot Global) → AreListed spot ls false i j ss.items → EndsAt ls j e → IsDeclared spot ls keyword.Localkind i e (LocalKinds ss None)
-  local_kinds_of : (i j k e n : ℕ) (ss : Vec Spot Global) → AreListed spot ls false i j ss.items → IsKindText ls j k n → EndsAt ls k e → IsDeclared spot ls keyword.Localkind i e (LocalKinds ss (Some n))
-  constants : (i j k e : ℕ) (ss : Vec Spot Global) (ty : RawType) → AreListed spot ls false i j ss.items → IsTypeAt spot ls j k ty → EndsAt ls k e → IsDeclared spot ls keyword.Type i e (Constants ss ty)
-  locals : (i j e : ℕ) (ss : Vec Spot Global) → AreListed spot ls false i j ss.items → EndsAt ls j e → IsDeclared spot ls keyword.Local i e (Locals ss None)
-  locals_of : (i j k e : ℕ) (ss : Vec Spot Global) (ty : RawType) → AreListed spot ls false i j ss.items → IsTypeAt spot ls j k ty → EndsAt ls k e → IsDeclared spot ls keyword.Local i e (Locals ss (Some ty))
-  abbreviation : (i j k e : ℕ) (s : Spot) (ss : Vec Spot Global) (ty : RawType) → IsHead spot ls i j s ss.items → IsTypeAt spot ls j k ty → EndsAt ls k e → IsDeclared spot ls keyword.Typeabbrev i e (Abbreviation s ss ty)
-  accumulate : (i j e : ℕ) (ss : Vec Spot Global) → AreListed spot ls true i j ss.items → EndsAt ls j e → IsDeclared spot ls keyword.Accumulate i e (Accumulate ss)
-  accum_sig : (i j e : ℕ) (ss : Vec Spot Global) → AreListed spot ls true i j ss.items → EndsAt ls j e → IsDeclared spot ls keyword.AccumSig i e (AccumSig ss)
-  fixities : (i j e n : ℕ) (f : Fixity) (ss : Vec Spot Global) → AreListed spot ls false i j ss.items → HasNumber ls j n → EndsAt ls (j + 1) e → IsDeclared spot ls (keyword.Fixity f) i e (Fixities ss f n)
+pub data IsBody (ls : List Lexeme) : Keyword → ℕ → ℕ → Line → Type 0 where
+  kinds : (i j k e n : ℕ) (ns : List ℕ) → AreNames ls false i j ns → IsKindText ls j k n → EndsAt ls k e → IsBody ls keyword.Kind i e (KindLine ns n)
+  local_kinds : (i j e : ℕ) (ns : List ℕ) → AreNames ls false i j ns → EndsAt ls j e → IsBody ls keyword.Localkind i e (LocalKindLine ns None)
+  local_kinds_of : (i j k e n : ℕ) (ns : List ℕ) → AreNames ls false i j ns → IsKindText ls j k n → EndsAt ls k e → IsBody ls keyword.Localkind i e (LocalKindLine ns (Some n))
+  constants : (i j k e : ℕ) (ns : List ℕ) (t : TypeTree) → AreNames ls false i j ns → IsType ls Whole j k t → EndsAt ls k e → IsBody ls keyword.Type i e (ConstantLine ns t)
+  locals : (i j e : ℕ) (ns : List ℕ) → AreNames ls false i j ns → EndsAt ls j e → IsBody ls keyword.Local i e (LocalLine ns None)
+  locals_of : (i j k e : ℕ) (ns : List ℕ) (t : TypeTree) → AreNames ls false i j ns → IsType ls Whole j k t → EndsAt ls k e → IsBody ls keyword.Local i e (LocalLine ns (Some t))
+  abbreviation : (i j k e n : ℕ) (ns : List ℕ) (t : TypeTree) → IsHeadAt ls i j n ns → IsType ls Whole j k t → EndsAt ls k e → IsBody ls keyword.Typeabbrev i e (AbbreviationLine n ns t)
+  accumulate : (i j e : ℕ) (ns : List ℕ) → AreNames ls true i j ns → EndsAt ls j e → IsBody ls keyword.Accumulate i e (AccumulateLine ns)
+  accum_sig : (i j e : ℕ) (ns : List ℕ) → AreNames ls true i j ns → EndsAt ls j e → IsBody ls keyword.AccumSig i e (AccumSigLine ns)
+  fixities : (i j e n : ℕ) (f : Fixity) (ns : List ℕ) → AreNames ls false i j ns → HasNumber ls j n → EndsAt ls (j + 1) e → IsBody ls (keyword.Fixity f) i e (FixityLine ns f n)
+
+-- the spots of numbers of which this holds
+pub record Spotted (spot : ℕ → Spot) (Holds : List ℕ → Type 0) (ss : List Spot) : Type 0 where
+  pub numbers : List ℕ
+  pub holds : Holds numbers
+  pub spots : ss ≡ map spot numbers
+
+-- what is handed out of names, of a head, and of a type
+abbrev pub AreListed : (ℕ → Spot) → List Lexeme → Bool → ℕ → ℕ → List Spot → Type 0
+AreListed spot ls words i j ss = Spotted spot (AreNames ls words i j) ss
+
+pub record IsHead (spot : ℕ → Spot) (ls : List Lexeme) (i j : ℕ) (s : Spot) (ss : List Spot) : Type 0 where
+  pub number : ℕ
+  pub numbers : List ℕ
+  pub head : IsHeadAt ls i j number numbers
+  pub spot_is : s ≡ spot number
+  pub spots : ss ≡ map spot numbers
+
+abbrev pub IsTypeAt : (ℕ → Spot) → List Lexeme → ℕ → ℕ → RawType → Type 0
+IsTypeAt spot ls i j ty = IsRoot (type_text spot ls i) ty.nodes.items j ty.root
+
+abbrev pub IsShownType : (ℕ → Spot) → RawType → TypeTree → Type 0
+IsShownType spot ty t = ShowsType spot ty.nodes.items (Node ty.root) t
+
+-- what is handed out of a declaration
+abbrev pub IsShown : (ℕ → Spot) → Declaration → Line → Type 0
+IsShown spot (Kinds ss n) (KindLine ns m) = (ss.items ≡ map spot ns) × (n ≡ m)
+IsShown spot (LocalKinds ss n) (LocalKindLine ns m) = (ss.items ≡ map spot ns) × (n ≡ m)
+IsShown spot (Constants ss ty) (ConstantLine ns t) = (ss.items ≡ map spot ns) × IsShownType spot ty t
+IsShown spot (Locals ss None) (LocalLine ns None) = ss.items ≡ map spot ns
+IsShown spot (Locals ss (Some ty)) (LocalLine ns (Some t)) = (ss.items ≡ map spot ns) × IsShownType spot ty t
+IsShown spot (Abbreviation s ss ty) (AbbreviationLine n ns t) = (s ≡ spot n) × (ss.items ≡ map spot ns) × IsShownType spot ty t
+IsShown spot (Accumulate ss) (AccumulateLine ns) = ss.items ≡ map spot ns
+IsShown spot (AccumSig ss) (AccumSigLine ns) = ss.items ≡ map spot ns
+IsShown spot (Fixities ss f n) (FixityLine ns g m) = (ss.items ≡ map spot ns) × (f ≡ g) × (n ≡ m)
+IsShown spot _ _ = ⊥
+
+pub record IsDeclared (spot : ℕ → Spot) (ls : List Lexeme) (k : Keyword) (i e : ℕ) (d : Declaration) : Type 0 where
+  pub line : Line
+  pub body : IsBody ls k i e line
+  pub shown : IsShown spot d line

@@ -1,7 +1,6 @@
 -- Which fault it is that a text has at a token.
 use Rattle.std.specs.Prelude.{ℕ, ◌-◌, List, length, slice_get, Option, Some, None}
 use Rattle.lp_base.specs.declared.place.Spot.{Spot}
-use Rattle.lp_lexer.specs.declared.token.Token.{Token}
 use Rattle.lp_syntax.specs.declared.class.Class.{Class}
 use Rattle.lp_syntax.specs.declared.class.Class.TheVariants as class
 use Rattle.lp_syntax.specs.declared.fault.SyntaxFault.{SyntaxFault}

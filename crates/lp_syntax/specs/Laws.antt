@@ -7,6 +7,12 @@ use Rattle.lp_syntax.specs.Machine.{read, Given, Faulty}
 use Rattle.lp_syntax.specs.Text.{IsTerm, FaultAt}
 use Rattle.lp_syntax.specs.Tokens.{Lexeme, Operators}
 use Rattle.lp_syntax.specs.Queries.{IsQuery}
+use Rattle.std.specs.Prelude.{ℕ}
+use Rattle.lp_syntax.specs.declared.class.Class.TheVariants.{Backslash}
+use Rattle.lp_syntax.specs.Tokens.{class_at}
+use Rattle.lp_syntax.specs.Types.{TypeTree, Whole, IsType}
+use Rattle.lp_syntax.specs.Declarations.{Line}
+use Rattle.lp_syntax.specs.Signatures.{IsSignature}
 
 -- a text of symbols is a term in one way
 abbrev pub HasOneTree : Type 0
@@ -23,3 +29,11 @@ FaultsFirst = (ts : List Sym) (f : Fault) (rest : List Sym) → read ts ≡ Faul
 -- a text is a query in one way
 abbrev pub HasOneQuery : Type 0
 HasOneQuery = (ops : Operators) (ls : List Lexeme) (t u : Tree) → IsQuery ops ls t → IsQuery ops ls u → t ≡ u
+
+-- an annotation, up to its backslash, is one type, and ends at one place
+abbrev pub HasOneAnnotation : Type 0
+HasOneAnnotation = (ls : List Lexeme) (i j k : ℕ) (t u : TypeTree) → IsType ls Whole i j t → class_at ls j ≡ Backslash → IsType ls Whole i k u → class_at ls k ≡ Backslash → (j ≡ k) × (t ≡ u)
+
+-- a text is a signature in one way
+abbrev pub HasOneSignature : Type 0
+HasOneSignature = (ls : List Lexeme) (ds es : List Line) → IsSignature ls ds → IsSignature ls es → ds ≡ es

@@ -20,3 +20,6 @@ pub mod Opened
 pub mod RawTypes
 pub mod TypeHeld
 pub mod Declarations
+pub mod LineMachine
+pub mod Signatures
+pub mod References

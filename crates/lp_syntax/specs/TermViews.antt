@@ -1,7 +1,7 @@
 -- How far the reader of terms is in a text.
-use Rattle.std.specs.Prelude.{◌≡◌, ◌≢◌, ℕ, ◌<◌, ◌≤◌, ◌+◌, List, [], ◌++◌, length, ◌⊎◌, Option, Some}
+use Rattle.std.specs.Prelude.{◌≡◌, ◌≢◌, ℕ, ◌<◌, ◌≤◌, ◌+◌, List, [], ◌++◌, length, ◌⊎◌, Some}
 use Rattle.lp_base.specs.declared.place.Spot.{Spot}
-use Rattle.lp_syntax.specs.declared.class.Class.TheVariants.{Colon, Backslash, Dot}
+use Rattle.lp_syntax.specs.declared.class.Class.TheVariants.{Backslash, Dot}
 use Rattle.lp_syntax.specs.declared.fault.SyntaxFault.{SyntaxFault}
 use Rattle.lp_syntax.specs.declared.held.Doing.{Doing}
 use Rattle.lp_syntax.specs.declared.held.Doing.TheVariants as doing

@@ -1,5 +1,5 @@
 -- Terms as tokens: what symbols a text has, its terms, and where a term has a fault.
-use Rattle.std.specs.Prelude.{◌≡◌, ◌≢◌, ℕ, suc, ◌+◌, ◌-◌, ◌<◌, ◌≤◌, ◌⊎◌, false, List, [], ◌∷◌, ◌++◌, length, Option, Some}
+use Rattle.std.specs.Prelude.{◌≡◌, ◌≢◌, ℕ, suc, ◌<◌, ◌≤◌, ◌⊎◌, false, List, [], ◌∷◌, ◌++◌, length, Some}
 use Rattle.lp_base.specs.declared.place.Spot.{Spot}
 use Rattle.lp_syntax.specs.declared.class.Class.TheVariants.{Colon, Backslash, Dot}
 use Rattle.lp_syntax.specs.declared.fault.SyntaxFault.{SyntaxFault}

@@ -16,8 +16,8 @@ use Rattle.lp_syntax.specs.declared.types.Folded.TheVariants as folded
 use Rattle.lp_syntax.specs.declared.types.TypeEnd.{TypeEnd}
 use Rattle.lp_syntax.specs.declared.types.TypeEnd.TheVariants.{Read, Stopped}
 use Rattle.lp_syntax.specs.Tokens.{Lexeme, class_at}
-use Rattle.lp_syntax.specs.Types.{TypeTree, Argument, Head, Side, Whole, IsType}
-use Rattle.lp_syntax.specs.RawTypes.{Part, Node, OnNodes, AreBelow, ShowsType}
+use Rattle.lp_syntax.specs.Types.{TypeTree, Head, Side, Whole, IsType}
+use Rattle.lp_syntax.specs.RawTypes.{Node, OnNodes, AreBelow, ShowsType}
 
 -- the text, and the token from which the type is read
 pub record TypeText : Type 0 where

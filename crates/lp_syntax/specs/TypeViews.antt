@@ -1,5 +1,5 @@
 -- The state of the reader of types, as the machine's.
-use Rattle.std.specs.Prelude.{◌≡◌, ℕ, ◌≤◌, ◌-◌, zero, suc, ◌+◌, List, [], ◌∷◌, ◌++◌, Option}
+use Rattle.std.specs.Prelude.{◌≡◌, ℕ, List, [], ◌∷◌, ◌++◌}
 use Rattle.lp_syntax.specs.declared.types.Waiting.{Waiting}
 use Rattle.lp_syntax.specs.declared.types.Waiting.TheVariants as waiting
 use Rattle.lp_syntax.specs.declared.types.Due.{Due}

@@ -1,5 +1,5 @@
 -- The grammar of types, for the tokens from one number up to another.
-use Rattle.std.specs.Prelude.{◌≡◌, ℕ, ◌+◌, suc, List}
+use Rattle.std.specs.Prelude.{◌≡◌, ℕ, suc, List}
 use Rattle.lp_syntax.specs.declared.class.Class.TheVariants.{Lower, Upper, Open, Close, Arrow}
 use Rattle.lp_syntax.specs.Tokens.{Lexeme, class_at}
 

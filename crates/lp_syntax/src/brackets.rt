@@ -7,17 +7,17 @@ use crate::class::Class;
 use std::alloc::AllocError;
 
 /// Takes a token of this class and number.
-pub fn follow(open: &mut Vec<usize>, class: Class, at: usize) -> Result<(), AllocError>
-    ensures { IfOk result (λ _. open.new.items ≡ open_behind at class open.old.items) }
+pub fn follow(opens: &mut Vec<usize>, class: Class, at: usize) -> Result<(), AllocError>
+    ensures { IfOk result (λ _. opens.new.items ≡ open_behind at class opens.old.items) }
 {
     match class {
-        Class::Open => open.push(at)?,
-        Class::OpenList => open.push(at)?,
+        Class::Open => opens.push(at)?,
+        Class::OpenList => opens.push(at)?,
         Class::Close => {
-            open.pop();
+            opens.pop();
         }
         Class::CloseList => {
-            open.pop();
+            opens.pop();
         }
         _ => {}
     }
@@ -25,8 +25,8 @@ pub fn follow(open: &mut Vec<usize>, class: Class, at: usize) -> Result<(), Allo
 }
 
 /// The innermost one.
-pub fn innermost(open: &Vec<usize>) -> Option<usize>
-    ensures { result ≡ innermost open.now.items }
+pub fn innermost(opens: &Vec<usize>) -> Option<usize>
+    ensures { result ≡ innermost opens.now.items }
 {
-    open.last().copied()
+    opens.last().copied()
 }

@@ -1,9 +1,11 @@
 // Declarations, from the word behind their keyword to their full stop.
-ghost use Rattle.std.specs.Prelude.{◌≡◌, ◌<◌, ◌≤◌, ◌+◌, length, IfOk, true};
+ghost use Rattle.std.specs.Prelude.{◌≡◌, ◌≢◌, ◌<◌, ◌≤◌, ◌+◌, ◌⊎◌, length, IfOk, IfErr, true, false};
 ghost use Rattle.lp_syntax.specs.declared.class.Keyword.TheVariants as keyword;
 ghost use Rattle.lp_syntax.specs.declared.class.Class.TheVariants as class;
 ghost use Rattle.lp_syntax.specs.Tokens.{lexemes, class_at, spot_at};
 ghost use Rattle.lp_syntax.specs.Declarations.{IsDeclared};
+ghost use Rattle.lp_syntax.specs.Terms.{MemoryOr};
+ghost use Rattle.lp_syntax.specs.LineMachine.{AtStart, AtName, AtHead, StopsIn, IsTooDeep};
 
 use crate::class::{Class, Keyword};
 use crate::fault::SyntaxFault;
@@ -18,6 +20,7 @@ fn kinds(alloc: Global, input: &Input<'_>, from: usize) -> Result<(Declaration, 
     ensures within { IfOk result (λ r. r.1 ≤ length input.now.tokens.now) }
     ensures further { IfOk result (λ r. from < r.1) }
     ensures declared { IfOk result (λ r. IsDeclared (spot_at input.now.file input.now.source.now input.now.tokens.now) (lexemes input.now.source.now input.now.tokens.now) keyword.Kind from r.1 r.0) }
+    ensures fault { IfErr result (λ f. MemoryOr f (StopsIn (spot_at input.now.file input.now.source.now input.now.tokens.now) (lexemes input.now.source.now input.now.tokens.now) (AtName keyword.Kind) from f)) }
 {
     let (names, at) = names(alloc, input, from)?;
     let (arguments, at) = kind(input, at)?;
@@ -28,8 +31,9 @@ fn kinds(alloc: Global, input: &Input<'_>, from: usize) -> Result<(Declaration, 
 fn is_dot(input: &Input<'_>, at: usize) -> bool
     ensures within { result ≡ true → at < length input.now.tokens.now }
     ensures class { result ≡ true → class_at (lexemes input.now.source.now input.now.tokens.now) at ≡ class.Dot }
+    ensures no { result ≡ false → class_at (lexemes input.now.source.now input.now.tokens.now) at ≢ class.Dot }
 {
-    at < input.tokens.len() && matches!(input.class(at), Class::Dot)
+    matches!(input.class(at), Class::Dot)
 }
 
 fn local_kinds(
@@ -41,6 +45,7 @@ fn local_kinds(
     ensures within { IfOk result (λ r. r.1 ≤ length input.now.tokens.now) }
     ensures further { IfOk result (λ r. from < r.1) }
     ensures declared { IfOk result (λ r. IsDeclared (spot_at input.now.file input.now.source.now input.now.tokens.now) (lexemes input.now.source.now input.now.tokens.now) keyword.Localkind from r.1 r.0) }
+    ensures fault { IfErr result (λ f. MemoryOr f (StopsIn (spot_at input.now.file input.now.source.now input.now.tokens.now) (lexemes input.now.source.now input.now.tokens.now) (AtName keyword.Localkind) from f)) }
 {
     let (names, at) = names(alloc, input, from)?;
     if is_dot(input, at) {
@@ -60,6 +65,7 @@ fn constants(
     ensures within { IfOk result (λ r. r.1 ≤ length input.now.tokens.now) }
     ensures further { IfOk result (λ r. from < r.1) }
     ensures declared { IfOk result (λ r. IsDeclared (spot_at input.now.file input.now.source.now input.now.tokens.now) (lexemes input.now.source.now input.now.tokens.now) keyword.Type from r.1 r.0) }
+    ensures fault { IfErr result (λ f. MemoryOr f (IsTooDeep (lexemes input.now.source.now input.now.tokens.now) keyword.Type from f ⊎ StopsIn (spot_at input.now.file input.now.source.now input.now.tokens.now) (lexemes input.now.source.now input.now.tokens.now) (AtName keyword.Type) from f)) }
 {
     let (names, at) = names(alloc, input, from)?;
     let (text, at) = declared_type(alloc, input, at)?;
@@ -77,6 +83,7 @@ fn locals(
     ensures within { IfOk result (λ r. r.1 ≤ length input.now.tokens.now) }
     ensures further { IfOk result (λ r. from < r.1) }
     ensures declared { IfOk result (λ r. IsDeclared (spot_at input.now.file input.now.source.now input.now.tokens.now) (lexemes input.now.source.now input.now.tokens.now) keyword.Local from r.1 r.0) }
+    ensures fault { IfErr result (λ f. MemoryOr f (IsTooDeep (lexemes input.now.source.now input.now.tokens.now) keyword.Local from f ⊎ StopsIn (spot_at input.now.file input.now.source.now input.now.tokens.now) (lexemes input.now.source.now input.now.tokens.now) (AtName keyword.Local) from f)) }
 {
     let (names, at) = names(alloc, input, from)?;
     if is_dot(input, at) {
@@ -97,6 +104,7 @@ fn abbreviation(
     ensures within { IfOk result (λ r. r.1 ≤ length input.now.tokens.now) }
     ensures further { IfOk result (λ r. from < r.1) }
     ensures declared { IfOk result (λ r. IsDeclared (spot_at input.now.file input.now.source.now input.now.tokens.now) (lexemes input.now.source.now input.now.tokens.now) keyword.Typeabbrev from r.1 r.0) }
+    ensures fault { IfErr result (λ f. MemoryOr f (IsTooDeep (lexemes input.now.source.now input.now.tokens.now) keyword.Typeabbrev from f ⊎ StopsIn (spot_at input.now.file input.now.source.now input.now.tokens.now) (lexemes input.now.source.now input.now.tokens.now) AtHead from f)) }
 {
     let (name, parameters, at) = abbreviated(alloc, input, from)?;
     let (text, at) = declared_type(alloc, input, at)?;
@@ -114,6 +122,7 @@ fn accumulate(
     ensures within { IfOk result (λ r. r.1 ≤ length input.now.tokens.now) }
     ensures further { IfOk result (λ r. from < r.1) }
     ensures declared { IfOk result (λ r. IsDeclared (spot_at input.now.file input.now.source.now input.now.tokens.now) (lexemes input.now.source.now input.now.tokens.now) keyword.Accumulate from r.1 r.0) }
+    ensures fault { IfErr result (λ f. MemoryOr f (StopsIn (spot_at input.now.file input.now.source.now input.now.tokens.now) (lexemes input.now.source.now input.now.tokens.now) (AtName keyword.Accumulate) from f)) }
 {
     let (words, at) = words(alloc, input, from)?;
     let end = input.dot(at)?;
@@ -129,6 +138,7 @@ fn accum_sig(
     ensures within { IfOk result (λ r. r.1 ≤ length input.now.tokens.now) }
     ensures further { IfOk result (λ r. from < r.1) }
     ensures declared { IfOk result (λ r. IsDeclared (spot_at input.now.file input.now.source.now input.now.tokens.now) (lexemes input.now.source.now input.now.tokens.now) keyword.AccumSig from r.1 r.0) }
+    ensures fault { IfErr result (λ f. MemoryOr f (StopsIn (spot_at input.now.file input.now.source.now input.now.tokens.now) (lexemes input.now.source.now input.now.tokens.now) (AtName keyword.AccumSig) from f)) }
 {
     let (words, at) = words(alloc, input, from)?;
     let end = input.dot(at)?;
@@ -145,6 +155,7 @@ fn fixities(
     ensures within { IfOk result (λ r. r.1 ≤ length input.now.tokens.now) }
     ensures further { IfOk result (λ r. from < r.1) }
     ensures declared { IfOk result (λ r. IsDeclared (spot_at input.now.file input.now.source.now input.now.tokens.now) (lexemes input.now.source.now input.now.tokens.now) (keyword.Fixity fixity) from r.1 r.0) }
+    ensures fault { IfErr result (λ f. MemoryOr f (StopsIn (spot_at input.now.file input.now.source.now input.now.tokens.now) (lexemes input.now.source.now input.now.tokens.now) (AtName (keyword.Fixity fixity)) from f)) }
 {
     let (names, at) = names(alloc, input, from)?;
     let (number, at) = number(input, at)?;
@@ -163,9 +174,11 @@ pub fn declaration(
     ensures within { IfOk result (λ r. r.1 ≤ length input.now.tokens.now) }
     ensures further { IfOk result (λ r. from < r.1) }
     ensures declared { IfOk result (λ r. IsDeclared (spot_at input.now.file input.now.source.now input.now.tokens.now) (lexemes input.now.source.now input.now.tokens.now) keyword (from + 1) r.1 r.0) }
+    ensures fault { class_at (lexemes input.now.source.now input.now.tokens.now) from ≡ class.Keyword keyword → IfErr result (λ f. MemoryOr f (IsTooDeep (lexemes input.now.source.now input.now.tokens.now) keyword (from + 1) f ⊎ StopsIn (spot_at input.now.file input.now.source.now input.now.tokens.now) (lexemes input.now.source.now input.now.tokens.now) AtStart from f)) }
 {
     match keyword {
-        Keyword::Sig | Keyword::Module => Err(input.refusal(from, None)),
+        Keyword::Sig => Err(input.refusal(from, None)),
+        Keyword::Module => Err(input.refusal(from, None)),
         Keyword::Kind => kinds(alloc, input, from + 1),
         Keyword::Localkind => local_kinds(alloc, input, from + 1),
         Keyword::Type => constants(alloc, input, from + 1),

@@ -99,9 +99,13 @@ impl<'a> Input<'a> {
         ensures further { IfOk result (λ end. end ≡ at + 1) }
         ensures within { IfOk result (λ end. end ≤ length self.now.tokens.now) }
         ensures dot { IfOk result (λ _. class_at (lexemes self.now.source.now self.now.tokens.now) at ≡ Dot) }
+        ensures none { IfErr result (λ _. class_at (lexemes self.now.source.now self.now.tokens.now) at ≢ Dot) }
         ensures refused { IfErr result (λ fault. fault ≡ refused (spot_at self.now.file self.now.source.now self.now.tokens.now) at None (class_at (lexemes self.now.source.now self.now.tokens.now) at)) }
     {
-        if at < self.tokens.len() && is_dot(self.class(at)) {
+        if at >= self.tokens.len() {
+            return Err(self.refusal(at, None));
+        }
+        if is_dot(self.class(at)) {
             return Ok(at + 1);
         }
         Err(self.refusal(at, None))

@@ -1,6 +1,6 @@
 // What holds of the grammar of terms and of its reader. Each law is the contract of a function without a body.
 
-ghost use Rattle.lp_syntax.specs.Laws.{HasOneQuery, HasOneTree, ReadsTheGrammar, FaultsFirst};
+ghost use Rattle.lp_syntax.specs.Laws.{HasOneAnnotation, HasOneQuery, HasOneSignature, HasOneTree, ReadsTheGrammar, FaultsFirst};
 
 /// A term has one tree.
 pub fn one_tree()
@@ -20,4 +20,14 @@ pub fn faults_first()
 /// A query has one tree.
 pub fn one_query()
     ensures { HasOneQuery }
+{}
+
+/// An annotation is one type, up to its backslash.
+pub fn one_annotation()
+    ensures { HasOneAnnotation }
+{}
+
+/// A text is a signature in one way.
+pub fn one_signature()
+    ensures { HasOneSignature }
 {}

@@ -47,7 +47,9 @@ mod types;
 mod whole;
 
 pub use fault::SyntaxFault;
-pub use laws::{faults_first, one_query, one_tree, reads_the_grammar};
+pub use laws::{
+    faults_first, one_annotation, one_query, one_signature, one_tree, reads_the_grammar,
+};
 pub use outline::references;
 pub use text::{
     Declaration, FixityLine, ModuleText, RawNode, RawQuery, RawTerm, RawType, RawTypeNode,

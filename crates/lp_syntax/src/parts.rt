@@ -1,8 +1,16 @@
 // The parts of declarations: lists of names and words, kinds, types.
-ghost use Rattle.std.specs.Prelude.{◌≡◌, ◌<◌, ◌≤◌, ◌+◌, length, IfOk, true, false};
+ghost use Rattle.std.specs.Prelude.{◌≡◌, ◌≢◌, ◌<◌, ◌≤◌, ◌+◌, length, None, ℤ, IfOk, IfErr, true, false};
+ghost use Rattle.lp_syntax.specs.Faults.{refused};
+ghost use Rattle.lp_base.specs.declared.limit.Limit.TheVariants.{Nesting};
+ghost use Rattle.lp_syntax.specs.declared.fault.SyntaxFault.TheVariants as fault;
+ghost use Rattle.lp_syntax.specs.declared.class.Keyword.{Keyword as Word};
 ghost use Rattle.lp_syntax.specs.declared.class.Keyword.TheVariants as keyword;
 ghost use Rattle.lp_syntax.specs.declared.class.Class.TheVariants as class;
 ghost use Rattle.lp_syntax.specs.Tokens.{lexemes, class_at, spot_at};
+ghost use Rattle.lp_syntax.specs.TypeMachine.{Ends};
+ghost use Rattle.lp_syntax.specs.TypeViews.{ComesTo};
+ghost use Rattle.lp_syntax.specs.Terms.{MemoryOr};
+ghost use Rattle.lp_syntax.specs.LineMachine.{AtName, AtKind, AtHead, AtHeadName, InType, lists_words, no_type, StopsIn};
 ghost use Rattle.lp_syntax.specs.Declarations.{is_name, is_word, is_listed, one_more, saturated, AreListed, IsKindText, IsHead, HasNumber, IsTypeAt};
 
 use crate::class::{Class, Keyword};
@@ -25,7 +33,8 @@ pub struct TypeText {
 
 impl TypeText {
     pub fn within(self) -> Result<RawType, SyntaxFault>
-        ensures { IfOk result (λ ty. ty ≡ self.text) }
+        ensures text { IfOk result (λ ty. ty ≡ self.text) }
+        ensures limit { IfErr result (λ f. f ≡ fault.Limit Nesting) }
     {
         if self.depth > TYPE_DEPTH {
             return Err(SyntaxFault::Limit(Limit::Nesting));
@@ -56,6 +65,14 @@ fn is_listed(class: Class, words: bool) -> bool
     }
 }
 
+// A name, or a word.
+fn listed(input: &Input<'_>, at: usize, words: bool) -> bool
+    ensures within { result ≡ true → at < length input.now.tokens.now }
+    ensures is { result ≡ is_listed words (class_at (lexemes input.now.source.now input.now.tokens.now) at) }
+{
+    is_listed(input.class(at), words)
+}
+
 // One or more names, or words, with commas between, and the number of the token behind them. A comma may be a name itself:
 // names and commas alternate.
 fn list(
@@ -68,10 +85,12 @@ fn list(
     ensures within { IfOk result (λ r. r.1 ≤ length input.now.tokens.now) }
     ensures further { IfOk result (λ r. from < r.1) }
     ensures listed { IfOk result (λ r. AreListed (spot_at input.now.file input.now.source.now input.now.tokens.now) (lexemes input.now.source.now input.now.tokens.now) words from r.1 r.0.items) }
+    ensures no_comma { IfOk result (λ r. class_at (lexemes input.now.source.now input.now.tokens.now) r.1 ≢ class.Comma) }
+    ensures fault { (k : Word) → lists_words k ≡ words → IfErr result (λ f. MemoryOr f (StopsIn (spot_at input.now.file input.now.source.now input.now.tokens.now) (lexemes input.now.source.now input.now.tokens.now) (AtName k) from f)) }
 {
     let mut spots = Vec::new(alloc);
     let mut at = from;
-    'over: while at < input.tokens.len() && is_listed(input.class(at), words) {
+    'over: while listed(input, at, words) {
         spots.push(input.spot(at))?;
         at += 1;
         if !is_comma(input, at) {
@@ -92,6 +111,8 @@ pub fn names(
     ensures within { IfOk result (λ r. r.1 ≤ length input.now.tokens.now) }
     ensures further { IfOk result (λ r. from < r.1) }
     ensures listed { IfOk result (λ r. AreListed (spot_at input.now.file input.now.source.now input.now.tokens.now) (lexemes input.now.source.now input.now.tokens.now) false from r.1 r.0.items) }
+    ensures no_comma { IfOk result (λ r. class_at (lexemes input.now.source.now input.now.tokens.now) r.1 ≢ class.Comma) }
+    ensures fault { (k : Word) → lists_words k ≡ false → IfErr result (λ f. MemoryOr f (StopsIn (spot_at input.now.file input.now.source.now input.now.tokens.now) (lexemes input.now.source.now input.now.tokens.now) (AtName k) from f)) }
 {
     list(alloc, input, from, false)
 }
@@ -106,6 +127,8 @@ pub fn words(
     ensures within { IfOk result (λ r. r.1 ≤ length input.now.tokens.now) }
     ensures further { IfOk result (λ r. from < r.1) }
     ensures listed { IfOk result (λ r. AreListed (spot_at input.now.file input.now.source.now input.now.tokens.now) (lexemes input.now.source.now input.now.tokens.now) true from r.1 r.0.items) }
+    ensures no_comma { IfOk result (λ r. class_at (lexemes input.now.source.now input.now.tokens.now) r.1 ≢ class.Comma) }
+    ensures fault { (k : Word) → lists_words k ≡ true → IfErr result (λ f. MemoryOr f (StopsIn (spot_at input.now.file input.now.source.now input.now.tokens.now) (lexemes input.now.source.now input.now.tokens.now) (AtName k) from f)) }
 {
     list(alloc, input, from, true)
 }
@@ -113,43 +136,49 @@ pub fn words(
 fn is_type(input: &Input<'_>, at: usize) -> bool
     ensures within { result ≡ true → at < length input.now.tokens.now }
     ensures class { result ≡ true → class_at (lexemes input.now.source.now input.now.tokens.now) at ≡ class.Keyword keyword.Type }
+    ensures no { result ≡ false → class_at (lexemes input.now.source.now input.now.tokens.now) at ≢ (class.Keyword keyword.Type) }
 {
-    at < input.tokens.len() && matches!(input.class(at), Class::Keyword(Keyword::Type))
+    matches!(input.class(at), Class::Keyword(Keyword::Type))
 }
 
 fn is_arrow(input: &Input<'_>, at: usize) -> bool
     ensures within { result ≡ true → at < length input.now.tokens.now }
     ensures class { result ≡ true → class_at (lexemes input.now.source.now input.now.tokens.now) at ≡ class.Arrow }
+    ensures no { result ≡ false → class_at (lexemes input.now.source.now input.now.tokens.now) at ≢ class.Arrow }
 {
-    at < input.tokens.len() && matches!(input.class(at), Class::Arrow)
+    matches!(input.class(at), Class::Arrow)
 }
 
 fn is_comma(input: &Input<'_>, at: usize) -> bool
     ensures within { result ≡ true → at < length input.now.tokens.now }
     ensures class { result ≡ true → class_at (lexemes input.now.source.now input.now.tokens.now) at ≡ class.Comma }
+    ensures no { result ≡ false → class_at (lexemes input.now.source.now input.now.tokens.now) at ≢ class.Comma }
 {
-    at < input.tokens.len() && matches!(input.class(at), Class::Comma)
+    matches!(input.class(at), Class::Comma)
 }
 
 fn is_lower(input: &Input<'_>, at: usize) -> bool
     ensures within { result ≡ true → at < length input.now.tokens.now }
     ensures class { result ≡ true → class_at (lexemes input.now.source.now input.now.tokens.now) at ≡ class.Lower }
+    ensures no { result ≡ false → class_at (lexemes input.now.source.now input.now.tokens.now) at ≢ class.Lower }
 {
-    at < input.tokens.len() && matches!(input.class(at), Class::Lower)
+    matches!(input.class(at), Class::Lower)
 }
 
 fn is_upper(input: &Input<'_>, at: usize) -> bool
     ensures within { result ≡ true → at < length input.now.tokens.now }
     ensures class { result ≡ true → class_at (lexemes input.now.source.now input.now.tokens.now) at ≡ class.Upper }
+    ensures no { result ≡ false → class_at (lexemes input.now.source.now input.now.tokens.now) at ≢ class.Upper }
 {
-    at < input.tokens.len() && matches!(input.class(at), Class::Upper)
+    matches!(input.class(at), Class::Upper)
 }
 
 fn is_close(input: &Input<'_>, at: usize) -> bool
     ensures within { result ≡ true → at < length input.now.tokens.now }
     ensures class { result ≡ true → class_at (lexemes input.now.source.now input.now.tokens.now) at ≡ class.Close }
+    ensures no { result ≡ false → class_at (lexemes input.now.source.now input.now.tokens.now) at ≢ class.Close }
 {
-    at < input.tokens.len() && matches!(input.class(at), Class::Close)
+    matches!(input.class(at), Class::Close)
 }
 
 /// The count of arguments of a kind, and the number of the token behind it.
@@ -158,6 +187,8 @@ pub fn kind(input: &Input<'_>, from: usize) -> Result<(u32, usize), SyntaxFault>
     ensures within { IfOk result (λ r. r.1 ≤ length input.now.tokens.now) }
     ensures further { IfOk result (λ r. from ≤ r.1) }
     ensures kind { IfOk result (λ r. IsKindText (lexemes input.now.source.now input.now.tokens.now) from r.1 r.0) }
+    ensures no_arrow { IfOk result (λ r. class_at (lexemes input.now.source.now input.now.tokens.now) r.1 ≢ class.Arrow) }
+    ensures fault { IfErr result (λ f. StopsIn (spot_at input.now.file input.now.source.now input.now.tokens.now) (lexemes input.now.source.now input.now.tokens.now) AtKind from f) }
 {
     let mut arguments: u32 = 0;
     let mut at = from;
@@ -182,6 +213,8 @@ pub fn declared_type(
     ensures within { IfOk result (λ r. r.1 ≤ length input.now.tokens.now) }
     ensures further { IfOk result (λ r. from ≤ r.1) }
     ensures typed { IfOk result (λ r. IsTypeAt (spot_at input.now.file input.now.source.now input.now.tokens.now) (lexemes input.now.source.now input.now.tokens.now) from r.1 r.0.text) }
+    ensures end { IfOk result (λ r. ComesTo (lexemes input.now.source.now input.now.tokens.now) from r.1 Ends) }
+    ensures fault { IfErr result (λ f. MemoryOr f (StopsIn (spot_at input.now.file input.now.source.now input.now.tokens.now) (lexemes input.now.source.now input.now.tokens.now) (InType no_type) from f)) }
 {
     match read_type(alloc, input, from)? {
         TypeEnd::Stopped(at, open) => Err(input.refusal(at, open)),
@@ -199,6 +232,7 @@ pub fn abbreviated(
     ensures within { IfOk result (λ r. r.2 ≤ length input.now.tokens.now) }
     ensures further { IfOk result (λ r. from ≤ r.2) }
     ensures head { IfOk result (λ r. IsHead (spot_at input.now.file input.now.source.now input.now.tokens.now) (lexemes input.now.source.now input.now.tokens.now) from r.2 r.0 r.1.items) }
+    ensures fault { IfErr result (λ f. MemoryOr f (StopsIn (spot_at input.now.file input.now.source.now input.now.tokens.now) (lexemes input.now.source.now input.now.tokens.now) AtHead from f)) }
 {
     if from >= input.tokens.len() {
         return Err(input.refusal(from, None));
@@ -221,6 +255,7 @@ fn parameters(
     ensures within { IfOk result (λ r. r.2 ≤ length input.now.tokens.now) }
     ensures further { IfOk result (λ r. from ≤ r.2) }
     ensures head { IfOk result (λ r. IsHead (spot_at input.now.file input.now.source.now input.now.tokens.now) (lexemes input.now.source.now input.now.tokens.now) from r.2 r.0 r.1.items) }
+    ensures fault { IfErr result (λ f. MemoryOr f (StopsIn (spot_at input.now.file input.now.source.now input.now.tokens.now) (lexemes input.now.source.now input.now.tokens.now) AtHead from f)) }
 {
     let mut parameters = Vec::new(alloc);
     let mut at = from + 1;
@@ -246,6 +281,8 @@ pub fn number(input: &Input<'_>, at: usize) -> Result<(u32, usize), SyntaxFault>
     ensures further { IfOk result (λ r. at ≤ r.1) }
     ensures number { IfOk result (λ r. HasNumber (lexemes input.now.source.now input.now.tokens.now) at r.0) }
     ensures end { IfOk result (λ r. r.1 ≡ at + 1) }
+    ensures none { IfErr result (λ _. (n : ℤ) → class_at (lexemes input.now.source.now input.now.tokens.now) at ≢ class.Number n) }
+    ensures refused { IfErr result (λ f. f ≡ refused (spot_at input.now.file input.now.source.now input.now.tokens.now) at None (class_at (lexemes input.now.source.now input.now.tokens.now) at)) }
 {
     if at >= input.tokens.len() {
         return Err(input.refusal(at, None));

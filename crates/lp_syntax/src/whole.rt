@@ -1,8 +1,13 @@
 // Whole texts: signatures, modules and queries.
-ghost use Rattle.std.specs.Prelude.{◌≡◌, ◌<◌, ◌≤◌, length, IfOk};
+ghost use Rattle.std.specs.Prelude.{◌≡◌, ◌≢◌, ◌<◌, ◌≤◌, List, length, true, false, IfOk};
+ghost use Rattle.lp_syntax.specs.declared.class.Keyword.TheVariants as keyword;
+ghost use Rattle.lp_syntax.specs.declared.class.Class.TheVariants as class;
+ghost use Rattle.lp_syntax.specs.Declarations.{Line, is_word};
+ghost use Rattle.lp_syntax.specs.LineMachine.{AtHeader, StopsIn};
+ghost use Rattle.lp_syntax.specs.Signatures.{title, is_local_word, IsHeader, IsLineText, IsLineRefusal, IsSignature, IsSignatureText, IsSignatureRefusal, IsGivenLines};
 ghost use Rattle.std.specs.Prelude.{IfErr};
 ghost use Rattle.lp_fixity.specs.Table.{Extends, entry_of};
-ghost use Rattle.lp_syntax.specs.Tokens.{lexemes, spot_at};
+ghost use Rattle.lp_syntax.specs.Tokens.{lexemes, class_at, spot_at};
 ghost use Rattle.lp_syntax.specs.Symbols.{Tree};
 ghost use Rattle.lp_syntax.specs.Queries.{IsQuery, IsQueryText, IsQueryRefusal, IsGiven};
 
@@ -17,15 +22,46 @@ use lp_fixity::{FixFault, Fixity, Table};
 use lp_lexer::Token;
 use std::alloc::Global;
 
-fn is_word(class: Class) -> bool {
+fn is_word(class: Class) -> bool
+    ensures { result ≡ is_word class }
+{
     matches!(class, Class::Lower | Class::Upper)
 }
 
-// The name in the header, and the number of the token behind its full stop.
-fn header(input: &Input<'_>, keyword: Keyword) -> Result<(Spot, usize), SyntaxFault>
-    ensures within { IfOk result (λ r. r.1 ≤ length input.now.tokens.now) }
+fn is_sig(found: Class) -> bool
+    ensures yes { result ≡ true → found ≡ class.Keyword keyword.Sig }
+    ensures no { result ≡ false → found ≢ class.Keyword keyword.Sig }
 {
-    if input.class(0) != Class::Keyword(keyword) {
+    matches!(found, Class::Keyword(Keyword::Sig))
+}
+
+fn is_module(found: Class) -> bool
+    ensures yes { result ≡ true → found ≡ class.Keyword keyword.Module }
+    ensures no { result ≡ false → found ≢ class.Keyword keyword.Module }
+{
+    matches!(found, Class::Keyword(Keyword::Module))
+}
+
+// `sig` or `module`.
+fn is_title(found: Class, signature: bool) -> bool
+    ensures yes { result ≡ true → found ≡ class.Keyword (title signature) }
+    ensures no { result ≡ false → found ≢ class.Keyword (title signature) }
+{
+    if signature {
+        return is_sig(found);
+    }
+    is_module(found)
+}
+
+// The name in the header, and the number of the token behind its full stop.
+fn header(input: &Input<'_>, signature: bool) -> Result<(Spot, usize), SyntaxFault>
+    ensures within { IfOk result (λ r. r.1 ≤ length input.now.tokens.now) }
+    ensures end { IfOk result (λ r. r.1 ≡ 3) }
+    ensures name { IfOk result (λ r. r.0 ≡ spot_at input.now.file input.now.source.now input.now.tokens.now 1) }
+    ensures header { IfOk result (λ r. IsHeader (lexemes input.now.source.now input.now.tokens.now) (title signature)) }
+    ensures fault { IfErr result (λ f. StopsIn (spot_at input.now.file input.now.source.now input.now.tokens.now) (lexemes input.now.source.now input.now.tokens.now) (AtHeader (title signature)) 0 f) }
+{
+    if !is_title(input.class(0), signature) {
         return Err(input.refusal(0, None));
     }
     if !is_word(input.class(1)) {
@@ -36,7 +72,9 @@ fn header(input: &Input<'_>, keyword: Keyword) -> Result<(Spot, usize), SyntaxFa
 }
 
 // What a module has and a signature has not.
-fn is_local(keyword: Keyword) -> bool {
+fn is_local(keyword: Keyword) -> bool
+    ensures { result ≡ is_local_word keyword }
+{
     matches!(
         keyword,
         Keyword::Local | Keyword::Localkind | Keyword::Accumulate
@@ -52,6 +90,8 @@ fn signature_line(
     requires { at < length input.now.tokens.now }
     ensures within { IfOk result (λ r. r.1 ≤ length input.now.tokens.now) }
     ensures further { IfOk result (λ r. at < r.1) }
+    ensures line { IfOk result (λ r. IsLineText (spot_at input.now.file input.now.source.now input.now.tokens.now) (lexemes input.now.source.now input.now.tokens.now) at r.1 r.0) }
+    ensures fault { IfErr result (IsLineRefusal (spot_at input.now.file input.now.source.now input.now.tokens.now) (lexemes input.now.source.now input.now.tokens.now) at) }
 {
     match input.class(at) {
         Class::Keyword(keyword) => {
@@ -64,22 +104,22 @@ fn signature_line(
     }
 }
 
-/// The signature that these tokens are.
-///
-/// # Errors
-/// The first fault of the text.
-pub fn signature_text(
+// The signature that these tokens are.
+fn read_signature(
     alloc: Global,
     source: &[u8],
     tokens: &[Token],
     file: u32,
-) -> Result<SignatureText, SyntaxFault> {
+) -> Result<SignatureText, SyntaxFault>
+    ensures tree { IfOk result (IsSignatureText (spot_at file source.now tokens.now) (lexemes source.now tokens.now)) }
+    ensures fault { IfErr result (IsSignatureRefusal (spot_at file source.now tokens.now) (lexemes source.now tokens.now)) }
+{
     let input = Input {
         source,
         tokens,
         file,
     };
-    let (header, first) = header(&input, Keyword::Sig)?;
+    let (header, first) = header(&input, true)?;
     let mut lines = Vec::new(alloc);
     let mut at = first;
     'over: while at < tokens.len() {
@@ -88,6 +128,23 @@ pub fn signature_text(
         at = end;
     }
     Ok(SignatureText { header, lines })
+}
+
+/// The signature that these tokens are.
+///
+/// # Errors
+/// The first fault of the text, the limit of nesting behind the line of a type, or want of memory.
+pub fn signature_text(
+    alloc: Global,
+    source: &[u8],
+    tokens: &[Token],
+    file: u32,
+) -> Result<SignatureText, SyntaxFault>
+    ensures tree { IfOk result (IsSignatureText (spot_at file source.now tokens.now) (lexemes source.now tokens.now)) }
+    ensures only { (ds : List Line) → IsSignature (lexemes source.now tokens.now) ds → IsGivenLines (spot_at file source.now tokens.now) (lexemes source.now tokens.now) ds result }
+    ensures fault { IfErr result (IsSignatureRefusal (spot_at file source.now tokens.now) (lexemes source.now tokens.now)) }
+{
+    read_signature(alloc, source, tokens, file)
 }
 
 fn declare_one(
@@ -161,7 +218,7 @@ pub fn module_text(
         tokens,
         file,
     };
-    let (header, first) = header(&input, Keyword::Module)?;
+    let (header, first) = header(&input, false)?;
     let mut lines = Vec::new(alloc);
     let mut at = first;
     'over: while at < tokens.len() {

@@ -1,4 +1,4 @@
-use Rattle.std.proofs.Common.{◌≡◌, ◌≤◌, length, take}
+use Rattle.std.proofs.Common.{take}
 use Rattle.lp_syntax.specs.Tokens.{lexemes, spot_at}
 use Rattle.lp_syntax.specs.Raw.{AreRaw}
 use Rattle.lp_syntax.proofs.finish.raw_nodes.Given as goal

@@ -1,8 +1,8 @@
-use Rattle.std.proofs.Common.{◌≡◌, ◌≤◌, ◌+◌, ◌++◌, [], ◌∷◌, length, refl, sym, ap, ◌∙◌, subst, arith, is_ok}
-use Rattle.std.proofs.ResultArms.{chosen}
-use Rattle.std.proofs.lemmas.Grind.{common_steps}
-use Rattle.lp_syntax.specs.Tokens.{lexemes, spot_at, class_at}
-use Rattle.lp_syntax.specs.Declarations.{KindFront, no_argument, argument, IsKindText}
+use Rattle.std.proofs.Common.{refl, arith}
+use Rattle.lp_syntax.specs.Tokens.{lexemes, spot_at}
+use Rattle.lp_syntax.specs.Declarations.{no_argument, argument}
+use Rattle.lp_syntax.proofs.Tokens.{length_lexemes}
+use Rattle.lp_syntax.proofs.LineCode.{kind_stops}
 use Rattle.lp_syntax.proofs.parts.kind.Goals as goal
 
 pub over-init : goal.over-init
@@ -21,3 +21,10 @@ over-preserved c =
       from = omega (arith, f);
       front = argument c.over.at _ c.over.arguments _ v.front (c.over-test.ensures.class refl) (c.if-not-is_arrow.ensures.class refl) refl c.saturating_add-arguments.ensures;
     }
+
+pub returns-clause-fault : goal.returns-clause-fault
+returns-clause-fault c =
+    let v = c.over.invariant in
+    let w = v.within in
+    let e = length_lexemes c.args.input.now.source.now c.args.input.now.tokens.now in
+    kind_stops (spot_at c.args.input.now.file c.args.input.now.source.now c.args.input.now.tokens.now) (lexemes c.args.input.now.source.now c.args.input.now.tokens.now) c.args.from c.over.at _ _ v.front (c.over-test.ensures.no refl) (omega (arith, w, e)) c.refusal.ensures

@@ -1,4 +1,4 @@
-use Rattle.std.proofs.Common.{◌≤◌, ◌-◌, ◌+◌, length}
+use Rattle.std.proofs.Common.{◌≤◌, ◌-◌, length}
 use Rattle.lp_syntax.specs.Tokens.{lexemes}
 use Rattle.lp_syntax.specs.Declarations.{KindFront}
 use Rattle.lp_syntax.proofs.parts.kind.Given as goal

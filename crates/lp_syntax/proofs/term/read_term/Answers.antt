@@ -1,4 +1,4 @@
-use Rattle.std.proofs.Common.{◌≡◌, ◌≤◌, length, arith}
+use Rattle.std.proofs.Common.{arith}
 use Rattle.lp_fixity.specs.Table.{entry_of}
 use Rattle.lp_syntax.specs.Tokens.{lexemes}
 use Rattle.lp_syntax.proofs.Tokens.{length_lexemes}

@@ -1,8 +1,7 @@
-use Rattle.std.proofs.Common.{◌≡◌, ◌<◌, ◌≤◌, ◌+◌, ◌⊎◌, inl, inr, length, refl, sym, ap, ◌∙◌, arith}
+use Rattle.std.proofs.Common.{◌<◌, ◌+◌, inr, length, arith}
 use Rattle.std.proofs.lemmas.Grind.{common_steps}
 use Rattle.lp_fixity.specs.Table.{entry_of}
-use Rattle.lp_syntax.specs.declared.class.Class.TheVariants.{Dot}
-use Rattle.lp_syntax.specs.Tokens.{lexemes, spot_at, class_at}
+use Rattle.lp_syntax.specs.Tokens.{lexemes, spot_at}
 use Rattle.lp_syntax.proofs.Tokens.{length_lexemes}
 use Rattle.lp_syntax.proofs.QueryFaults.{passed_query, tail_refused, is_at_dot}
 use Rattle.lp_syntax.proofs.whole.read_query.Goals as goal

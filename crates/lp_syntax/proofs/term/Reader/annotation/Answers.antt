@@ -1,4 +1,4 @@
-use Rattle.std.proofs.Common.{◌≡◌, ◌≢◌, ◌<◌, ◌≤◌, ◌+◌, length, refl, sym, ap, ◌∙◌, subst, arith, inr}
+use Rattle.std.proofs.Common.{◌≢◌, ◌≤◌, ◌+◌, length, ap, ◌∙◌, subst, arith, inr}
 use Rattle.std.proofs.lemmas.Grind.{common_steps}
 use Rattle.lp_syntax.specs.declared.class.Class.TheVariants.{Backslash}
 use Rattle.lp_syntax.specs.Ends.{IsFrom, IsUpTo}

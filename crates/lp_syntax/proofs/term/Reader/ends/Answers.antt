@@ -1,4 +1,4 @@
-use Rattle.std.proofs.Common.{subst, ◌≡◌, refl, sym, ap, ◌∙◌, inr}
+use Rattle.std.proofs.Common.{subst, refl, sym, ap, ◌∙◌, inr}
 use Rattle.lp_fixity.specs.Table.{entry_of}
 use Rattle.lp_syntax.specs.Nodes.{trees, maybe}
 use Rattle.lp_syntax.specs.Raw.{AreRaw}

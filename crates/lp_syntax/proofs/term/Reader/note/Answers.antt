@@ -1,10 +1,10 @@
-use Rattle.std.proofs.Common.{◌≡◌, ◌<◌, length, refl, sym, ap, ◌∙◌, arith, inl, inr}
+use Rattle.std.proofs.Common.{arith}
 use Rattle.lp_fixity.specs.Table.{entry_of}
 use Rattle.lp_syntax.specs.Tokens.{lexemes, spot_at}
 use Rattle.lp_syntax.specs.Terms.{TermFault}
 use Rattle.lp_syntax.specs.TermViews.{NoteFault}
 use Rattle.lp_syntax.proofs.Tokens.{length_lexemes}
-use Rattle.lp_syntax.proofs.TermSteps.{note_reads, note_faults, memory_or, passed_on}
+use Rattle.lp_syntax.proofs.TermSteps.{note_reads, note_faults, passed_on}
 use Rattle.lp_syntax.proofs.term.Reader.note.Goals as goal
 
 pub returns-in_err-end-clause-fault : goal.returns-in_err-end-clause-fault

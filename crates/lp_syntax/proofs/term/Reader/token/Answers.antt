@@ -1,4 +1,4 @@
-use Rattle.std.proofs.Common.{◌≡◌, ◌<◌, length, refl, sym, ap, ◌∙◌, arith, inl, inr}
+use Rattle.std.proofs.Common.{sym, ap, ◌∙◌, arith, inr}
 use Rattle.lp_fixity.specs.Table.{entry_of}
 use Rattle.lp_syntax.specs.declared.symbol.Fault.TheVariants.{Unexpected, Ambiguous}
 use Rattle.lp_syntax.specs.declared.held.Step.TheVariants.{Stops}
@@ -15,7 +15,7 @@ pub returns-in_ok-follow-in-Goes-clause-reading : goal.returns-in_ok-follow-in-G
 returns-in_ok-follow-in-Goes-clause-reading c =
     let e = length_lexemes c.args.input.now.source.now c.args.input.now.tokens.now in
     let l = c.requires.at in
-    token_reads (entry_of c.args.table.now) (lexemes c.args.input.now.source.now c.args.input.now.tokens.now) c.args.self.now c.args.doing c.in-Goes.next c.args.at c.step.new.nodes c.step.new.frames c.follow.new.open c.symbol.result c.in_ok-next.field-0 c.requires.reading (omega (arith, e, l)) c.requires.plain c.symbol.ensures c.in-Goes.is c.in_ok-next.ensures
+    token_reads (entry_of c.args.table.now) (lexemes c.args.input.now.source.now c.args.input.now.tokens.now) c.args.self.now c.args.doing c.in-Goes.next c.args.at c.step.new.nodes c.step.new.frames c.follow.new.opens c.symbol.result c.in_ok-next.field-0 c.requires.reading (omega (arith, e, l)) c.requires.plain c.symbol.ensures c.in-Goes.is c.in_ok-next.ensures
     (c.in_ok-follow-in-Goes.ensures ∙ ap (λ k. open_behind c.args.at k c.args.self.now.opens.items) c.class.ensures)
 
 pub returns-in-Stops-Unexpected-clause-fault : goal.returns-in-Stops-Unexpected-clause-fault

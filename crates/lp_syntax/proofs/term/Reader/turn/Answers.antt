@@ -1,4 +1,4 @@
-use Rattle.std.proofs.Common.{◌≡◌, ◌<◌, length, refl, sym, ap, ◌∙◌, arith, inl, inr}
+use Rattle.std.proofs.Common.{sym, ◌∙◌, arith, inr}
 use Rattle.std.specs.Prelude.{Some}
 use Rattle.lp_fixity.specs.Table.{entry_of}
 use Rattle.lp_syntax.specs.declared.symbol.Fault.TheVariants.{Unexpected}

@@ -1,4 +1,4 @@
-use Rattle.std.proofs.Common.{◌≡◌, ◌++◌, ◌+◌, [], ◌∷◌, refl, sym, ◌∙◌, ap, subst}
+use Rattle.std.proofs.Common.{◌≡◌, sym, ◌∙◌, ap, subst}
 use Rattle.std.specs.Prelude.{IfOk}
 use Rattle.lp_syntax.specs.Tokens.{lexemes, spot_at, class_at}
 use Rattle.lp_syntax.specs.declared.types.Waiting.TheVariants.{Argument}

@@ -1,4 +1,4 @@
-use Rattle.std.proofs.Common.{◌≡◌, ◌++◌, ◌+◌, [], ◌∷◌, refl, sym, ◌∙◌, ap, subst, is_ok}
+use Rattle.std.proofs.Common.{◌+◌, sym, ap, subst, is_ok}
 use Rattle.std.proofs.ResultArms.{chosen}
 use Rattle.lp_syntax.specs.Tokens.{lexemes, spot_at}
 use Rattle.lp_syntax.specs.TypeHeld.{type_text, IsApplied}

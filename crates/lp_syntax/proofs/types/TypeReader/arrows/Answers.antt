@@ -1,6 +1,5 @@
-use Rattle.std.proofs.Common.{◌≡◌, ◌++◌, ◌+◌, [], ◌∷◌, refl, sym, ◌∙◌, ap, subst, is_ok}
+use Rattle.std.proofs.Common.{ap, is_ok}
 use Rattle.std.proofs.ResultArms.{chosen}
-use Rattle.lp_syntax.specs.Tokens.{lexemes, spot_at}
 use Rattle.lp_syntax.specs.declared.types.Waiting.TheVariants.{Arrow}
 use Rattle.lp_syntax.proofs.TypeSteps.{pushed_waits}
 use Rattle.lp_syntax.proofs.types.TypeReader.arrows.Goals as goal

@@ -1,6 +1,5 @@
-use Rattle.std.proofs.Common.{◌≡◌, ◌++◌, ◌+◌, [], ◌∷◌, refl, sym, ◌∙◌, ap, subst, is_ok}
+use Rattle.std.proofs.Common.{ap, subst, is_ok}
 use Rattle.std.proofs.ResultArms.{chosen}
-use Rattle.lp_syntax.specs.Tokens.{lexemes, spot_at}
 use Rattle.lp_syntax.specs.TypeHeld.{IsFolded}
 use Rattle.lp_syntax.proofs.TypeTrees.{closes_group, closes_argument}
 use Rattle.lp_syntax.proofs.types.TypeReader.closes.Goals as goal

@@ -1,6 +1,4 @@
-use Rattle.std.proofs.Common.{◌≡◌, ◌++◌, ◌+◌, [], ◌∷◌, refl, sym, ◌∙◌, ap, subst, is_ok}
-use Rattle.std.proofs.ResultArms.{chosen}
-use Rattle.lp_syntax.specs.Tokens.{lexemes, spot_at}
+use Rattle.std.proofs.Common.{subst}
 use Rattle.lp_syntax.specs.TypeHeld.{IsFolded}
 use Rattle.lp_syntax.proofs.types.TypeReader.ends.Goals as goal
 

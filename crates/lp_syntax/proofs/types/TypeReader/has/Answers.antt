@@ -1,9 +1,8 @@
-use Rattle.std.proofs.Common.{◌≡◌, ◌++◌, ◌+◌, [], ◌∷◌, refl, sym, ◌∙◌, ap, subst, is_ok}
-use Rattle.std.proofs.ResultArms.{chosen}
+use Rattle.std.proofs.Common.{◌≡◌, sym, ◌∙◌, ap, subst}
 use Rattle.lp_syntax.specs.Tokens.{lexemes, spot_at}
 use Rattle.std.specs.Prelude.{IfOk}
 use Rattle.lp_syntax.specs.declared.types.Waiting.TheVariants.{Arrow}
-use Rattle.lp_syntax.specs.TypeMachine.{left, type_has}
+use Rattle.lp_syntax.specs.TypeMachine.{type_has}
 use Rattle.lp_syntax.specs.TypeViews.{waits_of, turn_of}
 use Rattle.lp_syntax.specs.TypeHeld.{type_text}
 use Rattle.lp_syntax.proofs.TypeTrees.{takes_arrow, whole_of, turned_due, has_left}

@@ -1,5 +1,4 @@
-use Rattle.std.proofs.Common.{◌≡◌, ◌++◌, ◌+◌, [], ◌∷◌, refl, sym, ◌∙◌, ap, subst, is_ok}
-use Rattle.std.proofs.ResultArms.{chosen}
+use Rattle.std.proofs.Common.{◌+◌, sym, ◌∙◌, subst}
 use Rattle.lp_syntax.specs.Tokens.{lexemes, spot_at}
 use Rattle.lp_syntax.specs.declared.types.Waiting.TheVariants.{Group}
 use Rattle.lp_syntax.specs.TypeHeld.{type_text, IsBuilt}
