@@ -1,2 +1,5 @@
 pub mod Keeps
+pub mod Finding
 pub mod Undeclared
+pub mod Scanning
+pub mod Refusing

@@ -1,82 +1,66 @@
--- Which names are found to be undeclared.
-use Rattle.std.proofs.Common.{◌≡◌, ℕ, zero, suc, ◌<◌, List, [], ◌∷◌, ◌++◌, length, get_or, refl, sym, ap, subst, ◌∙◌, arith, Option, Some, None, inl, inr, Result, Ok, Err}
-use Rattle.std.specs.Prelude.{Contains, ◌⊎◌, IfErr}
-use Rattle.std.specs.Result.{IsErrAnd}
-use Rattle.std.proofs.lemmas.List.Elements.{Contains-append_left, Contains-append_right}
+-- The words of an annotation are looked at one by one.
+use Rattle.std.proofs.Common.{◌≡◌, ℕ, zero, suc, ◌+◌, ◌≤◌, ◌<◌, List, [], ◌∷◌, ◌++◌, length, get_or, take, refl, sym, ap, subst, ◌∙◌, arith, Option, Some, None, inl, inr}
+use Rattle.std.specs.Prelude.{Contains, ◌⊎◌}
+use Rattle.std.proofs.Math.Seq.{take-suc}
+use Rattle.std.proofs.lemmas.List.{append-nil}
+use Rattle.std.proofs.lemmas.List.Elements.{Contains-append_left, Contains-append_right, Contains-append_cases}
 use Rattle.lp_base.specs.declared.place.Spot.{Spot}
-use Rattle.lp_syntax.specs.declared.text.RawNode.{RawNode}
-use Rattle.lp_syntax.specs.declared.text.RawNode.TheVariants.{Name, Known, Number, Text, App, Abs}
-use Rattle.lp_syntax.specs.declared.text.RawType.{RawType}
 use Rattle.lp_syntax.specs.declared.text.RawTypeNode.{RawTypeNode}
 use Rattle.lp_syntax.specs.declared.text.RawTypeNode.TheVariants.{Word, Arrow}
-use Rattle.lp_syntax.specs.declared.text.RawTerm.{RawTerm}
-use Rattle.lp_sig.specs.declared.signature.Signature.{Signature}
-use Rattle.lp_sig.specs.Pieces.{spelled}
 use Rattle.lp_sig.specs.Refusals.{words_of}
-use Rattle.lp_infer.specs.Names.{names_of, note_words, noted_words, IsNoConstant, IsNoKind, IfUndeclared}
-use Rattle.lp_infer.specs.Refusals.{IsRefusal}
-use Rattle.lp_infer.specs.declared.fault.InferFault.{InferFault}
-use Rattle.lp_infer.specs.declared.fault.InferFault.TheVariants as fault
+use Rattle.lp_infer.specs.Scanning.{Finds}
+use Rattle.lp_infer.proofs.Finding.{finds_as, finds_then, finds_none}
 
-in_front : (x : Spot) (xs : List Spot) → Contains (x ∷ xs) x
-in_front x xs = (0, omega arith, refl)
+pub no_words : (s : Spot) → Contains [] s → ⊥
+no_words s c = omega (arith, c.1)
 
-behind : (x s : Spot) (xs : List Spot) → Contains xs s → Contains (x ∷ xs) s
-behind x s xs c = (suc c.0, omega (arith, c.1), c.2)
+one_word : (x s : Spot) → Contains (x ∷ []) s → s ≡ x
+one_word x s c = only x s c.0 c.1 c.2 where
+  only : (x s : Spot) (i : ℕ) → i < 1 → get_or (x ∷ []) i s ≡ s → s ≡ x
+  only x s zero h e = sym e
+  only x s (suc i) h e = absurd (omega (arith, h))
 
-more_words : (n : RawTypeNode) (s : Spot) (ns : List RawTypeNode) → Contains (words_of ns) s → Contains (words_of (n ∷ ns)) s
-more_words (Word t args) s ns c = behind t s (words_of ns) c
-more_words (Arrow a b) s ns c = c
+words_append : (ms ns : List RawTypeNode) → words_of (ms ++ ns) ≡ words_of ms ++ words_of ns
+words_append [] ns = refl
+words_append (Word t args ∷ ms) ns = ap (λ l. t ∷ l) (words_append ms ns)
+words_append (Arrow a b ∷ ms) ns = words_append ms ns
 
--- a word of a type is among its words
-pub word_among : (ns : List RawTypeNode) (i : ℕ) (n : RawTypeNode) (s : Spot) (args : _) → i < length ns → n ≡ get_or ns i n → n ≡ Word s args → Contains (words_of ns) s
-word_among [] i n s args h at is = absurd (omega (arith, h))
-word_among (m ∷ ns) zero n s args h at is = subst (λ m. Contains (words_of (m ∷ ns)) s) (sym is ∙ at) (in_front s (words_of ns))
-word_among (m ∷ ns) (suc i) n s args h at is = more_words m s ns (word_among ns i n s args (omega (arith, h)) at is)
+one_behind : (i : ℕ) → i + 1 ≡ suc i
+one_behind i = omega arith
 
-more_names : (n : RawNode) (s : Spot) (ns : List RawNode) → Contains (names_of ns) s → Contains (names_of (n ∷ ns)) s
-more_names (Name t) s ns c = behind t s (names_of ns) c
-more_names (Known k t) s ns c = c
-more_names (Number z t) s ns c = c
-more_names (Text t) s ns c = c
-more_names (App f a) s ns c = c
-more_names (Abs t note b) s ns c = c
+-- the words of one node more
+pub one_more : (ns : List RawTypeNode) (i : ℕ) (n : RawTypeNode) → i < length ns → n ≡ get_or ns i n → words_of (take (i + 1) ns) ≡ words_of (take i ns) ++ words_of (n ∷ [])
+one_more ns i n h at = ap (λ k. words_of (take k ns)) (one_behind i) ∙ ap words_of (take-suc ns i n h) ∙ words_append (take i ns) (get_or ns i n ∷ []) ∙ ap (λ m. words_of (take i ns) ++ words_of (m ∷ [])) (sym at)
 
-pub name_among : (ns : List RawNode) (i : ℕ) (n : RawNode) (s : Spot) → i < length ns → n ≡ get_or ns i n → n ≡ Name s → Contains (names_of ns) s
-name_among [] i n s h at is = absurd (omega (arith, h))
-name_among (m ∷ ns) zero n s h at is = subst (λ m. Contains (names_of (m ∷ ns)) s) (sym is ∙ at) (in_front s (names_of ns))
-name_among (m ∷ ns) (suc i) n s h at is = more_names m s ns (name_among ns i n s (omega (arith, h)) at is)
+-- a word that is looked at
+pub word_step : (K : Spot → Type 0) (ws more : List Spot) (a b c : Option Spot) (t : Spot) → more ≡ ws ++ t ∷ [] → Finds (λ s. Contains ws s × K s) a b → Finds (λ s. (s ≡ t) × K s) b c → Finds (λ s. Contains more s × K s) a c
+word_step K ws more a b c t e first second =
+    finds_then (λ s. Contains ws s × K s) (λ s. (s ≡ t) × K s) (λ s. Contains more s × K s) a b c
+    (λ s q. (subst (λ l. Contains l s) (sym e) (Contains-append_left ws (t ∷ []) s q.0), q.1))
+    (λ s q. (subst (λ l. Contains l s) (sym e) (Contains-append_right ws (t ∷ []) s (subst (λ x. Contains (x ∷ []) s) q.0 (0, omega arith, refl))), q.1))
+    (λ s q. parted s q.1 (Contains-append_cases ws (t ∷ []) s (subst (λ l. Contains l s) e q.0)))
+    first second where
+      parted : (s : Spot) → K s → Contains ws s ⊎ Contains (t ∷ []) s → (Contains ws s × K s) ⊎ ((s ≡ t) × K s)
+      parted s k (inl c) = inl (c, k)
+      parted s k (inr c) = inr (one_word t s c, k)
 
-more_notes : (n : RawNode) (s : Spot) (ns : List RawNode) → Contains (noted_words ns) s → Contains (noted_words (n ∷ ns)) s
-more_notes (Name t) s ns c = c
-more_notes (Known k t) s ns c = c
-more_notes (Number z t) s ns c = c
-more_notes (Text t) s ns c = c
-more_notes (App f a) s ns c = c
-more_notes (Abs t note b) s ns c = Contains-append_right (note_words note) (noted_words ns) s c
+-- a node that is no word
+pub arrow_step : (K : Spot → Type 0) (ws more : List Spot) (a b c : Option Spot) → more ≡ ws → c ≡ b → Finds (λ s. Contains ws s × K s) a b → Finds (λ s. Contains more s × K s) a c
+arrow_step K ws more a b c e same found = subst (λ l. Finds (λ s. Contains l s × K s) a c) (sym e) (subst (Finds (λ s. Contains ws s × K s) a) (sym same) found)
 
-pub note_among : (ns : List RawNode) (i : ℕ) (n : RawNode) (t : Spot) (note : Option RawType) (b : ℕ) (s : Spot) → i < length ns → n ≡ get_or ns i n → n ≡ Abs t note b → Contains (note_words note) s → Contains (noted_words ns) s
-note_among [] i n t note b s h at is c = absurd (omega (arith, h))
-note_among (m ∷ ns) zero n t note b s h at is c = subst (λ m. Contains (noted_words (m ∷ ns)) s) (sym is ∙ at) (Contains-append_left (note_words note) (noted_words ns) s c)
-note_among (m ∷ ns) (suc i) n t note b s h at is c = more_notes m s ns (note_among ns i n t note b s (omega (arith, h)) at is c)
+pub no_word : (ws : List Spot) (n : RawTypeNode) → ((s : Spot) (args : _) → n ≡ Word s args → ⊥) → ws ++ words_of (n ∷ []) ≡ ws
+no_word ws (Word t args) none = absurd (none t args refl)
+no_word ws (Arrow a b) none = append-nil ws
 
--- a fault among more words
-pub note_step : (K : Spot → Type 0) (words : List Spot) (start before now : Option Spot) (s : Spot) → (now ≡ before) ⊎ ((now ≡ Some s) × K s) → Contains words s → (before ≡ start) ⊎ ((t : Spot) × (before ≡ Some t) × Contains words t × K t) → (now ≡ start) ⊎ ((t : Spot) × (now ≡ Some t) × Contains words t × K t)
-note_step K words start before now s (inl e) c (inl g) = inl (e ∙ g)
-note_step K words start before now s (inl e) c (inr (t, g, d, k)) = inr (t, e ∙ g, d, k)
-note_step K words start before now s (inr (e, k)) c old = inr (s, e, c, k)
+pub has_word : (ws : List Spot) (n : RawTypeNode) (s : Spot) (args : _) → n ≡ Word s args → ws ++ words_of (n ∷ []) ≡ ws ++ s ∷ []
+has_word ws n s args is = ap (λ m. ws ++ words_of (m ∷ [])) is
 
--- a name that is placed
-pub name_step : (sig : Signature) (text : List ℕ) (ns : List RawNode) (before now : Option Spot) (s : Spot) → (now ≡ before) ⊎ ((now ≡ Some s) × IsNoConstant sig (spelled text s)) → Contains (names_of ns) s → IfUndeclared sig text ns before → IfUndeclared sig text ns now
-name_step sig text ns before now s (inl e) c old = subst (IfUndeclared sig text ns) (sym e) old
-name_step sig text ns before now s (inr (e, k)) c old = subst (IfUndeclared sig text ns) (sym e) (inl (c, k))
+take_all : (ns : List RawTypeNode) (i : ℕ) → length ns ≤ i → take i ns ≡ ns
+take_all [] zero h = refl
+take_all [] (suc i) h = refl
+take_all (n ∷ ns) zero h = absurd (omega (arith, h))
+take_all (n ∷ ns) (suc i) h = ap (λ l. n ∷ l) (take_all ns i (omega (arith, h)))
 
--- an abstraction that is entered
-pub binder_step : (sig : Signature) (text : List ℕ) (ns : List RawNode) (note : Option RawType) (before now : Option Spot) → ((s : Spot) → Contains (note_words note) s → Contains (noted_words ns) s) → (now ≡ before) ⊎ ((s : Spot) × (now ≡ Some s) × Contains (note_words note) s × IsNoKind sig (spelled text s)) → IfUndeclared sig text ns before → IfUndeclared sig text ns now
-binder_step sig text ns note before now f (inl e) old = subst (IfUndeclared sig text ns) (sym e) old
-binder_step sig text ns note before now f (inr (s, e, c, k)) old = subst (IfUndeclared sig text ns) (sym e) (inr (f s c, k))
-
--- want of memory is free
-pub for_memory : {T : Type 0} (sig : Signature) (text : List ℕ) (raw : RawTerm) (r : Result T InferFault) → IsErrAnd r (λ e. e ≡ fault.Memory) → IfErr r (IsRefusal sig text raw)
-for_memory sig text raw (Ok x) is = tt
-for_memory sig text raw (Err e) is = subst (IsRefusal sig text raw) (sym is) tt
+-- all words were looked at
+pub all_words : (ns : List RawTypeNode) (i : ℕ) → length ns ≤ i → words_of (take i ns) ≡ words_of ns
+all_words ns i past = ap words_of (take_all ns i past)

@@ -1,2 +1,4 @@
 pub mod Names
+pub mod Scope
+pub mod Scanning
 pub mod Refusals

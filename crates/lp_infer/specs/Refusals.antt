@@ -1,16 +1,20 @@
 -- Why a text has no typing, and at which spot; and what stands in the bank where it has one.
-use Rattle.std.specs.Prelude.{◌≡◌, ℕ, ◌<◌, List, length, All}
+use Rattle.std.specs.Prelude.{◌≡◌, ℕ, ◌<◌, List, length, All, Some, None}
 use Rattle.lp_term.specs.Nodes.{Nodes}
 use Rattle.lp_syntax.specs.declared.text.RawTerm.{RawTerm}
 use Rattle.lp_model.specs.declared.program.Typed.{Typed}
 use Rattle.lp_sig.specs.declared.signature.Signature.{Signature}
-use Rattle.lp_infer.specs.Names.{IsUndeclared}
+use Rattle.lp_infer.specs.Scope.{IsFirstUndeclared}
 use Rattle.lp_infer.specs.declared.fault.InferFault.{InferFault}
 use Rattle.lp_infer.specs.declared.fault.InferFault.TheVariants as fault
 
+-- each name of the text is declared
+abbrev pub IsDeclared : Signature → List ℕ → RawTerm → Type 0
+IsDeclared sig text raw = IsFirstUndeclared sig text raw.nodes.items raw.root None
+
 abbrev pub IsRefusal : Signature → List ℕ → RawTerm → InferFault → Type 0
-IsRefusal sig text raw (fault.Undeclared s) = IsUndeclared sig text raw.nodes.items s
-IsRefusal sig text raw (fault.NoTyping s) = s ≡ raw.first
+IsRefusal sig text raw (fault.Undeclared s) = IsFirstUndeclared sig text raw.nodes.items raw.root (Some s)
+IsRefusal sig text raw (fault.NoTyping s) = (s ≡ raw.first) × IsDeclared sig text raw
 IsRefusal sig text raw fault.Memory = Unit {0}
 
 -- the formula and the types of the variables stand in the bank

@@ -1,6 +1,6 @@
 // The typing of a text.
 ghost use Rattle.std.specs.Prelude.{◌≡◌, ◌<◌, length, true, All, IfOk, IfErr};
-ghost use Rattle.lp_infer.specs.Refusals.{IsRefusal, Stands};
+ghost use Rattle.lp_infer.specs.Refusals.{IsDeclared, IsRefusal, Stands};
 ghost use Rattle.lp_term.specs.Nodes.{Extends};
 ghost use Rattle.lp_equations.specs.Reading.{AreKept, IsPair};
 
@@ -120,6 +120,7 @@ pub fn type_formula(
 ) -> Result<Typed, InferFault>
     ensures kept { Extends bank.old bank.new }
     ensures stands { IfOk result (Stands bank.new) }
+    ensures declared { IfOk result (λ _. IsDeclared signature.now source.now raw.now) }
     ensures refused { IfErr result (IsRefusal signature.now source.now raw.now) }
 {
     let names = names_of(alloc, signature, source, raw)?;
@@ -156,6 +157,7 @@ pub fn type_query(
 ) -> Result<Typed, InferFault>
     ensures kept { Extends bank.old bank.new }
     ensures stands { IfOk result (Stands bank.new) }
+    ensures declared { IfOk result (λ _. IsDeclared signature.now source.now raw.now.term) }
     ensures refused { IfErr result (IsRefusal signature.now source.now raw.now.term) }
 {
     type_formula(alloc, signature, source, &raw.term, bank)

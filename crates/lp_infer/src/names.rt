@@ -1,9 +1,11 @@
 // What each name of a text is.
-ghost use Rattle.std.specs.Prelude.{◌≡◌, ◌⊎◌, None, Some, IfOk, Contains, false};
+ghost use Rattle.std.specs.Prelude.{◌≡◌, ◌∷◌, ℕ, List, None, Some, IfOk, OnOk, Contains, false, reverse};
 ghost use Rattle.lp_sig.specs.Pieces.{spelled, begins_variable};
 ghost use Rattle.lp_sig.specs.Refusals.{words_of};
-ghost use Rattle.lp_base.specs.declared.place.Spot.{Spot};
-ghost use Rattle.lp_infer.specs.Names.{IsNoConstant, IsNoKind, IfUndeclared, note_words};
+ghost use Rattle.lp_infer.specs.Names.{IsNoConstant, IsNoKind, note_words};
+ghost use Rattle.lp_infer.specs.Scope.{IsFirstUndeclared};
+ghost use Rattle.lp_infer.specs.Scanning.{Finds, HasLevel, IsEntered, Scanned, level_in};
+ghost use Rattle.lp_infer.specs.declared.names.Task.TheVariants.{Visit};
 
 use indexmap::IndexMap;
 use lp_base::{Memory, Spot};
@@ -22,8 +24,10 @@ pub(crate) enum Leaf {
 
 #[derive(Clone, Copy)]
 enum Task {
+    // A node.
     Visit(usize),
-    Leave(usize),
+    // The end of the abstraction that binds the name here, with the level that the name has outside.
+    Leave(Spot, Option<u64>),
 }
 
 // The names of a text: what each node is, the places of its variables, and its first undeclared name.
@@ -34,13 +38,14 @@ pub(crate) struct Names {
     pub places: Vec<Spot>,
     pub fault: Option<Spot>,
     variables: IndexMap<Vec<u8>, u64>,
-    bound: IndexMap<Vec<u8>, Vec<u64>>,
+    // The level of the innermost abstraction that binds each name.
+    bound: IndexMap<Vec<u8>, Option<u64>>,
     depth: u64,
 }
 
 // The earlier of two spots.
 fn earlier(first: Option<Spot>, other: Spot) -> Option<Spot>
-    ensures { (result ≡ first) ⊎ (result ≡ Some other) }
+    ensures { Finds (λ s. s ≡ other) first result }
 {
     match first {
         Some(known) => {
@@ -54,12 +59,13 @@ fn earlier(first: Option<Spot>, other: Spot) -> Option<Spot>
 }
 
 impl Names {
-    fn new(alloc: Global) -> Names
-        ensures { result.fault ≡ None }
+    fn new(alloc: Global, leaves: Vec<Leaf>) -> Names
+        ensures fault { result.fault ≡ None }
+        ensures level { (name : List ℕ) → level_in result name ≡ None }
     {
         Names {
             alloc,
-            leaves: Vec::new(alloc),
+            leaves,
             places: Vec::new(alloc),
             fault: None,
             variables: IndexMap::new(alloc),
@@ -69,7 +75,8 @@ impl Names {
     }
 
     fn set(&mut self, node: usize, leaf: Leaf)
-        ensures { self.new.fault ≡ self.old.fault }
+        ensures fault { self.new.fault ≡ self.old.fault }
+        ensures bound { self.new.bound ≡ self.old.bound }
     {
         if let Some(slot) = self.leaves.get_mut(node) {
             *slot = leaf;
@@ -77,12 +84,27 @@ impl Names {
     }
 
     // The level of the innermost abstraction that binds a name.
-    fn level(&self, name: &[u8]) -> Option<u64> {
-        self.bound.get(name)?.as_slice().last().copied()
+    fn level(&self, name: &[u8]) -> Option<u64>
+        ensures { result ≡ level_in self.now name.now }
+    {
+        match self.bound.get(name) {
+            Some(level) => *level,
+            None => None,
+        }
+    }
+
+    fn set_level(&mut self, name: &[u8], level: Option<u64>) -> Result<(), Memory>
+        ensures fault { self.new.fault ≡ self.old.fault }
+        ensures level { OnOk result (HasLevel name.now level self.old self.new) }
+    {
+        let key = Vec::from_slice(self.alloc, name)?;
+        self.bound.insert(key, level)?;
+        Ok(())
     }
 
     fn add_variable(&mut self, spot: Spot) -> Result<u64, Memory>
-        ensures { self.new.fault ≡ self.old.fault }
+        ensures fault { self.new.fault ≡ self.old.fault }
+        ensures bound { self.new.bound ≡ self.old.bound }
     {
         let number = self.places.len() as u64;
         self.places.push(spot)?;
@@ -91,7 +113,8 @@ impl Names {
 
     // The number of a variable, a new one at its first place.
     fn variable(&mut self, name: &[u8], spot: Spot) -> Result<u64, Memory>
-        ensures { self.new.fault ≡ self.old.fault }
+        ensures fault { self.new.fault ≡ self.old.fault }
+        ensures bound { self.new.bound ≡ self.old.bound }
     {
         if let Some(number) = self.variables.get(name) {
             return Ok(*number);
@@ -105,7 +128,8 @@ impl Names {
     // What a name is that no abstraction binds and that is no variable.
     fn constant(&mut self, signature: &Signature, source: &[u8], spot: Spot) -> Leaf
         requires { begins_variable (spelled source.now spot) ≡ false }
-        ensures { (self.new.fault ≡ self.old.fault) ⊎ ((self.new.fault ≡ Some spot) × IsNoConstant signature.now (spelled source.now spot)) }
+        ensures fault { Finds (λ s. (s ≡ spot) × IsNoConstant signature.now (spelled source.now s)) self.old.fault self.new.fault }
+        ensures bound { self.new.bound ≡ self.old.bound }
     {
         let Some(number) = signature.constant(spelled_at(source, spot)) else {
             self.fault = earlier(self.fault, spot);
@@ -115,7 +139,8 @@ impl Names {
     }
 
     fn name(&mut self, signature: &Signature, source: &[u8], spot: Spot) -> Result<Leaf, Memory>
-        ensures { (self.new.fault ≡ self.old.fault) ⊎ ((self.new.fault ≡ Some spot) × IsNoConstant signature.now (spelled source.now spot)) }
+        ensures fault { Finds (λ s. (s ≡ spot) × (level_in self.old (spelled source.now s) ≡ None) × IsNoConstant signature.now (spelled source.now s)) self.old.fault self.new.fault }
+        ensures bound { self.new.bound ≡ self.old.bound }
     {
         let name = spelled_at(source, spot);
         if name == b"_".as_slice() {
@@ -134,7 +159,8 @@ impl Names {
 
     // A word of an annotation.
     fn check_word(&mut self, signature: &Signature, source: &[u8], spot: Spot)
-        ensures { (self.new.fault ≡ self.old.fault) ⊎ ((self.new.fault ≡ Some spot) × IsNoKind signature.now (spelled source.now spot)) }
+        ensures fault { Finds (λ s. (s ≡ spot) × IsNoKind signature.now (spelled source.now s)) self.old.fault self.new.fault }
+        ensures bound { self.new.bound ≡ self.old.bound }
     {
         let word = spelled_at(source, spot);
         if is_variable(word) {
@@ -151,7 +177,8 @@ impl Names {
 
     // The words of an annotation that are not declared.
     fn check_note(&mut self, signature: &Signature, source: &[u8], note: &RawType)
-        ensures { (self.new.fault ≡ self.old.fault) ⊎ ((s : Spot) × (self.new.fault ≡ Some s) × Contains (words_of note.now.nodes.items) s × IsNoKind signature.now (spelled source.now s)) }
+        ensures fault { Finds (λ s. Contains (words_of note.now.nodes.items) s × IsNoKind signature.now (spelled source.now s)) self.old.fault self.new.fault }
+        ensures bound { self.new.bound ≡ self.old.bound }
     {
         for node in &note.nodes {
             let RawTypeNode::Word(spot, _) = node else {
@@ -161,29 +188,25 @@ impl Names {
         }
     }
 
-    fn enter(&mut self, name: &[u8]) -> Result<(), Memory>
-        ensures { self.new.fault ≡ self.old.fault }
+    // Opens an abstraction that binds a name. Gives the level that the name had outside.
+    fn enter(&mut self, name: &[u8]) -> Result<Option<u64>, Memory>
+        ensures fault { self.new.fault ≡ self.old.fault }
+        ensures level { IfOk result (IsEntered name.now self.old self.new) }
     {
+        let outside = self.level(name);
         let level = self.depth;
         self.depth = self.depth.saturating_add(1);
-        if let Some(levels) = self.bound.get_mut(name) {
-            levels.push(level)?;
-            return Ok(());
-        }
-        let key = Vec::from_slice(self.alloc, name)?;
-        let mut levels = Vec::new(self.alloc);
-        levels.push(level)?;
-        self.bound.insert(key, levels)?;
-        Ok(())
+        self.set_level(name, Some(level))?;
+        Ok(outside)
     }
 
-    fn leave(&mut self, name: &[u8])
-        ensures { self.new.fault ≡ self.old.fault }
+    // Closes an abstraction whose name had this level outside.
+    fn leave(&mut self, name: &[u8], outside: Option<u64>) -> Result<(), Memory>
+        ensures fault { self.new.fault ≡ self.old.fault }
+        ensures level { OnOk result (HasLevel name.now outside self.old self.new) }
     {
         self.depth = self.depth.saturating_sub(1);
-        if let Some(levels) = self.bound.get_mut(name) {
-            levels.pop();
-        }
+        self.set_level(name, outside)
     }
 
     // A name, at its node.
@@ -194,7 +217,8 @@ impl Names {
         node: usize,
         spot: Spot,
     ) -> Result<(), Memory>
-        ensures { (self.new.fault ≡ self.old.fault) ⊎ ((self.new.fault ≡ Some spot) × IsNoConstant signature.now (spelled source.now spot)) }
+        ensures fault { Finds (λ s. (s ≡ spot) × (level_in self.old (spelled source.now s) ≡ None) × IsNoConstant signature.now (spelled source.now s)) self.old.fault self.new.fault }
+        ensures bound { self.new.bound ≡ self.old.bound }
     {
         let leaf = self.name(signature, source, spot)?;
         self.set(node, leaf);
@@ -208,8 +232,9 @@ impl Names {
         source: &[u8],
         spot: Spot,
         note: &Option<RawType>,
-    ) -> Result<(), Memory>
-        ensures { (self.new.fault ≡ self.old.fault) ⊎ ((s : Spot) × (self.new.fault ≡ Some s) × Contains (note_words note.now) s × IsNoKind signature.now (spelled source.now s)) }
+    ) -> Result<Option<u64>, Memory>
+        ensures fault { Finds (λ s. Contains (note_words note.now) s × IsNoKind signature.now (spelled source.now s)) self.old.fault self.new.fault }
+        ensures level { IfOk result (IsEntered (spelled source.now spot) self.old self.new) }
     {
         match note {
             None => self.enter(spelled_at(source, spot)),
@@ -228,7 +253,7 @@ impl Names {
         node: usize,
         work: &mut Vec<Task>,
     ) -> Result<(), Memory>
-        ensures { IfUndeclared signature.now source.now raw.now.nodes.items self.old.fault → IfUndeclared signature.now source.now raw.now.nodes.items self.new.fault }
+        ensures { OnOk result ((root : ℕ) → Scanned signature.now source.now raw.now.nodes.items root self.old (Visit node ∷ reverse work.old.items) → Scanned signature.now source.now raw.now.nodes.items root self.new (reverse work.new.items)) }
     {
         let Some(found) = raw.nodes.get(node) else {
             return Ok(());
@@ -245,20 +270,29 @@ impl Names {
                 Ok(())
             }
             RawNode::Abs(spot, note, body) => {
-                work.push(Task::Leave(node))?;
+                let outside = self.abstraction(signature, source, *spot, note)?;
+                work.push(Task::Leave(*spot, outside))?;
                 work.push(Task::Visit(*body))?;
-                self.abstraction(signature, source, *spot, note)
+                Ok(())
             }
             _ => Ok(()),
         }
     }
-}
 
-// The name that a node binds.
-fn binder<'a>(source: &'a [u8], raw: &RawTerm, node: usize) -> &'a [u8] {
-    match raw.nodes.get(node) {
-        Some(RawNode::Abs(spot, _, _)) => spelled_at(source, *spot),
-        _ => &[],
+    fn take(
+        &mut self,
+        signature: &Signature,
+        source: &[u8],
+        raw: &RawTerm,
+        task: Task,
+        work: &mut Vec<Task>,
+    ) -> Result<(), Memory>
+        ensures { OnOk result ((root : ℕ) → Scanned signature.now source.now raw.now.nodes.items root self.old (task ∷ reverse work.old.items) → Scanned signature.now source.now raw.now.nodes.items root self.new (reverse work.new.items)) }
+    {
+        match task {
+            Task::Leave(spot, outside) => self.leave(spelled_at(source, spot), outside),
+            Task::Visit(node) => self.visit(signature, source, raw, node, work),
+        }
     }
 }
 
@@ -269,20 +303,20 @@ pub(crate) fn names_of(
     source: &[u8],
     raw: &RawTerm,
 ) -> Result<Names, Memory>
-    ensures { IfOk result (λ names. IfUndeclared signature.now source.now raw.now.nodes.items names.fault) }
+    ensures { IfOk result (λ names. IsFirstUndeclared signature.now source.now raw.now.nodes.items raw.now.root names.fault) }
 {
-    let mut names = Names::new(alloc);
+    let mut leaves = Vec::new(alloc);
     for _ in 0..raw.nodes.len() {
-        names.leaves.push(Leaf::Other)?;
+        leaves.push(Leaf::Other)?;
     }
+    let mut names = Names::new(alloc, leaves);
     let mut work = Vec::new(alloc);
     work.push(Task::Visit(raw.root))?;
     for _ in 0..u64::MAX {
-        match work.pop() {
-            None => return Ok(names),
-            Some(Task::Leave(node)) => names.leave(binder(source, raw, node)),
-            Some(Task::Visit(node)) => names.visit(signature, source, raw, node, &mut work)?,
-        }
+        let Some(task) = work.pop() else {
+            return Ok(names);
+        };
+        names.take(signature, source, raw, task, &mut work)?;
     }
     Err(Memory)
 }

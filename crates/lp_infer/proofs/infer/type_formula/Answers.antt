@@ -1,4 +1,4 @@
-use Rattle.lp_infer.proofs.Undeclared.{for_memory}
+use Rattle.lp_infer.proofs.Refusing.{for_memory}
 use Rattle.lp_infer.proofs.infer.type_formula.Goals as goal
 
 pub returns-in_err-formula-in-Some-2-clause-refused : goal.returns-in_err-formula-in-Some-2-clause-refused

@@ -1,15 +1,17 @@
-use Rattle.std.proofs.Common.{◌≡◌, Option, Some, sym, subst, ◌∙◌, inl, inr, List, ℕ}
-use Rattle.std.specs.Prelude.{◌⊎◌, Contains}
-use Rattle.lp_base.specs.declared.place.Spot.{Spot}
-use Rattle.lp_syntax.specs.declared.text.RawType.{RawType}
+use Rattle.std.proofs.Common.{◌≡◌, ◌∙◌, sym, ap, subst, Some}
+use Rattle.std.specs.Prelude.{Contains, IfOk}
 use Rattle.lp_sig.specs.Pieces.{spelled}
-use Rattle.lp_sig.specs.Refusals.{words_of}
 use Rattle.lp_infer.specs.Names.{note_words, IsNoKind}
+use Rattle.lp_infer.specs.Scanning.{Finds, IsEntered}
+use Rattle.lp_infer.proofs.Scanning.{entered_past}
 use Rattle.lp_infer.proofs.names.Names.abstraction.Goals as goal
 
-then_entered : (K : Spot → Type 0) (note : Option RawType) (given : RawType) (start before now : Option Spot) → note ≡ Some given → now ≡ before → (before ≡ start) ⊎ ((s : Spot) × (before ≡ Some s) × Contains (words_of given.nodes.items) s × K s) → (now ≡ start) ⊎ ((s : Spot) × (now ≡ Some s) × Contains (note_words note) s × K s)
-then_entered K note given start before now is e (inl g) = inl (e ∙ g)
-then_entered K note given start before now is e (inr (s, g, c, k)) = inr (s, e ∙ g, subst (λ n. Contains (note_words n) s) (sym is) c, k)
+pub returns-in-Some-clause-fault : goal.returns-in-Some-clause-fault
+returns-in-Some-clause-fault c =
+    subst (λ n. Finds (λ s. Contains (note_words n) s × IsNoKind c.args.signature.now (spelled c.args.source.now s)) c.args.self.now.fault c.enter-in-Some.new.self.fault) (sym c.in-Some.is)
+    (subst (Finds (λ s. Contains (note_words (Some c.in-Some.given)) s × IsNoKind c.args.signature.now (spelled c.args.source.now s)) c.args.self.now.fault) (sym c.enter-in-Some.ensures.fault) c.check_note.ensures.fault)
 
-pub returns-in-Some : goal.returns-in-Some
-returns-in-Some c = then_entered (λ s. IsNoKind c.args.signature.now (spelled c.args.source.now s)) c.args.note.now c.in-Some.given c.args.self.now.fault c.check_note.new.self.fault c.enter-in-Some.new.self.fault c.in-Some.is c.enter-in-Some.ensures c.check_note.ensures
+pub returns-in-Some-clause-level : goal.returns-in-Some-clause-level
+returns-in-Some-clause-level c =
+    entered_past (spelled c.args.source.now c.args.spot) c.args.self.now c.check_note.new.self c.enter-in-Some.new.self c.enter-in-Some.result c.check_note.ensures.bound
+    (subst (λ x. IfOk c.enter-in-Some.result (IsEntered x c.check_note.new.self c.enter-in-Some.new.self)) c.spelled_at-in-Some.ensures c.enter-in-Some.ensures.level)

@@ -1,17 +1,60 @@
-use Rattle.std.proofs.Common.{subst, ap, sym, ◌∙◌, ◌≡◌, ◌<◌, length, get_or}
-use Rattle.lp_infer.proofs.Undeclared.{name_among, note_among, name_step, binder_step}
+use Rattle.std.proofs.Common.{◌≡◌, ◌<◌, ◌≤◌, ◌∙◌, ◌∷◌, [], ◌++◌, sym, ap, subst, refl, length, get_or, reverse, Some, None}
+use Rattle.std.specs.Prelude.{slice_get, OnOk}
+use Rattle.std.proofs.lemmas.Option.{slice_get_read, slice_get_past}
+use Rattle.std.proofs.lemmas.List.{reverse-append}
+use Rattle.lp_infer.specs.Scanning.{Scanned}
+use Rattle.lp_infer.specs.declared.names.Task.TheVariants.{Visit, Leave}
+use Rattle.lp_infer.proofs.Scanning.{Below, no_names, past_empty, past_name, past_application, past_abstraction, is_ok, reverse_two}
 use Rattle.lp_infer.proofs.names.Names.visit.Goals as goal
+
+pub returns-in_default : goal.returns-in_default
+returns-in_default c = λ root S.
+    let nodes = c.args.raw.now.nodes.items in
+    let past : length nodes ≤ c.args.node = subst (λ l. length l ≤ c.args.node) c.deref.ensures.value c.in_default.ensures.lookup.3 in
+    past_empty c.args.signature.now c.args.source.now nodes root c.args.self.now c.args.self.now c.args.node (reverse c.args.work.now.items) None (slice_get_past nodes c.args.node past) (λ scope t b. b) refl refl S
 
 pub returns-in-Name : goal.returns-in-Name
 returns-in-Name c =
     let nodes = c.args.raw.now.nodes.items in
     let h : c.args.node < length nodes = subst (λ l. c.args.node < length l) c.deref.ensures.value c.in-Some.ensures.lookup.3.0 in
     let at : c.in-Some.found.now ≡ get_or nodes c.args.node c.in-Some.found.now = c.in-Some.ensures.lookup.1 ∙ ap (λ l. get_or l c.args.node c.in-Some.found.now) c.deref.ensures.value in
-    name_step c.args.signature.now c.args.source.now nodes c.args.self.now.fault c.place.new.self.fault c.in-Name.spot c.place.ensures (name_among nodes c.args.node c.in-Some.found.now c.in-Name.spot h at c.in-Name.is)
+    is_ok c.place.result (λ root S.
+    past_name c.args.signature.now c.args.source.now nodes root c.args.self.now c.place.new.self c.args.node c.in-Name.spot (reverse c.args.work.now.items)
+    (slice_get_read nodes (length nodes) c.args.node c.in-Some.found.now refl h at ∙ ap Some c.in-Name.is) c.place.ensures.fault c.place.ensures.bound S)
 
-pub returns-in_ok-push-in-Abs-2 : goal.returns-in_ok-push-in-Abs-2
-returns-in_ok-push-in-Abs-2 c =
+pub returns-in-Known : goal.returns-in-Known
+returns-in-Known c = λ root S.
     let nodes = c.args.raw.now.nodes.items in
     let h : c.args.node < length nodes = subst (λ l. c.args.node < length l) c.deref.ensures.value c.in-Some.ensures.lookup.3.0 in
     let at : c.in-Some.found.now ≡ get_or nodes c.args.node c.in-Some.found.now = c.in-Some.ensures.lookup.1 ∙ ap (λ l. get_or l c.args.node c.in-Some.found.now) c.deref.ensures.value in
-    binder_step c.args.signature.now c.args.source.now nodes c.in-Abs.note c.args.self.now.fault c.abstraction.new.self.fault (λ s. note_among nodes c.args.node c.in-Some.found.now c.in-Abs.spot c.in-Abs.note c.in-Abs.body s h at c.in-Abs.is) c.abstraction.ensures
+    past_empty c.args.signature.now c.args.source.now nodes root c.args.self.now c.set.new.self c.args.node (reverse c.args.work.now.items) (Some c.in-Some.found.now)
+    (slice_get_read nodes (length nodes) c.args.node c.in-Some.found.now refl h at) (λ scope t b. subst (λ n. Below c.args.signature.now c.args.source.now nodes scope (Some n) t) c.in-Known.is b) c.set.ensures.fault c.set.ensures.bound S
+
+pub returns-in_ok-push-in-App-2 : goal.returns-in_ok-push-in-App-2
+returns-in_ok-push-in-App-2 c = λ root S.
+    let nodes = c.args.raw.now.nodes.items in
+    let h : c.args.node < length nodes = subst (λ l. c.args.node < length l) c.deref.ensures.value c.in-Some.ensures.lookup.3.0 in
+    let at : c.in-Some.found.now ≡ get_or nodes c.args.node c.in-Some.found.now = c.in-Some.ensures.lookup.1 ∙ ap (λ l. get_or l c.args.node c.in-Some.found.now) c.deref.ensures.value in
+    subst (Scanned c.args.signature.now c.args.source.now nodes root c.args.self.now)
+    (sym (reverse_two c.args.work.now.items c.push.new.self.items c.push-in-App.new.self.items (Visit c.in-App.argument) (Visit c.in-App.head) c.in_ok-push-in-App.ensures.items c.in_ok-push-in-App-2.ensures.items))
+    (past_application c.args.signature.now c.args.source.now nodes root c.args.self.now c.args.node c.in-App.head c.in-App.argument (reverse c.args.work.now.items)
+    (slice_get_read nodes (length nodes) c.args.node c.in-Some.found.now refl h at ∙ ap Some c.in-App.is) S)
+
+pub returns-in_ok-push-in-Abs-2 : goal.returns-in_ok-push-in-Abs-2
+returns-in_ok-push-in-Abs-2 c = λ root S.
+    let nodes = c.args.raw.now.nodes.items in
+    let h : c.args.node < length nodes = subst (λ l. c.args.node < length l) c.deref.ensures.value c.in-Some.ensures.lookup.3.0 in
+    let at : c.in-Some.found.now ≡ get_or nodes c.args.node c.in-Some.found.now = c.in-Some.ensures.lookup.1 ∙ ap (λ l. get_or l c.args.node c.in-Some.found.now) c.deref.ensures.value in
+    subst (Scanned c.args.signature.now c.args.source.now nodes root c.abstraction.new.self)
+    (sym (reverse_two c.args.work.now.items c.push-in-Abs.new.self.items c.push-in-Abs-2.new.self.items (Leave c.in-Abs.spot c.in_ok-outside-in-Abs.outside) (Visit c.in-Abs.body) c.in_ok-push-in-Abs.ensures.items c.in_ok-push-in-Abs-2.ensures.items))
+    (past_abstraction c.args.signature.now c.args.source.now nodes root c.args.self.now c.abstraction.new.self c.args.node c.in-Abs.spot c.in-Abs.note c.in-Abs.body c.in_ok-outside-in-Abs.outside (reverse c.args.work.now.items)
+    (slice_get_read nodes (length nodes) c.args.node c.in-Some.found.now refl h at ∙ ap Some c.in-Abs.is) c.in_ok-outside-in-Abs.ensures.fault c.in_ok-outside-in-Abs.ensures.level S)
+
+pub returns-in_default-found : goal.returns-in_default-found
+returns-in_default-found c = λ root S.
+    let nodes = c.args.raw.now.nodes.items in
+    let h : c.args.node < length nodes = subst (λ l. c.args.node < length l) c.deref.ensures.value c.in-Some.ensures.lookup.3.0 in
+    let at : c.in-Some.found.now ≡ get_or nodes c.args.node c.in-Some.found.now = c.in-Some.ensures.lookup.1 ∙ ap (λ l. get_or l c.args.node c.in-Some.found.now) c.deref.ensures.value in
+    past_empty c.args.signature.now c.args.source.now nodes root c.args.self.now c.args.self.now c.args.node (reverse c.args.work.now.items) (Some c.in-Some.found.now)
+    (slice_get_read nodes (length nodes) c.args.node c.in-Some.found.now refl h at)
+    (no_names c.args.signature.now c.args.source.now nodes c.in-Some.found.now c.in_default-found.not-Name c.in_default-found.not-App c.in_default-found.not-Abs) refl refl S
