@@ -17,6 +17,8 @@ mod goals;
 mod raising;
 // The moves of the flattening.
 mod step;
+#[cfg(test)]
+mod tests;
 
 pub use fault::NormalRefusal;
 pub use flattening::{normalise, query_body};
