@@ -106,16 +106,19 @@ fn take_call(
     place: Place,
     behind: Option<usize>,
 ) -> Result<Turn, Memory> {
+    let mut looked = None;
     let mut key = None;
     if let Some(arg) = first {
         let Some(form) = head_normal(machine, arg)? else {
             return Ok(Turn::Ended(Ending::Deep));
         };
+        looked = Some(form);
         key = key_of(&machine.bank, form)?;
     }
     let call = Call {
         goal,
         head,
+        first: looked,
         key,
         place,
         behind,

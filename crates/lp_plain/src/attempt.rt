@@ -225,6 +225,15 @@ fn put_body(
     Ok(())
 }
 
+// The head of a goal and its arguments. The first one was looked at already: it is not reduced anew for each clause.
+fn spine_of(machine: &Machine, call: &Call) -> Result<Spine, Memory> {
+    let mut spine = unwound(machine.alloc, &machine.bank, call.goal)?;
+    if let (Some(form), Some(first)) = (call.first, spine.args.get_mut(0)) {
+        *first = form;
+    }
+    Ok(spine)
+}
+
 /// Tries a clause for the goal. Where it fits, its body is to be proved next; a cut in it keeps the oldest `mark`
 /// alternatives.
 pub(crate) fn attempt(
@@ -233,7 +242,7 @@ pub(crate) fn attempt(
     candidate: Candidate,
     mark: usize,
 ) -> Result<Unified, Memory> {
-    let Spine { head, args } = unwound(machine.alloc, &machine.bank, call.goal)?;
+    let Spine { head, args } = spine_of(machine, call)?;
     let level = call.place.level;
     let (rule, around) = clause_of(machine, candidate)?;
     let values = open(machine, rule, args.as_slice(), level, around)?;

@@ -21,7 +21,8 @@ pub(crate) struct Lengths {
 pub(crate) struct Call {
     pub(crate) goal: TermId,
     pub(crate) head: Head,
-    /// The head of the goal's first argument.
+    /// The goal's first argument as it was looked at, and the key of its head.
+    pub(crate) first: Option<TermId>,
     pub(crate) key: Option<Key>,
     pub(crate) place: Place,
     /// The goals behind it.
