@@ -2,7 +2,8 @@
 """Runs the queries in the comments of the examples and compares each output with what the comment says.
 
 A line `% ? QUERY` in a module's file asks a query; the comment lines behind it, up to an empty one, are its output. Without arguments all
-examples are run; with arguments, these folders. `--cmd PROGRAM` names another program than the launcher at the top.
+examples are run; with arguments, these folders. `--cmd PROGRAM` names another program than the launcher at the top. `--write` runs nothing: it
+writes the examples as the test of the top crate, to be laid out by `rt fmt`.
 """
 import os
 import subprocess
@@ -28,7 +29,76 @@ def queries(path):
     return found
 
 
+# The statuses by the last line of an output.
+STATUSES = {"no more": "Done", "stopped: answers": "Done", "stopped: steps": "Steps", "stopped: flexible": "Flexible", "stopped: arithmetic": "Arithmetic"}
+
+QUERIES = """// The examples, each with its queries. This file is written by `examples/check.py --write`.
+
+// The modules of the examples.
+mod texts;
+
+use super::with_files;
+use lp_base::{Memory, Status};
+use texts::FILES;
+
+#[test]
+fn examples_are_answered(rt: HostRuntime) -> Result<(), Memory> {
+    let alloc = rt.alloc();
+    for (module, query, status, written) in [
+%s    ] {
+        with_files(&rt, alloc, &FILES, &["solve", module, query], status, written)?;
+    }
+    Ok(())
+}
+"""
+
+TEXTS = """// The modules of the examples, without their comments. This file is written by `examples/check.py --write`.
+
+/// The files, by name.
+pub const FILES: [(&str, &str); %d] = [
+%s];
+"""
+
+
+def literal(text):
+    return '"%s"' % text.replace("\\", "\\\\").replace('"', '\\"')
+
+
+def code(path):
+    """The text of a file without its comments."""
+    with open(path, encoding="ascii") as file:
+        lines = [line for line in file if line.strip() and not line.startswith("%")]
+    return "".join(lines)
+
+
+def status_of(lines):
+    return next(status for begin, status in STATUSES.items() if lines[-1].startswith(begin))
+
+
+def write():
+    """Writes the examples as the test of the top crate."""
+    files = []
+    rows = []
+    for name in sorted(name for name in os.listdir(HERE) if os.path.isdir(os.path.join(HERE, name))):
+        folder = os.path.join(HERE, name)
+        for file in sorted(os.listdir(folder)):
+            path = os.path.join(folder, file)
+            files.append("    (%s, %s),\n" % (literal(file), literal(code(path))))
+            for query, lines in queries(path):
+                written = literal("".join(line + "\n" for line in lines)).replace("\n", "\\n")
+                rows.append("        (%s, %s, Status::%s, %s),\n" % (literal(file[:-4]), literal(query), status_of(lines), written))
+    tests = os.path.join(HERE, "..", "crates", "lp_cli", "src", "tests")
+    os.makedirs(os.path.join(tests, "examples"), exist_ok=True)
+    with open(os.path.join(tests, "examples.rt"), "w", encoding="ascii") as file:
+        file.write(QUERIES % "".join(rows))
+    with open(os.path.join(tests, "examples", "texts.rt"), "w", encoding="ascii") as file:
+        file.write(TEXTS % (len(files), "".join(files)))
+
+
 def main(words):
+    if words == ["--write"]:
+        write()
+        return 0
     command = os.path.join(HERE, "..", "lprolog")
     if "--cmd" in words:
         at = words.index("--cmd")

@@ -34,3 +34,15 @@ shorter n xs ys = go (cases_lt n (length xs))
 
 pub prefix_longer : (a b : Option (List ℕ)) (xs ys : List ℕ) → AppendsPrefix a b xs → AppendsPrefix a b (xs ++ ys)
 prefix_longer a b xs ys h = let s = shorter h.0 xs ys in (s.0, subst (Appends a b) (sym s.1) h.1)
+
+-- a whole piece is a prefix of itself
+pub whole_prefix : (a b : Option (List ℕ)) (xs : List ℕ) → Appends a b xs → AppendsPrefix a b xs
+whole_prefix a b xs h = let same : length xs ≤ length xs = omega arith in (length xs, subst (Appends a b) (sym (take_all (length xs) xs same)) h)
+
+-- a prefix of a piece was appended
+pub prefix_grows : (a b : Option (List ℕ)) (xs : List ℕ) → AppendsPrefix a b xs → (text : List ℕ) × Appends a b text
+prefix_grows a b xs h = (take h.0 xs, h.1)
+
+-- one growth behind another
+pub grows_both : (a b c : Option (List ℕ)) → (text : List ℕ) × Appends a b text → (text : List ℕ) × Appends b c text → (text : List ℕ) × Appends a c text
+grows_both a b c h k = (h.0 ++ k.0, appends_both a b c h.0 k.0 h.1 k.1)

@@ -1,12 +1,12 @@
 -- What a file that was read, is missing or is too long comes to.
-use Rattle.std.proofs.Common.{◌≡◌, ℕ, ◌<◌, ◌≤◌, List, length, Option, Some, None, refl, sym, ap, ◌∙◌, arith}
-use Rattle.std.specs.Prelude.{IfSome, nat_lt, Bool, true, false, if◌then◌else◌}
+use Rattle.std.proofs.Common.{◌≡◌, ℕ, ◌≤◌, List, length, Option, Some, None, ap, ◌∙◌}
+use Rattle.std.specs.Prelude.{IfSome, Bool, if◌then◌else◌}
 use Rattle.std.proofs.lemmas.Bool.{lt-ltb, le-ltb}
 use Rattle.lp_base.specs.Held.{Held}
 use Rattle.lp_base.specs.Read.{IsLonger}
 use Rattle.lp_base.specs.declared.status.Status.TheVariants as variant
 use Rattle.lp_cli.specs.Lines.{missing_line, long_file_line}
-use Rattle.lp_cli.specs.Order.{Order, Refuse, file_limit, with_bytes, with_file}
+use Rattle.lp_cli.specs.Order.{Order, Refuse, with_bytes, with_file}
 
 pub file_read : (told : Option Held) (file bytes : List ℕ) → IfSome told (λ held. held file ≡ Some bytes) → length bytes ≤ 1048576 → IfSome told (λ held. (go : List ℕ → Order) → with_file held file go ≡ go bytes)
 unfolding with_file

@@ -4,4 +4,6 @@ mod Files
 mod Loading
 mod Orders
 mod Progress
+mod Reading
+mod Refusing
 mod Statuses

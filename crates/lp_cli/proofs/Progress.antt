@@ -1,13 +1,11 @@
 -- Between two events of a search, what was written are the answers so far; at its end, all of them and the line of the ending.
-use Rattle.std.proofs.Common.{◌≡◌, ℕ, zero, suc, ◌+◌, ◌<◌, ◌≤◌, List, [], ◌∷◌, ◌++◌, length, Option, Some, None, refl, sym, ap, ap₂, ◌∙◌, subst, arith, append_assoc, append-nil, length-append}
+use Rattle.std.proofs.Common.{◌≡◌, ℕ, suc, ◌+◌, ◌<◌, ◌≤◌, List, [], ◌∷◌, ◌++◌, length, Option, refl, sym, ap, ◌∙◌, subst, arith, append_assoc, append-nil, length-append}
 use Rattle.std.specs.Global.{Global}
-use Rattle.std.specs.Prelude.{IfSome, IfOk, Result, Ok, Err, false, map, take, Vec}
+use Rattle.std.specs.Prelude.{IfOk, Result, Ok, Err, false, map, Vec}
 use Rattle.lp_base.specs.Written.{Appends, AppendsPrefix}
-use Rattle.lp_base.specs.declared.status.Status.{Status}
 use Rattle.lp_base.specs.declared.status.Status.TheVariants as variant
 use Rattle.lp_model.specs.declared.ending.Ending.{Ending}
 use Rattle.lp_model.specs.declared.ending.Ending.TheVariants.{NoMore, NoMoreCut, Enough, Steps, Flexible, Arithmetic, Deep}
-use Rattle.lp_model.specs.Skeleton.{Told, run}
 use Rattle.lp_model.specs.Events.{Event, Gave, Over, Advances, Gathers}
 use Rattle.lp_model.specs.Horn.{Horn, HornQuery, counted, counted_query}
 use Rattle.lp_model.specs.HornSearch.{AnswerOf, by_number, look, start}
@@ -21,12 +19,11 @@ use Rattle.lp_fragment.specs.Meaning.{Meaning}
 use Rattle.lp_fragment.specs.Kinds.{IsMeaning}
 use Rattle.lp_horn.specs.Program.{declared_by}
 use Rattle.lp_horn.proofs.Typed.{meaning_typed}
-use Rattle.lp_cli.specs.declared.answer.Piece.{Piece}
-use Rattle.lp_cli.specs.declared.answer.Piece.TheVariants as piece
+use Rattle.lp_cli.specs.declared.piece.Piece.TheVariants as piece
 use Rattle.lp_cli.specs.Lines.{ending_line, ending_status, memory_line}
 use Rattle.lp_cli.specs.Answered.{clauses, query, first_state, told, answer_lines, answer_limit, step_limit, shown, IsTrusted, IsWhole, IsCutShort}
-use Rattle.lp_cli.specs.Ends.{IsSearched, whole, cut_short, Writes, WritesPrefix}
-use Rattle.lp_cli.specs.Order.{Order, Search}
+use Rattle.lp_cli.specs.Ends.{whole, cut_short, Writes, WritesPrefix}
+use Rattle.lp_cli.specs.Order.{Search}
 use Rattle.lp_cli.proofs.Appending.{appends_nothing, appends_both, prefix_behind, prefix_longer}
 use Rattle.lp_cli.specs.Pieces.{IsBegun, IsNext, Tells}
 

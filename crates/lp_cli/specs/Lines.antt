@@ -1,5 +1,8 @@
 -- The lines that the program writes, and the status of each ending.
-use Rattle.std.specs.Prelude.{ℕ, List, ◌++◌, codes}
+use Rattle.std.specs.Prelude.{ℕ, List, ◌++◌, codes, Bool, true, false}
+use Rattle.lp_base.specs.Limit.{name_of}
+use Rattle.lp_base.specs.declared.limit.Limit.{Limit}
+use Rattle.lp_base.specs.declared.limit.Limit.TheVariants as limit
 use Rattle.lp_base.specs.declared.status.Status.{Status}
 use Rattle.lp_base.specs.declared.status.Status.TheVariants as variant
 use Rattle.lp_model.specs.declared.ending.Ending.{Ending}
@@ -10,15 +13,16 @@ use Rattle.lp_model.specs.declared.ending.Fault.TheVariants.{Overflow, ZeroDivis
 unfoldable pub usage_line : List ℕ
 usage_line = codes "usage: solve M Q | compile M | link M | query M Q | trial N\n"
 
--- the texts are not in the language that is built so far
-unfoldable pub not_built_line : List ℕ
-not_built_line = codes "source: not built yet\n"
-
 unfoldable pub memory_line : List ℕ
 memory_line = codes "stopped: memory\n"
 
-unfoldable pub long_file_line : List ℕ
-long_file_line = codes "limit: file\n"
+-- a limit was passed
+unfoldable pub limit_line : Limit → List ℕ
+limit_line l = codes "limit: " ++ name_of l ++ codes "\n"
+
+-- a file is too long
+abbrev pub long_file_line : List ℕ
+long_file_line = limit_line limit.File
 
 unfoldable pub missing_line : (file : List ℕ) → List ℕ
 missing_line file = codes "missing: " ++ file ++ codes "\n"
@@ -49,3 +53,13 @@ ending_status Steps = variant.Steps
 ending_status Flexible = variant.Flexible
 ending_status (Arithmetic fault) = variant.Arithmetic
 ending_status Deep = variant.Deep
+
+-- the statuses with which a search ends
+unfoldable pub is_of_search : Status → Bool
+is_of_search variant.Done = true
+is_of_search variant.Steps = true
+is_of_search variant.Flexible = true
+is_of_search variant.Arithmetic = true
+is_of_search variant.Deep = true
+is_of_search variant.Memory = true
+is_of_search _ = false

@@ -1,13 +1,13 @@
 -- What is written of a search from one event to the next.
-use Rattle.std.specs.Prelude.{◌≡◌, ℕ, suc, List, map}
+use Rattle.std.specs.Prelude.{◌≡◌, ℕ, suc, map}
 use Rattle.lp_model.specs.Events.{Event, Gave, Over, Advances}
 use Rattle.lp_model.specs.Horn.{counted}
 use Rattle.lp_model.specs.HornSearch.{AnswerOf, by_number, look}
 use Rattle.lp_horn_search.specs.Held.{Held}
 use Rattle.lp_fragment.specs.Meaning.{Meaning}
 use Rattle.lp_cli.specs.Answered.{clauses, first_state, shown}
-use Rattle.lp_cli.specs.declared.answer.Piece.{Piece}
-use Rattle.lp_cli.specs.declared.answer.Piece.TheVariants as piece
+use Rattle.lp_cli.specs.declared.piece.Piece.{Piece}
+use Rattle.lp_cli.specs.declared.piece.Piece.TheVariants as piece
 
 -- the search of the query from the module's clauses, before its first event
 pub record IsBegun (m : Meaning) (held : Held) : Type 0 where

@@ -1,8 +1,8 @@
 // The lines that are written, and the status of each ending.
 ghost use Rattle.std.specs.Prelude.{◌≡◌, ◌++◌, IfOk, codes};
-ghost use Rattle.lp_cli.specs.Lines.{usage_line, not_built_line, memory_line, long_file_line, missing_line, read_fault_line, fault_line, ending_line, ending_status};
+ghost use Rattle.lp_cli.specs.Lines.{usage_line, memory_line, limit_line, missing_line, read_fault_line, fault_line, ending_line, ending_status};
 
-use lp_base::{Memory, Status};
+use lp_base::{Limit, Memory, Status};
 use lp_model::ending::{Ending, Fault};
 use std::alloc::Global;
 
@@ -13,27 +13,11 @@ pub fn usage() -> &'static str
     "usage: solve M Q | compile M | link M | query M Q | trial N\n"
 }
 
-/// The texts are not in the language that is built so far.
-#[tactic(auto, unfolding(crate::specs::Lines::not_built_line))]
-pub fn not_built(alloc: Global) -> Result<Vec<u8>, Memory>
-    ensures { IfOk result (λ line. line.items ≡ not_built_line) }
-{
-    Ok(b"source: not built yet\n".to_vec(alloc)?)
-}
-
 #[tactic(auto, unfolding(crate::specs::Lines::memory_line))]
 pub fn memory() -> &'static str
     ensures { result.now ≡ memory_line }
 {
     "stopped: memory\n"
-}
-
-/// A file is too long.
-#[tactic(auto, unfolding(crate::specs::Lines::long_file_line))]
-pub fn long_file(alloc: Global) -> Result<Vec<u8>, Memory>
-    ensures { IfOk result (λ line. line.items ≡ long_file_line) }
-{
-    Ok(b"limit: file\n".to_vec(alloc)?)
 }
 
 // A line of a word, a name and a line feed.
@@ -44,6 +28,14 @@ fn named(alloc: Global, word: &str, name: &str) -> Result<Vec<u8>, Memory>
     line.extend_from_slice(name.as_bytes())?;
     line.extend_from_slice(b"\n")?;
     Ok(line)
+}
+
+/// A limit was passed.
+#[tactic(auto, unfolding(crate::specs::Lines::limit_line))]
+pub fn limit(alloc: Global, limit: Limit) -> Result<Vec<u8>, Memory>
+    ensures { IfOk result (λ line. line.items ≡ limit_line limit) }
+{
+    named(alloc, "limit: ", limit.name())
 }
 
 #[tactic(auto, unfolding(crate::specs::Lines::missing_line))]

@@ -1,24 +1,39 @@
 //! The program: its words, its folder and its output.
 #![tactic(auto)]
 
-// The search of a query and the writing of its answers.
-mod answer;
+// What the words ask for.
+mod asked;
+// Why texts are refused.
+mod cause;
+// What is said of each fault of a text.
+mod causes;
+// The first fragment.
+mod first;
 // The lines that are written.
 mod lines;
-// The reading of a module's files.
-mod load;
+// Numbers in words, and the names of modules.
+mod numbers;
 // The current directory and the standard output.
 mod outside;
+// What a search tells from one event to the next.
+mod piece;
 // Why there is no query to answer.
 mod refusal;
+// The refusals of texts: their lines.
+mod refused;
 // The top call.
 mod run;
 // The last line of a run.
 mod say;
-// The words after the program's name.
+// A generated query, and the summary of its search.
+mod trial;
+// The whole language.
+mod whole;
+// The command set, and the words as it reads them.
 mod words;
 
-use lp_base::Status;
+use lp_base::{Memory, Status};
+use lp_watch::{Counter, Tracer, Watch};
 use outside::{DirFolder, StdSink};
 use run::run;
 use std::env;
@@ -47,14 +62,30 @@ fn words_of<R: Env + AllocGlobal>(rt: &R) -> Result<Vec<String>, Status> {
     Ok(words)
 }
 
+// Runs the words with the watchers of the program: one that keeps the first 20 notes, and one that counts all.
+fn run_watched(
+    rt: &HostRuntime,
+    words: &[String],
+    out: &mut StdSink<'_, HostRuntime>,
+) -> Result<Status, Memory> {
+    let alloc = rt.alloc();
+    let mut watchers: Vec<Box<dyn Watch>> = Vec::new(alloc);
+    watchers.push(Box::new(alloc, Tracer::first(alloc, 20))?)?;
+    watchers.push(Box::new(alloc, Counter::new())?)?;
+    let mut folder = DirFolder::new(rt);
+    Ok(run(alloc, words, &mut folder, out, &mut watchers))
+}
+
 fn main(rt: HostRuntime) -> ExitCode {
     let mut out = StdSink::new(&rt);
     let words = match words_of(&rt) {
         Ok(words) => words,
         Err(status) => return ExitCode::from(status.number()),
     };
-    let mut folder = DirFolder::new(&rt);
-    let status = run(rt.alloc(), words.as_slice(), &mut folder, &mut out);
+    let status = match run_watched(&rt, words.as_slice(), &mut out) {
+        Ok(status) => status,
+        Err(Memory) => Status::Memory,
+    };
     ExitCode::from(status.number())
 }
 

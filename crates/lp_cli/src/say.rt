@@ -2,7 +2,9 @@
 ghost use Rattle.std.specs.Prelude.{◌≡◌, ◌≢◌, ℕ};
 ghost use Rattle.lp_base.specs.Counts.{HasRisen, Counts};
 ghost use Rattle.lp_base.specs.Written.{Appends, AppendsPrefix};
+ghost use Rattle.lp_cli.specs.Ends.{Grows};
 
+use crate::lines::memory;
 use lp_base::{Sink, Status};
 
 /// Writes a line, and ends with a status.
@@ -26,4 +28,13 @@ pub fn refuse<K: Sink>(out: &mut K, line: Vec<u8>, status: Status) -> Status
     ensures faults { Counts (result ≡ Status.WriteFault) (K.faults out.old) (K.faults out.new) }
 {
     say(out, &line, status)
+}
+
+/// Writes that memory ran out.
+pub fn say_memory<K: Sink>(out: &mut K) -> Status
+    ensures grows { Grows (K.written out.old) (K.written out.new) }
+    ensures said { result ≢ Status.WriteFault → result ≡ Status.Memory }
+    ensures write_faults { Counts (result ≡ Status.WriteFault) (K.faults out.old) (K.faults out.new) }
+{
+    say(out, memory().as_bytes(), Status::Memory)
 }

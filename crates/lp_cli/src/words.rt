@@ -1,54 +1,94 @@
-// The words after the program's name, and what they ask for.
-ghost use Rattle.std.specs.Prelude.{◌≡◌, map, string_bytes, option_map};
-ghost use Rattle.std.specs.List.{list_all};
-ghost use Rattle.lp_cli.specs.Words.{is_letter, is_word_byte, is_module_name, asked};
+// The command set, and the words as it reads them.
+ghost use Rattle.std.specs.Prelude.{◌≡◌, false, IfOk, map, codes, string_bytes};
+ghost use Rattle.clap.specs.Words.{app_of, rule_of, with_rule, with_subcommand, new_app, subcommand_rows_of, subcommand_of};
+ghost use Rattle.clap.specs.Kinds.{FailsBy};
+ghost use Rattle.clap.specs.declared.builder.command.Command.TheViews.{out-Command};
+ghost use Rattle.clap.specs.Faults.{fault_of};
+ghost use Rattle.lp_cli.specs.Commands.{Reads, place, number, watch, asking, taking, strict, lprolog};
 
-/// A module's name and a query.
-#[derive(Clone, Copy)]
-pub struct Asked<'a> {
-    pub name: &'a str,
-    pub query: &'a str,
+use clap::{Arg, ArgAction, ArgMatches, Command, Error};
+use std::alloc::{AllocError, Global};
+
+fn place<'a>(alloc: Global, id: &'a str) -> Arg<'a>
+    ensures rule { rule_of result ≡ place id.entry.now }
+    ensures local { result.global ≡ false }
+{
+    Arg::new(alloc, id).required(true)
 }
 
-fn is_letter(byte: u8) -> bool
-    ensures { result ≡ is_letter byte }
+fn number<'a>(alloc: Global, id: &'a str) -> Arg<'a>
+    ensures rule { rule_of result ≡ number id.entry.now }
+    ensures local { result.global ≡ false }
 {
-    (65 <= byte && byte <= 90) || (97 <= byte && byte <= 122)
+    Arg::new(alloc, id).long(id)
 }
 
-fn is_word_byte(byte: u8) -> bool
-    ensures { result ≡ is_word_byte byte }
+fn watch<'a>(alloc: Global) -> Arg<'a>
+    ensures rule { rule_of result ≡ watch }
+    ensures local { result.global ≡ false }
 {
-    is_letter(byte) || (48 <= byte && byte <= 57) || byte == 95
+    Arg::new(alloc, "watch")
+        .long("watch")
+        .action(ArgAction::SetTrue)
 }
 
-fn are_word_bytes(bytes: &[u8]) -> bool
-    ensures { result ≡ list_all is_word_byte bytes.now }
+fn with<'a>(command: Command<'a>, arg: Arg<'a>) -> Result<Command<'a>, AllocError>
+    requires local { arg.global ≡ false }
+    requires none { (out-Command command).has_globals ≡ false }
+    ensures { IfOk result (Reads (with_rule (app_of command.entry) (rule_of arg.entry))) }
 {
-    bytes.iter().all(|byte| is_word_byte(*byte))
+    command.arg(arg)
 }
 
-#[tactic(auto, unfolding(crate::specs::Words::is_module_name))]
-fn is_module_name(name: &[u8]) -> bool
-    ensures { result ≡ is_module_name name.now }
+fn under<'a>(above: Command<'a>, below: Command<'a>) -> Result<Command<'a>, AllocError>
+    requires above { (out-Command above).has_globals ≡ false }
+    requires below { (out-Command below).has_globals ≡ false }
+    ensures { IfOk result (Reads (with_subcommand (app_of above.entry) (app_of below.entry).top)) }
 {
-    let first = if name.is_empty() { 0 } else { name[0] };
-    is_letter(first) && are_word_bytes(name) && name.len() <= 64
+    above.subcommand(below)
 }
 
-/// What the words ask for: `solve M Q`, where M is a module's name.
-#[tactic(auto, unfolding(crate::specs::Words::asked))]
-pub fn read_words(words: &[String]) -> Option<Asked<'_>>
-    ensures { option_map (λ a. record { name = a.name.now; query = a.query.now }) result ≡ asked (map string_bytes words.now) }
+fn asking<'a>(alloc: Global, name: &'a str) -> Result<Command<'a>, AllocError>
+    ensures { IfOk result (Reads (asking name.entry.now)) }
 {
-    let [command, name, query] = words else {
-        return None;
-    };
-    if command.as_str() != "solve" || !is_module_name(name.as_bytes()) {
-        return None;
-    }
-    Some(Asked {
-        name: name.as_str(),
-        query: query.as_str(),
-    })
+    let command = Command::new(alloc, name);
+    let command = with(command, place(alloc, "module"))?;
+    let command = with(command, place(alloc, "query"))?;
+    let command = with(command, number(alloc, "steps"))?;
+    let command = with(command, number(alloc, "answers"))?;
+    let command = with(command, watch(alloc))?;
+    Ok(command)
+}
+
+fn taking<'a>(alloc: Global, name: &'a str, id: &'a str) -> Result<Command<'a>, AllocError>
+    ensures { IfOk result (Reads (taking name.entry.now id.entry.now)) }
+{
+    with(Command::new(alloc, name), place(alloc, id))
+}
+
+fn strict<'a>(alloc: Global) -> Command<'a>
+    ensures { Reads (strict (new_app (codes "lprolog"))) result }
+{
+    Command::new(alloc, "lprolog")
+        .no_binary_name(true)
+        .disable_help_flag(true)
+        .disable_help_subcommand(true)
+        .subcommand_required(true)
+}
+
+fn lprolog<'a>(alloc: Global) -> Result<Command<'a>, AllocError>
+    ensures { IfOk result (Reads lprolog) }
+{
+    let command = strict(alloc);
+    let command = under(command, asking(alloc, "solve")?)?;
+    let command = under(command, taking(alloc, "trial", "size")?)?;
+    Ok(command)
+}
+
+/// The words as the command set reads them.
+pub fn parse<'a>(alloc: Global, words: &'a [String]) -> Result<ArgMatches<'a>, Error>
+    ensures usage { FailsBy (fault_of lprolog (map string_bytes words.entry.now)) result }
+    ensures matches { IfOk result (λ m. subcommand_rows_of m ≡ subcommand_of lprolog (map string_bytes words.entry.now)) }
+{
+    lprolog(alloc)?.try_get_matches_from(words)
 }

@@ -1,68 +1,164 @@
-use Rattle.std.proofs.Common.{◌≡◌, ◌∙◌, sym, ap, subst, map, string_bytes, Ok, Err}
+use Rattle.std.proofs.Common.{◌∙◌, sym, ap, subst, inl, inr, refl, map, string_bytes, Err}
 use Rattle.lp_base.specs.Written.{Appends, AppendsPrefix}
 use Rattle.lp_base.specs.declared.status.Status.TheVariants as variant
-use Rattle.lp_cli.proofs.Orders.{Wrote, usage_told, usage_began, searched_told, searched_began, refused_told, refused_began, memory_told, memory_began}
-use Rattle.lp_cli.proofs.Statuses.{searched_count, never_usage, never_read_fault, never_missing, never_limit}
+use Rattle.lp_cli.proofs.Orders.{Wrote, usage_told, usage_began, wanting_told, wanting_began, beyond_told, beyond_began, beyond_fault, always, trial_is_beyond, options_are_beyond, is_command, watched_or}
+use Rattle.lp_cli.proofs.Statuses.{is_fault, still, long_still, not_otherwise}
 use Rattle.lp_cli.proofs.run.run.Goals as goal
 
-pub returns-in_default-clause-told : goal.returns-in_default-clause-told
-returns-in_default-clause-told g c = λ no other.
+-- words that are no command
+pub returns-in-Err-Usage-clause-told : goal.returns-in-Err-Usage-clause-told
+returns-in-Err-Usage-clause-told g c =
+    λ no other.
     let said = c.say.ensures.said no in
     subst (Wrote (g.F.Folder.held c.args.folder.now) (map string_bytes c.args.words.now) (g.K.Sink.written c.args.out.now) (g.K.Sink.written c.say.new.out)) (sym said.0)
-    (usage_told (g.F.Folder.held c.args.folder.now) (map string_bytes c.args.words.now) (g.K.Sink.written c.args.out.now) (g.K.Sink.written c.say.new.out) (sym c.in_default.ensures)
-    (subst (Appends (g.K.Sink.written c.args.out.now) (g.K.Sink.written c.say.new.out)) (c.as_bytes.ensures.value ∙ c.usage.ensures) said.1))
+    (usage_told (g.F.Folder.held c.args.folder.now) (map string_bytes c.args.words.now) (g.K.Sink.written c.args.out.now) (g.K.Sink.written c.say.new.out) (c.in-Err-Usage.ensures.usage (ap Err c.in-Err-Usage.field-0-is)) (subst (Appends (g.K.Sink.written c.args.out.now) (g.K.Sink.written c.say.new.out)) (c.as_bytes.ensures.value ∙ c.usage.ensures) said.1))
 
-pub returns-in_default-clause-prefix : goal.returns-in_default-clause-prefix
-returns-in_default-clause-prefix g c = λ is.
-    usage_began (g.F.Folder.held c.args.folder.now) (map string_bytes c.args.words.now) (g.K.Sink.written c.args.out.now) (g.K.Sink.written c.say.new.out) (sym c.in_default.ensures)
-    (subst (AppendsPrefix (g.K.Sink.written c.args.out.now) (g.K.Sink.written c.say.new.out)) (c.as_bytes.ensures.value ∙ c.usage.ensures) (c.say.ensures.prefix is))
+pub returns-in-Err-Usage-clause-prefix : goal.returns-in-Err-Usage-clause-prefix
+returns-in-Err-Usage-clause-prefix g c =
+    λ is.
+    usage_began (g.F.Folder.held c.args.folder.now) (map string_bytes c.args.words.now) (g.K.Sink.written c.args.out.now) (g.K.Sink.written c.say.new.out) (c.in-Err-Usage.ensures.usage (ap Err c.in-Err-Usage.field-0-is)) (subst (AppendsPrefix (g.K.Sink.written c.args.out.now) (g.K.Sink.written c.say.new.out)) (c.as_bytes.ensures.value ∙ c.usage.ensures) (c.say.ensures.prefix is))
 
-pub returns-in-Ok-clause-told : goal.returns-in-Ok-clause-told
-returns-in-Ok-clause-told g c = λ no other.
-    searched_told (g.F.Folder.held c.args.folder.now) (map string_bytes c.args.words.now) (g.K.Sink.written c.args.out.now) (g.K.Sink.written c.answer.new.out) _ (sym c.in-Some.ensures) c.in-Ok.reading c.answer.result c.in-Ok.ensures.loads (c.answer.ensures.writes no)
+pub returns-in-Err-Usage-clause-read_fault : goal.returns-in-Err-Usage-clause-read_fault
+returns-in-Err-Usage-clause-read_fault g c =
+    λ e. absurd (not_otherwise c.say.result variant.Usage variant.ReadFault (λ n. (c.say.ensures.said n).0) (λ f. cc) (λ f. cc) e)
 
-pub returns-in-Ok-clause-prefix : goal.returns-in-Ok-clause-prefix
-returns-in-Ok-clause-prefix g c = λ is.
-    searched_began (g.F.Folder.held c.args.folder.now) (map string_bytes c.args.words.now) (g.K.Sink.written c.args.out.now) (g.K.Sink.written c.answer.new.out) _ (sym c.in-Some.ensures) c.in-Ok.reading c.in-Ok.ensures.loads (c.answer.ensures.prefix is)
+pub returns-in-Err-Usage-clause-usage : goal.returns-in-Err-Usage-clause-usage
+returns-in-Err-Usage-clause-usage g c =
+    λ e command. command (c.in-Err-Usage.ensures.usage (ap Err c.in-Err-Usage.field-0-is))
 
-pub returns-in-Ok-clause-read_fault : goal.returns-in-Ok-clause-read_fault
-returns-in-Ok-clause-read_fault g c = λ is. absurd (never_read_fault c.in-Ok.reading c.answer.result _ _ c.answer.ensures.writes is)
+pub returns-in-Err-Usage-clause-no_command : goal.returns-in-Err-Usage-clause-no_command
+returns-in-Err-Usage-clause-no_command g c =
+    λ no. elim (is_fault c.say.result) [ inl f ↦ inr (inr f) | inr n ↦ inl (c.say.ensures.said n).0 ]
 
-pub returns-in-Ok-clause-usage : goal.returns-in-Ok-clause-usage
-returns-in-Ok-clause-usage g c = λ is command. never_usage c.in-Ok.reading c.answer.result _ _ c.answer.ensures.writes is
+pub returns-in-Err-Usage-clause-read_faults : goal.returns-in-Err-Usage-clause-read_faults
+returns-in-Err-Usage-clause-read_faults g c =
+    still c.say.result variant.ReadFault _ (not_otherwise c.say.result variant.Usage variant.ReadFault (λ n. (c.say.ensures.said n).0) (λ f. cc) (λ f. cc))
 
-pub returns-in-Ok-clause-read_faults : goal.returns-in-Ok-clause-read_faults
-returns-in-Ok-clause-read_faults g c = searched_count c.in-Ok.reading c.answer.result variant.ReadFault _ _ c.in-Ok.ensures.read_faults (never_read_fault c.in-Ok.reading c.answer.result _ _ c.answer.ensures.writes)
+pub returns-in-Err-Usage-clause-misses : goal.returns-in-Err-Usage-clause-misses
+returns-in-Err-Usage-clause-misses g c =
+    still c.say.result variant.Missing _ (not_otherwise c.say.result variant.Usage variant.Missing (λ n. (c.say.ensures.said n).0) (λ f. cc) (λ f. cc))
 
-pub returns-in-Ok-clause-misses : goal.returns-in-Ok-clause-misses
-returns-in-Ok-clause-misses g c = searched_count c.in-Ok.reading c.answer.result variant.Missing _ _ c.in-Ok.ensures.misses (never_missing c.in-Ok.reading c.answer.result _ _ c.answer.ensures.writes)
+pub returns-in-Err-Usage-clause-overs : goal.returns-in-Err-Usage-clause-overs
+returns-in-Err-Usage-clause-overs g c =
+    long_still c.say.result _ _ _ (not_otherwise c.say.result variant.Usage variant.Limit (λ n. (c.say.ensures.said n).0) (λ f. cc) (λ f. cc))
 
-pub returns-in-Ok-clause-overs : goal.returns-in-Ok-clause-overs
-returns-in-Ok-clause-overs g c = searched_count c.in-Ok.reading c.answer.result variant.Limit _ _ c.in-Ok.ensures.overs (never_limit c.in-Ok.reading c.answer.result _ _ c.answer.ensures.writes)
-
-pub returns-in-Err-Line-clause-told : goal.returns-in-Err-Line-clause-told
-returns-in-Err-Line-clause-told g c = λ no other.
-    let said = c.refuse.ensures.said no in
-    let status = said.0 ∙ c.in-Err-Line.status-is in
-    subst (Wrote (g.F.Folder.held c.args.folder.now) (map string_bytes c.args.words.now) (g.K.Sink.written c.args.out.now) (g.K.Sink.written c.refuse.new.out)) (sym status)
-    (refused_told (g.F.Folder.held c.args.folder.now) (map string_bytes c.args.words.now) (g.K.Sink.written c.args.out.now) (g.K.Sink.written c.refuse.new.out) _ (sym c.in-Some.ensures) c.in-Err-Line.status c.in-Err-Line.line
-    (rw c.in-Err-Line.field-0-is at c.in-Err-Line.ensures.loads) (λ e. other (status ∙ e))
-    (rw c.in-Err-Line.field-0-is at said.1))
-
-pub returns-in-Err-Line-clause-prefix : goal.returns-in-Err-Line-clause-prefix
-returns-in-Err-Line-clause-prefix g c = λ is.
-    refused_began (g.F.Folder.held c.args.folder.now) (map string_bytes c.args.words.now) (g.K.Sink.written c.args.out.now) (g.K.Sink.written c.refuse.new.out) _ (sym c.in-Some.ensures) c.in-Err-Line.status c.in-Err-Line.line
-    (rw c.in-Err-Line.field-0-is at c.in-Err-Line.ensures.loads)
-    (rw c.in-Err-Line.field-0-is at c.refuse.ensures.prefix is)
-
+-- want of memory for the words
 pub returns-in-Err-Memory-clause-told : goal.returns-in-Err-Memory-clause-told
-returns-in-Err-Memory-clause-told g c = λ no other.
+returns-in-Err-Memory-clause-told g c =
+    λ no other.
     let said = c.say-in-Err-Memory.ensures.said no in
     subst (Wrote (g.F.Folder.held c.args.folder.now) (map string_bytes c.args.words.now) (g.K.Sink.written c.args.out.now) (g.K.Sink.written c.say-in-Err-Memory.new.out)) (sym said.0)
-    (memory_told (g.F.Folder.held c.args.folder.now) (map string_bytes c.args.words.now) (g.K.Sink.written c.args.out.now) (g.K.Sink.written c.say-in-Err-Memory.new.out) _ (sym c.in-Some.ensures)
-    (subst (Appends (g.K.Sink.written c.args.out.now) (g.K.Sink.written c.say-in-Err-Memory.new.out)) (c.as_bytes-in-Err-Memory.ensures.value ∙ c.memory.ensures) said.1))
+    (wanting_told (g.F.Folder.held c.args.folder.now) (map string_bytes c.args.words.now) (g.K.Sink.written c.args.out.now) (g.K.Sink.written c.say-in-Err-Memory.new.out) (subst (Appends (g.K.Sink.written c.args.out.now) (g.K.Sink.written c.say-in-Err-Memory.new.out)) (c.as_bytes-in-Err-Memory.ensures.value ∙ c.memory.ensures) said.1))
 
 pub returns-in-Err-Memory-clause-prefix : goal.returns-in-Err-Memory-clause-prefix
-returns-in-Err-Memory-clause-prefix g c = λ is.
-    memory_began (g.F.Folder.held c.args.folder.now) (map string_bytes c.args.words.now) (g.K.Sink.written c.args.out.now) (g.K.Sink.written c.say-in-Err-Memory.new.out) _ (sym c.in-Some.ensures)
-    (subst (AppendsPrefix (g.K.Sink.written c.args.out.now) (g.K.Sink.written c.say-in-Err-Memory.new.out)) (c.as_bytes-in-Err-Memory.ensures.value ∙ c.memory.ensures) (c.say-in-Err-Memory.ensures.prefix is))
+returns-in-Err-Memory-clause-prefix g c =
+    λ is.
+    wanting_began (g.F.Folder.held c.args.folder.now) (map string_bytes c.args.words.now) (g.K.Sink.written c.args.out.now) (g.K.Sink.written c.say-in-Err-Memory.new.out) (subst (AppendsPrefix (g.K.Sink.written c.args.out.now) (g.K.Sink.written c.say-in-Err-Memory.new.out)) (c.as_bytes-in-Err-Memory.ensures.value ∙ c.memory.ensures) (c.say-in-Err-Memory.ensures.prefix is))
+
+pub returns-in-Err-Memory-clause-read_fault : goal.returns-in-Err-Memory-clause-read_fault
+returns-in-Err-Memory-clause-read_fault g c =
+    λ e. absurd (not_otherwise c.say-in-Err-Memory.result variant.Memory variant.ReadFault (λ n. (c.say-in-Err-Memory.ensures.said n).0) (λ f. cc) (λ f. cc) e)
+
+pub returns-in-Err-Memory-clause-usage : goal.returns-in-Err-Memory-clause-usage
+returns-in-Err-Memory-clause-usage g c =
+    λ e command. not_otherwise c.say-in-Err-Memory.result variant.Memory variant.Usage (λ n. (c.say-in-Err-Memory.ensures.said n).0) (λ f. cc) (λ f. cc) e
+
+pub returns-in-Err-Memory-clause-no_command : goal.returns-in-Err-Memory-clause-no_command
+returns-in-Err-Memory-clause-no_command g c =
+    λ no. elim (is_fault c.say-in-Err-Memory.result) [ inl f ↦ inr (inr f) | inr n ↦ inr (inl (c.say-in-Err-Memory.ensures.said n).0) ]
+
+pub returns-in-Err-Memory-clause-read_faults : goal.returns-in-Err-Memory-clause-read_faults
+returns-in-Err-Memory-clause-read_faults g c =
+    still c.say-in-Err-Memory.result variant.ReadFault _ (not_otherwise c.say-in-Err-Memory.result variant.Memory variant.ReadFault (λ n. (c.say-in-Err-Memory.ensures.said n).0) (λ f. cc) (λ f. cc))
+
+pub returns-in-Err-Memory-clause-misses : goal.returns-in-Err-Memory-clause-misses
+returns-in-Err-Memory-clause-misses g c =
+    still c.say-in-Err-Memory.result variant.Missing _ (not_otherwise c.say-in-Err-Memory.result variant.Memory variant.Missing (λ n. (c.say-in-Err-Memory.ensures.said n).0) (λ f. cc) (λ f. cc))
+
+pub returns-in-Err-Memory-clause-overs : goal.returns-in-Err-Memory-clause-overs
+returns-in-Err-Memory-clause-overs g c =
+    long_still c.say-in-Err-Memory.result _ _ _ (not_otherwise c.say-in-Err-Memory.result variant.Memory variant.Limit (λ n. (c.say-in-Err-Memory.ensures.said n).0) (λ f. cc) (λ f. cc))
+
+-- a generated query
+pub returns-in-Ok-Trial-clause-told : goal.returns-in-Ok-Trial-clause-told
+returns-in-Ok-Trial-clause-told g c =
+    λ no other. beyond_told (g.F.Folder.held c.args.folder.now) (map string_bytes c.args.words.now) (g.K.Sink.written c.args.out.now) (g.K.Sink.written c.trial.new.out) c.trial.result (always (g.F.Folder.held c.args.folder.now) (map string_bytes c.args.words.now) (trial_is_beyond (map string_bytes c.args.words.now) c.in-Ok-Trial.size (rw c.in-Ok-Trial.field-0-is at c.in-Ok-Trial.ensures.ok))) c.trial.ensures.grows
+
+pub returns-in-Ok-Trial-clause-prefix : goal.returns-in-Ok-Trial-clause-prefix
+returns-in-Ok-Trial-clause-prefix g c =
+    λ is. beyond_began (g.F.Folder.held c.args.folder.now) (map string_bytes c.args.words.now) (g.K.Sink.written c.args.out.now) (g.K.Sink.written c.trial.new.out) (always (g.F.Folder.held c.args.folder.now) (map string_bytes c.args.words.now) (trial_is_beyond (map string_bytes c.args.words.now) c.in-Ok-Trial.size (rw c.in-Ok-Trial.field-0-is at c.in-Ok-Trial.ensures.ok))) c.trial.ensures.grows
+
+pub returns-in-Ok-Trial-clause-read_fault : goal.returns-in-Ok-Trial-clause-read_fault
+returns-in-Ok-Trial-clause-read_fault g c =
+    λ is. beyond_fault (g.F.Folder.held c.args.folder.now) (map string_bytes c.args.words.now) (g.K.Sink.written c.args.out.now) (g.K.Sink.written c.trial.new.out) (always (g.F.Folder.held c.args.folder.now) (map string_bytes c.args.words.now) (trial_is_beyond (map string_bytes c.args.words.now) c.in-Ok-Trial.size (rw c.in-Ok-Trial.field-0-is at c.in-Ok-Trial.ensures.ok))) (c.trial.ensures.read_fault is)
+
+pub returns-in-Ok-Trial-clause-usage : goal.returns-in-Ok-Trial-clause-usage
+returns-in-Ok-Trial-clause-usage g c =
+    λ is command. c.trial.ensures.usage is
+
+pub returns-in-Ok-Trial-clause-no_command : goal.returns-in-Ok-Trial-clause-no_command
+returns-in-Ok-Trial-clause-no_command g c =
+    λ no. absurd (no (is_command (map string_bytes c.args.words.now) _ (rw c.in-Ok-Trial.field-0-is at c.in-Ok-Trial.ensures.ok)))
+
+-- a query without options
+pub returns-then-are_none-clause-told : goal.returns-then-are_none-clause-told
+returns-then-are_none-clause-told g c =
+    c.solve_plain.ensures.told (map string_bytes c.args.words.now) (record { options = c.in-Ok-Solve.options; is_asked = (rw c.in-Ok-Solve.field-0-is at c.in-Ok-Solve.ensures.ok); plain = sym c.are_none.ensures ∙ c.if-are_none.true })
+
+pub returns-then-are_none-clause-prefix : goal.returns-then-are_none-clause-prefix
+returns-then-are_none-clause-prefix g c =
+    c.solve_plain.ensures.prefix (map string_bytes c.args.words.now) (record { options = c.in-Ok-Solve.options; is_asked = (rw c.in-Ok-Solve.field-0-is at c.in-Ok-Solve.ensures.ok); plain = sym c.are_none.ensures ∙ c.if-are_none.true })
+
+pub returns-then-are_none-clause-read_fault : goal.returns-then-are_none-clause-read_fault
+returns-then-are_none-clause-read_fault g c =
+    c.solve_plain.ensures.read_fault (map string_bytes c.args.words.now) (record { options = c.in-Ok-Solve.options; is_asked = (rw c.in-Ok-Solve.field-0-is at c.in-Ok-Solve.ensures.ok); plain = sym c.are_none.ensures ∙ c.if-are_none.true })
+
+pub returns-then-are_none-clause-usage : goal.returns-then-are_none-clause-usage
+returns-then-are_none-clause-usage g c =
+    λ is command. c.solve_plain.ensures.usage is
+
+pub returns-then-are_none-clause-no_command : goal.returns-then-are_none-clause-no_command
+returns-then-are_none-clause-no_command g c =
+    λ no. absurd (no (is_command (map string_bytes c.args.words.now) _ (rw c.in-Ok-Solve.field-0-is at c.in-Ok-Solve.ensures.ok)))
+
+-- a query with options
+pub returns-else-are_none-clause-told : goal.returns-else-are_none-clause-told
+returns-else-are_none-clause-told g c =
+    λ no other. beyond_told (g.F.Folder.held c.args.folder.now) (map string_bytes c.args.words.now) (g.K.Sink.written c.args.out.now) (g.K.Sink.written c.solve_with_options.new.out) c.solve_with_options.result (always (g.F.Folder.held c.args.folder.now) (map string_bytes c.args.words.now) (options_are_beyond (map string_bytes c.args.words.now) c.in-Ok-Solve.name.now c.in-Ok-Solve.query.now c.in-Ok-Solve.options (rw c.in-Ok-Solve.field-0-is at c.in-Ok-Solve.ensures.ok) (sym c.are_none.ensures ∙ c.if-are_none.false))) c.solve_with_options.ensures.grows
+
+pub returns-else-are_none-clause-prefix : goal.returns-else-are_none-clause-prefix
+returns-else-are_none-clause-prefix g c =
+    λ is. beyond_began (g.F.Folder.held c.args.folder.now) (map string_bytes c.args.words.now) (g.K.Sink.written c.args.out.now) (g.K.Sink.written c.solve_with_options.new.out) (always (g.F.Folder.held c.args.folder.now) (map string_bytes c.args.words.now) (options_are_beyond (map string_bytes c.args.words.now) c.in-Ok-Solve.name.now c.in-Ok-Solve.query.now c.in-Ok-Solve.options (rw c.in-Ok-Solve.field-0-is at c.in-Ok-Solve.ensures.ok) (sym c.are_none.ensures ∙ c.if-are_none.false))) c.solve_with_options.ensures.grows
+
+pub returns-else-are_none-clause-read_fault : goal.returns-else-are_none-clause-read_fault
+returns-else-are_none-clause-read_fault g c =
+    λ is. beyond_fault (g.F.Folder.held c.args.folder.now) (map string_bytes c.args.words.now) (g.K.Sink.written c.args.out.now) (g.K.Sink.written c.solve_with_options.new.out) (always (g.F.Folder.held c.args.folder.now) (map string_bytes c.args.words.now) (options_are_beyond (map string_bytes c.args.words.now) c.in-Ok-Solve.name.now c.in-Ok-Solve.query.now c.in-Ok-Solve.options (rw c.in-Ok-Solve.field-0-is at c.in-Ok-Solve.ensures.ok) (sym c.are_none.ensures ∙ c.if-are_none.false))) (c.solve_with_options.ensures.read_fault is)
+
+pub returns-else-are_none-clause-usage : goal.returns-else-are_none-clause-usage
+returns-else-are_none-clause-usage g c =
+    λ is command. c.solve_with_options.ensures.usage is
+
+pub returns-else-are_none-clause-no_command : goal.returns-else-are_none-clause-no_command
+returns-else-are_none-clause-no_command g c =
+    λ no. absurd (no (is_command (map string_bytes c.args.words.now) _ (rw c.in-Ok-Solve.field-0-is at c.in-Ok-Solve.ensures.ok)))
+
+pub returns-else-are_none-clause-silent : goal.returns-else-are_none-clause-silent
+returns-else-are_none-clause-silent g c =
+    watched_or (map string_bytes c.args.words.now) c.in-Ok-Solve.name.now c.in-Ok-Solve.query.now c.in-Ok-Solve.options _ _ (rw c.in-Ok-Solve.field-0-is at c.in-Ok-Solve.ensures.ok) c.solve_with_options.ensures.silent
+
+-- nobody else reaches the watchers
+pub returns-in-Err-Usage-clause-silent : goal.returns-in-Err-Usage-clause-silent
+returns-in-Err-Usage-clause-silent g c =
+    inr refl
+
+pub returns-in-Err-Memory-clause-silent : goal.returns-in-Err-Memory-clause-silent
+returns-in-Err-Memory-clause-silent g c =
+    inr refl
+
+pub returns-in-Ok-Trial-clause-silent : goal.returns-in-Ok-Trial-clause-silent
+returns-in-Ok-Trial-clause-silent g c =
+    inr refl
+
+pub returns-then-are_none-clause-silent : goal.returns-then-are_none-clause-silent
+returns-then-are_none-clause-silent g c =
+    inr refl

@@ -1,0 +1,103 @@
+-- What the loading of files comes to.
+use Rattle.std.specs.Prelude.{◌≡◌, ℕ, ◌≤◌, List, [], ◌∷◌, map, codes, Option, Some, None, Result, Ok, Err, string_bytes}
+use Rattle.lp_base.specs.Counts.{Counts}
+use Rattle.lp_base.specs.Held.{Held}
+use Rattle.lp_base.specs.declared.limit.Limit.{Limit}
+use Rattle.lp_base.specs.declared.limit.Limit.TheVariants as limit
+use Rattle.lp_lexer.specs.declared.token.LexFault.{LexFault}
+use Rattle.lp_lexer.specs.declared.token.LexFault.TheVariants as lex
+use Rattle.lp_build.specs.declared.fault.BuildFault.{BuildFault}
+use Rattle.lp_build.specs.declared.fault.BuildFault.TheVariants as fault
+use Rattle.lp_build.specs.declared.sources.File.{File}
+use Rattle.lp_build.specs.declared.sources.Part.{Part}
+use Rattle.lp_build.specs.declared.sources.Part.TheVariants as part
+
+-- the fault of a refusal
+abbrev pub fault_of : {T : Type 0} → Result T BuildFault → Option BuildFault
+fault_of (Ok x) = None
+fault_of (Err e) = Some e
+
+-- the fault of a refusal, beside what was loaded
+abbrev pub fault_beside : {S T : Type 0} → Result T (S × BuildFault) → Option BuildFault
+fault_beside (Ok x) = None
+fault_beside (Err e) = Some e.1
+
+abbrev pub IsRead : Option BuildFault → Type 0
+IsRead (Some (fault.Read n)) = Unit {0}
+IsRead _ = ⊥
+
+abbrev pub IsMissing : Option BuildFault → Type 0
+IsMissing (Some (fault.Missing n)) = Unit {0}
+IsMissing _ = ⊥
+
+abbrev pub IsLongFile : Option BuildFault → Type 0
+IsLongFile (Some (fault.Limit limit.File)) = Unit {0}
+IsLongFile _ = ⊥
+
+-- a fault of reading, a missing file and a long one each come only with a count that rose, and these counts rise in no other answer; nothing that is
+-- held changes
+pub record Outside {F : Type 0} (read_faults misses overs write_faults : F → ℕ) (held : F → Option Held) (old new : F) (refused : Option BuildFault) : Type 0 where
+  pub read : Counts (IsRead refused) (read_faults old) (read_faults new)
+  pub missing : Counts (IsMissing refused) (misses old) (misses new)
+  pub long : Counts (IsLongFile refused) (overs old) (overs new)
+  pub unwritten : write_faults new ≡ write_faults old
+  pub same : held new ≡ held old
+
+-- a fault of tokens itself
+abbrev pub IsOfTokens : LexFault → Type 0
+IsOfTokens lex.Memory = ⊥
+IsOfTokens _ = Unit {0}
+
+-- why a file was not read
+abbrev pub IsOfRead : ℕ → BuildFault → Type 0
+IsOfRead n (fault.Read k) = n ≡ k
+IsOfRead n (fault.Missing k) = n ≡ k
+IsOfRead n (fault.Limit limit.File) = Unit {0}
+IsOfRead n fault.Memory = Unit {0}
+IsOfRead n _ = ⊥
+
+-- why the bytes of a file were not taken in
+abbrev pub IsOfText : ℕ → BuildFault → Type 0
+IsOfText n (fault.Lex k e) = (n ≡ k) × IsOfTokens e
+IsOfText n fault.Memory = Unit {0}
+IsOfText n _ = ⊥
+
+-- why a word names no file
+abbrev pub IsOfWord : BuildFault → Type 0
+IsOfWord (fault.Limit limit.NameLength) = Unit {0}
+IsOfWord fault.Memory = Unit {0}
+IsOfWord _ = ⊥
+
+abbrev pub IsLimitOfLoading : Limit → ℕ → Type 0
+IsLimitOfLoading limit.File n = Unit {0}
+IsLimitOfLoading limit.Modules n = 256 ≤ n
+IsLimitOfLoading limit.NameLength n = Unit {0}
+IsLimitOfLoading _ n = ⊥
+
+-- why no more than so many files are loaded: the file at fault is the next one
+abbrev pub IsOfLoading : ℕ → BuildFault → Type 0
+IsOfLoading n (fault.Read k) = n ≡ k
+IsOfLoading n (fault.Missing k) = n ≡ k
+IsOfLoading n (fault.Lex k e) = (n ≡ k) × IsOfTokens e
+IsOfLoading n (fault.Syntax e) = ⊥
+IsOfLoading n (fault.Sig e) = ⊥
+IsOfLoading n (fault.Module e) = ⊥
+IsOfLoading n (fault.Limit l) = IsLimitOfLoading l n
+IsOfLoading n fault.Memory = Unit {0}
+
+-- the ending of a file's name
+abbrev pub ending : Part → List ℕ
+ending part.Signature = codes ".sig"
+ending part.Module = codes ".mod"
+
+abbrev pub names_of : List File → List (List ℕ)
+names_of files = map (λ f. string_bytes f.name) files
+
+-- the first of these names
+abbrev pub BeginsWith : List ℕ → List (List ℕ) → Type 0
+BeginsWith name [] = ⊥
+BeginsWith name (n ∷ ns) = n ≡ name
+
+-- the first name stays
+abbrev pub Keeps : List (List ℕ) → List (List ℕ) → Type 0
+Keeps old new = (name : List ℕ) → BeginsWith name old → BeginsWith name new

@@ -1,0 +1,119 @@
+// Why files have no program.
+
+use lp_base::{Limit, Memory};
+use lp_fixity::FixFault;
+use lp_infer::InferFault;
+use lp_lexer::LexFault;
+use lp_module::ModuleFault;
+use lp_sig::SigFault;
+use lp_syntax::SyntaxFault;
+use std::alloc::{AllocError, AllocFailed};
+
+/// Why files have no program. Numbers of files are those of the load order.
+#[derive(Clone, Copy, Debug, PartialEq, Eq)]
+pub enum BuildFault {
+    /// The folder could not read the file.
+    Read(u32),
+    /// The folder does not have the file.
+    Missing(u32),
+    /// A fault of tokens, never `Memory`.
+    Lex(u32, LexFault),
+    /// A fault of syntax, never `Memory` or `Limit`.
+    Syntax(SyntaxFault),
+    /// A fault of a signature, never `Memory` or `Limit`.
+    Sig(SigFault),
+    /// A fault of a module, never `Memory` or `Limit`.
+    Module(ModuleFault),
+    Limit(Limit),
+    Memory,
+}
+
+impl From<Memory> for BuildFault {
+    ghost use Rattle.std.specs.Prelude.{◌≡◌};
+    ghost use Rattle.lp_build.specs.declared.fault.BuildFault.TheVariants.{Memory};
+
+    ghost from_gives = { λ _ e. e ≡ Memory };
+
+    fn from(_: Memory) -> BuildFault {
+        BuildFault::Memory
+    }
+}
+
+impl From<AllocError> for BuildFault {
+    ghost use Rattle.std.specs.Prelude.{◌≡◌};
+    ghost use Rattle.lp_build.specs.declared.fault.BuildFault.TheVariants.{Memory};
+
+    ghost from_gives = { λ _ e. e ≡ Memory };
+
+    fn from(_: AllocError) -> BuildFault {
+        BuildFault::Memory
+    }
+}
+
+impl<T: Drop> From<AllocFailed<T>> for BuildFault {
+    ghost use Rattle.std.specs.Prelude.{◌≡◌};
+    ghost use Rattle.lp_build.specs.declared.fault.BuildFault.TheVariants.{Memory};
+
+    ghost from_gives = { λ _ e. e ≡ Memory };
+
+    fn from(_: AllocFailed<T>) -> BuildFault {
+        BuildFault::Memory
+    }
+}
+
+impl From<SyntaxFault> for BuildFault {
+    ghost use Rattle.lp_build.specs.Faults.{IsOfTexts};
+
+    ghost from_gives = { λ _ e. IsOfTexts e };
+
+    fn from(fault: SyntaxFault) -> BuildFault {
+        match fault {
+            SyntaxFault::Unexpected(_)
+            | SyntaxFault::Ambiguous(_)
+            | SyntaxFault::Unclosed(_)
+            | SyntaxFault::Unsupported(_) => BuildFault::Syntax(fault),
+            SyntaxFault::Operator(FixFault::TooHigh(_) | FixFault::Otherwise, _) => {
+                BuildFault::Syntax(fault)
+            }
+            SyntaxFault::Operator(FixFault::Memory, _) | SyntaxFault::Memory => BuildFault::Memory,
+            SyntaxFault::Limit(limit) => BuildFault::Limit(limit),
+        }
+    }
+}
+
+impl From<SigFault> for BuildFault {
+    ghost use Rattle.lp_build.specs.Faults.{IsOfTexts};
+
+    ghost from_gives = { λ _ e. IsOfTexts e };
+
+    fn from(fault: SigFault) -> BuildFault {
+        match fault {
+            SigFault::Limit(limit) => BuildFault::Limit(limit),
+            SigFault::Memory => BuildFault::Memory,
+            SigFault::UnknownKind(_)
+            | SigFault::Arity(_)
+            | SigFault::Differ(_)
+            | SigFault::CyclicAbbreviation(_)
+            | SigFault::CyclicSignature(_)
+            | SigFault::Header(_) => BuildFault::Sig(fault),
+        }
+    }
+}
+
+impl From<ModuleFault> for BuildFault {
+    ghost use Rattle.lp_build.specs.Faults.{IsOfTexts};
+
+    ghost from_gives = { λ _ e. IsOfTexts e };
+
+    fn from(fault: ModuleFault) -> BuildFault {
+        match fault {
+            ModuleFault::Limit(limit) | ModuleFault::Sig(SigFault::Limit(limit)) => {
+                BuildFault::Limit(limit)
+            }
+            ModuleFault::Memory
+            | ModuleFault::Sig(SigFault::Memory)
+            | ModuleFault::Infer(InferFault::Memory) => BuildFault::Memory,
+            _ => BuildFault::Module(fault),
+        }
+    }
+}

@@ -1,0 +1,33 @@
+//! From the files of a set of modules to their program.
+#![tactic(auto)]
+
+// The program of the files.
+mod build;
+// Why the files have no program.
+mod fault;
+// Which files the texts name.
+mod links;
+// The loading of files.
+mod load;
+// What all modules mean.
+mod modules;
+// What queries see.
+mod queries;
+// The reading of one file.
+mod read;
+// What all signatures mean.
+mod signatures;
+// Files as they were loaded.
+mod sources;
+// The syntax of all files.
+mod texts;
+// The order in which files are loaded.
+mod walk;
+
+pub use build::{Built, build_program};
+pub use fault::BuildFault;
+pub use load::{gather, gather_with};
+pub use sources::Sources;
+
+#[cfg(test)]
+mod tests;

@@ -1,0 +1,43 @@
+// The loading of files.
+ghost use Rattle.std.specs.Prelude.{◌++◌, codes, IfOk, IfErr, length};
+ghost use Rattle.lp_build.specs.Loads.{Outside, fault_beside, IsOfLoading, BeginsWith, names_of};
+
+use crate::fault::BuildFault;
+use crate::sources::Sources;
+use crate::walk::Loading;
+use lp_base::Folder;
+use std::alloc::Global;
+
+/// Loads a module with all that it needs, in load order, each file once. Where `all` is false accumulated modules are loaded by signature alone. A
+/// refusal gives back what was loaded so far, the name of the file at fault with it.
+pub fn gather<F: Folder>(
+    alloc: Global,
+    folder: &mut F,
+    root: &str,
+    all: bool,
+) -> Result<Sources, (Sources, BuildFault)>
+    ensures begins { IfOk result (λ sources. BeginsWith (root.now ++ codes ".sig") (names_of sources.files.items)) }
+    ensures refused { IfErr result (λ r. IsOfLoading (length r.0.files.items) r.1) }
+    ensures outside { Outside F.read_faults F.misses F.overs F.write_faults F.held folder.old folder.new (fault_beside result) }
+{
+    gather_with(alloc, folder, root, all, Vec::new(alloc))
+}
+
+/// As `gather`, where files whose names and bytes are given are not read again.
+pub fn gather_with<F: Folder>(
+    alloc: Global,
+    folder: &mut F,
+    root: &str,
+    all: bool,
+    known: Vec<(String, Vec<u8>)>,
+) -> Result<Sources, (Sources, BuildFault)>
+    ensures begins { IfOk result (λ sources. BeginsWith (root.now ++ codes ".sig") (names_of sources.files.items)) }
+    ensures refused { IfErr result (λ r. IsOfLoading (length r.0.files.items) r.1) }
+    ensures outside { Outside F.read_faults F.misses F.overs F.write_faults F.held folder.old folder.new (fault_beside result) }
+{
+    let mut loading = Loading::new(alloc, all, known);
+    match loading.run(folder, root) {
+        Ok(()) => Ok(loading.sources),
+        Err(fault) => Err((loading.sources, fault)),
+    }
+}

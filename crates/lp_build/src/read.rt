@@ -1,0 +1,128 @@
+// The reading of one file.
+ghost use Rattle.std.specs.Prelude.{◌≡◌, ◌++◌, ◌+◌, ◌∷◌, [], ◌<◌, codes, IfOk, OnOk, IfErr, length, string_bytes};
+ghost use Rattle.lp_build.specs.Loads.{Outside, fault_of, IsOfText, IsOfRead, IsOfLoading, names_of, ending};
+
+use crate::fault::BuildFault;
+use crate::sources::{File, Part, Sources, Text};
+use lp_base::{Folder, Limit, Memory, ReadErr};
+use lp_lexer::{LexFault, tokens};
+use lp_syntax::references;
+use std::alloc::Global;
+
+// A source file has at most so many bytes.
+const LONGEST_FILE: u64 = 1_048_576;
+
+// At most so many files are loaded.
+const MOST_FILES: usize = 256;
+
+// The bytes of a file that is known, taken out.
+fn take_known(known: &mut Vec<(String, Vec<u8>)>, name: &str) -> Option<Vec<u8>> {
+    for at in 0..known.len() {
+        if known[at].0.as_str() == name {
+            return Some(known.swap_remove(at).1);
+        }
+    }
+    None
+}
+
+// The bytes of the file of this number.
+fn read_bytes<F: Folder>(
+    alloc: Global,
+    folder: &mut F,
+    name: &str,
+    number: u32,
+) -> Result<Vec<u8>, BuildFault>
+    ensures outside { Outside F.read_faults F.misses F.overs F.write_faults F.held folder.old folder.new (fault_of result) }
+    ensures refused { IfErr result (IsOfRead number) }
+{
+    match folder.read(alloc, name, LONGEST_FILE) {
+        Ok(bytes) => Ok(bytes),
+        Err(ReadErr::Failed) => Err(BuildFault::Read(number)),
+        Err(ReadErr::Missing) => Err(BuildFault::Missing(number)),
+        Err(ReadErr::TooLong(_)) => Err(BuildFault::Limit(Limit::File)),
+        Err(ReadErr::Memory) => Err(BuildFault::Memory),
+    }
+}
+
+// The tokens of the file of this number, and what they say of other files.
+fn text_of(alloc: Global, bytes: Vec<u8>, number: u32) -> Result<Text, BuildFault>
+    ensures refused { IfErr result (IsOfText number) }
+{
+    let tokens = match tokens(alloc, &bytes) {
+        Ok(tokens) => tokens,
+        Err(LexFault::Memory) => return Err(BuildFault::Memory),
+        Err(fault) => return Err(BuildFault::Lex(number, fault)),
+    };
+    let references = references(alloc, &bytes, &tokens, number)?;
+    Ok(Text {
+        bytes,
+        tokens,
+        references,
+    })
+}
+
+// What is read of the file of this number, where its bytes are not known.
+fn read_text<F: Folder>(
+    alloc: Global,
+    folder: &mut F,
+    known: &mut Vec<(String, Vec<u8>)>,
+    name: &str,
+    number: u32,
+) -> Result<Text, BuildFault>
+    ensures outside { Outside F.read_faults F.misses F.overs F.write_faults F.held folder.old folder.new (fault_of result) }
+    ensures refused { IfErr result (IsOfLoading number) }
+{
+    if let Some(bytes) = take_known(known, name) {
+        return text_of(alloc, bytes, number);
+    }
+    let bytes = read_bytes(alloc, folder, name, number)?;
+    text_of(alloc, bytes, number)
+}
+
+// The name of a file of a module.
+fn file_name(alloc: Global, stem: &str, part: Part) -> Result<String, Memory>
+    ensures { IfOk result (λ name. string_bytes name ≡ stem.now ++ ending part) }
+{
+    let mut name = String::from_str(alloc, stem)?;
+    match part {
+        Part::Signature => name.push_str(".sig")?,
+        Part::Module => name.push_str(".mod")?,
+    }
+    Ok(name)
+}
+
+// Loads one text of the module of this name, behind the files so far.
+pub(crate) fn load_file<F: Folder>(
+    alloc: Global,
+    folder: &mut F,
+    known: &mut Vec<(String, Vec<u8>)>,
+    sources: &mut Sources,
+    stem: &str,
+    part: Part,
+) -> Result<usize, BuildFault>
+    ensures outside { Outside F.read_faults F.misses F.overs F.write_faults F.held folder.old folder.new (fault_of result) }
+    ensures refused { IfErr result (IsOfLoading (length sources.new.files.items)) }
+    ensures names { OnOk result (names_of sources.new.files.items ≡ names_of sources.old.files.items ++ (stem.now ++ ending part) ∷ []) }
+{
+    let at = sources.files.len();
+    if at >= MOST_FILES {
+        return Err(BuildFault::Limit(Limit::Modules));
+    }
+    let name = file_name(alloc, stem, part)?;
+    let module = String::from_str(alloc, stem)?;
+    match read_text(alloc, folder, known, name.as_str(), at as u32) {
+        Ok(text) => {
+            sources.files.push(File {
+                name,
+                module,
+                part,
+                text,
+            })?;
+            Ok(at)
+        }
+        Err(fault) => {
+            sources.refused = Some(name);
+            Err(fault)
+        }
+    }
+}

@@ -1,0 +1,273 @@
+// The order in which files are loaded.
+ghost use Rattle.std.specs.Prelude.{◌≡◌, ◌++◌, ◌∷◌, [], ◌<◌, ◌^◌, codes, IfOk, OnOk, IfErr, length};
+ghost use Rattle.lp_build.specs.Loads.{Outside, fault_of, IsOfLoading, IsOfWord, names_of, BeginsWith, Keeps, ending};
+
+use crate::fault::BuildFault;
+use crate::read::load_file;
+use crate::sources::{Part, Sources};
+use indexmap::IndexSet;
+use lp_base::{Folder, Limit, Memory, Spot};
+use lp_sig::spelled_at;
+use std::alloc::Global;
+
+// A word of accumulate or accum_sig has at most so many bytes.
+const LONGEST_WORD: usize = 255;
+
+// What is still to be loaded.
+#[derive(Drop)]
+enum Work {
+    // The signatures that a file names by accum_sig, from that word on.
+    Signatures(usize, usize),
+    // The module file of this name, and what it names.
+    Module(String),
+    // What a module file accumulates, from that word on.
+    Accumulated(usize, usize),
+}
+
+// What is loaded so far, and what is still to be loaded, the next on top.
+#[derive(Drop)]
+pub(crate) struct Loading {
+    alloc: Global,
+    all: bool,
+    known: Vec<(String, Vec<u8>)>,
+    pub sources: Sources,
+    signatures: IndexSet<Vec<u8>>,
+    modules: IndexSet<Vec<u8>>,
+    work: Vec<Work>,
+}
+
+impl Loading {
+    pub(crate) fn new(alloc: Global, all: bool, known: Vec<(String, Vec<u8>)>) -> Loading
+        ensures { result.sources.files.items ≡ [] }
+    {
+        Loading {
+            alloc,
+            all,
+            known,
+            sources: Sources {
+                files: Vec::new(alloc),
+                refused: None,
+            },
+            signatures: IndexSet::new(alloc),
+            modules: IndexSet::new(alloc),
+            work: Vec::new(alloc),
+        }
+    }
+
+    // Loads one text of a module.
+    fn load<F: Folder>(
+        &mut self,
+        folder: &mut F,
+        name: &str,
+        part: Part,
+    ) -> Result<usize, BuildFault>
+        ensures outside { Outside F.read_faults F.misses F.overs F.write_faults F.held folder.old folder.new (fault_of result) }
+        ensures refused { IfErr result (IsOfLoading (length self.new.sources.files.items)) }
+        ensures names { OnOk result (names_of self.new.sources.files.items ≡ names_of self.old.sources.files.items ++ (name.now ++ ending part) ∷ []) }
+    {
+        load_file(
+            self.alloc,
+            folder,
+            &mut self.known,
+            &mut self.sources,
+            name,
+            part,
+        )
+    }
+
+    // Loads a signature. Those that it names come right behind it.
+    fn load_signature<F: Folder>(&mut self, folder: &mut F, name: &str) -> Result<(), BuildFault>
+        ensures outside { Outside F.read_faults F.misses F.overs F.write_faults F.held folder.old folder.new (fault_of result) }
+        ensures refused { IfErr result (IsOfLoading (length self.new.sources.files.items)) }
+        ensures names { OnOk result (names_of self.new.sources.files.items ≡ names_of self.old.sources.files.items ++ (name.now ++ codes ".sig") ∷ []) }
+    {
+        let file = self.load(folder, name, Part::Signature)?;
+        self.work.push(Work::Signatures(file, 0))?;
+        Ok(())
+    }
+
+    // Loads a module's own file, whose signature is loaded. Then come the signatures that it names, and then what it accumulates.
+    fn load_module<F: Folder>(&mut self, folder: &mut F, name: &str) -> Result<(), BuildFault>
+        ensures outside { Outside F.read_faults F.misses F.overs F.write_faults F.held folder.old folder.new (fault_of result) }
+        ensures refused { IfErr result (IsOfLoading (length self.new.sources.files.items)) }
+        ensures keeps { OnOk result (Keeps (names_of self.old.sources.files.items) (names_of self.new.sources.files.items)) }
+    {
+        let file = self.load(folder, name, Part::Module)?;
+        self.work.push(Work::Accumulated(file, 0))?;
+        self.work.push(Work::Signatures(file, 0))?;
+        Ok(())
+    }
+
+    // Whether a signature was not asked for before.
+    fn is_new_signature(&mut self, name: &str) -> Result<bool, Memory>
+        ensures { self.new.sources ≡ self.old.sources }
+    {
+        let key = Vec::from_slice(self.alloc, name.as_bytes())?;
+        Ok(self.signatures.insert(key)?)
+    }
+
+    // Whether a module was not asked for before.
+    fn is_new_module(&mut self, name: &str) -> Result<bool, Memory>
+        ensures { self.new.sources ≡ self.old.sources }
+    {
+        let key = Vec::from_slice(self.alloc, name.as_bytes())?;
+        Ok(self.modules.insert(key)?)
+    }
+
+    // A module's own file comes behind its signature.
+    fn await_module(&mut self, name: &str) -> Result<(), Memory>
+        ensures { self.new.sources ≡ self.old.sources }
+    {
+        let module = String::from_str(self.alloc, name)?;
+        self.work.push(Work::Module(module))?;
+        Ok(())
+    }
+
+    // Loads a signature, unless it was asked for before.
+    fn want_signature<F: Folder>(&mut self, folder: &mut F, name: &str) -> Result<(), BuildFault>
+        ensures outside { Outside F.read_faults F.misses F.overs F.write_faults F.held folder.old folder.new (fault_of result) }
+        ensures refused { IfErr result (IsOfLoading (length self.new.sources.files.items)) }
+        ensures keeps { OnOk result (Keeps (names_of self.old.sources.files.items) (names_of self.new.sources.files.items)) }
+    {
+        if !self.is_new_signature(name)? {
+            return Ok(());
+        }
+        self.load_signature(folder, name)
+    }
+
+    // Loads a module, unless it was asked for before.
+    fn want_module<F: Folder>(&mut self, folder: &mut F, name: &str) -> Result<(), BuildFault>
+        ensures outside { Outside F.read_faults F.misses F.overs F.write_faults F.held folder.old folder.new (fault_of result) }
+        ensures refused { IfErr result (IsOfLoading (length self.new.sources.files.items)) }
+        ensures keeps { OnOk result (Keeps (names_of self.old.sources.files.items) (names_of self.new.sources.files.items)) }
+    {
+        if !self.is_new_module(name)? {
+            return Ok(());
+        }
+        self.await_module(name)?;
+        self.want_signature(folder, name)
+    }
+
+    // Loads what the words of accum_sig from one on say.
+    fn next_signature<F: Folder>(
+        &mut self,
+        folder: &mut F,
+        file: usize,
+        at: usize,
+    ) -> Result<(), BuildFault>
+        ensures outside { Outside F.read_faults F.misses F.overs F.write_faults F.held folder.old folder.new (fault_of result) }
+        ensures refused { IfErr result (IsOfLoading (length self.new.sources.files.items)) }
+        ensures keeps { OnOk result (Keeps (names_of self.old.sources.files.items) (names_of self.new.sources.files.items)) }
+    {
+        let Some(name) = self.named(file, at)? else {
+            return Ok(());
+        };
+        self.work
+            .push(Work::Signatures(file, at.saturating_add(1)))?;
+        self.want_signature(folder, name.as_str())
+    }
+
+    // Loads what the words of accumulate from one on say.
+    fn next_module<F: Folder>(
+        &mut self,
+        folder: &mut F,
+        file: usize,
+        at: usize,
+    ) -> Result<(), BuildFault>
+        ensures outside { Outside F.read_faults F.misses F.overs F.write_faults F.held folder.old folder.new (fault_of result) }
+        ensures refused { IfErr result (IsOfLoading (length self.new.sources.files.items)) }
+        ensures keeps { OnOk result (Keeps (names_of self.old.sources.files.items) (names_of self.new.sources.files.items)) }
+    {
+        let Some(name) = self.accumulated(file, at)? else {
+            return Ok(());
+        };
+        self.work
+            .push(Work::Accumulated(file, at.saturating_add(1)))?;
+        if self.all {
+            self.want_module(folder, name.as_str())
+        } else {
+            self.want_signature(folder, name.as_str())
+        }
+    }
+
+    fn step<F: Folder>(&mut self, folder: &mut F, work: Work) -> Result<(), BuildFault>
+        ensures outside { Outside F.read_faults F.misses F.overs F.write_faults F.held folder.old folder.new (fault_of result) }
+        ensures refused { IfErr result (IsOfLoading (length self.new.sources.files.items)) }
+        ensures keeps { OnOk result (Keeps (names_of self.old.sources.files.items) (names_of self.new.sources.files.items)) }
+    {
+        match work {
+            Work::Signatures(file, at) => self.next_signature(folder, file, at),
+            Work::Module(name) => self.load_module(folder, name.as_str()),
+            Work::Accumulated(file, at) => self.next_module(folder, file, at),
+        }
+    }
+
+    // Loads the signature of the root, which comes first.
+    fn begin<F: Folder>(&mut self, folder: &mut F, root: &str) -> Result<(), BuildFault>
+        ensures outside { Outside F.read_faults F.misses F.overs F.write_faults F.held folder.old folder.new (fault_of result) }
+        ensures refused { IfErr result (IsOfLoading (length self.new.sources.files.items)) }
+        ensures names { OnOk result (names_of self.new.sources.files.items ≡ names_of self.old.sources.files.items ++ (root.now ++ codes ".sig") ∷ []) }
+    {
+        self.is_new_module(root)?;
+        self.is_new_signature(root)?;
+        self.await_module(root)?;
+        self.load_signature(folder, root)
+    }
+
+    // Loads a module with all that it needs.
+    pub(crate) fn run<F: Folder>(&mut self, folder: &mut F, root: &str) -> Result<(), BuildFault>
+        requires { self.old.sources.files.items ≡ [] }
+        ensures outside { Outside F.read_faults F.misses F.overs F.write_faults F.held folder.old folder.new (fault_of result) }
+        ensures refused { IfErr result (IsOfLoading (length self.new.sources.files.items)) }
+        ensures begins { OnOk result (BeginsWith (root.now ++ codes ".sig") (names_of self.new.sources.files.items)) }
+    {
+        self.begin(folder, root)?;
+        for _ in 0..u64::MAX {
+            match self.work.pop() {
+                Some(work) => self.step(folder, work)?,
+                None => return Ok(()),
+            }
+        }
+        Err(BuildFault::Memory)
+    }
+
+    // The word of a file's accum_sig sentences at a place.
+    fn named(&self, file: usize, at: usize) -> Result<Option<String>, BuildFault>
+        ensures { IfErr result IsOfWord }
+    {
+        let Some(found) = self.sources.files.get(file) else {
+            return Ok(None);
+        };
+        let Some(word) = found.text.references.accum_sig.get(at) else {
+            return Ok(None);
+        };
+        name_of(self.alloc, &found.text.bytes, *word)
+    }
+
+    // The word of a file's accumulate sentences at a place.
+    fn accumulated(&self, file: usize, at: usize) -> Result<Option<String>, BuildFault>
+        ensures { IfErr result IsOfWord }
+    {
+        let Some(found) = self.sources.files.get(file) else {
+            return Ok(None);
+        };
+        let Some(word) = found.text.references.accumulate.get(at) else {
+            return Ok(None);
+        };
+        name_of(self.alloc, &found.text.bytes, *word)
+    }
+}
+
+// A word as a name of a file.
+fn name_of(alloc: Global, source: &[u8], word: Spot) -> Result<Option<String>, BuildFault>
+    ensures { IfErr result IsOfWord }
+{
+    let spelled = spelled_at(source, word);
+    if spelled.len() > LONGEST_WORD {
+        return Err(BuildFault::Limit(Limit::NameLength));
+    }
+    match str::from_utf8(spelled) {
+        Ok(name) => Ok(Some(String::from_str(alloc, name)?)),
+        Err(_) => Err(BuildFault::Memory),
+    }
+}

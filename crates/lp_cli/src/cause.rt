@@ -1,0 +1,37 @@
+// Why texts are refused, as the program tells it.
+
+use lp_base::{Limit, Spot};
+
+/// What is said of a text, and of which piece of it. With `is_named` the piece itself is told.
+#[derive(Clone, Copy)]
+pub struct Blame {
+    pub text: &'static str,
+    pub spot: Spot,
+    pub is_named: bool,
+}
+
+/// Why texts are refused.
+#[derive(Clone, Copy)]
+pub enum Cause {
+    Text(Blame),
+    Limit(Limit),
+    Memory,
+}
+
+/// A text that is said of a place alone.
+pub fn at(text: &'static str, spot: Spot) -> Cause {
+    Cause::Text(Blame {
+        text,
+        spot,
+        is_named: false,
+    })
+}
+
+/// A text that is said of a name.
+pub fn named(text: &'static str, spot: Spot) -> Cause {
+    Cause::Text(Blame {
+        text,
+        spot,
+        is_named: true,
+    })
+}

@@ -1,0 +1,155 @@
+// The reading of a module's two files and of the query.
+ghost use Rattle.std.specs.Prelude.{◌≡◌, ◌≢◌, ◌+◌, ◌++◌, ◌<◌, ◌≤◌, ◌⊎◌, ◌^◌, ℕ, List, Option, length, codes, string_bytes, Some, None, Ok, IfOk, IfErr, IfSome};
+ghost use Rattle.lp_base.specs.Counts.{HasRisen, Counts};
+ghost use Rattle.lp_base.specs.Held.{Held};
+ghost use Rattle.lp_base.specs.Read.{IfTooLong, IsTooLong, IsLonger};
+ghost use Rattle.lp_cli.specs.Words.{signature_file, module_file};
+ghost use Rattle.lp_cli.specs.Order.{Order, Beyond, with_file, order_of_texts, order_read, order_behind, order_of};
+ghost use Rattle.lp_cli.specs.Refusals.{Causes, Reads, Loads, IsMeant, IsLine, IsStatus};
+
+use super::loaded::Loaded;
+use crate::lines::{limit, missing, read_fault};
+use crate::refusal::Refusal;
+use lp_base::{Folder, Limit, Memory, ReadErr, Status};
+use lp_fragment::{is_signature, read};
+use std::alloc::Global;
+
+// The bytes of a file.
+fn read_file<F: Folder>(alloc: Global, file: &str, folder: &mut F) -> Result<Vec<u8>, Refusal>
+    ensures reads { Reads file.now (F.held folder.old) result }
+    ensures read_faults { Causes result Status.ReadFault (F.read_faults folder.old) (F.read_faults folder.new) }
+    ensures misses { Causes result Status.Missing (F.misses folder.old) (F.misses folder.new) }
+    ensures overs { Causes result Status.Limit (F.overs folder.old) (F.overs folder.new) }
+    ensures write_faults { F.write_faults folder.new ≡ F.write_faults folder.old }
+    ensures held { F.held folder.new ≡ F.held folder.old }
+{
+    match folder.read(alloc, file, 1_048_576) {
+        Ok(bytes) => Ok(bytes),
+        Err(ReadErr::Failed) => Err(Refusal::Line(Status::ReadFault, read_fault(alloc, file)?)),
+        Err(ReadErr::Missing) => Err(Refusal::Line(Status::Missing, missing(alloc, file)?)),
+        Err(ReadErr::TooLong(_)) => Err(Refusal::Line(Status::Limit, limit(alloc, Limit::File)?)),
+        Err(ReadErr::Memory) => Err(Refusal::Memory),
+    }
+}
+
+fn file_name(alloc: Global, name: &str, ending: &str) -> Result<String, Memory>
+    ensures { IfOk result (λ file. string_bytes file ≡ name.now ++ ending.now) }
+{
+    let mut file = String::from_str(alloc, name)?;
+    file.push_str(ending)?;
+    Ok(file)
+}
+
+// One file that was read.
+fn one_file(alloc: Global, file: String, bytes: Vec<u8>) -> Result<Loaded, Memory>
+    ensures meant { IfOk result IsMeant }
+    ensures loads { IfOk result (λ l. (name : List ℕ) (told : Option Held) → Loads name (λ held. Beyond) told (Ok l)) }
+{
+    let mut known = Vec::new(alloc);
+    known.push((file, bytes))?;
+    Ok(Loaded::Beyond(known))
+}
+
+// Both files, which were read.
+fn both_files(
+    alloc: Global,
+    name: &str,
+    signature: Vec<u8>,
+    body: Vec<u8>,
+) -> Result<Loaded, Memory>
+    ensures meant { IfOk result IsMeant }
+    ensures loads { IfOk result (λ l. (name : List ℕ) (told : Option Held) → Loads name (λ held. Beyond) told (Ok l)) }
+{
+    let mut known = Vec::new(alloc);
+    known.push((file_name(alloc, name, ".sig")?, signature))?;
+    known.push((file_name(alloc, name, ".mod")?, body))?;
+    Ok(Loaded::Beyond(known))
+}
+
+// What the three texts come to.
+fn take_texts(
+    alloc: Global,
+    name: &str,
+    query: &str,
+    signature: Vec<u8>,
+    body: Vec<u8>,
+) -> Result<Loaded, Refusal>
+    ensures meant { IfOk result IsMeant }
+    ensures loads { (told : Option Held) → Loads name.now (λ held. order_of_texts name.now query.now signature.items body.items) told result }
+    ensures only { IsLine result → ⊥ }
+{
+    match read(alloc, name.as_bytes(), &signature, &body, query.as_bytes())? {
+        Some(reading) => Ok(Loaded::Meaning(reading)),
+        None => Ok(both_files(alloc, name, signature, body)?),
+    }
+}
+
+// Reads the module, where its signature was read and is one of the fragment.
+fn load_module<F: Folder>(
+    alloc: Global,
+    name: &str,
+    query: &str,
+    signature: Vec<u8>,
+    folder: &mut F,
+) -> Result<Loaded, Refusal>
+    ensures meant { IfOk result IsMeant }
+    ensures loads { Loads name.now (order_read name.now query.now signature.items) (F.held folder.old) result }
+    ensures read_faults { Causes result Status.ReadFault (F.read_faults folder.old) (F.read_faults folder.new) }
+    ensures misses { Causes result Status.Missing (F.misses folder.old) (F.misses folder.new) }
+    ensures overs { Causes result Status.Limit (F.overs folder.old) (F.overs folder.new) }
+    ensures write_faults { F.write_faults folder.new ≡ F.write_faults folder.old }
+    ensures held { F.held folder.new ≡ F.held folder.old }
+{
+    let file = file_name(alloc, name, ".mod")?;
+    match read_file(alloc, file.as_str(), folder) {
+        Ok(body) => take_texts(alloc, name, query, signature, body),
+        Err(refusal) => Err(refusal),
+    }
+}
+
+// Goes on behind the signature, which was read from this file.
+fn go_on<F: Folder>(
+    alloc: Global,
+    name: &str,
+    query: &str,
+    file: String,
+    signature: Vec<u8>,
+    folder: &mut F,
+) -> Result<Loaded, Refusal>
+    ensures meant { IfOk result IsMeant }
+    ensures loads { Loads name.now (order_behind name.now query.now signature.items) (F.held folder.old) result }
+    ensures read_faults { Causes result Status.ReadFault (F.read_faults folder.old) (F.read_faults folder.new) }
+    ensures misses { Causes result Status.Missing (F.misses folder.old) (F.misses folder.new) }
+    ensures overs { Causes result Status.Limit (F.overs folder.old) (F.overs folder.new) }
+    ensures write_faults { F.write_faults folder.new ≡ F.write_faults folder.old }
+    ensures held { F.held folder.new ≡ F.held folder.old }
+{
+    if is_signature(alloc, name.as_bytes(), &signature)? {
+        load_module(alloc, name, query, signature, folder)
+    } else {
+        Ok(one_file(alloc, file, signature)?)
+    }
+}
+
+/// Reads a module's signature, then the module, and takes their texts and the query together. Where the signature by itself is beyond the fragment,
+/// the module is not read.
+pub fn load<F: Folder>(
+    alloc: Global,
+    name: &str,
+    query: &str,
+    folder: &mut F,
+) -> Result<Loaded, Refusal>
+    ensures meant { IfOk result IsMeant }
+    ensures loads { Loads name.now (order_of name.now query.now) (F.held folder.old) result }
+    ensures read_faults { Causes result Status.ReadFault (F.read_faults folder.old) (F.read_faults folder.new) }
+    ensures misses { Causes result Status.Missing (F.misses folder.old) (F.misses folder.new) }
+    ensures overs { Causes result Status.Limit (F.overs folder.old) (F.overs folder.new) }
+    ensures write_faults { F.write_faults folder.new ≡ F.write_faults folder.old }
+    ensures held { F.held folder.new ≡ F.held folder.old }
+{
+    let file = file_name(alloc, name, ".sig")?;
+    match read_file(alloc, file.as_str(), folder) {
+        Ok(signature) => go_on(alloc, name, query, file, signature, folder),
+        Err(refusal) => Err(refusal),
+    }
+}

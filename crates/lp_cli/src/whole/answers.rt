@@ -1,0 +1,113 @@
+// The search of a query, and the writing of its answers.
+ghost use Rattle.std.specs.Prelude.{◌≡◌, ◌≢◌, ◌⊎◌, ◌<◌, ◌≤◌, ◌+◌, ◌^◌, ℕ, List, length, true, IfErr};
+ghost use Rattle.lp_base.specs.Counts.{Counts, HasRisen};
+ghost use Rattle.lp_base.specs.Written.{Appends};
+ghost use Rattle.lp_plain.specs.Held.{variables_of};
+ghost use Rattle.lp_cli.specs.Lines.{is_of_search};
+ghost use Rattle.lp_cli.specs.Ends.{Caused, CausedLong, Grows, IsFault};
+ghost use Rattle.lp_cli.specs.Prepared.{IsPrepared};
+
+use super::prepare::{Prepared, Question, prepare};
+use super::shown::Shown;
+use crate::lines::{ending, status};
+use crate::piece::Piece;
+use crate::refusal::Refusal;
+use crate::say::{refuse, say_memory};
+use lp_base::{Folder, Memory, Sink, Status};
+use lp_model::{Ending, Event};
+use lp_plain::Search;
+use lp_term::TermRefusal;
+use lp_watch::{Crowd, Watch};
+use std::alloc::Global;
+
+// What the search tells next, where so many answers were given.
+fn next_piece<W: Watch>(
+    alloc: Global,
+    shown: &Shown,
+    search: &mut Search,
+    crowd: &mut Crowd<'_, W>,
+    before: u64,
+) -> Result<Piece, Memory>
+    requires { variables_of search.old ≡ length shown.now.names.items }
+    ensures { variables_of search.new ≡ variables_of search.old }
+{
+    match search.next(crowd)? {
+        Event::Ended(why) => Ok(Piece::Over(why)),
+        Event::Answer(mut answer) => {
+            match shown.answer(alloc, before.saturating_add(1), &mut answer) {
+                Ok(lines) => Ok(Piece::Answer(lines)),
+                Err(TermRefusal::Deep(_)) => Ok(Piece::Over(Ending::Deep)),
+                Err(TermRefusal::Memory) => Err(Memory),
+            }
+        }
+    }
+}
+
+// The last line, and behind it the reports.
+fn last_text<W: Watch>(
+    alloc: Global,
+    why: Ending,
+    crowd: &Crowd<'_, W>,
+) -> Result<Vec<u8>, Memory> {
+    let mut text = ending(why).as_bytes().to_vec(alloc)?;
+    text.extend_from_slice(&crowd.reports()?)?;
+    Ok(text)
+}
+
+// Writes each answer as it is found, and then the last line.
+fn write_answers<K: Sink, W: Watch>(
+    alloc: Global,
+    prepared: Prepared,
+    crowd: &mut Crowd<'_, W>,
+    out: &mut K,
+) -> Status
+    requires { IsPrepared prepared }
+    ensures grows { Grows (K.written out.old) (K.written out.new) }
+    ensures of_search { result ≢ Status.WriteFault → is_of_search result ≡ true }
+    ensures write_faults { Counts (result ≡ Status.WriteFault) (K.faults out.old) (K.faults out.new) }
+{
+    let mut search = prepared.search;
+    for before in 0..u64::MAX {
+        match next_piece(alloc, &prepared.shown, &mut search, crowd, before) {
+            Err(Memory) => return say_memory(out),
+            Ok(Piece::Over(why)) => match last_text(alloc, why, crowd) {
+                Ok(text) => return refuse(out, text, status(why)),
+                Err(Memory) => return say_memory(out),
+            },
+            Ok(Piece::Answer(lines)) => match out.put(&lines) {
+                Ok(()) => {}
+                Err(_) => return Status::WriteFault,
+            },
+        }
+    }
+    say_memory(out)
+}
+
+/// Loads a module, searches for the answers of a query on it, and writes them.
+pub fn solve<F: Folder, K: Sink, W: Watch>(
+    alloc: Global,
+    question: Question<'_>,
+    known: Vec<(String, Vec<u8>)>,
+    folder: &mut F,
+    out: &mut K,
+    watchers: &mut Vec<W>,
+) -> Status
+    ensures grows { Grows (K.written out.old) (K.written out.new) }
+    ensures read_fault { result ≡ Status.ReadFault → (text : List ℕ) × (IsFault text × Appends (K.written out.old) (K.written out.new) text) }
+    ensures usage { result ≢ Status.Usage }
+    ensures write_faults { Counts (result ≡ Status.WriteFault) (K.faults out.old) (K.faults out.new) }
+    ensures read_faults { Caused result Status.ReadFault (F.read_faults folder.old) (F.read_faults folder.new) }
+    ensures misses { Caused result Status.Missing (F.misses folder.old) (F.misses folder.new) }
+    ensures overs { CausedLong result (K.written out.old) (K.written out.new) (F.overs folder.old) (F.overs folder.new) }
+    ensures no_file_written { F.write_faults folder.new ≡ F.write_faults folder.old }
+    ensures held { F.held folder.new ≡ F.held folder.old }
+{
+    match prepare(alloc, question, known, folder) {
+        Ok(prepared) => {
+            let mut crowd = Crowd::new(alloc, watchers);
+            write_answers(alloc, prepared, &mut crowd, out)
+        }
+        Err(Refusal::Line(status, line)) => refuse(out, line, status),
+        Err(Refusal::Memory) => say_memory(out),
+    }
+}
