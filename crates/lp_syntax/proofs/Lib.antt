@@ -36,3 +36,5 @@ pub mod SignatureCode
 pub mod TypeUnique
 pub mod LineUnique
 pub mod Referring
+pub mod ModuleFaults
+pub mod ModuleCode

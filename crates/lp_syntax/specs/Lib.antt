@@ -23,3 +23,4 @@ pub mod Declarations
 pub mod LineMachine
 pub mod Signatures
 pub mod References
+pub mod Modules

@@ -4,10 +4,16 @@ ghost use Rattle.lp_syntax.specs.declared.class.Keyword.TheVariants as keyword;
 ghost use Rattle.lp_syntax.specs.declared.class.Class.TheVariants as class;
 ghost use Rattle.lp_syntax.specs.Declarations.{Line, is_word};
 ghost use Rattle.lp_syntax.specs.LineMachine.{AtHeader, StopsIn};
+ghost use Rattle.std.specs.Prelude.{map, OnOk};
+ghost use Rattle.lp_fixity.specs.declared.fixity.FixFault.{FixFault};
+ghost use Rattle.lp_syntax.specs.declared.class.Keyword.{Keyword as Word};
+ghost use Rattle.lp_syntax.specs.declared.fault.SyntaxFault.TheVariants as fault;
+ghost use Rattle.lp_syntax.specs.Terms.{MemoryOr};
+ghost use Rattle.lp_syntax.specs.Modules.{IsFixFault, DeclaresOne, DeclaresAll, NameFault, LineFollows, LineRefuses, SentenceFollows, SentenceRefuses, IsSentenceText, IsSentenceRefusal, IsModuleText, IsModuleRefusal, bytes_of};
 ghost use Rattle.lp_syntax.specs.Signatures.{title, is_local_word, IsHeader, IsLineText, IsLineRefusal, IsSignature, IsSignatureText, IsSignatureRefusal, IsGivenLines};
 ghost use Rattle.std.specs.Prelude.{IfErr};
 ghost use Rattle.lp_fixity.specs.Table.{Extends, entry_of};
-ghost use Rattle.lp_syntax.specs.Tokens.{lexemes, class_at, spot_at};
+ghost use Rattle.lp_syntax.specs.Tokens.{Operators, lexemes, class_at, spot_at, piece};
 ghost use Rattle.lp_syntax.specs.Symbols.{Tree};
 ghost use Rattle.lp_syntax.specs.Queries.{IsQuery, IsQueryText, IsQueryRefusal, IsGiven};
 
@@ -154,26 +160,108 @@ fn declare_one(
     fixity: Fixity,
     number: u32,
 ) -> Result<(), SyntaxFault>
-    ensures { Extends table.old table.new }
+    ensures extends { Extends table.old table.new }
+    ensures declared { OnOk result (DeclaresOne (piece input.now.source.now name.from name.to) (fixity, number) (entry_of table.old) (entry_of table.new)) }
+    ensures fault { IfErr result (λ f. MemoryOr f ((c : FixFault) × IsFixFault (entry_of table.old) (piece input.now.source.now name.from name.to) (fixity, number) c × (f ≡ fault.Operator c name))) }
 {
     let text = input.piece(name.from, name.to);
     match table.declare(text, fixity, number) {
-        Ok(()) => Ok(()),
-        Err(FixFault::Memory) => Err(SyntaxFault::Memory),
-        Err(fault) => Err(SyntaxFault::Operator(fault, name)),
+        Ok(()) => {
+            return Ok(());
+        }
+        Err(FixFault::Memory) => {
+            return Err(SyntaxFault::Memory);
+        }
+        Err(FixFault::TooHigh(n)) => {
+            return Err(SyntaxFault::Operator(FixFault::TooHigh(n), name));
+        }
+        Err(FixFault::Otherwise) => {
+            return Err(SyntaxFault::Operator(FixFault::Otherwise, name));
+        }
     }
+}
+
+fn declare_all(
+    input: &Input<'_>,
+    table: &mut Table,
+    names: &Vec<Spot>,
+    fixity: Fixity,
+    number: u32,
+) -> Result<(), SyntaxFault>
+    ensures extends { Extends table.old table.new }
+    ensures declared { OnOk result (DeclaresAll (fixity, number) (entry_of table.old) (map (bytes_of input.now.source.now) names.now.items) (entry_of table.new)) }
+    ensures fault { IfErr result (λ f. MemoryOr f (NameFault input.now.source.now names.now.items (fixity, number) (entry_of table.old) f)) }
+{
+    let mut place = 0;
+    'over: while place < names.len() {
+        let Some(name) = names.get(place) else {
+            return Ok(());
+        };
+        declare_one(input, table, *name, fixity, number)?;
+        place += 1;
+    }
+    Ok(())
 }
 
 // The fixities of a sentence are in force behind it.
 fn declare(input: &Input<'_>, table: &mut Table, line: &Declaration) -> Result<(), SyntaxFault>
-    ensures { Extends table.old table.new }
+    ensures extends { Extends table.old table.new }
+    ensures declared { OnOk result (LineFollows input.now.source.now line.now (entry_of table.old) (entry_of table.new)) }
+    ensures fault { IfErr result (λ f. MemoryOr f (LineRefuses input.now.source.now line.now (entry_of table.old) f)) }
 {
-    if let Declaration::Fixities(names, fixity, number) = line {
-        for name in names {
-            declare_one(input, table, *name, *fixity, *number)?;
+    match line {
+        Declaration::Fixities(names, fixity, number) => {
+            declare_all(input, table, names, *fixity, *number)
         }
+        _ => Ok(()),
     }
-    Ok(())
+}
+
+fn follow_line(input: &Input<'_>, table: &mut Table, line: &Sentence) -> Result<(), SyntaxFault>
+    ensures extends { Extends table.old table.new }
+    ensures declared { OnOk result (SentenceFollows input.now.source.now line.now (entry_of table.old) (entry_of table.new)) }
+    ensures fault { IfErr result (λ f. MemoryOr f (SentenceRefuses input.now.source.now line.now (entry_of table.old) f)) }
+{
+    match line {
+        Sentence::Declares(declared) => declare(input, table, declared),
+        Sentence::Says(_) => Ok(()),
+    }
+}
+
+// A declaration.
+fn declares(
+    alloc: Global,
+    input: &Input<'_>,
+    at: usize,
+    keyword: Keyword,
+) -> Result<(Sentence, usize), SyntaxFault>
+    requires { at < length input.now.tokens.now }
+    ensures within { IfOk result (λ r. r.1 ≤ length input.now.tokens.now) }
+    ensures further { IfOk result (λ r. at < r.1) }
+    ensures sentence { (ops : Operators) → class_at (lexemes input.now.source.now input.now.tokens.now) at ≡ class.Keyword keyword → IfOk result (λ r. IsSentenceText (spot_at input.now.file input.now.source.now input.now.tokens.now) ops (lexemes input.now.source.now input.now.tokens.now) at r.1 r.0) }
+    ensures fault { (ops : Operators) → class_at (lexemes input.now.source.now input.now.tokens.now) at ≡ class.Keyword keyword → IfErr result (IsSentenceRefusal (spot_at input.now.file input.now.source.now input.now.tokens.now) ops (lexemes input.now.source.now input.now.tokens.now) at) }
+{
+    let (line, end) = declaration(alloc, input, at, keyword)?;
+    Ok((Sentence::Declares(line), end))
+}
+
+// A term with its full stop.
+fn says(
+    alloc: Global,
+    input: &Input<'_>,
+    table: &Table,
+    at: usize,
+) -> Result<(Sentence, usize), SyntaxFault>
+    requires { at < length input.now.tokens.now }
+    ensures within { IfOk result (λ r. r.1 ≤ length input.now.tokens.now) }
+    ensures further { IfOk result (λ r. at < r.1) }
+    ensures sentence { IfOk result (λ r. IsSentenceText (spot_at input.now.file input.now.source.now input.now.tokens.now) (entry_of table.now) (lexemes input.now.source.now input.now.tokens.now) at r.1 r.0) }
+    ensures fault { ((k : Word) → class_at (lexemes input.now.source.now input.now.tokens.now) at ≡ class.Keyword k → ⊥) → IfErr result (IsSentenceRefusal (spot_at input.now.file input.now.source.now input.now.tokens.now) (entry_of table.now) (lexemes input.now.source.now input.now.tokens.now) at) }
+{
+    let text = read_term(alloc, input, table, at)?;
+    let end = input.dot(text.end)?;
+    let term = text.within()?;
+    Ok((Sentence::Says(term), end))
 }
 
 // A declaration, or a term with its full stop.
@@ -186,17 +274,12 @@ fn module_line(
     requires { at < length input.now.tokens.now }
     ensures within { IfOk result (λ r. r.1 ≤ length input.now.tokens.now) }
     ensures further { IfOk result (λ r. at < r.1) }
+    ensures sentence { IfOk result (λ r. IsSentenceText (spot_at input.now.file input.now.source.now input.now.tokens.now) (entry_of table.now) (lexemes input.now.source.now input.now.tokens.now) at r.1 r.0) }
+    ensures fault { IfErr result (IsSentenceRefusal (spot_at input.now.file input.now.source.now input.now.tokens.now) (entry_of table.now) (lexemes input.now.source.now input.now.tokens.now) at) }
 {
     match input.class(at) {
-        Class::Keyword(keyword) => {
-            let (line, end) = declaration(alloc, input, at, keyword)?;
-            Ok((Sentence::Declares(line), end))
-        }
-        _ => {
-            let text = read_term(alloc, input, table, at)?;
-            let end = input.dot(text.end)?;
-            Ok((Sentence::Says(text.within()?), end))
-        }
+        Class::Keyword(keyword) => declares(alloc, input, at, keyword),
+        _ => says(alloc, input, table, at),
     }
 }
 
@@ -211,7 +294,9 @@ pub fn module_text(
     file: u32,
     table: &mut Table,
 ) -> Result<ModuleText, SyntaxFault>
-    ensures { Extends table.old table.new }
+    ensures extends { Extends table.old table.new }
+    ensures tree { IfOk result (IsModuleText (spot_at file source.now tokens.now) (entry_of table.old) (entry_of table.new) (lexemes source.now tokens.now)) }
+    ensures fault { IfErr result (IsModuleRefusal (spot_at file source.now tokens.now) (entry_of table.old) (lexemes source.now tokens.now)) }
 {
     let input = Input {
         source,
@@ -223,9 +308,7 @@ pub fn module_text(
     let mut at = first;
     'over: while at < tokens.len() {
         let (line, end) = module_line(alloc, &input, table, at)?;
-        if let Sentence::Declares(declared) = &line {
-            declare(&input, table, declared)?;
-        }
+        follow_line(&input, table, &line)?;
         lines.push(line)?;
         at = end;
     }
