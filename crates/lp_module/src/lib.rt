@@ -25,6 +25,8 @@ mod numbers;
 mod reading;
 // The sentences of a module.
 mod sentences;
+#[cfg(test)]
+mod tests;
 // The tree of copies.
 mod tree;
 // The order of modules, and circles of accumulate.
