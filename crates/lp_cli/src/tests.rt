@@ -10,6 +10,8 @@ mod refusals;
 mod rows;
 // Faults of the outside.
 mod outside;
+// The first path beside that of the whole language.
+mod paths;
 // Generated queries.
 mod trials;
 // Watchers.

@@ -5,6 +5,7 @@ use crate::choice::Call;
 use crate::frame::Assumption;
 use crate::head::{Head, may_meet};
 use crate::known::known;
+use crate::newest::{Newest, newest_of};
 use crate::table::{Span, Table};
 use lp_base::Memory;
 use lp_term::{Bank, TermNode};
@@ -53,20 +54,6 @@ pub(crate) fn index_of(
     Ok(index)
 }
 
-// The first assumption from one on that has the head.
-fn assumed_from(assumptions: &Vec<Assumption>, head: Head, from: Option<usize>) -> Option<usize> {
-    let mut at = from;
-    for _ in 0..u64::MAX {
-        let number = at?;
-        let assumption = assumptions.get(number)?;
-        if assumption.head == Some(head) {
-            return Some(number);
-        }
-        at = assumption.older;
-    }
-    None
-}
-
 // The first program clause from one on that passes the filter.
 fn program_from(bank: &Bank, table: &Table, call: &Call, from: Option<usize>) -> Option<usize> {
     let mut at = from;
@@ -91,16 +78,15 @@ fn program_first(bank: &Bank, table: &Table, index: &Index, call: &Call) -> Opti
     }
 }
 
-// The first candidate among the assumptions from one on and the program's clauses.
-fn from_assumed(
+// This assumption, or the first program clause where there is none.
+fn assumed_or_first(
     bank: &Bank,
     table: &Table,
     index: &Index,
-    assumptions: &Vec<Assumption>,
     call: &Call,
-    from: Option<usize>,
+    assumed: Option<usize>,
 ) -> Option<Candidate> {
-    match assumed_from(assumptions, call.head, from) {
+    match assumed {
         Some(number) => Some(Candidate::Assumed(number)),
         None => program_first(bank, table, index, call),
     }
@@ -110,10 +96,11 @@ pub(crate) fn first_candidate(
     bank: &Bank,
     table: &Table,
     index: &Index,
-    assumptions: &Vec<Assumption>,
+    newest: &Vec<Newest>,
     call: &Call,
 ) -> Option<Candidate> {
-    from_assumed(bank, table, index, assumptions, call, call.place.assumed)
+    let assumed = newest_of(newest, call.place.assumed, call.head);
+    assumed_or_first(bank, table, index, call, assumed)
 }
 
 pub(crate) fn candidate_after(
@@ -127,7 +114,7 @@ pub(crate) fn candidate_after(
     match candidate {
         Candidate::Assumed(number) => {
             let older = assumptions.get(number)?.older;
-            from_assumed(bank, table, index, assumptions, call, older)
+            assumed_or_first(bank, table, index, call, older)
         }
         Candidate::Program(number) => {
             let next = table.rules.get(number)?.next;

@@ -13,6 +13,7 @@ use lp_term::TermId;
 pub(crate) struct Lengths {
     pub(crate) frames: usize,
     pub(crate) assumptions: usize,
+    pub(crate) newest: usize,
     pub(crate) scopes: ScopeMark,
 }
 

@@ -1,12 +1,11 @@
 // Goals that are to be proved, and assumed clauses: lists whose cells are named by numbers and shared by branches.
 
-use crate::head::Head;
 use crate::instance::Values;
 use crate::table::Span;
 use lp_term::TermId;
 
-/// Where a goal stands: the values of its variables, its newest assumption, its level, and how many of the oldest
-/// alternatives a cut in it keeps.
+/// Where a goal stands: the values of its variables, the tree of its newest assumptions, its level, and how many of the
+/// oldest alternatives a cut in it keeps.
 #[derive(Clone, Copy)]
 pub(crate) struct Place {
     pub(crate) values: Values,
@@ -30,12 +29,11 @@ pub(crate) struct Frame {
     pub(crate) behind: Option<usize>,
 }
 
-/// An assumed clause by its number, with the values of the variables around it, and the assumption before it. A clause
-/// whose head is neither a constant nor an eigenconstant meets no goal.
+/// An assumed clause by its number, with the values of the variables around it, and the assumption of the same head
+/// before it. A clause whose head is neither a constant nor an eigenconstant meets no goal and is not among them.
 #[derive(Clone, Copy)]
 pub(crate) struct Assumption {
     pub(crate) rule: usize,
     pub(crate) values: Values,
-    pub(crate) head: Option<Head>,
     pub(crate) older: Option<usize>,
 }

@@ -31,6 +31,8 @@ mod known;
 mod machine;
 // The names of goals, as a note tells them.
 mod name;
+// The newest assumption of each head.
+mod newest;
 // The values of bound variables.
 mod scope;
 // How the search goes on, and what is counted on its way.

@@ -5,6 +5,7 @@ use crate::candidates::{Candidate, Index, candidate_after, first_candidate};
 use crate::choice::{Call, Choice, Lengths, Untried};
 use crate::frame::{Assumption, Frame, Place, Todo};
 use crate::instance::instance;
+use crate::newest::Newest;
 use crate::scope::Scopes;
 use crate::table::Table;
 use lp_base::Memory;
@@ -42,6 +43,7 @@ pub(crate) struct Machine {
     pub(crate) scopes: Scopes,
     pub(crate) frames: Vec<Frame>,
     pub(crate) assumptions: Vec<Assumption>,
+    pub(crate) newest: Vec<Newest>,
     pub(crate) choices: Vec<Choice>,
     pub(crate) branch: Branch,
     pub(crate) counts: Counts,
@@ -93,13 +95,7 @@ impl Machine {
     }
 
     pub(crate) fn first_candidate(&self, call: &Call) -> Option<Candidate> {
-        first_candidate(
-            &self.bank,
-            &self.table,
-            &self.index,
-            &self.assumptions,
-            call,
-        )
+        first_candidate(&self.bank, &self.table, &self.index, &self.newest, call)
     }
 
     pub(crate) fn candidate_after(&self, call: &Call, candidate: Candidate) -> Option<Candidate> {
@@ -117,6 +113,7 @@ impl Machine {
         Lengths {
             frames: self.frames.len(),
             assumptions: self.assumptions.len(),
+            newest: self.newest.len(),
             scopes: self.scopes.mark(),
         }
     }
@@ -141,6 +138,7 @@ impl Machine {
         self.bindings.undo(choice.bindings);
         self.frames.truncate(choice.lengths.frames);
         self.assumptions.truncate(choice.lengths.assumptions);
+        self.newest.truncate(choice.lengths.newest);
         self.scopes.undo(choice.lengths.scopes);
         self.branch.next = choice.next;
         self.branch.next_type = choice.next_type;

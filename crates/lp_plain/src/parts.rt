@@ -7,6 +7,7 @@ use crate::head::Head;
 use crate::instance::Values;
 use crate::known::{known, put_application};
 use crate::machine::Machine;
+use crate::newest::{newest_of, with_newest};
 use crate::outcome::{Turn, take_apart};
 use crate::table::{Flat, Span};
 use lp_base::Memory;
@@ -97,21 +98,32 @@ fn assumed_head(machine: &Machine, rule: usize, place: Place) -> Result<Option<H
     }
 }
 
-// Assumes clauses, the first of them to be tried first. The newest assumption then.
+// Assumes a clause of this head. The tree of the newest assumptions then.
+fn assume_one(
+    machine: &mut Machine,
+    rule: usize,
+    place: Place,
+    tree: Option<usize>,
+    head: Head,
+) -> Result<usize, Memory> {
+    let number = machine.assumptions.len();
+    machine.assumptions.push(Assumption {
+        rule,
+        values: place.values,
+        older: newest_of(&machine.newest, tree, head),
+    })?;
+    with_newest(machine.alloc, &mut machine.newest, tree, head, number)
+}
+
+// Assumes clauses, the first of them to be tried first. The tree of the newest assumptions then.
 fn assume(machine: &mut Machine, rules: Span, place: Place) -> Result<Option<usize>, Memory> {
-    let mut newest = place.assumed;
+    let mut tree = place.assumed;
     for rule in (rules.from..rules.to).rev() {
-        let head = assumed_head(machine, rule, place)?;
-        let number = machine.assumptions.len();
-        machine.assumptions.push(Assumption {
-            rule,
-            values: place.values,
-            head,
-            older: newest,
-        })?;
-        newest = Some(number);
+        if let Some(head) = assumed_head(machine, rule, place)? {
+            tree = Some(assume_one(machine, rule, place, tree, head)?);
+        }
     }
-    Ok(newest)
+    Ok(tree)
 }
 
 fn put_assume(

@@ -120,6 +120,7 @@ pub(crate) fn begin(
         scopes,
         frames: Vec::new(alloc),
         assumptions: Vec::new(alloc),
+        newest: Vec::new(alloc),
         choices: Vec::new(alloc),
         branch: Branch {
             goals: None,
