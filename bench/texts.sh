@@ -1,7 +1,7 @@
 #!/usr/bin/env bash
 # Times of reading four texts of nearly 1 MiB: tokens, one comment, one string of escapes, a million open brackets.
-# Run it from any folder: bash bench/texts.sh. Each text is the module of its own folder, asked for `true`, and is answered
-# `source: not built yet` behind the reading of its tokens. Each should take well under a second.
+# Run it from any folder: bash bench/texts.sh. Each text is the module of its own folder, asked for `true`; the comment alone is a module, each other
+# one is refused with its place. Each should take well under a second.
 root=$(cd "$(dirname "$0")/.." && pwd)
 work=$(mktemp -d)
 trap 'rm -rf "$work"' EXIT
