@@ -38,3 +38,6 @@ pub mod LineUnique
 pub mod Referring
 pub mod ModuleFaults
 pub mod ModuleCode
+pub mod Depths
+pub mod ModuleUnique
+pub mod ModuleTexts

@@ -26,15 +26,16 @@ use Rattle.lp_syntax.specs.declared.text.Declaration.TheVariants.{Kinds, LocalKi
 use Rattle.lp_syntax.specs.Declarations.{KindLine, LocalKindLine, ConstantLine, LocalLine, AbbreviationLine, AccumulateLine, AccumSigLine, FixityLine, IsShown}
 use Rattle.lp_syntax.specs.Tokens.{lexemes, spot_at, spot_in, bytes_at, bytes_in, piece, lexeme}
 use Rattle.lp_syntax.specs.Signatures.{IsHeader, IsLine}
-use Rattle.lp_syntax.specs.Modules.{Said, says, IsSaid, AreSaid, AreSentences, no_sentence, one_sentence, Follows, SentencesRead, IsSentenceText, SentenceFollows, SentenceRefuses, LineFollows, LineRefuses, NameFault, OperatorFault, IsBadOperator, BehindSentences, IsModuleRefusal, IsFixFault}
+use Rattle.lp_syntax.specs.Modules.{Said, says, IsSaid, AreSaid, AreSentences, no_sentence, one_sentence, Follows, SentencesRead, IsSentenceText, SentenceFollows, SentenceRefuses, LineFollows, LineRefuses, NameFault, OperatorFault, IsBadOperator, BehindSentences, IsModuleRefusal, IsFixFault, ClauseFits}
 use Rattle.lp_syntax.specs.Modules.{Clause, Declared, IsSentence, declares, SentenceFault, IsSentenceRefusal, DeclaresOne, DeclaresAll, none_declared, one_declared, bytes_of}
+use Rattle.std.proofs.lemmas.List.Elements.{All-nil, All-push}
 use Rattle.lp_syntax.proofs.Tokens.{past_end}
 use Rattle.lp_syntax.proofs.LineCode.{memory_or}
 use Rattle.lp_syntax.proofs.ModuleFaults.{declaration_fault, term_fault, end_fault}
 
 pub declaration_refused : (spot : ℕ → Spot) (ops : Operators) (ls : List Lexeme) (i : ℕ) (k : Keyword) (f : SyntaxFault) → class_at ls i ≡ class.Keyword k → MemoryOr f (IsTooDeep ls k (i + 1) f ⊎ StopsIn spot ls AtStart i f) → IsSentenceRefusal spot ops ls i f
 declaration_refused spot ops ls i k f e (inl m) = inl m
-declaration_refused spot ops ls i k f e (inr (inl d)) = inr (inl (d.0, (d.1.0, Declared d.1.1, declares d.1.1 (record { word = k; there = e; body = d.1.2 }))))
+declaration_refused spot ops ls i k f e (inr (inl d)) = inr (inl (d.0, (d.1.0, Declared d.1.1, declares d.1.1 (record { word = k; there = e; body = d.1.2 }), d.1.3)))
 declaration_refused spot ops ls i k f e (inr (inr s)) = inr (inr (declaration_fault spot ops ls i k f e s))
 
 pub term_refused : (spot : ℕ → Spot) (ops : Operators) (ls : List Lexeme) (i : ℕ) (f : SyntaxFault) → ((k : Keyword) → class_at ls i ≡ class.Keyword k → ⊥) → MemoryOr f (TermFault spot ops ls i f) → IsSentenceRefusal spot ops ls i f
@@ -189,7 +190,7 @@ follows file source ts (Said t) (sentence.Declares d) now after h p = absurd h
 
 -- sentences
 pub none_said : (spot : ℕ → Spot) (ls : List Lexeme) (ops : Operators) (i : ℕ) (ds : List Sentence) → i ≡ 3 → ds ≡ [] → SentencesRead spot ls ops ops i ds
-none_said spot ls ops i ds e n = record { before = []; sentences = subst (λ k. AreSentences ls ops 3 ops k []) (sym e) no_sentence; said = subst (λ l. AreSaid spot ls l []) (sym n) tt }
+none_said spot ls ops i ds e n = record { before = []; sentences = subst (λ k. AreSentences ls ops 3 ops k []) (sym e) no_sentence; said = subst (λ l. AreSaid spot ls l []) (sym n) tt; fit = All-nil (ClauseFits ls) }
 
 said_more : (spot : ℕ → Spot) (ls : List Lexeme) (ds : List Sentence) (d : Sentence) (ss : List Clause) (s : Clause) → AreSaid spot ls ds ss → IsSaid spot ls d s → AreSaid spot ls (ds ++ d ∷ []) (ss ++ s ∷ [])
 said_more spot ls [] d [] s a h = (h, tt)
@@ -202,10 +203,11 @@ one_more_said file source ts ops now after i j ds es d r t p e = record {
   before = r.before ++ t.clause ∷ [];
   sentences = one_sentence now after i j r.before (r.before ++ t.clause ∷ []) t.clause r.sentences t.is (follows file source ts t.clause d now after t.said p) refl;
   said = subst (λ l. AreSaid (spot_at file source ts) (lexemes source ts) l (r.before ++ t.clause ∷ [])) (sym e) (said_more (spot_at file source ts) (lexemes source ts) ds d r.before t.clause r.said t.said);
+  fit = All-push (ClauseFits (lexemes source ts)) r.before t.clause r.fit t.fits;
 }
 
 pub sentence_refused : (spot : ℕ → Spot) (ops now : Operators) (ls : List Lexeme) (i : ℕ) (ds : List Sentence) (f : SyntaxFault) → IsHeader ls keyword.Module → SentencesRead spot ls ops now i ds → i < length ls → IsSentenceRefusal spot now ls i f → IsModuleRefusal spot ops ls f
-sentence_refused spot ops now ls i ds f h r l x = inr (inr (record { header = h; at = i; now = now; before = r.before; sentences = r.sentences; there = l; refuses = inl x }))
+sentence_refused spot ops now ls i ds f h r l x = inr (inr (record { header = h; at = i; now = now; before = r.before; sentences = r.sentences; fit = r.fit; there = l; refuses = inl x }))
 
 -- the name at a place
 record Split (ns : List ℕ) (place : ℕ) : Type 0 where
@@ -265,7 +267,7 @@ line_refuses file source ts (FixityLine ns g m) (Fixities ss k n) now f h p = op
 
 pub operator_refused : (file : ℕ) (source : List ℕ) (ts : List Token) (ops now : Operators) (i j : ℕ) (ds : List Sentence) (d : Sentence) (f : SyntaxFault) → IsHeader (lexemes source ts) keyword.Module → SentencesRead (spot_at file source ts) (lexemes source ts) ops now i ds → i < length (lexemes source ts) → IsSentenceText (spot_at file source ts) now (lexemes source ts) i j d → MemoryOr f (SentenceRefuses source d now f) → IsModuleRefusal (spot_at file source ts) ops (lexemes source ts) f
 operator_refused file source ts ops now i j ds d f h r l t (inl m) = inl m
-operator_refused file source ts ops now i j ds d f h r l t (inr x) = inr (inr (record { header = h; at = i; now = now; before = r.before; sentences = r.sentences; there = l; refuses = inr (go t.clause d t.is t.said x) }))
+operator_refused file source ts ops now i j ds d f h r l t (inr x) = inr (inr (record { header = h; at = i; now = now; before = r.before; sentences = r.sentences; fit = r.fit; there = l; refuses = inr (go t.clause d t.is t.said x) }))
   where
     line_of : (k : Line) → IsSentence now (lexemes source ts) i j (Declared k) → IsLine (lexemes source ts) i j k
     line_of k (declares _ y) = y

@@ -48,7 +48,7 @@ no_empty : (t : Tree) → IsTerm [] t → ⊥
 unfolding read
 no_empty t h = let z : Unfinished ≡ Given t = read_of_term [] t h in cc
 
-up_from : (ops : Operators) (ls : List Lexeme) (i e : ℕ) (t : Tree) → TermAt ops ls i e t → i < e
+pub up_from : (ops : Operators) (ls : List Lexeme) (i e : ℕ) (t : Tree) → TermAt ops ls i e t → i < e
 up_from ops ls i e t d = go d.symbols d.spells d.is (compared i e)
   where
     empty : (ls : List Lexeme) (i e : ℕ) (cs : List Sym) → Spells ops ls i e cs → e ≡ i → cs ≡ []

@@ -10,6 +10,7 @@ use Rattle.lp_syntax.proofs.Classes.{class_there, refused_there}
 use Rattle.lp_syntax.specs.Tokens.{Lexeme, Operators, class_at, open_brackets, Agree}
 use Rattle.lp_syntax.specs.Terms.{TermAt, CanGoOn, NoneOver, StopsAt, IsKind, TermFault, MemoryOr}
 use Rattle.lp_syntax.specs.TermViews.{IsOver}
+use Rattle.lp_syntax.specs.Depth.{TermFits, TermTooDeep}
 use Rattle.lp_syntax.specs.Queries.{IsQuery, QueryBegins, QueryFault, IsQueryRefusal, IsQueryText, IsGiven}
 use Rattle.lp_syntax.specs.Raw.{Shows}
 use Rattle.lp_base.specs.declared.limit.Limit.TheVariants.{Nesting}
@@ -159,10 +160,10 @@ is_at_dot ls i l (inr e) = e
 
 -- where there is a tree it is given
 pub query_given : (spot : ℕ → Spot) (ops : Operators) (ls : List Lexeme) (r : Result RawQuery SyntaxFault) → IfOk r (IsQueryText spot ops ls) → IfErr r (IsQueryRefusal spot ops ls) → (t : Tree) → IsQuery ops ls t → IsGiven spot ls t r
-query_given spot ops ls (Ok q) d e t k = subst (Shows spot ls q.term.nodes.items q.term.root) (one_query ops ls d.tree t d.is k) d.nodes
+query_given spot ops ls (Ok q) d e t k = let z = one_query ops ls d.tree t d.is k in (subst (Shows spot ls q.term.nodes.items q.term.root) z d.nodes, subst (TermFits ls) z d.fits)
 query_given spot ops ls (Err f) d e t k = go e
   where
-    go : IsQueryRefusal spot ops ls f → (f ≡ fault.Memory) ⊎ (f ≡ fault.Limit Nesting)
+    go : IsQueryRefusal spot ops ls f → (f ≡ fault.Memory) ⊎ ((f ≡ fault.Limit Nesting) × TermTooDeep ls t)
     go (inl m) = inl m
-    go (inr (inl l)) = inr l.0
+    go (inr (inl l)) = inr (l.0, subst (TermTooDeep ls) (one_query ops ls l.1.0 t l.1.1 k) l.1.2)
     go (inr (inr z)) = absurd (z.none t k)

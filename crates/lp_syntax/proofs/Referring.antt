@@ -1,5 +1,5 @@
 -- The sentences that name other files or declare fixities.
-use Rattle.std.proofs.Common.{◌≡◌, ◌≢◌, ℕ, ◌+◌, ◌≤◌, ◌⊎◌, inl, inr, true, false, List, [], ◌∷◌, ◌++◌, length, map, refl, sym, ap, ◌∙◌, append_assoc, append-nil}
+use Rattle.std.proofs.Common.{arith, ◌<◌, ◌≡◌, ◌≢◌, ℕ, ◌+◌, ◌≤◌, ◌⊎◌, inl, inr, true, false, List, [], ◌∷◌, ◌++◌, length, map, refl, sym, ap, ◌∙◌, append_assoc, append-nil}
 use Rattle.std.specs.Prelude.{Some, None, Result, Ok, Err, OnOk}
 use Rattle.lp_base.specs.declared.place.Spot.{Spot}
 use Rattle.lp_syntax.specs.declared.class.Keyword.{Keyword}
@@ -11,8 +11,8 @@ use Rattle.lp_syntax.specs.declared.text.Declaration.TheVariants.{Kinds, LocalKi
 use Rattle.lp_syntax.specs.declared.text.References.{References}
 use Rattle.lp_syntax.specs.Tokens.{Lexeme, class_at, Agree}
 use Rattle.lp_syntax.specs.Terms.{MemoryOr}
-use Rattle.lp_syntax.specs.Declarations.{Line, KindLine, LocalKindLine, ConstantLine, LocalLine, AbbreviationLine, AccumulateLine, AccumSigLine, FixityLine, IsBody, IsShown, IsDeclared, kinds, local_kinds, local_kinds_of, constants, locals, locals_of, abbreviation, accumulate, accum_sig, fixities}
-use Rattle.lp_syntax.specs.LineMachine.{AtStart, StopsIn, IsTooDeep, has_type}
+use Rattle.lp_syntax.specs.Declarations.{line_depth, Line, KindLine, LocalKindLine, ConstantLine, LocalLine, AbbreviationLine, AccumulateLine, AccumSigLine, FixityLine, IsBody, IsShown, IsDeclared, kinds, local_kinds, local_kinds_of, constants, locals, locals_of, abbreviation, accumulate, accum_sig, fixities}
+use Rattle.lp_syntax.specs.LineMachine.{AtStart, StopsIn, IsTooDeep}
 use Rattle.lp_syntax.specs.References.{refers, refers_word, NextSentence, later, NoReference, none_yet, one_refers, none_refers, words_of, sig_words_of, entry_for, entries_of, all_of, AreReferences, words_in, sig_words_in, entries_in, IsReferenceAt}
 use Rattle.lp_syntax.proofs.SignatureFaults.{no_line_there, line_runs_of}
 
@@ -28,16 +28,16 @@ refers_by_word ls k i e l (accumulate _ j _ ns a z) = refl
 refers_by_word ls k i e l (accum_sig _ j _ ns a z) = refl
 refers_by_word ls k i e l (fixities _ j _ n f ns a y z) = refl
 
-refers_no_type : (l : Line) → refers l ≡ true → has_type l ≡ true → ⊥
+refers_no_type : (l : Line) → refers l ≡ true → 255 < line_depth l → ⊥
 refers_no_type (KindLine ns n) a b = cc
 refers_no_type (LocalKindLine ns n) a b = cc
 refers_no_type (ConstantLine ns t) a b = cc
 refers_no_type (LocalLine ns None) a b = cc
 refers_no_type (LocalLine ns (Some t)) a b = cc
 refers_no_type (AbbreviationLine n ns t) a b = cc
-refers_no_type (AccumulateLine ns) a b = cc
-refers_no_type (AccumSigLine ns) a b = cc
-refers_no_type (FixityLine ns f n) a b = cc
+refers_no_type (AccumulateLine ns) a b = omega (arith, b)
+refers_no_type (AccumSigLine ns) a b = omega (arith, b)
+refers_no_type (FixityLine ns f n) a b = omega (arith, b)
 
 same_word : {k m : Keyword} → class.Keyword k ≡ class.Keyword m → k ≡ m
 same_word e = cc

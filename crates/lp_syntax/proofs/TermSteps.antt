@@ -34,6 +34,7 @@ use Rattle.lp_syntax.specs.TypeMachine.{TypeState, Ends, Runs, ts, type_step, Is
 use Rattle.lp_syntax.specs.TypeViews.{ComesTo, IsTypeEnd}
 use Rattle.lp_syntax.specs.Faults.{refused, innermost}
 use Rattle.lp_syntax.specs.Terms.{TermAt, NoneOver, IsKind, TermFault, MemoryOr}
+use Rattle.lp_syntax.specs.Depth.{IsDepth}
 use Rattle.lp_syntax.specs.TermViews.{HasRead, IsNoNote, NoteFault, state_of, IsReading, IsNew, MayBind, IsOver, IsTermText}
 use Rattle.lp_syntax.proofs.Tokens.{class_same, symbol_same, agree_less, past_end}
 use Rattle.lp_syntax.proofs.TypeFaults.{runs_same, closing}
@@ -298,17 +299,13 @@ end_faults spot ops ls r d i f v o e k = record {
     go (inr h) text a = dot_over ops text r.from i (state_of r d) (same_read ops i ls text (agree_less i (suc i) ls text (omega arith) a) r.from (state_of r d) v.read) (class_same (suc i) i ls text a (omega arith) ∙ h)
 
 -- a term that ends here, whose nodes are handed out
-pub end_term : (spot : ℕ → Spot) (ops : Operators) (ls : List Lexeme) (r : Reader) (d : Doing) (i root : ℕ) (ns : List Node) (o : Option ℕ) (text : TermText) → IsReading ops ls r d i → o ≡ Some root → Finishes r.nodes.items ns o (ended (state_of r d)) → i ≡ text.end → AreRaw spot ls ns text.term.nodes.items → root ≡ text.term.root → text.term.first ≡ spot r.from → IsTermText spot ops ls r.from text
-end_term spot ops ls r d i root ns o text v e f g a h k =
+pub end_term : (spot : ℕ → Spot) (ops : Operators) (ls : List Lexeme) (r : Reader) (d : Doing) (i root : ℕ) (ns : List Node) (o : Option ℕ) (text : TermText) → IsReading ops ls r d i → o ≡ Some root → Finishes r.nodes.items ns o (ended (state_of r d)) → i ≡ text.end → AreRaw spot ls ns text.term.nodes.items → root ≡ text.term.root → text.term.first ≡ spot r.from → ((t : Tree) → Shows spot ls text.term.nodes.items root t → IsDepth ls t text.depth) → IsTermText spot ops ls r.from text
+end_term spot ops ls r d i root ns o text v e f g a h k w =
     let t = at (trees ns) root in
     let z : ended (state_of r d) ≡ Some t = sym f.is ∙ ap (maybe (trees ns)) e in
     let x = subst (λ j. TermAt ops ls r.from j t) g (read_ends ops ls r.from i (state_of r d) t v.read z) in
-    record {
-      tree = t;
-      term = x;
-      nodes = subst (λ j. Shows spot ls text.term.nodes.items j t) h (shows spot ls ns text.term.nodes.items root t a (f.grows.ordered v.ordered) (subst (IsMaybeBelow (length ns)) e f.below) refl (term_notes ops ls r.from text.end t x));
-      first = k;
-    }
+    let y = shows spot ls ns text.term.nodes.items root t a (f.grows.ordered v.ordered) (subst (IsMaybeBelow (length ns)) e f.below) refl (term_notes ops ls r.from text.end t x) in
+    record { tree = t; term = x; nodes = subst (λ j. Shows spot ls text.term.nodes.items j t) h y; first = k; depth = w t y }
 
 pub refused_is : (spot : ℕ → Spot) (ops : Operators) (ls : List Lexeme) (r : Reader) (d : Doing) (i : ℕ) (b : Option ℕ) (f : SyntaxFault) → IsReading ops ls r d i → f ≡ refused spot i b (class_at ls i) → b ≡ innermost r.opens.items → f ≡ refused spot i (innermost (open_brackets ls r.from i)) (class_at ls i)
 refused_is spot ops ls r d i b f v e g = e ∙ ap (λ o. refused spot i o (class_at ls i)) (g ∙ ap innermost v.inner)

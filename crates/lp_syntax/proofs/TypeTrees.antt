@@ -21,7 +21,7 @@ use Rattle.lp_syntax.specs.TypeMachine.{Wait, left, type_has, type_applies}
 use Rattle.lp_syntax.specs.declared.class.Class.{Class}
 use Rattle.lp_syntax.specs.declared.class.Class.TheVariants.{Symbol, Comma, Colon, Number, Text, OpenList, CloseList, Bar, Dot, Backslash, Keyword, Unsupported, End}
 
-snoc_same : {A : Type 0} (xs ys : List A) (x y : A) → xs ++ x ∷ [] ≡ ys ++ y ∷ [] → (xs ≡ ys) × (x ≡ y)
+pub snoc_same : {A : Type 0} (xs ys : List A) (x y : A) → xs ++ x ∷ [] ≡ ys ++ y ∷ [] → (xs ≡ ys) × (x ≡ y)
 snoc_same [] [] x y e = let f : x ≡ y = cc in (refl, f)
 snoc_same [] (b ∷ ys) x y e = let n = ap length e in let m = length-append ys (y ∷ []) in absurd (omega (arith, n, m))
 snoc_same (a ∷ xs) [] x y e = let n = ap length e in let m = length-append xs (x ∷ []) in absurd (omega (arith, n, m))
@@ -31,7 +31,7 @@ snoc_same (a ∷ xs) (b ∷ ys) x y e =
     let r = snoc_same xs ys x y g in
     ((λ k. f k ∷ r.0 k), r.1)
 
-snoc_some : {A : Type 0} (xs : List A) (x : A) → [] ≡ xs ++ x ∷ [] → ⊥
+pub snoc_some : {A : Type 0} (xs : List A) (x : A) → [] ≡ xs ++ x ∷ [] → ⊥
 snoc_some xs x e = let n = ap length e in let m = length-append xs (x ∷ []) in omega (arith, n, m)
 
 pub kept_none : (ns : List RawTypeNode) → AreKept ns ns

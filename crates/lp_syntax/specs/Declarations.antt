@@ -1,6 +1,6 @@
 -- The grammar of declarations, from behind their keyword up to behind their full stop: their trees, whose words are the numbers of
 -- tokens, and what is handed out of them.
-use Rattle.std.specs.Prelude.{◌≡◌, ℕ, ◌+◌, ◌-◌, ◌^◌, min, Bool, true, false, nat_lt, List, [], ◌∷◌, ◌++◌, map, Option, Some, None, ℤ, pos, negsuc, if◌then◌else◌}
+use Rattle.std.specs.Prelude.{◌≡◌, ℕ, ◌+◌, ◌-◌, ◌^◌, ◌≤◌, min, Bool, true, false, nat_lt, List, [], ◌∷◌, ◌++◌, map, Option, Some, None, ℤ, pos, negsuc, if◌then◌else◌}
 use Rattle.lp_base.specs.declared.place.Spot.{Spot}
 use Rattle.lp_fixity.specs.declared.fixity.Fixity.{Fixity}
 use Rattle.lp_syntax.specs.declared.class.Keyword.{Keyword}
@@ -13,6 +13,7 @@ use Rattle.lp_syntax.specs.declared.text.RawType.{RawType}
 use Rattle.lp_syntax.specs.Tokens.{Lexeme, class_at}
 use Rattle.lp_syntax.specs.Types.{TypeTree, Whole, IsType}
 use Rattle.lp_syntax.specs.RawTypes.{Node, ShowsType}
+use Rattle.lp_syntax.specs.Depth.{type_depth}
 use Rattle.lp_syntax.specs.TypeHeld.{IsRoot, type_text}
 
 -- names, and words
@@ -108,6 +109,16 @@ pub data IsBody (ls : List Lexeme) : Keyword → ℕ → ℕ → Line → Type 0
   accum_sig : (i j e : ℕ) (ns : List ℕ) → AreNames ls true i j ns → EndsAt ls j e → IsBody ls keyword.AccumSig i e (AccumSigLine ns)
   fixities : (i j e n : ℕ) (f : Fixity) (ns : List ℕ) → AreNames ls false i j ns → HasNumber ls j n → EndsAt ls (j + 1) e → IsBody ls (keyword.Fixity f) i e (FixityLine ns f n)
 
+-- how deep the type of a declaration is, 0 where it has none, and that it is at most 255 deep
+abbrev pub line_depth : Line → ℕ
+line_depth (ConstantLine ns t) = type_depth t
+line_depth (LocalLine ns (Some t)) = type_depth t
+line_depth (AbbreviationLine n ns t) = type_depth t
+line_depth _ = 0
+
+abbrev pub LineFits : Line → Type 0
+LineFits l = line_depth l ≤ 255
+
 -- the spots of numbers of which this holds
 pub record Spotted (spot : ℕ → Spot) (Holds : List ℕ → Type 0) (ss : List Spot) : Type 0 where
   pub numbers : List ℕ
@@ -148,3 +159,4 @@ pub record IsDeclared (spot : ℕ → Spot) (ls : List Lexeme) (k : Keyword) (i 
   pub line : Line
   pub body : IsBody ls k i e line
   pub shown : IsShown spot d line
+  pub fits : LineFits line

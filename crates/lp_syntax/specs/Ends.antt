@@ -5,10 +5,10 @@ use Rattle.lp_syntax.specs.declared.types.TypeEnd.TheVariants.{Read, Stopped}
 
 -- not before this token
 abbrev pub IsFrom : ℕ → TypeEnd → Type 0
-IsFrom n (Read t depth at) = n ≤ at
+IsFrom n (Read t at) = n ≤ at
 IsFrom n (Stopped at inner) = n ≤ at
 
 -- not behind this token
 abbrev pub IsUpTo : ℕ → TypeEnd → Type 0
-IsUpTo n (Read t depth at) = at ≤ n
+IsUpTo n (Read t at) = at ≤ n
 IsUpTo n (Stopped at inner) = at ≤ n

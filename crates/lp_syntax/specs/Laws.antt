@@ -13,6 +13,8 @@ use Rattle.lp_syntax.specs.Tokens.{class_at}
 use Rattle.lp_syntax.specs.Types.{TypeTree, Whole, IsType}
 use Rattle.lp_syntax.specs.Declarations.{Line}
 use Rattle.lp_syntax.specs.Signatures.{IsSignature}
+use Rattle.lp_syntax.specs.Modules.{Clause, IsModule}
+use Rattle.lp_syntax.specs.Depth.{HasDepth}
 
 -- a text of symbols is a term in one way
 abbrev pub HasOneTree : Type 0
@@ -37,3 +39,11 @@ HasOneAnnotation = (ls : List Lexeme) (i j k : ℕ) (t u : TypeTree) → IsType 
 -- a text is a signature in one way
 abbrev pub HasOneSignature : Type 0
 HasOneSignature = (ls : List Lexeme) (ds es : List Line) → IsSignature ls ds → IsSignature ls es → ds ≡ es
+
+-- a text is a module in one way, with one set of operators behind it
+abbrev pub HasOneModule : Type 0
+HasOneModule = (ops : Operators) (ls : List Lexeme) (ss ts : List Clause) (a b : Operators) → IsModule ops ls ss a → IsModule ops ls ts b → (ss ≡ ts) × ((name : List ℕ) → a name ≡ b name)
+
+-- a term has one depth
+abbrev pub HasOneDepth : Type 0
+HasOneDepth = (ls : List Lexeme) (t : Tree) (m n : ℕ) → HasDepth ls t m → HasDepth ls t n → m ≡ n

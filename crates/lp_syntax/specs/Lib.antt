@@ -18,6 +18,7 @@ pub mod Queries
 pub mod Raw
 pub mod Opened
 pub mod RawTypes
+pub mod Depth
 pub mod TypeHeld
 pub mod Declarations
 pub mod LineMachine

@@ -1,5 +1,5 @@
 -- The reader of sentences that are no terms: where it is in a sentence, and what one token does to it.
-use Rattle.std.specs.Prelude.{◌≡◌, ℕ, ◌+◌, ◌≤◌, Bool, true, false, List, []}
+use Rattle.std.specs.Prelude.{◌≡◌, ℕ, ◌+◌, ◌<◌, ◌≤◌, Bool, true, false, List, []}
 use Rattle.lp_base.specs.declared.place.Spot.{Spot}
 use Rattle.lp_fixity.specs.declared.fixity.Fixity.{Fixity}
 use Rattle.std.specs.Prelude.{ℤ, length}
@@ -11,9 +11,8 @@ use Rattle.lp_syntax.specs.declared.fault.SyntaxFault.{SyntaxFault}
 use Rattle.lp_syntax.specs.Tokens.{Lexeme, class_at, open_brackets}
 use Rattle.lp_syntax.specs.Faults.{refused, innermost}
 use Rattle.lp_base.specs.declared.limit.Limit.TheVariants.{Nesting}
-use Rattle.std.specs.Prelude.{Some}
 use Rattle.lp_syntax.specs.declared.fault.SyntaxFault.TheVariants as fault
-use Rattle.lp_syntax.specs.Declarations.{is_word, is_listed, Line, ConstantLine, LocalLine, AbbreviationLine, IsBody}
+use Rattle.lp_syntax.specs.Declarations.{is_word, is_listed, Line, IsBody, line_depth}
 use Rattle.lp_syntax.specs.TypeMachine.{TypeState, Goes, Ends, Wants, ts, type_step}
 
 pub data LineState : Type 0 where
@@ -118,12 +117,6 @@ pub record StopsIn (spot : ℕ → Spot) (ls : List Lexeme) (s : LineState) (i :
   pub there : LineStops ls s i number
   pub kind : f ≡ refused spot number (innermost (open_brackets ls i number)) (class_at ls number)
 
-abbrev pub has_type : Line → Bool
-has_type (ConstantLine ns t) = true
-has_type (LocalLine ns (Some t)) = true
-has_type (AbbreviationLine n ns t) = true
-has_type _ = false
-
 -- a declaration is refused for the depth of its type
 abbrev pub IsTooDeep : List Lexeme → Keyword → ℕ → SyntaxFault → Type 0
-IsTooDeep ls k i f = (f ≡ fault.Limit Nesting) × ((j : ℕ) × (l : Line) × IsBody ls k i j l × (has_type l ≡ true))
+IsTooDeep ls k i f = (f ≡ fault.Limit Nesting) × ((j : ℕ) × (l : Line) × IsBody ls k i j l × (255 < line_depth l))

@@ -1,5 +1,5 @@
 -- The grammar of modules: their sentences, the operators that are in force behind each, and their faults.
-use Rattle.std.specs.Prelude.{◌≡◌, ◌≢◌, ℕ, suc, ◌+◌, ◌<◌, ◌≤◌, ◌⊎◌, List, [], ◌∷◌, ◌++◌, length, map, Option, Some, None, Result, Ok, Err}
+use Rattle.std.specs.Prelude.{◌≡◌, ◌≢◌, ℕ, suc, ◌+◌, ◌<◌, ◌≤◌, ◌⊎◌, List, [], ◌∷◌, ◌++◌, length, map, All, Option, Some, None, Result, Ok, Err}
 use Rattle.lp_base.specs.declared.place.Spot.{Spot}
 use Rattle.lp_base.specs.declared.limit.Limit.TheVariants.{Nesting}
 use Rattle.lp_fixity.specs.declared.fixity.Fixity.{Fixity}
@@ -22,13 +22,22 @@ use Rattle.lp_syntax.specs.Faults.{refused, innermost}
 use Rattle.lp_syntax.specs.Symbols.{Tree}
 use Rattle.lp_syntax.specs.Terms.{TermAt, IsKind}
 use Rattle.lp_syntax.specs.Raw.{Shows}
-use Rattle.lp_syntax.specs.Declarations.{Line, FixityLine, IsShown}
-use Rattle.lp_syntax.specs.LineMachine.{AtHeader, StopsIn, has_type}
+use Rattle.lp_syntax.specs.Depth.{TermFits, TermTooDeep}
+use Rattle.lp_syntax.specs.Declarations.{Line, FixityLine, IsShown, line_depth, LineFits}
 use Rattle.lp_syntax.specs.Signatures.{IsHeader, IsLine}
 
 pub data Clause : Type 0 where
   Declared : Line → Clause
   Said : Tree → Clause
+
+-- its type, or its term, is not too deep, and it is
+abbrev pub ClauseFits : List Lexeme → Clause → Type 0
+ClauseFits ls (Declared l) = LineFits l
+ClauseFits ls (Said t) = TermFits ls t
+
+abbrev pub ClauseTooDeep : List Lexeme → Clause → Type 0
+ClauseTooDeep ls (Declared l) = 255 < line_depth l
+ClauseTooDeep ls (Said t) = TermTooDeep ls t
 
 -- a declaration, or a term with a full stop
 pub data IsSentence (ops : Operators) (ls : List Lexeme) (i j : ℕ) : Clause → Type 0 where
@@ -81,6 +90,7 @@ pub record SentencesRead (spot : ℕ → Spot) (ls : List Lexeme) (ops now : Ope
   pub before : List Clause
   pub sentences : AreSentences ls ops 3 now i before
   pub said : AreSaid spot ls ds before
+  pub fit : All (ClauseFits ls) before
 
 pub record IsModuleText (spot : ℕ → Spot) (ops after : Operators) (ls : List Lexeme) (text : ModuleText) : Type 0 where
   pub header : IsHeader ls keyword.Module
@@ -133,27 +143,52 @@ pub record IsSentenceText (spot : ℕ → Spot) (ops : Operators) (ls : List Lex
   pub clause : Clause
   pub is : IsSentence ops ls i j clause
   pub said : IsSaid spot ls d clause
+  pub fits : ClauseFits ls clause
 
--- why a sentence is refused under the operators that are in force
+-- why a sentence is refused under the operators that are in force: want of memory, one that is too deep, or none
 abbrev pub IsSentenceRefusal : (ℕ → Spot) → Operators → List Lexeme → ℕ → SyntaxFault → Type 0
-IsSentenceRefusal spot ops ls i f = (f ≡ fault.Memory) ⊎ (((f ≡ fault.Limit Nesting) × ((j : ℕ) × (s : Clause) × IsSentence ops ls i j s)) ⊎ SentenceFault spot ops ls i f)
+IsSentenceRefusal spot ops ls i f = (f ≡ fault.Memory) ⊎ (((f ≡ fault.Limit Nesting) × ((j : ℕ) × (s : Clause) × IsSentence ops ls i j s × ClauseTooDeep ls s)) ⊎ SentenceFault spot ops ls i f)
 
 -- so is one whose fixity cannot be declared
 abbrev pub IsBadOperator : (ℕ → Spot) → Operators → List Lexeme → ℕ → SyntaxFault → Type 0
 IsBadOperator spot ops ls i f = (j : ℕ) × (l : Line) × IsLine ls i j l × OperatorFault spot ls ops l f
 
--- why a module is refused: in its header, or in the sentence behind those that were read
+-- some module begins with the tokens below this number
+pub record ModuleBegins (ops : Operators) (ls : List Lexeme) (n : ℕ) : Type 0 where
+  pub text : List Lexeme
+  pub agrees : Agree n ls text
+  pub clauses : List Clause
+  pub after : Operators
+  pub is : IsModule ops text clauses after
+
+-- the fault of a header is at the first token such that no module begins with the tokens up to it, the end of the text counted as a
+-- token
+pub record HeaderFault (spot : ℕ → Spot) (ops : Operators) (ls : List Lexeme) (f : SyntaxFault) : Type 0 where
+  pub number : ℕ
+  pub high : number ≤ length ls
+  pub no_header : IsHeader ls keyword.Module → ⊥
+  pub viable : ModuleBegins ops ls number
+  pub first : number < length ls → ModuleBegins ops ls (suc number) → ⊥
+  pub kind : f ≡ refused spot number (innermost (open_brackets ls 0 number)) (class_at ls number)
+
+-- why a module is refused: in its header, or in the sentence behind those that were read, none of which is too deep
 pub record BehindSentences (spot : ℕ → Spot) (ops : Operators) (ls : List Lexeme) (f : SyntaxFault) : Type 0 where
   pub header : IsHeader ls keyword.Module
   pub at : ℕ
   pub now : Operators
   pub before : List Clause
   pub sentences : AreSentences ls ops 3 now at before
+  pub fit : All (ClauseFits ls) before
   pub there : at < length ls
   pub refuses : IsSentenceRefusal spot now ls at f ⊎ IsBadOperator spot now ls at f
 
 abbrev pub IsModuleRefusal : (ℕ → Spot) → Operators → List Lexeme → SyntaxFault → Type 0
-IsModuleRefusal spot ops ls f = (f ≡ fault.Memory) ⊎ (StopsIn spot ls (AtHeader keyword.Module) 0 f ⊎ BehindSentences spot ops ls f)
+IsModuleRefusal spot ops ls f = (f ≡ fault.Memory) ⊎ (HeaderFault spot ops ls f ⊎ BehindSentences spot ops ls f)
+
+-- these sentences are given where none is too deep, with the operators behind them in force, unless memory is wanting
+abbrev pub IsGivenModule : (ℕ → Spot) → List Lexeme → List Clause → Operators → Operators → Result ModuleText SyntaxFault → Type 0
+IsGivenModule spot ls ss after now (Ok text) = AreSaid spot ls text.lines.items ss × All (ClauseFits ls) ss × ((name : List ℕ) → now name ≡ after name)
+IsGivenModule spot ls ss after now (Err f) = (f ≡ fault.Memory) ⊎ ((f ≡ fault.Limit Nesting) × (All (ClauseFits ls) ss → ⊥))
 
 -- the bytes of a spot
 abbrev pub bytes_of : List ℕ → Spot → List ℕ

@@ -10,6 +10,7 @@ use Rattle.lp_syntax.specs.Symbols.{Tree}
 use Rattle.lp_syntax.specs.Tokens.{Lexeme, Operators, class_at, Agree}
 use Rattle.lp_syntax.specs.Terms.{TermAt, IsKind}
 use Rattle.lp_syntax.specs.Raw.{Shows}
+use Rattle.lp_syntax.specs.Depth.{TermFits, TermTooDeep}
 
 -- a term, and a full stop that may be left out
 pub record IsQuery (ops : Operators) (ls : List Lexeme) (t : Tree) : Type 0 where
@@ -34,18 +35,19 @@ pub record QueryFault (spot : ℕ → Spot) (ops : Operators) (ls : List Lexeme)
   pub none : (t : Tree) → IsQuery ops ls t → ⊥
   pub kind : IsKind spot ops ls 0 number f
 
--- a query that is handed out: its nodes are its tree
+-- a query that is handed out: its nodes are its tree, which is not too deep
 pub record IsQueryText (spot : ℕ → Spot) (ops : Operators) (ls : List Lexeme) (query : RawQuery) : Type 0 where
   pub tree : Tree
   pub is : IsQuery ops ls tree
   pub nodes : Shows spot ls query.term.nodes.items query.term.root tree
   pub first : query.term.first ≡ spot 0
+  pub fits : TermFits ls tree
 
 -- why a text is refused: want of memory, a query that is too deep, or no query
 abbrev pub IsQueryRefusal : (ℕ → Spot) → Operators → List Lexeme → SyntaxFault → Type 0
-IsQueryRefusal spot ops ls f = (f ≡ fault.Memory) ⊎ (((f ≡ fault.Limit Nesting) × ((t : Tree) × IsQuery ops ls t)) ⊎ QueryFault spot ops ls f)
+IsQueryRefusal spot ops ls f = (f ≡ fault.Memory) ⊎ (((f ≡ fault.Limit Nesting) × ((t : Tree) × IsQuery ops ls t × TermTooDeep ls t)) ⊎ QueryFault spot ops ls f)
 
--- this tree is given, unless memory is wanting or it is too deep
+-- this tree is given where it is not too deep, unless memory is wanting
 abbrev pub IsGiven : (ℕ → Spot) → List Lexeme → Tree → Result RawQuery SyntaxFault → Type 0
-IsGiven spot ls t (Ok query) = Shows spot ls query.term.nodes.items query.term.root t
-IsGiven spot ls t (Err f) = (f ≡ fault.Memory) ⊎ (f ≡ fault.Limit Nesting)
+IsGiven spot ls t (Ok query) = Shows spot ls query.term.nodes.items query.term.root t × TermFits ls t
+IsGiven spot ls t (Err f) = (f ≡ fault.Memory) ⊎ ((f ≡ fault.Limit Nesting) × TermTooDeep ls t)

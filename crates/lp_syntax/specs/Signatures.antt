@@ -1,5 +1,5 @@
 -- The grammar of signatures: their lines and their faults.
-use Rattle.std.specs.Prelude.{◌≡◌, ℕ, suc, ◌+◌, ◌<◌, ◌≤◌, ◌⊎◌, Bool, true, false, List, [], ◌∷◌, length, Result, Ok, Err}
+use Rattle.std.specs.Prelude.{◌≡◌, ℕ, suc, ◌+◌, ◌<◌, ◌≤◌, ◌⊎◌, Bool, true, false, List, [], ◌∷◌, length, All, Result, Ok, Err}
 use Rattle.lp_base.specs.declared.place.Spot.{Spot}
 use Rattle.lp_base.specs.declared.limit.Limit.TheVariants.{Nesting}
 use Rattle.lp_syntax.specs.declared.class.Keyword.{Keyword}
@@ -12,8 +12,8 @@ use Rattle.lp_syntax.specs.declared.text.SignatureText.{SignatureText}
 use Rattle.lp_syntax.specs.Tokens.{Lexeme, class_at, open_brackets, Agree}
 use Rattle.lp_syntax.specs.Faults.{refused, innermost}
 use Rattle.std.specs.Prelude.{None}
-use Rattle.lp_syntax.specs.LineMachine.{AtStart, StopsIn, has_type}
-use Rattle.lp_syntax.specs.Declarations.{is_word, Line, LocalKindLine, LocalLine, AccumulateLine, IsBody, IsShown}
+use Rattle.lp_syntax.specs.LineMachine.{AtStart, StopsIn}
+use Rattle.lp_syntax.specs.Declarations.{is_word, Line, LocalKindLine, LocalLine, AccumulateLine, IsBody, IsShown, line_depth, LineFits}
 
 -- `sig` or `module`, the name, and a full stop
 pub record IsHeader (ls : List Lexeme) (k : Keyword) : Type 0 where
@@ -77,10 +77,11 @@ pub record IsSignatureText (spot : ℕ → Spot) (ls : List Lexeme) (text : Sign
   pub lines : List Line
   pub is : IsSignature ls lines
   pub shown : AreShown spot text.lines.items lines
+  pub fit : All LineFits lines
   pub name : text.header ≡ spot 1
 
--- lines, and behind them one with a type
-pub record HasTypeBehind (ls : List Lexeme) : Type 0 where
+-- lines, and behind them one whose type is too deep
+pub record HasDeepLine (ls : List Lexeme) : Type 0 where
   pub from : ℕ
   pub to : ℕ
   pub header : IsHeader ls keyword.Sig
@@ -89,16 +90,16 @@ pub record HasTypeBehind (ls : List Lexeme) : Type 0 where
   pub line : Line
   pub is : IsLine ls from to line
   pub shared : is_local line ≡ false
-  pub typed : has_type line ≡ true
+  pub deep : 255 < line_depth line
 
--- why a text is refused: want of memory, a line whose type is too deep, or no signature
+-- why a text is refused: want of memory, a line whose type is too deep, or no signature, where no line before the fault is too deep
 abbrev pub IsSignatureRefusal : (ℕ → Spot) → List Lexeme → SyntaxFault → Type 0
-IsSignatureRefusal spot ls f = (f ≡ fault.Memory) ⊎ (((f ≡ fault.Limit Nesting) × HasTypeBehind ls) ⊎ SignatureFault spot ls f)
+IsSignatureRefusal spot ls f = (f ≡ fault.Memory) ⊎ (((f ≡ fault.Limit Nesting) × HasDeepLine ls) ⊎ (SignatureFault spot ls f × (HasDeepLine ls → ⊥)))
 
--- these lines are given, unless memory is wanting or one is too deep
+-- these lines are given where none is too deep, unless memory is wanting
 abbrev pub IsGivenLines : (ℕ → Spot) → List Lexeme → List Line → Result SignatureText SyntaxFault → Type 0
-IsGivenLines spot ls ds (Ok text) = AreShown spot text.lines.items ds
-IsGivenLines spot ls ds (Err f) = (f ≡ fault.Memory) ⊎ (f ≡ fault.Limit Nesting)
+IsGivenLines spot ls ds (Ok text) = AreShown spot text.lines.items ds × All LineFits ds
+IsGivenLines spot ls ds (Err f) = (f ≡ fault.Memory) ⊎ ((f ≡ fault.Limit Nesting) × (All LineFits ds → ⊥))
 
 -- the keyword of a header
 abbrev pub title : Bool → Keyword
@@ -111,13 +112,14 @@ pub record IsLineText (spot : ℕ → Spot) (ls : List Lexeme) (i j : ℕ) (d : 
   pub is : IsLine ls i j line
   pub shared : is_local line ≡ false
   pub shown : IsShown spot d line
+  pub fits : LineFits line
 
 abbrev pub IsShared : List Lexeme → ℕ → Type 0
 IsShared ls i = (k : Keyword) → class_at ls i ≡ class.Keyword k → is_local_word k ≡ false
 
 -- why a line is refused
 abbrev pub IsDeepLine : List Lexeme → ℕ → SyntaxFault → Type 0
-IsDeepLine ls i f = (f ≡ fault.Limit Nesting) × ((j : ℕ) × (l : Line) × IsLine ls i j l × (is_local l ≡ false) × (has_type l ≡ true))
+IsDeepLine ls i f = (f ≡ fault.Limit Nesting) × ((j : ℕ) × (l : Line) × IsLine ls i j l × (is_local l ≡ false) × (255 < line_depth l))
 
 abbrev pub IsLocalThere : (ℕ → Spot) → List Lexeme → ℕ → SyntaxFault → Type 0
 IsLocalThere spot ls i f = (k : Keyword) × (class_at ls i ≡ class.Keyword k) × (is_local_word k ≡ true) × (f ≡ refused spot i None (class_at ls i))
@@ -130,3 +132,4 @@ pub record LinesRead (spot : ℕ → Spot) (ls : List Lexeme) (i : ℕ) (ds : Li
   pub before : List Line
   pub lines : AreLines ls 3 i before
   pub shown : AreShown spot ds before
+  pub fit : All LineFits before

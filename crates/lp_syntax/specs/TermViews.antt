@@ -12,6 +12,7 @@ use Rattle.lp_syntax.specs.Symbols.{Tree}
 use Rattle.lp_syntax.specs.Machine.{State, Wants, st, run, Reached}
 use Rattle.lp_syntax.specs.Nodes.{trees, IsOrdered}
 use Rattle.lp_syntax.specs.Raw.{Shows}
+use Rattle.lp_syntax.specs.Depth.{IsDepth}
 use Rattle.lp_syntax.specs.Views.{frames_of, mode_of, EachBelow, IsDoingBelow}
 use Rattle.lp_syntax.specs.Tokens.{Lexeme, Operators, class_at, open_brackets}
 use Rattle.lp_syntax.specs.Terms.{Spells, TermAt}
@@ -70,3 +71,4 @@ pub record IsTermText (spot : ℕ → Spot) (ops : Operators) (ls : List Lexeme)
   pub term : TermAt ops ls from text.end tree
   pub nodes : Shows spot ls text.term.nodes.items text.term.root tree
   pub first : text.term.first ≡ spot from
+  pub depth : IsDepth ls tree text.depth

@@ -112,5 +112,5 @@ IsTurned x nodes hs at turn.Stops = Unit {0}
 
 -- the type that is handed out is the one that the grammar gives
 abbrev pub IsTypeText : TypeText → TypeEnd → Type 0
-IsTypeText x (Read ty depth at) = IsRoot x ty.nodes.items at ty.root
+IsTypeText x (Read ty at) = IsRoot x ty.nodes.items at ty.root
 IsTypeText x (Stopped at bracket) = Unit {0}

@@ -55,5 +55,5 @@ pub record ComesTo (ls : List Lexeme) (from at : ℕ) (m : TypeMove) : Type 0 wh
   pub moves : type_step state (class_at ls at) ≡ m
 
 abbrev pub IsTypeEnd : List Lexeme → ℕ → TypeEnd → Type 0
-IsTypeEnd ls from (Read t depth at) = ComesTo ls from at Ends
+IsTypeEnd ls from (Read t at) = ComesTo ls from at Ends
 IsTypeEnd ls from (Stopped at bracket) = ComesTo ls from at Stops × (bracket ≡ innermost (open_brackets ls from at))

@@ -84,56 +84,54 @@ fn leaf(input: &Input<'_>, token: usize) -> RawNode
     }
 }
 
-// The type behind a colon, and how deep it is.
+// The type behind a colon.
 fn annotation(
     alloc: Global,
     input: &Input<'_>,
     colon: Option<usize>,
-) -> Result<(Option<RawType>, usize), AllocError>
-    ensures { IfOk result (λ r. IsReadNote (spot_at input.now.file input.now.source.now input.now.tokens.now) (lexemes input.now.source.now input.now.tokens.now) colon r.0) }
+) -> Result<Option<RawType>, AllocError>
+    ensures { IfOk result (λ r. IsReadNote (spot_at input.now.file input.now.source.now input.now.tokens.now) (lexemes input.now.source.now input.now.tokens.now) colon r) }
 {
     let Some(at) = colon else {
-        return Ok((None, 0));
+        return Ok(None);
     };
     if at >= input.tokens.len() {
-        return Ok((None, 0));
+        return Ok(None);
     }
     match read_type(alloc, input, at + 1)? {
-        TypeEnd::Stopped(_, _) => Ok((None, 0)),
-        TypeEnd::Read(note, depth, _) => Ok((Some(note), depth)),
+        TypeEnd::Stopped(_, _) => Ok(None),
+        TypeEnd::Read(note, _) => Ok(Some(note)),
     }
 }
 
-// A node as it is handed out, and how deep its annotation is.
-fn raw_node(alloc: Global, input: &Input<'_>, node: Node) -> Result<(RawNode, usize), AllocError>
-    ensures { IfOk result (λ r. IsRaw (spot_at input.now.file input.now.source.now input.now.tokens.now) (lexemes input.now.source.now input.now.tokens.now) node r.0) }
+// A node as it is handed out.
+fn raw_node(alloc: Global, input: &Input<'_>, node: Node) -> Result<RawNode, AllocError>
+    ensures { IfOk result (λ r. IsRaw (spot_at input.now.file input.now.source.now input.now.tokens.now) (lexemes input.now.source.now input.now.tokens.now) node r) }
 {
     match node {
-        Node::Leaf(token) => Ok((leaf(input, token), 0)),
-        Node::Cons(token) => Ok((RawNode::Known(14, input.spot(token)), 0)),
-        Node::Nil(token) => Ok((RawNode::Known(15, input.spot(token)), 0)),
-        Node::App(f, x) => Ok((RawNode::App(f, x), 0)),
+        Node::Leaf(token) => Ok(leaf(input, token)),
+        Node::Cons(token) => Ok(RawNode::Known(14, input.spot(token))),
+        Node::Nil(token) => Ok(RawNode::Known(15, input.spot(token))),
+        Node::App(f, x) => Ok(RawNode::App(f, x)),
         Node::Lam(token, colon, x) => {
-            let (note, depth) = annotation(alloc, input, colon)?;
-            Ok((RawNode::Abs(input.spot(token), note, x), depth))
+            let note = annotation(alloc, input, colon)?;
+            Ok(RawNode::Abs(input.spot(token), note, x))
         }
     }
 }
 
-/// The nodes with their spots and annotations, and how deep the annotation of each is.
+/// The nodes with their spots and annotations.
 pub fn raw_nodes(
     alloc: Global,
     input: &Input<'_>,
     nodes: &[Node],
-) -> Result<(Vec<RawNode>, Vec<usize>), AllocError>
-    ensures { IfOk result (λ r. AreRaw (spot_at input.now.file input.now.source.now input.now.tokens.now) (lexemes input.now.source.now input.now.tokens.now) nodes.now r.0.items) }
+) -> Result<Vec<RawNode>, AllocError>
+    ensures { IfOk result (λ r. AreRaw (spot_at input.now.file input.now.source.now input.now.tokens.now) (lexemes input.now.source.now input.now.tokens.now) nodes.now r.items) }
 {
     let mut raw = Vec::new(alloc);
-    let mut depths = Vec::new(alloc);
     for node in nodes {
-        let (text, depth) = raw_node(alloc, input, *node)?;
+        let text = raw_node(alloc, input, *node)?;
         raw.push(text)?;
-        depths.push(depth)?;
     }
-    Ok((raw, depths))
+    Ok(raw)
 }

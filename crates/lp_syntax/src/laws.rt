@@ -1,6 +1,6 @@
 // What holds of the grammar of terms and of its reader. Each law is the contract of a function without a body.
 
-ghost use Rattle.lp_syntax.specs.Laws.{HasOneAnnotation, HasOneQuery, HasOneSignature, HasOneTree, ReadsTheGrammar, FaultsFirst};
+ghost use Rattle.lp_syntax.specs.Laws.{HasOneAnnotation, HasOneDepth, HasOneModule, HasOneQuery, HasOneSignature, HasOneTree, ReadsTheGrammar, FaultsFirst};
 
 /// A term has one tree.
 pub fn one_tree()
@@ -30,4 +30,14 @@ pub fn one_annotation()
 /// A text is a signature in one way.
 pub fn one_signature()
     ensures { HasOneSignature }
+{}
+
+/// A text is a module in one way, with one set of operators behind it.
+pub fn one_module()
+    ensures { HasOneModule }
+{}
+
+/// A term has one depth.
+pub fn one_depth()
+    ensures { HasOneDepth }
 {}

@@ -48,7 +48,8 @@ mod whole;
 
 pub use fault::SyntaxFault;
 pub use laws::{
-    faults_first, one_annotation, one_query, one_signature, one_tree, reads_the_grammar,
+    faults_first, one_annotation, one_depth, one_module, one_query, one_signature, one_tree,
+    reads_the_grammar,
 };
 pub use outline::references;
 pub use text::{

@@ -1,5 +1,5 @@
 // The parts of declarations: lists of names and words, kinds, types.
-ghost use Rattle.std.specs.Prelude.{◌≡◌, ◌≢◌, ◌<◌, ◌≤◌, ◌+◌, length, None, ℤ, IfOk, IfErr, true, false};
+ghost use Rattle.std.specs.Prelude.{◌≡◌, ◌≢◌, ◌<◌, ◌≤◌, ◌+◌, length, None, ℕ, ℤ, IfOk, IfErr, true, false};
 ghost use Rattle.lp_syntax.specs.Faults.{refused};
 ghost use Rattle.lp_base.specs.declared.limit.Limit.TheVariants.{Nesting};
 ghost use Rattle.lp_syntax.specs.declared.fault.SyntaxFault.TheVariants as fault;
@@ -7,13 +7,17 @@ ghost use Rattle.lp_syntax.specs.declared.class.Keyword.{Keyword as Word};
 ghost use Rattle.lp_syntax.specs.declared.class.Keyword.TheVariants as keyword;
 ghost use Rattle.lp_syntax.specs.declared.class.Class.TheVariants as class;
 ghost use Rattle.lp_syntax.specs.Tokens.{lexemes, class_at, spot_at};
+ghost use Rattle.lp_base.specs.declared.place.Spot.{Spot as Place};
+ghost use Rattle.lp_syntax.specs.Types.{TypeTree};
+ghost use Rattle.lp_syntax.specs.Depth.{type_depth, counted};
 ghost use Rattle.lp_syntax.specs.TypeMachine.{Ends};
 ghost use Rattle.lp_syntax.specs.TypeViews.{ComesTo};
 ghost use Rattle.lp_syntax.specs.Terms.{MemoryOr};
 ghost use Rattle.lp_syntax.specs.LineMachine.{AtName, AtKind, AtHead, AtHeadName, InType, lists_words, no_type, StopsIn};
-ghost use Rattle.lp_syntax.specs.Declarations.{is_name, is_word, is_listed, one_more, saturated, AreListed, IsKindText, IsHead, HasNumber, IsTypeAt};
+ghost use Rattle.lp_syntax.specs.Declarations.{is_name, is_word, is_listed, one_more, saturated, AreListed, IsKindText, IsHead, HasNumber, IsTypeAt, IsShownType};
 
 use crate::class::{Class, Keyword};
+use crate::depth::type_depth;
 use crate::fault::SyntaxFault;
 use crate::input::Input;
 use crate::text::RawType;
@@ -21,7 +25,7 @@ use crate::types::{TypeEnd, read_type};
 use lp_base::{Limit, Spot};
 use std::alloc::Global;
 
-// What a declared type may be deep.
+// How deep a declared type may be.
 const TYPE_DEPTH: usize = 255;
 
 /// A type of a declaration, which is refused where it is too deep, directly behind its sentence.
@@ -34,7 +38,9 @@ pub struct TypeText {
 impl TypeText {
     pub fn within(self) -> Result<RawType, SyntaxFault>
         ensures text { IfOk result (λ ty. ty ≡ self.text) }
+        ensures fits { IfOk result (λ ty. self.depth ≤ 255) }
         ensures limit { IfErr result (λ f. f ≡ fault.Limit Nesting) }
+        ensures deep { IfErr result (λ f. 255 < self.depth) }
     {
         if self.depth > TYPE_DEPTH {
             return Err(SyntaxFault::Limit(Limit::Nesting));
@@ -214,11 +220,15 @@ pub fn declared_type(
     ensures further { IfOk result (λ r. from ≤ r.1) }
     ensures typed { IfOk result (λ r. IsTypeAt (spot_at input.now.file input.now.source.now input.now.tokens.now) (lexemes input.now.source.now input.now.tokens.now) from r.1 r.0.text) }
     ensures end { IfOk result (λ r. ComesTo (lexemes input.now.source.now input.now.tokens.now) from r.1 Ends) }
+    ensures depth { IfOk result (λ r. (spot : ℕ → Place) (t : TypeTree) → IsShownType spot r.0.text t → r.0.depth ≡ counted (type_depth t)) }
     ensures fault { IfErr result (λ f. MemoryOr f (StopsIn (spot_at input.now.file input.now.source.now input.now.tokens.now) (lexemes input.now.source.now input.now.tokens.now) (InType no_type) from f)) }
 {
     match read_type(alloc, input, from)? {
         TypeEnd::Stopped(at, open) => Err(input.refusal(at, open)),
-        TypeEnd::Read(text, depth, end) => Ok((TypeText { text, depth }, end)),
+        TypeEnd::Read(text, end) => {
+            let depth = type_depth(alloc, &text.nodes, text.root)?;
+            Ok((TypeText { text, depth }, end))
+        }
     }
 }
 

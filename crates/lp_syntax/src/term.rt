@@ -26,7 +26,7 @@ use lp_base::Limit;
 use lp_fixity::Table;
 use std::alloc::Global;
 
-// What a term may be deep, and a declared type.
+// How deep a term may be.
 const TERM_DEPTH: usize = 2000;
 
 /// A term with its depth, and the number of the token behind it.
@@ -41,7 +41,9 @@ impl TermText {
     // A term is refused directly behind its sentence where it is too deep.
     pub fn within(self) -> Result<RawTerm, SyntaxFault>
         ensures term { IfOk result (λ term. term ≡ self.term) }
+        ensures fits { IfOk result (λ term. self.depth ≤ 2000) }
         ensures limit { IfErr result (λ f. f ≡ fault.Limit Nesting) }
+        ensures deep { IfErr result (λ f. 2000 < self.depth) }
     {
         if self.depth > TERM_DEPTH {
             return Err(SyntaxFault::Limit(Limit::Nesting));
@@ -146,7 +148,7 @@ impl Reader {
             TypeEnd::Stopped(stop, Some(bracket)) => {
                 return Err(input.refusal(stop, Some(bracket)));
             }
-            TypeEnd::Read(_, _, end) => {
+            TypeEnd::Read(_, end) => {
                 if end >= input.tokens.len() {
                     return Err(input.refusal(end, innermost(&self.opens)));
                 }
@@ -269,8 +271,8 @@ impl Reader {
         match finish(&mut self.nodes, &mut self.frames, doing)? {
             None => Err(input.refusal(at, innermost(&self.opens))),
             Some(root) => {
-                let (nodes, notes) = raw_nodes(alloc, input, &self.nodes)?;
-                let depth = term_depth(alloc, &self.nodes, &notes, root)?;
+                let nodes = raw_nodes(alloc, input, &self.nodes)?;
+                let depth = term_depth(alloc, &nodes, root)?;
                 Ok(TermText {
                     term: RawTerm {
                         nodes,

@@ -57,8 +57,8 @@ pub enum Folded {
 /// How the reading of a type ended.
 #[derive(Drop)]
 pub enum TypeEnd {
-    /// The type, how deep it is, and the number of the token behind it.
-    Read(RawType, usize, usize),
+    /// The type, and the number of the token behind it.
+    Read(RawType, usize),
     /// The token that does not go on, and the innermost open bracket of the type.
     Stopped(usize, Option<usize>),
 }
@@ -66,8 +66,6 @@ pub enum TypeEnd {
 #[derive(Drop)]
 struct TypeReader {
     nodes: Vec<RawTypeNode>,
-    /// How deep each node is.
-    depths: Vec<usize>,
     waiting: Vec<Waiting>,
 }
 
@@ -77,19 +75,10 @@ impl TypeReader {
     {
         TypeReader {
             nodes: Vec::new(alloc),
-            depths: Vec::new(alloc),
             waiting: Vec::new(alloc),
         }
     }
 
-    fn depth(&self, node: usize) -> usize {
-        match self.depths.get(node) {
-            None => 0,
-            Some(depth) => *depth,
-        }
-    }
-
-    // A word is one level above its arguments.
     fn word(&mut self, spot: Spot, arguments: Vec<usize>) -> Result<usize, AllocError>
         ensures waiting { self.new.waiting ≡ self.old.waiting }
         ensures kept { OnOk result (AreKept self.old.nodes.items self.new.nodes.items) }
@@ -97,24 +86,11 @@ impl TypeReader {
         ensures below { IfOk result (λ n. n < length self.new.nodes.items) }
         ensures node { IfOk result (λ n. slice_get self.new.nodes.items n ≡ Some (Word spot arguments)) }
     {
-        let mut deepest = 0;
-        for argument in &arguments {
-            let depth = self.depth(*argument);
-            if depth > deepest {
-                deepest = depth;
-            }
-        }
         let number = self.nodes.len();
-        self.depths.push(deepest.saturating_add(1))?;
         self.nodes.push(RawTypeNode::Word(spot, arguments))?;
         Ok(number)
     }
 
-    fn is_arrow(&self, node: usize) -> bool {
-        matches!(self.nodes.get(node), Some(RawTypeNode::Arrow(_, _)))
-    }
-
-    // A chain of arrows is one level above its arguments and its target.
     fn arrow(&mut self, left: usize, right: usize) -> Result<usize, AllocError>
         ensures waiting { self.new.waiting ≡ self.old.waiting }
         ensures kept { OnOk result (AreKept self.old.nodes.items self.new.nodes.items) }
@@ -122,14 +98,7 @@ impl TypeReader {
         ensures below { IfOk result (λ n. n < length self.new.nodes.items) }
         ensures node { IfOk result (λ n. slice_get self.new.nodes.items n ≡ Some (Arrow left right)) }
     {
-        let first = self.depth(left).saturating_add(1);
-        let rest = if self.is_arrow(right) {
-            self.depth(right)
-        } else {
-            self.depth(right).saturating_add(1)
-        };
         let number = self.nodes.len();
-        self.depths.push(first.max(rest))?;
         self.nodes.push(RawTypeNode::Arrow(left, right))?;
         Ok(number)
     }
@@ -292,13 +261,11 @@ impl TypeReader {
         ensures end { (ls : List Lexeme) (from : ℕ) → ComesTo ls from at Ends → IsTypeEnd ls from result }
         ensures root { (x : TypeText) → IsRoot x self.nodes.items at root → IsTypeText x result }
     {
-        let depth = self.depth(root);
         TypeEnd::Read(
             RawType {
                 nodes: self.nodes,
                 root,
             },
-            depth,
             at,
         )
     }

@@ -9,7 +9,7 @@ ghost use Rattle.lp_fixity.specs.declared.fixity.FixFault.{FixFault};
 ghost use Rattle.lp_syntax.specs.declared.class.Keyword.{Keyword as Word};
 ghost use Rattle.lp_syntax.specs.declared.fault.SyntaxFault.TheVariants as fault;
 ghost use Rattle.lp_syntax.specs.Terms.{MemoryOr};
-ghost use Rattle.lp_syntax.specs.Modules.{IsFixFault, DeclaresOne, DeclaresAll, NameFault, LineFollows, LineRefuses, SentenceFollows, SentenceRefuses, IsSentenceText, IsSentenceRefusal, IsModuleText, IsModuleRefusal, bytes_of};
+ghost use Rattle.lp_syntax.specs.Modules.{IsFixFault, DeclaresOne, DeclaresAll, NameFault, LineFollows, LineRefuses, SentenceFollows, SentenceRefuses, IsSentenceText, IsSentenceRefusal, Clause, IsModule, IsModuleText, IsModuleRefusal, IsGivenModule, bytes_of};
 ghost use Rattle.lp_syntax.specs.Signatures.{title, is_local_word, IsHeader, IsLineText, IsLineRefusal, IsSignature, IsSignatureText, IsSignatureRefusal, IsGivenLines};
 ghost use Rattle.std.specs.Prelude.{IfErr};
 ghost use Rattle.lp_fixity.specs.Table.{Extends, entry_of};
@@ -283,11 +283,8 @@ fn module_line(
     }
 }
 
-/// The module that these tokens are. Its own fixities are added to the table, each behind its sentence.
-///
-/// # Errors
-/// The first fault of the text. The table then has some of the module's fixities.
-pub fn module_text(
+// The module that these tokens are.
+fn read_module(
     alloc: Global,
     source: &[u8],
     tokens: &[Token],
@@ -313,6 +310,26 @@ pub fn module_text(
         at = end;
     }
     Ok(ModuleText { header, lines })
+}
+
+/// The module that these tokens are. Its own fixities are added to the table, each behind its sentence.
+///
+/// # Errors
+/// The first fault of the text, the limit of nesting behind a sentence, or want of memory. The table then has some of the
+/// module's fixities.
+pub fn module_text(
+    alloc: Global,
+    source: &[u8],
+    tokens: &[Token],
+    file: u32,
+    table: &mut Table,
+) -> Result<ModuleText, SyntaxFault>
+    ensures extends { Extends table.old table.new }
+    ensures tree { IfOk result (IsModuleText (spot_at file source.now tokens.now) (entry_of table.old) (entry_of table.new) (lexemes source.now tokens.now)) }
+    ensures only { (ss : List Clause) (after : Operators) → IsModule (entry_of table.old) (lexemes source.now tokens.now) ss after → IsGivenModule (spot_at file source.now tokens.now) (lexemes source.now tokens.now) ss after (entry_of table.new) result }
+    ensures fault { IfErr result (IsModuleRefusal (spot_at file source.now tokens.now) (entry_of table.old) (lexemes source.now tokens.now)) }
+{
+    read_module(alloc, source, tokens, file, table)
 }
 
 // The query that these tokens are.

@@ -14,6 +14,7 @@ returns-clause-declared c = record {
   line = AccumulateLine c.in_ok-words.ensures.listed.numbers;
   body = accumulate c.args.from c.in_ok-words.at _ c.in_ok-words.ensures.listed.numbers c.in_ok-words.ensures.listed.holds (c.in_ok-end.ensures.dot, c.in_ok-end.ensures.further);
   shown = c.in_ok-words.ensures.listed.spots;
+  fits = omega arith;
 }
 
 pub returns-in_err-words-clause-fault : goal.returns-in_err-words-clause-fault

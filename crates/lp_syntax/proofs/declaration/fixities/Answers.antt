@@ -14,6 +14,7 @@ returns-clause-declared c = record {
   line = FixityLine c.in_ok-names.ensures.listed.numbers c.args.fixity c.in_ok-number.number;
   body = fixities c.args.from c.in_ok-names.at _ c.in_ok-number.number c.args.fixity c.in_ok-names.ensures.listed.numbers c.in_ok-names.ensures.listed.holds c.in_ok-number.ensures.number (ap (class_at (lexemes c.args.input.now.source.now c.args.input.now.tokens.now)) (sym c.in_ok-number.ensures.end) ∙ c.in_ok-end.ensures.dot, c.in_ok-end.ensures.further ∙ ap (λ k. k + 1) c.in_ok-number.ensures.end);
   shown = (c.in_ok-names.ensures.listed.spots, refl, refl);
+  fits = omega arith;
 }
 
 pub returns-in_err-names-clause-fault : goal.returns-in_err-names-clause-fault

@@ -14,6 +14,7 @@ returns-clause-declared c = record {
   line = KindLine c.in_ok-names.ensures.listed.numbers c.in_ok-arguments.arguments;
   body = kinds c.args.from c.in_ok-names.at c.in_ok-arguments.at _ c.in_ok-arguments.arguments c.in_ok-names.ensures.listed.numbers c.in_ok-names.ensures.listed.holds c.in_ok-arguments.ensures.kind (c.in_ok-end.ensures.dot, c.in_ok-end.ensures.further);
   shown = (c.in_ok-names.ensures.listed.spots, refl);
+  fits = omega arith;
 }
 
 pub returns-in_err-names-clause-fault : goal.returns-in_err-names-clause-fault

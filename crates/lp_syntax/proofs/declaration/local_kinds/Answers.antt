@@ -15,6 +15,7 @@ returns-then-is_dot-clause-declared c = record {
   line = LocalKindLine c.in_ok-names.ensures.listed.numbers None;
   body = local_kinds c.args.from c.in_ok-names.at _ c.in_ok-names.ensures.listed.numbers c.in_ok-names.ensures.listed.holds (c.if-is_dot.ensures.class refl, refl);
   shown = (c.in_ok-names.ensures.listed.spots, refl);
+  fits = omega arith;
 }
 
 pub returns-clause-declared : goal.returns-clause-declared
@@ -22,6 +23,7 @@ returns-clause-declared c = record {
   line = LocalKindLine c.in_ok-names.ensures.listed.numbers (Some c.in_ok-arguments.arguments);
   body = local_kinds_of c.args.from c.in_ok-names.at c.in_ok-arguments.at _ c.in_ok-arguments.arguments c.in_ok-names.ensures.listed.numbers c.in_ok-names.ensures.listed.holds c.in_ok-arguments.ensures.kind (c.in_ok-end.ensures.dot, c.in_ok-end.ensures.further);
   shown = (c.in_ok-names.ensures.listed.spots, refl);
+  fits = omega arith;
 }
 
 pub returns-in_err-names-clause-fault : goal.returns-in_err-names-clause-fault

@@ -1,9 +1,6 @@
-use Rattle.std.proofs.Common.{inl, inr, ◌≡◌, ◌≢◌, ◌≤◌, ◌<◌, ◌+◌, ◌⊎◌, [], ◌∷◌, ◌++◌, take, map, length, refl, sym, ap, ◌∙◌, subst, arith}
-use Rattle.std.proofs.lemmas.Grind.{common_steps}
+use Rattle.std.proofs.Common.{◌≡◌, refl, sym, ap, ◌∙◌, subst, arith}
 use Rattle.lp_fixity.specs.Table.{entry_of}
-use Rattle.lp_syntax.specs.Tokens.{lexemes, spot_at, class_at}
-use Rattle.lp_syntax.proofs.Tokens.{length_lexemes}
-use Rattle.lp_syntax.proofs.LineCode.{passed, memory_or}
+use Rattle.lp_syntax.proofs.LineCode.{passed}
 use Rattle.std.specs.Prelude.{slice_get, Some}
 use Rattle.std.proofs.lemmas.Option.{slice_get-get_or}
 use Rattle.lp_syntax.specs.Terms.{MemoryOr}

@@ -1,4 +1,4 @@
-use Rattle.std.proofs.Common.{◌≤◌, ◌-◌, length, map, take}
+use Rattle.std.proofs.Common.{◌-◌, length, map, take}
 use Rattle.lp_fixity.specs.Table.{Extends, entry_of}
 use Rattle.lp_syntax.specs.Modules.{DeclaresAll, bytes_of}
 use Rattle.lp_syntax.proofs.whole.declare_all.Given as goal

@@ -32,4 +32,4 @@ returns-clause-tree c =
     let w = v.within in
     let u : length c.args.tokens.now ≤ c.over.at = grind (arith, common_steps) in
     let l = length_lexemes c.args.source.now c.args.tokens.now in
-    record { lines = v.read.before; is = whole_signature (spot_at c.args.file c.args.source.now c.args.tokens.now) (lexemes c.args.source.now c.args.tokens.now) c.over.at c.over.lines.items v.header v.read (omega (arith, w, u, l)); shown = v.read.shown; name = c.in_ok-header.ensures.name }
+    record { lines = v.read.before; is = whole_signature (spot_at c.args.file c.args.source.now c.args.tokens.now) (lexemes c.args.source.now c.args.tokens.now) c.over.at c.over.lines.items v.header v.read (omega (arith, w, u, l)); shown = v.read.shown; fit = v.read.fit; name = c.in_ok-header.ensures.name }

@@ -4,7 +4,7 @@ use Rattle.lp_syntax.specs.declared.class.Keyword.TheVariants.{Module}
 use Rattle.lp_syntax.specs.Tokens.{lexemes, spot_at}
 use Rattle.lp_syntax.specs.Signatures.{IsHeader}
 use Rattle.lp_syntax.specs.Modules.{SentencesRead}
-use Rattle.lp_syntax.proofs.whole.module_text.Given as goal
+use Rattle.lp_syntax.proofs.whole.read_module.Given as goal
 
 abbrev pub invariant-over : goal.invariant-over
 invariant-over l = record {

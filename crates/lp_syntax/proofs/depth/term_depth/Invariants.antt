@@ -1,0 +1,6 @@
+use Rattle.std.proofs.Common.{◌≡◌, length}
+use Rattle.lp_syntax.specs.Depth.{AreDepths}
+use Rattle.lp_syntax.proofs.depth.term_depth.Given as goal
+
+abbrev pub invariant-loop-node : goal.invariant-loop-node
+invariant-loop-node l = record { as_many : length l.depths.items ≡ l.node-index; are : AreDepths l.nodes l.depths.items }
