@@ -15,12 +15,12 @@ use Rattle.lp_syntax.specs.declared.text.RawNode.TheVariants as raw
 use Rattle.lp_syntax.specs.declared.text.RawType.{RawType}
 use Rattle.lp_syntax.specs.declared.text.RawTypeNode.{RawTypeNode}
 use Rattle.lp_syntax.specs.declared.text.RawTypeNode.TheVariants.{Word, Arrow}
-use Rattle.lp_syntax.specs.Symbols.{Tree, Leaf, Cons, Nil, App, Lam}
+use Rattle.lp_syntax.specs.Symbols.{Tree, App, Lam}
 use Rattle.lp_syntax.specs.Tokens.{Lexeme, class_at, bytes_at}
-use Rattle.lp_syntax.specs.Types.{TypeTree, Named, Applied, Arrows}
+use Rattle.lp_syntax.specs.Types.{TypeTree, Arrows}
 use Rattle.lp_syntax.specs.Raw.{IsNoted, Shows, leaf_in, leaf, leaf_node, cons_node, nil_node, app_node, abs_node}
 use Rattle.lp_syntax.specs.RawTypes.{Node, OnNodes, AreBelow, ShowsType, on_none, on_more, word_node, arrow_node}
-use Rattle.lp_syntax.specs.Depth.{as_target, type_depth, as_head, binds, HasDepth, leaf as leaf_depth, cons, nil, applied, abstracted, annotated, TermFits, TermTooDeep, counted, IsDepth, AreTypeDepths, AreDepths, IsNoteDepth}
+use Rattle.lp_syntax.specs.Depth.{as_target, type_depth, as_head, binds, leaf as leaf_depth, cons, nil, applied, abstracted, annotated, TermFits, TermTooDeep, counted, IsDepth, AreTypeDepths, AreDepths, IsNoteDepth}
 use Rattle.lp_syntax.proofs.TypeTrees.{snoc_same, snoc_some}
 use Rattle.lp_syntax.proofs.TypeFaults.{Compared, less, same, more, compared}
 

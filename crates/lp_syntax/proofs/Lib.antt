@@ -41,3 +41,4 @@ pub mod ModuleCode
 pub mod Depths
 pub mod ModuleUnique
 pub mod ModuleTexts
+pub mod Rows

@@ -1,8 +1,7 @@
 -- What the code that reads modules gives.
 use Rattle.std.proofs.Common.{◌≡◌, ◌≢◌, ℕ, zero, suc, ◌+◌, ◌-◌, ◌<◌, ◌≤◌, ◌⊎◌, inl, inr, Bool, true, false, List, [], ◌∷◌, ◌++◌, length, map, take, drop, refl, sym, ap, ◌∙◌, subst, arith}
-use Rattle.std.specs.Prelude.{Option, Some, None, Result, Ok, Err, IfOk, IfErr, slice_get}
+use Rattle.std.specs.Prelude.{Some, None, slice_get}
 use Rattle.lp_base.specs.declared.place.Spot.{Spot}
-use Rattle.lp_base.specs.declared.limit.Limit.TheVariants.{Nesting}
 use Rattle.lp_fixity.specs.declared.fixity.Fixity.{Fixity}
 use Rattle.lp_syntax.specs.declared.class.Keyword.{Keyword}
 use Rattle.lp_syntax.specs.declared.class.Class.TheVariants as class
@@ -13,7 +12,7 @@ use Rattle.lp_syntax.specs.Symbols.{Tree}
 use Rattle.lp_syntax.specs.Tokens.{Lexeme, Operators, class_at}
 use Rattle.lp_syntax.specs.Terms.{TermAt, TermFault, MemoryOr}
 use Rattle.lp_syntax.specs.TermViews.{IsOver}
-use Rattle.lp_syntax.specs.Declarations.{Line, IsBody}
+use Rattle.lp_syntax.specs.Declarations.{Line}
 use Rattle.lp_syntax.specs.LineMachine.{AtStart, StopsIn, IsTooDeep}
 use Rattle.std.specs.Prelude.{slice_range, nat_le, ◌&&◌, if◌then◌else◌}
 use Rattle.lp_lexer.specs.declared.token.Token.{Token}
@@ -26,8 +25,8 @@ use Rattle.lp_syntax.specs.declared.text.Declaration.TheVariants.{Kinds, LocalKi
 use Rattle.lp_syntax.specs.Declarations.{KindLine, LocalKindLine, ConstantLine, LocalLine, AbbreviationLine, AccumulateLine, AccumSigLine, FixityLine, IsShown}
 use Rattle.lp_syntax.specs.Tokens.{lexemes, spot_at, spot_in, bytes_at, bytes_in, piece, lexeme}
 use Rattle.lp_syntax.specs.Signatures.{IsHeader, IsLine}
-use Rattle.lp_syntax.specs.Modules.{Said, says, IsSaid, AreSaid, AreSentences, no_sentence, one_sentence, Follows, SentencesRead, IsSentenceText, SentenceFollows, SentenceRefuses, LineFollows, LineRefuses, NameFault, OperatorFault, IsBadOperator, BehindSentences, IsModuleRefusal, IsFixFault, ClauseFits}
-use Rattle.lp_syntax.specs.Modules.{Clause, Declared, IsSentence, declares, SentenceFault, IsSentenceRefusal, DeclaresOne, DeclaresAll, none_declared, one_declared, bytes_of}
+use Rattle.lp_syntax.specs.Modules.{Said, IsSaid, AreSaid, AreSentences, no_sentence, one_sentence, Follows, SentencesRead, IsSentenceText, SentenceFollows, SentenceRefuses, LineFollows, LineRefuses, NameFault, OperatorFault, IsBadOperator, IsModuleRefusal, IsFixFault, ClauseFits}
+use Rattle.lp_syntax.specs.Modules.{Clause, Declared, IsSentence, declares, SentenceFault, IsSentenceRefusal, DeclaresOne, DeclaresAll, one_declared, bytes_of}
 use Rattle.std.proofs.lemmas.List.Elements.{All-nil, All-push}
 use Rattle.lp_syntax.proofs.Tokens.{past_end}
 use Rattle.lp_syntax.proofs.LineCode.{memory_or}

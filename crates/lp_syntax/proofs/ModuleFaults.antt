@@ -1,35 +1,29 @@
 -- Where a sentence of a module has its fault.
-use Rattle.std.proofs.Common.{◌≡◌, ◌≢◌, ℕ, suc, ◌+◌, ◌-◌, ◌<◌, ◌≤◌, ◌⊎◌, inl, inr, Bool, true, false, List, [], ◌∷◌, ◌++◌, length, map, refl, sym, ap, ◌∙◌, subst, arith}
+use Rattle.std.proofs.Common.{◌≡◌, ℕ, suc, ◌+◌, ◌<◌, ◌≤◌, inl, inr, List, [], ◌∷◌, length, refl, sym, ap, ◌∙◌, subst, arith}
 use Rattle.std.specs.Prelude.{Option, Some, None, Result, Ok, Err, IfOk, IfErr}
 use Rattle.lp_base.specs.declared.place.Spot.{Spot}
-use Rattle.lp_base.specs.declared.limit.Limit.TheVariants.{Nesting}
 use Rattle.lp_syntax.specs.declared.class.Keyword.{Keyword}
-use Rattle.lp_syntax.specs.declared.class.Keyword.TheVariants as keyword
-use Rattle.lp_syntax.specs.declared.class.Class.{Class}
 use Rattle.lp_syntax.specs.declared.class.Class.TheVariants as class
 use Rattle.lp_syntax.specs.declared.symbol.Sym.{Sym}
 use Rattle.lp_syntax.specs.declared.symbol.Sym.TheVariants.{Other}
 use Rattle.lp_syntax.specs.declared.symbol.Fault.TheVariants.{Unexpected}
 use Rattle.lp_syntax.specs.declared.fault.SyntaxFault.{SyntaxFault}
 use Rattle.lp_syntax.specs.declared.fault.SyntaxFault.TheVariants as fault
-use Rattle.lp_syntax.specs.declared.text.Declaration.{Declaration}
-use Rattle.lp_syntax.specs.Faults.{refused, innermost}
 use Rattle.lp_syntax.specs.Symbols.{Tree}
 use Rattle.lp_syntax.specs.Text.{IsTerm}
-use Rattle.lp_syntax.specs.Machine.{State, Wants, st, step, read, Given, Unfinished}
-use Rattle.lp_syntax.specs.Tokens.{Lexeme, Operators, class_at, symbol_at, symbol_of, bytes_at, open_brackets, Agree}
-use Rattle.lp_syntax.specs.Terms.{Spells, done, token, note, TermAt, CanGoOn, NoneOver, StopsAt, IsKind, TermFault, MemoryOr}
-use Rattle.lp_syntax.specs.TermViews.{HasRead, IsOver}
-use Rattle.lp_syntax.specs.Declarations.{Line, IsBody, IsDeclared}
-use Rattle.lp_syntax.specs.LineMachine.{AtStart, AtEnd, StopsIn, LineStops, IsTooDeep}
+use Rattle.lp_syntax.specs.Machine.{Wants, st, step, read, Given, Unfinished}
+use Rattle.lp_syntax.specs.Tokens.{Lexeme, Operators, class_at, symbol_at, symbol_of, bytes_at, Agree}
+use Rattle.lp_syntax.specs.Terms.{Spells, done, token, note, TermAt, StopsAt, TermFault}
+use Rattle.lp_syntax.specs.TermViews.{HasRead}
+use Rattle.lp_syntax.specs.Declarations.{Line}
+use Rattle.lp_syntax.specs.LineMachine.{AtStart, StopsIn, LineStops}
 use Rattle.lp_syntax.specs.Signatures.{IsLine}
-use Rattle.lp_syntax.specs.Modules.{Clause, Declared, Said, IsSentence, declares, says, SentenceFault, IsSentenceKind}
+use Rattle.lp_syntax.specs.Modules.{Clause, Declared, Said, IsSentence, declares, says, SentenceFault}
 use Rattle.lp_syntax.proofs.Reading.{read_of_term}
 use Rattle.lp_syntax.proofs.Spelling.{spells_up}
 use Rattle.lp_syntax.proofs.Tokens.{class_same, agree_less, going_on, class_stands, past_end}
-use Rattle.lp_syntax.proofs.Classes.{class_there}
 use Rattle.lp_syntax.proofs.TypeFaults.{Compared, less, same, more, compared}
-use Rattle.lp_syntax.proofs.TermFaults.{token_stops, same_term, agree_back, term_read}
+use Rattle.lp_syntax.proofs.TermFaults.{token_stops, same_term, agree_back}
 use Rattle.lp_syntax.proofs.TermSteps.{other_stops}
 use Rattle.lp_syntax.proofs.QueryFaults.{over_dot}
 use Rattle.lp_syntax.proofs.LineOpen.{stops_up}

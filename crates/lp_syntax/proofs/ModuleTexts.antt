@@ -1,12 +1,12 @@
 -- Where the header of a text is that of no module.
-use Rattle.std.proofs.Common.{◌≡◌, ℕ, suc, ◌+◌, ◌<◌, ◌≤◌, List, [], ◌∷◌, length, refl, sym, ap, ◌∙◌, subst, arith, codes}
+use Rattle.std.proofs.Common.{◌≡◌, ℕ, suc, ◌≤◌, List, [], ◌∷◌, length, refl, sym, ◌∙◌, subst, arith, codes}
 use Rattle.lp_base.specs.declared.place.Spot.{Spot}
 use Rattle.lp_syntax.specs.declared.class.Keyword.TheVariants as keyword
 use Rattle.lp_syntax.specs.declared.fault.SyntaxFault.{SyntaxFault}
 use Rattle.lp_syntax.specs.Tokens.{Lexeme, Operators, class_at, Agree}
 use Rattle.lp_syntax.specs.LineMachine.{LineState, AtHeader, AtWord, AtEnd, LineStep, header, LineRuns, stays, goes, LineStops, StopsIn}
 use Rattle.lp_syntax.specs.Signatures.{IsHeader}
-use Rattle.lp_syntax.specs.Modules.{Clause, AreSentences, no_sentence, IsModule, ModuleBegins, HeaderFault}
+use Rattle.lp_syntax.specs.Modules.{AreSentences, no_sentence, ModuleBegins, HeaderFault}
 use Rattle.lp_syntax.proofs.Tokens.{class_same, agree_less, going_on, class_stands}
 use Rattle.lp_syntax.proofs.Lines.{line_on}
 use Rattle.lp_syntax.proofs.LineStops.{line_same, word_token, is_module_token, lower_token, dot_token}

@@ -1,7 +1,7 @@
 -- A text is a module in one way, and has one set of operators behind it; where it is one, the code gives it.
 use Rattle.std.proofs.Common.{◌≡◌, ℕ, suc, ◌+◌, ◌<◌, ◌≤◌, ◌⊎◌, inl, inr, max, List, [], ◌∷◌, ◌++◌, length, map, refl, sym, ap, ◌∙◌, subst, arith, length-append}
 use Rattle.std.proofs.lemmas.List.Elements.{All-pop}
-use Rattle.std.specs.Prelude.{All, Option, Some, None, Result, Ok, Err, IfOk, IfErr}
+use Rattle.std.specs.Prelude.{All, Some, Result, Ok, Err, IfOk, IfErr}
 use Rattle.lp_base.specs.declared.place.Spot.{Spot}
 use Rattle.lp_base.specs.declared.limit.Limit.TheVariants.{Nesting}
 use Rattle.lp_fixity.specs.declared.fixity.Fixity.{Fixity}

@@ -1,5 +1,5 @@
 -- The grammar of modules: their sentences, the operators that are in force behind each, and their faults.
-use Rattle.std.specs.Prelude.{◌≡◌, ◌≢◌, ℕ, suc, ◌+◌, ◌<◌, ◌≤◌, ◌⊎◌, List, [], ◌∷◌, ◌++◌, length, map, All, Option, Some, None, Result, Ok, Err}
+use Rattle.std.specs.Prelude.{◌≡◌, ◌≢◌, ℕ, suc, ◌+◌, ◌<◌, ◌≤◌, ◌⊎◌, List, [], ◌∷◌, ◌++◌, length, map, All, Some, Result, Ok, Err}
 use Rattle.lp_base.specs.declared.place.Spot.{Spot}
 use Rattle.lp_base.specs.declared.limit.Limit.TheVariants.{Nesting}
 use Rattle.lp_fixity.specs.declared.fixity.Fixity.{Fixity}

@@ -59,11 +59,7 @@ fn type_node_depth(nodes: &[RawTypeNode], depths: &[usize], node: &RawTypeNode) 
 }
 
 /// How deep the type at `root` is.
-pub fn type_depth(
-    alloc: Global,
-    nodes: &[RawTypeNode],
-    root: usize,
-) -> Result<usize, AllocError>
+pub fn type_depth(alloc: Global, nodes: &[RawTypeNode], root: usize) -> Result<usize, AllocError>
     ensures { IfOk result (λ d. (spot : ℕ → Place) (t : TypeTree) → ShowsType spot nodes.now (Node root) t → d ≡ counted (type_depth t)) }
 {
     let mut depths: Vec<usize> = Vec::new(alloc);

@@ -440,10 +440,23 @@ fn deep(alloc: Global, times: usize) -> Result<bool, AllocError> {
     Ok(query_fault(alloc, source.as_slice(), "nesting", 0))
 }
 
+// A list of so many names.
+fn long(alloc: Global, times: usize) -> Result<bool, AllocError> {
+    let mut source = Vec::new(alloc);
+    source.extend_from_slice(b"[x")?;
+    for _ in 1..times {
+        source.extend_from_slice(b",x")?;
+    }
+    source.extend_from_slice(b"]")?;
+    Ok(query_fault(alloc, source.as_slice(), "nesting", 0))
+}
+
 #[test]
 fn nesting(rt: HostRuntime) {
     assert!(rt; deep(rt.alloc(), 1999) == Ok(false), "2000 levels");
     assert!(rt; deep(rt.alloc(), 2000) == Ok(true), "2001 levels");
+    assert!(rt; long(rt.alloc(), 1999) == Ok(false), "1999 items");
+    assert!(rt; long(rt.alloc(), 2000) == Ok(true), "2000 items");
 }
 
 fn refers(alloc: Global, source: &[u8]) -> bool {

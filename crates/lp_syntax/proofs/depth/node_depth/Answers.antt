@@ -20,4 +20,3 @@ returns-in-Number c = λ spot ls i t h m e s. leaf_count spot ls c.args.nodes.no
 
 pub returns-in-Text : goal.returns-in-Text
 returns-in-Text c = λ spot ls i t h m e s. leaf_count spot ls c.args.nodes.now i t _ (e ∙ ap Some c.in-Text.is) refl s
-
