@@ -1,2 +1,5 @@
 pub mod Finding
 pub mod Blame
+pub mod Order
+pub mod Circles
+pub mod Naming
