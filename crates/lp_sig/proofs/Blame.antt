@@ -15,7 +15,7 @@ use Rattle.lp_syntax.specs.declared.text.Declaration.TheVariants.{Kinds, LocalKi
 use Rattle.lp_syntax.specs.declared.text.SignatureText.{SignatureText}
 use Rattle.lp_sig.specs.Pieces.{spelled}
 use Rattle.lp_sig.specs.Refusals.{Parts, named, typed, headed, words_of, parts_of, HasManyArguments, IsFaultOf, IsLimitOf, IsWant, IsFaultIn, IsAt, IsText, IsAtFault, AreTaken, IsFaultAt, HasItsHeader, HasOtherHeader, IsStepRefused, IsStepTaken, IsFreeOfCircles, IsCircleFrom, IsRefusal, IsAccepted, ways}
-use Rattle.lp_sig.specs.Limits.{IsWithin, AreWithin}
+use Rattle.lp_sig.specs.Limits.{IsWithin, AreWithin, IsRepeated}
 use Rattle.lp_sig.specs.Loading.{Way, IsLoadOrder, HasNoCircle}
 use Rattle.lp_sig.specs.Walking.{IsFirstCircleFault}
 use Rattle.lp_sig.specs.declared.walk.Step.{Step}
@@ -58,8 +58,18 @@ words_among (Arrow a b ∷ ns) zero n h at t c = within_nothing (words_of ns) t 
 words_among (Word s args ∷ ns) (suc i) n h at t c = tail_of s t (words_of ns) (words_among ns i n (omega (arith, h)) at t c)
 words_among (Arrow a b ∷ ns) (suc i) n h at t c = words_among ns i n (omega (arith, h)) at t c
 
+-- what is repeated in the one is repeated in the other
+abbrev pub Repeats : List ℕ → List Spot → List Spot → Type 0
+Repeats text xs ys = (s : Spot) → IsRepeated text xs s → IsRepeated text ys s
+
+pub repeats_nothing : (text : List ℕ) (ys : List Spot) → Repeats text [] ys
+repeats_nothing text ys s r = let h = r.inside in absurd (omega (arith, h))
+
+pub repeats_itself : (text : List ℕ) (xs : List Spot) → Repeats text xs xs
+repeats_itself text xs s r = r
+
 -- more may be to blame
-pub wider : (text : List ℕ) (p q : Parts) (M N : Type 0) (e : SigFault) → Within p.names q.names → Within p.heads q.heads → Within p.parameters q.parameters → Within p.words q.words → (M → N) → IsFaultOf text p M e → IsFaultOf text q N e
+pub wider : (text : List ℕ) (p q : Parts) (M N : Type 0) (e : SigFault) → Within p.names q.names → Within p.heads q.heads → Repeats text p.parameters q.parameters → Within p.words q.words → (M → N) → IsFaultOf text p M e → IsFaultOf text q N e
 wider text p q M N (fault.UnknownKind s) a b c d m f = d s f
 wider text p q M N (fault.Arity s) a b c d m f = d s f
 wider text p q M N (fault.Differ s) a b c d m f = elim f [ inl x ↦ inl (a s x) | inr x ↦ inr (c s x) ]
@@ -115,7 +125,7 @@ one_of_two P first other now (inr e) a b = subst (λ o. IfSome o (λ f. P f.1)) 
 -- the fault of a node is one of the type
 pub fault_among : (text : List ℕ) (ns : List RawTypeNode) (i : ℕ) (n : RawTypeNode) (o : Option (ℕ × SigFault)) → i < length ns → n ≡ get_or ns i n → IfSome o (λ f. IsFaultOf text (typed [] (words_of (n ∷ []))) ⊥ f.1) → IfSome o (λ f. IsFaultOf text (typed [] (words_of ns)) ⊥ f.1)
 fault_among text ns i n None h at f = tt
-fault_among text ns i n (Some e) h at f = wider text (typed [] (words_of (n ∷ []))) (typed [] (words_of ns)) ⊥ ⊥ e.1 (within_nothing []) (within_nothing []) (within_nothing []) (words_among ns i n h at) (λ x. x) f
+fault_among text ns i n (Some e) h at f = wider text (typed [] (words_of (n ∷ []))) (typed [] (words_of ns)) ⊥ ⊥ e.1 (within_nothing []) (within_nothing []) (repeats_nothing text []) (words_among ns i n h at) (λ x. x) f
 
 pub for_err : {T E : Type 0} (r : Result T E) (P Q : E → Type 0) → ((e : E) → P e → Q e) → IfErr r P → IfErr r Q
 for_err (Ok x) P Q f h = tt

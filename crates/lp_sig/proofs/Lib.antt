@@ -3,3 +3,4 @@ pub mod Blame
 pub mod Order
 pub mod Circles
 pub mod Naming
+pub mod Repeats

@@ -83,9 +83,11 @@ entered ways m m' w w1 w' s s' i h marks steps a b = λ rest run.
     let y = own_first ways x.mid i (reverse w) x.more x.run in
     let here = Enter i ∷ (x.inner ++ Declare i ∷ []) in
     let loads = first h x.inner (subst (λ z. LoadsAll ways z words x.inner x.mid) marks x.loads) refl in
-    let same : rest ≡ (x.inner ++ Declare i ∷ []) ++ y.more = x.is ∙ ap (λ z. x.inner ++ z) y.is ∙ sym (append_assoc x.inner (Declare i ∷ []) y.more) in
-    (here ++ y.more, go i (reverse w) here y.more (last_off w (Enter i)) x.mid loads y.run refl,
-    ap (λ z. z ++ rest) steps ∙ append_assoc s (Enter i ∷ []) rest ∙ ap (λ z. s ++ (Enter i ∷ z)) same)
+    let same : rest ≡ (x.inner ++ Declare i ∷ []) ++ y.more = x.is ∙ ap (λ z. x.inner ++ z) y.is ∙ sym (append_assoc x.inner (Declare i ∷ []) y.more) in (
+      here ++ y.more,
+      go i (reverse w) here y.more (last_off w (Enter i)) x.mid loads y.run refl,
+      ap (λ z. z ++ rest) steps ∙ append_assoc s (Enter i ∷ []) rest ∙ ap (λ z. s ++ (Enter i ∷ z)) same,
+    )
 
 only_one : (ways : List (List Way)) (m : List Bool) (root : ℕ) (all : List Step) → Run ways m (Enter root ∷ []) all → (new : List Bool) × Loads ways m root all new
 only_one ways m root all (over e s) = absurd (cc)

@@ -10,7 +10,7 @@ use Rattle.lp_syntax.specs.declared.text.RawTypeNode.{RawTypeNode}
 use Rattle.lp_syntax.specs.declared.text.RawTypeNode.TheVariants.{Word, Arrow}
 use Rattle.lp_syntax.specs.declared.text.SignatureText.{SignatureText}
 use Rattle.lp_sig.specs.Pieces.{spelled}
-use Rattle.lp_sig.specs.Limits.{AreWithin}
+use Rattle.lp_sig.specs.Limits.{AreWithin, IsRepeated}
 use Rattle.lp_sig.specs.Loading.{Way, ways_between, IsLoadOrder, HasNoCircle, IsFirstCircle}
 use Rattle.lp_sig.specs.declared.walk.Step.{Step}
 use Rattle.lp_sig.specs.declared.walk.Step.TheVariants.{Enter, Declare}
@@ -71,11 +71,11 @@ IsLimitOf text p Many limit.Arguments = Many
 IsLimitOf text p Many _ = ⊥
 
 -- why a declaration is refused: an unknown kind and a wrong count of arguments are words of its type, what is declared otherwise
--- is one of its names or parameters, and a circle is the name of an abbreviation
+-- is one of its names or the first parameter that stands a second time, and a circle is the name of an abbreviation
 abbrev pub IsFaultOf : List ℕ → Parts → Type 0 → SigFault → Type 0
 IsFaultOf text p Many (fault.UnknownKind s) = Contains p.words s
 IsFaultOf text p Many (fault.Arity s) = Contains p.words s
-IsFaultOf text p Many (fault.Differ s) = Contains p.names s ⊎ Contains p.parameters s
+IsFaultOf text p Many (fault.Differ s) = Contains p.names s ⊎ IsRepeated text p.parameters s
 IsFaultOf text p Many (fault.CyclicAbbreviation s) = Contains p.heads s
 IsFaultOf text p Many (fault.CyclicSignature s) = ⊥
 IsFaultOf text p Many (fault.Limit l) = IsLimitOf text p Many l

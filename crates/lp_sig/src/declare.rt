@@ -1,7 +1,7 @@
 // What the declarations of a text say, line by line.
 ghost use Rattle.std.specs.Prelude.{◌<◌, ◌≤◌, [], ◌∷◌, length, IfErr, IfOk};
 ghost use Rattle.lp_sig.specs.Refusals.{IsFaultOf, IsFaultIn, IsWant, named, typed, headed, parts_of, words_of, HasManyArguments};
-ghost use Rattle.lp_sig.specs.Limits.{IsShort, AreShort, IsWithin, AreWithin};
+ghost use Rattle.lp_sig.specs.Limits.{IsShort, AreShort, AreApart, IsWithin, AreWithin};
 
 use crate::entries::{ConstantEntry, FixityEntry};
 use crate::expand::Variables;
@@ -39,7 +39,7 @@ impl Making {
     // A kind has the count of arguments with which it was announced first.
     pub(crate) fn declare_kind(&self, source: &[u8], name: Spot, arity: u32) -> Result<(), SigFault>
         ensures refused { IfErr result (IsFaultOf source.now (named (name ∷ [])) ⊥) }
-    ensures taken { IfOk result (λ done. IsShort source.now name) }
+        ensures taken { IfOk result (λ done. IsShort source.now name) }
     {
         check_length(source, name)?;
         match self.meaning(spelled_at(source, name)) {
@@ -63,7 +63,7 @@ impl Making {
         arity: u32,
     ) -> Result<(), SigFault>
         ensures refused { IfErr result (IsFaultOf source.now (named names.now) (255 < arity)) }
-    ensures taken { IfOk result (λ done. AreShort source.now names.now × (arity ≤ 255)) }
+        ensures taken { IfOk result (λ done. AreShort source.now names.now × (arity ≤ 255)) }
     {
         for name in names {
             self.declare_kind(source, *name, arity)?;
@@ -121,7 +121,7 @@ impl Making {
         scheme: TypeId,
     ) -> Result<(), SigFault>
         ensures refused { IfErr result (IsFaultOf source.now (named (name ∷ [])) ⊥) }
-    ensures taken { IfOk result (λ done. IsShort source.now name) }
+        ensures taken { IfOk result (λ done. IsShort source.now name) }
     {
         check_length(source, name)?;
         let word = spelled_at(source, name);
@@ -144,7 +144,7 @@ impl Making {
         scheme: TypeId,
     ) -> Result<(), SigFault>
         ensures refused { IfErr result (IsFaultOf source.now (named names.now) ⊥) }
-    ensures taken { IfOk result (λ done. AreShort source.now names.now) }
+        ensures taken { IfOk result (λ done. AreShort source.now names.now) }
     {
         for name in names {
             self.declare_constant(source, *name, type_vars, scheme)?;
@@ -160,7 +160,7 @@ impl Making {
         raw: &RawType,
     ) -> Result<(), SigFault>
         ensures refused { IfErr result (IsFaultOf source.now (typed names.now (words_of raw.now.nodes.items)) (Unit {0})) }
-    ensures taken { IfOk result (λ done. AreShort source.now names.now) }
+        ensures taken { IfOk result (λ done. AreShort source.now names.now) }
     {
         match self.scheme(source, raw) {
             Err(fault) => {
@@ -180,7 +180,7 @@ impl Making {
         parameters: usize,
     ) -> Result<usize, SigFault>
         ensures refused { IfErr result (IsFaultOf source.now (named (name ∷ [])) ⊥) }
-    ensures taken { IfOk result (λ done. IsShort source.now name) }
+        ensures taken { IfOk result (λ done. IsShort source.now name) }
     {
         check_length(source, name)?;
         let Some(Meaning::Abbreviation(place)) = self.meaning(spelled_at(source, name)) else {
@@ -213,7 +213,7 @@ impl Making {
         raw: &RawType,
     ) -> Result<(), SigFault>
         ensures refused { IfErr result (IsFaultOf source.now (headed name parameters.now (words_of raw.now.nodes.items)) (255 < length parameters.now)) }
-    ensures taken { IfOk result (λ done. IsShort source.now name × (length parameters.now ≤ 255)) }
+        ensures taken { IfOk result (λ done. IsShort source.now name × AreApart source.now parameters.now × (length parameters.now ≤ 255)) }
     {
         let place = self.check_abbreviation(source, name, parameters.len())?;
         let uses = self.uses_of(source, raw)?;
@@ -269,7 +269,7 @@ impl Making {
 
     fn declare_line(&mut self, source: &[u8], declaration: &Declaration) -> Result<(), SigFault>
         ensures refused { IfErr result (IsFaultOf source.now (parts_of declaration.now) (HasManyArguments declaration.now)) }
-    ensures taken { IfOk result (λ done. IsWithin source.now declaration.now) }
+        ensures taken { IfOk result (λ done. IsWithin source.now declaration.now) }
     {
         match declaration {
             Declaration::Kinds(names, arity) => self.declare_kinds(
@@ -296,7 +296,7 @@ impl Making {
     // The declarations of a signature's own text, or the first fault in text order.
     pub(crate) fn declare(&mut self, source: &[u8], text: &SignatureText) -> Result<(), SigFault>
         ensures refused { IfErr result (IsFaultIn source.now text.now.lines.items) }
-    ensures taken { IfOk result (λ done. AreWithin source.now text.now.lines.items) }
+        ensures taken { IfOk result (λ done. AreWithin source.now text.now.lines.items) }
     {
         let from = self.abbreviations.len();
         self.announce(source, text)?;

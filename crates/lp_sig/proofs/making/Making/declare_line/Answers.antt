@@ -1,6 +1,6 @@
 use Rattle.std.proofs.Common.{subst, sym, ◌<◌, length}
 use Rattle.std.specs.Prelude.{IfErr, IfOk, ◌≤◌}
-use Rattle.lp_sig.specs.Limits.{IsShort, AreShort, IsWithin}
+use Rattle.lp_sig.specs.Limits.{IsShort, AreShort, AreApart, IsWithin}
 use Rattle.lp_sig.specs.Refusals.{IsFaultOf, named, typed, headed, words_of, parts_of, HasManyArguments}
 use Rattle.lp_sig.proofs.making.Making.declare_line.Goals as goal
 
@@ -32,4 +32,4 @@ returns-in-Constants-clause-taken c =
 pub returns-in-Abbreviation-clause-taken : goal.returns-in-Abbreviation-clause-taken
 returns-in-Abbreviation-clause-taken c =
     subst (λ d. IfOk c.declare_abbreviation.result (λ done. IsWithin c.args.source.now d)) (sym c.in-Abbreviation.is)
-    (subst (λ ps. IfOk c.declare_abbreviation.result (λ done. IsShort c.args.source.now c.in-Abbreviation.name × (length ps ≤ 255))) c.as_slice-in-Abbreviation.ensures.value c.declare_abbreviation.ensures.taken)
+    (subst (λ ps. IfOk c.declare_abbreviation.result (λ done. IsShort c.args.source.now c.in-Abbreviation.name × AreApart c.args.source.now ps × (length ps ≤ 255))) c.as_slice-in-Abbreviation.ensures.value c.declare_abbreviation.ensures.taken)
