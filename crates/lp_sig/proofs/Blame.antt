@@ -1,8 +1,9 @@
 -- What is to blame for a refusal, seen from the declaration.
-use Rattle.std.proofs.Common.{◌≡◌, ℕ, zero, suc, ◌+◌, ◌<◌, List, [], ◌∷◌, length, get_or, refl, sym, ap, subst, ◌∙◌, arith, Result, Ok, Err, inl, inr, Option, Some, None}
+use Rattle.std.proofs.Common.{◌≡◌, ℕ, zero, suc, ◌+◌, ◌<◌, ◌≤◌, List, [], ◌∷◌, length, take, take_all, get_or, refl, sym, ap, subst, ◌∙◌, arith, Result, Ok, Err, inl, inr, ⊎_elim, Option, Some, None}
 use Rattle.std.specs.Global.{Global}
-use Rattle.std.specs.Prelude.{◌≢◌, All, Contains, IfErr, IfSome, ◌⊎◌, ◌++◌, String, Vec, string_bytes}
-use Rattle.std.proofs.lemmas.List.Elements.{Contains-append_left, Contains-append_right, Contains-get_or}
+use Rattle.std.specs.Prelude.{◌≢◌, All, Contains, IfErr, IfOk, OnOk, IfSome, ◌⊎◌, ◌++◌, String, Vec, string_bytes}
+use Rattle.std.proofs.lemmas.List.{take_more, get_or_default}
+use Rattle.std.proofs.lemmas.List.Elements.{All-more, Contains-push_cases}
 use Rattle.std.specs.Result.{IsErrAnd}
 use Rattle.lp_base.specs.declared.limit.Limit.{Limit}
 use Rattle.lp_base.specs.declared.limit.Limit.TheVariants as limit
@@ -13,7 +14,12 @@ use Rattle.lp_syntax.specs.declared.text.Declaration.{Declaration}
 use Rattle.lp_syntax.specs.declared.text.Declaration.TheVariants.{Kinds, LocalKinds, Constants, Locals, Abbreviation, Accumulate, AccumSig, Fixities}
 use Rattle.lp_syntax.specs.declared.text.SignatureText.{SignatureText}
 use Rattle.lp_sig.specs.Pieces.{spelled}
-use Rattle.lp_sig.specs.Refusals.{Parts, named, typed, headed, words_of, parts_of, HasManyArguments, IsFaultOf, IsLimitOf, IsWant, IsFaultIn, IsAt, IsAtFault, IsOtherHeader, IsRefusal, IsCircleAt, accum_words, all_accum_words}
+use Rattle.lp_sig.specs.Refusals.{Parts, named, typed, headed, words_of, parts_of, HasManyArguments, IsFaultOf, IsLimitOf, IsWant, IsFaultIn, IsAt, IsText, IsAtFault, AreTaken, IsFaultAt, HasItsHeader, HasOtherHeader, IsStepRefused, IsStepTaken, IsFreeOfCircles, IsCircleFrom, IsRefusal, IsAccepted, ways}
+use Rattle.lp_sig.specs.Limits.{IsWithin, AreWithin, IsRepeated}
+use Rattle.lp_sig.specs.Loading.{Way, IsLoadOrder, HasNoCircle}
+use Rattle.lp_sig.specs.Walking.{IsFirstCircleFault}
+use Rattle.lp_sig.specs.declared.walk.Step.{Step}
+use Rattle.lp_sig.specs.declared.walk.Step.TheVariants.{Enter, Declare}
 use Rattle.lp_sig.specs.declared.fault.SigFault.{SigFault}
 use Rattle.lp_sig.specs.declared.fault.SigFault.TheVariants as fault
 
@@ -52,8 +58,18 @@ words_among (Arrow a b ∷ ns) zero n h at t c = within_nothing (words_of ns) t 
 words_among (Word s args ∷ ns) (suc i) n h at t c = tail_of s t (words_of ns) (words_among ns i n (omega (arith, h)) at t c)
 words_among (Arrow a b ∷ ns) (suc i) n h at t c = words_among ns i n (omega (arith, h)) at t c
 
+-- what is repeated in the one is repeated in the other
+abbrev pub Repeats : List ℕ → List Spot → List Spot → Type 0
+Repeats text xs ys = (s : Spot) → IsRepeated text xs s → IsRepeated text ys s
+
+pub repeats_nothing : (text : List ℕ) (ys : List Spot) → Repeats text [] ys
+repeats_nothing text ys s r = let h = r.inside in absurd (omega (arith, h))
+
+pub repeats_itself : (text : List ℕ) (xs : List Spot) → Repeats text xs xs
+repeats_itself text xs s r = r
+
 -- more may be to blame
-pub wider : (text : List ℕ) (p q : Parts) (M N : Type 0) (e : SigFault) → Within p.names q.names → Within p.heads q.heads → Within p.parameters q.parameters → Within p.words q.words → (M → N) → IsFaultOf text p M e → IsFaultOf text q N e
+pub wider : (text : List ℕ) (p q : Parts) (M N : Type 0) (e : SigFault) → Within p.names q.names → Within p.heads q.heads → Repeats text p.parameters q.parameters → Within p.words q.words → (M → N) → IsFaultOf text p M e → IsFaultOf text q N e
 wider text p q M N (fault.UnknownKind s) a b c d m f = d s f
 wider text p q M N (fault.Arity s) a b c d m f = d s f
 wider text p q M N (fault.Differ s) a b c d m f = elim f [ inl x ↦ inl (a s x) | inr x ↦ inr (c s x) ]
@@ -109,69 +125,109 @@ one_of_two P first other now (inr e) a b = subst (λ o. IfSome o (λ f. P f.1)) 
 -- the fault of a node is one of the type
 pub fault_among : (text : List ℕ) (ns : List RawTypeNode) (i : ℕ) (n : RawTypeNode) (o : Option (ℕ × SigFault)) → i < length ns → n ≡ get_or ns i n → IfSome o (λ f. IsFaultOf text (typed [] (words_of (n ∷ []))) ⊥ f.1) → IfSome o (λ f. IsFaultOf text (typed [] (words_of ns)) ⊥ f.1)
 fault_among text ns i n None h at f = tt
-fault_among text ns i n (Some e) h at f = wider text (typed [] (words_of (n ∷ []))) (typed [] (words_of ns)) ⊥ ⊥ e.1 (within_nothing []) (within_nothing []) (within_nothing []) (words_among ns i n h at) (λ x. x) f
+fault_among text ns i n (Some e) h at f = wider text (typed [] (words_of (n ∷ []))) (typed [] (words_of ns)) ⊥ ⊥ e.1 (within_nothing []) (within_nothing []) (repeats_nothing text []) (words_among ns i n h at) (λ x. x) f
 
 pub for_err : {T E : Type 0} (r : Result T E) (P Q : E → Type 0) → ((e : E) → P e → Q e) → IfErr r P → IfErr r Q
 for_err (Ok x) P Q f h = tt
 for_err (Err e) P Q f h = f e h
 
--- a line at fault
-pub line_at_fault : (text : List ℕ) (lines ds : List Declaration) (i : ℕ) (d : Declaration) (e : SigFault) → ds ≡ lines → i < length ds → d ≡ get_or ds i d → IsFaultOf text (parts_of d) (HasManyArguments d) e → IsFaultIn text lines e
-line_at_fault text lines ds i d e same h at f = inr (d, subst (λ l. Contains l d) same (i, h, sym at), f)
+pub for_ok : {T E : Type 0} (r : Result T E) (P Q : T → Type 0) → ((x : T) → P x → Q x) → IfOk r P → IfOk r Q
+for_ok (Ok x) P Q f h = f x h
+for_ok (Err e) P Q f h = tt
 
-pub text_at_fault : (names : List (String Global)) (sources : List (Vec ℕ Global)) (texts : List SignatureText) (i : ℕ) (source : Vec ℕ Global) (text : SignatureText) (bytes : List ℕ) (e : SigFault) → bytes ≡ source.items → IsAt sources i source → IsAt texts i text → IsFaultIn bytes text.lines.items e → IsRefusal names sources texts e
-text_at_fault names sources texts i source text bytes (fault.UnknownKind s) same a b (inl n) = absurd (cc)
-text_at_fault names sources texts i source text bytes (fault.UnknownKind s) same a b (inr (d, c, f)) = record { i = i; source = source; text = text; line = d; at_source = a; at_text = b; at_line = c; fault = f }
-text_at_fault names sources texts i source text bytes (fault.Arity s) same a b (inl n) = absurd (cc)
-text_at_fault names sources texts i source text bytes (fault.Arity s) same a b (inr (d, c, f)) = record { i = i; source = source; text = text; line = d; at_source = a; at_text = b; at_line = c; fault = f }
-text_at_fault names sources texts i source text bytes (fault.Differ s) same a b (inl n) = absurd (cc)
-text_at_fault names sources texts i source text bytes (fault.Differ s) same a b (inr (d, c, f)) = record { i = i; source = source; text = text; line = d; at_source = a; at_text = b; at_line = c; fault = f }
-text_at_fault names sources texts i source text bytes (fault.CyclicAbbreviation s) same a b (inl n) = absurd (cc)
-text_at_fault names sources texts i source text bytes (fault.CyclicAbbreviation s) same a b (inr (d, c, f)) = record { i = i; source = source; text = text; line = d; at_source = a; at_text = b; at_line = c; fault = f }
-text_at_fault names sources texts i source text bytes (fault.CyclicSignature s) same a b (inl n) = absurd (cc)
-text_at_fault names sources texts i source text bytes (fault.CyclicSignature s) same a b (inr (d, c, f)) = absurd f
-text_at_fault names sources texts i source text bytes (fault.Limit l) same a b (inl n) = absurd (cc)
-text_at_fault names sources texts i source text bytes (fault.Limit l) same a b (inr (d, c, f)) = record { i = i; source = source; text = text; line = d; at_source = a; at_text = b; at_line = c; fault = subst (λ t. IsFaultOf t (parts_of d) (HasManyArguments d) (fault.Limit l)) same f }
-text_at_fault names sources texts i source text bytes fault.Memory same a b f = tt
-text_at_fault names sources texts i source text bytes (fault.Header s) same a b (inl n) = absurd (cc)
-text_at_fault names sources texts i source text bytes (fault.Header s) same a b (inr (d, c, f)) = absurd f
+-- what a call says of its end, from what one that it stands on says
+pub on_ok : {T E : Type 0} (r : Result T E) (P Q : Type 0) → (P → Q) → OnOk r P → OnOk r Q
+on_ok (Ok x) P Q f h = f h
+on_ok (Err e) P Q f h = tt
 
-pub other_header : (names : List (String Global)) (sources : List (Vec ℕ Global)) (texts : List SignatureText) (i : ℕ) (name : String Global) (source : Vec ℕ Global) (text : SignatureText) (bytes : List ℕ) (e : SigFault) → bytes ≡ source.items → IsAt names i name → IsAt sources i source → IsAt texts i text → (e ≡ fault.Header text.header) × (spelled bytes text.header ≢ string_bytes name) → IsRefusal names sources texts e
-other_header names sources texts i name source text bytes e same n a b h =
-    subst (IsRefusal names sources texts) (sym h.0)
-    (record { i = i; name = name; source = source; text = text; at_name = n; at_source = a; at_text = b; header = refl; other = subst (λ t. spelled t text.header ≢ string_bytes name) same h.1 })
+-- a line at fault, where those before it pass no limit
+pub line_at_fault : (text : List ℕ) (lines ds : List Declaration) (i : ℕ) (d : Declaration) (e : SigFault) → ds ≡ lines → i < length ds → d ≡ get_or ds i d → AreWithin text (take i lines) → IsFaultOf text (parts_of d) (HasManyArguments d) e → IsFaultIn text lines e
+line_at_fault text lines ds i d e same h at before f = inr (record { k = i; line = d; at_line = subst (λ l. IsAt l i d) same (h, sym at); fault = f; before = before })
 
--- a circle is at a word of accum_sig
-pub circle : (names : List (String Global)) (sources : List (Vec ℕ Global)) (texts : List SignatureText) (e : SigFault) → IsCircleAt (all_accum_words texts) e → IsRefusal names sources texts e
-circle names sources texts (fault.UnknownKind s) h = absurd h
-circle names sources texts (fault.Arity s) h = absurd h
-circle names sources texts (fault.Differ s) h = absurd h
-circle names sources texts (fault.CyclicAbbreviation s) h = absurd h
-circle names sources texts (fault.CyclicSignature s) h = h
-circle names sources texts (fault.Limit l) h = absurd h
-circle names sources texts fault.Memory h = tt
-circle names sources texts (fault.Header s) h = absurd h
+pub within_more : (text : List ℕ) (lines ds : List Declaration) (i : ℕ) (d : Declaration) → ds ≡ lines → i < length ds → d ≡ get_or ds i d → AreWithin text (take i lines) → IsWithin text d → AreWithin text (take (i + 1) lines)
+within_more text lines ds i d same h at before this = All-more (IsWithin text) lines i d (subst (λ l. i < length l) same h) before (subst (IsWithin text) (at ∙ ap (λ l. get_or l i d) same) this)
 
-words_ahead : (d : Declaration) (ds : List Declaration) (s : Spot) → Contains (accum_words ds) s → Contains (accum_words (d ∷ ds)) s
-words_ahead (Kinds a b) ds s c = c
-words_ahead (LocalKinds a b) ds s c = c
-words_ahead (Constants a b) ds s c = c
-words_ahead (Locals a b) ds s c = c
-words_ahead (Abbreviation a b t) ds s c = c
-words_ahead (Accumulate ws) ds s c = c
-words_ahead (AccumSig ws) ds s c = Contains-append_right ws.items (accum_words ds) s c
-words_ahead (Fixities a b n) ds s c = c
+pub within_all : (text : List ℕ) (lines ds : List Declaration) (i : ℕ) → ds ≡ lines → length ds ≤ i → AreWithin text (take i lines) → AreWithin text lines
+within_all text lines ds i same h all = subst (AreWithin text) (take_all i lines (subst (λ l. length l ≤ i) same h)) all
 
--- the words of one sentence are among those of all, and those of one text among those of all
-pub accum_among : (lines : List Declaration) (i : ℕ) (d : Declaration) (words : Vec Spot Global) → i < length lines → d ≡ get_or lines i d → d ≡ AccumSig words → (s : Spot) → Contains words.items s → Contains (accum_words lines) s
-accum_among [] i d words h at is s c = absurd (omega (arith, h))
-accum_among (l ∷ ls) zero d words h at is s c = subst (λ l. Contains (accum_words (l ∷ ls)) s) (sym is ∙ at) (Contains-append_left words.items (accum_words ls) s c)
-accum_among (l ∷ ls) (suc i) d words h at is s c = words_ahead l ls s (accum_among ls i d words (omega (arith, h)) at is s c)
+pub text_taken : (sources : List (Vec ℕ Global)) (texts : List SignatureText) (i : ℕ) (source : Vec ℕ Global) (text : SignatureText) (bytes : List ℕ) → bytes ≡ source.items → IsAt sources i source → IsAt texts i text → AreWithin bytes text.lines.items → AreTaken sources texts i
+text_taken sources texts i source text bytes same a b f = record { source = source; text = text; at_source = a; at_text = b; within = subst (λ t. AreWithin t text.lines.items) same f }
 
-pub all_among : (texts : List SignatureText) (i : ℕ) (t : SignatureText) → i < length texts → t ≡ get_or texts i t → (s : Spot) → Contains (accum_words t.lines.items) s → Contains (all_accum_words texts) s
-all_among [] i t h at s c = absurd (omega (arith, h))
-all_among (x ∷ xs) zero t h at s c = Contains-append_left (accum_words x.lines.items) (all_accum_words xs) s (subst (λ t. Contains (accum_words t.lines.items) s) at c)
-all_among (x ∷ xs) (suc i) t h at s c = Contains-append_right (accum_words x.lines.items) (all_accum_words xs) s (all_among xs i t (omega (arith, h)) at s c)
+pub text_at_fault : (sources : List (Vec ℕ Global)) (texts : List SignatureText) (i : ℕ) (source : Vec ℕ Global) (text : SignatureText) (bytes : List ℕ) (e : SigFault) → bytes ≡ source.items → IsAt sources i source → IsAt texts i text → IsFaultIn bytes text.lines.items e → IsAtFault sources texts i e
+text_at_fault sources texts i source text bytes e same a b f = record { source = source; text = text; at_source = a; at_text = b; fault = subst (λ t. IsFaultIn t text.lines.items e) same f }
 
-pub every : (words ws xs : List Spot) → ((s : Spot) → Contains ws s → Contains words s) → xs ≡ ws → All (Contains words) xs
-every words ws xs f same k d h = f (get_or xs k d) (subst (λ l. Contains l (get_or xs k d)) same (Contains-get_or xs k d h))
+module _ (names : List (String Global)) (sources : List (Vec ℕ Global)) (texts : List SignatureText) where
+  pub other_header : (i : ℕ) (name : String Global) (source : Vec ℕ Global) (text : SignatureText) (bytes : List ℕ) (e : SigFault) → bytes ≡ source.items → IsAt names i name → IsAt sources i source → IsAt texts i text →
+      (e ≡ fault.Header text.header) × (spelled bytes text.header ≢ string_bytes name) → HasOtherHeader names sources texts i e
+  other_header i name source text bytes e same n a b h = record {
+    name = name;
+    source = source;
+    text = text;
+    is = record { at_name = n; at_source = a; at_text = b };
+    fault = h.0;
+    other = subst (λ t. spelled t text.header ≢ string_bytes name) same h.1;
+  }
+
+  pub its_header : (i : ℕ) (name : String Global) (source : Vec ℕ Global) (text : SignatureText) (bytes : List ℕ) → bytes ≡ source.items → IsAt names i name → IsAt sources i source → IsAt texts i text →
+      spelled bytes text.header ≡ string_bytes name → HasItsHeader names sources texts i
+  its_header i name source text bytes same n a b h = record {
+    name = name;
+    source = source;
+    text = text;
+    is = record { at_name = n; at_source = a; at_text = b };
+    same = subst (λ t. spelled t text.header ≡ string_bytes name) same h;
+  }
+
+  -- no step is refused for a circle
+  no_circle : (step : Step) (s : Spot) → IsStepRefused names sources texts step (fault.CyclicSignature s) → ⊥
+  no_circle (Enter i) s h = let e = h.fault in absurd (cc)
+  no_circle (Declare i) s h = by h.fault
+    where
+      by : IsFaultIn h.source.items h.text.lines.items (fault.CyclicSignature s) → ⊥
+      by (inl e) = absurd (cc)
+      by (inr r) = r.fault
+
+  -- the first step that is refused
+  pub step_refused : (root : ℕ) (steps : List Step) (k : ℕ) (step : Step) (e : SigFault) → IsFreeOfCircles names sources texts root steps → k < length steps → step ≡ get_or steps k step → ((s : Step) → Contains (take k steps) s → IsStepTaken names sources texts s) →
+      (e ≡ fault.Memory) ⊎ IsStepRefused names sources texts step e → IsRefusal names sources texts root e
+  step_refused root steps k step e loaded h is taken (inl m) = subst (IsRefusal names sources texts root) (sym m) tt
+  step_refused root steps k step (fault.UnknownKind s) loaded h is taken (inr r) = record { steps = steps; loaded = loaded; k = k; step = step; at_step = (h, sym is); refused = r; taken = taken }
+  step_refused root steps k step (fault.Arity s) loaded h is taken (inr r) = record { steps = steps; loaded = loaded; k = k; step = step; at_step = (h, sym is); refused = r; taken = taken }
+  step_refused root steps k step (fault.Differ s) loaded h is taken (inr r) = record { steps = steps; loaded = loaded; k = k; step = step; at_step = (h, sym is); refused = r; taken = taken }
+  step_refused root steps k step (fault.CyclicAbbreviation s) loaded h is taken (inr r) = record { steps = steps; loaded = loaded; k = k; step = step; at_step = (h, sym is); refused = r; taken = taken }
+  step_refused root steps k step (fault.CyclicSignature s) loaded h is taken (inr r) = absurd (no_circle step s r)
+  step_refused root steps k step (fault.Limit l) loaded h is taken (inr r) = record { steps = steps; loaded = loaded; k = k; step = step; at_step = (h, sym is); refused = r; taken = taken }
+  step_refused root steps k step fault.Memory loaded h is taken (inr r) = tt
+  step_refused root steps k step (fault.Header s) loaded h is taken (inr r) = record { steps = steps; loaded = loaded; k = k; step = step; at_step = (h, sym is); refused = r; taken = taken }
+
+  pub step_at_fault : (root : ℕ) (steps seen : List Step) (k : ℕ) (d : Step) (e : SigFault) → seen ≡ steps → IsFreeOfCircles names sources texts root steps → k < length seen → ((s : Step) → Contains (take k seen) s → IsStepTaken names sources texts s) →
+      (e ≡ fault.Memory) ⊎ IsStepRefused names sources texts (get_or seen k d) e → IsRefusal names sources texts root e
+  step_at_fault root steps seen k d e same loaded h taken refused =
+      step_refused root seen k (get_or seen k d) e (subst (IsFreeOfCircles names sources texts root) (sym same) loaded) h (sym (get_or_default seen k (get_or seen k d) d h)) taken refused
+
+  -- the first circle
+  pub circle : (root : ℕ) (steps : List Step) (e : SigFault) → IsLoadOrder (ways names sources texts) root steps → IsFirstCircleFault (ways names sources texts) steps e → IsRefusal names sources texts root e
+  circle root steps (fault.UnknownKind s) order h = absurd h
+  circle root steps (fault.Arity s) order h = absurd h
+  circle root steps (fault.Differ s) order h = absurd h
+  circle root steps (fault.CyclicAbbreviation s) order h = absurd h
+  circle root steps (fault.CyclicSignature s) order h = record { steps = steps; order = order; circle = h }
+  circle root steps (fault.Limit l) order h = absurd h
+  circle root steps fault.Memory order h = tt
+  circle root steps (fault.Header s) order h = absurd h
+
+  -- one more step is taken
+  pub taken_more : (steps : List Step) (k : ℕ) (d : Step) → k < length steps → ((s : Step) → Contains (take k steps) s → IsStepTaken names sources texts s) → IsStepTaken names sources texts (get_or steps k d) →
+      (s : Step) → Contains (take (k + 1) steps) s → IsStepTaken names sources texts s
+  taken_more steps k d h before this s c =
+      ⊎_elim (λ e. before s e) (λ e. subst (IsStepTaken names sources texts) e this) (Contains-push_cases (take k steps) (get_or steps k d) s (subst (λ z. Contains z s) (take_more steps k d h) c))
+
+  pub all_taken : (steps seen : List Step) (k : ℕ) → seen ≡ steps → length seen ≤ k → ((s : Step) → Contains (take k seen) s → IsStepTaken names sources texts s) → (s : Step) → Contains steps s → IsStepTaken names sources texts s
+  all_taken steps seen k same h before = λ s c. before s (subst (λ z. Contains z s) (sym (take_all k seen h)) (subst (λ z. Contains z s) (sym same) c))
+
+  -- the steps, as the walk gives them
+  pub free_steps : (root : ℕ) (graph : List (List Way)) (steps seen : List Step) → graph ≡ ways names sources texts → seen ≡ steps → IsLoadOrder graph root steps → ((j : ℕ) → Contains seen (Enter j) → HasNoCircle graph j) → IsFreeOfCircles names sources texts root steps
+  free_steps root graph steps seen same all order none = record {
+    order = subst (λ w. IsLoadOrder w root steps) same order;
+    free = λ j d. subst (λ w. HasNoCircle w j) same (none j (subst (λ z. Contains z (Enter j)) (sym all) d));
+  }

@@ -1,6 +1,6 @@
 -- Why signatures are refused, and at which spots.
 use Rattle.std.specs.Global.{Global}
-use Rattle.std.specs.Prelude.{◌≡◌, ◌≢◌, ℕ, ◌<◌, ◌⊎◌, List, [], ◌∷◌, ◌++◌, length, Contains, String, Vec, string_bytes, slice_index_or}
+use Rattle.std.specs.Prelude.{◌≡◌, ◌≢◌, ℕ, ◌<◌, ◌⊎◌, List, [], ◌∷◌, map, take, length, Contains, String, Vec, string_bytes, slice_index_or}
 use Rattle.lp_base.specs.declared.limit.Limit.{Limit}
 use Rattle.lp_base.specs.declared.limit.Limit.TheVariants as limit
 use Rattle.lp_base.specs.declared.place.Spot.{Spot}
@@ -10,6 +10,10 @@ use Rattle.lp_syntax.specs.declared.text.RawTypeNode.{RawTypeNode}
 use Rattle.lp_syntax.specs.declared.text.RawTypeNode.TheVariants.{Word, Arrow}
 use Rattle.lp_syntax.specs.declared.text.SignatureText.{SignatureText}
 use Rattle.lp_sig.specs.Pieces.{spelled}
+use Rattle.lp_sig.specs.Limits.{AreWithin, IsRepeated}
+use Rattle.lp_sig.specs.Loading.{Way, ways_between, IsLoadOrder, HasNoCircle, IsFirstCircle}
+use Rattle.lp_sig.specs.declared.walk.Step.{Step}
+use Rattle.lp_sig.specs.declared.walk.Step.TheVariants.{Enter, Declare}
 use Rattle.lp_sig.specs.declared.fault.SigFault.{SigFault}
 use Rattle.lp_sig.specs.declared.fault.SigFault.TheVariants as fault
 
@@ -67,20 +71,30 @@ IsLimitOf text p Many limit.Arguments = Many
 IsLimitOf text p Many _ = ⊥
 
 -- why a declaration is refused: an unknown kind and a wrong count of arguments are words of its type, what is declared otherwise
--- is one of its names or parameters, and a circle is the name of an abbreviation
+-- is one of its names or the first parameter that stands a second time, and a circle is the name of an abbreviation
 abbrev pub IsFaultOf : List ℕ → Parts → Type 0 → SigFault → Type 0
 IsFaultOf text p Many (fault.UnknownKind s) = Contains p.words s
 IsFaultOf text p Many (fault.Arity s) = Contains p.words s
-IsFaultOf text p Many (fault.Differ s) = Contains p.names s ⊎ Contains p.parameters s
+IsFaultOf text p Many (fault.Differ s) = Contains p.names s ⊎ IsRepeated text p.parameters s
 IsFaultOf text p Many (fault.CyclicAbbreviation s) = Contains p.heads s
 IsFaultOf text p Many (fault.CyclicSignature s) = ⊥
 IsFaultOf text p Many (fault.Limit l) = IsLimitOf text p Many l
 IsFaultOf text p Many fault.Memory = Unit {0}
 IsFaultOf text p Many (fault.Header s) = ⊥
 
--- why the declarations of a text are refused
+abbrev pub IsAt : {A : Type 0} → List A → ℕ → A → Type 0
+IsAt xs i x = (i < length xs) × (slice_index_or xs i x ≡ x)
+
+-- why the declarations of a text are refused: none before the one at fault passes a limit
+pub record IsFaultAt (text : List ℕ) (lines : List Declaration) (e : SigFault) : Type 0 where
+  pub k : ℕ
+  pub line : Declaration
+  pub at_line : IsAt lines k line
+  pub fault : IsFaultOf text (parts_of line) (HasManyArguments line) e
+  pub before : AreWithin text (take k lines)
+
 abbrev pub IsFaultIn : List ℕ → List Declaration → SigFault → Type 0
-IsFaultIn text lines e = (e ≡ fault.Memory) ⊎ ((d : Declaration) × Contains lines d × IsFaultOf text (parts_of d) (HasManyArguments d) e)
+IsFaultIn text lines e = (e ≡ fault.Memory) ⊎ IsFaultAt text lines e
 
 -- a refusal for which no spot is to blame: the limit on names, or want of memory
 abbrev pub IsWant : SigFault → Type 0
@@ -88,55 +102,87 @@ IsWant (fault.Limit limit.Names) = Unit {0}
 IsWant fault.Memory = Unit {0}
 IsWant _ = ⊥
 
--- the words of the accum_sig sentences
-abbrev pub accum_words : List Declaration → List Spot
-accum_words [] = []
-accum_words (AccumSig words ∷ ds) = words.items ++ accum_words ds
-accum_words (_ ∷ ds) = accum_words ds
-
-abbrev pub all_accum_words : List SignatureText → List Spot
-all_accum_words [] = []
-all_accum_words (t ∷ ts) = accum_words t.lines.items ++ all_accum_words ts
-
--- a circle is at one of these words
-abbrev pub IsCircleAt : List Spot → SigFault → Type 0
-IsCircleAt words (fault.CyclicSignature s) = Contains words s
-IsCircleAt words fault.Memory = Unit {0}
-IsCircleAt words _ = ⊥
-
-abbrev pub IsAt : {A : Type 0} → List A → ℕ → A → Type 0
-IsAt xs i x = (i < length xs) × (slice_index_or xs i x ≡ x)
-
--- the header of a text is another word than its name
-pub record IsOtherHeader (names : List (String Global)) (sources : List (Vec ℕ Global)) (texts : List SignatureText) (s : Spot) : Type 0 where
-  pub i : ℕ
-  pub name : String Global
-  pub source : Vec ℕ Global
-  pub text : SignatureText
+-- the text of a number, with its name and its bytes
+pub record IsText (names : List (String Global)) (sources : List (Vec ℕ Global)) (texts : List SignatureText) (i : ℕ) (name : String Global) (source : Vec ℕ Global) (text : SignatureText) : Type 0 where
   pub at_name : IsAt names i name
   pub at_source : IsAt sources i source
   pub at_text : IsAt texts i text
-  pub header : s ≡ text.header
-  pub other : spelled source.items s ≢ string_bytes name
 
 -- a declaration of a text is at fault
-pub record IsAtFault (sources : List (Vec ℕ Global)) (texts : List SignatureText) (e : SigFault) : Type 0 where
-  pub i : ℕ
+pub record IsAtFault (sources : List (Vec ℕ Global)) (texts : List SignatureText) (i : ℕ) (e : SigFault) : Type 0 where
   pub source : Vec ℕ Global
   pub text : SignatureText
-  pub line : Declaration
   pub at_source : IsAt sources i source
   pub at_text : IsAt texts i text
-  pub at_line : Contains text.lines.items line
-  pub fault : IsFaultOf source.items (parts_of line) (HasManyArguments line) e
+  pub fault : IsFaultIn source.items text.lines.items e
 
--- why texts are refused; want of memory alone is free
-abbrev pub IsRefusal : List (String Global) → List (Vec ℕ Global) → List SignatureText → SigFault → Type 0
-IsRefusal names sources texts (fault.UnknownKind s) = IsAtFault sources texts (fault.UnknownKind s)
-IsRefusal names sources texts (fault.Arity s) = IsAtFault sources texts (fault.Arity s)
-IsRefusal names sources texts (fault.Differ s) = IsAtFault sources texts (fault.Differ s)
-IsRefusal names sources texts (fault.CyclicAbbreviation s) = IsAtFault sources texts (fault.CyclicAbbreviation s)
-IsRefusal names sources texts (fault.CyclicSignature s) = Contains (all_accum_words texts) s
-IsRefusal names sources texts (fault.Limit l) = IsAtFault sources texts (fault.Limit l)
-IsRefusal names sources texts fault.Memory = Unit {0}
-IsRefusal names sources texts (fault.Header s) = IsOtherHeader names sources texts s
+-- the declarations of a text are taken: none passes a limit
+pub record AreTaken (sources : List (Vec ℕ Global)) (texts : List SignatureText) (i : ℕ) : Type 0 where
+  pub source : Vec ℕ Global
+  pub text : SignatureText
+  pub at_source : IsAt sources i source
+  pub at_text : IsAt texts i text
+  pub within : AreWithin source.items text.lines.items
+
+module _ (names : List (String Global)) (sources : List (Vec ℕ Global)) (texts : List SignatureText) where
+  -- the header of a text is its name, or another word
+  pub record HasItsHeader (i : ℕ) : Type 0 where
+    pub name : String Global
+    pub source : Vec ℕ Global
+    pub text : SignatureText
+    pub is : IsText names sources texts i name source text
+    pub same : spelled source.items text.header ≡ string_bytes name
+
+  pub record HasOtherHeader (i : ℕ) (e : SigFault) : Type 0 where
+    pub name : String Global
+    pub source : Vec ℕ Global
+    pub text : SignatureText
+    pub is : IsText names sources texts i name source text
+    pub fault : e ≡ fault.Header text.header
+    pub other : spelled source.items text.header ≢ string_bytes name
+
+  -- a step is refused, or it is taken
+  abbrev pub IsStepRefused : Step → SigFault → Type 0
+  IsStepRefused (Enter i) e = HasOtherHeader i e
+  IsStepRefused (Declare i) e = IsAtFault sources texts i e
+
+  abbrev pub IsStepTaken : Step → Type 0
+  IsStepTaken (Enter i) = HasItsHeader i
+  IsStepTaken (Declare i) = AreTaken sources texts i
+
+  -- the ways of accum_sig between these texts
+  abbrev pub ways : List (List Way)
+  ways = ways_between (map (λ n. string_bytes n) names) sources texts
+
+  -- the steps of a root, among which is no circle
+  pub record IsFreeOfCircles (root : ℕ) (steps : List Step) : Type 0 where
+    pub order : IsLoadOrder ways root steps
+    pub free : (i : ℕ) → Contains steps (Enter i) → HasNoCircle ways i
+
+  -- the first word of accum_sig that leads back
+  pub record IsCircleFrom (root : ℕ) (s : Spot) : Type 0 where
+    pub steps : List Step
+    pub order : IsLoadOrder ways root steps
+    pub circle : IsFirstCircle ways steps s
+
+  -- the first step that is refused
+  pub record IsRefusedFrom (root : ℕ) (e : SigFault) : Type 0 where
+    pub steps : List Step
+    pub loaded : IsFreeOfCircles root steps
+    pub k : ℕ
+    pub step : Step
+    pub at_step : IsAt steps k step
+    pub refused : IsStepRefused step e
+    pub taken : (s : Step) → Contains (take k steps) s → IsStepTaken s
+
+  -- why texts are refused: circles go first; want of memory alone is free
+  abbrev pub IsRefusal : ℕ → SigFault → Type 0
+  IsRefusal root (fault.CyclicSignature s) = IsCircleFrom root s
+  IsRefusal root fault.Memory = Unit {0}
+  IsRefusal root e = IsRefusedFrom root e
+
+  -- every step is taken
+  pub record IsAccepted (root : ℕ) : Type 0 where
+    pub steps : List Step
+    pub loaded : IsFreeOfCircles root steps
+    pub taken : (s : Step) → Contains steps s → IsStepTaken s

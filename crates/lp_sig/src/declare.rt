@@ -1,6 +1,7 @@
 // What the declarations of a text say, line by line.
-ghost use Rattle.std.specs.Prelude.{◌<◌, [], ◌∷◌, length, IfErr};
+ghost use Rattle.std.specs.Prelude.{◌<◌, ◌≤◌, [], ◌∷◌, length, IfErr, IfOk};
 ghost use Rattle.lp_sig.specs.Refusals.{IsFaultOf, IsFaultIn, IsWant, named, typed, headed, parts_of, words_of, HasManyArguments};
+ghost use Rattle.lp_sig.specs.Limits.{IsShort, AreShort, AreApart, IsWithin, AreWithin};
 
 use crate::entries::{ConstantEntry, FixityEntry};
 use crate::expand::Variables;
@@ -15,7 +16,8 @@ use lp_term::TypeId;
 
 // A declared name has at most 255 bytes.
 pub(crate) fn check_length(source: &[u8], name: Spot) -> Result<(), SigFault>
-    ensures { IfErr result (IsFaultOf source.now (named (name ∷ [])) ⊥) }
+    ensures refused { IfErr result (IsFaultOf source.now (named (name ∷ [])) ⊥) }
+    ensures taken { IfOk result (λ done. IsShort source.now name) }
 {
     if spelled_at(source, name).len() > 255 {
         return Err(SigFault::Limit(Limit::NameLength));
@@ -24,7 +26,8 @@ pub(crate) fn check_length(source: &[u8], name: Spot) -> Result<(), SigFault>
 }
 
 pub(crate) fn check_lengths(source: &[u8], names: &[Spot]) -> Result<(), SigFault>
-    ensures { IfErr result (IsFaultOf source.now (named names.now) ⊥) }
+    ensures refused { IfErr result (IsFaultOf source.now (named names.now) ⊥) }
+    ensures taken { IfOk result (λ done. AreShort source.now names.now) }
 {
     for name in names {
         check_length(source, *name)?;
@@ -35,7 +38,8 @@ pub(crate) fn check_lengths(source: &[u8], names: &[Spot]) -> Result<(), SigFaul
 impl Making {
     // A kind has the count of arguments with which it was announced first.
     pub(crate) fn declare_kind(&self, source: &[u8], name: Spot, arity: u32) -> Result<(), SigFault>
-        ensures { IfErr result (IsFaultOf source.now (named (name ∷ [])) ⊥) }
+        ensures refused { IfErr result (IsFaultOf source.now (named (name ∷ [])) ⊥) }
+        ensures taken { IfOk result (λ done. IsShort source.now name) }
     {
         check_length(source, name)?;
         match self.meaning(spelled_at(source, name)) {
@@ -58,7 +62,8 @@ impl Making {
         names: &[Spot],
         arity: u32,
     ) -> Result<(), SigFault>
-        ensures { IfErr result (IsFaultOf source.now (named names.now) (255 < arity)) }
+        ensures refused { IfErr result (IsFaultOf source.now (named names.now) (255 < arity)) }
+        ensures taken { IfOk result (λ done. AreShort source.now names.now × (arity ≤ 255)) }
     {
         for name in names {
             self.declare_kind(source, *name, arity)?;
@@ -115,7 +120,8 @@ impl Making {
         type_vars: u8,
         scheme: TypeId,
     ) -> Result<(), SigFault>
-        ensures { IfErr result (IsFaultOf source.now (named (name ∷ [])) ⊥) }
+        ensures refused { IfErr result (IsFaultOf source.now (named (name ∷ [])) ⊥) }
+        ensures taken { IfOk result (λ done. IsShort source.now name) }
     {
         check_length(source, name)?;
         let word = spelled_at(source, name);
@@ -137,7 +143,8 @@ impl Making {
         type_vars: u8,
         scheme: TypeId,
     ) -> Result<(), SigFault>
-        ensures { IfErr result (IsFaultOf source.now (named names.now) ⊥) }
+        ensures refused { IfErr result (IsFaultOf source.now (named names.now) ⊥) }
+        ensures taken { IfOk result (λ done. AreShort source.now names.now) }
     {
         for name in names {
             self.declare_constant(source, *name, type_vars, scheme)?;
@@ -152,7 +159,8 @@ impl Making {
         names: &[Spot],
         raw: &RawType,
     ) -> Result<(), SigFault>
-        ensures { IfErr result (IsFaultOf source.now (typed names.now (words_of raw.now.nodes.items)) (Unit {0})) }
+        ensures refused { IfErr result (IsFaultOf source.now (typed names.now (words_of raw.now.nodes.items)) (Unit {0})) }
+        ensures taken { IfOk result (λ done. AreShort source.now names.now) }
     {
         match self.scheme(source, raw) {
             Err(fault) => {
@@ -171,7 +179,8 @@ impl Making {
         name: Spot,
         parameters: usize,
     ) -> Result<usize, SigFault>
-        ensures { IfErr result (IsFaultOf source.now (named (name ∷ [])) ⊥) }
+        ensures refused { IfErr result (IsFaultOf source.now (named (name ∷ [])) ⊥) }
+        ensures taken { IfOk result (λ done. IsShort source.now name) }
     {
         check_length(source, name)?;
         let Some(Meaning::Abbreviation(place)) = self.meaning(spelled_at(source, name)) else {
@@ -203,7 +212,8 @@ impl Making {
         parameters: &[Spot],
         raw: &RawType,
     ) -> Result<(), SigFault>
-        ensures { IfErr result (IsFaultOf source.now (headed name parameters.now (words_of raw.now.nodes.items)) (255 < length parameters.now)) }
+        ensures refused { IfErr result (IsFaultOf source.now (headed name parameters.now (words_of raw.now.nodes.items)) (255 < length parameters.now)) }
+        ensures taken { IfOk result (λ done. IsShort source.now name × AreApart source.now parameters.now × (length parameters.now ≤ 255)) }
     {
         let place = self.check_abbreviation(source, name, parameters.len())?;
         let uses = self.uses_of(source, raw)?;
@@ -258,7 +268,8 @@ impl Making {
     }
 
     fn declare_line(&mut self, source: &[u8], declaration: &Declaration) -> Result<(), SigFault>
-        ensures { IfErr result (IsFaultOf source.now (parts_of declaration.now) (HasManyArguments declaration.now)) }
+        ensures refused { IfErr result (IsFaultOf source.now (parts_of declaration.now) (HasManyArguments declaration.now)) }
+        ensures taken { IfOk result (λ done. IsWithin source.now declaration.now) }
     {
         match declaration {
             Declaration::Kinds(names, arity) => self.declare_kinds(
@@ -284,7 +295,8 @@ impl Making {
 
     // The declarations of a signature's own text, or the first fault in text order.
     pub(crate) fn declare(&mut self, source: &[u8], text: &SignatureText) -> Result<(), SigFault>
-        ensures { IfErr result (IsFaultIn source.now text.now.lines.items) }
+        ensures refused { IfErr result (IsFaultIn source.now text.now.lines.items) }
+        ensures taken { IfOk result (λ done. AreWithin source.now text.now.lines.items) }
     {
         let from = self.abbreviations.len();
         self.announce(source, text)?;

@@ -1,10 +1,12 @@
 // Types of a text, with abbreviations replaced.
-ghost use Rattle.std.specs.Prelude.{◌≡◌, ◌⊎◌, [], ◌∷◌, IfErr, IfOk, IfSome};
+ghost use Rattle.std.specs.Prelude.{◌≡◌, ◌⊎◌, [], ◌∷◌, IfErr, IfOk, IfSome, map};
+ghost use Rattle.lp_sig.specs.Limits.{AreApart, IsRepeated};
 ghost use Rattle.lp_sig.specs.Refusals.{IsFaultOf, named, typed, headed, words_of};
 
 use crate::fault::SigFault;
 use crate::making::{Making, Meaning};
 use crate::pieces::{is_variable, spelled_at};
+use crate::places::Places;
 use indexmap::IndexMap;
 use lp_base::{Limit, Memory, Spot};
 use lp_syntax::{RawType, RawTypeNode};
@@ -18,6 +20,22 @@ pub(crate) struct Variables {
     numbers: IndexMap<Vec<u8>, u64>,
     closed: bool,
     next: u64,
+}
+
+// No parameter stands a second time.
+fn check_apart(alloc: Global, source: &[u8], parameters: &[Spot]) -> Result<(), SigFault>
+    ensures refused { IfErr result (IsFaultOf source.now (record { names = []; heads = []; parameters = parameters.now; words = [] }) ⊥) }
+    ensures taken { IfOk result (λ done. AreApart source.now parameters.now) }
+{
+    let mut places = Places::new(alloc);
+    for (i, spot) in parameters.iter().enumerate() {
+        let word = spelled_at(source, *spot);
+        if places.of(word).is_some() {
+            return Err(SigFault::Differ(*spot));
+        }
+        places.add(word, i)?;
+    }
+    Ok(())
 }
 
 impl Variables {
@@ -37,13 +55,12 @@ impl Variables {
         source: &[u8],
         parameters: &[Spot],
     ) -> Result<Variables, SigFault>
-        ensures { IfErr result (IsFaultOf source.now (record { names = []; heads = []; parameters = parameters.now; words = [] }) ⊥) }
+        ensures refused { IfErr result (IsFaultOf source.now (record { names = []; heads = []; parameters = parameters.now; words = [] }) ⊥) }
+        ensures taken { IfOk result (λ variables. AreApart source.now parameters.now) }
     {
+        check_apart(alloc, source, parameters)?;
         let mut variables = Variables::open(alloc);
         for spot in parameters {
-            if variables.numbers.contains_key(spelled_at(source, *spot)) {
-                return Err(SigFault::Differ(*spot));
-            }
             variables.add(spelled_at(source, *spot))?;
         }
         variables.closed = true;

@@ -1,5 +1,5 @@
 // Names with the place at which each stands first in a list.
-ghost use Rattle.std.specs.Prelude.{◌≡◌, ℕ, List, [], ◌∷◌, ◌++◌, length, OnOk, OnErr, IfOk, map};
+ghost use Rattle.std.specs.Prelude.{◌≡◌, ℕ, List, [], ◌∷◌, ◌++◌, length, OnOk, OnErr, IfOk, map, string_bytes};
 ghost use Rattle.lp_sig.specs.Places.{HasPlaces, place_of};
 
 use indexmap::IndexMap;
@@ -49,6 +49,14 @@ pub(crate) trait Named {
 
     fn name(&self) -> &[u8]
         ensures { result.now ≡ name_of self.now };
+}
+
+impl Named for String {
+    ghost name_of = { λ s. string_bytes s };
+
+    fn name(&self) -> &[u8] {
+        self.as_bytes()
+    }
 }
 
 // The places of the names of these entries.

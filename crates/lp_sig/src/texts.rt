@@ -1,8 +1,7 @@
 // From texts to a signature.
-ghost use Rattle.std.specs.Global.{Global};
-ghost use Rattle.std.specs.Prelude.{◌≡◌, ◌≢◌, List, IfErr, String, string_bytes};
+ghost use Rattle.std.specs.Prelude.{◌≡◌, ◌≢◌, ◌⊎◌, IfOk, IfErr, string_bytes};
 ghost use Rattle.lp_sig.specs.Pieces.{spelled};
-ghost use Rattle.lp_sig.specs.Refusals.{IsRefusal};
+ghost use Rattle.lp_sig.specs.Refusals.{HasItsHeader, HasOtherHeader, IsAtFault, AreTaken, IsStepTaken, IsStepRefused, IsRefusal, IsAccepted};
 ghost use Rattle.lp_sig.specs.declared.fault.SigFault.TheVariants as fault;
 
 use crate::fault::SigFault;
@@ -16,7 +15,8 @@ use std::alloc::Global;
 
 // A header has the name of its file.
 fn check_header(name: &String, source: &[u8], text: &SignatureText) -> Result<(), SigFault>
-    ensures { IfErr result (λ e. (e ≡ fault.Header text.now.header) × (spelled source.now text.now.header ≢ string_bytes name.now)) }
+    ensures other { IfErr result (λ e. (e ≡ fault.Header text.now.header) × (spelled source.now text.now.header ≢ string_bytes name.now)) }
+    ensures same { IfOk result (λ done. spelled source.now text.now.header ≡ string_bytes name.now) }
 {
     if spelled_at(source, text.header) != name.as_bytes() {
         return Err(SigFault::Header(text.header));
@@ -31,7 +31,8 @@ fn enter(
     texts: &[SignatureText],
     at: usize,
 ) -> Result<(), SigFault>
-    ensures { IfErr result (IsRefusal names.now sources.now texts.now) }
+    ensures refused { IfErr result (λ e. (e ≡ fault.Memory) ⊎ HasOtherHeader names.now sources.now texts.now at e) }
+    ensures taken { IfOk result (λ done. HasItsHeader names.now sources.now texts.now at) }
 {
     let Some(name) = names.get(at) else {
         return Err(SigFault::Memory);
@@ -52,7 +53,8 @@ fn declare(
     texts: &[SignatureText],
     at: usize,
 ) -> Result<(), SigFault>
-    ensures { (names : List (String Global)) → IfErr result (IsRefusal names sources.now texts.now) }
+    ensures refused { IfErr result (λ e. (e ≡ fault.Memory) ⊎ IsAtFault sources.now texts.now at e) }
+    ensures taken { IfOk result (λ done. AreTaken sources.now texts.now at) }
 {
     let Some(source) = sources.get(at) else {
         return Err(SigFault::Memory);
@@ -71,7 +73,8 @@ fn take(
     texts: &[SignatureText],
     step: Step,
 ) -> Result<(), SigFault>
-    ensures { IfErr result (IsRefusal names.now sources.now texts.now) }
+    ensures refused { IfErr result (λ e. (e ≡ fault.Memory) ⊎ IsStepRefused names.now sources.now texts.now step e) }
+    ensures taken { IfOk result (λ done. IsStepTaken names.now sources.now texts.now step) }
 {
     match step {
         Step::Enter(at) => enter(names, sources, texts, at),
@@ -92,7 +95,8 @@ pub fn elaborate(
     texts: &[SignatureText],
     root: u32,
 ) -> Result<Signature, SigFault>
-    ensures refused { IfErr result (IsRefusal names.now sources.now texts.now) }
+    ensures refused { IfErr result (IsRefusal names.now sources.now texts.now root) }
+    ensures accepted { IfOk result (λ s. IsAccepted names.now sources.now texts.now root) }
 {
     let ways = Ways::of(alloc, names, sources, texts)?;
     let steps = ways.steps(alloc, root as usize)?;

@@ -1,22 +1,16 @@
 // The order of signatures, and circles of accum_sig.
-ghost use Rattle.std.specs.Prelude.{ℕ, List, All, Contains, IfErr, IfOk};
-ghost use Rattle.lp_base.specs.declared.place.Spot.{Spot};
-ghost use Rattle.lp_sig.specs.Refusals.{accum_words, all_accum_words, IsCircleAt};
-ghost use Rattle.lp_sig.specs.Ways.{AreWordsOf, HasWordsOf};
+ghost use Rattle.std.specs.Prelude.{◌≡◌, ◌≤◌, ◌+◌, ℕ, List, [], ◌∷◌, ◌++◌, Bool, true, false, not, map, reverse, replicate, length, Contains, OnOk, IfErr, IfOk, if◌then◌else◌, string_bytes, slice_index_or, slice_set};
+ghost use Rattle.lp_sig.specs.Places.{HasPlaces};
+ghost use Rattle.lp_sig.specs.Loading.{accum_words, ways_in, ways_between, ways_out, IsLoadOrder, HasNoCircle, NoneLeads};
+ghost use Rattle.lp_sig.specs.Walking.{entries, waiting, SomeLeads, IsCircleFault, IsFirstCircleFault, Moves};
+ghost use Rattle.lp_sig.specs.declared.walk.Step.TheVariants.{Enter};
 
 use crate::fault::SigFault;
 use crate::pieces::spelled_at;
-use indexmap::{IndexMap, IndexSet};
+use crate::places::{Places, places_of};
 use lp_base::{Memory, Spot};
 use lp_syntax::{Declaration, SignatureText};
 use std::alloc::Global;
-
-// A word of accum_sig, and the number of the signature that it names.
-#[derive(Clone, Copy)]
-struct Way {
-    word: Spot,
-    to: usize,
-}
 
 // What comes next: the header of a signature, or its own declarations, behind those of the signatures that it names.
 #[derive(Clone, Copy)]
@@ -25,60 +19,98 @@ pub(crate) enum Step {
     Declare(usize),
 }
 
-// The numbers of the names of files.
-fn numbers_of(alloc: Global, names: &[String]) -> Result<IndexMap<Vec<u8>, usize>, Memory> {
-    let mut numbers = IndexMap::new(alloc);
-    for at in 0..names.len() {
-        let key = Vec::from_slice(alloc, names[at].as_bytes())?;
-        numbers.insert(key, at)?;
-    }
-    Ok(numbers)
-}
-
-// The words of one sentence.
+// The words of one sentence that name signatures, with their numbers.
 fn add_ways(
-    numbers: &IndexMap<Vec<u8>, usize>,
+    names: &Places,
     source: &[u8],
     words: &[Spot],
-    ways: &mut Vec<Way>,
+    ways: &mut Vec<(Spot, usize)>,
 ) -> Result<(), Memory>
-    ensures { (all : List Spot) → All (Contains all) words.now → AreWordsOf all ways.old.items → AreWordsOf all ways.new.items }
+    ensures { OnOk result ((ns : List (List ℕ)) → HasPlaces names.now ns → ways.new.items ≡ ways.old.items ++ ways_in ns source.now words.now) }
 {
     for word in words {
-        let Some(to) = numbers.get(spelled_at(source, *word)) else {
+        let Some(to) = names.of(spelled_at(source, *word)) else {
             continue;
         };
-        ways.push(Way {
-            word: *word,
-            to: *to,
-        })?;
+        ways.push((*word, to))?;
     }
     Ok(())
+}
+
+// The words of a sentence of accum_sig.
+fn add_line(
+    names: &Places,
+    source: &[u8],
+    line: &Declaration,
+    ways: &mut Vec<(Spot, usize)>,
+) -> Result<(), Memory>
+    ensures { OnOk result ((ns : List (List ℕ)) → HasPlaces names.now ns → ways.new.items ≡ ways.old.items ++ ways_in ns source.now (accum_words (line.now ∷ []))) }
+{
+    match line {
+        Declaration::Kinds(_, _) => Ok(()),
+        Declaration::LocalKinds(_, _) => Ok(()),
+        Declaration::Constants(_, _) => Ok(()),
+        Declaration::Locals(_, _) => Ok(()),
+        Declaration::Abbreviation(_, _, _) => Ok(()),
+        Declaration::Accumulate(_) => Ok(()),
+        Declaration::AccumSig(words) => add_ways(names, source, words.as_slice(), ways),
+        Declaration::Fixities(_, _, _) => Ok(()),
+    }
 }
 
 // The ways out of a signature, in text order.
 fn ways_of(
     alloc: Global,
-    numbers: &IndexMap<Vec<u8>, usize>,
+    names: &Places,
     source: &[u8],
     text: &SignatureText,
-) -> Result<Vec<Way>, Memory>
-    ensures { IfOk result (λ ways. AreWordsOf (accum_words text.now.lines.items) ways.items) }
+) -> Result<Vec<(Spot, usize)>, Memory>
+    ensures { IfOk result (λ ways. (ns : List (List ℕ)) → HasPlaces names.now ns → ways.items ≡ ways_in ns source.now (accum_words text.now.lines.items)) }
 {
     let mut ways = Vec::new(alloc);
     for line in &text.lines {
-        let Declaration::AccumSig(words) = line else {
-            continue;
-        };
-        add_ways(numbers, source, words.as_slice(), &mut ways)?;
+        add_line(names, source, line, &mut ways)?;
     }
     Ok(ways)
 }
 
-// The ways between signatures.
+// No place is marked.
+fn no_marks(alloc: Global, count: usize) -> Result<Vec<bool>, Memory>
+    ensures { IfOk result (λ marks. marks.items ≡ replicate count false) }
+{
+    let marks = Vec::from_elem(alloc, false, count)?;
+    Ok(marks)
+}
+
+// Marks a place. Says whether it had no mark; a place past the end counts as marked.
+fn mark(marks: &mut Vec<bool>, place: usize) -> bool
+    ensures fresh { result ≡ not (slice_index_or marks.old.items place true) }
+    ensures marked { marks.new.items ≡ (if slice_index_or marks.old.items place true then marks.old.items else slice_set marks.old.items place true) }
+{
+    if place >= marks.len() {
+        return false;
+    }
+    if marks[place] {
+        return false;
+    }
+    marks[place] = true;
+    true
+}
+
+// Puts the signatures that words name on a stack, the first on top.
+fn push_entries(words: &[(Spot, usize)], work: &mut Vec<Step>) -> Result<(), Memory>
+    ensures { OnOk result (work.new.items ≡ work.old.items ++ entries (reverse words.now)) }
+{
+    for word in words.iter().rev().copied() {
+        work.push(Step::Enter(word.1))?;
+    }
+    Ok(())
+}
+
+// The ways between signatures: of each the words that name another, with its number.
 #[derive(Drop)]
 pub(crate) struct Ways {
-    ways: Vec<Vec<Way>>,
+    ways: Vec<Vec<(Spot, usize)>>,
 }
 
 impl Ways {
@@ -88,9 +120,9 @@ impl Ways {
         sources: &[Vec<u8>],
         texts: &[SignatureText],
     ) -> Result<Ways, Memory>
-        ensures { IfOk result (HasWordsOf (all_accum_words texts.now)) }
+        ensures { IfOk result (λ w. map (λ out. out.items) w.ways.items ≡ ways_between (map string_bytes names.now) sources.now texts.now) }
     {
-        let numbers = numbers_of(alloc, names)?;
+        let numbers = places_of(alloc, names)?;
         let mut ways = Vec::new(alloc);
         for (at, text) in texts.iter().enumerate() {
             let Some(source) = sources.get(at) else {
@@ -103,24 +135,27 @@ impl Ways {
     }
 
     // Puts the signatures that one names on a stack, the first on top.
-    fn push_named(&self, at: usize, work: &mut Vec<Step>) -> Result<(), Memory> {
-        if let Some(ways) = self.ways.get(at) {
-            for way in ways.as_slice().iter().rev().copied() {
-                work.push(Step::Enter(way.to))?;
-            }
-        }
-        Ok(())
+    fn push_named(&self, at: usize, work: &mut Vec<Step>) -> Result<(), Memory>
+        ensures { OnOk result (work.new.items ≡ work.old.items ++ entries (reverse (ways_out (map (λ out. out.items) self.now.ways.items) at))) }
+    {
+        let Some(words) = self.ways.get(at) else {
+            return Ok(());
+        };
+        push_entries(words.as_slice(), work)
     }
 
     // Enters a signature, if this is the first time.
     fn enter(
         &self,
         at: usize,
-        seen: &mut IndexSet<usize>,
+        marks: &mut Vec<bool>,
         steps: &mut Vec<Step>,
         work: &mut Vec<Step>,
-    ) -> Result<(), Memory> {
-        if !seen.insert(at)? {
+    ) -> Result<(), Memory>
+        ensures moves { OnOk result (Moves (map (λ out. out.items) self.now.ways.items) marks.old.items (work.old.items ++ Enter at ∷ []) steps.old.items marks.new.items work.new.items steps.new.items) }
+        ensures falls { OnOk result (length work.new.items + waiting marks.new.items (map (λ out. out.items) self.now.ways.items) ≤ length work.old.items + waiting marks.old.items (map (λ out. out.items) self.now.ways.items)) }
+    {
+        if !mark(marks, at) {
             return Ok(());
         }
         steps.push(Step::Enter(at))?;
@@ -128,87 +163,113 @@ impl Ways {
         self.push_named(at, work)
     }
 
-    // The steps from a signature: each is entered once, and declares behind those that it names.
-    pub(crate) fn steps(&self, alloc: Global, root: usize) -> Result<Vec<Step>, Memory> {
-        let mut steps = Vec::new(alloc);
-        let mut seen = IndexSet::new(alloc);
-        let mut work = Vec::new(alloc);
-        work.push(Step::Enter(root))?;
-        for _ in 0..u64::MAX {
-            match work.pop() {
-                None => return Ok(steps),
-                Some(Step::Declare(at)) => steps.push(Step::Declare(at))?,
-                Some(Step::Enter(at)) => self.enter(at, &mut seen, &mut steps, &mut work)?,
+    // Takes what is next.
+    fn take(
+        &self,
+        next: Step,
+        marks: &mut Vec<bool>,
+        steps: &mut Vec<Step>,
+        work: &mut Vec<Step>,
+    ) -> Result<(), Memory>
+        ensures moves { OnOk result (Moves (map (λ out. out.items) self.now.ways.items) marks.old.items (work.old.items ++ next ∷ []) steps.old.items marks.new.items work.new.items steps.new.items) }
+        ensures falls { OnOk result (length work.new.items + waiting marks.new.items (map (λ out. out.items) self.now.ways.items) ≤ length work.old.items + waiting marks.old.items (map (λ out. out.items) self.now.ways.items)) }
+    {
+        match next {
+            Step::Enter(at) => self.enter(at, marks, steps, work),
+            Step::Declare(at) => {
+                steps.push(Step::Declare(at))?;
+                Ok(())
             }
         }
-        Err(Memory)
     }
 
-    // For each signature those that name it.
-    fn back(&self, alloc: Global) -> Result<Vec<Vec<usize>>, Memory> {
-        let mut back = Vec::new(alloc);
-        for _ in 0..self.ways.len() {
-            back.push(Vec::new(alloc))?;
+    // The steps from a signature: each is entered once, and declares behind those that it names.
+    pub(crate) fn steps(&self, alloc: Global, root: usize) -> Result<Vec<Step>, Memory>
+        ensures { IfOk result (λ steps. IsLoadOrder (map (λ out. out.items) self.now.ways.items) root steps.items) }
+    {
+        let mut marks = no_marks(alloc, self.ways.len())?;
+        let mut steps = Vec::new(alloc);
+        let mut work = Vec::new(alloc);
+        work.push(Step::Enter(root))?;
+        'steps: while let Some(next) = work.pop() {
+            self.take(next, &mut marks, &mut steps, &mut work)?;
         }
-        for from in 0..self.ways.len() {
-            add_back(&self.ways, from, &mut back)?;
+        Ok(steps)
+    }
+
+    // Puts the words of a signature on a stack.
+    fn push_words(&self, at: usize, work: &mut Vec<(Spot, usize)>) -> Result<(), Memory>
+        ensures { OnOk result (work.new.items ≡ work.old.items ++ ways_out (map (λ out. out.items) self.now.ways.items) at) }
+    {
+        let Some(words) = self.ways.get(at) else {
+            return Ok(());
+        };
+        work.extend_from_slice(words.as_slice())?;
+        Ok(())
+    }
+
+    // Whether one of these words leads to a signature.
+    fn lead_to(&self, alloc: Global, words: &[(Spot, usize)], to: usize) -> Result<bool, Memory>
+        ensures found { IfOk result (λ found. found ≡ true → SomeLeads (map (λ out. out.items) self.now.ways.items) words.now to) }
+        ensures none { IfOk result (λ found. found ≡ false → NoneLeads (map (λ out. out.items) self.now.ways.items) words.now to) }
+    {
+        let mut marks = no_marks(alloc, self.ways.len())?;
+        let mut work = Vec::from_slice(alloc, words)?;
+        'places: while let Some(way) = work.pop() {
+            if way.1 == to {
+                return Ok(true);
+            }
+            if !mark(&mut marks, way.1) {
+                continue;
+            }
+            self.push_words(way.1, &mut work)?;
         }
-        Ok(back)
+        Ok(false)
+    }
+
+    // The first of these words that leads to a signature.
+    fn first_leading(
+        &self,
+        alloc: Global,
+        words: &[(Spot, usize)],
+        to: usize,
+    ) -> Result<(), SigFault>
+        ensures circle { IfErr result (IsCircleFault (map (λ out. out.items) self.now.ways.items) words.now to) }
+        ensures none { IfOk result (λ done. NoneLeads (map (λ out. out.items) self.now.ways.items) words.now to) }
+    {
+        for word in words {
+            if self.lead_to(alloc, &[*word], to)? {
+                return Err(SigFault::CyclicSignature(word.0));
+            }
+        }
+        Ok(())
+    }
+
+    // The first word of a signature that leads back to it.
+    fn check_words(&self, alloc: Global, at: usize) -> Result<(), SigFault>
+        ensures circle { IfErr result (IsCircleFault (map (λ out. out.items) self.now.ways.items) (ways_out (map (λ out. out.items) self.now.ways.items) at) at) }
+        ensures none { IfOk result (λ done. HasNoCircle (map (λ out. out.items) self.now.ways.items) at) }
+    {
+        let Some(words) = self.ways.get(at) else {
+            return Ok(());
+        };
+        if !self.lead_to(alloc, words.as_slice(), at)? {
+            return Ok(());
+        }
+        self.first_leading(alloc, words.as_slice(), at)
     }
 
     // The first word, in the order of the steps, that leads back to the signature in which it stands.
     pub(crate) fn check_circles(&self, alloc: Global, steps: &[Step]) -> Result<(), SigFault>
-        ensures { (words : List Spot) → HasWordsOf words self.now → IfErr result (IsCircleAt words) }
+        ensures circle { IfErr result (IsFirstCircleFault (map (λ out. out.items) self.now.ways.items) steps.now) }
+        ensures none { IfOk result (λ done. (j : ℕ) → Contains steps.now (Enter j) → HasNoCircle (map (λ out. out.items) self.now.ways.items) j) }
     {
-        let back = self.back(alloc)?;
         for step in steps {
-            if let Step::Enter(at) = step {
-                let leading = leading_to(alloc, back.as_slice(), *at)?;
-                self.check_words(*at, &leading)?;
-            }
+            let Step::Enter(at) = step else {
+                continue;
+            };
+            self.check_words(alloc, *at)?;
         }
         Ok(())
     }
-
-    fn check_words(&self, at: usize, leading: &IndexSet<usize>) -> Result<(), SigFault>
-        ensures { (words : List Spot) → HasWordsOf words self.now → IfErr result (IsCircleAt words) }
-    {
-        if let Some(ways) = self.ways.get(at) {
-            for way in ways {
-                if leading.contains(&way.to) {
-                    return Err(SigFault::CyclicSignature(way.word));
-                }
-            }
-        }
-        Ok(())
-    }
-}
-
-fn add_back(ways: &[Vec<Way>], from: usize, back: &mut Vec<Vec<usize>>) -> Result<(), Memory> {
-    if let Some(out) = ways.get(from) {
-        for way in out.as_slice().iter().copied() {
-            if let Some(list) = back.get_mut(way.to) {
-                list.push(from)?;
-            }
-        }
-    }
-    Ok(())
-}
-
-// The signatures that lead to one, itself among them.
-fn leading_to(alloc: Global, back: &[Vec<usize>], to: usize) -> Result<IndexSet<usize>, Memory> {
-    let mut found = IndexSet::new(alloc);
-    let mut work = Vec::new(alloc);
-    work.push(to)?;
-    for _ in 0..u64::MAX {
-        let Some(at) = work.pop() else {
-            return Ok(found);
-        };
-        if found.insert(at)? {
-            if let Some(list) = back.get(at) {
-                work.extend_from_slice(list.as_slice())?;
-            }
-        }
-    }
-    Err(Memory)
 }

@@ -1,13 +1,12 @@
-use Rattle.std.proofs.Common.{subst, sym}
-use Rattle.std.specs.Prelude.{Contains}
-use Rattle.std.proofs.lemmas.List.Elements.{All-push}
-use Rattle.lp_sig.specs.Ways.{AreWordsOf}
+use Rattle.std.proofs.Common.{ap, ◌∙◌}
+use Rattle.lp_sig.specs.Places.{first_place}
+use Rattle.lp_sig.proofs.Naming.{word_named, word_passed}
 use Rattle.lp_sig.proofs.walk.add_ways.Goals as goal
 
-pub returns-in_err-push : goal.returns-in_err-push
-returns-in_err-push c = λ all among old. subst (AreWordsOf all) (sym c.in_err-push.ensures.items) (c.loop-word.invariant all among old)
+pub loop-word-preserved-in_default : goal.loop-word-preserved-in_default
+loop-word-preserved-in_default c = λ ns has.
+    word_passed ns c.args.source.now c.args.words.now c.loop-word.word-index _ c.args.ways.now.items c.loop-word.ways.items c.loop-word-test.true (c.in_default.ensures ∙ has c.spelled_at.result.now ∙ ap (λ n. first_place n ns) c.spelled_at.ensures) (c.loop-word.invariant ns has)
 
 pub loop-word-preserved : goal.loop-word-preserved
-loop-word-preserved c = λ all among old.
-    subst (AreWordsOf all) (sym c.in_ok-push.ensures.items)
-    (All-push (λ w. Contains all w.word) c.loop-word.ways.items _ (c.loop-word.invariant all among old) (among c.loop-word.word-index _ c.loop-word-test.true))
+loop-word-preserved c = λ ns has.
+    word_named ns c.args.source.now c.args.words.now c.loop-word.word-index _ c.args.ways.now.items c.loop-word.ways.items c.push.new.self.items c.in-Some.to c.loop-word-test.true (c.in-Some.ensures ∙ has c.spelled_at.result.now ∙ ap (λ n. first_place n ns) c.spelled_at.ensures) (c.loop-word.invariant ns has) c.in_ok-push.ensures.items

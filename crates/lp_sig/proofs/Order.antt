@@ -1,0 +1,162 @@
+-- The order of loading: what is on the stack is what the definition has yet to come.
+use Rattle.std.proofs.Common.{◌≡◌, ℕ, zero, suc, ◌+◌, ◌<◌, ◌≤◌, List, [], ◌∷◌, ◌++◌, Bool, true, false, length, map, get_or, set, reverse, replicate, refl, sym, ap, subst, ◌∙◌, arith, append_assoc, append-nil, true≢false}
+use Rattle.std.proofs.lemmas.List.{reverse-append, reverse-reverse, map-append, length-append, length-map, length-reverse}
+use Rattle.lp_sig.specs.Loading.{Way, ways_out, Loads, again, first, LoadsAll, none, next, IsLoadOrder}
+use Rattle.lp_sig.specs.Walking.{entries, Run, over, own, go, Moves, waiting}
+use Rattle.lp_sig.specs.declared.walk.Step.{Step}
+use Rattle.lp_sig.specs.declared.walk.Step.TheVariants.{Enter, Declare}
+
+pub stays : (ways : List (List Way)) (m : List Bool) (w s : List Step) → Moves ways m w s m w s
+stays ways m w s = λ rest run. (rest, run, refl)
+
+pub moves_then : (ways : List (List Way)) (a b c : List Bool) (u v w s t r : List Step) → Moves ways a u s b v t → Moves ways b v t c w r → Moves ways a u s c w r
+moves_then ways a b c u v w s t r f g = λ rest run. let x = g rest run in let y = f x.0 x.1 in (y.0, y.1, x.2 ∙ y.2)
+
+last_off : (w : List Step) (x : Step) → reverse (w ++ x ∷ []) ≡ x ∷ reverse w
+last_off w x = reverse-append w (x ∷ [])
+
+-- a signature's own declarations
+pub declares : (ways : List (List Way)) (m : List Bool) (w s : List Step) (i : ℕ) → Moves ways m (w ++ Declare i ∷ []) s m w (s ++ Declare i ∷ [])
+declares ways m w s i = λ rest run. (Declare i ∷ rest, own i (reverse w) rest (last_off w (Declare i)) run refl, append_assoc s (Declare i ∷ []) rest)
+
+-- a signature for a second time
+pub known : (ways : List (List Way)) (m : List Bool) (w s : List Step) (i : ℕ) → get_or m i true ≡ true → Moves ways m (w ++ Enter i ∷ []) s m w s
+known ways m w s i h = λ rest run. (rest, go i (reverse w) [] rest (last_off w (Enter i)) m (again h refl refl) run refl, refl)
+
+record Split (ways : List (List Way)) (m : List Bool) (words : List Way) (behind rest : List Step) : Type 0 where
+  inner : List Step
+  mid : List Bool
+  more : List Step
+  loads : LoadsAll ways m words inner mid
+  run : Run ways mid behind more
+  is : rest ≡ inner ++ more
+
+split : (ways : List (List Way)) (m : List Bool) (words : List Way) (behind rest : List Step) → Run ways m (entries words ++ behind) rest → Split ways m words behind rest
+split ways m [] behind rest run = record { inner = []; mid = m; more = rest; loads = none refl refl refl; run = run; is = refl }
+split ways m (w ∷ ws) behind rest (over e s) = absurd (cc)
+split ways m (w ∷ ws) behind rest (own i v more e run s) = absurd (cc)
+split ways m (w ∷ ws) behind rest (go i v here more e mid loads run s) =
+    let q : i ≡ w.1 = cc in
+    let r : v ≡ entries ws ++ behind = cc in
+    let x = split ways mid ws behind more (subst (λ v. Run ways mid v more) r run) in
+    record {
+      inner = here ++ x.inner;
+      mid = x.mid;
+      more = x.more;
+      loads = next w ws refl mid here x.inner (subst (λ i. Loads ways m i here mid) q loads) x.loads refl;
+      run = x.run;
+      is = s ∙ ap (λ z. here ++ z) x.is ∙ sym (append_assoc here x.inner x.more);
+    }
+
+record Own (ways : List (List Way)) (m : List Bool) (i : ℕ) (behind rest : List Step) : Type 0 where
+  more : List Step
+  run : Run ways m behind more
+  is : rest ≡ Declare i ∷ more
+
+own_first : (ways : List (List Way)) (m : List Bool) (i : ℕ) (behind rest : List Step) → Run ways m (Declare i ∷ behind) rest → Own ways m i behind rest
+own_first ways m i behind rest (over e s) = absurd (cc)
+own_first ways m i behind rest (own j v more e run s) =
+    let q : j ≡ i = cc in
+    let r : v ≡ behind = cc in
+    record { more = more; run = subst (λ v. Run ways m v more) r run; is = s ∙ ap (λ j. Declare j ∷ more) q }
+own_first ways m i behind rest (go j v here more e mid loads run s) = absurd (cc)
+
+reverse_entries : (ws : List Way) → reverse (entries ws) ≡ entries (reverse ws)
+reverse_entries [] = refl
+reverse_entries (w ∷ ws) =
+    reverse-append (Enter w.1 ∷ []) (entries ws) ∙ ap (λ z. z ++ Enter w.1 ∷ []) (reverse_entries ws) ∙ sym (map-append (λ w. Enter w.1) (reverse ws) (w ∷ [])) ∙ ap entries (sym (reverse-append (w ∷ []) ws))
+
+entries_back : (ws : List Way) → reverse (entries (reverse ws)) ≡ entries ws
+entries_back ws = reverse_entries (reverse ws) ∙ ap entries (reverse-reverse ws)
+
+named_first : (w' w1 w : List Step) (i : ℕ) (words : List Way) → w1 ≡ w ++ Declare i ∷ [] → w' ≡ w1 ++ entries (reverse words) → reverse w' ≡ entries words ++ (Declare i ∷ reverse w)
+named_first w' w1 w i words a b =
+    ap (λ z. reverse z) b ∙ reverse-append w1 (entries (reverse words)) ∙ ap (λ z. z ++ reverse w1) (entries_back words) ∙
+    ap (λ z. entries words ++ z) (ap (λ z. reverse z) a ∙ last_off w (Declare i))
+
+-- a signature for the first time
+pub entered : (ways : List (List Way)) (m m' : List Bool) (w w1 w' s s' : List Step) (i : ℕ) → get_or m i true ≡ false → m' ≡ set m i true → s' ≡ s ++ Enter i ∷ [] → w1 ≡ w ++ Declare i ∷ [] → w' ≡ w1 ++ entries (reverse (ways_out ways i)) →
+    Moves ways m (w ++ Enter i ∷ []) s m' w' s'
+entered ways m m' w w1 w' s s' i h marks steps a b = λ rest run.
+    let words = ways_out ways i in
+    let x = split ways m' words (Declare i ∷ reverse w) rest (subst (λ z. Run ways m' z rest) (named_first w' w1 w i words a b) run) in
+    let y = own_first ways x.mid i (reverse w) x.more x.run in
+    let here = Enter i ∷ (x.inner ++ Declare i ∷ []) in
+    let loads = first h x.inner (subst (λ z. LoadsAll ways z words x.inner x.mid) marks x.loads) refl in
+    let same : rest ≡ (x.inner ++ Declare i ∷ []) ++ y.more = x.is ∙ ap (λ z. x.inner ++ z) y.is ∙ sym (append_assoc x.inner (Declare i ∷ []) y.more) in (
+      here ++ y.more,
+      go i (reverse w) here y.more (last_off w (Enter i)) x.mid loads y.run refl,
+      ap (λ z. z ++ rest) steps ∙ append_assoc s (Enter i ∷ []) rest ∙ ap (λ z. s ++ (Enter i ∷ z)) same,
+    )
+
+only_one : (ways : List (List Way)) (m : List Bool) (root : ℕ) (all : List Step) → Run ways m (Enter root ∷ []) all → (new : List Bool) × Loads ways m root all new
+only_one ways m root all (over e s) = absurd (cc)
+only_one ways m root all (own i v more e run s) = absurd (cc)
+only_one ways m root all (go i v here more e mid loads run s) = by run
+  where
+    nothing : Run ways mid v more → more ≡ []
+    nothing (over e' s') = s'
+    nothing (own j u more' e' run' s') = absurd (cc)
+    nothing (go j u here' more' e' mid' loads' run' s') = absurd (cc)
+
+    by : Run ways mid v more → (new : List Bool) × Loads ways m root all new
+    by r =
+        let q : i ≡ root = cc in
+        let t : here ≡ all = sym (append-nil here) ∙ ap (λ z. here ++ z) (sym (nothing r)) ∙ sym s in
+        (mid, subst (λ i. Loads ways m i all mid) q (subst (λ z. Loads ways m i z mid) t loads))
+
+-- when nothing is left all steps are taken
+pub all_loaded : (ways : List (List Way)) (m m' : List Bool) (root : ℕ) (work steps : List Step) → m ≡ replicate (length ways) false → Moves ways m (Enter root ∷ []) [] m' work steps → work ≡ [] → IsLoadOrder ways root steps
+all_loaded ways m m' root work steps clear moves empty =
+    let x = moves [] (over (ap (λ z. reverse z) empty) refl) in
+    let y = only_one ways m root x.0 x.1 in
+    let same : x.0 ≡ steps = sym x.2 ∙ append-nil steps in
+    (y.0, subst (λ z. Loads ways z root steps y.0) clear (subst (λ z. Loads ways m root z y.0) same y.1))
+
+-- a mark takes a signature's words away from what can be added
+pub weighed : (m : List Bool) (ways : List (List Way)) (i : ℕ) → get_or m i true ≡ false → waiting (set m i true) ways + suc (length (ways_out ways i)) ≡ waiting m ways
+weighed [] ways i h = absurd (true≢false h)
+weighed (true ∷ ms) ways zero h = absurd (true≢false h)
+weighed (false ∷ ms) [] zero h = omega arith
+weighed (false ∷ ms) (o ∷ os) zero h = omega arith
+weighed (true ∷ ms) [] (suc i) h = weighed ms [] i h
+weighed (true ∷ ms) (o ∷ os) (suc i) h = weighed ms os i h
+weighed (false ∷ ms) [] (suc i) h = let e = weighed ms [] i h in omega (arith, e)
+weighed (false ∷ ms) (o ∷ os) (suc i) h = let e = weighed ms os i h in omega (arith, e)
+
+-- what is left falls where a signature is entered for the first time
+pub less_left : (ways : List (List Way)) (m m' : List Bool) (i : ℕ) (w w1 w' : List Step) → get_or m i true ≡ false → m' ≡ set m i true → w1 ≡ w ++ Declare i ∷ [] → w' ≡ w1 ++ entries (reverse (ways_out ways i)) → length w' + waiting m' ways ≤ length w + waiting m ways
+less_left ways m m' i w w1 w' h marks a b =
+    let p : length w1 ≡ length w + 1 = ap length a ∙ length-append w (Declare i ∷ []) in
+    let q : length w' ≡ length w1 + length (entries (reverse (ways_out ways i))) = ap length b ∙ length-append w1 (entries (reverse (ways_out ways i))) in
+    let r : length (entries (reverse (ways_out ways i))) ≡ length (ways_out ways i) = length-map (reverse (ways_out ways i)) (λ w. Enter w.1) ∙ length-reverse (ways_out ways i) in
+    let s : waiting m' ways ≡ waiting (set m i true) ways = ap (λ z. waiting z ways) marks in
+    let t = weighed m ways i h in
+    omega (arith, p, q, r, s, t)
+
+pub fewer_left : (ways : List (List Way)) (m m' : List Bool) (i : ℕ) (all old work : List Way) (w : Way) → all ≡ old ++ w ∷ [] → get_or m i true ≡ false → m' ≡ set m i true → work ≡ old ++ ways_out ways i → length work + waiting m' ways < length all + waiting m ways
+fewer_left ways m m' i all old work w off h marks a =
+    let p : length all ≡ length old + 1 = ap length off ∙ length-append old (w ∷ []) in
+    let q : length work ≡ length old + length (ways_out ways i) = ap length a ∙ length-append old (ways_out ways i) in
+    let s : waiting m' ways ≡ waiting (set m i true) ways = ap (λ z. waiting z ways) marks in
+    let t = weighed m ways i h in
+    omega (arith, p, q, s, t)
+
+pub one_off : {A : Type 0} (ways : List (List Way)) (m m' : List Bool) (all old : List A) (w : A) → all ≡ old ++ w ∷ [] → m' ≡ m → length old + waiting m' ways < length all + waiting m ways
+one_off ways m m' all old w off same =
+    let p : length all ≡ length old + 1 = ap length off ∙ length-append old (w ∷ []) in
+    let s : waiting m' ways ≡ waiting m ways = ap (λ z. waiting z ways) same in
+    omega (arith, p, s)
+
+pub one_off_then : (ways : List (List Way)) (m m' : List Bool) (all old work : List Step) (w : Step) → all ≡ old ++ w ∷ [] → length work + waiting m' ways ≤ length old + waiting m ways → length work + waiting m' ways < length all + waiting m ways
+one_off_then ways m m' all old work w off le =
+    let p : length all ≡ length old + 1 = ap length off ∙ length-append old (w ∷ []) in
+    omega (arith, p, le)
+
+pub start_moves : (ways : List (List Way)) (root n : ℕ) (m : List Bool) (work steps : List Step) → m ≡ replicate n false → n ≡ length ways → work ≡ Enter root ∷ [] → steps ≡ [] → Moves ways (replicate (length ways) false) (Enter root ∷ []) [] m work steps
+start_moves ways root n m work steps marks count one empty = λ rest run.
+    (rest, subst (λ z. Run ways z (reverse (Enter root ∷ [])) rest) (marks ∙ ap (λ n. replicate n false) count) (subst (λ z. Run ways m (reverse z) rest) one run), ap (λ z. z ++ rest) empty)
+
+pub nil_of : {A : Type 0} (xs : List A) → length xs ≡ 0 → xs ≡ []
+nil_of [] h = refl
+nil_of (x ∷ xs) h = absurd (omega (arith, h))

@@ -1,0 +1,36 @@
+use Rattle.std.proofs.Common.{map, subst, arith}
+use Rattle.lp_sig.specs.Loading.{IsLoadOrder}
+use Rattle.lp_sig.specs.Walking.{IsFirstCircleFault}
+use Rattle.lp_sig.specs.Refusals.{IsRefusal}
+use Rattle.lp_sig.proofs.Blame.{passed_up, circle, step_at_fault, taken_more, all_taken, free_steps}
+use Rattle.lp_sig.proofs.texts.elaborate.Goals as goal
+
+pub returns-in_err-check_circles-clause-refused : goal.returns-in_err-check_circles-clause-refused
+returns-in_err-check_circles-clause-refused c =
+    let e = c.in_err-check_circles.field-0.0 in
+    let steps = c.in_ok-steps.steps.items in
+    passed_up c.from_residual-in_err-check_circles.result e (IsRefusal c.args.names.now c.args.sources.now c.args.texts.now c.args.root) c.from_residual-in_err-check_circles.ensures.1
+    (circle c.args.names.now c.args.sources.now c.args.texts.now c.args.root steps e (subst (λ w. IsLoadOrder w c.args.root steps) c.in_ok-ways.ensures c.in_ok-steps.ensures)
+    (subst (λ w. IsFirstCircleFault w steps e) c.in_ok-ways.ensures (subst (λ s. IsFirstCircleFault (map (λ out. out.items) c.in_ok-ways.ways.ways.items) s e) c.as_slice.ensures.value c.in_err-check_circles.ensures.circle)))
+
+pub loop-step-init : goal.loop-step-init
+loop-step-init c = λ s d. absurd (omega (arith, d.1))
+
+pub loop-step-preserved : goal.loop-step-preserved
+loop-step-preserved c = taken_more c.args.names.now c.args.sources.now c.args.texts.now c.deref-step-items.result.now c.loop-step.step-index _ c.loop-step-test.true c.loop-step.invariant c.in_ok-take.ensures.taken
+
+pub returns-in_err-take-clause-refused : goal.returns-in_err-take-clause-refused
+returns-in_err-take-clause-refused c =
+    let steps = c.in_ok-steps.steps.items in
+    let e = c.in_err-take.field-0.0 in
+    passed_up c.from_residual-in_err-take.result e (IsRefusal c.args.names.now c.args.sources.now c.args.texts.now c.args.root) c.from_residual-in_err-take.ensures.1
+    (step_at_fault c.args.names.now c.args.sources.now c.args.texts.now c.args.root steps c.deref-step-items.result.now c.loop-step.step-index _ e c.deref-step-items.ensures.value
+    (free_steps c.args.names.now c.args.sources.now c.args.texts.now c.args.root (map (λ out. out.items) c.in_ok-ways.ways.ways.items) steps c.as_slice.result.now c.in_ok-ways.ensures c.as_slice.ensures.value c.in_ok-steps.ensures c.in_ok-check_circles.ensures.none)
+    c.loop-step-test.true c.loop-step.invariant c.in_err-take.ensures.refused)
+
+pub returns-clause-accepted : goal.returns-clause-accepted
+returns-clause-accepted c = record {
+  steps = c.in_ok-steps.steps.items;
+  loaded = free_steps c.args.names.now c.args.sources.now c.args.texts.now c.args.root (map (λ out. out.items) c.in_ok-ways.ways.ways.items) c.in_ok-steps.steps.items c.as_slice.result.now c.in_ok-ways.ensures c.as_slice.ensures.value c.in_ok-steps.ensures c.in_ok-check_circles.ensures.none;
+  taken = all_taken c.args.names.now c.args.sources.now c.args.texts.now c.in_ok-steps.steps.items c.deref-step-items.result.now c.loop-step.step-index c.deref-step-items.ensures.value c.loop-step-test.false c.loop-step.invariant;
+}

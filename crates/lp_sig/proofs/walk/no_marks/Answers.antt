@@ -1,0 +1,4 @@
+use Rattle.lp_sig.proofs.walk.no_marks.Goals as goal
+
+pub returns : goal.returns
+returns c = c.in_ok-marks.ensures.items_if_clones_equal (λ y h. h)

@@ -1,0 +1,43 @@
+-- What the walks over signatures have done, and what is left to do.
+use Rattle.std.specs.Prelude.{◌≡◌, ℕ, suc, ◌+◌, List, [], ◌∷◌, ◌++◌, Bool, true, false, map, reverse, length, Contains}
+use Rattle.lp_sig.specs.Loading.{Way, ways_out, Loads, LeadsTo, IsCircle, IsFirstCircle}
+use Rattle.lp_sig.specs.declared.walk.Step.{Step}
+use Rattle.lp_sig.specs.declared.walk.Step.TheVariants.{Enter, Declare}
+use Rattle.lp_sig.specs.declared.fault.SigFault.{SigFault}
+use Rattle.lp_sig.specs.declared.fault.SigFault.TheVariants as fault
+
+abbrev pub entries : List Way → List Step
+entries words = map (λ w. Enter w.1) words
+
+-- what comes of a list of steps that are left, the next one first
+pub data Run (ways : List (List Way)) : List Bool → List Step → List Step → Type 0 where
+  over : {marks : List Bool} {left steps : List Step} → left ≡ [] → steps ≡ [] → Run ways marks left steps
+  own : {marks : List Bool} {left steps : List Step} → (i : ℕ) → (behind more : List Step) → left ≡ Declare i ∷ behind → Run ways marks behind more → steps ≡ Declare i ∷ more → Run ways marks left steps
+  go : {marks : List Bool} {left steps : List Step} → (i : ℕ) → (behind here more : List Step) → left ≡ Enter i ∷ behind → (mid : List Bool) → Loads ways marks i here mid → Run ways mid behind more → steps ≡ here ++ more → Run ways marks left steps
+
+-- from one state of the walk to a later one; the next step is the last on the stack
+abbrev pub Moves : List (List Way) → List Bool → List Step → List Step → List Bool → List Step → List Step → Type 0
+Moves ways marks work steps marks' work' steps' =
+    (rest : List Step) → Run ways marks' (reverse work') rest → (all : List Step) × Run ways marks (reverse work) all × (steps' ++ rest ≡ steps ++ all)
+
+-- how much the places without a mark can add
+abbrev pub waiting : List Bool → List (List Way) → ℕ
+waiting [] ways = 0
+waiting (true ∷ ms) [] = waiting ms []
+waiting (false ∷ ms) [] = suc (waiting ms [])
+waiting (true ∷ ms) (out ∷ ways) = waiting ms ways
+waiting (false ∷ ms) (out ∷ ways) = suc (length out) + waiting ms ways
+
+-- some of these words leads to a signature
+abbrev pub SomeLeads : List (List Way) → List Way → ℕ → Type 0
+SomeLeads ways words i = (w : Way) × Contains words w × LeadsTo ways w.1 i
+
+abbrev pub IsCircleFault : List (List Way) → List Way → ℕ → SigFault → Type 0
+IsCircleFault ways words i (fault.CyclicSignature s) = IsCircle ways words i s
+IsCircleFault ways words i fault.Memory = Unit {0}
+IsCircleFault ways words i _ = ⊥
+
+abbrev pub IsFirstCircleFault : List (List Way) → List Step → SigFault → Type 0
+IsFirstCircleFault ways steps (fault.CyclicSignature s) = IsFirstCircle ways steps s
+IsFirstCircleFault ways steps fault.Memory = Unit {0}
+IsFirstCircleFault ways steps _ = ⊥
