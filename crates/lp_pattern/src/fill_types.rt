@@ -1,6 +1,8 @@
 // Types with all bindings put in.
-ghost use Rattle.std.specs.Prelude.{◌<◌, length, IfOk};
-ghost use Rattle.lp_term.specs.Nodes.{Extends};
+ghost use Rattle.std.specs.Prelude.{◌≡◌, ◌<◌, ℕ, length, IfOk};
+ghost use Rattle.lp_calculus.specs.Types.{Ty, instance};
+ghost use Rattle.lp_term.specs.Nodes.{Extends, type_tree};
+ghost use Rattle.lp_pattern.specs.Under.{AreTypes, IsUnbound};
 
 use crate::bindings::Bindings;
 use crate::parts::{put_arrow, put_constructor, type_of};
@@ -33,7 +35,11 @@ impl TypesFilled {
 }
 
 // The type past the bindings at its top.
-pub(crate) fn resolved(bank: &Bank, bindings: &Bindings, id: TypeId) -> Result<TypeId, Memory> {
+pub(crate) fn resolved(bank: &Bank, bindings: &Bindings, id: TypeId) -> Result<TypeId, Memory>
+    ensures within { IfOk result (λ t. t.0 < length bank.now.types) }
+    ensures same { IfOk result (λ t. (θ : ℕ → Ty) → AreTypes bank.now bindings.now θ → instance θ (type_tree bank.now t.0) ≡ instance θ (type_tree bank.now id.0)) }
+    ensures unbound { IfOk result (λ t. IsUnbound bindings.now (type_tree bank.now t.0)) }
+{
     let mut top = id;
     for _ in 0..u64::MAX {
         if top.0 >= bank.type_count() {

@@ -1,24 +1,110 @@
 // Rigid heads: whether they are the same but for their types, and the pairs of their types.
+ghost use Rattle.std.specs.Prelude.{◌≡◌, ◌<◌, length, List, IfOk};
+ghost use Rattle.lp_calculus.specs.Types.{Ty};
+ghost use Rattle.lp_calculus.specs.Term.{index, atom, constant, integer, text, eigen, logic, param};
+ghost use Rattle.lp_term.specs.Nodes.{tree};
+ghost use Rattle.lp_model.specs.Same.{same_name};
 
 use lp_base::Memory;
 use lp_term::{Bank, TermId, TermNode, TypeId};
 use std::alloc::Global;
 
-pub(crate) fn have_same_name(bank: &Bank, one: TermId, other: TermId) -> Result<bool, Memory> {
+fn is_index(bank: &Bank, id: TermId, i: u64) -> bool
+    requires { id.0 < length bank.now.terms }
+    ensures { result ≡ same_name (index i) (tree bank.now id.0) }
+{
+    match bank.term_node(id) {
+        TermNode::Index(j) => i == j,
+        _ => false,
+    }
+}
+
+fn is_constant(bank: &Bank, id: TermId, c: u32, count: usize) -> bool
+    requires { id.0 < length bank.now.terms }
+    ensures { (ts : List Ty) → count ≡ length ts → result ≡ same_name (atom (constant c ts)) (tree bank.now id.0) }
+{
+    match bank.term_node(id) {
+        TermNode::Const(d, types) => c == d && count == types.len(),
+        _ => false,
+    }
+}
+
+fn is_integer(bank: &Bank, id: TermId, i: i64) -> bool
+    requires { id.0 < length bank.now.terms }
+    ensures { result ≡ same_name (atom (integer i)) (tree bank.now id.0) }
+{
+    match bank.term_node(id) {
+        TermNode::Int(j) => i == j,
+        _ => false,
+    }
+}
+
+fn is_text(bank: &Bank, id: TermId, bytes: &[u8]) -> bool
+    requires { id.0 < length bank.now.terms }
+    ensures { result ≡ same_name (atom (text bytes.now)) (tree bank.now id.0) }
+{
+    match bank.term_node(id) {
+        TermNode::Text(others) => bytes == others,
+        _ => false,
+    }
+}
+
+fn is_eigen(bank: &Bank, id: TermId, k: u64) -> bool
+    requires { id.0 < length bank.now.terms }
+    ensures { result ≡ same_name (atom (eigen k)) (tree bank.now id.0) }
+{
+    match bank.term_node(id) {
+        TermNode::Eigen(l) => k == l,
+        _ => false,
+    }
+}
+
+fn is_logic(bank: &Bank, id: TermId, x: u64, l: u64) -> bool
+    requires { id.0 < length bank.now.terms }
+    ensures { result ≡ same_name (atom (logic x l)) (tree bank.now id.0) }
+{
+    match bank.term_node(id) {
+        TermNode::Logic { id: y, level: m } => x == y && l == m,
+        _ => false,
+    }
+}
+
+fn is_parameter(bank: &Bank, id: TermId, k: u64) -> bool
+    requires { id.0 < length bank.now.terms }
+    ensures { (t : Ty) → result ≡ same_name (atom (param k t)) (tree bank.now id.0) }
+{
+    match bank.term_node(id) {
+        TermNode::Param(l, _) => k == l,
+        _ => false,
+    }
+}
+
+// Whether two terms are the same name.
+fn are_same_names(bank: &Bank, one: TermId, other: TermId) -> bool
+    requires one { one.0 < length bank.now.terms }
+    requires other { other.0 < length bank.now.terms }
+    ensures { result ≡ same_name (tree bank.now one.0) (tree bank.now other.0) }
+{
+    match bank.term_node(one) {
+        TermNode::Index(i) => is_index(bank, other, i),
+        TermNode::Const(c, types) => is_constant(bank, other, c, types.len()),
+        TermNode::Int(i) => is_integer(bank, other, i),
+        TermNode::Text(bytes) => is_text(bank, other, bytes),
+        TermNode::Eigen(k) => is_eigen(bank, other, k),
+        TermNode::Logic { id, level } => is_logic(bank, other, id, level),
+        TermNode::Param(k, _) => is_parameter(bank, other, k),
+        TermNode::Abs(_) => false,
+        TermNode::App(_, _) => false,
+    }
+}
+
+pub(crate) fn have_same_name(bank: &Bank, one: TermId, other: TermId) -> Result<bool, Memory>
+    ensures { IfOk result (λ same. same ≡ same_name (tree bank.now one.0) (tree bank.now other.0)) }
+{
     if one.0 >= bank.term_count() || other.0 >= bank.term_count() {
         return Err(Memory);
     }
-    match (bank.term_node(one), bank.term_node(other)) {
-        (TermNode::Index(i), TermNode::Index(j)) => Ok(i == j),
-        (TermNode::Const(c, types), TermNode::Const(d, others)) => {
-            Ok(c == d && types.len() == others.len())
-        }
-        (TermNode::Int(i), TermNode::Int(j)) => Ok(i == j),
-        (TermNode::Text(bytes), TermNode::Text(others)) => Ok(bytes == others),
-        (TermNode::Eigen(i), TermNode::Eigen(j)) => Ok(i == j),
-        (TermNode::Param(i, _), TermNode::Param(j, _)) => Ok(i == j),
-        _ => Ok(false),
-    }
+    Ok(are_same_names(bank, one, other))
 }
 
 // The types of two heads of the same name.

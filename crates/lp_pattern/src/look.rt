@@ -1,17 +1,21 @@
 // A term when it is looked at: head-normal, with its head and its arguments.
-ghost use Rattle.std.specs.Prelude.{◌≡◌, ◌<◌, length};
-ghost use Rattle.lp_term.specs.Nodes.{Extends};
+ghost use Rattle.std.specs.Prelude.{◌≡◌, ◌<◌, ◌≤◌, length, [], ◌++◌, map, reverse, All, IfOk, OnOk, IfErr, IfSome};
+ghost use Rattle.lp_calculus.specs.Term.{abs, atom, logic, apply, substitute};
+ghost use Rattle.lp_term.specs.Nodes.{Extends, tree};
+ghost use Rattle.lp_model.specs.Pair.{Closing, closed};
+ghost use Rattle.lp_pattern.specs.Under.{IsReading, under};
+ghost use Rattle.lp_pattern.specs.Seen.{IsHead, IsLooked, IsReachedWithin, IsDeepWhere, Sees, at_hand, Stands, Follows};
 
 use crate::bindings::Bindings;
 use crate::parts::put_application;
 use lp_base::Memory;
-use lp_term::{Bank, TermId, TermNode, TermRefusal, head_reduce};
+use lp_term::{Bank, TermId, TermNode, TermRefusal, substitute};
 use std::alloc::Global;
 
 // As many contractions may lead to the head of one term.
 pub(crate) const CONTRACTIONS: u64 = 1_000_000;
 
-// Loose indices are below this bound in each term that is reduced.
+// Loose indices are below this bound in each term that is put for one.
 const INDICES: u64 = 4_294_967_296;
 
 #[derive(Clone, Copy)]
@@ -34,57 +38,190 @@ pub(crate) struct Looked {
     pub is_new: bool,
 }
 
-fn head_of(bank: &Bank, id: TermId) -> Result<Head, Memory> {
-    if id.0 >= bank.term_count() {
-        return Err(Memory);
-    }
-    match bank.term_node(id) {
-        TermNode::Abs(body) => Ok(Head::Abstraction(body)),
-        TermNode::Logic { id, level } => Ok(Head::Variable { id, level }),
-        _ => Ok(Head::Rigid),
-    }
+// A term on the way to its head: the head so far, its arguments, of which the last comes first, the number of the whole term where it has
+// one, and how many contractions are left.
+#[derive(Drop)]
+pub(crate) struct Spine {
+    top: TermId,
+    arguments: Vec<TermId>,
+    whole: Option<TermId>,
+    is_new: bool,
+    left: u64,
 }
 
 // Puts the terms behind the others, the last one first.
-pub(crate) fn push_reversed(ids: &[TermId], stack: &mut Vec<TermId>) -> Result<(), Memory> {
-    for id in ids.iter().rev().copied() {
-        stack.push(id)?;
+pub(crate) fn push_reversed(ids: &[TermId], stack: &mut Vec<TermId>) -> Result<(), Memory>
+    ensures { OnOk result (stack.new.items ≡ stack.old.items ++ reverse ids.now) }
+{
+    let mut left = ids.len();
+    while left > 0 {
+        left -= 1;
+        stack.push(ids[left])?;
     }
     Ok(())
 }
 
-// Takes the head of a term out of its applications; the arguments go behind the others, the last one first.
-fn unwind(bank: &Bank, term: TermId, arguments: &mut Vec<TermId>) -> Result<TermId, Memory> {
-    let mut top = term;
-    for _ in 0..u64::MAX {
-        if top.0 >= bank.term_count() {
-            return Err(Memory);
-        }
-        let TermNode::App(next, more) = bank.term_node(top) else {
-            return Ok(top);
-        };
-        push_reversed(more, arguments)?;
-        top = next;
-    }
-    Err(Memory)
-}
-
-// The head-normal form of a term of the bank without far loose indices.
-fn reduced(alloc: Global, bank: &mut Bank, term: TermId, limit: u64) -> Result<TermId, TermRefusal>
+// The body with the argument for its index 0.
+fn contracted(
+    alloc: Global,
+    bank: &mut Bank,
+    body: TermId,
+    argument: TermId,
+) -> Result<TermId, Memory>
+    requires body { body.0 < length bank.old.terms }
+    requires argument { argument.0 < length bank.old.terms }
     ensures kept { Extends bank.old bank.new }
+    ensures within { IfOk result (λ id. id.0 < length bank.new.terms) }
+    ensures tree { IfOk result (λ id. tree bank.new id.0 ≡ substitute (tree bank.old argument.0) (tree bank.old body.0)) }
 {
-    if term.0 >= bank.term_count() || !bank.is_known_below(term, INDICES) {
-        return Err(TermRefusal::Memory);
+    let _count = bank.term_count();
+    if !bank.is_known_below(argument, INDICES) {
+        return Err(Memory);
     }
-    head_reduce(alloc, bank, term, limit)
+    substitute(alloc, bank, body, argument)
 }
 
-// The contractions left after a step, which is at least one where an abstraction met arguments.
-fn left_after(head: Head, left: u64) -> u64 {
-    match head {
-        Head::Abstraction(_) => left.saturating_sub(1),
-        _ => left,
+// The number of the head on the arguments, where there are none.
+fn alone(top: TermId, arguments: &Vec<TermId>) -> Option<TermId>
+    ensures { IfSome result (λ id. (id ≡ top) × (arguments.now.items ≡ [])) }
+{
+    if arguments.is_empty() {
+        return Some(top);
     }
+    None
+}
+
+// An abstraction on an argument is contracted. One without arguments is left as it is.
+fn contract(
+    alloc: Global,
+    bank: &mut Bank,
+    bindings: &Bindings,
+    spine: &mut Spine,
+    body: TermId,
+) -> Result<Option<Head>, TermRefusal>
+    requires stands { Stands bank.old spine.old }
+    requires body { body.0 < length bank.old.terms }
+    requires top { tree bank.old spine.old.top.0 ≡ abs (tree bank.old body.0) }
+    ensures kept { Extends bank.old bank.new }
+    ensures stands { OnOk result (Stands bank.new spine.new) }
+    ensures left { OnOk result (spine.new.left ≤ spine.old.left) }
+    ensures followed { OnOk result ((c : Closing) → Follows c bank.old spine.old bank.new spine.new) }
+    ensures head { IfOk result (λ found. IfSome found (λ head. IsHead bank.new bindings.now head (tree bank.new spine.new.top.0) spine.new.arguments.items)) }
+    ensures refused { IfErr result (λ e. (c : Closing) → IsDeepWhere spine.old.left (closed c (at_hand bank.old spine.old)) e) }
+{
+    let Some(argument) = spine.arguments.pop() else {
+        return Ok(Some(Head::Abstraction(body)));
+    };
+    if spine.left == 0 {
+        return Err(TermRefusal::Deep(0));
+    }
+    spine.left -= 1;
+    spine.top = contracted(alloc, bank, body, argument)?;
+    spine.whole = alone(spine.top, &spine.arguments);
+    spine.is_new = true;
+    Ok(None)
+}
+
+// A bound variable gives way to its value.
+fn put_value(
+    bank: &Bank,
+    bindings: &Bindings,
+    spine: &mut Spine,
+    id: u64,
+    level: u64,
+) -> Result<Option<Head>, Memory>
+    requires stands { Stands bank.now spine.old }
+    requires top { tree bank.now spine.old.top.0 ≡ atom (logic id level) }
+    ensures stands { OnOk result (Stands bank.now spine.new) }
+    ensures left { OnOk result (spine.new.left ≤ spine.old.left) }
+    ensures followed { OnOk result ((c : Closing) → IsReading bank.now bindings.now c → Follows c bank.now spine.old bank.now spine.new) }
+    ensures head { IfOk result (λ found. IfSome found (λ head. IsHead bank.now bindings.now head (tree bank.now spine.new.top.0) spine.new.arguments.items)) }
+{
+    let Some(value) = bindings.value(id) else {
+        return Ok(Some(Head::Variable { id, level }));
+    };
+    if value.0 >= bank.term_count() {
+        return Err(Memory);
+    }
+    spine.top = value;
+    spine.whole = alone(value, &spine.arguments);
+    spine.is_new = spine.is_new || !spine.arguments.is_empty();
+    Ok(None)
+}
+
+// Takes the arguments off the head, contracts it or puts its value, unless it is one to end with.
+fn step(
+    alloc: Global,
+    bank: &mut Bank,
+    bindings: &Bindings,
+    spine: &mut Spine,
+) -> Result<Option<Head>, TermRefusal>
+    requires stands { Stands bank.old spine.old }
+    ensures kept { Extends bank.old bank.new }
+    ensures stands { OnOk result (Stands bank.new spine.new) }
+    ensures left { OnOk result (spine.new.left ≤ spine.old.left) }
+    ensures followed { OnOk result ((c : Closing) → IsReading bank.old bindings.now c → Follows c bank.old spine.old bank.new spine.new) }
+    ensures head { IfOk result (λ found. IfSome found (λ head. IsHead bank.new bindings.now head (tree bank.new spine.new.top.0) spine.new.arguments.items)) }
+    ensures refused { IfErr result (λ e. (c : Closing) → IsDeepWhere spine.old.left (closed c (at_hand bank.old spine.old)) e) }
+{
+    match bank.term_node(spine.top) {
+        TermNode::App(next, more) => {
+            push_reversed(more, &mut spine.arguments)?;
+            spine.top = next;
+            Ok(None)
+        }
+        TermNode::Abs(body) => contract(alloc, bank, bindings, spine, body),
+        TermNode::Logic { id, level } => {
+            let found = put_value(bank, bindings, spine, id, level)?;
+            Ok(found)
+        }
+        TermNode::Index(_) => Ok(Some(Head::Rigid)),
+        TermNode::Const(_, _) => Ok(Some(Head::Rigid)),
+        TermNode::Int(_) => Ok(Some(Head::Rigid)),
+        TermNode::Text(_) => Ok(Some(Head::Rigid)),
+        TermNode::Eigen(_) => Ok(Some(Head::Rigid)),
+        TermNode::Param(_, _) => Ok(Some(Head::Rigid)),
+    }
+}
+
+// The number of the whole term.
+fn whole_of(
+    bank: &mut Bank,
+    top: TermId,
+    arguments: &[TermId],
+    whole: Option<TermId>,
+) -> Result<TermId, Memory>
+    requires top { top.0 < length bank.old.terms }
+    requires arguments { All (λ t. t.0 < length bank.old.terms) arguments.now }
+    requires whole { IfSome whole (λ id. (id.0 < length bank.old.terms) × (tree bank.old id.0 ≡ apply (tree bank.old top.0) (map (λ t. tree bank.old t.0) arguments.now))) }
+    ensures kept { Extends bank.old bank.new }
+    ensures within { IfOk result (λ id. id.0 < length bank.new.terms) }
+    ensures tree { IfOk result (λ id. tree bank.new id.0 ≡ apply (tree bank.old top.0) (map (λ t. tree bank.old t.0) arguments.now)) }
+{
+    match whole {
+        Some(id) => Ok(id),
+        None => put_application(bank, top, arguments),
+    }
+}
+
+// What is seen in the end.
+fn seen(bank: &mut Bank, bindings: &Bindings, spine: Spine, head: Head) -> Result<Looked, Memory>
+    requires stands { Stands bank.old spine }
+    requires head { IsHead bank.old bindings.now head (tree bank.old spine.top.0) spine.arguments.items }
+    ensures kept { Extends bank.old bank.new }
+    ensures looked { IfOk result (IsLooked bank.new bindings.now) }
+    ensures same { IfOk result (λ r. tree bank.new r.whole.0 ≡ at_hand bank.old spine) }
+{
+    let mut arguments = spine.arguments;
+    arguments.reverse();
+    let whole = whole_of(bank, spine.top, arguments.as_slice(), spine.whole)?;
+    Ok(Looked {
+        whole,
+        top: spine.top,
+        head,
+        arguments,
+        is_new: spine.is_new,
+    })
 }
 
 // Looks at a term under bindings, with at most so many contractions. An abstraction is left as it is.
@@ -96,67 +233,27 @@ pub(crate) fn look(
     limit: u64,
 ) -> Result<Looked, TermRefusal>
     ensures kept { Extends bank.old bank.new }
+    ensures looked { IfOk result (IsLooked bank.new bindings.now) }
+    ensures reached { IfOk result (λ r. (c : Closing) → IsReading bank.old bindings.now c → IsReachedWithin limit (under bank.old c term) (under bank.new c r.whole)) }
+    ensures seen { IfOk result (λ r. (c : Closing) → IsReading bank.old bindings.now c → Sees limit bank.new c r (under bank.old c term)) }
+    ensures refused { IfErr result (λ e. (c : Closing) → IsReading bank.old bindings.now c → IsDeepWhere limit (under bank.old c term) e) }
 {
-    let mut whole = term;
-    let mut left = limit;
-    let mut is_new = false;
+    if term.0 >= bank.term_count() {
+        return Err(TermRefusal::Memory);
+    }
+    let mut spine = Spine {
+        top: term,
+        arguments: Vec::new(alloc),
+        whole: Some(term),
+        is_new: false,
+        left: limit,
+    };
     'steps: for _ in 0..u64::MAX {
-        let mut arguments = Vec::new(alloc);
-        let top = unwind(bank, whole, &mut arguments)?;
-        arguments.reverse();
-        let head = head_of(bank, top)?;
-        let next = step(
-            alloc,
-            bank,
-            bindings,
-            whole,
-            head,
-            arguments.as_slice(),
-            left,
-        )?;
-        let Some(next) = next else {
-            return Ok(Looked {
-                whole,
-                top,
-                head,
-                arguments,
-                is_new,
-            });
-        };
-        is_new = is_new || !arguments.is_empty();
-        left = left_after(head, left);
-        whole = next;
+        let found = step(alloc, bank, bindings, &mut spine)?;
+        if let Some(head) = found {
+            let looked = seen(bank, bindings, spine, head)?;
+            return Ok(looked);
+        }
     }
     Err(TermRefusal::Memory)
-}
-
-// What a term becomes whose head is an abstraction on arguments or a bound variable.
-fn step(
-    alloc: Global,
-    bank: &mut Bank,
-    bindings: &Bindings,
-    whole: TermId,
-    head: Head,
-    arguments: &[TermId],
-    left: u64,
-) -> Result<Option<TermId>, TermRefusal>
-    ensures kept { Extends bank.old bank.new }
-{
-    match head {
-        Head::Rigid => Ok(None),
-        Head::Abstraction(_) => {
-            if arguments.is_empty() {
-                return Ok(None);
-            }
-            let next = reduced(alloc, bank, whole, left)?;
-            Ok(Some(next))
-        }
-        Head::Variable { id, level: _ } => {
-            let Some(value) = bindings.value(id) else {
-                return Ok(None);
-            };
-            let next = put_application(bank, value, arguments)?;
-            Ok(Some(next))
-        }
-    }
 }

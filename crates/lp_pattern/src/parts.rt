@@ -1,6 +1,7 @@
 // New nodes over parts that are tested to be in the bank.
 ghost use Rattle.std.specs.Prelude.{◌≡◌, ◌<◌, length, map, true, All, IfOk};
-ghost use Rattle.lp_term.specs.Nodes.{Extends};
+ghost use Rattle.lp_calculus.specs.Term.{apply, abs};
+ghost use Rattle.lp_term.specs.Nodes.{Extends, tree};
 
 use lp_base::Memory;
 use lp_term::{Bank, TermId, TermNode, TypeId, TypeNode};
@@ -56,12 +57,14 @@ pub(crate) fn put_application(
     arguments: &[TermId],
 ) -> Result<TermId, Memory>
     ensures kept { Extends bank.old bank.new }
+    ensures within { IfOk result (λ id. id.0 < length bank.new.terms) }
+    ensures tree { IfOk result (λ id. tree bank.new id.0 ≡ apply (tree bank.old head.0) (map (λ t. tree bank.old t.0) arguments.now)) }
 {
-    if arguments.is_empty() {
-        return Ok(head);
-    }
     if head.0 >= bank.term_count() || !are_terms(bank, arguments) {
         return Err(Memory);
+    }
+    if arguments.is_empty() {
+        return Ok(head);
     }
     let id = bank.put_term(TermNode::App(head, arguments))?;
     Ok(id)

@@ -1,6 +1,12 @@
 // Type equations, and the comparison of types, under bindings.
-ghost use Rattle.std.specs.Prelude.{◌≡◌, ◌<◌, length, true, All};
-ghost use Rattle.lp_term.specs.Nodes.{Extends};
+ghost use Rattle.std.specs.Prelude.{◌≡◌, ◌<◌, ◌++◌, ℕ, length, reverse, true, All, IfOk, OnOk, IfErr};
+ghost use Rattle.lp_calculus.specs.Types.{Ty, instance};
+ghost use Rattle.lp_term.specs.Nodes.{Extends, type_tree};
+ghost use Rattle.lp_model.specs.Types.{same_top};
+ghost use Rattle.lp_model.specs.Rule.{compare_types};
+ghost use Rattle.lp_pattern.specs.Under.{AreTypes};
+ghost use Rattle.lp_pattern.specs.Reading.{paired, type_pairs_of};
+ghost use Rattle.lp_pattern.specs.Comparing.{IsLoose, HasSameTop, IsComparedTo, IsPassed};
 ghost use Rattle.lp_pattern.specs.Growing.{Grows};
 ghost use Rattle.lp_equations.specs.Reading.{IsPair};
 
@@ -85,9 +91,13 @@ fn push_pairs(
     lefts: &[TypeId],
     rights: &[TypeId],
     left: &mut Vec<(TypeId, TypeId)>,
-) -> Result<(), Memory> {
-    for pair in lefts.iter().copied().zip(rights.iter().copied()).rev() {
-        left.push(pair)?;
+) -> Result<(), Memory>
+    requires { length lefts.now ≡ length rights.now }
+    ensures { OnOk result (left.new.items ≡ left.old.items ++ reverse (paired lefts.now rights.now)) }
+{
+    for done in 0..lefts.len() {
+        let at = lefts.len() - 1 - done;
+        left.push((lefts[at], rights[at]))?;
     }
     Ok(())
 }
@@ -98,27 +108,63 @@ fn same_top(
     one: TypeId,
     other: TypeId,
     left: &mut Vec<(TypeId, TypeId)>,
-) -> Result<bool, Memory> {
-    if one.0 >= bank.type_count() || other.0 >= bank.type_count() {
-        return Err(Memory);
-    }
-    match (bank.type_node(one), bank.type_node(other)) {
-        (TypeNode::Var(i), TypeNode::Var(j)) => Ok(i == j),
-        (TypeNode::Param(k), TypeNode::Param(l)) => Ok(k == l),
-        (TypeNode::Con(c, ids), TypeNode::Con(d, others)) => {
-            if c != d || ids.len() != others.len() {
-                return Ok(false);
+) -> Result<bool, Memory>
+    requires one { one.0 < length bank.now.types }
+    requires other { other.0 < length bank.now.types }
+    ensures { IfOk result (λ same. (θ : ℕ → Ty) → IsLoose θ (type_tree bank.now one.0) → IsLoose θ (type_tree bank.now other.0) →
+        HasSameTop same (same_top (instance θ (type_tree bank.now one.0)) (instance θ (type_tree bank.now other.0)))
+        (type_pairs_of bank.now θ (reverse left.old.items)) (type_pairs_of bank.now θ (reverse left.new.items))) }
+{
+    match bank.type_node(one) {
+        TypeNode::Var(i) => match bank.type_node(other) {
+            TypeNode::Var(j) => Ok(i == j),
+            TypeNode::Param(_) => Ok(false),
+            TypeNode::Con(_, _) => Ok(false),
+            TypeNode::Arrow(_, _) => Ok(false),
+        },
+        TypeNode::Param(k) => match bank.type_node(other) {
+            TypeNode::Param(l) => Ok(k == l),
+            TypeNode::Var(_) => Ok(false),
+            TypeNode::Con(_, _) => Ok(false),
+            TypeNode::Arrow(_, _) => Ok(false),
+        },
+        TypeNode::Con(c, ids) => match bank.type_node(other) {
+            TypeNode::Con(d, others) => {
+                if c != d {
+                    return Ok(false);
+                }
+                if ids.len() != others.len() {
+                    return Ok(false);
+                }
+                push_pairs(ids, others, left)?;
+                Ok(true)
             }
-            push_pairs(ids, others, left)?;
-            Ok(true)
-        }
-        (TypeNode::Arrow(a, b), TypeNode::Arrow(c, d)) => {
-            left.push((b, d))?;
-            left.push((a, c))?;
-            Ok(true)
-        }
-        _ => Ok(false),
+            TypeNode::Var(_) => Ok(false),
+            TypeNode::Param(_) => Ok(false),
+            TypeNode::Arrow(_, _) => Ok(false),
+        },
+        TypeNode::Arrow(a, b) => match bank.type_node(other) {
+            TypeNode::Arrow(c, d) => {
+                left.push((b, d))?;
+                left.push((a, c))?;
+                Ok(true)
+            }
+            TypeNode::Var(_) => Ok(false),
+            TypeNode::Param(_) => Ok(false),
+            TypeNode::Con(_, _) => Ok(false),
+        },
     }
+}
+
+// Puts the pairs on a stack, so that the first of them comes first.
+fn stacked(alloc: Global, pairs: &[(TypeId, TypeId)]) -> Result<Vec<(TypeId, TypeId)>, Memory>
+    ensures { IfOk result (λ left. left.items ≡ reverse pairs.now) }
+{
+    let mut left = Vec::new(alloc);
+    for pair in pairs.iter().rev().copied() {
+        left.push(pair)?;
+    }
+    Ok(left)
 }
 
 // Whether the types of each pair are the same. A pair of types is a unit.
@@ -128,11 +174,11 @@ pub(crate) fn are_same_types(
     bindings: &Bindings,
     pairs: &[(TypeId, TypeId)],
     units: &mut u64,
-) -> Result<bool, PatternRefusal> {
-    let mut left = Vec::new(alloc);
-    for pair in pairs.iter().rev().copied() {
-        left.push(pair)?;
-    }
+) -> Result<bool, PatternRefusal>
+    ensures compared { IfOk result (λ same. (θ : ℕ → Ty) → AreTypes bank.now bindings.now θ → (n : ℕ) → IsComparedTo same units.old units.new (compare_types n (type_pairs_of bank.now θ pairs.now))) }
+    ensures spent { IfErr result (λ r. (θ : ℕ → Ty) → AreTypes bank.now bindings.now θ → (n : ℕ) → IsPassed r units.old (compare_types n (type_pairs_of bank.now θ pairs.now))) }
+{
+    let mut left = stacked(alloc, pairs)?;
     'pairs: for _ in 0..u64::MAX {
         let Some((one, other)) = left.pop() else {
             return Ok(true);

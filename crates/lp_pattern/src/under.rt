@@ -1,10 +1,12 @@
 // Heads of terms under bindings.
-ghost use Rattle.std.specs.Prelude.{◌<◌, length, IfOk};
-ghost use Rattle.lp_term.specs.Nodes.{Extends};
+ghost use Rattle.std.specs.Prelude.{◌<◌, length, IfOk, IfErr};
+ghost use Rattle.lp_term.specs.Nodes.{Extends, tree};
+ghost use Rattle.lp_model.specs.Pair.{Closing};
+ghost use Rattle.lp_pattern.specs.Under.{IsReading, under};
+ghost use Rattle.lp_pattern.specs.Seen.{IsReachedWithin, IsEnded, IsDeepAt};
 
 use crate::bindings::Bindings;
 use crate::look::look;
-use crate::parts::term_of;
 use lp_term::{Bank, TermId, TermRefusal};
 use std::alloc::Global;
 
@@ -19,12 +21,12 @@ pub fn head_under(
 ) -> Result<TermId, TermRefusal>
     ensures kept { Extends bank.old bank.new }
     ensures within { IfOk result (λ id. id.0 < length bank.new.terms) }
+    ensures reached { IfOk result (λ id. (c : Closing) → IsReading bank.old bindings.now c → IsReachedWithin limit (under bank.old c term) (under bank.new c id)) }
+    ensures ended { IfOk result (λ id. IsEnded bindings.now (tree bank.new id.0)) }
+    ensures refused { IfErr result (λ e. (c : Closing) → IsReading bank.old bindings.now c → IsDeepAt limit (under bank.old c term) e) }
 {
     match look(alloc, bank, bindings, term, limit) {
-        Ok(looked) => {
-            let id = term_of(bank, looked.whole)?;
-            Ok(id)
-        }
+        Ok(looked) => Ok(looked.whole),
         Err(TermRefusal::Deep(_)) => Err(TermRefusal::Deep(limit)),
         Err(TermRefusal::Memory) => Err(TermRefusal::Memory),
     }

@@ -1,9 +1,14 @@
 // The units that are left to a unification.
+ghost use Rattle.std.specs.Prelude.{◌≡◌, suc, OnOk, IfErr};
+ghost use Rattle.lp_pattern.specs.declared.fault.PatternRefusal.TheVariants.{Deep};
 
 use crate::fault::PatternRefusal;
 
 // Takes a unit.
-pub(crate) fn spend(units: &mut u64) -> Result<(), PatternRefusal> {
+pub(crate) fn spend(units: &mut u64) -> Result<(), PatternRefusal>
+    ensures spent { OnOk result (units.old ≡ suc units.new) }
+    ensures refused { IfErr result (λ r. (r ≡ Deep) × (units.old ≡ 0)) }
+{
     if *units == 0 {
         return Err(PatternRefusal::Deep);
     }

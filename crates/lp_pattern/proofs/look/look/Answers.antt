@@ -1,0 +1,45 @@
+use Rattle.std.proofs.Common.{arith, ◌≤◌}
+use Rattle.lp_term.proofs.Trees.{extends-trans}
+use Rattle.lp_term.proofs.Moves.{passed_up}
+use Rattle.lp_model.specs.Pair.{Closing, closed}
+use Rattle.lp_pattern.specs.Under.{IsReading, under}
+use Rattle.lp_pattern.specs.Seen.{IsDeepWhere, at_hand}
+use Rattle.lp_pattern.proofs.Walking.{reading_kept, deep_later, follows_on, ended_within, sees}
+use Rattle.lp_pattern.proofs.look.look.Goals as goal
+
+pub returns-in_err-found-clause-refused : goal.returns-in_err-found-clause-refused
+returns-in_err-found-clause-refused c =
+    passed_up c.from_residual.result c.in_err-found.field-0.0 (λ e. (r : Closing) → IsReading c.args.bank.now c.args.bindings.now r → IsDeepWhere c.args.limit (under c.args.bank.now r c.args.term) e)
+    c.from_residual.ensures.1
+    (λ r i.
+    deep_later c.args.limit c.steps.spine.left (under c.args.bank.now r c.args.term) (closed r (at_hand c.steps.bank c.steps.spine)) c.in_err-found.field-0.0 c.steps.invariant.left
+    (c.steps.invariant.followed r i) (c.in_err-found.ensures.refused r))
+
+pub returns-in-Some-clause-reached : goal.returns-in-Some-clause-reached
+returns-in-Some-clause-reached c = λ r i.
+    let l : c.step.new.spine.left ≤ c.args.limit = omega (arith, c.in_ok-found.ensures.left, c.steps.invariant.left) in
+    ended_within r c.args.limit (under c.args.bank.now r c.args.term) c.step.new.bank c.seen.new.bank c.step.new.spine c.in_ok-looked.looked.whole l
+    (follows_on r c.args.limit (under c.args.bank.now r c.args.term) c.steps.bank c.step.new.bank c.steps.spine c.step.new.spine c.steps.invariant.left (c.steps.invariant.followed r i)
+    (c.in_ok-found.ensures.followed r (reading_kept c.args.bank.now c.steps.bank c.args.bindings.now r c.steps.invariant.kept i)))
+    c.in_ok-looked.ensures.same
+
+pub returns-in-Some-clause-seen : goal.returns-in-Some-clause-seen
+returns-in-Some-clause-seen c = λ r i.
+    let l : c.step.new.spine.left ≤ c.args.limit = omega (arith, c.in_ok-found.ensures.left, c.steps.invariant.left) in
+    let e = extends-trans c.args.bank.now c.step.new.bank c.seen.new.bank (extends-trans c.args.bank.now c.steps.bank c.step.new.bank c.steps.invariant.kept c.in_ok-found.ensures.kept) c.in_ok-looked.ensures.kept in
+    sees c.args.limit c.seen.new.bank c.args.bindings.now r c.in_ok-looked.looked (under c.args.bank.now r c.args.term) (reading_kept c.args.bank.now c.seen.new.bank c.args.bindings.now r e i)
+    c.in_ok-looked.ensures.looked
+    (ended_within r c.args.limit (under c.args.bank.now r c.args.term) c.step.new.bank c.seen.new.bank c.step.new.spine c.in_ok-looked.looked.whole l
+    (follows_on r c.args.limit (under c.args.bank.now r c.args.term) c.steps.bank c.step.new.bank c.steps.spine c.step.new.spine c.steps.invariant.left (c.steps.invariant.followed r i)
+    (c.in_ok-found.ensures.followed r (reading_kept c.args.bank.now c.steps.bank c.args.bindings.now r c.steps.invariant.kept i)))
+    c.in_ok-looked.ensures.same)
+
+pub steps-preserved : goal.steps-preserved
+steps-preserved c = record {
+  kept = extends-trans c.args.bank.now c.steps.bank c.step.new.bank c.steps.invariant.kept c.in_ok-found.ensures.kept;
+  stands = c.in_ok-found.ensures.stands;
+  left = omega (arith, c.in_ok-found.ensures.left, c.steps.invariant.left);
+  followed = λ r i.
+      follows_on r c.args.limit (under c.args.bank.now r c.args.term) c.steps.bank c.step.new.bank c.steps.spine c.step.new.spine c.steps.invariant.left (c.steps.invariant.followed r i)
+      (c.in_ok-found.ensures.followed r (reading_kept c.args.bank.now c.steps.bank c.args.bindings.now r c.steps.invariant.kept i));
+}
