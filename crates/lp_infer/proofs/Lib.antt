@@ -3,3 +3,5 @@ pub mod Finding
 pub mod Undeclared
 pub mod Scanning
 pub mod Refusing
+pub mod Principal
+pub mod Renaming

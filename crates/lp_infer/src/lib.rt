@@ -11,6 +11,7 @@ mod generate;
 mod infer;
 // Instances of declared types.
 mod instance;
+mod laws;
 // What each name of a text is.
 mod names;
 // What the type variables are bound to, read off with sharing.
@@ -20,6 +21,10 @@ mod terms;
 
 pub use fault::InferFault;
 pub use infer::{type_formula, type_query};
+pub use laws::{
+    a_most_general_solution_is_principal, formulas_of_a_text_are_typed, no_solution_is_no_typing,
+    renaming_keeps_a_principal_typing, typings_are_solutions,
+};
 
 #[cfg(test)]
 mod tests;
