@@ -3,10 +3,14 @@
 
 // Types and terms with their kinds and constants renumbered.
 mod carry;
+// Words of accumulate that lead back.
+mod circles;
 // The program of a set of modules.
 mod copies;
 // Why a module is refused.
 mod fault;
+// The numbers of files.
+mod files;
 // The form of clauses and queries, and the limits on their normal forms.
 mod form;
 // Which constants can head a clause.
@@ -29,8 +33,12 @@ mod sentences;
 mod tests;
 // The tree of copies.
 mod tree;
-// The order of modules, and circles of accumulate.
+// The walk from the root.
+mod visits;
+// The order of modules.
 mod walk;
+// The ways by which modules lead to one another.
+mod ways;
 // The words of accumulate.
 mod words;
 

@@ -1,0 +1,6 @@
+pub mod Order
+pub mod Searching
+pub mod Visiting
+pub mod Words
+pub mod Files
+pub mod Refusals
