@@ -1,6 +1,7 @@
 // The loading of files.
 ghost use Rattle.std.specs.Prelude.{◌++◌, codes, IfOk, IfErr, length};
 ghost use Rattle.lp_build.specs.Loads.{Outside, fault_beside, IsOfLoading, BeginsWith, names_of};
+ghost use Rattle.lp_build.specs.Told.{AreKnown, AreLoaded, IsFaultIn};
 
 use crate::fault::BuildFault;
 use crate::sources::Sources;
@@ -19,6 +20,8 @@ pub fn gather<F: Folder>(
     ensures begins { IfOk result (λ sources. BeginsWith (root.now ++ codes ".sig") (names_of sources.files.items)) }
     ensures refused { IfErr result (λ r. IsOfLoading (length r.0.files.items) r.1) }
     ensures outside { Outside F.read_faults F.misses F.overs F.write_faults F.held folder.old folder.new (fault_beside result) }
+    ensures files { IfOk result (AreLoaded (F.held folder.old)) }
+    ensures fault { IfErr result (λ r. IsFaultIn (F.held folder.old) r.0 r.1) }
 {
     gather_with(alloc, folder, root, all, Vec::new(alloc))
 }
@@ -34,6 +37,8 @@ pub fn gather_with<F: Folder>(
     ensures begins { IfOk result (λ sources. BeginsWith (root.now ++ codes ".sig") (names_of sources.files.items)) }
     ensures refused { IfErr result (λ r. IsOfLoading (length r.0.files.items) r.1) }
     ensures outside { Outside F.read_faults F.misses F.overs F.write_faults F.held folder.old folder.new (fault_beside result) }
+    ensures files { AreKnown (F.held folder.old) known.items → IfOk result (AreLoaded (F.held folder.old)) }
+    ensures fault { AreKnown (F.held folder.old) known.items → IfErr result (λ r. IsFaultIn (F.held folder.old) r.0 r.1) }
 {
     let mut loading = Loading::new(alloc, all, known);
     match loading.run(folder, root) {

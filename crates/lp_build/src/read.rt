@@ -1,6 +1,9 @@
 // The reading of one file.
 ghost use Rattle.std.specs.Prelude.{◌≡◌, ◌++◌, ◌+◌, ◌∷◌, [], ◌<◌, codes, IfOk, OnOk, IfErr, length, string_bytes};
+ghost use Rattle.std.specs.Prelude.{IfSome, Option, None, true};
+ghost use Rattle.lp_base.specs.Held.{Held};
 ghost use Rattle.lp_build.specs.Loads.{Outside, fault_of, IsOfText, IsOfRead, IsOfLoading, names_of, ending};
+ghost use Rattle.lp_build.specs.Told.{IsTold, AreKnown, IsFaultOf, IsFaultAt, HoldsTold};
 
 use crate::fault::BuildFault;
 use crate::sources::{File, Part, Sources, Text};
@@ -15,10 +18,20 @@ const LONGEST_FILE: u64 = 1_048_576;
 // At most so many files are loaded.
 const MOST_FILES: usize = 256;
 
+// Whether a known file has this name.
+fn is_named(known: &(String, Vec<u8>), name: &str) -> bool
+    ensures { result ≡ true → string_bytes known.now.0 ≡ name.now }
+{
+    known.0.as_str() == name
+}
+
 // The bytes of a file that is known, taken out.
-fn take_known(known: &mut Vec<(String, Vec<u8>)>, name: &str) -> Option<Vec<u8>> {
+fn take_known(known: &mut Vec<(String, Vec<u8>)>, name: &str) -> Option<Vec<u8>>
+    ensures known { (told : Option Held) → AreKnown told known.old.items → AreKnown told known.new.items }
+    ensures taken { (told : Option Held) → AreKnown told known.old.items → IfSome result (λ bytes. IsTold told name.now bytes.items) }
+{
     for at in 0..known.len() {
-        if known[at].0.as_str() == name {
+        if is_named(&known[at], name) {
             return Some(known.swap_remove(at).1);
         }
     }
@@ -34,6 +47,7 @@ fn read_bytes<F: Folder>(
 ) -> Result<Vec<u8>, BuildFault>
     ensures outside { Outside F.read_faults F.misses F.overs F.write_faults F.held folder.old folder.new (fault_of result) }
     ensures refused { IfErr result (IsOfRead number) }
+    ensures told { IfOk result (λ bytes. IsTold (F.held folder.old) name.now bytes.items) }
 {
     match folder.read(alloc, name, LONGEST_FILE) {
         Ok(bytes) => Ok(bytes),
@@ -47,6 +61,8 @@ fn read_bytes<F: Folder>(
 // The tokens of the file of this number, and what they say of other files.
 fn text_of(alloc: Global, bytes: Vec<u8>, number: u32) -> Result<Text, BuildFault>
     ensures refused { IfErr result (IsOfText number) }
+    ensures same { IfOk result (λ text. text.bytes.items ≡ bytes.items) }
+    ensures fault { IfErr result (IsFaultOf bytes.items) }
 {
     let tokens = match tokens(alloc, &bytes) {
         Ok(tokens) => tokens,
@@ -71,6 +87,9 @@ fn read_text<F: Folder>(
 ) -> Result<Text, BuildFault>
     ensures outside { Outside F.read_faults F.misses F.overs F.write_faults F.held folder.old folder.new (fault_of result) }
     ensures refused { IfErr result (IsOfLoading number) }
+    ensures known { (told : Option Held) → AreKnown told known.old.items → AreKnown told known.new.items }
+    ensures told { AreKnown (F.held folder.old) known.old.items → IfOk result (λ text. IsTold (F.held folder.old) name.now text.bytes.items) }
+    ensures fault { AreKnown (F.held folder.old) known.old.items → IfErr result (IsFaultAt (F.held folder.old) name.now) }
 {
     if let Some(bytes) = take_known(known, name) {
         return text_of(alloc, bytes, number);
@@ -103,6 +122,7 @@ pub(crate) fn load_file<F: Folder>(
     ensures outside { Outside F.read_faults F.misses F.overs F.write_faults F.held folder.old folder.new (fault_of result) }
     ensures refused { IfErr result (IsOfLoading (length sources.new.files.items)) }
     ensures names { OnOk result (names_of sources.new.files.items ≡ names_of sources.old.files.items ++ (stem.now ++ ending part) ∷ []) }
+    ensures told { HoldsTold (F.held folder.old) known.old.items sources.old None → HoldsTold (F.held folder.old) known.new.items sources.new (fault_of result) }
 {
     let at = sources.files.len();
     if at >= MOST_FILES {

@@ -1,4 +1,7 @@
 // Files as they were loaded.
+ghost use Rattle.std.specs.Prelude.{◌≡◌, Option, IfSome, string_bytes};
+ghost use Rattle.lp_base.specs.Held.{Held};
+ghost use Rattle.lp_build.specs.Told.{IsTold, AreLoaded};
 
 use lp_lexer::Token;
 use lp_syntax::References;
@@ -40,22 +43,23 @@ pub(crate) fn as_number(place: usize) -> u32 {
 }
 
 impl Sources {
-    /// The name of a file, with its ending. The file of a refusal has a name too.
-    pub fn fault_name(&self, file: u32) -> &str {
-        if let Some(found) = self.files.get(file as usize) {
-            return found.name.as_str();
-        }
-        match &self.refused {
-            Some(name) => name.as_str(),
-            None => "",
+    /// The name of a loaded file, with its ending, and its bytes.
+    pub fn file(&self, number: u32) -> Option<(&str, &[u8])>
+        ensures { (told : Option Held) → AreLoaded told self.now → IfSome result (λ file. IsTold told file.0.now file.1.now) }
+    {
+        match self.files.get(number as usize) {
+            Some(found) => Some((found.name.as_str(), found.text.bytes.as_slice())),
+            None => None,
         }
     }
 
-    /// The bytes of a file; none where it was not taken in.
-    pub fn text(&self, file: u32) -> &[u8] {
-        match self.files.get(file as usize) {
-            Some(found) => found.text.bytes.as_slice(),
-            None => &[],
+    /// The name of the file at fault, with its ending, after a refusal of loading.
+    pub fn fault_name(&self) -> &str
+        ensures { IfSome self.now.refused (λ name. result.now ≡ string_bytes name) }
+    {
+        match &self.refused {
+            Some(name) => name.as_str(),
+            None => "",
         }
     }
 }

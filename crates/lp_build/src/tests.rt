@@ -26,7 +26,7 @@ fn names_of(alloc: Global, sources: &Sources) -> Result<String, Memory> {
         names.push_str(file.name.as_str())?;
         names.push_str(" ")?;
     }
-    names.push_str(sources.fault_name(sources.files.len().min(999) as u32))?;
+    names.push_str(sources.fault_name())?;
     Ok(names)
 }
 

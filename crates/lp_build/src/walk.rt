@@ -1,6 +1,8 @@
 // The order in which files are loaded.
 ghost use Rattle.std.specs.Prelude.{◌≡◌, ◌++◌, ◌∷◌, [], ◌<◌, ◌^◌, codes, IfOk, OnOk, IfErr, length};
+ghost use Rattle.std.specs.Prelude.{None};
 ghost use Rattle.lp_build.specs.Loads.{Outside, fault_of, IsOfLoading, IsOfWord, names_of, BeginsWith, Keeps, ending};
+ghost use Rattle.lp_build.specs.Told.{HoldsTold};
 
 use crate::fault::BuildFault;
 use crate::read::load_file;
@@ -38,7 +40,8 @@ pub(crate) struct Loading {
 
 impl Loading {
     pub(crate) fn new(alloc: Global, all: bool, known: Vec<(String, Vec<u8>)>) -> Loading
-        ensures { result.sources.files.items ≡ [] }
+        ensures files { result.sources.files.items ≡ [] }
+        ensures known { result.known ≡ known }
     {
         Loading {
             alloc,
@@ -63,6 +66,7 @@ impl Loading {
     ) -> Result<usize, BuildFault>
         ensures outside { Outside F.read_faults F.misses F.overs F.write_faults F.held folder.old folder.new (fault_of result) }
         ensures refused { IfErr result (IsOfLoading (length self.new.sources.files.items)) }
+        ensures told { HoldsTold (F.held folder.old) self.old.known.items self.old.sources None → HoldsTold (F.held folder.old) self.new.known.items self.new.sources (fault_of result) }
         ensures names { OnOk result (names_of self.new.sources.files.items ≡ names_of self.old.sources.files.items ++ (name.now ++ ending part) ∷ []) }
     {
         load_file(
@@ -79,6 +83,7 @@ impl Loading {
     fn load_signature<F: Folder>(&mut self, folder: &mut F, name: &str) -> Result<(), BuildFault>
         ensures outside { Outside F.read_faults F.misses F.overs F.write_faults F.held folder.old folder.new (fault_of result) }
         ensures refused { IfErr result (IsOfLoading (length self.new.sources.files.items)) }
+        ensures told { HoldsTold (F.held folder.old) self.old.known.items self.old.sources None → HoldsTold (F.held folder.old) self.new.known.items self.new.sources (fault_of result) }
         ensures names { OnOk result (names_of self.new.sources.files.items ≡ names_of self.old.sources.files.items ++ (name.now ++ codes ".sig") ∷ []) }
     {
         let file = self.load(folder, name, Part::Signature)?;
@@ -90,6 +95,7 @@ impl Loading {
     fn load_module<F: Folder>(&mut self, folder: &mut F, name: &str) -> Result<(), BuildFault>
         ensures outside { Outside F.read_faults F.misses F.overs F.write_faults F.held folder.old folder.new (fault_of result) }
         ensures refused { IfErr result (IsOfLoading (length self.new.sources.files.items)) }
+        ensures told { HoldsTold (F.held folder.old) self.old.known.items self.old.sources None → HoldsTold (F.held folder.old) self.new.known.items self.new.sources (fault_of result) }
         ensures keeps { OnOk result (Keeps (names_of self.old.sources.files.items) (names_of self.new.sources.files.items)) }
     {
         let file = self.load(folder, name, Part::Module)?;
@@ -100,7 +106,8 @@ impl Loading {
 
     // Whether a signature was not asked for before.
     fn is_new_signature(&mut self, name: &str) -> Result<bool, Memory>
-        ensures { self.new.sources ≡ self.old.sources }
+        ensures sources { self.new.sources ≡ self.old.sources }
+        ensures known { self.new.known ≡ self.old.known }
     {
         let key = Vec::from_slice(self.alloc, name.as_bytes())?;
         Ok(self.signatures.insert(key)?)
@@ -108,7 +115,8 @@ impl Loading {
 
     // Whether a module was not asked for before.
     fn is_new_module(&mut self, name: &str) -> Result<bool, Memory>
-        ensures { self.new.sources ≡ self.old.sources }
+        ensures sources { self.new.sources ≡ self.old.sources }
+        ensures known { self.new.known ≡ self.old.known }
     {
         let key = Vec::from_slice(self.alloc, name.as_bytes())?;
         Ok(self.modules.insert(key)?)
@@ -116,7 +124,8 @@ impl Loading {
 
     // A module's own file comes behind its signature.
     fn await_module(&mut self, name: &str) -> Result<(), Memory>
-        ensures { self.new.sources ≡ self.old.sources }
+        ensures sources { self.new.sources ≡ self.old.sources }
+        ensures known { self.new.known ≡ self.old.known }
     {
         let module = String::from_str(self.alloc, name)?;
         self.work.push(Work::Module(module))?;
@@ -127,6 +136,7 @@ impl Loading {
     fn want_signature<F: Folder>(&mut self, folder: &mut F, name: &str) -> Result<(), BuildFault>
         ensures outside { Outside F.read_faults F.misses F.overs F.write_faults F.held folder.old folder.new (fault_of result) }
         ensures refused { IfErr result (IsOfLoading (length self.new.sources.files.items)) }
+        ensures told { HoldsTold (F.held folder.old) self.old.known.items self.old.sources None → HoldsTold (F.held folder.old) self.new.known.items self.new.sources (fault_of result) }
         ensures keeps { OnOk result (Keeps (names_of self.old.sources.files.items) (names_of self.new.sources.files.items)) }
     {
         if !self.is_new_signature(name)? {
@@ -139,6 +149,7 @@ impl Loading {
     fn want_module<F: Folder>(&mut self, folder: &mut F, name: &str) -> Result<(), BuildFault>
         ensures outside { Outside F.read_faults F.misses F.overs F.write_faults F.held folder.old folder.new (fault_of result) }
         ensures refused { IfErr result (IsOfLoading (length self.new.sources.files.items)) }
+        ensures told { HoldsTold (F.held folder.old) self.old.known.items self.old.sources None → HoldsTold (F.held folder.old) self.new.known.items self.new.sources (fault_of result) }
         ensures keeps { OnOk result (Keeps (names_of self.old.sources.files.items) (names_of self.new.sources.files.items)) }
     {
         if !self.is_new_module(name)? {
@@ -157,6 +168,7 @@ impl Loading {
     ) -> Result<(), BuildFault>
         ensures outside { Outside F.read_faults F.misses F.overs F.write_faults F.held folder.old folder.new (fault_of result) }
         ensures refused { IfErr result (IsOfLoading (length self.new.sources.files.items)) }
+        ensures told { HoldsTold (F.held folder.old) self.old.known.items self.old.sources None → HoldsTold (F.held folder.old) self.new.known.items self.new.sources (fault_of result) }
         ensures keeps { OnOk result (Keeps (names_of self.old.sources.files.items) (names_of self.new.sources.files.items)) }
     {
         let Some(name) = self.named(file, at)? else {
@@ -176,6 +188,7 @@ impl Loading {
     ) -> Result<(), BuildFault>
         ensures outside { Outside F.read_faults F.misses F.overs F.write_faults F.held folder.old folder.new (fault_of result) }
         ensures refused { IfErr result (IsOfLoading (length self.new.sources.files.items)) }
+        ensures told { HoldsTold (F.held folder.old) self.old.known.items self.old.sources None → HoldsTold (F.held folder.old) self.new.known.items self.new.sources (fault_of result) }
         ensures keeps { OnOk result (Keeps (names_of self.old.sources.files.items) (names_of self.new.sources.files.items)) }
     {
         let Some(name) = self.accumulated(file, at)? else {
@@ -193,6 +206,7 @@ impl Loading {
     fn step<F: Folder>(&mut self, folder: &mut F, work: Work) -> Result<(), BuildFault>
         ensures outside { Outside F.read_faults F.misses F.overs F.write_faults F.held folder.old folder.new (fault_of result) }
         ensures refused { IfErr result (IsOfLoading (length self.new.sources.files.items)) }
+        ensures told { HoldsTold (F.held folder.old) self.old.known.items self.old.sources None → HoldsTold (F.held folder.old) self.new.known.items self.new.sources (fault_of result) }
         ensures keeps { OnOk result (Keeps (names_of self.old.sources.files.items) (names_of self.new.sources.files.items)) }
     {
         match work {
@@ -206,6 +220,7 @@ impl Loading {
     fn begin<F: Folder>(&mut self, folder: &mut F, root: &str) -> Result<(), BuildFault>
         ensures outside { Outside F.read_faults F.misses F.overs F.write_faults F.held folder.old folder.new (fault_of result) }
         ensures refused { IfErr result (IsOfLoading (length self.new.sources.files.items)) }
+        ensures told { HoldsTold (F.held folder.old) self.old.known.items self.old.sources None → HoldsTold (F.held folder.old) self.new.known.items self.new.sources (fault_of result) }
         ensures names { OnOk result (names_of self.new.sources.files.items ≡ names_of self.old.sources.files.items ++ (root.now ++ codes ".sig") ∷ []) }
     {
         self.is_new_module(root)?;
@@ -219,6 +234,7 @@ impl Loading {
         requires { self.old.sources.files.items ≡ [] }
         ensures outside { Outside F.read_faults F.misses F.overs F.write_faults F.held folder.old folder.new (fault_of result) }
         ensures refused { IfErr result (IsOfLoading (length self.new.sources.files.items)) }
+        ensures told { HoldsTold (F.held folder.old) self.old.known.items self.old.sources None → HoldsTold (F.held folder.old) self.new.known.items self.new.sources (fault_of result) }
         ensures begins { OnOk result (BeginsWith (root.now ++ codes ".sig") (names_of self.new.sources.files.items)) }
     {
         self.begin(folder, root)?;

@@ -3,6 +3,7 @@ mod Counting
 mod Files
 mod Loading
 mod Orders
+mod Placing
 mod Progress
 mod Reading
 mod Refusing

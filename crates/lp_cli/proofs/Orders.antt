@@ -194,6 +194,9 @@ module _ (name : List ℕ) (f : Held → Order) (told : Option Held) (said : Sta
   pub refused_not_fault : said ≢ variant.WriteFault
   refused_not_fault e = elim l [ inl x ↦ let a = x.0 in cc | inr x ↦ elim x.0 [ inl a ↦ cc | inr a ↦ cc ] ]
 
+  pub refused_not_source : said ≢ variant.Source
+  refused_not_source e = elim l [ inl x ↦ let a = x.0 in cc | inr x ↦ elim x.0 [ inl a ↦ cc | inr a ↦ cc ] ]
+
   pub refused_not_usage : said ≢ variant.Usage
   refused_not_usage e = elim l [ inl x ↦ let a = x.0 in cc | inr x ↦ elim x.0 [ inl a ↦ cc | inr a ↦ cc ] ]
 

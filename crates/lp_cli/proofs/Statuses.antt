@@ -94,6 +94,10 @@ module _ (m : Meaning) (status : Status) (old new : Option (List ℕ)) (k : stat
   unfolding is_of_search
   never_missing = never_searched m status Missing old new k (λ e. cc) refl
 
+  pub never_source : status ≡ Source → ⊥
+  unfolding is_of_search
+  never_source = never_searched m status Source old new k (λ e. cc) refl
+
   pub never_limit : status ≡ Limit → ⊥
   unfolding is_of_search
   never_limit = never_searched m status Limit old new k (λ e. cc) refl
@@ -116,6 +120,10 @@ module _ (status : Status) (k : status ≢ WriteFault → is_of_search status �
   pub not_missing : status ≡ Missing → ⊥
   unfolding is_of_search
   not_missing = other_than status Missing k (λ e. cc) refl
+
+  pub not_source : status ≡ Source → ⊥
+  unfolding is_of_search
+  not_source = other_than status Source k (λ e. cc) refl
 
   pub not_limit : status ≡ Limit → ⊥
   unfolding is_of_search

@@ -8,3 +8,4 @@ pub mod Ends
 pub mod Refusals
 pub mod Pieces
 pub mod Prepared
+pub mod Placed

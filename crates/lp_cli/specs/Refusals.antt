@@ -10,6 +10,7 @@ use Rattle.lp_cli.specs.Lines.{read_fault_line, limit_line}
 use Rattle.lp_cli.specs.Order.{Order, Refuse, Search, Beyond, with_file}
 use Rattle.lp_cli.specs.Ends.{IsOwnFault, IsFault, IsOtherLimit}
 use Rattle.lp_base.specs.declared.limit.Limit.{Limit}
+use Rattle.lp_build.specs.Told.{AreKnown}
 use Rattle.lp_build.specs.declared.fault.BuildFault.{BuildFault}
 use Rattle.lp_build.specs.declared.fault.BuildFault.TheVariants as build
 use Rattle.lp_cli.specs.declared.first.loaded.Loaded.{Loaded}
@@ -66,6 +67,11 @@ Loads name order told (Err Memory) = Unit {0}
 abbrev pub IsMeant : Loaded → Type 0
 IsMeant (loaded.Meaning m) = IsMeaning m
 IsMeant (loaded.Beyond known) = Unit {0}
+
+-- the files that were read have the bytes that the folder tells
+abbrev pub IsKnown : Option Held → Loaded → Type 0
+IsKnown told (loaded.Meaning m) = Unit {0}
+IsKnown told (loaded.Beyond known) = AreKnown told known.items
 
 -- a refusal for a file that was not read, or for what texts say
 abbrev pub IsSourceRefusal : Refusal → Type 0

@@ -1,39 +1,18 @@
 // What is said of each fault of a text.
+ghost use Rattle.std.specs.Prelude.{List, ℕ};
+ghost use Rattle.lp_cli.specs.Placed.{IsCauseOf};
 
 use crate::cause::{Cause, at, named};
-use lp_base::{Place, Spot};
+use lp_base::Spot;
 use lp_fixity::FixFault;
 use lp_infer::InferFault;
-use lp_lexer::LexFault;
 use lp_module::ModuleFault;
 use lp_sig::SigFault;
 use lp_syntax::SyntaxFault;
 
-// A text that is said of a place in a file.
-fn at_place(text: &'static str, file: u32, place: Place) -> Cause {
-    at(
-        text,
-        Spot {
-            file,
-            from: 0,
-            to: 0,
-            at: place,
-        },
-    )
-}
-
-/// A fault of the tokens of a file.
-pub fn of_tokens(file: u32, fault: LexFault) -> Cause {
-    match fault {
-        LexFault::BadByte(place) => at_place("bad byte", file, place),
-        LexFault::OpenText(place) => at_place("unclosed string", file, place),
-        LexFault::OpenComment(place) => at_place("unclosed comment", file, place),
-        LexFault::BigNumber(place) => at_place("number past 64 bits", file, place),
-        LexFault::Memory => Cause::Memory,
-    }
-}
-
-fn of_operator(fault: FixFault, spot: Spot) -> Cause {
+fn of_operator(fault: FixFault, spot: Spot) -> Cause
+    ensures { (text : List ℕ) → IsCauseOf text result }
+{
     match fault {
         FixFault::TooHigh(_) => at("operator number above 255", spot),
         FixFault::Otherwise => named("operator declared otherwise", spot),
@@ -42,7 +21,9 @@ fn of_operator(fault: FixFault, spot: Spot) -> Cause {
 }
 
 /// A fault of syntax.
-pub fn of_syntax(fault: SyntaxFault) -> Cause {
+pub fn of_syntax(fault: SyntaxFault) -> Cause
+    ensures { (text : List ℕ) → IsCauseOf text result }
+{
     match fault {
         SyntaxFault::Unexpected(spot) => at("unexpected token", spot),
         SyntaxFault::Ambiguous(spot) => named("ambiguous operator", spot),
@@ -55,7 +36,9 @@ pub fn of_syntax(fault: SyntaxFault) -> Cause {
 }
 
 /// A fault of declarations.
-pub fn of_declarations(fault: SigFault) -> Cause {
+pub fn of_declarations(fault: SigFault) -> Cause
+    ensures { (text : List ℕ) → IsCauseOf text result }
+{
     match fault {
         SigFault::UnknownKind(spot) => named("unknown kind", spot),
         SigFault::Arity(spot) => named("wrong number of type arguments", spot),
@@ -69,7 +52,9 @@ pub fn of_declarations(fault: SigFault) -> Cause {
 }
 
 /// A fault of typing.
-pub fn of_typing(fault: InferFault) -> Cause {
+pub fn of_typing(fault: InferFault) -> Cause
+    ensures { (text : List ℕ) → IsCauseOf text result }
+{
     match fault {
         InferFault::Undeclared(spot) => named("undeclared name", spot),
         InferFault::NoTyping(spot) => at("no typing", spot),
@@ -78,7 +63,9 @@ pub fn of_typing(fault: InferFault) -> Cause {
 }
 
 /// A fault of a module, or of the form of a query.
-pub fn of_module(fault: ModuleFault) -> Cause {
+pub fn of_module(fault: ModuleFault) -> Cause
+    ensures { (text : List ℕ) → IsCauseOf text result }
+{
     match fault {
         ModuleFault::Cyclic(spot) => named("cyclic accumulate", spot),
         ModuleFault::Header(spot) => at("header name differs", spot),

@@ -2,7 +2,10 @@
 ghost use Rattle.std.specs.Prelude.{◌≡◌, ◌≢◌, ◌+◌, ◌^◌, ◌<◌, ◌≤◌, ◌⊎◌, ℕ, List, map, string_bytes, IfSome, Some, false};
 ghost use Rattle.lp_base.specs.Counts.{HasRisen, Counts};
 ghost use Rattle.lp_base.specs.Written.{Appends};
-ghost use Rattle.lp_cli.specs.Asked.{IsCommand, IsWatched, asked};
+ghost use Rattle.lp_build.specs.Told.{AreKnown};
+ghost use Rattle.lp_cli.specs.Asked.{IsCommand, IsWatched, asked, solve as Asking};
+ghost use Rattle.lp_cli.specs.Placed.{WritesPlaced};
+ghost use Rattle.lp_cli.specs.declared.asked.Options.{Options};
 ghost use Rattle.lp_cli.specs.Order.{AsksPlain, order};
 ghost use Rattle.lp_cli.specs.Ends.{Writes, WritesPrefix, WritesReadFault, BeginsReadFault, Caused, CausedLong, Grows, IsFault};
 
@@ -21,7 +24,9 @@ use lp_watch::Watch;
 use std::alloc::Global;
 
 // The question of a module and a query, within these limits.
-fn question<'a>(name: &'a str, query: &'a str, options: Options) -> Question<'a> {
+fn question<'a>(name: &'a str, query: &'a str, options: Options) -> Question<'a>
+    ensures { result.query.now ≡ query.now }
+{
     Question {
         name,
         query,
@@ -40,6 +45,7 @@ fn solve_whole<F: Folder, K: Sink>(
 ) -> Status
     ensures grows { Grows (K.written out.old) (K.written out.new) }
     ensures read_fault { result ≡ Status.ReadFault → (text : List ℕ) × (IsFault text × Appends (K.written out.old) (K.written out.new) text) }
+    ensures placed { AreKnown (F.held folder.old) known.items → result ≡ Status.Source → WritesPlaced (F.held folder.old) asked.entry.query.now (K.written out.old) (K.written out.new) }
     ensures usage { result ≢ Status.Usage }
     ensures write_faults { Counts (result ≡ Status.WriteFault) (K.faults out.old) (K.faults out.new) }
     ensures read_faults { Caused result Status.ReadFault (F.read_faults folder.old) (F.read_faults folder.new) }
@@ -68,6 +74,7 @@ fn solve_plain<F: Folder, K: Sink>(
         ⊎ BeginsReadFault (F.held folder.old) words (K.written out.old) (K.written out.new)) }
     ensures read_fault { (words : List (List ℕ)) → AsksPlain words name.now query.now → result ≡ Status.ReadFault
         → WritesReadFault (F.held folder.old) words (K.written out.old) (K.written out.new) }
+    ensures placed { result ≡ Status.Source → WritesPlaced (F.held folder.old) query.now (K.written out.old) (K.written out.new) }
     ensures usage { result ≢ Status.Usage }
     ensures write_faults { Counts (result ≡ Status.WriteFault) (K.faults out.old) (K.faults out.new) }
     ensures read_faults { Caused result Status.ReadFault (F.read_faults folder.old) (F.read_faults folder.new) }
@@ -97,6 +104,7 @@ fn solve_with_options<F: Folder, K: Sink>(
 ) -> Status
     ensures grows { Grows (K.written out.old) (K.written out.new) }
     ensures read_fault { result ≡ Status.ReadFault → (text : List ℕ) × (IsFault text × Appends (K.written out.old) (K.written out.new) text) }
+    ensures placed { result ≡ Status.Source → WritesPlaced (F.held folder.old) asked.entry.query.now (K.written out.old) (K.written out.new) }
     ensures usage { result ≢ Status.Usage }
     ensures write_faults { Counts (result ≡ Status.WriteFault) (K.faults out.old) (K.faults out.new) }
     ensures read_faults { Caused result Status.ReadFault (F.read_faults folder.old) (F.read_faults folder.new) }
@@ -132,6 +140,9 @@ pub fn run<F: Folder, K: Sink>(
         ⊎ BeginsReadFault (F.held folder.old) (map string_bytes words.now) (K.written out.old) (K.written out.new)) }
     ensures read_fault { result ≡ Status.ReadFault
         → WritesReadFault (F.held folder.old) (map string_bytes words.now) (K.written out.old) (K.written out.new) }
+    // Where texts are refused, the line tells of a byte of a file that the folder holds, or of the query, and is all that is written.
+    ensures placed { result ≡ Status.Source → (name query : List ℕ) (options : Options) → asked (map string_bytes words.now) ≡ Some (Asking name query options)
+        → WritesPlaced (F.held folder.old) query (K.written out.old) (K.written out.new) }
     ensures usage { result ≡ Status.Usage → IsCommand (map string_bytes words.now) → ⊥ }
     ensures no_command { (IsCommand (map string_bytes words.now) → ⊥) → (result ≡ Status.Usage) ⊎ (result ≡ Status.Memory) ⊎ (result ≡ Status.WriteFault) }
     ensures silent { IsWatched (map string_bytes words.now) ⊎ (watchers.new ≡ watchers.old) }

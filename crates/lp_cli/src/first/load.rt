@@ -5,7 +5,8 @@ ghost use Rattle.lp_base.specs.Held.{Held};
 ghost use Rattle.lp_base.specs.Read.{IfTooLong, IsTooLong, IsLonger};
 ghost use Rattle.lp_cli.specs.Words.{signature_file, module_file};
 ghost use Rattle.lp_cli.specs.Order.{Order, Beyond, with_file, order_of_texts, order_read, order_behind, order_of};
-ghost use Rattle.lp_cli.specs.Refusals.{Causes, Reads, Loads, IsMeant, IsLine, IsStatus};
+ghost use Rattle.lp_build.specs.Told.{IsTold};
+ghost use Rattle.lp_cli.specs.Refusals.{Causes, Reads, Loads, IsMeant, IsKnown, IsLine, IsStatus};
 
 use super::loaded::Loaded;
 use crate::lines::{limit, missing, read_fault};
@@ -17,6 +18,7 @@ use std::alloc::Global;
 // The bytes of a file.
 fn read_file<F: Folder>(alloc: Global, file: &str, folder: &mut F) -> Result<Vec<u8>, Refusal>
     ensures reads { Reads file.now (F.held folder.old) result }
+    ensures told { IfOk result (λ bytes. IsTold (F.held folder.old) file.now bytes.items) }
     ensures read_faults { Causes result Status.ReadFault (F.read_faults folder.old) (F.read_faults folder.new) }
     ensures misses { Causes result Status.Missing (F.misses folder.old) (F.misses folder.new) }
     ensures overs { Causes result Status.Limit (F.overs folder.old) (F.overs folder.new) }
@@ -44,6 +46,7 @@ fn file_name(alloc: Global, name: &str, ending: &str) -> Result<String, Memory>
 fn one_file(alloc: Global, file: String, bytes: Vec<u8>) -> Result<Loaded, Memory>
     ensures meant { IfOk result IsMeant }
     ensures loads { IfOk result (λ l. (name : List ℕ) (told : Option Held) → Loads name (λ held. Beyond) told (Ok l)) }
+    ensures known { (told : Option Held) → IsTold told (string_bytes file) bytes.items → IfOk result (IsKnown told) }
 {
     let mut known = Vec::new(alloc);
     known.push((file, bytes))?;
@@ -59,6 +62,7 @@ fn both_files(
 ) -> Result<Loaded, Memory>
     ensures meant { IfOk result IsMeant }
     ensures loads { IfOk result (λ l. (name : List ℕ) (told : Option Held) → Loads name (λ held. Beyond) told (Ok l)) }
+    ensures known { (told : Option Held) → IsTold told (signature_file name.now) signature.items → IsTold told (module_file name.now) body.items → IfOk result (IsKnown told) }
 {
     let mut known = Vec::new(alloc);
     known.push((file_name(alloc, name, ".sig")?, signature))?;
@@ -77,6 +81,7 @@ fn take_texts(
     ensures meant { IfOk result IsMeant }
     ensures loads { (told : Option Held) → Loads name.now (λ held. order_of_texts name.now query.now signature.items body.items) told result }
     ensures only { IsLine result → ⊥ }
+    ensures known { (told : Option Held) → IsTold told (signature_file name.now) signature.items → IsTold told (module_file name.now) body.items → IfOk result (IsKnown told) }
 {
     match read(alloc, name.as_bytes(), &signature, &body, query.as_bytes())? {
         Some(reading) => Ok(Loaded::Meaning(reading)),
@@ -94,6 +99,7 @@ fn load_module<F: Folder>(
 ) -> Result<Loaded, Refusal>
     ensures meant { IfOk result IsMeant }
     ensures loads { Loads name.now (order_read name.now query.now signature.items) (F.held folder.old) result }
+    ensures known { IsTold (F.held folder.old) (signature_file name.now) signature.items → IfOk result (IsKnown (F.held folder.old)) }
     ensures read_faults { Causes result Status.ReadFault (F.read_faults folder.old) (F.read_faults folder.new) }
     ensures misses { Causes result Status.Missing (F.misses folder.old) (F.misses folder.new) }
     ensures overs { Causes result Status.Limit (F.overs folder.old) (F.overs folder.new) }
@@ -118,6 +124,7 @@ fn go_on<F: Folder>(
 ) -> Result<Loaded, Refusal>
     ensures meant { IfOk result IsMeant }
     ensures loads { Loads name.now (order_behind name.now query.now signature.items) (F.held folder.old) result }
+    ensures known { string_bytes file ≡ signature_file name.now → IsTold (F.held folder.old) (string_bytes file) signature.items → IfOk result (IsKnown (F.held folder.old)) }
     ensures read_faults { Causes result Status.ReadFault (F.read_faults folder.old) (F.read_faults folder.new) }
     ensures misses { Causes result Status.Missing (F.misses folder.old) (F.misses folder.new) }
     ensures overs { Causes result Status.Limit (F.overs folder.old) (F.overs folder.new) }
@@ -141,6 +148,7 @@ pub fn load<F: Folder>(
 ) -> Result<Loaded, Refusal>
     ensures meant { IfOk result IsMeant }
     ensures loads { Loads name.now (order_of name.now query.now) (F.held folder.old) result }
+    ensures known { IfOk result (IsKnown (F.held folder.old)) }
     ensures read_faults { Causes result Status.ReadFault (F.read_faults folder.old) (F.read_faults folder.new) }
     ensures misses { Causes result Status.Missing (F.misses folder.old) (F.misses folder.new) }
     ensures overs { Causes result Status.Limit (F.overs folder.old) (F.overs folder.new) }

@@ -5,6 +5,8 @@ ghost use Rattle.lp_base.specs.Written.{Appends};
 ghost use Rattle.lp_plain.specs.Held.{variables_of};
 ghost use Rattle.lp_cli.specs.Lines.{is_of_search};
 ghost use Rattle.lp_cli.specs.Ends.{Caused, CausedLong, Grows, IsFault};
+ghost use Rattle.lp_build.specs.Told.{AreKnown};
+ghost use Rattle.lp_cli.specs.Placed.{WritesPlaced};
 ghost use Rattle.lp_cli.specs.Prepared.{IsPrepared};
 
 use super::prepare::{Prepared, Question, prepare};
@@ -94,6 +96,7 @@ pub fn solve<F: Folder, K: Sink, W: Watch>(
 ) -> Status
     ensures grows { Grows (K.written out.old) (K.written out.new) }
     ensures read_fault { result ≡ Status.ReadFault → (text : List ℕ) × (IsFault text × Appends (K.written out.old) (K.written out.new) text) }
+    ensures placed { AreKnown (F.held folder.old) known.items → result ≡ Status.Source → WritesPlaced (F.held folder.old) question.entry.query.now (K.written out.old) (K.written out.new) }
     ensures usage { result ≢ Status.Usage }
     ensures write_faults { Counts (result ≡ Status.WriteFault) (K.faults out.old) (K.faults out.new) }
     ensures read_faults { Caused result Status.ReadFault (F.read_faults folder.old) (F.read_faults folder.new) }

@@ -1,11 +1,12 @@
 // A query, from its text to its typed formula.
-ghost use Rattle.std.specs.Prelude.{◌≡◌, ◌≢◌, ◌⊎◌, List, IfErr};
+ghost use Rattle.std.specs.Prelude.{◌≡◌, ◌≢◌, ◌⊎◌, ℕ, List, IfErr, codes};
+ghost use Rattle.lp_cli.specs.Placed.{IsCauseOf, IsOfText, IfSource};
 ghost use Rattle.lp_cli.specs.Refusals.{IsTextRefusal};
 
 use crate::cause::Cause;
-use crate::causes::{of_module, of_syntax, of_tokens, of_typing};
+use crate::causes::{of_module, of_syntax, of_typing};
 use crate::refusal::Refusal;
-use crate::refused::refused;
+use crate::refused::query_refused;
 use lp_base::{Limit, Memory};
 use lp_build::Built;
 use lp_infer::type_query;
@@ -18,10 +19,12 @@ use lp_term::Bank;
 use std::alloc::Global;
 
 // The query as it is written.
-fn read(alloc: Global, text: &[u8], built: &Built) -> Result<RawQuery, Cause> {
+fn read(alloc: Global, text: &[u8], built: &Built) -> Result<RawQuery, Cause>
+    ensures { IfErr result (IsCauseOf text.now) }
+{
     let tokens = match tokens(alloc, text) {
         Ok(tokens) => tokens,
-        Err(fault) => return Err(of_tokens(0, fault)),
+        Err(fault) => return Err(Cause::Tokens(fault)),
     };
     match query_text(alloc, text, &tokens, &built.table) {
         Ok(raw) => Ok(raw),
@@ -29,7 +32,9 @@ fn read(alloc: Global, text: &[u8], built: &Built) -> Result<RawQuery, Cause> {
     }
 }
 
-fn within_arguments(alloc: Global, raw: &RawQuery) -> Result<(), Cause> {
+fn within_arguments(alloc: Global, raw: &RawQuery) -> Result<(), Cause>
+    ensures { (text : List ℕ) → IfErr result (IsCauseOf text) }
+{
     match has_many_arguments(alloc, &raw.term) {
         Ok(false) => Ok(()),
         Ok(true) => Err(Cause::Limit(Limit::Arguments)),
@@ -37,7 +42,9 @@ fn within_arguments(alloc: Global, raw: &RawQuery) -> Result<(), Cause> {
     }
 }
 
-fn within_clauses(alloc: Global, bank: &mut Bank, typed: &Typed) -> Result<(), Cause> {
+fn within_clauses(alloc: Global, bank: &mut Bank, typed: &Typed) -> Result<(), Cause>
+    ensures { (text : List ℕ) → IfErr result (IsCauseOf text) }
+{
     match query_body(alloc, bank, typed) {
         Ok(_) => Ok(()),
         Err(NormalRefusal::Limit(limit)) => Err(Cause::Limit(limit)),
@@ -46,7 +53,9 @@ fn within_clauses(alloc: Global, bank: &mut Bank, typed: &Typed) -> Result<(), C
 }
 
 // The typed query, in the program's bank.
-fn type_of(alloc: Global, text: &[u8], built: &mut Built) -> Result<Typed, Cause> {
+fn type_of(alloc: Global, text: &[u8], built: &mut Built) -> Result<Typed, Cause>
+    ensures { IfErr result (IsCauseOf text.now) }
+{
     let raw = read(alloc, text, built)?;
     within_arguments(alloc, &raw)?;
     let bank = &mut built.assembled.program.bank;
@@ -63,10 +72,11 @@ fn type_of(alloc: Global, text: &[u8], built: &mut Built) -> Result<Typed, Cause
 
 /// The typed query of a text. Its terms stand in the program's bank.
 pub fn ask(alloc: Global, text: &[u8], built: &mut Built) -> Result<Typed, Refusal>
-    ensures { IfErr result IsTextRefusal }
+    ensures refused { IfErr result IsTextRefusal }
+    ensures placed { IfErr result (IfSource (IsOfText (codes "query") text.now)) }
 {
     match type_of(alloc, text, built) {
         Ok(typed) => Ok(typed),
-        Err(cause) => Err(refused(alloc, "query", text, cause)),
+        Err(cause) => Err(query_refused(alloc, text, cause)),
     }
 }

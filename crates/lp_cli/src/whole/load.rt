@@ -1,46 +1,53 @@
 // The program of a module's files.
-ghost use Rattle.std.specs.Prelude.{◌≡◌, ◌≢◌, ◌⊎◌, ◌<◌, ◌≤◌, ◌+◌, ◌^◌, ℕ, List, IfErr, Some};
+ghost use Rattle.std.specs.Prelude.{◌≡◌, ◌≢◌, ◌⊎◌, ◌<◌, ◌≤◌, ◌+◌, ◌^◌, ℕ, List, Option, IfErr, Some};
 ghost use Rattle.lp_base.specs.Counts.{Counts, HasRisen};
+ghost use Rattle.lp_base.specs.Held.{Held};
+ghost use Rattle.lp_build.specs.Told.{AreKnown, AreLoaded, IsFaultIn};
+ghost use Rattle.lp_cli.specs.Placed.{IsCauseOf, IsOfFile, IfSource};
 ghost use Rattle.lp_build.specs.Loads.{Outside, fault_beside, IsRead, IsMissing, IsLongFile};
 ghost use Rattle.lp_cli.specs.Lines.{limit_line};
 ghost use Rattle.lp_cli.specs.Ends.{IsFault, IsOtherLimit};
 ghost use Rattle.lp_cli.specs.Refusals.{Causes, CausesLong, IsStatus, IsSourceRefusal, IsTextRefusal, Tells, TellsFault, TellsMissing, TellsLimit};
 
 use crate::cause::Cause;
-use crate::causes::{of_declarations, of_module, of_syntax, of_tokens};
+use crate::causes::{of_declarations, of_module, of_syntax};
 use crate::lines::{limit, missing, read_fault};
 use crate::refusal::Refusal;
-use crate::refused::{limited, refused};
+use crate::refused::{blamed, limited, without_tokens};
 use lp_base::{Folder, Limit, Memory, Status};
 use lp_build::{BuildFault, Built, Sources, build_program, gather_with};
 use lp_normal::{NormalRefusal, normalise};
 use std::alloc::Global;
 
-// The file in whose text a fault lies.
-fn file_of(cause: Cause) -> u32 {
+// The refusal of a text of these files, which have tokens.
+fn text_refused(alloc: Global, sources: &Sources, cause: Cause) -> Refusal
+    requires { (text : List ℕ) → IsCauseOf text cause }
+    ensures refusal { IsTextRefusal result }
+    ensures placed { (told : Option Held) → AreLoaded told sources.now → IfSource (IsOfFile told) result }
+{
     match cause {
-        Cause::Text(blame) => blame.spot.file,
-        Cause::Limit(_) | Cause::Memory => 0,
+        Cause::Text(blame) => match sources.file(blame.spot.file) {
+            Some((file, text)) => blamed(alloc, file, text, &blame),
+            None => Refusal::Memory,
+        },
+        Cause::Limit(passed) => limited(alloc, passed),
+        Cause::Tokens(_) | Cause::Memory => Refusal::Memory,
     }
 }
 
-// The refusal of a text of these files.
-fn text_refused(alloc: Global, sources: &Sources, cause: Cause) -> Refusal
-    ensures { IsTextRefusal result }
+// What is said of a fault of texts that have tokens. The building of a program reads no file: a fault of reading is want of memory there.
+fn cause_of(fault: BuildFault) -> Cause
+    ensures { (text : List ℕ) → IsCauseOf text result }
 {
-    let file = file_of(cause);
-    refused(alloc, sources.fault_name(file), sources.text(file), cause)
-}
-
-// What is said of a fault of the files' texts. The building of a program reads no file: a fault of reading is want of memory there.
-fn cause_of(fault: BuildFault) -> Cause {
     match fault {
-        BuildFault::Lex(file, fault) => of_tokens(file, fault),
         BuildFault::Syntax(fault) => of_syntax(fault),
         BuildFault::Sig(fault) => of_declarations(fault),
         BuildFault::Module(fault) => of_module(fault),
         BuildFault::Limit(passed) => Cause::Limit(passed),
-        BuildFault::Read(_) | BuildFault::Missing(_) | BuildFault::Memory => Cause::Memory,
+        BuildFault::Lex(_, _)
+        | BuildFault::Read(_)
+        | BuildFault::Missing(_)
+        | BuildFault::Memory => Cause::Memory,
     }
 }
 
@@ -71,15 +78,20 @@ fn past_limit(alloc: Global, passed: Limit) -> Refusal
     }
 }
 
-// The refusal where the files were not all loaded.
+// The refusal where the files were not all loaded: the one at fault was not read, or has no tokens, or a limit was passed.
 fn load_refused(alloc: Global, sources: &Sources, fault: BuildFault) -> Refusal
-    ensures { Tells fault result }
+    ensures tells { Tells fault result }
+    ensures placed { (told : Option Held) → IsFaultIn told sources.now fault → IfSource (IsOfFile told) result }
 {
     match fault {
-        BuildFault::Read(file) => not_read(alloc, sources.fault_name(file)),
-        BuildFault::Missing(file) => not_there(alloc, sources.fault_name(file)),
+        BuildFault::Read(_) => not_read(alloc, sources.fault_name()),
+        BuildFault::Missing(_) => not_there(alloc, sources.fault_name()),
+        BuildFault::Lex(_, fault) => without_tokens(alloc, sources.fault_name(), fault),
         BuildFault::Limit(passed) => past_limit(alloc, passed),
-        _ => text_refused(alloc, sources, cause_of(fault)),
+        BuildFault::Syntax(_)
+        | BuildFault::Sig(_)
+        | BuildFault::Module(_)
+        | BuildFault::Memory => Refusal::Memory,
     }
 }
 
@@ -93,7 +105,8 @@ fn within_clauses(alloc: Global, built: &mut Built) -> Result<(), NormalRefusal>
 }
 
 fn build(alloc: Global, sources: &Sources) -> Result<Built, Refusal>
-    ensures { IfErr result IsTextRefusal }
+    ensures refused { IfErr result IsTextRefusal }
+    ensures placed { (told : Option Held) → AreLoaded told sources.now → IfErr result (IfSource (IsOfFile told)) }
 {
     match build_program(alloc, sources) {
         Ok(mut built) => match within_clauses(alloc, &mut built) {
@@ -113,6 +126,7 @@ pub fn load<F: Folder>(
     folder: &mut F,
 ) -> Result<Built, Refusal>
     ensures refused { IfErr result IsSourceRefusal }
+    ensures placed { AreKnown (F.held folder.old) known.items → IfErr result (IfSource (IsOfFile (F.held folder.old))) }
     ensures read_faults { Causes result Status.ReadFault (F.read_faults folder.old) (F.read_faults folder.new) }
     ensures misses { Causes result Status.Missing (F.misses folder.old) (F.misses folder.new) }
     ensures overs { CausesLong result (F.overs folder.old) (F.overs folder.new) }

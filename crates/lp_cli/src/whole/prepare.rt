@@ -1,5 +1,7 @@
 // A query on a module, ready to be searched for.
-ghost use Rattle.std.specs.Prelude.{◌≡◌, ◌≢◌, ◌⊎◌, ◌<◌, ◌≤◌, ◌+◌, ◌^◌, ℕ, List, IfOk, IfErr};
+ghost use Rattle.std.specs.Prelude.{◌≡◌, ◌≢◌, ◌⊎◌, ◌<◌, ◌≤◌, ◌+◌, ◌^◌, ℕ, List, IfOk, IfErr, codes};
+ghost use Rattle.lp_build.specs.Told.{AreKnown};
+ghost use Rattle.lp_cli.specs.Placed.{IsOfText, IsPlaced, IfSource};
 ghost use Rattle.lp_base.specs.Counts.{HasRisen};
 ghost use Rattle.lp_cli.specs.Ends.{IsOtherLimit};
 ghost use Rattle.lp_cli.specs.Prepared.{IsPrepared};
@@ -33,6 +35,7 @@ pub struct Prepared {
 fn start(alloc: Global, question: Question<'_>, mut built: Built) -> Result<Prepared, Refusal>
     ensures prepared { IfOk result IsPrepared }
     ensures refused { IfErr result IsTextRefusal }
+    ensures placed { IfErr result (IfSource (IsOfText (codes "query") question.entry.query.now)) }
 {
     let text = question.query.as_bytes();
     let typed = match ask(alloc, text, &mut built) {
@@ -60,6 +63,7 @@ pub fn prepare<F: Folder>(
 ) -> Result<Prepared, Refusal>
     ensures prepared { IfOk result IsPrepared }
     ensures refused { IfErr result IsSourceRefusal }
+    ensures placed { AreKnown (F.held folder.old) known.items → IfErr result (IfSource (IsPlaced (F.held folder.old) question.entry.query.now)) }
     ensures read_faults { Causes result Status.ReadFault (F.read_faults folder.old) (F.read_faults folder.new) }
     ensures misses { Causes result Status.Missing (F.misses folder.old) (F.misses folder.new) }
     ensures overs { CausesLong result (F.overs folder.old) (F.overs folder.new) }

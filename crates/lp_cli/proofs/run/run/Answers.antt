@@ -3,6 +3,8 @@ use Rattle.lp_base.specs.Written.{Appends, AppendsPrefix}
 use Rattle.lp_base.specs.declared.status.Status.TheVariants as variant
 use Rattle.lp_cli.proofs.Orders.{Wrote, usage_told, usage_began, wanting_told, wanting_began, beyond_told, beyond_began, beyond_fault, always, trial_is_beyond, options_are_beyond, is_command, watched_or}
 use Rattle.lp_cli.proofs.Statuses.{is_fault, still, long_still, not_otherwise}
+use Rattle.lp_cli.specs.Placed.{WritesPlaced}
+use Rattle.lp_cli.proofs.Placing.{asked_once, asked_for_one}
 use Rattle.lp_cli.proofs.run.run.Goals as goal
 
 -- words that are no command
@@ -162,3 +164,24 @@ returns-in-Ok-Trial-clause-silent g c =
 pub returns-then-are_none-clause-silent : goal.returns-then-are_none-clause-silent
 returns-then-are_none-clause-silent g c =
     inr refl
+
+-- no line of sources is written but of the text that is refused
+pub returns-in-Err-Usage-clause-placed : goal.returns-in-Err-Usage-clause-placed
+returns-in-Err-Usage-clause-placed g c =
+    λ e name query options is. absurd (not_otherwise c.say.result variant.Usage variant.Source (λ n. (c.say.ensures.said n).0) (λ f. cc) (λ f. cc) e)
+
+pub returns-in-Err-Memory-clause-placed : goal.returns-in-Err-Memory-clause-placed
+returns-in-Err-Memory-clause-placed g c =
+    λ e name query options is. absurd (not_otherwise c.say-in-Err-Memory.result variant.Memory variant.Source (λ n. (c.say-in-Err-Memory.ensures.said n).0) (λ f. cc) (λ f. cc) e)
+
+pub returns-in-Ok-Trial-clause-placed : goal.returns-in-Ok-Trial-clause-placed
+returns-in-Ok-Trial-clause-placed g c =
+    λ e name query options is. absurd (asked_for_one (rw c.in-Ok-Trial.field-0-is at c.in-Ok-Trial.ensures.ok) is)
+
+pub returns-then-are_none-clause-placed : goal.returns-then-are_none-clause-placed
+returns-then-are_none-clause-placed g c =
+    λ e name query options is. subst (λ q. WritesPlaced (g.F.Folder.held c.args.folder.now) q (g.K.Sink.written c.args.out.now) (g.K.Sink.written c.solve_plain.new.out)) (asked_once (rw c.in-Ok-Solve.field-0-is at c.in-Ok-Solve.ensures.ok) is) (c.solve_plain.ensures.placed e)
+
+pub returns-else-are_none-clause-placed : goal.returns-else-are_none-clause-placed
+returns-else-are_none-clause-placed g c =
+    λ e name query options is. subst (λ q. WritesPlaced (g.F.Folder.held c.args.folder.now) q (g.K.Sink.written c.args.out.now) (g.K.Sink.written c.solve_with_options.new.out)) (c.question.ensures ∙ asked_once (rw c.in-Ok-Solve.field-0-is at c.in-Ok-Solve.ensures.ok) is) (c.solve_with_options.ensures.placed e)

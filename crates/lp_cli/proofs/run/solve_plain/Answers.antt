@@ -1,10 +1,12 @@
 use Rattle.std.proofs.Common.{◌∙◌, sym, subst}
 use Rattle.lp_base.specs.Written.{Appends, AppendsPrefix}
 use Rattle.lp_base.specs.declared.status.Status.TheVariants as variant
+use Rattle.lp_build.specs.Told.{AreKnown}
 use Rattle.lp_cli.specs.Ends.{Caused, CausedLong}
+use Rattle.lp_cli.specs.Placed.{WritesPlaced}
 use Rattle.lp_cli.specs.Order.{order_of}
-use Rattle.lp_cli.proofs.Orders.{Wrote, searched_told, searched_began, refused_told, refused_began, fault_written, refused_not_fault, refused_not_usage, wanting_told, wanting_began, beyond_told, beyond_began, beyond_fault, moved_beyond}
-use Rattle.lp_cli.proofs.Statuses.{searched_count, refused_count, memory_count, long_file, unmoved, not_otherwise, never_usage, never_read_fault, never_missing, never_limit}
+use Rattle.lp_cli.proofs.Orders.{Wrote, searched_told, searched_began, refused_told, refused_began, fault_written, refused_not_fault, refused_not_usage, refused_not_source, wanting_told, wanting_began, beyond_told, beyond_began, beyond_fault, moved_beyond}
+use Rattle.lp_cli.proofs.Statuses.{searched_count, refused_count, memory_count, long_file, unmoved, not_otherwise, never_usage, never_read_fault, never_missing, never_limit, never_source}
 use Rattle.lp_cli.proofs.run.solve_plain.Goals as goal
 
 pub returns-in-Ok-Meaning-clause-told : goal.returns-in-Ok-Meaning-clause-told
@@ -116,3 +118,23 @@ returns-in-Ok-Beyond-clause-no_file_written g c = c.solve_whole.ensures.no_file_
 
 pub returns-in-Ok-Beyond-clause-held : goal.returns-in-Ok-Beyond-clause-held
 returns-in-Ok-Beyond-clause-held g c = c.solve_whole.ensures.held ∙ c.in-Ok-Beyond.ensures.held
+
+pub returns-in-Ok-Meaning-clause-placed : goal.returns-in-Ok-Meaning-clause-placed
+returns-in-Ok-Meaning-clause-placed g c = λ e. absurd (never_source c.in-Ok-Meaning.reading c.answer.result _ _ c.answer.ensures.writes e)
+
+pub returns-in-Ok-Beyond-clause-placed : goal.returns-in-Ok-Beyond-clause-placed
+returns-in-Ok-Beyond-clause-placed g c =
+    λ e.
+    let same = c.in-Ok-Beyond.ensures.held in
+    let known = subst (λ h. AreKnown h c.in-Ok-Beyond.known.items) (sym same) (rw c.in-Ok-Beyond.field-0-is at c.in-Ok-Beyond.ensures.known) in
+    subst (λ q. WritesPlaced (g.F.Folder.held c.args.folder.now) q (g.K.Sink.written c.args.out.now) (g.K.Sink.written c.solve_whole.new.out)) c.question.ensures
+    (subst (λ h. WritesPlaced h c.question.result.query.now (g.K.Sink.written c.args.out.now) (g.K.Sink.written c.solve_whole.new.out)) same (c.solve_whole.ensures.placed known e))
+
+pub returns-in-Err-Line-clause-placed : goal.returns-in-Err-Line-clause-placed
+returns-in-Err-Line-clause-placed g c =
+    λ e. absurd (not_otherwise c.refuse.result c.in-Err-Line.status variant.Source (λ n. (c.refuse.ensures.said n).0 ∙ c.in-Err-Line.status-is) (λ f. cc)
+    (refused_not_source c.args.name.now (order_of c.args.name.now c.args.query.now) (g.F.Folder.held c.args.folder.now) c.in-Err-Line.status c.in-Err-Line.line (rw c.in-Err-Line.field-0-is at c.in-Err-Line.ensures.loads)) e)
+
+pub returns-in-Err-Memory-clause-placed : goal.returns-in-Err-Memory-clause-placed
+returns-in-Err-Memory-clause-placed g c =
+    λ e. absurd (not_otherwise c.say.result variant.Memory variant.Source (λ n. (c.say.ensures.said n).0) (λ e. cc) (λ e. cc) e)

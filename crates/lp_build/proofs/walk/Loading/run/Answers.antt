@@ -1,8 +1,22 @@
+use Rattle.std.proofs.Common.{sym}
 use Rattle.lp_build.proofs.Counting.{outside_then}
+use Rattle.lp_build.proofs.Telling.{told_memory, told_passed, told_still}
 use Rattle.lp_build.proofs.walk.Loading.run.Goals as goal
 
 pub loop-preserved : goal.loop-preserved
 loop-preserved g c = record {
   begins = c.in_ok-step-in-Some.ensures.keeps _ c.loop.invariant.begins;
   outside = outside_then _ _ _ _ _ _ _ _ _ c.loop.invariant.outside c.in_ok-step-in-Some.ensures.outside;
+  told = λ h. told_still _ _ _ _ _ c.loop.invariant.outside.same (c.in_ok-step-in-Some.ensures.told (told_still _ _ _ _ _ (sym c.loop.invariant.outside.same) (c.loop.invariant.told h)));
 }
+
+pub returns-in_err-step-in-Some-clause-told : goal.returns-in_err-step-in-Some-clause-told
+returns-in_err-step-in-Some-clause-told g c = λ h.
+    told_passed _ _ _ c.from_residual-in_err-step-in-Some.result c.in_err-step-in-Some.field-0.0 c.from_residual-in_err-step-in-Some.ensures.1
+    (told_still _ _ _ _ _ c.loop.invariant.outside.same (c.in_err-step-in-Some.ensures.told (told_still _ _ _ _ _ (sym c.loop.invariant.outside.same) (c.loop.invariant.told h))))
+
+pub returns-in-None-clause-told : goal.returns-in-None-clause-told
+returns-in-None-clause-told g c = c.loop.invariant.told
+
+pub returns-clause-told : goal.returns-clause-told
+returns-clause-told g c = λ h. told_memory _ _ _ (c.loop.invariant.told h)

@@ -1,7 +1,8 @@
 use Rattle.std.proofs.Common.{◌∙◌, sym}
 use Rattle.lp_base.specs.declared.status.Status.TheVariants as variant
 use Rattle.lp_cli.proofs.Refusing.{line_grows, source_not_write_fault, source_written, source_ends}
-use Rattle.lp_cli.proofs.Statuses.{searched_count, refused_count, memory_count, long_searched, long_refused, long_memory, not_otherwise, not_usage, not_read_fault, not_missing, not_limit}
+use Rattle.lp_cli.proofs.Statuses.{searched_count, refused_count, memory_count, long_searched, long_refused, long_memory, not_otherwise, not_usage, not_read_fault, not_missing, not_limit, not_source}
+use Rattle.lp_cli.proofs.Placing.{placed_written}
 use Rattle.lp_cli.proofs.whole.answers.solve.Goals as goal
 
 pub returns-in-Ok-clause-read_fault : goal.returns-in-Ok-clause-read_fault
@@ -70,3 +71,15 @@ returns-in-Err-Memory-clause-read_fault g c =
 pub returns-in-Err-Memory-clause-usage : goal.returns-in-Err-Memory-clause-usage
 returns-in-Err-Memory-clause-usage g c =
     not_otherwise c.say_memory.result variant.Memory variant.Usage c.say_memory.ensures.said (λ e. cc) (λ e. cc)
+
+pub returns-in-Ok-clause-placed : goal.returns-in-Ok-clause-placed
+returns-in-Ok-clause-placed g c = λ known e. absurd (not_source c.write_answers.result c.write_answers.ensures.of_search e)
+
+pub returns-in-Err-Line-clause-placed : goal.returns-in-Err-Line-clause-placed
+returns-in-Err-Line-clause-placed g c =
+    λ known. placed_written (g.F.Folder.held c.args.folder.now) c.args.question.query.now c.in-Err-Line.status c.refuse.result c.in-Err-Line.line _ _ (rw c.in-Err-Line.field-0-is at (c.in-Err-Line.ensures.placed known))
+    (λ n. let said = c.refuse.ensures.said n in (said.0 ∙ c.in-Err-Line.status-is, rw c.in-Err-Line.field-0-is at said.1))
+
+pub returns-in-Err-Memory-clause-placed : goal.returns-in-Err-Memory-clause-placed
+returns-in-Err-Memory-clause-placed g c =
+    λ known e. absurd (not_otherwise c.say_memory.result variant.Memory variant.Source c.say_memory.ensures.said (λ e. cc) (λ e. cc) e)
