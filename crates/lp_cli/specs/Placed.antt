@@ -1,11 +1,10 @@
 -- The line of a refusal of texts: the file, the place of one of its bytes or of its end, and what is said.
-use Rattle.std.specs.Prelude.{◌≡◌, ℕ, ◌-◌, ◌≤◌, ◌⊎◌, List, [], ◌∷◌, ◌++◌, length, take, drop, codes, Bool, true, false, Option, Some, if◌then◌else◌}
+use Rattle.std.specs.Prelude.{◌≡◌, ℕ, ◌-◌, ◌≤◌, ◌⊎◌, List, [], ◌∷◌, ◌++◌, length, take, drop, codes, Bool, true, false, Option, if◌then◌else◌}
 use Rattle.std.specs.Fmt.{decimal}
 use Rattle.std.specs.Str.{bytes_eq}
 use Rattle.lp_base.specs.Held.{Held}
 use Rattle.lp_base.specs.Written.{Appends}
 use Rattle.lp_base.specs.declared.place.Place.{Place}
-use Rattle.lp_base.specs.declared.status.Status.{Status}
 use Rattle.lp_base.specs.declared.status.Status.TheVariants as variant
 use Rattle.lp_lexer.specs.Lexis.{HasFault, place_at}
 use Rattle.lp_build.specs.Told.{IsTold}

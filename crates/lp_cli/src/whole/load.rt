@@ -44,10 +44,8 @@ fn cause_of(fault: BuildFault) -> Cause
         BuildFault::Sig(fault) => of_declarations(fault),
         BuildFault::Module(fault) => of_module(fault),
         BuildFault::Limit(passed) => Cause::Limit(passed),
-        BuildFault::Lex(_, _)
-        | BuildFault::Read(_)
-        | BuildFault::Missing(_)
-        | BuildFault::Memory => Cause::Memory,
+        BuildFault::Lex(_, _) | BuildFault::Read(_) | BuildFault::Missing(_) | BuildFault::Memory =>
+            Cause::Memory,
     }
 }
 
@@ -88,10 +86,8 @@ fn load_refused(alloc: Global, sources: &Sources, fault: BuildFault) -> Refusal
         BuildFault::Missing(_) => not_there(alloc, sources.fault_name()),
         BuildFault::Lex(_, fault) => without_tokens(alloc, sources.fault_name(), fault),
         BuildFault::Limit(passed) => past_limit(alloc, passed),
-        BuildFault::Syntax(_)
-        | BuildFault::Sig(_)
-        | BuildFault::Module(_)
-        | BuildFault::Memory => Refusal::Memory,
+        BuildFault::Syntax(_) | BuildFault::Sig(_) | BuildFault::Module(_) | BuildFault::Memory =>
+            Refusal::Memory,
     }
 }
 
