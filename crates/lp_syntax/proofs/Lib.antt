@@ -42,4 +42,4 @@ pub mod Depths
 pub mod ModuleUnique
 pub mod ModuleTexts
 pub mod Rows
-pub mod ModuleRow
+pub mod ModuleRows
