@@ -42,3 +42,4 @@ pub mod Depths
 pub mod ModuleUnique
 pub mod ModuleTexts
 pub mod Rows
+pub mod ModuleRows

@@ -12,22 +12,24 @@ use Rattle.lp_syntax.specs.declared.symbol.Fault.TheVariants.{Unexpected, Ambigu
 use Rattle.lp_syntax.specs.Symbols.{Tree, Leaf, Nil, App, Lam, binary, cons, fits_left, fits_right, is_item, separates}
 use Rattle.lp_syntax.specs.Machine.{read, Given, Faulty, Unfinished}
 use Rattle.lp_syntax.specs.Tokens.{Lexeme, Operators, class_at, bytes_at, symbol_at}
+use Rattle.lp_syntax.specs.Text.{IsTerm, FaultAt}
 use Rattle.lp_syntax.specs.Types.{Named, Applied, Arrows}
 use Rattle.lp_syntax.specs.Depth.{type_depth, HasDepth, leaf, cons as cons_leaf, nil, applied, abstracted}
+use Rattle.lp_syntax.proofs.Reading.{term_of_read, fault_is_first}
 
-abbrev token : TokenKind → List ℕ → Lexeme
+abbrev pub token : TokenKind → List ℕ → Lexeme
 token k text = record { kind = k; bytes = text }
 
-abbrev word : List ℕ → Lexeme
+abbrev pub word : List ℕ → Lexeme
 word text = token kind.Lower text
 
-abbrev symbol_of_name : List ℕ → Lexeme
+abbrev pub symbol_of_name : List ℕ → Lexeme
 symbol_of_name text = token kind.Symbol text
 
-abbrev number : ℕ → Lexeme
+abbrev pub number : ℕ → Lexeme
 number i = token (kind.Number (pos i)) []
 
-abbrev marked : TokenKind → Lexeme
+abbrev pub marked : TokenKind → Lexeme
 marked k = token k []
 
 -- the symbols of a text without annotations, from a token on
@@ -47,6 +49,13 @@ IsTree es ls t = read (symbols es ls) ≡ Given t
 
 abbrev HasFault : List Entry → List Lexeme → Fault → ℕ → Type 0
 HasFault es ls f at = read (symbols es ls) ≡ Faulty f (drop at (symbols es ls))
+
+-- what is computed is what the grammar gives, and a fault is where no term goes on
+row_is_term : (es : List Entry) (ls : List Lexeme) (t : Tree) → IsTree es ls t → IsTerm (symbols es ls) t
+row_is_term es ls t e = term_of_read (symbols es ls) t e
+
+row_is_fault : (es : List Entry) (ls : List Lexeme) (f : Fault) (at : ℕ) → HasFault es ls f at → FaultAt (symbols es ls) (drop at (symbols es ls))
+row_is_fault es ls f at e = fault_is_first (symbols es ls) f (drop at (symbols es ls)) e
 
 -- `~ 1 + 2`
 prefix_first : IsTree ([]) (symbol_of_name (codes "~") ∷ number 1 ∷ symbol_of_name (codes "+") ∷ number 2 ∷ []) (binary 2 (App (Leaf 0) (Leaf 1)) (Leaf 3))
