@@ -1,5 +1,5 @@
 -- What the walk gives: each module once, behind all that it accumulates, all of them reached from the root, which is the last.
-use Rattle.std.proofs.Common.{◌≡◌, ℕ, suc, ◌+◌, ◌<◌, List, [], ◌∷◌, ◌++◌, length, map, refl, sym, ap, subst, ◌∙◌, zero, get_or, arith, inl, inr}
+use Rattle.std.proofs.Common.{◌≡◌, ℕ, suc, ◌<◌, List, [], ◌∷◌, ◌++◌, length, refl, sym, ap, subst, ◌∙◌, zero, get_or, arith, inl, inr}
 use Rattle.std.specs.Prelude.{◌⊎◌, All, Contains}
 use Rattle.std.proofs.lemmas.List.Elements.{All-nil, All-cons, All-map, All-contains, Contains-append_left, Contains-push, Contains-push_cases, Contains-get_or}
 use Rattle.lp_module.specs.Order.{Way, out_of, used_by, Leads, there, onward, HasNoCircle, Visits, visited, again, first_time, Ordered, no_module, one_more}

@@ -8,7 +8,7 @@ use Rattle.std.proofs.lemmas.List.Elements.{All-nil, All-map, All-push, All-cont
 use Rattle.lp_base.specs.declared.place.Spot.{Spot}
 use Rattle.lp_module.specs.Order.{Way, out_of, used_by, Leads, there, onward, LeadNowhereBack, HasNoCircle, IsFirstCircle}
 use Rattle.lp_module.specs.Searching.{ways_in, AreWithin, IsMarked, unmarked, IsFound, FindsMore, AreClosed, IsReached, AreReached, IsFirstBack}
-use Rattle.lp_module.proofs.Marks.{set_marks, set_keeps, set_cases, set_count, none_marked, all_unmarked}
+use Rattle.lp_module.proofs.Marks.{set_cases, set_count, none_marked, all_unmarked}
 
 -- nothing was found yet
 nothing_found : (ways : List (List Way)) (from : ℕ) (marks : List Bool) → marks ≡ replicate (length ways) false → IsFound ways from marks []

@@ -1,10 +1,10 @@
 -- The walk from the root: each move leaves less to do, and what is left to do is the rest of the walk.
-use Rattle.std.proofs.Common.{◌≡◌, ℕ, zero, suc, ◌+◌, ◌-◌, ◌<◌, ◌≤◌, List, [], ◌∷◌, ◌++◌, length, map, drop, get_or, refl, sym, ap, subst, ◌∙◌, Bool, true, false, true≢false, arith, inl, inr, replicate, reverse}
-use Rattle.std.specs.Prelude.{◌⊎◌, slice_set, All, Contains, Vec}
+use Rattle.std.proofs.Common.{◌≡◌, ℕ, zero, suc, ◌+◌, ◌<◌, ◌≤◌, List, [], ◌∷◌, ◌++◌, length, map, drop, get_or, refl, sym, ap, subst, ◌∙◌, Bool, true, false, true≢false, arith, inl, inr, replicate, reverse}
+use Rattle.std.specs.Prelude.{◌⊎◌, slice_set, Contains, Vec}
 use Rattle.std.specs.Global.{Global}
 use Rattle.std.proofs.lemmas.List.{drop_more, drop_all, length-set, length-replicate, length-map, get_or-map, reverse-append}
-use Rattle.std.proofs.lemmas.List.Elements.{Contains-append_left, Contains-append_cases, Contains-push, Contains-push_cases, Contains-get_or}
-use Rattle.lp_module.specs.Order.{Way, out_of, used_by, Leads, there, onward, HasNoCircle, Visits, visited, again, first_time}
+use Rattle.std.proofs.lemmas.List.Elements.{Contains-append_left, Contains-push, Contains-push_cases, Contains-get_or}
+use Rattle.lp_module.specs.Order.{Way, out_of, used_by, Leads, there, HasNoCircle, Visits, visited, again, first_time}
 use Rattle.lp_module.specs.Searching.{IsMarked, Frame, IsPath, Rest, load, open_load, Goes, ways_in, AreWithin}
 use Rattle.lp_module.proofs.Marks.{set_marks, set_keeps, set_cases, none_marked}
 use Rattle.lp_module.proofs.Reaching.{leads_on, out_is, count_is, words_within}

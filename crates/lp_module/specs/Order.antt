@@ -1,5 +1,5 @@
 -- The order of modules: the ways by which they lead to one another, circles, and the walk from the root.
-use Rattle.std.specs.Prelude.{◌≡◌, ℕ, ◌<◌, List, [], ◌∷◌, ◌++◌, map, get_or, All, Contains, Option, Some, None}
+use Rattle.std.specs.Prelude.{◌≡◌, ℕ, ◌<◌, List, [], ◌∷◌, ◌++◌, map, get_or, All, Contains}
 use Rattle.lp_base.specs.declared.place.Spot.{Spot}
 
 -- a word of accumulate with the number of the module that it names

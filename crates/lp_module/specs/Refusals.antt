@@ -1,5 +1,5 @@
 -- Why modules and queries are refused, and at which spots.
-use Rattle.std.specs.Prelude.{◌≡◌, ◌≢◌, ℕ, ◌⊎◌, ◌≤◌, List, [], ◌∷◌, Contains}
+use Rattle.std.specs.Prelude.{◌≡◌, ◌≢◌, ℕ, ◌⊎◌, ◌≤◌, List, Contains}
 use Rattle.lp_base.specs.declared.limit.Limit.{Limit}
 use Rattle.lp_base.specs.declared.limit.Limit.TheVariants as limit
 use Rattle.lp_base.specs.declared.place.Spot.{Spot}
@@ -8,7 +8,7 @@ use Rattle.lp_calculus.specs.Normal.{nodes}
 use Rattle.lp_syntax.specs.declared.text.ModuleText.{ModuleText}
 use Rattle.lp_syntax.specs.declared.text.RawTerm.{RawTerm}
 use Rattle.lp_syntax.specs.declared.text.Sentence.{Sentence}
-use Rattle.lp_syntax.specs.declared.text.Sentence.TheVariants.{Declares, Says}
+use Rattle.lp_syntax.specs.declared.text.Sentence.TheVariants.{Says}
 use Rattle.lp_term.specs.Frame.{IsBetaForm, IsDeepBeta}
 use Rattle.lp_term.specs.declared.reduce.TermRefusal.TheVariants.{Deep}
 use Rattle.lp_sig.specs.Pieces.{spelled}

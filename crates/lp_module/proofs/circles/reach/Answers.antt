@@ -1,4 +1,4 @@
-use Rattle.std.proofs.Common.{◌∙◌, sym, subst, length, arith, ◌<◌, ◌≤◌, ◌≡◌}
+use Rattle.std.proofs.Common.{◌∙◌, sym, subst, length, arith, ◌<◌}
 use Rattle.lp_module.specs.Order.{there}
 use Rattle.lp_module.specs.Searching.{ways_in}
 use Rattle.lp_module.proofs.Reaching.{found_none, looked_through, all_reached, places_of, count_is}

@@ -1,4 +1,4 @@
-use Rattle.std.proofs.Common.{◌≡◌, arith, inr}
+use Rattle.std.proofs.Common.{◌≡◌, inr}
 use Rattle.std.specs.Prelude.{◌⊎◌}
 use Rattle.lp_term.specs.Nodes.{tree}
 use Rattle.lp_term.proofs.Moves.{passed_up}

@@ -1,8 +1,6 @@
-use Rattle.std.proofs.Common.{◌≡◌, ◌∙◌, inl, inr, refl, ap, sym, subst, length}
-use Rattle.std.specs.Prelude.{◌⊎◌, IfErr}
+use Rattle.std.proofs.Common.{◌∙◌, inl, inr, refl, ap, sym, subst, length}
 use Rattle.lp_term.proofs.Moves.{passed_up}
-use Rattle.lp_sig.specs.declared.signature.Signature.{Signature}
-use Rattle.lp_module.specs.Refusals.{IsRefusal, IsUntyped, IsUnformed}
+use Rattle.lp_module.specs.Refusals.{IsRefusal}
 use Rattle.lp_module.specs.Sentences.{AreSaid}
 use Rattle.lp_module.specs.declared.fault.ModuleFault.TheVariants as fault
 use Rattle.lp_module.proofs.Saying.{as_many, untyped_inside, unformed_inside}
