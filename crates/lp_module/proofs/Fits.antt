@@ -1,5 +1,5 @@
 -- A term whose loose indices are below a limit can be raised.
-use Rattle.std.proofs.Common.{◌≡◌, ℕ, ◌+◌, ◌<◌, ◌≤◌, ◌^◌, length, arith}
+use Rattle.std.proofs.Common.{ℕ, ◌<◌, ◌≤◌, ◌^◌, length, arith}
 use Rattle.lp_calculus.specs.Term.{Term}
 use Rattle.lp_term.specs.Nodes.{Nodes, IsSound, tree}
 use Rattle.lp_term.specs.Walk.{Everywhere}

@@ -5,3 +5,5 @@ pub mod Reaching
 pub mod Visiting
 pub mod Lines
 pub mod Naming
+pub mod Saying
+pub mod Ordering

@@ -1,5 +1,5 @@
 -- From the words of the texts to ways, one after the other.
-use Rattle.std.proofs.Common.{◌≡◌, ℕ, zero, suc, ◌+◌, ◌<◌, ◌≤◌, List, [], ◌∷◌, ◌++◌, length, map, drop, get_or, refl, sym, ap, subst, ◌∙◌, arith, Option, Some, None, append_assoc}
+use Rattle.std.proofs.Common.{◌≡◌, ℕ, suc, ◌+◌, ◌<◌, ◌≤◌, List, [], ◌∷◌, ◌++◌, length, drop, get_or, refl, sym, ap, subst, ◌∙◌, arith, Option, Some, None, append_assoc}
 use Rattle.std.specs.Prelude.{All, Vec, if◌then◌else◌, option_map, Bool, true, false}
 use Rattle.std.specs.Global.{Global}
 use Rattle.std.specs.Str.{bytes_eq}
@@ -35,6 +35,7 @@ text_more names sources texts i s t out old new all hs ht at_s at_t is e h_all =
   where
     rest : List (List Way)
     rest = all_ways names (drop (i + 1) sources) (drop (i + 1) texts)
+
     first : all_ways names (drop i sources) (drop i texts) ≡ ways_of names s.items (accumulate_words t.lines.items) ∷ rest
     first =
         ap (λ l. all_ways names l (drop i texts)) (drop_more sources i s hs ∙ ap (λ x. x ∷ drop (i + 1) sources) (sym at_s)) ∙

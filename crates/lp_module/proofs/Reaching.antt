@@ -8,7 +8,7 @@ use Rattle.std.proofs.lemmas.List.Elements.{All-nil, All-map, All-push, All-cont
 use Rattle.lp_base.specs.declared.place.Spot.{Spot}
 use Rattle.lp_module.specs.Order.{Way, out_of, used_by, Leads, there, onward, LeadNowhereBack, HasNoCircle, IsFirstCircle}
 use Rattle.lp_module.specs.Searching.{ways_in, AreWithin, IsMarked, unmarked, IsFound, FindsMore, AreClosed, IsReached, AreReached, IsFirstBack}
-use Rattle.lp_module.proofs.Marks.{set_marks, set_keeps, set_cases, set_count, none_marked, all_unmarked}
+use Rattle.lp_module.proofs.Marks.{set_cases, set_count, none_marked, all_unmarked}
 
 -- nothing was found yet
 nothing_found : (ways : List (List Way)) (from : ℕ) (marks : List Bool) → marks ≡ replicate (length ways) false → IsFound ways from marks []
@@ -34,9 +34,9 @@ found_one ways from to marks found found_then h new is leads f = record {
       let p = f.places in
       omega (arith, c, l, p);
   listed = λ m k. subst (λ l. Contains l m) (sym is) (elim (set_cases marks to m k) [
-      inl old ↦ Contains-append_left found (to ∷ []) m (f.listed m old)
+    | inl old ↦ Contains-append_left found (to ∷ []) m (f.listed m old)
     | inr e ↦ subst (λ i. Contains (found ++ to ∷ []) i) (sym e) (Contains-push found to)
-    ]);
+  ]);
   within = subst (All (λ m. m < length ways)) (sym is) (All-push (λ m. m < length ways) found to f.within (subst (λ n. to < n) f.count h));
   leads = subst (All (Leads ways from)) (sym is) (All-push (Leads ways from) found to f.leads leads);
 }
@@ -88,6 +88,7 @@ closed_more ways marks marks_then found found_then next words h e f new old k l 
   where
     same : get_or found_then k 0 ≡ get_or found k 0
     same = ap (λ x. get_or x k 0) f.is ∙ get_or_append_left found f.more 0 k (omega (arith, h, l))
+
     by : (k < next) ⊎ (next ≤ k) → All (λ w. IsMarked marks_then w.1) (out_of ways (get_or found_then k 0))
     by (inl b) = subst (λ m. All (λ w. IsMarked marks_then w.1) (out_of ways m)) (sym same) (All-weaker (λ w. IsMarked marks w.1) (λ w. IsMarked marks_then w.1) (λ w. f.keeps w.1) (out_of ways (get_or found k 0)) (old k b))
     by (inr b) =
@@ -107,6 +108,7 @@ all_reached ways from marks found next h start f closed = record {
         let (place, within, at) = f.listed m i in
         let all = subst (λ x. All (λ w. IsMarked marks w.1) (out_of ways x)) (get_or_default found place 0 m within ∙ at) (closed place (omega (arith, h, within))) in
         All-contains (IsMarked marks) (used_by ways m) k (All-map (IsMarked marks) (λ w. w.1) (out_of ways m) all) c
+
     onwards : (m n : ℕ) → IsMarked marks m → Leads ways m n → IsMarked marks n
     onwards m n i (there x) = i
     onwards m n i (onward x k y u l) = onwards k n (used m k i u) l
@@ -121,12 +123,12 @@ FoundSo words m0 f0 m1 f1 i =
 -- one more word was
 pub found_more : (words : List Way) (m0 m1 m2 : List Bool) (f0 f1 f2 : List ℕ) (i : ℕ) (w : Way) → i < length words → w ≡ get_or words i w → FoundSo words m0 f0 m1 f1 i → FindsMore m1 f1 m2 f2 → IsMarked m2 w.1 →
     ((ways : List (List Way)) (from : ℕ) → Leads ways from w.1 → IsFound ways from m1 f1 → IsFound ways from m2 f2) → FoundSo words m0 f0 m2 f2 (i + 1)
-found_more words m0 m1 m2 f0 f1 f2 i w h at (more, marked, kept) step new keeps =
-    ( finds_then m0 m1 m2 f0 f1 f2 more step
-    , subst (All (λ v. IsMarked m2 v.1)) (sym (take_more words i w h ∙ ap (λ v. take i words ++ v ∷ []) (sym at)))
-        (All-push (λ v. IsMarked m2 v.1) (take i words) w (All-weaker (λ v. IsMarked m1 v.1) (λ v. IsMarked m2 v.1) (λ v. step.keeps v.1) (take i words) marked) new)
-    , λ ways from all f. keeps ways from (subst (λ v. Leads ways from v.1) (sym at) (all i w h)) (kept ways from all f)
-    )
+found_more words m0 m1 m2 f0 f1 f2 i w h at (more, marked, kept) step new keeps = (
+  finds_then m0 m1 m2 f0 f1 f2 more step,
+  subst (All (λ v. IsMarked m2 v.1)) (sym (take_more words i w h ∙ ap (λ v. take i words ++ v ∷ []) (sym at)))
+      (All-push (λ v. IsMarked m2 v.1) (take i words) w (All-weaker (λ v. IsMarked m1 v.1) (λ v. IsMarked m2 v.1) (λ v. step.keeps v.1) (take i words) marked) new),
+  λ ways from all f. keeps ways from (subst (λ v. Leads ways from v.1) (sym at) (all i w h)) (kept ways from all f),
+)
 
 -- the modules that a vector's words name
 pub places_of : (outs : List (Vec Way Global)) (m n : ℕ) (out : Vec Way Global) → AreWithin (ways_in outs) → m < length outs → out ≡ get_or outs m out → n ≡ length outs → All (λ w. w.1 < n) out.items
@@ -140,18 +142,21 @@ pub looked_through : (outs : List (Vec Way Global)) (from : ℕ) (marks marks_th
     FindsMore marks found marks_then found_then → All (λ w. IsMarked marks_then w.1) out.items →
     ((ways : List (List Way)) (from : ℕ) → All (λ w. Leads ways from w.1) out.items → IsFound ways from marks found → IsFound ways from marks_then found_then) →
     IsFound (ways_in outs) from marks_then found_then × AreClosed (ways_in outs) marks_then found_then (next + 1) × IsMarked marks_then from
-looked_through outs from marks marks_then found found_then next m out h at out_at (f, closed, start) more marked keeps =
-    ( keeps W from (words_lead W from m out.items words leads) f
-    , closed_more W marks marks_then found found_then next out.items h (words ∙ ap (out_of W) (at ∙ get_or_default found next m 0 h)) more marked closed
-    , more.keeps from start
-    )
+looked_through outs from marks marks_then found found_then next m out h at out_at (f, closed, start) more marked keeps = (
+  keeps W from (words_lead W from m out.items words leads) f,
+  closed_more W marks marks_then found found_then next out.items h (words ∙ ap (out_of W) (at ∙ get_or_default found next m 0 h)) more marked closed,
+  more.keeps from start,
+)
   where
     W : List (List Way)
     W = ways_in outs
+
     within : m < length outs
     within = subst (λ k. k < length outs) (sym at) (subst (λ n. get_or found next m < n) (count_is outs) (f.within next m h))
+
     leads : Leads W from m
     leads = subst (Leads W from) (sym at) (f.leads next m h)
+
     words : out.items ≡ out_of W m
     words = out_is outs m out within out_at
 
@@ -167,17 +172,18 @@ names_one out i n w h at all = subst (λ v. v.1 < n) (sym at) (all i w h)
 -- a word that leads back, and one that does not
 pub back_found : (ways : List (List Way)) (home : ℕ) (out : List Way) (i : ℕ) (w : Way) (reached : List (Vec Bool Global)) (row : Vec Bool Global) (b : Bool) → i < length out → w ≡ get_or out i w → All (λ v. v.1 < length reached) out → row ≡ get_or reached w.1 row →
     home < length reached → All (λ r. length r.items ≡ length reached) reached → b ≡ get_or row.items home b → b ≡ true → LeadNowhereBack ways home (take i out) → AreReached ways reached → IsFirstBack ways home out (Some w.0)
-back_found ways home out i w reached row b h at places row_at home_in square b_at set before all =
-    ( take i out
-    , w.1
-    , drop (i + 1) out
-    , sym (take-append-drop i out) ∙ ap (λ l. take i out ++ l) (drop_more out i w h ∙ ap (λ v. v ∷ drop (i + 1) out) (sym at))
-    , (subst (λ r. IsReached ways w.1 r.items) (sym row_at) (all w.1 row inside)).leads home (get_or_default row.items home false b within ∙ sym b_at ∙ set)
-    , before
-    )
+back_found ways home out i w reached row b h at places row_at home_in square b_at set before all = (
+  take i out,
+  w.1,
+  drop (i + 1) out,
+  sym (take-append-drop i out) ∙ ap (λ l. take i out ++ l) (drop_more out i w h ∙ ap (λ v. v ∷ drop (i + 1) out) (sym at)),
+  (subst (λ r. IsReached ways w.1 r.items) (sym row_at) (all w.1 row inside)).leads home (get_or_default row.items home false b within ∙ sym b_at ∙ set),
+  before,
+)
   where
     inside : w.1 < length reached
     inside = names_one out i (length reached) w h at places
+
     within : home < length row.items
     within = row_fits reached home w.1 row square home_in inside row_at
 
@@ -189,6 +195,7 @@ back_not ways home out i w reached row b h at places row_at home_in square b_at 
   where
     inside : w.1 < length reached
     inside = names_one out i (length reached) w h at places
+
     within : home < length row.items
     within = row_fits reached home w.1 row square home_in inside row_at
 

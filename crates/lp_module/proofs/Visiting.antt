@@ -1,10 +1,10 @@
 -- The walk from the root: each move leaves less to do, and what is left to do is the rest of the walk.
-use Rattle.std.proofs.Common.{◌≡◌, ℕ, zero, suc, ◌+◌, ◌-◌, ◌<◌, ◌≤◌, List, [], ◌∷◌, ◌++◌, length, map, drop, get_or, refl, sym, ap, subst, ◌∙◌, Bool, true, false, true≢false, arith, inl, inr, replicate, reverse}
-use Rattle.std.specs.Prelude.{◌⊎◌, slice_set, All, Contains, Vec}
+use Rattle.std.proofs.Common.{◌≡◌, ℕ, zero, suc, ◌+◌, ◌<◌, ◌≤◌, List, [], ◌∷◌, ◌++◌, length, map, drop, get_or, refl, sym, ap, subst, ◌∙◌, Bool, true, false, true≢false, arith, inl, inr, replicate, reverse}
+use Rattle.std.specs.Prelude.{◌⊎◌, slice_set, Contains, Vec}
 use Rattle.std.specs.Global.{Global}
 use Rattle.std.proofs.lemmas.List.{drop_more, drop_all, length-set, length-replicate, length-map, get_or-map, reverse-append}
-use Rattle.std.proofs.lemmas.List.Elements.{Contains-append_left, Contains-append_cases, Contains-push, Contains-push_cases, Contains-get_or}
-use Rattle.lp_module.specs.Order.{Way, out_of, used_by, Leads, there, onward, HasNoCircle, Visits, visited, again, first_time}
+use Rattle.std.proofs.lemmas.List.Elements.{Contains-append_left, Contains-push, Contains-push_cases, Contains-get_or}
+use Rattle.lp_module.specs.Order.{Way, out_of, used_by, Leads, there, HasNoCircle, Visits, visited, again, first_time}
 use Rattle.lp_module.specs.Searching.{IsMarked, Frame, IsPath, Rest, load, open_load, Goes, ways_in, AreWithin}
 use Rattle.lp_module.proofs.Marks.{set_marks, set_keeps, set_cases, none_marked}
 use Rattle.lp_module.proofs.Reaching.{leads_on, out_is, count_is, words_within}
@@ -55,15 +55,16 @@ begins ways root marks h e = record {
   opened = λ m c. first_marked m (first_or_later root m [] c);
   placed = λ m c. absurd (nothing_in m c);
   known = λ m k. inr (elim (set_cases marks root m k) [
-      inl old ↦ absurd (none_marked (length ways) m (subst (λ l. IsMarked l m) e old))
+    | inl old ↦ absurd (none_marked (length ways) m (subst (λ l. IsMarked l m) e old))
     | inr is ↦ subst (λ x. Contains (root ∷ []) x) (sym is) (first_in root [])
-    ]);
+  ]);
   path = tt;
   rest = λ after (between, v, is). first_time [] between [] after root (nothing_in root) v (subst (Visits ways (between ++ root ∷ []) []) is (visited (between ++ root ∷ [])));
 }
   where
     n : length marks ≡ length ways
     n = ap length e ∙ length-replicate (length ways) false
+
     first_marked : (m : ℕ) → (root ≡ m) ⊎ Contains [] m → IsMarked (slice_set marks root true) m
     first_marked m (inl is) = subst (IsMarked (slice_set marks root true)) is (set_marks marks root (subst (λ i. root < i) (sym n) h))
     first_marked m (inr c) = absurd (nothing_in m c)
@@ -83,9 +84,11 @@ skips ways root seen order at next fs d free h k g = record {
   where
     to : ℕ
     to = (get_or (out_of ways at) next d).1
+
     by : Contains order to ⊎ Contains (at ∷ map (λ f. f.0) fs) to → Contains order to
     by (inl c) = c
     by (inr c) = absurd (free at next d h (open_leads ways at fs to g.path c))
+
     left : Contains order to
     left = by (g.known to k)
 
@@ -105,13 +108,17 @@ enters ways root seen order at next fs d h within new g = record {
   where
     to : ℕ
     to = (get_or (out_of ways at) next d).1
+
     inside : to < length seen
     inside = subst (λ n. to < n) (sym g.count) within
+
     open_marked : (m : ℕ) → (to ≡ m) ⊎ Contains (at ∷ map (λ f. f.0) fs) m → IsMarked (slice_set seen to true) m
     open_marked m (inl e) = subst (IsMarked (slice_set seen to true)) e (set_marks seen to inside)
     open_marked m (inr c) = set_keeps seen to m inside (g.opened m c)
+
     not_yet : Contains order to → ⊥
     not_yet c = true≢false (sym (g.placed to c) ∙ new)
+
     by : (m : ℕ) → IsMarked seen m ⊎ (m ≡ to) → Contains order m ⊎ Contains (to ∷ at ∷ map (λ f. f.0) fs) m
     by m (inr e) = inr (subst (Contains (to ∷ at ∷ map (λ f. f.0) fs)) (sym e) (first_in to (at ∷ map (λ f. f.0) fs)))
     by m (inl k) = elim (g.known m k) [ inl c ↦ inl c | inr c ↦ inr (later_in to m (at ∷ map (λ f. f.0) fs) c) ]
@@ -134,15 +141,17 @@ leaves ways root seen order order_then at next f fs h is g = record {
   where
     at_marked : IsMarked seen at
     at_marked = g.opened at (first_in at (f.0 ∷ map (λ x. x.0) fs))
+
     in_order : (m : ℕ) → Contains order m ⊎ (at ≡ m) → IsMarked seen m
     in_order m (inl c) = g.placed m c
     in_order m (inr e) = subst (IsMarked seen) e at_marked
+
     by : (m : ℕ) → Contains order m ⊎ Contains (at ∷ f.0 ∷ map (λ x. x.0) fs) m → Contains order_then m ⊎ Contains (f.0 ∷ map (λ x. x.0) fs) m
     by m (inl c) = inl (subst (λ o. Contains o m) (sym is) (Contains-append_left order (at ∷ []) m c))
     by m (inr c) = elim (first_or_later at m (f.0 ∷ map (λ x. x.0) fs) c) [
-        inl e ↦ inl (subst (λ o. Contains o m) (sym is) (subst (Contains (order ++ at ∷ [])) e (Contains-push order at)))
+      | inl e ↦ inl (subst (λ o. Contains o m) (sym is) (subst (Contains (order ++ at ∷ [])) e (Contains-push order at)))
       | inr d ↦ inr d
-      ]
+    ]
 
 pub ends : (ways : List (List Way)) (root : ℕ) (seen : List Bool) (order order_then : List ℕ) (at next : ℕ) → length (out_of ways at) ≤ next → order_then ≡ order ++ at ∷ [] → Goes ways root seen order at next [] → Visits ways [] (root ∷ []) order_then
 ends ways root seen order order_then at next h is g = g.rest order_then (leaves_to ways order order_then at next [] order_then h is refl)
@@ -205,12 +214,12 @@ met ways root seen seen_then order order_then at at_then next next_then around a
     (skips ways root seen order at next (reverse around) d free h (subst (IsMarked seen) is e) g, skip_falls ways seen at next (reverse around) h)
 met ways root seen seen_then order order_then at at_then next next_then around around_then to d false free h is within same skip first g e =
     let (s, r, a, n) = first e in
-    moved_to (Went ways root (load ways seen + open_load ways ((at, next) ∷ reverse around))) s same a n r
-    ( subst (Goes ways root (slice_set seen to true) order to 0) (sym (reverse-append around ((at, next + 1) ∷ [])))
-        (subst (λ x. Goes ways root (slice_set seen x true) order x 0 ((at, next + 1) ∷ reverse around)) (sym is)
-        (enters ways root seen order at next (reverse around) d h (subst (λ x. x < length ways) is within) (subst (λ x. get_or seen x false ≡ false) is e) g))
-    , subst (λ r. load ways (slice_set seen to true) + open_load ways ((to, 0) ∷ r) < load ways seen + open_load ways ((at, next) ∷ reverse around)) (sym (reverse-append around ((at, next + 1) ∷ [])))
-        (enter_falls ways seen at next to (reverse around) h within g.count e)
+    moved_to (Went ways root (load ways seen + open_load ways ((at, next) ∷ reverse around))) s same a n r (
+      subst (Goes ways root (slice_set seen to true) order to 0) (sym (reverse-append around ((at, next + 1) ∷ [])))
+          (subst (λ x. Goes ways root (slice_set seen x true) order x 0 ((at, next + 1) ∷ reverse around)) (sym is)
+          (enters ways root seen order at next (reverse around) d h (subst (λ x. x < length ways) is within) (subst (λ x. get_or seen x false ≡ false) is e) g)),
+      subst (λ r. load ways (slice_set seen to true) + open_load ways ((to, 0) ∷ r) < load ways seen + open_load ways ((at, next) ∷ reverse around)) (sym (reverse-append around ((at, next + 1) ∷ [])))
+          (enter_falls ways seen at next to (reverse around) h within g.count e),
     )
 
 pub meets : (outs : List (Vec Way Global)) (root : ℕ) (seen seen_then : List Bool) (order order_then : List ℕ) (at at_then next next_then : ℕ) (around around_then : List Frame) (out : Vec Way Global) (w : Way) →
@@ -239,10 +248,10 @@ ended outs root seen order order_then at next around out out_at past is none g =
 
 pub left : (outs : List (Vec Way Global)) (root : ℕ) (seen : List Bool) (order order_then : List ℕ) (at next : ℕ) (around around_then : List Frame) (f : Frame) (out : Vec Way Global) → out ≡ get_or outs at out → length out.items ≤ next → order_then ≡ order ++ at ∷ [] → around ≡ around_then ++ f ∷ [] →
     Goes (ways_in outs) root seen order at next (reverse around) → Went (ways_in outs) root (load (ways_in outs) seen + open_load (ways_in outs) ((at, next) ∷ reverse around)) seen order_then f.0 f.1 around_then
-left outs root seen order order_then at next around around_then f out out_at past is popped g =
-    ( leaves (ways_in outs) root seen order order_then at next f (reverse around_then) (left_count outs at next out g.within out_at past) is (subst (Goes (ways_in outs) root seen order at next) outer g)
-    , subst (λ r. load (ways_in outs) seen + open_load (ways_in outs) ((f.0, f.1) ∷ reverse around_then) < load (ways_in outs) seen + open_load (ways_in outs) ((at, next) ∷ r)) (sym outer) (leave_falls (ways_in outs) seen at next (f ∷ reverse around_then))
-    )
+left outs root seen order order_then at next around around_then f out out_at past is popped g = (
+  leaves (ways_in outs) root seen order order_then at next f (reverse around_then) (left_count outs at next out g.within out_at past) is (subst (Goes (ways_in outs) root seen order at next) outer g),
+  subst (λ r. load (ways_in outs) seen + open_load (ways_in outs) ((f.0, f.1) ∷ reverse around_then) < load (ways_in outs) seen + open_load (ways_in outs) ((at, next) ∷ r)) (sym outer) (leave_falls (ways_in outs) seen at next (f ∷ reverse around_then)),
+)
   where
     outer : reverse around ≡ f ∷ reverse around_then
     outer = ap reverse popped ∙ reverse-append around_then (f ∷ [])

@@ -4,3 +4,5 @@ pub mod Visiting
 pub mod Words
 pub mod Files
 pub mod Refusals
+pub mod Sentences
+pub mod Making

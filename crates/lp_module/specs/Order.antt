@@ -1,5 +1,5 @@
 -- The order of modules: the ways by which they lead to one another, circles, and the walk from the root.
-use Rattle.std.specs.Prelude.{◌≡◌, ℕ, ◌<◌, List, [], ◌∷◌, ◌++◌, map, get_or, All, Contains, Option, Some, None}
+use Rattle.std.specs.Prelude.{◌≡◌, ℕ, ◌<◌, List, [], ◌∷◌, ◌++◌, map, get_or, All, Contains}
 use Rattle.lp_base.specs.declared.place.Spot.{Spot}
 
 -- a word of accumulate with the number of the module that it names
@@ -43,3 +43,8 @@ pub data Visits (ways : List (List Way)) : List ℕ → List ℕ → List ℕ �
   visited : (before : List ℕ) → Visits ways before [] before
   again : (before rest after : List ℕ) (m : ℕ) → Contains before m → Visits ways before rest after → Visits ways before (m ∷ rest) after
   first_time : (before between rest after : List ℕ) (m : ℕ) → (Contains before m → ⊥) → Visits ways before (used_by ways m) between → Visits ways (between ++ m ∷ []) rest after → Visits ways before (m ∷ rest) after
+
+-- each of these modules stands once, behind all that it accumulates
+pub data Ordered (ways : List (List Way)) : List ℕ → Type 0 where
+  no_module : Ordered ways []
+  one_more : (front order : List ℕ) (m : ℕ) → Ordered ways front → (Contains front m → ⊥) → All (Contains front) (used_by ways m) → order ≡ front ++ m ∷ [] → Ordered ways order

@@ -1,11 +1,107 @@
 -- Why modules and queries are refused, and at which spots.
-use Rattle.std.specs.Prelude.{List}
+use Rattle.std.specs.Prelude.{◌≡◌, ◌≢◌, ℕ, ◌⊎◌, ◌≤◌, List, Contains}
+use Rattle.lp_base.specs.declared.limit.Limit.{Limit}
+use Rattle.lp_base.specs.declared.limit.Limit.TheVariants as limit
+use Rattle.lp_base.specs.declared.place.Spot.{Spot}
+use Rattle.lp_calculus.specs.Term.{Term}
+use Rattle.lp_calculus.specs.Normal.{nodes}
+use Rattle.lp_syntax.specs.declared.text.ModuleText.{ModuleText}
+use Rattle.lp_syntax.specs.declared.text.RawTerm.{RawTerm}
+use Rattle.lp_syntax.specs.declared.text.Sentence.{Sentence}
+use Rattle.lp_syntax.specs.declared.text.Sentence.TheVariants.{Says}
+use Rattle.lp_term.specs.Frame.{IsBetaForm, IsDeepBeta}
+use Rattle.lp_term.specs.declared.reduce.TermRefusal.TheVariants.{Deep}
+use Rattle.lp_sig.specs.Pieces.{spelled}
+use Rattle.lp_sig.specs.declared.fault.SigFault.TheVariants as sig
+use Rattle.lp_sig.specs.declared.module_fault.ModuleSigFault.{ModuleSigFault}
+use Rattle.lp_sig.specs.declared.module_fault.ModuleSigFault.TheVariants as declared_wrong
+use Rattle.lp_sig.specs.declared.signature.Signature.{Signature}
+use Rattle.lp_infer.specs.Refusals.{IsRefusal as IsInferRefusal}
+use Rattle.lp_infer.specs.declared.fault.InferFault.TheVariants as infer
 use Rattle.lp_module.specs.Order.{Way, IsFirstCircle}
 use Rattle.lp_module.specs.declared.fault.ModuleFault.{ModuleFault}
 use Rattle.lp_module.specs.declared.fault.ModuleFault.TheVariants as fault
 
--- why there is no order; want of memory alone is free
+-- In each of these want of memory alone is free.
+
+-- why there is no order
 abbrev pub IsOrderRefusal : List (List Way) → ModuleFault → Type 0
 IsOrderRefusal ways (fault.Cyclic word) = IsFirstCircle ways word
 IsOrderRefusal ways fault.Memory = Unit {0}
 IsOrderRefusal ways _ = ⊥
+
+-- the limit on normal forms: a formula takes more than 1,000,000 contractions, or its form has more nodes
+abbrev pub IsLong : Term → Type 0
+IsLong formula = (most : ℕ) × IsDeepBeta 1000000 1000000 formula (Deep most)
+
+-- a formula has a normal form within the limit
+abbrev pub IsShort : Term → Type 0
+IsShort formula = (form : Term) × IsBetaForm 1000000 formula form × (nodes form ≤ 1000000)
+
+-- the limits on the normal form of a sentence or query
+abbrev pub IsFormLimit : Term → Limit → Type 0
+IsFormLimit formula limit.NormalForm = IsLong formula
+IsFormLimit formula limit.Nesting = Unit {0}
+IsFormLimit formula limit.Arguments = Unit {0}
+IsFormLimit formula _ = ⊥
+
+-- why a sentence or query has not its form: the spot is that of its first token
+abbrev pub IsFormFault : Term → Spot → ModuleFault → Type 0
+IsFormFault formula first (fault.NotClause s) = s ≡ first
+IsFormFault formula first (fault.InTerm s) = s ≡ first
+IsFormFault formula first (fault.Limit l) = IsFormLimit formula l
+IsFormFault formula first fault.Memory = Unit {0}
+IsFormFault formula first _ = ⊥
+
+-- why a sentence has no typing: as lp_infer says, or a head has too many arguments as written
+abbrev pub IsTypingFault : Signature → List ℕ → RawTerm → ModuleFault → Type 0
+IsTypingFault names text raw (fault.Infer (infer.Undeclared s)) = IsInferRefusal names text raw (infer.Undeclared s)
+IsTypingFault names text raw (fault.Infer (infer.NoTyping s)) = IsInferRefusal names text raw (infer.NoTyping s)
+IsTypingFault names text raw (fault.Infer infer.Memory) = ⊥
+IsTypingFault names text raw (fault.Limit l) = l ≡ limit.Arguments
+IsTypingFault names text raw fault.Memory = Unit {0}
+IsTypingFault names text raw _ = ⊥
+
+-- a sentence of a module has no typing
+abbrev pub IsUntyped : Signature → List ℕ → List Sentence → ModuleFault → Type 0
+IsUntyped names text lines e = (raw : RawTerm) × Contains lines (Says raw) × IsTypingFault names text raw e
+
+-- a sentence of a module has not the form of a clause
+abbrev pub IsUnformed : List Sentence → ModuleFault → Type 0
+IsUnformed lines e = (raw : RawTerm) × (formula : Term) × Contains lines (Says raw) × IsFormFault formula raw.first e
+
+-- a refusal of a module's declarations, as a module's
+abbrev pub declaration_fault : ModuleSigFault → ModuleFault
+declaration_fault (declared_wrong.Sig sig.Memory) = fault.Memory
+declaration_fault (declared_wrong.Sig (sig.Limit l)) = fault.Limit l
+declaration_fault (declared_wrong.Sig (sig.UnknownKind s)) = fault.Sig (sig.UnknownKind s)
+declaration_fault (declared_wrong.Sig (sig.Arity s)) = fault.Sig (sig.Arity s)
+declaration_fault (declared_wrong.Sig (sig.Differ s)) = fault.Sig (sig.Differ s)
+declaration_fault (declared_wrong.Sig (sig.CyclicAbbreviation s)) = fault.Sig (sig.CyclicAbbreviation s)
+declaration_fault (declared_wrong.Sig (sig.CyclicSignature s)) = fault.Sig (sig.CyclicSignature s)
+declaration_fault (declared_wrong.Sig (sig.Header s)) = fault.Sig (sig.Header s)
+declaration_fault (declared_wrong.Exported s) = fault.Otherwise s
+declaration_fault (declared_wrong.Undeclared s) = fault.Infer (infer.Undeclared s)
+
+-- a declaration of a module is refused
+abbrev pub IsUndeclared : ModuleFault → Type 0
+IsUndeclared e = (f : ModuleSigFault) × (e ≡ declaration_fault f)
+
+-- why a module with the right header is refused: a declaration, the typing of a sentence or the form of one
+abbrev pub IsWrongInside : List ℕ → ModuleText → ModuleFault → Type 0
+IsWrongInside text m e = (e ≡ fault.Memory) ⊎ (IsUndeclared e ⊎ (((names : Signature) × IsUntyped names text m.lines.items e) ⊎ IsUnformed m.lines.items e))
+
+-- why a module is refused: a header that is another word than the name of the file goes first
+abbrev pub IsRefusal : List ℕ → ModuleText → (name : List ℕ) → ModuleFault → Type 0
+IsRefusal text m name e = ((spelled text m.header ≢ name) × (e ≡ fault.Header m.header)) ⊎ ((spelled text m.header ≡ name) × IsWrongInside text m e)
+
+-- the limits on the copies of modules and on their names
+abbrev pub IsProgramLimit : Limit → Type 0
+IsProgramLimit limit.Copies = Unit {0}
+IsProgramLimit limit.Names = Unit {0}
+IsProgramLimit _ = ⊥
+
+abbrev pub IsProgramFault : ModuleFault → Type 0
+IsProgramFault (fault.Limit l) = IsProgramLimit l
+IsProgramFault fault.Memory = Unit {0}
+IsProgramFault _ = ⊥

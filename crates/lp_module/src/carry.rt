@@ -1,5 +1,6 @@
 // Types and terms of a module with their kinds and constants renumbered, put into the program's bank.
-ghost use Rattle.std.specs.Prelude.{◌≡◌, ◌<◌, length, map, true, All};
+ghost use Rattle.std.specs.Prelude.{◌≡◌, ◌<◌, length, map, true, All, IfOk};
+ghost use Rattle.lp_term.specs.Nodes.{Extends};
 
 use crate::numbers::{Names, Numbers};
 use indexmap::IndexMap;
@@ -37,32 +38,38 @@ fn are_terms(bank: &Bank, ids: &[TermId]) -> bool
     true
 }
 
-fn put_con(bank: &mut Bank, kind: u32, parts: &[TypeId]) -> Result<TypeId, Memory> {
+fn put_con(bank: &mut Bank, kind: u32, parts: &[TypeId]) -> Result<TypeId, Memory>
+    ensures { Extends bank.old bank.new }
+{
     if !are_types(bank, parts) {
         return Err(Memory);
     }
     bank.put_type(TypeNode::Con(kind, parts))
 }
 
-fn put_arrow(bank: &mut Bank, from: TypeId, to: TypeId) -> Result<TypeId, Memory> {
+fn put_arrow(bank: &mut Bank, from: TypeId, to: TypeId) -> Result<TypeId, Memory>
+    ensures { Extends bank.old bank.new }
+{
     if from.0 >= bank.type_count() || to.0 >= bank.type_count() {
         return Err(Memory);
     }
     bank.put_type(TypeNode::Arrow(from, to))
 }
 
-pub(crate) fn put_constant(
-    bank: &mut Bank,
-    number: u32,
-    types: &[TypeId],
-) -> Result<TermId, Memory> {
+pub(crate) fn put_constant(bank: &mut Bank, number: u32, types: &[TypeId]) -> Result<TermId, Memory>
+    ensures kept { Extends bank.old bank.new }
+    ensures within { IfOk result (λ id. id.0 < length bank.new.terms) }
+{
     if !are_types(bank, types) {
         return Err(Memory);
     }
     bank.put_term(TermNode::Const(number, types))
 }
 
-pub(crate) fn put_abstraction(bank: &mut Bank, body: TermId) -> Result<TermId, Memory> {
+pub(crate) fn put_abstraction(bank: &mut Bank, body: TermId) -> Result<TermId, Memory>
+    ensures kept { Extends bank.old bank.new }
+    ensures within { IfOk result (λ id. id.0 < length bank.new.terms) }
+{
     if body.0 >= bank.term_count() {
         return Err(Memory);
     }
@@ -73,7 +80,10 @@ pub(crate) fn put_application(
     bank: &mut Bank,
     head: TermId,
     arguments: &[TermId],
-) -> Result<TermId, Memory> {
+) -> Result<TermId, Memory>
+    ensures kept { Extends bank.old bank.new }
+    ensures within { IfOk result (λ id. id.0 < length bank.new.terms) }
+{
     if arguments.is_empty() || head.0 >= bank.term_count() || !are_terms(bank, arguments) {
         return Err(Memory);
     }
@@ -119,13 +129,16 @@ impl Types {
     }
 
     // Looks at a type that was not put yet; its parts come first.
+    #[tactic(auto, using(crate::proofs::Keeps::kept_then))]
     fn visit(
         &mut self,
         from: &Bank,
         id: TypeId,
         to: &mut Bank,
         work: &mut Vec<Task>,
-    ) -> Result<(), Memory> {
+    ) -> Result<(), Memory>
+        ensures { Extends to.old to.new }
+    {
         if self.made.contains_key(&id.0) {
             return Ok(());
         }
@@ -152,13 +165,16 @@ impl Types {
     }
 
     // Puts a type whose parts were put.
+    #[tactic(auto, using(crate::proofs::Keeps::kept_then))]
     fn build(
         &mut self,
         from: &Bank,
         id: TypeId,
         kinds: &Numbers,
         to: &mut Bank,
-    ) -> Result<(), Memory> {
+    ) -> Result<(), Memory>
+        ensures { Extends to.old to.new }
+    {
         if id.0 >= from.type_count() {
             return Err(Memory);
         }
@@ -181,13 +197,16 @@ impl Types {
     }
 
     /// The type with its kinds renumbered.
+    #[tactic(auto, using(crate::proofs::Keeps::kept_then))]
     pub(crate) fn carry(
         &mut self,
         from: &Bank,
         id: TypeId,
         kinds: &Numbers,
         to: &mut Bank,
-    ) -> Result<TypeId, Memory> {
+    ) -> Result<TypeId, Memory>
+        ensures { Extends to.old to.new }
+    {
         let mut work = Vec::new(self.alloc);
         work.push(Task::Visit(id))?;
         for _ in 0..u64::MAX {
@@ -200,13 +219,16 @@ impl Types {
         Err(Memory)
     }
 
+    #[tactic(auto, using(crate::proofs::Keeps::kept_then))]
     fn carry_all(
         &mut self,
         from: &Bank,
         ids: &[TypeId],
         kinds: &Numbers,
         to: &mut Bank,
-    ) -> Result<Vec<TypeId>, Memory> {
+    ) -> Result<Vec<TypeId>, Memory>
+        ensures { Extends to.old to.new }
+    {
         let mut all = Vec::new(self.alloc);
         for id in ids.iter().copied() {
             let made = self.carry(from, id, kinds, to)?;
@@ -233,6 +255,7 @@ fn made_terms(alloc: Global, made: &[TermId], ids: &[TermId]) -> Result<Vec<Term
 }
 
 // A term whose parts were put.
+#[tactic(auto, using(crate::proofs::Keeps::kept_then))]
 fn carry_term(
     alloc: Global,
     from: &Bank,
@@ -243,6 +266,7 @@ fn carry_term(
     to: &mut Bank,
 ) -> Result<TermId, Memory>
     requires { id.0 < length from.now.terms }
+    ensures { Extends to.old to.new }
 {
     match from.term_node(id) {
         TermNode::Index(index) => to.put_term(TermNode::Index(index)),
@@ -267,12 +291,15 @@ fn carry_term(
 }
 
 /// The terms of a bank, in order, with their kinds and constants renumbered.
+#[tactic(auto, using(crate::proofs::Keeps::kept_then))]
 pub(crate) fn carry_terms(
     alloc: Global,
     from: &Bank,
     names: &Names,
     to: &mut Bank,
-) -> Result<Vec<TermId>, Memory> {
+) -> Result<Vec<TermId>, Memory>
+    ensures { Extends to.old to.new }
+{
     let mut types = Types::new(alloc);
     let mut made = Vec::new(alloc);
     for at in 0..from.term_count() {

@@ -83,11 +83,7 @@ fn reach_all(alloc: Global, ways: &Vec<Vec<(Spot, usize)>>) -> Result<Vec<Vec<bo
 }
 
 // The first of these words that leads back to a module.
-fn first_back(
-    out: &Vec<(Spot, usize)>,
-    reached: &Vec<Vec<bool>>,
-    home: usize,
-) -> Option<Spot>
+fn first_back(out: &Vec<(Spot, usize)>, reached: &Vec<Vec<bool>>, home: usize) -> Option<Spot>
     requires places { All (λ w. w.1 < length reached.now.items) out.now.items }
     requires home { home < length reached.now.items }
     requires square { All (λ marks. length marks.items ≡ length reached.now.items) reached.now.items }

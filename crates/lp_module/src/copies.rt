@@ -1,4 +1,8 @@
 // The program of a set of modules.
+ghost use Rattle.std.specs.Prelude.{◌≡◌, ◌<◌, length, IfErr, IfOk, OnOk};
+ghost use Rattle.lp_module.specs.Refusals.{IsProgramFault};
+ghost use Rattle.lp_module.specs.Sentences.{AreWithin};
+ghost use Rattle.lp_module.specs.Making.{IsSoFar, IsMade};
 
 use crate::carry::{Types, carry_terms};
 use crate::fault::ModuleFault;
@@ -67,7 +71,9 @@ fn shown(alloc: Global, name: &[u8], hidden: u16) -> Result<Vec<u8>, Memory> {
 }
 
 impl Making {
-    fn new(alloc: Global) -> Making {
+    fn new(alloc: Global) -> Making
+        ensures { IsSoFar result }
+    {
         Making {
             alloc,
             bank: Bank::new(alloc),
@@ -80,7 +86,9 @@ impl Making {
         }
     }
 
-    fn add_kind(&mut self, name: &[u8], hidden: u16) -> Result<(), Memory> {
+    fn add_kind(&mut self, name: &[u8], hidden: u16) -> Result<(), Memory>
+        ensures { OnOk result (IsMade self.old self.new) }
+    {
         let name = Vec::from_slice(self.alloc, name)?;
         self.kinds.push(GlobalName { name, hidden })?;
         Ok(())
@@ -91,7 +99,9 @@ impl Making {
         entry: &ConstantEntry,
         hidden: u16,
         scheme: TypeId,
-    ) -> Result<(), Memory> {
+    ) -> Result<(), Memory>
+        ensures { OnOk result (IsMade self.old self.new) }
+    {
         let name = Vec::from_slice(self.alloc, entry.name.as_slice())?;
         let shown = shown(self.alloc, entry.name.as_slice(), hidden)?;
         self.constants.push(GlobalName { name, hidden })?;
@@ -104,7 +114,9 @@ impl Making {
     }
 
     // The global names, which are those that the root exports.
-    fn add_global(&mut self, root: &Open<'_>) -> Result<(), Memory> {
+    fn add_global(&mut self, root: &Open<'_>) -> Result<(), Memory>
+        ensures { OnOk result (IsMade self.old self.new) }
+    {
         let signature = &root.module.signature;
         for kind in root.names.exported_kinds.iter().copied() {
             let Some(entry) = signature.kinds().get(kind) else {
@@ -129,7 +141,9 @@ impl Making {
     }
 
     // The hidden kinds of a copy.
-    fn add_hidden_kinds(&mut self, copy: &Open<'_>) -> Result<(), Memory> {
+    fn add_hidden_kinds(&mut self, copy: &Open<'_>) -> Result<(), Memory>
+        ensures { OnOk result (IsMade self.old self.new) }
+    {
         let kinds = copy.module.signature.kinds();
         for number in copy.module.hidden_kinds.iter().copied() {
             let Some(entry) = kinds.get(number.saturating_sub(FIRST_KIND) as usize) else {
@@ -142,7 +156,9 @@ impl Making {
     }
 
     // The hidden constants of a copy.
-    fn add_hidden_constants(&mut self, copy: &Open<'_>) -> Result<(), Memory> {
+    fn add_hidden_constants(&mut self, copy: &Open<'_>) -> Result<(), Memory>
+        ensures { OnOk result (IsMade self.old self.new) }
+    {
         let signature = &copy.module.signature;
         let mut types = Types::new(self.alloc);
         for number in copy.module.hidden_constants.iter().copied() {
@@ -166,7 +182,9 @@ impl Making {
         Ok(())
     }
 
-    fn add_clause(&mut self, type_vars: u32, formula: TermId) -> Result<(), Memory> {
+    fn add_clause(&mut self, type_vars: u32, formula: TermId) -> Result<(), Memory>
+        ensures { OnOk result (IsMade self.old self.new) }
+    {
         if formula.0 >= self.bank.term_count() {
             return Err(Memory);
         }
@@ -175,7 +193,9 @@ impl Making {
     }
 
     // The clauses of a copy.
-    fn add_clauses(&mut self, copy: &Open<'_>) -> Result<(), Memory> {
+    fn add_clauses(&mut self, copy: &Open<'_>) -> Result<(), Memory>
+        ensures { OnOk result (IsMade self.old self.new) }
+    {
         let made = carry_terms(self.alloc, &copy.module.bank, &copy.names, &mut self.bank)?;
         for clause in copy.module.clauses.iter() {
             let Some(formula) = made.get(clause.formula.0).copied() else {
@@ -187,13 +207,19 @@ impl Making {
     }
 
     // A copy, behind those below it.
-    fn add_copy(&mut self, copy: &Open<'_>) -> Result<(), Memory> {
+    fn add_copy(&mut self, copy: &Open<'_>) -> Result<(), Memory>
+        ensures { OnOk result (IsMade self.old self.new) }
+    {
         self.add_hidden_kinds(copy)?;
         self.add_hidden_constants(copy)?;
         self.add_clauses(copy)
     }
 
-    fn finish(self) -> Assembled {
+    fn finish(self) -> Assembled
+        requires { IsSoFar self }
+        ensures clauses { AreWithin result.program.bank result.program.clauses.items }
+        ensures constants { length result.program.constants.items ≡ length result.constants.items }
+    {
         Assembled {
             program: Program {
                 bank: self.bank,
@@ -211,7 +237,9 @@ impl Making {
         modules: &'a [Module],
         copied: Copied,
         open: &mut Vec<Open<'a>>,
-    ) -> Result<(), Memory> {
+    ) -> Result<(), Memory>
+        ensures { OnOk result (IsMade self.old self.new) }
+    {
         let Some(module) = modules.get(copied.module) else {
             return Err(Memory);
         };
@@ -226,6 +254,34 @@ impl Making {
         open.push(copy)?;
         Ok(())
     }
+
+    // Enters a copy, or leaves the last open one.
+    fn take<'a>(
+        &mut self,
+        modules: &'a [Module],
+        tree: &Tree,
+        step: Step,
+        open: &mut Vec<Open<'a>>,
+    ) -> Result<(), Memory>
+        ensures { OnOk result (IsMade self.old self.new) }
+    {
+        match step {
+            Step::Enter(at) => {
+                let Some(copied) = tree.copies.get(at) else {
+                    return Err(Memory);
+                };
+                self.enter(modules, *copied, open)?;
+                return Ok(());
+            }
+            Step::Leave(_) => {
+                let Some(copy) = open.pop() else {
+                    return Err(Memory);
+                };
+                self.add_copy(&copy)?;
+                return Ok(());
+            }
+        }
+    }
 }
 
 /// The program of the modules that the root accumulates, copy by copy: those below a copy in order, then the copy itself. The global
@@ -234,25 +290,16 @@ impl Making {
 /// # Errors
 /// `Limit(Copies)` where there are more than 4,096 copies, else `Limit(Names)` where a kind's or a constant's number would not be below
 /// 65,535.
-pub fn assemble(alloc: Global, modules: &[Module], root: u32) -> Result<Assembled, ModuleFault> {
+pub fn assemble(alloc: Global, modules: &[Module], root: u32) -> Result<Assembled, ModuleFault>
+    ensures clauses { IfOk result (λ a. AreWithin a.program.bank a.program.clauses.items) }
+    ensures constants { IfOk result (λ a. length a.program.constants.items ≡ length a.constants.items) }
+    ensures refused { IfErr result IsProgramFault }
+{
     let tree = Tree::of(alloc, modules, root as usize)?;
     let mut making = Making::new(alloc);
     let mut open = Vec::new(alloc);
-    for step in &tree.steps {
-        match step {
-            Step::Enter(at) => {
-                let Some(copied) = tree.copies.get(*at) else {
-                    return Err(ModuleFault::Memory);
-                };
-                making.enter(modules, *copied, &mut open)?;
-            }
-            Step::Leave(_) => {
-                let Some(copy) = open.pop() else {
-                    return Err(ModuleFault::Memory);
-                };
-                making.add_copy(&copy)?;
-            }
-        }
+    for at in 0..tree.steps.len() {
+        making.take(modules, &tree, tree.steps[at], &mut open)?;
     }
     Ok(making.finish())
 }

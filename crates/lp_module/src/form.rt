@@ -1,6 +1,8 @@
 // The form of clauses and queries, and the limits on their normal forms.
-ghost use Rattle.std.specs.Prelude.{◌<◌, length, IfOk};
-ghost use Rattle.lp_term.specs.Nodes.{Extends};
+ghost use Rattle.std.specs.Prelude.{◌<◌, ◌≤◌, length, IfOk, IfErr, OnOk};
+ghost use Rattle.lp_base.specs.declared.place.Spot.{Spot};
+ghost use Rattle.lp_term.specs.Nodes.{Extends, tree};
+ghost use Rattle.lp_module.specs.Refusals.{IsFormFault, IsShort};
 
 use crate::fault::ModuleFault;
 use crate::heads::Heads;
@@ -22,6 +24,8 @@ const TYPE_VARIABLES: u64 = 255;
 fn normal_of(alloc: Global, bank: &mut Bank, formula: TermId) -> Result<TermId, ModuleFault>
     ensures kept { Extends bank.old bank.new }
     ensures within { IfOk result (λ id. id.0 < length bank.new.terms) }
+    ensures short { OnOk result (IsShort (tree bank.old formula.0)) }
+    ensures refused { (first : Spot) → IfErr result (IsFormFault (tree bank.old formula.0) first) }
 {
     if formula.0 >= bank.term_count() {
         return Err(ModuleFault::Memory);
@@ -46,6 +50,9 @@ pub(crate) fn check_form(
     first: Spot,
 ) -> Result<(), ModuleFault>
     ensures kept { Extends bank.old bank.new }
+    ensures short { OnOk result (IsShort (tree bank.old typed.now.formula.0)) }
+    ensures variables { OnOk result (typed.now.type_vars ≤ 255) }
+    ensures refused { IfErr result (IsFormFault (tree bank.old typed.now.formula.0) first) }
 {
     let normal = normal_of(alloc, bank, typed.formula)?;
     let mut judge = Judge::new(alloc, heads);
@@ -53,7 +60,10 @@ pub(crate) fn check_form(
     if verdict.deep {
         return Err(ModuleFault::Limit(Limit::Nesting));
     }
-    if verdict.wide || typed.type_vars > TYPE_VARIABLES {
+    if verdict.wide {
+        return Err(ModuleFault::Limit(Limit::Arguments));
+    }
+    if typed.type_vars > TYPE_VARIABLES {
         return Err(ModuleFault::Limit(Limit::Arguments));
     }
     if verdict.in_term {
@@ -73,6 +83,9 @@ pub fn query_form(
     first: Spot,
 ) -> Result<(), ModuleFault>
     ensures kept { Extends bank.old bank.new }
+    ensures short { OnOk result (IsShort (tree bank.old query.now.formula.0)) }
+    ensures variables { OnOk result (query.now.type_vars ≤ 255) }
+    ensures refused { IfErr result (IsFormFault (tree bank.old query.now.formula.0) first) }
 {
     check_form(alloc, bank, &Heads::Any, Position::Goal, query, first)
 }

@@ -1,4 +1,12 @@
 // What a module means.
+ghost use Rattle.std.specs.Prelude.{◌≡◌, ◌≢◌, ◌+◌, ◌-◌, ◌≤◌, ◌⊎◌, List, length, map, IfOk, IfErr, OnOk};
+ghost use Rattle.std.specs.List.{range_with_len};
+ghost use Rattle.lp_syntax.specs.declared.text.Sentence.{Sentence};
+ghost use Rattle.lp_sig.specs.Pieces.{spelled};
+ghost use Rattle.lp_module.specs.Refusals.{IsRefusal, IsUnformed, declaration_fault};
+ghost use Rattle.lp_module.specs.Sentences.{said, AreSaid, AreWithin};
+ghost use Rattle.lp_module.specs.Words.{accumulate_words};
+ghost use Rattle.lp_module.specs.declared.fault.ModuleFault.TheVariants as fault;
 
 use crate::carry::carry_terms;
 use crate::fault::ModuleFault;
@@ -19,7 +27,10 @@ use lp_term::Bank;
 use std::alloc::Global;
 
 // A header has the name of its file.
-fn check_header(source: &[u8], text: &ModuleText, expected: &str) -> Result<(), ModuleFault> {
+fn check_header(source: &[u8], text: &ModuleText, expected: &str) -> Result<(), ModuleFault>
+    ensures same { OnOk result (spelled source.now text.now.header ≡ expected.now) }
+    ensures refused { IfErr result (λ e. (spelled source.now text.now.header ≢ expected.now) × (e ≡ fault.Header text.now.header)) }
+{
     if spelled_at(source, text.header) != expected.as_bytes() {
         return Err(ModuleFault::Header(text.header));
     }
@@ -27,37 +38,57 @@ fn check_header(source: &[u8], text: &ModuleText, expected: &str) -> Result<(), 
 }
 
 // A refusal of a module's declarations.
-fn declaration_fault(fault: ModuleSigFault) -> ModuleFault {
+fn declaration_fault(fault: ModuleSigFault) -> ModuleFault
+    ensures { result ≡ declaration_fault fault }
+{
     match fault {
         ModuleSigFault::Sig(SigFault::Memory) => ModuleFault::Memory,
         ModuleSigFault::Sig(SigFault::Limit(limit)) => ModuleFault::Limit(limit),
-        ModuleSigFault::Sig(other) => ModuleFault::Sig(other),
+        ModuleSigFault::Sig(SigFault::UnknownKind(spot)) => {
+            ModuleFault::Sig(SigFault::UnknownKind(spot))
+        }
+        ModuleSigFault::Sig(SigFault::Arity(spot)) => ModuleFault::Sig(SigFault::Arity(spot)),
+        ModuleSigFault::Sig(SigFault::Differ(spot)) => ModuleFault::Sig(SigFault::Differ(spot)),
+        ModuleSigFault::Sig(SigFault::CyclicAbbreviation(spot)) => {
+            ModuleFault::Sig(SigFault::CyclicAbbreviation(spot))
+        }
+        ModuleSigFault::Sig(SigFault::CyclicSignature(spot)) => {
+            ModuleFault::Sig(SigFault::CyclicSignature(spot))
+        }
+        ModuleSigFault::Sig(SigFault::Header(spot)) => ModuleFault::Sig(SigFault::Header(spot)),
         ModuleSigFault::Exported(spot) => ModuleFault::Otherwise(spot),
         ModuleSigFault::Undeclared(spot) => ModuleFault::Infer(InferFault::Undeclared(spot)),
     }
 }
 
-// The numbers from one on, as many as there are names behind the first ones.
+// The numbers of the names behind the exported ones. A signature has far fewer names than there are numbers.
 fn hidden_numbers(
     alloc: Global,
     first: u32,
     exported: usize,
     all: usize,
-) -> Result<Vec<u32>, Memory> {
+) -> Result<Vec<u32>, Memory>
+    ensures { IfOk result (λ numbers. numbers.items ≡ range_with_len (first + exported) (all - exported)) }
+{
+    if all > (u32::MAX - first) as usize {
+        return Err(Memory);
+    }
+    let count = all.saturating_sub(exported);
     let mut numbers = Vec::new(alloc);
-    for place in exported..all {
-        let behind = place.min(u32::MAX as usize) as u32;
-        numbers.push(first.saturating_add(behind))?;
+    for at in 0..count {
+        numbers.push(first + (exported + at) as u32)?;
     }
     Ok(numbers)
 }
 
 // The words of accumulate, a repeated one as often as it stands.
-fn uses_of(alloc: Global, source: &[u8], text: &ModuleText) -> Result<Vec<Vec<u8>>, Memory> {
+fn uses_of(alloc: Global, source: &[u8], text: &ModuleText) -> Result<Vec<Vec<u8>>, Memory>
+    ensures { IfOk result (λ uses. map (λ name. name.items) uses.items ≡ map (spelled source.now) (accumulate_words text.now.lines.items)) }
+{
     let words = accumulated(alloc, text)?;
     let mut uses = Vec::new(alloc);
-    for word in &words {
-        let name = Vec::from_slice(alloc, spelled_at(source, *word))?;
+    for at in 0..words.len() {
+        let name = Vec::from_slice(alloc, spelled_at(source, words[at]))?;
         uses.push(name)?;
     }
     Ok(uses)
@@ -76,10 +107,13 @@ fn check_clauses(
     signature: &Signature,
     bank: &Bank,
     sentences: &[TypedSentence],
-) -> Result<(), ModuleFault> {
+) -> Result<(), ModuleFault>
+    ensures { (lines : List Sentence) → AreSaid lines sentences.now → IfErr result (λ e. (e ≡ fault.Memory) ⊎ IsUnformed lines e) }
+{
     let heads = Heads::of(alloc, signature)?;
     let mut scratch = copy_of(alloc, bank)?;
-    for sentence in sentences {
+    for at in 0..sentences.len() {
+        let sentence = &sentences[at];
         check_form(
             alloc,
             &mut scratch,
@@ -106,7 +140,16 @@ pub fn elaborate(
     expected: &str,
     own: &Signature,
     used: &[Signature],
-) -> Result<Module, ModuleFault> {
+) -> Result<Module, ModuleFault>
+    ensures header { OnOk result (spelled source.now text.now.header ≡ expected.now) }
+    ensures name { IfOk result (λ m. m.name.items ≡ expected.now) }
+    ensures uses { IfOk result (λ m. map (λ name. name.items) m.uses.items ≡ map (spelled source.now) (accumulate_words text.now.lines.items)) }
+    ensures hidden_kinds { IfOk result (λ m. m.hidden_kinds.items ≡ range_with_len (8 + length own.now.kinds.items) (length m.signature.kinds.items - length own.now.kinds.items)) }
+    ensures hidden_constants { IfOk result (λ m. m.hidden_constants.items ≡ range_with_len (32 + length own.now.constants.items) (length m.signature.constants.items - length own.now.constants.items)) }
+    ensures count { IfOk result (λ m. length m.clauses.items ≡ length (said text.now.lines.items)) }
+    ensures clauses { IfOk result (λ m. AreWithin m.bank m.clauses.items) }
+    ensures refused { IfErr result (IsRefusal source.now text.now expected.now) }
+{
     check_header(source, text, expected)?;
     let signature = match module_signature(alloc, source, text, own, used) {
         Ok(signature) => signature,

@@ -1,4 +1,9 @@
 // The sentences of a module: their typing, and the closed formulas.
+ghost use Rattle.std.specs.Prelude.{◌≡◌, ◌≤◌, ◌<◌, ◌⊎◌, length, IfOk, IfErr};
+ghost use Rattle.lp_term.specs.Nodes.{Extends};
+ghost use Rattle.lp_module.specs.Refusals.{IsTypingFault, IsUntyped};
+ghost use Rattle.lp_module.specs.Sentences.{AreSaid, AreWithin};
+ghost use Rattle.lp_module.specs.declared.fault.ModuleFault.TheVariants as fault;
 
 use crate::carry::{put_abstraction, put_application, put_constant};
 use crate::fault::ModuleFault;
@@ -50,7 +55,10 @@ fn typed_sentence(
     source: &[u8],
     raw: &RawTerm,
     bank: &mut Bank,
-) -> Result<TypedSentence, ModuleFault> {
+) -> Result<TypedSentence, ModuleFault>
+    ensures first { IfOk result (λ sentence. sentence.first ≡ raw.now.first) }
+    ensures refused { IfErr result (IsTypingFault signature.now source.now raw.now) }
+{
     if has_many_arguments(alloc, raw)? {
         return Err(ModuleFault::Limit(Limit::Arguments));
     }
@@ -60,7 +68,8 @@ fn typed_sentence(
             typed,
         }),
         Err(InferFault::Memory) => Err(ModuleFault::Memory),
-        Err(fault) => Err(ModuleFault::Infer(fault)),
+        Err(InferFault::Undeclared(spot)) => Err(ModuleFault::Infer(InferFault::Undeclared(spot))),
+        Err(InferFault::NoTyping(spot)) => Err(ModuleFault::Infer(InferFault::NoTyping(spot))),
     }
 }
 
@@ -71,27 +80,39 @@ pub(crate) fn typed_sentences(
     source: &[u8],
     text: &ModuleText,
     bank: &mut Bank,
-) -> Result<Vec<TypedSentence>, ModuleFault> {
+) -> Result<Vec<TypedSentence>, ModuleFault>
+    ensures said { IfOk result (λ sentences. AreSaid text.now.lines.items sentences.items) }
+    ensures refused { IfErr result (λ e. (e ≡ fault.Memory) ⊎ IsUntyped signature.now source.now text.now.lines.items e) }
+{
     let mut sentences = Vec::new(alloc);
-    for line in &text.lines {
-        let Sentence::Says(raw) = line else {
-            continue;
-        };
-        let sentence = typed_sentence(alloc, signature, source, raw, bank)?;
-        sentences.push(sentence)?;
+    for at in 0..text.lines.len() {
+        let line = &text.lines[at];
+        match line {
+            Sentence::Declares(_) => continue,
+            Sentence::Says(raw) => {
+                let sentence = typed_sentence(alloc, signature, source, raw, bank)?;
+                sentences.push(sentence)?;
+            }
+        }
     }
     Ok(sentences)
 }
 
 // `pi x\ body` at a type.
-fn put_pi(bank: &mut Bank, at: TypeId, body: TermId) -> Result<TermId, Memory> {
+fn put_pi(bank: &mut Bank, at: TypeId, body: TermId) -> Result<TermId, Memory>
+    ensures kept { Extends bank.old bank.new }
+    ensures within { IfOk result (λ id. id.0 < length bank.new.terms) }
+{
     let inner = put_abstraction(bank, body)?;
     let head = put_constant(bank, PI, &[at])?;
     put_application(bank, head, &[inner])
 }
 
-/// The formula of a sentence, its variables closed by `pi`, the first outermost.
-pub(crate) fn closed(bank: &mut Bank, typed: &Typed) -> Result<ClauseFormula, Memory> {
+// The formula of a sentence, its variables closed by `pi`, the first outermost.
+fn closed(bank: &mut Bank, typed: &Typed) -> Result<ClauseFormula, Memory>
+    ensures kept { Extends bank.old bank.new }
+    ensures within { IfOk result (λ clause. clause.formula.0 < length bank.new.terms) }
+{
     if typed.formula.0 >= bank.term_count() {
         return Err(Memory);
     }
@@ -110,10 +131,14 @@ pub(crate) fn closed_sentences(
     alloc: Global,
     bank: &mut Bank,
     sentences: &[TypedSentence],
-) -> Result<Vec<ClauseFormula>, Memory> {
+) -> Result<Vec<ClauseFormula>, Memory>
+    ensures kept { Extends bank.old bank.new }
+    ensures count { IfOk result (λ clauses. length clauses.items ≡ length sentences.now) }
+    ensures within { IfOk result (λ clauses. AreWithin bank.new clauses.items) }
+{
     let mut clauses = Vec::new(alloc);
-    for sentence in sentences {
-        let clause = closed(bank, &sentence.typed)?;
+    for at in 0..sentences.len() {
+        let clause = closed(bank, &sentences[at].typed)?;
         clauses.push(clause)?;
     }
     Ok(clauses)

@@ -1,4 +1,6 @@
 // The tree of copies: below each copy one for each entry of its accumulate list, in order.
+ghost use Rattle.std.specs.Prelude.{IfErr};
+ghost use Rattle.lp_module.specs.Refusals.{IsProgramFault};
 
 use crate::fault::ModuleFault;
 use crate::module::Module;
@@ -67,7 +69,9 @@ impl Tree {
         numbers: &IndexMap<Vec<u8>, usize>,
         module: &Module,
         work: &mut Vec<Task>,
-    ) -> Result<(), ModuleFault> {
+    ) -> Result<(), ModuleFault>
+        ensures refused { IfErr result IsProgramFault }
+    {
         self.total = self.total.saturating_add(module.uses.len());
         if self.total > COPIES {
             return Err(ModuleFault::Limit(Limit::Copies));
@@ -87,7 +91,9 @@ impl Tree {
         modules: &[Module],
         at: usize,
         work: &mut Vec<Task>,
-    ) -> Result<(), ModuleFault> {
+    ) -> Result<(), ModuleFault>
+        ensures refused { IfErr result IsProgramFault }
+    {
         let Some(module) = modules.get(at) else {
             return Err(ModuleFault::Memory);
         };
@@ -119,7 +125,9 @@ impl Tree {
         Ok(())
     }
 
-    fn grow(&mut self, alloc: Global, modules: &[Module], root: usize) -> Result<(), ModuleFault> {
+    fn grow(&mut self, alloc: Global, modules: &[Module], root: usize) -> Result<(), ModuleFault>
+        ensures refused { IfErr result IsProgramFault }
+    {
         let numbers = numbers_of(alloc, modules)?;
         let mut work = Vec::new(alloc);
         work.push(Task::Enter(root))?;
@@ -137,7 +145,9 @@ impl Tree {
     ///
     /// # Errors
     /// More than 4,096 copies; else a kind or constant whose number would not be below 65,535.
-    pub(crate) fn of(alloc: Global, modules: &[Module], root: usize) -> Result<Tree, ModuleFault> {
+    pub(crate) fn of(alloc: Global, modules: &[Module], root: usize) -> Result<Tree, ModuleFault>
+        ensures refused { IfErr result IsProgramFault }
+    {
         let Some(top) = modules.get(root) else {
             return Err(ModuleFault::Memory);
         };

@@ -1,6 +1,6 @@
 // The order of modules.
-ghost use Rattle.std.specs.Prelude.{[], ◌∷◌, map, IfOk, IfErr, string_bytes};
-ghost use Rattle.lp_module.specs.Order.{Visits, HasNoCircle};
+ghost use Rattle.std.specs.Prelude.{◌≡◌, ℕ, List, [], ◌∷◌, ◌++◌, map, All, IfOk, IfErr, string_bytes};
+ghost use Rattle.lp_module.specs.Order.{Visits, HasNoCircle, Leads, Ordered};
 ghost use Rattle.lp_module.specs.Refusals.{IsOrderRefusal};
 ghost use Rattle.lp_module.specs.Words.{all_ways};
 
@@ -24,11 +24,15 @@ pub fn order(
     root: u32,
 ) -> Result<Vec<u32>, ModuleFault>
     ensures order { IfOk result (λ order. Visits (all_ways (map string_bytes names.now) sources.now texts.now) [] (root ∷ []) order.items) }
+    ensures ordered { IfOk result (λ order. Ordered (all_ways (map string_bytes names.now) sources.now texts.now) order.items) }
+    ensures reached { IfOk result (λ order. All (Leads (all_ways (map string_bytes names.now) sources.now texts.now) root) order.items) }
+    ensures last { IfOk result (λ order. (front : List ℕ) × (order.items ≡ front ++ root ∷ [])) }
     ensures free { IfOk result (λ _. HasNoCircle (all_ways (map string_bytes names.now) sources.now texts.now)) }
     ensures refused { IfErr result (IsOrderRefusal (all_ways (map string_bytes names.now) sources.now texts.now)) }
 {
     let ways = all_ways(alloc, names, sources, texts)?;
-    if let Some(word) = first_circle(alloc, &ways)? {
+    let circle = first_circle(alloc, &ways)?;
+    if let Some(word) = circle {
         return Err(ModuleFault::Cyclic(word));
     }
     if root as usize >= ways.len() || ways.len() > u32::MAX as usize {

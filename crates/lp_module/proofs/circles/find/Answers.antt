@@ -1,4 +1,4 @@
-use Rattle.std.proofs.Common.{◌≡◌, sym, ◌∙◌, false}
+use Rattle.std.proofs.Common.{sym, ◌∙◌, false}
 use Rattle.std.proofs.lemmas.List.{get_or_default}
 use Rattle.lp_module.proofs.Reaching.{found_one}
 use Rattle.lp_module.proofs.circles.find.Goals as goal

@@ -1,4 +1,4 @@
-use Rattle.std.proofs.Common.{◌≡◌, ap, sym, ◌∙◌, arith, replicate, ◌++◌, [], ◌∷◌, false}
+use Rattle.std.proofs.Common.{ap, ◌∙◌, arith, replicate, ◌++◌, [], ◌∷◌, false}
 use Rattle.std.proofs.lemmas.List.{replicate-append-replicate}
 use Rattle.lp_module.proofs.circles.no_marks.Goals as goal
 

@@ -1,4 +1,4 @@
-use Rattle.std.proofs.Common.{◌∙◌, sym, subst, length, arith, ◌<◌, ◌≤◌, ◌≡◌}
+use Rattle.std.proofs.Common.{◌∙◌, sym, subst, length, arith, ◌<◌}
 use Rattle.lp_module.specs.Order.{there}
 use Rattle.lp_module.specs.Searching.{ways_in}
 use Rattle.lp_module.proofs.Reaching.{found_none, looked_through, all_reached, places_of, count_is}
@@ -7,10 +7,10 @@ use Rattle.lp_module.proofs.circles.reach.Goals as goal
 pub found-init : goal.found-init
 found-init c =
     let W = ways_in c.args.ways.now.items in
-    let n = count_is c.args.ways.now.items in
-    ( c.in_ok-find.ensures.found W c.args.from (there c.args.from) (found_none W c.args.from c.len.result c.in_ok-marks.marks.items c.new-found.result.items c.new-found.ensures.items (omega (arith, c.len.ensures, c.args.ways.now.ok, n)) c.in_ok-marks.ensures)
-    , (λ k h. absurd (omega (arith, h)))
-    , c.in_ok-find.ensures.marked
+    let n = count_is c.args.ways.now.items in (
+      c.in_ok-find.ensures.found W c.args.from (there c.args.from) (found_none W c.args.from c.len.result c.in_ok-marks.marks.items c.new-found.result.items c.new-found.ensures.items (omega (arith, c.len.ensures, c.args.ways.now.ok, n)) c.in_ok-marks.ensures),
+      (λ k h. absurd (omega (arith, h))),
+      c.in_ok-find.ensures.marked,
     )
 
 pub find_all-requires : goal.find_all-requires

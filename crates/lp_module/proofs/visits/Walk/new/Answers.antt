@@ -1,4 +1,4 @@
-use Rattle.std.proofs.Common.{◌∙◌, sym, subst, ◌<◌, refl, arith}
+use Rattle.std.proofs.Common.{refl, arith}
 use Rattle.lp_module.specs.Searching.{ways_in}
 use Rattle.lp_module.proofs.Reaching.{count_is}
 use Rattle.lp_module.proofs.Visiting.{begins_at}
