@@ -1,10 +1,9 @@
 -- The order of copies: each move leaves less to do, and what is left to do is the rest of the tree, however it may end.
-use Rattle.std.proofs.Common.{◌≡◌, ℕ, zero, suc, ◌+◌, ◌*◌, ◌-◌, ◌<◌, ◌≤◌, List, [], ◌∷◌, ◌++◌, length, drop, take, map, reverse, get_or, refl, sym, ap, subst, ◌∙◌, arith, inl, inr, append_assoc, Option, Some, None}
-use Rattle.std.specs.Prelude.{◌⊎◌, All, Vec, sum_by}
+use Rattle.std.proofs.Common.{◌≡◌, ℕ, zero, suc, ◌+◌, ◌*◌, ◌-◌, ◌<◌, ◌≤◌, List, [], ◌∷◌, ◌++◌, length, drop, map, reverse, get_or, refl, sym, ap, subst, ◌∙◌, arith, append_assoc}
+use Rattle.std.specs.Prelude.{All, Vec}
 use Rattle.std.specs.Global.{Global}
-use Rattle.std.proofs.lemmas.List.{drop_more, drop_all, append-nil, length-append, length-map, reverse-append, map-append, take_more, take_all, get_or_past}
-use Rattle.std.proofs.lemmas.List.Elements.{All-nil, All-cons, All-tail, All-append}
-use Rattle.std.proofs.lemmas.Bool.{cases_lt}
+use Rattle.std.proofs.lemmas.List.{drop_more, drop_all, length-append, length-map, reverse-append}
+use Rattle.std.proofs.lemmas.List.Elements.{All-nil, All-cons, All-tail}
 use Rattle.lp_module.specs.Copies.{Copies, no_copy, copy, RestOfCopies, Copying}
 use Rattle.lp_module.specs.Trees.{lists_in}
 

@@ -1,5 +1,5 @@
 -- From the names that modules accumulate to numbers, and the sums over all copies.
-use Rattle.std.proofs.Common.{◌≡◌, ℕ, zero, suc, ◌+◌, ◌<◌, ◌≤◌, List, [], ◌∷◌, ◌++◌, length, map, drop, take, get_or, reverse, refl, sym, ap, subst, ◌∙◌, arith, Option, Some, None, append_assoc}
+use Rattle.std.proofs.Common.{◌≡◌, ℕ, suc, ◌+◌, ◌<◌, ◌≤◌, List, [], ◌∷◌, ◌++◌, length, map, drop, take, get_or, reverse, refl, sym, ap, subst, ◌∙◌, arith, Option, Some, None, append_assoc}
 use Rattle.std.specs.Prelude.{All, Vec, sum_by}
 use Rattle.std.specs.Global.{Global}
 use Rattle.std.proofs.lemmas.List.{drop_more, drop_all, take_all, append-nil, length-map, map-append, map_more, get_or-map, reverse-append}

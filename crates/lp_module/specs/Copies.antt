@@ -1,6 +1,5 @@
 -- The tree of copies: below each copy stands one for each entry of its accumulate list, in order, a repeated entry giving a further copy.
-use Rattle.std.specs.Global.{Global}
-use Rattle.std.specs.Prelude.{◌≡◌, ℕ, ◌+◌, ◌-◌, ◌<◌, ◌≤◌, ◌⊎◌, List, [], ◌∷◌, ◌++◌, map, length, drop, get_or, sum_by, All, Option, Some, None, Vec}
+use Rattle.std.specs.Prelude.{◌≡◌, ℕ, ◌+◌, ◌-◌, ◌<◌, ◌≤◌, ◌⊎◌, List, [], ◌∷◌, ◌++◌, map, length, drop, get_or, sum_by, All, Option, Some, None}
 use Rattle.lp_base.specs.declared.limit.Limit.TheVariants as limit
 use Rattle.lp_sig.specs.Places.{first_place}
 use Rattle.lp_module.specs.declared.fault.ModuleFault.{ModuleFault}

@@ -1,6 +1,6 @@
-use Rattle.std.proofs.Common.{◌≡◌, ℕ, ◌+◌, ◌∙◌, sym, ap, subst, refl, length, map, reverse, get_or, arith, [], ◌∷◌, ◌++◌, ◌<◌}
+use Rattle.std.proofs.Common.{ℕ, ◌∙◌, sym, ap, subst, length, map, reverse, get_or, arith, [], ◌∷◌}
 use Rattle.std.specs.Prelude.{sum_by}
-use Rattle.lp_module.specs.Copies.{Copies, counts_of, total}
+use Rattle.lp_module.specs.Copies.{Copies, counts_of}
 use Rattle.lp_module.specs.Making.{clauses_of}
 use Rattle.lp_module.specs.Trees.{lists_in, Turns, frames_of}
 use Rattle.lp_module.proofs.Uses.{last_apart, count_at, total_more, around_more}

@@ -1,9 +1,9 @@
-use Rattle.std.proofs.Common.{◌≡◌, ◌<◌, ◌-◌, ◌∙◌, ap, refl, length, arith}
+use Rattle.std.proofs.Common.{◌≡◌, ◌<◌, ◌-◌, ap, length, arith}
 use Rattle.lp_base.specs.declared.limit.Limit.TheVariants as limit
 use Rattle.lp_term.proofs.Moves.{passed_up}
 use Rattle.lp_module.specs.Copies.{kinds_end}
 use Rattle.lp_module.specs.declared.fault.ModuleFault.TheVariants as fault
-use Rattle.lp_module.proofs.Uses.{sum_begun, begun_passed, sum_more, sum_passed, sum_done}
+use Rattle.lp_module.proofs.Uses.{sum_begun, begun_passed}
 use Rattle.lp_module.proofs.tree.end_of_kinds.Goals as goal
 
 pub returns-in_err-all-clause-refused : goal.returns-in_err-all-clause-refused

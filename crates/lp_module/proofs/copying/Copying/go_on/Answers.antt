@@ -1,4 +1,4 @@
-use Rattle.std.proofs.Common.{◌<◌, ◌≤◌, ◌∙◌, ap, subst, length, get_or, reverse, arith, []}
+use Rattle.std.proofs.Common.{◌<◌, ◌≤◌, ◌∙◌, ap, subst, length, get_or, reverse, arith}
 use Rattle.lp_module.specs.Trees.{lists_in}
 use Rattle.lp_module.proofs.Copied.{too_many, turn_entered, turn_left, turn_ended, row_at, rows_within}
 use Rattle.lp_module.proofs.Visiting.{no_more}
