@@ -7,3 +7,5 @@ pub mod Lines
 pub mod Naming
 pub mod Saying
 pub mod Ordering
+pub mod Copied
+pub mod Uses

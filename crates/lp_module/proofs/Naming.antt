@@ -53,7 +53,7 @@ some_same x y e = ap (λ o. value_or x o) e where
   value_or x None = x
   value_or x (Some y) = y
 
-place_within : (name : List ℕ) (names : List (List ℕ)) (i : ℕ) → first_place name names ≡ Some i → i < length names
+pub place_within : (name : List ℕ) (names : List (List ℕ)) (i : ℕ) → first_place name names ≡ Some i → i < length names
 place_within name [] i e = absurd (cc)
 place_within name (n ∷ ns) i e = by (bytes_eq name n) (first_place name ns) refl (place_within name ns) e
   where

@@ -6,3 +6,5 @@ pub mod Files
 pub mod Refusals
 pub mod Sentences
 pub mod Making
+pub mod Copies
+pub mod Trees

@@ -1,7 +1,8 @@
 -- A program in the making.
-use Rattle.std.specs.Prelude.{◌≡◌, length}
+use Rattle.std.specs.Prelude.{◌≡◌, ℕ, length}
 use Rattle.lp_module.specs.Sentences.{AreWithin}
 use Rattle.lp_module.specs.declared.copies.Making.{Making}
+use Rattle.lp_module.specs.declared.numbers.Open.{Open}
 
 -- its formulas stand in its bank, and its constants have their names
 abbrev pub IsSoFar : Making → Type 0
@@ -9,3 +10,11 @@ IsSoFar m = AreWithin m.bank m.clauses.items × (length m.declared.items ≡ len
 
 abbrev pub IsMade : Making → Making → Type 0
 IsMade old new = IsSoFar old → IsSoFar new
+
+-- names were added, and no clauses
+abbrev pub MakesNames : Making → Making → Type 0
+MakesNames old new = IsMade old new × (new.clauses.items ≡ old.clauses.items)
+
+-- how many clauses the module of an open copy has
+abbrev pub clauses_of : Open → ℕ
+clauses_of o = length o.module.now.clauses.items

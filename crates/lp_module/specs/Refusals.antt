@@ -94,14 +94,3 @@ IsWrongInside text m e = (e ≡ fault.Memory) ⊎ (IsUndeclared e ⊎ (((names :
 -- why a module is refused: a header that is another word than the name of the file goes first
 abbrev pub IsRefusal : List ℕ → ModuleText → (name : List ℕ) → ModuleFault → Type 0
 IsRefusal text m name e = ((spelled text m.header ≢ name) × (e ≡ fault.Header m.header)) ⊎ ((spelled text m.header ≡ name) × IsWrongInside text m e)
-
--- the limits on the copies of modules and on their names
-abbrev pub IsProgramLimit : Limit → Type 0
-IsProgramLimit limit.Copies = Unit {0}
-IsProgramLimit limit.Names = Unit {0}
-IsProgramLimit _ = ⊥
-
-abbrev pub IsProgramFault : ModuleFault → Type 0
-IsProgramFault (fault.Limit l) = IsProgramLimit l
-IsProgramFault fault.Memory = Unit {0}
-IsProgramFault _ = ⊥

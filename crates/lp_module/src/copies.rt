@@ -1,14 +1,16 @@
 // The program of a set of modules.
-ghost use Rattle.std.specs.Prelude.{◌≡◌, ◌<◌, length, IfErr, IfOk, OnOk};
-ghost use Rattle.lp_module.specs.Refusals.{IsProgramFault};
+ghost use Rattle.std.specs.Prelude.{◌≡◌, ℕ, ◌+◌, ◌<◌, ◌≤◌, ◌++◌, List, [], ◌∷◌, length, map, All, IfErr, IfOk, OnOk};
+ghost use Rattle.lp_module.specs.Copies.{Copies, IsOrder, IsTooMany, IsProgramRefusal, counts_of, total, kinds_end, constants_end};
+ghost use Rattle.lp_module.specs.Making.{IsSoFar, IsMade, MakesNames, clauses_of};
 ghost use Rattle.lp_module.specs.Sentences.{AreWithin};
-ghost use Rattle.lp_module.specs.Making.{IsSoFar, IsMade};
+ghost use Rattle.lp_module.specs.Trees.{lists_in};
 
 use crate::carry::{Types, carry_terms};
+use crate::copying::{Copying, Turn};
 use crate::fault::ModuleFault;
 use crate::module::Module;
 use crate::numbers::{Names, Open};
-use crate::tree::{Copied, Step, Tree};
+use crate::tree::{Copied, end_of_constants, end_of_kinds, firsts_of, order_of, uses_of};
 use indexmap::IndexMap;
 use itoa::Buffer;
 use lp_base::Memory;
@@ -42,6 +44,7 @@ struct Making {
     constants: Vec<GlobalName>,
     hidden_kinds: IndexMap<Vec<u8>, u16>,
     hidden_constants: IndexMap<Vec<u8>, u16>,
+    entered: usize,
 }
 
 // The number of the next hidden name of this name, from 1.
@@ -72,7 +75,8 @@ fn shown(alloc: Global, name: &[u8], hidden: u16) -> Result<Vec<u8>, Memory> {
 
 impl Making {
     fn new(alloc: Global) -> Making
-        ensures { IsSoFar result }
+        ensures made { IsSoFar result }
+        ensures none { result.clauses.items ≡ [] }
     {
         Making {
             alloc,
@@ -83,11 +87,12 @@ impl Making {
             constants: Vec::new(alloc),
             hidden_kinds: IndexMap::new(alloc),
             hidden_constants: IndexMap::new(alloc),
+            entered: 0,
         }
     }
 
     fn add_kind(&mut self, name: &[u8], hidden: u16) -> Result<(), Memory>
-        ensures { OnOk result (IsMade self.old self.new) }
+        ensures { OnOk result (MakesNames self.old self.new) }
     {
         let name = Vec::from_slice(self.alloc, name)?;
         self.kinds.push(GlobalName { name, hidden })?;
@@ -100,7 +105,7 @@ impl Making {
         hidden: u16,
         scheme: TypeId,
     ) -> Result<(), Memory>
-        ensures { OnOk result (IsMade self.old self.new) }
+        ensures { OnOk result (MakesNames self.old self.new) }
     {
         let name = Vec::from_slice(self.alloc, entry.name.as_slice())?;
         let shown = shown(self.alloc, entry.name.as_slice(), hidden)?;
@@ -115,7 +120,7 @@ impl Making {
 
     // The global names, which are those that the root exports.
     fn add_global(&mut self, root: &Open<'_>) -> Result<(), Memory>
-        ensures { OnOk result (IsMade self.old self.new) }
+        ensures { OnOk result (MakesNames self.old self.new) }
     {
         let signature = &root.module.signature;
         for kind in root.names.exported_kinds.iter().copied() {
@@ -142,7 +147,7 @@ impl Making {
 
     // The hidden kinds of a copy.
     fn add_hidden_kinds(&mut self, copy: &Open<'_>) -> Result<(), Memory>
-        ensures { OnOk result (IsMade self.old self.new) }
+        ensures { OnOk result (MakesNames self.old self.new) }
     {
         let kinds = copy.module.signature.kinds();
         for number in copy.module.hidden_kinds.iter().copied() {
@@ -157,7 +162,7 @@ impl Making {
 
     // The hidden constants of a copy.
     fn add_hidden_constants(&mut self, copy: &Open<'_>) -> Result<(), Memory>
-        ensures { OnOk result (IsMade self.old self.new) }
+        ensures { OnOk result (MakesNames self.old self.new) }
     {
         let signature = &copy.module.signature;
         let mut types = Types::new(self.alloc);
@@ -183,7 +188,8 @@ impl Making {
     }
 
     fn add_clause(&mut self, type_vars: u32, formula: TermId) -> Result<(), Memory>
-        ensures { OnOk result (IsMade self.old self.new) }
+        ensures made { OnOk result (IsMade self.old self.new) }
+        ensures count { OnOk result (length self.new.clauses.items ≡ length self.old.clauses.items + 1) }
     {
         if formula.0 >= self.bank.term_count() {
             return Err(Memory);
@@ -194,10 +200,13 @@ impl Making {
 
     // The clauses of a copy.
     fn add_clauses(&mut self, copy: &Open<'_>) -> Result<(), Memory>
-        ensures { OnOk result (IsMade self.old self.new) }
+        ensures made { OnOk result (IsMade self.old self.new) }
+        ensures count { OnOk result (length self.new.clauses.items ≡ length self.old.clauses.items + length copy.now.module.now.clauses.items) }
     {
         let made = carry_terms(self.alloc, &copy.module.bank, &copy.names, &mut self.bank)?;
-        for clause in copy.module.clauses.iter() {
+        let clauses = &copy.module.clauses;
+        for at in 0..clauses.len() {
+            let clause = clauses[at];
             let Some(formula) = made.get(clause.formula.0).copied() else {
                 return Err(Memory);
             };
@@ -208,17 +217,20 @@ impl Making {
 
     // A copy, behind those below it.
     fn add_copy(&mut self, copy: &Open<'_>) -> Result<(), Memory>
-        ensures { OnOk result (IsMade self.old self.new) }
+        ensures made { OnOk result (IsMade self.old self.new) }
+        ensures count { OnOk result (length self.new.clauses.items ≡ length self.old.clauses.items + length copy.now.module.now.clauses.items) }
     {
         self.add_hidden_kinds(copy)?;
         self.add_hidden_constants(copy)?;
-        self.add_clauses(copy)
+        self.add_clauses(copy)?;
+        Ok(())
     }
 
     fn finish(self) -> Assembled
         requires { IsSoFar self }
         ensures clauses { AreWithin result.program.bank result.program.clauses.items }
         ensures constants { length result.program.constants.items ≡ length result.constants.items }
+        ensures same { result.program.clauses.items ≡ self.clauses.items }
     {
         Assembled {
             program: Program {
@@ -234,51 +246,74 @@ impl Making {
     // Enters a copy: its names are known from those of the copy above, which is the last open one.
     fn enter<'a>(
         &mut self,
-        modules: &'a [Module],
-        copied: Copied,
-        open: &mut Vec<Open<'a>>,
+        member: &'a Module,
+        firsts: &[Copied],
+        around: &mut Vec<Open<'a>>,
     ) -> Result<(), Memory>
-        ensures { OnOk result (IsMade self.old self.new) }
+        ensures made { OnOk result (MakesNames self.old self.new) }
+        ensures inside { OnOk result (map clauses_of around.new.items ≡ map clauses_of around.old.items ++ length member.now.clauses.items ∷ []) }
     {
-        let Some(module) = modules.get(copied.module) else {
+        let Some(copied) = firsts.get(self.entered).copied() else {
             return Err(Memory);
         };
-        let names = match open.as_slice().last() {
-            None => Names::of_root(self.alloc, module, copied)?,
-            Some(above) => Names::below(self.alloc, module, copied, above)?,
+        self.entered = self.entered.saturating_add(1);
+        let names = match around.as_slice().last() {
+            None => Names::of_root(self.alloc, member, copied)?,
+            Some(above) => Names::below(self.alloc, member, copied, above)?,
         };
-        let copy = Open { module, names };
-        if open.is_empty() {
+        let copy = Open {
+            module: member,
+            names,
+        };
+        if around.is_empty() {
             self.add_global(&copy)?;
         }
-        open.push(copy)?;
+        around.push(copy)?;
         Ok(())
     }
 
-    // Enters a copy, or leaves the last open one.
-    fn take<'a>(
-        &mut self,
-        modules: &'a [Module],
-        tree: &Tree,
-        step: Step,
-        open: &mut Vec<Open<'a>>,
-    ) -> Result<(), Memory>
-        ensures { OnOk result (IsMade self.old self.new) }
+    // Leaves the last open copy.
+    fn leave(&mut self, around: &mut Vec<Open<'_>>) -> Result<(), Memory>
+        ensures made { OnOk result (IsMade self.old self.new) }
+        ensures left { OnOk result ((outer : List ℕ) (n : ℕ) → map clauses_of around.old.items ≡ outer ++ n ∷ [] → (map clauses_of around.new.items ≡ outer) × (length self.new.clauses.items ≡ length self.old.clauses.items + n)) }
     {
-        match step {
-            Step::Enter(at) => {
-                let Some(copied) = tree.copies.get(at) else {
-                    return Err(Memory);
-                };
-                self.enter(modules, *copied, open)?;
-                return Ok(());
-            }
-            Step::Leave(_) => {
-                let Some(copy) = open.pop() else {
-                    return Err(Memory);
-                };
+        match around.pop() {
+            None => Err(Memory),
+            Some(copy) => {
                 self.add_copy(&copy)?;
-                return Ok(());
+                Ok(())
+            }
+        }
+    }
+}
+
+// The program, copy by copy.
+fn make(
+    alloc: Global,
+    modules: &[Module],
+    uses: &Vec<Vec<usize>>,
+    firsts: &[Copied],
+    root: usize,
+) -> Result<Assembled, ModuleFault>
+    requires root { root < length uses.now.items }
+    requires modules { length modules.now ≡ length uses.now.items }
+    requires within { All (λ out. All (λ m. m < length uses.now.items) out) (lists_in uses.now.items) }
+    ensures clauses { IfOk result (λ a. AreWithin a.program.bank a.program.clauses.items) }
+    ensures constants { IfOk result (λ a. length a.program.constants.items ≡ length a.constants.items) }
+    ensures count { IfOk result (λ a. (order : List ℕ) × Copies (lists_in uses.now.items) (root ∷ []) order × (length a.program.clauses.items ≡ total counts_of modules.now order)) }
+    ensures refused { IfErr result (IsTooMany (lists_in uses.now.items) root) }
+{
+    let mut making = Making::new(alloc);
+    let mut around = Vec::new(alloc);
+    making.enter(&modules[root], firsts, &mut around)?;
+    let mut copying = Copying::new(alloc, uses, root);
+    'copies: loop {
+        match copying.go_on(uses)? {
+            Turn::Entered(at) => making.enter(&modules[at], firsts, &mut around)?,
+            Turn::Left(_) => making.leave(&mut around)?,
+            Turn::Ended(_) => {
+                making.leave(&mut around)?;
+                return Ok(making.finish());
             }
         }
     }
@@ -293,13 +328,18 @@ impl Making {
 pub fn assemble(alloc: Global, modules: &[Module], root: u32) -> Result<Assembled, ModuleFault>
     ensures clauses { IfOk result (λ a. AreWithin a.program.bank a.program.clauses.items) }
     ensures constants { IfOk result (λ a. length a.program.constants.items ≡ length a.constants.items) }
-    ensures refused { IfErr result IsProgramFault }
+    ensures copies { IfOk result (λ a. (order : List ℕ) × IsOrder modules.now root order × (length order ≤ 4096) × (kinds_end modules.now root order ≤ 65535) × (constants_end modules.now root order ≤ 65535) × (length a.program.clauses.items ≡ total counts_of modules.now order)) }
+    ensures refused { IfErr result (IsProgramRefusal modules.now root) }
 {
-    let tree = Tree::of(alloc, modules, root as usize)?;
-    let mut making = Making::new(alloc);
-    let mut open = Vec::new(alloc);
-    for at in 0..tree.steps.len() {
-        making.take(modules, &tree, tree.steps[at], &mut open)?;
+    let root = root as usize;
+    if root >= modules.len() {
+        return Err(ModuleFault::Memory);
     }
-    Ok(making.finish())
+    let uses = uses_of(alloc, modules)?;
+    let order = order_of(alloc, &uses, root)?;
+    end_of_kinds(modules, &order, root)?;
+    end_of_constants(modules, &order, root)?;
+    let firsts = firsts_of(alloc, modules, &uses, root)?;
+    let made = make(alloc, modules, &uses, firsts.as_slice(), root)?;
+    Ok(made)
 }

@@ -1,7 +1,9 @@
 // The numbers of files by their names.
 ghost use Rattle.std.specs.Prelude.{◌≡◌, ℕ, List, [], ◌∷◌, ◌++◌, length, map, OnOk, OnErr, IfOk, string_bytes};
+ghost use Rattle.lp_module.specs.Copies.{names_of};
 ghost use Rattle.lp_module.specs.Files.{HasNames, number_of};
 
+use crate::module::Module;
 use indexmap::IndexMap;
 use lp_base::Memory;
 use std::alloc::Global;
@@ -47,6 +49,17 @@ impl Files {
         let mut files = Files::new(alloc);
         for at in 0..names.len() {
             files.add(names[at].as_bytes(), at)?;
+        }
+        Ok(files)
+    }
+
+    /// The numbers of modules by their names.
+    pub(crate) fn of_modules(alloc: Global, modules: &[Module]) -> Result<Files, Memory>
+        ensures { IfOk result (λ files. HasNames files (names_of modules.now)) }
+    {
+        let mut files = Files::new(alloc);
+        for at in 0..modules.len() {
+            files.add(modules[at].name.as_slice(), at)?;
         }
         Ok(files)
     }

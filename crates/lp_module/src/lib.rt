@@ -7,6 +7,8 @@ mod carry;
 mod circles;
 // The program of a set of modules.
 mod copies;
+// The copies one behind the other.
+mod copying;
 // Why a module is refused.
 mod fault;
 // The numbers of files.
@@ -31,7 +33,7 @@ mod reading;
 mod sentences;
 #[cfg(test)]
 mod tests;
-// The tree of copies.
+// The order of copies, and their numbers.
 mod tree;
 // The walk from the root.
 mod visits;
