@@ -9,3 +9,5 @@ pub mod Saying
 pub mod Ordering
 pub mod Copied
 pub mod Uses
+pub mod Numbered
+pub mod Counting

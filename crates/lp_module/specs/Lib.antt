@@ -8,3 +8,5 @@ pub mod Sentences
 pub mod Making
 pub mod Copies
 pub mod Trees
+pub mod Numbering
+pub mod Arguments

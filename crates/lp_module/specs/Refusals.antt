@@ -18,6 +18,7 @@ use Rattle.lp_sig.specs.declared.module_fault.ModuleSigFault.TheVariants as decl
 use Rattle.lp_sig.specs.declared.signature.Signature.{Signature}
 use Rattle.lp_infer.specs.Refusals.{IsRefusal as IsInferRefusal}
 use Rattle.lp_infer.specs.declared.fault.InferFault.TheVariants as infer
+use Rattle.lp_module.specs.Arguments.{HasManyArguments}
 use Rattle.lp_module.specs.Order.{Way, IsFirstCircle}
 use Rattle.lp_module.specs.declared.fault.ModuleFault.{ModuleFault}
 use Rattle.lp_module.specs.declared.fault.ModuleFault.TheVariants as fault
@@ -58,7 +59,7 @@ abbrev pub IsTypingFault : Signature → List ℕ → RawTerm → ModuleFault �
 IsTypingFault names text raw (fault.Infer (infer.Undeclared s)) = IsInferRefusal names text raw (infer.Undeclared s)
 IsTypingFault names text raw (fault.Infer (infer.NoTyping s)) = IsInferRefusal names text raw (infer.NoTyping s)
 IsTypingFault names text raw (fault.Infer infer.Memory) = ⊥
-IsTypingFault names text raw (fault.Limit l) = l ≡ limit.Arguments
+IsTypingFault names text raw (fault.Limit l) = (l ≡ limit.Arguments) × HasManyArguments raw
 IsTypingFault names text raw fault.Memory = Unit {0}
 IsTypingFault names text raw _ = ⊥
 

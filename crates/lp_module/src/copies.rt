@@ -1,7 +1,9 @@
 // The program of a set of modules.
-ghost use Rattle.std.specs.Prelude.{◌≡◌, ℕ, ◌+◌, ◌<◌, ◌≤◌, ◌++◌, List, [], ◌∷◌, length, map, All, IfErr, IfOk, OnOk};
+ghost use Rattle.std.specs.Prelude.{◌≡◌, ℕ, ◌+◌, ◌<◌, ◌≤◌, ◌++◌, List, [], ◌∷◌, length, map, All, IfErr, IfOk, OnOk, if◌then◌else◌};
+ghost use Rattle.std.specs.Str.{bytes_eq};
 ghost use Rattle.lp_module.specs.Copies.{Copies, IsOrder, IsTooMany, IsProgramRefusal, counts_of, total, kinds_end, constants_end};
 ghost use Rattle.lp_module.specs.Making.{IsSoFar, IsMade, MakesNames, clauses_of};
+ghost use Rattle.lp_module.specs.Numbering.{AreNumbered, count_in, following};
 ghost use Rattle.lp_module.specs.Sentences.{AreWithin};
 ghost use Rattle.lp_module.specs.Trees.{lists_in};
 
@@ -47,19 +49,36 @@ struct Making {
     entered: usize,
 }
 
+// How many hidden names of this name there are.
+fn count_of(counts: &IndexMap<Vec<u8>, u16>, name: &[u8]) -> u16
+    ensures { result ≡ count_in counts.now name.now }
+{
+    match counts.get(name) {
+        None => 0,
+        Some(count) => *count,
+    }
+}
+
+// The number behind a count.
+fn following(count: u16) -> u16
+    ensures { result ≡ following count }
+{
+    if count < 65535 { count + 1 } else { 65535 }
+}
+
 // The number of the next hidden name of this name, from 1.
 fn next_hidden(
     alloc: Global,
     counts: &mut IndexMap<Vec<u8>, u16>,
     name: &[u8],
-) -> Result<u16, Memory> {
-    if let Some(count) = counts.get_mut(name) {
-        *count = count.saturating_add(1);
-        return Ok(*count);
-    }
+) -> Result<u16, Memory>
+    ensures number { IfOk result (λ n. n ≡ following (count_in counts.old name.now)) }
+    ensures counted { IfOk result (λ n. (other : List ℕ) → count_in counts.new other ≡ (if bytes_eq other name.now then n else count_in counts.old other)) }
+{
+    let next = following(count_of(counts, name));
     let key = Vec::from_slice(alloc, name)?;
-    counts.insert(key, 1)?;
-    Ok(1)
+    counts.insert(key, next)?;
+    Ok(next)
 }
 
 // A name as it is shown: the k-th hidden one of a name with `$k`.
@@ -91,22 +110,45 @@ impl Making {
         }
     }
 
-    fn add_kind(&mut self, name: &[u8], hidden: u16) -> Result<(), Memory>
+    fn add_global_kind(&mut self, name: &[u8]) -> Result<(), Memory>
         ensures { OnOk result (MakesNames self.old self.new) }
     {
+        let name = Vec::from_slice(self.alloc, name)?;
+        self.kinds.push(GlobalName { name, hidden: 0 })?;
+        Ok(())
+    }
+
+    fn add_hidden_kind(&mut self, name: &[u8]) -> Result<(), Memory>
+        ensures { OnOk result (MakesNames self.old self.new) }
+    {
+        let hidden = next_hidden(self.alloc, &mut self.hidden_kinds, name)?;
         let name = Vec::from_slice(self.alloc, name)?;
         self.kinds.push(GlobalName { name, hidden })?;
         Ok(())
     }
 
-    fn add_constant(
-        &mut self,
-        entry: &ConstantEntry,
-        hidden: u16,
-        scheme: TypeId,
-    ) -> Result<(), Memory>
+    fn add_global_constant(&mut self, entry: &ConstantEntry, scheme: TypeId) -> Result<(), Memory>
         ensures { OnOk result (MakesNames self.old self.new) }
     {
+        let name = Vec::from_slice(self.alloc, entry.name.as_slice())?;
+        let shown = shown(self.alloc, entry.name.as_slice(), 0)?;
+        self.constants.push(GlobalName { name, hidden: 0 })?;
+        self.declared.push(Declared {
+            shown,
+            type_vars: entry.type_vars,
+            scheme,
+        })?;
+        Ok(())
+    }
+
+    fn add_hidden_constant(&mut self, entry: &ConstantEntry, scheme: TypeId) -> Result<(), Memory>
+        ensures { OnOk result (MakesNames self.old self.new) }
+    {
+        let hidden = next_hidden(
+            self.alloc,
+            &mut self.hidden_constants,
+            entry.name.as_slice(),
+        )?;
         let name = Vec::from_slice(self.alloc, entry.name.as_slice())?;
         let shown = shown(self.alloc, entry.name.as_slice(), hidden)?;
         self.constants.push(GlobalName { name, hidden })?;
@@ -127,7 +169,7 @@ impl Making {
             let Some(entry) = signature.kinds().get(kind) else {
                 return Err(Memory);
             };
-            self.add_kind(entry.name.as_slice(), 0)?;
+            self.add_global_kind(entry.name.as_slice())?;
         }
         let mut types = Types::new(self.alloc);
         for constant in root.names.exported_constants.iter().copied() {
@@ -140,7 +182,7 @@ impl Making {
                 &root.names.kinds,
                 &mut self.bank,
             )?;
-            self.add_constant(entry, 0, scheme)?;
+            self.add_global_constant(entry, scheme)?;
         }
         Ok(())
     }
@@ -154,8 +196,7 @@ impl Making {
             let Some(entry) = kinds.get(number.saturating_sub(FIRST_KIND) as usize) else {
                 return Err(Memory);
             };
-            let hidden = next_hidden(self.alloc, &mut self.hidden_kinds, entry.name.as_slice())?;
-            self.add_kind(entry.name.as_slice(), hidden)?;
+            self.add_hidden_kind(entry.name.as_slice())?;
         }
         Ok(())
     }
@@ -177,12 +218,7 @@ impl Making {
                 &copy.names.kinds,
                 &mut self.bank,
             )?;
-            let hidden = next_hidden(
-                self.alloc,
-                &mut self.hidden_constants,
-                entry.name.as_slice(),
-            )?;
-            self.add_constant(entry, hidden, scheme)?;
+            self.add_hidden_constant(entry, scheme)?;
         }
         Ok(())
     }
@@ -231,6 +267,8 @@ impl Making {
         ensures clauses { AreWithin result.program.bank result.program.clauses.items }
         ensures constants { length result.program.constants.items ≡ length result.constants.items }
         ensures same { result.program.clauses.items ≡ self.clauses.items }
+        ensures kinds { AreNumbered result.kinds.items }
+        ensures numbers { AreNumbered result.constants.items }
     {
         Assembled {
             program: Program {
@@ -300,6 +338,8 @@ fn make(
     requires within { All (λ out. All (λ m. m < length uses.now.items) out) (lists_in uses.now.items) }
     ensures clauses { IfOk result (λ a. AreWithin a.program.bank a.program.clauses.items) }
     ensures constants { IfOk result (λ a. length a.program.constants.items ≡ length a.constants.items) }
+    ensures hidden_kinds { IfOk result (λ a. AreNumbered a.kinds.items) }
+    ensures hidden_constants { IfOk result (λ a. AreNumbered a.constants.items) }
     ensures count { IfOk result (λ a. (order : List ℕ) × Copies (lists_in uses.now.items) (root ∷ []) order × (length a.program.clauses.items ≡ total counts_of modules.now order)) }
     ensures refused { IfErr result (IsTooMany (lists_in uses.now.items) root) }
 {
@@ -328,6 +368,8 @@ fn make(
 pub fn assemble(alloc: Global, modules: &[Module], root: u32) -> Result<Assembled, ModuleFault>
     ensures clauses { IfOk result (λ a. AreWithin a.program.bank a.program.clauses.items) }
     ensures constants { IfOk result (λ a. length a.program.constants.items ≡ length a.constants.items) }
+    ensures hidden_kinds { IfOk result (λ a. AreNumbered a.kinds.items) }
+    ensures hidden_constants { IfOk result (λ a. AreNumbered a.constants.items) }
     ensures copies { IfOk result (λ a. (order : List ℕ) × IsOrder modules.now root order × (length order ≤ 4096) × (kinds_end modules.now root order ≤ 65535) × (constants_end modules.now root order ≤ 65535) × (length a.program.clauses.items ≡ total counts_of modules.now order)) }
     ensures refused { IfErr result (IsProgramRefusal modules.now root) }
 {

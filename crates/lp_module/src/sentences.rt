@@ -1,6 +1,7 @@
 // The sentences of a module: their typing, and the closed formulas.
-ghost use Rattle.std.specs.Prelude.{◌≡◌, ◌≤◌, ◌<◌, ◌⊎◌, length, IfOk, IfErr};
+ghost use Rattle.std.specs.Prelude.{◌≡◌, ◌≤◌, ◌<◌, ◌⊎◌, length, get_or, All, true, false, IfOk, IfErr};
 ghost use Rattle.lp_term.specs.Nodes.{Extends};
+ghost use Rattle.lp_module.specs.Arguments.{own_count, HasManyArguments};
 ghost use Rattle.lp_module.specs.Refusals.{IsTypingFault, IsUntyped};
 ghost use Rattle.lp_module.specs.Sentences.{AreSaid, AreWithin};
 ghost use Rattle.lp_module.specs.declared.fault.ModuleFault.TheVariants as fault;
@@ -26,21 +27,38 @@ pub(crate) struct TypedSentence {
 }
 
 // How many arguments the head at a place has.
-fn count_at(counts: &[u64], place: usize) -> u64 {
+fn count_at(counts: &Vec<u64>, place: usize) -> u64
+    ensures { result ≡ get_or counts.now.items place 0 }
+{
     match counts.get(place) {
-        Some(count) => *count,
         None => 0,
+        Some(count) => *count,
+    }
+}
+
+// How many arguments the head of a node has, behind the nodes before it.
+fn own_count(counts: &Vec<u64>, node: &RawNode) -> u64
+    requires { All (λ k. k ≤ 255) counts.now.items }
+    ensures { result ≡ own_count counts.now.items node.now }
+{
+    match node {
+        RawNode::App(head, _) => count_at(counts, *head) + 1,
+        RawNode::Name(_) => 0,
+        RawNode::Known(_, _) => 0,
+        RawNode::Number(_, _) => 0,
+        RawNode::Text(_) => 0,
+        RawNode::Abs(_, _, _) => 0,
     }
 }
 
 /// Whether a term as written has more than 255 arguments on one head.
-pub fn has_many_arguments(alloc: Global, raw: &RawTerm) -> Result<bool, Memory> {
+pub fn has_many_arguments(alloc: Global, raw: &RawTerm) -> Result<bool, Memory>
+    ensures many { IfOk result (λ many. many ≡ true → HasManyArguments raw.now) }
+    ensures few { IfOk result (λ many. many ≡ false → HasManyArguments raw.now → ⊥) }
+{
     let mut counts = Vec::new(alloc);
-    for node in &raw.nodes {
-        let count = match node {
-            RawNode::App(head, _) => count_at(counts.as_slice(), *head).saturating_add(1),
-            _ => 0,
-        };
+    for at in 0..raw.nodes.len() {
+        let count = own_count(&counts, &raw.nodes[at]);
         if count > 255 {
             return Ok(true);
         }
