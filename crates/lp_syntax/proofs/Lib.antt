@@ -41,5 +41,6 @@ pub mod ModuleCode
 pub mod Depths
 pub mod ModuleUnique
 pub mod ModuleTexts
+pub mod ModuleLeft
 pub mod Rows
 pub mod ModuleRows

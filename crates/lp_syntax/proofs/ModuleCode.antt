@@ -93,7 +93,7 @@ bytes_there file source ts i = go ts i
     go (t ∷ ts) zero = refl
     go (t ∷ ts) (suc i) = go ts i
 
-bytes_all : (file : ℕ) (source : List ℕ) (ts : List Token) (ns : List ℕ) → map (bytes_of source) (map (spot_at file source ts) ns) ≡ map (bytes_at (lexemes source ts)) ns
+pub bytes_all : (file : ℕ) (source : List ℕ) (ts : List Token) (ns : List ℕ) → map (bytes_of source) (map (spot_at file source ts) ns) ≡ map (bytes_at (lexemes source ts)) ns
 bytes_all file source ts [] = refl
 bytes_all file source ts (n ∷ ns) = (λ i. bytes_there file source ts n i ∷ bytes_all file source ts ns i)
 
@@ -222,7 +222,7 @@ split_at spot (n ∷ ns) zero s e = (record { number = n; rest = ns; all = refl 
     same e = cc
 split_at spot (n ∷ ns) (suc place) s e = let h = split_at spot ns place s e in (record { number = h.0.number; rest = h.0.rest; all = ap (λ l. n ∷ l) h.0.all }, h.1)
 
-take_map : (spot : ℕ → Spot) (place : ℕ) (ns : List ℕ) → take place (map spot ns) ≡ map spot (take place ns)
+pub take_map : (spot : ℕ → Spot) (place : ℕ) (ns : List ℕ) → take place (map spot ns) ≡ map spot (take place ns)
 take_map spot zero ns = refl
 take_map spot (suc place) [] = refl
 take_map spot (suc place) (n ∷ ns) = ap (λ l. spot n ∷ l) (take_map spot place ns)

@@ -190,6 +190,25 @@ abbrev pub IsGivenModule : (ℕ → Spot) → List Lexeme → List Clause → Op
 IsGivenModule spot ls ss after now (Ok text) = AreSaid spot ls text.lines.items ss × All (ClauseFits ls) ss × ((name : List ℕ) → now name ≡ after name)
 IsGivenModule spot ls ss after now (Err f) = (f ≡ fault.Memory) ⊎ ((f ≡ fault.Limit Nesting) × (All (ClauseFits ls) ss → ⊥))
 
+-- the names of a fixity sentence up to one of them were declared
+pub record IsPartDeclared (ls : List Lexeme) (at : ℕ) (ops now : Operators) : Type 0 where
+  pub end : ℕ
+  pub front : List ℕ
+  pub rest : List ℕ
+  pub fixity : Fixity
+  pub number : ℕ
+  pub line : IsLine ls at end (FixityLine (front ++ rest) fixity number)
+  pub declared : DeclaresAll (fixity, number) ops (map (bytes_at ls) front) now
+
+-- what a text that is refused leaves in force: the operators behind the sentences before the one at fault and, of this one, those of the
+-- names before the one that cannot be declared
+pub record IsLeft (ls : List Lexeme) (ops now : Operators) : Type 0 where
+  pub at : ℕ
+  pub behind : Operators
+  pub before : List Clause
+  pub sentences : AreSentences ls ops 3 behind at before
+  pub names : ((name : List ℕ) → now name ≡ behind name) ⊎ IsPartDeclared ls at behind now
+
 -- the bytes of a spot
 abbrev pub bytes_of : List ℕ → Spot → List ℕ
 bytes_of source s = piece source s.from s.to
@@ -220,3 +239,12 @@ SentenceFollows source (sentence.Says t) ops after = (name : List ℕ) → after
 abbrev pub SentenceRefuses : List ℕ → Sentence → Operators → SyntaxFault → Type 0
 SentenceRefuses source (sentence.Declares d) ops f = LineRefuses source d ops f
 SentenceRefuses source (sentence.Says t) ops f = ⊥
+
+-- what a sentence that is refused leaves in force, by its spots
+abbrev pub LineLeft : List ℕ → Declaration → Operators → Operators → Type 0
+LineLeft source (declaration.Fixities ss f n) ops now = (place : ℕ) × DeclaresAll (f, n) ops (map (bytes_of source) (take place ss.items)) now
+LineLeft source _ ops now = (name : List ℕ) → now name ≡ ops name
+
+abbrev pub SentenceLeft : List ℕ → Sentence → Operators → Operators → Type 0
+SentenceLeft source (sentence.Declares d) ops now = LineLeft source d ops now
+SentenceLeft source (sentence.Says t) ops now = (name : List ℕ) → now name ≡ ops name

@@ -4,12 +4,12 @@ ghost use Rattle.lp_syntax.specs.declared.class.Keyword.TheVariants as keyword;
 ghost use Rattle.lp_syntax.specs.declared.class.Class.TheVariants as class;
 ghost use Rattle.lp_syntax.specs.Declarations.{Line, is_word};
 ghost use Rattle.lp_syntax.specs.LineMachine.{AtHeader, StopsIn};
-ghost use Rattle.std.specs.Prelude.{map, OnOk};
+ghost use Rattle.std.specs.Prelude.{ℕ, map, take, OnOk, OnErr};
 ghost use Rattle.lp_fixity.specs.declared.fixity.FixFault.{FixFault};
 ghost use Rattle.lp_syntax.specs.declared.class.Keyword.{Keyword as Word};
 ghost use Rattle.lp_syntax.specs.declared.fault.SyntaxFault.TheVariants as fault;
 ghost use Rattle.lp_syntax.specs.Terms.{MemoryOr};
-ghost use Rattle.lp_syntax.specs.Modules.{IsFixFault, DeclaresOne, DeclaresAll, NameFault, LineFollows, LineRefuses, SentenceFollows, SentenceRefuses, IsSentenceText, IsSentenceRefusal, Clause, IsModule, IsModuleText, IsModuleRefusal, IsGivenModule, bytes_of};
+ghost use Rattle.lp_syntax.specs.Modules.{IsFixFault, DeclaresOne, DeclaresAll, NameFault, LineFollows, LineRefuses, SentenceFollows, SentenceRefuses, IsSentenceText, IsSentenceRefusal, Clause, IsModule, IsModuleText, IsModuleRefusal, IsGivenModule, IsLeft, LineLeft, SentenceLeft, bytes_of};
 ghost use Rattle.lp_syntax.specs.Signatures.{title, is_local_word, IsHeader, IsLineText, IsLineRefusal, IsSignature, IsSignatureText, IsSignatureRefusal, IsGivenLines};
 ghost use Rattle.std.specs.Prelude.{IfErr};
 ghost use Rattle.lp_fixity.specs.Table.{Extends, entry_of};
@@ -162,6 +162,7 @@ fn declare_one(
 ) -> Result<(), SyntaxFault>
     ensures extends { Extends table.old table.new }
     ensures declared { OnOk result (DeclaresOne (piece input.now.source.now name.from name.to) (fixity, number) (entry_of table.old) (entry_of table.new)) }
+    ensures kept { OnErr result ((other : List ℕ) → entry_of table.new other ≡ entry_of table.old other) }
     ensures fault { IfErr result (λ f. MemoryOr f ((c : FixFault) × IsFixFault (entry_of table.old) (piece input.now.source.now name.from name.to) (fixity, number) c × (f ≡ fault.Operator c name))) }
 {
     let text = input.piece(name.from, name.to);
@@ -190,6 +191,7 @@ fn declare_all(
 ) -> Result<(), SyntaxFault>
     ensures extends { Extends table.old table.new }
     ensures declared { OnOk result (DeclaresAll (fixity, number) (entry_of table.old) (map (bytes_of input.now.source.now) names.now.items) (entry_of table.new)) }
+    ensures left { OnErr result ((n : ℕ) × DeclaresAll (fixity, number) (entry_of table.old) (map (bytes_of input.now.source.now) (take n names.now.items)) (entry_of table.new)) }
     ensures fault { IfErr result (λ f. MemoryOr f (NameFault input.now.source.now names.now.items (fixity, number) (entry_of table.old) f)) }
 {
     let mut place = 0;
@@ -207,6 +209,7 @@ fn declare_all(
 fn declare(input: &Input<'_>, table: &mut Table, line: &Declaration) -> Result<(), SyntaxFault>
     ensures extends { Extends table.old table.new }
     ensures declared { OnOk result (LineFollows input.now.source.now line.now (entry_of table.old) (entry_of table.new)) }
+    ensures left { OnErr result (LineLeft input.now.source.now line.now (entry_of table.old) (entry_of table.new)) }
     ensures fault { IfErr result (λ f. MemoryOr f (LineRefuses input.now.source.now line.now (entry_of table.old) f)) }
 {
     match line {
@@ -220,6 +223,7 @@ fn declare(input: &Input<'_>, table: &mut Table, line: &Declaration) -> Result<(
 fn follow_line(input: &Input<'_>, table: &mut Table, line: &Sentence) -> Result<(), SyntaxFault>
     ensures extends { Extends table.old table.new }
     ensures declared { OnOk result (SentenceFollows input.now.source.now line.now (entry_of table.old) (entry_of table.new)) }
+    ensures left { OnErr result (SentenceLeft input.now.source.now line.now (entry_of table.old) (entry_of table.new)) }
     ensures fault { IfErr result (λ f. MemoryOr f (SentenceRefuses input.now.source.now line.now (entry_of table.old) f)) }
 {
     match line {
@@ -293,6 +297,7 @@ fn read_module(
 ) -> Result<ModuleText, SyntaxFault>
     ensures extends { Extends table.old table.new }
     ensures tree { IfOk result (IsModuleText (spot_at file source.now tokens.now) (entry_of table.old) (entry_of table.new) (lexemes source.now tokens.now)) }
+    ensures left { OnErr result (IsLeft (lexemes source.now tokens.now) (entry_of table.old) (entry_of table.new)) }
     ensures fault { IfErr result (IsModuleRefusal (spot_at file source.now tokens.now) (entry_of table.old) (lexemes source.now tokens.now)) }
 {
     let input = Input {
@@ -315,8 +320,8 @@ fn read_module(
 /// The module that these tokens are. Its own fixities are added to the table, each behind its sentence.
 ///
 /// # Errors
-/// The first fault of the text, the limit of nesting behind a sentence, or want of memory. The table then has some of the
-/// module's fixities.
+/// The first fault of the text, the limit of nesting behind a sentence, or want of memory. The table then has the
+/// fixities of the sentences before the fault, and of the names before one that cannot be declared.
 pub fn module_text(
     alloc: Global,
     source: &[u8],
@@ -327,6 +332,7 @@ pub fn module_text(
     ensures extends { Extends table.old table.new }
     ensures tree { IfOk result (IsModuleText (spot_at file source.now tokens.now) (entry_of table.old) (entry_of table.new) (lexemes source.now tokens.now)) }
     ensures only { (ss : List Clause) (after : Operators) → IsModule (entry_of table.old) (lexemes source.now tokens.now) ss after → IsGivenModule (spot_at file source.now tokens.now) (lexemes source.now tokens.now) ss after (entry_of table.new) result }
+    ensures left { OnErr result (IsLeft (lexemes source.now tokens.now) (entry_of table.old) (entry_of table.new)) }
     ensures fault { IfErr result (IsModuleRefusal (spot_at file source.now tokens.now) (entry_of table.old) (lexemes source.now tokens.now)) }
 {
     read_module(alloc, source, tokens, file, table)
