@@ -1,7 +1,7 @@
 -- What is to blame for a refusal, seen from the declaration.
 use Rattle.std.proofs.Common.{◌≡◌, ℕ, zero, suc, ◌+◌, ◌<◌, ◌≤◌, List, [], ◌∷◌, length, take, take_all, get_or, refl, sym, ap, subst, ◌∙◌, arith, Result, Ok, Err, inl, inr, ⊎_elim, Option, Some, None}
 use Rattle.std.specs.Global.{Global}
-use Rattle.std.specs.Prelude.{◌≢◌, All, Contains, IfErr, IfOk, OnOk, IfSome, ◌⊎◌, ◌++◌, String, Vec, string_bytes}
+use Rattle.std.specs.Prelude.{◌≢◌, Contains, IfErr, IfOk, OnOk, IfSome, ◌⊎◌, String, Vec, string_bytes}
 use Rattle.std.proofs.lemmas.List.{take_more, get_or_default}
 use Rattle.std.proofs.lemmas.List.Elements.{All-more, Contains-push_cases}
 use Rattle.std.specs.Result.{IsErrAnd}
@@ -11,10 +11,9 @@ use Rattle.lp_base.specs.declared.place.Spot.{Spot}
 use Rattle.lp_syntax.specs.declared.text.RawTypeNode.{RawTypeNode}
 use Rattle.lp_syntax.specs.declared.text.RawTypeNode.TheVariants.{Word, Arrow}
 use Rattle.lp_syntax.specs.declared.text.Declaration.{Declaration}
-use Rattle.lp_syntax.specs.declared.text.Declaration.TheVariants.{Kinds, LocalKinds, Constants, Locals, Abbreviation, Accumulate, AccumSig, Fixities}
 use Rattle.lp_syntax.specs.declared.text.SignatureText.{SignatureText}
 use Rattle.lp_sig.specs.Pieces.{spelled}
-use Rattle.lp_sig.specs.Refusals.{Parts, named, typed, headed, words_of, parts_of, HasManyArguments, IsFaultOf, IsLimitOf, IsWant, IsFaultIn, IsAt, IsText, IsAtFault, AreTaken, IsFaultAt, HasItsHeader, HasOtherHeader, IsStepRefused, IsStepTaken, IsFreeOfCircles, IsCircleFrom, IsRefusal, IsAccepted, ways}
+use Rattle.lp_sig.specs.Refusals.{Parts, typed, words_of, parts_of, HasManyArguments, IsFaultOf, IsLimitOf, IsWant, IsFaultIn, IsAt, IsAtFault, AreTaken, HasItsHeader, HasOtherHeader, IsStepRefused, IsStepTaken, IsFreeOfCircles, IsRefusal, ways}
 use Rattle.lp_sig.specs.Limits.{IsWithin, AreWithin, IsRepeated}
 use Rattle.lp_sig.specs.Loading.{Way, IsLoadOrder, HasNoCircle}
 use Rattle.lp_sig.specs.Walking.{IsFirstCircleFault}
@@ -140,9 +139,16 @@ pub on_ok : {T E : Type 0} (r : Result T E) (P Q : Type 0) → (P → Q) → OnO
 on_ok (Ok x) P Q f h = f h
 on_ok (Err e) P Q f h = tt
 
+pub always : {T E : Type 0} (r : Result T E) (P : Type 0) → P → OnOk r P
+always (Ok x) P p = p
+always (Err e) P p = tt
+
 -- a line at fault, where those before it pass no limit
 pub line_at_fault : (text : List ℕ) (lines ds : List Declaration) (i : ℕ) (d : Declaration) (e : SigFault) → ds ≡ lines → i < length ds → d ≡ get_or ds i d → AreWithin text (take i lines) → IsFaultOf text (parts_of d) (HasManyArguments d) e → IsFaultIn text lines e
 line_at_fault text lines ds i d e same h at before f = inr (record { k = i; line = d; at_line = subst (λ l. IsAt l i d) same (h, sym at); fault = f; before = before })
+
+pub nothing_within : (text : List ℕ) (lines : List Declaration) → AreWithin text (take 0 lines)
+nothing_within text lines = λ k d h. absurd (omega (arith, h))
 
 pub within_more : (text : List ℕ) (lines ds : List Declaration) (i : ℕ) (d : Declaration) → ds ≡ lines → i < length ds → d ≡ get_or ds i d → AreWithin text (take i lines) → IsWithin text d → AreWithin text (take (i + 1) lines)
 within_more text lines ds i d same h at before this = All-more (IsWithin text) lines i d (subst (λ l. i < length l) same h) before (subst (IsWithin text) (at ∙ ap (λ l. get_or l i d) same) this)

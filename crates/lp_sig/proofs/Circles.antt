@@ -1,5 +1,5 @@
 -- Whether words lead to a signature: what is marked is closed under accum_sig, but for the words on the stack.
-use Rattle.std.proofs.Common.{◌≡◌, ℕ, zero, suc, ◌+◌, ◌<◌, ◌≤◌, List, [], ◌∷◌, ◌++◌, Bool, true, false, length, map, take, get_or, set, replicate, take_all, not, refl, sym, ap, subst, ◌∙◌, arith, inl, inr, ⊎_elim, true≢false}
+use Rattle.std.proofs.Common.{◌≡◌, ℕ, zero, suc, ◌+◌, ◌<◌, ◌≤◌, List, [], ◌∷◌, ◌++◌, Bool, true, false, length, take, get_or, set, replicate, take_all, not, refl, sym, ap, subst, ◌∙◌, arith, inl, inr, ⊎_elim, true≢false}
 use Rattle.std.specs.Prelude.{Contains, ◌⊎◌, if◌then◌else◌}
 use Rattle.std.proofs.lemmas.List.{take_more, get_or_default}
 use Rattle.std.proofs.lemmas.List.Elements.{Contains-append_left, Contains-append_right, Contains-append_cases, Contains-push, Contains-push_cases}

@@ -4,3 +4,6 @@ pub mod Order
 pub mod Circles
 pub mod Naming
 pub mod Repeats
+pub mod Firsts
+pub mod Knowledge
+pub mod Spoken

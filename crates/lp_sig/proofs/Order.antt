@@ -1,5 +1,5 @@
 -- The order of loading: what is on the stack is what the definition has yet to come.
-use Rattle.std.proofs.Common.{◌≡◌, ℕ, zero, suc, ◌+◌, ◌<◌, ◌≤◌, List, [], ◌∷◌, ◌++◌, Bool, true, false, length, map, get_or, set, reverse, replicate, refl, sym, ap, subst, ◌∙◌, arith, append_assoc, append-nil, true≢false}
+use Rattle.std.proofs.Common.{◌≡◌, ℕ, zero, suc, ◌+◌, ◌<◌, ◌≤◌, List, [], ◌∷◌, ◌++◌, Bool, true, false, length, get_or, set, reverse, replicate, refl, sym, ap, subst, ◌∙◌, arith, append_assoc, append-nil, true≢false}
 use Rattle.std.proofs.lemmas.List.{reverse-append, reverse-reverse, map-append, length-append, length-map, length-reverse}
 use Rattle.lp_sig.specs.Loading.{Way, ways_out, Loads, again, first, LoadsAll, none, next, IsLoadOrder}
 use Rattle.lp_sig.specs.Walking.{entries, Run, over, own, go, Moves, waiting}

@@ -6,3 +6,5 @@ pub mod Loading
 pub mod Walking
 pub mod Limits
 pub mod Refusals
+pub mod Said
+pub mod Knowing

@@ -1,5 +1,5 @@
 -- The words of a text.
-use Rattle.std.specs.Prelude.{ℕ, List, [], ◌∷◌, Bool, true, false, slice_range, nat_le, ◌&&◌, ◌||◌, nat_eq}
+use Rattle.std.specs.Prelude.{ℕ, List, [], ◌∷◌, Bool, false, slice_range, nat_le, ◌&&◌, ◌||◌, nat_eq}
 use Rattle.lp_base.specs.declared.place.Spot.{Spot}
 
 -- the bytes of a spot, as far as there are any

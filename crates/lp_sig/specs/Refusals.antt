@@ -10,6 +10,9 @@ use Rattle.lp_syntax.specs.declared.text.RawTypeNode.{RawTypeNode}
 use Rattle.lp_syntax.specs.declared.text.RawTypeNode.TheVariants.{Word, Arrow}
 use Rattle.lp_syntax.specs.declared.text.SignatureText.{SignatureText}
 use Rattle.lp_sig.specs.Pieces.{spelled}
+use Rattle.lp_fixity.specs.declared.fixity.Fixity.{Fixity}
+use Rattle.lp_sig.specs.Rows.{Row}
+use Rattle.lp_sig.specs.Said.{numbered, firsts, kinds_among, declared_names, said_in, fixities_in, of_steps}
 use Rattle.lp_sig.specs.Limits.{AreWithin, IsRepeated}
 use Rattle.lp_sig.specs.Loading.{Way, ways_between, IsLoadOrder, HasNoCircle, IsFirstCircle}
 use Rattle.lp_sig.specs.declared.walk.Step.{Step}
@@ -181,8 +184,10 @@ module _ (names : List (String Global)) (sources : List (Vec ℕ Global)) (texts
   IsRefusal root fault.Memory = Unit {0}
   IsRefusal root e = IsRefusedFrom root e
 
-  -- every step is taken
-  pub record IsAccepted (root : ℕ) : Type 0 where
+  -- every step is taken, and these kinds and fixities are declared: the first of each name
+  pub record IsAccepted (root : ℕ) (kinds : List (Row (ℕ × ℕ))) (fixities : List (Row (Fixity × ℕ))) : Type 0 where
     pub steps : List Step
     pub loaded : IsFreeOfCircles root steps
     pub taken : (s : Step) → Contains steps s → IsStepTaken s
+    pub kinds_are : kinds ≡ numbered 0 (kinds_among (declared_names (of_steps said_in sources texts steps)))
+    pub fixities_are : fixities ≡ firsts [] (of_steps fixities_in sources texts steps)

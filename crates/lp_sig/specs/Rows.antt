@@ -1,5 +1,5 @@
 -- The entries of a signature as plain rows, in the order of first declaration: a name with what stands beside it.
-use Rattle.std.specs.Prelude.{◌≡◌, ℕ, List, [], ◌∷◌, ◌++◌, map, Option, Some, None}
+use Rattle.std.specs.Prelude.{ℕ, List, Option}
 use Rattle.std.specs.Str.{bytes_eq}
 use Rattle.std.specs.Map.{lookup}
 use Rattle.lp_fixity.specs.declared.fixity.Fixity.{Fixity}

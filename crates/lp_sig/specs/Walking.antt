@@ -1,6 +1,6 @@
 -- What the walks over signatures have done, and what is left to do.
 use Rattle.std.specs.Prelude.{◌≡◌, ℕ, suc, ◌+◌, List, [], ◌∷◌, ◌++◌, Bool, true, false, map, reverse, length, Contains}
-use Rattle.lp_sig.specs.Loading.{Way, ways_out, Loads, LeadsTo, IsCircle, IsFirstCircle}
+use Rattle.lp_sig.specs.Loading.{Way, Loads, LeadsTo, IsCircle, IsFirstCircle}
 use Rattle.lp_sig.specs.declared.walk.Step.{Step}
 use Rattle.lp_sig.specs.declared.walk.Step.TheVariants.{Enter, Declare}
 use Rattle.lp_sig.specs.declared.fault.SigFault.{SigFault}

@@ -1,61 +1,32 @@
 // The kinds and abbreviations of a text, which may be used before they are declared.
+ghost use Rattle.std.specs.Prelude.{◌≡◌, ◌++◌, List, [], ◌∷◌, OnOk};
+ghost use Rattle.lp_sig.specs.Rows.{Row};
+ghost use Rattle.lp_sig.specs.Said.{Said, an_abbreviation, each, said_by, said_in};
+ghost use Rattle.lp_sig.specs.Knowing.{Knows};
 
-use crate::entries::KindEntry;
-use crate::lines::Lines;
-use crate::making::{Abbreviated, Making, Meaning};
+use crate::making::Making;
+use crate::names::{Meaning, Names};
 use crate::pieces::{is_variable, spelled_at};
-use crate::standard::FIRST_KIND;
 use lp_base::{Memory, Spot};
-use lp_syntax::{Declaration, RawType, RawTypeNode};
+use lp_syntax::{Declaration, ModuleText, RawType, RawTypeNode, Sentence, SignatureText};
+use std::alloc::Global;
 
 impl Making {
-    // A kind with the next number.
-    pub(crate) fn add_kind(&mut self, name: &[u8], arity: u32) -> Result<u32, Memory> {
-        let number = FIRST_KIND.saturating_add(self.kinds.len().min(u32::MAX as usize) as u32);
-        self.kinds.push(KindEntry {
-            name: Vec::from_slice(self.alloc, name)?,
-            number,
-            arity: arity.min(255) as u8,
-        })?;
-        Ok(number)
-    }
-
-    // A kind that has no meaning yet gets the next number.
-    pub(crate) fn announce_kind(&mut self, name: &[u8], arity: u32) -> Result<(), Memory> {
-        if self.meaning(name).is_some() {
-            return Ok(());
-        }
-        let key = Vec::from_slice(self.alloc, name)?;
-        let number = self.add_kind(name, arity)?;
-        self.meanings.insert(key, Meaning::Kind(number, arity))?;
-        Ok(())
-    }
-
     fn announce_abbreviation(
         &mut self,
-        name: &[u8],
+        source: &[u8],
+        name: Spot,
         parameters: usize,
         line: usize,
-    ) -> Result<(), Memory> {
-        if self.meaning(name).is_some() {
-            return Ok(());
-        }
-        let place = self.abbreviations.len();
-        let key = Vec::from_slice(self.alloc, name)?;
-        self.abbreviations.push(Abbreviated {
-            name: Vec::from_slice(self.alloc, name)?,
-            parameters,
-            body: None,
-            uses: Vec::new(self.alloc),
-            line: Some(line),
-        })?;
-        self.meanings.insert(key, Meaning::Abbreviation(place))?;
-        Ok(())
-    }
-
-    fn announce_kinds(&mut self, source: &[u8], names: &[Spot], arity: u32) -> Result<(), Memory> {
-        for name in names.iter().copied() {
-            self.announce_kind(spelled_at(source, name), arity)?;
+    ) -> Result<(), Memory>
+        ensures names { OnOk result ((said : List (Row Said)) → Knows self.old.names said → Knows self.new.names (said ++ each source.now (an_abbreviation parameters) (name ∷ []))) }
+        ensures operators { self.new.operators ≡ self.old.operators }
+    {
+        if self
+            .names
+            .announce_head(spelled_at(source, name), parameters)?
+        {
+            self.bodies.add(None, Some(line))?;
         }
         Ok(())
     }
@@ -66,33 +37,64 @@ impl Making {
         source: &[u8],
         declaration: &Declaration,
         line: usize,
-    ) -> Result<(), Memory> {
+    ) -> Result<(), Memory>
+        ensures names { OnOk result ((said : List (Row Said)) → Knows self.old.names said → Knows self.new.names (said ++ said_by source.now declaration.now)) }
+        ensures operators { self.new.operators ≡ self.old.operators }
+    {
         match declaration {
             Declaration::Kinds(names, arity) => {
-                self.announce_kinds(source, names.as_slice(), *arity)
+                self.names.announce_kinds(source, names.as_slice(), *arity)
             }
-            Declaration::LocalKinds(names, Some(arity)) => {
-                self.announce_kinds(source, names.as_slice(), *arity)
-            }
+            Declaration::LocalKinds(names, count) => match count {
+                Some(arity) => self.names.announce_kinds(source, names.as_slice(), *arity),
+                None => Ok(()),
+            },
+            Declaration::Constants(_, _) => Ok(()),
+            Declaration::Locals(_, _) => Ok(()),
             Declaration::Abbreviation(name, parameters, _) => {
-                self.announce_abbreviation(spelled_at(source, *name), parameters.len(), line)
+                self.announce_abbreviation(source, *name, parameters.len(), line)
             }
-            _ => Ok(()),
+            Declaration::Accumulate(_) => Ok(()),
+            Declaration::AccumSig(_) => Ok(()),
+            Declaration::Fixities(_, _, _) => Ok(()),
         }
     }
 
-    pub(crate) fn announce<T: Lines>(&mut self, source: &[u8], text: &T) -> Result<(), Memory> {
-        for line in 0..text.count() {
-            if let Some(declaration) = text.declaration(line) {
-                self.announce_line(source, declaration, line)?;
-            }
+    pub(crate) fn announce(&mut self, source: &[u8], text: &SignatureText) -> Result<(), Memory>
+        ensures names { OnOk result ((said : List (Row Said)) → Knows self.old.names said → Knows self.new.names (said ++ said_in source.now text.now.lines.items)) }
+        ensures operators { self.new.operators ≡ self.old.operators }
+    {
+        for (line, declaration) in text.lines.as_slice().iter().enumerate() {
+            self.announce_line(source, declaration, line)?;
         }
         Ok(())
     }
 
+    // The declarations of a module's text.
+    pub(crate) fn announce_module(
+        &mut self,
+        source: &[u8],
+        text: &ModuleText,
+    ) -> Result<(), Memory> {
+        for (line, sentence) in text.lines.as_slice().iter().enumerate() {
+            match sentence {
+                Sentence::Declares(declaration) => self.announce_line(source, declaration, line)?,
+                Sentence::Says(_) => {}
+            }
+        }
+        Ok(())
+    }
+}
+
+impl Names {
     // The abbreviations that a body names.
-    pub(crate) fn uses_of(&self, source: &[u8], raw: &RawType) -> Result<Vec<usize>, Memory> {
-        let mut uses = Vec::new(self.alloc);
+    pub(crate) fn uses_of(
+        &self,
+        alloc: Global,
+        source: &[u8],
+        raw: &RawType,
+    ) -> Result<Vec<usize>, Memory> {
+        let mut uses = Vec::new(alloc);
         for node in raw.nodes.iter() {
             if let RawTypeNode::Word(spot, _) = node {
                 let word = spelled_at(source, *spot);
@@ -104,14 +106,5 @@ impl Making {
             }
         }
         Ok(uses)
-    }
-
-    // Behind a text its lines mean nothing more.
-    pub(crate) fn leave(&mut self, from: usize) {
-        for place in from..self.abbreviations.len() {
-            if let Some(known) = self.abbreviations.get_mut(place) {
-                known.line = None;
-            }
-        }
     }
 }

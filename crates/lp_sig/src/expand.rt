@@ -3,8 +3,9 @@ ghost use Rattle.std.specs.Prelude.{◌≡◌, ◌⊎◌, [], ◌∷◌, IfErr, 
 ghost use Rattle.lp_sig.specs.Limits.{AreApart, IsRepeated};
 ghost use Rattle.lp_sig.specs.Refusals.{IsFaultOf, named, typed, headed, words_of};
 
+use crate::bodies::Bodies;
 use crate::fault::SigFault;
-use crate::making::{Making, Meaning};
+use crate::names::{Meaning, Names};
 use crate::pieces::{is_variable, spelled_at};
 use crate::places::Places;
 use indexmap::IndexMap;
@@ -145,9 +146,10 @@ fn earlier(
     }
 }
 
-impl Making {
+impl Bodies {
     fn word(
         &mut self,
+        names: &Names,
         source: &[u8],
         spot: Spot,
         arguments: &[usize],
@@ -162,7 +164,7 @@ impl Making {
             let id = self.types.var(number)?;
             return Ok(Made::Type(id));
         }
-        match self.meaning(name) {
+        match names.meaning(name) {
             None => Ok(Made::Unknown),
             Some(Meaning::Kind(number, arity)) => {
                 if arguments.len() as u64 != arity as u64 {
@@ -174,24 +176,25 @@ impl Making {
                 let id = self.types.con(number, parts.as_slice())?;
                 Ok(Made::Type(id))
             }
-            Some(Meaning::Abbreviation(place)) => self.replaced(place, arguments, done),
+            Some(Meaning::Abbreviation(place)) => self.replaced(names, place, arguments, done),
         }
     }
 
     // An abbreviation on its arguments.
     fn replaced(
         &mut self,
+        names: &Names,
         place: usize,
         arguments: &[usize],
         done: &[Option<TypeId>],
     ) -> Result<Made, Memory> {
-        let Some(known) = self.abbreviations.get(place) else {
+        let Some(head) = names.heads.get(place) else {
             return Ok(Made::Open);
         };
-        if arguments.len() != known.parameters {
+        if arguments.len() != head.parameters {
             return Ok(Made::Arity);
         }
-        let Some(body) = known.body else {
+        let Some(body) = self.body_at(place) else {
             return Ok(Made::Open);
         };
         let Some(parts) = types_at(self.alloc, done, arguments)? else {
@@ -221,6 +224,7 @@ impl Making {
     // The type of a node whose parts were looked at before, or the fault of its word with its place.
     fn expand_node(
         &mut self,
+        names: &Names,
         source: &[u8],
         node: &RawTypeNode,
         done: &mut Vec<Option<TypeId>>,
@@ -236,6 +240,7 @@ impl Making {
             }
             RawTypeNode::Word(spot, arguments) => {
                 match self.word(
+                    names,
                     source,
                     *spot,
                     arguments.as_slice(),
@@ -267,6 +272,7 @@ impl Making {
     // fault of its own.
     pub(crate) fn expand(
         &mut self,
+        names: &Names,
         source: &[u8],
         raw: &RawType,
         variables: &mut Variables,
@@ -276,7 +282,7 @@ impl Making {
         let mut done = Vec::new(self.alloc);
         let mut fault = None;
         for node in &raw.nodes {
-            let found = self.expand_node(source, node, &mut done, variables)?;
+            let found = self.expand_node(names, source, node, &mut done, variables)?;
             fault = earlier(fault, found);
         }
         if let Some((_, first)) = fault {
@@ -288,6 +294,7 @@ impl Making {
     // A declared type, its variables numbered by first place, with their count.
     pub(crate) fn scheme(
         &mut self,
+        names: &Names,
         source: &[u8],
         raw: &RawType,
     ) -> Result<Option<(u8, TypeId)>, SigFault>
@@ -297,15 +304,15 @@ impl Making {
             return Err(SigFault::Limit(Limit::Arguments));
         }
         let mut variables = Variables::open(self.alloc);
-        let Some(whole) = self.expand(source, raw, &mut variables)? else {
+        let Some(whole) = self.expand(names, source, raw, &mut variables)? else {
             return Ok(None);
         };
         let found = self.types.variables(whole)?;
         if found.len() > 255 {
             return Err(SigFault::Limit(Limit::Arguments));
         }
-        let names = self.new_names(found.as_slice(), variables.next)?;
-        let scheme = self.types.instance(whole, names.as_slice())?;
+        let new = self.new_names(found.as_slice(), variables.next)?;
+        let scheme = self.types.instance(whole, new.as_slice())?;
         Ok(Some((found.len() as u8, scheme)))
     }
 

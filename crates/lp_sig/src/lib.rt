@@ -3,6 +3,10 @@
 
 // The kinds and abbreviations of a text, before its lines.
 mod announce;
+// The types so far, with the bodies of abbreviations.
+mod bodies;
+// The constants so far.
+mod constants;
 // What the declarations of a text say, line by line.
 mod declare;
 // Entries of a signature.
@@ -23,6 +27,10 @@ mod module_fault;
 mod module_lines;
 // From a module's declarations to the signature of what it sees.
 mod module_text;
+// The names of kinds and abbreviations so far.
+mod names;
+// The fixities so far.
+mod operators;
 // The words of a text.
 mod pieces;
 // Names with the place at which each stands first.

@@ -3,28 +3,17 @@
 use lp_syntax::{Declaration, ModuleText, Sentence, SignatureText};
 
 pub(crate) trait Lines {
-    // How many lines there are.
-    fn count(&self) -> usize;
-
     // The declaration of a line, if it is one.
     fn declaration(&self, line: usize) -> Option<&Declaration>;
 }
 
 impl Lines for SignatureText {
-    fn count(&self) -> usize {
-        self.lines.len()
-    }
-
     fn declaration(&self, line: usize) -> Option<&Declaration> {
         self.lines.get(line)
     }
 }
 
 impl Lines for ModuleText {
-    fn count(&self) -> usize {
-        self.lines.len()
-    }
-
     fn declaration(&self, line: usize) -> Option<&Declaration> {
         match self.lines.get(line)? {
             Sentence::Declares(declaration) => Some(declaration),

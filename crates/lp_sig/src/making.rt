@@ -1,91 +1,87 @@
 // The declarations so far.
+ghost use Rattle.std.specs.Prelude.{◌≡◌, [], map, IfOk};
+ghost use Rattle.lp_sig.specs.Rows.{kind_row};
+ghost use Rattle.lp_sig.specs.Said.{numbered};
+ghost use Rattle.lp_sig.specs.Knowing.{Knows, kinded_row, KnowsOperators};
 
-use crate::entries::{AbbreviationEntry, ConstantEntry, FixityEntry, KindEntry};
-use crate::interned::Types;
-use crate::places::Places;
+use crate::bodies::Bodies;
+use crate::constants::Constants;
+use crate::entries::{AbbreviationEntry, KindEntry};
+use crate::names::{Kinded, Names, kind_number};
+use crate::operators::Operators;
 use crate::signature::Signature;
-use crate::standard::standard_kind;
-use indexmap::IndexMap;
 use lp_base::Memory;
-use lp_term::TypeId;
 use std::alloc::Global;
-
-// What a name of a kind or an abbreviation means: the number of the kind and its count of arguments, or the place of the
-// abbreviation.
-#[derive(Clone, Copy)]
-pub(crate) enum Meaning {
-    Kind(u32, u32),
-    Abbreviation(usize),
-}
-
-// An abbreviation; its body is missing while it is not settled, or where it has a fault. The line is that of the text at
-// work in which it is declared.
-#[derive(Drop)]
-pub(crate) struct Abbreviated {
-    pub name: Vec<u8>,
-    pub parameters: usize,
-    pub body: Option<TypeId>,
-    pub uses: Vec<usize>,
-    pub line: Option<usize>,
-}
 
 #[derive(Drop)]
 pub(crate) struct Making {
     pub alloc: Global,
-    pub types: Types,
-    pub kinds: Vec<KindEntry>,
-    pub meanings: IndexMap<Vec<u8>, Meaning>,
-    pub abbreviations: Vec<Abbreviated>,
-    pub constants: Vec<ConstantEntry>,
-    pub constant_places: Places,
-    pub fixities: Vec<FixityEntry>,
-    pub fixity_places: Places,
+    pub names: Names,
+    pub bodies: Bodies,
+    pub constants: Constants,
+    pub operators: Operators,
+}
+
+// The kinds with their numbers.
+fn entries_of(alloc: Global, kinds: &[Kinded]) -> Result<Vec<KindEntry>, Memory>
+    ensures { IfOk result (λ entries. map kind_row entries.items ≡ numbered 0 (map kinded_row kinds.now)) }
+{
+    let mut entries = Vec::new(alloc);
+    for (place, kind) in kinds.iter().enumerate() {
+        let name = Vec::from_slice(alloc, kind.name.as_slice())?;
+        entries.push(KindEntry {
+            name,
+            number: kind_number(place),
+            arity: kind.arity.min(255) as u8,
+        })?;
+    }
+    Ok(entries)
 }
 
 impl Making {
-    pub(crate) fn new(alloc: Global) -> Making {
+    pub(crate) fn new(alloc: Global) -> Making
+        ensures names { Knows result.names [] }
+        ensures operators { KnowsOperators result.operators [] }
+    {
         Making {
             alloc,
-            types: Types::new(alloc),
-            kinds: Vec::new(alloc),
-            meanings: IndexMap::new(alloc),
-            abbreviations: Vec::new(alloc),
-            constants: Vec::new(alloc),
-            constant_places: Places::new(alloc),
-            fixities: Vec::new(alloc),
-            fixity_places: Places::new(alloc),
+            names: Names::new(alloc),
+            bodies: Bodies::new(alloc),
+            constants: Constants::new(alloc),
+            operators: Operators::new(alloc),
         }
     }
 
-    // What a name of a kind or an abbreviation means.
-    pub(crate) fn meaning(&self, name: &[u8]) -> Option<Meaning> {
-        if let Some((number, arity)) = standard_kind(name) {
-            return Some(Meaning::Kind(number, arity as u32));
-        }
-        self.meanings.get(name).copied()
-    }
-
-    // The signature of what was declared.
-    pub(crate) fn finish(self) -> Result<Signature, Memory> {
-        let alloc = self.alloc;
-        let mut abbreviations = Vec::new(alloc);
-        for known in self.abbreviations.iter() {
-            let Some(body) = known.body else {
+    // The abbreviations with their bodies.
+    fn abbreviations(&self) -> Result<Vec<AbbreviationEntry>, Memory> {
+        let mut abbreviations = Vec::new(self.alloc);
+        for (place, head) in self.names.heads.iter().enumerate() {
+            let Some(body) = self.bodies.body_at(place) else {
                 return Err(Memory);
             };
             abbreviations.push(AbbreviationEntry {
-                name: Vec::from_slice(alloc, known.name.as_slice())?,
-                type_vars: known.parameters.min(255) as u8,
+                name: Vec::from_slice(self.alloc, head.name.as_slice())?,
+                type_vars: head.parameters.min(255) as u8,
                 body,
             })?;
         }
+        Ok(abbreviations)
+    }
+
+    // The signature of what was declared.
+    pub(crate) fn finish(self) -> Result<Signature, Memory>
+        ensures kinds { IfOk result (λ s. map kind_row s.kinds.items ≡ numbered 0 (map kinded_row self.names.kinds.items)) }
+        ensures fixities { IfOk result (λ s. s.fixities ≡ self.operators.fixities) }
+    {
+        let kinds = entries_of(self.alloc, self.names.kinds.as_slice())?;
+        let abbreviations = self.abbreviations()?;
         Signature::of(
-            alloc,
-            self.types.into_bank(),
-            self.kinds,
-            self.constants,
+            self.alloc,
+            self.bodies.into_bank(),
+            kinds,
+            self.constants.into_entries(),
             abbreviations,
-            self.fixities,
+            self.operators.into_entries(),
         )
     }
 }

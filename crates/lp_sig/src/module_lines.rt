@@ -1,6 +1,6 @@
 // What the declarations of a module say, line by line.
 
-use crate::declare::check_lengths;
+use crate::declare::{check_lengths, declare_constants};
 use crate::fault::SigFault;
 use crate::making::Making;
 use crate::module_fault::ModuleSigFault;
@@ -173,7 +173,7 @@ impl<'a> ModuleLines<'a> {
     }
 
     fn kinds(&self, making: &Making, names: &[Spot], arity: u32) -> Result<(), ModuleSigFault> {
-        match making.declare_kinds(self.source, names, arity) {
+        match making.names.declare_kinds(self.source, names, arity) {
             Ok(()) => Ok(()),
             Err(fault) => Err(self.kinds_blamed(fault)),
         }
@@ -190,7 +190,7 @@ impl<'a> ModuleLines<'a> {
             if self.exports_kind(*name) {
                 return Err(ModuleSigFault::Exported(*name));
             }
-            making.declare_kind(self.source, *name, arity)?;
+            making.names.declare_kind(self.source, *name, arity)?;
         }
         if arity > 255 {
             return Err(ModuleSigFault::Sig(SigFault::Limit(Limit::Arguments)));
@@ -217,7 +217,15 @@ impl<'a> ModuleLines<'a> {
         names: &[Spot],
         raw: &RawType,
     ) -> Result<(), ModuleSigFault> {
-        match making.declare_constants(self.source, names, raw) {
+        let outcome = declare_constants(
+            &making.names,
+            &mut making.bodies,
+            &mut making.constants,
+            self.source,
+            names,
+            raw,
+        );
+        match outcome {
             Ok(()) => Ok(()),
             Err(fault) => Err(self.constants_blamed(fault)),
         }
@@ -240,7 +248,7 @@ impl<'a> ModuleLines<'a> {
         names: &[Spot],
         raw: &RawType,
     ) -> Result<(), ModuleSigFault> {
-        match making.scheme(self.source, raw) {
+        match making.bodies.scheme(&making.names, self.source, raw) {
             Err(fault) => {
                 self.check_locals(names)?;
                 check_lengths(self.source, names)?;
@@ -256,7 +264,13 @@ impl<'a> ModuleLines<'a> {
                     if self.exports_constant(*name) {
                         return Err(ModuleSigFault::Exported(*name));
                     }
-                    making.declare_constant(self.source, *name, type_vars, scheme)?;
+                    making.constants.declare(
+                        &mut making.bodies.types,
+                        self.source,
+                        *name,
+                        type_vars,
+                        scheme,
+                    )?;
                 }
                 Ok(())
             }
@@ -283,7 +297,10 @@ impl<'a> ModuleLines<'a> {
         parameters: &[Spot],
         raw: &RawType,
     ) -> Result<(), ModuleSigFault> {
-        match making.declare_abbreviation(self.source, name, parameters, raw) {
+        let outcome = making
+            .bodies
+            .declare_abbreviation(&making.names, self.source, name, parameters, raw);
+        match outcome {
             Ok(()) => Ok(()),
             Err(fault) => Err(self.kinds_blamed(fault)),
         }

@@ -23,9 +23,9 @@ fn see_all(making: &mut Making, own: &Signature, used: &[Signature]) -> Result<V
 
 // Takes up the kinds and abbreviations of the text, which may be used before they are declared.
 fn announce_all(making: &mut Making, source: &[u8], text: &ModuleText) -> Result<(), Memory> {
-    let from = making.abbreviations.len();
-    making.announce(source, text)?;
-    making.settle(source, text, from)
+    let from = making.names.heads.len();
+    making.announce_module(source, text)?;
+    making.bodies.settle(&making.names, source, text, from)
 }
 
 // Takes up the declarations of the text, in order.

@@ -2,7 +2,8 @@
 
 use crate::entries::{AbbreviationEntry, ConstantEntry, KindEntry};
 use crate::fault::SigFault;
-use crate::making::{Abbreviated, Making, Meaning};
+use crate::making::Making;
+use crate::names::Meaning;
 use crate::signature::Signature;
 use crate::standard::{END_OF_NUMBERS, FIRST_KIND};
 use indexmap::IndexMap;
@@ -70,8 +71,8 @@ impl Making {
     // A kind that is seen, with its number here.
     fn see_kind(&mut self, entry: &KindEntry) -> Result<(u32, Sight), Memory> {
         let name = entry.name.as_slice();
-        self.announce_kind(name, entry.arity as u32)?;
-        match self.meaning(name) {
+        self.names.announce_kind(name, entry.arity as u32)?;
+        match self.names.meaning(name) {
             Some(Meaning::Kind(number, arity)) => {
                 let sight = Sight::if_alike(arity == entry.arity as u32);
                 if number >= END_OF_NUMBERS {
@@ -80,7 +81,7 @@ impl Making {
                 Ok((number, sight))
             }
             _ => {
-                let number = self.add_kind(name, entry.arity as u32)?;
+                let number = self.names.add_kind(name, entry.arity as u32)?;
                 Ok((number, Sight::Otherwise))
             }
         }
@@ -112,17 +113,17 @@ impl Making {
             return Err(Memory);
         }
         match bank.type_node(id) {
-            TypeNode::Var(number) => self.types.var(number),
+            TypeNode::Var(number) => self.bodies.types.var(number),
             TypeNode::Param(_) => Err(Memory),
             TypeNode::Con(kind, ids) => {
                 let number = kind_here(kinds, kind)?;
                 let parts = types_here(self.alloc, made, ids)?;
-                self.types.con(number, parts.as_slice())
+                self.bodies.types.con(number, parts.as_slice())
             }
             TypeNode::Arrow(from, to) => {
                 let left = type_here(made, from)?;
                 let right = type_here(made, to)?;
-                self.types.arrow(left, right)
+                self.bodies.types.arrow(left, right)
             }
         }
     }
@@ -141,26 +142,6 @@ impl Making {
         Ok(made)
     }
 
-    // An abbreviation that is seen; it names no others.
-    fn add_abbreviation(
-        &mut self,
-        name: &[u8],
-        parameters: usize,
-        body: TypeId,
-    ) -> Result<(), Memory> {
-        let place = self.abbreviations.len();
-        let key = Vec::from_slice(self.alloc, name)?;
-        self.abbreviations.push(Abbreviated {
-            name: Vec::from_slice(self.alloc, name)?,
-            parameters,
-            body: Some(body),
-            uses: Vec::new(self.alloc),
-            line: None,
-        })?;
-        self.meanings.insert(key, Meaning::Abbreviation(place))?;
-        Ok(())
-    }
-
     fn see_abbreviation(
         &mut self,
         entry: &AbbreviationEntry,
@@ -169,15 +150,16 @@ impl Making {
         let name = entry.name.as_slice();
         let parameters = entry.type_vars as usize;
         let body = type_here(made, entry.body)?;
-        match self.meaning(name) {
+        match self.names.meaning(name) {
             None => {
-                self.add_abbreviation(name, parameters, body)?;
+                self.names.add_head(name, parameters)?;
+                self.bodies.add(Some(body), None)?;
                 Ok(Sight::Alike)
             }
             Some(Meaning::Kind(_, _)) => Ok(Sight::Otherwise),
-            Some(Meaning::Abbreviation(place)) => match self.abbreviations.get(place) {
+            Some(Meaning::Abbreviation(place)) => match self.names.heads.get(place) {
                 Some(known) => Ok(Sight::if_alike(
-                    known.parameters == parameters && known.body == Some(body),
+                    known.parameters == parameters && self.bodies.body_at(place) == Some(body),
                 )),
                 None => Err(Memory),
             },
@@ -187,10 +169,10 @@ impl Making {
     fn see_constant(&mut self, entry: &ConstantEntry, made: &[TypeId]) -> Result<Sight, Memory> {
         let name = entry.name.as_slice();
         let scheme = type_here(made, entry.scheme)?;
-        if let Some(known) = self.known_scheme(name)? {
+        if let Some(known) = self.constants.known_scheme(&mut self.bodies.types, name)? {
             return Ok(Sight::if_alike(known == scheme));
         }
-        match self.add_constant(name, entry.type_vars, scheme) {
+        match self.constants.add(name, entry.type_vars, scheme) {
             Ok(()) => Ok(Sight::Alike),
             Err(SigFault::Limit(Limit::Names)) => Ok(Sight::TooMany),
             Err(_) => Err(Memory),
@@ -216,7 +198,8 @@ impl Making {
     // Takes up the fixities of a signature.
     pub(crate) fn see_fixities(&mut self, signature: &Signature) -> Result<(), Memory> {
         for entry in signature.fixities().iter() {
-            self.declare_fixity(entry.name.as_slice(), entry.fixity, entry.number)?;
+            self.operators
+                .declare(entry.name.as_slice(), entry.fixity, entry.number)?;
         }
         Ok(())
     }

@@ -1,9 +1,10 @@
 // The bodies of abbreviations, those that a body names before it.
 
+use crate::bodies::Bodies;
 use crate::expand::Variables;
 use crate::fault::SigFault;
 use crate::lines::Lines;
-use crate::making::Making;
+use crate::names::Names;
 use indexmap::IndexSet;
 use lp_base::{Memory, Spot};
 use lp_syntax::{Declaration, RawType};
@@ -24,19 +25,25 @@ fn declared_by<T: Lines>(text: &T, line: usize) -> Option<(&[Spot], &RawType)> {
     }
 }
 
-impl Making {
+impl Bodies {
     // The line of the text at work that declares an abbreviation.
     fn line_of(&self, place: usize) -> Option<usize> {
-        self.abbreviations.get(place)?.line
+        self.bodies.get(place)?.line
     }
 
     // The uses of the abbreviations of a text, from a place on.
-    fn note_uses<T: Lines>(&mut self, source: &[u8], text: &T, from: usize) -> Result<(), Memory> {
-        for place in from..self.abbreviations.len() {
+    fn note_uses<T: Lines>(
+        &mut self,
+        names: &Names,
+        source: &[u8],
+        text: &T,
+        from: usize,
+    ) -> Result<(), Memory> {
+        for place in from..self.bodies.len() {
             if let Some(line) = self.line_of(place) {
                 if let Some((_, raw)) = declared_by(text, line) {
-                    let uses = self.uses_of(source, raw)?;
-                    if let Some(known) = self.abbreviations.get_mut(place) {
+                    let uses = names.uses_of(self.alloc, source, raw)?;
+                    if let Some(known) = self.bodies.get_mut(place) {
                         known.uses = uses;
                     }
                 }
@@ -48,6 +55,7 @@ impl Making {
     // The body of an abbreviation, if it has no fault and those that it names are settled.
     fn body_of<T: Lines>(
         &mut self,
+        names: &Names,
         source: &[u8],
         text: &T,
         place: usize,
@@ -63,7 +71,7 @@ impl Making {
             Err(SigFault::Memory) => return Err(Memory),
             Err(_) => return Ok(None),
         };
-        match self.expand(source, raw, &mut variables) {
+        match self.expand(names, source, raw, &mut variables) {
             Ok(body) => Ok(body),
             Err(SigFault::Memory) => Err(Memory),
             Err(_) => Ok(None),
@@ -72,7 +80,7 @@ impl Making {
 
     // Puts the abbreviations that one names on a stack.
     fn push_uses(&self, place: usize, work: &mut Vec<Visit>) -> Result<(), Memory> {
-        if let Some(known) = self.abbreviations.get(place) {
+        if let Some(known) = self.bodies.get(place) {
             for used in known.uses.iter().copied() {
                 work.push(Visit::Enter(used))?;
             }
@@ -83,6 +91,7 @@ impl Making {
     // Settles an abbreviation of the text behind those that it names.
     fn settle_from<T: Lines>(
         &mut self,
+        names: &Names,
         source: &[u8],
         text: &T,
         start: usize,
@@ -100,8 +109,8 @@ impl Making {
                     }
                 }
                 Some(Visit::Leave(place)) => {
-                    let body = self.body_of(source, text, place)?;
-                    if let Some(known) = self.abbreviations.get_mut(place) {
+                    let body = self.body_of(names, source, text, place)?;
+                    if let Some(known) = self.bodies.get_mut(place) {
                         known.body = body;
                     }
                 }
@@ -113,17 +122,18 @@ impl Making {
     // Settles the abbreviations of a text, from a place on.
     pub(crate) fn settle<T: Lines>(
         &mut self,
+        names: &Names,
         source: &[u8],
         text: &T,
         from: usize,
     ) -> Result<(), Memory> {
-        self.note_uses(source, text, from)?;
+        self.note_uses(names, source, text, from)?;
         let mut seen = IndexSet::new(self.alloc);
         for place in 0..from {
             seen.insert(place)?;
         }
-        for place in from..self.abbreviations.len() {
-            self.settle_from(source, text, place, &mut seen)?;
+        for place in from..self.bodies.len() {
+            self.settle_from(names, source, text, place, &mut seen)?;
         }
         Ok(())
     }
@@ -140,7 +150,7 @@ impl Making {
                 return Ok(true);
             }
             if seen.insert(place)? {
-                if let Some(known) = self.abbreviations.get(place) {
+                if let Some(known) = self.bodies.get(place) {
                     work.extend_from_slice(known.uses.as_slice())?;
                 }
             }

@@ -1,6 +1,10 @@
 // From texts to a signature.
-ghost use Rattle.std.specs.Prelude.{◌≡◌, ◌≢◌, ◌⊎◌, IfOk, IfErr, string_bytes};
+ghost use Rattle.std.specs.Prelude.{◌≡◌, ◌≢◌, ◌⊎◌, ◌++◌, ℕ, List, IfOk, IfErr, OnOk, map, string_bytes};
 ghost use Rattle.lp_sig.specs.Pieces.{spelled};
+ghost use Rattle.lp_fixity.specs.declared.fixity.Fixity.{Fixity};
+ghost use Rattle.lp_sig.specs.Rows.{Row, kind_row, fixity_row};
+ghost use Rattle.lp_sig.specs.Said.{Said, said_in, fixities_in, of_text, of_step};
+ghost use Rattle.lp_sig.specs.Knowing.{Knows, KnowsOperators};
 ghost use Rattle.lp_sig.specs.Refusals.{HasItsHeader, HasOtherHeader, IsAtFault, AreTaken, IsStepTaken, IsStepRefused, IsRefusal, IsAccepted};
 ghost use Rattle.lp_sig.specs.declared.fault.SigFault.TheVariants as fault;
 
@@ -55,6 +59,8 @@ fn declare(
 ) -> Result<(), SigFault>
     ensures refused { IfErr result (λ e. (e ≡ fault.Memory) ⊎ IsAtFault sources.now texts.now at e) }
     ensures taken { IfOk result (λ done. AreTaken sources.now texts.now at) }
+    ensures names { OnOk result ((said : List (Row Said)) → Knows making.old.names said → Knows making.new.names (said ++ of_text said_in sources.now texts.now at)) }
+    ensures operators { OnOk result ((said : List (Row (Fixity × ℕ))) → KnowsOperators making.old.operators said → KnowsOperators making.new.operators (said ++ of_text fixities_in sources.now texts.now at)) }
 {
     let Some(source) = sources.get(at) else {
         return Err(SigFault::Memory);
@@ -75,6 +81,8 @@ fn take(
 ) -> Result<(), SigFault>
     ensures refused { IfErr result (λ e. (e ≡ fault.Memory) ⊎ IsStepRefused names.now sources.now texts.now step e) }
     ensures taken { IfOk result (λ done. IsStepTaken names.now sources.now texts.now step) }
+    ensures names { OnOk result ((said : List (Row Said)) → Knows making.old.names said → Knows making.new.names (said ++ of_step said_in sources.now texts.now step)) }
+    ensures operators { OnOk result ((said : List (Row (Fixity × ℕ))) → KnowsOperators making.old.operators said → KnowsOperators making.new.operators (said ++ of_step fixities_in sources.now texts.now step)) }
 {
     match step {
         Step::Enter(at) => enter(names, sources, texts, at),
@@ -96,7 +104,7 @@ pub fn elaborate(
     root: u32,
 ) -> Result<Signature, SigFault>
     ensures refused { IfErr result (IsRefusal names.now sources.now texts.now root) }
-    ensures accepted { IfOk result (λ s. IsAccepted names.now sources.now texts.now root) }
+    ensures accepted { IfOk result (λ s. IsAccepted names.now sources.now texts.now root (map kind_row s.kinds.items) (map fixity_row s.fixities.items)) }
 {
     let ways = Ways::of(alloc, names, sources, texts)?;
     let steps = ways.steps(alloc, root as usize)?;

@@ -1,7 +1,7 @@
 use Rattle.std.proofs.Common.{◌++◌, ◌∷◌, [], map, take, ap, ◌∙◌, inr, subst, sym}
 use Rattle.std.specs.Prelude.{Contains}
 use Rattle.lp_sig.specs.Pieces.{spelled}
-use Rattle.lp_sig.specs.Places.{HasPlaces, first_place}
+use Rattle.lp_sig.specs.Places.{HasPlaces}
 use Rattle.lp_sig.proofs.Repeats.{placed, not_placed, names_more, still_apart, all_apart, repeated, so_long}
 use Rattle.lp_sig.proofs.expand.check_apart.Goals as goal
 

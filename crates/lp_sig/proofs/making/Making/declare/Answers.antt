@@ -1,15 +1,46 @@
+use Rattle.std.proofs.Common.{◌≡◌, ◌<◌, ◌≤◌, ◌++◌, length, get_or, take, take_all, subst, sym, ap, ◌∙◌, append-nil}
 use Rattle.lp_sig.specs.Refusals.{IsFaultIn}
-use Rattle.lp_sig.proofs.Blame.{passed_up, line_at_fault, within_more, within_all}
+use Rattle.lp_sig.specs.Said.{said_in, fixities_in}
+use Rattle.lp_sig.specs.Knowing.{Knows, KnowsOperators}
+use Rattle.lp_sig.proofs.Blame.{passed_up, line_at_fault, within_more, within_all, nothing_within}
+use Rattle.lp_sig.proofs.Spoken.{fixities_more}
 use Rattle.lp_sig.proofs.making.Making.declare.Goals as goal
+
+pub loop-declaration-init : goal.loop-declaration-init
+loop-declaration-init c = record {
+  within = nothing_within c.args.source.now c.args.text.now.lines.items;
+  names = c.in_ok-announce.ensures.names;
+  operators = λ said k. subst (λ o. KnowsOperators o (said ++ fixities_in c.args.source.now (take 0 c.args.text.now.lines.items))) (sym c.announce.ensures.operators) (subst (KnowsOperators c.args.self.now.operators) (sym (append-nil said)) k);
+}
 
 pub returns-in_err-declare_line-clause-refused : goal.returns-in_err-declare_line-clause-refused
 returns-in_err-declare_line-clause-refused c =
     passed_up c.from_residual-in_err-declare_line.result c.in_err-declare_line.field-0.0 (IsFaultIn c.args.source.now c.args.text.now.lines.items) c.from_residual-in_err-declare_line.ensures.1
-    (line_at_fault c.args.source.now c.args.text.now.lines.items c.deref-declaration-items.result.now c.loop-declaration.declaration-index c.declaration-item.result c.in_err-declare_line.field-0.0 c.deref-declaration-items.ensures.value c.loop-declaration-test.true c.declaration-item.is c.loop-declaration.invariant c.in_err-declare_line.ensures.refused)
+    (line_at_fault c.args.source.now c.args.text.now.lines.items c.deref-declaration-items.result.now c.loop-declaration.declaration-index c.declaration-item.result c.in_err-declare_line.field-0.0 c.deref-declaration-items.ensures.value c.loop-declaration-test.true c.declaration-item.is c.loop-declaration.invariant.within c.in_err-declare_line.ensures.refused)
 
 pub loop-declaration-preserved : goal.loop-declaration-preserved
 loop-declaration-preserved c =
-    within_more c.args.source.now c.args.text.now.lines.items c.deref-declaration-items.result.now c.loop-declaration.declaration-index c.declaration-item.result c.deref-declaration-items.ensures.value c.loop-declaration-test.true c.declaration-item.is c.loop-declaration.invariant c.in_ok-declare_line.ensures.taken
+    let lines = c.args.text.now.lines.items in
+    let i = c.loop-declaration.declaration-index in
+    let same = c.deref-declaration-items.ensures.value in
+    let h : i < length lines = subst (λ l. i < length l) same c.loop-declaration-test.true in
+    let at : c.declaration-item.result ≡ get_or lines i c.declaration-item.result = c.declaration-item.is ∙ ap (λ l. get_or l i c.declaration-item.result) same in
+    record {
+      within = within_more c.args.source.now lines c.deref-declaration-items.result.now i c.declaration-item.result same c.loop-declaration-test.true c.declaration-item.is c.loop-declaration.invariant.within c.in_ok-declare_line.ensures.taken;
+      names = λ said k. subst (λ n. Knows n (said ++ said_in c.args.source.now lines)) (sym c.declare_line.ensures.names) (c.loop-declaration.invariant.names said k);
+      operators = λ said k. subst (KnowsOperators c.declare_line.new.self.operators) (fixities_more c.args.source.now lines i c.declaration-item.result said h at)
+          (c.in_ok-declare_line.ensures.operators (said ++ fixities_in c.args.source.now (take i lines)) (c.loop-declaration.invariant.operators said k));
+    }
 
 pub returns-clause-taken : goal.returns-clause-taken
-returns-clause-taken c = within_all c.args.source.now c.args.text.now.lines.items c.deref-declaration-items.result.now c.loop-declaration.declaration-index c.deref-declaration-items.ensures.value c.loop-declaration-test.false c.loop-declaration.invariant
+returns-clause-taken c = within_all c.args.source.now c.args.text.now.lines.items c.deref-declaration-items.result.now c.loop-declaration.declaration-index c.deref-declaration-items.ensures.value c.loop-declaration-test.false c.loop-declaration.invariant.within
+
+pub returns-clause-names : goal.returns-clause-names
+returns-clause-names c = c.loop-declaration.invariant.names
+
+pub returns-clause-operators : goal.returns-clause-operators
+returns-clause-operators c = λ said k.
+    let lines = c.args.text.now.lines.items in
+    let i = c.loop-declaration.declaration-index in
+    let h : length lines ≤ i = subst (λ l. length l ≤ i) c.deref-declaration-items.ensures.value c.loop-declaration-test.false in
+    subst (λ ls. KnowsOperators c.loop-declaration.self.operators (said ++ fixities_in c.args.source.now ls)) (take_all i lines h) (c.loop-declaration.invariant.operators said k)

@@ -1,7 +1,9 @@
-use Rattle.std.proofs.Common.{subst, sym, ◌<◌, length}
+use Rattle.std.proofs.Common.{subst, sym, refl, ◌<◌, length}
 use Rattle.std.specs.Prelude.{IfErr, IfOk, ◌≤◌}
 use Rattle.lp_sig.specs.Limits.{IsShort, AreShort, AreApart, IsWithin}
 use Rattle.lp_sig.specs.Refusals.{IsFaultOf, named, typed, headed, words_of, parts_of, HasManyArguments}
+use Rattle.lp_sig.proofs.Blame.{always}
+use Rattle.lp_sig.proofs.Spoken.{no_fixities, its_fixities}
 use Rattle.lp_sig.proofs.making.Making.declare_line.Goals as goal
 
 pub returns-in-Kinds-clause-refused : goal.returns-in-Kinds-clause-refused
@@ -33,3 +35,29 @@ pub returns-in-Abbreviation-clause-taken : goal.returns-in-Abbreviation-clause-t
 returns-in-Abbreviation-clause-taken c =
     subst (λ d. IfOk c.declare_abbreviation.result (λ done. IsWithin c.args.source.now d)) (sym c.in-Abbreviation.is)
     (subst (λ ps. IfOk c.declare_abbreviation.result (λ done. IsShort c.args.source.now c.in-Abbreviation.name × AreApart c.args.source.now ps × (length ps ≤ 255))) c.as_slice-in-Abbreviation.ensures.value c.declare_abbreviation.ensures.taken)
+
+pub returns-in-Kinds-clause-operators : goal.returns-in-Kinds-clause-operators
+returns-in-Kinds-clause-operators c = always c.declare_kinds.result _ (no_fixities c.args.self.now.operators c.args.source.now c.args.declaration.now _ c.in-Kinds.is refl)
+
+pub returns-in-Constants-clause-operators : goal.returns-in-Constants-clause-operators
+returns-in-Constants-clause-operators c = always c.declare_constants.result _ (no_fixities c.args.self.now.operators c.args.source.now c.args.declaration.now _ c.in-Constants.is refl)
+
+pub returns-in-Abbreviation-clause-operators : goal.returns-in-Abbreviation-clause-operators
+returns-in-Abbreviation-clause-operators c = always c.declare_abbreviation.result _ (no_fixities c.args.self.now.operators c.args.source.now c.args.declaration.now _ c.in-Abbreviation.is refl)
+
+pub returns-in-LocalKinds-clause-operators : goal.returns-in-LocalKinds-clause-operators
+returns-in-LocalKinds-clause-operators c = no_fixities c.args.self.now.operators c.args.source.now c.args.declaration.now _ c.in-LocalKinds.is refl
+
+pub returns-in-Locals-clause-operators : goal.returns-in-Locals-clause-operators
+returns-in-Locals-clause-operators c = no_fixities c.args.self.now.operators c.args.source.now c.args.declaration.now _ c.in-Locals.is refl
+
+pub returns-in-Accumulate-clause-operators : goal.returns-in-Accumulate-clause-operators
+returns-in-Accumulate-clause-operators c = no_fixities c.args.self.now.operators c.args.source.now c.args.declaration.now _ c.in-Accumulate.is refl
+
+pub returns-in-AccumSig-clause-operators : goal.returns-in-AccumSig-clause-operators
+returns-in-AccumSig-clause-operators c = no_fixities c.args.self.now.operators c.args.source.now c.args.declaration.now _ c.in-AccumSig.is refl
+
+pub returns-in_ok-declare_all-in-Fixities-clause-operators : goal.returns-in_ok-declare_all-in-Fixities-clause-operators
+returns-in_ok-declare_all-in-Fixities-clause-operators c = λ said k.
+    its_fixities c.declare_all.new.self c.args.source.now c.args.declaration.now c.in-Fixities.names c.as_slice-in-Fixities.result.now c.in-Fixities.fixity c.in-Fixities.number c.in-Fixities.is c.as_slice-in-Fixities.ensures.value said
+    (c.in_ok-declare_all-in-Fixities.ensures said k)

@@ -1,4 +1,4 @@
-use Rattle.std.proofs.Common.{◌∙◌, sym, ap, Some}
+use Rattle.std.proofs.Common.{◌∙◌, sym, ap}
 use Rattle.std.specs.Prelude.{option_map}
 use Rattle.lp_sig.specs.Places.{place_of}
 use Rattle.lp_sig.proofs.Finding.{none_found, none_past, entry_found}

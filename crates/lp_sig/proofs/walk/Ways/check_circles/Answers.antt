@@ -1,4 +1,4 @@
-use Rattle.std.proofs.Common.{map, subst, arith}
+use Rattle.std.proofs.Common.{map, arith}
 use Rattle.lp_sig.specs.Walking.{IsFirstCircleFault}
 use Rattle.lp_sig.specs.declared.walk.Step.TheVariants.{Enter}
 use Rattle.lp_sig.proofs.Blame.{passed_up}

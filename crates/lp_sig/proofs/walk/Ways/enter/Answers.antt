@@ -1,4 +1,4 @@
-use Rattle.std.proofs.Common.{map, sym, subst, ◌++◌, ◌∷◌, [], ◌+◌, ◌≤◌, length, arith, ap}
+use Rattle.std.proofs.Common.{map, sym, subst, ◌++◌, ◌∷◌, [], arith, ap}
 use Rattle.lp_sig.specs.Walking.{Moves, waiting}
 use Rattle.lp_sig.specs.declared.walk.Step.TheVariants.{Enter}
 use Rattle.lp_sig.proofs.Blame.{on_ok}

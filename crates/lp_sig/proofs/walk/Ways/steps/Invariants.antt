@@ -1,4 +1,4 @@
-use Rattle.std.proofs.Common.{◌≡◌, ◌+◌, [], ◌∷◌, false, length, map, replicate}
+use Rattle.std.proofs.Common.{◌+◌, [], ◌∷◌, false, length, map, replicate}
 use Rattle.lp_sig.specs.Walking.{Moves, waiting}
 use Rattle.lp_sig.specs.declared.walk.Step.TheVariants.{Enter}
 use Rattle.lp_sig.proofs.walk.Ways.steps.Given as goal

@@ -1,7 +1,7 @@
-use Rattle.std.proofs.Common.{[], subst, ap, sym, ◌∙◌, ◌≡◌, get_or, length, ◌<◌}
+use Rattle.std.proofs.Common.{[], subst, ap, ◌∙◌, ◌≡◌, get_or, length, ◌<◌}
 use Rattle.lp_sig.specs.Refusals.{IsFaultOf, typed, words_of}
 use Rattle.lp_sig.proofs.Blame.{one_of_two, fault_among}
-use Rattle.lp_sig.proofs.making.Making.expand.Goals as goal
+use Rattle.lp_sig.proofs.bodies.Bodies.expand.Goals as goal
 
 pub loop-node-preserved : goal.loop-node-preserved
 loop-node-preserved c =

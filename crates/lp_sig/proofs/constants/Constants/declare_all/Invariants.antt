@@ -1,6 +1,6 @@
 use Rattle.std.proofs.Common.{take}
 use Rattle.lp_sig.specs.Limits.{AreShort}
-use Rattle.lp_sig.proofs.making.Making.declare_all.Given as goal
+use Rattle.lp_sig.proofs.constants.Constants.declare_all.Given as goal
 
 abbrev pub invariant-loop-name : goal.invariant-loop-name
 invariant-loop-name l = AreShort l.source (take l.name-index l.names)

@@ -1,0 +1,27 @@
+use Rattle.std.proofs.Common.{◌≡◌, ◌<◌, ◌≤◌, ◌++◌, length, get_or, take, take_all, subst, sym, refl, ap, ◌∙◌, append-nil}
+use Rattle.lp_sig.specs.Said.{said_in}
+use Rattle.lp_sig.specs.Knowing.{Knows}
+use Rattle.lp_sig.proofs.Spoken.{said_more}
+use Rattle.lp_sig.proofs.making.Making.announce.Goals as goal
+
+pub loop-line-init : goal.loop-line-init
+loop-line-init c = record { names = λ said k. subst (Knows c.args.self.now.names) (sym (append-nil said)) k; operators = refl }
+
+pub loop-line-preserved : goal.loop-line-preserved
+loop-line-preserved c =
+    let lines = c.args.text.now.lines.items in
+    let i = c.loop-line.line in
+    let same = c.as_slice-declaration-items.ensures.value in
+    let h : i < length lines = subst (λ l. i < length l) same c.loop-line-test.true in
+    let at : c.declaration-item.result ≡ get_or lines i c.declaration-item.result = c.declaration-item.is ∙ ap (λ l. get_or l i c.declaration-item.result) same in
+    record {
+      names = λ said k. subst (Knows c.announce_line.new.self.names) (said_more c.args.source.now lines i c.declaration-item.result said h at) (c.in_ok-announce_line.ensures.names (said ++ said_in c.args.source.now (take i lines)) (c.loop-line.invariant.names said k));
+      operators = c.announce_line.ensures.operators ∙ c.loop-line.invariant.operators;
+    }
+
+pub returns-clause-names : goal.returns-clause-names
+returns-clause-names c = λ said k.
+    let lines = c.args.text.now.lines.items in
+    let i = c.loop-line.line in
+    let h : length lines ≤ i = subst (λ l. length l ≤ i) c.as_slice-declaration-items.ensures.value c.loop-line-test.false in
+    subst (λ ls. Knows c.loop-line.self.names (said ++ said_in c.args.source.now ls)) (take_all i lines h) (c.loop-line.invariant.names said k)
