@@ -1,5 +1,12 @@
+pub mod Compares
+pub mod HeadTypes
 pub mod Keeps
 pub mod Looking
+pub mod MoreFuel
 pub mod Names
+pub mod Refused
+pub mod Results
 pub mod SameTypes
+pub mod Stacks
+pub mod Tops
 pub mod Walking

@@ -117,7 +117,7 @@ pub look_abs : (n : ℕ) (b : Term) → look n (abs b) ≡ option_map an_abs (he
 look_abs n b = ap (option_map (λ s. looked s [])) (normal_abs n b) ∙ option_maps (λ s. looked s []) abs (head_normal n b)
 
 -- a term that ends at its head
-looked_apply : (ts more : List Term) (h : Term) → looked (apply h ts) more ≡ looked h (ts ++ more)
+pub looked_apply : (ts more : List Term) (h : Term) → looked (apply h ts) more ≡ looked h (ts ++ more)
 looked_apply [] more h = refl
 looked_apply (t ∷ ts) more h = looked_apply ts more (app h t)
 

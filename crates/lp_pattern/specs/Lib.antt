@@ -1,5 +1,6 @@
 pub mod Comparing
 pub mod Growing
 pub mod Reading
+pub mod Refusing
 pub mod Seen
 pub mod Under

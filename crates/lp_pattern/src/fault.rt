@@ -50,6 +50,10 @@ impl<T: Drop> From<AllocFailed<T>> for PatternRefusal {
 
 // A term that takes too many contractions is too deep.
 impl From<TermRefusal> for PatternRefusal {
+    ghost use Rattle.lp_pattern.specs.Refusing.{IsOfTerm};
+
+    ghost from_gives = { λ t e. IsOfTerm t e };
+
     fn from(refusal: TermRefusal) -> PatternRefusal {
         match refusal {
             TermRefusal::Deep(_) => PatternRefusal::Deep,
@@ -59,6 +63,10 @@ impl From<TermRefusal> for PatternRefusal {
 }
 
 impl From<EquationRefusal> for PatternRefusal {
+    ghost use Rattle.lp_pattern.specs.Refusing.{IsOfEquations};
+
+    ghost from_gives = { λ t e. IsOfEquations t e };
+
     fn from(refusal: EquationRefusal) -> PatternRefusal {
         match refusal {
             EquationRefusal::Fails => PatternRefusal::Fails,

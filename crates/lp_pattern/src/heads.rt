@@ -1,10 +1,14 @@
 // Rigid heads: whether they are the same but for their types, and the pairs of their types.
-ghost use Rattle.std.specs.Prelude.{◌≡◌, ◌<◌, length, List, IfOk};
-ghost use Rattle.lp_calculus.specs.Types.{Ty};
+ghost use Rattle.std.specs.Prelude.{◌≡◌, ◌<◌, length, List, [], ◌∷◌, map, ℕ, IfOk};
+ghost use Rattle.lp_calculus.specs.Types.{Ty, instance};
 ghost use Rattle.lp_calculus.specs.Term.{index, atom, constant, integer, text, eigen, logic, param};
-ghost use Rattle.lp_term.specs.Nodes.{tree};
+ghost use Rattle.lp_calculus.specs.Instance.{instance_term};
+ghost use Rattle.lp_term.specs.Nodes.{tree, type_tree};
 ghost use Rattle.lp_model.specs.Same.{same_name};
+ghost use Rattle.lp_model.specs.Rule.{type_pairs};
+ghost use Rattle.lp_pattern.specs.Reading.{paired, type_pairs_of};
 
+use crate::types::push_pairs;
 use lp_base::Memory;
 use lp_term::{Bank, TermId, TermNode, TypeId};
 use std::alloc::Global;
@@ -107,25 +111,82 @@ pub(crate) fn have_same_name(bank: &Bank, one: TermId, other: TermId) -> Result<
     Ok(are_same_names(bank, one, other))
 }
 
+// The elements of two lists of one length, place by place.
+fn places(
+    alloc: Global,
+    ones: &[TypeId],
+    others: &[TypeId],
+) -> Result<Vec<(TypeId, TypeId)>, Memory>
+    ensures { IfOk result (λ pairs. pairs.items ≡ paired ones.now others.now) }
+{
+    let mut pairs = Vec::new(alloc);
+    if ones.len() != others.len() {
+        return Err(Memory);
+    }
+    push_pairs(ones, others, &mut pairs)?;
+    pairs.reverse();
+    Ok(pairs)
+}
+
+// The one pair.
+fn alone(alloc: Global, one: TypeId, other: TypeId) -> Result<Vec<(TypeId, TypeId)>, Memory>
+    ensures { IfOk result (λ pairs. pairs.items ≡ (one, other) ∷ []) }
+{
+    let mut pairs = Vec::new(alloc);
+    pairs.push((one, other))?;
+    Ok(pairs)
+}
+
+// The types of a constant beside those of a head, if that is one.
+fn beside_constant(
+    alloc: Global,
+    bank: &Bank,
+    types: &[TypeId],
+    id: TermId,
+) -> Result<Vec<(TypeId, TypeId)>, Memory>
+    requires { id.0 < length bank.now.terms }
+    ensures { IfOk result (λ pairs. (θ : ℕ → Ty) → (c : ℕ) →
+        type_pairs_of bank.now θ pairs.items ≡ type_pairs (atom (constant c (map (λ t. instance θ (type_tree bank.now t.0)) types.now))) (instance_term θ (tree bank.now id.0))) }
+{
+    match bank.term_node(id) {
+        TermNode::Const(_, others) => places(alloc, types, others),
+        _ => Ok(Vec::new(alloc)),
+    }
+}
+
+// The type of a parameter beside that of a head, if that is one.
+fn beside_parameter(
+    alloc: Global,
+    bank: &Bank,
+    of: TypeId,
+    id: TermId,
+) -> Result<Vec<(TypeId, TypeId)>, Memory>
+    requires { id.0 < length bank.now.terms }
+    ensures { IfOk result (λ pairs. (θ : ℕ → Ty) → (k : ℕ) →
+        type_pairs_of bank.now θ pairs.items ≡ type_pairs (atom (param k (instance θ (type_tree bank.now of.0)))) (instance_term θ (tree bank.now id.0))) }
+{
+    match bank.term_node(id) {
+        TermNode::Param(_, to) => alone(alloc, of, to),
+        _ => Ok(Vec::new(alloc)),
+    }
+}
+
 // The types of two heads of the same name.
 pub(crate) fn type_pairs(
     alloc: Global,
     bank: &Bank,
     one: TermId,
     other: TermId,
-) -> Result<Vec<(TypeId, TypeId)>, Memory> {
-    let mut pairs = Vec::new(alloc);
+) -> Result<Vec<(TypeId, TypeId)>, Memory>
+    ensures { IfOk result (λ pairs. (θ : ℕ → Ty) →
+        type_pairs_of bank.now θ pairs.items ≡ type_pairs (instance_term θ (tree bank.now one.0)) (instance_term θ (tree bank.now other.0))) }
+{
     if one.0 >= bank.term_count() || other.0 >= bank.term_count() {
         return Err(Memory);
     }
-    match (bank.term_node(one), bank.term_node(other)) {
-        (TermNode::Const(_, types), TermNode::Const(_, others)) => {
-            for pair in types.iter().copied().zip(others.iter().copied()) {
-                pairs.push(pair)?;
-            }
-        }
-        (TermNode::Param(_, of), TermNode::Param(_, to)) => pairs.push((of, to))?,
-        _ => {}
+    match bank.term_node(one) {
+        TermNode::Const(_, types) => beside_constant(alloc, bank, types, other),
+        TermNode::Param(_, of) => beside_parameter(alloc, bank, of, other),
+        _ => Ok(Vec::new(alloc)),
     }
-    Ok(pairs)
 }

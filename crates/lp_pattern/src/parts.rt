@@ -1,6 +1,6 @@
 // New nodes over parts that are tested to be in the bank.
 ghost use Rattle.std.specs.Prelude.{◌≡◌, ◌<◌, length, map, true, All, IfOk};
-ghost use Rattle.lp_calculus.specs.Term.{apply, abs};
+ghost use Rattle.lp_calculus.specs.Term.{app, apply, atom, eigen};
 ghost use Rattle.lp_term.specs.Nodes.{Extends, tree};
 
 use lp_base::Memory;
@@ -140,9 +140,14 @@ pub(crate) fn put_arrow(bank: &mut Bank, from: TypeId, to: TypeId) -> Result<Typ
 }
 
 // The term on an eigenconstant.
-pub(crate) fn put_opened(bank: &mut Bank, term: TermId, eigen: u64) -> Result<TermId, Memory>
+pub(crate) fn put_opened(bank: &mut Bank, term: TermId, level: u64) -> Result<TermId, Memory>
     ensures kept { Extends bank.old bank.new }
+    ensures within { IfOk result (λ id. id.0 < length bank.new.terms) }
+    ensures tree { IfOk result (λ id. tree bank.new id.0 ≡ app (tree bank.old term.0) (atom (eigen level))) }
 {
-    let constant = bank.put_term(TermNode::Eigen(eigen))?;
+    if term.0 >= bank.term_count() {
+        return Err(Memory);
+    }
+    let constant = bank.put_term(TermNode::Eigen(level))?;
     put_application(bank, term, &[constant])
 }

@@ -1,7 +1,8 @@
 // The rules for one pair: the first that applies is taken.
-ghost use Rattle.std.specs.Prelude.{◌≤◌};
+ghost use Rattle.std.specs.Prelude.{◌≡◌, ◌≤◌, length, true};
 ghost use Rattle.lp_term.specs.Nodes.{Extends};
 ghost use Rattle.lp_pattern.specs.Growing.{Grows};
+ghost use Rattle.lp_pattern.specs.Seen.{IsLooked};
 
 use crate::bindings::Bindings;
 use crate::compare::{are_same, opened, push_pairs};
@@ -218,6 +219,9 @@ fn on_one_variable(
     level: u64,
     units: &mut u64,
 ) -> Result<bool, PatternRefusal>
+    requires one { IsLooked bank.old bindings.old one.now }
+    requires other { IsLooked bank.old bindings.old other.now }
+    requires arguments { length one.now.arguments.items ≡ length other.now.arguments.items }
     ensures kept { Extends bank.old bank.new }
     ensures more { next.old ≤ next.new }
     ensures grown { Grows bindings.old bindings.new }
@@ -242,7 +246,9 @@ fn on_one_variable(
 }
 
 // Whether both have the same variable as head and as many arguments.
-fn have_same_variable(one: &Looked, other: &Looked) -> bool {
+fn have_same_variable(one: &Looked, other: &Looked) -> bool
+    ensures { result ≡ true → length one.now.arguments.items ≡ length other.now.arguments.items }
+{
     match (one.head, other.head) {
         (Head::Variable { id, level }, Head::Variable { id: y, level: m }) => {
             id == y && level == m && one.arguments.len() == other.arguments.len()

@@ -1,6 +1,7 @@
 // Rows of unification.
 
 use crate::compare::are_same;
+use crate::parts::term_of;
 use crate::{
     Bindings, PatternRefusal, Solved, filled, filled_type, head_under, solve, solve_under,
 };
@@ -149,6 +150,8 @@ fn gives(alloc: Global, rows: &[Row<'_>], want: &[Sign]) -> Result<bool, Pattern
     let term = build(alloc, &mut bank, &[X])?;
     let value = filled(alloc, &mut bank, &bindings, term)?;
     let want = build(alloc, &mut bank, want)?;
+    let value = term_of(&bank, value)?;
+    let want = term_of(&bank, want)?;
     let none = Bindings::new(alloc);
     let mut units = MANY;
     let is_same = are_same(alloc, &mut bank, &none, &[value], &[want], 5, &mut units)?;
@@ -438,6 +441,8 @@ fn head(alloc: Global) -> Result<bool, PatternRefusal> {
     let want = build(alloc, &mut bank, &[F, A, Apply(1)])?;
     let got = head_under(alloc, &mut bank, &bindings, term, 1)?;
     let deep = head_under(alloc, &mut bank, &bindings, term, 0).is_err();
+    let got = term_of(&bank, got)?;
+    let want = term_of(&bank, want)?;
     let none = Bindings::new(alloc);
     let mut units = MANY;
     let is_same = are_same(alloc, &mut bank, &none, &[got], &[want], 0, &mut units)?;

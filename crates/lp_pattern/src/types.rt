@@ -87,7 +87,7 @@ pub(crate) fn solve_types(
 }
 
 // Puts pairs on a stack, so that the first of them comes first.
-fn push_pairs(
+pub(crate) fn push_pairs(
     lefts: &[TypeId],
     rights: &[TypeId],
     left: &mut Vec<(TypeId, TypeId)>,
