@@ -3,9 +3,8 @@ use Rattle.std.proofs.Common.{◌≡◌, ℕ, zero, suc, ◌≤◌, List, [], �
 use Rattle.std.specs.Prelude.{nat_lt, option_map, option_and_then}
 use Rattle.std.proofs.lemmas.Option.{option_and_then_some}
 use Rattle.lp_calculus.specs.Term.{Term, index, atom, abs, app, apply, substitute, constant, integer, text, eigen, logic, param}
-use Rattle.lp_calculus.specs.Convert.{Converts, same, ReducesTo, done, then_step, in_head, in_argument, ConvertAll, convert_more}
+use Rattle.lp_calculus.specs.Convert.{Converts, same, ReducesTo, done}
 use Rattle.lp_calculus.specs.Fill.{Within, close, at_variables}
-use Rattle.lp_model.specs.Patterns.{eigens}
 use Rattle.lp_model.specs.Look.{Look, an_abs, rigid, flexible, look, pattern_of, are_distinct, are_above}
 use Rattle.lp_model.specs.Scan.{Side, is_side, allows_head, Scanned, broken, whole, above, beside, scanned_pattern, scan, scan_all, Pattern, pattern, pattern_term}
 use Rattle.lp_calculus.proofs.Steps.{converts_on, converts_sym, converts_reduces, converts_app, converts_fill, within_reduces}

@@ -1,5 +1,5 @@
 -- Terms that are found to be the same convert.
-use Rattle.std.proofs.Common.{◌≡◌, ℕ, zero, suc, ◌≤◌, List, [], ◌∷◌, length, ◌∙◌, refl, sym, ap, arith, true, false, nat_eq, Option, Some, None}
+use Rattle.std.proofs.Common.{◌≡◌, ℕ, zero, suc, ◌≤◌, List, [], ◌∷◌, length, ◌∙◌, refl, sym, ap, arith, true, false, nat_eq, Some}
 use Rattle.std.specs.Prelude.{◌&&◌, option_map, option_and_then}
 use Rattle.std.proofs.lemmas.Option.{option_and_then_some}
 use Rattle.lp_calculus.specs.Term.{Term, atom, Atom, constant, integer, text, eigen, logic, param}

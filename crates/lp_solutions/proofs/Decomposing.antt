@@ -1,25 +1,21 @@
 -- Rule 3: heads that may be one are one exactly where the types solve the equations of their type arguments.
-use Rattle.std.proofs.Common.{◌≡◌, ℕ, zero, suc, List, [], ◌∷◌, ◌++◌, map, length, ◌∙◌, refl, sym, ap, subst as transport, arith, Bool, true, false, nat_eq, Option, Some, None}
-use Rattle.std.specs.Prelude.{◌&&◌, option_map, slice_get}
+use Rattle.std.proofs.Common.{◌≡◌, ℕ, suc, List, [], ◌∷◌, map, length, ◌∙◌, refl, sym, ap, subst as transport, arith, true, nat_eq, Some}
 use Rattle.std.proofs.lemmas.Bool.Decides.{nat_tests, Decides-int_eq}
 use Rattle.lp_calculus.specs.Types.{Ty, arrow, instance}
 use Rattle.lp_calculus.specs.Term.{Term, index, atom, abs, app, apply, Atom, constant, integer, text, eigen, logic, param}
-use Rattle.lp_calculus.specs.Convert.{Converts, ReducesTo}
-use Rattle.lp_calculus.specs.Fill.{Within}
 use Rattle.lp_calculus.specs.Instance.{instance_atom, instance_term}
 use Rattle.lp_calculus.specs.Typing.{HasType, HaveTypes}
-use Rattle.lp_calculus.proofs.Rigid.{IsRigid, AreJoint}
-use Rattle.lp_calculus.proofs.Steps.{converts_reduces}
+use Rattle.lp_calculus.proofs.Rigid.{IsRigid}
 use Rattle.lp_calculus.proofs.Typings.{typed_parts}
 use Rattle.lp_model.specs.Same.{same_numbers, same_atom, same_name}
-use Rattle.lp_model.specs.Types.{TypePair, TypeBinding, TypeOutcome, none, solved, solve_types, one_type, put_type, zipped}
-use Rattle.lp_model.specs.Pair.{Pair, put_type_in, put_types_in}
+use Rattle.lp_model.specs.Types.{TypeBinding, one_type, zipped}
+use Rattle.lp_model.specs.Pair.{put_type_in, put_types_in}
 use Rattle.lp_model.specs.Rule.{type_pairs, argument_pairs}
 use Rattle.lp_model.specs.Proofs.{Declared}
-use Rattle.lp_model.specs.Answers.{Variable, PairTyping, IsTypedPair, AreTypedPairs, IsScopedAtom}
+use Rattle.lp_model.specs.Answers.{Variable, PairTyping, AreTypedPairs, IsScopedAtom}
 use Rattle.lp_solutions.specs.TypeSolutions.{Unifies, Satisfies}
-use Rattle.lp_solutions.proofs.Sames.{both, both_on, same_number, number_same, same_numbers_is, numbers_same}
-use Rattle.lp_solutions.proofs.Closings.{WithinAll, within_apply, close_all}
+use Rattle.lp_solutions.proofs.Sames.{both, both_on, same_number, same_numbers_is, numbers_same}
+use Rattle.lp_solutions.proofs.Closings.{WithinAll}
 use Rattle.lp_solutions.proofs.TypeSolving.{put_satisfied}
 use Rattle.lp_solutions.proofs.Instances.{instance_all}
 use Rattle.lp_solutions.proofs.RuleInstances.{instance_pair}

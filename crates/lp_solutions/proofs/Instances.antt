@@ -1,8 +1,7 @@
 -- Types put for type variables go through every step of the rules but the comparing of types: looks, scans, pruning, settling, bindings.
-use Rattle.std.proofs.Common.{◌≡◌, ℕ, zero, suc, ◌+◌, min, List, [], ◌∷◌, ◌++◌, map, length, ◌∙◌, refl, sym, ap, subst as transport, Bool, true, false, nat_eq, not, if◌then◌else◌, ◌||◌, Option, Some, None}
+use Rattle.std.proofs.Common.{◌≡◌, ℕ, zero, suc, min, List, [], ◌∷◌, ◌++◌, map, length, ◌∙◌, refl, sym, ap, Bool, true, false, nat_eq, not, if◌then◌else◌, ◌||◌, Option, Some, None}
 use Rattle.std.specs.Prelude.{◌&&◌, nat_lt, nat_le, option_map, option_and_then}
-use mathlib.Core.Path.{fun_ext}
-use Rattle.lp_calculus.specs.Types.{Ty, instance}
+use Rattle.lp_calculus.specs.Types.{Ty}
 use Rattle.lp_calculus.specs.Term.{Term, index, atom, abs, app, apply, Atom, substitute, constant, integer, text, eigen, logic, param}
 use Rattle.lp_calculus.specs.Convert.{head_step, leftmost_step, option_term, or_else}
 use Rattle.lp_calculus.specs.Fill.{fill, at_variables, one, Binding, put, indexed, abstraction, abstracted}
@@ -12,7 +11,7 @@ use Rattle.lp_calculus.proofs.Fills.{fill-substitute, fill-fill}
 use Rattle.lp_calculus.proofs.Eta.{app_same}
 use Rattle.lp_calculus.proofs.Commutations.{instance_fill}
 pub use Rattle.lp_solutions.specs.Solutions.{instance_binding}
-use Rattle.lp_model.specs.Patterns.{eigens, agreeing, chosen}
+use Rattle.lp_model.specs.Patterns.{eigens, chosen}
 use Rattle.lp_model.specs.Eigens.{beta_normal, eigen_of, as_eigen}
 use Rattle.lp_model.specs.Look.{Look, an_abs, rigid, flexible, looked, head_normal, look, as_eigens, only_if, pattern_of, are_distinct, are_above}
 use Rattle.lp_model.specs.Scan.{Side, is_side, allows, allows_head, Scanned, broken, whole, above, beside, scanned_pattern, scan, scan_all, Pattern, pattern, pattern_term, first_misfit, renewed, renewal, Pruned, led_by, prune, settle, settle_all}

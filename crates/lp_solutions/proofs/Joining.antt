@@ -3,7 +3,7 @@ use Rattle.std.proofs.Common.{◌≡◌, ℕ, suc, List, [], ◌∷◌, length, 
 use Rattle.std.specs.Prelude.{nat_le}
 use Rattle.std.proofs.lemmas.Bool.Decides.{nat_tests}
 use Rattle.lp_calculus.specs.Term.{Term, atom, app, apply, Atom, constant, integer, text, eigen, logic, param}
-use Rattle.lp_calculus.specs.Convert.{Converts, same, ReducesTo}
+use Rattle.lp_calculus.specs.Convert.{Converts, same}
 use Rattle.lp_calculus.specs.Fill.{Within, close, abstraction, abstracted}
 use Rattle.lp_model.specs.Patterns.{eigens, member, agreeing}
 use Rattle.lp_model.specs.Look.{are_distinct, are_above}
@@ -15,7 +15,7 @@ use Rattle.lp_calculus.proofs.Steps.{converts_on, converts_sym, converts_is, con
 use Rattle.lp_solutions.proofs.Abstractions.{Not, Avoids, And, Distinct, distinct_tells, closed_avoids, within_abstracted, abstraction_on, abstraction_beta, abstracted_beta, close_abstracted, close_pattern, swap}
 use Rattle.lp_solutions.proofs.Sames.{same_number}
 use Rattle.lp_solutions.proofs.Closings.{WithinAll, apply_within}
-use Rattle.lp_solutions.proofs.News.{Among, Reach, extended, extended_closing, abstracted_closed, renewed_scoped, renewed_through}
+use Rattle.lp_solutions.proofs.News.{Reach, extended, extended_closing, abstracted_closed, renewed_scoped, renewed_through}
 use Rattle.lp_calculus.specs.Types.{Ty}
 use Rattle.lp_model.specs.Proofs.{Declared}
 use Rattle.lp_model.specs.Answers.{Variable}

@@ -1,28 +1,26 @@
 -- The laws in the words of lp_model: closings with types, solutions of inputs and of what a run leaves.
-use Rattle.std.proofs.Common.{◌≡◌, ℕ, ◌<◌, ◌≤◌, List, [], ◌∷◌, map, length, ◌∙◌, refl, sym, ap, subst as transport, arith, true, Option, Some}
-use Rattle.std.specs.Prelude.{slice_get}
+use Rattle.std.proofs.Common.{◌≡◌, ℕ, List, [], ◌∷◌, length, refl, sym, ap, subst as transport, true, Some}
 use Rattle.lp_calculus.specs.Types.{Ty}
-use Rattle.lp_calculus.specs.Term.{Term, Atom, index, atom, abs, app, constant, integer, text, eigen, logic, param}
+use Rattle.lp_calculus.specs.Term.{Term, atom, logic}
 use Rattle.lp_calculus.specs.Convert.{Converts}
 use Rattle.lp_calculus.specs.Fill.{Within, close, at_variables, Binding, put_all}
-use Rattle.lp_calculus.specs.Instance.{instance_atom, instance_term}
 use Rattle.lp_calculus.proofs.Steps.{converts_on, converts_is, converts_fill}
 use Rattle.lp_calculus.proofs.Commutations.{instance_converts}
-use Rattle.lp_model.specs.Types.{TypePair, TypeBinding, TypeOutcome, none, solved, solve_types}
-use Rattle.lp_model.specs.Pair.{Pair, Closing, closed, Solves, SolvesAll}
+use Rattle.lp_model.specs.Types.{TypePair, TypeBinding, none, solved, solve_types}
+use Rattle.lp_model.specs.Pair.{Pair, Closing, closed, SolvesAll}
 use Rattle.lp_model.specs.Rule.{Compared, compare}
-use Rattle.lp_model.specs.Unify.{State, Unified, Fail, Solution, solve}
+use Rattle.lp_model.specs.Unify.{State, Fail, Solution, solve}
 use Rattle.lp_model.specs.Proofs.{Declared}
-use Rattle.lp_model.specs.Answers.{Variable, PairTyping, AreTypedPairs}
+use Rattle.lp_model.specs.Answers.{Variable}
 use Rattle.lp_solutions.specs.Levels.{UpTo, IsClosing, AllSolvedBy}
-use Rattle.lp_solutions.specs.Right.{through, Keeps}
+use Rattle.lp_solutions.specs.Right.{through}
 use Rattle.lp_solutions.specs.TypeSolutions.{Unifies, Satisfies}
-use Rattle.lp_solutions.specs.Solutions.{at_types, instance_binding, IsTypedClosing, HaveTypings, IsTypedInput, IsSolution, SolvesResidual, through_bindings, KeepsTypings, KeepsSolution, AreStuck}
+use Rattle.lp_solutions.specs.Solutions.{at_types, IsTypedInput, IsSolution, through_bindings, KeepsTypings, KeepsSolution, AreStuck}
 use Rattle.lp_solutions.proofs.Compares.{compare_is}
 use Rattle.lp_solutions.proofs.Scopes.{got_before}
 use Rattle.lp_solutions.proofs.TypeSolving.{types_right}
-use Rattle.lp_solutions.proofs.PairLists.{EachTyped, each_typed, typings_of, put_all_instance}
-use Rattle.lp_solutions.proofs.Runs.{bindings_at, IsStateAt, SolvesAt}
+use Rattle.lp_solutions.proofs.PairLists.{each_typed, typings_of, put_all_instance}
+use Rattle.lp_solutions.proofs.Runs.{bindings_at}
 use mathlib.Core.Path.{fun_ext}
 use Rattle.lp_solutions.proofs.Unifications.{IsInput, InputSolved, Arrives, Comes, solve_right}
 use Rattle.lp_solutions.proofs.Stuck.{solve_stuck}

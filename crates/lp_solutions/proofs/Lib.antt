@@ -43,3 +43,4 @@ pub mod NewInstances
 pub mod Principal
 pub mod PairLaws
 pub mod UntypedRows
+pub mod CaseRows

@@ -1,16 +1,15 @@
 -- The variable that takes the place of a pattern, and what stands around it, with types for type variables.
-use Rattle.std.proofs.Common.{◌≡◌, ℕ, zero, suc, ◌≤◌, List, [], ◌∷◌, ◌++◌, map, length, ◌∙◌, refl, sym, ap, subst as transport, arith, Bool, true, false, nat_lt, Option, Some, None}
+use Rattle.std.proofs.Common.{◌≡◌, ℕ, zero, suc, List, [], ◌∷◌, ◌++◌, map, ◌∙◌, refl, sym, ap, subst as transport, Bool, Option, Some, None}
 use Rattle.std.specs.Prelude.{slice_get, option_map}
 use Rattle.lp_calculus.specs.Types.{Ty, arrow, instance}
-use Rattle.lp_calculus.specs.Term.{Term, Atom, index, atom, abs, app, apply, substitute, constant, integer, text, eigen, logic, param}
+use Rattle.lp_calculus.specs.Term.{Term, Atom, index, atom, abs, app, constant, integer, text, eigen, logic, param}
 use Rattle.lp_calculus.specs.Convert.{ReducesTo, done, then_step}
 use Rattle.lp_calculus.specs.Fill.{Within, Binding}
 use Rattle.lp_calculus.specs.Instance.{instance_atom, instance_term}
 use Rattle.lp_calculus.specs.Typing.{eigen_type}
 use Rattle.lp_calculus.proofs.Commutations.{instance_fill}
 use Rattle.lp_calculus.proofs.Steps.{Step, step_fill}
-use Rattle.lp_model.specs.Patterns.{eigens}
-use Rattle.lp_model.specs.Scan.{Side, Pattern, pattern}
+use Rattle.lp_model.specs.Scan.{Side, Pattern}
 use Rattle.lp_model.specs.Proofs.{Declared}
 use Rattle.lp_model.specs.Answers.{Variable, IsPrefix}
 use Rattle.lp_solutions.specs.Levels.{IsPairAtom}
@@ -18,7 +17,7 @@ use Rattle.lp_solutions.specs.Right.{AreScoped}
 use Rattle.lp_solutions.specs.Solutions.{instance_variable, instance_binding}
 use Rattle.lp_solutions.proofs.Scopes.{arrows, types_in, or_o, AreEigens}
 use Rattle.lp_solutions.proofs.NewVariables.{IsNew, new_variable, with_new}
-use Rattle.lp_solutions.proofs.Scans.{Seen, pattern', IsOther, Scans, ScansAll, scans_abs, scans_rigid, scans_pattern, scans_flexible, scans_none, scans_more}
+use Rattle.lp_solutions.proofs.Scans.{Seen, Scans, ScansAll, scans_abs, scans_rigid, scans_pattern, scans_flexible, scans_none, scans_more}
 use Rattle.lp_solutions.proofs.Instances.{typed_by, instance_all, instance_apply, instance_pattern, instance_substitute, head_instance}
 use Rattle.lp_solutions.proofs.Decomposing.{instance_rigid}
 use Rattle.lp_solutions.proofs.TypedInstances.{length_map, map_append, get_map}

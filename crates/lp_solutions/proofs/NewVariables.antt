@@ -1,12 +1,12 @@
 -- The variable that takes the place of a pattern has a type, of which the binding and the new closing are.
-use Rattle.std.proofs.Common.{◌≡◌, ℕ, zero, suc, ◌<◌, ◌≤◌, List, [], ◌∷◌, ◌++◌, length, ◌∙◌, refl, sym, ap, subst as transport, arith, Bool, true, false, nat_eq, ◌||◌, Option, Some, None, ◌⊎◌, inl, inr}
+use Rattle.std.proofs.Common.{◌≡◌, ℕ, zero, suc, ◌<◌, ◌≤◌, List, [], ◌∷◌, ◌++◌, length, ◌∙◌, refl, sym, ap, subst as transport, arith, Bool, true, false, ◌||◌, Some, ◌⊎◌, inl, inr}
 use Rattle.std.specs.Prelude.{slice_get, nat_le}
 use Rattle.std.proofs.lemmas.Bool.Decides.{nat_tests}
-use Rattle.lp_calculus.specs.Types.{Ty, arrow}
+use Rattle.lp_calculus.specs.Types.{Ty}
 use Rattle.lp_calculus.specs.Term.{Term, atom, apply, Atom, constant, integer, text, eigen, logic, param}
 use Rattle.lp_calculus.specs.Convert.{ReducesTo}
-use Rattle.lp_calculus.specs.Fill.{Within, Binding, abstracted}
-use Rattle.lp_calculus.specs.Typing.{HasType, eigen_type}
+use Rattle.lp_calculus.specs.Fill.{Within, abstracted}
+use Rattle.lp_calculus.specs.Typing.{HasType}
 use Rattle.lp_calculus.proofs.Fills.{within_more}
 use Rattle.lp_calculus.proofs.Subject.{typed_reduces}
 use Rattle.lp_model.specs.Patterns.{eigens, member}
@@ -15,13 +15,12 @@ use Rattle.lp_model.specs.Proofs.{Declared, IsWitness}
 use Rattle.lp_calculus.specs.Closed.{IsClosedType}
 pub use Rattle.lp_solutions.proofs.Witnesses.{witness_typed, AreClosedIn, closed_arrows}
 use Rattle.lp_solutions.proofs.Witnesses.{IsGroundAtom, witness_ground, ground_abstracted, witness_of, arrows_closed}
-use Rattle.lp_model.specs.Answers.{Variable, type_of, over, IsPrefix, IsScopedAtom}
-use Rattle.lp_solutions.specs.Levels.{IsLevelAtom, IsClosing, IsPairAtom}
+use Rattle.lp_model.specs.Answers.{Variable, type_of, IsPrefix, IsScopedAtom}
+use Rattle.lp_solutions.specs.Levels.{IsLevelAtom, IsPairAtom}
 pub use Rattle.lp_solutions.specs.Solutions.{IsTypedClosing, IsTypedBinding}
-use Rattle.lp_solutions.proofs.Sames.{both}
 use Rattle.lp_solutions.proofs.Abstractions.{Avoids, And, within_abstracted}
 use Rattle.lp_solutions.proofs.News.{Among, Reach, Inside, inside_value, avoids_member, extended, extended_at, extended_old, abstracted_closed, renewed_scoped}
-use Rattle.lp_solutions.proofs.Scopes.{got_before, get_before, get_last, IsMore, in_scope, Grows, typed_grows, typed_where, eigen_grows, eigen_falls, variable_of, of_variable, scope_grows, more_none, none_more, prefix_none, arrows, types_in, AreEigens, pattern_typed, abstracted_typed}
+use Rattle.lp_solutions.proofs.Scopes.{get_last, IsMore, in_scope, typed_grows, typed_where, eigen_falls, of_variable, scope_grows, more_none, arrows, types_in, AreEigens, pattern_typed, abstracted_typed}
 
 -- y, of level m, on b, in the context F, and what is to take its place: a variable of level l on cs
 pub record IsNew (V : List Variable) (F S : List Ty) (y m l : ℕ) (b cs : List ℕ) (T : Ty) : Type 0 where

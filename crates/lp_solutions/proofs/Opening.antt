@@ -1,9 +1,9 @@
 -- Rule 2: an opened pair is typed, one level up.
-use Rattle.std.proofs.Common.{◌≡◌, ℕ, zero, suc, ◌≤◌, List, [], ◌∷◌, ◌++◌, length, ◌∙◌, refl, sym, ap, subst as transport, arith, Some}
+use Rattle.std.proofs.Common.{◌≡◌, ℕ, suc, ◌≤◌, List, [], ◌∷◌, ◌++◌, length, ◌∙◌, ap, subst as transport, arith, Some}
 use Rattle.lp_calculus.specs.Types.{Ty, arrow}
-use Rattle.lp_calculus.specs.Term.{Term, atom, abs, app, eigen}
+use Rattle.lp_calculus.specs.Term.{Term, abs}
 use Rattle.lp_calculus.specs.Convert.{ReducesTo}
-use Rattle.lp_calculus.specs.Typing.{HasType, eigen_type}
+use Rattle.lp_calculus.specs.Typing.{eigen_type}
 use Rattle.lp_calculus.proofs.Subject.{typed_reduces}
 use Rattle.lp_model.specs.Pair.{Pair}
 use Rattle.lp_model.specs.Rule.{open_with, opened}

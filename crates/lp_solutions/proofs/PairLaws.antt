@@ -1,28 +1,27 @@
 -- The laws of the rules for one pair, in the words of lp_model.
-use Rattle.std.proofs.Common.{◌≡◌, ℕ, ◌<◌, ◌≤◌, List, [], ◌∷◌, map, length, ◌∙◌, refl, sym, ap, suc, subst as transport, arith, true, false, nat_eq, Option, Some, None}
-use Rattle.std.specs.Prelude.{slice_get, option_map, ◌&&◌}
+use Rattle.std.proofs.Common.{◌≡◌, ℕ, List, [], length, ◌∙◌, refl, ap, suc, subst as transport, true, false, nat_eq, Some, None}
+use Rattle.std.specs.Prelude.{option_map, ◌&&◌}
 use Rattle.lp_calculus.proofs.Steps.{converts_on, converts_is}
 use mathlib.Core.Path.{fun_ext}
 use Rattle.lp_calculus.specs.Types.{Ty}
-use Rattle.lp_calculus.specs.Term.{Term, Atom, index, atom, abs, app, apply, constant, integer, text, eigen, logic, param}
-use Rattle.lp_calculus.specs.Convert.{Converts, ReducesTo}
+use Rattle.lp_calculus.specs.Term.{Term, Atom, index, atom, abs, app, constant, integer, text, eigen, logic, param}
 use Rattle.lp_calculus.specs.Fill.{Within, Binding}
 use Rattle.lp_calculus.specs.Instance.{instance_atom, instance_term}
-use Rattle.lp_model.specs.Look.{Look, rigid, look}
-use Rattle.lp_model.specs.Pair.{Pair, Closing, closed, Solves, SolvesAll}
+use Rattle.lp_model.specs.Look.{rigid, look}
+use Rattle.lp_model.specs.Pair.{Pair, Closing, Solves}
 use Rattle.lp_model.specs.Rule.{type_pairs, with_types, ruled, opened, decompose, Verdict, fails, gives, binds, delays, Ruled, rule}
 use Rattle.lp_model.specs.Types.{TypeBinding, TypeOutcome, none, solved, solve_types}
 use Rattle.lp_model.specs.Same.{same_name}
 use Rattle.lp_model.specs.Proofs.{Declared}
 use Rattle.lp_model.specs.Answers.{Variable, PairTyping, IsTypedPair}
-use Rattle.lp_solutions.specs.Levels.{IsPair, IsPairAtom, IsClosing, SolvedBy, AllSolvedBy}
-use Rattle.lp_solutions.specs.Right.{through, Keeps}
-use Rattle.lp_solutions.specs.Solutions.{instance_pair, IsTypedClosing, HaveTypings, through_bindings, GivesSame, ComesThrough, IsRightFor, IsPlainlyRightFor}
-use Rattle.lp_solutions.proofs.Looks.{seen, look_reduces}
+use Rattle.lp_solutions.specs.Levels.{IsPair, IsPairAtom, IsClosing, SolvedBy}
+use Rattle.lp_solutions.specs.Right.{Keeps}
+use Rattle.lp_solutions.specs.Solutions.{instance_pair, IsTypedClosing, GivesSame, ComesThrough, IsRightFor, IsPlainlyRightFor}
+use Rattle.lp_solutions.proofs.Looks.{look_reduces}
 use Rattle.lp_solutions.proofs.Firm.{look_firm}
 use Rattle.lp_solutions.proofs.Plainly.{opened_right}
 use Rattle.lp_solutions.proofs.Scopes.{got_before}
-use Rattle.lp_solutions.proofs.Rules.{IsBinding, binding_keeps, IsTypedAt, map_ruled}
+use Rattle.lp_solutions.proofs.Rules.{IsBinding, binding_keeps, map_ruled}
 use Rattle.lp_solutions.proofs.RuleAt.{IsGivenAt, IsRightAt, decomposed_at, rule_at}
 use Rattle.lp_solutions.proofs.Instances.{instance_look, look_instance}
 use Rattle.lp_solutions.proofs.PairLists.{left_term, right_term}

@@ -1,9 +1,9 @@
 -- Lists of pairs: typed, solved, with bindings put in them and with types put in them.
-use Rattle.std.proofs.Common.{◌≡◌, ℕ, zero, suc, ◌+◌, ◌<◌, ◌≤◌, List, [], ◌∷◌, ◌++◌, map, length, ◌∙◌, refl, sym, ap, subst as transport, arith}
+use Rattle.std.proofs.Common.{◌≡◌, ℕ, ◌<◌, List, [], ◌∷◌, ◌++◌, map, length, ◌∙◌, refl, sym, ap, subst as transport}
 use Rattle.lp_calculus.specs.Types.{Ty, instance}
-use Rattle.lp_calculus.specs.Term.{Term, atom, logic}
+use Rattle.lp_calculus.specs.Term.{Term}
 use Rattle.lp_calculus.specs.Convert.{Converts}
-use Rattle.lp_calculus.specs.Fill.{Within, close, Binding, put, put_all}
+use Rattle.lp_calculus.specs.Fill.{Within, Binding, put, put_all}
 use Rattle.lp_calculus.specs.Instance.{instance_term}
 use Rattle.lp_calculus.proofs.Steps.{converts_on, converts_sym, converts_is}
 use Rattle.lp_model.specs.Types.{TypeBinding}

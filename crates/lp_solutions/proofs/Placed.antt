@@ -1,25 +1,23 @@
 -- Each pattern that a scan of a typed term finds is typed where it stands, and what takes its place is a variable with a type.
-use Rattle.std.proofs.Common.{◌≡◌, ℕ, zero, suc, ◌<◌, ◌≤◌, min, List, [], ◌∷◌, ◌++◌, length, ◌∙◌, refl, sym, ap, subst as transport, arith, Bool, true, false, nat_eq, if◌then◌else◌, Option, Some, None}
+use Rattle.std.proofs.Common.{◌≡◌, ℕ, suc, ◌≤◌, min, List, [], ◌∷◌, ◌++◌, length, ◌∙◌, refl, sym, ap, subst as transport, arith, Bool, true, false, if◌then◌else◌, Option, Some, None}
 use Rattle.std.specs.Prelude.{slice_get, nat_le}
 use Rattle.std.proofs.lemmas.Bool.Decides.{nat_tests}
-use Rattle.lp_calculus.specs.Types.{Ty, arrow}
-use Rattle.lp_calculus.specs.Term.{Term, index, atom, abs, app, apply, substitute, Atom, constant, integer, text, eigen, logic, param}
-use Rattle.lp_calculus.specs.Convert.{ReducesTo}
+use Rattle.lp_calculus.specs.Types.{Ty}
+use Rattle.lp_calculus.specs.Term.{Term, atom, abs, substitute, Atom, constant, integer, text, eigen, logic, param}
 use Rattle.lp_calculus.specs.Fill.{Within}
 use Rattle.lp_calculus.specs.Typing.{HasType, HaveTypes, eigen_type}
-use Rattle.lp_calculus.proofs.Fills.{within_more}
 use Rattle.lp_calculus.proofs.Steps.{within_reduces, within_step}
 use Rattle.lp_calculus.proofs.Subject.{typed_reduces}
 use Rattle.lp_calculus.proofs.Typings.{typed_substitute, typed_parts}
 use Rattle.lp_calculus.specs.Convert.{here, by_beta}
 use Rattle.lp_model.specs.Patterns.{eigens, chosen}
-use Rattle.lp_model.specs.Scan.{Side, allows, Pattern, pattern, pattern_term}
+use Rattle.lp_model.specs.Scan.{Side, Pattern, pattern, pattern_term}
 use Rattle.lp_model.specs.Proofs.{Declared}
-use Rattle.lp_model.specs.Answers.{Variable, type_of, over, IsPrefix, IsScopedAtom}
+use Rattle.lp_model.specs.Answers.{Variable, IsPrefix, IsScopedAtom}
 use Rattle.lp_solutions.proofs.Closings.{WithinAll, within_apply}
 use Rattle.lp_solutions.proofs.Scans.{Scans, ScansAll, scans_abs, scans_rigid, scans_pattern, scans_flexible, scans_none, scans_more}
-use Rattle.lp_solutions.proofs.Scopes.{IsMore, more_none, more_get, in_scope, typed_grows, eigen_grows, eigen_last, variable_of, scope_grows, prefix_none, prefix_more, prefix_on, prefix_between, append_append, length_last, arrows, types_in, or_o, or_o_is, AreEigens, pattern_parts}
-use Rattle.lp_solutions.proofs.NewVariables.{IsNew, IsTypedClosing, AreClosedIn, closed_arrows}
+use Rattle.lp_solutions.proofs.Scopes.{IsMore, more_none, more_get, in_scope, typed_grows, eigen_grows, eigen_last, variable_of, scope_grows, prefix_none, prefix_more, prefix_between, append_append, length_last, arrows, types_in, or_o, or_o_is, AreEigens, pattern_parts}
+use Rattle.lp_solutions.proofs.NewVariables.{IsTypedClosing, AreClosedIn, closed_arrows}
 use Rattle.lp_calculus.specs.Closed.{IsClosedType}
 use Rattle.lp_solutions.proofs.TypedBindings.{IsTypedTerm}
 

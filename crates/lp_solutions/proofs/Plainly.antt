@@ -1,6 +1,5 @@
 -- Rules 1, 2 and 3: the pairs that they give have the solutions of the pair.
-use Rattle.std.proofs.Common.{◌≡◌, ℕ, suc, ◌≤◌, List, [], ◌∷◌, length, ◌∙◌, refl, sym, subst as transport, arith, true, false, nat_eq, if◌then◌else◌}
-use Rattle.std.specs.Prelude.{◌&&◌}
+use Rattle.std.proofs.Common.{◌≡◌, ℕ, suc, ◌≤◌, List, [], ◌∷◌, length, refl, subst as transport, arith}
 use Rattle.lp_calculus.specs.Term.{Term, index, atom, abs, app, apply, Atom, constant, integer, text, eigen, logic, param}
 use Rattle.lp_calculus.specs.Convert.{Converts, same, ConvertAll, convert_none, convert_more}
 use Rattle.lp_calculus.specs.Fill.{Within, close, at_variables}
@@ -13,8 +12,7 @@ use Rattle.lp_calculus.proofs.Steps.{converts_on, converts_sym, converts_is, con
 use Rattle.lp_solutions.proofs.Abstractions.{Not}
 use Rattle.lp_solutions.proofs.Looks.{converts_spine}
 use Rattle.lp_calculus.proofs.Rigid.{IsRigid, AreJoint, rigid_joint}
-use Rattle.lp_solutions.proofs.Sames.{same_number}
-use Rattle.lp_solutions.proofs.Closings.{within_close, closed_not, agree_on, pair_more, WithinAll, close_all, close_apply, length_close}
+use Rattle.lp_solutions.proofs.Closings.{within_close, closed_not, agree_on, pair_more, WithinAll, close_all, close_apply}
 
 pub pair_up : (next n : ℕ) (a : Atom) → IsPairAtom next n a → UpTo n a
 pair_up next n (eigen k) p = p

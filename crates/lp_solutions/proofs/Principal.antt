@@ -1,32 +1,29 @@
 -- One typing for all closings: with types put in that satisfy the type bindings, what a run leaves is typed over one list of variables, and the
 -- closings of these that solve the residual pairs are, through the bindings, those that solve the pairs.
-use Rattle.std.proofs.Common.{◌≡◌, ℕ, suc, ◌≤◌, List, [], ◌∷◌, map, length, ◌∙◌, refl, sym, ap, subst as transport, arith, Option, Some}
-use Rattle.std.specs.Prelude.{slice_get}
+use Rattle.std.proofs.Common.{◌≡◌, ℕ, List, [], ◌∷◌, map, length, ◌∙◌, refl, sym, ap, subst as transport, Some}
 use mathlib.Core.Path.{fun_ext}
 use Rattle.lp_calculus.specs.Types.{Ty, instance}
-use Rattle.lp_calculus.specs.Term.{Term, atom, logic}
-use Rattle.lp_calculus.specs.Convert.{Converts}
+use Rattle.lp_calculus.specs.Term.{Term}
 use Rattle.lp_calculus.specs.Fill.{close, Binding, put_all}
-use Rattle.lp_calculus.specs.Instance.{instance_term}
 use Rattle.lp_calculus.proofs.Steps.{converts_on, converts_is}
 use Rattle.lp_calculus.proofs.TypeLaws.{instance-instance}
 use Rattle.lp_model.specs.Types.{TypePair, TypeBinding}
-use Rattle.lp_model.specs.Pair.{Pair, Closing, closed, SolvesAll}
+use Rattle.lp_model.specs.Pair.{Pair, Closing, SolvesAll}
 use Rattle.lp_model.specs.Unify.{State, Solution, solve}
 use Rattle.lp_model.specs.Proofs.{Declared, IsWitness}
 use Rattle.lp_model.specs.Answers.{Variable, Closes}
-use Rattle.lp_solutions.specs.Levels.{IsClosing, SolvedBy, AllSolvedBy}
+use Rattle.lp_solutions.specs.Levels.{AllSolvedBy}
 use Rattle.lp_solutions.specs.Right.{through}
-use Rattle.lp_solutions.specs.TypeSolutions.{Unifies, Satisfies}
-use Rattle.lp_solutions.specs.Solutions.{instance_variable, instance_typing, instance_binding, at_types, IsMore, IsTypedClosing, IsTypedBinding, AreTypedBindings, HaveTypings, IsTypedInput, KeepsTypings, through_bindings, AreStuck, KeptClosing, HasSameClosings}
+use Rattle.lp_solutions.specs.TypeSolutions.{Satisfies}
+use Rattle.lp_solutions.specs.Solutions.{instance_variable, instance_typing, instance_binding, at_types, IsMore, IsTypedClosing, IsTypedBinding, AreTypedBindings, HaveTypings, IsTypedInput, through_bindings, AreStuck, KeptClosing, HasSameClosings}
 use Rattle.lp_solutions.proofs.Scopes.{got_before}
 use Rattle.lp_solutions.proofs.Throughs.{through_close}
 use Rattle.lp_solutions.proofs.TypedBindings.{IsTypedTerm, term_more, put_all_typed}
-use Rattle.lp_solutions.proofs.PairLists.{EachTyped, HasTyping, each_typed, left_term, right_term}
+use Rattle.lp_solutions.proofs.PairLists.{EachTyped, each_typed, left_term, right_term}
 use Rattle.lp_solutions.proofs.TypedInstances.{length_map, map_append, length_variables, pairs_have_instances, side_instance, scoped_instance}
 use Rattle.lp_solutions.proofs.NewInstances.{variables_at, scope_at, get_at}
 use Rattle.lp_solutions.proofs.Identities.{both_types, pairs_twice, bindings_twice}
-use Rattle.lp_solutions.proofs.Runs.{bindings_at, SolvesAt, each_typed_at}
+use Rattle.lp_solutions.proofs.Runs.{bindings_at, each_typed_at}
 use Rattle.lp_solutions.proofs.Unifications.{Arrives}
 use Rattle.lp_solutions.proofs.Stuck.{solve_stuck}
 use Rattle.lp_solutions.proofs.Laws.{solved_by, by_solved, comes, typings, gives_through}

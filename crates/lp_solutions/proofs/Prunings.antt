@@ -23,7 +23,7 @@ use Rattle.lp_calculus.specs.Types.{Ty, instance}
 use Rattle.lp_calculus.specs.Typing.{HasType}
 use Rattle.lp_model.specs.Proofs.{Declared}
 use Rattle.lp_model.specs.Answers.{Variable, IsPrefix, IsScopedAtom}
-use Rattle.lp_solutions.proofs.Scopes.{IsMore, more_none, more_on, in_scope, variable_of, prefix_more, prefix_on, append_none, length_last, arrows, types_in, AreEigens, pattern_parts}
+use Rattle.lp_solutions.proofs.Scopes.{IsMore, more_none, more_on, in_scope, variable_of, prefix_more, prefix_on, append_none, length_last, arrows, types_in, pattern_parts}
 use Rattle.lp_solutions.proofs.NewVariables.{AreClosedIn, closed_arrows, IsTypedClosing, IsTypedBinding, IsNew, new_variable, with_new, one_more, new_binding, new_closing}
 use Rattle.lp_solutions.proofs.TypedBindings.{IsTypedTerm, term_more, binding_more, put_typed, AreTypedBindings}
 use Rattle.lp_solutions.proofs.Placed.{IsScopedVariable, scoped_variable, IsPlaced, ArePlaced, scans_placed, IsTypedSide, side_more, eigens_grow, eigens_chosen, eigens_append, closed_grow, closed_chosen, closed_append, side_closed, shorter}

@@ -1,11 +1,11 @@
 -- What the rule for a pair does, under types for the type variables at which the pair is typed: it keeps each solution and the types, and adds none.
-use Rattle.std.proofs.Common.{◌≡◌, ◌≤◌, ℕ, suc, List, [], ◌∷◌, ◌++◌, map, length, ◌∙◌, refl, sym, ap, subst as transport, arith, true, false, nat_eq, Bool, Option, Some, None}
+use Rattle.std.proofs.Common.{◌≡◌, ℕ, suc, List, [], ◌∷◌, map, length, ◌∙◌, refl, sym, ap, subst as transport, arith, true, false, nat_eq, Some}
 use Rattle.std.specs.Prelude.{◌&&◌, option_map, option_and_then}
 use Rattle.std.proofs.lemmas.Option.{option_and_then_some}
 use Rattle.lp_calculus.specs.Types.{Ty}
 use Rattle.lp_calculus.specs.Term.{Term, index, atom, abs, app, apply, Atom, constant, integer, text, eigen, logic, param}
-use Rattle.lp_calculus.specs.Convert.{Converts, same, ReducesTo}
-use Rattle.lp_calculus.specs.Fill.{Within, close, at_variables}
+use Rattle.lp_calculus.specs.Convert.{Converts, ReducesTo}
+use Rattle.lp_calculus.specs.Fill.{Within, at_variables}
 use Rattle.lp_calculus.specs.Instance.{instance_atom, instance_term}
 use Rattle.lp_calculus.proofs.Steps.{converts_on, converts_sym, converts_is, converts_reduces, converts_fill, within_reduces}
 use Rattle.lp_calculus.proofs.Fills.{within_more}
@@ -14,17 +14,16 @@ use Rattle.lp_calculus.proofs.Rigid.{IsRigid}
 use Rattle.lp_model.specs.Same.{same_name}
 use Rattle.lp_model.specs.Types.{TypeBinding, TypeOutcome, none, solved, solve_types}
 use Rattle.lp_model.specs.Look.{Look, an_abs, rigid, flexible, look}
-use Rattle.lp_model.specs.Pair.{Pair, put_types_in}
-use Rattle.lp_model.specs.Rule.{Compared, type_pairs, compare_all, argument_pairs, opened, with_types, decompose, Verdict, fails, gives, binds, delays, Ruled, ruled, by_rule_5, by_rule_4, dear, by_looks, rule}
+use Rattle.lp_model.specs.Pair.{Pair}
+use Rattle.lp_model.specs.Rule.{Compared, type_pairs, compare_all, opened, with_types, decompose, Verdict, fails, gives, binds, delays, Ruled, ruled, by_rule_5, by_rule_4, dear, by_looks, rule}
 use Rattle.lp_model.specs.Proofs.{Declared}
-use Rattle.lp_model.specs.Answers.{Variable, PairTyping, IsTypedPair, AreTypedPairs, IsScopedAtom}
+use Rattle.lp_model.specs.Answers.{Variable, PairTyping, AreTypedPairs, IsScopedAtom}
 use Rattle.lp_solutions.specs.Levels.{IsPair, IsPairAtom, IsClosing, UpTo, SolvedBy, AllSolvedBy}
-use Rattle.lp_solutions.specs.Right.{IsGiven}
-use Rattle.lp_solutions.specs.TypeSolutions.{Unifies, Satisfies}
+use Rattle.lp_solutions.specs.TypeSolutions.{Satisfies}
 use Rattle.lp_solutions.proofs.Sames.{both, both_on, same_number, number_same}
 use Rattle.lp_solutions.proofs.Looks.{seen, look_reduces, converts_spine}
 use Rattle.lp_solutions.proofs.Firm.{IsFirm, look_firm}
-use Rattle.lp_solutions.proofs.Closings.{WithinAll, within_apply, length_close}
+use Rattle.lp_solutions.proofs.Closings.{within_apply, length_close}
 use Rattle.lp_solutions.proofs.Compares.{compare_all_is}
 use Rattle.lp_solutions.proofs.Plainly.{pair_up, opened_right, joint_of, decomposed_right}
 use Rattle.lp_solutions.proofs.NewVariables.{IsTypedClosing}

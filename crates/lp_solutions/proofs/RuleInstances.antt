@@ -1,14 +1,14 @@
 -- Rules 4, 5 and 6 do the same with types put for type variables before or after.
-use Rattle.std.proofs.Common.{◌≡◌, ℕ, zero, suc, ◌+◌, List, [], ◌∷◌, ◌++◌, map, length, ◌∙◌, refl, sym, ap, subst as transport, Bool, true, false, nat_eq, Option, Some, None}
+use Rattle.std.proofs.Common.{◌≡◌, ℕ, suc, List, [], ◌∷◌, ◌++◌, map, ◌∙◌, refl, sym, ap, Bool, true, false, Option, Some, None}
 use Rattle.std.specs.Prelude.{option_map, option_and_then}
-use Rattle.lp_calculus.specs.Types.{Ty, instance}
-use Rattle.lp_calculus.specs.Term.{Term, atom, apply, logic}
+use Rattle.lp_calculus.specs.Types.{Ty}
+use Rattle.lp_calculus.specs.Term.{Term}
 use Rattle.lp_calculus.specs.Fill.{Binding, abstracted}
 use Rattle.lp_calculus.specs.Instance.{instance_term}
-use Rattle.lp_model.specs.Patterns.{eigens, agreeing}
+use Rattle.lp_model.specs.Patterns.{agreeing}
 use Rattle.lp_model.specs.Look.{Look, an_abs, rigid, flexible, pattern_of}
 use Rattle.lp_model.specs.Pair.{Pair}
-use Rattle.lp_model.specs.Scan.{Side, is_side, Scanned, broken, whole, scan, Pruned, prune, settle}
+use Rattle.lp_model.specs.Scan.{Side, Scanned, broken, whole, scan, Pruned, prune, settle}
 use Rattle.lp_model.specs.Rule.{Verdict, fails, gives, binds, delays, Ruled, ruled, joined, bound, has_head, solve_for, side, by_pattern, pattern_side, by_rule_5, by_rule_4}
 pub use Rattle.lp_solutions.specs.Solutions.{instance_pair}
 use Rattle.lp_solutions.proofs.Instances.{map_map, bind_map, bind_equal, instance_all, instance_look, instance_binding, instance_pruned, pattern_instance, scan_instance, prune_instance, settle_instance, abstracted_instance, renewed_instance}

@@ -1,6 +1,6 @@
 -- Rules 4 and 5 on a typed pair: each keeps the solutions and the types, and adds none.
 use Rattle.std.proofs.Common.{◌≡◌, ◌≤◌, ℕ, suc, List, [], ◌∷◌, ◌++◌, map, length, ◌∙◌, refl, sym, ap, subst as transport, arith, true, false, nat_eq, Option, Some, None}
-use Rattle.std.specs.Prelude.{◌&&◌, option_map, option_and_then}
+use Rattle.std.specs.Prelude.{option_map, option_and_then}
 use Rattle.std.proofs.lemmas.Option.{option_and_then_some}
 use Rattle.std.proofs.lemmas.Bool.Decides.{nat_tests}
 use Rattle.lp_calculus.specs.Types.{Ty, var, instance}
@@ -16,7 +16,7 @@ use Rattle.lp_calculus.specs.Term.{Term, atom, app, apply, eigen, logic}
 use Rattle.lp_calculus.specs.Convert.{Converts, same, ReducesTo, done, ConvertAll, convert_more}
 use Rattle.lp_calculus.specs.Fill.{Within, Binding, close, at_variables, abstracted}
 use Rattle.lp_model.specs.Patterns.{eigens, agreeing}
-use Rattle.lp_model.specs.Look.{are_above, Look, an_abs, rigid, flexible, look, pattern_of}
+use Rattle.lp_model.specs.Look.{Look, an_abs, rigid, flexible, pattern_of}
 use Rattle.lp_model.specs.Pair.{Pair}
 use Rattle.lp_model.specs.Scan.{Side, is_side, broken, whole, scan, pattern, pattern_term, renewed, Pruned, prune, settle}
 use Rattle.lp_model.specs.Rule.{Verdict, fails, gives, binds, delays, Ruled, ruled, joined, bound, has_head, solve_for, side, by_pattern, pattern_side, by_rule_5, by_rule_4}

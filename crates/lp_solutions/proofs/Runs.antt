@@ -1,40 +1,32 @@
 -- A whole run under types for the type variables: the solutions of the pairs are what those of the residual pairs give through the
 -- bindings, and typings are kept.
-use Rattle.std.proofs.Common.{◌≡◌, ℕ, zero, suc, ◌+◌, ◌<◌, ◌≤◌, List, [], ◌∷◌, ◌++◌, map, length, ◌∙◌, refl, sym, ap, subst as transport, arith, Bool, true, false, Option, Some, None}
-use Rattle.std.specs.Prelude.{◌&&◌, ◌||◌, nat_eq, nat_lt, if◌then◌else◌, option_map, option_and_then}
-use Rattle.std.proofs.lemmas.Option.{option_and_then_some}
-use mathlib.Core.Path.{fun_ext}
+use Rattle.std.proofs.Common.{◌≡◌, ℕ, suc, ◌+◌, ◌<◌, ◌≤◌, List, [], ◌∷◌, ◌++◌, map, length, ◌∙◌, refl, sym, ap, subst as transport, arith, true, false, Option, Some, None}
+use Rattle.std.specs.Prelude.{option_map}
 use Rattle.lp_calculus.specs.Types.{Ty, instance}
 use Rattle.lp_solutions.specs.Solutions.{instance_typing}
 use Rattle.lp_solutions.proofs.TypedInstances.{length_variables, typings_have_instances}
 use Rattle.lp_solutions.proofs.NewInstances.{variables_at, scope_at}
 use Rattle.lp_solutions.proofs.Identities.{both_types, pair_twice, pairs_twice}
-use Rattle.lp_calculus.specs.Term.{Term, Atom, atom, constant, integer, text, eigen, logic, param}
+use Rattle.lp_calculus.specs.Term.{Term}
 use Rattle.lp_calculus.specs.Convert.{Converts, same}
-use Rattle.lp_calculus.specs.Fill.{Within, close, at_variables, one, Binding, put, put_all}
-use Rattle.lp_calculus.proofs.Steps.{converts_on, converts_sym, converts_is}
-use Rattle.lp_calculus.proofs.Fills.{within_more, within_fill}
-use Rattle.lp_model.specs.Types.{TypeBinding}
+use Rattle.lp_calculus.specs.Fill.{Binding}
 use Rattle.lp_model.specs.Pair.{Pair}
 use Rattle.lp_model.specs.Rule.{Ruled, Verdict, fails, gives, binds, delays, rule}
-use Rattle.lp_model.specs.Unify.{State, Turn, Goes, Fails, Solved, put_pairs, type_pairs_in, is_some_bound, judged, turn_on, turn, Unified, Fail, Solution, Spent, limited, unify}
+use Rattle.lp_model.specs.Unify.{State, Turn, Goes, Fails, Solved, put_pairs, type_pairs_in, judged, turn_on, turn}
 use Rattle.lp_model.specs.Proofs.{Declared}
-use Rattle.lp_model.specs.Answers.{Variable, PairTyping, IsTypedPair}
-use Rattle.lp_solutions.specs.Levels.{IsPair, IsPairAtom, IsLevelAtom, IsClosing, SolvedBy, AllSolvedBy}
+use Rattle.lp_model.specs.Answers.{Variable}
+use Rattle.lp_solutions.specs.Levels.{IsPair, IsClosing, SolvedBy, AllSolvedBy}
 use Rattle.lp_solutions.specs.Right.{through, AreScoped, Keeps}
 use Rattle.lp_solutions.specs.TypeSolutions.{Satisfies}
-use Rattle.lp_solutions.proofs.Sames.{both, same_number}
-use Rattle.lp_solutions.proofs.Closings.{closed_more}
-use Rattle.lp_solutions.proofs.Throughs.{through_close, put_all_within, pair_next_term, put_all_append, gives_term}
-use Rattle.lp_solutions.proofs.Scopes.{IsMore, more_none, more_on, append_none, append_append}
+use Rattle.lp_solutions.proofs.Scopes.{IsMore, more_none, append_none}
 use Rattle.lp_solutions.proofs.NewVariables.{IsTypedClosing}
-use Rattle.lp_solutions.proofs.TypedBindings.{AreTypedBindings, bindings_more, bindings_append}
+use Rattle.lp_solutions.proofs.TypedBindings.{AreTypedBindings}
 use Rattle.lp_solutions.proofs.TypeSolving.{satisfies_append, satisfies_split}
 use Rattle.lp_solutions.proofs.Instances.{instance_binding}
 use Rattle.lp_solutions.proofs.RuleInstances.{instance_pair}
 use Rattle.lp_solutions.proofs.Rules.{IsTypedAt, binding_keeps}
 use Rattle.lp_solutions.proofs.RuleAt.{IsRightAt, rule_at}
-use Rattle.lp_solutions.proofs.PairLists.{EachPair, HasTyping, EachTyped, each_typed, each_append, each_map, each_two, solves_append, solves_split, each_solved, all_solved, bound_pair, each_bound, each_back, left_term, right_term, pair_more, pair_bound, pair_within, solved_bound, solved_back, at_types, types_append, types_satisfied, put_pairs_instance}
+use Rattle.lp_solutions.proofs.PairLists.{HasTyping, EachTyped, each_typed, each_append, each_map, each_two, solves_append, solves_split, each_solved, all_solved, each_bound, each_back, left_term, right_term, pair_more, pair_bound, pair_within, solved_bound, solved_back, at_types, types_append, types_satisfied, put_pairs_instance}
 
 abbrev pub bindings_at : (ℕ → Ty) → List Binding → List Binding
 bindings_at θ bs = map (instance_binding θ) bs

@@ -3,7 +3,7 @@ use Rattle.std.proofs.Common.{◌≡◌, ℕ, zero, suc, List, [], ◌∷◌, �
 use Rattle.std.proofs.lemmas.Bool.Decides.{nat_tests, Decides-int_eq}
 use Rattle.std.specs.Prelude.{◌&&◌, option_map}
 use Rattle.lp_calculus.specs.Types.{Ty, Tys, var, param as tparam, con, arrow, no_types, types}
-use Rattle.lp_calculus.specs.Term.{Term, index, atom, abs, app, Atom, constant, integer, text, eigen, logic, param}
+use Rattle.lp_calculus.specs.Term.{Term, index, atom, Atom, constant, integer, text, eigen, logic, param}
 use Rattle.lp_model.specs.Same.{same_numbers, same_atom, same_name}
 use Rattle.lp_model.specs.Types.{TypePair, parts_of, zipped, same_top}
 use Rattle.lp_model.specs.Rule.{Compared, dearer, type_pairs, compare_types}

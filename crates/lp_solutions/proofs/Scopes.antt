@@ -1,5 +1,5 @@
 -- Contexts that grow keep the types of terms; contexts that shrink keep the types of terms in which what was lost does not stand.
-use Rattle.std.proofs.Common.{◌≡◌, ℕ, zero, suc, ◌<◌, ◌≤◌, List, [], ◌∷◌, ◌++◌, length, ◌∙◌, refl, sym, ap, subst as transport, arith, Bool, true, false, if◌then◌else◌, nat_eq, Option, Some, None}
+use Rattle.std.proofs.Common.{◌≡◌, ℕ, zero, suc, ◌<◌, ◌≤◌, List, [], ◌∷◌, ◌++◌, length, ◌∙◌, refl, sym, ap, subst as transport, arith, true, false, if◌then◌else◌, nat_eq, Option, Some, None}
 use Rattle.std.specs.Prelude.{slice_get}
 use Rattle.lp_calculus.specs.Types.{Ty, arrow}
 use Rattle.lp_calculus.specs.Term.{Term, index, atom, abs, app, apply, Atom, constant, integer, text, eigen, logic, param}

@@ -4,7 +4,7 @@ use Rattle.std.specs.Prelude.{option_map, option_and_then, nat_eq, if◌then◌e
 use Rattle.std.proofs.lemmas.Option.{option_and_then_some}
 use Rattle.std.proofs.lemmas.Bool.Decides.{nat_tests}
 use Rattle.lp_calculus.specs.Term.{Term, index, atom, abs, app, apply, Atom, shift, substitute, constant, integer, text, eigen, logic, param}
-use Rattle.lp_calculus.specs.Convert.{here, in_abs, in_head, in_argument, by_beta, by_eta, Converts, same, ReducesTo, done, then_step}
+use Rattle.lp_calculus.specs.Convert.{here, in_abs, in_head, in_argument, by_beta, by_eta, Converts, ReducesTo, done, then_step}
 use Rattle.lp_calculus.proofs.BetaEta.{conversion_meets, shift_one}
 use Rattle.lp_calculus.proofs.Sigma.{rename, lift, instead}
 use Rattle.lp_calculus.proofs.Plain.{substitute-subst}
@@ -12,11 +12,10 @@ use Rattle.lp_calculus.specs.Fill.{raise, fill, Within, indexed, abstraction}
 use Rattle.lp_model.specs.Patterns.{eigens}
 use Rattle.lp_model.specs.Look.{Look, an_abs, rigid, flexible, look, pattern_of}
 use Rattle.lp_model.specs.Scan.{settle, settle_all}
-use Rattle.lp_model.specs.Rule.{open_with}
-use Rattle.lp_calculus.proofs.Fills.{within_more, within_shift, fill-substitute, fill_none, subst_closed}
-use Rattle.lp_calculus.proofs.Steps.{Step, converts_on, converts_sym, converts_reduces, converts_apply, converts_app, converts_step, within_reduces, within_step, step_fill}
-use Rattle.lp_solutions.proofs.Abstractions.{Not, abstraction_eta, converts_abstraction}
-use Rattle.lp_solutions.proofs.Looks.{seen, look_reduces, converts_spine, pattern_tells}
+use Rattle.lp_calculus.proofs.Fills.{within_shift, fill-substitute, fill_none, subst_closed}
+use Rattle.lp_calculus.proofs.Steps.{Step, within_reduces, within_step, step_fill}
+use Rattle.lp_solutions.proofs.Abstractions.{Not}
+use Rattle.lp_solutions.proofs.Looks.{seen, look_reduces, pattern_tells}
 use Rattle.lp_solutions.proofs.Firm.{IsFirm, look_firm}
 use Rattle.lp_calculus.proofs.Rigid.{IsRigid, reduces_on}
 use Rattle.lp_solutions.proofs.Scans.{reduces_app, reduces_spine}

@@ -1,5 +1,5 @@
 -- Rule 5: what the variable becomes keeps each solution and adds none.
-use Rattle.std.proofs.Common.{◌≡◌, ℕ, ◌<◌, ◌≤◌, List, [], ◌∷◌, ◌++◌, length, ◌∙◌, refl, sym, ap, subst as transport, arith, Some, Bool, true, false, nat_eq, if◌then◌else◌, ◌||◌}
+use Rattle.std.proofs.Common.{◌≡◌, ℕ, ◌<◌, ◌≤◌, List, [], ◌∷◌, ◌++◌, length, ◌∙◌, refl, sym, ap, subst as transport, arith, Bool, true, false, nat_eq, if◌then◌else◌, ◌||◌}
 use Rattle.std.specs.Prelude.{◌&&◌, nat_le, nat_lt}
 use Rattle.std.proofs.lemmas.Bool.Decides.{nat_tests}
 use Rattle.lp_calculus.specs.Term.{Term, atom, apply, Atom, constant, integer, text, eigen, logic, param}
@@ -24,12 +24,11 @@ use Rattle.lp_solutions.proofs.Settles.{IsSettled}
 use Rattle.lp_calculus.specs.Types.{Ty}
 use Rattle.lp_calculus.specs.Typing.{HasType}
 use Rattle.lp_model.specs.Proofs.{Declared}
-use Rattle.lp_model.specs.Answers.{Variable, IsPrefix, IsScopedAtom}
-use Rattle.lp_solutions.proofs.Scopes.{IsMore, more_get, in_scope, variable_of, prefix_between, arrows, types_in, abstracted_typed}
-use Rattle.lp_solutions.proofs.NewVariables.{IsTypedClosing, IsTypedBinding, scope_falls}
+use Rattle.lp_model.specs.Answers.{Variable, IsScopedAtom}
+use Rattle.lp_solutions.proofs.Scopes.{in_scope, variable_of, prefix_between, arrows, types_in, abstracted_typed}
+use Rattle.lp_solutions.proofs.NewVariables.{IsTypedBinding, scope_falls}
 use Rattle.lp_solutions.proofs.TypedBindings.{IsTypedTerm, IsAtomOf, term_atoms, term_reduces, AreTypedBindings, bindings_append}
 use Rattle.lp_solutions.proofs.Placed.{IsTypedSide, side_more}
-use Rattle.std.specs.Prelude.{slice_get}
 
 -- a variable on distinct eigenconstants, in a pair
 pub record IsSide (s : Side) (next : ℕ) : Type 0 where

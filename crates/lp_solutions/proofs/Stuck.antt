@@ -1,13 +1,13 @@
 -- Each residual pair is stuck: a pair is delayed, and as soon as something is bound all delayed pairs are taken up again.
-use Rattle.std.proofs.Common.{◌≡◌, ℕ, zero, suc, ◌+◌, List, [], ◌∷◌, ◌++◌, refl, subst as transport, Bool, true, false, ◌||◌, Option, Some, None}
+use Rattle.std.proofs.Common.{◌≡◌, ℕ, zero, suc, ◌+◌, List, [], ◌∷◌, ◌++◌, refl, subst as transport, Bool, true, false, ◌||◌, Some, None}
 use Rattle.std.specs.Prelude.{option_map, nat_lt}
 use Rattle.lp_solutions.proofs.Unifications.{after_turn, goes_on, is_limited}
 use Rattle.std.proofs.lemmas.Option.{option_and_then_some}
 use Rattle.lp_model.specs.Pair.{Pair}
 use Rattle.lp_model.specs.Rule.{Ruled, Verdict, fails, gives, binds, delays, rule}
 use Rattle.lp_model.specs.Types.{TypePair, TypeBinding, TypeOutcome, none, solved, solve_types}
-use Rattle.lp_model.specs.Unify.{State, Turn, Goes, Fails, Solved, type_pairs_in, is_some_bound, judged, turn_on, turn, Unified, Fail, Solution, Spent, limited, unify, begun, go_on, solve}
-use Rattle.lp_solutions.specs.Solutions.{IsStuck, AreStuck}
+use Rattle.lp_model.specs.Unify.{State, Turn, Goes, Fails, Solved, type_pairs_in, is_some_bound, judged, turn_on, turn, Unified, Fail, Solution, Spent, unify, begun, go_on, solve}
+use Rattle.lp_solutions.specs.Solutions.{AreStuck}
 
 stuck_append : (n : ℕ) (ps qs : List Pair) → AreStuck n ps → AreStuck n qs → AreStuck n (ps ++ qs)
 stuck_append n [] qs h k = k

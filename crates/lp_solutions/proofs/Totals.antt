@@ -2,7 +2,7 @@
 -- eigenconstants comes to one with the agreeing ones alone. Both go by the sizes of long forms.
 use Rattle.std.proofs.Common.{◌≡◌, ℕ, ◌≤◌, List, [], length, true, refl, sym, ap, ◌∙◌, subst as transport, arith, Option, Some}
 use Rattle.lp_calculus.specs.Types.{Ty}
-use Rattle.lp_calculus.specs.Term.{Term, apply, logic, param, Atom}
+use Rattle.lp_calculus.specs.Term.{Term, apply, logic, Atom}
 use Rattle.lp_calculus.specs.Convert.{Converts, ReducesTo}
 use Rattle.lp_calculus.specs.Fill.{Within}
 use Rattle.lp_calculus.specs.Typing.{HasType}
@@ -19,7 +19,7 @@ use Rattle.lp_solutions.proofs.Scans.{Seen}
 use Rattle.lp_solutions.proofs.Prunings.{pair_seen}
 use Rattle.lp_solutions.proofs.Breaks.{Occurs}
 use Rattle.lp_solutions.proofs.Solving.{Meets}
-use Rattle.lp_solutions.proofs.Scopes.{in_scope, or_o, or_o_is, typed_grows, scope_grows, more_none, none_more, of_variable, pattern_typed}
+use Rattle.lp_solutions.proofs.Scopes.{in_scope, or_o, or_o_is, typed_grows, scope_grows, none_more, of_variable, pattern_typed}
 use Rattle.lp_solutions.proofs.NewVariables.{IsTypedClosing, witness_typed}
 use Rattle.lp_solutions.proofs.TypedBindings.{IsTypedTerm}
 use Rattle.lp_solutions.proofs.Placed.{IsTypedSide}

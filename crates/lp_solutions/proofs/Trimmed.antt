@@ -1,27 +1,24 @@
 -- A closing of lp_model speaks of its variables alone: with any closed term for the others it is a closing at all levels, and gives the same
 -- to typed pairs.
-use Rattle.std.proofs.Common.{◌≡◌, ℕ, zero, suc, ◌≤◌, List, [], ◌∷◌, map, length, ◌∙◌, refl, sym, ap, subst as transport, arith, Bool, true, false, nat_eq, if◌then◌else◌, Option, Some, None}
-use Rattle.std.specs.Prelude.{slice_get, option_map, ℤ}
+use Rattle.std.proofs.Common.{◌≡◌, ℕ, zero, suc, List, [], ◌∷◌, map, length, ◌∙◌, refl, sym, ap, subst as transport, arith, true, false, nat_eq, if◌then◌else◌, Option, Some, None}
+use Rattle.std.specs.Prelude.{slice_get}
 use Rattle.lp_calculus.specs.Types.{Ty, instance}
-use Rattle.lp_calculus.specs.Term.{Term, Atom, index, atom, abs, app, constant, integer, text, eigen, logic, param}
+use Rattle.lp_calculus.specs.Term.{Term, Atom, atom, constant, integer, text, eigen, logic, param}
 use Rattle.lp_calculus.specs.Closed.{IsClosedAtom}
-use Rattle.lp_calculus.specs.Convert.{Converts}
 use Rattle.lp_calculus.specs.Fill.{Within, close, at_variables}
-use Rattle.lp_calculus.specs.Instance.{instance_term}
 use Rattle.lp_calculus.proofs.Fills.{fill_same, within_more}
 use Rattle.lp_calculus.proofs.Steps.{converts_on, converts_is}
-use Rattle.lp_model.specs.Pair.{Pair, Closing, closed, Solves, SolvesAll}
+use Rattle.lp_model.specs.Pair.{Pair, Closing}
 use Rattle.lp_model.specs.Proofs.{Declared, IsWitness}
-use Rattle.lp_model.specs.Answers.{Variable, type_of, PairTyping, AreTypedPairs, Closes}
+use Rattle.lp_model.specs.Answers.{Variable, Closes}
 use Rattle.lp_model.specs.Types.{TypePair}
 use Rattle.lp_model.specs.Unify.{State, Fail, Solution, solve}
-use Rattle.lp_solutions.specs.Levels.{IsLevelAtom, IsClosing, SolvedBy, AllSolvedBy}
-use Rattle.lp_solutions.specs.TypeSolutions.{Unifies}
-use Rattle.lp_solutions.specs.Solutions.{instance_pair, instance_variable, at_types, IsTypedClosing, IsTypedInput, IsSolution, IsClosedSolution, closed_variables, KeepsSolution}
+use Rattle.lp_solutions.specs.Levels.{IsLevelAtom, IsClosing, AllSolvedBy}
+use Rattle.lp_solutions.specs.Solutions.{instance_variable, at_types, IsTypedClosing, IsTypedInput, IsSolution, IsClosedSolution, closed_variables, KeepsSolution}
 use Rattle.lp_solutions.proofs.Sames.{same_number, number_same}
 use Rattle.lp_solutions.proofs.Scopes.{variable_of}
 use Rattle.lp_solutions.proofs.TypedBindings.{IsAtomOf, IsTypedTerm, term_atoms}
-use Rattle.lp_solutions.proofs.PairLists.{EachTyped, HasTyping, EachPair, each_typed, left_term, right_term}
+use Rattle.lp_solutions.proofs.PairLists.{EachTyped, each_typed, left_term, right_term}
 use Rattle.lp_solutions.proofs.TypedInstances.{length_variables}
 use Rattle.lp_solutions.proofs.Laws.{solved_by, by_solved, failures_have_no_solution, solutions_are_kept}
 

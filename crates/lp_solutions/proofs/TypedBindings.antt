@@ -1,19 +1,19 @@
 -- Bindings whose values are typed keep the types and the scopes of terms.
-use Rattle.std.proofs.Common.{◌≡◌, ℕ, zero, suc, ◌<◌, ◌≤◌, List, [], ◌∷◌, ◌++◌, length, ◌∙◌, refl, sym, ap, subst as transport, arith, Bool, true, false, nat_eq, if◌then◌else◌, Option, Some, None}
+use Rattle.std.proofs.Common.{◌≡◌, ℕ, ◌≤◌, List, [], ◌∷◌, ◌++◌, length, ◌∙◌, refl, sym, ap, subst as transport, arith, Bool, true, false, nat_eq, if◌then◌else◌, Option, Some}
 use Rattle.std.specs.Prelude.{slice_get, ◌&&◌}
 use Rattle.lp_calculus.specs.Types.{Ty, arrow}
 use Rattle.lp_calculus.specs.Term.{Term, index, atom, abs, app, Atom, constant, integer, text, eigen, logic, param}
 use Rattle.lp_calculus.specs.Convert.{ReducesTo}
 use Rattle.lp_calculus.specs.Fill.{Within, Binding, at_variables, one, put, put_all}
-use Rattle.lp_calculus.specs.Typing.{HasType, eigen_type}
+use Rattle.lp_calculus.specs.Typing.{HasType}
 use Rattle.lp_calculus.proofs.Fills.{within_more, within_fill, within_both}
 use Rattle.lp_calculus.proofs.Steps.{within_reduces}
-use Rattle.lp_calculus.proofs.Subject.{typed_reduces, more_typed}
+use Rattle.lp_calculus.proofs.Subject.{typed_reduces}
 use Rattle.lp_model.specs.Proofs.{Declared}
-use Rattle.lp_model.specs.Answers.{Variable, type_of, over, IsPrefix, IsScopedAtom}
+use Rattle.lp_model.specs.Answers.{Variable, type_of, IsPrefix, IsScopedAtom}
 use Rattle.lp_solutions.specs.Levels.{IsPairAtom}
 use Rattle.lp_solutions.proofs.Sames.{both, same_number}
-use Rattle.lp_solutions.proofs.Scopes.{got_before, IsMore, more_none, more_get, more_before, in_scope, Grows, typed_grows, typed_fill_where, variable_of, variable_grows, scope_grows, prefix_none, prefix_on, prefix_length}
+use Rattle.lp_solutions.proofs.Scopes.{got_before, IsMore, more_none, more_get, more_before, in_scope, typed_grows, typed_fill_where, variable_of, scope_grows, prefix_none, prefix_on, prefix_length}
 pub use Rattle.lp_solutions.specs.Solutions.{AreTypedBindings}
 use Rattle.lp_solutions.proofs.NewVariables.{IsTypedBinding}
 

@@ -1,5 +1,5 @@
 -- A typed pair is typed with types for its type variables, over variables with these types.
-use Rattle.std.proofs.Common.{◌≡◌, ℕ, zero, suc, ◌≤◌, List, [], ◌∷◌, ◌++◌, map, length, ◌∙◌, refl, sym, ap, subst as transport, arith, Bool, true, false, nat_eq, if◌then◌else◌, Option, Some, None}
+use Rattle.std.proofs.Common.{◌≡◌, ℕ, zero, suc, ◌≤◌, List, [], ◌∷◌, ◌++◌, map, length, ◌∙◌, refl, sym, ap, subst as transport, Bool, true, false, nat_eq, if◌then◌else◌, Option, Some, None}
 use Rattle.std.specs.Prelude.{slice_get, option_map}
 use Rattle.lp_calculus.specs.Types.{Ty, instance}
 use Rattle.lp_calculus.specs.Term.{Term, Atom, index, atom, abs, app, constant, integer, text, eigen, logic, param}
@@ -10,7 +10,7 @@ use Rattle.lp_calculus.proofs.Typings.{instance_typed}
 use Rattle.lp_model.specs.Pair.{Pair}
 use Rattle.lp_model.specs.Proofs.{Declared}
 use Rattle.lp_model.specs.Answers.{Variable, type_of, over, IsPrefix, IsScopedAtom, PairTyping, IsTypedPair, AreTypedPairs}
-use Rattle.lp_solutions.specs.Solutions.{instance_pair, instance_variable, instance_typing, HaveTypings, at_types}
+use Rattle.lp_solutions.specs.Solutions.{instance_pair, instance_variable, instance_typing, at_types}
 use Rattle.lp_solutions.proofs.Scopes.{in_scope, Grows, typed_grows}
 
 pub length_map : {A B : Type 0} (f : A → B) (xs : List A) → length (map f xs) ≡ length xs

@@ -1,18 +1,17 @@
 -- Whole runs: turns one after the other, from type equations and pairs to residual pairs.
-use Rattle.std.proofs.Common.{◌≡◌, ℕ, zero, suc, ◌+◌, ◌<◌, ◌≤◌, List, [], ◌∷◌, ◌++◌, map, length, ◌∙◌, refl, sym, ap, subst as transport, arith, Bool, true, false, Option, Some, None}
-use Rattle.std.specs.Prelude.{◌&&◌, ◌||◌, nat_eq, nat_lt, if◌then◌else◌, option_map, option_and_then}
+use Rattle.std.proofs.Common.{◌≡◌, ℕ, zero, suc, ◌+◌, ◌<◌, ◌≤◌, List, [], ◌∷◌, ◌++◌, length, ◌∙◌, refl, sym, ap, subst as transport, arith, Bool, true, false, Option, Some, None}
+use Rattle.std.specs.Prelude.{◌&&◌, nat_eq, nat_lt, if◌then◌else◌, option_map}
 use Rattle.std.proofs.lemmas.Option.{option_and_then_some}
 use mathlib.Core.Path.{fun_ext}
 use Rattle.lp_calculus.specs.Types.{Ty}
 use Rattle.lp_calculus.specs.Term.{Term, Atom, atom, constant, integer, text, eigen, logic, param}
-use Rattle.lp_calculus.specs.Convert.{Converts, same}
 use Rattle.lp_calculus.specs.Fill.{Within, close, at_variables, one, Binding, put, put_all}
 use Rattle.lp_calculus.proofs.Steps.{converts_on, converts_is}
 use Rattle.lp_calculus.proofs.Fills.{within_more, within_fill}
 use Rattle.lp_model.specs.Types.{TypePair, TypeBinding, TypeOutcome, none, solved, solve_types}
 use Rattle.lp_model.specs.Pair.{Pair}
-use Rattle.lp_model.specs.Rule.{Ruled, Verdict, fails, gives, binds, delays, rule}
-use Rattle.lp_model.specs.Unify.{State, Turn, Goes, Fails, Solved, type_pairs_in, judged, turn_on, turn, Unified, Fail, Solution, Spent, limited, unify, begun, go_on, solve}
+use Rattle.lp_model.specs.Rule.{Verdict, fails, gives, binds, delays, rule}
+use Rattle.lp_model.specs.Unify.{State, Turn, Goes, Fails, Solved, judged, turn_on, turn, Unified, Fail, Solution, Spent, limited, unify, begun, go_on, solve}
 use Rattle.lp_model.specs.Proofs.{Declared}
 use Rattle.lp_model.specs.Answers.{Variable}
 use Rattle.lp_solutions.specs.Levels.{IsPairAtom, IsLevelAtom, IsClosing, AllSolvedBy}
@@ -24,7 +23,7 @@ use Rattle.lp_solutions.proofs.Throughs.{through_close, put_all_within, pair_nex
 use Rattle.lp_solutions.proofs.Scopes.{IsMore, more_none, more_on, append_none, append_append}
 use Rattle.lp_solutions.proofs.NewVariables.{IsTypedClosing}
 use Rattle.lp_solutions.proofs.TypedBindings.{AreTypedBindings, bindings_more, bindings_append}
-use Rattle.lp_solutions.proofs.TypeSolving.{AreSolved, satisfies_append, satisfies_split, types_right}
+use Rattle.lp_solutions.proofs.TypeSolving.{AreSolved, satisfies_split, types_right}
 use Rattle.lp_solutions.proofs.Instances.{instance_binding}
 use Rattle.lp_solutions.proofs.NewInstances.{variables_at, scoped_at}
 use Rattle.lp_solutions.proofs.PairLists.{EachTyped, at_types, types_satisfied}

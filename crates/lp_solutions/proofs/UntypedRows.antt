@@ -1,6 +1,6 @@
 -- Rows by computation: typing and levels are needed. Two untyped pairs lose a solution, and two pairs with something above their level
 -- are found to have one.
-use Rattle.std.proofs.Common.{◌≡◌, ℕ, refl, List, [], ◌∷◌, Some}
+use Rattle.std.proofs.Common.{◌≡◌, refl, [], ◌∷◌, Some}
 use Rattle.lp_calculus.specs.Term.{index, app, abs}
 use Rattle.lp_calculus.specs.Convert.{here, in_abs, in_head, in_argument, by_beta, by_eta, same, forth, back}
 use Rattle.lp_model.specs.Pair.{closed, Solves}

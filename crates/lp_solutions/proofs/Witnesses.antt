@@ -1,9 +1,9 @@
 -- Positive closed terms: their atoms, and what reduction and the abstraction of eigenconstants keep of them.
-use Rattle.std.proofs.Common.{◌≡◌, ℕ, zero, suc, ◌≤◌, List, [], ◌∷◌, length, refl, sym, subst as transport, arith, Option, Some, None}
-use Rattle.lp_calculus.specs.Types.{Ty, arrow}
+use Rattle.std.proofs.Common.{◌≡◌, ℕ, suc, List, [], ◌∷◌, length, arith}
+use Rattle.lp_calculus.specs.Types.{Ty}
 use Rattle.lp_calculus.specs.Term.{Term, index, atom, abs, app, apply, Atom, constant, integer, text, eigen, logic, param}
 use Rattle.lp_calculus.specs.Convert.{ReducesTo}
-use Rattle.lp_calculus.specs.Closed.{IsClosedType, AreClosed, IsClosedAtom, IsClosedAt, AllAtoms, IsPositiveAtom, IsPositive}
+use Rattle.lp_calculus.specs.Closed.{IsClosedType, AreClosed, IsClosedAtom, AllAtoms, IsPositiveAtom}
 use Rattle.lp_calculus.specs.Fill.{Within, abstracted}
 use Rattle.lp_calculus.specs.Typing.{HasType, atom_type, eigen_type}
 use Rattle.lp_calculus.proofs.Fills.{within_more, within_both}

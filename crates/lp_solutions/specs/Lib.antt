@@ -3,3 +3,4 @@ pub mod Right
 pub mod TypeSolutions
 pub mod Solutions
 pub mod Untyped
+pub mod Cases

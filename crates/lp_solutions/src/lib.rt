@@ -5,5 +5,7 @@
 pub mod one_pair;
 /// Whole runs.
 pub mod whole_runs;
+/// Each rule at work, computed.
+pub mod cases;
 /// Where there is no typing.
 pub mod untyped;

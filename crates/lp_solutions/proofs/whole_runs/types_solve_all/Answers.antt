@@ -1,5 +1,4 @@
 use Rattle.lp_solutions.proofs.Laws as lemmas
-use Rattle.lp_solutions.proofs.NewInstances
 use Rattle.lp_solutions.proofs.whole_runs.types_solve_all.Goals as goal
 
 pub returns : goal.returns
