@@ -40,7 +40,7 @@ abbrev pub Belows : ℕ → List Ty → Type 0
 Belows n [] = Unit {0}
 Belows n (t ∷ ts) = Below n t × Belows n ts
 
-at_below : (n : ℕ) (ts : List Ty) (i : ℕ) → Belows n ts → Below n (type_at ts i)
+pub at_below : (n : ℕ) (ts : List Ty) (i : ℕ) → Belows n ts → Below n (type_at ts i)
 at_below n [] i h = tt
 at_below n (t ∷ ts) zero h = h.0
 at_below n (t ∷ ts) (suc i) h = at_below n ts i h.1
@@ -62,7 +62,7 @@ map_map ρ θ [] = refl
 map_map ρ θ (t ∷ ts) = let e = instance-instance θ ρ t in let f = map_map ρ θ ts in cc
 
 mutual
-  instance_below : (m : ℕ) (θ : ℕ → Ty) → ((x : ℕ) → Below m (θ x)) → (t : Ty) → Below m (instance θ t)
+  pub instance_below : (m : ℕ) (θ : ℕ → Ty) → ((x : ℕ) → Below m (θ x)) → (t : Ty) → Below m (instance θ t)
   instance_below m θ f (var x) = f x
   instance_below m θ f (param k) = tt
   instance_below m θ f (con c ts) = instances_below m θ f ts
@@ -210,8 +210,8 @@ fine k (raw_app f u) C n s l c =
       term = (term_more m.next (suc j.next) to m.term F.term, term_more j.next (suc j.next) last j.term G.term);
       type_is = omega arith;
       equations = equations_append (suc j.next) (m.equations ++ j.equations) (equation m.type_is (arrow j.type_is (var j.next)) ∷ [])
-          (equations_append (suc j.next) m.equations j.equations (equations_more m.next (suc j.next) to m.equations F.equations) (equations_more j.next (suc j.next) last j.equations G.equations))
-          (below_more m.next (suc j.next) to m.type_is F.type_is, (below_more j.next (suc j.next) last j.type_is G.type_is, omega arith), tt);
+      (equations_append (suc j.next) m.equations j.equations (equations_more m.next (suc j.next) to m.equations F.equations) (equations_more j.next (suc j.next) last j.equations G.equations))
+      (below_more m.next (suc j.next) to m.type_is F.type_is, (below_more j.next (suc j.next) last j.type_is G.type_is, omega arith), tt);
     }
 
 -- types for the new type variables
@@ -333,8 +333,8 @@ complete k κ (raw_app f u) C n s l c ρ e t A h =
       types = ι;
       agrees = agree_then n m.next ρ τ ι up I.agrees upto;
       solves = hold_append ι (m.equations ++ j.equations) (equation m.type_is (arrow j.type_is (var j.next)) ∷ [])
-          (hold_append ι m.equations j.equations (equations_agree m.next τ ι upto m.equations F.equations I.solves) (equations_agree j.next υ ι last j.equations G.equations J.solves))
-          (let d : instance ι m.type_is ≡ arrow (instance ι j.type_is) (ι j.next) = cc in d, tt);
+      (hold_append ι m.equations j.equations (equations_agree m.next τ ι upto m.equations F.equations I.solves) (equations_agree j.next υ ι last j.equations G.equations J.solves))
+      (let d : instance ι m.type_is ≡ arrow (instance ι j.type_is) (ι j.next) = cc in d, tt);
       is = (let d : app (instance_term ι m.term) (instance_term ι j.term) ≡ app h.0 h.1 = cc in d) ∙ sym h.2;
       type_is = at_last;
     }
@@ -398,7 +398,7 @@ solution_typing r names k s ρ h =
 abbrev typing_of : List Ty → Term → Typing
 typing_of free formula = record { free = free; formula = formula }
 
-typing_same : (T U : Typing) → T.free ≡ U.free → T.formula ≡ U.formula → T ≡ U
+pub typing_same : (T U : Typing) → T.free ≡ U.free → T.formula ≡ U.formula → T ≡ U
 typing_same T U e f = ap (λ free. typing_of free T.formula) e ∙ ap (typing_of U.free) f
 
 pub typing_solution : (r : Raw) (names k : ℕ) → IsScoped names k r → (U : Typing) → IsTyping r names U →
