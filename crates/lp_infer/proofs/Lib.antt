@@ -23,3 +23,6 @@ pub mod Leaves
 pub mod Acting
 pub mod Meetings
 pub mod Memos
+pub mod Formed
+pub mod Typings
+pub mod Joining

@@ -56,7 +56,7 @@ numbered_agrees text places κ = record {
       ap (λ i. κ.named (get_or (map (spelled text) places) i [])) back ∙ ap κ.named (named_at w (map (spelled text) places) k e);
 }
 
-abbrev or_goal : (ℕ → Ty) → Option ℕ → Ty
+abbrev pub or_goal : (ℕ → Ty) → Option ℕ → Ty
 or_goal f None = o_type
 or_goal f (Some k) = f k
 
