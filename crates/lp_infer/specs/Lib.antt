@@ -16,3 +16,4 @@ pub mod Copies
 pub mod Making
 pub mod Meeting
 pub mod ReadingOff
+pub mod Filling
