@@ -1,6 +1,13 @@
 // The formula of a text, from its parts and the type arguments of its constants.
-ghost use Rattle.std.specs.Prelude.{◌≡◌, ◌<◌, length, map, true, All};
-ghost use Rattle.lp_term.specs.Nodes.{Extends};
+ghost use Rattle.std.specs.Prelude.{◌≡◌, ◌<◌, ℕ, List, [], ◌++◌, length, map, take, drop, true, All, IfOk, OnOk, OnErr};
+ghost use Rattle.lp_calculus.specs.Types.{Ty};
+ghost use Rattle.lp_calculus.specs.Term.{Term, index as index_term, atom, abs, apply, constant as constant_atom, integer as integer_atom, text as text_atom};
+ghost use Rattle.lp_term.specs.Nodes.{Nodes, Extends, tree};
+ghost use Rattle.lp_infer.specs.Typing.{Raw};
+ghost use Rattle.lp_infer.specs.Texts.{escaped as escaped_byte, string_bytes};
+ghost use Rattle.lp_infer.specs.Postfix.{Mark, is_index, is_constant, is_integer, is_text, closes, applies, mark, postfix};
+ghost use Rattle.lp_infer.specs.Copies.{trees_of, AreTypes};
+ghost use Rattle.lp_infer.specs.Filling.{fills, IsTerm, form, numbers, IsPushed, IsPopped, IsTaken, Forms};
 
 use crate::generate::index_of;
 use crate::instance::{are_known, standard_variables};
@@ -23,7 +30,8 @@ fn are_terms(bank: &Bank, ids: &[TermId]) -> bool
 }
 
 fn put_constant(bank: &mut Bank, number: u32, types: &[TypeId]) -> Result<TermId, Memory>
-    ensures { Extends bank.old bank.new }
+    ensures kept { Extends bank.old bank.new }
+    ensures tree { IfOk result (λ id. IsTerm bank.new id (atom (constant_atom number (trees_of bank.old types.now)))) }
 {
     if !are_known(bank, types) {
         return Err(Memory);
@@ -32,7 +40,8 @@ fn put_constant(bank: &mut Bank, number: u32, types: &[TypeId]) -> Result<TermId
 }
 
 fn put_abstraction(bank: &mut Bank, body: TermId) -> Result<TermId, Memory>
-    ensures { Extends bank.old bank.new }
+    ensures kept { Extends bank.old bank.new }
+    ensures tree { IfOk result (λ id. IsTerm bank.new id (abs (tree bank.old body.0))) }
 {
     if body.0 >= bank.term_count() {
         return Err(Memory);
@@ -41,7 +50,8 @@ fn put_abstraction(bank: &mut Bank, body: TermId) -> Result<TermId, Memory>
 }
 
 fn put_application(bank: &mut Bank, head: TermId, arguments: &[TermId]) -> Result<TermId, Memory>
-    ensures { Extends bank.old bank.new }
+    ensures kept { Extends bank.old bank.new }
+    ensures tree { IfOk result (λ id. IsTerm bank.new id (apply (tree bank.old head.0) (map (tree bank.old) (numbers arguments.now)))) }
 {
     if arguments.is_empty() || head.0 >= bank.term_count() || !are_terms(bank, arguments) {
         return Err(Memory);
@@ -50,7 +60,9 @@ fn put_application(bank: &mut Bank, head: TermId, arguments: &[TermId]) -> Resul
 }
 
 // The byte that a letter stands for behind `\`.
-fn escaped(letter: u8) -> u8 {
+fn escaped(letter: u8) -> u8
+    ensures { result ≡ escaped_byte letter }
+{
     match letter {
         b'n' => 10,
         b't' => 9,
@@ -59,7 +71,9 @@ fn escaped(letter: u8) -> u8 {
 }
 
 // The bytes of a string, from its token.
-fn bytes_of(alloc: Global, token: &[u8]) -> Result<Vec<u8>, Memory> {
+fn bytes_of(alloc: Global, token: &[u8]) -> Result<Vec<u8>, Memory>
+    ensures { IfOk result (λ bytes. bytes.items ≡ string_bytes token.now) }
+{
     let mut bytes = Vec::new(alloc);
     let Some(inner) = token.get(1..token.len().saturating_sub(1)) else {
         return Ok(bytes);
@@ -95,7 +109,10 @@ pub(crate) struct Terms {
 
 impl Terms {
     // The type arguments stand behind so many others.
-    pub(crate) fn new(alloc: Global, used: usize) -> Terms {
+    pub(crate) fn new(alloc: Global, used: usize) -> Terms
+        ensures stack { result.stack.items ≡ [] }
+        ensures used { result.used ≡ used }
+    {
         Terms {
             alloc,
             stack: Vec::new(alloc),
@@ -103,13 +120,17 @@ impl Terms {
         }
     }
 
-    fn push(&mut self, head: TermId) -> Result<(), Memory> {
+    fn push(&mut self, head: TermId) -> Result<(), Memory>
+        ensures { OnOk result (IsPushed head self.old self.new) }
+    {
         let arguments = Vec::new(self.alloc);
         self.stack.push(Spine { head, arguments })?;
         Ok(())
     }
 
-    fn pop(&mut self) -> Result<Spine, Memory> {
+    fn pop(&mut self) -> Result<Spine, Memory>
+        ensures { IfOk result (IsPopped self.old self.new) }
+    {
         match self.stack.pop() {
             Some(spine) => Ok(spine),
             None => Err(Memory),
@@ -118,7 +139,8 @@ impl Terms {
 
     // The term of the part before.
     fn term(&mut self, bank: &mut Bank) -> Result<TermId, Memory>
-        ensures { Extends bank.old bank.new }
+        ensures kept { Extends bank.old bank.new }
+        ensures term { IfOk result (IsTaken bank.old bank.new self.old self.new) }
     {
         let spine = self.pop()?;
         if spine.arguments.is_empty() {
@@ -135,7 +157,8 @@ impl Terms {
         types: &[TypeId],
         bank: &mut Bank,
     ) -> Result<(), Memory>
-        ensures { Extends bank.old bank.new }
+        ensures kept { Extends bank.old bank.new }
+        ensures formed { OnOk result ((vars : ℕ) → (body : Ty) → vars ≡ count → Forms bank.old bank.new types.now self.old self.new (form (is_constant number (record { count = vars; body = body })))) }
     {
         let Some(end) = self.used.checked_add(count as usize) else {
             return Err(Memory);
@@ -149,7 +172,8 @@ impl Terms {
     }
 
     fn text(&mut self, token: &[u8], bank: &mut Bank) -> Result<(), Memory>
-        ensures { Extends bank.old bank.new }
+        ensures kept { Extends bank.old bank.new }
+        ensures formed { OnOk result ((types : List TypeId) → Forms bank.old bank.new types self.old self.new (form (is_text (string_bytes token.now)))) }
     {
         let bytes = bytes_of(self.alloc, token)?;
         let head = bank.put_term(TermNode::Text(bytes.as_slice()))?;
@@ -157,21 +181,24 @@ impl Terms {
     }
 
     fn index(&mut self, index: u64, bank: &mut Bank) -> Result<(), Memory>
-        ensures { Extends bank.old bank.new }
+        ensures kept { Extends bank.old bank.new }
+        ensures formed { OnOk result ((types : List TypeId) → Forms bank.old bank.new types self.old self.new (form (is_index index))) }
     {
         let head = bank.put_term(TermNode::Index(index))?;
         self.push(head)
     }
 
     fn integer(&mut self, value: i64, bank: &mut Bank) -> Result<(), Memory>
-        ensures { Extends bank.old bank.new }
+        ensures kept { Extends bank.old bank.new }
+        ensures formed { OnOk result ((types : List TypeId) → Forms bank.old bank.new types self.old self.new (form (is_integer value))) }
     {
         let head = bank.put_term(TermNode::Int(value))?;
         self.push(head)
     }
 
     fn close(&mut self, bank: &mut Bank) -> Result<(), Memory>
-        ensures { Extends bank.old bank.new }
+        ensures kept { Extends bank.old bank.new }
+        ensures formed { OnOk result ((types : List TypeId) → Forms bank.old bank.new types self.old self.new (form closes)) }
     {
         let body = self.term(bank)?;
         let head = put_abstraction(bank, body)?;
@@ -180,7 +207,8 @@ impl Terms {
 
     #[tactic(auto, using(crate::proofs::Keeps::kept_then))]
     fn apply(&mut self, bank: &mut Bank) -> Result<(), Memory>
-        ensures { Extends bank.old bank.new }
+        ensures kept { Extends bank.old bank.new }
+        ensures formed { OnOk result ((types : List TypeId) → Forms bank.old bank.new types self.old self.new (form applies)) }
     {
         let argument = self.term(bank)?;
         let mut spine = self.pop()?;
@@ -198,7 +226,8 @@ impl Terms {
         step: Step,
         bank: &mut Bank,
     ) -> Result<(), Memory>
-        ensures { Extends bank.old bank.new }
+        ensures kept { Extends bank.old bank.new }
+        ensures formed { OnOk result ((b : Nodes) → (τ : ℕ → Ty) → Forms bank.old bank.new types.now self.old self.new (form (mark source.now b count τ step))) }
     {
         match step {
             Step::Bound(out) => self.index(out, bank),
@@ -228,7 +257,8 @@ impl Terms {
         steps: &[Step],
         bank: &mut Bank,
     ) -> Result<TermId, Memory>
-        ensures { Extends bank.old bank.new }
+        ensures kept { Extends bank.old bank.new }
+        ensures term { self.old.stack.items ≡ [] → AreTypes bank.old types.now → IfOk result (λ id. (R : Raw) → (b : Nodes) → (τ : ℕ → Ty) → postfix R ≡ map (mark source.now b count τ) steps.now → IsTerm bank.new id (fills R (drop self.old.used (trees_of bank.old types.now))).0) }
     {
         for step in steps.iter().copied() {
             self.step(source, count, types, step, bank)?;
