@@ -14,7 +14,7 @@ use Rattle.lp_calculus.specs.Typing.{o_type}
 use Rattle.lp_types.specs.Equations.{Equation, equation, AllHold, Holds, IsMostGeneral, HaveNoSolution, Below}
 use Rattle.lp_types.proofs.Types.{instance-var}
 use Rattle.lp_types.proofs.Solves.{hold_append, hold_front, hold_back}
-use Rattle.lp_term.specs.Nodes.{Nodes, type_tree, tree}
+use Rattle.lp_term.specs.Nodes.{Nodes, Extends, type_tree, tree}
 use Rattle.lp_term.specs.declared.node.TypeId.{TypeId}
 use Rattle.lp_equations.specs.declared.bindings.Pair.{Pair}
 use Rattle.lp_equations.specs.Reading.{reads, read_pair, read_pairs}
@@ -26,13 +26,16 @@ use Rattle.lp_sig.specs.Places.{first_place}
 use Rattle.lp_infer.specs.Typing.{Raw, term_arguments}
 use Rattle.lp_infer.specs.Texts.{Notes, is_blank, Reads, HasNoTextTyping, IsPrincipalTyping}
 use Rattle.lp_infer.specs.Generate.{fresh, generate, generated, IsScoped}
-use Rattle.lp_infer.specs.Numbering.{IsTyped, typing_of, typing_variables, AreNumbered}
+use Rattle.lp_infer.specs.Numbering.{all_variables, IsTyped, typing_of, typing_variables, AreNumbered}
 use Rattle.lp_infer.specs.Postfix.{Mark, postfix, mark}
 use Rattle.lp_infer.specs.Running.{Sofar, sofar, run}
 use Rattle.lp_infer.specs.Visits.{Agrees, noted_types, marks, IsLookedUp, HasNoReading}
 use Rattle.lp_infer.specs.Making.{held, IsGenerated}
 use Rattle.lp_infer.specs.Copies.{trees_of}
-use Rattle.lp_infer.specs.Filling.{fills}
+use Rattle.lp_infer.specs.Filling.{fills, IsTerm}
+use Rattle.lp_infer.specs.ReadingOff.{ReadsAll}
+use Rattle.lp_infer.specs.Meeting.{met, renaming}
+use Rattle.lp_infer.specs.declared.reading.Reading.{Reading}
 use Rattle.lp_infer.specs.Formulas.{wanted_types, variables_of, in_order, HasTypes}
 use Rattle.lp_infer.specs.declared.lookup.Step.{Step}
 use Rattle.lp_infer.specs.declared.lookup.Lookup.{Lookup}
@@ -43,7 +46,7 @@ use Rattle.lp_infer.proofs.LookedUp.{or_goal, notes_of, notes_agree}
 use Rattle.lp_infer.proofs.Scoped.{NotesBelow, is_scoped}
 use Rattle.lp_infer.proofs.Marked.{runs}
 use Rattle.lp_infer.proofs.Whole.{principal_text, no_text}
-use Rattle.lp_infer.proofs.Copying.{map_twice}
+use Rattle.lp_infer.proofs.Copying.{map_twice, trees_stay}
 use Rattle.lp_infer.proofs.Typings.{types_under, in_numbers, is_principal, are_numbered, is_typing}
 
 -- solutions
@@ -198,3 +201,28 @@ module _ (sig : Signature) (text : List ℕ) (raw : RawTerm) (l : Lookup) (L : I
 -- a text that has no reading has no typing
 pub none_read : (sig : Signature) (text : List ℕ) (raw : RawTerm) → HasNoReading sig text raw.nodes.items raw.root → HasNoTextTyping sig text raw
 none_read sig text raw none places T I = none I.notes (length places) I.looked_up places I.reads
+
+-- what was read off has the types that are wanted
+
+map_taken : {A B : Type 0} (f : A → B) (n : ℕ) (xs : List A) → map f (take n xs) ≡ take n (map f xs)
+map_taken f zero xs = refl
+map_taken f (suc n) [] = refl
+map_taken f (suc n) (x ∷ xs) = ap (λ l. f x ∷ l) (map_taken f n xs)
+
+pub has_types : (text : List ℕ) (steps : List Step) (spots : List Spot) (A : ℕ → Ty) (b c : Nodes) (ids types : List TypeId) (first last : Reading) (t : Typed) → Extends b c → first.numbers.keys ≡ [] → ReadsAll A b first last ids types →
+    (map (λ v. v.0) t.vars.items ≡ spots) × (map (λ v. v.1) t.vars.items ≡ take (length spots) types) →
+    ((R : Raw) (d : Nodes) (τ : ℕ → Ty) → postfix R ≡ map (mark text d (length spots) τ) steps → IsTerm c t.formula (fills R (drop (length spots) (trees_of b types))).0) → t.type_vars ≡ length last.numbers.keys →
+    HasTypes text steps spots (map A (map (λ i. i.0) ids)) c t
+has_types text steps spots A b c ids types first last t E none R vars formula count =
+    let As = map A (map (λ i. i.0) ids) in
+    let keys : last.numbers.keys ≡ variables_of As = R.numbers ∙ ap (λ N. met N (all_variables As)) none in
+    let trees : trees_of b types ≡ in_order As = R.are.are ∙ ap (λ N. map (instance (renaming N)) As) keys in
+    let stay : trees_of c types ≡ in_order As = trees_stay b c E types R.are.known ∙ trees in
+    record {
+      places = vars.0;
+      types =
+          sym (map_twice (λ i. type_tree c i.0) (λ v. v.1) t.vars.items) ∙ ap (map (λ i. type_tree c i.0)) vars.1 ∙ map_taken (λ i. type_tree c i.0) (length spots) types ∙
+          ap (take (length spots)) (sym (map_twice (type_tree c) (λ i. i.0) types) ∙ stay);
+      formula = λ R τ d e. (formula R d τ e).1 ∙ ap (λ l. (fills R (drop (length spots) l)).0) trees;
+      count = count ∙ ap length keys;
+    }

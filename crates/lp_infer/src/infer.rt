@@ -1,6 +1,11 @@
 // The typing of a text.
-ghost use Rattle.std.specs.Prelude.{◌≡◌, ◌<◌, length, true, All, IfOk, IfErr, IfSome};
+ghost use Rattle.std.specs.Prelude.{◌≡◌, ◌<◌, length, map, take, true, All, IfOk, IfErr, IfSome, MatchOption};
+ghost use Rattle.lp_syntax.specs.declared.text.RawTerm.{RawTerm};
 ghost use Rattle.lp_infer.specs.Refusals.{IsDeclared, IsRefusal, Stands};
+ghost use Rattle.lp_infer.specs.Texts.{HasNoTextTyping};
+ghost use Rattle.lp_infer.specs.Numbering.{IsTyped};
+ghost use Rattle.lp_infer.specs.Visits.{IsLookedUp};
+ghost use Rattle.lp_infer.specs.Formulas.{HasTypes, wanted_types};
 ghost use Rattle.lp_term.specs.Nodes.{Extends};
 ghost use Rattle.lp_equations.specs.Reading.{AreKept, IsPair};
 
@@ -37,7 +42,8 @@ fn variables(
     places: &[Spot],
     types: &[TypeId],
 ) -> Result<Vec<(Spot, TypeId)>, Memory>
-    ensures { IfOk result (λ variables. All (λ v. v.1.0 < length bank.now.types) variables.items) }
+    ensures known { IfOk result (λ variables. All (λ v. v.1.0 < length bank.now.types) variables.items) }
+    ensures are { IfOk result (λ variables. (map (λ v. v.0) variables.items ≡ places.now) × (map (λ v. v.1) variables.items ≡ take (length places.now) types.now)) }
 {
     let mut variables = Vec::new(alloc);
     for (at, place) in places.iter().enumerate() {
@@ -65,6 +71,7 @@ fn read_off(
     requires { AreKept typing.now.types bindings.now.made }
     ensures kept { Extends bank.old bank.new }
     ensures stands { IfOk result (Stands bank.new) }
+    ensures types { IfOk result (HasTypes source.now steps.now places.now (wanted_types typing.now bindings.now.made) bank.new) }
 {
     let alloc = typing.alloc;
     let mut reading = Reading::new(alloc);
@@ -99,6 +106,7 @@ fn typed(
 ) -> Result<Option<Typed>, Memory>
     ensures kept { Extends bank.old bank.new }
     ensures stands { IfOk result (λ found. IfSome found (Stands bank.new)) }
+    ensures typed { IfOk result (λ found. (raw : RawTerm) → IsLookedUp signature.now source.now raw.nodes.items raw.root text → MatchOption found (HasNoTextTyping signature.now source.now raw) (IsTyped signature.now source.now raw bank.new)) }
 {
     let Some(next) = (source.len() as u64).checked_add(text.notes.places.len() as u64) else {
         return Err(Memory);
@@ -141,6 +149,7 @@ fn typing_of_text(
 ) -> Result<Option<Typed>, Memory>
     ensures kept { Extends bank.old bank.new }
     ensures stands { IfOk result (λ found. IfSome found (Stands bank.new)) }
+    ensures typed { IfOk result (λ found. MatchOption found (HasNoTextTyping signature.now source.now raw.now) (IsTyped signature.now source.now raw.now bank.new)) }
 {
     let Some(text) = looked_up(alloc, signature, source, raw)? else {
         return Ok(None);
@@ -163,6 +172,7 @@ pub fn type_formula(
     ensures kept { Extends bank.old bank.new }
     ensures stands { IfOk result (Stands bank.new) }
     ensures declared { IfOk result (λ _. IsDeclared signature.now source.now raw.now) }
+    ensures typed { IfOk result (IsTyped signature.now source.now raw.now bank.new) }
     ensures refused { IfErr result (IsRefusal signature.now source.now raw.now) }
 {
     if let Some(spot) = first_undeclared(alloc, signature, source, raw)? {
@@ -188,6 +198,7 @@ pub fn type_query(
     ensures kept { Extends bank.old bank.new }
     ensures stands { IfOk result (Stands bank.new) }
     ensures declared { IfOk result (λ _. IsDeclared signature.now source.now raw.now.term) }
+    ensures typed { IfOk result (IsTyped signature.now source.now raw.now.term bank.new) }
     ensures refused { IfErr result (IsRefusal signature.now source.now raw.now.term) }
 {
     type_formula(alloc, signature, source, &raw.term, bank)
