@@ -1,6 +1,6 @@
 -- What is read off under a most general solution of a text's equations is the principal typing of the text; without a solution the text has no typing.
-use Rattle.std.proofs.Common.{◌≡◌, ℕ, zero, suc, ◌+◌, ◌-◌, ◌<◌, ◌≤◌, zero-add, le_refl, inl, inr, List, [], ◌∷◌, ◌++◌, map, reverse, length, take, drop, refl, sym, ap, subst, ◌∙◌, Option, Some, None, Bool, true, false, arith}
-use Rattle.std.specs.Prelude.{All, codes, ◌⊎◌}
+use Rattle.std.proofs.Common.{◌≡◌, ℕ, zero, suc, ◌+◌, ◌-◌, ◌<◌, ◌≤◌, zero-add, add-one, le_refl, inl, inr, List, [], ◌∷◌, ◌++◌, map, reverse, length, take, drop, refl, sym, ap, subst, ◌∙◌, Option, Some, None, Bool, true, false, arith}
+use Rattle.std.specs.Prelude.{All, codes, slice_get, get_or, ◌⊎◌}
 use Rattle.std.proofs.lemmas.Bool.{cases_lt}
 use Rattle.std.specs.Str.{bytes_eq}
 use Rattle.std.proofs.lemmas.List.{append-nil, map-append, reverse-append, reverse-reverse, length-map}
@@ -47,6 +47,7 @@ use Rattle.lp_infer.proofs.Scoped.{NotesBelow, is_scoped}
 use Rattle.lp_infer.proofs.Marked.{runs}
 use Rattle.lp_infer.proofs.Whole.{principal_text, no_text}
 use Rattle.lp_infer.proofs.Copying.{map_twice, trees_stay}
+use Rattle.lp_infer.proofs.Taking.{take_whole, taken_more, map_pushed}
 use Rattle.lp_infer.proofs.Typings.{types_under, in_numbers, is_principal, are_numbered, is_typing}
 
 -- solutions
@@ -226,3 +227,22 @@ has_types text steps spots A b c ids types first last t E none R vars formula co
       formula = λ R τ d e. (formula R d τ e).1 ∙ ap (λ l. (fills R (drop (length spots) l)).0) trees;
       count = count ∙ ap length keys;
     }
+
+-- the variables with their types
+
+got : {A : Type 0} (xs : List A) (i : ℕ) (x : A) → slice_get xs i ≡ Some x → take (suc i) xs ≡ take i xs ++ x ∷ []
+got [] i x e = absurd (cc)
+got (y ∷ ys) zero x e = let f : y ≡ x = cc in ap (λ z. z ∷ []) f
+got (y ∷ ys) (suc i) x e = ap (λ l. y ∷ l) (got ys i x e)
+
+pub variable_more : (spots : List Spot) (types : List TypeId) (vs ws : List (Spot × TypeId)) (i : ℕ) (d : Spot) (id : TypeId) → i < length spots → slice_get types i ≡ Some id → map (λ v. v.0) vs ≡ take i spots → map (λ v. v.1) vs ≡ take i types →
+    ws ≡ vs ++ (get_or spots i d, id) ∷ [] → (map (λ v. v.0) ws ≡ take (i + 1) spots) × (map (λ v. v.1) ws ≡ take (i + 1) types)
+variable_more spots types vs ws i d id below got_id first second e =
+    (map_pushed (λ v. v.0) vs ws (get_or spots i d, id) e ∙ ap (λ l. l ++ get_or spots i d ∷ []) first ∙ sym (taken_more spots i d below),
+     map_pushed (λ v. v.1) vs ws (get_or spots i d, id) e ∙ ap (λ l. l ++ id ∷ []) second ∙ sym (ap (λ k. take k types) (add-one i) ∙ got types i id got_id))
+
+pub variables_all : (spots : List Spot) (types : List TypeId) (vs : List (Spot × TypeId)) (i : ℕ) → length spots ≤ i → i ≤ length spots → map (λ v. v.0) vs ≡ take i spots → map (λ v. v.1) vs ≡ take i types →
+    (map (λ v. v.0) vs ≡ spots) × (map (λ v. v.1) vs ≡ take (length spots) types)
+variables_all spots types vs i low high first second =
+    let e : i ≡ length spots = omega arith in
+    (first ∙ take_whole spots i low, second ∙ ap (λ k. take k types) e)

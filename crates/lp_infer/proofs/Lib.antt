@@ -23,6 +23,7 @@ pub mod Leaves
 pub mod Acting
 pub mod Meetings
 pub mod Memos
-pub mod Formed
+pub mod Filling
 pub mod Typings
 pub mod Joining
+pub mod Costs

@@ -18,21 +18,9 @@ use Rattle.lp_infer.specs.Formulas.{variables_of, in_order}
 use Rattle.lp_infer.proofs.Principal.{principal, typing_same, map_map, term_twice, fresh_length}
 use Rattle.lp_infer.proofs.Renaming.{renamed}
 use Rattle.lp_infer.proofs.Meetings.{all_met, all_front, all_back, list_back, lists_renamed, numbered}
-use Rattle.lp_infer.proofs.Formed.{fills_made}
+use Rattle.lp_infer.proofs.Filling.{take_front, filled}
 
 -- lists
-
-pub take_front : {A : Type 0} (xs ys : List A) (n : ℕ) → length xs ≡ n → take n (xs ++ ys) ≡ xs
-take_front xs ys n e = ap (λ k. take k (xs ++ ys)) (sym e) ∙ go xs where
-  go : (zs : List A) → take (length zs) (zs ++ ys) ≡ zs
-  go [] = refl
-  go (z ∷ zs) = ap (λ l. z ∷ l) (go zs)
-
-pub drop_front : {A : Type 0} (xs ys : List A) (n : ℕ) → length xs ≡ n → drop n (xs ++ ys) ≡ ys
-drop_front xs ys n e = ap (λ k. drop k (xs ++ ys)) (sym e) ∙ go xs where
-  go : (zs : List A) → drop (length zs) (zs ++ ys) ≡ ys
-  go [] = refl
-  go (z ∷ zs) = go zs
 
 pub variables_append : (As Bs : List Ty) → all_variables (As ++ Bs) ≡ all_variables As ++ all_variables Bs
 variables_append [] Bs = refl
@@ -133,10 +121,7 @@ module _ (R : Raw) (names k : ℕ) (θ : ℕ → Ty) where
   -- what has these types is the typing
   pub is_typing : (b : Nodes) (t : Typed) → map (λ v. type_tree b v.1.0) t.vars.items ≡ take names (in_order types_under) → tree b t.formula.0 ≡ (fills R (drop names (in_order types_under))).0 → typing_of b t ≡ in_numbers
   is_typing b t vars formula =
-      let args = term_arguments (generated R names k).term in
       let free : take names (in_order types_under) ≡ map (instance π) (reverse frees) = ap (take names) parted ∙ take_front (map (instance π) (reverse frees)) (map (instance π) arguments) names many in
-      let rest : drop names (in_order types_under) ≡ map (instance (λ i. instance π (θ i))) args ++ [] =
-          (ap (drop names) parted ∙ drop_front (map (instance π) (reverse frees)) (map (instance π) arguments) names many ∙ map_map π θ args ∙ sym (append-nil (map (instance (λ i. instance π (θ i))) args))) in
       typing_same (typing_of b t) in_numbers
       (ap reverse (vars ∙ free ∙ map-reverse (instance π) frees) ∙ reverse-reverse (map (instance π) frees))
-      (formula ∙ ap (λ l. (fills R l).0) rest ∙ ap (λ r. r.0) (fills_made (λ i. instance π (θ i)) R (fresh names k) (k + names) []) ∙ sym (term_twice π θ (generated R names k).term))
+      (formula ∙ filled (λ i. instance π (θ i)) R (fresh names k) (k + names) names k (in_order types_under) (map_map π θ (reverse (fresh names k) ++ term_arguments (generated R names k).term)) ∙ sym (term_twice π θ (generated R names k).term))

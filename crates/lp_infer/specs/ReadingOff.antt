@@ -1,7 +1,8 @@
 -- Types that are read off with their type variables numbered as they are met.
-use Rattle.std.specs.Prelude.{◌≡◌, ℕ, ◌<◌, List, [], ◌∷◌, ◌++◌, map, length, Some, nat_eq}
+use Rattle.std.specs.Prelude.{◌≡◌, ℕ, suc, ◌+◌, ◌*◌, ◌<◌, List, [], ◌∷◌, ◌++◌, map, length, Some, nat_eq}
 use Rattle.indexmap.specs.IndexMap.{IndexMap, get}
 use Rattle.lp_calculus.specs.Types.{Ty, instance}
+use Rattle.lp_types.specs.Equations.{size}
 use Rattle.lp_term.specs.Nodes.{Nodes, type_tree}
 use Rattle.lp_term.specs.declared.node.TypeId.{TypeId}
 use Rattle.lp_equations.specs.Reading.{reads}
@@ -37,6 +38,12 @@ abbrev pub pending : (ℕ → Ty) → List Task → List ℕ
 pending A [] = []
 pending A (task.Visit id ∷ ts) = type_variables (A id.0) ++ pending A ts
 pending A (task.Build id ∷ ts) = pending A ts
+
+-- what the tasks cost at most: twice the size of a type that is to be read, and one for a type that is to be built
+abbrev pub cost : (ℕ → Ty) → List Task → ℕ
+cost A [] = 0
+cost A (task.Visit id ∷ ts) = 2 * size (A id.0) + cost A ts
+cost A (task.Build id ∷ ts) = suc (cost A ts)
 
 -- one type was read off, and then all of a list
 pub record ReadsOne (A : ℕ → Ty) (b : Nodes) (old new : Reading) (id : ℕ) (j : TypeId) : Type 0 where

@@ -7,7 +7,7 @@ ghost use Rattle.lp_term.specs.Nodes.{Nodes, Extends, type_tree};
 ghost use Rattle.lp_equations.specs.Reading.{AreKept};
 ghost use Rattle.lp_equations.specs.Looking.{IsUnbound};
 ghost use Rattle.lp_infer.specs.Meeting.{place};
-ghost use Rattle.lp_infer.specs.ReadingOff.{bound_type, IsReadAs, IsReadMemo, AreRead, IsTaken, ReadsOne, ReadsAll};
+ghost use Rattle.lp_infer.specs.ReadingOff.{bound_type, cost, IsReadAs, IsReadMemo, AreRead, IsTaken, ReadsOne, ReadsAll};
 ghost use Rattle.lp_infer.specs.declared.reading.Task.{Task};
 
 use crate::instance::{put_arrow, put_con};
@@ -149,6 +149,7 @@ impl Reading {
         requires { AreKept from.now bindings.now.made }
         ensures kept { Extends to.old to.new }
         ensures taken { OnOk result (IsTaken (bound_type from.now bindings.now.made) to.old to.new self.old self.new (Task.Visit id ∷ reverse work.old.items) (reverse work.new.items)) }
+        ensures fewer { OnOk result (cost (bound_type from.now bindings.now.made) (reverse work.new.items) < cost (bound_type from.now bindings.now.made) (Task.Visit id ∷ reverse work.old.items)) }
     {
         let top = top_of(from, bindings, id)?;
         if self.find(top).is_some() {
@@ -213,6 +214,7 @@ impl Reading {
         requires { AreKept from.now bindings.now.made }
         ensures kept { Extends to.old to.new }
         ensures taken { OnOk result (IsTaken (bound_type from.now bindings.now.made) to.old to.new self.old self.new (task ∷ reverse work.old.items) (reverse work.new.items)) }
+        ensures fewer { OnOk result (cost (bound_type from.now bindings.now.made) (reverse work.new.items) < cost (bound_type from.now bindings.now.made) (task ∷ reverse work.old.items)) }
     {
         match task {
             Task::Visit(id) => self.visit(from, bindings, id, to, work),
@@ -233,13 +235,10 @@ impl Reading {
     {
         let mut work = Vec::new(self.alloc);
         work.push(Task::Visit(id))?;
-        for _ in 0..u64::MAX {
-            let Some(task) = work.pop() else {
-                return self.part(from, bindings, id);
-            };
+        while let Some(task) = work.pop() {
             self.take(from, bindings, task, to, &mut work)?;
         }
-        Err(Memory)
+        self.part(from, bindings, id)
     }
 
     pub(crate) fn read_all(

@@ -1,8 +1,8 @@
-use Rattle.std.proofs.Common.{◌∙◌, sym, ap, ◌++◌, ◌∷◌, [], reverse, arith}
+use Rattle.std.proofs.Common.{◌<◌, ◌∙◌, sym, ap, subst, ◌++◌, ◌∷◌, [], reverse, arith}
 use Rattle.std.proofs.lemmas.List.{append-nil}
 use Rattle.lp_infer.specs.Numbering.{type_variables}
 use Rattle.lp_infer.specs.Meeting.{met}
-use Rattle.lp_infer.specs.ReadingOff.{bound_type, pending}
+use Rattle.lp_infer.specs.ReadingOff.{bound_type, pending, cost}
 use Rattle.lp_infer.specs.declared.reading.Task.TheVariants as task
 use Rattle.lp_term.proofs.Trees.{extends_same, extends-trans}
 use Rattle.lp_infer.proofs.Scanning.{reverse_push, empty_list}
@@ -10,8 +10,8 @@ use Rattle.lp_infer.proofs.Results.{if_ok_as}
 use Rattle.lp_infer.proofs.Memos.{reads_one}
 use Rattle.lp_infer.proofs.reading.Reading.read.Goals as goal
 
-pub loop-init : goal.loop-init
-loop-init c =
+pub loop-task-init : goal.loop-task-init
+loop-task-init c =
     let A = bound_type c.args.from.now c.args.bindings.now.made in
     record {
       kept = extends_same c.args.to.now;
@@ -21,19 +21,24 @@ loop-init c =
           ap (met c.args.self.now.numbers.keys) (append-nil (type_variables (A c.args.id.0)));
     }
 
-pub loop-preserved : goal.loop-preserved
-loop-preserved c =
+pub loop-task-preserved : goal.loop-task-preserved
+loop-task-preserved c =
     let A = bound_type c.args.from.now c.args.bindings.now.made in
     record {
-      kept = extends-trans c.args.to.now c.loop.to c.take.new.to c.loop.invariant.kept c.take.ensures.kept;
-      memo = λ M. c.in_ok-take.ensures.taken.memo (c.loop.invariant.memo M);
+      kept = extends-trans c.args.to.now c.loop-task.to c.take.new.to c.loop-task.invariant.kept c.take.ensures.kept;
+      memo = λ M. c.in_ok-take.ensures.taken.memo (c.loop-task.invariant.memo M);
       order = λ M.
-          c.in_ok-take.ensures.taken.order (c.loop.invariant.memo M) ∙
-          ap (λ l. met c.loop.self.numbers.keys (pending A l)) (sym (reverse_push c.loop.work.items c.pop.new.self.items c.in-Some.task c.in-Some.ensures.items)) ∙ c.loop.invariant.order M;
+          c.in_ok-take.ensures.taken.order (c.loop-task.invariant.memo M) ∙
+          ap (λ l. met c.loop-task.self.numbers.keys (pending A l)) (sym (reverse_push c.loop-task.work.items c.pop.new.self.items c.in-Some.task c.in-Some.ensures.items)) ∙ c.loop-task.invariant.order M;
     }
 
-pub returns-in_default-clause-read : goal.returns-in_default-clause-read
-returns-in_default-clause-read c =
+pub returns-clause-read : goal.returns-clause-read
+returns-clause-read c =
     let A = bound_type c.args.from.now c.args.bindings.now.made in
     if_ok_as c.part.result c.part.ensures (λ j part.
-        reads_one A c.args.to.now c.loop.to c.args.self.now c.loop.self c.args.id.0 j c.loop.work.items (empty_list c.loop.work.items (omega (arith, c.in_default.ensures.cases.0, c.loop.work.ok))) c.loop.invariant.memo c.loop.invariant.order (part c.loop.to))
+        reads_one A c.args.to.now c.loop-task.to c.args.self.now c.loop-task.self c.args.id.0 j c.loop-task.work.items (empty_list c.loop-task.work.items (omega (arith, c.in_default.ensures.cases.0, c.loop-task.work.ok))) c.loop-task.invariant.memo c.loop-task.invariant.order (part c.loop-task.to))
+
+pub loop-task-smaller : goal.loop-task-smaller
+loop-task-smaller c =
+    let A = bound_type c.args.from.now c.args.bindings.now.made in
+    subst (λ l. cost A (reverse c.take.new.work.items) < cost A l) (sym (reverse_push c.loop-task.work.items c.pop.new.self.items c.in-Some.task c.in-Some.ensures.items)) c.in_ok-take.ensures.fewer
