@@ -23,3 +23,6 @@ pub mod Leaves
 pub mod Acting
 pub mod Meetings
 pub mod Memos
+pub mod Filling
+pub mod FillingSteps
+pub mod FillingBytes
