@@ -17,8 +17,8 @@ take_front xs ys n e = ap (λ k. take k (xs ++ ys)) (sym e) ∙ take-append_seam
 pub drop_front : (xs ys : List Ty) (n : ℕ) → length xs ≡ n → drop n (xs ++ ys) ≡ ys
 drop_front xs ys n e = ap (λ k. drop k (xs ++ ys)) (sym e) ∙ drop-append_seam xs ys
 
-pair_same : {A B : Type 0} (a c : A) (b d : B) → a ≡ c → b ≡ d → (a, b) ≡ (c, d)
-pair_same a c b d e f = cc
+pair_same : (a c : Term) (b d : List Ty) → a ≡ c → b ≡ d → ◌≡◌ {A = Term × List Ty} (a, b) (c, d)
+pair_same a c b d e f = ap {B = Term × List Ty} (λ t. (t, b)) e ∙ ap {B = Term × List Ty} (λ l. (c, l)) f
 
 -- from the type arguments of the formula, with types for its type variables, the text becomes the formula
 pub filled_all : (θ : ℕ → Ty) (R : Raw) (C : List Ty) (n : ℕ) (rest : List Ty) → fills R (map (instance θ) (term_arguments (generate C R n).term) ++ rest) ≡ (instance_term θ (generate C R n).term, rest)

@@ -77,8 +77,8 @@ terms_so_far b types t = formed (reverse (map (spine_tree b) t.stack.items)) (dr
 
 -- all that is named stands in the bank
 pub record AreSound (b : Nodes) (types : List TypeId) (t : Terms) : Type 0 where
-  pub types : AreTypes b types
-  pub stack : All (IsSpine b) t.stack.items
+  pub known : AreTypes b types
+  pub spines : All (IsSpine b) t.stack.items
 
 -- what was made is changed so, while the bank grows
 pub record Forms (b c : Nodes) (types : List TypeId) (old new : Terms) (f : Formed → Formed) : Type 0 where

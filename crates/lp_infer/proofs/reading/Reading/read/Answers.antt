@@ -36,4 +36,4 @@ pub returns-in_default-clause-read : goal.returns-in_default-clause-read
 returns-in_default-clause-read c =
     let A = bound_type c.args.from.now c.args.bindings.now.made in
     if_ok_as c.part.result c.part.ensures (λ j part.
-        reads_one A c.args.to.now c.loop.to c.args.self.now c.loop.self c.args.id.0 j c.loop.work.items (empty_list c.loop.work.items (omega (arith, c.in_default.ensures.cases.0, c.loop.work.ok))) c.loop.invariant.memo c.loop.invariant.order (part c.loop.to))
+    reads_one A c.args.to.now c.loop.to c.args.self.now c.loop.self c.args.id.0 j c.loop.work.items (empty_list c.loop.work.items (omega (arith, c.in_default.ensures.cases.0, c.loop.work.ok))) c.loop.invariant.memo c.loop.invariant.order (part c.loop.to))
