@@ -27,3 +27,5 @@ pub mod Filling
 pub mod Typings
 pub mod Joining
 pub mod Costs
+pub mod FillingSteps
+pub mod FillingBytes

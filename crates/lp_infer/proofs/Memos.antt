@@ -81,7 +81,6 @@ module _ (A : ℕ → Ty) where
         subst (λ n. IsReadAs c new.numbers.keys (A i) n) d (subst (λ n. IsReadAs c new.numbers.keys (A n) j) g R)
     go i k false f e = read_stays b c old.numbers.keys new.numbers.keys more (A i) k E keys (M i k (sym (ap (λ t. if t then Some j else get nat_eq old.made i) f) ∙ e))
 
-
 pub variable_read : (b : Nodes) (N : List ℕ) (A : Ty) (v j : ℕ) → A ≡ var v → (j < length b.types) × (type_tree b j ≡ var (place N v)) → list_any (nat_eq v) N ≡ true → IsReadAs b N A j
 variable_read b N A v j e h m = record { known = h.0; is = h.1 ∙ ap (instance (renaming N)) (sym e); all = subst (λ T. AllMet N (type_variables T)) (sym e) (m, tt) }
 

@@ -248,12 +248,15 @@ module _ (sig : Signature) (text : List ℕ) (nodes : List RawTypeNode) (old new
       word_not sig text nodes (length done) s ps at κ
       (λ Ts l. if_is (begins_variable (spelled text s)) false (variable_type text κ s Ts) (kind_type sig (spelled text s) Ts (found (spelled text s) (standard_kinds ++ map kind_row sig.kinds.items))) None low (K Ts (l ∙ same_count done ps.items ts e)))
       A m
-  word_kind e at low (Some id) K = (K.0, λ κ ρ A.
-      let Ts = map (λ t. noted_types new.types ρ t.0) ts in
-      let known = parts_types sig text nodes old done N ps.items ts e in
-      word_means sig text nodes (length done) s ps κ Ts (noted_types new.types ρ id.0) at (parts_below sig text nodes old done N ps.items ts e)
-      (subst (AllMean sig text κ nodes ps.items) (noted_same old.types new.types G.types ρ ts known) (parts_mean sig text nodes old done N ps.items ts e κ ρ (G.agrees κ ρ A)))
-      (if_is (begins_variable (spelled text s)) false (variable_type text κ s Ts) (kind_type sig (spelled text s) Ts (found (spelled text s) (standard_kinds ++ map kind_row sig.kinds.items))) (Some (noted_types new.types ρ id.0)) low (K.1 ρ)))
+  word_kind e at low (Some id) K = (
+    K.0,
+    λ κ ρ A.
+        let Ts = map (λ t. noted_types new.types ρ t.0) ts in
+        let known = parts_types sig text nodes old done N ps.items ts e in
+        word_means sig text nodes (length done) s ps κ Ts (noted_types new.types ρ id.0) at (parts_below sig text nodes old done N ps.items ts e)
+        (subst (AllMean sig text κ nodes ps.items) (noted_same old.types new.types G.types ρ ts known) (parts_mean sig text nodes old done N ps.items ts e κ ρ (G.agrees κ ρ A)))
+        (if_is (begins_variable (spelled text s)) false (variable_type text κ s Ts) (kind_type sig (spelled text s) Ts (found (spelled text s) (standard_kinds ++ map kind_row sig.kinds.items))) (Some (noted_types new.types ρ id.0)) low (K.1 ρ)),
+  )
 
   pub word_on_parts : map (known_at done) ps.items ≡ map (λ t. Some t) ts → slice_get nodes (length done) ≡ Some (Word s ps) → begins_variable (spelled text s) ≡ true → 0 < length ts → (κ : Notes) (A : Ty) → Means sig text κ nodes (length done) A → ⊥
   word_on_parts e at high some κ A m =

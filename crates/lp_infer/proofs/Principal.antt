@@ -210,8 +210,8 @@ fine k (raw_app f u) C n s l c =
       term = (term_more m.next (suc j.next) to m.term F.term, term_more j.next (suc j.next) last j.term G.term);
       type_is = omega arith;
       equations = equations_append (suc j.next) (m.equations ++ j.equations) (equation m.type_is (arrow j.type_is (var j.next)) ∷ [])
-      (equations_append (suc j.next) m.equations j.equations (equations_more m.next (suc j.next) to m.equations F.equations) (equations_more j.next (suc j.next) last j.equations G.equations))
-      (below_more m.next (suc j.next) to m.type_is F.type_is, (below_more j.next (suc j.next) last j.type_is G.type_is, omega arith), tt);
+          (equations_append (suc j.next) m.equations j.equations (equations_more m.next (suc j.next) to m.equations F.equations) (equations_more j.next (suc j.next) last j.equations G.equations))
+          (below_more m.next (suc j.next) to m.type_is F.type_is, (below_more j.next (suc j.next) last j.type_is G.type_is, omega arith), tt);
     }
 
 -- types for the new type variables
@@ -333,8 +333,8 @@ complete k κ (raw_app f u) C n s l c ρ e t A h =
       types = ι;
       agrees = agree_then n m.next ρ τ ι up I.agrees upto;
       solves = hold_append ι (m.equations ++ j.equations) (equation m.type_is (arrow j.type_is (var j.next)) ∷ [])
-      (hold_append ι m.equations j.equations (equations_agree m.next τ ι upto m.equations F.equations I.solves) (equations_agree j.next υ ι last j.equations G.equations J.solves))
-      (let d : instance ι m.type_is ≡ arrow (instance ι j.type_is) (ι j.next) = cc in d, tt);
+          (hold_append ι m.equations j.equations (equations_agree m.next τ ι upto m.equations F.equations I.solves) (equations_agree j.next υ ι last j.equations G.equations J.solves))
+          (let d : instance ι m.type_is ≡ arrow (instance ι j.type_is) (ι j.next) = cc in d, tt);
       is = (let d : app (instance_term ι m.term) (instance_term ι j.term) ≡ app h.0 h.1 = cc in d) ∙ sym h.2;
       type_is = at_last;
     }

@@ -77,13 +77,7 @@ fn read_off(
     let mut reading = Reading::new(alloc);
     let types = reading.read_all(&typing.types, bindings, typing.wanted.as_slice(), bank)?;
     let mut terms = Terms::new(alloc, places.len());
-    let formula = terms.formula(
-        source,
-        places.len() as u64,
-        types.as_slice(),
-        steps,
-        bank,
-    )?;
+    let formula = terms.formula(source, places.len() as u64, types.as_slice(), steps, bank)?;
     if formula.0 >= bank.term_count() {
         return Err(Memory);
     }

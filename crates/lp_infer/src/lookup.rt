@@ -83,12 +83,7 @@ impl Lookup {
     }
 
     // A variable, a new one where it has no number.
-    fn variable(
-        &mut self,
-        source: &[u8],
-        spot: Spot,
-        number: Option<usize>,
-    ) -> Result<(), Memory>
+    fn variable(&mut self, source: &[u8], spot: Spot, number: Option<usize>) -> Result<(), Memory>
         ensures { OnOk result ((names : List (List ℕ)) → HasScope names self.old.scope → (sig : Signature) → IsLeafRead sig source.now (λ count. read_variable count names spot number self.old.variables.places.items) self.old self.new) }
     {
         match number {
@@ -101,12 +96,7 @@ impl Lookup {
     }
 
     // A constant of this number. False where it has no type.
-    fn constant(
-        &mut self,
-        signature: &Signature,
-        name: &[u8],
-        number: u32,
-    ) -> Result<bool, Memory>
+    fn constant(&mut self, signature: &Signature, name: &[u8], number: u32) -> Result<bool, Memory>
         ensures { IfOk result (λ ok. (text : List ℕ) → LeafRead ok signature.now text (λ count. read_constant number (constant_scheme signature.now name.now number) self.old.variables.places.items) self.old self.new) }
     {
         if number < 32 {

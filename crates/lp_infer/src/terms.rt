@@ -1,11 +1,12 @@
 // The formula of a text, from its parts and the type arguments of its constants.
-ghost use Rattle.std.specs.Prelude.{◌≡◌, ◌<◌, ℕ, List, [], ◌++◌, length, map, take, drop, true, All, IfOk, OnOk, OnErr};
+ghost use Rattle.std.specs.Prelude.{◌≡◌, ◌<◌, ℕ, List, [], length, map, drop, true, All, IfOk, OnOk};
 ghost use Rattle.lp_calculus.specs.Types.{Ty};
-ghost use Rattle.lp_calculus.specs.Term.{Term, index as index_term, atom, abs, apply, constant as constant_atom, integer as integer_atom, text as text_atom};
+ghost use Rattle.lp_calculus.specs.Typing.{Scheme};
+ghost use Rattle.lp_calculus.specs.Term.{atom, abs, apply, constant as constant_atom};
 ghost use Rattle.lp_term.specs.Nodes.{Nodes, Extends, tree};
 ghost use Rattle.lp_infer.specs.Typing.{Raw};
 ghost use Rattle.lp_infer.specs.Texts.{escaped as escaped_byte, string_bytes};
-ghost use Rattle.lp_infer.specs.Postfix.{Mark, is_index, is_constant, is_integer, is_text, closes, applies, mark, postfix};
+ghost use Rattle.lp_infer.specs.Postfix.{is_index, is_constant, is_integer, is_text, closes, applies, mark, postfix};
 ghost use Rattle.lp_infer.specs.Copies.{trees_of, AreTypes};
 ghost use Rattle.lp_infer.specs.Filling.{fills, IsTerm, form, numbers, IsPushed, IsPopped, IsTaken, Forms};
 
@@ -158,7 +159,7 @@ impl Terms {
         bank: &mut Bank,
     ) -> Result<(), Memory>
         ensures kept { Extends bank.old bank.new }
-        ensures formed { OnOk result ((vars : ℕ) → (body : Ty) → vars ≡ count → Forms bank.old bank.new types.now self.old self.new (form (is_constant number (record { count = vars; body = body })))) }
+        ensures formed { OnOk result ((scheme : Scheme) → scheme.count ≡ count → Forms bank.old bank.new types.now self.old self.new (form (is_constant number scheme))) }
     {
         let Some(end) = self.used.checked_add(count as usize) else {
             return Err(Memory);

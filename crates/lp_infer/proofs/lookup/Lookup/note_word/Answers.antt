@@ -32,7 +32,9 @@ returns-then-not-is_empty-clause-node c = λ firsts nodes parts e at N κ A m.
 
 pub returns-clause-node : goal.returns-clause-node
 returns-clause-node c = λ firsts nodes parts e at N.
-    let t : TypesAt c.args.done.now c.args.arguments.now (Some c.in-Some.parts) = subst (TypesAt c.args.done.now c.args.arguments.now) c.in-Some.is c.in_ok-parts.ensures in
-    (c.in_ok-id.ensures.known, λ κ ρ G.
-    word_variable c.args.signature.now c.args.source.now nodes c.args.self.now c.note_variable.new.self c.args.done.now N (c.in_ok-id.ensures.grows firsts) c.args.spot parts c.in-Some.parts.items (ap (map (known_at c.args.done.now)) e ∙ t) at
-    (ap begins_variable (sym c.spelled_at.ensures) ∙ sym c.is_variable.ensures ∙ c.if-not-is_variable.false) (no_elements c.in-Some.parts.items c.in-Some.parts.len (sym c.in-Some.parts.ok.0) (sym c.is_empty.ensures ∙ c.if-not-is_empty.false)) κ _ (c.in_ok-id.ensures.variable firsts κ ρ G))
+    let t : TypesAt c.args.done.now c.args.arguments.now (Some c.in-Some.parts) = subst (TypesAt c.args.done.now c.args.arguments.now) c.in-Some.is c.in_ok-parts.ensures in (
+      c.in_ok-id.ensures.known,
+      λ κ ρ G.
+          word_variable c.args.signature.now c.args.source.now nodes c.args.self.now c.note_variable.new.self c.args.done.now N (c.in_ok-id.ensures.grows firsts) c.args.spot parts c.in-Some.parts.items (ap (map (known_at c.args.done.now)) e ∙ t) at
+          (ap begins_variable (sym c.spelled_at.ensures) ∙ sym c.is_variable.ensures ∙ c.if-not-is_variable.false) (no_elements c.in-Some.parts.items c.in-Some.parts.len (sym c.in-Some.parts.ok.0) (sym c.is_empty.ensures ∙ c.if-not-is_empty.false)) κ _ (c.in_ok-id.ensures.variable firsts κ ρ G),
+    )

@@ -20,23 +20,23 @@ pub returns-in-Var-clause-taken : goal.returns-in-Var-clause-taken
 returns-in-Var-clause-taken c =
     let A = bound_type c.args.from.now c.args.bindings.now.made in
     on_ok_two c.variable.result c.variable.ensures.goes c.variable.ensures.memo (λ keys memo.
-        taken_variable A c.args.to.now c.variable.new.to c.args.self.now c.variable.new.self c.args.id c.in_ok-top.top c.in-Var.variable (reverse c.args.work.now.items) c.in_ok-top.ensures.1
-        (unbound_reads c.args.from.now c.args.bindings.now.made c.in_ok-top.top.0 c.in-Var.variable c.requires c.in_ok-top.ensures.2 c.in-Var.ensures.tree) keys (memo A))
+    taken_variable A c.args.to.now c.variable.new.to c.args.self.now c.variable.new.self c.args.id c.in_ok-top.top c.in-Var.variable (reverse c.args.work.now.items) c.in_ok-top.ensures.1
+    (unbound_reads c.args.from.now c.args.bindings.now.made c.in_ok-top.top.0 c.in-Var.variable c.requires c.in_ok-top.ensures.2 c.in-Var.ensures.tree) keys (memo A))
 
 pub returns-in-Param-clause-taken : goal.returns-in-Param-clause-taken
 returns-in-Param-clause-taken c =
     let A = bound_type c.args.from.now c.args.bindings.now.made in
     on_ok_as c.parameter.result c.parameter.ensures.memo (λ memo.
-        taken_parameter A c.args.to.now c.parameter.new.to c.args.self.now c.parameter.new.self c.args.id c.in_ok-top.top c.in-Param.number (reverse c.args.work.now.items) c.in_ok-top.ensures.1
-        (ap (instance (reads c.args.from.now c.args.bindings.now.made)) (sym c.in-Param.ensures.tree)) c.parameter.ensures.numbers (memo A))
+    taken_parameter A c.args.to.now c.parameter.new.to c.args.self.now c.parameter.new.self c.args.id c.in_ok-top.top c.in-Param.number (reverse c.args.work.now.items) c.in_ok-top.ensures.1
+    (ap (instance (reads c.args.from.now c.args.bindings.now.made)) (sym c.in-Param.ensures.tree)) c.parameter.ensures.numbers (memo A))
 
 pub returns-in_ok-push-in-Con-clause-taken : goal.returns-in_ok-push-in-Con-clause-taken
 returns-in_ok-push-in-Con-clause-taken c =
     let A = bound_type c.args.from.now c.args.bindings.now.made in
     on_ok_as c.push_visits.result c.push_visits.ensures (λ pushed.
-        taken_parts A c.args.to.now c.args.self.now c.args.id c.in_ok-top.top c.in-Con.ids.now (reverse c.args.work.now.items) (reverse c.push_visits.new.work.items) c.in_ok-top.ensures.1
-        (con_variables (reads c.args.from.now c.args.bindings.now.made) (type_tree c.args.from.now) c.in-Con.field-0 (map (λ t. t.0) c.in-Con.ids.now) (type_tree c.args.from.now c.in_ok-top.top.0) c.in-Con.ensures.tree)
-        (parts_pushed c.args.work.now.items c.push.new.self.items c.push_visits.new.work.items (task.Build c.in_ok-top.top) c.in-Con.ids.now c.in_ok-push-in-Con.ensures.items pushed))
+    taken_parts A c.args.to.now c.args.self.now c.args.id c.in_ok-top.top c.in-Con.ids.now (reverse c.args.work.now.items) (reverse c.push_visits.new.work.items) c.in_ok-top.ensures.1
+    (con_variables (reads c.args.from.now c.args.bindings.now.made) (type_tree c.args.from.now) c.in-Con.field-0 (map (λ t. t.0) c.in-Con.ids.now) (type_tree c.args.from.now c.in_ok-top.top.0) c.in-Con.ensures.tree)
+    (parts_pushed c.args.work.now.items c.push.new.self.items c.push_visits.new.work.items (task.Build c.in_ok-top.top) c.in-Con.ids.now c.in_ok-push-in-Con.ensures.items pushed))
 
 pub returns-in_ok-push-in-Arrow-3-clause-taken : goal.returns-in_ok-push-in-Arrow-3-clause-taken
 returns-in_ok-push-in-Arrow-3-clause-taken c =
