@@ -105,13 +105,18 @@ fn typed(
     let Some(next) = (source.len() as u64).checked_add(text.notes.places.len() as u64) else {
         return Err(Memory);
     };
-    let count = text.variables.places.len();
+    let Lookup {
+        steps,
+        variables,
+        types,
+        ..
+    } = text;
     let typing = equations_of(
         alloc,
         signature,
-        text.steps.as_slice(),
-        count,
-        text.types,
+        steps.as_slice(),
+        variables.places.len(),
+        types,
         next,
     )?;
     if !are_pairs(&typing.types, typing.pairs.as_slice()) {
@@ -122,8 +127,8 @@ fn typed(
         Some(bindings) => {
             let formula = read_off(
                 source,
-                text.steps.as_slice(),
-                text.variables.places.as_slice(),
+                steps.as_slice(),
+                variables.places.as_slice(),
                 &typing,
                 &bindings,
                 bank,
