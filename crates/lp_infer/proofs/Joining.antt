@@ -246,3 +246,10 @@ pub variables_all : (spots : List Spot) (types : List TypeId) (vs : List (Spot �
 variables_all spots types vs i low high first second =
     let e : i ≡ length spots = omega arith in
     (first ∙ take_whole spots i low, second ∙ ap (λ k. take k types) e)
+
+-- the same equations, as the calls give them
+pub is_made : (sig : Signature) (text : List ℕ) (l : Lookup) (t : Typing) (steps : List Step) (count next : ℕ) → IsGenerated sig text steps count l.types next t → steps ≡ l.steps.items → count ≡ length l.variables.places.items → next ≡ length text + length l.notes.places.items →
+    IsGenerated sig text l.steps.items (length l.variables.places.items) l.types (length text + length l.notes.places.items) t
+is_made sig text l t steps count next G e f g =
+    subst (λ s. IsGenerated sig text s (length l.variables.places.items) l.types (length text + length l.notes.places.items) t) e
+    (subst (λ n. IsGenerated sig text steps n l.types (length text + length l.notes.places.items) t) f (subst (λ k. IsGenerated sig text steps count l.types k t) g G))
