@@ -190,9 +190,9 @@ module _ (sig : Signature) (text : List ℕ) (raw : RawTerm) (l : Lookup) (L : I
       let As = types_under F.found names_ next_ θ in
       let e : wanted_types t made ≡ As = wanted_are made in
       let same : typing_of b typed ≡ in_numbers F.found names_ next_ θ =
-          (is_typing F.found names_ next_ θ b typed (H.types ∙ ap (λ Bs. take names_ (in_order Bs)) e) (H.formula F.found (type_tree l.types) sig.bank list ∙ ap (λ Bs. (fills F.found (drop names_ (in_order Bs))).0) e)) in
+      (is_typing F.found names_ next_ θ b typed (H.types ∙ ap (λ Bs. take names_ (in_order Bs)) e) (H.formula F.found (type_tree l.types) sig.bank list ∙ ap (λ Bs. (fills F.found (drop names_ (in_order Bs))).0) e)) in
       let principal : IsPrincipalTyping sig text raw l.variables.places.items (in_numbers F.found names_ next_ θ) =
-          (principal_text sig text raw l F.found L F.marked (in_numbers F.found names_ next_ θ) (is_principal F.found names_ next_ θ F.scoped (general t.types t.pairs.items (generated F.found names_ next_).equations same_equations θ M))) in
+      (principal_text sig text raw l F.found L F.marked (in_numbers F.found names_ next_ θ) (is_principal F.found names_ next_ θ F.scoped (general t.types t.pairs.items (generated F.found names_ next_).equations same_equations θ M))) in
       record {
         principal = subst (λ ps. IsPrincipalTyping sig text raw ps (typing_of b typed)) (sym H.places) (subst (IsPrincipalTyping sig text raw l.variables.places.items) (sym same) principal);
         numbered = subst (λ n. AreNumbered 0 (typing_variables (typing_of b typed)) n) (sym (H.count ∙ ap (λ Bs. length (variables_of Bs)) e))
@@ -237,9 +237,10 @@ got (y ∷ ys) (suc i) x e = ap (λ l. y ∷ l) (got ys i x e)
 
 pub variable_more : (spots : List Spot) (types : List TypeId) (vs ws : List (Spot × TypeId)) (i : ℕ) (d : Spot) (id : TypeId) → i < length spots → slice_get types i ≡ Some id → map (λ v. v.0) vs ≡ take i spots → map (λ v. v.1) vs ≡ take i types →
     ws ≡ vs ++ (get_or spots i d, id) ∷ [] → (map (λ v. v.0) ws ≡ take (i + 1) spots) × (map (λ v. v.1) ws ≡ take (i + 1) types)
-variable_more spots types vs ws i d id below got_id first second e =
-    (map_pushed (λ v. v.0) vs ws (get_or spots i d, id) e ∙ ap (λ l. l ++ get_or spots i d ∷ []) first ∙ sym (taken_more spots i d below),
-     map_pushed (λ v. v.1) vs ws (get_or spots i d, id) e ∙ ap (λ l. l ++ id ∷ []) second ∙ sym (ap (λ k. take k types) (add-one i) ∙ got types i id got_id))
+variable_more spots types vs ws i d id below got_id first second e = (
+  map_pushed (λ v. v.0) vs ws (get_or spots i d, id) e ∙ ap (λ l. l ++ get_or spots i d ∷ []) first ∙ sym (taken_more spots i d below),
+  map_pushed (λ v. v.1) vs ws (get_or spots i d, id) e ∙ ap (λ l. l ++ id ∷ []) second ∙ sym (ap (λ k. take k types) (add-one i) ∙ got types i id got_id),
+)
 
 pub variables_all : (spots : List Spot) (types : List TypeId) (vs : List (Spot × TypeId)) (i : ℕ) → length spots ≤ i → i ≤ length spots → map (λ v. v.0) vs ≡ take i spots → map (λ v. v.1) vs ≡ take i types →
     (map (λ v. v.0) vs ≡ spots) × (map (λ v. v.1) vs ≡ take (length spots) types)

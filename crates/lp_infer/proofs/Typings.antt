@@ -58,8 +58,8 @@ term_back N θ (raw_app f u) C n h =
     let us = map (instance θ) (term_arguments k.term) in
     let both : AllMet N (all_variables fs ++ all_variables us) = subst (AllMet N) (ap all_variables (map-append (instance θ) (term_arguments m.term) (term_arguments k.term)) ∙ variables_append fs us) h in
     two_same _ _ _ _ (term_back N θ f C n (all_front N (all_variables fs) (all_variables us) both)) (term_back N θ u C m.next (all_back N (all_variables fs) (all_variables us) both)) where
-  two_same : (t u v w : Term) → t ≡ v → u ≡ w → app t u ≡ app v w
-  two_same t u v w e f = cc
+      two_same : (t u v w : Term) → t ≡ v → u ≡ w → app t u ≡ app v w
+      two_same t u v w e f = cc
 
 module _ (R : Raw) (names k : ℕ) (θ : ℕ → Ty) where
   -- the types of the variables, the first one's first, and the type arguments
@@ -90,7 +90,7 @@ module _ (R : Raw) (names k : ℕ) (θ : ℕ → Ty) where
       let ϖ = unnaming N in
       let back : map (instance ϖ) (map (instance π) (reverse frees)) ≡ reverse frees = list_back N (reverse frees) (all_front N (all_variables (reverse frees)) (all_variables arguments) both_met) in
       let turned : reverse (map (instance ϖ) (map (instance π) frees)) ≡ reverse frees =
-          (sym (map-reverse (instance ϖ) (map (instance π) frees)) ∙ ap (map (instance ϖ)) (sym (map-reverse (instance π) frees)) ∙ back) in
+      (sym (map-reverse (instance ϖ) (map (instance π) frees)) ∙ ap (map (instance ϖ)) (sym (map-reverse (instance π) frees)) ∙ back) in
       sym (reverse-reverse (map (instance ϖ) (map (instance π) frees))) ∙ ap reverse turned ∙ reverse-reverse frees
 
   pub is_principal : IsScoped names k R → IsMostGeneral (generated R names k).equations θ → IsPrincipal R names in_numbers

@@ -15,6 +15,6 @@ returns-clause-types c =
     has_types c.args.source.now c.args.steps.now spots A c.read_all.new.to c.formula.new.bank c.args.typing.now.wanted.items types c.new-reading.result c.read_all.new.self _ c.in_ok-formula.ensures.kept c.new-reading.ensures.numbers R
     (c.in_ok-vars.ensures.are.0, c.in_ok-vars.ensures.are.1 ∙ ap (take (length spots)) c.as_slice-3.ensures.value)
     (λ S d τ e.
-        subst (λ n. IsTerm c.formula.new.bank c.in_ok-formula.formula (fills S (drop n (trees_of c.read_all.new.to types))).0) c.new-terms.ensures.used
-        (subst (λ l. IsTerm c.formula.new.bank c.in_ok-formula.formula (fills S (drop c.new-terms.result.used (trees_of c.read_all.new.to l))).0) c.as_slice-2.ensures.value (term S d τ e)))
+    subst (λ n. IsTerm c.formula.new.bank c.in_ok-formula.formula (fills S (drop n (trees_of c.read_all.new.to types))).0) c.new-terms.ensures.used
+    (subst (λ l. IsTerm c.formula.new.bank c.in_ok-formula.formula (fills S (drop c.new-terms.result.used (trees_of c.read_all.new.to l))).0) c.as_slice-2.ensures.value (term S d τ e)))
     c.count.ensures

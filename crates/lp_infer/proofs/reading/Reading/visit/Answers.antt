@@ -57,9 +57,9 @@ returns-in-Param-clause-fewer c = on_ok_as c.parameter.result c.parameter.ensure
 pub returns-in_ok-push-in-Con-clause-fewer : goal.returns-in_ok-push-in-Con-clause-fewer
 returns-in_ok-push-in-Con-clause-fewer c =
     on_ok_as c.push_visits.result c.push_visits.ensures (λ pushed.
-        parts_cost (bound_type c.args.from.now c.args.bindings.now.made) c.args.id c.in_ok-top.top c.in-Con.ids.now (reverse c.args.work.now.items) (reverse c.push_visits.new.work.items) c.in_ok-top.ensures.1
-        (con_size (reads c.args.from.now c.args.bindings.now.made) (type_tree c.args.from.now) c.in-Con.field-0 (map (λ t. t.0) c.in-Con.ids.now) (type_tree c.args.from.now c.in_ok-top.top.0) c.in-Con.ensures.tree)
-        (parts_pushed c.args.work.now.items c.push.new.self.items c.push_visits.new.work.items (task.Build c.in_ok-top.top) c.in-Con.ids.now c.in_ok-push-in-Con.ensures.items pushed))
+    parts_cost (bound_type c.args.from.now c.args.bindings.now.made) c.args.id c.in_ok-top.top c.in-Con.ids.now (reverse c.args.work.now.items) (reverse c.push_visits.new.work.items) c.in_ok-top.ensures.1
+    (con_size (reads c.args.from.now c.args.bindings.now.made) (type_tree c.args.from.now) c.in-Con.field-0 (map (λ t. t.0) c.in-Con.ids.now) (type_tree c.args.from.now c.in_ok-top.top.0) c.in-Con.ensures.tree)
+    (parts_pushed c.args.work.now.items c.push.new.self.items c.push_visits.new.work.items (task.Build c.in_ok-top.top) c.in-Con.ids.now c.in_ok-push-in-Con.ensures.items pushed))
 
 pub returns-in_ok-push-in-Arrow-3-clause-fewer : goal.returns-in_ok-push-in-Arrow-3-clause-fewer
 returns-in_ok-push-in-Arrow-3-clause-fewer c =
