@@ -40,7 +40,7 @@ abbrev pub Belows : ℕ → List Ty → Type 0
 Belows n [] = Unit {0}
 Belows n (t ∷ ts) = Below n t × Belows n ts
 
-at_below : (n : ℕ) (ts : List Ty) (i : ℕ) → Belows n ts → Below n (type_at ts i)
+pub at_below : (n : ℕ) (ts : List Ty) (i : ℕ) → Belows n ts → Below n (type_at ts i)
 at_below n [] i h = tt
 at_below n (t ∷ ts) zero h = h.0
 at_below n (t ∷ ts) (suc i) h = at_below n ts i h.1
@@ -62,7 +62,7 @@ map_map ρ θ [] = refl
 map_map ρ θ (t ∷ ts) = let e = instance-instance θ ρ t in let f = map_map ρ θ ts in cc
 
 mutual
-  instance_below : (m : ℕ) (θ : ℕ → Ty) → ((x : ℕ) → Below m (θ x)) → (t : Ty) → Below m (instance θ t)
+  pub instance_below : (m : ℕ) (θ : ℕ → Ty) → ((x : ℕ) → Below m (θ x)) → (t : Ty) → Below m (instance θ t)
   instance_below m θ f (var x) = f x
   instance_below m θ f (param k) = tt
   instance_below m θ f (con c ts) = instances_below m θ f ts
@@ -398,7 +398,7 @@ solution_typing r names k s ρ h =
 abbrev typing_of : List Ty → Term → Typing
 typing_of free formula = record { free = free; formula = formula }
 
-typing_same : (T U : Typing) → T.free ≡ U.free → T.formula ≡ U.formula → T ≡ U
+pub typing_same : (T U : Typing) → T.free ≡ U.free → T.formula ≡ U.formula → T ≡ U
 typing_same T U e f = ap (λ free. typing_of free T.formula) e ∙ ap (typing_of U.free) f
 
 pub typing_solution : (r : Raw) (names k : ℕ) → IsScoped names k r → (U : Typing) → IsTyping r names U →

@@ -6,3 +6,15 @@ pub mod Typing
 pub mod Generate
 pub mod Texts
 pub mod Numbering
+pub mod Firsts
+pub mod Levels
+pub mod Postfix
+pub mod Visits
+pub mod Running
+pub mod Noted
+pub mod Copies
+pub mod Making
+pub mod Meeting
+pub mod ReadingOff
+pub mod Filling
+pub mod Formulas

@@ -2,12 +2,11 @@
 use Rattle.std.specs.Prelude.{◌≡◌, ℕ, suc, ◌<◌, ◌⊎◌, List, [], ◌∷◌, ◌++◌, map, reverse}
 use Rattle.lp_base.specs.declared.place.Spot.{Spot}
 use Rattle.lp_calculus.specs.Types.{Ty, Tys, var, param, con, arrow, no_types, types}
-use Rattle.lp_calculus.specs.Term.{Term, Atom, index, atom, abs, app, constant, integer, text, eigen, logic, param as parameter}
 use Rattle.lp_term.specs.Nodes.{Nodes, type_tree, tree}
 use Rattle.lp_syntax.specs.declared.text.RawTerm.{RawTerm}
 use Rattle.lp_model.specs.declared.program.Typed.{Typed}
 use Rattle.lp_sig.specs.declared.signature.Signature.{Signature}
-use Rattle.lp_infer.specs.Typing.{Typing}
+use Rattle.lp_infer.specs.Typing.{Typing, term_arguments}
 use Rattle.lp_infer.specs.Texts.{IsPrincipalTyping}
 
 -- the type variables of a type, in order
@@ -26,24 +25,9 @@ abbrev pub all_variables : List Ty → List ℕ
 all_variables [] = []
 all_variables (t ∷ ts) = type_variables t ++ all_variables ts
 
-abbrev pub atom_variables : Atom → List ℕ
-atom_variables (constant c ts) = all_variables ts
-atom_variables (integer z) = []
-atom_variables (text s) = []
-atom_variables (eigen k) = []
-atom_variables (logic x l) = []
-atom_variables (parameter k t) = type_variables t
-
--- those of the type arguments of a term, a head before its arguments
-abbrev pub term_variables : Term → List ℕ
-term_variables (index i) = []
-term_variables (atom a) = atom_variables a
-term_variables (abs b) = term_variables b
-term_variables (app t u) = term_variables t ++ term_variables u
-
--- those of the variables' types, the first variable's first, and of the formula
+-- those of the variables' types, the first variable's first, and of the type arguments of the formula, a head before its arguments
 abbrev pub typing_variables : Typing → List ℕ
-typing_variables T = all_variables (reverse T.free) ++ term_variables T.formula
+typing_variables T = all_variables (reverse T.free ++ term_arguments T.formula)
 
 -- with n numbers met before and m behind, each is one that was met or the next one
 abbrev pub AreNumbered : ℕ → List ℕ → ℕ → Type 0

@@ -5,6 +5,7 @@ use Rattle.lp_syntax.specs.declared.text.RawTerm.{RawTerm}
 use Rattle.lp_model.specs.declared.program.Typed.{Typed}
 use Rattle.lp_sig.specs.declared.signature.Signature.{Signature}
 use Rattle.lp_infer.specs.Scope.{IsFirstUndeclared}
+use Rattle.lp_infer.specs.Texts.{HasNoTextTyping}
 use Rattle.lp_infer.specs.declared.fault.InferFault.{InferFault}
 use Rattle.lp_infer.specs.declared.fault.InferFault.TheVariants as fault
 
@@ -14,7 +15,7 @@ IsDeclared sig text raw = IsFirstUndeclared sig text raw.nodes.items raw.root No
 
 abbrev pub IsRefusal : Signature → List ℕ → RawTerm → InferFault → Type 0
 IsRefusal sig text raw (fault.Undeclared s) = IsFirstUndeclared sig text raw.nodes.items raw.root (Some s)
-IsRefusal sig text raw (fault.NoTyping s) = (s ≡ raw.first) × IsDeclared sig text raw
+IsRefusal sig text raw (fault.NoTyping s) = (s ≡ raw.first) × IsDeclared sig text raw × HasNoTextTyping sig text raw
 IsRefusal sig text raw fault.Memory = Unit {0}
 
 -- the formula and the types of the variables stand in the bank

@@ -1,5 +1,5 @@
 -- A text with its names looked up, the typed formulas that leave it, and their types.
-use Rattle.std.specs.Prelude.{◌≡◌, ℕ, List, ◌∷◌, map, length, Option, Some, None, slice_get, ℤ}
+use Rattle.std.specs.Prelude.{◌≡◌, ℕ, List, [], ◌∷◌, ◌++◌, map, length, Option, Some, None, slice_get, ℤ}
 use Rattle.lp_calculus.specs.Types.{Ty, arrow, instance}
 use Rattle.lp_calculus.specs.Term.{Term, Atom, index, atom, abs, app, constant, integer, text, eigen, logic, param}
 use Rattle.lp_calculus.specs.Typing.{Scheme, o_type, int_type, string_type, type_at}
@@ -95,3 +95,14 @@ pub record IsPrincipal (R : Raw) (names : ℕ) (T : Typing) : Type 0 where
 
 abbrev pub HasNoTyping : Raw → ℕ → Type 0
 HasNoTyping R names = (U : Typing) → IsTyping R names U → ⊥
+
+-- the type arguments of the constants of a term, in order
+abbrev pub atom_arguments : Atom → List Ty
+atom_arguments (constant c ts) = ts
+atom_arguments _ = []
+
+abbrev pub term_arguments : Term → List Ty
+term_arguments (index i) = []
+term_arguments (atom a) = atom_arguments a
+term_arguments (abs b) = term_arguments b
+term_arguments (app t u) = term_arguments t ++ term_arguments u

@@ -1,254 +1,259 @@
-// The equations of a text: what each part has as its type, and what its place wants.
+// The equations of a text.
+ghost use Rattle.std.specs.Prelude.{◌≡◌, ℕ, suc, ◌+◌, ◌-◌, ◌<◌, List, [], ◌∷◌, ◌++◌, map, reverse, length, IfOk, OnOk, IfSome, All};
+ghost use Rattle.lp_calculus.specs.Types.{Ty, con, tys, var};
+ghost use Rattle.lp_calculus.specs.Typing.{Scheme};
+ghost use Rattle.lp_term.specs.Nodes.{type_tree};
+ghost use Rattle.lp_model.specs.Schemes.{standard_schemes, entry};
+ghost use Rattle.lp_infer.specs.Postfix.{is_index, is_constant, opens, closes, applies, scheme_or, mark, given_type, IsGivenKnown, IsStep};
+ghost use Rattle.lp_infer.specs.Running.{act, run, pushed};
+ghost use Rattle.lp_infer.specs.Copies.{AreTypes, IsType};
+ghost use Rattle.lp_infer.specs.Making.{IsSound, Acts, Makes, MakesFresh, IsConstant, IsEquated, HasVariables, IsEnded, IsGenerated};
 
 use crate::instance::{instance, put_arrow, put_con, standard_instance, standard_variables};
-use crate::names::{Leaf, Names};
-use indexmap::IndexMap;
-use lp_base::{Memory, Spot};
+use crate::lookup::Step;
+use lp_base::Memory;
 use lp_equations::Pair;
-use lp_sig::{Signature, spelled_at};
-use lp_syntax::{RawNode, RawTerm, RawType};
+use lp_sig::Signature;
 use lp_term::{Bank, TypeId, TypeNode};
 use std::alloc::Global;
 
-#[derive(Clone, Copy)]
-enum Task {
-    Visit(usize, TypeId),
-    Leave,
+// The index of a variable below so many abstractions: the first of so many is the outermost.
+pub(crate) fn index_of(count: u64, depth: u64, number: u64) -> Option<u64>
+    ensures { IfSome result (λ i. i ≡ depth + (count - suc number)) }
+{
+    depth.checked_add(count.saturating_sub(number).saturating_sub(1))
 }
 
-// The types of a text in a bank of their own: those of its variables and of the bound names, the equations, and the type
-// arguments of each constant, by its node, in the order in which the text is walked.
+// The types of a text: those of its indices, the newest last; those of the parts so far; those that are to be read off, the
+// variables' in order and then the type arguments of the constants in order; and the equations.
 #[derive(Drop)]
 pub(crate) struct Typing {
     pub alloc: Global,
     pub types: Bank,
-    pub vars: Vec<TypeId>,
+    pub wanted: Vec<TypeId>,
     pub pairs: Vec<Pair>,
-    pub arguments: IndexMap<usize, Vec<TypeId>>,
-    pub note_names: IndexMap<Vec<u8>, u64>,
-    // Whether an annotation has a kind or an abbreviation on another number of arguments.
-    pub wrong: bool,
     context: Vec<TypeId>,
+    stack: Vec<TypeId>,
     next: u64,
 }
 
 impl Typing {
-    pub(crate) fn new(alloc: Global) -> Typing {
-        Typing {
-            alloc,
-            types: Bank::new(alloc),
-            vars: Vec::new(alloc),
-            pairs: Vec::new(alloc),
-            arguments: IndexMap::new(alloc),
-            note_names: IndexMap::new(alloc),
-            wrong: false,
-            context: Vec::new(alloc),
-            next: 0,
-        }
-    }
-
-    // The number of a new type variable.
-    pub(crate) fn new_number(&mut self) -> u64 {
+    fn new_variable(&mut self) -> Result<TypeId, Memory>
+        ensures { IfOk result (Makes self.old self.new (suc self.old.next) (var self.old.next)) }
+    {
         let number = self.next;
-        self.next = self.next.saturating_add(1);
-        number
+        let Some(next) = number.checked_add(1) else {
+            return Err(Memory);
+        };
+        let id = self.types.put_type(TypeNode::Var(number))?;
+        self.next = next;
+        Ok(id)
     }
 
-    pub(crate) fn new_variable(&mut self) -> Result<TypeId, Memory> {
-        let number = self.new_number();
-        self.types.put_type(TypeNode::Var(number))
+    // So many new type variables.
+    fn new_variables(&mut self, count: usize) -> Result<Vec<TypeId>, Memory>
+        ensures { IfOk result (λ ids. MakesFresh self.old self.new count ids.items) }
+    {
+        let mut ids = Vec::new(self.alloc);
+        for _ in 0..count {
+            let id = self.new_variable()?;
+            ids.push(id)?;
+        }
+        Ok(ids)
     }
 
-    fn equate(&mut self, left: TypeId, right: TypeId) -> Result<(), Memory> {
+    fn push(&mut self, id: TypeId) -> Result<(), Memory>
+        ensures { OnOk result ((T : Ty) → (IsSound self.old → IsType self.old.types id T) → Acts self.old self.new (pushed T)) }
+    {
+        self.stack.push(id)?;
+        Ok(())
+    }
+
+    // A kind without arguments.
+    fn push_kind(&mut self, kind: u32) -> Result<(), Memory>
+        ensures { OnOk result (Acts self.old self.new (pushed (con kind (tys [])))) }
+    {
+        let id = put_con(&mut self.types, kind, &[])?;
+        self.push(id)
+    }
+
+    // The type of an index.
+    fn index(&mut self, index: u64) -> Result<(), Memory>
+        ensures { OnOk result (Acts self.old self.new (act (is_index index))) }
+    {
+        let count = self.context.len() as u64;
+        if index >= count {
+            return self.push_kind(0);
+        }
+        let id = self.context[(count - 1 - index) as usize];
+        self.push(id)
+    }
+
+    // The type of a variable, of which there are so many, below so many abstractions.
+    fn variable(&mut self, count: u64, depth: u64, number: u64) -> Result<(), Memory>
+        ensures { OnOk result (Acts self.old self.new (act (is_index (depth + (count - suc number))))) }
+    {
+        let Some(index) = index_of(count, depth, number) else {
+            return Err(Memory);
+        };
+        self.index(index)
+    }
+
+    // A constant, whose type is known.
+    fn constant(&mut self, arguments: &[TypeId], id: TypeId) -> Result<(), Memory>
+        ensures { OnOk result ((before : Typing) → (number : ℕ) → (scheme : Scheme) → IsConstant before self.old arguments.now id scheme → Acts before self.new (act (is_constant number scheme))) }
+    {
+        self.wanted.extend_from_slice(arguments)?;
+        self.stack.push(id)?;
+        Ok(())
+    }
+
+    // A standard constant at new type variables.
+    fn standard(&mut self, number: u32) -> Result<(), Memory>
+        ensures { number < 24 → OnOk result (Acts self.old self.new (act (is_constant number (scheme_or (entry standard_schemes number))))) }
+    {
+        let arguments = self.new_variables(standard_variables(number) as usize)?;
+        let id = standard_instance(&mut self.types, number, arguments.as_slice())?;
+        self.constant(arguments.as_slice(), id)
+    }
+
+    // A declared constant at new type variables.
+    fn declared(&mut self, signature: &Signature, count: u8, scheme: TypeId) -> Result<(), Memory>
+        ensures { OnOk result ((number : ℕ) → Acts self.old self.new (act (is_constant number (record { count = count; body = type_tree signature.now.bank scheme.0 })))) }
+    {
+        let arguments = self.new_variables(count as usize)?;
+        let id = instance(
+            self.alloc,
+            signature.bank(),
+            scheme,
+            arguments.as_slice(),
+            &mut self.types,
+        )?;
+        self.constant(arguments.as_slice(), id)
+    }
+
+    fn equate(&mut self, left: TypeId, right: TypeId) -> Result<(), Memory>
+        ensures { OnOk result (IsEquated left right self.old self.new) }
+    {
         self.pairs.push(Pair { left, right })?;
         Ok(())
     }
 
-    // A new type variable for each variable of the text.
-    fn add_vars(&mut self, names: &Names) -> Result<(), Memory> {
-        for _ in 0..names.places.len() {
-            let id = self.new_variable()?;
-            self.vars.push(id)?;
-        }
-        Ok(())
-    }
-
-    // The type of a name that is bound so many abstractions out.
-    fn bound(&self, out: u64) -> Result<TypeId, Memory> {
-        let count = self.context.len() as u64;
-        if out >= count {
-            return Err(Memory);
-        }
-        Ok(self.context[(count - 1 - out) as usize])
-    }
-
-    // New type variables, as many as a constant has.
-    fn new_arguments(&mut self, count: u8) -> Result<Vec<TypeId>, Memory> {
-        let mut arguments = Vec::new(self.alloc);
-        for _ in 0..count {
-            let id = self.new_variable()?;
-            arguments.push(id)?;
-        }
-        Ok(arguments)
-    }
-
-    // A standard constant at new type variables.
-    fn standard(&mut self, node: usize, number: u32, wants: TypeId) -> Result<(), Memory> {
-        let arguments = self.new_arguments(standard_variables(number))?;
-        let at = match arguments.as_slice().first() {
-            Some(id) => *id,
-            None => wants,
-        };
-        let has = standard_instance(&mut self.types, number, at)?;
-        self.arguments.insert(node, arguments)?;
-        self.equate(has, wants)
-    }
-
-    // A declared constant at new type variables.
-    fn declared(
-        &mut self,
-        signature: &Signature,
-        node: usize,
-        name: &[u8],
-        wants: TypeId,
-    ) -> Result<(), Memory> {
-        let Some(entry) = signature.declared(name) else {
-            return Err(Memory);
-        };
-        let arguments = self.new_arguments(entry.type_vars)?;
-        let has = instance(
-            self.alloc,
-            signature.bank(),
-            entry.scheme,
-            arguments.as_slice(),
-            &mut self.types,
-        )?;
-        self.arguments.insert(node, arguments)?;
-        self.equate(has, wants)
-    }
-
-    fn name(
-        &mut self,
-        signature: &Signature,
-        source: &[u8],
-        names: &Names,
-        node: usize,
-        spot: Spot,
-        wants: TypeId,
-    ) -> Result<(), Memory> {
-        match names.leaves.get(node) {
-            Some(Leaf::Bound(out)) => {
-                let has = self.bound(*out)?;
-                self.equate(has, wants)
-            }
-            Some(Leaf::Variable(_, number)) => {
-                let Some(has) = self.vars.get(*number as usize).copied() else {
-                    return Err(Memory);
-                };
-                self.equate(has, wants)
-            }
-            Some(Leaf::Constant(number)) => {
-                if *number < 32 {
-                    return self.standard(node, *number, wants);
-                }
-                self.declared(signature, node, spelled_at(source, spot), wants)
-            }
-            _ => Err(Memory),
-        }
-    }
-
-    // A literal.
-    fn literal(&mut self, kind: u32, wants: TypeId) -> Result<(), Memory> {
-        let has = put_con(&mut self.types, kind, &[])?;
-        self.equate(has, wants)
-    }
-
-    // An abstraction, whose bound name has its annotated type.
-    fn abstraction(
-        &mut self,
-        signature: &Signature,
-        source: &[u8],
-        note: &Option<RawType>,
-        body: usize,
-        wants: TypeId,
-        work: &mut Vec<Task>,
-    ) -> Result<(), Memory> {
+    // The beginning of an abstraction, whose bound name may have a type.
+    fn open(&mut self, given: Option<TypeId>) -> Result<(), Memory>
+        ensures { IsGivenKnown (length self.old.types.types) given → OnOk result (Acts self.old self.new (act (opens (given_type (type_tree self.old.types) given)))) }
+    {
         let from = self.new_variable()?;
-        let to = self.new_variable()?;
-        let has = put_arrow(&mut self.types, from, to)?;
-        self.equate(has, wants)?;
-        if let Some(raw) = note {
-            match self.annotation(signature, source, raw)? {
-                Some(given) => self.equate(from, given)?,
-                None => self.wrong = true,
-            }
-        }
         self.context.push(from)?;
-        work.push(Task::Leave)?;
-        work.push(Task::Visit(body, to))?;
-        Ok(())
-    }
-
-    fn application(
-        &mut self,
-        head: usize,
-        argument: usize,
-        wants: TypeId,
-        work: &mut Vec<Task>,
-    ) -> Result<(), Memory> {
-        let from = self.new_variable()?;
-        let arrow = put_arrow(&mut self.types, from, wants)?;
-        work.push(Task::Visit(argument, from))?;
-        work.push(Task::Visit(head, arrow))?;
-        Ok(())
-    }
-
-    fn visit(
-        &mut self,
-        signature: &Signature,
-        source: &[u8],
-        raw: &RawTerm,
-        names: &Names,
-        node: usize,
-        wants: TypeId,
-        work: &mut Vec<Task>,
-    ) -> Result<(), Memory> {
-        match raw.nodes.get(node) {
-            Some(RawNode::Name(spot)) => self.name(signature, source, names, node, *spot, wants),
-            Some(RawNode::Known(number, _)) => self.standard(node, *number, wants),
-            Some(RawNode::Number(_, _)) => self.literal(1, wants),
-            Some(RawNode::Text(_)) => self.literal(2, wants),
-            Some(RawNode::App(head, argument)) => self.application(*head, *argument, wants, work),
-            Some(RawNode::Abs(_, note, body)) => {
-                self.abstraction(signature, source, note, *body, wants, work)
-            }
-            None => Err(Memory),
+        match given {
+            Some(id) => self.equate(from, id),
+            None => Ok(()),
         }
     }
 
-    // The equations of a text that is to have the type of goals.
-    pub(crate) fn generate(
-        &mut self,
-        signature: &Signature,
-        source: &[u8],
-        raw: &RawTerm,
-        names: &Names,
-    ) -> Result<(), Memory> {
-        self.add_vars(names)?;
+    // The end of an abstraction.
+    fn close(&mut self) -> Result<(), Memory>
+        ensures { OnOk result (Acts self.old self.new (act closes)) }
+    {
+        let Some(to) = self.stack.pop() else {
+            return Err(Memory);
+        };
+        let Some(from) = self.context.pop() else {
+            return Err(Memory);
+        };
+        let id = put_arrow(&mut self.types, from, to)?;
+        self.stack.push(id)?;
+        Ok(())
+    }
+
+    fn apply(&mut self) -> Result<(), Memory>
+        ensures { OnOk result (Acts self.old self.new (act applies)) }
+    {
+        let Some(argument) = self.stack.pop() else {
+            return Err(Memory);
+        };
+        let Some(head) = self.stack.pop() else {
+            return Err(Memory);
+        };
+        let id = self.new_variable()?;
+        let arrow = put_arrow(&mut self.types, argument, id)?;
+        self.equate(head, arrow)?;
+        self.stack.push(id)?;
+        Ok(())
+    }
+
+    // The next part of a text with so many variables.
+    fn step(&mut self, signature: &Signature, count: u64, step: Step) -> Result<(), Memory>
+        ensures { IsStep (length self.old.types.types) step → OnOk result ((text : List ℕ) → Acts self.old self.new (act (mark text signature.now.bank count (type_tree self.old.types) step))) }
+    {
+        match step {
+            Step::Bound(out) => self.index(out),
+            Step::Variable(depth, number) => self.variable(count, depth, number),
+            Step::Standard(number) => self.standard(number),
+            Step::Declared(_, vars, scheme) => self.declared(signature, vars, scheme),
+            Step::Integer(_) => self.push_kind(1),
+            Step::Text(_) => self.push_kind(2),
+            Step::Open(given) => self.open(given),
+            Step::Close => self.close(),
+            Step::Apply => self.apply(),
+        }
+    }
+
+    // New type variables for the variables of a text.
+    fn variables(&mut self, count: usize) -> Result<(), Memory>
+        ensures { OnOk result (HasVariables count self.old self.new) }
+    {
+        let mut vars = self.new_variables(count)?;
+        vars.reverse();
+        self.context.extend_from_slice(vars.as_slice())?;
+        self.wanted.extend_from_slice(vars.as_slice())?;
+        Ok(())
+    }
+
+    // The parts of a text.
+    fn steps(&mut self, signature: &Signature, steps: &[Step], count: u64) -> Result<(), Memory>
+        ensures { All (IsStep (length self.old.types.types)) steps.now → OnOk result ((text : List ℕ) → Acts self.old self.new (run (map (mark text signature.now.bank count (type_tree self.old.types)) steps.now))) }
+    {
+        for step in steps {
+            self.step(signature, count, *step)?;
+        }
+        Ok(())
+    }
+
+    // The text is to have the type of goals.
+    fn end(&mut self) -> Result<(), Memory>
+        ensures { OnOk result (IsEnded self.old self.new) }
+    {
+        let Some(has) = self.stack.pop() else {
+            return Err(Memory);
+        };
         let goal = put_con(&mut self.types, 0, &[])?;
-        let mut work = Vec::new(self.alloc);
-        work.push(Task::Visit(raw.root, goal))?;
-        for _ in 0..u64::MAX {
-            match work.pop() {
-                None => return Ok(()),
-                Some(Task::Leave) => {
-                    self.context.pop();
-                }
-                Some(Task::Visit(node, wants)) => {
-                    self.visit(signature, source, raw, names, node, wants, &mut work)?
-                }
-            }
-        }
-        Err(Memory)
+        self.equate(has, goal)
     }
+}
+
+// The equations of a text with so many variables, which is to have the type of goals, with new type variables from this number on.
+pub(crate) fn equations_of(
+    alloc: Global,
+    signature: &Signature,
+    steps: &[Step],
+    count: usize,
+    types: Bank,
+    next: u64,
+) -> Result<Typing, Memory>
+    ensures { All (IsStep (length types.types)) steps.now → IfOk result (λ t. (text : List ℕ) → IsGenerated signature.now text steps.now count types next t) }
+{
+    let mut typing = Typing {
+        alloc,
+        types,
+        wanted: Vec::new(alloc),
+        pairs: Vec::new(alloc),
+        context: Vec::new(alloc),
+        stack: Vec::new(alloc),
+        next,
+    };
+    typing.variables(count)?;
+    typing.steps(signature, steps, count as u64)?;
+    typing.end()?;
+    Ok(typing)
 }

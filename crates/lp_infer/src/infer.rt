@@ -1,15 +1,20 @@
 // The typing of a text.
-ghost use Rattle.std.specs.Prelude.{◌≡◌, ◌<◌, length, true, All, IfOk, IfErr};
+ghost use Rattle.std.specs.Prelude.{◌≡◌, ◌<◌, length, map, take, true, All, IfOk, IfErr, IfSome, MatchOption};
+ghost use Rattle.lp_syntax.specs.declared.text.RawTerm.{RawTerm};
 ghost use Rattle.lp_infer.specs.Refusals.{IsDeclared, IsRefusal, Stands};
+ghost use Rattle.lp_infer.specs.Texts.{HasNoTextTyping};
+ghost use Rattle.lp_infer.specs.Numbering.{IsTyped};
+ghost use Rattle.lp_infer.specs.Visits.{IsLookedUp};
+ghost use Rattle.lp_infer.specs.Formulas.{HasTypes, wanted_types};
 ghost use Rattle.lp_term.specs.Nodes.{Extends};
 ghost use Rattle.lp_equations.specs.Reading.{AreKept, IsPair};
 
 use crate::fault::InferFault;
-use crate::generate::Typing;
-use crate::names::{Names, names_of};
+use crate::generate::{Typing, equations_of};
+use crate::lookup::{Lookup, Step, looked_up};
+use crate::names::first_undeclared;
 use crate::reading::Reading;
 use crate::terms::Terms;
-use indexmap::IndexMap;
 use lp_base::{Memory, Spot};
 use lp_equations::{Bindings, Pair, unify};
 use lp_model::program::Typed;
@@ -37,7 +42,8 @@ fn variables(
     places: &[Spot],
     types: &[TypeId],
 ) -> Result<Vec<(Spot, TypeId)>, Memory>
-    ensures { IfOk result (λ variables. All (λ v. v.1.0 < length bank.now.types) variables.items) }
+    ensures known { IfOk result (λ variables. All (λ v. v.1.0 < length bank.now.types) variables.items) }
+    ensures are { IfOk result (λ variables. (map (λ v. v.0) variables.items ≡ places.now) × (map (λ v. v.1) variables.items ≡ take (length places.now) types.now)) }
 {
     let mut variables = Vec::new(alloc);
     for (at, place) in places.iter().enumerate() {
@@ -52,31 +58,12 @@ fn variables(
     Ok(variables)
 }
 
-// The type arguments of the constants, read off.
-#[tactic(auto, using(crate::proofs::Keeps::kept_then))]
-fn arguments_of(
-    typing: &Typing,
-    bindings: &Bindings,
-    reading: &mut Reading,
-    bank: &mut Bank,
-) -> Result<IndexMap<usize, Vec<TypeId>>, Memory>
-    requires { AreKept typing.now.types bindings.now.made }
-    ensures { Extends bank.old bank.new }
-{
-    let mut read = IndexMap::new(typing.alloc);
-    for (node, ids) in typing.arguments.iter() {
-        let types = reading.read_all(&typing.types, bindings, ids.as_slice(), bank)?;
-        read.insert(*node, types)?;
-    }
-    Ok(read)
-}
-
 // The typed formula, under what its type variables are bound to.
 #[tactic(auto, using(crate::proofs::Keeps::kept_then))]
 fn read_off(
     source: &[u8],
-    raw: &RawTerm,
-    names: &Names,
+    steps: &[Step],
+    places: &[Spot],
     typing: &Typing,
     bindings: &Bindings,
     bank: &mut Bank,
@@ -84,26 +71,89 @@ fn read_off(
     requires { AreKept typing.now.types bindings.now.made }
     ensures kept { Extends bank.old bank.new }
     ensures stands { IfOk result (Stands bank.new) }
+    ensures types { IfOk result (HasTypes source.now steps.now places.now (wanted_types typing.now bindings.now.made) bank.new) }
 {
-    let mut reading = Reading::new(typing.alloc);
-    let types = reading.read_all(&typing.types, bindings, typing.vars.as_slice(), bank)?;
-    let arguments = arguments_of(typing, bindings, &mut reading, bank)?;
-    let mut terms = Terms::new(typing.alloc, raw)?;
-    let formula = terms.formula(source, raw, names, &arguments, bank)?;
+    let alloc = typing.alloc;
+    let mut reading = Reading::new(alloc);
+    let types = reading.read_all(&typing.types, bindings, typing.wanted.as_slice(), bank)?;
+    let mut terms = Terms::new(alloc, places.len());
+    let formula = terms.formula(source, places.len() as u64, types.as_slice(), steps, bank)?;
     if formula.0 >= bank.term_count() {
         return Err(Memory);
     }
-    let vars = variables(
-        typing.alloc,
-        bank,
-        names.places.as_slice(),
-        types.as_slice(),
-    )?;
+    let vars = variables(alloc, bank, places, types.as_slice())?;
     Ok(Typed {
         type_vars: reading.count(),
         vars,
         formula,
     })
+}
+
+// The typing of a text with its names looked up, if it has one.
+#[tactic(auto, using(crate::proofs::Keeps::kept_then))]
+fn typed(
+    alloc: Global,
+    signature: &Signature,
+    source: &[u8],
+    text: Lookup,
+    bank: &mut Bank,
+) -> Result<Option<Typed>, Memory>
+    ensures kept { Extends bank.old bank.new }
+    ensures stands { IfOk result (λ found. IfSome found (Stands bank.new)) }
+    ensures typed { IfOk result (λ found. (raw : RawTerm) → IsLookedUp signature.now source.now raw.nodes.items raw.root text → MatchOption found (HasNoTextTyping signature.now source.now raw) (IsTyped signature.now source.now raw bank.new)) }
+{
+    let Some(next) = (source.len() as u64).checked_add(text.notes.places.len() as u64) else {
+        return Err(Memory);
+    };
+    let Lookup {
+        steps,
+        variables,
+        types,
+        ..
+    } = text;
+    let typing = equations_of(
+        alloc,
+        signature,
+        steps.as_slice(),
+        variables.places.len(),
+        types,
+        next,
+    )?;
+    if !are_pairs(&typing.types, typing.pairs.as_slice()) {
+        return Err(Memory);
+    }
+    match unify(alloc, &typing.types, typing.pairs.as_slice())? {
+        None => Ok(None),
+        Some(bindings) => {
+            let formula = read_off(
+                source,
+                steps.as_slice(),
+                variables.places.as_slice(),
+                &typing,
+                &bindings,
+                bank,
+            )?;
+            Ok(Some(formula))
+        }
+    }
+}
+
+// The typing of a text, if it has one.
+fn typing_of_text(
+    alloc: Global,
+    signature: &Signature,
+    source: &[u8],
+    raw: &RawTerm,
+    bank: &mut Bank,
+) -> Result<Option<Typed>, Memory>
+    ensures kept { Extends bank.old bank.new }
+    ensures stands { IfOk result (λ found. IfSome found (Stands bank.new)) }
+    ensures typed { IfOk result (λ found. MatchOption found (HasNoTextTyping signature.now source.now raw.now) (IsTyped signature.now source.now raw.now bank.new)) }
+{
+    let Some(text) = looked_up(alloc, signature, source, raw)? else {
+        return Ok(None);
+    };
+    typed(alloc, signature, source, text, bank)
 }
 
 /// The principal typing of a sentence: of its variables the first in the text is the outermost index of the formula, and the
@@ -121,26 +171,15 @@ pub fn type_formula(
     ensures kept { Extends bank.old bank.new }
     ensures stands { IfOk result (Stands bank.new) }
     ensures declared { IfOk result (λ _. IsDeclared signature.now source.now raw.now) }
+    ensures typed { IfOk result (IsTyped signature.now source.now raw.now bank.new) }
     ensures refused { IfErr result (IsRefusal signature.now source.now raw.now) }
 {
-    let names = names_of(alloc, signature, source, raw)?;
-    if let Some(spot) = names.fault {
+    if let Some(spot) = first_undeclared(alloc, signature, source, raw)? {
         return Err(InferFault::Undeclared(spot));
     }
-    let mut typing = Typing::new(alloc);
-    typing.generate(signature, source, raw, &names)?;
-    if typing.wrong {
-        return Err(InferFault::NoTyping(raw.first));
-    }
-    if !are_pairs(&typing.types, typing.pairs.as_slice()) {
-        return Err(InferFault::Memory);
-    }
-    match unify(alloc, &typing.types, typing.pairs.as_slice())? {
+    match typing_of_text(alloc, signature, source, raw, bank)? {
         None => Err(InferFault::NoTyping(raw.first)),
-        Some(bindings) => {
-            let formula = read_off(source, raw, &names, &typing, &bindings, bank)?;
-            Ok(formula)
-        }
+        Some(formula) => Ok(formula),
     }
 }
 
@@ -158,6 +197,7 @@ pub fn type_query(
     ensures kept { Extends bank.old bank.new }
     ensures stands { IfOk result (Stands bank.new) }
     ensures declared { IfOk result (λ _. IsDeclared signature.now source.now raw.now.term) }
+    ensures typed { IfOk result (IsTyped signature.now source.now raw.now.term bank.new) }
     ensures refused { IfErr result (IsRefusal signature.now source.now raw.now.term) }
 {
     type_formula(alloc, signature, source, &raw.term, bank)

@@ -5,6 +5,8 @@
 mod annotation;
 // Why a text has no typing.
 mod fault;
+// Names in the order of their first places.
+mod firsts;
 // The equations of a text.
 mod generate;
 // The typing of a text.
@@ -12,10 +14,14 @@ mod infer;
 // Instances of declared types.
 mod instance;
 mod laws;
-// What each name of a text is.
+// A text with its names looked up.
+mod lookup;
+// The first name of a text that is not declared.
 mod names;
 // What the type variables are bound to, read off with sharing.
 mod reading;
+// The names that abstractions bind.
+mod scope;
 // The formula of a text.
 mod terms;
 

@@ -1,4 +1,4 @@
-// What each name of a text is.
+// The first name of a text that is not declared.
 ghost use Rattle.std.specs.Prelude.{◌≡◌, ◌∷◌, ℕ, List, None, Some, IfOk, OnOk, Contains, false, reverse};
 ghost use Rattle.lp_sig.specs.Pieces.{spelled, begins_variable};
 ghost use Rattle.lp_sig.specs.Refusals.{words_of};
@@ -13,15 +13,6 @@ use lp_sig::{Signature, is_variable, spelled_at};
 use lp_syntax::{RawNode, RawTerm, RawType, RawTypeNode};
 use std::alloc::Global;
 
-// What a name is: bound so many abstractions out, a variable of the text below so many abstractions, or a constant.
-#[derive(Clone, Copy)]
-pub(crate) enum Leaf {
-    Bound(u64),
-    Variable(u64, u64),
-    Constant(u32),
-    Other,
-}
-
 #[derive(Clone, Copy)]
 enum Task {
     // A node.
@@ -30,14 +21,11 @@ enum Task {
     Leave(Spot, Option<u64>),
 }
 
-// The names of a text: what each node is, the places of its variables, and its first undeclared name.
+// The names of a text: those that are bound, and the first undeclared one.
 #[derive(Drop)]
 pub(crate) struct Names {
     alloc: Global,
-    pub leaves: Vec<Leaf>,
-    pub places: Vec<Spot>,
     pub fault: Option<Spot>,
-    variables: IndexMap<Vec<u8>, u64>,
     // The level of the innermost abstraction that binds each name.
     bound: IndexMap<Vec<u8>, Option<u64>>,
     depth: u64,
@@ -59,27 +47,15 @@ fn earlier(first: Option<Spot>, other: Spot) -> Option<Spot>
 }
 
 impl Names {
-    fn new(alloc: Global, leaves: Vec<Leaf>) -> Names
+    fn new(alloc: Global) -> Names
         ensures fault { result.fault ≡ None }
         ensures level { (name : List ℕ) → level_in result name ≡ None }
     {
         Names {
             alloc,
-            leaves,
-            places: Vec::new(alloc),
             fault: None,
-            variables: IndexMap::new(alloc),
             bound: IndexMap::new(alloc),
             depth: 0,
-        }
-    }
-
-    fn set(&mut self, node: usize, leaf: Leaf)
-        ensures fault { self.new.fault ≡ self.old.fault }
-        ensures bound { self.new.bound ≡ self.old.bound }
-    {
-        if let Some(slot) = self.leaves.get_mut(node) {
-            *slot = leaf;
         }
     }
 
@@ -102,59 +78,30 @@ impl Names {
         Ok(())
     }
 
-    fn add_variable(&mut self, spot: Spot) -> Result<u64, Memory>
-        ensures fault { self.new.fault ≡ self.old.fault }
-        ensures bound { self.new.bound ≡ self.old.bound }
-    {
-        let number = self.places.len() as u64;
-        self.places.push(spot)?;
-        Ok(number)
-    }
-
-    // The number of a variable, a new one at its first place.
-    fn variable(&mut self, name: &[u8], spot: Spot) -> Result<u64, Memory>
-        ensures fault { self.new.fault ≡ self.old.fault }
-        ensures bound { self.new.bound ≡ self.old.bound }
-    {
-        if let Some(number) = self.variables.get(name) {
-            return Ok(*number);
-        }
-        let number = self.add_variable(spot)?;
-        let key = Vec::from_slice(self.alloc, name)?;
-        self.variables.insert(key, number)?;
-        Ok(number)
-    }
-
-    // What a name is that no abstraction binds and that is no variable.
-    fn constant(&mut self, signature: &Signature, source: &[u8], spot: Spot) -> Leaf
+    // A name that no abstraction binds and that is no variable.
+    fn constant(&mut self, signature: &Signature, source: &[u8], spot: Spot)
         requires { begins_variable (spelled source.now spot) ≡ false }
         ensures fault { Finds (λ s. (s ≡ spot) × IsNoConstant signature.now (spelled source.now s)) self.old.fault self.new.fault }
         ensures bound { self.new.bound ≡ self.old.bound }
     {
-        let Some(number) = signature.constant(spelled_at(source, spot)) else {
-            self.fault = earlier(self.fault, spot);
-            return Leaf::Other;
-        };
-        Leaf::Constant(number)
+        if signature.constant(spelled_at(source, spot)).is_some() {
+            return;
+        }
+        self.fault = earlier(self.fault, spot);
     }
 
-    fn name(&mut self, signature: &Signature, source: &[u8], spot: Spot) -> Result<Leaf, Memory>
+    fn name(&mut self, signature: &Signature, source: &[u8], spot: Spot)
         ensures fault { Finds (λ s. (s ≡ spot) × (level_in self.old (spelled source.now s) ≡ None) × IsNoConstant signature.now (spelled source.now s)) self.old.fault self.new.fault }
         ensures bound { self.new.bound ≡ self.old.bound }
     {
         let name = spelled_at(source, spot);
-        if name == b"_".as_slice() {
-            let number = self.add_variable(spot)?;
-            return Ok(Leaf::Variable(self.depth, number));
-        }
-        if let Some(level) = self.level(name) {
-            return Ok(Leaf::Bound(self.depth.saturating_sub(level).saturating_sub(1)));
+        if self.level(name).is_some() {
+            return;
         }
         if is_variable(name) {
-            let number = self.variable(name, spot)?;
-            return Ok(Leaf::Variable(self.depth, number));
+            return;
         }
-        Ok(self.constant(signature, source, spot))
+        self.constant(signature, source, spot);
     }
 
     // A word of an annotation.
@@ -209,22 +156,6 @@ impl Names {
         self.set_level(name, outside)
     }
 
-    // A name, at its node.
-    fn place(
-        &mut self,
-        signature: &Signature,
-        source: &[u8],
-        node: usize,
-        spot: Spot,
-    ) -> Result<(), Memory>
-        ensures fault { Finds (λ s. (s ≡ spot) × (level_in self.old (spelled source.now s) ≡ None) × IsNoConstant signature.now (spelled source.now s)) self.old.fault self.new.fault }
-        ensures bound { self.new.bound ≡ self.old.bound }
-    {
-        let leaf = self.name(signature, source, spot)?;
-        self.set(node, leaf);
-        Ok(())
-    }
-
     // An abstraction: its annotation, and the name that it binds.
     fn abstraction(
         &mut self,
@@ -259,9 +190,8 @@ impl Names {
             return Ok(());
         };
         match found {
-            RawNode::Name(spot) => self.place(signature, source, node, *spot),
-            RawNode::Known(number, _) => {
-                self.set(node, Leaf::Constant(*number));
+            RawNode::Name(spot) => {
+                self.name(signature, source, *spot);
                 Ok(())
             }
             RawNode::App(head, argument) => {
@@ -296,25 +226,21 @@ impl Names {
     }
 }
 
-// The names of a text.
-pub(crate) fn names_of(
+// The first name of a text that is not declared, if there is one.
+pub(crate) fn first_undeclared(
     alloc: Global,
     signature: &Signature,
     source: &[u8],
     raw: &RawTerm,
-) -> Result<Names, Memory>
-    ensures { IfOk result (λ names. IsFirstUndeclared signature.now source.now raw.now.nodes.items raw.now.root names.fault) }
+) -> Result<Option<Spot>, Memory>
+    ensures { IfOk result (IsFirstUndeclared signature.now source.now raw.now.nodes.items raw.now.root) }
 {
-    let mut leaves = Vec::new(alloc);
-    for _ in 0..raw.nodes.len() {
-        leaves.push(Leaf::Other)?;
-    }
-    let mut names = Names::new(alloc, leaves);
+    let mut names = Names::new(alloc);
     let mut work = Vec::new(alloc);
     work.push(Task::Visit(raw.root))?;
     for _ in 0..u64::MAX {
         let Some(task) = work.pop() else {
-            return Ok(names);
+            return Ok(names.fault);
         };
         names.take(signature, source, raw, task, &mut work)?;
     }

@@ -1,9 +1,17 @@
 // What types are under bindings, read off into another bank with sharing; the type variables are numbered by first place.
-ghost use Rattle.lp_term.specs.Nodes.{Extends};
+ghost use Rattle.std.specs.Prelude.{◌≡◌, ◌<◌, ℕ, List, [], ◌∷◌, ◌++◌, map, reverse, length, IfOk, OnOk, Some, nat_eq, if◌then◌else◌};
+ghost use Rattle.indexmap.specs.IndexMap.{get};
+ghost use Rattle.indexmap.specs.IndexSet.{insert_key};
+ghost use Rattle.lp_calculus.specs.Types.{Ty, var, param};
+ghost use Rattle.lp_term.specs.Nodes.{Nodes, Extends, type_tree};
 ghost use Rattle.lp_equations.specs.Reading.{AreKept};
+ghost use Rattle.lp_equations.specs.Looking.{IsUnbound};
+ghost use Rattle.lp_infer.specs.Meeting.{place};
+ghost use Rattle.lp_infer.specs.ReadingOff.{bound_type, cost, IsReadAs, IsReadMemo, AreRead, IsTaken, ReadsOne, ReadsAll};
+ghost use Rattle.lp_infer.specs.declared.reading.Task.{Task};
 
 use crate::instance::{put_arrow, put_con};
-use indexmap::IndexMap;
+use indexmap::{IndexMap, IndexSet};
 use lp_base::Memory;
 use lp_equations::Bindings;
 use lp_term::{Bank, TypeId, TypeNode};
@@ -19,10 +27,13 @@ enum Task {
 pub(crate) struct Reading {
     alloc: Global,
     made: IndexMap<usize, usize>,
-    numbers: IndexMap<u64, u64>,
+    // The type variables in the order in which they were met.
+    numbers: IndexSet<u64>,
 }
 
-fn push_visits(ids: &[TypeId], work: &mut Vec<Task>) -> Result<(), Memory> {
+fn push_visits(ids: &[TypeId], work: &mut Vec<Task>) -> Result<(), Memory>
+    ensures { OnOk result (work.new.items ≡ work.old.items ++ map Task.Visit (reverse ids.now)) }
+{
     for id in ids.iter().rev().copied() {
         work.push(Task::Visit(id))?;
     }
@@ -32,6 +43,7 @@ fn push_visits(ids: &[TypeId], work: &mut Vec<Task>) -> Result<(), Memory> {
 // The type past its bindings.
 fn top_of(from: &Bank, bindings: &Bindings, id: TypeId) -> Result<TypeId, Memory>
     requires { AreKept from.now bindings.now.made }
+    ensures { IfOk result (λ top. (top.0 < length from.now.types) × (bound_type from.now bindings.now.made top.0 ≡ bound_type from.now bindings.now.made id.0) × IsUnbound (get nat_eq bindings.now.made) (type_tree from.now top.0)) }
 {
     if id.0 >= from.type_count() {
         return Err(Memory);
@@ -40,50 +52,92 @@ fn top_of(from: &Bank, bindings: &Bindings, id: TypeId) -> Result<TypeId, Memory
 }
 
 impl Reading {
-    pub(crate) fn new(alloc: Global) -> Reading {
+    pub(crate) fn new(alloc: Global) -> Reading
+        ensures memo { (A : ℕ → Ty) → (b : Nodes) → IsReadMemo A b result }
+        ensures numbers { result.numbers.keys ≡ [] }
+    {
         Reading {
             alloc,
             made: IndexMap::new(alloc),
-            numbers: IndexMap::new(alloc),
+            numbers: IndexSet::new(alloc),
         }
     }
 
     // How many type variables were met.
-    pub(crate) fn count(&self) -> u64 {
+    pub(crate) fn count(&self) -> u64
+        ensures { result ≡ length self.now.numbers.keys }
+    {
         self.numbers.len() as u64
     }
 
-    fn number(&mut self, variable: u64) -> Result<u64, Memory> {
-        if let Some(number) = self.numbers.get(&variable) {
-            return Ok(*number);
-        }
-        let number = self.numbers.len() as u64;
-        self.numbers.insert(variable, number)?;
-        Ok(number)
+    fn number(&mut self, variable: u64) -> Result<u64, Memory>
+        ensures made { self.new.made ≡ self.old.made }
+        ensures numbers { OnOk result (self.new.numbers.keys ≡ insert_key nat_eq self.old.numbers.keys variable) }
+        ensures number { IfOk result (λ n. n ≡ place self.new.numbers.keys variable) }
+    {
+        let (number, _) = self.numbers.insert_full(variable)?;
+        Ok(number as u64)
+    }
+
+    // What was made of a type.
+    fn find(&self, top: TypeId) -> Option<usize>
+        ensures { result ≡ get nat_eq self.now.made top.0 }
+    {
+        self.made.get(&top.0).copied()
+    }
+
+    // Keeps what was made of a type.
+    fn keep(&mut self, top: TypeId, made: TypeId) -> Result<(), Memory>
+        ensures numbers { self.new.numbers ≡ self.old.numbers }
+        ensures made { OnOk result ((i : ℕ) → get nat_eq self.new.made i ≡ (if nat_eq top.0 i then Some made.0 else get nat_eq self.old.made i)) }
+    {
+        self.made.insert(top.0, made.0)?;
+        Ok(())
     }
 
     // What was made of a part.
     fn part(&self, from: &Bank, bindings: &Bindings, id: TypeId) -> Result<TypeId, Memory>
         requires { AreKept from.now bindings.now.made }
+        ensures { IfOk result (λ j. (b : Nodes) → IsReadMemo (bound_type from.now bindings.now.made) b self.now → IsReadAs b self.now.numbers.keys (bound_type from.now bindings.now.made id.0) j.0) }
     {
         let top = top_of(from, bindings, id)?;
-        match self.made.get(&top.0) {
-            Some(made) => Ok(TypeId(*made)),
+        match self.find(top) {
+            Some(made) => Ok(TypeId(made)),
             None => Err(Memory),
         }
     }
 
     fn parts(&self, from: &Bank, bindings: &Bindings, ids: &[TypeId]) -> Result<Vec<TypeId>, Memory>
         requires { AreKept from.now bindings.now.made }
+        ensures { IfOk result (λ parts. (b : Nodes) → IsReadMemo (bound_type from.now bindings.now.made) b self.now → AreRead b self.now.numbers.keys (map (bound_type from.now bindings.now.made) (map (λ t. t.0) ids.now)) parts.items) }
     {
         let mut parts = Vec::new(self.alloc);
-        for id in ids.iter().copied() {
-            parts.push(self.part(from, bindings, id)?)?;
+        for id in ids {
+            parts.push(self.part(from, bindings, *id)?)?;
         }
         Ok(parts)
     }
 
-    #[tactic(auto, using(crate::proofs::Keeps::kept_then))]
+    // A type variable that is not bound.
+    fn variable(&mut self, variable: u64, top: TypeId, to: &mut Bank) -> Result<(), Memory>
+        ensures kept { Extends to.old to.new }
+        ensures goes { OnOk result (self.new.numbers.keys ≡ insert_key nat_eq self.old.numbers.keys variable) }
+        ensures memo { OnOk result ((A : ℕ → Ty) → A top.0 ≡ var variable → IsReadMemo A to.old self.old → IsReadMemo A to.new self.new) }
+    {
+        let number = self.number(variable)?;
+        let made = to.put_type(TypeNode::Var(number))?;
+        self.keep(top, made)
+    }
+
+    fn parameter(&mut self, number: u64, top: TypeId, to: &mut Bank) -> Result<(), Memory>
+        ensures kept { Extends to.old to.new }
+        ensures numbers { self.new.numbers ≡ self.old.numbers }
+        ensures memo { OnOk result ((A : ℕ → Ty) → A top.0 ≡ param number → IsReadMemo A to.old self.old → IsReadMemo A to.new self.new) }
+    {
+        let made = to.put_type(TypeNode::Param(number))?;
+        self.keep(top, made)
+    }
+
     fn visit(
         &mut self,
         from: &Bank,
@@ -93,33 +147,30 @@ impl Reading {
         work: &mut Vec<Task>,
     ) -> Result<(), Memory>
         requires { AreKept from.now bindings.now.made }
-        ensures { Extends to.old to.new }
+        ensures kept { Extends to.old to.new }
+        ensures taken { OnOk result (IsTaken (bound_type from.now bindings.now.made) to.old to.new self.old self.new (Task.Visit id ∷ reverse work.old.items) (reverse work.new.items)) }
+        ensures fewer { OnOk result (cost (bound_type from.now bindings.now.made) (reverse work.new.items) < cost (bound_type from.now bindings.now.made) (Task.Visit id ∷ reverse work.old.items)) }
     {
         let top = top_of(from, bindings, id)?;
-        if self.made.contains_key(&top.0) || top.0 >= from.type_count() {
+        if self.find(top).is_some() {
             return Ok(());
         }
         match from.type_node(top) {
-            TypeNode::Var(variable) => {
-                let number = self.number(variable)?;
-                let made = to.put_type(TypeNode::Var(number))?;
-                self.made.insert(top.0, made.0)?;
-            }
-            TypeNode::Param(_) => return Err(Memory),
+            TypeNode::Var(variable) => self.variable(variable, top, to),
+            TypeNode::Param(number) => self.parameter(number, top, to),
             TypeNode::Con(_, ids) => {
                 work.push(Task::Build(top))?;
-                push_visits(ids, work)?;
+                push_visits(ids, work)
             }
             TypeNode::Arrow(left, right) => {
                 work.push(Task::Build(top))?;
                 work.push(Task::Visit(right))?;
                 work.push(Task::Visit(left))?;
+                Ok(())
             }
         }
-        Ok(())
     }
 
-    #[tactic(auto, using(crate::proofs::Keeps::kept_then))]
     fn build(
         &mut self,
         from: &Bank,
@@ -128,30 +179,50 @@ impl Reading {
         to: &mut Bank,
     ) -> Result<(), Memory>
         requires { AreKept from.now bindings.now.made }
-        ensures { Extends to.old to.new }
+        ensures kept { Extends to.old to.new }
+        ensures numbers { self.new.numbers ≡ self.old.numbers }
+        ensures memo { OnOk result (IsReadMemo (bound_type from.now bindings.now.made) to.old self.old → IsReadMemo (bound_type from.now bindings.now.made) to.new self.new) }
     {
         if top.0 >= from.type_count() {
             return Err(Memory);
         }
         match from.type_node(top) {
+            TypeNode::Var(_) => Ok(()),
+            TypeNode::Param(_) => Ok(()),
             TypeNode::Con(kind, ids) => {
                 let parts = self.parts(from, bindings, ids)?;
                 let made = put_con(to, kind, parts.as_slice())?;
-                self.made.insert(top.0, made.0)?;
+                self.keep(top, made)
             }
             TypeNode::Arrow(left, right) => {
                 let one = self.part(from, bindings, left)?;
                 let other = self.part(from, bindings, right)?;
                 let made = put_arrow(to, one, other)?;
-                self.made.insert(top.0, made.0)?;
+                self.keep(top, made)
             }
-            _ => {}
         }
-        Ok(())
     }
 
-    #[tactic(auto, using(crate::proofs::Keeps::kept_then))]
-    pub(crate) fn read(
+    fn take(
+        &mut self,
+        from: &Bank,
+        bindings: &Bindings,
+        task: Task,
+        to: &mut Bank,
+        work: &mut Vec<Task>,
+    ) -> Result<(), Memory>
+        requires { AreKept from.now bindings.now.made }
+        ensures kept { Extends to.old to.new }
+        ensures taken { OnOk result (IsTaken (bound_type from.now bindings.now.made) to.old to.new self.old self.new (task ∷ reverse work.old.items) (reverse work.new.items)) }
+        ensures fewer { OnOk result (cost (bound_type from.now bindings.now.made) (reverse work.new.items) < cost (bound_type from.now bindings.now.made) (task ∷ reverse work.old.items)) }
+    {
+        match task {
+            Task::Visit(id) => self.visit(from, bindings, id, to, work),
+            Task::Build(top) => self.build(from, bindings, top, to),
+        }
+    }
+
+    fn read(
         &mut self,
         from: &Bank,
         bindings: &Bindings,
@@ -159,21 +230,17 @@ impl Reading {
         to: &mut Bank,
     ) -> Result<TypeId, Memory>
         requires { AreKept from.now bindings.now.made }
-        ensures { Extends to.old to.new }
+        ensures kept { Extends to.old to.new }
+        ensures read { IfOk result (λ j. IsReadMemo (bound_type from.now bindings.now.made) to.old self.old → ReadsOne (bound_type from.now bindings.now.made) to.new self.old self.new id.0 j) }
     {
         let mut work = Vec::new(self.alloc);
         work.push(Task::Visit(id))?;
-        for _ in 0..u64::MAX {
-            match work.pop() {
-                None => return self.part(from, bindings, id),
-                Some(Task::Visit(next)) => self.visit(from, bindings, next, to, &mut work)?,
-                Some(Task::Build(top)) => self.build(from, bindings, top, to)?,
-            }
+        while let Some(task) = work.pop() {
+            self.take(from, bindings, task, to, &mut work)?;
         }
-        Err(Memory)
+        self.part(from, bindings, id)
     }
 
-    #[tactic(auto, using(crate::proofs::Keeps::kept_then))]
     pub(crate) fn read_all(
         &mut self,
         from: &Bank,
@@ -182,11 +249,12 @@ impl Reading {
         to: &mut Bank,
     ) -> Result<Vec<TypeId>, Memory>
         requires { AreKept from.now bindings.now.made }
-        ensures { Extends to.old to.new }
+        ensures kept { Extends to.old to.new }
+        ensures read { IfOk result (λ made. IsReadMemo (bound_type from.now bindings.now.made) to.old self.old → ReadsAll (bound_type from.now bindings.now.made) to.new self.old self.new ids.now made.items) }
     {
         let mut types = Vec::new(self.alloc);
-        for id in ids.iter().copied() {
-            types.push(self.read(from, bindings, id, to)?)?;
+        for id in ids {
+            types.push(self.read(from, bindings, *id, to)?)?;
         }
         Ok(types)
     }

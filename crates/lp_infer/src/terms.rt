@@ -1,13 +1,20 @@
-// The formula of a text. Parts stand before what they are parts of, so one pass over the nodes builds it.
-ghost use Rattle.std.specs.Prelude.{◌≡◌, ◌<◌, length, map, true, All};
-ghost use Rattle.lp_term.specs.Nodes.{Extends};
+// The formula of a text, from its parts and the type arguments of its constants.
+ghost use Rattle.std.specs.Prelude.{◌≡◌, ◌<◌, ℕ, List, [], length, map, drop, true, All, IfOk, OnOk};
+ghost use Rattle.lp_calculus.specs.Types.{Ty};
+ghost use Rattle.lp_calculus.specs.Typing.{Scheme};
+ghost use Rattle.lp_calculus.specs.Term.{atom, abs, apply, constant as constant_atom};
+ghost use Rattle.lp_term.specs.Nodes.{Nodes, Extends, tree};
+ghost use Rattle.lp_infer.specs.Typing.{Raw};
+ghost use Rattle.lp_infer.specs.Texts.{escaped as escaped_byte, string_bytes};
+ghost use Rattle.lp_infer.specs.Postfix.{is_index, is_constant, is_integer, is_text, closes, applies, mark, postfix};
+ghost use Rattle.lp_infer.specs.Copies.{trees_of, AreTypes};
+ghost use Rattle.lp_infer.specs.Filling.{fills, IsTerm, form, numbers, IsPushed, IsPopped, IsTaken, Forms};
 
-use crate::instance::are_known;
-use crate::names::{Leaf, Names};
-use indexmap::IndexMap;
+use crate::generate::index_of;
+use crate::instance::{are_known, standard_variables};
+use crate::lookup::Step;
 use lp_base::{Memory, Spot};
 use lp_sig::spelled_at;
-use lp_syntax::{RawNode, RawTerm};
 use lp_term::{Bank, TermId, TermNode, TypeId};
 use std::alloc::Global;
 
@@ -24,7 +31,8 @@ fn are_terms(bank: &Bank, ids: &[TermId]) -> bool
 }
 
 fn put_constant(bank: &mut Bank, number: u32, types: &[TypeId]) -> Result<TermId, Memory>
-    ensures { Extends bank.old bank.new }
+    ensures kept { Extends bank.old bank.new }
+    ensures tree { IfOk result (λ id. IsTerm bank.new id (atom (constant_atom number (trees_of bank.old types.now)))) }
 {
     if !are_known(bank, types) {
         return Err(Memory);
@@ -33,7 +41,8 @@ fn put_constant(bank: &mut Bank, number: u32, types: &[TypeId]) -> Result<TermId
 }
 
 fn put_abstraction(bank: &mut Bank, body: TermId) -> Result<TermId, Memory>
-    ensures { Extends bank.old bank.new }
+    ensures kept { Extends bank.old bank.new }
+    ensures tree { IfOk result (λ id. IsTerm bank.new id (abs (tree bank.old body.0))) }
 {
     if body.0 >= bank.term_count() {
         return Err(Memory);
@@ -42,7 +51,8 @@ fn put_abstraction(bank: &mut Bank, body: TermId) -> Result<TermId, Memory>
 }
 
 fn put_application(bank: &mut Bank, head: TermId, arguments: &[TermId]) -> Result<TermId, Memory>
-    ensures { Extends bank.old bank.new }
+    ensures kept { Extends bank.old bank.new }
+    ensures tree { IfOk result (λ id. IsTerm bank.new id (apply (tree bank.old head.0) (map (tree bank.old) (numbers arguments.now)))) }
 {
     if arguments.is_empty() || head.0 >= bank.term_count() || !are_terms(bank, arguments) {
         return Err(Memory);
@@ -51,7 +61,9 @@ fn put_application(bank: &mut Bank, head: TermId, arguments: &[TermId]) -> Resul
 }
 
 // The byte that a letter stands for behind `\`.
-fn escaped(letter: u8) -> u8 {
+fn escaped(letter: u8) -> u8
+    ensures { result ≡ escaped_byte letter }
+{
     match letter {
         b'n' => 10,
         b't' => 9,
@@ -60,7 +72,9 @@ fn escaped(letter: u8) -> u8 {
 }
 
 // The bytes of a string, from its token.
-fn bytes_of(alloc: Global, token: &[u8]) -> Result<Vec<u8>, Memory> {
+fn bytes_of(alloc: Global, token: &[u8]) -> Result<Vec<u8>, Memory>
+    ensures { IfOk result (λ bytes. bytes.items ≡ string_bytes token.now) }
+{
     let mut bytes = Vec::new(alloc);
     let Some(inner) = token.get(1..token.len().saturating_sub(1)) else {
         return Ok(bytes);
@@ -79,149 +93,177 @@ fn bytes_of(alloc: Global, token: &[u8]) -> Result<Vec<u8>, Memory> {
     Ok(bytes)
 }
 
-// Which nodes are heads of applications, and so no whole terms of their own.
-fn heads_of(alloc: Global, raw: &RawTerm) -> Result<Vec<bool>, Memory> {
-    let mut heads = Vec::new(alloc);
-    for _ in 0..raw.nodes.len() {
-        heads.push(false)?;
-    }
-    for node in raw.nodes.iter() {
-        if let RawNode::App(head, _) = node {
-            if let Some(slot) = heads.get_mut(*head) {
-                *slot = true;
-            }
-        }
-    }
-    Ok(heads)
+// A head with the arguments that it has so far.
+#[derive(Drop)]
+struct Spine {
+    head: TermId,
+    arguments: Vec<TermId>,
 }
 
 #[derive(Drop)]
 pub(crate) struct Terms {
     alloc: Global,
-    done: Vec<Option<TermId>>,
-    heads: Vec<bool>,
+    stack: Vec<Spine>,
+    // How many types were used.
+    used: usize,
 }
 
 impl Terms {
-    pub(crate) fn new(alloc: Global, raw: &RawTerm) -> Result<Terms, Memory> {
-        let heads = heads_of(alloc, raw)?;
-        Ok(Terms {
+    // The type arguments stand behind so many others.
+    pub(crate) fn new(alloc: Global, used: usize) -> Terms
+        ensures stack { result.stack.items ≡ [] }
+        ensures used { result.used ≡ used }
+    {
+        Terms {
             alloc,
-            done: Vec::new(alloc),
-            heads,
-        })
-    }
-
-    // The term of a node.
-    fn term(&self, node: usize) -> Result<TermId, Memory> {
-        match self.done.get(node) {
-            Some(Some(id)) => Ok(*id),
-            _ => Err(Memory),
+            stack: Vec::new(alloc),
+            used,
         }
     }
 
-    // The head of an application, and all its arguments.
-    fn spread(&self, raw: &RawTerm, node: usize) -> Result<(TermId, Vec<TermId>), Memory> {
-        let mut arguments = Vec::new(self.alloc);
-        let mut at = node;
-        for _ in 0..u64::MAX {
-            let Some(RawNode::App(head, argument)) = raw.nodes.get(at) else {
-                arguments.reverse();
-                let head = self.term(at)?;
-                return Ok((head, arguments));
-            };
-            arguments.push(self.term(*argument)?)?;
-            at = *head;
-        }
-        Err(Memory)
-    }
-
-    // An application with all its arguments.
-    fn application(&self, raw: &RawTerm, node: usize, bank: &mut Bank) -> Result<TermId, Memory>
-        ensures { Extends bank.old bank.new }
+    fn push(&mut self, head: TermId) -> Result<(), Memory>
+        ensures { OnOk result (IsPushed head self.old self.new) }
     {
-        let (head, arguments) = self.spread(raw, node)?;
-        put_application(bank, head, arguments.as_slice())
+        let arguments = Vec::new(self.alloc);
+        self.stack.push(Spine { head, arguments })?;
+        Ok(())
     }
 
-    // The term of a name; none for a node that is no part of the text, as what was read before it turned out to bind a name.
-    fn leaf(
-        &self,
-        names: &Names,
-        types: &IndexMap<usize, Vec<TypeId>>,
-        node: usize,
+    fn pop(&mut self) -> Result<Spine, Memory>
+        ensures { IfOk result (IsPopped self.old self.new) }
+    {
+        match self.stack.pop() {
+            Some(spine) => Ok(spine),
+            None => Err(Memory),
+        }
+    }
+
+    // The term of the part before.
+    fn term(&mut self, bank: &mut Bank) -> Result<TermId, Memory>
+        ensures kept { Extends bank.old bank.new }
+        ensures term { IfOk result (IsTaken bank.old bank.new self.old self.new) }
+    {
+        let spine = self.pop()?;
+        if spine.arguments.is_empty() {
+            return Ok(spine.head);
+        }
+        put_application(bank, spine.head, spine.arguments.as_slice())
+    }
+
+    // A constant on the next type arguments.
+    fn constant(
+        &mut self,
+        number: u32,
+        count: u8,
+        types: &[TypeId],
         bank: &mut Bank,
-    ) -> Result<Option<TermId>, Memory>
-        ensures { Extends bank.old bank.new }
+    ) -> Result<(), Memory>
+        ensures kept { Extends bank.old bank.new }
+        ensures formed { OnOk result ((scheme : Scheme) → scheme.count ≡ count → Forms bank.old bank.new types.now self.old self.new (form (is_constant number scheme))) }
     {
-        let id = match names.leaves.get(node) {
-            Some(Leaf::Bound(out)) => bank.put_term(TermNode::Index(*out))?,
-            Some(Leaf::Variable(depth, number)) => {
-                let behind = (names.places.len() as u64)
-                    .saturating_sub(*number)
-                    .saturating_sub(1);
-                bank.put_term(TermNode::Index(depth.saturating_add(behind)))?
-            }
-            Some(Leaf::Constant(number)) => match types.get(&node) {
-                Some(arguments) => put_constant(bank, *number, arguments.as_slice())?,
-                None => return Err(Memory),
-            },
-            _ => return Ok(None),
+        let Some(end) = self.used.checked_add(count as usize) else {
+            return Err(Memory);
         };
-        Ok(Some(id))
+        let Some(arguments) = types.get(self.used..end) else {
+            return Err(Memory);
+        };
+        let head = put_constant(bank, number, arguments)?;
+        self.used = end;
+        self.push(head)
     }
 
-    // The term of a node whose parts have terms; none for the head of an application that is one itself.
-    fn make(
-        &self,
+    fn text(&mut self, token: &[u8], bank: &mut Bank) -> Result<(), Memory>
+        ensures kept { Extends bank.old bank.new }
+        ensures formed { OnOk result ((types : List TypeId) → Forms bank.old bank.new types self.old self.new (form (is_text (string_bytes token.now)))) }
+    {
+        let bytes = bytes_of(self.alloc, token)?;
+        let head = bank.put_term(TermNode::Text(bytes.as_slice()))?;
+        self.push(head)
+    }
+
+    fn index(&mut self, index: u64, bank: &mut Bank) -> Result<(), Memory>
+        ensures kept { Extends bank.old bank.new }
+        ensures formed { OnOk result ((types : List TypeId) → Forms bank.old bank.new types self.old self.new (form (is_index index))) }
+    {
+        let head = bank.put_term(TermNode::Index(index))?;
+        self.push(head)
+    }
+
+    fn integer(&mut self, value: i64, bank: &mut Bank) -> Result<(), Memory>
+        ensures kept { Extends bank.old bank.new }
+        ensures formed { OnOk result ((types : List TypeId) → Forms bank.old bank.new types self.old self.new (form (is_integer value))) }
+    {
+        let head = bank.put_term(TermNode::Int(value))?;
+        self.push(head)
+    }
+
+    fn close(&mut self, bank: &mut Bank) -> Result<(), Memory>
+        ensures kept { Extends bank.old bank.new }
+        ensures formed { OnOk result ((types : List TypeId) → Forms bank.old bank.new types self.old self.new (form closes)) }
+    {
+        let body = self.term(bank)?;
+        let head = put_abstraction(bank, body)?;
+        self.push(head)
+    }
+
+    #[tactic(auto, using(crate::proofs::Keeps::kept_then))]
+    fn apply(&mut self, bank: &mut Bank) -> Result<(), Memory>
+        ensures kept { Extends bank.old bank.new }
+        ensures formed { OnOk result ((types : List TypeId) → Forms bank.old bank.new types self.old self.new (form applies)) }
+    {
+        let argument = self.term(bank)?;
+        let mut spine = self.pop()?;
+        spine.arguments.push(argument)?;
+        self.stack.push(spine)?;
+        Ok(())
+    }
+
+    #[tactic(auto, using(crate::proofs::Keeps::kept_then))]
+    fn step(
+        &mut self,
         source: &[u8],
-        raw: &RawTerm,
-        names: &Names,
-        types: &IndexMap<usize, Vec<TypeId>>,
-        node: usize,
+        count: u64,
+        types: &[TypeId],
+        step: Step,
         bank: &mut Bank,
-    ) -> Result<Option<TermId>, Memory>
-        ensures { Extends bank.old bank.new }
+    ) -> Result<(), Memory>
+        ensures kept { Extends bank.old bank.new }
+        ensures formed { OnOk result ((b : Nodes) → (τ : ℕ → Ty) → Forms bank.old bank.new types.now self.old self.new (form (mark source.now b count τ step))) }
     {
-        let id = match raw.nodes.get(node) {
-            Some(RawNode::Name(_)) => return self.leaf(names, types, node, bank),
-            Some(RawNode::Known(_, _)) => return self.leaf(names, types, node, bank),
-            Some(RawNode::Number(value, _)) => bank.put_term(TermNode::Int(*value))?,
-            Some(RawNode::Text(spot)) => {
-                let bytes = bytes_of(self.alloc, spelled_at(source, *spot))?;
-                bank.put_term(TermNode::Text(bytes.as_slice()))?
+        match step {
+            Step::Bound(out) => self.index(out, bank),
+            Step::Variable(depth, number) => match index_of(count, depth, number) {
+                Some(index) => self.index(index, bank),
+                None => Err(Memory),
+            },
+            Step::Standard(number) => {
+                self.constant(number, standard_variables(number), types, bank)
             }
-            Some(RawNode::Abs(_, _, body)) => {
-                let inner = self.term(*body)?;
-                put_abstraction(bank, inner)?
-            }
-            Some(RawNode::App(_, _)) => {
-                if self.heads.get(node).copied() == Some(true) {
-                    return Ok(None);
-                }
-                self.application(raw, node, bank)?
-            }
-            None => return Err(Memory),
-        };
-        Ok(Some(id))
+            Step::Declared(number, vars, _) => self.constant(number, vars, types, bank),
+            Step::Integer(value) => self.integer(value, bank),
+            Step::Text(spot) => self.text(spelled_at(source, spot), bank),
+            Step::Open(_) => Ok(()),
+            Step::Close => self.close(bank),
+            Step::Apply => self.apply(bank),
+        }
     }
 
-    // The formula of a text.
+    // The formula of a text with so many variables, whose constants have these type arguments.
     #[tactic(auto, using(crate::proofs::Keeps::kept_then))]
     pub(crate) fn formula(
         &mut self,
         source: &[u8],
-        raw: &RawTerm,
-        names: &Names,
-        types: &IndexMap<usize, Vec<TypeId>>,
+        count: u64,
+        types: &[TypeId],
+        steps: &[Step],
         bank: &mut Bank,
     ) -> Result<TermId, Memory>
-        ensures { Extends bank.old bank.new }
+        ensures kept { Extends bank.old bank.new }
+        ensures term { self.old.stack.items ≡ [] → AreTypes bank.old types.now → IfOk result (λ id. (R : Raw) → (b : Nodes) → (τ : ℕ → Ty) → postfix R ≡ map (mark source.now b count τ) steps.now → IsTerm bank.new id (fills R (drop self.old.used (trees_of bank.old types.now))).0) }
     {
-        for node in 0..raw.nodes.len() {
-            let made = self.make(source, raw, names, types, node, bank)?;
-            self.done.push(made)?;
+        for step in steps.iter().copied() {
+            self.step(source, count, types, step, bank)?;
         }
-        self.term(raw.root)
+        self.term(bank)
     }
 }

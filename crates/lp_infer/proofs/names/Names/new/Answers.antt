@@ -6,4 +6,4 @@ use Rattle.lp_infer.proofs.names.Names.new.Goals as goal
 
 pub returns-clause-level : goal.returns-clause-level
 unfolding level_in
-returns-clause-level c = λ name. ap (λ es. level_at (lookup (λ k. bytes_eq name k.items) es)) c.new-3.ensures.empty
+returns-clause-level c = λ name. ap (λ es. level_at (lookup (λ k. bytes_eq name k.items) es)) c.new.ensures.empty

@@ -18,17 +18,9 @@ returns-in-Name c =
     let nodes = c.args.raw.now.nodes.items in
     let h : c.args.node < length nodes = subst (λ l. c.args.node < length l) c.deref.ensures.value c.in-Some.ensures.lookup.3.0 in
     let at : c.in-Some.found.now ≡ get_or nodes c.args.node c.in-Some.found.now = c.in-Some.ensures.lookup.1 ∙ ap (λ l. get_or l c.args.node c.in-Some.found.now) c.deref.ensures.value in
-    is_ok c.place.result (λ root S.
-    past_name c.args.signature.now c.args.source.now nodes root c.args.self.now c.place.new.self c.args.node c.in-Name.spot (reverse c.args.work.now.items)
-    (slice_get_read nodes (length nodes) c.args.node c.in-Some.found.now refl h at ∙ ap Some c.in-Name.is) c.place.ensures.fault c.place.ensures.bound S)
-
-pub returns-in-Known : goal.returns-in-Known
-returns-in-Known c = λ root S.
-    let nodes = c.args.raw.now.nodes.items in
-    let h : c.args.node < length nodes = subst (λ l. c.args.node < length l) c.deref.ensures.value c.in-Some.ensures.lookup.3.0 in
-    let at : c.in-Some.found.now ≡ get_or nodes c.args.node c.in-Some.found.now = c.in-Some.ensures.lookup.1 ∙ ap (λ l. get_or l c.args.node c.in-Some.found.now) c.deref.ensures.value in
-    past_empty c.args.signature.now c.args.source.now nodes root c.args.self.now c.set.new.self c.args.node (reverse c.args.work.now.items) (Some c.in-Some.found.now)
-    (slice_get_read nodes (length nodes) c.args.node c.in-Some.found.now refl h at) (λ scope t b. subst (λ n. Below c.args.signature.now c.args.source.now nodes scope (Some n) t) c.in-Known.is b) c.set.ensures.fault c.set.ensures.bound S
+    λ root S.
+    past_name c.args.signature.now c.args.source.now nodes root c.args.self.now c.name.new.self c.args.node c.in-Name.spot (reverse c.args.work.now.items)
+    (slice_get_read nodes (length nodes) c.args.node c.in-Some.found.now refl h at ∙ ap Some c.in-Name.is) c.name.ensures.fault c.name.ensures.bound S
 
 pub returns-in_ok-push-in-App-2 : goal.returns-in_ok-push-in-App-2
 returns-in_ok-push-in-App-2 c = λ root S.

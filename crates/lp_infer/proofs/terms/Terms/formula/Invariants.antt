@@ -1,5 +1,9 @@
-use Rattle.lp_term.specs.Nodes.{Extends}
+use Rattle.std.proofs.Common.{ℕ, map}
+use Rattle.lp_calculus.specs.Types.{Ty}
+use Rattle.lp_term.specs.Nodes.{Nodes, Extends}
+use Rattle.lp_infer.specs.Postfix.{mark}
+use Rattle.lp_infer.specs.Filling.{Forms, form_all}
 use Rattle.lp_infer.proofs.terms.Terms.formula.Given as goal
 
-abbrev pub invariant-loop-node : goal.invariant-loop-node
-invariant-loop-node l = Extends l.fn.bank l.bank
+abbrev pub invariant-loop-step : goal.invariant-loop-step
+invariant-loop-step l = Extends l.fn.bank l.bank × ((b : Nodes) (τ : ℕ → Ty) → Forms l.fn.bank l.bank l.types l.fn.self l.self (form_all (map (mark l.source b l.count τ) l.yielded)))

@@ -1,0 +1,24 @@
+use Rattle.std.proofs.Common.{◌≡◌, ◌∙◌, ◌∷◌, sym, ap, subst, refl, reverse}
+use Rattle.lp_infer.specs.Levels.{HasScope, level_of}
+use Rattle.lp_infer.specs.Visits.{Looked}
+use Rattle.lp_sig.specs.Pieces.{spelled}
+use Rattle.lp_sig.specs.Places.{first_place}
+use Rattle.lp_infer.proofs.Results.{if_ok_as}
+use Rattle.lp_infer.proofs.Passing.{past_leave, past_apply}
+use Rattle.lp_infer.proofs.lookup.Lookup.take.Goals as goal
+
+pub returns-in-Visit : goal.returns-in-Visit
+returns-in-Visit c =
+    if_ok_as c.visit.result c.visit.ensures (λ ok k root S.
+    k root (subst (λ t. Looked c.args.signature.now c.args.source.now c.args.raw.now.nodes.items root c.args.self.now (t ∷ reverse c.args.work.now.items)) c.in-Visit.is S))
+
+pub returns-in_ok-push-in-Leave : goal.returns-in_ok-push-in-Leave
+returns-in_ok-push-in-Leave c = λ root S.
+    past_leave c.args.signature.now c.args.source.now c.args.raw.now.nodes.items root c.args.self.now _ c.in-Leave.spot c.in-Leave.outside (reverse c.args.work.now.items) c.in_ok-push-in-Leave.ensures.items refl refl refl
+    (subst (λ w. (names : _) → HasScope (w ∷ names) c.args.self.now.scope → c.in-Leave.outside ≡ level_of w names → HasScope names c.leave.new.self) c.spelled_at.ensures c.in_ok-leave-in-Leave.ensures)
+    (subst (λ t. Looked c.args.signature.now c.args.source.now c.args.raw.now.nodes.items root c.args.self.now (t ∷ reverse c.args.work.now.items)) c.in-Leave.is S)
+
+pub returns-in_ok-push-in-Apply : goal.returns-in_ok-push-in-Apply
+returns-in_ok-push-in-Apply c = λ root S.
+    past_apply c.args.signature.now c.args.source.now c.args.raw.now.nodes.items root c.args.self.now _ (reverse c.args.work.now.items) c.in_ok-push-in-Apply.ensures.items refl refl refl refl
+    (subst (λ t. Looked c.args.signature.now c.args.source.now c.args.raw.now.nodes.items root c.args.self.now (t ∷ reverse c.args.work.now.items)) c.in-Apply.is S)
