@@ -4,7 +4,7 @@ use Rattle.std.specs.Prelude.{All}
 use Rattle.std.proofs.lemmas.List.{map-append, reverse-append, length-map, length-reverse, get_or-reverse, append-nil, reverse-reverse}
 use Rattle.indexmap.proofs.ReorderLemmas.{map-reverse}
 use Rattle.std.proofs.lemmas.List.Elements.{All-append, All-cons, All-nil, All-head, All-tail}
-use Rattle.lp_calculus.specs.Types.{Ty, var, con, arrow, instance}
+use Rattle.lp_calculus.specs.Types.{Ty, var, arrow, instance}
 use Rattle.lp_calculus.specs.Typing.{Scheme, type_at, o_type}
 use Rattle.lp_types.specs.Equations.{Equation, equation}
 use Rattle.lp_term.specs.Nodes.{Nodes, type_tree, Extends}
@@ -14,13 +14,13 @@ use Rattle.lp_equations.specs.declared.bindings.Pair.{Pair}
 use Rattle.lp_equations.specs.Reading.{IsPair}
 use Rattle.lp_infer.specs.Generate.{fresh, given_equation}
 use Rattle.lp_sig.specs.declared.signature.Signature.{Signature}
-use Rattle.lp_infer.specs.Postfix.{Mark, is_index, is_constant, opens, closes, applies, mark, given_type, IsGivenKnown, IsStep}
+use Rattle.lp_infer.specs.Postfix.{Mark, is_constant, opens, closes, applies, mark, IsStep}
 use Rattle.lp_infer.specs.declared.lookup.Step.{Step}
 use Rattle.lp_infer.specs.declared.lookup.Step.TheVariants as step
 use Rattle.lp_infer.proofs.Visiting.{map_agree, step_more}
 use Rattle.lp_infer.specs.Running.{Sofar, sofar, act, run, pushed, closed, applied}
 use Rattle.lp_infer.specs.Copies.{trees_of, AreTypes, IsType}
-use Rattle.lp_infer.specs.Making.{held, state, IsSound, Acts, Grown, Makes, MakesFresh, IsConstant, IsEquated, HasVariables, IsEnded, IsGenerated}
+use Rattle.lp_infer.specs.Making.{held, state, IsSound, Acts, Makes, MakesFresh, IsConstant, IsEquated, HasVariables, IsEnded, IsGenerated}
 use Rattle.lp_infer.specs.declared.generate.Typing.{Typing}
 use Rattle.lp_infer.proofs.Copying.{trees_stay, types_stay, type_stays, get_number}
 

@@ -1,12 +1,12 @@
 -- Types that are put into a bank, and copies of those of another.
-use Rattle.std.proofs.Common.{◌≡◌, ℕ, zero, suc, ◌+◌, ◌<◌, ◌≤◌, List, [], ◌∷◌, ◌++◌, map, length, get_or, refl, sym, ap, subst, ◌∙◌, Option, Some, None, Bool, true, false, arith, Result, Ok, Err}
-use Rattle.std.specs.Prelude.{All, nat_eq, if◌then◌else◌, IfOk, OnOk}
+use Rattle.std.proofs.Common.{◌≡◌, ℕ, zero, suc, ◌+◌, ◌<◌, ◌≤◌, List, [], ◌∷◌, ◌++◌, map, length, get_or, refl, sym, ap, subst, ◌∙◌, Some, None, Bool, true, false, arith, Result, Ok, Err}
+use Rattle.std.specs.Prelude.{nat_eq, if◌then◌else◌, IfOk}
 use Rattle.std.proofs.lemmas.List.{length-append}
 use Rattle.std.proofs.lemmas.List.Elements.{All-head, All-tail}
 use Rattle.std.proofs.lemmas.Bool.{eqb-true}
 use Rattle.std.specs.Map.{lookup}
 use Rattle.indexmap.specs.IndexMap.{IndexMap, get}
-use Rattle.lp_calculus.specs.Types.{Ty, Tys, con, arrow, tys, types, no_types, instance, instances}
+use Rattle.lp_calculus.specs.Types.{Ty, con, arrow, tys, types, instance, instances}
 use Rattle.lp_calculus.specs.Typing.{type_at, o_type}
 use Rattle.lp_term.specs.Nodes.{Nodes, type_tree, Extends}
 use Rattle.lp_term.specs.declared.node.TypeId.{TypeId}

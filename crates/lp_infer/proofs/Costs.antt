@@ -1,5 +1,5 @@
 -- Each task that is done leaves less to do.
-use Rattle.std.proofs.Common.{◌≡◌, ℕ, suc, ◌+◌, ◌*◌, ◌<◌, List, [], ◌∷◌, ◌++◌, map, refl, sym, ap, subst, ◌∙◌, arith}
+use Rattle.std.proofs.Common.{◌≡◌, ℕ, suc, ◌+◌, ◌*◌, ◌<◌, List, [], ◌∷◌, ◌++◌, map, sym, ap, ◌∙◌, arith}
 use Rattle.lp_calculus.specs.Types.{Ty, con, tys, instance}
 use Rattle.lp_types.specs.Equations.{size, sizes}
 use Rattle.lp_types.proofs.Types.{some_size}

@@ -1,8 +1,8 @@
 -- The bytes of a string, one letter after another.
-use Rattle.std.proofs.Common.{◌≡◌, ℕ, ◌-◌, ◌<◌, ◌≤◌, List, [], ◌∷◌, ◌++◌, length, Bool, true, false, refl, sym, ap, ◌∙◌, arith, take, drop}
-use Rattle.std.specs.Prelude.{nat_eq, if◌then◌else◌, slice_range}
+use Rattle.std.proofs.Common.{◌≡◌, ℕ, List, [], ◌∷◌, ◌++◌, Bool, true, false, refl, sym, ap, ◌∙◌}
+use Rattle.std.specs.Prelude.{nat_eq, if◌then◌else◌}
 use Rattle.std.proofs.lemmas.List.{append_assoc, append-nil}
-use Rattle.lp_infer.specs.Texts.{escaped, unescaped, string_bytes}
+use Rattle.lp_infer.specs.Texts.{escaped, unescaped}
 
 -- what is still to come, behind a backslash or not
 abbrev pub spell_on : Bool → List ℕ → List ℕ

@@ -1,6 +1,6 @@
 -- What looks at spots find, put together.
-use Rattle.std.proofs.Common.{◌≡◌, ℕ, ◌≤◌, ◌<◌, List, [], ◌∷◌, ◌++◌, length, get_or, take, refl, sym, ap, subst, ◌∙◌, Bool, true, false, arith, Option, Some, None, inl, inr}
-use Rattle.std.specs.Prelude.{Contains, ◌⊎◌}
+use Rattle.std.proofs.Common.{◌≡◌, ◌≤◌, refl, sym, subst, ◌∙◌, arith, Option, Some, None, inl, inr}
+use Rattle.std.specs.Prelude.{◌⊎◌}
 use Rattle.lp_base.specs.declared.place.Spot.{Spot}
 use Rattle.lp_infer.specs.Scanning.{Covers, Finds}
 

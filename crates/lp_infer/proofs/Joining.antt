@@ -1,9 +1,8 @@
 -- What is read off under a most general solution of a text's equations is the principal typing of the text; without a solution the text has no typing.
-use Rattle.std.proofs.Common.{◌≡◌, ℕ, zero, suc, ◌+◌, ◌-◌, ◌<◌, ◌≤◌, zero-add, add-one, le_refl, inl, inr, List, [], ◌∷◌, ◌++◌, map, reverse, length, take, drop, refl, sym, ap, subst, ◌∙◌, Option, Some, None, Bool, true, false, arith}
-use Rattle.std.specs.Prelude.{All, codes, slice_get, get_or, ◌⊎◌}
+use Rattle.std.proofs.Common.{◌≡◌, ℕ, zero, suc, ◌+◌, ◌-◌, ◌<◌, ◌≤◌, zero-add, add-one, le_refl, inl, inr, List, [], ◌∷◌, ◌++◌, map, reverse, length, take, drop, refl, sym, ap, subst, ◌∙◌, Option, Some, None, true, arith}
+use Rattle.std.specs.Prelude.{codes, slice_get, get_or, ◌⊎◌}
 use Rattle.std.proofs.lemmas.Bool.{cases_lt}
-use Rattle.std.specs.Str.{bytes_eq}
-use Rattle.std.proofs.lemmas.List.{append-nil, map-append, reverse-append, reverse-reverse, length-map}
+use Rattle.std.proofs.lemmas.List.{append-nil, reverse-reverse, length-map}
 use Rattle.std.proofs.lemmas.Slice.Eq.{bytes_eq-Decides}
 use mathlib.Core.List.{reverse-cons}
 use mathlib.Core.Path.{fun_ext}
@@ -11,10 +10,10 @@ use Rattle.indexmap.specs.IndexMap.{IndexMap}
 use Rattle.lp_base.specs.declared.place.Spot.{Spot}
 use Rattle.lp_calculus.specs.Types.{Ty, var, instance}
 use Rattle.lp_calculus.specs.Typing.{o_type}
-use Rattle.lp_types.specs.Equations.{Equation, equation, AllHold, Holds, IsMostGeneral, HaveNoSolution, Below}
+use Rattle.lp_types.specs.Equations.{Equation, equation, AllHold, IsMostGeneral, HaveNoSolution, Below}
 use Rattle.lp_types.proofs.Types.{instance-var}
-use Rattle.lp_types.proofs.Solves.{hold_append, hold_front, hold_back}
-use Rattle.lp_term.specs.Nodes.{Nodes, Extends, type_tree, tree}
+use Rattle.lp_types.proofs.Solves.{hold_append}
+use Rattle.lp_term.specs.Nodes.{Nodes, Extends, type_tree}
 use Rattle.lp_term.specs.declared.node.TypeId.{TypeId}
 use Rattle.lp_equations.specs.declared.bindings.Pair.{Pair}
 use Rattle.lp_equations.specs.Reading.{reads, read_pair, read_pairs}
@@ -24,12 +23,12 @@ use Rattle.lp_sig.specs.declared.signature.Signature.{Signature}
 use Rattle.lp_sig.specs.Pieces.{spelled}
 use Rattle.lp_sig.specs.Places.{first_place}
 use Rattle.lp_infer.specs.Typing.{Raw, term_arguments}
-use Rattle.lp_infer.specs.Texts.{Notes, is_blank, Reads, HasNoTextTyping, IsPrincipalTyping}
+use Rattle.lp_infer.specs.Texts.{Notes, is_blank, HasNoTextTyping, IsPrincipalTyping}
 use Rattle.lp_infer.specs.Generate.{fresh, generate, generated, IsScoped}
 use Rattle.lp_infer.specs.Numbering.{all_variables, IsTyped, typing_of, typing_variables, AreNumbered}
-use Rattle.lp_infer.specs.Postfix.{Mark, postfix, mark}
+use Rattle.lp_infer.specs.Postfix.{postfix, mark}
 use Rattle.lp_infer.specs.Running.{Sofar, sofar, run}
-use Rattle.lp_infer.specs.Visits.{Agrees, noted_types, marks, IsLookedUp, HasNoReading}
+use Rattle.lp_infer.specs.Visits.{marks, IsLookedUp, HasNoReading}
 use Rattle.lp_infer.specs.Making.{held, IsGenerated}
 use Rattle.lp_infer.specs.Copies.{trees_of}
 use Rattle.lp_infer.specs.Filling.{fills, IsTerm}

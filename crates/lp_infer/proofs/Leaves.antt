@@ -1,27 +1,24 @@
 -- What a node without parts reads as.
 use Rattle.std.proofs.Common.{◌≡◌, ℕ, zero, suc, ◌+◌, ◌-◌, ◌<◌, ◌≤◌, List, [], ◌∷◌, ◌++◌, map, length, refl, sym, ap, subst, ◌∙◌, Option, Some, None, Bool, true, false, arith, option_map}
-use Rattle.std.specs.Prelude.{find, nat_lt, if◌then◌else◌}
+use Rattle.std.specs.Prelude.{find, if◌then◌else◌}
 use Rattle.std.specs.Str.{bytes_eq}
 use Rattle.std.proofs.lemmas.Bool.{le-ltb}
 use Rattle.lp_base.specs.declared.place.Spot.{Spot}
 use Rattle.lp_calculus.specs.Types.{Ty}
 use Rattle.lp_calculus.specs.Typing.{Scheme}
-use Rattle.lp_term.specs.Nodes.{type_tree}
 use Rattle.lp_model.specs.Schemes.{standard_schemes, entry}
 use Rattle.lp_sig.specs.declared.signature.Signature.{Signature}
 use Rattle.lp_sig.specs.declared.entries.ConstantEntry.{ConstantEntry}
-use Rattle.lp_infer.specs.Typing.{Raw, raw_index, raw_constant}
+use Rattle.lp_infer.specs.Typing.{Raw}
 use Rattle.lp_sig.specs.Pieces.{spelled, begins_variable}
 use Rattle.lp_sig.specs.Places.{first_place}
 use Rattle.lp_sig.specs.Rows.{found, number_row}
 use Rattle.lp_sig.specs.Standard.{standard_constants}
-use Rattle.lp_infer.specs.Texts.{Read, is_blank, variable_index, entry_scheme, constant_scheme, read_constant, read_number, read_variable, read_free, read_bound, read_name}
+use Rattle.lp_infer.specs.Texts.{Read, is_blank, variable_index, entry_scheme, constant_scheme, read_number, read_variable, read_free, read_bound, read_name}
 use Rattle.lp_infer.specs.Firsts.{AreFirsts}
-use Rattle.lp_infer.specs.Levels.{HasScope}
 use Rattle.lp_infer.specs.Postfix.{is_index, postfix, mark, scheme_or, IsStep}
 use Rattle.lp_infer.specs.Visits.{IsLeafRead, LeafRead}
 use Rattle.lp_infer.specs.declared.lookup.Step.{Step}
-use Rattle.lp_infer.specs.declared.lookup.Step.TheVariants as step
 use Rattle.lp_infer.specs.declared.lookup.Lookup.{Lookup}
 
 -- the same, said otherwise

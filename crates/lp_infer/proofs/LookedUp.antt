@@ -1,5 +1,5 @@
 -- What a text reads as once all its tasks are done; and the numbers of the type variables of annotations.
-use Rattle.std.proofs.Common.{◌≡◌, ℕ, zero, suc, ◌+◌, ◌-◌, ◌<◌, ◌≤◌, List, [], ◌∷◌, ◌++◌, map, length, get_or, refl, sym, ap, subst, ◌∙◌, Option, Some, None, Bool, true, false, option_map, arith}
+use Rattle.std.proofs.Common.{◌≡◌, ℕ, suc, ◌+◌, ◌-◌, ◌<◌, ◌≤◌, List, [], ◌∷◌, ◌++◌, map, length, get_or, refl, sym, ap, subst, ◌∙◌, Option, Some, None, Bool, true, false, option_map, arith}
 use Rattle.std.proofs.Common.{inl, inr}
 use Rattle.std.specs.Prelude.{nat_lt, if◌then◌else◌, slice_get, ◌⊎◌}
 use Rattle.std.specs.Str.{bytes_eq}
@@ -19,7 +19,7 @@ use Rattle.lp_infer.specs.Typing.{Raw}
 use Rattle.lp_infer.specs.Texts.{Notes, Reads, read_leaf}
 use Rattle.lp_infer.specs.Levels.{HasScope}
 use Rattle.lp_infer.specs.Postfix.{postfix}
-use Rattle.lp_infer.specs.Visits.{Agrees, Runs, marks, Looked, LeafRead, TaskDone, HasNoNote, IsLookedUp, HasNoReading}
+use Rattle.lp_infer.specs.Visits.{Agrees, marks, Looked, LeafRead, TaskDone, HasNoNote, IsLookedUp, HasNoReading}
 use Rattle.lp_infer.proofs.Visiting.{reads_nowhere, no_leaf, parts_older, body_older, reads_abs}
 use Rattle.lp_infer.proofs.Passing.{past_leaf}
 use Rattle.lp_infer.specs.declared.lookup.Task.{Task}

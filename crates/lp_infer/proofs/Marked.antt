@@ -1,5 +1,5 @@
 -- The list of a text gives what the text gives, and leads back to the text.
-use Rattle.std.proofs.Common.{◌≡◌, ℕ, suc, ◌+◌, List, [], ◌∷◌, ◌++◌, map, refl, sym, ap, ◌∙◌, Option, Some, None}
+use Rattle.std.proofs.Common.{◌≡◌, ℕ, suc, ◌+◌, List, [], ◌∷◌, ◌++◌, map, refl, sym, ap, ◌∙◌, Option, None}
 use Rattle.std.proofs.lemmas.List.{append-nil, append_assoc, map-append}
 use Rattle.lp_calculus.specs.Types.{Ty, var, arrow, instance}
 use Rattle.lp_calculus.specs.Typing.{type_at}
@@ -7,7 +7,7 @@ use Rattle.lp_types.specs.Equations.{Equation, equation}
 use Rattle.lp_infer.specs.Typing.{Raw, raw_index, raw_constant, raw_integer, raw_text, raw_abs, raw_app, put_given, put_raw, term_arguments}
 use Rattle.lp_infer.specs.Generate.{fresh, given_equation, generate}
 use Rattle.lp_infer.specs.Postfix.{Mark, is_index, is_constant, is_integer, is_text, opens, closes, applies, postfix}
-use Rattle.lp_infer.specs.Running.{Sofar, sofar, act, run}
+use Rattle.lp_infer.specs.Running.{Sofar, sofar, run}
 
 -- what a text does
 abbrev after : Raw → List Ty → ℕ → List Equation → List Ty → List Ty → Sofar

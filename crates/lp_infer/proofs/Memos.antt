@@ -1,6 +1,6 @@
 -- Types that are read off with their type variables numbered: what was made stays right while more is met.
-use Rattle.std.proofs.Common.{◌≡◌, ℕ, suc, ◌+◌, ◌<◌, ◌≤◌, List, [], ◌∷◌, ◌++◌, map, reverse, length, refl, sym, ap, subst, ◌∙◌, Option, Some, None, Bool, true, false, arith, Result, Ok, Err, take, get_or, true≢false}
-use Rattle.std.specs.Prelude.{All, nat_eq, if◌then◌else◌, IfOk}
+use Rattle.std.proofs.Common.{◌≡◌, ℕ, suc, ◌+◌, ◌<◌, List, [], ◌∷◌, ◌++◌, map, reverse, length, refl, sym, ap, subst, ◌∙◌, Option, Some, None, Bool, true, false, arith, take, get_or, true≢false}
+use Rattle.std.specs.Prelude.{All, nat_eq, if◌then◌else◌}
 use Rattle.std.specs.List.{list_any, position_or_len}
 use Rattle.std.specs.Map.{lookup}
 use Rattle.std.proofs.lemmas.Bool.{eqb-true}
@@ -9,7 +9,7 @@ use Rattle.std.proofs.lemmas.List.Elements.{All-append, All-cons, All-nil}
 use Rattle.indexmap.specs.IndexMap.{IndexMap, get}
 use Rattle.indexmap.specs.IndexSet.{insert_key}
 use Rattle.indexmap.proofs.ReorderLemmas.{map-reverse}
-use Rattle.lp_calculus.specs.Types.{Ty, Tys, var, param, con, arrow, tys, types, instance, instances}
+use Rattle.lp_calculus.specs.Types.{Ty, var, param, con, arrow, tys, instance}
 use Rattle.lp_term.specs.Nodes.{Nodes, type_tree, Extends}
 use Rattle.lp_term.specs.declared.node.TypeId.{TypeId}
 use Rattle.lp_infer.specs.Numbering.{type_variables, types_variables, all_variables}
@@ -26,7 +26,7 @@ use Rattle.lp_infer.proofs.Taking.{take_more}
 use Rattle.lp_equations.specs.Reading.{AreKept, Slot, reads}
 use Rattle.lp_equations.specs.Looking.{IsUnbound}
 use Rattle.std.specs.Option.{is_some}
-use Rattle.lp_infer.proofs.Meetings.{place_absent, place_new, place_more, inserted, met_grows, met_append, all_more, all_appended, all_front, all_back, all_met, met_again, type_kept, list_kept}
+use Rattle.lp_infer.proofs.Meetings.{place_absent, place_new, inserted, met_grows, met_append, all_more, all_appended, met_again, type_kept, list_kept}
 
 -- the number of a type variable
 

@@ -1,7 +1,7 @@
 -- The types of an annotation's nodes: what the parts mean, the whole means; and numbers for its type variables.
-use Rattle.std.proofs.Common.{◌≡◌, ℕ, zero, suc, ◌+◌, ◌<◌, ◌≤◌, List, [], ◌∷◌, ◌++◌, map, length, get_or, refl, sym, ap, subst, ◌∙◌, Option, Some, None, Bool, true, false, true≢false, arith, option_map}
+use Rattle.std.proofs.Common.{◌≡◌, ℕ, zero, suc, ◌<◌, ◌≤◌, List, [], ◌∷◌, ◌++◌, map, length, get_or, refl, sym, ap, subst, ◌∙◌, Option, Some, None, Bool, true, false, true≢false, arith, option_map}
 use Rattle.std.proofs.Common.{inl, inr}
-use Rattle.std.specs.Prelude.{All, slice_get, Contains, if◌then◌else◌, Vec, ◌⊎◌, nat_eq, ◌==◌}
+use Rattle.std.specs.Prelude.{slice_get, Contains, if◌then◌else◌, Vec, ◌⊎◌, ◌==◌}
 use Rattle.std.specs.Global.{Global}
 use Rattle.std.specs.Str.{bytes_eq}
 use Rattle.std.proofs.lemmas.List.{map-append, length-map}
@@ -20,13 +20,13 @@ use Rattle.lp_sig.specs.declared.signature.Signature.{Signature}
 use Rattle.lp_sig.specs.Pieces.{spelled, begins_variable}
 use Rattle.lp_sig.specs.Places.{first_place}
 use Rattle.lp_infer.specs.Texts.{Notes, is_blank, variable_type, kind_type, abbreviated_type, word_type, Means, word, function, AllMean, no_parts, more_parts, IsNoted}
-use Rattle.lp_infer.specs.Firsts.{number_in, AreFirsts}
-use Rattle.lp_infer.specs.Levels.{HasScope, level_of}
+use Rattle.lp_infer.specs.Firsts.{AreFirsts}
+use Rattle.lp_infer.specs.Levels.{HasScope}
 use Rattle.lp_infer.specs.Postfix.{IsGivenKnown, given_type}
 use Rattle.lp_infer.specs.declared.firsts.Firsts.{Firsts}
 use Rattle.lp_infer.specs.declared.lookup.Step.TheVariants as step
 use Rattle.lp_infer.specs.Visits.{Agrees, noted_types, NotesGrow, IsNoteRead, IsBegun, IsOpened}
-use Rattle.lp_infer.specs.Noted.{joined, known_at, NodeNoted, AreNoted, KindNoted, NoteRead}
+use Rattle.lp_infer.specs.Noted.{known_at, NodeNoted, AreNoted, KindNoted, NoteRead}
 use Rattle.lp_syntax.specs.declared.text.RawType.{RawType}
 use Rattle.lp_infer.specs.Copies.{AreTypes, IsType, trees_of}
 use Rattle.lp_infer.proofs.Copying.{trees_stay, tys_instance, map_twice}

@@ -1,31 +1,30 @@
 -- Each task that is done keeps what `Looked` says.
-use Rattle.std.proofs.Common.{◌≡◌, ℕ, ◌+◌, ◌<◌, ◌≤◌, List, [], ◌∷◌, ◌++◌, map, length, refl, sym, ap, subst, ◌∙◌, Option, Some, None, arith}
+use Rattle.std.proofs.Common.{◌≡◌, ℕ, ◌<◌, ◌≤◌, List, [], ◌∷◌, ◌++◌, map, length, refl, sym, ap, subst, ◌∙◌, Option, Some}
 use Rattle.std.specs.Prelude.{All, slice_get}
 use Rattle.std.proofs.lemmas.List.{map-append, append-nil, append_assoc}
-use Rattle.std.proofs.lemmas.List.Elements.{All-append, All-cons, All-nil, All-head, All-tail}
+use Rattle.std.proofs.lemmas.List.Elements.{All-append, All-cons, All-nil}
 use Rattle.lp_base.specs.declared.place.Spot.{Spot}
-use Rattle.lp_calculus.specs.Types.{Ty, instance}
-use Rattle.lp_term.specs.Nodes.{Nodes, type_tree, Extends}
-use Rattle.lp_term.specs.declared.node.TypeId.{TypeId}
+use Rattle.lp_calculus.specs.Types.{Ty}
+use Rattle.lp_term.specs.Nodes.{Extends}
 use Rattle.lp_term.proofs.Trees.{extends_same}
 use Rattle.lp_syntax.specs.declared.text.RawNode.{RawNode}
 use Rattle.lp_syntax.specs.declared.text.RawNode.TheVariants.{App, Abs}
 use Rattle.lp_syntax.specs.declared.text.RawType.{RawType}
 use Rattle.lp_sig.specs.declared.signature.Signature.{Signature}
 use Rattle.lp_sig.specs.Pieces.{spelled}
-use Rattle.lp_infer.specs.Typing.{Raw, raw_app, raw_abs}
-use Rattle.lp_infer.specs.Texts.{Notes, Read, Reads, leaf, application, abstraction, IsNoted, read_leaf}
+use Rattle.lp_infer.specs.Typing.{raw_app, raw_abs}
+use Rattle.lp_infer.specs.Texts.{Notes, leaf, application, abstraction, IsNoted, read_leaf}
 use Rattle.lp_infer.specs.Firsts.{AreFirsts}
 use Rattle.lp_infer.specs.Levels.{HasScope, level_of}
-use Rattle.lp_infer.specs.Postfix.{Mark, opens, closes, applies, postfix, mark, given_type, IsGivenKnown, IsStep}
-use Rattle.lp_infer.specs.Visits.{Agrees, behind, Runs, AreOpen, noted_types, marks, Looked, IsLeafRead, IsNoteRead, IsOpened}
+use Rattle.lp_infer.specs.Postfix.{Mark, opens, closes, applies, postfix, mark, given_type, IsStep}
+use Rattle.lp_infer.specs.Visits.{Agrees, behind, Runs, AreOpen, noted_types, marks, Looked, IsLeafRead, IsOpened}
 use Rattle.lp_infer.specs.declared.lookup.Step.{Step}
 use Rattle.lp_infer.specs.declared.lookup.Step.TheVariants as step
 use Rattle.lp_infer.specs.declared.lookup.Task.{Task}
 use Rattle.lp_infer.specs.declared.lookup.Task.TheVariants as task
 use Rattle.lp_infer.specs.declared.lookup.Lookup.{Lookup}
 use Rattle.lp_infer.proofs.Meanings.{noted_once}
-use Rattle.lp_infer.proofs.Visiting.{mark_same, map_agree, step_more, reads_leaf, OfApplication, reads_app, OfAbstraction, reads_abs}
+use Rattle.lp_infer.proofs.Visiting.{mark_same, map_agree, step_more, reads_leaf, reads_app, reads_abs}
 
 known_pushed : (n m : ℕ) (old new : List Step) (s : Step) → n ≤ m → new ≡ old ++ s ∷ [] → All (IsStep n) old → IsStep m s → All (IsStep m) new
 known_pushed n m old new s l e h k =

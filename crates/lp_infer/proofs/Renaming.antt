@@ -1,12 +1,12 @@
 -- What elaborates is typed in the calculus and leaves the text; types put for type variables keep a typing, and other names for the
 -- type variables keep a principal one.
 use Rattle.std.proofs.Common.{◌≡◌, ℕ, zero, suc, List, [], ◌∷◌, map, length, Option, Some, None, refl, sym, ap, ◌∙◌, subst}
-use Rattle.std.specs.Prelude.{slice_get, nat_eq, if◌then◌else◌}
+use Rattle.std.specs.Prelude.{slice_get, if◌then◌else◌}
 use Rattle.std.proofs.lemmas.List.{length-map}
 use Rattle.std.proofs.lemmas.Bool.{eq-eqb}
 use Rattle.lp_calculus.specs.Types.{Ty, arrow, instance}
-use Rattle.lp_calculus.specs.Term.{Term, abs, app}
-use Rattle.lp_calculus.specs.Typing.{Scheme, o_type, type_at, scheme_type, Context, atom_type, HasType, Typed}
+use Rattle.lp_calculus.specs.Term.{Term}
+use Rattle.lp_calculus.specs.Typing.{Scheme, o_type, type_at, scheme_type, Context, Typed}
 use Rattle.lp_calculus.proofs.TypeLaws.{instance-instance}
 use Rattle.lp_infer.specs.Typing.{Raw, raw_index, raw_constant, raw_integer, raw_text, raw_abs, raw_app, put_given, put_raw, IsGiven, Elaborates, Leaves, AreDeclared, Typing, IsTyping, instance_term, put_typing, IsPrincipal}
 use Rattle.lp_infer.proofs.Principal.{scheme_instance, map_map, term_twice}

@@ -1,6 +1,6 @@
 -- The first undeclared name is found: each task that is done keeps what `Scanned` says. A name that is bound has a level, and the levels are those of
 -- the abstractions that are open.
-use Rattle.std.proofs.Common.{◌≡◌, ℕ, ◌≤◌, ◌<◌, List, [], ◌∷◌, ◌++◌, length, reverse, refl, sym, ap, subst, ◌∙◌, Bool, true, false, arith, Option, Some, None, inl, inr, true≢false, Result, Ok, Err}
+use Rattle.std.proofs.Common.{◌≡◌, ℕ, List, [], ◌∷◌, ◌++◌, length, reverse, refl, sym, ap, subst, ◌∙◌, Bool, true, false, arith, Option, Some, None, inl, inr, true≢false, Result, Ok, Err}
 use Rattle.std.specs.Prelude.{Contains, ◌⊎◌, ◌||◌, IfSome, IfOk, OnOk, slice_get, if◌then◌else◌}
 use Rattle.std.specs.Map.{lookup}
 use Rattle.std.proofs.lemmas.List.{reverse-append}
@@ -19,7 +19,7 @@ use Rattle.lp_infer.specs.Scanning.{Covers, Finds, level_in, level_at, HasLevel,
 use Rattle.lp_infer.specs.declared.names.Names.{Names}
 use Rattle.lp_infer.specs.declared.names.Task.{Task}
 use Rattle.lp_infer.specs.declared.names.Task.TheVariants.{Visit, Leave}
-use Rattle.lp_infer.proofs.Finding.{finds_none, finds_as}
+use Rattle.lp_infer.proofs.Finding.{finds_none}
 
 some_same : {X : Type 0} (x y : X) → Some x ≡ Some y → x ≡ y
 some_same x y e = ap (λ o. value_or x o) e where

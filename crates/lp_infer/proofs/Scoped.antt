@@ -1,9 +1,9 @@
 -- A text that was read has its indices in scope, and the type variables of its annotations below a number.
-use Rattle.std.proofs.Common.{◌≡◌, ℕ, zero, suc, ◌+◌, ◌-◌, ◌<◌, ◌≤◌, List, [], ◌∷◌, ◌++◌, map, length, refl, sym, ap, subst, ◌∙◌, Option, Some, None, Bool, true, false, arith}
-use Rattle.std.specs.Prelude.{nat_eq, nat_lt, if◌then◌else◌, option_map, slice_range}
+use Rattle.std.proofs.Common.{◌≡◌, ℕ, suc, ◌+◌, ◌<◌, ◌≤◌, List, [], ◌∷◌, ◌++◌, map, length, refl, sym, ap, subst, Option, Some, None, Bool, true, false, arith}
+use Rattle.std.specs.Prelude.{nat_eq, if◌then◌else◌}
 use Rattle.std.proofs.lemmas.List.{length-map, length-append}
 use Rattle.lp_base.specs.declared.place.Spot.{Spot}
-use Rattle.lp_calculus.specs.Types.{Ty, Tys, var, con, arrow, tys, types, no_types, instance}
+use Rattle.lp_calculus.specs.Types.{Ty, con, tys, instance}
 use Rattle.lp_calculus.specs.Typing.{Scheme, type_at}
 use Rattle.lp_types.specs.Equations.{Below, AllBelow}
 use Rattle.lp_syntax.specs.declared.text.RawNode.{RawNode}

@@ -1,6 +1,6 @@
 -- The declared types of the standard constants at types for their type variables.
-use Rattle.std.proofs.Common.{◌≡◌, ℕ, zero, suc, ◌+◌, ◌-◌, ◌<◌, ◌≤◌, refl, sym, ap, subst, ◌∙◌, arith}
-use Rattle.lp_calculus.specs.Types.{Ty, con, arrow, no_types, instance}
+use Rattle.std.proofs.Common.{◌≡◌, ℕ, zero, suc, ◌+◌, ◌-◌, ◌<◌, ◌≤◌, refl, ap, ◌∙◌, arith}
+use Rattle.lp_calculus.specs.Types.{Ty, arrow, instance}
 use Rattle.lp_calculus.specs.Typing.{o_type, int_type, string_type, list_type}
 use Rattle.lp_model.specs.Schemes.{standard_schemes, entry, on_two}
 use Rattle.lp_infer.specs.Postfix.{scheme_or}

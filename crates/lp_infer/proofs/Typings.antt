@@ -1,5 +1,5 @@
 -- A text under a most general solution of its equations, with its type variables numbered as they are met, is the principal typing.
-use Rattle.std.proofs.Common.{◌≡◌, ℕ, zero, suc, ◌+◌, List, [], ◌∷◌, ◌++◌, map, reverse, length, take, drop, refl, sym, ap, subst, ◌∙◌}
+use Rattle.std.proofs.Common.{◌≡◌, ℕ, suc, ◌+◌, List, [], ◌∷◌, ◌++◌, map, reverse, length, take, drop, refl, sym, ap, subst, ◌∙◌}
 use Rattle.std.proofs.lemmas.List.{append-nil, append_assoc, map-append, reverse-reverse, length-map, length-reverse}
 use Rattle.indexmap.proofs.ReorderLemmas.{map-reverse}
 use Rattle.lp_calculus.specs.Types.{Ty, var, instance}
@@ -8,11 +8,10 @@ use Rattle.lp_calculus.specs.Term as term
 use Rattle.lp_types.specs.Equations.{IsMostGeneral}
 use Rattle.lp_term.specs.Nodes.{Nodes, type_tree, tree}
 use Rattle.lp_model.specs.declared.program.Typed.{Typed}
-use Rattle.lp_base.specs.declared.place.Spot.{Spot}
 use Rattle.lp_infer.specs.Typing.{Raw, raw_index, raw_constant, raw_integer, raw_text, raw_abs, raw_app, Typing, IsPrincipal, instance_term, instance_atom, put_typing, atom_arguments, term_arguments}
 use Rattle.lp_infer.specs.Generate.{fresh, generate, generated, typing_under, IsScoped}
 use Rattle.lp_infer.specs.Numbering.{all_variables, type_variables, typing_variables, typing_of, AreNumbered}
-use Rattle.lp_infer.specs.Meeting.{place, met, AllMet, renaming, unnaming}
+use Rattle.lp_infer.specs.Meeting.{AllMet, renaming, unnaming}
 use Rattle.lp_infer.specs.Filling.{fills}
 use Rattle.lp_infer.specs.Formulas.{variables_of, in_order}
 use Rattle.lp_infer.proofs.Principal.{principal, typing_same, map_map, term_twice, fresh_length}

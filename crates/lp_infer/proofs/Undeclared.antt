@@ -1,5 +1,5 @@
 -- The words of an annotation are looked at one by one.
-use Rattle.std.proofs.Common.{◌≡◌, ℕ, zero, suc, ◌+◌, ◌≤◌, ◌<◌, List, [], ◌∷◌, ◌++◌, length, get_or, take, refl, sym, ap, subst, ◌∙◌, arith, Option, Some, None, inl, inr}
+use Rattle.std.proofs.Common.{◌≡◌, ℕ, zero, suc, ◌+◌, ◌≤◌, ◌<◌, List, [], ◌∷◌, ◌++◌, length, get_or, take, refl, sym, ap, subst, ◌∙◌, arith, Option, inl, inr}
 use Rattle.std.specs.Prelude.{Contains, ◌⊎◌}
 use Rattle.std.proofs.Math.Seq.{take-suc}
 use Rattle.std.proofs.lemmas.List.{append-nil}
@@ -9,7 +9,7 @@ use Rattle.lp_syntax.specs.declared.text.RawTypeNode.{RawTypeNode}
 use Rattle.lp_syntax.specs.declared.text.RawTypeNode.TheVariants.{Word, Arrow}
 use Rattle.lp_sig.specs.Refusals.{words_of}
 use Rattle.lp_infer.specs.Scanning.{Finds}
-use Rattle.lp_infer.proofs.Finding.{finds_as, finds_then, finds_none}
+use Rattle.lp_infer.proofs.Finding.{finds_then}
 
 pub no_words : (s : Spot) → Contains [] s → ⊥
 no_words s c = omega (arith, c.1)

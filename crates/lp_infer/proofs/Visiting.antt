@@ -1,11 +1,10 @@
 -- A text while its nodes are gone through: each step keeps that the list so far and what the tasks give are what the root gives.
-use Rattle.std.proofs.Common.{◌≡◌, ℕ, ◌+◌, ◌<◌, ◌≤◌, List, [], ◌∷◌, ◌++◌, map, length, refl, sym, ap, subst, ◌∙◌, Option, Some, None, arith}
+use Rattle.std.proofs.Common.{◌≡◌, ℕ, ◌<◌, ◌≤◌, List, [], ◌∷◌, map, length, refl, sym, ap, subst, ◌∙◌, Option, Some, None, arith}
 use Rattle.std.specs.Prelude.{All, slice_get}
-use Rattle.std.proofs.lemmas.List.{map-append, append-nil, append_assoc}
-use Rattle.std.proofs.lemmas.List.Elements.{All-append, All-cons, All-nil, All-head, All-tail, All-map}
+use Rattle.std.proofs.lemmas.List.Elements.{All-head, All-tail}
 use Rattle.lp_base.specs.declared.place.Spot.{Spot}
 use Rattle.lp_calculus.specs.Types.{Ty, instance}
-use Rattle.lp_term.specs.Nodes.{Nodes, type_tree, Extends}
+use Rattle.lp_term.specs.Nodes.{Nodes, Extends}
 use Rattle.lp_term.specs.declared.node.TypeId.{TypeId}
 use Rattle.lp_syntax.specs.declared.text.RawNode.{RawNode}
 use Rattle.lp_syntax.specs.declared.text.RawNode.TheVariants.{App, Abs}
@@ -13,17 +12,12 @@ use Rattle.lp_syntax.specs.declared.text.RawType.{RawType}
 use Rattle.lp_sig.specs.declared.signature.Signature.{Signature}
 use Rattle.lp_sig.specs.Pieces.{spelled}
 use Rattle.lp_infer.specs.Typing.{Raw, raw_app, raw_abs}
-use Rattle.lp_infer.specs.Texts.{Notes, Read, Reads, leaf, application, abstraction, IsNoted, read_leaf}
-use Rattle.lp_infer.specs.Firsts.{AreFirsts}
-use Rattle.lp_infer.specs.Levels.{HasScope, level_of}
-use Rattle.lp_infer.specs.Postfix.{Mark, opens, closes, applies, postfix, mark, given_type, IsGivenKnown, IsStep}
-use Rattle.lp_infer.specs.Visits.{Agrees, behind, Runs, AreOpen, noted_types, marks, Looked, IsLeafRead, IsNoteRead, IsOpened}
+use Rattle.lp_infer.specs.Texts.{Notes, Reads, leaf, application, abstraction, IsNoted, read_leaf}
+use Rattle.lp_infer.specs.Postfix.{opens, mark, given_type, IsGivenKnown, IsStep}
+use Rattle.lp_infer.specs.Visits.{noted_types}
 use Rattle.lp_infer.specs.declared.lookup.Step.{Step}
 use Rattle.lp_infer.specs.declared.lookup.Step.TheVariants as step
-use Rattle.lp_infer.specs.declared.lookup.Task.{Task}
-use Rattle.lp_infer.specs.declared.lookup.Task.TheVariants as task
-use Rattle.lp_infer.specs.declared.lookup.Lookup.{Lookup}
-use Rattle.lp_infer.proofs.Meanings.{some_same, noted_once}
+use Rattle.lp_infer.proofs.Meanings.{some_same}
 
 -- the marks of older steps stay
 

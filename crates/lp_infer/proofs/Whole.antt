@@ -1,18 +1,17 @@
 -- The typings of a text are those of the text with its names looked up.
-use Rattle.std.proofs.Common.{◌≡◌, ℕ, ◌+◌, List, [], ◌∷◌, ◌++◌, map, length, refl, sym, ap, subst, ◌∙◌, Option, Some, None}
+use Rattle.std.proofs.Common.{◌≡◌, ℕ, List, [], ◌∷◌, map, length, refl, sym, ap, subst, ◌∙◌, Option, Some, None}
 use Rattle.lp_base.specs.declared.place.Spot.{Spot}
 use Rattle.lp_calculus.specs.Types.{Ty, var, instance}
 use Rattle.lp_calculus.specs.Typing.{o_type}
-use Rattle.lp_calculus.proofs.TypeLaws.{instance-instance}
 use Rattle.lp_types.proofs.Types.{instance-var}
 use Rattle.lp_term.specs.Nodes.{Nodes, type_tree}
 use Rattle.lp_term.specs.declared.node.TypeId.{TypeId}
 use Rattle.lp_syntax.specs.declared.text.RawTerm.{RawTerm}
 use Rattle.lp_sig.specs.declared.signature.Signature.{Signature}
-use Rattle.lp_infer.specs.Typing.{Raw, raw_index, raw_constant, raw_integer, raw_text, raw_abs, raw_app, put_given, put_raw, Elaborates, Typing, IsTyping, IsPrincipal, HasNoTyping, instance_term, put_typing}
+use Rattle.lp_infer.specs.Typing.{Raw, put_given, put_raw, Elaborates, Typing, IsTyping, IsPrincipal, HasNoTyping, put_typing}
 use Rattle.lp_infer.specs.Texts.{Reads, IsTextTyping, IsPrincipalTyping, HasNoTextTyping}
-use Rattle.lp_infer.specs.Postfix.{Mark, is_index, is_constant, is_integer, is_text, opens, closes, applies, postfix, mark, given_type}
-use Rattle.lp_infer.specs.Visits.{Agrees, noted_types, marks, IsLookedUp}
+use Rattle.lp_infer.specs.Postfix.{opens, postfix, mark, given_type}
+use Rattle.lp_infer.specs.Visits.{noted_types, marks, IsLookedUp}
 use Rattle.lp_infer.specs.declared.lookup.Step.{Step}
 use Rattle.lp_infer.specs.declared.lookup.Step.TheVariants as step
 use Rattle.lp_infer.specs.declared.lookup.Lookup.{Lookup}

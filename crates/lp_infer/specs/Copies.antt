@@ -1,7 +1,7 @@
 -- Copies of the types of one bank in another, with types for their variables.
-use Rattle.std.specs.Prelude.{◌≡◌, ℕ, ◌<◌, List, map, length, All, Option, Some, nat_eq}
+use Rattle.std.specs.Prelude.{◌≡◌, ℕ, ◌<◌, List, map, length, All, Some, nat_eq}
 use Rattle.indexmap.specs.IndexMap.{IndexMap, get}
-use Rattle.lp_calculus.specs.Types.{Ty, instance}
+use Rattle.lp_calculus.specs.Types.{Ty}
 use Rattle.lp_calculus.specs.Typing.{type_at}
 use Rattle.lp_term.specs.Nodes.{Nodes, type_tree}
 use Rattle.lp_term.specs.declared.node.TypeId.{TypeId}

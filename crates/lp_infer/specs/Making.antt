@@ -1,5 +1,5 @@
 -- The equations of a text while its parts are gone through: what stands in the bank, as trees.
-use Rattle.std.specs.Prelude.{◌≡◌, ℕ, suc, ◌+◌, ◌<◌, List, [], ◌∷◌, ◌++◌, map, reverse, length, All}
+use Rattle.std.specs.Prelude.{◌≡◌, ℕ, ◌+◌, List, [], ◌∷◌, ◌++◌, map, reverse, length, All}
 use Rattle.lp_calculus.specs.Types.{Ty, instance}
 use Rattle.lp_calculus.specs.Typing.{Scheme, o_type, type_at}
 use Rattle.lp_types.specs.Equations.{Equation, equation}
@@ -9,7 +9,7 @@ use Rattle.lp_equations.specs.declared.bindings.Pair.{Pair}
 use Rattle.lp_equations.specs.Reading.{IsPair}
 use Rattle.lp_sig.specs.declared.signature.Signature.{Signature}
 use Rattle.lp_infer.specs.Generate.{fresh}
-use Rattle.lp_infer.specs.Postfix.{Mark, mark, IsStep}
+use Rattle.lp_infer.specs.Postfix.{mark}
 use Rattle.lp_infer.specs.Running.{Sofar, sofar, run}
 use Rattle.lp_infer.specs.Copies.{trees_of, AreTypes, IsType}
 use Rattle.lp_infer.specs.declared.lookup.Step.{Step}

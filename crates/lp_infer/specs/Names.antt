@@ -1,11 +1,9 @@
 -- What it is for a name not to be declared.
-use Rattle.std.specs.Prelude.{◌≡◌, ℕ, ◌⊎◌, List, [], ◌∷◌, ◌++◌, map, Option, Some, None, Contains, false}
+use Rattle.std.specs.Prelude.{◌≡◌, ℕ, List, [], ◌++◌, map, Option, Some, None, false}
 use Rattle.lp_base.specs.declared.place.Spot.{Spot}
-use Rattle.lp_syntax.specs.declared.text.RawNode.{RawNode}
-use Rattle.lp_syntax.specs.declared.text.RawNode.TheVariants.{Name, Known, Number, Text, App, Abs}
 use Rattle.lp_syntax.specs.declared.text.RawType.{RawType}
 use Rattle.lp_sig.specs.declared.signature.Signature.{Signature}
-use Rattle.lp_sig.specs.Pieces.{spelled, begins_variable}
+use Rattle.lp_sig.specs.Pieces.{begins_variable}
 use Rattle.lp_sig.specs.Refusals.{words_of}
 use Rattle.lp_sig.specs.Rows.{found, kind_row, number_row, abbreviation_row}
 use Rattle.lp_sig.specs.Standard.{standard_kinds, standard_constants}

@@ -1,5 +1,5 @@
 -- The types of an annotation's nodes, one after the other.
-use Rattle.std.specs.Prelude.{◌≡◌, ℕ, ◌<◌, List, [], ◌∷◌, map, length, Option, Some, None, slice_get, Contains, Vec, ◌++◌}
+use Rattle.std.specs.Prelude.{◌≡◌, ℕ, ◌<◌, List, map, length, Option, Some, None, slice_get, Contains, Vec, ◌++◌}
 use Rattle.std.specs.Global.{Global}
 use Rattle.lp_calculus.specs.Types.{Ty}
 use Rattle.lp_term.specs.declared.node.TypeId.{TypeId}

@@ -1,6 +1,5 @@
 -- The numbers of the type variables of a typing: by first place in the variables' types and then in the formula.
 use Rattle.std.specs.Prelude.{◌≡◌, ℕ, suc, ◌<◌, ◌⊎◌, List, [], ◌∷◌, ◌++◌, map, reverse}
-use Rattle.lp_base.specs.declared.place.Spot.{Spot}
 use Rattle.lp_calculus.specs.Types.{Ty, Tys, var, param, con, arrow, no_types, types}
 use Rattle.lp_term.specs.Nodes.{Nodes, type_tree, tree}
 use Rattle.lp_syntax.specs.declared.text.RawTerm.{RawTerm}

@@ -1,5 +1,5 @@
 -- A text as a list of its parts, each behind those that it is made of.
-use Rattle.std.specs.Prelude.{◌≡◌, ℕ, suc, ◌+◌, ◌-◌, ◌<◌, List, [], ◌∷◌, ◌++◌, Option, Some, None, ℤ}
+use Rattle.std.specs.Prelude.{ℕ, suc, ◌+◌, ◌-◌, ◌<◌, List, [], ◌∷◌, ◌++◌, Option, Some, None, ℤ}
 use Rattle.lp_calculus.specs.Types.{Ty}
 use Rattle.lp_calculus.specs.Typing.{Scheme, o_type}
 use Rattle.lp_term.specs.Nodes.{Nodes, type_tree}

@@ -1,9 +1,9 @@
 -- The undeclared names of a text, each in the scope of its abstractions.
-use Rattle.std.specs.Prelude.{◌≡◌, ℕ, ◌≤◌, ◌||◌, List, [], ◌∷◌, Bool, true, false, Option, Some, None, Contains, slice_get}
+use Rattle.std.specs.Prelude.{◌≡◌, ℕ, ◌≤◌, ◌||◌, List, [], ◌∷◌, Bool, false, Option, Some, None, Contains, slice_get}
 use Rattle.std.specs.Str.{bytes_eq}
 use Rattle.lp_base.specs.declared.place.Spot.{Spot}
 use Rattle.lp_syntax.specs.declared.text.RawNode.{RawNode}
-use Rattle.lp_syntax.specs.declared.text.RawNode.TheVariants.{Name, Known, Number, Text, App, Abs}
+use Rattle.lp_syntax.specs.declared.text.RawNode.TheVariants.{Name, App, Abs}
 use Rattle.lp_syntax.specs.declared.text.RawType.{RawType}
 use Rattle.lp_sig.specs.declared.signature.Signature.{Signature}
 use Rattle.lp_sig.specs.Pieces.{spelled}

@@ -1,4 +1,4 @@
-use Rattle.std.proofs.Common.{◌∙◌, ◌++◌, ◌∷◌, [], sym, ap, map, take, get_or, Some}
+use Rattle.std.proofs.Common.{◌∙◌, ◌++◌, ◌∷◌, [], sym, ap, map, get_or, Some}
 use Rattle.lp_infer.specs.Noted.{known_at}
 use Rattle.lp_infer.proofs.Taking.{take_more, take_whole, any_default, map_pushed}
 use Rattle.lp_infer.proofs.annotation.types_at.Goals as goal

@@ -1,4 +1,4 @@
-use Rattle.std.proofs.Common.{◌≡◌, ◌∙◌, sym, ap, subst, length, map, take, drop}
+use Rattle.std.proofs.Common.{◌∙◌, sym, ap, subst, length, take, drop}
 use Rattle.lp_infer.specs.Copies.{AreTypes, trees_of}
 use Rattle.lp_infer.specs.Filling.{fills, IsTerm}
 use Rattle.lp_infer.specs.ReadingOff.{bound_type, ReadsAll}

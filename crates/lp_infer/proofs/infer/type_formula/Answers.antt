@@ -1,4 +1,4 @@
-use Rattle.std.proofs.Common.{◌≡◌, refl, subst}
+use Rattle.std.proofs.Common.{refl, subst}
 use Rattle.std.specs.Prelude.{MatchOption}
 use Rattle.lp_infer.specs.Scope.{IsFirstUndeclared}
 use Rattle.lp_infer.specs.Texts.{HasNoTextTyping}

@@ -1,4 +1,4 @@
-use Rattle.std.proofs.Common.{◌≡◌, ◌∙◌, ◌+◌, sym, ap, subst, length, arith}
+use Rattle.std.proofs.Common.{◌≡◌, ◌+◌, sym, subst, length, arith}
 use Rattle.std.specs.Prelude.{All, MatchOption}
 use Rattle.std.proofs.lemmas.Grind.{common_steps}
 use Rattle.lp_calculus.specs.Types.{var}

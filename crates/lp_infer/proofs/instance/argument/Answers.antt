@@ -1,4 +1,3 @@
-use Rattle.std.proofs.Common.{◌∙◌, refl, sym, ap}
 use Rattle.lp_infer.proofs.Copying.{ok_type, type_of_number, no_number}
 use Rattle.lp_infer.proofs.instance.argument.Goals as goal
 

@@ -1,9 +1,9 @@
-use Rattle.std.proofs.Common.{◌∙◌, refl}
+use Rattle.std.proofs.Common.{refl}
 use Rattle.lp_calculus.specs.Types.{instance as put_in}
 use Rattle.lp_calculus.specs.Typing.{type_at}
-use Rattle.lp_term.specs.Nodes.{Extends, type_tree}
+use Rattle.lp_term.specs.Nodes.{type_tree}
 use Rattle.lp_term.proofs.Trees.{extends_same, extends-trans}
-use Rattle.lp_infer.specs.Copies.{trees_of, IsMemo}
+use Rattle.lp_infer.specs.Copies.{trees_of}
 use Rattle.lp_infer.proofs.Copying.{filling_stays, no_memo, ok_made}
 use Rattle.lp_infer.proofs.instance.instance.Goals as goal
 

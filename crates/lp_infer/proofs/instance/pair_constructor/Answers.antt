@@ -1,7 +1,3 @@
-use Rattle.std.proofs.Common.{◌∙◌, refl, sym, ap}
-use Rattle.lp_calculus.specs.Types.{arrow}
-use Rattle.lp_calculus.specs.Typing.{o_type, int_type, string_type, list_type}
-use Rattle.lp_term.specs.Nodes.{type_tree}
 use Rattle.lp_infer.proofs.Copying.{ok_type, arrows, still_known}
 use Rattle.lp_infer.proofs.instance.pair_constructor.Goals as goal
 

@@ -1,8 +1,5 @@
-use Rattle.std.proofs.Common.{◌∙◌, refl, sym, ap}
-use Rattle.lp_calculus.specs.Types.{arrow}
-use Rattle.lp_calculus.specs.Typing.{o_type, int_type, string_type, list_type}
-use Rattle.lp_term.specs.Nodes.{type_tree}
-use Rattle.lp_infer.proofs.Copying.{ok_type, arrows, still_known}
+use Rattle.std.proofs.Common.{◌∙◌}
+use Rattle.lp_infer.proofs.Copying.{ok_type, arrows}
 use Rattle.lp_infer.proofs.instance.size_type.Goals as goal
 
 pub returns-clause-tree : goal.returns-clause-tree

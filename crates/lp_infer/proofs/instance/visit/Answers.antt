@@ -1,4 +1,4 @@
-use Rattle.std.proofs.Common.{◌∙◌, refl, sym, ap}
+use Rattle.std.proofs.Common.{◌∙◌, sym, ap}
 use Rattle.lp_calculus.specs.Types.{instance as put_in}
 use Rattle.lp_term.specs.Nodes.{type_tree}
 use Rattle.lp_infer.proofs.Copying.{memo_more}

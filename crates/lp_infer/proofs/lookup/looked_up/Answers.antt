@@ -1,4 +1,4 @@
-use Rattle.std.proofs.Common.{◌≡◌, ◌∙◌, ◌∷◌, ◌++◌, [], ap, sym, subst, reverse, arith, length}
+use Rattle.std.proofs.Common.{◌∙◌, ◌∷◌, ◌++◌, [], ap, sym, subst, reverse, arith}
 use Rattle.lp_infer.specs.Visits.{Looked, TaskDone}
 use Rattle.lp_infer.specs.declared.lookup.Task.TheVariants as task
 use Rattle.lp_infer.proofs.Scanning.{reverse_push, empty_list}

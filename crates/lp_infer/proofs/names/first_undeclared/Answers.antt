@@ -1,4 +1,4 @@
-use Rattle.std.proofs.Common.{◌≡◌, ◌∙◌, ◌∷◌, ◌++◌, [], ap, sym, subst, reverse, arith, length}
+use Rattle.std.proofs.Common.{◌∙◌, ◌∷◌, ◌++◌, [], ap, sym, subst, reverse, arith}
 use Rattle.lp_infer.specs.Scanning.{Scanned}
 use Rattle.lp_infer.specs.declared.names.Task.TheVariants.{Visit}
 use Rattle.lp_infer.proofs.Scanning.{begun, ended, reverse_push, empty_list}

@@ -1,4 +1,4 @@
-use Rattle.std.proofs.Common.{◌≡◌, ◌∙◌, ◌++◌, ◌∷◌, [], refl, sym, ap, subst}
+use Rattle.std.proofs.Common.{◌∙◌, ◌++◌, ◌∷◌, [], sym, ap, subst}
 use Rattle.lp_calculus.specs.Types.{arrow}
 use Rattle.lp_term.specs.Nodes.{Extends, type_tree}
 use Rattle.lp_infer.specs.Copies.{IsType}

@@ -1,8 +1,8 @@
-use Rattle.std.proofs.Common.{◌≡◌, ◌∙◌, refl, sym, ap, subst}
+use Rattle.std.proofs.Common.{◌∙◌, refl, sym, ap}
 use Rattle.lp_calculus.specs.Types.{instance}
 use Rattle.lp_calculus.specs.Typing.{Scheme, type_at}
 use Rattle.lp_term.specs.Nodes.{type_tree}
-use Rattle.lp_infer.specs.Copies.{trees_of, AreTypes}
+use Rattle.lp_infer.specs.Copies.{trees_of}
 use Rattle.lp_infer.proofs.Scanning.{on_ok}
 use Rattle.lp_infer.proofs.Acting.{constant_made}
 use Rattle.lp_infer.proofs.generate.Typing.declared.Goals as goal

@@ -1,4 +1,4 @@
-use Rattle.std.proofs.Common.{◌≡◌, ◌<◌, ◌≤◌, ◌-◌, ◌∙◌, refl, sym, ap, length, get_or, arith, []}
+use Rattle.std.proofs.Common.{◌≡◌, ◌<◌, ◌-◌, ◌∙◌, refl, ap, length, get_or, arith, []}
 use Rattle.lp_calculus.specs.Types.{con, tys}
 use Rattle.lp_term.specs.Nodes.{type_tree}
 use Rattle.lp_infer.specs.Running.{act, pushed}

@@ -1,4 +1,3 @@
-use Rattle.std.proofs.Common.{◌≡◌, ◌+◌}
 use Rattle.lp_infer.specs.Making.{MakesFresh}
 use Rattle.lp_infer.proofs.generate.Typing.new_variables.Given as goal
 

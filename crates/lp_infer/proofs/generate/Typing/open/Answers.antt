@@ -1,4 +1,4 @@
-use Rattle.std.proofs.Common.{◌≡◌, ◌∙◌, refl, sym, ap, subst, length, None}
+use Rattle.std.proofs.Common.{◌∙◌, refl, sym, ap, subst, length, None}
 use Rattle.lp_term.specs.Nodes.{type_tree}
 use Rattle.lp_infer.specs.Running.{act}
 use Rattle.lp_infer.specs.Postfix.{opens, given_type, IsGivenKnown}

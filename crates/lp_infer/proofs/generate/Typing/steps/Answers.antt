@@ -1,4 +1,4 @@
-use Rattle.std.proofs.Common.{◌≡◌, ◌∙◌, sym, ap, subst, map, take, get_or, length}
+use Rattle.std.proofs.Common.{subst, map, take}
 use Rattle.lp_term.specs.Nodes.{type_tree}
 use Rattle.lp_infer.specs.Postfix.{mark}
 use Rattle.lp_infer.specs.Running.{run}

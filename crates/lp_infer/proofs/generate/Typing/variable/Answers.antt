@@ -1,4 +1,4 @@
-use Rattle.std.proofs.Common.{◌∙◌, sym, ap, subst}
+use Rattle.std.proofs.Common.{subst}
 use Rattle.lp_infer.specs.Running.{act}
 use Rattle.lp_infer.specs.Postfix.{is_index}
 use Rattle.lp_infer.specs.Making.{Acts}

@@ -1,4 +1,4 @@
-use Rattle.std.proofs.Common.{◌≡◌, ◌∙◌, ◌++◌, refl, sym, ap}
+use Rattle.std.proofs.Common.{◌∙◌, ◌++◌, refl, ap}
 use Rattle.lp_infer.proofs.Acting.{variables_made}
 use Rattle.lp_infer.proofs.generate.Typing.variables.Goals as goal
 

@@ -1,4 +1,4 @@
-use Rattle.std.proofs.Common.{◌∙◌, ◌++◌, map, refl, sym, ap, Some, None}
+use Rattle.std.proofs.Common.{◌∙◌, ◌++◌, map, sym, ap, Some, None}
 use Rattle.lp_sig.specs.Pieces.{spelled, begins_variable}
 use Rattle.lp_sig.specs.Rows.{found, number_row}
 use Rattle.lp_sig.specs.Standard.{standard_constants}

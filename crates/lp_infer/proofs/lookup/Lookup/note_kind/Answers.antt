@@ -1,4 +1,4 @@
-use Rattle.std.proofs.Common.{◌≡◌, ◌∙◌, sym, ap, refl, map, ℕ, Option, Some, None, option_map}
+use Rattle.std.proofs.Common.{◌∙◌, sym, ap, None, option_map}
 use Rattle.lp_infer.proofs.Noting.{kind_is, abbreviation_is}
 use Rattle.lp_infer.proofs.lookup.Lookup.note_kind.Goals as goal
 

@@ -1,8 +1,7 @@
-use Rattle.std.proofs.Common.{◌∙◌, sym, ap, refl, map}
+use Rattle.std.proofs.Common.{◌∙◌, sym, ap, refl}
 use Rattle.lp_sig.specs.Pieces.{spelled}
-use Rattle.lp_sig.specs.Places.{first_place}
 use Rattle.lp_term.proofs.Trees.{extends_same}
-use Rattle.lp_infer.specs.Firsts.{number_in, AreFirsts}
+use Rattle.lp_infer.specs.Firsts.{number_in}
 use Rattle.lp_infer.proofs.Results.{on_ok_two, if_ok_with}
 use Rattle.lp_infer.proofs.Noting.{agrees_before, number_behind}
 use Rattle.lp_infer.proofs.lookup.Lookup.note_number.Goals as goal

@@ -1,6 +1,6 @@
-use Rattle.std.proofs.Common.{◌≡◌, ◌∙◌, sym, ap, refl, subst, Some, None, map, length}
+use Rattle.std.proofs.Common.{◌∙◌, sym, ap, subst, Some, None, map, length}
 use Rattle.std.specs.Prelude.{Contains}
-use Rattle.lp_sig.specs.Pieces.{spelled, begins_variable}
+use Rattle.lp_sig.specs.Pieces.{begins_variable}
 use Rattle.lp_infer.specs.Noted.{known_at, TypesAt, KindNoted}
 use Rattle.lp_infer.proofs.Scanning.{on_ok}
 use Rattle.lp_infer.proofs.Results.{if_ok_late}

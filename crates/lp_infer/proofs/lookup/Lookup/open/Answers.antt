@@ -1,4 +1,4 @@
-use Rattle.std.proofs.Common.{◌≡◌, ◌∙◌, refl, sym, ap, subst, Some, None}
+use Rattle.std.proofs.Common.{subst, Some, None}
 use Rattle.lp_sig.specs.Pieces.{spelled}
 use Rattle.lp_infer.specs.Texts.{IsNoted}
 use Rattle.lp_infer.specs.Visits.{IsBegun}

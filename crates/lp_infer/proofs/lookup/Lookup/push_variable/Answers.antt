@@ -1,4 +1,4 @@
-use Rattle.std.proofs.Common.{◌∙◌, refl, sym, ap}
+use Rattle.std.proofs.Common.{◌∙◌, refl}
 use Rattle.lp_infer.specs.Texts.{variable_index}
 use Rattle.lp_infer.specs.declared.lookup.Step.TheVariants as step
 use Rattle.lp_infer.proofs.Leaves.{leaf_pushed, index_marked}

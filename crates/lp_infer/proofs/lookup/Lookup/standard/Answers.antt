@@ -1,4 +1,4 @@
-use Rattle.std.proofs.Common.{◌∙◌, refl, sym, ap}
+use Rattle.std.proofs.Common.{refl, ap}
 use Rattle.lp_model.specs.Schemes.{standard_schemes, entry}
 use Rattle.lp_infer.specs.Typing.{raw_constant}
 use Rattle.lp_infer.specs.Texts.{read_constant}

@@ -1,8 +1,6 @@
-use Rattle.std.proofs.Common.{◌≡◌, ◌∙◌, ◌∷◌, sym, ap, subst, refl, reverse}
+use Rattle.std.proofs.Common.{◌≡◌, ◌∷◌, subst, refl, reverse}
 use Rattle.lp_infer.specs.Levels.{HasScope, level_of}
 use Rattle.lp_infer.specs.Visits.{Looked}
-use Rattle.lp_sig.specs.Pieces.{spelled}
-use Rattle.lp_sig.specs.Places.{first_place}
 use Rattle.lp_infer.proofs.Results.{if_ok_as}
 use Rattle.lp_infer.proofs.Passing.{past_leave, past_apply}
 use Rattle.lp_infer.proofs.lookup.Lookup.take.Goals as goal

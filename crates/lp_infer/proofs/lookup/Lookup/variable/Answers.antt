@@ -1,4 +1,4 @@
-use Rattle.std.proofs.Common.{◌∙◌, refl, sym, ap, subst, Some, None}
+use Rattle.std.proofs.Common.{refl, sym, subst, Some}
 use Rattle.lp_infer.specs.Texts.{variable_index, read_variable}
 use Rattle.lp_infer.specs.Visits.{IsLeafRead}
 use Rattle.lp_infer.proofs.Scanning.{on_ok}

@@ -1,10 +1,9 @@
-use Rattle.std.proofs.Common.{◌≡◌, ◌<◌, ◌≤◌, ◌∙◌, ◌∷◌, [], ◌++◌, sym, ap, subst, refl, length, get_or, reverse, Some, None, inl, inr}
-use Rattle.std.specs.Prelude.{slice_get}
+use Rattle.std.proofs.Common.{◌≡◌, ◌<◌, ◌≤◌, ◌∙◌, ◌∷◌, sym, ap, subst, refl, length, get_or, reverse, Some, inl, inr}
 use Rattle.std.proofs.lemmas.Option.{slice_get_read, slice_get_past}
 use Rattle.lp_sig.specs.Pieces.{spelled}
 use Rattle.lp_infer.specs.Typing.{raw_integer, raw_text}
 use Rattle.lp_infer.specs.Texts.{string_bytes}
-use Rattle.lp_infer.specs.Visits.{Looked, HasNoNote, Opened}
+use Rattle.lp_infer.specs.Visits.{Looked, Opened}
 use Rattle.lp_infer.specs.declared.lookup.Step.TheVariants as step
 use Rattle.lp_infer.specs.declared.lookup.Task.TheVariants as task
 use Rattle.lp_syntax.specs.declared.text.RawNode.TheVariants as node

@@ -1,4 +1,4 @@
-use Rattle.std.proofs.Common.{◌≡◌, ◌∙◌, sym, ap, subst, Some}
+use Rattle.std.proofs.Common.{sym, subst, Some}
 use Rattle.std.specs.Prelude.{Contains, IfOk}
 use Rattle.lp_sig.specs.Pieces.{spelled}
 use Rattle.lp_infer.specs.Names.{note_words, IsNoKind}

@@ -1,6 +1,5 @@
-use Rattle.std.proofs.Common.{◌∷◌, reverse, subst, ap, sym}
+use Rattle.std.proofs.Common.{◌∷◌, reverse, subst}
 use Rattle.lp_infer.specs.Scanning.{Scanned, HasLevel}
-use Rattle.lp_infer.specs.declared.names.Task.TheVariants.{Visit, Leave}
 use Rattle.lp_infer.proofs.Scanning.{on_ok, past_end}
 use Rattle.lp_infer.proofs.names.Names.take.Goals as goal
 

@@ -1,10 +1,8 @@
-use Rattle.std.proofs.Common.{◌≡◌, ◌<◌, ◌≤◌, ◌∙◌, ◌∷◌, [], ◌++◌, sym, ap, subst, refl, length, get_or, reverse, Some, None}
-use Rattle.std.specs.Prelude.{slice_get, OnOk}
+use Rattle.std.proofs.Common.{◌≡◌, ◌<◌, ◌≤◌, ◌∙◌, sym, ap, subst, refl, length, get_or, reverse, Some, None}
 use Rattle.std.proofs.lemmas.Option.{slice_get_read, slice_get_past}
-use Rattle.std.proofs.lemmas.List.{reverse-append}
 use Rattle.lp_infer.specs.Scanning.{Scanned}
 use Rattle.lp_infer.specs.declared.names.Task.TheVariants.{Visit, Leave}
-use Rattle.lp_infer.proofs.Scanning.{Below, no_names, past_empty, past_name, past_application, past_abstraction, is_ok, reverse_two}
+use Rattle.lp_infer.proofs.Scanning.{no_names, past_empty, past_name, past_application, past_abstraction, reverse_two}
 use Rattle.lp_infer.proofs.names.Names.visit.Goals as goal
 
 pub returns-in_default : goal.returns-in_default

@@ -1,4 +1,4 @@
-use Rattle.std.proofs.Common.{◌∙◌, sym, ap, subst}
+use Rattle.std.proofs.Common.{subst}
 use Rattle.lp_calculus.specs.Types.{con, tys}
 use Rattle.lp_term.specs.Nodes.{type_tree}
 use Rattle.lp_equations.specs.Reading.{reads}

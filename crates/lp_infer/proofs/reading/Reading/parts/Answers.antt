@@ -1,4 +1,4 @@
-use Rattle.std.proofs.Common.{subst, map, sym}
+use Rattle.std.proofs.Common.{subst, map}
 use Rattle.lp_infer.specs.ReadingOff.{AreRead, bound_type}
 use Rattle.lp_infer.proofs.Taking.{take_whole}
 use Rattle.lp_infer.proofs.Memos.{none_read, more_read, list_pushed}

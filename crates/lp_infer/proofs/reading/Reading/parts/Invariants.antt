@@ -1,4 +1,4 @@
-use Rattle.std.proofs.Common.{map, take, ℕ}
+use Rattle.std.proofs.Common.{map, take}
 use Rattle.lp_term.specs.Nodes.{Nodes}
 use Rattle.lp_infer.specs.ReadingOff.{bound_type, IsReadMemo, AreRead}
 use Rattle.lp_infer.proofs.reading.Reading.parts.Given as goal

@@ -1,4 +1,4 @@
-use Rattle.std.proofs.Common.{◌<◌, ◌∙◌, sym, ap, subst, ◌++◌, ◌∷◌, [], reverse, arith}
+use Rattle.std.proofs.Common.{◌<◌, ◌∙◌, sym, ap, subst, ◌∷◌, reverse, arith}
 use Rattle.std.proofs.lemmas.List.{append-nil}
 use Rattle.lp_infer.specs.Numbering.{type_variables}
 use Rattle.lp_infer.specs.Meeting.{met}

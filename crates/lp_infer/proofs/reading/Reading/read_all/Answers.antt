@@ -1,5 +1,4 @@
 use Rattle.std.proofs.Common.{subst, take}
-use Rattle.std.proofs.Math.Seq.{take-suc}
 use Rattle.lp_term.proofs.Trees.{extends_same, extends-trans}
 use Rattle.lp_infer.specs.ReadingOff.{bound_type, ReadsAll}
 use Rattle.lp_infer.proofs.Taking.{take_whole, taken_more}

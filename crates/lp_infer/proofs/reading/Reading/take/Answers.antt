@@ -1,7 +1,7 @@
-use Rattle.std.proofs.Common.{◌<◌, ◌∙◌, sym, ap, subst, ◌∷◌, reverse}
+use Rattle.std.proofs.Common.{◌<◌, sym, subst, ◌∷◌, reverse}
 use Rattle.std.specs.Prelude.{OnOk}
 use Rattle.lp_infer.specs.ReadingOff.{bound_type, cost, IsTaken}
-use Rattle.lp_infer.proofs.Results.{on_ok_as, on_ok_two}
+use Rattle.lp_infer.proofs.Results.{on_ok_as}
 use Rattle.lp_infer.proofs.Memos.{taken_build}
 use Rattle.lp_infer.proofs.Costs.{build_cost}
 use Rattle.lp_infer.proofs.reading.Reading.take.Goals as goal

@@ -1,4 +1,4 @@
-use Rattle.lp_infer.proofs.Results.{on_ok_as, on_ok_two}
+use Rattle.lp_infer.proofs.Results.{on_ok_as}
 use Rattle.lp_infer.proofs.Copying.{put_known}
 use Rattle.lp_infer.proofs.Memos.{variable_kept}
 use Rattle.lp_infer.proofs.reading.Reading.variable.Goals as goal

@@ -1,4 +1,4 @@
-use Rattle.std.proofs.Common.{◌∙◌, sym, ap, subst, ◌∷◌, reverse, map}
+use Rattle.std.proofs.Common.{◌∙◌, sym, ap, reverse, map}
 use Rattle.lp_calculus.specs.Types.{instance}
 use Rattle.lp_term.specs.Nodes.{type_tree}
 use Rattle.lp_infer.specs.Numbering.{type_variables}

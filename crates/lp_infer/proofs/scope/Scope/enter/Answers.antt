@@ -1,4 +1,4 @@
-use Rattle.std.proofs.Common.{◌∙◌, suc, arith}
+use Rattle.std.proofs.Common.{◌∙◌, arith}
 use Rattle.lp_infer.specs.Levels.{level_in}
 use Rattle.lp_infer.proofs.Levels.{entered}
 use Rattle.lp_infer.proofs.scope.Scope.enter.Goals as goal

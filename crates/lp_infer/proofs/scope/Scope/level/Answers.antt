@@ -1,4 +1,4 @@
-use Rattle.std.proofs.Common.{◌∙◌, sym, ap, Some, None, option_map}
+use Rattle.std.proofs.Common.{◌∙◌, sym, ap, option_map}
 use Rattle.lp_infer.specs.Levels.{level_in, level_at}
 use Rattle.lp_infer.proofs.scope.Scope.level.Goals as goal
 

@@ -1,4 +1,4 @@
-use Rattle.std.proofs.Common.{◌≡◌, length, arith, sym}
+use Rattle.std.proofs.Common.{◌≡◌, length, arith}
 use Rattle.std.proofs.lemmas.Grind.{common_steps}
 use Rattle.lp_infer.proofs.Scanning.{empty_list}
 use Rattle.lp_infer.proofs.FillingSteps.{bare_taken, taken_by}
