@@ -29,3 +29,4 @@ pub mod Joining
 pub mod Costs
 pub mod FillingSteps
 pub mod FillingBytes
+pub mod TypingRows

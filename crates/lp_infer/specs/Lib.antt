@@ -18,3 +18,4 @@ pub mod Meeting
 pub mod ReadingOff
 pub mod Filling
 pub mod Formulas
+pub mod Worked
