@@ -2,5 +2,9 @@ pub mod Comparing
 pub mod Growing
 pub mod Reading
 pub mod Refusing
+pub mod Scanning
 pub mod Seen
+pub mod Stripping
+pub mod TopLooks
 pub mod Under
+pub mod Visiting

@@ -269,17 +269,7 @@ fn by_heads(
             Head::Abstraction(_) => open_sides(bank, bindings, one, other, level, left, units),
             Head::Rigid => apart(bank, bindings, one, other, level, left, units),
             Head::Variable { id: y, level: m } => {
-                both_variables(
-                    bank,
-                    bindings,
-                    one,
-                    other,
-                    (x, y),
-                    (l, m),
-                    level,
-                    left,
-                    units,
-                )
+                both_variables(bank, bindings, one, other, (x, y), (l, m), level, left, units)
             }
         },
     }

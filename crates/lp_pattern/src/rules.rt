@@ -1,7 +1,12 @@
 // The rules for one pair: the first that applies is taken.
-ghost use Rattle.std.specs.Prelude.{◌≡◌, ◌≤◌, length, true};
+ghost use Rattle.std.specs.Prelude.{◌≡◌, ◌≤◌, ◌<◌, suc, nat_eq, length, true, IfOk, OnOk};
+ghost use Rattle.lp_calculus.specs.Term.{atom, apply, index, logic};
+ghost use Rattle.lp_calculus.specs.Fill.{abstracted};
 ghost use Rattle.lp_term.specs.Nodes.{Extends};
+ghost use Rattle.lp_model.specs.Look.{are_distinct};
+ghost use Rattle.lp_model.specs.Patterns.{eigens, agreeing};
 ghost use Rattle.lp_pattern.specs.Growing.{Grows};
+ghost use Rattle.lp_pattern.specs.Scanning.{Pushes, AreTerms, Binds, one_if, agreeing_places};
 ghost use Rattle.lp_pattern.specs.Seen.{IsLooked};
 
 use crate::bindings::Bindings;
@@ -9,7 +14,7 @@ use crate::compare::{are_same, opened, push_pairs};
 use crate::fault::PatternRefusal;
 use crate::heads::{have_same_name, type_pairs};
 use crate::look::{CONTRACTIONS, Head, Looked, look};
-use crate::parts::{put_abstractions, put_application};
+use crate::parts::{put_abstractions, put_application, put_index};
 use crate::patterns::{Opened, pattern_of};
 use crate::prune::{prune, put_variable};
 use crate::scan::{Scanned, scan};
@@ -57,6 +62,25 @@ fn decompose(
     Ok(())
 }
 
+// An index, if the eigenconstants at its place are the same.
+fn push_agreeing(
+    bank: &mut Bank,
+    one: u64,
+    other: u64,
+    place: u64,
+    arguments: &mut Vec<TermId>,
+) -> Result<(), Memory>
+    ensures kept { Extends bank.old bank.new }
+    ensures pushed { OnOk result (Pushes bank.old bank.new arguments.old.items arguments.new.items (one_if (nat_eq one other) (index place))) }
+{
+    if one != other {
+        return Ok(());
+    }
+    let id = put_index(bank, place)?;
+    arguments.push(id)?;
+    Ok(())
+}
+
 // The indices of the places at which two patterns have the same eigenconstant.
 fn put_agreeing(
     alloc: Global,
@@ -65,15 +89,16 @@ fn put_agreeing(
     others: &[u64],
 ) -> Result<Vec<TermId>, Memory>
     ensures kept { Extends bank.old bank.new }
+    ensures terms { IfOk result (λ ids. AreTerms bank.new ids.items (agreeing_places (length ones.now) ones.now others.now)) }
 {
     let mut arguments = Vec::new(alloc);
-    let mut index = ones.len() as u64;
+    let mut left = ones.len() as u64;
     for (one, other) in ones.iter().copied().zip(others.iter().copied()) {
-        index = index.saturating_sub(1);
-        if one == other {
-            let id = bank.put_term(TermNode::Index(index))?;
-            arguments.push(id)?;
+        if left == 0 {
+            return Err(Memory);
         }
+        left -= 1;
+        push_agreeing(bank, one, other, left, &mut arguments)?;
     }
     Ok(arguments)
 }
@@ -91,7 +116,10 @@ fn join(
 ) -> Result<(), Memory>
     ensures kept { Extends bank.old bank.new }
     ensures more { next.old ≤ next.new }
+    ensures next { OnOk result (next.new ≡ suc next.old) }
     ensures grown { Grows bindings.old bindings.new }
+    ensures bound { OnOk result (are_distinct ones.now ≡ true →
+        Binds bank.new bindings.old bindings.new id (abstracted ones.now (apply (atom (logic next.old level)) (eigens (agreeing ones.now others.now))))) }
 {
     let arguments = put_agreeing(alloc, bank, ones, others)?;
     let variable = put_variable(bank, next, level)?;
@@ -108,6 +136,7 @@ fn side_of(
     looked: &Looked,
     pair: u64,
 ) -> Result<Option<Side>, PatternRefusal>
+    requires looked { IsLooked bank.old bindings.now looked.now }
     ensures kept { Extends bank.old bank.new }
 {
     let Head::Variable { id, level } = looked.head else {
@@ -168,6 +197,7 @@ fn solve_for(
     other: &Looked,
     units: &mut u64,
 ) -> Result<bool, PatternRefusal>
+    requires known { other.now.whole.0 < length bank.old.terms }
     ensures kept { Extends bank.old bank.new }
     ensures more { next.old ≤ next.new }
     ensures grown { Grows bindings.old bindings.new }
@@ -195,6 +225,8 @@ fn by_pattern(
     level: u64,
     units: &mut u64,
 ) -> Result<bool, PatternRefusal>
+    requires one { IsLooked bank.old bindings.old one.now }
+    requires other { IsLooked bank.old bindings.old other.now }
     ensures kept { Extends bank.old bank.new }
     ensures more { next.old ≤ next.new }
     ensures grown { Grows bindings.old bindings.new }

@@ -1,6 +1,7 @@
 // What the variable of a side becomes: the beta-normal form of the other side, its patterns standing on the eigenconstants themselves,
 // with the side's eigenconstants abstracted. A part that stays as it is keeps its number.
 ghost use Rattle.lp_term.specs.Nodes.{Extends};
+ghost use Rattle.lp_pattern.specs.Seen.{IsLooked};
 
 use crate::bindings::Bindings;
 use crate::fault::PatternRefusal;
@@ -127,6 +128,7 @@ fn visit_variable(
     level: u64,
     looked: &Looked,
 ) -> Result<(), PatternRefusal>
+    requires looked { IsLooked bank.old bindings.now looked.now }
     ensures kept { Extends bank.old bank.new }
 {
     let arguments = looked.arguments.as_slice();
@@ -160,7 +162,7 @@ fn visit(
         Head::Abstraction(body) => {
             let old = if looked.is_new { looked.whole } else { term };
             work.tasks.push(Task::Abstract(old, body))?;
-            work.tasks.push(Task::Visit(body, opened.one_more()))?;
+            work.tasks.push(Task::Visit(body, opened.one_more()?))?;
         }
         Head::Rigid => {
             let head = head_in(bank, side, opened, looked.top)?;
