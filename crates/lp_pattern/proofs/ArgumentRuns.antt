@@ -81,10 +81,11 @@ Left m b c ws o found = AllFormed m b c ws × (AllCome m b c ws → o ≡ found)
 pub left_start : (m n : ℕ) (b d : Nodes) (c : Closing) (l k : ℕ) (t : TermId) (o found : Option ℕ) (name : Name) (ws items : List Wanted) → as_eigen m (read_at b c l k t) ≡ Some o → IsNamed m (under b c t) d c (name_term name) n ws →
     items ≡ [] ++ ws → found ≡ eigen_past n (opens l k) (name_term name) → Left m d c items o found
 left_start m n b d c l k t o found name ws items e h q f =
-    transport (λ x. Left m d c x o found) (sym q)
-    (h.formed,
-    (λ a. found_at (opens l k) (opens_leaves l k) m n (under b c t) d c (name_term name) ws o e (is_name_term name) h a ∙ sym f),
-    (λ a. not_all (opens l k) (opens_leaves l k) m n (under b c t) d c (name_term name) ws o e h a))
+    transport (λ x. Left m d c x o found) (sym q) (
+      h.formed,
+      (λ a. found_at (opens l k) (opens_leaves l k) m n (under b c t) d c (name_term name) ws o e (is_name_term name) h a ∙ sym f),
+      (λ a. not_all (opens l k) (opens_leaves l k) m n (under b c t) d c (name_term name) ws o e h a),
+    )
   where
     is_name_term : (n : Name) → is_name (name_term n) ≡ true
     is_name_term (Name.Eigen k) = refl
@@ -107,10 +108,11 @@ pub left_goes : (m : ℕ) (b d : Nodes) (c : Closing) (items rest new : List Wan
 left_goes m b d c items rest new w is o found x k q h e t =
     let y : IsTaken m (under b c w.term) w.place d c true rest new = transport (λ y. IsTaken m (under b c w.term) w.place d c y rest new) e t in
     let f = formed_split m b c rest (w ∷ []) (transport (AllFormed m b c) q h.0) in
-    transport (λ l. Left m d c l o found) (sym y.1)
-    (formed_join m d c rest y.0 (formed_kept m b d c rest x k f.0) y.2,
-    (λ a. let s = come_split m d c rest y.0 a in h.1 (transport (AllCome m b c) (sym q) (come_join m b c rest (w ∷ []) (come_back m b d c rest x k s.0) (y.3 s.1, tt)))),
-    (λ a. h.2 (λ z. let s = come_split m b c rest (w ∷ []) (transport (AllCome m b c) q z) in a (come_join m d c rest y.0 (come_kept m b d c rest x k s.0) (y.4 s.1.0)))))
+    transport (λ l. Left m d c l o found) (sym y.1) (
+      formed_join m d c rest y.0 (formed_kept m b d c rest x k f.0) y.2,
+      (λ a. let s = come_split m d c rest y.0 a in h.1 (transport (AllCome m b c) (sym q) (come_join m b c rest (w ∷ []) (come_back m b d c rest x k s.0) (y.3 s.1, tt)))),
+      (λ a. h.2 (λ z. let s = come_split m b c rest (w ∷ []) (transport (AllCome m b c) q z) in a (come_join m d c rest y.0 (come_kept m b d c rest x k s.0) (y.4 s.1.0)))),
+    )
 
 -- refusals
 pub no_form_no_eigen : (m l k : ℕ) (b : Nodes) (c : Closing) (t : TermId) (e : TermRefusal) → HasNoForm m (under b c t) e → HasNoEigen m (read_at b c l k t) e
@@ -179,10 +181,13 @@ rigid_eigen_is m l k limit b d s c t r o i h q w a = go r.arguments.items refl
   where
     rigid : IsRigid (tree d r.top.0)
     rigid = transport (λ z. IsHead d s z (tree d r.top.0) r.arguments.items) q h.head
+
     no_abs : IsNoAbstraction r.head
     no_abs = transport IsNoAbstraction (sym q) tt
+
     leaf : IsLeaf (under d c r.top)
     leaf = top_leaf d s c r i h no_abs
+
     go : (ids : List TermId) → r.arguments.items ≡ ids → IsEigen m (read_at b c l k t) o
     go [] z = λ p e.
         let f = by_form (opens l k) (opens_leaves l k) m (under b c t) p e in

@@ -117,11 +117,12 @@ replaced_on n (q ∷ qs) ps a s e h f = go (first n q qs a e) (λ t j i. replace
     go : First n q qs a → ((t : Compared) → compare_pairs n qs ≡ Some t → t.same ≡ true → (r : Compared) × (compare_pairs n (qs ++ ps) ≡ Some r) × (r.same ≡ s.same) × (r.units ≡ t.units + s.units)) → (r : Compared) × (compare_pairs n (q ∷ (qs ++ ps)) ≡ Some r) × (r.same ≡ s.same) × (r.units ≡ a.units + s.units)
     go (goes_on c t g i j k) ih =
         let same : t.same ≡ true = sym (ap (λ x. x.same) k) ∙ h in
-        let w = ih t j same in
-        (dearer c.units w.0,
-        with_first n q (qs ++ ps) c g ∙ ap (behind n (qs ++ ps) c) i ∙ ap (option_map (dearer c.units)) w.1,
-        w.2,
-        omega (arith, w.3, ap (λ x. x.units) k))
+        let w = ih t j same in (
+          dearer c.units w.0,
+          with_first n q (qs ++ ps) c g ∙ ap (behind n (qs ++ ps) c) i ∙ ap (option_map (dearer c.units)) w.1,
+          w.2,
+          omega (arith, w.3, ap (λ x. x.units) k),
+        )
     go (ends c g i k) ih = absurd (let x : false ≡ true = sym i ∙ sym (ap (λ x. x.same) k) ∙ h in cc)
 
 replaced_ends : (n : ℕ) (qs ps : List Pair) (a : Compared) → compare_pairs n qs ≡ Some a → a.same ≡ false → compare_pairs n (qs ++ ps) ≡ Some a

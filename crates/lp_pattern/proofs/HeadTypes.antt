@@ -94,8 +94,10 @@ head_compared b c t u same h old new m n ps i j e f q p k = go same k
   where
     named : (same_name (closed c t) (closed c u) && nat_eq m n) ≡ true
     named = both (same_name (closed c t) (closed c u)) m n (names_under c t u i j ∙ sym e ∙ f) q
+
     pairs : type_pairs_of b c.types ps ≡ type_pairs (closed c t) (closed c u)
     pairs = p ∙ (λ x. type_pairs (sym (rigid_closed c t i) x) (sym (rigid_closed c u j) x))
+
     go : (same : Bool) → ((k : ℕ) → IsComparedTo same old new (compare_types k (type_pairs_of b c.types ps))) → IsHeadCompared same old new (closed c t) (closed c u) m n
     go true g = (named, λ k. transport (λ l. IsComparedTo true old new (compare_types k l)) pairs (g k))
     go false g = inr (named, λ k. transport (λ l. IsComparedTo false old new (compare_types k l)) pairs (g k))

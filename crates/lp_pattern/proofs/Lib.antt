@@ -4,6 +4,7 @@ pub mod BetaForms
 pub mod Compares
 pub mod Etas
 pub mod HeadTypes
+pub mod Judging
 pub mod Keeps
 pub mod Looking
 pub mod MoreFuel
@@ -23,5 +24,6 @@ pub mod Stripped
 pub mod Tops
 pub mod TopScans
 pub mod VisitSteps
+pub mod Verdicts
 pub mod Visits
 pub mod Walking

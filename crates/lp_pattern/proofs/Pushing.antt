@@ -1,16 +1,15 @@
 -- Lists of terms that grow one by one.
-use Rattle.std.proofs.Common.{◌≡◌, ℕ, zero, suc, ◌+◌, ◌-◌, ◌<◌, ◌≤◌, List, [], ◌∷◌, ◌++◌, map, length, ◌∙◌, refl, sym, ap, subst as transport, arith, Bool, true, false, nat_eq, if◌then◌else◌, append_assoc}
+use Rattle.std.proofs.Common.{◌≡◌, ℕ, zero, suc, ◌+◌, ◌-◌, ◌<◌, ◌≤◌, List, [], ◌∷◌, ◌++◌, map, drop, get_or, length, ◌∙◌, refl, sym, ap, subst as transport, arith, Bool, true, false, nat_eq, if◌then◌else◌, append_assoc}
 use Rattle.std.specs.Prelude.{All, nat_le}
-use Rattle.std.specs.List.{zip}
-use Rattle.std.proofs.lemmas.List.{map-append, append-nil}
-use Rattle.std.proofs.lemmas.List.Elements.{All-push, All-weaker, All-head, All-tail}
+use Rattle.std.proofs.lemmas.List.{map-append, append-nil, drop_more}
+use Rattle.std.proofs.lemmas.List.Elements.{All-nil, All-push, All-weaker, All-head, All-tail}
 use Rattle.std.proofs.lemmas.Bool.Decides.{nat_tests}
 use Rattle.lp_calculus.specs.Term.{Term, index, atom, eigen}
 use Rattle.lp_term.specs.Nodes.{Nodes, Extends, tree}
 use Rattle.lp_term.specs.declared.node.TermId.{TermId}
 use Rattle.lp_model.specs.Patterns.{eigens, chosen}
 use Rattle.lp_model.specs.Scan.{Side, allows}
-use Rattle.lp_pattern.specs.Scanning.{AreTerms, Pushes, one_if, low_eigens, allowed_places, agreeing_places, agreeing_pairs}
+use Rattle.lp_pattern.specs.Scanning.{AreTerms, Pushes, one_if, low_eigens, allowed_places, agreeing_places}
 
 trees_stay : (b d : Nodes) (ids : List TermId) → Extends b d → All (λ x. x.0 < length b.terms) ids → map (λ x. tree d x.0) ids ≡ map (λ x. tree b x.0) ids
 trees_stay b d [] e a = refl
@@ -57,6 +56,7 @@ places_next s n left k [] e = go (allows s k)
   where
     here : left ≡ n - 1
     here = omega (arith, e)
+
     go : (b : Bool) → one_if b (index left) ≡ (if b then index (n - 1) ∷ [] else [])
     go true = ap (λ i. index i ∷ []) here
     go false = refl
@@ -73,35 +73,61 @@ pub places_pushed : (b d : Nodes) (old new : List TermId) (s : Side) (n left k :
 places_pushed b d old new s n left k ts ks e p a =
     transport (AreTerms d new) (append_assoc ts (allowed_places s n ks) (one_if (allows s k) (index left)) ∙ ap (λ l. ts ++ l) (places_next s n left k ks e)) (p (ts ++ allowed_places s n ks) a)
 
-agreeing_next : (n left x y : ℕ) (ps : List (ℕ × ℕ)) → suc left ≡ n - length ps → agreeing_pairs n ps ++ one_if (nat_eq x y) (index left) ≡ agreeing_pairs n (ps ++ (x, y) ∷ [])
-agreeing_next n left x y [] e = go (nat_eq x y)
+-- the places up to one, and those behind it
+abbrev pub Agreed : Nodes → List TermId → (ones others : List ℕ) → (place : ℕ) → Type 0
+Agreed b items ones others place =
+    (ts : List Term) × AreTerms b items ts × (ts ++ agreeing_places (length ones - place) (drop place ones) (drop place others) ≡ agreeing_places (length ones) ones others)
+
+no_terms : (b : Nodes) (items : List TermId) → items ≡ [] → AreTerms b items []
+no_terms b items e = transport (λ l. AreTerms b l []) (sym e) (record { known = All-nil (λ x. x.0 < length b.terms); trees = refl })
+
+pub agreed_start : (b : Nodes) (items : List TermId) (ones others : List ℕ) → items ≡ [] → Agreed b items ones others 0
+agreed_start b items ones others e = ([], no_terms b items e, (let q : length ones - 0 ≡ length ones = omega arith in ap (λ n. agreeing_places n ones others) q))
+
+one_place : (m a b : ℕ) (is bs : List ℕ) → one_if (nat_eq a b) (index (m - 1)) ++ agreeing_places (m - 1) is bs ≡ agreeing_places m (a ∷ is) (b ∷ bs)
+one_place m a b is bs = go (nat_eq a b)
   where
-    here : left ≡ n - 1
-    here = omega (arith, e)
-    go : (b : Bool) → one_if b (index left) ≡ (if b then index (n - 1) ∷ [] else [])
-    go true = ap (λ i. index i ∷ []) here
+    go : (t : Bool) → one_if t (index (m - 1)) ++ agreeing_places (m - 1) is bs ≡ (if t then index (m - 1) ∷ agreeing_places (m - 1) is bs else agreeing_places (m - 1) is bs)
+    go true = refl
     go false = refl
-agreeing_next n left x y (p ∷ ps) e = go (nat_eq p.0 p.1) (agreeing_next (n - 1) left x y ps (omega (arith, e)))
-  where
-    go : (b : Bool) → agreeing_pairs (n - 1) ps ++ one_if (nat_eq x y) (index left) ≡ agreeing_pairs (n - 1) (ps ++ (x, y) ∷ []) →
-        (if b then index (n - 1) ∷ agreeing_pairs (n - 1) ps else agreeing_pairs (n - 1) ps) ++ one_if (nat_eq x y) (index left) ≡
-        (if b then index (n - 1) ∷ agreeing_pairs (n - 1) (ps ++ (x, y) ∷ []) else agreeing_pairs (n - 1) (ps ++ (x, y) ∷ []))
-    go true ih = ap (λ l. index (n - 1) ∷ l) ih
-    go false ih = ih
 
-pub agreeing_pushed : (b d : Nodes) (old new : List TermId) (n left x y : ℕ) (ps : List (ℕ × ℕ)) → suc left ≡ n - length ps → Pushes b d old new (one_if (nat_eq x y) (index left)) →
-    AreTerms b old (agreeing_pairs n ps) → AreTerms d new (agreeing_pairs n (ps ++ (x, y) ∷ []))
-agreeing_pushed b d old new n left x y ps e p a = transport (AreTerms d new) (agreeing_next n left x y ps e) (p (agreeing_pairs n ps) a)
+pub agreed_next : (b d : Nodes) (old new : List TermId) (ones others : List ℕ) (place left x y : ℕ) → place < length ones → place < length others → left ≡ length ones - 1 - place →
+    Pushes b d old new (one_if (nat_eq (get_or ones place x) (get_or others place y)) (index left)) → Agreed b old ones others place → Agreed d new ones others (place + 1)
+agreed_next b d old new ones others place left x y l m q p a =
+    let n = length ones - place in
+    let i : left ≡ n - 1 = omega (arith, q, l) in
+    let j : length ones - (place + 1) ≡ n - 1 = omega (arith, l) in
+    let t = one_if (nat_eq (get_or ones place x) (get_or others place y)) (index left) in (
+      a.0 ++ t,
+      p a.0 a.1,
+      append_assoc a.0 t (agreeing_places (length ones - (place + 1)) (drop (place + 1) ones) (drop (place + 1) others)) ∙
+          ap (λ l. a.0 ++ l)
+          ((λ z. one_if (nat_eq (get_or ones place x) (get_or others place y)) (index (i z)) ++ agreeing_places (j z) (drop (place + 1) ones) (drop (place + 1) others)) ∙
+          one_place n (get_or ones place x) (get_or others place y) (drop (place + 1) ones) (drop (place + 1) others) ∙
+          (λ z. agreeing_places n (sym (drop_more ones place x l) z) (sym (drop_more others place y m) z))) ∙
+          a.2,
+    )
 
-pub all_agreeing : (n : ℕ) (is bs : List ℕ) → agreeing_pairs n (zip is bs) ≡ agreeing_places n is bs
-all_agreeing n [] bs = refl
-all_agreeing n (a ∷ is) [] = refl
-all_agreeing n (a ∷ is) (b ∷ bs) = go (nat_eq a b) (all_agreeing (n - 1) is bs)
-  where
-    go : (t : Bool) → agreeing_pairs (n - 1) (zip is bs) ≡ agreeing_places (n - 1) is bs →
-        (if t then index (n - 1) ∷ agreeing_pairs (n - 1) (zip is bs) else agreeing_pairs (n - 1) (zip is bs)) ≡ (if t then index (n - 1) ∷ agreeing_places (n - 1) is bs else agreeing_places (n - 1) is bs)
-    go true ih = ap (λ l. index (n - 1) ∷ l) ih
-    go false ih = ih
+drop_all : {A : Type 0} (n : ℕ) (xs : List A) → length xs ≤ n → drop n xs ≡ []
+drop_all zero [] l = refl
+drop_all zero (x ∷ xs) l = absurd (omega (arith, l))
+drop_all (suc n) [] l = refl
+drop_all (suc n) (x ∷ xs) l = drop_all n xs (omega (arith, l))
+
+none_behind : (n : ℕ) (is : List ℕ) → agreeing_places n is [] ≡ []
+none_behind n [] = refl
+none_behind n (a ∷ is) = refl
+
+agreed_end : (b : Nodes) (items : List TermId) (ones others : List ℕ) (place : ℕ) → agreeing_places (length ones - place) (drop place ones) (drop place others) ≡ [] → Agreed b items ones others place →
+    AreTerms b items (agreeing_places (length ones) ones others)
+agreed_end b items ones others place e a = transport (AreTerms b items) (sym (append-nil a.0) ∙ ap (λ l. a.0 ++ l) (sym e) ∙ a.2) a.1
+
+pub agreed_all : (b : Nodes) (items : List TermId) (ones others : List ℕ) (place : ℕ) → length ones ≤ place → Agreed b items ones others place → AreTerms b items (agreeing_places (length ones) ones others)
+agreed_all b items ones others place l a = agreed_end b items ones others place (ap (λ is. agreeing_places (length ones - place) is (drop place others)) (drop_all place ones l)) a
+
+pub agreed_short : (b : Nodes) (items : List TermId) (ones others : List ℕ) (place : ℕ) → length others ≤ place → Agreed b items ones others place → AreTerms b items (agreeing_places (length ones) ones others)
+agreed_short b items ones others place l a =
+    agreed_end b items ones others place (ap (agreeing_places (length ones - place) (drop place ones)) (drop_all place others l) ∙ none_behind (length ones - place) (drop place ones)) a
 
 pub low_test : (k level : ℕ) → k ≤ level → nat_le k level ≡ true
 low_test k level l = grind (arith, nat_tests)

@@ -132,10 +132,11 @@ mutual
     where
       go : (b : Bool) → member k cs ≡ b → (member k cs ≡ true → (i : ℕ) × (placed cs k ≡ index i)) → (i : ℕ) × (fill (raises (length cs) (indexed c)) (placed cs k) ≡ index i)
       go true h f = let w = f h in (w.0, ap (fill (raises (length cs) (indexed c))) w.1)
-      go false h f =
-          (length cs,
-          ap (fill (raises (length cs) (indexed c))) (placed_not cs k h) ∙ raises_eigen (length cs) c k ∙
-          ap (λ b. if b then index (length cs) else atom (eigen k)) (first_of (nat_eq k c) (member k cs) e h))
+      go false h f = (
+        length cs,
+        ap (fill (raises (length cs) (indexed c))) (placed_not cs k h) ∙ raises_eigen (length cs) c k ∙
+            ap (λ b. if b then index (length cs) else atom (eigen k)) (first_of (nat_eq k c) (member k cs) e h),
+      )
 
 mutual
   unfolding placed
@@ -188,8 +189,10 @@ chosen_places s (c ∷ cs) e = go (allows s c) (chosen_places s cs (and_second (
   where
     behind : map (placed (c ∷ cs)) (chosen (allows s) cs) ≡ map (placed cs) (chosen (allows s) cs)
     behind = same_chosen (placed (c ∷ cs)) (placed cs) (allows s) cs (λ k q. placed_more c cs k q)
+
     one_less : suc (length cs) - 1 ≡ length cs
     one_less = omega arith
+
     go : (b : Bool) → map (placed cs) (chosen (allows s) cs) ≡ allowed_places s (length cs) cs →
         map (placed (c ∷ cs)) (if b then c ∷ chosen (allows s) cs else chosen (allows s) cs) ≡
         (if b then index (suc (length cs) - 1) ∷ allowed_places s (suc (length cs) - 1) cs else allowed_places s (suc (length cs) - 1) cs)
@@ -226,6 +229,7 @@ agreed_places (c ∷ cs) (b ∷ bs) e = go (nat_eq c b) (agreed_places cs bs (an
   where
     one_less : suc (length cs) - 1 ≡ length cs
     one_less = omega arith
+
     go : (t : Bool) → map (placed cs) (agreeing cs bs) ≡ agreeing_places (length cs) cs bs →
         map (placed (c ∷ cs)) (if t then c ∷ agreeing cs bs else agreeing cs bs) ≡
         (if t then index (suc (length cs) - 1) ∷ agreeing_places (suc (length cs) - 1) cs bs else agreeing_places (suc (length cs) - 1) cs bs)

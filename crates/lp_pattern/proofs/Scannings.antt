@@ -189,8 +189,10 @@ module _ (b : Nodes) (s : Bindings) (c : Closing) (t : Side) (v : Visit) (r : Lo
     where
       last_is : inner.opened.level + inner.opened.depth ≡ suc (v.opened.level + v.opened.depth)
       last_is = omega (arith, x, y)
+
       term_is : read_at b c inner.opened.level inner.opened.depth inner.term ≡ substitute (atom (eigen (suc (v.opened.level + v.opened.depth)))) (subst (up (opens v.opened.level v.opened.depth)) (under b c body))
       term_is = (λ j. read_at b c (x j) (y j) (e j)) ∙ sym (opened_once v.opened.level v.opened.depth (v.opened.level + v.opened.depth) (under b c body) refl)
+
       same_part : part_of b c inner ≡ record { inside = v.is_inside; last = suc (v.opened.level + v.opened.depth); term = substitute (atom (eigen (suc (v.opened.level + v.opened.depth)))) (subst (up (opens v.opened.level v.opened.depth)) (under b c body)) }
       same_part = λ j. record { inside = z j; last = last_is j; term = term_is j }
 
@@ -278,6 +280,7 @@ alone_part m n s p = λ r e. ap (option_and_then (λ x. behind_all x)) e ∙ go 
   where
     behind_all : Scanned → Option Scanned
     behind_all x = elim x [ broken u ↦ Some (broken u) | whole u d qs ↦ option_map (beside u d qs) (Some (whole 0 false [])) ]
+
     go : (r : Scanned) → behind_all r ≡ Some r
     go (broken u) = refl
     go (whole u d qs) = ap (λ x. Some x) (beside_none u d qs)

@@ -144,10 +144,11 @@ named m n t b c h ids f s l q =
       there = λ x e k.
           let y = leaf_reached n h (map eta_normal w.forms) x l (name_leaf x e) (sym w.whole ∙ ap eta_normal (sym (same_form m t f.0 k.0 f.1 k.1)) ∙ k.2) in
           (y.1, all_come m n b c ids w.forms w.each y.0);
-      back = λ x e k a.
-          (f.0,
-          f.1,
-          w.whole ∙ (λ i. contracts n (apply (sym k i) (they_come m n b c ids w.forms q w.each a i))) ∙ leaf_is n x (name_leaf x e));
+      back = λ x e k a. (
+        f.0,
+        f.1,
+        w.whole ∙ (λ i. contracts n (apply (sym k i) (they_come m n b c ids w.forms q w.each a i))) ∙ leaf_is n x (name_leaf x e),
+      );
     }
 
 -- the whole argument

@@ -111,13 +111,16 @@ split (suc m) t v e n = go (weak_step t) refl (λ s q. split m s v q n)
     more : (s : Term) → weak_step t ≡ Some s → Tops m s v → Tops (suc m) t v
     more s h (at_top p l r w) = at_top (suc p) (omega (arith, l)) (one_more weak_step t s v p h r) w
     more s h (at_abs p q a b l k r w x) = at_abs (suc p) q a b (omega (arith, l)) (omega (arith, k)) (one_more weak_step t s (abs a) p h r) w x
+
     after : (s : Term) → weak_step t ≡ Some s → steps head_step m s ≡ Some v
     after s h = sym (ap (λ (x : Option Term). elim x as (λ z. Option Term) [ None ↦ None | Some u ↦ steps head_step m u ]) (weak_head t s h)) ∙ e
+
     stuck : weak_step t ≡ None → ((b : Term) × (t ≡ abs b)) ⊎ ((b : Term) → t ≡ abs b → ⊥) → Tops (suc m) t v
     stuck h (inl w) =
         let x = abs_steps (suc m) w.0 v (ap (steps head_step (suc m)) (sym w.1) ∙ e) in at_abs 0 (suc m) w.0 x.0 (omega arith) (omega arith) (ap (λ y. Some y) w.1) x.1 x.2
     stuck h (inr w) =
         absurd (let q : None ≡ Some v = sym (ap (λ (x : Option Term). elim x as (λ z. Option Term) [ None ↦ None | Some u ↦ steps head_step m u ]) (no_weak_no_head t h w)) ∙ e in cc)
+
     go : (o : Option Term) → weak_step t ≡ o → ((s : Term) → steps head_step m s ≡ Some v → Tops m s v) → Tops (suc m) t v
     go None h f = stuck h (is_abs t)
     go (Some s) h f = more s h (f s (after s h))

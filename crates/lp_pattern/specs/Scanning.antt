@@ -42,11 +42,7 @@ agreeing_places n [] bs = []
 agreeing_places n (a ∷ is) [] = []
 agreeing_places n (a ∷ is) (b ∷ bs) = if nat_eq a b then index (n - 1) ∷ agreeing_places (n - 1) is bs else agreeing_places (n - 1) is bs
 
--- the same, pair by pair
-abbrev pub agreeing_pairs : (count : ℕ) → List (ℕ × ℕ) → List Term
-agreeing_pairs n [] = []
-agreeing_pairs n (p ∷ ps) = if nat_eq p.0 p.1 then index (n - 1) ∷ agreeing_pairs (n - 1) ps else agreeing_pairs (n - 1) ps
-
+-- a term, or none
 abbrev pub one_if : Bool → Term → List Term
 one_if true t = t ∷ []
 one_if false t = []

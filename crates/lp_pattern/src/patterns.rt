@@ -250,11 +250,7 @@ fn contracted(
 }
 
 // The eigenconstant that a head without arguments is.
-fn alone(
-    bank: &Bank,
-    looked: &Looked,
-    opened: Opened,
-) -> Result<Option<u64>, Memory>
+fn alone(bank: &Bank, looked: &Looked, opened: Opened) -> Result<Option<u64>, Memory>
     ensures { IfOk result (λ o. IsAlone bank.now looked.now (opens opened.level opened.depth) o) }
 {
     if !looked.arguments.is_empty() {

@@ -1,16 +1,18 @@
 // Pruning and lowering: a pattern that does not fit gives way to a new variable on what is allowed.
-ghost use Rattle.std.specs.Prelude.{◌≡◌, ◌≤◌, ◌<◌, ◌++◌, suc, min, nat_le, length, true, IfOk, OnOk};
+ghost use Rattle.std.specs.Prelude.{◌≡◌, ◌≤◌, ◌<◌, ◌++◌, suc, min, nat_le, length, true, IfOk, OnOk, IfErr};
 ghost use Rattle.lp_calculus.specs.Term.{atom, index, eigen, logic};
 ghost use Rattle.lp_term.specs.Nodes.{Extends, tree};
 ghost use Rattle.lp_model.specs.Look.{are_distinct, are_above};
 ghost use Rattle.lp_model.specs.Scan.{allows, pattern, renewal};
 ghost use Rattle.lp_pattern.specs.Growing.{Grows};
 ghost use Rattle.lp_pattern.specs.Reading.{side_of};
+ghost use Rattle.lp_pattern.specs.Refusing.{IsNoFailure};
+ghost use Rattle.lp_pattern.specs.Seen.{IsLooked};
 ghost use Rattle.lp_pattern.specs.Scanning.{Pushes, AreTerms, Binds, one_if, low_eigens, allowed_places};
 
 use crate::bindings::Bindings;
 use crate::fault::PatternRefusal;
-use crate::look::{CONTRACTIONS, Head, look};
+use crate::look::{CONTRACTIONS, Head, Looked, look};
 use crate::parts::{put_abstractions, put_application, put_eigen, put_index};
 use crate::patterns::pattern_of;
 use crate::scan::{Visit, push_arguments};
@@ -36,12 +38,7 @@ pub(crate) fn put_variable(bank: &mut Bank, next: &mut u64, level: u64) -> Resul
 }
 
 // An eigenconstant, if it is not above the level.
-fn push_low(
-    bank: &mut Bank,
-    level: u64,
-    k: u64,
-    arguments: &mut Vec<TermId>,
-) -> Result<(), Memory>
+fn push_low(bank: &mut Bank, level: u64, k: u64, arguments: &mut Vec<TermId>) -> Result<(), Memory>
     ensures kept { Extends bank.old bank.new }
     ensures pushed { OnOk result (Pushes bank.old bank.new arguments.old.items arguments.new.items (one_if (nat_le k level) (atom (eigen k)))) }
 {
@@ -133,7 +130,48 @@ fn renew(
     bindings.bind(id, value)
 }
 
-// Visits a part. A pattern that is changed is visited again; what stood before it fits still.
+// A variable. A pattern that is changed is visited again; what stood before it fits still. Where it is no pattern what stands in it fits, for
+// else the pair would be delayed.
+fn visit_variable(
+    alloc: Global,
+    bank: &mut Bank,
+    bindings: &mut Bindings,
+    side: &Side,
+    next: &mut u64,
+    visit: Visit,
+    looked: &Looked,
+    id: u64,
+    level: u64,
+    left: &mut Vec<Visit>,
+) -> Result<(), PatternRefusal>
+    requires looked { IsLooked bank.old bindings.old looked.now }
+    ensures kept { Extends bank.old bank.new }
+    ensures more { next.old ≤ next.new }
+    ensures grown { Grows bindings.old bindings.new }
+    ensures unfailing { IfErr result IsNoFailure }
+{
+    let arguments = looked.arguments.as_slice();
+    let pattern = pattern_of(alloc, bank, bindings, visit.opened, level, arguments)?;
+    let Some(pattern) = pattern else {
+        return Ok(());
+    };
+    let eigens = pattern.eigens.as_slice();
+    if side.fits(level, eigens) {
+        return Ok(());
+    }
+    renew(alloc, bank, bindings, side, next, id, level, eigens)?;
+    left.push(visit)?;
+    Ok(())
+}
+
+// The body of an abstraction.
+fn visit_body(visit: Visit, body: TermId, left: &mut Vec<Visit>) -> Result<(), Memory> {
+    let inner = visit.body(body)?;
+    left.push(inner)?;
+    Ok(())
+}
+
+// Visits a part.
 fn visit_part(
     alloc: Global,
     bank: &mut Bank,
@@ -146,27 +184,22 @@ fn visit_part(
     ensures kept { Extends bank.old bank.new }
     ensures more { next.old ≤ next.new }
     ensures grown { Grows bindings.old bindings.new }
+    ensures unfailing { IfErr result IsNoFailure }
 {
     let looked = look(alloc, bank, bindings, visit.term, CONTRACTIONS)?;
-    let arguments = looked.arguments.as_slice();
     match looked.head {
-        Head::Abstraction(body) => left.push(visit.body(body)?)?,
-        Head::Rigid => push_arguments(visit, arguments, visit.is_inside, left)?,
-        Head::Variable { id, level } => {
-            let opened = visit.opened;
-            match pattern_of(alloc, bank, bindings, opened, level, arguments)? {
-                None => push_arguments(visit, arguments, true, left)?,
-                Some(pattern) => {
-                    let eigens = pattern.eigens.as_slice();
-                    if !visit.is_inside && !side.fits(level, eigens) {
-                        renew(alloc, bank, bindings, side, next, id, level, eigens)?;
-                        left.push(visit)?;
-                    }
-                }
-            }
+        Head::Abstraction(body) => {
+            visit_body(visit, body, left)?;
+            Ok(())
         }
+        Head::Rigid => {
+            push_arguments(visit, looked.arguments.as_slice(), false, left)?;
+            Ok(())
+        }
+        Head::Variable { id, level } => visit_variable(
+            alloc, bank, bindings, side, next, visit, &looked, id, level, left,
+        ),
     }
-    Ok(())
 }
 
 // Changes the patterns of a term that do not fit, left to right. It takes no units.
@@ -181,6 +214,7 @@ pub(crate) fn prune(
     ensures kept { Extends bank.old bank.new }
     ensures more { next.old ≤ next.new }
     ensures grown { Grows bindings.old bindings.new }
+    ensures unfailing { IfErr result IsNoFailure }
 {
     let mut left = Vec::new(alloc);
     left.push(Visit {

@@ -276,7 +276,9 @@ fn visit_seen(
 {
     match looked.head {
         Head::Abstraction(body) => {
-            visit_body(bank, bindings, side, visit, looked, body, left, found, units)
+            visit_body(
+                bank, bindings, side, visit, looked, body, left, found, units,
+            )
         }
         Head::Rigid => visit_rigid(bank, bindings, side, visit, looked, left, found, units),
         Head::Variable { id, level } => visit_variable(
@@ -307,7 +309,9 @@ fn visit_part(
 {
     let looked = look(alloc, bank, bindings, visit.term, CONTRACTIONS)?;
     note_new(found, looked.is_new);
-    visit_seen(alloc, bank, bindings, side, visit, &looked, left, found, units)
+    visit_seen(
+        alloc, bank, bindings, side, visit, &looked, left, found, units,
+    )
 }
 
 // Visits the term. A part that is not allowed fails, and goes before a delay.

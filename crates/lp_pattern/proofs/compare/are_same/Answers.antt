@@ -1,9 +1,3 @@
-use Rattle.lp_pattern.proofs.Stripped.{named}
-use Rattle.lp_pattern.proofs.Noting.{noted_inside}
-use Rattle.lp_pattern.proofs.Renewing.{joined_value}
-use Rattle.lp_pattern.proofs.Pushing.{all_agreeing}
-use Rattle.lp_pattern.proofs.TopScans.{scan_of}
-use Rattle.lp_pattern.proofs.Etas.{eta_named}
 use Rattle.lp_pattern.proofs.BetaForms.{beta_named}
 use Rattle.std.proofs.Common.{ℕ, ◌≤◌, ◌∙◌, ap, ◌++◌, arith, length, map, reverse}
 use Rattle.lp_term.proofs.Trees.{extends_same, extends-trans}
