@@ -1,13 +1,10 @@
 -- The arguments of variables at numbers of a bank: the eigenconstants to which they come.
 use Rattle.std.proofs.Common.{◌≡◌, ℕ, zero, suc, ◌+◌, ◌-◌, ◌<◌, ◌≤◌, List, [], ◌∷◌, ◌++◌, map, length, ◌∙◌, refl, sym, ap, subst as transport, arith, Bool, true, false, Option, Some, None, nat_eq}
-use Rattle.std.specs.Prelude.{option_map, option_and_then, IsSome, All, not, nat_lt, ◌&&◌}
+use Rattle.std.specs.Prelude.{All, not, ◌&&◌}
 use Rattle.std.specs.List.{list_any}
 use Rattle.std.proofs.lemmas.List.Elements.{All-nil, All-head, All-tail, All-cons, All-append, All-weaker}
-use Rattle.std.proofs.lemmas.List.{append-nil}
 use Rattle.lp_calculus.specs.Term.{Term, index, atom, abs, app, apply, constant, integer, text, eigen, logic, param}
-use Rattle.lp_calculus.specs.Convert.{leftmost_step, steps}
-use Rattle.lp_calculus.specs.Normal.{eta_normal}
-use Rattle.lp_calculus.proofs.Sigma.{subst}
+use Rattle.lp_calculus.specs.Convert.{steps}
 use Rattle.lp_term.specs.Node.{TermBelow}
 use Rattle.lp_term.specs.Nodes.{Nodes, Extends, tree, node_tree}
 use Rattle.lp_term.specs.Shapes.{term_shape}
@@ -16,29 +13,24 @@ use Rattle.lp_term.specs.declared.node.TermNode.{TermNode}
 use Rattle.lp_term.specs.declared.reduce.TermRefusal.{TermRefusal}
 use Rattle.lp_term.proofs.Frames.{some_of}
 use Rattle.lp_term.proofs.Walks.{map_map}
-use Rattle.lp_model.specs.Eigens.{beta_normal, eigen_of, as_eigen}
-use Rattle.lp_model.specs.Look.{as_eigens, only_if, pattern_of, are_distinct, are_above}
+use Rattle.lp_model.specs.Eigens.{beta_normal}
 use Rattle.lp_model.specs.Pair.{Closing, closed}
 use Rattle.lp_model.specs.Patterns.{member}
 use Rattle.lp_pattern.specs.declared.bindings.Bindings.{Bindings}
 use Rattle.lp_pattern.specs.declared.look.Head.{Head}
 use Rattle.lp_pattern.specs.declared.look.Looked.{Looked}
-use Rattle.lp_pattern.specs.declared.patterns.Arguments.{Arguments}
 use Rattle.lp_pattern.specs.declared.patterns.Name.{Name}
 use Rattle.lp_pattern.specs.declared.patterns.Wanted.{Wanted}
 use Rattle.lp_pattern.specs.Seen.{weak_step, IsRigid, IsHead, IsLooked, IsReachedWithin, IsDeepWhere}
-use Rattle.lp_pattern.specs.Stripping.{opens, IsShut, IsNoAbstraction, Strips, stop, strip, HasForm, HasNoForm, Comes, is_name, name_term, IsNameOf, eigen_past, is_at, wanted_at, AllFormed, AllCome, IsNamed, IsStripped, IsTaken, read_at, IsAlone, IsEigen, HasNoEigen, eigens_of, IsPattern, HasNoPattern}
+use Rattle.lp_pattern.specs.Stripping.{IsShut, IsNoAbstraction, Strips, strip, HasForm, HasNoForm, Comes, is_name, name_term, wanted_at, IsNamed}
 use Rattle.lp_pattern.specs.Under.{ValueIs, IsReading, under}
-use Rattle.lp_pattern.proofs.MoreFuel.{Below}
-use Rattle.lp_pattern.proofs.Compares.{from_bind, from_map}
 use Rattle.lp_pattern.proofs.Names.{kind, node_kind, kind_of}
-use Rattle.lp_pattern.proofs.Naming.{IsLeaf, AreLeaves}
+use Rattle.lp_pattern.proofs.Naming.{IsLeaf}
 use Rattle.lp_pattern.proofs.Sides.{member_is}
-use Rattle.lp_pattern.proofs.BetaForms.{weak_leftmost, beta_behind, beta_named, leaf_form}
-use Rattle.lp_pattern.proofs.Opening.{opens_leaves, body_closed, read_reached}
-use Rattle.lp_pattern.proofs.Stacks.{under_kept}
+use Rattle.lp_pattern.proofs.BetaForms.{weak_leftmost}
+use Rattle.lp_pattern.proofs.Opening.{body_closed}
 use Rattle.lp_pattern.proofs.Looking.{closed_apply}
-use Rattle.lp_pattern.proofs.Stripped.{stripped_form, other_count, no_name, named, by_form, comes_to_none, found_at, not_all, comes_if, comes_only, comes_never}
+use Rattle.lp_pattern.proofs.Stripped.{stripped_form, other_count, no_name, named}
 
 -- names of nodes
 nameless : (t : Term) → (kind t ≡ 0 → ⊥) → (kind t ≡ 4 → ⊥) → is_name t ≡ false

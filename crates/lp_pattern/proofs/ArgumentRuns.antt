@@ -1,7 +1,7 @@
 -- The arguments that are to come to indices, on the stack, and the test of a whole argument and of all arguments.
-use Rattle.std.proofs.Common.{◌≡◌, ℕ, zero, suc, ◌+◌, ◌<◌, ◌≤◌, List, [], ◌∷◌, ◌++◌, map, drop, get_or, length, ◌∙◌, refl, sym, ap, subst as transport, arith, Bool, true, false, Option, Some, None, if◌then◌else◌}
-use Rattle.std.specs.Prelude.{option_map, option_and_then, All, ◌&&◌}
-use Rattle.std.proofs.lemmas.List.Elements.{All-nil, All-head, All-tail, All-cons}
+use Rattle.std.proofs.Common.{◌≡◌, ℕ, suc, ◌+◌, ◌<◌, List, [], ◌∷◌, ◌++◌, map, drop, get_or, length, ◌∙◌, refl, sym, ap, subst as transport, arith, Bool, true, false, Option, Some, None, if◌then◌else◌}
+use Rattle.std.specs.Prelude.{option_map, All, ◌&&◌}
+use Rattle.std.proofs.lemmas.List.Elements.{All-head, All-tail}
 use Rattle.std.proofs.lemmas.List.{append-nil, drop_more}
 use Rattle.lp_calculus.specs.Term.{Term, index, atom, abs, app, apply, constant, integer, text, eigen, logic, param}
 use Rattle.lp_calculus.specs.Convert.{steps}
@@ -19,13 +19,13 @@ use Rattle.lp_pattern.specs.declared.look.Looked.{Looked}
 use Rattle.lp_pattern.specs.declared.patterns.Arguments.{Arguments}
 use Rattle.lp_pattern.specs.declared.patterns.Name.{Name}
 use Rattle.lp_pattern.specs.declared.patterns.Wanted.{Wanted}
-use Rattle.lp_pattern.specs.Seen.{weak_step, IsRigid, IsHead, IsLooked, IsReachedWithin, IsDeepWhere}
-use Rattle.lp_pattern.specs.Stripping.{opens, IsShut, IsNoAbstraction, Strips, stop, HasForm, HasNoForm, Comes, is_name, name_term, eigen_past, is_at, AllFormed, AllCome, IsNamed, IsStripped, IsTaken, read_at, IsAlone, IsEigen, HasNoEigen, eigens_of, IsPattern, HasNoPattern}
+use Rattle.lp_pattern.specs.Seen.{weak_step, IsRigid, IsHead, IsLooked, IsReachedWithin}
+use Rattle.lp_pattern.specs.Stripping.{opens, IsNoAbstraction, stop, HasForm, HasNoForm, Comes, is_name, name_term, eigen_past, is_at, AllFormed, AllCome, IsNamed, IsTaken, read_at, IsAlone, IsEigen, HasNoEigen, IsPattern, HasNoPattern}
 use Rattle.lp_pattern.specs.Under.{IsReading, under}
 use Rattle.lp_pattern.proofs.MoreFuel.{Below, below_map}
 use Rattle.lp_pattern.proofs.Compares.{from_bind, from_map}
 use Rattle.lp_pattern.proofs.BetaForms.{beta_behind, beta_named, leaf_form}
-use Rattle.lp_pattern.proofs.Naming.{IsLeaf, AreLeaves}
+use Rattle.lp_pattern.proofs.Naming.{IsLeaf}
 use Rattle.lp_pattern.proofs.Opening.{opens_leaves, read_reached, read_kept}
 use Rattle.lp_pattern.proofs.Stacks.{under_kept}
 use Rattle.lp_pattern.proofs.Stripped.{by_form, comes_to_none, found_at, not_all, comes_if, comes_only, comes_never}

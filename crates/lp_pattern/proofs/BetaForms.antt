@@ -1,12 +1,12 @@
 -- Beta-normal forms by counted steps: of abstractions, of a head on arguments, and behind steps at the top.
-use Rattle.std.proofs.Common.{◌≡◌, ℕ, zero, suc, ◌≤◌, List, [], ◌∷◌, map, length, ◌∙◌, refl, sym, ap, subst as transport, arith, Option, Some, None}
+use Rattle.std.proofs.Common.{◌≡◌, ℕ, zero, suc, List, [], ◌∷◌, ◌∙◌, refl, sym, ap, subst as transport, arith, Option, Some, None}
 use Rattle.std.specs.Prelude.{option_map}
 use Rattle.lp_calculus.specs.Term.{Term, index, atom, abs, app, apply}
 use Rattle.lp_calculus.specs.Convert.{leftmost_step, option_term, or_else, steps}
 use Rattle.lp_calculus.proofs.Sigma.{subst}
 use Rattle.lp_model.specs.Eigens.{beta_normal}
 use Rattle.lp_pattern.specs.Seen.{weak_step}
-use Rattle.lp_pattern.proofs.MoreFuel.{Below, below_none, below_same}
+use Rattle.lp_pattern.proofs.MoreFuel.{Below, below_none}
 use Rattle.lp_pattern.proofs.TopScans.{beta_more}
 use Rattle.lp_pattern.proofs.Naming.{IsLeaf, AreLeaves, leftmost_named}
 

@@ -1,10 +1,9 @@
 -- The index or the atom to which abstractions on a head come by eta contractions: exactly where the head stands on the indices of the
 -- abstractions, the outermost first.
-use Rattle.std.proofs.Common.{◌≡◌, ℕ, zero, suc, ◌+◌, List, [], ◌∷◌, ◌++◌, map, length, ◌∙◌, refl, sym, ap, subst as transport, arith, Bool, true, false, Option, Some, None, nat_eq, if◌then◌else◌, ◌⊎◌, inl, inr}
-use Rattle.std.specs.Prelude.{not, ◌&&◌, nat_lt}
+use Rattle.std.proofs.Common.{◌≡◌, ℕ, zero, suc, ◌+◌, List, [], ◌∷◌, ◌++◌, map, ◌∙◌, refl, sym, ap, arith, Bool, true, false, nat_eq, if◌then◌else◌}
+use Rattle.std.specs.Prelude.{not, ◌&&◌}
 use Rattle.std.proofs.lemmas.Bool.Decides.{nat_tests}
-use mathlib.Core.Path.{fun_ext}
-use Rattle.lp_calculus.specs.Term.{Term, Atom, index, atom, abs, app, apply, eigen, substitute}
+use Rattle.lp_calculus.specs.Term.{Term, index, atom, abs, app, apply, substitute}
 use Rattle.lp_calculus.specs.Normal.{is_absent, contracted, eta_normal}
 use Rattle.lp_calculus.proofs.Sigma.{rename, up, subst, instead, subst-subst, subst-rename, subst-index}
 use Rattle.lp_calculus.proofs.Plain.{substitute-subst}

@@ -2,9 +2,9 @@
 use Rattle.std.proofs.Common.{◌≡◌, ℕ, List, [], ◌∷◌, ◌∙◌, refl, sym, ap, subst as transport, Bool, true, false, ◌||◌, if◌then◌else◌, arith}
 use Rattle.std.specs.Prelude.{◌&&◌, nat_le, nat_lt, not}
 use Rattle.std.proofs.lemmas.Bool.Decides.{nat_tests}
-use Rattle.lp_model.specs.Scan.{Side, is_side, allow, fits, pattern, Scanned, broken, whole, scanned_pattern}
+use Rattle.lp_model.specs.Scan.{Side, is_side, allow, fits, pattern, broken, whole, scanned_pattern}
 use Rattle.lp_pattern.specs.declared.scan.Scanned.{Scanned as Noted}
-use Rattle.lp_pattern.specs.Scanning.{Adds, IsBroken, all_fit}
+use Rattle.lp_pattern.specs.Scanning.{Adds, IsBroken}
 
 above_is : (l m : ℕ) → nat_lt l m ≡ not (nat_le m l)
 above_is l m = grind (arith, nat_tests)

@@ -1,13 +1,13 @@
 -- Terms below abstractions that were opened: looks at them, and at the bodies of their abstractions.
-use Rattle.std.proofs.Common.{◌≡◌, ℕ, zero, suc, ◌+◌, ◌-◌, ◌<◌, ◌≤◌, List, [], ◌∷◌, map, length, ◌∙◌, refl, sym, ap, subst as transport, arith, Bool, true, false, Option, Some, None, nat_eq, if◌then◌else◌}
-use Rattle.std.specs.Prelude.{option_map, nat_lt, All}
+use Rattle.std.proofs.Common.{◌≡◌, ℕ, zero, suc, ◌+◌, ◌-◌, ◌<◌, List, [], ◌∷◌, map, length, ◌∙◌, refl, sym, ap, subst as transport, arith, Bool, true, false, Option, Some, None, if◌then◌else◌}
+use Rattle.std.specs.Prelude.{option_map, nat_lt}
 use Rattle.std.proofs.lemmas.Bool.Decides.{nat_tests}
 use mathlib.Core.Path.{fun_ext}
-use Rattle.lp_calculus.specs.Term.{Term, Atom, index, atom, abs, app, apply, shift, substitute, constant, integer, text, eigen, logic, param}
+use Rattle.lp_calculus.specs.Term.{Term, Atom, index, atom, abs, app, apply, substitute, constant, integer, text, eigen, logic, param}
 use Rattle.lp_calculus.specs.Convert.{steps}
 use Rattle.lp_calculus.specs.Fill.{fill, raise, at_variables}
 use Rattle.lp_calculus.specs.Instance.{instance_term}
-use Rattle.lp_calculus.proofs.Sigma.{rename, up, subst, instead, subst-subst, subst-rename, subst-index}
+use Rattle.lp_calculus.proofs.Sigma.{up, subst, instead, subst-subst, subst-rename, subst-index}
 use Rattle.lp_calculus.proofs.Plain.{substitute-subst}
 use Rattle.lp_term.specs.Nodes.{Nodes, Extends, tree}
 use Rattle.lp_term.specs.declared.node.TermId.{TermId}
@@ -17,13 +17,13 @@ use Rattle.lp_pattern.specs.declared.bindings.Bindings.{Bindings}
 use Rattle.lp_pattern.specs.declared.look.Head.{Head}
 use Rattle.lp_pattern.specs.declared.look.Looked.{Looked}
 use Rattle.lp_pattern.specs.Under.{ValueIs, IsReading, under, below}
-use Rattle.lp_pattern.specs.Seen.{weak_step, IsRigid, IsHead, IsLooked, IsReachedWithin}
+use Rattle.lp_pattern.specs.Seen.{weak_step, IsRigid, IsHead, IsLooked}
 use Rattle.lp_pattern.specs.Stripping.{opens, IsShut, read_at}
 use Rattle.lp_pattern.specs.TopLooks.{top_normal, top_look}
 use Rattle.std.proofs.lemmas.List.{append-nil}
 use Rattle.lp_pattern.proofs.Looking.{closed_apply, looked_apply}
 use Rattle.lp_pattern.proofs.Naming.{IsLeaf, AreLeaves, weak_named, steps_named, subst_apply}
-use Rattle.lp_pattern.proofs.Stacks.{rigid_closed, under_kept}
+use Rattle.lp_pattern.proofs.Stacks.{under_kept}
 
 pub opens_leaves : (l d : ℕ) → AreLeaves (opens l d)
 opens_leaves l d i = go (nat_lt i d)

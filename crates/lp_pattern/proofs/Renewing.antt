@@ -1,14 +1,14 @@
 -- Values of variables on distinct eigenconstants: the abstraction of the eigenconstants over a new variable on some of them.
-use Rattle.std.proofs.Common.{◌≡◌, ℕ, zero, suc, ◌-◌, ◌<◌, ◌≤◌, List, [], ◌∷◌, ◌++◌, map, length, ◌∙◌, refl, sym, ap, subst as transport, arith, Bool, true, false, nat_eq, ◌||◌, if◌then◌else◌}
+use Rattle.std.proofs.Common.{◌≡◌, ℕ, zero, suc, ◌-◌, ◌≤◌, List, [], ◌∷◌, ◌++◌, map, length, ◌∙◌, refl, sym, ap, arith, Bool, true, false, nat_eq, ◌||◌, if◌then◌else◌}
 use Rattle.std.specs.Prelude.{◌&&◌, ◌+◌, min, nat_le, nat_lt, not}
 use Rattle.std.proofs.lemmas.Bool.Decides.{nat_tests}
 use Rattle.std.proofs.lemmas.List.{map-append}
 use Rattle.lp_calculus.specs.Term.{Term, Atom, index, atom, abs, app, apply, shift, eigen, logic}
-use Rattle.lp_calculus.specs.Fill.{fill, raise, indexed, abstraction, abstracted}
+use Rattle.lp_calculus.specs.Fill.{fill, raise, indexed, abstracted}
 use Rattle.lp_term.specs.Spine.{abstractions}
 use Rattle.lp_model.specs.Patterns.{eigens, member, chosen, agreeing}
 use Rattle.lp_model.specs.Look.{are_distinct, are_above}
-use Rattle.lp_model.specs.Scan.{Side, allows, pattern, pattern_term, renewal}
+use Rattle.lp_model.specs.Scan.{Side, allows, pattern, renewal}
 use Rattle.lp_pattern.specs.Scanning.{allowed_places, agreeing_places}
 
 -- below n abstractions

@@ -16,7 +16,6 @@ use Rattle.lp_pattern.proofs.Names.{kind, node_kind, kind_of}
 use Rattle.lp_term.specs.declared.node.TermId.{TermId}
 use Rattle.lp_term.specs.declared.reduce.TermRefusal.{TermRefusal}
 use Rattle.lp_term.proofs.Openings.{all_reverse}
-use Rattle.lp_model.specs.Look.{an_abs, rigid, flexible, pattern_of}
 use Rattle.lp_model.specs.Pair.{Closing, closed}
 use Rattle.lp_model.specs.Patterns.{member}
 use Rattle.lp_model.specs.Scan.{is_side, allows, allows_head, Scanned, broken, whole, beside, scan, scanned_pattern}
@@ -28,7 +27,6 @@ use Rattle.lp_pattern.specs.declared.fault.PatternRefusal.TheVariants as refusal
 use Rattle.lp_pattern.specs.declared.look.Head.{Head}
 use Rattle.lp_pattern.specs.declared.look.Looked.{Looked}
 use Rattle.lp_pattern.specs.declared.patterns.Arguments.{Arguments}
-use Rattle.lp_pattern.specs.declared.patterns.Opened.{Opened}
 use Rattle.lp_pattern.specs.declared.scan.Scanned.{Scanned as Noted}
 use Rattle.lp_pattern.specs.declared.scan.Visit.{Visit}
 use Rattle.lp_pattern.specs.declared.side.Side.{Side}
@@ -38,12 +36,12 @@ use Rattle.lp_pattern.specs.Scanning.{Adds, IsBroken, all_fit, visits}
 use Rattle.lp_pattern.specs.Seen.{weak_step, IsRigid, IsHead, IsLooked, IsReachedWithin, IsDeepWhere}
 use Rattle.lp_pattern.specs.Stripping.{opens, IsShut, IsPattern, HasNoPattern, read_at}
 use Rattle.lp_pattern.specs.Under.{IsReading, under}
-use Rattle.lp_pattern.specs.Visiting.{Part, scan_parts, part_at, part_of, parts_of, IsVisitOf, IsRestOf, IsStopped, IsScanned, Fails, Merged}
+use Rattle.lp_pattern.specs.Visiting.{Part, scan_parts, part_at, part_of, parts_of, IsVisitOf, IsRestOf, IsStopped, IsScanned, Merged}
 use Rattle.lp_pattern.proofs.MoreFuel.{Below, below_none, below_same, below_then, below_map}
 use Rattle.lp_pattern.specs.TopLooks.{top_normal, top_look, scan_top, scan_seen}
 use Rattle.lp_pattern.proofs.TopScans.{scan_of, top_is}
 use Rattle.lp_pattern.proofs.Naming.{weak_named, steps_named}
-use Rattle.lp_pattern.proofs.Opening.{SeenAt, opens_leaves, read_reached, read_kept, read_none, rigid_at, variable_at, abstraction_at, opened_once}
+use Rattle.lp_pattern.proofs.Opening.{opens_leaves, read_reached, read_kept, read_none, rigid_at, variable_at, abstraction_at, opened_once}
 use Rattle.lp_pattern.proofs.Visits.{args_of}
 use Rattle.lp_pattern.proofs.Walking.{map-reverse}
 use Rattle.lp_pattern.proofs.VisitSteps.{opened_rest, rigid_rest, rigid_fails, open_rest, pattern_rest, pattern_fails, none_left, too_far, pattern_too_far, rest_then, rest_stopped, all_scanned}

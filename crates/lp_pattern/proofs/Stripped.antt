@@ -1,9 +1,8 @@
 -- The eigenconstants to which arguments come: below abstractions a head has to stand on their indices, and each of these is looked at in turn.
-use Rattle.std.proofs.Common.{◌≡◌, ℕ, zero, suc, ◌+◌, ◌-◌, ◌<◌, ◌≤◌, List, [], ◌∷◌, ◌++◌, map, length, ◌∙◌, refl, sym, ap, subst as transport, arith, Bool, true, false, Option, Some, None, nat_eq, if◌then◌else◌}
+use Rattle.std.proofs.Common.{◌≡◌, ℕ, zero, suc, ◌+◌, ◌-◌, ◌<◌, ◌≤◌, List, [], ◌∷◌, map, length, ◌∙◌, refl, sym, ap, subst as transport, arith, Bool, true, false, Option, Some, None, nat_eq, if◌then◌else◌}
 use Rattle.std.specs.Prelude.{option_map, nat_lt}
 use Rattle.std.proofs.lemmas.Bool.Decides.{nat_tests}
 use Rattle.lp_calculus.specs.Term.{Term, index, atom, abs, app, apply, constant, integer, text, eigen, logic, param}
-use Rattle.lp_calculus.specs.Convert.{steps}
 use Rattle.lp_calculus.specs.Normal.{eta_normal}
 use Rattle.lp_calculus.proofs.Sigma.{subst}
 use Rattle.lp_term.specs.Nodes.{Nodes}
@@ -13,7 +12,6 @@ use Rattle.lp_model.specs.Eigens.{beta_normal, eigen_of, as_eigen}
 use Rattle.lp_model.specs.Pair.{Closing}
 use Rattle.lp_pattern.specs.declared.patterns.Wanted.{Wanted}
 use Rattle.lp_pattern.specs.Under.{under}
-use Rattle.lp_pattern.specs.Seen.{weak_step}
 use Rattle.lp_pattern.specs.Stripping.{Strips, stop, strip, HasForm, Comes, is_name, name_below, eigen_past, is_at, wanted_at, AllFormed, AllCome, IsNamed}
 use Rattle.lp_pattern.proofs.Naming.{IsLeaf, AreLeaves}
 use Rattle.lp_pattern.proofs.Renewing.{abs_inside}

@@ -1,12 +1,11 @@
 -- Verdicts for a pair over the banks in which its sides are tested one after the other.
-use Rattle.std.proofs.Common.{◌≡◌, ℕ, ◌≤◌, List, map, length, ◌∙◌, refl, sym, ap, subst as transport, Bool, true, false, Option, Some, None}
+use Rattle.std.proofs.Common.{◌≡◌, ℕ, ◌≤◌, List, map, length, ◌∙◌, sym, ap, subst as transport, Bool, true, false, Option, Some, None}
 use Rattle.lp_calculus.specs.Term.{Term}
 use Rattle.lp_calculus.specs.Convert.{steps}
 use Rattle.lp_term.specs.Nodes.{Nodes, Extends}
-use Rattle.lp_term.specs.declared.node.TermId.{TermId}
 use Rattle.lp_model.specs.Look.{flexible}
 use Rattle.lp_model.specs.Pair.{Pair, Closing}
-use Rattle.lp_model.specs.Rule.{Ruled, solve_for, by_rule_5, by_rule_4, by_looks, compare_all}
+use Rattle.lp_model.specs.Rule.{solve_for, by_rule_5, by_rule_4, by_looks, compare_all}
 use Rattle.lp_pattern.specs.declared.bindings.Bindings.{Bindings}
 use Rattle.lp_pattern.specs.declared.fault.PatternRefusal.{PatternRefusal}
 use Rattle.lp_pattern.specs.declared.look.Head.{Head}
@@ -14,12 +13,12 @@ use Rattle.lp_pattern.specs.declared.look.Looked.{Looked}
 use Rattle.lp_pattern.specs.declared.side.Side.{Side}
 use Rattle.lp_pattern.specs.Comparing.{IsComparedTo, IsPassed}
 use Rattle.lp_pattern.specs.Reading.{side_of}
-use Rattle.lp_pattern.specs.Ruling.{view, is_one_variable, is_flexible, IsSideOf, IsNoSide, IsSeenPair, IsJudged, IsRuledOut}
+use Rattle.lp_pattern.specs.Ruling.{view, IsSideOf, IsNoSide, IsSeenPair, IsJudged, IsRuledOut}
 use Rattle.lp_pattern.specs.Seen.{weak_step, IsLooked}
 use Rattle.lp_pattern.specs.Under.{under}
 use Rattle.lp_pattern.proofs.MoreFuel.{Below}
 use Rattle.lp_pattern.proofs.Stacks.{under_kept}
-use Rattle.lp_pattern.proofs.Judging.{judged_below, out_below, left_side, right_side, no_side, view_kept, pair_kept, all_under, as_variable, one_of, variables_same, variables_differ, differ_out, compare_out, four_open, four_half, four_joined, four_left_out, four_right_out, length_map}
+use Rattle.lp_pattern.proofs.Judging.{judged_below, out_below, left_side, right_side, view_kept, all_under, as_variable, variables_same, variables_differ, differ_out, compare_out, four_open, four_half, four_joined, four_left_out, four_right_out, length_map}
 
 module _ (b d : Nodes) (s : Bindings) (c : Closing) (one other : Looked) (level n next u : ℕ) (p : Pair) (e : Extends b d) (k : IsLooked b s one) (m : IsLooked b s other) (h : IsSeenPair b c level one other p) where
   later_right : steps weak_step h.right.0 p.right ≡ Some (under d c other.whole)

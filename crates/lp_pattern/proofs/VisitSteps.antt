@@ -1,6 +1,6 @@
 -- What each kind of part comes to in a scan, and how runs of steps are put together.
-use Rattle.std.proofs.Common.{◌≡◌, ℕ, zero, suc, ◌+◌, ◌<◌, ◌≤◌, List, [], ◌∷◌, ◌++◌, map, ◌∙◌, refl, sym, ap, subst as transport, arith, Bool, true, false, Option, Some, None, ◌||◌, if◌then◌else◌}
-use Rattle.std.specs.Prelude.{option_map, option_and_then, not, nat_lt, ◌&&◌, IsSome}
+use Rattle.std.proofs.Common.{◌≡◌, ℕ, zero, suc, ◌+◌, ◌≤◌, List, [], ◌∷◌, ◌++◌, ◌∙◌, refl, sym, ap, subst as transport, arith, Bool, true, false, Option, Some, None, ◌||◌, if◌then◌else◌}
+use Rattle.std.specs.Prelude.{option_map, option_and_then, not, nat_lt, ◌&&◌}
 use Rattle.lp_calculus.specs.Term.{Term, atom, eigen, substitute}
 use Rattle.lp_calculus.specs.Convert.{steps}
 use Rattle.lp_term.specs.declared.reduce.TermRefusal.{TermRefusal}
@@ -18,7 +18,6 @@ use Rattle.lp_pattern.specs.Scanning.{all_fit, Adds, IsBroken}
 use Rattle.lp_pattern.specs.Stripping.{IsPattern, HasNoPattern, eigens_of}
 use Rattle.lp_pattern.specs.TopLooks.{top_normal, top_look, scan_top, scan_seen, scan_tops}
 use Rattle.lp_pattern.specs.Visiting.{Part, scan_parts, Merged, IsRestOf, IsScanned, Fails, Exceeds, IsStopped}
-use Rattle.lp_pattern.proofs.MoreFuel.{Below}
 use Rattle.lp_pattern.proofs.Compares.{from_bind, from_map}
 use Rattle.lp_pattern.proofs.TopScans.{top_is}
 use Rattle.lp_pattern.proofs.Opening.{SeenAt, top_of}

@@ -1,19 +1,13 @@
 -- Steps of a scan: a part gives way to its parts, with what is noted and the units between.
-use Rattle.std.proofs.Common.{◌≡◌, ℕ, zero, suc, ◌+◌, ◌<◌, ◌≤◌, List, [], ◌∷◌, ◌++◌, map, reverse, length, ◌∙◌, refl, sym, ap, subst as transport, arith, Bool, true, false, Option, Some, None, ◌||◌, append_assoc}
-use Rattle.std.specs.Prelude.{option_map, option_and_then, not, nat_lt, ◌&&◌, All}
+use Rattle.std.proofs.Common.{ℕ, zero, suc, ◌≤◌, List, [], ◌∷◌, map, ◌∙◌, sym, arith, Bool, true, false, Option, Some, None, ◌||◌}
+use Rattle.std.specs.Prelude.{option_map, not, nat_lt}
 use Rattle.lp_calculus.specs.Term.{Term, atom, eigen, substitute}
-use Rattle.lp_calculus.specs.Convert.{steps}
-use Rattle.lp_model.specs.Look.{Look, an_abs, rigid, flexible, looked, pattern_of}
-use Rattle.lp_model.specs.Scan.{Side, is_side, allows_head, Pattern, Scanned, broken, whole, above, beside, scanned_pattern}
-use Rattle.lp_pattern.specs.declared.scan.Scanned.{Scanned as Noted}
-use Rattle.lp_pattern.specs.Seen.{weak_step}
-use Rattle.lp_pattern.specs.Scanning.{all_fit, Adds, IsBroken}
+use Rattle.lp_model.specs.Look.{Look, an_abs, rigid, flexible, pattern_of}
+use Rattle.lp_model.specs.Scan.{Side, is_side, allows_head, Scanned, broken, whole, above, beside, scanned_pattern}
 use Rattle.lp_pattern.specs.TopLooks.{top_look, scan_top, scan_seen, scan_tops}
-use Rattle.lp_pattern.specs.Visiting.{Part, scan_parts, Merged, IsRestOf, Fails, Exceeds}
+use Rattle.lp_pattern.specs.Visiting.{Part, scan_parts}
 use Rattle.lp_pattern.proofs.MoreFuel.{Below, below_none, below_same, below_then, below_map}
-use Rattle.lp_pattern.proofs.Compares.{from_bind, from_map}
 use Rattle.lp_pattern.proofs.TopScans.{top_is}
-use Rattle.lp_pattern.proofs.Opening.{SeenAt, top_of}
 
 -- more turns change no answer
 below_test : (b : Bool) (x x' y : Option Scanned) → Below x x' → Below (elim b as (λ z. Option Scanned) [ true ↦ x | false ↦ y ]) (elim b as (λ z. Option Scanned) [ true ↦ x' | false ↦ y ])

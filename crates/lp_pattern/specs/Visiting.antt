@@ -1,5 +1,5 @@
 -- Parts that are scanned one after the other, and what a scan comes to.
-use Rattle.std.specs.Prelude.{◌≡◌, ℕ, ◌+◌, ◌<◌, ◌≤◌, not, Bool, true, false, ◌||◌, List, [], ◌∷◌, map, reverse, Option, Some, None, option_map}
+use Rattle.std.specs.Prelude.{◌≡◌, ℕ, ◌+◌, ◌<◌, ◌≤◌, not, Bool, false, ◌||◌, List, [], ◌∷◌, map, reverse, Option, Some, option_map}
 use Rattle.lp_calculus.specs.Term.{Term}
 use Rattle.lp_term.specs.Nodes.{Nodes}
 use Rattle.lp_term.specs.declared.node.TermId.{TermId}

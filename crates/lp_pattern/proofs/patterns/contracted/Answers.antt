@@ -1,4 +1,4 @@
-use Rattle.std.proofs.Common.{ℕ, ◌≤◌, ◌∙◌, ap, ◌++◌, arith, length, ◌<◌, refl, subst as transport}
+use Rattle.std.proofs.Common.{ℕ, ◌≤◌, ◌∙◌, ap, ◌++◌, arith, length, ◌<◌, subst as transport}
 use Rattle.lp_term.proofs.Trees.{extends-trans}
 use Rattle.lp_term.proofs.Moves.{passed_up, nothing}
 use Rattle.lp_model.specs.Pair.{Closing}

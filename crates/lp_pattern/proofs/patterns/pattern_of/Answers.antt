@@ -1,9 +1,9 @@
-use Rattle.std.proofs.Common.{ℕ, ◌≤◌, arith, map, None, Some, subst as transport}
+use Rattle.std.proofs.Common.{ℕ, ◌≤◌, arith, map, None, Some}
 use Rattle.lp_term.proofs.Trees.{extends-trans}
 use Rattle.lp_term.proofs.Moves.{passed_up}
 use Rattle.lp_model.specs.Pair.{Closing}
 use Rattle.lp_pattern.specs.Under.{IsReading}
-use Rattle.lp_pattern.specs.Stripping.{IsShut, HasNoPattern, IsEigen, read_at}
+use Rattle.lp_pattern.specs.Stripping.{IsShut, HasNoPattern, read_at}
 use Rattle.lp_pattern.proofs.ArgumentRuns.{deep_at, none_at, next_at, at_eigen, pushed_eigens}
 use Rattle.lp_pattern.proofs.Walking.{reading_kept}
 use Rattle.lp_pattern.proofs.patterns.pattern_of.Goals as goal

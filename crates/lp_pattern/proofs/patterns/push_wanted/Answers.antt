@@ -1,4 +1,4 @@
-use Rattle.std.proofs.Common.{arith, length, ◌+◌, ◌-◌, ◌++◌, ◌∷◌, [], refl}
+use Rattle.std.proofs.Common.{refl}
 use Rattle.lp_pattern.proofs.ArgumentForms.{wanted_next, fewer_left}
 use Rattle.lp_pattern.proofs.patterns.push_wanted.Goals as goal
 

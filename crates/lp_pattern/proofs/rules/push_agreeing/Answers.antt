@@ -1,4 +1,3 @@
-use Rattle.std.proofs.Common.{arith}
 use Rattle.std.proofs.lemmas.Bool.{eq-eqb}
 use Rattle.lp_calculus.specs.Term.{index}
 use Rattle.lp_pattern.proofs.Pushing.{one_more}

@@ -1,6 +1,6 @@
 use Rattle.std.proofs.Common.{arith, refl}
 use Rattle.lp_term.proofs.Trees.{extends_same, extends-trans}
-use Rattle.lp_pattern.proofs.Pushing.{agreed_start, agreed_next, agreed_all, agreed_short}
+use Rattle.lp_pattern.proofs.Pushing.{agreed_start, agreed_next, agreed_short}
 use Rattle.lp_pattern.proofs.rules.put_agreeing.Goals as goal
 
 pub loop-place-init : goal.loop-place-init

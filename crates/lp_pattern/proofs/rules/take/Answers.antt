@@ -1,14 +1,5 @@
-use Rattle.std.proofs.Common.{◌≡◌, ℕ, Some, None, sym, ◌∙◌, subst as transport, map, length, true, false, ◌≤◌}
-use Rattle.lp_term.proofs.Moves.{passed_up}
 use Rattle.lp_term.proofs.Trees.{extends-trans}
-use Rattle.lp_model.specs.Pair.{Closing, Pair as Equation}
-use Rattle.lp_model.specs.Rule.{by_rule_4, by_rule_5, by_looks, compare_all}
-use Rattle.lp_pattern.specs.declared.look.Head.{Head}
-use Rattle.lp_pattern.specs.Comparing.{IsPassed, IsComparedTo}
-use Rattle.lp_pattern.specs.Ruling.{view, IsSeenPair, IsSideOf, IsRuledOut}
-use Rattle.lp_pattern.specs.Stripping.{IsShut}
-use Rattle.lp_pattern.specs.Under.{IsReading, under}
-use Rattle.lp_pattern.proofs.Results.{if_ok, if_err}
+use Rattle.lp_pattern.proofs.Results.{if_ok}
 use Rattle.lp_pattern.proofs.Walking.{reading_kept, looked_stays}
 use Rattle.lp_pattern.proofs.Judging.{seen_pair}
 use Rattle.lp_pattern.proofs.rules.take.Goals as goal

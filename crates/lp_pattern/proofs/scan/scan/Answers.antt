@@ -8,7 +8,7 @@ use Rattle.lp_pattern.specs.Reading.{side_of}
 use Rattle.lp_pattern.specs.Stripping.{IsShut}
 use Rattle.lp_pattern.specs.Under.{IsReading, under}
 use Rattle.lp_pattern.specs.Visiting.{IsVisitOf, IsStopped}
-use Rattle.lp_pattern.proofs.Scannings.{scan_starts, scan_first, scan_next, scan_done, scan_stops, one_known}
+use Rattle.lp_pattern.proofs.Scannings.{scan_first, scan_next, scan_done, scan_stops, one_known}
 use Rattle.lp_pattern.proofs.Tops.{popped_known}
 use Rattle.lp_pattern.proofs.Walking.{reading_kept}
 use Rattle.lp_pattern.proofs.scan.scan.Goals as goal

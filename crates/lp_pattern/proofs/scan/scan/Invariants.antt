@@ -1,4 +1,4 @@
-use Rattle.std.proofs.Common.{◌≡◌, ℕ, length, false}
+use Rattle.std.proofs.Common.{ℕ, length, false}
 use Rattle.std.specs.Prelude.{All}
 use Rattle.lp_term.specs.Nodes.{Extends}
 use Rattle.lp_model.specs.Pair.{Closing}

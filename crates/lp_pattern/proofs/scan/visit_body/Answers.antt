@@ -1,10 +1,3 @@
-use Rattle.std.proofs.Common.{ℕ, ◌∷◌, ◌∙◌, sym, ap, refl}
-use Rattle.lp_term.proofs.Moves.{passed_up}
-use Rattle.lp_model.specs.Pair.{Closing}
-use Rattle.lp_pattern.specs.Reading.{side_of}
-use Rattle.lp_pattern.specs.Stripping.{IsShut}
-use Rattle.lp_pattern.specs.Under.{IsReading}
-use Rattle.lp_pattern.specs.Visiting.{IsStopped, scan_parts, part_at, part_of, parts_of}
 use Rattle.lp_pattern.proofs.Scannings.{body_goes, body_visit, one_known}
 use Rattle.lp_pattern.proofs.scan.visit_body.Goals as goal
 

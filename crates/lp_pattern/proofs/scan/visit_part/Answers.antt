@@ -1,10 +1,5 @@
-use Rattle.std.proofs.Common.{ℕ, ◌∷◌, ◌∙◌, sym, ap, refl, arith}
-use Rattle.lp_term.proofs.Moves.{passed_up}
-use Rattle.lp_model.specs.Pair.{Closing}
+use Rattle.std.proofs.Common.{arith}
 use Rattle.lp_pattern.specs.Reading.{side_of}
-use Rattle.lp_pattern.specs.Stripping.{IsShut}
-use Rattle.lp_pattern.specs.Under.{IsReading}
-use Rattle.lp_pattern.specs.Visiting.{IsStopped, scan_parts, part_at, part_of, parts_of}
 use Rattle.lp_pattern.specs.Refusing.{IsOfTerm}
 use Rattle.lp_pattern.proofs.Results.{err_and, if_err}
 use Rattle.lp_pattern.proofs.Walking.{on_ok, reading_kept}

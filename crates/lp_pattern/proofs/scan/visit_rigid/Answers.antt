@@ -5,7 +5,7 @@ use Rattle.lp_pattern.specs.Reading.{side_of}
 use Rattle.lp_pattern.specs.Scanning.{visits}
 use Rattle.lp_pattern.specs.Stripping.{IsShut}
 use Rattle.lp_pattern.specs.Under.{IsReading}
-use Rattle.lp_pattern.specs.Visiting.{IsStopped, scan_parts, part_at, part_of, parts_of}
+use Rattle.lp_pattern.specs.Visiting.{IsStopped, scan_parts, part_at, parts_of}
 use Rattle.lp_pattern.proofs.Scannings.{rigid_goes, rigid_breaks, rigid_spent, pushed_known}
 use Rattle.lp_pattern.proofs.scan.visit_rigid.Goals as goal
 

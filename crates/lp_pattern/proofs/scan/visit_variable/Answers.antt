@@ -1,11 +1,11 @@
-use Rattle.std.proofs.Common.{ℕ, ◌∷◌, ◌++◌, ◌∙◌, sym, ap, refl, subst as transport, map, reverse, length, true, Some, None}
+use Rattle.std.proofs.Common.{ℕ, ◌∷◌, ◌++◌, ◌∙◌, ap, subst as transport, map, reverse, length, true, Some, None}
 use Rattle.lp_term.proofs.Moves.{passed_up}
 use Rattle.lp_model.specs.Pair.{Closing}
 use Rattle.lp_pattern.specs.Reading.{side_of}
 use Rattle.lp_pattern.specs.Scanning.{visits}
 use Rattle.lp_pattern.specs.Stripping.{IsShut, IsPattern, HasNoPattern, read_at}
 use Rattle.lp_pattern.specs.Under.{IsReading}
-use Rattle.lp_pattern.specs.Visiting.{IsStopped, scan_parts, part_at, part_of, parts_of}
+use Rattle.lp_pattern.specs.Visiting.{IsStopped, scan_parts, part_at, parts_of}
 use Rattle.lp_pattern.proofs.Results.{err_and}
 use Rattle.lp_pattern.specs.Refusing.{IsOfTerm}
 use Rattle.lp_pattern.proofs.Scannings.{variable_spent, variable_far, open_goes, pattern_goes, pattern_breaks, pushed_known, visits_kept}
