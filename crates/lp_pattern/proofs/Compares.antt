@@ -1,16 +1,16 @@
 -- Comparisons of terms, pair by pair: what the definition gives for pairs it gives where their sides are some steps further.
 use Rattle.std.proofs.Common.{◌≡◌, ℕ, zero, suc, ◌+◌, ◌≤◌, List, [], ◌∷◌, ◌++◌, length, ◌∙◌, refl, sym, ap, subst as transport, arith, Bool, true, false, Option, Some, None, nat_eq}
 use Rattle.std.specs.Prelude.{option_map, option_and_then, ◌&&◌}
-use Rattle.lp_calculus.specs.Term.{Term, index, atom, abs, app}
+use Rattle.lp_calculus.specs.Term.{Term, abs}
 use Rattle.lp_calculus.specs.Convert.{steps}
 use Rattle.lp_model.specs.Same.{same_name}
 use Rattle.lp_model.specs.Look.{Look, an_abs, rigid, flexible, head_normal, look}
 use Rattle.lp_model.specs.Pair.{Pair}
-use Rattle.lp_model.specs.Rule.{Compared, dearer, open_with, type_pairs, argument_pairs, compare_types, compare, compare_looks, compare_all, opened}
+use Rattle.lp_model.specs.Rule.{Compared, dearer, open_with, type_pairs, argument_pairs, compare_types, compare, compare_looks, compare_all}
 use Rattle.lp_pattern.specs.Seen.{weak_step}
 use Rattle.lp_pattern.specs.Comparing.{compare_pairs, IsComparedTo, IsRest}
 use Rattle.lp_pattern.proofs.Looking.{weak_look, steps_on, look_abs}
-use Rattle.lp_pattern.proofs.MoreFuel.{Below, below_none, below_same, below_then, below_map, below_if, look_more, compare_more, pairs_more, all_pairs}
+use Rattle.lp_pattern.proofs.MoreFuel.{Below, below_none, below_same, below_then, look_more, compare_more, pairs_more, all_pairs}
 
 -- sides that are some steps further
 pub reached_look : (j n : ℕ) (t s : Term) → steps weak_step j t ≡ Some s → Below (look n t) (look n s)

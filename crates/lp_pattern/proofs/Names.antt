@@ -1,9 +1,8 @@
 -- Names of heads: two of different kinds are not the same.
 use Rattle.std.proofs.Common.{◌≡◌, ℕ, ◌≢◌, List, [], ◌∷◌, map, ◌∙◌, refl, sym, ap, Bool, true, false}
-use Rattle.std.specs.Prelude.{length, nat_eq, ◌&&◌}
 use Rattle.lp_calculus.specs.Types.{Ty, instance}
 use Rattle.lp_calculus.specs.Instance.{instance_term}
-use Rattle.lp_model.specs.Types.{TypePair, zipped}
+use Rattle.lp_model.specs.Types.{zipped}
 use Rattle.lp_model.specs.Rule.{type_pairs}
 use Rattle.lp_pattern.specs.Reading.{paired, type_pairs_of}
 use Rattle.lp_calculus.specs.Term.{Term, Atom, index, atom, abs, app, apply, constant, integer, text, eigen, logic, param}

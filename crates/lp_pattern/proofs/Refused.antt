@@ -1,8 +1,8 @@
 -- Where a comparison is refused: a head takes more contractions than there are steps, or the units do not suffice.
-use Rattle.std.proofs.Common.{◌≡◌, ℕ, zero, suc, ◌+◌, ◌<◌, ◌≤◌, List, [], ◌∷◌, length, ◌∙◌, refl, sym, ap, arith, Bool, true, false, Option, Some, None, nat_eq, subst as transport}
+use Rattle.std.proofs.Common.{◌≡◌, ℕ, zero, suc, ◌<◌, ◌≤◌, List, [], ◌∷◌, length, ◌∙◌, refl, sym, ap, arith, Bool, true, false, Option, Some, None, nat_eq, subst as transport}
 use Rattle.std.specs.Prelude.{IsSome, option_map, option_and_then, ◌&&◌}
-use Rattle.lp_calculus.specs.Term.{Term, abs}
-use Rattle.lp_calculus.specs.Convert.{head_step, steps}
+use Rattle.lp_calculus.specs.Term.{Term}
+use Rattle.lp_calculus.specs.Convert.{steps}
 use Rattle.lp_term.specs.declared.reduce.TermRefusal.{TermRefusal}
 use Rattle.lp_term.proofs.Frames.{some_of}
 use Rattle.lp_model.specs.Same.{same_name}
@@ -13,7 +13,7 @@ use Rattle.lp_pattern.specs.declared.fault.PatternRefusal.{PatternRefusal}
 use Rattle.lp_pattern.specs.declared.fault.PatternRefusal.TheVariants.{Deep, Memory, Fails}
 use Rattle.lp_pattern.specs.Refusing.{IsOfTerm}
 use Rattle.lp_pattern.specs.Seen.{weak_step, IsDeepWhere}
-use Rattle.lp_pattern.specs.Comparing.{compare_pairs, IsComparedTo, IsPassed, IsRest, IsHeadPassed}
+use Rattle.lp_pattern.specs.Comparing.{compare_pairs, IsPassed, IsRest, IsHeadPassed}
 use Rattle.lp_pattern.proofs.Looking.{weak_head}
 use Rattle.lp_pattern.proofs.MoreFuel.{Below}
 use Rattle.lp_pattern.proofs.Compares.{from_bind, from_map, by_looks, First, goes_on, ends, first}

@@ -1,22 +1,19 @@
 -- Pairs on a stack: what they are under bindings.
-use Rattle.std.proofs.Common.{◌≡◌, ℕ, suc, ◌<◌, ◌≤◌, List, [], ◌∷◌, ◌++◌, map, reverse, length, ◌∙◌, refl, sym, ap, subst as transport, arith, Bool, true, false, nat_eq, Some}
-use Rattle.std.specs.Prelude.{All, ◌&&◌, Option}
-use Rattle.std.proofs.lemmas.Bool.{eq-eqb, ne_eqb}
+use Rattle.std.proofs.Common.{◌≡◌, ℕ, ◌<◌, List, [], ◌∷◌, ◌++◌, map, reverse, length, ◌∙◌, refl, ap, arith}
+use Rattle.std.specs.Prelude.{All}
 use Rattle.std.proofs.lemmas.List.{map-append, reverse-append, reverse-reverse}
 use Rattle.std.proofs.lemmas.List.Elements.{All-nil, All-head, All-tail, All-cons, All-append, All-weaker, All-push}
-use Rattle.lp_calculus.specs.Types.{Ty, instance}
 use Rattle.lp_calculus.specs.Term.{Term, index, atom, abs, app, constant, integer, text, eigen, logic, param}
 use Rattle.lp_calculus.specs.Instance.{instance_term}
-use Rattle.lp_term.specs.Nodes.{Nodes, Extends, tree}
+use Rattle.lp_term.specs.Nodes.{Nodes, Extends}
 use Rattle.lp_term.specs.declared.node.TermId.{TermId}
-use Rattle.lp_model.specs.Pair.{Pair, Closing, closed}
-use Rattle.lp_model.specs.Same.{same_name}
-use Rattle.lp_model.specs.Rule.{Compared, type_pairs, argument_pairs}
+use Rattle.lp_model.specs.Pair.{Closing, closed}
+use Rattle.lp_model.specs.Rule.{argument_pairs}
 use Rattle.lp_model.specs.declared.answer.Pair.{Pair as Numbers}
 use Rattle.lp_pattern.specs.Growing.{IsPairOf}
 use Rattle.lp_pattern.specs.Under.{under}
 use Rattle.lp_pattern.specs.Seen.{IsRigid}
-use Rattle.lp_pattern.specs.Comparing.{compare_pairs, pair_under, pairs_under, pairs_of, IsRest, IsComparedTo}
+use Rattle.lp_pattern.specs.Comparing.{pair_under, pairs_under, pairs_of}
 
 -- a bank that has grown
 pub under_kept : (b d : Nodes) (c : Closing) (t : TermId) → Extends b d → t.0 < length b.terms → under d c t ≡ under b c t

@@ -1,12 +1,12 @@
 -- Steps of a comparison of two terms that were looked at, over the pairs that are left.
-use Rattle.std.proofs.Common.{◌≡◌, ℕ, zero, suc, ◌<◌, ◌≤◌, ◌⊎◌, inl, inr, List, [], ◌∷◌, ◌++◌, map, reverse, length, ◌∙◌, refl, sym, ap, arith, Bool, true, false, Option, Some, None, nat_eq, subst as transport}
+use Rattle.std.proofs.Common.{◌≡◌, ℕ, suc, ◌<◌, ◌⊎◌, inl, inr, List, [], ◌∷◌, ◌++◌, map, reverse, length, ◌∙◌, refl, sym, ap, arith, Bool, true, false, Option, Some, nat_eq, subst as transport}
 use Rattle.std.specs.Prelude.{◌&&◌, All}
-use Rattle.std.proofs.lemmas.List.{reverse-reverse, append-nil}
-use Rattle.lp_calculus.specs.Term.{Term, abs, app, apply}
+use Rattle.std.proofs.lemmas.List.{reverse-reverse}
+use Rattle.lp_calculus.specs.Term.{Term, apply}
 use Rattle.lp_term.specs.Nodes.{Nodes, Extends, tree}
 use Rattle.lp_term.specs.declared.node.TermId.{TermId}
 use Rattle.lp_model.specs.Same.{same_name}
-use Rattle.lp_model.specs.Look.{Look, an_abs, rigid, flexible, look}
+use Rattle.lp_model.specs.Look.{rigid, flexible, look}
 use Rattle.lp_model.specs.Pair.{Pair, Closing, closed}
 use Rattle.lp_model.specs.Rule.{Compared, argument_pairs, compare, compare_all}
 use Rattle.lp_model.specs.declared.answer.Pair.{Pair as Numbers}

@@ -2,5 +2,10 @@ pub mod Comparing
 pub mod Growing
 pub mod Reading
 pub mod Refusing
+pub mod Ruling
+pub mod Scanning
 pub mod Seen
+pub mod Stripping
+pub mod TopLooks
 pub mod Under
+pub mod Visiting

@@ -5,7 +5,7 @@ use Rattle.lp_model.specs.Pair.{Closing}
 use Rattle.lp_model.specs.Rule.{compare_all}
 use Rattle.lp_pattern.specs.Growing.{IsPairOf}
 use Rattle.lp_pattern.specs.Under.{IsReading, under}
-use Rattle.lp_pattern.specs.Comparing.{IsPassed, compare_pairs, pairs_under, pairs_of}
+use Rattle.lp_pattern.specs.Comparing.{IsPassed, pairs_of}
 use Rattle.lp_pattern.proofs.Tops.{are_start, are_next, are_apart_at, are_done, popped_known, refused_at, start_known}
 use Rattle.lp_pattern.proofs.Walking.{reading_kept}
 use Rattle.lp_pattern.proofs.compare.are_same.Goals as goal

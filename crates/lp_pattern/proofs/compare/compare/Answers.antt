@@ -1,10 +1,8 @@
-use Rattle.std.proofs.Common.{ℕ, ◌≤◌, ◌∷◌, subst as transport, sym}
+use Rattle.std.proofs.Common.{subst as transport}
 use Rattle.lp_term.proofs.Trees.{extends-trans}
-use Rattle.lp_model.specs.Pair.{Closing}
 use Rattle.lp_pattern.specs.Refusing.{IsOfTerm}
-use Rattle.lp_pattern.specs.Under.{IsReading, under}
 use Rattle.lp_pattern.specs.Seen.{IsDeepWhere}
-use Rattle.lp_pattern.specs.Comparing.{IsPassed, compare_pairs, pair_under, pairs_under}
+use Rattle.lp_pattern.specs.Comparing.{pair_under, pairs_under}
 use Rattle.lp_pattern.proofs.Results.{err_and, if_ok, if_err}
 use Rattle.lp_pattern.proofs.Refused.{left_refused, right_refused}
 use Rattle.lp_pattern.proofs.Stacks.{under_kept}

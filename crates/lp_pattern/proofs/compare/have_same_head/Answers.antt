@@ -1,4 +1,4 @@
-use Rattle.std.proofs.Common.{arith, subst as transport, sym, ap, ◌∙◌}
+use Rattle.std.proofs.Common.{arith, ap, ◌∙◌}
 use Rattle.lp_term.specs.Nodes.{tree}
 use Rattle.lp_pattern.specs.Reading.{type_pairs_of}
 use Rattle.lp_pattern.proofs.Results.{if_ok, if_err}
