@@ -10,3 +10,6 @@ pub mod SameTypes
 pub mod Stacks
 pub mod Tops
 pub mod Walking
+pub mod TypeTurns
+pub mod TypeSolving
+pub mod FilledTypes

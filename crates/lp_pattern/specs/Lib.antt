@@ -4,3 +4,4 @@ pub mod Reading
 pub mod Refusing
 pub mod Seen
 pub mod Under
+pub mod Filling
