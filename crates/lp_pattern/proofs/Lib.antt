@@ -13,3 +13,4 @@ pub mod Walking
 pub mod TypeTurns
 pub mod TypeSolving
 pub mod FilledTypes
+pub mod TypesSolved

@@ -6,6 +6,7 @@ use Rattle.lp_types.specs.Equations.{Equation, equation}
 use Rattle.lp_term.specs.Nodes.{Nodes, type_tree}
 use Rattle.lp_term.specs.Node.{TypeShape, var_node, param_node, con_node, arrow_node}
 use Rattle.lp_term.specs.declared.node.TypeId.{TypeId}
+use Rattle.lp_equations.specs.declared.bindings.Pair.{Pair}
 use Rattle.lp_model.specs.Types.{TypePair, TypeBinding, put_types, TypeOutcome, none, solved}
 use Rattle.lp_pattern.specs.Under.{AreTypes}
 use Rattle.lp_pattern.specs.declared.bindings.Bindings.{Bindings}
@@ -36,6 +37,22 @@ HaveBecome b θ olds news = map (λ t. type_tree b t.0) news ≡ map (λ t. inst
 abbrev pub equations : List TypePair → List Equation
 equations [] = []
 equations (p ∷ ps) = equation p.left p.right ∷ equations ps
+
+-- a pair of types, and what it is under the bindings
+abbrev pub held : Nodes → Pair → Equation
+held b p = equation (type_tree b p.left.0) (type_tree b p.right.0)
+
+abbrev pub equation_under : Nodes → (ℕ → Ty) → TypeId × TypeId → Equation
+equation_under b θ p = equation (instance θ (type_tree b p.0.0)) (instance θ (type_tree b p.1.0))
+
+-- all types of pairs are in the bank
+abbrev pub AreIn : Nodes → List Pair → Type 0
+AreIn b [] = Unit {0}
+AreIn b (p ∷ ps) = (p.left.0 < length b.types) × (p.right.0 < length b.types) × AreIn b ps
+
+abbrev pub AreKnown : Nodes → List (TypeId × TypeId) → Type 0
+AreKnown b [] = Unit {0}
+AreKnown b (p ∷ ps) = (p.0.0 < length b.types) × (p.1.0 < length b.types) × AreKnown b ps
 
 -- types whose variables are not bound: to put the bindings in again changes nothing
 abbrev pub IsStill : (ℕ → Ty) → Type 0
