@@ -2,6 +2,11 @@ pub mod Comparing
 pub mod Growing
 pub mod Reading
 pub mod Refusing
+pub mod Ruling
+pub mod Scanning
 pub mod Seen
+pub mod Stripping
+pub mod TopLooks
 pub mod Under
 pub mod Filling
+pub mod Visiting

@@ -12,3 +12,9 @@ abbrev pub IsOfEquations : EquationRefusal → PatternRefusal → Type 0
 IsOfEquations EquationRefusal.Fails r = r ≡ PatternRefusal.Fails
 IsOfEquations EquationRefusal.Deep r = r ≡ PatternRefusal.Deep
 IsOfEquations EquationRefusal.Memory r = r ≡ PatternRefusal.Memory
+
+-- a refusal that does not say that there is no solution
+abbrev pub IsNoFailure : PatternRefusal → Type 0
+IsNoFailure PatternRefusal.Fails = ⊥
+IsNoFailure PatternRefusal.Deep = Unit {0}
+IsNoFailure PatternRefusal.Memory = Unit {0}

@@ -175,7 +175,12 @@ fn both_rigid(
 }
 
 // Whether two variables are one and have as many arguments.
-fn are_one_variable(ids: (u64, u64), levels: (u64, u64), one: &Looked, other: &Looked) -> bool
+pub(crate) fn are_one_variable(
+    ids: (u64, u64),
+    levels: (u64, u64),
+    one: &Looked,
+    other: &Looked,
+) -> bool
     ensures { result ≡ (nat_eq ids.0 ids.1 && nat_eq levels.0 levels.1 && nat_eq (length one.now.arguments.items) (length other.now.arguments.items)) }
 {
     ids.0 == ids.1 && levels.0 == levels.1 && one.arguments.len() == other.arguments.len()

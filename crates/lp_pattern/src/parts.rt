@@ -1,8 +1,9 @@
 // New nodes over parts that are tested to be in the bank.
 ghost use Rattle.std.specs.Prelude.{◌≡◌, ◌<◌, length, map, true, All, IfOk};
-ghost use Rattle.lp_calculus.specs.Term.{app, apply, atom, eigen};
+ghost use Rattle.lp_calculus.specs.Term.{abs, app, apply, atom, constant, eigen, index, param};
 ghost use Rattle.lp_calculus.specs.Types.{con, arrow, tys};
 ghost use Rattle.lp_term.specs.Nodes.{Extends, tree, type_tree};
+ghost use Rattle.lp_term.specs.Spine.{abstractions};
 
 use lp_base::Memory;
 use lp_term::{Bank, TermId, TermNode, TypeId, TypeNode};
@@ -34,6 +35,7 @@ pub(crate) fn are_types(bank: &Bank, ids: &[TypeId]) -> bool
 // The term, if it is in the bank.
 pub(crate) fn term_of(bank: &Bank, id: TermId) -> Result<TermId, Memory>
     ensures within { IfOk result (λ term. term.0 < length bank.now.terms) }
+    ensures same { IfOk result (λ term. term ≡ id) }
 {
     if id.0 >= bank.term_count() {
         return Err(Memory);
@@ -74,6 +76,8 @@ pub(crate) fn put_application(
 
 pub(crate) fn put_abstraction(bank: &mut Bank, body: TermId) -> Result<TermId, Memory>
     ensures kept { Extends bank.old bank.new }
+    ensures within { IfOk result (λ id. id.0 < length bank.new.terms) }
+    ensures tree { IfOk result (λ id. tree bank.new id.0 ≡ abs (tree bank.old body.0)) }
 {
     if body.0 >= bank.term_count() {
         return Err(Memory);
@@ -89,9 +93,11 @@ pub(crate) fn put_abstractions(
     body: TermId,
 ) -> Result<TermId, Memory>
     ensures kept { Extends bank.old bank.new }
+    ensures within { IfOk result (λ id. id.0 < length bank.new.terms) }
+    ensures tree { IfOk result (λ id. tree bank.new id.0 ≡ abstractions count (tree bank.old body.0)) }
 {
-    let mut top = body;
-    'levels: for _ in 0..count {
+    let mut top = term_of(bank, body)?;
+    for done in 0..count {
         top = put_abstraction(bank, top)?;
     }
     Ok(top)
@@ -99,6 +105,8 @@ pub(crate) fn put_abstractions(
 
 pub(crate) fn put_constant(bank: &mut Bank, number: u32, types: &[TypeId]) -> Result<TermId, Memory>
     ensures kept { Extends bank.old bank.new }
+    ensures within { IfOk result (λ id. id.0 < length bank.new.terms) }
+    ensures tree { IfOk result (λ id. tree bank.new id.0 ≡ atom (constant number (map (λ t. type_tree bank.old t.0) types.now))) }
 {
     if !are_types(bank, types) {
         return Err(Memory);
@@ -109,6 +117,8 @@ pub(crate) fn put_constant(bank: &mut Bank, number: u32, types: &[TypeId]) -> Re
 
 pub(crate) fn put_parameter(bank: &mut Bank, number: u64, of: TypeId) -> Result<TermId, Memory>
     ensures kept { Extends bank.old bank.new }
+    ensures within { IfOk result (λ id. id.0 < length bank.new.terms) }
+    ensures tree { IfOk result (λ id. tree bank.new id.0 ≡ atom (param number (type_tree bank.old of.0))) }
 {
     if of.0 >= bank.type_count() {
         return Err(Memory);
@@ -142,6 +152,24 @@ pub(crate) fn put_arrow(bank: &mut Bank, from: TypeId, to: TypeId) -> Result<Typ
         return Err(Memory);
     }
     let id = bank.put_type(TypeNode::Arrow(from, to))?;
+    Ok(id)
+}
+
+pub(crate) fn put_eigen(bank: &mut Bank, k: u64) -> Result<TermId, Memory>
+    ensures kept { Extends bank.old bank.new }
+    ensures within { IfOk result (λ id. id.0 < length bank.new.terms) }
+    ensures tree { IfOk result (λ id. tree bank.new id.0 ≡ atom (eigen k)) }
+{
+    let id = bank.put_term(TermNode::Eigen(k))?;
+    Ok(id)
+}
+
+pub(crate) fn put_index(bank: &mut Bank, place: u64) -> Result<TermId, Memory>
+    ensures kept { Extends bank.old bank.new }
+    ensures within { IfOk result (λ id. id.0 < length bank.new.terms) }
+    ensures tree { IfOk result (λ id. tree bank.new id.0 ≡ index place) }
+{
+    let id = bank.put_term(TermNode::Index(place))?;
     Ok(id)
 }
 

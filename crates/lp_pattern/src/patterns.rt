@@ -1,11 +1,22 @@
 // Whether the arguments of a variable are distinct eigenconstants above its level.
-ghost use Rattle.lp_term.specs.Nodes.{Extends};
+ghost use Rattle.std.specs.Prelude.{◌≡◌, ◌≤◌, ◌<◌, ◌++◌, ◌&&◌, ℕ, suc, nat_lt, not, true, length, map, All, IfOk, OnOk, IfErr, IfSome};
+ghost use Rattle.lp_term.specs.Nodes.{Extends, tree};
+ghost use Rattle.lp_model.specs.Eigens.{eigen_of};
+ghost use Rattle.lp_model.specs.Look.{are_distinct, are_above};
+ghost use Rattle.lp_model.specs.Patterns.{member};
+ghost use Rattle.lp_model.specs.Pair.{Closing};
+ghost use Rattle.lp_pattern.specs.Under.{IsReading, under};
+ghost use Rattle.lp_pattern.specs.Seen.{IsLooked};
+ghost use Rattle.lp_pattern.specs.Stripping.{opens, eigen_past, name_term, is_at, wanted_at, IsShut, IsNameOf, IsNoAbstraction, IsStripped, Strips, HasForm, HasNoForm, IsTaken, read_at, IsAlone, IsEigen, HasNoEigen, IsPattern, HasNoPattern};
 
 use crate::bindings::Bindings;
 use crate::look::{CONTRACTIONS, Head, Looked, look};
 use lp_base::Memory;
 use lp_term::{Bank, TermId, TermNode, TermRefusal};
 use std::alloc::Global;
+
+// Levels and depths are below this.
+const LEVELS: u64 = 4_611_686_018_427_387_904;
 
 // Abstractions that were opened: the outermost stands for the eigenconstant of the level plus one, and so on.
 #[derive(Clone, Copy)]
@@ -16,24 +27,38 @@ pub(crate) struct Opened {
 
 impl Opened {
     // None is open.
-    pub(crate) fn none(level: u64) -> Opened {
+    pub(crate) fn none(level: u64) -> Opened
+        ensures level { result.level ≡ level }
+        ensures depth { result.depth ≡ 0 }
+    {
         Opened { level, depth: 0 }
     }
 
     // One more is open.
-    pub(crate) fn one_more(self) -> Opened {
-        Opened {
-            level: self.level,
-            depth: self.depth.saturating_add(1),
+    pub(crate) fn one_more(self) -> Result<Opened, Memory>
+        ensures { IfOk result (λ o. (o.level ≡ self.level) × (o.depth ≡ suc self.depth)) }
+    {
+        if self.depth >= LEVELS {
+            return Err(Memory);
         }
+        Ok(Opened {
+            level: self.level,
+            depth: self.depth + 1,
+        })
     }
 
     // The eigenconstant that an index stands for.
-    pub(crate) fn eigen(self, index: u64) -> Option<u64> {
-        if index >= self.depth {
-            return None;
+    pub(crate) fn eigen(self, place: u64) -> Result<Option<u64>, Memory>
+        ensures { IfOk result (λ o. o ≡ eigen_of (opens self.level self.depth place)) }
+    {
+        if place >= self.depth {
+            return Ok(None);
         }
-        Some(self.level.saturating_add(self.depth - index))
+        let above = self.depth - place;
+        if self.level > u64::MAX - above {
+            return Err(Memory);
+        }
+        Ok(Some(self.level + above))
     }
 
     // The index that stands for an eigenconstant.
@@ -61,7 +86,7 @@ pub(crate) struct Arguments {
 #[derive(Clone, Copy)]
 struct Wanted {
     term: TermId,
-    index: Option<u64>,
+    place: u64,
 }
 
 // The index or eigenconstant that an atom is.
@@ -71,7 +96,9 @@ enum Name {
     Index(u64),
 }
 
-fn name_of(bank: &Bank, id: TermId) -> Result<Option<Name>, Memory> {
+fn name_of(bank: &Bank, id: TermId) -> Result<Option<Name>, Memory>
+    ensures { IfOk result (λ o. IsNameOf o (tree bank.now id.0)) }
+{
     if id.0 >= bank.term_count() {
         return Err(Memory);
     }
@@ -83,12 +110,14 @@ fn name_of(bank: &Bank, id: TermId) -> Result<Option<Name>, Memory> {
 }
 
 // The eigenconstant that a name stands for below so many abstractions of the argument itself.
-fn eigen_below(name: Name, count: u64, opened: Opened) -> Option<u64> {
+fn eigen_below(name: Name, count: u64, opened: Opened) -> Result<Option<u64>, Memory>
+    ensures { IfOk result (λ o. o ≡ eigen_past count (opens opened.level opened.depth) (name_term name)) }
+{
     match name {
-        Name::Eigen(k) => Some(k),
+        Name::Eigen(k) => Ok(Some(k)),
         Name::Index(i) => {
             if i < count {
-                return None;
+                return Ok(None);
             }
             opened.eigen(i - count)
         }
@@ -96,10 +125,12 @@ fn eigen_below(name: Name, count: u64, opened: Opened) -> Option<u64> {
 }
 
 // Whether a name is the index, below so many abstractions.
-fn is_index(name: Name, count: u64, index: u64) -> bool {
+fn is_place(name: Name, count: u64, place: u64) -> bool
+    ensures { result ≡ is_at place count (name_term name) }
+{
     match name {
         Name::Eigen(_) => false,
-        Name::Index(i) => i >= count && i - count == index,
+        Name::Index(i) => i >= count && i - count == place,
     }
 }
 
@@ -110,7 +141,11 @@ fn strip(
     bindings: &Bindings,
     term: TermId,
 ) -> Result<(Looked, u64), TermRefusal>
-    ensures { Extends bank.old bank.new }
+    ensures kept { Extends bank.old bank.new }
+    ensures looked { IfOk result (λ r. IsLooked bank.new bindings.now r.0) }
+    ensures top { IfOk result (λ r. IsNoAbstraction r.0.head) }
+    ensures strips { IfOk result (λ r. (c : Closing) → IsReading bank.old bindings.now c → IsShut c → Strips r.1 (under bank.old c term) (under bank.new c r.0.whole)) }
+    ensures refused { IfErr result (λ e. (c : Closing) → IsReading bank.old bindings.now c → IsShut c → (m : ℕ) → m ≤ 1000000 → HasNoForm m (under bank.old c term) e) }
 {
     let mut at = term;
     for count in 0..u64::MAX {
@@ -124,14 +159,16 @@ fn strip(
 }
 
 // Each argument is to come to the index of its own abstraction, the first to the outermost.
-fn push_wanted(arguments: &[TermId], count: u64, left: &mut Vec<Wanted>) -> Result<(), Memory> {
-    let mut index = count;
+fn push_wanted(arguments: &[TermId], count: u64, left: &mut Vec<Wanted>) -> Result<(), Memory>
+    ensures { OnOk result (left.new.items ≡ left.old.items ++ wanted_at count arguments.now) }
+{
+    let mut place = count;
     for term in arguments.iter().copied() {
-        index = index.saturating_sub(1);
-        left.push(Wanted {
-            term,
-            index: Some(index),
-        })?;
+        if place == 0 {
+            return Err(Memory);
+        }
+        place -= 1;
+        left.push(Wanted { term, place })?;
     }
     Ok(())
 }
@@ -141,12 +178,17 @@ fn stripped_name(
     alloc: Global,
     bank: &mut Bank,
     bindings: &Bindings,
-    wanted: Wanted,
+    term: TermId,
     left: &mut Vec<Wanted>,
 ) -> Result<Option<(Name, u64)>, TermRefusal>
-    ensures { Extends bank.old bank.new }
+    requires known { All (λ w. w.term.0 < length bank.old.terms) left.old.items }
+    ensures kept { Extends bank.old bank.new }
+    ensures known { OnOk result (All (λ w. w.term.0 < length bank.new.terms) left.new.items) }
+    ensures stripped { IfOk result (λ o. (c : Closing) → IsReading bank.old bindings.now c → IsShut c → (m : ℕ) → HasForm m (under bank.old c term) →
+        IsStripped m (under bank.old c term) bank.new c o left.old.items left.new.items) }
+    ensures refused { IfErr result (λ e. (c : Closing) → IsReading bank.old bindings.now c → IsShut c → (m : ℕ) → m ≤ 1000000 → HasNoForm m (under bank.old c term) e) }
 {
-    let (looked, count) = strip(alloc, bank, bindings, wanted.term)?;
+    let (looked, count) = strip(alloc, bank, bindings, term)?;
     if looked.arguments.len() as u64 != count {
         return Ok(None);
     }
@@ -157,6 +199,27 @@ fn stripped_name(
     Ok(Some((name, count)))
 }
 
+// Whether the term comes to its index, if those that are put behind the others come to theirs.
+fn comes(
+    alloc: Global,
+    bank: &mut Bank,
+    bindings: &Bindings,
+    wanted: Wanted,
+    left: &mut Vec<Wanted>,
+) -> Result<bool, TermRefusal>
+    requires known { All (λ w. w.term.0 < length bank.old.terms) left.old.items }
+    ensures kept { Extends bank.old bank.new }
+    ensures known { OnOk result (All (λ w. w.term.0 < length bank.new.terms) left.new.items) }
+    ensures comes { IfOk result (λ is. (c : Closing) → IsReading bank.old bindings.now c → IsShut c → (m : ℕ) → HasForm m (under bank.old c wanted.term) →
+        IsTaken m (under bank.old c wanted.term) wanted.place bank.new c is left.old.items left.new.items) }
+    ensures refused { IfErr result (λ e. (c : Closing) → IsReading bank.old bindings.now c → IsShut c → (m : ℕ) → m ≤ 1000000 → HasNoForm m (under bank.old c wanted.term) e) }
+{
+    let Some((name, count)) = stripped_name(alloc, bank, bindings, wanted.term, left)? else {
+        return Ok(false);
+    };
+    Ok(is_place(name, count, wanted.place))
+}
+
 // The eigenconstant to which an abstraction comes by eta contractions, if it comes to one.
 fn contracted(
     alloc: Global,
@@ -165,68 +228,84 @@ fn contracted(
     opened: Opened,
     term: TermId,
 ) -> Result<Option<u64>, TermRefusal>
-    ensures { Extends bank.old bank.new }
+    ensures kept { Extends bank.old bank.new }
+    ensures eigen { IfOk result (λ o. (c : Closing) → IsReading bank.old bindings.now c → IsShut c → (m : ℕ) → IsEigen m (read_at bank.old c opened.level opened.depth term) o) }
+    ensures refused { IfErr result (λ e. (c : Closing) → IsReading bank.old bindings.now c → IsShut c → (m : ℕ) → m ≤ 1000000 → HasNoEigen m (read_at bank.old c opened.level opened.depth term) e) }
 {
     let mut left = Vec::new(alloc);
-    let root = Wanted { term, index: None };
-    let Some((name, count)) = stripped_name(alloc, bank, bindings, root, &mut left)? else {
+    let Some((name, count)) = stripped_name(alloc, bank, bindings, term, &mut left)? else {
         return Ok(None);
     };
-    let Some(found) = eigen_below(name, count, opened) else {
-        return Ok(None);
-    };
+    let found = eigen_below(name, count, opened)?;
     'parts: for _ in 0..u64::MAX {
         let Some(wanted) = left.pop() else {
-            return Ok(Some(found));
+            return Ok(found);
         };
-        let Some((name, count)) = stripped_name(alloc, bank, bindings, wanted, &mut left)? else {
-            return Ok(None);
-        };
-        let Some(index) = wanted.index else {
-            return Ok(None);
-        };
-        if !is_index(name, count, index) {
+        let goes = comes(alloc, bank, bindings, wanted, &mut left)?;
+        if !goes {
             return Ok(None);
         }
     }
     Err(TermRefusal::Memory)
 }
 
-// The eigenconstant to which an argument comes, if it comes to one, and whether it is not written so.
+// The eigenconstant that a head without arguments is.
+fn alone(bank: &Bank, looked: &Looked, opened: Opened) -> Result<Option<u64>, Memory>
+    ensures { IfOk result (λ o. IsAlone bank.now looked.now (opens opened.level opened.depth) o) }
+{
+    if !looked.arguments.is_empty() {
+        return Ok(None);
+    }
+    let Some(name) = name_of(bank, looked.top)? else {
+        return Ok(None);
+    };
+    eigen_below(name, 0, opened)
+}
+
+// The eigenconstant to which an argument comes, if it comes to one. Notes whether it is not written so.
 fn as_eigen(
     alloc: Global,
     bank: &mut Bank,
     bindings: &Bindings,
     opened: Opened,
     term: TermId,
-) -> Result<Option<(u64, bool)>, TermRefusal>
-    ensures { Extends bank.old bank.new }
+    is_new: &mut bool,
+) -> Result<Option<u64>, TermRefusal>
+    ensures kept { Extends bank.old bank.new }
+    ensures eigen { IfOk result (λ o. (c : Closing) → IsReading bank.old bindings.now c → IsShut c → (m : ℕ) → IsEigen m (read_at bank.old c opened.level opened.depth term) o) }
+    ensures refused { IfErr result (λ e. (c : Closing) → IsReading bank.old bindings.now c → IsShut c → (m : ℕ) → m ≤ 1000000 → HasNoEigen m (read_at bank.old c opened.level opened.depth term) e) }
 {
     let looked = look(alloc, bank, bindings, term, CONTRACTIONS)?;
     match looked.head {
         Head::Variable { id: _, level: _ } => Ok(None),
         Head::Abstraction(_) => {
-            let found = contracted(alloc, bank, bindings, opened, looked.whole)?;
-            Ok(found.map(|k| (k, true)))
+            *is_new = true;
+            contracted(alloc, bank, bindings, opened, looked.whole)
         }
         Head::Rigid => {
-            if !looked.arguments.is_empty() {
-                return Ok(None);
-            }
-            let Some(name) = name_of(bank, looked.top)? else {
-                return Ok(None);
-            };
-            let found = eigen_below(name, 0, opened);
-            Ok(found.map(|k| (k, looked.is_new)))
+            *is_new = *is_new || looked.is_new;
+            let found = alone(bank, &looked, opened)?;
+            Ok(found)
         }
     }
 }
 
+// Whether an eigenconstant is above the level and none of the others.
+fn is_good(level: u64, k: u64, others: &[u64]) -> bool
+    ensures { result ≡ (not (member k others.now) && nat_lt level k) }
+{
+    if others.contains(&k) {
+        return false;
+    }
+    level < k
+}
+
 // Whether all are distinct and above the level.
-fn make_a_pattern(level: u64, eigens: &[u64]) -> bool {
-    for place in 0..eigens.len() {
-        let k = eigens[place];
-        if k <= level || eigens[..place].contains(&k) {
+fn make_a_pattern(level: u64, ks: &[u64]) -> bool
+    ensures { result ≡ (are_distinct ks.now && are_above level ks.now) }
+{
+    for place in 0..ks.len() {
+        if !is_good(level, ks[place], &ks[place + 1..]) {
             return false;
         }
     }
@@ -242,15 +321,19 @@ pub(crate) fn pattern_of(
     level: u64,
     arguments: &[TermId],
 ) -> Result<Option<Arguments>, TermRefusal>
-    ensures { Extends bank.old bank.new }
+    requires known { All (λ t. t.0 < length bank.old.terms) arguments.now }
+    ensures kept { Extends bank.old bank.new }
+    ensures pattern { IfOk result (λ o. (c : Closing) → IsReading bank.old bindings.now c → IsShut c → (m : ℕ) → IsPattern m level (map (read_at bank.old c opened.level opened.depth) arguments.now) o) }
+    ensures distinct { IfOk result (λ o. IfSome o (λ a. (are_distinct a.eigens.items && are_above level a.eigens.items) ≡ true)) }
+    ensures refused { IfErr result (λ e. (c : Closing) → IsReading bank.old bindings.now c → IsShut c → (m : ℕ) → m ≤ 1000000 → HasNoPattern m level (map (read_at bank.old c opened.level opened.depth) arguments.now) e) }
 {
     let mut eigens = Vec::new(alloc);
     let mut is_new = false;
-    for term in arguments.iter().copied() {
-        let Some((eigen, changed)) = as_eigen(alloc, bank, bindings, opened, term)? else {
+    for place in 0..arguments.len() {
+        let found = as_eigen(alloc, bank, bindings, opened, arguments[place], &mut is_new)?;
+        let Some(eigen) = found else {
             return Ok(None);
         };
-        is_new = is_new || changed;
         eigens.push(eigen)?;
     }
     if !make_a_pattern(level, eigens.as_slice()) {

@@ -1,12 +1,19 @@
 // Pruning and lowering: a pattern that does not fit gives way to a new variable on what is allowed.
-ghost use Rattle.std.specs.Prelude.{◌≤◌};
-ghost use Rattle.lp_term.specs.Nodes.{Extends};
+ghost use Rattle.std.specs.Prelude.{◌≡◌, ◌≤◌, ◌<◌, ◌++◌, suc, min, nat_le, length, true, IfOk, OnOk, IfErr};
+ghost use Rattle.lp_calculus.specs.Term.{atom, index, eigen, logic};
+ghost use Rattle.lp_term.specs.Nodes.{Extends, tree};
+ghost use Rattle.lp_model.specs.Look.{are_distinct, are_above};
+ghost use Rattle.lp_model.specs.Scan.{allows, pattern, renewal};
 ghost use Rattle.lp_pattern.specs.Growing.{Grows};
+ghost use Rattle.lp_pattern.specs.Reading.{side_of};
+ghost use Rattle.lp_pattern.specs.Refusing.{IsNoFailure};
+ghost use Rattle.lp_pattern.specs.Seen.{IsLooked};
+ghost use Rattle.lp_pattern.specs.Scanning.{Pushes, AreTerms, Binds, one_if, low_eigens, allowed_places};
 
 use crate::bindings::Bindings;
 use crate::fault::PatternRefusal;
-use crate::look::{CONTRACTIONS, Head, look};
-use crate::parts::{put_abstractions, put_application};
+use crate::look::{CONTRACTIONS, Head, Looked, look};
+use crate::parts::{put_abstractions, put_application, put_eigen, put_index};
 use crate::patterns::pattern_of;
 use crate::scan::{Visit, push_arguments};
 use crate::side::Side;
@@ -18,6 +25,9 @@ use std::alloc::Global;
 pub(crate) fn put_variable(bank: &mut Bank, next: &mut u64, level: u64) -> Result<TermId, Memory>
     ensures kept { Extends bank.old bank.new }
     ensures more { next.old ≤ next.new }
+    ensures within { IfOk result (λ id. id.0 < length bank.new.terms) }
+    ensures tree { IfOk result (λ id. tree bank.new id.0 ≡ atom (logic next.old level)) }
+    ensures next { OnOk result (next.new ≡ suc next.old) }
 {
     let id = *next;
     if id == u64::MAX {
@@ -25,6 +35,38 @@ pub(crate) fn put_variable(bank: &mut Bank, next: &mut u64, level: u64) -> Resul
     }
     *next = id + 1;
     bank.put_term(TermNode::Logic { id, level })
+}
+
+// An eigenconstant, if it is not above the level.
+fn push_low(bank: &mut Bank, level: u64, k: u64, arguments: &mut Vec<TermId>) -> Result<(), Memory>
+    ensures kept { Extends bank.old bank.new }
+    ensures pushed { OnOk result (Pushes bank.old bank.new arguments.old.items arguments.new.items (one_if (nat_le k level) (atom (eigen k)))) }
+{
+    if k > level {
+        return Ok(());
+    }
+    let id = put_eigen(bank, k)?;
+    arguments.push(id)?;
+    Ok(())
+}
+
+// An index, if the eigenconstant for which it stands is allowed.
+fn push_place(
+    bank: &mut Bank,
+    side: &Side,
+    k: u64,
+    place: u64,
+    arguments: &mut Vec<TermId>,
+) -> Result<(), Memory>
+    ensures kept { Extends bank.old bank.new }
+    ensures pushed { OnOk result (Pushes bank.old bank.new arguments.old.items arguments.new.items (one_if (allows (side_of side.now) k) (index place))) }
+{
+    if !side.allows(k) {
+        return Ok(());
+    }
+    let id = put_index(bank, place)?;
+    arguments.push(id)?;
+    Ok(())
 }
 
 // What the new variable stands on: the eigenconstants of the side up to the level of the old one, and its places that are allowed.
@@ -36,23 +78,31 @@ fn put_allowed(
     eigens: &[u64],
 ) -> Result<Vec<TermId>, Memory>
     ensures kept { Extends bank.old bank.new }
+    ensures terms { IfOk result (λ ids. AreTerms bank.new ids.items
+        (low_eigens level side.now.eigens.items ++ allowed_places (side_of side.now) (length eigens.now) eigens.now)) }
 {
     let mut arguments = Vec::new(alloc);
     for k in side.eigens.iter().copied() {
-        if k <= level {
-            let id = bank.put_term(TermNode::Eigen(k))?;
-            arguments.push(id)?;
-        }
+        push_low(bank, level, k, &mut arguments)?;
     }
-    let count = eigens.len();
-    for place in 0..count {
-        if side.allows(eigens[place]) {
-            let index = (count - 1 - place) as u64;
-            let id = bank.put_term(TermNode::Index(index))?;
-            arguments.push(id)?;
+    let mut left = eigens.len() as u64;
+    for k in eigens.iter().copied() {
+        if left == 0 {
+            return Err(Memory);
         }
+        left -= 1;
+        push_place(bank, side, k, left, &mut arguments)?;
     }
     Ok(arguments)
+}
+
+fn smaller(one: u64, other: u64) -> u64
+    ensures { result ≡ min one other }
+{
+    if one <= other {
+        return one;
+    }
+    other
 }
 
 // Binds the variable of a pattern that does not fit.
@@ -68,21 +118,60 @@ fn renew(
 ) -> Result<(), Memory>
     ensures kept { Extends bank.old bank.new }
     ensures more { next.old ≤ next.new }
+    ensures next { OnOk result (next.new ≡ suc next.old) }
     ensures grown { Grows bindings.old bindings.new }
+    ensures bound { OnOk result (are_distinct eigens.now ≡ true → are_above level eigens.now ≡ true →
+        Binds bank.new bindings.old bindings.new id (renewal (side_of side.now) next.old (pattern id level eigens.now)).value) }
 {
     let arguments = put_allowed(alloc, bank, side, level, eigens)?;
-    let lower = if level < side.level {
-        level
-    } else {
-        side.level
-    };
-    let variable = put_variable(bank, next, lower)?;
+    let variable = put_variable(bank, next, smaller(side.level, level))?;
     let body = put_application(bank, variable, arguments.as_slice())?;
     let value = put_abstractions(bank, eigens.len(), body)?;
     bindings.bind(id, value)
 }
 
-// Visits a part. A pattern that is changed is visited again; what stood before it fits still.
+// A variable. A pattern that is changed is visited again; what stood before it fits still. Where it is no pattern what stands in it fits, for
+// else the pair would be delayed.
+fn visit_variable(
+    alloc: Global,
+    bank: &mut Bank,
+    bindings: &mut Bindings,
+    side: &Side,
+    next: &mut u64,
+    visit: Visit,
+    looked: &Looked,
+    id: u64,
+    level: u64,
+    left: &mut Vec<Visit>,
+) -> Result<(), PatternRefusal>
+    requires looked { IsLooked bank.old bindings.old looked.now }
+    ensures kept { Extends bank.old bank.new }
+    ensures more { next.old ≤ next.new }
+    ensures grown { Grows bindings.old bindings.new }
+    ensures unfailing { IfErr result IsNoFailure }
+{
+    let arguments = looked.arguments.as_slice();
+    let pattern = pattern_of(alloc, bank, bindings, visit.opened, level, arguments)?;
+    let Some(pattern) = pattern else {
+        return Ok(());
+    };
+    let eigens = pattern.eigens.as_slice();
+    if side.fits(level, eigens) {
+        return Ok(());
+    }
+    renew(alloc, bank, bindings, side, next, id, level, eigens)?;
+    left.push(visit)?;
+    Ok(())
+}
+
+// The body of an abstraction.
+fn visit_body(visit: Visit, body: TermId, left: &mut Vec<Visit>) -> Result<(), Memory> {
+    let inner = visit.body(body)?;
+    left.push(inner)?;
+    Ok(())
+}
+
+// Visits a part.
 fn visit_part(
     alloc: Global,
     bank: &mut Bank,
@@ -95,27 +184,22 @@ fn visit_part(
     ensures kept { Extends bank.old bank.new }
     ensures more { next.old ≤ next.new }
     ensures grown { Grows bindings.old bindings.new }
+    ensures unfailing { IfErr result IsNoFailure }
 {
     let looked = look(alloc, bank, bindings, visit.term, CONTRACTIONS)?;
-    let arguments = looked.arguments.as_slice();
     match looked.head {
-        Head::Abstraction(body) => left.push(visit.body(body))?,
-        Head::Rigid => push_arguments(visit, arguments, visit.is_inside, left)?,
-        Head::Variable { id, level } => {
-            let opened = visit.opened;
-            match pattern_of(alloc, bank, bindings, opened, level, arguments)? {
-                None => push_arguments(visit, arguments, true, left)?,
-                Some(pattern) => {
-                    let eigens = pattern.eigens.as_slice();
-                    if !visit.is_inside && !side.fits(level, eigens) {
-                        renew(alloc, bank, bindings, side, next, id, level, eigens)?;
-                        left.push(visit)?;
-                    }
-                }
-            }
+        Head::Abstraction(body) => {
+            visit_body(visit, body, left)?;
+            Ok(())
         }
+        Head::Rigid => {
+            push_arguments(visit, looked.arguments.as_slice(), false, left)?;
+            Ok(())
+        }
+        Head::Variable { id, level } => visit_variable(
+            alloc, bank, bindings, side, next, visit, &looked, id, level, left,
+        ),
     }
-    Ok(())
 }
 
 // Changes the patterns of a term that do not fit, left to right. It takes no units.
@@ -130,6 +214,7 @@ pub(crate) fn prune(
     ensures kept { Extends bank.old bank.new }
     ensures more { next.old ≤ next.new }
     ensures grown { Grows bindings.old bindings.new }
+    ensures unfailing { IfErr result IsNoFailure }
 {
     let mut left = Vec::new(alloc);
     left.push(Visit {

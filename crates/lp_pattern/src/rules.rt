@@ -1,15 +1,30 @@
 // The rules for one pair: the first that applies is taken.
-ghost use Rattle.std.specs.Prelude.{◌≡◌, ◌≤◌, length, true};
-ghost use Rattle.lp_term.specs.Nodes.{Extends};
+ghost use Rattle.std.specs.Prelude.{◌≡◌, ◌≤◌, ◌<◌, ℕ, suc, nat_eq, length, map, true, Some, IfOk, OnOk, IfErr};
+ghost use Rattle.lp_calculus.specs.Convert.{steps};
+ghost use Rattle.lp_calculus.specs.Term.{Term, atom, apply, index, logic};
+ghost use Rattle.lp_calculus.specs.Fill.{abstracted};
+ghost use Rattle.lp_term.specs.Nodes.{Extends, Nodes};
+ghost use Rattle.lp_model.specs.Look.{are_distinct};
+ghost use Rattle.lp_model.specs.Pair.{Closing, Pair as Equation};
+ghost use Rattle.lp_model.specs.Patterns.{eigens, agreeing};
+ghost use Rattle.lp_model.specs.Rule.{Ruled, rule, by_looks, by_rule_4, by_rule_5, solve_for, has_head};
+ghost use Rattle.lp_pattern.specs.Comparing.{pair_under};
+ghost use Rattle.lp_pattern.specs.declared.look.Head.TheVariants.{Variable};
 ghost use Rattle.lp_pattern.specs.Growing.{Grows};
-ghost use Rattle.lp_pattern.specs.Seen.{IsLooked};
+ghost use Rattle.lp_pattern.specs.Reading.{side_of};
+ghost use Rattle.lp_pattern.specs.Refusing.{IsNoFailure};
+ghost use Rattle.lp_pattern.specs.Ruling.{view, is_one_variable, is_flexible, IsSideOf, IsNoSide, IsSeenPair, IsJudged, IsRuledOut, IsTaken};
+ghost use Rattle.lp_pattern.specs.Scanning.{Pushes, AreTerms, Binds, one_if, agreeing_places};
+ghost use Rattle.lp_pattern.specs.Seen.{IsLooked, weak_step};
+ghost use Rattle.lp_pattern.specs.Stripping.{IsShut};
+ghost use Rattle.lp_pattern.specs.Under.{IsReading, under};
 
 use crate::bindings::Bindings;
-use crate::compare::{are_same, opened, push_pairs};
+use crate::compare::{are_one_variable, are_same, opened, push_pairs};
 use crate::fault::PatternRefusal;
 use crate::heads::{have_same_name, type_pairs};
 use crate::look::{CONTRACTIONS, Head, Looked, look};
-use crate::parts::{put_abstractions, put_application};
+use crate::parts::{put_abstractions, put_application, put_index, term_of};
 use crate::patterns::{Opened, pattern_of};
 use crate::prune::{prune, put_variable};
 use crate::scan::{Scanned, scan};
@@ -18,7 +33,7 @@ use crate::side::Side;
 use crate::types::solve_types;
 use lp_base::Memory;
 use lp_model::Pair;
-use lp_term::{Bank, TermId, TermNode};
+use lp_term::{Bank, TermId};
 use std::alloc::Global;
 
 // What a pair comes to that does not fail.
@@ -57,6 +72,25 @@ fn decompose(
     Ok(())
 }
 
+// An index, if the eigenconstants at its place are the same.
+fn push_agreeing(
+    bank: &mut Bank,
+    one: u64,
+    other: u64,
+    place: u64,
+    arguments: &mut Vec<TermId>,
+) -> Result<(), Memory>
+    ensures kept { Extends bank.old bank.new }
+    ensures pushed { OnOk result (Pushes bank.old bank.new arguments.old.items arguments.new.items (one_if (nat_eq one other) (index place))) }
+{
+    if one != other {
+        return Ok(());
+    }
+    let id = put_index(bank, place)?;
+    arguments.push(id)?;
+    Ok(())
+}
+
 // The indices of the places at which two patterns have the same eigenconstant.
 fn put_agreeing(
     alloc: Global,
@@ -65,15 +99,15 @@ fn put_agreeing(
     others: &[u64],
 ) -> Result<Vec<TermId>, Memory>
     ensures kept { Extends bank.old bank.new }
+    ensures terms { IfOk result (λ ids. AreTerms bank.new ids.items (agreeing_places (length ones.now) ones.now others.now)) }
 {
     let mut arguments = Vec::new(alloc);
-    let mut index = ones.len() as u64;
-    for (one, other) in ones.iter().copied().zip(others.iter().copied()) {
-        index = index.saturating_sub(1);
-        if one == other {
-            let id = bank.put_term(TermNode::Index(index))?;
-            arguments.push(id)?;
+    for place in 0..ones.len() {
+        if place >= others.len() {
+            return Ok(arguments);
         }
+        let left = (ones.len() - 1 - place) as u64;
+        push_agreeing(bank, ones[place], others[place], left, &mut arguments)?;
     }
     Ok(arguments)
 }
@@ -91,7 +125,10 @@ fn join(
 ) -> Result<(), Memory>
     ensures kept { Extends bank.old bank.new }
     ensures more { next.old ≤ next.new }
+    ensures next { OnOk result (next.new ≡ suc next.old) }
     ensures grown { Grows bindings.old bindings.new }
+    ensures bound { OnOk result (are_distinct ones.now ≡ true →
+        Binds bank.new bindings.old bindings.new id (abstracted ones.now (apply (atom (logic next.old level)) (eigens (agreeing ones.now others.now))))) }
 {
     let arguments = put_agreeing(alloc, bank, ones, others)?;
     let variable = put_variable(bank, next, level)?;
@@ -108,14 +145,18 @@ fn side_of(
     looked: &Looked,
     pair: u64,
 ) -> Result<Option<Side>, PatternRefusal>
+    requires looked { IsLooked bank.old bindings.now looked.now }
     ensures kept { Extends bank.old bank.new }
+    ensures side { IfOk result (λ o. (c : Closing) → IsReading bank.old bindings.now c → IsShut c → (m : ℕ) → IsSideOf m (view bank.old c looked.now) pair o) }
+    ensures refused { IfErr result (λ e. (c : Closing) → IsReading bank.old bindings.now c → IsShut c → (m : ℕ) → IsNoSide m (view bank.old c looked.now) pair e) }
 {
     let Head::Variable { id, level } = looked.head else {
         return Ok(None);
     };
     let arguments = looked.arguments.as_slice();
     let opened = Opened::none(pair);
-    let Some(pattern) = pattern_of(alloc, bank, bindings, opened, level, arguments)? else {
+    let pattern = pattern_of(alloc, bank, bindings, opened, level, arguments)?;
+    let Some(pattern) = pattern else {
         return Ok(None);
     };
     Ok(Some(Side {
@@ -127,10 +168,13 @@ fn side_of(
 }
 
 // Whether the term has the side's variable as its head.
-fn has_head(side: &Side, looked: &Looked) -> bool {
+fn has_head(side: &Side, looked: &Looked) -> bool
+    ensures { (b : Nodes) (c : Closing) → result ≡ has_head (side_of side.now) (view b c looked.now) }
+{
     match looked.head {
         Head::Variable { id, level } => side.is_variable(id, level),
-        _ => false,
+        Head::Abstraction(_) => false,
+        Head::Rigid => false,
     }
 }
 
@@ -147,6 +191,7 @@ fn value_for(
     ensures kept { Extends bank.old bank.new }
     ensures more { next.old ≤ next.new }
     ensures grown { Grows bindings.old bindings.new }
+    ensures unfailing { IfErr result IsNoFailure }
 {
     if found.has_misfit {
         prune(alloc, bank, bindings, side, next, term)?;
@@ -168,9 +213,14 @@ fn solve_for(
     other: &Looked,
     units: &mut u64,
 ) -> Result<bool, PatternRefusal>
+    requires other { IsLooked bank.old bindings.old other.now }
     ensures kept { Extends bank.old bank.new }
     ensures more { next.old ≤ next.new }
     ensures grown { Grows bindings.old bindings.new }
+    ensures judged { IfOk result (λ done. (c : Closing) → IsReading bank.old bindings.old c → IsShut c → (n j : ℕ) (t : Term) → steps weak_step j t ≡ Some (under bank.old c other.now.whole) →
+        IsJudged done units.old units.new (solve_for n next.old (side_of side.now) t (view bank.old c other.now))) }
+    ensures refused { IfErr result (λ e. (c : Closing) → IsReading bank.old bindings.old c → IsShut c → (n j : ℕ) (t : Term) → steps weak_step j t ≡ Some (under bank.old c other.now.whole) →
+        IsRuledOut n e units.old (solve_for n next.old (side_of side.now) t (view bank.old c other.now))) }
 {
     if has_head(side, other) {
         return Ok(false);
@@ -195,20 +245,66 @@ fn by_pattern(
     level: u64,
     units: &mut u64,
 ) -> Result<bool, PatternRefusal>
+    requires one { IsLooked bank.old bindings.old one.now }
+    requires other { IsLooked bank.old bindings.old other.now }
     ensures kept { Extends bank.old bank.new }
     ensures more { next.old ≤ next.new }
     ensures grown { Grows bindings.old bindings.new }
+    ensures judged { IfOk result (λ done. (c : Closing) → IsReading bank.old bindings.old c → IsShut c → (n : ℕ) (p : Equation) → IsSeenPair bank.old c level one.now other.now p →
+        IsJudged done units.old units.new (by_rule_5 n next.old p (view bank.old c one.now) (view bank.old c other.now))) }
+    ensures refused { IfErr result (λ e. (c : Closing) → IsReading bank.old bindings.old c → IsShut c → (n : ℕ) (p : Equation) → IsSeenPair bank.old c level one.now other.now p →
+        IsRuledOut n e units.old (by_rule_5 n next.old p (view bank.old c one.now) (view bank.old c other.now))) }
 {
-    if let Some(side) = side_of(alloc, bank, bindings, one, level)? {
+    let left = side_of(alloc, bank, bindings, one, level)?;
+    if let Some(side) = left {
         return solve_for(alloc, bank, bindings, next, &side, other, units);
     }
-    if let Some(side) = side_of(alloc, bank, bindings, other, level)? {
-        return solve_for(alloc, bank, bindings, next, &side, one, units);
-    }
-    Ok(false)
+    let right = side_of(alloc, bank, bindings, other, level)?;
+    let Some(side) = right else {
+        return Ok(false);
+    };
+    solve_for(alloc, bank, bindings, next, &side, one, units)
 }
 
-// Two patterns on one variable are joined. Says whether the pair is done.
+// One variable on arguments that differ. Two patterns are joined. Says whether the pair is done.
+fn on_others(
+    alloc: Global,
+    bank: &mut Bank,
+    bindings: &mut Bindings,
+    next: &mut u64,
+    one: &Looked,
+    other: &Looked,
+    level: u64,
+    units: &mut u64,
+) -> Result<bool, PatternRefusal>
+    requires one { IsLooked bank.old bindings.old one.now }
+    requires other { IsLooked bank.old bindings.old other.now }
+    requires same { is_one_variable one.now.head other.now.head (length one.now.arguments.items) (length other.now.arguments.items) ≡ true }
+    ensures kept { Extends bank.old bank.new }
+    ensures more { next.old ≤ next.new }
+    ensures grown { Grows bindings.old bindings.new }
+    ensures judged { IfOk result (λ done. (c : Closing) → IsReading bank.old bindings.old c → IsShut c → (n : ℕ) (p : Equation) → IsSeenPair bank.old c level one.now other.now p → (x l : ℕ) → one.now.head ≡ Variable x l → other.now.head ≡ Variable x l →
+        IsJudged done units.old units.new (by_rule_4 n next.old p x l (map (under bank.old c) one.now.arguments.items) (map (under bank.old c) other.now.arguments.items))) }
+    ensures refused { IfErr result (λ e. (c : Closing) → IsReading bank.old bindings.old c → IsShut c → (n : ℕ) (p : Equation) → IsSeenPair bank.old c level one.now other.now p → (x l : ℕ) → one.now.head ≡ Variable x l → other.now.head ≡ Variable x l →
+        IsRuledOut n e units.old (by_rule_4 n next.old p x l (map (under bank.old c) one.now.arguments.items) (map (under bank.old c) other.now.arguments.items))) }
+{
+    let left = side_of(alloc, bank, bindings, one, level)?;
+    let Some(left) = left else {
+        return by_pattern(alloc, bank, bindings, next, one, other, level, units);
+    };
+    let right = side_of(alloc, bank, bindings, other, level)?;
+    let Some(right) = right else {
+        return by_pattern(alloc, bank, bindings, next, one, other, level, units);
+    };
+    let ones = left.eigens.as_slice();
+    let others = right.eigens.as_slice();
+    join(
+        alloc, bank, bindings, next, left.id, left.level, ones, others,
+    )?;
+    Ok(true)
+}
+
+// One variable on both sides, with as many arguments. Says whether the pair is done.
 fn on_one_variable(
     alloc: Global,
     bank: &mut Bank,
@@ -221,40 +317,145 @@ fn on_one_variable(
 ) -> Result<bool, PatternRefusal>
     requires one { IsLooked bank.old bindings.old one.now }
     requires other { IsLooked bank.old bindings.old other.now }
-    requires arguments { length one.now.arguments.items ≡ length other.now.arguments.items }
+    requires same { is_one_variable one.now.head other.now.head (length one.now.arguments.items) (length other.now.arguments.items) ≡ true }
     ensures kept { Extends bank.old bank.new }
     ensures more { next.old ≤ next.new }
     ensures grown { Grows bindings.old bindings.new }
+    ensures judged { IfOk result (λ done. (c : Closing) → IsReading bank.old bindings.old c → IsShut c → (n : ℕ) (p : Equation) → IsSeenPair bank.old c level one.now other.now p →
+        IsJudged done units.old units.new (by_looks n next.old p (view bank.old c one.now) (view bank.old c other.now))) }
+    ensures refused { IfErr result (λ e. (c : Closing) → IsReading bank.old bindings.old c → IsShut c → (n : ℕ) (p : Equation) → IsSeenPair bank.old c level one.now other.now p →
+        IsRuledOut n e units.old (by_looks n next.old p (view bank.old c one.now) (view bank.old c other.now))) }
 {
     let ones = one.arguments.as_slice();
     let others = other.arguments.as_slice();
-    if are_same(alloc, bank, bindings, ones, others, level, units)? {
+    let is_same = are_same(alloc, bank, bindings, ones, others, level, units)?;
+    if is_same {
         return Ok(true);
     }
-    let Some(left) = side_of(alloc, bank, bindings, one, level)? else {
-        return by_pattern(alloc, bank, bindings, next, one, other, level, units);
-    };
-    let Some(right) = side_of(alloc, bank, bindings, other, level)? else {
-        return by_pattern(alloc, bank, bindings, next, one, other, level, units);
-    };
-    let ones = left.eigens.as_slice();
-    let others = right.eigens.as_slice();
-    join(
-        alloc, bank, bindings, next, left.id, left.level, ones, others,
-    )?;
-    Ok(true)
+    on_others(alloc, bank, bindings, next, one, other, level, units)
 }
 
 // Whether both have the same variable as head and as many arguments.
 fn have_same_variable(one: &Looked, other: &Looked) -> bool
-    ensures { result ≡ true → length one.now.arguments.items ≡ length other.now.arguments.items }
+    ensures { result ≡ is_one_variable one.now.head other.now.head (length one.now.arguments.items) (length other.now.arguments.items) }
 {
-    match (one.head, other.head) {
-        (Head::Variable { id, level }, Head::Variable { id: y, level: m }) => {
-            id == y && level == m && one.arguments.len() == other.arguments.len()
-        }
-        _ => false,
+    match one.head {
+        Head::Abstraction(_) => false,
+        Head::Rigid => false,
+        Head::Variable { id: x, level: l } => match other.head {
+            Head::Abstraction(_) => false,
+            Head::Rigid => false,
+            Head::Variable { id: y, level: m } => are_one_variable((x, y), (l, m), one, other),
+        },
     }
+}
+
+// A variable against a term that is no abstraction. Says whether the pair is done.
+fn by_variables(
+    alloc: Global,
+    bank: &mut Bank,
+    bindings: &mut Bindings,
+    next: &mut u64,
+    one: &Looked,
+    other: &Looked,
+    level: u64,
+    units: &mut u64,
+) -> Result<bool, PatternRefusal>
+    requires one { IsLooked bank.old bindings.old one.now }
+    requires other { IsLooked bank.old bindings.old other.now }
+    requires flexible { is_flexible one.now.head other.now.head ≡ true }
+    ensures kept { Extends bank.old bank.new }
+    ensures more { next.old ≤ next.new }
+    ensures grown { Grows bindings.old bindings.new }
+    ensures judged { IfOk result (λ done. (c : Closing) → IsReading bank.old bindings.old c → IsShut c → (n : ℕ) (p : Equation) → IsSeenPair bank.old c level one.now other.now p →
+        IsJudged done units.old units.new (by_looks n next.old p (view bank.old c one.now) (view bank.old c other.now))) }
+    ensures refused { IfErr result (λ e. (c : Closing) → IsReading bank.old bindings.old c → IsShut c → (n : ℕ) (p : Equation) → IsSeenPair bank.old c level one.now other.now p →
+        IsRuledOut n e units.old (by_looks n next.old p (view bank.old c one.now) (view bank.old c other.now))) }
+{
+    if have_same_variable(one, other) {
+        return on_one_variable(alloc, bank, bindings, next, one, other, level, units);
+    }
+    by_pattern(alloc, bank, bindings, next, one, other, level, units)
+}
+
+// Whether none is an abstraction and one is a variable.
+fn are_flexible(one: Head, other: Head) -> bool
+    ensures { result ≡ is_flexible one other }
+{
+    match one {
+        Head::Abstraction(_) => false,
+        Head::Rigid => match other {
+            Head::Abstraction(_) => false,
+            Head::Rigid => false,
+            Head::Variable { id: _, level: _ } => true,
+        },
+        Head::Variable { id: _, level: _ } => match other {
+            Head::Abstraction(_) => false,
+            Head::Rigid => true,
+            Head::Variable { id: _, level: _ } => true,
+        },
+    }
+}
+
+fn are_rigid(one: Head, other: Head) -> bool {
+    matches!(one, Head::Rigid) && matches!(other, Head::Rigid)
+}
+
+// Two abstractions, or an abstraction and another term, are opened; two rigid heads give the pairs of their arguments.
+fn replace(
+    alloc: Global,
+    bank: &mut Bank,
+    bindings: &mut Bindings,
+    one: &Looked,
+    other: &Looked,
+    level: u64,
+    todo: &mut Vec<Pair>,
+    units: &mut u64,
+) -> Result<(), PatternRefusal>
+    ensures kept { Extends bank.old bank.new }
+    ensures grown { Grows bindings.old bindings.new }
+{
+    if are_rigid(one.head, other.head) {
+        return decompose(alloc, bank, bindings, one, other, level, todo, units);
+    }
+    let pair = opened(bank, one.whole, other.whole, level)?;
+    todo.push(pair)?;
+    Ok(())
+}
+
+// Takes two terms that were looked at.
+fn take_seen(
+    alloc: Global,
+    bank: &mut Bank,
+    bindings: &mut Bindings,
+    next: &mut u64,
+    one: &Looked,
+    other: &Looked,
+    level: u64,
+    todo: &mut Vec<Pair>,
+    units: &mut u64,
+) -> Result<Verdict, PatternRefusal>
+    requires one { IsLooked bank.old bindings.old one.now }
+    requires other { IsLooked bank.old bindings.old other.now }
+    ensures kept { Extends bank.old bank.new }
+    ensures more { next.old ≤ next.new }
+    ensures grown { Grows bindings.old bindings.new }
+    ensures judged { IfOk result (λ v. (c : Closing) → IsReading bank.old bindings.old c → IsShut c → (n : ℕ) (p : Equation) → IsSeenPair bank.old c level one.now other.now p → (r : Ruled) → rule n next.old p ≡ Some r →
+        IsTaken v units.old units.new r) }
+{
+    if are_flexible(one.head, other.head) {
+        let is_done = by_variables(alloc, bank, bindings, next, one, other, level, units)?;
+        if is_done {
+            return Ok(Verdict::Gone);
+        }
+        return Ok(Verdict::Delayed(Pair {
+            left: one.whole,
+            right: other.whole,
+            level,
+        }));
+    }
+    replace(alloc, bank, bindings, one, other, level, todo, units)?;
+    Ok(Verdict::Gone)
 }
 
 // Takes a pair by the first rule that applies to it.
@@ -270,32 +471,12 @@ pub(crate) fn take(
     ensures kept { Extends bank.old bank.new }
     ensures more { next.old ≤ next.new }
     ensures grown { Grows bindings.old bindings.new }
+    ensures judged { IfOk result (λ v. (c : Closing) → IsReading bank.old bindings.old c → IsShut c → (n : ℕ) (r : Ruled) → rule n next.old (pair_under bank.old c pair) ≡ Some r → IsTaken v units.old units.new r) }
 {
-    let level = pair.level;
+    let right = term_of(bank, pair.right)?;
     let one = look(alloc, bank, bindings, pair.left, CONTRACTIONS)?;
-    let other = look(alloc, bank, bindings, pair.right, CONTRACTIONS)?;
-    match (one.head, other.head) {
-        (Head::Abstraction(_), _) | (_, Head::Abstraction(_)) => {
-            todo.push(opened(bank, one.whole, other.whole, level)?)?;
-            return Ok(Verdict::Gone);
-        }
-        (Head::Rigid, Head::Rigid) => {
-            decompose(alloc, bank, bindings, &one, &other, level, todo, units)?;
-            return Ok(Verdict::Gone);
-        }
-        _ => {}
-    }
-    let is_done = if have_same_variable(&one, &other) {
-        on_one_variable(alloc, bank, bindings, next, &one, &other, level, units)?
-    } else {
-        by_pattern(alloc, bank, bindings, next, &one, &other, level, units)?
-    };
-    if is_done {
-        return Ok(Verdict::Gone);
-    }
-    Ok(Verdict::Delayed(Pair {
-        left: one.whole,
-        right: other.whole,
-        level,
-    }))
+    let other = look(alloc, bank, bindings, right, CONTRACTIONS)?;
+    take_seen(
+        alloc, bank, bindings, next, &one, &other, pair.level, todo, units,
+    )
 }

@@ -1,6 +1,17 @@
 // The scan of the other side, depth first and left to right. Each node is a unit; a pattern with its arguments is one node, and an
 // abstraction that is opened is none.
-ghost use Rattle.lp_term.specs.Nodes.{Extends};
+ghost use Rattle.std.specs.Prelude.{◌≡◌, ◌∷◌, ◌++◌, ◌||◌, ◌<◌, ℕ, suc, nat_lt, length, not, reverse, true, false, Some, All, IfOk, OnOk, IfErr};
+ghost use Rattle.lp_term.specs.Nodes.{Extends, tree};
+ghost use Rattle.lp_model.specs.Pair.{Closing};
+ghost use Rattle.lp_model.specs.Scan.{Scanned as Outcome, is_side, allows_head, scan, scanned_pattern};
+ghost use Rattle.lp_pattern.specs.declared.fault.PatternRefusal.TheVariants.{Fails};
+ghost use Rattle.lp_pattern.specs.declared.look.Head.TheVariants.{Abstraction, Rigid, Variable};
+ghost use Rattle.lp_pattern.specs.Reading.{side_of};
+ghost use Rattle.lp_pattern.specs.Scanning.{Adds, IsBroken, visits};
+ghost use Rattle.lp_pattern.specs.Seen.{IsLooked};
+ghost use Rattle.lp_pattern.specs.Stripping.{IsShut};
+ghost use Rattle.lp_pattern.specs.Under.{IsReading, under};
+ghost use Rattle.lp_pattern.specs.Visiting.{IsVisitOf, IsRestOf, IsScanned, IsStopped, part_at, part_of, parts_of, scan_parts};
 
 use crate::bindings::Bindings;
 use crate::fault::PatternRefusal;
@@ -34,13 +45,33 @@ pub(crate) struct Visit {
 
 impl Visit {
     // The body of the abstraction.
-    pub(crate) fn body(self, body: TermId) -> Visit {
-        Visit {
+    pub(crate) fn body(self, body: TermId) -> Result<Visit, Memory>
+        ensures term { IfOk result (λ v. v.term ≡ body) }
+        ensures level { IfOk result (λ v. v.opened.level ≡ self.opened.level) }
+        ensures depth { IfOk result (λ v. v.opened.depth ≡ suc self.opened.depth) }
+        ensures inside { IfOk result (λ v. v.is_inside ≡ self.is_inside) }
+    {
+        let opened = self.opened.one_more()?;
+        Ok(Visit {
             term: body,
-            opened: self.opened.one_more(),
+            opened,
             is_inside: self.is_inside,
-        }
+        })
     }
+}
+
+fn either(one: bool, other: bool) -> bool
+    ensures { result ≡ (one || other) }
+{
+    one || other
+}
+
+// Notes that a part is not written as it reads.
+fn note_new(found: &mut Scanned, is_new: bool)
+    ensures delayed { found.new.is_delayed ≡ found.old.is_delayed }
+    ensures misfit { found.new.has_misfit ≡ found.old.has_misfit }
+{
+    found.is_new = either(found.is_new, is_new);
 }
 
 // Puts the arguments of a visited part on the stack, so that the first of them comes first.
@@ -49,10 +80,13 @@ pub(crate) fn push_arguments(
     arguments: &[TermId],
     is_inside: bool,
     left: &mut Vec<Visit>,
-) -> Result<(), Memory> {
-    for term in arguments.iter().rev().copied() {
+) -> Result<(), Memory>
+    ensures { OnOk result (left.new.items ≡ left.old.items ++ reverse (visits visit is_inside arguments.now)) }
+{
+    for done in 0..arguments.len() {
+        let at = arguments.len() - 1 - done;
         left.push(Visit {
-            term,
+            term: arguments[at],
             opened: visit.opened,
             is_inside,
         })?;
@@ -61,7 +95,9 @@ pub(crate) fn push_arguments(
 }
 
 // Whether a rigid head is allowed.
-fn allows_head(bank: &Bank, side: &Side, head: TermId) -> Result<bool, Memory> {
+fn allows_head(bank: &Bank, side: &Side, head: TermId) -> Result<bool, Memory>
+    ensures { IfOk result (λ is. is ≡ allows_head (side_of side.now) (tree bank.now head.0)) }
+{
     if head.0 >= bank.term_count() {
         return Err(Memory);
     }
@@ -71,21 +107,36 @@ fn allows_head(bank: &Bank, side: &Side, head: TermId) -> Result<bool, Memory> {
     }
 }
 
+// A rigid head, and its arguments.
 fn visit_rigid(
     bank: &Bank,
+    bindings: &Bindings,
     side: &Side,
     visit: Visit,
     looked: &Looked,
     left: &mut Vec<Visit>,
     found: &mut Scanned,
-) -> Result<(), PatternRefusal> {
-    if !allows_head(bank, side, looked.top)? {
-        if !visit.is_inside {
-            return Err(PatternRefusal::Fails);
-        }
-        found.is_delayed = true;
+    units: &mut u64,
+) -> Result<(), PatternRefusal>
+    requires visit { IsVisitOf (length bank.now.terms) side.now.pair visit }
+    requires head { looked.now.head ≡ Rigid }
+    requires looked { IsLooked bank.now bindings.now looked.now }
+    requires left { All (IsVisitOf (length bank.now.terms) side.now.pair) left.old.items }
+    ensures left { OnOk result (All (IsVisitOf (length bank.now.terms) side.now.pair) left.new.items) }
+    ensures scanned { OnOk result ((c : Closing) → IsReading bank.now bindings.now c → IsShut c → (m n : ℕ) → IsRestOf (side_of side.now) units.old units.new found.old found.new
+        (scan_parts m n (side_of side.now) (part_at bank.now c visit looked.now.whole ∷ parts_of bank.now c left.old.items))
+        (scan_parts m n (side_of side.now) (parts_of bank.now c left.new.items))) }
+    ensures stopped { IfErr result (λ r. (c : Closing) → IsReading bank.now bindings.now c → IsShut c → (m n : ℕ) → IsStopped m r units.old
+        (scan_parts m n (side_of side.now) (part_at bank.now c visit looked.now.whole ∷ parts_of bank.now c left.old.items))) }
+{
+    spend(units)?;
+    let is_allowed = allows_head(bank, side, looked.top)?;
+    let goes = either(is_allowed, visit.is_inside);
+    if !goes {
+        return Err(PatternRefusal::Fails);
     }
     push_arguments(visit, looked.arguments.as_slice(), visit.is_inside, left)?;
+    found.is_delayed = either(found.is_delayed, !is_allowed);
     Ok(())
 }
 
@@ -97,19 +148,143 @@ fn note_pattern(
     level: u64,
     pattern: &Arguments,
     found: &mut Scanned,
-) -> Result<(), PatternRefusal> {
+) -> Result<(), PatternRefusal>
+    ensures failed { IfErr result (λ r. (r ≡ Fails) × IsBroken (scanned_pattern (side_of side.now) visit.is_inside id level pattern.now.eigens.items)) }
+    ensures noted { OnOk result (Adds (side_of side.now) found.old found.new (scanned_pattern (side_of side.now) visit.is_inside id level pattern.now.eigens.items)) }
+{
     let is_side = side.is_variable(id, level);
     let fits = side.fits(level, pattern.eigens.as_slice());
-    found.is_new = found.is_new || pattern.is_new;
-    if !visit.is_inside {
-        if is_side {
-            return Err(PatternRefusal::Fails);
-        }
-        found.has_misfit = found.has_misfit || !fits;
-    } else if is_side || !fits {
-        found.is_delayed = true;
+    found.is_new = either(found.is_new, pattern.is_new);
+    if visit.is_inside {
+        found.is_delayed = either(either(found.is_delayed, is_side), !fits);
+        return Ok(());
     }
+    if is_side {
+        return Err(PatternRefusal::Fails);
+    }
+    found.has_misfit = either(found.has_misfit, !fits);
     Ok(())
+}
+
+// A variable that is no pattern, and its arguments, in which nothing fails.
+fn note_open(
+    side: &Side,
+    visit: Visit,
+    id: u64,
+    level: u64,
+    arguments: &[TermId],
+    left: &mut Vec<Visit>,
+    found: &mut Scanned,
+) -> Result<(), Memory>
+    ensures arguments { OnOk result (left.new.items ≡ left.old.items ++ reverse (visits visit true arguments.now)) }
+    ensures delayed { OnOk result (found.new.is_delayed ≡ (found.old.is_delayed || (is_side (side_of side.now) id level || nat_lt side.now.level level))) }
+    ensures misfit { OnOk result (found.new.has_misfit ≡ found.old.has_misfit) }
+{
+    push_arguments(visit, arguments, true, left)?;
+    let stands = either(side.is_variable(id, level), side.level < level);
+    found.is_delayed = either(found.is_delayed, stands);
+    Ok(())
+}
+
+// A variable, and, if it is no pattern, its arguments.
+fn visit_variable(
+    alloc: Global,
+    bank: &mut Bank,
+    bindings: &Bindings,
+    side: &Side,
+    visit: Visit,
+    looked: &Looked,
+    id: u64,
+    level: u64,
+    left: &mut Vec<Visit>,
+    found: &mut Scanned,
+    units: &mut u64,
+) -> Result<(), PatternRefusal>
+    requires visit { IsVisitOf (length bank.old.terms) side.now.pair visit }
+    requires head { looked.now.head ≡ Variable id level }
+    requires looked { IsLooked bank.old bindings.now looked.now }
+    requires left { All (IsVisitOf (length bank.old.terms) side.now.pair) left.old.items }
+    ensures kept { Extends bank.old bank.new }
+    ensures left { OnOk result (All (IsVisitOf (length bank.new.terms) side.now.pair) left.new.items) }
+    ensures scanned { OnOk result ((c : Closing) → IsReading bank.old bindings.now c → IsShut c → (m n : ℕ) → IsRestOf (side_of side.now) units.old units.new found.old found.new
+        (scan_parts m n (side_of side.now) (part_at bank.old c visit looked.now.whole ∷ parts_of bank.old c left.old.items))
+        (scan_parts m n (side_of side.now) (parts_of bank.new c left.new.items))) }
+    ensures stopped { IfErr result (λ r. (c : Closing) → IsReading bank.old bindings.now c → IsShut c → (m n : ℕ) → IsStopped m r units.old
+        (scan_parts m n (side_of side.now) (part_at bank.old c visit looked.now.whole ∷ parts_of bank.old c left.old.items))) }
+{
+    spend(units)?;
+    let arguments = looked.arguments.as_slice();
+    let pattern = pattern_of(alloc, bank, bindings, visit.opened, level, arguments)?;
+    let Some(pattern) = pattern else {
+        note_open(side, visit, id, level, arguments, left, found)?;
+        return Ok(());
+    };
+    note_pattern(side, visit, id, level, &pattern, found)?;
+    Ok(())
+}
+
+// The body of an abstraction.
+fn visit_body(
+    bank: &Bank,
+    bindings: &Bindings,
+    side: &Side,
+    visit: Visit,
+    looked: &Looked,
+    body: TermId,
+    left: &mut Vec<Visit>,
+    found: &Scanned,
+    units: &u64,
+) -> Result<(), PatternRefusal>
+    requires visit { IsVisitOf (length bank.now.terms) side.now.pair visit }
+    requires head { looked.now.head ≡ Abstraction body }
+    requires looked { IsLooked bank.now bindings.now looked.now }
+    requires left { All (IsVisitOf (length bank.now.terms) side.now.pair) left.old.items }
+    ensures left { OnOk result (All (IsVisitOf (length bank.now.terms) side.now.pair) left.new.items) }
+    ensures scanned { OnOk result ((c : Closing) → IsReading bank.now bindings.now c → IsShut c → (m n : ℕ) → IsRestOf (side_of side.now) units.now units.now found.now found.now
+        (scan_parts m n (side_of side.now) (part_at bank.now c visit looked.now.whole ∷ parts_of bank.now c left.old.items))
+        (scan_parts m n (side_of side.now) (parts_of bank.now c left.new.items))) }
+    ensures stopped { IfErr result (λ r. (c : Closing) → IsReading bank.now bindings.now c → IsShut c → (m n : ℕ) → IsStopped m r units.now
+        (scan_parts m n (side_of side.now) (part_at bank.now c visit looked.now.whole ∷ parts_of bank.now c left.old.items))) }
+{
+    let inner = visit.body(body)?;
+    left.push(inner)?;
+    Ok(())
+}
+
+// Visits a part by what was seen of it.
+fn visit_seen(
+    alloc: Global,
+    bank: &mut Bank,
+    bindings: &Bindings,
+    side: &Side,
+    visit: Visit,
+    looked: &Looked,
+    left: &mut Vec<Visit>,
+    found: &mut Scanned,
+    units: &mut u64,
+) -> Result<(), PatternRefusal>
+    requires visit { IsVisitOf (length bank.old.terms) side.now.pair visit }
+    requires looked { IsLooked bank.old bindings.now looked.now }
+    requires left { All (IsVisitOf (length bank.old.terms) side.now.pair) left.old.items }
+    ensures kept { Extends bank.old bank.new }
+    ensures left { OnOk result (All (IsVisitOf (length bank.new.terms) side.now.pair) left.new.items) }
+    ensures scanned { OnOk result ((c : Closing) → IsReading bank.old bindings.now c → IsShut c → (m n : ℕ) → IsRestOf (side_of side.now) units.old units.new found.old found.new
+        (scan_parts m n (side_of side.now) (part_at bank.old c visit looked.now.whole ∷ parts_of bank.old c left.old.items))
+        (scan_parts m n (side_of side.now) (parts_of bank.new c left.new.items))) }
+    ensures stopped { IfErr result (λ r. (c : Closing) → IsReading bank.old bindings.now c → IsShut c → (m n : ℕ) → IsStopped m r units.old
+        (scan_parts m n (side_of side.now) (part_at bank.old c visit looked.now.whole ∷ parts_of bank.old c left.old.items))) }
+{
+    match looked.head {
+        Head::Abstraction(body) => {
+            visit_body(
+                bank, bindings, side, visit, looked, body, left, found, units,
+            )
+        }
+        Head::Rigid => visit_rigid(bank, bindings, side, visit, looked, left, found, units),
+        Head::Variable { id, level } => visit_variable(
+            alloc, bank, bindings, side, visit, looked, id, level, left, found, units,
+        ),
+    }
 }
 
 fn visit_part(
@@ -122,31 +297,21 @@ fn visit_part(
     found: &mut Scanned,
     units: &mut u64,
 ) -> Result<(), PatternRefusal>
+    requires visit { IsVisitOf (length bank.old.terms) side.now.pair visit }
+    requires left { All (IsVisitOf (length bank.old.terms) side.now.pair) left.old.items }
     ensures kept { Extends bank.old bank.new }
+    ensures left { OnOk result (All (IsVisitOf (length bank.new.terms) side.now.pair) left.new.items) }
+    ensures scanned { OnOk result ((c : Closing) → IsReading bank.old bindings.now c → IsShut c → (m n : ℕ) → IsRestOf (side_of side.now) units.old units.new found.old found.new
+        (scan_parts m n (side_of side.now) (part_of bank.old c visit ∷ parts_of bank.old c left.old.items))
+        (scan_parts m n (side_of side.now) (parts_of bank.new c left.new.items))) }
+    ensures stopped { IfErr result (λ r. (c : Closing) → IsReading bank.old bindings.now c → IsShut c → (m n : ℕ) → IsStopped m r units.old
+        (scan_parts m n (side_of side.now) (part_of bank.old c visit ∷ parts_of bank.old c left.old.items))) }
 {
     let looked = look(alloc, bank, bindings, visit.term, CONTRACTIONS)?;
-    found.is_new = found.is_new || looked.is_new;
-    match looked.head {
-        Head::Abstraction(body) => left.push(visit.body(body))?,
-        Head::Rigid => {
-            spend(units)?;
-            visit_rigid(bank, side, visit, &looked, left, found)?;
-        }
-        Head::Variable { id, level } => {
-            spend(units)?;
-            let arguments = looked.arguments.as_slice();
-            let opened = visit.opened;
-            match pattern_of(alloc, bank, bindings, opened, level, arguments)? {
-                Some(pattern) => note_pattern(side, visit, id, level, &pattern, found)?,
-                None => {
-                    let stands = side.is_variable(id, level) || side.level < level;
-                    found.is_delayed = found.is_delayed || stands;
-                    push_arguments(visit, arguments, true, left)?;
-                }
-            }
-        }
-    }
-    Ok(())
+    note_new(found, looked.is_new);
+    visit_seen(
+        alloc, bank, bindings, side, visit, &looked, left, found, units,
+    )
 }
 
 // Visits the term. A part that is not allowed fails, and goes before a delay.
@@ -158,7 +323,11 @@ pub(crate) fn scan(
     term: TermId,
     units: &mut u64,
 ) -> Result<Scanned, PatternRefusal>
+    requires term { term.0 < length bank.old.terms }
     ensures kept { Extends bank.old bank.new }
+    ensures scanned { IfOk result (λ found. (c : Closing) → IsReading bank.old bindings.now c → IsShut c → (n : ℕ) → (r : Outcome) → scan n (side_of side.now) false side.now.pair (under bank.old c term) ≡ Some r →
+        IsScanned (side_of side.now) units.old units.new found r) }
+    ensures stopped { IfErr result (λ e. (c : Closing) → IsReading bank.old bindings.now c → IsShut c → (n : ℕ) → IsStopped n e units.old (scan n (side_of side.now) false side.now.pair (under bank.old c term))) }
 {
     let mut found = Scanned {
         is_delayed: false,

@@ -1,6 +1,9 @@
 // What the variable of a side becomes: the beta-normal form of the other side, its patterns standing on the eigenconstants themselves,
 // with the side's eigenconstants abstracted. A part that stays as it is keeps its number.
+ghost use Rattle.std.specs.Prelude.{IfErr};
 ghost use Rattle.lp_term.specs.Nodes.{Extends};
+ghost use Rattle.lp_pattern.specs.Refusing.{IsNoFailure};
+ghost use Rattle.lp_pattern.specs.Seen.{IsLooked};
 
 use crate::bindings::Bindings;
 use crate::fault::PatternRefusal;
@@ -127,7 +130,9 @@ fn visit_variable(
     level: u64,
     looked: &Looked,
 ) -> Result<(), PatternRefusal>
+    requires looked { IsLooked bank.old bindings.now looked.now }
     ensures kept { Extends bank.old bank.new }
+    ensures unfailing { IfErr result IsNoFailure }
 {
     let arguments = looked.arguments.as_slice();
     let Some(pattern) = pattern_of(alloc, bank, bindings, opened, level, arguments)? else {
@@ -154,13 +159,14 @@ fn visit(
     opened: Opened,
 ) -> Result<(), PatternRefusal>
     ensures kept { Extends bank.old bank.new }
+    ensures unfailing { IfErr result IsNoFailure }
 {
     let looked = look(alloc, bank, bindings, term, CONTRACTIONS)?;
     match looked.head {
         Head::Abstraction(body) => {
             let old = if looked.is_new { looked.whole } else { term };
             work.tasks.push(Task::Abstract(old, body))?;
-            work.tasks.push(Task::Visit(body, opened.one_more()))?;
+            work.tasks.push(Task::Visit(body, opened.one_more()?))?;
         }
         Head::Rigid => {
             let head = head_in(bank, side, opened, looked.top)?;
@@ -226,6 +232,7 @@ fn step(
     task: Task,
 ) -> Result<(), PatternRefusal>
     ensures kept { Extends bank.old bank.new }
+    ensures unfailing { IfErr result IsNoFailure }
 {
     match task {
         Task::Visit(term, opened) => visit(alloc, bank, bindings, side, work, term, opened)?,
@@ -244,6 +251,7 @@ pub(crate) fn settled(
     term: TermId,
 ) -> Result<TermId, PatternRefusal>
     ensures kept { Extends bank.old bank.new }
+    ensures unfailing { IfErr result IsNoFailure }
 {
     let mut work = Work {
         tasks: Vec::new(alloc),

@@ -1,4 +1,8 @@
 // The side of a pair that is a pattern, and what it allows on the other side.
+ghost use Rattle.std.specs.Prelude.{◌≡◌, ◌&&◌, nat_le};
+ghost use Rattle.lp_model.specs.Patterns.{member};
+ghost use Rattle.lp_model.specs.Scan.{is_side, allows, allow};
+ghost use Rattle.lp_pattern.specs.Reading.{side_of};
 
 use crate::patterns::Opened;
 
@@ -11,19 +15,38 @@ pub(crate) struct Side {
     pub pair: u64,
 }
 
+// Whether an eigenconstant is one of these.
+fn is_among(k: u64, ks: &[u64]) -> bool
+    ensures { result ≡ member k ks.now }
+{
+    ks.contains(&k)
+}
+
 impl Side {
-    pub(crate) fn is_variable(&self, id: u64, level: u64) -> bool {
+    pub(crate) fn is_variable(&self, id: u64, level: u64) -> bool
+        ensures { result ≡ is_side (side_of self.now) id level }
+    {
         id == self.id && level == self.level
     }
 
     // Eigenconstants above the pair's level are local.
-    pub(crate) fn allows(&self, eigen: u64) -> bool {
-        eigen <= self.level || eigen > self.pair || self.eigens.contains(&eigen)
+    pub(crate) fn allows(&self, eigen: u64) -> bool
+        ensures { result ≡ allows (side_of self.now) eigen }
+    {
+        if eigen > self.pair {
+            return true;
+        }
+        if eigen <= self.level {
+            return true;
+        }
+        is_among(eigen, self.eigens.as_slice())
     }
 
-    pub(crate) fn allows_all(&self, eigens: &[u64]) -> bool {
-        for k in eigens.iter().copied() {
-            if !self.allows(k) {
+    pub(crate) fn allows_all(&self, eigens: &[u64]) -> bool
+        ensures { result ≡ allow (side_of self.now) eigens.now }
+    {
+        for place in 0..eigens.len() {
+            if !self.allows(eigens[place]) {
                 return false;
             }
         }
@@ -31,7 +54,9 @@ impl Side {
     }
 
     // Whether a variable of this level may stand on these eigenconstants.
-    pub(crate) fn fits(&self, level: u64, eigens: &[u64]) -> bool {
+    pub(crate) fn fits(&self, level: u64, eigens: &[u64]) -> bool
+        ensures { result ≡ (nat_le level self.now.level && allow (side_of self.now) eigens.now) }
+    {
         level <= self.level && self.allows_all(eigens)
     }
 
@@ -47,7 +72,10 @@ impl Side {
     }
 
     // No abstraction of the other side is open.
-    pub(crate) fn closed(&self) -> Opened {
+    pub(crate) fn closed(&self) -> Opened
+        ensures level { result.level ≡ self.now.pair }
+        ensures depth { result.depth ≡ 0 }
+    {
         Opened::none(self.pair)
     }
 }

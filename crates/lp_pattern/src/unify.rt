@@ -1,5 +1,5 @@
 // The unification of pairs.
-ghost use Rattle.std.specs.Prelude.{◌≡◌, ◌≤◌, length, true, All, IfOk};
+ghost use Rattle.std.specs.Prelude.{◌≡◌, ◌≤◌, ◌++◌, length, reverse, true, All, IfOk, OnOk};
 ghost use Rattle.lp_term.specs.Nodes.{Extends};
 ghost use Rattle.lp_pattern.specs.Growing.{Grows, IsPairOf};
 
@@ -22,7 +22,9 @@ pub struct Solved {
 }
 
 // Puts pairs on a stack, so that the first of them comes first.
-fn push_pairs(pairs: &[Pair], todo: &mut Vec<Pair>) -> Result<(), Memory> {
+fn push_pairs(pairs: &[Pair], todo: &mut Vec<Pair>) -> Result<(), Memory>
+    ensures { OnOk result (todo.new.items ≡ todo.old.items ++ reverse pairs.now) }
+{
     for pair in pairs.iter().rev().copied() {
         todo.push(pair)?;
     }

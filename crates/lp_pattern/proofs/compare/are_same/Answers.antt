@@ -1,3 +1,4 @@
+use Rattle.lp_pattern.proofs.BetaForms.{beta_named}
 use Rattle.std.proofs.Common.{ℕ, ◌≤◌, ◌∙◌, ap, ◌++◌, arith, length, map, reverse}
 use Rattle.lp_term.proofs.Trees.{extends_same, extends-trans}
 use Rattle.lp_term.proofs.Moves.{passed_up, nothing}

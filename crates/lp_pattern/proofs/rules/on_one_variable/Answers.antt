@@ -1,0 +1,66 @@
+use Rattle.std.proofs.Common.{◌≡◌, ℕ, Some, None, sym, ◌∙◌, subst as transport, map, length, true, false, ◌≤◌}
+use Rattle.lp_term.proofs.Moves.{passed_up}
+use Rattle.lp_term.proofs.Trees.{extends-trans}
+use Rattle.lp_model.specs.Pair.{Closing, Pair as Equation}
+use Rattle.lp_model.specs.Rule.{by_rule_4, by_rule_5, by_looks, compare_all}
+use Rattle.lp_pattern.specs.declared.look.Head.{Head}
+use Rattle.lp_pattern.specs.Comparing.{IsPassed, IsComparedTo}
+use Rattle.lp_pattern.specs.Ruling.{view, IsSeenPair, IsSideOf, IsRuledOut}
+use Rattle.lp_pattern.specs.Stripping.{IsShut}
+use Rattle.lp_pattern.specs.Under.{IsReading, under}
+use Rattle.lp_pattern.proofs.Results.{if_ok, if_err}
+use Rattle.lp_pattern.proofs.Walking.{reading_kept, looked_stays}
+use Rattle.lp_pattern.proofs.Judging.{pair_kept, one_of}
+use Rattle.lp_pattern.proofs.Verdicts.{same_judged, other_judged, other_ruled, compare_ruled, four_before, four_out_before}
+use Rattle.lp_pattern.proofs.rules.on_one_variable.Goals as goal
+
+pub are_same-requires-clause-arguments : goal.are_same-requires-clause-arguments
+are_same-requires-clause-arguments c =
+    let w = one_of c.args.one.now.head c.args.other.now.head (length c.args.one.now.arguments.items) (length c.args.other.now.arguments.items) c.requires.same in
+    (λ i. length (c.as_slice-ones.ensures.value i)) ∙ w.4 ∙ sym (λ i. length (c.as_slice-others.ensures.value i))
+
+pub returns-in_err-is_same-clause-refused : goal.returns-in_err-is_same-clause-refused
+returns-in_err-is_same-clause-refused c =
+    let w = one_of c.args.one.now.head c.args.other.now.head (length c.args.one.now.arguments.items) (length c.args.other.now.arguments.items) c.requires.same in
+    passed_up c.from_residual.result c.in_err-is_same.field-0.0
+    (λ e. (r : Closing) → IsReading c.args.bank.now c.args.bindings.now r → IsShut r → (n : ℕ) (p : Equation) → IsSeenPair c.args.bank.now r c.args.level c.args.one.now c.args.other.now p →
+    IsRuledOut n e c.args.units.now (by_looks n c.args.next.now p (view c.args.bank.now r c.args.one.now) (view c.args.bank.now r c.args.other.now)))
+    c.from_residual.ensures.1
+    (λ r i g n p h. compare_ruled c.args.bank.now c.args.bindings.now r c.args.one.now c.args.other.now c.args.level n c.args.next.now c.args.units.now p h w.0 w.1 w.2 w.3 w.4 c.in_err-is_same.field-0.0
+    (λ j q. transport (λ o. IsPassed c.in_err-is_same.field-0.0 c.args.units.now (compare_all j c.args.level (map (under c.args.bank.now r) o) (map (under c.args.bank.now r) c.args.other.now.arguments.items))) c.as_slice-ones.ensures.value
+    (transport (λ o. IsPassed c.in_err-is_same.field-0.0 c.args.units.now (compare_all j c.args.level (map (under c.args.bank.now r) c.as_slice-ones.result.now) (map (under c.args.bank.now r) o))) c.as_slice-others.ensures.value (c.in_err-is_same.ensures.refused r i j q))))
+
+pub returns-then-is_same-clause-judged : goal.returns-then-is_same-clause-judged
+returns-then-is_same-clause-judged c =
+    let w = one_of c.args.one.now.head c.args.other.now.head (length c.args.one.now.arguments.items) (length c.args.other.now.arguments.items) c.requires.same in
+    λ r i g n p h. same_judged c.args.bank.now c.args.bindings.now r c.args.one.now c.args.other.now c.args.level n c.args.next.now c.args.units.now p h w.0 w.1 w.2 w.3 w.4 c.are_same.new.units c.in_ok-is_same.is_same c.if-is_same.true
+    (transport (λ o. IsComparedTo c.in_ok-is_same.is_same c.args.units.now c.are_same.new.units (compare_all n c.args.level (map (under c.args.bank.now r) o) (map (under c.args.bank.now r) c.args.other.now.arguments.items))) c.as_slice-ones.ensures.value
+    (transport (λ o. IsComparedTo c.in_ok-is_same.is_same c.args.units.now c.are_same.new.units (compare_all n c.args.level (map (under c.args.bank.now r) c.as_slice-ones.result.now) (map (under c.args.bank.now r) o))) c.as_slice-others.ensures.value (c.in_ok-is_same.ensures.compared r i n)))
+
+pub on_others-requires-clause-one : goal.on_others-requires-clause-one
+on_others-requires-clause-one c = looked_stays c.args.bank.now c.are_same.new.bank c.args.bindings.now c.args.one.now c.in_ok-is_same.ensures.kept c.requires.one
+
+pub on_others-requires-clause-other : goal.on_others-requires-clause-other
+on_others-requires-clause-other c = looked_stays c.args.bank.now c.are_same.new.bank c.args.bindings.now c.args.other.now c.in_ok-is_same.ensures.kept c.requires.other
+
+pub returns-clause-judged : goal.returns-clause-judged
+returns-clause-judged c =
+    let w = one_of c.args.one.now.head c.args.other.now.head (length c.args.one.now.arguments.items) (length c.args.other.now.arguments.items) c.requires.same in
+    if_ok c.on_others.result _ _
+    (λ done f r i g n p h.
+    other_judged c.args.bank.now c.args.bindings.now r c.args.one.now c.args.other.now c.args.level n c.args.next.now c.args.units.now p h w.0 w.1 w.2 w.3 w.4 c.are_same.new.units c.on_others.new.units c.in_ok-is_same.is_same done c.if-is_same.false
+    (transport (λ o. IsComparedTo c.in_ok-is_same.is_same c.args.units.now c.are_same.new.units (compare_all n c.args.level (map (under c.args.bank.now r) o) (map (under c.args.bank.now r) c.args.other.now.arguments.items))) c.as_slice-ones.ensures.value
+    (transport (λ o. IsComparedTo c.in_ok-is_same.is_same c.args.units.now c.are_same.new.units (compare_all n c.args.level (map (under c.args.bank.now r) c.as_slice-ones.result.now) (map (under c.args.bank.now r) o))) c.as_slice-others.ensures.value (c.in_ok-is_same.ensures.compared r i n)))
+    (four_before c.args.bank.now c.are_same.new.bank c.args.bindings.now r c.args.one.now c.args.other.now c.args.level n c.args.next.now c.are_same.new.units p c.in_ok-is_same.ensures.kept c.requires.one c.requires.other h w.0 w.1 w.2 w.3 c.on_others.new.units done (f r (reading_kept c.args.bank.now c.are_same.new.bank c.args.bindings.now r c.in_ok-is_same.ensures.kept i) g n p (pair_kept c.args.bank.now c.are_same.new.bank c.args.bindings.now r c.args.level c.args.one.now c.args.other.now p c.in_ok-is_same.ensures.kept c.requires.one c.requires.other h) w.0 w.1 w.2 w.3)))
+    c.on_others.ensures.judged
+
+pub returns-clause-refused : goal.returns-clause-refused
+returns-clause-refused c =
+    let w = one_of c.args.one.now.head c.args.other.now.head (length c.args.one.now.arguments.items) (length c.args.other.now.arguments.items) c.requires.same in
+    if_err c.on_others.result _ _
+    (λ e f r i g n p h.
+    other_ruled c.args.bank.now c.args.bindings.now r c.args.one.now c.args.other.now c.args.level n c.args.next.now c.args.units.now p h w.0 w.1 w.2 w.3 w.4 c.are_same.new.units c.in_ok-is_same.is_same e c.if-is_same.false
+    (transport (λ o. IsComparedTo c.in_ok-is_same.is_same c.args.units.now c.are_same.new.units (compare_all n c.args.level (map (under c.args.bank.now r) o) (map (under c.args.bank.now r) c.args.other.now.arguments.items))) c.as_slice-ones.ensures.value
+    (transport (λ o. IsComparedTo c.in_ok-is_same.is_same c.args.units.now c.are_same.new.units (compare_all n c.args.level (map (under c.args.bank.now r) c.as_slice-ones.result.now) (map (under c.args.bank.now r) o))) c.as_slice-others.ensures.value (c.in_ok-is_same.ensures.compared r i n)))
+    (four_out_before c.args.bank.now c.are_same.new.bank c.args.bindings.now r c.args.one.now c.args.other.now c.args.level n c.args.next.now c.are_same.new.units p c.in_ok-is_same.ensures.kept c.requires.one c.requires.other h w.0 w.1 w.2 w.3 e (f r (reading_kept c.args.bank.now c.are_same.new.bank c.args.bindings.now r c.in_ok-is_same.ensures.kept i) g n p (pair_kept c.args.bank.now c.are_same.new.bank c.args.bindings.now r c.args.level c.args.one.now c.args.other.now p c.in_ok-is_same.ensures.kept c.requires.one c.requires.other h) w.0 w.1 w.2 w.3)))
+    c.on_others.ensures.refused

@@ -1,0 +1,40 @@
+use Rattle.std.proofs.Common.{ℕ, ◌∷◌, ◌∙◌, sym, ap, refl, arith}
+use Rattle.lp_term.proofs.Moves.{passed_up}
+use Rattle.lp_model.specs.Pair.{Closing}
+use Rattle.lp_pattern.specs.Reading.{side_of}
+use Rattle.lp_pattern.specs.Stripping.{IsShut}
+use Rattle.lp_pattern.specs.Under.{IsReading}
+use Rattle.lp_pattern.specs.Visiting.{IsStopped, scan_parts, part_at, part_of, parts_of}
+use Rattle.lp_pattern.specs.Refusing.{IsOfTerm}
+use Rattle.lp_pattern.proofs.Results.{err_and, if_err}
+use Rattle.lp_pattern.proofs.Walking.{on_ok, reading_kept}
+use Rattle.lp_pattern.proofs.Scannings.{visit_goes, visit_stops, visit_far, visits_kept}
+use Rattle.lp_pattern.proofs.scan.visit_part.Goals as goal
+
+pub returns-in_err-looked-clause-stopped : goal.returns-in_err-looked-clause-stopped
+returns-in_err-looked-clause-stopped c =
+    err_and c.from_residual.result (λ e. IsOfTerm c.in_err-looked.field-0.0 e) _ c.from_residual.ensures.1
+    (λ y o r i h m n. visit_far m n (side_of c.args.side.now) c.args.bank.now r c.args.visit c.args.left.now.items c.args.units.now c.in_err-looked.field-0.0 y o (c.in_err-looked.ensures.refused r i))
+
+pub visit_seen-requires-clause-visit : goal.visit_seen-requires-clause-visit
+visit_seen-requires-clause-visit c = (omega (arith, c.requires.visit.0, c.in_ok-looked.ensures.kept.more_terms), c.requires.visit.1)
+
+pub visit_seen-requires-clause-left : goal.visit_seen-requires-clause-left
+visit_seen-requires-clause-left c = visits_kept c.args.bank.now c.look.new.bank c.args.side.now.pair c.args.left.now.items c.in_ok-looked.ensures.kept c.requires.left
+
+pub returns-clause-scanned : goal.returns-clause-scanned
+returns-clause-scanned c =
+    on_ok c.visit_seen.result _ _
+    (λ f r i h m n.
+    visit_goes m n (side_of c.args.side.now) c.args.bank.now c.look.new.bank r c.args.visit c.in_ok-looked.looked.whole c.args.left.now.items 1000000 c.args.side.now.pair c.args.units.now c.visit_seen.new.units c.args.found.now c.note_new.new.found c.visit_seen.new.found _
+    c.in_ok-looked.ensures.kept c.requires.left (c.in_ok-looked.ensures.reached r i) c.note_new.ensures.delayed c.note_new.ensures.misfit
+    (f r (reading_kept c.args.bank.now c.look.new.bank c.args.bindings.now r c.in_ok-looked.ensures.kept i) h m n))
+    c.visit_seen.ensures.scanned
+
+pub returns-clause-stopped : goal.returns-clause-stopped
+returns-clause-stopped c =
+    if_err c.visit_seen.result _ _
+    (λ e f r i h m n.
+    visit_stops m n (side_of c.args.side.now) c.args.bank.now c.look.new.bank r c.args.visit c.in_ok-looked.looked.whole c.args.left.now.items 1000000 c.args.side.now.pair c.args.units.now e c.in_ok-looked.ensures.kept
+    c.requires.left (c.in_ok-looked.ensures.reached r i) (f r (reading_kept c.args.bank.now c.look.new.bank c.args.bindings.now r c.in_ok-looked.ensures.kept i) h m n))
+    c.visit_seen.ensures.stopped
