@@ -27,3 +27,7 @@ pub mod VisitSteps
 pub mod Verdicts
 pub mod Visits
 pub mod Walking
+pub mod TypeTurns
+pub mod TypeSolving
+pub mod FilledTypes
+pub mod TypesSolved

@@ -8,4 +8,5 @@ pub mod Seen
 pub mod Stripping
 pub mod TopLooks
 pub mod Under
+pub mod Filling
 pub mod Visiting

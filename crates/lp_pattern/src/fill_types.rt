@@ -1,8 +1,11 @@
 // Types with all bindings put in.
-ghost use Rattle.std.specs.Prelude.{◌≡◌, ◌<◌, ℕ, length, IfOk};
+ghost use Rattle.std.specs.Prelude.{◌≡◌, ◌<◌, ℕ, length, map, true, IfOk, OnOk, IfSome, Some, nat_eq, if◌then◌else◌};
+ghost use Rattle.indexmap.specs.IndexMap.{get};
 ghost use Rattle.lp_calculus.specs.Types.{Ty, instance};
-ghost use Rattle.lp_term.specs.Nodes.{Extends, type_tree};
+ghost use Rattle.lp_term.specs.Nodes.{Nodes, Extends, type_at, type_tree};
 ghost use Rattle.lp_pattern.specs.Under.{AreTypes, IsUnbound};
+ghost use Rattle.lp_pattern.specs.Comparing.{IsLoose};
+ghost use Rattle.lp_pattern.specs.Filling.{part_numbers, AreFilled, HaveBecome};
 
 use crate::bindings::Bindings;
 use crate::parts::{put_arrow, put_constructor, type_of};
@@ -18,17 +21,23 @@ pub(crate) struct TypesFilled {
 }
 
 impl TypesFilled {
-    pub(crate) fn new(alloc: Global) -> TypesFilled {
+    pub(crate) fn new(alloc: Global) -> TypesFilled
+        ensures { (b : Nodes) → (θ : ℕ → Ty) → AreFilled b θ result }
+    {
         TypesFilled {
             made: IndexMap::new(alloc),
         }
     }
 
-    fn at(&self, id: TypeId) -> Option<TypeId> {
+    fn at(&self, id: TypeId) -> Option<TypeId>
+        ensures { result ≡ get nat_eq self.now.made id.0 }
+    {
         self.made.get(&id.0).copied()
     }
 
-    fn note(&mut self, id: TypeId, made: TypeId) -> Result<(), Memory> {
+    fn note(&mut self, id: TypeId, made: TypeId) -> Result<(), Memory>
+        ensures { OnOk result ((i : ℕ) → get nat_eq self.new.made i ≡ (if nat_eq id.0 i then Some made else get nat_eq self.old.made i)) }
+    {
         self.made.insert(id.0, made)?;
         Ok(())
     }
@@ -57,7 +66,9 @@ pub(crate) fn resolved(bank: &Bank, bindings: &Bindings, id: TypeId) -> Result<T
 }
 
 // The parts of a type.
-fn parts_of(alloc: Global, bank: &Bank, id: TypeId) -> Result<Vec<TypeId>, Memory> {
+fn parts_of(alloc: Global, bank: &Bank, id: TypeId) -> Result<Vec<TypeId>, Memory>
+    ensures { IfOk result (λ parts. map (λ t. t.0) parts.items ≡ part_numbers (type_at bank.now id.0)) }
+{
     let mut parts = Vec::new(alloc);
     if id.0 >= bank.type_count() {
         return Err(Memory);
@@ -68,7 +79,8 @@ fn parts_of(alloc: Global, bank: &Bank, id: TypeId) -> Result<Vec<TypeId>, Memor
             parts.push(from)?;
             parts.push(to)?;
         }
-        _ => {}
+        TypeNode::Var(_) => {}
+        TypeNode::Param(_) => {}
     }
     Ok(parts)
 }
@@ -81,7 +93,9 @@ fn known_parts(
     done: &TypesFilled,
     parts: &[TypeId],
     left: &mut Vec<TypeId>,
-) -> Result<Option<Vec<TypeId>>, Memory> {
+) -> Result<Option<Vec<TypeId>>, Memory>
+    ensures { IfOk result (λ known. IfSome known (λ made. (θ : ℕ → Ty) → AreTypes bank.now bindings.now θ → AreFilled bank.now θ done.now → HaveBecome bank.now θ parts.now made.items)) }
+{
     let mut made = Vec::new(alloc);
     let mut is_whole = true;
     for part in parts.iter().copied() {
@@ -90,7 +104,7 @@ fn known_parts(
             Some(known) => made.push(known)?,
             None => {
                 is_whole = false;
-                left.push(top)?;
+                left.push(part)?;
             }
         }
     }
@@ -102,21 +116,30 @@ fn known_parts(
 
 // The type on these parts in the place of its own.
 fn rebuilt(bank: &mut Bank, id: TypeId, parts: &[TypeId], made: &[TypeId]) -> Result<TypeId, Memory>
+    requires { id.0 < length bank.old.types }
     ensures kept { Extends bank.old bank.new }
+    ensures within { IfOk result (λ t. t.0 < length bank.new.types) }
+    ensures filled { IfOk result (λ t. (θ : ℕ → Ty) → IsLoose θ (type_tree bank.old id.0) → map (λ t. t.0) parts.now ≡ part_numbers (type_at bank.old id.0) →
+        HaveBecome bank.old θ parts.now made.now → type_tree bank.new t.0 ≡ instance θ (type_tree bank.old id.0)) }
 {
-    if id.0 >= bank.type_count() {
-        return Err(Memory);
-    }
-    if parts == made {
-        return Ok(id);
-    }
     match bank.type_node(id) {
-        TypeNode::Con(number, _) => put_constructor(bank, number, made),
+        TypeNode::Con(number, _) => {
+            if parts == made {
+                return Ok(id);
+            }
+            put_constructor(bank, number, made)
+        }
         TypeNode::Arrow(_, _) => match made {
-            [from, to] => put_arrow(bank, *from, *to),
+            [from, to] => {
+                if parts == made {
+                    return Ok(id);
+                }
+                put_arrow(bank, *from, *to)
+            }
             _ => Err(Memory),
         },
-        _ => Ok(id),
+        TypeNode::Var(_) => Ok(id),
+        TypeNode::Param(_) => Ok(id),
     }
 }
 
@@ -130,28 +153,31 @@ fn step(
     left: &mut Vec<TypeId>,
 ) -> Result<(), Memory>
     ensures kept { Extends bank.old bank.new }
+    ensures filled { OnOk result ((θ : ℕ → Ty) → AreTypes bank.old bindings.now θ → AreFilled bank.old θ done.old → AreFilled bank.new θ done.new) }
 {
-    if done.at(id).is_some() {
+    let top = resolved(bank, bindings, id)?;
+    if done.at(top).is_some() {
         return Ok(());
     }
-    let parts = parts_of(alloc, bank, id)?;
-    left.push(id)?;
+    let parts = parts_of(alloc, bank, top)?;
+    left.push(top)?;
     let Some(made) = known_parts(alloc, bank, bindings, done, parts.as_slice(), left)? else {
         return Ok(());
     };
-    let new = rebuilt(bank, id, parts.as_slice(), made.as_slice())?;
-    done.note(id, new)
+    let new = rebuilt(bank, top, parts.as_slice(), made.as_slice())?;
+    done.note(top, new)
 }
 
 // Whether a type has no parts.
-fn is_leaf(bank: &Bank, id: TypeId) -> bool {
-    if id.0 >= bank.type_count() {
-        return true;
-    }
+fn is_leaf(bank: &Bank, id: TypeId) -> bool
+    requires { id.0 < length bank.now.types }
+    ensures { result ≡ true → (θ : ℕ → Ty) → IsLoose θ (type_tree bank.now id.0) → instance θ (type_tree bank.now id.0) ≡ type_tree bank.now id.0 }
+{
     match bank.type_node(id) {
         TypeNode::Con(_, ids) => ids.is_empty(),
         TypeNode::Arrow(_, _) => false,
-        _ => true,
+        TypeNode::Var(_) => true,
+        TypeNode::Param(_) => true,
     }
 }
 
@@ -164,6 +190,8 @@ pub(crate) fn filled_in(
     id: TypeId,
 ) -> Result<TypeId, Memory>
     ensures kept { Extends bank.old bank.new }
+    ensures filled { IfOk result (λ of. (θ : ℕ → Ty) → AreTypes bank.old bindings.now θ → AreFilled bank.old θ done.old →
+        AreFilled bank.new θ done.new × (of.0 < length bank.new.types) × (type_tree bank.new of.0 ≡ instance θ (type_tree bank.old id.0))) }
 {
     let root = resolved(bank, bindings, id)?;
     if is_leaf(bank, root) {
@@ -173,10 +201,10 @@ pub(crate) fn filled_in(
     left.push(root)?;
     'types: for _ in 0..u64::MAX {
         let Some(top) = left.pop() else {
-            return match done.at(root) {
-                Some(made) => Ok(made),
-                None => Err(Memory),
+            let Some(made) = done.at(root) else {
+                return Err(Memory);
             };
+            return Ok(made);
         };
         step(alloc, bank, bindings, done, top, &mut left)?;
     }
@@ -192,6 +220,7 @@ pub fn filled_type(
 ) -> Result<TypeId, TermRefusal>
     ensures kept { Extends bank.old bank.new }
     ensures within { IfOk result (λ of. of.0 < length bank.new.types) }
+    ensures filled { IfOk result (λ of. (θ : ℕ → Ty) → AreTypes bank.old bindings.now θ → type_tree bank.new of.0 ≡ instance θ (type_tree bank.old id.0)) }
 {
     let mut done = TypesFilled::new(alloc);
     let made = filled_in(alloc, bank, bindings, &mut done, id)?;

@@ -1,14 +1,15 @@
 // Type equations, and the comparison of types, under bindings.
-ghost use Rattle.std.specs.Prelude.{◌≡◌, ◌<◌, ◌++◌, ℕ, length, reverse, true, All, IfOk, OnOk, IfErr};
-ghost use Rattle.lp_calculus.specs.Types.{Ty, instance};
+ghost use Rattle.std.specs.Prelude.{◌≡◌, ◌<◌, ◌++◌, ℕ, [], Some, length, reverse, true, All, IfOk, OnOk, IfErr};
+ghost use Rattle.lp_calculus.specs.Types.{Ty, var, instance};
 ghost use Rattle.lp_term.specs.Nodes.{Extends, type_tree};
-ghost use Rattle.lp_model.specs.Types.{same_top};
+ghost use Rattle.lp_model.specs.Types.{same_top, TypeOutcome, solve_types};
 ghost use Rattle.lp_model.specs.Rule.{compare_types};
 ghost use Rattle.lp_pattern.specs.Under.{AreTypes};
 ghost use Rattle.lp_pattern.specs.Reading.{paired, type_pairs_of};
 ghost use Rattle.lp_pattern.specs.Comparing.{IsLoose, HasSameTop, IsComparedTo, IsPassed};
 ghost use Rattle.lp_pattern.specs.Growing.{Grows};
-ghost use Rattle.lp_equations.specs.Reading.{IsPair};
+ghost use Rattle.lp_equations.specs.Reading.{IsPair, read_pairs};
+ghost use Rattle.lp_pattern.specs.Filling.{equations, AreKnown, IsStill, AreSolved, AreRefused};
 
 use crate::bindings::Bindings;
 use crate::fault::PatternRefusal;
@@ -38,6 +39,8 @@ fn filled_pairs(
     pairs: &[(TypeId, TypeId)],
 ) -> Result<Vec<Pair>, Memory>
     ensures kept { Extends bank.old bank.new }
+    ensures filled { IfOk result (λ filled. (θ : ℕ → Ty) → AreTypes bank.old bindings.now θ → AreKnown bank.old pairs.now →
+        read_pairs (type_tree bank.new) var filled.items ≡ equations (type_pairs_of bank.old θ pairs.now)) }
 {
     let mut done = TypesFilled::new(alloc);
     let mut filled = Vec::new(alloc);
@@ -52,6 +55,7 @@ fn filled_pairs(
 // Adds the bindings of a solution, in their order.
 fn adopt(bindings: &mut Bindings, solution: &Solution) -> Result<(), Memory>
     ensures grown { Grows bindings.old bindings.new }
+    ensures taken { OnOk result (bindings.new.types.entries ≡ bindings.old.types.entries ++ solution.now.made.entries) }
 {
     for place in 0..solution.len() {
         let Some((variable, to)) = solution.entry(place) else {
@@ -72,6 +76,10 @@ pub(crate) fn solve_types(
 ) -> Result<(), PatternRefusal>
     ensures kept { Extends bank.old bank.new }
     ensures grown { Grows bindings.old bindings.new }
+    ensures solved { OnOk result ((θ : ℕ → Ty) → AreTypes bank.old bindings.old θ → IsStill θ → AreKnown bank.old pairs.now → (n : ℕ) → (r : TypeOutcome) → solve_types n (type_pairs_of bank.old θ pairs.now) [] 0 ≡ Some r →
+        AreSolved bank.new bindings.new θ units.old units.new r) }
+    ensures refused { IfErr result (λ e. (θ : ℕ → Ty) → AreTypes bank.old bindings.old θ → AreKnown bank.old pairs.now → (n : ℕ) → (r : TypeOutcome) → solve_types n (type_pairs_of bank.old θ pairs.now) [] 0 ≡ Some r →
+        AreRefused e units.old r) }
 {
     if pairs.is_empty() {
         return Ok(());

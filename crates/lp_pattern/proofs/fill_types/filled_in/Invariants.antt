@@ -1,5 +1,9 @@
+use Rattle.std.proofs.Common.{ℕ}
+use Rattle.lp_calculus.specs.Types.{Ty}
 use Rattle.lp_term.specs.Nodes.{Extends}
+use Rattle.lp_pattern.specs.Under.{AreTypes}
+use Rattle.lp_pattern.specs.Filling.{AreFilled}
 use Rattle.lp_pattern.proofs.fill_types.filled_in.Given as goal
 
 abbrev pub invariant-types : goal.invariant-types
-invariant-types l = Extends l.fn.bank l.bank
+invariant-types l = Extends l.fn.bank l.bank × ((θ : ℕ → Ty) → AreTypes l.fn.bank l.bindings θ → AreFilled l.fn.bank θ l.fn.done → AreFilled l.bank θ l.done)

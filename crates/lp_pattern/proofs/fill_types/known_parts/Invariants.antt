@@ -1,0 +1,8 @@
+use Rattle.std.proofs.Common.{◌≡◌, ℕ, true}
+use Rattle.lp_calculus.specs.Types.{Ty}
+use Rattle.lp_pattern.specs.Under.{AreTypes}
+use Rattle.lp_pattern.specs.Filling.{AreFilled, HaveBecome}
+use Rattle.lp_pattern.proofs.fill_types.known_parts.Given as goal
+
+abbrev pub invariant-loop-part : goal.invariant-loop-part
+invariant-loop-part l = l.is_whole ≡ true → (θ : ℕ → Ty) → AreTypes l.bank l.bindings θ → AreFilled l.bank θ l.done → HaveBecome l.bank θ l.yielded l.made.items

@@ -1,0 +1,26 @@
+use Rattle.std.proofs.Common.{ap, refl}
+use Rattle.lp_term.specs.Nodes.{type_tree}
+use Rattle.lp_equations.specs.Reading.{reading, reads}
+use Rattle.lp_pattern.proofs.TypesSolved.{all_solved, none_solved, refused_rightly, ended_there, general_there, refused_there}
+use Rattle.lp_pattern.specs.Refusing.{IsOfEquations}
+use Rattle.lp_pattern.proofs.Results.{err_and}
+use Rattle.lp_pattern.proofs.types.solve_types.Goals as goal
+
+pub returns-in_err-units-clause-refused : goal.returns-in_err-units-clause-refused
+returns-in_err-units-clause-refused c =
+    let later = c.filled_pairs.new.bank in
+    let none = ap (reading (type_tree later)) c.new-solution.ensures in
+    err_and c.from_residual-in_err-units.result (λ e. IsOfEquations c.in_err-units.field-0.0 e) _ c.from_residual-in_err-units.ensures.1
+    (λ e is θ A k n r d.
+    refused_rightly c.in_err-units.field-0.0 e c.args.units.now n _ r is
+    (refused_there (type_tree later) _ _ _ _ c.args.units.now c.in_err-units.field-0.0 none c.as_slice-2.ensures.value (c.in_ok-filled.ensures.filled θ A k) c.in_err-units.ensures.refused) d)
+
+pub returns-clause-solved : goal.returns-clause-solved
+returns-clause-solved c = λ θ A still k n r d.
+    let b = c.args.bank.now in
+    let later = c.filled_pairs.new.bank in
+    let none = ap (reading (type_tree later)) c.new-solution.ensures in
+    let same = c.in_ok-filled.ensures.filled θ A k in
+    all_solved b later c.args.bindings.now c.adopt.new.bindings θ (reads later c.unify_within.new.bindings.made) c.args.bindings.now.types.entries c.unify_within.new.bindings.made.entries c.args.pairs.now c.args.units.now
+    c.in_ok-units.field-0 n r c.in_ok-filled.ensures.kept A still refl c.in_ok-adopt.ensures.taken (ended_there (type_tree later) _ _ _ _ c.args.units.now c.in_ok-units.field-0 _ none c.as_slice-2.ensures.value same c.in_ok-units.ensures.solved)
+    (general_there (type_tree later) _ _ _ _ _ none c.as_slice-2.ensures.value same c.in_ok-units.ensures.general) c.in_ok-units.ensures.kept d
