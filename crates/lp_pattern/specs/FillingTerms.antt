@@ -1,7 +1,7 @@
 -- Terms with all bindings put in.
 use Rattle.std.specs.Prelude.{◌≡◌, ℕ, ◌<◌, List, [], ◌∷◌, map, length, Some, nat_eq}
 use Rattle.indexmap.specs.IndexMap.{get}
-use Rattle.lp_calculus.specs.Term.{Term, atom, abs, apply, constant, param}
+use Rattle.lp_calculus.specs.Term.{atom, abs, apply, constant, param}
 use Rattle.lp_term.specs.Nodes.{Nodes, tree, type_tree}
 use Rattle.lp_term.specs.declared.node.TermId.{TermId}
 use Rattle.lp_term.specs.declared.node.TypeId.{TypeId}

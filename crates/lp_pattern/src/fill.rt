@@ -123,11 +123,11 @@ fn known_part(
 ) -> Result<Option<TermId>, Memory>
     ensures { IfOk result (λ known. IfSome known (λ made. (b : Nodes) → (c : Closing) → AreAllFilled b c done.now → IsFilledTerm b c part.0 made.0)) }
 {
-    let known = done.at(part);
-    if known.is_none() {
+    let Some(made) = done.at(part) else {
         left.push(part)?;
-    }
-    Ok(known)
+        return Ok(None);
+    };
+    Ok(Some(made))
 }
 
 // A constant at its types.
@@ -153,7 +153,8 @@ fn typed(
     if made.as_slice() == types {
         return Ok(id);
     }
-    put_constant(bank, number, made.as_slice())
+    let new = put_constant(bank, number, made.as_slice())?;
+    Ok(new)
 }
 
 fn parameter(
@@ -174,7 +175,8 @@ fn parameter(
     if made == of {
         return Ok(id);
     }
-    put_parameter(bank, number, made)
+    let new = put_parameter(bank, number, made)?;
+    Ok(new)
 }
 
 fn abstraction(
@@ -292,12 +294,13 @@ pub fn filled(
     ensures within { IfOk result (λ id. id.0 < length bank.new.terms) }
     ensures filled { IfOk result (λ id. (c : Closing) → IsReading bank.old bindings.now c → IsShut c → tree bank.new id.0 ≡ closed c (tree bank.old term.0)) }
 {
+    let root = term_of(bank, term)?;
     let mut done = TermsFilled::new(alloc);
     let mut left = Vec::new(alloc);
-    left.push(term)?;
+    left.push(root)?;
     'terms: for _ in 0..u64::MAX {
         let Some(top) = left.pop() else {
-            let Some(made) = done.at(term) else {
+            let Some(made) = done.at(root) else {
                 return Err(TermRefusal::Memory);
             };
             let made = term_of(bank, made)?;
