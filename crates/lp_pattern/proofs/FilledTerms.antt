@@ -21,7 +21,7 @@ use Rattle.lp_pattern.specs.Stripping.{IsShut}
 use Rattle.lp_pattern.specs.Under.{AreTypes, IsReading}
 use Rattle.lp_pattern.specs.Filling.{AreFilled}
 use Rattle.lp_pattern.specs.FillingTerms.{IsFilledTerm, AreAllFilled, AreTypesOf, TermsBecome, HasShape, IsMade}
-use Rattle.lp_pattern.proofs.FilledTypes.{fused, all_later}
+use Rattle.lp_pattern.proofs.FilledTypes.{fused, all_later, first, second}
 use Rattle.lp_pattern.proofs.Looking.{closed_apply}
 use Rattle.lp_pattern.proofs.Opening.{body_closed}
 
@@ -34,14 +34,6 @@ on_any (Ok x) P p = p
 on_any (Err e) P p = tt
 
 -- lists that `==` finds the same
-
-first : (s t : Bool) → (s && t) ≡ true → s ≡ true
-first true t h = refl
-first false t h = h
-
-second : (s t : Bool) → (s && t) ≡ true → t ≡ true
-second true t h = h
-second false t h = absurd (cc)
 
 pub same_terms : (E : TermId → TermId → Bool) → ((x y : TermId) → E x y ≡ true → x.0 ≡ y.0) → (xs ys : List TermId) → pointwise E xs ys ≡ true → map (λ t. t.0) xs ≡ map (λ t. t.0) ys
 same_terms E d [] [] h = refl

@@ -56,11 +56,11 @@ arrow_stays b θ i j parts from to T e f h same =
 
 -- lists that `==` finds the same
 
-first : (s t : Bool) → (s && t) ≡ true → s ≡ true
+pub first : (s t : Bool) → (s && t) ≡ true → s ≡ true
 first true t h = refl
 first false t h = h
 
-second : (s t : Bool) → (s && t) ≡ true → t ≡ true
+pub second : (s t : Bool) → (s && t) ≡ true → t ≡ true
 second true t h = h
 second false t h = absurd (cc)
 
