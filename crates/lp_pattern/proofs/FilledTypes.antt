@@ -4,14 +4,13 @@ use Rattle.std.specs.Prelude.{◌&&◌, IfSome}
 use lib.Pointwise.{pointwise}
 use Rattle.std.proofs.lemmas.Bool.{eq-eqb, ne_eqb, cases_eq}
 use Rattle.indexmap.specs.IndexMap.{get}
-use Rattle.lp_calculus.specs.Types.{Ty, Tys, var, param, con, arrow, tys, types, no_types, instance, instances}
-use Rattle.lp_term.specs.Nodes.{Nodes, type_tree, type_at, Extends}
-use Rattle.lp_term.specs.Node.{TypeShape, con_node, arrow_node}
+use Rattle.lp_calculus.specs.Types.{Ty, con, arrow, tys, types, instance, instances}
+use Rattle.lp_term.specs.Nodes.{Nodes, type_tree, Extends}
 use Rattle.lp_term.specs.declared.node.TypeId.{TypeId}
 use Rattle.lp_pattern.specs.declared.bindings.Bindings.{Bindings}
 use Rattle.lp_pattern.specs.declared.fill_types.TypesFilled.{TypesFilled}
 use Rattle.lp_pattern.specs.Under.{TypeIs, AreTypes}
-use Rattle.lp_pattern.specs.Filling.{part_numbers, IsFilledAs, AreFilled, HaveBecome}
+use Rattle.lp_pattern.specs.Filling.{IsFilledAs, AreFilled, HaveBecome}
 
 pub fused : {A B C : Type 0} (g : B → C) (f : A → B) (xs : List A) → map g (map f xs) ≡ map (λ x. g (f x)) xs
 fused g f [] = refl
@@ -57,11 +56,11 @@ arrow_stays b θ i j parts from to T e f h same =
 
 -- lists that `==` finds the same
 
-first : (s t : Bool) → (s && t) ≡ true → s ≡ true
+pub first : (s t : Bool) → (s && t) ≡ true → s ≡ true
 first true t h = refl
 first false t h = h
 
-second : (s t : Bool) → (s && t) ≡ true → t ≡ true
+pub second : (s t : Bool) → (s && t) ≡ true → t ≡ true
 second true t h = h
 second false t h = absurd (cc)
 

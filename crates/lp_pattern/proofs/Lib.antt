@@ -31,3 +31,4 @@ pub mod TypeTurns
 pub mod TypeSolving
 pub mod FilledTypes
 pub mod TypesSolved
+pub mod FilledTerms

@@ -83,9 +83,11 @@ one_more a b c d s θ done p old new left right before between after D E F A k h
     let one : type_tree d left.0 ≡ instance θ (type_tree a p.0.0) = F.same_types left.0 l.1 ∙ l.2 ∙ ap (instance θ) (D.same_types p.0.0 q.1) in
     let other : type_tree d right.0 ≡ instance θ (type_tree a p.1.0) = r.2 ∙ ap (instance θ) (E.same_types p.1.0 (right_in q.2 n) ∙ D.same_types p.1.0 q.2) in
     let end : held d last ≡ equation_under a θ p = (λ i. equation (one i) (other i)) in
-    let within = l.1 in
-    (r.0, transport (AreIn d) (sym e) (in_snoc d old last o (omega (arith, m, within)) r.1),
-    ap (map (held d)) e ∙ map-append (held d) old (last ∷ []) ∙ (λ i. all i ++ end i ∷ []) ∙ sym (map-append (equation_under a θ) done (p ∷ [])))
+    let within = l.1 in (
+      r.0,
+      transport (AreIn d) (sym e) (in_snoc d old last o (omega (arith, m, within)) r.1),
+      ap (map (held d)) e ∙ map-append (held d) old (last ∷ []) ∙ (λ i. all i ++ end i ∷ []) ∙ sym (map-append (equation_under a θ) done (p ∷ [])),
+    )
   where
     right_in : p.1.0 < length a.types → length a.types ≤ length b.types → p.1.0 < length b.types
     right_in x y = omega (arith, x, y)
@@ -150,9 +152,10 @@ module _ (θ ι : ℕ → Ty) (bs : List TypeBinding) (puts : (x : ℕ) → ι x
 
   hold : IsStill θ → (b : Nodes) (ps : List (TypeId × TypeId)) → AllHold ι (equations (type_pairs_of b θ ps)) → AllHold (later_types bs θ) (equations (type_pairs_of b θ ps))
   hold still b [] h = tt
-  hold still b (p ∷ ps) h =
-      ((behind (instance θ (type_tree b p.0.0)) ∙ ap (instance ι) (again still (type_tree b p.0.0)) ∙ h.0 ∙ sym (ap (instance ι) (again still (type_tree b p.1.0))) ∙ sym (behind (instance θ (type_tree b p.1.0)))),
-      hold still b ps h.1)
+  hold still b (p ∷ ps) h = (
+    (behind (instance θ (type_tree b p.0.0)) ∙ ap (instance ι) (again still (type_tree b p.0.0)) ∙ h.0 ∙ sym (ap (instance ι) (again still (type_tree b p.1.0))) ∙ sym (behind (instance θ (type_tree b p.1.0)))),
+    hold still b ps h.1,
+  )
 
   module _ (still : IsStill θ) (follows : (x : ℕ) → instance (later_types bs θ) (ι x) ≡ (later_types bs θ) x) where
     past_all : (t : Ty) → instance (later_types bs θ) (instance ι t) ≡ instance (later_types bs θ) t
@@ -163,9 +166,10 @@ module _ (θ ι : ℕ → Ty) (bs : List TypeBinding) (puts : (x : ℕ) → ι x
         ap (instance (later_types bs θ)) (both (θ x)) ∙ past_all (θ x) ∙ behind (θ x) ∙ ap (instance ι) (still x) ∙ sym (both (θ x))
 
     old_type : (b c : Nodes) → Extends b c → (x : ℕ) (t : TypeId) → TypeIs b θ x (Some t) → TypeIs c (later_types bs θ) x (Some t)
-    old_type b c E x t h =
-        (let m = E.more_types in let k = h.0 in omega arith,
-        both (θ x) ∙ ap (instance ι) h.1 ∙ sym (behind (type_tree b t.0)) ∙ ap (instance (later_types bs θ)) (sym (E.same_types t.0 h.0)))
+    old_type b c E x t h = (
+      let m = E.more_types in let k = h.0 in omega arith,
+      both (θ x) ∙ ap (instance ι) h.1 ∙ sym (behind (type_tree b t.0)) ∙ ap (instance (later_types bs θ)) (sym (E.same_types t.0 h.0)),
+    )
 
     new_type : (c : Nodes) (x : ℕ) (o : Option TypeId) → θ x ≡ var x → Slot (type_tree c) (length c.types) ι x o → TypeIs c (later_types bs θ) x o
     new_type c x None e h = both (θ x) ∙ ap (instance ι) e ∙ h

@@ -10,3 +10,4 @@ pub mod TopLooks
 pub mod Under
 pub mod Filling
 pub mod Visiting
+pub mod FillingTerms

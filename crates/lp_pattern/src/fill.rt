@@ -1,6 +1,12 @@
 // Terms with all bindings put in.
-ghost use Rattle.std.specs.Prelude.{◌<◌, length, IfOk};
-ghost use Rattle.lp_term.specs.Nodes.{Extends};
+ghost use Rattle.std.specs.Prelude.{◌≡◌, ◌<◌, ℕ, length, map, IfOk, OnOk, IfSome, Some, nat_eq, if◌then◌else◌};
+ghost use Rattle.indexmap.specs.IndexMap.{get};
+ghost use Rattle.lp_calculus.specs.Term.{abs, apply, atom, constant, param};
+ghost use Rattle.lp_term.specs.Nodes.{Extends, Nodes, tree, type_tree};
+ghost use Rattle.lp_model.specs.Pair.{Closing, closed};
+ghost use Rattle.lp_pattern.specs.FillingTerms.{IsFilledTerm, AreAllFilled, AreTypesOf, TermsBecome, HasShape, IsMade};
+ghost use Rattle.lp_pattern.specs.Stripping.{IsShut};
+ghost use Rattle.lp_pattern.specs.Under.{IsReading};
 
 use crate::bindings::Bindings;
 use crate::fill_types::{TypesFilled, filled_in};
@@ -18,11 +24,25 @@ struct TermsFilled {
 }
 
 impl TermsFilled {
-    fn at(&self, id: TermId) -> Option<TermId> {
+    fn new(alloc: Global) -> TermsFilled
+        ensures { (b : Nodes) → (c : Closing) → AreAllFilled b c result }
+    {
+        TermsFilled {
+            terms: IndexMap::new(alloc),
+            types: TypesFilled::new(alloc),
+        }
+    }
+
+    fn at(&self, id: TermId) -> Option<TermId>
+        ensures { result ≡ get nat_eq self.now.terms id.0 }
+    {
         self.terms.get(&id.0).copied()
     }
 
-    fn note(&mut self, id: TermId, made: TermId) -> Result<(), Memory> {
+    fn note(&mut self, id: TermId, made: TermId) -> Result<(), Memory>
+        ensures types { self.new.types ≡ self.old.types }
+        ensures terms { OnOk result ((i : ℕ) → get nat_eq self.new.terms i ≡ (if nat_eq id.0 i then Some made else get nat_eq self.old.terms i)) }
+    {
         self.terms.insert(id.0, made)?;
         Ok(())
     }
@@ -40,7 +60,10 @@ enum Shape {
     Application(TermId, Vec<TermId>),
 }
 
-fn shape_of(alloc: Global, bank: &Bank, bindings: &Bindings, id: TermId) -> Result<Shape, Memory> {
+fn shape_of(alloc: Global, bank: &Bank, bindings: &Bindings, id: TermId) -> Result<Shape, Memory>
+    ensures known { IfOk result (λ _. id.0 < length bank.now.terms) }
+    ensures shape { IfOk result (HasShape bank.now bindings.now id.0) }
+{
     if id.0 >= bank.term_count() {
         return Err(Memory);
     }
@@ -59,7 +82,10 @@ fn shape_of(alloc: Global, bank: &Bank, bindings: &Bindings, id: TermId) -> Resu
             let arguments = Vec::from_slice(alloc, arguments)?;
             Ok(Shape::Application(head, arguments))
         }
-        _ => Ok(Shape::Leaf),
+        TermNode::Index(_) => Ok(Shape::Leaf),
+        TermNode::Int(_) => Ok(Shape::Leaf),
+        TermNode::Text(_) => Ok(Shape::Leaf),
+        TermNode::Eigen(_) => Ok(Shape::Leaf),
     }
 }
 
@@ -69,7 +95,9 @@ fn known_parts(
     done: &TermsFilled,
     parts: &[TermId],
     left: &mut Vec<TermId>,
-) -> Result<Option<Vec<TermId>>, Memory> {
+) -> Result<Option<Vec<TermId>>, Memory>
+    ensures { IfOk result (λ known. IfSome known (λ made. (b : Nodes) → (c : Closing) → AreAllFilled b c done.now → TermsBecome b c parts.now made.items)) }
+{
     let mut made = Vec::new(alloc);
     let mut is_whole = true;
     for part in parts.iter().copied() {
@@ -92,12 +120,14 @@ fn known_part(
     done: &TermsFilled,
     part: TermId,
     left: &mut Vec<TermId>,
-) -> Result<Option<TermId>, Memory> {
-    let known = done.at(part);
-    if known.is_none() {
+) -> Result<Option<TermId>, Memory>
+    ensures { IfOk result (λ known. IfSome known (λ made. (b : Nodes) → (c : Closing) → AreAllFilled b c done.now → IsFilledTerm b c part.0 made.0)) }
+{
+    let Some(made) = done.at(part) else {
         left.push(part)?;
-    }
-    Ok(known)
+        return Ok(None);
+    };
+    Ok(Some(made))
 }
 
 // A constant at its types.
@@ -110,7 +140,10 @@ fn typed(
     number: u32,
     types: &[TypeId],
 ) -> Result<TermId, Memory>
+    requires { id.0 < length bank.old.terms }
     ensures kept { Extends bank.old bank.new }
+    ensures made { IfOk result (λ t. (c : Closing) → IsReading bank.old bindings.now c → IsShut c → AreAllFilled bank.old c done.old → AreTypesOf bank.old types.now →
+        tree bank.old id.0 ≡ atom (constant number (map (λ t. type_tree bank.old t.0) types.now)) → AreAllFilled bank.new c done.new × IsMade bank.old bank.new c id.0 t) }
 {
     let mut made = Vec::new(alloc);
     for of in types.iter().copied() {
@@ -120,7 +153,8 @@ fn typed(
     if made.as_slice() == types {
         return Ok(id);
     }
-    put_constant(bank, number, made.as_slice())
+    let new = put_constant(bank, number, made.as_slice())?;
+    Ok(new)
 }
 
 fn parameter(
@@ -132,13 +166,17 @@ fn parameter(
     number: u64,
     of: TypeId,
 ) -> Result<TermId, Memory>
+    requires { id.0 < length bank.old.terms }
     ensures kept { Extends bank.old bank.new }
+    ensures made { IfOk result (λ t. (c : Closing) → IsReading bank.old bindings.now c → IsShut c → AreAllFilled bank.old c done.old → of.0 < length bank.old.types →
+        tree bank.old id.0 ≡ atom (param number (type_tree bank.old of.0)) → AreAllFilled bank.new c done.new × IsMade bank.old bank.new c id.0 t) }
 {
     let made = filled_in(alloc, bank, bindings, &mut done.types, of)?;
     if made == of {
         return Ok(id);
     }
-    put_parameter(bank, number, made)
+    let new = put_parameter(bank, number, made)?;
+    Ok(new)
 }
 
 fn abstraction(
@@ -148,7 +186,10 @@ fn abstraction(
     body: TermId,
     left: &mut Vec<TermId>,
 ) -> Result<Option<TermId>, Memory>
+    requires { id.0 < length bank.old.terms }
     ensures kept { Extends bank.old bank.new }
+    ensures made { IfOk result (λ known. IfSome known (λ t. (c : Closing) → IsShut c → AreAllFilled bank.old c done.now →
+        tree bank.old id.0 ≡ abs (tree bank.old body.0) → IsMade bank.old bank.new c id.0 t)) }
 {
     let Some(made) = known_part(done, body, left)? else {
         return Ok(None);
@@ -169,7 +210,10 @@ fn application(
     arguments: &[TermId],
     left: &mut Vec<TermId>,
 ) -> Result<Option<TermId>, Memory>
+    requires { id.0 < length bank.old.terms }
     ensures kept { Extends bank.old bank.new }
+    ensures made { IfOk result (λ known. IfSome known (λ t. (c : Closing) → AreAllFilled bank.old c done.now →
+        tree bank.old id.0 ≡ apply (tree bank.old head.0) (map (λ t. tree bank.old t.0) arguments.now) → IsMade bank.old bank.new c id.0 t)) }
 {
     let made = known_parts(alloc, done, arguments, left)?;
     let Some(top) = known_part(done, head, left)? else {
@@ -195,6 +239,9 @@ fn made_of(
     left: &mut Vec<TermId>,
 ) -> Result<Option<TermId>, Memory>
     ensures kept { Extends bank.old bank.new }
+    ensures known { IfOk result (λ _. id.0 < length bank.old.terms) }
+    ensures filled { OnOk result ((c : Closing) → IsReading bank.old bindings.now c → IsShut c → AreAllFilled bank.old c done.old → AreAllFilled bank.new c done.new) }
+    ensures made { IfOk result (λ known. IfSome known (λ t. (c : Closing) → IsReading bank.old bindings.now c → IsShut c → AreAllFilled bank.old c done.old → IsMade bank.old bank.new c id.0 t)) }
 {
     match shape_of(alloc, bank, bindings, id)? {
         Shape::Leaf => Ok(Some(id)),
@@ -224,6 +271,7 @@ fn step(
     left: &mut Vec<TermId>,
 ) -> Result<(), Memory>
     ensures kept { Extends bank.old bank.new }
+    ensures filled { OnOk result ((c : Closing) → IsReading bank.old bindings.now c → IsShut c → AreAllFilled bank.old c done.old → AreAllFilled bank.new c done.new) }
 {
     if done.at(id).is_some() {
         return Ok(());
@@ -244,16 +292,15 @@ pub fn filled(
 ) -> Result<TermId, TermRefusal>
     ensures kept { Extends bank.old bank.new }
     ensures within { IfOk result (λ id. id.0 < length bank.new.terms) }
+    ensures filled { IfOk result (λ id. (c : Closing) → IsReading bank.old bindings.now c → IsShut c → tree bank.new id.0 ≡ closed c (tree bank.old term.0)) }
 {
-    let mut done = TermsFilled {
-        terms: IndexMap::new(alloc),
-        types: TypesFilled::new(alloc),
-    };
+    let root = term_of(bank, term)?;
+    let mut done = TermsFilled::new(alloc);
     let mut left = Vec::new(alloc);
-    left.push(term)?;
+    left.push(root)?;
     'terms: for _ in 0..u64::MAX {
         let Some(top) = left.pop() else {
-            let Some(made) = done.at(term) else {
+            let Some(made) = done.at(root) else {
                 return Err(TermRefusal::Memory);
             };
             let made = term_of(bank, made)?;

@@ -1,7 +1,4 @@
-use Rattle.std.proofs.Common.{◌∙◌, ℕ, ap, sym, map}
-use Rattle.lp_calculus.specs.Types.{Ty}
-use Rattle.lp_pattern.specs.Under.{AreTypes}
-use Rattle.lp_pattern.specs.Filling.{AreFilled}
+use Rattle.std.proofs.Common.{◌∙◌, ap, sym, map}
 use Rattle.lp_pattern.proofs.Walking.{on_ok}
 use Rattle.lp_pattern.proofs.FilledTypes.{one_noted, become, some_given}
 use Rattle.lp_pattern.proofs.SameTypes.{unbound_loose}

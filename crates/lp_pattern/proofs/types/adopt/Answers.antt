@@ -4,7 +4,8 @@ use Rattle.lp_pattern.proofs.TypesSolved.{one_taken}
 use Rattle.lp_pattern.proofs.types.adopt.Goals as goal
 
 pub loop-place-preserved : goal.loop-place-preserved
-loop-place-preserved c =
-    (grows_then c.args.bindings.now c.loop-place.bindings c.bind_type.new.self c.loop-place.invariant.0 c.in_ok-bind_type.ensures.grown,
-    one_taken c.loop-place.place c.args.solution.now.made.entries c.args.bindings.now.types.entries c.loop-place.bindings.types.entries c.bind_type.new.self.types.entries (c.in-Some.variable, c.in-Some.to) c.loop-place.invariant.1
-    c.in_ok-bind_type.ensures.made (sym c.entry.ensures ∙ c.in-Some.is))
+loop-place-preserved c = (
+  grows_then c.args.bindings.now c.loop-place.bindings c.bind_type.new.self c.loop-place.invariant.0 c.in_ok-bind_type.ensures.grown,
+  one_taken c.loop-place.place c.args.solution.now.made.entries c.args.bindings.now.types.entries c.loop-place.bindings.types.entries c.bind_type.new.self.types.entries (c.in-Some.variable, c.in-Some.to) c.loop-place.invariant.1
+      c.in_ok-bind_type.ensures.made (sym c.entry.ensures ∙ c.in-Some.is),
+)

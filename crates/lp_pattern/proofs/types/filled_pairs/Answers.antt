@@ -20,11 +20,12 @@ loop-pair-preserved c =
     let later = c.filled_in.new.bank in
     let last = c.filled_in-in-loop-pair.new.bank in
     let E = c.in_ok-left.ensures.kept in
-    let F = c.in_ok-right.ensures.kept in
-    (kept_then a b last c.loop-pair.invariant.0 (kept_then b later last E F),
-    λ θ A k.
-    one_more a b later last c.args.bindings.now θ c.loop-pair.yielded c.in-Some.pair c.loop-pair.filled.items c.push.new.self.items c.in_ok-left.left c.in_ok-right.right c.loop-pair.done c.filled_in.new.done
-    c.filled_in-in-loop-pair.new.done c.loop-pair.invariant.0 E F A k (c.loop-pair.invariant.1 θ A) c.in_ok-push.ensures.items c.in_ok-left.ensures.filled c.in_ok-right.ensures.filled)
+    let F = c.in_ok-right.ensures.kept in (
+      kept_then a b last c.loop-pair.invariant.0 (kept_then b later last E F),
+      λ θ A k.
+          one_more a b later last c.args.bindings.now θ c.loop-pair.yielded c.in-Some.pair c.loop-pair.filled.items c.push.new.self.items c.in_ok-left.left c.in_ok-right.right c.loop-pair.done c.filled_in.new.done
+          c.filled_in-in-loop-pair.new.done c.loop-pair.invariant.0 E F A k (c.loop-pair.invariant.1 θ A) c.in_ok-push.ensures.items c.in_ok-left.ensures.filled c.in_ok-right.ensures.filled,
+    )
 
 pub returns-clause-filled : goal.returns-clause-filled
 returns-clause-filled c =

@@ -1,0 +1,15 @@
+use Rattle.std.proofs.Common.{◌∙◌, sym}
+use Rattle.std.proofs.lemmas.Bool.{eqb-true}
+use Rattle.lp_pattern.proofs.FilledTypes.{some_given}
+use Rattle.lp_pattern.proofs.FilledTerms.{abstraction_made, abstraction_stays}
+use Rattle.lp_pattern.proofs.fill.abstraction.Goals as goal
+
+pub returns-then-eq-clause-made : goal.returns-then-eq-clause-made
+returns-then-eq-clause-made c = λ d h F e.
+    abstraction_stays c.args.bank.now d c.args.id c.args.body c.in-Some.made h (some_given _ _ _ c.in-Some.is c.in_ok-made.ensures c.args.bank.now d F) e c.requires
+    (eqb-true c.in-Some.made.0 c.args.body.0 (sym c.eq.ensures ∙ c.if-eq.true))
+
+pub returns-clause-made : goal.returns-clause-made
+returns-clause-made c = λ d h F e.
+    abstraction_made c.args.bank.now c.put_abstraction.new.bank d c.args.id c.args.body c.in-Some.made c.in_ok-new.new h (some_given _ _ _ c.in-Some.is c.in_ok-made.ensures c.args.bank.now d F) e c.in_ok-new.ensures.within
+    c.in_ok-new.ensures.tree
