@@ -1,5 +1,5 @@
 -- Terms with all bindings put in: what was made of a term's parts, put together, is the term under the bindings.
-use Rattle.std.proofs.Common.{◌≡◌, ℕ, ◌<◌, List, [], ◌∷◌, ◌++◌, map, length, Option, Some, None, inl, inr, refl, sym, ap, subst as transport, ◌∙◌, arith, nat_eq, if◌then◌else◌, Bool, true, false, Vec, Global}
+use Rattle.std.proofs.Common.{◌≡◌, ℕ, ◌<◌, List, [], ◌∷◌, ◌++◌, map, length, Option, Some, None, inl, inr, refl, sym, ap, subst as transport, ◌∙◌, arith, nat_eq, if◌then◌else◌, Bool, true, Vec, Global}
 use Rattle.std.specs.Prelude.{All, IfSome, OnOk, Result, Ok, Err}
 use Rattle.std.proofs.lemmas.List.{map-append}
 use Rattle.std.proofs.lemmas.List.Elements.{All-head, All-tail}

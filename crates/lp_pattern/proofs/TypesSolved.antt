@@ -2,18 +2,17 @@
 use Rattle.std.proofs.Common.{◌≡◌, ℕ, zero, suc, ◌+◌, ◌<◌, ◌≤◌, List, [], ◌∷◌, ◌++◌, map, reverse, length, Option, Some, None, refl, sym, ap, subst as transport, ◌∙◌, arith, nat_eq, if◌then◌else◌, Bool, true, false, take, slice_get}
 use Rattle.std.proofs.lemmas.List.{append_assoc, map-append, reverse-append, reverse-reverse}
 use Rattle.std.specs.Map.{lookup}
-use Rattle.indexmap.specs.IndexMap.{get}
 use Rattle.lp_calculus.specs.Types.{Ty, var, instance}
 use Rattle.lp_calculus.proofs.TypeLaws.{instance-instance}
 use Rattle.lp_types.specs.Equations.{Equation, equation, AllHold, IsMostGeneralFrom}
 use Rattle.lp_types.specs.Solving.{fails}
 use Rattle.lp_types.specs.Solving as types
-use Rattle.lp_types.specs.Units.{units, spent, ended, solve_within}
+use Rattle.lp_types.specs.Units.{units, solve_within}
 use Rattle.lp_types.proofs.GoingOn.{as_without}
 use Rattle.lp_types.proofs.Types.{instance-var}
 use Rattle.lp_term.specs.Nodes.{Nodes, type_tree, Extends}
 use Rattle.lp_term.specs.declared.node.TypeId.{TypeId}
-use Rattle.lp_equations.specs.Reading.{Slot, Kept, reading, read_pair, read_pairs}
+use Rattle.lp_equations.specs.Reading.{Slot, read_pair, read_pairs}
 use Rattle.lp_equations.specs.Counting.{HasEnded, IsRefused}
 use Rattle.lp_equations.specs.declared.bindings.Pair.{Pair}
 use Rattle.lp_equations.specs.declared.counted.EquationRefusal.{EquationRefusal}
@@ -22,12 +21,12 @@ use Rattle.lp_pattern.specs.declared.bindings.Bindings.{Bindings}
 use Rattle.lp_pattern.specs.declared.fault.PatternRefusal.{PatternRefusal}
 use Rattle.lp_pattern.specs.Refusing.{IsOfEquations}
 use Rattle.lp_pattern.specs.Under.{TypeIs, AreTypes}
-use Rattle.lp_pattern.specs.Reading.{type_pair_of, type_pairs_of}
-use Rattle.lp_pattern.specs.Filling.{equations, AreFilled, AreKnown, IsStill, AreSolved, units_in, AreRefused, held, equation_under, AreIn}
+use Rattle.lp_pattern.specs.Reading.{type_pairs_of}
+use Rattle.lp_pattern.specs.Filling.{equations, AreFilled, AreKnown, IsStill, AreSolved, AreRefused, held, equation_under, AreIn}
 use Rattle.lp_pattern.specs.declared.fill_types.TypesFilled.{TypesFilled}
 use Rattle.lp_pattern.proofs.FilledTypes.{types_later}
 use Rattle.lp_pattern.proofs.Walking.{map-reverse}
-use Rattle.lp_pattern.proofs.TypeSolving.{HasSolved, solved_same, fails_same, spent_same}
+use Rattle.lp_pattern.proofs.TypeSolving.{solved_same, fails_same, spent_same}
 
 -- lists of pairs
 

@@ -1,4 +1,4 @@
-use Rattle.std.proofs.Common.{subst as transport, sym, ap, ◌∙◌}
+use Rattle.std.proofs.Common.{ap, ◌∙◌}
 use Rattle.lp_term.specs.Nodes.{type_tree}
 use Rattle.lp_pattern.proofs.fill_types.filled_type.Goals as goal
 

@@ -1,4 +1,4 @@
-use Rattle.std.proofs.Common.{◌∙◌, sym, ap, take, ◌++◌, ◌∷◌, []}
+use Rattle.std.proofs.Common.{◌∙◌, sym}
 use Rattle.lp_pattern.proofs.Keeps.{grows_then}
 use Rattle.lp_pattern.proofs.TypesSolved.{one_taken}
 use Rattle.lp_pattern.proofs.types.adopt.Goals as goal

@@ -1,7 +1,7 @@
 use Rattle.std.proofs.Common.{ap, refl}
 use Rattle.lp_term.specs.Nodes.{type_tree}
 use Rattle.lp_equations.specs.Reading.{reading, reads}
-use Rattle.lp_pattern.proofs.TypesSolved.{all_solved, none_solved, refused_rightly, ended_there, general_there, refused_there}
+use Rattle.lp_pattern.proofs.TypesSolved.{all_solved, refused_rightly, ended_there, general_there, refused_there}
 use Rattle.lp_pattern.specs.Refusing.{IsOfEquations}
 use Rattle.lp_pattern.proofs.Results.{err_and}
 use Rattle.lp_pattern.proofs.types.solve_types.Goals as goal
