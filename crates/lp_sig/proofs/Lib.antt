@@ -6,4 +6,5 @@ pub mod Naming
 pub mod Repeats
 pub mod Firsts
 pub mod Knowledge
+pub mod Meanings
 pub mod Spoken

@@ -1,18 +1,35 @@
 use Rattle.std.proofs.Common.{ap, ◌∙◌}
-use Rattle.std.specs.Prelude.{is_some}
+use Rattle.std.specs.Prelude.{is_some, option_map}
 use Rattle.lp_sig.specs.Places.{place_of}
+use Rattle.lp_sig.specs.Knowing.{said_as}
 use Rattle.lp_sig.proofs.Finding.{none_past}
 use Rattle.lp_sig.proofs.Knowledge.{means_head, means_kind, means_nothing}
+use Rattle.lp_sig.proofs.Meanings.{means_standard, says_head, says_kind, says_nothing}
 use Rattle.lp_sig.proofs.names.Names.meaning.Goals as goal
 
-pub returns-in-Some-of : goal.returns-in-Some-of
-returns-in-Some-of c = record { known = λ said k. means_head c.args.self.now said c.args.name.now k c.in_default.ensures c.of.result c.in-Some-of.place c.in-Some-of.is (c.of.ensures ∙ k.head_places c.args.name.now) }
+pub returns-in-Some-clause-means : goal.returns-in-Some-clause-means
+returns-in-Some-clause-means c = λ said k. means_standard c.args.name.now said c.in-Some.number c.in-Some.arity c.in-Some.ensures
 
-pub returns-in_err-place : goal.returns-in_err-place
-returns-in_err-place c = record { known = λ said k. ap is_some c.from_residual.ensures ∙ means_nothing c.args.self.now said c.args.name.now k c.in_default.ensures c.of.result c.of-2.result c.in_default-of.is (c.of.ensures ∙ k.head_places c.args.name.now) c.in_err-place.was (c.of-2.ensures ∙ k.kind_places c.args.name.now) }
+pub returns-in-Some-of-clause-known : goal.returns-in-Some-of-clause-known
+returns-in-Some-of-clause-known c = λ said k. means_head c.args.self.now said c.args.name.now k c.in_default.ensures c.of.result c.in-Some-of.place c.in-Some-of.is (c.of.ensures ∙ k.head_places c.args.name.now)
 
-pub returns-in_err-kind : goal.returns-in_err-kind
-returns-in_err-kind c = record { known = λ said k. none_past (λ k. k.name.items) c.args.name.now c.args.self.now.kinds.items c.deref.result.now c.of-2.result (place_of c.args.self.now.kind_places c.args.name.now) c.in_ok-place.place c.of-2.ensures (k.kind_places c.args.name.now) c.in_ok-place.was c.deref.ensures.value c.in_err-kind.ensures.lookup.3 }
+pub returns-in-Some-of-clause-means : goal.returns-in-Some-of-clause-means
+returns-in-Some-of-clause-means c = λ said k. says_head c.args.self.now said c.args.name.now k c.in_default.ensures c.of.result c.in-Some-of.place c.in-Some-of.is (c.of.ensures ∙ k.head_places c.args.name.now)
 
-pub returns : goal.returns
-returns c = record { known = λ said k. means_kind c.args.self.now said c.args.name.now k c.in_default.ensures c.of.result c.of-2.result c.in_ok-place.place c.in_default-of.is (c.of.ensures ∙ k.head_places c.args.name.now) c.in_ok-place.was (c.of-2.ensures ∙ k.kind_places c.args.name.now) }
+pub returns-in_err-place-clause-known : goal.returns-in_err-place-clause-known
+returns-in_err-place-clause-known c = λ said k. ap is_some c.from_residual.ensures ∙ means_nothing c.args.self.now said c.args.name.now k c.in_default.ensures c.of.result c.of-2.result c.in_default-of.is (c.of.ensures ∙ k.head_places c.args.name.now) c.in_err-place.was (c.of-2.ensures ∙ k.kind_places c.args.name.now)
+
+pub returns-in_err-place-clause-means : goal.returns-in_err-place-clause-means
+returns-in_err-place-clause-means c = λ said k. ap (option_map (said_as c.args.self.now)) c.from_residual.ensures ∙ says_nothing c.args.self.now said c.args.name.now k c.in_default.ensures c.of.result c.of-2.result c.in_default-of.is (c.of.ensures ∙ k.head_places c.args.name.now) c.in_err-place.was (c.of-2.ensures ∙ k.kind_places c.args.name.now)
+
+pub returns-in_err-kind-clause-known : goal.returns-in_err-kind-clause-known
+returns-in_err-kind-clause-known c = λ said k. none_past (λ k. k.name.items) c.args.name.now c.args.self.now.kinds.items c.deref.result.now c.of-2.result (place_of c.args.self.now.kind_places c.args.name.now) c.in_ok-place.place c.of-2.ensures (k.kind_places c.args.name.now) c.in_ok-place.was c.deref.ensures.value c.in_err-kind.ensures.lookup.3
+
+pub returns-in_err-kind-clause-means : goal.returns-in_err-kind-clause-means
+returns-in_err-kind-clause-means c = λ said k. none_past (λ k. k.name.items) c.args.name.now c.args.self.now.kinds.items c.deref.result.now c.of-2.result (place_of c.args.self.now.kind_places c.args.name.now) c.in_ok-place.place c.of-2.ensures (k.kind_places c.args.name.now) c.in_ok-place.was c.deref.ensures.value c.in_err-kind.ensures.lookup.3
+
+pub returns-clause-known : goal.returns-clause-known
+returns-clause-known c = λ said k. means_kind c.args.self.now said c.args.name.now k c.in_default.ensures c.of.result c.of-2.result c.in_ok-place.place c.in_default-of.is (c.of.ensures ∙ k.head_places c.args.name.now) c.in_ok-place.was (c.of-2.ensures ∙ k.kind_places c.args.name.now)
+
+pub returns-clause-means : goal.returns-clause-means
+returns-clause-means c = λ said k. says_kind c.args.self.now said c.args.name.now k c.in_default.ensures c.of.result c.of-2.result c.in_ok-place.place c.deref.result.now c.in_ok-kind.kind.now c.in_default-of.is (c.of.ensures ∙ k.head_places c.args.name.now) c.in_ok-place.was (c.of-2.ensures ∙ k.kind_places c.args.name.now) c.deref.ensures.value c.in_ok-kind.ensures.lookup.1
