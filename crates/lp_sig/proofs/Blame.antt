@@ -1,9 +1,10 @@
 -- What is to blame for a refusal, seen from the declaration.
-use Rattle.std.proofs.Common.{◌≡◌, ℕ, zero, suc, ◌+◌, ◌<◌, ◌≤◌, List, [], ◌∷◌, ◌++◌, length, take, take_all, get_or, refl, sym, ap, subst, ◌∙◌, arith, Result, Ok, Err, inl, inr, ⊎_elim, Option, Some, None}
+use Rattle.std.proofs.Common.{◌≡◌, ℕ, zero, suc, ◌+◌, ◌<◌, ◌≤◌, List, [], ◌∷◌, ◌++◌, length, take, take_all, get_or, refl, sym, ap, subst, ◌∙◌, arith, Result, Ok, Err, inl, inr, ⊎_elim, Option, Some, None, Bool, true, false}
 use Rattle.std.specs.Global.{Global}
-use Rattle.std.specs.Prelude.{◌≢◌, Contains, IfErr, IfOk, OnOk, IfSome, ◌⊎◌, String, Vec, string_bytes}
+use Rattle.std.specs.Prelude.{◌≢◌, Contains, IfErr, IfOk, OnOk, IfSome, ◌⊎◌, String, Vec, string_bytes, nat_le}
 use Rattle.std.proofs.lemmas.List.{take_more, get_or_default}
 use Rattle.std.proofs.lemmas.List.Elements.{All-more}
+use Rattle.std.proofs.lemmas.Bool.{leb-true, leb-false}
 use Rattle.std.specs.Result.{IsErrAnd}
 use Rattle.lp_base.specs.declared.limit.Limit.{Limit}
 use Rattle.lp_base.specs.declared.limit.Limit.TheVariants as limit
@@ -137,6 +138,10 @@ pub for_ok : {T E : Type 0} (r : Result T E) (P Q : T → Type 0) → ((x : T) �
 for_ok (Ok x) P Q f h = f x h
 for_ok (Err e) P Q f h = tt
 
+pub both_ok : {T E : Type 0} (r : Result T E) (P Q : T → Type 0) → IfOk r P → IfOk r Q → IfOk r (λ x. P x × Q x)
+both_ok (Ok x) P Q p q = (p, q)
+both_ok (Err e) P Q p q = tt
+
 -- what a call says of its end, from what one that it stands on says
 pub on_ok : {T E : Type 0} (r : Result T E) (P Q : Type 0) → (P → Q) → OnOk r P → OnOk r Q
 on_ok (Ok x) P Q f h = f h
@@ -249,14 +254,13 @@ module _ (names : List (String Global)) (sources : List (Vec ℕ Global)) (texts
 
   -- one more step is taken
   pub taken_more : (steps : List Step) (k : ℕ) (d : Step) → k < length steps → AreStepsTaken names sources texts steps k → IsStepTaken names sources texts (said_before names sources texts steps k) (get_or steps k d) → AreStepsTaken names sources texts steps (k + 1)
-  taken_more steps k d h before this j s l at = by (cases_below j k l)
+  taken_more steps k d h before this j s l at = by (nat_le k j) refl
     where
-      cases_below : (j k : ℕ) → j < k + 1 → (j < k) ⊎ (j ≡ k)
-      cases_below j k l = omega (arith, l)
-
-      by : (j < k) ⊎ (j ≡ k) → IsStepTaken names sources texts (said_before names sources texts steps j) s
-      by (inl m) = before j s m at
-      by (inr e) =
+      by : (t : Bool) → nat_le k j ≡ t → IsStepTaken names sources texts (said_before names sources texts steps j) s
+      by false t = before j s (leb-false k j t) at
+      by true t =
+          let m : k ≤ j = leb-true k j t in
+          let e : j ≡ k = omega (arith, m, l) in
           let same : get_or steps k d ≡ s = get_or_default steps k d s h ∙ ap (λ n. get_or steps n s) (sym e) ∙ at.1 in
           subst (λ n. IsStepTaken names sources texts (said_before names sources texts steps n) s) (sym e) (subst (IsStepTaken names sources texts (said_before names sources texts steps k)) same this)
 

@@ -8,3 +8,8 @@ pub mod Firsts
 pub mod Knowledge
 pub mod Meanings
 pub mod Spoken
+pub mod Wording
+pub mod Heads
+pub mod Parameters
+pub mod Sentences
+pub mod Judging

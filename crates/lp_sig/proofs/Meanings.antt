@@ -108,6 +108,7 @@ parts_found name known ((n, w) ∷ ss) = by (is_among n known) (parts_found name
 
 -- a standard name
 pub means_standard : (name : List ℕ) (said : List (Row Said)) (number count : ℕ) → Some (number, count) ≡ found name standard_kinds → Some (a_kind count) ≡ meaning_of name said
+unfolding meaning_of
 means_standard name said number count some = sym (before name standard_said said (a_kind count) (found_map (λ r. a_kind r.1) name standard_kinds ∙ ap (option_map (λ r. a_kind r.1)) (sym some)))
 
 -- another name, by the tables
@@ -116,6 +117,7 @@ module _ (names : Names) (said : List (Row Said)) (name : List ℕ) (k : Knows n
   not_standard = found_map (λ r. a_kind r.1) name standard_kinds ∙ ap (option_map (λ r. a_kind r.1)) (sym standard)
 
   by_tables : meaning_of name said ≡ joined (found name (map head_row names.heads.items)) (found name (map kinded_row names.kinds.items))
+  unfolding meaning_of
   by_tables =
       behind name standard_said said not_standard ∙ sym (found_first name (names_in standard_kinds) said (none_among name standard_kinds (sym standard))) ∙ parts_found name (names_in standard_kinds) said ∙
       ap (λ r. joined (found name r) (found name (kinds_among (declared_names said)))) (sym k.heads) ∙ ap (λ r. joined (found name (map head_row names.heads.items)) (found name r)) (sym k.kinds)

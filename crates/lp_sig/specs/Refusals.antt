@@ -202,5 +202,5 @@ module _ (names : List (String Global)) (sources : List (Vec ℕ Global)) (texts
     pub steps : List Step
     pub loaded : IsFreeOfCircles root steps
     pub taken : AreStepsTaken steps (length steps)
-    pub kinds_are : kinds ≡ numbered 0 (kinds_among (declared_names (of_steps said_in sources texts steps)))
+    pub kinds_are : kinds ≡ numbered 8 (kinds_among (declared_names (of_steps said_in sources texts steps)))
     pub fixities_are : fixities ≡ firsts [] (of_steps fixities_in sources texts steps)

@@ -18,7 +18,7 @@ abbrev pub standard_said : List (Row Said)
 standard_said = map (λ r. (r.0, a_kind r.1.1)) standard_kinds
 
 -- what a name means: the first thing that is said of it, behind the standard names
-abbrev pub meaning_of : List ℕ → List (Row Said) → Option Said
+unfoldable pub meaning_of : List ℕ → List (Row Said) → Option Said
 meaning_of name said = found name (standard_said ++ said)
 
 -- how many arguments a word stands on

@@ -64,7 +64,8 @@ impl Names {
                 }
                 Ok(())
             }
-            _ => Err(SigFault::Differ(name)),
+            Some(Meaning::Abbreviation(_)) => Err(SigFault::Differ(name)),
+            None => Err(SigFault::Differ(name)),
         }
     }
 
@@ -101,17 +102,18 @@ impl Names {
         ensures meant { (said : List (Row Said)) → Knows self.now said → IfOk result (λ place. IsMeant source.now said (an_abbreviation parameters) name) }
     {
         check_length(source, name)?;
-        let Some(Meaning::Abbreviation(place)) = self.meaning(spelled_at(source, name)) else {
-            return Err(SigFault::Differ(name));
-        };
-        match self.heads.get(place) {
-            Some(known) => {
-                if known.parameters != parameters {
-                    return Err(SigFault::Differ(name));
+        match self.meaning(spelled_at(source, name)) {
+            Some(Meaning::Abbreviation(place)) => match self.heads.get(place) {
+                Some(known) => {
+                    if known.parameters != parameters {
+                        return Err(SigFault::Differ(name));
+                    }
+                    Ok(place)
                 }
-                Ok(place)
-            }
-            None => Err(SigFault::Memory),
+                None => Err(SigFault::Memory),
+            },
+            Some(Meaning::Kind(_, _)) => Err(SigFault::Differ(name)),
+            None => Err(SigFault::Differ(name)),
         }
     }
 }

@@ -34,6 +34,7 @@ pub(crate) struct Variables {
 // No parameter stands a second time.
 fn check_apart(alloc: Global, source: &[u8], parameters: &[Spot]) -> Result<(), SigFault>
     ensures refused { IfErr result (IsFaultOf source.now (record { names = []; heads = []; parameters = parameters.now; words = [] }) ⊥) }
+    ensures repeated { IfErr result (λ e. (e ≡ fault.Memory) ⊎ ((s : Spot) × (e ≡ fault.Differ s) × IsRepeated source.now parameters.now s)) }
     ensures taken { IfOk result (λ done. AreApart source.now parameters.now) }
 {
     let mut places = Places::new(alloc);
@@ -68,6 +69,7 @@ impl Variables {
         parameters: &[Spot],
     ) -> Result<Variables, SigFault>
         ensures refused { IfErr result (IsFaultOf source.now (record { names = []; heads = []; parameters = parameters.now; words = [] }) ⊥) }
+        ensures repeated { IfErr result (λ e. (e ≡ fault.Memory) ⊎ ((s : Spot) × (e ≡ fault.Differ s) × IsRepeated source.now parameters.now s)) }
         ensures taken { IfOk result (λ variables. AreApart source.now parameters.now) }
         ensures held { IfOk result (λ variables. Holds variables (parameters_of source.now parameters.now)) }
     {
