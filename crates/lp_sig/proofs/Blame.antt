@@ -1,8 +1,8 @@
 -- What is to blame for a refusal, seen from the declaration.
-use Rattle.std.proofs.Common.{◌≡◌, ℕ, zero, suc, ◌+◌, ◌<◌, ◌≤◌, List, [], ◌∷◌, ◌++◌, length, take, take_all, get_or, refl, sym, ap, subst, ◌∙◌, arith, Result, Ok, Err, inl, inr, ⊎_elim, Option, Some, None, Bool, true, false}
+use Rattle.std.proofs.Common.{◌≡◌, ℕ, zero, suc, ◌+◌, ◌<◌, ◌≤◌, List, [], ◌∷◌, ◌++◌, length, take, take_all, get_or, refl, sym, ap, subst, ◌∙◌, arith, Result, Ok, Err, inl, inr, Option, Some, None, Bool, true, false}
 use Rattle.std.specs.Global.{Global}
 use Rattle.std.specs.Prelude.{◌≢◌, Contains, IfErr, IfOk, OnOk, IfSome, ◌⊎◌, String, Vec, string_bytes, nat_le}
-use Rattle.std.proofs.lemmas.List.{take_more, get_or_default}
+use Rattle.std.proofs.lemmas.List.{get_or_default}
 use Rattle.std.proofs.lemmas.List.Elements.{All-more}
 use Rattle.std.proofs.lemmas.Bool.{leb-true, leb-false}
 use Rattle.std.specs.Result.{IsErrAnd}

@@ -1,6 +1,6 @@
 -- An abbreviation at a place, with its count of parameters.
-use Rattle.std.proofs.Common.{◌≡◌, ℕ, zero, suc, ◌<◌, List, [], ◌∷◌, length, map, get_or, refl, sym, ap, ◌∙◌, arith}
-use Rattle.lp_sig.specs.Said.{Said, an_abbreviation}
+use Rattle.std.proofs.Common.{◌≡◌, ℕ, zero, suc, ◌<◌, List, [], ◌∷◌, length, map, get_or, sym, ap, ◌∙◌, arith}
+use Rattle.lp_sig.specs.Said.{an_abbreviation}
 use Rattle.lp_sig.specs.Knowing.{head_row}
 use Rattle.lp_sig.specs.declared.names.Head.{Head}
 

@@ -1,11 +1,11 @@
 -- What is made of a word tells its fault.
-use Rattle.std.proofs.Common.{◌≡◌, ℕ, List, Bool, true, false, Option, Some, None, refl, sym, ap, ◌∙◌, length}
+use Rattle.std.proofs.Common.{◌≡◌, ℕ, List, true, false, Option, Some, None, sym, ap, ◌∙◌}
 use Rattle.std.specs.Prelude.{if◌then◌else◌, is_some, nat_eq}
 use Rattle.std.proofs.lemmas.Bool.{eq-eqb, ne_eqb}
 use Rattle.lp_base.specs.declared.place.Spot.{Spot}
 use Rattle.lp_sig.specs.Pieces.{spelled, begins_variable}
 use Rattle.lp_sig.specs.Rows.{Row}
-use Rattle.lp_sig.specs.Said.{Said, a_kind, an_abbreviation}
+use Rattle.lp_sig.specs.Said.{Said}
 use Rattle.lp_sig.specs.Words.{meaning_of, may_stand, counted, on_count, by_meaning, fault_of_word}
 use Rattle.lp_sig.specs.declared.fault.SigFault.{SigFault}
 use Rattle.lp_sig.specs.declared.fault.SigFault.TheVariants as fault

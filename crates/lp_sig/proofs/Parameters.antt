@@ -1,5 +1,5 @@
 -- Which variables may stand: all of a declared type, and the parameters of an abbreviation.
-use Rattle.std.proofs.Common.{◌≡◌, ℕ, ◌+◌, ◌<◌, ◌≤◌, List, [], ◌∷◌, ◌++◌, length, map, take, take_all, get_or, Bool, true, false, Option, Some, None, refl, sym, ap, subst, ◌∙◌, true≢false}
+use Rattle.std.proofs.Common.{◌≡◌, ℕ, ◌+◌, ◌<◌, ◌≤◌, List, [], ◌∷◌, ◌++◌, length, map, take, take_all, get_or, Bool, true, false, Option, Some, None, refl, sym, ap, ◌∙◌, true≢false}
 use Rattle.std.specs.Prelude.{if◌then◌else◌, is_some, ◌||◌}
 use Rattle.std.specs.Str.{bytes_eq}
 use Rattle.lp_base.specs.declared.place.Spot.{Spot}
@@ -38,5 +38,8 @@ module _ (v w : Variables) (text : List ℕ) (ps : List Spot) (i : ℕ) (d : Spo
 
 pub all_listed : (v w : Variables) (text : List ℕ) (ps : List Spot) (i : ℕ) → length ps ≤ i → w.closed ≡ true → w.numbers ≡ v.numbers → ((name : List ℕ) → is_some (number_of v name) ≡ is_among name (map (λ p. spelled text p) (take i ps))) → Holds w (parameters_of text ps)
 unfolding number_of
-all_listed v w text ps i h shut same before = (shut, λ name.
-    ap (λ n. is_some (number_of (record { alloc = w.alloc; numbers = n; closed = w.closed; next = w.next }) name)) same ∙ before name ∙ ap (λ l. is_among name (map (λ p. spelled text p) l)) (take_all i ps h))
+all_listed v w text ps i h shut same before = (
+  shut,
+  λ name.
+      ap (λ n. is_some (number_of (record { alloc = w.alloc; numbers = n; closed = w.closed; next = w.next }) name)) same ∙ before name ∙ ap (λ l. is_among name (map (λ p. spelled text p) l)) (take_all i ps h),
+)

@@ -1,6 +1,6 @@
 -- Why a sentence is refused, by the call that refuses it.
-use Rattle.std.proofs.Common.{◌≡◌, ℕ, ◌<◌, ◌≤◌, List, [], ◌∷◌, length, Result, Ok, Err, refl, sym, ap, subst, ◌∙◌, arith, inl, inr, ⊎_elim, Option, Some, None}
-use Rattle.std.specs.Prelude.{Contains, ◌⊎◌, IfErr, IfOk}
+use Rattle.std.proofs.Common.{◌≡◌, ℕ, ◌<◌, List, length, Result, Ok, Err, refl, arith, inl, inr, None}
+use Rattle.std.specs.Prelude.{Contains, ◌⊎◌, IfOk}
 use Rattle.lp_base.specs.declared.limit.Limit.{Limit}
 use Rattle.lp_base.specs.declared.limit.Limit.TheVariants as limit
 use Rattle.lp_base.specs.declared.place.Spot.{Spot}
@@ -8,7 +8,7 @@ use Rattle.lp_syntax.specs.declared.text.RawTypeNode.{RawTypeNode}
 use Rattle.lp_sig.specs.Pieces.{spelled}
 use Rattle.lp_sig.specs.Rows.{Row}
 use Rattle.lp_sig.specs.Said.{Said, an_abbreviation}
-use Rattle.lp_sig.specs.Limits.{AreShort, AreApart, IsRepeated}
+use Rattle.lp_sig.specs.Limits.{AreShort, IsRepeated}
 use Rattle.lp_sig.specs.Refusals.{IsFaultOf, IsLimitOf, named}
 use Rattle.lp_sig.specs.Words.{WordsStand, IsFirstFault, IsMeant, IsHead, parameters_of, IsConstantsFault, IsAbbreviationFault, long, arguments, a_word, other, many, memory, repeated}
 use Rattle.lp_sig.specs.declared.fault.SigFault.{SigFault}

@@ -1,6 +1,6 @@
 -- Faults of names and of words: names one after the other, and the words of a type node by node.
-use Rattle.std.proofs.Common.{◌≡◌, ℕ, suc, ◌+◌, ◌<◌, ◌≤◌, List, [], ◌∷◌, ◌++◌, length, take, take_all, get_or, Bool, true, false, Option, Some, None, Result, Ok, Err, refl, sym, ap, subst, ◌∙◌, arith, inl, inr, ⊎_elim, map, true≢false}
-use Rattle.std.specs.Prelude.{◌≢◌, Contains, ◌⊎◌, IfErr, IfOk, if◌then◌else◌, nat_eq, nat_le, option_map, is_some}
+use Rattle.std.proofs.Common.{◌≡◌, ℕ, ◌+◌, ◌<◌, ◌≤◌, List, [], ◌∷◌, ◌++◌, length, take, take_all, get_or, Bool, true, false, Option, Some, None, refl, sym, ap, subst, ◌∙◌, arith, inr, ⊎_elim, true≢false}
+use Rattle.std.specs.Prelude.{◌≢◌, Contains, ◌⊎◌, if◌then◌else◌, nat_le, option_map, is_some}
 use Rattle.std.proofs.lemmas.List.{take_more, get_or_default}
 use Rattle.std.proofs.lemmas.List.Elements.{Contains-get_or, Contains-push, Contains-append_left, Contains-push_cases}
 use Rattle.std.proofs.lemmas.Bool.{leb-true, leb-false}
@@ -10,8 +10,8 @@ use Rattle.lp_syntax.specs.declared.text.RawTypeNode.{RawTypeNode}
 use Rattle.lp_sig.specs.Pieces.{spelled}
 use Rattle.lp_sig.specs.Rows.{Row}
 use Rattle.lp_sig.specs.Said.{Said, a_kind, an_abbreviation}
-use Rattle.lp_sig.specs.Limits.{IsShort, AreShort}
-use Rattle.lp_sig.specs.Words.{meaning_of, word_fault, earlier_of, beginning, WordsStand, IsFirstFault, IsMeant, AreMeant, IsNameFault, long, other, many, memory, IsFirstName, IsKindsFault, a_name, arguments}
+use Rattle.lp_sig.specs.Limits.{AreShort}
+use Rattle.lp_sig.specs.Words.{meaning_of, word_fault, earlier_of, beginning, WordsStand, IsFirstFault, AreMeant, IsNameFault, IsFirstName}
 use Rattle.lp_sig.specs.declared.fault.SigFault.{SigFault}
 use Rattle.lp_sig.specs.declared.fault.SigFault.TheVariants as fault
 

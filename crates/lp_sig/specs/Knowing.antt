@@ -1,5 +1,5 @@
 -- What the tables of names hold, where so much was said.
-use Rattle.std.specs.Prelude.{◌≡◌, ℕ, List, [], ◌∷◌, map, Bool, true, false, ◌||◌, Option, Some, None, is_some, slice_index_or}
+use Rattle.std.specs.Prelude.{◌≡◌, ℕ, List, [], map, Bool, true, false, ◌||◌, Option, Some, None, is_some, slice_index_or}
 use Rattle.std.specs.Str.{bytes_eq}
 use Rattle.std.specs.Map.{lookup}
 use Rattle.lp_base.specs.declared.place.Spot.{Spot}
@@ -19,7 +19,6 @@ use Rattle.lp_sig.specs.declared.expand.Made.{Made}
 use Rattle.lp_sig.specs.declared.expand.Made.TheVariants as made
 use Rattle.lp_sig.specs.declared.fault.SigFault.{SigFault}
 use Rattle.lp_sig.specs.declared.fault.SigFault.TheVariants as fault
-use Rattle.lp_sig.specs.Words.{may_stand}
 
 abbrev pub kinded_row : Kinded → Row ℕ
 kinded_row k = (k.name.items, k.arity)

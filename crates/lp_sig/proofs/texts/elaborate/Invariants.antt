@@ -1,9 +1,7 @@
 use Rattle.std.proofs.Common.{take}
-use Rattle.std.specs.Prelude.{Contains}
 use Rattle.lp_sig.specs.Refusals.{AreStepsTaken}
 use Rattle.lp_sig.specs.Said.{said_in, fixities_in, of_steps}
 use Rattle.lp_sig.specs.Knowing.{Knows, KnowsOperators}
-use Rattle.lp_sig.specs.declared.walk.Step.{Step}
 use Rattle.lp_sig.proofs.texts.elaborate.Given as goal
 
 abbrev pub invariant-loop-step : goal.invariant-loop-step

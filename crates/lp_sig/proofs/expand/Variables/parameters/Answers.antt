@@ -1,4 +1,4 @@
-use Rattle.std.proofs.Common.{◌∙◌, ap, refl}
+use Rattle.std.proofs.Common.{ap, refl}
 use Rattle.std.specs.Prelude.{is_some}
 use Rattle.lp_sig.proofs.Parameters.{listed_more, all_listed}
 use Rattle.lp_sig.proofs.expand.Variables.parameters.Goals as goal

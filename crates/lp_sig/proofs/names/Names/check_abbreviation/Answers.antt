@@ -1,11 +1,11 @@
-use Rattle.std.proofs.Common.{ap, refl, ◌∙◌, sym, ◌≡◌, Some}
+use Rattle.std.proofs.Common.{ap, refl, ◌∙◌, sym, Some}
 use Rattle.std.specs.Prelude.{option_map}
 use Rattle.lp_sig.specs.Said.{an_abbreviation}
-use Rattle.lp_sig.specs.Words.{IsNameFault, long, other, many, memory}
+use Rattle.lp_sig.specs.Words.{IsNameFault, long, other, memory}
 use Rattle.lp_sig.specs.Knowing.{said_as}
 use Rattle.lp_sig.proofs.Blame.{passed_up}
 use Rattle.lp_sig.proofs.Heads.{parameters_at}
-use Rattle.lp_sig.proofs.Wording.{other_parameters, not_a_head, no_meaning, so_meant}
+use Rattle.lp_sig.proofs.Wording.{other_parameters, not_a_head, no_meaning}
 use Rattle.lp_sig.proofs.names.Names.check_abbreviation.Goals as goal
 
 pub returns-in_err-check_length-clause-why : goal.returns-in_err-check_length-clause-why

@@ -1,9 +1,9 @@
 use Rattle.std.proofs.Common.{ap}
-use Rattle.lp_sig.specs.Said.{a_kind, an_abbreviation}
+use Rattle.lp_sig.specs.Said.{a_kind}
 use Rattle.lp_sig.specs.Words.{IsNameFault, long, other, many}
 use Rattle.lp_sig.proofs.Blame.{passed_up}
 use Rattle.lp_sig.proofs.Wording.{other_count, not_a_kind, no_meaning, so_meant}
-use Rattle.std.proofs.Common.{refl, ◌∙◌, sym, ◌≡◌, Some}
+use Rattle.std.proofs.Common.{refl, ◌∙◌, sym, Some}
 use Rattle.std.specs.Prelude.{option_map}
 use Rattle.lp_sig.specs.Knowing.{said_as}
 use Rattle.lp_sig.proofs.names.Names.declare_kind.Goals as goal
