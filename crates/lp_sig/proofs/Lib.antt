@@ -7,6 +7,7 @@ pub mod Repeats
 pub mod Firsts
 pub mod Knowledge
 pub mod Meanings
+pub mod Numbering
 pub mod Spoken
 pub mod Wording
 pub mod Heads

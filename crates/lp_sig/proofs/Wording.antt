@@ -11,7 +11,7 @@ use Rattle.lp_sig.specs.Pieces.{spelled}
 use Rattle.lp_sig.specs.Rows.{Row}
 use Rattle.lp_sig.specs.Said.{Said, a_kind, an_abbreviation}
 use Rattle.lp_sig.specs.Limits.{AreShort}
-use Rattle.lp_sig.specs.Words.{meaning_of, word_fault, earlier_of, beginning, WordsStand, IsFirstFault, AreMeant, IsNameFault, IsFirstName}
+use Rattle.lp_sig.specs.Words.{meaning_of, word_fault, earlier_of, beginning, WordsStand, IsFirstFault, AreMeant, AreNumbered, IsNameFault, IsFirstName}
 use Rattle.lp_sig.specs.declared.fault.SigFault.{SigFault}
 use Rattle.lp_sig.specs.declared.fault.SigFault.TheVariants as fault
 
@@ -52,11 +52,14 @@ module _ (text : List ℕ) (said : List (Row Said)) (name : Spot) (word : List �
   so_meant m n means is = sym (means ∙ ap (λ w. meaning_of w said) same) ∙ ap (λ m. Some m) is
 
 -- the first name that is refused
-pub first_name : (text : List ℕ) (said : List (Row Said)) (m : Said) (names : List Spot) (i : ℕ) (d : Spot) (e : SigFault) → i < length names → AreMeant text said m (take i names) → IsNameFault text said m (get_or names i d) e → IsFirstName text said m names e
-first_name text said m names i d e h before this = record { k = i; name = get_or names i d; inside = h; at_name = get_or_default names i (get_or names i d) d h; refused = this; before = before }
+pub first_name : (text : List ℕ) (said : List (Row Said)) (m : Said) (names : List Spot) (i : ℕ) (d : Spot) (e : SigFault) → i < length names → AreMeant text said m (take i names) → AreNumbered text said (take i names) → IsNameFault text said m (get_or names i d) e → IsFirstName text said m names e
+first_name text said m names i d e h before numbers this = record { k = i; name = get_or names i d; inside = h; at_name = get_or_default names i (get_or names i d) d h; refused = this; before = before; numbered_before = numbers }
 
 pub all_meant : (text : List ℕ) (said : List (Row Said)) (m : Said) (names : List Spot) (i : ℕ) → length names ≤ i → AreMeant text said m (take i names) → AreMeant text said m names
 all_meant text said m names i h all = subst (AreMeant text said m) (take_all i names h) all
+
+pub all_numbered : (text : List ℕ) (said : List (Row Said)) (names : List Spot) (i : ℕ) → length names ≤ i → AreNumbered text said (take i names) → AreNumbered text said names
+all_numbered text said names i h all = subst (AreNumbered text said) (take_all i names h) all
 
 pub all_short : (text : List ℕ) (names : List Spot) (i : ℕ) → length names ≤ i → AreShort text (take i names) → AreShort text names
 all_short text names i h all = subst (AreShort text) (take_all i names h) all

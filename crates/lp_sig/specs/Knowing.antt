@@ -1,5 +1,5 @@
 -- What the tables of names hold, where so much was said.
-use Rattle.std.specs.Prelude.{◌≡◌, ℕ, List, [], map, Bool, true, false, ◌||◌, Option, Some, None, is_some, slice_index_or}
+use Rattle.std.specs.Prelude.{◌≡◌, ◌⊎◌, ◌<◌, min, ℕ, List, [], map, Bool, true, false, ◌||◌, Option, Some, None, is_some, slice_index_or}
 use Rattle.std.specs.Str.{bytes_eq}
 use Rattle.std.specs.Map.{lookup}
 use Rattle.lp_base.specs.declared.place.Spot.{Spot}
@@ -44,6 +44,11 @@ pub record KnowsOperators (operators : Operators) (said : List (Row (Fixity × �
 abbrev pub said_as : Names → Meaning → Said
 said_as names (meaning.Kind number count) = a_kind count
 said_as names (meaning.Abbreviation place) = an_abbreviation (slice_index_or (map head_row names.heads.items) place ([], 0)).1
+
+-- the number of a meaning: one of a standard kind, or that of a declared kind as far as its type goes
+abbrev pub IsNumberOf : Option ℕ → Meaning → Type 0
+IsNumberOf o (meaning.Kind number count) = ((o ≡ None) × (number < 8)) ⊎ ((k : ℕ) × (o ≡ Some k) × (number ≡ min k 4294967295))
+IsNumberOf o (meaning.Abbreviation place) = Unit {0}
 
 -- the number of a variable
 unfoldable pub number_of : Variables → List ℕ → Option ℕ

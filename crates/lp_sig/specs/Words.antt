@@ -1,5 +1,5 @@
 -- What names and words mean, and the faults of a sentence by them, under all that is said up to the end of its text.
-use Rattle.std.specs.Prelude.{◌≡◌, ◌≢◌, ◌≤◌, ◌<◌, ℕ, nat_eq, nat_le, List, ◌++◌, Option, Some, None, Bool, true, map, take, length, All, Contains, if◌then◌else◌, is_some, slice_index_or}
+use Rattle.std.specs.Prelude.{◌≡◌, ◌≢◌, ◌≤◌, ◌<◌, ℕ, nat_eq, nat_le, List, ◌++◌, Option, Some, None, Bool, true, map, take, length, All, Contains, if◌then◌else◌, is_some, option_map, IfSome, slice_index_or}
 use Rattle.lp_base.specs.declared.limit.Limit.TheVariants as limit
 use Rattle.lp_base.specs.declared.place.Spot.{Spot}
 use Rattle.lp_syntax.specs.declared.text.Declaration.{Declaration}
@@ -9,7 +9,7 @@ use Rattle.lp_syntax.specs.declared.text.RawTypeNode.TheVariants.{Word, Arrow}
 use Rattle.lp_sig.specs.Pieces.{spelled, begins_variable}
 use Rattle.lp_sig.specs.Rows.{Row, found}
 use Rattle.lp_sig.specs.Standard.{standard_kinds}
-use Rattle.lp_sig.specs.Said.{Said, a_kind, an_abbreviation, is_among}
+use Rattle.lp_sig.specs.Said.{Said, a_kind, an_abbreviation, is_among, numbered, kinds_among, declared_names}
 use Rattle.lp_sig.specs.Limits.{IsShort, AreShort, AreApart, IsRepeated}
 use Rattle.lp_sig.specs.declared.fault.SigFault.{SigFault}
 use Rattle.lp_sig.specs.declared.fault.SigFault.TheVariants as fault
@@ -79,11 +79,21 @@ IsMeant text said m s = IsShort text s × (meaning_of (spelled text s) said ≡ 
 abbrev pub AreMeant : List ℕ → List (Row Said) → Said → List Spot → Type 0
 AreMeant text said m names = All (IsMeant text said m) names
 
+-- the number of a declared kind, from 8 on in the order of declaration, is below 65535
+unfoldable pub number_said : List ℕ → List (Row Said) → Option ℕ
+number_said name said = option_map (λ r. r.0) (found name (numbered 8 (kinds_among (declared_names said))))
+
+abbrev pub IsNumbered : List ℕ → List (Row Said) → Spot → Type 0
+IsNumbered text said s = IfSome (number_said (spelled text s) said) (λ n. n < 65535)
+
+abbrev pub AreNumbered : List ℕ → List (Row Said) → List Spot → Type 0
+AreNumbered text said names = All (IsNumbered text said) names
+
 -- why a name is refused: it is long, or it means something else than what is said of it here, or there are too many names
 pub data IsNameFault (text : List ℕ) (said : List (Row Said)) (m : Said) (s : Spot) : SigFault → Type 0 where
   long : {e : SigFault} → e ≡ fault.Limit limit.NameLength → 255 < length (spelled text s) → IsNameFault text said m s e
   other : {e : SigFault} → e ≡ fault.Differ s → IsShort text s → meaning_of (spelled text s) said ≢ Some m → IsNameFault text said m s e
-  many : {e : SigFault} → e ≡ fault.Limit limit.Names → IsMeant text said m s → IsNameFault text said m s e
+  many : {e : SigFault} → e ≡ fault.Limit limit.Names → IsMeant text said m s → (n : ℕ) → number_said (spelled text s) said ≡ Some n → 65535 ≤ n → IsNameFault text said m s e
   memory : {e : SigFault} → e ≡ fault.Memory → IsNameFault text said m s e
 
 -- the first of these names that is refused
@@ -94,11 +104,12 @@ pub record IsFirstName (text : List ℕ) (said : List (Row Said)) (m : Said) (na
   pub at_name : slice_index_or names k name ≡ name
   pub refused : IsNameFault text said m name e
   pub before : AreMeant text said m (take k names)
+  pub numbered_before : AreNumbered text said (take k names)
 
 -- why a sentence of kinds is refused: one of its names, then its count of arguments
 pub data IsKindsFault (text : List ℕ) (said : List (Row Said)) (names : List Spot) (n : ℕ) : SigFault → Type 0 where
   a_name : {e : SigFault} → IsFirstName text said (a_kind n) names e → IsKindsFault text said names n e
-  arguments : {e : SigFault} → e ≡ fault.Limit limit.Arguments → AreMeant text said (a_kind n) names → 255 < n → IsKindsFault text said names n e
+  arguments : {e : SigFault} → e ≡ fault.Limit limit.Arguments → AreMeant text said (a_kind n) names → AreNumbered text said names → 255 < n → IsKindsFault text said names n e
 
 -- why a sentence of constants is refused: a long name goes first, then the limit on arguments of types, then a word of the
 -- type, then what the names are declared as
@@ -140,7 +151,7 @@ IsSentenceFault text said (AccumSig words) e = e ≡ fault.Memory
 IsSentenceFault text said (Fixities names f n) e = e ≡ fault.Memory
 
 abbrev pub IsSound : List ℕ → List (Row Said) → Declaration → Type 0
-IsSound text said (Kinds names n) = AreMeant text said (a_kind n) names.items
+IsSound text said (Kinds names n) = AreMeant text said (a_kind n) names.items × AreNumbered text said names.items
 IsSound text said (LocalKinds names n) = Unit {0}
 IsSound text said (Constants names ty) = WordsStand text said None ty.nodes.items
 IsSound text said (Locals names ty) = Unit {0}

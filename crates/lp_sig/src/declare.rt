@@ -7,7 +7,7 @@ ghost use Rattle.lp_sig.specs.Refusals.{IsFaultOf, IsFaultIn, named, typed, head
 ghost use Rattle.lp_fixity.specs.declared.fixity.Fixity.{Fixity as IsFixity};
 ghost use Rattle.lp_sig.specs.Rows.{Row};
 ghost use Rattle.lp_sig.specs.Said.{Said, a_kind, an_abbreviation, said_in, fixities_by, fixities_in};
-ghost use Rattle.lp_sig.specs.Words.{IsNameFault, IsMeant, AreMeant, IsKindsFault, IsConstantsFault, IsAbbreviationFault, IsHead, WordsStand, parameters_of, IsSentenceFault, IsSound, AreSound};
+ghost use Rattle.lp_sig.specs.Words.{IsNameFault, IsMeant, AreMeant, IsNumbered, AreNumbered, IsKindsFault, IsConstantsFault, IsAbbreviationFault, IsHead, WordsStand, parameters_of, IsSentenceFault, IsSound, AreSound};
 ghost use Rattle.lp_sig.specs.Knowing.{Knows, KnowsOperators};
 ghost use Rattle.lp_sig.specs.Limits.{IsShort, AreShort, AreApart, IsWithin, AreWithin};
 
@@ -51,7 +51,7 @@ impl Names {
         ensures refused { IfErr result (IsFaultOf source.now (named (name ∷ [])) ⊥) }
         ensures why { (said : List (Row Said)) → Knows self.now said → IfErr result (IsNameFault source.now said (a_kind arity) name) }
         ensures taken { IfOk result (λ done. IsShort source.now name) }
-        ensures meant { (said : List (Row Said)) → Knows self.now said → IfOk result (λ done. IsMeant source.now said (a_kind arity) name) }
+        ensures meant { (said : List (Row Said)) → Knows self.now said → IfOk result (λ done. IsMeant source.now said (a_kind arity) name × IsNumbered source.now said name) }
     {
         check_length(source, name)?;
         match self.meaning(spelled_at(source, name)) {
@@ -77,7 +77,7 @@ impl Names {
     ) -> Result<(), SigFault>
         ensures refused { IfErr result (IsFaultOf source.now (named names.now) (255 < arity)) }
         ensures why { (said : List (Row Said)) → Knows self.now said → IfErr result (IsKindsFault source.now said names.now arity) }
-        ensures meant { (said : List (Row Said)) → Knows self.now said → IfOk result (λ done. AreMeant source.now said (a_kind arity) names.now) }
+        ensures meant { (said : List (Row Said)) → Knows self.now said → IfOk result (λ done. AreMeant source.now said (a_kind arity) names.now × AreNumbered source.now said names.now) }
         ensures taken { IfOk result (λ done. AreShort source.now names.now × (arity ≤ 255)) }
     {
         for name in names {

@@ -2,7 +2,7 @@ use Rattle.std.proofs.Common.{subst, sym, refl, ◌<◌, length}
 use Rattle.std.specs.Prelude.{IfErr, IfOk, ◌≤◌}
 use Rattle.lp_sig.specs.Limits.{IsShort, AreShort, AreApart, IsWithin}
 use Rattle.lp_sig.specs.Said.{a_kind}
-use Rattle.lp_sig.specs.Words.{IsSentenceFault, IsKindsFault, IsConstantsFault, IsAbbreviationFault, IsSound, AreMeant, IsHead, WordsStand, parameters_of}
+use Rattle.lp_sig.specs.Words.{IsSentenceFault, IsKindsFault, IsConstantsFault, IsAbbreviationFault, IsSound, AreMeant, AreNumbered, IsHead, WordsStand, parameters_of}
 use Rattle.lp_sig.specs.Refusals.{IsFaultOf, named, typed, headed, words_of, parts_of, HasManyArguments}
 use Rattle.lp_sig.proofs.Blame.{always}
 use Rattle.lp_sig.proofs.Spoken.{no_fixities, its_fixities}
@@ -82,7 +82,7 @@ returns-in-Abbreviation-clause-why c = λ said k.
 pub returns-in-Kinds-clause-sound : goal.returns-in-Kinds-clause-sound
 returns-in-Kinds-clause-sound c = λ said k.
     subst (λ d. IfOk c.declare_kinds.result (λ done. IsSound c.args.source.now said d)) (sym c.in-Kinds.is)
-    (subst (λ ns. IfOk c.declare_kinds.result (λ done. AreMeant c.args.source.now said (a_kind c.in-Kinds.arity) ns)) c.as_slice.ensures.value (c.declare_kinds.ensures.meant said k))
+    (subst (λ ns. IfOk c.declare_kinds.result (λ done. AreMeant c.args.source.now said (a_kind c.in-Kinds.arity) ns × AreNumbered c.args.source.now said ns)) c.as_slice.ensures.value (c.declare_kinds.ensures.meant said k))
 
 pub returns-in-Constants-clause-sound : goal.returns-in-Constants-clause-sound
 returns-in-Constants-clause-sound c = λ said k. subst (λ d. IfOk c.declare_constants.result (λ done. IsSound c.args.source.now said d)) (sym c.in-Constants.is) (c.declare_constants.ensures.stand said k)

@@ -1,10 +1,11 @@
-use Rattle.std.proofs.Common.{ap, ◌∙◌}
+use Rattle.std.proofs.Common.{ap, ◌∙◌, inl, inr}
 use Rattle.std.specs.Prelude.{is_some, option_map}
 use Rattle.lp_sig.specs.Places.{place_of}
 use Rattle.lp_sig.specs.Knowing.{said_as}
 use Rattle.lp_sig.proofs.Finding.{none_past}
 use Rattle.lp_sig.proofs.Knowledge.{means_head, means_kind, means_nothing}
 use Rattle.lp_sig.proofs.Meanings.{means_standard, says_head, says_kind, says_nothing}
+use Rattle.lp_sig.proofs.Numbering.{standard_number, declared_number}
 use Rattle.lp_sig.proofs.names.Names.meaning.Goals as goal
 
 pub returns-in-Some-clause-means : goal.returns-in-Some-clause-means
@@ -33,3 +34,9 @@ returns-clause-known c = λ said k. means_kind c.args.self.now said c.args.name.
 
 pub returns-clause-means : goal.returns-clause-means
 returns-clause-means c = λ said k. says_kind c.args.self.now said c.args.name.now k c.in_default.ensures c.of.result c.of-2.result c.in_ok-place.place c.deref.result.now c.in_ok-kind.kind.now c.in_default-of.is (c.of.ensures ∙ k.head_places c.args.name.now) c.in_ok-place.was (c.of-2.ensures ∙ k.kind_places c.args.name.now) c.deref.ensures.value c.in_ok-kind.ensures.lookup.1
+
+pub returns-in-Some-clause-number : goal.returns-in-Some-clause-number
+returns-in-Some-clause-number c = λ said k. inl (standard_number c.args.name.now said c.in-Some.number c.in-Some.arity c.in-Some.ensures)
+
+pub returns-clause-number : goal.returns-clause-number
+returns-clause-number c = λ said k. inr (declared_number c.args.self.now said c.args.name.now k c.of-2.result c.in_ok-place.place c.kind_number.result c.in_ok-place.was (c.of-2.ensures ∙ k.kind_places c.args.name.now) c.kind_number.ensures)
