@@ -14,3 +14,4 @@ pub mod Heads
 pub mod Parameters
 pub mod Sentences
 pub mod Judging
+pub mod LongTypes

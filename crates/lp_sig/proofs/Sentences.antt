@@ -4,13 +4,14 @@ use Rattle.std.specs.Prelude.{Contains, ◌⊎◌, IfOk}
 use Rattle.lp_base.specs.declared.limit.Limit.{Limit}
 use Rattle.lp_base.specs.declared.limit.Limit.TheVariants as limit
 use Rattle.lp_base.specs.declared.place.Spot.{Spot}
+use Rattle.lp_syntax.specs.declared.text.RawType.{RawType}
 use Rattle.lp_syntax.specs.declared.text.RawTypeNode.{RawTypeNode}
 use Rattle.lp_sig.specs.Pieces.{spelled}
 use Rattle.lp_sig.specs.Rows.{Row}
 use Rattle.lp_sig.specs.Said.{Said, an_abbreviation}
 use Rattle.lp_sig.specs.Limits.{AreShort, IsRepeated}
 use Rattle.lp_sig.specs.Refusals.{IsFaultOf, IsLimitOf, named}
-use Rattle.lp_sig.specs.Words.{WordsStand, IsFirstFault, IsMeant, IsHead, parameters_of, IsConstantsFault, IsAbbreviationFault, long, arguments, a_word, other, many, memory, repeated}
+use Rattle.lp_sig.specs.Words.{IsSoundType, IsTypeFault, IsFirstFault, IsMeant, IsHead, parameters_of, IsConstantsFault, IsAbbreviationFault, long, a_type, a_word, other, many, memory, repeated}
 use Rattle.lp_sig.specs.declared.fault.SigFault.{SigFault}
 use Rattle.lp_sig.specs.declared.fault.SigFault.TheVariants as fault
 
@@ -18,19 +19,18 @@ pub ok_with : {T E : Type 0} (r : Result T E) (P : Type 0) → P → IfOk r (λ 
 ok_with (Ok x) P p = p
 ok_with (Err e) P p = tt
 
-module _ (text : List ℕ) (said : List (Row Said)) (names : List Spot) (nodes : List RawTypeNode) where
+module _ (text : List ℕ) (said : List (Row Said)) (names : List Spot) (ty : RawType) where
   -- a long name
-  pub constants_long : (e : SigFault) → (e ≡ fault.Limit limit.NameLength) × ((s : Spot) × Contains names s × (255 < length (spelled text s))) → IsConstantsFault text said names nodes e
+  pub constants_long : (e : SigFault) → (e ≡ fault.Limit limit.NameLength) × ((s : Spot) × Contains names s × (255 < length (spelled text s))) → IsConstantsFault text said names ty e
   constants_long e l = long l.0 l.1.0 l.1.1 l.1.2
 
   -- a fault of the type
-  pub constants_type : (e : SigFault) → AreShort text names → (e ≡ fault.Memory) ⊎ ((e ≡ fault.Limit limit.Arguments) ⊎ IsFirstFault text said None nodes e) → IsConstantsFault text said names nodes e
+  pub constants_type : (e : SigFault) → AreShort text names → (e ≡ fault.Memory) ⊎ IsTypeFault text said ty e → IsConstantsFault text said names ty e
   constants_type e short (inl m) = memory m
-  constants_type e short (inr (inl a)) = arguments a short
-  constants_type e short (inr (inr f)) = a_word short f
+  constants_type e short (inr f) = a_type short f
 
   -- a fault of a name behind a type without fault
-  pub constants_name : (e : SigFault) → WordsStand text said None nodes → IsFaultOf text (named names) ⊥ e → IsConstantsFault text said names nodes e
+  pub constants_name : (e : SigFault) → IsSoundType text said ty → IsFaultOf text (named names) ⊥ e → IsConstantsFault text said names ty e
   constants_name (fault.UnknownKind s) stand f = let l = f.1 in absurd (omega (arith, l))
   constants_name (fault.Arity s) stand f = let l = f.1 in absurd (omega (arith, l))
   constants_name (fault.Differ s) stand (inl c) = other s refl c stand
@@ -39,7 +39,7 @@ module _ (text : List ℕ) (said : List (Row Said)) (names : List Spot) (nodes :
   constants_name (fault.CyclicSignature s) stand f = absurd f
   constants_name (fault.Limit l) stand f = by l f
     where
-      by : (l : Limit) → IsLimitOf text (named names) ⊥ l → IsConstantsFault text said names nodes (fault.Limit l)
+      by : (l : Limit) → IsLimitOf text (named names) ⊥ l → IsConstantsFault text said names ty (fault.Limit l)
       by limit.NameLength g = long refl g.0 g.1 g.2
       by limit.Names g = many refl stand
       by limit.Arguments g = absurd g

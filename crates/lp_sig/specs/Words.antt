@@ -1,9 +1,10 @@
 -- What names and words mean, and the faults of a sentence by them, under all that is said up to the end of its text.
-use Rattle.std.specs.Prelude.{◌≡◌, ◌≢◌, ◌≤◌, ◌<◌, ℕ, nat_eq, nat_le, List, ◌++◌, Option, Some, None, Bool, true, map, take, length, All, Contains, if◌then◌else◌, is_some, option_map, IfSome, slice_index_or}
+use Rattle.std.specs.Prelude.{◌≡◌, ◌≢◌, ◌≤◌, ◌<◌, ℕ, suc, nat_eq, nat_le, List, ◌++◌, Option, Some, None, Bool, true, map, take, length, All, Contains, if◌then◌else◌, is_some, option_map, IfSome, slice_index_or}
 use Rattle.lp_base.specs.declared.limit.Limit.TheVariants as limit
 use Rattle.lp_base.specs.declared.place.Spot.{Spot}
 use Rattle.lp_syntax.specs.declared.text.Declaration.{Declaration}
 use Rattle.lp_syntax.specs.declared.text.Declaration.TheVariants.{Kinds, LocalKinds, Constants, Locals, Abbreviation, Accumulate, AccumSig, Fixities}
+use Rattle.lp_syntax.specs.declared.text.RawType.{RawType}
 use Rattle.lp_syntax.specs.declared.text.RawTypeNode.{RawTypeNode}
 use Rattle.lp_syntax.specs.declared.text.RawTypeNode.TheVariants.{Word, Arrow}
 use Rattle.lp_sig.specs.Pieces.{spelled, begins_variable}
@@ -111,15 +112,33 @@ pub data IsKindsFault (text : List ℕ) (said : List (Row Said)) (names : List S
   a_name : {e : SigFault} → IsFirstName text said (a_kind n) names e → IsKindsFault text said names n e
   arguments : {e : SigFault} → e ≡ fault.Limit limit.Arguments → AreMeant text said (a_kind n) names → AreNumbered text said names → 255 < n → IsKindsFault text said names n e
 
--- why a sentence of constants is refused: a long name goes first, then the limit on arguments of types, then a word of the
--- type, then what the names are declared as
-pub data IsConstantsFault (text : List ℕ) (said : List (Row Said)) (names : List Spot) (nodes : List RawTypeNode) : SigFault → Type 0 where
-  long : {e : SigFault} → e ≡ fault.Limit limit.NameLength → (s : Spot) → Contains names s → 255 < length (spelled text s) → IsConstantsFault text said names nodes e
-  arguments : {e : SigFault} → e ≡ fault.Limit limit.Arguments → AreShort text names → IsConstantsFault text said names nodes e
-  a_word : {e : SigFault} → AreShort text names → IsFirstFault text said None nodes e → IsConstantsFault text said names nodes e
-  other : {e : SigFault} → (s : Spot) → e ≡ fault.Differ s → Contains names s → WordsStand text said None nodes → IsConstantsFault text said names nodes e
-  many : {e : SigFault} → e ≡ fault.Limit limit.Names → WordsStand text said None nodes → IsConstantsFault text said names nodes e
-  memory : {e : SigFault} → e ≡ fault.Memory → IsConstantsFault text said names nodes e
+-- a type as written has so many arguments, or more
+pub data HasArguments (nodes : List RawTypeNode) : ℕ → ℕ → Type 0 where
+  no_more : {at n : ℕ} → n ≡ 0 → HasArguments nodes at n
+  one_more : {at n : ℕ} → (a b m : ℕ) → at < length nodes → slice_index_or nodes at (Arrow a b) ≡ Arrow a b → n ≡ suc m → HasArguments nodes b m → HasArguments nodes at n
+
+-- a type as written has more than 255 arguments
+abbrev pub IsLongType : List RawTypeNode → ℕ → Type 0
+IsLongType nodes root = (n : ℕ) × (255 < n) × HasArguments nodes root n
+
+-- a declared type has at most 255 arguments as written, and its words have no fault
+abbrev pub IsSoundType : List ℕ → List (Row Said) → RawType → Type 0
+IsSoundType text said ty = (IsLongType ty.nodes.items ty.root → ⊥) × WordsStand text said None ty.nodes.items
+
+-- why a declared type is refused: it has too many arguments, or a word has a fault, or it has too many arguments or type variables
+-- behind its abbreviations
+pub data IsTypeFault (text : List ℕ) (said : List (Row Said)) (ty : RawType) : SigFault → Type 0 where
+  written : {e : SigFault} → e ≡ fault.Limit limit.Arguments → IsLongType ty.nodes.items ty.root → IsTypeFault text said ty e
+  of_word : {e : SigFault} → (IsLongType ty.nodes.items ty.root → ⊥) → IsFirstFault text said None ty.nodes.items e → IsTypeFault text said ty e
+  replaced : {e : SigFault} → e ≡ fault.Limit limit.Arguments → IsSoundType text said ty → IsTypeFault text said ty e
+
+-- why a sentence of constants is refused: a long name goes first, then its type, then what the names are declared as
+pub data IsConstantsFault (text : List ℕ) (said : List (Row Said)) (names : List Spot) (ty : RawType) : SigFault → Type 0 where
+  long : {e : SigFault} → e ≡ fault.Limit limit.NameLength → (s : Spot) → Contains names s → 255 < length (spelled text s) → IsConstantsFault text said names ty e
+  a_type : {e : SigFault} → AreShort text names → IsTypeFault text said ty e → IsConstantsFault text said names ty e
+  other : {e : SigFault} → (s : Spot) → e ≡ fault.Differ s → Contains names s → IsSoundType text said ty → IsConstantsFault text said names ty e
+  many : {e : SigFault} → e ≡ fault.Limit limit.Names → IsSoundType text said ty → IsConstantsFault text said names ty e
+  memory : {e : SigFault} → e ≡ fault.Memory → IsConstantsFault text said names ty e
 
 -- an abbreviation's name means it, no parameter stands twice, and there are at most 255
 abbrev pub IsHead : List ℕ → List (Row Said) → Spot → List Spot → Type 0
@@ -143,7 +162,7 @@ pub data IsAbbreviationFault (text : List ℕ) (said : List (Row Said)) (name : 
 abbrev pub IsSentenceFault : List ℕ → List (Row Said) → Declaration → SigFault → Type 0
 IsSentenceFault text said (Kinds names n) e = IsKindsFault text said names.items n e
 IsSentenceFault text said (LocalKinds names n) e = e ≡ fault.Memory
-IsSentenceFault text said (Constants names ty) e = IsConstantsFault text said names.items ty.nodes.items e
+IsSentenceFault text said (Constants names ty) e = IsConstantsFault text said names.items ty e
 IsSentenceFault text said (Locals names ty) e = e ≡ fault.Memory
 IsSentenceFault text said (Abbreviation name ps ty) e = IsAbbreviationFault text said name ps.items ty.nodes.items e
 IsSentenceFault text said (Accumulate words) e = e ≡ fault.Memory
@@ -153,7 +172,7 @@ IsSentenceFault text said (Fixities names f n) e = e ≡ fault.Memory
 abbrev pub IsSound : List ℕ → List (Row Said) → Declaration → Type 0
 IsSound text said (Kinds names n) = AreMeant text said (a_kind n) names.items × AreNumbered text said names.items
 IsSound text said (LocalKinds names n) = Unit {0}
-IsSound text said (Constants names ty) = WordsStand text said None ty.nodes.items
+IsSound text said (Constants names ty) = IsSoundType text said ty
 IsSound text said (Locals names ty) = Unit {0}
 IsSound text said (Abbreviation name ps ty) = IsHead text said name ps.items × WordsStand text said (parameters_of text ps.items) ty.nodes.items
 IsSound text said (Accumulate words) = Unit {0}

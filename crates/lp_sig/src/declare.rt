@@ -1,5 +1,5 @@
 // What the declarations of a text say, line by line.
-ghost use Rattle.std.specs.Prelude.{◌<◌, ◌≤◌, ◌≡◌, ◌++◌, ℕ, List, [], ◌∷◌, length, Contains, None, IfErr, IfOk, OnOk};
+ghost use Rattle.std.specs.Prelude.{◌<◌, ◌≤◌, ◌≡◌, ◌++◌, ℕ, List, [], ◌∷◌, length, Contains, IfErr, IfOk, OnOk};
 ghost use Rattle.lp_base.specs.declared.limit.Limit.TheVariants as limit;
 ghost use Rattle.lp_sig.specs.declared.fault.SigFault.TheVariants as fault;
 ghost use Rattle.lp_sig.specs.Pieces.{spelled};
@@ -7,7 +7,7 @@ ghost use Rattle.lp_sig.specs.Refusals.{IsFaultOf, IsFaultIn, named, typed, head
 ghost use Rattle.lp_fixity.specs.declared.fixity.Fixity.{Fixity as IsFixity};
 ghost use Rattle.lp_sig.specs.Rows.{Row};
 ghost use Rattle.lp_sig.specs.Said.{Said, a_kind, an_abbreviation, said_in, fixities_by, fixities_in};
-ghost use Rattle.lp_sig.specs.Words.{IsNameFault, IsMeant, AreMeant, IsNumbered, AreNumbered, IsKindsFault, IsConstantsFault, IsAbbreviationFault, IsHead, WordsStand, parameters_of, IsSentenceFault, IsSound, AreSound};
+ghost use Rattle.lp_sig.specs.Words.{IsNameFault, IsMeant, AreMeant, IsNumbered, AreNumbered, IsKindsFault, IsConstantsFault, IsAbbreviationFault, IsHead, IsSoundType, WordsStand, parameters_of, IsSentenceFault, IsSound, AreSound};
 ghost use Rattle.lp_sig.specs.Knowing.{Knows, KnowsOperators};
 ghost use Rattle.lp_sig.specs.Limits.{IsShort, AreShort, AreApart, IsWithin, AreWithin};
 
@@ -128,9 +128,9 @@ pub(crate) fn declare_constants(
     raw: &RawType,
 ) -> Result<(), SigFault>
     ensures refused { IfErr result (IsFaultOf source.now (typed spots.now (words_of raw.now.nodes.items)) (Unit {0})) }
-    ensures why { (said : List (Row Said)) → Knows names.now said → IfErr result (IsConstantsFault source.now said spots.now raw.now.nodes.items) }
+    ensures why { (said : List (Row Said)) → Knows names.now said → IfErr result (IsConstantsFault source.now said spots.now raw.now) }
     ensures taken { IfOk result (λ done. AreShort source.now spots.now) }
-    ensures stand { (said : List (Row Said)) → Knows names.now said → IfOk result (λ done. WordsStand source.now said None raw.now.nodes.items) }
+    ensures stand { (said : List (Row Said)) → Knows names.now said → IfOk result (λ done. IsSoundType source.now said raw.now) }
 {
     match bodies.scheme(names, source, raw) {
         Err(fault) => {

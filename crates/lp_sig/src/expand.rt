@@ -1,12 +1,12 @@
 // Types of a text, with abbreviations replaced.
-ghost use Rattle.std.specs.Prelude.{◌≡◌, ◌⊎◌, ◌<◌, ℕ, List, [], ◌∷◌, length, Option, Some, None, is_some, option_map, if◌then◌else◌, IfErr, IfOk, IfSome, OnOk, map};
+ghost use Rattle.std.specs.Prelude.{◌≡◌, ◌⊎◌, ◌<◌, ℕ, List, [], ◌∷◌, length, Option, Some, None, is_some, true, false, option_map, if◌then◌else◌, IfErr, IfOk, IfSome, OnOk, map};
 ghost use Rattle.std.specs.Str.{bytes_eq};
 ghost use Rattle.lp_base.specs.declared.limit.Limit.TheVariants as limit;
 ghost use Rattle.lp_sig.specs.declared.fault.SigFault.TheVariants as fault;
 ghost use Rattle.lp_sig.specs.declared.names.Meaning.TheVariants as meaning;
 ghost use Rattle.lp_sig.specs.Rows.{Row};
 ghost use Rattle.lp_sig.specs.Said.{Said};
-ghost use Rattle.lp_sig.specs.Words.{may_stand, on_count, fault_of_word, word_fault, beginning, WordsStand, IsFirstFault, parameters_of, earlier_of};
+ghost use Rattle.lp_sig.specs.Words.{may_stand, on_count, fault_of_word, word_fault, beginning, WordsStand, IsFirstFault, parameters_of, earlier_of, IsLongType, IsSoundType, IsTypeFault};
 ghost use Rattle.lp_sig.specs.Knowing.{Knows, Holds, number_of, blamed, said_as};
 ghost use Rattle.lp_sig.specs.Limits.{AreApart, IsRepeated};
 ghost use Rattle.lp_sig.specs.Refusals.{IsFaultOf, named, typed, headed, words_of};
@@ -329,8 +329,8 @@ impl Bodies {
         raw: &RawType,
     ) -> Result<Option<(u8, TypeId)>, SigFault>
         ensures among { IfErr result (IsFaultOf source.now (typed [] (words_of raw.now.nodes.items)) (Unit {0})) }
-        ensures first { (said : List (Row Said)) → Knows names.now said → IfErr result (λ e. (e ≡ fault.Memory) ⊎ ((e ≡ fault.Limit limit.Arguments) ⊎ IsFirstFault source.now said None raw.now.nodes.items e)) }
-        ensures stand { (said : List (Row Said)) → Knows names.now said → IfOk result (λ made. WordsStand source.now said None raw.now.nodes.items) }
+        ensures first { (said : List (Row Said)) → Knows names.now said → IfErr result (λ e. (e ≡ fault.Memory) ⊎ IsTypeFault source.now said raw.now e) }
+        ensures stand { (said : List (Row Said)) → Knows names.now said → IfOk result (λ made. IsSoundType source.now said raw.now) }
     {
         if has_many_arguments(raw) {
             return Err(SigFault::Limit(Limit::Arguments));
@@ -366,12 +366,20 @@ impl Bodies {
 }
 
 // Whether a type as written has more than 255 arguments.
-fn has_many_arguments(raw: &RawType) -> bool {
+fn has_many_arguments(raw: &RawType) -> bool
+    ensures many { result ≡ true → IsLongType raw.now.nodes.items raw.now.root }
+    ensures few { result ≡ false → IsLongType raw.now.nodes.items raw.now.root → ⊥ }
+{
     let mut at = raw.root;
-    for _ in 0..256 {
+    let mut count = 0u32;
+    'arguments: while count < 256 {
         match raw.nodes.get(at) {
-            Some(RawTypeNode::Arrow(_, to)) => at = *to,
-            _ => return false,
+            Some(RawTypeNode::Arrow(_, to)) => {
+                at = *to;
+                count += 1;
+            }
+            Some(RawTypeNode::Word(_, _)) => return false,
+            None => return false,
         }
     }
     true

@@ -72,7 +72,7 @@ returns-in-Kinds-clause-why c = λ said k.
 pub returns-in-Constants-clause-why : goal.returns-in-Constants-clause-why
 returns-in-Constants-clause-why c = λ said k.
     subst (λ d. IfErr c.declare_constants.result (IsSentenceFault c.args.source.now said d)) (sym c.in-Constants.is)
-    (subst (λ ns. IfErr c.declare_constants.result (IsConstantsFault c.args.source.now said ns c.in-Constants.raw.nodes.items)) c.as_slice-in-Constants.ensures.value (c.declare_constants.ensures.why said k))
+    (subst (λ ns. IfErr c.declare_constants.result (IsConstantsFault c.args.source.now said ns c.in-Constants.raw)) c.as_slice-in-Constants.ensures.value (c.declare_constants.ensures.why said k))
 
 pub returns-in-Abbreviation-clause-why : goal.returns-in-Abbreviation-clause-why
 returns-in-Abbreviation-clause-why c = λ said k.
