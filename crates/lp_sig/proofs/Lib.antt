@@ -7,3 +7,4 @@ pub mod Repeats
 pub mod Firsts
 pub mod Knowledge
 pub mod Spoken
+pub mod Abbreviating

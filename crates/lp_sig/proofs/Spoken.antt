@@ -25,7 +25,7 @@ each_more text a names i d said h =
     append_assoc said (each text a (take i names)) ((spelled text (get_or names i d), a) ∷ []) ∙
     ap (λ z. said ++ z) (sym (map-append (λ s. (spelled text s, a)) (take i names) (get_or names i d ∷ [])) ∙ ap (each text a) (sym (take_more names i d h)))
 
-said_append : (text : List ℕ) (xs ys : List Declaration) → said_in text (xs ++ ys) ≡ said_in text xs ++ said_in text ys
+pub said_append : (text : List ℕ) (xs ys : List Declaration) → said_in text (xs ++ ys) ≡ said_in text xs ++ said_in text ys
 said_append text [] ys = refl
 said_append text (x ∷ xs) ys = ap (λ z. said_by text x ++ z) (said_append text xs ys) ∙ sym (append_assoc (said_by text x) (said_in text xs) (said_in text ys))
 

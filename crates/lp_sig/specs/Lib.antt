@@ -8,3 +8,4 @@ pub mod Limits
 pub mod Refusals
 pub mod Said
 pub mod Knowing
+pub mod Abbreviations
