@@ -304,7 +304,7 @@ module _ (uses : List (List Way)) (z : Seen) (n : List ℕ) (p : ℕ) (w : List 
             at true f = let l = in_front n (abbreviation_names z.said) (later (z.said ++ (n, an_abbreviation p) ∷ []) more) i f (sym (old_place e) ∙ some) in absurd (omega (arith, l, less, count))
             at false f =
                 let q : Some i ≡ None = sym some ∙ old_place e ∙ no_place n (abbreviation_names z.said ++ later (z.said ++ (n, an_abbreviation p) ∷ []) more)
-                    (among_append n (abbreviation_names z.said) (later (z.said ++ (n, an_abbreviation p) ∷ []) more) ∙ ap (λ t. t || is_among n (later (z.said ++ (n, an_abbreviation p) ∷ []) more)) f ∙ not_later n (z.said ++ (n, an_abbreviation p) ∷ []) more known_then) in
+                (among_append n (abbreviation_names z.said) (later (z.said ++ (n, an_abbreviation p) ∷ []) more) ∙ ap (λ t. t || is_among n (later (z.said ++ (n, an_abbreviation p) ∷ []) more)) f ∙ not_later n (z.said ++ (n, an_abbreviation p) ∷ []) more known_then) in
                 absurd (cc)
         by false e = fresh e new one
 
@@ -424,7 +424,7 @@ line_noted names z text lines i d old new h is knows k f =
     let ns = abbreviation_names (z.said ++ said_in text lines) in
     let step = said_more text lines i d z.said h is in
     let whole : (now.said ++ said_by text d) ++ more ≡ z.said ++ said_in text lines =
-        ap (λ y. y ++ more) step ∙ append_assoc z.said (said_in text (take (i + 1) lines)) more ∙ ap (λ y. z.said ++ y) (sym (said_append text (take (i + 1) lines) (drop (i + 1) lines)) ∙ ap (said_in text) (take-append-drop (i + 1) lines)) in
+    ap (λ y. y ++ more) step ∙ append_assoc z.said (said_in text (take (i + 1) lines)) more ∙ ap (λ y. z.said ++ y) (sym (said_append text (take (i + 1) lines) (drop (i + 1) lines)) ∙ ap (said_in text) (take-append-drop (i + 1) lines)) in
     let noted = f now more (subst (Knows names) (sym whole) knows) k in
     let named = subst (λ n. KnowsUses new (seen_line n now text d)) (ap abbreviation_names whole) noted in
     subst (λ a. KnowsUses new (record { said = a; bodies = z.bodies ++ bodies_in ns text (take (i + 1) lines) })) step

@@ -8,3 +8,4 @@ pub mod Firsts
 pub mod Knowledge
 pub mod Spoken
 pub mod Abbreviating
+pub mod Cycles

@@ -64,7 +64,7 @@ module _ {A : Type 0} (f : List ℕ → List Declaration → List A) where
     pub at_declare : (step : Step) (i : ℕ) (said : List A) → step ≡ Declare i → said ++ of_text f sources texts i ≡ said ++ of_step f sources texts step
     at_declare step i said is = ap (λ s. said ++ of_step f sources texts s) (sym is)
 
-    steps_append : (xs ys : List Step) → of_steps f sources texts (xs ++ ys) ≡ of_steps f sources texts xs ++ of_steps f sources texts ys
+    pub steps_append : (xs ys : List Step) → of_steps f sources texts (xs ++ ys) ≡ of_steps f sources texts xs ++ of_steps f sources texts ys
     steps_append [] ys = refl
     steps_append (x ∷ xs) ys = ap (λ z. of_step f sources texts x ++ z) (steps_append xs ys) ∙ sym (append_assoc (of_step f sources texts x) (of_steps f sources texts xs) (of_steps f sources texts ys))
 

@@ -238,7 +238,12 @@ impl Ways {
     }
 
     // Whether one of these words leads to a signature.
-    pub(crate) fn lead_to(&self, alloc: Global, words: &[(Spot, usize)], to: usize) -> Result<bool, Memory>
+    pub(crate) fn lead_to(
+        &self,
+        alloc: Global,
+        words: &[(Spot, usize)],
+        to: usize,
+    ) -> Result<bool, Memory>
         ensures found { IfOk result (λ found. found ≡ true → SomeLeads (map (λ out. out.items) self.now.ways.items) words.now to) }
         ensures none { IfOk result (λ found. found ≡ false → NoneLeads (map (λ out. out.items) self.now.ways.items) words.now to) }
     {
