@@ -1,5 +1,5 @@
 -- What the bodies of abbreviations use, one more declaration after the other.
-use Rattle.std.proofs.Common.{◌≡◌, ℕ, zero, suc, ◌+◌, ◌<◌, ◌≤◌, List, [], ◌∷◌, ◌++◌, Bool, true, false, length, map, take, take_all, drop, get_or, arith, Option, Some, None, refl, sym, ap, subst, ◌∙◌, true≢false, append_assoc, append-nil, inl, inr, ⊎_elim}
+use Rattle.std.proofs.Common.{◌≡◌, ℕ, suc, ◌+◌, ◌<◌, ◌≤◌, List, [], ◌∷◌, ◌++◌, Bool, true, false, length, map, take, take_all, drop, get_or, arith, Option, Some, None, refl, sym, ap, subst, ◌∙◌, true≢false, append_assoc, append-nil, inl, inr, ⊎_elim}
 use Rattle.std.specs.Prelude.{if◌then◌else◌, option_map, is_some, ◌||◌, ◌⊎◌}
 use Rattle.std.specs.Str.{bytes_eq}
 use Rattle.std.proofs.lemmas.Slice.Eq.{bytes_eq-Decides}
@@ -13,13 +13,13 @@ use Rattle.lp_syntax.specs.declared.text.RawType.{RawType}
 use Rattle.lp_syntax.specs.declared.text.RawTypeNode.{RawTypeNode}
 use Rattle.lp_syntax.specs.declared.text.RawTypeNode.TheVariants.{Word, Arrow}
 use Rattle.lp_sig.specs.Pieces.{spelled, begins_variable}
-use Rattle.lp_sig.specs.Places.{HasPlaces, first_place, place_of}
+use Rattle.lp_sig.specs.Places.{first_place, place_of}
 use Rattle.lp_sig.specs.Rows.{Row, found}
 use Rattle.lp_sig.specs.Standard.{standard_kinds}
 use Rattle.lp_sig.specs.Said.{Said, a_kind, an_abbreviation, each, is_among, names_in, firsts, declared_names, abbreviations_among, said_by, said_in}
-use Rattle.lp_sig.specs.Knowing.{Knows, is_known, head_row}
+use Rattle.lp_sig.specs.Knowing.{Knows, is_known}
 use Rattle.lp_sig.specs.Loading.{Way, ways_in}
-use Rattle.lp_sig.specs.Abbreviations.{abbreviation_names, type_names, uses_in, Seen, bodies_by, bodies_in, seen_text, seen_line, one_body, uses_of, all_uses, KnowsUses}
+use Rattle.lp_sig.specs.Abbreviations.{abbreviation_names, type_names, uses_in, Seen, bodies_by, bodies_in, seen_text, seen_line, one_body, uses_of, KnowsUses}
 use Rattle.lp_sig.specs.declared.names.Names.{Names}
 use Rattle.lp_sig.proofs.Firsts.{firsts_names, place_among, found_among}
 use Rattle.lp_sig.proofs.Knowledge.{names_of, declared_new}

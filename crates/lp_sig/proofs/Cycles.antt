@@ -1,5 +1,5 @@
 -- The first sentence whose abbreviation leads back to its own name, sentence by sentence, text by text and step by step.
-use Rattle.std.proofs.Common.{◌≡◌, ℕ, zero, suc, ◌+◌, ◌<◌, ◌≤◌, List, [], ◌∷◌, ◌++◌, Bool, true, false, length, map, take, take_all, drop, get_or, arith, Option, Some, None, refl, sym, ap, subst, ◌∙◌, true≢false, append_assoc, append-nil, Result, Ok, Err, inl, inr, ⊎_elim}
+use Rattle.std.proofs.Common.{◌≡◌, ℕ, zero, suc, ◌+◌, ◌<◌, ◌≤◌, List, [], ◌∷◌, ◌++◌, true, length, map, take, take_all, drop, get_or, arith, Some, refl, sym, ap, subst, ◌∙◌, true≢false, append_assoc, Result, Ok, Err, inl, inr, ⊎_elim}
 use Rattle.std.specs.Global.{Global}
 use Rattle.std.specs.Prelude.{Contains, IfErr, IfOk, OnOk, ◌⊎◌, String, Vec}
 use Rattle.std.proofs.lemmas.List.{map-append, take_more, take-append-drop}
@@ -12,17 +12,14 @@ use Rattle.lp_syntax.specs.declared.text.RawTypeNode.{RawTypeNode}
 use Rattle.lp_syntax.specs.declared.text.SignatureText.{SignatureText}
 use Rattle.lp_sig.specs.Pieces.{spelled}
 use Rattle.lp_sig.specs.Places.{first_place}
-use Rattle.lp_sig.specs.Rows.{Row}
-use Rattle.lp_sig.specs.Said.{Said, said_in, of_text, of_step, of_steps}
+use Rattle.lp_sig.specs.Said.{said_in, of_step, of_steps}
 use Rattle.lp_sig.specs.Knowing.{Knows}
 use Rattle.lp_sig.specs.Loading.{Way, LeadsTo, NoneLeads}
 use Rattle.lp_sig.specs.Walking.{SomeLeads, IsFirstCircleFault}
 use Rattle.lp_sig.specs.Refusals.{Parts, IsFaultOf, HasOtherHeader, IsFreeOfCircles}
-use Rattle.lp_sig.specs.Abbreviations.{abbreviation_names, uses_in, Seen, nothing_seen, seen_text, all_uses, LeadsBack, Sentence, sentence, sentences_in, IsCyclicLine, IsCyclic, NoneCyclic, IsFirstCyclic, Text, one_text, seen_after, sentences_of, loaded_sentences, IsCyclicFrom, IsAcyclic, KnowsUses, KnowsAbbreviations, Follows}
+use Rattle.lp_sig.specs.Abbreviations.{abbreviation_names, uses_in, Seen, nothing_seen, seen_text, all_uses, LeadsBack, Sentence, sentence, sentences_in, IsCyclicLine, IsCyclic, NoneCyclic, IsFirstCyclic, Text, one_text, seen_after, sentences_of, IsCyclicFrom, IsAcyclic, KnowsUses, KnowsAbbreviations, Follows}
 use Rattle.lp_sig.specs.declared.making.Making.{Making}
-use Rattle.lp_sig.specs.declared.names.Names.{Names}
 use Rattle.lp_sig.specs.declared.walk.Step.{Step}
-use Rattle.lp_sig.specs.declared.walk.Step.TheVariants.{Enter, Declare}
 use Rattle.lp_sig.specs.declared.fault.SigFault.{SigFault}
 use Rattle.lp_sig.specs.declared.fault.SigFault.TheVariants as fault
 use Rattle.lp_sig.proofs.Spoken.{steps_more, steps_append}

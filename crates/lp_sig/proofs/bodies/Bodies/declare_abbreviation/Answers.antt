@@ -1,7 +1,7 @@
 use Rattle.std.proofs.Common.{◌≡◌, [], ◌∷◌, map, refl, ◌∙◌}
 use Rattle.lp_sig.specs.Knowing.{Knows}
 use Rattle.lp_sig.specs.Refusals.{named, typed, words_of}
-use Rattle.lp_sig.specs.Abbreviations.{abbreviation_names, all_uses, uses_in, LeadsBack, KnowsUses}
+use Rattle.lp_sig.specs.Abbreviations.{abbreviation_names, all_uses, LeadsBack, KnowsUses}
 use Rattle.lp_sig.proofs.Blame.{passed_up}
 use Rattle.lp_sig.proofs.Cycles.{Blames, blames_none, leads_back, never_back, same_spot}
 use Rattle.lp_sig.proofs.bodies.Bodies.declare_abbreviation.Goals as goal

@@ -1,6 +1,4 @@
-use Rattle.std.proofs.Common.{ap, subst, sym, map, arith, length, ◌≡◌, ◌<◌}
-use Rattle.lp_sig.specs.Knowing.{Knows}
-use Rattle.lp_sig.specs.Abbreviations.{abbreviation_names, seen_line, KnowsUses}
+use Rattle.std.proofs.Common.{ap, map}
 use Rattle.lp_sig.proofs.Blame.{on_ok}
 use Rattle.lp_sig.proofs.Abbreviating.{is_quiet, quiet, abbreviation_noted}
 use Rattle.lp_sig.proofs.walk.Ways.note_line.Goals as goal

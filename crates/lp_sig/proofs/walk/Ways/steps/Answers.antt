@@ -2,7 +2,6 @@ use Rattle.std.proofs.Common.{◌≡◌, List, Bool, map, length, replicate, fal
 use Rattle.std.proofs.lemmas.List.{length-map}
 use Rattle.lp_sig.specs.Loading.{Loads, IsLoadOrder}
 use Rattle.lp_sig.proofs.Blame.{for_ok}
-use Rattle.lp_sig.proofs.Cycles.{ok_always}
 use Rattle.lp_sig.proofs.walk.Ways.steps.Goals as goal
 
 pub returns : goal.returns
