@@ -15,7 +15,7 @@ use Rattle.lp_sig.specs.declared.names.Kinded.{Kinded}
 use Rattle.lp_sig.specs.declared.operators.Operators.{Operators}
 use Rattle.lp_sig.proofs.Firsts.{firsts_more, firsts_names, among_parts, place_among, found_among}
 
-names_of : {A B : Type 0} (name : A → List ℕ) (beside : A → B) (xs : List A) → names_in (map (λ x. (name x, beside x)) xs) ≡ map name xs
+pub names_of : {A B : Type 0} (name : A → List ℕ) (beside : A → B) (xs : List A) → names_in (map (λ x. (name x, beside x)) xs) ≡ map name xs
 names_of name beside [] = refl
 names_of name beside (x ∷ xs) = ap (λ z. name x ∷ z) (names_of name beside xs)
 
@@ -74,7 +74,7 @@ no_kind_behind ((m, an_abbreviation q) ∷ rs) n p = no_kind_behind rs n p
 declared_again : (said : List (Row Said)) (r : Row Said) → is_known r.0 said ≡ true → declared_names (said ++ r ∷ []) ≡ declared_names said
 declared_again said r h = firsts_more (names_in standard_kinds) said r ∙ ap (λ t. if t then declared_names said else declared_names said ++ r ∷ []) h
 
-declared_new : (said : List (Row Said)) (r : Row Said) → is_known r.0 said ≡ false → declared_names (said ++ r ∷ []) ≡ declared_names said ++ r ∷ []
+pub declared_new : (said : List (Row Said)) (r : Row Said) → is_known r.0 said ≡ false → declared_names (said ++ r ∷ []) ≡ declared_names said ++ r ∷ []
 declared_new said r h = firsts_more (names_in standard_kinds) said r ∙ ap (λ t. if t then declared_names said else declared_names said ++ r ∷ []) h
 
 -- a name that has a meaning keeps it

@@ -15,3 +15,5 @@ pub mod Parameters
 pub mod Sentences
 pub mod Judging
 pub mod LongTypes
+pub mod Abbreviating
+pub mod Cycles

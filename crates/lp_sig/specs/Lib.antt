@@ -9,3 +9,4 @@ pub mod Refusals
 pub mod Said
 pub mod Words
 pub mod Knowing
+pub mod Abbreviations

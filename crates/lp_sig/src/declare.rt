@@ -1,5 +1,5 @@
 // What the declarations of a text say, line by line.
-ghost use Rattle.std.specs.Prelude.{◌<◌, ◌≤◌, ◌≡◌, ◌++◌, ℕ, List, [], ◌∷◌, length, Contains, IfErr, IfOk, OnOk};
+ghost use Rattle.std.specs.Prelude.{◌<◌, ◌≤◌, ◌≡◌, ◌++◌, ℕ, List, [], ◌∷◌, length, Contains, IfErr, IfOk, OnOk, Some, map};
 ghost use Rattle.lp_base.specs.declared.limit.Limit.TheVariants as limit;
 ghost use Rattle.lp_sig.specs.declared.fault.SigFault.TheVariants as fault;
 ghost use Rattle.lp_sig.specs.Pieces.{spelled};
@@ -10,6 +10,9 @@ ghost use Rattle.lp_sig.specs.Said.{Said, a_kind, an_abbreviation, said_in, fixi
 ghost use Rattle.lp_sig.specs.Words.{IsNameFault, IsMeant, AreMeant, IsNumbered, AreNumbered, IsKindsFault, IsConstantsFault, IsAbbreviationFault, IsHead, IsSoundType, WordsStand, parameters_of, IsSentenceFault, IsSound, AreSound};
 ghost use Rattle.lp_sig.specs.Knowing.{Knows, KnowsOperators};
 ghost use Rattle.lp_sig.specs.Limits.{IsShort, AreShort, AreApart, IsWithin, AreWithin};
+ghost use Rattle.lp_base.specs.declared.place.Spot.{Spot};
+ghost use Rattle.lp_sig.specs.Places.{first_place};
+ghost use Rattle.lp_sig.specs.Abbreviations.{abbreviation_names, Seen, seen_text, all_uses, KnowsUses, LeadsBack, IsCyclic, sentence, sentences_in, NoneCyclic, IsFirstCyclic};
 
 use crate::bodies::Bodies;
 use crate::constants::Constants;
@@ -19,6 +22,8 @@ use crate::making::Making;
 use crate::names::{Meaning, Names};
 use crate::pieces::spelled_at;
 use crate::standard::END_OF_NUMBERS;
+use crate::uses::uses_of;
+use crate::walk::Ways;
 use lp_base::{Limit, Spot};
 use lp_syntax::{Declaration, RawType, SignatureText};
 
@@ -100,6 +105,7 @@ impl Names {
         ensures why { (said : List (Row Said)) → Knows self.now said → IfErr result (IsNameFault source.now said (an_abbreviation parameters) name) }
         ensures taken { IfOk result (λ done. IsShort source.now name) }
         ensures meant { (said : List (Row Said)) → Knows self.now said → IfOk result (λ place. IsMeant source.now said (an_abbreviation parameters) name) }
+        ensures place { IfOk result (λ place. (said : List (Row Said)) → Knows self.now said → first_place (spelled source.now name) (abbreviation_names said) ≡ Some place) }
     {
         check_length(source, name)?;
         match self.meaning(spelled_at(source, name)) {
@@ -148,6 +154,7 @@ impl Bodies {
     pub(crate) fn declare_abbreviation(
         &mut self,
         names: &Names,
+        uses: &Ways,
         source: &[u8],
         name: Spot,
         parameters: &[Spot],
@@ -157,10 +164,12 @@ impl Bodies {
         ensures why { (said : List (Row Said)) → Knows names.now said → IfErr result (IsAbbreviationFault source.now said name parameters.now raw.now.nodes.items) }
         ensures taken { IfOk result (λ done. IsShort source.now name × AreApart source.now parameters.now × (length parameters.now ≤ 255)) }
         ensures stand { (said : List (Row Said)) → Knows names.now said → IfOk result (λ done. IsHead source.now said name parameters.now × WordsStand source.now said (parameters_of source.now parameters.now) raw.now.nodes.items) }
+        ensures cyclic { IfErr result (λ e. (z : Seen) → Knows names.now z.said → KnowsUses (map (λ out. out.items) uses.now.ways.items) z → (s : Spot) → e ≡ fault.CyclicAbbreviation s → (s ≡ name) × LeadsBack (abbreviation_names z.said) (all_uses z) source.now name raw.now.nodes.items) }
+        ensures acyclic { IfOk result (λ done. (z : Seen) → Knows names.now z.said → KnowsUses (map (λ out. out.items) uses.now.ways.items) z → LeadsBack (abbreviation_names z.said) (all_uses z) source.now name raw.now.nodes.items → ⊥) }
     {
         let place = names.check_abbreviation(source, name, parameters.len())?;
-        let uses = names.uses_of(self.alloc, source, raw)?;
-        if self.leads_to(uses.as_slice(), place)? {
+        let words = uses_of(self.alloc, names, source, raw)?;
+        if uses.lead_to(self.alloc, words.as_slice(), place)? {
             return Err(SigFault::CyclicAbbreviation(name));
         }
         let mut variables = Variables::parameters(self.alloc, source, parameters)?;
@@ -182,7 +191,10 @@ impl Making {
         ensures taken { IfOk result (λ done. IsWithin source.now declaration.now) }
         ensures sound { (said : List (Row Said)) → Knows self.old.names said → IfOk result (λ done. IsSound source.now said declaration.now) }
         ensures names { self.new.names ≡ self.old.names }
+        ensures uses { self.new.uses ≡ self.old.uses }
         ensures operators { OnOk result ((said : List (Row (IsFixity × ℕ))) → KnowsOperators self.old.operators said → KnowsOperators self.new.operators (said ++ fixities_by source.now declaration.now)) }
+        ensures cyclic { IfErr result (λ e. (z : Seen) → Knows self.old.names z.said → KnowsUses (map (λ out. out.items) self.old.uses.ways.items) z → (s : Spot) → e ≡ fault.CyclicAbbreviation s → IsCyclic (sentence z source.now declaration.now) s) }
+        ensures acyclic { IfOk result (λ done. (z : Seen) → Knows self.old.names z.said → KnowsUses (map (λ out. out.items) self.old.uses.ways.items) z → (s : Spot) → IsCyclic (sentence z source.now declaration.now) s → ⊥) }
     {
         match declaration {
             Declaration::Kinds(names, arity) => self
@@ -196,10 +208,14 @@ impl Making {
                 names.as_slice(),
                 raw,
             ),
-            Declaration::Abbreviation(name, parameters, raw) => {
-                self.bodies
-                    .declare_abbreviation(&self.names, source, *name, parameters.as_slice(), raw)
-            }
+            Declaration::Abbreviation(name, parameters, raw) => self.bodies.declare_abbreviation(
+                &self.names,
+                &self.uses,
+                source,
+                *name,
+                parameters.as_slice(),
+                raw,
+            ),
             Declaration::Fixities(names, fixity, number) => {
                 self.operators
                     .declare_all(source, names.as_slice(), *fixity, *number)?;
@@ -219,10 +235,15 @@ impl Making {
         ensures sound { (said : List (Row Said)) → Knows self.old.names said → IfOk result (λ done. AreSound source.now (said ++ said_in source.now text.now.lines.items) text.now.lines.items) }
         ensures names { OnOk result ((said : List (Row Said)) → Knows self.old.names said → Knows self.new.names (said ++ said_in source.now text.now.lines.items)) }
         ensures operators { OnOk result ((said : List (Row (IsFixity × ℕ))) → KnowsOperators self.old.operators said → KnowsOperators self.new.operators (said ++ fixities_in source.now text.now.lines.items)) }
+        ensures uses { OnOk result ((z : Seen) → Knows self.old.names z.said → KnowsUses (map (λ out. out.items) self.old.uses.ways.items) z → KnowsUses (map (λ out. out.items) self.new.uses.ways.items) (seen_text z source.now text.now.lines.items)) }
+        ensures cyclic { IfErr result (λ e. (z : Seen) → Knows self.old.names z.said → KnowsUses (map (λ out. out.items) self.old.uses.ways.items) z → (s : Spot) → e ≡ fault.CyclicAbbreviation s → IsFirstCyclic (sentences_in z source.now text.now.lines.items) s) }
+        ensures acyclic { IfOk result (λ done. (z : Seen) → Knows self.old.names z.said → KnowsUses (map (λ out. out.items) self.old.uses.ways.items) z → NoneCyclic (sentences_in z source.now text.now.lines.items)) }
     {
         let from = self.names.heads.len();
         self.announce(source, text)?;
-        self.bodies.settle(&self.names, source, text, from)?;
+        self.uses.note(self.alloc, &self.names, source, text)?;
+        self.bodies
+            .settle(&self.names, &self.uses, source, text, from)?;
         for declaration in &text.lines {
             self.declare_line(source, declaration)?;
         }

@@ -11,6 +11,7 @@ use crate::names::{Kinded, Names, kind_number};
 use crate::operators::Operators;
 use crate::signature::Signature;
 use crate::standard::END_OF_NUMBERS;
+use crate::walk::Ways;
 use lp_base::Memory;
 use std::alloc::Global;
 
@@ -18,6 +19,8 @@ use std::alloc::Global;
 pub(crate) struct Making {
     pub alloc: Global,
     pub names: Names,
+    // The words of each abbreviation's body that name abbreviations.
+    pub uses: Ways,
     pub bodies: Bodies,
     pub constants: Constants,
     pub operators: Operators,
@@ -58,10 +61,12 @@ impl Making {
     pub(crate) fn new(alloc: Global) -> Making
         ensures names { Knows result.names [] }
         ensures operators { KnowsOperators result.operators [] }
+        ensures uses { map (λ out. out.items) result.uses.ways.items ≡ [] }
     {
         Making {
             alloc,
             names: Names::new(alloc),
+            uses: Ways::none(alloc),
             bodies: Bodies::new(alloc),
             constants: Constants::new(alloc),
             operators: Operators::new(alloc),
