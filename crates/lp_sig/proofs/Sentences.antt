@@ -1,5 +1,5 @@
 -- Why a sentence is refused, by the call that refuses it.
-use Rattle.std.proofs.Common.{◌≡◌, ℕ, ◌<◌, List, length, Result, Ok, Err, refl, arith, inl, inr, None}
+use Rattle.std.proofs.Common.{◌≡◌, ℕ, ◌<◌, List, length, Result, Ok, Err, refl, arith, inl, inr}
 use Rattle.std.specs.Prelude.{Contains, ◌⊎◌, IfOk}
 use Rattle.lp_base.specs.declared.limit.Limit.{Limit}
 use Rattle.lp_base.specs.declared.limit.Limit.TheVariants as limit

@@ -1,4 +1,4 @@
-use Rattle.std.proofs.Common.{ℕ, ◌+◌, ◌-◌, ◌≤◌}
+use Rattle.std.proofs.Common.{ℕ, ◌+◌, ◌-◌}
 use Rattle.lp_sig.specs.Words.{HasArguments}
 use Rattle.lp_sig.proofs.expand.has_many_arguments.Given as goal
 

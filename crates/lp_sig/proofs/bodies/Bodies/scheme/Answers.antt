@@ -1,4 +1,4 @@
-use Rattle.std.proofs.Common.{◌≡◌, None, refl, inl, inr, ⊎_elim, sym, ◌∙◌}
+use Rattle.std.proofs.Common.{◌≡◌, None, refl, inl, inr, ⊎_elim}
 use Rattle.std.specs.Prelude.{◌⊎◌}
 use Rattle.lp_sig.specs.Words.{IsTypeFault, written, of_word, replaced}
 use Rattle.lp_sig.specs.declared.fault.SigFault.TheVariants as fault
