@@ -12,11 +12,11 @@ use Rattle.lp_sig.specs.Pieces.{spelled}
 use Rattle.lp_sig.specs.Places.{first_place}
 use Rattle.lp_sig.specs.Loading.{Way, accum_words, ways_in, ways_between, ways_out}
 
-abbrev way : Spot → Option ℕ → List Way
+abbrev pub way : Spot → Option ℕ → List Way
 way w None = []
 way w (Some i) = (w, i) ∷ []
 
-one_way : (ns : List (List ℕ)) (text : List ℕ) (w : Spot) (o : Option ℕ) → o ≡ first_place (spelled text w) ns → ways_in ns text (w ∷ []) ≡ way w o
+pub one_way : (ns : List (List ℕ)) (text : List ℕ) (w : Spot) (o : Option ℕ) → o ≡ first_place (spelled text w) ns → ways_in ns text (w ∷ []) ≡ way w o
 one_way ns text w None is = ap (λ o. filter_map (λ x. x) (option_map (λ i. (w, i)) o ∷ [])) (sym is)
 one_way ns text w (Some i) is = ap (λ o. filter_map (λ x. x) (option_map (λ i. (w, i)) o ∷ [])) (sym is)
 

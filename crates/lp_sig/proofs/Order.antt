@@ -1,7 +1,7 @@
 -- The order of loading: what is on the stack is what the definition has yet to come.
-use Rattle.std.proofs.Common.{◌≡◌, ℕ, zero, suc, ◌+◌, ◌<◌, ◌≤◌, List, [], ◌∷◌, ◌++◌, Bool, true, false, length, get_or, set, reverse, replicate, refl, sym, ap, subst, ◌∙◌, arith, append_assoc, append-nil, true≢false}
+use Rattle.std.proofs.Common.{◌≡◌, ℕ, zero, suc, ◌+◌, ◌<◌, ◌≤◌, List, [], ◌∷◌, ◌++◌, Bool, true, false, length, get_or, set, reverse, refl, sym, ap, subst, ◌∙◌, arith, append_assoc, append-nil, true≢false}
 use Rattle.std.proofs.lemmas.List.{reverse-append, reverse-reverse, map-append, length-append, length-map, length-reverse}
-use Rattle.lp_sig.specs.Loading.{Way, ways_out, Loads, again, first, LoadsAll, none, next, IsLoadOrder}
+use Rattle.lp_sig.specs.Loading.{Way, ways_out, Loads, again, first, LoadsAll, none, next}
 use Rattle.lp_sig.specs.Walking.{entries, Run, over, own, go, Moves, waiting}
 use Rattle.lp_sig.specs.declared.walk.Step.{Step}
 use Rattle.lp_sig.specs.declared.walk.Step.TheVariants.{Enter, Declare}
@@ -106,12 +106,12 @@ only_one ways m root all (go i v here more e mid loads run s) = by run
         (mid, subst (λ i. Loads ways m i all mid) q (subst (λ z. Loads ways m i z mid) t loads))
 
 -- when nothing is left all steps are taken
-pub all_loaded : (ways : List (List Way)) (m m' : List Bool) (root : ℕ) (work steps : List Step) → m ≡ replicate (length ways) false → Moves ways m (Enter root ∷ []) [] m' work steps → work ≡ [] → IsLoadOrder ways root steps
-all_loaded ways m m' root work steps clear moves empty =
+pub all_loaded : (ways : List (List Way)) (m m' : List Bool) (root : ℕ) (work steps : List Step) → Moves ways m (Enter root ∷ []) [] m' work steps → work ≡ [] → (new : List Bool) × Loads ways m root steps new
+all_loaded ways m m' root work steps moves empty =
     let x = moves [] (over (ap (λ z. reverse z) empty) refl) in
     let y = only_one ways m root x.0 x.1 in
     let same : x.0 ≡ steps = sym x.2 ∙ append-nil steps in
-    (y.0, subst (λ z. Loads ways z root steps y.0) clear (subst (λ z. Loads ways m root z y.0) same y.1))
+    (y.0, subst (λ z. Loads ways m root z y.0) same y.1)
 
 -- a mark takes a signature's words away from what can be added
 pub weighed : (m : List Bool) (ways : List (List Way)) (i : ℕ) → get_or m i true ≡ false → waiting (set m i true) ways + suc (length (ways_out ways i)) ≡ waiting m ways
@@ -153,9 +153,9 @@ one_off_then ways m m' all old work w off le =
     let p : length all ≡ length old + 1 = ap length off ∙ length-append old (w ∷ []) in
     omega (arith, p, le)
 
-pub start_moves : (ways : List (List Way)) (root n : ℕ) (m : List Bool) (work steps : List Step) → m ≡ replicate n false → n ≡ length ways → work ≡ Enter root ∷ [] → steps ≡ [] → Moves ways (replicate (length ways) false) (Enter root ∷ []) [] m work steps
-start_moves ways root n m work steps marks count one empty = λ rest run.
-    (rest, subst (λ z. Run ways z (reverse (Enter root ∷ [])) rest) (marks ∙ ap (λ n. replicate n false) count) (subst (λ z. Run ways m (reverse z) rest) one run), ap (λ z. z ++ rest) empty)
+pub start_moves : (ways : List (List Way)) (root : ℕ) (m : List Bool) (work steps : List Step) → work ≡ Enter root ∷ [] → steps ≡ [] → Moves ways m (Enter root ∷ []) [] m work steps
+start_moves ways root m work steps one empty = λ rest run.
+    (rest, subst (λ z. Run ways m (reverse z) rest) one run, ap (λ z. z ++ rest) empty)
 
 pub nil_of : {A : Type 0} (xs : List A) → length xs ≡ 0 → xs ≡ []
 nil_of [] h = refl

@@ -25,7 +25,7 @@ each_more text a names i d said h =
     append_assoc said (each text a (take i names)) ((spelled text (get_or names i d), a) ∷ []) ∙
     ap (λ z. said ++ z) (sym (map-append (λ s. (spelled text s, a)) (take i names) (get_or names i d ∷ [])) ∙ ap (each text a) (sym (take_more names i d h)))
 
-said_append : (text : List ℕ) (xs ys : List Declaration) → said_in text (xs ++ ys) ≡ said_in text xs ++ said_in text ys
+pub said_append : (text : List ℕ) (xs ys : List Declaration) → said_in text (xs ++ ys) ≡ said_in text xs ++ said_in text ys
 said_append text [] ys = refl
 said_append text (x ∷ xs) ys = ap (λ z. said_by text x ++ z) (said_append text xs ys) ∙ sym (append_assoc (said_by text x) (said_in text xs) (said_in text ys))
 
@@ -64,7 +64,7 @@ module _ {A : Type 0} (f : List ℕ → List Declaration → List A) where
     pub at_declare : (step : Step) (i : ℕ) (said : List A) → step ≡ Declare i → said ++ of_text f sources texts i ≡ said ++ of_step f sources texts step
     at_declare step i said is = ap (λ s. said ++ of_step f sources texts s) (sym is)
 
-    steps_append : (xs ys : List Step) → of_steps f sources texts (xs ++ ys) ≡ of_steps f sources texts xs ++ of_steps f sources texts ys
+    pub steps_append : (xs ys : List Step) → of_steps f sources texts (xs ++ ys) ≡ of_steps f sources texts xs ++ of_steps f sources texts ys
     steps_append [] ys = refl
     steps_append (x ∷ xs) ys = ap (λ z. of_step f sources texts x ++ z) (steps_append xs ys) ∙ sym (append_assoc (of_step f sources texts x) (of_steps f sources texts xs) (of_steps f sources texts ys))
 

@@ -7,4 +7,6 @@ pub mod Walking
 pub mod Limits
 pub mod Refusals
 pub mod Said
+pub mod Words
 pub mod Knowing
+pub mod Abbreviations

@@ -5,11 +5,9 @@ ghost use Rattle.lp_sig.specs.Said.{Said, an_abbreviation, each, said_by, said_i
 ghost use Rattle.lp_sig.specs.Knowing.{Knows};
 
 use crate::making::Making;
-use crate::names::{Meaning, Names};
-use crate::pieces::{is_variable, spelled_at};
+use crate::pieces::spelled_at;
 use lp_base::{Memory, Spot};
-use lp_syntax::{Declaration, ModuleText, RawType, RawTypeNode, Sentence, SignatureText};
-use std::alloc::Global;
+use lp_syntax::{Declaration, ModuleText, Sentence, SignatureText};
 
 impl Making {
     fn announce_abbreviation(
@@ -21,6 +19,7 @@ impl Making {
     ) -> Result<(), Memory>
         ensures names { OnOk result ((said : List (Row Said)) → Knows self.old.names said → Knows self.new.names (said ++ each source.now (an_abbreviation parameters) (name ∷ []))) }
         ensures operators { self.new.operators ≡ self.old.operators }
+        ensures uses { self.new.uses ≡ self.old.uses }
     {
         if self
             .names
@@ -40,6 +39,7 @@ impl Making {
     ) -> Result<(), Memory>
         ensures names { OnOk result ((said : List (Row Said)) → Knows self.old.names said → Knows self.new.names (said ++ said_by source.now declaration.now)) }
         ensures operators { self.new.operators ≡ self.old.operators }
+        ensures uses { self.new.uses ≡ self.old.uses }
     {
         match declaration {
             Declaration::Kinds(names, arity) => {
@@ -63,6 +63,7 @@ impl Making {
     pub(crate) fn announce(&mut self, source: &[u8], text: &SignatureText) -> Result<(), Memory>
         ensures names { OnOk result ((said : List (Row Said)) → Knows self.old.names said → Knows self.new.names (said ++ said_in source.now text.now.lines.items)) }
         ensures operators { self.new.operators ≡ self.old.operators }
+        ensures uses { self.new.uses ≡ self.old.uses }
     {
         for (line, declaration) in text.lines.as_slice().iter().enumerate() {
             self.announce_line(source, declaration, line)?;
@@ -83,28 +84,5 @@ impl Making {
             }
         }
         Ok(())
-    }
-}
-
-impl Names {
-    // The abbreviations that a body names.
-    pub(crate) fn uses_of(
-        &self,
-        alloc: Global,
-        source: &[u8],
-        raw: &RawType,
-    ) -> Result<Vec<usize>, Memory> {
-        let mut uses = Vec::new(alloc);
-        for node in raw.nodes.iter() {
-            if let RawTypeNode::Word(spot, _) = node {
-                let word = spelled_at(source, *spot);
-                if !is_variable(word) {
-                    if let Some(Meaning::Abbreviation(place)) = self.meaning(word) {
-                        uses.push(place)?;
-                    }
-                }
-            }
-        }
-        Ok(uses)
     }
 }

@@ -10,7 +10,6 @@ use std::alloc::Global;
 #[derive(Drop)]
 pub(crate) struct Body {
     pub body: Option<TypeId>,
-    pub uses: Vec<usize>,
     pub line: Option<usize>,
 }
 
@@ -34,13 +33,9 @@ impl Bodies {
         self.types.into_bank()
     }
 
-    // One more abbreviation, which names no others yet.
+    // One more abbreviation.
     pub(crate) fn add(&mut self, body: Option<TypeId>, line: Option<usize>) -> Result<(), Memory> {
-        self.bodies.push(Body {
-            body,
-            uses: Vec::new(self.alloc),
-            line,
-        })?;
+        self.bodies.push(Body { body, line })?;
         Ok(())
     }
 

@@ -45,6 +45,8 @@ mod signature;
 mod standard;
 // From texts to a signature.
 mod texts;
+// Which abbreviations the body of each names.
+mod uses;
 // The order of signatures, and circles of accum_sig.
 mod walk;
 

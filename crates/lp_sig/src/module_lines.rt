@@ -297,9 +297,14 @@ impl<'a> ModuleLines<'a> {
         parameters: &[Spot],
         raw: &RawType,
     ) -> Result<(), ModuleSigFault> {
-        let outcome = making
-            .bodies
-            .declare_abbreviation(&making.names, self.source, name, parameters, raw);
+        let outcome = making.bodies.declare_abbreviation(
+            &making.names,
+            &making.uses,
+            self.source,
+            name,
+            parameters,
+            raw,
+        );
         match outcome {
             Ok(()) => Ok(()),
             Err(fault) => Err(self.kinds_blamed(fault)),

@@ -25,7 +25,12 @@ fn see_all(making: &mut Making, own: &Signature, used: &[Signature]) -> Result<V
 fn announce_all(making: &mut Making, source: &[u8], text: &ModuleText) -> Result<(), Memory> {
     let from = making.names.heads.len();
     making.announce_module(source, text)?;
-    making.bodies.settle(&making.names, source, text, from)
+    making
+        .uses
+        .note_module(making.alloc, &making.names, source, text)?;
+    making
+        .bodies
+        .settle(&making.names, &making.uses, source, text, from)
 }
 
 // Takes up the declarations of the text, in order.

@@ -153,6 +153,7 @@ impl Making {
         match self.names.meaning(name) {
             None => {
                 self.names.add_head(name, parameters)?;
+                self.uses.push(Vec::new(self.alloc))?;
                 self.bodies.add(Some(body), None)?;
                 Ok(Sight::Alike)
             }

@@ -1,7 +1,7 @@
 // The order of signatures, and circles of accum_sig.
 ghost use Rattle.std.specs.Prelude.{◌≡◌, ◌≤◌, ◌+◌, ℕ, List, [], ◌∷◌, ◌++◌, Bool, true, false, not, map, reverse, replicate, length, Contains, OnOk, IfErr, IfOk, if◌then◌else◌, string_bytes, slice_index_or, slice_set};
 ghost use Rattle.lp_sig.specs.Places.{HasPlaces};
-ghost use Rattle.lp_sig.specs.Loading.{accum_words, ways_in, ways_between, ways_out, IsLoadOrder, HasNoCircle, NoneLeads};
+ghost use Rattle.lp_sig.specs.Loading.{accum_words, ways_in, ways_between, ways_out, Loads, IsLoadOrder, HasNoCircle, NoneLeads};
 ghost use Rattle.lp_sig.specs.Walking.{entries, waiting, SomeLeads, IsCircleFault, IsFirstCircleFault, Moves};
 ghost use Rattle.lp_sig.specs.declared.walk.Step.TheVariants.{Enter};
 
@@ -107,13 +107,30 @@ fn push_entries(words: &[(Spot, usize)], work: &mut Vec<Step>) -> Result<(), Mem
     Ok(())
 }
 
-// The ways between signatures: of each the words that name another, with its number.
+// The ways between signatures, or between abbreviations: of each the words that name another, with its number.
 #[derive(Drop)]
 pub(crate) struct Ways {
-    ways: Vec<Vec<(Spot, usize)>>,
+    pub ways: Vec<Vec<(Spot, usize)>>,
 }
 
 impl Ways {
+    // There is nothing to lead from.
+    pub(crate) fn none(alloc: Global) -> Ways
+        ensures { map (λ out. out.items) result.ways.items ≡ [] }
+    {
+        Ways {
+            ways: Vec::new(alloc),
+        }
+    }
+
+    // One more, with its words.
+    pub(crate) fn push(&mut self, words: Vec<(Spot, usize)>) -> Result<(), Memory>
+        ensures { OnOk result (map (λ out. out.items) self.new.ways.items ≡ map (λ out. out.items) self.old.ways.items ++ words.items ∷ []) }
+    {
+        self.ways.push(words)?;
+        Ok(())
+    }
+
     pub(crate) fn of(
         alloc: Global,
         names: &[String],
@@ -183,18 +200,30 @@ impl Ways {
         }
     }
 
-    // The steps from a signature: each is entered once, and declares behind those that it names.
-    pub(crate) fn steps(&self, alloc: Global, root: usize) -> Result<Vec<Step>, Memory>
-        ensures { IfOk result (λ steps. IsLoadOrder (map (λ out. out.items) self.now.ways.items) root steps.items) }
+    // The steps from a signature, but for those that are marked: each is entered once, and declares behind those that it names.
+    pub(crate) fn steps_from(
+        &self,
+        alloc: Global,
+        root: usize,
+        marks: &mut Vec<bool>,
+    ) -> Result<Vec<Step>, Memory>
+        ensures { IfOk result (λ steps. (new : List Bool) × Loads (map (λ out. out.items) self.now.ways.items) marks.old.items root steps.items new) }
     {
-        let mut marks = no_marks(alloc, self.ways.len())?;
         let mut steps = Vec::new(alloc);
         let mut work = Vec::new(alloc);
         work.push(Step::Enter(root))?;
         'steps: while let Some(next) = work.pop() {
-            self.take(next, &mut marks, &mut steps, &mut work)?;
+            self.take(next, marks, &mut steps, &mut work)?;
         }
         Ok(steps)
+    }
+
+    // The steps from a signature.
+    pub(crate) fn steps(&self, alloc: Global, root: usize) -> Result<Vec<Step>, Memory>
+        ensures { IfOk result (λ steps. IsLoadOrder (map (λ out. out.items) self.now.ways.items) root steps.items) }
+    {
+        let mut marks = no_marks(alloc, self.ways.len())?;
+        self.steps_from(alloc, root, &mut marks)
     }
 
     // Puts the words of a signature on a stack.
@@ -209,7 +238,12 @@ impl Ways {
     }
 
     // Whether one of these words leads to a signature.
-    fn lead_to(&self, alloc: Global, words: &[(Spot, usize)], to: usize) -> Result<bool, Memory>
+    pub(crate) fn lead_to(
+        &self,
+        alloc: Global,
+        words: &[(Spot, usize)],
+        to: usize,
+    ) -> Result<bool, Memory>
         ensures found { IfOk result (λ found. found ≡ true → SomeLeads (map (λ out. out.items) self.now.ways.items) words.now to) }
         ensures none { IfOk result (λ found. found ≡ false → NoneLeads (map (λ out. out.items) self.now.ways.items) words.now to) }
     {

@@ -5,7 +5,7 @@ use Rattle.lp_sig.proofs.Spoken.{said_more}
 use Rattle.lp_sig.proofs.making.Making.announce.Goals as goal
 
 pub loop-line-init : goal.loop-line-init
-loop-line-init c = record { names = λ said k. subst (Knows c.args.self.now.names) (sym (append-nil said)) k; operators = refl }
+loop-line-init c = record { names = λ said k. subst (Knows c.args.self.now.names) (sym (append-nil said)) k; operators = refl; uses = refl }
 
 pub loop-line-preserved : goal.loop-line-preserved
 loop-line-preserved c =
@@ -17,6 +17,7 @@ loop-line-preserved c =
     record {
       names = λ said k. subst (Knows c.announce_line.new.self.names) (said_more c.args.source.now lines i c.declaration-item.result said h at) (c.in_ok-announce_line.ensures.names (said ++ said_in c.args.source.now (take i lines)) (c.loop-line.invariant.names said k));
       operators = c.announce_line.ensures.operators ∙ c.loop-line.invariant.operators;
+      uses = c.announce_line.ensures.uses ∙ c.loop-line.invariant.uses;
     }
 
 pub returns-clause-names : goal.returns-clause-names

@@ -8,4 +8,5 @@ abbrev pub invariant-loop-line : goal.invariant-loop-line
 invariant-loop-line l = record {
   names : (said : List (Row Said)) → Knows l.fn.self.names said → Knows l.self.names (said ++ said_in l.source (take l.line l.text.lines.items));
   operators : l.self.operators ≡ l.fn.self.operators;
+  uses : l.self.uses ≡ l.fn.self.uses;
 }

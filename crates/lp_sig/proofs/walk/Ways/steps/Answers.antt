@@ -1,30 +1,13 @@
-use Rattle.std.proofs.Common.{◌≡◌, map, sym, refl, subst, ◌++◌, ◌∷◌, [], length, replicate, false, arith, ◌∙◌, ap}
+use Rattle.std.proofs.Common.{◌≡◌, List, Bool, map, length, replicate, false, arith, ◌∙◌, ap, subst}
 use Rattle.std.proofs.lemmas.List.{length-map}
-use Rattle.lp_sig.specs.Walking.{Moves}
-use Rattle.lp_sig.specs.declared.walk.Step.TheVariants.{Enter}
-use Rattle.lp_sig.proofs.Order.{start_moves, moves_then, one_off_then, all_loaded, nil_of}
+use Rattle.lp_sig.specs.Loading.{Loads, IsLoadOrder}
+use Rattle.lp_sig.proofs.Blame.{for_ok}
 use Rattle.lp_sig.proofs.walk.Ways.steps.Goals as goal
-
-pub steps-init : goal.steps-init
-steps-init c =
-    let ways = map (λ out. out.items) c.args.self.now.ways.items in
-    let l = length-map c.args.self.now.ways.items (λ out. out.items) in
-    let n : c.len.result ≡ length ways = omega (arith, c.len.ensures, c.args.self.now.ways.ok, l) in
-    start_moves ways c.args.root c.len.result c.in_ok-marks.marks.items c.push.new.self.items c.new-steps.result.items c.in_ok-marks.ensures n (c.in_ok-push.ensures.items ∙ ap (λ z. z ++ Enter c.args.root ∷ []) c.new-work.ensures.items) c.new-steps.ensures.items
-
-pub steps-preserved : goal.steps-preserved
-steps-preserved c =
-    let ways = map (λ out. out.items) c.args.self.now.ways.items in
-    moves_then ways (replicate (length ways) false) c.steps.marks.items c.take.new.marks.items (Enter c.args.root ∷ []) c.steps.work.items c.take.new.work.items [] c.steps.steps.items c.take.new.steps.items c.steps.invariant
-    (subst (λ w. Moves ways c.steps.marks.items w c.steps.steps.items c.take.new.marks.items c.take.new.work.items c.take.new.steps.items) (sym c.in-Some.ensures.items) c.in_ok-take.ensures.moves)
-
-pub steps-smaller : goal.steps-smaller
-steps-smaller c =
-    let ways = map (λ out. out.items) c.args.self.now.ways.items in
-    one_off_then ways c.steps.marks.items c.take.new.marks.items c.steps.work.items c.pop.new.self.items c.take.new.work.items c.in-Some.next c.in-Some.ensures.items c.in_ok-take.ensures.falls
 
 pub returns : goal.returns
 returns c =
     let ways = map (λ out. out.items) c.args.self.now.ways.items in
-    let l : length c.steps.work.items ≡ 0 = omega (arith, c.in_default.ensures.cases.0, c.steps.work.ok) in
-    all_loaded ways (replicate (length ways) false) c.steps.marks.items c.args.root c.steps.work.items c.steps.steps.items refl c.steps.invariant (nil_of c.steps.work.items l)
+    let l = length-map c.args.self.now.ways.items (λ out. out.items) in
+    let n : c.len.result ≡ length ways = omega (arith, c.len.ensures, c.args.self.now.ways.ok, l) in
+    for_ok c.steps_from.result (λ steps. (new : List Bool) × Loads ways c.in_ok-marks.marks.items c.args.root steps.items new) (λ steps. IsLoadOrder ways c.args.root steps.items)
+    (λ steps x. (x.0, subst (λ m. Loads ways m c.args.root steps.items x.0) (c.in_ok-marks.ensures ∙ ap (λ n. replicate n false) n) x.1)) c.steps_from.ensures
