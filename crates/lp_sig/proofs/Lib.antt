@@ -9,3 +9,4 @@ pub mod Knowledge
 pub mod Spoken
 pub mod Abbreviating
 pub mod Cycles
+pub mod Copies

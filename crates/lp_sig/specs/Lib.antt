@@ -9,3 +9,4 @@ pub mod Refusals
 pub mod Said
 pub mod Knowing
 pub mod Abbreviations
+pub mod Copying
