@@ -1,10 +1,10 @@
 -- What is left of a copy falls: the parts of a type have fewer nodes than it.
-use Rattle.std.proofs.Common.{◌≡◌, ℕ, zero, suc, ◌+◌, ◌*◌, ◌<◌, ◌≤◌, List, [], ◌∷◌, ◌++◌, length, map, reverse, refl, sym, ap, subst, ◌∙◌, arith}
+use Rattle.std.proofs.Common.{◌≡◌, ℕ, suc, ◌+◌, ◌*◌, ◌<◌, ◌≤◌, List, [], ◌∷◌, ◌++◌, length, map, reverse, refl, sym, ap, subst, ◌∙◌, arith}
 use Rattle.std.specs.Prelude.{All}
 use Rattle.std.proofs.lemmas.List.{reverse-append}
 use Rattle.std.proofs.lemmas.List.Elements.{All-head, All-tail}
-use Rattle.lp_calculus.specs.Types.{Ty, Tys, var, param, con, arrow, tys, no_types, types}
-use Rattle.lp_term.specs.Node.{TypeShape, var_node, param_node, con_node, arrow_node, TypeBelow}
+use Rattle.lp_calculus.specs.Types.{Ty, var, param, con, arrow, tys}
+use Rattle.lp_term.specs.Node.{TypeShape, con_node, arrow_node, TypeBelow}
 use Rattle.lp_term.specs.Nodes.{Nodes, Extends, type_tree, type_node_tree}
 use Rattle.lp_term.specs.declared.node.TypeId.{TypeId}
 use Rattle.lp_sig.specs.Copying.{type_size, type_sizes, total, cost, left, InRange, AreInRange}

@@ -1,4 +1,4 @@
-use Rattle.std.proofs.Common.{◌≡◌, ◌<◌, length, ap, sym, ◌∙◌, arith}
+use Rattle.std.proofs.Common.{◌<◌, length, ap, arith}
 use Rattle.lp_term.specs.Shapes.{type_shape}
 use Rattle.lp_sig.proofs.Blame.{on_ok}
 use Rattle.lp_sig.proofs.Copies.{extends_itself, same_met, con_met, arrow_met}

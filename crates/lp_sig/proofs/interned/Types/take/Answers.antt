@@ -1,6 +1,5 @@
 use Rattle.std.proofs.Common.{◌+◌, ◌<◌, subst, sym, arith}
 use Rattle.lp_sig.specs.Copying.{InRange, AreInRange, left, cost}
-use Rattle.lp_sig.specs.declared.interned.Task.TheVariants.{Visit, Build}
 use Rattle.lp_sig.proofs.Blame.{on_ok, always}
 use Rattle.lp_sig.proofs.interned.Types.take.Goals as goal
 
