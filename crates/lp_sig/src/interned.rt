@@ -1,6 +1,9 @@
 // Types of which each stands once in a bank, so that equal types have equal numbers.
 
-ghost use Rattle.std.specs.Prelude.{◌≡◌, ◌<◌, ◌+◌, ◌*◌, List, ◌++◌, [], ◌∷◌, length, map, reverse, true, All, OnOk};
+ghost use Rattle.std.specs.Prelude.{◌≡◌, ◌<◌, ◌+◌, ◌*◌, List, ◌++◌, [], ◌∷◌, length, map, reverse, true, All, OnOk, IfOk, IfSome};
+ghost use Rattle.lp_calculus.specs.Types.{var, con, arrow, tys};
+ghost use Rattle.lp_term.specs.Node.{var_node, con_node, arrow_node};
+ghost use Rattle.lp_term.specs.Shapes.{type_shape};
 ghost use Rattle.lp_term.specs.Nodes.{Nodes, Extends, type_tree};
 ghost use Rattle.lp_term.specs.declared.node.TypeId.{TypeId};
 ghost use Rattle.lp_sig.specs.Copying.{type_size, total, left, cost, InRange, AreInRange};
@@ -25,6 +28,54 @@ fn put_for(number: u64, variable: TypeId, args: &[TypeId]) -> TypeId {
     } else {
         variable
     }
+}
+
+// Whether a node is this one: the number that a key is known under is trusted only so far.
+fn is_var(node: TypeNode<'_>, number: u64) -> bool
+    ensures { result ≡ true → type_shape node.entry ≡ var_node number }
+{
+    match node {
+        TypeNode::Var(known) => known == number,
+        TypeNode::Param(_) => false,
+        TypeNode::Con(_, _) => false,
+        TypeNode::Arrow(_, _) => false,
+    }
+}
+
+fn is_con(node: TypeNode<'_>, kind: u32, parts: &[TypeId]) -> bool
+    ensures { result ≡ true → type_shape node.entry ≡ con_node kind (map (λ t. t.0) parts.now) }
+{
+    match node {
+        TypeNode::Var(_) => false,
+        TypeNode::Param(_) => false,
+        TypeNode::Con(known, ids) => known == kind && are_same(ids, parts),
+        TypeNode::Arrow(_, _) => false,
+    }
+}
+
+fn is_arrow(node: TypeNode<'_>, from: TypeId, to: TypeId) -> bool
+    ensures { result ≡ true → type_shape node.entry ≡ arrow_node from.0 to.0 }
+{
+    match node {
+        TypeNode::Var(_) => false,
+        TypeNode::Param(_) => false,
+        TypeNode::Con(_, _) => false,
+        TypeNode::Arrow(left, right) => left.0 == from.0 && right.0 == to.0,
+    }
+}
+
+fn are_same(ids: &[TypeId], others: &[TypeId]) -> bool
+    ensures { result ≡ true → map (λ t. t.0) ids.now ≡ map (λ t. t.0) others.now }
+{
+    if ids.len() != others.len() {
+        return false;
+    }
+    for place in 0..ids.len() {
+        if ids[place].0 != others[place].0 {
+            return false;
+        }
+    }
+    true
 }
 
 // The numbers of types.
@@ -75,11 +126,25 @@ impl Types {
         self.bank
     }
 
-    pub(crate) fn var(&mut self, number: u64) -> Result<TypeId, Memory>
-        ensures { Extends self.old.bank self.new.bank }
+    // The number of a key, where the bank has no other node there.
+    fn at_key(&self, key: &TypeKey) -> Option<TypeId>
+        ensures { IfSome result (λ id. id.0 < length self.now.bank.types) }
     {
-        if let Some(id) = self.known.get(&TypeKey::Var(number)) {
-            return Ok(TypeId(*id));
+        let id = TypeId(*self.known.get(key)?);
+        if id.0 >= self.bank.type_count() {
+            return None;
+        }
+        Some(id)
+    }
+
+    pub(crate) fn var(&mut self, number: u64) -> Result<TypeId, Memory>
+        ensures kept { Extends self.old.bank self.new.bank }
+        ensures tree { IfOk result (λ id. (id.0 < length self.new.bank.types) × (type_tree self.new.bank id.0 ≡ var number)) }
+    {
+        if let Some(id) = self.at_key(&TypeKey::Var(number)) {
+            if is_var(self.bank.type_node(id), number) {
+                return Ok(id);
+            }
         }
         let id = self.bank.put_type(TypeNode::Var(number))?;
         self.known.insert(TypeKey::Var(number), id.0)?;
@@ -87,11 +152,14 @@ impl Types {
     }
 
     pub(crate) fn con(&mut self, kind: u32, parts: &[TypeId]) -> Result<TypeId, Memory>
-        ensures { Extends self.old.bank self.new.bank }
+        ensures kept { Extends self.old.bank self.new.bank }
+        ensures tree { IfOk result (λ id. (id.0 < length self.new.bank.types) × (type_tree self.new.bank id.0 ≡ con kind (tys (map (type_tree self.old.bank) (map (λ t. t.0) parts.now))))) }
     {
         let key = TypeKey::Con(kind, numbers_of(self.alloc, parts)?);
-        if let Some(id) = self.known.get(&key) {
-            return Ok(TypeId(*id));
+        if let Some(id) = self.at_key(&key) {
+            if is_con(self.bank.type_node(id), kind, parts) {
+                return Ok(id);
+            }
         }
         if !are_known(&self.bank, parts) {
             return Err(Memory);
@@ -102,11 +170,14 @@ impl Types {
     }
 
     pub(crate) fn arrow(&mut self, from: TypeId, to: TypeId) -> Result<TypeId, Memory>
-        ensures { Extends self.old.bank self.new.bank }
+        ensures kept { Extends self.old.bank self.new.bank }
+        ensures tree { IfOk result (λ id. (id.0 < length self.new.bank.types) × (type_tree self.new.bank id.0 ≡ arrow (type_tree self.old.bank from.0) (type_tree self.old.bank to.0))) }
     {
         let key = TypeKey::Arrow(from.0, to.0);
-        if let Some(id) = self.known.get(&key) {
-            return Ok(TypeId(*id));
+        if let Some(id) = self.at_key(&key) {
+            if is_arrow(self.bank.type_node(id), from, to) {
+                return Ok(id);
+            }
         }
         if from.0 >= self.bank.type_count() || to.0 >= self.bank.type_count() {
             return Err(Memory);
