@@ -9,7 +9,7 @@ use Rattle.lp_sig.specs.Rows.{Row, found}
 use Rattle.lp_sig.specs.Said.{Said, a_kind, an_abbreviation, is_among, names_in, firsts, kinds_among, abbreviations_among}
 
 -- a name that is the same as a known one is known
-same_known : (n m : List ℕ) (known : List (List ℕ)) → is_among m known ≡ true → bytes_eq n m ≡ true → is_among n known ≡ true
+pub same_known : (n m : List ℕ) (known : List (List ℕ)) → is_among m known ≡ true → bytes_eq n m ≡ true → is_among n known ≡ true
 same_known n m known h e = ap (λ x. is_among x known) ((bytes_eq-Decides n m).0 e) ∙ h
 
 module _ {A : Type 0} where

@@ -1,5 +1,5 @@
 -- What the tables of names hold, one more announcement after the other.
-use Rattle.std.proofs.Common.{◌≡◌, ℕ, suc, ◌+◌, ◌<◌, min, List, [], ◌∷◌, ◌++◌, true, false, length, take, get_or, arith, map, Option, Some, None, refl, sym, ap, subst, ◌∙◌}
+use Rattle.std.proofs.Common.{◌≡◌, ℕ, suc, ◌+◌, ◌<◌, List, [], ◌∷◌, ◌++◌, true, false, length, take, get_or, arith, map, Option, Some, None, refl, sym, ap, subst, ◌∙◌}
 use Rattle.std.specs.Prelude.{if◌then◌else◌, is_some, ◌||◌}
 use Rattle.lp_sig.specs.Places.{HasPlaces, first_place}
 use Rattle.lp_sig.specs.Rows.{Row, found, kind_row, fixity_row}
@@ -122,17 +122,17 @@ operator_new old new said r h rows found k = record {
   places = found;
 }
 
-numbered_more : (k : ℕ) (rows : List (Row ℕ)) (r : Row ℕ) → numbered k (rows ++ r ∷ []) ≡ numbered k rows ++ (r.0, (min (8 + (k + length rows)) 4294967295, min r.1 255)) ∷ []
-numbered_more k [] r = let z : k ≡ k + 0 = omega arith in ap (λ n. (r.0, (min (8 + n) 4294967295, min r.1 255)) ∷ []) z
-numbered_more k (x ∷ xs) r =
-    let z : suc k + length xs ≡ k + suc (length xs) = omega arith in
-    ap (λ z. (x.0, (min (8 + k) 4294967295, min x.1 255)) ∷ z) (numbered_more (suc k) xs r ∙ ap (λ n. numbered (suc k) xs ++ (r.0, (min (8 + n) 4294967295, min r.1 255)) ∷ []) z)
+numbered_more : (n : ℕ) (rows : List (Row ℕ)) (r : Row ℕ) → numbered n (rows ++ r ∷ []) ≡ numbered n rows ++ (r.0, (n + length rows, r.1)) ∷ []
+numbered_more n [] r = let z : n ≡ n + 0 = omega arith in ap (λ n. (r.0, (n, r.1)) ∷ []) z
+numbered_more n (x ∷ xs) r =
+    let z : suc n + length xs ≡ n + suc (length xs) = omega arith in
+    ap (λ z. (x.0, (n, x.1)) ∷ z) (numbered_more (suc n) xs r ∙ ap (λ m. numbered (suc n) xs ++ (r.0, (m, r.1)) ∷ []) z)
 
 -- one more kind with its number
-pub entry_more : (kinds : List Kinded) (i : ℕ) (k : Kinded) (now new : List KindEntry) (e : KindEntry) → i < length kinds → k ≡ get_or kinds i k → map kind_row now ≡ numbered 0 (map kinded_row (take i kinds)) → new ≡ now ++ e ∷ [] →
-    kind_row e ≡ (k.name.items, (min (8 + i) 4294967295, min k.arity 255)) → map kind_row new ≡ numbered 0 (map kinded_row (take (i + 1) kinds))
+pub entry_more : (kinds : List Kinded) (i : ℕ) (k : Kinded) (now new : List KindEntry) (e : KindEntry) → i < length kinds → k ≡ get_or kinds i k → map kind_row now ≡ numbered 8 (map kinded_row (take i kinds)) → new ≡ now ++ e ∷ [] →
+    kind_row e ≡ (k.name.items, (8 + i, k.arity)) → map kind_row new ≡ numbered 8 (map kinded_row (take (i + 1) kinds))
 entry_more kinds i k now new e h is so more this =
     let rows = map kinded_row (take i kinds) in
-    let l : i ≡ 0 + length rows = grind (arith, common_steps) in
-    ap (map kind_row) more ∙ map-append kind_row now (e ∷ []) ∙ ap (λ z. z ++ kind_row e ∷ []) so ∙ ap (λ z. numbered 0 rows ++ z ∷ []) (this ∙ ap (λ n. (k.name.items, (min (8 + n) 4294967295, min k.arity 255))) l) ∙
-    sym (numbered_more 0 rows (kinded_row k)) ∙ ap (numbered 0) (ap (λ x. rows ++ kinded_row x ∷ []) is ∙ sym (map-append kinded_row (take i kinds) (get_or kinds i k ∷ [])) ∙ ap (map kinded_row) (sym (take_more kinds i k h)))
+    let l : i ≡ length rows = grind (arith, common_steps) in
+    ap (map kind_row) more ∙ map-append kind_row now (e ∷ []) ∙ ap (λ z. z ++ kind_row e ∷ []) so ∙ ap (λ z. numbered 8 rows ++ z ∷ []) (this ∙ ap (λ n. (k.name.items, (8 + n, k.arity))) l) ∙
+    sym (numbered_more 8 rows (kinded_row k)) ∙ ap (numbered 8) (ap (λ x. rows ++ kinded_row x ∷ []) is ∙ sym (map-append kinded_row (take i kinds) (get_or kinds i k ∷ [])) ∙ ap (map kinded_row) (sym (take_more kinds i k h)))

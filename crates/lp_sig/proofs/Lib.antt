@@ -6,7 +6,15 @@ pub mod Naming
 pub mod Repeats
 pub mod Firsts
 pub mod Knowledge
+pub mod Meanings
+pub mod Numbering
 pub mod Spoken
+pub mod Wording
+pub mod Heads
+pub mod Parameters
+pub mod Sentences
+pub mod Judging
+pub mod LongTypes
 pub mod Abbreviating
 pub mod Cycles
 pub mod Copies

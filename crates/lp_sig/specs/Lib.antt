@@ -7,6 +7,7 @@ pub mod Walking
 pub mod Limits
 pub mod Refusals
 pub mod Said
+pub mod Words
 pub mod Knowing
 pub mod Abbreviations
 pub mod Copying

@@ -1,6 +1,6 @@
 -- What the sentences of texts say of names, in text order, and what each name is declared as: the first thing that is said of it.
 use Rattle.std.specs.Global.{Global}
-use Rattle.std.specs.Prelude.{ℕ, zero, suc, ◌+◌, min, List, [], ◌∷◌, ◌++◌, Bool, false, map, length, Some, None, Vec, ◌||◌, if◌then◌else◌, nat_le}
+use Rattle.std.specs.Prelude.{ℕ, zero, suc, List, [], ◌∷◌, ◌++◌, Bool, false, map, length, Some, None, Vec, ◌||◌, if◌then◌else◌, nat_le}
 use Rattle.std.specs.Str.{bytes_eq}
 use Rattle.lp_base.specs.declared.place.Spot.{Spot}
 use Rattle.lp_fixity.specs.declared.fixity.Fixity.{Fixity}
@@ -63,10 +63,10 @@ abbreviations_among ((n, an_abbreviation p) ∷ rs) = (n, p) ∷ abbreviations_a
 abbrev pub declared_names : List (Row Said) → List (Row Said)
 declared_names said = firsts (names_in standard_kinds) said
 
--- kinds with their numbers, from that of a place on; a number and a count go as far as their types go
+-- kinds with their numbers, from a number on
 abbrev pub numbered : ℕ → List (Row ℕ) → List (Row (ℕ × ℕ))
-numbered k [] = []
-numbered k (r ∷ rs) = (r.0, (min (8 + k) 4294967295, min r.1 255)) ∷ numbered (suc k) rs
+numbered n [] = []
+numbered n (r ∷ rs) = (r.0, (n, r.1)) ∷ numbered (suc n) rs
 
 -- what a sentence says of operators; a number above 255 is refused with the table of operators
 abbrev pub fixities_by : List ℕ → Declaration → List (Row (Fixity × ℕ))

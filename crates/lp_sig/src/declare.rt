@@ -1,16 +1,18 @@
 // What the declarations of a text say, line by line.
-ghost use Rattle.std.specs.Prelude.{◌<◌, ◌≤◌, ◌≡◌, ◌++◌, ℕ, List, [], ◌∷◌, Some, length, map, IfErr, IfOk, OnOk};
+ghost use Rattle.std.specs.Prelude.{◌<◌, ◌≤◌, ◌≡◌, ◌++◌, ℕ, List, [], ◌∷◌, length, Contains, IfErr, IfOk, OnOk, Some, map};
+ghost use Rattle.lp_base.specs.declared.limit.Limit.TheVariants as limit;
+ghost use Rattle.lp_sig.specs.declared.fault.SigFault.TheVariants as fault;
+ghost use Rattle.lp_sig.specs.Pieces.{spelled};
 ghost use Rattle.lp_sig.specs.Refusals.{IsFaultOf, IsFaultIn, named, typed, headed, parts_of, words_of, HasManyArguments};
 ghost use Rattle.lp_fixity.specs.declared.fixity.Fixity.{Fixity as IsFixity};
 ghost use Rattle.lp_sig.specs.Rows.{Row};
-ghost use Rattle.lp_sig.specs.Said.{Said, said_in, fixities_by, fixities_in};
+ghost use Rattle.lp_sig.specs.Said.{Said, a_kind, an_abbreviation, said_in, fixities_by, fixities_in};
+ghost use Rattle.lp_sig.specs.Words.{IsNameFault, IsMeant, AreMeant, IsNumbered, AreNumbered, IsKindsFault, IsConstantsFault, IsAbbreviationFault, IsHead, IsSoundType, WordsStand, parameters_of, IsSentenceFault, IsSound, AreSound};
 ghost use Rattle.lp_sig.specs.Knowing.{Knows, KnowsOperators};
 ghost use Rattle.lp_sig.specs.Limits.{IsShort, AreShort, AreApart, IsWithin, AreWithin};
 ghost use Rattle.lp_base.specs.declared.place.Spot.{Spot};
-ghost use Rattle.lp_sig.specs.Pieces.{spelled};
 ghost use Rattle.lp_sig.specs.Places.{first_place};
 ghost use Rattle.lp_sig.specs.Abbreviations.{abbreviation_names, Seen, seen_text, all_uses, KnowsUses, LeadsBack, IsCyclic, sentence, sentences_in, NoneCyclic, IsFirstCyclic};
-ghost use Rattle.lp_sig.specs.declared.fault.SigFault.TheVariants as fault;
 
 use crate::bodies::Bodies;
 use crate::constants::Constants;
@@ -28,6 +30,7 @@ use lp_syntax::{Declaration, RawType, SignatureText};
 // A declared name has at most 255 bytes.
 pub(crate) fn check_length(source: &[u8], name: Spot) -> Result<(), SigFault>
     ensures refused { IfErr result (IsFaultOf source.now (named (name ∷ [])) ⊥) }
+    ensures long { IfErr result (λ e. (e ≡ fault.Limit limit.NameLength) × (255 < length (spelled source.now name))) }
     ensures taken { IfOk result (λ done. IsShort source.now name) }
 {
     if spelled_at(source, name).len() > 255 {
@@ -38,6 +41,7 @@ pub(crate) fn check_length(source: &[u8], name: Spot) -> Result<(), SigFault>
 
 pub(crate) fn check_lengths(source: &[u8], names: &[Spot]) -> Result<(), SigFault>
     ensures refused { IfErr result (IsFaultOf source.now (named names.now) ⊥) }
+    ensures long { IfErr result (λ e. (e ≡ fault.Limit limit.NameLength) × ((s : Spot) × Contains names.now s × (255 < length (spelled source.now s)))) }
     ensures taken { IfOk result (λ done. AreShort source.now names.now) }
 {
     for name in names {
@@ -50,7 +54,9 @@ impl Names {
     // A kind has the count of arguments with which it was announced first.
     pub(crate) fn declare_kind(&self, source: &[u8], name: Spot, arity: u32) -> Result<(), SigFault>
         ensures refused { IfErr result (IsFaultOf source.now (named (name ∷ [])) ⊥) }
+        ensures why { (said : List (Row Said)) → Knows self.now said → IfErr result (IsNameFault source.now said (a_kind arity) name) }
         ensures taken { IfOk result (λ done. IsShort source.now name) }
+        ensures meant { (said : List (Row Said)) → Knows self.now said → IfOk result (λ done. IsMeant source.now said (a_kind arity) name × IsNumbered source.now said name) }
     {
         check_length(source, name)?;
         match self.meaning(spelled_at(source, name)) {
@@ -63,7 +69,8 @@ impl Names {
                 }
                 Ok(())
             }
-            _ => Err(SigFault::Differ(name)),
+            Some(Meaning::Abbreviation(_)) => Err(SigFault::Differ(name)),
+            None => Err(SigFault::Differ(name)),
         }
     }
 
@@ -74,6 +81,8 @@ impl Names {
         arity: u32,
     ) -> Result<(), SigFault>
         ensures refused { IfErr result (IsFaultOf source.now (named names.now) (255 < arity)) }
+        ensures why { (said : List (Row Said)) → Knows self.now said → IfErr result (IsKindsFault source.now said names.now arity) }
+        ensures meant { (said : List (Row Said)) → Knows self.now said → IfOk result (λ done. AreMeant source.now said (a_kind arity) names.now × AreNumbered source.now said names.now) }
         ensures taken { IfOk result (λ done. AreShort source.now names.now × (arity ≤ 255)) }
     {
         for name in names {
@@ -93,21 +102,24 @@ impl Names {
         parameters: usize,
     ) -> Result<usize, SigFault>
         ensures refused { IfErr result (IsFaultOf source.now (named (name ∷ [])) ⊥) }
+        ensures why { (said : List (Row Said)) → Knows self.now said → IfErr result (IsNameFault source.now said (an_abbreviation parameters) name) }
         ensures taken { IfOk result (λ done. IsShort source.now name) }
+        ensures meant { (said : List (Row Said)) → Knows self.now said → IfOk result (λ place. IsMeant source.now said (an_abbreviation parameters) name) }
         ensures place { IfOk result (λ place. (said : List (Row Said)) → Knows self.now said → first_place (spelled source.now name) (abbreviation_names said) ≡ Some place) }
     {
         check_length(source, name)?;
-        let Some(Meaning::Abbreviation(place)) = self.meaning(spelled_at(source, name)) else {
-            return Err(SigFault::Differ(name));
-        };
-        match self.heads.get(place) {
-            Some(known) => {
-                if known.parameters != parameters {
-                    return Err(SigFault::Differ(name));
+        match self.meaning(spelled_at(source, name)) {
+            Some(Meaning::Abbreviation(place)) => match self.heads.get(place) {
+                Some(known) => {
+                    if known.parameters != parameters {
+                        return Err(SigFault::Differ(name));
+                    }
+                    Ok(place)
                 }
-                Ok(place)
-            }
-            None => Err(SigFault::Memory),
+                None => Err(SigFault::Memory),
+            },
+            Some(Meaning::Kind(_, _)) => Err(SigFault::Differ(name)),
+            None => Err(SigFault::Differ(name)),
         }
     }
 }
@@ -122,7 +134,9 @@ pub(crate) fn declare_constants(
     raw: &RawType,
 ) -> Result<(), SigFault>
     ensures refused { IfErr result (IsFaultOf source.now (typed spots.now (words_of raw.now.nodes.items)) (Unit {0})) }
+    ensures why { (said : List (Row Said)) → Knows names.now said → IfErr result (IsConstantsFault source.now said spots.now raw.now) }
     ensures taken { IfOk result (λ done. AreShort source.now spots.now) }
+    ensures stand { (said : List (Row Said)) → Knows names.now said → IfOk result (λ done. IsSoundType source.now said raw.now) }
 {
     match bodies.scheme(names, source, raw) {
         Err(fault) => {
@@ -147,7 +161,9 @@ impl Bodies {
         raw: &RawType,
     ) -> Result<(), SigFault>
         ensures refused { IfErr result (IsFaultOf source.now (headed name parameters.now (words_of raw.now.nodes.items)) (255 < length parameters.now)) }
+        ensures why { (said : List (Row Said)) → Knows names.now said → IfErr result (IsAbbreviationFault source.now said name parameters.now raw.now.nodes.items) }
         ensures taken { IfOk result (λ done. IsShort source.now name × AreApart source.now parameters.now × (length parameters.now ≤ 255)) }
+        ensures stand { (said : List (Row Said)) → Knows names.now said → IfOk result (λ done. IsHead source.now said name parameters.now × WordsStand source.now said (parameters_of source.now parameters.now) raw.now.nodes.items) }
         ensures cyclic { IfErr result (λ e. (z : Seen) → Knows names.now z.said → KnowsUses (map (λ out. out.items) uses.now.ways.items) z → (s : Spot) → e ≡ fault.CyclicAbbreviation s → (s ≡ name) × LeadsBack (abbreviation_names z.said) (all_uses z) source.now name raw.now.nodes.items) }
         ensures acyclic { IfOk result (λ done. (z : Seen) → Knows names.now z.said → KnowsUses (map (λ out. out.items) uses.now.ways.items) z → LeadsBack (abbreviation_names z.said) (all_uses z) source.now name raw.now.nodes.items → ⊥) }
     {
@@ -171,7 +187,9 @@ impl Bodies {
 impl Making {
     fn declare_line(&mut self, source: &[u8], declaration: &Declaration) -> Result<(), SigFault>
         ensures refused { IfErr result (IsFaultOf source.now (parts_of declaration.now) (HasManyArguments declaration.now)) }
+        ensures why { (said : List (Row Said)) → Knows self.old.names said → IfErr result (IsSentenceFault source.now said declaration.now) }
         ensures taken { IfOk result (λ done. IsWithin source.now declaration.now) }
+        ensures sound { (said : List (Row Said)) → Knows self.old.names said → IfOk result (λ done. IsSound source.now said declaration.now) }
         ensures names { self.new.names ≡ self.old.names }
         ensures uses { self.new.uses ≡ self.old.uses }
         ensures operators { OnOk result ((said : List (Row (IsFixity × ℕ))) → KnowsOperators self.old.operators said → KnowsOperators self.new.operators (said ++ fixities_by source.now declaration.now)) }
@@ -212,8 +230,9 @@ impl Making {
 
     // The declarations of a signature's own text, or the first fault in text order.
     pub(crate) fn declare(&mut self, source: &[u8], text: &SignatureText) -> Result<(), SigFault>
-        ensures refused { IfErr result (IsFaultIn source.now text.now.lines.items) }
+        ensures refused { (said : List (Row Said)) → Knows self.old.names said → IfErr result (IsFaultIn source.now (said ++ said_in source.now text.now.lines.items) text.now.lines.items) }
         ensures taken { IfOk result (λ done. AreWithin source.now text.now.lines.items) }
+        ensures sound { (said : List (Row Said)) → Knows self.old.names said → IfOk result (λ done. AreSound source.now (said ++ said_in source.now text.now.lines.items) text.now.lines.items) }
         ensures names { OnOk result ((said : List (Row Said)) → Knows self.old.names said → Knows self.new.names (said ++ said_in source.now text.now.lines.items)) }
         ensures operators { OnOk result ((said : List (Row (IsFixity × ℕ))) → KnowsOperators self.old.operators said → KnowsOperators self.new.operators (said ++ fixities_in source.now text.now.lines.items)) }
         ensures uses { OnOk result ((z : Seen) → Knows self.old.names z.said → KnowsUses (map (λ out. out.items) self.old.uses.ways.items) z → KnowsUses (map (λ out. out.items) self.new.uses.ways.items) (seen_text z source.now text.now.lines.items)) }

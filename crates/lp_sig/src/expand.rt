@@ -1,5 +1,13 @@
 // Types of a text, with abbreviations replaced.
-ghost use Rattle.std.specs.Prelude.{◌≡◌, ◌⊎◌, [], ◌∷◌, IfErr, IfOk, IfSome, map};
+ghost use Rattle.std.specs.Prelude.{◌≡◌, ◌⊎◌, ◌<◌, ℕ, List, [], ◌∷◌, length, Option, Some, None, is_some, true, false, option_map, if◌then◌else◌, IfErr, IfOk, IfSome, OnOk, map};
+ghost use Rattle.std.specs.Str.{bytes_eq};
+ghost use Rattle.lp_base.specs.declared.limit.Limit.TheVariants as limit;
+ghost use Rattle.lp_sig.specs.declared.fault.SigFault.TheVariants as fault;
+ghost use Rattle.lp_sig.specs.declared.names.Meaning.TheVariants as meaning;
+ghost use Rattle.lp_sig.specs.Rows.{Row};
+ghost use Rattle.lp_sig.specs.Said.{Said};
+ghost use Rattle.lp_sig.specs.Words.{may_stand, on_count, fault_of_word, word_fault, beginning, WordsStand, IsFirstFault, parameters_of, earlier_of, IsLongType, IsSoundType, IsTypeFault};
+ghost use Rattle.lp_sig.specs.Knowing.{Knows, Holds, number_of, blamed, said_as};
 ghost use Rattle.lp_sig.specs.Limits.{AreApart, IsRepeated};
 ghost use Rattle.lp_sig.specs.Refusals.{IsFaultOf, named, typed, headed, words_of};
 
@@ -26,6 +34,7 @@ pub(crate) struct Variables {
 // No parameter stands a second time.
 fn check_apart(alloc: Global, source: &[u8], parameters: &[Spot]) -> Result<(), SigFault>
     ensures refused { IfErr result (IsFaultOf source.now (record { names = []; heads = []; parameters = parameters.now; words = [] }) ⊥) }
+    ensures repeated { IfErr result (λ e. (e ≡ fault.Memory) ⊎ ((s : Spot) × (e ≡ fault.Differ s) × IsRepeated source.now parameters.now s)) }
     ensures taken { IfOk result (λ done. AreApart source.now parameters.now) }
 {
     let mut places = Places::new(alloc);
@@ -41,7 +50,10 @@ fn check_apart(alloc: Global, source: &[u8], parameters: &[Spot]) -> Result<(), 
 
 impl Variables {
     // Each name is taken as it comes.
-    pub(crate) fn open(alloc: Global) -> Variables {
+    pub(crate) fn open(alloc: Global) -> Variables
+        ensures open { Holds result None }
+        ensures empty { (name : List ℕ) → number_of result name ≡ None }
+    {
         Variables {
             alloc,
             numbers: IndexMap::new(alloc),
@@ -57,7 +69,9 @@ impl Variables {
         parameters: &[Spot],
     ) -> Result<Variables, SigFault>
         ensures refused { IfErr result (IsFaultOf source.now (record { names = []; heads = []; parameters = parameters.now; words = [] }) ⊥) }
+        ensures repeated { IfErr result (λ e. (e ≡ fault.Memory) ⊎ ((s : Spot) × (e ≡ fault.Differ s) × IsRepeated source.now parameters.now s)) }
         ensures taken { IfOk result (λ variables. AreApart source.now parameters.now) }
+        ensures held { IfOk result (λ variables. Holds variables (parameters_of source.now parameters.now)) }
     {
         check_apart(alloc, source, parameters)?;
         let mut variables = Variables::open(alloc);
@@ -68,7 +82,10 @@ impl Variables {
         Ok(variables)
     }
 
-    fn add(&mut self, name: &[u8]) -> Result<u64, Memory> {
+    fn add(&mut self, name: &[u8]) -> Result<u64, Memory>
+        ensures closed { self.new.closed ≡ self.old.closed }
+        ensures added { OnOk result ((other : List ℕ) → number_of self.new other ≡ (if bytes_eq other name.now then Some self.old.next else number_of self.old other)) }
+    {
         let number = self.next;
         let key = Vec::from_slice(self.alloc, name)?;
         self.numbers.insert(key, number)?;
@@ -77,7 +94,10 @@ impl Variables {
     }
 
     // The number of a name; in a declared type `_` is new at each place.
-    fn number(&mut self, name: &[u8]) -> Result<Option<u64>, Memory> {
+    fn number(&mut self, name: &[u8]) -> Result<Option<u64>, Memory>
+        ensures given { (variables : Option (List (List ℕ))) → Holds self.old variables → IfOk result (λ o. is_some o ≡ may_stand variables name.now) }
+        ensures held { (variables : Option (List (List ℕ))) → Holds self.old variables → Holds self.new variables }
+    {
         if self.closed {
             return Ok(self.numbers.get(name).copied());
         }
@@ -96,7 +116,7 @@ impl Variables {
 
 // A word with its arguments: a type, or one that is not known yet, or a fault of the word.
 #[derive(Clone, Copy)]
-enum Made {
+pub(crate) enum Made {
     Type(TypeId),
     Open,
     Unknown,
@@ -132,7 +152,8 @@ fn earlier(
     first: Option<(usize, SigFault)>,
     other: Option<(usize, SigFault)>,
 ) -> Option<(usize, SigFault)>
-    ensures { (result ≡ first) ⊎ (result ≡ other) }
+    ensures one { (result ≡ first) ⊎ (result ≡ other) }
+    ensures is { result ≡ earlier_of first other }
 {
     match (first, other) {
         (Some((at, known)), Some((from, fault))) => {
@@ -155,7 +176,10 @@ impl Bodies {
         arguments: &[usize],
         done: &[Option<TypeId>],
         variables: &mut Variables,
-    ) -> Result<Made, Memory> {
+    ) -> Result<Made, Memory>
+        ensures fault { (said : List (Row Said)) (vs : Option (List (List ℕ))) → Knows names.now said → Holds variables.old vs → IfOk result (λ made. blamed spot made ≡ fault_of_word source.now said vs spot (length arguments.now)) }
+        ensures held { (vs : Option (List (List ℕ))) → Holds variables.old vs → Holds variables.new vs }
+    {
         let name = spelled_at(source, spot);
         if is_variable(name) {
             let Some(number) = variables.number(name)? else {
@@ -187,9 +211,11 @@ impl Bodies {
         place: usize,
         arguments: &[usize],
         done: &[Option<TypeId>],
-    ) -> Result<Made, Memory> {
+    ) -> Result<Made, Memory>
+        ensures { (s : Spot) → IfOk result (λ made. blamed s made ≡ on_count s (length arguments.now) (said_as names.now (meaning.Abbreviation place))) }
+    {
         let Some(head) = names.heads.get(place) else {
-            return Ok(Made::Open);
+            return Err(Memory);
         };
         if arguments.len() != head.parameters {
             return Ok(Made::Arity);
@@ -230,7 +256,9 @@ impl Bodies {
         done: &mut Vec<Option<TypeId>>,
         variables: &mut Variables,
     ) -> Result<Option<(usize, SigFault)>, Memory>
-        ensures { IfOk result (λ fault. IfSome fault (λ f. IsFaultOf source.now (typed [] (words_of (node.now ∷ []))) ⊥ f.1)) }
+        ensures among { IfOk result (λ fault. IfSome fault (λ f. IsFaultOf source.now (typed [] (words_of (node.now ∷ []))) ⊥ f.1)) }
+        ensures fault { (said : List (Row Said)) (vs : Option (List (List ℕ))) → Knows names.now said → Holds variables.old vs → IfOk result (λ o. o ≡ option_map (λ e. (beginning node.now, e)) (word_fault source.now said vs node.now)) }
+        ensures held { (vs : Option (List (List ℕ))) → Holds variables.old vs → Holds variables.new vs }
     {
         match node {
             RawTypeNode::Arrow(from, to) => {
@@ -277,7 +305,9 @@ impl Bodies {
         raw: &RawType,
         variables: &mut Variables,
     ) -> Result<Option<TypeId>, SigFault>
-        ensures { IfErr result (IsFaultOf source.now (typed [] (words_of raw.now.nodes.items)) ⊥) }
+        ensures among { IfErr result (IsFaultOf source.now (typed [] (words_of raw.now.nodes.items)) ⊥) }
+        ensures first { (said : List (Row Said)) (vs : Option (List (List ℕ))) → Knows names.now said → Holds variables.old vs → IfErr result (λ e. (e ≡ fault.Memory) ⊎ IsFirstFault source.now said vs raw.now.nodes.items e) }
+        ensures stand { (said : List (Row Said)) (vs : Option (List (List ℕ))) → Knows names.now said → Holds variables.old vs → IfOk result (λ made. WordsStand source.now said vs raw.now.nodes.items) }
     {
         let mut done = Vec::new(self.alloc);
         let mut fault = None;
@@ -298,7 +328,9 @@ impl Bodies {
         source: &[u8],
         raw: &RawType,
     ) -> Result<Option<(u8, TypeId)>, SigFault>
-        ensures { IfErr result (IsFaultOf source.now (typed [] (words_of raw.now.nodes.items)) (Unit {0})) }
+        ensures among { IfErr result (IsFaultOf source.now (typed [] (words_of raw.now.nodes.items)) (Unit {0})) }
+        ensures first { (said : List (Row Said)) → Knows names.now said → IfErr result (λ e. (e ≡ fault.Memory) ⊎ IsTypeFault source.now said raw.now e) }
+        ensures stand { (said : List (Row Said)) → Knows names.now said → IfOk result (λ made. IsSoundType source.now said raw.now) }
     {
         if has_many_arguments(raw) {
             return Err(SigFault::Limit(Limit::Arguments));
@@ -334,12 +366,20 @@ impl Bodies {
 }
 
 // Whether a type as written has more than 255 arguments.
-fn has_many_arguments(raw: &RawType) -> bool {
+fn has_many_arguments(raw: &RawType) -> bool
+    ensures many { result ≡ true → IsLongType raw.now.nodes.items raw.now.root }
+    ensures few { result ≡ false → IsLongType raw.now.nodes.items raw.now.root → ⊥ }
+{
     let mut at = raw.root;
-    for _ in 0..256 {
+    let mut count = 0u32;
+    'arguments: while count < 256 {
         match raw.nodes.get(at) {
-            Some(RawTypeNode::Arrow(_, to)) => at = *to,
-            _ => return false,
+            Some(RawTypeNode::Arrow(_, to)) => {
+                at = *to;
+                count += 1;
+            }
+            Some(RawTypeNode::Word(_, _)) => return false,
+            None => return false,
         }
     }
     true

@@ -1,5 +1,5 @@
 // The declarations so far.
-ghost use Rattle.std.specs.Prelude.{◌≡◌, [], map, IfOk};
+ghost use Rattle.std.specs.Prelude.{◌≡◌, ◌+◌, [], map, IfOk};
 ghost use Rattle.lp_sig.specs.Rows.{kind_row};
 ghost use Rattle.lp_sig.specs.Said.{numbered};
 ghost use Rattle.lp_sig.specs.Knowing.{Knows, kinded_row, KnowsOperators};
@@ -10,6 +10,7 @@ use crate::entries::{AbbreviationEntry, KindEntry};
 use crate::names::{Kinded, Names, kind_number};
 use crate::operators::Operators;
 use crate::signature::Signature;
+use crate::standard::END_OF_NUMBERS;
 use crate::walk::Ways;
 use lp_base::Memory;
 use std::alloc::Global;
@@ -25,18 +26,33 @@ pub(crate) struct Making {
     pub operators: Operators,
 }
 
+// The entry of the kind at a place. One that passes a limit was refused where it is declared.
+fn entry_of(alloc: Global, kind: &Kinded, place: usize) -> Result<KindEntry, Memory>
+    ensures { IfOk result (λ e. kind_row e ≡ (kind.now.name.items, (8 + place, kind.now.arity))) }
+{
+    let number = kind_number(place);
+    if number >= END_OF_NUMBERS {
+        return Err(Memory);
+    }
+    if kind.arity > 255 {
+        return Err(Memory);
+    }
+    let name = Vec::from_slice(alloc, kind.name.as_slice())?;
+    Ok(KindEntry {
+        name,
+        number,
+        arity: kind.arity as u8,
+    })
+}
+
 // The kinds with their numbers.
 fn entries_of(alloc: Global, kinds: &[Kinded]) -> Result<Vec<KindEntry>, Memory>
-    ensures { IfOk result (λ entries. map kind_row entries.items ≡ numbered 0 (map kinded_row kinds.now)) }
+    ensures { IfOk result (λ entries. map kind_row entries.items ≡ numbered 8 (map kinded_row kinds.now)) }
 {
     let mut entries = Vec::new(alloc);
     for (place, kind) in kinds.iter().enumerate() {
-        let name = Vec::from_slice(alloc, kind.name.as_slice())?;
-        entries.push(KindEntry {
-            name,
-            number: kind_number(place),
-            arity: kind.arity.min(255) as u8,
-        })?;
+        let entry = entry_of(alloc, kind, place)?;
+        entries.push(entry)?;
     }
     Ok(entries)
 }
@@ -75,7 +91,7 @@ impl Making {
 
     // The signature of what was declared.
     pub(crate) fn finish(self) -> Result<Signature, Memory>
-        ensures kinds { IfOk result (λ s. map kind_row s.kinds.items ≡ numbered 0 (map kinded_row self.names.kinds.items)) }
+        ensures kinds { IfOk result (λ s. map kind_row s.kinds.items ≡ numbered 8 (map kinded_row self.names.kinds.items)) }
         ensures fixities { IfOk result (λ s. s.fixities ≡ self.operators.fixities) }
     {
         let kinds = entries_of(self.alloc, self.names.kinds.as_slice())?;

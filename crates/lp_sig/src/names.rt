@@ -1,10 +1,11 @@
 // The names of kinds and abbreviations so far, each at its first declaration.
-ghost use Rattle.std.specs.Prelude.{◌≡◌, ◌+◌, min, ℕ, List, [], ◌∷◌, ◌++◌, map, is_some, OnOk};
+ghost use Rattle.std.specs.Prelude.{◌≡◌, ◌+◌, min, ℕ, List, [], ◌∷◌, ◌++◌, map, is_some, option_map, IfSome, OnOk};
 ghost use Rattle.lp_sig.specs.Places.{HasPlaces, first_place};
 ghost use Rattle.lp_sig.specs.Abbreviations.{abbreviation_names, place_meant};
 ghost use Rattle.lp_sig.specs.Rows.{Row};
 ghost use Rattle.lp_sig.specs.Said.{Said, a_kind, an_abbreviation, each};
-ghost use Rattle.lp_sig.specs.Knowing.{Knows, is_known, kinded_row, head_row};
+ghost use Rattle.lp_sig.specs.Words.{meaning_of, number_said};
+ghost use Rattle.lp_sig.specs.Knowing.{Knows, is_known, kinded_row, head_row, said_as, IsNumberOf};
 
 use crate::pieces::spelled_at;
 use crate::places::Places;
@@ -66,6 +67,8 @@ impl Names {
     // What a name means.
     pub(crate) fn meaning(&self, name: &[u8]) -> Option<Meaning>
         ensures known { (said : List (Row Said)) → Knows self.now said → is_some result ≡ is_known name.now said }
+        ensures means { (said : List (Row Said)) → Knows self.now said → option_map (said_as self.now) result ≡ meaning_of name.now said }
+        ensures number { (said : List (Row Said)) → Knows self.now said → IfSome result (IsNumberOf (number_said name.now said)) }
         ensures place { (said : List (Row Said)) → Knows self.now said → place_meant result ≡ first_place name.now (abbreviation_names said) }
     {
         if let Some((number, arity)) = standard_kind(name) {

@@ -59,8 +59,8 @@ fn declare(
     texts: &[SignatureText],
     at: usize,
 ) -> Result<(), SigFault>
-    ensures refused { IfErr result (λ e. (e ≡ fault.Memory) ⊎ IsAtFault sources.now texts.now at e) }
-    ensures taken { IfOk result (λ done. AreTaken sources.now texts.now at) }
+    ensures refused { (said : List (Row Said)) → Knows making.old.names said → IfErr result (λ e. (e ≡ fault.Memory) ⊎ IsAtFault sources.now texts.now said at e) }
+    ensures taken { (said : List (Row Said)) → Knows making.old.names said → IfOk result (λ done. AreTaken sources.now texts.now said at) }
     ensures names { OnOk result ((said : List (Row Said)) → Knows making.old.names said → Knows making.new.names (said ++ of_text said_in sources.now texts.now at)) }
     ensures operators { OnOk result ((said : List (Row (Fixity × ℕ))) → KnowsOperators making.old.operators said → KnowsOperators making.new.operators (said ++ of_text fixities_in sources.now texts.now at)) }
     ensures uses { OnOk result (Follows making.old making.new (of_text one_text sources.now texts.now at)) }
@@ -84,8 +84,8 @@ fn take(
     texts: &[SignatureText],
     step: Step,
 ) -> Result<(), SigFault>
-    ensures refused { IfErr result (λ e. (e ≡ fault.Memory) ⊎ IsStepRefused names.now sources.now texts.now step e) }
-    ensures taken { IfOk result (λ done. IsStepTaken names.now sources.now texts.now step) }
+    ensures refused { (said : List (Row Said)) → Knows making.old.names said → IfErr result (λ e. (e ≡ fault.Memory) ⊎ IsStepRefused names.now sources.now texts.now said step e) }
+    ensures taken { (said : List (Row Said)) → Knows making.old.names said → IfOk result (λ done. IsStepTaken names.now sources.now texts.now said step) }
     ensures names { OnOk result ((said : List (Row Said)) → Knows making.old.names said → Knows making.new.names (said ++ of_step said_in sources.now texts.now step)) }
     ensures operators { OnOk result ((said : List (Row (Fixity × ℕ))) → KnowsOperators making.old.operators said → KnowsOperators making.new.operators (said ++ of_step fixities_in sources.now texts.now step)) }
     ensures uses { OnOk result (Follows making.old making.new (of_step one_text sources.now texts.now step)) }

@@ -1,4 +1,4 @@
-use Rattle.std.proofs.Common.{◌++◌, ◌∷◌, [], map, take, ap, ◌∙◌, inr, subst, sym}
+use Rattle.std.proofs.Common.{◌++◌, ◌∷◌, [], map, take, ap, ◌∙◌, inr, refl, subst, sym}
 use Rattle.std.specs.Prelude.{Contains}
 use Rattle.lp_sig.specs.Pieces.{spelled}
 use Rattle.lp_sig.specs.Places.{HasPlaces}
@@ -25,3 +25,13 @@ loop-i-preserved c =
 
 pub returns-clause-taken : goal.returns-clause-taken
 returns-clause-taken c = all_apart c.args.source.now c.args.parameters.now c.loop-i.i c.loop-i-test.false c.loop-i.invariant.apart
+
+pub returns-then-is_some-clause-repeated : goal.returns-then-is_some-clause-repeated
+returns-then-is_some-clause-repeated c =
+    let ns = map (λ w. spelled c.args.source.now w) (take c.loop-i.i c.args.parameters.now) in
+    inr (
+      _,
+      refl,
+      repeated c.args.source.now c.args.parameters.now c.loop-i.i _ c.loop-i-test.true c.loop-i.invariant.apart
+          (subst (Contains ns) c.spelled_at-word.ensures (placed c.spelled_at-word.result.now ns c.of.result (c.of.ensures ∙ c.loop-i.invariant.known c.spelled_at-word.result.now) (sym c.is_some.ensures ∙ c.if-is_some.true))),
+    )

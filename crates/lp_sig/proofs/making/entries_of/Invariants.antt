@@ -5,4 +5,4 @@ use Rattle.lp_sig.specs.Knowing.{kinded_row}
 use Rattle.lp_sig.proofs.making.entries_of.Given as goal
 
 abbrev pub invariant-loop-place : goal.invariant-loop-place
-invariant-loop-place l = map kind_row l.entries.items ≡ numbered 0 (map kinded_row (take l.place l.kinds))
+invariant-loop-place l = map kind_row l.entries.items ≡ numbered 8 (map kinded_row (take l.place l.kinds))

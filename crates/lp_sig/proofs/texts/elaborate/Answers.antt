@@ -23,7 +23,7 @@ returns-in_err-check_circles-clause-refused c =
 
 pub loop-step-init : goal.loop-step-init
 loop-step-init c = record {
-  taken = λ s d. absurd (omega (arith, d.1));
+  taken = λ j s l at. absurd (omega (arith, l));
   names = c.new-making.ensures.names;
   seen = knows_nothing c.new-making.result c.new-making.ensures.names c.new-making.ensures.uses;
   acyclic = none_at_start c.args.names.now c.args.sources.now c.args.texts.now c.deref-step-items.result.now;
@@ -32,7 +32,7 @@ loop-step-init c = record {
 
 pub loop-step-preserved : goal.loop-step-preserved
 loop-step-preserved c = record {
-  taken = taken_more c.args.names.now c.args.sources.now c.args.texts.now c.deref-step-items.result.now c.loop-step.step-index _ c.loop-step-test.true c.loop-step.invariant.taken c.in_ok-take.ensures.taken;
+  taken = taken_more c.args.names.now c.args.sources.now c.args.texts.now c.deref-step-items.result.now c.loop-step.step-index _ c.loop-step-test.true c.loop-step.invariant.taken (c.in_ok-take.ensures.taken _ c.loop-step.invariant.names);
   names = subst (Knows c.take.new.making.names) (steps_more said_in c.args.sources.now c.args.texts.now c.deref-step-items.result.now c.loop-step.step-index _ c.loop-step-test.true) (c.in_ok-take.ensures.names _ c.loop-step.invariant.names);
   seen = step_follows c.args.names.now c.args.sources.now c.args.texts.now c.deref-step-items.result.now c.loop-step.step-index _ c.loop-step-test.true c.loop-step.making c.take.new.making c.loop-step.invariant.seen c.in_ok-take.ensures.uses;
   acyclic = step_none c.args.names.now c.args.sources.now c.args.texts.now c.deref-step-items.result.now c.loop-step.step-index _ c.loop-step-test.true c.loop-step.invariant.acyclic (c.in_ok-take.ensures.acyclic _ c.loop-step.invariant.seen);
@@ -46,14 +46,14 @@ returns-in_err-take-clause-refused c =
     passed_up c.from_residual-in_err-take.result e (IsRefusal c.args.names.now c.args.sources.now c.args.texts.now c.args.root) c.from_residual-in_err-take.ensures.1
     (step_at_fault c.args.names.now c.args.sources.now c.args.texts.now c.args.root steps c.deref-step-items.result.now c.loop-step.step-index _ e c.deref-step-items.ensures.value
     (free_steps c.args.names.now c.args.sources.now c.args.texts.now c.args.root (map (λ out. out.items) c.in_ok-ways.ways.ways.items) steps c.as_slice.result.now c.in_ok-ways.ensures c.as_slice.ensures.value c.in_ok-steps.ensures c.in_ok-check_circles.ensures.none)
-    c.loop-step-test.true c.loop-step.invariant.taken c.in_err-take.ensures.refused)
+    c.loop-step-test.true c.loop-step.invariant.taken (c.in_err-take.ensures.refused _ c.loop-step.invariant.names))
 
 pub returns-clause-accepted : goal.returns-clause-accepted
 returns-clause-accepted c = record {
   steps = c.in_ok-steps.steps.items;
   loaded = free_steps c.args.names.now c.args.sources.now c.args.texts.now c.args.root (map (λ out. out.items) c.in_ok-ways.ways.ways.items) c.in_ok-steps.steps.items c.as_slice.result.now c.in_ok-ways.ensures c.as_slice.ensures.value c.in_ok-steps.ensures c.in_ok-check_circles.ensures.none;
   taken = all_taken c.args.names.now c.args.sources.now c.args.texts.now c.in_ok-steps.steps.items c.deref-step-items.result.now c.loop-step.step-index c.deref-step-items.ensures.value c.loop-step-test.false c.loop-step.invariant.taken;
-  kinds_are = c.in_ok-signature.ensures.kinds ∙ ap (numbered 0) (c.loop-step.invariant.names.kinds ∙ ap (λ said. kinds_among (declared_names said)) (all_steps_said said_in c.args.sources.now c.args.texts.now c.in_ok-steps.steps.items c.deref-step-items.result.now c.loop-step.step-index c.deref-step-items.ensures.value c.loop-step-test.false));
+  kinds_are = c.in_ok-signature.ensures.kinds ∙ ap (numbered 8) (c.loop-step.invariant.names.kinds ∙ ap (λ said. kinds_among (declared_names said)) (all_steps_said said_in c.args.sources.now c.args.texts.now c.in_ok-steps.steps.items c.deref-step-items.result.now c.loop-step.step-index c.deref-step-items.ensures.value c.loop-step-test.false));
   fixities_are = ap (λ v. map fixity_row v.items) c.in_ok-signature.ensures.fixities ∙ c.loop-step.invariant.operators.rows ∙ ap (firsts []) (all_steps_said fixities_in c.args.sources.now c.args.texts.now c.in_ok-steps.steps.items c.deref-step-items.result.now c.loop-step.step-index c.deref-step-items.ensures.value c.loop-step-test.false);
 }
 

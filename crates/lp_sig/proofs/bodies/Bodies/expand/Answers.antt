@@ -1,12 +1,34 @@
 use Rattle.std.proofs.Common.{[], subst, ap, ◌∙◌, ◌≡◌, get_or, length, ◌<◌}
 use Rattle.lp_sig.specs.Refusals.{IsFaultOf, typed, words_of}
 use Rattle.lp_sig.proofs.Blame.{one_of_two, fault_among}
+use Rattle.lp_sig.proofs.Wording.{finds_nothing, finds_more, finds_all, first_found, nothing_found}
 use Rattle.lp_sig.proofs.bodies.Bodies.expand.Goals as goal
+
+pub loop-node-init : goal.loop-node-init
+loop-node-init c = record { among = tt; found = λ said vs k h. finds_nothing c.args.source.now said vs; held = λ vs h. h }
 
 pub loop-node-preserved : goal.loop-node-preserved
 loop-node-preserved c =
     let same = c.deref-node-items.ensures.value in
-    let h : c.loop-node.node-index < length c.args.raw.now.nodes.items = subst (λ l. c.loop-node.node-index < length l) same c.loop-node-test.true in
-    let at : c.node-item.result ≡ get_or c.args.raw.now.nodes.items c.loop-node.node-index c.node-item.result = c.node-item.is ∙ ap (λ l. get_or l c.loop-node.node-index c.node-item.result) same in
-    one_of_two (IsFaultOf c.args.source.now (typed [] (words_of c.args.raw.now.nodes.items)) ⊥) c.loop-node.fault c.in_ok-found.found c.earlier-fault.result c.earlier-fault.ensures c.loop-node.invariant
-    (fault_among c.args.source.now c.args.raw.now.nodes.items c.loop-node.node-index c.node-item.result c.in_ok-found.found h at c.in_ok-found.ensures)
+    let i = c.loop-node.node-index in
+    let h : i < length c.args.raw.now.nodes.items = subst (λ l. i < length l) same c.loop-node-test.true in
+    let at : c.node-item.result ≡ get_or c.args.raw.now.nodes.items i c.node-item.result = c.node-item.is ∙ ap (λ l. get_or l i c.node-item.result) same in
+    record {
+      among = one_of_two (IsFaultOf c.args.source.now (typed [] (words_of c.args.raw.now.nodes.items)) ⊥) c.loop-node.fault c.in_ok-found.found c.earlier-fault.result c.earlier-fault.ensures.one c.loop-node.invariant.among
+          (fault_among c.args.source.now c.args.raw.now.nodes.items i c.node-item.result c.in_ok-found.found h at c.in_ok-found.ensures.among);
+      found = λ said vs k g. finds_more c.args.source.now said vs c.args.raw.now.nodes.items c.deref-node-items.result.now i c.node-item.result c.loop-node.fault c.in_ok-found.found c.earlier-fault.result same c.loop-node-test.true c.node-item.is
+          (c.loop-node.invariant.found said vs k g) (c.in_ok-found.ensures.fault said vs k (c.loop-node.invariant.held vs g)) c.earlier-fault.ensures.is;
+      held = λ vs g. c.expand_node.ensures.held vs (c.loop-node.invariant.held vs g);
+    }
+
+pub returns-in-Some-clause-first : goal.returns-in-Some-clause-first
+returns-in-Some-clause-first c = λ said vs k h.
+    let nodes = c.args.raw.now.nodes.items in
+    first_found c.args.source.now said vs nodes c.loop-node.fault c.in-Some.field-0-0 c.in-Some.first c.in-Some.is
+    (finds_all c.args.source.now said vs nodes c.deref-node-items.result.now c.loop-node.node-index c.loop-node.fault c.deref-node-items.ensures.value c.loop-node-test.false (c.loop-node.invariant.found said vs k h))
+
+pub returns-clause-stand : goal.returns-clause-stand
+returns-clause-stand c = λ said vs k h.
+    let nodes = c.args.raw.now.nodes.items in
+    nothing_found c.args.source.now said vs nodes c.loop-node.fault c.in_default.is
+    (finds_all c.args.source.now said vs nodes c.deref-node-items.result.now c.loop-node.node-index c.loop-node.fault c.deref-node-items.ensures.value c.loop-node-test.false (c.loop-node.invariant.found said vs k h))

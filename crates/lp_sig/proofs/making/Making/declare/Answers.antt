@@ -2,7 +2,7 @@ use Rattle.std.proofs.Common.{◌≡◌, ◌<◌, ◌≤◌, ◌++◌, map, leng
 use Rattle.lp_sig.specs.Refusals.{IsFaultIn}
 use Rattle.lp_sig.specs.Said.{said_in, fixities_in}
 use Rattle.lp_sig.specs.Knowing.{Knows, KnowsOperators}
-use Rattle.lp_sig.proofs.Blame.{passed_up, line_at_fault, within_more, within_all, nothing_within}
+use Rattle.lp_sig.proofs.Blame.{passed_up, line_at_fault, within_more, within_all, nothing_within, nothing_sound, sound_more, sound_all}
 use Rattle.lp_sig.specs.Abbreviations.{seen_text, KnowsUses, IsFirstCyclic, sentences_in}
 use Rattle.lp_sig.proofs.Cycles.{Blames, none_yet, one_more, none_of_text, first_of_text}
 use Rattle.lp_sig.proofs.Spoken.{fixities_more}
@@ -11,6 +11,7 @@ use Rattle.lp_sig.proofs.making.Making.declare.Goals as goal
 pub loop-declaration-init : goal.loop-declaration-init
 loop-declaration-init c = record {
   within = nothing_within c.args.source.now c.args.text.now.lines.items;
+  sound = λ said k. nothing_sound c.args.source.now (said ++ said_in c.args.source.now c.args.text.now.lines.items) c.args.text.now.lines.items;
   names = c.in_ok-announce.ensures.names;
   uses = λ z k u. c.in_ok-note.ensures z (c.in_ok-announce.ensures.names z.said k) (subst (λ y. KnowsUses (map (λ out. out.items) y.ways.items) z) (sym c.announce.ensures.uses) u);
   acyclic = λ z k u. none_yet z c.args.source.now c.args.text.now.lines.items;
@@ -18,9 +19,11 @@ loop-declaration-init c = record {
 }
 
 pub returns-in_err-declare_line-clause-refused : goal.returns-in_err-declare_line-clause-refused
-returns-in_err-declare_line-clause-refused c =
-    passed_up c.from_residual-in_err-declare_line.result c.in_err-declare_line.field-0.0 (IsFaultIn c.args.source.now c.args.text.now.lines.items) c.from_residual-in_err-declare_line.ensures.1
-    (line_at_fault c.args.source.now c.args.text.now.lines.items c.deref-declaration-items.result.now c.loop-declaration.declaration-index c.declaration-item.result c.in_err-declare_line.field-0.0 c.deref-declaration-items.ensures.value c.loop-declaration-test.true c.declaration-item.is c.loop-declaration.invariant.within c.in_err-declare_line.ensures.refused)
+returns-in_err-declare_line-clause-refused c = λ said k.
+    let all = said ++ said_in c.args.source.now c.args.text.now.lines.items in
+    passed_up c.from_residual-in_err-declare_line.result c.in_err-declare_line.field-0.0 (IsFaultIn c.args.source.now all c.args.text.now.lines.items) c.from_residual-in_err-declare_line.ensures.1
+    (line_at_fault c.args.source.now all c.args.text.now.lines.items c.deref-declaration-items.result.now c.loop-declaration.declaration-index c.declaration-item.result c.in_err-declare_line.field-0.0 c.deref-declaration-items.ensures.value c.loop-declaration-test.true c.declaration-item.is c.loop-declaration.invariant.within (c.loop-declaration.invariant.sound said k) c.in_err-declare_line.ensures.refused
+    (c.in_err-declare_line.ensures.why all (c.loop-declaration.invariant.names said k)))
 
 pub loop-declaration-preserved : goal.loop-declaration-preserved
 loop-declaration-preserved c =
@@ -31,6 +34,8 @@ loop-declaration-preserved c =
     let at : c.declaration-item.result ≡ get_or lines i c.declaration-item.result = c.declaration-item.is ∙ ap (λ l. get_or l i c.declaration-item.result) same in
     record {
       within = within_more c.args.source.now lines c.deref-declaration-items.result.now i c.declaration-item.result same c.loop-declaration-test.true c.declaration-item.is c.loop-declaration.invariant.within c.in_ok-declare_line.ensures.taken;
+      sound = λ said k. sound_more c.args.source.now (said ++ said_in c.args.source.now lines) lines c.deref-declaration-items.result.now i c.declaration-item.result same c.loop-declaration-test.true c.declaration-item.is (c.loop-declaration.invariant.sound said k)
+          (c.in_ok-declare_line.ensures.sound (said ++ said_in c.args.source.now lines) (c.loop-declaration.invariant.names said k));
       names = λ said k. subst (λ n. Knows n (said ++ said_in c.args.source.now lines)) (sym c.declare_line.ensures.names) (c.loop-declaration.invariant.names said k);
       uses = λ z k u. subst (λ y. KnowsUses (map (λ out. out.items) y.ways.items) (seen_text z c.args.source.now lines)) (sym c.declare_line.ensures.uses) (c.loop-declaration.invariant.uses z k u);
       acyclic = λ z k u. one_more z c.args.source.now lines i c.declaration-item.result h at (c.loop-declaration.invariant.acyclic z k u)
@@ -41,6 +46,10 @@ loop-declaration-preserved c =
 
 pub returns-clause-taken : goal.returns-clause-taken
 returns-clause-taken c = within_all c.args.source.now c.args.text.now.lines.items c.deref-declaration-items.result.now c.loop-declaration.declaration-index c.deref-declaration-items.ensures.value c.loop-declaration-test.false c.loop-declaration.invariant.within
+
+pub returns-clause-sound : goal.returns-clause-sound
+returns-clause-sound c = λ said k. sound_all c.args.source.now (said ++ said_in c.args.source.now c.args.text.now.lines.items) c.args.text.now.lines.items c.deref-declaration-items.result.now c.loop-declaration.declaration-index c.deref-declaration-items.ensures.value c.loop-declaration-test.false
+    (c.loop-declaration.invariant.sound said k)
 
 pub returns-clause-names : goal.returns-clause-names
 returns-clause-names c = c.loop-declaration.invariant.names

@@ -1,6 +1,8 @@
 use Rattle.std.proofs.Common.{ap, map, subst, sym, refl, ◌<◌, length}
 use Rattle.std.specs.Prelude.{IfErr, IfOk, ◌≤◌}
 use Rattle.lp_sig.specs.Limits.{IsShort, AreShort, AreApart, IsWithin}
+use Rattle.lp_sig.specs.Said.{a_kind}
+use Rattle.lp_sig.specs.Words.{IsSentenceFault, IsKindsFault, IsConstantsFault, IsAbbreviationFault, IsSound, AreMeant, AreNumbered, IsHead, WordsStand, parameters_of}
 use Rattle.lp_sig.specs.Refusals.{IsFaultOf, named, typed, headed, words_of, parts_of, HasManyArguments}
 use Rattle.lp_sig.specs.Knowing.{Knows}
 use Rattle.lp_sig.specs.Abbreviations.{KnowsUses, IsCyclic, sentence}
@@ -65,6 +67,35 @@ pub returns-in_ok-declare_all-in-Fixities-clause-operators : goal.returns-in_ok-
 returns-in_ok-declare_all-in-Fixities-clause-operators c = λ said k.
     its_fixities c.declare_all.new.self c.args.source.now c.args.declaration.now c.in-Fixities.names c.as_slice-in-Fixities.result.now c.in-Fixities.fixity c.in-Fixities.number c.in-Fixities.is c.as_slice-in-Fixities.ensures.value said
     (c.in_ok-declare_all-in-Fixities.ensures said k)
+
+pub returns-in-Kinds-clause-why : goal.returns-in-Kinds-clause-why
+returns-in-Kinds-clause-why c = λ said k.
+    subst (λ d. IfErr c.declare_kinds.result (IsSentenceFault c.args.source.now said d)) (sym c.in-Kinds.is)
+    (subst (λ ns. IfErr c.declare_kinds.result (IsKindsFault c.args.source.now said ns c.in-Kinds.arity)) c.as_slice.ensures.value (c.declare_kinds.ensures.why said k))
+
+pub returns-in-Constants-clause-why : goal.returns-in-Constants-clause-why
+returns-in-Constants-clause-why c = λ said k.
+    subst (λ d. IfErr c.declare_constants.result (IsSentenceFault c.args.source.now said d)) (sym c.in-Constants.is)
+    (subst (λ ns. IfErr c.declare_constants.result (IsConstantsFault c.args.source.now said ns c.in-Constants.raw)) c.as_slice-in-Constants.ensures.value (c.declare_constants.ensures.why said k))
+
+pub returns-in-Abbreviation-clause-why : goal.returns-in-Abbreviation-clause-why
+returns-in-Abbreviation-clause-why c = λ said k.
+    subst (λ d. IfErr c.declare_abbreviation.result (IsSentenceFault c.args.source.now said d)) (sym c.in-Abbreviation.is)
+    (subst (λ ps. IfErr c.declare_abbreviation.result (IsAbbreviationFault c.args.source.now said c.in-Abbreviation.name ps c.in-Abbreviation.raw.nodes.items)) c.as_slice-in-Abbreviation.ensures.value (c.declare_abbreviation.ensures.why said k))
+
+pub returns-in-Kinds-clause-sound : goal.returns-in-Kinds-clause-sound
+returns-in-Kinds-clause-sound c = λ said k.
+    subst (λ d. IfOk c.declare_kinds.result (λ done. IsSound c.args.source.now said d)) (sym c.in-Kinds.is)
+    (subst (λ ns. IfOk c.declare_kinds.result (λ done. AreMeant c.args.source.now said (a_kind c.in-Kinds.arity) ns × AreNumbered c.args.source.now said ns)) c.as_slice.ensures.value (c.declare_kinds.ensures.meant said k))
+
+pub returns-in-Constants-clause-sound : goal.returns-in-Constants-clause-sound
+returns-in-Constants-clause-sound c = λ said k. subst (λ d. IfOk c.declare_constants.result (λ done. IsSound c.args.source.now said d)) (sym c.in-Constants.is) (c.declare_constants.ensures.stand said k)
+
+pub returns-in-Abbreviation-clause-sound : goal.returns-in-Abbreviation-clause-sound
+returns-in-Abbreviation-clause-sound c = λ said k.
+    subst (λ d. IfOk c.declare_abbreviation.result (λ done. IsSound c.args.source.now said d)) (sym c.in-Abbreviation.is)
+    (subst (λ ps. IfOk c.declare_abbreviation.result (λ done. IsHead c.args.source.now said c.in-Abbreviation.name ps × WordsStand c.args.source.now said (parameters_of c.args.source.now ps) c.in-Abbreviation.raw.nodes.items)) c.as_slice-in-Abbreviation.ensures.value
+    (c.declare_abbreviation.ensures.stand said k))
 
 pub returns-in-Kinds-clause-cyclic : goal.returns-in-Kinds-clause-cyclic
 returns-in-Kinds-clause-cyclic c = err_blames c.declare_kinds.result c.args.source.now (named c.as_slice.result.now) (255 < c.in-Kinds.arity) (λ z. Knows c.args.self.now.names z.said) (KnowsUses (map (λ out. out.items) c.args.self.now.uses.ways.items)) (λ z s. IsCyclic (sentence z c.args.source.now c.args.declaration.now) s) refl c.declare_kinds.ensures.refused

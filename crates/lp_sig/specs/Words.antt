@@ -1,0 +1,183 @@
+-- What names and words mean, and the faults of a sentence by them, under all that is said up to the end of its text.
+use Rattle.std.specs.Prelude.{◌≡◌, ◌≢◌, ◌≤◌, ◌<◌, ℕ, suc, nat_eq, nat_le, List, ◌++◌, Option, Some, None, Bool, true, map, take, length, All, Contains, if◌then◌else◌, is_some, option_map, IfSome, slice_index_or}
+use Rattle.lp_base.specs.declared.limit.Limit.TheVariants as limit
+use Rattle.lp_base.specs.declared.place.Spot.{Spot}
+use Rattle.lp_syntax.specs.declared.text.Declaration.{Declaration}
+use Rattle.lp_syntax.specs.declared.text.Declaration.TheVariants.{Kinds, LocalKinds, Constants, Locals, Abbreviation, Accumulate, AccumSig, Fixities}
+use Rattle.lp_syntax.specs.declared.text.RawType.{RawType}
+use Rattle.lp_syntax.specs.declared.text.RawTypeNode.{RawTypeNode}
+use Rattle.lp_syntax.specs.declared.text.RawTypeNode.TheVariants.{Word, Arrow}
+use Rattle.lp_sig.specs.Pieces.{spelled, begins_variable}
+use Rattle.lp_sig.specs.Rows.{Row, found}
+use Rattle.lp_sig.specs.Standard.{standard_kinds}
+use Rattle.lp_sig.specs.Said.{Said, a_kind, an_abbreviation, is_among, numbered, kinds_among, declared_names}
+use Rattle.lp_sig.specs.Limits.{IsShort, AreShort, AreApart, IsRepeated}
+use Rattle.lp_sig.specs.declared.fault.SigFault.{SigFault}
+use Rattle.lp_sig.specs.declared.fault.SigFault.TheVariants as fault
+
+abbrev pub standard_said : List (Row Said)
+standard_said = map (λ r. (r.0, a_kind r.1.1)) standard_kinds
+
+-- what a name means: the first thing that is said of it, behind the standard names
+unfoldable pub meaning_of : List ℕ → List (Row Said) → Option Said
+meaning_of name said = found name (standard_said ++ said)
+
+-- how many arguments a word stands on
+abbrev pub counted : Said → ℕ
+counted (a_kind c) = c
+counted (an_abbreviation p) = p
+
+-- the variables that may stand in a type: all in a declared type, the parameters in the body of an abbreviation
+abbrev pub may_stand : Option (List (List ℕ)) → List ℕ → Bool
+may_stand None v = true
+may_stand (Some ps) v = is_among v ps
+
+-- a word on so many arguments, by what it means
+abbrev pub on_count : Spot → ℕ → Said → Option SigFault
+on_count s n m = if nat_eq n (counted m) then None else Some (fault.Arity s)
+
+abbrev pub by_meaning : Spot → ℕ → Option Said → Option SigFault
+by_meaning s n None = Some (fault.UnknownKind s)
+by_meaning s n (Some m) = on_count s n m
+
+-- the fault of a word on so many arguments: a variable that may not stand there, a name that is no kind and no abbreviation,
+-- and one that stands on another number of arguments
+unfoldable pub fault_of_word : List ℕ → List (Row Said) → Option (List (List ℕ)) → Spot → ℕ → Option SigFault
+fault_of_word text said variables s n =
+    if begins_variable (spelled text s) then (if may_stand variables (spelled text s) then None else Some (fault.UnknownKind s))
+    else by_meaning s n (meaning_of (spelled text s) said)
+
+abbrev pub word_fault : List ℕ → List (Row Said) → Option (List (List ℕ)) → RawTypeNode → Option SigFault
+word_fault text said variables (Word s args) = fault_of_word text said variables s (length args.items)
+word_fault text said variables (Arrow a b) = None
+
+-- the earlier of two faults with their places
+abbrev pub earlier_of : Option (ℕ × SigFault) → Option (ℕ × SigFault) → Option (ℕ × SigFault)
+earlier_of None b = b
+earlier_of (Some a) None = Some a
+earlier_of (Some a) (Some b) = if nat_le a.0 b.0 then Some a else Some b
+
+-- where a word begins
+abbrev pub beginning : RawTypeNode → ℕ
+beginning (Word s args) = s.from
+beginning (Arrow a b) = 0
+
+-- no word of a type has a fault
+abbrev pub WordsStand : List ℕ → List (Row Said) → Option (List (List ℕ)) → List RawTypeNode → Type 0
+WordsStand text said variables nodes = (n : RawTypeNode) → Contains nodes n → word_fault text said variables n ≡ None
+
+-- the fault of the first word of a type, in text order, that has one
+pub record IsFirstFault (text : List ℕ) (said : List (Row Said)) (variables : Option (List (List ℕ))) (nodes : List RawTypeNode) (e : SigFault) : Type 0 where
+  pub node : RawTypeNode
+  pub among : Contains nodes node
+  pub is : word_fault text said variables node ≡ Some e
+  pub first : (n : RawTypeNode) → Contains nodes n → is_some (word_fault text said variables n) ≡ true → beginning node ≤ beginning n
+
+-- a name is short, and means what is said of it here
+abbrev pub IsMeant : List ℕ → List (Row Said) → Said → Spot → Type 0
+IsMeant text said m s = IsShort text s × (meaning_of (spelled text s) said ≡ Some m)
+
+abbrev pub AreMeant : List ℕ → List (Row Said) → Said → List Spot → Type 0
+AreMeant text said m names = All (IsMeant text said m) names
+
+-- the number of a declared kind, from 8 on in the order of declaration, is below 65535
+unfoldable pub number_said : List ℕ → List (Row Said) → Option ℕ
+number_said name said = option_map (λ r. r.0) (found name (numbered 8 (kinds_among (declared_names said))))
+
+abbrev pub IsNumbered : List ℕ → List (Row Said) → Spot → Type 0
+IsNumbered text said s = IfSome (number_said (spelled text s) said) (λ n. n < 65535)
+
+abbrev pub AreNumbered : List ℕ → List (Row Said) → List Spot → Type 0
+AreNumbered text said names = All (IsNumbered text said) names
+
+-- why a name is refused: it is long, or it means something else than what is said of it here, or there are too many names
+pub data IsNameFault (text : List ℕ) (said : List (Row Said)) (m : Said) (s : Spot) : SigFault → Type 0 where
+  long : {e : SigFault} → e ≡ fault.Limit limit.NameLength → 255 < length (spelled text s) → IsNameFault text said m s e
+  other : {e : SigFault} → e ≡ fault.Differ s → IsShort text s → meaning_of (spelled text s) said ≢ Some m → IsNameFault text said m s e
+  many : {e : SigFault} → e ≡ fault.Limit limit.Names → IsMeant text said m s → (n : ℕ) → number_said (spelled text s) said ≡ Some n → 65535 ≤ n → IsNameFault text said m s e
+  memory : {e : SigFault} → e ≡ fault.Memory → IsNameFault text said m s e
+
+-- the first of these names that is refused
+pub record IsFirstName (text : List ℕ) (said : List (Row Said)) (m : Said) (names : List Spot) (e : SigFault) : Type 0 where
+  pub k : ℕ
+  pub name : Spot
+  pub inside : k < length names
+  pub at_name : slice_index_or names k name ≡ name
+  pub refused : IsNameFault text said m name e
+  pub before : AreMeant text said m (take k names)
+  pub numbered_before : AreNumbered text said (take k names)
+
+-- why a sentence of kinds is refused: one of its names, then its count of arguments
+pub data IsKindsFault (text : List ℕ) (said : List (Row Said)) (names : List Spot) (n : ℕ) : SigFault → Type 0 where
+  a_name : {e : SigFault} → IsFirstName text said (a_kind n) names e → IsKindsFault text said names n e
+  arguments : {e : SigFault} → e ≡ fault.Limit limit.Arguments → AreMeant text said (a_kind n) names → AreNumbered text said names → 255 < n → IsKindsFault text said names n e
+
+-- a type as written has so many arguments, or more
+pub data HasArguments (nodes : List RawTypeNode) : ℕ → ℕ → Type 0 where
+  no_more : {at n : ℕ} → n ≡ 0 → HasArguments nodes at n
+  one_more : {at n : ℕ} → (a b m : ℕ) → at < length nodes → slice_index_or nodes at (Arrow a b) ≡ Arrow a b → n ≡ suc m → HasArguments nodes b m → HasArguments nodes at n
+
+-- a type as written has more than 255 arguments
+abbrev pub IsLongType : List RawTypeNode → ℕ → Type 0
+IsLongType nodes root = (n : ℕ) × (255 < n) × HasArguments nodes root n
+
+-- a declared type has at most 255 arguments as written, and its words have no fault
+abbrev pub IsSoundType : List ℕ → List (Row Said) → RawType → Type 0
+IsSoundType text said ty = (IsLongType ty.nodes.items ty.root → ⊥) × WordsStand text said None ty.nodes.items
+
+-- why a declared type is refused: it has too many arguments, or a word has a fault, or it has too many arguments or type variables
+-- behind its abbreviations
+pub data IsTypeFault (text : List ℕ) (said : List (Row Said)) (ty : RawType) : SigFault → Type 0 where
+  written : {e : SigFault} → e ≡ fault.Limit limit.Arguments → IsLongType ty.nodes.items ty.root → IsTypeFault text said ty e
+  of_word : {e : SigFault} → (IsLongType ty.nodes.items ty.root → ⊥) → IsFirstFault text said None ty.nodes.items e → IsTypeFault text said ty e
+  replaced : {e : SigFault} → e ≡ fault.Limit limit.Arguments → IsSoundType text said ty → IsTypeFault text said ty e
+
+-- why a sentence of constants is refused: a long name goes first, then its type, then what the names are declared as
+pub data IsConstantsFault (text : List ℕ) (said : List (Row Said)) (names : List Spot) (ty : RawType) : SigFault → Type 0 where
+  long : {e : SigFault} → e ≡ fault.Limit limit.NameLength → (s : Spot) → Contains names s → 255 < length (spelled text s) → IsConstantsFault text said names ty e
+  a_type : {e : SigFault} → AreShort text names → IsTypeFault text said ty e → IsConstantsFault text said names ty e
+  other : {e : SigFault} → (s : Spot) → e ≡ fault.Differ s → Contains names s → IsSoundType text said ty → IsConstantsFault text said names ty e
+  many : {e : SigFault} → e ≡ fault.Limit limit.Names → IsSoundType text said ty → IsConstantsFault text said names ty e
+  memory : {e : SigFault} → e ≡ fault.Memory → IsConstantsFault text said names ty e
+
+-- an abbreviation's name means it, no parameter stands twice, and there are at most 255
+abbrev pub IsHead : List ℕ → List (Row Said) → Spot → List Spot → Type 0
+IsHead text said name ps = IsMeant text said (an_abbreviation (length ps)) name × AreApart text ps × (length ps ≤ 255)
+
+abbrev pub parameters_of : List ℕ → List Spot → Option (List (List ℕ))
+parameters_of text ps = Some (map (λ p. spelled text p) ps)
+
+-- why an abbreviation is refused: its name, then a circle, then a parameter that stands a second time, then their number, then a
+-- word of its body, then another body
+pub data IsAbbreviationFault (text : List ℕ) (said : List (Row Said)) (name : Spot) (ps : List Spot) (nodes : List RawTypeNode) : SigFault → Type 0 where
+  a_name : {e : SigFault} → IsNameFault text said (an_abbreviation (length ps)) name e → IsAbbreviationFault text said name ps nodes e
+  circle : {e : SigFault} → e ≡ fault.CyclicAbbreviation name → IsMeant text said (an_abbreviation (length ps)) name → IsAbbreviationFault text said name ps nodes e
+  repeated : {e : SigFault} → (s : Spot) → e ≡ fault.Differ s → IsMeant text said (an_abbreviation (length ps)) name → IsRepeated text ps s → IsAbbreviationFault text said name ps nodes e
+  arguments : {e : SigFault} → e ≡ fault.Limit limit.Arguments → IsMeant text said (an_abbreviation (length ps)) name → AreApart text ps → 255 < length ps → IsAbbreviationFault text said name ps nodes e
+  a_word : {e : SigFault} → IsHead text said name ps → IsFirstFault text said (parameters_of text ps) nodes e → IsAbbreviationFault text said name ps nodes e
+  other : {e : SigFault} → e ≡ fault.Differ name → IsHead text said name ps → WordsStand text said (parameters_of text ps) nodes → IsAbbreviationFault text said name ps nodes e
+  memory : {e : SigFault} → e ≡ fault.Memory → IsAbbreviationFault text said name ps nodes e
+
+-- why a sentence is refused, and what holds of one that is taken
+abbrev pub IsSentenceFault : List ℕ → List (Row Said) → Declaration → SigFault → Type 0
+IsSentenceFault text said (Kinds names n) e = IsKindsFault text said names.items n e
+IsSentenceFault text said (LocalKinds names n) e = e ≡ fault.Memory
+IsSentenceFault text said (Constants names ty) e = IsConstantsFault text said names.items ty e
+IsSentenceFault text said (Locals names ty) e = e ≡ fault.Memory
+IsSentenceFault text said (Abbreviation name ps ty) e = IsAbbreviationFault text said name ps.items ty.nodes.items e
+IsSentenceFault text said (Accumulate words) e = e ≡ fault.Memory
+IsSentenceFault text said (AccumSig words) e = e ≡ fault.Memory
+IsSentenceFault text said (Fixities names f n) e = e ≡ fault.Memory
+
+abbrev pub IsSound : List ℕ → List (Row Said) → Declaration → Type 0
+IsSound text said (Kinds names n) = AreMeant text said (a_kind n) names.items × AreNumbered text said names.items
+IsSound text said (LocalKinds names n) = Unit {0}
+IsSound text said (Constants names ty) = IsSoundType text said ty
+IsSound text said (Locals names ty) = Unit {0}
+IsSound text said (Abbreviation name ps ty) = IsHead text said name ps.items × WordsStand text said (parameters_of text ps.items) ty.nodes.items
+IsSound text said (Accumulate words) = Unit {0}
+IsSound text said (AccumSig words) = Unit {0}
+IsSound text said (Fixities names f n) = Unit {0}
+
+abbrev pub AreSound : List ℕ → List (Row Said) → List Declaration → Type 0
+AreSound text said lines = All (IsSound text said) lines
