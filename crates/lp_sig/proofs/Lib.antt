@@ -17,3 +17,4 @@ pub mod Judging
 pub mod LongTypes
 pub mod Abbreviating
 pub mod Cycles
+pub mod Copies

@@ -10,3 +10,4 @@ pub mod Said
 pub mod Words
 pub mod Knowing
 pub mod Abbreviations
+pub mod Copying

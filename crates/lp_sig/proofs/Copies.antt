@@ -1,0 +1,201 @@
+-- What is left of a copy falls: the parts of a type have fewer nodes than it.
+use Rattle.std.proofs.Common.{◌≡◌, ℕ, suc, ◌+◌, ◌*◌, ◌<◌, ◌≤◌, List, [], ◌∷◌, ◌++◌, length, map, reverse, refl, sym, ap, subst, ◌∙◌, arith}
+use Rattle.std.specs.Prelude.{All}
+use Rattle.std.proofs.lemmas.List.{reverse-append}
+use Rattle.std.proofs.lemmas.List.Elements.{All-head, All-tail}
+use Rattle.lp_calculus.specs.Types.{Ty, var, param, con, arrow, tys}
+use Rattle.lp_term.specs.Node.{TypeShape, con_node, arrow_node, TypeBelow}
+use Rattle.lp_term.specs.Nodes.{Nodes, Extends, type_tree, type_node_tree}
+use Rattle.lp_term.specs.declared.node.TypeId.{TypeId}
+use Rattle.lp_sig.specs.Copying.{type_size, type_sizes, total, cost, left, InRange, AreInRange}
+use Rattle.lp_sig.specs.declared.interned.Task.{Task}
+use Rattle.lp_sig.specs.declared.interned.Task.TheVariants.{Visit, Build}
+
+pub extends_itself : (b : Nodes) → Extends b b
+extends_itself b = record {
+  types_stay = λ i h. refl;
+  terms_stay = λ i h. refl;
+  more_types = omega arith;
+  more_terms = omega arith;
+  same_types = λ i h. refl;
+  same_terms = λ i h. refl;
+}
+
+pub extends_then : (a b c : Nodes) → Extends a b → Extends b c → Extends a c
+extends_then a b c x y =
+    let types = x.more_types in
+    let terms = x.more_terms in
+    let later_types = y.more_types in
+    let later_terms = y.more_terms in
+    record {
+      types_stay = λ i h. y.types_stay i (omega (arith, h, types)) ∙ x.types_stay i h;
+      terms_stay = λ i h. y.terms_stay i (omega (arith, h, terms)) ∙ x.terms_stay i h;
+      more_types = omega (arith, types, later_types);
+      more_terms = omega (arith, terms, later_terms);
+      same_types = λ i h. y.same_types i (omega (arith, h, types)) ∙ x.same_types i h;
+      same_terms = λ i h. y.same_terms i (omega (arith, h, terms)) ∙ x.same_terms i h;
+    }
+
+pub some_nodes : (t : Ty) → 0 < type_size t
+some_nodes (var i) = omega arith
+some_nodes (param k) = omega arith
+some_nodes (con c ts) = omega arith
+some_nodes (arrow a b) = omega arith
+
+total_append : (b : Nodes) (xs ys : List TypeId) → total b (xs ++ ys) ≡ total b xs + total b ys
+total_append b [] ys = omega arith
+total_append b (x ∷ xs) ys = let h = total_append b xs ys in omega (arith, h)
+
+total_reverse : (b : Nodes) (xs : List TypeId) → total b (reverse xs) ≡ total b xs
+total_reverse b [] = refl
+total_reverse b (x ∷ xs) =
+    let h = total_reverse b xs in
+    let e = ap (total b) (reverse-append (x ∷ []) xs) in
+    let f = total_append b (reverse xs) (x ∷ []) in
+    omega (arith, h, e, f)
+
+left_append : (b : Nodes) (xs ys : List Task) → left b (xs ++ ys) ≡ left b xs + left b ys
+left_append b [] ys = omega arith
+left_append b (x ∷ xs) ys = let h = left_append b xs ys in omega (arith, h)
+
+left_visits : (b : Nodes) (ids : List TypeId) → left b (map (λ t. Visit t) ids) ≡ 2 * total b ids
+left_visits b [] = omega arith
+left_visits b (t ∷ ts) = let h = left_visits b ts in omega (arith, h)
+
+in_range_both : (b : Nodes) (xs ys : List Task) → AreInRange b xs → AreInRange b ys → AreInRange b (xs ++ ys)
+in_range_both b [] ys h k = k
+in_range_both b (x ∷ xs) ys h k = (h.0, in_range_both b xs ys h.1 k)
+
+in_range_front : (b : Nodes) (xs ys : List Task) → AreInRange b (xs ++ ys) → AreInRange b xs
+in_range_front b [] ys h = tt
+in_range_front b (x ∷ xs) ys h = (h.0, in_range_front b xs ys h.1)
+
+in_range_last : (b : Nodes) (xs : List Task) (x : Task) → AreInRange b (xs ++ x ∷ []) → InRange b x
+in_range_last b [] x h = h.0
+in_range_last b (y ∷ ys) x h = in_range_last b ys x h.1
+
+AreBelow : ℕ → List TypeId → Type 0
+AreBelow n [] = Unit {0}
+AreBelow n (t ∷ ts) = (t.0 < n) × AreBelow n ts
+
+below : (n : ℕ) (ids : List TypeId) → All (λ t. t < n) (map (λ t. t.0) ids) → AreBelow n ids
+unfolding AreBelow
+below n [] h = tt
+below n (t ∷ ts) h = (All-head (λ t. t < n) t.0 (map (λ t. t.0) ts) h, below n ts (All-tail (λ t. t < n) t.0 (map (λ t. t.0) ts) h))
+
+below_both : (n : ℕ) (xs ys : List TypeId) → AreBelow n xs → AreBelow n ys → AreBelow n (xs ++ ys)
+unfolding AreBelow
+below_both n [] ys h k = k
+below_both n (x ∷ xs) ys h k = (h.0, below_both n xs ys h.1 k)
+
+below_reverse : (n : ℕ) (xs : List TypeId) → AreBelow n xs → AreBelow n (reverse xs)
+unfolding AreBelow
+below_reverse n [] h = tt
+below_reverse n (x ∷ xs) h = subst (AreBelow n) (sym (reverse-append (x ∷ []) xs)) (below_both n (reverse xs) (x ∷ []) (below_reverse n xs h.1) (h.0, tt))
+
+visits_in_range : (b : Nodes) (n : ℕ) (ids : List TypeId) → n ≤ length b.types → AreBelow n ids → AreInRange b (map (λ t. Visit t) ids)
+unfolding AreBelow
+visits_in_range b n [] l h = tt
+visits_in_range b n (t ∷ ts) l h = (let m = h.0 in omega (arith, m, l), visits_in_range b n ts l h.1)
+
+sizes_are : (b now : Nodes) (n : ℕ) (ids : List TypeId) → Extends b now → n ≤ length b.types → AreBelow n ids → type_sizes (tys (map (type_tree now) (map (λ t. t.0) ids))) ≡ total b ids
+unfolding AreBelow
+sizes_are b now n [] x l h = refl
+sizes_are b now n (t ∷ ts) x l h =
+    let m = h.0 in
+    let e = ap type_size (x.same_types t.0 (omega (arith, m, l))) in
+    let f = sizes_are b now n ts x l h.1 in
+    omega (arith, e, f)
+
+module _ (b now : Nodes) (id : ℕ) (shape : TypeShape) (x : Extends b now) (h : id < length b.types) (older : TypeBelow id shape) (tree : type_node_tree now shape ≡ type_tree now id) where
+  size_is : type_size (type_node_tree now shape) ≡ type_size (type_tree b id)
+  size_is = ap type_size (tree ∙ x.same_types id h)
+
+  con_parts : (k : ℕ) (ids : List TypeId) → shape ≡ con_node k (map (λ t. t.0) ids) → AreBelow id ids × (suc (total b ids) ≡ type_size (type_tree b id))
+  con_parts k ids is =
+      let p = below id ids (subst (TypeBelow id) is older) in
+      let s = sizes_are b now id ids x (omega (arith, h)) p in
+      let e = ap (λ s. type_size (type_node_tree now s)) is in
+      let g = size_is in
+      (p, omega (arith, s, e, g))
+
+  arrow_parts : (f t : TypeId) → shape ≡ arrow_node f.0 t.0 → (f.0 < id) × (t.0 < id) × (suc (type_size (type_tree b f.0) + type_size (type_tree b t.0)) ≡ type_size (type_tree b id))
+  arrow_parts f t is =
+      let p = subst (TypeBelow id) is older in
+      let l = p.0 in
+      let m = p.1 in
+      let c = ap type_size (x.same_types f.0 (omega (arith, h, l))) in
+      let d = ap type_size (x.same_types t.0 (omega (arith, h, m))) in
+      let e = ap (λ s. type_size (type_node_tree now s)) is in
+      let g = size_is in
+      (l, m, omega (arith, c, d, e, g))
+
+  -- the types that are met
+  pub con_met : (old new : List TypeId) (k : ℕ) (ids : List TypeId) → shape ≡ con_node k (map (λ t. t.0) ids) → new ≡ old ++ reverse ids → total b new < total b old + type_size (type_tree b id)
+  con_met old new k ids is more =
+      let p = con_parts k ids is in
+      let q = p.1 in
+      let e = ap (total b) more in
+      let f = total_append b old (reverse ids) in
+      let g = total_reverse b ids in
+      omega (arith, q, e, f, g)
+
+  pub arrow_met : (old mid new : List TypeId) (f t : TypeId) → shape ≡ arrow_node f.0 t.0 → mid ≡ old ++ t ∷ [] → new ≡ mid ++ f ∷ [] → total b new < total b old + type_size (type_tree b id)
+  arrow_met old mid new f t is one two =
+      let p = arrow_parts f t is in
+      let q = p.2 in
+      let d = ap (total b) one in
+      let e = ap (total b) two in
+      let g = total_append b old (t ∷ []) in
+      let i = total_append b mid (f ∷ []) in
+      omega (arith, q, d, e, g, i)
+
+  -- the tasks that come of a visit
+  pub con_visited : (old mid new : List Task) (k : ℕ) (t : TypeId) (ids : List TypeId) → shape ≡ con_node k (map (λ t. t.0) ids) → mid ≡ old ++ Build t ∷ [] → new ≡ mid ++ map (λ t. Visit t) (reverse ids) → AreInRange b old →
+      AreInRange b new × (left b new < left b old + 2 * type_size (type_tree b id))
+  con_visited old mid new k t ids is one two in_range =
+      let p = con_parts k ids is in
+      let q = p.1 in
+      let d = ap (left b) one in
+      let e = ap (left b) two in
+      let f = left_append b old (Build t ∷ []) in
+      let g = left_append b mid (map (λ t. Visit t) (reverse ids)) in
+      let i = left_visits b (reverse ids) in
+      let j = total_reverse b ids in (
+        subst (AreInRange b) (sym two) (in_range_both b mid (map (λ t. Visit t) (reverse ids)) (subst (AreInRange b) (sym one) (in_range_both b old (Build t ∷ []) in_range (tt, tt))) (visits_in_range b id (reverse ids) (omega (arith, h)) (below_reverse id ids p.0))),
+        omega (arith, q, d, e, f, g, i, j),
+      )
+
+  pub arrow_visited : (old one two new : List Task) (i f t : TypeId) → shape ≡ arrow_node f.0 t.0 → one ≡ old ++ Build i ∷ [] → two ≡ one ++ Visit t ∷ [] → new ≡ two ++ Visit f ∷ [] → AreInRange b old →
+      AreInRange b new × (left b new < left b old + 2 * type_size (type_tree b id))
+  arrow_visited old one two new i f t is first second third in_range =
+      let p = arrow_parts f t is in
+      let l = p.0 in
+      let m = p.1 in
+      let q = p.2 in
+      let c = ap (left b) first in
+      let d = ap (left b) second in
+      let e = ap (left b) third in
+      let g = left_append b old (Build i ∷ []) in
+      let j = left_append b one (Visit t ∷ []) in
+      let k = left_append b two (Visit f ∷ []) in (
+        subst (AreInRange b) (sym third) (in_range_both b two (Visit f ∷ []) (subst (AreInRange b) (sym second) (in_range_both b one (Visit t ∷ []) (subst (AreInRange b) (sym first) (in_range_both b old (Build i ∷ []) in_range (tt, tt))) (omega (arith, h, m), tt))) (omega (arith, h, l), tt)),
+        omega (arith, q, c, d, e, g, j, k),
+      )
+
+-- nothing more is to be done
+pub same_visited : (b : Nodes) (id : TypeId) (old : List Task) → AreInRange b old → AreInRange b old × (left b old < left b old + 2 * type_size (type_tree b id.0))
+same_visited b id old r = (r, let p = some_nodes (type_tree b id.0) in omega (arith, p))
+
+pub same_met : (b : Nodes) (id : TypeId) (old : List TypeId) → total b old < total b old + type_size (type_tree b id.0)
+same_met b id old = let p = some_nodes (type_tree b id.0) in omega (arith, p)
+
+-- one task is taken, and others come
+pub task_taken : (b : Nodes) (all old new : List Task) (t : Task) → all ≡ old ++ t ∷ [] → left b new < left b old + cost b t → left b new < left b all
+task_taken b all old new t off less = let e = ap (left b) off in let f = left_append b old (t ∷ []) in omega (arith, e, f, less)
+
+pub type_taken : (b : Nodes) (all old new : List TypeId) (t : TypeId) → all ≡ old ++ t ∷ [] → total b new < total b old + type_size (type_tree b t.0) → total b new < total b all
+type_taken b all old new t off less = let e = ap (total b) off in let f = total_append b old (t ∷ []) in omega (arith, e, f, less)
+
+pub rest_in_range : (b : Nodes) (all old : List Task) (t : Task) → all ≡ old ++ t ∷ [] → AreInRange b all → AreInRange b old × InRange b t
+rest_in_range b all old t off r = let s = subst (AreInRange b) off r in (in_range_front b old (t ∷ []) s, in_range_last b old t s)

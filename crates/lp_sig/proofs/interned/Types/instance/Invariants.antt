@@ -1,0 +1,12 @@
+use Rattle.lp_term.specs.Nodes.{Extends}
+use Rattle.lp_sig.specs.Copying.{left, AreInRange}
+use Rattle.lp_sig.proofs.interned.Types.instance.Given as goal
+
+abbrev pub invariant-tasks : goal.invariant-tasks
+invariant-tasks l = record {
+  kept : Extends l.fn.self.bank l.self.bank;
+  in_range : AreInRange l.fn.self.bank l.work.items;
+}
+
+abbrev pub decreases-tasks : goal.decreases-tasks
+decreases-tasks l = left l.fn.self.bank l.work.items
