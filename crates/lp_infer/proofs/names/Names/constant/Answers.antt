@@ -11,7 +11,7 @@ pub returns-then-is_some-clause-fault : goal.returns-then-is_some-clause-fault
 returns-then-is_some-clause-fault c =
     finds_none (λ s. (s ≡ c.args.spot) × IsNoConstant c.args.signature.now (spelled c.args.source.now s)) c.args.self.now.fault c.args.self.now.fault refl
     (λ s q. not_none c.constant.result (sym c.is_some.ensures ∙ c.if-is_some.true)
-        (c.constant.ensures ∙ ap (λ w. found w (standard_constants ++ map number_row c.args.signature.now.constants.items)) c.spelled_at.ensures ∙ ap (λ t. found (spelled c.args.source.now t) (standard_constants ++ map number_row c.args.signature.now.constants.items)) (sym q.0) ∙ q.1.undeclared))
+    (c.constant.ensures ∙ ap (λ w. found w (standard_constants ++ map number_row c.args.signature.now.constants.items)) c.spelled_at.ensures ∙ ap (λ t. found (spelled c.args.source.now t) (standard_constants ++ map number_row c.args.signature.now.constants.items)) (sym q.0) ∙ q.1.undeclared))
 
 pub returns-clause-fault : goal.returns-clause-fault
 returns-clause-fault c =

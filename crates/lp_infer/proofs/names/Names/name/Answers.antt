@@ -10,7 +10,7 @@ pub returns-then-is_some-clause-fault : goal.returns-then-is_some-clause-fault
 returns-then-is_some-clause-fault c =
     finds_none (λ s. (s ≡ c.args.spot) × (level_in c.args.self.now (spelled c.args.source.now s) ≡ None) × IsNoConstant c.args.signature.now (spelled c.args.source.now s)) c.args.self.now.fault c.args.self.now.fault refl
     (λ s q. not_none c.level.result (sym c.is_some.ensures ∙ c.if-is_some.true)
-        (c.level.ensures ∙ ap (level_in c.args.self.now) c.spelled_at-name.ensures ∙ ap (λ t. level_in c.args.self.now (spelled c.args.source.now t)) (sym q.0) ∙ q.1))
+    (c.level.ensures ∙ ap (level_in c.args.self.now) c.spelled_at-name.ensures ∙ ap (λ t. level_in c.args.self.now (spelled c.args.source.now t)) (sym q.0) ∙ q.1))
 
 pub returns-clause-fault : goal.returns-clause-fault
 returns-clause-fault c =
