@@ -13,6 +13,7 @@ use Rattle.lp_infer.specs.declared.fault.InferFault.TheVariants as fault
 abbrev pub IsDeclared : Signature → List ℕ → RawTerm → Type 0
 IsDeclared sig text raw = IsFirstUndeclared sig text raw.nodes.items raw.root None
 
+-- a first name that is not declared; or all are, and no well-typed formula leaves the text
 abbrev pub IsRefusal : Signature → List ℕ → RawTerm → InferFault → Type 0
 IsRefusal sig text raw (fault.Undeclared s) = IsFirstUndeclared sig text raw.nodes.items raw.root (Some s)
 IsRefusal sig text raw (fault.NoTyping s) = (s ≡ raw.first) × IsDeclared sig text raw × HasNoTextTyping sig text raw

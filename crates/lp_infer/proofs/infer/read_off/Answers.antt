@@ -1,4 +1,4 @@
-use Rattle.std.proofs.Common.{◌∙◌, sym, ap, subst, length, take, drop}
+use Rattle.std.proofs.Common.{arith, ◌∙◌, sym, ap, subst, length, take, drop}
 use Rattle.lp_infer.specs.Copies.{AreTypes, trees_of}
 use Rattle.lp_infer.specs.Filling.{fills, IsTerm}
 use Rattle.lp_infer.specs.ReadingOff.{bound_type, ReadsAll}
@@ -18,3 +18,6 @@ returns-clause-types c =
     subst (λ n. IsTerm c.formula.new.bank c.in_ok-formula.formula (fills S (drop n (trees_of c.read_all.new.to types))).0) c.new-terms.ensures.used
     (subst (λ l. IsTerm c.formula.new.bank c.in_ok-formula.formula (fills S (drop c.new-terms.result.used (trees_of c.read_all.new.to l))).0) c.as_slice-2.ensures.value (term S d τ e)))
     c.count.ensures
+
+pub returns-clause-stands : goal.returns-clause-stands
+returns-clause-stands c = record { formula = omega (arith, c.if-formula-term_count.false, c.term_count.ensures.count); types = c.in_ok-vars.ensures.known }
