@@ -3,6 +3,7 @@ pub mod ArgumentRuns
 pub mod BetaForms
 pub mod Compares
 pub mod Etas
+pub mod Fillings
 pub mod HeadTypes
 pub mod Judging
 pub mod Keeps
@@ -22,6 +23,8 @@ pub mod Sides
 pub mod Stacks
 pub mod Stripped
 pub mod Tops
+pub mod TypeRuns
+pub mod TypeSolving
 pub mod TopScans
 pub mod VisitSteps
 pub mod Verdicts

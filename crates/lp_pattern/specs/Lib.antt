@@ -1,4 +1,5 @@
 pub mod Comparing
+pub mod Filling
 pub mod Growing
 pub mod Reading
 pub mod Refusing

@@ -1,7 +1,10 @@
 // Types with all bindings put in.
-ghost use Rattle.std.specs.Prelude.{◌≡◌, ◌<◌, ℕ, length, IfOk};
-ghost use Rattle.lp_calculus.specs.Types.{Ty, instance};
+ghost use Rattle.std.specs.Prelude.{◌≡◌, ◌<◌, ◌++◌, ◌∷◌, [], ℕ, length, nat_eq, if◌then◌else◌, true, Some, None, All, IfOk, OnOk, IfSome};
+ghost use Rattle.indexmap.specs.IndexMap.{get};
+ghost use Rattle.lp_calculus.specs.Types.{Ty, instance, arrow};
 ghost use Rattle.lp_term.specs.Nodes.{Extends, type_tree};
+ghost use Rattle.lp_pattern.specs.Comparing.{IsLoose};
+ghost use Rattle.lp_pattern.specs.Filling.{IsFilled, AreFilled, IsFilledPart, AllFilled, IsOpen, HasParts};
 ghost use Rattle.lp_pattern.specs.Under.{AreTypes, IsUnbound};
 
 use crate::bindings::Bindings;
@@ -18,19 +21,27 @@ pub(crate) struct TypesFilled {
 }
 
 impl TypesFilled {
-    pub(crate) fn new(alloc: Global) -> TypesFilled {
+    pub(crate) fn new(alloc: Global) -> TypesFilled
+        ensures { (k : ℕ) → get nat_eq result.made k ≡ None }
+    {
         TypesFilled {
             made: IndexMap::new(alloc),
         }
     }
 
-    fn at(&self, id: TypeId) -> Option<TypeId> {
+    fn at(&self, id: TypeId) -> Option<TypeId>
+        ensures { result ≡ get nat_eq self.now.made id.0 }
+    {
         self.made.get(&id.0).copied()
     }
 
-    fn note(&mut self, id: TypeId, made: TypeId) -> Result<(), Memory> {
-        self.made.insert(id.0, made)?;
-        Ok(())
+    fn note(&mut self, id: TypeId, made: TypeId) -> Result<(), Memory>
+        ensures { OnOk result ((k : ℕ) → get nat_eq self.new.made k ≡ (if nat_eq id.0 k then Some made else get nat_eq self.old.made k)) }
+    {
+        match self.made.insert(id.0, made) {
+            Ok(_) => Ok(()),
+            Err(_) => Err(Memory),
+        }
     }
 }
 
@@ -56,21 +67,67 @@ pub(crate) fn resolved(bank: &Bank, bindings: &Bindings, id: TypeId) -> Result<T
     Err(Memory)
 }
 
+fn copied(alloc: Global, ids: &[TypeId]) -> Result<Vec<TypeId>, Memory>
+    ensures { IfOk result (λ list. list.items ≡ ids.now) }
+{
+    let mut list = Vec::new(alloc);
+    list.extend_from_slice(ids)?;
+    Ok(list)
+}
+
+fn two(alloc: Global, one: TypeId, other: TypeId) -> Result<Vec<TypeId>, Memory>
+    ensures { IfOk result (λ list. list.items ≡ one ∷ other ∷ []) }
+{
+    let mut list = Vec::new(alloc);
+    list.push(one)?;
+    list.push(other)?;
+    Ok(list)
+}
+
 // The parts of a type.
-fn parts_of(alloc: Global, bank: &Bank, id: TypeId) -> Result<Vec<TypeId>, Memory> {
-    let mut parts = Vec::new(alloc);
+fn parts_of(alloc: Global, bank: &Bank, id: TypeId) -> Result<Vec<TypeId>, Memory>
+    ensures { IfOk result (λ parts. HasParts bank.now (type_tree bank.now id.0) parts.items) }
+{
     if id.0 >= bank.type_count() {
         return Err(Memory);
     }
     match bank.type_node(id) {
-        TypeNode::Con(_, ids) => parts.extend_from_slice(ids)?,
-        TypeNode::Arrow(from, to) => {
-            parts.push(from)?;
-            parts.push(to)?;
-        }
-        _ => {}
+        TypeNode::Con(_, ids) => copied(alloc, ids),
+        TypeNode::Arrow(from, to) => two(alloc, from, to),
+        TypeNode::Var(_) => Ok(Vec::new(alloc)),
+        TypeNode::Param(_) => Ok(Vec::new(alloc)),
     }
-    Ok(parts)
+}
+
+// What a part has become; where it is not known yet it goes on the stack.
+fn known_part(
+    bank: &Bank,
+    bindings: &Bindings,
+    done: &TypesFilled,
+    part: TypeId,
+    left: &mut Vec<TypeId>,
+) -> Result<Option<TypeId>, Memory>
+    requires left { All (IsOpen bank.now bindings.now) left.old.items }
+    ensures left { OnOk result (All (IsOpen bank.now bindings.now) left.new.items) }
+    ensures made { IfOk result (λ o. IfSome o (λ t. (θ : ℕ → Ty) → AreTypes bank.now bindings.now θ → AreFilled bank.now θ done.now → IsFilledPart bank.now θ part t)) }
+{
+    let top = resolved(bank, bindings, part)?;
+    let Some(known) = done.at(top) else {
+        left.push(top)?;
+        return Ok(None);
+    };
+    Ok(Some(known))
+}
+
+// Puts what is known behind the others. Says whether all are known.
+fn put_known(known: Option<TypeId>, is_whole: bool, made: &mut Vec<TypeId>) -> Result<bool, Memory>
+    ensures { IfOk result (λ whole. whole ≡ true → (t : TypeId) × (is_whole ≡ true) × (known ≡ Some t) × (made.new.items ≡ made.old.items ++ t ∷ [])) }
+{
+    let Some(id) = known else {
+        return Ok(false);
+    };
+    made.push(id)?;
+    Ok(is_whole)
 }
 
 // What the parts have become; those that are not known yet go on the stack, and then there is nothing.
@@ -81,18 +138,16 @@ fn known_parts(
     done: &TypesFilled,
     parts: &[TypeId],
     left: &mut Vec<TypeId>,
-) -> Result<Option<Vec<TypeId>>, Memory> {
+) -> Result<Option<Vec<TypeId>>, Memory>
+    requires left { All (IsOpen bank.now bindings.now) left.old.items }
+    ensures left { OnOk result (All (IsOpen bank.now bindings.now) left.new.items) }
+    ensures made { IfOk result (λ o. IfSome o (λ made. (θ : ℕ → Ty) → AreTypes bank.now bindings.now θ → AreFilled bank.now θ done.now → AllFilled bank.now θ parts.now made.items)) }
+{
     let mut made = Vec::new(alloc);
     let mut is_whole = true;
     for part in parts.iter().copied() {
-        let top = resolved(bank, bindings, part)?;
-        match done.at(top) {
-            Some(known) => made.push(known)?,
-            None => {
-                is_whole = false;
-                left.push(top)?;
-            }
-        }
+        let known = known_part(bank, bindings, done, part, left)?;
+        is_whole = put_known(known, is_whole, &mut made)?;
     }
     if is_whole {
         return Ok(Some(made));
@@ -100,23 +155,49 @@ fn known_parts(
     Ok(None)
 }
 
+// The arrow on two types.
+fn put_parts(bank: &mut Bank, made: &[TypeId]) -> Result<TypeId, Memory>
+    ensures kept { Extends bank.old bank.new }
+    ensures within { IfOk result (λ t. t.0 < length bank.new.types) }
+    ensures tree { IfOk result (λ t. (u : TypeId) × (v : TypeId) × (made.now ≡ u ∷ v ∷ []) × (type_tree bank.new t.0 ≡ arrow (type_tree bank.old u.0) (type_tree bank.old v.0))) }
+{
+    if made.len() != 2 {
+        return Err(Memory);
+    }
+    put_arrow(bank, made[0], made[1])
+}
+
+// Whether two lists are the same.
+fn are_one(parts: &[TypeId], made: &[TypeId]) -> bool
+    ensures { result ≡ true → parts.now ≡ made.now }
+{
+    if parts.len() != made.len() {
+        return false;
+    }
+    for place in 0..parts.len() {
+        if parts[place].0 != made[place].0 {
+            return false;
+        }
+    }
+    true
+}
+
 // The type on these parts in the place of its own.
 fn rebuilt(bank: &mut Bank, id: TypeId, parts: &[TypeId], made: &[TypeId]) -> Result<TypeId, Memory>
     ensures kept { Extends bank.old bank.new }
+    ensures filled { IfOk result (λ t. (θ : ℕ → Ty) → IsLoose θ (type_tree bank.old id.0) → HasParts bank.old (type_tree bank.old id.0) parts.now → AllFilled bank.old θ parts.now made.now → IsFilled bank.new θ id.0 t) }
 {
     if id.0 >= bank.type_count() {
         return Err(Memory);
     }
-    if parts == made {
+    if are_one(parts, made) {
         return Ok(id);
     }
     match bank.type_node(id) {
         TypeNode::Con(number, _) => put_constructor(bank, number, made),
-        TypeNode::Arrow(_, _) => match made {
-            [from, to] => put_arrow(bank, *from, *to),
-            _ => Err(Memory),
-        },
-        _ => Ok(id),
+        TypeNode::Arrow(_, _) => put_parts(bank, made),
+        TypeNode::Var(_) => Ok(id),
+        TypeNode::Param(_) => Ok(id),
     }
 }
 
@@ -129,14 +210,19 @@ fn step(
     id: TypeId,
     left: &mut Vec<TypeId>,
 ) -> Result<(), Memory>
+    requires id { IsOpen bank.old bindings.now id }
+    requires left { All (IsOpen bank.old bindings.now) left.old.items }
     ensures kept { Extends bank.old bank.new }
+    ensures left { OnOk result (All (IsOpen bank.new bindings.now) left.new.items) }
+    ensures filled { OnOk result ((θ : ℕ → Ty) → AreTypes bank.old bindings.now θ → AreFilled bank.old θ done.old → AreFilled bank.new θ done.new) }
 {
     if done.at(id).is_some() {
         return Ok(());
     }
     let parts = parts_of(alloc, bank, id)?;
     left.push(id)?;
-    let Some(made) = known_parts(alloc, bank, bindings, done, parts.as_slice(), left)? else {
+    let made = known_parts(alloc, bank, bindings, done, parts.as_slice(), left)?;
+    let Some(made) = made else {
         return Ok(());
     };
     let new = rebuilt(bank, id, parts.as_slice(), made.as_slice())?;
@@ -144,14 +230,15 @@ fn step(
 }
 
 // Whether a type has no parts.
-fn is_leaf(bank: &Bank, id: TypeId) -> bool {
-    if id.0 >= bank.type_count() {
-        return true;
-    }
+fn is_leaf(bank: &Bank, id: TypeId) -> bool
+    requires { id.0 < length bank.now.types }
+    ensures { result ≡ true → (θ : ℕ → Ty) → IsLoose θ (type_tree bank.now id.0) → IsFilled bank.now θ id.0 id }
+{
     match bank.type_node(id) {
         TypeNode::Con(_, ids) => ids.is_empty(),
         TypeNode::Arrow(_, _) => false,
-        _ => true,
+        TypeNode::Var(_) => true,
+        TypeNode::Param(_) => true,
     }
 }
 
@@ -164,6 +251,9 @@ pub(crate) fn filled_in(
     id: TypeId,
 ) -> Result<TypeId, Memory>
     ensures kept { Extends bank.old bank.new }
+    ensures within { IfOk result (λ t. t.0 < length bank.new.types) }
+    ensures filled { IfOk result (λ t. (θ : ℕ → Ty) → AreTypes bank.old bindings.now θ → AreFilled bank.old θ done.old →
+        (type_tree bank.new t.0 ≡ instance θ (type_tree bank.old id.0)) × AreFilled bank.new θ done.new) }
 {
     let root = resolved(bank, bindings, id)?;
     if is_leaf(bank, root) {
@@ -173,10 +263,10 @@ pub(crate) fn filled_in(
     left.push(root)?;
     'types: for _ in 0..u64::MAX {
         let Some(top) = left.pop() else {
-            return match done.at(root) {
-                Some(made) => Ok(made),
-                None => Err(Memory),
+            let Some(made) = done.at(root) else {
+                return Err(Memory);
             };
+            return type_of(bank, made);
         };
         step(alloc, bank, bindings, done, top, &mut left)?;
     }
@@ -192,9 +282,9 @@ pub fn filled_type(
 ) -> Result<TypeId, TermRefusal>
     ensures kept { Extends bank.old bank.new }
     ensures within { IfOk result (λ of. of.0 < length bank.new.types) }
+    ensures filled { IfOk result (λ of. (θ : ℕ → Ty) → AreTypes bank.old bindings.now θ → type_tree bank.new of.0 ≡ instance θ (type_tree bank.old id.0)) }
 {
     let mut done = TypesFilled::new(alloc);
-    let made = filled_in(alloc, bank, bindings, &mut done, id)?;
-    let of = type_of(bank, made)?;
+    let of = filled_in(alloc, bank, bindings, &mut done, id)?;
     Ok(of)
 }

@@ -1,7 +1,8 @@
 // New nodes over parts that are tested to be in the bank.
 ghost use Rattle.std.specs.Prelude.{◌≡◌, ◌<◌, length, map, true, All, IfOk};
+ghost use Rattle.lp_calculus.specs.Types.{con, arrow, tys};
 ghost use Rattle.lp_calculus.specs.Term.{abs, app, apply, atom, eigen, index};
-ghost use Rattle.lp_term.specs.Nodes.{Extends, tree};
+ghost use Rattle.lp_term.specs.Nodes.{Extends, tree, type_tree};
 ghost use Rattle.lp_term.specs.Spine.{abstractions};
 
 use lp_base::Memory;
@@ -45,6 +46,7 @@ pub(crate) fn term_of(bank: &Bank, id: TermId) -> Result<TermId, Memory>
 // The type, if it is in the bank.
 pub(crate) fn type_of(bank: &Bank, id: TypeId) -> Result<TypeId, Memory>
     ensures within { IfOk result (λ of. of.0 < length bank.now.types) }
+    ensures same { IfOk result (λ of. of ≡ id) }
 {
     if id.0 >= bank.type_count() {
         return Err(Memory);
@@ -127,6 +129,8 @@ pub(crate) fn put_constructor(
     parts: &[TypeId],
 ) -> Result<TypeId, Memory>
     ensures kept { Extends bank.old bank.new }
+    ensures within { IfOk result (λ of. of.0 < length bank.new.types) }
+    ensures tree { IfOk result (λ of. type_tree bank.new of.0 ≡ con number (tys (map (type_tree bank.old) (map (λ t. t.0) parts.now)))) }
 {
     if !are_types(bank, parts) {
         return Err(Memory);
@@ -137,6 +141,8 @@ pub(crate) fn put_constructor(
 
 pub(crate) fn put_arrow(bank: &mut Bank, from: TypeId, to: TypeId) -> Result<TypeId, Memory>
     ensures kept { Extends bank.old bank.new }
+    ensures within { IfOk result (λ of. of.0 < length bank.new.types) }
+    ensures tree { IfOk result (λ of. type_tree bank.new of.0 ≡ arrow (type_tree bank.old from.0) (type_tree bank.old to.0)) }
 {
     if from.0 >= bank.type_count() || to.0 >= bank.type_count() {
         return Err(Memory);

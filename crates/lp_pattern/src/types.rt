@@ -1,14 +1,15 @@
 // Type equations, and the comparison of types, under bindings.
-ghost use Rattle.std.specs.Prelude.{◌≡◌, ◌<◌, ◌++◌, ℕ, length, reverse, true, All, IfOk, OnOk, IfErr};
-ghost use Rattle.lp_calculus.specs.Types.{Ty, instance};
+ghost use Rattle.std.specs.Prelude.{◌≡◌, ◌<◌, ◌++◌, [], ℕ, length, map, reverse, true, Some, All, IfOk, OnOk, IfErr};
+ghost use Rattle.lp_calculus.specs.Types.{Ty, var, instance};
 ghost use Rattle.lp_term.specs.Nodes.{Extends, type_tree};
-ghost use Rattle.lp_model.specs.Types.{same_top};
+ghost use Rattle.lp_model.specs.Types.{TypeOutcome, same_top, solve_types};
 ghost use Rattle.lp_model.specs.Rule.{compare_types};
 ghost use Rattle.lp_pattern.specs.Under.{AreTypes};
 ghost use Rattle.lp_pattern.specs.Reading.{paired, type_pairs_of};
 ghost use Rattle.lp_pattern.specs.Comparing.{IsLoose, HasSameTop, IsComparedTo, IsPassed};
+ghost use Rattle.lp_pattern.specs.Filling.{equation_of, IsSolvedIn, IsUnsolvedIn};
 ghost use Rattle.lp_pattern.specs.Growing.{Grows};
-ghost use Rattle.lp_equations.specs.Reading.{IsPair};
+ghost use Rattle.lp_equations.specs.Reading.{IsPair, read_pairs};
 
 use crate::bindings::Bindings;
 use crate::fault::PatternRefusal;
@@ -38,14 +39,23 @@ fn filled_pairs(
     pairs: &[(TypeId, TypeId)],
 ) -> Result<Vec<Pair>, Memory>
     ensures kept { Extends bank.old bank.new }
+    ensures filled { IfOk result (λ filled. (θ : ℕ → Ty) → AreTypes bank.old bindings.now θ → read_pairs (type_tree bank.new) var filled.items ≡ map equation_of (type_pairs_of bank.old θ pairs.now)) }
 {
+    let known = bank.type_count();
     let mut done = TypesFilled::new(alloc);
     let mut filled = Vec::new(alloc);
-    for pair in pairs.iter().rev().copied() {
+    for pair in pairs.iter().copied() {
+        if pair.0.0 >= known {
+            return Err(Memory);
+        }
+        if pair.1.0 >= known {
+            return Err(Memory);
+        }
         let left = filled_in(alloc, bank, bindings, &mut done, pair.0)?;
         let right = filled_in(alloc, bank, bindings, &mut done, pair.1)?;
         filled.push(Pair { left, right })?;
     }
+    filled.reverse();
     Ok(filled)
 }
 
@@ -72,16 +82,16 @@ pub(crate) fn solve_types(
 ) -> Result<(), PatternRefusal>
     ensures kept { Extends bank.old bank.new }
     ensures grown { Grows bindings.old bindings.new }
+    ensures solved { OnOk result ((θ : ℕ → Ty) → AreTypes bank.old bindings.old θ → (n : ℕ) (o : TypeOutcome) → solve_types n (type_pairs_of bank.old θ pairs.now) [] 0 ≡ Some o → IsSolvedIn units.old units.new o) }
+    ensures refused { IfErr result (λ e. (θ : ℕ → Ty) → AreTypes bank.old bindings.old θ → (n : ℕ) (o : TypeOutcome) → solve_types n (type_pairs_of bank.old θ pairs.now) [] 0 ≡ Some o → IsUnsolvedIn e units.old o) }
 {
-    if pairs.is_empty() {
-        return Ok(());
-    }
     let filled = filled_pairs(alloc, bank, bindings, pairs)?;
     if !are_pairs(bank, filled.as_slice()) {
         return Err(PatternRefusal::Memory);
     }
     let mut solution = Solution::new(alloc);
-    *units = unify_within(alloc, bank, &mut solution, filled.as_slice(), *units)?;
+    let left = unify_within(alloc, bank, &mut solution, filled.as_slice(), *units)?;
+    *units = left;
     adopt(bindings, &solution)?;
     Ok(())
 }

@@ -1,5 +1,14 @@
+use Rattle.std.proofs.Common.{ℕ}
+use Rattle.std.specs.Prelude.{All}
+use Rattle.lp_calculus.specs.Types.{Ty}
 use Rattle.lp_term.specs.Nodes.{Extends}
+use Rattle.lp_pattern.specs.Filling.{AreFilled, IsOpen}
+use Rattle.lp_pattern.specs.Under.{AreTypes}
 use Rattle.lp_pattern.proofs.fill_types.filled_in.Given as goal
 
 abbrev pub invariant-types : goal.invariant-types
-invariant-types l = Extends l.fn.bank l.bank
+invariant-types l = record {
+  kept : Extends l.fn.bank l.bank;
+  left : All (IsOpen l.bank l.bindings) l.left.items;
+  filled : (θ : ℕ → Ty) → AreTypes l.fn.bank l.bindings θ → AreFilled l.fn.bank θ l.fn.done → AreFilled l.bank θ l.done;
+}
