@@ -5,7 +5,7 @@ use Rattle.std.proofs.lemmas.List.{drop_more}
 use Rattle.std.proofs.lemmas.List.Elements.{All-weaker, All-push}
 use Rattle.std.proofs.lemmas.Bool.Decides.{nat_tests}
 use Rattle.indexmap.specs.IndexMap.{get}
-use Rattle.lp_calculus.specs.Types.{Ty, Tys, var, param, con, arrow, no_types, types, tys, instance, instances}
+use Rattle.lp_calculus.specs.Types.{Ty, Tys, var, param, con, arrow, types, tys, instance, instances}
 use Rattle.lp_term.specs.Nodes.{Nodes, Extends, type_tree}
 use Rattle.lp_term.specs.declared.node.TypeId.{TypeId}
 use Rattle.lp_pattern.specs.declared.bindings.Bindings.{Bindings}

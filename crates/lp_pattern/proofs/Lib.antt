@@ -22,6 +22,7 @@ pub mod Scannings
 pub mod Sides
 pub mod Stacks
 pub mod Stripped
+pub mod Taking
 pub mod Tops
 pub mod TypeRuns
 pub mod TypeSolving

@@ -6,7 +6,7 @@ use Rattle.std.proofs.lemmas.List.{append-nil, map-append}
 use Rattle.std.proofs.lemmas.Bool.Decides.{nat_tests}
 use Rattle.lp_calculus.specs.Types.{Ty, Tys, var, param, con, arrow, no_types, types, instance}
 use Rattle.lp_types.specs.Equations.{Equation, equation, one, put_equation, occurs, occurs_in}
-use Rattle.lp_types.specs.Solving.{Look, nothing, parts, binds, clash, bind_to, look_vars, pairs, look_parts, look, Outcome, unfinished, fails, solved, solve, Turn, clashes, goes, turn_of, turn}
+use Rattle.lp_types.specs.Solving.{Look, nothing, parts, binds, clash, bind_to, look_vars, pairs, look_parts, look, Outcome, fails, solved, solve, clashes, goes, turn_of}
 use Rattle.lp_types.specs.Units.{visited, visited_in, checked, cost, units, End, spent, ended, solve_within}
 use Rattle.lp_equations.specs.Counting.{HasEnded}
 use Rattle.lp_pattern.specs.Filling.{equation_of}
@@ -56,6 +56,7 @@ vars_as i j = go (nat_eq i j) refl
         IsAs (if b then bound_or j (var i) 1 (nat_eq i j) else bound_or i (var j) 1 (nat_eq j i)) (if b then binds j (var i) else binds i (var j)) 1
     younger e true p q r = transport (λ z. IsAs (bound_or j (var i) 1 z) (binds j (var i)) 1) (sym r) (refl, refl)
     younger e false p q r = transport (λ z. IsAs (bound_or i (var j) 1 z) (binds i (var j)) 1) (sym (p ∙ q)) (refl, refl)
+
     go : (e : Bool) → nat_eq i j ≡ e → IsAs (if nat_eq i j then model.plainly (model.parts []) else (if nat_lt i j then bind_type j (var i) else bind_type i (var j))) (look_vars i j) (if nat_eq i j then 0 else 1)
     go true q =
         transport (λ z. IsAs (if z then model.plainly (model.parts []) else (if nat_lt i j then bind_type j (var i) else bind_type i (var j))) (if z then nothing else (if nat_lt i j then binds j (var i) else binds i (var j))) (if z then 0 else 1))
@@ -251,9 +252,11 @@ ended_is limit left n ps θ o h e = go o (runs n (suc limit) ps [] 0 var o e) (e
   where
     same_map : (ι : ℕ → Ty) → solved θ ≡ solved ι → θ ≡ ι
     same_map ι x = cc
+
     ends : (bs more : List TypeBinding) (w : ℕ) → bs ≡ [] ++ more → Ends (suc limit) 0 w (map equation_of ps) var (solved (after more var)) → Ended limit h.0 (map equation_of ps) (solved θ) → (limit ≡ w + left) × (θ ≡ after bs var)
     ends bs more w q (inl a) x = (omega (arith, a.0, x.same, h.2), same_map (after more var) (sym x.is ∙ a.1) ∙ ap (λ l. after l var) (sym q))
     ends bs more w q (inr a) x = absurd (omega (arith, a.0, x.few))
+
     go : (o : TypeOutcome) → Runs (suc limit) (map equation_of ps) var [] 0 o → Ended limit h.0 (map equation_of ps) (solved θ) → IsWithin limit left θ o
     go (model.none w) (inl a) x = absurd (let z : fails ≡ solved θ = sym a.1 ∙ x.is in cc)
     go (model.none w) (inr a) x = absurd (omega (arith, a.0, x.few))
@@ -270,6 +273,7 @@ none_is limit used n ps o h e = go o (runs n (suc limit) ps [] 0 var o e) (ended
     ends : (more : List TypeBinding) (w : ℕ) → Ends (suc limit) 0 w (map equation_of ps) var (solved (after more var)) → Ended limit used (map equation_of ps) fails → ⊥
     ends more w (inl a) x = let z : solved (after more var) ≡ fails = sym a.1 ∙ x.is in absurd (cc)
     ends more w (inr a) x = absurd (omega (arith, a.0, x.few))
+
     go : (o : TypeOutcome) → Runs (suc limit) (map equation_of ps) var [] 0 o → Ended limit used (map equation_of ps) fails → IsNone limit o
     go (model.none w) (inl a) x = omega (arith, a.0, x.few)
     go (model.none w) (inr a) x = absurd (omega (arith, a.0, x.few))
@@ -293,6 +297,7 @@ spent_is limit n ps o h e = go o (runs n (suc limit) ps [] 0 var o e) (spent_as 
     ends : (w : ℕ) (x : Outcome) → Ends (suc limit) 0 w (map equation_of ps) var x → limit < units (suc limit) (map equation_of ps) var → limit < w
     ends w x (inl a) l = omega (arith, a.0, l)
     ends w x (inr a) l = omega (arith, a.1, l)
+
     go : (o : TypeOutcome) → Runs (suc limit) (map equation_of ps) var [] 0 o → limit < units (suc limit) (map equation_of ps) var → Passes limit o
     go (model.none w) r l = ends w fails r l
     go (model.solved bs w) r l = ends w (solved (after r.0 var)) r.2 l

@@ -1,5 +1,5 @@
 -- Type equations with all bindings put in are solved as the definition solves them, with the same units.
-use Rattle.std.proofs.Common.{◌≡◌, ℕ, ◌+◌, ◌<◌, ◌≤◌, List, [], ◌∷◌, ◌++◌, map, reverse, length, ◌∙◌, refl, sym, ap, subst as transport, arith, Option, Some, None}
+use Rattle.std.proofs.Common.{◌≡◌, ℕ, ◌<◌, List, [], ◌∷◌, ◌++◌, map, reverse, length, ◌∙◌, refl, sym, ap, subst as transport, arith, Some}
 use Rattle.std.specs.Prelude.{All}
 use Rattle.std.proofs.lemmas.List.{map-append, reverse-reverse}
 use Rattle.std.proofs.lemmas.List.Elements.{All-weaker, All-push, All-head, All-tail}
@@ -7,8 +7,7 @@ use Rattle.lp_calculus.specs.Types.{Ty, var, instance}
 use Rattle.lp_term.specs.Nodes.{Nodes, Extends, type_tree}
 use Rattle.lp_term.specs.declared.node.TypeId.{TypeId}
 use Rattle.lp_types.specs.Equations.{Equation, equation}
-use Rattle.lp_types.specs.Solving.{fails}
-use Rattle.lp_types.specs.Units.{End, spent, ended, solve_within}
+use Rattle.lp_types.specs.Units.{solve_within}
 use Rattle.lp_types.proofs.Types.{instance-var}
 use Rattle.lp_equations.specs.Counting.{HasEnded, IsRefused}
 use Rattle.lp_equations.specs.Reading.{IsPair, read_pair, read_pairs}
@@ -46,8 +45,10 @@ pair_more a b d e θ items new ys p q x y z l r n k f g h m =
   where
     left : type_tree e q.left.0 ≡ instance θ (type_tree a p.0.0)
     left = z.same_types q.left.0 k ∙ f ∙ ap (instance θ) (x.same_types p.0.0 l)
+
     in_b : p.1.0 < length b.types
     in_b = omega (arith, r, x.more_types)
+
     right : type_tree e q.right.0 ≡ instance θ (type_tree a p.1.0)
     right = g ∙ ap (instance θ) (y.same_types p.1.0 in_b ∙ x.same_types p.1.0 r)
 

@@ -1,6 +1,3 @@
-use Rattle.std.proofs.Common.{ap, sym, ◌∙◌, subst as transport, ◌++◌, ◌∷◌, [], Some}
-use Rattle.std.specs.Prelude.{IfSome}
-use Rattle.lp_pattern.specs.Filling.{AllFilled, IsFilledPart}
 use Rattle.lp_pattern.proofs.Fillings.{known_more, at_some}
 use Rattle.lp_pattern.proofs.fill_types.known_parts.Goals as goal
 

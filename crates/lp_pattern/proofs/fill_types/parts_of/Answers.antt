@@ -1,4 +1,3 @@
-use Rattle.std.proofs.Common.{refl}
 use Rattle.lp_term.specs.Nodes.{type_tree}
 use Rattle.lp_pattern.proofs.Results.{if_ok}
 use Rattle.lp_pattern.proofs.Fillings.{con_parts, arrow_parts, var_parts, param_parts}

@@ -30,10 +30,11 @@ loop-pair-preserved c = record {
   pairs = λ θ r.
       let w = c.loop-pair.invariant.pairs θ r in
       let l = c.in_ok-left.ensures.filled θ (types_kept c.args.bank.now c.loop-pair.bank c.args.bindings.now θ c.loop-pair.invariant.kept r) w.0 in
-      let k = c.in_ok-right.ensures.filled θ (types_kept c.args.bank.now c.filled_in.new.bank c.args.bindings.now θ (extends-trans c.args.bank.now c.loop-pair.bank c.filled_in.new.bank c.loop-pair.invariant.kept c.in_ok-left.ensures.kept) r) l.1 in
-      (k.1,
-      pair_more c.args.bank.now c.loop-pair.bank c.filled_in.new.bank c.filled_in-in-loop-pair.new.bank θ c.loop-pair.filled.items c.push.new.self.items c.loop-pair.yielded c.in-Some.pair (record { left = c.in_ok-left.left; right = c.in_ok-right.right }) c.loop-pair.invariant.kept c.in_ok-left.ensures.kept
-      c.in_ok-right.ensures.kept (omega (arith, c.if-pair-known.false, c.type_count-known.ensures.count)) (omega (arith, c.if-pair-known-2.false, c.type_count-known.ensures.count)) c.in_ok-push.ensures.items c.in_ok-left.ensures.within l.0 k.0 c.loop-pair.invariant.known w.1);
+      let k = c.in_ok-right.ensures.filled θ (types_kept c.args.bank.now c.filled_in.new.bank c.args.bindings.now θ (extends-trans c.args.bank.now c.loop-pair.bank c.filled_in.new.bank c.loop-pair.invariant.kept c.in_ok-left.ensures.kept) r) l.1 in (
+        k.1,
+        pair_more c.args.bank.now c.loop-pair.bank c.filled_in.new.bank c.filled_in-in-loop-pair.new.bank θ c.loop-pair.filled.items c.push.new.self.items c.loop-pair.yielded c.in-Some.pair (record { left = c.in_ok-left.left; right = c.in_ok-right.right }) c.loop-pair.invariant.kept c.in_ok-left.ensures.kept
+            c.in_ok-right.ensures.kept (omega (arith, c.if-pair-known.false, c.type_count-known.ensures.count)) (omega (arith, c.if-pair-known-2.false, c.type_count-known.ensures.count)) c.in_ok-push.ensures.items c.in_ok-left.ensures.within l.0 k.0 c.loop-pair.invariant.known w.1,
+      );
 }
 
 pub returns-clause-filled : goal.returns-clause-filled
