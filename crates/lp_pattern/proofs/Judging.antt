@@ -12,9 +12,7 @@ use Rattle.lp_model.specs.Look.{Look, an_abs, rigid, flexible, look, head_normal
 use Rattle.lp_model.specs.Pair.{Pair, Closing}
 use Rattle.lp_model.specs.Scan as scan
 use Rattle.lp_model.specs.Scan.{Scanned, broken, whole, Pruned, prune, settle}
-use Rattle.lp_model.specs.Rule.{Compared, Verdict, fails, gives, binds, delays, Ruled, ruled, joined, bound, has_head, solve_for, side, by_pattern, pattern_side, by_rule_5, by_rule_4, dear, by_looks, compare_all, rule, with_types, type_pairs, opened}
-use Rattle.lp_model.specs.Same.{same_name}
-use Rattle.lp_model.specs.Types.{TypeOutcome, none, solved, solve_types}
+use Rattle.lp_model.specs.Rule.{Compared, Verdict, fails, gives, binds, delays, Ruled, ruled, joined, bound, has_head, solve_for, side, by_pattern, pattern_side, by_rule_5, by_rule_4, dear, by_looks, compare_all, rule}
 use Rattle.lp_pattern.specs.declared.bindings.Bindings.{Bindings}
 use Rattle.lp_pattern.specs.declared.fault.PatternRefusal.{PatternRefusal}
 use Rattle.lp_pattern.specs.declared.fault.PatternRefusal.TheVariants.{Deep}
@@ -29,7 +27,7 @@ use Rattle.lp_model.specs.declared.answer.Pair.{Pair as Numbers}
 use Rattle.lp_pattern.specs.Comparing.{IsComparedTo, IsPassed, pair_under}
 use Rattle.lp_pattern.specs.Reading.{side_of}
 use Rattle.lp_pattern.specs.Refusing.{IsOfTerm, IsNoFailure}
-use Rattle.lp_pattern.specs.Ruling.{view_of, view, is_one_variable, is_flexible, IsSideOf, IsNoSide, IsSeenPair, IsBinding, IsVerdict, IsJudged, IsRuledOut, IsTaken}
+use Rattle.lp_pattern.specs.Ruling.{view_of, view, is_one_variable, is_flexible, IsSideOf, IsNoSide, IsSeenPair, IsBinding, IsVerdict, IsJudged, IsRuledOut, IsDone, IsTaken}
 use Rattle.lp_pattern.specs.Seen.{weak_step, IsHead, IsLooked, IsReachedWithin, seen}
 use Rattle.lp_pattern.specs.Stripping.{IsPattern, HasNoPattern, eigens_of, read_at}
 use Rattle.lp_pattern.specs.Under.{IsReading, under, below}
@@ -456,7 +454,7 @@ pub record IsLookedAt (b : Nodes) (c : Closing) (r : Looked) (n : ℕ) (t : Term
   pub fewer : n ≡ suc turns
   pub is : seen n b c r.head r.top r.arguments.items ≡ Some v
 
-looked_at : (b : Nodes) (s : Bindings) (c : Closing) (r : Looked) (n j : ℕ) (t : Term) (v : Look) → IsReading b s c → IsLooked b s r → steps weak_step j t ≡ Some (under b c r.whole) → look n t ≡ Some v → IsLookedAt b c r n t v
+pub looked_at : (b : Nodes) (s : Bindings) (c : Closing) (r : Looked) (n j : ℕ) (t : Term) (v : Look) → IsReading b s c → IsLooked b s r → steps weak_step j t ≡ Some (under b c r.whole) → look n t ≡ Some v → IsLookedAt b c r n t v
 looked_at b s c r zero j t v i k e q = absurd (cc)
 looked_at b s c r (suc n) j t v i k e q = record { turns = n; fewer = refl; is = sym (whole_look b s c r i k n) ∙ reached_look j (suc n) t (under b c r.whole) e v q }
 
@@ -497,46 +495,9 @@ bare_right Head.Rigid (Head.Abstraction body) e = absurd (cc)
 bare_right Head.Rigid (Head.Variable y k) e = tt
 bare_right Head.Rigid Head.Rigid e = absurd (cc)
 
--- rules that delay nothing
-types_delay : (level : ℕ) (ts us : List Term) (o : TypeOutcome) → (with_types level ts us o).verdict ≡ delays → ⊥
-types_delay level ts us (none u) e = absurd (cc)
-types_delay level ts us (solved made u) e = absurd (cc)
-
-abbrev decomposed : ℕ → (level : ℕ) → Term → List Term → Term → List Term → Bool → Option Ruled
-decomposed n level h ts g us b = elim b [ true ↦ option_map (with_types level ts us) (solve_types n (type_pairs h g) [] 0) | false ↦ Some (ruled 0 fails) ]
-
-decompose_delays : (n level : ℕ) (h g : Term) (ts us : List Term) (b : Bool) (r : Ruled) → decomposed n level h ts g us b ≡ Some r → r.verdict ≡ delays → ⊥
-decompose_delays n level h g ts us true r e d =
-    let w = from_map (with_types level ts us) (solve_types n (type_pairs h g) [] 0) r e in types_delay level ts us w.0 (sym (ap (λ z. z.verdict) w.2) ∙ d)
-decompose_delays n level h g ts us false r e d = let q : ruled 0 fails ≡ r = cc in absurd (let z : fails ≡ delays = ap (λ z. z.verdict) q ∙ d in cc)
-
-opens_delays : (p : Pair) (r : Ruled) → Some (ruled 0 (gives [] (opened p ∷ []))) ≡ Some r → r.verdict ≡ delays → ⊥
-opens_delays p r e d = let q : ruled 0 (gives [] (opened p ∷ [])) ≡ r = cc in absurd (let z : gives [] (opened p ∷ []) ≡ delays = ap (λ z. z.verdict) q ∙ d in cc)
-
-seen_abs : (n : ℕ) (b : Nodes) (c : Closing) (body t : TermId) (ids : List TermId) (v : Look) → seen n b c (Head.Abstraction body) t ids ≡ Some v → (x : Term) × (v ≡ an_abs x)
+-- an abstraction is seen as one
+pub seen_abs : (n : ℕ) (b : Nodes) (c : Closing) (body t : TermId) (ids : List TermId) (v : Look) → seen n b c (Head.Abstraction body) t ids ≡ Some v → (x : Term) × (v ≡ an_abs x)
 seen_abs n b c body t ids v e = let w = from_map an_abs (head_normal n (below c (tree b body.0))) v e in (w.0, w.2)
-
-left_abs : (n next : ℕ) (p : Pair) (v w : Look) (x : Term) (r : Ruled) → v ≡ an_abs x → by_looks n next p v w ≡ Some r → r.verdict ≡ delays → ⊥
-left_abs n next p v w x r i e d = opens_delays p r (sym (ap (λ z. by_looks n next p z w) i) ∙ e) d
-
-right_abs : (n next : ℕ) (p : Pair) (v w : Look) (x : Term) (r : Ruled) → w ≡ an_abs x → by_looks n next p v w ≡ Some r → r.verdict ≡ delays → ⊥
-right_abs n next p (an_abs y) w x r i e d = opens_delays p r e d
-right_abs n next p (rigid h ts) w x r i e d = opens_delays p r (sym (ap (by_looks n next p (rigid h ts)) i) ∙ e) d
-right_abs n next p (flexible y l ts) w x r i e d = opens_delays p r (sym (ap (by_looks n next p (flexible y l ts)) i) ∙ e) d
-
-never_delays : (n next : ℕ) (p : Pair) (b : Nodes) (c : Closing) (h g : Head) (t u : TermId) (ids js : List TermId) (v w : Look) (r : Ruled) → is_flexible h g ≡ false → seen n b c h t ids ≡ Some v → seen n b c g u js ≡ Some w →
-    by_looks n next p v w ≡ Some r → r.verdict ≡ delays → ⊥
-never_delays n next p b c (Head.Abstraction body) g t u ids js v w r f x y e d = let z = seen_abs n b c body t ids v x in left_abs n next p v w z.0 r z.1 e d
-never_delays n next p b c (Head.Variable i l) (Head.Abstraction body) t u ids js v w r f x y e d = let z = seen_abs n b c body u js w y in right_abs n next p v w z.0 r z.1 e d
-never_delays n next p b c (Head.Variable i l) (Head.Variable j k) t u ids js v w r f x y e d = absurd (cc)
-never_delays n next p b c (Head.Variable i l) Head.Rigid t u ids js v w r f x y e d = absurd (cc)
-never_delays n next p b c Head.Rigid (Head.Abstraction body) t u ids js v w r f x y e d = let z = seen_abs n b c body u js w y in right_abs n next p v w z.0 r z.1 e d
-never_delays n next p b c Head.Rigid (Head.Variable j k) t u ids js v w r f x y e d = absurd (cc)
-never_delays n next p b c Head.Rigid Head.Rigid t u ids js v w r f x y e d =
-    let i : rigid (under b c t) (map (under b c) ids) ≡ v = cc in
-    let j : rigid (under b c u) (map (under b c) js) ≡ w = cc in
-    decompose_delays n p.level (under b c t) (under b c u) (map (under b c) ids) (map (under b c) js) (same_name (under b c t) (under b c u) && nat_eq (length (map (under b c) ids)) (length (map (under b c) js))) r
-    ((λ z. by_looks n next p (i z) (j z)) ∙ e) d
 
 module _ (b : Nodes) (s : Bindings) (c : Closing) (one other : Looked) (i : IsReading b s c) (k : IsLooked b s one) (m : IsLooked b s other) (n next level : ℕ) (p : Pair) (h : IsSeenPair b c level one other p) (r : Ruled)
     (q : rule n next p ≡ Some r) where
@@ -555,19 +516,21 @@ module _ (b : Nodes) (s : Bindings) (c : Closing) (one other : Looked) (i : IsRe
       (bare_view n b c other.head other.top other.arguments.items of.other (bare_right one.head other.head f) other_at.is z)) ∙ of.is
 
   pub taken_done : (u w : ℕ) (done : Bool) → is_flexible one.head other.head ≡ true → done ≡ true → IsJudged done u w (by_looks n next p (view b c one) (view b c other)) → IsTaken Taken.Gone u w r
-  taken_done u w done f d j = λ e. let x = j r (by_views f) in done_delays r.verdict (transport (λ z. IsVerdict z r.verdict) d x.1) e
+  taken_done u w done f d j = let x = j r (by_views f) in (x.0, is_done r.verdict (transport (λ z. IsVerdict z r.verdict) d x.1))
     where
-      done_delays : (v : Verdict) → IsVerdict true v → v ≡ delays → ⊥
-      done_delays fails y e = y
-      done_delays (gives ts ps) y e = absurd (cc)
-      done_delays (binds bs next) y e = absurd (cc)
-      done_delays delays y e = y
+      is_done : (v : Verdict) → IsVerdict true v → IsDone v
+      is_done fails y = y
+      is_done (gives ts ps) y = tt
+      is_done (binds bs next) y = tt
+      is_done delays y = y
 
-  pub taken_delayed : (u w : ℕ) (done : Bool) (left : _) → is_flexible one.head other.head ≡ true → done ≡ false → IsJudged done u w (by_looks n next p (view b c one) (view b c other)) → IsTaken (Taken.Delayed left) u w r
-  taken_delayed u w done left f d j = let x = j r (by_views f) in (transport (λ z. IsVerdict z r.verdict) d x.1, x.0)
+  pub taken_delayed : (u w : ℕ) (done : Bool) (left : Numbers) → is_flexible one.head other.head ≡ true → done ≡ false → IsJudged done u w (by_looks n next p (view b c one) (view b c other)) → IsTaken (Taken.Delayed left) u w r
+  taken_delayed u w done left f d j = let x = j r (by_views f) in (x.0, transport (λ z. IsVerdict z r.verdict) d x.1)
 
-  pub taken_other : (u w : ℕ) → is_flexible one.head other.head ≡ false → IsTaken Taken.Gone u w r
-  taken_other u w f e = never_delays n next p b c one.head other.head one.top other.top one.arguments.items other.arguments.items of.one of.other r f one_at.is other_at.is of.is e
+-- a refusal
+pub taken_out : (b : Nodes) (s : Bindings) (c : Closing) (one other : Looked) (n next level u : ℕ) (p : Pair) (o : PatternRefusal) → IsReading b s c → IsLooked b s one → IsLooked b s other → IsSeenPair b c level one other p →
+    is_flexible one.head other.head ≡ true → IsRuledOut n o u (by_looks n next p (view b c one) (view b c other)) → IsRuledOut n o u (rule n next p)
+taken_out b s c one other n next level u p o i k m h f g = out_below n u o (rule n next p) (by_looks n next p (view b c one) (view b c other)) (λ r q. by_views b s c one other i k m n next level p h r q f) g
 
 -- the sides of a pair that were looked at one after the other
 pub seen_pair : (b d e : Nodes) (c : Closing) (limit : ℕ) (p : Numbers) (t : TermId) (one other : Looked) → Extends b d → Extends d e → t ≡ p.right → t.0 < length b.terms → one.whole.0 < length d.terms →

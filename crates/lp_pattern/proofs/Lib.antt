@@ -21,14 +21,15 @@ pub mod Scannings
 pub mod Sides
 pub mod Stacks
 pub mod Stripped
+pub mod Taking
 pub mod Tops
+pub mod TypeSolving
 pub mod TopScans
 pub mod VisitSteps
 pub mod Verdicts
 pub mod Visits
 pub mod Walking
 pub mod TypeTurns
-pub mod TypeSolving
 pub mod FilledTypes
 pub mod TypesSolved
 pub mod FilledTerms

@@ -1,6 +1,6 @@
 -- Type equations under bindings: what the code solves with the bindings put in, and adds to them, is what the definition solves.
 use Rattle.std.proofs.Common.{◌≡◌, ℕ, zero, suc, ◌+◌, ◌<◌, ◌≤◌, List, [], ◌∷◌, ◌++◌, map, reverse, length, Option, Some, None, refl, sym, ap, subst as transport, ◌∙◌, arith, nat_eq, if◌then◌else◌, Bool, true, false, take, slice_get}
-use Rattle.std.proofs.lemmas.List.{append_assoc, map-append, reverse-append, reverse-reverse}
+use Rattle.std.proofs.lemmas.List.{append_assoc, map-append, reverse-reverse}
 use Rattle.std.specs.Map.{lookup}
 use Rattle.lp_calculus.specs.Types.{Ty, var, instance}
 use Rattle.lp_calculus.proofs.TypeLaws.{instance-instance}
@@ -22,7 +22,7 @@ use Rattle.lp_pattern.specs.declared.fault.PatternRefusal.{PatternRefusal}
 use Rattle.lp_pattern.specs.Refusing.{IsOfEquations}
 use Rattle.lp_pattern.specs.Under.{TypeIs, AreTypes}
 use Rattle.lp_pattern.specs.Reading.{type_pairs_of}
-use Rattle.lp_pattern.specs.Filling.{equations, AreFilled, AreKnown, IsStill, AreSolved, AreRefused, held, equation_under, AreIn}
+use Rattle.lp_pattern.specs.Filling.{equations, AreFilled, AreKnown, IsStill, AreSolved, IsSolvedIn, IsUnsolvedIn, units_in, held, equation_under, AreIn}
 use Rattle.lp_pattern.specs.declared.fill_types.TypesFilled.{TypesFilled}
 use Rattle.lp_pattern.proofs.FilledTypes.{types_later}
 use Rattle.lp_pattern.proofs.Walking.{map-reverse}
@@ -54,13 +54,9 @@ known_split : (b : Nodes) (ps : List (TypeId × TypeId)) (p : TypeId × TypeId) 
 known_split b [] p k = (tt, k.0, k.1)
 known_split b (q ∷ qs) p k = let w = known_split b qs p k.2 in ((k.0, k.1, w.0), w.1, w.2)
 
-known_snoc : (b : Nodes) (ps : List (TypeId × TypeId)) (p : TypeId × TypeId) → AreKnown b ps → p.0.0 < length b.types → p.1.0 < length b.types → AreKnown b (ps ++ p ∷ [])
+pub known_snoc : (b : Nodes) (ps : List (TypeId × TypeId)) (p : TypeId × TypeId) → AreKnown b ps → p.0.0 < length b.types → p.1.0 < length b.types → AreKnown b (ps ++ p ∷ [])
 known_snoc b [] p k l r = (l, r, tt)
 known_snoc b (q ∷ qs) p k l r = (k.0, k.1, known_snoc b qs p k.2 l r)
-
-known_reversed : (b : Nodes) (ps : List (TypeId × TypeId)) → AreKnown b ps → AreKnown b (reverse ps)
-known_reversed b [] k = tt
-known_reversed b (p ∷ ps) k = transport (AreKnown b) (sym (reverse-append (p ∷ []) ps)) (known_snoc b (reverse ps) p (known_reversed b ps k.2) k.0 k.1)
 
 -- one pair more has its bindings put in
 pub one_more : (a b c d : Nodes) (s : Bindings) (θ : ℕ → Ty) (done : List (TypeId × TypeId)) (p : TypeId × TypeId) (old new : List Pair) (left right : TypeId) (before between after : TypesFilled) →
@@ -91,10 +87,10 @@ one_more a b c d s θ done p old new left right before between after D E F A k h
     right_in : p.1.0 < length a.types → length a.types ≤ length b.types → p.1.0 < length b.types
     right_in x y = omega (arith, x, y)
 
-pub all_read : (a b : Nodes) (θ : ℕ → Ty) (ps done : List (TypeId × TypeId)) (made : List Pair) (Rest : Type 0) → done ≡ reverse ps → AreKnown a ps →
+pub all_read : (a b : Nodes) (θ : ℕ → Ty) (ps done : List (TypeId × TypeId)) (made : List Pair) (Rest : Type 0) → done ≡ reverse ps → AreKnown a done →
     (AreKnown a done → Rest × AreIn b made × (map (held b) made ≡ map (equation_under a θ) done)) → read_pairs (type_tree b) var made ≡ equations (type_pairs_of a θ ps)
 all_read a b θ ps done made Rest e k h =
-    ap reverse (read_held b made ∙ (h (transport (AreKnown a) (sym e) (known_reversed a ps k))).2 ∙ ap (map (equation_under a θ)) e ∙ map-reverse (equation_under a θ) ps) ∙ reverse-reverse (map (equation_under a θ) ps) ∙ sym (equations_are a θ ps)
+    ap reverse (read_held b made ∙ (h k).2 ∙ ap (map (equation_under a θ)) e ∙ map-reverse (equation_under a θ) ps) ∙ reverse-reverse (map (equation_under a θ) ps) ∙ sym (equations_are a θ ps)
 
 -- bindings put in one after the other
 
@@ -213,13 +209,35 @@ none_solved b s θ ps u n r A still e d = go n (transport (λ l. solve_types n l
         is_some : (x y : TypeOutcome) → Some x ≡ Some y → x ≡ y
         is_some x y g = cc
 
+-- the units of a run that was solved
+pub units_solved : (ι : ℕ → Ty) (ps : List TypePair) (limit left n : ℕ) (o : TypeOutcome) → HasEnded (solve_within limit (equations ps) var) limit left ι → solve_types n ps [] 0 ≡ Some o → IsSolvedIn limit left o
+units_solved ι ps limit left n o H d =
+    let w = as_without limit H.0 (types.solved ι) (equations ps) var H.1 in
+    let h = solved_same n w.0 ps var ι [] 0 o d w.1 in
+    transport (IsSolvedIn limit left) (sym h.is) (H.2 ∙ ap (λ u. u + left) (w.2 ∙ sym (none_before (units w.0 (equations ps) var))))
+
+pub units_of_none : (ps : List TypePair) (u n : ℕ) (o : TypeOutcome) → ps ≡ [] → solve_types n ps [] 0 ≡ Some o → IsSolvedIn u u o
+units_of_none ps u n o e d = go n (transport (λ l. solve_types n l [] 0 ≡ Some o) e d)
+  where
+    go : (n : ℕ) → solve_types n [] [] 0 ≡ Some o → IsSolvedIn u u o
+    go zero f = absurd (cc)
+    go (suc n) f = transport (IsSolvedIn u u) (is_some (solved [] 0) o f) (sym (none_before u))
+      where
+        is_some : (x y : TypeOutcome) → Some x ≡ Some y → x ≡ y
+        is_some x y g = cc
+
 -- a refusal
-pub refused_rightly : (q : EquationRefusal) (p : PatternRefusal) (limit n : ℕ) (ps : List TypePair) (r : TypeOutcome) → IsOfEquations q p → IsRefused q (solve_within limit (equations ps) var) → solve_types n ps [] 0 ≡ Some r → AreRefused p limit r
+over : (limit : ℕ) (o : TypeOutcome) → limit < units_in o → IsUnsolvedIn PatternRefusal.Deep limit o
+over limit (none u) l = l
+over limit (solved bs u) l = l
+
+pub refused_rightly : (q : EquationRefusal) (p : PatternRefusal) (limit n : ℕ) (ps : List TypePair) (r : TypeOutcome) → IsOfEquations q p → IsRefused q (solve_within limit (equations ps) var) → solve_types n ps [] 0 ≡ Some r → IsUnsolvedIn p limit r
 refused_rightly EquationRefusal.Fails p limit n ps r e h d =
     let w = as_without limit h.0 fails (equations ps) var h.1 in
-    transport (λ x. AreRefused x limit r) (sym e) (units w.0 (equations ps) var, fails_same n w.0 ps var [] 0 r d w.1 ∙ ap none (none_before (units w.0 (equations ps) var)), transport (λ u. u ≤ limit) w.2 w.3)
-refused_rightly EquationRefusal.Deep p limit n ps r e h d = transport (λ x. AreRefused x limit r) (sym e) (let l = spent_same limit n ps var [] 0 r d h in omega arith)
-refused_rightly EquationRefusal.Memory p limit n ps r e h d = transport (λ x. AreRefused x limit r) (sym e) tt
+    let is = fails_same n w.0 ps var [] 0 r d w.1 ∙ ap none (none_before (units w.0 (equations ps) var)) in
+    transport (λ x. IsUnsolvedIn x limit r) (sym e) (transport (IsUnsolvedIn PatternRefusal.Fails limit) (sym is) (transport (λ u. u ≤ limit) w.2 w.3))
+refused_rightly EquationRefusal.Deep p limit n ps r e h d = transport (λ x. IsUnsolvedIn x limit r) (sym e) (over limit r (let l = spent_same limit n ps var [] 0 r d h in omega arith))
+refused_rightly EquationRefusal.Memory p limit n ps r e h d = transport (λ x. IsUnsolvedIn x limit r) (sym e) tt
 
 -- the run over the pairs that were filled, on an empty table
 

@@ -71,8 +71,14 @@ abbrev pub units_in : TypeOutcome → ℕ
 units_in (none u) = u
 units_in (solved bs u) = u
 
--- a refusal has its cause
-abbrev pub AreRefused : PatternRefusal → (old : ℕ) → TypeOutcome → Type 0
-AreRefused PatternRefusal.Fails old r = (used : ℕ) × (r ≡ none used) × (used ≤ old)
-AreRefused PatternRefusal.Deep old r = old < units_in r
-AreRefused PatternRefusal.Memory old r = Unit {0}
+-- equations were solved with so many units left, or were not
+abbrev pub IsSolvedIn : (limit left : ℕ) → TypeOutcome → Type 0
+IsSolvedIn limit left (none w) = ⊥
+IsSolvedIn limit left (solved bs w) = limit ≡ w + left
+
+abbrev pub IsUnsolvedIn : PatternRefusal → (limit : ℕ) → TypeOutcome → Type 0
+IsUnsolvedIn PatternRefusal.Fails limit (none w) = w ≤ limit
+IsUnsolvedIn PatternRefusal.Fails limit (solved bs w) = ⊥
+IsUnsolvedIn PatternRefusal.Deep limit (none w) = limit < w
+IsUnsolvedIn PatternRefusal.Deep limit (solved bs w) = limit < w
+IsUnsolvedIn PatternRefusal.Memory limit o = Unit {0}

@@ -1,4 +1,5 @@
 pub mod Comparing
+pub mod Filling
 pub mod Growing
 pub mod Reading
 pub mod Refusing
@@ -8,6 +9,5 @@ pub mod Seen
 pub mod Stripping
 pub mod TopLooks
 pub mod Under
-pub mod Filling
 pub mod Visiting
 pub mod FillingTerms

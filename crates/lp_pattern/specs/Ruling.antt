@@ -65,10 +65,25 @@ IsRuledOut limit PatternRefusal.Fails old o = (r : Ruled) → o ≡ Some r → (
 IsRuledOut limit PatternRefusal.Deep old o = limit ≤ 1000000 → (r : Ruled) → o ≡ Some r → (old < r.units) ⊎ IsBinding r.verdict
 IsRuledOut limit PatternRefusal.Memory old o = Unit {0}
 
--- a pair is delayed where the rule delays it, with the units of the rule, and in no other case
+-- there is a solution so far
+abbrev pub IsDone : Verdict → Type 0
+IsDone fails = ⊥
+IsDone (gives ts ps) = Unit {0}
+IsDone (binds bs next) = Unit {0}
+IsDone delays = ⊥
+
+-- a pair is gone where the rule gives others or binds, and is delayed where the rule delays it, with the units of the rule
 abbrev pub IsTaken : Taken → (old new : ℕ) → Ruled → Type 0
-IsTaken Taken.Gone old new r = r.verdict ≡ delays → ⊥
-IsTaken (Taken.Delayed p) old new r = (r.verdict ≡ delays) × (old ≡ r.units + new)
+IsTaken Taken.Gone old new r = (old ≡ r.units + new) × IsDone r.verdict
+IsTaken (Taken.Delayed p) old new r = (old ≡ r.units + new) × (r.verdict ≡ delays)
+
+-- both are rigid
+abbrev pub are_both_rigid : Head → Head → Bool
+are_both_rigid Head.Rigid Head.Rigid = true
+are_both_rigid Head.Rigid (Head.Abstraction body) = false
+are_both_rigid Head.Rigid (Head.Variable y k) = false
+are_both_rigid (Head.Abstraction body) h = false
+are_both_rigid (Head.Variable x l) h = false
 
 -- both have the same variable as head, and so many arguments each
 abbrev pub is_one_variable : Head → Head → (m n : ℕ) → Bool

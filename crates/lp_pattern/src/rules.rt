@@ -1,5 +1,5 @@
 // The rules for one pair: the first that applies is taken.
-ghost use Rattle.std.specs.Prelude.{◌≡◌, ◌≤◌, ◌<◌, ℕ, suc, nat_eq, length, map, true, Some, IfOk, OnOk, IfErr};
+ghost use Rattle.std.specs.Prelude.{◌≡◌, ◌≤◌, ◌<◌, ◌+◌, ℕ, suc, nat_eq, length, map, true, false, Some, IfOk, OnOk, IfErr};
 ghost use Rattle.lp_calculus.specs.Convert.{steps};
 ghost use Rattle.lp_calculus.specs.Term.{Term, atom, apply, index, logic};
 ghost use Rattle.lp_calculus.specs.Fill.{abstracted};
@@ -7,13 +7,13 @@ ghost use Rattle.lp_term.specs.Nodes.{Extends, Nodes};
 ghost use Rattle.lp_model.specs.Look.{are_distinct};
 ghost use Rattle.lp_model.specs.Pair.{Closing, Pair as Equation};
 ghost use Rattle.lp_model.specs.Patterns.{eigens, agreeing};
-ghost use Rattle.lp_model.specs.Rule.{Ruled, rule, by_looks, by_rule_4, by_rule_5, solve_for, has_head};
+ghost use Rattle.lp_model.specs.Rule.{Ruled, rule, by_looks, by_rule_4, by_rule_5, solve_for, has_head, decompose};
 ghost use Rattle.lp_pattern.specs.Comparing.{pair_under};
-ghost use Rattle.lp_pattern.specs.declared.look.Head.TheVariants.{Variable};
+ghost use Rattle.lp_pattern.specs.declared.look.Head.TheVariants.{Rigid, Variable};
 ghost use Rattle.lp_pattern.specs.Growing.{Grows};
 ghost use Rattle.lp_pattern.specs.Reading.{side_of};
 ghost use Rattle.lp_pattern.specs.Refusing.{IsNoFailure};
-ghost use Rattle.lp_pattern.specs.Ruling.{view, is_one_variable, is_flexible, IsSideOf, IsNoSide, IsSeenPair, IsJudged, IsRuledOut, IsTaken};
+ghost use Rattle.lp_pattern.specs.Ruling.{view, is_one_variable, is_flexible, are_both_rigid, IsSideOf, IsNoSide, IsSeenPair, IsJudged, IsRuledOut, IsDone, IsTaken};
 ghost use Rattle.lp_pattern.specs.Scanning.{Pushes, AreTerms, Binds, one_if, agreeing_places};
 ghost use Rattle.lp_pattern.specs.Seen.{IsLooked, weak_step};
 ghost use Rattle.lp_pattern.specs.Stripping.{IsShut};
@@ -56,13 +56,20 @@ fn decompose(
     todo: &mut Vec<Pair>,
     units: &mut u64,
 ) -> Result<(), PatternRefusal>
+    requires one { IsLooked bank.old bindings.old one.now }
+    requires other { IsLooked bank.old bindings.old other.now }
+    requires rigid_one { one.now.head ≡ Rigid }
+    requires rigid_other { other.now.head ≡ Rigid }
     ensures kept { Extends bank.old bank.new }
     ensures grown { Grows bindings.old bindings.new }
+    ensures solved { OnOk result ((c : Closing) → IsReading bank.old bindings.old c → IsShut c → (n : ℕ) (r : Ruled) → (decompose n level (under bank.old c one.now.top) (map (under bank.old c) one.now.arguments.items) (under bank.old c other.now.top) (map (under bank.old c) other.now.arguments.items)) ≡ Some r → (units.old ≡ r.units + units.new) × IsDone r.verdict) }
+    ensures refused { IfErr result (λ e. (c : Closing) → IsReading bank.old bindings.old c → IsShut c → (n : ℕ) → IsRuledOut n e units.old (decompose n level (under bank.old c one.now.top) (map (under bank.old c) one.now.arguments.items) (under bank.old c other.now.top) (map (under bank.old c) other.now.arguments.items))) }
 {
     if one.arguments.len() != other.arguments.len() {
         return Err(PatternRefusal::Fails);
     }
-    if !have_same_name(bank, one.top, other.top)? {
+    let is_named = have_same_name(bank, one.top, other.top)?;
+    if !is_named {
         return Err(PatternRefusal::Fails);
     }
     let types = type_pairs(alloc, bank, one.top, other.top)?;
@@ -397,8 +404,19 @@ fn are_flexible(one: Head, other: Head) -> bool
     }
 }
 
-fn are_rigid(one: Head, other: Head) -> bool {
-    matches!(one, Head::Rigid) && matches!(other, Head::Rigid)
+// Whether both are rigid.
+fn are_rigid(one: Head, other: Head) -> bool
+    ensures { result ≡ are_both_rigid one other }
+{
+    match one {
+        Head::Abstraction(_) => false,
+        Head::Variable { id: _, level: _ } => false,
+        Head::Rigid => match other {
+            Head::Abstraction(_) => false,
+            Head::Variable { id: _, level: _ } => false,
+            Head::Rigid => true,
+        },
+    }
 }
 
 // Two abstractions, or an abstraction and another term, are opened; two rigid heads give the pairs of their arguments.
@@ -412,8 +430,13 @@ fn replace(
     todo: &mut Vec<Pair>,
     units: &mut u64,
 ) -> Result<(), PatternRefusal>
+    requires one { IsLooked bank.old bindings.old one.now }
+    requires other { IsLooked bank.old bindings.old other.now }
+    requires flexible { is_flexible one.now.head other.now.head ≡ false }
     ensures kept { Extends bank.old bank.new }
     ensures grown { Grows bindings.old bindings.new }
+    ensures replaced { OnOk result ((c : Closing) → IsReading bank.old bindings.old c → IsShut c → (n next : ℕ) (p : Equation) → IsSeenPair bank.old c level one.now other.now p → (r : Ruled) → rule n next p ≡ Some r → (units.old ≡ r.units + units.new) × IsDone r.verdict) }
+    ensures refused { IfErr result (λ e. (c : Closing) → IsReading bank.old bindings.old c → IsShut c → (n next : ℕ) (p : Equation) → IsSeenPair bank.old c level one.now other.now p → IsRuledOut n e units.old (rule n next p)) }
 {
     if are_rigid(one.head, other.head) {
         return decompose(alloc, bank, bindings, one, other, level, todo, units);
@@ -442,6 +465,7 @@ fn take_seen(
     ensures grown { Grows bindings.old bindings.new }
     ensures judged { IfOk result (λ v. (c : Closing) → IsReading bank.old bindings.old c → IsShut c → (n : ℕ) (p : Equation) → IsSeenPair bank.old c level one.now other.now p → (r : Ruled) → rule n next.old p ≡ Some r →
         IsTaken v units.old units.new r) }
+    ensures refused { IfErr result (λ e. (c : Closing) → IsReading bank.old bindings.old c → IsShut c → (n : ℕ) (p : Equation) → IsSeenPair bank.old c level one.now other.now p → IsRuledOut n e units.old (rule n next.old p)) }
 {
     if are_flexible(one.head, other.head) {
         let is_done = by_variables(alloc, bank, bindings, next, one, other, level, units)?;
@@ -472,6 +496,7 @@ pub(crate) fn take(
     ensures more { next.old ≤ next.new }
     ensures grown { Grows bindings.old bindings.new }
     ensures judged { IfOk result (λ v. (c : Closing) → IsReading bank.old bindings.old c → IsShut c → (n : ℕ) (r : Ruled) → rule n next.old (pair_under bank.old c pair) ≡ Some r → IsTaken v units.old units.new r) }
+    ensures refused { IfErr result (λ e. (c : Closing) → IsReading bank.old bindings.old c → IsShut c → (n : ℕ) → IsRuledOut n e units.old (rule n next.old (pair_under bank.old c pair))) }
 {
     let right = term_of(bank, pair.right)?;
     let one = look(alloc, bank, bindings, pair.left, CONTRACTIONS)?;

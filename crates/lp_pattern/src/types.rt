@@ -9,7 +9,7 @@ ghost use Rattle.lp_pattern.specs.Reading.{paired, type_pairs_of};
 ghost use Rattle.lp_pattern.specs.Comparing.{IsLoose, HasSameTop, IsComparedTo, IsPassed};
 ghost use Rattle.lp_pattern.specs.Growing.{Grows};
 ghost use Rattle.lp_equations.specs.Reading.{IsPair, read_pairs};
-ghost use Rattle.lp_pattern.specs.Filling.{equations, AreKnown, IsStill, AreSolved, AreRefused};
+ghost use Rattle.lp_pattern.specs.Filling.{equations, IsStill, AreSolved, IsSolvedIn, IsUnsolvedIn};
 
 use crate::bindings::Bindings;
 use crate::fault::PatternRefusal;
@@ -39,12 +39,16 @@ fn filled_pairs(
     pairs: &[(TypeId, TypeId)],
 ) -> Result<Vec<Pair>, Memory>
     ensures kept { Extends bank.old bank.new }
-    ensures filled { IfOk result (λ filled. (θ : ℕ → Ty) → AreTypes bank.old bindings.now θ → AreKnown bank.old pairs.now →
+    ensures filled { IfOk result (λ filled. (θ : ℕ → Ty) → AreTypes bank.old bindings.now θ →
         read_pairs (type_tree bank.new) var filled.items ≡ equations (type_pairs_of bank.old θ pairs.now)) }
 {
+    let known = bank.type_count();
     let mut done = TypesFilled::new(alloc);
     let mut filled = Vec::new(alloc);
     for pair in pairs.iter().rev().copied() {
+        if pair.0.0 >= known || pair.1.0 >= known {
+            return Err(Memory);
+        }
         let left = filled_in(alloc, bank, bindings, &mut done, pair.0)?;
         let right = filled_in(alloc, bank, bindings, &mut done, pair.1)?;
         filled.push(Pair { left, right })?;
@@ -76,10 +80,9 @@ pub(crate) fn solve_types(
 ) -> Result<(), PatternRefusal>
     ensures kept { Extends bank.old bank.new }
     ensures grown { Grows bindings.old bindings.new }
-    ensures solved { OnOk result ((θ : ℕ → Ty) → AreTypes bank.old bindings.old θ → IsStill θ → AreKnown bank.old pairs.now → (n : ℕ) → (r : TypeOutcome) → solve_types n (type_pairs_of bank.old θ pairs.now) [] 0 ≡ Some r →
-        AreSolved bank.new bindings.new θ units.old units.new r) }
-    ensures refused { IfErr result (λ e. (θ : ℕ → Ty) → AreTypes bank.old bindings.old θ → AreKnown bank.old pairs.now → (n : ℕ) → (r : TypeOutcome) → solve_types n (type_pairs_of bank.old θ pairs.now) [] 0 ≡ Some r →
-        AreRefused e units.old r) }
+    ensures solved { OnOk result ((θ : ℕ → Ty) → AreTypes bank.old bindings.old θ → (n : ℕ) (o : TypeOutcome) → solve_types n (type_pairs_of bank.old θ pairs.now) [] 0 ≡ Some o → IsSolvedIn units.old units.new o) }
+    ensures types { OnOk result ((θ : ℕ → Ty) → AreTypes bank.old bindings.old θ → IsStill θ → (n : ℕ) (o : TypeOutcome) → solve_types n (type_pairs_of bank.old θ pairs.now) [] 0 ≡ Some o → AreSolved bank.new bindings.new θ units.old units.new o) }
+    ensures refused { IfErr result (λ e. (θ : ℕ → Ty) → AreTypes bank.old bindings.old θ → (n : ℕ) (o : TypeOutcome) → solve_types n (type_pairs_of bank.old θ pairs.now) [] 0 ≡ Some o → IsUnsolvedIn e units.old o) }
 {
     if pairs.is_empty() {
         return Ok(());

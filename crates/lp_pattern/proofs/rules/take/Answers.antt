@@ -1,7 +1,13 @@
+use Rattle.std.proofs.Common.{ap, ◌∙◌}
 use Rattle.lp_term.proofs.Trees.{extends-trans}
-use Rattle.lp_pattern.proofs.Results.{if_ok}
-use Rattle.lp_pattern.proofs.Walking.{reading_kept, looked_stays}
+use Rattle.lp_pattern.specs.Comparing.{pair_under}
+use Rattle.lp_pattern.specs.Refusing.{IsOfTerm}
+use Rattle.lp_pattern.specs.Under.{under}
 use Rattle.lp_pattern.proofs.Judging.{seen_pair}
+use Rattle.lp_pattern.proofs.Results.{err_and, if_ok, if_err}
+use Rattle.lp_pattern.proofs.Stacks.{under_kept}
+use Rattle.lp_pattern.proofs.Taking.{left_far, right_far}
+use Rattle.lp_pattern.proofs.Walking.{reading_kept, looked_stays}
 use Rattle.lp_pattern.proofs.rules.take.Goals as goal
 
 pub take_seen-requires-clause-one : goal.take_seen-requires-clause-one
@@ -19,3 +25,22 @@ returns-clause-judged c =
     (seen_pair c.args.bank.now c.look.new.bank c.look-2.new.bank r 1000000 c.args.pair c.in_ok-right.right c.in_ok-one.one c.in_ok-other.other k m c.in_ok-right.ensures.same c.in_ok-right.ensures.within c.in_ok-one.ensures.looked.known (c.in_ok-one.ensures.reached r i)
     (c.in_ok-other.ensures.reached r j)) q e)
     c.take_seen.ensures.judged
+
+pub returns-in_err-one-clause-refused : goal.returns-in_err-one-clause-refused
+returns-in_err-one-clause-refused c =
+    err_and c.from_residual-in_err-one.result (λ e. IsOfTerm c.in_err-one.field-0.0 e) _ c.from_residual-in_err-one.ensures.1
+    (λ y o r i g n. left_far n c.args.next.now c.args.units.now (pair_under c.args.bank.now r c.args.pair) c.in_err-one.field-0.0 y o (c.in_err-one.ensures.refused r i))
+
+pub returns-in_err-other-clause-refused : goal.returns-in_err-other-clause-refused
+returns-in_err-other-clause-refused c =
+    err_and c.from_residual-in_err-other.result (λ e. IsOfTerm c.in_err-other.field-0.0 e) _ c.from_residual-in_err-other.ensures.1
+    (λ y o r i g n.
+    right_far n c.args.next.now c.args.units.now (pair_under c.args.bank.now r c.args.pair) (under c.look.new.bank r c.in_ok-right.right) c.in_err-other.field-0.0 y o
+    (under_kept c.args.bank.now c.look.new.bank r c.in_ok-right.right c.in_ok-one.ensures.kept c.in_ok-right.ensures.within ∙ ap (under c.args.bank.now r) c.in_ok-right.ensures.same)
+    (c.in_err-other.ensures.refused r (reading_kept c.args.bank.now c.look.new.bank c.args.bindings.now r c.in_ok-one.ensures.kept i)))
+
+pub returns-clause-refused : goal.returns-clause-refused
+returns-clause-refused c =
+    if_err c.take_seen.result _ _
+    (λ e f r i g n. f r (reading_kept c.args.bank.now c.look-2.new.bank c.args.bindings.now r (extends-trans c.args.bank.now c.look.new.bank c.look-2.new.bank c.in_ok-one.ensures.kept c.in_ok-other.ensures.kept) i) g n (pair_under c.args.bank.now r c.args.pair) (seen_pair c.args.bank.now c.look.new.bank c.look-2.new.bank r 1000000 c.args.pair c.in_ok-right.right c.in_ok-one.one c.in_ok-other.other c.in_ok-one.ensures.kept c.in_ok-other.ensures.kept c.in_ok-right.ensures.same c.in_ok-right.ensures.within c.in_ok-one.ensures.looked.known (c.in_ok-one.ensures.reached r i) (c.in_ok-other.ensures.reached r (reading_kept c.args.bank.now c.look.new.bank c.args.bindings.now r c.in_ok-one.ensures.kept i))))
+    c.take_seen.ensures.refused

@@ -1,5 +1,11 @@
-use Rattle.std.proofs.Common.{sym, ◌∙◌}
-use Rattle.lp_pattern.proofs.Judging.{taken_done, taken_delayed, taken_other}
+use Rattle.std.proofs.Common.{ℕ, sym, ◌∙◌}
+use Rattle.lp_term.proofs.Moves.{passed_up}
+use Rattle.lp_model.specs.Pair.{Closing, Pair as Equation}
+use Rattle.lp_model.specs.Rule.{rule}
+use Rattle.lp_pattern.specs.Ruling.{IsSeenPair, IsRuledOut}
+use Rattle.lp_pattern.specs.Stripping.{IsShut}
+use Rattle.lp_pattern.specs.Under.{IsReading}
+use Rattle.lp_pattern.proofs.Judging.{taken_done, taken_delayed, taken_out}
 use Rattle.lp_pattern.proofs.rules.take_seen.Goals as goal
 
 pub by_variables-requires-clause-flexible : goal.by_variables-requires-clause-flexible
@@ -13,5 +19,21 @@ pub returns-then-are_flexible-clause-judged : goal.returns-then-are_flexible-cla
 returns-then-are_flexible-clause-judged c = λ r i g n p h q e.
     taken_delayed c.args.bank.now c.args.bindings.now r c.args.one.now c.args.other.now i c.requires.one c.requires.other n c.args.next.now c.args.level p h q e c.args.units.now c.by_variables.new.units c.in_ok-is_done.is_done (record { left = c.args.one.now.whole; right = c.args.other.now.whole; level = c.args.level }) (sym c.are_flexible.ensures ∙ c.if-are_flexible.true) c.if-is_done.false (c.in_ok-is_done.ensures.judged r i g n p h)
 
+pub returns-in_err-is_done-clause-refused : goal.returns-in_err-is_done-clause-refused
+returns-in_err-is_done-clause-refused c =
+    passed_up c.from_residual.result c.in_err-is_done.field-0.0
+    (λ e. (r : Closing) → IsReading c.args.bank.now c.args.bindings.now r → IsShut r → (n : ℕ) (p : Equation) → IsSeenPair c.args.bank.now r c.args.level c.args.one.now c.args.other.now p → IsRuledOut n e c.args.units.now (rule n c.args.next.now p))
+    c.from_residual.ensures.1
+    (λ r i g n p h. taken_out c.args.bank.now c.args.bindings.now r c.args.one.now c.args.other.now n c.args.next.now c.args.level c.args.units.now p c.in_err-is_done.field-0.0 i c.requires.one c.requires.other h (sym c.are_flexible.ensures ∙ c.if-are_flexible.true) (c.in_err-is_done.ensures.refused r i g n p h))
+
+pub replace-requires-clause-flexible : goal.replace-requires-clause-flexible
+replace-requires-clause-flexible c = sym c.are_flexible.ensures ∙ c.if-are_flexible.false
+
+pub returns-in_err-replace-clause-refused : goal.returns-in_err-replace-clause-refused
+returns-in_err-replace-clause-refused c =
+    passed_up c.from_residual-in_err-replace.result c.in_err-replace.field-0.0
+    (λ e. (r : Closing) → IsReading c.args.bank.now c.args.bindings.now r → IsShut r → (n : ℕ) (p : Equation) → IsSeenPair c.args.bank.now r c.args.level c.args.one.now c.args.other.now p → IsRuledOut n e c.args.units.now (rule n c.args.next.now p))
+    c.from_residual-in_err-replace.ensures.1 (λ r i g n p h. c.in_err-replace.ensures.refused r i g n c.args.next.now p h)
+
 pub returns-clause-judged : goal.returns-clause-judged
-returns-clause-judged c = λ r i g n p h q e. taken_other c.args.bank.now c.args.bindings.now r c.args.one.now c.args.other.now i c.requires.one c.requires.other n c.args.next.now c.args.level p h q e c.args.units.now c.replace.new.units (sym c.are_flexible.ensures ∙ c.if-are_flexible.false)
+returns-clause-judged c = λ r i g n p h q e. c.in_ok-replace.ensures.replaced r i g n c.args.next.now p h q e

@@ -7,5 +7,5 @@ use Rattle.lp_pattern.proofs.types.filled_pairs.Given as goal
 
 abbrev pub invariant-loop-pair : goal.invariant-loop-pair
 invariant-loop-pair l =
-    Extends l.fn.bank l.bank ×
+    Extends l.fn.bank l.bank × AreKnown l.fn.bank l.yielded ×
     ((θ : ℕ → Ty) → AreTypes l.fn.bank l.bindings θ → AreKnown l.fn.bank l.yielded → AreFilled l.bank θ l.done × AreIn l.bank l.filled.items × (map (held l.bank) l.filled.items ≡ map (equation_under l.fn.bank θ) l.yielded))

@@ -1,7 +1,7 @@
 use Rattle.std.proofs.Common.{ap, refl}
 use Rattle.lp_term.specs.Nodes.{type_tree}
 use Rattle.lp_equations.specs.Reading.{reading, reads}
-use Rattle.lp_pattern.proofs.TypesSolved.{all_solved, refused_rightly, ended_there, general_there, refused_there}
+use Rattle.lp_pattern.proofs.TypesSolved.{all_solved, refused_rightly, units_solved, ended_there, general_there, refused_there}
 use Rattle.lp_pattern.specs.Refusing.{IsOfEquations}
 use Rattle.lp_pattern.proofs.Results.{err_and}
 use Rattle.lp_pattern.proofs.types.solve_types.Goals as goal
@@ -11,16 +11,22 @@ returns-in_err-units-clause-refused c =
     let later = c.filled_pairs.new.bank in
     let none = ap (reading (type_tree later)) c.new-solution.ensures in
     err_and c.from_residual-in_err-units.result (λ e. IsOfEquations c.in_err-units.field-0.0 e) _ c.from_residual-in_err-units.ensures.1
-    (λ e is θ A k n r d.
+    (λ e is θ A n r d.
     refused_rightly c.in_err-units.field-0.0 e c.args.units.now n _ r is
-    (refused_there (type_tree later) _ _ _ _ c.args.units.now c.in_err-units.field-0.0 none c.as_slice-2.ensures.value (c.in_ok-filled.ensures.filled θ A k) c.in_err-units.ensures.refused) d)
+    (refused_there (type_tree later) _ _ _ _ c.args.units.now c.in_err-units.field-0.0 none c.as_slice-2.ensures.value (c.in_ok-filled.ensures.filled θ A) c.in_err-units.ensures.refused) d)
 
-pub returns-clause-solved : goal.returns-clause-solved
-returns-clause-solved c = λ θ A still k n r d.
+pub returns-clause-types : goal.returns-clause-types
+returns-clause-types c = λ θ A still n r d.
     let b = c.args.bank.now in
     let later = c.filled_pairs.new.bank in
     let none = ap (reading (type_tree later)) c.new-solution.ensures in
-    let same = c.in_ok-filled.ensures.filled θ A k in
+    let same = c.in_ok-filled.ensures.filled θ A in
     all_solved b later c.args.bindings.now c.adopt.new.bindings θ (reads later c.unify_within.new.bindings.made) c.args.bindings.now.types.entries c.unify_within.new.bindings.made.entries c.args.pairs.now c.args.units.now
     c.in_ok-units.field-0 n r c.in_ok-filled.ensures.kept A still refl c.in_ok-adopt.ensures.taken (ended_there (type_tree later) _ _ _ _ c.args.units.now c.in_ok-units.field-0 _ none c.as_slice-2.ensures.value same c.in_ok-units.ensures.solved)
     (general_there (type_tree later) _ _ _ _ _ none c.as_slice-2.ensures.value same c.in_ok-units.ensures.general) c.in_ok-units.ensures.kept d
+
+pub returns-clause-solved : goal.returns-clause-solved
+returns-clause-solved c = λ θ A n o d.
+    let later = c.filled_pairs.new.bank in
+    units_solved _ _ c.args.units.now c.in_ok-units.field-0 n o
+    (ended_there (type_tree later) _ _ _ _ c.args.units.now c.in_ok-units.field-0 _ (ap (reading (type_tree later)) c.new-solution.ensures) c.as_slice-2.ensures.value (c.in_ok-filled.ensures.filled θ A) c.in_ok-units.ensures.solved) d
