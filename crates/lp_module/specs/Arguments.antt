@@ -11,7 +11,7 @@ own_count before (Name s) = 0
 own_count before (Known n s) = 0
 own_count before (Number n s) = 0
 own_count before (Text s) = 0
-own_count before (Abs s note b) = 0
+own_count before (Abs s annotation b) = 0
 
 -- of all nodes, in order
 abbrev pub counts_behind : List ℕ → List RawNode → List ℕ
