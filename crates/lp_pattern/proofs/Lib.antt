@@ -25,6 +25,10 @@ pub mod Taking
 pub mod Tops
 pub mod TypeSolving
 pub mod TopScans
+pub mod TopSettles
+pub mod Indices
+pub mod SettleSteps
+pub mod SettleMoves
 pub mod VisitSteps
 pub mod Verdicts
 pub mod Visits
@@ -33,3 +37,10 @@ pub mod TypeTurns
 pub mod FilledTypes
 pub mod TypesSolved
 pub mod FilledTerms
+pub mod ReadingsBehind
+pub mod Converting
+pub mod Cleans
+pub mod Refits
+pub mod Passings
+pub mod PruneSteps
+pub mod PruneMoves

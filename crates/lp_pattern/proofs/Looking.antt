@@ -29,7 +29,7 @@ pub closed_substitute : (c : Closing) (u b : Term) → closed c (substitute u b)
 closed_substitute c u b = ap (fill (at_variables c.terms)) (typed_substitute c.types u b) ∙ fill-substitute (at_variables c.terms) (instance_term c.types u) (instance_term c.types b)
 
 -- a step of a term is one of it on arguments, and a head step
-weak_apply : (ts : List Term) (t u s : Term) → weak_step (app t u) ≡ Some s → weak_step (apply (app t u) ts) ≡ Some (apply s ts)
+pub weak_apply : (ts : List Term) (t u s : Term) → weak_step (app t u) ≡ Some s → weak_step (apply (app t u) ts) ≡ Some (apply s ts)
 weak_apply [] t u s e = e
 weak_apply (x ∷ ts) t u s e = weak_apply ts (app t u) x (app s x) (ap (option_term (λ y. app y x)) e)
 

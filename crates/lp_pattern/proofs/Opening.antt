@@ -33,7 +33,7 @@ opens_leaves l d i = go (nat_lt i d)
     go false = tt
 
 -- none is open
-opens_none : (l i : ℕ) → opens l 0 i ≡ index i
+pub opens_none : (l i : ℕ) → opens l 0 i ≡ index i
 opens_none l i =
     let e : nat_lt i 0 ≡ false = grind (arith, nat_tests) in
     let z : i - 0 ≡ i = omega arith in
@@ -163,7 +163,7 @@ pub record SeenAt (t : Term) (v : Look) : Type 0 where
   pub ended : weak_step t ≡ None
   pub look : looked t [] ≡ v
 
-on_leaf : (t h : Term) (ts : List Term) (v : Look) → t ≡ apply h ts → IsLeaf h → looked h ts ≡ v → SeenAt t v
+pub on_leaf : (t h : Term) (ts : List Term) (v : Look) → t ≡ apply h ts → IsLeaf h → looked h ts ≡ v → SeenAt t v
 on_leaf t h ts v e l q = record {
   ended = ap weak_step e ∙ weak_leaf ts h l;
   look = ap (λ x. looked x []) e ∙ looked_apply ts [] h ∙ ap (looked h) (append-nil ts) ∙ q;

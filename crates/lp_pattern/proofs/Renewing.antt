@@ -12,14 +12,14 @@ use Rattle.lp_model.specs.Scan.{Side, allows, pattern, renewal}
 use Rattle.lp_pattern.specs.Scanning.{allowed_places, agreeing_places}
 
 -- below n abstractions
-pub raises : ℕ → (Atom → Term) → Atom → Term
+unfoldable pub raises : ℕ → (Atom → Term) → Atom → Term
 raises zero f = f
 raises (suc n) f = raise (raises n f)
 
 mutual
   unfolding raises
 
-  fill_abstractions : (n : ℕ) (f : Atom → Term) (t : Term) → fill f (abstractions n t) ≡ abstractions n (fill (raises n f) t)
+  pub fill_abstractions : (n : ℕ) (f : Atom → Term) (t : Term) → fill f (abstractions n t) ≡ abstractions n (fill (raises n f) t)
   fill_abstractions zero f t = refl
   fill_abstractions (suc n) f t = fill_abstractions n f (abs t)
 
@@ -27,7 +27,7 @@ pub abs_inside : (n : ℕ) (t : Term) → abs (abstractions n t) ≡ abstraction
 abs_inside zero t = refl
 abs_inside (suc n) t = abs_inside n (abs t)
 
-shift_index : (n : ℕ) → shift 0 1 (index n) ≡ index (suc n)
+pub shift_index : (n : ℕ) → shift 0 1 (index n) ≡ index (suc n)
 shift_index n =
     let e : nat_lt n 0 ≡ false = grind (arith, nat_tests) in
     let q : n + 1 ≡ suc n = omega arith in
@@ -40,7 +40,7 @@ shift_choice n a false = refl
 mutual
   unfolding raises
 
-  raises_eigen : (n c k : ℕ) → raises n (indexed c) (eigen k) ≡ (if nat_eq k c then index n else atom (eigen k))
+  pub raises_eigen : (n c k : ℕ) → raises n (indexed c) (eigen k) ≡ (if nat_eq k c then index n else atom (eigen k))
   raises_eigen zero c k = refl
   raises_eigen (suc n) c k = ap (shift 0 1) (raises_eigen n c k) ∙ shift_choice n (eigen k) (nat_eq k c)
 
@@ -51,12 +51,12 @@ mutual
   raises_logic zero c x l = refl
   raises_logic (suc n) c x l = ap (shift 0 1) (raises_logic n c x l)
 
-fill_apply : (f : Atom → Term) (ts : List Term) (h : Term) → fill f (apply h ts) ≡ apply (fill f h) (map (fill f) ts)
+pub fill_apply : (f : Atom → Term) (ts : List Term) (h : Term) → fill f (apply h ts) ≡ apply (fill f h) (map (fill f) ts)
 fill_apply f [] h = refl
 fill_apply f (t ∷ ts) h = fill_apply f ts (app h t)
 
 -- what stands for an eigenconstant below the abstractions of others
-pub placed : List ℕ → ℕ → Term
+unfoldable pub placed : List ℕ → ℕ → Term
 placed [] k = atom (eigen k)
 placed (c ∷ cs) k = fill (raises (length cs) (indexed c)) (placed cs k)
 
@@ -90,15 +90,15 @@ or_right : (a b : Bool) → (a || b) ≡ false → b ≡ false
 or_right true b e = absurd (cc)
 or_right false b e = e
 
-and_first : (a b : Bool) → (a && b) ≡ true → a ≡ true
+pub and_first : (a b : Bool) → (a && b) ≡ true → a ≡ true
 and_first true b e = refl
 and_first false b e = absurd (cc)
 
-and_second : (a b : Bool) → (a && b) ≡ true → b ≡ true
+pub and_second : (a b : Bool) → (a && b) ≡ true → b ≡ true
 and_second true b e = e
 and_second false b e = absurd (cc)
 
-not_true : (a : Bool) → not a ≡ true → a ≡ false
+pub not_true : (a : Bool) → not a ≡ true → a ≡ false
 not_true true e = absurd (cc)
 not_true false e = refl
 
@@ -114,7 +114,7 @@ mutual
 mutual
   unfolding placed
 
-  placed_first : (c : ℕ) (cs : List ℕ) → member c cs ≡ false → placed (c ∷ cs) c ≡ index (length cs)
+  pub placed_first : (c : ℕ) (cs : List ℕ) → member c cs ≡ false → placed (c ∷ cs) c ≡ index (length cs)
   placed_first c cs e =
       let q : nat_eq c c ≡ true = grind (arith, nat_tests) in
       ap (fill (raises (length cs) (indexed c))) (placed_not cs c e) ∙ raises_eigen (length cs) c c ∙ ap (λ b. if b then index (length cs) else atom (eigen c)) q

@@ -203,7 +203,7 @@ top_normal_more (suc n) (suc m) h t = elim (weak_step t) as (λ o. Below (elim o
   | Some s ↦ top_normal_more n m (omega (arith, h)) s
 ]
 
-top_behind : (j m : ℕ) (t s : Term) → steps weak_step j t ≡ Some s → Below (top_normal m t) (top_normal m s)
+pub top_behind : (j m : ℕ) (t s : Term) → steps weak_step j t ≡ Some s → Below (top_normal m t) (top_normal m s)
 top_behind zero m t s e = λ x q. let i : t ≡ s = cc in ap (top_normal m) (sym i) ∙ q
 top_behind (suc j) zero t s e = below_none (top_normal zero s)
 top_behind (suc j) (suc m) t s e = go (weak_step t) refl e (λ u q. top_behind j m u s q)
@@ -213,7 +213,7 @@ top_behind (suc j) (suc m) t s e = go (weak_step t) refl e (λ u q. top_behind j
     go None p q f = absurd (cc)
     go (Some u) p q f = λ x h. top_normal_more m (suc m) (omega arith) s x (f u q x h)
 
-scan_behind : (m n : ℕ) (s : Seen) (inside : Bool) (k j : ℕ) (t u : Term) → steps weak_step j t ≡ Some u → Below (scan_top m n s inside k t) (scan_top m n s inside k u)
+pub scan_behind : (m n : ℕ) (s : Seen) (inside : Bool) (k j : ℕ) (t u : Term) → steps weak_step j t ≡ Some u → Below (scan_top m n s inside k t) (scan_top m n s inside k u)
 scan_behind m zero s inside k j t u e = below_none (scan_top m zero s inside k u)
 scan_behind m (suc n) s inside k j t u e = λ r q.
     top_is m n s inside k u ∙

@@ -27,6 +27,7 @@ use Rattle.lp_pattern.specs.Seen.{IsRigid, IsLooked, IsDeepWhere, seen}
 use Rattle.lp_pattern.specs.Under.{IsReading, under}
 use Rattle.lp_pattern.proofs.Compares.{from_map}
 use Rattle.lp_pattern.proofs.HeadTypes.{names_under}
+use Rattle.lp_pattern.specs.Behind.{IsReadBehind, IsGiven}
 use Rattle.lp_pattern.proofs.Refused.{too_far}
 use Rattle.lp_pattern.proofs.Stacks.{rigid_closed}
 use Rattle.lp_pattern.proofs.Judging.{IsLookedAt, looked_at, Ruling, ruling, seen_abs}
@@ -58,6 +59,19 @@ module _ (b : Nodes) (c : Closing) (t u : Term) (h : Bool) (ts us : List Term) (
       go : (o : TypeOutcome) → IsSolvedIn limit left o → (limit ≡ (with_types level ts us o).units + left) × IsDone (with_types level ts us o).verdict
       go (none w) y = absurd y
       go (solved made w) y = (y, tt)
+
+  pub decompose_gives : (d : Nodes) (s' : Bindings) → ((o : TypeOutcome) → solve_types n (type_pairs_of b c.types ps) [] 0 ≡ Some o → IsReadBehind d s' c o) → (r : Ruled) → decompose n level (closed c t) ts (closed c u) us ≡ Some r →
+      IsGiven d s' c level ts us r.verdict
+  decompose_gives d s' g r x =
+      let w = solving r x in
+      let k = g w.0 w.1 in record {
+        bindings = k.bindings;
+        is = ap (λ z. z.verdict) (w.2 ∙ ap (with_types level ts us) k.is);
+        reading = k.reading;
+        shut = k.shut;
+        still = k.still;
+        terms = k.terms;
+      }
 
   pub decompose_out : (y : PatternRefusal) → ((o : TypeOutcome) → solve_types n (type_pairs_of b c.types ps) [] 0 ≡ Some o → IsUnsolvedIn y limit o) → IsRuledOut n y limit (decompose n level (closed c t) ts (closed c u) us)
   decompose_out refusal.Fails g = λ r x. let w = solving r x in transport (λ z. (z.verdict ≡ fails) × (z.units ≤ limit)) (sym w.2) (go w.0 (g w.0 w.1))

@@ -182,7 +182,7 @@ after_top limit n l s inside k (flexible y m ts) f g = below_then (pattern_of n 
     go (Some b) = below_same _
 
 -- how many steps there are in all: a term that takes none is where it is
-together : (limit m : ℕ) (t t' w : Term) → (m ≡ 0) ⊎ (head_step t ≡ None) → m < limit → steps head_step m t' ≡ Some t → Reached limit t w → (j : ℕ) × (j < limit) × (steps head_step j t' ≡ Some w)
+pub together : (limit m : ℕ) (t t' w : Term) → (m ≡ 0) ⊎ (head_step t ≡ None) → m < limit → steps head_step m t' ≡ Some t → Reached limit t w → (j : ℕ) × (j < limit) × (steps head_step j t' ≡ Some w)
 together limit m t t' w (inl z) l e r =
     let q : Some t' ≡ Some t = sym (ap (λ x. steps head_step x t') z) ∙ e in
     let i : t' ≡ t = cc in
@@ -193,17 +193,17 @@ together limit m t t' w (inr h) l e r = go r.count r.leads
     go zero q = (m, l, e ∙ q)
     go (suc c) q = absurd (let x : None ≡ Some w = sym (ap (λ (x : Option Term). elim x as (λ z. Option Term) [ None ↦ None | Some u ↦ steps head_step c u ]) h) ∙ q in cc)
 
-sooner : (n limit : ℕ) (t w : Term) → n ≤ limit → Reached n t w → Reached limit t w
+pub sooner : (n limit : ℕ) (t w : Term) → n ≤ limit → Reached n t w → Reached limit t w
 sooner n limit t w l r = record { count = r.count; few = omega (arith, r.few, l); leads = r.leads; ends = r.ends }
 
-body_normal : (v b : Term) → v ≡ abs b → head_step v ≡ None → head_step b ≡ None
+pub body_normal : (v b : Term) → v ≡ abs b → head_step v ≡ None → head_step b ≡ None
 body_normal v b e h = go (head_step b) (sym (ap head_step e) ∙ h)
   where
     go : (o : Option Term) → option_term abs o ≡ None → o ≡ None
     go None q = refl
     go (Some c) q = absurd (cc)
 
-seen_top : (limit p : ℕ) (t v : Term) → p < limit → steps weak_step p t ≡ Some v → weak_step v ≡ None → top_look limit t ≡ Some (looked v [])
+pub seen_top : (limit p : ℕ) (t v : Term) → p < limit → steps weak_step p t ≡ Some v → weak_step v ≡ None → top_look limit t ≡ Some (looked v [])
 seen_top limit p t v l e h = ap (option_map (λ s. looked s [])) (top_reached p limit t v l e h)
 
 -- the scan is the look, and what is behind it

@@ -109,11 +109,11 @@ at_first : {A : Type 0} (v w : A) (s : Bool) (o p : Option A) → (if s then Som
 at_first v w true o p e f = e
 at_first v w false o p e f = f e
 
-lookup_past : {A : Type 0} (test : ℕ → Bool) (xs ys : List (ℕ × A)) → lookup test xs ≡ None → lookup test (xs ++ ys) ≡ lookup test ys
+pub lookup_past : {A : Type 0} (test : ℕ → Bool) (xs ys : List (ℕ × A)) → lookup test xs ≡ None → lookup test (xs ++ ys) ≡ lookup test ys
 lookup_past test [] ys e = refl
 lookup_past test (x ∷ xs) ys e = past x.1 (test x.0) (lookup test xs) (lookup test (xs ++ ys)) (lookup test ys) e (lookup_past test xs ys)
 
-lookup_at : {A : Type 0} (test : ℕ → Bool) (xs ys : List (ℕ × A)) (v : A) → lookup test xs ≡ Some v → lookup test (xs ++ ys) ≡ Some v
+pub lookup_at : {A : Type 0} (test : ℕ → Bool) (xs ys : List (ℕ × A)) (v : A) → lookup test xs ≡ Some v → lookup test (xs ++ ys) ≡ Some v
 lookup_at test [] ys v e = absurd (cc)
 lookup_at test (x ∷ xs) ys v e = at_first x.1 v (test x.0) (lookup test xs) (lookup test (xs ++ ys)) e (lookup_at test xs ys v)
 

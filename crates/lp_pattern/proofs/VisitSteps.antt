@@ -35,7 +35,7 @@ pub record First (limit n : ℕ) (s : Side) (p : Part) (ps : List Part) (r : Sca
 pub first : (limit n : ℕ) (s : Side) (p : Part) (ps : List Part) (r : Scanned) → scan_parts limit n s (p ∷ ps) ≡ Some r → First limit n s p ps r
 first limit n s p ps r e = let w = from_bind (behind limit n s ps) (scan_top limit n s p.inside p.last p.term) r e in record { own = w.0; is = w.1; rest = w.2 }
 
-with_first : (limit n : ℕ) (s : Side) (p : Part) (ps : List Part) (x : Scanned) → scan_top limit n s p.inside p.last p.term ≡ Some x → scan_parts limit n s (p ∷ ps) ≡ behind limit n s ps x
+pub with_first : (limit n : ℕ) (s : Side) (p : Part) (ps : List Part) (x : Scanned) → scan_top limit n s p.inside p.last p.term ≡ Some x → scan_parts limit n s (p ∷ ps) ≡ behind limit n s ps x
 with_first limit n s p ps x e = ap (option_and_then (behind limit n s ps)) e
 
 -- what was seen of a part

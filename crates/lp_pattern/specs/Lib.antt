@@ -1,7 +1,11 @@
+pub mod Behind
+pub mod Cleaning
 pub mod Comparing
 pub mod Filling
 pub mod Growing
+pub mod Pruning
 pub mod Reading
+pub mod Passing
 pub mod Refusing
 pub mod Ruling
 pub mod Scanning
@@ -11,3 +15,4 @@ pub mod TopLooks
 pub mod Under
 pub mod Visiting
 pub mod FillingTerms
+pub mod Settling

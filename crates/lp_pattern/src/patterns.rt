@@ -7,6 +7,7 @@ ghost use Rattle.lp_model.specs.Patterns.{member};
 ghost use Rattle.lp_model.specs.Pair.{Closing};
 ghost use Rattle.lp_pattern.specs.Under.{IsReading, under};
 ghost use Rattle.lp_pattern.specs.Seen.{IsLooked};
+ghost use Rattle.lp_pattern.specs.Settling.{open_index};
 ghost use Rattle.lp_pattern.specs.Stripping.{opens, eigen_past, name_term, is_at, wanted_at, IsShut, IsNameOf, IsNoAbstraction, IsStripped, Strips, HasForm, HasNoForm, IsTaken, read_at, IsAlone, IsEigen, HasNoEigen, IsPattern, HasNoPattern};
 
 use crate::bindings::Bindings;
@@ -62,7 +63,9 @@ impl Opened {
     }
 
     // The index that stands for an eigenconstant.
-    pub(crate) fn index(self, eigen: u64) -> Option<u64> {
+    pub(crate) fn index(self, eigen: u64) -> Option<u64>
+        ensures { result ≡ open_index self.level self.depth eigen }
+    {
         if eigen <= self.level {
             return None;
         }

@@ -1,14 +1,21 @@
 // Pruning and lowering: a pattern that does not fit gives way to a new variable on what is allowed.
-ghost use Rattle.std.specs.Prelude.{◌≡◌, ◌≤◌, ◌<◌, ◌++◌, suc, min, nat_le, length, true, IfOk, OnOk, IfErr};
+ghost use Rattle.std.specs.Prelude.{◌≡◌, ◌≤◌, ◌<◌, ◌∷◌, ◌++◌, ℕ, [], suc, min, nat_le, nat_eq, length, true, None, Some, IfOk, OnOk, IfErr};
+ghost use Rattle.indexmap.specs.IndexMap.{get};
+ghost use Rattle.lp_calculus.specs.Fill.{Within};
 ghost use Rattle.lp_calculus.specs.Term.{atom, index, eigen, logic};
 ghost use Rattle.lp_term.specs.Nodes.{Extends, tree};
 ghost use Rattle.lp_model.specs.Look.{are_distinct, are_above};
-ghost use Rattle.lp_model.specs.Scan.{allows, pattern, renewal};
+ghost use Rattle.lp_model.specs.Pair.{Closing};
+ghost use Rattle.lp_model.specs.Scan.{allows, pattern, renewal, prune, Pruned};
+ghost use Rattle.lp_pattern.specs.declared.look.Head.TheVariants.{Abstraction, Rigid, Variable};
 ghost use Rattle.lp_pattern.specs.Growing.{Grows};
+ghost use Rattle.lp_pattern.specs.Pruning.{Known, IsPruned, Prunes, visit_at};
 ghost use Rattle.lp_pattern.specs.Reading.{side_of};
 ghost use Rattle.lp_pattern.specs.Refusing.{IsNoFailure};
 ghost use Rattle.lp_pattern.specs.Seen.{IsLooked};
 ghost use Rattle.lp_pattern.specs.Scanning.{Pushes, AreTerms, Binds, one_if, low_eigens, allowed_places};
+ghost use Rattle.lp_pattern.specs.Stripping.{IsShut};
+ghost use Rattle.lp_pattern.specs.Under.{IsReading, under};
 
 use crate::bindings::Bindings;
 use crate::fault::PatternRefusal;
@@ -120,6 +127,7 @@ fn renew(
     ensures more { next.old ≤ next.new }
     ensures next { OnOk result (next.new ≡ suc next.old) }
     ensures grown { Grows bindings.old bindings.new }
+    ensures types { bindings.new.types ≡ bindings.old.types }
     ensures bound { OnOk result (are_distinct eigens.now ≡ true → are_above level eigens.now ≡ true →
         Binds bank.new bindings.old bindings.new id (renewal (side_of side.now) next.old (pattern id level eigens.now)).value) }
 {
@@ -145,9 +153,11 @@ fn visit_variable(
     left: &mut Vec<Visit>,
 ) -> Result<(), PatternRefusal>
     requires looked { IsLooked bank.old bindings.old looked.now }
+    requires head { looked.now.head ≡ Variable id level }
     ensures kept { Extends bank.old bank.new }
     ensures more { next.old ≤ next.new }
     ensures grown { Grows bindings.old bindings.new }
+    ensures prunes { OnOk result (Prunes (side_of side.now) bank.old bank.new bindings.old bindings.new next.old next.new (left.old.items ++ visit_at visit looked.now.whole ∷ []) left.new.items) }
     ensures unfailing { IfErr result IsNoFailure }
 {
     let arguments = looked.arguments.as_slice();
@@ -160,15 +170,76 @@ fn visit_variable(
         return Ok(());
     }
     renew(alloc, bank, bindings, side, next, id, level, eigens)?;
-    left.push(visit)?;
+    left.push(visit.at(looked.whole))?;
     Ok(())
 }
 
 // The body of an abstraction.
-fn visit_body(visit: Visit, body: TermId, left: &mut Vec<Visit>) -> Result<(), Memory> {
+fn visit_body(
+    bank: &Bank,
+    bindings: &Bindings,
+    side: &Side,
+    visit: Visit,
+    looked: &Looked,
+    body: TermId,
+    left: &mut Vec<Visit>,
+) -> Result<(), Memory>
+    requires looked { IsLooked bank.now bindings.now looked.now }
+    requires head { looked.now.head ≡ Abstraction body }
+    ensures { OnOk result ((next : ℕ) → Prunes (side_of side.now) bank.now bank.now bindings.now bindings.now next next (left.old.items ++ visit_at visit looked.now.whole ∷ []) left.new.items) }
+{
     let inner = visit.body(body)?;
     left.push(inner)?;
     Ok(())
+}
+
+// The arguments of a rigid head.
+fn visit_rigid(
+    bank: &Bank,
+    bindings: &Bindings,
+    side: &Side,
+    visit: Visit,
+    looked: &Looked,
+    left: &mut Vec<Visit>,
+) -> Result<(), Memory>
+    requires looked { IsLooked bank.now bindings.now looked.now }
+    requires head { looked.now.head ≡ Rigid }
+    ensures { OnOk result ((next : ℕ) → Prunes (side_of side.now) bank.now bank.now bindings.now bindings.now next next (left.old.items ++ visit_at visit looked.now.whole ∷ []) left.new.items) }
+{
+    push_arguments(visit, looked.arguments.as_slice(), false, left)
+}
+
+// Visits a part by what was seen of it.
+fn visit_seen(
+    alloc: Global,
+    bank: &mut Bank,
+    bindings: &mut Bindings,
+    side: &Side,
+    next: &mut u64,
+    visit: Visit,
+    looked: &Looked,
+    left: &mut Vec<Visit>,
+) -> Result<(), PatternRefusal>
+    requires looked { IsLooked bank.old bindings.old looked.now }
+    ensures kept { Extends bank.old bank.new }
+    ensures more { next.old ≤ next.new }
+    ensures grown { Grows bindings.old bindings.new }
+    ensures prunes { OnOk result (Prunes (side_of side.now) bank.old bank.new bindings.old bindings.new next.old next.new (left.old.items ++ visit_at visit looked.now.whole ∷ []) left.new.items) }
+    ensures unfailing { IfErr result IsNoFailure }
+{
+    match looked.head {
+        Head::Abstraction(body) => {
+            visit_body(bank, bindings, side, visit, looked, body, left)?;
+            Ok(())
+        }
+        Head::Rigid => {
+            visit_rigid(bank, bindings, side, visit, looked, left)?;
+            Ok(())
+        }
+        Head::Variable { id, level } => visit_variable(
+            alloc, bank, bindings, side, next, visit, looked, id, level, left,
+        ),
+    }
 }
 
 // Visits a part.
@@ -184,22 +255,11 @@ fn visit_part(
     ensures kept { Extends bank.old bank.new }
     ensures more { next.old ≤ next.new }
     ensures grown { Grows bindings.old bindings.new }
+    ensures prunes { OnOk result (Prunes (side_of side.now) bank.old bank.new bindings.old bindings.new next.old next.new (left.old.items ++ visit ∷ []) left.new.items) }
     ensures unfailing { IfErr result IsNoFailure }
 {
     let looked = look(alloc, bank, bindings, visit.term, CONTRACTIONS)?;
-    match looked.head {
-        Head::Abstraction(body) => {
-            visit_body(visit, body, left)?;
-            Ok(())
-        }
-        Head::Rigid => {
-            push_arguments(visit, looked.arguments.as_slice(), false, left)?;
-            Ok(())
-        }
-        Head::Variable { id, level } => visit_variable(
-            alloc, bank, bindings, side, next, visit, &looked, id, level, left,
-        ),
-    }
+    visit_seen(alloc, bank, bindings, side, next, visit, &looked, left)
 }
 
 // Changes the patterns of a term that do not fit, left to right. It takes no units.
@@ -214,6 +274,8 @@ pub(crate) fn prune(
     ensures kept { Extends bank.old bank.new }
     ensures more { next.old ≤ next.new }
     ensures grown { Grows bindings.old bindings.new }
+    ensures pruned { OnOk result (side.now.id < next.old → term.0 < length bank.old.terms → (c : Closing) → IsReading bank.old bindings.old c → IsShut c → ((x : ℕ) → next.old ≤ x → get nat_eq bindings.old.terms x ≡ None) →
+        (levels : ℕ → ℕ) → Within (Known levels next.old) 0 (under bank.old c term) → (n : ℕ) → (r : Pruned) → prune n (side_of side.now) next.old (under bank.old c term) ≡ Some r → IsPruned (record { closing = c; levels = levels; next = next.old }) bank.new bindings.new next.new term r) }
     ensures unfailing { IfErr result IsNoFailure }
 {
     let mut left = Vec::new(alloc);

@@ -8,8 +8,10 @@ ghost use Rattle.lp_model.specs.Look.{are_distinct};
 ghost use Rattle.lp_model.specs.Pair.{Closing, Pair as Equation};
 ghost use Rattle.lp_model.specs.Patterns.{eigens, agreeing};
 ghost use Rattle.lp_model.specs.Rule.{Ruled, rule, by_looks, by_rule_4, by_rule_5, solve_for, has_head, decompose};
+ghost use Rattle.lp_pattern.specs.Behind.{IsGiven};
 ghost use Rattle.lp_pattern.specs.Comparing.{pair_under};
 ghost use Rattle.lp_pattern.specs.declared.look.Head.TheVariants.{Rigid, Variable};
+ghost use Rattle.lp_pattern.specs.Filling.{IsStill};
 ghost use Rattle.lp_pattern.specs.Growing.{Grows};
 ghost use Rattle.lp_pattern.specs.Reading.{side_of};
 ghost use Rattle.lp_pattern.specs.Refusing.{IsNoFailure};
@@ -63,6 +65,7 @@ fn decompose(
     ensures kept { Extends bank.old bank.new }
     ensures grown { Grows bindings.old bindings.new }
     ensures solved { OnOk result ((c : Closing) → IsReading bank.old bindings.old c → IsShut c → (n : ℕ) (r : Ruled) → (decompose n level (under bank.old c one.now.top) (map (under bank.old c) one.now.arguments.items) (under bank.old c other.now.top) (map (under bank.old c) other.now.arguments.items)) ≡ Some r → (units.old ≡ r.units + units.new) × IsDone r.verdict) }
+    ensures given { OnOk result ((c : Closing) → IsReading bank.old bindings.old c → IsShut c → IsStill c.types → (n : ℕ) (r : Ruled) → (decompose n level (under bank.old c one.now.top) (map (under bank.old c) one.now.arguments.items) (under bank.old c other.now.top) (map (under bank.old c) other.now.arguments.items)) ≡ Some r → IsGiven bank.new bindings.new c level (map (under bank.old c) one.now.arguments.items) (map (under bank.old c) other.now.arguments.items) r.verdict) }
     ensures refused { IfErr result (λ e. (c : Closing) → IsReading bank.old bindings.old c → IsShut c → (n : ℕ) → IsRuledOut n e units.old (decompose n level (under bank.old c one.now.top) (map (under bank.old c) one.now.arguments.items) (under bank.old c other.now.top) (map (under bank.old c) other.now.arguments.items))) }
 {
     if one.arguments.len() != other.arguments.len() {

@@ -6,6 +6,7 @@ ghost use Rattle.lp_model.specs.Pair.{Closing};
 ghost use Rattle.lp_model.specs.Scan.{Scanned as Outcome, is_side, allows_head, scan, scanned_pattern};
 ghost use Rattle.lp_pattern.specs.declared.fault.PatternRefusal.TheVariants.{Fails};
 ghost use Rattle.lp_pattern.specs.declared.look.Head.TheVariants.{Abstraction, Rigid, Variable};
+ghost use Rattle.lp_pattern.specs.Pruning.{visit_at};
 ghost use Rattle.lp_pattern.specs.Reading.{side_of};
 ghost use Rattle.lp_pattern.specs.Scanning.{Adds, IsBroken, visits};
 ghost use Rattle.lp_pattern.specs.Seen.{IsLooked};
@@ -44,6 +45,17 @@ pub(crate) struct Visit {
 }
 
 impl Visit {
+    // Another term in its place.
+    pub(crate) fn at(self, term: TermId) -> Visit
+        ensures { result ≡ visit_at self term }
+    {
+        Visit {
+            term,
+            opened: self.opened,
+            is_inside: self.is_inside,
+        }
+    }
+
     // The body of the abstraction.
     pub(crate) fn body(self, body: TermId) -> Result<Visit, Memory>
         ensures term { IfOk result (λ v. v.term ≡ body) }

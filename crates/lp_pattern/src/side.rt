@@ -3,6 +3,7 @@ ghost use Rattle.std.specs.Prelude.{◌≡◌, ◌&&◌, nat_le};
 ghost use Rattle.lp_model.specs.Patterns.{member};
 ghost use Rattle.lp_model.specs.Scan.{is_side, allows, allow};
 ghost use Rattle.lp_pattern.specs.Reading.{side_of};
+ghost use Rattle.lp_pattern.specs.Settling.{side_index};
 
 use crate::patterns::Opened;
 
@@ -61,7 +62,9 @@ impl Side {
     }
 
     // The abstraction that stands for an eigenconstant, counted from the innermost one.
-    pub(crate) fn abstraction_of(&self, eigen: u64) -> Option<u64> {
+    pub(crate) fn abstraction_of(&self, eigen: u64) -> Option<u64>
+        ensures { result ≡ side_index self.now.eigens.items eigen }
+    {
         let count = self.eigens.len();
         for place in 0..count {
             if self.eigens[place] == eigen {

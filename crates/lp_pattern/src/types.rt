@@ -4,7 +4,10 @@ ghost use Rattle.lp_calculus.specs.Types.{Ty, var, instance};
 ghost use Rattle.lp_term.specs.Nodes.{Extends, type_tree};
 ghost use Rattle.lp_model.specs.Types.{same_top, TypeOutcome, solve_types};
 ghost use Rattle.lp_model.specs.Rule.{compare_types};
-ghost use Rattle.lp_pattern.specs.Under.{AreTypes};
+ghost use Rattle.lp_model.specs.Pair.{Closing};
+ghost use Rattle.lp_pattern.specs.Behind.{IsReadBehind};
+ghost use Rattle.lp_pattern.specs.Stripping.{IsShut};
+ghost use Rattle.lp_pattern.specs.Under.{AreTypes, IsReading};
 ghost use Rattle.lp_pattern.specs.Reading.{paired, type_pairs_of};
 ghost use Rattle.lp_pattern.specs.Comparing.{IsLoose, HasSameTop, IsComparedTo, IsPassed};
 ghost use Rattle.lp_pattern.specs.Growing.{Grows};
@@ -59,6 +62,7 @@ fn filled_pairs(
 // Adds the bindings of a solution, in their order.
 fn adopt(bindings: &mut Bindings, solution: &Solution) -> Result<(), Memory>
     ensures grown { Grows bindings.old bindings.new }
+    ensures terms { bindings.new.terms ≡ bindings.old.terms }
     ensures taken { OnOk result (bindings.new.types.entries ≡ bindings.old.types.entries ++ solution.now.made.entries) }
 {
     for place in 0..solution.len() {
@@ -80,8 +84,10 @@ pub(crate) fn solve_types(
 ) -> Result<(), PatternRefusal>
     ensures kept { Extends bank.old bank.new }
     ensures grown { Grows bindings.old bindings.new }
+    ensures terms { bindings.new.terms ≡ bindings.old.terms }
     ensures solved { OnOk result ((θ : ℕ → Ty) → AreTypes bank.old bindings.old θ → (n : ℕ) (o : TypeOutcome) → solve_types n (type_pairs_of bank.old θ pairs.now) [] 0 ≡ Some o → IsSolvedIn units.old units.new o) }
     ensures types { OnOk result ((θ : ℕ → Ty) → AreTypes bank.old bindings.old θ → IsStill θ → (n : ℕ) (o : TypeOutcome) → solve_types n (type_pairs_of bank.old θ pairs.now) [] 0 ≡ Some o → AreSolved bank.new bindings.new θ units.old units.new o) }
+    ensures behind { OnOk result ((c : Closing) → IsReading bank.old bindings.old c → IsShut c → IsStill c.types → (n : ℕ) (o : TypeOutcome) → solve_types n (type_pairs_of bank.old c.types pairs.now) [] 0 ≡ Some o → IsReadBehind bank.new bindings.new c o) }
     ensures refused { IfErr result (λ e. (θ : ℕ → Ty) → AreTypes bank.old bindings.old θ → (n : ℕ) (o : TypeOutcome) → solve_types n (type_pairs_of bank.old θ pairs.now) [] 0 ≡ Some o → IsUnsolvedIn e units.old o) }
 {
     if pairs.is_empty() {

@@ -8,4 +8,5 @@ loop-place-preserved c = (
   grows_then c.args.bindings.now c.loop-place.bindings c.bind_type.new.self c.loop-place.invariant.0 c.in_ok-bind_type.ensures.grown,
   one_taken c.loop-place.place c.args.solution.now.made.entries c.args.bindings.now.types.entries c.loop-place.bindings.types.entries c.bind_type.new.self.types.entries (c.in-Some.variable, c.in-Some.to) c.loop-place.invariant.1
       c.in_ok-bind_type.ensures.made (sym c.entry.ensures ∙ c.in-Some.is),
+  c.bind_type.ensures.terms ∙ c.loop-place.invariant.2,
 )

@@ -1,8 +1,12 @@
-use Rattle.std.proofs.Common.{ap, refl}
+use Rattle.std.proofs.Common.{◌≡◌, ap, refl, length, rules}
 use Rattle.lp_term.specs.Nodes.{type_tree}
 use Rattle.lp_equations.specs.Reading.{reading, reads}
-use Rattle.lp_pattern.proofs.TypesSolved.{all_solved, refused_rightly, units_solved, ended_there, general_there, refused_there}
+use Rattle.lp_pattern.proofs.TypesSolved.{all_solved, none_solved, refused_rightly, units_solved, ended_there, general_there, refused_there}
 use Rattle.lp_pattern.specs.Refusing.{IsOfEquations}
+use Rattle.lp_term.proofs.Moves.{nothing}
+use Rattle.lp_term.proofs.Trees.{extends_same}
+use Rattle.lp_pattern.specs.Reading.{type_pairs_of}
+use Rattle.lp_pattern.proofs.ReadingsBehind.{read_behind}
 use Rattle.lp_pattern.proofs.Results.{err_and}
 use Rattle.lp_pattern.proofs.types.solve_types.Goals as goal
 
@@ -30,3 +34,16 @@ returns-clause-solved c = λ θ A n o d.
     let later = c.filled_pairs.new.bank in
     units_solved _ _ c.args.units.now c.in_ok-units.field-0 n o
     (ended_there (type_tree later) _ _ _ _ c.args.units.now c.in_ok-units.field-0 _ (ap (reading (type_tree later)) c.new-solution.ensures) c.as_slice-2.ensures.value (c.in_ok-filled.ensures.filled θ A) c.in_ok-units.ensures.solved) d
+
+pub returns-clause-behind : goal.returns-clause-behind
+returns-clause-behind c = λ r i h still n o d.
+    read_behind c.args.bank.now c.filled_pairs.new.bank c.args.bindings.now c.adopt.new.bindings r c.args.units.now c.in_ok-units.field-0 o c.in_ok-filled.ensures.kept c.adopt.ensures.terms i h (returns-clause-types c r.types i.types still n o d)
+
+no_pairs : (c : goal.Then-is_empty) → length c.args.pairs.now ≡ 0
+no_pairs c = search rules
+
+pub returns-then-is_empty-clause-behind : goal.returns-then-is_empty-clause-behind
+returns-then-is_empty-clause-behind c = λ r i h still n o d.
+    read_behind c.args.bank.now c.args.bank.now c.args.bindings.now c.args.bindings.now r c.args.units.now c.args.units.now o (extends_same c.args.bank.now) refl i h
+    (none_solved c.args.bank.now c.args.bindings.now r.types (type_pairs_of c.args.bank.now r.types c.args.pairs.now) c.args.units.now n o i.types still
+    (ap (type_pairs_of c.args.bank.now r.types) (nothing c.args.pairs.now (no_pairs c))) d)

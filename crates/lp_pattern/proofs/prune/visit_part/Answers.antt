@@ -1,0 +1,17 @@
+use Rattle.std.proofs.Common.{[], ◌∷◌, ◌++◌, arith}
+use Rattle.lp_pattern.specs.Pruning.{visit_at}
+use Rattle.lp_pattern.specs.Reading.{side_of}
+use Rattle.lp_pattern.proofs.PruneMoves.{look_prunes, prunes_then}
+use Rattle.lp_pattern.proofs.Walking.{on_ok}
+use Rattle.lp_pattern.proofs.prune.visit_part.Goals as goal
+
+pub returns-clause-prunes : goal.returns-clause-prunes
+returns-clause-prunes c =
+    on_ok c.visit_seen.result _ _
+    (λ g.
+    prunes_then (side_of c.args.side.now) c.args.bank.now c.look.new.bank c.visit_seen.new.bank c.args.bindings.now c.args.bindings.now c.visit_seen.new.bindings c.args.next.now c.args.next.now c.visit_seen.new.next
+    (c.args.left.now.items ++ c.args.visit ∷ []) (c.args.left.now.items ++ visit_at c.args.visit c.in_ok-looked.looked.whole ∷ []) c.visit_seen.new.left.items (omega arith)
+    (look_prunes (side_of c.args.side.now) c.args.bank.now c.look.new.bank c.args.bindings.now c.args.next.now 1000000 c.args.left.now.items c.args.visit c.in_ok-looked.looked c.in_ok-looked.ensures.kept c.in_ok-looked.ensures.looked
+    c.in_ok-looked.ensures.reached)
+    g)
+    c.visit_seen.ensures.prunes

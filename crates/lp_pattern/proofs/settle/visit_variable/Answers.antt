@@ -1,0 +1,43 @@
+use Rattle.std.proofs.Common.{[], ◌∷◌, ◌++◌, ◌∙◌, sym, ap, map, None, Some, subst as transport}
+use Rattle.lp_pattern.specs.declared.settle.Task.TheVariants.{Visit}
+use Rattle.lp_pattern.specs.Settling.{Moves, eigens_in}
+use Rattle.lp_pattern.specs.Stripping.{IsPattern, read_at}
+use Rattle.lp_calculus.specs.Term.{apply}
+use Rattle.lp_term.specs.Nodes.{tree}
+use Rattle.lp_term.proofs.Trees.{extends-trans}
+use Rattle.lp_pattern.proofs.Walking.{looked_stays}
+use Rattle.lp_pattern.proofs.SettleMoves.{open_moves, pattern_moves}
+use Rattle.lp_pattern.proofs.settle.visit_variable.Goals as goal
+
+pub returns-in_default-clause-moves : goal.returns-in_default-clause-moves
+returns-in_default-clause-moves c =
+    transport
+    (Moves c.args.bank.now c.pattern_of.new.bank c.args.bindings.now c.args.side.now.eigens.items (c.args.work.now.tasks.items ++ Visit c.args.looked.now.whole c.args.opened ∷ []) c.args.work.now.made.items
+    c.push_application.new.work.tasks.items)
+    (sym c.push_application.ensures.made)
+    (open_moves c.args.bank.now c.pattern_of.new.bank c.args.bindings.now c.args.side.now.eigens.items c.args.opened c.args.looked.now c.args.id c.args.level c.args.work.now.tasks.items c.push_application.new.work.tasks.items
+    c.args.work.now.made.items c.in_ok-pattern.ensures.kept c.requires.looked c.requires.head
+    (λ r i h m.
+    transport (λ l. IsPattern m c.args.level (map (read_at c.args.bank.now r c.args.opened.level c.args.opened.depth) l) None) c.as_slice-arguments.ensures.value
+    (transport (λ o. IsPattern m c.args.level (map (read_at c.args.bank.now r c.args.opened.level c.args.opened.depth) c.as_slice-arguments.result.now) o) c.in_default.is (c.in_ok-pattern.ensures.pattern r i h m)))
+    c.in_ok-push_application.ensures.pushed)
+
+pub put_on-requires : goal.put_on-requires
+put_on-requires c = record {
+  looked = looked_stays c.args.bank.now c.put_stand_ins.new.bank c.args.bindings.now c.args.looked.now
+      (extends-trans c.args.bank.now c.pattern_of.new.bank c.put_stand_ins.new.bank c.in_ok-pattern.ensures.kept c.in_ok-ids.ensures.kept) c.requires.looked;
+}
+
+pub returns-clause-moves : goal.returns-clause-moves
+returns-clause-moves c =
+    pattern_moves c.args.bank.now c.put_stand_ins.new.bank c.put_on.new.bank c.args.bindings.now c.args.side.now.eigens.items c.args.opened c.args.looked.now c.args.id c.args.level c.in-Some.pattern c.in_ok-made.made c.args.work.now.tasks.items
+    c.args.work.now.made.items c.push.new.self.items (extends-trans c.args.bank.now c.pattern_of.new.bank c.put_stand_ins.new.bank c.in_ok-pattern.ensures.kept c.in_ok-ids.ensures.kept) c.in_ok-made.ensures.kept c.requires.looked c.requires.head
+    (λ r i h m.
+    transport (λ l. IsPattern m c.args.level (map (read_at c.args.bank.now r c.args.opened.level c.args.opened.depth) l) (Some c.in-Some.pattern)) c.as_slice-arguments.ensures.value
+    (transport (λ o. IsPattern m c.args.level (map (read_at c.args.bank.now r c.args.opened.level c.args.opened.depth) c.as_slice-arguments.result.now) o) c.in-Some.is (c.in_ok-pattern.ensures.pattern r i h m)))
+    c.in_ok-made.ensures.within
+    (c.in_ok-made.ensures.tree ∙
+    ap (apply (tree c.put_stand_ins.new.bank c.args.looked.now.top.0))
+    (ap (map (λ t. tree c.put_stand_ins.new.bank t.0)) c.as_slice.ensures.value ∙ c.in_ok-ids.ensures.terms.trees ∙
+    ap (eigens_in c.args.side.now.eigens.items c.args.opened.level c.args.opened.depth) c.as_slice-eigens.ensures.value))
+    c.in_ok-push.ensures.items
