@@ -439,3 +439,38 @@ pub abbreviation_noted : (names : Names) (z : Seen) (more : List (Row Said)) (te
 abbreviation_noted names z more text line name ps ty old new is k u f =
     subst (λ d. KnowsUses new (seen_line (abbreviation_names ((z.said ++ said_by text d) ++ more)) z text d)) (sym is)
     (f z (length ps.items) more (subst (λ d. Knows names ((z.said ++ said_by text d) ++ more)) is k) u)
+
+-- the names of abbreviations behind one more sentence
+pub names_quiet : (said : List (Row Said)) (text : List ℕ) (d : Declaration) → is_quiet d ≡ true → abbreviation_names (said ++ said_by text d) ≡ abbreviation_names said
+unfolding later
+names_quiet said text d h =
+    names_later said (said_by text d) ∙ ap (λ y. abbreviation_names said ++ y) (ap names_in (kinds_first (known_after (names_in standard_kinds) said) (said_by text d) (quiet_names text d h))) ∙ append-nil (abbreviation_names said)
+
+pub names_known : (said : List (Row Said)) (n : List ℕ) (p : ℕ) → is_known n said ≡ true → abbreviation_names (said ++ (n, an_abbreviation p) ∷ []) ≡ abbreviation_names said
+unfolding later
+names_known said n p h =
+    names_later said ((n, an_abbreviation p) ∷ []) ∙
+    ap (λ y. abbreviation_names said ++ y) (ap (λ t. names_in (abbreviations_among (if t then [] else (n, an_abbreviation p) ∷ [])))
+    (⊎_elim (λ e. still_known n (names_in standard_kinds) said e) (λ e. said_known n (names_in standard_kinds) said e) (or_cases (is_among n (names_in standard_kinds)) (is_among n (names_in said)) h))) ∙ append-nil (abbreviation_names said)
+
+pub names_fresh : (said : List (Row Said)) (n : List ℕ) (p : ℕ) → is_known n said ≡ false → abbreviation_names (said ++ (n, an_abbreviation p) ∷ []) ≡ abbreviation_names said ++ n ∷ []
+names_fresh said n p h =
+    ap names_in (ap abbreviations_among (declared_new said (n, an_abbreviation p) h) ∙ heads_append (declared_names said) ((n, an_abbreviation p) ∷ [])) ∙ names_append (abbreviations_among (declared_names said)) ((n, p) ∷ [])
+
+-- names of one list that are among those of another, with one more of each
+pub told_more : {A B : Type 0} (xs : List (Row A)) (ys : List (Row B)) (n : List ℕ) (a : A) (b : B) → ((m : List ℕ) → is_among m (names_in xs) ≡ true → is_among m (names_in ys) ≡ true) → (m : List ℕ) → is_among m (names_in (xs ++ (n, a) ∷ [])) ≡ true → is_among m (names_in (ys ++ (n, b) ∷ [])) ≡ true
+told_more xs ys n a b f m h =
+    ap (is_among m) (names_append ys ((n, b) ∷ [])) ∙ among_append m (names_in ys) (n ∷ []) ∙
+    ⊎_elim (λ e. or_left (is_among m (names_in ys)) (is_among m (n ∷ [])) (f m e)) (λ e. or_right (is_among m (names_in ys)) (is_among m (n ∷ [])) e)
+    (or_cases (is_among m (names_in xs)) (is_among m (n ∷ [])) (sym (among_append m (names_in xs) (n ∷ [])) ∙ sym (ap (is_among m) (names_append xs ((n, a) ∷ []))) ∙ h))
+
+pub told_again : {A B : Type 0} (xs : List (Row A)) (ys zs : List (Row B)) → ((m : List ℕ) → is_among m (names_in xs) ≡ true → is_among m (names_in ys) ≡ true) → (m : List ℕ) → is_among m (names_in (xs ++ [])) ≡ true → is_among m (names_in (ys ++ zs)) ≡ true
+told_again xs ys zs f m h =
+    ap (is_among m) (names_append ys zs) ∙ among_append m (names_in ys) (names_in zs) ∙ or_left (is_among m (names_in ys)) (is_among m (names_in zs)) (f m (ap (λ l. is_among m (names_in l)) (sym (append-nil xs)) ∙ h))
+
+pub unknown_untold : (n : List ℕ) (said : List (Row Said)) → is_known n said ≡ false → is_among n (names_in said) ≡ false
+unknown_untold n said h = by (is_among n (names_in standard_kinds)) (is_among n (names_in said)) h
+  where
+    by : (a b : Bool) → (a || b) ≡ false → b ≡ false
+    by true b e = absurd (true≢false e)
+    by false b e = e

@@ -1,13 +1,14 @@
 -- What is left of a copy falls: the parts of a type have fewer nodes than it.
-use Rattle.std.proofs.Common.{◌≡◌, ℕ, suc, ◌+◌, ◌*◌, ◌<◌, ◌≤◌, List, [], ◌∷◌, ◌++◌, length, map, reverse, refl, sym, ap, subst, ◌∙◌, arith}
-use Rattle.std.specs.Prelude.{All}
+use Rattle.std.proofs.Common.{◌≡◌, ℕ, zero, suc, ◌+◌, ◌*◌, ◌<◌, ◌≤◌, List, [], ◌∷◌, ◌++◌, length, map, reverse, get_or, Option, Some, Bool, true, false, refl, sym, ap, subst, ◌∙◌, arith}
+use Rattle.std.specs.Prelude.{All, nat_eq, if◌then◌else◌}
+use Rattle.std.proofs.lemmas.Bool.{eqb-true}
 use Rattle.std.proofs.lemmas.List.{reverse-append}
 use Rattle.std.proofs.lemmas.List.Elements.{All-head, All-tail}
-use Rattle.lp_calculus.specs.Types.{Ty, var, param, con, arrow, tys}
+use Rattle.lp_calculus.specs.Types.{Ty, Tys, var, param, con, arrow, tys, no_types, types, instance}
 use Rattle.lp_term.specs.Node.{TypeShape, con_node, arrow_node, TypeBelow}
 use Rattle.lp_term.specs.Nodes.{Nodes, Extends, type_tree, type_node_tree}
 use Rattle.lp_term.specs.declared.node.TypeId.{TypeId}
-use Rattle.lp_sig.specs.Copying.{type_size, type_sizes, total, cost, left, InRange, AreInRange}
+use Rattle.lp_sig.specs.Copying.{type_size, type_sizes, total, cost, left, InRange, AreInRange, picked, filled}
 use Rattle.lp_sig.specs.declared.interned.Task.{Task}
 use Rattle.lp_sig.specs.declared.interned.Task.TheVariants.{Visit, Build}
 
@@ -151,9 +152,9 @@ module _ (b now : Nodes) (id : ℕ) (shape : TypeShape) (x : Extends b now) (h :
       omega (arith, q, d, e, g, i)
 
   -- the tasks that come of a visit
-  pub con_visited : (old mid new : List Task) (k : ℕ) (t : TypeId) (ids : List TypeId) → shape ≡ con_node k (map (λ t. t.0) ids) → mid ≡ old ++ Build t ∷ [] → new ≡ mid ++ map (λ t. Visit t) (reverse ids) → AreInRange b old →
+  pub con_visited : (old mid new : List Task) (k : ℕ) (t : TypeId) (ids : List TypeId) → t.0 < length b.types → shape ≡ con_node k (map (λ t. t.0) ids) → mid ≡ old ++ Build t ∷ [] → new ≡ mid ++ map (λ t. Visit t) (reverse ids) → AreInRange b old →
       AreInRange b new × (left b new < left b old + 2 * type_size (type_tree b id))
-  con_visited old mid new k t ids is one two in_range =
+  con_visited old mid new k t ids here is one two in_range =
       let p = con_parts k ids is in
       let q = p.1 in
       let d = ap (left b) one in
@@ -162,13 +163,13 @@ module _ (b now : Nodes) (id : ℕ) (shape : TypeShape) (x : Extends b now) (h :
       let g = left_append b mid (map (λ t. Visit t) (reverse ids)) in
       let i = left_visits b (reverse ids) in
       let j = total_reverse b ids in (
-        subst (AreInRange b) (sym two) (in_range_both b mid (map (λ t. Visit t) (reverse ids)) (subst (AreInRange b) (sym one) (in_range_both b old (Build t ∷ []) in_range (tt, tt))) (visits_in_range b id (reverse ids) (omega (arith, h)) (below_reverse id ids p.0))),
+        subst (AreInRange b) (sym two) (in_range_both b mid (map (λ t. Visit t) (reverse ids)) (subst (AreInRange b) (sym one) (in_range_both b old (Build t ∷ []) in_range (here, tt))) (visits_in_range b id (reverse ids) (omega (arith, h)) (below_reverse id ids p.0))),
         omega (arith, q, d, e, f, g, i, j),
       )
 
-  pub arrow_visited : (old one two new : List Task) (i f t : TypeId) → shape ≡ arrow_node f.0 t.0 → one ≡ old ++ Build i ∷ [] → two ≡ one ++ Visit t ∷ [] → new ≡ two ++ Visit f ∷ [] → AreInRange b old →
+  pub arrow_visited : (old one two new : List Task) (i f t : TypeId) → i.0 < length b.types → shape ≡ arrow_node f.0 t.0 → one ≡ old ++ Build i ∷ [] → two ≡ one ++ Visit t ∷ [] → new ≡ two ++ Visit f ∷ [] → AreInRange b old →
       AreInRange b new × (left b new < left b old + 2 * type_size (type_tree b id))
-  arrow_visited old one two new i f t is first second third in_range =
+  arrow_visited old one two new i f t here is first second third in_range =
       let p = arrow_parts f t is in
       let l = p.0 in
       let m = p.1 in
@@ -179,7 +180,7 @@ module _ (b now : Nodes) (id : ℕ) (shape : TypeShape) (x : Extends b now) (h :
       let g = left_append b old (Build i ∷ []) in
       let j = left_append b one (Visit t ∷ []) in
       let k = left_append b two (Visit f ∷ []) in (
-        subst (AreInRange b) (sym third) (in_range_both b two (Visit f ∷ []) (subst (AreInRange b) (sym second) (in_range_both b one (Visit t ∷ []) (subst (AreInRange b) (sym first) (in_range_both b old (Build i ∷ []) in_range (tt, tt))) (omega (arith, h, m), tt))) (omega (arith, h, l), tt)),
+        subst (AreInRange b) (sym third) (in_range_both b two (Visit f ∷ []) (subst (AreInRange b) (sym second) (in_range_both b one (Visit t ∷ []) (subst (AreInRange b) (sym first) (in_range_both b old (Build i ∷ []) in_range (here, tt))) (omega (arith, h, m), tt))) (omega (arith, h, l), tt)),
         omega (arith, q, c, d, e, g, j, k),
       )
 
@@ -199,3 +200,34 @@ type_taken b all old new t off less = let e = ap (total b) off in let f = total_
 
 pub rest_in_range : (b : Nodes) (all old : List Task) (t : Task) → all ≡ old ++ t ∷ [] → AreInRange b all → AreInRange b old × InRange b t
 rest_in_range b all old t off r = let s = subst (AreInRange b) off r in (in_range_front b old (t ∷ []) s, in_range_last b old t s)
+
+-- the type that is put for a variable
+pub pick_within : (b : Nodes) (ts : List TypeId) (n : ℕ) (d : Ty) (e : TypeId) → n < length ts → type_tree b (get_or ts n e).0 ≡ picked b ts n d
+pick_within b [] n d e h = absurd (omega (arith, h))
+pick_within b (t ∷ ts) zero d e h = refl
+pick_within b (t ∷ ts) (suc n) d e h = pick_within b ts n d e (omega (arith, h))
+
+pub pick_past : (b : Nodes) (ts : List TypeId) (n : ℕ) (d : Ty) → length ts ≤ n → d ≡ picked b ts n d
+pick_past b [] n d h = refl
+pick_past b (t ∷ ts) zero d h = absurd (omega (arith, h))
+pick_past b (t ∷ ts) (suc n) d h = pick_past b ts n d (omega (arith, h))
+
+-- one more copy is kept, where the bank may have grown
+pub one_more_copy : (b now later : Nodes) (args : List TypeId) (old new : ℕ → Option ℕ) (x v : ℕ) → ((y : ℕ) → new y ≡ (if nat_eq x y then Some v else old y)) → Extends now later →
+    ((a y : ℕ) → old a ≡ Some y → (y < length now.types) × (type_tree now y ≡ instance (filled b args) (type_tree b a))) → v < length later.types → type_tree later v ≡ instance (filled b args) (type_tree b x) →
+    (a y : ℕ) → new a ≡ Some y → (y < length later.types) × (type_tree later y ≡ instance (filled b args) (type_tree b a))
+one_more_copy b now later args old new x v put grown kept here tree a y is = by (nat_eq x a) refl (sym (put a) ∙ is)
+  where
+    some_same : (p q : ℕ) → Some p ≡ Some q → p ≡ q
+    some_same p q e = cc
+
+    by : (t : Bool) → nat_eq x a ≡ t → (if t then Some v else old a) ≡ Some y → (y < length later.types) × (type_tree later y ≡ instance (filled b args) (type_tree b a))
+    by true e f =
+        let s : v ≡ y = some_same v y f in
+        let q : x ≡ a = eqb-true x a e in
+        (subst (λ n. n < length later.types) s here, subst (λ n. type_tree later n ≡ instance (filled b args) (type_tree b a)) s (subst (λ n. type_tree later v ≡ instance (filled b args) (type_tree b n)) q tree))
+    by false e f =
+        let k = kept a y f in
+        let h = k.0 in
+        let m = grown.more_types in
+        (omega (arith, h, m), grown.same_types y h ∙ k.1)

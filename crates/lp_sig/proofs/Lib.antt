@@ -18,3 +18,14 @@ pub mod LongTypes
 pub mod Abbreviating
 pub mod Cycles
 pub mod Copies
+pub mod Instances
+pub mod Meetings
+pub mod Typing
+pub mod OneType
+pub mod Settling
+pub mod Growing
+pub mod Announcing
+pub mod OneNumber
+pub mod Finds
+pub mod Differing
+pub mod Numbered

@@ -11,3 +11,7 @@ pub mod Words
 pub mod Knowing
 pub mod Abbreviations
 pub mod Copying
+pub mod Schemes
+pub mod Types
+pub mod Holding
+pub mod Once

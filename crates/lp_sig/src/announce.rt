@@ -1,5 +1,13 @@
 // The kinds and abbreviations of a text, which may be used before they are declared.
-ghost use Rattle.std.specs.Prelude.{◌≡◌, ◌++◌, List, [], ◌∷◌, OnOk};
+ghost use Rattle.std.specs.Prelude.{◌≡◌, ◌++◌, ℕ, List, [], ◌∷◌, Option, Some, Vec, OnOk};
+ghost use Rattle.std.specs.Global.{Global};
+ghost use Rattle.lp_base.specs.declared.place.Spot.{Spot};
+ghost use Rattle.lp_syntax.specs.declared.text.RawType.{RawType};
+ghost use Rattle.lp_syntax.specs.declared.text.Declaration.{Declaration};
+ghost use Rattle.lp_syntax.specs.declared.text.Declaration.TheVariants as declaration;
+ghost use Rattle.lp_sig.specs.Pieces.{spelled};
+ghost use Rattle.lp_sig.specs.Types.{Definition, definitions_by, definitions_in};
+ghost use Rattle.lp_sig.specs.Holding.{KnowsBodies, line_of_text};
 ghost use Rattle.lp_sig.specs.Rows.{Row};
 ghost use Rattle.lp_sig.specs.Said.{Said, an_abbreviation, each, said_by, said_in};
 ghost use Rattle.lp_sig.specs.Knowing.{Knows};
@@ -20,6 +28,7 @@ impl Making {
         ensures names { OnOk result ((said : List (Row Said)) → Knows self.old.names said → Knows self.new.names (said ++ each source.now (an_abbreviation parameters) (name ∷ []))) }
         ensures operators { self.new.operators ≡ self.old.operators }
         ensures uses { self.new.uses ≡ self.old.uses }
+        ensures bodies { OnOk result ((said : List (Row Said)) (defs : List (Row Definition)) (declared : ℕ → Option Declaration) (ps : Vec Spot Global) (ty : RawType) → Knows self.old.names said → declared line ≡ Some (declaration.Abbreviation name ps ty) → KnowsBodies self.old.bodies.types.bank self.old.bodies.bodies.items said defs source.now declared → KnowsBodies self.new.bodies.types.bank self.new.bodies.bodies.items (said ++ each source.now (an_abbreviation parameters) (name ∷ [])) (defs ++ (spelled source.now name, record { text = source.now; parameters = ps.items; body = ty }) ∷ []) source.now declared) }
     {
         if self
             .names
@@ -40,6 +49,7 @@ impl Making {
         ensures names { OnOk result ((said : List (Row Said)) → Knows self.old.names said → Knows self.new.names (said ++ said_by source.now declaration.now)) }
         ensures operators { self.new.operators ≡ self.old.operators }
         ensures uses { self.new.uses ≡ self.old.uses }
+        ensures bodies { OnOk result ((said : List (Row Said)) (defs : List (Row Definition)) (declared : ℕ → Option Declaration) → Knows self.old.names said → declared line ≡ Some declaration.now → KnowsBodies self.old.bodies.types.bank self.old.bodies.bodies.items said defs source.now declared → KnowsBodies self.new.bodies.types.bank self.new.bodies.bodies.items (said ++ said_by source.now declaration.now) (defs ++ definitions_by source.now declaration.now) source.now declared) }
     {
         match declaration {
             Declaration::Kinds(names, arity) => {
@@ -64,6 +74,7 @@ impl Making {
         ensures names { OnOk result ((said : List (Row Said)) → Knows self.old.names said → Knows self.new.names (said ++ said_in source.now text.now.lines.items)) }
         ensures operators { self.new.operators ≡ self.old.operators }
         ensures uses { self.new.uses ≡ self.old.uses }
+        ensures bodies { OnOk result ((said : List (Row Said)) (defs : List (Row Definition)) → Knows self.old.names said → KnowsBodies self.old.bodies.types.bank self.old.bodies.bodies.items said defs source.now (line_of_text text.now.lines.items) → KnowsBodies self.new.bodies.types.bank self.new.bodies.bodies.items (said ++ said_in source.now text.now.lines.items) (defs ++ definitions_in source.now text.now.lines.items) source.now (line_of_text text.now.lines.items)) }
     {
         for (line, declaration) in text.lines.as_slice().iter().enumerate() {
             self.announce_line(source, declaration, line)?;

@@ -1,6 +1,10 @@
 // The types so far, with the bodies of abbreviations at the places of their names.
+ghost use Rattle.std.specs.Prelude.{◌≡◌, ◌<◌, ◌++◌, ◌∷◌, [], length, Some, true, false, OnOk};
+ghost use Rattle.lp_term.specs.Nodes.{type_tree};
+ghost use Rattle.lp_term.specs.declared.node.TypeId.{TypeId};
+ghost use Rattle.lp_sig.specs.Holding.{body_of};
 
-use crate::interned::Types;
+use crate::store::Types;
 use lp_base::Memory;
 use lp_term::{Bank, TypeId};
 use std::alloc::Global;
@@ -34,22 +38,33 @@ impl Bodies {
     }
 
     // One more abbreviation.
-    pub(crate) fn add(&mut self, body: Option<TypeId>, line: Option<usize>) -> Result<(), Memory> {
+    pub(crate) fn add(&mut self, body: Option<TypeId>, line: Option<usize>) -> Result<(), Memory>
+        ensures types { self.new.types ≡ self.old.types }
+        ensures items { OnOk result (self.new.bodies.items ≡ self.old.bodies.items ++ record { body = body; line = line } ∷ []) }
+    {
         self.bodies.push(Body { body, line })?;
         Ok(())
     }
 
     // The body of an abbreviation that is settled.
-    pub(crate) fn body_at(&self, place: usize) -> Option<TypeId> {
+    pub(crate) fn body_at(&self, place: usize) -> Option<TypeId>
+        ensures { result ≡ body_of self.now.bodies.items place }
+    {
         self.bodies.get(place)?.body
     }
 
     // Whether the body of an abbreviation is another one than this.
-    pub(crate) fn has_other_body(&self, place: usize, body: Option<TypeId>) -> bool {
-        match self.bodies.get(place) {
-            Some(known) => known.body.is_some() && body.is_some() && known.body != body,
-            None => false,
-        }
+    pub(crate) fn has_other_body(&self, place: usize, body: Option<TypeId>) -> bool
+        ensures other { result ≡ true → (known : TypeId) × (new : TypeId) × (body_of self.now.bodies.items place ≡ Some known) × (body ≡ Some new) × (known.0 < length self.now.types.bank.types → new.0 < length self.now.types.bank.types → type_tree self.now.types.bank known.0 ≡ type_tree self.now.types.bank new.0 → ⊥) }
+        ensures same { result ≡ false → (known new : TypeId) → body_of self.now.bodies.items place ≡ Some known → body ≡ Some new → known.0 < length self.now.types.bank.types → known.0 ≡ new.0 }
+    {
+        let Some(known) = self.body_at(place) else {
+            return false;
+        };
+        let Some(new) = body else {
+            return false;
+        };
+        !self.types.are_equal(known, new)
     }
 
     // Behind a text its lines mean nothing more.

@@ -6,10 +6,10 @@ ghost use Rattle.lp_sig.specs.Refusals.{IsFaultOf, IsWant, named};
 use crate::declare::check_length;
 use crate::entries::ConstantEntry;
 use crate::fault::SigFault;
-use crate::interned::Types;
 use crate::pieces::spelled_at;
 use crate::places::Places;
 use crate::standard::{END_OF_NUMBERS, FIRST_CONSTANT, standard_constant, standard_type};
+use crate::store::Types;
 use lp_base::{Limit, Memory, Spot};
 use lp_term::TypeId;
 use std::alloc::Global;
@@ -88,7 +88,7 @@ impl Constants {
         match self.known_scheme(types, word)? {
             None => self.add(word, type_vars, scheme),
             Some(known) => {
-                if known != scheme {
+                if !types.are_equal(known, scheme) {
                     return Err(SigFault::Differ(name));
                 }
                 Ok(())

@@ -13,6 +13,9 @@ ghost use Rattle.lp_sig.specs.Limits.{IsShort, AreShort, AreApart, IsWithin, Are
 ghost use Rattle.lp_base.specs.declared.place.Spot.{Spot};
 ghost use Rattle.lp_sig.specs.Places.{first_place};
 ghost use Rattle.lp_sig.specs.Abbreviations.{abbreviation_names, Seen, seen_text, all_uses, KnowsUses, LeadsBack, IsCyclic, sentence, sentences_in, NoneCyclic, IsFirstCyclic};
+ghost use Rattle.lp_sig.specs.Words.{IsHead};
+ghost use Rattle.lp_sig.specs.Types.{Definition};
+ghost use Rattle.lp_sig.specs.Holding.{HoldsBodies, HasOtherBody};
 
 use crate::bodies::Bodies;
 use crate::constants::Constants;
@@ -166,6 +169,7 @@ impl Bodies {
         ensures stand { (said : List (Row Said)) → Knows names.now said → IfOk result (λ done. IsHead source.now said name parameters.now × WordsStand source.now said (parameters_of source.now parameters.now) raw.now.nodes.items) }
         ensures cyclic { IfErr result (λ e. (z : Seen) → Knows names.now z.said → KnowsUses (map (λ out. out.items) uses.now.ways.items) z → (s : Spot) → e ≡ fault.CyclicAbbreviation s → (s ≡ name) × LeadsBack (abbreviation_names z.said) (all_uses z) source.now name raw.now.nodes.items) }
         ensures acyclic { IfOk result (λ done. (z : Seen) → Knows names.now z.said → KnowsUses (map (λ out. out.items) uses.now.ways.items) z → LeadsBack (abbreviation_names z.said) (all_uses z) source.now name raw.now.nodes.items → ⊥) }
+        ensures apart { (said : List (Row Said)) (defs : List (Row Definition)) → Knows names.now said → HoldsBodies self.old.types.bank self.old.bodies.items said defs → IsHead source.now said name parameters.now → IfErr result (λ e. e ≡ fault.Differ name → HasOtherBody said defs source.now name parameters.now raw.now) }
     {
         let place = names.check_abbreviation(source, name, parameters.len())?;
         let words = uses_of(self.alloc, names, source, raw)?;

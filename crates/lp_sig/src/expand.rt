@@ -1,5 +1,6 @@
 // Types of a text, with abbreviations replaced.
-ghost use Rattle.std.specs.Prelude.{◌≡◌, ◌⊎◌, ◌<◌, ℕ, List, [], ◌∷◌, length, Option, Some, None, is_some, true, false, option_map, if◌then◌else◌, IfErr, IfOk, IfSome, OnOk, map};
+ghost use Rattle.std.specs.Prelude.{◌≡◌, ◌⊎◌, ◌<◌, ◌+◌, ℕ, Vec, List, [], ◌∷◌, length, Option, Some, None, is_some, true, false, option_map, if◌then◌else◌, IfErr, IfOk, IfSome, OnOk, map};
+ghost use Rattle.std.specs.Global.{Global};
 ghost use Rattle.std.specs.Str.{bytes_eq};
 ghost use Rattle.lp_base.specs.declared.limit.Limit.TheVariants as limit;
 ghost use Rattle.lp_sig.specs.declared.fault.SigFault.TheVariants as fault;
@@ -8,6 +9,14 @@ ghost use Rattle.lp_sig.specs.Rows.{Row};
 ghost use Rattle.lp_sig.specs.Said.{Said};
 ghost use Rattle.lp_sig.specs.Words.{may_stand, on_count, fault_of_word, word_fault, beginning, WordsStand, IsFirstFault, parameters_of, earlier_of, IsLongType, IsSoundType, IsTypeFault};
 ghost use Rattle.lp_sig.specs.Knowing.{Knows, Holds, number_of, blamed, said_as};
+ghost use Rattle.lp_term.specs.Nodes.{Extends};
+ghost use Rattle.lp_syntax.specs.declared.text.RawTypeNode.{RawTypeNode};
+ghost use Rattle.lp_syntax.specs.declared.text.RawTypeNode.TheVariants as node;
+ghost use Rattle.lp_base.specs.declared.place.Spot.{Spot};
+ghost use Rattle.lp_sig.specs.Places.{first_place};
+ghost use Rattle.lp_sig.specs.Abbreviations.{abbreviation_names};
+ghost use Rattle.lp_sig.specs.Types.{Definition, IsTypeOf, IsNode, by_parameters};
+ghost use Rattle.lp_sig.specs.Holding.{given_number, AreParameters, type_done, IsTree, AreDone, HoldsBodies, IfType, IsReplaced, IsNumbered};
 ghost use Rattle.lp_sig.specs.Limits.{AreApart, IsRepeated};
 ghost use Rattle.lp_sig.specs.Refusals.{IsFaultOf, named, typed, headed, words_of};
 
@@ -48,11 +57,21 @@ fn check_apart(alloc: Global, source: &[u8], parameters: &[Spot]) -> Result<(), 
     Ok(())
 }
 
+fn following(number: u64) -> Result<u64, Memory>
+    ensures { IfOk result (λ n. n ≡ number + 1) }
+{
+    match number.checked_add(1) {
+        Some(next) => Ok(next),
+        None => Err(Memory),
+    }
+}
+
 impl Variables {
     // Each name is taken as it comes.
     pub(crate) fn open(alloc: Global) -> Variables
         ensures open { Holds result None }
         ensures empty { (name : List ℕ) → number_of result name ≡ None }
+        ensures first { result.next ≡ 0 }
     {
         Variables {
             alloc,
@@ -72,6 +91,7 @@ impl Variables {
         ensures repeated { IfErr result (λ e. (e ≡ fault.Memory) ⊎ ((s : Spot) × (e ≡ fault.Differ s) × IsRepeated source.now parameters.now s)) }
         ensures taken { IfOk result (λ variables. AreApart source.now parameters.now) }
         ensures held { IfOk result (λ variables. Holds variables (parameters_of source.now parameters.now)) }
+        ensures numbered { IfOk result (λ variables. AreParameters variables source.now parameters.now) }
     {
         check_apart(alloc, source, parameters)?;
         let mut variables = Variables::open(alloc);
@@ -84,17 +104,22 @@ impl Variables {
 
     fn add(&mut self, name: &[u8]) -> Result<u64, Memory>
         ensures closed { self.new.closed ≡ self.old.closed }
+        ensures is { IfOk result (λ n. n ≡ self.old.next) }
+        ensures next { OnOk result (self.new.next ≡ self.old.next + 1) }
         ensures added { OnOk result ((other : List ℕ) → number_of self.new other ≡ (if bytes_eq other name.now then Some self.old.next else number_of self.old other)) }
     {
         let number = self.next;
+        let next = following(number)?;
         let key = Vec::from_slice(self.alloc, name)?;
         self.numbers.insert(key, number)?;
-        self.next = self.next.saturating_add(1);
+        self.next = next;
         Ok(number)
     }
 
     // The number of a name; in a declared type `_` is new at each place.
     fn number(&mut self, name: &[u8]) -> Result<Option<u64>, Memory>
+        ensures is { IfOk result (λ o. o ≡ given_number self.old name.now) }
+        ensures closed { (text : List ℕ) (ps : List Spot) → AreParameters self.old text ps → AreParameters self.new text ps }
         ensures given { (variables : Option (List (List ℕ))) → Holds self.old variables → IfOk result (λ o. is_some o ≡ may_stand variables name.now) }
         ensures held { (variables : Option (List (List ℕ))) → Holds self.old variables → Holds self.new variables }
     {
@@ -103,7 +128,7 @@ impl Variables {
         }
         if name == b"_".as_slice() {
             let number = self.next;
-            self.next = self.next.saturating_add(1);
+            self.next = following(number)?;
             return Ok(Some(number));
         }
         if let Some(number) = self.numbers.get(name) {
@@ -128,19 +153,24 @@ fn types_at(
     alloc: Global,
     done: &[Option<TypeId>],
     places: &[usize],
-) -> Result<Option<Vec<TypeId>>, Memory> {
+) -> Result<Option<Vec<TypeId>>, Memory>
+    ensures { IfOk result (λ o. IfSome o (λ types. map (type_done done.now) places.now ≡ map (λ t. Some t) types.items)) }
+{
     let mut types = Vec::new(alloc);
     for place in places.iter().copied() {
         match done.get(place) {
             Some(Some(id)) => types.push(*id)?,
-            _ => return Ok(None),
+            Some(None) => return Ok(None),
+            None => return Ok(None),
         }
     }
     Ok(Some(types))
 }
 
 // The type at a place, if it is known.
-fn type_at(done: &[Option<TypeId>], place: usize) -> Option<TypeId> {
+fn type_at(done: &[Option<TypeId>], place: usize) -> Option<TypeId>
+    ensures { result ≡ type_done done.now place }
+{
     match done.get(place) {
         Some(id) => *id,
         None => None,
@@ -177,6 +207,10 @@ impl Bodies {
         done: &[Option<TypeId>],
         variables: &mut Variables,
     ) -> Result<Made, Memory>
+        ensures kept { Extends self.old.types.bank self.new.types.bank }
+        ensures bodies { self.new.bodies ≡ self.old.bodies }
+        ensures closed { (text : List ℕ) (ps : List Spot) → AreParameters variables.old text ps → AreParameters variables.new text ps }
+        ensures typed { (said : List (Row Said)) (defs : List (Row Definition)) (ν : ℕ → Spot → Option ℕ) (nodes : List RawTypeNode) (i : ℕ) (args : Vec ℕ Global) → Knows names.now said → HoldsBodies self.old.types.bank self.old.bodies.items said defs → AreDone self.old.types.bank said defs source.now ν nodes done.now → IsNode nodes i (node.Word spot args) → arguments.now ≡ args.items → IsNumbered ν (given_number variables.old) source.now i (node.Word spot args) → IfOk result (λ made. IfType made (IsTree self.new.types.bank (IsTypeOf said defs source.now ν nodes i))) }
         ensures fault { (said : List (Row Said)) (vs : Option (List (List ℕ))) → Knows names.now said → Holds variables.old vs → IfOk result (λ made. blamed spot made ≡ fault_of_word source.now said vs spot (length arguments.now)) }
         ensures held { (vs : Option (List (List ℕ))) → Holds variables.old vs → Holds variables.new vs }
     {
@@ -212,7 +246,10 @@ impl Bodies {
         arguments: &[usize],
         done: &[Option<TypeId>],
     ) -> Result<Made, Memory>
-        ensures { (s : Spot) → IfOk result (λ made. blamed s made ≡ on_count s (length arguments.now) (said_as names.now (meaning.Abbreviation place))) }
+        ensures counted { (s : Spot) → IfOk result (λ made. blamed s made ≡ on_count s (length arguments.now) (said_as names.now (meaning.Abbreviation place))) }
+        ensures kept { Extends self.old.types.bank self.new.types.bank }
+        ensures bodies { self.new.bodies ≡ self.old.bodies }
+        ensures typed { (said : List (Row Said)) (defs : List (Row Definition)) (name : List ℕ) → HoldsBodies self.old.types.bank self.old.bodies.items said defs → first_place name (abbreviation_names said) ≡ Some place → IfOk result (λ made. IfType made (IsReplaced self.old.types.bank self.new.types.bank said defs name done.now arguments.now)) }
     {
         let Some(head) = names.heads.get(place) else {
             return Err(Memory);
@@ -236,7 +273,11 @@ impl Bodies {
         from: usize,
         to: usize,
         done: &[Option<TypeId>],
-    ) -> Result<Option<TypeId>, Memory> {
+    ) -> Result<Option<TypeId>, Memory>
+        ensures kept { Extends self.old.types.bank self.new.types.bank }
+        ensures bodies { self.new.bodies ≡ self.old.bodies }
+        ensures typed { (said : List (Row Said)) (defs : List (Row Definition)) (text : List ℕ) (ν : ℕ → Spot → Option ℕ) (nodes : List RawTypeNode) (i : ℕ) → AreDone self.old.types.bank said defs text ν nodes done.now → IsNode nodes i (node.Arrow from to) → IfOk result (λ o. IfSome o (IsTree self.new.types.bank (IsTypeOf said defs text ν nodes i))) }
+    {
         let Some(left) = type_at(done, from) else {
             return Ok(None);
         };
@@ -256,6 +297,11 @@ impl Bodies {
         done: &mut Vec<Option<TypeId>>,
         variables: &mut Variables,
     ) -> Result<Option<(usize, SigFault)>, Memory>
+        ensures kept { Extends self.old.types.bank self.new.types.bank }
+        ensures bodies { self.new.bodies ≡ self.old.bodies }
+        ensures closed { (text : List ℕ) (ps : List Spot) → AreParameters variables.old text ps → AreParameters variables.new text ps }
+        ensures more { IfOk result (λ fault. length done.new.items ≡ length done.old.items + 1) }
+        ensures typed { (said : List (Row Said)) (defs : List (Row Definition)) (ν : ℕ → Spot → Option ℕ) (nodes : List RawTypeNode) → Knows names.now said → HoldsBodies self.old.types.bank self.old.bodies.items said defs → AreDone self.old.types.bank said defs source.now ν nodes done.old.items → IsNode nodes (length done.old.items) node.now → IsNumbered ν (given_number variables.old) source.now (length done.old.items) node.now → IfOk result (λ fault. AreDone self.new.types.bank said defs source.now ν nodes done.new.items) }
         ensures among { IfOk result (λ fault. IfSome fault (λ f. IsFaultOf source.now (typed [] (words_of (node.now ∷ []))) ⊥ f.1)) }
         ensures fault { (said : List (Row Said)) (vs : Option (List (List ℕ))) → Knows names.now said → Holds variables.old vs → IfOk result (λ o. o ≡ option_map (λ e. (beginning node.now, e)) (word_fault source.now said vs node.now)) }
         ensures held { (vs : Option (List (List ℕ))) → Holds variables.old vs → Holds variables.new vs }
@@ -305,6 +351,9 @@ impl Bodies {
         raw: &RawType,
         variables: &mut Variables,
     ) -> Result<Option<TypeId>, SigFault>
+        ensures kept { Extends self.old.types.bank self.new.types.bank }
+        ensures bodies { self.new.bodies ≡ self.old.bodies }
+        ensures body { (said : List (Row Said)) (defs : List (Row Definition)) (ps : List Spot) → Knows names.now said → HoldsBodies self.old.types.bank self.old.bodies.items said defs → AreParameters variables.old source.now ps → IfOk result (λ made. IfSome made (IsTree self.new.types.bank (IsTypeOf said defs source.now (by_parameters source.now ps) raw.now.nodes.items raw.now.root))) }
         ensures among { IfErr result (IsFaultOf source.now (typed [] (words_of raw.now.nodes.items)) ⊥) }
         ensures first { (said : List (Row Said)) (vs : Option (List (List ℕ))) → Knows names.now said → Holds variables.old vs → IfErr result (λ e. (e ≡ fault.Memory) ⊎ IsFirstFault source.now said vs raw.now.nodes.items e) }
         ensures stand { (said : List (Row Said)) (vs : Option (List (List ℕ))) → Knows names.now said → Holds variables.old vs → IfOk result (λ made. WordsStand source.now said vs raw.now.nodes.items) }

@@ -1,109 +1,30 @@
-// Types of which each stands once in a bank, so that equal types have equal numbers.
+// Copies of types, and their variables.
 
-ghost use Rattle.std.specs.Prelude.{◌≡◌, ◌<◌, ◌+◌, ◌*◌, List, ◌++◌, [], ◌∷◌, length, map, reverse, true, All, OnOk, IfOk, IfSome};
-ghost use Rattle.lp_calculus.specs.Types.{var, con, arrow, tys};
-ghost use Rattle.lp_term.specs.Node.{var_node, con_node, arrow_node};
-ghost use Rattle.lp_term.specs.Shapes.{type_shape};
+ghost use Rattle.std.specs.Prelude.{◌≡◌, ◌<◌, ◌+◌, ◌*◌, List, ◌++◌, [], ◌∷◌, length, map, reverse, true, All, OnOk, IfOk, IfSome, Some, nat_eq, ℕ, if◌then◌else◌};
+ghost use Rattle.lp_calculus.specs.Types.{instance};
 ghost use Rattle.lp_term.specs.Nodes.{Nodes, Extends, type_tree};
 ghost use Rattle.lp_term.specs.declared.node.TypeId.{TypeId};
-ghost use Rattle.lp_sig.specs.Copying.{type_size, total, left, cost, InRange, AreInRange};
+ghost use Rattle.lp_sig.specs.Copying.{type_size, total, left, cost, InRange, AreInRange, picked, filled, AreCopies};
+ghost use Rattle.lp_sig.specs.Schemes.{first_variables, IsOnWay, IsOpened};
+ghost use Rattle.indexmap.specs.IndexMap.{get};
 ghost use Rattle.lp_sig.specs.declared.interned.Task.TheVariants.{Visit};
 
+use crate::store::{Types, are_known};
 use indexmap::{IndexMap, IndexSet};
 use lp_base::Memory;
-use lp_term::{Bank, TypeId, TypeNode};
+use lp_term::{TypeId, TypeNode};
 use std::alloc::Global;
 
-#[derive(PartialEq, Eq, Hash, Drop)]
-enum TypeKey {
-    Var(u64),
-    Con(u32, Vec<usize>),
-    Arrow(usize, usize),
-}
-
 // The type for a variable, which stays where there is none for it.
-fn put_for(number: u64, variable: TypeId, args: &[TypeId]) -> TypeId {
+fn put_for(number: u64, variable: TypeId, args: &[TypeId]) -> TypeId
+    ensures known { (n : ℕ) → variable.0 < n → All (λ i. i < n) (map (λ t. t.0) args.now) → result.0 < n }
+    ensures tree { (b : Nodes) → type_tree b result.0 ≡ picked b args.now number (type_tree b variable.0) }
+{
     if number < args.len() as u64 {
         args[number as usize]
     } else {
         variable
     }
-}
-
-// Whether a node is this one: the number that a key is known under is trusted only so far.
-fn is_var(node: TypeNode<'_>, number: u64) -> bool
-    ensures { result ≡ true → type_shape node.entry ≡ var_node number }
-{
-    match node {
-        TypeNode::Var(known) => known == number,
-        TypeNode::Param(_) => false,
-        TypeNode::Con(_, _) => false,
-        TypeNode::Arrow(_, _) => false,
-    }
-}
-
-fn is_con(node: TypeNode<'_>, kind: u32, parts: &[TypeId]) -> bool
-    ensures { result ≡ true → type_shape node.entry ≡ con_node kind (map (λ t. t.0) parts.now) }
-{
-    match node {
-        TypeNode::Var(_) => false,
-        TypeNode::Param(_) => false,
-        TypeNode::Con(known, ids) => known == kind && are_same(ids, parts),
-        TypeNode::Arrow(_, _) => false,
-    }
-}
-
-fn is_arrow(node: TypeNode<'_>, from: TypeId, to: TypeId) -> bool
-    ensures { result ≡ true → type_shape node.entry ≡ arrow_node from.0 to.0 }
-{
-    match node {
-        TypeNode::Var(_) => false,
-        TypeNode::Param(_) => false,
-        TypeNode::Con(_, _) => false,
-        TypeNode::Arrow(left, right) => left.0 == from.0 && right.0 == to.0,
-    }
-}
-
-fn are_same(ids: &[TypeId], others: &[TypeId]) -> bool
-    ensures { result ≡ true → map (λ t. t.0) ids.now ≡ map (λ t. t.0) others.now }
-{
-    if ids.len() != others.len() {
-        return false;
-    }
-    for place in 0..ids.len() {
-        if ids[place].0 != others[place].0 {
-            return false;
-        }
-    }
-    true
-}
-
-// The numbers of types.
-fn numbers_of(alloc: Global, ids: &[TypeId]) -> Result<Vec<usize>, Memory> {
-    let mut numbers = Vec::new(alloc);
-    for id in ids {
-        numbers.push(id.0)?;
-    }
-    Ok(numbers)
-}
-
-// Whether all types are in the bank.
-pub(crate) fn are_known(bank: &Bank, ids: &[TypeId]) -> bool
-    ensures { result ≡ true → All (λ i. i < length bank.now.types) (map (λ t. t.0) ids.now) }
-{
-    for id in ids.iter().copied() {
-        if id.0 >= bank.type_count() {
-            return false;
-        }
-    }
-    true
-}
-
-#[derive(Drop)]
-pub(crate) struct Types {
-    alloc: Global,
-    bank: Bank,
-    known: IndexMap<TypeKey, usize>,
 }
 
 // What is left to do for an instance of a type.
@@ -114,87 +35,12 @@ enum Task {
 }
 
 impl Types {
-    pub(crate) fn new(alloc: Global) -> Types {
-        Types {
-            alloc,
-            bank: Bank::new(alloc),
-            known: IndexMap::new(alloc),
-        }
-    }
-
-    pub(crate) fn into_bank(self) -> Bank {
-        self.bank
-    }
-
-    // The number of a key, where the bank has no other node there.
-    fn at_key(&self, key: &TypeKey) -> Option<TypeId>
-        ensures { IfSome result (λ id. id.0 < length self.now.bank.types) }
-    {
-        let id = TypeId(*self.known.get(key)?);
-        if id.0 >= self.bank.type_count() {
-            return None;
-        }
-        Some(id)
-    }
-
-    pub(crate) fn var(&mut self, number: u64) -> Result<TypeId, Memory>
-        ensures kept { Extends self.old.bank self.new.bank }
-        ensures tree { IfOk result (λ id. (id.0 < length self.new.bank.types) × (type_tree self.new.bank id.0 ≡ var number)) }
-    {
-        if let Some(id) = self.at_key(&TypeKey::Var(number)) {
-            if is_var(self.bank.type_node(id), number) {
-                return Ok(id);
-            }
-        }
-        let id = self.bank.put_type(TypeNode::Var(number))?;
-        self.known.insert(TypeKey::Var(number), id.0)?;
-        Ok(id)
-    }
-
-    pub(crate) fn con(&mut self, kind: u32, parts: &[TypeId]) -> Result<TypeId, Memory>
-        ensures kept { Extends self.old.bank self.new.bank }
-        ensures tree { IfOk result (λ id. (id.0 < length self.new.bank.types) × (type_tree self.new.bank id.0 ≡ con kind (tys (map (type_tree self.old.bank) (map (λ t. t.0) parts.now))))) }
-    {
-        let key = TypeKey::Con(kind, numbers_of(self.alloc, parts)?);
-        if let Some(id) = self.at_key(&key) {
-            if is_con(self.bank.type_node(id), kind, parts) {
-                return Ok(id);
-            }
-        }
-        if !are_known(&self.bank, parts) {
-            return Err(Memory);
-        }
-        let id = self.bank.put_type(TypeNode::Con(kind, parts))?;
-        self.known.insert(key, id.0)?;
-        Ok(id)
-    }
-
-    pub(crate) fn arrow(&mut self, from: TypeId, to: TypeId) -> Result<TypeId, Memory>
-        ensures kept { Extends self.old.bank self.new.bank }
-        ensures tree { IfOk result (λ id. (id.0 < length self.new.bank.types) × (type_tree self.new.bank id.0 ≡ arrow (type_tree self.old.bank from.0) (type_tree self.old.bank to.0))) }
-    {
-        let key = TypeKey::Arrow(from.0, to.0);
-        if let Some(id) = self.at_key(&key) {
-            if is_arrow(self.bank.type_node(id), from, to) {
-                return Ok(id);
-            }
-        }
-        if from.0 >= self.bank.type_count() || to.0 >= self.bank.type_count() {
-            return Err(Memory);
-        }
-        let id = self.bank.put_type(TypeNode::Arrow(from, to))?;
-        self.known.insert(key, id.0)?;
-        Ok(id)
-    }
-
     // The type with other types for its variables; a variable without one stays.
     pub(crate) fn instance(&mut self, body: TypeId, args: &[TypeId]) -> Result<TypeId, Memory>
-        ensures { Extends self.old.bank self.new.bank }
+        ensures kept { Extends self.old.bank self.new.bank }
+        ensures tree { IfOk result (λ id. (id.0 < length self.new.bank.types) × (type_tree self.new.bank id.0 ≡ instance (filled self.old.bank args.now) (type_tree self.old.bank body.0))) }
     {
-        if args.is_empty() {
-            return Ok(body);
-        }
-        if body.0 >= self.bank.type_count() {
+        if body.0 >= self.bank.type_count() || !are_known(&self.bank, args) {
             return Err(Memory);
         }
         let mut made = IndexMap::new(self.alloc);
@@ -216,6 +62,7 @@ impl Types {
     ) -> Result<(), Memory>
         ensures kept { Extends self.old.bank self.new.bank }
         ensures falls { OnOk result ((b : Nodes) → Extends b self.old.bank → InRange b task → AreInRange b work.old.items → AreInRange b work.new.items × (left b work.new.items < left b work.old.items + cost b task)) }
+        ensures copies { OnOk result ((b : Nodes) → Extends b self.old.bank → InRange b task → All (λ i. i < length b.types) (map (λ t. t.0) args.now) → AreCopies b args.now self.old.bank made.old → AreCopies b args.now self.new.bank made.new) }
     {
         match task {
             Task::Visit(id) => self.visit(id, args, made, work),
@@ -231,7 +78,8 @@ impl Types {
         made: &mut IndexMap<usize, usize>,
         work: &mut Vec<Task>,
     ) -> Result<(), Memory>
-        ensures { OnOk result ((b : Nodes) → Extends b self.now.bank → id.0 < length b.types → AreInRange b work.old.items → AreInRange b work.new.items × (left b work.new.items < left b work.old.items + 2 * type_size (type_tree b id.0))) }
+        ensures copies { OnOk result ((b : Nodes) → Extends b self.now.bank → id.0 < length b.types → All (λ i. i < length b.types) (map (λ t. t.0) args.now) → AreCopies b args.now self.now.bank made.old → AreCopies b args.now self.now.bank made.new) }
+        ensures falls { OnOk result ((b : Nodes) → Extends b self.now.bank → id.0 < length b.types → AreInRange b work.old.items → AreInRange b work.new.items × (left b work.new.items < left b work.old.items + 2 * type_size (type_tree b id.0))) }
     {
         if made.contains_key(&id.0) {
             return Ok(());
@@ -240,14 +88,8 @@ impl Types {
             return Err(Memory);
         }
         match self.bank.type_node(id) {
-            TypeNode::Var(number) => {
-                made.insert(id.0, put_for(number, id, args).0)?;
-                Ok(())
-            }
-            TypeNode::Param(_) => {
-                made.insert(id.0, id.0)?;
-                Ok(())
-            }
+            TypeNode::Var(number) => keep(made, id, put_for(number, id, args)),
+            TypeNode::Param(_) => keep(made, id, id),
             TypeNode::Con(_, parts) => {
                 work.push(Task::Build(id))?;
                 push_visits(parts, work)
@@ -263,7 +105,8 @@ impl Types {
 
     // Copies a node whose parts have copies.
     fn build(&mut self, id: TypeId, made: &mut IndexMap<usize, usize>) -> Result<(), Memory>
-        ensures { Extends self.old.bank self.new.bank }
+        ensures kept { Extends self.old.bank self.new.bank }
+        ensures copies { OnOk result ((b : Nodes) (args : List TypeId) → Extends b self.old.bank → id.0 < length b.types → AreCopies b args self.old.bank made.old → AreCopies b args self.new.bank made.new) }
     {
         if id.0 >= self.bank.type_count() {
             return Err(Memory);
@@ -274,21 +117,21 @@ impl Types {
             TypeNode::Con(kind, parts) => {
                 let copies = copies_of(self.alloc, made, parts)?;
                 let copy = self.con(kind, copies.as_slice())?;
-                made.insert(id.0, copy.0)?;
-                Ok(())
+                keep(made, id, copy)
             }
             TypeNode::Arrow(from, to) => {
                 let left = copy_of(made, from)?;
                 let right = copy_of(made, to)?;
                 let copy = self.arrow(left, right)?;
-                made.insert(id.0, copy.0)?;
-                Ok(())
+                keep(made, id, copy)
             }
         }
     }
 
     // The variables of a type, by first place.
-    pub(crate) fn variables(&self, body: TypeId) -> Result<Vec<u64>, Memory> {
+    pub(crate) fn variables(&self, body: TypeId) -> Result<Vec<u64>, Memory>
+        ensures { IfOk result (λ found. found.items ≡ first_variables (type_tree self.now.bank body.0)) }
+    {
         let mut found = IndexSet::new(self.alloc);
         let mut seen = IndexSet::new(self.alloc);
         let mut work = Vec::new(self.alloc);
@@ -296,7 +139,8 @@ impl Types {
         'types: while let Some(id) = work.pop() {
             self.look(id, &mut seen, &mut found, &mut work)?;
         }
-        list_of(self.alloc, &found)
+        let list = Vec::from_slice(self.alloc, found.as_slice())?;
+        Ok(list)
     }
 
     // Looks at a type, if this is the first time.
@@ -307,7 +151,8 @@ impl Types {
         found: &mut IndexSet<u64>,
         work: &mut Vec<TypeId>,
     ) -> Result<(), Memory>
-        ensures { OnOk result (total self.now.bank work.new.items < total self.now.bank work.old.items + type_size (type_tree self.now.bank id.0)) }
+        ensures falls { OnOk result (total self.now.bank work.new.items < total self.now.bank work.old.items + type_size (type_tree self.now.bank id.0)) }
+        ensures on_way { OnOk result ((all : List ℕ) → IsOnWay self.now.bank found.old.keys seen.old.keys (id ∷ reverse work.old.items) all → IsOnWay self.now.bank found.new.keys seen.new.keys (reverse work.new.items) all) }
     {
         if !seen.insert(id.0)? {
             return Ok(());
@@ -322,7 +167,8 @@ impl Types {
         found: &mut IndexSet<u64>,
         work: &mut Vec<TypeId>,
     ) -> Result<(), Memory>
-        ensures { OnOk result (total self.now.bank work.new.items < total self.now.bank work.old.items + type_size (type_tree self.now.bank id.0)) }
+        ensures falls { OnOk result (total self.now.bank work.new.items < total self.now.bank work.old.items + type_size (type_tree self.now.bank id.0)) }
+        ensures opened { OnOk result (IsOpened self.now.bank id.0 found.old.keys found.new.keys (reverse work.old.items) (reverse work.new.items)) }
     {
         if id.0 >= self.bank.type_count() {
             return Err(Memory);
@@ -361,16 +207,18 @@ fn push_visits(ids: &[TypeId], work: &mut Vec<Task>) -> Result<(), Memory>
     Ok(())
 }
 
-fn list_of(alloc: Global, set: &IndexSet<u64>) -> Result<Vec<u64>, Memory> {
-    let mut list = Vec::new(alloc);
-    for number in set.iter() {
-        list.push(*number)?;
-    }
-    Ok(list)
+// Keeps the copy of a node.
+fn keep(made: &mut IndexMap<usize, usize>, id: TypeId, copy: TypeId) -> Result<(), Memory>
+    ensures { OnOk result ((y : ℕ) → get nat_eq made.new y ≡ (if nat_eq id.0 y then Some copy.0 else get nat_eq made.old y)) }
+{
+    made.insert(id.0, copy.0)?;
+    Ok(())
 }
 
 // The copy of a node, which was made before it.
-fn copy_of(made: &IndexMap<usize, usize>, id: TypeId) -> Result<TypeId, Memory> {
+fn copy_of(made: &IndexMap<usize, usize>, id: TypeId) -> Result<TypeId, Memory>
+    ensures { IfOk result (λ copy. get nat_eq made.now id.0 ≡ Some copy.0) }
+{
     match made.get(&id.0) {
         Some(copy) => Ok(TypeId(*copy)),
         None => Err(Memory),
@@ -381,7 +229,9 @@ fn copies_of(
     alloc: Global,
     made: &IndexMap<usize, usize>,
     ids: &[TypeId],
-) -> Result<Vec<TypeId>, Memory> {
+) -> Result<Vec<TypeId>, Memory>
+    ensures { IfOk result (λ copies. map (λ t. get nat_eq made.now t.0) ids.now ≡ map (λ c. Some c.0) copies.items) }
+{
     let mut copies = Vec::new(alloc);
     for id in ids.iter().copied() {
         copies.push(copy_of(made, id)?)?;

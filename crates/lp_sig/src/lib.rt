@@ -43,6 +43,7 @@ mod settle;
 mod signature;
 // The names of every text.
 mod standard;
+mod store;
 // From texts to a signature.
 mod texts;
 // Which abbreviations the body of each names.

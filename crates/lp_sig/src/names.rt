@@ -1,10 +1,12 @@
 // The names of kinds and abbreviations so far, each at its first declaration.
-ghost use Rattle.std.specs.Prelude.{◌≡◌, ◌+◌, min, ℕ, List, [], ◌∷◌, ◌++◌, map, is_some, option_map, IfSome, OnOk};
+ghost use Rattle.std.specs.Prelude.{◌≡◌, ◌+◌, min, not, IfOk, ℕ, List, [], ◌∷◌, ◌++◌, map, is_some, option_map, IfSome, OnOk};
 ghost use Rattle.lp_sig.specs.Places.{HasPlaces, first_place};
 ghost use Rattle.lp_sig.specs.Abbreviations.{abbreviation_names, place_meant};
 ghost use Rattle.lp_sig.specs.Rows.{Row};
 ghost use Rattle.lp_sig.specs.Said.{Said, a_kind, an_abbreviation, each};
 ghost use Rattle.lp_sig.specs.Words.{meaning_of, number_said};
+ghost use Rattle.lp_sig.specs.Types.{kind_number_of};
+ghost use Rattle.lp_sig.specs.Holding.{HasNumber};
 ghost use Rattle.lp_sig.specs.Knowing.{Knows, is_known, kinded_row, head_row, said_as, IsNumberOf};
 
 use crate::pieces::spelled_at;
@@ -70,6 +72,7 @@ impl Names {
         ensures means { (said : List (Row Said)) → Knows self.now said → option_map (said_as self.now) result ≡ meaning_of name.now said }
         ensures number { (said : List (Row Said)) → Knows self.now said → IfSome result (IsNumberOf (number_said name.now said)) }
         ensures place { (said : List (Row Said)) → Knows self.now said → place_meant result ≡ first_place name.now (abbreviation_names said) }
+        ensures exact { (said : List (Row Said)) → Knows self.now said → IfSome result (HasNumber (kind_number_of name.now said)) }
     {
         if let Some((number, arity)) = standard_kind(name) {
             return Some(Meaning::Kind(number, arity as u32));
@@ -125,7 +128,8 @@ impl Names {
 
     // An abbreviation that has no meaning yet gets the next place. Says whether it had none.
     pub(crate) fn announce_head(&mut self, name: &[u8], parameters: usize) -> Result<bool, Memory>
-        ensures { OnOk result ((said : List (Row Said)) → Knows self.old said → Knows self.new (said ++ (name.now, an_abbreviation parameters) ∷ [])) }
+        ensures fresh { (said : List (Row Said)) → Knows self.old said → IfOk result (λ new. not new ≡ is_known name.now said) }
+        ensures names { OnOk result ((said : List (Row Said)) → Knows self.old said → Knows self.new (said ++ (name.now, an_abbreviation parameters) ∷ [])) }
     {
         if self.meaning(name).is_some() {
             return Ok(false);

@@ -4,7 +4,7 @@ ghost use Rattle.std.specs.Prelude.{◌≡◌};
 ghost use Rattle.lp_sig.specs.Rows.{found};
 ghost use Rattle.lp_sig.specs.Standard.{standard_kinds, standard_constants, connectives, relations, operations};
 
-use crate::interned::Types;
+use crate::store::Types;
 use lp_base::Memory;
 use lp_term::TypeId;
 

@@ -1,11 +1,23 @@
-use Rattle.std.proofs.Common.{[], subst, ap, ◌∙◌, ◌≡◌, get_or, length, ◌<◌}
+use Rattle.std.proofs.Common.{[], refl, sym, subst, ap, ◌∙◌, ◌≡◌, get_or, length, ◌<◌, ◌+◌}
 use Rattle.lp_sig.specs.Refusals.{IsFaultOf, typed, words_of}
 use Rattle.lp_sig.proofs.Blame.{one_of_two, fault_among}
 use Rattle.lp_sig.proofs.Wording.{finds_nothing, finds_more, finds_all, first_found, nothing_found}
+use Rattle.lp_sig.specs.Types.{IsNode, by_parameters}
+use Rattle.lp_sig.proofs.Copies.{extends_itself, extends_then}
+use Rattle.lp_sig.proofs.Typing.{nothing_done, bodies_stay, as_parameters, if_done}
 use Rattle.lp_sig.proofs.bodies.Bodies.expand.Goals as goal
 
 pub loop-node-init : goal.loop-node-init
-loop-node-init c = record { among = tt; found = λ said vs k h. finds_nothing c.args.source.now said vs; held = λ vs h. h }
+loop-node-init c = record {
+  among = tt;
+  found = λ said vs k h. finds_nothing c.args.source.now said vs;
+  held = λ vs h. h;
+  kept = extends_itself c.args.self.now.types.bank;
+  bodies = refl;
+  closed = λ ps h. h;
+  count = ap length c.new-done.ensures.items;
+  typed = λ said defs ps k h g. nothing_done c.args.self.now.types.bank said defs c.args.source.now (by_parameters c.args.source.now ps) c.args.raw.now.nodes.items c.new-done.result.items c.new-done.ensures.items;
+}
 
 pub loop-node-preserved : goal.loop-node-preserved
 loop-node-preserved c =
@@ -19,6 +31,14 @@ loop-node-preserved c =
       found = λ said vs k g. finds_more c.args.source.now said vs c.args.raw.now.nodes.items c.deref-node-items.result.now i c.node-item.result c.loop-node.fault c.in_ok-found.found c.earlier-fault.result same c.loop-node-test.true c.node-item.is
           (c.loop-node.invariant.found said vs k g) (c.in_ok-found.ensures.fault said vs k (c.loop-node.invariant.held vs g)) c.earlier-fault.ensures.is;
       held = λ vs g. c.expand_node.ensures.held vs (c.loop-node.invariant.held vs g);
+      kept = extends_then c.args.self.now.types.bank c.loop-node.self.types.bank c.expand_node.new.self.types.bank c.loop-node.invariant.kept c.expand_node.ensures.kept;
+      bodies = c.expand_node.ensures.bodies ∙ c.loop-node.invariant.bodies;
+      closed = λ ps g. c.expand_node.ensures.closed c.args.source.now ps (c.loop-node.invariant.closed ps g);
+      count = c.in_ok-found.ensures.more ∙ ap (λ n. n + 1) c.loop-node.invariant.count;
+      typed = λ said defs ps k b g.
+          c.in_ok-found.ensures.typed said defs (by_parameters c.args.source.now ps) c.args.raw.now.nodes.items k
+          (bodies_stay c.args.self.now.types.bank c.loop-node.self.types.bank c.args.self.now.bodies.items c.loop-node.self.bodies.items said defs c.loop-node.invariant.kept (ap (λ v. v.items) c.loop-node.invariant.bodies) b) (c.loop-node.invariant.typed said defs ps k b g)
+          (subst (λ j. IsNode c.args.raw.now.nodes.items j c.node-item.result) (sym c.loop-node.invariant.count) (h, sym at)) (as_parameters c.loop-node.variables c.args.source.now ps (length c.loop-node.done.items) c.node-item.result (c.loop-node.invariant.closed ps g));
     }
 
 pub returns-in-Some-clause-first : goal.returns-in-Some-clause-first
@@ -32,3 +52,7 @@ returns-clause-stand c = λ said vs k h.
     let nodes = c.args.raw.now.nodes.items in
     nothing_found c.args.source.now said vs nodes c.loop-node.fault c.in_default.is
     (finds_all c.args.source.now said vs nodes c.deref-node-items.result.now c.loop-node.node-index c.loop-node.fault c.deref-node-items.ensures.value c.loop-node-test.false (c.loop-node.invariant.found said vs k h))
+
+pub returns-clause-body : goal.returns-clause-body
+returns-clause-body c = λ said defs ps k b g.
+    if_done c.loop-node.self.types.bank said defs c.args.source.now (by_parameters c.args.source.now ps) c.args.raw.now.nodes.items c.loop-node.done.items c.as_slice.result.now (c.loop-node.invariant.typed said defs ps k b g) c.args.raw.now.root c.type_at.result c.as_slice.ensures.value c.type_at.ensures

@@ -1,9 +1,13 @@
-use Rattle.std.proofs.Common.{ℕ, List, [], take, Option}
+use Rattle.std.proofs.Common.{◌≡◌, ℕ, List, [], take, Option, length}
 use Rattle.std.specs.Prelude.{IfSome}
+use Rattle.lp_base.specs.declared.place.Spot.{Spot}
+use Rattle.lp_term.specs.Nodes.{Extends}
 use Rattle.lp_sig.specs.Rows.{Row}
 use Rattle.lp_sig.specs.Said.{Said}
 use Rattle.lp_sig.specs.Knowing.{Knows, Holds}
 use Rattle.lp_sig.specs.Refusals.{IsFaultOf, typed, words_of}
+use Rattle.lp_sig.specs.Types.{Definition, by_parameters}
+use Rattle.lp_sig.specs.Holding.{AreParameters, AreDone, HoldsBodies}
 use Rattle.lp_sig.proofs.Wording.{Finds}
 use Rattle.lp_sig.proofs.bodies.Bodies.expand.Given as goal
 
@@ -12,4 +16,10 @@ invariant-loop-node l = record {
   among : IfSome l.fault (λ f. IsFaultOf l.source (typed [] (words_of l.raw.nodes.items)) ⊥ f.1);
   found : (said : List (Row Said)) (vs : Option (List (List ℕ))) → Knows l.names said → Holds l.fn.variables vs → Finds l.source said vs (take l.node-index l.raw.nodes.items) l.fault;
   held : (vs : Option (List (List ℕ))) → Holds l.fn.variables vs → Holds l.variables vs;
+  kept : Extends l.fn.self.types.bank l.self.types.bank;
+  bodies : l.self.bodies ≡ l.fn.self.bodies;
+  closed : (ps : List Spot) → AreParameters l.fn.variables l.source ps → AreParameters l.variables l.source ps;
+  count : length l.done.items ≡ l.node-index;
+  typed : (said : List (Row Said)) (defs : List (Row Definition)) (ps : List Spot) → Knows l.names said → HoldsBodies l.fn.self.types.bank l.fn.self.bodies.items said defs → AreParameters l.fn.variables l.source ps →
+      AreDone l.self.types.bank said defs l.source (by_parameters l.source ps) l.raw.nodes.items l.done.items;
 }

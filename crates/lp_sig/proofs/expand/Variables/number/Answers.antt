@@ -1,8 +1,25 @@
-use Rattle.std.proofs.Common.{◌∙◌}
+use Rattle.std.proofs.Common.{◌∙◌, ap, sym}
+use Rattle.std.specs.Str.{bytes_eq}
 use Rattle.lp_sig.specs.Knowing.{number_of}
 use Rattle.lp_sig.proofs.Parameters.{number_closed}
+use Rattle.lp_sig.proofs.Typing.{given_closed, given_blank, given_known, given_new}
 use Rattle.lp_sig.proofs.expand.Variables.number.Goals as goal
 
 pub returns-then-self-clause-given : goal.returns-then-self-clause-given
 unfolding number_of
 returns-then-self-clause-given c = λ vs h. number_closed c.args.self.now vs c.args.name.now c.copied.result c.if-self.true (c.copied.ensures ∙ c.get.ensures.value) h
+
+pub returns-then-self-clause-is : goal.returns-then-self-clause-is
+unfolding number_of
+returns-then-self-clause-is c = given_closed c.args.self.now c.args.name.now c.copied.result c.if-self.true (c.copied.ensures ∙ c.get.ensures.value)
+
+pub returns-then-eq-clause-is : goal.returns-then-eq-clause-is
+returns-then-eq-clause-is c = given_blank c.args.self.now c.args.name.now c.if-self.false (sym (c.if-eq.ensures ∙ ap (bytes_eq c.args.name.now) c.as_slice.ensures))
+
+pub returns-in-Some-clause-is : goal.returns-in-Some-clause-is
+unfolding number_of
+returns-in-Some-clause-is c = given_known c.args.self.now c.args.name.now c.in-Some.number.now c.if-self.false (sym (c.if-eq.ensures ∙ ap (bytes_eq c.args.name.now) c.as_slice.ensures)) (sym c.in-Some.ensures.value)
+
+pub returns-clause-is : goal.returns-clause-is
+unfolding number_of
+returns-clause-is c = given_new c.args.self.now c.args.name.now c.in_ok-number.number c.if-self.false (sym (c.if-eq.ensures ∙ ap (bytes_eq c.args.name.now) c.as_slice.ensures)) (sym c.in_default.ensures.value) c.in_ok-number.ensures.is

@@ -6,6 +6,7 @@ use Rattle.lp_sig.proofs.Finding.{none_past}
 use Rattle.lp_sig.proofs.Knowledge.{means_head, means_kind, means_nothing}
 use Rattle.lp_sig.proofs.Meanings.{means_standard, says_head, says_kind, says_nothing}
 use Rattle.lp_sig.proofs.Numbering.{standard_number, declared_number}
+use Rattle.lp_sig.proofs.Typing.{exact_standard, exact_declared}
 use Rattle.lp_sig.proofs.names.Names.meaning.Goals as goal
 use Rattle.lp_sig.specs.Abbreviations.{place_meant}
 use Rattle.lp_sig.proofs.Abbreviating.{place_head, place_standard}
@@ -57,3 +58,9 @@ returns-clause-number c = λ said k. inr (declared_number c.args.self.now said c
 
 pub returns-clause-place : goal.returns-clause-place
 returns-clause-place c = λ said k. sym c.in_default-of.is ∙ place_head c.args.self.now said c.args.name.now c.of.result k c.of.ensures
+
+pub returns-in-Some-clause-exact : goal.returns-in-Some-clause-exact
+returns-in-Some-clause-exact c = λ said k. exact_standard c.args.name.now said c.in-Some.number c.in-Some.arity c.in-Some.ensures
+
+pub returns-clause-exact : goal.returns-clause-exact
+returns-clause-exact c = λ said k. exact_declared c.args.name.now said c.kind_number.result c.in_default.ensures (declared_number c.args.self.now said c.args.name.now k c.of-2.result c.in_ok-place.place c.kind_number.result c.in_ok-place.was (c.of-2.ensures ∙ k.kind_places c.args.name.now) c.kind_number.ensures)

@@ -1,0 +1,64 @@
+-- A body that is settled is that of its name, and the others stay.
+use Rattle.std.specs.Global.{Global}
+use Rattle.std.proofs.Common.{◌≡◌, ℕ, zero, suc, ◌<◌, List, [], ◌∷◌, length, map, get_or, Option, Some, None, refl, sym, ap, subst, ◌∙◌, inl, inr, arith}
+use Rattle.std.specs.Prelude.{◌⊎◌, IfSome, Vec, slice_set, slice_index_or}
+use Rattle.lp_base.specs.declared.place.Spot.{Spot}
+use Rattle.lp_term.specs.Nodes.{Nodes, type_tree}
+use Rattle.lp_term.specs.declared.node.TypeId.{TypeId}
+use Rattle.lp_syntax.specs.declared.text.Declaration.{Declaration}
+use Rattle.lp_syntax.specs.declared.text.RawType.{RawType}
+use Rattle.lp_sig.specs.Places.{first_place}
+use Rattle.lp_sig.specs.Rows.{Row, found}
+use Rattle.lp_sig.specs.Said.{Said}
+use Rattle.lp_sig.specs.Abbreviations.{abbreviation_names}
+use Rattle.lp_sig.specs.Types.{Definition, by_parameters, IsTypeOf, HasBody}
+use Rattle.lp_sig.specs.Holding.{body_of, line_at, IsTree, HoldsBodies, HoldsLines}
+use Rattle.lp_sig.specs.declared.bodies.Body.{Body}
+
+pub map_set : {A B : Type 0} (f : A → B) (xs : List A) (i : ℕ) (x : A) → map f (slice_set xs i x) ≡ slice_set (map f xs) i (f x)
+map_set f [] i x = refl
+map_set f (y ∷ ys) zero x = refl
+map_set f (y ∷ ys) (suc i) x = ap (λ l. f y ∷ l) (map_set f ys i x)
+
+set_same : {A : Type 0} (xs : List A) (i : ℕ) (d : A) → slice_set xs i (get_or xs i d) ≡ xs
+set_same [] i d = refl
+set_same (y ∷ ys) zero d = refl
+set_same (y ∷ ys) (suc i) d = ap (λ l. y ∷ l) (set_same ys i d)
+
+line_same : (bodies : List Body) (i : ℕ) (known : Body) → known ≡ get_or bodies i known → slice_set (map (λ b. b.line) bodies) i known.line ≡ map (λ b. b.line) bodies
+line_same bodies i known at =
+    sym (map_set (λ b. b.line) bodies i known) ∙ ap (λ b. map (λ b. b.line) (slice_set bodies i b)) at ∙ ap (map (λ b. b.line)) (set_same bodies i known)
+
+pub lines_same : (bodies : List Body) (i : ℕ) (known new : Body) → known ≡ get_or bodies i known → new.line ≡ known.line → map (λ b. b.line) (slice_set bodies i new) ≡ map (λ b. b.line) bodies
+lines_same bodies i known new at same = map_set (λ b. b.line) bodies i new ∙ ap (slice_set (map (λ b. b.line) bodies) i) same ∙ line_same bodies i known at
+
+pub lines_stay : (old new : List Body) (said : List (Row Said)) (defs : List (Row Definition)) (text : List ℕ) (declared : ℕ → Option Declaration) → map (λ b. b.line) new ≡ map (λ b. b.line) old → HoldsLines old said defs text declared → HoldsLines new said defs text declared
+lines_stay old new said defs text declared same h = λ name place line s ps ty at is. h name place line s ps ty at (ap (λ l. slice_index_or l place None) (sym same) ∙ is)
+
+pub body_is : (b : Nodes) (said : List (Row Said)) (defs : List (Row Definition)) (name text : List ℕ) (ps slice : List Spot) (ty : RawType) (o : Option TypeId) → slice ≡ ps → found name defs ≡ Some (record { text = text; parameters = ps; body = ty }) →
+    IfSome o (IsTree b (IsTypeOf said defs text (by_parameters text slice) ty.nodes.items ty.root)) → IfSome o (IsTree b (HasBody said defs name))
+body_is b said defs name text ps slice ty None same f h = tt
+body_is b said defs name text ps slice ty (Some id) same f h =
+    (h.0, record { definition = record { text = text; parameters = ps; body = ty }; declared = f; is = subst (λ ps. IsTypeOf said defs text (by_parameters text ps) ty.nodes.items ty.root (type_tree b id.0)) same h.1 })
+
+set_cases : (xs : List (Option TypeId)) (i : ℕ) (x : Option TypeId) (p : ℕ) (id : TypeId) → slice_index_or (slice_set xs i x) p None ≡ Some id → (slice_index_or xs p None ≡ Some id) ⊎ ((p ≡ i) × (x ≡ Some id))
+set_cases [] i x p id e = inl e
+set_cases (y ∷ ys) zero x zero id e = inr (refl, e)
+set_cases (y ∷ ys) zero x (suc p) id e = inl e
+set_cases (y ∷ ys) (suc i) x zero id e = inl e
+set_cases (y ∷ ys) (suc i) x (suc p) id e = deeper (set_cases ys i x p id e)
+  where
+    deeper : (slice_index_or ys p None ≡ Some id) ⊎ ((p ≡ i) × (x ≡ Some id)) → (slice_index_or ys p None ≡ Some id) ⊎ ((suc p ≡ suc i) × (x ≡ Some id))
+    deeper (inl f) = inl f
+    deeper (inr q) = inr (ap (λ n. suc n) q.0, q.1)
+
+pub put_holds : (b : Nodes) (bodies new : List Body) (said : List (Row Said)) (defs : List (Row Definition)) (place : ℕ) (o : Option TypeId) → HoldsBodies b bodies said defs → map (λ b. b.body) new ≡ slice_set (map (λ b. b.body) bodies) place o →
+    ((name : List ℕ) → first_place name (abbreviation_names said) ≡ Some place → IfSome o (IsTree b (HasBody said defs name))) → HoldsBodies b new said defs
+put_holds b bodies new said defs place o h put this = λ name p id at is. by name p id at (set_cases (map (λ b. b.body) bodies) place o p id (ap (λ l. slice_index_or l p None) (sym put) ∙ is))
+  where
+    some : (o : Option TypeId) (id : TypeId) (P : TypeId → Type 0) → o ≡ Some id → IfSome o P → P id
+    some o id P e h = subst (λ o. IfSome o P) e h
+
+    by : (name : List ℕ) (p : ℕ) (id : TypeId) → first_place name (abbreviation_names said) ≡ Some p → (slice_index_or (map (λ b. b.body) bodies) p None ≡ Some id) ⊎ ((p ≡ place) × (o ≡ Some id)) → IsTree b (HasBody said defs name) id
+    by name p id at (inl f) = h name p id at f
+    by name p id at (inr q) = some o id (IsTree b (HasBody said defs name)) q.1 (this name (at ∙ ap (λ p. Some p) q.0))
