@@ -12,6 +12,8 @@ pub mod Scanning
 pub mod Seen
 pub mod Stripping
 pub mod TopLooks
+pub mod Turning
+pub mod Unifying
 pub mod Under
 pub mod Visiting
 pub mod FillingTerms

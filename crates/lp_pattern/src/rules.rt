@@ -19,6 +19,7 @@ ghost use Rattle.lp_pattern.specs.Ruling.{view, is_one_variable, is_flexible, ar
 ghost use Rattle.lp_pattern.specs.Scanning.{Pushes, AreTerms, Binds, one_if, agreeing_places};
 ghost use Rattle.lp_pattern.specs.Seen.{IsLooked, weak_step};
 ghost use Rattle.lp_pattern.specs.Stripping.{IsShut};
+ghost use Rattle.lp_pattern.specs.Turning.{IsOpenReading, IsKnownPair, IsPairFor, IsDoneAs, IsGivenAs, IsTakenAs};
 ghost use Rattle.lp_pattern.specs.Under.{IsReading, under};
 
 use crate::bindings::Bindings;
@@ -379,6 +380,8 @@ fn by_variables(
     ensures grown { Grows bindings.old bindings.new }
     ensures judged { IfOk result (λ done. (c : Closing) → IsReading bank.old bindings.old c → IsShut c → (n : ℕ) (p : Equation) → IsSeenPair bank.old c level one.now other.now p →
         IsJudged done units.old units.new (by_looks n next.old p (view bank.old c one.now) (view bank.old c other.now))) }
+    ensures done { IfOk result (λ done. (c : Closing) → IsOpenReading bank.old bindings.old next.old c → (levels : ℕ → ℕ) → (n : ℕ) (p : Equation) → IsSeenPair bank.old c level one.now other.now p → IsKnownPair levels next.old p → (r : Ruled) →
+        by_looks n next.old p (view bank.old c one.now) (view bank.old c other.now) ≡ Some r → IsDoneAs done levels next.old c bindings.old bank.new bindings.new next.new r.verdict) }
     ensures refused { IfErr result (λ e. (c : Closing) → IsReading bank.old bindings.old c → IsShut c → (n : ℕ) (p : Equation) → IsSeenPair bank.old c level one.now other.now p →
         IsRuledOut n e units.old (by_looks n next.old p (view bank.old c one.now) (view bank.old c other.now))) }
 {
@@ -439,6 +442,7 @@ fn replace(
     ensures kept { Extends bank.old bank.new }
     ensures grown { Grows bindings.old bindings.new }
     ensures replaced { OnOk result ((c : Closing) → IsReading bank.old bindings.old c → IsShut c → (n next : ℕ) (p : Equation) → IsSeenPair bank.old c level one.now other.now p → (r : Ruled) → rule n next p ≡ Some r → (units.old ≡ r.units + units.new) × IsDone r.verdict) }
+    ensures given { OnOk result ((next : ℕ) (c : Closing) → IsOpenReading bank.old bindings.old next c → (n : ℕ) (p : Equation) → IsSeenPair bank.old c level one.now other.now p → (r : Ruled) → rule n next p ≡ Some r → IsGivenAs next c bindings.old bank.new bindings.new next todo.old.items todo.new.items r.verdict) }
     ensures refused { IfErr result (λ e. (c : Closing) → IsReading bank.old bindings.old c → IsShut c → (n next : ℕ) (p : Equation) → IsSeenPair bank.old c level one.now other.now p → IsRuledOut n e units.old (rule n next p)) }
 {
     if are_rigid(one.head, other.head) {
@@ -498,8 +502,10 @@ pub(crate) fn take(
     ensures kept { Extends bank.old bank.new }
     ensures more { next.old ≤ next.new }
     ensures grown { Grows bindings.old bindings.new }
-    ensures judged { IfOk result (λ v. (c : Closing) → IsReading bank.old bindings.old c → IsShut c → (n : ℕ) (r : Ruled) → rule n next.old (pair_under bank.old c pair) ≡ Some r → IsTaken v units.old units.new r) }
-    ensures refused { IfErr result (λ e. (c : Closing) → IsReading bank.old bindings.old c → IsShut c → (n : ℕ) → IsRuledOut n e units.old (rule n next.old (pair_under bank.old c pair))) }
+    ensures judged { IfOk result (λ v. (c : Closing) → IsReading bank.old bindings.old c → IsShut c → (p : Equation) → IsPairFor bank.old c pair p → (n : ℕ) (r : Ruled) → rule n next.old p ≡ Some r → IsTaken v units.old units.new r) }
+    ensures taken { IfOk result (λ v. (c : Closing) → IsOpenReading bank.old bindings.old next.old c → (levels : ℕ → ℕ) → (p : Equation) → IsPairFor bank.old c pair p → IsKnownPair levels next.old p → (n : ℕ) (r : Ruled) → rule n next.old p ≡ Some r →
+        IsTakenAs v levels next.old c bindings.old bank.new bindings.new next.new todo.old.items todo.new.items p r.verdict) }
+    ensures refused { IfErr result (λ e. (c : Closing) → IsReading bank.old bindings.old c → IsShut c → (p : Equation) → IsPairFor bank.old c pair p → (n : ℕ) → IsRuledOut n e units.old (rule n next.old p)) }
 {
     let right = term_of(bank, pair.right)?;
     let one = look(alloc, bank, bindings, pair.left, CONTRACTIONS)?;

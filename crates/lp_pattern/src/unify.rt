@@ -1,7 +1,13 @@
 // The unification of pairs.
-ghost use Rattle.std.specs.Prelude.{◌≡◌, ◌≤◌, ◌++◌, length, reverse, true, All, IfOk, OnOk};
+ghost use Rattle.std.specs.Prelude.{◌≡◌, ◌≤◌, ◌++◌, ℕ, List, length, map, reverse, true, Some, All, IfOk, OnOk, IfErr};
+ghost use Rattle.lp_calculus.specs.Types.{var};
 ghost use Rattle.lp_term.specs.Nodes.{Extends};
+ghost use Rattle.lp_model.specs.Pair.{Closing, Pair as Equation};
+ghost use Rattle.lp_model.specs.Unify.{Unified, solve};
 ghost use Rattle.lp_pattern.specs.Growing.{Grows, IsPairOf};
+ghost use Rattle.lp_pattern.specs.Reading.{type_pairs_of};
+ghost use Rattle.lp_pattern.specs.Turning.{IsOpenReading, AreKnownPairs, ArePairsFor};
+ghost use Rattle.lp_pattern.specs.Unifying.{pair_of, IsSolutionUnder, IsSolution, IsRefusedAs};
 
 use crate::bindings::Bindings;
 use crate::fault::PatternRefusal;
@@ -91,6 +97,10 @@ pub fn solve_under(
     ensures more { next.old ≤ next.new }
     ensures grown { Grows bindings.old bindings.new }
     ensures within { IfOk result (λ left. All (IsPairOf (length bank.new.terms)) left.items) }
+    ensures solved { IfOk result (λ left. (c : Closing) → IsOpenReading bank.old bindings.old next.old c → (levels : ℕ → ℕ) → (ps ds : List Equation) → ArePairsFor bank.old c pairs.now ps → ArePairsFor bank.old c delayed.now ds → AreKnownPairs levels next.old ps → AreKnownPairs levels next.old ds → (n : ℕ) (u : Unified) →
+        solve n limit (type_pairs_of bank.old c.types types.now) ps ds next.old ≡ Some u → IsSolutionUnder levels next.old c bank.new bindings.new next.new left.items u) }
+    ensures refused { IfErr result (λ e. (c : Closing) → IsOpenReading bank.old bindings.old next.old c → (levels : ℕ → ℕ) → (ps ds : List Equation) → ArePairsFor bank.old c pairs.now ps → ArePairsFor bank.old c delayed.now ds → AreKnownPairs levels next.old ps → AreKnownPairs levels next.old ds → (n : ℕ) (u : Unified) →
+        solve n limit (type_pairs_of bank.old c.types types.now) ps ds next.old ≡ Some u → IsRefusedAs e n u) }
 {
     let mut units = limit;
     let mut waiting = Vec::from_slice(alloc, delayed)?;
@@ -135,6 +145,10 @@ pub fn solve(
     ensures kept { Extends bank.old bank.new }
     ensures more { next.old ≤ next.new }
     ensures within { IfOk result (λ found. All (IsPairOf (length bank.new.terms)) found.residual.items) }
+    ensures solved { IfOk result (λ found. (levels : ℕ → ℕ) → AreKnownPairs levels next.old (map (pair_of bank.old) pairs.now) → AreKnownPairs levels next.old (map (pair_of bank.old) delayed.now) → (n : ℕ) (u : Unified) →
+        solve n limit (type_pairs_of bank.old var types.now) (map (pair_of bank.old) pairs.now) (map (pair_of bank.old) delayed.now) next.old ≡ Some u → IsSolution levels next.old bank.new next.new found u) }
+    ensures refused { IfErr result (λ e. (levels : ℕ → ℕ) → AreKnownPairs levels next.old (map (pair_of bank.old) pairs.now) → AreKnownPairs levels next.old (map (pair_of bank.old) delayed.now) → (n : ℕ) (u : Unified) →
+        solve n limit (type_pairs_of bank.old var types.now) (map (pair_of bank.old) pairs.now) (map (pair_of bank.old) delayed.now) next.old ≡ Some u → IsRefusedAs e n u) }
 {
     let mut bindings = Bindings::new(alloc);
     let residual = solve_under(

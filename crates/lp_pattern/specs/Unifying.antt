@@ -1,0 +1,60 @@
+-- What whole runs come to: the outcome of the definition, read off the code's bindings and pairs.
+use Rattle.std.specs.Prelude.{◌≡◌, ℕ, ◌<◌, ◌≤◌, nat_eq, List, map, Some, None}
+use Rattle.std.specs.Map.{lookup}
+use Rattle.lp_calculus.specs.Types.{Ty, var}
+use Rattle.lp_calculus.specs.Term.{Term, atom, logic}
+use Rattle.lp_calculus.specs.Fill.{Within, put_all}
+use Rattle.lp_term.specs.Nodes.{Nodes, tree}
+use Rattle.lp_term.specs.declared.node.TermId.{TermId}
+use Rattle.lp_term.specs.declared.node.TypeId.{TypeId}
+use Rattle.lp_model.specs.Pair.{Pair, Closing, closed, put_types_in}
+use Rattle.lp_model.specs.Unify.{State, Unified, Fail, Solution, Spent}
+use Rattle.lp_model.specs.declared.answer.Pair.{Pair as Numbers}
+use Rattle.lp_pattern.specs.declared.bindings.Bindings.{Bindings}
+use Rattle.lp_pattern.specs.declared.fault.PatternRefusal.{PatternRefusal}
+use Rattle.lp_pattern.specs.declared.unify.Solved.{Solved}
+use Rattle.lp_pattern.specs.Pruning.{Known}
+use Rattle.lp_pattern.specs.Turning.{IsOpenReading, AreKnownPairs, ArePairsFor}
+use Rattle.lp_pattern.specs.Under.{ValueIs, TypeIs}
+
+-- a pair at numbers of a bank
+abbrev pub pair_of : Nodes → Numbers → Pair
+pair_of b p = record { left = tree b p.left.0; right = tree b p.right.0; level = p.level }
+
+-- nothing is bound
+abbrev pub unbound : Closing
+unbound = record { types = var; terms = λ x l. atom (logic x l) }
+
+-- a closing gives each variable what its value in these lists is under the closing
+pub record Reads (b : Nodes) (terms : List (ℕ × TermId)) (types : List (ℕ × TypeId)) (c : Closing) : Type 0 where
+  pub terms : (x : ℕ) → ValueIs b c x (lookup (nat_eq x) terms)
+  pub types : (x : ℕ) → TypeIs b c.types x (lookup (nat_eq x) types)
+
+-- bindings and pairs left are those of the definition: each term of before is, with all bindings put in, what the definition's bindings and types make of
+-- it, and steps at the top lead from the definition's pairs to those that are left
+pub record IsFound (levels : ℕ → ℕ) (next : ℕ) (c : Closing) (b : Nodes) (next' : ℕ) (left : List Numbers) (closing : Closing) (s : State) : Type 0 where
+  pub puts : (t : Term) → Within (Known levels next) 0 (closed c t) → closed closing t ≡ put_types_in s.types (put_all s.bindings (closed c t))
+  pub last : next' ≡ s.next
+  pub left : ArePairsFor b closing left s.delayed
+  pub levels' : ℕ → ℕ
+  pub older : (x : ℕ) → x < next → levels' x ≡ levels x
+  pub known : AreKnownPairs levels' next' s.delayed
+  pub knows : (t : Term) → Within (Known levels next) 0 t → Within (Known levels' next') 0 (put_types_in s.types (put_all s.bindings t))
+
+-- the bindings behind a run
+abbrev pub IsSolutionUnder : (levels : ℕ → ℕ) → (next : ℕ) → Closing → Nodes → Bindings → (next' : ℕ) → List Numbers → Unified → Type 0
+IsSolutionUnder lv n c b s n' left Fail = ⊥
+IsSolutionUnder lv n c b s n' left Spent = ⊥
+IsSolutionUnder lv n c b s n' left (Solution st) = (z : Closing) × IsOpenReading b s n' z × IsFound lv n c b n' left z st
+
+-- lists of bindings, from nothing
+abbrev pub IsSolution : (levels : ℕ → ℕ) → (next : ℕ) → Nodes → (next' : ℕ) → Solved → Unified → Type 0
+IsSolution lv n b n' found Fail = ⊥
+IsSolution lv n b n' found Spent = ⊥
+IsSolution lv n b n' found (Solution st) = (z : Closing) × Reads b found.bindings.items found.types.items z × IsFound lv n unbound b n' found.residual.items z st
+
+-- it fails where the definition does; the units pass the limit where the definition's do, and else a million steps are too few for it
+abbrev pub IsRefusedAs : PatternRefusal → (steps : ℕ) → Unified → Type 0
+IsRefusedAs PatternRefusal.Fails n u = u ≡ Fail
+IsRefusedAs PatternRefusal.Deep n u = n ≤ 1000000 → u ≡ Spent
+IsRefusedAs PatternRefusal.Memory n u = Unit {0}
