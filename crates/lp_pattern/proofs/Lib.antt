@@ -16,6 +16,8 @@ pub mod Opening
 pub mod Pushing
 pub mod Refused
 pub mod Renewing
+pub mod RunStates
+pub mod RunTurns
 pub mod Results
 pub mod Scannings
 pub mod Sides
@@ -41,6 +43,10 @@ pub mod ReadingsBehind
 pub mod Converting
 pub mod Cleans
 pub mod Refits
+pub mod PairsThrough
 pub mod Passings
 pub mod PruneSteps
 pub mod PruneMoves
+pub mod RunBegins
+pub mod RunLoops
+pub mod Unbound

@@ -62,7 +62,7 @@ IsJudged done old new o = (r : Ruled) → o ≡ Some r → (old ≡ r.units + ne
 -- it fails where the rule does, within the units; where the units are passed and there is no binding to be made the rule takes more than there were
 abbrev pub IsRuledOut : (limit : ℕ) → PatternRefusal → (old : ℕ) → Option Ruled → Type 0
 IsRuledOut limit PatternRefusal.Fails old o = (r : Ruled) → o ≡ Some r → (r.verdict ≡ fails) × (r.units ≤ old)
-IsRuledOut limit PatternRefusal.Deep old o = limit ≤ 1000000 → (r : Ruled) → o ≡ Some r → (old < r.units) ⊎ IsBinding r.verdict
+IsRuledOut limit PatternRefusal.Deep old o = limit ≤ 1000000 → (r : Ruled) → o ≡ Some r → old < r.units
 IsRuledOut limit PatternRefusal.Memory old o = Unit {0}
 
 -- there is a solution so far

@@ -442,7 +442,8 @@ fn replace(
     ensures kept { Extends bank.old bank.new }
     ensures grown { Grows bindings.old bindings.new }
     ensures replaced { OnOk result ((c : Closing) → IsReading bank.old bindings.old c → IsShut c → (n next : ℕ) (p : Equation) → IsSeenPair bank.old c level one.now other.now p → (r : Ruled) → rule n next p ≡ Some r → (units.old ≡ r.units + units.new) × IsDone r.verdict) }
-    ensures given { OnOk result ((next : ℕ) (c : Closing) → IsOpenReading bank.old bindings.old next c → (n : ℕ) (p : Equation) → IsSeenPair bank.old c level one.now other.now p → (r : Ruled) → rule n next p ≡ Some r → IsGivenAs next c bindings.old bank.new bindings.new next todo.old.items todo.new.items r.verdict) }
+    ensures given { OnOk result ((next : ℕ) (c : Closing) → IsOpenReading bank.old bindings.old next c → (levels : ℕ → ℕ) → (n : ℕ) (p : Equation) → IsSeenPair bank.old c level one.now other.now p → IsKnownPair levels next p → (r : Ruled) → rule n next p ≡ Some r →
+        IsGivenAs levels next c bindings.old bank.new bindings.new next todo.old.items todo.new.items r.verdict) }
     ensures refused { IfErr result (λ e. (c : Closing) → IsReading bank.old bindings.old c → IsShut c → (n next : ℕ) (p : Equation) → IsSeenPair bank.old c level one.now other.now p → IsRuledOut n e units.old (rule n next p)) }
 {
     if are_rigid(one.head, other.head) {
