@@ -36,6 +36,9 @@ pub mod Walking
 pub mod TypeTurns
 pub mod FilledTypes
 pub mod TypesSolved
+pub mod TypesBound
+pub mod TypesCounted
+pub mod TypesFirm
 pub mod FilledTerms
 pub mod ReadingsBehind
 pub mod Converting

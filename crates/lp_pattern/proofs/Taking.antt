@@ -60,9 +60,9 @@ module _ (b : Nodes) (c : Closing) (t u : Term) (h : Bool) (ts us : List Term) (
       go (none w) y = absurd y
       go (solved made w) y = (y, tt)
 
-  pub decompose_gives : (d : Nodes) (s' : Bindings) → ((o : TypeOutcome) → solve_types n (type_pairs_of b c.types ps) [] 0 ≡ Some o → IsReadBehind d s' c o) → (r : Ruled) → decompose n level (closed c t) ts (closed c u) us ≡ Some r →
-      IsGiven d s' c level ts us r.verdict
-  decompose_gives d s' g r x =
+  pub decompose_gives : (s : Bindings) (d : Nodes) (s' : Bindings) → ((o : TypeOutcome) → solve_types n (type_pairs_of b c.types ps) [] 0 ≡ Some o → IsReadBehind s d s' c o) → (r : Ruled) → decompose n level (closed c t) ts (closed c u) us ≡ Some r →
+      IsGiven s d s' c level ts us r.verdict
+  decompose_gives s d s' g r x =
       let w = solving r x in
       let k = g w.0 w.1 in record {
         bindings = k.bindings;
@@ -71,6 +71,8 @@ module _ (b : Nodes) (c : Closing) (t u : Term) (h : Bool) (ts us : List Term) (
         shut = k.shut;
         still = k.still;
         terms = k.terms;
+        firm = k.firm;
+        count = k.count;
       }
 
   pub decompose_out : (y : PatternRefusal) → ((o : TypeOutcome) → solve_types n (type_pairs_of b c.types ps) [] 0 ≡ Some o → IsUnsolvedIn y limit o) → IsRuledOut n y limit (decompose n level (closed c t) ts (closed c u) us)

@@ -1,5 +1,5 @@
 -- The closings behind new bindings: with types for type variables, and with a term for a variable.
-use Rattle.std.specs.Prelude.{◌≡◌, ℕ, nat_eq, true, if◌then◌else◌, List, map}
+use Rattle.std.specs.Prelude.{◌≡◌, ℕ, ◌+◌, nat_eq, true, if◌then◌else◌, List, ◌++◌, map, length}
 use Rattle.lp_calculus.specs.Term.{Term, Atom, atom, constant, integer, text, eigen, logic, param}
 use Rattle.lp_calculus.specs.Fill.{close}
 use Rattle.lp_term.specs.Nodes.{Nodes}
@@ -14,6 +14,10 @@ use Rattle.lp_pattern.specs.Under.{IsReading}
 -- types are put for type variables in all that the closing has
 abbrev pub with_types : List TypeBinding → Closing → Closing
 with_types bs c = record { types = λ x. put_types bs (c.types x); terms = λ x l. put_types_in bs (c.terms x l) }
+
+-- these types for type variables leave all that a closing gives as it is
+abbrev pub IsFirm : List TypeBinding → Closing → Type 0
+IsFirm ts c = (t : Term) → put_types_in ts (closed c t) ≡ closed c t
 
 -- a term for a variable of a number, at each level
 abbrev pub at_number : ℕ → Term → ℕ → ℕ → Term
@@ -33,7 +37,7 @@ HasLevel x l (logic y m) = nat_eq y x ≡ true → nat_eq m l ≡ true
 HasLevel x l (param k t) = Unit {0}
 
 -- type equations were solved: the reading behind them is the one before with these types put in
-pub record IsReadBehind (b : Nodes) (s : Bindings) (c : Closing) (r : TypeOutcome) : Type 0 where
+pub record IsReadBehind (old : Bindings) (b : Nodes) (s : Bindings) (c : Closing) (r : TypeOutcome) : Type 0 where
   pub bindings : List TypeBinding
   pub used : ℕ
   pub is : r ≡ solved bindings used
@@ -41,12 +45,16 @@ pub record IsReadBehind (b : Nodes) (s : Bindings) (c : Closing) (r : TypeOutcom
   pub shut : IsShut (with_types bindings c)
   pub still : IsStill (with_types bindings c).types
   pub terms : (t : Term) → closed (with_types bindings c) t ≡ put_types_in bindings (closed c t)
+  pub firm : (us : List TypeBinding) → IsFirm us c → IsFirm (us ++ bindings) (with_types bindings c)
+  pub count : length s.types.entries ≡ length old.types.entries + length bindings
 
 -- a pair of rigid heads gave way to those of the arguments: the reading behind it is the one before with the types put in
-pub record IsGiven (b : Nodes) (s : Bindings) (c : Closing) (level : ℕ) (ts us : List Term) (v : Verdict) : Type 0 where
+pub record IsGiven (old : Bindings) (b : Nodes) (s : Bindings) (c : Closing) (level : ℕ) (ts us : List Term) (v : Verdict) : Type 0 where
   pub bindings : List TypeBinding
   pub is : v ≡ gives bindings (argument_pairs level (map (put_types_in bindings) ts) (map (put_types_in bindings) us))
   pub reading : IsReading b s (with_types bindings c)
   pub shut : IsShut (with_types bindings c)
   pub still : IsStill (with_types bindings c).types
   pub terms : (t : Term) → closed (with_types bindings c) t ≡ put_types_in bindings (closed c t)
+  pub firm : (us : List TypeBinding) → IsFirm us c → IsFirm (us ++ bindings) (with_types bindings c)
+  pub count : length s.types.entries ≡ length old.types.entries + length bindings
