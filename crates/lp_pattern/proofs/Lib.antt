@@ -28,6 +28,9 @@ pub mod TopScans
 pub mod TopSettles
 pub mod Indices
 pub mod SettleSteps
+pub mod SettledTerms
+pub mod SidesBound
+
 pub mod SettleMoves
 pub mod VisitSteps
 pub mod Verdicts
@@ -42,6 +45,7 @@ pub mod TypesFirm
 pub mod FilledTerms
 pub mod ReadingsBehind
 pub mod Converting
+pub mod BoundOnce
 pub mod Cleans
 pub mod Refits
 pub mod Passings

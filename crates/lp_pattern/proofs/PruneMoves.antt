@@ -25,13 +25,16 @@ use Rattle.lp_pattern.specs.declared.scan.Visit.{Visit}
 use Rattle.lp_pattern.specs.Behind.{at_number, with_value, HasLevel}
 use Rattle.lp_pattern.specs.Cleaning.{IsClean}
 use Rattle.lp_pattern.specs.Passing.{outer, outers, Passed, pass_none, pass_steps, pass_abs, pass_rigid, pass_clean, outer_of, outers_of}
-use Rattle.lp_pattern.specs.Pruning.{Known, Start, IsPruning, Prunes, visit_at}
+use Rattle.lp_pattern.specs.Pruning.{Start, IsPruning, Prunes, visit_at}
+use Rattle.lp_pattern.specs.Putting.{Known}
+use Rattle.lp_pattern.specs.Turning.{IsOpenReading}
 use Rattle.lp_pattern.specs.Scanning.{Binds, visits, all_fit}
 use Rattle.lp_pattern.specs.Seen.{weak_step, IsRigid, IsHead, IsLooked, IsReachedWithin}
 use Rattle.lp_pattern.specs.Stripping.{opens, IsShut, IsPattern, read_at}
 use Rattle.lp_pattern.specs.Under.{ValueIs, IsReading, under}
 use Rattle.lp_pattern.specs.Visiting.{Part, IsVisitOf}
 use Rattle.lp_pattern.proofs.ArgumentForms.{abstraction_whole}
+use Rattle.lp_pattern.proofs.BoundOnce.{put_none, put_then, IsOneBinding, once_put, once_read, fresh_once}
 use Rattle.lp_pattern.proofs.Opening.{SeenAt, read_none, read_kept, read_reached, read_whole, variable_at, opened_once, top_of}
 use Rattle.lp_pattern.proofs.Passings.{Split, split_first, passed_put, left_put}
 use Rattle.lp_pattern.proofs.PruneSteps.{passed_within, Fresh, levels_with, turn_of, found_left, own_pattern, renewed_there, pattern_known, fresh_renewal, fresh_closed, fresh_absent, fresh_known, old_known, level_known}
@@ -62,6 +65,7 @@ pruning_kept s o b d bs next term left r e h =
       turns = h.turns;
       reading = reading_kept b d bs h.closing e h.reading;
       shut = h.shut;
+      still = h.still;
       known = transport (Within (Known h.levels next) 0) (sym u) h.known;
       unbound = h.unbound;
       whole = omega (arith, h.whole, e.more_terms);
@@ -74,8 +78,7 @@ pruning_kept s o b d bs next term left r e h =
       last = h.last;
       made = h.made;
       all = h.all;
-      puts = h.puts;
-      knows = h.knows;
+      behind = h.behind;
     }
 
 -- another list of what is left
@@ -87,6 +90,7 @@ moved s o b bs next term left left' r h a p = record {
   turns = h.turns;
   reading = h.reading;
   shut = h.shut;
+  still = h.still;
   known = h.known;
   unbound = h.unbound;
   whole = h.whole;
@@ -98,8 +102,7 @@ moved s o b bs next term left left' r h a p = record {
   last = h.last;
   made = h.made;
   all = h.all;
-  puts = h.puts;
-  knows = h.knows;
+  behind = h.behind;
 }
 
 front_passed : (s : Side) (o : Start) (b : Nodes) (bs : Bindings) (next : ℕ) (term : TermId) (left : List Visit) (v : Visit) (r : Pruned) → (h : IsPruning s o b bs next term (left ++ v ∷ []) r) →
@@ -174,10 +177,6 @@ rigid_prunes s b bs next left left' v q k g z l o term r h =
     (ap (λ t. Some t) (read_whole b bs h.closing v.opened.level v.opened.depth q k)) (rigid_read h.closing v.opened.level v.opened.depth (tree b q.top.0) i) (outers_pushed b h.closing v q.arguments.items left left' z))
 
 -- one binding more
-put_last : (bs : List Binding) (c : Binding) (t : Term) → put_all (bs ++ c ∷ []) t ≡ put c (put_all bs t)
-put_last [] c t = refl
-put_last (b ∷ bs) c t = put_last bs c (put b t)
-
 -- a variable
 any_part : (lv : ℕ → ℕ) (next : ℕ) (s : Side) (T : Term) (k : ℕ) (t : Term) (qs : List Part) → Passed s (outer s.pair T ∷ []) (outer k t ∷ qs) → Within (Known lv next) 0 T → Within Any 0 t
 any_part lv next s T k t qs p w = within_more (Known lv next) Any 0 0 (λ a h. tt) (omega arith) t (passed_within (Known lv next) (λ j. tt) s p (w, tt)).0
@@ -247,10 +246,6 @@ module _ (s : Side) (o : Start) (b : Nodes) (bs : Bindings) (next x l : ℕ) (le
       read_whole b bs h.closing v.opened.level v.opened.depth q looked ∙
       ap (λ t. apply (subst (opens v.opened.level v.opened.depth) t) arguments) (top_variable b bs h.closing q x l h.reading looked head)
 
-  new_plain : (o : Option TermId) → get nat_eq bs.terms next ≡ o → o ≡ None → (m : ℕ) → h.closing.terms next m ≡ atom (logic next m)
-  new_plain None i e m = transport (ValueIs b h.closing next) i (h.reading.terms next) m
-  new_plain (Some t) i e m = absurd (cc)
-
   module _ (d : Nodes) (bs' : Bindings) (left' : List Visit) (ks : List ℕ) (grown : Extends b d) (below : s.id < next) (value : Binds d bs bs' x (renewal s next (pattern x l ks)).value) (types : bs'.types ≡ bs.types)
       (pushed : left' ≡ left ++ visit_at v q.whole ∷ []) where
     abbrev new_value : Term
@@ -274,17 +269,14 @@ module _ (s : Side) (o : Start) (b : Nodes) (bs : Bindings) (next x l : ℕ) (le
     no_side : nat_eq next s.id ≡ false
     no_side = let z = below in grind (arith, nat_tests)
 
-    unbound_still : (y : ℕ) → suc next ≤ y → get nat_eq bs'.terms y ≡ None
-    unbound_still y i =
-        let e = variable.0 in
-        let z : nat_eq y x ≡ false = grind (arith, nat_tests) in
-        ap (lookup (nat_eq y)) value.1 ∙ lookup_past (nat_eq y) bs.terms.entries ((x, value.0) ∷ []) (h.unbound y (omega (arith, i))) ∙ ap (λ c. if c then Some value.0 else None) z
+    open_reading : IsOpenReading b bs next h.closing
+    open_reading = record { reading = h.reading; shut = h.shut; still = h.still; unbound = h.unbound }
 
-    read_there : IsReading d bs' new_closing
-    read_there =
-        reading_valued b d h.closing x value.0 new_value grown value.2
-        (ap (closed h.closing) value.3 ∙ fresh_closed h.closing next (min s.level l) (new_plain (get nat_eq bs.terms next) refl (h.unbound next (omega arith))) new_value fresh)
-        (fresh_absent x next (min s.level l) variable.0 new_value new_value fresh) bs bs' value.1 types h.reading
+    renewed_once : IsOneBinding h.levels (levels_with h.levels next (min s.level l)) next (suc next) h.closing b d bs bs' x l new_value value.0
+    renewed_once = fresh_once h.levels next (min s.level l) h.closing b d bs bs' x l new_value grown open_reading value types fresh variable.0 variable.1
+
+    read_there : IsOpenReading d bs' (suc next) new_closing
+    read_there = once_read h.levels (levels_with h.levels next (min s.level l)) next (suc next) h.closing b d bs bs' x l new_value value.0 renewed_once open_reading
 
     passed_there : Passed s (outer s.pair (under d new_closing term) ∷ []) (outers_of d new_closing left')
     passed_there =
@@ -305,11 +297,12 @@ module _ (s : Side) (o : Start) (b : Nodes) (bs : Bindings) (next x l : ℕ) (le
               closing = new_closing;
               levels = levels_with h.levels next (min s.level l);
               turns = m;
-              reading = read_there;
-              shut = shut_valued x new_value h.closing (shift_closed (Fresh next (min s.level l)) new_value fresh) h.shut;
+              reading = read_there.reading;
+              shut = read_there.shut;
+              still = read_there.still;
               known = transport (Within (Known (levels_with h.levels next (min s.level l)) (suc next)) 0) (sym whole_is)
                   (within_fill (Known h.levels next) (Known (levels_with h.levels next (min s.level l)) (suc next)) (at_variables (at_number x new_value)) 0 (old_known h.levels next (min s.level l) x new_value value_known) whole_term h.known);
-              unbound = unbound_still;
+              unbound = read_there.unbound;
               whole = omega (arith, h.whole, grown.more_terms);
               inside = transport (All (IsVisitOf (length d.terms) s.pair)) (sym pushed) (visits_kept b d s.pair (left ++ visit_at v q.whole ∷ []) grown h.inside);
               passed = passed_there;
@@ -320,13 +313,8 @@ module _ (s : Side) (o : Start) (b : Nodes) (bs : Bindings) (next x l : ℕ) (le
               last = sym (ap (λ c. c.next) w.led) ∙ h.last;
               made = h.made ++ renewal s next (pattern x l ks) ∷ [];
               all = h.all ∙ ap (λ c. h.made ++ c.bindings) w.led ∙ sym (append_assoc h.made (renewal s next (pattern x l ks) ∷ []) w.behind.bindings);
-              puts = λ u i.
-                  closed_valued x new_value h.closing u ∙
-                  sym (put_valued x l new_value 0 (closed h.closing u) (within_more (Known h.levels next) (HasLevel x l) 0 0 (level_known h.levels next x l variable.1) (omega arith) (closed h.closing u) (h.knows u i))) ∙
-                  ap (put (renewal s next (pattern x l ks))) (h.puts u i) ∙ sym (put_last h.made (renewal s next (pattern x l ks)) (closed o.closing u));
-              knows = λ u i. transport (Within (Known (levels_with h.levels next (min s.level l)) (suc next)) 0) (sym (closed_valued x new_value h.closing u))
-                  (within_fill (Known h.levels next) (Known (levels_with h.levels next (min s.level l)) (suc next)) (at_variables (at_number x new_value)) 0 (old_known h.levels next (min s.level l) x new_value value_known) (closed h.closing u)
-                  (h.knows u i));
+              behind = put_then o.levels h.levels (levels_with h.levels next (min s.level l)) o.next next (suc next) o.closing h.closing new_closing o.bindings bs bs' h.made (renewal s next (pattern x l ks) ∷ []) h.behind
+                  (once_put h.levels (levels_with h.levels next (min s.level l)) next (suc next) h.closing b d bs bs' x l new_value value.0 renewed_once);
             }
 
 -- the visits of a variable
@@ -354,15 +342,17 @@ prunes_then s b d f bs bs' bs'' next next' next'' left left' left'' l g k i o te
 
 -- the start
 pub pruning_starts : (s : Side) (b : Nodes) (bs : Bindings) (next : ℕ) (term : TermId) (left : List Visit) (v : Visit) (c : Closing) (levels : ℕ → ℕ) (n : ℕ) (r : Pruned) → left ≡ v ∷ [] → v.term ≡ term → v.opened.level ≡ s.pair → v.opened.depth ≡ 0 →
-    term.0 < length b.terms → IsReading b bs c → IsShut c → ((x : ℕ) → next ≤ x → get nat_eq bs.terms x ≡ None) → Within (Known levels next) 0 (under b c term) → prune n s next (under b c term) ≡ Some r → IsPruning s (record { closing = c; levels = levels; next = next }) b bs next term left r
-pruning_starts s b bs next term left v c levels n r z t x y i h k u w e = record {
+    term.0 < length b.terms → IsOpenReading b bs next c → Within (Known levels next) 0 (under b c term) → prune n s next (under b c term) ≡ Some r →
+    IsPruning s (record { closing = c; levels = levels; next = next; bindings = bs }) b bs next term left r
+pruning_starts s b bs next term left v c levels n r z t x y i h w e = record {
   closing = c;
   levels = levels;
   turns = n;
-  reading = h;
-  shut = k;
+  reading = h.reading;
+  shut = h.shut;
+  still = h.still;
   known = w;
-  unbound = u;
+  unbound = h.unbound;
   whole = i;
   inside = transport (All (IsVisitOf (length b.terms) s.pair)) (sym z) (All-cons (IsVisitOf (length b.terms) s.pair) v [] (transport (λ a. a.0 < length b.terms) (sym t) i, x) (All-nil (IsVisitOf (length b.terms) s.pair)));
   passed = transport (Passed s (outer s.pair (under b c term) ∷ [])) (sym (ap (outers_of b c) z ∙ (λ j. outer (last_is j) (term_is j) ∷ []))) pass_none;
@@ -372,8 +362,7 @@ pruning_starts s b bs next term left v c levels n r z t x y i h k u w e = record
   last = refl;
   made = [];
   all = refl;
-  puts = λ a p. refl;
-  knows = λ a p. p;
+  behind = put_none levels next c bs;
 }
   where
     last_is : v.opened.level + v.opened.depth ≡ s.pair

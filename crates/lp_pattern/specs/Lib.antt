@@ -4,6 +4,7 @@ pub mod Comparing
 pub mod Filling
 pub mod Growing
 pub mod Pruning
+pub mod Putting
 pub mod Reading
 pub mod Passing
 pub mod Refusing
@@ -15,6 +16,7 @@ pub mod TopLooks
 pub mod Turning
 pub mod Unifying
 pub mod Under
+pub mod Valuing
 pub mod Visiting
 pub mod FillingTerms
 pub mod Settling

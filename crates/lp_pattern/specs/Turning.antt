@@ -15,7 +15,8 @@ use Rattle.lp_pattern.specs.declared.rules.Verdict.{Verdict as Taken}
 use Rattle.lp_pattern.specs.Behind.{with_types, IsFirm}
 use Rattle.lp_pattern.specs.Filling.{IsStill}
 use Rattle.lp_pattern.specs.Growing.{IsPairOf}
-use Rattle.lp_pattern.specs.Pruning.{Known}
+use Rattle.lp_pattern.specs.Putting.{Known}
+pub use Rattle.lp_pattern.specs.Putting.{IsFirm}
 use Rattle.lp_pattern.specs.Seen.{weak_step}
 use Rattle.lp_pattern.specs.Stripping.{IsShut}
 use Rattle.lp_pattern.specs.Under.{IsReading, under}

@@ -138,6 +138,7 @@ fn join(
     ensures more { next.old ≤ next.new }
     ensures next { OnOk result (next.new ≡ suc next.old) }
     ensures grown { Grows bindings.old bindings.new }
+    ensures types { bindings.new.types ≡ bindings.old.types }
     ensures bound { OnOk result (are_distinct ones.now ≡ true →
         Binds bank.new bindings.old bindings.new id (abstracted ones.now (apply (atom (logic next.old level)) (eigens (agreeing ones.now others.now))))) }
 {
