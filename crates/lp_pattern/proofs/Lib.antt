@@ -51,3 +51,4 @@ pub mod Refits
 pub mod Passings
 pub mod PruneSteps
 pub mod PruneMoves
+pub mod GivenUp

@@ -8,7 +8,7 @@ use Rattle.lp_term.specs.Nodes.{Nodes, type_tree}
 use Rattle.lp_term.specs.declared.node.TypeId.{TypeId}
 use Rattle.lp_model.specs.Types.{TypeBinding, one_type, put_types, solved, solve_types}
 use Rattle.lp_model.specs.Pair.{Closing, closed, put_type_in, put_types_in}
-use Rattle.lp_pattern.specs.Behind.{IsFirm}
+use Rattle.lp_pattern.specs.Putting.{IsFirm}
 use Rattle.lp_pattern.specs.Reading.{type_pairs_of}
 use Rattle.lp_pattern.proofs.TypesBound.{Over, same_instance, over_same, over_instance, OverPairs, IsGood, solved_over, solved_good, puts_over, puts_twice}
 use Rattle.lp_pattern.proofs.TypesSolved.{put_is}

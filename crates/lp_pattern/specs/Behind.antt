@@ -8,16 +8,13 @@ use Rattle.lp_model.specs.Pair.{Closing, closed, put_types_in}
 use Rattle.lp_model.specs.Rule.{Verdict, gives, argument_pairs}
 use Rattle.lp_pattern.specs.declared.bindings.Bindings.{Bindings}
 use Rattle.lp_pattern.specs.Filling.{IsStill}
+use Rattle.lp_pattern.specs.Putting.{IsFirm}
 use Rattle.lp_pattern.specs.Stripping.{IsShut}
 use Rattle.lp_pattern.specs.Under.{IsReading}
 
 -- types are put for type variables in all that the closing has
 abbrev pub with_types : List TypeBinding → Closing → Closing
 with_types bs c = record { types = λ x. put_types bs (c.types x); terms = λ x l. put_types_in bs (c.terms x l) }
-
--- these types for type variables leave all that a closing gives as it is
-abbrev pub IsFirm : List TypeBinding → Closing → Type 0
-IsFirm ts c = (t : Term) → put_types_in ts (closed c t) ≡ closed c t
 
 -- a term for a variable of a number, at each level
 abbrev pub at_number : ℕ → Term → ℕ → ℕ → Term

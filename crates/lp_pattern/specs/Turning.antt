@@ -12,7 +12,7 @@ use Rattle.lp_model.specs.Rule.{Verdict, fails, gives, binds, delays}
 use Rattle.lp_model.specs.declared.answer.Pair.{Pair as Numbers}
 use Rattle.lp_pattern.specs.declared.bindings.Bindings.{Bindings}
 use Rattle.lp_pattern.specs.declared.rules.Verdict.{Verdict as Taken}
-use Rattle.lp_pattern.specs.Behind.{with_types, IsFirm}
+use Rattle.lp_pattern.specs.Behind.{with_types}
 use Rattle.lp_pattern.specs.Filling.{IsStill}
 use Rattle.lp_pattern.specs.Growing.{IsPairOf}
 use Rattle.lp_pattern.specs.Putting.{Known}

@@ -20,7 +20,7 @@ parts-init c = record {
 
 pub returns-in_default-clause-pruned : goal.returns-in_default-clause-pruned
 returns-in_default-clause-pruned c = λ i t r h levels w n p e.
-    pruned_there (side_of c.args.side.now) (record { closing = r; levels = levels; next = c.args.next.now; bindings = c.args.bindings.now }) c.parts.bank c.parts.bindings c.parts.next c.args.term c.parts.left.items p (nothing c.parts.left.items (omega (arith, c.in_default.ensures.cases.0, c.parts.left.ok)))
+    pruned_there (side_of c.args.side.now) (record { closing = r; levels = levels; next = c.args.next.now; bindings = c.args.bindings.now }) n c.parts.bank c.parts.bindings c.parts.next c.args.term c.parts.left.items p (nothing c.parts.left.items (omega (arith, c.in_default.ensures.cases.0, c.parts.left.ok)))
     (c.parts.invariant.prunes i t r h levels w n p e)
 
 pub parts-preserved : goal.parts-preserved
@@ -29,6 +29,6 @@ parts-preserved c = record {
   more = omega (arith, c.parts.invariant.more, c.in_ok-visit_part.ensures.more);
   grown = grows_then c.args.bindings.now c.parts.bindings c.visit_part.new.bindings c.parts.invariant.grown c.in_ok-visit_part.ensures.grown;
   prunes = λ i t r h levels w n p e.
-      c.in_ok-visit_part.ensures.prunes (omega (arith, i, c.parts.invariant.more)) (record { closing = r; levels = levels; next = c.args.next.now; bindings = c.args.bindings.now }) c.args.term p
-      (transport (λ l. IsPruning (side_of c.args.side.now) (record { closing = r; levels = levels; next = c.args.next.now; bindings = c.args.bindings.now }) c.parts.bank c.parts.bindings c.parts.next c.args.term l p) c.in-Some.ensures.items (c.parts.invariant.prunes i t r h levels w n p e));
+      c.in_ok-visit_part.ensures.prunes (omega (arith, i, c.parts.invariant.more)) (record { closing = r; levels = levels; next = c.args.next.now; bindings = c.args.bindings.now }) n c.args.term p
+      (transport (λ l. IsPruning (side_of c.args.side.now) (record { closing = r; levels = levels; next = c.args.next.now; bindings = c.args.bindings.now }) n c.parts.bank c.parts.bindings c.parts.next c.args.term l p) c.in-Some.ensures.items (c.parts.invariant.prunes i t r h levels w n p e));
 }
