@@ -1,4 +1,3 @@
-use Rattle.lp_pattern.proofs.Dones
 use Rattle.std.proofs.Common.{◌∙◌, sym, ap, length, map}
 use Rattle.lp_calculus.specs.Term.{apply}
 use Rattle.lp_term.specs.Spine.{abstractions}
