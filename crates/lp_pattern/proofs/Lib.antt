@@ -32,7 +32,6 @@ pub mod SettledTerms
 pub mod SidesBound
 pub mod Valued
 pub mod Dones
-
 pub mod SettleMoves
 pub mod VisitSteps
 pub mod Verdicts

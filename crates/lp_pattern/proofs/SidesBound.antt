@@ -265,7 +265,8 @@ bound_done n next j u w s t x v f levels c old mid new d next' id a h i e k g p 
         let l = pruned_later n s next j t x y.0 a y.1 in
         let settled = settle_reached n s.pair j y.0.term l.pruned.term l.term b.0 b.1 in
         let m = g l.pruned l.is (unpruned n s next u w x f l.pruned i l.is) b.0 settled in
-        transport (λ a. IsDoneAs true levels next c old d new next' a.verdict) (sym b.2)
-        (m.last ∙ l.last,
-        transport (λ bs. IsBoundBehind levels next c old d new next' (bound s bs b.0)) l.bindings
-        (side_bound s levels next n c old mid new d next' id x b.0 l.pruned k l.is settled m p q))
+        transport (λ a. IsDoneAs true levels next c old d new next' a.verdict) (sym b.2) (
+          m.last ∙ l.last,
+          transport (λ bs. IsBoundBehind levels next c old d new next' (bound s bs b.0)) l.bindings
+              (side_bound s levels next n c old mid new d next' id x b.0 l.pruned k l.is settled m p q),
+        )

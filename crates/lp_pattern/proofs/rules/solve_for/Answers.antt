@@ -67,7 +67,7 @@ returns-then-has_head-clause-done c = λ r o levels k n j t e w q a. (
 pub returns-then-found-clause-done : goal.returns-then-found-clause-done
 returns-then-found-clause-done c = λ r o levels k n j t e w q a. (
   (on_delayed n c.args.next.now j c.args.units.now c.scan.new.units (side_of c.args.side.now) t (under c.args.bank.now r c.args.other.now.whole) (view c.args.bank.now r c.args.other.now) c.in_ok-found.found e
-  (sym (c.has_head.ensures c.args.bank.now r) ∙ c.if-has_head.false) (c.in_ok-found.ensures.scanned r o.reading o.shut n) c.if-found.true q a).1,
+      (sym (c.has_head.ensures c.args.bank.now r) ∙ c.if-has_head.false) (c.in_ok-found.ensures.scanned r o.reading o.shut n) c.if-found.true q a).1,
   kept_behind c.args.bank.now c.scan.new.bank c.args.bindings.now c.args.next.now r c.in_ok-found.ensures.kept o,
 )
 
