@@ -30,7 +30,8 @@ pub mod Indices
 pub mod SettleSteps
 pub mod SettledTerms
 pub mod SidesBound
-
+pub mod Valued
+pub mod Dones
 pub mod SettleMoves
 pub mod VisitSteps
 pub mod Verdicts

@@ -49,7 +49,7 @@ abbrev pub EachWithin : (Atom → Type 0) → List Part → Type 0
 EachWithin P [] = Unit {0}
 EachWithin P (p ∷ ps) = Within P 0 p.term × EachWithin P ps
 
-within_apply : (P : Atom → Type 0) (ts : List Term) (h : Term) → Within P 0 (apply h ts) → (k : ℕ) → (qs : List Part) → EachWithin P qs → Within P 0 h × EachWithin P (outers k ts ++ qs)
+pub within_apply : (P : Atom → Type 0) (ts : List Term) (h : Term) → Within P 0 (apply h ts) → (k : ℕ) → (qs : List Part) → EachWithin P qs → Within P 0 h × EachWithin P (outers k ts ++ qs)
 within_apply P [] h w k qs e = (w, e)
 within_apply P (t ∷ ts) h w k qs e = let z = within_apply P ts (app h t) w k qs e in (z.0.0, (z.0.1, z.1))
 

@@ -21,7 +21,7 @@ use Rattle.lp_pattern.specs.Putting.{Known}
 use Rattle.lp_pattern.specs.Scanning.{all_fit}
 use Rattle.lp_pattern.specs.Seen.{weak_step}
 use Rattle.lp_pattern.specs.Turning.{IsOpenReading, IsBoundBehind, IsDoneAs}
-use Rattle.lp_pattern.specs.Valuing.{IsKnownSide, IsValued}
+use Rattle.lp_pattern.specs.Valuing.{IsKnownSide, IsValued, Values}
 use Rattle.lp_pattern.specs.Visiting.{IsScanned}
 use Rattle.lp_pattern.proofs.BoundOnce.{IsOneBinding, once_put, once_read, once_longer, put_then, bound_of}
 use Rattle.lp_pattern.proofs.Compares.{reached_look, from_bind, from_map}
@@ -251,10 +251,6 @@ module _ (s : Side) (levels : ℕ → ℕ) (next n : ℕ) (c : Closing) (old mid
       (let a = v.behind.terms in let b = once_longer v.levels' v.levels' next' next' v.closing d d mid new s.id s.level value id own_binding in omega (arith, a, b))
 
 -- rule 5 behind the scan
-abbrev pub Values : (s : Side) → (levels : ℕ → ℕ) → (next : ℕ) → Closing → (old : Bindings) → (d : Nodes) → (mid : Bindings) → (next' : ℕ) → TermId → (n : ℕ) → Noted → Term → Type 0
-Values s levels next c old d mid next' id n f x =
-    (r : Pruned) → prune n s next x ≡ Some r → (f.has_misfit ≡ false → r ≡ record { bindings = []; next = next; term = x }) → (t : Term) → settle n s.pair r.term ≡ Some t → IsValued s levels next c old d mid next' id r t
-
 pub bound_done : (n next j u w : ℕ) (s : Side) (t x : Term) (v : Look) (f : Noted) (levels : ℕ → ℕ) (c : Closing) (old mid new : Bindings) (d : Nodes) (next' : ℕ) (id : TermId) → steps weak_step j t ≡ Some x → has_head s v ≡ false →
     ((m : ℕ) (y : Scanned) → scan m s false s.pair x ≡ Some y → IsScanned s u w f y) → f.is_delayed ≡ false → IsKnownSide levels next s → Values s levels next c old d mid next' id n f x →
     new.terms.entries ≡ mid.terms.entries ++ (s.id, id) ∷ [] → new.types ≡ mid.types → (r : Ruled) → solve_for n next s t v ≡ Some r → IsDoneAs true levels next c old d new next' r.verdict
@@ -269,7 +265,8 @@ bound_done n next j u w s t x v f levels c old mid new d next' id a h i e k g p 
         let l = pruned_later n s next j t x y.0 a y.1 in
         let settled = settle_reached n s.pair j y.0.term l.pruned.term l.term b.0 b.1 in
         let m = g l.pruned l.is (unpruned n s next u w x f l.pruned i l.is) b.0 settled in
-        transport (λ a. IsDoneAs true levels next c old d new next' a.verdict) (sym b.2)
-        (m.last ∙ l.last,
-        transport (λ bs. IsBoundBehind levels next c old d new next' (bound s bs b.0)) l.bindings
-        (side_bound s levels next n c old mid new d next' id x b.0 l.pruned k l.is settled m p q))
+        transport (λ a. IsDoneAs true levels next c old d new next' a.verdict) (sym b.2) (
+          m.last ∙ l.last,
+          transport (λ bs. IsBoundBehind levels next c old d new next' (bound s bs b.0)) l.bindings
+              (side_bound s levels next n c old mid new d next' id x b.0 l.pruned k l.is settled m p q),
+        )

@@ -1,13 +1,14 @@
 -- The value of a side's variable behind pruning.
-use Rattle.std.specs.Prelude.{◌≡◌, ℕ, ◌<◌, length, true}
+use Rattle.std.specs.Prelude.{◌≡◌, ℕ, ◌<◌, length, true, false, [], Some}
 use Rattle.lp_calculus.specs.Term.{Term}
 use Rattle.lp_calculus.specs.Fill.{Within, abstracted}
 use Rattle.lp_term.specs.Nodes.{Nodes}
 use Rattle.lp_term.specs.declared.node.TermId.{TermId}
 use Rattle.lp_model.specs.Look.{are_distinct}
 use Rattle.lp_model.specs.Pair.{Closing}
-use Rattle.lp_model.specs.Scan.{Side, Pruned}
+use Rattle.lp_model.specs.Scan.{Side, Pruned, prune, settle}
 use Rattle.lp_pattern.specs.declared.bindings.Bindings.{Bindings}
+use Rattle.lp_pattern.specs.declared.scan.Scanned.{Scanned}
 use Rattle.lp_pattern.specs.Putting.{Known, IsPutBehind}
 use Rattle.lp_pattern.specs.Turning.{IsOpenReading}
 use Rattle.lp_pattern.specs.Under.{under}
@@ -28,3 +29,8 @@ pub record IsValued (s : Side) (levels : ℕ → ℕ) (next : ℕ) (c : Closing)
   pub within : id.0 < length d.terms
   pub known : Within (Known levels' next') 0 r.term
   pub is : under d closing id ≡ abstracted s.arguments t
+
+-- where a term is pruned, and not at all if the scan noted no misfit, and then settled, the value at a number is as above
+abbrev pub Values : (s : Side) → (levels : ℕ → ℕ) → (next : ℕ) → Closing → (old : Bindings) → (d : Nodes) → (new : Bindings) → (next' : ℕ) → TermId → (n : ℕ) → Scanned → Term → Type 0
+Values s levels next c old d new next' id n f x =
+    (r : Pruned) → prune n s next x ≡ Some r → (f.has_misfit ≡ false → r ≡ record { bindings = []; next = next; term = x }) → (t : Term) → settle n s.pair r.term ≡ Some t → IsValued s levels next c old d new next' id r t

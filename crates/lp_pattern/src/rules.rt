@@ -2,7 +2,7 @@
 ghost use Rattle.std.specs.Prelude.{◌≡◌, ◌≤◌, ◌<◌, ◌+◌, ℕ, suc, nat_eq, length, map, true, false, Some, IfOk, OnOk, IfErr};
 ghost use Rattle.lp_calculus.specs.Convert.{steps};
 ghost use Rattle.lp_calculus.specs.Term.{Term, atom, apply, index, logic};
-ghost use Rattle.lp_calculus.specs.Fill.{abstracted};
+ghost use Rattle.lp_calculus.specs.Fill.{Within, abstracted};
 ghost use Rattle.lp_term.specs.Nodes.{Extends, Nodes};
 ghost use Rattle.lp_model.specs.Look.{are_distinct};
 ghost use Rattle.lp_model.specs.Pair.{Closing, Pair as Equation};
@@ -13,6 +13,7 @@ ghost use Rattle.lp_pattern.specs.Comparing.{pair_under};
 ghost use Rattle.lp_pattern.specs.declared.look.Head.TheVariants.{Rigid, Variable};
 ghost use Rattle.lp_pattern.specs.Filling.{IsStill};
 ghost use Rattle.lp_pattern.specs.Growing.{Grows};
+ghost use Rattle.lp_pattern.specs.Putting.{Known};
 ghost use Rattle.lp_pattern.specs.Reading.{side_of};
 ghost use Rattle.lp_pattern.specs.Refusing.{IsNoFailure};
 ghost use Rattle.lp_pattern.specs.Ruling.{view, is_one_variable, is_flexible, are_both_rigid, IsSideOf, IsNoSide, IsSeenPair, IsJudged, IsRuledOut, IsDone, IsTaken};
@@ -21,6 +22,7 @@ ghost use Rattle.lp_pattern.specs.Seen.{IsLooked, weak_step};
 ghost use Rattle.lp_pattern.specs.Stripping.{IsShut};
 ghost use Rattle.lp_pattern.specs.Turning.{IsOpenReading, IsKnownPair, IsPairFor, IsDoneAs, IsGivenAs, IsTakenAs};
 ghost use Rattle.lp_pattern.specs.Under.{IsReading, under};
+ghost use Rattle.lp_pattern.specs.Valuing.{IsKnownSide, Values};
 
 use crate::bindings::Bindings;
 use crate::compare::{are_one_variable, are_same, opened, push_pairs};
@@ -203,16 +205,15 @@ fn value_for(
     ensures kept { Extends bank.old bank.new }
     ensures more { next.old ≤ next.new }
     ensures grown { Grows bindings.old bindings.new }
+    ensures value { IfOk result (λ id. term.0 < length bank.old.terms → (c : Closing) → IsOpenReading bank.old bindings.old next.old c → (levels : ℕ → ℕ) → IsKnownSide levels next.old (side_of side.now) → Within (Known levels next.old) 0 (under bank.old c term) → (n : ℕ) →
+        Values (side_of side.now) levels next.old c bindings.old bank.new bindings.new next.new id n found (under bank.old c term)) }
     ensures unfailing { IfErr result IsNoFailure }
 {
     if found.has_misfit {
         prune(alloc, bank, bindings, side, next, term)?;
         return settled(alloc, bank, bindings, side, term);
     }
-    if found.is_new || !side.eigens.is_empty() {
-        return settled(alloc, bank, bindings, side, term);
-    }
-    Ok(term)
+    settled(alloc, bank, bindings, side, term)
 }
 
 // Binds the side's variable to the other side, if it can be. Says whether the pair is done.
@@ -231,6 +232,8 @@ fn solve_for(
     ensures grown { Grows bindings.old bindings.new }
     ensures judged { IfOk result (λ done. (c : Closing) → IsReading bank.old bindings.old c → IsShut c → (n j : ℕ) (t : Term) → steps weak_step j t ≡ Some (under bank.old c other.now.whole) →
         IsJudged done units.old units.new (solve_for n next.old (side_of side.now) t (view bank.old c other.now))) }
+    ensures done { IfOk result (λ done. (c : Closing) → IsOpenReading bank.old bindings.old next.old c → (levels : ℕ → ℕ) → IsKnownSide levels next.old (side_of side.now) → (n j : ℕ) (t : Term) → steps weak_step j t ≡ Some (under bank.old c other.now.whole) → Within (Known levels next.old) 0 t → (r : Ruled) →
+        solve_for n next.old (side_of side.now) t (view bank.old c other.now) ≡ Some r → IsDoneAs done levels next.old c bindings.old bank.new bindings.new next.new r.verdict) }
     ensures refused { IfErr result (λ e. (c : Closing) → IsReading bank.old bindings.old c → IsShut c → (n j : ℕ) (t : Term) → steps weak_step j t ≡ Some (under bank.old c other.now.whole) →
         IsRuledOut n e units.old (solve_for n next.old (side_of side.now) t (view bank.old c other.now))) }
 {
@@ -264,6 +267,8 @@ fn by_pattern(
     ensures grown { Grows bindings.old bindings.new }
     ensures judged { IfOk result (λ done. (c : Closing) → IsReading bank.old bindings.old c → IsShut c → (n : ℕ) (p : Equation) → IsSeenPair bank.old c level one.now other.now p →
         IsJudged done units.old units.new (by_rule_5 n next.old p (view bank.old c one.now) (view bank.old c other.now))) }
+    ensures done { IfOk result (λ done. (c : Closing) → IsOpenReading bank.old bindings.old next.old c → (levels : ℕ → ℕ) → (n : ℕ) (p : Equation) → IsSeenPair bank.old c level one.now other.now p → IsKnownPair levels next.old p → (r : Ruled) →
+        by_rule_5 n next.old p (view bank.old c one.now) (view bank.old c other.now) ≡ Some r → IsDoneAs done levels next.old c bindings.old bank.new bindings.new next.new r.verdict) }
     ensures refused { IfErr result (λ e. (c : Closing) → IsReading bank.old bindings.old c → IsShut c → (n : ℕ) (p : Equation) → IsSeenPair bank.old c level one.now other.now p →
         IsRuledOut n e units.old (by_rule_5 n next.old p (view bank.old c one.now) (view bank.old c other.now))) }
 {
@@ -297,6 +302,8 @@ fn on_others(
     ensures grown { Grows bindings.old bindings.new }
     ensures judged { IfOk result (λ done. (c : Closing) → IsReading bank.old bindings.old c → IsShut c → (n : ℕ) (p : Equation) → IsSeenPair bank.old c level one.now other.now p → (x l : ℕ) → one.now.head ≡ Variable x l → other.now.head ≡ Variable x l →
         IsJudged done units.old units.new (by_rule_4 n next.old p x l (map (under bank.old c) one.now.arguments.items) (map (under bank.old c) other.now.arguments.items))) }
+    ensures done { IfOk result (λ done. (c : Closing) → IsOpenReading bank.old bindings.old next.old c → (levels : ℕ → ℕ) → (n : ℕ) (p : Equation) → IsSeenPair bank.old c level one.now other.now p → IsKnownPair levels next.old p → (x l : ℕ) → one.now.head ≡ Variable x l → other.now.head ≡ Variable x l → (r : Ruled) →
+        by_rule_4 n next.old p x l (map (under bank.old c) one.now.arguments.items) (map (under bank.old c) other.now.arguments.items) ≡ Some r → IsDoneAs done levels next.old c bindings.old bank.new bindings.new next.new r.verdict) }
     ensures refused { IfErr result (λ e. (c : Closing) → IsReading bank.old bindings.old c → IsShut c → (n : ℕ) (p : Equation) → IsSeenPair bank.old c level one.now other.now p → (x l : ℕ) → one.now.head ≡ Variable x l → other.now.head ≡ Variable x l →
         IsRuledOut n e units.old (by_rule_4 n next.old p x l (map (under bank.old c) one.now.arguments.items) (map (under bank.old c) other.now.arguments.items))) }
 {
@@ -335,6 +342,8 @@ fn on_one_variable(
     ensures grown { Grows bindings.old bindings.new }
     ensures judged { IfOk result (λ done. (c : Closing) → IsReading bank.old bindings.old c → IsShut c → (n : ℕ) (p : Equation) → IsSeenPair bank.old c level one.now other.now p →
         IsJudged done units.old units.new (by_looks n next.old p (view bank.old c one.now) (view bank.old c other.now))) }
+    ensures done { IfOk result (λ done. (c : Closing) → IsOpenReading bank.old bindings.old next.old c → (levels : ℕ → ℕ) → (n : ℕ) (p : Equation) → IsSeenPair bank.old c level one.now other.now p → IsKnownPair levels next.old p → (r : Ruled) →
+        by_looks n next.old p (view bank.old c one.now) (view bank.old c other.now) ≡ Some r → IsDoneAs done levels next.old c bindings.old bank.new bindings.new next.new r.verdict) }
     ensures refused { IfErr result (λ e. (c : Closing) → IsReading bank.old bindings.old c → IsShut c → (n : ℕ) (p : Equation) → IsSeenPair bank.old c level one.now other.now p →
         IsRuledOut n e units.old (by_looks n next.old p (view bank.old c one.now) (view bank.old c other.now))) }
 {
