@@ -53,3 +53,4 @@ pub mod Passings
 pub mod PruneSteps
 pub mod PruneMoves
 pub mod GivenUp
+pub mod RuledOut

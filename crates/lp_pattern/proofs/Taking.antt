@@ -1,5 +1,5 @@
 -- Pairs without a variable as a head: the rule that applies, and its units.
-use Rattle.std.proofs.Common.{◌≡◌, ℕ, suc, ◌+◌, ◌<◌, ◌≤◌, inl, List, [], ◌∷◌, map, length, ◌∙◌, refl, sym, ap, subst as transport, arith, Bool, true, false, Option, Some, None, nat_eq}
+use Rattle.std.proofs.Common.{◌≡◌, ℕ, suc, ◌+◌, ◌<◌, ◌≤◌, List, [], ◌∷◌, map, length, ◌∙◌, refl, sym, ap, subst as transport, arith, Bool, true, false, Option, Some, None, nat_eq}
 use Rattle.std.specs.Prelude.{option_map, ◌&&◌}
 use Rattle.std.proofs.lemmas.Bool.{eq-eqb, ne_eqb}
 use Rattle.lp_calculus.specs.Term.{Term}
@@ -81,7 +81,7 @@ module _ (b : Nodes) (c : Closing) (t u : Term) (h : Bool) (ts us : List Term) (
       go : (o : TypeOutcome) → IsUnsolvedIn refusal.Fails limit o → ((with_types level ts us o).verdict ≡ fails) × ((with_types level ts us o).units ≤ limit)
       go (none w) y = (refl, y)
       go (solved made w) y = absurd y
-  decompose_out Deep g = λ l r x. let w = solving r x in inl (transport (λ z. limit < z.units) (sym w.2) (go w.0 (g w.0 w.1)))
+  decompose_out Deep g = λ l r x. let w = solving r x in transport (λ z. limit < z.units) (sym w.2) (go w.0 (g w.0 w.1))
     where
       go : (o : TypeOutcome) → IsUnsolvedIn Deep limit o → limit < (with_types level ts us o).units
       go (none w) y = y
