@@ -27,7 +27,7 @@ use Rattle.lp_model.specs.declared.answer.Pair.{Pair as Numbers}
 use Rattle.lp_pattern.specs.Comparing.{IsComparedTo, IsPassed, pair_under}
 use Rattle.lp_pattern.specs.Reading.{side_of}
 use Rattle.lp_pattern.specs.Refusing.{IsOfTerm, IsNoFailure}
-use Rattle.lp_pattern.specs.Ruling.{view_of, view, is_one_variable, is_flexible, IsSideOf, IsNoSide, IsSeenPair, IsBinding, IsVerdict, IsJudged, IsRuledOut, IsDone, IsTaken}
+use Rattle.lp_pattern.specs.Ruling.{view_of, view, is_one_variable, is_flexible, IsSideOf, IsNoSide, IsSeenPair, IsVerdict, IsJudged, IsRuledOut, IsDone, IsTaken}
 use Rattle.lp_pattern.specs.Seen.{weak_step, IsHead, IsLooked, IsReachedWithin, seen}
 use Rattle.lp_pattern.specs.Stripping.{IsPattern, HasNoPattern, eigens_of, read_at}
 use Rattle.lp_pattern.specs.Under.{IsReading, under, below}
@@ -61,7 +61,7 @@ no_variable b c m p Head.Rigid top ids q f e = cc
 pub side_none : (b : Nodes) (c : Closing) (m pair : ℕ) (r : Looked) → ((x l : ℕ) → r.head ≡ Head.Variable x l → ⊥) → IsSideOf m (view b c r) pair None
 side_none b c m pair r f p l q e = no_variable b c m p r.head r.top r.arguments.items q f e
 
-abbrev sides : ℕ → ℕ → Pair → Option (List ℕ) → Option scan.Side
+abbrev pub sides : ℕ → ℕ → Pair → Option (List ℕ) → Option scan.Side
 sides x l p o = option_map (λ a. side x l a p) o
 
 as_pattern : (b : Nodes) (c : Closing) (m pair x l : ℕ) (r : Looked) (o : Option Arguments) → r.head ≡ Head.Variable x l → IsPattern m l (map (under b c) r.arguments.items) o → (p : Pair) (q : Option scan.Side) →
@@ -103,15 +103,15 @@ pub head_rigid : (b : Nodes) (c : Closing) (s : scan.Side) (r : Looked) → r.he
 head_rigid b c s r h = ap (λ y. has_head s (view_of b c y r.top r.arguments.items)) (sym h)
 
 -- a scan of a term that is some steps before
-scan_reached : (n : ℕ) (s : scan.Side) (inside : Bool) (k j : ℕ) (t w : Term) → steps weak_step j t ≡ Some w → Below (scan.scan n s inside k t) (scan.scan n s inside k w)
+pub scan_reached : (n : ℕ) (s : scan.Side) (inside : Bool) (k j : ℕ) (t w : Term) → steps weak_step j t ≡ Some w → Below (scan.scan n s inside k t) (scan.scan n s inside k w)
 scan_reached zero s inside k j t w e = below_none (scan.scan zero s inside k w)
 scan_reached (suc n) s inside k j t w e = below_then (look n t) (look n w) _ _ (reached_look j n t w e) (λ v. below_same _)
 
 -- the side's variable against a term
-abbrev pruned_to : ℕ → (u : ℕ) → scan.Side → Pruned → Option Ruled
+abbrev pub pruned_to : ℕ → (u : ℕ) → scan.Side → Pruned → Option Ruled
 pruned_to n u s r = option_map (λ t'. ruled u (binds (bound s r.bindings t') r.next)) (settle n s.pair r.term)
 
-abbrev scanned_to : ℕ → (next : ℕ) → scan.Side → Term → Scanned → Option Ruled
+abbrev pub scanned_to : ℕ → (next : ℕ) → scan.Side → Term → Scanned → Option Ruled
 scanned_to n next s t r = elim r [
   | broken u ↦ Some (ruled u fails)
   | whole u true ps ↦ Some (ruled u delays)
@@ -155,26 +155,20 @@ pub record Behind (n next : ℕ) (s : scan.Side) (t w : Term) (r : Ruled) : Type
   pub is : scan.scan n s false s.pair w ≡ Some scanned
   pub rest : scanned_to n next s t scanned ≡ Some r
 
-behind : (n next j : ℕ) (s : scan.Side) (t w : Term) (v : Look) (r : Ruled) → steps weak_step j t ≡ Some w → has_head s v ≡ false → solve_for n next s t v ≡ Some r → Behind n next s t w r
+pub behind : (n next j : ℕ) (s : scan.Side) (t w : Term) (v : Look) (r : Ruled) → steps weak_step j t ≡ Some w → has_head s v ≡ false → solve_for n next s t v ≡ Some r → Behind n next s t w r
 behind n next j s t w v r e h q =
     let x = from_bind (scanned_to n next s t) (scan.scan n s false s.pair t) r (sym (by_head_is n next s t v false h) ∙ q) in
     record { scanned = x.0; is = scan_reached n s false s.pair j t w e x.0 x.1; rest = x.2 }
 
 -- the verdict behind a scan, which has its units
-bound_units : (n next u : ℕ) (s : scan.Side) (t : Term) (ps : List _) (r : Ruled) → scanned_to n next s t (whole u false ps) ≡ Some r → (r.units ≡ u) × IsBinding r.verdict
+bound_units : (n next u : ℕ) (s : scan.Side) (t : Term) (ps : List _) (r : Ruled) → scanned_to n next s t (whole u false ps) ≡ Some r → (r.units ≡ u) × IsVerdict true r.verdict
 bound_units n next u s t ps r e =
     let x = from_bind (pruned_to n u s) (prune n s next t) r e in
     let y = from_map (λ t'. ruled u (binds (bound s x.0.bindings t') x.0.next)) (settle n s.pair x.0.term) r x.2 in
-    transport (λ z. (z.units ≡ u) × IsBinding z.verdict) (sym y.2) (refl, tt)
+    transport (λ z. (z.units ≡ u) × IsVerdict true z.verdict) (sym y.2) (refl, tt)
 
-some_same : (x r : Ruled) → Some x ≡ Some r → x ≡ r
+pub some_same : (x r : Ruled) → Some x ≡ Some r → x ≡ r
 some_same x r e = cc
-
-binding_done : (v : Verdict) → IsBinding v → IsVerdict true v
-binding_done fails h = h
-binding_done (gives ts ps) h = absurd h
-binding_done (binds bs next) h = tt
-binding_done delays h = h
 
 pub on_delayed : (n next j u w : ℕ) (s : scan.Side) (t x : Term) (v : Look) (f : Noted) → steps weak_step j t ≡ Some x → has_head s v ≡ false → ((y : Scanned) → scan.scan n s false s.pair x ≡ Some y → IsScanned s u w f y) → f.is_delayed ≡ true →
     IsJudged false u w (solve_for n next s t v)
@@ -192,7 +186,7 @@ on_bound n next j u w s t x v f a h i d r e = let b = behind n next j s t x v r 
     go : (y : Scanned) → IsScanned s u w f y → scanned_to n next s t y ≡ Some r → (u ≡ r.units + w) × IsVerdict true r.verdict
     go (broken m) k q = absurd k
     go (whole m true ps) k q = absurd (let z : false ≡ true = sym d ∙ k.1 in cc)
-    go (whole m false ps) k q = let z = bound_units n next m s t ps r q in (transport (λ y. u ≡ y + w) (sym z.0) k.0, binding_done r.verdict z.1)
+    go (whole m false ps) k q = let z = bound_units n next m s t ps r q in (transport (λ y. u ≡ y + w) (sym z.0) k.0, z.1)
 
 -- a refusal of the scan
 pub scan_out : (n next j u : ℕ) (s : scan.Side) (t x : Term) (v : Look) (e : PatternRefusal) → steps weak_step j t ≡ Some x → has_head s v ≡ false → IsStopped n e u (scan.scan n s false s.pair x) → IsRuledOut n e u (solve_for n next s t v)
@@ -201,7 +195,7 @@ scan_out n next j u s t x v refusal.Fails a h k = λ r q. let b = behind n next 
     go : (r : Ruled) (y : Scanned) → visiting.Fails u y → scanned_to n next s t y ≡ Some r → (r.verdict ≡ fails) × (r.units ≤ u)
     go r (broken m) l q = transport (λ z. (z.verdict ≡ fails) × (z.units ≤ u)) (some_same (ruled m fails) r q) (refl, l)
     go r (whole m d ps) l q = absurd l
-scan_out n next j u s t x v Deep a h k = λ l r q. let b = behind n next j s t x v r a h q in inl (go r b.scanned (k l b.scanned b.is) b.rest)
+scan_out n next j u s t x v Deep a h k = λ l r q. let b = behind n next j s t x v r a h q in go r b.scanned (k l b.scanned b.is) b.rest
   where
     go : (r : Ruled) (y : Scanned) → Exceeds u y → scanned_to n next s t y ≡ Some r → u < r.units
     go r (broken m) l q = transport (λ z. u < z.units) (some_same (ruled m fails) r q) l
@@ -209,20 +203,8 @@ scan_out n next j u s t x v Deep a h k = λ l r q. let b = behind n next j s t x
     go r (whole m false ps) l q = transport (λ z. u < z) (sym (bound_units n next m s t ps r q).0) l
 scan_out n next j u s t x v refusal.Memory a h k = tt
 
--- a refusal behind the scan
-pub value_out : (n next j u w : ℕ) (s : scan.Side) (t x : Term) (v : Look) (f : Noted) (e : PatternRefusal) → steps weak_step j t ≡ Some x → has_head s v ≡ false → ((y : Scanned) → scan.scan n s false s.pair x ≡ Some y → IsScanned s u w f y) →
-    f.is_delayed ≡ false → IsNoFailure e → IsRuledOut n e u (solve_for n next s t v)
-value_out n next j u w s t x v f refusal.Fails a h i d k = absurd k
-value_out n next j u w s t x v f Deep a h i d k = λ l r q. let b = behind n next j s t x v r a h q in inr (go r b.scanned (i b.scanned b.is) b.rest)
-  where
-    go : (r : Ruled) (y : Scanned) → IsScanned s u w f y → scanned_to n next s t y ≡ Some r → IsBinding r.verdict
-    go r (broken m) l q = absurd l
-    go r (whole m true ps) l q = absurd (let z : false ≡ true = sym d ∙ l.1 in cc)
-    go r (whole m false ps) l q = (bound_units n next m s t ps r q).1
-value_out n next j u w s t x v f refusal.Memory a h i d k = tt
-
 -- the side that is a pattern
-abbrev by_right : ℕ → (next : ℕ) → Pair → (v w : Look) → Option scan.Side → Option Ruled
+abbrev pub by_right : ℕ → (next : ℕ) → Pair → (v w : Look) → Option scan.Side → Option Ruled
 by_right n next p v w a = option_and_then (λ b. by_pattern n next p v w a b) (pattern_side n p w)
 
 on_left : (n next : ℕ) (p : Pair) (v w : Look) (s : scan.Side) → Below (by_right n next p v w (Some s)) (solve_for n next s p.right w)
@@ -279,7 +261,7 @@ pair_kept b d s c level one other p e k m h = record {
 }
 
 -- both sides on one variable
-abbrev same_or : ℕ → (next : ℕ) → Pair → (x l : ℕ) → (ts us : List Term) → Compared → Option Ruled
+abbrev pub same_or : ℕ → (next : ℕ) → Pair → (x l : ℕ) → (ts us : List Term) → Compared → Option Ruled
 same_or n next p x l ts us c = elim c.same [ true ↦ Some (ruled c.units (gives [] [])) | false ↦ option_map (dear c.units) (by_rule_4 n next p x l ts us) ]
 
 abbrev compared_to : ℕ → (next : ℕ) → Pair → (x l : ℕ) → (ts us : List Term) → Bool → Option Ruled
@@ -293,10 +275,10 @@ one_variable n next p x l ts us e =
     λ i. compared_to n next p x l ts us (a i && b i && d i)
 
 module _ (n next : ℕ) (p : Pair) (x l : ℕ) (ts us : List Term) (e : length ts ≡ length us) where
-  behind_compare : (r : Ruled) → by_looks n next p (flexible x l ts) (flexible x l us) ≡ Some r → (d : Compared) × (compare_all n p.level ts us ≡ Some d) × (same_or n next p x l ts us d ≡ Some r)
+  pub behind_compare : (r : Ruled) → by_looks n next p (flexible x l ts) (flexible x l us) ≡ Some r → (d : Compared) × (compare_all n p.level ts us ≡ Some d) × (same_or n next p x l ts us d ≡ Some r)
   behind_compare r q = from_bind (same_or n next p x l ts us) (compare_all n p.level ts us) r (sym (one_variable n next p x l ts us e) ∙ q)
 
-  or_at : (d : Compared) (b : Bool) (r : Ruled) → b ≡ d.same → same_or n next p x l ts us d ≡ Some r →
+  pub or_at : (d : Compared) (b : Bool) (r : Ruled) → b ≡ d.same → same_or n next p x l ts us d ≡ Some r →
       (elim b as (λ z. Option Ruled) [ true ↦ Some (ruled d.units (gives [] [])) | false ↦ option_map (dear d.units) (by_rule_4 n next p x l ts us) ]) ≡ Some r
   or_at d b r h q = ap (λ y. elim y as (λ z. Option Ruled) [ true ↦ Some (ruled d.units (gives [] [])) | false ↦ option_map (dear d.units) (by_rule_4 n next p x l ts us) ]) h ∙ q
 
@@ -325,16 +307,13 @@ module _ (n next : ℕ) (p : Pair) (x l : ℕ) (ts us : List Term) (e : length t
       let d = behind_compare r q in
       let k = h d.0 d.1 in
       let y = from_map (dear d.0.units) (by_rule_4 n next p x l ts us) r (or_at d.0 false r k.0 d.2) in
-      transport (λ o. (u < o.units) ⊎ IsBinding o.verdict) (sym y.2) (more d.0.units y.0 k.1 (j m y.0 y.1))
-    where
-      more : (k : ℕ) (o : Ruled) → u ≡ k + v → (v < o.units) ⊎ IsBinding o.verdict → (u < k + o.units) ⊎ IsBinding o.verdict
-      more k o a (inl b) = inl (omega (arith, a, b))
-      more k o a (inr b) = inr b
+      let z = j m y.0 y.1 in
+      transport (λ o. u < o.units) (sym y.2) (omega (arith, k.1, z))
   differ_out u v refusal.Memory h j = tt
 
   pub compare_out : (u : ℕ) (o : PatternRefusal) → ((m : ℕ) → m ≤ 1000000 → IsPassed o u (compare_all m p.level ts us)) → IsRuledOut n o u (by_looks n next p (flexible x l ts) (flexible x l us))
   compare_out u refusal.Fails h = absurd (h 0 (omega arith))
-  compare_out u Deep h = λ m r q. let d = behind_compare r q in inl (go d.0 r d.0.same refl (h n m d.0 d.1) d.2)
+  compare_out u Deep h = λ m r q. let d = behind_compare r q in go d.0 r d.0.same refl (h n m d.0 d.1) d.2
     where
       go : (d : Compared) (r : Ruled) (b : Bool) → b ≡ d.same → u < d.units → same_or n next p x l ts us d ≡ Some r → u < r.units
       go d r true i less q = transport (λ z. u < z.units) (some_same (ruled d.units (gives [] [])) r (or_at d true r i q)) less
@@ -345,7 +324,7 @@ module _ (n next : ℕ) (p : Pair) (x l : ℕ) (ts us : List Term) (e : length t
 
 -- both are patterns, or one is none
 module _ (n next : ℕ) (p : Pair) (x l : ℕ) (ts us : List Term) where
-  abbrev when_both : Option (List ℕ) → Option (List ℕ) → Option Ruled
+  abbrev pub when_both : Option (List ℕ) → Option (List ℕ) → Option Ruled
   when_both a b = elim a [
     | None ↦ by_rule_5 n next p (flexible x l ts) (flexible x l us)
     | Some a ↦ elim b [
@@ -361,7 +340,7 @@ module _ (n next : ℕ) (p : Pair) (x l : ℕ) (ts us : List Term) where
     pub right : pattern_of n l us ≡ Some other
     pub is : when_both one other ≡ Some r
 
-  both_of : (r : Ruled) → by_rule_4 n next p x l ts us ≡ Some r → Both r
+  pub both_of : (r : Ruled) → by_rule_4 n next p x l ts us ≡ Some r → Both r
   both_of r q =
       let a = from_bind (λ a. option_and_then (when_both a) (pattern_of n l us)) (pattern_of n l ts) r q in
       let b = from_bind (when_both a.0) (pattern_of n l us) r a.2 in
@@ -371,11 +350,11 @@ module _ (n next : ℕ) (p : Pair) (x l : ℕ) (ts us : List Term) where
   none_of None q = refl
   none_of (Some a) q = absurd (cc)
 
-  some_of : (o : Option (List ℕ)) (s : scan.Side) → sides x l p o ≡ Some s → (a : List ℕ) × (o ≡ Some a)
+  pub some_of : (o : Option (List ℕ)) (s : scan.Side) → sides x l p o ≡ Some s → (a : List ℕ) × (o ≡ Some a)
   some_of None s q = absurd (cc)
   some_of (Some a) s q = (a, refl)
 
-  side_at : (ws : List Term) (level : ℕ) (o : Option Side) (a : Option (List ℕ)) → IsSideOf n (flexible x l ws) level o → p.level ≡ level → pattern_of n l ws ≡ Some a → sides x l p a ≡ option_map side_of o
+  pub side_at : (ws : List Term) (level : ℕ) (o : Option Side) (a : Option (List ℕ)) → IsSideOf n (flexible x l ws) level o → p.level ≡ level → pattern_of n l ws ≡ Some a → sides x l p a ≡ option_map side_of o
   side_at ws level o a h k q = h p k (sides x l p a) (ap (option_map (sides x l p)) q)
 
   pub four_open : (level : ℕ) → IsSideOf n (flexible x l ts) level None → p.level ≡ level → Below (by_rule_4 n next p x l ts us) (by_rule_5 n next p (flexible x l ts) (flexible x l us))

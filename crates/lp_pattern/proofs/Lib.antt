@@ -30,6 +30,10 @@ pub mod TopScans
 pub mod TopSettles
 pub mod Indices
 pub mod SettleSteps
+pub mod SettledTerms
+pub mod SidesBound
+pub mod Valued
+pub mod Dones
 pub mod SettleMoves
 pub mod VisitSteps
 pub mod Verdicts
@@ -38,9 +42,13 @@ pub mod Walking
 pub mod TypeTurns
 pub mod FilledTypes
 pub mod TypesSolved
+pub mod TypesBound
+pub mod TypesCounted
+pub mod TypesFirm
 pub mod FilledTerms
 pub mod ReadingsBehind
 pub mod Converting
+pub mod BoundOnce
 pub mod Cleans
 pub mod Refits
 pub mod PairsThrough
@@ -50,3 +58,5 @@ pub mod PruneMoves
 pub mod RunBegins
 pub mod RunLoops
 pub mod Unbound
+pub mod GivenUp
+pub mod RuledOut

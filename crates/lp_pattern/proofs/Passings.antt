@@ -152,7 +152,7 @@ weak_fill f (app (app t v) u) s e =
       | Some r ↦ λ p q. let z : app r u ≡ s = cc in ap (option_term (λ y. app y (fill f u))) (weak_fill f (app t v) r p) ∙ ap (λ x. Some (fill f x)) z
     ] refl e
 
-steps_fill : (f : Atom → Term) (j : ℕ) (t s : Term) → steps weak_step j t ≡ Some s → steps weak_step j (fill f t) ≡ Some (fill f s)
+pub steps_fill : (f : Atom → Term) (j : ℕ) (t s : Term) → steps weak_step j t ≡ Some s → steps weak_step j (fill f t) ≡ Some (fill f s)
 steps_fill f zero t s e = let q : t ≡ s = cc in ap (λ x. Some (fill f x)) q
 steps_fill f (suc j) t s e = elim (weak_step t) as (λ o. weak_step t ≡ o → (elim o [ None ↦ None | Some r ↦ steps weak_step j r ]) ≡ Some s → steps weak_step (suc j) (fill f t) ≡ Some (fill f s)) [
   | None ↦ λ p q. absurd (cc)

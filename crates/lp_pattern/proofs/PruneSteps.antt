@@ -23,7 +23,8 @@ use Rattle.lp_pattern.specs.declared.bindings.Bindings.{Bindings}
 use Rattle.lp_pattern.specs.declared.scan.Visit.{Visit}
 use Rattle.lp_pattern.specs.Behind.{at_number, HasLevel}
 use Rattle.lp_pattern.specs.Passing.{outer, outers, Passed, pass_none, pass_steps, pass_abs, pass_rigid, pass_clean, outers_of}
-use Rattle.lp_pattern.specs.Pruning.{Known, Start, IsPruning, IsPruned}
+use Rattle.lp_pattern.specs.Pruning.{Start, IsPruning, IsPruned}
+use Rattle.lp_pattern.specs.Putting.{Known, IsPutBehind}
 use Rattle.lp_pattern.specs.Seen.{weak_step}
 use Rattle.lp_pattern.specs.TopLooks.{scan_top, scan_tops}
 use Rattle.lp_pattern.specs.Under.{under}
@@ -48,7 +49,7 @@ abbrev pub EachWithin : (Atom → Type 0) → List Part → Type 0
 EachWithin P [] = Unit {0}
 EachWithin P (p ∷ ps) = Within P 0 p.term × EachWithin P ps
 
-within_apply : (P : Atom → Type 0) (ts : List Term) (h : Term) → Within P 0 (apply h ts) → (k : ℕ) → (qs : List Part) → EachWithin P qs → Within P 0 h × EachWithin P (outers k ts ++ qs)
+pub within_apply : (P : Atom → Type 0) (ts : List Term) (h : Term) → Within P 0 (apply h ts) → (k : ℕ) → (qs : List Part) → EachWithin P qs → Within P 0 h × EachWithin P (outers k ts ++ qs)
 within_apply P [] h w k qs e = (w, e)
 within_apply P (t ∷ ts) h w k qs e = let z = within_apply P ts (app h t) w k qs e in (z.0.0, (z.0.1, z.1))
 
@@ -91,12 +92,12 @@ fresh_abstraction n l c (eigen k) w = go (nat_eq k c)
 fresh_abstraction n l c (logic x m) w = w
 fresh_abstraction n l c (param k u) w = absurd w
 
-fresh_abstracted : (n l : ℕ) (cs : List ℕ) (t : Term) → Within (Fresh n l) 0 t → Within (Fresh n l) 0 (abstracted cs t)
+pub fresh_abstracted : (n l : ℕ) (cs : List ℕ) (t : Term) → Within (Fresh n l) 0 t → Within (Fresh n l) 0 (abstracted cs t)
 fresh_abstracted n l [] t w = w
 fresh_abstracted n l (c ∷ cs) t w =
     within_fill (Fresh n l) (Fresh n l) (indexed c) 1 (fresh_abstraction n l c) (abstracted cs t) (within_more (Fresh n l) (Fresh n l) 0 1 (λ a p. p) (omega arith) (abstracted cs t) (fresh_abstracted n l cs t w))
 
-fresh_pattern : (n l : ℕ) (cs : List ℕ) (h : Term) → Within (Fresh n l) 0 h → Within (Fresh n l) 0 (apply h (eigens cs))
+pub fresh_pattern : (n l : ℕ) (cs : List ℕ) (h : Term) → Within (Fresh n l) 0 h → Within (Fresh n l) 0 (apply h (eigens cs))
 fresh_pattern n l [] h w = w
 fresh_pattern n l (c ∷ cs) h w = fresh_pattern n l cs (app h (atom (eigen c))) (w, tt)
 
@@ -197,8 +198,8 @@ found_left (suc m) s T u ps qs e p =
     record { units = f.units; patterns = f.patterns; is = f.is; same = ap (first_misfit s) (sym (append-nil ps)) ∙ f.same }
 
 -- nothing is left
-pub pruned_there : (s : Side) (o : Start) (b : Nodes) (bs : Bindings) (next : ℕ) (term : TermId) (left : List Visit) (r : Pruned) → left ≡ [] → IsPruning s o b bs next term left r → IsPruned o b bs next term r
-pruned_there s o b bs next term left r e h = go h.turns h.rest
+pub pruned_there : (s : Side) (o : Start) (most : ℕ) (b : Nodes) (bs : Bindings) (next : ℕ) (term : TermId) (left : List Visit) (r : Pruned) → left ≡ [] → IsPruning s o most b bs next term left r → IsPruned o b bs next term r
+pruned_there s o most b bs next term left r e h = go h.turns h.rest
   where
     go : (n : ℕ) → prune n s next (under b h.closing term) ≡ Some h.now → IsPruned o b bs next term r
     go zero q = absurd (cc)
@@ -213,16 +214,18 @@ pruned_there s o b bs next term left r e h = go h.turns h.rest
           | Some p ↦ option_map (led_by (renewal s next p)) (prune m s (suc next) (put (renewal s next p) (under b h.closing term)))
         ]) x) ∙ t.behind in
         let k : record { bindings = []; next = next; term = under b h.closing term } ≡ h.now = cc in
+        let i : under b h.closing term ≡ r.term = ap (λ p. p.term) k ∙ h.same in
+        let n : next ≡ r.next = ap (λ p. p.next) k ∙ h.last in
+        let all : h.made ≡ r.bindings = sym (h.all ∙ ap (λ p. h.made ++ p.bindings) (sym k) ∙ append-nil h.made) in
         record {
           closing = h.closing;
-          reading = h.reading;
-          shut = h.shut;
-          is = ap (λ p. p.term) k ∙ h.same;
-          last = ap (λ p. p.next) k ∙ h.last;
           levels = h.levels;
-          unbound = h.unbound;
-          puts = λ u i. h.puts u i ∙ ap (λ bs. put_all bs (closed o.closing u)) (sym (h.all ∙ ap (λ p. h.made ++ p.bindings) (sym k) ∙ append-nil h.made));
-          knows = h.knows;
+          reading = record { reading = h.reading; shut = h.shut; still = h.still; unbound = h.unbound };
+          is = i;
+          last = n;
+          whole = h.whole;
+          known = transport (Within (Known h.levels next) 0) i h.known;
+          behind = transport (IsPutBehind o.levels h.levels o.next next o.closing h.closing o.bindings bs) all h.behind;
         }
 
 -- a pattern in front of what is left

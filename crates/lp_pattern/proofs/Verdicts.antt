@@ -34,24 +34,12 @@ module _ (b d : Nodes) (s : Bindings) (c : Closing) (one other : Looked) (level 
       judged_below done u w (by_rule_5 n next p (view b c one) (view b c other)) (solve_for n next (side_of side) p.right (view b c other)) (left_side n next level p (view b c one) (view b c other) side i h.stands)
       (transport (λ v. IsJudged done u w (solve_for n next (side_of side) p.right v)) (view_kept b d s c other e m) (f n h.right.0 p.right later_right))
 
-  pub left_ruled : (o : PatternRefusal) (side : Side) → IsSideOf n (view b c one) level (Some side) →
-      ((n j : ℕ) (t : Term) → steps weak_step j t ≡ Some (under d c other.whole) → IsRuledOut n o u (solve_for n next (side_of side) t (view d c other))) → IsRuledOut n o u (by_rule_5 n next p (view b c one) (view b c other))
-  left_ruled o side i f =
-      out_below n u o (by_rule_5 n next p (view b c one) (view b c other)) (solve_for n next (side_of side) p.right (view b c other)) (left_side n next level p (view b c one) (view b c other) side i h.stands)
-      (transport (λ v. IsRuledOut n o u (solve_for n next (side_of side) p.right v)) (view_kept b d s c other e m) (f n h.right.0 p.right later_right))
-
   -- the right side is
   pub right_judged : (w : ℕ) (done : Bool) (side : Side) → IsSideOf n (view b c one) level None → IsSideOf n (view b c other) level (Some side) →
       ((n j : ℕ) (t : Term) → steps weak_step j t ≡ Some (under d c one.whole) → IsJudged done u w (solve_for n next (side_of side) t (view d c one))) → IsJudged done u w (by_rule_5 n next p (view b c one) (view b c other))
   right_judged w done side i j f =
       judged_below done u w (by_rule_5 n next p (view b c one) (view b c other)) (solve_for n next (side_of side) p.left (view b c one)) (right_side n next level p (view b c one) (view b c other) side i j h.stands)
       (transport (λ v. IsJudged done u w (solve_for n next (side_of side) p.left v)) (view_kept b d s c one e k) (f n h.left.0 p.left later_left))
-
-  pub right_ruled : (o : PatternRefusal) (side : Side) → IsSideOf n (view b c one) level None → IsSideOf n (view b c other) level (Some side) →
-      ((n j : ℕ) (t : Term) → steps weak_step j t ≡ Some (under d c one.whole) → IsRuledOut n o u (solve_for n next (side_of side) t (view d c one))) → IsRuledOut n o u (by_rule_5 n next p (view b c one) (view b c other))
-  right_ruled o side i j f =
-      out_below n u o (by_rule_5 n next p (view b c one) (view b c other)) (solve_for n next (side_of side) p.left (view b c one)) (right_side n next level p (view b c one) (view b c other) side i j h.stands)
-      (transport (λ v. IsRuledOut n o u (solve_for n next (side_of side) p.left v)) (view_kept b d s c one e k) (f n h.left.0 p.left later_left))
 
   -- a test in a bank that has grown
   pub side_before : (r : Looked) (o : Option Side) → IsLooked b s r → IsSideOf n (view d c r) level o → IsSideOf n (view b c r) level o
@@ -75,16 +63,16 @@ module _ (b d : Nodes) (s : Bindings) (c : Closing) (one other : Looked) (level 
     abbrev us : List Term
     us = map (under b c) other.arguments.items
 
-    at_one : (o : Option Side) → IsSideOf n (view b c one) level o → IsSideOf n (flexible x l ts) level o
+    pub at_one : (o : Option Side) → IsSideOf n (view b c one) level o → IsSideOf n (flexible x l ts) level o
     at_one o i = transport (λ v. IsSideOf n v level o) (as_variable b c one x l y) i
 
-    at_other : (o : Option Side) → IsSideOf n (view b c other) level o → IsSideOf n (flexible x l us) level o
+    pub at_other : (o : Option Side) → IsSideOf n (view b c other) level o → IsSideOf n (flexible x l us) level o
     at_other o i = transport (λ v. IsSideOf n v level o) (as_variable b c other x l z) i
 
     five_at : by_rule_5 n next p (view b c one) (view b c other) ≡ by_rule_5 n next p (flexible x l ts) (flexible x l us)
     five_at = λ i. by_rule_5 n next p (as_variable b c one x l y i) (as_variable b c other x l z i)
 
-    below_five : Below (by_rule_4 n next p x l ts us) (by_rule_5 n next p (flexible x l ts) (flexible x l us)) → Below (by_rule_4 n next p x l ts us) (by_rule_5 n next p (view b c one) (view b c other))
+    pub below_five : Below (by_rule_4 n next p x l ts us) (by_rule_5 n next p (flexible x l ts) (flexible x l us)) → Below (by_rule_4 n next p x l ts us) (by_rule_5 n next p (view b c one) (view b c other))
     below_five f r q = five_at ∙ f r q
 
     pub open_judged : (w : ℕ) (done : Bool) → IsSideOf n (view b c one) level None → IsJudged done u w (by_rule_5 n next p (view b c one) (view b c other)) → IsJudged done u w (by_rule_4 n next p x l ts us)
@@ -130,10 +118,10 @@ module _ (b : Nodes) (s : Bindings) (c : Closing) (one other : Looked) (level n 
   abbrev right_terms : List Term
   right_terms = map (under b c) other.arguments.items
 
-  even : length left_terms ≡ length right_terms
+  pub even : length left_terms ≡ length right_terms
   even = length_map (under b c) one.arguments.items ∙ a ∙ sym (length_map (under b c) other.arguments.items)
 
-  looks_at : by_looks n next p (view b c one) (view b c other) ≡ by_looks n next p (flexible x l left_terms) (flexible x l right_terms)
+  pub looks_at : by_looks n next p (view b c one) (view b c other) ≡ by_looks n next p (flexible x l left_terms) (flexible x l right_terms)
   looks_at = λ i. by_looks n next p (as_variable b c one x l y i) (as_variable b c other x l z i)
 
   pub same_judged : (w : ℕ) (same : Bool) → same ≡ true → IsComparedTo same u w (compare_all n level left_terms right_terms) → IsJudged true u w (by_looks n next p (view b c one) (view b c other))
@@ -141,7 +129,7 @@ module _ (b : Nodes) (s : Bindings) (c : Closing) (one other : Looked) (level n 
       transport (IsJudged true u w) (sym looks_at)
       (variables_same n next p x l left_terms right_terms even u w (transport (λ k. IsComparedTo true u w (compare_all n k left_terms right_terms)) (sym h.stands) (transport (λ t. IsComparedTo t u w (compare_all n level left_terms right_terms)) q f)))
 
-  differs : (v : ℕ) (same : Bool) → same ≡ false → IsComparedTo same u v (compare_all n level left_terms right_terms) → IsComparedTo false u v (compare_all n p.level left_terms right_terms)
+  pub differs : (v : ℕ) (same : Bool) → same ≡ false → IsComparedTo same u v (compare_all n level left_terms right_terms) → IsComparedTo false u v (compare_all n p.level left_terms right_terms)
   differs v same q f = transport (λ k. IsComparedTo false u v (compare_all n k left_terms right_terms)) (sym h.stands) (transport (λ t. IsComparedTo t u v (compare_all n level left_terms right_terms)) q f)
 
   pub other_judged : (v w : ℕ) (same done : Bool) → same ≡ false → IsComparedTo same u v (compare_all n level left_terms right_terms) → IsJudged done v w (by_rule_4 n next p x l left_terms right_terms) →

@@ -4,6 +4,7 @@ pub mod Comparing
 pub mod Filling
 pub mod Growing
 pub mod Pruning
+pub mod Putting
 pub mod Reading
 pub mod Passing
 pub mod Refusing
@@ -16,6 +17,7 @@ pub mod Turning
 pub mod Turns
 pub mod Unifying
 pub mod Under
+pub mod Valuing
 pub mod Visiting
 pub mod FillingTerms
 pub mod Settling

@@ -15,7 +15,8 @@ use Rattle.lp_pattern.specs.declared.rules.Verdict.{Verdict as Taken}
 use Rattle.lp_pattern.specs.Behind.{with_types}
 use Rattle.lp_pattern.specs.Filling.{IsStill}
 use Rattle.lp_pattern.specs.Growing.{IsPairOf}
-use Rattle.lp_pattern.specs.Pruning.{Known}
+use Rattle.lp_pattern.specs.Putting.{Known}
+pub use Rattle.lp_pattern.specs.Putting.{IsFirm}
 use Rattle.lp_pattern.specs.Seen.{weak_step}
 use Rattle.lp_pattern.specs.Stripping.{IsShut}
 use Rattle.lp_pattern.specs.Under.{IsReading, under}
@@ -50,10 +51,6 @@ ArePairsFor b c [] [] = Unit {0}
 ArePairsFor b c [] (p ∷ ps) = ⊥
 ArePairsFor b c (q ∷ qs) [] = ⊥
 ArePairsFor b c (q ∷ qs) (p ∷ ps) = IsPairFor b c q p × ArePairsFor b c qs ps
-
--- these types for type variables leave all that a closing gives as it is
-abbrev pub IsFirm : List TypeBinding → Closing → Type 0
-IsFirm ts c = (t : Term) → put_types_in ts (closed c t) ≡ closed c t
 
 -- what was read is read as before, and nothing was bound
 pub record IsKeptBehind (next : ℕ) (c : Closing) (s : Bindings) (d : Nodes) (s' : Bindings) (next' : ℕ) : Type 0 where

@@ -1,6 +1,5 @@
 // Pruning and lowering: a pattern that does not fit gives way to a new variable on what is allowed.
-ghost use Rattle.std.specs.Prelude.{◌≡◌, ◌≤◌, ◌<◌, ◌∷◌, ◌++◌, ℕ, [], suc, min, nat_le, nat_eq, length, true, None, Some, IfOk, OnOk, IfErr};
-ghost use Rattle.indexmap.specs.IndexMap.{get};
+ghost use Rattle.std.specs.Prelude.{◌≡◌, ◌≤◌, ◌<◌, ◌∷◌, ◌++◌, ℕ, [], suc, min, nat_le, length, true, Some, IfOk, OnOk, IfErr};
 ghost use Rattle.lp_calculus.specs.Fill.{Within};
 ghost use Rattle.lp_calculus.specs.Term.{atom, index, eigen, logic};
 ghost use Rattle.lp_term.specs.Nodes.{Extends, tree};
@@ -9,13 +8,14 @@ ghost use Rattle.lp_model.specs.Pair.{Closing};
 ghost use Rattle.lp_model.specs.Scan.{allows, pattern, renewal, prune, Pruned};
 ghost use Rattle.lp_pattern.specs.declared.look.Head.TheVariants.{Abstraction, Rigid, Variable};
 ghost use Rattle.lp_pattern.specs.Growing.{Grows};
-ghost use Rattle.lp_pattern.specs.Pruning.{Known, IsPruned, Prunes, visit_at};
+ghost use Rattle.lp_pattern.specs.Pruning.{IsPruned, Prunes, StopsPruning, visit_at};
+ghost use Rattle.lp_pattern.specs.Putting.{Known};
 ghost use Rattle.lp_pattern.specs.Reading.{side_of};
-ghost use Rattle.lp_pattern.specs.Refusing.{IsNoFailure};
+ghost use Rattle.lp_pattern.specs.Refusing.{IsNoFailure, IsNothing};
 ghost use Rattle.lp_pattern.specs.Seen.{IsLooked};
 ghost use Rattle.lp_pattern.specs.Scanning.{Pushes, AreTerms, Binds, one_if, low_eigens, allowed_places};
-ghost use Rattle.lp_pattern.specs.Stripping.{IsShut};
-ghost use Rattle.lp_pattern.specs.Under.{IsReading, under};
+ghost use Rattle.lp_pattern.specs.Turning.{IsOpenReading};
+ghost use Rattle.lp_pattern.specs.Under.{under};
 
 use crate::bindings::Bindings;
 use crate::fault::PatternRefusal;
@@ -159,6 +159,7 @@ fn visit_variable(
     ensures grown { Grows bindings.old bindings.new }
     ensures prunes { OnOk result (Prunes (side_of side.now) bank.old bank.new bindings.old bindings.new next.old next.new (left.old.items ++ visit_at visit looked.now.whole ∷ []) left.new.items) }
     ensures unfailing { IfErr result IsNoFailure }
+    ensures refused { IfErr result (λ e. StopsPruning e (side_of side.now) bank.old bindings.old next.old (left.old.items ++ visit_at visit looked.now.whole ∷ [])) }
 {
     let arguments = looked.arguments.as_slice();
     let pattern = pattern_of(alloc, bank, bindings, visit.opened, level, arguments)?;
@@ -226,6 +227,7 @@ fn visit_seen(
     ensures grown { Grows bindings.old bindings.new }
     ensures prunes { OnOk result (Prunes (side_of side.now) bank.old bank.new bindings.old bindings.new next.old next.new (left.old.items ++ visit_at visit looked.now.whole ∷ []) left.new.items) }
     ensures unfailing { IfErr result IsNoFailure }
+    ensures refused { IfErr result (λ e. StopsPruning e (side_of side.now) bank.old bindings.old next.old (left.old.items ++ visit_at visit looked.now.whole ∷ [])) }
 {
     match looked.head {
         Head::Abstraction(body) => {
@@ -257,6 +259,7 @@ fn visit_part(
     ensures grown { Grows bindings.old bindings.new }
     ensures prunes { OnOk result (Prunes (side_of side.now) bank.old bank.new bindings.old bindings.new next.old next.new (left.old.items ++ visit ∷ []) left.new.items) }
     ensures unfailing { IfErr result IsNoFailure }
+    ensures refused { IfErr result (λ e. StopsPruning e (side_of side.now) bank.old bindings.old next.old (left.old.items ++ visit ∷ [])) }
 {
     let looked = look(alloc, bank, bindings, visit.term, CONTRACTIONS)?;
     visit_seen(alloc, bank, bindings, side, next, visit, &looked, left)
@@ -274,9 +277,11 @@ pub(crate) fn prune(
     ensures kept { Extends bank.old bank.new }
     ensures more { next.old ≤ next.new }
     ensures grown { Grows bindings.old bindings.new }
-    ensures pruned { OnOk result (side.now.id < next.old → term.0 < length bank.old.terms → (c : Closing) → IsReading bank.old bindings.old c → IsShut c → ((x : ℕ) → next.old ≤ x → get nat_eq bindings.old.terms x ≡ None) →
-        (levels : ℕ → ℕ) → Within (Known levels next.old) 0 (under bank.old c term) → (n : ℕ) → (r : Pruned) → prune n (side_of side.now) next.old (under bank.old c term) ≡ Some r → IsPruned (record { closing = c; levels = levels; next = next.old }) bank.new bindings.new next.new term r) }
+    ensures pruned { OnOk result (side.now.id < next.old → term.0 < length bank.old.terms → (c : Closing) → IsOpenReading bank.old bindings.old next.old c →
+        (levels : ℕ → ℕ) → Within (Known levels next.old) 0 (under bank.old c term) → (n : ℕ) → (r : Pruned) → prune n (side_of side.now) next.old (under bank.old c term) ≡ Some r → IsPruned (record { closing = c; levels = levels; next = next.old; bindings = bindings.old }) bank.new bindings.new next.new term r) }
     ensures unfailing { IfErr result IsNoFailure }
+    ensures refused { IfErr result (λ e. side.now.id < next.old → term.0 < length bank.old.terms → (c : Closing) → IsOpenReading bank.old bindings.old next.old c →
+        (levels : ℕ → ℕ) → Within (Known levels next.old) 0 (under bank.old c term) → (n : ℕ) → IsNothing n e (prune n (side_of side.now) next.old (under bank.old c term))) }
 {
     let mut left = Vec::new(alloc);
     left.push(Visit {
