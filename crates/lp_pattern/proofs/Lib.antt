@@ -51,6 +51,7 @@ pub mod Converting
 pub mod BoundOnce
 pub mod Cleans
 pub mod Refits
+pub mod PairsGiven
 pub mod PairsThrough
 pub mod Passings
 pub mod PruneSteps

@@ -55,7 +55,7 @@ module _ (limit : ℕ) (o : Began) (n : ℕ) (u : Unified) (bound : Bool) (start
   pub turn_spent : (e : PatternRefusal) → (e ≡ refusal.Deep) × (units ≡ 0) → IsRefusedAs e n u
   turn_spent e h = none_left limit o n u (bound || k.0) b s next units q old waiting at_hand e h
 
-  pub turn_refused : (before : ℕ) (e : PatternRefusal) → units ≡ suc before → ((c : Closing) → IsReading b s c → IsShut c → (p : Pair) → IsPairFor b c q p → (m : ℕ) → IsRuledOut m e before (rule m next p)) → IsRefusedAs e n u
+  pub turn_refused : (before : ℕ) (e : PatternRefusal) → units ≡ suc before → ((c : Closing) → IsOpenReading b s next c → (lv : ℕ → ℕ) → (p : Pair) → IsPairFor b c q p → IsKnownPair lv next p → (m : ℕ) → IsRuledOut m e before (rule m next p)) → IsRefusedAs e n u
   turn_refused before e z h = refused_turn limit o n u (bound || k.0) b s next units q old waiting at_hand before e z h
 
 pub one_of : (a b : Bool) → (a ≡ true) ⊎ (b ≡ true) → (a || b) ≡ true

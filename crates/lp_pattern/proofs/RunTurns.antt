@@ -176,13 +176,13 @@ module _ (limit : ℕ) (o : Began) (n : ℕ) (u : Unified) (bound : Bool) (b : N
   none_left e h = transport (λ x. IsRefusedAs x n u) (sym h.0) (λ l. past (omega (arith, w.is.counted, h.1)))
 
   -- the pair is refused
-  pub refused_turn : (before : ℕ) (e : PatternRefusal) → units ≡ suc before → ((c : Closing) → IsReading b s c → IsShut c → (p : Pair) → IsPairFor b c q p → (m : ℕ) → IsRuledOut m e before (rule m next p)) → IsRefusedAs e n u
+  pub refused_turn : (before : ℕ) (e : PatternRefusal) → units ≡ suc before → ((c : Closing) → IsOpenReading b s next c → (lv : ℕ → ℕ) → (p : Pair) → IsPairFor b c q p → IsKnownPair lv next p → (m : ℕ) → IsRuledOut m e before (rule m next p)) → IsRefusedAs e n u
   refused_turn before refusal.Fails z h =
-      let x = h w.is.closing w.is.reading.reading w.is.reading.shut front.pair front.stands n verdict.ruled ruled_here in
+      let x = h w.is.closing w.is.reading w.is.levels front.pair front.stands front.known n verdict.ruled ruled_here in
       same_outcome (limited limit (suc w.state.units + verdict.ruled.units) Fail) u (ap (λ y. after verdict.turns n limit (judged w.state front.pair front.rest (suc w.state.units + verdict.ruled.units) y)) (sym x.0) ∙ verdict.behind) ∙
       limited_within limit (suc w.state.units + verdict.ruled.units) (omega (arith, w.is.counted, z, x.1))
   refused_turn before refusal.Deep z h = λ l.
-      let x = h w.is.closing w.is.reading.reading w.is.reading.shut front.pair front.stands n l verdict.ruled ruled_here in
+      let x = h w.is.closing w.is.reading w.is.levels front.pair front.stands front.known n l verdict.ruled ruled_here in
       past (omega (arith, w.is.counted, z, x))
   refused_turn before refusal.Memory z h = tt
 
