@@ -1,4 +1,3 @@
-use Rattle.std.proofs.Common.{arith}
 use Rattle.lp_pattern.specs.Reading.{side_of}
 use Rattle.lp_pattern.proofs.Results.{if_two}
 use Rattle.lp_pattern.proofs.Valued.{valued_pruned, valued_whole}
