@@ -56,7 +56,7 @@ head_known b s c r levels next x l i k w h =
     let z = (within_apply (Known levels next) (map (closed c) ts) (under b c r.top) (transport (Within (Known levels next) 0) e w) 0 [] tt).0 in
     transport (Within (Known levels next) 0) (top_variable b s c r x l i k h) z
 
-known_side : (b : Nodes) (s : Bindings) (c : Closing) (r : Looked) (levels : ℕ → ℕ) (next n : ℕ) (p : Pair) (t : scan.Side) → IsReading b s c → IsLooked b s r → Within (Known levels next) 0 (under b c r.whole) →
+pub known_side : (b : Nodes) (s : Bindings) (c : Closing) (r : Looked) (levels : ℕ → ℕ) (next n : ℕ) (p : Pair) (t : scan.Side) → IsReading b s c → IsLooked b s r → Within (Known levels next) 0 (under b c r.whole) →
     pattern_side n p (view b c r) ≡ Some (Some t) → IsKnownSide levels next t
 known_side b s c r levels next n p t i k w e = go r.head refl e
   where

@@ -1,5 +1,5 @@
 -- Which rule for a pair of terms that were looked at applies, and its units.
-use Rattle.std.proofs.Common.{◌≡◌, ℕ, zero, suc, ◌+◌, ◌<◌, ◌≤◌, ◌⊎◌, inl, inr, List, [], ◌∷◌, map, length, ◌∙◌, refl, sym, ap, subst as transport, arith, Bool, true, false, Option, Some, None, nat_eq}
+use Rattle.std.proofs.Common.{◌≡◌, ℕ, zero, suc, ◌+◌, ◌<◌, ◌≤◌, List, [], ◌∷◌, map, length, ◌∙◌, refl, sym, ap, subst as transport, arith, Bool, true, false, Option, Some, None, nat_eq}
 use Rattle.std.specs.Prelude.{option_map, option_and_then, ◌&&◌, All}
 use Rattle.std.proofs.lemmas.Bool.Decides.{nat_tests}
 use Rattle.std.proofs.lemmas.List.Elements.{All-head, All-tail}
@@ -26,8 +26,8 @@ use Rattle.lp_pattern.specs.declared.side.Side.{Side}
 use Rattle.lp_model.specs.declared.answer.Pair.{Pair as Numbers}
 use Rattle.lp_pattern.specs.Comparing.{IsComparedTo, IsPassed, pair_under}
 use Rattle.lp_pattern.specs.Reading.{side_of}
-use Rattle.lp_pattern.specs.Refusing.{IsOfTerm, IsNoFailure}
-use Rattle.lp_pattern.specs.Ruling.{view_of, view, is_one_variable, is_flexible, IsSideOf, IsNoSide, IsSeenPair, IsBinding, IsVerdict, IsJudged, IsRuledOut, IsDone, IsTaken}
+use Rattle.lp_pattern.specs.Refusing.{IsOfTerm}
+use Rattle.lp_pattern.specs.Ruling.{view_of, view, is_one_variable, is_flexible, IsSideOf, IsNoSide, IsSeenPair, IsVerdict, IsJudged, IsRuledOut, IsDone, IsTaken}
 use Rattle.lp_pattern.specs.Seen.{weak_step, IsHead, IsLooked, IsReachedWithin, seen}
 use Rattle.lp_pattern.specs.Stripping.{IsPattern, HasNoPattern, eigens_of, read_at}
 use Rattle.lp_pattern.specs.Under.{IsReading, under, below}
@@ -161,20 +161,14 @@ behind n next j s t w v r e h q =
     record { scanned = x.0; is = scan_reached n s false s.pair j t w e x.0 x.1; rest = x.2 }
 
 -- the verdict behind a scan, which has its units
-bound_units : (n next u : ℕ) (s : scan.Side) (t : Term) (ps : List _) (r : Ruled) → scanned_to n next s t (whole u false ps) ≡ Some r → (r.units ≡ u) × IsBinding r.verdict
+bound_units : (n next u : ℕ) (s : scan.Side) (t : Term) (ps : List _) (r : Ruled) → scanned_to n next s t (whole u false ps) ≡ Some r → (r.units ≡ u) × IsVerdict true r.verdict
 bound_units n next u s t ps r e =
     let x = from_bind (pruned_to n u s) (prune n s next t) r e in
     let y = from_map (λ t'. ruled u (binds (bound s x.0.bindings t') x.0.next)) (settle n s.pair x.0.term) r x.2 in
-    transport (λ z. (z.units ≡ u) × IsBinding z.verdict) (sym y.2) (refl, tt)
+    transport (λ z. (z.units ≡ u) × IsVerdict true z.verdict) (sym y.2) (refl, tt)
 
 pub some_same : (x r : Ruled) → Some x ≡ Some r → x ≡ r
 some_same x r e = cc
-
-binding_done : (v : Verdict) → IsBinding v → IsVerdict true v
-binding_done fails h = h
-binding_done (gives ts ps) h = absurd h
-binding_done (binds bs next) h = tt
-binding_done delays h = h
 
 pub on_delayed : (n next j u w : ℕ) (s : scan.Side) (t x : Term) (v : Look) (f : Noted) → steps weak_step j t ≡ Some x → has_head s v ≡ false → ((y : Scanned) → scan.scan n s false s.pair x ≡ Some y → IsScanned s u w f y) → f.is_delayed ≡ true →
     IsJudged false u w (solve_for n next s t v)
@@ -192,7 +186,7 @@ on_bound n next j u w s t x v f a h i d r e = let b = behind n next j s t x v r 
     go : (y : Scanned) → IsScanned s u w f y → scanned_to n next s t y ≡ Some r → (u ≡ r.units + w) × IsVerdict true r.verdict
     go (broken m) k q = absurd k
     go (whole m true ps) k q = absurd (let z : false ≡ true = sym d ∙ k.1 in cc)
-    go (whole m false ps) k q = let z = bound_units n next m s t ps r q in (transport (λ y. u ≡ y + w) (sym z.0) k.0, binding_done r.verdict z.1)
+    go (whole m false ps) k q = let z = bound_units n next m s t ps r q in (transport (λ y. u ≡ y + w) (sym z.0) k.0, z.1)
 
 -- a refusal of the scan
 pub scan_out : (n next j u : ℕ) (s : scan.Side) (t x : Term) (v : Look) (e : PatternRefusal) → steps weak_step j t ≡ Some x → has_head s v ≡ false → IsStopped n e u (scan.scan n s false s.pair x) → IsRuledOut n e u (solve_for n next s t v)
@@ -201,25 +195,13 @@ scan_out n next j u s t x v refusal.Fails a h k = λ r q. let b = behind n next 
     go : (r : Ruled) (y : Scanned) → visiting.Fails u y → scanned_to n next s t y ≡ Some r → (r.verdict ≡ fails) × (r.units ≤ u)
     go r (broken m) l q = transport (λ z. (z.verdict ≡ fails) × (z.units ≤ u)) (some_same (ruled m fails) r q) (refl, l)
     go r (whole m d ps) l q = absurd l
-scan_out n next j u s t x v Deep a h k = λ l r q. let b = behind n next j s t x v r a h q in inl (go r b.scanned (k l b.scanned b.is) b.rest)
+scan_out n next j u s t x v Deep a h k = λ l r q. let b = behind n next j s t x v r a h q in go r b.scanned (k l b.scanned b.is) b.rest
   where
     go : (r : Ruled) (y : Scanned) → Exceeds u y → scanned_to n next s t y ≡ Some r → u < r.units
     go r (broken m) l q = transport (λ z. u < z.units) (some_same (ruled m fails) r q) l
     go r (whole m true ps) l q = transport (λ z. u < z.units) (some_same (ruled m delays) r q) l
     go r (whole m false ps) l q = transport (λ z. u < z) (sym (bound_units n next m s t ps r q).0) l
 scan_out n next j u s t x v refusal.Memory a h k = tt
-
--- a refusal behind the scan
-pub value_out : (n next j u w : ℕ) (s : scan.Side) (t x : Term) (v : Look) (f : Noted) (e : PatternRefusal) → steps weak_step j t ≡ Some x → has_head s v ≡ false → ((y : Scanned) → scan.scan n s false s.pair x ≡ Some y → IsScanned s u w f y) →
-    f.is_delayed ≡ false → IsNoFailure e → IsRuledOut n e u (solve_for n next s t v)
-value_out n next j u w s t x v f refusal.Fails a h i d k = absurd k
-value_out n next j u w s t x v f Deep a h i d k = λ l r q. let b = behind n next j s t x v r a h q in inr (go r b.scanned (i b.scanned b.is) b.rest)
-  where
-    go : (r : Ruled) (y : Scanned) → IsScanned s u w f y → scanned_to n next s t y ≡ Some r → IsBinding r.verdict
-    go r (broken m) l q = absurd l
-    go r (whole m true ps) l q = absurd (let z : false ≡ true = sym d ∙ l.1 in cc)
-    go r (whole m false ps) l q = (bound_units n next m s t ps r q).1
-value_out n next j u w s t x v f refusal.Memory a h i d k = tt
 
 -- the side that is a pattern
 abbrev pub by_right : ℕ → (next : ℕ) → Pair → (v w : Look) → Option scan.Side → Option Ruled
@@ -325,16 +307,13 @@ module _ (n next : ℕ) (p : Pair) (x l : ℕ) (ts us : List Term) (e : length t
       let d = behind_compare r q in
       let k = h d.0 d.1 in
       let y = from_map (dear d.0.units) (by_rule_4 n next p x l ts us) r (or_at d.0 false r k.0 d.2) in
-      transport (λ o. (u < o.units) ⊎ IsBinding o.verdict) (sym y.2) (more d.0.units y.0 k.1 (j m y.0 y.1))
-    where
-      more : (k : ℕ) (o : Ruled) → u ≡ k + v → (v < o.units) ⊎ IsBinding o.verdict → (u < k + o.units) ⊎ IsBinding o.verdict
-      more k o a (inl b) = inl (omega (arith, a, b))
-      more k o a (inr b) = inr b
+      let z = j m y.0 y.1 in
+      transport (λ o. u < o.units) (sym y.2) (omega (arith, k.1, z))
   differ_out u v refusal.Memory h j = tt
 
   pub compare_out : (u : ℕ) (o : PatternRefusal) → ((m : ℕ) → m ≤ 1000000 → IsPassed o u (compare_all m p.level ts us)) → IsRuledOut n o u (by_looks n next p (flexible x l ts) (flexible x l us))
   compare_out u refusal.Fails h = absurd (h 0 (omega arith))
-  compare_out u Deep h = λ m r q. let d = behind_compare r q in inl (go d.0 r d.0.same refl (h n m d.0 d.1) d.2)
+  compare_out u Deep h = λ m r q. let d = behind_compare r q in go d.0 r d.0.same refl (h n m d.0 d.1) d.2
     where
       go : (d : Compared) (r : Ruled) (b : Bool) → b ≡ d.same → u < d.units → same_or n next p x l ts us d ≡ Some r → u < r.units
       go d r true i less q = transport (λ z. u < z.units) (some_same (ruled d.units (gives [] [])) r (or_at d true r i q)) less

@@ -40,6 +40,9 @@ pub mod Walking
 pub mod TypeTurns
 pub mod FilledTypes
 pub mod TypesSolved
+pub mod TypesBound
+pub mod TypesCounted
+pub mod TypesFirm
 pub mod FilledTerms
 pub mod ReadingsBehind
 pub mod Converting
@@ -49,3 +52,5 @@ pub mod Refits
 pub mod Passings
 pub mod PruneSteps
 pub mod PruneMoves
+pub mod GivenUp
+pub mod RuledOut

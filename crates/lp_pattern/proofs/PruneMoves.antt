@@ -54,12 +54,13 @@ outers_same b d c n (v ∷ vs) e a =
     λ i. outer (v.opened.level + v.opened.depth) (read_kept b d c v.opened.level v.opened.depth v.term e (All-head (IsVisitOf (length b.terms) n) v vs a).0 i) ∷
     outers_same b d c n vs e (All-tail (IsVisitOf (length b.terms) n) v vs a) i
 
-abbrev pub pruning_kept : (s : Side) (o : Start) (b d : Nodes) (bs : Bindings) (next : ℕ) (term : TermId) (left : List Visit) (r : Pruned) → Extends b d → IsPruning s o b bs next term left r → IsPruning s o d bs next term left r
-pruning_kept s o b d bs next term left r e h =
+abbrev pub pruning_kept : (s : Side) (o : Start) (most : ℕ) (b d : Nodes) (bs : Bindings) (next : ℕ) (term : TermId) (left : List Visit) (r : Pruned) → Extends b d → IsPruning s o most b bs next term left r → IsPruning s o most d bs next term left r
+pruning_kept s o most b d bs next term left r e h =
     let u = under_kept b d h.closing term e h.whole in record {
       closing = h.closing;
       levels = h.levels;
       turns = h.turns;
+      few = h.few;
       reading = reading_kept b d bs h.closing e h.reading;
       shut = h.shut;
       still = h.still;
@@ -79,12 +80,13 @@ pruning_kept s o b d bs next term left r e h =
     }
 
 -- another list of what is left
-abbrev moved : (s : Side) (o : Start) (b : Nodes) (bs : Bindings) (next : ℕ) (term : TermId) (left left' : List Visit) (r : Pruned) → (h : IsPruning s o b bs next term left r) → All (IsVisitOf (length b.terms) s.pair) left' →
-    Passed s (outer s.pair (under b h.closing term) ∷ []) (outers_of b h.closing left') → IsPruning s o b bs next term left' r
-moved s o b bs next term left left' r h a p = record {
+abbrev moved : (s : Side) (o : Start) (most : ℕ) (b : Nodes) (bs : Bindings) (next : ℕ) (term : TermId) (left left' : List Visit) (r : Pruned) → (h : IsPruning s o most b bs next term left r) → All (IsVisitOf (length b.terms) s.pair) left' →
+    Passed s (outer s.pair (under b h.closing term) ∷ []) (outers_of b h.closing left') → IsPruning s o most b bs next term left' r
+moved s o most b bs next term left left' r h a p = record {
   closing = h.closing;
   levels = h.levels;
   turns = h.turns;
+  few = h.few;
   reading = h.reading;
   shut = h.shut;
   still = h.still;
@@ -102,20 +104,20 @@ moved s o b bs next term left left' r h a p = record {
   behind = h.behind;
 }
 
-front_passed : (s : Side) (o : Start) (b : Nodes) (bs : Bindings) (next : ℕ) (term : TermId) (left : List Visit) (v : Visit) (r : Pruned) → (h : IsPruning s o b bs next term (left ++ v ∷ []) r) →
+front_passed : (s : Side) (o : Start) (most : ℕ) (b : Nodes) (bs : Bindings) (next : ℕ) (term : TermId) (left : List Visit) (v : Visit) (r : Pruned) → (h : IsPruning s o most b bs next term (left ++ v ∷ []) r) →
     Passed s (outer s.pair (under b h.closing term) ∷ []) (outer_of b h.closing v ∷ outers_of b h.closing left)
-front_passed s o b bs next term left v r h = transport (Passed s (outer s.pair (under b h.closing term) ∷ [])) (last_left b h.closing left v) h.passed
+front_passed s o most b bs next term left v r h = transport (Passed s (outer s.pair (under b h.closing term) ∷ [])) (last_left b h.closing left v) h.passed
 
 -- a look
 pub look_prunes : (s : Side) (b d : Nodes) (bs : Bindings) (next limit : ℕ) (left : List Visit) (v : Visit) (q : Looked) → Extends b d → IsLooked d bs q → ((c : Closing) → IsReading b bs c → IsReachedWithin limit (under b c v.term) (under d c q.whole)) →
     Prunes s b d bs bs next next (left ++ v ∷ []) (left ++ visit_at v q.whole ∷ [])
-look_prunes s b d bs next limit left v q e k x l o term r h =
-    let g = pruning_kept s o b d bs next term (left ++ v ∷ []) r e h in
+look_prunes s b d bs next limit left v q e k x l o most term r h =
+    let g = pruning_kept s o most b d bs next term (left ++ v ∷ []) r e h in
     let a = popped_known (IsVisitOf (length b.terms) s.pair) (left ++ v ∷ []) left v refl h.inside in
     let w = x h.closing h.reading in
-    moved s o d bs next term (left ++ v ∷ []) (left ++ visit_at v q.whole ∷ []) r g
+    moved s o most d bs next term (left ++ v ∷ []) (left ++ visit_at v q.whole ∷ []) r g
     (All-push (IsVisitOf (length d.terms) s.pair) left (visit_at v q.whole) (visits_kept b d s.pair left e a.0) (k.known, a.1.1))
-    (pass_steps (v.opened.level + v.opened.depth) w.0 (read_at d h.closing v.opened.level v.opened.depth v.term) (read_at d h.closing v.opened.level v.opened.depth q.whole) (outers_of d h.closing left) (front_passed s o d bs next term left v r g)
+    (pass_steps (v.opened.level + v.opened.depth) w.0 (read_at d h.closing v.opened.level v.opened.depth v.term) (read_at d h.closing v.opened.level v.opened.depth q.whole) (outers_of d h.closing left) (front_passed s o most d bs next term left v r g)
     (ap (steps weak_step w.0) (read_kept b d h.closing v.opened.level v.opened.depth v.term e a.1.0) ∙ read_reached b d h.closing v.opened.level v.opened.depth w.0 v.term q.whole w.2) (last_left d h.closing left (visit_at v q.whole)))
 
 -- an abstraction
@@ -124,16 +126,16 @@ abstraction_read b s c l k r body h i q = ap (subst (opens l k)) (abstraction_wh
 
 pub body_prunes : (s : Side) (b : Nodes) (bs : Bindings) (next : ℕ) (left left' : List Visit) (v inner : Visit) (q : Looked) (body : TermId) → IsLooked b bs q → q.head ≡ Head.Abstraction body → inner.term ≡ body → inner.opened.level ≡ v.opened.level →
     inner.opened.depth ≡ suc v.opened.depth → left' ≡ left ++ inner ∷ [] → Prunes s b b bs bs next next (left ++ visit_at v q.whole ∷ []) left'
-body_prunes s b bs next left left' v inner q body k g e x y z l o term r h =
+body_prunes s b bs next left left' v inner q body k g e x y z l o most term r h =
     let a = popped_known (IsVisitOf (length b.terms) s.pair) (left ++ visit_at v q.whole ∷ []) left (visit_at v q.whole) refl h.inside in
     let n : IsHead b bs (Head.Abstraction body) (tree b q.top.0) q.arguments.items = transport (λ y. IsHead b bs y (tree b q.top.0) q.arguments.items) g k.head in
     let last_is : inner.opened.level + inner.opened.depth ≡ suc (v.opened.level + v.opened.depth) = omega (arith, x, y) in
     let term_is : read_at b h.closing inner.opened.level inner.opened.depth inner.term ≡ substitute (atom (eigen (suc (v.opened.level + v.opened.depth)))) (subst (up (opens v.opened.level v.opened.depth)) (under b h.closing body)) =
     (λ j. read_at b h.closing (x j) (y j) (e j)) ∙ sym (opened_once v.opened.level v.opened.depth (v.opened.level + v.opened.depth) (under b h.closing body) refl) in
-    moved s o b bs next term (left ++ visit_at v q.whole ∷ []) left' r h
+    moved s o most b bs next term (left ++ visit_at v q.whole ∷ []) left' r h
     (transport (All (IsVisitOf (length b.terms) s.pair)) (sym z) (All-push (IsVisitOf (length b.terms) s.pair) left inner a.0 (transport (λ t. t.0 < length b.terms) (sym e) n.1, x ∙ a.1.1)))
     (pass_abs (v.opened.level + v.opened.depth) 0 (read_at b h.closing v.opened.level v.opened.depth q.whole) (subst (up (opens v.opened.level v.opened.depth)) (under b h.closing body)) (outers_of b h.closing left)
-    (front_passed s o b bs next term left (visit_at v q.whole) r h)
+    (front_passed s o most b bs next term left (visit_at v q.whole) r h)
     (ap (λ t. Some t) (abstraction_read b bs h.closing v.opened.level v.opened.depth q body h.shut k g))
     (ap (outers_of b h.closing) z ∙ last_left b h.closing left inner ∙ (λ j. outer (last_is j) (term_is j) ∷ outers_of b h.closing left)))
 
@@ -165,12 +167,12 @@ outers_pushed b c v ids left left' q =
 
 pub rigid_prunes : (s : Side) (b : Nodes) (bs : Bindings) (next : ℕ) (left left' : List Visit) (v : Visit) (q : Looked) → IsLooked b bs q → q.head ≡ Head.Rigid → left' ≡ left ++ reverse (visits v false q.arguments.items) →
     Prunes s b b bs bs next next (left ++ visit_at v q.whole ∷ []) left'
-rigid_prunes s b bs next left left' v q k g z l o term r h =
+rigid_prunes s b bs next left left' v q k g z l o most term r h =
     let a = popped_known (IsVisitOf (length b.terms) s.pair) (left ++ visit_at v q.whole ∷ []) left (visit_at v q.whole) refl h.inside in
     let i : IsRigid (tree b q.top.0) = transport (λ y. IsHead b bs y (tree b q.top.0) q.arguments.items) g k.head in
-    moved s o b bs next term (left ++ visit_at v q.whole ∷ []) left' r h (pushed_known (length b.terms) s.pair v false q.arguments.items left left' a.1.1 k.arguments a.0 z)
+    moved s o most b bs next term (left ++ visit_at v q.whole ∷ []) left' r h (pushed_known (length b.terms) s.pair v false q.arguments.items left left' a.1.1 k.arguments a.0 z)
     (pass_rigid (v.opened.level + v.opened.depth) 0 (read_at b h.closing v.opened.level v.opened.depth q.whole) (read_at b h.closing v.opened.level v.opened.depth q.top)
-    (map (read_at b h.closing v.opened.level v.opened.depth) q.arguments.items) (outers_of b h.closing left) (front_passed s o b bs next term left (visit_at v q.whole) r h)
+    (map (read_at b h.closing v.opened.level v.opened.depth) q.arguments.items) (outers_of b h.closing left) (front_passed s o most b bs next term left (visit_at v q.whole) r h)
     (ap (λ t. Some t) (read_whole b bs h.closing v.opened.level v.opened.depth q k)) (rigid_read h.closing v.opened.level v.opened.depth (tree b q.top.0) i) (outers_pushed b h.closing v q.arguments.items left left' z))
 
 -- one binding more
@@ -188,8 +190,8 @@ at_hand m s next k T t qs r e p =
 fit_one : (s : Side) (p : Pattern) → fits s p ≡ true → (fits s p && true) ≡ true
 fit_one s p e = ap (λ b. b && true) e
 
-module _ (s : Side) (o : Start) (b : Nodes) (bs : Bindings) (next x l : ℕ) (left : List Visit) (v : Visit) (q : Looked) (looked : IsLooked b bs q) (head : q.head ≡ Head.Variable x l) (term : TermId) (r : Pruned)
-    (h : IsPruning s o b bs next term (left ++ visit_at v q.whole ∷ []) r) where
+module _ (s : Side) (o : Start) (most : ℕ) (b : Nodes) (bs : Bindings) (next x l : ℕ) (left : List Visit) (v : Visit) (q : Looked) (looked : IsLooked b bs q) (head : q.head ≡ Head.Variable x l) (term : TermId) (r : Pruned)
+    (h : IsPruning s o most b bs next term (left ++ visit_at v q.whole ∷ []) r) where
   abbrev level : ℕ
   level = v.opened.level + v.opened.depth
 
@@ -206,7 +208,7 @@ module _ (s : Side) (o : Start) (b : Nodes) (bs : Bindings) (next x l : ℕ) (le
   known_left = popped_known (IsVisitOf (length b.terms) s.pair) (left ++ visit_at v q.whole ∷ []) left (visit_at v q.whole) refl h.inside
 
   here : Passed s (outer s.pair whole_term ∷ []) (outer level part ∷ outers_of b h.closing left)
-  here = front_passed s o b bs next term left (visit_at v q.whole) r h
+  here = front_passed s o most b bs next term left (visit_at v q.whole) r h
 
   sees : SeenAt part (flexible x l arguments)
   sees = variable_at b bs h.closing v.opened.level v.opened.depth q x l h.reading looked head
@@ -214,23 +216,23 @@ module _ (s : Side) (o : Start) (b : Nodes) (bs : Bindings) (next x l : ℕ) (le
   high : s.pair ≤ level
   high = let z = known_left.1.1 in omega (arith, z)
 
-  left_out : IsClean s 0 part → IsPruning s o b bs next term left r
-  left_out c = moved s o b bs next term (left ++ visit_at v q.whole ∷ []) left r h known_left.0 (pass_clean level part here high c)
+  left_out : IsClean s 0 part → IsPruning s o most b bs next term left r
+  left_out c = moved s o most b bs next term (left ++ visit_at v q.whole ∷ []) left r h known_left.0 (pass_clean level part here high c)
 
-  pub fit_there : (ks : List ℕ) → ((m : ℕ) (o : Option (List ℕ)) → pattern_of m l arguments ≡ Some o → o ≡ Some ks) → fits s (pattern x l ks) ≡ true → IsPruning s o b bs next term left r
+  pub fit_there : (ks : List ℕ) → ((m : ℕ) (o : Option (List ℕ)) → pattern_of m l arguments ≡ Some o → o ≡ Some ks) → fits s (pattern x l ks) ≡ true → IsPruning s o most b bs next term left r
   fit_there ks p f = go h.turns h.rest
     where
-      go : (n : ℕ) → prune n s next whole_term ≡ Some h.now → IsPruning s o b bs next term left r
+      go : (n : ℕ) → prune n s next whole_term ≡ Some h.now → IsPruning s o most b bs next term left r
       go zero e = absurd (cc)
       go (suc m) e =
           let z = at_hand m s next level whole_term part (outers_of b h.closing left) h.now e here in
           let own = own_pattern m m s level 0 x l z.1.units part part arguments ks z.1.own refl sees (p m) z.1.is in
           left_out (scanned_clean m m s false level part z.1.units z.1.own (any_part h.levels next s whole_term level part (outers_of b h.closing left) here h.known) z.1.is (ap (all_fit s) own ∙ fit_one s (pattern x l ks) f))
 
-  pub open_there : ((m : ℕ) (o : Option (List ℕ)) → pattern_of m l arguments ≡ Some o → o ≡ None) → IsPruning s o b bs next term left r
+  pub open_there : ((m : ℕ) (o : Option (List ℕ)) → pattern_of m l arguments ≡ Some o → o ≡ None) → IsPruning s o most b bs next term left r
   open_there p = go h.turns h.rest
     where
-      go : (n : ℕ) → prune n s next whole_term ≡ Some h.now → IsPruning s o b bs next term left r
+      go : (n : ℕ) → prune n s next whole_term ≡ Some h.now → IsPruning s o most b bs next term left r
       go zero e = absurd (cc)
       go (suc m) e =
           let z = at_hand m s next level whole_term part (outers_of b h.closing left) h.now e here in
@@ -284,16 +286,17 @@ module _ (s : Side) (o : Start) (b : Nodes) (bs : Bindings) (next x l : ℕ) (le
         (All-weaker (IsVisitOf (length b.terms) s.pair) (λ a. a.term.0 < length b.terms) (λ a p. p.0) (left ++ visit_at v q.whole ∷ []) h.inside)))
         (passed_put s x new_value (renewal_stands s next (pattern x l ks) no_side) h.passed))
 
-    pub renew_there : ((m : ℕ) (o : Option (List ℕ)) → pattern_of m l arguments ≡ Some o → o ≡ Some ks) → fits s (pattern x l ks) ≡ false → IsPruning s o d bs' (suc next) term left' r
-    renew_there p f = go h.turns h.rest
+    pub renew_there : ((m : ℕ) (o : Option (List ℕ)) → pattern_of m l arguments ≡ Some o → o ≡ Some ks) → fits s (pattern x l ks) ≡ false → IsPruning s o most d bs' (suc next) term left' r
+    renew_there p f = go h.turns refl h.rest
       where
-        go : (n : ℕ) → prune n s next whole_term ≡ Some h.now → IsPruning s o d bs' (suc next) term left' r
-        go zero e = absurd (cc)
-        go (suc m) e =
+        go : (n : ℕ) → n ≡ h.turns → prune n s next whole_term ≡ Some h.now → IsPruning s o most d bs' (suc next) term left' r
+        go zero i e = absurd (cc)
+        go (suc m) i e =
             let w = renewed_there m s next level 0 x l whole_term part part arguments ks (outers_of b h.closing left) h.now e here refl sees (p m) f in record {
               closing = new_closing;
               levels = levels_with h.levels next (min s.level l);
               turns = m;
+              few = omega (arith, i, h.few);
               reading = read_there.reading;
               shut = read_there.shut;
               still = read_there.still;
@@ -318,33 +321,34 @@ module _ (s : Side) (o : Start) (b : Nodes) (bs : Bindings) (next x l : ℕ) (le
 pub fit_prunes : (s : Side) (b d : Nodes) (bs : Bindings) (next x l : ℕ) (left : List Visit) (v : Visit) (q : Looked) (a : Arguments) → Extends b d → IsLooked b bs q → q.head ≡ Head.Variable x l →
     ((c : Closing) → IsReading b bs c → IsShut c → (m : ℕ) → IsPattern m l (map (read_at b c v.opened.level v.opened.depth) q.arguments.items) (Some a)) → fits s (pattern x l a.eigens.items) ≡ true →
     Prunes s b d bs bs next next (left ++ visit_at v q.whole ∷ []) left
-fit_prunes s b d bs next x l left v q a e k g p f i o term r h =
-    pruning_kept s o b d bs next term left r e (fit_there s o b bs next x l left v q k g term r h a.eigens.items (λ m. p h.closing h.reading h.shut m) f)
+fit_prunes s b d bs next x l left v q a e k g p f i o most term r h =
+    pruning_kept s o most b d bs next term left r e (fit_there s o most b bs next x l left v q k g term r h a.eigens.items (λ m. p h.closing h.reading h.shut m) f)
 
 pub open_prunes : (s : Side) (b d : Nodes) (bs : Bindings) (next x l : ℕ) (left : List Visit) (v : Visit) (q : Looked) → Extends b d → IsLooked b bs q → q.head ≡ Head.Variable x l →
     ((c : Closing) → IsReading b bs c → IsShut c → (m : ℕ) → IsPattern m l (map (read_at b c v.opened.level v.opened.depth) q.arguments.items) None) → Prunes s b d bs bs next next (left ++ visit_at v q.whole ∷ []) left
-open_prunes s b d bs next x l left v q e k g p i o term r h =
-    pruning_kept s o b d bs next term left r e (open_there s o b bs next x l left v q k g term r h (λ m. p h.closing h.reading h.shut m))
+open_prunes s b d bs next x l left v q e k g p i o most term r h =
+    pruning_kept s o most b d bs next term left r e (open_there s o most b bs next x l left v q k g term r h (λ m. p h.closing h.reading h.shut m))
 
 pub renew_prunes : (s : Side) (b d : Nodes) (bs bs' : Bindings) (next next' x l : ℕ) (left left' : List Visit) (v : Visit) (q : Looked) (a : Arguments) → Extends b d → IsLooked b bs q → q.head ≡ Head.Variable x l →
     ((c : Closing) → IsReading b bs c → IsShut c → (m : ℕ) → IsPattern m l (map (read_at b c v.opened.level v.opened.depth) q.arguments.items) (Some a)) → fits s (pattern x l a.eigens.items) ≡ false → next' ≡ suc next →
     Binds d bs bs' x (renewal s next (pattern x l a.eigens.items)).value → bs'.types ≡ bs.types → left' ≡ left ++ visit_at v q.whole ∷ [] → Prunes s b d bs bs' next next' (left ++ visit_at v q.whole ∷ []) left'
-renew_prunes s b d bs bs' next next' x l left left' v q a e k g p f n w t z i o term r h =
-    transport (λ j. IsPruning s o d bs' j term left' r) (sym n)
-    (renew_there s o b bs next x l left v q k g term r h d bs' left' a.eigens.items e i w t z (λ m. p h.closing h.reading h.shut m) f)
+renew_prunes s b d bs bs' next next' x l left left' v q a e k g p f n w t z i o most term r h =
+    transport (λ j. IsPruning s o most d bs' j term left' r) (sym n)
+    (renew_there s o most b bs next x l left v q k g term r h d bs' left' a.eigens.items e i w t z (λ m. p h.closing h.reading h.shut m) f)
 
 pub prunes_then : (s : Side) (b d f : Nodes) (bs bs' bs'' : Bindings) (next next' next'' : ℕ) (left left' left'' : List Visit) → next ≤ next' → Prunes s b d bs bs' next next' left left' → Prunes s d f bs' bs'' next' next'' left' left'' →
     Prunes s b f bs bs'' next next'' left left''
-prunes_then s b d f bs bs' bs'' next next' next'' left left' left'' l g k i o term r h = k (omega (arith, i, l)) o term r (g i o term r h)
+prunes_then s b d f bs bs' bs'' next next' next'' left left' left'' l g k i o most term r h = k (omega (arith, i, l)) o most term r (g i o most term r h)
 
 -- the start
 pub pruning_starts : (s : Side) (b : Nodes) (bs : Bindings) (next : ℕ) (term : TermId) (left : List Visit) (v : Visit) (c : Closing) (levels : ℕ → ℕ) (n : ℕ) (r : Pruned) → left ≡ v ∷ [] → v.term ≡ term → v.opened.level ≡ s.pair → v.opened.depth ≡ 0 →
     term.0 < length b.terms → IsOpenReading b bs next c → Within (Known levels next) 0 (under b c term) → prune n s next (under b c term) ≡ Some r →
-    IsPruning s (record { closing = c; levels = levels; next = next; bindings = bs }) b bs next term left r
+    IsPruning s (record { closing = c; levels = levels; next = next; bindings = bs }) n b bs next term left r
 pruning_starts s b bs next term left v c levels n r z t x y i h w e = record {
   closing = c;
   levels = levels;
   turns = n;
+  few = omega arith;
   reading = h.reading;
   shut = h.shut;
   still = h.still;

@@ -198,8 +198,8 @@ found_left (suc m) s T u ps qs e p =
     record { units = f.units; patterns = f.patterns; is = f.is; same = ap (first_misfit s) (sym (append-nil ps)) ∙ f.same }
 
 -- nothing is left
-pub pruned_there : (s : Side) (o : Start) (b : Nodes) (bs : Bindings) (next : ℕ) (term : TermId) (left : List Visit) (r : Pruned) → left ≡ [] → IsPruning s o b bs next term left r → IsPruned o b bs next term r
-pruned_there s o b bs next term left r e h = go h.turns h.rest
+pub pruned_there : (s : Side) (o : Start) (most : ℕ) (b : Nodes) (bs : Bindings) (next : ℕ) (term : TermId) (left : List Visit) (r : Pruned) → left ≡ [] → IsPruning s o most b bs next term left r → IsPruned o b bs next term r
+pruned_there s o most b bs next term left r e h = go h.turns h.rest
   where
     go : (n : ℕ) → prune n s next (under b h.closing term) ≡ Some h.now → IsPruned o b bs next term r
     go zero q = absurd (cc)

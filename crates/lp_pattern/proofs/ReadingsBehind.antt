@@ -13,13 +13,16 @@ use Rattle.lp_calculus.proofs.Fills.{fill-fill, fill_same}
 use Rattle.lp_calculus.proofs.TypeLaws.{instance-instance}
 use Rattle.lp_term.specs.Nodes.{Nodes, Extends, tree}
 use Rattle.lp_term.specs.declared.node.TermId.{TermId}
-use Rattle.lp_model.specs.Types.{TypeBinding, one_type, put_type, put_types, TypeOutcome}
+use Rattle.lp_term.specs.declared.node.TypeId.{TypeId}
+use Rattle.lp_model.specs.Types.{TypeBinding, one_type, put_type, put_types, TypeOutcome, solve_types}
 use Rattle.lp_model.specs.Pair.{Closing, closed, put_type_in, put_types_in}
 use Rattle.lp_pattern.specs.declared.bindings.Bindings.{Bindings}
 use Rattle.lp_pattern.specs.Behind.{with_types, at_number, with_value, HasLevel, IsReadBehind}
 use Rattle.lp_pattern.specs.Filling.{AreSolved}
 use Rattle.lp_pattern.specs.Stripping.{IsShut}
 use Rattle.lp_pattern.specs.Under.{ValueIs, TypeIs, AreTypes, IsReading}
+use Rattle.lp_pattern.specs.Reading.{type_pairs_of}
+use Rattle.lp_pattern.proofs.TypesFirm.{firm_behind}
 use Rattle.lp_pattern.proofs.TypesSolved.{lookup_past, lookup_at}
 use Rattle.lp_pattern.proofs.Walking.{types_kept}
 
@@ -88,8 +91,9 @@ pub reading_typed : (b d : Nodes) (s s' : Bindings) (c : Closing) (bs : List Typ
 reading_typed b d s s' c bs e q a h = record { terms = λ x. value_typed b d c bs x (get nat_eq s'.terms x) e (transport (λ m. ValueIs b c x (get nat_eq m x)) (sym q) (h.terms x)); types = a }
 
 -- behind type equations that were solved
-pub read_behind : (b d : Nodes) (s s' : Bindings) (c : Closing) (old new : ℕ) (r : TypeOutcome) → Extends b d → s'.terms ≡ s.terms → IsReading b s c → IsShut c → AreSolved d s' c.types old new r → IsReadBehind d s' c r
-read_behind b d s s' c old new r e q h k w = record {
+pub read_behind : (b d : Nodes) (s s' : Bindings) (c : Closing) (old new n : ℕ) (ps : List (TypeId × TypeId)) (r : TypeOutcome) → Extends b d → s'.terms ≡ s.terms → IsReading b s c → IsShut c →
+    solve_types n (type_pairs_of b c.types ps) [] 0 ≡ Some r → AreSolved s d s' c.types old new r → IsReadBehind s d s' c r
+read_behind b d s s' c old new n ps r e q h k x w = record {
   bindings = w.bindings;
   used = w.used;
   is = w.is;
@@ -97,6 +101,8 @@ read_behind b d s s' c old new r e q h k w = record {
   shut = shut_typed w.bindings c k;
   still = w.still;
   terms = closed_typed w.bindings c;
+  firm = λ us firm t. ap (put_types_in (us ++ w.bindings)) (closed_typed w.bindings c t) ∙ firm_behind us c firm b ps n w.bindings w.used (x ∙ ap Some w.is) t ∙ sym (closed_typed w.bindings c t);
+  count = w.count;
 }
 
 -- a term put in

@@ -1,5 +1,5 @@
 -- Pairs without a variable as a head: the rule that applies, and its units.
-use Rattle.std.proofs.Common.{◌≡◌, ℕ, suc, ◌+◌, ◌<◌, ◌≤◌, inl, List, [], ◌∷◌, map, length, ◌∙◌, refl, sym, ap, subst as transport, arith, Bool, true, false, Option, Some, None, nat_eq}
+use Rattle.std.proofs.Common.{◌≡◌, ℕ, suc, ◌+◌, ◌<◌, ◌≤◌, List, [], ◌∷◌, map, length, ◌∙◌, refl, sym, ap, subst as transport, arith, Bool, true, false, Option, Some, None, nat_eq}
 use Rattle.std.specs.Prelude.{option_map, ◌&&◌}
 use Rattle.std.proofs.lemmas.Bool.{eq-eqb, ne_eqb}
 use Rattle.lp_calculus.specs.Term.{Term}
@@ -60,9 +60,9 @@ module _ (b : Nodes) (c : Closing) (t u : Term) (h : Bool) (ts us : List Term) (
       go (none w) y = absurd y
       go (solved made w) y = (y, tt)
 
-  pub decompose_gives : (d : Nodes) (s' : Bindings) → ((o : TypeOutcome) → solve_types n (type_pairs_of b c.types ps) [] 0 ≡ Some o → IsReadBehind d s' c o) → (r : Ruled) → decompose n level (closed c t) ts (closed c u) us ≡ Some r →
-      IsGiven d s' c level ts us r.verdict
-  decompose_gives d s' g r x =
+  pub decompose_gives : (s : Bindings) (d : Nodes) (s' : Bindings) → ((o : TypeOutcome) → solve_types n (type_pairs_of b c.types ps) [] 0 ≡ Some o → IsReadBehind s d s' c o) → (r : Ruled) → decompose n level (closed c t) ts (closed c u) us ≡ Some r →
+      IsGiven s d s' c level ts us r.verdict
+  decompose_gives s d s' g r x =
       let w = solving r x in
       let k = g w.0 w.1 in record {
         bindings = k.bindings;
@@ -71,6 +71,8 @@ module _ (b : Nodes) (c : Closing) (t u : Term) (h : Bool) (ts us : List Term) (
         shut = k.shut;
         still = k.still;
         terms = k.terms;
+        firm = k.firm;
+        count = k.count;
       }
 
   pub decompose_out : (y : PatternRefusal) → ((o : TypeOutcome) → solve_types n (type_pairs_of b c.types ps) [] 0 ≡ Some o → IsUnsolvedIn y limit o) → IsRuledOut n y limit (decompose n level (closed c t) ts (closed c u) us)
@@ -79,7 +81,7 @@ module _ (b : Nodes) (c : Closing) (t u : Term) (h : Bool) (ts us : List Term) (
       go : (o : TypeOutcome) → IsUnsolvedIn refusal.Fails limit o → ((with_types level ts us o).verdict ≡ fails) × ((with_types level ts us o).units ≤ limit)
       go (none w) y = (refl, y)
       go (solved made w) y = absurd y
-  decompose_out Deep g = λ l r x. let w = solving r x in inl (transport (λ z. limit < z.units) (sym w.2) (go w.0 (g w.0 w.1)))
+  decompose_out Deep g = λ l r x. let w = solving r x in transport (λ z. limit < z.units) (sym w.2) (go w.0 (g w.0 w.1))
     where
       go : (o : TypeOutcome) → IsUnsolvedIn Deep limit o → limit < (with_types level ts us o).units
       go (none w) y = y

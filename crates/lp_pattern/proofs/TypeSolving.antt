@@ -24,12 +24,12 @@ equations_put b [] = refl
 equations_put b (p ∷ ps) = ap (λ es. equation (instance (one b.id b.value) p.left) (instance (one b.id b.value) p.right) ∷ es) (equations_put b ps)
 
 -- the definition, behind the verdict on its first pair
-abbrev behind : ℕ → List TypePair → List TypeBinding → ℕ → TypeVerdict → Option TypeOutcome
+abbrev pub behind : ℕ → List TypePair → List TypeBinding → ℕ → TypeVerdict → Option TypeOutcome
 behind n ps made u differ = Some (none u)
 behind n ps made u (model.parts qs) = solve_types n (qs ++ ps) made u
 behind n ps made u (bound b) = solve_types n (map (put_in_pair b) ps) (made ++ b ∷ []) u
 
-definition_turn : (n : ℕ) (p : TypePair) (ps : List TypePair) (made : List TypeBinding) (u : ℕ) →
+pub definition_turn : (n : ℕ) (p : TypePair) (ps : List TypePair) (made : List TypeBinding) (u : ℕ) →
     solve_types (suc n) (p ∷ ps) made u ≡ behind n ps made (suc u + (type_rule p.left p.right).units) (type_rule p.left p.right).verdict
 definition_turn n p ps made u = go (type_rule p.left p.right).verdict
   where

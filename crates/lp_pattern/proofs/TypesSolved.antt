@@ -1,7 +1,9 @@
 -- Type equations under bindings: what the code solves with the bindings put in, and adds to them, is what the definition solves.
 use Rattle.std.proofs.Common.{◌≡◌, ℕ, zero, suc, ◌+◌, ◌<◌, ◌≤◌, List, [], ◌∷◌, ◌++◌, map, reverse, length, Option, Some, None, refl, sym, ap, subst as transport, ◌∙◌, arith, nat_eq, if◌then◌else◌, Bool, true, false, take, slice_get}
 use Rattle.std.proofs.lemmas.List.{append_assoc, map-append, reverse-reverse}
-use Rattle.std.specs.Map.{lookup}
+use Rattle.std.specs.List.{IsDistinct, AllByRecursion}
+use Rattle.std.specs.Map.{lookup, keys_of}
+use Rattle.std.proofs.lemmas.Cmp.{nat_eq_equiv}
 use Rattle.lp_calculus.specs.Types.{Ty, var, instance}
 use Rattle.lp_calculus.proofs.TypeLaws.{instance-instance}
 use Rattle.lp_types.specs.Equations.{Equation, equation, AllHold, IsMostGeneralFrom}
@@ -25,6 +27,8 @@ use Rattle.lp_pattern.specs.Reading.{type_pairs_of}
 use Rattle.lp_pattern.specs.Filling.{equations, AreFilled, AreKnown, IsStill, AreSolved, IsSolvedIn, IsUnsolvedIn, units_in, held, equation_under, AreIn}
 use Rattle.lp_pattern.specs.declared.fill_types.TypesFilled.{TypesFilled}
 use Rattle.lp_pattern.proofs.FilledTypes.{types_later}
+use Rattle.lp_pattern.proofs.TypesBound.{solved_good}
+use Rattle.lp_pattern.proofs.TypesCounted.{as_many}
 use Rattle.lp_pattern.proofs.Walking.{map-reverse}
 use Rattle.lp_pattern.proofs.TypeSolving.{solved_same, fails_same, spent_same}
 
@@ -129,6 +133,38 @@ one_taken n all old now new x e f g =
     let m : suc n ≡ n + 1 = omega arith in
     f ∙ ap (λ l. l ++ x ∷ []) e ∙ append_assoc old (take n all) (x ∷ []) ∙ ap (λ l. old ++ l) (sym (take_snoc n all x g) ∙ ap (λ k. take k all) m)
 
+distinct_snoc : (xs : List ℕ) (x : ℕ) → IsDistinct nat_eq xs → AllByRecursion (λ y. nat_eq x y ≡ false) xs → IsDistinct nat_eq (xs ++ x ∷ [])
+unfolding IsDistinct
+distinct_snoc [] x d a = (tt, tt)
+distinct_snoc (y ∷ ys) x d a = (snoc ys d.0, distinct_snoc ys x d.1 a.1)
+  where
+    snoc : (zs : List ℕ) → AllByRecursion (λ z. nat_eq y z ≡ false) zs → AllByRecursion (λ z. nat_eq y z ≡ false) (zs ++ x ∷ [])
+    snoc [] k = (nat_eq_equiv.symm y x ∙ a.0, tt)
+    snoc (z ∷ zs) k = (k.0, snoc zs k.1)
+
+not_passed : {A : Type 0} (s : Bool) (v : A) (o : Option A) → (if s then Some v else o) ≡ None → (s ≡ false) × (o ≡ None)
+not_passed true v o e = absurd (cc)
+not_passed false v o e = (refl, e)
+
+other_keys : (x : ℕ) (old es : List (ℕ × TypeId)) → lookup (nat_eq x) (old ++ es) ≡ None → AllByRecursion (λ y. nat_eq x y ≡ false) (keys_of es)
+other_keys x [] [] e = tt
+other_keys x [] (y ∷ ys) e = let w = not_passed (nat_eq x y.0) y.1 (lookup (nat_eq x) ys) e in (w.0, other_keys x [] ys w.1)
+other_keys x (o ∷ old) es e = other_keys x old es (not_passed (nat_eq x o.0) o.1 (lookup (nat_eq x) (old ++ es)) e).1
+
+pub none_distinct : IsDistinct nat_eq []
+unfolding IsDistinct
+none_distinct = tt
+
+pub keys_distinct : (n : ℕ) (all old now : List (ℕ × TypeId)) (x : ℕ × TypeId) → now ≡ old ++ take n all → slice_get all n ≡ Some x → lookup (nat_eq x.0) now ≡ None → IsDistinct nat_eq (keys_of (take n all)) → IsDistinct nat_eq (keys_of (take (n + 1) all))
+keys_distinct n all old now x e g f d =
+    let m : suc n ≡ n + 1 = omega arith in
+    let keys : keys_of (take (n + 1) all) ≡ keys_of (take n all) ++ x.0 ∷ [] = ap (λ k. keys_of (take k all)) (sym m) ∙ ap keys_of (take_snoc n all x g) ∙ keys_snoc (take n all) in
+    transport (IsDistinct nat_eq) (sym keys) (distinct_snoc (keys_of (take n all)) x.0 d (other_keys x.0 old (take n all) (ap (lookup (nat_eq x.0)) (sym e) ∙ f)))
+  where
+    keys_snoc : (es : List (ℕ × TypeId)) → keys_of (es ++ x ∷ []) ≡ keys_of es ++ x.0 ∷ []
+    keys_snoc [] = refl
+    keys_snoc (y ∷ ys) = ap (λ l. y.0 ∷ l) (keys_snoc ys)
+
 -- types solved behind types
 
 abbrev later_types : List TypeBinding → (ℕ → Ty) → ℕ → Ty
@@ -180,14 +216,31 @@ module _ (θ ι : ℕ → Ty) (bs : List TypeBinding) (puts : (x : ℕ) → ι x
 none_before : (u : ℕ) → 0 + u ≡ u
 none_before u = omega arith
 
+none_behind : (u : ℕ) → u ≡ u + 0
+none_behind u = omega arith
+
+length_append : {A : Type 0} (xs ys : List A) → length (xs ++ ys) ≡ length xs + length ys
+length_append [] ys = none_before' (length ys)
+  where
+    none_before' : (u : ℕ) → u ≡ 0 + u
+    none_before' u = omega arith
+length_append (x ∷ xs) ys = ap suc (length_append xs ys) ∙ carried (length xs) (length ys)
+  where
+    carried : (m n : ℕ) → suc (m + n) ≡ suc m + n
+    carried m n = omega arith
+
+count_is : (old new now : List (ℕ × TypeId)) (bs : List TypeBinding) → now ≡ old ++ new → length new ≡ length bs → length now ≡ length old + length bs
+count_is old new now bs e f = ap length e ∙ length_append old new ∙ ap (λ n. length old + n) f
+
 -- everything of a solution
 pub all_solved : (b c : Nodes) (s s' : Bindings) (θ ι : ℕ → Ty) (old new : List (ℕ × TypeId)) (ps : List (TypeId × TypeId)) (limit left n : ℕ) (r : TypeOutcome) → Extends b c → AreTypes b s θ → IsStill θ →
-    s.types.entries ≡ old → s'.types.entries ≡ old ++ new → HasEnded (solve_within limit (equations (type_pairs_of b θ ps)) var) limit left ι → IsMostGeneralFrom var (equations (type_pairs_of b θ ps)) ι →
-    ((x : ℕ) → Slot (type_tree c) (length c.types) ι x (lookup (nat_eq x) new)) → solve_types n (type_pairs_of b θ ps) [] 0 ≡ Some r → AreSolved c s' θ limit left r
-all_solved b c s s' θ ι old new ps limit left n r E A still e f H G K d =
+    s.types.entries ≡ old → s'.types.entries ≡ old ++ new → IsDistinct nat_eq (keys_of new) → HasEnded (solve_within limit (equations (type_pairs_of b θ ps)) var) limit left ι → IsMostGeneralFrom var (equations (type_pairs_of b θ ps)) ι →
+    ((x : ℕ) → Slot (type_tree c) (length c.types) ι x (lookup (nat_eq x) new)) → solve_types n (type_pairs_of b θ ps) [] 0 ≡ Some r → AreSolved s c s' θ limit left r
+all_solved b c s s' θ ι old new ps limit left n r E A still e f apart H G K d =
     let es = equations (type_pairs_of b θ ps) in
     let w = as_without limit H.0 (types.solved ι) es var H.1 in
     let h = solved_same n w.0 (type_pairs_of b θ ps) var ι [] 0 r d w.1 in
+    let good = solved_good n (type_pairs_of b θ ps) [] 0 h.bindings (0 + units w.0 es var) (d ∙ ap Some h.is) tt tt in
     let follows = G.first (later_types h.bindings θ) (λ x. refl) (hold θ ι h.bindings h.puts still b ps G.solves) in
     record {
       bindings = h.bindings;
@@ -196,15 +249,16 @@ all_solved b c s s' θ ι old new ps limit left n r E A still e f H G K d =
       units = H.2 ∙ ap (λ u. u + left) w.2;
       types = λ x. transport (TypeIs c (later_types h.bindings θ) x) (ap (lookup (nat_eq x)) (sym f)) (types_at θ ι h.bindings h.puts still follows b c old new x (lookup (nat_eq x) old) E refl (transport (TypeIs b θ x) (ap (lookup (nat_eq x)) e) (A x)) (K x));
       still = still_then θ ι h.bindings h.puts still follows;
+      count = count_is s.types.entries new s'.types.entries h.bindings (f ∙ ap (λ l. l ++ new) (sym e)) (as_many (type_tree c) ι (length c.types) new K apart h.bindings good h.puts);
     }
 
 -- no equations
-pub none_solved : (b : Nodes) (s : Bindings) (θ : ℕ → Ty) (ps : List TypePair) (u n : ℕ) (r : TypeOutcome) → AreTypes b s θ → IsStill θ → ps ≡ [] → solve_types n ps [] 0 ≡ Some r → AreSolved b s θ u u r
+pub none_solved : (b : Nodes) (s : Bindings) (θ : ℕ → Ty) (ps : List TypePair) (u n : ℕ) (r : TypeOutcome) → AreTypes b s θ → IsStill θ → ps ≡ [] → solve_types n ps [] 0 ≡ Some r → AreSolved s b s θ u u r
 none_solved b s θ ps u n r A still e d = go n (transport (λ l. solve_types n l [] 0 ≡ Some r) e d)
   where
-    go : (n : ℕ) → solve_types n [] [] 0 ≡ Some r → AreSolved b s θ u u r
+    go : (n : ℕ) → solve_types n [] [] 0 ≡ Some r → AreSolved s b s θ u u r
     go zero f = absurd (cc)
-    go (suc n) f = record { bindings = []; used = 0; is = sym (is_some (solved [] 0) r f); units = sym (none_before u); types = A; still = still }
+    go (suc n) f = record { bindings = []; used = 0; is = sym (is_some (solved [] 0) r f); units = sym (none_before u); types = A; still = still; count = none_behind (length s.types.entries) }
       where
         is_some : (x y : TypeOutcome) → Some x ≡ Some y → x ≡ y
         is_some x y g = cc

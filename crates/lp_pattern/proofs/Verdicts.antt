@@ -34,24 +34,12 @@ module _ (b d : Nodes) (s : Bindings) (c : Closing) (one other : Looked) (level 
       judged_below done u w (by_rule_5 n next p (view b c one) (view b c other)) (solve_for n next (side_of side) p.right (view b c other)) (left_side n next level p (view b c one) (view b c other) side i h.stands)
       (transport (λ v. IsJudged done u w (solve_for n next (side_of side) p.right v)) (view_kept b d s c other e m) (f n h.right.0 p.right later_right))
 
-  pub left_ruled : (o : PatternRefusal) (side : Side) → IsSideOf n (view b c one) level (Some side) →
-      ((n j : ℕ) (t : Term) → steps weak_step j t ≡ Some (under d c other.whole) → IsRuledOut n o u (solve_for n next (side_of side) t (view d c other))) → IsRuledOut n o u (by_rule_5 n next p (view b c one) (view b c other))
-  left_ruled o side i f =
-      out_below n u o (by_rule_5 n next p (view b c one) (view b c other)) (solve_for n next (side_of side) p.right (view b c other)) (left_side n next level p (view b c one) (view b c other) side i h.stands)
-      (transport (λ v. IsRuledOut n o u (solve_for n next (side_of side) p.right v)) (view_kept b d s c other e m) (f n h.right.0 p.right later_right))
-
   -- the right side is
   pub right_judged : (w : ℕ) (done : Bool) (side : Side) → IsSideOf n (view b c one) level None → IsSideOf n (view b c other) level (Some side) →
       ((n j : ℕ) (t : Term) → steps weak_step j t ≡ Some (under d c one.whole) → IsJudged done u w (solve_for n next (side_of side) t (view d c one))) → IsJudged done u w (by_rule_5 n next p (view b c one) (view b c other))
   right_judged w done side i j f =
       judged_below done u w (by_rule_5 n next p (view b c one) (view b c other)) (solve_for n next (side_of side) p.left (view b c one)) (right_side n next level p (view b c one) (view b c other) side i j h.stands)
       (transport (λ v. IsJudged done u w (solve_for n next (side_of side) p.left v)) (view_kept b d s c one e k) (f n h.left.0 p.left later_left))
-
-  pub right_ruled : (o : PatternRefusal) (side : Side) → IsSideOf n (view b c one) level None → IsSideOf n (view b c other) level (Some side) →
-      ((n j : ℕ) (t : Term) → steps weak_step j t ≡ Some (under d c one.whole) → IsRuledOut n o u (solve_for n next (side_of side) t (view d c one))) → IsRuledOut n o u (by_rule_5 n next p (view b c one) (view b c other))
-  right_ruled o side i j f =
-      out_below n u o (by_rule_5 n next p (view b c one) (view b c other)) (solve_for n next (side_of side) p.left (view b c one)) (right_side n next level p (view b c one) (view b c other) side i j h.stands)
-      (transport (λ v. IsRuledOut n o u (solve_for n next (side_of side) p.left v)) (view_kept b d s c one e k) (f n h.left.0 p.left later_left))
 
   -- a test in a bank that has grown
   pub side_before : (r : Looked) (o : Option Side) → IsLooked b s r → IsSideOf n (view d c r) level o → IsSideOf n (view b c r) level o

@@ -313,7 +313,7 @@ none_left limit n s u e p ps j t v z d a h i =
     transport (λ y. Exceeds y r) (sym z) (costs_one limit n s ps o.own r (node_costs limit q.turns s p v o.own i q.is) o.rest))
 
 -- a head that is too far
-far_none : (k n : ℕ) (t s : Term) → n ≤ k → steps weak_step k t ≡ Some s → top_normal n t ≡ None
+pub far_none : (k n : ℕ) (t s : Term) → n ≤ k → steps weak_step k t ≡ Some s → top_normal n t ≡ None
 far_none k zero t s l e = refl
 far_none zero (suc n) t s l e = absurd (omega (arith, l))
 far_none (suc k) (suc n) t s l e = go (weak_step t) refl e (λ u q. far_none k n u s (omega (arith, l)) q)
@@ -323,7 +323,7 @@ far_none (suc k) (suc n) t s l e = go (weak_step t) refl e (λ u q. far_none k n
     go None q f h = absurd (cc)
     go (Some u) q f h = h u f
 
-no_first : (limit n : ℕ) (s : Side) (p : Part) (ps : List Part) → top_look limit p.term ≡ None → scan_parts limit n s (p ∷ ps) ≡ None
+pub no_first : (limit n : ℕ) (s : Side) (p : Part) (ps : List Part) → top_look limit p.term ≡ None → scan_parts limit n s (p ∷ ps) ≡ None
 no_first limit zero s p ps e = refl
 no_first limit (suc n) s p ps e = ap (option_and_then (behind limit (suc n) s ps)) (top_is limit n s p.inside p.last p.term ∙ ap (option_and_then (scan_seen limit n s p.inside p.last)) e)
 
@@ -340,7 +340,7 @@ too_far limit n s u (TermRefusal.Deep k) r p ps i d =
 too_far limit n s u TermRefusal.Memory r p ps i d = transport (λ x. IsStopped limit x u (scan_parts limit n s (p ∷ ps))) (sym i) tt
 
 -- an argument that is too far
-no_pattern : (limit n : ℕ) (s : Side) (p : Part) (ps : List Part) (j : ℕ) (t : Term) (y m : ℕ) (ts : List Term) → steps weak_step j p.term ≡ Some t → SeenAt t (flexible y m ts) → pattern_of limit m ts ≡ None →
+pub no_pattern : (limit n : ℕ) (s : Side) (p : Part) (ps : List Part) (j : ℕ) (t : Term) (y m : ℕ) (ts : List Term) → steps weak_step j p.term ≡ Some t → SeenAt t (flexible y m ts) → pattern_of limit m ts ≡ None →
     (r : Scanned) → scan_parts limit n s (p ∷ ps) ≡ Some r → ⊥
 no_pattern limit n s p ps j t y m ts a h e r x =
     let o = first limit n s p ps r x in

@@ -59,13 +59,14 @@ abbrev pub IsStill : (ℕ → Ty) → Type 0
 IsStill θ = (x : ℕ) → instance θ (θ x) ≡ θ x
 
 -- type equations were solved: the types for the variables are those of the definition's bindings behind the older ones
-pub record AreSolved (b : Nodes) (s : Bindings) (θ : ℕ → Ty) (old new : ℕ) (r : TypeOutcome) : Type 0 where
+pub record AreSolved (before : Bindings) (b : Nodes) (s : Bindings) (θ : ℕ → Ty) (old new : ℕ) (r : TypeOutcome) : Type 0 where
   pub bindings : List TypeBinding
   pub used : ℕ
   pub is : r ≡ solved bindings used
   pub units : old ≡ used + new
   pub types : AreTypes b s (λ x. put_types bindings (θ x))
   pub still : IsStill (λ x. put_types bindings (θ x))
+  pub count : length s.types.entries ≡ length before.types.entries + length bindings
 
 abbrev pub units_in : TypeOutcome → ℕ
 units_in (none u) = u

@@ -7,11 +7,13 @@ use Rattle.lp_term.specs.declared.node.TermId.{TermId}
 use Rattle.lp_model.specs.Pair.{Closing}
 use Rattle.lp_model.specs.Scan.{Side, Pruned, prune}
 use Rattle.lp_pattern.specs.declared.bindings.Bindings.{Bindings}
+use Rattle.lp_pattern.specs.declared.fault.PatternRefusal.{PatternRefusal}
 use Rattle.lp_pattern.specs.declared.scan.Visit.{Visit}
 use Rattle.lp_pattern.specs.Filling.{IsStill}
 use Rattle.lp_pattern.specs.Passing.{Passed, outer, outers_of}
 pub use Rattle.lp_pattern.specs.Putting.{Known}
 use Rattle.lp_pattern.specs.Putting.{IsPutBehind}
+use Rattle.lp_pattern.specs.Refusing.{IsGivenUp}
 use Rattle.lp_pattern.specs.Stripping.{IsShut}
 use Rattle.lp_pattern.specs.Turning.{IsOpenReading}
 use Rattle.lp_pattern.specs.Under.{IsReading, under}
@@ -24,11 +26,12 @@ pub record Start : Type 0 where
   pub next : ℕ
   pub bindings : Bindings
 
--- a side's pruning of a term is under way
-pub record IsPruning (s : Side) (o : Start) (b : Nodes) (bs : Bindings) (next : ℕ) (term : TermId) (left : List Visit) (r : Pruned) : Type 0 where
+-- a side's pruning of a term is under way, with so many turns left at most
+pub record IsPruning (s : Side) (o : Start) (most : ℕ) (b : Nodes) (bs : Bindings) (next : ℕ) (term : TermId) (left : List Visit) (r : Pruned) : Type 0 where
   pub closing : Closing
   pub levels : ℕ → ℕ
   pub turns : ℕ
+  pub few : turns ≤ most
   pub reading : IsReading b bs closing
   pub shut : IsShut closing
   pub still : IsStill closing.types
@@ -62,4 +65,8 @@ visit_at v t = record { term = t; opened = v.opened; is_inside = v.is_inside }
 
 -- what is left behind a visit leads to what was left before it
 abbrev pub Prunes : Side → (b d : Nodes) → (old new : Bindings) → (next next' : ℕ) → (left left' : List Visit) → Type 0
-Prunes s b d bs bs' next next' left left' = s.id < next → (o : Start) → (term : TermId) → (r : Pruned) → IsPruning s o b bs next term left r → IsPruning s o d bs' next' term left' r
+Prunes s b d bs bs' next next' left left' = s.id < next → (o : Start) → (most : ℕ) → (term : TermId) → (r : Pruned) → IsPruning s o most b bs next term left r → IsPruning s o most d bs' next' term left' r
+
+-- pruning stops at these parts, and not for want of steps where it is under way with a million turns at most
+abbrev pub StopsPruning : PatternRefusal → Side → Nodes → Bindings → (next : ℕ) → List Visit → Type 0
+StopsPruning e s b bs next left = s.id < next → (o : Start) → (most : ℕ) → (term : TermId) → (r : Pruned) → IsGivenUp most e (IsPruning s o most b bs next term left r)

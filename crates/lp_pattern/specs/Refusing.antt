@@ -1,5 +1,5 @@
 -- What the refusals of terms and of type equations become.
-use Rattle.std.specs.Prelude.{◌≡◌}
+use Rattle.std.specs.Prelude.{◌≡◌, ℕ, ◌≤◌, Option, None}
 use Rattle.lp_term.specs.declared.reduce.TermRefusal.{TermRefusal}
 use Rattle.lp_equations.specs.declared.counted.EquationRefusal.{EquationRefusal}
 use Rattle.lp_pattern.specs.declared.fault.PatternRefusal.{PatternRefusal}
@@ -18,3 +18,15 @@ abbrev pub IsNoFailure : PatternRefusal → Type 0
 IsNoFailure PatternRefusal.Fails = ⊥
 IsNoFailure PatternRefusal.Deep = Unit {0}
 IsNoFailure PatternRefusal.Memory = Unit {0}
+
+-- it is no failure, and a million steps are too few only where this does not hold for as many steps
+abbrev pub IsGivenUp : (limit : ℕ) → PatternRefusal → Type 0 → Type 0
+IsGivenUp n PatternRefusal.Fails A = ⊥
+IsGivenUp n PatternRefusal.Deep A = n ≤ 1000000 → A → ⊥
+IsGivenUp n PatternRefusal.Memory A = Unit {0}
+
+-- it is no failure, and a million steps are too few only where the definition gives nothing in as many
+abbrev pub IsNothing : {A : Type 0} → (limit : ℕ) → PatternRefusal → Option A → Type 0
+IsNothing n PatternRefusal.Fails o = ⊥
+IsNothing n PatternRefusal.Deep o = n ≤ 1000000 → o ≡ None
+IsNothing n PatternRefusal.Memory o = Unit {0}

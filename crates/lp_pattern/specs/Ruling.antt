@@ -1,5 +1,5 @@
 -- What the rules for a pair come to: which of them applies, and with which units.
-use Rattle.std.specs.Prelude.{◌≡◌, ℕ, ◌⊎◌, ◌+◌, ◌<◌, ◌≤◌, ◌&&◌, nat_eq, Bool, true, false, List, [], map, Option, Some, None, option_map}
+use Rattle.std.specs.Prelude.{◌≡◌, ℕ, ◌+◌, ◌<◌, ◌≤◌, ◌&&◌, nat_eq, Bool, true, false, List, [], map, Option, Some, None, option_map}
 use Rattle.lp_calculus.specs.Convert.{steps}
 use Rattle.lp_term.specs.Nodes.{Nodes, tree}
 use Rattle.lp_term.specs.declared.node.TermId.{TermId}
@@ -41,12 +41,6 @@ pub record IsSeenPair (b : Nodes) (c : Closing) (level : ℕ) (one other : Looke
   pub left : (j : ℕ) × (steps weak_step j p.left ≡ Some (under b c one.whole))
   pub right : (j : ℕ) × (steps weak_step j p.right ≡ Some (under b c other.whole))
 
-abbrev pub IsBinding : Verdict → Type 0
-IsBinding fails = ⊥
-IsBinding (gives ts ps) = ⊥
-IsBinding (binds bs next) = Unit {0}
-IsBinding delays = ⊥
-
 -- a pair is done, or it is delayed
 abbrev pub IsVerdict : Bool → Verdict → Type 0
 IsVerdict true fails = ⊥
@@ -59,10 +53,10 @@ IsVerdict false v = v ≡ delays
 abbrev pub IsJudged : Bool → (old new : ℕ) → Option Ruled → Type 0
 IsJudged done old new o = (r : Ruled) → o ≡ Some r → (old ≡ r.units + new) × IsVerdict done r.verdict
 
--- it fails where the rule does, within the units; where the units are passed and there is no binding to be made the rule takes more than there were
+-- it fails where the rule does, within the units; where the units are passed the rule takes more than there were
 abbrev pub IsRuledOut : (limit : ℕ) → PatternRefusal → (old : ℕ) → Option Ruled → Type 0
 IsRuledOut limit PatternRefusal.Fails old o = (r : Ruled) → o ≡ Some r → (r.verdict ≡ fails) × (r.units ≤ old)
-IsRuledOut limit PatternRefusal.Deep old o = limit ≤ 1000000 → (r : Ruled) → o ≡ Some r → (old < r.units) ⊎ IsBinding r.verdict
+IsRuledOut limit PatternRefusal.Deep old o = limit ≤ 1000000 → (r : Ruled) → o ≡ Some r → old < r.units
 IsRuledOut limit PatternRefusal.Memory old o = Unit {0}
 
 -- there is a solution so far

@@ -8,10 +8,12 @@ use Rattle.lp_model.specs.Patterns.{eigens}
 use Rattle.lp_model.specs.Look.{an_abs, rigid, flexible, pattern_of}
 use Rattle.lp_model.specs.Pair.{Closing}
 use Rattle.lp_pattern.specs.declared.bindings.Bindings.{Bindings}
+use Rattle.lp_pattern.specs.declared.fault.PatternRefusal.{PatternRefusal}
 use Rattle.lp_pattern.specs.declared.look.Looked.{Looked}
 use Rattle.lp_pattern.specs.declared.patterns.Opened.{Opened}
 use Rattle.lp_pattern.specs.declared.settle.Application.{Application}
 use Rattle.lp_pattern.specs.declared.settle.Task.{Task}
+use Rattle.lp_pattern.specs.Refusing.{IsGivenUp}
 use Rattle.lp_pattern.specs.Stripping.{IsShut, read_at}
 use Rattle.lp_pattern.specs.TopLooks.{top_look}
 use Rattle.lp_pattern.specs.Under.{IsReading, under}
@@ -80,6 +82,10 @@ pub record IsLeft (limit : ℕ) (b : Nodes) (c : Closing) (cs : List ℕ) (tasks
 -- what the earlier tasks lead to the later ones lead to
 abbrev pub Moves : (b d : Nodes) → Bindings → List ℕ → List Task → List TermId → List Task → List TermId → Type 0
 Moves b d s cs ts made ts' made' = (c : Closing) → IsReading b s c → IsShut c → (limit : ℕ) → (r : Term) → IsLeft limit b c cs ts made r → IsLeft limit d c cs ts' made' r
+
+-- settling stops at these tasks, and not for want of steps where they lead somewhere with a million steps at most
+abbrev pub StopsSettling : PatternRefusal → Nodes → Bindings → List ℕ → List Task → List TermId → Type 0
+StopsSettling e b s cs ts made = (c : Closing) → IsReading b s c → IsShut c → (limit : ℕ) → (r : Term) → IsGivenUp limit e (IsLeft limit b c cs ts made r)
 
 -- what stands for eigenconstants
 abbrev pub eigens_in : List ℕ → (level depth : ℕ) → List ℕ → List Term

@@ -8,8 +8,10 @@ use Rattle.lp_model.specs.Look.{are_distinct}
 use Rattle.lp_model.specs.Pair.{Closing}
 use Rattle.lp_model.specs.Scan.{Side, Pruned, prune, settle}
 use Rattle.lp_pattern.specs.declared.bindings.Bindings.{Bindings}
+use Rattle.lp_pattern.specs.declared.fault.PatternRefusal.{PatternRefusal}
 use Rattle.lp_pattern.specs.declared.scan.Scanned.{Scanned}
 use Rattle.lp_pattern.specs.Putting.{Known, IsPutBehind}
+use Rattle.lp_pattern.specs.Refusing.{IsNothing}
 use Rattle.lp_pattern.specs.Turning.{IsOpenReading}
 use Rattle.lp_pattern.specs.Under.{under}
 
@@ -34,3 +36,7 @@ pub record IsValued (s : Side) (levels : ℕ → ℕ) (next : ℕ) (c : Closing)
 abbrev pub Values : (s : Side) → (levels : ℕ → ℕ) → (next : ℕ) → Closing → (old : Bindings) → (d : Nodes) → (new : Bindings) → (next' : ℕ) → TermId → (n : ℕ) → Scanned → Term → Type 0
 Values s levels next c old d new next' id n f x =
     (r : Pruned) → prune n s next x ≡ Some r → (f.has_misfit ≡ false → r ≡ record { bindings = []; next = next; term = x }) → (t : Term) → settle n s.pair r.term ≡ Some t → IsValued s levels next c old d new next' id r t
+
+-- there is no value: a million steps are too few to prune the term, or to settle it behind pruning
+abbrev pub HasNoValue : (n : ℕ) → PatternRefusal → (s : Side) → (next : ℕ) → Scanned → Term → Type 0
+HasNoValue n e s next f x = (r : Pruned) → prune n s next x ≡ Some r → (f.has_misfit ≡ false → r ≡ record { bindings = []; next = next; term = x }) → IsNothing n e (settle n s.pair r.term)

@@ -110,6 +110,7 @@ impl Bindings {
     // Binds a type variable. `Memory` stands for one that is bound already, too.
     pub(crate) fn bind_type(&mut self, variable: u64, to: TypeId) -> Result<(), Memory>
         ensures made { OnOk result (self.new.types.entries ≡ self.old.types.entries ++ (variable, to) ∷ []) }
+        ensures free { OnOk result (get nat_eq self.old.types variable ≡ None) }
         ensures terms { self.new.terms ≡ self.old.terms }
         ensures unchanged { OnErr result (self.new.types.entries ≡ self.old.types.entries) }
         ensures grown { Grows self.old self.new }

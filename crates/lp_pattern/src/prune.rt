@@ -8,10 +8,10 @@ ghost use Rattle.lp_model.specs.Pair.{Closing};
 ghost use Rattle.lp_model.specs.Scan.{allows, pattern, renewal, prune, Pruned};
 ghost use Rattle.lp_pattern.specs.declared.look.Head.TheVariants.{Abstraction, Rigid, Variable};
 ghost use Rattle.lp_pattern.specs.Growing.{Grows};
-ghost use Rattle.lp_pattern.specs.Pruning.{IsPruned, Prunes, visit_at};
+ghost use Rattle.lp_pattern.specs.Pruning.{IsPruned, Prunes, StopsPruning, visit_at};
 ghost use Rattle.lp_pattern.specs.Putting.{Known};
 ghost use Rattle.lp_pattern.specs.Reading.{side_of};
-ghost use Rattle.lp_pattern.specs.Refusing.{IsNoFailure};
+ghost use Rattle.lp_pattern.specs.Refusing.{IsNoFailure, IsNothing};
 ghost use Rattle.lp_pattern.specs.Seen.{IsLooked};
 ghost use Rattle.lp_pattern.specs.Scanning.{Pushes, AreTerms, Binds, one_if, low_eigens, allowed_places};
 ghost use Rattle.lp_pattern.specs.Turning.{IsOpenReading};
@@ -159,6 +159,7 @@ fn visit_variable(
     ensures grown { Grows bindings.old bindings.new }
     ensures prunes { OnOk result (Prunes (side_of side.now) bank.old bank.new bindings.old bindings.new next.old next.new (left.old.items ++ visit_at visit looked.now.whole ∷ []) left.new.items) }
     ensures unfailing { IfErr result IsNoFailure }
+    ensures refused { IfErr result (λ e. StopsPruning e (side_of side.now) bank.old bindings.old next.old (left.old.items ++ visit_at visit looked.now.whole ∷ [])) }
 {
     let arguments = looked.arguments.as_slice();
     let pattern = pattern_of(alloc, bank, bindings, visit.opened, level, arguments)?;
@@ -226,6 +227,7 @@ fn visit_seen(
     ensures grown { Grows bindings.old bindings.new }
     ensures prunes { OnOk result (Prunes (side_of side.now) bank.old bank.new bindings.old bindings.new next.old next.new (left.old.items ++ visit_at visit looked.now.whole ∷ []) left.new.items) }
     ensures unfailing { IfErr result IsNoFailure }
+    ensures refused { IfErr result (λ e. StopsPruning e (side_of side.now) bank.old bindings.old next.old (left.old.items ++ visit_at visit looked.now.whole ∷ [])) }
 {
     match looked.head {
         Head::Abstraction(body) => {
@@ -257,6 +259,7 @@ fn visit_part(
     ensures grown { Grows bindings.old bindings.new }
     ensures prunes { OnOk result (Prunes (side_of side.now) bank.old bank.new bindings.old bindings.new next.old next.new (left.old.items ++ visit ∷ []) left.new.items) }
     ensures unfailing { IfErr result IsNoFailure }
+    ensures refused { IfErr result (λ e. StopsPruning e (side_of side.now) bank.old bindings.old next.old (left.old.items ++ visit ∷ [])) }
 {
     let looked = look(alloc, bank, bindings, visit.term, CONTRACTIONS)?;
     visit_seen(alloc, bank, bindings, side, next, visit, &looked, left)
@@ -277,6 +280,8 @@ pub(crate) fn prune(
     ensures pruned { OnOk result (side.now.id < next.old → term.0 < length bank.old.terms → (c : Closing) → IsOpenReading bank.old bindings.old next.old c →
         (levels : ℕ → ℕ) → Within (Known levels next.old) 0 (under bank.old c term) → (n : ℕ) → (r : Pruned) → prune n (side_of side.now) next.old (under bank.old c term) ≡ Some r → IsPruned (record { closing = c; levels = levels; next = next.old; bindings = bindings.old }) bank.new bindings.new next.new term r) }
     ensures unfailing { IfErr result IsNoFailure }
+    ensures refused { IfErr result (λ e. side.now.id < next.old → term.0 < length bank.old.terms → (c : Closing) → IsOpenReading bank.old bindings.old next.old c →
+        (levels : ℕ → ℕ) → Within (Known levels next.old) 0 (under bank.old c term) → (n : ℕ) → IsNothing n e (prune n (side_of side.now) next.old (under bank.old c term))) }
 {
     let mut left = Vec::new(alloc);
     left.push(Visit {

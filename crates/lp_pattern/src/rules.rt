@@ -22,7 +22,7 @@ ghost use Rattle.lp_pattern.specs.Seen.{IsLooked, weak_step};
 ghost use Rattle.lp_pattern.specs.Stripping.{IsShut};
 ghost use Rattle.lp_pattern.specs.Turning.{IsOpenReading, IsKnownPair, IsPairFor, IsDoneAs, IsGivenAs, IsTakenAs};
 ghost use Rattle.lp_pattern.specs.Under.{IsReading, under};
-ghost use Rattle.lp_pattern.specs.Valuing.{IsKnownSide, Values};
+ghost use Rattle.lp_pattern.specs.Valuing.{IsKnownSide, Values, HasNoValue};
 
 use crate::bindings::Bindings;
 use crate::compare::{are_one_variable, are_same, opened, push_pairs};
@@ -68,7 +68,7 @@ fn decompose(
     ensures kept { Extends bank.old bank.new }
     ensures grown { Grows bindings.old bindings.new }
     ensures solved { OnOk result ((c : Closing) → IsReading bank.old bindings.old c → IsShut c → (n : ℕ) (r : Ruled) → (decompose n level (under bank.old c one.now.top) (map (under bank.old c) one.now.arguments.items) (under bank.old c other.now.top) (map (under bank.old c) other.now.arguments.items)) ≡ Some r → (units.old ≡ r.units + units.new) × IsDone r.verdict) }
-    ensures given { OnOk result ((c : Closing) → IsReading bank.old bindings.old c → IsShut c → IsStill c.types → (n : ℕ) (r : Ruled) → (decompose n level (under bank.old c one.now.top) (map (under bank.old c) one.now.arguments.items) (under bank.old c other.now.top) (map (under bank.old c) other.now.arguments.items)) ≡ Some r → IsGiven bank.new bindings.new c level (map (under bank.old c) one.now.arguments.items) (map (under bank.old c) other.now.arguments.items) r.verdict) }
+    ensures given { OnOk result ((c : Closing) → IsReading bank.old bindings.old c → IsShut c → IsStill c.types → (n : ℕ) (r : Ruled) → (decompose n level (under bank.old c one.now.top) (map (under bank.old c) one.now.arguments.items) (under bank.old c other.now.top) (map (under bank.old c) other.now.arguments.items)) ≡ Some r → IsGiven bindings.old bank.new bindings.new c level (map (under bank.old c) one.now.arguments.items) (map (under bank.old c) other.now.arguments.items) r.verdict) }
     ensures refused { IfErr result (λ e. (c : Closing) → IsReading bank.old bindings.old c → IsShut c → (n : ℕ) → IsRuledOut n e units.old (decompose n level (under bank.old c one.now.top) (map (under bank.old c) one.now.arguments.items) (under bank.old c other.now.top) (map (under bank.old c) other.now.arguments.items))) }
 {
     if one.arguments.len() != other.arguments.len() {
@@ -208,6 +208,8 @@ fn value_for(
     ensures value { IfOk result (λ id. term.0 < length bank.old.terms → (c : Closing) → IsOpenReading bank.old bindings.old next.old c → (levels : ℕ → ℕ) → IsKnownSide levels next.old (side_of side.now) → Within (Known levels next.old) 0 (under bank.old c term) → (n : ℕ) →
         Values (side_of side.now) levels next.old c bindings.old bank.new bindings.new next.new id n found (under bank.old c term)) }
     ensures unfailing { IfErr result IsNoFailure }
+    ensures refused { IfErr result (λ e. term.0 < length bank.old.terms → (c : Closing) → IsOpenReading bank.old bindings.old next.old c → (levels : ℕ → ℕ) → IsKnownSide levels next.old (side_of side.now) → Within (Known levels next.old) 0 (under bank.old c term) → (n : ℕ) →
+        HasNoValue n e (side_of side.now) next.old found (under bank.old c term)) }
 {
     if found.has_misfit {
         prune(alloc, bank, bindings, side, next, term)?;
@@ -234,7 +236,7 @@ fn solve_for(
         IsJudged done units.old units.new (solve_for n next.old (side_of side.now) t (view bank.old c other.now))) }
     ensures done { IfOk result (λ done. (c : Closing) → IsOpenReading bank.old bindings.old next.old c → (levels : ℕ → ℕ) → IsKnownSide levels next.old (side_of side.now) → (n j : ℕ) (t : Term) → steps weak_step j t ≡ Some (under bank.old c other.now.whole) → Within (Known levels next.old) 0 t → (r : Ruled) →
         solve_for n next.old (side_of side.now) t (view bank.old c other.now) ≡ Some r → IsDoneAs done levels next.old c bindings.old bank.new bindings.new next.new r.verdict) }
-    ensures refused { IfErr result (λ e. (c : Closing) → IsReading bank.old bindings.old c → IsShut c → (n j : ℕ) (t : Term) → steps weak_step j t ≡ Some (under bank.old c other.now.whole) →
+    ensures refused { IfErr result (λ e. (c : Closing) → IsOpenReading bank.old bindings.old next.old c → (levels : ℕ → ℕ) → IsKnownSide levels next.old (side_of side.now) → (n j : ℕ) (t : Term) → steps weak_step j t ≡ Some (under bank.old c other.now.whole) → Within (Known levels next.old) 0 t →
         IsRuledOut n e units.old (solve_for n next.old (side_of side.now) t (view bank.old c other.now))) }
 {
     if has_head(side, other) {
@@ -269,7 +271,7 @@ fn by_pattern(
         IsJudged done units.old units.new (by_rule_5 n next.old p (view bank.old c one.now) (view bank.old c other.now))) }
     ensures done { IfOk result (λ done. (c : Closing) → IsOpenReading bank.old bindings.old next.old c → (levels : ℕ → ℕ) → (n : ℕ) (p : Equation) → IsSeenPair bank.old c level one.now other.now p → IsKnownPair levels next.old p → (r : Ruled) →
         by_rule_5 n next.old p (view bank.old c one.now) (view bank.old c other.now) ≡ Some r → IsDoneAs done levels next.old c bindings.old bank.new bindings.new next.new r.verdict) }
-    ensures refused { IfErr result (λ e. (c : Closing) → IsReading bank.old bindings.old c → IsShut c → (n : ℕ) (p : Equation) → IsSeenPair bank.old c level one.now other.now p →
+    ensures refused { IfErr result (λ e. (c : Closing) → IsOpenReading bank.old bindings.old next.old c → (levels : ℕ → ℕ) → (n : ℕ) (p : Equation) → IsSeenPair bank.old c level one.now other.now p → IsKnownPair levels next.old p →
         IsRuledOut n e units.old (by_rule_5 n next.old p (view bank.old c one.now) (view bank.old c other.now))) }
 {
     let left = side_of(alloc, bank, bindings, one, level)?;
@@ -304,7 +306,7 @@ fn on_others(
         IsJudged done units.old units.new (by_rule_4 n next.old p x l (map (under bank.old c) one.now.arguments.items) (map (under bank.old c) other.now.arguments.items))) }
     ensures done { IfOk result (λ done. (c : Closing) → IsOpenReading bank.old bindings.old next.old c → (levels : ℕ → ℕ) → (n : ℕ) (p : Equation) → IsSeenPair bank.old c level one.now other.now p → IsKnownPair levels next.old p → (x l : ℕ) → one.now.head ≡ Variable x l → other.now.head ≡ Variable x l → (r : Ruled) →
         by_rule_4 n next.old p x l (map (under bank.old c) one.now.arguments.items) (map (under bank.old c) other.now.arguments.items) ≡ Some r → IsDoneAs done levels next.old c bindings.old bank.new bindings.new next.new r.verdict) }
-    ensures refused { IfErr result (λ e. (c : Closing) → IsReading bank.old bindings.old c → IsShut c → (n : ℕ) (p : Equation) → IsSeenPair bank.old c level one.now other.now p → (x l : ℕ) → one.now.head ≡ Variable x l → other.now.head ≡ Variable x l →
+    ensures refused { IfErr result (λ e. (c : Closing) → IsOpenReading bank.old bindings.old next.old c → (levels : ℕ → ℕ) → (n : ℕ) (p : Equation) → IsSeenPair bank.old c level one.now other.now p → IsKnownPair levels next.old p → (x l : ℕ) → one.now.head ≡ Variable x l → other.now.head ≡ Variable x l →
         IsRuledOut n e units.old (by_rule_4 n next.old p x l (map (under bank.old c) one.now.arguments.items) (map (under bank.old c) other.now.arguments.items))) }
 {
     let left = side_of(alloc, bank, bindings, one, level)?;
@@ -344,7 +346,7 @@ fn on_one_variable(
         IsJudged done units.old units.new (by_looks n next.old p (view bank.old c one.now) (view bank.old c other.now))) }
     ensures done { IfOk result (λ done. (c : Closing) → IsOpenReading bank.old bindings.old next.old c → (levels : ℕ → ℕ) → (n : ℕ) (p : Equation) → IsSeenPair bank.old c level one.now other.now p → IsKnownPair levels next.old p → (r : Ruled) →
         by_looks n next.old p (view bank.old c one.now) (view bank.old c other.now) ≡ Some r → IsDoneAs done levels next.old c bindings.old bank.new bindings.new next.new r.verdict) }
-    ensures refused { IfErr result (λ e. (c : Closing) → IsReading bank.old bindings.old c → IsShut c → (n : ℕ) (p : Equation) → IsSeenPair bank.old c level one.now other.now p →
+    ensures refused { IfErr result (λ e. (c : Closing) → IsOpenReading bank.old bindings.old next.old c → (levels : ℕ → ℕ) → (n : ℕ) (p : Equation) → IsSeenPair bank.old c level one.now other.now p → IsKnownPair levels next.old p →
         IsRuledOut n e units.old (by_looks n next.old p (view bank.old c one.now) (view bank.old c other.now))) }
 {
     let ones = one.arguments.as_slice();
@@ -392,7 +394,7 @@ fn by_variables(
         IsJudged done units.old units.new (by_looks n next.old p (view bank.old c one.now) (view bank.old c other.now))) }
     ensures done { IfOk result (λ done. (c : Closing) → IsOpenReading bank.old bindings.old next.old c → (levels : ℕ → ℕ) → (n : ℕ) (p : Equation) → IsSeenPair bank.old c level one.now other.now p → IsKnownPair levels next.old p → (r : Ruled) →
         by_looks n next.old p (view bank.old c one.now) (view bank.old c other.now) ≡ Some r → IsDoneAs done levels next.old c bindings.old bank.new bindings.new next.new r.verdict) }
-    ensures refused { IfErr result (λ e. (c : Closing) → IsReading bank.old bindings.old c → IsShut c → (n : ℕ) (p : Equation) → IsSeenPair bank.old c level one.now other.now p →
+    ensures refused { IfErr result (λ e. (c : Closing) → IsOpenReading bank.old bindings.old next.old c → (levels : ℕ → ℕ) → (n : ℕ) (p : Equation) → IsSeenPair bank.old c level one.now other.now p → IsKnownPair levels next.old p →
         IsRuledOut n e units.old (by_looks n next.old p (view bank.old c one.now) (view bank.old c other.now))) }
 {
     if have_same_variable(one, other) {
@@ -482,7 +484,7 @@ fn take_seen(
     ensures grown { Grows bindings.old bindings.new }
     ensures judged { IfOk result (λ v. (c : Closing) → IsReading bank.old bindings.old c → IsShut c → (n : ℕ) (p : Equation) → IsSeenPair bank.old c level one.now other.now p → (r : Ruled) → rule n next.old p ≡ Some r →
         IsTaken v units.old units.new r) }
-    ensures refused { IfErr result (λ e. (c : Closing) → IsReading bank.old bindings.old c → IsShut c → (n : ℕ) (p : Equation) → IsSeenPair bank.old c level one.now other.now p → IsRuledOut n e units.old (rule n next.old p)) }
+    ensures refused { IfErr result (λ e. (c : Closing) → IsOpenReading bank.old bindings.old next.old c → (levels : ℕ → ℕ) → (n : ℕ) (p : Equation) → IsSeenPair bank.old c level one.now other.now p → IsKnownPair levels next.old p → IsRuledOut n e units.old (rule n next.old p)) }
 {
     if are_flexible(one.head, other.head) {
         let is_done = by_variables(alloc, bank, bindings, next, one, other, level, units)?;
@@ -515,7 +517,7 @@ pub(crate) fn take(
     ensures judged { IfOk result (λ v. (c : Closing) → IsReading bank.old bindings.old c → IsShut c → (p : Equation) → IsPairFor bank.old c pair p → (n : ℕ) (r : Ruled) → rule n next.old p ≡ Some r → IsTaken v units.old units.new r) }
     ensures taken { IfOk result (λ v. (c : Closing) → IsOpenReading bank.old bindings.old next.old c → (levels : ℕ → ℕ) → (p : Equation) → IsPairFor bank.old c pair p → IsKnownPair levels next.old p → (n : ℕ) (r : Ruled) → rule n next.old p ≡ Some r →
         IsTakenAs v levels next.old c bindings.old bank.new bindings.new next.new todo.old.items todo.new.items p r.verdict) }
-    ensures refused { IfErr result (λ e. (c : Closing) → IsReading bank.old bindings.old c → IsShut c → (p : Equation) → IsPairFor bank.old c pair p → (n : ℕ) → IsRuledOut n e units.old (rule n next.old p)) }
+    ensures refused { IfErr result (λ e. (c : Closing) → IsOpenReading bank.old bindings.old next.old c → (levels : ℕ → ℕ) → (p : Equation) → IsPairFor bank.old c pair p → IsKnownPair levels next.old p → (n : ℕ) → IsRuledOut n e units.old (rule n next.old p)) }
 {
     let right = term_of(bank, pair.right)?;
     let one = look(alloc, bank, bindings, pair.left, CONTRACTIONS)?;

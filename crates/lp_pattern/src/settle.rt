@@ -9,10 +9,10 @@ ghost use Rattle.lp_model.specs.Pair.{Closing};
 ghost use Rattle.lp_model.specs.Scan.{settle};
 ghost use Rattle.lp_pattern.specs.declared.look.Head.TheVariants.{Abstraction, Variable, Rigid};
 ghost use Rattle.lp_pattern.specs.declared.settle.Task.TheVariants.{Visit, Abstract, Apply};
-ghost use Rattle.lp_pattern.specs.Refusing.{IsNoFailure};
+ghost use Rattle.lp_pattern.specs.Refusing.{IsNoFailure, IsNothing};
 ghost use Rattle.lp_pattern.specs.Scanning.{AreTerms};
 ghost use Rattle.lp_pattern.specs.Seen.{IsLooked, IsRigid};
-ghost use Rattle.lp_pattern.specs.Settling.{index_in, eigen_or, eigens_in, visit_tasks, IsHeadIn, IsPushed, Moves};
+ghost use Rattle.lp_pattern.specs.Settling.{index_in, eigen_or, eigens_in, visit_tasks, IsHeadIn, IsPushed, Moves, StopsSettling};
 ghost use Rattle.lp_pattern.specs.Stripping.{IsShut};
 ghost use Rattle.lp_pattern.specs.Under.{IsReading, under};
 
@@ -285,6 +285,7 @@ fn visit_variable(
     ensures kept { Extends bank.old bank.new }
     ensures moves { OnOk result (Moves bank.old bank.new bindings.now side.now.eigens.items (work.old.tasks.items ++ Visit looked.now.whole opened ∷ []) work.old.made.items work.new.tasks.items work.new.made.items) }
     ensures unfailing { IfErr result IsNoFailure }
+    ensures refused { IfErr result (λ e. StopsSettling e bank.old bindings.now side.now.eigens.items (work.old.tasks.items ++ Visit looked.now.whole opened ∷ []) work.old.made.items) }
 {
     let arguments = looked.arguments.as_slice();
     let pattern = pattern_of(alloc, bank, bindings, opened, level, arguments)?;
@@ -313,6 +314,7 @@ fn visit_seen(
     ensures kept { Extends bank.old bank.new }
     ensures moves { OnOk result (Moves bank.old bank.new bindings.now side.now.eigens.items (work.old.tasks.items ++ Visit looked.now.whole opened ∷ []) work.old.made.items work.new.tasks.items work.new.made.items) }
     ensures unfailing { IfErr result IsNoFailure }
+    ensures refused { IfErr result (λ e. StopsSettling e bank.old bindings.now side.now.eigens.items (work.old.tasks.items ++ Visit looked.now.whole opened ∷ []) work.old.made.items) }
 {
     match looked.head {
         Head::Abstraction(body) => {
@@ -341,6 +343,7 @@ fn visit(
     ensures kept { Extends bank.old bank.new }
     ensures moves { OnOk result (Moves bank.old bank.new bindings.now side.now.eigens.items (work.old.tasks.items ++ Visit term opened ∷ []) work.old.made.items work.new.tasks.items work.new.made.items) }
     ensures unfailing { IfErr result IsNoFailure }
+    ensures refused { IfErr result (λ e. StopsSettling e bank.old bindings.now side.now.eigens.items (work.old.tasks.items ++ Visit term opened ∷ []) work.old.made.items) }
 {
     let looked = look(alloc, bank, bindings, term, CONTRACTIONS)?;
     visit_seen(alloc, bank, bindings, side, work, opened, &looked)
@@ -419,6 +422,7 @@ fn step(
     ensures kept { Extends bank.old bank.new }
     ensures moves { OnOk result (Moves bank.old bank.new bindings.now side.now.eigens.items (work.old.tasks.items ++ task ∷ []) work.old.made.items work.new.tasks.items work.new.made.items) }
     ensures unfailing { IfErr result IsNoFailure }
+    ensures refused { IfErr result (λ e. StopsSettling e bank.old bindings.now side.now.eigens.items (work.old.tasks.items ++ task ∷ []) work.old.made.items) }
 {
     match task {
         Task::Visit(term, opened) => visit(alloc, bank, bindings, side, work, term, opened),
@@ -446,6 +450,7 @@ pub(crate) fn settled(
     ensures value { IfOk result (λ id. term.0 < length bank.old.terms → are_distinct side.now.eigens.items ≡ true → (c : Closing) → IsReading bank.old bindings.now c → IsShut c → (n : ℕ) → (t : Term) →
         settle n side.now.pair (under bank.old c term) ≡ Some t → under bank.new c id ≡ abstracted side.now.eigens.items t) }
     ensures unfailing { IfErr result IsNoFailure }
+    ensures refused { IfErr result (λ e. term.0 < length bank.old.terms → (c : Closing) → IsReading bank.old bindings.now c → IsShut c → (n : ℕ) → IsNothing n e (settle n side.now.pair (under bank.old c term))) }
 {
     let mut tasks = Vec::new(alloc);
     tasks.push(Task::Visit(term, side.closed()))?;

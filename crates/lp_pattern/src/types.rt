@@ -1,5 +1,8 @@
 // Type equations, and the comparison of types, under bindings.
 ghost use Rattle.std.specs.Prelude.{◌≡◌, ◌<◌, ◌++◌, ℕ, [], Some, length, reverse, true, All, IfOk, OnOk, IfErr};
+ghost use Rattle.std.specs.Prelude.{nat_eq};
+ghost use Rattle.std.specs.List.{IsDistinct};
+ghost use Rattle.std.specs.Map.{keys_of};
 ghost use Rattle.lp_calculus.specs.Types.{Ty, var, instance};
 ghost use Rattle.lp_term.specs.Nodes.{Extends, type_tree};
 ghost use Rattle.lp_model.specs.Types.{same_top, TypeOutcome, solve_types};
@@ -64,6 +67,7 @@ fn adopt(bindings: &mut Bindings, solution: &Solution) -> Result<(), Memory>
     ensures grown { Grows bindings.old bindings.new }
     ensures terms { bindings.new.terms ≡ bindings.old.terms }
     ensures taken { OnOk result (bindings.new.types.entries ≡ bindings.old.types.entries ++ solution.now.made.entries) }
+    ensures distinct { OnOk result (IsDistinct nat_eq (keys_of solution.now.made.entries)) }
 {
     for place in 0..solution.len() {
         let Some((variable, to)) = solution.entry(place) else {
@@ -86,8 +90,8 @@ pub(crate) fn solve_types(
     ensures grown { Grows bindings.old bindings.new }
     ensures terms { bindings.new.terms ≡ bindings.old.terms }
     ensures solved { OnOk result ((θ : ℕ → Ty) → AreTypes bank.old bindings.old θ → (n : ℕ) (o : TypeOutcome) → solve_types n (type_pairs_of bank.old θ pairs.now) [] 0 ≡ Some o → IsSolvedIn units.old units.new o) }
-    ensures types { OnOk result ((θ : ℕ → Ty) → AreTypes bank.old bindings.old θ → IsStill θ → (n : ℕ) (o : TypeOutcome) → solve_types n (type_pairs_of bank.old θ pairs.now) [] 0 ≡ Some o → AreSolved bank.new bindings.new θ units.old units.new o) }
-    ensures behind { OnOk result ((c : Closing) → IsReading bank.old bindings.old c → IsShut c → IsStill c.types → (n : ℕ) (o : TypeOutcome) → solve_types n (type_pairs_of bank.old c.types pairs.now) [] 0 ≡ Some o → IsReadBehind bank.new bindings.new c o) }
+    ensures types { OnOk result ((θ : ℕ → Ty) → AreTypes bank.old bindings.old θ → IsStill θ → (n : ℕ) (o : TypeOutcome) → solve_types n (type_pairs_of bank.old θ pairs.now) [] 0 ≡ Some o → AreSolved bindings.old bank.new bindings.new θ units.old units.new o) }
+    ensures behind { OnOk result ((c : Closing) → IsReading bank.old bindings.old c → IsShut c → IsStill c.types → (n : ℕ) (o : TypeOutcome) → solve_types n (type_pairs_of bank.old c.types pairs.now) [] 0 ≡ Some o → IsReadBehind bindings.old bank.new bindings.new c o) }
     ensures refused { IfErr result (λ e. (θ : ℕ → Ty) → AreTypes bank.old bindings.old θ → (n : ℕ) (o : TypeOutcome) → solve_types n (type_pairs_of bank.old θ pairs.now) [] 0 ≡ Some o → IsUnsolvedIn e units.old o) }
 {
     if pairs.is_empty() {

@@ -18,5 +18,5 @@ invariant-parts l = record {
   grown : Grows l.fn.bindings l.bindings;
   prunes : l.side.id < l.fn.next → l.fn.term.0 < length l.fn.bank.terms → (c : Closing) → IsOpenReading l.fn.bank l.fn.bindings l.fn.next c → (levels : ℕ → ℕ) →
       Within (Known levels l.fn.next) 0 (under l.fn.bank c l.fn.term) → (n : ℕ) → (r : Pruned) → prune n (side_of l.side) l.fn.next (under l.fn.bank c l.fn.term) ≡ Some r →
-      IsPruning (side_of l.side) (record { closing = c; levels = levels; next = l.fn.next; bindings = l.fn.bindings }) l.bank l.bindings l.next l.fn.term l.left.items r;
+      IsPruning (side_of l.side) (record { closing = c; levels = levels; next = l.fn.next; bindings = l.fn.bindings }) n l.bank l.bindings l.next l.fn.term l.left.items r;
 }

@@ -6,7 +6,10 @@ use Rattle.lp_model.specs.Scan.{fits, pattern, renewal}
 use Rattle.lp_term.proofs.Trees.{extends-trans}
 use Rattle.lp_pattern.specs.Reading.{side_of}
 use Rattle.lp_pattern.specs.Scanning.{Binds}
-use Rattle.lp_pattern.specs.Stripping.{IsPattern, read_at}
+use Rattle.lp_pattern.specs.Stripping.{IsPattern, HasNoPattern, read_at}
+use Rattle.lp_pattern.specs.Refusing.{IsOfTerm}
+use Rattle.lp_pattern.proofs.GivenUp.{prune_open_far}
+use Rattle.lp_pattern.proofs.Results.{err_and}
 use Rattle.lp_pattern.proofs.PruneMoves.{fit_prunes, open_prunes, renew_prunes}
 use Rattle.lp_pattern.proofs.prune.visit_variable.Goals as goal
 
@@ -41,3 +44,10 @@ returns-clause-prunes c =
     (c.in_ok-renew.ensures.bound (ap are_distinct same ∙ and_first (are_distinct c.in-Some.pattern.eigens.items) (are_above c.args.level c.in-Some.pattern.eigens.items) d)
     (ap (are_above c.args.level) same ∙ and_second (are_distinct c.in-Some.pattern.eigens.items) (are_above c.args.level c.in-Some.pattern.eigens.items) d)))
     c.in_ok-renew.ensures.types (c.in_ok-push.ensures.items ∙ ap (λ v. c.args.left.now.items ++ v ∷ []) c.at.ensures)
+
+pub returns-in_err-pattern-clause-refused : goal.returns-in_err-pattern-clause-refused
+returns-in_err-pattern-clause-refused c =
+    err_and c.from_residual.result (λ e. IsOfTerm c.in_err-pattern.field-0.0 e) _ c.from_residual.ensures.1
+    (λ y i l o most term q.
+    prune_open_far (side_of c.args.side.now) o most c.args.bank.now c.args.bindings.now c.args.next.now term c.args.left.now.items c.args.visit c.args.looked.now c.args.id c.args.level q c.in_err-pattern.field-0.0 y c.requires.looked c.requires.head i
+    (λ r j h m k. transport (λ z. HasNoPattern m c.args.level (map (read_at c.args.bank.now r c.args.visit.opened.level c.args.visit.opened.depth) z) c.in_err-pattern.field-0.0) c.as_slice-arguments.ensures.value (c.in_err-pattern.ensures.refused r j h m k)))

@@ -18,8 +18,8 @@ returns-clause-judged c =
 pub returns-clause-refused : goal.returns-clause-refused
 returns-clause-refused c =
     if_err c.by_pattern.result _ _
-    (λ e f r i g n p h. transport (IsRuledOut n e c.args.units.now) (sym (five n c.args.next.now p c.args.bank.now r c.args.one.now.head c.args.other.now.head c.args.one.now.top c.args.other.now.top c.args.one.now.arguments.items c.args.other.now.arguments.items c.requires.flexible
-    (sym c.have_same_variable.ensures ∙ c.if-have_same_variable.false))) (f r i g n p h))
+    (λ e f r o levels n p h known. transport (IsRuledOut n e c.args.units.now) (sym (five n c.args.next.now p c.args.bank.now r c.args.one.now.head c.args.other.now.head c.args.one.now.top c.args.other.now.top c.args.one.now.arguments.items c.args.other.now.arguments.items c.requires.flexible
+    (sym c.have_same_variable.ensures ∙ c.if-have_same_variable.false))) (f r o levels n p h known))
     c.by_pattern.ensures.refused
 
 pub returns-clause-done : goal.returns-clause-done

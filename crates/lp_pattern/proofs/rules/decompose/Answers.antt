@@ -34,4 +34,4 @@ pub returns-clause-solved : goal.returns-clause-solved
 returns-clause-solved c = λ r i g n x e. decompose_goes c.args.bank.now r (tree c.args.bank.now c.args.one.now.top.0) (tree c.args.bank.now c.args.other.now.top.0) c.in_ok-is_named.is_named (map (under c.args.bank.now r) c.args.one.now.arguments.items) (map (under c.args.bank.now r) c.args.other.now.arguments.items) c.args.level n c.args.units.now c.as_slice.result.now (rigid_top c.args.bank.now c.args.bindings.now c.args.one.now c.requires.one c.requires.rigid_one) (rigid_top c.args.bank.now c.args.bindings.now c.args.other.now c.requires.other c.requires.rigid_other) c.in_ok-is_named.ensures c.if-not-is_named.false (even c.args.bank.now r c.args.one.now.arguments.items c.args.other.now.arguments.items (omega (arith, c.if-len.false, c.len.ensures, c.len-2.ensures, c.args.one.now.arguments.ok, c.args.other.now.arguments.ok))) (ap (type_pairs_of c.args.bank.now r.types) c.as_slice.ensures.value ∙ c.in_ok-types.ensures r.types) c.solve_types.new.units (λ o y. c.in_ok-solve_types.ensures.solved r.types i.types n o y) x e
 
 pub returns-clause-given : goal.returns-clause-given
-returns-clause-given c = λ r i g st n x e. decompose_gives c.args.bank.now r (tree c.args.bank.now c.args.one.now.top.0) (tree c.args.bank.now c.args.other.now.top.0) c.in_ok-is_named.is_named (map (under c.args.bank.now r) c.args.one.now.arguments.items) (map (under c.args.bank.now r) c.args.other.now.arguments.items) c.args.level n c.args.units.now c.as_slice.result.now (rigid_top c.args.bank.now c.args.bindings.now c.args.one.now c.requires.one c.requires.rigid_one) (rigid_top c.args.bank.now c.args.bindings.now c.args.other.now c.requires.other c.requires.rigid_other) c.in_ok-is_named.ensures c.if-not-is_named.false (even c.args.bank.now r c.args.one.now.arguments.items c.args.other.now.arguments.items (omega (arith, c.if-len.false, c.len.ensures, c.len-2.ensures, c.args.one.now.arguments.ok, c.args.other.now.arguments.ok))) (ap (type_pairs_of c.args.bank.now r.types) c.as_slice.ensures.value ∙ c.in_ok-types.ensures r.types) c.solve_types.new.bank c.solve_types.new.bindings (λ o y. c.in_ok-solve_types.ensures.behind r i g st n o y) x e
+returns-clause-given c = λ r i g st n x e. decompose_gives c.args.bank.now r (tree c.args.bank.now c.args.one.now.top.0) (tree c.args.bank.now c.args.other.now.top.0) c.in_ok-is_named.is_named (map (under c.args.bank.now r) c.args.one.now.arguments.items) (map (under c.args.bank.now r) c.args.other.now.arguments.items) c.args.level n c.args.units.now c.as_slice.result.now (rigid_top c.args.bank.now c.args.bindings.now c.args.one.now c.requires.one c.requires.rigid_one) (rigid_top c.args.bank.now c.args.bindings.now c.args.other.now c.requires.other c.requires.rigid_other) c.in_ok-is_named.ensures c.if-not-is_named.false (even c.args.bank.now r c.args.one.now.arguments.items c.args.other.now.arguments.items (omega (arith, c.if-len.false, c.len.ensures, c.len-2.ensures, c.args.one.now.arguments.ok, c.args.other.now.arguments.ok))) (ap (type_pairs_of c.args.bank.now r.types) c.as_slice.ensures.value ∙ c.in_ok-types.ensures r.types) c.args.bindings.now c.solve_types.new.bank c.solve_types.new.bindings (λ o y. c.in_ok-solve_types.ensures.behind r i g st n o y) x e

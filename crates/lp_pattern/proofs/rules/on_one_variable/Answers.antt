@@ -4,8 +4,8 @@ use Rattle.lp_model.specs.Pair.{Closing, Pair as Equation}
 use Rattle.lp_model.specs.Rule.{by_looks, compare_all}
 use Rattle.lp_pattern.specs.Comparing.{IsPassed, IsComparedTo}
 use Rattle.lp_pattern.specs.Ruling.{view, IsSeenPair, IsRuledOut}
-use Rattle.lp_pattern.specs.Stripping.{IsShut}
-use Rattle.lp_pattern.specs.Under.{IsReading, under}
+use Rattle.lp_pattern.specs.Turning.{IsOpenReading, IsKnownPair}
+use Rattle.lp_pattern.specs.Under.{under}
 use Rattle.lp_pattern.proofs.Results.{if_ok, if_err}
 use Rattle.lp_pattern.proofs.Walking.{reading_kept, looked_stays}
 use Rattle.lp_pattern.proofs.Judging.{pair_kept, one_of}
@@ -23,12 +23,12 @@ pub returns-in_err-is_same-clause-refused : goal.returns-in_err-is_same-clause-r
 returns-in_err-is_same-clause-refused c =
     let w = one_of c.args.one.now.head c.args.other.now.head (length c.args.one.now.arguments.items) (length c.args.other.now.arguments.items) c.requires.same in
     passed_up c.from_residual.result c.in_err-is_same.field-0.0
-    (λ e. (r : Closing) → IsReading c.args.bank.now c.args.bindings.now r → IsShut r → (n : ℕ) (p : Equation) → IsSeenPair c.args.bank.now r c.args.level c.args.one.now c.args.other.now p →
+    (λ e. (r : Closing) → IsOpenReading c.args.bank.now c.args.bindings.now c.args.next.now r → (levels : ℕ → ℕ) → (n : ℕ) (p : Equation) → IsSeenPair c.args.bank.now r c.args.level c.args.one.now c.args.other.now p → IsKnownPair levels c.args.next.now p →
     IsRuledOut n e c.args.units.now (by_looks n c.args.next.now p (view c.args.bank.now r c.args.one.now) (view c.args.bank.now r c.args.other.now)))
     c.from_residual.ensures.1
-    (λ r i g n p h. compare_ruled c.args.bank.now c.args.bindings.now r c.args.one.now c.args.other.now c.args.level n c.args.next.now c.args.units.now p h w.0 w.1 w.2 w.3 w.4 c.in_err-is_same.field-0.0
+    (λ r o levels n p h known. compare_ruled c.args.bank.now c.args.bindings.now r c.args.one.now c.args.other.now c.args.level n c.args.next.now c.args.units.now p h w.0 w.1 w.2 w.3 w.4 c.in_err-is_same.field-0.0
     (λ j q. transport (λ o. IsPassed c.in_err-is_same.field-0.0 c.args.units.now (compare_all j c.args.level (map (under c.args.bank.now r) o) (map (under c.args.bank.now r) c.args.other.now.arguments.items))) c.as_slice-ones.ensures.value
-    (transport (λ o. IsPassed c.in_err-is_same.field-0.0 c.args.units.now (compare_all j c.args.level (map (under c.args.bank.now r) c.as_slice-ones.result.now) (map (under c.args.bank.now r) o))) c.as_slice-others.ensures.value (c.in_err-is_same.ensures.refused r i j q))))
+    (transport (λ o. IsPassed c.in_err-is_same.field-0.0 c.args.units.now (compare_all j c.args.level (map (under c.args.bank.now r) c.as_slice-ones.result.now) (map (under c.args.bank.now r) o))) c.as_slice-others.ensures.value (c.in_err-is_same.ensures.refused r o.reading j q))))
 
 pub returns-then-is_same-clause-judged : goal.returns-then-is_same-clause-judged
 returns-then-is_same-clause-judged c =
@@ -58,11 +58,11 @@ pub returns-clause-refused : goal.returns-clause-refused
 returns-clause-refused c =
     let w = one_of c.args.one.now.head c.args.other.now.head (length c.args.one.now.arguments.items) (length c.args.other.now.arguments.items) c.requires.same in
     if_err c.on_others.result _ _
-    (λ e f r i g n p h.
+    (λ e f r o levels n p h known.
     other_ruled c.args.bank.now c.args.bindings.now r c.args.one.now c.args.other.now c.args.level n c.args.next.now c.args.units.now p h w.0 w.1 w.2 w.3 w.4 c.are_same.new.units c.in_ok-is_same.is_same e c.if-is_same.false
     (transport (λ o. IsComparedTo c.in_ok-is_same.is_same c.args.units.now c.are_same.new.units (compare_all n c.args.level (map (under c.args.bank.now r) o) (map (under c.args.bank.now r) c.args.other.now.arguments.items))) c.as_slice-ones.ensures.value
-    (transport (λ o. IsComparedTo c.in_ok-is_same.is_same c.args.units.now c.are_same.new.units (compare_all n c.args.level (map (under c.args.bank.now r) c.as_slice-ones.result.now) (map (under c.args.bank.now r) o))) c.as_slice-others.ensures.value (c.in_ok-is_same.ensures.compared r i n)))
-    (four_out_before c.args.bank.now c.are_same.new.bank c.args.bindings.now r c.args.one.now c.args.other.now c.args.level n c.args.next.now c.are_same.new.units p c.in_ok-is_same.ensures.kept c.requires.one c.requires.other h w.0 w.1 w.2 w.3 e (f r (reading_kept c.args.bank.now c.are_same.new.bank c.args.bindings.now r c.in_ok-is_same.ensures.kept i) g n p (pair_kept c.args.bank.now c.are_same.new.bank c.args.bindings.now r c.args.level c.args.one.now c.args.other.now p c.in_ok-is_same.ensures.kept c.requires.one c.requires.other h) w.0 w.1 w.2 w.3)))
+    (transport (λ o. IsComparedTo c.in_ok-is_same.is_same c.args.units.now c.are_same.new.units (compare_all n c.args.level (map (under c.args.bank.now r) c.as_slice-ones.result.now) (map (under c.args.bank.now r) o))) c.as_slice-others.ensures.value (c.in_ok-is_same.ensures.compared r o.reading n)))
+    (four_out_before c.args.bank.now c.are_same.new.bank c.args.bindings.now r c.args.one.now c.args.other.now c.args.level n c.args.next.now c.are_same.new.units p c.in_ok-is_same.ensures.kept c.requires.one c.requires.other h w.0 w.1 w.2 w.3 e (f r (open_kept c.args.bank.now c.are_same.new.bank c.args.bindings.now c.args.next.now r c.in_ok-is_same.ensures.kept o) levels n p (pair_kept c.args.bank.now c.are_same.new.bank c.args.bindings.now r c.args.level c.args.one.now c.args.other.now p c.in_ok-is_same.ensures.kept c.requires.one c.requires.other h) known w.0 w.1 w.2 w.3)))
     c.on_others.ensures.refused
 
 pub returns-then-is_same-clause-done : goal.returns-then-is_same-clause-done

@@ -5,8 +5,8 @@ use Rattle.lp_model.specs.Pair.{Closing, Pair as Equation}
 use Rattle.lp_model.specs.Rule.{by_rule_4}
 use Rattle.lp_pattern.specs.declared.look.Head.{Head}
 use Rattle.lp_pattern.specs.Ruling.{view, IsSeenPair, IsSideOf, IsRuledOut}
-use Rattle.lp_pattern.specs.Stripping.{IsShut}
-use Rattle.lp_pattern.specs.Under.{IsReading, under}
+use Rattle.lp_pattern.specs.Turning.{IsOpenReading, IsKnownPair}
+use Rattle.lp_pattern.specs.Under.{under}
 use Rattle.lp_pattern.proofs.Results.{if_ok, if_err}
 use Rattle.lp_pattern.proofs.Walking.{reading_kept, looked_stays}
 use Rattle.lp_pattern.proofs.Judging.{pair_kept}
@@ -18,9 +18,9 @@ use Rattle.lp_pattern.proofs.rules.on_others.Goals as goal
 pub returns-in_err-left-clause-refused : goal.returns-in_err-left-clause-refused
 returns-in_err-left-clause-refused c =
     passed_up c.from_residual.result c.in_err-left.field-0.0
-    (λ e. (r : Closing) → IsReading c.args.bank.now c.args.bindings.now r → IsShut r → (n : ℕ) (p : Equation) → IsSeenPair c.args.bank.now r c.args.level c.args.one.now c.args.other.now p → (x l : ℕ) → c.args.one.now.head ≡ Head.Variable x l → c.args.other.now.head ≡ Head.Variable x l →
+    (λ e. (r : Closing) → IsOpenReading c.args.bank.now c.args.bindings.now c.args.next.now r → (levels : ℕ → ℕ) → (n : ℕ) (p : Equation) → IsSeenPair c.args.bank.now r c.args.level c.args.one.now c.args.other.now p → IsKnownPair levels c.args.next.now p → (x l : ℕ) → c.args.one.now.head ≡ Head.Variable x l → c.args.other.now.head ≡ Head.Variable x l →
     IsRuledOut n e c.args.units.now (by_rule_4 n c.args.next.now p x l (map (under c.args.bank.now r) c.args.one.now.arguments.items) (map (under c.args.bank.now r) c.args.other.now.arguments.items)))
-    c.from_residual.ensures.1 (λ r i g n p h x l y z. left_test_out c.args.bank.now c.side_of.new.bank c.args.bindings.now r c.args.one.now c.args.other.now c.args.level n c.args.next.now c.args.units.now p c.in_err-left.ensures.kept c.requires.one c.requires.other h x l y z c.in_err-left.field-0.0 (c.in_err-left.ensures.refused r i g n))
+    c.from_residual.ensures.1 (λ r o levels n p h known x l y z. left_test_out c.args.bank.now c.side_of.new.bank c.args.bindings.now r c.args.one.now c.args.other.now c.args.level n c.args.next.now c.args.units.now p c.in_err-left.ensures.kept c.requires.one c.requires.other h x l y z c.in_err-left.field-0.0 (c.in_err-left.ensures.refused r o.reading o.shut n))
 
 pub by_pattern-requires-clause-one : goal.by_pattern-requires-clause-one
 by_pattern-requires-clause-one c = looked_stays c.args.bank.now c.side_of.new.bank c.args.bindings.now c.args.one.now c.in_ok-left.ensures.kept c.requires.one
@@ -39,9 +39,9 @@ returns-in_default-clause-judged c =
 pub returns-in_default-clause-refused : goal.returns-in_default-clause-refused
 returns-in_default-clause-refused c =
     if_err c.by_pattern.result _ _
-    (λ e f r i g n p h x l y z.
-    open_ruled c.args.bank.now c.side_of.new.bank c.args.bindings.now r c.args.one.now c.args.other.now c.args.level n c.args.next.now c.args.units.now p c.in_ok-left.ensures.kept c.requires.one c.requires.other h x l y z e (transport (λ z. IsSideOf n (view c.args.bank.now r c.args.one.now) c.args.level z) c.in_default.is (c.in_ok-left.ensures.side r i g n))
-    (five_out_before c.args.bank.now c.side_of.new.bank c.args.bindings.now r c.args.one.now c.args.other.now c.args.level n c.args.next.now c.args.units.now p c.in_ok-left.ensures.kept c.requires.one c.requires.other h e (f r (reading_kept c.args.bank.now c.side_of.new.bank c.args.bindings.now r c.in_ok-left.ensures.kept i) g n p (pair_kept c.args.bank.now c.side_of.new.bank c.args.bindings.now r c.args.level c.args.one.now c.args.other.now p c.in_ok-left.ensures.kept c.requires.one c.requires.other h))))
+    (λ e f r o levels n p h known x l y z.
+    open_ruled c.args.bank.now c.side_of.new.bank c.args.bindings.now r c.args.one.now c.args.other.now c.args.level n c.args.next.now c.args.units.now p c.in_ok-left.ensures.kept c.requires.one c.requires.other h x l y z e (transport (λ z. IsSideOf n (view c.args.bank.now r c.args.one.now) c.args.level z) c.in_default.is (c.in_ok-left.ensures.side r o.reading o.shut n))
+    (five_out_before c.args.bank.now c.side_of.new.bank c.args.bindings.now r c.args.one.now c.args.other.now c.args.level n c.args.next.now c.args.units.now p c.in_ok-left.ensures.kept c.requires.one c.requires.other h e (f r (open_kept c.args.bank.now c.side_of.new.bank c.args.bindings.now c.args.next.now r c.in_ok-left.ensures.kept o) levels n p (pair_kept c.args.bank.now c.side_of.new.bank c.args.bindings.now r c.args.level c.args.one.now c.args.other.now p c.in_ok-left.ensures.kept c.requires.one c.requires.other h) known)))
     c.by_pattern.ensures.refused
 
 pub side_of-requires-2 : goal.side_of-requires-2
@@ -50,12 +50,12 @@ side_of-requires-2 c = record { looked = looked_stays c.args.bank.now c.side_of.
 pub returns-in_err-right-clause-refused : goal.returns-in_err-right-clause-refused
 returns-in_err-right-clause-refused c =
     passed_up c.from_residual-in_err-right.result c.in_err-right.field-0.0
-    (λ e. (r : Closing) → IsReading c.args.bank.now c.args.bindings.now r → IsShut r → (n : ℕ) (p : Equation) → IsSeenPair c.args.bank.now r c.args.level c.args.one.now c.args.other.now p → (x l : ℕ) → c.args.one.now.head ≡ Head.Variable x l → c.args.other.now.head ≡ Head.Variable x l →
+    (λ e. (r : Closing) → IsOpenReading c.args.bank.now c.args.bindings.now c.args.next.now r → (levels : ℕ → ℕ) → (n : ℕ) (p : Equation) → IsSeenPair c.args.bank.now r c.args.level c.args.one.now c.args.other.now p → IsKnownPair levels c.args.next.now p → (x l : ℕ) → c.args.one.now.head ≡ Head.Variable x l → c.args.other.now.head ≡ Head.Variable x l →
     IsRuledOut n e c.args.units.now (by_rule_4 n c.args.next.now p x l (map (under c.args.bank.now r) c.args.one.now.arguments.items) (map (under c.args.bank.now r) c.args.other.now.arguments.items)))
     c.from_residual-in_err-right.ensures.1
-    (λ r i g n p h x l y z.
+    (λ r o levels n p h known x l y z.
     right_test_out c.args.bank.now c.side_of.new.bank c.args.bindings.now r c.args.one.now c.args.other.now c.args.level n c.args.next.now c.args.units.now p c.in_ok-left.ensures.kept c.requires.one c.requires.other h x l y z c.in_err-right.field-0.0
-    (no_side_before c.args.bank.now c.side_of.new.bank c.args.bindings.now r c.args.one.now c.args.other.now c.args.level n c.args.next.now c.args.units.now p c.in_ok-left.ensures.kept c.requires.one c.requires.other h c.args.other.now c.in_err-right.field-0.0 c.requires.other (c.in_err-right.ensures.refused r (reading_kept c.args.bank.now c.side_of.new.bank c.args.bindings.now r c.in_ok-left.ensures.kept i) g n)))
+    (no_side_before c.args.bank.now c.side_of.new.bank c.args.bindings.now r c.args.one.now c.args.other.now c.args.level n c.args.next.now c.args.units.now p c.in_ok-left.ensures.kept c.requires.one c.requires.other h c.args.other.now c.in_err-right.field-0.0 c.requires.other (c.in_err-right.ensures.refused r (reading_kept c.args.bank.now c.side_of.new.bank c.args.bindings.now r c.in_ok-left.ensures.kept o.reading) o.shut n)))
 
 pub by_pattern-requires-in_default-right-clause-one : goal.by_pattern-requires-in_default-right-clause-one
 by_pattern-requires-in_default-right-clause-one c = looked_stays c.args.bank.now c.side_of-2.new.bank c.args.bindings.now c.args.one.now (extends-trans c.args.bank.now c.side_of.new.bank c.side_of-2.new.bank c.in_ok-left.ensures.kept c.in_ok-right.ensures.kept) c.requires.one
@@ -75,10 +75,10 @@ returns-in_default-right-clause-judged c =
 pub returns-in_default-right-clause-refused : goal.returns-in_default-right-clause-refused
 returns-in_default-right-clause-refused c =
     if_err c.by_pattern-in_default-right.result _ _
-    (λ e f r i g n p h x l y z.
-    half_ruled c.args.bank.now c.side_of-2.new.bank c.args.bindings.now r c.args.one.now c.args.other.now c.args.level n c.args.next.now c.args.units.now p (extends-trans c.args.bank.now c.side_of.new.bank c.side_of-2.new.bank c.in_ok-left.ensures.kept c.in_ok-right.ensures.kept) c.requires.one c.requires.other h x l y z e c.in-Some.left (transport (λ z. IsSideOf n (view c.args.bank.now r c.args.one.now) c.args.level z) c.in-Some.is (c.in_ok-left.ensures.side r i g n))
-    (side_before c.args.bank.now c.side_of.new.bank c.args.bindings.now r c.args.one.now c.args.other.now c.args.level n c.args.next.now c.args.units.now p c.in_ok-left.ensures.kept c.requires.one c.requires.other h c.args.other.now None c.requires.other (transport (λ z. IsSideOf n (view c.side_of.new.bank r c.args.other.now) c.args.level z) c.in_default-right.is (c.in_ok-right.ensures.side r (reading_kept c.args.bank.now c.side_of.new.bank c.args.bindings.now r c.in_ok-left.ensures.kept i) g n)))
-    (five_out_before c.args.bank.now c.side_of-2.new.bank c.args.bindings.now r c.args.one.now c.args.other.now c.args.level n c.args.next.now c.args.units.now p (extends-trans c.args.bank.now c.side_of.new.bank c.side_of-2.new.bank c.in_ok-left.ensures.kept c.in_ok-right.ensures.kept) c.requires.one c.requires.other h e (f r (reading_kept c.args.bank.now c.side_of-2.new.bank c.args.bindings.now r (extends-trans c.args.bank.now c.side_of.new.bank c.side_of-2.new.bank c.in_ok-left.ensures.kept c.in_ok-right.ensures.kept) i) g n p (pair_kept c.args.bank.now c.side_of-2.new.bank c.args.bindings.now r c.args.level c.args.one.now c.args.other.now p (extends-trans c.args.bank.now c.side_of.new.bank c.side_of-2.new.bank c.in_ok-left.ensures.kept c.in_ok-right.ensures.kept) c.requires.one c.requires.other h))))
+    (λ e f r o levels n p h known x l y z.
+    half_ruled c.args.bank.now c.side_of-2.new.bank c.args.bindings.now r c.args.one.now c.args.other.now c.args.level n c.args.next.now c.args.units.now p (extends-trans c.args.bank.now c.side_of.new.bank c.side_of-2.new.bank c.in_ok-left.ensures.kept c.in_ok-right.ensures.kept) c.requires.one c.requires.other h x l y z e c.in-Some.left (transport (λ z. IsSideOf n (view c.args.bank.now r c.args.one.now) c.args.level z) c.in-Some.is (c.in_ok-left.ensures.side r o.reading o.shut n))
+    (side_before c.args.bank.now c.side_of.new.bank c.args.bindings.now r c.args.one.now c.args.other.now c.args.level n c.args.next.now c.args.units.now p c.in_ok-left.ensures.kept c.requires.one c.requires.other h c.args.other.now None c.requires.other (transport (λ z. IsSideOf n (view c.side_of.new.bank r c.args.other.now) c.args.level z) c.in_default-right.is (c.in_ok-right.ensures.side r (reading_kept c.args.bank.now c.side_of.new.bank c.args.bindings.now r c.in_ok-left.ensures.kept o.reading) o.shut n)))
+    (five_out_before c.args.bank.now c.side_of-2.new.bank c.args.bindings.now r c.args.one.now c.args.other.now c.args.level n c.args.next.now c.args.units.now p (extends-trans c.args.bank.now c.side_of.new.bank c.side_of-2.new.bank c.in_ok-left.ensures.kept c.in_ok-right.ensures.kept) c.requires.one c.requires.other h e (f r (open_kept c.args.bank.now c.side_of-2.new.bank c.args.bindings.now c.args.next.now r (extends-trans c.args.bank.now c.side_of.new.bank c.side_of-2.new.bank c.in_ok-left.ensures.kept c.in_ok-right.ensures.kept) o) levels n p (pair_kept c.args.bank.now c.side_of-2.new.bank c.args.bindings.now r c.args.level c.args.one.now c.args.other.now p (extends-trans c.args.bank.now c.side_of.new.bank c.side_of-2.new.bank c.in_ok-left.ensures.kept c.in_ok-right.ensures.kept) c.requires.one c.requires.other h) known)))
     c.by_pattern-in_default-right.ensures.refused
 
 pub returns-clause-judged : goal.returns-clause-judged

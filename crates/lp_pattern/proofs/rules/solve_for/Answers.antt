@@ -10,15 +10,16 @@ use Rattle.lp_model.specs.Rule.{solve_for}
 use Rattle.lp_pattern.specs.Reading.{side_of}
 use Rattle.lp_pattern.specs.Ruling.{view, IsRuledOut}
 use Rattle.lp_pattern.specs.Seen.{weak_step}
-use Rattle.lp_pattern.specs.Stripping.{IsShut}
-use Rattle.lp_pattern.specs.Under.{IsReading, under}
+use Rattle.lp_pattern.specs.Turning.{IsOpenReading}
+use Rattle.lp_pattern.specs.Under.{under}
 use Rattle.lp_pattern.specs.Putting.{Known}
-use Rattle.lp_pattern.specs.Valuing.{Values}
+use Rattle.lp_pattern.specs.Valuing.{IsKnownSide, Values, HasNoValue}
 use Rattle.lp_pattern.proofs.BoundOnce.{open_kept, kept_behind}
 use Rattle.lp_pattern.proofs.PruneSteps.{weak_reduces}
 use Rattle.lp_pattern.proofs.SidesBound.{bound_done}
 use Rattle.lp_pattern.proofs.Stacks.{under_kept}
-use Rattle.lp_pattern.proofs.Judging.{on_head, on_delayed, on_bound, scan_out, value_out}
+use Rattle.lp_pattern.proofs.Judging.{on_head, on_delayed, on_bound, scan_out}
+use Rattle.lp_pattern.proofs.RuledOut.{value_out}
 use Rattle.lp_pattern.proofs.rules.solve_for.Goals as goal
 
 pub scan-requires : goal.scan-requires
@@ -31,12 +32,12 @@ returns-then-has_head-clause-judged c = λ r i h n j t e.
 pub returns-in_err-found-clause-refused : goal.returns-in_err-found-clause-refused
 returns-in_err-found-clause-refused c =
     passed_up c.from_residual.result c.in_err-found.field-0.0
-    (λ e. (r : Closing) → IsReading c.args.bank.now c.args.bindings.now r → IsShut r → (n j : ℕ) (t : Term) → steps weak_step j t ≡ Some (under c.args.bank.now r c.args.other.now.whole) →
+    (λ e. (r : Closing) → IsOpenReading c.args.bank.now c.args.bindings.now c.args.next.now r → (levels : ℕ → ℕ) → IsKnownSide levels c.args.next.now (side_of c.args.side.now) → (n j : ℕ) (t : Term) → steps weak_step j t ≡ Some (under c.args.bank.now r c.args.other.now.whole) → Within (Known levels c.args.next.now) 0 t →
     IsRuledOut n e c.args.units.now (solve_for n c.args.next.now (side_of c.args.side.now) t (view c.args.bank.now r c.args.other.now)))
     c.from_residual.ensures.1
-    (λ r i h n j t e.
+    (λ r o levels k n j t e w.
     scan_out n c.args.next.now j c.args.units.now (side_of c.args.side.now) t (under c.args.bank.now r c.args.other.now.whole) (view c.args.bank.now r c.args.other.now) c.in_err-found.field-0.0 e
-    (sym (c.has_head.ensures c.args.bank.now r) ∙ c.if-has_head.false) (c.in_err-found.ensures.stopped r i h n))
+    (sym (c.has_head.ensures c.args.bank.now r) ∙ c.if-has_head.false) (c.in_err-found.ensures.stopped r o.reading o.shut n))
 
 pub returns-then-found-clause-judged : goal.returns-then-found-clause-judged
 returns-then-found-clause-judged c = λ r i h n j t e.
@@ -46,12 +47,18 @@ returns-then-found-clause-judged c = λ r i h n j t e.
 pub returns-in_err-value-clause-refused : goal.returns-in_err-value-clause-refused
 returns-in_err-value-clause-refused c =
     passed_up c.from_residual-in_err-value.result c.in_err-value.field-0.0
-    (λ e. (r : Closing) → IsReading c.args.bank.now c.args.bindings.now r → IsShut r → (n j : ℕ) (t : Term) → steps weak_step j t ≡ Some (under c.args.bank.now r c.args.other.now.whole) →
+    (λ e. (r : Closing) → IsOpenReading c.args.bank.now c.args.bindings.now c.args.next.now r → (levels : ℕ → ℕ) → IsKnownSide levels c.args.next.now (side_of c.args.side.now) → (n j : ℕ) (t : Term) → steps weak_step j t ≡ Some (under c.args.bank.now r c.args.other.now.whole) → Within (Known levels c.args.next.now) 0 t →
     IsRuledOut n e c.args.units.now (solve_for n c.args.next.now (side_of c.args.side.now) t (view c.args.bank.now r c.args.other.now)))
     c.from_residual-in_err-value.ensures.1
-    (λ r i h n j t e.
-    value_out n c.args.next.now j c.args.units.now c.scan.new.units (side_of c.args.side.now) t (under c.args.bank.now r c.args.other.now.whole) (view c.args.bank.now r c.args.other.now) c.in_ok-found.found c.in_err-value.field-0.0 e
-    (sym (c.has_head.ensures c.args.bank.now r) ∙ c.if-has_head.false) (c.in_ok-found.ensures.scanned r i h n) c.if-found.false c.in_err-value.ensures.unfailing)
+    (λ r o levels k n j t e w.
+    let x = under c.args.bank.now r c.args.other.now.whole in
+    let same = under_kept c.args.bank.now c.scan.new.bank r c.args.other.now.whole c.in_ok-found.ensures.kept c.requires.other.known in
+    let known = within_reduces (Known levels c.args.next.now) 0 (weak_reduces j t x e) w in
+    value_out n c.args.next.now j c.args.units.now c.scan.new.units (side_of c.args.side.now) t x (view c.args.bank.now r c.args.other.now) c.in_ok-found.found c.in_err-value.field-0.0 e
+    (sym (c.has_head.ensures c.args.bank.now r) ∙ c.if-has_head.false) (λ m. c.in_ok-found.ensures.scanned r o.reading o.shut m) c.if-found.false
+    (transport (HasNoValue n c.in_err-value.field-0.0 (side_of c.args.side.now) c.args.next.now c.in_ok-found.found) same
+    (c.in_err-value.ensures.refused (omega (arith, c.requires.other.known, c.in_ok-found.ensures.kept.more_terms)) r (open_kept c.args.bank.now c.scan.new.bank c.args.bindings.now c.args.next.now r c.in_ok-found.ensures.kept o) levels k
+    (transport (Within (Known levels c.args.next.now) 0) (sym same) known) n)))
 
 pub returns-clause-judged : goal.returns-clause-judged
 returns-clause-judged c = λ r i h n j t e.

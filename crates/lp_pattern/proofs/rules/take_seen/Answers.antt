@@ -3,8 +3,7 @@ use Rattle.lp_term.proofs.Moves.{passed_up}
 use Rattle.lp_model.specs.Pair.{Closing, Pair as Equation}
 use Rattle.lp_model.specs.Rule.{rule}
 use Rattle.lp_pattern.specs.Ruling.{IsSeenPair, IsRuledOut}
-use Rattle.lp_pattern.specs.Stripping.{IsShut}
-use Rattle.lp_pattern.specs.Under.{IsReading}
+use Rattle.lp_pattern.specs.Turning.{IsOpenReading, IsKnownPair}
 use Rattle.lp_pattern.proofs.Judging.{taken_done, taken_delayed, taken_out}
 use Rattle.lp_pattern.proofs.rules.take_seen.Goals as goal
 
@@ -22,9 +21,9 @@ returns-then-are_flexible-clause-judged c = λ r i g n p h q e.
 pub returns-in_err-is_done-clause-refused : goal.returns-in_err-is_done-clause-refused
 returns-in_err-is_done-clause-refused c =
     passed_up c.from_residual.result c.in_err-is_done.field-0.0
-    (λ e. (r : Closing) → IsReading c.args.bank.now c.args.bindings.now r → IsShut r → (n : ℕ) (p : Equation) → IsSeenPair c.args.bank.now r c.args.level c.args.one.now c.args.other.now p → IsRuledOut n e c.args.units.now (rule n c.args.next.now p))
+    (λ e. (r : Closing) → IsOpenReading c.args.bank.now c.args.bindings.now c.args.next.now r → (levels : ℕ → ℕ) → (n : ℕ) (p : Equation) → IsSeenPair c.args.bank.now r c.args.level c.args.one.now c.args.other.now p → IsKnownPair levels c.args.next.now p → IsRuledOut n e c.args.units.now (rule n c.args.next.now p))
     c.from_residual.ensures.1
-    (λ r i g n p h. taken_out c.args.bank.now c.args.bindings.now r c.args.one.now c.args.other.now n c.args.next.now c.args.level c.args.units.now p c.in_err-is_done.field-0.0 i c.requires.one c.requires.other h (sym c.are_flexible.ensures ∙ c.if-are_flexible.true) (c.in_err-is_done.ensures.refused r i g n p h))
+    (λ r o levels n p h known. taken_out c.args.bank.now c.args.bindings.now r c.args.one.now c.args.other.now n c.args.next.now c.args.level c.args.units.now p c.in_err-is_done.field-0.0 o.reading c.requires.one c.requires.other h (sym c.are_flexible.ensures ∙ c.if-are_flexible.true) (c.in_err-is_done.ensures.refused r o levels n p h known))
 
 pub replace-requires-clause-flexible : goal.replace-requires-clause-flexible
 replace-requires-clause-flexible c = sym c.are_flexible.ensures ∙ c.if-are_flexible.false
@@ -32,8 +31,8 @@ replace-requires-clause-flexible c = sym c.are_flexible.ensures ∙ c.if-are_fle
 pub returns-in_err-replace-clause-refused : goal.returns-in_err-replace-clause-refused
 returns-in_err-replace-clause-refused c =
     passed_up c.from_residual-in_err-replace.result c.in_err-replace.field-0.0
-    (λ e. (r : Closing) → IsReading c.args.bank.now c.args.bindings.now r → IsShut r → (n : ℕ) (p : Equation) → IsSeenPair c.args.bank.now r c.args.level c.args.one.now c.args.other.now p → IsRuledOut n e c.args.units.now (rule n c.args.next.now p))
-    c.from_residual-in_err-replace.ensures.1 (λ r i g n p h. c.in_err-replace.ensures.refused r i g n c.args.next.now p h)
+    (λ e. (r : Closing) → IsOpenReading c.args.bank.now c.args.bindings.now c.args.next.now r → (levels : ℕ → ℕ) → (n : ℕ) (p : Equation) → IsSeenPair c.args.bank.now r c.args.level c.args.one.now c.args.other.now p → IsKnownPair levels c.args.next.now p → IsRuledOut n e c.args.units.now (rule n c.args.next.now p))
+    c.from_residual-in_err-replace.ensures.1 (λ r o levels n p h known. c.in_err-replace.ensures.refused r o.reading o.shut n c.args.next.now p h)
 
 pub returns-clause-judged : goal.returns-clause-judged
 returns-clause-judged c = λ r i g n p h q e. c.in_ok-replace.ensures.replaced r i g n c.args.next.now p h q e

@@ -1,7 +1,15 @@
-use Rattle.std.proofs.Common.{◌∙◌, ◌++◌, ◌∷◌, [], ap, arith}
-use Rattle.lp_term.proofs.Moves.{nothing}
+use Rattle.std.proofs.Common.{◌≡◌, ◌<◌, ◌∙◌, ◌++◌, ◌∷◌, [], ap, arith, ℕ, length, Some, subst as transport}
+use Rattle.lp_term.proofs.Moves.{nothing, passed_up}
 use Rattle.lp_term.proofs.Trees.{extends_same, extends-trans}
 use Rattle.lp_pattern.specs.declared.settle.Task.TheVariants.{Visit}
+use Rattle.lp_model.specs.Pair.{Closing}
+use Rattle.lp_model.specs.Scan.{settle}
+use Rattle.lp_pattern.specs.Refusing.{IsNothing}
+use Rattle.lp_pattern.specs.Settling.{IsLeft, indexed_in}
+use Rattle.lp_pattern.specs.Stripping.{IsShut}
+use Rattle.lp_pattern.specs.Under.{IsReading, under}
+use Rattle.lp_pattern.proofs.GivenUp.{given_before, nothing_given}
+use Rattle.lp_pattern.proofs.Walking.{reading_kept}
 use Rattle.lp_pattern.proofs.SettleMoves.{settle_begins, settle_ends, settle_goes}
 use Rattle.lp_pattern.proofs.settle.settled.Goals as goal
 
@@ -26,3 +34,16 @@ tasks-preserved c = record {
       settle_goes n c.args.bank.now c.tasks.bank c.step.new.bank c.args.bindings.now r c.args.side.now.eigens.items c.args.side.now.pair c.tasks.work.tasks.items c.pop.new.self.items c.step.new.work.tasks.items c.in-Some.task
       c.tasks.work.made.items c.step.new.work.made.items t c.tasks.invariant.kept i h c.in-Some.ensures.items (c.tasks.invariant.leads l r i h n t e) c.in_ok-step.ensures.moves;
 }
+
+pub returns-in_err-step-clause-refused : goal.returns-in_err-step-clause-refused
+returns-in_err-step-clause-refused c =
+    passed_up c.from_residual-in_err-step.result c.in_err-step.field-0.0
+    (λ e. c.args.term.0 < length c.args.bank.now.terms → (r : Closing) → IsReading c.args.bank.now c.args.bindings.now r → IsShut r → (n : ℕ) → IsNothing n e (settle n c.args.side.now.pair (under c.args.bank.now r c.args.term)))
+    c.from_residual-in_err-step.ensures.1
+    (λ l r i h n.
+    nothing_given n c.in_err-step.field-0.0 (settle n c.args.side.now.pair (under c.args.bank.now r c.args.term)) c.in_err-step.ensures.unfailing
+    (λ t q.
+    given_before n c.in_err-step.field-0.0 (settle n c.args.side.now.pair (under c.args.bank.now r c.args.term) ≡ Some t)
+    (IsLeft n c.tasks.bank r c.args.side.now.eigens.items (c.pop.new.self.items ++ c.in-Some.task ∷ []) c.tasks.work.made.items (indexed_in c.args.side.now.eigens.items c.args.side.now.pair 0 t))
+    (λ z. transport (λ x. IsLeft n c.tasks.bank r c.args.side.now.eigens.items x c.tasks.work.made.items (indexed_in c.args.side.now.eigens.items c.args.side.now.pair 0 t)) c.in-Some.ensures.items (c.tasks.invariant.leads l r i h n t z))
+    (c.in_err-step.ensures.refused r (reading_kept c.args.bank.now c.tasks.bank c.args.bindings.now r c.tasks.invariant.kept i) h n (indexed_in c.args.side.now.eigens.items c.args.side.now.pair 0 t))))

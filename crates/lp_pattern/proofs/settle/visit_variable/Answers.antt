@@ -1,10 +1,13 @@
 use Rattle.std.proofs.Common.{[], ◌∷◌, ◌++◌, ◌∙◌, sym, ap, map, None, Some, subst as transport}
 use Rattle.lp_pattern.specs.declared.settle.Task.TheVariants.{Visit}
 use Rattle.lp_pattern.specs.Settling.{Moves, eigens_in}
-use Rattle.lp_pattern.specs.Stripping.{IsPattern, read_at}
+use Rattle.lp_pattern.specs.Stripping.{IsPattern, HasNoPattern, read_at}
 use Rattle.lp_calculus.specs.Term.{apply}
 use Rattle.lp_term.specs.Nodes.{tree}
 use Rattle.lp_term.proofs.Trees.{extends-trans}
+use Rattle.lp_pattern.specs.Refusing.{IsOfTerm}
+use Rattle.lp_pattern.proofs.GivenUp.{settle_open_far}
+use Rattle.lp_pattern.proofs.Results.{err_and}
 use Rattle.lp_pattern.proofs.Walking.{looked_stays}
 use Rattle.lp_pattern.proofs.SettleMoves.{open_moves, pattern_moves}
 use Rattle.lp_pattern.proofs.settle.visit_variable.Goals as goal
@@ -41,3 +44,10 @@ returns-clause-moves c =
     (ap (map (λ t. tree c.put_stand_ins.new.bank t.0)) c.as_slice.ensures.value ∙ c.in_ok-ids.ensures.terms.trees ∙
     ap (eigens_in c.args.side.now.eigens.items c.args.opened.level c.args.opened.depth) c.as_slice-eigens.ensures.value))
     c.in_ok-push.ensures.items
+
+pub returns-in_err-pattern-clause-refused : goal.returns-in_err-pattern-clause-refused
+returns-in_err-pattern-clause-refused c =
+    err_and c.from_residual.result (λ e. IsOfTerm c.in_err-pattern.field-0.0 e) _ c.from_residual.ensures.1
+    (λ y o r i h m x.
+    settle_open_far c.args.bank.now c.args.bindings.now r c.args.side.now.eigens.items c.args.looked.now c.args.id c.args.level c.args.opened c.args.work.now.tasks.items c.args.work.now.made.items m x c.in_err-pattern.field-0.0 y i c.requires.looked c.requires.head o
+    (λ l. transport (λ z. HasNoPattern m c.args.level (map (read_at c.args.bank.now r c.args.opened.level c.args.opened.depth) z) c.in_err-pattern.field-0.0) c.as_slice-arguments.ensures.value (c.in_err-pattern.ensures.refused r i h m l)))

@@ -26,7 +26,7 @@ returns-clause-types c = λ θ A still n r d.
     let none = ap (reading (type_tree later)) c.new-solution.ensures in
     let same = c.in_ok-filled.ensures.filled θ A in
     all_solved b later c.args.bindings.now c.adopt.new.bindings θ (reads later c.unify_within.new.bindings.made) c.args.bindings.now.types.entries c.unify_within.new.bindings.made.entries c.args.pairs.now c.args.units.now
-    c.in_ok-units.field-0 n r c.in_ok-filled.ensures.kept A still refl c.in_ok-adopt.ensures.taken (ended_there (type_tree later) _ _ _ _ c.args.units.now c.in_ok-units.field-0 _ none c.as_slice-2.ensures.value same c.in_ok-units.ensures.solved)
+    c.in_ok-units.field-0 n r c.in_ok-filled.ensures.kept A still refl c.in_ok-adopt.ensures.taken c.in_ok-adopt.ensures.distinct (ended_there (type_tree later) _ _ _ _ c.args.units.now c.in_ok-units.field-0 _ none c.as_slice-2.ensures.value same c.in_ok-units.ensures.solved)
     (general_there (type_tree later) _ _ _ _ _ none c.as_slice-2.ensures.value same c.in_ok-units.ensures.general) c.in_ok-units.ensures.kept d
 
 pub returns-clause-solved : goal.returns-clause-solved
@@ -37,13 +37,13 @@ returns-clause-solved c = λ θ A n o d.
 
 pub returns-clause-behind : goal.returns-clause-behind
 returns-clause-behind c = λ r i h still n o d.
-    read_behind c.args.bank.now c.filled_pairs.new.bank c.args.bindings.now c.adopt.new.bindings r c.args.units.now c.in_ok-units.field-0 o c.in_ok-filled.ensures.kept c.adopt.ensures.terms i h (returns-clause-types c r.types i.types still n o d)
+    read_behind c.args.bank.now c.filled_pairs.new.bank c.args.bindings.now c.adopt.new.bindings r c.args.units.now c.in_ok-units.field-0 n c.args.pairs.now o c.in_ok-filled.ensures.kept c.adopt.ensures.terms i h d (returns-clause-types c r.types i.types still n o d)
 
 no_pairs : (c : goal.Then-is_empty) → length c.args.pairs.now ≡ 0
 no_pairs c = search rules
 
 pub returns-then-is_empty-clause-behind : goal.returns-then-is_empty-clause-behind
 returns-then-is_empty-clause-behind c = λ r i h still n o d.
-    read_behind c.args.bank.now c.args.bank.now c.args.bindings.now c.args.bindings.now r c.args.units.now c.args.units.now o (extends_same c.args.bank.now) refl i h
+    read_behind c.args.bank.now c.args.bank.now c.args.bindings.now c.args.bindings.now r c.args.units.now c.args.units.now n c.args.pairs.now o (extends_same c.args.bank.now) refl i h d
     (none_solved c.args.bank.now c.args.bindings.now r.types (type_pairs_of c.args.bank.now r.types c.args.pairs.now) c.args.units.now n o i.types still
     (ap (type_pairs_of c.args.bank.now r.types) (nothing c.args.pairs.now (no_pairs c))) d)
