@@ -1,5 +1,5 @@
 -- Settling and pruning stop for want of steps only where the definition gives nothing in as many.
-use Rattle.std.proofs.Common.{◌≡◌, ℕ, zero, suc, ◌+◌, ◌<◌, ◌≤◌, List, [], ◌∷◌, ◌++◌, map, length, reverse, ◌∙◌, refl, sym, ap, subst as transport, arith, false, Option, Some, None}
+use Rattle.std.proofs.Common.{◌≡◌, ℕ, zero, suc, ◌+◌, ◌<◌, ◌≤◌, List, [], ◌∷◌, ◌++◌, map, reverse, ◌∙◌, refl, sym, ap, subst as transport, arith, false, Option, Some, None}
 use Rattle.std.specs.Prelude.{IsSome, option_map}
 use Rattle.std.proofs.lemmas.List.{reverse-append}
 use Rattle.lp_calculus.specs.Term.{Term}

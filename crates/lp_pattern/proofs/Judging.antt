@@ -1,5 +1,5 @@
 -- Which rule for a pair of terms that were looked at applies, and its units.
-use Rattle.std.proofs.Common.{◌≡◌, ℕ, zero, suc, ◌+◌, ◌<◌, ◌≤◌, ◌⊎◌, inl, inr, List, [], ◌∷◌, map, length, ◌∙◌, refl, sym, ap, subst as transport, arith, Bool, true, false, Option, Some, None, nat_eq}
+use Rattle.std.proofs.Common.{◌≡◌, ℕ, zero, suc, ◌+◌, ◌<◌, ◌≤◌, List, [], ◌∷◌, map, length, ◌∙◌, refl, sym, ap, subst as transport, arith, Bool, true, false, Option, Some, None, nat_eq}
 use Rattle.std.specs.Prelude.{option_map, option_and_then, ◌&&◌, All}
 use Rattle.std.proofs.lemmas.Bool.Decides.{nat_tests}
 use Rattle.std.proofs.lemmas.List.Elements.{All-head, All-tail}
@@ -26,7 +26,7 @@ use Rattle.lp_pattern.specs.declared.side.Side.{Side}
 use Rattle.lp_model.specs.declared.answer.Pair.{Pair as Numbers}
 use Rattle.lp_pattern.specs.Comparing.{IsComparedTo, IsPassed, pair_under}
 use Rattle.lp_pattern.specs.Reading.{side_of}
-use Rattle.lp_pattern.specs.Refusing.{IsOfTerm, IsNoFailure}
+use Rattle.lp_pattern.specs.Refusing.{IsOfTerm}
 use Rattle.lp_pattern.specs.Ruling.{view_of, view, is_one_variable, is_flexible, IsSideOf, IsNoSide, IsSeenPair, IsVerdict, IsJudged, IsRuledOut, IsDone, IsTaken}
 use Rattle.lp_pattern.specs.Seen.{weak_step, IsHead, IsLooked, IsReachedWithin, seen}
 use Rattle.lp_pattern.specs.Stripping.{IsPattern, HasNoPattern, eigens_of, read_at}

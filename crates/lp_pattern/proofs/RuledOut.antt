@@ -1,11 +1,11 @@
 -- Where a rule for one variable is given up the definition takes more units than there are, or fails with them.
-use Rattle.std.proofs.Common.{◌≡◌, ℕ, ◌<◌, ◌≤◌, List, [], ◌∙◌, sym, ap, subst as transport, true, false, Some, None}
+use Rattle.std.proofs.Common.{◌≡◌, ℕ, [], ◌∙◌, sym, ap, subst as transport, true, false, Some, None}
 use Rattle.lp_calculus.specs.Term.{Term}
 use Rattle.lp_calculus.specs.Convert.{steps}
 use Rattle.lp_calculus.specs.Fill.{Within}
 use Rattle.lp_calculus.proofs.Steps.{within_reduces}
 use Rattle.lp_term.specs.Nodes.{Nodes, Extends}
-use Rattle.std.specs.Prelude.{option_map, Option}
+use Rattle.std.specs.Prelude.{Option}
 use Rattle.lp_model.specs.Look.{Look}
 use Rattle.lp_model.specs.Pair.{Pair, Closing}
 use Rattle.lp_model.specs.Rule.{Ruled, ruled, binds, bound, has_head, pattern_side, solve_for, by_pattern, by_rule_5}

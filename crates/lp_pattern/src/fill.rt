@@ -13,7 +13,7 @@ use crate::fill_types::{TypesFilled, filled_in};
 use crate::parts::{put_abstraction, put_application, put_constant, put_parameter, term_of};
 use indexmap::IndexMap;
 use lp_base::Memory;
-use lp_term::{Bank, TermId, TermNode, TermRefusal, TypeId};
+use lp_term::{Bank, TermId, TermNode, TypeId};
 use std::alloc::Global;
 
 // What terms and their types have become, by their numbers.
@@ -289,7 +289,7 @@ pub fn filled(
     bank: &mut Bank,
     bindings: &Bindings,
     term: TermId,
-) -> Result<TermId, TermRefusal>
+) -> Result<TermId, Memory>
     ensures kept { Extends bank.old bank.new }
     ensures within { IfOk result (λ id. id.0 < length bank.new.terms) }
     ensures filled { IfOk result (λ id. (c : Closing) → IsReading bank.old bindings.now c → IsShut c → tree bank.new id.0 ≡ closed c (tree bank.old term.0)) }
@@ -301,12 +301,12 @@ pub fn filled(
     'terms: for _ in 0..u64::MAX {
         let Some(top) = left.pop() else {
             let Some(made) = done.at(root) else {
-                return Err(TermRefusal::Memory);
+                return Err(Memory);
             };
             let made = term_of(bank, made)?;
             return Ok(made);
         };
         step(alloc, bank, bindings, &mut done, top, &mut left)?;
     }
-    Err(TermRefusal::Memory)
+    Err(Memory)
 }

@@ -11,7 +11,7 @@ use crate::bindings::Bindings;
 use crate::parts::{put_arrow, put_constructor, type_of};
 use indexmap::IndexMap;
 use lp_base::Memory;
-use lp_term::{Bank, TermRefusal, TypeId, TypeNode};
+use lp_term::{Bank, TypeId, TypeNode};
 use std::alloc::Global;
 
 // What types have become, by their numbers. They are past the bindings at their top.
@@ -217,7 +217,7 @@ pub fn filled_type(
     bank: &mut Bank,
     bindings: &Bindings,
     id: TypeId,
-) -> Result<TypeId, TermRefusal>
+) -> Result<TypeId, Memory>
     ensures kept { Extends bank.old bank.new }
     ensures within { IfOk result (λ of. of.0 < length bank.new.types) }
     ensures filled { IfOk result (λ of. (θ : ℕ → Ty) → AreTypes bank.old bindings.now θ → type_tree bank.new of.0 ≡ instance θ (type_tree bank.old id.0)) }

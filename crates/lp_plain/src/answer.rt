@@ -7,16 +7,12 @@ use crate::machine::Machine;
 use lp_base::Memory;
 use lp_model::{Answer, Pair};
 use lp_pattern::filled;
-use lp_term::{Bank, TermId, TermRefusal};
+use lp_term::{Bank, TermId};
 use std::alloc::Global;
 
 // The term with all bindings put in.
 fn filled_in(machine: &mut Machine, term: TermId) -> Result<TermId, Memory> {
-    match filled(machine.alloc, &mut machine.bank, &machine.bindings, term) {
-        Ok(id) => Ok(id),
-        Err(TermRefusal::Deep(_)) => Err(Memory),
-        Err(TermRefusal::Memory) => Err(Memory),
-    }
+    filled(machine.alloc, &mut machine.bank, &machine.bindings, term)
 }
 
 // The term with all bindings put in, in another bank.

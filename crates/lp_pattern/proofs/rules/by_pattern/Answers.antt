@@ -4,9 +4,7 @@ use Rattle.lp_term.proofs.Trees.{extends-trans}
 use Rattle.lp_model.specs.Pair.{Closing, Pair as Equation}
 use Rattle.lp_model.specs.Rule.{by_rule_5}
 use Rattle.lp_pattern.specs.Ruling.{view, IsSeenPair, IsSideOf, IsRuledOut}
-use Rattle.lp_pattern.specs.Stripping.{IsShut}
 use Rattle.lp_pattern.specs.Turning.{IsOpenReading, IsKnownPair}
-use Rattle.lp_pattern.specs.Under.{IsReading}
 use Rattle.lp_pattern.proofs.Results.{if_ok, if_err}
 use Rattle.lp_pattern.proofs.Walking.{reading_kept, looked_stays}
 use Rattle.lp_pattern.proofs.Judging.{left_out, right_out, no_side}

@@ -4,9 +4,8 @@ use Rattle.lp_model.specs.Pair.{Closing, Pair as Equation}
 use Rattle.lp_model.specs.Rule.{by_looks, compare_all}
 use Rattle.lp_pattern.specs.Comparing.{IsPassed, IsComparedTo}
 use Rattle.lp_pattern.specs.Ruling.{view, IsSeenPair, IsRuledOut}
-use Rattle.lp_pattern.specs.Stripping.{IsShut}
 use Rattle.lp_pattern.specs.Turning.{IsOpenReading, IsKnownPair}
-use Rattle.lp_pattern.specs.Under.{IsReading, under}
+use Rattle.lp_pattern.specs.Under.{under}
 use Rattle.lp_pattern.proofs.Results.{if_ok, if_err}
 use Rattle.lp_pattern.proofs.Walking.{reading_kept, looked_stays}
 use Rattle.lp_pattern.proofs.Judging.{pair_kept, one_of}

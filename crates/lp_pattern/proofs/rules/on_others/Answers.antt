@@ -5,9 +5,8 @@ use Rattle.lp_model.specs.Pair.{Closing, Pair as Equation}
 use Rattle.lp_model.specs.Rule.{by_rule_4}
 use Rattle.lp_pattern.specs.declared.look.Head.{Head}
 use Rattle.lp_pattern.specs.Ruling.{view, IsSeenPair, IsSideOf, IsRuledOut}
-use Rattle.lp_pattern.specs.Stripping.{IsShut}
 use Rattle.lp_pattern.specs.Turning.{IsOpenReading, IsKnownPair}
-use Rattle.lp_pattern.specs.Under.{IsReading, under}
+use Rattle.lp_pattern.specs.Under.{under}
 use Rattle.lp_pattern.proofs.Results.{if_ok, if_err}
 use Rattle.lp_pattern.proofs.Walking.{reading_kept, looked_stays}
 use Rattle.lp_pattern.proofs.Judging.{pair_kept}

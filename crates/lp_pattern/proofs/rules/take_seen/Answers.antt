@@ -3,9 +3,7 @@ use Rattle.lp_term.proofs.Moves.{passed_up}
 use Rattle.lp_model.specs.Pair.{Closing, Pair as Equation}
 use Rattle.lp_model.specs.Rule.{rule}
 use Rattle.lp_pattern.specs.Ruling.{IsSeenPair, IsRuledOut}
-use Rattle.lp_pattern.specs.Stripping.{IsShut}
 use Rattle.lp_pattern.specs.Turning.{IsOpenReading, IsKnownPair}
-use Rattle.lp_pattern.specs.Under.{IsReading}
 use Rattle.lp_pattern.proofs.Judging.{by_views, taken_done, taken_delayed, taken_out}
 use Rattle.lp_pattern.proofs.PairsGiven.{done_taken, delayed_taken, given_taken}
 use Rattle.lp_pattern.proofs.rules.take_seen.Goals as goal
