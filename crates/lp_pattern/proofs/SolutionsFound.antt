@@ -13,14 +13,15 @@ use Rattle.lp_calculus.proofs.Commutations.{instance_converts}
 use Rattle.lp_term.specs.Nodes.{Nodes, tree}
 use Rattle.lp_model.specs.Types.{TypePair, TypeBinding}
 use Rattle.lp_model.specs.Pair.{Pair, Closing, closed, Solves, SolvesAll, put_types_in}
-use Rattle.lp_model.specs.Unify.{State, Solution, solve}
+use Rattle.lp_model.specs.Unify.{State, Unified, Fail, Solution, solve}
 use Rattle.lp_model.specs.Proofs.{Declared}
 use Rattle.lp_model.specs.Answers.{Variable, type_of, over, IsPrefix, IsScopedAtom, PairTyping, IsTypedPair, AreTypedPairs, Closes}
 use Rattle.lp_model.specs.declared.answer.Pair.{Pair as Numbers}
 use Rattle.lp_solutions.specs.TypeSolutions.{Satisfies}
 use Rattle.lp_solutions.specs.Solutions.{at_types, instance_pair, instance_binding, IsMore, AreTypedBindings, HaveTypings, IsTypedInput, through_bindings, AreStuck, KeptClosing, HasSameClosings}
 use Rattle.lp_solutions.proofs.Decomposing.{put_types_satisfied}
-use Rattle.lp_solutions.proofs.Laws.{comes}
+use Rattle.lp_solutions.specs.Solutions as solutions
+use Rattle.lp_solutions.proofs.Laws.{comes, failures_have_no_solution}
 use Rattle.lp_solutions.proofs.NewInstances.{reduces_instance}
 use Rattle.lp_solutions.proofs.PairLists.{put_all_instance, left_term, right_term, pair_of}
 use Rattle.lp_solutions.proofs.Principal.{closings_are_the_same}
@@ -33,7 +34,8 @@ use Rattle.lp_pattern.specs.Seen.{weak_step}
 use Rattle.lp_pattern.specs.Solutions.{left_pairs, through, KeptThrough, HasSolutions}
 use Rattle.lp_pattern.specs.Turning.{IsKnownPair, AreKnownPairs, IsPairFor, ArePairsFor}
 use Rattle.lp_pattern.specs.Under.{under}
-use Rattle.lp_pattern.specs.Unifying.{unbound, IsFound}
+use Rattle.lp_pattern.specs.Unifying.{unbound, Reads, IsFound, IsSolution}
+use Rattle.lp_pattern.specs.declared.unify.Solved.{Solved}
 
 -- steps at the top are reductions
 weak_reduces : (t s : Term) → weak_step t ≡ Some s → Anywhere BetaEta t s
@@ -62,7 +64,7 @@ abbrev level_in : Option Variable → ℕ
 level_in None = 0
 level_in (Some v) = length v.scope
 
-pub level_of : List Variable → ℕ → ℕ
+abbrev pub level_of : List Variable → ℕ → ℕ
 level_of V x = level_in (slice_get V x)
 
 known_variable : (V : List Variable) (x : ℕ) (v : Variable) → slice_get V x ≡ Some v → Known (level_of V) (length V) (logic x (length v.scope))
@@ -213,3 +215,21 @@ module _ (d : Declared) (V : List Variable) (θ : ℕ → Ty) (ps ds : List Pair
           solves_same (level_of V) (length V) θ c.types (through_bindings (map (instance_binding θ) s.bindings) c).terms (through z θ c).terms (given_at c) ds known_delayed r.1,
         );
   }
+
+-- the same from what the code says of a run
+pub right_found : (d : Declared) (V : List Variable) (n limit : ℕ) (eqs : List TypePair) (ps ds : List Pair) (s : State) (b : Nodes) (next : ℕ) (found : Solved) (θ : ℕ → Ty) → solve n limit eqs ps ds (length V) ≡ Some (Solution s) → AreStuck n ds → IsTypedInput θ d V eqs ps ds → Satisfies θ s.types →
+    ((levels : ℕ → ℕ) → AreKnownPairs levels (length V) ps → AreKnownPairs levels (length V) ds → IsSolution levels (length V) b next found (Solution s)) →
+    (z : Closing) × Reads b found.bindings.items found.types.items z × HasSolutions d V θ ps ds b next found.residual.items z
+right_found d V n limit eqs ps ds s b next found θ e k i m h =
+    let t = i ((comes θ d V n limit eqs ps ds s i e).unified m) in
+    let p = typed_known θ d V t.0.0 ps t.0.1 in
+    let q = typed_known θ d V t.1.0 ds t.1.1 in
+    let f = h (level_of V) p q in
+    (f.0, (f.1.0, found_solutions d V θ ps ds b next found.residual.items f.0 s f.1.1 m p q (closings_are_the_same d V n limit eqs ps ds s θ i e k m)))
+
+pub none_found : (d : Declared) (V : List Variable) (n limit : ℕ) (eqs : List TypePair) (ps ds : List Pair) (u : Unified) (c : Closing) → solve n limit eqs ps ds (length V) ≡ Some u → IsTypedInput c.types d V eqs ps ds →
+    ((levels : ℕ → ℕ) → AreKnownPairs levels (length V) ps → AreKnownPairs levels (length V) ds → u ≡ Fail) → solutions.IsSolution d V c eqs ps ds → ⊥
+none_found d V n limit eqs ps ds u c e i h w =
+    let t = i w.types in
+    let f = h (level_of V) (typed_known c.types d V t.0.0 ps t.0.1) (typed_known c.types d V t.1.0 ds t.1.1) in
+    failures_have_no_solution d V n limit eqs ps ds c i (e ∙ ap Some f) w
