@@ -44,3 +44,4 @@ pub mod Refits
 pub mod Passings
 pub mod PruneSteps
 pub mod PruneMoves
+pub mod SolutionsFound

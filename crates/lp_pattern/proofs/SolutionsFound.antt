@@ -21,7 +21,7 @@ use Rattle.lp_solutions.specs.TypeSolutions.{Satisfies}
 use Rattle.lp_solutions.specs.Solutions.{at_types, instance_pair, instance_binding, IsMore, AreTypedBindings, HaveTypings, IsTypedInput, through_bindings, AreStuck, KeptClosing, HasSameClosings}
 use Rattle.lp_solutions.proofs.Decomposing.{put_types_satisfied}
 use Rattle.lp_solutions.specs.Solutions as solutions
-use Rattle.lp_solutions.proofs.Laws.{comes, failures_have_no_solution}
+use Rattle.lp_solutions.proofs.Laws.{comes, failures_have_no_solution, residual_pairs_are_stuck}
 use Rattle.lp_solutions.proofs.NewInstances.{reduces_instance}
 use Rattle.lp_solutions.proofs.PairLists.{put_all_instance, left_term, right_term, pair_of}
 use Rattle.lp_solutions.proofs.Principal.{closings_are_the_same}
@@ -45,19 +45,19 @@ weak_reduces (abs b) s e = absurd (cc)
 weak_reduces (app (abs b) u) s e = let q : substitute u b ≡ s = cc in transport (λ z. Anywhere BetaEta (app (abs b) u) z) q (here (by_beta b u))
 weak_reduces (app (index i) u) s e = absurd (cc)
 weak_reduces (app (atom a) u) s e = absurd (cc)
-weak_reduces (app (app t v) u) s e = go (weak_step (app t v)) refl e
+weak_reduces (app (app t v) u) s e = go (weak_reduces (app t v)) (weak_step (app t v)) refl e
   where
-    go : (o : Option Term) → weak_step (app t v) ≡ o → option_term (λ s. app s u) o ≡ Some s → Anywhere BetaEta (app (app t v) u) s
-    go None q e = absurd (cc)
-    go (Some r) q e = let p : app r u ≡ s = cc in transport (λ z. Anywhere BetaEta (app (app t v) u) z) p (in_head u (weak_reduces (app t v) r q))
+    go : ((r : Term) → weak_step (app t v) ≡ Some r → Anywhere BetaEta (app t v) r) → (o : Option Term) → weak_step (app t v) ≡ o → option_term (λ s. app s u) o ≡ Some s → Anywhere BetaEta (app (app t v) u) s
+    go h None q e = absurd (cc)
+    go h (Some r) q e = let p : app r u ≡ s = cc in transport (λ z. Anywhere BetaEta (app (app t v) u) z) p (in_head u (h r q))
 
 steps_reduce : (j : ℕ) (t s : Term) → steps weak_step j t ≡ Some s → ReducesTo t s
 steps_reduce zero t s e = let q : t ≡ s = cc in transport (ReducesTo t) q (done t)
-steps_reduce (suc j) t s e = go (weak_step t) refl e
+steps_reduce (suc j) t s e = go (λ r. steps_reduce j r s) (weak_step t) refl e
   where
-    go : (o : Option Term) → weak_step t ≡ o → (elim o [ None ↦ None | Some r ↦ steps weak_step j r ]) ≡ Some s → ReducesTo t s
-    go None q e = absurd (cc)
-    go (Some r) q e = then_step (weak_reduces t r q) (steps_reduce j r s e)
+    go : ((r : Term) → steps weak_step j r ≡ Some s → ReducesTo r s) → (o : Option Term) → weak_step t ≡ o → (elim o [ None ↦ None | Some r ↦ steps weak_step j r ]) ≡ Some s → ReducesTo t s
+    go h None q e = absurd (cc)
+    go h (Some r) q e = then_step (weak_reduces t r q) (h r e)
 
 -- the level of each variable
 abbrev level_in : Option Variable → ℕ
@@ -170,8 +170,8 @@ some_same : {A : Type 0} (x y : A) → Some x ≡ Some y → x ≡ y
 some_same x y e = cc
 
 -- what the values found are, at types
-module _ (d : Declared) (V : List Variable) (θ : ℕ → Ty) (ps ds : List Pair) (b : Nodes) (next : ℕ) (left : List Numbers) (z : Closing) (s : State) (f : IsFound (level_of V) (length V) unbound b next left z s) (m : Satisfies θ s.types)
-(known_pairs : AreKnownPairs (level_of V) (length V) ps) (known_delayed : AreKnownPairs (level_of V) (length V) ds) (l : HasSameClosings θ d V ps ds s) where
+module _ (d : Declared) (V : List Variable) (θ : ℕ → Ty) (ps ds : List Pair) (b : Nodes) (next : ℕ) (residual : List Numbers) (z : Closing) (s : State) (f : IsFound (level_of V) (length V) unbound b next residual z s) (m : Satisfies θ s.types)
+    (n : ℕ) (stays : AreStuck n s.delayed) (known_pairs : AreKnownPairs (level_of V) (length V) ps) (known_delayed : AreKnownPairs (level_of V) (length V) ds) (l : HasSameClosings θ d V ps ds s) where
   value_at : (x k : ℕ) → Known (level_of V) (length V) (logic x k) → instance_term θ (z.terms x k) ≡ put_all (map (instance_binding θ) s.bindings) (atom (logic x k))
   value_at x k h = ap (instance_term θ) (f.puts (atom (logic x k)) h) ∙ put_types_satisfied θ s.types m (put_all s.bindings (atom (logic x k))) ∙ sym (put_all_instance θ s.bindings (atom (logic x k)))
 
@@ -192,40 +192,41 @@ module _ (d : Declared) (V : List Variable) (θ : ℕ → Ty) (ps ds : List Pair
       typed_there : type_of (slice_get l.typings.after x) (length v.scope) ≡ Some v.type
       typed_there = ap (λ o. type_of o (length v.scope)) there ∙ chosen (nat_eq (length v.scope) (length v.scope)) (number_same (length v.scope))
 
-  kept : (c : Closing) → KeptClosing d V l.typings.after c (map (instance_binding θ) s.bindings) (at_types θ s.delayed) → KeptThrough d V l.typings.after c z θ (left_pairs b z θ left)
+  kept : (c : Closing) → KeptClosing d V l.typings.after c (map (instance_binding θ) s.bindings) (at_types θ s.delayed) → KeptThrough d V l.typings.after c z θ (left_pairs b z θ residual)
   kept c k = record {
     closing = k.closing;
     types = k.types;
     closes = k.closes;
-    solves = left_solved θ b z k.closing left s.delayed f.left k.solves;
+    solves = left_solved θ b z k.closing residual s.delayed f.left k.solves;
     gives = λ x v q. converts_on (k.gives x v q) (converts_is (given_at k.closing x (length v.scope) (got_before V x v q) (known_variable V x v q).1));
   }
 
-  pub found_solutions : HasSolutions d V θ ps ds b next left z
+  pub found_solutions : HasSolutions n d V θ ps ds b next residual z
   found_solutions = record {
     after = l.typings.after;
     more = l.typings.more;
     count = l.typings.count ∙ sym f.last;
-    left_typed = (l.typings.residual.0, typed_left θ d l.typings.after b z l.typings.residual.0 left s.delayed f.left l.typings.residual.1);
+    left_typed = (l.typings.residual.0, typed_left θ d l.typings.after b z l.typings.residual.0 residual s.delayed f.left l.typings.residual.1);
     values_typed = typed_value;
     keeps = λ c h sp sd. kept c (l.keeps c h sp sd);
     adds_none = λ c h sl.
-        let r = l.adds_none c h (solved_left θ b z c left s.delayed f.left sl) in (
+        let r = l.adds_none c h (solved_left θ b z c residual s.delayed f.left sl) in (
           solves_same (level_of V) (length V) θ c.types (through_bindings (map (instance_binding θ) s.bindings) c).terms (through z θ c).terms (given_at c) ps known_pairs r.0,
           solves_same (level_of V) (length V) θ c.types (through_bindings (map (instance_binding θ) s.bindings) c).terms (through z θ c).terms (given_at c) ds known_delayed r.1,
         );
+    stuck = (s.delayed, f.left, stays);
   }
 
 -- the same from what the code says of a run
 pub right_found : (d : Declared) (V : List Variable) (n limit : ℕ) (eqs : List TypePair) (ps ds : List Pair) (s : State) (b : Nodes) (next : ℕ) (found : Solved) (θ : ℕ → Ty) → solve n limit eqs ps ds (length V) ≡ Some (Solution s) → AreStuck n ds → IsTypedInput θ d V eqs ps ds → Satisfies θ s.types →
     ((levels : ℕ → ℕ) → AreKnownPairs levels (length V) ps → AreKnownPairs levels (length V) ds → IsSolution levels (length V) b next found (Solution s)) →
-    (z : Closing) × Reads b found.bindings.items found.types.items z × HasSolutions d V θ ps ds b next found.residual.items z
+    (z : Closing) × Reads b found.bindings.items found.types.items z × HasSolutions n d V θ ps ds b next found.residual.items z
 right_found d V n limit eqs ps ds s b next found θ e k i m h =
     let t = i ((comes θ d V n limit eqs ps ds s i e).unified m) in
     let p = typed_known θ d V t.0.0 ps t.0.1 in
     let q = typed_known θ d V t.1.0 ds t.1.1 in
     let f = h (level_of V) p q in
-    (f.0, (f.1.0, found_solutions d V θ ps ds b next found.residual.items f.0 s f.1.1 m p q (closings_are_the_same d V n limit eqs ps ds s θ i e k m)))
+    (f.0, f.1, found_solutions d V θ ps ds b next found.residual.items f.0 s f.2 m n (residual_pairs_are_stuck n limit eqs ps ds (length V) s k e).1 p q (closings_are_the_same d V n limit eqs ps ds s θ i e k m))
 
 pub none_found : (d : Declared) (V : List Variable) (n limit : ℕ) (eqs : List TypePair) (ps ds : List Pair) (u : Unified) (c : Closing) → solve n limit eqs ps ds (length V) ≡ Some u → IsTypedInput c.types d V eqs ps ds →
     ((levels : ℕ → ℕ) → AreKnownPairs levels (length V) ps → AreKnownPairs levels (length V) ds → u ≡ Fail) → solutions.IsSolution d V c eqs ps ds → ⊥

@@ -12,6 +12,7 @@ pub mod Scanning
 pub mod Seen
 pub mod Stripping
 pub mod TopLooks
+pub mod Solutions
 pub mod Turning
 pub mod Unifying
 pub mod Under

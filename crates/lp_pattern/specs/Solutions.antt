@@ -10,8 +10,9 @@ use Rattle.lp_model.specs.Pair.{Pair, Closing, closed, SolvesAll}
 use Rattle.lp_model.specs.Proofs.{Declared}
 use Rattle.lp_model.specs.Answers.{Variable, over, Closes}
 use Rattle.lp_model.specs.declared.answer.Pair.{Pair as Numbers}
-use Rattle.lp_solutions.specs.Solutions.{at_types, IsMore, HaveTypings}
+use Rattle.lp_solutions.specs.Solutions.{at_types, IsMore, HaveTypings, AreStuck}
 use Rattle.lp_pattern.specs.Comparing.{pair_under}
+use Rattle.lp_pattern.specs.Turning.{ArePairsFor}
 
 -- each type variable is what the values found make of it
 abbrev pub Follows : (ℕ → Ty) → Closing → Type 0
@@ -35,11 +36,13 @@ pub record KeptThrough (d : Declared) (V W : List Variable) (c : Closing) (z : C
 
 -- variables are added, over which what is left is typed and each value has its variable's type; each closing of the variables that solves the pairs of
 -- the input comes from one that solves what is left, and what such a one gives solves them
-pub record HasSolutions (d : Declared) (V : List Variable) (θ : ℕ → Ty) (ps ds : List Pair) (b : Nodes) (next : ℕ) (left : List Numbers) (z : Closing) : Type 0 where
+pub record HasSolutions (n : ℕ) (d : Declared) (V : List Variable) (θ : ℕ → Ty) (ps ds : List Pair) (b : Nodes) (next : ℕ) (residual : List Numbers) (z : Closing) : Type 0 where
   pub after : List Variable
   pub more : IsMore V after
   pub count : length after ≡ next
-  pub left_typed : HaveTypings d after (left_pairs b z θ left)
+  pub left_typed : HaveTypings d after (left_pairs b z θ residual)
   pub values_typed : (x : ℕ) (v : Variable) → slice_get V x ≡ Some v → Typed (over d v.scope after) [] (instance_term θ (z.terms x (length v.scope))) v.type
-  pub keeps : (c : Closing) → Closes d V c → SolvesAll c (at_types θ ps) → SolvesAll c (at_types θ ds) → KeptThrough d V after c z θ (left_pairs b z θ left)
-  pub adds_none : (c : Closing) → Closes d after c → SolvesAll c (left_pairs b z θ left) → SolvesAll (through z θ c) (at_types θ ps) × SolvesAll (through z θ c) (at_types θ ds)
+  pub keeps : (c : Closing) → Closes d V c → SolvesAll c (at_types θ ps) → SolvesAll c (at_types θ ds) → KeptThrough d V after c z θ (left_pairs b z θ residual)
+  pub adds_none : (c : Closing) → Closes d after c → SolvesAll c (left_pairs b z θ residual) → SolvesAll (through z θ c) (at_types θ ps) × SolvesAll (through z θ c) (at_types θ ds)
+  -- steps at the top lead to what is left from pairs to which no rule applies
+  pub stuck : (qs : List Pair) × ArePairsFor b z residual qs × AreStuck n qs
