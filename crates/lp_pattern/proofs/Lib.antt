@@ -61,3 +61,4 @@ pub mod RunLoops
 pub mod Unbound
 pub mod GivenUp
 pub mod RuledOut
+pub mod SolutionsFound

@@ -13,6 +13,7 @@ pub mod Scanning
 pub mod Seen
 pub mod Stripping
 pub mod TopLooks
+pub mod Solutions
 pub mod Turning
 pub mod Turns
 pub mod Unifying

@@ -158,6 +158,11 @@ pub fn solve(
     ensures within { IfOk result (λ found. All (IsPairOf (length bank.new.terms)) found.residual.items) }
     ensures solved { IfOk result (λ found. (levels : ℕ → ℕ) → AreKnownPairs levels next.old (map (pair_of bank.old) pairs.now) → AreKnownPairs levels next.old (map (pair_of bank.old) delayed.now) → (n : ℕ) (u : Unified) →
         solve n limit (type_pairs_of bank.old var types.now) (map (pair_of bank.old) pairs.now) (map (pair_of bank.old) delayed.now) next.old ≡ Some u → IsSolution levels next.old bank.new next.new found u) }
+    ensures right { IfOk result (λ found. (d : Declared) (V : List TypedVariable) → length V ≡ next.old → (n : ℕ) (s : State) → solve n limit (type_pairs_of bank.old var types.now) (map (pair_of bank.old) pairs.now) (map (pair_of bank.old) delayed.now) next.old ≡ Some (Solution s) →
+        (θ : ℕ → Ty) → AreStuck n (map (pair_of bank.old) delayed.now) → IsTypedInput θ d V (type_pairs_of bank.old var types.now) (map (pair_of bank.old) pairs.now) (map (pair_of bank.old) delayed.now) → Satisfies θ s.types →
+        (z : Closing) × Reads bank.new found.bindings.items found.types.items z × HasSolutions n d V θ (map (pair_of bank.old) pairs.now) (map (pair_of bank.old) delayed.now) bank.new next.new found.residual.items z) }
+    ensures none { IfErr result (λ e. e ≡ Fails → (d : Declared) (V : List TypedVariable) → length V ≡ next.old → (n : ℕ) (u : Unified) → solve n limit (type_pairs_of bank.old var types.now) (map (pair_of bank.old) pairs.now) (map (pair_of bank.old) delayed.now) next.old ≡ Some u →
+        (c : Closing) → IsTypedInput c.types d V (type_pairs_of bank.old var types.now) (map (pair_of bank.old) pairs.now) (map (pair_of bank.old) delayed.now) → IsSolutionOf d V c (type_pairs_of bank.old var types.now) (map (pair_of bank.old) pairs.now) (map (pair_of bank.old) delayed.now) → ⊥) }
     ensures refused { IfErr result (λ e. (levels : ℕ → ℕ) → AreKnownPairs levels next.old (map (pair_of bank.old) pairs.now) → AreKnownPairs levels next.old (map (pair_of bank.old) delayed.now) → (n : ℕ) (u : Unified) →
         solve n limit (type_pairs_of bank.old var types.now) (map (pair_of bank.old) pairs.now) (map (pair_of bank.old) delayed.now) next.old ≡ Some u → IsRefusedAs e n u) }
 {
