@@ -34,7 +34,9 @@ use Rattle.lp_pattern.specs.Seen.{weak_step}
 use Rattle.lp_pattern.specs.Solutions.{left_pairs, through, KeptThrough, HasSolutions}
 use Rattle.lp_pattern.specs.Turning.{IsKnownPair, AreKnownPairs, IsPairFor, ArePairsFor}
 use Rattle.lp_pattern.specs.Under.{under}
-use Rattle.lp_pattern.specs.Unifying.{unbound, Reads, IsFound, IsSolution}
+use Rattle.lp_pattern.specs.declared.fault.PatternRefusal.{PatternRefusal}
+use Rattle.lp_pattern.specs.declared.fault.PatternRefusal.TheVariants as refusal
+use Rattle.lp_pattern.specs.Unifying.{unbound, Reads, IsFound, IsSolution, IsRefusedAs}
 use Rattle.lp_pattern.specs.declared.unify.Solved.{Solved}
 
 -- steps at the top are reductions
@@ -218,19 +220,25 @@ module _ (d : Declared) (V : List Variable) (θ : ℕ → Ty) (ps ds : List Pair
   }
 
 -- the same from what the code says of a run
-pub right_found : (d : Declared) (V : List Variable) (n limit : ℕ) (eqs : List TypePair) (ps ds : List Pair) (s : State) (b : Nodes) (next : ℕ) (found : Solved) (θ : ℕ → Ty) → solve n limit eqs ps ds (length V) ≡ Some (Solution s) → AreStuck n ds → IsTypedInput θ d V eqs ps ds → Satisfies θ s.types →
-    ((levels : ℕ → ℕ) → AreKnownPairs levels (length V) ps → AreKnownPairs levels (length V) ds → IsSolution levels (length V) b next found (Solution s)) →
+pub right_found : (d : Declared) (V : List Variable) (θ : ℕ → Ty) (first n limit : ℕ) (eqs : List TypePair) (ps ds : List Pair) (s : State) (b : Nodes) (next : ℕ) (found : Solved) → length V ≡ first → IsTypedInput θ d V eqs ps ds → solve n limit eqs ps ds first ≡ Some (Solution s) → AreStuck n ds → Satisfies θ s.types →
+    ((levels : ℕ → ℕ) → AreKnownPairs levels first ps → AreKnownPairs levels first ds → IsSolution levels first b next found (Solution s)) →
     (z : Closing) × Reads b found.bindings.items found.types.items z × HasSolutions n d V θ ps ds b next found.residual.items z
-right_found d V n limit eqs ps ds s b next found θ e k i m h =
-    let t = i ((comes θ d V n limit eqs ps ds s i e).unified m) in
+right_found d V θ first n limit eqs ps ds s b next found count i e k m h =
+    let e' = transport (λ j. solve n limit eqs ps ds j ≡ Some (Solution s)) (sym count) e in
+    let t = i ((comes θ d V n limit eqs ps ds s i e').unified m) in
     let p = typed_known θ d V t.0.0 ps t.0.1 in
     let q = typed_known θ d V t.1.0 ds t.1.1 in
-    let f = h (level_of V) p q in
-    (f.0, f.1, found_solutions d V θ ps ds b next found.residual.items f.0 s f.2 m n (residual_pairs_are_stuck n limit eqs ps ds (length V) s k e).1 p q (closings_are_the_same d V n limit eqs ps ds s θ i e k m))
+    let f = transport (λ j. (levels : ℕ → ℕ) → AreKnownPairs levels j ps → AreKnownPairs levels j ds → IsSolution levels j b next found (Solution s)) (sym count) h (level_of V) p q in
+    (f.0, f.1, found_solutions d V θ ps ds b next found.residual.items f.0 s f.2 m n (residual_pairs_are_stuck n limit eqs ps ds (length V) s k e').1 p q (closings_are_the_same d V n limit eqs ps ds s θ i e' k m))
 
-pub none_found : (d : Declared) (V : List Variable) (n limit : ℕ) (eqs : List TypePair) (ps ds : List Pair) (u : Unified) (c : Closing) → solve n limit eqs ps ds (length V) ≡ Some u → IsTypedInput c.types d V eqs ps ds →
-    ((levels : ℕ → ℕ) → AreKnownPairs levels (length V) ps → AreKnownPairs levels (length V) ds → u ≡ Fail) → solutions.IsSolution d V c eqs ps ds → ⊥
-none_found d V n limit eqs ps ds u c e i h w =
+failed : (r : PatternRefusal) (n : ℕ) (u : Unified) → r ≡ refusal.Fails → IsRefusedAs r n u → u ≡ Fail
+failed refusal.Fails n u e h = h
+failed refusal.Deep n u e h = absurd (cc)
+failed refusal.Memory n u e h = absurd (cc)
+
+pub none_found : (r : PatternRefusal) → r ≡ refusal.Fails → (d : Declared) (V : List Variable) (c : Closing) (first n limit : ℕ) (eqs : List TypePair) (ps ds : List Pair) (u : Unified) → length V ≡ first → IsTypedInput c.types d V eqs ps ds → solve n limit eqs ps ds first ≡ Some u →
+    ((levels : ℕ → ℕ) → AreKnownPairs levels first ps → AreKnownPairs levels first ds → IsRefusedAs r n u) → solutions.IsSolution d V c eqs ps ds → ⊥
+none_found r fails d V c first n limit eqs ps ds u count i e h w =
     let t = i w.types in
-    let f = h (level_of V) (typed_known c.types d V t.0.0 ps t.0.1) (typed_known c.types d V t.1.0 ds t.1.1) in
-    failures_have_no_solution d V n limit eqs ps ds c i (e ∙ ap Some f) w
+    let f = transport (λ j. (levels : ℕ → ℕ) → AreKnownPairs levels j ps → AreKnownPairs levels j ds → IsRefusedAs r n u) (sym count) h (level_of V) (typed_known c.types d V t.0.0 ps t.0.1) (typed_known c.types d V t.1.0 ds t.1.1) in
+    failures_have_no_solution d V n limit eqs ps ds c i (transport (λ j. solve n limit eqs ps ds j ≡ Some u) (sym count) e ∙ ap Some (failed r n u fails f)) w

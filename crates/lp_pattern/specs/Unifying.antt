@@ -1,5 +1,5 @@
 -- What whole runs come to: the outcome of the definition, read off the code's bindings and pairs.
-use Rattle.std.specs.Prelude.{◌≡◌, ℕ, ◌<◌, ◌≤◌, nat_eq, List, map, Some, None}
+use Rattle.std.specs.Prelude.{◌≡◌, ℕ, ◌<◌, ◌≤◌, nat_eq, List, map, Option, Some, None}
 use Rattle.std.specs.Map.{lookup}
 use Rattle.lp_calculus.specs.Types.{Ty, var}
 use Rattle.lp_calculus.specs.Term.{Term, atom, logic}
@@ -8,12 +8,13 @@ use Rattle.lp_term.specs.Nodes.{Nodes, tree}
 use Rattle.lp_term.specs.declared.node.TermId.{TermId}
 use Rattle.lp_term.specs.declared.node.TypeId.{TypeId}
 use Rattle.lp_model.specs.Pair.{Pair, Closing, closed, put_types_in}
-use Rattle.lp_model.specs.Unify.{State, Unified, Fail, Solution, Spent}
+use Rattle.lp_model.specs.Unify.{State, Unified, Fail, Solution, Spent, solve}
 use Rattle.lp_model.specs.declared.answer.Pair.{Pair as Numbers}
 use Rattle.lp_pattern.specs.declared.bindings.Bindings.{Bindings}
 use Rattle.lp_pattern.specs.declared.fault.PatternRefusal.{PatternRefusal}
 use Rattle.lp_pattern.specs.declared.unify.Solved.{Solved}
 use Rattle.lp_pattern.specs.Pruning.{Known}
+use Rattle.lp_pattern.specs.Reading.{type_pairs_of}
 use Rattle.lp_pattern.specs.Turning.{IsOpenReading, AreKnownPairs, ArePairsFor}
 use Rattle.lp_pattern.specs.Under.{ValueIs, TypeIs}
 
@@ -21,14 +22,21 @@ use Rattle.lp_pattern.specs.Under.{ValueIs, TypeIs}
 abbrev pub pair_of : Nodes → Numbers → Pair
 pair_of b p = record { left = tree b p.left.0; right = tree b p.right.0; level = p.level }
 
+abbrev pub pairs_at : Nodes → List Numbers → List Pair
+pairs_at b ps = map (pair_of b) ps
+
+-- what the definition makes of equations of types and pairs at numbers of a bank
+abbrev pub run : (n limit : ℕ) → Nodes → List (TypeId × TypeId) → (pairs delayed : List Numbers) → (next : ℕ) → Option Unified
+run n limit b types ps ds next = solve n limit (type_pairs_of b var types) (pairs_at b ps) (pairs_at b ds) next
+
 -- nothing is bound
 abbrev pub unbound : Closing
 unbound = record { types = var; terms = λ x l. atom (logic x l) }
 
 -- a closing gives each variable what its value in these lists is under the closing
-pub record Reads (b : Nodes) (values : List (ℕ × TermId)) (kinds : List (ℕ × TypeId)) (c : Closing) : Type 0 where
+pub record Reads (b : Nodes) (values : List (ℕ × TermId)) (type_values : List (ℕ × TypeId)) (c : Closing) : Type 0 where
   pub terms : (x : ℕ) → ValueIs b c x (lookup (nat_eq x) values)
-  pub types : (x : ℕ) → TypeIs b c.types x (lookup (nat_eq x) kinds)
+  pub types : (x : ℕ) → TypeIs b c.types x (lookup (nat_eq x) type_values)
 
 -- bindings and pairs left are those of the definition: each term of before is, with all bindings put in, what the definition's bindings and types make of
 -- it, and steps at the top lead from the definition's pairs to those that are left

@@ -1,14 +1,20 @@
 // The unification of pairs.
 ghost use Rattle.std.specs.Prelude.{◌≡◌, ◌≤◌, ◌++◌, ◌||◌, ℕ, Bool, List, [], length, map, reverse, true, Some, All, IfOk, OnOk, IfErr};
-ghost use Rattle.lp_calculus.specs.Types.{var};
+ghost use Rattle.lp_calculus.specs.Types.{Ty, var};
 ghost use Rattle.lp_term.specs.Nodes.{Extends};
 ghost use Rattle.lp_model.specs.Pair.{Closing, Pair as Equation};
-ghost use Rattle.lp_model.specs.Unify.{Unified, solve};
+ghost use Rattle.lp_model.specs.Proofs.{Declared};
+ghost use Rattle.lp_model.specs.Answers.{Variable as TypedVariable};
+ghost use Rattle.lp_model.specs.Unify.{State, Unified, Solution, solve};
+ghost use Rattle.lp_solutions.specs.TypeSolutions.{Satisfies};
+ghost use Rattle.lp_solutions.specs.Solutions.{IsTypedInput, AreStuck, IsSolution as SolvesInput};
+ghost use Rattle.lp_pattern.specs.declared.fault.PatternRefusal.TheVariants.{Fails};
 ghost use Rattle.lp_pattern.specs.Growing.{Grows, IsPairOf};
 ghost use Rattle.lp_pattern.specs.Reading.{type_pairs_of};
+ghost use Rattle.lp_pattern.specs.Solutions.{HasSolutions};
 ghost use Rattle.lp_pattern.specs.Turning.{IsOpenReading, AreKnownPairs, ArePairsFor};
 ghost use Rattle.lp_pattern.specs.Turns.{Began, LeadsTo};
-ghost use Rattle.lp_pattern.specs.Unifying.{pair_of, IsSolutionUnder, IsSolution, IsRefusedAs};
+ghost use Rattle.lp_pattern.specs.Unifying.{pairs_at, run, Reads, IsSolutionUnder, IsSolution, IsRefusedAs};
 
 use crate::bindings::Bindings;
 use crate::fault::PatternRefusal;
@@ -143,7 +149,9 @@ pub fn solve_under(
     Err(PatternRefusal::Memory)
 }
 
-/// Unifies, with nothing bound at the start.
+/// Unifies, with nothing bound at the start, where each variable has one level: what comes out is what the definition of unification makes of the input,
+/// wherever it comes to an outcome in any number of steps of each kind (`solved`, `refused`). Through the values found, typed pairs have the solutions of
+/// those that are left (`right`), and none where the call fails (`none`).
 pub fn solve(
     alloc: Global,
     bank: &mut Bank,
@@ -156,15 +164,15 @@ pub fn solve(
     ensures kept { Extends bank.old bank.new }
     ensures more { next.old ≤ next.new }
     ensures within { IfOk result (λ found. All (IsPairOf (length bank.new.terms)) found.residual.items) }
-    ensures solved { IfOk result (λ found. (levels : ℕ → ℕ) → AreKnownPairs levels next.old (map (pair_of bank.old) pairs.now) → AreKnownPairs levels next.old (map (pair_of bank.old) delayed.now) → (n : ℕ) (u : Unified) →
-        solve n limit (type_pairs_of bank.old var types.now) (map (pair_of bank.old) pairs.now) (map (pair_of bank.old) delayed.now) next.old ≡ Some u → IsSolution levels next.old bank.new next.new found u) }
-    ensures right { IfOk result (λ found. (d : Declared) (V : List TypedVariable) → length V ≡ next.old → (n : ℕ) (s : State) → solve n limit (type_pairs_of bank.old var types.now) (map (pair_of bank.old) pairs.now) (map (pair_of bank.old) delayed.now) next.old ≡ Some (Solution s) →
-        (θ : ℕ → Ty) → AreStuck n (map (pair_of bank.old) delayed.now) → IsTypedInput θ d V (type_pairs_of bank.old var types.now) (map (pair_of bank.old) pairs.now) (map (pair_of bank.old) delayed.now) → Satisfies θ s.types →
-        (z : Closing) × Reads bank.new found.bindings.items found.types.items z × HasSolutions n d V θ (map (pair_of bank.old) pairs.now) (map (pair_of bank.old) delayed.now) bank.new next.new found.residual.items z) }
-    ensures none { IfErr result (λ e. e ≡ Fails → (d : Declared) (V : List TypedVariable) → length V ≡ next.old → (n : ℕ) (u : Unified) → solve n limit (type_pairs_of bank.old var types.now) (map (pair_of bank.old) pairs.now) (map (pair_of bank.old) delayed.now) next.old ≡ Some u →
-        (c : Closing) → IsTypedInput c.types d V (type_pairs_of bank.old var types.now) (map (pair_of bank.old) pairs.now) (map (pair_of bank.old) delayed.now) → IsSolutionOf d V c (type_pairs_of bank.old var types.now) (map (pair_of bank.old) pairs.now) (map (pair_of bank.old) delayed.now) → ⊥) }
-    ensures refused { IfErr result (λ e. (levels : ℕ → ℕ) → AreKnownPairs levels next.old (map (pair_of bank.old) pairs.now) → AreKnownPairs levels next.old (map (pair_of bank.old) delayed.now) → (n : ℕ) (u : Unified) →
-        solve n limit (type_pairs_of bank.old var types.now) (map (pair_of bank.old) pairs.now) (map (pair_of bank.old) delayed.now) next.old ≡ Some u → IsRefusedAs e n u) }
+    ensures solved { IfOk result (λ found. (levels : ℕ → ℕ) → AreKnownPairs levels next.old (pairs_at bank.old pairs.now) → AreKnownPairs levels next.old (pairs_at bank.old delayed.now) →
+        (n : ℕ) (u : Unified) → run n limit bank.old types.now pairs.now delayed.now next.old ≡ Some u → IsSolution levels next.old bank.new next.new found u) }
+    ensures right { IfOk result (λ found. (d : Declared) (V : List TypedVariable) (θ : ℕ → Ty) → length V ≡ next.old → IsTypedInput θ d V (type_pairs_of bank.old var types.now) (pairs_at bank.old pairs.now) (pairs_at bank.old delayed.now) →
+        (n : ℕ) (s : State) → run n limit bank.old types.now pairs.now delayed.now next.old ≡ Some (Solution s) → AreStuck n (pairs_at bank.old delayed.now) → Satisfies θ s.types →
+        (z : Closing) × Reads bank.new found.bindings.items found.types.items z × HasSolutions n d V θ (pairs_at bank.old pairs.now) (pairs_at bank.old delayed.now) bank.new next.new found.residual.items z) }
+    ensures none { IfErr result (λ e. e ≡ Fails → (d : Declared) (V : List TypedVariable) (c : Closing) → length V ≡ next.old → IsTypedInput c.types d V (type_pairs_of bank.old var types.now) (pairs_at bank.old pairs.now) (pairs_at bank.old delayed.now) →
+        (n : ℕ) (u : Unified) → run n limit bank.old types.now pairs.now delayed.now next.old ≡ Some u → SolvesInput d V c (type_pairs_of bank.old var types.now) (pairs_at bank.old pairs.now) (pairs_at bank.old delayed.now) → ⊥) }
+    ensures refused { IfErr result (λ e. (levels : ℕ → ℕ) → AreKnownPairs levels next.old (pairs_at bank.old pairs.now) → AreKnownPairs levels next.old (pairs_at bank.old delayed.now) →
+        (n : ℕ) (u : Unified) → run n limit bank.old types.now pairs.now delayed.now next.old ≡ Some u → IsRefusedAs e n u) }
 {
     let mut bindings = Bindings::new(alloc);
     let residual = solve_under(
