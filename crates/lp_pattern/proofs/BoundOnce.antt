@@ -1,5 +1,5 @@
 -- Behind one binding, and behind several, all that was read before is read with the terms put in.
-use Rattle.std.proofs.Common.{◌≡◌, ℕ, suc, ◌+◌, ◌<◌, ◌≤◌, List, [], ◌∷◌, ◌++◌, length, ◌∙◌, refl, sym, ap, subst as transport, arith, Bool, true, false, Option, Some, None, nat_eq, if◌then◌else◌}
+use Rattle.std.proofs.Common.{◌≡◌, ℕ, suc, ◌<◌, ◌≤◌, List, [], ◌∷◌, ◌++◌, length, ◌∙◌, refl, sym, ap, subst as transport, arith, Bool, true, false, Option, Some, None, nat_eq, if◌then◌else◌}
 use Rattle.std.specs.Prelude.{◌&&◌}
 use Rattle.std.specs.Map.{lookup}
 use Rattle.std.proofs.lemmas.Bool.Decides.{nat_tests}

@@ -1,15 +1,15 @@
 -- What is read behind one variable against a term, through the rules that try its sides one after the other.
-use Rattle.std.proofs.Common.{◌≡◌, ℕ, suc, ◌<◌, List, [], ◌∷◌, map, length, ◌∙◌, refl, sym, ap, subst as transport, Bool, true, false, Option, Some, None, if◌then◌else◌}
+use Rattle.std.proofs.Common.{◌≡◌, ℕ, suc, ◌<◌, List, [], map, length, ◌∙◌, refl, sym, ap, subst as transport, Bool, true, false, Option, Some, None, if◌then◌else◌}
 use Rattle.std.specs.Prelude.{◌&&◌, option_map}
 use Rattle.lp_calculus.specs.Term.{Term, atom, apply, logic}
 use Rattle.lp_calculus.specs.Convert.{steps}
 use Rattle.lp_calculus.specs.Fill.{Within, abstracted}
 use Rattle.lp_calculus.proofs.Steps.{within_reduces}
 use Rattle.lp_term.specs.Nodes.{Nodes, Extends, tree}
-use Rattle.lp_model.specs.Look.{Look, flexible, are_distinct, are_above, only_if, as_eigens, pattern_of}
+use Rattle.lp_model.specs.Look.{flexible, are_distinct, are_above, only_if, as_eigens, pattern_of}
 use Rattle.lp_model.specs.Pair.{Pair, Closing, closed}
 use Rattle.lp_model.specs.Patterns.{eigens, agreeing}
-use Rattle.lp_model.specs.Rule.{Verdict, gives, Ruled, ruled, joined, pattern_side, side, solve_for, by_pattern, by_rule_5, by_rule_4, by_looks, compare_all, dear}
+use Rattle.lp_model.specs.Rule.{gives, Ruled, ruled, joined, pattern_side, side, solve_for, by_pattern, by_rule_5, by_rule_4, by_looks, compare_all, dear}
 use Rattle.lp_model.specs.Scan as scan
 use Rattle.lp_pattern.specs.declared.bindings.Bindings.{Bindings}
 use Rattle.lp_pattern.specs.declared.look.Head.{Head}
@@ -28,7 +28,6 @@ use Rattle.lp_pattern.proofs.BoundOnce.{join_behind, open_kept, kept_behind}
 use Rattle.lp_pattern.proofs.Compares.{from_bind, from_map}
 use Rattle.lp_pattern.proofs.Judging.{sides, by_right, left_side, right_side, no_side, view_kept, all_under, as_variable, some_same, behind_compare, or_at, both_of, some_of, side_at, when_both, four_open, four_half}
 use Rattle.lp_pattern.proofs.Looking.{closed_apply}
-use Rattle.lp_pattern.proofs.MoreFuel.{Below}
 use Rattle.lp_pattern.proofs.PruneSteps.{weak_reduces, within_apply}
 use Rattle.lp_pattern.proofs.SettleSteps.{top_variable}
 use Rattle.lp_pattern.proofs.Stacks.{under_kept}

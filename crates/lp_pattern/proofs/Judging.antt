@@ -489,7 +489,7 @@ module _ (b : Nodes) (s : Bindings) (c : Closing) (one other : Looked) (i : IsRe
   other_at : IsLookedAt b c other n p.right of.other
   other_at = looked_at b s c other n h.right.0 p.right of.other i m h.right.1 of.right
 
-  by_views : is_flexible one.head other.head ≡ true → by_looks n next p (view b c one) (view b c other) ≡ Some r
+  pub by_views : is_flexible one.head other.head ≡ true → by_looks n next p (view b c one) (view b c other) ≡ Some r
   by_views f =
       (λ z. by_looks n next p (bare_view n b c one.head one.top one.arguments.items of.one (bare_left one.head other.head f) one_at.is z)
       (bare_view n b c other.head other.top other.arguments.items of.other (bare_right one.head other.head f) other_at.is z)) ∙ of.is

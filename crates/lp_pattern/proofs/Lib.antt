@@ -16,6 +16,8 @@ pub mod Opening
 pub mod Pushing
 pub mod Refused
 pub mod Renewing
+pub mod RunStates
+pub mod RunTurns
 pub mod Results
 pub mod Scannings
 pub mod Sides
@@ -49,8 +51,13 @@ pub mod Converting
 pub mod BoundOnce
 pub mod Cleans
 pub mod Refits
+pub mod PairsGiven
+pub mod PairsThrough
 pub mod Passings
 pub mod PruneSteps
 pub mod PruneMoves
+pub mod RunBegins
+pub mod RunLoops
+pub mod Unbound
 pub mod GivenUp
 pub mod RuledOut

@@ -1,15 +1,13 @@
 -- What each visit of pruning does to what is left.
 use Rattle.std.proofs.Common.{◌≡◌, ℕ, zero, suc, ◌+◌, ◌<◌, ◌≤◌, List, [], ◌∷◌, ◌++◌, map, reverse, length, ◌∙◌, refl, sym, ap, subst as transport, arith, Bool, true, false, Option, Some, None, nat_eq, ◌-◌, if◌then◌else◌}
 use Rattle.std.specs.Prelude.{All, ◌&&◌, nat_lt, min}
-use Rattle.std.specs.Map.{lookup}
 use Rattle.std.proofs.lemmas.Bool.Decides.{nat_tests}
 use Rattle.std.proofs.lemmas.List.{reverse-append, reverse-reverse, map-append, append_assoc}
 use Rattle.std.proofs.lemmas.List.Elements.{All-nil, All-head, All-tail, All-cons, All-push, All-weaker}
-use Rattle.indexmap.specs.IndexMap.{get}
 use Rattle.lp_calculus.specs.Term.{Term, index, atom, abs, app, apply, substitute, constant, integer, text, eigen, logic, param}
 use Rattle.lp_calculus.specs.Convert.{steps}
-use Rattle.lp_calculus.specs.Fill.{Within, close, at_variables, Binding, put, put_all}
-use Rattle.lp_calculus.proofs.Fills.{within_fill, within_more, shift_closed}
+use Rattle.lp_calculus.specs.Fill.{Within, close, at_variables}
+use Rattle.lp_calculus.proofs.Fills.{within_fill, within_more}
 use Rattle.lp_calculus.proofs.Sigma.{up, subst}
 use Rattle.lp_term.specs.Nodes.{Nodes, Extends, tree}
 use Rattle.lp_term.specs.declared.node.TermId.{TermId}
@@ -31,20 +29,19 @@ use Rattle.lp_pattern.specs.Turning.{IsOpenReading}
 use Rattle.lp_pattern.specs.Scanning.{Binds, visits, all_fit}
 use Rattle.lp_pattern.specs.Seen.{weak_step, IsRigid, IsHead, IsLooked, IsReachedWithin}
 use Rattle.lp_pattern.specs.Stripping.{opens, IsShut, IsPattern, read_at}
-use Rattle.lp_pattern.specs.Under.{ValueIs, IsReading, under}
+use Rattle.lp_pattern.specs.Under.{IsReading, under}
 use Rattle.lp_pattern.specs.Visiting.{Part, IsVisitOf}
 use Rattle.lp_pattern.proofs.ArgumentForms.{abstraction_whole}
 use Rattle.lp_pattern.proofs.BoundOnce.{put_none, put_then, IsOneBinding, once_put, once_read, fresh_once}
 use Rattle.lp_pattern.proofs.Opening.{SeenAt, read_none, read_kept, read_reached, read_whole, variable_at, opened_once, top_of}
 use Rattle.lp_pattern.proofs.Passings.{Split, split_first, passed_put, left_put}
-use Rattle.lp_pattern.proofs.PruneSteps.{passed_within, Fresh, levels_with, turn_of, found_left, own_pattern, renewed_there, pattern_known, fresh_renewal, fresh_closed, fresh_absent, fresh_known, old_known, level_known}
-use Rattle.lp_pattern.proofs.ReadingsBehind.{closed_valued, shut_valued, reading_valued, put_valued}
+use Rattle.lp_pattern.proofs.PruneSteps.{passed_within, Fresh, levels_with, turn_of, found_left, own_pattern, renewed_there, pattern_known, fresh_renewal, fresh_known, old_known, level_known}
+use Rattle.lp_pattern.proofs.ReadingsBehind.{closed_valued, put_valued}
 use Rattle.lp_pattern.proofs.Refits.{Any, scanned_clean, open_clean, renewal_stands}
 use Rattle.lp_pattern.proofs.Scannings.{visits_kept, pushed_known}
 use Rattle.lp_pattern.proofs.SettleSteps.{top_variable}
 use Rattle.lp_pattern.proofs.Stacks.{under_kept}
 use Rattle.lp_pattern.proofs.Tops.{popped_known}
-use Rattle.lp_pattern.proofs.TypesSolved.{lookup_past}
 use Rattle.lp_pattern.proofs.Walking.{reading_kept}
 
 -- what is left, the last one first

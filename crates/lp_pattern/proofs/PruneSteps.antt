@@ -5,7 +5,7 @@ use Rattle.std.proofs.lemmas.Bool.Decides.{nat_tests}
 use Rattle.std.proofs.lemmas.List.{append-nil}
 use Rattle.lp_calculus.specs.Term.{Term, Atom, index, atom, abs, app, apply, constant, integer, text, eigen, logic, param}
 use Rattle.lp_calculus.specs.Convert.{steps}
-use Rattle.lp_calculus.specs.Fill.{Within, fill, close, at_variables, indexed, abstracted, put, put_all}
+use Rattle.lp_calculus.specs.Fill.{Within, fill, close, at_variables, indexed, abstracted, put}
 use Rattle.lp_calculus.specs.Instance.{instance_atom}
 use Rattle.lp_calculus.proofs.Commutations.{instance_fill}
 use Rattle.lp_calculus.proofs.Fills.{fill-fill, fill_none, within_fill, within_more, within_subst}

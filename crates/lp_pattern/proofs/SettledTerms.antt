@@ -1,8 +1,8 @@
 -- A settled term holds the atoms of each term to which what is settled converts, and eigenconstants.
-use Rattle.std.proofs.Common.{◌≡◌, ℕ, suc, List, [], ◌∷◌, ◌∙◌, refl, sym, ap, subst as transport, arith, Bool, true, false, Option, Some, nat_eq, if◌then◌else◌}
+use Rattle.std.proofs.Common.{◌≡◌, ℕ, suc, List, [], ◌∷◌, sym, subst as transport, arith, Bool, true, false, Some, nat_eq, if◌then◌else◌}
 use Rattle.lp_calculus.specs.Term.{Term, Atom, index, atom, abs, app, apply, substitute, constant, integer, text, eigen, logic, param}
 use Rattle.lp_calculus.specs.Convert.{Converts, same, here, by_beta}
-use Rattle.lp_calculus.specs.Fill.{Within, fill, indexed, abstraction, abstracted}
+use Rattle.lp_calculus.specs.Fill.{Within, indexed, abstraction, abstracted}
 use Rattle.lp_calculus.specs.Normal.{IsHead}
 use Rattle.lp_calculus.proofs.Fills.{within_fill, within_more}
 use Rattle.lp_calculus.proofs.Rigid.{EachReaches, reaches_none, reaches_more, head_reaches}

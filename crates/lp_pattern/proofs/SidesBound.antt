@@ -1,17 +1,17 @@
 -- Behind rule 5 the side's variable is bound to the other side, pruned and settled.
-use Rattle.std.proofs.Common.{◌≡◌, ℕ, zero, suc, ◌+◌, ◌<◌, ◌≤◌, List, [], ◌∷◌, ◌++◌, length, ◌∙◌, refl, sym, ap, subst as transport, arith, Bool, true, false, Option, Some, None, nat_eq, if◌then◌else◌, inl}
+use Rattle.std.proofs.Common.{◌≡◌, ℕ, zero, suc, List, [], ◌∷◌, ◌++◌, ◌∙◌, refl, sym, ap, subst as transport, arith, Bool, true, false, Option, Some, None, nat_eq, if◌then◌else◌, inl}
 use Rattle.std.specs.Prelude.{option_map, option_and_then, ◌&&◌, not}
 use Rattle.std.proofs.lemmas.Bool.Decides.{nat_tests}
 use Rattle.lp_calculus.specs.Term.{Term, Atom, atom, constant, integer, text, eigen, logic, param}
 use Rattle.lp_calculus.specs.Convert.{steps, same}
 use Rattle.lp_calculus.specs.Fill.{Within, close, at_variables, Binding, one, put, abstracted}
 use Rattle.lp_calculus.proofs.Fills.{fill_none, within_more, within_both}
-use Rattle.lp_term.specs.Nodes.{Nodes, Extends}
+use Rattle.lp_term.specs.Nodes.{Nodes}
 use Rattle.lp_term.specs.declared.node.TermId.{TermId}
 use Rattle.lp_term.proofs.Trees.{extends_same}
 use Rattle.lp_model.specs.Look.{Look, look}
 use Rattle.lp_model.specs.Pair.{Closing}
-use Rattle.lp_model.specs.Rule.{Verdict, delays, binds, Ruled, ruled, bound, has_head, solve_for}
+use Rattle.lp_model.specs.Rule.{binds, Ruled, ruled, bound, has_head, solve_for}
 use Rattle.lp_model.specs.Scan.{Side, is_side, fits, Pattern, Scanned, broken, whole, scan, first_misfit, renewal, Pruned, led_by, prune, settle}
 use Rattle.lp_pattern.specs.declared.bindings.Bindings.{Bindings}
 use Rattle.lp_pattern.specs.declared.scan.Scanned.{Scanned as Noted}
@@ -20,12 +20,12 @@ use Rattle.lp_pattern.specs.Cleaning.{MayStand, IsClean}
 use Rattle.lp_pattern.specs.Putting.{Known}
 use Rattle.lp_pattern.specs.Scanning.{all_fit}
 use Rattle.lp_pattern.specs.Seen.{weak_step}
-use Rattle.lp_pattern.specs.Turning.{IsOpenReading, IsBoundBehind, IsDoneAs}
+use Rattle.lp_pattern.specs.Turning.{IsBoundBehind, IsDoneAs}
 use Rattle.lp_pattern.specs.Valuing.{IsKnownSide, IsValued, Values}
 use Rattle.lp_pattern.specs.Visiting.{IsScanned}
 use Rattle.lp_pattern.proofs.BoundOnce.{IsOneBinding, once_put, once_read, once_longer, put_then, bound_of}
 use Rattle.lp_pattern.proofs.Compares.{reached_look, from_bind, from_map}
-use Rattle.lp_pattern.proofs.Judging.{scan_reached, behind, scanned_to, pruned_to, some_same}
+use Rattle.lp_pattern.proofs.Judging.{scan_reached, behind, scanned_to, pruned_to}
 use Rattle.lp_pattern.proofs.MoreFuel.{Below, below_none, below_same, below_then}
 use Rattle.lp_pattern.proofs.Passings.{steps_fill}
 use Rattle.lp_pattern.proofs.PruneSteps.{turn_of}

@@ -164,6 +164,9 @@ module _ (b : Nodes) (s : Bindings) (c : Closing) (one other : Looked) (i : IsRe
       transport (λ z. (u ≡ z.units + u) × IsDone z.verdict)
       (opened_at n next p b c one.head other.head one.top other.top one.arguments.items other.arguments.items of.one of.other r f g one_at.is other_at.is of.is) (let z : u ≡ 0 + u = omega arith in z, tt)
 
+  pub rule_gives : is_flexible one.head other.head ≡ false → are_both_rigid one.head other.head ≡ false → ruled 0 (gives [] (opened p ∷ [])) ≡ r
+  rule_gives f g = opened_at n next p b c one.head other.head one.top other.top one.arguments.items other.arguments.items of.one of.other r f g one_at.is other_at.is of.is
+
 -- a head that is too far
 pub left_far : (n next u : ℕ) (p : Pair) (e : TermRefusal) (y : PatternRefusal) → IsOfTerm e y → IsDeepWhere 1000000 p.left e → IsRuledOut n y u (rule n next p)
 left_far n next u p (TermRefusal.Deep k) y i d =

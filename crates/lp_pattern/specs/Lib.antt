@@ -14,6 +14,7 @@ pub mod Seen
 pub mod Stripping
 pub mod TopLooks
 pub mod Turning
+pub mod Turns
 pub mod Unifying
 pub mod Under
 pub mod Valuing

@@ -1,7 +1,6 @@
 -- Pruning by parts: what is left of it leads to what the definition's pruning comes to.
 use Rattle.std.specs.Prelude.{◌≡◌, ℕ, ◌<◌, ◌≤◌, nat_eq, List, [], ◌∷◌, ◌++◌, All, None, Some, length}
 use Rattle.indexmap.specs.IndexMap.{get}
-use Rattle.lp_calculus.specs.Term.{Term}
 use Rattle.lp_calculus.specs.Fill.{Within, Binding}
 use Rattle.lp_term.specs.Nodes.{Nodes}
 use Rattle.lp_term.specs.declared.node.TermId.{TermId}

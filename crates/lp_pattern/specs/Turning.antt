@@ -86,11 +86,12 @@ pub record IsTypedBehind (next : ℕ) (c : Closing) (s : Bindings) (d : Nodes) (
   pub types : length s'.types.entries ≡ length s.types.entries + length ts
 
 -- pairs are on a stack, the first of them on top
-pub record ArePushed (d : Nodes) (c : Closing) (old new : List Numbers) (ps : List Pair) : Type 0 where
+pub record ArePushed (levels : ℕ → ℕ) (next : ℕ) (d : Nodes) (c : Closing) (old new : List Numbers) (ps : List Pair) : Type 0 where
   pub pairs : List Numbers
   pub on : new ≡ old ++ reverse pairs
   pub are : ArePairsFor d c pairs ps
   pub stand : All (IsPairOf (length d.terms)) pairs
+  pub known : AreKnownPairs levels next ps
 
 -- one variable against a term: the pair is done, or it is delayed
 abbrev pub IsDoneAs : Bool → (levels : ℕ → ℕ) → (next : ℕ) → Closing → Bindings → Nodes → Bindings → (next' : ℕ) → Verdict → Type 0
@@ -101,16 +102,16 @@ IsDoneAs true lv n c s d s' n' delays = ⊥
 IsDoneAs false lv n c s d s' n' v = (v ≡ delays) × IsKeptBehind n c s d s' n'
 
 -- the pairs that a rule gives stand for it
-abbrev pub IsGivenAs : (next : ℕ) → Closing → Bindings → Nodes → Bindings → (next' : ℕ) → (old new : List Numbers) → Verdict → Type 0
-IsGivenAs n c s d s' n' old new fails = ⊥
-IsGivenAs n c s d s' n' old new (gives ts ps) = IsTypedBehind n c s d s' n' ts × ArePushed d (with_types ts c) old new ps
-IsGivenAs n c s d s' n' old new (binds bs m) = ⊥
-IsGivenAs n c s d s' n' old new delays = ⊥
+abbrev pub IsGivenAs : (levels : ℕ → ℕ) → (next : ℕ) → Closing → Bindings → Nodes → Bindings → (next' : ℕ) → (old new : List Numbers) → Verdict → Type 0
+IsGivenAs lv n c s d s' n' old new fails = ⊥
+IsGivenAs lv n c s d s' n' old new (gives ts ps) = IsTypedBehind n c s d s' n' ts × ArePushed lv n' d (with_types ts c) old new ps
+IsGivenAs lv n c s d s' n' old new (binds bs m) = ⊥
+IsGivenAs lv n c s d s' n' old new delays = ⊥
 
 -- what a pair came to, with the stack of pairs before and behind
 abbrev pub IsTakenAs : Taken → (levels : ℕ → ℕ) → (next : ℕ) → Closing → Bindings → Nodes → Bindings → (next' : ℕ) → (old new : List Numbers) → Pair → Verdict → Type 0
 IsTakenAs Taken.Gone lv n c s d s' n' old new p fails = ⊥
-IsTakenAs Taken.Gone lv n c s d s' n' old new p (gives ts ps) = IsTypedBehind n c s d s' n' ts × ArePushed d (with_types ts c) old new ps
+IsTakenAs Taken.Gone lv n c s d s' n' old new p (gives ts ps) = IsTypedBehind n c s d s' n' ts × ArePushed lv n' d (with_types ts c) old new ps
 IsTakenAs Taken.Gone lv n c s d s' n' old new p (binds bs m) = (n' ≡ m) × IsBoundBehind lv n c s d s' n' bs × (new ≡ old)
 IsTakenAs Taken.Gone lv n c s d s' n' old new p delays = ⊥
 IsTakenAs (Taken.Delayed q) lv n c s d s' n' old new p v = (v ≡ delays) × IsKeptBehind n c s d s' n' × (new ≡ old) × IsPairFor d c q p × IsPairOf (length d.terms) q

@@ -26,16 +26,16 @@ abbrev pub unbound : Closing
 unbound = record { types = var; terms = λ x l. atom (logic x l) }
 
 -- a closing gives each variable what its value in these lists is under the closing
-pub record Reads (b : Nodes) (terms : List (ℕ × TermId)) (types : List (ℕ × TypeId)) (c : Closing) : Type 0 where
-  pub terms : (x : ℕ) → ValueIs b c x (lookup (nat_eq x) terms)
-  pub types : (x : ℕ) → TypeIs b c.types x (lookup (nat_eq x) types)
+pub record Reads (b : Nodes) (values : List (ℕ × TermId)) (kinds : List (ℕ × TypeId)) (c : Closing) : Type 0 where
+  pub terms : (x : ℕ) → ValueIs b c x (lookup (nat_eq x) values)
+  pub types : (x : ℕ) → TypeIs b c.types x (lookup (nat_eq x) kinds)
 
 -- bindings and pairs left are those of the definition: each term of before is, with all bindings put in, what the definition's bindings and types make of
 -- it, and steps at the top lead from the definition's pairs to those that are left
-pub record IsFound (levels : ℕ → ℕ) (next : ℕ) (c : Closing) (b : Nodes) (next' : ℕ) (left : List Numbers) (closing : Closing) (s : State) : Type 0 where
+pub record IsFound (levels : ℕ → ℕ) (next : ℕ) (c : Closing) (b : Nodes) (next' : ℕ) (residual : List Numbers) (closing : Closing) (s : State) : Type 0 where
   pub puts : (t : Term) → Within (Known levels next) 0 (closed c t) → closed closing t ≡ put_types_in s.types (put_all s.bindings (closed c t))
   pub last : next' ≡ s.next
-  pub left : ArePairsFor b closing left s.delayed
+  pub left : ArePairsFor b closing residual s.delayed
   pub levels' : ℕ → ℕ
   pub older : (x : ℕ) → x < next → levels' x ≡ levels x
   pub known : AreKnownPairs levels' next' s.delayed

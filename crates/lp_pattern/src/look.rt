@@ -34,8 +34,6 @@ pub(crate) struct Looked {
     pub top: TermId,
     pub head: Head,
     pub arguments: Vec<TermId>,
-    // Whether the term was not as it stands now, but for bound variables without arguments.
-    pub is_new: bool,
 }
 
 // A term on the way to its head: the head so far, its arguments, of which the last comes first, the number of the whole term where it has
@@ -45,7 +43,6 @@ pub(crate) struct Spine {
     top: TermId,
     arguments: Vec<TermId>,
     whole: Option<TermId>,
-    is_new: bool,
     left: u64,
 }
 
@@ -118,7 +115,6 @@ fn contract(
     spine.left -= 1;
     spine.top = contracted(alloc, bank, body, argument)?;
     spine.whole = alone(spine.top, &spine.arguments);
-    spine.is_new = true;
     Ok(None)
 }
 
@@ -145,7 +141,6 @@ fn put_value(
     }
     spine.top = value;
     spine.whole = alone(value, &spine.arguments);
-    spine.is_new = spine.is_new || !spine.arguments.is_empty();
     Ok(None)
 }
 
@@ -220,7 +215,6 @@ fn seen(bank: &mut Bank, bindings: &Bindings, spine: Spine, head: Head) -> Resul
         top: spine.top,
         head,
         arguments,
-        is_new: spine.is_new,
     })
 }
 
@@ -245,7 +239,6 @@ pub(crate) fn look(
         top: term,
         arguments: Vec::new(alloc),
         whole: Some(term),
-        is_new: false,
         left: limit,
     };
     'steps: for _ in 0..u64::MAX {

@@ -81,8 +81,6 @@ impl Opened {
 #[derive(Drop)]
 pub(crate) struct Arguments {
     pub eigens: Vec<u64>,
-    // Whether some argument is not written as an eigenconstant.
-    pub is_new: bool,
 }
 
 // A term below the abstractions of the argument at hand, which is to come to this index.
@@ -265,14 +263,13 @@ fn alone(bank: &Bank, looked: &Looked, opened: Opened) -> Result<Option<u64>, Me
     eigen_below(name, 0, opened)
 }
 
-// The eigenconstant to which an argument comes, if it comes to one. Notes whether it is not written so.
+// The eigenconstant to which an argument comes, if it comes to one.
 fn as_eigen(
     alloc: Global,
     bank: &mut Bank,
     bindings: &Bindings,
     opened: Opened,
     term: TermId,
-    is_new: &mut bool,
 ) -> Result<Option<u64>, TermRefusal>
     ensures kept { Extends bank.old bank.new }
     ensures eigen { IfOk result (λ o. (c : Closing) → IsReading bank.old bindings.now c → IsShut c → (m : ℕ) → IsEigen m (read_at bank.old c opened.level opened.depth term) o) }
@@ -281,12 +278,8 @@ fn as_eigen(
     let looked = look(alloc, bank, bindings, term, CONTRACTIONS)?;
     match looked.head {
         Head::Variable { id: _, level: _ } => Ok(None),
-        Head::Abstraction(_) => {
-            *is_new = true;
-            contracted(alloc, bank, bindings, opened, looked.whole)
-        }
+        Head::Abstraction(_) => contracted(alloc, bank, bindings, opened, looked.whole),
         Head::Rigid => {
-            *is_new = *is_new || looked.is_new;
             let found = alone(bank, &looked, opened)?;
             Ok(found)
         }
@@ -331,9 +324,8 @@ pub(crate) fn pattern_of(
     ensures refused { IfErr result (λ e. (c : Closing) → IsReading bank.old bindings.now c → IsShut c → (m : ℕ) → m ≤ 1000000 → HasNoPattern m level (map (read_at bank.old c opened.level opened.depth) arguments.now) e) }
 {
     let mut eigens = Vec::new(alloc);
-    let mut is_new = false;
     for place in 0..arguments.len() {
-        let found = as_eigen(alloc, bank, bindings, opened, arguments[place], &mut is_new)?;
+        let found = as_eigen(alloc, bank, bindings, opened, arguments[place])?;
         let Some(eigen) = found else {
             return Ok(None);
         };
@@ -342,5 +334,5 @@ pub(crate) fn pattern_of(
     if !make_a_pattern(level, eigens.as_slice()) {
         return Ok(None);
     }
-    Ok(Some(Arguments { eigens, is_new }))
+    Ok(Some(Arguments { eigens }))
 }

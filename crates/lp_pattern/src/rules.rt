@@ -1,5 +1,5 @@
 // The rules for one pair: the first that applies is taken.
-ghost use Rattle.std.specs.Prelude.{◌≡◌, ◌≤◌, ◌<◌, ◌+◌, ℕ, suc, nat_eq, length, map, true, false, Some, IfOk, OnOk, IfErr};
+ghost use Rattle.std.specs.Prelude.{◌≡◌, ◌≤◌, ◌<◌, ◌+◌, ◌++◌, ℕ, suc, nat_eq, length, map, reverse, true, false, Some, IfOk, OnOk, IfErr};
 ghost use Rattle.lp_calculus.specs.Convert.{steps};
 ghost use Rattle.lp_calculus.specs.Term.{Term, atom, apply, index, logic};
 ghost use Rattle.lp_calculus.specs.Fill.{Within, abstracted};
@@ -9,7 +9,7 @@ ghost use Rattle.lp_model.specs.Pair.{Closing, Pair as Equation};
 ghost use Rattle.lp_model.specs.Patterns.{eigens, agreeing};
 ghost use Rattle.lp_model.specs.Rule.{Ruled, rule, by_looks, by_rule_4, by_rule_5, solve_for, has_head, decompose};
 ghost use Rattle.lp_pattern.specs.Behind.{IsGiven};
-ghost use Rattle.lp_pattern.specs.Comparing.{pair_under};
+ghost use Rattle.lp_pattern.specs.Comparing.{pairs_of};
 ghost use Rattle.lp_pattern.specs.declared.look.Head.TheVariants.{Rigid, Variable};
 ghost use Rattle.lp_pattern.specs.Filling.{IsStill};
 ghost use Rattle.lp_pattern.specs.Growing.{Grows};
@@ -67,6 +67,8 @@ fn decompose(
     requires rigid_other { other.now.head ≡ Rigid }
     ensures kept { Extends bank.old bank.new }
     ensures grown { Grows bindings.old bindings.new }
+    ensures terms { bindings.new.terms ≡ bindings.old.terms }
+    ensures pushed { OnOk result (todo.new.items ≡ todo.old.items ++ reverse (pairs_of level one.now.arguments.items other.now.arguments.items)) }
     ensures solved { OnOk result ((c : Closing) → IsReading bank.old bindings.old c → IsShut c → (n : ℕ) (r : Ruled) → (decompose n level (under bank.old c one.now.top) (map (under bank.old c) one.now.arguments.items) (under bank.old c other.now.top) (map (under bank.old c) other.now.arguments.items)) ≡ Some r → (units.old ≡ r.units + units.new) × IsDone r.verdict) }
     ensures given { OnOk result ((c : Closing) → IsReading bank.old bindings.old c → IsShut c → IsStill c.types → (n : ℕ) (r : Ruled) → (decompose n level (under bank.old c one.now.top) (map (under bank.old c) one.now.arguments.items) (under bank.old c other.now.top) (map (under bank.old c) other.now.arguments.items)) ≡ Some r → IsGiven bindings.old bank.new bindings.new c level (map (under bank.old c) one.now.arguments.items) (map (under bank.old c) other.now.arguments.items) r.verdict) }
     ensures refused { IfErr result (λ e. (c : Closing) → IsReading bank.old bindings.old c → IsShut c → (n : ℕ) → IsRuledOut n e units.old (decompose n level (under bank.old c one.now.top) (map (under bank.old c) one.now.arguments.items) (under bank.old c other.now.top) (map (under bank.old c) other.now.arguments.items))) }
@@ -454,7 +456,8 @@ fn replace(
     ensures kept { Extends bank.old bank.new }
     ensures grown { Grows bindings.old bindings.new }
     ensures replaced { OnOk result ((c : Closing) → IsReading bank.old bindings.old c → IsShut c → (n next : ℕ) (p : Equation) → IsSeenPair bank.old c level one.now other.now p → (r : Ruled) → rule n next p ≡ Some r → (units.old ≡ r.units + units.new) × IsDone r.verdict) }
-    ensures given { OnOk result ((next : ℕ) (c : Closing) → IsOpenReading bank.old bindings.old next c → (n : ℕ) (p : Equation) → IsSeenPair bank.old c level one.now other.now p → (r : Ruled) → rule n next p ≡ Some r → IsGivenAs next c bindings.old bank.new bindings.new next todo.old.items todo.new.items r.verdict) }
+    ensures given { OnOk result ((next : ℕ) (c : Closing) → IsOpenReading bank.old bindings.old next c → (levels : ℕ → ℕ) → (n : ℕ) (p : Equation) → IsSeenPair bank.old c level one.now other.now p → IsKnownPair levels next p → (r : Ruled) → rule n next p ≡ Some r →
+        IsGivenAs levels next c bindings.old bank.new bindings.new next todo.old.items todo.new.items r.verdict) }
     ensures refused { IfErr result (λ e. (c : Closing) → IsReading bank.old bindings.old c → IsShut c → (n next : ℕ) (p : Equation) → IsSeenPair bank.old c level one.now other.now p → IsRuledOut n e units.old (rule n next p)) }
 {
     if are_rigid(one.head, other.head) {
@@ -484,6 +487,8 @@ fn take_seen(
     ensures grown { Grows bindings.old bindings.new }
     ensures judged { IfOk result (λ v. (c : Closing) → IsReading bank.old bindings.old c → IsShut c → (n : ℕ) (p : Equation) → IsSeenPair bank.old c level one.now other.now p → (r : Ruled) → rule n next.old p ≡ Some r →
         IsTaken v units.old units.new r) }
+    ensures taken { IfOk result (λ v. (c : Closing) → IsOpenReading bank.old bindings.old next.old c → (levels : ℕ → ℕ) → (n : ℕ) (p : Equation) → IsSeenPair bank.old c level one.now other.now p → IsKnownPair levels next.old p → (r : Ruled) → rule n next.old p ≡ Some r →
+        IsTakenAs v levels next.old c bindings.old bank.new bindings.new next.new todo.old.items todo.new.items p r.verdict) }
     ensures refused { IfErr result (λ e. (c : Closing) → IsOpenReading bank.old bindings.old next.old c → (levels : ℕ → ℕ) → (n : ℕ) (p : Equation) → IsSeenPair bank.old c level one.now other.now p → IsKnownPair levels next.old p → IsRuledOut n e units.old (rule n next.old p)) }
 {
     if are_flexible(one.head, other.head) {

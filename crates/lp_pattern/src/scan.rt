@@ -31,8 +31,6 @@ pub(crate) struct Scanned {
     pub is_delayed: bool,
     // Some pattern does not fit.
     pub has_misfit: bool,
-    // Some part is not written as it reads.
-    pub is_new: bool,
 }
 
 // A part that is to be visited.
@@ -76,14 +74,6 @@ fn either(one: bool, other: bool) -> bool
     ensures { result ≡ (one || other) }
 {
     one || other
-}
-
-// Notes that a part is not written as it reads.
-fn note_new(found: &mut Scanned, is_new: bool)
-    ensures delayed { found.new.is_delayed ≡ found.old.is_delayed }
-    ensures misfit { found.new.has_misfit ≡ found.old.has_misfit }
-{
-    found.is_new = either(found.is_new, is_new);
 }
 
 // Puts the arguments of a visited part on the stack, so that the first of them comes first.
@@ -166,7 +156,6 @@ fn note_pattern(
 {
     let is_side = side.is_variable(id, level);
     let fits = side.fits(level, pattern.eigens.as_slice());
-    found.is_new = either(found.is_new, pattern.is_new);
     if visit.is_inside {
         found.is_delayed = either(either(found.is_delayed, is_side), !fits);
         return Ok(());
@@ -320,7 +309,6 @@ fn visit_part(
         (scan_parts m n (side_of side.now) (part_of bank.old c visit ∷ parts_of bank.old c left.old.items))) }
 {
     let looked = look(alloc, bank, bindings, visit.term, CONTRACTIONS)?;
-    note_new(found, looked.is_new);
     visit_seen(
         alloc, bank, bindings, side, visit, &looked, left, found, units,
     )
@@ -344,7 +332,6 @@ pub(crate) fn scan(
     let mut found = Scanned {
         is_delayed: false,
         has_misfit: false,
-        is_new: false,
     };
     let mut left = Vec::new(alloc);
     left.push(Visit {

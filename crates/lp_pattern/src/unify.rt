@@ -1,5 +1,5 @@
 // The unification of pairs.
-ghost use Rattle.std.specs.Prelude.{◌≡◌, ◌≤◌, ◌++◌, ℕ, List, length, map, reverse, true, Some, All, IfOk, OnOk, IfErr};
+ghost use Rattle.std.specs.Prelude.{◌≡◌, ◌≤◌, ◌++◌, ◌||◌, ℕ, Bool, List, [], length, map, reverse, true, Some, All, IfOk, OnOk, IfErr};
 ghost use Rattle.lp_calculus.specs.Types.{var};
 ghost use Rattle.lp_term.specs.Nodes.{Extends};
 ghost use Rattle.lp_model.specs.Pair.{Closing, Pair as Equation};
@@ -7,6 +7,7 @@ ghost use Rattle.lp_model.specs.Unify.{Unified, solve};
 ghost use Rattle.lp_pattern.specs.Growing.{Grows, IsPairOf};
 ghost use Rattle.lp_pattern.specs.Reading.{type_pairs_of};
 ghost use Rattle.lp_pattern.specs.Turning.{IsOpenReading, AreKnownPairs, ArePairsFor};
+ghost use Rattle.lp_pattern.specs.Turns.{Began, LeadsTo};
 ghost use Rattle.lp_pattern.specs.Unifying.{pair_of, IsSolutionUnder, IsSolution, IsRefusedAs};
 
 use crate::bindings::Bindings;
@@ -62,6 +63,10 @@ fn take_all(
     ensures kept { Extends bank.old bank.new }
     ensures more { next.old ≤ next.new }
     ensures grown { Grows bindings.old bindings.new }
+    ensures emptied { OnOk result (todo.new.items ≡ []) }
+    ensures taken { IfOk result (λ is_bound. (limit : ℕ) (o : Began) (n : ℕ) (u : Unified) (bound : Bool) → LeadsTo limit o n u bank.old bindings.old next.old units.old (reverse todo.old.items) waiting.old.items bound →
+        LeadsTo limit o n u bank.new bindings.new next.new units.new [] waiting.new.items (bound || is_bound)) }
+    ensures refused { IfErr result (λ e. (limit : ℕ) (o : Began) (n : ℕ) (u : Unified) (bound : Bool) → LeadsTo limit o n u bank.old bindings.old next.old units.old (reverse todo.old.items) waiting.old.items bound → IsRefusedAs e n u) }
 {
     let before = bindings.mark();
     'pairs: for _ in 0..u64::MAX {
@@ -102,6 +107,12 @@ pub fn solve_under(
     ensures refused { IfErr result (λ e. (c : Closing) → IsOpenReading bank.old bindings.old next.old c → (levels : ℕ → ℕ) → (ps ds : List Equation) → ArePairsFor bank.old c pairs.now ps → ArePairsFor bank.old c delayed.now ds → AreKnownPairs levels next.old ps → AreKnownPairs levels next.old ds → (n : ℕ) (u : Unified) →
         solve n limit (type_pairs_of bank.old c.types types.now) ps ds next.old ≡ Some u → IsRefusedAs e n u) }
 {
+    if !stand(bank, pairs) {
+        return Err(PatternRefusal::Memory);
+    }
+    if !stand(bank, delayed) {
+        return Err(PatternRefusal::Memory);
+    }
     let mut units = limit;
     let mut waiting = Vec::from_slice(alloc, delayed)?;
     let mut todo = Vec::new(alloc);

@@ -1,10 +1,11 @@
-use Rattle.std.proofs.Common.{ℕ, sym, ◌∙◌}
+use Rattle.std.proofs.Common.{ℕ, sym, refl, ◌∙◌}
 use Rattle.lp_term.proofs.Moves.{passed_up}
 use Rattle.lp_model.specs.Pair.{Closing, Pair as Equation}
 use Rattle.lp_model.specs.Rule.{rule}
 use Rattle.lp_pattern.specs.Ruling.{IsSeenPair, IsRuledOut}
 use Rattle.lp_pattern.specs.Turning.{IsOpenReading, IsKnownPair}
-use Rattle.lp_pattern.proofs.Judging.{taken_done, taken_delayed, taken_out}
+use Rattle.lp_pattern.proofs.Judging.{by_views, taken_done, taken_delayed, taken_out}
+use Rattle.lp_pattern.proofs.PairsGiven.{done_taken, delayed_taken, given_taken}
 use Rattle.lp_pattern.proofs.rules.take_seen.Goals as goal
 
 pub by_variables-requires-clause-flexible : goal.by_variables-requires-clause-flexible
@@ -36,3 +37,18 @@ returns-in_err-replace-clause-refused c =
 
 pub returns-clause-judged : goal.returns-clause-judged
 returns-clause-judged c = λ r i g n p h q e. c.in_ok-replace.ensures.replaced r i g n c.args.next.now p h q e
+
+pub returns-then-is_done-clause-taken : goal.returns-then-is_done-clause-taken
+returns-then-is_done-clause-taken c = λ r i lv n p h w y q.
+    done_taken c.args.bank.now c.by_variables.new.bank c.args.bindings.now c.args.next.now r c.args.one.now c.args.other.now i c.requires.one c.requires.other c.args.level lv p h w c.in_ok-is_done.ensures.kept c.args.todo.now.items c.args.todo.now.items c.by_variables.new.bindings c.by_variables.new.next c.in_ok-is_done.is_done y.verdict c.if-is_done.true refl
+    (c.in_ok-is_done.ensures.done r i lv n p h w y (by_views c.args.bank.now c.args.bindings.now r c.args.one.now c.args.other.now i.reading c.requires.one c.requires.other n c.args.next.now c.args.level p h y q (sym c.are_flexible.ensures ∙ c.if-are_flexible.true)))
+
+pub returns-then-are_flexible-clause-taken : goal.returns-then-are_flexible-clause-taken
+returns-then-are_flexible-clause-taken c = λ r i lv n p h w y q.
+    delayed_taken c.args.bank.now c.by_variables.new.bank c.args.bindings.now c.args.next.now r c.args.one.now c.args.other.now i c.requires.one c.requires.other c.args.level lv p h w c.in_ok-is_done.ensures.kept c.args.todo.now.items c.args.todo.now.items c.by_variables.new.bindings c.by_variables.new.next c.in_ok-is_done.is_done y.verdict c.if-is_done.false refl
+    (c.in_ok-is_done.ensures.done r i lv n p h w y (by_views c.args.bank.now c.args.bindings.now r c.args.one.now c.args.other.now i.reading c.requires.one c.requires.other n c.args.next.now c.args.level p h y q (sym c.are_flexible.ensures ∙ c.if-are_flexible.true)))
+
+pub returns-clause-taken : goal.returns-clause-taken
+returns-clause-taken c = λ r i lv n p h w y q.
+    given_taken c.args.bank.now c.replace.new.bank c.args.bindings.now c.args.next.now r c.args.one.now c.args.other.now i c.requires.one c.requires.other c.args.level lv p h w c.in_ok-replace.ensures.kept c.args.todo.now.items c.replace.new.todo.items c.replace.new.bindings y.verdict
+    (c.in_ok-replace.ensures.given c.args.next.now r i lv n p h w y q)

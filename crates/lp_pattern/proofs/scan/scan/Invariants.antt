@@ -14,5 +14,5 @@ invariant-parts l = record {
   kept : Extends l.fn.bank l.bank;
   left : All (IsVisitOf (length l.bank.terms) l.side.pair) l.left.items;
   rest : (c : Closing) → IsReading l.fn.bank l.bindings c → IsShut c → (n : ℕ) →
-      IsRestOf (side_of l.side) l.fn.units l.units (record { is_delayed = false; has_misfit = false; is_new = false }) l.found (scan n (side_of l.side) false l.side.pair (under l.fn.bank c l.fn.term)) (scan_parts n n (side_of l.side) (parts_of l.bank c l.left.items));
+      IsRestOf (side_of l.side) l.fn.units l.units (record { is_delayed = false; has_misfit = false }) l.found (scan n (side_of l.side) false l.side.pair (under l.fn.bank c l.fn.term)) (scan_parts n n (side_of l.side) (parts_of l.bank c l.left.items));
 }

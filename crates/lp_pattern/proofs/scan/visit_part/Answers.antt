@@ -1,4 +1,4 @@
-use Rattle.std.proofs.Common.{arith}
+use Rattle.std.proofs.Common.{arith, refl}
 use Rattle.lp_pattern.specs.Reading.{side_of}
 use Rattle.lp_pattern.specs.Refusing.{IsOfTerm}
 use Rattle.lp_pattern.proofs.Results.{err_and, if_err}
@@ -21,8 +21,8 @@ pub returns-clause-scanned : goal.returns-clause-scanned
 returns-clause-scanned c =
     on_ok c.visit_seen.result _ _
     (λ f r i h m n.
-    visit_goes m n (side_of c.args.side.now) c.args.bank.now c.look.new.bank r c.args.visit c.in_ok-looked.looked.whole c.args.left.now.items 1000000 c.args.side.now.pair c.args.units.now c.visit_seen.new.units c.args.found.now c.note_new.new.found c.visit_seen.new.found _
-    c.in_ok-looked.ensures.kept c.requires.left (c.in_ok-looked.ensures.reached r i) c.note_new.ensures.delayed c.note_new.ensures.misfit
+    visit_goes m n (side_of c.args.side.now) c.args.bank.now c.look.new.bank r c.args.visit c.in_ok-looked.looked.whole c.args.left.now.items 1000000 c.args.side.now.pair c.args.units.now c.visit_seen.new.units c.args.found.now c.args.found.now c.visit_seen.new.found _
+    c.in_ok-looked.ensures.kept c.requires.left (c.in_ok-looked.ensures.reached r i) refl refl
     (f r (reading_kept c.args.bank.now c.look.new.bank c.args.bindings.now r c.in_ok-looked.ensures.kept i) h m n))
     c.visit_seen.ensures.scanned
 

@@ -1,0 +1,41 @@
+use Rattle.std.proofs.Common.{◌≡◌, ◌∙◌, ap, sym, arith, ℕ, Bool, reverse}
+use Rattle.lp_term.proofs.Moves.{passed_up}
+use Rattle.lp_term.proofs.Trees.{extends-trans}
+use Rattle.lp_model.specs.Unify.{Unified}
+use Rattle.lp_pattern.specs.Turns.{Began, LeadsTo}
+use Rattle.lp_pattern.specs.Unifying.{IsRefusedAs}
+use Rattle.lp_pattern.proofs.Keeps.{grows_then}
+use Rattle.lp_pattern.proofs.RunLoops.{next_turn, turn_spent, turn_refused}
+use Rattle.lp_pattern.proofs.RunTurns.{waiting_behind}
+use Rattle.lp_pattern.proofs.unify.take_all.Goals as goal
+use Rattle.lp_pattern.proofs.unify.take_all.Goals.{in-Gone, in-Delayed+in_ok-push-in-Delayed}
+
+pub returns-in_err-spend-clause-refused : goal.returns-in_err-spend-clause-refused
+returns-in_err-spend-clause-refused c =
+    passed_up c.from_residual.result c.in_err-spend.field-0.0
+    (λ e. (limit : ℕ) (o : Began) (n : ℕ) (u : Unified) (bound : Bool) → LeadsTo limit o n u c.args.bank.now c.args.bindings.now c.args.next.now c.args.units.now (reverse c.args.todo.now.items) c.args.waiting.now.items bound → IsRefusedAs e n u)
+    c.from_residual.ensures.1
+    (λ limit o n u bound w. turn_spent limit o n u bound c.args.bindings.now c.pairs.bank c.pairs.bindings c.pairs.next c.pairs.units c.in-Some.pair c.pairs.todo.items c.pop.new.self.items c.pairs.waiting.items c.in-Some.ensures.items (c.pairs.invariant.comes limit o n u bound w)
+    c.in_err-spend.field-0.0 c.in_err-spend.ensures.refused)
+
+pub returns-in_err-take-clause-refused : goal.returns-in_err-take-clause-refused
+returns-in_err-take-clause-refused c =
+    passed_up c.from_residual-in_err-take.result c.in_err-take.field-0.0
+    (λ e. (limit : ℕ) (o : Began) (n : ℕ) (u : Unified) (bound : Bool) → LeadsTo limit o n u c.args.bank.now c.args.bindings.now c.args.next.now c.args.units.now (reverse c.args.todo.now.items) c.args.waiting.now.items bound → IsRefusedAs e n u)
+    c.from_residual-in_err-take.ensures.1
+    (λ limit o n u bound w. turn_refused limit o n u bound c.args.bindings.now c.pairs.bank c.pairs.bindings c.pairs.next c.pairs.units c.in-Some.pair c.pairs.todo.items c.pop.new.self.items c.pairs.waiting.items c.in-Some.ensures.items (c.pairs.invariant.comes limit o n u bound w)
+    c.spend.new.units c.in_err-take.field-0.0 c.in_ok-spend.ensures.spent c.in_err-take.ensures.refused)
+
+pub pairs-preserved : goal.pairs-preserved
+pairs-preserved c =
+    let later : waiting_behind c.in_ok-take.field-0 c.pairs.waiting.items ≡ c.match-branch-3.waiting.items = elim c.match-branch-3.branch [
+      | in-Gone w ↦ ap (λ v. waiting_behind v c.pairs.waiting.items) w.in-Gone.is ∙ ap (λ x. x.items) (sym w.waiting-is)
+      | in-Delayed+in_ok-push-in-Delayed w ↦ ap (λ v. waiting_behind v c.pairs.waiting.items) w.in-Delayed.is ∙ sym w.in_ok-push-in-Delayed.ensures.items ∙ ap (λ x. x.items) (sym w.waiting-is)
+    ] in
+    record {
+      kept = extends-trans c.args.bank.now c.pairs.bank c.take.new.bank c.pairs.invariant.kept c.in_ok-take.ensures.kept;
+      more = omega (arith, c.pairs.invariant.more, c.in_ok-take.ensures.more);
+      grown = grows_then c.args.bindings.now c.pairs.bindings c.take.new.bindings c.pairs.invariant.grown c.in_ok-take.ensures.grown;
+      comes = λ limit o n u bound w. next_turn limit o n u bound c.args.bindings.now c.pairs.bank c.pairs.bindings c.pairs.next c.pairs.units c.in-Some.pair c.pairs.todo.items c.pop.new.self.items c.pairs.waiting.items c.in-Some.ensures.items (c.pairs.invariant.comes limit o n u bound w)
+          c.take.new.bank c.take.new.bindings c.take.new.next c.spend.new.units c.take.new.units c.take.new.todo.items c.match-branch-3.waiting.items c.in_ok-take.ensures.kept c.in_ok-take.field-0 c.in_ok-spend.ensures.spent c.in_ok-take.ensures.judged c.in_ok-take.ensures.taken later;
+    }
