@@ -24,10 +24,10 @@ use Rattle.lp_pattern.specs.Growing.{IsPairOf}
 use Rattle.lp_pattern.specs.Putting.{Known}
 use Rattle.lp_pattern.specs.Ruling.{IsSeenPair}
 use Rattle.lp_pattern.specs.Seen.{weak_step, IsLooked, IsDeepWhere}
-use Rattle.lp_pattern.specs.Turning.{IsOpenReading, IsKnownPair, AreKnownPairs, IsPairFor, ArePairsFor, IsFirm, IsKeptBehind, IsTypedBehind, ArePushed, IsDoneAs, IsGivenAs, IsTakenAs}
+use Rattle.lp_pattern.specs.Turning.{IsOpenReading, IsKnownPair, AreKnownPairs, IsPairFor, ArePairsFor, IsFirm, IsKeptBehind, IsTypedBehind, IsDoneAs, IsGivenAs, IsTakenAs}
 use Rattle.lp_pattern.specs.Under.{under}
 use Rattle.lp_pattern.proofs.Judging.{pair_kept}
-use Rattle.lp_pattern.proofs.Looking.{closed_apply, steps_on, steps_then}
+use Rattle.lp_pattern.proofs.Looking.{steps_on, steps_then}
 use Rattle.lp_pattern.proofs.PairsThrough.{within_typed, within_reached}
 use Rattle.lp_pattern.proofs.Stacks.{under_kept}
 use Rattle.lp_pattern.proofs.Walking.{reading_kept}
@@ -129,11 +129,14 @@ module _ (b d : Nodes) (s : Bindings) (next : ℕ) (c : Closing) (one other : Lo
     record {
       pairs = q ∷ [];
       on = pushed;
-      are = (record {
-        stands = ap suc h.stands ∙ sym (ap (λ z. z.level) o);
-        left = opened_side q.left p.left (under b c one.whole) h.left.0 h.left.1 (ap (λ z. z.left) o);
-        right = opened_side q.right p.right (under b c other.whole) h.right.0 h.right.1 (ap (λ z. z.right) o);
-      }, tt);
+      are = (
+        record {
+          stands = ap suc h.stands ∙ sym (ap (λ z. z.level) o);
+          left = opened_side q.left p.left (under b c one.whole) h.left.0 h.left.1 (ap (λ z. z.left) o);
+          right = opened_side q.right p.right (under b c other.whole) h.right.0 h.right.1 (ap (λ z. z.right) o);
+        },
+        tt,
+      );
       stand = All-cons (IsPairOf (length d.terms)) q [] l (All-nil (IsPairOf (length d.terms)));
       known = (((known.0, tt), (known.1, tt)), tt);
     },

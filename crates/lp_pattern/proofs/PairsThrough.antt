@@ -1,9 +1,9 @@
 -- Pairs that steps lead to, when types or terms are put in on both sides.
-use Rattle.std.proofs.Common.{◌≡◌, ℕ, zero, suc, ◌<◌, List, [], ◌∷◌, ◌++◌, map, length, ◌∙◌, refl, sym, ap, subst as transport, arith, Option, Some, None}
+use Rattle.std.proofs.Common.{◌≡◌, ℕ, zero, suc, ◌<◌, List, [], ◌∷◌, ◌++◌, map, length, ◌∙◌, refl, sym, ap, Option, Some, None}
 use Rattle.std.specs.Prelude.{All, option_map}
-use Rattle.std.proofs.lemmas.List.Elements.{All-head, All-tail, All-weaker}
+use Rattle.std.proofs.lemmas.List.Elements.{All-head, All-tail}
 use Rattle.lp_calculus.specs.Types.{Ty}
-use Rattle.lp_calculus.specs.Term.{Term, Atom, index, atom, abs, app, apply, constant, integer, text, eigen, logic, param}
+use Rattle.lp_calculus.specs.Term.{Term, index, atom, abs, app, constant, integer, text, eigen, logic, param}
 use Rattle.lp_calculus.specs.Convert.{steps, option_term}
 use Rattle.lp_calculus.specs.Fill.{Within, Binding, put_all}
 use Rattle.lp_calculus.specs.Instance.{instance_term}
@@ -11,7 +11,7 @@ use Rattle.lp_calculus.proofs.Steps.{within_reduces}
 use Rattle.lp_term.specs.Nodes.{Nodes, Extends}
 use Rattle.lp_term.specs.declared.node.TermId.{TermId}
 use Rattle.lp_model.specs.Types.{TypeBinding, one_type}
-use Rattle.lp_model.specs.Pair.{Pair, Closing, closed, put_pair, put_type_in, put_types_in, type_pair}
+use Rattle.lp_model.specs.Pair.{Pair, Closing, put_pair, put_type_in, put_types_in, type_pair}
 use Rattle.lp_model.specs.Unify.{put_pairs, type_pairs_in}
 use Rattle.lp_model.specs.declared.answer.Pair.{Pair as Numbers}
 use Rattle.lp_pattern.specs.Growing.{IsPairOf}

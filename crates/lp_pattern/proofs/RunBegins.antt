@@ -1,14 +1,13 @@
 -- Where a run begins: behind the type equations.
-use Rattle.std.proofs.Common.{◌≡◌, ℕ, zero, suc, ◌+◌, ◌<◌, ◌≤◌, List, [], ◌∷◌, ◌++◌, length, ◌∙◌, refl, sym, ap, subst as transport, arith, Bool, true, false, Option, Some, None, nat_eq}
+use Rattle.std.proofs.Common.{◌≡◌, ℕ, ◌+◌, ◌<◌, List, [], ◌∷◌, length, ◌∙◌, refl, sym, ap, subst as transport, arith, Bool, true, false, Option, Some, nat_eq}
 use Rattle.std.specs.Prelude.{All, nat_lt}
 use Rattle.std.proofs.lemmas.Bool.Decides.{nat_tests}
 use Rattle.indexmap.specs.IndexMap.{get}
-use Rattle.lp_calculus.specs.Term.{Term}
 use Rattle.lp_calculus.specs.Fill.{Within}
 use Rattle.lp_term.specs.Nodes.{Nodes, Extends, tree}
 use Rattle.lp_term.specs.declared.node.TermId.{TermId}
 use Rattle.lp_model.specs.Types.{TypePair, TypeBinding, TypeOutcome, none, solved, solve_types}
-use Rattle.lp_model.specs.Pair.{Pair, Closing, closed, put_types_in}
+use Rattle.lp_model.specs.Pair.{Pair, Closing, put_types_in}
 use Rattle.lp_model.specs.Unify.{State, is_some_bound, type_pairs_in, Unified, Fail, Spent, limited, unify, begun, go_on, solve}
 use Rattle.lp_model.specs.declared.answer.Pair.{Pair as Numbers}
 use Rattle.lp_pattern.specs.declared.bindings.Bindings.{Bindings}
@@ -19,7 +18,7 @@ use Rattle.lp_pattern.specs.Filling.{IsSolvedIn, IsUnsolvedIn}
 use Rattle.lp_pattern.specs.Growing.{IsPairOf}
 use Rattle.lp_pattern.specs.Pruning.{Known}
 use Rattle.lp_pattern.specs.Turning.{IsOpenReading, AreKnownPairs, ArePairsFor}
-use Rattle.lp_pattern.specs.Turns.{Began, LeadsTo, IsBoundSince, ComesTo}
+use Rattle.lp_pattern.specs.Turns.{IsBoundSince, ComesTo}
 use Rattle.lp_pattern.specs.Under.{under}
 use Rattle.lp_pattern.specs.Unifying.{IsRefusedAs}
 use Rattle.lp_pattern.proofs.Compares.{from_bind}
@@ -92,27 +91,31 @@ module _ (n limit : ℕ) (types : List TypePair) (ps ds : List Pair) (next units
   since (x ∷ us) q = let z : length s'.terms.entries ≡ length s.terms.entries = ap (λ m. length m.entries) same in omega (arith, z, q)
 
   pub run_begins : ComesTo limit (record { closing = c; levels = lv; next = next }) n u false s d s' next units qs ws
-  run_begins = (is_some_bound ts, since ts read.count, record {
-    turns = n;
-    state = begun ps ds next (solved ts read.used);
-    comes = goes;
-    is = record {
-      closing = with_types ts c;
-      reading = record { reading = read.reading; shut = read.shut; still = read.still; unbound = λ x l. ap (λ m. get nat_eq m x) same ∙ i.unbound x l };
-      levels = lv;
-      older = λ x l. refl;
-      more = omega arith;
-      last = refl;
-      counted = solved_in;
-      pairs = typed_pairs qs ps here known pairs;
-      delayed = typed_pairs ws ds there known_delayed delayed;
-      within = still_pairs b d qs e here;
-      within_delayed = still_pairs b d ws e there;
-      known = typed_known ps known;
-      known_delayed = typed_known ds known_delayed;
-      puts = λ t w. read.terms t;
-      knows = λ t w. within_typed lv next ts t w;
-      firm = read.firm [] (λ t. refl);
-    };
-    changed = refl;
-  })
+  run_begins = (
+    is_some_bound ts,
+    since ts read.count,
+    record {
+      turns = n;
+      state = begun ps ds next (solved ts read.used);
+      comes = goes;
+      is = record {
+        closing = with_types ts c;
+        reading = record { reading = read.reading; shut = read.shut; still = read.still; unbound = λ x l. ap (λ m. get nat_eq m x) same ∙ i.unbound x l };
+        levels = lv;
+        older = λ x l. refl;
+        more = omega arith;
+        last = refl;
+        counted = solved_in;
+        pairs = typed_pairs qs ps here known pairs;
+        delayed = typed_pairs ws ds there known_delayed delayed;
+        within = still_pairs b d qs e here;
+        within_delayed = still_pairs b d ws e there;
+        known = typed_known ps known;
+        known_delayed = typed_known ds known_delayed;
+        puts = λ t w. read.terms t;
+        knows = λ t w. within_typed lv next ts t w;
+        firm = read.firm [] (λ t. refl);
+      };
+      changed = refl;
+    },
+  )

@@ -1,5 +1,5 @@
 -- The loops of a run: turn after turn, from where it began.
-use Rattle.std.proofs.Common.{◌≡◌, ℕ, suc, ◌+◌, ◌<◌, List, [], ◌∷◌, ◌++◌, reverse, length, ◌∙◌, refl, sym, ap, subst as transport, arith, Bool, true, false, Some, ◌⊎◌, inl, inr}
+use Rattle.std.proofs.Common.{◌≡◌, ℕ, suc, ◌+◌, List, [], ◌∷◌, ◌++◌, reverse, length, ◌∙◌, refl, sym, ap, subst as transport, arith, Bool, true, false, Some, ◌⊎◌, inl, inr}
 use Rattle.std.specs.Prelude.{◌||◌, ◌&&◌, not, nat_eq}
 use Rattle.std.proofs.lemmas.Bool.Decides.{nat_tests}
 use Rattle.std.proofs.lemmas.List.{reverse-append, reverse-reverse}
@@ -47,10 +47,12 @@ module _ (limit : ℕ) (o : Began) (n : ℕ) (u : Unified) (bound : Bool) (start
       ((c : Closing) → IsOpenReading b s next c → (lv : ℕ → ℕ) → (p : Pair) → IsPairFor b c q p → IsKnownPair lv next p → (m : ℕ) (r : Ruled) → rule m next p ≡ Some r → IsTakenAs v lv next c s d s' next' old new p r.verdict) →
       waiting_behind v waiting ≡ later → ComesTo limit o n u bound start d s' next' left (reverse new) later
   next_turn d s' next' before left new later e v z j t l =
-      let w = taken_turn limit o n u (bound || k.0) b s next units q old waiting at_hand d s' next' before left new e v z j t in
-      (k.0 || w.0, since_then k.0 w.0 start s s' k.1 w.1,
-      transport (λ ws. LeadsTo limit o n u d s' next' left (reverse new) ws (bound || (k.0 || w.0))) l
-      (transport (LeadsTo limit o n u d s' next' left (reverse new) (waiting_behind v waiting)) (or_then bound k.0 w.0) w.2))
+      let w = taken_turn limit o n u (bound || k.0) b s next units q old waiting at_hand d s' next' before left new e v z j t in (
+        k.0 || w.0,
+        since_then k.0 w.0 start s s' k.1 w.1,
+        transport (λ ws. LeadsTo limit o n u d s' next' left (reverse new) ws (bound || (k.0 || w.0))) l
+            (transport (LeadsTo limit o n u d s' next' left (reverse new) (waiting_behind v waiting)) (or_then bound k.0 w.0) w.2),
+      )
 
   pub turn_spent : (e : PatternRefusal) → (e ≡ refusal.Deep) × (units ≡ 0) → IsRefusedAs e n u
   turn_spent e h = none_left limit o n u (bound || k.0) b s next units q old waiting at_hand e h

@@ -1,13 +1,12 @@
 -- The states of a run: what a verdict on the first pair makes of the code's state and of the definition's.
-use Rattle.std.proofs.Common.{◌≡◌, ℕ, zero, suc, ◌+◌, ◌<◌, ◌≤◌, List, [], ◌∷◌, ◌++◌, map, reverse, length, ◌∙◌, refl, sym, ap, subst as transport, arith, Bool, true, false, Option, Some, None}
+use Rattle.std.proofs.Common.{◌≡◌, ℕ, ◌+◌, ◌<◌, List, [], ◌∷◌, ◌++◌, reverse, length, ◌∙◌, refl, sym, ap, subst as transport, arith, true}
 use Rattle.std.specs.Prelude.{All, ◌||◌}
-use Rattle.std.proofs.lemmas.List.{reverse-append, reverse-reverse, append-nil}
-use Rattle.std.proofs.lemmas.List.Elements.{All-nil, All-head, All-tail, All-cons, All-append, All-push}
+use Rattle.std.proofs.lemmas.List.{reverse-append, reverse-reverse}
+use Rattle.std.proofs.lemmas.List.Elements.{All-tail, All-append, All-push}
 use Rattle.lp_calculus.specs.Term.{Term}
 use Rattle.lp_calculus.specs.Fill.{Within, Binding, put, put_all}
 use Rattle.lp_term.specs.Nodes.{Nodes, Extends, tree}
 use Rattle.lp_term.specs.declared.node.TermId.{TermId}
-use Rattle.lp_term.proofs.Openings.{all_reverse}
 use Rattle.lp_model.specs.Types.{TypeBinding}
 use Rattle.lp_model.specs.Pair.{Pair, Closing, closed, put_type_in, put_types_in}
 use Rattle.lp_model.specs.Unify.{State, put_pairs, type_pairs_in, is_some_bound}
@@ -16,10 +15,10 @@ use Rattle.lp_pattern.specs.declared.bindings.Bindings.{Bindings}
 use Rattle.lp_pattern.specs.Behind.{with_types}
 use Rattle.lp_pattern.specs.Growing.{IsPairOf}
 use Rattle.lp_pattern.specs.Pruning.{Known}
-use Rattle.lp_pattern.specs.Turning.{IsKnownPair, AreKnownPairs, IsPairFor, ArePairsFor, IsFirm, IsKeptBehind, IsBoundBehind, IsTypedBehind, ArePushed}
-use Rattle.lp_pattern.specs.Turns.{Began, IsStateAt, IsBoundSince}
+use Rattle.lp_pattern.specs.Turning.{IsKnownPair, AreKnownPairs, IsPairFor, ArePairsFor, IsKeptBehind, IsBoundBehind, IsTypedBehind, ArePushed}
+use Rattle.lp_pattern.specs.Turns.{Began, IsStateAt}
 use Rattle.lp_pattern.specs.Under.{under}
-use Rattle.lp_pattern.proofs.PairsThrough.{steps_typed, within_typed, on_sides, types_on_sides, terms_on_sides, all_known, pairs_through, pairs_stay, pairs_behind, known_behind}
+use Rattle.lp_pattern.proofs.PairsThrough.{steps_typed, within_typed, types_on_sides, terms_on_sides, all_known, pairs_through, pairs_stay, pairs_behind, known_behind}
 use Rattle.lp_pattern.proofs.Stacks.{under_kept, still_pairs}
 
 -- bindings one after the other

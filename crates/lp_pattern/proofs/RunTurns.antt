@@ -16,8 +16,8 @@ use Rattle.lp_pattern.specs.declared.rules.Verdict.{Verdict as Taken}
 use Rattle.lp_pattern.specs.Growing.{IsPairOf}
 use Rattle.lp_pattern.specs.Ruling.{IsTaken, IsRuledOut}
 use Rattle.lp_pattern.specs.Stripping.{IsShut}
-use Rattle.lp_pattern.specs.Turning.{IsOpenReading, IsKnownPair, IsPairFor, ArePairsFor, IsTypedBehind, IsBoundBehind, IsTakenAs}
-use Rattle.lp_pattern.specs.Turns.{Began, IsStateAt, LeadsTo, IsBoundSince, ComesTo}
+use Rattle.lp_pattern.specs.Turning.{IsOpenReading, IsKnownPair, IsPairFor, ArePairsFor, IsTypedBehind, IsTakenAs}
+use Rattle.lp_pattern.specs.Turns.{Began, LeadsTo, IsBoundSince, ComesTo}
 use Rattle.lp_pattern.specs.Under.{IsReading}
 use Rattle.lp_pattern.specs.Unifying.{IsSolutionUnder, IsRefusedAs}
 use Rattle.lp_pattern.proofs.Compares.{from_map}
@@ -131,36 +131,45 @@ module _ (limit : ℕ) (o : Began) (n : ℕ) (u : Unified) (bound : Bool) (b : N
             after verdict.turns n limit (judged w.state front.pair front.rest (suc w.state.units + verdict.ruled.units) x) ≡ Some u → ComesTo limit o n u bound s d s' next' left (reverse new) (waiting_behind v waiting)
         go Taken.Gone fails h r = absurd h
         go Taken.Gone (gives ts ps) h r =
-            let st = with_given limit o b d s s' next next' units left q old waiting w.state (suc w.state.units + verdict.ruled.units) e w.is front paid ts ps in
-            (is_some_bound ts, typed_since next next' w.is.closing s s' d ts h.0, record {
-              turns = verdict.turns;
-              state = st;
-              comes = goes_on verdict.turns n limit st u (omega (arith, paid)) r;
-              is = given_state limit o b d s s' next next' units left q old waiting w.state (suc w.state.units + verdict.ruled.units) e w.is front paid ts ps new h.0 h.1;
-              changed = ap (λ x. x || is_some_bound ts) w.changed;
-            })
+            let st = with_given limit o b d s s' next next' units left q old waiting w.state (suc w.state.units + verdict.ruled.units) e w.is front paid ts ps in (
+              is_some_bound ts,
+              typed_since next next' w.is.closing s s' d ts h.0,
+              record {
+                turns = verdict.turns;
+                state = st;
+                comes = goes_on verdict.turns n limit st u (omega (arith, paid)) r;
+                is = given_state limit o b d s s' next next' units left q old waiting w.state (suc w.state.units + verdict.ruled.units) e w.is front paid ts ps new h.0 h.1;
+                changed = ap (λ x. x || is_some_bound ts) w.changed;
+              },
+            )
         go Taken.Gone (binds bs m) h r =
-            let st = with_bound limit o b d s s' next next' units left q old waiting w.state (suc w.state.units + verdict.ruled.units) e w.is front paid bs m new h.0 h.1 h.2 in
-            (true, (let a : length s.terms.entries + length s.types.entries < length s'.terms.entries + length s'.types.entries = omega (arith, h.1.terms, h.1.types) in a), record {
-              turns = verdict.turns;
-              state = st;
-              comes = goes_on verdict.turns n limit st u (omega (arith, paid)) r;
-              is = bound_state limit o b d s s' next next' units left q old waiting w.state (suc w.state.units + verdict.ruled.units) e w.is front paid bs m new h.0 h.1 h.2;
-              changed = or_true bound;
-            })
+            let st = with_bound limit o b d s s' next next' units left q old waiting w.state (suc w.state.units + verdict.ruled.units) e w.is front paid bs m new h.0 h.1 h.2 in (
+              true,
+              (let a : length s.terms.entries + length s.types.entries < length s'.terms.entries + length s'.types.entries = omega (arith, h.1.terms, h.1.types) in a),
+              record {
+                turns = verdict.turns;
+                state = st;
+                comes = goes_on verdict.turns n limit st u (omega (arith, paid)) r;
+                is = bound_state limit o b d s s' next next' units left q old waiting w.state (suc w.state.units + verdict.ruled.units) e w.is front paid bs m new h.0 h.1 h.2;
+                changed = or_true bound;
+              },
+            )
         go Taken.Gone delays h r = absurd h
         go (Taken.Delayed k) fails h r = absurd (cc)
         go (Taken.Delayed k) (gives ts ps) h r = absurd (cc)
         go (Taken.Delayed k) (binds bs m) h r = absurd (cc)
         go (Taken.Delayed k) delays h r =
-            let st = with_delayed limit o b d s s' next next' units left q old waiting w.state (suc w.state.units + verdict.ruled.units) e w.is front paid k new h.1 h.2 h.3 h.4 in
-            (false, (h.1.terms, h.1.types), record {
-              turns = verdict.turns;
-              state = st;
-              comes = goes_on verdict.turns n limit st u (omega (arith, paid)) r;
-              is = delayed_state limit o b d s s' next next' units left q old waiting w.state (suc w.state.units + verdict.ruled.units) e w.is front paid k new h.1 h.2 h.3 h.4;
-              changed = w.changed ∙ or_false bound;
-            })
+            let st = with_delayed limit o b d s s' next next' units left q old waiting w.state (suc w.state.units + verdict.ruled.units) e w.is front paid k new h.1 h.2 h.3 h.4 in (
+              false,
+              (h.1.terms, h.1.types),
+              record {
+                turns = verdict.turns;
+                state = st;
+                comes = goes_on verdict.turns n limit st u (omega (arith, paid)) r;
+                is = delayed_state limit o b d s s' next next' units left q old waiting w.state (suc w.state.units + verdict.ruled.units) e w.is front paid k new h.1 h.2 h.3 h.4;
+                changed = w.changed ∙ or_false bound;
+              },
+            )
 
   -- the units are passed
   past : limit < suc w.state.units + verdict.ruled.units → u ≡ Spent
@@ -241,13 +250,16 @@ module _ (limit : ℕ) (o : Began) (n : ℕ) (u : Unified) (b : Nodes) (s : Bind
   pub ended : LeadsTo limit o n u b s next units [] waiting false → IsSolutionUnder o.levels o.next o.closing b s next waiting u
   ended w =
       let y = end_turn false w (Solved w.state) refl in
-      transport (IsSolutionUnder o.levels o.next o.closing b s next waiting) (sym (same_outcome (Solution w.state) u y.1))
-      (w.is.closing, w.is.reading, record {
-        puts = w.is.puts;
-        last = w.is.last;
-        left = w.is.delayed;
-        levels' = w.is.levels;
-        older = w.is.older;
-        known = w.is.known_delayed;
-        knows = w.is.knows;
-      })
+      transport (IsSolutionUnder o.levels o.next o.closing b s next waiting) (sym (same_outcome (Solution w.state) u y.1)) (
+        w.is.closing,
+        w.is.reading,
+        record {
+          puts = w.is.puts;
+          last = w.is.last;
+          left = w.is.delayed;
+          levels' = w.is.levels;
+          older = w.is.older;
+          known = w.is.known_delayed;
+          knows = w.is.knows;
+        },
+      )

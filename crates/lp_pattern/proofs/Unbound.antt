@@ -1,17 +1,16 @@
 -- Nothing is bound: terms are read as they are, and the lists of bindings read as the bindings do.
-use Rattle.std.proofs.Common.{◌≡◌, ℕ, zero, ◌<◌, ◌≤◌, List, [], ◌∷◌, map, length, ◌∙◌, refl, sym, ap, subst as transport, Option, Some, None, nat_eq}
+use Rattle.std.proofs.Common.{◌≡◌, ℕ, List, [], ◌∷◌, map, ◌∙◌, refl, sym, ap, subst as transport, Some, nat_eq}
 use mathlib.Core.Path.{fun_ext}
 use Rattle.std.specs.Map.{lookup}
-use Rattle.indexmap.specs.IndexMap.{get}
 use Rattle.lp_calculus.specs.Types.{Ty, var, instance}
-use Rattle.lp_calculus.specs.Term.{Term, Atom, index, atom, abs, app, shift, constant, integer, text, eigen, logic, param}
-use Rattle.lp_calculus.specs.Fill.{fill, raise, at_variables, Within}
-use Rattle.lp_calculus.specs.Instance.{instance_atom, instance_term}
+use Rattle.lp_calculus.specs.Term.{Term, Atom, index, atom, abs, app, constant, integer, text, eigen, logic, param}
+use Rattle.lp_calculus.specs.Fill.{fill, raise, at_variables}
+use Rattle.lp_calculus.specs.Instance.{instance_term}
 use Rattle.lp_types.proofs.Types.{instance-var}
 use Rattle.lp_term.specs.Nodes.{Nodes, tree}
 use Rattle.lp_term.specs.declared.node.TermId.{TermId}
 use Rattle.lp_term.specs.declared.node.TypeId.{TypeId}
-use Rattle.lp_model.specs.Pair.{Pair, Closing, closed}
+use Rattle.lp_model.specs.Pair.{closed}
 use Rattle.lp_model.specs.Unify.{Unified, Fail, Solution, Spent}
 use Rattle.lp_model.specs.declared.answer.Pair.{Pair as Numbers}
 use Rattle.lp_pattern.specs.declared.bindings.Bindings.{Bindings}
@@ -61,18 +60,25 @@ unbound_reading b s next e f = record {
 -- pairs are those of the bank
 pub pairs_unbound : (b : Nodes) (qs : List Numbers) → ArePairsFor b unbound qs (map (pair_of b) qs)
 pairs_unbound b [] = tt
-pairs_unbound b (q ∷ qs) = (record {
-  stands = refl;
-  left = (0, ap (λ x. Some x) (sym (unbound_is (tree b q.left.0))));
-  right = (0, ap (λ x. Some x) (sym (unbound_is (tree b q.right.0))));
-}, pairs_unbound b qs)
+pairs_unbound b (q ∷ qs) = (
+  record {
+    stands = refl;
+    left = (0, ap (λ x. Some x) (sym (unbound_is (tree b q.left.0))));
+    right = (0, ap (λ x. Some x) (sym (unbound_is (tree b q.right.0))));
+  },
+  pairs_unbound b qs,
+)
 
 -- the lists of the bindings
 pub listed : (lv : ℕ → ℕ) (next next' : ℕ) (b : Nodes) (s : Bindings) (found : Solved) (u : Unified) → found.bindings.items ≡ s.terms.entries → found.types.items ≡ s.types.entries → IsSolutionUnder lv next unbound b s next' found.residual.items u →
     IsSolution lv next b next' found u
 listed lv next next' b s found Fail e f h = absurd h
 listed lv next next' b s found Spent e f h = absurd h
-listed lv next next' b s found (Solution st) e f h = (h.0, record {
-  terms = λ x. transport (λ y. ValueIs b h.0 x (lookup (nat_eq x) y)) (sym e) (h.1.reading.terms x);
-  types = λ x. transport (λ y. TypeIs b h.0.types x (lookup (nat_eq x) y)) (sym f) (h.1.reading.types x);
-}, h.2)
+listed lv next next' b s found (Solution st) e f h = (
+  h.0,
+  record {
+    terms = λ x. transport (λ y. ValueIs b h.0 x (lookup (nat_eq x) y)) (sym e) (h.1.reading.terms x);
+    types = λ x. transport (λ y. TypeIs b h.0.types x (lookup (nat_eq x) y)) (sym f) (h.1.reading.types x);
+  },
+  h.2,
+)

@@ -19,13 +19,13 @@ IsNoFailure PatternRefusal.Fails = ⊥
 IsNoFailure PatternRefusal.Deep = Unit {0}
 IsNoFailure PatternRefusal.Memory = Unit {0}
 
--- it is no failure, and a million steps are too few only where this does not hold for as many steps
+-- it is no failure; and it is for want of steps only where what takes so many steps, a million at most, is not there
 abbrev pub IsGivenUp : (limit : ℕ) → PatternRefusal → Type 0 → Type 0
 IsGivenUp n PatternRefusal.Fails A = ⊥
 IsGivenUp n PatternRefusal.Deep A = n ≤ 1000000 → A → ⊥
 IsGivenUp n PatternRefusal.Memory A = Unit {0}
 
--- it is no failure, and a million steps are too few only where the definition gives nothing in as many
+-- it is no failure; and it is for want of steps only where the definition gives nothing in so many, a million at most
 abbrev pub IsNothing : {A : Type 0} → (limit : ℕ) → PatternRefusal → Option A → Type 0
 IsNothing n PatternRefusal.Fails o = ⊥
 IsNothing n PatternRefusal.Deep o = n ≤ 1000000 → o ≡ None

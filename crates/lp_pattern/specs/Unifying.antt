@@ -1,7 +1,7 @@
 -- What whole runs come to: the outcome of the definition, read off the code's bindings and pairs.
-use Rattle.std.specs.Prelude.{◌≡◌, ℕ, ◌<◌, ◌≤◌, nat_eq, List, map, Option, Some, None}
+use Rattle.std.specs.Prelude.{◌≡◌, ℕ, ◌<◌, ◌≤◌, nat_eq, List, map, Option}
 use Rattle.std.specs.Map.{lookup}
-use Rattle.lp_calculus.specs.Types.{Ty, var}
+use Rattle.lp_calculus.specs.Types.{var}
 use Rattle.lp_calculus.specs.Term.{Term, atom, logic}
 use Rattle.lp_calculus.specs.Fill.{Within, put_all}
 use Rattle.lp_term.specs.Nodes.{Nodes, tree}

@@ -69,11 +69,12 @@ impl Bindings {
     }
 
     // Binds a logic variable that is not bound.
-    fn put_term(&mut self, variable: u64, to: TermId) -> Result<(), Memory>
+    pub(crate) fn put_term(&mut self, variable: u64, to: TermId) -> Result<(), Memory>
         requires { get nat_eq self.old.terms variable ≡ None }
         ensures made { OnOk result (self.new.terms.entries ≡ self.old.terms.entries ++ (variable, to) ∷ []) }
         ensures types { self.new.types ≡ self.old.types }
         ensures unchanged { OnErr result (self.new.terms.entries ≡ self.old.terms.entries) }
+        ensures grown { Grows self.old self.new }
     {
         match self.terms.insert(variable, to) {
             Ok(_) => Ok(()),

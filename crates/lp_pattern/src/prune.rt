@@ -1,5 +1,6 @@
 // Pruning and lowering: a pattern that does not fit gives way to a new variable on what is allowed.
-ghost use Rattle.std.specs.Prelude.{◌≡◌, ◌≤◌, ◌<◌, ◌∷◌, ◌++◌, ℕ, [], suc, min, nat_le, length, true, Some, IfOk, OnOk, IfErr};
+ghost use Rattle.std.specs.Prelude.{◌≡◌, ◌≤◌, ◌<◌, ◌∷◌, ◌++◌, ℕ, [], suc, min, nat_le, nat_eq, length, true, None, Some, IfOk, OnOk, IfErr};
+ghost use Rattle.indexmap.specs.IndexMap.{get};
 ghost use Rattle.lp_calculus.specs.Fill.{Within};
 ghost use Rattle.lp_calculus.specs.Term.{atom, index, eigen, logic};
 ghost use Rattle.lp_term.specs.Nodes.{Extends, tree};
@@ -123,6 +124,7 @@ fn renew(
     level: u64,
     eigens: &[u64],
 ) -> Result<(), Memory>
+    requires { get nat_eq bindings.old.terms id ≡ None }
     ensures kept { Extends bank.old bank.new }
     ensures more { next.old ≤ next.new }
     ensures next { OnOk result (next.new ≡ suc next.old) }
@@ -135,7 +137,7 @@ fn renew(
     let variable = put_variable(bank, next, smaller(side.level, level))?;
     let body = put_application(bank, variable, arguments.as_slice())?;
     let value = put_abstractions(bank, eigens.len(), body)?;
-    bindings.bind(id, value)
+    bindings.put_term(id, value)
 }
 
 // A variable. A pattern that is changed is visited again; what stood before it fits still. Where it is no pattern what stands in it fits, for

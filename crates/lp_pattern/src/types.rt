@@ -200,10 +200,7 @@ pub(crate) fn are_same_types(
     ensures spent { IfErr result (λ r. (θ : ℕ → Ty) → AreTypes bank.now bindings.now θ → (n : ℕ) → IsPassed r units.old (compare_types n (type_pairs_of bank.now θ pairs.now))) }
 {
     let mut left = stacked(alloc, pairs)?;
-    'pairs: for _ in 0..u64::MAX {
-        let Some((one, other)) = left.pop() else {
-            return Ok(true);
-        };
+    'pairs: while let Some((one, other)) = left.pop() {
         spend(units)?;
         let one = resolved(bank, bindings, one)?;
         let other = resolved(bank, bindings, other)?;
@@ -211,5 +208,5 @@ pub(crate) fn are_same_types(
             return Ok(false);
         }
     }
-    Err(PatternRefusal::Memory)
+    Ok(true)
 }

@@ -93,7 +93,8 @@ fn take_all(
 /// caller undoes to a mark.
 ///
 /// `next` is above the number of each variable, and is raised past the new ones. Each variable has one level. A pair that is taken, a
-/// pair of types, and a node that a scan visits are units; `Deep` comes where they pass the limit.
+/// pair of types, and a node that a scan visits are units; `Deep` comes where they pass the limit. `Memory` stands for a pair that is
+/// not in the bank, too.
 pub fn solve_under(
     alloc: Global,
     bank: &mut Bank,

@@ -6,6 +6,8 @@ use Rattle.lp_model.specs.Scan.{fits, pattern, renewal}
 use Rattle.lp_term.proofs.Trees.{extends-trans}
 use Rattle.lp_pattern.specs.Reading.{side_of}
 use Rattle.lp_pattern.specs.Scanning.{Binds}
+use Rattle.lp_term.specs.Nodes.{tree}
+use Rattle.lp_pattern.specs.Seen.{IsHead}
 use Rattle.lp_pattern.specs.Stripping.{IsPattern, HasNoPattern, read_at}
 use Rattle.lp_pattern.specs.Refusing.{IsOfTerm}
 use Rattle.lp_pattern.proofs.GivenUp.{prune_open_far}
@@ -51,3 +53,6 @@ returns-in_err-pattern-clause-refused c =
     (λ y i l o most term q.
     prune_open_far (side_of c.args.side.now) o most c.args.bank.now c.args.bindings.now c.args.next.now term c.args.left.now.items c.args.visit c.args.looked.now c.args.id c.args.level q c.in_err-pattern.field-0.0 y c.requires.looked c.requires.head i
     (λ r j h m k. transport (λ z. HasNoPattern m c.args.level (map (read_at c.args.bank.now r c.args.visit.opened.level c.args.visit.opened.depth) z) c.in_err-pattern.field-0.0) c.as_slice-arguments.ensures.value (c.in_err-pattern.ensures.refused r j h m k)))
+
+pub renew-requires : goal.renew-requires
+renew-requires c = (transport (λ y. IsHead c.args.bank.now c.args.bindings.now y (tree c.args.bank.now c.args.looked.now.top.0) c.args.looked.now.arguments.items) c.requires.head c.requires.looked.head).1

@@ -1,4 +1,4 @@
-use Rattle.std.proofs.Common.{◌<◌, ℕ, false, length, sym, ap, arith, subst as transport}
+use Rattle.std.proofs.Common.{◌<◌, ℕ, length, sym, ap, subst as transport}
 use Rattle.lp_term.proofs.Moves.{passed_up}
 use Rattle.lp_calculus.specs.Fill.{Within}
 use Rattle.lp_model.specs.Pair.{Closing}

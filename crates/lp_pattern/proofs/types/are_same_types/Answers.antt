@@ -13,8 +13,8 @@ use Rattle.lp_pattern.proofs.types.are_same_types.Goals as goal
 pub pairs-init : goal.pairs-init
 pairs-init c = λ θ r n. (n, types_start c.args.bank.now θ c.args.units.now n c.args.pairs.now c.in_ok-left.left.items c.in_ok-left.ensures)
 
-pub returns-in_default-clause-compared : goal.returns-in_default-clause-compared
-returns-in_default-clause-compared c = λ θ r n.
+pub returns-clause-compared : goal.returns-clause-compared
+returns-clause-compared c = λ θ r n.
     let w = c.pairs.invariant θ r n in
     types_done c.args.bank.now θ c.args.units.now c.pairs.units w.0 (compare_types n (type_pairs_of c.args.bank.now θ c.args.pairs.now)) c.pairs.left.items
     (nothing c.pairs.left.items (omega (arith, c.in_default.ensures.cases.0, c.pairs.left.ok))) w.1

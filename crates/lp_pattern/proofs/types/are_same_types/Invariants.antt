@@ -8,3 +8,6 @@ use Rattle.lp_pattern.proofs.types.are_same_types.Given as goal
 
 abbrev pub invariant-pairs : goal.invariant-pairs
 invariant-pairs l = (θ : ℕ → Ty) → AreTypes l.bank l.bindings θ → (n : ℕ) → (m : ℕ) × IsRest l.fn.units l.units (compare_types n (type_pairs_of l.bank θ l.fn.pairs)) (compare_types m (type_pairs_of l.bank θ (reverse l.left.items)))
+
+abbrev pub decreases-pairs : goal.decreases-pairs
+decreases-pairs l = l.units

@@ -18,7 +18,7 @@ pub returns-in_err-residual-clause-refused : goal.returns-in_err-residual-clause
 returns-in_err-residual-clause-refused c =
     passed_up c.from_residual.result c.in_err-residual.field-0.0
     (λ e. (levels : ℕ → ℕ) → AreKnownPairs levels c.args.next.now (map (pair_of c.args.bank.now) c.args.pairs.now) → AreKnownPairs levels c.args.next.now (map (pair_of c.args.bank.now) c.args.delayed.now) → (n : ℕ) (u : Unified) →
-      solve n c.args.limit (type_pairs_of c.args.bank.now var c.args.types.now) (map (pair_of c.args.bank.now) c.args.pairs.now) (map (pair_of c.args.bank.now) c.args.delayed.now) c.args.next.now ≡ Some u → IsRefusedAs e n u)
+    solve n c.args.limit (type_pairs_of c.args.bank.now var c.args.types.now) (map (pair_of c.args.bank.now) c.args.pairs.now) (map (pair_of c.args.bank.now) c.args.delayed.now) c.args.next.now ≡ Some u → IsRefusedAs e n u)
     c.from_residual.ensures.1
     (λ lv k m n u h. c.in_err-residual.ensures.refused unbound (unbound_reading c.args.bank.now c.new-bindings.result c.args.next.now c.new-bindings.ensures.terms c.new-bindings.ensures.types) lv (map (pair_of c.args.bank.now) c.args.pairs.now) (map (pair_of c.args.bank.now) c.args.delayed.now)
     (pairs_unbound c.args.bank.now c.args.pairs.now) (pairs_unbound c.args.bank.now c.args.delayed.now) k m n u h)

@@ -17,7 +17,7 @@ pub returns-in_err-solve_types-clause-refused : goal.returns-in_err-solve_types-
 returns-in_err-solve_types-clause-refused c =
     passed_up c.from_residual-in_err-solve_types.result c.in_err-solve_types.field-0.0
     (λ e. (r : Closing) → IsOpenReading c.args.bank.now c.args.bindings.now c.args.next.now r → (levels : ℕ → ℕ) → (ps ds : List Pair) → ArePairsFor c.args.bank.now r c.args.pairs.now ps → ArePairsFor c.args.bank.now r c.args.delayed.now ds → AreKnownPairs levels c.args.next.now ps → AreKnownPairs levels c.args.next.now ds → (n : ℕ) (u : Unified) →
-      solve n c.args.limit (type_pairs_of c.args.bank.now r.types c.args.types.now) ps ds c.args.next.now ≡ Some u → IsRefusedAs e n u)
+    solve n c.args.limit (type_pairs_of c.args.bank.now r.types c.args.types.now) ps ds c.args.next.now ≡ Some u → IsRefusedAs e n u)
     c.from_residual-in_err-solve_types.ensures.1
     (λ r i lv ps ds p q k m n u h. types_refused n c.args.limit (type_pairs_of c.args.bank.now r.types c.args.types.now) ps ds c.args.next.now u c.in_err-solve_types.field-0.0 (λ j o x. c.in_err-solve_types.ensures.refused r.types i.reading.types j o x) h)
 
@@ -42,7 +42,7 @@ pub returns-in_err-is_bound-clause-refused : goal.returns-in_err-is_bound-clause
 returns-in_err-is_bound-clause-refused c =
     passed_up c.from_residual-in_err-is_bound.result c.in_err-is_bound.field-0.0
     (λ e. (r : Closing) → IsOpenReading c.args.bank.now c.args.bindings.now c.args.next.now r → (levels : ℕ → ℕ) → (ps ds : List Pair) → ArePairsFor c.args.bank.now r c.args.pairs.now ps → ArePairsFor c.args.bank.now r c.args.delayed.now ds → AreKnownPairs levels c.args.next.now ps → AreKnownPairs levels c.args.next.now ds → (n : ℕ) (u : Unified) →
-      solve n c.args.limit (type_pairs_of c.args.bank.now r.types c.args.types.now) ps ds c.args.next.now ≡ Some u → IsRefusedAs e n u)
+    solve n c.args.limit (type_pairs_of c.args.bank.now r.types c.args.types.now) ps ds c.args.next.now ≡ Some u → IsRefusedAs e n u)
     c.from_residual-in_err-is_bound.ensures.1
     (λ r i lv ps ds p q k m n u h. c.in_err-is_bound.ensures.refused c.args.limit (record { closing = r; levels = lv; next = c.args.next.now }) n u c.rounds.has_types (c.rounds.invariant.comes r i lv ps ds p q k m n u h))
 

@@ -1,4 +1,4 @@
-use Rattle.std.proofs.Common.{◌≡◌, ◌≤◌, ℕ, Bool, reverse, length}
+use Rattle.std.proofs.Common.{◌≤◌, ℕ, Bool, reverse}
 use Rattle.lp_term.specs.Nodes.{Extends}
 use Rattle.lp_model.specs.Unify.{Unified}
 use Rattle.lp_pattern.specs.Growing.{Grows}
