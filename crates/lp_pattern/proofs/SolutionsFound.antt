@@ -1,21 +1,21 @@
 -- What a run finds has the solutions of its input: the laws of the definition, read off the values and the pairs that the code gives.
-use Rattle.std.proofs.Common.{◌≡◌, ℕ, zero, suc, ◌<◌, List, [], ◌∷◌, ◌++◌, map, length, ◌∙◌, refl, sym, ap, subst as transport, arith, Bool, true, false, if◌then◌else◌, Option, Some, None, nat_eq}
+use Rattle.std.proofs.Common.{◌≡◌, ℕ, zero, suc, ◌<◌, List, [], ◌∷◌, map, length, ◌∙◌, refl, sym, ap, subst as transport, arith, Bool, true, false, if◌then◌else◌, Option, Some, None, nat_eq}
 use Rattle.std.specs.Prelude.{slice_get}
-use Rattle.lp_calculus.specs.Types.{Ty, var}
+use Rattle.lp_calculus.specs.Types.{Ty}
 use Rattle.lp_calculus.specs.Term.{Term, index, atom, abs, app, substitute, Atom, constant, integer, text, eigen, logic, param}
-use Rattle.lp_calculus.specs.Convert.{Converts, Anywhere, here, in_head, BetaEta, by_beta, option_term, Many, done, then_step, ReducesTo, steps}
-use Rattle.lp_calculus.specs.Fill.{Within, fill, close, at_variables, Binding, put_all}
+use Rattle.lp_calculus.specs.Convert.{Converts, Anywhere, here, in_head, BetaEta, by_beta, option_term, done, then_step, ReducesTo, steps}
+use Rattle.lp_calculus.specs.Fill.{Within, close, at_variables, put_all}
 use Rattle.lp_calculus.specs.Instance.{instance_atom, instance_term}
 use Rattle.lp_calculus.specs.Typing.{HasType}
 use Rattle.lp_calculus.proofs.Fills.{fill_same, within_more}
 use Rattle.lp_calculus.proofs.Steps.{converts_on, converts_sym, converts_is, converts_fill, converts_reduces}
 use Rattle.lp_calculus.proofs.Commutations.{instance_converts}
-use Rattle.lp_term.specs.Nodes.{Nodes, tree}
-use Rattle.lp_model.specs.Types.{TypePair, TypeBinding}
-use Rattle.lp_model.specs.Pair.{Pair, Closing, closed, Solves, SolvesAll, put_types_in}
+use Rattle.lp_term.specs.Nodes.{Nodes}
+use Rattle.lp_model.specs.Types.{TypePair}
+use Rattle.lp_model.specs.Pair.{Pair, Closing, closed, SolvesAll}
 use Rattle.lp_model.specs.Unify.{State, Unified, Fail, Solution, solve}
 use Rattle.lp_model.specs.Proofs.{Declared}
-use Rattle.lp_model.specs.Answers.{Variable, type_of, over, IsPrefix, IsScopedAtom, PairTyping, IsTypedPair, AreTypedPairs, Closes}
+use Rattle.lp_model.specs.Answers.{Variable, type_of, IsPrefix, PairTyping, AreTypedPairs}
 use Rattle.lp_model.specs.declared.answer.Pair.{Pair as Numbers}
 use Rattle.lp_solutions.specs.TypeSolutions.{Satisfies}
 use Rattle.lp_solutions.specs.Solutions.{at_types, instance_pair, instance_binding, IsMore, AreTypedBindings, HaveTypings, IsTypedInput, through_bindings, AreStuck, KeptClosing, HasSameClosings}
@@ -28,11 +28,10 @@ use Rattle.lp_solutions.proofs.Principal.{closings_are_the_same}
 use Rattle.lp_solutions.proofs.Sames.{number_same}
 use Rattle.lp_solutions.proofs.Scopes.{got_before, more_get, prefix_none, in_scope, variable_of}
 use Rattle.lp_solutions.proofs.TypedBindings.{IsTypedTerm, term_reduces, term_atoms, IsAtomOf, put_all_typed}
-use Rattle.lp_pattern.specs.Comparing.{pair_under}
 use Rattle.lp_pattern.specs.Pruning.{Known}
 use Rattle.lp_pattern.specs.Seen.{weak_step}
 use Rattle.lp_pattern.specs.Solutions.{left_pairs, through, KeptThrough, HasSolutions}
-use Rattle.lp_pattern.specs.Turning.{IsKnownPair, AreKnownPairs, IsPairFor, ArePairsFor}
+use Rattle.lp_pattern.specs.Turning.{AreKnownPairs, IsPairFor, ArePairsFor}
 use Rattle.lp_pattern.specs.Under.{under}
 use Rattle.lp_pattern.specs.declared.fault.PatternRefusal.{PatternRefusal}
 use Rattle.lp_pattern.specs.declared.fault.PatternRefusal.TheVariants as refusal
