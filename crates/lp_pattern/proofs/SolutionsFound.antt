@@ -163,7 +163,7 @@ typed_left θ d W b z ts (q ∷ qs) [] a h = absurd a
 typed_left θ d W b z [] (q ∷ qs) (p ∷ ps) a h = absurd h
 typed_left θ d W b z (t ∷ ts) (q ∷ qs) (p ∷ ps) a h = let r = reached_at θ b z q p a.0 in (
   pair_of d W t (instance_term θ (under b z q.left)) (instance_term θ (under b z q.right)) q.level (h.0.level ∙ a.0.stands)
-  (term_reduces d t.eigens W t.type r.0 (left_term d W t (instance_pair θ p) h.0)) (term_reduces d t.eigens W t.type r.1 (right_term d W t (instance_pair θ p) h.0)),
+      (term_reduces d t.eigens W t.type r.0 (left_term d W t (instance_pair θ p) h.0)) (term_reduces d t.eigens W t.type r.1 (right_term d W t (instance_pair θ p) h.0)),
   typed_left θ d W b z ts qs ps a.1 h.1,
 )
 
