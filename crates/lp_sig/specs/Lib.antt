@@ -15,3 +15,5 @@ pub mod Schemes
 pub mod Types
 pub mod Holding
 pub mod Once
+pub mod Constants
+pub mod Ordering

@@ -6,7 +6,7 @@ ghost use Rattle.lp_sig.specs.Pieces.{spelled};
 ghost use Rattle.lp_sig.specs.Refusals.{IsFaultOf, IsFaultIn, named, typed, headed, parts_of, words_of, HasManyArguments};
 ghost use Rattle.lp_fixity.specs.declared.fixity.Fixity.{Fixity as IsFixity};
 ghost use Rattle.lp_sig.specs.Rows.{Row};
-ghost use Rattle.lp_sig.specs.Said.{Said, a_kind, an_abbreviation, said_in, fixities_by, fixities_in};
+ghost use Rattle.lp_sig.specs.Said.{Said, a_kind, an_abbreviation, each, said_in, fixities_by, fixities_in};
 ghost use Rattle.lp_sig.specs.Words.{IsNameFault, IsMeant, AreMeant, IsNumbered, AreNumbered, IsKindsFault, IsConstantsFault, IsAbbreviationFault, IsHead, IsSoundType, WordsStand, parameters_of, IsSentenceFault, IsSound, AreSound};
 ghost use Rattle.lp_sig.specs.Knowing.{Knows, KnowsOperators};
 ghost use Rattle.lp_sig.specs.Limits.{IsShort, AreShort, AreApart, IsWithin, AreWithin};
@@ -16,6 +16,8 @@ ghost use Rattle.lp_sig.specs.Abbreviations.{abbreviation_names, Seen, seen_text
 ghost use Rattle.lp_sig.specs.Words.{IsHead};
 ghost use Rattle.lp_sig.specs.Types.{Definition};
 ghost use Rattle.lp_sig.specs.Holding.{HoldsBodies, HasOtherBody};
+ghost use Rattle.lp_term.specs.Nodes.{Extends};
+ghost use Rattle.lp_sig.specs.Constants.{Written, written_in, KnowsConstants, AreSettled, AreDeclared, IsConstantsRefusal};
 
 use crate::bodies::Bodies;
 use crate::constants::Constants;
@@ -127,7 +129,7 @@ impl Names {
     }
 }
 
-// A fault of the type goes before names that are declared otherwise, since there is no type to compare.
+// A long name goes first, then a fault of the type, since without it there is no type to compare.
 pub(crate) fn declare_constants(
     names: &Names,
     bodies: &mut Bodies,
@@ -140,17 +142,15 @@ pub(crate) fn declare_constants(
     ensures why { (said : List (Row Said)) → Knows names.now said → IfErr result (IsConstantsFault source.now said spots.now raw.now) }
     ensures taken { IfOk result (λ done. AreShort source.now spots.now) }
     ensures stand { (said : List (Row Said)) → Knows names.now said → IfOk result (λ done. IsSoundType source.now said raw.now) }
+    ensures kept { Extends bodies.old.types.bank bodies.new.types.bank }
+    ensures bodies { bodies.new.bodies ≡ bodies.old.bodies }
+    ensures constants { OnOk result ((said : List (Row Said)) (defs : List (Row Definition)) (rows : List (Row Written)) → Knows names.now said → HoldsBodies bodies.old.types.bank bodies.old.bodies.items said defs → KnowsConstants bodies.old.types.bank constants.old said defs rows → KnowsConstants bodies.new.types.bank constants.new said defs (rows ++ each source.now (written_in source.now raw.now) spots.now)) }
+    ensures exact { (said : List (Row Said)) (defs : List (Row Definition)) (rows : List (Row Written)) → Knows names.now said → HoldsBodies bodies.old.types.bank bodies.old.bodies.items said defs → KnowsConstants bodies.old.types.bank constants.old said defs rows → IfErr result (IsConstantsRefusal source.now said defs rows spots.now raw.now) }
+    ensures declared { (said : List (Row Said)) (defs : List (Row Definition)) (rows : List (Row Written)) → Knows names.now said → HoldsBodies bodies.old.types.bank bodies.old.bodies.items said defs → KnowsConstants bodies.old.types.bank constants.old said defs rows → AreSettled bodies.old.bodies.items said → IfOk result (λ done. AreDeclared source.now said defs rows spots.now raw.now) }
 {
-    match bodies.scheme(names, source, raw) {
-        Err(fault) => {
-            check_lengths(source, spots)?;
-            Err(fault)
-        }
-        Ok(None) => check_lengths(source, spots),
-        Ok(Some((type_vars, scheme))) => {
-            constants.declare_all(&mut bodies.types, source, spots, type_vars, scheme)
-        }
-    }
+    check_lengths(source, spots)?;
+    let declared = bodies.scheme(names, source, raw)?;
+    constants.declare_all(&mut bodies.types, source, spots, declared)
 }
 
 impl Bodies {

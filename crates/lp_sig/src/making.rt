@@ -96,11 +96,12 @@ impl Making {
     {
         let kinds = entries_of(self.alloc, self.names.kinds.as_slice())?;
         let abbreviations = self.abbreviations()?;
+        let constants = self.constants.entries()?;
         Signature::of(
             self.alloc,
             self.bodies.into_bank(),
             kinds,
-            self.constants.into_entries(),
+            constants,
             abbreviations,
             self.operators.into_entries(),
         )
