@@ -29,3 +29,7 @@ pub mod OneNumber
 pub mod Finds
 pub mod Differing
 pub mod Numbered
+pub mod Constancy
+pub mod Declaring
+pub mod Listing
+pub mod InOrder

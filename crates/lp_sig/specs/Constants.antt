@@ -1,13 +1,13 @@
 -- Constants: what sentences declare, which type each has, and why a sentence of constants is refused.
 use Rattle.std.specs.Global.{Global}
-use Rattle.std.specs.Prelude.{◌≡◌, ◌≢◌, ◌≤◌, ◌<◌, ◌+◌, ◌⊎◌, ℕ, suc, List, [], ◌∷◌, ◌++◌, Option, Some, None, Vec, map, take, length, All, Contains, codes, true, is_some, IfSome, slice_index_or}
+use Rattle.std.specs.Prelude.{◌≡◌, ◌≢◌, ◌≤◌, ◌<◌, ◌+◌, ◌⊎◌, ℕ, suc, List, [], ◌∷◌, ◌++◌, Option, Some, None, Vec, map, take, length, All, Contains, codes, true, is_some, IfSome, slice_index_or, ◌||◌}
 use Rattle.lp_base.specs.declared.limit.Limit.TheVariants as limit
 use Rattle.lp_base.specs.declared.place.Spot.{Spot}
 use Rattle.lp_calculus.specs.Types.{Ty, var, arrow}
 use Rattle.lp_calculus.specs.Typing.{o_type, int_type, string_type, list_type}
 use Rattle.lp_term.specs.Nodes.{Nodes, type_tree}
 use Rattle.lp_syntax.specs.declared.text.Declaration.{Declaration}
-use Rattle.lp_syntax.specs.declared.text.Declaration.TheVariants.{Kinds, LocalKinds, Constants as Typed, Locals, Abbreviation, Accumulate, AccumSig, Fixities}
+use Rattle.lp_syntax.specs.declared.text.Declaration.TheVariants.{Kinds, LocalKinds, Constants as OfType, Locals, Abbreviation, Accumulate, AccumSig, Fixities}
 use Rattle.lp_syntax.specs.declared.text.RawType.{RawType}
 use Rattle.lp_syntax.specs.declared.text.RawTypeNode.{RawTypeNode}
 use Rattle.lp_syntax.specs.declared.text.RawTypeNode.TheVariants as node
@@ -15,18 +15,21 @@ use Rattle.lp_sig.specs.Pieces.{spelled, begins_variable}
 use Rattle.lp_sig.specs.Places.{first_place, HasPlaces}
 use Rattle.lp_sig.specs.Rows.{Row, found}
 use Rattle.lp_sig.specs.Standard.{standard_constants}
-use Rattle.lp_sig.specs.Said.{Said, each, names_in, firsts}
+use Rattle.lp_sig.specs.Said.{Said, each, is_among, names_in, firsts}
 use Rattle.lp_sig.specs.Abbreviations.{abbreviation_names}
 use Rattle.lp_sig.specs.Limits.{AreShort}
 use Rattle.lp_sig.specs.Words.{IsLongType, IsFirstFault, IsSoundType}
 use Rattle.lp_sig.specs.Schemes.{first_variables, numbered_type}
 use Rattle.lp_sig.specs.Types.{Definition, IsNode, IsTypeOf}
-use Rattle.lp_sig.specs.Holding.{body_of}
+use Rattle.lp_sig.specs.Holding.{body_of, IsTree}
 use Rattle.lp_sig.specs.declared.bodies.Body.{Body}
 use Rattle.lp_sig.specs.declared.entries.ConstantEntry.{ConstantEntry}
 use Rattle.lp_sig.specs.declared.constants.Constant.{Constant}
 use Rattle.lp_sig.specs.declared.constants.Constants.{Constants}
 use Rattle.lp_sig.specs.declared.constants.DeclaredType.{DeclaredType}
+use Rattle.lp_sig.specs.declared.constants.Known.{Known}
+use Rattle.lp_sig.specs.declared.constants.Known.TheVariants as known
+use Rattle.lp_sig.specs.declared.standard.Parts.{Parts}
 use Rattle.lp_sig.specs.declared.fault.SigFault.{SigFault}
 use Rattle.lp_sig.specs.declared.fault.SigFault.TheVariants as fault
 
@@ -42,7 +45,7 @@ written_in text ty = record { text = text; raw = ty }
 abbrev pub constants_by : List ℕ → Declaration → List (Row Written)
 constants_by text (Kinds names n) = []
 constants_by text (LocalKinds names n) = []
-constants_by text (Typed names ty) = each text (written_in text ty) names.items
+constants_by text (OfType names ty) = each text (written_in text ty) names.items
 constants_by text (Locals names ty) = []
 constants_by text (Abbreviation name ps ty) = []
 constants_by text (Accumulate words) = []
@@ -93,6 +96,14 @@ standard_types =
 abbrev pub standard_tree : ℕ → Ty
 standard_tree n = slice_index_or standard_types n (arrow string_type int_type)
 
+-- the types of which they are made
+pub record AreParts (b : Nodes) (p : Parts) : Type 0 where
+  pub goal : IsTree b (λ t. t ≡ o_type) p.goal
+  pub int : IsTree b (λ t. t ≡ int_type) p.int
+  pub string : IsTree b (λ t. t ≡ string_type) p.string
+  pub any : IsTree b (λ t. t ≡ var 0) p.any
+  pub list : IsTree b (λ t. t ≡ list_type (var 0)) p.list
+
 -- the type with which a name is declared first; standard names come before all others
 pub data HasType (said : List (Row Said)) (defs : List (Row Definition)) (rows : List (Row Written)) (name : List ℕ) (t : Ty) : Type 0 where
   standard_one : (n : ℕ) → found name standard_constants ≡ Some n → t ≡ standard_tree n → HasType said defs rows name t
@@ -135,6 +146,10 @@ pub record KnowsConstants (b : Nodes) (constants : Constants) (said : List (Row 
   pub are : AreInStep (IsNoted b said defs) 32 (declared_constants rows) constants.constants.items
   pub places : HasPlaces constants.places (map (λ c. c.name.items) constants.constants.items)
 
+-- each constant so far has a type
+abbrev pub AreTyped : Constants → Type 0
+AreTyped constants = All (λ c. is_some c.declared ≡ true) constants.constants.items
+
 -- each abbreviation has a body
 abbrev pub AreSettled : List Body → List (Row Said) → Type 0
 AreSettled bodies said = (name : List ℕ) (place : ℕ) → first_place name (abbreviation_names said) ≡ Some place → is_some (body_of bodies place) ≡ true
@@ -155,25 +170,25 @@ pub data IsConstantFault (said : List (Row Said)) (defs : List (Row Definition))
 abbrev pub HaveType : List ℕ → List (Row Said) → List (Row Definition) → List (Row Written) → List Spot → Ty → Type 0
 HaveType text said defs rows names t = All (λ s. HasType said defs rows (spelled text s) t) names
 
--- the first name of a sentence that is refused, behind others that have its type
-pub record IsFirstConstant (text : List ℕ) (said : List (Row Said)) (defs : List (Row Definition)) (rows : List (Row Written)) (names : List Spot) (ty : RawType) (e : SigFault) : Type 0 where
+-- the first name of a sentence that is refused; the names before it have its type, if no constant so far is without one
+pub record IsFirstConstant (Typed : Type 0) (text : List ℕ) (said : List (Row Said)) (defs : List (Row Definition)) (rows : List (Row Written)) (names : List Spot) (w : Written) (e : SigFault) : Type 0 where
   pub count : ℕ
   pub tree : Ty
-  pub scheme : IsSchemeOf said defs (written_in text ty) count tree
+  pub scheme : IsSchemeOf said defs w count tree
   pub k : ℕ
   pub name : Spot
   pub inside : k < length names
   pub at_name : slice_index_or names k name ≡ name
-  pub before : HaveType text said defs (rows ++ each text (written_in text ty) (take k names)) (take k names) tree
-  pub refused : IsConstantFault said defs (rows ++ each text (written_in text ty) (take k names)) (spelled text name) tree name e
+  pub before : Typed → HaveType text said defs (rows ++ each text w (take k names)) (take k names) tree
+  pub refused : IsConstantFault said defs (rows ++ each text w (take k names)) (spelled text name) tree name e
 
 -- why a sentence of constants is refused, where these were declared before it: a long name goes first, then its type, then its names
 -- in order
-pub data IsConstantsRefusal (text : List ℕ) (said : List (Row Said)) (defs : List (Row Definition)) (rows : List (Row Written)) (names : List Spot) (ty : RawType) : SigFault → Type 0 where
-  long_name : {e : SigFault} → e ≡ fault.Limit limit.NameLength → (s : Spot) → Contains names s → 255 < length (spelled text s) → IsConstantsRefusal text said defs rows names ty e
-  bad_type : {e : SigFault} → AreShort text names → IsWrittenFault text said defs ty e → IsConstantsRefusal text said defs rows names ty e
-  bad_name : {e : SigFault} → AreShort text names → IsSoundType text said ty → IsFirstConstant text said defs rows names ty e → IsConstantsRefusal text said defs rows names ty e
-  no_memory : {e : SigFault} → e ≡ fault.Memory → IsConstantsRefusal text said defs rows names ty e
+pub data IsConstantsRefusal (Typed : Type 0) (text : List ℕ) (said : List (Row Said)) (defs : List (Row Definition)) (rows : List (Row Written)) (names : List Spot) (ty : RawType) : SigFault → Type 0 where
+  long_name : {e : SigFault} → e ≡ fault.Limit limit.NameLength → (s : Spot) → Contains names s → 255 < length (spelled text s) → IsConstantsRefusal Typed text said defs rows names ty e
+  bad_type : {e : SigFault} → AreShort text names → IsWrittenFault text said defs ty e → IsConstantsRefusal Typed text said defs rows names ty e
+  bad_name : {e : SigFault} → AreShort text names → IsSoundType text said ty → IsFirstConstant Typed text said defs rows names (written_in text ty) e → IsConstantsRefusal Typed text said defs rows names ty e
+  no_memory : {e : SigFault} → e ≡ fault.Memory → IsConstantsRefusal Typed text said defs rows names ty e
 
 -- a sentence of constants without fault: its type has a tree and at most 255 type variables, each name has this type behind it, and
 -- there are numbers for all if there were before
@@ -184,3 +199,26 @@ pub record AreDeclared (text : List ℕ) (said : List (Row Said)) (defs : List (
   pub few : count ≤ 255
   pub have : HaveType text said defs (rows ++ each text (written_in text ty) names) names tree
   pub numbers : HaveNumbers rows → HaveNumbers (rows ++ each text (written_in text ty) names)
+
+-- a name is declared so far
+abbrev pub IsDeclared : List ℕ → List (Row Written) → Type 0
+IsDeclared name rows = (is_among name (names_in standard_constants) || is_among name (names_in rows)) ≡ true
+
+-- what is known of a name: it is new, or its type is missing, or it has this type
+abbrev pub IsKnownAs : Nodes → List (Row Said) → List (Row Definition) → List (Row Written) → List ℕ → Known → Type 0
+IsKnownAs b said defs rows name known.New = (found name standard_constants ≡ None) × (found name rows ≡ None)
+IsKnownAs b said defs rows name known.Untyped = IsDeclared name rows
+IsKnownAs b said defs rows name (known.Typed t) = (t.0 < length b.types) × HasType said defs rows name (type_tree b t.0)
+
+-- a type of the bank that is declared here, if there is one
+abbrev pub IfTyped : Option DeclaredType → (DeclaredType → Type 0) → Type 0
+IfTyped o P = (d : DeclaredType) → o ≡ Some d → P d
+
+-- a name has its type behind its declaration, and if there were numbers for all there are
+pub record HasIts (said : List (Row Said)) (defs : List (Row Definition)) (rows : List (Row Written)) (row : Row Written) (t : Ty) : Type 0 where
+  pub has : HasType said defs (rows ++ row ∷ []) row.0 t
+  pub numbers : HaveNumbers rows → HaveNumbers (rows ++ row ∷ [])
+
+pub record HaveIts (text : List ℕ) (said : List (Row Said)) (defs : List (Row Definition)) (rows : List (Row Written)) (names : List Spot) (w : Written) (t : Ty) : Type 0 where
+  pub have : HaveType text said defs (rows ++ each text w names) names t
+  pub numbers : HaveNumbers rows → HaveNumbers (rows ++ each text w names)

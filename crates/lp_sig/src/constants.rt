@@ -1,14 +1,16 @@
 // The constants so far, each with the type of its first declaration.
-ghost use Rattle.std.specs.Prelude.{◌≡◌, ◌++◌, ℕ, List, [], ◌∷◌, Some, None, map, take, IfErr, IfOk, IfSome, OnOk};
-ghost use Rattle.lp_base.specs.declared.place.Spot.{Spot};
-ghost use Rattle.lp_calculus.specs.Types.{Ty};
-ghost use Rattle.lp_term.specs.Nodes.{Nodes, Extends};
+ghost use Rattle.std.specs.Prelude.{◌≡◌, ◌<◌, ◌≤◌, ◌+◌, ◌++◌, ◌⊎◌, ℕ, List, [], ◌∷◌, length, Some, None, IfErr, IfOk, IfSome, OnOk};
+ghost use Rattle.lp_base.specs.declared.limit.Limit.TheVariants as limit;
+ghost use Rattle.lp_term.specs.Nodes.{Nodes, Extends, type_tree};
+ghost use Rattle.lp_sig.specs.declared.fault.SigFault.TheVariants as fault;
 ghost use Rattle.lp_sig.specs.Pieces.{spelled};
-ghost use Rattle.lp_sig.specs.Rows.{Row};
+ghost use Rattle.lp_sig.specs.Rows.{Row, found};
+ghost use Rattle.lp_sig.specs.Standard.{standard_constants};
 ghost use Rattle.lp_sig.specs.Said.{Said, each};
 ghost use Rattle.lp_sig.specs.Types.{Definition};
-ghost use Rattle.lp_sig.specs.Constants.{Written, KnowsConstants, AreConstants, HaveNumbers, declared_constants};
+ghost use Rattle.lp_sig.specs.Constants.{Written, IsNoted, IsConstant, IsTyped, IfTyped, KnowsConstants, AreTyped, IsKnownAs, AreConstants, HaveNumbers, HasIts, HaveIts, IsConstantFault, IsFirstConstant};
 ghost use Rattle.lp_sig.specs.Refusals.{IsFaultOf, IsWant, named};
+ghost use Rattle.lp_sig.specs.declared.constants.Known.TheVariants as known;
 
 use crate::entries::ConstantEntry;
 use crate::fault::SigFault;
@@ -51,7 +53,10 @@ pub(crate) enum Known {
 }
 
 // The number of the constant at a place, if it has one.
-fn constant_number(place: usize) -> Option<u32> {
+fn constant_number(place: usize) -> Option<u32>
+    ensures some { IfSome result (λ n. (n ≡ 32 + place) × (32 + place < 65535)) }
+    ensures none { result ≡ None → 65535 ≤ 32 + place }
+{
     let number = FIRST_CONSTANT.saturating_add(place.min(u32::MAX as usize) as u32);
     if number >= END_OF_NUMBERS {
         return None;
@@ -59,8 +64,25 @@ fn constant_number(place: usize) -> Option<u32> {
     Some(number)
 }
 
+// A constant with a type wants a number.
+fn check_number(declared: Option<DeclaredType>, place: usize) -> Result<(), SigFault>
+    ensures refused { IfErr result (λ e. (e ≡ fault.Limit limit.Names) × ((d : DeclaredType) × (declared ≡ Some d)) × (65535 ≤ 32 + place)) }
+    ensures taken { IfOk result (λ done. IfTyped declared (λ d. 32 + place < 65535)) }
+{
+    match declared {
+        None => Ok(()),
+        Some(_) => match constant_number(place) {
+            Some(_) => Ok(()),
+            None => Err(SigFault::Limit(Limit::Names)),
+        },
+    }
+}
+
 // The entry of the constant at a place. One without a type or a number was refused where it is declared.
-fn entry_of(alloc: Global, constant: &Constant, place: usize) -> Result<ConstantEntry, Memory> {
+fn entry_of(alloc: Global, constant: &Constant, place: usize) -> Result<ConstantEntry, Memory>
+    ensures is { IfOk result (λ e. (b : Nodes) (said : List (Row Said)) (defs : List (Row Definition)) (row : Row Written) → IsNoted b said defs (32 + place) row constant.now → IsConstant b said defs (32 + place) row e) }
+    ensures number { IfOk result (λ e. 32 + place < 65535) }
+{
     let Some(declared) = constant.declared else {
         return Err(Memory);
     };
@@ -78,7 +100,8 @@ fn entry_of(alloc: Global, constant: &Constant, place: usize) -> Result<Constant
 
 impl Constants {
     pub(crate) fn new(alloc: Global) -> Constants
-        ensures { (b : Nodes) (said : List (Row Said)) (defs : List (Row Definition)) → KnowsConstants b result said defs [] }
+        ensures typed { AreTyped result }
+        ensures known { (b : Nodes) (said : List (Row Said)) (defs : List (Row Definition)) → KnowsConstants b result said defs [] }
     {
         Constants {
             alloc,
@@ -106,12 +129,14 @@ impl Constants {
         word: &[u8],
         declared: Option<DeclaredType>,
     ) -> Result<(), SigFault>
-        ensures { IfErr result IsWant }
+        ensures want { IfErr result IsWant }
+        ensures full { IfErr result (λ e. (e ≡ fault.Memory) ⊎ ((e ≡ fault.Limit limit.Names) × ((d : DeclaredType) × (declared ≡ Some d)) × (65535 ≤ 32 + length self.old.constants.items))) }
+        ensures added { OnOk result ((b : Nodes) (said : List (Row Said)) (defs : List (Row Definition)) (rows : List (Row Written)) (w : Written) → KnowsConstants b self.old said defs rows → (found word.now standard_constants ≡ None) × (found word.now rows ≡ None) → IfTyped declared (IsTyped b said defs w) → KnowsConstants b self.new said defs (rows ++ (word.now, w) ∷ [])) }
+        ensures typed { OnOk result ((d : DeclaredType) → declared ≡ Some d → AreTyped self.old → AreTyped self.new) }
+        ensures room { OnOk result (IfTyped declared (λ d. 32 + length self.old.constants.items < 65535)) }
     {
         let place = self.constants.len();
-        if declared.is_some() && constant_number(place).is_none() {
-            return Err(SigFault::Limit(Limit::Names));
-        }
+        check_number(declared, place)?;
         let name = Vec::from_slice(self.alloc, word)?;
         self.constants.push(Constant { name, declared })?;
         self.places.add(word, place)?;
@@ -119,7 +144,11 @@ impl Constants {
     }
 
     // The type with which a name was declared before.
-    pub(crate) fn known_as(&self, types: &mut Types, word: &[u8]) -> Result<Known, Memory> {
+    pub(crate) fn known_as(&self, types: &mut Types, word: &[u8]) -> Result<Known, Memory>
+        ensures kept { Extends types.old.bank types.new.bank }
+        ensures is { IfOk result (λ k. (said : List (Row Said)) (defs : List (Row Definition)) (rows : List (Row Written)) → KnowsConstants types.old.bank self.now said defs rows → IsKnownAs types.new.bank said defs rows word.now k) }
+        ensures untyped { IfOk result (λ k. k ≡ known.Untyped → AreTyped self.now → ⊥) }
+    {
         if let Some(number) = standard_constant(word) {
             let known = standard_type(types, number)?;
             return Ok(Known::Typed(known));
@@ -145,6 +174,11 @@ impl Constants {
         declared: Option<DeclaredType>,
     ) -> Result<(), SigFault>
         ensures refused { IfErr result (IsFaultOf source.now (named (name ∷ [])) ⊥) }
+        ensures kept { Extends types.old.bank types.new.bank }
+        ensures why { IfErr result (λ e. (e ≡ fault.Memory) ⊎ ((d : DeclaredType) × (declared ≡ Some d) × ((said : List (Row Said)) (defs : List (Row Definition)) (rows : List (Row Written)) → KnowsConstants types.old.bank self.old said defs rows → d.scheme.0 < length types.old.bank.types → IsConstantFault said defs rows (spelled source.now name) (type_tree types.old.bank d.scheme.0) name e))) }
+        ensures known { OnOk result ((said : List (Row Said)) (defs : List (Row Definition)) (rows : List (Row Written)) (w : Written) → KnowsConstants types.old.bank self.old said defs rows → IfTyped declared (IsTyped types.old.bank said defs w) → KnowsConstants types.new.bank self.new said defs (rows ++ (spelled source.now name, w) ∷ [])) }
+        ensures typed { OnOk result ((d : DeclaredType) → declared ≡ Some d → AreTyped self.old → AreTyped self.new) }
+        ensures has { OnOk result ((said : List (Row Said)) (defs : List (Row Definition)) (rows : List (Row Written)) (w : Written) → KnowsConstants types.old.bank self.old said defs rows → AreTyped self.old → (d : DeclaredType) → declared ≡ Some d → IsTyped types.old.bank said defs w d → HasIts said defs rows (spelled source.now name, w) (type_tree types.old.bank d.scheme.0)) }
     {
         let word = spelled_at(source, name);
         match self.known_as(types, word)? {
@@ -170,6 +204,11 @@ impl Constants {
         declared: Option<DeclaredType>,
     ) -> Result<(), SigFault>
         ensures refused { IfErr result (IsFaultOf source.now (named names.now) ⊥) }
+        ensures kept { Extends types.old.bank types.new.bank }
+        ensures why { IfErr result (λ e. (e ≡ fault.Memory) ⊎ ((d : DeclaredType) × (declared ≡ Some d) × ((said : List (Row Said)) (defs : List (Row Definition)) (rows : List (Row Written)) (w : Written) → KnowsConstants types.old.bank self.old said defs rows → IsTyped types.old.bank said defs w d → IsFirstConstant (AreTyped self.old) source.now said defs rows names.now w e))) }
+        ensures known { OnOk result ((said : List (Row Said)) (defs : List (Row Definition)) (rows : List (Row Written)) (w : Written) → KnowsConstants types.old.bank self.old said defs rows → IfTyped declared (IsTyped types.old.bank said defs w) → KnowsConstants types.new.bank self.new said defs (rows ++ each source.now w names.now)) }
+        ensures typed { OnOk result ((d : DeclaredType) → declared ≡ Some d → AreTyped self.old → AreTyped self.new) }
+        ensures has { OnOk result ((said : List (Row Said)) (defs : List (Row Definition)) (rows : List (Row Written)) (w : Written) → KnowsConstants types.old.bank self.old said defs rows → AreTyped self.old → (d : DeclaredType) → declared ≡ Some d → IsTyped types.old.bank said defs w d → HaveIts source.now said defs rows names.now w (type_tree types.old.bank d.scheme.0)) }
     {
         for name in names {
             self.declare(types, source, *name, declared)?;
