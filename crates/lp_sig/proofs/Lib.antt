@@ -33,3 +33,4 @@ pub mod Constancy
 pub mod Declaring
 pub mod Listing
 pub mod InOrder
+pub mod Renaming
