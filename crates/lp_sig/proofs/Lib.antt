@@ -34,3 +34,4 @@ pub mod Declaring
 pub mod Listing
 pub mod InOrder
 pub mod Renaming
+pub mod Declarations

@@ -20,7 +20,7 @@ ghost use Rattle.lp_sig.specs.Holding.{given_number, AreParameters, type_done, I
 ghost use Rattle.lp_sig.specs.Limits.{AreApart, IsRepeated};
 ghost use Rattle.lp_sig.specs.Refusals.{IsFaultOf, named, typed, headed, words_of};
 ghost use Rattle.lp_sig.specs.Schemes.{place};
-ghost use Rattle.lp_sig.specs.Constants.{IsTyped, IsWrittenFault, written_in};
+ghost use Rattle.lp_sig.specs.Constants.{IsTyped, IsWrittenFault, AreSettled, written_in};
 ghost use Rattle.lp_sig.specs.Ordering.{HasNames, names_with, names_by_word, names_by, in_order, AreNewNames};
 
 use crate::bodies::Bodies;
@@ -392,6 +392,8 @@ impl Bodies {
         ensures kept { Extends self.old.types.bank self.new.types.bank }
         ensures bodies { self.new.bodies ≡ self.old.bodies }
         ensures exact { (said : List (Row Said)) (defs : List (Row Definition)) → Knows names.now said → HoldsBodies self.old.types.bank self.old.bodies.items said defs → IfErr result (λ e. (e ≡ fault.Memory) ⊎ IsWrittenFault source.now said defs raw.now e) }
+        ensures few { IfOk result (λ made. IfSome made (λ d. d.type_vars ≤ 255)) }
+        ensures settled { (said : List (Row Said)) → Knows names.now said → AreSettled self.old.bodies.items said → IfOk result (λ made. is_some made ≡ true) }
         ensures typed { (said : List (Row Said)) (defs : List (Row Definition)) → Knows names.now said → HoldsBodies self.old.types.bank self.old.bodies.items said defs → IfOk result (λ made. IfSome made (IsTyped self.new.types.bank said defs (written_in source.now raw.now))) }
     {
         if has_many_arguments(raw) {

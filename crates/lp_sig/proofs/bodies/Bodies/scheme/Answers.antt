@@ -59,3 +59,6 @@ returns-clause-typed c = λ said defs k b.
           (c.in_ok-scheme.ensures.tree.1 ∙ ap (λ xs. instance (filled later xs) (type_tree later whole.0)) c.as_slice-2.ensures.value ∙
           renamed bank later c.in_ok-new.new.items c.as_slice.result.now whole c.new_names.ensures.kept tree.0 c.in_ok-new.ensures.names c.in_ok-new.ensures.far (c.as_slice.ensures.value ∙ c.in_ok-found.ensures));
     }
+
+pub returns-in_default-clause-settled : goal.returns-in_default-clause-settled
+returns-in_default-clause-settled c = ?
