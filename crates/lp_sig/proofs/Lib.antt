@@ -35,3 +35,4 @@ pub mod Listing
 pub mod InOrder
 pub mod Renaming
 pub mod Declarations
+pub mod Settled
