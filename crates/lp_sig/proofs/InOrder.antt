@@ -309,3 +309,6 @@ by_variable w text ks s word same e h =
 
 pub by_name : (w : Variables) (text : List ℕ) (ks : List (List ℕ)) (s : Spot) (word : List ℕ) → word ≡ spelled text s → begins_variable word ≡ false → HasNames w ks → HasNames w (names_by_word text ks s)
 by_name w text ks s word same e h = subst (HasNames w) (sym (ap (λ t. if t then names_with ks (spelled text s) else ks) (ap begins_variable (sym same) ∙ e))) h
+
+pub in_order_some : (text : List ℕ) (nodes : List RawTypeNode) (i : ℕ) (s : Spot) → (n : ℕ) × (in_order text nodes i s ≡ Some n)
+in_order_some text nodes i s = number_some (names_behind text [] (take i nodes)) (spelled text s)

@@ -36,3 +36,5 @@ pub mod InOrder
 pub mod Renaming
 pub mod Declarations
 pub mod Settled
+pub mod OneScheme
+pub mod Agreeing

@@ -17,3 +17,4 @@ pub mod Holding
 pub mod Once
 pub mod Constants
 pub mod Ordering
+pub mod Laws
