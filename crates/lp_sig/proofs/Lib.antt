@@ -16,7 +16,9 @@ pub mod Sentences
 pub mod Judging
 pub mod LongTypes
 pub mod Abbreviating
-pub mod Cycles
+pub mod Leading
+pub mod Seeing
+pub mod NoCircle
 pub mod Copies
 pub mod Instances
 pub mod Meetings

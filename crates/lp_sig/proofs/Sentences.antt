@@ -8,10 +8,13 @@ use Rattle.lp_syntax.specs.declared.text.RawType.{RawType}
 use Rattle.lp_syntax.specs.declared.text.RawTypeNode.{RawTypeNode}
 use Rattle.lp_sig.specs.Pieces.{spelled}
 use Rattle.lp_sig.specs.Rows.{Row}
-use Rattle.lp_sig.specs.Said.{Said, an_abbreviation}
+use Rattle.lp_sig.specs.Said.{Said}
 use Rattle.lp_sig.specs.Limits.{AreShort, IsRepeated}
 use Rattle.lp_sig.specs.Refusals.{IsFaultOf, IsLimitOf, named}
-use Rattle.lp_sig.specs.Words.{IsSoundType, IsTypeFault, IsFirstFault, IsMeant, IsHead, parameters_of, IsConstantsFault, IsAbbreviationFault, long, a_type, a_word, other, many, memory, repeated}
+use Rattle.lp_sig.specs.Words.{IsSoundType, IsTypeFault, IsFirstFault, parameters_of, IsConstantsFault, long, a_type, other, many, memory}
+use Rattle.lp_sig.specs.Abbreviations.{Seen}
+use Rattle.lp_sig.specs.Faults.{IsStraight, IsStraightHead, IsAbbreviationFault}
+use Rattle.lp_sig.specs.Faults as faults
 use Rattle.lp_sig.specs.declared.fault.SigFault.{SigFault}
 use Rattle.lp_sig.specs.declared.fault.SigFault.TheVariants as fault
 
@@ -55,11 +58,11 @@ module _ (text : List ℕ) (said : List (Row Said)) (names : List Spot) (ty : Ra
   constants_name fault.Memory stand f = memory refl
   constants_name (fault.Header s) stand f = absurd f
 
-module _ (text : List ℕ) (said : List (Row Said)) (name : Spot) (ps : List Spot) (nodes : List RawTypeNode) where
-  pub abbreviation_repeated : (e : SigFault) → IsMeant text said (an_abbreviation (length ps)) name → (e ≡ fault.Memory) ⊎ ((s : Spot) × (e ≡ fault.Differ s) × IsRepeated text ps s) → IsAbbreviationFault text said name ps nodes e
-  abbreviation_repeated e meant (inl m) = memory m
-  abbreviation_repeated e meant (inr r) = repeated r.0 r.1 meant r.2
+module _ (text : List ℕ) (z : Seen) (name : Spot) (ps : List Spot) (ty : RawType) where
+  pub abbreviation_repeated : (e : SigFault) → IsStraight text z name (length ps) ty → (e ≡ fault.Memory) ⊎ ((s : Spot) × (e ≡ fault.Differ s) × IsRepeated text ps s) → IsAbbreviationFault text z name ps ty e
+  abbreviation_repeated e straight (inl m) = faults.memory m
+  abbreviation_repeated e straight (inr r) = faults.repeated r.0 r.1 straight r.2
 
-  pub abbreviation_word : (e : SigFault) → IsHead text said name ps → (e ≡ fault.Memory) ⊎ IsFirstFault text said (parameters_of text ps) nodes e → IsAbbreviationFault text said name ps nodes e
-  abbreviation_word e head (inl m) = memory m
-  abbreviation_word e head (inr f) = a_word head f
+  pub abbreviation_word : (e : SigFault) → IsStraightHead text z name ps ty → (e ≡ fault.Memory) ⊎ IsFirstFault text z.said (parameters_of text ps) ty.nodes.items e → IsAbbreviationFault text z name ps ty e
+  abbreviation_word e head (inl m) = faults.memory m
+  abbreviation_word e head (inr f) = faults.a_word head f

@@ -15,3 +15,4 @@ pub mod Schemes
 pub mod Types
 pub mod Holding
 pub mod Once
+pub mod Faults

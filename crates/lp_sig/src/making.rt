@@ -62,6 +62,7 @@ impl Making {
         ensures names { Knows result.names [] }
         ensures operators { KnowsOperators result.operators [] }
         ensures uses { map (λ out. out.items) result.uses.ways.items ≡ [] }
+        ensures bodies { result.bodies.bodies.items ≡ [] }
     {
         Making {
             alloc,

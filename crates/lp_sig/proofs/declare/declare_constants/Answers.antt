@@ -28,3 +28,27 @@ pub returns-in-Ok-Some-clause-why : goal.returns-in-Ok-Some-clause-why
 returns-in-Ok-Some-clause-why c = λ said k.
     for_err c.declare_all.result (IsFaultOf c.args.source.now (named c.args.spots.now) ⊥) (IsConstantsFault c.args.source.now said c.args.spots.now c.args.raw.now)
     (λ e f. constants_name c.args.source.now said c.args.spots.now c.args.raw.now e (c.in-Ok-Some.ensures.stand said k) f) c.declare_all.ensures.refused
+
+pub returns-in_err-check_lengths-in-Err-clause-kept : goal.returns-in_err-check_lengths-in-Err-clause-kept
+returns-in_err-check_lengths-in-Err-clause-kept c = ?
+
+pub returns-in_err-check_lengths-in-Err-clause-bodies : goal.returns-in_err-check_lengths-in-Err-clause-bodies
+returns-in_err-check_lengths-in-Err-clause-bodies c = ?
+
+pub returns-in_ok-check_lengths-in-Err-clause-kept : goal.returns-in_ok-check_lengths-in-Err-clause-kept
+returns-in_ok-check_lengths-in-Err-clause-kept c = ?
+
+pub returns-in_ok-check_lengths-in-Err-clause-bodies : goal.returns-in_ok-check_lengths-in-Err-clause-bodies
+returns-in_ok-check_lengths-in-Err-clause-bodies c = ?
+
+pub returns-in-Ok-None-clause-kept : goal.returns-in-Ok-None-clause-kept
+returns-in-Ok-None-clause-kept c = ?
+
+pub returns-in-Ok-None-clause-bodies : goal.returns-in-Ok-None-clause-bodies
+returns-in-Ok-None-clause-bodies c = ?
+
+pub returns-in-Ok-Some-clause-kept : goal.returns-in-Ok-Some-clause-kept
+returns-in-Ok-Some-clause-kept c = ?
+
+pub returns-in-Ok-Some-clause-bodies : goal.returns-in-Ok-Some-clause-bodies
+returns-in-Ok-Some-clause-bodies c = ?
