@@ -38,6 +38,7 @@ knows_nothing making names none empty = record {
     told = λ n e. absurd (true≢false (sym e));
     no_line = λ i. ap (λ bs. line_at bs i) empty;
   };
+  alike = λ m k d h. absurd (omega (arith, h));
 }
 
 -- a text begins

@@ -24,6 +24,15 @@ pub record HasOtherBody (said : List (Row Said)) (defs : List (Row Definition)) 
   pub is : IsTypeOf said defs text (by_parameters text ps) ty.nodes.items ty.root here
   pub differ : first ≡ here → ⊥
 
+-- what a name is declared as here has the tree of what it is declared as first
+pub record IsAlike (said : List (Row Said)) (defs : List (Row Definition)) (name : List ℕ) (d : Definition) : Type 0 where
+  pub tree : Ty
+  pub first : HasBody said defs name tree
+  pub here : IsTypeOf said defs d.text (by_parameters d.text d.parameters) d.body.nodes.items d.body.root tree
+
+abbrev pub AreAlike : List (Row Said) → List (Row Definition) → List (Row Definition) → Type 0
+AreAlike said defs rows = All (λ r. IsAlike said defs r.0 r.1) rows
+
 -- the body of a sentence leads back to its name
 abbrev pub IsCyclic : List ℕ → Seen → Spot → RawType → Type 0
 IsCyclic text z name ty = LeadsBack (abbreviation_names z.said) (all_uses z) text name ty.nodes.items

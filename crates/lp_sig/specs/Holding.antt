@@ -21,6 +21,7 @@ use Rattle.lp_sig.specs.Knowing.{Knows, number_of}
 use Rattle.lp_sig.specs.Loading.{Way}
 use Rattle.lp_sig.specs.Abbreviations.{abbreviation_names, Seen, KnowsUses, Text, seen_after}
 use Rattle.lp_sig.specs.Types.{Definition, IsTypeOf, HasBody, by_parameters, on_arguments, one_or}
+use Rattle.lp_sig.specs.Faults.{AreAlike}
 use Rattle.lp_sig.specs.declared.bodies.Body.{Body}
 use Rattle.lp_sig.specs.declared.names.Names.{Names}
 use Rattle.lp_sig.specs.declared.making.Making.{Making}
@@ -132,6 +133,7 @@ pub record KnowsSeen (making : Making) (z : Seen) : Type 0 where
   pub names : Knows making.names z.said
   pub uses : KnowsUses (map (λ out. out.items) making.uses.ways.items) z
   pub types : KnowsTypes making.bodies.types.bank making.bodies.bodies.items z
+  pub alike : making.missing ≡ false → AreAlike z.said z.definitions z.definitions
 
 -- behind these texts so much more is known
 abbrev pub Follows : Making → Making → List Text → Type 0

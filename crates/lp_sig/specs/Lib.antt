@@ -16,3 +16,4 @@ pub mod Types
 pub mod Holding
 pub mod Once
 pub mod Faults
+pub mod Entries

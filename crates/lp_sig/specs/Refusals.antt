@@ -12,11 +12,14 @@ use Rattle.lp_syntax.specs.declared.text.SignatureText.{SignatureText}
 use Rattle.lp_sig.specs.Pieces.{spelled}
 use Rattle.lp_fixity.specs.declared.fixity.Fixity.{Fixity}
 use Rattle.lp_sig.specs.Rows.{Row}
-use Rattle.lp_sig.specs.Faults.{IsSentenceFault, AreSound}
+use Rattle.lp_sig.specs.Faults.{IsSentenceFault, AreSound, AreAlike}
+use Rattle.lp_sig.specs.Entries.{AreAbbreviations}
 use Rattle.lp_sig.specs.Abbreviations.{Seen, nothing_seen, one_text, seen_text, seen_after}
 use Rattle.lp_sig.specs.Said.{numbered, firsts, kinds_among, declared_names, fixities_in, of_steps}
 use Rattle.lp_sig.specs.Limits.{AreWithin, IsRepeated}
 use Rattle.lp_sig.specs.Loading.{Way, ways_between, IsLoadOrder, HasNoCircle, IsFirstCircle}
+use Rattle.lp_term.specs.Nodes.{Nodes}
+use Rattle.lp_sig.specs.declared.entries.AbbreviationEntry.{AbbreviationEntry}
 use Rattle.lp_sig.specs.declared.walk.Step.{Step}
 use Rattle.lp_sig.specs.declared.walk.Step.TheVariants.{Enter, Declare}
 use Rattle.lp_sig.specs.declared.fault.SigFault.{SigFault}
@@ -201,10 +204,13 @@ module _ (names : List (String Global)) (sources : List (Vec ℕ Global)) (texts
   IsRefusal root fault.Memory = Unit {0}
   IsRefusal root e = IsRefusedFrom root e
 
-  -- every step is taken, and these kinds and fixities are declared: the first of each name
-  pub record IsAccepted (root : ℕ) (kinds : List (Row (ℕ × ℕ))) (fixities : List (Row (Fixity × ℕ))) : Type 0 where
+  -- every step is taken, and these kinds, abbreviations and fixities are declared: the first of each name. Each sentence of
+  -- typeabbrev has the body of the first one of its name.
+  pub record IsAccepted (root : ℕ) (kinds : List (Row (ℕ × ℕ))) (fixities : List (Row (Fixity × ℕ))) (bank : Nodes) (abbreviations : List AbbreviationEntry) : Type 0 where
     pub steps : List Step
     pub loaded : IsFreeOfCircles root steps
     pub taken : AreStepsTaken steps (length steps)
     pub kinds_are : kinds ≡ numbered 8 (kinds_among (declared_names (seen_in steps).said))
     pub fixities_are : fixities ≡ firsts [] (of_steps fixities_in sources texts steps)
+    pub abbreviations_are : AreAbbreviations bank (seen_in steps) abbreviations
+    pub alike : AreAlike (seen_in steps).said (seen_in steps).definitions (seen_in steps).definitions

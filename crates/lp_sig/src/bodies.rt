@@ -35,7 +35,9 @@ impl Bodies {
         }
     }
 
-    pub(crate) fn into_bank(self) -> Bank {
+    pub(crate) fn into_bank(self) -> Bank
+        ensures { result ≡ self.types.bank }
+    {
         self.types.into_bank()
     }
 
@@ -67,6 +69,17 @@ impl Bodies {
             return false;
         };
         !self.types.are_equal(known, new)
+    }
+
+    // Whether both the body of an abbreviation and this one have a type.
+    pub(crate) fn are_settled(&self, place: usize, body: Option<TypeId>) -> bool
+        ensures { result ≡ true → (known : TypeId) × (new : TypeId) × (body_of self.now.bodies.items place ≡ Some known) × (body ≡ Some new) }
+    {
+        match (self.body_at(place), body) {
+            (Some(_), Some(_)) => true,
+            (Some(_), None) => false,
+            (None, _) => false,
+        }
     }
 
     fn leave_at(&mut self, place: usize)

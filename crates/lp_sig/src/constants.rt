@@ -1,5 +1,6 @@
 // The constants so far, each with the type of its first declaration.
 ghost use Rattle.std.specs.Prelude.{◌≡◌, [], ◌∷◌, IfErr, IfOk};
+ghost use Rattle.lp_term.specs.Nodes.{Extends};
 ghost use Rattle.lp_sig.specs.Limits.{IsShort, AreShort};
 ghost use Rattle.lp_sig.specs.Refusals.{IsFaultOf, IsWant, named};
 
@@ -58,7 +59,9 @@ impl Constants {
         &self,
         types: &mut Types,
         word: &[u8],
-    ) -> Result<Option<TypeId>, Memory> {
+    ) -> Result<Option<TypeId>, Memory>
+        ensures kept { Extends types.old.bank types.new.bank }
+    {
         if let Some(number) = standard_constant(word) {
             let known = standard_type(types, number)?;
             return Ok(Some(known));
@@ -81,6 +84,7 @@ impl Constants {
         scheme: TypeId,
     ) -> Result<(), SigFault>
         ensures refused { IfErr result (IsFaultOf source.now (named (name ∷ [])) ⊥) }
+        ensures kept { Extends types.old.bank types.new.bank }
         ensures taken { IfOk result (λ done. IsShort source.now name) }
     {
         check_length(source, name)?;
@@ -105,6 +109,7 @@ impl Constants {
         scheme: TypeId,
     ) -> Result<(), SigFault>
         ensures refused { IfErr result (IsFaultOf source.now (named names.now) ⊥) }
+        ensures kept { Extends types.old.bank types.new.bank }
         ensures taken { IfOk result (λ done. AreShort source.now names.now) }
     {
         for name in names {

@@ -1,5 +1,5 @@
 // What the declarations of a text say, line by line.
-ghost use Rattle.std.specs.Prelude.{◌<◌, ◌≤◌, ◌≡◌, ◌++◌, ℕ, List, [], ◌∷◌, length, Contains, IfErr, IfOk, OnOk, Some, map};
+ghost use Rattle.std.specs.Prelude.{◌<◌, ◌≤◌, ◌≡◌, ◌++◌, ℕ, List, [], ◌∷◌, length, Contains, IfErr, IfOk, OnOk, Some, map, true, false};
 ghost use Rattle.lp_base.specs.declared.limit.Limit.TheVariants as limit;
 ghost use Rattle.lp_sig.specs.declared.fault.SigFault.TheVariants as fault;
 ghost use Rattle.lp_sig.specs.Pieces.{spelled};
@@ -8,7 +8,8 @@ ghost use Rattle.lp_fixity.specs.declared.fixity.Fixity.{Fixity as IsFixity};
 ghost use Rattle.lp_sig.specs.Rows.{Row};
 ghost use Rattle.lp_sig.specs.Said.{Said, a_kind, an_abbreviation, fixities_by, fixities_in};
 ghost use Rattle.lp_sig.specs.Words.{IsNameFault, IsMeant, AreMeant, IsNumbered, AreNumbered, IsKindsFault, IsConstantsFault, IsSoundType};
-ghost use Rattle.lp_sig.specs.Faults.{IsAbbreviationFault, IsSoundAbbreviation, IsSentenceFault, IsSound, AreSound};
+ghost use Rattle.lp_sig.specs.Faults.{IsAbbreviationFault, IsSoundAbbreviation, IsSentenceFault, IsSound, AreSound, IsAlike, AreAlike};
+ghost use Rattle.lp_sig.specs.Types.{definitions_by};
 ghost use Rattle.lp_sig.specs.Knowing.{Knows, KnowsOperators};
 ghost use Rattle.lp_sig.specs.Limits.{IsShort, AreShort, AreApart, IsWithin, AreWithin};
 ghost use Rattle.lp_base.specs.declared.place.Spot.{Spot};
@@ -153,6 +154,8 @@ pub(crate) fn declare_constants(
 }
 
 impl Bodies {
+    // A sentence of typeabbrev. Says whether its body was compared with the first one of its name: both have a type, unless an
+    // abbreviation that they use has a fault.
     pub(crate) fn declare_abbreviation(
         &mut self,
         names: &Names,
@@ -161,10 +164,11 @@ impl Bodies {
         name: Spot,
         parameters: &[Spot],
         raw: &RawType,
-    ) -> Result<(), SigFault>
+    ) -> Result<bool, SigFault>
         ensures why { (z : Seen) → Sees names.now (map (λ out. out.items) uses.now.ways.items) self.old.types.bank self.old.bodies.items z → IfErr result (IsAbbreviationFault source.now z name parameters.now raw.now) }
-        ensures taken { IfOk result (λ done. IsShort source.now name × AreApart source.now parameters.now × (length parameters.now ≤ 255)) }
-        ensures stand { (z : Seen) → Sees names.now (map (λ out. out.items) uses.now.ways.items) self.old.types.bank self.old.bodies.items z → IfOk result (λ done. IsSoundAbbreviation source.now z name parameters.now raw.now) }
+        ensures taken { IfOk result (λ compared. IsShort source.now name × AreApart source.now parameters.now × (length parameters.now ≤ 255)) }
+        ensures stand { (z : Seen) → Sees names.now (map (λ out. out.items) uses.now.ways.items) self.old.types.bank self.old.bodies.items z → IfOk result (λ compared. IsSoundAbbreviation source.now z name parameters.now raw.now) }
+        ensures same { (z : Seen) → Sees names.now (map (λ out. out.items) uses.now.ways.items) self.old.types.bank self.old.bodies.items z → IfOk result (λ compared. compared ≡ true → IsAlike z.said z.definitions (spelled source.now name) (record { text = source.now; parameters = parameters.now; body = raw.now })) }
         ensures kept { Extends self.old.types.bank self.new.types.bank }
         ensures bodies { self.new.bodies ≡ self.old.bodies }
     {
@@ -181,15 +185,58 @@ impl Bodies {
         if self.has_other_body(place, body) {
             return Err(SigFault::Differ(name));
         }
-        Ok(())
+        Ok(self.are_settled(place, body))
     }
 }
 
+fn is_missing(known: bool, compared: bool) -> bool
+    ensures { result ≡ false → (known ≡ false) × (compared ≡ true) }
+{
+    known || !compared
+}
+
 impl Making {
+    pub(crate) fn declare_abbreviation(
+        &mut self,
+        source: &[u8],
+        name: Spot,
+        parameters: &[Spot],
+        raw: &RawType,
+    ) -> Result<(), SigFault>
+        ensures why { (z : Seen) → Sees self.old.names (map (λ out. out.items) self.old.uses.ways.items) self.old.bodies.types.bank self.old.bodies.bodies.items z → IfErr result (IsAbbreviationFault source.now z name parameters.now raw.now) }
+        ensures taken { IfOk result (λ done. IsShort source.now name × AreApart source.now parameters.now × (length parameters.now ≤ 255)) }
+        ensures stand { (z : Seen) → Sees self.old.names (map (λ out. out.items) self.old.uses.ways.items) self.old.bodies.types.bank self.old.bodies.bodies.items z → IfOk result (λ done. IsSoundAbbreviation source.now z name parameters.now raw.now) }
+        ensures same { (z : Seen) → Sees self.old.names (map (λ out. out.items) self.old.uses.ways.items) self.old.bodies.types.bank self.old.bodies.bodies.items z → IfOk result (λ done. self.new.missing ≡ false → IsAlike z.said z.definitions (spelled source.now name) (record { text = source.now; parameters = parameters.now; body = raw.now })) }
+        ensures missing { self.new.missing ≡ false → self.old.missing ≡ false }
+        ensures names { self.new.names ≡ self.old.names }
+        ensures uses { self.new.uses ≡ self.old.uses }
+        ensures constants { self.new.constants ≡ self.old.constants }
+        ensures operators { self.new.operators ≡ self.old.operators }
+        ensures kept { Extends self.old.bodies.types.bank self.new.bodies.types.bank }
+        ensures bodies { self.new.bodies.bodies ≡ self.old.bodies.bodies }
+    {
+        match self.bodies.declare_abbreviation(
+            &self.names,
+            &self.uses,
+            source,
+            name,
+            parameters,
+            raw,
+        ) {
+            Ok(compared) => {
+                self.missing = is_missing(self.missing, compared);
+                Ok(())
+            }
+            Err(fault) => Err(fault),
+        }
+    }
+
     fn declare_line(&mut self, source: &[u8], declaration: &Declaration) -> Result<(), SigFault>
         ensures why { (z : Seen) → Sees self.old.names (map (λ out. out.items) self.old.uses.ways.items) self.old.bodies.types.bank self.old.bodies.bodies.items z → IfErr result (IsSentenceFault source.now z declaration.now) }
         ensures taken { IfOk result (λ done. IsWithin source.now declaration.now) }
         ensures sound { (z : Seen) → Sees self.old.names (map (λ out. out.items) self.old.uses.ways.items) self.old.bodies.types.bank self.old.bodies.bodies.items z → IfOk result (λ done. IsSound source.now z declaration.now) }
+        ensures same { (z : Seen) → Sees self.old.names (map (λ out. out.items) self.old.uses.ways.items) self.old.bodies.types.bank self.old.bodies.bodies.items z → IfOk result (λ done. self.new.missing ≡ false → AreAlike z.said z.definitions (definitions_by source.now declaration.now)) }
+        ensures missing { self.new.missing ≡ false → self.old.missing ≡ false }
         ensures names { self.new.names ≡ self.old.names }
         ensures uses { self.new.uses ≡ self.old.uses }
         ensures kept { Extends self.old.bodies.types.bank self.new.bodies.types.bank }
@@ -208,14 +255,9 @@ impl Making {
                 names.as_slice(),
                 raw,
             ),
-            Declaration::Abbreviation(name, parameters, raw) => self.bodies.declare_abbreviation(
-                &self.names,
-                &self.uses,
-                source,
-                *name,
-                parameters.as_slice(),
-                raw,
-            ),
+            Declaration::Abbreviation(name, parameters, raw) => {
+                self.declare_abbreviation(source, *name, parameters.as_slice(), raw)
+            }
             Declaration::Fixities(names, fixity, number) => {
                 self.operators
                     .declare_all(source, names.as_slice(), *fixity, *number)?;

@@ -380,6 +380,8 @@ impl Bodies {
         ensures among { IfErr result (IsFaultOf source.now (typed [] (words_of raw.now.nodes.items)) (Unit {0})) }
         ensures first { (said : List (Row Said)) → Knows names.now said → IfErr result (λ e. (e ≡ fault.Memory) ⊎ IsTypeFault source.now said raw.now e) }
         ensures stand { (said : List (Row Said)) → Knows names.now said → IfOk result (λ made. IsSoundType source.now said raw.now) }
+        ensures kept { Extends self.old.types.bank self.new.types.bank }
+        ensures bodies { self.new.bodies ≡ self.old.bodies }
     {
         if has_many_arguments(raw) {
             return Err(SigFault::Limit(Limit::Arguments));
@@ -398,7 +400,10 @@ impl Bodies {
     }
 
     // For each variable below a number its new one: its place among those that were found.
-    fn new_names(&mut self, found: &[u64], next: u64) -> Result<Vec<TypeId>, Memory> {
+    fn new_names(&mut self, found: &[u64], next: u64) -> Result<Vec<TypeId>, Memory>
+        ensures kept { Extends self.old.types.bank self.new.types.bank }
+        ensures bodies { self.new.bodies ≡ self.old.bodies }
+    {
         let first = self.types.var(0)?;
         let mut names = Vec::new(self.alloc);
         for _ in 0..next {

@@ -1,6 +1,7 @@
 // The names of every text. Declared kinds have numbers from 8, and declared constants from 32.
 
 ghost use Rattle.std.specs.Prelude.{◌≡◌};
+ghost use Rattle.lp_term.specs.Nodes.{Extends};
 ghost use Rattle.lp_sig.specs.Rows.{found};
 ghost use Rattle.lp_sig.specs.Standard.{standard_kinds, standard_constants, connectives, relations, operations};
 
@@ -140,32 +141,89 @@ pub fn standard_constant(name: &[u8]) -> Option<u32>
 }
 
 // `left -> right -> to`.
-fn on_two(types: &mut Types, left: TypeId, right: TypeId, to: TypeId) -> Result<TypeId, Memory> {
+fn on_two(types: &mut Types, left: TypeId, right: TypeId, to: TypeId) -> Result<TypeId, Memory>
+    ensures kept { Extends types.old.bank types.new.bank }
+{
     let inner = types.arrow(right, to)?;
     types.arrow(left, inner)
 }
 
-// The type of a standard constant, in which the only type variable is 0.
-pub(crate) fn standard_type(types: &mut Types, number: u32) -> Result<TypeId, Memory> {
+// The types of which those of standard constants are made; the only type variable is 0.
+#[derive(Clone, Copy)]
+pub(crate) struct Parts {
+    pub goal: TypeId,
+    pub int: TypeId,
+    pub string: TypeId,
+    pub any: TypeId,
+    pub list: TypeId,
+}
+
+fn put_parts(types: &mut Types) -> Result<Parts, Memory>
+    ensures kept { Extends types.old.bank types.new.bank }
+{
     let goal = types.con(0, &[])?;
     let int = types.con(1, &[])?;
     let string = types.con(2, &[])?;
     let any = types.var(0)?;
     let list = types.con(3, &[any])?;
-    match number {
-        0 | 1 | 2 | 3 => on_two(types, goal, goal, goal),
-        4 | 5 => {
-            let body = types.arrow(any, goal)?;
-            types.arrow(body, goal)
-        }
-        6 | 7 => Ok(goal),
-        8 | 9 => on_two(types, any, any, goal),
-        10 | 11 | 12 | 13 => on_two(types, int, int, goal),
-        14 => on_two(types, any, list, list),
-        15 => Ok(list),
-        16 | 17 | 18 | 19 | 20 => on_two(types, int, int, int),
-        21 => types.arrow(int, int),
-        22 => on_two(types, string, string, string),
-        _ => types.arrow(string, int),
+    Ok(Parts {
+        goal,
+        int,
+        string,
+        any,
+        list,
+    })
+}
+
+// The type of a connective, and of a relation or a constructor of lists.
+fn type_of_goal(types: &mut Types, parts: Parts, number: u32) -> Result<TypeId, Memory>
+    ensures kept { Extends types.old.bank types.new.bank }
+{
+    if number < 4 {
+        return on_two(types, parts.goal, parts.goal, parts.goal);
     }
+    if number < 6 {
+        let body = types.arrow(parts.any, parts.goal)?;
+        return types.arrow(body, parts.goal);
+    }
+    if number < 8 {
+        return Ok(parts.goal);
+    }
+    if number < 10 {
+        return on_two(types, parts.any, parts.any, parts.goal);
+    }
+    if number < 14 {
+        return on_two(types, parts.int, parts.int, parts.goal);
+    }
+    if number < 15 {
+        return on_two(types, parts.any, parts.list, parts.list);
+    }
+    Ok(parts.list)
+}
+
+// The type of an operation.
+fn type_of_operation(types: &mut Types, parts: Parts, number: u32) -> Result<TypeId, Memory>
+    ensures kept { Extends types.old.bank types.new.bank }
+{
+    if number < 21 {
+        return on_two(types, parts.int, parts.int, parts.int);
+    }
+    if number < 22 {
+        return types.arrow(parts.int, parts.int);
+    }
+    if number < 23 {
+        return on_two(types, parts.string, parts.string, parts.string);
+    }
+    types.arrow(parts.string, parts.int)
+}
+
+// The type of a standard constant.
+pub(crate) fn standard_type(types: &mut Types, number: u32) -> Result<TypeId, Memory>
+    ensures kept { Extends types.old.bank types.new.bank }
+{
+    let parts = put_parts(types)?;
+    if number < 16 {
+        return type_of_goal(types, parts, number);
+    }
+    type_of_operation(types, parts, number)
 }

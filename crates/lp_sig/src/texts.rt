@@ -106,7 +106,7 @@ pub fn elaborate(
     root: u32,
 ) -> Result<Signature, SigFault>
     ensures refused { IfErr result (IsRefusal names.now sources.now texts.now root) }
-    ensures accepted { IfOk result (λ s. IsAccepted names.now sources.now texts.now root (map kind_row s.kinds.items) (map fixity_row s.fixities.items)) }
+    ensures accepted { IfOk result (λ s. IsAccepted names.now sources.now texts.now root (map kind_row s.kinds.items) (map fixity_row s.fixities.items) s.bank s.abbreviations.items) }
 {
     let ways = Ways::of(alloc, names, sources, texts)?;
     let steps = ways.steps(alloc, root as usize)?;

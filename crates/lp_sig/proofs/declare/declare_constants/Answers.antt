@@ -7,6 +7,7 @@ use Rattle.lp_sig.specs.Refusals.{IsFaultOf, named}
 use Rattle.lp_sig.specs.Words.{IsConstantsFault}
 use Rattle.lp_sig.specs.declared.fault.SigFault.TheVariants as fault
 use Rattle.lp_sig.proofs.Blame.{passed_up, for_err}
+use Rattle.lp_sig.proofs.Copies.{extends_then}
 use Rattle.lp_sig.proofs.Sentences.{constants_long, constants_type, constants_name}
 use Rattle.lp_sig.proofs.declare.declare_constants.Goals as goal
 
@@ -29,26 +30,5 @@ returns-in-Ok-Some-clause-why c = λ said k.
     for_err c.declare_all.result (IsFaultOf c.args.source.now (named c.args.spots.now) ⊥) (IsConstantsFault c.args.source.now said c.args.spots.now c.args.raw.now)
     (λ e f. constants_name c.args.source.now said c.args.spots.now c.args.raw.now e (c.in-Ok-Some.ensures.stand said k) f) c.declare_all.ensures.refused
 
-pub returns-in_err-check_lengths-in-Err-clause-kept : goal.returns-in_err-check_lengths-in-Err-clause-kept
-returns-in_err-check_lengths-in-Err-clause-kept c = ?
-
-pub returns-in_err-check_lengths-in-Err-clause-bodies : goal.returns-in_err-check_lengths-in-Err-clause-bodies
-returns-in_err-check_lengths-in-Err-clause-bodies c = ?
-
-pub returns-in_ok-check_lengths-in-Err-clause-kept : goal.returns-in_ok-check_lengths-in-Err-clause-kept
-returns-in_ok-check_lengths-in-Err-clause-kept c = ?
-
-pub returns-in_ok-check_lengths-in-Err-clause-bodies : goal.returns-in_ok-check_lengths-in-Err-clause-bodies
-returns-in_ok-check_lengths-in-Err-clause-bodies c = ?
-
-pub returns-in-Ok-None-clause-kept : goal.returns-in-Ok-None-clause-kept
-returns-in-Ok-None-clause-kept c = ?
-
-pub returns-in-Ok-None-clause-bodies : goal.returns-in-Ok-None-clause-bodies
-returns-in-Ok-None-clause-bodies c = ?
-
 pub returns-in-Ok-Some-clause-kept : goal.returns-in-Ok-Some-clause-kept
-returns-in-Ok-Some-clause-kept c = ?
-
-pub returns-in-Ok-Some-clause-bodies : goal.returns-in-Ok-Some-clause-bodies
-returns-in-Ok-Some-clause-bodies c = ?
+returns-in-Ok-Some-clause-kept c = extends_then c.args.bodies.now.types.bank c.scheme.new.self.types.bank c.declare_all.new.types.bank c.scheme.ensures.kept c.declare_all.ensures.kept

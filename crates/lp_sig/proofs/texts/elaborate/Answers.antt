@@ -3,6 +3,8 @@ use Rattle.lp_sig.specs.Loading.{IsLoadOrder}
 use Rattle.lp_sig.specs.Walking.{IsFirstCircleFault}
 use Rattle.lp_sig.specs.Refusals.{IsRefusal}
 use Rattle.lp_sig.specs.Rows.{fixity_row}
+use Rattle.lp_sig.specs.Faults.{AreAlike}
+use Rattle.lp_sig.specs.Entries.{AreAbbreviations}
 use Rattle.lp_sig.specs.Said.{numbered, kinds_among, declared_names, firsts, fixities_in}
 use Rattle.lp_sig.specs.Knowing.{KnowsOperators}
 use Rattle.lp_sig.proofs.Spoken.{steps_more, all_steps_said}
@@ -48,4 +50,6 @@ returns-clause-accepted c = record {
   taken = all_taken c.args.names.now c.args.sources.now c.args.texts.now c.in_ok-steps.steps.items c.deref-step-items.result.now c.loop-step.step-index c.deref-step-items.ensures.value c.loop-step-test.false c.loop-step.invariant.taken;
   kinds_are = c.in_ok-signature.ensures.kinds ∙ ap (numbered 8) (c.loop-step.invariant.seen.names.kinds ∙ ap (λ z. kinds_among (declared_names z.said)) (all_seen c.args.names.now c.args.sources.now c.args.texts.now c.deref-step-items.result.now c.loop-step.step-index c.in_ok-steps.steps.items c.deref-step-items.ensures.value c.loop-step-test.false));
   fixities_are = ap (λ v. map fixity_row v.items) c.in_ok-signature.ensures.fixities ∙ c.loop-step.invariant.operators.rows ∙ ap (firsts []) (all_steps_said fixities_in c.args.sources.now c.args.texts.now c.in_ok-steps.steps.items c.deref-step-items.result.now c.loop-step.step-index c.deref-step-items.ensures.value c.loop-step-test.false);
+  abbreviations_are = subst (λ z. AreAbbreviations c.in_ok-signature.signature.bank z c.in_ok-signature.signature.abbreviations.items) (all_seen c.args.names.now c.args.sources.now c.args.texts.now c.deref-step-items.result.now c.loop-step.step-index c.in_ok-steps.steps.items c.deref-step-items.ensures.value c.loop-step-test.false) (c.in_ok-signature.ensures.abbreviations _ c.loop-step.invariant.seen);
+  alike = subst (λ z. AreAlike z.said z.definitions z.definitions) (all_seen c.args.names.now c.args.sources.now c.args.texts.now c.deref-step-items.result.now c.loop-step.step-index c.in_ok-steps.steps.items c.deref-step-items.ensures.value c.loop-step-test.false) (c.loop-step.invariant.seen.alike c.in_ok-signature.ensures.compared);
 }

@@ -5,6 +5,7 @@ use Rattle.lp_sig.specs.declared.fault.SigFault.TheVariants as fault
 use Rattle.lp_sig.proofs.Blame.{passed_up}
 use Rattle.lp_sig.proofs.Typing.{bodies_stay}
 use Rattle.lp_sig.proofs.Differing.{other_body}
+use Rattle.lp_sig.proofs.Alike.{same_body}
 use Rattle.lp_sig.proofs.Leading.{leads_back, never_back}
 use Rattle.lp_sig.proofs.Sentences.{abbreviation_repeated, abbreviation_word}
 use Rattle.lp_sig.proofs.bodies.Bodies.declare_abbreviation.Goals as goal
@@ -58,3 +59,12 @@ returns-clause-stand c = λ z s. record {
   straight = record { head = (c.in_ok-place.ensures.meant z.said s.known, c.in_ok-variables.ensures.taken, c.if-parameters-gt255.false); ends = never_back z (map (λ out. out.items) c.args.uses.now.ways.items) c.args.source.now c.args.name c.args.raw.now c.in_ok-place.place c.as_slice.result.now s.uses (c.in_ok-place.ensures.place z.said s.known) (c.as_slice.ensures.value ∙ c.in_ok-words.ensures z.said s.known) (c.in_ok-lead_to.ensures.none c.if-branch.false) };
   words = c.in_ok-body.ensures.stand z.said (parameters_of c.args.source.now c.args.parameters.now) s.known c.in_ok-variables.ensures.held;
 }
+
+pub returns-clause-same : goal.returns-clause-same
+returns-clause-same c = λ z s e.
+    let ps = c.args.parameters.now in
+    let b = c.expand.new.self in
+    let o = c.are_settled.ensures e in
+    same_body b.types.bank b.bodies.items z.said z.definitions c.args.source.now c.args.name ps c.args.raw.now c.in_ok-place.place o.0 o.1 c.in_ok-body.body
+    (bodies_stay c.args.self.now.types.bank b.types.bank c.args.self.now.bodies.items b.bodies.items z.said z.definitions c.expand.ensures.kept (ap (λ v. v.items) c.expand.ensures.bodies) s.holds) (c.in_ok-place.ensures.place z.said s.known) o.2 o.3
+    (c.in_ok-body.ensures.body z.said z.definitions ps s.known s.holds c.in_ok-variables.ensures.numbered) (c.has_other_body.ensures.same c.if-has_other_body.false o.0 o.1 o.2 o.3)

@@ -8,6 +8,7 @@ use Rattle.lp_sig.specs.Holding.{line_of_text, KnowsTypes}
 use Rattle.lp_sig.proofs.Blame.{passed_up, line_at_fault, within_more, within_all, nothing_within, nothing_sound, sound_more, sound_all}
 use Rattle.lp_sig.proofs.Seeing.{at_work, settled, work_stays, left_behind}
 use Rattle.lp_sig.proofs.Spoken.{fixities_more}
+use Rattle.lp_sig.proofs.Alike.{none_yet_alike, more_alike, all_alike, alike_stays}
 use Rattle.lp_sig.proofs.making.Making.declare.Goals as goal
 
 pub loop-declaration-init : goal.loop-declaration-init
@@ -26,6 +27,7 @@ loop-declaration-init c =
           let defs = z.definitions ++ definitions_in text lines in
           let before = c.in_ok-announce.ensures.bodies z.said z.definitions k.names (at_work c.args.self.now.bodies.types.bank c.args.self.now.bodies.bodies.items z text (line_of_text lines) k.types) in
           settled old.types.bank new.types.bank old.bodies.items new.bodies.items said defs text (line_of_text lines) c.settle.ensures.lines (c.settle.ensures.bodies said defs (c.in_ok-announce.ensures.names z.said k.names) before.lines before.holds) before;
+      alike = λ z k m. none_yet_alike (z.said ++ said_in text lines) (z.definitions ++ definitions_in text lines) z.definitions text lines (alike_stays z.said (said_in text lines) z.definitions (definitions_in text lines) z.definitions (k.alike (sym c.announce.ensures.missing ∙ m)));
       operators = λ said k. subst (λ o. KnowsOperators o (said ++ fixities_in text (take 0 lines))) (sym c.announce.ensures.operators) (subst (KnowsOperators c.args.self.now.operators) (sym (append-nil said)) k);
     }
 
@@ -55,6 +57,8 @@ loop-declaration-preserved c =
           let old = c.loop-declaration.self.bodies in
           let new = c.declare_line.new.self.bodies in
           work_stays old.types.bank new.types.bank old.bodies.items new.bodies.items (z.said ++ said_in text lines) (z.definitions ++ definitions_in text lines) text (line_of_text lines) c.declare_line.ensures.kept (ap (λ v. v.items) c.declare_line.ensures.bodies) (c.loop-declaration.invariant.bodies z k);
+      alike = λ z k m. more_alike (z.said ++ said_in text lines) (z.definitions ++ definitions_in text lines) z.definitions text lines i c.declaration-item.result h at (c.loop-declaration.invariant.alike z k (c.declare_line.ensures.missing m))
+          (c.in_ok-declare_line.ensures.same (seen_text z text lines) (record { known = c.loop-declaration.invariant.names z k; uses = c.loop-declaration.invariant.uses z k; holds = (c.loop-declaration.invariant.bodies z k).holds }) m);
       operators = λ said k. subst (KnowsOperators c.declare_line.new.self.operators) (fixities_more text lines i c.declaration-item.result said h at)
           (c.in_ok-declare_line.ensures.operators (said ++ fixities_in text (take i lines)) (c.loop-declaration.invariant.operators said k));
     }
@@ -77,6 +81,7 @@ returns-clause-seen c = λ z k.
       uses = c.loop-declaration.invariant.uses z k;
       types = subst (λ t. KnowsTypes t.bank new.bodies.items (seen_text z text lines)) (sym c.leave.ensures.types)
           (left_behind old.types.bank old.bodies.items new.bodies.items (seen_text z text lines) text (line_of_text lines) c.leave.ensures.bodies c.leave.ensures.lines (c.loop-declaration.invariant.bodies z k));
+      alike = λ m. all_alike (z.said ++ said_in text lines) (z.definitions ++ definitions_in text lines) z.definitions text lines c.loop-declaration.declaration-index (subst (λ l. length l ≤ c.loop-declaration.declaration-index) c.deref-declaration-items.ensures.value c.loop-declaration-test.false) (c.loop-declaration.invariant.alike z k m);
     }
 
 pub returns-clause-operators : goal.returns-clause-operators

@@ -1,10 +1,13 @@
-use Rattle.std.proofs.Common.{map, subst, sym, refl, ◌<◌, length}
+use Rattle.std.proofs.Common.{map, subst, sym, refl, ◌<◌, ◌++◌, length}
 use Rattle.std.specs.Prelude.{IfErr, IfOk, ◌≤◌}
 use Rattle.lp_sig.specs.Limits.{IsShort, AreShort, AreApart, IsWithin}
-use Rattle.lp_sig.specs.Said.{a_kind}
+use Rattle.lp_sig.specs.Said.{a_kind, fixities_by}
+use Rattle.lp_sig.specs.Knowing.{KnowsOperators}
 use Rattle.lp_sig.specs.Words.{IsKindsFault, IsConstantsFault, AreMeant, AreNumbered}
 use Rattle.lp_sig.specs.Faults.{IsSentenceFault, IsAbbreviationFault, IsSound, IsSoundAbbreviation}
-use Rattle.lp_sig.proofs.Blame.{always}
+use Rattle.lp_sig.proofs.Blame.{always, for_ok}
+use Rattle.lp_sig.proofs.Sentences.{ok_with}
+use Rattle.lp_sig.proofs.Alike.{nothing_alike, one_alike}
 use Rattle.lp_sig.proofs.Copies.{extends_itself}
 use Rattle.lp_sig.proofs.Spoken.{no_fixities, its_fixities}
 use Rattle.lp_sig.proofs.making.Making.declare_line.Goals as goal
@@ -31,7 +34,7 @@ pub returns-in-Constants-clause-operators : goal.returns-in-Constants-clause-ope
 returns-in-Constants-clause-operators c = always c.declare_constants.result _ (no_fixities c.args.self.now.operators c.args.source.now c.args.declaration.now _ c.in-Constants.is refl)
 
 pub returns-in-Abbreviation-clause-operators : goal.returns-in-Abbreviation-clause-operators
-returns-in-Abbreviation-clause-operators c = always c.declare_abbreviation.result _ (no_fixities c.args.self.now.operators c.args.source.now c.args.declaration.now _ c.in-Abbreviation.is refl)
+returns-in-Abbreviation-clause-operators c = always c.declare_abbreviation.result _ (λ said k. subst (λ o. KnowsOperators o (said ++ fixities_by c.args.source.now c.args.declaration.now)) (sym c.declare_abbreviation.ensures.operators) (no_fixities c.args.self.now.operators c.args.source.now c.args.declaration.now _ c.in-Abbreviation.is refl said k))
 
 pub returns-in-LocalKinds-clause-operators : goal.returns-in-LocalKinds-clause-operators
 returns-in-LocalKinds-clause-operators c = no_fixities c.args.self.now.operators c.args.source.now c.args.declaration.now _ c.in-LocalKinds.is refl
@@ -77,3 +80,28 @@ pub returns-in-Abbreviation-clause-sound : goal.returns-in-Abbreviation-clause-s
 returns-in-Abbreviation-clause-sound c = λ z s.
     subst (λ d. IfOk c.declare_abbreviation.result (λ done. IsSound c.args.source.now z d)) (sym c.in-Abbreviation.is)
     (subst (λ ps. IfOk c.declare_abbreviation.result (λ done. IsSoundAbbreviation c.args.source.now z c.in-Abbreviation.name ps c.in-Abbreviation.raw)) c.as_slice-in-Abbreviation.ensures.value (c.declare_abbreviation.ensures.stand z s))
+
+pub returns-in-Kinds-clause-same : goal.returns-in-Kinds-clause-same
+returns-in-Kinds-clause-same c = λ z s. ok_with c.declare_kinds.result _ (nothing_alike z.said z.definitions c.args.source.now c.args.declaration.now _ _ c.in-Kinds.is refl)
+
+pub returns-in-Constants-clause-same : goal.returns-in-Constants-clause-same
+returns-in-Constants-clause-same c = λ z s. ok_with c.declare_constants.result _ (nothing_alike z.said z.definitions c.args.source.now c.args.declaration.now _ _ c.in-Constants.is refl)
+
+pub returns-in-LocalKinds-clause-same : goal.returns-in-LocalKinds-clause-same
+returns-in-LocalKinds-clause-same c = λ z s. nothing_alike z.said z.definitions c.args.source.now c.args.declaration.now _ _ c.in-LocalKinds.is refl
+
+pub returns-in-Locals-clause-same : goal.returns-in-Locals-clause-same
+returns-in-Locals-clause-same c = λ z s. nothing_alike z.said z.definitions c.args.source.now c.args.declaration.now _ _ c.in-Locals.is refl
+
+pub returns-in-Accumulate-clause-same : goal.returns-in-Accumulate-clause-same
+returns-in-Accumulate-clause-same c = λ z s. nothing_alike z.said z.definitions c.args.source.now c.args.declaration.now _ _ c.in-Accumulate.is refl
+
+pub returns-in-AccumSig-clause-same : goal.returns-in-AccumSig-clause-same
+returns-in-AccumSig-clause-same c = λ z s. nothing_alike z.said z.definitions c.args.source.now c.args.declaration.now _ _ c.in-AccumSig.is refl
+
+pub returns-in_ok-declare_all-in-Fixities-clause-same : goal.returns-in_ok-declare_all-in-Fixities-clause-same
+returns-in_ok-declare_all-in-Fixities-clause-same c = λ z s. nothing_alike z.said z.definitions c.args.source.now c.args.declaration.now _ _ c.in-Fixities.is refl
+
+pub returns-in-Abbreviation-clause-same : goal.returns-in-Abbreviation-clause-same
+returns-in-Abbreviation-clause-same c = λ z s.
+    for_ok c.declare_abbreviation.result _ _ (λ x f m. one_alike z.said z.definitions c.args.source.now c.args.declaration.now c.in-Abbreviation.name c.in-Abbreviation.parameters c.as_slice-in-Abbreviation.result.now c.in-Abbreviation.raw c.in-Abbreviation.is c.as_slice-in-Abbreviation.ensures.value (f m)) (c.declare_abbreviation.ensures.same z s)
