@@ -31,5 +31,5 @@ pub mod OneNumber
 pub mod Finds
 pub mod Differing
 pub mod Numbered
-pub mod Listing
+pub mod AbbreviationEntries
 pub mod Alike

@@ -22,7 +22,6 @@ of_name : (text : List ℕ) (said : List (Row Said)) (m : Said) (s c : Spot) (e 
 of_name text said m s c e (words.long f l) g = absurd (cc)
 of_name text said m s c e (words.other f short differ) g = absurd (cc)
 of_name text said m s c e (words.many f meant n is l) g = absurd (cc)
-of_name text said m s c e (words.memory f) g = absurd (cc)
 
 of_word : (text : List ℕ) (said : List (Row Said)) (vs : Option (List (List ℕ))) (s c : Spot) (n : ℕ) → fault_of_word text said vs s n ≡ Some (fault.CyclicSignature c) → ⊥
 unfolding fault_of_word

@@ -5,7 +5,6 @@ use Rattle.lp_base.specs.declared.limit.Limit.{Limit}
 use Rattle.lp_base.specs.declared.limit.Limit.TheVariants as limit
 use Rattle.lp_base.specs.declared.place.Spot.{Spot}
 use Rattle.lp_syntax.specs.declared.text.Declaration.{Declaration}
-use Rattle.lp_syntax.specs.declared.text.Declaration.TheVariants.{Kinds, LocalKinds, Constants, Locals, Abbreviation, Accumulate, AccumSig, Fixities}
 use Rattle.lp_syntax.specs.declared.text.RawTypeNode.{RawTypeNode}
 use Rattle.lp_syntax.specs.declared.text.RawTypeNode.TheVariants.{Word, Arrow}
 use Rattle.lp_syntax.specs.declared.text.SignatureText.{SignatureText}
@@ -39,36 +38,12 @@ pub record Parts : Type 0 where
   pub parameters : List Spot
   pub words : List Spot
 
--- names alone; names with a type; an abbreviation
+-- names alone; names with a type
 abbrev pub named : List Spot → Parts
 named names = record { names = names; heads = []; parameters = []; words = [] }
 
 abbrev pub typed : List Spot → List Spot → Parts
 typed names words = record { names = names; heads = []; parameters = []; words = words }
-
-abbrev pub headed : Spot → List Spot → List Spot → Parts
-headed name ps words = record { names = name ∷ []; heads = name ∷ []; parameters = ps; words = words }
-
-abbrev pub parts_of : Declaration → Parts
-parts_of (Kinds names n) = named names.items
-parts_of (LocalKinds names n) = named []
-parts_of (Constants names ty) = typed names.items (words_of ty.nodes.items)
-parts_of (Locals names ty) = named []
-parts_of (Abbreviation name ps ty) = headed name ps.items (words_of ty.nodes.items)
-parts_of (Accumulate words) = named []
-parts_of (AccumSig words) = named []
-parts_of (Fixities names f n) = named []
-
--- a kind has more than 255 arguments, or an abbreviation has more than 255 parameters; of a type nothing is said
-abbrev pub HasManyArguments : Declaration → Type 0
-HasManyArguments (Kinds names n) = 255 < n
-HasManyArguments (LocalKinds names n) = ⊥
-HasManyArguments (Constants names ty) = Unit {0}
-HasManyArguments (Locals names ty) = ⊥
-HasManyArguments (Abbreviation name ps ty) = 255 < length ps.items
-HasManyArguments (Accumulate words) = ⊥
-HasManyArguments (AccumSig words) = ⊥
-HasManyArguments (Fixities names f n) = ⊥
 
 -- the limits that a declaration passes: a name has more than 255 bytes, there are too many names (of which nothing is said), or too
 -- many arguments

@@ -93,7 +93,6 @@ pub data IsNameFault (text : List ℕ) (said : List (Row Said)) (m : Said) (s : 
   long : {e : SigFault} → e ≡ fault.Limit limit.NameLength → 255 < length (spelled text s) → IsNameFault text said m s e
   other : {e : SigFault} → e ≡ fault.Differ s → IsShort text s → meaning_of (spelled text s) said ≢ Some m → IsNameFault text said m s e
   many : {e : SigFault} → e ≡ fault.Limit limit.Names → IsMeant text said m s → (n : ℕ) → number_said (spelled text s) said ≡ Some n → 65535 ≤ n → IsNameFault text said m s e
-  memory : {e : SigFault} → e ≡ fault.Memory → IsNameFault text said m s e
 
 -- the first of these names that is refused
 pub record IsFirstName (text : List ℕ) (said : List (Row Said)) (m : Said) (names : List Spot) (e : SigFault) : Type 0 where

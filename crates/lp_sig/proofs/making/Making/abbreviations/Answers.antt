@@ -1,5 +1,5 @@
 use Rattle.std.proofs.Common.{◌≡◌, ◌<◌, length, get_or, subst, sym, ap, ◌∙◌}
-use Rattle.lp_sig.proofs.Listing.{rows_more, entry_bodies_more}
+use Rattle.lp_sig.proofs.AbbreviationEntries.{rows_more, entry_bodies_more}
 use Rattle.lp_sig.proofs.making.Making.abbreviations.Goals as goal
 
 pub loop-place-preserved : goal.loop-place-preserved

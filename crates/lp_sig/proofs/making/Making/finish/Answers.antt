@@ -3,7 +3,7 @@ use Rattle.lp_sig.specs.Abbreviations.{Seen}
 use Rattle.lp_sig.specs.Entries.{AreAbbreviations}
 use Rattle.lp_sig.specs.Holding.{KnowsSeen}
 use Rattle.lp_sig.proofs.Blame.{for_ok, both_ok}
-use Rattle.lp_sig.proofs.Listing.{all_listed}
+use Rattle.lp_sig.proofs.AbbreviationEntries.{all_listed}
 use Rattle.lp_sig.proofs.making.Making.finish.Goals as goal
 
 pub returns-clause-abbreviations : goal.returns-clause-abbreviations
