@@ -33,3 +33,4 @@ pub mod Differing
 pub mod Numbered
 pub mod AbbreviationEntries
 pub mod Alike
+pub mod WorkedRows

@@ -17,3 +17,4 @@ pub mod Holding
 pub mod Once
 pub mod Faults
 pub mod Entries
+pub mod Worked

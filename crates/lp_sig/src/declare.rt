@@ -215,14 +215,10 @@ impl Making {
         ensures kept { Extends self.old.bodies.types.bank self.new.bodies.types.bank }
         ensures bodies { self.new.bodies.bodies ≡ self.old.bodies.bodies }
     {
-        match self.bodies.declare_abbreviation(
-            &self.names,
-            &self.uses,
-            source,
-            name,
-            parameters,
-            raw,
-        ) {
+        match self
+            .bodies
+            .declare_abbreviation(&self.names, &self.uses, source, name, parameters, raw)
+        {
             Ok(compared) => {
                 self.missing = is_missing(self.missing, compared);
                 Ok(())
