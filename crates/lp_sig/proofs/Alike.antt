@@ -13,9 +13,8 @@ use Rattle.lp_sig.specs.Pieces.{spelled}
 use Rattle.lp_sig.specs.Places.{first_place}
 use Rattle.lp_sig.specs.Rows.{Row}
 use Rattle.lp_sig.specs.Said.{Said}
-use Rattle.lp_sig.specs.Types.{Definition, definitions_by, definitions_in, IsTypeOf, by_parameters}
+use Rattle.lp_sig.specs.Types.{Definition, definitions_by, definitions_in, IsTypeOf, by_parameters, IsAlike, AreAlike}
 use Rattle.lp_sig.specs.Abbreviations.{abbreviation_names}
-use Rattle.lp_sig.specs.Faults.{IsAlike, AreAlike}
 use Rattle.lp_sig.specs.Holding.{body_of, IsTree, HoldsBodies}
 use Rattle.lp_sig.specs.declared.bodies.Body.{Body}
 use Rattle.lp_sig.proofs.Announcing.{definitions_more}

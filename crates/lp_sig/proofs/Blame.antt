@@ -14,7 +14,9 @@ use Rattle.lp_syntax.specs.declared.text.RawTypeNode.TheVariants.{Word, Arrow}
 use Rattle.lp_syntax.specs.declared.text.Declaration.{Declaration}
 use Rattle.lp_syntax.specs.declared.text.SignatureText.{SignatureText}
 use Rattle.lp_sig.specs.Pieces.{spelled}
-use Rattle.lp_sig.specs.Refusals.{Parts, typed, words_of, IsFaultOf, IsLimitOf, IsWant, IsFaultIn, IsAt, IsAtFault, AreTaken, HasItsHeader, HasOtherHeader, IsStepRefused, IsStepTaken, AreStepsTaken, seen_before, IsFreeOfCircles, IsRefusedFrom, IsRefusal, ways}
+use Rattle.lp_sig.specs.Refusals.{Parts, typed, words_of, IsFaultOf, IsLimitOf, IsWant, IsFaultIn, IsAt, IsAtFault, AreTaken, HasItsHeader, HasOtherHeader, IsStepRefused, IsStepTaken, AreStepsTaken, seen_before, constants_before, IsFreeOfCircles, IsRefusedFrom, IsRefusal, ways}
+use Rattle.lp_sig.specs.Rows.{Row}
+use Rattle.lp_sig.specs.Constants.{Written, constants_in}
 use Rattle.lp_sig.specs.Abbreviations.{Seen, seen_text}
 use Rattle.lp_sig.specs.Faults.{IsSentenceFault, IsSound, AreSound}
 use Rattle.lp_sig.specs.Limits.{IsWithin, AreWithin, IsRepeated}
@@ -152,8 +154,8 @@ always (Ok x) P p = p
 always (Err e) P p = tt
 
 -- a line at fault, where those before it pass no limit and have no fault
-pub line_at_fault : (text : List ℕ) (z : Seen) (lines ds : List Declaration) (i : ℕ) (d : Declaration) (e : SigFault) → ds ≡ lines → i < length ds → d ≡ get_or ds i d → AreWithin text (take i lines) → AreSound text z (take i lines) → IsSentenceFault text z d e → IsFaultIn text z lines e
-line_at_fault text z lines ds i d e same h at before sound why = inr (record { k = i; line = d; at_line = subst (λ l. IsAt l i d) same (h, sym at); why = why; before = before; sound = sound })
+pub line_at_fault : (text : List ℕ) (z : Seen) (rows : List (Row Written)) (lines ds : List Declaration) (i : ℕ) (d : Declaration) (e : SigFault) → ds ≡ lines → i < length ds → d ≡ get_or ds i d → AreWithin text (take i lines) → AreSound text z (take i lines) → IsSentenceFault text z (rows ++ constants_in text (take i lines)) d e → IsFaultIn text z rows lines e
+line_at_fault text z rows lines ds i d e same h at before sound why = inr (record { k = i; line = d; at_line = subst (λ l. IsAt l i d) same (h, sym at); why = why; before = before; sound = sound })
 
 pub nothing_sound : (text : List ℕ) (z : Seen) (lines : List Declaration) → AreSound text z (take 0 lines)
 nothing_sound text z lines = λ k d h. absurd (omega (arith, h))
@@ -184,9 +186,9 @@ text_taken sources texts z i source text bytes same a b f g = record {
   sound = subst (λ t. AreSound t (seen_text z t text.lines.items) text.lines.items) same g;
 }
 
-pub text_at_fault : (sources : List (Vec ℕ Global)) (texts : List SignatureText) (z : Seen) (i : ℕ) (source : Vec ℕ Global) (text : SignatureText) (bytes : List ℕ) (e : SigFault) → bytes ≡ source.items → IsAt sources i source → IsAt texts i text →
-    IsFaultIn bytes (seen_text z bytes text.lines.items) text.lines.items e → IsAtFault sources texts z i e
-text_at_fault sources texts z i source text bytes e same a b f = record { source = source; text = text; at_source = a; at_text = b; fault = subst (λ t. IsFaultIn t (seen_text z t text.lines.items) text.lines.items e) same f }
+pub text_at_fault : (sources : List (Vec ℕ Global)) (texts : List SignatureText) (z : Seen) (rows : List (Row Written)) (i : ℕ) (source : Vec ℕ Global) (text : SignatureText) (bytes : List ℕ) (e : SigFault) → bytes ≡ source.items → IsAt sources i source → IsAt texts i text →
+    IsFaultIn bytes (seen_text z bytes text.lines.items) rows text.lines.items e → IsAtFault sources texts z rows i e
+text_at_fault sources texts z rows i source text bytes e same a b f = record { source = source; text = text; at_source = a; at_text = b; fault = subst (λ t. IsFaultIn t (seen_text z t text.lines.items) rows text.lines.items e) same f }
 
 module _ (names : List (String Global)) (sources : List (Vec ℕ Global)) (texts : List SignatureText) where
   pub other_header : (i : ℕ) (name : String Global) (source : Vec ℕ Global) (text : SignatureText) (bytes : List ℕ) (e : SigFault) → bytes ≡ source.items → IsAt names i name → IsAt sources i source → IsAt texts i text →
@@ -211,32 +213,32 @@ module _ (names : List (String Global)) (sources : List (Vec ℕ Global)) (texts
   }
 
   -- no step is refused for a circle
-  no_circle : (z : Seen) (step : Step) (s : Spot) → IsStepRefused names sources texts z step (fault.CyclicSignature s) → ⊥
-  no_circle z (Enter i) s h = let e = h.fault in absurd (cc)
-  no_circle z (Declare i) s h = by h.fault
+  no_circle : (z : Seen) (rows : List (Row Written)) (step : Step) (s : Spot) → IsStepRefused names sources texts z rows step (fault.CyclicSignature s) → ⊥
+  no_circle z rows (Enter i) s h = let e = h.fault in absurd (cc)
+  no_circle z rows (Declare i) s h = by h.fault
     where
-      by : IsFaultIn h.source.items (seen_text z h.source.items h.text.lines.items) h.text.lines.items (fault.CyclicSignature s) → ⊥
+      by : IsFaultIn h.source.items (seen_text z h.source.items h.text.lines.items) rows h.text.lines.items (fault.CyclicSignature s) → ⊥
       by (inl e) = absurd (cc)
-      by (inr r) = of_sentence h.source.items (seen_text z h.source.items h.text.lines.items) r.line s (fault.CyclicSignature s) r.why refl
+      by (inr r) = of_sentence h.source.items (seen_text z h.source.items h.text.lines.items) (rows ++ constants_in h.source.items (take r.k h.text.lines.items)) r.line s (fault.CyclicSignature s) r.why refl
 
   -- the first step that is refused
   module _ (root : ℕ) (steps : List Step) (k : ℕ) (step : Step) (loaded : IsFreeOfCircles names sources texts root steps) (h : k < length steps) (is : step ≡ get_or steps k step) (taken : AreStepsTaken names sources texts steps k) where
-    refused_at : (e : SigFault) → IsStepRefused names sources texts (seen_before names sources texts steps k) step e → IsRefusedFrom names sources texts root e
+    refused_at : (e : SigFault) → IsStepRefused names sources texts (seen_before names sources texts steps k) (constants_before names sources texts steps k) step e → IsRefusedFrom names sources texts root e
     refused_at e r = record { steps = steps; loaded = loaded; k = k; step = step; at_step = (h, sym is); refused = r; taken = taken }
 
-    pub step_refused : (e : SigFault) → (e ≡ fault.Memory) ⊎ IsStepRefused names sources texts (seen_before names sources texts steps k) step e → IsRefusal names sources texts root e
+    pub step_refused : (e : SigFault) → (e ≡ fault.Memory) ⊎ IsStepRefused names sources texts (seen_before names sources texts steps k) (constants_before names sources texts steps k) step e → IsRefusal names sources texts root e
     step_refused e (inl m) = subst (IsRefusal names sources texts root) (sym m) tt
     step_refused (fault.UnknownKind s) (inr r) = refused_at (fault.UnknownKind s) r
     step_refused (fault.Arity s) (inr r) = refused_at (fault.Arity s) r
     step_refused (fault.Differ s) (inr r) = refused_at (fault.Differ s) r
     step_refused (fault.CyclicAbbreviation s) (inr r) = refused_at (fault.CyclicAbbreviation s) r
-    step_refused (fault.CyclicSignature s) (inr r) = absurd (no_circle (seen_before names sources texts steps k) step s r)
+    step_refused (fault.CyclicSignature s) (inr r) = absurd (no_circle (seen_before names sources texts steps k) (constants_before names sources texts steps k) step s r)
     step_refused (fault.Limit l) (inr r) = refused_at (fault.Limit l) r
     step_refused fault.Memory (inr r) = tt
     step_refused (fault.Header s) (inr r) = refused_at (fault.Header s) r
 
   pub step_at_fault : (root : ℕ) (steps seen : List Step) (k : ℕ) (d : Step) (e : SigFault) → seen ≡ steps → IsFreeOfCircles names sources texts root steps → k < length seen → AreStepsTaken names sources texts seen k →
-      (e ≡ fault.Memory) ⊎ IsStepRefused names sources texts (seen_before names sources texts seen k) (get_or seen k d) e → IsRefusal names sources texts root e
+      (e ≡ fault.Memory) ⊎ IsStepRefused names sources texts (seen_before names sources texts seen k) (constants_before names sources texts seen k) (get_or seen k d) e → IsRefusal names sources texts root e
   step_at_fault root steps seen k d e same loaded h taken refused =
       step_refused root seen k (get_or seen k d) (subst (IsFreeOfCircles names sources texts root) (sym same) loaded) h (sym (get_or_default seen k (get_or seen k d) d h)) taken e refused
 

@@ -34,3 +34,8 @@ pub mod Numbered
 pub mod AbbreviationEntries
 pub mod Alike
 pub mod WorkedRows
+pub mod Constancy
+pub mod Declaring
+pub mod Listing
+pub mod InOrder
+pub mod DeclaredConstants

@@ -10,8 +10,12 @@ use Rattle.lp_syntax.specs.declared.text.RawTypeNode.TheVariants as node
 use Rattle.lp_sig.specs.Pieces.{spelled, begins_variable}
 use Rattle.lp_sig.specs.Rows.{Row}
 use Rattle.lp_sig.specs.Said.{Said}
-use Rattle.lp_sig.specs.Words.{meaning_of, may_stand, counted, on_count, by_meaning, fault_of_word, word_fault, IsFirstFault, IsNameFault, IsKindsFault, IsTypeFault, IsConstantsFault}
+use Rattle.lp_sig.specs.Words.{meaning_of, may_stand, counted, on_count, by_meaning, fault_of_word, word_fault, IsFirstFault, IsNameFault, IsKindsFault}
 use Rattle.lp_sig.specs.Words as words
+use Rattle.lp_calculus.specs.Types.{Ty}
+use Rattle.lp_sig.specs.Types.{Definition}
+use Rattle.lp_sig.specs.Constants.{Written, IsWrittenFault, IsConstantFault, IsConstantsRefusal}
+use Rattle.lp_sig.specs.Constants as constants
 use Rattle.lp_sig.specs.Abbreviations.{Seen}
 use Rattle.lp_sig.specs.Faults.{IsAbbreviationFault, IsSentenceFault}
 use Rattle.lp_sig.specs.Faults as faults
@@ -48,17 +52,20 @@ of_kinds : (text : List ℕ) (said : List (Row Said)) (names : List Spot) (n : �
 of_kinds text said names n c e (words.a_name f) g = of_name text said _ f.name c e f.refused g
 of_kinds text said names n c e (words.arguments f meant numbered l) g = absurd (cc)
 
-of_type : (text : List ℕ) (said : List (Row Said)) (ty : RawType) (c : Spot) (e : SigFault) → IsTypeFault text said ty e → e ≡ fault.CyclicSignature c → ⊥
-of_type text said ty c e (words.written f l) g = absurd (cc)
-of_type text said ty c e (words.of_word short f) g = of_first text said None ty.nodes.items c e f g
-of_type text said ty c e (words.replaced f stand) g = absurd (cc)
+of_written : (text : List ℕ) (said : List (Row Said)) (defs : List (Row Definition)) (ty : RawType) (c : Spot) (e : SigFault) → IsWrittenFault text said defs ty e → e ≡ fault.CyclicSignature c → ⊥
+of_written text said defs ty c e (constants.long_type f l) g = absurd (cc)
+of_written text said defs ty c e (constants.word_of_type short f) g = of_first text said None ty.nodes.items c e f g
+of_written text said defs ty c e (constants.many_variables f stand count t is l) g = absurd (cc)
 
-of_constants : (text : List ℕ) (said : List (Row Said)) (names : List Spot) (ty : RawType) (c : Spot) (e : SigFault) → IsConstantsFault text said names ty e → e ≡ fault.CyclicSignature c → ⊥
-of_constants text said names ty c e (words.long f s among l) g = absurd (cc)
-of_constants text said names ty c e (words.a_type short f) g = of_type text said ty c e f g
-of_constants text said names ty c e (words.other s f among stand) g = absurd (cc)
-of_constants text said names ty c e (words.many f stand) g = absurd (cc)
-of_constants text said names ty c e (words.memory f) g = absurd (cc)
+of_constant : (said : List (Row Said)) (defs : List (Row Definition)) (rows : List (Row Written)) (name : List ℕ) (t : Ty) (s c : Spot) (e : SigFault) → IsConstantFault said defs rows name t s e → e ≡ fault.CyclicSignature c → ⊥
+of_constant said defs rows name t s c e (constants.other_type f first has differ) g = absurd (cc)
+of_constant said defs rows name t s c e (constants.no_number f none new l) g = absurd (cc)
+
+of_constants : (M : Type 0) (text : List ℕ) (said : List (Row Said)) (defs : List (Row Definition)) (rows : List (Row Written)) (names : List Spot) (ty : RawType) (c : Spot) (e : SigFault) → IsConstantsRefusal M text said defs rows names ty e → e ≡ fault.CyclicSignature c → ⊥
+of_constants M text said defs rows names ty c e (constants.long_name f s among l) g = absurd (cc)
+of_constants M text said defs rows names ty c e (constants.bad_type short f) g = of_written text said defs ty c e f g
+of_constants M text said defs rows names ty c e (constants.bad_name short stand f) g = of_constant said defs _ _ f.tree f.name c e f.refused g
+of_constants M text said defs rows names ty c e (constants.no_memory f) g = absurd (cc)
 
 of_abbreviation : (text : List ℕ) (z : Seen) (name : Spot) (ps : List Spot) (ty : RawType) (c : Spot) (e : SigFault) → IsAbbreviationFault text z name ps ty e → e ≡ fault.CyclicSignature c → ⊥
 of_abbreviation text z name ps ty c e (faults.a_name f) g = of_name text z.said _ name c e f g
@@ -69,12 +76,12 @@ of_abbreviation text z name ps ty c e (faults.a_word straight f) g = of_first te
 of_abbreviation text z name ps ty c e (faults.other f straight stand differ) g = absurd (cc)
 of_abbreviation text z name ps ty c e (faults.memory f) g = absurd (cc)
 
-pub of_sentence : (text : List ℕ) (z : Seen) (d : Declaration) (c : Spot) (e : SigFault) → IsSentenceFault text z d e → e ≡ fault.CyclicSignature c → ⊥
-of_sentence text z (declaration.Kinds names n) c e f g = of_kinds text z.said names.items n c e f g
-of_sentence text z (declaration.LocalKinds names n) c e f g = absurd (cc)
-of_sentence text z (declaration.Constants names ty) c e f g = of_constants text z.said names.items ty c e f g
-of_sentence text z (declaration.Locals names ty) c e f g = absurd (cc)
-of_sentence text z (declaration.Abbreviation name ps ty) c e f g = of_abbreviation text z name ps.items ty c e f g
-of_sentence text z (declaration.Accumulate ws) c e f g = absurd (cc)
-of_sentence text z (declaration.AccumSig ws) c e f g = absurd (cc)
-of_sentence text z (declaration.Fixities names fix n) c e f g = absurd (cc)
+pub of_sentence : (text : List ℕ) (z : Seen) (rows : List (Row Written)) (d : Declaration) (c : Spot) (e : SigFault) → IsSentenceFault text z rows d e → e ≡ fault.CyclicSignature c → ⊥
+of_sentence text z rows (declaration.Kinds names n) c e f g = of_kinds text z.said names.items n c e f g
+of_sentence text z rows (declaration.LocalKinds names n) c e f g = absurd (cc)
+of_sentence text z rows (declaration.Constants names ty) c e f g = of_constants ⊥ text z.said z.definitions rows names.items ty c e f g
+of_sentence text z rows (declaration.Locals names ty) c e f g = absurd (cc)
+of_sentence text z rows (declaration.Abbreviation name ps ty) c e f g = of_abbreviation text z name ps.items ty c e f g
+of_sentence text z rows (declaration.Accumulate ws) c e f g = absurd (cc)
+of_sentence text z rows (declaration.AccumSig ws) c e f g = absurd (cc)
+of_sentence text z rows (declaration.Fixities names fix n) c e f g = absurd (cc)

@@ -89,11 +89,11 @@ seen_append z (x ∷ xs) ys = seen_append (seen_text z x.0 x.1) xs ys
 
 -- one more step, and all steps
 module _ (names : List (String Global)) (sources : List (Vec ℕ Global)) (texts : List SignatureText) (steps : List Step) (k : ℕ) where
+  pub seen_more : (d : Step) → k < length steps → seen_after (seen_before names sources texts steps k) (of_step one_text sources texts (get_or steps k d)) ≡ seen_before names sources texts steps (k + 1)
+  seen_more d h = sym (seen_append nothing_seen (of_steps one_text sources texts (take k steps)) (of_step one_text sources texts (get_or steps k d))) ∙ ap (seen_after nothing_seen) (steps_more one_text sources texts steps k d h)
+
   pub step_seen : (d : Step) → k < length steps → (old new : Making) → KnowsSeen old (seen_before names sources texts steps k) → Follows old new (of_step one_text sources texts (get_or steps k d)) → KnowsSeen new (seen_before names sources texts steps (k + 1))
-  step_seen d h old new a f =
-      let before = of_steps one_text sources texts (take k steps) in
-      let here = of_step one_text sources texts (get_or steps k d) in
-      subst (KnowsSeen new) (sym (seen_append nothing_seen before here) ∙ ap (seen_after nothing_seen) (steps_more one_text sources texts steps k d h)) (f (seen_after nothing_seen before) a)
+  step_seen d h old new a f = subst (KnowsSeen new) (seen_more d h) (f (seen_before names sources texts steps k) a)
 
   pub all_seen : (all : List Step) → steps ≡ all → length steps ≤ k → seen_before names sources texts steps k ≡ seen_in names sources texts all
   all_seen all same h = ap (seen_after nothing_seen) (all_steps_said one_text sources texts all steps k same h)

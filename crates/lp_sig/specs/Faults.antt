@@ -10,7 +10,8 @@ use Rattle.lp_sig.specs.Pieces.{spelled}
 use Rattle.lp_sig.specs.Rows.{Row}
 use Rattle.lp_sig.specs.Said.{Said, a_kind, an_abbreviation}
 use Rattle.lp_sig.specs.Limits.{AreApart, IsRepeated}
-use Rattle.lp_sig.specs.Words.{IsNameFault, IsMeant, AreMeant, AreNumbered, IsHead, IsFirstFault, WordsStand, parameters_of, IsKindsFault, IsConstantsFault, IsSoundType}
+use Rattle.lp_sig.specs.Words.{IsNameFault, IsMeant, AreMeant, AreNumbered, IsHead, IsFirstFault, WordsStand, parameters_of, IsKindsFault, IsSoundType}
+use Rattle.lp_sig.specs.Constants.{Written, IsConstantsRefusal}
 use Rattle.lp_sig.specs.Types.{Definition, IsTypeOf, HasBody, by_parameters}
 use Rattle.lp_sig.specs.Abbreviations.{Seen, abbreviation_names, all_uses, LeadsBack}
 use Rattle.lp_sig.specs.declared.fault.SigFault.{SigFault}
@@ -23,15 +24,6 @@ pub record HasOtherBody (said : List (Row Said)) (defs : List (Row Definition)) 
   pub declared : HasBody said defs (spelled text name) first
   pub is : IsTypeOf said defs text (by_parameters text ps) ty.nodes.items ty.root here
   pub differ : first ≡ here → ⊥
-
--- what a name is declared as here has the tree of what it is declared as first
-pub record IsAlike (said : List (Row Said)) (defs : List (Row Definition)) (name : List ℕ) (d : Definition) : Type 0 where
-  pub tree : Ty
-  pub first : HasBody said defs name tree
-  pub here : IsTypeOf said defs d.text (by_parameters d.text d.parameters) d.body.nodes.items d.body.root tree
-
-abbrev pub AreAlike : List (Row Said) → List (Row Definition) → List (Row Definition) → Type 0
-AreAlike said defs rows = All (λ r. IsAlike said defs r.0 r.1) rows
 
 -- the body of a sentence leads back to its name
 abbrev pub IsCyclic : List ℕ → Seen → Spot → RawType → Type 0
@@ -63,16 +55,20 @@ pub record IsSoundAbbreviation (text : List ℕ) (z : Seen) (name : Spot) (ps : 
   pub straight : IsStraightHead text z name ps ty
   pub words : WordsStand text z.said (parameters_of text ps) ty.nodes.items
 
--- why a sentence is refused, and what holds of one that is taken
-abbrev pub IsSentenceFault : List ℕ → Seen → Declaration → SigFault → Type 0
-IsSentenceFault text z (Kinds names n) e = IsKindsFault text z.said names.items n e
-IsSentenceFault text z (LocalKinds names n) e = e ≡ fault.Memory
-IsSentenceFault text z (Constants names ty) e = IsConstantsFault text z.said names.items ty e
-IsSentenceFault text z (Locals names ty) e = e ≡ fault.Memory
-IsSentenceFault text z (Abbreviation name ps ty) e = IsAbbreviationFault text z name ps.items ty e
-IsSentenceFault text z (Accumulate words) e = e ≡ fault.Memory
-IsSentenceFault text z (AccumSig words) e = e ≡ fault.Memory
-IsSentenceFault text z (Fixities names f n) e = e ≡ fault.Memory
+-- why a sentence of constants is refused, where these were declared before it; of the names before the one at fault nothing is said
+abbrev pub IsConstantsFault : List ℕ → Seen → List (Row Written) → List Spot → RawType → SigFault → Type 0
+IsConstantsFault text z rows names ty e = IsConstantsRefusal ⊥ text z.said z.definitions rows names ty e
+
+-- why a sentence is refused, where these constants were declared before it, and what holds of one that is taken
+abbrev pub IsSentenceFault : List ℕ → Seen → List (Row Written) → Declaration → SigFault → Type 0
+IsSentenceFault text z rows (Kinds names n) e = IsKindsFault text z.said names.items n e
+IsSentenceFault text z rows (LocalKinds names n) e = e ≡ fault.Memory
+IsSentenceFault text z rows (Constants names ty) e = IsConstantsFault text z rows names.items ty e
+IsSentenceFault text z rows (Locals names ty) e = e ≡ fault.Memory
+IsSentenceFault text z rows (Abbreviation name ps ty) e = IsAbbreviationFault text z name ps.items ty e
+IsSentenceFault text z rows (Accumulate words) e = e ≡ fault.Memory
+IsSentenceFault text z rows (AccumSig words) e = e ≡ fault.Memory
+IsSentenceFault text z rows (Fixities names f n) e = e ≡ fault.Memory
 
 abbrev pub IsSound : List ℕ → Seen → Declaration → Type 0
 IsSound text z (Kinds names n) = AreMeant text z.said (a_kind n) names.items × AreNumbered text z.said names.items

@@ -20,8 +20,7 @@ use Rattle.lp_sig.specs.Said.{Said, is_among, names_in}
 use Rattle.lp_sig.specs.Knowing.{Knows, number_of}
 use Rattle.lp_sig.specs.Loading.{Way}
 use Rattle.lp_sig.specs.Abbreviations.{abbreviation_names, Seen, KnowsUses, Text, seen_after}
-use Rattle.lp_sig.specs.Types.{Definition, IsTypeOf, HasBody, by_parameters, on_arguments, one_or}
-use Rattle.lp_sig.specs.Faults.{AreAlike}
+use Rattle.lp_sig.specs.Types.{Definition, IsTypeOf, HasBody, by_parameters, on_arguments, one_or, AreAlike}
 use Rattle.lp_sig.specs.declared.bodies.Body.{Body}
 use Rattle.lp_sig.specs.declared.names.Names.{Names}
 use Rattle.lp_sig.specs.declared.making.Making.{Making}

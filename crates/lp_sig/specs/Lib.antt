@@ -18,3 +18,6 @@ pub mod Once
 pub mod Faults
 pub mod Entries
 pub mod Worked
+pub mod Constants
+pub mod Ordering
+pub mod Declares

@@ -11,7 +11,9 @@ use Rattle.lp_syntax.specs.declared.text.SignatureText.{SignatureText}
 use Rattle.lp_sig.specs.Pieces.{spelled}
 use Rattle.lp_fixity.specs.declared.fixity.Fixity.{Fixity}
 use Rattle.lp_sig.specs.Rows.{Row}
-use Rattle.lp_sig.specs.Faults.{IsSentenceFault, AreSound, AreAlike}
+use Rattle.lp_sig.specs.Faults.{IsSentenceFault, AreSound}
+use Rattle.lp_sig.specs.Types.{AreAlike}
+use Rattle.lp_sig.specs.Constants.{Written, constants_in, AreConstants, HaveNumbers}
 use Rattle.lp_sig.specs.Entries.{AreAbbreviations}
 use Rattle.lp_sig.specs.Abbreviations.{Seen, nothing_seen, one_text, seen_text, seen_after}
 use Rattle.lp_sig.specs.Said.{numbered, firsts, kinds_among, declared_names, fixities_in, of_steps}
@@ -19,6 +21,7 @@ use Rattle.lp_sig.specs.Limits.{AreWithin, IsRepeated}
 use Rattle.lp_sig.specs.Loading.{Way, ways_between, IsLoadOrder, HasNoCircle, IsFirstCircle}
 use Rattle.lp_term.specs.Nodes.{Nodes}
 use Rattle.lp_sig.specs.declared.entries.AbbreviationEntry.{AbbreviationEntry}
+use Rattle.lp_sig.specs.declared.entries.ConstantEntry.{ConstantEntry}
 use Rattle.lp_sig.specs.declared.walk.Step.{Step}
 use Rattle.lp_sig.specs.declared.walk.Step.TheVariants.{Enter, Declare}
 use Rattle.lp_sig.specs.declared.fault.SigFault.{SigFault}
@@ -68,18 +71,18 @@ IsFaultOf text p Many (fault.Header s) = ⊥
 abbrev pub IsAt : {A : Type 0} → List A → ℕ → A → Type 0
 IsAt xs i x = (i < length xs) × (slice_index_or xs i x ≡ x)
 
--- why the declarations of a text are refused, where so much is seen up to its end: none before the one at fault passes a limit, or
--- has a fault
-pub record IsFaultAt (text : List ℕ) (z : Seen) (lines : List Declaration) (e : SigFault) : Type 0 where
+-- why the declarations of a text are refused, where so much is seen up to its end, and these constants were declared before it: none
+-- before the one at fault passes a limit, or has a fault
+pub record IsFaultAt (text : List ℕ) (z : Seen) (rows : List (Row Written)) (lines : List Declaration) (e : SigFault) : Type 0 where
   pub k : ℕ
   pub line : Declaration
   pub at_line : IsAt lines k line
-  pub why : IsSentenceFault text z line e
+  pub why : IsSentenceFault text z (rows ++ constants_in text (take k lines)) line e
   pub before : AreWithin text (take k lines)
   pub sound : AreSound text z (take k lines)
 
-abbrev pub IsFaultIn : List ℕ → Seen → List Declaration → SigFault → Type 0
-IsFaultIn text z lines e = (e ≡ fault.Memory) ⊎ IsFaultAt text z lines e
+abbrev pub IsFaultIn : List ℕ → Seen → List (Row Written) → List Declaration → SigFault → Type 0
+IsFaultIn text z rows lines e = (e ≡ fault.Memory) ⊎ IsFaultAt text z rows lines e
 
 -- a refusal for which no spot is to blame: the limit on names, or want of memory
 abbrev pub IsWant : SigFault → Type 0
@@ -94,12 +97,12 @@ pub record IsText (names : List (String Global)) (sources : List (Vec ℕ Global
   pub at_text : IsAt texts i text
 
 -- a declaration of a text is at fault, where so much was seen before the text
-pub record IsAtFault (sources : List (Vec ℕ Global)) (texts : List SignatureText) (z : Seen) (i : ℕ) (e : SigFault) : Type 0 where
+pub record IsAtFault (sources : List (Vec ℕ Global)) (texts : List SignatureText) (z : Seen) (rows : List (Row Written)) (i : ℕ) (e : SigFault) : Type 0 where
   pub source : Vec ℕ Global
   pub text : SignatureText
   pub at_source : IsAt sources i source
   pub at_text : IsAt texts i text
-  pub fault : IsFaultIn source.items (seen_text z source.items text.lines.items) text.lines.items e
+  pub fault : IsFaultIn source.items (seen_text z source.items text.lines.items) rows text.lines.items e
 
 -- the declarations of a text are taken: none passes a limit, or has a fault
 pub record AreTaken (sources : List (Vec ℕ Global)) (texts : List SignatureText) (z : Seen) (i : ℕ) : Type 0 where
@@ -128,9 +131,9 @@ module _ (names : List (String Global)) (sources : List (Vec ℕ Global)) (texts
     pub other : spelled source.items text.header ≢ string_bytes name
 
   -- a step is refused, or it is taken, where so much was seen before
-  abbrev pub IsStepRefused : Seen → Step → SigFault → Type 0
-  IsStepRefused z (Enter i) e = HasOtherHeader i e
-  IsStepRefused z (Declare i) e = IsAtFault sources texts z i e
+  abbrev pub IsStepRefused : Seen → List (Row Written) → Step → SigFault → Type 0
+  IsStepRefused z rows (Enter i) e = HasOtherHeader i e
+  IsStepRefused z rows (Declare i) e = IsAtFault sources texts z rows i e
 
   abbrev pub IsStepTaken : Seen → Step → Type 0
   IsStepTaken z (Enter i) = HasItsHeader i
@@ -139,6 +142,13 @@ module _ (names : List (String Global)) (sources : List (Vec ℕ Global)) (texts
   -- what is seen behind the first so many steps
   abbrev pub seen_before : List Step → ℕ → Seen
   seen_before steps k = seen_after nothing_seen (of_steps one_text sources texts (take k steps))
+
+  -- the constants that the first so many steps declare, and those of all steps
+  abbrev pub constants_before : List Step → ℕ → List (Row Written)
+  constants_before steps k = of_steps constants_in sources texts (take k steps)
+
+  abbrev pub constants_of : List Step → List (Row Written)
+  constants_of steps = of_steps constants_in sources texts steps
 
   -- what is seen behind all steps
   abbrev pub seen_in : List Step → Seen
@@ -170,7 +180,7 @@ module _ (names : List (String Global)) (sources : List (Vec ℕ Global)) (texts
     pub k : ℕ
     pub step : Step
     pub at_step : IsAt steps k step
-    pub refused : IsStepRefused (seen_before steps k) step e
+    pub refused : IsStepRefused (seen_before steps k) (constants_before steps k) step e
     pub taken : AreStepsTaken steps k
 
   -- why texts are refused: circles go first; want of memory alone is free
@@ -179,9 +189,9 @@ module _ (names : List (String Global)) (sources : List (Vec ℕ Global)) (texts
   IsRefusal root fault.Memory = Unit {0}
   IsRefusal root e = IsRefusedFrom root e
 
-  -- every step is taken, and these kinds, abbreviations and fixities are declared: the first of each name. Each sentence of
+  -- every step is taken, and these kinds, abbreviations, constants and fixities are declared: the first of each name. Each sentence of
   -- typeabbrev has the body of the first one of its name.
-  pub record IsAccepted (root : ℕ) (kinds : List (Row (ℕ × ℕ))) (fixities : List (Row (Fixity × ℕ))) (bank : Nodes) (abbreviations : List AbbreviationEntry) : Type 0 where
+  pub record IsAccepted (root : ℕ) (kinds : List (Row (ℕ × ℕ))) (fixities : List (Row (Fixity × ℕ))) (bank : Nodes) (abbreviations : List AbbreviationEntry) (constants : List ConstantEntry) : Type 0 where
     pub steps : List Step
     pub loaded : IsFreeOfCircles root steps
     pub taken : AreStepsTaken steps (length steps)
@@ -189,3 +199,5 @@ module _ (names : List (String Global)) (sources : List (Vec ℕ Global)) (texts
     pub fixities_are : fixities ≡ firsts [] (of_steps fixities_in sources texts steps)
     pub abbreviations_are : AreAbbreviations bank (seen_in steps) abbreviations
     pub alike : AreAlike (seen_in steps).said (seen_in steps).definitions (seen_in steps).definitions
+    pub constants_are : AreConstants bank (seen_in steps).said (seen_in steps).definitions (constants_of steps) constants
+    pub numbers : HaveNumbers (constants_of steps)

@@ -3,20 +3,22 @@ ghost use Rattle.std.specs.Prelude.{◌<◌, ◌≤◌, ◌≡◌, ◌++◌, ℕ
 ghost use Rattle.lp_base.specs.declared.limit.Limit.TheVariants as limit;
 ghost use Rattle.lp_sig.specs.declared.fault.SigFault.TheVariants as fault;
 ghost use Rattle.lp_sig.specs.Pieces.{spelled};
-ghost use Rattle.lp_sig.specs.Refusals.{IsFaultOf, IsFaultIn, named, typed, words_of};
+ghost use Rattle.lp_sig.specs.Refusals.{IsFaultOf, IsFaultIn, named};
 ghost use Rattle.lp_fixity.specs.declared.fixity.Fixity.{Fixity as IsFixity};
 ghost use Rattle.lp_sig.specs.Rows.{Row};
-ghost use Rattle.lp_sig.specs.Said.{Said, a_kind, an_abbreviation, fixities_by, fixities_in};
-ghost use Rattle.lp_sig.specs.Words.{IsNameFault, IsMeant, AreMeant, IsNumbered, AreNumbered, IsKindsFault, IsConstantsFault, IsSoundType};
-ghost use Rattle.lp_sig.specs.Faults.{IsAbbreviationFault, IsSoundAbbreviation, IsSentenceFault, IsSound, AreSound, IsAlike, AreAlike};
-ghost use Rattle.lp_sig.specs.Types.{definitions_by};
+ghost use Rattle.lp_sig.specs.Said.{Said, a_kind, an_abbreviation, each, fixities_by, fixities_in};
+ghost use Rattle.lp_sig.specs.Words.{IsNameFault, IsMeant, AreMeant, IsNumbered, AreNumbered, IsKindsFault, IsSoundType};
+ghost use Rattle.lp_sig.specs.Faults.{IsAbbreviationFault, IsSoundAbbreviation, IsSentenceFault, IsSound, AreSound};
+ghost use Rattle.lp_sig.specs.Types.{definitions_by, IsAlike, AreAlike};
 ghost use Rattle.lp_sig.specs.Knowing.{Knows, KnowsOperators};
 ghost use Rattle.lp_sig.specs.Limits.{IsShort, AreShort, AreApart, IsWithin, AreWithin};
 ghost use Rattle.lp_base.specs.declared.place.Spot.{Spot};
 ghost use Rattle.lp_term.specs.Nodes.{Extends};
 ghost use Rattle.lp_sig.specs.Places.{first_place};
 ghost use Rattle.lp_sig.specs.Abbreviations.{abbreviation_names, Seen, seen_text};
-ghost use Rattle.lp_sig.specs.Holding.{Sees, KnowsSeen};
+ghost use Rattle.lp_sig.specs.Holding.{Sees, KnowsSeen, HoldsBodies};
+ghost use Rattle.lp_sig.specs.Types.{Definition};
+ghost use Rattle.lp_sig.specs.Constants.{Written, written_in, constants_by, constants_in, KnowsConstants, AreSettled, AreTyped, AreDeclared, IsConstantsRefusal};
 
 use crate::bodies::Bodies;
 use crate::constants::Constants;
@@ -125,7 +127,7 @@ impl Names {
     }
 }
 
-// A fault of the type goes before names that are declared otherwise, since there is no type to compare.
+// A long name goes first, then a fault of the type, since without it there is no type to compare.
 pub(crate) fn declare_constants(
     names: &Names,
     bodies: &mut Bodies,
@@ -134,23 +136,17 @@ pub(crate) fn declare_constants(
     spots: &[Spot],
     raw: &RawType,
 ) -> Result<(), SigFault>
-    ensures refused { IfErr result (IsFaultOf source.now (typed spots.now (words_of raw.now.nodes.items)) (Unit {0})) }
-    ensures why { (said : List (Row Said)) → Knows names.now said → IfErr result (IsConstantsFault source.now said spots.now raw.now) }
     ensures taken { IfOk result (λ done. AreShort source.now spots.now) }
     ensures stand { (said : List (Row Said)) → Knows names.now said → IfOk result (λ done. IsSoundType source.now said raw.now) }
     ensures kept { Extends bodies.old.types.bank bodies.new.types.bank }
     ensures bodies { bodies.new.bodies ≡ bodies.old.bodies }
+    ensures constants { OnOk result ((said : List (Row Said)) (defs : List (Row Definition)) (rows : List (Row Written)) → Knows names.now said → HoldsBodies bodies.old.types.bank bodies.old.bodies.items said defs → KnowsConstants bodies.old.types.bank constants.old said defs rows → KnowsConstants bodies.new.types.bank constants.new said defs (rows ++ each source.now (written_in source.now raw.now) spots.now)) }
+    ensures exact { (said : List (Row Said)) (defs : List (Row Definition)) (rows : List (Row Written)) → Knows names.now said → HoldsBodies bodies.old.types.bank bodies.old.bodies.items said defs → KnowsConstants bodies.old.types.bank constants.old said defs rows → IfErr result (IsConstantsRefusal (AreTyped constants.old) source.now said defs rows spots.now raw.now) }
+    ensures declared { (said : List (Row Said)) (defs : List (Row Definition)) (rows : List (Row Written)) → Knows names.now said → HoldsBodies bodies.old.types.bank bodies.old.bodies.items said defs → KnowsConstants bodies.old.types.bank constants.old said defs rows → AreSettled bodies.old.bodies.items said → AreTyped constants.old → IfOk result (λ done. AreTyped constants.new × AreDeclared source.now said defs rows spots.now raw.now) }
 {
-    match bodies.scheme(names, source, raw) {
-        Err(fault) => {
-            check_lengths(source, spots)?;
-            Err(fault)
-        }
-        Ok(None) => check_lengths(source, spots),
-        Ok(Some((type_vars, scheme))) => {
-            constants.declare_all(&mut bodies.types, source, spots, type_vars, scheme)
-        }
-    }
+    check_lengths(source, spots)?;
+    let declared = bodies.scheme(names, source, raw)?;
+    constants.declare_all(&mut bodies.types, source, spots, declared)
 }
 
 impl Bodies {
@@ -228,7 +224,8 @@ impl Making {
     }
 
     fn declare_line(&mut self, source: &[u8], declaration: &Declaration) -> Result<(), SigFault>
-        ensures why { (z : Seen) → Sees self.old.names (map (λ out. out.items) self.old.uses.ways.items) self.old.bodies.types.bank self.old.bodies.bodies.items z → IfErr result (IsSentenceFault source.now z declaration.now) }
+        ensures why { (z : Seen) (rows : List (Row Written)) → Sees self.old.names (map (λ out. out.items) self.old.uses.ways.items) self.old.bodies.types.bank self.old.bodies.bodies.items z → KnowsConstants self.old.bodies.types.bank self.old.constants z.said z.definitions rows → IfErr result (IsSentenceFault source.now z rows declaration.now) }
+        ensures constants { OnOk result ((z : Seen) (rows : List (Row Written)) → Sees self.old.names (map (λ out. out.items) self.old.uses.ways.items) self.old.bodies.types.bank self.old.bodies.bodies.items z → KnowsConstants self.old.bodies.types.bank self.old.constants z.said z.definitions rows → KnowsConstants self.new.bodies.types.bank self.new.constants z.said z.definitions (rows ++ constants_by source.now declaration.now)) }
         ensures taken { IfOk result (λ done. IsWithin source.now declaration.now) }
         ensures sound { (z : Seen) → Sees self.old.names (map (λ out. out.items) self.old.uses.ways.items) self.old.bodies.types.bank self.old.bodies.bodies.items z → IfOk result (λ done. IsSound source.now z declaration.now) }
         ensures same { (z : Seen) → Sees self.old.names (map (λ out. out.items) self.old.uses.ways.items) self.old.bodies.types.bank self.old.bodies.bodies.items z → IfOk result (λ done. self.new.missing ≡ false → AreAlike z.said z.definitions (definitions_by source.now declaration.now)) }
@@ -268,7 +265,8 @@ impl Making {
 
     // The declarations of a signature's own text, or the first fault in text order.
     pub(crate) fn declare(&mut self, source: &[u8], text: &SignatureText) -> Result<(), SigFault>
-        ensures refused { (z : Seen) → KnowsSeen self.old z → IfErr result (IsFaultIn source.now (seen_text z source.now text.now.lines.items) text.now.lines.items) }
+        ensures refused { (z : Seen) (rows : List (Row Written)) → KnowsSeen self.old z → KnowsConstants self.old.bodies.types.bank self.old.constants z.said z.definitions rows → IfErr result (IsFaultIn source.now (seen_text z source.now text.now.lines.items) rows text.now.lines.items) }
+        ensures constants { OnOk result ((z : Seen) (rows : List (Row Written)) → KnowsSeen self.old z → KnowsConstants self.old.bodies.types.bank self.old.constants z.said z.definitions rows → KnowsConstants self.new.bodies.types.bank self.new.constants (seen_text z source.now text.now.lines.items).said (seen_text z source.now text.now.lines.items).definitions (rows ++ constants_in source.now text.now.lines.items)) }
         ensures taken { IfOk result (λ done. AreWithin source.now text.now.lines.items) }
         ensures sound { (z : Seen) → KnowsSeen self.old z → IfOk result (λ done. AreSound source.now (seen_text z source.now text.now.lines.items) text.now.lines.items) }
         ensures seen { OnOk result ((z : Seen) → KnowsSeen self.old z → KnowsSeen self.new (seen_text z source.now text.now.lines.items)) }

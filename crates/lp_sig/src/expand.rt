@@ -1,5 +1,5 @@
 // Types of a text, with abbreviations replaced.
-ghost use Rattle.std.specs.Prelude.{◌≡◌, ◌⊎◌, ◌<◌, ◌+◌, ℕ, Vec, List, [], ◌∷◌, length, Option, Some, None, is_some, true, false, option_map, if◌then◌else◌, IfErr, IfOk, IfSome, OnOk, map};
+ghost use Rattle.std.specs.Prelude.{◌≡◌, ◌⊎◌, ◌<◌, ◌+◌, ℕ, Vec, List, [], ◌∷◌, length, Option, Some, None, is_some, true, false, option_map, if◌then◌else◌, IfErr, IfOk, IfSome, OnOk, All, map};
 ghost use Rattle.std.specs.Global.{Global};
 ghost use Rattle.std.specs.Str.{bytes_eq};
 ghost use Rattle.lp_base.specs.declared.limit.Limit.TheVariants as limit;
@@ -18,9 +18,13 @@ ghost use Rattle.lp_sig.specs.Abbreviations.{abbreviation_names};
 ghost use Rattle.lp_sig.specs.Types.{Definition, IsTypeOf, IsNode, by_parameters};
 ghost use Rattle.lp_sig.specs.Holding.{given_number, AreParameters, type_done, IsTree, AreDone, HoldsBodies, IfType, IsReplaced, IsNumbered};
 ghost use Rattle.lp_sig.specs.Limits.{AreApart, IsRepeated};
-ghost use Rattle.lp_sig.specs.Refusals.{IsFaultOf, typed, words_of};
+ghost use Rattle.lp_sig.specs.Refusals.{IsFaultOf, named, typed, words_of};
+ghost use Rattle.lp_sig.specs.Schemes.{place};
+ghost use Rattle.lp_sig.specs.Constants.{IsTyped, IsWrittenFault, written_in};
+ghost use Rattle.lp_sig.specs.Ordering.{HasNames, names_with, names_by_word, names_by, in_order, AreNewNames};
 
 use crate::bodies::Bodies;
+use crate::constants::DeclaredType;
 use crate::fault::SigFault;
 use crate::names::{Meaning, Names};
 use crate::pieces::{is_variable, spelled_at};
@@ -72,6 +76,7 @@ impl Variables {
         ensures open { Holds result None }
         ensures empty { (name : List ℕ) → number_of result name ≡ None }
         ensures first { result.next ≡ 0 }
+        ensures names { HasNames result [] }
     {
         Variables {
             alloc,
@@ -122,6 +127,7 @@ impl Variables {
         ensures closed { (text : List ℕ) (ps : List Spot) → AreParameters self.old text ps → AreParameters self.new text ps }
         ensures given { (variables : Option (List (List ℕ))) → Holds self.old variables → IfOk result (λ o. is_some o ≡ may_stand variables name.now) }
         ensures held { (variables : Option (List (List ℕ))) → Holds self.old variables → Holds self.new variables }
+        ensures names { OnOk result ((ks : List (List ℕ)) → HasNames self.old ks → HasNames self.new (names_with ks name.now)) }
     {
         if self.closed {
             return Ok(self.numbers.get(name).copied());
@@ -213,6 +219,7 @@ impl Bodies {
         ensures typed { (said : List (Row Said)) (defs : List (Row Definition)) (ν : ℕ → Spot → Option ℕ) (nodes : List RawTypeNode) (i : ℕ) (args : Vec ℕ Global) → Knows names.now said → HoldsBodies self.old.types.bank self.old.bodies.items said defs → AreDone self.old.types.bank said defs source.now ν nodes done.now → IsNode nodes i (node.Word spot args) → arguments.now ≡ args.items → IsNumbered ν (given_number variables.old) source.now i (node.Word spot args) → IfOk result (λ made. IfType made (IsTree self.new.types.bank (IsTypeOf said defs source.now ν nodes i))) }
         ensures fault { (said : List (Row Said)) (vs : Option (List (List ℕ))) → Knows names.now said → Holds variables.old vs → IfOk result (λ made. blamed spot made ≡ fault_of_word source.now said vs spot (length arguments.now)) }
         ensures held { (vs : Option (List (List ℕ))) → Holds variables.old vs → Holds variables.new vs }
+        ensures names { OnOk result ((ks : List (List ℕ)) → HasNames variables.old ks → HasNames variables.new (names_by_word source.now ks spot)) }
     {
         let name = spelled_at(source, spot);
         if is_variable(name) {
@@ -305,6 +312,7 @@ impl Bodies {
         ensures among { IfOk result (λ fault. IfSome fault (λ f. IsFaultOf source.now (typed [] (words_of (node.now ∷ []))) ⊥ f.1)) }
         ensures fault { (said : List (Row Said)) (vs : Option (List (List ℕ))) → Knows names.now said → Holds variables.old vs → IfOk result (λ o. o ≡ option_map (λ e. (beginning node.now, e)) (word_fault source.now said vs node.now)) }
         ensures held { (vs : Option (List (List ℕ))) → Holds variables.old vs → Holds variables.new vs }
+        ensures names { OnOk result ((ks : List (List ℕ)) → HasNames variables.old ks → HasNames variables.new (names_by source.now ks node.now)) }
     {
         match node {
             RawTypeNode::Arrow(from, to) => {
@@ -354,6 +362,7 @@ impl Bodies {
         ensures kept { Extends self.old.types.bank self.new.types.bank }
         ensures bodies { self.new.bodies ≡ self.old.bodies }
         ensures body { (said : List (Row Said)) (defs : List (Row Definition)) (ps : List Spot) → Knows names.now said → HoldsBodies self.old.types.bank self.old.bodies.items said defs → AreParameters variables.old source.now ps → IfOk result (λ made. IfSome made (IsTree self.new.types.bank (IsTypeOf said defs source.now (by_parameters source.now ps) raw.now.nodes.items raw.now.root))) }
+        ensures open { (said : List (Row Said)) (defs : List (Row Definition)) → Knows names.now said → HoldsBodies self.old.types.bank self.old.bodies.items said defs → HasNames variables.old [] → IfOk result (λ made. IfSome made (IsTree self.new.types.bank (IsTypeOf said defs source.now (in_order source.now raw.now.nodes.items) raw.now.nodes.items raw.now.root))) }
         ensures among { IfErr result (IsFaultOf source.now (typed [] (words_of raw.now.nodes.items)) ⊥) }
         ensures first { (said : List (Row Said)) (vs : Option (List (List ℕ))) → Knows names.now said → Holds variables.old vs → IfErr result (λ e. (e ≡ fault.Memory) ⊎ IsFirstFault source.now said vs raw.now.nodes.items e) }
         ensures stand { (said : List (Row Said)) (vs : Option (List (List ℕ))) → Knows names.now said → Holds variables.old vs → IfOk result (λ made. WordsStand source.now said vs raw.now.nodes.items) }
@@ -376,12 +385,14 @@ impl Bodies {
         names: &Names,
         source: &[u8],
         raw: &RawType,
-    ) -> Result<Option<(u8, TypeId)>, SigFault>
+    ) -> Result<Option<DeclaredType>, SigFault>
         ensures among { IfErr result (IsFaultOf source.now (typed [] (words_of raw.now.nodes.items)) (Unit {0})) }
         ensures first { (said : List (Row Said)) → Knows names.now said → IfErr result (λ e. (e ≡ fault.Memory) ⊎ IsTypeFault source.now said raw.now e) }
         ensures stand { (said : List (Row Said)) → Knows names.now said → IfOk result (λ made. IsSoundType source.now said raw.now) }
         ensures kept { Extends self.old.types.bank self.new.types.bank }
         ensures bodies { self.new.bodies ≡ self.old.bodies }
+        ensures exact { (said : List (Row Said)) (defs : List (Row Definition)) → Knows names.now said → HoldsBodies self.old.types.bank self.old.bodies.items said defs → IfErr result (λ e. (e ≡ fault.Memory) ⊎ IsWrittenFault source.now said defs raw.now e) }
+        ensures typed { (said : List (Row Said)) (defs : List (Row Definition)) → Knows names.now said → HoldsBodies self.old.types.bank self.old.bodies.items said defs → IfOk result (λ made. IfSome made (IsTyped self.new.types.bank said defs (written_in source.now raw.now))) }
     {
         if has_many_arguments(raw) {
             return Err(SigFault::Limit(Limit::Arguments));
@@ -394,29 +405,55 @@ impl Bodies {
         if found.len() > 255 {
             return Err(SigFault::Limit(Limit::Arguments));
         }
-        let new = self.new_names(found.as_slice(), variables.next)?;
+        let new = self.new_names(found.as_slice())?;
         let scheme = self.types.instance(whole, new.as_slice())?;
-        Ok(Some((found.len() as u8, scheme)))
+        Ok(Some(DeclaredType {
+            type_vars: found.len() as u8,
+            scheme,
+        }))
     }
 
-    // For each variable below a number its new one: its place among those that were found.
-    fn new_names(&mut self, found: &[u64], next: u64) -> Result<Vec<TypeId>, Memory>
+    // For each variable up to the last of those that were found its new one: its place among them.
+    fn new_names(&mut self, found: &[u64]) -> Result<Vec<TypeId>, Memory>
         ensures kept { Extends self.old.types.bank self.new.types.bank }
         ensures bodies { self.new.bodies ≡ self.old.bodies }
+        ensures places { IfOk result (λ names. AreNewNames self.new.types.bank names.items found.now) }
     {
-        let first = self.types.var(0)?;
+        let end = end_of(found)?;
         let mut names = Vec::new(self.alloc);
-        for _ in 0..next {
-            names.push(first)?;
-        }
-        for place in 0..found.len() {
+        for number in 0..end {
+            let place = place_among(found, number);
             let id = self.types.var(place as u64)?;
-            if let Some(slot) = names.get_mut(found[place] as usize) {
-                *slot = id;
-            }
+            names.push(id)?;
         }
         Ok(names)
     }
+}
+
+// The place of the first such number, the length where there is none.
+fn place_among(numbers: &[u64], number: u64) -> usize
+    ensures { result ≡ place numbers.now number }
+{
+    for at in 0..numbers.len() {
+        if numbers[at] == number {
+            return at;
+        }
+    }
+    numbers.len()
+}
+
+// A number above all of these.
+fn end_of(numbers: &[u64]) -> Result<u64, Memory>
+    ensures { IfOk result (λ end. All (λ n. n < end) numbers.now) }
+{
+    let mut end = 0;
+    for at in 0..numbers.len() {
+        let next = following(numbers[at])?;
+        if next > end {
+            end = next;
+        }
+    }
+    Ok(end)
 }
 
 // Whether a type as written has more than 255 arguments.

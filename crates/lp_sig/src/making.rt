@@ -1,11 +1,13 @@
 // The declarations so far.
-ghost use Rattle.std.specs.Prelude.{◌≡◌, ◌+◌, [], map, IfOk, Some, false};
+ghost use Rattle.std.specs.Prelude.{◌≡◌, ◌+◌, List, [], map, IfOk, Some, false};
 ghost use Rattle.lp_sig.specs.Rows.{kind_row};
 ghost use Rattle.lp_sig.specs.Said.{numbered};
 ghost use Rattle.lp_sig.specs.Knowing.{Knows, kinded_row, head_row, KnowsOperators};
 ghost use Rattle.lp_sig.specs.Abbreviations.{Seen};
 ghost use Rattle.lp_sig.specs.Entries.{parameters_row, HaveBodies, AreAbbreviations};
 ghost use Rattle.lp_sig.specs.Holding.{KnowsSeen};
+ghost use Rattle.lp_sig.specs.Constants.{Written, KnowsConstants, AreConstants, HaveNumbers};
+ghost use Rattle.lp_sig.specs.Rows.{Row};
 
 use crate::bodies::Bodies;
 use crate::constants::Constants;
@@ -93,6 +95,7 @@ impl Making {
         ensures uses { map (λ out. out.items) result.uses.ways.items ≡ [] }
         ensures bodies { result.bodies.bodies.items ≡ [] }
         ensures missing { result.missing ≡ false }
+        ensures constants { KnowsConstants result.bodies.types.bank result.constants [] [] [] }
     {
         Making {
             alloc,
@@ -124,17 +127,19 @@ impl Making {
         ensures fixities { IfOk result (λ s. s.fixities ≡ self.operators.fixities) }
         ensures abbreviations { IfOk result (λ s. (z : Seen) → KnowsSeen self z → AreAbbreviations s.bank z s.abbreviations.items) }
         ensures compared { IfOk result (λ s. self.missing ≡ false) }
+        ensures constants { IfOk result (λ s. (z : Seen) (rows : List (Row Written)) → KnowsConstants self.bodies.types.bank self.constants z.said z.definitions rows → AreConstants s.bank z.said z.definitions rows s.constants.items × HaveNumbers rows) }
     {
         if self.missing {
             return Err(Memory);
         }
         let kinds = entries_of(self.alloc, self.names.kinds.as_slice())?;
         let abbreviations = self.abbreviations()?;
+        let constants = self.constants.entries()?;
         Signature::of(
             self.alloc,
             self.bodies.into_bank(),
             kinds,
-            self.constants.into_entries(),
+            constants,
             abbreviations,
             self.operators.into_entries(),
         )

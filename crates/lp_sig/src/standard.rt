@@ -1,7 +1,10 @@
 // The names of every text. Declared kinds have numbers from 8, and declared constants from 32.
 
-ghost use Rattle.std.specs.Prelude.{◌≡◌};
-ghost use Rattle.lp_term.specs.Nodes.{Extends};
+ghost use Rattle.std.specs.Prelude.{◌≡◌, ◌<◌, ◌≤◌, length, IfOk};
+ghost use Rattle.lp_calculus.specs.Types.{arrow};
+ghost use Rattle.lp_term.specs.Nodes.{Extends, type_tree};
+ghost use Rattle.lp_sig.specs.Holding.{IsTree};
+ghost use Rattle.lp_sig.specs.Constants.{AreParts, standard_tree};
 ghost use Rattle.lp_sig.specs.Rows.{found};
 ghost use Rattle.lp_sig.specs.Standard.{standard_kinds, standard_constants, connectives, relations, operations};
 
@@ -143,6 +146,7 @@ pub fn standard_constant(name: &[u8]) -> Option<u32>
 // `left -> right -> to`.
 fn on_two(types: &mut Types, left: TypeId, right: TypeId, to: TypeId) -> Result<TypeId, Memory>
     ensures kept { Extends types.old.bank types.new.bank }
+    ensures tree { IfOk result (λ id. left.0 < length types.old.bank.types → right.0 < length types.old.bank.types → to.0 < length types.old.bank.types → (id.0 < length types.new.bank.types) × (type_tree types.new.bank id.0 ≡ arrow (type_tree types.old.bank left.0) (arrow (type_tree types.old.bank right.0) (type_tree types.old.bank to.0)))) }
 {
     let inner = types.arrow(right, to)?;
     types.arrow(left, inner)
@@ -160,6 +164,7 @@ pub(crate) struct Parts {
 
 fn put_parts(types: &mut Types) -> Result<Parts, Memory>
     ensures kept { Extends types.old.bank types.new.bank }
+    ensures are { IfOk result (AreParts types.new.bank) }
 {
     let goal = types.con(0, &[])?;
     let int = types.con(1, &[])?;
@@ -177,7 +182,9 @@ fn put_parts(types: &mut Types) -> Result<Parts, Memory>
 
 // The type of a connective, and of a relation or a constructor of lists.
 fn type_of_goal(types: &mut Types, parts: Parts, number: u32) -> Result<TypeId, Memory>
+    requires below { number < 16 }
     ensures kept { Extends types.old.bank types.new.bank }
+    ensures tree { AreParts types.old.bank parts → IfOk result (IsTree types.new.bank (λ t. t ≡ standard_tree number)) }
 {
     if number < 4 {
         return on_two(types, parts.goal, parts.goal, parts.goal);
@@ -203,7 +210,9 @@ fn type_of_goal(types: &mut Types, parts: Parts, number: u32) -> Result<TypeId, 
 
 // The type of an operation.
 fn type_of_operation(types: &mut Types, parts: Parts, number: u32) -> Result<TypeId, Memory>
+    requires above { 16 ≤ number }
     ensures kept { Extends types.old.bank types.new.bank }
+    ensures tree { AreParts types.old.bank parts → IfOk result (IsTree types.new.bank (λ t. t ≡ standard_tree number)) }
 {
     if number < 21 {
         return on_two(types, parts.int, parts.int, parts.int);
@@ -220,6 +229,7 @@ fn type_of_operation(types: &mut Types, parts: Parts, number: u32) -> Result<Typ
 // The type of a standard constant.
 pub(crate) fn standard_type(types: &mut Types, number: u32) -> Result<TypeId, Memory>
     ensures kept { Extends types.old.bank types.new.bank }
+    ensures tree { IfOk result (IsTree types.new.bank (λ t. t ≡ standard_tree number)) }
 {
     let parts = put_parts(types)?;
     if number < 16 {

@@ -8,7 +8,9 @@ ghost use Rattle.lp_sig.specs.Knowing.{KnowsOperators};
 ghost use Rattle.lp_sig.specs.Refusals.{HasItsHeader, HasOtherHeader, IsAtFault, AreTaken, IsStepTaken, IsStepRefused, IsRefusal, IsAccepted};
 ghost use Rattle.lp_sig.specs.declared.fault.SigFault.TheVariants as fault;
 ghost use Rattle.lp_sig.specs.Abbreviations.{Seen, one_text};
+ghost use Rattle.lp_sig.specs.Constants.{Written, KnowsConstants};
 ghost use Rattle.lp_sig.specs.Holding.{KnowsSeen, Follows};
+ghost use Rattle.lp_sig.specs.Declares.{Declares};
 
 use crate::fault::SigFault;
 use crate::making::Making;
@@ -59,7 +61,8 @@ fn declare(
     texts: &[SignatureText],
     at: usize,
 ) -> Result<(), SigFault>
-    ensures refused { (z : Seen) → KnowsSeen making.old z → IfErr result (λ e. (e ≡ fault.Memory) ⊎ IsAtFault sources.now texts.now z at e) }
+    ensures refused { (z : Seen) (rows : List (Row Written)) → KnowsSeen making.old z → KnowsConstants making.old.bodies.types.bank making.old.constants z.said z.definitions rows → IfErr result (λ e. (e ≡ fault.Memory) ⊎ IsAtFault sources.now texts.now z rows at e) }
+    ensures constants { OnOk result (Declares making.old making.new (of_text one_text sources.now texts.now at)) }
     ensures taken { (z : Seen) → KnowsSeen making.old z → IfOk result (λ done. AreTaken sources.now texts.now z at) }
     ensures seen { OnOk result (Follows making.old making.new (of_text one_text sources.now texts.now at)) }
     ensures operators { OnOk result ((said : List (Row (Fixity × ℕ))) → KnowsOperators making.old.operators said → KnowsOperators making.new.operators (said ++ of_text fixities_in sources.now texts.now at)) }
@@ -81,7 +84,8 @@ fn take(
     texts: &[SignatureText],
     step: Step,
 ) -> Result<(), SigFault>
-    ensures refused { (z : Seen) → KnowsSeen making.old z → IfErr result (λ e. (e ≡ fault.Memory) ⊎ IsStepRefused names.now sources.now texts.now z step e) }
+    ensures refused { (z : Seen) (rows : List (Row Written)) → KnowsSeen making.old z → KnowsConstants making.old.bodies.types.bank making.old.constants z.said z.definitions rows → IfErr result (λ e. (e ≡ fault.Memory) ⊎ IsStepRefused names.now sources.now texts.now z rows step e) }
+    ensures constants { OnOk result (Declares making.old making.new (of_step one_text sources.now texts.now step)) }
     ensures taken { (z : Seen) → KnowsSeen making.old z → IfOk result (λ done. IsStepTaken names.now sources.now texts.now z step) }
     ensures seen { OnOk result (Follows making.old making.new (of_step one_text sources.now texts.now step)) }
     ensures operators { OnOk result ((said : List (Row (Fixity × ℕ))) → KnowsOperators making.old.operators said → KnowsOperators making.new.operators (said ++ of_step fixities_in sources.now texts.now step)) }
@@ -106,7 +110,7 @@ pub fn elaborate(
     root: u32,
 ) -> Result<Signature, SigFault>
     ensures refused { IfErr result (IsRefusal names.now sources.now texts.now root) }
-    ensures accepted { IfOk result (λ s. IsAccepted names.now sources.now texts.now root (map kind_row s.kinds.items) (map fixity_row s.fixities.items) s.bank s.abbreviations.items) }
+    ensures accepted { IfOk result (λ s. IsAccepted names.now sources.now texts.now root (map kind_row s.kinds.items) (map fixity_row s.fixities.items) s.bank s.abbreviations.items s.constants.items) }
 {
     let ways = Ways::of(alloc, names, sources, texts)?;
     let steps = ways.steps(alloc, root as usize)?;

@@ -9,16 +9,17 @@ use Rattle.lp_sig.specs.Faults.{AreSound}
 use Rattle.lp_sig.specs.Knowing.{KnowsOperators}
 use Rattle.lp_sig.proofs.Spoken.{at_text}
 use Rattle.lp_sig.proofs.Seeing.{text_follows}
+use Rattle.lp_sig.proofs.DeclaredConstants.{text_declares}
 use Rattle.lp_sig.proofs.Blame.{on_ok, both_ok, for_err, for_ok, text_at_fault, text_taken}
 use Rattle.lp_sig.proofs.texts.declare.Goals as goal
 
 pub returns-clause-refused : goal.returns-clause-refused
-returns-clause-refused c = λ z k.
+returns-clause-refused c = λ z rows k a.
     let bytes = c.as_slice.result.now in
     let lines = c.in-Some-get.text.now.lines.items in
-    for_err c.declare.result (IsFaultIn bytes (seen_text z bytes lines) lines) (λ e. (e ≡ fault.Memory) ⊎ IsAtFault c.args.sources.now c.args.texts.now z c.args.at e)
-    (λ e f. inr (text_at_fault c.args.sources.now c.args.texts.now z c.args.at c.in-Some.source.now c.in-Some-get.text.now bytes e c.as_slice.ensures.value (c.in-Some.ensures.lookup.3.0, sym c.in-Some.ensures.lookup.1) (c.in-Some-get.ensures.lookup.3.0, sym c.in-Some-get.ensures.lookup.1) f))
-    (c.declare.ensures.refused z k)
+    for_err c.declare.result (IsFaultIn bytes (seen_text z bytes lines) rows lines) (λ e. (e ≡ fault.Memory) ⊎ IsAtFault c.args.sources.now c.args.texts.now z rows c.args.at e)
+    (λ e f. inr (text_at_fault c.args.sources.now c.args.texts.now z rows c.args.at c.in-Some.source.now c.in-Some-get.text.now bytes e c.as_slice.ensures.value (c.in-Some.ensures.lookup.3.0, sym c.in-Some.ensures.lookup.1) (c.in-Some-get.ensures.lookup.3.0, sym c.in-Some-get.ensures.lookup.1) f))
+    (c.declare.ensures.refused z rows k a)
 
 pub returns-clause-taken : goal.returns-clause-taken
 returns-clause-taken c = λ z k.
@@ -37,3 +38,10 @@ returns-clause-seen c =
     let texts = of_text one_text c.args.sources.now c.args.texts.now c.args.at in
     let is : texts ≡ one_text c.as_slice.result.now lines = (at_text one_text c.args.sources.now c.args.texts.now c.args.at c.in-Some.source.now c.in-Some-get.text.now c.in-Some.ensures.lookup.3.0 c.in-Some.ensures.lookup.1 c.in-Some-get.ensures.lookup.3.0 c.in-Some-get.ensures.lookup.1) ∙ ap (λ b. one_text b lines) (sym c.as_slice.ensures.value) in
     on_ok c.declare.result _ _ (text_follows c.args.making.now c.declare.new.self texts c.as_slice.result.now lines is) c.declare.ensures.seen
+
+pub returns-clause-constants : goal.returns-clause-constants
+returns-clause-constants c =
+    let lines = c.in-Some-get.text.now.lines.items in
+    let texts = of_text one_text c.args.sources.now c.args.texts.now c.args.at in
+    let is : texts ≡ one_text c.as_slice.result.now lines = (at_text one_text c.args.sources.now c.args.texts.now c.args.at c.in-Some.source.now c.in-Some-get.text.now c.in-Some.ensures.lookup.3.0 c.in-Some.ensures.lookup.1 c.in-Some-get.ensures.lookup.3.0 c.in-Some-get.ensures.lookup.1) ∙ ap (λ b. one_text b lines) (sym c.as_slice.ensures.value) in
+    on_ok c.declare.result _ _ (text_declares c.args.making.now c.declare.new.self texts c.as_slice.result.now lines is) c.declare.ensures.constants

@@ -4,6 +4,8 @@ use Rattle.lp_sig.specs.Abbreviations.{one_text}
 use Rattle.lp_sig.specs.Holding.{Follows}
 use Rattle.lp_sig.specs.Knowing.{KnowsOperators}
 use Rattle.lp_sig.proofs.Blame.{on_ok, always}
+use Rattle.lp_sig.specs.Declares.{Declares}
+use Rattle.lp_sig.proofs.DeclaredConstants.{nothing_declares}
 use Rattle.lp_sig.proofs.Seeing.{nothing_follows}
 use Rattle.lp_sig.proofs.Spoken.{at_enter, at_declare}
 use Rattle.lp_sig.proofs.texts.take.Goals as goal
@@ -19,3 +21,9 @@ returns-in-Enter-clause-seen c = always c.enter.result _ (nothing_follows c.args
 
 pub returns-in-Declare-clause-seen : goal.returns-in-Declare-clause-seen
 returns-in-Declare-clause-seen c = on_ok c.declare.result _ _ (λ h. subst (λ s. Follows c.args.making.now c.declare.new.making (of_step one_text c.args.sources.now c.args.texts.now s)) (sym c.in-Declare.is) h) c.declare.ensures.seen
+
+pub returns-in-Enter-clause-constants : goal.returns-in-Enter-clause-constants
+returns-in-Enter-clause-constants c = always c.enter.result _ (nothing_declares c.args.making.now (of_step one_text c.args.sources.now c.args.texts.now c.args.step) (ap (of_step one_text c.args.sources.now c.args.texts.now) c.in-Enter.is))
+
+pub returns-in-Declare-clause-constants : goal.returns-in-Declare-clause-constants
+returns-in-Declare-clause-constants c = on_ok c.declare.result _ _ (λ h. subst (λ s. Declares c.args.making.now c.declare.new.making (of_step one_text c.args.sources.now c.args.texts.now s)) (sym c.in-Declare.is) h) c.declare.ensures.constants

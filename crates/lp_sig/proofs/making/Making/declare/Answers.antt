@@ -7,6 +7,8 @@ use Rattle.lp_sig.specs.Abbreviations.{seen_text, KnowsUses}
 use Rattle.lp_sig.specs.Holding.{line_of_text, KnowsTypes}
 use Rattle.lp_sig.proofs.Blame.{passed_up, line_at_fault, within_more, within_all, nothing_within, nothing_sound, sound_more, sound_all}
 use Rattle.lp_sig.proofs.Seeing.{at_work, settled, work_stays, left_behind}
+use Rattle.lp_sig.specs.Constants.{constants_in, KnowsConstants}
+use Rattle.lp_sig.proofs.DeclaredConstants.{text_begins, constants_more}
 use Rattle.lp_sig.proofs.Spoken.{fixities_more}
 use Rattle.lp_sig.proofs.Alike.{none_yet_alike, more_alike, all_alike, alike_stays}
 use Rattle.lp_sig.proofs.making.Making.declare.Goals as goal
@@ -28,16 +30,18 @@ loop-declaration-init c =
           let before = c.in_ok-announce.ensures.bodies z.said z.definitions k.names (at_work c.args.self.now.bodies.types.bank c.args.self.now.bodies.bodies.items z text (line_of_text lines) k.types) in
           settled old.types.bank new.types.bank old.bodies.items new.bodies.items said defs text (line_of_text lines) c.settle.ensures.lines (c.settle.ensures.bodies said defs (c.in_ok-announce.ensures.names z.said k.names) before.lines before.holds) before;
       alike = λ z k m. none_yet_alike (z.said ++ said_in text lines) (z.definitions ++ definitions_in text lines) z.definitions text lines (alike_stays z.said (said_in text lines) z.definitions (definitions_in text lines) z.definitions (k.alike (sym c.announce.ensures.missing ∙ m)));
+      constants = λ z rows k a. text_begins c.args.self.now.bodies.types c.announce.new.self.bodies.types c.settle.new.self.types c.args.self.now.constants c.announce.new.self.constants z.said (said_in text lines) z.definitions (definitions_in text lines) rows text lines c.announce.ensures.types c.announce.ensures.constants c.settle.ensures.kept a;
       operators = λ said k. subst (λ o. KnowsOperators o (said ++ fixities_in text (take 0 lines))) (sym c.announce.ensures.operators) (subst (KnowsOperators c.args.self.now.operators) (sym (append-nil said)) k);
     }
 
 pub returns-in_err-declare_line-clause-refused : goal.returns-in_err-declare_line-clause-refused
-returns-in_err-declare_line-clause-refused c = λ z k.
+returns-in_err-declare_line-clause-refused c = λ z rows k a.
     let lines = c.args.text.now.lines.items in
+    let i = c.loop-declaration.declaration-index in
     let all = seen_text z c.args.source.now lines in
-    passed_up c.from_residual-in_err-declare_line.result c.in_err-declare_line.field-0.0 (IsFaultIn c.args.source.now all lines) c.from_residual-in_err-declare_line.ensures.1
-    (line_at_fault c.args.source.now all lines c.deref-declaration-items.result.now c.loop-declaration.declaration-index c.declaration-item.result c.in_err-declare_line.field-0.0 c.deref-declaration-items.ensures.value c.loop-declaration-test.true c.declaration-item.is c.loop-declaration.invariant.within (c.loop-declaration.invariant.sound z k)
-    (c.in_err-declare_line.ensures.why all (record { known = c.loop-declaration.invariant.names z k; uses = c.loop-declaration.invariant.uses z k; holds = (c.loop-declaration.invariant.bodies z k).holds })))
+    passed_up c.from_residual-in_err-declare_line.result c.in_err-declare_line.field-0.0 (IsFaultIn c.args.source.now all rows lines) c.from_residual-in_err-declare_line.ensures.1
+    (line_at_fault c.args.source.now all rows lines c.deref-declaration-items.result.now i c.declaration-item.result c.in_err-declare_line.field-0.0 c.deref-declaration-items.ensures.value c.loop-declaration-test.true c.declaration-item.is c.loop-declaration.invariant.within (c.loop-declaration.invariant.sound z k)
+    (c.in_err-declare_line.ensures.why all (rows ++ constants_in c.args.source.now (take i lines)) (record { known = c.loop-declaration.invariant.names z k; uses = c.loop-declaration.invariant.uses z k; holds = (c.loop-declaration.invariant.bodies z k).holds }) (c.loop-declaration.invariant.constants z rows k a)))
 
 pub loop-declaration-preserved : goal.loop-declaration-preserved
 loop-declaration-preserved c =
@@ -59,6 +63,8 @@ loop-declaration-preserved c =
           work_stays old.types.bank new.types.bank old.bodies.items new.bodies.items (z.said ++ said_in text lines) (z.definitions ++ definitions_in text lines) text (line_of_text lines) c.declare_line.ensures.kept (ap (λ v. v.items) c.declare_line.ensures.bodies) (c.loop-declaration.invariant.bodies z k);
       alike = λ z k m. more_alike (z.said ++ said_in text lines) (z.definitions ++ definitions_in text lines) z.definitions text lines i c.declaration-item.result h at (c.loop-declaration.invariant.alike z k (c.declare_line.ensures.missing m))
           (c.in_ok-declare_line.ensures.same (seen_text z text lines) (record { known = c.loop-declaration.invariant.names z k; uses = c.loop-declaration.invariant.uses z k; holds = (c.loop-declaration.invariant.bodies z k).holds }) m);
+      constants = λ z rows k a. subst (KnowsConstants c.declare_line.new.self.bodies.types.bank c.declare_line.new.self.constants (z.said ++ said_in text lines) (z.definitions ++ definitions_in text lines)) (constants_more text lines i c.declaration-item.result rows h at)
+          (c.in_ok-declare_line.ensures.constants (seen_text z text lines) (rows ++ constants_in text (take i lines)) (record { known = c.loop-declaration.invariant.names z k; uses = c.loop-declaration.invariant.uses z k; holds = (c.loop-declaration.invariant.bodies z k).holds }) (c.loop-declaration.invariant.constants z rows k a));
       operators = λ said k. subst (KnowsOperators c.declare_line.new.self.operators) (fixities_more text lines i c.declaration-item.result said h at)
           (c.in_ok-declare_line.ensures.operators (said ++ fixities_in text (take i lines)) (c.loop-declaration.invariant.operators said k));
     }
@@ -90,3 +96,12 @@ returns-clause-operators c = λ said k.
     let i = c.loop-declaration.declaration-index in
     let h : length lines ≤ i = subst (λ l. length l ≤ i) c.deref-declaration-items.ensures.value c.loop-declaration-test.false in
     subst (λ ls. KnowsOperators c.loop-declaration.self.operators (said ++ fixities_in c.args.source.now ls)) (take_all i lines h) (c.loop-declaration.invariant.operators said k)
+
+pub returns-clause-constants : goal.returns-clause-constants
+returns-clause-constants c = λ z rows k a.
+    let text = c.args.source.now in
+    let lines = c.args.text.now.lines.items in
+    let i = c.loop-declaration.declaration-index in
+    let h : length lines ≤ i = subst (λ l. length l ≤ i) c.deref-declaration-items.ensures.value c.loop-declaration-test.false in
+    subst (λ t. KnowsConstants t.bank c.loop-declaration.self.constants (z.said ++ said_in text lines) (z.definitions ++ definitions_in text lines) (rows ++ constants_in text lines)) (sym c.leave.ensures.types)
+    (subst (λ ls. KnowsConstants c.loop-declaration.self.bodies.types.bank c.loop-declaration.self.constants (z.said ++ said_in text lines) (z.definitions ++ definitions_in text lines) (rows ++ constants_in text ls)) (take_all i lines h) (c.loop-declaration.invariant.constants z rows k a))

@@ -4,9 +4,10 @@ use Rattle.lp_sig.specs.Limits.{AreWithin}
 use Rattle.lp_sig.specs.Rows.{Row}
 use Rattle.lp_sig.specs.Said.{said_in, fixities_in}
 use Rattle.lp_sig.specs.Knowing.{Knows, KnowsOperators}
-use Rattle.lp_sig.specs.Types.{definitions_in}
+use Rattle.lp_sig.specs.Types.{definitions_in, AreAlike}
 use Rattle.lp_sig.specs.Abbreviations.{Seen, seen_text, KnowsUses}
-use Rattle.lp_sig.specs.Faults.{AreSound, AreAlike}
+use Rattle.lp_sig.specs.Constants.{Written, constants_in, KnowsConstants}
+use Rattle.lp_sig.specs.Faults.{AreSound}
 use Rattle.lp_sig.specs.Holding.{KnowsBodies, KnowsSeen, line_of_text}
 use Rattle.lp_sig.proofs.making.Making.declare.Given as goal
 
@@ -18,5 +19,7 @@ invariant-loop-declaration l = record {
   uses : (z : Seen) → KnowsSeen l.fn.self z → KnowsUses (map (λ out. out.items) l.self.uses.ways.items) (seen_text z l.source l.text.lines.items);
   bodies : (z : Seen) → KnowsSeen l.fn.self z → KnowsBodies l.self.bodies.types.bank l.self.bodies.bodies.items (z.said ++ said_in l.source l.text.lines.items) (z.definitions ++ definitions_in l.source l.text.lines.items) l.source (line_of_text l.text.lines.items);
   alike : (z : Seen) → KnowsSeen l.fn.self z → l.self.missing ≡ false → AreAlike (z.said ++ said_in l.source l.text.lines.items) (z.definitions ++ definitions_in l.source l.text.lines.items) (z.definitions ++ definitions_in l.source (take l.declaration-index l.text.lines.items));
+  constants : (z : Seen) (rows : List (Row Written)) → KnowsSeen l.fn.self z → KnowsConstants l.fn.self.bodies.types.bank l.fn.self.constants z.said z.definitions rows →
+      KnowsConstants l.self.bodies.types.bank l.self.constants (z.said ++ said_in l.source l.text.lines.items) (z.definitions ++ definitions_in l.source l.text.lines.items) (rows ++ constants_in l.source (take l.declaration-index l.text.lines.items));
   operators : (said : List (Row (Fixity × ℕ))) → KnowsOperators l.fn.self.operators said → KnowsOperators l.self.operators (said ++ fixities_in l.source (take l.declaration-index l.text.lines.items));
 }

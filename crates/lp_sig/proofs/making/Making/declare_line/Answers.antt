@@ -3,9 +3,12 @@ use Rattle.std.specs.Prelude.{IfErr, IfOk, ◌≤◌}
 use Rattle.lp_sig.specs.Limits.{IsShort, AreShort, AreApart, IsWithin}
 use Rattle.lp_sig.specs.Said.{a_kind, fixities_by}
 use Rattle.lp_sig.specs.Knowing.{KnowsOperators}
-use Rattle.lp_sig.specs.Words.{IsKindsFault, IsConstantsFault, AreMeant, AreNumbered}
+use Rattle.lp_sig.specs.Words.{IsKindsFault, AreMeant, AreNumbered}
 use Rattle.lp_sig.specs.Faults.{IsSentenceFault, IsAbbreviationFault, IsSound, IsSoundAbbreviation}
-use Rattle.lp_sig.proofs.Blame.{always, for_ok}
+use Rattle.lp_sig.specs.Constants.{constants_by, KnowsConstants}
+use Rattle.lp_sig.proofs.Blame.{always, on_ok, for_ok, for_err}
+use Rattle.lp_sig.proofs.Constancy.{constants_kept}
+use Rattle.lp_sig.proofs.DeclaredConstants.{any_refusal, nothing_declared, its_constants}
 use Rattle.lp_sig.proofs.Sentences.{ok_with}
 use Rattle.lp_sig.proofs.Alike.{nothing_alike, one_alike}
 use Rattle.lp_sig.proofs.Copies.{extends_itself}
@@ -54,19 +57,51 @@ returns-in_ok-declare_all-in-Fixities-clause-operators c = λ said k.
     (c.in_ok-declare_all-in-Fixities.ensures said k)
 
 pub returns-in-Kinds-clause-why : goal.returns-in-Kinds-clause-why
-returns-in-Kinds-clause-why c = λ z s.
-    subst (λ d. IfErr c.declare_kinds.result (IsSentenceFault c.args.source.now z d)) (sym c.in-Kinds.is)
+returns-in-Kinds-clause-why c = λ z rows s k.
+    subst (λ d. IfErr c.declare_kinds.result (IsSentenceFault c.args.source.now z rows d)) (sym c.in-Kinds.is)
     (subst (λ ns. IfErr c.declare_kinds.result (IsKindsFault c.args.source.now z.said ns c.in-Kinds.arity)) c.as_slice.ensures.value (c.declare_kinds.ensures.why z.said s.known))
 
 pub returns-in-Constants-clause-why : goal.returns-in-Constants-clause-why
-returns-in-Constants-clause-why c = λ z s.
-    subst (λ d. IfErr c.declare_constants.result (IsSentenceFault c.args.source.now z d)) (sym c.in-Constants.is)
-    (subst (λ ns. IfErr c.declare_constants.result (IsConstantsFault c.args.source.now z.said ns c.in-Constants.raw)) c.as_slice-in-Constants.ensures.value (c.declare_constants.ensures.why z.said s.known))
+returns-in-Constants-clause-why c = λ z rows s k.
+    subst (λ d. IfErr c.declare_constants.result (IsSentenceFault c.args.source.now z rows d)) (sym c.in-Constants.is)
+    (for_err c.declare_constants.result _ _ (λ e f. any_refusal _ c.args.source.now z rows c.in-Constants.names.items c.as_slice-in-Constants.result.now c.in-Constants.raw e c.as_slice-in-Constants.ensures.value f)
+    (c.declare_constants.ensures.exact z.said z.definitions rows s.known s.holds k))
 
 pub returns-in-Abbreviation-clause-why : goal.returns-in-Abbreviation-clause-why
-returns-in-Abbreviation-clause-why c = λ z s.
-    subst (λ d. IfErr c.declare_abbreviation.result (IsSentenceFault c.args.source.now z d)) (sym c.in-Abbreviation.is)
+returns-in-Abbreviation-clause-why c = λ z rows s k.
+    subst (λ d. IfErr c.declare_abbreviation.result (IsSentenceFault c.args.source.now z rows d)) (sym c.in-Abbreviation.is)
     (subst (λ ps. IfErr c.declare_abbreviation.result (IsAbbreviationFault c.args.source.now z c.in-Abbreviation.name ps c.in-Abbreviation.raw)) c.as_slice-in-Abbreviation.ensures.value (c.declare_abbreviation.ensures.why z s))
+
+pub returns-in-Constants-clause-constants : goal.returns-in-Constants-clause-constants
+returns-in-Constants-clause-constants c = on_ok c.declare_constants.result _ _ (λ h z rows s k.
+    its_constants c.declare_constants.new.bodies.types.bank c.declare_constants.new.constants z.said z.definitions rows c.args.source.now c.args.declaration.now c.in-Constants.names c.as_slice-in-Constants.result.now c.in-Constants.raw c.in-Constants.is c.as_slice-in-Constants.ensures.value
+    (h z.said z.definitions rows s.known s.holds k)) c.declare_constants.ensures.constants
+
+pub returns-in-Kinds-clause-constants : goal.returns-in-Kinds-clause-constants
+returns-in-Kinds-clause-constants c = always c.declare_kinds.result _ (λ z rows s k. nothing_declared c.args.self.now.bodies.types.bank c.args.self.now.constants z.said z.definitions rows c.args.source.now c.args.declaration.now _ c.in-Kinds.is refl k)
+
+pub returns-in-Abbreviation-clause-constants : goal.returns-in-Abbreviation-clause-constants
+returns-in-Abbreviation-clause-constants c = always c.declare_abbreviation.result _ (λ z rows s k.
+    let old = c.args.self.now in
+    let new = c.declare_abbreviation.new.self in
+    let rest = nothing_declared old.bodies.types.bank old.constants z.said z.definitions rows c.args.source.now c.args.declaration.now _ c.in-Abbreviation.is refl k in
+    subst (λ cs. KnowsConstants new.bodies.types.bank cs z.said z.definitions (rows ++ constants_by c.args.source.now c.args.declaration.now)) (sym c.declare_abbreviation.ensures.constants)
+    (constants_kept old.bodies.types.bank new.bodies.types.bank old.constants z.said z.definitions (rows ++ constants_by c.args.source.now c.args.declaration.now) c.declare_abbreviation.ensures.kept rest))
+
+pub returns-in-LocalKinds-clause-constants : goal.returns-in-LocalKinds-clause-constants
+returns-in-LocalKinds-clause-constants c = λ z rows s k. nothing_declared c.args.self.now.bodies.types.bank c.args.self.now.constants z.said z.definitions rows c.args.source.now c.args.declaration.now _ c.in-LocalKinds.is refl k
+
+pub returns-in-Locals-clause-constants : goal.returns-in-Locals-clause-constants
+returns-in-Locals-clause-constants c = λ z rows s k. nothing_declared c.args.self.now.bodies.types.bank c.args.self.now.constants z.said z.definitions rows c.args.source.now c.args.declaration.now _ c.in-Locals.is refl k
+
+pub returns-in-Accumulate-clause-constants : goal.returns-in-Accumulate-clause-constants
+returns-in-Accumulate-clause-constants c = λ z rows s k. nothing_declared c.args.self.now.bodies.types.bank c.args.self.now.constants z.said z.definitions rows c.args.source.now c.args.declaration.now _ c.in-Accumulate.is refl k
+
+pub returns-in-AccumSig-clause-constants : goal.returns-in-AccumSig-clause-constants
+returns-in-AccumSig-clause-constants c = λ z rows s k. nothing_declared c.args.self.now.bodies.types.bank c.args.self.now.constants z.said z.definitions rows c.args.source.now c.args.declaration.now _ c.in-AccumSig.is refl k
+
+pub returns-in_ok-declare_all-in-Fixities-clause-constants : goal.returns-in_ok-declare_all-in-Fixities-clause-constants
+returns-in_ok-declare_all-in-Fixities-clause-constants c = λ z rows s k. nothing_declared c.args.self.now.bodies.types.bank c.args.self.now.constants z.said z.definitions rows c.args.source.now c.args.declaration.now _ c.in-Fixities.is refl k
 
 pub returns-in-Kinds-clause-sound : goal.returns-in-Kinds-clause-sound
 returns-in-Kinds-clause-sound c = λ z s.
