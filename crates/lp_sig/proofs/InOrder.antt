@@ -14,7 +14,7 @@ use Rattle.lp_sig.specs.Pieces.{spelled, begins_variable}
 use Rattle.lp_sig.specs.Places.{first_place}
 use Rattle.lp_sig.specs.Types.{one_or, IsNode}
 use Rattle.lp_sig.specs.Knowing.{number_of}
-use Rattle.lp_sig.specs.Holding.{given_number}
+use Rattle.lp_sig.specs.Holding.{given_number, IsNumbered}
 use Rattle.lp_sig.specs.Constants.{IsVariable, IsNumbering}
 use Rattle.lp_sig.specs.Ordering.{names_with, number_with, names_by_word, names_by, names_behind, in_order, HasNames}
 use Rattle.lp_sig.specs.declared.expand.Variables.{Variables}
@@ -216,7 +216,7 @@ module _ (text : List ℕ) (nodes : List RawTypeNode) where
         placed (K j) (spelled text z) n f (ap (λ x. first_place x (K j)) (sym e) ∙ ap (first_place (spelled text s)) g.1 ∙ place_front (spelled text s) (K (i + 1)) g.0 n here)
 
   pub in_order_numbers : IsNumbering text nodes (in_order text nodes)
-  unfolding Order
+  unfolding Order number_with K
   in_order_numbers = record {
     same = λ i j s z n v w e f g. same i j s z n v w e f g (ordered i j);
     apart = λ i j s z n v w g h. apart i j s z n v w g h (ordered i j);
@@ -291,3 +291,21 @@ module _ (v w : Variables) (ks : List (List ℕ)) (h : HasNames v ks) (name : Li
       by : first_place name ks ≡ None → (other : List ℕ) → bytes_eq other (codes "_") ≡ false → (t : Bool) → bytes_eq other name ≡ t → (if t then Some v.next else number_of v other) ≡ first_place other (ks ++ name ∷ [])
       by none other g true p = ap (λ n. Some n) h.next ∙ sym (place_last other ks name (ap (λ x. first_place x ks) ((bytes_eq-Decides other name).0 p) ∙ none) p)
       by none other g false p = h.numbers other g ∙ sym (place_other other ks name p)
+
+pub as_in_order : (v : Variables) (text : List ℕ) (nodes : List RawTypeNode) (i j : ℕ) (n : RawTypeNode) → HasNames v (names_behind text [] (take i nodes)) → j ≡ i → IsNumbered (in_order text nodes) (given_number v) text j n
+as_in_order v text nodes i j (node.Word s args) h same = λ n e. ap (λ i. in_order text nodes i s) same ∙ sym (given_in_order v (names_behind text [] (take i nodes)) h (spelled text s)) ∙ e
+as_in_order v text nodes i j (node.Arrow a b) h same = tt
+
+pub names_more : (v w : Variables) (text : List ℕ) (nodes : List RawTypeNode) (i : ℕ) (d : RawTypeNode) → i < length nodes → ((ks : List (List ℕ)) → HasNames v ks → HasNames w (names_by text ks (get_or nodes i d))) → HasNames v (names_behind text [] (take i nodes)) →
+    HasNames w (names_behind text [] (take (i + 1) nodes))
+names_more v w text nodes i d l f h = subst (HasNames w) (sym (ap (names_behind text []) (take_more nodes i d l) ∙ behind_more text [] (take i nodes) (get_or nodes i d))) (f (names_behind text [] (take i nodes)) h)
+
+pub not_closed : {P : Type 0} (v : Variables) (ks : List (List ℕ)) → v.closed ≡ true → HasNames v ks → P
+not_closed v ks e h = absurd (true≢false (sym e ∙ h.opened))
+
+pub by_variable : (w : Variables) (text : List ℕ) (ks : List (List ℕ)) (s : Spot) (word : List ℕ) → word ≡ spelled text s → begins_variable word ≡ true → HasNames w (names_with ks word) → HasNames w (names_by_word text ks s)
+by_variable w text ks s word same e h =
+    subst (HasNames w) (sym (ap (λ t. if t then names_with ks (spelled text s) else ks) (ap begins_variable (sym same) ∙ e))) (subst (λ word. HasNames w (names_with ks word)) same h)
+
+pub by_name : (w : Variables) (text : List ℕ) (ks : List (List ℕ)) (s : Spot) (word : List ℕ) → word ≡ spelled text s → begins_variable word ≡ false → HasNames w ks → HasNames w (names_by_word text ks s)
+by_name w text ks s word same e h = subst (HasNames w) (sym (ap (λ t. if t then names_with ks (spelled text s) else ks) (ap begins_variable (sym same) ∙ e))) h

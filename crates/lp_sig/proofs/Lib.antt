@@ -39,3 +39,5 @@ pub mod Declaring
 pub mod Listing
 pub mod InOrder
 pub mod DeclaredConstants
+pub mod Renaming
+pub mod Declarations

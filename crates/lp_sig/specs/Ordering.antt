@@ -45,5 +45,5 @@ pub record HasNames (v : Variables) (ks : List (List ℕ)) : Type 0 where
 
 -- the types by which variables are replaced: for each that was found the variable of its place
 pub record AreNewNames (b : Nodes) (names : List TypeId) (found : List ℕ) : Type 0 where
-  pub far : (i : ℕ) → i < length found → slice_index_or found i 0 < length names
-  pub at : (x : ℕ) (t : TypeId) → x < length names → type_tree b (slice_index_or names x t).0 ≡ var (place found x)
+  pub inside : (x : ℕ) (t : TypeId) → x < length names → (slice_index_or names x t).0 < length b.types
+  pub tree : (x : ℕ) (t : TypeId) → x < length names → type_tree b (slice_index_or names x t).0 ≡ var (place found x)

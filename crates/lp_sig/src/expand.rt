@@ -1,5 +1,5 @@
 // Types of a text, with abbreviations replaced.
-ghost use Rattle.std.specs.Prelude.{◌≡◌, ◌⊎◌, ◌<◌, ◌+◌, ℕ, Vec, List, [], ◌∷◌, length, Option, Some, None, is_some, true, false, option_map, if◌then◌else◌, IfErr, IfOk, IfSome, OnOk, All, map};
+ghost use Rattle.std.specs.Prelude.{◌≡◌, ◌⊎◌, ◌<◌, ◌≤◌, ◌+◌, ℕ, Vec, List, [], ◌∷◌, length, Option, Some, None, is_some, true, false, option_map, if◌then◌else◌, IfErr, IfOk, IfSome, OnOk, All, map};
 ghost use Rattle.std.specs.Global.{Global};
 ghost use Rattle.std.specs.Str.{bytes_eq};
 ghost use Rattle.lp_base.specs.declared.limit.Limit.TheVariants as limit;
@@ -392,6 +392,7 @@ impl Bodies {
         ensures kept { Extends self.old.types.bank self.new.types.bank }
         ensures bodies { self.new.bodies ≡ self.old.bodies }
         ensures exact { (said : List (Row Said)) (defs : List (Row Definition)) → Knows names.now said → HoldsBodies self.old.types.bank self.old.bodies.items said defs → IfErr result (λ e. (e ≡ fault.Memory) ⊎ IsWrittenFault source.now said defs raw.now e) }
+        ensures few { IfOk result (λ made. IfSome made (λ d. d.type_vars ≤ 255)) }
         ensures typed { (said : List (Row Said)) (defs : List (Row Definition)) → Knows names.now said → HoldsBodies self.old.types.bank self.old.bodies.items said defs → IfOk result (λ made. IfSome made (IsTyped self.new.types.bank said defs (written_in source.now raw.now))) }
     {
         if has_many_arguments(raw) {
@@ -417,7 +418,8 @@ impl Bodies {
     fn new_names(&mut self, found: &[u64]) -> Result<Vec<TypeId>, Memory>
         ensures kept { Extends self.old.types.bank self.new.types.bank }
         ensures bodies { self.new.bodies ≡ self.old.bodies }
-        ensures places { IfOk result (λ names. AreNewNames self.new.types.bank names.items found.now) }
+        ensures names { IfOk result (λ names. AreNewNames self.new.types.bank names.items found.now) }
+        ensures far { IfOk result (λ names. All (λ x. x < length names.items) found.now) }
     {
         let end = end_of(found)?;
         let mut names = Vec::new(self.alloc);
@@ -442,6 +444,13 @@ fn place_among(numbers: &[u64], number: u64) -> usize
     numbers.len()
 }
 
+fn larger(one: u64, other: u64) -> u64
+    ensures first { one ≤ result }
+    ensures second { other ≤ result }
+{
+    if one < other { other } else { one }
+}
+
 // A number above all of these.
 fn end_of(numbers: &[u64]) -> Result<u64, Memory>
     ensures { IfOk result (λ end. All (λ n. n < end) numbers.now) }
@@ -449,9 +458,7 @@ fn end_of(numbers: &[u64]) -> Result<u64, Memory>
     let mut end = 0;
     for at in 0..numbers.len() {
         let next = following(numbers[at])?;
-        if next > end {
-            end = next;
-        }
+        end = larger(end, next);
     }
     Ok(end)
 }
