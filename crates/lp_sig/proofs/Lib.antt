@@ -41,3 +41,4 @@ pub mod InOrder
 pub mod DeclaredConstants
 pub mod Renaming
 pub mod Declarations
+pub mod Settled

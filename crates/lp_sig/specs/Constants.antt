@@ -6,6 +6,7 @@ use Rattle.lp_base.specs.declared.place.Spot.{Spot}
 use Rattle.lp_calculus.specs.Types.{Ty, var, arrow}
 use Rattle.lp_calculus.specs.Typing.{o_type, int_type, string_type, list_type}
 use Rattle.lp_term.specs.Nodes.{Nodes, type_tree}
+use Rattle.lp_term.specs.declared.node.TypeId.{TypeId}
 use Rattle.lp_syntax.specs.declared.text.Declaration.{Declaration}
 use Rattle.lp_syntax.specs.declared.text.Declaration.TheVariants.{Kinds, LocalKinds, Constants as OfType, Locals, Abbreviation, Accumulate, AccumSig, Fixities}
 use Rattle.lp_syntax.specs.declared.text.RawType.{RawType}
@@ -153,6 +154,10 @@ AreTyped constants = All (λ c. is_some c.declared ≡ true) constants.constants
 -- each abbreviation has a body
 abbrev pub AreSettled : List Body → List (Row Said) → Type 0
 AreSettled bodies said = (name : List ℕ) (place : ℕ) → first_place name (abbreviation_names said) ≡ Some place → is_some (body_of bodies place) ≡ true
+
+-- each part so far has a type
+abbrev pub AllMade : List (Option TypeId) → Type 0
+AllMade done = All (λ o. is_some o ≡ true) done
 
 -- why a declared type is refused: it has more than 255 arguments as written, or a word has a fault, or it has more than 255 type
 -- variables behind its abbreviations

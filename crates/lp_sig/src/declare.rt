@@ -18,7 +18,7 @@ ghost use Rattle.lp_sig.specs.Places.{first_place};
 ghost use Rattle.lp_sig.specs.Abbreviations.{abbreviation_names, Seen, seen_text};
 ghost use Rattle.lp_sig.specs.Holding.{Sees, KnowsSeen, HoldsBodies};
 ghost use Rattle.lp_sig.specs.Types.{Definition};
-ghost use Rattle.lp_sig.specs.Constants.{Written, written_in, constants_by, constants_in, KnowsConstants, AreTyped, IsConstantsRefusal};
+ghost use Rattle.lp_sig.specs.Constants.{Written, written_in, constants_by, constants_in, KnowsConstants, AreSettled, AreTyped, AreDeclared, IsConstantsRefusal};
 
 use crate::bodies::Bodies;
 use crate::constants::Constants;
@@ -142,6 +142,7 @@ pub(crate) fn declare_constants(
     ensures bodies { bodies.new.bodies ≡ bodies.old.bodies }
     ensures constants { OnOk result ((said : List (Row Said)) (defs : List (Row Definition)) (rows : List (Row Written)) → Knows names.now said → HoldsBodies bodies.old.types.bank bodies.old.bodies.items said defs → KnowsConstants bodies.old.types.bank constants.old said defs rows → KnowsConstants bodies.new.types.bank constants.new said defs (rows ++ each source.now (written_in source.now raw.now) spots.now)) }
     ensures exact { (said : List (Row Said)) (defs : List (Row Definition)) (rows : List (Row Written)) → Knows names.now said → HoldsBodies bodies.old.types.bank bodies.old.bodies.items said defs → KnowsConstants bodies.old.types.bank constants.old said defs rows → IfErr result (IsConstantsRefusal (AreTyped constants.old) source.now said defs rows spots.now raw.now) }
+    ensures declared { (said : List (Row Said)) (defs : List (Row Definition)) (rows : List (Row Written)) → Knows names.now said → HoldsBodies bodies.old.types.bank bodies.old.bodies.items said defs → KnowsConstants bodies.old.types.bank constants.old said defs rows → AreSettled bodies.old.bodies.items said → AreTyped constants.old → IfOk result (λ done. AreTyped constants.new × AreDeclared source.now said defs rows spots.now raw.now) }
 {
     check_lengths(source, spots)?;
     let declared = bodies.scheme(names, source, raw)?;

@@ -18,9 +18,10 @@ ghost use Rattle.lp_sig.specs.Abbreviations.{abbreviation_names};
 ghost use Rattle.lp_sig.specs.Types.{Definition, IsTypeOf, IsNode, by_parameters};
 ghost use Rattle.lp_sig.specs.Holding.{given_number, AreParameters, type_done, IsTree, AreDone, HoldsBodies, IfType, IsReplaced, IsNumbered};
 ghost use Rattle.lp_sig.specs.Limits.{AreApart, IsRepeated};
-ghost use Rattle.lp_sig.specs.Refusals.{IsFaultOf, named, typed, words_of};
+ghost use Rattle.lp_sig.specs.Refusals.{IsFaultOf, typed, words_of};
+ghost use Rattle.lp_sig.specs.declared.expand.Made.TheVariants as outcome;
 ghost use Rattle.lp_sig.specs.Schemes.{place};
-ghost use Rattle.lp_sig.specs.Constants.{IsTyped, IsWrittenFault, written_in};
+ghost use Rattle.lp_sig.specs.Constants.{IsTyped, IsWrittenFault, AreSettled, AllMade, written_in};
 ghost use Rattle.lp_sig.specs.Ordering.{HasNames, names_with, names_by_word, names_by, in_order, AreNewNames};
 
 use crate::bodies::Bodies;
@@ -160,26 +161,28 @@ fn types_at(
     done: &[Option<TypeId>],
     places: &[usize],
 ) -> Result<Option<Vec<TypeId>>, Memory>
-    ensures { IfOk result (λ o. IfSome o (λ types. map (type_done done.now) places.now ≡ map (λ t. Some t) types.items)) }
+    ensures are { IfOk result (λ o. IfSome o (λ types. map (type_done done.now) places.now ≡ map (λ t. Some t) types.items)) }
+    ensures made { AllMade done.now → IfOk result (λ o. is_some o ≡ true) }
 {
     let mut types = Vec::new(alloc);
     for place in places.iter().copied() {
         match done.get(place) {
             Some(Some(id)) => types.push(*id)?,
             Some(None) => return Ok(None),
-            None => return Ok(None),
+            None => return Err(Memory),
         }
     }
     Ok(Some(types))
 }
 
 // The type at a place, if it is known.
-fn type_at(done: &[Option<TypeId>], place: usize) -> Option<TypeId>
-    ensures { result ≡ type_done done.now place }
+fn type_at(done: &[Option<TypeId>], place: usize) -> Result<Option<TypeId>, Memory>
+    ensures is { IfOk result (λ o. o ≡ type_done done.now place) }
+    ensures made { AllMade done.now → IfOk result (λ o. is_some o ≡ true) }
 {
     match done.get(place) {
-        Some(id) => *id,
-        None => None,
+        Some(id) => Ok(*id),
+        None => Err(Memory),
     }
 }
 
@@ -220,6 +223,7 @@ impl Bodies {
         ensures fault { (said : List (Row Said)) (vs : Option (List (List ℕ))) → Knows names.now said → Holds variables.old vs → IfOk result (λ made. blamed spot made ≡ fault_of_word source.now said vs spot (length arguments.now)) }
         ensures held { (vs : Option (List (List ℕ))) → Holds variables.old vs → Holds variables.new vs }
         ensures names { OnOk result ((ks : List (List ℕ)) → HasNames variables.old ks → HasNames variables.new (names_by_word source.now ks spot)) }
+        ensures settled { (said : List (Row Said)) → Knows names.now said → AreSettled self.old.bodies.items said → AllMade done.now → IfOk result (λ made. made ≡ outcome.Open → ⊥) }
     {
         let name = spelled_at(source, spot);
         if is_variable(name) {
@@ -253,6 +257,7 @@ impl Bodies {
         arguments: &[usize],
         done: &[Option<TypeId>],
     ) -> Result<Made, Memory>
+        ensures settled { (said : List (Row Said)) (name : List ℕ) → AreSettled self.old.bodies.items said → first_place name (abbreviation_names said) ≡ Some place → AllMade done.now → IfOk result (λ made. made ≡ outcome.Open → ⊥) }
         ensures counted { (s : Spot) → IfOk result (λ made. blamed s made ≡ on_count s (length arguments.now) (said_as names.now (meaning.Abbreviation place))) }
         ensures kept { Extends self.old.types.bank self.new.types.bank }
         ensures bodies { self.new.bodies ≡ self.old.bodies }
@@ -284,11 +289,12 @@ impl Bodies {
         ensures kept { Extends self.old.types.bank self.new.types.bank }
         ensures bodies { self.new.bodies ≡ self.old.bodies }
         ensures typed { (said : List (Row Said)) (defs : List (Row Definition)) (text : List ℕ) (ν : ℕ → Spot → Option ℕ) (nodes : List RawTypeNode) (i : ℕ) → AreDone self.old.types.bank said defs text ν nodes done.now → IsNode nodes i (node.Arrow from to) → IfOk result (λ o. IfSome o (IsTree self.new.types.bank (IsTypeOf said defs text ν nodes i))) }
+        ensures made { AllMade done.now → IfOk result (λ o. is_some o ≡ true) }
     {
-        let Some(left) = type_at(done, from) else {
+        let Some(left) = type_at(done, from)? else {
             return Ok(None);
         };
-        let Some(right) = type_at(done, to) else {
+        let Some(right) = type_at(done, to)? else {
             return Ok(None);
         };
         let id = self.types.arrow(left, right)?;
@@ -313,6 +319,7 @@ impl Bodies {
         ensures fault { (said : List (Row Said)) (vs : Option (List (List ℕ))) → Knows names.now said → Holds variables.old vs → IfOk result (λ o. o ≡ option_map (λ e. (beginning node.now, e)) (word_fault source.now said vs node.now)) }
         ensures held { (vs : Option (List (List ℕ))) → Holds variables.old vs → Holds variables.new vs }
         ensures names { OnOk result ((ks : List (List ℕ)) → HasNames variables.old ks → HasNames variables.new (names_by source.now ks node.now)) }
+        ensures settled { (said : List (Row Said)) → Knows names.now said → AreSettled self.old.bodies.items said → AllMade done.old.items → IfOk result (λ fault. fault ≡ None → AllMade done.new.items) }
     {
         match node {
             RawTypeNode::Arrow(from, to) => {
@@ -363,6 +370,7 @@ impl Bodies {
         ensures bodies { self.new.bodies ≡ self.old.bodies }
         ensures body { (said : List (Row Said)) (defs : List (Row Definition)) (ps : List Spot) → Knows names.now said → HoldsBodies self.old.types.bank self.old.bodies.items said defs → AreParameters variables.old source.now ps → IfOk result (λ made. IfSome made (IsTree self.new.types.bank (IsTypeOf said defs source.now (by_parameters source.now ps) raw.now.nodes.items raw.now.root))) }
         ensures open { (said : List (Row Said)) (defs : List (Row Definition)) → Knows names.now said → HoldsBodies self.old.types.bank self.old.bodies.items said defs → HasNames variables.old [] → IfOk result (λ made. IfSome made (IsTree self.new.types.bank (IsTypeOf said defs source.now (in_order source.now raw.now.nodes.items) raw.now.nodes.items raw.now.root))) }
+        ensures settled { (said : List (Row Said)) → Knows names.now said → AreSettled self.old.bodies.items said → IfOk result (λ made. is_some made ≡ true) }
         ensures among { IfErr result (IsFaultOf source.now (typed [] (words_of raw.now.nodes.items)) ⊥) }
         ensures first { (said : List (Row Said)) (vs : Option (List (List ℕ))) → Knows names.now said → Holds variables.old vs → IfErr result (λ e. (e ≡ fault.Memory) ⊎ IsFirstFault source.now said vs raw.now.nodes.items e) }
         ensures stand { (said : List (Row Said)) (vs : Option (List (List ℕ))) → Knows names.now said → Holds variables.old vs → IfOk result (λ made. WordsStand source.now said vs raw.now.nodes.items) }
@@ -376,7 +384,8 @@ impl Bodies {
         if let Some((_, first)) = fault {
             return Err(first);
         }
-        Ok(type_at(done.as_slice(), raw.root))
+        let made = type_at(done.as_slice(), raw.root)?;
+        Ok(made)
     }
 
     // A declared type, its variables numbered by first place, with their count.
@@ -393,6 +402,7 @@ impl Bodies {
         ensures bodies { self.new.bodies ≡ self.old.bodies }
         ensures exact { (said : List (Row Said)) (defs : List (Row Definition)) → Knows names.now said → HoldsBodies self.old.types.bank self.old.bodies.items said defs → IfErr result (λ e. (e ≡ fault.Memory) ⊎ IsWrittenFault source.now said defs raw.now e) }
         ensures few { IfOk result (λ made. IfSome made (λ d. d.type_vars ≤ 255)) }
+        ensures settled { (said : List (Row Said)) → Knows names.now said → AreSettled self.old.bodies.items said → IfOk result (λ made. is_some made ≡ true) }
         ensures typed { (said : List (Row Said)) (defs : List (Row Definition)) → Knows names.now said → HoldsBodies self.old.types.bank self.old.bodies.items said defs → IfOk result (λ made. IfSome made (IsTyped self.new.types.bank said defs (written_in source.now raw.now))) }
     {
         if has_many_arguments(raw) {

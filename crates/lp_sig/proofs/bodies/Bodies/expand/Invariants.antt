@@ -1,4 +1,5 @@
-use Rattle.std.proofs.Common.{◌≡◌, ℕ, List, [], take, Option, length}
+use Rattle.std.proofs.Common.{◌≡◌, ℕ, List, [], take, Option, None, length}
+use Rattle.lp_sig.specs.Constants.{AreSettled, AllMade}
 use Rattle.std.specs.Prelude.{IfSome}
 use Rattle.lp_base.specs.declared.place.Spot.{Spot}
 use Rattle.lp_term.specs.Nodes.{Extends}
@@ -26,4 +27,5 @@ invariant-loop-node l = record {
   names : HasNames l.fn.variables [] → HasNames l.variables (names_behind l.source [] (take l.node-index l.raw.nodes.items));
   ordered : (said : List (Row Said)) (defs : List (Row Definition)) → Knows l.names said → HoldsBodies l.fn.self.types.bank l.fn.self.bodies.items said defs → HasNames l.fn.variables [] →
       AreDone l.self.types.bank said defs l.source (in_order l.source l.raw.nodes.items) l.raw.nodes.items l.done.items;
+  settled : (said : List (Row Said)) → Knows l.names said → AreSettled l.fn.self.bodies.items said → l.fault ≡ None → AllMade l.done.items;
 }

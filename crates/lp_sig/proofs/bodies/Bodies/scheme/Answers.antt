@@ -1,5 +1,5 @@
 use Rattle.std.proofs.Common.{◌≡◌, ◌<◌, length, arith, None, refl, sym, ap, subst, ◌∙◌, inl, inr, ⊎_elim}
-use Rattle.std.specs.Prelude.{◌⊎◌, IfSome}
+use Rattle.std.specs.Prelude.{◌⊎◌, IfSome, is_some}
 use Rattle.lp_calculus.specs.Types.{instance}
 use Rattle.lp_term.specs.Nodes.{type_tree}
 use Rattle.lp_sig.specs.Copying.{filled}
@@ -61,4 +61,4 @@ returns-clause-typed c = λ said defs k b.
     }
 
 pub returns-in_default-clause-settled : goal.returns-in_default-clause-settled
-returns-in_default-clause-settled c = ?
+returns-in_default-clause-settled c = λ said k s. sym (ap is_some c.in_default.is) ∙ c.in_ok-whole.ensures.settled said k s
