@@ -162,7 +162,7 @@ module _ (b : Nodes) (constants : Constants) (said : List (Row Said)) (defs : Li
     known_new e =
         let names = names_same b said defs 32 (declared_constants rows) constants.constants.items k.are in
         let here : is_some (found name (declared_constants rows)) ≡ false =
-            found_among name (declared_constants rows) ∙ ap (is_among name) (sym names) ∙ sym (place_among name all_names) ∙ ap is_some (sym (k.places name) ∙ sym e) in
+        found_among name (declared_constants rows) ∙ ap (is_among name) (sym names) ∙ sym (place_among name all_names) ∙ ap is_some (sym (k.places name) ∙ sym e) in
         (sym standard, sym (found_first name rows (sym standard)) ∙ nothing_found (found name (declared_constants rows)) here)
 
     there : (i : ℕ) (c : Constant) → Some i ≡ place_of constants.places name → c ≡ get_or constants.constants.items i c → IsNotedAt b said defs name (declared_constants rows) c

@@ -50,12 +50,14 @@ module _ (text : List ℕ) (said : List (Row Said)) (defs : List (Row Definition
         by None e = absurd (true≢false (sym some ∙ ap is_some e))
         by (Some d) e =
             let t = as_typed d e in
-            let h = have said defs rows (written_in text ty) known_now all d e t in
-            (typed_after d e all, record {
-              count = d.type_vars;
-              tree = type_tree now d.scheme.0;
-              scheme = t.scheme;
-              few = subst (λ o. IfSome o (λ d. d.type_vars ≤ 255)) e few;
-              have = h.have;
-              numbers = h.numbers;
-            })
+            let h = have said defs rows (written_in text ty) known_now all d e t in (
+              typed_after d e all,
+              record {
+                count = d.type_vars;
+                tree = type_tree now d.scheme.0;
+                scheme = t.scheme;
+                few = subst (λ o. IfSome o (λ d. d.type_vars ≤ 255)) e few;
+                have = h.have;
+                numbers = h.numbers;
+              },
+            )

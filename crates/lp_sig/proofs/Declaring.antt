@@ -29,7 +29,7 @@ some_one o x y e f = by (sym e ∙ f)
     by g = cc
 
 module _ (b now : Nodes) (self : Constants) (word name : List ℕ) (k : Known) (kept : Extends b now) (same : word ≡ name)
-  (seen : (said : List (Row Said)) (defs : List (Row Definition)) (rows : List (Row Written)) → KnowsConstants b self said defs rows → IsKnownAs now said defs rows word k) where
+    (seen : (said : List (Row Said)) (defs : List (Row Definition)) (rows : List (Row Written)) → KnowsConstants b self said defs rows → IsKnownAs now said defs rows word k) where
   IsSeen : Known → Type 0
   IsSeen j = (said : List (Row Said)) (defs : List (Row Definition)) (rows : List (Row Written)) → KnowsConstants b self said defs rows → IsKnownAs now said defs rows name j
 
@@ -46,9 +46,13 @@ module _ (b now : Nodes) (self : Constants) (word name : List ℕ) (k : Known) (
       IsConstantFault said defs rows name (type_tree b d.scheme.0) s e))
   unfolding IsSeen
   new_refused declared s e is (inl m) = inl m
-  new_refused declared s e is (inr r) = inr (r.1.0, r.1.1, λ said defs rows h l.
-      let n = seen_as known.New is said defs rows h in
-      no_number r.0 n.0 n.1 (no_number_left b self said defs rows h r.2))
+  new_refused declared s e is (inr r) = inr (
+    r.1.0,
+    r.1.1,
+    λ said defs rows h l.
+        let n = seen_as known.New is said defs rows h in
+        no_number r.0 n.0 n.1 (no_number_left b self said defs rows h r.2),
+  )
 
   pub new_known : (made : Constants) (declared : Option DeclaredType) → k ≡ known.New →
       ((b : Nodes) (said : List (Row Said)) (defs : List (Row Definition)) (rows : List (Row Written)) (w : Written) → KnowsConstants b self said defs rows → IsKnownAs b said defs rows word known.New → IfTyped declared (IsTyped b said defs w) → KnowsConstants b made said defs (rows ++ (word, w) ∷ [])) →
@@ -78,10 +82,14 @@ module _ (b now : Nodes) (self : Constants) (word name : List ℕ) (k : Known) (
           (d : DeclaredType) × (declared ≡ Some d) × ((said : List (Row Said)) (defs : List (Row Definition)) (rows : List (Row Written)) → KnowsConstants b self said defs rows → d.scheme.0 < length b.types →
           IsConstantFault said defs rows name (type_tree b d.scheme.0) s (fault.Differ s))
       unfolding IsSeen
-      typed_refused s distinct = (new, some, λ said defs rows h l.
-          let p = seen_as (known.Typed t) is said defs rows h in
-          let more = kept.more_types in
-          other_type refl (type_tree now t.0) p.1 (λ e. distinct p.0 (omega (arith, l, more)) (e ∙ sym (kept.same_types new.scheme.0 l))))
+      typed_refused s distinct = (
+        new,
+        some,
+        λ said defs rows h l.
+            let p = seen_as (known.Typed t) is said defs rows h in
+            let more = kept.more_types in
+            other_type refl (type_tree now t.0) p.1 (λ e. distinct p.0 (omega (arith, l, more)) (e ∙ sym (kept.same_types new.scheme.0 l))),
+      )
 
       pub typed_has : t.0 ≡ new.scheme.0 → (said : List (Row Said)) (defs : List (Row Definition)) (rows : List (Row Written)) (w : Written) → KnowsConstants b self said defs rows → (d : DeclaredType) → declared ≡ Some d → IsTyped b said defs w d →
           HasIts said defs rows (name, w) (type_tree b d.scheme.0)
@@ -122,20 +130,24 @@ pub name_refused : (b now : Nodes) (self here : Constants) (text : List ℕ) (na
     (e ≡ fault.Memory) ⊎ ((d : DeclaredType) × (declared ≡ Some d) × ((said : List (Row Said)) (defs : List (Row Definition)) (rows : List (Row Written)) (w : Written) → KnowsConstants b self said defs rows → IsTyped b said defs w d →
     IsFirstConstant (AreTyped self) text said defs rows names w e))
 name_refused b now self here text names i x declared e l kept known has (inl m) = inl m
-name_refused b now self here text names i x declared e l kept known has (inr r) = inr (r.0, r.1, λ said defs rows w k typed.
-    let d = r.0 in
-    let s = get_or names i x in
-    let more = kept.more_types in
-    let inside = typed.inside in
-    record {
-      count = d.type_vars;
-      tree = type_tree b d.scheme.0;
-      scheme = typed.scheme;
-      k = i;
-      name = s;
-      inside = l;
-      at_name = get_or_default names i s x l;
-      before = λ all. (has said defs rows w k all d r.1 typed).1.have;
-      refused = subst (λ t. IsConstantFault said defs (rows ++ each text w (take i names)) (spelled text s) t s e) (kept.same_types d.scheme.0 inside)
-          (r.2 said defs (rows ++ each text w (take i names)) (known said defs rows w k (λ y f. subst (IsTyped b said defs w) (some_one declared d y r.1 f) typed)) (omega (arith, inside, more)));
-    })
+name_refused b now self here text names i x declared e l kept known has (inr r) = inr (
+  r.0,
+  r.1,
+  λ said defs rows w k typed.
+      let d = r.0 in
+      let s = get_or names i x in
+      let more = kept.more_types in
+      let inside = typed.inside in
+      record {
+        count = d.type_vars;
+        tree = type_tree b d.scheme.0;
+        scheme = typed.scheme;
+        k = i;
+        name = s;
+        inside = l;
+        at_name = get_or_default names i s x l;
+        before = λ all. (has said defs rows w k all d r.1 typed).1.have;
+        refused = subst (λ t. IsConstantFault said defs (rows ++ each text w (take i names)) (spelled text s) t s e) (kept.same_types d.scheme.0 inside)
+            (r.2 said defs (rows ++ each text w (take i names)) (known said defs rows w k (λ y f. subst (IsTyped b said defs w) (some_one declared d y r.1 f) typed)) (omega (arith, inside, more)));
+      },
+)

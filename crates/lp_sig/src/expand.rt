@@ -18,7 +18,7 @@ ghost use Rattle.lp_sig.specs.Abbreviations.{abbreviation_names};
 ghost use Rattle.lp_sig.specs.Types.{Definition, IsTypeOf, IsNode, by_parameters};
 ghost use Rattle.lp_sig.specs.Holding.{given_number, AreParameters, type_done, IsTree, AreDone, HoldsBodies, IfType, IsReplaced, IsNumbered};
 ghost use Rattle.lp_sig.specs.Limits.{AreApart, IsRepeated};
-ghost use Rattle.lp_sig.specs.Refusals.{IsFaultOf, named, typed, headed, words_of};
+ghost use Rattle.lp_sig.specs.Refusals.{IsFaultOf, typed, words_of};
 ghost use Rattle.lp_sig.specs.declared.expand.Made.TheVariants as outcome;
 ghost use Rattle.lp_sig.specs.Schemes.{place};
 ghost use Rattle.lp_sig.specs.Constants.{IsTyped, IsWrittenFault, AreSettled, AllMade, written_in};

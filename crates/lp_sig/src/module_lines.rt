@@ -301,15 +301,7 @@ impl<'a> ModuleLines<'a> {
         parameters: &[Spot],
         raw: &RawType,
     ) -> Result<(), ModuleSigFault> {
-        let outcome = making.bodies.declare_abbreviation(
-            &making.names,
-            &making.uses,
-            self.source,
-            name,
-            parameters,
-            raw,
-        );
-        match outcome {
+        match making.declare_abbreviation(self.source, name, parameters, raw) {
             Ok(()) => Ok(()),
             Err(fault) => Err(self.kinds_blamed(fault)),
         }

@@ -1,36 +1,18 @@
 use Rattle.std.proofs.Common.{◌≡◌}
-use Rattle.lp_sig.specs.Words.{IsConstantsFault}
-use Rattle.lp_sig.specs.Refusals.{IsFaultOf, named}
 use Rattle.lp_sig.specs.Constants.{written_in, AreTyped, IsConstantsRefusal}
 use Rattle.lp_sig.proofs.Blame.{passed_up, for_err, on_ok}
-use Rattle.lp_sig.proofs.Sentences.{constants_long, constants_type, constants_name}
 use Rattle.lp_sig.proofs.Declarations.{refused_long, refused_type, refused_name, declared_all, known_now, as_typed}
 use Rattle.lp_sig.proofs.declare.declare_constants.Goals as goal
-
-pub returns-in_err-check_lengths-clause-why : goal.returns-in_err-check_lengths-clause-why
-returns-in_err-check_lengths-clause-why c = λ said k.
-    passed_up c.from_residual.result c.in_err-check_lengths.field-0.0 (IsConstantsFault c.args.source.now said c.args.spots.now c.args.raw.now) c.from_residual.ensures.1
-    (constants_long c.args.source.now said c.args.spots.now c.args.raw.now c.in_err-check_lengths.field-0.0 c.in_err-check_lengths.ensures.long)
 
 pub returns-in_err-check_lengths-clause-exact : goal.returns-in_err-check_lengths-clause-exact
 returns-in_err-check_lengths-clause-exact c = λ said defs rows k b kc.
     passed_up c.from_residual.result c.in_err-check_lengths.field-0.0 (IsConstantsRefusal (AreTyped c.args.constants.now) c.args.source.now said defs rows c.args.spots.now c.args.raw.now) c.from_residual.ensures.1
     (refused_long c.args.source.now said defs rows c.args.spots.now c.args.raw.now (AreTyped c.args.constants.now) c.in_err-check_lengths.field-0.0 c.in_err-check_lengths.ensures.long)
 
-pub returns-in_err-declared-clause-why : goal.returns-in_err-declared-clause-why
-returns-in_err-declared-clause-why c = λ said k.
-    passed_up c.from_residual-in_err-declared.result c.in_err-declared.field-0.0 (IsConstantsFault c.args.source.now said c.args.spots.now c.args.raw.now) c.from_residual-in_err-declared.ensures.1
-    (constants_type c.args.source.now said c.args.spots.now c.args.raw.now c.in_err-declared.field-0.0 c.in_ok-check_lengths.ensures.taken (c.in_err-declared.ensures.first said k))
-
 pub returns-in_err-declared-clause-exact : goal.returns-in_err-declared-clause-exact
 returns-in_err-declared-clause-exact c = λ said defs rows k b kc.
     passed_up c.from_residual-in_err-declared.result c.in_err-declared.field-0.0 (IsConstantsRefusal (AreTyped c.args.constants.now) c.args.source.now said defs rows c.args.spots.now c.args.raw.now) c.from_residual-in_err-declared.ensures.1
     (refused_type c.args.source.now said defs rows c.args.spots.now c.args.raw.now (AreTyped c.args.constants.now) c.in_err-declared.field-0.0 c.in_ok-check_lengths.ensures.taken (c.in_err-declared.ensures.exact said defs k b))
-
-pub returns-clause-why : goal.returns-clause-why
-returns-clause-why c = λ said k.
-    for_err c.declare_all.result (IsFaultOf c.args.source.now (named c.args.spots.now) ⊥) (IsConstantsFault c.args.source.now said c.args.spots.now c.args.raw.now)
-    (λ e f. constants_name c.args.source.now said c.args.spots.now c.args.raw.now e (c.in_ok-declared.ensures.stand said k) f) c.declare_all.ensures.refused
 
 pub returns-clause-constants : goal.returns-clause-constants
 returns-clause-constants c = on_ok c.declare_all.result _ _ (λ h said defs rows k b kc.

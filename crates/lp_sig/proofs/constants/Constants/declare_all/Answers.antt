@@ -33,10 +33,12 @@ loop-name-preserved c =
       has = λ said defs rows w k all d some t.
           let typed_here = typed_kept b here said defs w d inv.kept t in
           let before = inv.has said defs rows w k all d some t in
-          let known = inv.known said defs rows w k (λ x e. subst (IsTyped b said defs w) (some_one c.args.declared d x some e) t) in
-          (c.in_ok-declare.ensures.typed d some before.0, have_more c.args.source.now said defs rows c.args.names.now w (type_tree b d.scheme.0) i _ c.loop-name-test.true before.1
-          (subst (HasIts said defs (rows ++ each c.args.source.now w (take i c.args.names.now)) _) (inv.kept.same_types d.scheme.0 t.inside)
-          (c.in_ok-declare.ensures.has said defs (rows ++ each c.args.source.now w (take i c.args.names.now)) w known before.0 d some typed_here)));
+          let known = inv.known said defs rows w k (λ x e. subst (IsTyped b said defs w) (some_one c.args.declared d x some e) t) in (
+            c.in_ok-declare.ensures.typed d some before.0,
+            have_more c.args.source.now said defs rows c.args.names.now w (type_tree b d.scheme.0) i _ c.loop-name-test.true before.1
+                (subst (HasIts said defs (rows ++ each c.args.source.now w (take i c.args.names.now)) _) (inv.kept.same_types d.scheme.0 t.inside)
+                (c.in_ok-declare.ensures.has said defs (rows ++ each c.args.source.now w (take i c.args.names.now)) w known before.0 d some typed_here)),
+          );
     }
 
 pub returns-in_err-declare-clause-kept : goal.returns-in_err-declare-clause-kept

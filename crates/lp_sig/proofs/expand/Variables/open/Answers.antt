@@ -10,4 +10,4 @@ returns-clause-empty c = λ name. ap (lookup (λ k. bytes_eq name k.items)) c.ne
 
 pub returns-clause-names : goal.returns-clause-names
 unfolding number_of
-returns-clause-names c = record { opened = refl; next = refl; numbers = λ name e. ap (lookup (λ k. bytes_eq name k.items)) c.new.ensures.empty; }
+returns-clause-names c = record { opened = refl; next = refl; numbers = λ name e. ap (lookup (λ k. bytes_eq name k.items)) c.new.ensures.empty }
