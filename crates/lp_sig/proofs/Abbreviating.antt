@@ -397,7 +397,7 @@ nodes_more ns text nodes i d now new h is so more =
 
 -- what is seen behind so many sentences of a text
 abbrev pub seen_to : Seen → List ℕ → List Declaration → ℕ → Seen
-seen_to z text lines i = record { said = z.said ++ said_in text (take i lines); bodies = z.bodies ++ bodies_in (abbreviation_names (z.said ++ said_in text lines)) text (take i lines) }
+seen_to z text lines i = record { said = z.said ++ said_in text (take i lines); definitions = z.definitions; bodies = z.bodies ++ bodies_in (abbreviation_names (z.said ++ said_in text lines)) text (take i lines) }
 
 bodies_append : (ns : List (List ℕ)) (text : List ℕ) (xs ys : List Declaration) → bodies_in ns text (xs ++ ys) ≡ bodies_in ns text xs ++ bodies_in ns text ys
 bodies_append ns text [] ys = refl
@@ -411,10 +411,12 @@ bodies_more ns text lines i d bodies h is =
     sym (bodies_append ns text (take i lines) (get_or lines i d ∷ [])) ∙ ap (bodies_in ns text) (sym (take_more lines i d h)))
 
 pub nothing_noted : (uses : List (List Way)) (z : Seen) (text : List ℕ) (lines : List Declaration) → KnowsUses uses z → KnowsUses uses (seen_to z text lines 0)
-nothing_noted uses z text lines k = subst (λ a. KnowsUses uses (record { said = a; bodies = z.bodies ++ [] })) (sym (append-nil z.said)) (subst (λ b. KnowsUses uses (record { said = z.said; bodies = b })) (sym (append-nil z.bodies)) k)
+nothing_noted uses z text lines k = subst (λ a. KnowsUses uses (record { said = a; definitions = z.definitions; bodies = z.bodies ++ [] })) (sym (append-nil z.said)) (subst (λ b. KnowsUses uses (record { said = z.said; definitions = z.definitions; bodies = b })) (sym (append-nil z.bodies)) k)
 
 pub all_noted : (uses : List (List Way)) (z : Seen) (text : List ℕ) (lines : List Declaration) (i : ℕ) → length lines ≤ i → KnowsUses uses (seen_to z text lines i) → KnowsUses uses (seen_text z text lines)
-all_noted uses z text lines i h k = subst (λ ls. KnowsUses uses (record { said = z.said ++ said_in text ls; bodies = z.bodies ++ bodies_in (abbreviation_names (z.said ++ said_in text lines)) text ls })) (take_all i lines h) k
+all_noted uses z text lines i h k =
+    let all = subst (λ ls. KnowsUses uses (record { said = z.said ++ said_in text ls; definitions = z.definitions; bodies = z.bodies ++ bodies_in (abbreviation_names (z.said ++ said_in text lines)) text ls })) (take_all i lines h) k in
+    record { are = all.are; has = all.has; said = all.said }
 
 pub line_noted : (names : Names) (z : Seen) (text : List ℕ) (lines : List Declaration) (i : ℕ) (d : Declaration) (old new : List (List Way)) → i < length lines → d ≡ get_or lines i d → Knows names (z.said ++ said_in text lines) → KnowsUses old (seen_to z text lines i) →
     ((y : Seen) (more : List (Row Said)) → Knows names ((y.said ++ said_by text d) ++ more) → KnowsUses old y → KnowsUses new (seen_line (abbreviation_names ((y.said ++ said_by text d) ++ more)) y text d)) → KnowsUses new (seen_to z text lines (i + 1))
@@ -427,8 +429,8 @@ line_noted names z text lines i d old new h is knows k f =
     ap (λ y. y ++ more) step ∙ append_assoc z.said (said_in text (take (i + 1) lines)) more ∙ ap (λ y. z.said ++ y) (sym (said_append text (take (i + 1) lines) (drop (i + 1) lines)) ∙ ap (said_in text) (take-append-drop (i + 1) lines)) in
     let noted = f now more (subst (Knows names) (sym whole) knows) k in
     let named = subst (λ n. KnowsUses new (seen_line n now text d)) (ap abbreviation_names whole) noted in
-    subst (λ a. KnowsUses new (record { said = a; bodies = z.bodies ++ bodies_in ns text (take (i + 1) lines) })) step
-    (subst (λ b. KnowsUses new (record { said = now.said ++ said_by text d; bodies = b })) (bodies_more ns text lines i d z.bodies h is) named)
+    subst (λ a. KnowsUses new (record { said = a; definitions = z.definitions; bodies = z.bodies ++ bodies_in ns text (take (i + 1) lines) })) step
+    (subst (λ b. KnowsUses new (record { said = now.said ++ said_by text d; definitions = z.definitions; bodies = b })) (bodies_more ns text lines i d z.bodies h is) named)
 
 -- a sentence of typeabbrev
 pub abbreviation_noted : (names : Names) (z : Seen) (more : List (Row Said)) (text : List ℕ) (line : Declaration) (name : Spot) (ps : Vec Spot Global) (ty : RawType) (old new : List (List Way)) → line ≡ Abbreviation name ps ty →

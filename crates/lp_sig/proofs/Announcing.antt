@@ -156,7 +156,7 @@ definitions_append : (text : List ℕ) (xs ys : List Declaration) → definition
 definitions_append text [] ys = refl
 definitions_append text (x ∷ xs) ys = ap (λ z. definitions_by text x ++ z) (definitions_append text xs ys) ∙ sym (append_assoc (definitions_by text x) (definitions_in text xs) (definitions_in text ys))
 
-definitions_more : (text : List ℕ) (lines : List Declaration) (i : ℕ) (d : Declaration) (defs : List (Row Definition)) → i < length lines → d ≡ get_or lines i d →
+pub definitions_more : (text : List ℕ) (lines : List Declaration) (i : ℕ) (d : Declaration) (defs : List (Row Definition)) → i < length lines → d ≡ get_or lines i d →
     (defs ++ definitions_in text (take i lines)) ++ definitions_by text d ≡ defs ++ definitions_in text (take (i + 1) lines)
 definitions_more text lines i d defs h is =
     append_assoc defs (definitions_in text (take i lines)) (definitions_by text d) ∙

@@ -16,7 +16,9 @@ pub mod Sentences
 pub mod Judging
 pub mod LongTypes
 pub mod Abbreviating
-pub mod Cycles
+pub mod Leading
+pub mod Seeing
+pub mod NoCircle
 pub mod Copies
 pub mod Instances
 pub mod Meetings
@@ -29,3 +31,16 @@ pub mod OneNumber
 pub mod Finds
 pub mod Differing
 pub mod Numbered
+pub mod AbbreviationEntries
+pub mod Alike
+pub mod WorkedRows
+pub mod Constancy
+pub mod Declaring
+pub mod Listing
+pub mod InOrder
+pub mod DeclaredConstants
+pub mod Renaming
+pub mod Declarations
+pub mod Settled
+pub mod OneScheme
+pub mod Agreeing

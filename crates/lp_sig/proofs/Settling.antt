@@ -1,7 +1,9 @@
 -- A body that is settled is that of its name, and the others stay.
 use Rattle.std.specs.Global.{Global}
-use Rattle.std.proofs.Common.{◌≡◌, ℕ, zero, suc, ◌<◌, List, [], ◌∷◌, length, map, get_or, Option, Some, None, refl, sym, ap, subst, ◌∙◌, inl, inr, arith}
-use Rattle.std.specs.Prelude.{◌⊎◌, IfSome, Vec, slice_set, slice_index_or}
+use Rattle.std.proofs.Common.{◌≡◌, ℕ, zero, suc, ◌+◌, ◌<◌, ◌≤◌, Bool, true, false, ⊎_elim, List, [], ◌∷◌, length, map, get_or, Option, Some, None, refl, sym, ap, subst, ◌∙◌, inl, inr, arith}
+use Rattle.std.specs.Prelude.{◌⊎◌, IfSome, Vec, slice_set, slice_index_or, nat_le}
+use Rattle.std.proofs.lemmas.Bool.{leb-true, leb-false}
+use Rattle.std.proofs.lemmas.List.{length-map}
 use Rattle.lp_base.specs.declared.place.Spot.{Spot}
 use Rattle.lp_term.specs.Nodes.{Nodes, type_tree}
 use Rattle.lp_term.specs.declared.node.TypeId.{TypeId}
@@ -31,6 +33,53 @@ line_same bodies i known at =
 
 pub lines_same : (bodies : List Body) (i : ℕ) (known new : Body) → known ≡ get_or bodies i known → new.line ≡ known.line → map (λ b. b.line) (slice_set bodies i new) ≡ map (λ b. b.line) bodies
 lines_same bodies i known new at same = map_set (λ b. b.line) bodies i new ∙ ap (slice_set (map (λ b. b.line) bodies) i) same ∙ line_same bodies i known at
+
+body_same : (bodies : List Body) (i : ℕ) (known : Body) → known ≡ get_or bodies i known → slice_set (map (λ b. b.body) bodies) i known.body ≡ map (λ b. b.body) bodies
+body_same bodies i known at =
+    sym (map_set (λ b. b.body) bodies i known) ∙ ap (λ b. map (λ b. b.body) (slice_set bodies i b)) at ∙ ap (map (λ b. b.body)) (set_same bodies i known)
+
+pub bodies_same : (bodies : List Body) (i : ℕ) (known new : Body) → known ≡ get_or bodies i known → new.body ≡ known.body → map (λ b. b.body) (slice_set bodies i new) ≡ map (λ b. b.body) bodies
+bodies_same bodies i known new at same = map_set (λ b. b.body) bodies i new ∙ ap (slice_set (map (λ b. b.body) bodies) i) same ∙ body_same bodies i known at
+
+-- lines that are left
+none_set : (xs : List (Option ℕ)) (i j : ℕ) → (slice_index_or xs j None ≡ None) ⊎ (j ≡ i) → slice_index_or (slice_set xs i None) j None ≡ None
+none_set [] i j (inl e) = e
+none_set [] i j (inr e) = refl
+none_set (x ∷ xs) zero zero h = refl
+none_set (x ∷ xs) zero (suc j) (inl e) = e
+none_set (x ∷ xs) zero (suc j) (inr e) = absurd (omega (arith, e))
+none_set (x ∷ xs) (suc i) zero (inl e) = e
+none_set (x ∷ xs) (suc i) zero (inr e) = absurd (omega (arith, e))
+none_set (x ∷ xs) (suc i) (suc j) (inl e) = none_set xs i j (inl e)
+none_set (x ∷ xs) (suc i) (suc j) (inr e) = none_set xs i j (inr (omega (arith, e)))
+
+before_or_at : (i j : ℕ) → j < i + 1 → (j < i) ⊎ (j ≡ i)
+before_or_at zero zero h = inr refl
+before_or_at zero (suc j) h = absurd (omega (arith, h))
+before_or_at (suc i) zero h = inl (omega arith)
+before_or_at (suc i) (suc j) h = ⊎_elim (λ l. inl (omega (arith, l))) (λ e. inr (ap (λ n. suc n) e)) (before_or_at i j (omega (arith, h)))
+
+pub no_line_before : (old new : List Body) (place : ℕ) → map (λ b. b.line) new ≡ slice_set (map (λ b. b.line) old) place None → ((i : ℕ) → i < place → line_at old i ≡ None) → (i : ℕ) → i < place + 1 → line_at new i ≡ None
+no_line_before old new place put before i h =
+    ap (λ l. slice_index_or l i None) put ∙ none_set (map (λ b. b.line) old) place i (⊎_elim (λ l. inl (before i l)) (λ e. inr e) (before_or_at place i h))
+
+past_end : {A : Type 0} (xs : List (Option A)) (i : ℕ) → length xs ≤ i → slice_index_or xs i None ≡ None
+past_end [] i h = refl
+past_end (x ∷ xs) zero h = absurd (omega (arith, h))
+past_end (x ∷ xs) (suc i) h = past_end xs i (omega (arith, h))
+
+pub no_line_past : (first : Vec Body Global) (bodies : List Body) (place : ℕ) → map (λ b. b.body) bodies ≡ map (λ b. b.body) first.items → length first.items ≤ place → ((i : ℕ) → i < place → line_at bodies i ≡ None) → (i : ℕ) → line_at bodies i ≡ None
+no_line_past first bodies place same h before i = by (nat_le place i) refl
+  where
+    by : (t : Bool) → nat_le place i ≡ t → line_at bodies i ≡ None
+    by true t =
+        let l : place ≤ i = leb-true place i t in
+        let a = length-map bodies (λ b. b.body) in
+        let b = length-map first.items (λ b. b.body) in
+        let c = ap length same in
+        let d = length-map bodies (λ b. b.line) in
+        past_end (map (λ b. b.line) bodies) i (omega (arith, l, a, b, c, d, h))
+    by false t = before i (leb-false place i t)
 
 pub lines_stay : (old new : List Body) (said : List (Row Said)) (defs : List (Row Definition)) (text : List ℕ) (declared : ℕ → Option Declaration) → map (λ b. b.line) new ≡ map (λ b. b.line) old → HoldsLines old said defs text declared → HoldsLines new said defs text declared
 lines_stay old new said defs text declared same h = λ name place line s ps ty at is. h name place line s ps ty at (ap (λ l. slice_index_or l place None) (sym same) ∙ is)

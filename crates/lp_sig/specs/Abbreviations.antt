@@ -7,18 +7,14 @@ use Rattle.lp_syntax.specs.declared.text.Declaration.{Declaration}
 use Rattle.lp_syntax.specs.declared.text.Declaration.TheVariants.{Kinds, LocalKinds, Constants, Locals, Abbreviation, Accumulate, AccumSig, Fixities}
 use Rattle.lp_syntax.specs.declared.text.RawTypeNode.{RawTypeNode}
 use Rattle.lp_syntax.specs.declared.text.RawTypeNode.TheVariants.{Word, Arrow}
-use Rattle.lp_syntax.specs.declared.text.SignatureText.{SignatureText}
 use Rattle.lp_sig.specs.Pieces.{spelled, begins_variable}
 use Rattle.lp_sig.specs.Places.{first_place}
 use Rattle.lp_sig.specs.Rows.{Row}
-use Rattle.lp_sig.specs.Said.{Said, an_abbreviation, is_among, names_in, declared_names, abbreviations_among, said_by, said_in, of_steps}
-use Rattle.lp_sig.specs.Knowing.{Knows}
+use Rattle.lp_sig.specs.Said.{Said, an_abbreviation, is_among, names_in, declared_names, abbreviations_among, said_by, said_in}
 use Rattle.lp_sig.specs.Loading.{Way, ways_in, LeadsTo}
-use Rattle.lp_sig.specs.Refusals.{IsFreeOfCircles}
-use Rattle.lp_sig.specs.declared.walk.Step.{Step}
+use Rattle.lp_sig.specs.Types.{Definition, definitions_in}
 use Rattle.lp_sig.specs.declared.names.Meaning.{Meaning}
 use Rattle.lp_sig.specs.declared.names.Meaning.TheVariants.{Kind, Abbreviation as AtPlace}
-use Rattle.lp_sig.specs.declared.making.Making.{Making}
 
 -- the names that are declared as abbreviations, in the order of their first declarations
 abbrev pub abbreviation_names : List (Row Said) → List (List ℕ)
@@ -34,13 +30,15 @@ type_names text (Arrow a b ∷ ns) = type_names text ns
 abbrev pub uses_in : List (List ℕ) → List ℕ → List RawTypeNode → List Way
 uses_in names text nodes = ways_in names text (type_names text nodes)
 
--- what has been seen so far: what is said of names, and for each sentence of typeabbrev its name with what its body uses
+-- what has been seen so far: what is said of names, what abbreviations are declared as, and for each sentence of typeabbrev its
+-- name with what its body uses
 pub record Seen : Type 0 where
   pub said : List (Row Said)
+  pub definitions : List (Row Definition)
   pub bodies : List (Row (List Way))
 
 abbrev pub nothing_seen : Seen
-nothing_seen = record { said = []; bodies = [] }
+nothing_seen = record { said = []; definitions = []; bodies = [] }
 
 abbrev pub bodies_by : List (List ℕ) → List ℕ → Declaration → List (Row (List Way))
 bodies_by names text (Kinds ns n) = []
@@ -58,7 +56,8 @@ bodies_in names text (d ∷ ds) = bodies_by names text d ++ bodies_in names text
 
 -- a text is seen as a whole: its words mean what is said up to its end
 abbrev pub seen_text : Seen → List ℕ → List Declaration → Seen
-seen_text z text lines = record { said = z.said ++ said_in text lines; bodies = z.bodies ++ bodies_in (abbreviation_names (z.said ++ said_in text lines)) text lines }
+seen_text z text lines =
+    record { said = z.said ++ said_in text lines; definitions = z.definitions ++ definitions_in text lines; bodies = z.bodies ++ bodies_in (abbreviation_names (z.said ++ said_in text lines)) text lines }
 
 -- what the body of an abbreviation uses: that of its first declaration
 abbrev pub uses_of : List (Row (List Way)) → List ℕ → List Way
@@ -76,44 +75,6 @@ pub record LeadsBack (names : List (List ℕ)) (uses : List (List Way)) (text : 
   pub word : Contains (uses_in names text nodes) way
   pub leads : LeadsTo uses way.1 place
 
--- a sentence with what its text sees
-pub record Sentence : Type 0 where
-  pub seen : Seen
-  pub text : List ℕ
-  pub line : Declaration
-
-abbrev pub sentence : Seen → List ℕ → Declaration → Sentence
-sentence z text line = record { seen = z; text = text; line = line }
-
-abbrev pub sentences_in : Seen → List ℕ → List Declaration → List Sentence
-sentences_in z text lines = map (sentence (seen_text z text lines) text) lines
-
--- a sentence of typeabbrev whose body leads back to its name
-abbrev pub IsCyclicLine : Seen → List ℕ → Declaration → Spot → Type 0
-IsCyclicLine z text (Kinds ns n) s = ⊥
-IsCyclicLine z text (LocalKinds ns n) s = ⊥
-IsCyclicLine z text (Constants ns ty) s = ⊥
-IsCyclicLine z text (Locals ns ty) s = ⊥
-IsCyclicLine z text (Abbreviation name ps ty) s = (s ≡ name) × LeadsBack (abbreviation_names z.said) (all_uses z) text name ty.nodes.items
-IsCyclicLine z text (Accumulate words) s = ⊥
-IsCyclicLine z text (AccumSig words) s = ⊥
-IsCyclicLine z text (Fixities ns f n) s = ⊥
-
-abbrev pub IsCyclic : Sentence → Spot → Type 0
-IsCyclic x s = IsCyclicLine x.seen x.text x.line s
-
-abbrev pub NoneCyclic : List Sentence → Type 0
-NoneCyclic xs = (x : Sentence) → Contains xs x → (s : Spot) → IsCyclic x s → ⊥
-
--- the first sentence that leads back, at its name
-pub record IsFirstCyclic (xs : List Sentence) (s : Spot) : Type 0 where
-  pub before : List Sentence
-  pub at : Sentence
-  pub behind : List Sentence
-  pub is : xs ≡ before ++ (at ∷ behind)
-  pub cyclic : IsCyclic at s
-  pub none : NoneCyclic before
-
 -- texts one after the other: the bytes and the declarations of each
 abbrev pub Text : Type 0
 Text = List ℕ × List Declaration
@@ -125,49 +86,21 @@ abbrev pub seen_after : Seen → List Text → Seen
 seen_after z [] = z
 seen_after z (t ∷ ts) = seen_after (seen_text z t.0 t.1) ts
 
-abbrev pub sentences_of : Seen → List Text → List Sentence
-sentences_of z [] = []
-sentences_of z (t ∷ ts) = sentences_in z t.0 t.1 ++ sentences_of (seen_text z t.0 t.1) ts
-
-module _ (names : List (String Global)) (sources : List (Vec ℕ Global)) (texts : List SignatureText) where
-  abbrev pub loaded_sentences : List Step → List Sentence
-  loaded_sentences steps = sentences_of nothing_seen (of_steps one_text sources texts steps)
-
-  -- the first sentence of a root, in load order, that leads back
-  pub record IsCyclicFrom (root : ℕ) (s : Spot) : Type 0 where
-    pub steps : List Step
-    pub loaded : IsFreeOfCircles names sources texts root steps
-    pub first : IsFirstCyclic (loaded_sentences steps) s
-
-  -- no sentence of a root leads back
-  pub record IsAcyclic (root : ℕ) : Type 0 where
-    pub steps : List Step
-    pub loaded : IsFreeOfCircles names sources texts root steps
-    pub none : NoneCyclic (loaded_sentences steps)
-
 -- the place of an abbreviation that a name means
 abbrev pub place_meant : Option Meaning → Option ℕ
 place_meant None = None
 place_meant (Some (Kind number arity)) = None
 place_meant (Some (AtPlace place)) = Some place
 
--- one more declaration, where the names of abbreviations are these
+-- one more declaration, where the names of abbreviations are these; of definitions nothing is said
 abbrev pub seen_line : List (List ℕ) → Seen → List ℕ → Declaration → Seen
-seen_line names z text line = record { said = z.said ++ said_by text line; bodies = z.bodies ++ bodies_by names text line }
+seen_line names z text line = record { said = z.said ++ said_by text line; definitions = z.definitions; bodies = z.bodies ++ bodies_by names text line }
 
 abbrev pub one_body : Seen → List ℕ → ℕ → List Way → Seen
-one_body z name p uses = record { said = z.said ++ (name, an_abbreviation p) ∷ []; bodies = z.bodies ++ (name, uses) ∷ [] }
+one_body z name p uses = record { said = z.said ++ (name, an_abbreviation p) ∷ []; definitions = z.definitions; bodies = z.bodies ++ (name, uses) ∷ [] }
 
 -- a list of uses is that of all abbreviations that were seen, each of which has a body
 pub record KnowsUses (uses : List (List Way)) (z : Seen) : Type 0 where
   pub are : uses ≡ all_uses z
   pub has : (n : List ℕ) → is_among n (abbreviation_names z.said) ≡ true → is_among n (names_in z.bodies) ≡ true
   pub said : (n : List ℕ) → is_among n (names_in z.bodies) ≡ true → is_among n (names_in z.said) ≡ true
-
-pub record KnowsAbbreviations (making : Making) (z : Seen) : Type 0 where
-  pub names : Knows making.names z.said
-  pub uses : KnowsUses (map (λ out. out.items) making.uses.ways.items) z
-
--- behind these texts so much more is known
-abbrev pub Follows : Making → Making → List Text → Type 0
-Follows old new ts = (z : Seen) → KnowsAbbreviations old z → KnowsAbbreviations new (seen_after z ts)

@@ -17,10 +17,13 @@ use Rattle.lp_sig.specs.Pieces.{spelled}
 use Rattle.lp_sig.specs.Places.{first_place}
 use Rattle.lp_sig.specs.Rows.{Row, found}
 use Rattle.lp_sig.specs.Said.{Said, is_among, names_in}
-use Rattle.lp_sig.specs.Knowing.{number_of}
-use Rattle.lp_sig.specs.Abbreviations.{abbreviation_names}
-use Rattle.lp_sig.specs.Types.{Definition, IsTypeOf, HasBody, by_parameters, on_arguments, one_or}
+use Rattle.lp_sig.specs.Knowing.{Knows, number_of}
+use Rattle.lp_sig.specs.Loading.{Way}
+use Rattle.lp_sig.specs.Abbreviations.{abbreviation_names, Seen, KnowsUses, Text, seen_after}
+use Rattle.lp_sig.specs.Types.{Definition, IsTypeOf, HasBody, by_parameters, on_arguments, one_or, AreAlike}
 use Rattle.lp_sig.specs.declared.bodies.Body.{Body}
+use Rattle.lp_sig.specs.declared.names.Names.{Names}
+use Rattle.lp_sig.specs.declared.making.Making.{Making}
 use Rattle.lp_sig.specs.declared.names.Meaning.{Meaning}
 use Rattle.lp_sig.specs.declared.names.Meaning.TheVariants as meaning
 use Rattle.lp_sig.specs.declared.expand.Variables.{Variables}
@@ -111,10 +114,26 @@ pub record KnowsBodies (b : Nodes) (bodies : List Body) (said : List (Row Said))
   pub count : length bodies ≡ length (abbreviation_names said)
   pub told : (n : List ℕ) → is_among n (names_in defs) ≡ true → is_among n (names_in said) ≡ true
 
--- a body that has another tree than the first one of its name
-pub record HasOtherBody (said : List (Row Said)) (defs : List (Row Definition)) (text : List ℕ) (name : Spot) (ps : List Spot) (ty : RawType) : Type 0 where
-  pub first : Ty
-  pub here : Ty
-  pub declared : HasBody said defs (spelled text name) first
-  pub is : IsTypeOf said defs text (by_parameters text ps) ty.nodes.items ty.root here
-  pub differ : first ≡ here → ⊥
+-- the bodies between two texts, where no line is at work
+pub record KnowsTypes (b : Nodes) (bodies : List Body) (z : Seen) : Type 0 where
+  pub holds : HoldsBodies b bodies z.said z.definitions
+  pub count : length bodies ≡ length (abbreviation_names z.said)
+  pub told : (n : List ℕ) → is_among n (names_in z.definitions) ≡ true → is_among n (names_in z.said) ≡ true
+  pub no_line : (i : ℕ) → line_at bodies i ≡ None
+
+-- the tables by which a sentence is judged hold all that is seen
+pub record Sees (names : Names) (ways : List (List Way)) (b : Nodes) (bodies : List Body) (z : Seen) : Type 0 where
+  pub known : Knows names z.said
+  pub uses : KnowsUses ways z
+  pub holds : HoldsBodies b bodies z.said z.definitions
+
+-- the same between two texts
+pub record KnowsSeen (making : Making) (z : Seen) : Type 0 where
+  pub names : Knows making.names z.said
+  pub uses : KnowsUses (map (λ out. out.items) making.uses.ways.items) z
+  pub types : KnowsTypes making.bodies.types.bank making.bodies.bodies.items z
+  pub alike : making.missing ≡ false → AreAlike z.said z.definitions z.definitions
+
+-- behind these texts so much more is known
+abbrev pub Follows : Making → Making → List Text → Type 0
+Follows old new ts = (z : Seen) → KnowsSeen old z → KnowsSeen new (seen_after z ts)

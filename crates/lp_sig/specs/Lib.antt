@@ -15,3 +15,10 @@ pub mod Schemes
 pub mod Types
 pub mod Holding
 pub mod Once
+pub mod Faults
+pub mod Entries
+pub mod Worked
+pub mod Constants
+pub mod Ordering
+pub mod Laws
+pub mod Declares

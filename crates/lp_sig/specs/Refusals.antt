@@ -5,17 +5,23 @@ use Rattle.lp_base.specs.declared.limit.Limit.{Limit}
 use Rattle.lp_base.specs.declared.limit.Limit.TheVariants as limit
 use Rattle.lp_base.specs.declared.place.Spot.{Spot}
 use Rattle.lp_syntax.specs.declared.text.Declaration.{Declaration}
-use Rattle.lp_syntax.specs.declared.text.Declaration.TheVariants.{Kinds, LocalKinds, Constants, Locals, Abbreviation, Accumulate, AccumSig, Fixities}
 use Rattle.lp_syntax.specs.declared.text.RawTypeNode.{RawTypeNode}
 use Rattle.lp_syntax.specs.declared.text.RawTypeNode.TheVariants.{Word, Arrow}
 use Rattle.lp_syntax.specs.declared.text.SignatureText.{SignatureText}
 use Rattle.lp_sig.specs.Pieces.{spelled}
 use Rattle.lp_fixity.specs.declared.fixity.Fixity.{Fixity}
 use Rattle.lp_sig.specs.Rows.{Row}
-use Rattle.lp_sig.specs.Words.{IsSentenceFault, AreSound}
-use Rattle.lp_sig.specs.Said.{Said, numbered, firsts, kinds_among, declared_names, said_in, fixities_in, of_steps}
+use Rattle.lp_sig.specs.Faults.{IsSentenceFault, AreSound}
+use Rattle.lp_sig.specs.Types.{AreAlike}
+use Rattle.lp_sig.specs.Constants.{Written, constants_in, AreConstants, HaveNumbers}
+use Rattle.lp_sig.specs.Entries.{AreAbbreviations}
+use Rattle.lp_sig.specs.Abbreviations.{Seen, nothing_seen, one_text, seen_text, seen_after}
+use Rattle.lp_sig.specs.Said.{numbered, firsts, kinds_among, declared_names, fixities_in, of_steps}
 use Rattle.lp_sig.specs.Limits.{AreWithin, IsRepeated}
 use Rattle.lp_sig.specs.Loading.{Way, ways_between, IsLoadOrder, HasNoCircle, IsFirstCircle}
+use Rattle.lp_term.specs.Nodes.{Nodes}
+use Rattle.lp_sig.specs.declared.entries.AbbreviationEntry.{AbbreviationEntry}
+use Rattle.lp_sig.specs.declared.entries.ConstantEntry.{ConstantEntry}
 use Rattle.lp_sig.specs.declared.walk.Step.{Step}
 use Rattle.lp_sig.specs.declared.walk.Step.TheVariants.{Enter, Declare}
 use Rattle.lp_sig.specs.declared.fault.SigFault.{SigFault}
@@ -35,36 +41,12 @@ pub record Parts : Type 0 where
   pub parameters : List Spot
   pub words : List Spot
 
--- names alone; names with a type; an abbreviation
+-- names alone; names with a type
 abbrev pub named : List Spot → Parts
 named names = record { names = names; heads = []; parameters = []; words = [] }
 
 abbrev pub typed : List Spot → List Spot → Parts
 typed names words = record { names = names; heads = []; parameters = []; words = words }
-
-abbrev pub headed : Spot → List Spot → List Spot → Parts
-headed name ps words = record { names = name ∷ []; heads = name ∷ []; parameters = ps; words = words }
-
-abbrev pub parts_of : Declaration → Parts
-parts_of (Kinds names n) = named names.items
-parts_of (LocalKinds names n) = named []
-parts_of (Constants names ty) = typed names.items (words_of ty.nodes.items)
-parts_of (Locals names ty) = named []
-parts_of (Abbreviation name ps ty) = headed name ps.items (words_of ty.nodes.items)
-parts_of (Accumulate words) = named []
-parts_of (AccumSig words) = named []
-parts_of (Fixities names f n) = named []
-
--- a kind has more than 255 arguments, or an abbreviation has more than 255 parameters; of a type nothing is said
-abbrev pub HasManyArguments : Declaration → Type 0
-HasManyArguments (Kinds names n) = 255 < n
-HasManyArguments (LocalKinds names n) = ⊥
-HasManyArguments (Constants names ty) = Unit {0}
-HasManyArguments (Locals names ty) = ⊥
-HasManyArguments (Abbreviation name ps ty) = 255 < length ps.items
-HasManyArguments (Accumulate words) = ⊥
-HasManyArguments (AccumSig words) = ⊥
-HasManyArguments (Fixities names f n) = ⊥
 
 -- the limits that a declaration passes: a name has more than 255 bytes, there are too many names (of which nothing is said), or too
 -- many arguments
@@ -89,19 +71,18 @@ IsFaultOf text p Many (fault.Header s) = ⊥
 abbrev pub IsAt : {A : Type 0} → List A → ℕ → A → Type 0
 IsAt xs i x = (i < length xs) × (slice_index_or xs i x ≡ x)
 
--- why the declarations of a text are refused, where so much is said: none before the one at fault passes a limit, and the names
--- and words of those before it have no fault
-pub record IsFaultAt (text : List ℕ) (said : List (Row Said)) (lines : List Declaration) (e : SigFault) : Type 0 where
+-- why the declarations of a text are refused, where so much is seen up to its end, and these constants were declared before it: none
+-- before the one at fault passes a limit, or has a fault
+pub record IsFaultAt (text : List ℕ) (z : Seen) (rows : List (Row Written)) (lines : List Declaration) (e : SigFault) : Type 0 where
   pub k : ℕ
   pub line : Declaration
   pub at_line : IsAt lines k line
-  pub fault : IsFaultOf text (parts_of line) (HasManyArguments line) e
-  pub why : IsSentenceFault text said line e
+  pub why : IsSentenceFault text z (rows ++ constants_in text (take k lines)) line e
   pub before : AreWithin text (take k lines)
-  pub sound : AreSound text said (take k lines)
+  pub sound : AreSound text z (take k lines)
 
-abbrev pub IsFaultIn : List ℕ → List (Row Said) → List Declaration → SigFault → Type 0
-IsFaultIn text said lines e = (e ≡ fault.Memory) ⊎ IsFaultAt text said lines e
+abbrev pub IsFaultIn : List ℕ → Seen → List (Row Written) → List Declaration → SigFault → Type 0
+IsFaultIn text z rows lines e = (e ≡ fault.Memory) ⊎ IsFaultAt text z rows lines e
 
 -- a refusal for which no spot is to blame: the limit on names, or want of memory
 abbrev pub IsWant : SigFault → Type 0
@@ -115,22 +96,22 @@ pub record IsText (names : List (String Global)) (sources : List (Vec ℕ Global
   pub at_source : IsAt sources i source
   pub at_text : IsAt texts i text
 
--- a declaration of a text is at fault, where so much was said before the text
-pub record IsAtFault (sources : List (Vec ℕ Global)) (texts : List SignatureText) (said : List (Row Said)) (i : ℕ) (e : SigFault) : Type 0 where
+-- a declaration of a text is at fault, where so much was seen before the text
+pub record IsAtFault (sources : List (Vec ℕ Global)) (texts : List SignatureText) (z : Seen) (rows : List (Row Written)) (i : ℕ) (e : SigFault) : Type 0 where
   pub source : Vec ℕ Global
   pub text : SignatureText
   pub at_source : IsAt sources i source
   pub at_text : IsAt texts i text
-  pub fault : IsFaultIn source.items (said ++ said_in source.items text.lines.items) text.lines.items e
+  pub fault : IsFaultIn source.items (seen_text z source.items text.lines.items) rows text.lines.items e
 
--- the declarations of a text are taken: none passes a limit, and their names and words have no fault
-pub record AreTaken (sources : List (Vec ℕ Global)) (texts : List SignatureText) (said : List (Row Said)) (i : ℕ) : Type 0 where
+-- the declarations of a text are taken: none passes a limit, or has a fault
+pub record AreTaken (sources : List (Vec ℕ Global)) (texts : List SignatureText) (z : Seen) (i : ℕ) : Type 0 where
   pub source : Vec ℕ Global
   pub text : SignatureText
   pub at_source : IsAt sources i source
   pub at_text : IsAt texts i text
   pub within : AreWithin source.items text.lines.items
-  pub sound : AreSound source.items (said ++ said_in source.items text.lines.items) text.lines.items
+  pub sound : AreSound source.items (seen_text z source.items text.lines.items) text.lines.items
 
 module _ (names : List (String Global)) (sources : List (Vec ℕ Global)) (texts : List SignatureText) where
   -- the header of a text is its name, or another word
@@ -149,22 +130,33 @@ module _ (names : List (String Global)) (sources : List (Vec ℕ Global)) (texts
     pub fault : e ≡ fault.Header text.header
     pub other : spelled source.items text.header ≢ string_bytes name
 
-  -- a step is refused, or it is taken, where so much was said before
-  abbrev pub IsStepRefused : List (Row Said) → Step → SigFault → Type 0
-  IsStepRefused said (Enter i) e = HasOtherHeader i e
-  IsStepRefused said (Declare i) e = IsAtFault sources texts said i e
+  -- a step is refused, or it is taken, where so much was seen before
+  abbrev pub IsStepRefused : Seen → List (Row Written) → Step → SigFault → Type 0
+  IsStepRefused z rows (Enter i) e = HasOtherHeader i e
+  IsStepRefused z rows (Declare i) e = IsAtFault sources texts z rows i e
 
-  abbrev pub IsStepTaken : List (Row Said) → Step → Type 0
-  IsStepTaken said (Enter i) = HasItsHeader i
-  IsStepTaken said (Declare i) = AreTaken sources texts said i
+  abbrev pub IsStepTaken : Seen → Step → Type 0
+  IsStepTaken z (Enter i) = HasItsHeader i
+  IsStepTaken z (Declare i) = AreTaken sources texts z i
 
-  -- what is said before a step
-  abbrev pub said_before : List Step → ℕ → List (Row Said)
-  said_before steps k = of_steps said_in sources texts (take k steps)
+  -- what is seen behind the first so many steps
+  abbrev pub seen_before : List Step → ℕ → Seen
+  seen_before steps k = seen_after nothing_seen (of_steps one_text sources texts (take k steps))
+
+  -- the constants that the first so many steps declare, and those of all steps
+  abbrev pub constants_before : List Step → ℕ → List (Row Written)
+  constants_before steps k = of_steps constants_in sources texts (take k steps)
+
+  abbrev pub constants_of : List Step → List (Row Written)
+  constants_of steps = of_steps constants_in sources texts steps
+
+  -- what is seen behind all steps
+  abbrev pub seen_in : List Step → Seen
+  seen_in steps = seen_after nothing_seen (of_steps one_text sources texts steps)
 
   -- the first so many steps are taken
   abbrev pub AreStepsTaken : List Step → ℕ → Type 0
-  AreStepsTaken steps n = (k : ℕ) (s : Step) → k < n → IsAt steps k s → IsStepTaken (said_before steps k) s
+  AreStepsTaken steps n = (k : ℕ) (s : Step) → k < n → IsAt steps k s → IsStepTaken (seen_before steps k) s
 
   -- the ways of accum_sig between these texts
   abbrev pub ways : List (List Way)
@@ -188,7 +180,7 @@ module _ (names : List (String Global)) (sources : List (Vec ℕ Global)) (texts
     pub k : ℕ
     pub step : Step
     pub at_step : IsAt steps k step
-    pub refused : IsStepRefused (said_before steps k) step e
+    pub refused : IsStepRefused (seen_before steps k) (constants_before steps k) step e
     pub taken : AreStepsTaken steps k
 
   -- why texts are refused: circles go first; want of memory alone is free
@@ -197,10 +189,15 @@ module _ (names : List (String Global)) (sources : List (Vec ℕ Global)) (texts
   IsRefusal root fault.Memory = Unit {0}
   IsRefusal root e = IsRefusedFrom root e
 
-  -- every step is taken, and these kinds and fixities are declared: the first of each name
-  pub record IsAccepted (root : ℕ) (kinds : List (Row (ℕ × ℕ))) (fixities : List (Row (Fixity × ℕ))) : Type 0 where
+  -- every step is taken, and these kinds, abbreviations, constants and fixities are declared: the first of each name. Each sentence of
+  -- typeabbrev has the body of the first one of its name.
+  pub record IsAccepted (root : ℕ) (kinds : List (Row (ℕ × ℕ))) (fixities : List (Row (Fixity × ℕ))) (bank : Nodes) (abbreviations : List AbbreviationEntry) (constants : List ConstantEntry) : Type 0 where
     pub steps : List Step
     pub loaded : IsFreeOfCircles root steps
     pub taken : AreStepsTaken steps (length steps)
-    pub kinds_are : kinds ≡ numbered 8 (kinds_among (declared_names (of_steps said_in sources texts steps)))
+    pub kinds_are : kinds ≡ numbered 8 (kinds_among (declared_names (seen_in steps).said))
     pub fixities_are : fixities ≡ firsts [] (of_steps fixities_in sources texts steps)
+    pub abbreviations_are : AreAbbreviations bank (seen_in steps) abbreviations
+    pub alike : AreAlike (seen_in steps).said (seen_in steps).definitions (seen_in steps).definitions
+    pub constants_are : AreConstants bank (seen_in steps).said (seen_in steps).definitions (constants_of steps) constants
+    pub numbers : HaveNumbers (constants_of steps)

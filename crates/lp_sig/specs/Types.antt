@@ -1,6 +1,6 @@
 -- The tree of a type as written, under all that was said, with abbreviations replaced by their bodies.
 use Rattle.std.specs.Global.{Global}
-use Rattle.std.specs.Prelude.{◌≡◌, ℕ, zero, suc, ◌<◌, min, List, [], ◌∷◌, ◌++◌, Bool, true, false, Option, Some, None, map, option_map, length, Vec, slice_index_or, if◌then◌else◌}
+use Rattle.std.specs.Prelude.{◌≡◌, ℕ, zero, suc, ◌<◌, min, List, [], ◌∷◌, ◌++◌, Bool, true, false, Option, Some, None, map, option_map, length, Vec, slice_index_or, if◌then◌else◌, All}
 use Rattle.lp_base.specs.declared.place.Spot.{Spot}
 use Rattle.lp_calculus.specs.Types.{Ty, var, con, arrow, tys, instance}
 use Rattle.lp_term.specs.Nodes.{Nodes, type_tree}
@@ -86,3 +86,12 @@ pub record HasBody (said : List (Row Said)) (defs : List (Row Definition)) (name
   pub definition : Definition
   pub declared : found name defs ≡ Some definition
   pub is : IsTypeOf said defs definition.text (by_parameters definition.text definition.parameters) definition.body.nodes.items definition.body.root t
+
+-- what a name is declared as here has the tree of what it is declared as first
+pub record IsAlike (said : List (Row Said)) (defs : List (Row Definition)) (name : List ℕ) (d : Definition) : Type 0 where
+  pub tree : Ty
+  pub first : HasBody said defs name tree
+  pub here : IsTypeOf said defs d.text (by_parameters d.text d.parameters) d.body.nodes.items d.body.root tree
+
+abbrev pub AreAlike : List (Row Said) → List (Row Definition) → List (Row Definition) → Type 0
+AreAlike said defs rows = All (λ r. IsAlike said defs r.0 r.1) rows

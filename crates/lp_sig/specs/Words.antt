@@ -2,8 +2,6 @@
 use Rattle.std.specs.Prelude.{◌≡◌, ◌≢◌, ◌≤◌, ◌<◌, ℕ, suc, nat_eq, nat_le, List, ◌++◌, Option, Some, None, Bool, true, map, take, length, All, Contains, if◌then◌else◌, is_some, option_map, IfSome, slice_index_or}
 use Rattle.lp_base.specs.declared.limit.Limit.TheVariants as limit
 use Rattle.lp_base.specs.declared.place.Spot.{Spot}
-use Rattle.lp_syntax.specs.declared.text.Declaration.{Declaration}
-use Rattle.lp_syntax.specs.declared.text.Declaration.TheVariants.{Kinds, LocalKinds, Constants, Locals, Abbreviation, Accumulate, AccumSig, Fixities}
 use Rattle.lp_syntax.specs.declared.text.RawType.{RawType}
 use Rattle.lp_syntax.specs.declared.text.RawTypeNode.{RawTypeNode}
 use Rattle.lp_syntax.specs.declared.text.RawTypeNode.TheVariants.{Word, Arrow}
@@ -11,7 +9,7 @@ use Rattle.lp_sig.specs.Pieces.{spelled, begins_variable}
 use Rattle.lp_sig.specs.Rows.{Row, found}
 use Rattle.lp_sig.specs.Standard.{standard_kinds}
 use Rattle.lp_sig.specs.Said.{Said, a_kind, an_abbreviation, is_among, numbered, kinds_among, declared_names}
-use Rattle.lp_sig.specs.Limits.{IsShort, AreShort, AreApart, IsRepeated}
+use Rattle.lp_sig.specs.Limits.{IsShort, AreShort, AreApart}
 use Rattle.lp_sig.specs.declared.fault.SigFault.{SigFault}
 use Rattle.lp_sig.specs.declared.fault.SigFault.TheVariants as fault
 
@@ -95,7 +93,6 @@ pub data IsNameFault (text : List ℕ) (said : List (Row Said)) (m : Said) (s : 
   long : {e : SigFault} → e ≡ fault.Limit limit.NameLength → 255 < length (spelled text s) → IsNameFault text said m s e
   other : {e : SigFault} → e ≡ fault.Differ s → IsShort text s → meaning_of (spelled text s) said ≢ Some m → IsNameFault text said m s e
   many : {e : SigFault} → e ≡ fault.Limit limit.Names → IsMeant text said m s → (n : ℕ) → number_said (spelled text s) said ≡ Some n → 65535 ≤ n → IsNameFault text said m s e
-  memory : {e : SigFault} → e ≡ fault.Memory → IsNameFault text said m s e
 
 -- the first of these names that is refused
 pub record IsFirstName (text : List ℕ) (said : List (Row Said)) (m : Said) (names : List Spot) (e : SigFault) : Type 0 where
@@ -146,38 +143,3 @@ IsHead text said name ps = IsMeant text said (an_abbreviation (length ps)) name 
 
 abbrev pub parameters_of : List ℕ → List Spot → Option (List (List ℕ))
 parameters_of text ps = Some (map (λ p. spelled text p) ps)
-
--- why an abbreviation is refused: its name, then a circle, then a parameter that stands a second time, then their number, then a
--- word of its body, then another body
-pub data IsAbbreviationFault (text : List ℕ) (said : List (Row Said)) (name : Spot) (ps : List Spot) (nodes : List RawTypeNode) : SigFault → Type 0 where
-  a_name : {e : SigFault} → IsNameFault text said (an_abbreviation (length ps)) name e → IsAbbreviationFault text said name ps nodes e
-  circle : {e : SigFault} → e ≡ fault.CyclicAbbreviation name → IsMeant text said (an_abbreviation (length ps)) name → IsAbbreviationFault text said name ps nodes e
-  repeated : {e : SigFault} → (s : Spot) → e ≡ fault.Differ s → IsMeant text said (an_abbreviation (length ps)) name → IsRepeated text ps s → IsAbbreviationFault text said name ps nodes e
-  arguments : {e : SigFault} → e ≡ fault.Limit limit.Arguments → IsMeant text said (an_abbreviation (length ps)) name → AreApart text ps → 255 < length ps → IsAbbreviationFault text said name ps nodes e
-  a_word : {e : SigFault} → IsHead text said name ps → IsFirstFault text said (parameters_of text ps) nodes e → IsAbbreviationFault text said name ps nodes e
-  other : {e : SigFault} → e ≡ fault.Differ name → IsHead text said name ps → WordsStand text said (parameters_of text ps) nodes → IsAbbreviationFault text said name ps nodes e
-  memory : {e : SigFault} → e ≡ fault.Memory → IsAbbreviationFault text said name ps nodes e
-
--- why a sentence is refused, and what holds of one that is taken
-abbrev pub IsSentenceFault : List ℕ → List (Row Said) → Declaration → SigFault → Type 0
-IsSentenceFault text said (Kinds names n) e = IsKindsFault text said names.items n e
-IsSentenceFault text said (LocalKinds names n) e = e ≡ fault.Memory
-IsSentenceFault text said (Constants names ty) e = IsConstantsFault text said names.items ty e
-IsSentenceFault text said (Locals names ty) e = e ≡ fault.Memory
-IsSentenceFault text said (Abbreviation name ps ty) e = IsAbbreviationFault text said name ps.items ty.nodes.items e
-IsSentenceFault text said (Accumulate words) e = e ≡ fault.Memory
-IsSentenceFault text said (AccumSig words) e = e ≡ fault.Memory
-IsSentenceFault text said (Fixities names f n) e = e ≡ fault.Memory
-
-abbrev pub IsSound : List ℕ → List (Row Said) → Declaration → Type 0
-IsSound text said (Kinds names n) = AreMeant text said (a_kind n) names.items × AreNumbered text said names.items
-IsSound text said (LocalKinds names n) = Unit {0}
-IsSound text said (Constants names ty) = IsSoundType text said ty
-IsSound text said (Locals names ty) = Unit {0}
-IsSound text said (Abbreviation name ps ty) = IsHead text said name ps.items × WordsStand text said (parameters_of text ps.items) ty.nodes.items
-IsSound text said (Accumulate words) = Unit {0}
-IsSound text said (AccumSig words) = Unit {0}
-IsSound text said (Fixities names f n) = Unit {0}
-
-abbrev pub AreSound : List ℕ → List (Row Said) → List Declaration → Type 0
-AreSound text said lines = All (IsSound text said) lines

@@ -1,8 +1,8 @@
 // The types so far, with the bodies of abbreviations at the places of their names.
-ghost use Rattle.std.specs.Prelude.{◌≡◌, ◌<◌, ◌++◌, ◌∷◌, [], length, Some, true, false, OnOk};
+ghost use Rattle.std.specs.Prelude.{◌≡◌, ◌<◌, ◌++◌, ◌∷◌, ℕ, [], length, map, slice_set, Some, None, true, false, OnOk};
 ghost use Rattle.lp_term.specs.Nodes.{type_tree};
 ghost use Rattle.lp_term.specs.declared.node.TypeId.{TypeId};
-ghost use Rattle.lp_sig.specs.Holding.{body_of};
+ghost use Rattle.lp_sig.specs.Holding.{body_of, line_at};
 
 use crate::store::Types;
 use lp_base::Memory;
@@ -25,7 +25,9 @@ pub(crate) struct Bodies {
 }
 
 impl Bodies {
-    pub(crate) fn new(alloc: Global) -> Bodies {
+    pub(crate) fn new(alloc: Global) -> Bodies
+        ensures { result.bodies.items ≡ [] }
+    {
         Bodies {
             alloc,
             types: Types::new(alloc),
@@ -33,7 +35,9 @@ impl Bodies {
         }
     }
 
-    pub(crate) fn into_bank(self) -> Bank {
+    pub(crate) fn into_bank(self) -> Bank
+        ensures { result ≡ self.types.bank }
+    {
         self.types.into_bank()
     }
 
@@ -67,12 +71,35 @@ impl Bodies {
         !self.types.are_equal(known, new)
     }
 
+    // Whether both the body of an abbreviation and this one have a type.
+    pub(crate) fn are_settled(&self, place: usize, body: Option<TypeId>) -> bool
+        ensures { result ≡ true → (known : TypeId) × (new : TypeId) × (body_of self.now.bodies.items place ≡ Some known) × (body ≡ Some new) }
+    {
+        match (self.body_at(place), body) {
+            (Some(_), Some(_)) => true,
+            (Some(_), None) => false,
+            (None, _) => false,
+        }
+    }
+
+    fn leave_at(&mut self, place: usize)
+        ensures types { self.new.types ≡ self.old.types }
+        ensures bodies { map (λ b. b.body) self.new.bodies.items ≡ map (λ b. b.body) self.old.bodies.items }
+        ensures lines { map (λ b. b.line) self.new.bodies.items ≡ slice_set (map (λ b. b.line) self.old.bodies.items) place None }
+    {
+        if let Some(known) = self.bodies.get_mut(place) {
+            known.line = None;
+        }
+    }
+
     // Behind a text its lines mean nothing more.
-    pub(crate) fn leave(&mut self, from: usize) {
-        for place in from..self.bodies.len() {
-            if let Some(known) = self.bodies.get_mut(place) {
-                known.line = None;
-            }
+    pub(crate) fn leave(&mut self)
+        ensures types { self.new.types ≡ self.old.types }
+        ensures bodies { map (λ b. b.body) self.new.bodies.items ≡ map (λ b. b.body) self.old.bodies.items }
+        ensures lines { (i : ℕ) → line_at self.new.bodies.items i ≡ None }
+    {
+        for place in 0..self.bodies.len() {
+            self.leave_at(place);
         }
     }
 }

@@ -1,9 +1,17 @@
 // The constants so far, each with the type of its first declaration.
-ghost use Rattle.std.specs.Prelude.{◌≡◌, [], ◌∷◌, IfErr, IfOk};
-ghost use Rattle.lp_sig.specs.Limits.{IsShort, AreShort};
+ghost use Rattle.std.specs.Prelude.{◌≡◌, ◌<◌, ◌≤◌, ◌+◌, ◌++◌, ◌⊎◌, ℕ, List, [], ◌∷◌, length, Some, None, IfErr, IfOk, IfSome, OnOk};
+ghost use Rattle.lp_base.specs.declared.limit.Limit.TheVariants as limit;
+ghost use Rattle.lp_term.specs.Nodes.{Nodes, Extends, type_tree};
+ghost use Rattle.lp_sig.specs.declared.fault.SigFault.TheVariants as fault;
+ghost use Rattle.lp_sig.specs.Pieces.{spelled};
+ghost use Rattle.lp_sig.specs.Rows.{Row, found};
+ghost use Rattle.lp_sig.specs.Standard.{standard_constants};
+ghost use Rattle.lp_sig.specs.Said.{Said, each};
+ghost use Rattle.lp_sig.specs.Types.{Definition};
+ghost use Rattle.lp_sig.specs.Constants.{Written, IsNoted, IsConstant, IsTyped, IfTyped, KnowsConstants, AreTyped, IsKnownAs, AreConstants, HaveNumbers, HasIts, HaveIts, IsConstantFault, IsFirstConstant};
 ghost use Rattle.lp_sig.specs.Refusals.{IsFaultOf, IsWant, named};
+ghost use Rattle.lp_sig.specs.declared.constants.Known.TheVariants as known;
 
-use crate::declare::check_length;
 use crate::entries::ConstantEntry;
 use crate::fault::SigFault;
 use crate::pieces::spelled_at;
@@ -14,15 +22,87 @@ use lp_base::{Limit, Memory, Spot};
 use lp_term::TypeId;
 use std::alloc::Global;
 
+/// A declared type, in which the type variables are those below `type_vars`.
+#[derive(Clone, Copy)]
+pub(crate) struct DeclaredType {
+    pub type_vars: u8,
+    pub scheme: TypeId,
+}
+
+// A constant with the type of its first declaration, which is missing where an abbreviation in it has a fault.
+#[derive(Drop)]
+pub(crate) struct Constant {
+    pub name: Vec<u8>,
+    pub declared: Option<DeclaredType>,
+}
+
 #[derive(Drop)]
 pub(crate) struct Constants {
     alloc: Global,
-    constants: Vec<ConstantEntry>,
+    constants: Vec<Constant>,
     places: Places,
 }
 
+// What is known of a name.
+#[derive(Clone, Copy)]
+pub(crate) enum Known {
+    New,
+    // Its type has a fault.
+    Untyped,
+    Typed(TypeId),
+}
+
+// The number of the constant at a place, if it has one.
+fn constant_number(place: usize) -> Option<u32>
+    ensures some { IfSome result (λ n. (n ≡ 32 + place) × (32 + place < 65535)) }
+    ensures none { result ≡ None → 65535 ≤ 32 + place }
+{
+    let number = FIRST_CONSTANT.saturating_add(place.min(u32::MAX as usize) as u32);
+    if number >= END_OF_NUMBERS {
+        return None;
+    }
+    Some(number)
+}
+
+// A constant with a type wants a number.
+fn check_number(declared: Option<DeclaredType>, place: usize) -> Result<(), SigFault>
+    ensures refused { IfErr result (λ e. (e ≡ fault.Limit limit.Names) × ((d : DeclaredType) × (declared ≡ Some d)) × (65535 ≤ 32 + place)) }
+    ensures taken { IfOk result (λ done. IfTyped declared (λ d. 32 + place < 65535)) }
+{
+    match declared {
+        None => Ok(()),
+        Some(_) => match constant_number(place) {
+            Some(_) => Ok(()),
+            None => Err(SigFault::Limit(Limit::Names)),
+        },
+    }
+}
+
+// The entry of the constant at a place. One without a type or a number was refused where it is declared.
+fn entry_of(alloc: Global, constant: &Constant, place: usize) -> Result<ConstantEntry, Memory>
+    ensures is { IfOk result (λ e. (b : Nodes) (said : List (Row Said)) (defs : List (Row Definition)) (row : Row Written) → IsNoted b said defs (32 + place) row constant.now → IsConstant b said defs (32 + place) row e) }
+    ensures number { IfOk result (λ e. 32 + place < 65535) }
+{
+    let Some(declared) = constant.declared else {
+        return Err(Memory);
+    };
+    let Some(number) = constant_number(place) else {
+        return Err(Memory);
+    };
+    let name = Vec::from_slice(alloc, constant.name.as_slice())?;
+    Ok(ConstantEntry {
+        name,
+        number,
+        type_vars: declared.type_vars,
+        scheme: declared.scheme,
+    })
+}
+
 impl Constants {
-    pub(crate) fn new(alloc: Global) -> Constants {
+    pub(crate) fn new(alloc: Global) -> Constants
+        ensures typed { AreTyped result }
+        ensures known { (b : Nodes) (said : List (Row Said)) (defs : List (Row Definition)) → KnowsConstants b result said defs [] }
+    {
         Constants {
             alloc,
             constants: Vec::new(alloc),
@@ -30,65 +110,85 @@ impl Constants {
         }
     }
 
-    pub(crate) fn into_entries(self) -> Vec<ConstantEntry> {
-        self.constants
+    // The entries of a signature.
+    pub(crate) fn entries(&self) -> Result<Vec<ConstantEntry>, Memory>
+        ensures are { IfOk result (λ entries. (b : Nodes) (said : List (Row Said)) (defs : List (Row Definition)) (rows : List (Row Written)) → KnowsConstants b self.now said defs rows → AreConstants b said defs rows entries.items) }
+        ensures numbers { IfOk result (λ entries. (b : Nodes) (said : List (Row Said)) (defs : List (Row Definition)) (rows : List (Row Written)) → KnowsConstants b self.now said defs rows → HaveNumbers rows) }
+    {
+        let mut entries = Vec::new(self.alloc);
+        for (place, constant) in self.constants.iter().enumerate() {
+            let entry = entry_of(self.alloc, constant, place)?;
+            entries.push(entry)?;
+        }
+        Ok(entries)
     }
 
-    pub(crate) fn add(&mut self, word: &[u8], type_vars: u8, scheme: TypeId) -> Result<(), SigFault>
-        ensures { IfErr result IsWant }
+    // A constant behind the others. One with a type wants a number.
+    pub(crate) fn add(
+        &mut self,
+        word: &[u8],
+        declared: Option<DeclaredType>,
+    ) -> Result<(), SigFault>
+        ensures want { IfErr result IsWant }
+        ensures full { IfErr result (λ e. (e ≡ fault.Memory) ⊎ ((e ≡ fault.Limit limit.Names) × ((d : DeclaredType) × (declared ≡ Some d)) × (65535 ≤ 32 + length self.old.constants.items))) }
+        ensures added { OnOk result ((b : Nodes) (said : List (Row Said)) (defs : List (Row Definition)) (rows : List (Row Written)) (w : Written) → KnowsConstants b self.old said defs rows → (found word.now standard_constants ≡ None) × (found word.now rows ≡ None) → IfTyped declared (IsTyped b said defs w) → KnowsConstants b self.new said defs (rows ++ (word.now, w) ∷ [])) }
+        ensures typed { OnOk result ((d : DeclaredType) → declared ≡ Some d → AreTyped self.old → AreTyped self.new) }
+        ensures room { OnOk result (IfTyped declared (λ d. 32 + length self.old.constants.items < 65535)) }
     {
         let place = self.constants.len();
-        let number = FIRST_CONSTANT.saturating_add(place.min(u32::MAX as usize) as u32);
-        if number >= END_OF_NUMBERS {
-            return Err(SigFault::Limit(Limit::Names));
-        }
+        check_number(declared, place)?;
         let name = Vec::from_slice(self.alloc, word)?;
-        self.constants.push(ConstantEntry {
-            name,
-            number,
-            type_vars,
-            scheme,
-        })?;
+        self.constants.push(Constant { name, declared })?;
         self.places.add(word, place)?;
         Ok(())
     }
 
-    // The type with which a constant was declared before.
-    pub(crate) fn known_scheme(
-        &self,
-        types: &mut Types,
-        word: &[u8],
-    ) -> Result<Option<TypeId>, Memory> {
+    // The type with which a name was declared before.
+    pub(crate) fn known_as(&self, types: &mut Types, word: &[u8]) -> Result<Known, Memory>
+        ensures kept { Extends types.old.bank types.new.bank }
+        ensures is { IfOk result (λ k. (said : List (Row Said)) (defs : List (Row Definition)) (rows : List (Row Written)) → KnowsConstants types.old.bank self.now said defs rows → IsKnownAs types.new.bank said defs rows word.now k) }
+        ensures untyped { IfOk result (λ k. k ≡ known.Untyped → AreTyped self.now → ⊥) }
+    {
         if let Some(number) = standard_constant(word) {
             let known = standard_type(types, number)?;
-            return Ok(Some(known));
+            return Ok(Known::Typed(known));
         }
         let Some(place) = self.places.of(word) else {
-            return Ok(None);
+            return Ok(Known::New);
         };
-        match self.constants.get(place) {
-            Some(known) => Ok(Some(known.scheme)),
-            None => Ok(None),
+        let Some(constant) = self.constants.get(place) else {
+            return Err(Memory);
+        };
+        match constant.declared {
+            Some(declared) => Ok(Known::Typed(declared.scheme)),
+            None => Ok(Known::Untyped),
         }
     }
 
+    // A name that was declared before has the same type; a new one gets the next number.
     pub(crate) fn declare(
         &mut self,
         types: &mut Types,
         source: &[u8],
         name: Spot,
-        type_vars: u8,
-        scheme: TypeId,
+        declared: Option<DeclaredType>,
     ) -> Result<(), SigFault>
         ensures refused { IfErr result (IsFaultOf source.now (named (name ∷ [])) ⊥) }
-        ensures taken { IfOk result (λ done. IsShort source.now name) }
+        ensures kept { Extends types.old.bank types.new.bank }
+        ensures why { IfErr result (λ e. (e ≡ fault.Memory) ⊎ ((d : DeclaredType) × (declared ≡ Some d) × ((said : List (Row Said)) (defs : List (Row Definition)) (rows : List (Row Written)) → KnowsConstants types.old.bank self.old said defs rows → d.scheme.0 < length types.old.bank.types → IsConstantFault said defs rows (spelled source.now name) (type_tree types.old.bank d.scheme.0) name e))) }
+        ensures known { OnOk result ((said : List (Row Said)) (defs : List (Row Definition)) (rows : List (Row Written)) (w : Written) → KnowsConstants types.old.bank self.old said defs rows → IfTyped declared (IsTyped types.old.bank said defs w) → KnowsConstants types.new.bank self.new said defs (rows ++ (spelled source.now name, w) ∷ [])) }
+        ensures typed { OnOk result ((d : DeclaredType) → declared ≡ Some d → AreTyped self.old → AreTyped self.new) }
+        ensures has { OnOk result ((said : List (Row Said)) (defs : List (Row Definition)) (rows : List (Row Written)) (w : Written) → KnowsConstants types.old.bank self.old said defs rows → AreTyped self.old → (d : DeclaredType) → declared ≡ Some d → IsTyped types.old.bank said defs w d → HasIts said defs rows (spelled source.now name, w) (type_tree types.old.bank d.scheme.0)) }
     {
-        check_length(source, name)?;
         let word = spelled_at(source, name);
-        match self.known_scheme(types, word)? {
-            None => self.add(word, type_vars, scheme),
-            Some(known) => {
-                if !types.are_equal(known, scheme) {
+        match self.known_as(types, word)? {
+            Known::New => self.add(word, declared),
+            Known::Untyped => Ok(()),
+            Known::Typed(known) => {
+                let Some(new) = declared else {
+                    return Ok(());
+                };
+                if !types.are_equal(known, new.scheme) {
                     return Err(SigFault::Differ(name));
                 }
                 Ok(())
@@ -101,14 +201,17 @@ impl Constants {
         types: &mut Types,
         source: &[u8],
         names: &[Spot],
-        type_vars: u8,
-        scheme: TypeId,
+        declared: Option<DeclaredType>,
     ) -> Result<(), SigFault>
         ensures refused { IfErr result (IsFaultOf source.now (named names.now) ⊥) }
-        ensures taken { IfOk result (λ done. AreShort source.now names.now) }
+        ensures kept { Extends types.old.bank types.new.bank }
+        ensures why { IfErr result (λ e. (e ≡ fault.Memory) ⊎ ((d : DeclaredType) × (declared ≡ Some d) × ((said : List (Row Said)) (defs : List (Row Definition)) (rows : List (Row Written)) (w : Written) → KnowsConstants types.old.bank self.old said defs rows → IsTyped types.old.bank said defs w d → IsFirstConstant (AreTyped self.old) source.now said defs rows names.now w e))) }
+        ensures known { OnOk result ((said : List (Row Said)) (defs : List (Row Definition)) (rows : List (Row Written)) (w : Written) → KnowsConstants types.old.bank self.old said defs rows → IfTyped declared (IsTyped types.old.bank said defs w) → KnowsConstants types.new.bank self.new said defs (rows ++ each source.now w names.now)) }
+        ensures typed { OnOk result ((d : DeclaredType) → declared ≡ Some d → AreTyped self.old → AreTyped self.new) }
+        ensures has { OnOk result ((said : List (Row Said)) (defs : List (Row Definition)) (rows : List (Row Written)) (w : Written) → KnowsConstants types.old.bank self.old said defs rows → AreTyped self.old → (d : DeclaredType) → declared ≡ Some d → IsTyped types.old.bank said defs w d → HaveIts source.now said defs rows names.now w (type_tree types.old.bank d.scheme.0)) }
     {
         for name in names {
-            self.declare(types, source, *name, type_vars, scheme)?;
+            self.declare(types, source, *name, declared)?;
         }
         Ok(())
     }

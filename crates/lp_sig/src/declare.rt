@@ -1,21 +1,24 @@
 // What the declarations of a text say, line by line.
-ghost use Rattle.std.specs.Prelude.{◌<◌, ◌≤◌, ◌≡◌, ◌++◌, ℕ, List, [], ◌∷◌, length, Contains, IfErr, IfOk, OnOk, Some, map};
+ghost use Rattle.std.specs.Prelude.{◌<◌, ◌≤◌, ◌≡◌, ◌++◌, ℕ, List, [], ◌∷◌, length, Contains, IfErr, IfOk, OnOk, Some, map, true, false};
 ghost use Rattle.lp_base.specs.declared.limit.Limit.TheVariants as limit;
 ghost use Rattle.lp_sig.specs.declared.fault.SigFault.TheVariants as fault;
 ghost use Rattle.lp_sig.specs.Pieces.{spelled};
-ghost use Rattle.lp_sig.specs.Refusals.{IsFaultOf, IsFaultIn, named, typed, headed, parts_of, words_of, HasManyArguments};
+ghost use Rattle.lp_sig.specs.Refusals.{IsFaultOf, IsFaultIn, named};
 ghost use Rattle.lp_fixity.specs.declared.fixity.Fixity.{Fixity as IsFixity};
 ghost use Rattle.lp_sig.specs.Rows.{Row};
-ghost use Rattle.lp_sig.specs.Said.{Said, a_kind, an_abbreviation, said_in, fixities_by, fixities_in};
-ghost use Rattle.lp_sig.specs.Words.{IsNameFault, IsMeant, AreMeant, IsNumbered, AreNumbered, IsKindsFault, IsConstantsFault, IsAbbreviationFault, IsHead, IsSoundType, WordsStand, parameters_of, IsSentenceFault, IsSound, AreSound};
+ghost use Rattle.lp_sig.specs.Said.{Said, a_kind, an_abbreviation, each, fixities_by, fixities_in};
+ghost use Rattle.lp_sig.specs.Words.{IsNameFault, IsMeant, AreMeant, IsNumbered, AreNumbered, IsKindsFault, IsSoundType};
+ghost use Rattle.lp_sig.specs.Faults.{IsAbbreviationFault, IsSoundAbbreviation, IsSentenceFault, IsSound, AreSound};
+ghost use Rattle.lp_sig.specs.Types.{definitions_by, IsAlike, AreAlike};
 ghost use Rattle.lp_sig.specs.Knowing.{Knows, KnowsOperators};
 ghost use Rattle.lp_sig.specs.Limits.{IsShort, AreShort, AreApart, IsWithin, AreWithin};
 ghost use Rattle.lp_base.specs.declared.place.Spot.{Spot};
+ghost use Rattle.lp_term.specs.Nodes.{Extends};
 ghost use Rattle.lp_sig.specs.Places.{first_place};
-ghost use Rattle.lp_sig.specs.Abbreviations.{abbreviation_names, Seen, seen_text, all_uses, KnowsUses, LeadsBack, IsCyclic, sentence, sentences_in, NoneCyclic, IsFirstCyclic};
-ghost use Rattle.lp_sig.specs.Words.{IsHead};
+ghost use Rattle.lp_sig.specs.Abbreviations.{abbreviation_names, Seen, seen_text};
+ghost use Rattle.lp_sig.specs.Holding.{Sees, KnowsSeen, HoldsBodies};
 ghost use Rattle.lp_sig.specs.Types.{Definition};
-ghost use Rattle.lp_sig.specs.Holding.{HoldsBodies, HasOtherBody};
+ghost use Rattle.lp_sig.specs.Constants.{Written, written_in, constants_by, constants_in, KnowsConstants, AreSettled, AreTyped, AreDeclared, IsConstantsRefusal};
 
 use crate::bodies::Bodies;
 use crate::constants::Constants;
@@ -56,7 +59,6 @@ pub(crate) fn check_lengths(source: &[u8], names: &[Spot]) -> Result<(), SigFaul
 impl Names {
     // A kind has the count of arguments with which it was announced first.
     pub(crate) fn declare_kind(&self, source: &[u8], name: Spot, arity: u32) -> Result<(), SigFault>
-        ensures refused { IfErr result (IsFaultOf source.now (named (name ∷ [])) ⊥) }
         ensures why { (said : List (Row Said)) → Knows self.now said → IfErr result (IsNameFault source.now said (a_kind arity) name) }
         ensures taken { IfOk result (λ done. IsShort source.now name) }
         ensures meant { (said : List (Row Said)) → Knows self.now said → IfOk result (λ done. IsMeant source.now said (a_kind arity) name × IsNumbered source.now said name) }
@@ -83,7 +85,6 @@ impl Names {
         names: &[Spot],
         arity: u32,
     ) -> Result<(), SigFault>
-        ensures refused { IfErr result (IsFaultOf source.now (named names.now) (255 < arity)) }
         ensures why { (said : List (Row Said)) → Knows self.now said → IfErr result (IsKindsFault source.now said names.now arity) }
         ensures meant { (said : List (Row Said)) → Knows self.now said → IfOk result (λ done. AreMeant source.now said (a_kind arity) names.now × AreNumbered source.now said names.now) }
         ensures taken { IfOk result (λ done. AreShort source.now names.now × (arity ≤ 255)) }
@@ -104,7 +105,6 @@ impl Names {
         name: Spot,
         parameters: usize,
     ) -> Result<usize, SigFault>
-        ensures refused { IfErr result (IsFaultOf source.now (named (name ∷ [])) ⊥) }
         ensures why { (said : List (Row Said)) → Knows self.now said → IfErr result (IsNameFault source.now said (an_abbreviation parameters) name) }
         ensures taken { IfOk result (λ done. IsShort source.now name) }
         ensures meant { (said : List (Row Said)) → Knows self.now said → IfOk result (λ place. IsMeant source.now said (an_abbreviation parameters) name) }
@@ -127,7 +127,7 @@ impl Names {
     }
 }
 
-// A fault of the type goes before names that are declared otherwise, since there is no type to compare.
+// A long name goes first, then a fault of the type, since without it there is no type to compare.
 pub(crate) fn declare_constants(
     names: &Names,
     bodies: &mut Bodies,
@@ -136,24 +136,22 @@ pub(crate) fn declare_constants(
     spots: &[Spot],
     raw: &RawType,
 ) -> Result<(), SigFault>
-    ensures refused { IfErr result (IsFaultOf source.now (typed spots.now (words_of raw.now.nodes.items)) (Unit {0})) }
-    ensures why { (said : List (Row Said)) → Knows names.now said → IfErr result (IsConstantsFault source.now said spots.now raw.now) }
     ensures taken { IfOk result (λ done. AreShort source.now spots.now) }
     ensures stand { (said : List (Row Said)) → Knows names.now said → IfOk result (λ done. IsSoundType source.now said raw.now) }
+    ensures kept { Extends bodies.old.types.bank bodies.new.types.bank }
+    ensures bodies { bodies.new.bodies ≡ bodies.old.bodies }
+    ensures constants { OnOk result ((said : List (Row Said)) (defs : List (Row Definition)) (rows : List (Row Written)) → Knows names.now said → HoldsBodies bodies.old.types.bank bodies.old.bodies.items said defs → KnowsConstants bodies.old.types.bank constants.old said defs rows → KnowsConstants bodies.new.types.bank constants.new said defs (rows ++ each source.now (written_in source.now raw.now) spots.now)) }
+    ensures exact { (said : List (Row Said)) (defs : List (Row Definition)) (rows : List (Row Written)) → Knows names.now said → HoldsBodies bodies.old.types.bank bodies.old.bodies.items said defs → KnowsConstants bodies.old.types.bank constants.old said defs rows → IfErr result (IsConstantsRefusal (AreTyped constants.old) source.now said defs rows spots.now raw.now) }
+    ensures declared { (said : List (Row Said)) (defs : List (Row Definition)) (rows : List (Row Written)) → Knows names.now said → HoldsBodies bodies.old.types.bank bodies.old.bodies.items said defs → KnowsConstants bodies.old.types.bank constants.old said defs rows → AreSettled bodies.old.bodies.items said → AreTyped constants.old → IfOk result (λ done. AreTyped constants.new × AreDeclared source.now said defs rows spots.now raw.now) }
 {
-    match bodies.scheme(names, source, raw) {
-        Err(fault) => {
-            check_lengths(source, spots)?;
-            Err(fault)
-        }
-        Ok(None) => check_lengths(source, spots),
-        Ok(Some((type_vars, scheme))) => {
-            constants.declare_all(&mut bodies.types, source, spots, type_vars, scheme)
-        }
-    }
+    check_lengths(source, spots)?;
+    let declared = bodies.scheme(names, source, raw)?;
+    constants.declare_all(&mut bodies.types, source, spots, declared)
 }
 
 impl Bodies {
+    // A sentence of typeabbrev. Says whether its body was compared with the first one of its name: both have a type, unless an
+    // abbreviation that they use has a fault.
     pub(crate) fn declare_abbreviation(
         &mut self,
         names: &Names,
@@ -162,14 +160,13 @@ impl Bodies {
         name: Spot,
         parameters: &[Spot],
         raw: &RawType,
-    ) -> Result<(), SigFault>
-        ensures refused { IfErr result (IsFaultOf source.now (headed name parameters.now (words_of raw.now.nodes.items)) (255 < length parameters.now)) }
-        ensures why { (said : List (Row Said)) → Knows names.now said → IfErr result (IsAbbreviationFault source.now said name parameters.now raw.now.nodes.items) }
-        ensures taken { IfOk result (λ done. IsShort source.now name × AreApart source.now parameters.now × (length parameters.now ≤ 255)) }
-        ensures stand { (said : List (Row Said)) → Knows names.now said → IfOk result (λ done. IsHead source.now said name parameters.now × WordsStand source.now said (parameters_of source.now parameters.now) raw.now.nodes.items) }
-        ensures cyclic { IfErr result (λ e. (z : Seen) → Knows names.now z.said → KnowsUses (map (λ out. out.items) uses.now.ways.items) z → (s : Spot) → e ≡ fault.CyclicAbbreviation s → (s ≡ name) × LeadsBack (abbreviation_names z.said) (all_uses z) source.now name raw.now.nodes.items) }
-        ensures acyclic { IfOk result (λ done. (z : Seen) → Knows names.now z.said → KnowsUses (map (λ out. out.items) uses.now.ways.items) z → LeadsBack (abbreviation_names z.said) (all_uses z) source.now name raw.now.nodes.items → ⊥) }
-        ensures apart { (said : List (Row Said)) (defs : List (Row Definition)) → Knows names.now said → HoldsBodies self.old.types.bank self.old.bodies.items said defs → IsHead source.now said name parameters.now → IfErr result (λ e. e ≡ fault.Differ name → HasOtherBody said defs source.now name parameters.now raw.now) }
+    ) -> Result<bool, SigFault>
+        ensures why { (z : Seen) → Sees names.now (map (λ out. out.items) uses.now.ways.items) self.old.types.bank self.old.bodies.items z → IfErr result (IsAbbreviationFault source.now z name parameters.now raw.now) }
+        ensures taken { IfOk result (λ compared. IsShort source.now name × AreApart source.now parameters.now × (length parameters.now ≤ 255)) }
+        ensures stand { (z : Seen) → Sees names.now (map (λ out. out.items) uses.now.ways.items) self.old.types.bank self.old.bodies.items z → IfOk result (λ compared. IsSoundAbbreviation source.now z name parameters.now raw.now) }
+        ensures same { (z : Seen) → Sees names.now (map (λ out. out.items) uses.now.ways.items) self.old.types.bank self.old.bodies.items z → IfOk result (λ compared. compared ≡ true → IsAlike z.said z.definitions (spelled source.now name) (record { text = source.now; parameters = parameters.now; body = raw.now })) }
+        ensures kept { Extends self.old.types.bank self.new.types.bank }
+        ensures bodies { self.new.bodies ≡ self.old.bodies }
     {
         let place = names.check_abbreviation(source, name, parameters.len())?;
         let words = uses_of(self.alloc, names, source, raw)?;
@@ -184,21 +181,60 @@ impl Bodies {
         if self.has_other_body(place, body) {
             return Err(SigFault::Differ(name));
         }
-        Ok(())
+        Ok(self.are_settled(place, body))
     }
 }
 
+fn is_missing(known: bool, compared: bool) -> bool
+    ensures { result ≡ false → (known ≡ false) × (compared ≡ true) }
+{
+    known || !compared
+}
+
 impl Making {
-    fn declare_line(&mut self, source: &[u8], declaration: &Declaration) -> Result<(), SigFault>
-        ensures refused { IfErr result (IsFaultOf source.now (parts_of declaration.now) (HasManyArguments declaration.now)) }
-        ensures why { (said : List (Row Said)) → Knows self.old.names said → IfErr result (IsSentenceFault source.now said declaration.now) }
-        ensures taken { IfOk result (λ done. IsWithin source.now declaration.now) }
-        ensures sound { (said : List (Row Said)) → Knows self.old.names said → IfOk result (λ done. IsSound source.now said declaration.now) }
+    pub(crate) fn declare_abbreviation(
+        &mut self,
+        source: &[u8],
+        name: Spot,
+        parameters: &[Spot],
+        raw: &RawType,
+    ) -> Result<(), SigFault>
+        ensures why { (z : Seen) → Sees self.old.names (map (λ out. out.items) self.old.uses.ways.items) self.old.bodies.types.bank self.old.bodies.bodies.items z → IfErr result (IsAbbreviationFault source.now z name parameters.now raw.now) }
+        ensures taken { IfOk result (λ done. IsShort source.now name × AreApart source.now parameters.now × (length parameters.now ≤ 255)) }
+        ensures stand { (z : Seen) → Sees self.old.names (map (λ out. out.items) self.old.uses.ways.items) self.old.bodies.types.bank self.old.bodies.bodies.items z → IfOk result (λ done. IsSoundAbbreviation source.now z name parameters.now raw.now) }
+        ensures same { (z : Seen) → Sees self.old.names (map (λ out. out.items) self.old.uses.ways.items) self.old.bodies.types.bank self.old.bodies.bodies.items z → IfOk result (λ done. self.new.missing ≡ false → IsAlike z.said z.definitions (spelled source.now name) (record { text = source.now; parameters = parameters.now; body = raw.now })) }
+        ensures missing { self.new.missing ≡ false → self.old.missing ≡ false }
         ensures names { self.new.names ≡ self.old.names }
         ensures uses { self.new.uses ≡ self.old.uses }
+        ensures constants { self.new.constants ≡ self.old.constants }
+        ensures operators { self.new.operators ≡ self.old.operators }
+        ensures kept { Extends self.old.bodies.types.bank self.new.bodies.types.bank }
+        ensures bodies { self.new.bodies.bodies ≡ self.old.bodies.bodies }
+    {
+        match self
+            .bodies
+            .declare_abbreviation(&self.names, &self.uses, source, name, parameters, raw)
+        {
+            Ok(compared) => {
+                self.missing = is_missing(self.missing, compared);
+                Ok(())
+            }
+            Err(fault) => Err(fault),
+        }
+    }
+
+    fn declare_line(&mut self, source: &[u8], declaration: &Declaration) -> Result<(), SigFault>
+        ensures why { (z : Seen) (rows : List (Row Written)) → Sees self.old.names (map (λ out. out.items) self.old.uses.ways.items) self.old.bodies.types.bank self.old.bodies.bodies.items z → KnowsConstants self.old.bodies.types.bank self.old.constants z.said z.definitions rows → IfErr result (IsSentenceFault source.now z rows declaration.now) }
+        ensures constants { OnOk result ((z : Seen) (rows : List (Row Written)) → Sees self.old.names (map (λ out. out.items) self.old.uses.ways.items) self.old.bodies.types.bank self.old.bodies.bodies.items z → KnowsConstants self.old.bodies.types.bank self.old.constants z.said z.definitions rows → KnowsConstants self.new.bodies.types.bank self.new.constants z.said z.definitions (rows ++ constants_by source.now declaration.now)) }
+        ensures taken { IfOk result (λ done. IsWithin source.now declaration.now) }
+        ensures sound { (z : Seen) → Sees self.old.names (map (λ out. out.items) self.old.uses.ways.items) self.old.bodies.types.bank self.old.bodies.bodies.items z → IfOk result (λ done. IsSound source.now z declaration.now) }
+        ensures same { (z : Seen) → Sees self.old.names (map (λ out. out.items) self.old.uses.ways.items) self.old.bodies.types.bank self.old.bodies.bodies.items z → IfOk result (λ done. self.new.missing ≡ false → AreAlike z.said z.definitions (definitions_by source.now declaration.now)) }
+        ensures missing { self.new.missing ≡ false → self.old.missing ≡ false }
+        ensures names { self.new.names ≡ self.old.names }
+        ensures uses { self.new.uses ≡ self.old.uses }
+        ensures kept { Extends self.old.bodies.types.bank self.new.bodies.types.bank }
+        ensures bodies { self.new.bodies.bodies ≡ self.old.bodies.bodies }
         ensures operators { OnOk result ((said : List (Row (IsFixity × ℕ))) → KnowsOperators self.old.operators said → KnowsOperators self.new.operators (said ++ fixities_by source.now declaration.now)) }
-        ensures cyclic { IfErr result (λ e. (z : Seen) → Knows self.old.names z.said → KnowsUses (map (λ out. out.items) self.old.uses.ways.items) z → (s : Spot) → e ≡ fault.CyclicAbbreviation s → IsCyclic (sentence z source.now declaration.now) s) }
-        ensures acyclic { IfOk result (λ done. (z : Seen) → Knows self.old.names z.said → KnowsUses (map (λ out. out.items) self.old.uses.ways.items) z → (s : Spot) → IsCyclic (sentence z source.now declaration.now) s → ⊥) }
     {
         match declaration {
             Declaration::Kinds(names, arity) => self
@@ -212,14 +248,9 @@ impl Making {
                 names.as_slice(),
                 raw,
             ),
-            Declaration::Abbreviation(name, parameters, raw) => self.bodies.declare_abbreviation(
-                &self.names,
-                &self.uses,
-                source,
-                *name,
-                parameters.as_slice(),
-                raw,
-            ),
+            Declaration::Abbreviation(name, parameters, raw) => {
+                self.declare_abbreviation(source, *name, parameters.as_slice(), raw)
+            }
             Declaration::Fixities(names, fixity, number) => {
                 self.operators
                     .declare_all(source, names.as_slice(), *fixity, *number)?;
@@ -234,14 +265,12 @@ impl Making {
 
     // The declarations of a signature's own text, or the first fault in text order.
     pub(crate) fn declare(&mut self, source: &[u8], text: &SignatureText) -> Result<(), SigFault>
-        ensures refused { (said : List (Row Said)) → Knows self.old.names said → IfErr result (IsFaultIn source.now (said ++ said_in source.now text.now.lines.items) text.now.lines.items) }
+        ensures refused { (z : Seen) (rows : List (Row Written)) → KnowsSeen self.old z → KnowsConstants self.old.bodies.types.bank self.old.constants z.said z.definitions rows → IfErr result (IsFaultIn source.now (seen_text z source.now text.now.lines.items) rows text.now.lines.items) }
+        ensures constants { OnOk result ((z : Seen) (rows : List (Row Written)) → KnowsSeen self.old z → KnowsConstants self.old.bodies.types.bank self.old.constants z.said z.definitions rows → KnowsConstants self.new.bodies.types.bank self.new.constants (seen_text z source.now text.now.lines.items).said (seen_text z source.now text.now.lines.items).definitions (rows ++ constants_in source.now text.now.lines.items)) }
         ensures taken { IfOk result (λ done. AreWithin source.now text.now.lines.items) }
-        ensures sound { (said : List (Row Said)) → Knows self.old.names said → IfOk result (λ done. AreSound source.now (said ++ said_in source.now text.now.lines.items) text.now.lines.items) }
-        ensures names { OnOk result ((said : List (Row Said)) → Knows self.old.names said → Knows self.new.names (said ++ said_in source.now text.now.lines.items)) }
+        ensures sound { (z : Seen) → KnowsSeen self.old z → IfOk result (λ done. AreSound source.now (seen_text z source.now text.now.lines.items) text.now.lines.items) }
+        ensures seen { OnOk result ((z : Seen) → KnowsSeen self.old z → KnowsSeen self.new (seen_text z source.now text.now.lines.items)) }
         ensures operators { OnOk result ((said : List (Row (IsFixity × ℕ))) → KnowsOperators self.old.operators said → KnowsOperators self.new.operators (said ++ fixities_in source.now text.now.lines.items)) }
-        ensures uses { OnOk result ((z : Seen) → Knows self.old.names z.said → KnowsUses (map (λ out. out.items) self.old.uses.ways.items) z → KnowsUses (map (λ out. out.items) self.new.uses.ways.items) (seen_text z source.now text.now.lines.items)) }
-        ensures cyclic { IfErr result (λ e. (z : Seen) → Knows self.old.names z.said → KnowsUses (map (λ out. out.items) self.old.uses.ways.items) z → (s : Spot) → e ≡ fault.CyclicAbbreviation s → IsFirstCyclic (sentences_in z source.now text.now.lines.items) s) }
-        ensures acyclic { IfOk result (λ done. (z : Seen) → Knows self.old.names z.said → KnowsUses (map (λ out. out.items) self.old.uses.ways.items) z → NoneCyclic (sentences_in z source.now text.now.lines.items)) }
     {
         let from = self.names.heads.len();
         self.announce(source, text)?;
@@ -251,7 +280,7 @@ impl Making {
         for declaration in &text.lines {
             self.declare_line(source, declaration)?;
         }
-        self.bodies.leave(from);
+        self.bodies.leave();
         Ok(())
     }
 }

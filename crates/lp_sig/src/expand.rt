@@ -1,5 +1,5 @@
 // Types of a text, with abbreviations replaced.
-ghost use Rattle.std.specs.Prelude.{◌≡◌, ◌⊎◌, ◌<◌, ◌+◌, ℕ, Vec, List, [], ◌∷◌, length, Option, Some, None, is_some, true, false, option_map, if◌then◌else◌, IfErr, IfOk, IfSome, OnOk, map};
+ghost use Rattle.std.specs.Prelude.{◌≡◌, ◌⊎◌, ◌<◌, ◌≤◌, ◌+◌, ℕ, Vec, List, [], ◌∷◌, length, Option, Some, None, is_some, true, false, option_map, if◌then◌else◌, IfErr, IfOk, IfSome, OnOk, All, map};
 ghost use Rattle.std.specs.Global.{Global};
 ghost use Rattle.std.specs.Str.{bytes_eq};
 ghost use Rattle.lp_base.specs.declared.limit.Limit.TheVariants as limit;
@@ -18,9 +18,14 @@ ghost use Rattle.lp_sig.specs.Abbreviations.{abbreviation_names};
 ghost use Rattle.lp_sig.specs.Types.{Definition, IsTypeOf, IsNode, by_parameters};
 ghost use Rattle.lp_sig.specs.Holding.{given_number, AreParameters, type_done, IsTree, AreDone, HoldsBodies, IfType, IsReplaced, IsNumbered};
 ghost use Rattle.lp_sig.specs.Limits.{AreApart, IsRepeated};
-ghost use Rattle.lp_sig.specs.Refusals.{IsFaultOf, named, typed, headed, words_of};
+ghost use Rattle.lp_sig.specs.Refusals.{IsFaultOf, typed, words_of};
+ghost use Rattle.lp_sig.specs.declared.expand.Made.TheVariants as outcome;
+ghost use Rattle.lp_sig.specs.Schemes.{place};
+ghost use Rattle.lp_sig.specs.Constants.{IsTyped, IsWrittenFault, AreSettled, AllMade, written_in};
+ghost use Rattle.lp_sig.specs.Ordering.{HasNames, names_with, names_by_word, names_by, in_order, AreNewNames};
 
 use crate::bodies::Bodies;
+use crate::constants::DeclaredType;
 use crate::fault::SigFault;
 use crate::names::{Meaning, Names};
 use crate::pieces::{is_variable, spelled_at};
@@ -72,6 +77,7 @@ impl Variables {
         ensures open { Holds result None }
         ensures empty { (name : List ℕ) → number_of result name ≡ None }
         ensures first { result.next ≡ 0 }
+        ensures names { HasNames result [] }
     {
         Variables {
             alloc,
@@ -122,6 +128,7 @@ impl Variables {
         ensures closed { (text : List ℕ) (ps : List Spot) → AreParameters self.old text ps → AreParameters self.new text ps }
         ensures given { (variables : Option (List (List ℕ))) → Holds self.old variables → IfOk result (λ o. is_some o ≡ may_stand variables name.now) }
         ensures held { (variables : Option (List (List ℕ))) → Holds self.old variables → Holds self.new variables }
+        ensures names { OnOk result ((ks : List (List ℕ)) → HasNames self.old ks → HasNames self.new (names_with ks name.now)) }
     {
         if self.closed {
             return Ok(self.numbers.get(name).copied());
@@ -154,26 +161,28 @@ fn types_at(
     done: &[Option<TypeId>],
     places: &[usize],
 ) -> Result<Option<Vec<TypeId>>, Memory>
-    ensures { IfOk result (λ o. IfSome o (λ types. map (type_done done.now) places.now ≡ map (λ t. Some t) types.items)) }
+    ensures are { IfOk result (λ o. IfSome o (λ types. map (type_done done.now) places.now ≡ map (λ t. Some t) types.items)) }
+    ensures made { AllMade done.now → IfOk result (λ o. is_some o ≡ true) }
 {
     let mut types = Vec::new(alloc);
     for place in places.iter().copied() {
         match done.get(place) {
             Some(Some(id)) => types.push(*id)?,
             Some(None) => return Ok(None),
-            None => return Ok(None),
+            None => return Err(Memory),
         }
     }
     Ok(Some(types))
 }
 
 // The type at a place, if it is known.
-fn type_at(done: &[Option<TypeId>], place: usize) -> Option<TypeId>
-    ensures { result ≡ type_done done.now place }
+fn type_at(done: &[Option<TypeId>], place: usize) -> Result<Option<TypeId>, Memory>
+    ensures is { IfOk result (λ o. o ≡ type_done done.now place) }
+    ensures made { AllMade done.now → IfOk result (λ o. is_some o ≡ true) }
 {
     match done.get(place) {
-        Some(id) => *id,
-        None => None,
+        Some(id) => Ok(*id),
+        None => Err(Memory),
     }
 }
 
@@ -213,6 +222,8 @@ impl Bodies {
         ensures typed { (said : List (Row Said)) (defs : List (Row Definition)) (ν : ℕ → Spot → Option ℕ) (nodes : List RawTypeNode) (i : ℕ) (args : Vec ℕ Global) → Knows names.now said → HoldsBodies self.old.types.bank self.old.bodies.items said defs → AreDone self.old.types.bank said defs source.now ν nodes done.now → IsNode nodes i (node.Word spot args) → arguments.now ≡ args.items → IsNumbered ν (given_number variables.old) source.now i (node.Word spot args) → IfOk result (λ made. IfType made (IsTree self.new.types.bank (IsTypeOf said defs source.now ν nodes i))) }
         ensures fault { (said : List (Row Said)) (vs : Option (List (List ℕ))) → Knows names.now said → Holds variables.old vs → IfOk result (λ made. blamed spot made ≡ fault_of_word source.now said vs spot (length arguments.now)) }
         ensures held { (vs : Option (List (List ℕ))) → Holds variables.old vs → Holds variables.new vs }
+        ensures names { OnOk result ((ks : List (List ℕ)) → HasNames variables.old ks → HasNames variables.new (names_by_word source.now ks spot)) }
+        ensures settled { (said : List (Row Said)) → Knows names.now said → AreSettled self.old.bodies.items said → AllMade done.now → IfOk result (λ made. made ≡ outcome.Open → ⊥) }
     {
         let name = spelled_at(source, spot);
         if is_variable(name) {
@@ -246,6 +257,7 @@ impl Bodies {
         arguments: &[usize],
         done: &[Option<TypeId>],
     ) -> Result<Made, Memory>
+        ensures settled { (said : List (Row Said)) (name : List ℕ) → AreSettled self.old.bodies.items said → first_place name (abbreviation_names said) ≡ Some place → AllMade done.now → IfOk result (λ made. made ≡ outcome.Open → ⊥) }
         ensures counted { (s : Spot) → IfOk result (λ made. blamed s made ≡ on_count s (length arguments.now) (said_as names.now (meaning.Abbreviation place))) }
         ensures kept { Extends self.old.types.bank self.new.types.bank }
         ensures bodies { self.new.bodies ≡ self.old.bodies }
@@ -277,11 +289,12 @@ impl Bodies {
         ensures kept { Extends self.old.types.bank self.new.types.bank }
         ensures bodies { self.new.bodies ≡ self.old.bodies }
         ensures typed { (said : List (Row Said)) (defs : List (Row Definition)) (text : List ℕ) (ν : ℕ → Spot → Option ℕ) (nodes : List RawTypeNode) (i : ℕ) → AreDone self.old.types.bank said defs text ν nodes done.now → IsNode nodes i (node.Arrow from to) → IfOk result (λ o. IfSome o (IsTree self.new.types.bank (IsTypeOf said defs text ν nodes i))) }
+        ensures made { AllMade done.now → IfOk result (λ o. is_some o ≡ true) }
     {
-        let Some(left) = type_at(done, from) else {
+        let Some(left) = type_at(done, from)? else {
             return Ok(None);
         };
-        let Some(right) = type_at(done, to) else {
+        let Some(right) = type_at(done, to)? else {
             return Ok(None);
         };
         let id = self.types.arrow(left, right)?;
@@ -305,6 +318,8 @@ impl Bodies {
         ensures among { IfOk result (λ fault. IfSome fault (λ f. IsFaultOf source.now (typed [] (words_of (node.now ∷ []))) ⊥ f.1)) }
         ensures fault { (said : List (Row Said)) (vs : Option (List (List ℕ))) → Knows names.now said → Holds variables.old vs → IfOk result (λ o. o ≡ option_map (λ e. (beginning node.now, e)) (word_fault source.now said vs node.now)) }
         ensures held { (vs : Option (List (List ℕ))) → Holds variables.old vs → Holds variables.new vs }
+        ensures names { OnOk result ((ks : List (List ℕ)) → HasNames variables.old ks → HasNames variables.new (names_by source.now ks node.now)) }
+        ensures settled { (said : List (Row Said)) → Knows names.now said → AreSettled self.old.bodies.items said → AllMade done.old.items → IfOk result (λ fault. fault ≡ None → AllMade done.new.items) }
     {
         match node {
             RawTypeNode::Arrow(from, to) => {
@@ -354,6 +369,8 @@ impl Bodies {
         ensures kept { Extends self.old.types.bank self.new.types.bank }
         ensures bodies { self.new.bodies ≡ self.old.bodies }
         ensures body { (said : List (Row Said)) (defs : List (Row Definition)) (ps : List Spot) → Knows names.now said → HoldsBodies self.old.types.bank self.old.bodies.items said defs → AreParameters variables.old source.now ps → IfOk result (λ made. IfSome made (IsTree self.new.types.bank (IsTypeOf said defs source.now (by_parameters source.now ps) raw.now.nodes.items raw.now.root))) }
+        ensures open { (said : List (Row Said)) (defs : List (Row Definition)) → Knows names.now said → HoldsBodies self.old.types.bank self.old.bodies.items said defs → HasNames variables.old [] → IfOk result (λ made. IfSome made (IsTree self.new.types.bank (IsTypeOf said defs source.now (in_order source.now raw.now.nodes.items) raw.now.nodes.items raw.now.root))) }
+        ensures settled { (said : List (Row Said)) → Knows names.now said → AreSettled self.old.bodies.items said → IfOk result (λ made. is_some made ≡ true) }
         ensures among { IfErr result (IsFaultOf source.now (typed [] (words_of raw.now.nodes.items)) ⊥) }
         ensures first { (said : List (Row Said)) (vs : Option (List (List ℕ))) → Knows names.now said → Holds variables.old vs → IfErr result (λ e. (e ≡ fault.Memory) ⊎ IsFirstFault source.now said vs raw.now.nodes.items e) }
         ensures stand { (said : List (Row Said)) (vs : Option (List (List ℕ))) → Knows names.now said → Holds variables.old vs → IfOk result (λ made. WordsStand source.now said vs raw.now.nodes.items) }
@@ -367,7 +384,8 @@ impl Bodies {
         if let Some((_, first)) = fault {
             return Err(first);
         }
-        Ok(type_at(done.as_slice(), raw.root))
+        let made = type_at(done.as_slice(), raw.root)?;
+        Ok(made)
     }
 
     // A declared type, its variables numbered by first place, with their count.
@@ -376,10 +394,16 @@ impl Bodies {
         names: &Names,
         source: &[u8],
         raw: &RawType,
-    ) -> Result<Option<(u8, TypeId)>, SigFault>
+    ) -> Result<Option<DeclaredType>, SigFault>
         ensures among { IfErr result (IsFaultOf source.now (typed [] (words_of raw.now.nodes.items)) (Unit {0})) }
         ensures first { (said : List (Row Said)) → Knows names.now said → IfErr result (λ e. (e ≡ fault.Memory) ⊎ IsTypeFault source.now said raw.now e) }
         ensures stand { (said : List (Row Said)) → Knows names.now said → IfOk result (λ made. IsSoundType source.now said raw.now) }
+        ensures kept { Extends self.old.types.bank self.new.types.bank }
+        ensures bodies { self.new.bodies ≡ self.old.bodies }
+        ensures exact { (said : List (Row Said)) (defs : List (Row Definition)) → Knows names.now said → HoldsBodies self.old.types.bank self.old.bodies.items said defs → IfErr result (λ e. (e ≡ fault.Memory) ⊎ IsWrittenFault source.now said defs raw.now e) }
+        ensures few { IfOk result (λ made. IfSome made (λ d. d.type_vars ≤ 255)) }
+        ensures settled { (said : List (Row Said)) → Knows names.now said → AreSettled self.old.bodies.items said → IfOk result (λ made. is_some made ≡ true) }
+        ensures typed { (said : List (Row Said)) (defs : List (Row Definition)) → Knows names.now said → HoldsBodies self.old.types.bank self.old.bodies.items said defs → IfOk result (λ made. IfSome made (IsTyped self.new.types.bank said defs (written_in source.now raw.now))) }
     {
         if has_many_arguments(raw) {
             return Err(SigFault::Limit(Limit::Arguments));
@@ -392,26 +416,61 @@ impl Bodies {
         if found.len() > 255 {
             return Err(SigFault::Limit(Limit::Arguments));
         }
-        let new = self.new_names(found.as_slice(), variables.next)?;
+        let new = self.new_names(found.as_slice())?;
         let scheme = self.types.instance(whole, new.as_slice())?;
-        Ok(Some((found.len() as u8, scheme)))
+        Ok(Some(DeclaredType {
+            type_vars: found.len() as u8,
+            scheme,
+        }))
     }
 
-    // For each variable below a number its new one: its place among those that were found.
-    fn new_names(&mut self, found: &[u64], next: u64) -> Result<Vec<TypeId>, Memory> {
-        let first = self.types.var(0)?;
+    // For each variable up to the last of those that were found its new one: its place among them.
+    fn new_names(&mut self, found: &[u64]) -> Result<Vec<TypeId>, Memory>
+        ensures kept { Extends self.old.types.bank self.new.types.bank }
+        ensures bodies { self.new.bodies ≡ self.old.bodies }
+        ensures names { IfOk result (λ names. AreNewNames self.new.types.bank names.items found.now) }
+        ensures far { IfOk result (λ names. All (λ x. x < length names.items) found.now) }
+    {
+        let end = end_of(found)?;
         let mut names = Vec::new(self.alloc);
-        for _ in 0..next {
-            names.push(first)?;
-        }
-        for place in 0..found.len() {
+        for number in 0..end {
+            let place = place_among(found, number);
             let id = self.types.var(place as u64)?;
-            if let Some(slot) = names.get_mut(found[place] as usize) {
-                *slot = id;
-            }
+            names.push(id)?;
         }
         Ok(names)
     }
+}
+
+// The place of the first such number, the length where there is none.
+fn place_among(numbers: &[u64], number: u64) -> usize
+    ensures { result ≡ place numbers.now number }
+{
+    for at in 0..numbers.len() {
+        if numbers[at] == number {
+            return at;
+        }
+    }
+    numbers.len()
+}
+
+fn larger(one: u64, other: u64) -> u64
+    ensures first { one ≤ result }
+    ensures second { other ≤ result }
+{
+    if one < other { other } else { one }
+}
+
+// A number above all of these.
+fn end_of(numbers: &[u64]) -> Result<u64, Memory>
+    ensures { IfOk result (λ end. All (λ n. n < end) numbers.now) }
+{
+    let mut end = 0;
+    for at in 0..numbers.len() {
+        let next = following(numbers[at])?;
+        end = larger(end, next);
+    }
+    Ok(end)
 }
 
 // Whether a type as written has more than 255 arguments.

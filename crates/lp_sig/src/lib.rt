@@ -17,6 +17,8 @@ mod expand;
 mod fault;
 // Types of which each stands once in a bank.
 mod interned;
+// Laws over the definitions.
+mod laws;
 // The declarations of a text by their lines.
 mod lines;
 // The declarations so far.
@@ -53,6 +55,7 @@ mod walk;
 
 pub use entries::{AbbreviationEntry, ConstantEntry, FixityEntry, KindEntry};
 pub use fault::SigFault;
+pub use laws::{a_type_has_one_scheme, worked_signature};
 pub use module_fault::ModuleSigFault;
 pub use module_text::module_signature;
 pub use pieces::{is_variable, spelled_at};

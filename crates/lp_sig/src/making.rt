@@ -1,18 +1,24 @@
 // The declarations so far.
-ghost use Rattle.std.specs.Prelude.{◌≡◌, ◌+◌, [], map, IfOk};
+ghost use Rattle.std.specs.Prelude.{◌≡◌, ◌+◌, List, [], map, IfOk, Some, false};
 ghost use Rattle.lp_sig.specs.Rows.{kind_row};
 ghost use Rattle.lp_sig.specs.Said.{numbered};
-ghost use Rattle.lp_sig.specs.Knowing.{Knows, kinded_row, KnowsOperators};
+ghost use Rattle.lp_sig.specs.Knowing.{Knows, kinded_row, head_row, KnowsOperators};
+ghost use Rattle.lp_sig.specs.Abbreviations.{Seen};
+ghost use Rattle.lp_sig.specs.Entries.{parameters_row, HaveBodies, AreAbbreviations};
+ghost use Rattle.lp_sig.specs.Holding.{KnowsSeen};
+ghost use Rattle.lp_sig.specs.Constants.{Written, KnowsConstants, AreConstants, HaveNumbers};
+ghost use Rattle.lp_sig.specs.Rows.{Row};
 
 use crate::bodies::Bodies;
 use crate::constants::Constants;
 use crate::entries::{AbbreviationEntry, KindEntry};
-use crate::names::{Kinded, Names, kind_number};
+use crate::names::{Head, Kinded, Names, kind_number};
 use crate::operators::Operators;
 use crate::signature::Signature;
 use crate::standard::END_OF_NUMBERS;
 use crate::walk::Ways;
 use lp_base::Memory;
+use lp_term::TypeId;
 use std::alloc::Global;
 
 #[derive(Drop)]
@@ -24,6 +30,8 @@ pub(crate) struct Making {
     pub bodies: Bodies,
     pub constants: Constants,
     pub operators: Operators,
+    // A sentence of typeabbrev had no type to compare with the first one of its name.
+    pub missing: bool,
 }
 
 // The entry of the kind at a place. One that passes a limit was refused where it is declared.
@@ -45,6 +53,29 @@ fn entry_of(alloc: Global, kind: &Kinded, place: usize) -> Result<KindEntry, Mem
     })
 }
 
+// The entry of an abbreviation. One without a body, or with more than 255 parameters, was refused where it is declared.
+fn abbreviation_of(
+    alloc: Global,
+    head: &Head,
+    body: Option<TypeId>,
+) -> Result<AbbreviationEntry, Memory>
+    ensures row { IfOk result (λ e. parameters_row e ≡ head_row head.now) }
+    ensures body { IfOk result (λ e. body ≡ Some e.body) }
+{
+    let Some(body) = body else {
+        return Err(Memory);
+    };
+    if head.parameters > 255 {
+        return Err(Memory);
+    }
+    let name = Vec::from_slice(alloc, head.name.as_slice())?;
+    Ok(AbbreviationEntry {
+        name,
+        type_vars: head.parameters as u8,
+        body,
+    })
+}
+
 // The kinds with their numbers.
 fn entries_of(alloc: Global, kinds: &[Kinded]) -> Result<Vec<KindEntry>, Memory>
     ensures { IfOk result (λ entries. map kind_row entries.items ≡ numbered 8 (map kinded_row kinds.now)) }
@@ -62,6 +93,9 @@ impl Making {
         ensures names { Knows result.names [] }
         ensures operators { KnowsOperators result.operators [] }
         ensures uses { map (λ out. out.items) result.uses.ways.items ≡ [] }
+        ensures bodies { result.bodies.bodies.items ≡ [] }
+        ensures missing { result.missing ≡ false }
+        ensures constants { KnowsConstants result.bodies.types.bank result.constants [] [] [] }
     {
         Making {
             alloc,
@@ -70,37 +104,42 @@ impl Making {
             bodies: Bodies::new(alloc),
             constants: Constants::new(alloc),
             operators: Operators::new(alloc),
+            missing: false,
         }
     }
 
     // The abbreviations with their bodies.
-    fn abbreviations(&self) -> Result<Vec<AbbreviationEntry>, Memory> {
-        let mut abbreviations = Vec::new(self.alloc);
+    fn abbreviations(&self) -> Result<Vec<AbbreviationEntry>, Memory>
+        ensures rows { IfOk result (λ entries. map parameters_row entries.items ≡ map head_row self.now.names.heads.items) }
+        ensures bodies { IfOk result (λ entries. HaveBodies self.now.bodies.bodies.items 0 entries.items) }
+    {
+        let mut entries = Vec::new(self.alloc);
         for (place, head) in self.names.heads.iter().enumerate() {
-            let Some(body) = self.bodies.body_at(place) else {
-                return Err(Memory);
-            };
-            abbreviations.push(AbbreviationEntry {
-                name: Vec::from_slice(self.alloc, head.name.as_slice())?,
-                type_vars: head.parameters.min(255) as u8,
-                body,
-            })?;
+            let entry = abbreviation_of(self.alloc, head, self.bodies.body_at(place))?;
+            entries.push(entry)?;
         }
-        Ok(abbreviations)
+        Ok(entries)
     }
 
     // The signature of what was declared.
     pub(crate) fn finish(self) -> Result<Signature, Memory>
         ensures kinds { IfOk result (λ s. map kind_row s.kinds.items ≡ numbered 8 (map kinded_row self.names.kinds.items)) }
         ensures fixities { IfOk result (λ s. s.fixities ≡ self.operators.fixities) }
+        ensures abbreviations { IfOk result (λ s. (z : Seen) → KnowsSeen self z → AreAbbreviations s.bank z s.abbreviations.items) }
+        ensures compared { IfOk result (λ s. self.missing ≡ false) }
+        ensures constants { IfOk result (λ s. (z : Seen) (rows : List (Row Written)) → KnowsConstants self.bodies.types.bank self.constants z.said z.definitions rows → AreConstants s.bank z.said z.definitions rows s.constants.items × HaveNumbers rows) }
     {
+        if self.missing {
+            return Err(Memory);
+        }
         let kinds = entries_of(self.alloc, self.names.kinds.as_slice())?;
         let abbreviations = self.abbreviations()?;
+        let constants = self.constants.entries()?;
         Signature::of(
             self.alloc,
             self.bodies.into_bank(),
             kinds,
-            self.constants.into_entries(),
+            constants,
             abbreviations,
             self.operators.into_entries(),
         )

@@ -1,6 +1,7 @@
 // What the declarations of a module say, line by line.
 
-use crate::declare::{check_lengths, declare_constants};
+use crate::constants::DeclaredType;
+use crate::declare::{check_length, check_lengths, declare_constants};
 use crate::fault::SigFault;
 use crate::making::Making;
 use crate::module_fault::ModuleSigFault;
@@ -241,6 +242,23 @@ impl<'a> ModuleLines<'a> {
         Ok(())
     }
 
+    // A local constant of a type.
+    fn local(
+        &self,
+        making: &mut Making,
+        name: Spot,
+        declared: Option<DeclaredType>,
+    ) -> Result<(), ModuleSigFault> {
+        if self.exports_constant(name) {
+            return Err(ModuleSigFault::Exported(name));
+        }
+        check_length(self.source, name)?;
+        making
+            .constants
+            .declare(&mut making.bodies.types, self.source, name, declared)?;
+        Ok(())
+    }
+
     // Local constants of a type. That one is exported goes before a fault of the type.
     fn locals(
         &self,
@@ -254,23 +272,9 @@ impl<'a> ModuleLines<'a> {
                 check_lengths(self.source, names)?;
                 Err(ModuleSigFault::Sig(fault))
             }
-            Ok(None) => {
-                self.check_locals(names)?;
-                check_lengths(self.source, names)?;
-                Ok(())
-            }
-            Ok(Some((type_vars, scheme))) => {
+            Ok(declared) => {
                 for name in names {
-                    if self.exports_constant(*name) {
-                        return Err(ModuleSigFault::Exported(*name));
-                    }
-                    making.constants.declare(
-                        &mut making.bodies.types,
-                        self.source,
-                        *name,
-                        type_vars,
-                        scheme,
-                    )?;
+                    self.local(making, *name, declared)?;
                 }
                 Ok(())
             }
@@ -297,15 +301,7 @@ impl<'a> ModuleLines<'a> {
         parameters: &[Spot],
         raw: &RawType,
     ) -> Result<(), ModuleSigFault> {
-        let outcome = making.bodies.declare_abbreviation(
-            &making.names,
-            &making.uses,
-            self.source,
-            name,
-            parameters,
-            raw,
-        );
-        match outcome {
+        match making.declare_abbreviation(self.source, name, parameters, raw) {
             Ok(()) => Ok(()),
             Err(fault) => Err(self.kinds_blamed(fault)),
         }

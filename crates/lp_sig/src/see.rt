@@ -1,5 +1,6 @@
 // What a text sees of other signatures. A name that is seen again otherwise keeps its first declaration.
 
+use crate::constants::{DeclaredType, Known};
 use crate::entries::{AbbreviationEntry, ConstantEntry, KindEntry};
 use crate::fault::SigFault;
 use crate::making::Making;
@@ -167,16 +168,27 @@ impl Making {
         }
     }
 
-    fn see_constant(&mut self, entry: &ConstantEntry, made: &[TypeId]) -> Result<Sight, Memory> {
-        let name = entry.name.as_slice();
-        let scheme = type_here(made, entry.scheme)?;
-        if let Some(known) = self.constants.known_scheme(&mut self.bodies.types, name)? {
-            return Ok(Sight::if_alike(known == scheme));
-        }
-        match self.constants.add(name, entry.type_vars, scheme) {
+    fn add_constant(
+        &mut self,
+        name: &[u8],
+        type_vars: u8,
+        scheme: TypeId,
+    ) -> Result<Sight, Memory> {
+        let declared = DeclaredType { type_vars, scheme };
+        match self.constants.add(name, Some(declared)) {
             Ok(()) => Ok(Sight::Alike),
             Err(SigFault::Limit(Limit::Names)) => Ok(Sight::TooMany),
             Err(_) => Err(Memory),
+        }
+    }
+
+    fn see_constant(&mut self, entry: &ConstantEntry, made: &[TypeId]) -> Result<Sight, Memory> {
+        let name = entry.name.as_slice();
+        let scheme = type_here(made, entry.scheme)?;
+        match self.constants.known_as(&mut self.bodies.types, name)? {
+            Known::New => self.add_constant(name, entry.type_vars, scheme),
+            Known::Untyped => Ok(Sight::Otherwise),
+            Known::Typed(known) => Ok(Sight::if_alike(known == scheme)),
         }
     }
 

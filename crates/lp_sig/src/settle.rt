@@ -90,6 +90,7 @@ impl Bodies {
         step: Step,
     ) -> Result<(), Memory>
         ensures lines { map (λ b. b.line) self.new.bodies.items ≡ map (λ b. b.line) self.old.bodies.items }
+        ensures kept { Extends self.old.types.bank self.new.types.bank }
         ensures bodies { (said : List (Row Said)) (defs : List (Row Definition)) → Knows names.now said → HoldsLines self.old.bodies.items said defs source.now (T.Lines.declared text.now) → HoldsBodies self.old.types.bank self.old.bodies.items said defs → HoldsBodies self.new.types.bank self.new.bodies.items said defs }
     {
         let Step::Declare(place) = step else {
@@ -110,6 +111,7 @@ impl Bodies {
         from: usize,
     ) -> Result<(), Memory>
         ensures lines { map (λ b. b.line) self.new.bodies.items ≡ map (λ b. b.line) self.old.bodies.items }
+        ensures kept { Extends self.old.types.bank self.new.types.bank }
         ensures bodies { (said : List (Row Said)) (defs : List (Row Definition)) → Knows names.now said → HoldsLines self.old.bodies.items said defs source.now (T.Lines.declared text.now) → HoldsBodies self.old.types.bank self.old.bodies.items said defs → HoldsBodies self.new.types.bank self.new.bodies.items said defs }
     {
         let mut marks = Vec::new(self.alloc);

@@ -1,6 +1,10 @@
 // The names of every text. Declared kinds have numbers from 8, and declared constants from 32.
 
-ghost use Rattle.std.specs.Prelude.{◌≡◌};
+ghost use Rattle.std.specs.Prelude.{◌≡◌, ◌<◌, ◌≤◌, length, IfOk};
+ghost use Rattle.lp_calculus.specs.Types.{arrow};
+ghost use Rattle.lp_term.specs.Nodes.{Extends, type_tree};
+ghost use Rattle.lp_sig.specs.Holding.{IsTree};
+ghost use Rattle.lp_sig.specs.Constants.{AreParts, standard_tree};
 ghost use Rattle.lp_sig.specs.Rows.{found};
 ghost use Rattle.lp_sig.specs.Standard.{standard_kinds, standard_constants, connectives, relations, operations};
 
@@ -140,32 +144,96 @@ pub fn standard_constant(name: &[u8]) -> Option<u32>
 }
 
 // `left -> right -> to`.
-fn on_two(types: &mut Types, left: TypeId, right: TypeId, to: TypeId) -> Result<TypeId, Memory> {
+fn on_two(types: &mut Types, left: TypeId, right: TypeId, to: TypeId) -> Result<TypeId, Memory>
+    ensures kept { Extends types.old.bank types.new.bank }
+    ensures tree { IfOk result (λ id. left.0 < length types.old.bank.types → right.0 < length types.old.bank.types → to.0 < length types.old.bank.types → (id.0 < length types.new.bank.types) × (type_tree types.new.bank id.0 ≡ arrow (type_tree types.old.bank left.0) (arrow (type_tree types.old.bank right.0) (type_tree types.old.bank to.0)))) }
+{
     let inner = types.arrow(right, to)?;
     types.arrow(left, inner)
 }
 
-// The type of a standard constant, in which the only type variable is 0.
-pub(crate) fn standard_type(types: &mut Types, number: u32) -> Result<TypeId, Memory> {
+// The types of which those of standard constants are made; the only type variable is 0.
+#[derive(Clone, Copy)]
+pub(crate) struct Parts {
+    pub goal: TypeId,
+    pub int: TypeId,
+    pub string: TypeId,
+    pub any: TypeId,
+    pub list: TypeId,
+}
+
+fn put_parts(types: &mut Types) -> Result<Parts, Memory>
+    ensures kept { Extends types.old.bank types.new.bank }
+    ensures are { IfOk result (AreParts types.new.bank) }
+{
     let goal = types.con(0, &[])?;
     let int = types.con(1, &[])?;
     let string = types.con(2, &[])?;
     let any = types.var(0)?;
     let list = types.con(3, &[any])?;
-    match number {
-        0 | 1 | 2 | 3 => on_two(types, goal, goal, goal),
-        4 | 5 => {
-            let body = types.arrow(any, goal)?;
-            types.arrow(body, goal)
-        }
-        6 | 7 => Ok(goal),
-        8 | 9 => on_two(types, any, any, goal),
-        10 | 11 | 12 | 13 => on_two(types, int, int, goal),
-        14 => on_two(types, any, list, list),
-        15 => Ok(list),
-        16 | 17 | 18 | 19 | 20 => on_two(types, int, int, int),
-        21 => types.arrow(int, int),
-        22 => on_two(types, string, string, string),
-        _ => types.arrow(string, int),
+    Ok(Parts {
+        goal,
+        int,
+        string,
+        any,
+        list,
+    })
+}
+
+// The type of a connective, and of a relation or a constructor of lists.
+fn type_of_goal(types: &mut Types, parts: Parts, number: u32) -> Result<TypeId, Memory>
+    requires below { number < 16 }
+    ensures kept { Extends types.old.bank types.new.bank }
+    ensures tree { AreParts types.old.bank parts → IfOk result (IsTree types.new.bank (λ t. t ≡ standard_tree number)) }
+{
+    if number < 4 {
+        return on_two(types, parts.goal, parts.goal, parts.goal);
     }
+    if number < 6 {
+        let body = types.arrow(parts.any, parts.goal)?;
+        return types.arrow(body, parts.goal);
+    }
+    if number < 8 {
+        return Ok(parts.goal);
+    }
+    if number < 10 {
+        return on_two(types, parts.any, parts.any, parts.goal);
+    }
+    if number < 14 {
+        return on_two(types, parts.int, parts.int, parts.goal);
+    }
+    if number < 15 {
+        return on_two(types, parts.any, parts.list, parts.list);
+    }
+    Ok(parts.list)
+}
+
+// The type of an operation.
+fn type_of_operation(types: &mut Types, parts: Parts, number: u32) -> Result<TypeId, Memory>
+    requires above { 16 ≤ number }
+    ensures kept { Extends types.old.bank types.new.bank }
+    ensures tree { AreParts types.old.bank parts → IfOk result (IsTree types.new.bank (λ t. t ≡ standard_tree number)) }
+{
+    if number < 21 {
+        return on_two(types, parts.int, parts.int, parts.int);
+    }
+    if number < 22 {
+        return types.arrow(parts.int, parts.int);
+    }
+    if number < 23 {
+        return on_two(types, parts.string, parts.string, parts.string);
+    }
+    types.arrow(parts.string, parts.int)
+}
+
+// The type of a standard constant.
+pub(crate) fn standard_type(types: &mut Types, number: u32) -> Result<TypeId, Memory>
+    ensures kept { Extends types.old.bank types.new.bank }
+    ensures tree { IfOk result (IsTree types.new.bank (λ t. t ≡ standard_tree number)) }
+{
+    let parts = put_parts(types)?;
+    if number < 16 {
+        return type_of_goal(types, parts, number);
+    }
+    type_of_operation(types, parts, number)
 }

@@ -126,7 +126,9 @@ impl Types {
         }
     }
 
-    pub(crate) fn into_bank(self) -> Bank {
+    pub(crate) fn into_bank(self) -> Bank
+        ensures { result ≡ self.bank }
+    {
         self.bank
     }
 

@@ -3,12 +3,14 @@ ghost use Rattle.std.specs.Prelude.{◌≡◌, ◌≢◌, ◌⊎◌, ◌++◌, �
 ghost use Rattle.lp_sig.specs.Pieces.{spelled};
 ghost use Rattle.lp_fixity.specs.declared.fixity.Fixity.{Fixity};
 ghost use Rattle.lp_sig.specs.Rows.{Row, kind_row, fixity_row};
-ghost use Rattle.lp_sig.specs.Said.{Said, said_in, fixities_in, of_text, of_step};
-ghost use Rattle.lp_sig.specs.Knowing.{Knows, KnowsOperators};
+ghost use Rattle.lp_sig.specs.Said.{fixities_in, of_text, of_step};
+ghost use Rattle.lp_sig.specs.Knowing.{KnowsOperators};
 ghost use Rattle.lp_sig.specs.Refusals.{HasItsHeader, HasOtherHeader, IsAtFault, AreTaken, IsStepTaken, IsStepRefused, IsRefusal, IsAccepted};
 ghost use Rattle.lp_sig.specs.declared.fault.SigFault.TheVariants as fault;
-ghost use Rattle.lp_base.specs.declared.place.Spot.{Spot};
-ghost use Rattle.lp_sig.specs.Abbreviations.{Seen, one_text, sentences_of, NoneCyclic, IsFirstCyclic, KnowsAbbreviations, Follows, IsCyclicFrom, IsAcyclic};
+ghost use Rattle.lp_sig.specs.Abbreviations.{Seen, one_text};
+ghost use Rattle.lp_sig.specs.Constants.{Written, KnowsConstants};
+ghost use Rattle.lp_sig.specs.Holding.{KnowsSeen, Follows};
+ghost use Rattle.lp_sig.specs.Declares.{Declares};
 
 use crate::fault::SigFault;
 use crate::making::Making;
@@ -59,13 +61,11 @@ fn declare(
     texts: &[SignatureText],
     at: usize,
 ) -> Result<(), SigFault>
-    ensures refused { (said : List (Row Said)) → Knows making.old.names said → IfErr result (λ e. (e ≡ fault.Memory) ⊎ IsAtFault sources.now texts.now said at e) }
-    ensures taken { (said : List (Row Said)) → Knows making.old.names said → IfOk result (λ done. AreTaken sources.now texts.now said at) }
-    ensures names { OnOk result ((said : List (Row Said)) → Knows making.old.names said → Knows making.new.names (said ++ of_text said_in sources.now texts.now at)) }
+    ensures refused { (z : Seen) (rows : List (Row Written)) → KnowsSeen making.old z → KnowsConstants making.old.bodies.types.bank making.old.constants z.said z.definitions rows → IfErr result (λ e. (e ≡ fault.Memory) ⊎ IsAtFault sources.now texts.now z rows at e) }
+    ensures constants { OnOk result (Declares making.old making.new (of_text one_text sources.now texts.now at)) }
+    ensures taken { (z : Seen) → KnowsSeen making.old z → IfOk result (λ done. AreTaken sources.now texts.now z at) }
+    ensures seen { OnOk result (Follows making.old making.new (of_text one_text sources.now texts.now at)) }
     ensures operators { OnOk result ((said : List (Row (Fixity × ℕ))) → KnowsOperators making.old.operators said → KnowsOperators making.new.operators (said ++ of_text fixities_in sources.now texts.now at)) }
-    ensures uses { OnOk result (Follows making.old making.new (of_text one_text sources.now texts.now at)) }
-    ensures cyclic { IfErr result (λ e. (z : Seen) → KnowsAbbreviations making.old z → (s : Spot) → e ≡ fault.CyclicAbbreviation s → IsFirstCyclic (sentences_of z (of_text one_text sources.now texts.now at)) s) }
-    ensures acyclic { IfOk result (λ done. (z : Seen) → KnowsAbbreviations making.old z → NoneCyclic (sentences_of z (of_text one_text sources.now texts.now at))) }
 {
     let Some(source) = sources.get(at) else {
         return Err(SigFault::Memory);
@@ -84,13 +84,11 @@ fn take(
     texts: &[SignatureText],
     step: Step,
 ) -> Result<(), SigFault>
-    ensures refused { (said : List (Row Said)) → Knows making.old.names said → IfErr result (λ e. (e ≡ fault.Memory) ⊎ IsStepRefused names.now sources.now texts.now said step e) }
-    ensures taken { (said : List (Row Said)) → Knows making.old.names said → IfOk result (λ done. IsStepTaken names.now sources.now texts.now said step) }
-    ensures names { OnOk result ((said : List (Row Said)) → Knows making.old.names said → Knows making.new.names (said ++ of_step said_in sources.now texts.now step)) }
+    ensures refused { (z : Seen) (rows : List (Row Written)) → KnowsSeen making.old z → KnowsConstants making.old.bodies.types.bank making.old.constants z.said z.definitions rows → IfErr result (λ e. (e ≡ fault.Memory) ⊎ IsStepRefused names.now sources.now texts.now z rows step e) }
+    ensures constants { OnOk result (Declares making.old making.new (of_step one_text sources.now texts.now step)) }
+    ensures taken { (z : Seen) → KnowsSeen making.old z → IfOk result (λ done. IsStepTaken names.now sources.now texts.now z step) }
+    ensures seen { OnOk result (Follows making.old making.new (of_step one_text sources.now texts.now step)) }
     ensures operators { OnOk result ((said : List (Row (Fixity × ℕ))) → KnowsOperators making.old.operators said → KnowsOperators making.new.operators (said ++ of_step fixities_in sources.now texts.now step)) }
-    ensures uses { OnOk result (Follows making.old making.new (of_step one_text sources.now texts.now step)) }
-    ensures cyclic { IfErr result (λ e. (z : Seen) → KnowsAbbreviations making.old z → (s : Spot) → e ≡ fault.CyclicAbbreviation s → IsFirstCyclic (sentences_of z (of_step one_text sources.now texts.now step)) s) }
-    ensures acyclic { IfOk result (λ done. (z : Seen) → KnowsAbbreviations making.old z → NoneCyclic (sentences_of z (of_step one_text sources.now texts.now step))) }
 {
     match step {
         Step::Enter(at) => enter(names, sources, texts, at),
@@ -112,9 +110,7 @@ pub fn elaborate(
     root: u32,
 ) -> Result<Signature, SigFault>
     ensures refused { IfErr result (IsRefusal names.now sources.now texts.now root) }
-    ensures cyclic { IfErr result (λ e. (s : Spot) → e ≡ fault.CyclicAbbreviation s → IsCyclicFrom names.now sources.now texts.now root s) }
-    ensures acyclic { IfOk result (λ s. IsAcyclic names.now sources.now texts.now root) }
-    ensures accepted { IfOk result (λ s. IsAccepted names.now sources.now texts.now root (map kind_row s.kinds.items) (map fixity_row s.fixities.items)) }
+    ensures accepted { IfOk result (λ s. IsAccepted names.now sources.now texts.now root (map kind_row s.kinds.items) (map fixity_row s.fixities.items) s.bank s.abbreviations.items s.constants.items) }
 {
     let ways = Ways::of(alloc, names, sources, texts)?;
     let steps = ways.steps(alloc, root as usize)?;

@@ -1,30 +1,39 @@
-use Rattle.std.proofs.Common.{◌≡◌, ◌<◌, length}
-use Rattle.std.specs.Prelude.{Contains}
-use Rattle.lp_base.specs.declared.limit.Limit.TheVariants as limit
-use Rattle.lp_base.specs.declared.place.Spot.{Spot}
-use Rattle.lp_sig.specs.Pieces.{spelled}
-use Rattle.lp_sig.specs.Refusals.{IsFaultOf, named}
-use Rattle.lp_sig.specs.Words.{IsConstantsFault}
-use Rattle.lp_sig.specs.declared.fault.SigFault.TheVariants as fault
-use Rattle.lp_sig.proofs.Blame.{passed_up, for_err}
-use Rattle.lp_sig.proofs.Sentences.{constants_long, constants_type, constants_name}
+use Rattle.std.proofs.Common.{◌≡◌}
+use Rattle.lp_sig.specs.Constants.{written_in, AreTyped, IsConstantsRefusal}
+use Rattle.lp_sig.proofs.Blame.{passed_up, for_err, on_ok}
+use Rattle.lp_sig.proofs.Declarations.{refused_long, refused_type, refused_name, declared_all, known_now, as_typed}
 use Rattle.lp_sig.proofs.declare.declare_constants.Goals as goal
 
-pub returns-in_err-check_lengths-in-Err-clause-why : goal.returns-in_err-check_lengths-in-Err-clause-why
-returns-in_err-check_lengths-in-Err-clause-why c = λ said k.
-    passed_up c.from_residual.result c.in_err-check_lengths-in-Err.field-0.0 (IsConstantsFault c.args.source.now said c.args.spots.now c.args.raw.now) c.from_residual.ensures.1
-    (constants_long c.args.source.now said c.args.spots.now c.args.raw.now c.in_err-check_lengths-in-Err.field-0.0 c.in_err-check_lengths-in-Err.ensures.long)
+pub returns-in_err-check_lengths-clause-exact : goal.returns-in_err-check_lengths-clause-exact
+returns-in_err-check_lengths-clause-exact c = λ said defs rows k b kc.
+    passed_up c.from_residual.result c.in_err-check_lengths.field-0.0 (IsConstantsRefusal (AreTyped c.args.constants.now) c.args.source.now said defs rows c.args.spots.now c.args.raw.now) c.from_residual.ensures.1
+    (refused_long c.args.source.now said defs rows c.args.spots.now c.args.raw.now (AreTyped c.args.constants.now) c.in_err-check_lengths.field-0.0 c.in_err-check_lengths.ensures.long)
 
-pub returns-in_ok-check_lengths-in-Err-clause-why : goal.returns-in_ok-check_lengths-in-Err-clause-why
-returns-in_ok-check_lengths-in-Err-clause-why c = λ said k.
-    constants_type c.args.source.now said c.args.spots.now c.args.raw.now c.in-Err.fault c.in_ok-check_lengths-in-Err.ensures.taken (c.in-Err.ensures.first said k)
+pub returns-in_err-declared-clause-exact : goal.returns-in_err-declared-clause-exact
+returns-in_err-declared-clause-exact c = λ said defs rows k b kc.
+    passed_up c.from_residual-in_err-declared.result c.in_err-declared.field-0.0 (IsConstantsRefusal (AreTyped c.args.constants.now) c.args.source.now said defs rows c.args.spots.now c.args.raw.now) c.from_residual-in_err-declared.ensures.1
+    (refused_type c.args.source.now said defs rows c.args.spots.now c.args.raw.now (AreTyped c.args.constants.now) c.in_err-declared.field-0.0 c.in_ok-check_lengths.ensures.taken (c.in_err-declared.ensures.exact said defs k b))
 
-pub returns-in-Ok-None-clause-why : goal.returns-in-Ok-None-clause-why
-returns-in-Ok-None-clause-why c = λ said k.
-    for_err c.check_lengths-in-Ok-None.result (λ e. (e ≡ fault.Limit limit.NameLength) × ((s : Spot) × Contains c.args.spots.now s × (255 < length (spelled c.args.source.now s)))) (IsConstantsFault c.args.source.now said c.args.spots.now c.args.raw.now)
-    (λ e l. constants_long c.args.source.now said c.args.spots.now c.args.raw.now e l) c.check_lengths-in-Ok-None.ensures.long
+pub returns-clause-constants : goal.returns-clause-constants
+returns-clause-constants c = on_ok c.declare_all.result _ _ (λ h said defs rows k b kc.
+    let text = c.args.source.now in
+    let ty = c.args.raw.now in
+    let typed = c.in_ok-declared.ensures.typed said defs k b in
+    h said defs rows (written_in text ty) (known_now text said defs rows c.args.spots.now ty c.args.bodies.now.types.bank c.scheme.new.self.types.bank c.args.constants.now c.in_ok-declared.declared c.scheme.ensures.kept kc typed)
+    (as_typed text said defs rows c.args.spots.now ty c.args.bodies.now.types.bank c.scheme.new.self.types.bank c.args.constants.now c.in_ok-declared.declared c.scheme.ensures.kept kc typed)) c.declare_all.ensures.known
 
-pub returns-in-Ok-Some-clause-why : goal.returns-in-Ok-Some-clause-why
-returns-in-Ok-Some-clause-why c = λ said k.
-    for_err c.declare_all.result (IsFaultOf c.args.source.now (named c.args.spots.now) ⊥) (IsConstantsFault c.args.source.now said c.args.spots.now c.args.raw.now)
-    (λ e f. constants_name c.args.source.now said c.args.spots.now c.args.raw.now e (c.in-Ok-Some.ensures.stand said k) f) c.declare_all.ensures.refused
+pub returns-clause-exact : goal.returns-clause-exact
+returns-clause-exact c = λ said defs rows k b kc.
+    let text = c.args.source.now in
+    let ty = c.args.raw.now in
+    let typed = c.in_ok-declared.ensures.typed said defs k b in
+    for_err c.declare_all.result _ (IsConstantsRefusal (AreTyped c.args.constants.now) text said defs rows c.args.spots.now ty)
+    (λ e f. refused_name text said defs rows c.args.spots.now ty c.args.bodies.now.types.bank c.scheme.new.self.types.bank c.args.constants.now c.in_ok-declared.declared c.scheme.ensures.kept kc typed e c.in_ok-check_lengths.ensures.taken (c.in_ok-declared.ensures.stand said k) f) c.declare_all.ensures.why
+
+pub returns-clause-declared : goal.returns-clause-declared
+returns-clause-declared c = λ said defs rows k b kc settled all.
+    let text = c.args.source.now in
+    let ty = c.args.raw.now in
+    let typed = c.in_ok-declared.ensures.typed said defs k b in
+    declared_all text said defs rows c.args.spots.now ty c.args.bodies.now.types.bank c.scheme.new.self.types.bank c.args.constants.now c.in_ok-declared.declared c.scheme.ensures.kept kc typed c.declare_all.result c.declare_all.new.self
+    (c.in_ok-declared.ensures.settled said k settled) c.in_ok-declared.ensures.few all c.declare_all.ensures.typed c.declare_all.ensures.has

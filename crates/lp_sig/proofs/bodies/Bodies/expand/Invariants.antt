@@ -1,4 +1,5 @@
-use Rattle.std.proofs.Common.{◌≡◌, ℕ, List, [], take, Option, length}
+use Rattle.std.proofs.Common.{◌≡◌, ℕ, List, [], take, Option, None, length}
+use Rattle.lp_sig.specs.Constants.{AreSettled, AllMade}
 use Rattle.std.specs.Prelude.{IfSome}
 use Rattle.lp_base.specs.declared.place.Spot.{Spot}
 use Rattle.lp_term.specs.Nodes.{Extends}
@@ -8,6 +9,7 @@ use Rattle.lp_sig.specs.Knowing.{Knows, Holds}
 use Rattle.lp_sig.specs.Refusals.{IsFaultOf, typed, words_of}
 use Rattle.lp_sig.specs.Types.{Definition, by_parameters}
 use Rattle.lp_sig.specs.Holding.{AreParameters, AreDone, HoldsBodies}
+use Rattle.lp_sig.specs.Ordering.{HasNames, names_behind, in_order}
 use Rattle.lp_sig.proofs.Wording.{Finds}
 use Rattle.lp_sig.proofs.bodies.Bodies.expand.Given as goal
 
@@ -22,4 +24,8 @@ invariant-loop-node l = record {
   count : length l.done.items ≡ l.node-index;
   typed : (said : List (Row Said)) (defs : List (Row Definition)) (ps : List Spot) → Knows l.names said → HoldsBodies l.fn.self.types.bank l.fn.self.bodies.items said defs → AreParameters l.fn.variables l.source ps →
       AreDone l.self.types.bank said defs l.source (by_parameters l.source ps) l.raw.nodes.items l.done.items;
+  names : HasNames l.fn.variables [] → HasNames l.variables (names_behind l.source [] (take l.node-index l.raw.nodes.items));
+  ordered : (said : List (Row Said)) (defs : List (Row Definition)) → Knows l.names said → HoldsBodies l.fn.self.types.bank l.fn.self.bodies.items said defs → HasNames l.fn.variables [] →
+      AreDone l.self.types.bank said defs l.source (in_order l.source l.raw.nodes.items) l.raw.nodes.items l.done.items;
+  settled : (said : List (Row Said)) → Knows l.names said → AreSettled l.fn.self.bodies.items said → l.fault ≡ None → AllMade l.done.items;
 }

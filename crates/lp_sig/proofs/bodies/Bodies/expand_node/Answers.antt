@@ -1,7 +1,9 @@
-use Rattle.std.proofs.Common.{length, sym, subst, Some, None}
+use Rattle.std.proofs.Common.{length, sym, subst, refl, Some, None}
 use Rattle.lp_sig.specs.Types.{IsNode, IsTypeOf}
 use Rattle.lp_sig.specs.Holding.{given_number, AreDone, IsNumbered, IsTree, IfType}
 use Rattle.lp_sig.proofs.Typing.{done_more}
+use Rattle.lp_sig.specs.Constants.{AllMade}
+use Rattle.lp_sig.proofs.Settled.{made_more}
 use Rattle.lp_sig.proofs.bodies.Bodies.expand_node.Goals as goal
 
 pub returns-in_ok-push-in-Arrow-clause-typed : goal.returns-in_ok-push-in-Arrow-clause-typed
@@ -33,3 +35,21 @@ returns-in_ok-push-in-Unknown-clause-typed c = λ said defs ν nodes k h all at 
 pub returns-in_ok-push-in-Arity-clause-typed : goal.returns-in_ok-push-in-Arity-clause-typed
 returns-in_ok-push-in-Arity-clause-typed c = λ said defs ν nodes k h all at num.
     done_more c.args.self.now.types.bank c.word.new.self.types.bank said defs c.args.source.now ν nodes c.args.done.now.items c.push-in-Arity.new.self.items None c.word.ensures.kept all c.in_ok-push-in-Arity.ensures.items tt
+
+pub returns-in_ok-push-in-Arrow-clause-settled : goal.returns-in_ok-push-in-Arrow-clause-settled
+returns-in_ok-push-in-Arrow-clause-settled c = λ said k settled all none.
+    made_more c.args.done.now.items c.push.new.self.items c.in_ok-made-in-Arrow.made all (c.in_ok-made-in-Arrow.ensures.made (subst AllMade (sym c.as_slice.ensures.value) all)) c.in_ok-push-in-Arrow.ensures.items
+
+pub returns-in_ok-push-in-Type-clause-settled : goal.returns-in_ok-push-in-Type-clause-settled
+returns-in_ok-push-in-Type-clause-settled c = λ said k settled all none.
+    made_more c.args.done.now.items c.push-in-Type.new.self.items (Some c.in-Type.id) all refl c.in_ok-push-in-Type.ensures.items
+
+pub returns-in_ok-push-in-Open-clause-settled : goal.returns-in_ok-push-in-Open-clause-settled
+returns-in_ok-push-in-Open-clause-settled c = λ said k settled all none.
+    absurd (c.in_ok-id-in-Word.ensures.settled said k settled (subst AllMade (sym c.as_slice-in-Word-2.ensures.value) all) c.in-Open.is)
+
+pub returns-in_ok-push-in-Unknown-clause-settled : goal.returns-in_ok-push-in-Unknown-clause-settled
+returns-in_ok-push-in-Unknown-clause-settled c = λ said k settled all none. absurd (cc)
+
+pub returns-in_ok-push-in-Arity-clause-settled : goal.returns-in_ok-push-in-Arity-clause-settled
+returns-in_ok-push-in-Arity-clause-settled c = λ said k settled all none. absurd (cc)

@@ -11,6 +11,7 @@ use Rattle.lp_sig.specs.declared.names.Meaning.TheVariants as meaning
 use Rattle.lp_sig.proofs.Blame.{for_ok, both_ok}
 use Rattle.lp_sig.proofs.Typing.{variable_made, kind_made, abbreviation_made, as_type}
 use Rattle.lp_sig.proofs.Judging.{variable_stands, variable_unknown, as_name, other_arity, same_arity}
+use Rattle.lp_sig.proofs.Settled.{no_type}
 use Rattle.lp_sig.proofs.bodies.Bodies.word.Goals as goal
 
 pub returns-in_default-clause-fault : goal.returns-in_default-clause-fault
@@ -56,7 +57,7 @@ returns-then-is_variable-clause-typed c = λ said defs ν nodes i args k h all a
 
 pub returns-in_ok-id-in-Some-Kind-clause-typed : goal.returns-in_ok-id-in-Some-Kind-clause-typed
 returns-in_ok-id-in-Some-Kind-clause-typed c = λ said defs ν nodes i args k h all at same num.
-    let made = subst (λ o. IfSome o (λ types. map (type_done c.args.done.now) c.args.arguments.now ≡ map (λ t. Some t) types.items)) c.in-Some-2.is c.in_ok-parts-in-Some-Kind.ensures in
+    let made = subst (λ o. IfSome o (λ types. map (type_done c.args.done.now) c.args.arguments.now ≡ map (λ t. Some t) types.items)) c.in-Some-2.is c.in_ok-parts-in-Some-Kind.ensures.are in
     kind_made c.args.self.now.types.bank said defs c.args.source.now ν nodes c.args.done.now all c.con.new.self.bank i c.args.spot args c.args.arguments.now c.spelled_at-name.result.now c.in-Some-Kind.number c.in-Some-Kind.arity c.in-Some-2.parts.items c.as_slice.result.now c.in_ok-id-in-Some-Kind.id at same
     c.spelled_at-name.ensures (sym c.is_variable.ensures ∙ c.if-is_variable.false) (ap (λ m. Some (said_as c.args.names.now m)) (sym c.in-Some-Kind.field-0-is) ∙ c.in-Some-Kind.ensures.means said k) c.if-arguments-arity.false
     (subst (HasNumber (kind_number_of c.spelled_at-name.result.now said)) c.in-Some-Kind.field-0-is (c.in-Some-Kind.ensures.exact said k)) made c.as_slice.ensures.value c.in_ok-id-in-Some-Kind.ensures.tree.0 c.in_ok-id-in-Some-Kind.ensures.tree.1
@@ -75,3 +76,13 @@ returns-in-Some-Abbreviation-clause-typed c = λ said defs ν nodes i args k h a
     (λ made p. as_type made (IsReplaced b now said defs word c.args.done.now c.args.arguments.now) (IsTree now (IsTypeOf said defs text ν nodes i))
     (λ id is r. abbreviation_made b said defs text ν nodes c.args.done.now all now i c.args.spot args c.args.arguments.now word m _ id at same c.spelled_at-name.ensures (sym c.is_variable.ensures ∙ c.if-is_variable.false) means refl (ap (blamed c.args.spot) (sym is) ∙ p.0) r) p.1)
     (both_ok c.replaced.result (λ made. blamed c.args.spot made ≡ on_count c.args.spot (length c.args.arguments.now) m) (λ made. IfType made (IsReplaced b now said defs word c.args.done.now c.args.arguments.now)) (c.replaced.ensures.counted c.args.spot) (c.replaced.ensures.typed said defs word h there))
+
+pub returns-in_default-2-clause-settled : goal.returns-in_default-2-clause-settled
+returns-in_default-2-clause-settled c = λ said k settled all is. no_type c.in_ok-parts-in-Some-Kind.field-0 c.in_default-2.is (c.in_ok-parts-in-Some-Kind.ensures.made all)
+
+pub returns-in-Some-Abbreviation-clause-settled : goal.returns-in-Some-Abbreviation-clause-settled
+returns-in-Some-Abbreviation-clause-settled c = λ said k settled all.
+    let word = c.spelled_at-name.result.now in
+    let place = c.in-Some-Abbreviation.place in
+    let there : first_place word (abbreviation_names said) ≡ Some place = sym (c.in-Some-Abbreviation.ensures.place said k) ∙ ap (λ m. place_meant (Some m)) c.in-Some-Abbreviation.field-0-is in
+    c.replaced.ensures.settled said word settled there all

@@ -8,7 +8,7 @@ use Rattle.lp_sig.proofs.Announcing.{nothing_announced, one_announced, all_annou
 use Rattle.lp_sig.proofs.making.Making.announce.Goals as goal
 
 pub loop-line-init : goal.loop-line-init
-loop-line-init c = record { names = λ said k. subst (Knows c.args.self.now.names) (sym (append-nil said)) k; operators = refl; uses = refl; bodies = λ said defs k b. nothing_announced c.args.self.now.bodies.types.bank c.args.self.now.bodies.bodies.items said defs c.args.source.now (line_of_text c.args.text.now.lines.items) b }
+loop-line-init c = record { names = λ said k. subst (Knows c.args.self.now.names) (sym (append-nil said)) k; operators = refl; missing = refl; constants = refl; types = refl; uses = refl; bodies = λ said defs k b. nothing_announced c.args.self.now.bodies.types.bank c.args.self.now.bodies.bodies.items said defs c.args.source.now (line_of_text c.args.text.now.lines.items) b }
 
 pub loop-line-preserved : goal.loop-line-preserved
 loop-line-preserved c =
@@ -20,6 +20,9 @@ loop-line-preserved c =
     record {
       names = λ said k. subst (Knows c.announce_line.new.self.names) (said_more c.args.source.now lines i c.declaration-item.result said h at) (c.in_ok-announce_line.ensures.names (said ++ said_in c.args.source.now (take i lines)) (c.loop-line.invariant.names said k));
       operators = c.announce_line.ensures.operators ∙ c.loop-line.invariant.operators;
+      missing = c.announce_line.ensures.missing ∙ c.loop-line.invariant.missing;
+      constants = c.announce_line.ensures.constants ∙ c.loop-line.invariant.constants;
+      types = c.announce_line.ensures.types ∙ c.loop-line.invariant.types;
       uses = c.announce_line.ensures.uses ∙ c.loop-line.invariant.uses;
       bodies = λ said defs k b.
           one_announced c.announce_line.new.self.bodies.types.bank c.announce_line.new.self.bodies.bodies.items said defs c.args.source.now (line_of_text lines) lines i c.declaration-item.result h at

@@ -10,6 +10,9 @@ abbrev pub invariant-loop-line : goal.invariant-loop-line
 invariant-loop-line l = record {
   names : (said : List (Row Said)) → Knows l.fn.self.names said → Knows l.self.names (said ++ said_in l.source (take l.line l.text.lines.items));
   operators : l.self.operators ≡ l.fn.self.operators;
+  missing : l.self.missing ≡ l.fn.self.missing;
+  constants : l.self.constants ≡ l.fn.self.constants;
+  types : l.self.bodies.types ≡ l.fn.self.bodies.types;
   uses : l.self.uses ≡ l.fn.self.uses;
   bodies : (said : List (Row Said)) (defs : List (Row Definition)) → Knows l.fn.self.names said → KnowsBodies l.fn.self.bodies.types.bank l.fn.self.bodies.bodies.items said defs l.source (line_of_text l.text.lines.items) →
       KnowsBodies l.self.bodies.types.bank l.self.bodies.bodies.items (said ++ said_in l.source (take l.line l.text.lines.items)) (defs ++ definitions_in l.source (take l.line l.text.lines.items)) l.source (line_of_text l.text.lines.items);

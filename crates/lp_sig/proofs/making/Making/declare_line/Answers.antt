@@ -1,31 +1,19 @@
-use Rattle.std.proofs.Common.{ap, map, subst, sym, refl, ◌<◌, length}
+use Rattle.std.proofs.Common.{map, subst, sym, refl, ◌<◌, ◌++◌, length}
 use Rattle.std.specs.Prelude.{IfErr, IfOk, ◌≤◌}
 use Rattle.lp_sig.specs.Limits.{IsShort, AreShort, AreApart, IsWithin}
-use Rattle.lp_sig.specs.Said.{a_kind}
-use Rattle.lp_sig.specs.Words.{IsSentenceFault, IsKindsFault, IsConstantsFault, IsAbbreviationFault, IsSound, AreMeant, AreNumbered, IsHead, WordsStand, parameters_of}
-use Rattle.lp_sig.specs.Refusals.{IsFaultOf, named, typed, headed, words_of, parts_of, HasManyArguments}
-use Rattle.lp_sig.specs.Knowing.{Knows}
-use Rattle.lp_sig.specs.Abbreviations.{KnowsUses, IsCyclic, sentence}
-use Rattle.lp_sig.proofs.Blame.{always, for_err, for_ok}
-use Rattle.lp_sig.proofs.Abbreviating.{is_quiet}
-use Rattle.lp_sig.proofs.Cycles.{err_blames, ok_always, quiet_sentence, its_cycle, its_end}
+use Rattle.lp_sig.specs.Said.{a_kind, fixities_by}
+use Rattle.lp_sig.specs.Knowing.{KnowsOperators}
+use Rattle.lp_sig.specs.Words.{IsKindsFault, AreMeant, AreNumbered}
+use Rattle.lp_sig.specs.Faults.{IsSentenceFault, IsAbbreviationFault, IsSound, IsSoundAbbreviation}
+use Rattle.lp_sig.specs.Constants.{constants_by, KnowsConstants}
+use Rattle.lp_sig.proofs.Blame.{always, on_ok, for_ok, for_err}
+use Rattle.lp_sig.proofs.Constancy.{constants_kept}
+use Rattle.lp_sig.proofs.DeclaredConstants.{any_refusal, nothing_declared, its_constants}
+use Rattle.lp_sig.proofs.Sentences.{ok_with}
+use Rattle.lp_sig.proofs.Alike.{nothing_alike, one_alike}
+use Rattle.lp_sig.proofs.Copies.{extends_itself}
 use Rattle.lp_sig.proofs.Spoken.{no_fixities, its_fixities}
 use Rattle.lp_sig.proofs.making.Making.declare_line.Goals as goal
-
-pub returns-in-Kinds-clause-refused : goal.returns-in-Kinds-clause-refused
-returns-in-Kinds-clause-refused c =
-    subst (λ d. IfErr c.declare_kinds.result (IsFaultOf c.args.source.now (parts_of d) (HasManyArguments d))) (sym c.in-Kinds.is)
-    (subst (λ ns. IfErr c.declare_kinds.result (IsFaultOf c.args.source.now (named ns) (255 < c.in-Kinds.arity))) c.as_slice.ensures.value c.declare_kinds.ensures.refused)
-
-pub returns-in-Constants-clause-refused : goal.returns-in-Constants-clause-refused
-returns-in-Constants-clause-refused c =
-    subst (λ d. IfErr c.declare_constants.result (IsFaultOf c.args.source.now (parts_of d) (HasManyArguments d))) (sym c.in-Constants.is)
-    (subst (λ ns. IfErr c.declare_constants.result (IsFaultOf c.args.source.now (typed ns (words_of c.in-Constants.raw.nodes.items)) (Unit {0}))) c.as_slice-in-Constants.ensures.value c.declare_constants.ensures.refused)
-
-pub returns-in-Abbreviation-clause-refused : goal.returns-in-Abbreviation-clause-refused
-returns-in-Abbreviation-clause-refused c =
-    subst (λ d. IfErr c.declare_abbreviation.result (IsFaultOf c.args.source.now (parts_of d) (HasManyArguments d))) (sym c.in-Abbreviation.is)
-    (subst (λ ps. IfErr c.declare_abbreviation.result (IsFaultOf c.args.source.now (headed c.in-Abbreviation.name ps (words_of c.in-Abbreviation.raw.nodes.items)) (255 < length ps))) c.as_slice-in-Abbreviation.ensures.value c.declare_abbreviation.ensures.refused)
 
 pub returns-in-Kinds-clause-taken : goal.returns-in-Kinds-clause-taken
 returns-in-Kinds-clause-taken c =
@@ -49,7 +37,7 @@ pub returns-in-Constants-clause-operators : goal.returns-in-Constants-clause-ope
 returns-in-Constants-clause-operators c = always c.declare_constants.result _ (no_fixities c.args.self.now.operators c.args.source.now c.args.declaration.now _ c.in-Constants.is refl)
 
 pub returns-in-Abbreviation-clause-operators : goal.returns-in-Abbreviation-clause-operators
-returns-in-Abbreviation-clause-operators c = always c.declare_abbreviation.result _ (no_fixities c.args.self.now.operators c.args.source.now c.args.declaration.now _ c.in-Abbreviation.is refl)
+returns-in-Abbreviation-clause-operators c = always c.declare_abbreviation.result _ (λ said k. subst (λ o. KnowsOperators o (said ++ fixities_by c.args.source.now c.args.declaration.now)) (sym c.declare_abbreviation.ensures.operators) (no_fixities c.args.self.now.operators c.args.source.now c.args.declaration.now _ c.in-Abbreviation.is refl said k))
 
 pub returns-in-LocalKinds-clause-operators : goal.returns-in-LocalKinds-clause-operators
 returns-in-LocalKinds-clause-operators c = no_fixities c.args.self.now.operators c.args.source.now c.args.declaration.now _ c.in-LocalKinds.is refl
@@ -69,63 +57,86 @@ returns-in_ok-declare_all-in-Fixities-clause-operators c = λ said k.
     (c.in_ok-declare_all-in-Fixities.ensures said k)
 
 pub returns-in-Kinds-clause-why : goal.returns-in-Kinds-clause-why
-returns-in-Kinds-clause-why c = λ said k.
-    subst (λ d. IfErr c.declare_kinds.result (IsSentenceFault c.args.source.now said d)) (sym c.in-Kinds.is)
-    (subst (λ ns. IfErr c.declare_kinds.result (IsKindsFault c.args.source.now said ns c.in-Kinds.arity)) c.as_slice.ensures.value (c.declare_kinds.ensures.why said k))
+returns-in-Kinds-clause-why c = λ z rows s k.
+    subst (λ d. IfErr c.declare_kinds.result (IsSentenceFault c.args.source.now z rows d)) (sym c.in-Kinds.is)
+    (subst (λ ns. IfErr c.declare_kinds.result (IsKindsFault c.args.source.now z.said ns c.in-Kinds.arity)) c.as_slice.ensures.value (c.declare_kinds.ensures.why z.said s.known))
 
 pub returns-in-Constants-clause-why : goal.returns-in-Constants-clause-why
-returns-in-Constants-clause-why c = λ said k.
-    subst (λ d. IfErr c.declare_constants.result (IsSentenceFault c.args.source.now said d)) (sym c.in-Constants.is)
-    (subst (λ ns. IfErr c.declare_constants.result (IsConstantsFault c.args.source.now said ns c.in-Constants.raw)) c.as_slice-in-Constants.ensures.value (c.declare_constants.ensures.why said k))
+returns-in-Constants-clause-why c = λ z rows s k.
+    subst (λ d. IfErr c.declare_constants.result (IsSentenceFault c.args.source.now z rows d)) (sym c.in-Constants.is)
+    (for_err c.declare_constants.result _ _ (λ e f. any_refusal _ c.args.source.now z rows c.in-Constants.names.items c.as_slice-in-Constants.result.now c.in-Constants.raw e c.as_slice-in-Constants.ensures.value f)
+    (c.declare_constants.ensures.exact z.said z.definitions rows s.known s.holds k))
 
 pub returns-in-Abbreviation-clause-why : goal.returns-in-Abbreviation-clause-why
-returns-in-Abbreviation-clause-why c = λ said k.
-    subst (λ d. IfErr c.declare_abbreviation.result (IsSentenceFault c.args.source.now said d)) (sym c.in-Abbreviation.is)
-    (subst (λ ps. IfErr c.declare_abbreviation.result (IsAbbreviationFault c.args.source.now said c.in-Abbreviation.name ps c.in-Abbreviation.raw.nodes.items)) c.as_slice-in-Abbreviation.ensures.value (c.declare_abbreviation.ensures.why said k))
+returns-in-Abbreviation-clause-why c = λ z rows s k.
+    subst (λ d. IfErr c.declare_abbreviation.result (IsSentenceFault c.args.source.now z rows d)) (sym c.in-Abbreviation.is)
+    (subst (λ ps. IfErr c.declare_abbreviation.result (IsAbbreviationFault c.args.source.now z c.in-Abbreviation.name ps c.in-Abbreviation.raw)) c.as_slice-in-Abbreviation.ensures.value (c.declare_abbreviation.ensures.why z s))
+
+pub returns-in-Constants-clause-constants : goal.returns-in-Constants-clause-constants
+returns-in-Constants-clause-constants c = on_ok c.declare_constants.result _ _ (λ h z rows s k.
+    its_constants c.declare_constants.new.bodies.types.bank c.declare_constants.new.constants z.said z.definitions rows c.args.source.now c.args.declaration.now c.in-Constants.names c.as_slice-in-Constants.result.now c.in-Constants.raw c.in-Constants.is c.as_slice-in-Constants.ensures.value
+    (h z.said z.definitions rows s.known s.holds k)) c.declare_constants.ensures.constants
+
+pub returns-in-Kinds-clause-constants : goal.returns-in-Kinds-clause-constants
+returns-in-Kinds-clause-constants c = always c.declare_kinds.result _ (λ z rows s k. nothing_declared c.args.self.now.bodies.types.bank c.args.self.now.constants z.said z.definitions rows c.args.source.now c.args.declaration.now _ c.in-Kinds.is refl k)
+
+pub returns-in-Abbreviation-clause-constants : goal.returns-in-Abbreviation-clause-constants
+returns-in-Abbreviation-clause-constants c = always c.declare_abbreviation.result _ (λ z rows s k.
+    let old = c.args.self.now in
+    let new = c.declare_abbreviation.new.self in
+    let rest = nothing_declared old.bodies.types.bank old.constants z.said z.definitions rows c.args.source.now c.args.declaration.now _ c.in-Abbreviation.is refl k in
+    subst (λ cs. KnowsConstants new.bodies.types.bank cs z.said z.definitions (rows ++ constants_by c.args.source.now c.args.declaration.now)) (sym c.declare_abbreviation.ensures.constants)
+    (constants_kept old.bodies.types.bank new.bodies.types.bank old.constants z.said z.definitions (rows ++ constants_by c.args.source.now c.args.declaration.now) c.declare_abbreviation.ensures.kept rest))
+
+pub returns-in-LocalKinds-clause-constants : goal.returns-in-LocalKinds-clause-constants
+returns-in-LocalKinds-clause-constants c = λ z rows s k. nothing_declared c.args.self.now.bodies.types.bank c.args.self.now.constants z.said z.definitions rows c.args.source.now c.args.declaration.now _ c.in-LocalKinds.is refl k
+
+pub returns-in-Locals-clause-constants : goal.returns-in-Locals-clause-constants
+returns-in-Locals-clause-constants c = λ z rows s k. nothing_declared c.args.self.now.bodies.types.bank c.args.self.now.constants z.said z.definitions rows c.args.source.now c.args.declaration.now _ c.in-Locals.is refl k
+
+pub returns-in-Accumulate-clause-constants : goal.returns-in-Accumulate-clause-constants
+returns-in-Accumulate-clause-constants c = λ z rows s k. nothing_declared c.args.self.now.bodies.types.bank c.args.self.now.constants z.said z.definitions rows c.args.source.now c.args.declaration.now _ c.in-Accumulate.is refl k
+
+pub returns-in-AccumSig-clause-constants : goal.returns-in-AccumSig-clause-constants
+returns-in-AccumSig-clause-constants c = λ z rows s k. nothing_declared c.args.self.now.bodies.types.bank c.args.self.now.constants z.said z.definitions rows c.args.source.now c.args.declaration.now _ c.in-AccumSig.is refl k
+
+pub returns-in_ok-declare_all-in-Fixities-clause-constants : goal.returns-in_ok-declare_all-in-Fixities-clause-constants
+returns-in_ok-declare_all-in-Fixities-clause-constants c = λ z rows s k. nothing_declared c.args.self.now.bodies.types.bank c.args.self.now.constants z.said z.definitions rows c.args.source.now c.args.declaration.now _ c.in-Fixities.is refl k
 
 pub returns-in-Kinds-clause-sound : goal.returns-in-Kinds-clause-sound
-returns-in-Kinds-clause-sound c = λ said k.
-    subst (λ d. IfOk c.declare_kinds.result (λ done. IsSound c.args.source.now said d)) (sym c.in-Kinds.is)
-    (subst (λ ns. IfOk c.declare_kinds.result (λ done. AreMeant c.args.source.now said (a_kind c.in-Kinds.arity) ns × AreNumbered c.args.source.now said ns)) c.as_slice.ensures.value (c.declare_kinds.ensures.meant said k))
+returns-in-Kinds-clause-sound c = λ z s.
+    subst (λ d. IfOk c.declare_kinds.result (λ done. IsSound c.args.source.now z d)) (sym c.in-Kinds.is)
+    (subst (λ ns. IfOk c.declare_kinds.result (λ done. AreMeant c.args.source.now z.said (a_kind c.in-Kinds.arity) ns × AreNumbered c.args.source.now z.said ns)) c.as_slice.ensures.value (c.declare_kinds.ensures.meant z.said s.known))
 
 pub returns-in-Constants-clause-sound : goal.returns-in-Constants-clause-sound
-returns-in-Constants-clause-sound c = λ said k. subst (λ d. IfOk c.declare_constants.result (λ done. IsSound c.args.source.now said d)) (sym c.in-Constants.is) (c.declare_constants.ensures.stand said k)
+returns-in-Constants-clause-sound c = λ z s. subst (λ d. IfOk c.declare_constants.result (λ done. IsSound c.args.source.now z d)) (sym c.in-Constants.is) (c.declare_constants.ensures.stand z.said s.known)
 
 pub returns-in-Abbreviation-clause-sound : goal.returns-in-Abbreviation-clause-sound
-returns-in-Abbreviation-clause-sound c = λ said k.
-    subst (λ d. IfOk c.declare_abbreviation.result (λ done. IsSound c.args.source.now said d)) (sym c.in-Abbreviation.is)
-    (subst (λ ps. IfOk c.declare_abbreviation.result (λ done. IsHead c.args.source.now said c.in-Abbreviation.name ps × WordsStand c.args.source.now said (parameters_of c.args.source.now ps) c.in-Abbreviation.raw.nodes.items)) c.as_slice-in-Abbreviation.ensures.value
-    (c.declare_abbreviation.ensures.stand said k))
+returns-in-Abbreviation-clause-sound c = λ z s.
+    subst (λ d. IfOk c.declare_abbreviation.result (λ done. IsSound c.args.source.now z d)) (sym c.in-Abbreviation.is)
+    (subst (λ ps. IfOk c.declare_abbreviation.result (λ done. IsSoundAbbreviation c.args.source.now z c.in-Abbreviation.name ps c.in-Abbreviation.raw)) c.as_slice-in-Abbreviation.ensures.value (c.declare_abbreviation.ensures.stand z s))
 
-pub returns-in-Kinds-clause-cyclic : goal.returns-in-Kinds-clause-cyclic
-returns-in-Kinds-clause-cyclic c = err_blames c.declare_kinds.result c.args.source.now (named c.as_slice.result.now) (255 < c.in-Kinds.arity) (λ z. Knows c.args.self.now.names z.said) (KnowsUses (map (λ out. out.items) c.args.self.now.uses.ways.items)) (λ z s. IsCyclic (sentence z c.args.source.now c.args.declaration.now) s) refl c.declare_kinds.ensures.refused
+pub returns-in-Kinds-clause-same : goal.returns-in-Kinds-clause-same
+returns-in-Kinds-clause-same c = λ z s. ok_with c.declare_kinds.result _ (nothing_alike z.said z.definitions c.args.source.now c.args.declaration.now _ _ c.in-Kinds.is refl)
 
-pub returns-in-Kinds-clause-acyclic : goal.returns-in-Kinds-clause-acyclic
-returns-in-Kinds-clause-acyclic c = ok_always c.declare_kinds.result _ (λ z k u s. quiet_sentence z c.args.source.now c.args.declaration.now s (ap is_quiet c.in-Kinds.is))
+pub returns-in-Constants-clause-same : goal.returns-in-Constants-clause-same
+returns-in-Constants-clause-same c = λ z s. ok_with c.declare_constants.result _ (nothing_alike z.said z.definitions c.args.source.now c.args.declaration.now _ _ c.in-Constants.is refl)
 
-pub returns-in-Constants-clause-cyclic : goal.returns-in-Constants-clause-cyclic
-returns-in-Constants-clause-cyclic c = err_blames c.declare_constants.result c.args.source.now (typed c.as_slice-in-Constants.result.now (words_of c.in-Constants.raw.nodes.items)) (Unit {0}) (λ z. Knows c.args.self.now.names z.said) (KnowsUses (map (λ out. out.items) c.args.self.now.uses.ways.items)) (λ z s. IsCyclic (sentence z c.args.source.now c.args.declaration.now) s) refl c.declare_constants.ensures.refused
+pub returns-in-LocalKinds-clause-same : goal.returns-in-LocalKinds-clause-same
+returns-in-LocalKinds-clause-same c = λ z s. nothing_alike z.said z.definitions c.args.source.now c.args.declaration.now _ _ c.in-LocalKinds.is refl
 
-pub returns-in-Constants-clause-acyclic : goal.returns-in-Constants-clause-acyclic
-returns-in-Constants-clause-acyclic c = ok_always c.declare_constants.result _ (λ z k u s. quiet_sentence z c.args.source.now c.args.declaration.now s (ap is_quiet c.in-Constants.is))
+pub returns-in-Locals-clause-same : goal.returns-in-Locals-clause-same
+returns-in-Locals-clause-same c = λ z s. nothing_alike z.said z.definitions c.args.source.now c.args.declaration.now _ _ c.in-Locals.is refl
 
-pub returns-in-LocalKinds-clause-acyclic : goal.returns-in-LocalKinds-clause-acyclic
-returns-in-LocalKinds-clause-acyclic c = λ z k u s. quiet_sentence z c.args.source.now c.args.declaration.now s (ap is_quiet c.in-LocalKinds.is)
+pub returns-in-Accumulate-clause-same : goal.returns-in-Accumulate-clause-same
+returns-in-Accumulate-clause-same c = λ z s. nothing_alike z.said z.definitions c.args.source.now c.args.declaration.now _ _ c.in-Accumulate.is refl
 
-pub returns-in-Locals-clause-acyclic : goal.returns-in-Locals-clause-acyclic
-returns-in-Locals-clause-acyclic c = λ z k u s. quiet_sentence z c.args.source.now c.args.declaration.now s (ap is_quiet c.in-Locals.is)
+pub returns-in-AccumSig-clause-same : goal.returns-in-AccumSig-clause-same
+returns-in-AccumSig-clause-same c = λ z s. nothing_alike z.said z.definitions c.args.source.now c.args.declaration.now _ _ c.in-AccumSig.is refl
 
-pub returns-in-Accumulate-clause-acyclic : goal.returns-in-Accumulate-clause-acyclic
-returns-in-Accumulate-clause-acyclic c = λ z k u s. quiet_sentence z c.args.source.now c.args.declaration.now s (ap is_quiet c.in-Accumulate.is)
+pub returns-in_ok-declare_all-in-Fixities-clause-same : goal.returns-in_ok-declare_all-in-Fixities-clause-same
+returns-in_ok-declare_all-in-Fixities-clause-same c = λ z s. nothing_alike z.said z.definitions c.args.source.now c.args.declaration.now _ _ c.in-Fixities.is refl
 
-pub returns-in-AccumSig-clause-acyclic : goal.returns-in-AccumSig-clause-acyclic
-returns-in-AccumSig-clause-acyclic c = λ z k u s. quiet_sentence z c.args.source.now c.args.declaration.now s (ap is_quiet c.in-AccumSig.is)
-
-pub returns-in_ok-declare_all-in-Fixities-clause-acyclic : goal.returns-in_ok-declare_all-in-Fixities-clause-acyclic
-returns-in_ok-declare_all-in-Fixities-clause-acyclic c = λ z k u s. quiet_sentence z c.args.source.now c.args.declaration.now s (ap is_quiet c.in-Fixities.is)
-
-pub returns-in-Abbreviation-clause-cyclic : goal.returns-in-Abbreviation-clause-cyclic
-returns-in-Abbreviation-clause-cyclic c = for_err c.declare_abbreviation.result _ _ (λ e f z k u s is. its_cycle z c.args.source.now c.args.declaration.now c.in-Abbreviation.name c.in-Abbreviation.parameters c.in-Abbreviation.raw s c.in-Abbreviation.is (f z k u s is)) c.declare_abbreviation.ensures.cyclic
-
-pub returns-in-Abbreviation-clause-acyclic : goal.returns-in-Abbreviation-clause-acyclic
-returns-in-Abbreviation-clause-acyclic c = for_ok c.declare_abbreviation.result _ _ (λ x f z k u s. its_end z c.args.source.now c.args.declaration.now c.in-Abbreviation.name c.in-Abbreviation.parameters c.in-Abbreviation.raw s c.in-Abbreviation.is (f z k u)) c.declare_abbreviation.ensures.acyclic
+pub returns-in-Abbreviation-clause-same : goal.returns-in-Abbreviation-clause-same
+returns-in-Abbreviation-clause-same c = λ z s.
+    for_ok c.declare_abbreviation.result _ _ (λ x f m. one_alike z.said z.definitions c.args.source.now c.args.declaration.now c.in-Abbreviation.name c.in-Abbreviation.parameters c.as_slice-in-Abbreviation.result.now c.in-Abbreviation.raw c.in-Abbreviation.is c.as_slice-in-Abbreviation.ensures.value (f m)) (c.declare_abbreviation.ensures.same z s)

@@ -1,0 +1,15 @@
+use Rattle.std.proofs.Common.{◌≡◌, length, map, arith, sym, refl}
+use Rattle.std.proofs.lemmas.List.{length-map}
+use Rattle.lp_sig.proofs.Blame.{on_ok, always}
+use Rattle.lp_sig.proofs.Constancy.{known_more, typed_more}
+use Rattle.lp_sig.proofs.constants.Constants.add.Goals as goal
+
+pub returns-clause-added : goal.returns-clause-added
+returns-clause-added c = λ b said defs rows w k new typed.
+    let old = c.args.self.now.constants.items in
+    let l = length-map old (λ k. k.name.items) in
+    let n : c.len-place.result ≡ length (map (λ k. k.name.items) old) = omega (arith, c.len-place.ensures, c.args.self.now.constants.ok, l) in
+    known_more b c.args.self.now _ said defs rows c.args.word.now w k new _ typed c.in_ok-name.ensures.items c.in_ok-push.ensures.items (c.in_ok-add.ensures.added (map (λ k. k.name.items) old) n k.places)
+
+pub returns-clause-typed : goal.returns-clause-typed
+returns-clause-typed c = λ d some all. typed_more c.args.self.now.constants.items _ _ c.args.declared d refl some c.in_ok-push.ensures.items all

@@ -1,0 +1,13 @@
+use Rattle.std.proofs.Common.{List, take, ◌≤◌, ◌+◌}
+use Rattle.lp_term.specs.Nodes.{Nodes}
+use Rattle.lp_sig.specs.Rows.{Row}
+use Rattle.lp_sig.specs.Said.{Said}
+use Rattle.lp_sig.specs.Types.{Definition}
+use Rattle.lp_sig.specs.Constants.{Written, AreInStep, IsNoted, IsConstant}
+use Rattle.lp_sig.proofs.constants.Constants.entries.Given as goal
+
+abbrev pub invariant-loop-place : goal.invariant-loop-place
+invariant-loop-place l = record {
+  numbers : 32 + l.place ≤ 65535;
+  listed : (b : Nodes) (said : List (Row Said)) (defs : List (Row Definition)) (rows : List (Row Written)) → AreInStep (IsNoted b said defs) 32 rows l.self.constants.items → AreInStep (IsConstant b said defs) 32 (take l.place rows) l.entries.items;
+}

@@ -1,0 +1,29 @@
+use Rattle.std.proofs.Common.{◌≡◌, ◌<◌, length, get_or, sym, ap, subst, ◌∙◌}
+use Rattle.lp_sig.proofs.Constancy.{known_standard, known_new, known_typed, known_untyped, not_typed}
+use Rattle.lp_sig.proofs.constants.Constants.known_as.Goals as goal
+
+pub returns-in-Some-clause-is : goal.returns-in-Some-clause-is
+returns-in-Some-clause-is c = λ said defs rows k.
+    known_standard c.args.types.now.bank c.args.self.now said defs rows c.args.word.now c.standard_type.new.types.bank c.in-Some.number c.in_ok-known.known c.in-Some.ensures c.in_ok-known.ensures.tree
+
+pub returns-in_default-of-clause-is : goal.returns-in_default-of-clause-is
+returns-in_default-of-clause-is c = λ said defs rows k.
+    known_new c.args.types.now.bank c.args.self.now said defs rows c.args.word.now k c.in_default.ensures c.in_default-of.ensures
+
+pub returns-in-Some-declared-clause-is : goal.returns-in-Some-declared-clause-is
+returns-in-Some-declared-clause-is c = λ said defs rows k.
+    let x = c.in-Some-get.constant.now in
+    let at : x ≡ get_or c.args.self.now.constants.items c.in-Some-of.place x = c.in-Some-get.ensures.lookup.1 ∙ ap (λ xs. get_or xs c.in-Some-of.place x) c.deref.ensures.value in
+    known_typed c.args.types.now.bank c.args.self.now said defs rows c.args.word.now k c.in_default.ensures c.in-Some-of.place x c.in-Some-declared.declared c.in-Some-of.ensures at c.in-Some-declared.is
+
+pub returns-in-None-clause-is : goal.returns-in-None-clause-is
+returns-in-None-clause-is c = λ said defs rows k.
+    let x = c.in-Some-get.constant.now in
+    let at : x ≡ get_or c.args.self.now.constants.items c.in-Some-of.place x = c.in-Some-get.ensures.lookup.1 ∙ ap (λ xs. get_or xs c.in-Some-of.place x) c.deref.ensures.value in
+    known_untyped c.args.types.now.bank c.args.self.now said defs rows c.args.word.now k c.in_default.ensures c.in-Some-of.place x c.in-Some-of.ensures at
+
+pub returns-in-None-clause-untyped : goal.returns-in-None-clause-untyped
+returns-in-None-clause-untyped c = λ is all.
+    let x = c.in-Some-get.constant.now in
+    let at : x ≡ get_or c.args.self.now.constants.items c.in-Some-of.place x = c.in-Some-get.ensures.lookup.1 ∙ ap (λ xs. get_or xs c.in-Some-of.place x) c.deref.ensures.value in
+    not_typed c.args.self.now c.in-Some-of.place x (subst (λ xs. c.in-Some-of.place < length xs) c.deref.ensures.value c.in-Some-get.ensures.lookup.3.0) at c.in-None.is all

@@ -1,0 +1,229 @@
+-- Constants: what sentences declare, which type each has, and why a sentence of constants is refused.
+use Rattle.std.specs.Global.{Global}
+use Rattle.std.specs.Prelude.{◌≡◌, ◌≢◌, ◌≤◌, ◌<◌, ◌+◌, ◌⊎◌, ℕ, suc, List, [], ◌∷◌, ◌++◌, Option, Some, None, Vec, map, take, length, All, Contains, codes, true, is_some, IfSome, slice_index_or, ◌||◌}
+use Rattle.lp_base.specs.declared.limit.Limit.TheVariants as limit
+use Rattle.lp_base.specs.declared.place.Spot.{Spot}
+use Rattle.lp_calculus.specs.Types.{Ty, var, arrow}
+use Rattle.lp_calculus.specs.Typing.{o_type, int_type, string_type, list_type}
+use Rattle.lp_term.specs.Nodes.{Nodes, type_tree}
+use Rattle.lp_term.specs.declared.node.TypeId.{TypeId}
+use Rattle.lp_syntax.specs.declared.text.Declaration.{Declaration}
+use Rattle.lp_syntax.specs.declared.text.Declaration.TheVariants.{Kinds, LocalKinds, Constants as OfType, Locals, Abbreviation, Accumulate, AccumSig, Fixities}
+use Rattle.lp_syntax.specs.declared.text.RawType.{RawType}
+use Rattle.lp_syntax.specs.declared.text.RawTypeNode.{RawTypeNode}
+use Rattle.lp_syntax.specs.declared.text.RawTypeNode.TheVariants as node
+use Rattle.lp_sig.specs.Pieces.{spelled, begins_variable}
+use Rattle.lp_sig.specs.Places.{first_place, HasPlaces}
+use Rattle.lp_sig.specs.Rows.{Row, found}
+use Rattle.lp_sig.specs.Standard.{standard_constants}
+use Rattle.lp_sig.specs.Said.{Said, each, is_among, names_in, firsts}
+use Rattle.lp_sig.specs.Abbreviations.{abbreviation_names}
+use Rattle.lp_sig.specs.Limits.{AreShort}
+use Rattle.lp_sig.specs.Words.{IsLongType, IsFirstFault, IsSoundType}
+use Rattle.lp_sig.specs.Schemes.{first_variables, numbered_type}
+use Rattle.lp_sig.specs.Types.{Definition, IsNode, IsTypeOf}
+use Rattle.lp_sig.specs.Holding.{body_of, IsTree}
+use Rattle.lp_sig.specs.declared.bodies.Body.{Body}
+use Rattle.lp_sig.specs.declared.entries.ConstantEntry.{ConstantEntry}
+use Rattle.lp_sig.specs.declared.constants.Constant.{Constant}
+use Rattle.lp_sig.specs.declared.constants.Constants.{Constants}
+use Rattle.lp_sig.specs.declared.constants.DeclaredType.{DeclaredType}
+use Rattle.lp_sig.specs.declared.constants.Known.{Known}
+use Rattle.lp_sig.specs.declared.constants.Known.TheVariants as known
+use Rattle.lp_sig.specs.declared.standard.Parts.{Parts}
+use Rattle.lp_sig.specs.declared.fault.SigFault.{SigFault}
+use Rattle.lp_sig.specs.declared.fault.SigFault.TheVariants as fault
+
+-- a type as written, with the text in which it stands
+pub record Written : Type 0 where
+  pub text : List ℕ
+  pub raw : RawType
+
+abbrev pub written_in : List ℕ → RawType → Written
+written_in text ty = record { text = text; raw = ty }
+
+-- the constants of a sentence and of a text, each with its type as written, in order
+abbrev pub constants_by : List ℕ → Declaration → List (Row Written)
+constants_by text (Kinds names n) = []
+constants_by text (LocalKinds names n) = []
+constants_by text (OfType names ty) = each text (written_in text ty) names.items
+constants_by text (Locals names ty) = []
+constants_by text (Abbreviation name ps ty) = []
+constants_by text (Accumulate words) = []
+constants_by text (AccumSig words) = []
+constants_by text (Fixities names f n) = []
+
+abbrev pub constants_in : List ℕ → List Declaration → List (Row Written)
+constants_in text [] = []
+constants_in text (d ∷ ds) = constants_by text d ++ constants_in text ds
+
+-- what is declared: the first of each name that is not standard
+abbrev pub declared_constants : List (Row Written) → List (Row Written)
+declared_constants rows = firsts (names_in standard_constants) rows
+
+-- a variable word at a node of a type
+abbrev pub IsVariable : List ℕ → List RawTypeNode → ℕ → Spot → Type 0
+IsVariable text nodes i s = (args : Vec ℕ Global) × IsNode nodes i (node.Word s args) × (begins_variable (spelled text s) ≡ true)
+
+-- the variable words of a declared type are numbered: one name has one number, but each `_` has its own, and no two have the same
+pub record IsNumbering (text : List ℕ) (nodes : List RawTypeNode) (ν : ℕ → Spot → Option ℕ) : Type 0 where
+  pub same : (i j : ℕ) (s z : Spot) (n : ℕ) → IsVariable text nodes i s → IsVariable text nodes j z → spelled text s ≡ spelled text z → spelled text s ≢ codes "_" → ν i s ≡ Some n → ν j z ≡ Some n
+  pub apart : (i j : ℕ) (s z : Spot) (n : ℕ) → IsVariable text nodes i s → IsVariable text nodes j z → ν i s ≡ Some n → ν j z ≡ Some n → (i ≡ j) ⊎ ((spelled text s ≡ spelled text z) × (spelled text s ≢ codes "_"))
+
+-- a declared type: the tree of what is written, its type variables numbered by first place, with their count
+pub record IsSchemeOf (said : List (Row Said)) (defs : List (Row Definition)) (w : Written) (count : ℕ) (tree : Ty) : Type 0 where
+  pub number : ℕ → Spot → Option ℕ
+  pub numbering : IsNumbering w.text w.raw.nodes.items number
+  pub replaced : Ty
+  pub is : IsTypeOf said defs w.text number w.raw.nodes.items w.raw.root replaced
+  pub counted : count ≡ length (first_variables replaced)
+  pub numbered : tree ≡ numbered_type replaced
+
+-- the types of the standard constants, by their numbers: `,` `;` `=>` `:-` `pi` `sigma` `true` `!` `=` `is` `<` `>` `=<` `>=` `::`
+-- `nil` `+` `-` `*` `div` `mod` `~` `^` `size`
+abbrev pub on_two : Ty → Ty → Ty
+on_two from to = arrow from (arrow from to)
+
+abbrev pub standard_types : List Ty
+standard_types =
+    on_two o_type o_type ∷ on_two o_type o_type ∷ on_two o_type o_type ∷ on_two o_type o_type ∷
+    arrow (arrow (var 0) o_type) o_type ∷ arrow (arrow (var 0) o_type) o_type ∷ o_type ∷ o_type ∷
+    on_two (var 0) o_type ∷ on_two (var 0) o_type ∷
+    on_two int_type o_type ∷ on_two int_type o_type ∷ on_two int_type o_type ∷ on_two int_type o_type ∷
+    arrow (var 0) (arrow (list_type (var 0)) (list_type (var 0))) ∷ list_type (var 0) ∷
+    on_two int_type int_type ∷ on_two int_type int_type ∷ on_two int_type int_type ∷ on_two int_type int_type ∷ on_two int_type int_type ∷
+    arrow int_type int_type ∷ on_two string_type string_type ∷ arrow string_type int_type ∷ []
+
+abbrev pub standard_tree : ℕ → Ty
+standard_tree n = slice_index_or standard_types n (arrow string_type int_type)
+
+-- the types of which they are made
+pub record AreParts (b : Nodes) (p : Parts) : Type 0 where
+  pub goal : IsTree b (λ t. t ≡ o_type) p.goal
+  pub int : IsTree b (λ t. t ≡ int_type) p.int
+  pub string : IsTree b (λ t. t ≡ string_type) p.string
+  pub any : IsTree b (λ t. t ≡ var 0) p.any
+  pub list : IsTree b (λ t. t ≡ list_type (var 0)) p.list
+
+-- the type with which a name is declared first; standard names come before all others
+pub data HasType (said : List (Row Said)) (defs : List (Row Definition)) (rows : List (Row Written)) (name : List ℕ) (t : Ty) : Type 0 where
+  standard_one : (n : ℕ) → found name standard_constants ≡ Some n → t ≡ standard_tree n → HasType said defs rows name t
+  declared_one : found name standard_constants ≡ None → (w : Written) → found name rows ≡ Some w → (count : ℕ) → IsSchemeOf said defs w count t → HasType said defs rows name t
+
+-- two lists in step, the members of the first numbered from a number on
+abbrev pub AreInStep : {A B : Type 0} → (ℕ → A → B → Type 0) → ℕ → List A → List B → Type 0
+AreInStep P n [] [] = Unit {0}
+AreInStep P n [] (y ∷ ys) = ⊥
+AreInStep P n (x ∷ xs) [] = ⊥
+AreInStep P n (x ∷ xs) (y ∷ ys) = P n x y × AreInStep P (suc n) xs ys
+
+-- an entry is that of a declared constant
+pub record IsConstant (b : Nodes) (said : List (Row Said)) (defs : List (Row Definition)) (n : ℕ) (row : Row Written) (e : ConstantEntry) : Type 0 where
+  pub name : e.name.items ≡ row.0
+  pub number : e.number ≡ n
+  pub inside : e.scheme.0 < length b.types
+  pub scheme : IsSchemeOf said defs row.1 e.type_vars (type_tree b e.scheme.0)
+
+-- the entries are those of the declared constants, in order, with numbers from 32 on
+abbrev pub AreConstants : Nodes → List (Row Said) → List (Row Definition) → List (Row Written) → List ConstantEntry → Type 0
+AreConstants b said defs rows entries = AreInStep (IsConstant b said defs) 32 (declared_constants rows) entries
+
+-- there are numbers below 65535 for all constants
+abbrev pub HaveNumbers : List (Row Written) → Type 0
+HaveNumbers rows = 32 + length (declared_constants rows) ≤ 65535
+
+-- a type of the bank is that of a declared constant
+pub record IsTyped (b : Nodes) (said : List (Row Said)) (defs : List (Row Definition)) (w : Written) (d : DeclaredType) : Type 0 where
+  pub inside : d.scheme.0 < length b.types
+  pub scheme : IsSchemeOf said defs w d.type_vars (type_tree b d.scheme.0)
+
+-- a constant that is known is that of a row; its type is missing where an abbreviation in it has none
+pub record IsNoted (b : Nodes) (said : List (Row Said)) (defs : List (Row Definition)) (n : ℕ) (row : Row Written) (c : Constant) : Type 0 where
+  pub name : c.name.items ≡ row.0
+  pub typed : IfSome c.declared (IsTyped b said defs row.1)
+
+-- the constants so far are those of these rows
+pub record KnowsConstants (b : Nodes) (constants : Constants) (said : List (Row Said)) (defs : List (Row Definition)) (rows : List (Row Written)) : Type 0 where
+  pub are : AreInStep (IsNoted b said defs) 32 (declared_constants rows) constants.constants.items
+  pub places : HasPlaces constants.places (map (λ c. c.name.items) constants.constants.items)
+
+-- each constant so far has a type
+abbrev pub AreTyped : Constants → Type 0
+AreTyped constants = All (λ c. is_some c.declared ≡ true) constants.constants.items
+
+-- each abbreviation has a body
+abbrev pub AreSettled : List Body → List (Row Said) → Type 0
+AreSettled bodies said = (name : List ℕ) (place : ℕ) → first_place name (abbreviation_names said) ≡ Some place → is_some (body_of bodies place) ≡ true
+
+-- each part so far has a type
+abbrev pub AllMade : List (Option TypeId) → Type 0
+AllMade done = All (λ o. is_some o ≡ true) done
+
+-- why a declared type is refused: it has more than 255 arguments as written, or a word has a fault, or it has more than 255 type
+-- variables behind its abbreviations
+pub data IsWrittenFault (text : List ℕ) (said : List (Row Said)) (defs : List (Row Definition)) (ty : RawType) : SigFault → Type 0 where
+  long_type : {e : SigFault} → e ≡ fault.Limit limit.Arguments → IsLongType ty.nodes.items ty.root → IsWrittenFault text said defs ty e
+  word_of_type : {e : SigFault} → (IsLongType ty.nodes.items ty.root → ⊥) → IsFirstFault text said None ty.nodes.items e → IsWrittenFault text said defs ty e
+  many_variables : {e : SigFault} → e ≡ fault.Limit limit.Arguments → IsSoundType text said ty → (count : ℕ) (t : Ty) → IsSchemeOf said defs (written_in text ty) count t → 255 < count → IsWrittenFault text said defs ty e
+
+-- why a name is refused: it is declared with another type, or it is new and no number is left for it
+pub data IsConstantFault (said : List (Row Said)) (defs : List (Row Definition)) (rows : List (Row Written)) (name : List ℕ) (t : Ty) (s : Spot) : SigFault → Type 0 where
+  other_type : {e : SigFault} → e ≡ fault.Differ s → (first : Ty) → HasType said defs rows name first → first ≢ t → IsConstantFault said defs rows name t s e
+  no_number : {e : SigFault} → e ≡ fault.Limit limit.Names → found name standard_constants ≡ None → found name rows ≡ None → 65535 ≤ 32 + length (declared_constants rows) → IsConstantFault said defs rows name t s e
+
+-- these names have one type
+abbrev pub HaveType : List ℕ → List (Row Said) → List (Row Definition) → List (Row Written) → List Spot → Ty → Type 0
+HaveType text said defs rows names t = All (λ s. HasType said defs rows (spelled text s) t) names
+
+-- the first name of a sentence that is refused; the names before it have its type, if no constant so far is without one
+pub record IsFirstConstant (Typed : Type 0) (text : List ℕ) (said : List (Row Said)) (defs : List (Row Definition)) (rows : List (Row Written)) (names : List Spot) (w : Written) (e : SigFault) : Type 0 where
+  pub count : ℕ
+  pub tree : Ty
+  pub scheme : IsSchemeOf said defs w count tree
+  pub k : ℕ
+  pub name : Spot
+  pub inside : k < length names
+  pub at_name : slice_index_or names k name ≡ name
+  pub before : Typed → HaveType text said defs (rows ++ each text w (take k names)) (take k names) tree
+  pub refused : IsConstantFault said defs (rows ++ each text w (take k names)) (spelled text name) tree name e
+
+-- why a sentence of constants is refused, where these were declared before it: a long name goes first, then its type, then its names
+-- in order
+pub data IsConstantsRefusal (Typed : Type 0) (text : List ℕ) (said : List (Row Said)) (defs : List (Row Definition)) (rows : List (Row Written)) (names : List Spot) (ty : RawType) : SigFault → Type 0 where
+  long_name : {e : SigFault} → e ≡ fault.Limit limit.NameLength → (s : Spot) → Contains names s → 255 < length (spelled text s) → IsConstantsRefusal Typed text said defs rows names ty e
+  bad_type : {e : SigFault} → AreShort text names → IsWrittenFault text said defs ty e → IsConstantsRefusal Typed text said defs rows names ty e
+  bad_name : {e : SigFault} → AreShort text names → IsSoundType text said ty → IsFirstConstant Typed text said defs rows names (written_in text ty) e → IsConstantsRefusal Typed text said defs rows names ty e
+  no_memory : {e : SigFault} → e ≡ fault.Memory → IsConstantsRefusal Typed text said defs rows names ty e
+
+-- a sentence of constants without fault: its type has a tree and at most 255 type variables, each name has this type behind it, and
+-- there are numbers for all if there were before
+pub record AreDeclared (text : List ℕ) (said : List (Row Said)) (defs : List (Row Definition)) (rows : List (Row Written)) (names : List Spot) (ty : RawType) : Type 0 where
+  pub count : ℕ
+  pub tree : Ty
+  pub scheme : IsSchemeOf said defs (written_in text ty) count tree
+  pub few : count ≤ 255
+  pub have : HaveType text said defs (rows ++ each text (written_in text ty) names) names tree
+  pub numbers : HaveNumbers rows → HaveNumbers (rows ++ each text (written_in text ty) names)
+
+-- a name is declared so far
+abbrev pub IsDeclared : List ℕ → List (Row Written) → Type 0
+IsDeclared name rows = (is_among name (names_in standard_constants) || is_among name (names_in rows)) ≡ true
+
+-- what is known of a name: it is new, or its type is missing, or it has this type
+abbrev pub IsKnownAs : Nodes → List (Row Said) → List (Row Definition) → List (Row Written) → List ℕ → Known → Type 0
+IsKnownAs b said defs rows name known.New = (found name standard_constants ≡ None) × (found name rows ≡ None)
+IsKnownAs b said defs rows name known.Untyped = IsDeclared name rows
+IsKnownAs b said defs rows name (known.Typed t) = (t.0 < length b.types) × HasType said defs rows name (type_tree b t.0)
+
+-- a type of the bank that is declared here, if there is one
+abbrev pub IfTyped : Option DeclaredType → (DeclaredType → Type 0) → Type 0
+IfTyped o P = (d : DeclaredType) → o ≡ Some d → P d
+
+-- a name has its type behind its declaration, and if there were numbers for all there are
+pub record HasIts (said : List (Row Said)) (defs : List (Row Definition)) (rows : List (Row Written)) (row : Row Written) (t : Ty) : Type 0 where
+  pub has : HasType said defs (rows ++ row ∷ []) row.0 t
+  pub numbers : HaveNumbers rows → HaveNumbers (rows ++ row ∷ [])
+
+pub record HaveIts (text : List ℕ) (said : List (Row Said)) (defs : List (Row Definition)) (rows : List (Row Written)) (names : List Spot) (w : Written) (t : Ty) : Type 0 where
+  pub have : HaveType text said defs (rows ++ each text w names) names t
+  pub numbers : HaveNumbers rows → HaveNumbers (rows ++ each text w names)

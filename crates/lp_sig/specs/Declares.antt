@@ -1,0 +1,17 @@
+-- The constants behind texts.
+use Rattle.std.specs.Prelude.{ℕ, List, [], ◌∷◌, ◌++◌}
+use Rattle.lp_sig.specs.Rows.{Row}
+use Rattle.lp_sig.specs.Abbreviations.{Seen, Text, seen_after}
+use Rattle.lp_sig.specs.Constants.{Written, constants_in, KnowsConstants}
+use Rattle.lp_sig.specs.Holding.{KnowsSeen}
+use Rattle.lp_sig.specs.declared.making.Making.{Making}
+
+-- the constants of texts, one after the other
+abbrev pub constants_after : List (Row Written) → List Text → List (Row Written)
+constants_after rows [] = rows
+constants_after rows (t ∷ ts) = constants_after (rows ++ constants_in t.0 t.1) ts
+
+-- behind these texts so many more constants are known
+abbrev pub Declares : Making → Making → List Text → Type 0
+Declares old new ts = (z : Seen) (rows : List (Row Written)) → KnowsSeen old z → KnowsConstants old.bodies.types.bank old.constants z.said z.definitions rows →
+    KnowsConstants new.bodies.types.bank new.constants (seen_after z ts).said (seen_after z ts).definitions (constants_after rows ts)

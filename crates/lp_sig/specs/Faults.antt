@@ -1,0 +1,84 @@
+-- Why a sentence is refused, and what holds of one that is taken, under all that is seen up to the end of its text.
+use Rattle.std.specs.Prelude.{◌≡◌, ℕ, ◌<◌, List, length, All}
+use Rattle.lp_base.specs.declared.limit.Limit.TheVariants as limit
+use Rattle.lp_base.specs.declared.place.Spot.{Spot}
+use Rattle.lp_calculus.specs.Types.{Ty}
+use Rattle.lp_syntax.specs.declared.text.Declaration.{Declaration}
+use Rattle.lp_syntax.specs.declared.text.Declaration.TheVariants.{Kinds, LocalKinds, Constants, Locals, Abbreviation, Accumulate, AccumSig, Fixities}
+use Rattle.lp_syntax.specs.declared.text.RawType.{RawType}
+use Rattle.lp_sig.specs.Pieces.{spelled}
+use Rattle.lp_sig.specs.Rows.{Row}
+use Rattle.lp_sig.specs.Said.{Said, a_kind, an_abbreviation}
+use Rattle.lp_sig.specs.Limits.{AreApart, IsRepeated}
+use Rattle.lp_sig.specs.Words.{IsNameFault, IsMeant, AreMeant, AreNumbered, IsHead, IsFirstFault, WordsStand, parameters_of, IsKindsFault, IsSoundType}
+use Rattle.lp_sig.specs.Constants.{Written, IsConstantsRefusal}
+use Rattle.lp_sig.specs.Types.{Definition, IsTypeOf, HasBody, by_parameters}
+use Rattle.lp_sig.specs.Abbreviations.{Seen, abbreviation_names, all_uses, LeadsBack}
+use Rattle.lp_sig.specs.declared.fault.SigFault.{SigFault}
+use Rattle.lp_sig.specs.declared.fault.SigFault.TheVariants as fault
+
+-- a body that has another tree than the first one of its name
+pub record HasOtherBody (said : List (Row Said)) (defs : List (Row Definition)) (text : List ℕ) (name : Spot) (ps : List Spot) (ty : RawType) : Type 0 where
+  pub first : Ty
+  pub here : Ty
+  pub declared : HasBody said defs (spelled text name) first
+  pub is : IsTypeOf said defs text (by_parameters text ps) ty.nodes.items ty.root here
+  pub differ : first ≡ here → ⊥
+
+-- the body of a sentence leads back to its name
+abbrev pub IsCyclic : List ℕ → Seen → Spot → RawType → Type 0
+IsCyclic text z name ty = LeadsBack (abbreviation_names z.said) (all_uses z) text name ty.nodes.items
+
+-- a name means an abbreviation of so many parameters, and the body does not lead back to it
+pub record IsStraight (text : List ℕ) (z : Seen) (name : Spot) (n : ℕ) (ty : RawType) : Type 0 where
+  pub meant : IsMeant text z.said (an_abbreviation n) name
+  pub ends : IsCyclic text z name ty → ⊥
+
+-- a sentence of typeabbrev but for its body: it does not lead back, and its parameters are apart and at most 255
+pub record IsStraightHead (text : List ℕ) (z : Seen) (name : Spot) (ps : List Spot) (ty : RawType) : Type 0 where
+  pub head : IsHead text z.said name ps
+  pub ends : IsCyclic text z name ty → ⊥
+
+-- why an abbreviation is refused: its name, then a circle, then a parameter that stands a second time, then their number, then the
+-- first word of its body that has a fault, then another body than the first one of its name
+pub data IsAbbreviationFault (text : List ℕ) (z : Seen) (name : Spot) (ps : List Spot) (ty : RawType) : SigFault → Type 0 where
+  a_name : {e : SigFault} → IsNameFault text z.said (an_abbreviation (length ps)) name e → IsAbbreviationFault text z name ps ty e
+  circle : {e : SigFault} → e ≡ fault.CyclicAbbreviation name → IsMeant text z.said (an_abbreviation (length ps)) name → IsCyclic text z name ty → IsAbbreviationFault text z name ps ty e
+  repeated : {e : SigFault} → (s : Spot) → e ≡ fault.Differ s → IsStraight text z name (length ps) ty → IsRepeated text ps s → IsAbbreviationFault text z name ps ty e
+  arguments : {e : SigFault} → e ≡ fault.Limit limit.Arguments → IsStraight text z name (length ps) ty → AreApart text ps → 255 < length ps → IsAbbreviationFault text z name ps ty e
+  a_word : {e : SigFault} → IsStraightHead text z name ps ty → IsFirstFault text z.said (parameters_of text ps) ty.nodes.items e → IsAbbreviationFault text z name ps ty e
+  other : {e : SigFault} → e ≡ fault.Differ name → IsStraightHead text z name ps ty → WordsStand text z.said (parameters_of text ps) ty.nodes.items → HasOtherBody z.said z.definitions text name ps ty → IsAbbreviationFault text z name ps ty e
+  memory : {e : SigFault} → e ≡ fault.Memory → IsAbbreviationFault text z name ps ty e
+
+-- an abbreviation stands: it does not lead back, and its words have no fault
+pub record IsSoundAbbreviation (text : List ℕ) (z : Seen) (name : Spot) (ps : List Spot) (ty : RawType) : Type 0 where
+  pub straight : IsStraightHead text z name ps ty
+  pub words : WordsStand text z.said (parameters_of text ps) ty.nodes.items
+
+-- why a sentence of constants is refused, where these were declared before it; of the names before the one at fault nothing is said
+abbrev pub IsConstantsFault : List ℕ → Seen → List (Row Written) → List Spot → RawType → SigFault → Type 0
+IsConstantsFault text z rows names ty e = IsConstantsRefusal ⊥ text z.said z.definitions rows names ty e
+
+-- why a sentence is refused, where these constants were declared before it, and what holds of one that is taken
+abbrev pub IsSentenceFault : List ℕ → Seen → List (Row Written) → Declaration → SigFault → Type 0
+IsSentenceFault text z rows (Kinds names n) e = IsKindsFault text z.said names.items n e
+IsSentenceFault text z rows (LocalKinds names n) e = e ≡ fault.Memory
+IsSentenceFault text z rows (Constants names ty) e = IsConstantsFault text z rows names.items ty e
+IsSentenceFault text z rows (Locals names ty) e = e ≡ fault.Memory
+IsSentenceFault text z rows (Abbreviation name ps ty) e = IsAbbreviationFault text z name ps.items ty e
+IsSentenceFault text z rows (Accumulate words) e = e ≡ fault.Memory
+IsSentenceFault text z rows (AccumSig words) e = e ≡ fault.Memory
+IsSentenceFault text z rows (Fixities names f n) e = e ≡ fault.Memory
+
+abbrev pub IsSound : List ℕ → Seen → Declaration → Type 0
+IsSound text z (Kinds names n) = AreMeant text z.said (a_kind n) names.items × AreNumbered text z.said names.items
+IsSound text z (LocalKinds names n) = Unit {0}
+IsSound text z (Constants names ty) = IsSoundType text z.said ty
+IsSound text z (Locals names ty) = Unit {0}
+IsSound text z (Abbreviation name ps ty) = IsSoundAbbreviation text z name ps.items ty
+IsSound text z (Accumulate words) = Unit {0}
+IsSound text z (AccumSig words) = Unit {0}
+IsSound text z (Fixities names f n) = Unit {0}
+
+abbrev pub AreSound : List ℕ → Seen → List Declaration → Type 0
+AreSound text z lines = All (IsSound text z) lines
