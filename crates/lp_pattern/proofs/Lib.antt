@@ -47,7 +47,6 @@ pub mod TypesCounted
 pub mod TypesFirm
 pub mod FilledTerms
 pub mod ReadingsBehind
-pub mod Converting
 pub mod BoundOnce
 pub mod Cleans
 pub mod Refits
