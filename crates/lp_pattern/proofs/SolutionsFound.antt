@@ -2,8 +2,8 @@
 use Rattle.std.proofs.Common.{◌≡◌, ℕ, zero, suc, ◌<◌, List, [], ◌∷◌, map, length, ◌∙◌, refl, sym, ap, subst as transport, arith, Bool, true, false, if◌then◌else◌, Option, Some, None, nat_eq}
 use Rattle.std.specs.Prelude.{slice_get}
 use Rattle.lp_calculus.specs.Types.{Ty}
-use Rattle.lp_calculus.specs.Term.{Term, index, atom, abs, app, substitute, Atom, constant, integer, text, eigen, logic, param}
-use Rattle.lp_calculus.specs.Convert.{Converts, Anywhere, here, in_head, BetaEta, by_beta, option_term, done, then_step, ReducesTo, steps}
+use Rattle.lp_calculus.specs.Term.{Term, index, atom, abs, app, Atom, constant, integer, text, eigen, logic, param}
+use Rattle.lp_calculus.specs.Convert.{Converts, ReducesTo}
 use Rattle.lp_calculus.specs.Fill.{Within, close, at_variables, put_all}
 use Rattle.lp_calculus.specs.Instance.{instance_atom, instance_term}
 use Rattle.lp_calculus.specs.Typing.{HasType}
@@ -28,8 +28,8 @@ use Rattle.lp_solutions.proofs.Principal.{closings_are_the_same}
 use Rattle.lp_solutions.proofs.Sames.{number_same}
 use Rattle.lp_solutions.proofs.Scopes.{got_before, more_get, prefix_none, in_scope, variable_of}
 use Rattle.lp_solutions.proofs.TypedBindings.{IsTypedTerm, term_reduces, term_atoms, IsAtomOf, put_all_typed}
+use Rattle.lp_pattern.proofs.PruneSteps.{weak_reduces}
 use Rattle.lp_pattern.specs.Pruning.{Known}
-use Rattle.lp_pattern.specs.Seen.{weak_step}
 use Rattle.lp_pattern.specs.Solutions.{left_pairs, through, KeptThrough, HasSolutions}
 use Rattle.lp_pattern.specs.Turning.{AreKnownPairs, IsPairFor, ArePairsFor}
 use Rattle.lp_pattern.specs.Under.{under}
@@ -37,28 +37,6 @@ use Rattle.lp_pattern.specs.declared.fault.PatternRefusal.{PatternRefusal}
 use Rattle.lp_pattern.specs.declared.fault.PatternRefusal.TheVariants as refusal
 use Rattle.lp_pattern.specs.Unifying.{unbound, Reads, IsFound, IsSolution, IsRefusedAs}
 use Rattle.lp_pattern.specs.declared.unify.Solved.{Solved}
-
--- steps at the top are reductions
-weak_reduces : (t s : Term) → weak_step t ≡ Some s → Anywhere BetaEta t s
-weak_reduces (index i) s e = absurd (cc)
-weak_reduces (atom a) s e = absurd (cc)
-weak_reduces (abs b) s e = absurd (cc)
-weak_reduces (app (abs b) u) s e = let q : substitute u b ≡ s = cc in transport (λ z. Anywhere BetaEta (app (abs b) u) z) q (here (by_beta b u))
-weak_reduces (app (index i) u) s e = absurd (cc)
-weak_reduces (app (atom a) u) s e = absurd (cc)
-weak_reduces (app (app t v) u) s e = go (weak_reduces (app t v)) (weak_step (app t v)) refl e
-  where
-    go : ((r : Term) → weak_step (app t v) ≡ Some r → Anywhere BetaEta (app t v) r) → (o : Option Term) → weak_step (app t v) ≡ o → option_term (λ s. app s u) o ≡ Some s → Anywhere BetaEta (app (app t v) u) s
-    go h None q e = absurd (cc)
-    go h (Some r) q e = let p : app r u ≡ s = cc in transport (λ z. Anywhere BetaEta (app (app t v) u) z) p (in_head u (h r q))
-
-steps_reduce : (j : ℕ) (t s : Term) → steps weak_step j t ≡ Some s → ReducesTo t s
-steps_reduce zero t s e = let q : t ≡ s = cc in transport (ReducesTo t) q (done t)
-steps_reduce (suc j) t s e = go (λ r. steps_reduce j r s) (weak_step t) refl e
-  where
-    go : ((r : Term) → steps weak_step j r ≡ Some s → ReducesTo r s) → (o : Option Term) → weak_step t ≡ o → (elim o [ None ↦ None | Some r ↦ steps weak_step j r ]) ≡ Some s → ReducesTo t s
-    go h None q e = absurd (cc)
-    go h (Some r) q e = then_step (weak_reduces t r q) (h r e)
 
 -- the level of each variable
 abbrev level_in : Option Variable → ℕ
@@ -139,7 +117,7 @@ module _ (lv : ℕ → ℕ) (n : ℕ) (θ κ : ℕ → Ty) (σ τ : ℕ → ℕ 
 
 -- pairs that are left, at types
 reached_at : (θ : ℕ → Ty) (b : Nodes) (z : Closing) (q : Numbers) (p : Pair) → IsPairFor b z q p → ReducesTo (instance_term θ p.left) (instance_term θ (under b z q.left)) × ReducesTo (instance_term θ p.right) (instance_term θ (under b z q.right))
-reached_at θ b z q p h = (reduces_instance θ (steps_reduce h.left.0 p.left (under b z q.left) h.left.1), reduces_instance θ (steps_reduce h.right.0 p.right (under b z q.right) h.right.1))
+reached_at θ b z q p h = (reduces_instance θ (weak_reduces h.left.0 p.left (under b z q.left) h.left.1), reduces_instance θ (weak_reduces h.right.0 p.right (under b z q.right) h.right.1))
 
 reduced : (c : Closing) {t u : Term} → ReducesTo t u → Converts (closed c t) (closed c u)
 reduced c {t = t} {u = u} r = converts_fill (at_variables c.terms) (instance_converts c.types t u (converts_reduces r))
