@@ -42,3 +42,4 @@ pub mod DeclaredConstants
 pub mod Renaming
 pub mod Declarations
 pub mod Settled
+pub mod FirstTypes
