@@ -15,7 +15,7 @@ use Rattle.lp_sig.specs.Types.{Definition, definitions_in}
 use Rattle.lp_sig.specs.Abbreviations.{Seen, Text, one_text, seen_text, seen_after}
 use Rattle.lp_sig.specs.Constants.{Written, written_in, constants_by, constants_in, KnowsConstants, IsConstantsRefusal, long_name, bad_type, bad_name, no_memory}
 use Rattle.lp_sig.specs.Faults.{IsConstantsFault}
-use Rattle.lp_sig.specs.Declares.{constants_after, Declares}
+use Rattle.lp_sig.specs.Declares.{constants_after, AreAllTyped, Declares}
 use Rattle.lp_sig.specs.Holding.{KnowsSeen}
 use Rattle.lp_sig.specs.Refusals.{seen_before, constants_before, constants_of}
 use Rattle.lp_sig.specs.declared.constants.Constants.{Constants}
@@ -69,11 +69,11 @@ text_begins old mid new before known said more defs others rows text lines types
 
 -- one text, or none
 pub text_declares : (old new : Making) (texts : List Text) (text : List ℕ) (lines : List Declaration) → texts ≡ (text, lines) ∷ [] → ((z : Seen) (rows : List (Row Written)) → KnowsSeen old z → KnowsConstants old.bodies.types.bank old.constants z.said z.definitions rows →
-    KnowsConstants new.bodies.types.bank new.constants (seen_text z text lines).said (seen_text z text lines).definitions (rows ++ constants_in text lines)) → Declares old new texts
+    KnowsConstants new.bodies.types.bank new.constants (seen_text z text lines).said (seen_text z text lines).definitions (rows ++ constants_in text lines) × (AreAllTyped old z rows → AreAllTyped new (seen_text z text lines) (rows ++ constants_in text lines))) → Declares old new texts
 text_declares old new texts text lines is h = subst (Declares old new) (sym is) h
 
 pub nothing_declares : (making : Making) (texts : List Text) → texts ≡ [] → Declares making making texts
-nothing_declares making texts is = subst (Declares making making) (sym is) (λ z rows k c. c)
+nothing_declares making texts is = subst (Declares making making) (sym is) (λ z rows k c. (c, λ t. t))
 
 text_rows : (sources : List (Vec ℕ Global)) (texts : List SignatureText) (i : ℕ) (rows : List (Row Written)) → constants_after rows (of_text one_text sources texts i) ≡ rows ++ of_text constants_in sources texts i
 text_rows sources [] i rows = sym (append-nil rows)
@@ -88,14 +88,16 @@ step_rows sources texts (Declare i) rows = text_rows sources texts i rows
 -- one more step, and all steps
 module _ (names : List (String Global)) (sources : List (Vec ℕ Global)) (texts : List SignatureText) (steps : List Step) (k : ℕ) where
   pub step_declares : (d : Step) → k < length steps → (old new : Making) → KnowsSeen old (seen_before names sources texts steps k) →
-      KnowsConstants old.bodies.types.bank old.constants (seen_before names sources texts steps k).said (seen_before names sources texts steps k).definitions (constants_before names sources texts steps k) → Declares old new (of_step one_text sources texts (get_or steps k d)) →
-      KnowsConstants new.bodies.types.bank new.constants (seen_before names sources texts steps (k + 1)).said (seen_before names sources texts steps (k + 1)).definitions (constants_before names sources texts steps (k + 1))
-  step_declares d h old new a c f =
+      KnowsConstants old.bodies.types.bank old.constants (seen_before names sources texts steps k).said (seen_before names sources texts steps k).definitions (constants_before names sources texts steps k) → AreAllTyped old (seen_before names sources texts steps k) (constants_before names sources texts steps k) →
+      Declares old new (of_step one_text sources texts (get_or steps k d)) →
+      KnowsConstants new.bodies.types.bank new.constants (seen_before names sources texts steps (k + 1)).said (seen_before names sources texts steps (k + 1)).definitions (constants_before names sources texts steps (k + 1)) × AreAllTyped new (seen_before names sources texts steps (k + 1)) (constants_before names sources texts steps (k + 1))
+  step_declares d h old new a c t f =
       let z = seen_before names sources texts steps k in
       let rows = constants_before names sources texts steps k in
       let here = of_step one_text sources texts (get_or steps k d) in
-      subst (λ y. KnowsConstants new.bodies.types.bank new.constants y.said y.definitions (constants_before names sources texts steps (k + 1))) (seen_more names sources texts steps k d h)
-      (subst (KnowsConstants new.bodies.types.bank new.constants (seen_after z here).said (seen_after z here).definitions) (step_rows sources texts (get_or steps k d) rows ∙ steps_more constants_in sources texts steps k d h) (f z rows a c))
+      let made = f z rows a c in
+      subst (λ y. KnowsConstants new.bodies.types.bank new.constants y.said y.definitions (constants_before names sources texts steps (k + 1)) × AreAllTyped new y (constants_before names sources texts steps (k + 1))) (seen_more names sources texts steps k d h)
+      (subst (λ r. KnowsConstants new.bodies.types.bank new.constants (seen_after z here).said (seen_after z here).definitions r × AreAllTyped new (seen_after z here) r) (step_rows sources texts (get_or steps k d) rows ∙ steps_more constants_in sources texts steps k d h) (made.0, made.1 t))
 
   pub all_constants : (all : List Step) → steps ≡ all → length steps ≤ k → constants_before names sources texts steps k ≡ constants_of names sources texts all
   all_constants all same h = all_steps_said constants_in sources texts all steps k same h

@@ -22,7 +22,7 @@ parameters_at heads seen i h same l is = ap (λ s. an_abbreviation (get_or (map 
 some_is : (a b : ℕ) → Some a ≡ Some b → a ≡ b
 some_is a b e = cc
 
-place_below : (name : List ℕ) (ns : List (List ℕ)) (i : ℕ) → first_place name ns ≡ Some i → i < length ns
+pub place_below : (name : List ℕ) (ns : List (List ℕ)) (i : ℕ) → first_place name ns ≡ Some i → i < length ns
 place_below name [] i e = absurd (cc)
 place_below name (n ∷ ns) i e = by (bytes_eq name n) (first_place name ns) refl e (λ j f. place_below name ns j f)
   where

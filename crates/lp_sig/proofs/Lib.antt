@@ -44,3 +44,4 @@ pub mod Declarations
 pub mod Settled
 pub mod OneScheme
 pub mod Agreeing
+pub mod FirstTypes

@@ -1,17 +1,14 @@
 -- Why a sentence is refused, by the call that refuses it.
-use Rattle.std.proofs.Common.{◌≡◌, ℕ, ◌<◌, List, length, Result, Ok, Err, refl, arith, inl, inr}
-use Rattle.std.specs.Prelude.{Contains, ◌⊎◌, IfOk}
-use Rattle.lp_base.specs.declared.limit.Limit.{Limit}
-use Rattle.lp_base.specs.declared.limit.Limit.TheVariants as limit
+use Rattle.std.proofs.Common.{◌≡◌, ℕ, List, length, Result, Ok, Err, inl, inr}
+use Rattle.std.specs.Prelude.{◌⊎◌, IfOk}
 use Rattle.lp_base.specs.declared.place.Spot.{Spot}
 use Rattle.lp_syntax.specs.declared.text.RawType.{RawType}
 use Rattle.lp_syntax.specs.declared.text.RawTypeNode.{RawTypeNode}
 use Rattle.lp_sig.specs.Pieces.{spelled}
 use Rattle.lp_sig.specs.Rows.{Row}
 use Rattle.lp_sig.specs.Said.{Said}
-use Rattle.lp_sig.specs.Limits.{AreShort, IsRepeated}
-use Rattle.lp_sig.specs.Refusals.{IsFaultOf, IsLimitOf, named}
-use Rattle.lp_sig.specs.Words.{IsSoundType, IsTypeFault, IsFirstFault, parameters_of, IsConstantsFault, long, a_type, other, many, memory}
+use Rattle.lp_sig.specs.Limits.{IsRepeated}
+use Rattle.lp_sig.specs.Words.{IsFirstFault, parameters_of}
 use Rattle.lp_sig.specs.Abbreviations.{Seen}
 use Rattle.lp_sig.specs.Faults.{IsStraight, IsStraightHead, IsAbbreviationFault}
 use Rattle.lp_sig.specs.Faults as faults

@@ -53,7 +53,7 @@ none_set (x ∷ xs) (suc i) zero (inr e) = absurd (omega (arith, e))
 none_set (x ∷ xs) (suc i) (suc j) (inl e) = none_set xs i j (inl e)
 none_set (x ∷ xs) (suc i) (suc j) (inr e) = none_set xs i j (inr (omega (arith, e)))
 
-before_or_at : (i j : ℕ) → j < i + 1 → (j < i) ⊎ (j ≡ i)
+pub before_or_at : (i j : ℕ) → j < i + 1 → (j < i) ⊎ (j ≡ i)
 before_or_at zero zero h = inr refl
 before_or_at zero (suc j) h = absurd (omega (arith, h))
 before_or_at (suc i) zero h = inl (omega arith)

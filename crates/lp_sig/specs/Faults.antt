@@ -11,7 +11,7 @@ use Rattle.lp_sig.specs.Rows.{Row}
 use Rattle.lp_sig.specs.Said.{Said, a_kind, an_abbreviation}
 use Rattle.lp_sig.specs.Limits.{AreApart, IsRepeated}
 use Rattle.lp_sig.specs.Words.{IsNameFault, IsMeant, AreMeant, AreNumbered, IsHead, IsFirstFault, WordsStand, parameters_of, IsKindsFault, IsSoundType}
-use Rattle.lp_sig.specs.Constants.{Written, IsConstantsRefusal}
+use Rattle.lp_sig.specs.Constants.{Written, IsSchemeOf, HasType, IsConstantsRefusal}
 use Rattle.lp_sig.specs.Types.{Definition, IsTypeOf, HasBody, by_parameters}
 use Rattle.lp_sig.specs.Abbreviations.{Seen, abbreviation_names, all_uses, LeadsBack}
 use Rattle.lp_sig.specs.declared.fault.SigFault.{SigFault}
@@ -54,6 +54,16 @@ pub data IsAbbreviationFault (text : List ℕ) (z : Seen) (name : Spot) (ps : Li
 pub record IsSoundAbbreviation (text : List ℕ) (z : Seen) (name : Spot) (ps : List Spot) (ty : RawType) : Type 0 where
   pub straight : IsStraightHead text z name ps ty
   pub words : WordsStand text z.said (parameters_of text ps) ty.nodes.items
+
+-- a name is declared with the type with which it is declared first
+pub record HasFirstType (said : List (Row Said)) (defs : List (Row Definition)) (all : List (Row Written)) (row : Row Written) : Type 0 where
+  pub count : ℕ
+  pub tree : Ty
+  pub scheme : IsSchemeOf said defs row.1 count tree
+  pub first : HasType said defs all row.0 tree
+
+abbrev pub HaveFirstTypes : List (Row Said) → List (Row Definition) → List (Row Written) → List (Row Written) → Type 0
+HaveFirstTypes said defs all rows = All (HasFirstType said defs all) rows
 
 -- why a sentence of constants is refused, where these were declared before it; of the names before the one at fault nothing is said
 abbrev pub IsConstantsFault : List ℕ → Seen → List (Row Written) → List Spot → RawType → SigFault → Type 0

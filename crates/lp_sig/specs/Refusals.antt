@@ -11,7 +11,7 @@ use Rattle.lp_syntax.specs.declared.text.SignatureText.{SignatureText}
 use Rattle.lp_sig.specs.Pieces.{spelled}
 use Rattle.lp_fixity.specs.declared.fixity.Fixity.{Fixity}
 use Rattle.lp_sig.specs.Rows.{Row}
-use Rattle.lp_sig.specs.Faults.{IsSentenceFault, AreSound}
+use Rattle.lp_sig.specs.Faults.{IsSentenceFault, AreSound, HaveFirstTypes}
 use Rattle.lp_sig.specs.Types.{AreAlike}
 use Rattle.lp_sig.specs.Constants.{Written, constants_in, AreConstants, HaveNumbers}
 use Rattle.lp_sig.specs.Entries.{AreAbbreviations}
@@ -190,7 +190,7 @@ module _ (names : List (String Global)) (sources : List (Vec ℕ Global)) (texts
   IsRefusal root e = IsRefusedFrom root e
 
   -- every step is taken, and these kinds, abbreviations, constants and fixities are declared: the first of each name. Each sentence of
-  -- typeabbrev has the body of the first one of its name.
+  -- typeabbrev has the body of the first one of its name, and each constant the type.
   pub record IsAccepted (root : ℕ) (kinds : List (Row (ℕ × ℕ))) (fixities : List (Row (Fixity × ℕ))) (bank : Nodes) (abbreviations : List AbbreviationEntry) (constants : List ConstantEntry) : Type 0 where
     pub steps : List Step
     pub loaded : IsFreeOfCircles root steps
@@ -201,3 +201,4 @@ module _ (names : List (String Global)) (sources : List (Vec ℕ Global)) (texts
     pub alike : AreAlike (seen_in steps).said (seen_in steps).definitions (seen_in steps).definitions
     pub constants_are : AreConstants bank (seen_in steps).said (seen_in steps).definitions (constants_of steps) constants
     pub numbers : HaveNumbers (constants_of steps)
+    pub typed : HaveFirstTypes (seen_in steps).said (seen_in steps).definitions (constants_of steps) (constants_of steps)

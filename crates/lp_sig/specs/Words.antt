@@ -129,14 +129,6 @@ pub data IsTypeFault (text : List ℕ) (said : List (Row Said)) (ty : RawType) :
   of_word : {e : SigFault} → (IsLongType ty.nodes.items ty.root → ⊥) → IsFirstFault text said None ty.nodes.items e → IsTypeFault text said ty e
   replaced : {e : SigFault} → e ≡ fault.Limit limit.Arguments → IsSoundType text said ty → IsTypeFault text said ty e
 
--- why a sentence of constants is refused: a long name goes first, then its type, then what the names are declared as
-pub data IsConstantsFault (text : List ℕ) (said : List (Row Said)) (names : List Spot) (ty : RawType) : SigFault → Type 0 where
-  long : {e : SigFault} → e ≡ fault.Limit limit.NameLength → (s : Spot) → Contains names s → 255 < length (spelled text s) → IsConstantsFault text said names ty e
-  a_type : {e : SigFault} → AreShort text names → IsTypeFault text said ty e → IsConstantsFault text said names ty e
-  other : {e : SigFault} → (s : Spot) → e ≡ fault.Differ s → Contains names s → IsSoundType text said ty → IsConstantsFault text said names ty e
-  many : {e : SigFault} → e ≡ fault.Limit limit.Names → IsSoundType text said ty → IsConstantsFault text said names ty e
-  memory : {e : SigFault} → e ≡ fault.Memory → IsConstantsFault text said names ty e
-
 -- an abbreviation's name means it, no parameter stands twice, and there are at most 255
 abbrev pub IsHead : List ℕ → List (Row Said) → Spot → List Spot → Type 0
 IsHead text said name ps = IsMeant text said (an_abbreviation (length ps)) name × AreApart text ps × (length ps ≤ 255)

@@ -8,7 +8,8 @@ ghost use Rattle.lp_fixity.specs.declared.fixity.Fixity.{Fixity as IsFixity};
 ghost use Rattle.lp_sig.specs.Rows.{Row};
 ghost use Rattle.lp_sig.specs.Said.{Said, a_kind, an_abbreviation, each, fixities_by, fixities_in};
 ghost use Rattle.lp_sig.specs.Words.{IsNameFault, IsMeant, AreMeant, IsNumbered, AreNumbered, IsKindsFault, IsSoundType};
-ghost use Rattle.lp_sig.specs.Faults.{IsAbbreviationFault, IsSoundAbbreviation, IsSentenceFault, IsSound, AreSound};
+ghost use Rattle.lp_sig.specs.Faults.{IsAbbreviationFault, IsSoundAbbreviation, IsSentenceFault, IsSound, AreSound, HaveFirstTypes};
+ghost use Rattle.lp_sig.specs.Declares.{AreAllTyped};
 ghost use Rattle.lp_sig.specs.Types.{definitions_by, IsAlike, AreAlike};
 ghost use Rattle.lp_sig.specs.Knowing.{Knows, KnowsOperators};
 ghost use Rattle.lp_sig.specs.Limits.{IsShort, AreShort, AreApart, IsWithin, AreWithin};
@@ -226,6 +227,7 @@ impl Making {
     fn declare_line(&mut self, source: &[u8], declaration: &Declaration) -> Result<(), SigFault>
         ensures why { (z : Seen) (rows : List (Row Written)) → Sees self.old.names (map (λ out. out.items) self.old.uses.ways.items) self.old.bodies.types.bank self.old.bodies.bodies.items z → KnowsConstants self.old.bodies.types.bank self.old.constants z.said z.definitions rows → IfErr result (IsSentenceFault source.now z rows declaration.now) }
         ensures constants { OnOk result ((z : Seen) (rows : List (Row Written)) → Sees self.old.names (map (λ out. out.items) self.old.uses.ways.items) self.old.bodies.types.bank self.old.bodies.bodies.items z → KnowsConstants self.old.bodies.types.bank self.old.constants z.said z.definitions rows → KnowsConstants self.new.bodies.types.bank self.new.constants z.said z.definitions (rows ++ constants_by source.now declaration.now)) }
+        ensures declared { (z : Seen) (rows : List (Row Written)) → Sees self.old.names (map (λ out. out.items) self.old.uses.ways.items) self.old.bodies.types.bank self.old.bodies.bodies.items z → KnowsConstants self.old.bodies.types.bank self.old.constants z.said z.definitions rows → AreSettled self.old.bodies.bodies.items z.said → AreTyped self.old.constants → IfOk result (λ done. AreTyped self.new.constants × HaveFirstTypes z.said z.definitions (rows ++ constants_by source.now declaration.now) (constants_by source.now declaration.now)) }
         ensures taken { IfOk result (λ done. IsWithin source.now declaration.now) }
         ensures sound { (z : Seen) → Sees self.old.names (map (λ out. out.items) self.old.uses.ways.items) self.old.bodies.types.bank self.old.bodies.bodies.items z → IfOk result (λ done. IsSound source.now z declaration.now) }
         ensures same { (z : Seen) → Sees self.old.names (map (λ out. out.items) self.old.uses.ways.items) self.old.bodies.types.bank self.old.bodies.bodies.items z → IfOk result (λ done. self.new.missing ≡ false → AreAlike z.said z.definitions (definitions_by source.now declaration.now)) }
@@ -266,7 +268,7 @@ impl Making {
     // The declarations of a signature's own text, or the first fault in text order.
     pub(crate) fn declare(&mut self, source: &[u8], text: &SignatureText) -> Result<(), SigFault>
         ensures refused { (z : Seen) (rows : List (Row Written)) → KnowsSeen self.old z → KnowsConstants self.old.bodies.types.bank self.old.constants z.said z.definitions rows → IfErr result (IsFaultIn source.now (seen_text z source.now text.now.lines.items) rows text.now.lines.items) }
-        ensures constants { OnOk result ((z : Seen) (rows : List (Row Written)) → KnowsSeen self.old z → KnowsConstants self.old.bodies.types.bank self.old.constants z.said z.definitions rows → KnowsConstants self.new.bodies.types.bank self.new.constants (seen_text z source.now text.now.lines.items).said (seen_text z source.now text.now.lines.items).definitions (rows ++ constants_in source.now text.now.lines.items)) }
+        ensures constants { OnOk result ((z : Seen) (rows : List (Row Written)) → KnowsSeen self.old z → KnowsConstants self.old.bodies.types.bank self.old.constants z.said z.definitions rows → KnowsConstants self.new.bodies.types.bank self.new.constants (seen_text z source.now text.now.lines.items).said (seen_text z source.now text.now.lines.items).definitions (rows ++ constants_in source.now text.now.lines.items) × (AreAllTyped self.old z rows → AreAllTyped self.new (seen_text z source.now text.now.lines.items) (rows ++ constants_in source.now text.now.lines.items))) }
         ensures taken { IfOk result (λ done. AreWithin source.now text.now.lines.items) }
         ensures sound { (z : Seen) → KnowsSeen self.old z → IfOk result (λ done. AreSound source.now (seen_text z source.now text.now.lines.items) text.now.lines.items) }
         ensures seen { OnOk result ((z : Seen) → KnowsSeen self.old z → KnowsSeen self.new (seen_text z source.now text.now.lines.items)) }
@@ -277,6 +279,7 @@ impl Making {
         self.uses.note(self.alloc, &self.names, source, text)?;
         self.bodies
             .settle(&self.names, &self.uses, source, text, from)?;
+        self.missing = is_missing(self.missing, self.bodies.are_all_settled());
         for declaration in &text.lines {
             self.declare_line(source, declaration)?;
         }

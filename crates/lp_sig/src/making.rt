@@ -6,7 +6,7 @@ ghost use Rattle.lp_sig.specs.Knowing.{Knows, kinded_row, head_row, KnowsOperato
 ghost use Rattle.lp_sig.specs.Abbreviations.{Seen};
 ghost use Rattle.lp_sig.specs.Entries.{parameters_row, HaveBodies, AreAbbreviations};
 ghost use Rattle.lp_sig.specs.Holding.{KnowsSeen};
-ghost use Rattle.lp_sig.specs.Constants.{Written, KnowsConstants, AreConstants, HaveNumbers};
+ghost use Rattle.lp_sig.specs.Constants.{Written, KnowsConstants, AreTyped, AreConstants, HaveNumbers};
 ghost use Rattle.lp_sig.specs.Rows.{Row};
 
 use crate::bodies::Bodies;
@@ -96,6 +96,7 @@ impl Making {
         ensures bodies { result.bodies.bodies.items ≡ [] }
         ensures missing { result.missing ≡ false }
         ensures constants { KnowsConstants result.bodies.types.bank result.constants [] [] [] }
+        ensures typed { AreTyped result.constants }
     {
         Making {
             alloc,

@@ -3,6 +3,7 @@ use Rattle.lp_sig.specs.Loading.{IsLoadOrder}
 use Rattle.lp_sig.specs.Walking.{IsFirstCircleFault}
 use Rattle.lp_sig.specs.Refusals.{IsRefusal, seen_in, seen_before, constants_before}
 use Rattle.lp_sig.specs.Constants.{AreConstants, HaveNumbers}
+use Rattle.lp_sig.specs.Faults.{HaveFirstTypes}
 use Rattle.lp_sig.proofs.DeclaredConstants.{step_declares, all_constants}
 use Rattle.lp_sig.specs.Rows.{fixity_row}
 use Rattle.lp_sig.specs.Types.{AreAlike}
@@ -27,6 +28,7 @@ loop-step-init c = record {
   taken = λ j s l at. absurd (omega (arith, l));
   seen = knows_nothing c.new-making.result c.new-making.ensures.names c.new-making.ensures.uses c.new-making.ensures.bodies;
   constants = c.new-making.ensures.constants;
+  typed = λ m. (c.new-making.ensures.typed, λ k d h. absurd (omega (arith, h)));
   operators = c.new-making.ensures.operators;
 }
 
@@ -34,7 +36,8 @@ pub loop-step-preserved : goal.loop-step-preserved
 loop-step-preserved c = record {
   taken = taken_more c.args.names.now c.args.sources.now c.args.texts.now c.deref-step-items.result.now c.loop-step.step-index _ c.loop-step-test.true c.loop-step.invariant.taken (c.in_ok-take.ensures.taken _ c.loop-step.invariant.seen);
   seen = step_seen c.args.names.now c.args.sources.now c.args.texts.now c.deref-step-items.result.now c.loop-step.step-index _ c.loop-step-test.true c.loop-step.making c.take.new.making c.loop-step.invariant.seen c.in_ok-take.ensures.seen;
-  constants = step_declares c.args.names.now c.args.sources.now c.args.texts.now c.deref-step-items.result.now c.loop-step.step-index _ c.loop-step-test.true c.loop-step.making c.take.new.making c.loop-step.invariant.seen c.loop-step.invariant.constants c.in_ok-take.ensures.constants;
+  constants = (step_declares c.args.names.now c.args.sources.now c.args.texts.now c.deref-step-items.result.now c.loop-step.step-index _ c.loop-step-test.true c.loop-step.making c.take.new.making c.loop-step.invariant.seen c.loop-step.invariant.constants c.loop-step.invariant.typed c.in_ok-take.ensures.constants).0;
+  typed = (step_declares c.args.names.now c.args.sources.now c.args.texts.now c.deref-step-items.result.now c.loop-step.step-index _ c.loop-step-test.true c.loop-step.making c.take.new.making c.loop-step.invariant.seen c.loop-step.invariant.constants c.loop-step.invariant.typed c.in_ok-take.ensures.constants).1;
   operators = subst (KnowsOperators c.take.new.making.operators) (steps_more fixities_in c.args.sources.now c.args.texts.now c.deref-step-items.result.now c.loop-step.step-index _ c.loop-step-test.true) (c.in_ok-take.ensures.operators _ c.loop-step.invariant.operators);
 }
 
@@ -59,4 +62,5 @@ returns-clause-accepted c = record {
   constants_are = subst (λ rows. AreConstants c.in_ok-signature.signature.bank (seen_in c.args.names.now c.args.sources.now c.args.texts.now c.in_ok-steps.steps.items).said (seen_in c.args.names.now c.args.sources.now c.args.texts.now c.in_ok-steps.steps.items).definitions rows c.in_ok-signature.signature.constants.items) (all_constants c.args.names.now c.args.sources.now c.args.texts.now c.deref-step-items.result.now c.loop-step.step-index c.in_ok-steps.steps.items c.deref-step-items.ensures.value c.loop-step-test.false)
       (subst (λ z. AreConstants c.in_ok-signature.signature.bank z.said z.definitions (constants_before c.args.names.now c.args.sources.now c.args.texts.now c.deref-step-items.result.now c.loop-step.step-index) c.in_ok-signature.signature.constants.items) (all_seen c.args.names.now c.args.sources.now c.args.texts.now c.deref-step-items.result.now c.loop-step.step-index c.in_ok-steps.steps.items c.deref-step-items.ensures.value c.loop-step-test.false) (c.in_ok-signature.ensures.constants (seen_before c.args.names.now c.args.sources.now c.args.texts.now c.deref-step-items.result.now c.loop-step.step-index) (constants_before c.args.names.now c.args.sources.now c.args.texts.now c.deref-step-items.result.now c.loop-step.step-index) c.loop-step.invariant.constants).0);
   numbers = subst HaveNumbers (all_constants c.args.names.now c.args.sources.now c.args.texts.now c.deref-step-items.result.now c.loop-step.step-index c.in_ok-steps.steps.items c.deref-step-items.ensures.value c.loop-step-test.false) (c.in_ok-signature.ensures.constants (seen_before c.args.names.now c.args.sources.now c.args.texts.now c.deref-step-items.result.now c.loop-step.step-index) (constants_before c.args.names.now c.args.sources.now c.args.texts.now c.deref-step-items.result.now c.loop-step.step-index) c.loop-step.invariant.constants).1;
+  typed = subst (λ r. HaveFirstTypes (seen_in c.args.names.now c.args.sources.now c.args.texts.now c.in_ok-steps.steps.items).said (seen_in c.args.names.now c.args.sources.now c.args.texts.now c.in_ok-steps.steps.items).definitions r r) (all_constants c.args.names.now c.args.sources.now c.args.texts.now c.deref-step-items.result.now c.loop-step.step-index c.in_ok-steps.steps.items c.deref-step-items.ensures.value c.loop-step-test.false) (subst (λ z. HaveFirstTypes z.said z.definitions (constants_before c.args.names.now c.args.sources.now c.args.texts.now c.deref-step-items.result.now c.loop-step.step-index) (constants_before c.args.names.now c.args.sources.now c.args.texts.now c.deref-step-items.result.now c.loop-step.step-index)) (all_seen c.args.names.now c.args.sources.now c.args.texts.now c.deref-step-items.result.now c.loop-step.step-index c.in_ok-steps.steps.items c.deref-step-items.ensures.value c.loop-step-test.false) (c.loop-step.invariant.typed c.in_ok-signature.ensures.compared).1);
 }

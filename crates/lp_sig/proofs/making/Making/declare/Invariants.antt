@@ -6,8 +6,9 @@ use Rattle.lp_sig.specs.Said.{said_in, fixities_in}
 use Rattle.lp_sig.specs.Knowing.{Knows, KnowsOperators}
 use Rattle.lp_sig.specs.Types.{definitions_in, AreAlike}
 use Rattle.lp_sig.specs.Abbreviations.{Seen, seen_text, KnowsUses}
-use Rattle.lp_sig.specs.Constants.{Written, constants_in, KnowsConstants}
-use Rattle.lp_sig.specs.Faults.{AreSound}
+use Rattle.lp_sig.specs.Constants.{Written, constants_in, KnowsConstants, AreSettled, AreTyped}
+use Rattle.lp_sig.specs.Declares.{AreAllTyped}
+use Rattle.lp_sig.specs.Faults.{AreSound, HaveFirstTypes}
 use Rattle.lp_sig.specs.Holding.{KnowsBodies, KnowsSeen, line_of_text}
 use Rattle.lp_sig.proofs.making.Making.declare.Given as goal
 
@@ -21,5 +22,8 @@ invariant-loop-declaration l = record {
   alike : (z : Seen) → KnowsSeen l.fn.self z → l.self.missing ≡ false → AreAlike (z.said ++ said_in l.source l.text.lines.items) (z.definitions ++ definitions_in l.source l.text.lines.items) (z.definitions ++ definitions_in l.source (take l.declaration-index l.text.lines.items));
   constants : (z : Seen) (rows : List (Row Written)) → KnowsSeen l.fn.self z → KnowsConstants l.fn.self.bodies.types.bank l.fn.self.constants z.said z.definitions rows →
       KnowsConstants l.self.bodies.types.bank l.self.constants (z.said ++ said_in l.source l.text.lines.items) (z.definitions ++ definitions_in l.source l.text.lines.items) (rows ++ constants_in l.source (take l.declaration-index l.text.lines.items));
+  settled : (z : Seen) → KnowsSeen l.fn.self z → l.self.missing ≡ false → AreSettled l.self.bodies.bodies.items (z.said ++ said_in l.source l.text.lines.items);
+  typed : (z : Seen) (rows : List (Row Written)) → KnowsSeen l.fn.self z → KnowsConstants l.fn.self.bodies.types.bank l.fn.self.constants z.said z.definitions rows → AreAllTyped l.fn.self z rows → l.self.missing ≡ false →
+      AreTyped l.self.constants × HaveFirstTypes (z.said ++ said_in l.source l.text.lines.items) (z.definitions ++ definitions_in l.source l.text.lines.items) (rows ++ constants_in l.source (take l.declaration-index l.text.lines.items)) (rows ++ constants_in l.source (take l.declaration-index l.text.lines.items));
   operators : (said : List (Row (Fixity × ℕ))) → KnowsOperators l.fn.self.operators said → KnowsOperators l.self.operators (said ++ fixities_in l.source (take l.declaration-index l.text.lines.items));
 }

@@ -5,7 +5,8 @@ use Rattle.lp_sig.specs.Said.{a_kind, fixities_by}
 use Rattle.lp_sig.specs.Knowing.{KnowsOperators}
 use Rattle.lp_sig.specs.Words.{IsKindsFault, AreMeant, AreNumbered}
 use Rattle.lp_sig.specs.Faults.{IsSentenceFault, IsAbbreviationFault, IsSound, IsSoundAbbreviation}
-use Rattle.lp_sig.specs.Constants.{constants_by, KnowsConstants}
+use Rattle.lp_sig.specs.Constants.{constants_by, KnowsConstants, AreTyped}
+use Rattle.lp_sig.proofs.FirstTypes.{nothing_first, its_first}
 use Rattle.lp_sig.proofs.Blame.{always, on_ok, for_ok, for_err}
 use Rattle.lp_sig.proofs.Constancy.{constants_kept}
 use Rattle.lp_sig.proofs.DeclaredConstants.{any_refusal, nothing_declared, its_constants}
@@ -140,3 +141,29 @@ returns-in_ok-declare_all-in-Fixities-clause-same c = λ z s. nothing_alike z.sa
 pub returns-in-Abbreviation-clause-same : goal.returns-in-Abbreviation-clause-same
 returns-in-Abbreviation-clause-same c = λ z s.
     for_ok c.declare_abbreviation.result _ _ (λ x f m. one_alike z.said z.definitions c.args.source.now c.args.declaration.now c.in-Abbreviation.name c.in-Abbreviation.parameters c.as_slice-in-Abbreviation.result.now c.in-Abbreviation.raw c.in-Abbreviation.is c.as_slice-in-Abbreviation.ensures.value (f m)) (c.declare_abbreviation.ensures.same z s)
+
+pub returns-in-Kinds-clause-declared : goal.returns-in-Kinds-clause-declared
+returns-in-Kinds-clause-declared c = λ z rows s k settled typed. ok_with c.declare_kinds.result _ (typed, nothing_first z.said z.definitions rows c.args.source.now c.args.declaration.now _ c.in-Kinds.is refl)
+
+pub returns-in-Constants-clause-declared : goal.returns-in-Constants-clause-declared
+returns-in-Constants-clause-declared c = λ z rows s k settled typed.
+    for_ok c.declare_constants.result _ _ (λ x f. (f.0, its_first z.said z.definitions rows c.args.source.now c.args.declaration.now c.in-Constants.names c.as_slice-in-Constants.result.now c.in-Constants.raw c.in-Constants.is c.as_slice-in-Constants.ensures.value f.1))
+    (c.declare_constants.ensures.declared z.said z.definitions rows s.known s.holds k settled typed)
+
+pub returns-in-Abbreviation-clause-declared : goal.returns-in-Abbreviation-clause-declared
+returns-in-Abbreviation-clause-declared c = λ z rows s k settled typed. ok_with c.declare_abbreviation.result _ (subst AreTyped (sym c.declare_abbreviation.ensures.constants) typed, nothing_first z.said z.definitions rows c.args.source.now c.args.declaration.now _ c.in-Abbreviation.is refl)
+
+pub returns-in_ok-declare_all-in-Fixities-clause-declared : goal.returns-in_ok-declare_all-in-Fixities-clause-declared
+returns-in_ok-declare_all-in-Fixities-clause-declared c = λ z rows s k settled typed. (typed, nothing_first z.said z.definitions rows c.args.source.now c.args.declaration.now _ c.in-Fixities.is refl)
+
+pub returns-in-LocalKinds-clause-declared : goal.returns-in-LocalKinds-clause-declared
+returns-in-LocalKinds-clause-declared c = λ z rows s k settled typed. (typed, nothing_first z.said z.definitions rows c.args.source.now c.args.declaration.now _ c.in-LocalKinds.is refl)
+
+pub returns-in-Locals-clause-declared : goal.returns-in-Locals-clause-declared
+returns-in-Locals-clause-declared c = λ z rows s k settled typed. (typed, nothing_first z.said z.definitions rows c.args.source.now c.args.declaration.now _ c.in-Locals.is refl)
+
+pub returns-in-Accumulate-clause-declared : goal.returns-in-Accumulate-clause-declared
+returns-in-Accumulate-clause-declared c = λ z rows s k settled typed. (typed, nothing_first z.said z.definitions rows c.args.source.now c.args.declaration.now _ c.in-Accumulate.is refl)
+
+pub returns-in-AccumSig-clause-declared : goal.returns-in-AccumSig-clause-declared
+returns-in-AccumSig-clause-declared c = λ z rows s k settled typed. (typed, nothing_first z.said z.definitions rows c.args.source.now c.args.declaration.now _ c.in-AccumSig.is refl)
