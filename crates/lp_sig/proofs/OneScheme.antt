@@ -286,15 +286,18 @@ module _ (said : List (Row Said)) (defs : List (Row Definition)) (agree : Agree 
       in_canon : (i : ℕ) (t : Ty) → IsTypeOf said defs text ν nodes i t → Canon i t
       in_canon i t (a_variable s a n at v is e) =
           let m = in_order_some text nodes i s in
-          (var m.0, a_variable s a m.0 at v m.1 refl, subst (λ t. Renames (IsPair text nodes ν) t (var m.0)) (sym e) (record { at = i; word = s; is = (a, at, v); here = is; ordered = m.1; }))
+          (var m.0, a_variable s a m.0 at v m.1 refl, subst (λ t. Renames (IsPair text nodes ν) t (var m.0)) (sym e) (record { at = i; word = s; is = (a, at, v); here = is; ordered = m.1 }))
       in_canon i t (kind_on s a c ts at v means number parts e) =
           let l = all_in_canon a.items ts parts in
           (con c (tys l.0), kind_on s a c l.0 at v means number l.1 refl, subst (λ t. Renames (IsPair text nodes ν) t (con c (tys l.0))) (sym e) (refl, l.2))
       in_canon i t (abbreviation_on s a d body ts at v means declared inner parts e) =
           let l = all_in_canon a.items ts parts in
-          let inside = type_below d.text (by_parameters d.text d.parameters) d.body.nodes.items d.body.root body (length d.parameters) (parameters_below d) inner in
-          (on_arguments l.0 body, abbreviation_on s a d body l.0 at v means declared inner l.1 refl, subst (λ t. Renames (IsPair text nodes ν) t (on_arguments l.0 body)) (sym e)
-          (fill_renames (IsPair text nodes ν) ts l.0 l.2 body (subst (λ n. Below n body) (agree (spelled text s) d (length a.items) declared means ∙ sym (list_length text ν nodes a.items ts parts)) inside)))
+          let inside = type_below d.text (by_parameters d.text d.parameters) d.body.nodes.items d.body.root body (length d.parameters) (parameters_below d) inner in (
+            on_arguments l.0 body,
+            abbreviation_on s a d body l.0 at v means declared inner l.1 refl,
+            subst (λ t. Renames (IsPair text nodes ν) t (on_arguments l.0 body)) (sym e)
+                (fill_renames (IsPair text nodes ν) ts l.0 l.2 body (subst (λ n. Below n body) (agree (spelled text s) d (length a.items) declared means ∙ sym (list_length text ν nodes a.items ts parts)) inside)),
+          )
       in_canon i t (an_arrow a b x y at left right e) =
           let l = in_canon a x left in
           let r = in_canon b y right in

@@ -15,7 +15,7 @@ mod entries;
 mod expand;
 // Why a signature is refused.
 mod fault;
-// Types of which each stands once in a bank.
+// Copies of types, and their variables.
 mod interned;
 // Laws over the definitions.
 mod laws;
@@ -45,6 +45,7 @@ mod settle;
 mod signature;
 // The names of every text.
 mod standard;
+// Types of which each stands once in a bank.
 mod store;
 // From texts to a signature.
 mod texts;
