@@ -1,7 +1,7 @@
 -- What a run owes its input (Miller 1991, Nadathur 1993): through the values that it finds, the closings that solve the pairs that are left are, up to
 -- conversion, those that solve the pairs of the input.
 use Rattle.std.specs.Prelude.{◌≡◌, ℕ, List, [], map, length, Some, slice_get}
-use Rattle.lp_calculus.specs.Types.{Ty, instance}
+use Rattle.lp_calculus.specs.Types.{Ty}
 use Rattle.lp_calculus.specs.Convert.{Converts}
 use Rattle.lp_calculus.specs.Instance.{instance_term}
 use Rattle.lp_calculus.specs.Typing.{Typed}
@@ -13,10 +13,6 @@ use Rattle.lp_model.specs.declared.answer.Pair.{Pair as Numbers}
 use Rattle.lp_solutions.specs.Solutions.{at_types, IsMore, HaveTypings, AreStuck}
 use Rattle.lp_pattern.specs.Comparing.{pair_under}
 use Rattle.lp_pattern.specs.Turning.{ArePairsFor}
-
--- each type variable is what the values found make of it
-abbrev pub Follows : (ℕ → Ty) → Closing → Type 0
-Follows θ z = (x : ℕ) → θ x ≡ instance θ (z.types x)
 
 -- the pairs that are left, with all values and then these types put in
 abbrev pub left_pairs : Nodes → Closing → (ℕ → Ty) → List Numbers → List Pair
