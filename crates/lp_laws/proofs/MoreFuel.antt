@@ -27,11 +27,11 @@ use Rattle.lp_laws.proofs.MoreRules.{types_more, rule_more}
 
 -- unification
 
-turn_more : (n m : ℕ) → n ≤ m → (s : unification.State) (ps : List Pair) → Below (turn_on n s ps) (turn_on m s ps)
+pub turn_more : (n m : ℕ) → n ≤ m → (s : unification.State) (ps : List Pair) → Below (turn_on n s ps) (turn_on m s ps)
 turn_more n m l s [] = below_same _
 turn_more n m l s (p ∷ rest) = below_map (rule n s.next p) (rule m s.next p) _ (rule_more n m l s.next p)
 
-unify_more : (a b n m : ℕ) → a ≤ b → n ≤ m → (limit : ℕ) (s : unification.State) → Below (unify a n limit s) (unify b m limit s)
+pub unify_more : (a b n m : ℕ) → a ≤ b → n ≤ m → (limit : ℕ) (s : unification.State) → Below (unify a n limit s) (unify b m limit s)
 unify_more zero b n m h l limit s = below_none (unify b m limit s)
 unify_more (suc a) zero n m h l limit s = absurd (omega arith)
 unify_more (suc a) (suc b) n m h l limit s = below_then (turn n s) (turn m s) _ _ (turn_more n m l s s.pairs) (λ t. go t (λ u. unify_more a b n m (omega arith) l limit u))
@@ -45,7 +45,7 @@ unify_more (suc a) (suc b) n m h l limit s = below_then (turn n s) (turn m s) _ 
     go (Fails u) ih = below_same _
     go (Solved s') ih = below_same _
 
-go_on_more : (n m : ℕ) → n ≤ m → (limit : ℕ) (ps ds : List Pair) (next : ℕ) (o : TypeOutcome) → Below (go_on n limit ps ds next o) (go_on m limit ps ds next o)
+pub go_on_more : (n m : ℕ) → n ≤ m → (limit : ℕ) (ps ds : List Pair) (next : ℕ) (o : TypeOutcome) → Below (go_on n limit ps ds next o) (go_on m limit ps ds next o)
 go_on_more n m l limit ps ds next (none u) = below_same _
 go_on_more n m l limit ps ds next (solved ts u) = go (nat_lt limit u)
   where
@@ -53,7 +53,7 @@ go_on_more n m l limit ps ds next (solved ts u) = go (nat_lt limit u)
     go true = below_same _
     go false = unify_more n m n m l l limit (begun ps ds next (solved ts u))
 
-solve_more : (n m : ℕ) → n ≤ m → (limit : ℕ) (types : List TypePair) (ps ds : List Pair) (next : ℕ) → Below (solve n limit types ps ds next) (solve m limit types ps ds next)
+pub solve_more : (n m : ℕ) → n ≤ m → (limit : ℕ) (types : List TypePair) (ps ds : List Pair) (next : ℕ) → Below (solve n limit types ps ds next) (solve m limit types ps ds next)
 solve_more n m l limit types ps ds next = below_then (solve_types n types [] 0) (solve_types m types [] 0) _ _ (types_more n m l types [] 0) (λ o. go_on_more n m l limit ps ds next o)
 
 evaluate_more : (n m : ℕ) → n ≤ m → (t : Term) → Below (evaluate n t) (evaluate m t)

@@ -12,7 +12,7 @@ use Rattle.lp_model.specs.Scan.{Side, Scanned, broken, whole, scan, Pattern, fir
 use Rattle.lp_model.specs.Rule.{Compared, dearer, open_with, type_pairs, compare_types, compare, compare_looks, compare_all, Ruled, ruled, decompose, with_types, joined, has_head, solve_for, by_pattern, pattern_side, by_rule_5, by_rule_4, dear, by_looks, rule, fails, gives, delays, binds, bound as made_by}
 use Rattle.lp_laws.proofs.MoreSteps.{Below, below_none, below_same, below_then, below_map, look_more, pattern_more, scan_more}
 
-below_if : {A : Type 0} (b : Bool) (x x' y y' : Option A) → Below x x' → Below y y' → Below (elim b [ true ↦ x | false ↦ y ]) (elim b [ true ↦ x' | false ↦ y' ])
+pub below_if : {A : Type 0} (b : Bool) (x x' y y' : Option A) → Below x x' → Below y y' → Below (elim b [ true ↦ x | false ↦ y ]) (elim b [ true ↦ x' | false ↦ y' ])
 below_if true x x' y y' p q = p
 below_if false x x' y y' p q = q
 
@@ -88,7 +88,7 @@ below_pattern : {A : Type 0} (o : Option (List ℕ)) (x x' : List ℕ → Option
 below_pattern None x x' y y' p q = q
 below_pattern (Some b) x x' y y' p q = p b
 
-settle_look : (n m : ℕ) → n ≤ m → (k : ℕ) (v : Look) → ((u : Term) → Below (settle n (suc k) u) (settle m (suc k) u)) → ((g : Term) (ts : List Term) → Below (settle_all n k g ts) (settle_all m k g ts)) → Below {A = Term} (elim v [ an_abs b ↦ option_map (abstraction (suc k)) (settle n (suc k) (substitute (atom (eigen (suc k))) b)) | rigid h ts ↦ settle_all n k h ts | flexible y l ts ↦ option_and_then (λ o. elim o [ Some b ↦ Some (apply (atom (logic y l)) (eigens b)) | None ↦ settle_all n k (atom (logic y l)) ts ]) (pattern_of n l ts) ]) (elim v [ an_abs b ↦ option_map (abstraction (suc k)) (settle m (suc k) (substitute (atom (eigen (suc k))) b)) | rigid h ts ↦ settle_all m k h ts | flexible y l ts ↦ option_and_then (λ o. elim o [ Some b ↦ Some (apply (atom (logic y l)) (eigens b)) | None ↦ settle_all m k (atom (logic y l)) ts ]) (pattern_of m l ts) ])
+pub settle_look : (n m : ℕ) → n ≤ m → (k : ℕ) (v : Look) → ((u : Term) → Below (settle n (suc k) u) (settle m (suc k) u)) → ((g : Term) (ts : List Term) → Below (settle_all n k g ts) (settle_all m k g ts)) → Below {A = Term} (elim v [ an_abs b ↦ option_map (abstraction (suc k)) (settle n (suc k) (substitute (atom (eigen (suc k))) b)) | rigid h ts ↦ settle_all n k h ts | flexible y l ts ↦ option_and_then (λ o. elim o [ Some b ↦ Some (apply (atom (logic y l)) (eigens b)) | None ↦ settle_all n k (atom (logic y l)) ts ]) (pattern_of n l ts) ]) (elim v [ an_abs b ↦ option_map (abstraction (suc k)) (settle m (suc k) (substitute (atom (eigen (suc k))) b)) | rigid h ts ↦ settle_all m k h ts | flexible y l ts ↦ option_and_then (λ o. elim o [ Some b ↦ Some (apply (atom (logic y l)) (eigens b)) | None ↦ settle_all m k (atom (logic y l)) ts ]) (pattern_of m l ts) ])
 settle_look n m l k (an_abs b) p q = below_map (settle n (suc k) (substitute (atom (eigen (suc k))) b)) (settle m (suc k) (substitute (atom (eigen (suc k))) b)) (abstraction (suc k)) (p (substitute (atom (eigen (suc k))) b))
 settle_look n m l k (rigid h ts) p q = q h ts
 settle_look n m l k (flexible y j ts) p q = below_then (pattern_of n j ts) (pattern_of m j ts) _ _ (pattern_more n m l j ts) (λ o. below_pattern o _ _ _ _ (λ b. below_same _) (q (atom (logic y j)) ts))
@@ -121,20 +121,20 @@ solve_for_more n m l next s t v = below_if (has_head s v) _ _ _ _ (below_same (S
     scanned (whole u true ps) = below_same _
     scanned (whole u false ps) = below_then (prune n s next t) (prune m s next t) _ _ (prune_more n m l s next t) (λ r. below_map (settle n s.pair r.term) (settle m s.pair r.term) (binding s u r) (settle_more n m l s.pair r.term))
 
-by_pattern_more : (n m : ℕ) → n ≤ m → (next : ℕ) (p : Pair) (v w : Look) (a b : Option Side) → Below (by_pattern n next p v w a b) (by_pattern m next p v w a b)
+pub by_pattern_more : (n m : ℕ) → n ≤ m → (next : ℕ) (p : Pair) (v w : Look) (a b : Option Side) → Below (by_pattern n next p v w a b) (by_pattern m next p v w a b)
 by_pattern_more n m l next p v w (Some s) r = solve_for_more n m l next s p.right w
 by_pattern_more n m l next p v w None (Some s) = solve_for_more n m l next s p.left v
 by_pattern_more n m l next p v w None None = below_same _
 
-pattern_side_more : (n m : ℕ) → n ≤ m → (p : Pair) (v : Look) → Below (pattern_side n p v) (pattern_side m p v)
+pub pattern_side_more : (n m : ℕ) → n ≤ m → (p : Pair) (v : Look) → Below (pattern_side n p v) (pattern_side m p v)
 pattern_side_more n m l p (flexible x j ts) = below_map (pattern_of n j ts) (pattern_of m j ts) _ (pattern_more n m l j ts)
 pattern_side_more n m l p (an_abs b) = below_same (Some None)
 pattern_side_more n m l p (rigid h ts) = below_same (Some None)
 
-by_rule_5_more : (n m : ℕ) → n ≤ m → (next : ℕ) (p : Pair) (v w : Look) → Below (by_rule_5 n next p v w) (by_rule_5 m next p v w)
+pub by_rule_5_more : (n m : ℕ) → n ≤ m → (next : ℕ) (p : Pair) (v w : Look) → Below (by_rule_5 n next p v w) (by_rule_5 m next p v w)
 by_rule_5_more n m l next p v w = below_then (pattern_side n p v) (pattern_side m p v) _ _ (pattern_side_more n m l p v) (λ a. below_then (pattern_side n p w) (pattern_side m p w) _ _ (pattern_side_more n m l p w) (λ b. by_pattern_more n m l next p v w a b))
 
-by_rule_4_more : (n m : ℕ) → n ≤ m → (next : ℕ) (p : Pair) (x l' : ℕ) (ts us : List Term) → Below (by_rule_4 n next p x l' ts us) (by_rule_4 m next p x l' ts us)
+pub by_rule_4_more : (n m : ℕ) → n ≤ m → (next : ℕ) (p : Pair) (x l' : ℕ) (ts us : List Term) → Below (by_rule_4 n next p x l' ts us) (by_rule_4 m next p x l' ts us)
 by_rule_4_more n m l next p x l' ts us = below_then (pattern_of n l' ts) (pattern_of m l' ts) _ _ (pattern_more n m l l' ts) (λ a. below_then (pattern_of n l' us) (pattern_of m l' us) _ _ (pattern_more n m l l' us) (λ b. both a b))
   where
     both : (a b : Option (List ℕ)) → Below {A = Ruled} (elim a [ None ↦ by_rule_5 n next p (flexible x l' ts) (flexible x l' us) | Some a ↦ elim b [ None ↦ by_rule_5 n next p (flexible x l' ts) (flexible x l' us) | Some b ↦ Some (ruled 0 (joined next x l' a b)) ] ]) (elim a [ None ↦ by_rule_5 m next p (flexible x l' ts) (flexible x l' us) | Some a ↦ elim b [ None ↦ by_rule_5 m next p (flexible x l' ts) (flexible x l' us) | Some b ↦ Some (ruled 0 (joined next x l' a b)) ] ])
@@ -142,7 +142,7 @@ by_rule_4_more n m l next p x l' ts us = below_then (pattern_of n l' ts) (patter
     both (Some a) None = by_rule_5_more n m l next p (flexible x l' ts) (flexible x l' us)
     both (Some a) (Some b) = below_same _
 
-by_looks_more : (n m : ℕ) → n ≤ m → (next : ℕ) (p : Pair) (v w : Look) → Below (by_looks n next p v w) (by_looks m next p v w)
+pub by_looks_more : (n m : ℕ) → n ≤ m → (next : ℕ) (p : Pair) (v w : Look) → Below (by_looks n next p v w) (by_looks m next p v w)
 by_looks_more n m l next p (an_abs b) w = below_same _
 by_looks_more n m l next p (rigid h ts) (an_abs c) = below_same _
 by_looks_more n m l next p (flexible x j ts) (an_abs c) = below_same _

@@ -47,10 +47,10 @@ beta_normal_more (suc n) (suc m) h t = elim (leftmost_step t) as (λ o. Below (e
 pub look_more : (n m : ℕ) → n ≤ m → (t : Term) → Below (look n t) (look m t)
 look_more n m h t = below_map (head_normal n t) (head_normal m t) (λ s. looked s []) (head_normal_more n m h t)
 
-as_eigen_more : (n m : ℕ) → n ≤ m → (t : Term) → Below (as_eigen n t) (as_eigen m t)
+pub as_eigen_more : (n m : ℕ) → n ≤ m → (t : Term) → Below (as_eigen n t) (as_eigen m t)
 as_eigen_more n m h t = below_map (beta_normal n t) (beta_normal m t) (λ s. eigen_of (eta_normal s)) (beta_normal_more n m h t)
 
-as_eigens_more : (n m : ℕ) → n ≤ m → (ts : List Term) → Below (as_eigens n ts) (as_eigens m ts)
+pub as_eigens_more : (n m : ℕ) → n ≤ m → (ts : List Term) → Below (as_eigens n ts) (as_eigens m ts)
 as_eigens_more n m h [] = below_same (Some (Some []))
 as_eigens_more n m h (t ∷ ts) = below_then (as_eigen n t) (as_eigen m t) _ _ (as_eigen_more n m h t) λ o. elim o as (λ o. Below {A = Option (List ℕ)} (elim o [ None ↦ Some None | Some k ↦ option_map (option_map (λ ks. k ∷ ks)) (as_eigens n ts) ]) (elim o [ None ↦ Some None | Some k ↦ option_map (option_map (λ ks. k ∷ ks)) (as_eigens m ts) ])) [
   | None ↦ below_same (Some None)
