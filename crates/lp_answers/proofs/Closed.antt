@@ -1,16 +1,16 @@
 -- What a closing keeps: reduction, formulas, and terms without the variable that is changed.
-use Rattle.std.proofs.Common.{◌≡◌, ℕ, suc, List, [], ◌∷◌, map, length, ◌∙◌, refl, sym, ap, subst as transport, arith, Bool, true, false, nat_eq, if◌then◌else◌, Some}
+use Rattle.std.proofs.Common.{◌≡◌, ℕ, suc, List, [], length, ◌∙◌, refl, sym, ap, subst as transport, arith, true, nat_eq, if◌then◌else◌}
 use Rattle.std.specs.Prelude.{◌&&◌}
 use Rattle.std.proofs.lemmas.Bool.Decides.{nat_tests}
-use Rattle.lp_calculus.specs.Types.{Ty, instance}
+use Rattle.lp_calculus.specs.Types.{Ty}
 use Rattle.lp_calculus.specs.Term.{Term, Atom, index, atom, abs, app, shift, substitute, constant, integer, text, eigen, logic, param}
-use Rattle.lp_calculus.specs.Convert.{ReducesTo, done, then_step, here, by_beta, Converts}
+use Rattle.lp_calculus.specs.Convert.{ReducesTo, done, then_step, here, by_beta}
 use Rattle.lp_calculus.specs.Fill.{Within, close, at_variables}
 use Rattle.lp_calculus.specs.Instance.{instance_atom, instance_term}
 use Rattle.lp_calculus.specs.Typing.{o_type, atom_type}
 use Rattle.lp_calculus.specs.Closed.{IsClosedAtom}
 use Rattle.lp_calculus.proofs.Fills.{fill_same}
-use Rattle.lp_calculus.proofs.Steps.{Step, step_fill, within_reduces, converts_reduces}
+use Rattle.lp_calculus.proofs.Steps.{step_fill, within_reduces}
 use Rattle.lp_calculus.proofs.Subject.{typed_reduces}
 use Rattle.lp_calculus.proofs.Commutations.{substitute_shift}
 use Rattle.lp_calculus.proofs.Plain.{substitute-subst}

@@ -1,14 +1,14 @@
 -- The connectives under a closing: a goal is provable exactly where what stands in its place is.
-use Rattle.std.proofs.Common.{◌≡◌, ℕ, zero, suc, List, [], ◌∷◌, ◌++◌, map, length, ◌∙◌, refl, sym, ap, subst as transport, arith, Bool, true, false, nat_eq, if◌then◌else◌, inl, inr, Option, Some, None}
+use Rattle.std.proofs.Common.{◌≡◌, ℕ, List, [], ◌∷◌, ◌++◌, refl, subst as transport, arith, inl, inr}
 use Rattle.std.specs.Prelude.{◌⊎◌, ◌≤◌}
 use Rattle.lp_calculus.specs.Types.{Ty, instance}
-use Rattle.lp_calculus.specs.Term.{Term, Atom, atom, app, abs, apply, substitute, constant, eigen, logic}
+use Rattle.lp_calculus.specs.Term.{Term, atom, app, substitute, constant, logic}
 use Rattle.lp_calculus.specs.Convert.{Converts, ReducesTo}
 use Rattle.lp_calculus.proofs.Steps.{converts_reduces, converts_sym}
 use Rattle.lp_model.specs.Pair.{Closing, closed}
-use Rattle.lp_model.specs.Proofs.{Declared, IsFormula, IsWitness, IsArith, Provable, Rooted, trivially, both_sides, left_side, right_side, at_witness, for_all, under_assumption, equally, by_arithmetic, by_clause, True, And, Left, Right, Witness, All, Assume, Equal, assumed}
+use Rattle.lp_model.specs.Proofs.{Declared, IsFormula, IsWitness, IsArith, Provable, Rooted, trivially, both_sides, left_side, right_side, at_witness, for_all, under_assumption, equally, by_arithmetic, by_clause, And, Left, Right, Witness, All, Assume, Equal, assumed}
 use Rattle.lp_model.specs.Schemes.{IsStandard}
-use Rattle.lp_model.specs.Standard.{truth, two, pi_of, sigma_of, body_of}
+use Rattle.lp_model.specs.Standard.{two, pi_of, sigma_of, body_of}
 use Rattle.lp_model.specs.Flatten.{ClauseFormula}
 use Rattle.lp_answers.specs.Holds.{Holds, with_value, IsUnused, next_eigen}
 use Rattle.lp_answers.proofs.Closed.{closed_reduces, formula_reduces, body_opens, unused_closed, value_at}

@@ -1,5 +1,5 @@
 -- An equality through the unifier: where it fails no closing makes the equality hold, and what it leaves has the closings that do.
-use Rattle.std.proofs.Common.{◌≡◌, ℕ, List, [], ◌∷◌, ◌++◌, map, length, refl, Some}
+use Rattle.std.proofs.Common.{◌≡◌, ℕ, List, [], ◌∷◌, map, length, Some}
 use Rattle.lp_calculus.specs.Types.{Ty, instance}
 use Rattle.lp_calculus.specs.Term.{Term}
 use Rattle.lp_model.specs.Pair.{Pair, Closing, closed, SolvesAll}
@@ -10,9 +10,9 @@ use Rattle.lp_model.specs.Flatten.{ClauseFormula}
 use Rattle.lp_model.specs.Proofs.{Declared, IsFormula}
 use Rattle.lp_model.specs.Answers.{Variable, Closes}
 use Rattle.lp_solutions.specs.TypeSolutions.{Satisfies}
-use Rattle.lp_solutions.specs.Solutions.{at_types, instance_binding, IsTypedInput, closed_variables, through_bindings, AreStuck, HasSameClosings, KeptClosing, KeepsSolution}
+use Rattle.lp_solutions.specs.Solutions.{instance_binding, IsTypedInput, closed_variables, through_bindings, AreStuck, KeepsSolution}
 use Rattle.lp_solutions.proofs.Trimmed.{closings_have_none, closings_are_kept}
-use Rattle.lp_answers.specs.Holds.{Holds, equation, equality, EqualityHolds}
+use Rattle.lp_answers.specs.Holds.{Holds, equation, EqualityHolds}
 use Rattle.lp_solutions.proofs.Principal.{closings_are_the_same}
 use Rattle.lp_calculus.specs.Instance.{instance_term}
 use Rattle.lp_answers.proofs.Connectives.{equal_holds}

@@ -1,19 +1,16 @@
 -- Goals that are taken apart: those known at run time, by the form of their head-normal form, and flattened ones.
-use Rattle.std.proofs.Common.{◌≡◌, ℕ, zero, suc, List, [], ◌∷◌, ◌++◌, map, length, ◌∙◌, refl, sym, ap, subst as transport, arith, Bool, true, false, nat_eq, if◌then◌else◌, inl, inr, Option, Some, None}
-use Rattle.std.specs.Prelude.{◌⊎◌}
+use Rattle.std.proofs.Common.{◌≡◌, ℕ, suc, List, [], ◌∷◌, ◌++◌, map, length, ◌∙◌, refl, sym, ap, subst as transport, arith, false, nat_eq, if◌then◌else◌, inl, inr, Some, None}
 use Rattle.std.proofs.lemmas.Bool.Decides.{nat_tests}
 use Rattle.lp_calculus.specs.Types.{Ty, instance}
-use Rattle.lp_calculus.specs.Term.{Term, atom, app, abs, substitute, constant, logic}
-use Rattle.lp_calculus.specs.Convert.{ReducesTo}
-use Rattle.lp_calculus.specs.Fill.{Within}
+use Rattle.lp_calculus.specs.Term.{Term, atom, abs, substitute, constant, logic}
 use Rattle.lp_calculus.specs.Typing.{Typed, scheme_type, o_type}
 use Rattle.lp_calculus.proofs.Steps.{within_reduces}
 use Rattle.lp_model.specs.Look.{head_normal}
 use Rattle.lp_model.specs.Faithful.{EachOf}
 use Rattle.lp_model.specs.Pair.{Closing, closed}
-use Rattle.lp_model.specs.Proofs.{Declared, under, IsFormula, IsWitness, Provable, True, assumed}
+use Rattle.lp_model.specs.Proofs.{Declared, under, IsFormula, IsWitness, True}
 use Rattle.lp_model.specs.Schemes.{IsStandard}
-use Rattle.lp_model.specs.Standard.{truth, cut, two, pi_of, sigma_of, body_of, Form, Truth, Cutting, Both, OneOf, Implies, Every, Exist, Plain, form_of}
+use Rattle.lp_model.specs.Standard.{truth, Form, Truth, Cutting, Both, OneOf, Implies, Every, Exist, Plain, form_of}
 use Rattle.lp_model.specs.Flat.{Goal, Atomic, Cut, Either, Exists, Forall, Assume, Goals, no_goals, goals, goal_list, formula_of_goal, formula_of_goals, formula_of_clauses}
 use Rattle.lp_model.specs.Flatten.{ClauseFormula}
 use Rattle.lp_laws.proofs.Forms.{Shape, form_shape}

@@ -1,8 +1,7 @@
 -- A term under a closing converts to the term with the bindings under the closing that was kept.
-use Rattle.std.proofs.Common.{◌≡◌, ℕ, suc, List, [], ◌∷◌, map, length, ◌∙◌, refl, sym, ap, subst as transport, arith, Some}
-use Rattle.std.specs.Prelude.{slice_get}
+use Rattle.std.proofs.Common.{◌≡◌, ℕ, suc, List, ◌∙◌, sym, ap, subst as transport, arith}
 use mathlib.Core.Path.{fun_ext}
-use Rattle.lp_calculus.specs.Types.{Ty, instance}
+use Rattle.lp_calculus.specs.Types.{Ty}
 use Rattle.lp_calculus.specs.Term.{Term, Atom, index, atom, abs, app, constant, integer, text, eigen, logic, param}
 use Rattle.lp_calculus.specs.Convert.{Converts, same}
 use Rattle.lp_calculus.specs.Fill.{Within, Binding, close, at_variables, put_all}
@@ -12,12 +11,11 @@ use Rattle.lp_calculus.proofs.Steps.{converts_on, converts_is, converts_sym, con
 use Rattle.lp_model.specs.Pair.{Pair, Closing, closed}
 use Rattle.lp_model.specs.Flatten.{ClauseFormula}
 use Rattle.lp_model.specs.Proofs.{Declared, IsFormula}
-use Rattle.lp_model.specs.Answers.{Variable, Closes}
-use Rattle.lp_solutions.specs.Right.{through}
+use Rattle.lp_model.specs.Answers.{Variable}
 use Rattle.lp_solutions.specs.Solutions.{through_bindings, KeptClosing}
 use Rattle.lp_solutions.proofs.Scopes.{variable_of}
 use Rattle.lp_solutions.proofs.Throughs.{through_close}
-use Rattle.lp_solutions.proofs.TypedBindings.{IsAtomOf, IsTypedTerm, term_atoms}
+use Rattle.lp_solutions.proofs.TypedBindings.{IsAtomOf, term_atoms}
 use Rattle.lp_solutions.proofs.PairLists.{put_all_instance}
 use Rattle.lp_solutions.proofs.Runs.{bindings_at}
 use Rattle.lp_solutions.proofs.Laws.{gives_through}
@@ -25,7 +23,7 @@ use Rattle.lp_laws.proofs.Uniforms.{by_conversion}
 use Rattle.lp_answers.specs.Holds.{Holds, IsTyped, IsVariableOf}
 
 -- a variable of V at its own level
-variable_atom : (d : Declared) (E : List Ty) (V : List Variable) (a : Atom) → IsAtomOf d E V a → IsVariableOf V a
+pub variable_atom : (d : Declared) (E : List Ty) (V : List Variable) (a : Atom) → IsAtomOf d E V a → IsVariableOf V a
 variable_atom d E V (logic x l) h = let v = variable_of V x l h.1.0 h.1.1 in (v.variable, v.is, v.level)
 variable_atom d E V (constant c ts) h = tt
 variable_atom d E V (integer z) h = tt
@@ -41,7 +39,7 @@ variable_instance V κ (text s) h = tt
 variable_instance V κ (eigen k) h = tt
 variable_instance V κ (param k T) h = tt
 
-variables_instance : (V : List Variable) (κ : ℕ → Ty) (n : ℕ) (t : Term) → Within (IsVariableOf V) n t → Within (IsVariableOf V) n (instance_term κ t)
+pub variables_instance : (V : List Variable) (κ : ℕ → Ty) (n : ℕ) (t : Term) → Within (IsVariableOf V) n t → Within (IsVariableOf V) n (instance_term κ t)
 variables_instance V κ n (index i) h = h
 variables_instance V κ n (atom a) h = variable_instance V κ a h
 variables_instance V κ n (abs b) h = variables_instance V κ (suc n) b h
@@ -55,7 +53,7 @@ atom_goes d V W c bs ps k (text s) h = same (atom (text s))
 atom_goes d V W c bs ps k (eigen n) h = same (atom (eigen n))
 atom_goes d V W c bs ps k (param n T) h = same (atom (param n T))
 
-through_term : (z : Closing) (bs : List Binding) (t : Term) → close (through_bindings bs z).terms (instance_term z.types t) ≡ closed z (put_all bs t)
+pub through_term : (z : Closing) (bs : List Binding) (t : Term) → close (through_bindings bs z).terms (instance_term z.types t) ≡ closed z (put_all bs t)
 through_term z bs t =
     ap (λ σ. close σ (instance_term z.types t)) (sym (fun_ext (λ x. fun_ext (λ l. gives_through z.types z.terms bs x l)))) ∙
     sym (through_close (bindings_at z.types bs) z.terms (instance_term z.types t)) ∙ ap (close z.terms) (put_all_instance z.types bs t)

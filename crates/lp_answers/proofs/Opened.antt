@@ -1,9 +1,8 @@
 -- The goals that stand in the place of a quantified one: terms put for indices in goals are terms put in their formula.
-use Rattle.std.proofs.Common.{◌≡◌, ℕ, zero, suc, List, [], ◌∷◌, ◌++◌, map, length, ◌∙◌, refl, sym, ap, subst as transport}
+use Rattle.std.proofs.Common.{◌≡◌, ℕ, zero, suc, List, [], ◌∷◌, map, ◌∙◌, refl, sym, ap, subst as transport}
 use mathlib.Core.Path.{fun_ext}
 use Rattle.lp_calculus.specs.Types.{Ty}
 use Rattle.lp_calculus.specs.Term.{Term, abs, index, substitute}
-use Rattle.lp_calculus.specs.Fill.{Binding, put}
 use Rattle.lp_calculus.proofs.Sigma.{subst, instead}
 use Rattle.lp_calculus.proofs.Plain.{substitute-subst}
 use Rattle.lp_model.specs.Faithful.{EachOf}
@@ -19,7 +18,7 @@ use Rattle.lp_laws.proofs.Openings.{instantiate_subst}
 use Rattle.lp_answers.specs.Holds.{Holds}
 use Rattle.lp_answers.proofs.Goals.{goals_in_turn}
 
-map_same : (vs : List Ty) → map same_type vs ≡ vs
+pub map_same : (vs : List Ty) → map same_type vs ≡ vs
 map_same [] = refl
 map_same (v ∷ vs) = ap (λ us. v ∷ us) (map_same vs)
 
@@ -27,7 +26,7 @@ all_instantiate : (vs : List Ty) (f : ℕ → Term) (t : Term) → all_of vs (in
 all_instantiate [] f t = refl
 all_instantiate (v ∷ vs) f t = all_instantiate vs f (pi_of v (abs t))
 
-two_same : (c : ℕ) {A B X Y : Term} → A ≡ X → B ≡ Y → two c [] A B ≡ two c [] X Y
+pub two_same : (c : ℕ) {A B X Y : Term} → A ≡ X → B ≡ Y → two c [] A B ≡ two c [] X Y
 two_same c e f = λ i. two c [] (e i) (f i)
 
 mutual
@@ -56,7 +55,7 @@ mutual
   clauses_instantiate f (clauses c no_clauses) = clause_instantiate f c
   clauses_instantiate f (clauses c (clauses e cs)) = two_same 0 (clause_instantiate f c) (clauses_instantiate f (clauses e cs))
 
-first_only : (u : Term) (f : ℕ → Term) → ((i : ℕ) → f i ≡ instead u i) → (gs : Goals) → formula_of_goals (instantiate_goals f gs) ≡ substitute u (formula_of_goals gs)
+pub first_only : (u : Term) (f : ℕ → Term) → ((i : ℕ) → f i ≡ instead u i) → (gs : Goals) → formula_of_goals (instantiate_goals f gs) ≡ substitute u (formula_of_goals gs)
 first_only u f h gs = goals_instantiate f gs ∙ instantiate_subst f (formula_of_goals gs) ∙ ap (λ g. subst g (formula_of_goals gs)) (fun_ext h) ∙ sym (substitute-subst u (formula_of_goals gs))
 
 in_place_of : (d : Declared) → IsStandard d → (E : List Ty) (P : List ClauseFormula) (c : Closing) (u : Term) (f : ℕ → Term) → ((i : ℕ) → f i ≡ instead u i) → (gs : Goals) → IsFormula d E (closed c (substitute u (formula_of_goals gs))) →
@@ -66,7 +65,7 @@ in_place_of d std E P c u f h gs w =
     let r = goals_in_turn d std E P c (instantiate_goals f gs) (transport (λ z. IsFormula d E (closed c z)) (sym e) w) in
     ((λ p. r.0 (transport (Holds d E P c) (sym e) p)), (λ p. transport (Holds d E P c) e (r.1 p)))
 
-by_cases : (u : Term) (f : ℕ → Term) → f zero ≡ u → ((i : ℕ) → f (suc i) ≡ index i) → (i : ℕ) → f i ≡ instead u i
+pub by_cases : (u : Term) (f : ℕ → Term) → f zero ≡ u → ((i : ℕ) → f (suc i) ≡ index i) → (i : ℕ) → f i ≡ instead u i
 by_cases u f e h zero = e
 by_cases u f e h (suc i) = h i
 

@@ -1,9 +1,8 @@
 -- What a goal says under a closing, and what stands in its place where it is taken apart.
-use Rattle.std.specs.Prelude.{ℕ, suc, nat_eq, Bool, false, ◌&&◌, if◌then◌else◌, ◌⊎◌, ◌≡◌, List, [], ◌∷◌, ◌++◌, length, map, Some, slice_get}
+use Rattle.std.specs.Prelude.{ℕ, suc, nat_eq, false, ◌&&◌, if◌then◌else◌, ◌⊎◌, ◌≡◌, List, [], ◌∷◌, ◌++◌, length, map, Some, slice_get}
 use Rattle.lp_calculus.specs.Types.{Ty, instance}
 use Rattle.lp_calculus.specs.Term.{Term, Atom, atom, substitute, constant, integer, text, eigen, logic, param}
 use Rattle.lp_calculus.specs.Fill.{Within}
-use Rattle.lp_model.specs.Faithful.{EachOf}
 use Rattle.lp_model.specs.Pair.{Pair, Closing, closed, SolvesAll}
 use Rattle.lp_model.specs.Unify.{State}
 use Rattle.lp_model.specs.Answers.{Variable, over, IsScopedAtom, Closes}
@@ -11,7 +10,7 @@ use Rattle.lp_calculus.specs.Typing.{Typed}
 use Rattle.lp_calculus.specs.Instance.{instance_term}
 use Rattle.lp_solutions.specs.Solutions.{at_types, instance_binding, through_bindings, KeepsTypings, KeptClosing}
 use Rattle.lp_model.specs.Flatten.{ClauseFormula}
-use Rattle.lp_model.specs.Flat.{Goal, Atomic, Cut, Either, Exists, Forall, Assume, Goals, goal_list, formula_of_goal, formula_of_goals, formula_of_clauses}
+use Rattle.lp_model.specs.Flat.{Goal, Atomic, Cut, Either, Exists, Forall, Assume, formula_of_goals, formula_of_clauses}
 use Rattle.lp_model.specs.Proofs.{Declared, IsWitness, IsFormula, Provable, assumed}
 use Rattle.lp_model.specs.Standard.{two, Form, Truth, Cutting, Both, OneOf, Implies, Every, Exist, Plain}
 
@@ -97,3 +96,9 @@ IsVariableOf V (integer z) = Unit {0}
 IsVariableOf V (text s) = Unit {0}
 IsVariableOf V (eigen k) = Unit {0}
 IsVariableOf V (param k T) = Unit {0}
+
+-- a goal that holds exactly where another one does
+pub record IsSameGoal (d : Declared) (E : List Ty) (P : List ClauseFormula) (c : Closing) (t u : Term) : Type 0 where
+  pub fine : IsFormula d E (closed c u)
+  pub to : Holds d E P c t → Holds d E P c u
+  pub from : Holds d E P c u → Holds d E P c t

@@ -1,1 +1,9 @@
+pub mod Behind
+pub mod Branches
+pub mod Clauses
+pub mod Enough
 pub mod Holds
+pub mod Right
+pub mod Started
+pub mod Tries
+pub mod Begun

@@ -6,3 +6,21 @@
 pub mod taken_apart;
 /// Equalities, through the unifier.
 pub mod equality;
+/// Arithmetic.
+pub mod arithmetic;
+/// What a search starts with.
+pub mod start;
+/// Clauses: a focus on one of them, and the candidates for an atom.
+pub mod clauses;
+/// Entries behind a unification.
+pub mod behind;
+/// Steps that are enough.
+pub mod enough;
+/// What typed tasks turn out to be.
+pub mod views;
+/// What unification leaves.
+pub mod residual;
+/// A clause against a goal.
+pub mod tries;
+/// The search as a whole.
+pub mod whole;
