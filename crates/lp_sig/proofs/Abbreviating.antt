@@ -385,7 +385,7 @@ module _ (ns : List (List ℕ)) (text : List ℕ) (node : RawTypeNode) (old : Li
   pub node_word : (w : Spot) (args : Vec ℕ Global) (new : List Way) → node ≡ Word w args → new ≡ old ++ ways_in ns text (if begins_variable (spelled text w) then [] else w ∷ []) → new ≡ old ++ uses_in ns text (node ∷ [])
   node_word w args new is more = more ∙ ap (λ ws. old ++ ways_in ns text ws) (sym (append-nil (if begins_variable (spelled text w) then [] else w ∷ []))) ∙ ap (λ n. old ++ uses_in ns text (n ∷ [])) (sym is)
 
-type_names_append : (text : List ℕ) (xs ys : List RawTypeNode) → type_names text (xs ++ ys) ≡ type_names text xs ++ type_names text ys
+pub type_names_append : (text : List ℕ) (xs ys : List RawTypeNode) → type_names text (xs ++ ys) ≡ type_names text xs ++ type_names text ys
 type_names_append text [] ys = refl
 type_names_append text (Word s args ∷ ns) ys = ap (λ z. (if begins_variable (spelled text s) then [] else s ∷ []) ++ z) (type_names_append text ns ys) ∙ sym (append_assoc (if begins_variable (spelled text s) then [] else s ∷ []) (type_names text ns) (type_names text ys))
 type_names_append text (Arrow a b ∷ ns) ys = type_names_append text ns ys
@@ -472,6 +472,26 @@ told_again xs ys zs f m h =
 
 pub unknown_untold : (n : List ℕ) (said : List (Row Said)) → is_known n said ≡ false → is_among n (names_in said) ≡ false
 unknown_untold n said h = by (is_among n (names_in standard_kinds)) (is_among n (names_in said)) h
+  where
+    by : (a b : Bool) → (a || b) ≡ false → b ≡ false
+    by true b e = absurd (true≢false e)
+    by false b e = e
+
+-- a name whose place is behind all that were seen was not known before
+pub new_unknown : (said more : List (Row Said)) (name : List ℕ) (place : ℕ) → first_place name (abbreviation_names (said ++ more)) ≡ Some place → length (abbreviation_names said) ≤ place → is_known name said ≡ false
+new_unknown said more name place at l = by (is_known name said) (is_among name (abbreviation_names said)) refl refl
+  where
+    by : (t b : Bool) → is_known name said ≡ t → is_among name (abbreviation_names said) ≡ b → is_known name said ≡ false
+    by true true e f = let h = in_front name (abbreviation_names said) (later said more) place f (ap (first_place name) (sym (names_later said more)) ∙ at) in absurd (omega (arith, h, l))
+    by true false e f =
+        let q : Some place ≡ None = sym at ∙ ap (first_place name) (names_later said more) ∙ no_place name (abbreviation_names said ++ later said more)
+        (among_append name (abbreviation_names said) (later said more) ∙ ap (λ t. t || is_among name (later said more)) f ∙ not_later name said more e) in
+        absurd (cc)
+    by false b e f = e
+
+-- the place of a new name
+pub fresh_place : (said : List (Row Said)) (n : List ℕ) → is_known n said ≡ false → first_place n (abbreviation_names said ++ n ∷ []) ≡ Some (length (abbreviation_names said))
+fresh_place said n h = behind n (abbreviation_names said) [] (heads_fewer n (declared_names said) (by (is_among n (names_in standard_kinds)) (is_among n (names_in (declared_names said))) (firsts_names n (names_in standard_kinds) said ∙ h)))
   where
     by : (a b : Bool) → (a || b) ≡ false → b ≡ false
     by true b e = absurd (true≢false e)

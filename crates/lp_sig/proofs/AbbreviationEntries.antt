@@ -1,17 +1,16 @@
 -- The entries of abbreviations are those of the declared names, each with the body at its place.
-use Rattle.std.proofs.Common.{◌≡◌, ℕ, zero, suc, ◌+◌, ◌<◌, ◌≤◌, List, [], ◌∷◌, ◌++◌, length, map, take, take_all, get_or, Bool, true, false, true≢false, Option, Some, None, refl, sym, ap, subst, ◌∙◌, arith}
-use Rattle.std.specs.Prelude.{if◌then◌else◌, option_map, ◌||◌, All}
+use Rattle.std.proofs.Common.{◌≡◌, ℕ, zero, suc, ◌+◌, ◌<◌, List, [], ◌∷◌, ◌++◌, length, map, take, get_or, Bool, true, false, true≢false, Some, refl, sym, ap, subst, ◌∙◌, arith}
+use Rattle.std.specs.Prelude.{if◌then◌else◌, option_map, ◌||◌}
 use Rattle.std.specs.Str.{bytes_eq}
 use Rattle.std.proofs.lemmas.Slice.Eq.{bytes_eq-Decides}
 use Rattle.std.proofs.lemmas.List.{map-append, take_more, length-map}
-use Rattle.lp_term.specs.Nodes.{Nodes}
 use Rattle.lp_sig.specs.Places.{first_place}
 use Rattle.lp_sig.specs.Rows.{Row}
 use Rattle.lp_sig.specs.Standard.{standard_kinds}
-use Rattle.lp_sig.specs.Said.{Said, a_kind, an_abbreviation, is_among, names_in, firsts, declared_names, abbreviations_among}
-use Rattle.lp_sig.specs.Knowing.{Knows, head_row}
+use Rattle.lp_sig.specs.Said.{Said, a_kind, an_abbreviation, is_among, names_in, firsts, abbreviations_among}
+use Rattle.lp_sig.specs.Knowing.{head_row}
 use Rattle.lp_sig.specs.Abbreviations.{abbreviation_names, Seen}
-use Rattle.lp_sig.specs.Holding.{body_of, HoldsBodies, KnowsSeen}
+use Rattle.lp_sig.specs.Holding.{body_of, KnowsSeen}
 use Rattle.lp_sig.specs.Entries.{parameters_row, AreAbbreviations, HaveBodies}
 use Rattle.lp_sig.specs.declared.bodies.Body.{Body}
 use Rattle.lp_sig.specs.declared.names.Head.{Head}

@@ -1,14 +1,13 @@
 -- What texts define has as many parameters as they say.
-use Rattle.std.proofs.Common.{◌≡◌, ℕ, List, [], ◌∷◌, ◌++◌, Bool, true, false, length, map, Option, Some, None, refl, sym, ap, subst, ◌∙◌, cond, append_assoc}
+use Rattle.std.proofs.Common.{◌≡◌, ℕ, List, [], ◌∷◌, ◌++◌, Bool, true, false, length, map, Option, Some, None, sym, ap, ◌∙◌, cond, append_assoc}
 use Rattle.std.specs.Str.{bytes_eq}
-use Rattle.lp_base.specs.declared.place.Spot.{Spot}
 use Rattle.lp_syntax.specs.declared.text.Declaration.{Declaration}
 use Rattle.lp_syntax.specs.declared.text.Declaration.TheVariants.{Kinds, LocalKinds, Constants, Locals, Abbreviation, Accumulate, AccumSig, Fixities}
 use Rattle.lp_sig.specs.Pieces.{spelled}
 use Rattle.lp_sig.specs.Rows.{Row, found}
 use Rattle.lp_sig.specs.Standard.{standard_kinds}
-use Rattle.lp_sig.specs.Said.{Said, a_kind, an_abbreviation, each, said_by, said_in}
-use Rattle.lp_sig.specs.Words.{standard_said, meaning_of}
+use Rattle.lp_sig.specs.Said.{Said, a_kind, an_abbreviation, said_by, said_in}
+use Rattle.lp_sig.specs.Words.{meaning_of}
 use Rattle.lp_sig.specs.Types.{Definition, definitions_by, definitions_in}
 use Rattle.lp_sig.specs.Abbreviations.{Text}
 use Rattle.lp_sig.specs.Laws.{all_said, all_definitions, Agree}

@@ -1,23 +1,24 @@
 -- Each sentence of typeabbrev has the body of the first one of its name.
-use Rattle.std.proofs.Common.{◌≡◌, ℕ, ◌+◌, ◌<◌, ◌≤◌, List, [], ◌++◌, ◌∷◌, length, take, take_all, get_or, Option, Some, refl, sym, ap, subst, ◌∙◌, append-nil}
-use Rattle.std.specs.Global.{Global}
-use Rattle.std.specs.Prelude.{IfSome, Vec}
-use Rattle.std.proofs.lemmas.List.Elements.{All-append, All-nil, All-cons}
+use Rattle.std.proofs.Common.{◌≡◌, ℕ, ◌<◌, List, [], ◌++◌, ◌∷◌, length, get_or, Option, Some, sym, ap, subst}
+use Rattle.std.specs.Prelude.{IfSome}
+use Rattle.std.proofs.lemmas.List.Elements.{All-append, All-nil, All-cons, All-head, All-tail}
 use Rattle.lp_base.specs.declared.place.Spot.{Spot}
 use Rattle.lp_term.specs.Nodes.{Nodes, type_tree}
 use Rattle.lp_term.specs.declared.node.TypeId.{TypeId}
 use Rattle.lp_syntax.specs.declared.text.Declaration.{Declaration}
-use Rattle.lp_syntax.specs.declared.text.Declaration.TheVariants as declaration
+use Rattle.lp_syntax.specs.declared.text.Declaration.TheVariants.{Kinds, LocalKinds, Constants, Locals, Abbreviation, Accumulate, AccumSig, Fixities}
 use Rattle.lp_syntax.specs.declared.text.RawType.{RawType}
 use Rattle.lp_sig.specs.Pieces.{spelled}
 use Rattle.lp_sig.specs.Places.{first_place}
 use Rattle.lp_sig.specs.Rows.{Row}
-use Rattle.lp_sig.specs.Said.{Said}
+use Rattle.lp_sig.specs.Said.{Said, said_in}
+use Rattle.lp_sig.specs.Standing.{seen_count, AllStand}
+use Rattle.lp_sig.specs.Faults.{IsSound, AreSound}
 use Rattle.lp_sig.specs.Types.{Definition, definitions_by, definitions_in, IsTypeOf, by_parameters, IsAlike, AreAlike}
-use Rattle.lp_sig.specs.Abbreviations.{abbreviation_names}
+use Rattle.lp_sig.specs.Abbreviations.{abbreviation_names, Seen, seen_text}
 use Rattle.lp_sig.specs.Holding.{body_of, IsTree, HoldsBodies}
 use Rattle.lp_sig.specs.declared.bodies.Body.{Body}
-use Rattle.lp_sig.proofs.Announcing.{definitions_more}
+use Rattle.lp_sig.proofs.AllStanding.{all_bodies_stand, all_types_stand}
 use Rattle.lp_sig.proofs.Growing.{body_stays, type_stays}
 
 -- a body that is an equal of the first one
@@ -40,23 +41,28 @@ alike_stays said more defs others rows all = λ k d h.
       here = type_stays said more defs others row.1.text (by_parameters row.1.text row.1.parameters) row.1.body.nodes.items row.1.body.root a.tree a.here;
     }
 
--- a sentence that is no typeabbrev, and one that is
-pub nothing_alike : (said : List (Row Said)) (defs : List (Row Definition)) (text : List ℕ) (l d : Declaration) (M : Type 0) → l ≡ d → definitions_by text d ≡ [] → M → AreAlike said defs (definitions_by text l)
-nothing_alike said defs text l d M is none m = subst (AreAlike said defs) (sym none ∙ ap (definitions_by text) (sym is)) (All-nil (λ r. IsAlike said defs r.0 r.1))
+-- a sentence without fault, and those of a text, where all stand
+module _ (from : ℕ) (z : Seen) (text : List ℕ) (all : AllStand from z) where
+  sentence_alike : (d : Declaration) → IsSound from text z d → AreAlike z.said z.definitions (definitions_by text d)
+  sentence_alike (Kinds names n) s = All-nil (λ r. IsAlike z.said z.definitions r.0 r.1)
+  sentence_alike (LocalKinds names n) s = All-nil (λ r. IsAlike z.said z.definitions r.0 r.1)
+  sentence_alike (Constants names ty) s = All-nil (λ r. IsAlike z.said z.definitions r.0 r.1)
+  sentence_alike (Locals names ty) s = All-nil (λ r. IsAlike z.said z.definitions r.0 r.1)
+  sentence_alike (Abbreviation name ps ty) s =
+      All-cons (λ r. IsAlike z.said z.definitions r.0 r.1) (spelled text name, record { text = text; parameters = ps.items; body = ty }) [] (s.1 (all_types_stand from z all text ty) (λ place at. all_bodies_stand from z all place))
+      (All-nil (λ r. IsAlike z.said z.definitions r.0 r.1))
+  sentence_alike (Accumulate words) s = All-nil (λ r. IsAlike z.said z.definitions r.0 r.1)
+  sentence_alike (AccumSig words) s = All-nil (λ r. IsAlike z.said z.definitions r.0 r.1)
+  sentence_alike (Fixities names f n) s = All-nil (λ r. IsAlike z.said z.definitions r.0 r.1)
 
-pub one_alike : (said : List (Row Said)) (defs : List (Row Definition)) (text : List ℕ) (l : Declaration) (name : Spot) (ps : Vec Spot Global) (slice : List Spot) (ty : RawType) → l ≡ declaration.Abbreviation name ps ty → slice ≡ ps.items →
-    IsAlike said defs (spelled text name) (record { text = text; parameters = slice; body = ty }) → AreAlike said defs (definitions_by text l)
-one_alike said defs text l name ps slice ty is same a =
-    subst (λ d. AreAlike said defs (definitions_by text d)) (sym is)
-    (All-cons (λ r. IsAlike said defs r.0 r.1) (spelled text name, record { text = text; parameters = ps.items; body = ty }) [] (subst (λ s. IsAlike said defs (spelled text name) (record { text = text; parameters = s; body = ty })) same a) (All-nil (λ r. IsAlike said defs r.0 r.1)))
+  sentences_alike : (lines : List Declaration) → AreSound from text z lines → AreAlike z.said z.definitions (definitions_in text lines)
+  sentences_alike [] s = All-nil (λ r. IsAlike z.said z.definitions r.0 r.1)
+  sentences_alike (d ∷ ds) s =
+      All-append (λ r. IsAlike z.said z.definitions r.0 r.1) (definitions_by text d) (definitions_in text ds) (sentence_alike d (All-head (IsSound from text z) d ds s)) (sentences_alike ds (All-tail (IsSound from text z) d ds s))
 
--- the sentences of a text, one after the other
-module _ (said : List (Row Said)) (defs before : List (Row Definition)) (text : List ℕ) (lines : List Declaration) where
-  pub none_yet_alike : AreAlike said defs before → AreAlike said defs (before ++ definitions_in text (take 0 lines))
-  none_yet_alike a = subst (AreAlike said defs) (sym (append-nil before)) a
-
-  pub more_alike : (i : ℕ) (d : Declaration) → i < length lines → d ≡ get_or lines i d → AreAlike said defs (before ++ definitions_in text (take i lines)) → AreAlike said defs (definitions_by text d) → AreAlike said defs (before ++ definitions_in text (take (i + 1) lines))
-  more_alike i d h is a b = subst (AreAlike said defs) (definitions_more text lines i d before h is) (All-append (λ r. IsAlike said defs r.0 r.1) (before ++ definitions_in text (take i lines)) (definitions_by text d) a b)
-
-  pub all_alike : (i : ℕ) → length lines ≤ i → AreAlike said defs (before ++ definitions_in text (take i lines)) → AreAlike said defs (before ++ definitions_in text lines)
-  all_alike i h a = subst (λ ls. AreAlike said defs (before ++ definitions_in text ls)) (take_all i lines h) a
+-- behind a text
+pub all_alike : (z : Seen) (text : List ℕ) (lines : List Declaration) → AreAlike z.said z.definitions z.definitions → AllStand (seen_count z) (seen_text z text lines) → AreSound (seen_count z) text (seen_text z text lines) lines →
+    AreAlike (seen_text z text lines).said (seen_text z text lines).definitions (seen_text z text lines).definitions
+all_alike z text lines before all sound =
+    All-append (λ r. IsAlike (z.said ++ said_in text lines) (z.definitions ++ definitions_in text lines) r.0 r.1) z.definitions (definitions_in text lines) (alike_stays z.said (said_in text lines) z.definitions (definitions_in text lines) z.definitions before)
+    (sentences_alike (seen_count z) (seen_text z text lines) text all lines sound)

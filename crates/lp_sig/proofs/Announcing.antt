@@ -1,10 +1,10 @@
 -- The bodies and lines of abbreviations, one more sentence after the other.
 use Rattle.std.specs.Global.{Global}
-use Rattle.std.proofs.Common.{◌≡◌, ℕ, zero, suc, ◌+◌, ◌<◌, ◌≤◌, List, [], ◌∷◌, ◌++◌, length, map, take, take_all, get_or, Bool, true, false, true≢false, Option, Some, None, refl, sym, ap, subst, ◌∙◌, inl, inr, arith, append-nil, append_assoc, cond}
-use Rattle.std.specs.Prelude.{◌⊎◌, ◌||◌, if◌then◌else◌, option_map, is_some, not, Vec, slice_index_or}
+use Rattle.std.proofs.Common.{◌≡◌, ℕ, zero, suc, ◌+◌, ◌<◌, ◌≤◌, List, [], ◌∷◌, ◌++◌, length, map, take, take_all, get_or, Bool, true, false, true≢false, Option, Some, None, refl, sym, ap, subst, ◌∙◌, inl, inr, ⊎_elim, arith, append-nil, append_assoc, cond}
+use Rattle.std.specs.Prelude.{◌⊎◌, ◌||◌, if◌then◌else◌, option_map, Vec, slice_index_or}
 use Rattle.std.specs.Str.{bytes_eq}
 use Rattle.std.proofs.lemmas.Slice.Eq.{bytes_eq-Decides}
-use Rattle.std.proofs.lemmas.List.{map-append, length-append, length-map, take_more}
+use Rattle.std.proofs.lemmas.List.{map-append, length-append, length-map, take_more, get_or_append_left}
 use Rattle.lp_base.specs.declared.place.Spot.{Spot}
 use Rattle.lp_term.specs.Nodes.{Nodes, type_tree}
 use Rattle.lp_term.specs.declared.node.TypeId.{TypeId}
@@ -19,10 +19,11 @@ use Rattle.lp_sig.specs.Knowing.{is_known}
 use Rattle.lp_sig.specs.Abbreviations.{abbreviation_names}
 use Rattle.lp_sig.specs.Types.{Definition, definitions_by, definitions_in, HasBody}
 use Rattle.lp_sig.specs.Holding.{body_of, line_at, IsTree, HoldsBodies, HoldsLines, line_of_text, KnowsBodies}
+use Rattle.lp_sig.specs.Announced.{IsAnnounced, AreAnnounced}
 use Rattle.lp_sig.specs.declared.bodies.Body.{Body}
 use Rattle.lp_sig.proofs.Abbreviating.{is_quiet, names_quiet, names_known, names_fresh, told_more, told_again, unknown_untold}
-use Rattle.lp_sig.proofs.Firsts.{found_among}
 use Rattle.lp_sig.proofs.Growing.{found_more, body_stays}
+use Rattle.lp_sig.proofs.Settling.{before_or_at}
 use Rattle.lp_sig.proofs.Spoken.{said_more}
 
 last_some : {A : Type 0} (xs : List (Option A)) (o : Option A) (i : ℕ) (a : A) → get_or (xs ++ o ∷ []) i None ≡ Some a → ((get_or xs i None ≡ Some a) × (i < length xs)) ⊎ ((i ≡ length xs) × (o ≡ Some a))
@@ -188,3 +189,60 @@ pub abbreviation_announced : (b : Nodes) (bodies : List Body) (said : List (Row 
 abbreviation_announced b bodies said defs text declared d s ps ty p is same k =
     subst (λ d. KnowsBodies b bodies (said ++ said_by text d) (defs ++ definitions_by text d) text declared) (sym is)
     (subst (λ p. KnowsBodies b bodies (said ++ (spelled text s, an_abbreviation p) ∷ []) (defs ++ (spelled text s, record { text = text; parameters = ps.items; body = ty }) ∷ []) text declared) same k)
+
+-- where each is announced: nothing new, or one more
+place_stays : (name : List ℕ) (ns ms : List (List ℕ)) (i : ℕ) → first_place name ns ≡ Some i → first_place name (ns ++ ms) ≡ Some i
+place_stays name [] ms i e = absurd (cc)
+place_stays name (n ∷ ns) ms i e = by (bytes_eq name n) (first_place name ns) refl e (λ j f. place_stays name ns ms j f)
+  where
+    by : (t : Bool) (o : Option ℕ) → first_place name ns ≡ o → (if t then Some 0 else option_map (λ i. suc i) o) ≡ Some i → ((j : ℕ) → first_place name ns ≡ Some j → first_place name (ns ++ ms) ≡ Some j) → (if t then Some 0 else option_map (λ i. suc i) (first_place name (ns ++ ms))) ≡ Some i
+    by true o p e f = e
+    by false None p e f = absurd (cc)
+    by false (Some j) p e f = ap (option_map (λ i. suc i)) (f j p) ∙ e
+
+at_end : {A : Type 0} (xs : List (Option A)) (o : Option A) (i : ℕ) → i ≡ length xs → get_or (xs ++ o ∷ []) i None ≡ o
+at_end [] o zero e = refl
+at_end [] o (suc i) e = absurd (omega (arith, e))
+at_end (x ∷ xs) o zero e = absurd (omega (arith, e))
+at_end (x ∷ xs) o (suc i) e = at_end xs o i (omega (arith, e))
+
+module _ (from : ℕ) (bodies : List Body) (said more : List (Row Said)) (text : List ℕ) (declared : ℕ → Option Declaration) (all : AreAnnounced from bodies said text declared) where
+  pub none_announced : abbreviation_names (said ++ more) ≡ abbreviation_names said → AreAnnounced from bodies (said ++ more) text declared
+  none_announced same place f l =
+      let a = all place f l in
+      record { line = a.line; at_line = a.at_line; name = a.name; parameters = a.parameters; body = a.body; declares = a.declares; its_place = ap (first_place (spelled text a.name)) same ∙ a.its_place }
+
+  pub new_announced : (new : List Body) (s : Spot) (ps : Vec Spot Global) (ty : RawType) (line : ℕ) → new ≡ bodies ++ record { body = None; line = Some line } ∷ [] → declared line ≡ Some (declaration.Abbreviation s ps ty) → abbreviation_names (said ++ more) ≡ abbreviation_names said ++ spelled text s ∷ [] →
+      first_place (spelled text s) (abbreviation_names said ++ spelled text s ∷ []) ≡ Some (length (abbreviation_names said)) → length bodies ≡ length (abbreviation_names said) → AreAnnounced from new (said ++ more) text declared
+  new_announced new s ps ty line one there names last count place f l = ⊎_elim (λ h. old h) (λ e. this e) (before_or_at (length bodies) place below)
+    where
+      lines_are : map (λ b. b.line) new ≡ map (λ b. b.line) bodies ++ Some line ∷ []
+      lines_are = ap (map (λ b. b.line)) one ∙ map-append (λ b. b.line) bodies (record { body = None; line = Some line } ∷ [])
+
+      below : place < length bodies + 1
+      below = let a = ap length one in let b = length-append bodies (record { body = None; line = Some line } ∷ []) in omega (arith, l, a, b)
+
+      old : place < length bodies → IsAnnounced new (said ++ more) text declared place
+      old h =
+          let a = all place f h in
+          let c = length-map bodies (λ b. b.line) in
+          record {
+            line = a.line;
+            at_line = ap (λ ls. slice_index_or ls place None) lines_are ∙ get_or_append_left (map (λ b. b.line) bodies) (Some line ∷ []) None place (omega (arith, h, c)) ∙ a.at_line;
+            name = a.name;
+            parameters = a.parameters;
+            body = a.body;
+            declares = a.declares;
+            its_place = ap (first_place (spelled text a.name)) names ∙ place_stays (spelled text a.name) (abbreviation_names said) (spelled text s ∷ []) place a.its_place;
+          }
+
+      this : place ≡ length bodies → IsAnnounced new (said ++ more) text declared place
+      this e = record {
+        line = line;
+        at_line = ap (λ ls. slice_index_or ls place None) lines_are ∙ at_end (map (λ b. b.line) bodies) (Some line) place (e ∙ sym (length-map bodies (λ b. b.line)));
+        name = s;
+        parameters = ps;
+        body = ty;
+        declares = there;
+        its_place = ap (first_place (spelled text s)) names ∙ last ∙ ap (λ i. Some i) (sym (e ∙ count));
+      }

@@ -10,26 +10,26 @@ use Rattle.lp_sig.specs.declared.fault.SigFault.TheVariants as fault
 use Rattle.lp_sig.specs.declared.walk.Step.{Step}
 use Rattle.lp_sig.specs.declared.walk.Step.TheVariants.{Enter, Declare}
 
-still : (m : List Bool) (i j : ℕ) → get_or m i true ≡ true → get_or (set m j true) i true ≡ true
+pub still : (m : List Bool) (i j : ℕ) → get_or m i true ≡ true → get_or (set m j true) i true ≡ true
 still [] i j h = refl
 still (b ∷ bs) zero zero h = refl
 still (b ∷ bs) (suc i) zero h = h
 still (b ∷ bs) zero (suc j) h = h
 still (b ∷ bs) (suc i) (suc j) h = still bs i j h
 
-here : (m : List Bool) (j : ℕ) → get_or (set m j true) j true ≡ true
+pub here : (m : List Bool) (j : ℕ) → get_or (set m j true) j true ≡ true
 here [] j = refl
 here (b ∷ bs) zero = refl
 here (b ∷ bs) (suc j) = here bs j
 
-before : (m : List Bool) (i j : ℕ) → get_or (set m j true) i true ≡ true → (i ≡ j) ⊎ (get_or m i true ≡ true)
+pub before : (m : List Bool) (i j : ℕ) → get_or (set m j true) i true ≡ true → (i ≡ j) ⊎ (get_or m i true ≡ true)
 before [] i j h = inr refl
 before (b ∷ bs) zero zero h = inl refl
 before (b ∷ bs) (suc i) zero h = inr h
 before (b ∷ bs) zero (suc j) h = inr h
 before (b ∷ bs) (suc i) (suc j) h = ⊎_elim (λ e. inl (ap suc e)) (λ g. inr g) (before bs i j h)
 
-clear : (n i : ℕ) → i < n → get_or (replicate n false) i true ≡ false
+pub clear : (n i : ℕ) → i < n → get_or (replicate n false) i true ≡ false
 clear zero i h = absurd (omega (arith, h))
 clear (suc n) zero h = refl
 clear (suc n) (suc i) h = clear n i (omega (arith, h))

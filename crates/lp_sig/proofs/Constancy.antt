@@ -1,10 +1,8 @@
 -- What is known of constants, one more declaration after the other.
 use Rattle.std.proofs.Common.{◌≡◌, ℕ, zero, suc, ◌+◌, ◌<◌, ◌≤◌, List, [], ◌∷◌, ◌++◌, Bool, true, false, length, get_or, arith, map, Option, Some, None, refl, sym, ap, subst, ◌∙◌, cond, true≢false}
-use Rattle.std.specs.Prelude.{if◌then◌else◌, option_map, is_some, IfSome, ◌||◌, All}
-use Rattle.std.proofs.lemmas.List.Elements.{All-append, All-cons, All-nil, All-get_or}
+use Rattle.std.specs.Prelude.{if◌then◌else◌, option_map, is_some, IfSome, ◌||◌}
 use Rattle.std.specs.Str.{bytes_eq}
-use Rattle.std.proofs.lemmas.List.{map-append, length-append}
-use Rattle.std.proofs.lemmas.Slice.Eq.{bytes_eq-Decides}
+use Rattle.std.proofs.lemmas.List.{map-append}
 use Rattle.lp_calculus.specs.Types.{Ty}
 use Rattle.lp_term.specs.Nodes.{Nodes, Extends, type_tree}
 use Rattle.lp_term.specs.declared.node.TypeId.{TypeId}
@@ -13,8 +11,10 @@ use Rattle.lp_sig.specs.Rows.{Row, found}
 use Rattle.lp_sig.specs.Standard.{standard_constants}
 use Rattle.lp_sig.specs.Said.{Said, is_among, names_in, firsts}
 use Rattle.lp_sig.specs.Types.{Definition}
+use Rattle.lp_sig.specs.Abbreviations.{Seen}
+use Rattle.lp_sig.specs.Standing.{TypeStands}
 use Rattle.lp_sig.specs.Holding.{IsTree}
-use Rattle.lp_sig.specs.Constants.{Written, declared_constants, IsSchemeOf, standard_tree, HasType, standard_one, declared_one, AreInStep, IsTyped, IsNoted, IfTyped, AreTyped, KnowsConstants, IsDeclared, IsKnownAs, HaveNumbers, HasIts}
+use Rattle.lp_sig.specs.Constants.{Written, declared_constants, IsSchemeOf, standard_tree, HasType, standard_one, declared_one, AreInStep, IsTyped, IsNoted, IfTyped, AreTypedIf, FirstStands, KnowsConstants, IsDeclared, IsKnownAs}
 use Rattle.lp_sig.specs.declared.constants.Constant.{Constant}
 use Rattle.lp_sig.specs.declared.constants.Constants.{Constants}
 use Rattle.lp_sig.specs.declared.constants.DeclaredType.{DeclaredType}
@@ -41,6 +41,12 @@ module _ {A B : Type 0} (P : ℕ → A → B → Type 0) where
   in_step_map Q f n [] (y ∷ ys) h = h
   in_step_map Q f n (x ∷ xs) [] h = h
   in_step_map Q f n (x ∷ xs) (y ∷ ys) h = (f n x y h.0, in_step_map Q f (suc n) xs ys h.1)
+
+  pub in_step_both : (Q : ℕ → A → B → Type 0) (n : ℕ) (xs : List A) (ys : List B) → AreInStep P n xs ys → AreInStep Q n xs ys → AreInStep (λ n x y. P n x y × Q n x y) n xs ys
+  in_step_both Q n [] [] h k = h
+  in_step_both Q n [] (y ∷ ys) h k = h
+  in_step_both Q n (x ∷ xs) [] h k = h
+  in_step_both Q n (x ∷ xs) (y ∷ ys) h k = ((h.0, k.0), in_step_both Q (suc n) xs ys h.1 k.1)
 
   pub in_step_at : (n m : ℕ) (xs : List A) (ys : List B) (i : ℕ) (d : A) (e : B) → AreInStep P n xs ys → i < length ys → m ≡ n + i → P m (get_or xs i d) (get_or ys i e)
   in_step_at n m [] [] i d e h l is = absurd (omega (arith, l))
@@ -115,32 +121,33 @@ not_among n rows e = sym (found_among n rows) ∙ ap is_some e
 pub found_first : (name : List ℕ) (rows : List (Row Written)) → found name standard_constants ≡ None → found name (declared_constants rows) ≡ found name rows
 found_first name rows e = firsts_found name (names_in standard_constants) rows (not_among name standard_constants e)
 
-module _ (b : Nodes) (said : List (Row Said)) (defs : List (Row Definition)) where
-  names_same : (n : ℕ) (rows : List (Row Written)) (cs : List Constant) → AreInStep (IsNoted b said defs) n rows cs → map (λ c. c.name.items) cs ≡ names_in rows
+-- constants in step with rows, each with the name of its row: the first constant of a name is that of the first row
+module _ (P : ℕ → Row Written → Constant → Type 0) (named : (n : ℕ) (row : Row Written) (c : Constant) → P n row c → c.name.items ≡ row.0) where
+  names_same : (n : ℕ) (rows : List (Row Written)) (cs : List Constant) → AreInStep P n rows cs → map (λ c. c.name.items) cs ≡ names_in rows
   names_same n [] [] h = refl
   names_same n [] (c ∷ cs) h = absurd h
   names_same n (r ∷ rs) [] h = absurd h
-  names_same n (r ∷ rs) (c ∷ cs) h = ap (λ x. x ∷ map (λ c. c.name.items) cs) h.0.name ∙ ap (λ xs. r.0 ∷ xs) (names_same (suc n) rs cs h.1)
+  names_same n (r ∷ rs) (c ∷ cs) h = ap (λ x. x ∷ map (λ c. c.name.items) cs) (named n r c h.0) ∙ ap (λ xs. r.0 ∷ xs) (names_same (suc n) rs cs h.1)
 
-  IsNotedAt : List ℕ → List (Row Written) → Constant → Type 0
-  IsNotedAt name rows c = (w : Written) × (found name rows ≡ Some w) × IfSome c.declared (IsTyped b said defs w)
+  IsOfFirst : List ℕ → List (Row Written) → Constant → Type 0
+  IsOfFirst name rows c = (n : ℕ) × (row : Row Written) × (found name rows ≡ Some row.1) × P n row c
 
-  behind : (name : List ℕ) (r : Row Written) (rs : List (Row Written)) (c : Constant) → bytes_eq name r.0 ≡ false → IsNotedAt name rs c → IsNotedAt name (r ∷ rs) c
-  unfolding IsNotedAt
-  behind name r rs c e h = (h.0, ap (λ b. cond b (Some r.1) (found name rs)) e ∙ h.1, h.2)
+  behind : (name : List ℕ) (r : Row Written) (rs : List (Row Written)) (c : Constant) → bytes_eq name r.0 ≡ false → IsOfFirst name rs c → IsOfFirst name (r ∷ rs) c
+  unfolding IsOfFirst
+  behind name r rs c e h = (h.0, h.1, ap (λ b. cond b (Some r.1) (found name rs)) e ∙ h.2, h.3)
 
-  noted_at : (name : List ℕ) (n : ℕ) (rows : List (Row Written)) (cs : List Constant) (i : ℕ) (c : Constant) → AreInStep (IsNoted b said defs) n rows cs → first_place name (map (λ c. c.name.items) cs) ≡ Some i → c ≡ get_or cs i c → IsNotedAt name rows c
-  unfolding IsNotedAt
-  noted_at name n [] [] i c h e is = absurd (cc)
-  noted_at name n [] (x ∷ cs) i c h e is = absurd h
-  noted_at name n (r ∷ rs) [] i c h e is = absurd h
-  noted_at name n (r ∷ rs) (x ∷ cs) i c h e is = by (λ i p q. noted_at name (suc n) rs cs i c h.1 p q) (bytes_eq name x.name.items) refl (first_place name (map (λ c. c.name.items) cs)) refl i e is
+  of_first : (name : List ℕ) (n : ℕ) (rows : List (Row Written)) (cs : List Constant) (i : ℕ) (c : Constant) → AreInStep P n rows cs → first_place name (map (λ c. c.name.items) cs) ≡ Some i → c ≡ get_or cs i c → IsOfFirst name rows c
+  unfolding IsOfFirst
+  of_first name n [] [] i c h e is = absurd (cc)
+  of_first name n [] (x ∷ cs) i c h e is = absurd h
+  of_first name n (r ∷ rs) [] i c h e is = absurd h
+  of_first name n (r ∷ rs) (x ∷ cs) i c h e is = by (λ i p q. of_first name (suc n) rs cs i c h.1 p q) (bytes_eq name x.name.items) refl (first_place name (map (λ c. c.name.items) cs)) refl i e is
     where
       same : (t : Bool) → bytes_eq name x.name.items ≡ t → bytes_eq name r.0 ≡ t
-      same t f = ap (bytes_eq name) (sym h.0.name) ∙ f
+      same t f = ap (bytes_eq name) (sym (named n r x h.0)) ∙ f
 
-      by : ((i : ℕ) → first_place name (map (λ c. c.name.items) cs) ≡ Some i → c ≡ get_or cs i c → IsNotedAt name rs c) → (t : Bool) → bytes_eq name x.name.items ≡ t → (o : Option ℕ) → first_place name (map (λ c. c.name.items) cs) ≡ o → (i : ℕ) → (if t then Some 0 else option_map (λ i. suc i) o) ≡ Some i → c ≡ get_or (x ∷ cs) i c → IsNotedAt name (r ∷ rs) c
-      by deeper true f o g zero e is = (r.1, ap (λ b. cond b (Some r.1) (found name rs)) (same true f), subst (λ c. IfSome c.declared (IsTyped b said defs r.1)) (sym is) h.0.typed)
+      by : ((i : ℕ) → first_place name (map (λ c. c.name.items) cs) ≡ Some i → c ≡ get_or cs i c → IsOfFirst name rs c) → (t : Bool) → bytes_eq name x.name.items ≡ t → (o : Option ℕ) → first_place name (map (λ c. c.name.items) cs) ≡ o → (i : ℕ) → (if t then Some 0 else option_map (λ i. suc i) o) ≡ Some i → c ≡ get_or (x ∷ cs) i c → IsOfFirst name (r ∷ rs) c
+      by deeper true f o g zero e is = (n, r, ap (λ b. cond b (Some r.1) (found name rs)) (same true f), subst (P n r) (sym is) h.0)
       by deeper true f o g (suc i) e is = absurd (cc)
       by deeper false f None g i e is = absurd (cc)
       by deeper false f (Some j) g zero e is = absurd (cc)
@@ -160,29 +167,29 @@ module _ (b : Nodes) (constants : Constants) (said : List (Row Said)) (defs : Li
     pub known_new : None ≡ place_of constants.places name → IsKnownAs b said defs rows name known.New
     unfolding all_names
     known_new e =
-        let names = names_same b said defs 32 (declared_constants rows) constants.constants.items k.are in
+        let names = names_same (IsNoted b said defs) (λ n row c h. h.name) 32 (declared_constants rows) constants.constants.items k.are in
         let here : is_some (found name (declared_constants rows)) ≡ false =
         found_among name (declared_constants rows) ∙ ap (is_among name) (sym names) ∙ sym (place_among name all_names) ∙ ap is_some (sym (k.places name) ∙ sym e) in
         (sym standard, sym (found_first name rows (sym standard)) ∙ nothing_found (found name (declared_constants rows)) here)
 
-    there : (i : ℕ) (c : Constant) → Some i ≡ place_of constants.places name → c ≡ get_or constants.constants.items i c → IsNotedAt b said defs name (declared_constants rows) c
-    there i c e is = noted_at b said defs name 32 (declared_constants rows) constants.constants.items i c k.are (sym (k.places name) ∙ sym e) is
+    there : (i : ℕ) (c : Constant) → Some i ≡ place_of constants.places name → c ≡ get_or constants.constants.items i c → IsOfFirst (IsNoted b said defs) (λ n row c h. h.name) name (declared_constants rows) c
+    there i c e is = of_first (IsNoted b said defs) (λ n row c h. h.name) name 32 (declared_constants rows) constants.constants.items i c k.are (sym (k.places name) ∙ sym e) is
 
     pub known_typed : (i : ℕ) (c : Constant) (d : DeclaredType) → Some i ≡ place_of constants.places name → c ≡ get_or constants.constants.items i c → c.declared ≡ Some d → IsKnownAs b said defs rows name (known.Typed d.scheme)
-    unfolding IsNotedAt
+    unfolding IsOfFirst
     known_typed i c d e is some =
         let h = there i c e is in
-        let t : IsTyped b said defs h.0 d = subst (λ o. IfSome o (IsTyped b said defs h.0)) some h.2 in
-        (t.inside, declared_one (sym standard) h.0 (sym (found_first name rows (sym standard)) ∙ h.1) d.type_vars t.scheme)
+        let t : IsTyped b said defs h.1.1 d = subst (λ o. IfSome o (IsTyped b said defs h.1.1)) some h.3.typed in
+        (t.inside, declared_one (sym standard) h.1.1 (sym (found_first name rows (sym standard)) ∙ h.2) d.type_vars t.scheme)
 
     pub known_untyped : (i : ℕ) (c : Constant) → Some i ≡ place_of constants.places name → c ≡ get_or constants.constants.items i c → IsKnownAs b said defs rows name known.Untyped
-    unfolding IsNotedAt
+    unfolding IsOfFirst
     known_untyped i c e is =
         let h = there i c e is in
-        ap (λ t. t || is_among name (names_in rows)) (not_among name standard_constants (sym standard)) ∙ sym (found_among name rows) ∙ ap is_some (sym (found_first name rows (sym standard)) ∙ h.1)
+        ap (λ t. t || is_among name (names_in rows)) (not_among name standard_constants (sym standard)) ∙ sym (found_among name rows) ∙ ap is_some (sym (found_first name rows (sym standard)) ∙ h.2)
 
 -- a name with a type is declared
-typed_declared : (said : List (Row Said)) (defs : List (Row Definition)) (rows : List (Row Written)) (name : List ℕ) (t : Ty) → HasType said defs rows name t → IsDeclared name rows
+pub typed_declared : (said : List (Row Said)) (defs : List (Row Definition)) (rows : List (Row Written)) (name : List ℕ) (t : Ty) → HasType said defs rows name t → IsDeclared name rows
 typed_declared said defs rows name t (standard_one n e f) = ap (λ t. t || is_among name (names_in rows)) (sym (found_among name standard_constants) ∙ ap is_some e)
 typed_declared said defs rows name t (declared_one none w e n f) = ap (λ t. t || is_among name (names_in rows)) (not_among name standard_constants none) ∙ sym (found_among name rows) ∙ ap is_some e
 
@@ -208,14 +215,8 @@ pub has_more : (said : List (Row Said)) (defs : List (Row Definition)) (rows mor
 has_more said defs rows more name t (standard_one n e f) = standard_one n e f
 has_more said defs rows more name t (declared_one none w e n f) = declared_one none w (found_more name rows more w e) n f
 
-pub has_again : (said : List (Row Said)) (defs : List (Row Definition)) (rows : List (Row Written)) (r : Row Written) (t : Ty) → HasType said defs rows r.0 t → HasIts said defs rows r t
-has_again said defs rows r t h = record {
-  has = has_more said defs rows (r ∷ []) r.0 t h;
-  numbers = subst (λ rows. 32 + length rows ≤ 65535) (sym (declared_again rows r (typed_declared said defs rows r.0 t h)));
-}
-
 -- a new name
-found_last : {A : Type 0} (name : List ℕ) (rows : List (Row A)) (a : A) → found name rows ≡ None → bytes_eq name name ≡ true → found name (rows ++ (name, a) ∷ []) ≡ Some a
+pub found_last : {A : Type 0} (name : List ℕ) (rows : List (Row A)) (a : A) → found name rows ≡ None → bytes_eq name name ≡ true → found name (rows ++ (name, a) ∷ []) ≡ Some a
 found_last name [] a none same = ap (λ b. cond b (Some a) None) same
 found_last {A} name (r ∷ rs) a none same = by (bytes_eq name r.0) none (found_last name rs a)
   where
@@ -239,24 +240,36 @@ module _ (b : Nodes) (old now : Constants) (said : List (Row Said)) (defs : List
         places = subst (HasPlaces now.places) (ap (λ n. map (λ c. c.name.items) old.constants.items ++ n ∷ []) (sym named) ∙ sym (map-append (λ c. c.name.items) old.constants.items (c ∷ [])) ∙ ap (map (λ c. c.name.items)) (sym are)) places;
       }
 
-  pub has_new : (d : DeclaredType) → IsTyped b said defs w d → 32 + length old.constants.items < 65535 → HasIts said defs rows (word, w) (type_tree b d.scheme.0)
-  has_new d t room =
-      let l = in_step_length (IsNoted b said defs) 32 (declared_constants rows) old.constants.items k.are in
-      let m = length-append (declared_constants rows) ((word, w) ∷ []) in
-      record {
-        has = declared_one new.0 w (found_last word rows w new.1 ((bytes_eq-Decides word word).1 refl)) d.type_vars t.scheme;
-        numbers = λ h. subst (λ rows. 32 + length rows ≤ 65535) (sym (declared_new rows (word, w) new.0 new.1)) (omega (arith, l, m, room));
-      }
-
 pub no_number_left : (b : Nodes) (old : Constants) (said : List (Row Said)) (defs : List (Row Definition)) (rows : List (Row Written)) → KnowsConstants b old said defs rows → 65535 ≤ 32 + length old.constants.items → 65535 ≤ 32 + length (declared_constants rows)
 no_number_left b old said defs rows k h =
     let l = in_step_length (IsNoted b said defs) 32 (declared_constants rows) old.constants.items k.are in
     omega (arith, h, l)
 
--- a constant without a type
-pub not_typed : (constants : Constants) (i : ℕ) (c : Constant) → i < length constants.constants.items → c ≡ get_or constants.constants.items i c → c.declared ≡ None → AreTyped constants → ⊥
-not_typed constants i c l at none all = true≢false (sym (All-get_or (λ c. is_some c.declared ≡ true) constants.constants.items i c l all) ∙ ap (λ c. is_some c.declared) (sym at) ∙ ap is_some none)
+-- what was declared is not new
+pub not_new : (rows : List (Row Written)) (name : List ℕ) → IsDeclared name rows → found name standard_constants ≡ None → found name rows ≡ None → ⊥
+not_new rows name h e f = true≢false (sym h ∙ ap (λ t. t || is_among name (names_in rows)) (not_among name standard_constants e) ∙ not_among name rows f)
 
-pub typed_more : (old now : List Constant) (c : Constant) (declared : Option DeclaredType) (d : DeclaredType) → c.declared ≡ declared → declared ≡ Some d → now ≡ old ++ c ∷ [] → All (λ c. is_some c.declared ≡ true) old → All (λ c. is_some c.declared ≡ true) now
-typed_more old now c declared d same some are all =
-    subst (All (λ c. is_some c.declared ≡ true)) (sym are) (All-append (λ c. is_some c.declared ≡ true) old (c ∷ []) all (All-cons (λ c. is_some c.declared ≡ true) c [] (ap is_some (same ∙ some)) (All-nil (λ c. is_some c.declared ≡ true))))
+-- constants that have a type if that of their row stands
+abbrev pub IsTypedIf : ℕ → Seen → ℕ → Row Written → Constant → Type 0
+IsTypedIf from z n row c = TypeStands from z row.1.text row.1.raw → is_some c.declared ≡ true
+
+module _ (from : ℕ) (z : Seen) (rows : List (Row Written)) where
+  -- a name that is declared again, and a new one
+  pub typed_if_again : (constants : Constants) (r : Row Written) → IsDeclared r.0 rows → AreTypedIf from z rows constants → AreTypedIf from z (rows ++ r ∷ []) constants
+  typed_if_again constants r h typed = subst (λ rows. AreInStep (IsTypedIf from z) 32 rows constants.constants.items) (sym (declared_again rows r h)) typed
+
+  pub typed_if_more : (old : Constants) (now : List Constant) (word : List ℕ) (w : Written) (c : Constant) → (found word standard_constants ≡ None) × (found word rows ≡ None) → now ≡ old.constants.items ++ c ∷ [] →
+      (TypeStands from z w.text w.raw → is_some c.declared ≡ true) → AreTypedIf from z rows old → AreInStep (IsTypedIf from z) 32 (declared_constants (rows ++ (word, w) ∷ [])) now
+  typed_if_more old now word w c new are some typed =
+      subst (λ rs. AreInStep (IsTypedIf from z) 32 rs now) (sym (declared_new rows (word, w) new.0 new.1))
+      (subst (AreInStep (IsTypedIf from z) 32 (declared_constants rows ++ (word, w) ∷ [])) (sym are)
+      (in_step_more (IsTypedIf from z) 32 (32 + length (declared_constants rows)) (declared_constants rows) old.constants.items (word, w) c typed refl some))
+
+  -- a constant without a type, though the first type of its name stands
+  pub never_untyped : (b : Nodes) (constants : Constants) (name : List ℕ) (i : ℕ) (c : Constant) → KnowsConstants b constants z.said z.definitions rows → AreTypedIf from z rows constants → None ≡ found name standard_constants → Some i ≡ place_of constants.places name →
+      c ≡ get_or constants.constants.items i c → c.declared ≡ None → FirstStands from z rows name → ⊥
+  unfolding IsOfFirst
+  never_untyped b constants name i c k typed standard e is none first =
+      let both = in_step_both (IsNoted b z.said z.definitions) (IsTypedIf from z) 32 (declared_constants rows) constants.constants.items k.are typed in
+      let h = of_first (λ n row c. IsNoted b z.said z.definitions n row c × IsTypedIf from z n row c) (λ n row c h. h.0.name) name 32 (declared_constants rows) constants.constants.items i c both (sym (k.places name) ∙ sym e) is in
+      true≢false (sym (h.3.1 (first h.1.1 (sym standard) (sym (found_first name rows (sym standard)) ∙ h.2))) ∙ ap is_some none)

@@ -4,7 +4,7 @@ use Rattle.std.specs.Prelude.{All, nat_eq, if◌then◌else◌}
 use Rattle.std.proofs.lemmas.Bool.{eqb-true}
 use Rattle.std.proofs.lemmas.List.{reverse-append}
 use Rattle.std.proofs.lemmas.List.Elements.{All-head, All-tail}
-use Rattle.lp_calculus.specs.Types.{Ty, Tys, var, param, con, arrow, tys, no_types, types, instance}
+use Rattle.lp_calculus.specs.Types.{Ty, var, param, con, arrow, tys, instance}
 use Rattle.lp_term.specs.Node.{TypeShape, con_node, arrow_node, TypeBelow}
 use Rattle.lp_term.specs.Nodes.{Nodes, Extends, type_tree, type_node_tree}
 use Rattle.lp_term.specs.declared.node.TypeId.{TypeId}

@@ -1,6 +1,6 @@
 -- The constants that sentences, texts and steps declare, one after the other.
 use Rattle.std.specs.Global.{Global}
-use Rattle.std.proofs.Common.{◌≡◌, ℕ, zero, suc, ◌+◌, ◌<◌, ◌≤◌, List, [], ◌∷◌, ◌++◌, length, take, take_all, get_or, refl, sym, ap, subst, ◌∙◌, append_assoc, append-nil}
+use Rattle.std.proofs.Common.{◌≡◌, ℕ, zero, suc, ◌+◌, ◌<◌, ◌≤◌, List, [], ◌∷◌, ◌++◌, length, take, get_or, refl, sym, ap, subst, ◌∙◌, append_assoc, append-nil}
 use Rattle.std.specs.Prelude.{String, Vec}
 use Rattle.std.proofs.lemmas.List.{take_more}
 use Rattle.lp_base.specs.declared.place.Spot.{Spot}
@@ -10,11 +10,10 @@ use Rattle.lp_syntax.specs.declared.text.Declaration.TheVariants as declaration
 use Rattle.lp_syntax.specs.declared.text.RawType.{RawType}
 use Rattle.lp_syntax.specs.declared.text.SignatureText.{SignatureText}
 use Rattle.lp_sig.specs.Rows.{Row}
-use Rattle.lp_sig.specs.Said.{Said, each, said_in, of_text, of_step}
-use Rattle.lp_sig.specs.Types.{Definition, definitions_in}
+use Rattle.lp_sig.specs.Said.{Said, each, of_text, of_step}
+use Rattle.lp_sig.specs.Types.{Definition}
 use Rattle.lp_sig.specs.Abbreviations.{Seen, Text, one_text, seen_text, seen_after}
-use Rattle.lp_sig.specs.Constants.{Written, written_in, constants_by, constants_in, KnowsConstants, IsConstantsRefusal, long_name, bad_type, bad_name, no_memory}
-use Rattle.lp_sig.specs.Faults.{IsConstantsFault}
+use Rattle.lp_sig.specs.Constants.{Written, written_in, constants_by, constants_in, KnowsConstants}
 use Rattle.lp_sig.specs.Declares.{constants_after, AreAllTyped, Declares}
 use Rattle.lp_sig.specs.Holding.{KnowsSeen}
 use Rattle.lp_sig.specs.Refusals.{seen_before, constants_before, constants_of}
@@ -23,20 +22,9 @@ use Rattle.lp_sig.specs.declared.making.Making.{Making}
 use Rattle.lp_sig.specs.declared.store.Types.{Types}
 use Rattle.lp_sig.specs.declared.walk.Step.{Step}
 use Rattle.lp_sig.specs.declared.walk.Step.TheVariants.{Enter, Declare}
-use Rattle.lp_sig.specs.declared.fault.SigFault.{SigFault}
 use Rattle.lp_sig.proofs.Constancy.{constants_kept, constants_stay}
 use Rattle.lp_sig.proofs.Seeing.{seen_more}
 use Rattle.lp_sig.proofs.Spoken.{steps_more, all_steps_said}
-
--- of the names before the one at fault nothing is said
-pub any_refusal : (M : Type 0) (text : List ℕ) (z : Seen) (rows : List (Row Written)) (names slice : List Spot) (ty : RawType) (e : SigFault) → slice ≡ names → IsConstantsRefusal M text z.said z.definitions rows slice ty e → IsConstantsFault text z rows names ty e
-any_refusal M text z rows names slice ty e same f = subst (λ s. IsConstantsFault text z rows s ty e) same (by f)
-  where
-    by : IsConstantsRefusal M text z.said z.definitions rows slice ty e → IsConstantsFault text z rows slice ty e
-    by (long_name f s among l) = long_name f s among l
-    by (bad_type short f) = bad_type short f
-    by (bad_name short stand f) = bad_name short stand (record { count = f.count; tree = f.tree; scheme = f.scheme; k = f.k; name = f.name; inside = f.inside; at_name = f.at_name; before = λ x. absurd x; refused = f.refused })
-    by (no_memory f) = no_memory f
 
 module _ (b : Nodes) (known : Constants) (said : List (Row Said)) (defs : List (Row Definition)) (rows : List (Row Written)) (text : List ℕ) where
   -- a sentence that declares no constant, and one that does
@@ -52,12 +40,14 @@ constants_append text [] ys = refl
 constants_append text (x ∷ xs) ys = ap (λ z. constants_by text x ++ z) (constants_append text xs ys) ∙ sym (append_assoc (constants_by text x) (constants_in text xs) (constants_in text ys))
 
 -- one more sentence
+pub line_more : (text : List ℕ) (lines : List Declaration) (i : ℕ) (d : Declaration) → i < length lines → d ≡ get_or lines i d → constants_in text (take i lines) ++ constants_by text d ≡ constants_in text (take (i + 1) lines)
+line_more text lines i d h is =
+    ap (λ e. constants_in text (take i lines) ++ constants_by text e) is ∙ ap (λ z. constants_in text (take i lines) ++ z) (sym (append-nil (constants_by text (get_or lines i d)))) ∙
+    sym (constants_append text (take i lines) (get_or lines i d ∷ [])) ∙ ap (constants_in text) (sym (take_more lines i d h))
+
 pub constants_more : (text : List ℕ) (lines : List Declaration) (i : ℕ) (d : Declaration) (rows : List (Row Written)) → i < length lines → d ≡ get_or lines i d →
     (rows ++ constants_in text (take i lines)) ++ constants_by text d ≡ rows ++ constants_in text (take (i + 1) lines)
-constants_more text lines i d rows h is =
-    append_assoc rows (constants_in text (take i lines)) (constants_by text d) ∙
-    ap (λ z. rows ++ z) (ap (λ e. constants_in text (take i lines) ++ constants_by text e) is ∙ ap (λ z. constants_in text (take i lines) ++ z) (sym (append-nil (constants_by text (get_or lines i d)))) ∙
-    sym (constants_append text (take i lines) (get_or lines i d ∷ [])) ∙ ap (constants_in text) (sym (take_more lines i d h)))
+constants_more text lines i d rows h is = append_assoc rows (constants_in text (take i lines)) (constants_by text d) ∙ ap (λ z. rows ++ z) (line_more text lines i d h is)
 
 -- a text begins: its kinds and abbreviations are announced and settled
 pub text_begins : (old mid new : Types) (before known : Constants) (said more : List (Row Said)) (defs others : List (Row Definition)) (rows : List (Row Written)) (text : List ℕ) (lines : List Declaration) → mid ≡ old → known ≡ before → Extends mid.bank new.bank →

@@ -1,80 +1,65 @@
--- A node that is put under a new key is found, and the others are found still.
-use Rattle.std.specs.Global.{Global}
-use Rattle.std.proofs.Common.{◌≡◌, ℕ, zero, suc, ◌+◌, ◌<◌, ◌≤◌, List, [], ◌∷◌, ◌++◌, length, map, get_or, Bool, not, true, false, true≢false, Option, Some, None, refl, sym, ap, subst, ◌∙◌, arith, inl, inr, ⊎_elim, Result, Ok, Err}
-use Rattle.std.specs.Prelude.{if◌then◌else◌, Vec, ◌⊎◌, OnOk, OnErr}
+-- The node of a key that is found has the key's number, and a key that is put where there is none stands last.
+use Rattle.std.proofs.Common.{◌≡◌, ℕ, ◌<◌, ◌≢◌, List, [], ◌∷◌, ◌++◌, length, map, get_or, Bool, not, true, false, true≢false, position, Option, Some, refl, sym, ap, subst, ◌∙◌, arith, Result, Ok, Err}
+use Rattle.std.specs.Prelude.{nat_eq, if◌then◌else◌, IfOk}
+use Rattle.std.specs.Bool.{Decides}
+use Rattle.std.specs.List.{list_any}
+use Rattle.std.specs.Result.{IsOk}
 use Rattle.std.specs.Str.{bytes_eq}
+use Rattle.std.proofs.lemmas.Bool.Decides.{Decides-eqb, Decides-and}
+use Rattle.std.proofs.lemmas.List.{length-map, get_or-map}
+use Rattle.std.proofs.lemmas.List.Folds.{list_any_at}
+use Rattle.std.proofs.lemmas.List.Quantifiers.{position-Some}
 use Rattle.std.proofs.lemmas.Slice.Eq.{bytes_eq-Decides}
-use Rattle.std.proofs.lemmas.List.{length-append}
-use Rattle.lp_term.specs.Node.{TypeShape, var_node, TypeBelow}
-use Rattle.lp_term.specs.Nodes.{Nodes, IsSound, Extends, type_at, type_tree, type_node_tree}
+use Rattle.indexmap.specs.IndexSet.{insert_key}
+use Rattle.lp_term.specs.Node.{TypeShape, var_node, con_node, arrow_node}
 use Rattle.lp_term.specs.declared.node.TypeId.{TypeId}
-use Rattle.lp_term.proofs.Trees.{type_tree-node, type_below}
-use Rattle.lp_sig.specs.Once.{key_of, IsOnce, find_in, AreFound, IsFresh}
-use Rattle.lp_sig.proofs.OneNumber.{equal_numbers}
+use Rattle.lp_sig.specs.declared.store.TypeKey.{TypeKey}
+use Rattle.lp_sig.specs.declared.store.TypeKey.TheVariants.{Var, Con, Arrow}
+use Rattle.lp_sig.specs.contracts.store.TypeKeyPartialEq.TheImpl as compared
+use Rattle.lp_sig.specs.Keys.{key_shape}
 
-pub none_found : (b : Nodes) (entries : List (Vec ℕ Global × ℕ)) → b.types ≡ [] → AreFound b entries
-none_found b entries none i h = let e = ap length none in absurd (omega (arith, e, h))
+-- the derived `==` of keys
+abbrev pub same_key : TypeKey → TypeKey → Bool
+same_key = (compared.ghosts).eq
 
-pub still_found : (b : Nodes) (entries new : List (Vec ℕ Global × ℕ)) (key : List ℕ) (n : ℕ) → AreFound b entries → ((other : List ℕ) → find_in new other ≡ (if bytes_eq other key then Some n else find_in entries other)) → IsFresh b key → AreFound b new
-still_found b entries new key n found put fresh i h = put (key_of (type_at b i)) ∙ by (bytes_eq (key_of (type_at b i)) key) refl
-  where
-    by : (t : Bool) → bytes_eq (key_of (type_at b i)) key ≡ t → (if t then Some n else find_in entries (key_of (type_at b i))) ≡ Some i
-    by true e = absurd (fresh i h ((bytes_eq-Decides (key_of (type_at b i)) key).0 e))
-    by false e = found i h
+two_parts : (c d : ℕ) (is js : List ℕ) → c ≡ d → is ≡ js → con_node c is ≡ con_node d js
+two_parts c d is js e f = cc
 
-last_node : (xs : List TypeShape) (s : TypeShape) (d : TypeShape) → get_or (xs ++ s ∷ []) (length xs) d ≡ s
-last_node [] s d = refl
-last_node (x ∷ xs) s d = last_node xs s d
+two_sides : (a b c d : ℕ) → a ≡ c → b ≡ d → arrow_node a b ≡ arrow_node c d
+two_sides a b c d e f = cc
 
-pub now_found : (b now : Nodes) (entries new : List (Vec ℕ Global × ℕ)) (key : List ℕ) (n : ℕ) (s : TypeShape) → AreFound b entries → ((other : List ℕ) → find_in new other ≡ (if bytes_eq other key then Some n else find_in entries other)) → IsFresh b key → n ≡ length b.types → key ≡ key_of s →
-    now.types ≡ b.types ++ s ∷ [] → Extends b now → AreFound now new
-now_found b now entries new key n s found put fresh at is types x i h = by (i < length b.types) (before_or (length b.types) i (let e = ap length types in let f = length-append b.types (s ∷ []) in omega (arith, e, f, h)))
-  where
-    before_or : (m i : ℕ) → i < suc m → (i < m) ⊎ (i ≡ m)
-    before_or zero zero h = inr refl
-    before_or zero (suc i) h = absurd (omega (arith, h))
-    before_or (suc m) zero h = inl (omega arith)
-    before_or (suc m) (suc i) h = ⊎_elim (λ l. inl (omega (arith, l))) (λ e. inr (ap (λ n. suc n) e)) (before_or m i (omega (arith, h)))
+-- it tells whether the nodes are the same
+one_node : (x y : TypeKey) → Decides (same_key x y) (key_shape x ≡ key_shape y)
+one_node (Var m) (Var n) = let d = Decides-eqb m n in (λ e. ap var_node (d.0 e), λ e. d.1 (cc))
+one_node (Var m) (Con d js) = (λ e. absurd (cc), λ e. absurd (cc))
+one_node (Var m) (Arrow c d) = (λ e. absurd (cc), λ e. absurd (cc))
+one_node (Con c is) (Var n) = (λ e. absurd (cc), λ e. absurd (cc))
+one_node (Con c is) (Con d js) =
+    let both = Decides-and (nat_eq c d) (bytes_eq is.items js.items) (Decides-eqb c d) (bytes_eq-Decides is.items js.items) in
+    (λ e. let h = both.0 e in two_parts c d is.items js.items h.0 h.1, λ e. both.1 (cc, cc))
+one_node (Con c is) (Arrow x y) = (λ e. absurd (cc), λ e. absurd (cc))
+one_node (Arrow a b) (Var n) = (λ e. absurd (cc), λ e. absurd (cc))
+one_node (Arrow a b) (Con d js) = (λ e. absurd (cc), λ e. absurd (cc))
+one_node (Arrow a b) (Arrow c d) =
+    let both = Decides-and (nat_eq a c) (nat_eq b d) (Decides-eqb a c) (Decides-eqb b d) in
+    (λ e. let h = both.0 e in two_sides a b c d h.0 h.1, λ e. both.1 (cc, cc))
 
-    last : type_at now (length b.types) ≡ s
-    last = ap (λ l. get_or l (length b.types) (var_node 0)) types ∙ last_node b.types s (var_node 0)
+module _ (key : TypeKey) where
+  pub met : (keys : List TypeKey) (n : ℕ) → position (same_key key) keys ≡ Some n → (n < length (map key_shape keys)) × (get_or (map key_shape keys) n (var_node 0) ≡ key_shape key)
+  met keys n e =
+      let h = position-Some (same_key key) keys n key e in
+      let l = length-map keys key_shape in
+      (omega (arith, h.0, l), get_or-map key_shape keys n key (var_node 0) h.0 ∙ sym ((one_node key (get_or keys n key)).0 h.1))
 
-    here : find_in new (key_of (type_at now (length b.types))) ≡ Some (length b.types)
-    here =
-        ap (λ s. find_in new (key_of s)) last ∙ ap (find_in new) (sym is) ∙ put key ∙ ap (λ t. if t then Some n else find_in entries key) ((bytes_eq-Decides key key).1 refl) ∙ ap (λ n. Some n) at
+  pub unmet : (keys : List TypeKey) → list_any (same_key key) keys ≡ false → (i : ℕ) (d : TypeShape) → i < length (map key_shape keys) → get_or (map key_shape keys) i d ≢ key_shape key
+  unmet keys none i d h e =
+      let l : i < length keys = subst (λ n. i < n) (length-map keys key_shape) h in
+      let same = sym e ∙ get_or-map key_shape keys i key d l in
+      true≢false (sym (list_any_at (same_key key) keys i key l ((one_node key (get_or keys i key)).1 same)) ∙ none)
 
-    by : (A : Type 0) → (i < length b.types) ⊎ (i ≡ length b.types) → find_in new (key_of (type_at now i)) ≡ Some i
-    by A (inl l) = ap (λ s. find_in new (key_of s)) (x.types_stay i l) ∙ still_found b entries new key n found put fresh i l
-    by A (inr e) = subst (λ i. find_in new (key_of (type_at now i)) ≡ Some i) (sym e) here
-
-pub are_once : (b : Nodes) (entries : List (Vec ℕ Global × ℕ)) → IsSound b → AreFound b entries → IsOnce b (find_in entries)
-are_once b entries sound found = record { older = type_below b sound; tree = λ i h. sym (type_tree-node b sound i h); once = found }
-
-pub one_number : (b : Nodes) (entries : List (Vec ℕ Global × ℕ)) (i j : ℕ) → IsSound b → AreFound b entries → i < length b.types → j < length b.types → type_tree b i ≡ type_tree b j → i ≡ j
-one_number b entries i j sound found h k e = equal_numbers b (find_in entries) (are_once b entries sound found) i j h k e
-
-pub none_at : (o : Option ℕ) (i : ℕ) → None ≡ o → o ≡ Some i → ⊥
-none_at o i e f = absurd (cc)
-
-pub one_at : (n : ℕ) (o : Option ℕ) (i : ℕ) → Some n ≡ o → o ≡ Some i → n ≡ i
-one_at n o i e f = cc
-
-pub ok_or_err : {T E : Type 0} (r : Result T E) (A B : Type 0) → OnOk r A → OnErr r B → A ⊎ B
-ok_or_err (Ok x) A B a b = inl a
-ok_or_err (Err e) A B a b = inr b
-
--- lists of types with the same numbers
-heads : (x y : ℕ) (xs ys : List ℕ) → x ∷ xs ≡ y ∷ ys → x ≡ y
-heads x y xs ys e = cc
-
-tails : (x y : ℕ) (xs ys : List ℕ) → x ∷ xs ≡ y ∷ ys → xs ≡ ys
-tails x y xs ys e = cc
-
-pub same_at : (xs ys : List TypeId) (i : ℕ) (d e : TypeId) → i < length xs → map (λ t. t.0) xs ≡ map (λ t. t.0) ys → (get_or xs i d).0 ≡ (get_or ys i e).0
-same_at [] ys i d e h f = absurd (omega (arith, h))
-same_at (x ∷ xs) [] i d e h f = absurd (cc)
-same_at (x ∷ xs) (y ∷ ys) zero d e h f = heads x.0 y.0 (map (λ t. t.0) xs) (map (λ t. t.0) ys) f
-same_at (x ∷ xs) (y ∷ ys) (suc i) d e h f = same_at xs ys i d e (omega (arith, h)) (tails x.0 y.0 (map (λ t. t.0) xs) (map (λ t. t.0) ys) f)
+  pub key_behind : {T E : Type 0} (r : Result T E) (keys after : List TypeKey) → IsOk r → IfOk r (λ _. after ≡ insert_key same_key keys key) → list_any (same_key key) keys ≡ false → after ≡ keys ++ key ∷ []
+  key_behind (Ok x) keys after ok h none = h ∙ ap (λ t. if t then keys else keys ++ key ∷ []) none
+  key_behind (Err e) keys after ok h none = absurd (cc)
 
 pub not_true : (b : Bool) → not b ≡ true → b ≡ false
 not_true true e = absurd (true≢false (sym e))

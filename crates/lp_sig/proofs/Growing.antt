@@ -1,10 +1,9 @@
 -- More sentences change no type: what a name means, its number and its definition stay.
-use Rattle.std.proofs.Common.{◌≡◌, ℕ, suc, ◌+◌, min, List, [], ◌∷◌, ◌++◌, length, Bool, true, false, Option, Some, None, refl, sym, ap, subst, ◌∙◌, cond, arith, append_assoc}
+use Rattle.std.proofs.Common.{◌≡◌, ℕ, suc, min, List, [], ◌∷◌, ◌++◌, Bool, true, false, Option, Some, None, refl, sym, ap, ◌∙◌, cond, append_assoc}
 use Rattle.std.specs.Prelude.{if◌then◌else◌, option_map}
 use Rattle.std.specs.Str.{bytes_eq}
 use Rattle.lp_base.specs.declared.place.Spot.{Spot}
 use Rattle.lp_calculus.specs.Types.{Ty}
-use Rattle.lp_term.specs.Nodes.{Nodes, type_tree}
 use Rattle.lp_syntax.specs.declared.text.RawTypeNode.{RawTypeNode}
 use Rattle.lp_sig.specs.Rows.{Row, found}
 use Rattle.lp_sig.specs.Standard.{standard_kinds}
@@ -69,8 +68,8 @@ module _ (said more : List (Row Said)) (defs others : List (Row Definition)) whe
     type_stays text ν nodes i t (a_variable s a n at v is e) = a_variable s a n at v is e
     type_stays text ν nodes i t (kind_on s a k ts at v means number parts e) =
         kind_on s a k ts at v (meaning_more said more _ _ means) (kind_number_more said more _ k number) (list_stays text ν nodes a.items ts parts) e
-    type_stays text ν nodes i t (abbreviation_on s a d body ts at v means declared inner parts e) =
-        abbreviation_on s a d body ts at v (meaning_more said more _ _ means) (found_more _ defs others d declared) (type_stays d.text (by_parameters d.text d.parameters) d.body.nodes.items d.body.root body inner) (list_stays text ν nodes a.items ts parts) e
+    type_stays text ν nodes i t (abbreviation_on s a d body ts at v means declared apart inner parts e) =
+        abbreviation_on s a d body ts at v (meaning_more said more _ _ means) (found_more _ defs others d declared) apart (type_stays d.text (by_parameters d.text d.parameters) d.body.nodes.items d.body.root body inner) (list_stays text ν nodes a.items ts parts) e
     type_stays text ν nodes i t (an_arrow a b x y at left right e) = an_arrow a b x y at (type_stays text ν nodes a x left) (type_stays text ν nodes b y right) e
 
     list_stays : (text : List ℕ) (ν : ℕ → Spot → Option ℕ) (nodes : List RawTypeNode) (is : List ℕ) (ts : List Ty) → AreTypesOf said defs text ν nodes is ts → AreTypesOf (said ++ more) (defs ++ others) text ν nodes is ts
@@ -81,5 +80,6 @@ module _ (said more : List (Row Said)) (defs others : List (Row Definition)) whe
   body_stays name t h = record {
     definition = h.definition;
     declared = found_more name defs others h.definition h.declared;
+    apart = h.apart;
     is = type_stays h.definition.text (by_parameters h.definition.text h.definition.parameters) h.definition.body.nodes.items h.definition.body.root t h.is;
   }

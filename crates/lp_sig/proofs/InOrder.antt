@@ -1,10 +1,9 @@
 -- The numbers that the variables of a declared type are given in order are a numbering: one for each name, and one for each `_`.
-use Rattle.std.specs.Global.{Global}
 use Rattle.std.proofs.Common.{◌≡◌, ℕ, zero, suc, ◌+◌, ◌<◌, ◌≤◌, List, [], ◌∷◌, ◌++◌, Bool, true, false, length, get_or, take, arith, Option, Some, None, refl, sym, ap, subst, ◌∙◌, true≢false, inl, inr, append_assoc, append-nil}
-use Rattle.std.specs.Prelude.{if◌then◌else◌, option_map, is_some, ◌⊎◌, ◌≢◌, Vec, codes}
+use Rattle.std.specs.Prelude.{if◌then◌else◌, option_map, is_some, ◌⊎◌, ◌≢◌, codes}
 use Rattle.std.specs.Str.{bytes_eq}
 use Rattle.std.specs.Map.{lookup}
-use Rattle.std.proofs.lemmas.List.{length-append, get_or_append_left, take_more, take_all, get_or_default}
+use Rattle.std.proofs.lemmas.List.{length-append, get_or_append_left, take_more, take_all}
 use Rattle.std.proofs.Math.Seq.{get_or-append_seam}
 use Rattle.std.proofs.lemmas.Slice.Eq.{bytes_eq-Decides}
 use Rattle.lp_base.specs.declared.place.Spot.{Spot}
@@ -12,7 +11,7 @@ use Rattle.lp_syntax.specs.declared.text.RawTypeNode.{RawTypeNode}
 use Rattle.lp_syntax.specs.declared.text.RawTypeNode.TheVariants as node
 use Rattle.lp_sig.specs.Pieces.{spelled, begins_variable}
 use Rattle.lp_sig.specs.Places.{first_place}
-use Rattle.lp_sig.specs.Types.{one_or, IsNode}
+use Rattle.lp_sig.specs.Types.{one_or}
 use Rattle.lp_sig.specs.Knowing.{number_of}
 use Rattle.lp_sig.specs.Holding.{given_number, IsNumbered}
 use Rattle.lp_sig.specs.Constants.{IsVariable, IsNumbering}

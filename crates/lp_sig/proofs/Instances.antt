@@ -1,10 +1,10 @@
 -- What is made of the copies of a node's parts is its copy: the node's tree with types for its variables.
-use Rattle.std.proofs.Common.{◌≡◌, ℕ, zero, suc, ◌<◌, ◌≤◌, List, [], ◌∷◌, length, map, get_or, Option, Some, None, refl, sym, ap, subst, ◌∙◌, arith}
+use Rattle.std.proofs.Common.{◌≡◌, ℕ, zero, suc, ◌<◌, ◌≤◌, List, [], ◌∷◌, length, map, get_or, Option, Some, None, refl, sym, ap, ◌∙◌, arith}
 use Rattle.std.specs.Prelude.{All, nat_eq}
 use Rattle.std.specs.Map.{lookup}
 use Rattle.std.proofs.lemmas.List.Elements.{All-head, All-tail}
-use Rattle.indexmap.specs.IndexMap.{IndexMap, get}
-use Rattle.lp_calculus.specs.Types.{Ty, Tys, var, param, con, arrow, tys, no_types, types, instance, instances}
+use Rattle.indexmap.specs.IndexMap.{IndexMap}
+use Rattle.lp_calculus.specs.Types.{Ty, Tys, con, arrow, tys, types, instance, instances}
 use Rattle.lp_term.specs.Node.{TypeShape, var_node, param_node, con_node, arrow_node, TypeBelow}
 use Rattle.lp_term.specs.Nodes.{Nodes, Extends, type_tree, type_node_tree}
 use Rattle.lp_term.specs.declared.node.TypeId.{TypeId}

@@ -2,6 +2,12 @@ pub mod Finding
 pub mod Blame
 pub mod Order
 pub mod Circles
+pub mod UsesFirst
+pub mod UsesSettled
+pub mod FirstBodies
+pub mod AllStanding
+pub mod InTurn
+pub mod OpenBodies
 pub mod Naming
 pub mod Repeats
 pub mod Firsts
@@ -34,6 +40,7 @@ pub mod Numbered
 pub mod AbbreviationEntries
 pub mod Alike
 pub mod WorkedRows
+pub mod TakenConstants
 pub mod Constancy
 pub mod Declaring
 pub mod Listing
@@ -42,6 +49,8 @@ pub mod DeclaredConstants
 pub mod Renaming
 pub mod Declarations
 pub mod Settled
+pub mod SoundSentences
 pub mod OneScheme
 pub mod Agreeing
 pub mod FirstTypes
+pub mod TextTaken

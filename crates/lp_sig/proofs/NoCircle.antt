@@ -10,11 +10,11 @@ use Rattle.lp_syntax.specs.declared.text.RawTypeNode.TheVariants as node
 use Rattle.lp_sig.specs.Pieces.{spelled, begins_variable}
 use Rattle.lp_sig.specs.Rows.{Row}
 use Rattle.lp_sig.specs.Said.{Said}
-use Rattle.lp_sig.specs.Words.{meaning_of, may_stand, counted, on_count, by_meaning, fault_of_word, word_fault, IsFirstFault, IsNameFault, IsKindsFault}
+use Rattle.lp_sig.specs.Words.{meaning_of, may_stand, counted, by_meaning, fault_of_word, word_fault, IsFirstFault, IsNameFault, IsKindsFault}
 use Rattle.lp_sig.specs.Words as words
 use Rattle.lp_calculus.specs.Types.{Ty}
 use Rattle.lp_sig.specs.Types.{Definition}
-use Rattle.lp_sig.specs.Constants.{Written, IsWrittenFault, IsConstantFault, IsConstantsRefusal}
+use Rattle.lp_sig.specs.Constants.{Written, IsWrittenFault, IsConstantFault, IsConstantsFault}
 use Rattle.lp_sig.specs.Constants as constants
 use Rattle.lp_sig.specs.Abbreviations.{Seen}
 use Rattle.lp_sig.specs.Faults.{IsAbbreviationFault, IsSentenceFault}
@@ -61,11 +61,11 @@ of_constant : (said : List (Row Said)) (defs : List (Row Definition)) (rows : Li
 of_constant said defs rows name t s c e (constants.other_type f first has differ) g = absurd (cc)
 of_constant said defs rows name t s c e (constants.no_number f none new l) g = absurd (cc)
 
-of_constants : (M : Type 0) (text : List ℕ) (said : List (Row Said)) (defs : List (Row Definition)) (rows : List (Row Written)) (names : List Spot) (ty : RawType) (c : Spot) (e : SigFault) → IsConstantsRefusal M text said defs rows names ty e → e ≡ fault.CyclicSignature c → ⊥
-of_constants M text said defs rows names ty c e (constants.long_name f s among l) g = absurd (cc)
-of_constants M text said defs rows names ty c e (constants.bad_type short f) g = of_written text said defs ty c e f g
-of_constants M text said defs rows names ty c e (constants.bad_name short stand f) g = of_constant said defs _ _ f.tree f.name c e f.refused g
-of_constants M text said defs rows names ty c e (constants.no_memory f) g = absurd (cc)
+of_constants : (from : ℕ) (text : List ℕ) (z : Seen) (rows : List (Row Written)) (names : List Spot) (ty : RawType) (c : Spot) (e : SigFault) → IsConstantsFault from text z rows names ty e → e ≡ fault.CyclicSignature c → ⊥
+of_constants from text z rows names ty c e (constants.long_name f s among l) g = absurd (cc)
+of_constants from text z rows names ty c e (constants.bad_type short f) g = of_written text z.said z.definitions ty c e f g
+of_constants from text z rows names ty c e (constants.bad_name short stand f) g = of_constant z.said z.definitions _ _ f.type.tree f.name c e f.refused g
+of_constants from text z rows names ty c e (constants.no_memory f) g = absurd (cc)
 
 of_abbreviation : (text : List ℕ) (z : Seen) (name : Spot) (ps : List Spot) (ty : RawType) (c : Spot) (e : SigFault) → IsAbbreviationFault text z name ps ty e → e ≡ fault.CyclicSignature c → ⊥
 of_abbreviation text z name ps ty c e (faults.a_name f) g = of_name text z.said _ name c e f g
@@ -76,12 +76,12 @@ of_abbreviation text z name ps ty c e (faults.a_word straight f) g = of_first te
 of_abbreviation text z name ps ty c e (faults.other f straight stand differ) g = absurd (cc)
 of_abbreviation text z name ps ty c e (faults.memory f) g = absurd (cc)
 
-pub of_sentence : (text : List ℕ) (z : Seen) (rows : List (Row Written)) (d : Declaration) (c : Spot) (e : SigFault) → IsSentenceFault text z rows d e → e ≡ fault.CyclicSignature c → ⊥
-of_sentence text z rows (declaration.Kinds names n) c e f g = of_kinds text z.said names.items n c e f g
-of_sentence text z rows (declaration.LocalKinds names n) c e f g = absurd (cc)
-of_sentence text z rows (declaration.Constants names ty) c e f g = of_constants ⊥ text z.said z.definitions rows names.items ty c e f g
-of_sentence text z rows (declaration.Locals names ty) c e f g = absurd (cc)
-of_sentence text z rows (declaration.Abbreviation name ps ty) c e f g = of_abbreviation text z name ps.items ty c e f g
-of_sentence text z rows (declaration.Accumulate ws) c e f g = absurd (cc)
-of_sentence text z rows (declaration.AccumSig ws) c e f g = absurd (cc)
-of_sentence text z rows (declaration.Fixities names fix n) c e f g = absurd (cc)
+pub of_sentence : (from : ℕ) (text : List ℕ) (z : Seen) (rows : List (Row Written)) (d : Declaration) (c : Spot) (e : SigFault) → IsSentenceFault from text z rows d e → e ≡ fault.CyclicSignature c → ⊥
+of_sentence from text z rows (declaration.Kinds names n) c e f g = of_kinds text z.said names.items n c e f g
+of_sentence from text z rows (declaration.LocalKinds names n) c e f g = absurd (cc)
+of_sentence from text z rows (declaration.Constants names ty) c e f g = of_constants from text z rows names.items ty c e f g
+of_sentence from text z rows (declaration.Locals names ty) c e f g = absurd (cc)
+of_sentence from text z rows (declaration.Abbreviation name ps ty) c e f g = of_abbreviation text z name ps.items ty c e f g
+of_sentence from text z rows (declaration.Accumulate ws) c e f g = absurd (cc)
+of_sentence from text z rows (declaration.AccumSig ws) c e f g = absurd (cc)
+of_sentence from text z rows (declaration.Fixities names fix n) c e f g = absurd (cc)

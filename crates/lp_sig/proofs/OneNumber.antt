@@ -1,18 +1,11 @@
 -- Where each node stands once, equal types have equal numbers.
-use Rattle.std.proofs.Common.{◌≡◌, ℕ, zero, suc, ◌+◌, ◌<◌, ◌≤◌, List, [], ◌∷◌, ◌++◌, length, map, get_or, Bool, true, false, true≢false, Option, Some, None, refl, sym, ap, subst, ◌∙◌, arith, inl, inr, ⊎_elim}
-use Rattle.std.specs.Prelude.{All, ◌⊎◌, if◌then◌else◌}
-use Rattle.std.specs.Str.{bytes_eq}
-use Rattle.std.proofs.lemmas.Slice.Eq.{bytes_eq-Decides}
-use Rattle.std.proofs.lemmas.List.{length-append}
+use Rattle.std.proofs.Common.{◌≡◌, ℕ, ◌<◌, ◌≤◌, List, [], ◌∷◌, length, map, refl, sym, ap, subst, ◌∙◌, arith}
+use Rattle.std.specs.Prelude.{AllPairs, ◌≢◌, All}
 use Rattle.std.proofs.lemmas.List.Elements.{All-head, All-tail}
 use Rattle.lp_calculus.specs.Types.{Ty, Tys, var, param, con, arrow, tys, no_types, types}
 use Rattle.lp_term.specs.Node.{TypeShape, var_node, param_node, con_node, arrow_node, TypeBelow}
-use Rattle.lp_term.specs.Nodes.{Nodes, Extends, type_at, type_tree, type_node_tree}
-use Rattle.lp_sig.specs.Once.{key_of, IsOnce}
-use Rattle.lp_sig.proofs.Instances.{same_top}
-
-some_same : (x y : ℕ) → Some x ≡ Some y → x ≡ y
-some_same x y e = cc
+use Rattle.lp_term.specs.Nodes.{Nodes, IsSound, type_at, type_tree, type_node_tree}
+use Rattle.lp_term.proofs.Trees.{type_tree-node, type_below}
 
 two_nodes : (a c x z : ℕ) → a ≡ c → x ≡ z → arrow_node a x ≡ arrow_node c z
 two_nodes a c x z e f = cc
@@ -73,15 +66,18 @@ module _ (b : Nodes) where
       let g : type_tree b y ≡ u = cc in
       record { left = x; right = y; is = refl; from = f; to = g }
 
-  module _ (find : List ℕ → Option ℕ) (once : IsOnce b find) where
+  module _ (sound : IsSound b) (once : AllPairs (λ s t. s ≢ t) b.types) where
     one_place : (i j : ℕ) → i < length b.types → j < length b.types → type_at b i ≡ type_at b j → i ≡ j
-    one_place i j h k e = some_same i j (sym (once.once i h) ∙ ap (λ s. find (key_of s)) e ∙ once.once j k)
+    one_place i j h k e =
+        let l : i < j → ⊥ = λ l. once i j (var_node 0) l k e in
+        let m : j < i → ⊥ = λ m. once j i (var_node 0) m h (sym e) in
+        omega (arith, l, m)
 
     node_is : (i : ℕ) (t : Ty) → i < length b.types → type_tree b i ≡ t → type_node_tree b (type_at b i) ≡ t
-    node_is i t h e = sym (once.tree i h) ∙ e
+    node_is i t h e = type_tree-node b sound i h ∙ e
 
     parts_in : (i c : ℕ) (ids : List ℕ) → i < length b.types → type_at b i ≡ con_node c ids → AreIn (length b.types) ids
-    parts_in i c ids h is = are_in (length b.types) i ids (omega (arith, h)) (subst (TypeBelow i) is (once.older i h))
+    parts_in i c ids h is = are_in (length b.types) i ids (omega (arith, h)) (subst (TypeBelow i) is (type_below b sound i h))
 
     mutual
       same_number : (t : Ty) (i j : ℕ) → i < length b.types → j < length b.types → type_tree b i ≡ t → type_tree b j ≡ t → i ≡ j
@@ -94,8 +90,8 @@ module _ (b : Nodes) where
       same_number (arrow t u) i j h k e f =
           let p = is_arrow (type_at b i) t u (node_is i (arrow t u) h e) in
           let q = is_arrow (type_at b j) t u (node_is j (arrow t u) k f) in
-          let x = subst (TypeBelow i) p.is (once.older i h) in
-          let y = subst (TypeBelow j) q.is (once.older j k) in
+          let x = subst (TypeBelow i) p.is (type_below b sound i h) in
+          let y = subst (TypeBelow j) q.is (type_below b sound j k) in
           let l = x.0 in
           let m = x.1 in
           let n = y.0 in

@@ -1,6 +1,6 @@
 -- A declared type has one scheme: it does not depend on the numbers that its variables are given.
 use Rattle.std.specs.Global.{Global}
-use Rattle.std.proofs.Common.{◌≡◌, ℕ, zero, suc, ◌+◌, ◌<◌, List, [], ◌∷◌, ◌++◌, Bool, true, false, length, map, Option, Some, None, refl, sym, ap, subst, ◌∙◌, true≢false, arith, inl, inr}
+use Rattle.std.proofs.Common.{◌≡◌, ℕ, zero, suc, ◌<◌, List, [], ◌∷◌, ◌++◌, Bool, true, false, length, map, Option, Some, None, refl, sym, ap, subst, ◌∙◌, true≢false, arith, inl, inr}
 use Rattle.std.specs.Prelude.{nat_eq, if◌then◌else◌, ◌||◌, ◌⊎◌, ◌≢◌, option_map, Vec, codes}
 use Rattle.std.specs.List.{list_any}
 use Rattle.std.specs.Str.{bytes_eq}
@@ -13,14 +13,13 @@ use Rattle.lp_syntax.specs.declared.text.RawTypeNode.{RawTypeNode}
 use Rattle.lp_syntax.specs.declared.text.RawTypeNode.TheVariants as node
 use Rattle.lp_sig.specs.Pieces.{spelled}
 use Rattle.lp_sig.specs.Places.{first_place}
-use Rattle.lp_sig.specs.Rows.{Row, found}
-use Rattle.lp_sig.specs.Said.{Said, an_abbreviation}
-use Rattle.lp_sig.specs.Words.{meaning_of}
+use Rattle.lp_sig.specs.Rows.{Row}
+use Rattle.lp_sig.specs.Said.{Said}
 use Rattle.lp_sig.specs.Schemes.{type_variables, types_variables, met, first_variables, place, numbered_type}
 use Rattle.lp_sig.specs.Types.{Definition, given_for, on_arguments, by_parameters, IsNode, IsTypeOf, AreTypesOf, a_variable, kind_on, abbreviation_on, an_arrow, no_more, one_more}
 use Rattle.lp_sig.specs.Laws.{Agree}
 use Rattle.lp_sig.specs.Constants.{Written, IsVariable, IsNumbering, IsSchemeOf}
-use Rattle.lp_sig.specs.Ordering.{in_order, names_behind}
+use Rattle.lp_sig.specs.Ordering.{in_order}
 use Rattle.lp_sig.proofs.OneType.{one_type}
 use Rattle.lp_sig.proofs.InOrder.{in_order_numbers, in_order_some}
 
@@ -266,7 +265,7 @@ module _ (said : List (Row Said)) (defs : List (Row Definition)) (agree : Agree 
     type_below : (text : List ℕ) (ν : ℕ → Spot → Option ℕ) (nodes : List RawTypeNode) (i : ℕ) (t : Ty) (k : ℕ) → ((i : ℕ) (s : Spot) (n : ℕ) → ν i s ≡ Some n → n < k) → IsTypeOf said defs text ν nodes i t → Below k t
     type_below text ν nodes i t k f (a_variable s a n at v is e) = subst (Below k) (sym e) (f i s n is)
     type_below text ν nodes i t k f (kind_on s a c ts at v means number parts e) = subst (Below k) (sym e) (list_below text ν nodes a.items ts k f parts)
-    type_below text ν nodes i t k f (abbreviation_on s a d body ts at v means declared inner parts e) =
+    type_below text ν nodes i t k f (abbreviation_on s a d body ts at v means declared apart inner parts e) =
         let inside = type_below d.text (by_parameters d.text d.parameters) d.body.nodes.items d.body.root body (length d.parameters) (parameters_below d) inner in
         subst (Below k) (sym e) (fill_below ts k (list_below text ν nodes a.items ts k f parts) body (subst (λ n. Below n body) (agree (spelled text s) d (length a.items) declared means ∙ sym (list_length text ν nodes a.items ts parts)) inside))
     type_below text ν nodes i t k f (an_arrow a b x y at left right e) = subst (Below k) (sym e) (type_below text ν nodes a x k f left, type_below text ν nodes b y k f right)
@@ -290,11 +289,11 @@ module _ (said : List (Row Said)) (defs : List (Row Definition)) (agree : Agree 
       in_canon i t (kind_on s a c ts at v means number parts e) =
           let l = all_in_canon a.items ts parts in
           (con c (tys l.0), kind_on s a c l.0 at v means number l.1 refl, subst (λ t. Renames (IsPair text nodes ν) t (con c (tys l.0))) (sym e) (refl, l.2))
-      in_canon i t (abbreviation_on s a d body ts at v means declared inner parts e) =
+      in_canon i t (abbreviation_on s a d body ts at v means declared apart inner parts e) =
           let l = all_in_canon a.items ts parts in
           let inside = type_below d.text (by_parameters d.text d.parameters) d.body.nodes.items d.body.root body (length d.parameters) (parameters_below d) inner in (
             on_arguments l.0 body,
-            abbreviation_on s a d body l.0 at v means declared inner l.1 refl,
+            abbreviation_on s a d body l.0 at v means declared apart inner l.1 refl,
             subst (λ t. Renames (IsPair text nodes ν) t (on_arguments l.0 body)) (sym e)
                 (fill_renames (IsPair text nodes ν) ts l.0 l.2 body (subst (λ n. Below n body) (agree (spelled text s) d (length a.items) declared means ∙ sym (list_length text ν nodes a.items ts parts)) inside)),
           )

@@ -1,6 +1,6 @@
 -- A type as written has one tree: its node tells which word it is, and each part has one.
 use Rattle.std.specs.Global.{Global}
-use Rattle.std.proofs.Common.{◌≡◌, ℕ, ◌<◌, List, [], ◌∷◌, length, get_or, Bool, true, false, true≢false, Option, Some, None, refl, sym, ap, subst, ◌∙◌}
+use Rattle.std.proofs.Common.{◌≡◌, ℕ, List, [], ◌∷◌, length, true, false, true≢false, Option, Some, sym, ap, subst, ◌∙◌}
 use Rattle.std.specs.Prelude.{Vec}
 use Rattle.std.proofs.lemmas.List.{get_or_default}
 use Rattle.lp_base.specs.declared.place.Spot.{Spot}
@@ -80,26 +80,26 @@ module _ (said : List (Row Said)) (defs : List (Row Definition)) where
     pub one_type : (text : List ℕ) (ν : ℕ → Spot → Option ℕ) (nodes : List RawTypeNode) (i : ℕ) (t u : Ty) → IsTypeOf said defs text ν nodes i t → IsTypeOf said defs text ν nodes i u → t ≡ u
     one_type text ν nodes i t u (a_variable s a n at v is e) (a_variable z b m here w same f) = e ∙ ap var (some_same n m (sym is ∙ ap (ν i) (word_is text nodes i s z a b at here) ∙ same)) ∙ sym f
     one_type text ν nodes i t u (a_variable s a n at v is e) (kind_on z b k us here w means number parts f) = absurd (not_both text nodes i s z a b at here v w)
-    one_type text ν nodes i t u (a_variable s a n at v is e) (abbreviation_on z b d body us here w means declared inner parts f) = absurd (not_both text nodes i s z a b at here v w)
+    one_type text ν nodes i t u (a_variable s a n at v is e) (abbreviation_on z b d body us here w means declared apart inner parts f) = absurd (not_both text nodes i s z a b at here v w)
     one_type text ν nodes i t u (a_variable s a n at v is e) (an_arrow c d x y here left right f) = absurd (no_word s a c d (same_node nodes i (node.Word s a) (node.Arrow c d) at here))
     one_type text ν nodes i t u (kind_on s a k ts at v means number parts e) (a_variable z b m here w same f) = absurd (not_both text nodes i z s b a here at w v)
     one_type text ν nodes i t u (kind_on s a k ts at v means number parts e) (kind_on z b j us here w meant numbered others f) =
         e ∙ same_con k j ts us (one_number text nodes i s z a b at here k j number numbered) (one_list text ν nodes a.items b.items ts us parts others (ap (λ v. v.items) (arguments_are text nodes i s z a b at here))) ∙ sym f
-    one_type text ν nodes i t u (kind_on s a k ts at v means number parts e) (abbreviation_on z b d body us here w meant declared inner others f) =
+    one_type text ν nodes i t u (kind_on s a k ts at v means number parts e) (abbreviation_on z b d body us here w meant declared apart inner others f) =
         absurd (no_kind_is (length a.items) (length b.items) (one_meaning text nodes i s z a b at here (a_kind (length a.items)) (an_abbreviation (length b.items)) means meant))
     one_type text ν nodes i t u (kind_on s a k ts at v means number parts e) (an_arrow c d x y here left right f) = absurd (no_word s a c d (same_node nodes i (node.Word s a) (node.Arrow c d) at here))
-    one_type text ν nodes i t u (abbreviation_on s a d body ts at v means declared inner parts e) (a_variable z b m here w same f) = absurd (not_both text nodes i z s b a here at w v)
-    one_type text ν nodes i t u (abbreviation_on s a d body ts at v means declared inner parts e) (kind_on z b k us here w meant number others f) =
+    one_type text ν nodes i t u (abbreviation_on s a d body ts at v means declared apart inner parts e) (a_variable z b m here w same f) = absurd (not_both text nodes i z s b a here at w v)
+    one_type text ν nodes i t u (abbreviation_on s a d body ts at v means declared apart inner parts e) (kind_on z b k us here w meant number others f) =
         absurd (no_kind_is (length b.items) (length a.items) (one_meaning text nodes i z s b a here at (a_kind (length b.items)) (an_abbreviation (length a.items)) meant means))
-    one_type text ν nodes i t u (abbreviation_on s a d body ts at v means declared inner parts e) (abbreviation_on z b c other us here w meant known deeper others f) =
+    one_type text ν nodes i t u (abbreviation_on s a d body ts at v means declared apart inner parts e) (abbreviation_on z b c other us here w meant known distinct deeper others f) =
         let same : d ≡ c = one_definition text nodes i s z a b at here d c declared known in
         let bodies : body ≡ other = one_type d.text (by_parameters d.text d.parameters) d.body.nodes.items d.body.root body other inner
         (subst (λ d. IsTypeOf said defs d.text (by_parameters d.text d.parameters) d.body.nodes.items d.body.root other) (sym same) deeper) in
         e ∙ ap (on_arguments ts) bodies ∙ ap (λ ts. on_arguments ts other) (one_list text ν nodes a.items b.items ts us parts others (ap (λ v. v.items) (arguments_are text nodes i s z a b at here))) ∙ sym f
-    one_type text ν nodes i t u (abbreviation_on s a d body ts at v means declared inner parts e) (an_arrow b c x y here left right f) = absurd (no_word s a b c (same_node nodes i (node.Word s a) (node.Arrow b c) at here))
+    one_type text ν nodes i t u (abbreviation_on s a d body ts at v means declared apart inner parts e) (an_arrow b c x y here left right f) = absurd (no_word s a b c (same_node nodes i (node.Word s a) (node.Arrow b c) at here))
     one_type text ν nodes i t u (an_arrow b c x y at left right e) (a_variable z a m here w same f) = absurd (no_word z a b c (same_node nodes i (node.Word z a) (node.Arrow b c) here at))
     one_type text ν nodes i t u (an_arrow b c x y at left right e) (kind_on z a k us here w means number parts f) = absurd (no_word z a b c (same_node nodes i (node.Word z a) (node.Arrow b c) here at))
-    one_type text ν nodes i t u (an_arrow b c x y at left right e) (abbreviation_on z a d body us here w means declared inner parts f) = absurd (no_word z a b c (same_node nodes i (node.Word z a) (node.Arrow b c) here at))
+    one_type text ν nodes i t u (an_arrow b c x y at left right e) (abbreviation_on z a d body us here w means declared apart inner parts f) = absurd (no_word z a b c (same_node nodes i (node.Word z a) (node.Arrow b c) here at))
     one_type text ν nodes i t u (an_arrow b c x y at left right e) (an_arrow j k v w here first second f) =
         let p = same_node nodes i (node.Arrow b c) (node.Arrow j k) at here in
         e ∙ same_sides x y v w (one_type text ν nodes b x v left (subst (λ j. IsTypeOf said defs text ν nodes j v) (sym (same_from b c j k p)) first))

@@ -7,38 +7,38 @@ use Rattle.lp_sig.specs.declared.walk.Step.{Step}
 use Rattle.lp_sig.specs.declared.walk.Step.TheVariants.{Enter, Declare}
 
 pub stays : (ways : List (List Way)) (m : List Bool) (w s : List Step) → Moves ways m w s m w s
-stays ways m w s = λ rest run. (rest, run, refl)
+stays ways m w s = λ rest end run. (rest, run, refl)
 
 pub moves_then : (ways : List (List Way)) (a b c : List Bool) (u v w s t r : List Step) → Moves ways a u s b v t → Moves ways b v t c w r → Moves ways a u s c w r
-moves_then ways a b c u v w s t r f g = λ rest run. let x = g rest run in let y = f x.0 x.1 in (y.0, y.1, x.2 ∙ y.2)
+moves_then ways a b c u v w s t r f g = λ rest end run. let x = g rest end run in let y = f x.0 end x.1 in (y.0, y.1, x.2 ∙ y.2)
 
 last_off : (w : List Step) (x : Step) → reverse (w ++ x ∷ []) ≡ x ∷ reverse w
 last_off w x = reverse-append w (x ∷ [])
 
 -- a signature's own declarations
 pub declares : (ways : List (List Way)) (m : List Bool) (w s : List Step) (i : ℕ) → Moves ways m (w ++ Declare i ∷ []) s m w (s ++ Declare i ∷ [])
-declares ways m w s i = λ rest run. (Declare i ∷ rest, own i (reverse w) rest (last_off w (Declare i)) run refl, append_assoc s (Declare i ∷ []) rest)
+declares ways m w s i = λ rest end run. (Declare i ∷ rest, own i (reverse w) rest (last_off w (Declare i)) run refl, append_assoc s (Declare i ∷ []) rest)
 
 -- a signature for a second time
 pub known : (ways : List (List Way)) (m : List Bool) (w s : List Step) (i : ℕ) → get_or m i true ≡ true → Moves ways m (w ++ Enter i ∷ []) s m w s
-known ways m w s i h = λ rest run. (rest, go i (reverse w) [] rest (last_off w (Enter i)) m (again h refl refl) run refl, refl)
+known ways m w s i h = λ rest end run. (rest, go i (reverse w) [] rest (last_off w (Enter i)) m (again h refl refl) run refl, refl)
 
-record Split (ways : List (List Way)) (m : List Bool) (words : List Way) (behind rest : List Step) : Type 0 where
+record Split (ways : List (List Way)) (m : List Bool) (words : List Way) (behind rest : List Step) (end : List Bool) : Type 0 where
   inner : List Step
   mid : List Bool
   more : List Step
   loads : LoadsAll ways m words inner mid
-  run : Run ways mid behind more
+  run : Run ways mid behind more end
   is : rest ≡ inner ++ more
 
-split : (ways : List (List Way)) (m : List Bool) (words : List Way) (behind rest : List Step) → Run ways m (entries words ++ behind) rest → Split ways m words behind rest
-split ways m [] behind rest run = record { inner = []; mid = m; more = rest; loads = none refl refl refl; run = run; is = refl }
-split ways m (w ∷ ws) behind rest (over e s) = absurd (cc)
-split ways m (w ∷ ws) behind rest (own i v more e run s) = absurd (cc)
-split ways m (w ∷ ws) behind rest (go i v here more e mid loads run s) =
+split : (ways : List (List Way)) (m : List Bool) (words : List Way) (behind rest : List Step) (end : List Bool) → Run ways m (entries words ++ behind) rest end → Split ways m words behind rest end
+split ways m [] behind rest end run = record { inner = []; mid = m; more = rest; loads = none refl refl refl; run = run; is = refl }
+split ways m (w ∷ ws) behind rest end (over e s f) = absurd (cc)
+split ways m (w ∷ ws) behind rest end (own i v more e run s) = absurd (cc)
+split ways m (w ∷ ws) behind rest end (go i v here more e mid loads run s) =
     let q : i ≡ w.1 = cc in
     let r : v ≡ entries ws ++ behind = cc in
-    let x = split ways mid ws behind more (subst (λ v. Run ways mid v more) r run) in
+    let x = split ways mid ws behind more end (subst (λ v. Run ways mid v more end) r run) in
     record {
       inner = here ++ x.inner;
       mid = x.mid;
@@ -48,18 +48,18 @@ split ways m (w ∷ ws) behind rest (go i v here more e mid loads run s) =
       is = s ∙ ap (λ z. here ++ z) x.is ∙ sym (append_assoc here x.inner x.more);
     }
 
-record Own (ways : List (List Way)) (m : List Bool) (i : ℕ) (behind rest : List Step) : Type 0 where
+record Own (ways : List (List Way)) (m : List Bool) (i : ℕ) (behind rest : List Step) (end : List Bool) : Type 0 where
   more : List Step
-  run : Run ways m behind more
+  run : Run ways m behind more end
   is : rest ≡ Declare i ∷ more
 
-own_first : (ways : List (List Way)) (m : List Bool) (i : ℕ) (behind rest : List Step) → Run ways m (Declare i ∷ behind) rest → Own ways m i behind rest
-own_first ways m i behind rest (over e s) = absurd (cc)
-own_first ways m i behind rest (own j v more e run s) =
+own_first : (ways : List (List Way)) (m : List Bool) (i : ℕ) (behind rest : List Step) (end : List Bool) → Run ways m (Declare i ∷ behind) rest end → Own ways m i behind rest end
+own_first ways m i behind rest end (over e s f) = absurd (cc)
+own_first ways m i behind rest end (own j v more e run s) =
     let q : j ≡ i = cc in
     let r : v ≡ behind = cc in
-    record { more = more; run = subst (λ v. Run ways m v more) r run; is = s ∙ ap (λ j. Declare j ∷ more) q }
-own_first ways m i behind rest (go j v here more e mid loads run s) = absurd (cc)
+    record { more = more; run = subst (λ v. Run ways m v more end) r run; is = s ∙ ap (λ j. Declare j ∷ more) q }
+own_first ways m i behind rest end (go j v here more e mid loads run s) = absurd (cc)
 
 reverse_entries : (ws : List Way) → reverse (entries ws) ≡ entries (reverse ws)
 reverse_entries [] = refl
@@ -77,10 +77,10 @@ named_first w' w1 w i words a b =
 -- a signature for the first time
 pub entered : (ways : List (List Way)) (m m' : List Bool) (w w1 w' s s' : List Step) (i : ℕ) → get_or m i true ≡ false → m' ≡ set m i true → s' ≡ s ++ Enter i ∷ [] → w1 ≡ w ++ Declare i ∷ [] → w' ≡ w1 ++ entries (reverse (ways_out ways i)) →
     Moves ways m (w ++ Enter i ∷ []) s m' w' s'
-entered ways m m' w w1 w' s s' i h marks steps a b = λ rest run.
+entered ways m m' w w1 w' s s' i h marks steps a b = λ rest end run.
     let words = ways_out ways i in
-    let x = split ways m' words (Declare i ∷ reverse w) rest (subst (λ z. Run ways m' z rest) (named_first w' w1 w i words a b) run) in
-    let y = own_first ways x.mid i (reverse w) x.more x.run in
+    let x = split ways m' words (Declare i ∷ reverse w) rest end (subst (λ z. Run ways m' z rest end) (named_first w' w1 w i words a b) run) in
+    let y = own_first ways x.mid i (reverse w) x.more end x.run in
     let here = Enter i ∷ (x.inner ++ Declare i ∷ []) in
     let loads = first h x.inner (subst (λ z. LoadsAll ways z words x.inner x.mid) marks x.loads) refl in
     let same : rest ≡ (x.inner ++ Declare i ∷ []) ++ y.more = x.is ∙ ap (λ z. x.inner ++ z) y.is ∙ sym (append_assoc x.inner (Declare i ∷ []) y.more) in (
@@ -89,29 +89,28 @@ entered ways m m' w w1 w' s s' i h marks steps a b = λ rest run.
       ap (λ z. z ++ rest) steps ∙ append_assoc s (Enter i ∷ []) rest ∙ ap (λ z. s ++ (Enter i ∷ z)) same,
     )
 
-only_one : (ways : List (List Way)) (m : List Bool) (root : ℕ) (all : List Step) → Run ways m (Enter root ∷ []) all → (new : List Bool) × Loads ways m root all new
-only_one ways m root all (over e s) = absurd (cc)
-only_one ways m root all (own i v more e run s) = absurd (cc)
-only_one ways m root all (go i v here more e mid loads run s) = by run
+only_one : (ways : List (List Way)) (m : List Bool) (root : ℕ) (all : List Step) (end : List Bool) → Run ways m (Enter root ∷ []) all end → Loads ways m root all end
+only_one ways m root all end (over e s f) = absurd (cc)
+only_one ways m root all end (own i v more e run s) = absurd (cc)
+only_one ways m root all end (go i v here more e mid loads run s) = by run
   where
-    nothing : Run ways mid v more → more ≡ []
-    nothing (over e' s') = s'
+    nothing : Run ways mid v more end → (more ≡ []) × (end ≡ mid)
+    nothing (over e' s' f') = (s', f')
     nothing (own j u more' e' run' s') = absurd (cc)
     nothing (go j u here' more' e' mid' loads' run' s') = absurd (cc)
 
-    by : Run ways mid v more → (new : List Bool) × Loads ways m root all new
+    by : Run ways mid v more end → Loads ways m root all end
     by r =
         let q : i ≡ root = cc in
-        let t : here ≡ all = sym (append-nil here) ∙ ap (λ z. here ++ z) (sym (nothing r)) ∙ sym s in
-        (mid, subst (λ i. Loads ways m i all mid) q (subst (λ z. Loads ways m i z mid) t loads))
+        let t : here ≡ all = sym (append-nil here) ∙ ap (λ z. here ++ z) (sym (nothing r).0) ∙ sym s in
+        subst (λ z. Loads ways m root all z) (sym (nothing r).1) (subst (λ i. Loads ways m i all mid) q (subst (λ z. Loads ways m i z mid) t loads))
 
 -- when nothing is left all steps are taken
-pub all_loaded : (ways : List (List Way)) (m m' : List Bool) (root : ℕ) (work steps : List Step) → Moves ways m (Enter root ∷ []) [] m' work steps → work ≡ [] → (new : List Bool) × Loads ways m root steps new
+pub all_loaded : (ways : List (List Way)) (m m' : List Bool) (root : ℕ) (work steps : List Step) → Moves ways m (Enter root ∷ []) [] m' work steps → work ≡ [] → Loads ways m root steps m'
 all_loaded ways m m' root work steps moves empty =
-    let x = moves [] (over (ap (λ z. reverse z) empty) refl) in
-    let y = only_one ways m root x.0 x.1 in
+    let x = moves [] m' (over (ap (λ z. reverse z) empty) refl refl) in
     let same : x.0 ≡ steps = sym x.2 ∙ append-nil steps in
-    (y.0, subst (λ z. Loads ways m root z y.0) same y.1)
+    subst (λ z. Loads ways m root z m') same (only_one ways m root x.0 m' x.1)
 
 -- a mark takes a signature's words away from what can be added
 pub weighed : (m : List Bool) (ways : List (List Way)) (i : ℕ) → get_or m i true ≡ false → waiting (set m i true) ways + suc (length (ways_out ways i)) ≡ waiting m ways
@@ -154,8 +153,8 @@ one_off_then ways m m' all old work w off le =
     omega (arith, p, le)
 
 pub start_moves : (ways : List (List Way)) (root : ℕ) (m : List Bool) (work steps : List Step) → work ≡ Enter root ∷ [] → steps ≡ [] → Moves ways m (Enter root ∷ []) [] m work steps
-start_moves ways root m work steps one empty = λ rest run.
-    (rest, subst (λ z. Run ways m (reverse z) rest) one run, ap (λ z. z ++ rest) empty)
+start_moves ways root m work steps one empty = λ rest end run.
+    (rest, subst (λ z. Run ways m (reverse z) rest end) one run, ap (λ z. z ++ rest) empty)
 
 pub nil_of : {A : Type 0} (xs : List A) → length xs ≡ 0 → xs ≡ []
 nil_of [] h = refl

@@ -14,7 +14,7 @@ use Rattle.lp_sig.specs.Rows.{Row}
 use Rattle.lp_sig.specs.Said.{Said}
 use Rattle.lp_sig.specs.Types.{Definition, IsTypeOf}
 use Rattle.lp_sig.specs.Holding.{IsTree}
-use Rattle.lp_sig.specs.Copying.{picked, filled}
+use Rattle.lp_sig.specs.Copying.{filled}
 use Rattle.lp_sig.specs.Schemes.{place, first_variables, numbered_type}
 use Rattle.lp_sig.specs.Constants.{written_in, IsSchemeOf}
 use Rattle.lp_sig.specs.Ordering.{in_order, AreNewNames}

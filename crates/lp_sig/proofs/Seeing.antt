@@ -1,7 +1,7 @@
 -- What the tables hold of all that is seen, in a text, behind it and behind each step.
 use Rattle.std.specs.Global.{Global}
-use Rattle.std.proofs.Common.{◌≡◌, ℕ, ◌+◌, ◌<◌, ◌≤◌, List, [], ◌∷◌, ◌++◌, length, map, take, get_or, Option, Some, None, refl, sym, ap, subst, ◌∙◌, true≢false, arith}
-use Rattle.std.specs.Prelude.{String, Vec, slice_index_or}
+use Rattle.std.proofs.Common.{◌≡◌, ℕ, ◌+◌, ◌<◌, ◌≤◌, List, [], ◌∷◌, ◌++◌, length, map, take, get_or, Option, Some, None, refl, sym, ap, subst, ◌∙◌, true, true≢false, arith}
+use Rattle.std.specs.Prelude.{String, Vec, is_some, slice_index_or}
 use Rattle.std.proofs.lemmas.List.{length-map}
 use Rattle.lp_term.specs.Nodes.{Nodes, Extends}
 use Rattle.lp_term.specs.declared.node.TypeId.{TypeId}
@@ -38,7 +38,8 @@ knows_nothing making names none empty = record {
     told = λ n e. absurd (true≢false (sym e));
     no_line = λ i. ap (λ bs. line_at bs i) empty;
   };
-  alike = λ m k d h. absurd (omega (arith, h));
+  settled = λ place l. let none_there : length making.bodies.bodies.items ≡ 0 = ap length empty in absurd (omega (arith, l, none_there));
+  alike = λ k d h. absurd (omega (arith, h));
 }
 
 -- a text begins
@@ -75,6 +76,10 @@ left_behind b old new z text declared same none k = record {
   told = k.told;
   no_line = none;
 }
+
+-- the bodies stay
+pub bodies_left : (old new : List Body) → map (λ b. b.body) new ≡ map (λ b. b.body) old → ((place : ℕ) → place < length old → is_some (body_of old place) ≡ true) → (place : ℕ) → place < length new → is_some (body_of new place) ≡ true
+bodies_left old new same all place l = ap (λ bs. is_some (slice_index_or bs place None)) same ∙ all place (subst (λ n. place < n) (same_length (λ b. b.body) old new same) l)
 
 -- one text, or none
 pub text_follows : (old new : Making) (texts : List Text) (text : List ℕ) (lines : List Declaration) → texts ≡ (text, lines) ∷ [] → ((z : Seen) → KnowsSeen old z → KnowsSeen new (seen_text z text lines)) → Follows old new texts

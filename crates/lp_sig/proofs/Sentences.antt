@@ -3,10 +3,6 @@ use Rattle.std.proofs.Common.{◌≡◌, ℕ, List, length, Result, Ok, Err, inl
 use Rattle.std.specs.Prelude.{◌⊎◌, IfOk}
 use Rattle.lp_base.specs.declared.place.Spot.{Spot}
 use Rattle.lp_syntax.specs.declared.text.RawType.{RawType}
-use Rattle.lp_syntax.specs.declared.text.RawTypeNode.{RawTypeNode}
-use Rattle.lp_sig.specs.Pieces.{spelled}
-use Rattle.lp_sig.specs.Rows.{Row}
-use Rattle.lp_sig.specs.Said.{Said}
 use Rattle.lp_sig.specs.Limits.{IsRepeated}
 use Rattle.lp_sig.specs.Words.{IsFirstFault, parameters_of}
 use Rattle.lp_sig.specs.Abbreviations.{Seen}

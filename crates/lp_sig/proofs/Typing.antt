@@ -1,8 +1,8 @@
 -- What is made of the words of a type has the tree of its node.
 use Rattle.std.specs.Global.{Global}
-use Rattle.std.proofs.Common.{◌≡◌, ℕ, zero, suc, ◌+◌, ◌<◌, ◌≤◌, min, List, [], ◌∷◌, ◌++◌, length, map, get_or, take, Bool, true, false, true≢false, Option, Some, None, refl, sym, ap, subst, ◌∙◌, arith, Result, Ok, Err, inl, inr}
+use Rattle.std.proofs.Common.{◌≡◌, ℕ, zero, suc, ◌<◌, min, List, [], ◌∷◌, ◌++◌, length, map, get_or, Bool, true, false, true≢false, Option, Some, None, refl, sym, ap, subst, ◌∙◌, arith, inl, inr}
 use mathlib.Core.Path.{fun_ext}
-use Rattle.std.specs.Prelude.{nat_eq, ◌⊎◌, if◌then◌else◌, option_map, IfSome, IfOk, Vec, slice_index_or, codes}
+use Rattle.std.specs.Prelude.{nat_eq, ◌⊎◌, if◌then◌else◌, option_map, IfSome, Vec, codes}
 use Rattle.std.specs.Str.{bytes_eq}
 use Rattle.std.proofs.lemmas.Bool.{eqb-true}
 use Rattle.std.proofs.lemmas.List.{get_or_default, map-append}
@@ -13,18 +13,15 @@ use Rattle.lp_term.specs.declared.node.TypeId.{TypeId}
 use Rattle.lp_syntax.specs.declared.text.RawTypeNode.{RawTypeNode}
 use Rattle.lp_syntax.specs.declared.text.RawTypeNode.TheVariants as node
 use Rattle.lp_sig.specs.Pieces.{spelled, begins_variable}
-use Rattle.lp_sig.specs.Places.{first_place}
 use Rattle.lp_sig.specs.Rows.{Row, found}
 use Rattle.lp_sig.specs.Standard.{standard_kinds}
 use Rattle.lp_sig.specs.Said.{Said, a_kind, an_abbreviation}
-use Rattle.lp_sig.specs.Words.{meaning_of, number_said, counted, on_count}
-use Rattle.lp_sig.specs.Knowing.{number_of, said_as, blamed}
+use Rattle.lp_sig.specs.Words.{meaning_of, number_said, on_count}
+use Rattle.lp_sig.specs.Knowing.{number_of}
 use Rattle.lp_sig.specs.Copying.{picked, filled}
-use Rattle.lp_sig.specs.Abbreviations.{abbreviation_names, place_meant}
 use Rattle.lp_sig.specs.Types.{kind_number_of, one_or, Definition, given_for, on_arguments, by_parameters, IsNode, IsTypeOf, AreTypesOf, a_variable, kind_on, abbreviation_on, an_arrow, no_more, one_more, HasBody}
 use Rattle.lp_sig.specs.Holding.{given_number, AreParameters, type_done, body_of, IsTree, AreDone, HoldsBodies, IfType, IsReplaced, IsNumbered}
 use Rattle.lp_sig.specs.declared.bodies.Body.{Body}
-use Rattle.lp_sig.specs.declared.fault.SigFault.{SigFault}
 use Rattle.lp_sig.specs.declared.fault.SigFault.TheVariants as fault
 use Rattle.lp_sig.specs.declared.expand.Variables.{Variables}
 use Rattle.lp_sig.specs.declared.expand.Made.{Made}
@@ -95,7 +92,7 @@ module _ (b : Nodes) (said : List (Row Said)) (defs : List (Row Definition)) (te
     r.inside,
     abbreviation_on s args r.declared.definition r.body (map (λ t. type_tree b t.0) r.parts) at (ap begins_variable (sym spelt) ∙ name)
         (ap (λ w. meaning_of w said) (sym spelt) ∙ sym means ∙ ap (λ m. Some m) is ∙ ap (λ n. Some (an_abbreviation n)) (sym (stands (length places) p (count ∙ ap (on_count s (length places)) is)) ∙ ap length same))
-        (ap (λ w. found w defs) (sym spelt) ∙ r.declared.declared) r.declared.is (types_at args.items r.parts (ap (map (type_done done)) (sym same) ∙ r.are)) r.tree,
+        (ap (λ w. found w defs) (sym spelt) ∙ r.declared.declared) r.declared.apart r.declared.is (types_at args.items r.parts (ap (map (type_done done)) (sym same) ∙ r.are)) r.tree,
   )
     where
       stands : (n p : ℕ) → None ≡ on_count s n (an_abbreviation p) → n ≡ p

@@ -1,19 +1,19 @@
 -- The worked signature, by the rules of types.
 use Rattle.std.specs.Global.{Global}
-use Rattle.std.proofs.Common.{◌≡◌, ℕ, ◌<◌, List, [], ◌∷◌, length, Option, Some, refl, sym, ap, subst, ◌∙◌, true, false, arith, map}
-use Rattle.std.specs.Prelude.{Vec, codes, slice_index_or}
+use Rattle.std.proofs.Common.{◌≡◌, ℕ, zero, suc, ◌<◌, List, [], ◌∷◌, length, Option, Some, refl, sym, ap, subst, ◌∙◌, arith, map}
+use Rattle.std.specs.Prelude.{Vec, codes, slice_index_or, Contains}
 use Rattle.lp_base.specs.declared.place.Spot.{Spot}
 use Rattle.lp_calculus.specs.Types.{Ty, var, con, arrow, tys}
 use Rattle.lp_syntax.specs.declared.text.RawType.{RawType}
 use Rattle.lp_syntax.specs.declared.text.RawTypeNode.{RawTypeNode}
 use Rattle.lp_syntax.specs.declared.text.RawTypeNode.TheVariants.{Word, Arrow}
-use Rattle.lp_sig.specs.Pieces.{spelled, begins_variable}
+use Rattle.lp_sig.specs.Pieces.{spelled}
 use Rattle.lp_sig.specs.Places.{first_place}
-use Rattle.lp_sig.specs.Rows.{Row, found}
+use Rattle.lp_sig.specs.Rows.{Row}
 use Rattle.lp_sig.specs.Said.{Said, a_kind, an_abbreviation, each}
-use Rattle.lp_sig.specs.Words.{meaning_of, number_said}
-use Rattle.lp_sig.specs.Types.{kind_number_of, Definition, by_parameters, IsNode, IsTypeOf, AreTypesOf, a_variable, kind_on, abbreviation_on, an_arrow, no_more, one_more, HasBody}
-use Rattle.lp_sig.specs.Abbreviations.{abbreviation_names}
+use Rattle.lp_sig.specs.Words.{meaning_of}
+use Rattle.lp_sig.specs.Types.{kind_number_of, Definition, by_parameters, IsNode, IsTypeOf, a_variable, kind_on, abbreviation_on, an_arrow, no_more, one_more}
+use Rattle.lp_sig.specs.Limits.{AreApart}
 use Rattle.lp_sig.specs.Worked.{text, pair, A, B, list_word, int_word, AreParts, seen, IsWorked}
 
 module _ (parameters : Vec Spot Global) (body used : RawType) (none second both : Vec ℕ Global) (parts : AreParts parameters body used none second both) where
@@ -61,6 +61,13 @@ module _ (parameters : Vec Spot Global) (body used : RawType) (none second both 
   numbered : (i n : ℕ) (s : Spot) → first_place (spelled text s) (map (λ p. spelled text p) (A ∷ B ∷ [])) ≡ Some n → of_body i s ≡ Some n
   numbered i n s e = ap (λ ps. first_place (spelled text s) (map (λ p. spelled text p) ps)) parts.parameters_are ∙ e
 
+  apart : AreApart text parameters.items
+  apart = subst (AreApart text) (sym parts.parameters_are) (λ c. not_among c, (λ c. absurd (omega (arith, c.1)), tt))
+    where
+      not_among : Contains (spelled text B ∷ []) (spelled text A) → ⊥
+      not_among (zero, l, e) = let q : 66 ≡ 65 = ap (λ word. slice_index_or word 0 0) e in absurd (omega (arith, q))
+      not_among (suc k, l, e) = absurd (omega (arith, l))
+
   body_at : (i : ℕ) (n : RawTypeNode) → i < 4 → slice_index_or (Word A none ∷ Word B none ∷ Word list_word second ∷ Arrow 0 2 ∷ []) i n ≡ n → IsNode body.nodes.items i n
   body_at i n h at = node_at body.nodes.items (Word A none ∷ Word B none ∷ Word list_word second ∷ Arrow 0 2 ∷ []) i n parts.body_nodes h at
 
@@ -88,12 +95,12 @@ module _ (parameters : Vec Spot Global) (body used : RawType) (none second both 
   used_type =
       subst (λ r. IsTypeOf said defs text one_number used.nodes.items r (arrow (con 1 (tys [])) (con 3 (tys (con 3 (tys (var 0 ∷ [])) ∷ []))))) (sym parts.used_root)
       (abbreviation_on pair both definition (arrow (var 0) (con 3 (tys (var 1 ∷ [])))) (con 1 (tys []) ∷ con 3 (tys (var 0 ∷ [])) ∷ []) (used_at 3 (Word pair both) (omega arith) refl) refl
-      (pair_means ∙ ap (λ l. Some (an_abbreviation (length l))) (sym parts.both_are)) refl body_type
+      (pair_means ∙ ap (λ l. Some (an_abbreviation (length l))) (sym parts.both_are)) refl apart body_type
       (one_more 0 (2 ∷ []) (con 1 (tys [])) (con 3 (tys (var 0 ∷ [])) ∷ []) parts.both_are refl int_type (one_more 2 [] (con 3 (tys (var 0 ∷ []))) [] refl refl list_type (no_more refl refl))) refl)
 
 pub worked : IsWorked
 worked parameters body used none second both parts = (
   refl,
-  record { definition = record { text = text; parameters = parameters.items; body = body }; declared = refl; is = body_type parameters body used none second both parts },
+  record { definition = record { text = text; parameters = parameters.items; body = body }; declared = refl; apart = apart parameters body used none second both parts; is = body_type parameters body used none second both parts },
   used_type parameters body used none second both parts,
 )

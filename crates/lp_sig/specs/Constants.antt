@@ -13,11 +13,13 @@ use Rattle.lp_syntax.specs.declared.text.RawType.{RawType}
 use Rattle.lp_syntax.specs.declared.text.RawTypeNode.{RawTypeNode}
 use Rattle.lp_syntax.specs.declared.text.RawTypeNode.TheVariants as node
 use Rattle.lp_sig.specs.Pieces.{spelled, begins_variable}
-use Rattle.lp_sig.specs.Places.{first_place, HasPlaces}
+use Rattle.lp_sig.specs.Places.{HasPlaces}
 use Rattle.lp_sig.specs.Rows.{Row, found}
 use Rattle.lp_sig.specs.Standard.{standard_constants}
 use Rattle.lp_sig.specs.Said.{Said, each, is_among, names_in, firsts}
-use Rattle.lp_sig.specs.Abbreviations.{abbreviation_names}
+use Rattle.lp_sig.specs.Loading.{Way}
+use Rattle.lp_sig.specs.Abbreviations.{Seen, abbreviation_names}
+use Rattle.lp_sig.specs.Standing.{BodyStands, TypeStands}
 use Rattle.lp_sig.specs.Limits.{AreShort}
 use Rattle.lp_sig.specs.Words.{IsLongType, IsFirstFault, IsSoundType}
 use Rattle.lp_sig.specs.Schemes.{first_variables, numbered_type}
@@ -151,9 +153,25 @@ pub record KnowsConstants (b : Nodes) (constants : Constants) (said : List (Row 
 abbrev pub AreTyped : Constants → Type 0
 AreTyped constants = All (λ c. is_some c.declared ≡ true) constants.constants.items
 
--- each abbreviation has a body
-abbrev pub AreSettled : List Body → List (Row Said) → Type 0
-AreSettled bodies said = (name : List ℕ) (place : ℕ) → first_place name (abbreviation_names said) ≡ Some place → is_some (body_of bodies place) ≡ true
+-- each constant so far has a type if that of its row stands
+abbrev pub AreTypedIf : ℕ → Seen → List (Row Written) → Constants → Type 0
+AreTypedIf from z rows constants = AreInStep (λ n row c. TypeStands from z row.1.text row.1.raw → is_some c.declared ≡ true) 32 (declared_constants rows) constants.constants.items
+
+-- the abbreviation of a place has a body
+abbrev pub IsSettledAt : List Body → ℕ → Type 0
+IsSettledAt bodies place = is_some (body_of bodies place) ≡ true
+
+-- each abbreviation that is used has a body
+abbrev pub AreUsesSettled : List Body → List Way → Type 0
+AreUsesSettled bodies uses = (w : Way) → Contains uses w → IsSettledAt bodies w.1
+
+-- the abbreviation of a place has a body if it stands
+abbrev pub IsSettledIf : ℕ → Seen → List Body → ℕ → Type 0
+IsSettledIf from z bodies place = BodyStands from z place → IsSettledAt bodies place
+
+-- each does
+abbrev pub AreSettledIf : ℕ → Seen → List Body → Type 0
+AreSettledIf from z bodies = (place : ℕ) → place < length (abbreviation_names z.said) → IsSettledIf from z bodies place
 
 -- each part so far has a type
 abbrev pub AllMade : List (Option TypeId) → Type 0
@@ -171,39 +189,55 @@ pub data IsConstantFault (said : List (Row Said)) (defs : List (Row Definition))
   other_type : {e : SigFault} → e ≡ fault.Differ s → (first : Ty) → HasType said defs rows name first → first ≢ t → IsConstantFault said defs rows name t s e
   no_number : {e : SigFault} → e ≡ fault.Limit limit.Names → found name standard_constants ≡ None → found name rows ≡ None → 65535 ≤ 32 + length (declared_constants rows) → IsConstantFault said defs rows name t s e
 
--- these names have one type
-abbrev pub HaveType : List ℕ → List (Row Said) → List (Row Definition) → List (Row Written) → List Spot → Ty → Type 0
-HaveType text said defs rows names t = All (λ s. HasType said defs rows (spelled text s) t) names
+-- a name is declared with the type with which it is declared first
+pub record HasFirstType (said : List (Row Said)) (defs : List (Row Definition)) (all : List (Row Written)) (row : Row Written) : Type 0 where
+  pub count : ℕ
+  pub tree : Ty
+  pub scheme : IsSchemeOf said defs row.1 count tree
+  pub first : HasType said defs all row.0 tree
 
--- the first name of a sentence that is refused; the names before it have its type, if no constant so far is without one
-pub record IsFirstConstant (Typed : Type 0) (text : List ℕ) (said : List (Row Said)) (defs : List (Row Definition)) (rows : List (Row Written)) (names : List Spot) (w : Written) (e : SigFault) : Type 0 where
+abbrev pub HaveFirstTypes : List (Row Said) → List (Row Definition) → List (Row Written) → List (Row Written) → Type 0
+HaveFirstTypes said defs all rows = All (HasFirstType said defs all) rows
+
+-- the type with which a name is declared first stands, where it is no standard one
+abbrev pub FirstStands : ℕ → Seen → List (Row Written) → List ℕ → Type 0
+FirstStands from z rows name = (w : Written) → found name standard_constants ≡ None → found name rows ≡ Some w → TypeStands from z w.text w.raw
+
+-- a constant is taken, where these are declared before it: it has the type with which its name is declared first, if both stand, and
+-- there is a number for it if it is new
+pub record IsTakenConstant (from : ℕ) (z : Seen) (rows : List (Row Written)) (row : Row Written) : Type 0 where
+  pub typed : TypeStands from z row.1.text row.1.raw → FirstStands from z (rows ++ row ∷ []) row.0 → HasFirstType z.said z.definitions (rows ++ row ∷ []) row
+  pub number : TypeStands from z row.1.text row.1.raw → found row.0 standard_constants ≡ None → found row.0 rows ≡ None → 32 + length (declared_constants rows) < 65535
+
+-- so are constants, one after the other
+abbrev pub AreTakenConstants : ℕ → Seen → List (Row Written) → List (Row Written) → Type 0
+AreTakenConstants from z rows [] = Unit {0}
+AreTakenConstants from z rows (row ∷ more) = IsTakenConstant from z rows row × AreTakenConstants from z (rows ++ row ∷ []) more
+
+-- a declared type has a tree, with at most 255 type variables
+pub record HasFewVariables (said : List (Row Said)) (defs : List (Row Definition)) (w : Written) : Type 0 where
   pub count : ℕ
   pub tree : Ty
   pub scheme : IsSchemeOf said defs w count tree
+  pub few : count ≤ 255
+
+-- the first name of a sentence that is refused
+pub record IsFirstConstant (from : ℕ) (text : List ℕ) (z : Seen) (rows : List (Row Written)) (names : List Spot) (w : Written) (e : SigFault) : Type 0 where
+  pub type : HasFewVariables z.said z.definitions w
   pub k : ℕ
   pub name : Spot
   pub inside : k < length names
   pub at_name : slice_index_or names k name ≡ name
-  pub before : Typed → HaveType text said defs (rows ++ each text w (take k names)) (take k names) tree
-  pub refused : IsConstantFault said defs (rows ++ each text w (take k names)) (spelled text name) tree name e
+  pub before : AreTakenConstants from z rows (each text w (take k names))
+  pub refused : IsConstantFault z.said z.definitions (rows ++ each text w (take k names)) (spelled text name) type.tree name e
 
 -- why a sentence of constants is refused, where these were declared before it: a long name goes first, then its type, then its names
 -- in order
-pub data IsConstantsRefusal (Typed : Type 0) (text : List ℕ) (said : List (Row Said)) (defs : List (Row Definition)) (rows : List (Row Written)) (names : List Spot) (ty : RawType) : SigFault → Type 0 where
-  long_name : {e : SigFault} → e ≡ fault.Limit limit.NameLength → (s : Spot) → Contains names s → 255 < length (spelled text s) → IsConstantsRefusal Typed text said defs rows names ty e
-  bad_type : {e : SigFault} → AreShort text names → IsWrittenFault text said defs ty e → IsConstantsRefusal Typed text said defs rows names ty e
-  bad_name : {e : SigFault} → AreShort text names → IsSoundType text said ty → IsFirstConstant Typed text said defs rows names (written_in text ty) e → IsConstantsRefusal Typed text said defs rows names ty e
-  no_memory : {e : SigFault} → e ≡ fault.Memory → IsConstantsRefusal Typed text said defs rows names ty e
-
--- a sentence of constants without fault: its type has a tree and at most 255 type variables, each name has this type behind it, and
--- there are numbers for all if there were before
-pub record AreDeclared (text : List ℕ) (said : List (Row Said)) (defs : List (Row Definition)) (rows : List (Row Written)) (names : List Spot) (ty : RawType) : Type 0 where
-  pub count : ℕ
-  pub tree : Ty
-  pub scheme : IsSchemeOf said defs (written_in text ty) count tree
-  pub few : count ≤ 255
-  pub have : HaveType text said defs (rows ++ each text (written_in text ty) names) names tree
-  pub numbers : HaveNumbers rows → HaveNumbers (rows ++ each text (written_in text ty) names)
+pub data IsConstantsFault (from : ℕ) (text : List ℕ) (z : Seen) (rows : List (Row Written)) (names : List Spot) (ty : RawType) : SigFault → Type 0 where
+  long_name : {e : SigFault} → e ≡ fault.Limit limit.NameLength → (s : Spot) → Contains names s → 255 < length (spelled text s) → IsConstantsFault from text z rows names ty e
+  bad_type : {e : SigFault} → AreShort text names → IsWrittenFault text z.said z.definitions ty e → IsConstantsFault from text z rows names ty e
+  bad_name : {e : SigFault} → AreShort text names → IsSoundType text z.said ty → IsFirstConstant from text z rows names (written_in text ty) e → IsConstantsFault from text z rows names ty e
+  no_memory : {e : SigFault} → e ≡ fault.Memory → IsConstantsFault from text z rows names ty e
 
 -- a name is declared so far
 abbrev pub IsDeclared : List ℕ → List (Row Written) → Type 0
@@ -218,12 +252,3 @@ IsKnownAs b said defs rows name (known.Typed t) = (t.0 < length b.types) × HasT
 -- a type of the bank that is declared here, if there is one
 abbrev pub IfTyped : Option DeclaredType → (DeclaredType → Type 0) → Type 0
 IfTyped o P = (d : DeclaredType) → o ≡ Some d → P d
-
--- a name has its type behind its declaration, and if there were numbers for all there are
-pub record HasIts (said : List (Row Said)) (defs : List (Row Definition)) (rows : List (Row Written)) (row : Row Written) (t : Ty) : Type 0 where
-  pub has : HasType said defs (rows ++ row ∷ []) row.0 t
-  pub numbers : HaveNumbers rows → HaveNumbers (rows ++ row ∷ [])
-
-pub record HaveIts (text : List ℕ) (said : List (Row Said)) (defs : List (Row Definition)) (rows : List (Row Written)) (names : List Spot) (w : Written) (t : Ty) : Type 0 where
-  pub have : HaveType text said defs (rows ++ each text w names) names t
-  pub numbers : HaveNumbers rows → HaveNumbers (rows ++ each text w names)

@@ -1,9 +1,8 @@
 -- The constants behind texts.
-use Rattle.std.specs.Prelude.{◌≡◌, ℕ, List, [], ◌∷◌, ◌++◌, false}
+use Rattle.std.specs.Prelude.{List, [], ◌∷◌, ◌++◌}
 use Rattle.lp_sig.specs.Rows.{Row}
 use Rattle.lp_sig.specs.Abbreviations.{Seen, Text, seen_after}
-use Rattle.lp_sig.specs.Constants.{Written, constants_in, KnowsConstants, AreTyped}
-use Rattle.lp_sig.specs.Faults.{HaveFirstTypes}
+use Rattle.lp_sig.specs.Constants.{Written, constants_in, KnowsConstants, AreTyped, HaveFirstTypes}
 use Rattle.lp_sig.specs.Holding.{KnowsSeen}
 use Rattle.lp_sig.specs.declared.making.Making.{Making}
 
@@ -12,9 +11,9 @@ abbrev pub constants_after : List (Row Written) → List Text → List (Row Writ
 constants_after rows [] = rows
 constants_after rows (t ∷ ts) = constants_after (rows ++ constants_in t.0 t.1) ts
 
--- where no body is missing each constant has a type, which is that of the first one of its name
+-- each constant has a type, which is that of the first one of its name
 abbrev pub AreAllTyped : Making → Seen → List (Row Written) → Type 0
-AreAllTyped making z rows = making.missing ≡ false → AreTyped making.constants × HaveFirstTypes z.said z.definitions rows rows
+AreAllTyped making z rows = AreTyped making.constants × HaveFirstTypes z.said z.definitions rows rows
 
 -- behind these texts so many more constants are known
 abbrev pub Declares : Making → Making → List Text → Type 0

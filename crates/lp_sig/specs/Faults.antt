@@ -1,5 +1,5 @@
 -- Why a sentence is refused, and what holds of one that is taken, under all that is seen up to the end of its text.
-use Rattle.std.specs.Prelude.{◌≡◌, ℕ, ◌<◌, List, length, All}
+use Rattle.std.specs.Prelude.{◌≡◌, ℕ, ◌<◌, List, length, All, Some}
 use Rattle.lp_base.specs.declared.limit.Limit.TheVariants as limit
 use Rattle.lp_base.specs.declared.place.Spot.{Spot}
 use Rattle.lp_calculus.specs.Types.{Ty}
@@ -7,12 +7,14 @@ use Rattle.lp_syntax.specs.declared.text.Declaration.{Declaration}
 use Rattle.lp_syntax.specs.declared.text.Declaration.TheVariants.{Kinds, LocalKinds, Constants, Locals, Abbreviation, Accumulate, AccumSig, Fixities}
 use Rattle.lp_syntax.specs.declared.text.RawType.{RawType}
 use Rattle.lp_sig.specs.Pieces.{spelled}
+use Rattle.lp_sig.specs.Places.{first_place}
 use Rattle.lp_sig.specs.Rows.{Row}
 use Rattle.lp_sig.specs.Said.{Said, a_kind, an_abbreviation}
 use Rattle.lp_sig.specs.Limits.{AreApart, IsRepeated}
 use Rattle.lp_sig.specs.Words.{IsNameFault, IsMeant, AreMeant, AreNumbered, IsHead, IsFirstFault, WordsStand, parameters_of, IsKindsFault, IsSoundType}
-use Rattle.lp_sig.specs.Constants.{Written, IsSchemeOf, HasType, IsConstantsRefusal}
-use Rattle.lp_sig.specs.Types.{Definition, IsTypeOf, HasBody, by_parameters}
+use Rattle.lp_sig.specs.Standing.{BodyStands, TypeStands}
+use Rattle.lp_sig.specs.Constants.{Written, written_in, HasFewVariables, IsConstantsFault}
+use Rattle.lp_sig.specs.Types.{Definition, IsTypeOf, HasBody, IsAlike, by_parameters}
 use Rattle.lp_sig.specs.Abbreviations.{Seen, abbreviation_names, all_uses, LeadsBack}
 use Rattle.lp_sig.specs.declared.fault.SigFault.{SigFault}
 use Rattle.lp_sig.specs.declared.fault.SigFault.TheVariants as fault
@@ -55,40 +57,31 @@ pub record IsSoundAbbreviation (text : List ℕ) (z : Seen) (name : Spot) (ps : 
   pub straight : IsStraightHead text z name ps ty
   pub words : WordsStand text z.said (parameters_of text ps) ty.nodes.items
 
--- a name is declared with the type with which it is declared first
-pub record HasFirstType (said : List (Row Said)) (defs : List (Row Definition)) (all : List (Row Written)) (row : Row Written) : Type 0 where
-  pub count : ℕ
-  pub tree : Ty
-  pub scheme : IsSchemeOf said defs row.1 count tree
-  pub first : HasType said defs all row.0 tree
+-- a sentence of typeabbrev has the body of the first one of its name, if both stand
+abbrev pub HasFirstBody : ℕ → List ℕ → Seen → Spot → List Spot → RawType → Type 0
+HasFirstBody from text z name ps ty = TypeStands from z text ty → ((place : ℕ) → first_place (spelled text name) (abbreviation_names z.said) ≡ Some place → BodyStands from z place) → IsAlike z.said z.definitions (spelled text name) (record { text = text; parameters = ps; body = ty })
 
-abbrev pub HaveFirstTypes : List (Row Said) → List (Row Definition) → List (Row Written) → List (Row Written) → Type 0
-HaveFirstTypes said defs all rows = All (HasFirstType said defs all) rows
+-- why a sentence is refused, where these constants were declared before it, and what holds of one that is taken, but for the names of
+-- constants
+abbrev pub IsSentenceFault : ℕ → List ℕ → Seen → List (Row Written) → Declaration → SigFault → Type 0
+IsSentenceFault from text z rows (Kinds names n) e = IsKindsFault text z.said names.items n e
+IsSentenceFault from text z rows (LocalKinds names n) e = e ≡ fault.Memory
+IsSentenceFault from text z rows (Constants names ty) e = IsConstantsFault from text z rows names.items ty e
+IsSentenceFault from text z rows (Locals names ty) e = e ≡ fault.Memory
+IsSentenceFault from text z rows (Abbreviation name ps ty) e = IsAbbreviationFault text z name ps.items ty e
+IsSentenceFault from text z rows (Accumulate words) e = e ≡ fault.Memory
+IsSentenceFault from text z rows (AccumSig words) e = e ≡ fault.Memory
+IsSentenceFault from text z rows (Fixities names f n) e = e ≡ fault.Memory
 
--- why a sentence of constants is refused, where these were declared before it; of the names before the one at fault nothing is said
-abbrev pub IsConstantsFault : List ℕ → Seen → List (Row Written) → List Spot → RawType → SigFault → Type 0
-IsConstantsFault text z rows names ty e = IsConstantsRefusal ⊥ text z.said z.definitions rows names ty e
+abbrev pub IsSound : ℕ → List ℕ → Seen → Declaration → Type 0
+IsSound from text z (Kinds names n) = AreMeant text z.said (a_kind n) names.items × AreNumbered text z.said names.items
+IsSound from text z (LocalKinds names n) = Unit {0}
+IsSound from text z (Constants names ty) = IsSoundType text z.said ty × (TypeStands from z text ty → HasFewVariables z.said z.definitions (written_in text ty))
+IsSound from text z (Locals names ty) = Unit {0}
+IsSound from text z (Abbreviation name ps ty) = IsSoundAbbreviation text z name ps.items ty × HasFirstBody from text z name ps.items ty
+IsSound from text z (Accumulate words) = Unit {0}
+IsSound from text z (AccumSig words) = Unit {0}
+IsSound from text z (Fixities names f n) = Unit {0}
 
--- why a sentence is refused, where these constants were declared before it, and what holds of one that is taken
-abbrev pub IsSentenceFault : List ℕ → Seen → List (Row Written) → Declaration → SigFault → Type 0
-IsSentenceFault text z rows (Kinds names n) e = IsKindsFault text z.said names.items n e
-IsSentenceFault text z rows (LocalKinds names n) e = e ≡ fault.Memory
-IsSentenceFault text z rows (Constants names ty) e = IsConstantsFault text z rows names.items ty e
-IsSentenceFault text z rows (Locals names ty) e = e ≡ fault.Memory
-IsSentenceFault text z rows (Abbreviation name ps ty) e = IsAbbreviationFault text z name ps.items ty e
-IsSentenceFault text z rows (Accumulate words) e = e ≡ fault.Memory
-IsSentenceFault text z rows (AccumSig words) e = e ≡ fault.Memory
-IsSentenceFault text z rows (Fixities names f n) e = e ≡ fault.Memory
-
-abbrev pub IsSound : List ℕ → Seen → Declaration → Type 0
-IsSound text z (Kinds names n) = AreMeant text z.said (a_kind n) names.items × AreNumbered text z.said names.items
-IsSound text z (LocalKinds names n) = Unit {0}
-IsSound text z (Constants names ty) = IsSoundType text z.said ty
-IsSound text z (Locals names ty) = Unit {0}
-IsSound text z (Abbreviation name ps ty) = IsSoundAbbreviation text z name ps.items ty
-IsSound text z (Accumulate words) = Unit {0}
-IsSound text z (AccumSig words) = Unit {0}
-IsSound text z (Fixities names f n) = Unit {0}
-
-abbrev pub AreSound : List ℕ → Seen → List Declaration → Type 0
-AreSound text z lines = All (IsSound text z) lines
+abbrev pub AreSound : ℕ → List ℕ → Seen → List Declaration → Type 0
+AreSound from text z lines = All (IsSound from text z) lines

@@ -1,5 +1,5 @@
 -- What the tables of types hold: trees of the nodes of a type so far, and the bodies of abbreviations.
-use Rattle.std.specs.Prelude.{◌≡◌, ℕ, ◌<◌, List, [], map, Bool, true, false, Option, Some, None, length, slice_get, slice_index_or, Vec, codes, if◌then◌else◌}
+use Rattle.std.specs.Prelude.{is_some, ◌≡◌, ℕ, ◌<◌, List, map, true, Option, Some, None, length, slice_get, slice_index_or, Vec, codes, if◌then◌else◌}
 use Rattle.std.specs.Global.{Global}
 use Rattle.std.specs.Str.{bytes_eq}
 use Rattle.lp_base.specs.declared.place.Spot.{Spot}
@@ -20,7 +20,7 @@ use Rattle.lp_sig.specs.Said.{Said, is_among, names_in}
 use Rattle.lp_sig.specs.Knowing.{Knows, number_of}
 use Rattle.lp_sig.specs.Loading.{Way}
 use Rattle.lp_sig.specs.Abbreviations.{abbreviation_names, Seen, KnowsUses, Text, seen_after}
-use Rattle.lp_sig.specs.Types.{Definition, IsTypeOf, HasBody, by_parameters, on_arguments, one_or, AreAlike}
+use Rattle.lp_sig.specs.Types.{Definition, IsTypeOf, HasBody, on_arguments, one_or, AreAlike}
 use Rattle.lp_sig.specs.declared.bodies.Body.{Body}
 use Rattle.lp_sig.specs.declared.names.Names.{Names}
 use Rattle.lp_sig.specs.declared.making.Making.{Making}
@@ -127,12 +127,13 @@ pub record Sees (names : Names) (ways : List (List Way)) (b : Nodes) (bodies : L
   pub uses : KnowsUses ways z
   pub holds : HoldsBodies b bodies z.said z.definitions
 
--- the same between two texts
+-- the same between two texts, where each abbreviation has a body, and each of its sentences this one
 pub record KnowsSeen (making : Making) (z : Seen) : Type 0 where
   pub names : Knows making.names z.said
   pub uses : KnowsUses (map (λ out. out.items) making.uses.ways.items) z
   pub types : KnowsTypes making.bodies.types.bank making.bodies.bodies.items z
-  pub alike : making.missing ≡ false → AreAlike z.said z.definitions z.definitions
+  pub settled : (place : ℕ) → place < length making.bodies.bodies.items → is_some (body_of making.bodies.bodies.items place) ≡ true
+  pub alike : AreAlike z.said z.definitions z.definitions
 
 -- behind these texts so much more is known
 abbrev pub Follows : Making → Making → List Text → Type 0

@@ -1,6 +1,5 @@
 -- What texts say together, for laws on the definitions.
 use Rattle.std.specs.Prelude.{◌≡◌, ℕ, List, [], ◌∷◌, ◌++◌, length, Some}
-use Rattle.lp_syntax.specs.declared.text.Declaration.{Declaration}
 use Rattle.lp_sig.specs.Rows.{Row, found}
 use Rattle.lp_sig.specs.Said.{Said, an_abbreviation, said_in}
 use Rattle.lp_sig.specs.Words.{meaning_of}

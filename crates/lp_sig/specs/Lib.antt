@@ -14,7 +14,7 @@ pub mod Copying
 pub mod Schemes
 pub mod Types
 pub mod Holding
-pub mod Once
+pub mod Keys
 pub mod Faults
 pub mod Entries
 pub mod Worked
@@ -22,3 +22,6 @@ pub mod Constants
 pub mod Ordering
 pub mod Laws
 pub mod Declares
+pub mod UseOrder
+pub mod Standing
+pub mod Announced

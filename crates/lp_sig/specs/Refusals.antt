@@ -1,23 +1,20 @@
 -- Why signatures are refused, and at which spots.
 use Rattle.std.specs.Global.{Global}
-use Rattle.std.specs.Prelude.{◌≡◌, ◌≢◌, ℕ, ◌<◌, ◌⊎◌, List, [], ◌∷◌, ◌++◌, map, take, length, Contains, String, Vec, string_bytes, slice_index_or}
-use Rattle.lp_base.specs.declared.limit.Limit.{Limit}
-use Rattle.lp_base.specs.declared.limit.Limit.TheVariants as limit
+use Rattle.std.specs.Prelude.{◌≡◌, ◌≢◌, ℕ, ◌<◌, ◌⊎◌, List, [], ◌++◌, map, take, length, Contains, String, Vec, string_bytes, slice_index_or}
 use Rattle.lp_base.specs.declared.place.Spot.{Spot}
 use Rattle.lp_syntax.specs.declared.text.Declaration.{Declaration}
-use Rattle.lp_syntax.specs.declared.text.RawTypeNode.{RawTypeNode}
-use Rattle.lp_syntax.specs.declared.text.RawTypeNode.TheVariants.{Word, Arrow}
 use Rattle.lp_syntax.specs.declared.text.SignatureText.{SignatureText}
 use Rattle.lp_sig.specs.Pieces.{spelled}
 use Rattle.lp_fixity.specs.declared.fixity.Fixity.{Fixity}
 use Rattle.lp_sig.specs.Rows.{Row}
-use Rattle.lp_sig.specs.Faults.{IsSentenceFault, AreSound, HaveFirstTypes}
+use Rattle.lp_sig.specs.Faults.{IsSentenceFault, AreSound}
+use Rattle.lp_sig.specs.Standing.{seen_count, AllStand}
 use Rattle.lp_sig.specs.Types.{AreAlike}
-use Rattle.lp_sig.specs.Constants.{Written, constants_in, AreConstants, HaveNumbers}
+use Rattle.lp_sig.specs.Constants.{Written, constants_in, AreConstants, AreTakenConstants, HaveFirstTypes, HaveNumbers}
 use Rattle.lp_sig.specs.Entries.{AreAbbreviations}
 use Rattle.lp_sig.specs.Abbreviations.{Seen, nothing_seen, one_text, seen_text, seen_after}
 use Rattle.lp_sig.specs.Said.{numbered, firsts, kinds_among, declared_names, fixities_in, of_steps}
-use Rattle.lp_sig.specs.Limits.{AreWithin, IsRepeated}
+use Rattle.lp_sig.specs.Limits.{AreWithin}
 use Rattle.lp_sig.specs.Loading.{Way, ways_between, IsLoadOrder, HasNoCircle, IsFirstCircle}
 use Rattle.lp_term.specs.Nodes.{Nodes}
 use Rattle.lp_sig.specs.declared.entries.AbbreviationEntry.{AbbreviationEntry}
@@ -27,68 +24,22 @@ use Rattle.lp_sig.specs.declared.walk.Step.TheVariants.{Enter, Declare}
 use Rattle.lp_sig.specs.declared.fault.SigFault.{SigFault}
 use Rattle.lp_sig.specs.declared.fault.SigFault.TheVariants as fault
 
--- the words of a type
-abbrev pub words_of : List RawTypeNode → List Spot
-words_of [] = []
-words_of (Word s args ∷ ns) = s ∷ words_of ns
-words_of (Arrow a b ∷ ns) = words_of ns
-
--- the spots of a declaration: the names that it declares, those of them that are abbreviations, their parameters, and the words
--- of its type
-pub record Parts : Type 0 where
-  pub names : List Spot
-  pub heads : List Spot
-  pub parameters : List Spot
-  pub words : List Spot
-
--- names alone; names with a type
-abbrev pub named : List Spot → Parts
-named names = record { names = names; heads = []; parameters = []; words = [] }
-
-abbrev pub typed : List Spot → List Spot → Parts
-typed names words = record { names = names; heads = []; parameters = []; words = words }
-
--- the limits that a declaration passes: a name has more than 255 bytes, there are too many names (of which nothing is said), or too
--- many arguments
-abbrev pub IsLimitOf : List ℕ → Parts → Type 0 → Limit → Type 0
-IsLimitOf text p Many limit.NameLength = (s : Spot) × Contains p.names s × (255 < length (spelled text s))
-IsLimitOf text p Many limit.Names = Unit {0}
-IsLimitOf text p Many limit.Arguments = Many
-IsLimitOf text p Many _ = ⊥
-
--- why a declaration is refused: an unknown kind and a wrong count of arguments are words of its type, what is declared otherwise
--- is one of its names or the first parameter that stands a second time, and a circle is the name of an abbreviation
-abbrev pub IsFaultOf : List ℕ → Parts → Type 0 → SigFault → Type 0
-IsFaultOf text p Many (fault.UnknownKind s) = Contains p.words s
-IsFaultOf text p Many (fault.Arity s) = Contains p.words s
-IsFaultOf text p Many (fault.Differ s) = Contains p.names s ⊎ IsRepeated text p.parameters s
-IsFaultOf text p Many (fault.CyclicAbbreviation s) = Contains p.heads s
-IsFaultOf text p Many (fault.CyclicSignature s) = ⊥
-IsFaultOf text p Many (fault.Limit l) = IsLimitOf text p Many l
-IsFaultOf text p Many fault.Memory = Unit {0}
-IsFaultOf text p Many (fault.Header s) = ⊥
-
 abbrev pub IsAt : {A : Type 0} → List A → ℕ → A → Type 0
 IsAt xs i x = (i < length xs) × (slice_index_or xs i x ≡ x)
 
 -- why the declarations of a text are refused, where so much is seen up to its end, and these constants were declared before it: none
 -- before the one at fault passes a limit, or has a fault
-pub record IsFaultAt (text : List ℕ) (z : Seen) (rows : List (Row Written)) (lines : List Declaration) (e : SigFault) : Type 0 where
+pub record IsFaultAt (text : List ℕ) (from : ℕ) (z : Seen) (rows : List (Row Written)) (lines : List Declaration) (e : SigFault) : Type 0 where
   pub k : ℕ
   pub line : Declaration
   pub at_line : IsAt lines k line
-  pub why : IsSentenceFault text z (rows ++ constants_in text (take k lines)) line e
+  pub why : IsSentenceFault from text z (rows ++ constants_in text (take k lines)) line e
   pub before : AreWithin text (take k lines)
-  pub sound : AreSound text z (take k lines)
+  pub sound : AreSound from text z (take k lines)
+  pub constants : AreTakenConstants from z rows (constants_in text (take k lines))
 
-abbrev pub IsFaultIn : List ℕ → Seen → List (Row Written) → List Declaration → SigFault → Type 0
-IsFaultIn text z rows lines e = (e ≡ fault.Memory) ⊎ IsFaultAt text z rows lines e
-
--- a refusal for which no spot is to blame: the limit on names, or want of memory
-abbrev pub IsWant : SigFault → Type 0
-IsWant (fault.Limit limit.Names) = Unit {0}
-IsWant fault.Memory = Unit {0}
-IsWant _ = ⊥
+abbrev pub IsFaultIn : List ℕ → ℕ → Seen → List (Row Written) → List Declaration → SigFault → Type 0
+IsFaultIn text from z rows lines e = (e ≡ fault.Memory) ⊎ IsFaultAt text from z rows lines e
 
 -- the text of a number, with its name and its bytes
 pub record IsText (names : List (String Global)) (sources : List (Vec ℕ Global)) (texts : List SignatureText) (i : ℕ) (name : String Global) (source : Vec ℕ Global) (text : SignatureText) : Type 0 where
@@ -102,16 +53,18 @@ pub record IsAtFault (sources : List (Vec ℕ Global)) (texts : List SignatureTe
   pub text : SignatureText
   pub at_source : IsAt sources i source
   pub at_text : IsAt texts i text
-  pub fault : IsFaultIn source.items (seen_text z source.items text.lines.items) rows text.lines.items e
+  pub fault : IsFaultIn source.items (seen_count z) (seen_text z source.items text.lines.items) rows text.lines.items e
 
--- the declarations of a text are taken: none passes a limit, or has a fault
-pub record AreTaken (sources : List (Vec ℕ Global)) (texts : List SignatureText) (z : Seen) (i : ℕ) : Type 0 where
+-- the declarations of a text are taken: none passes a limit, or has a fault, and its abbreviations stand
+pub record AreTaken (sources : List (Vec ℕ Global)) (texts : List SignatureText) (z : Seen) (rows : List (Row Written)) (i : ℕ) : Type 0 where
   pub source : Vec ℕ Global
   pub text : SignatureText
   pub at_source : IsAt sources i source
   pub at_text : IsAt texts i text
   pub within : AreWithin source.items text.lines.items
-  pub sound : AreSound source.items (seen_text z source.items text.lines.items) text.lines.items
+  pub sound : AreSound (seen_count z) source.items (seen_text z source.items text.lines.items) text.lines.items
+  pub constants : AreTakenConstants (seen_count z) (seen_text z source.items text.lines.items) rows (constants_in source.items text.lines.items)
+  pub stand : AllStand (seen_count z) (seen_text z source.items text.lines.items)
 
 module _ (names : List (String Global)) (sources : List (Vec ℕ Global)) (texts : List SignatureText) where
   -- the header of a text is its name, or another word
@@ -135,9 +88,9 @@ module _ (names : List (String Global)) (sources : List (Vec ℕ Global)) (texts
   IsStepRefused z rows (Enter i) e = HasOtherHeader i e
   IsStepRefused z rows (Declare i) e = IsAtFault sources texts z rows i e
 
-  abbrev pub IsStepTaken : Seen → Step → Type 0
-  IsStepTaken z (Enter i) = HasItsHeader i
-  IsStepTaken z (Declare i) = AreTaken sources texts z i
+  abbrev pub IsStepTaken : Seen → List (Row Written) → Step → Type 0
+  IsStepTaken z rows (Enter i) = HasItsHeader i
+  IsStepTaken z rows (Declare i) = AreTaken sources texts z rows i
 
   -- what is seen behind the first so many steps
   abbrev pub seen_before : List Step → ℕ → Seen
@@ -156,7 +109,7 @@ module _ (names : List (String Global)) (sources : List (Vec ℕ Global)) (texts
 
   -- the first so many steps are taken
   abbrev pub AreStepsTaken : List Step → ℕ → Type 0
-  AreStepsTaken steps n = (k : ℕ) (s : Step) → k < n → IsAt steps k s → IsStepTaken (seen_before steps k) s
+  AreStepsTaken steps n = (k : ℕ) (s : Step) → k < n → IsAt steps k s → IsStepTaken (seen_before steps k) (constants_before steps k) s
 
   -- the ways of accum_sig between these texts
   abbrev pub ways : List (List Way)

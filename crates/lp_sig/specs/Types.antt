@@ -1,10 +1,8 @@
 -- The tree of a type as written, under all that was said, with abbreviations replaced by their bodies.
 use Rattle.std.specs.Global.{Global}
-use Rattle.std.specs.Prelude.{◌≡◌, ℕ, zero, suc, ◌<◌, min, List, [], ◌∷◌, ◌++◌, Bool, true, false, Option, Some, None, map, option_map, length, Vec, slice_index_or, if◌then◌else◌, All}
+use Rattle.std.specs.Prelude.{◌≡◌, ℕ, zero, suc, ◌<◌, min, List, [], ◌∷◌, ◌++◌, true, false, Option, Some, None, map, option_map, length, Vec, slice_index_or, All}
 use Rattle.lp_base.specs.declared.place.Spot.{Spot}
 use Rattle.lp_calculus.specs.Types.{Ty, var, con, arrow, tys, instance}
-use Rattle.lp_term.specs.Nodes.{Nodes, type_tree}
-use Rattle.lp_term.specs.declared.node.TypeId.{TypeId}
 use Rattle.lp_syntax.specs.declared.text.Declaration.{Declaration}
 use Rattle.lp_syntax.specs.declared.text.Declaration.TheVariants.{Kinds, LocalKinds, Constants, Locals, Abbreviation, Accumulate, AccumSig, Fixities}
 use Rattle.lp_syntax.specs.declared.text.RawType.{RawType}
@@ -15,6 +13,7 @@ use Rattle.lp_sig.specs.Places.{first_place}
 use Rattle.lp_sig.specs.Rows.{Row, found}
 use Rattle.lp_sig.specs.Standard.{standard_kinds}
 use Rattle.lp_sig.specs.Said.{Said, a_kind, an_abbreviation}
+use Rattle.lp_sig.specs.Limits.{AreApart}
 use Rattle.lp_sig.specs.Words.{meaning_of, number_said}
 
 -- the number of a kind: that of a standard name, else that of its place among the declared ones, as far as its type goes
@@ -62,8 +61,9 @@ abbrev pub IsNode : List RawTypeNode → ℕ → RawTypeNode → Type 0
 IsNode nodes i n = (i < length nodes) × (slice_index_or nodes i n ≡ n)
 
 -- the tree of a node of a type, under what is said of names and what abbreviations are declared as; a variable word has a number
--- by its node. A variable is this variable; a kind is its constructor on the trees of its arguments; an abbreviation is the tree of
--- its first body, whose variables are numbered by its parameters, with the trees of its arguments for them.
+-- by its node. A variable is this variable; a kind is its constructor on the trees of its arguments; an abbreviation, no parameter of
+-- which stands twice, is the tree of its first body, whose variables are numbered by its parameters, with the trees of its arguments
+-- for them.
 mutual
   pub data IsTypeOf (said : List (Row Said)) (defs : List (Row Definition)) : List ℕ → (ℕ → Spot → Option ℕ) → List RawTypeNode → ℕ → Ty → Type 0 where
     a_variable : {text : List ℕ} {ν : ℕ → Spot → Option ℕ} {nodes : List RawTypeNode} {i : ℕ} {t : Ty} → (s : Spot) → (args : Vec ℕ Global) → (n : ℕ) → IsNode nodes i (node.Word s args) → begins_variable (spelled text s) ≡ true →
@@ -72,7 +72,7 @@ mutual
         meaning_of (spelled text s) said ≡ Some (a_kind (length args.items)) → kind_number_of (spelled text s) said ≡ Some k → AreTypesOf said defs text ν nodes args.items ts → t ≡ con k (tys ts) → IsTypeOf said defs text ν nodes i t
     abbreviation_on : {text : List ℕ} {ν : ℕ → Spot → Option ℕ} {nodes : List RawTypeNode} {i : ℕ} {t : Ty} → (s : Spot) → (args : Vec ℕ Global) → (d : Definition) → (body : Ty) → (ts : List Ty) → IsNode nodes i (node.Word s args) →
         begins_variable (spelled text s) ≡ false → meaning_of (spelled text s) said ≡ Some (an_abbreviation (length args.items)) → found (spelled text s) defs ≡ Some d →
-        IsTypeOf said defs d.text (by_parameters d.text d.parameters) d.body.nodes.items d.body.root body → AreTypesOf said defs text ν nodes args.items ts → t ≡ on_arguments ts body → IsTypeOf said defs text ν nodes i t
+        AreApart d.text d.parameters → IsTypeOf said defs d.text (by_parameters d.text d.parameters) d.body.nodes.items d.body.root body → AreTypesOf said defs text ν nodes args.items ts → t ≡ on_arguments ts body → IsTypeOf said defs text ν nodes i t
     an_arrow : {text : List ℕ} {ν : ℕ → Spot → Option ℕ} {nodes : List RawTypeNode} {i : ℕ} {t : Ty} → (a b : ℕ) → (x y : Ty) → IsNode nodes i (node.Arrow a b) → IsTypeOf said defs text ν nodes a x → IsTypeOf said defs text ν nodes b y →
         t ≡ arrow x y → IsTypeOf said defs text ν nodes i t
 
@@ -81,10 +81,11 @@ mutual
     one_more : {text : List ℕ} {ν : ℕ → Spot → Option ℕ} {nodes : List RawTypeNode} {places : List ℕ} {ts : List Ty} → (i : ℕ) → (more : List ℕ) → (t : Ty) → (us : List Ty) → places ≡ i ∷ more → ts ≡ t ∷ us →
         IsTypeOf said defs text ν nodes i t → AreTypesOf said defs text ν nodes more us → AreTypesOf said defs text ν nodes places ts
 
--- the tree of what a name is declared as
+-- the tree of what a name is declared as, no parameter of which stands twice
 pub record HasBody (said : List (Row Said)) (defs : List (Row Definition)) (name : List ℕ) (t : Ty) : Type 0 where
   pub definition : Definition
   pub declared : found name defs ≡ Some definition
+  pub apart : AreApart definition.text definition.parameters
   pub is : IsTypeOf said defs definition.text (by_parameters definition.text definition.parameters) definition.body.nodes.items definition.body.root t
 
 -- what a name is declared as here has the tree of what it is declared as first

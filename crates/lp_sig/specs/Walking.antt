@@ -9,16 +9,16 @@ use Rattle.lp_sig.specs.declared.fault.SigFault.TheVariants as fault
 abbrev pub entries : List Way → List Step
 entries words = map (λ w. Enter w.1) words
 
--- what comes of a list of steps that are left, the next one first
-pub data Run (ways : List (List Way)) : List Bool → List Step → List Step → Type 0 where
-  over : {marks : List Bool} {left steps : List Step} → left ≡ [] → steps ≡ [] → Run ways marks left steps
-  own : {marks : List Bool} {left steps : List Step} → (i : ℕ) → (behind more : List Step) → left ≡ Declare i ∷ behind → Run ways marks behind more → steps ≡ Declare i ∷ more → Run ways marks left steps
-  go : {marks : List Bool} {left steps : List Step} → (i : ℕ) → (behind here more : List Step) → left ≡ Enter i ∷ behind → (mid : List Bool) → Loads ways marks i here mid → Run ways mid behind more → steps ≡ here ++ more → Run ways marks left steps
+-- what comes of a list of steps that are left, the next one first, with the marks behind it
+pub data Run (ways : List (List Way)) : List Bool → List Step → List Step → List Bool → Type 0 where
+  over : {marks end : List Bool} {left steps : List Step} → left ≡ [] → steps ≡ [] → end ≡ marks → Run ways marks left steps end
+  own : {marks end : List Bool} {left steps : List Step} → (i : ℕ) → (behind more : List Step) → left ≡ Declare i ∷ behind → Run ways marks behind more end → steps ≡ Declare i ∷ more → Run ways marks left steps end
+  go : {marks end : List Bool} {left steps : List Step} → (i : ℕ) → (behind here more : List Step) → left ≡ Enter i ∷ behind → (mid : List Bool) → Loads ways marks i here mid → Run ways mid behind more end → steps ≡ here ++ more → Run ways marks left steps end
 
 -- from one state of the walk to a later one; the next step is the last on the stack
 abbrev pub Moves : List (List Way) → List Bool → List Step → List Step → List Bool → List Step → List Step → Type 0
 Moves ways marks work steps marks' work' steps' =
-    (rest : List Step) → Run ways marks' (reverse work') rest → (all : List Step) × Run ways marks (reverse work) all × (steps' ++ rest ≡ steps ++ all)
+    (rest : List Step) (end : List Bool) → Run ways marks' (reverse work') rest end → (all : List Step) × Run ways marks (reverse work) all end × (steps' ++ rest ≡ steps ++ all)
 
 -- how much the places without a mark can add
 abbrev pub waiting : List Bool → List (List Way) → ℕ

@@ -9,7 +9,7 @@ use Rattle.lp_sig.specs.Pieces.{spelled, begins_variable}
 use Rattle.lp_sig.specs.Rows.{Row, found}
 use Rattle.lp_sig.specs.Standard.{standard_kinds}
 use Rattle.lp_sig.specs.Said.{Said, a_kind, an_abbreviation, is_among, numbered, kinds_among, declared_names}
-use Rattle.lp_sig.specs.Limits.{IsShort, AreShort, AreApart}
+use Rattle.lp_sig.specs.Limits.{IsShort, AreApart}
 use Rattle.lp_sig.specs.declared.fault.SigFault.{SigFault}
 use Rattle.lp_sig.specs.declared.fault.SigFault.TheVariants as fault
 
@@ -121,13 +121,6 @@ IsLongType nodes root = (n : ℕ) × (255 < n) × HasArguments nodes root n
 -- a declared type has at most 255 arguments as written, and its words have no fault
 abbrev pub IsSoundType : List ℕ → List (Row Said) → RawType → Type 0
 IsSoundType text said ty = (IsLongType ty.nodes.items ty.root → ⊥) × WordsStand text said None ty.nodes.items
-
--- why a declared type is refused: it has too many arguments, or a word has a fault, or it has too many arguments or type variables
--- behind its abbreviations
-pub data IsTypeFault (text : List ℕ) (said : List (Row Said)) (ty : RawType) : SigFault → Type 0 where
-  written : {e : SigFault} → e ≡ fault.Limit limit.Arguments → IsLongType ty.nodes.items ty.root → IsTypeFault text said ty e
-  of_word : {e : SigFault} → (IsLongType ty.nodes.items ty.root → ⊥) → IsFirstFault text said None ty.nodes.items e → IsTypeFault text said ty e
-  replaced : {e : SigFault} → e ≡ fault.Limit limit.Arguments → IsSoundType text said ty → IsTypeFault text said ty e
 
 -- an abbreviation's name means it, no parameter stands twice, and there are at most 255
 abbrev pub IsHead : List ℕ → List (Row Said) → Spot → List Spot → Type 0

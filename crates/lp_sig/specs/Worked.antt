@@ -1,12 +1,10 @@
 -- A worked signature: `typeabbrev (pair A B) A -> list B.` and the type `pair int (list A)`.
 use Rattle.std.specs.Global.{Global}
-use Rattle.std.specs.Prelude.{◌≡◌, ℕ, List, [], ◌∷◌, Option, Some, Vec, codes}
+use Rattle.std.specs.Prelude.{◌≡◌, ℕ, List, [], ◌∷◌, Some, Vec, codes}
 use Rattle.lp_base.specs.declared.place.Spot.{Spot}
-use Rattle.lp_calculus.specs.Types.{Ty, var, con, arrow, tys}
-use Rattle.lp_syntax.specs.declared.text.Declaration.{Declaration}
+use Rattle.lp_calculus.specs.Types.{var, con, arrow, tys}
 use Rattle.lp_syntax.specs.declared.text.Declaration.TheVariants as declaration
 use Rattle.lp_syntax.specs.declared.text.RawType.{RawType}
-use Rattle.lp_syntax.specs.declared.text.RawTypeNode.{RawTypeNode}
 use Rattle.lp_syntax.specs.declared.text.RawTypeNode.TheVariants.{Word, Arrow}
 use Rattle.lp_sig.specs.Types.{IsTypeOf, HasBody}
 use Rattle.lp_sig.specs.Abbreviations.{Seen, nothing_seen, seen_text, abbreviation_names}

@@ -8,6 +8,8 @@ ghost use Rattle.lp_syntax.specs.declared.text.Declaration.TheVariants as declar
 ghost use Rattle.lp_sig.specs.Pieces.{spelled};
 ghost use Rattle.lp_sig.specs.Types.{Definition, definitions_by, definitions_in};
 ghost use Rattle.lp_sig.specs.Holding.{KnowsBodies, line_of_text};
+ghost use Rattle.lp_sig.specs.Constants.{IsSettledAt};
+ghost use Rattle.lp_sig.specs.Announced.{AreAnnounced};
 ghost use Rattle.lp_sig.specs.Rows.{Row};
 ghost use Rattle.lp_sig.specs.Said.{Said, an_abbreviation, each, said_by, said_in};
 ghost use Rattle.lp_sig.specs.Knowing.{Knows};
@@ -27,11 +29,12 @@ impl Making {
     ) -> Result<(), Memory>
         ensures names { OnOk result ((said : List (Row Said)) → Knows self.old.names said → Knows self.new.names (said ++ each source.now (an_abbreviation parameters) (name ∷ []))) }
         ensures operators { self.new.operators ≡ self.old.operators }
-        ensures missing { self.new.missing ≡ self.old.missing }
         ensures constants { self.new.constants ≡ self.old.constants }
         ensures types { self.new.bodies.types ≡ self.old.bodies.types }
         ensures uses { self.new.uses ≡ self.old.uses }
         ensures bodies { OnOk result ((said : List (Row Said)) (defs : List (Row Definition)) (declared : ℕ → Option Declaration) (ps : Vec Spot Global) (ty : RawType) → Knows self.old.names said → declared line ≡ Some (declaration.Abbreviation name ps ty) → KnowsBodies self.old.bodies.types.bank self.old.bodies.bodies.items said defs source.now declared → KnowsBodies self.new.bodies.types.bank self.new.bodies.bodies.items (said ++ each source.now (an_abbreviation parameters) (name ∷ [])) (defs ++ (spelled source.now name, record { text = source.now; parameters = ps.items; body = ty }) ∷ []) source.now declared) }
+        ensures stay { OnOk result ((k : ℕ) → IsSettledAt self.old.bodies.bodies.items k → IsSettledAt self.new.bodies.bodies.items k) }
+        ensures lines { OnOk result ((from : ℕ) (said : List (Row Said)) (defs : List (Row Definition)) (declared : ℕ → Option Declaration) (ps : Vec Spot Global) (ty : RawType) → Knows self.old.names said → declared line ≡ Some (declaration.Abbreviation name ps ty) → KnowsBodies self.old.bodies.types.bank self.old.bodies.bodies.items said defs source.now declared → AreAnnounced from self.old.bodies.bodies.items said source.now declared → AreAnnounced from self.new.bodies.bodies.items (said ++ each source.now (an_abbreviation parameters) (name ∷ [])) source.now declared) }
     {
         if self
             .names
@@ -51,11 +54,12 @@ impl Making {
     ) -> Result<(), Memory>
         ensures names { OnOk result ((said : List (Row Said)) → Knows self.old.names said → Knows self.new.names (said ++ said_by source.now declaration.now)) }
         ensures operators { self.new.operators ≡ self.old.operators }
-        ensures missing { self.new.missing ≡ self.old.missing }
         ensures constants { self.new.constants ≡ self.old.constants }
         ensures types { self.new.bodies.types ≡ self.old.bodies.types }
         ensures uses { self.new.uses ≡ self.old.uses }
         ensures bodies { OnOk result ((said : List (Row Said)) (defs : List (Row Definition)) (declared : ℕ → Option Declaration) → Knows self.old.names said → declared line ≡ Some declaration.now → KnowsBodies self.old.bodies.types.bank self.old.bodies.bodies.items said defs source.now declared → KnowsBodies self.new.bodies.types.bank self.new.bodies.bodies.items (said ++ said_by source.now declaration.now) (defs ++ definitions_by source.now declaration.now) source.now declared) }
+        ensures stay { OnOk result ((k : ℕ) → IsSettledAt self.old.bodies.bodies.items k → IsSettledAt self.new.bodies.bodies.items k) }
+        ensures lines { OnOk result ((from : ℕ) (said : List (Row Said)) (defs : List (Row Definition)) (declared : ℕ → Option Declaration) → Knows self.old.names said → declared line ≡ Some declaration.now → KnowsBodies self.old.bodies.types.bank self.old.bodies.bodies.items said defs source.now declared → AreAnnounced from self.old.bodies.bodies.items said source.now declared → AreAnnounced from self.new.bodies.bodies.items (said ++ said_by source.now declaration.now) source.now declared) }
     {
         match declaration {
             Declaration::Kinds(names, arity) => {
@@ -79,11 +83,12 @@ impl Making {
     pub(crate) fn announce(&mut self, source: &[u8], text: &SignatureText) -> Result<(), Memory>
         ensures names { OnOk result ((said : List (Row Said)) → Knows self.old.names said → Knows self.new.names (said ++ said_in source.now text.now.lines.items)) }
         ensures operators { self.new.operators ≡ self.old.operators }
-        ensures missing { self.new.missing ≡ self.old.missing }
         ensures constants { self.new.constants ≡ self.old.constants }
         ensures types { self.new.bodies.types ≡ self.old.bodies.types }
         ensures uses { self.new.uses ≡ self.old.uses }
         ensures bodies { OnOk result ((said : List (Row Said)) (defs : List (Row Definition)) → Knows self.old.names said → KnowsBodies self.old.bodies.types.bank self.old.bodies.bodies.items said defs source.now (line_of_text text.now.lines.items) → KnowsBodies self.new.bodies.types.bank self.new.bodies.bodies.items (said ++ said_in source.now text.now.lines.items) (defs ++ definitions_in source.now text.now.lines.items) source.now (line_of_text text.now.lines.items)) }
+        ensures stay { OnOk result ((k : ℕ) → IsSettledAt self.old.bodies.bodies.items k → IsSettledAt self.new.bodies.bodies.items k) }
+        ensures lines { OnOk result ((from : ℕ) (said : List (Row Said)) (defs : List (Row Definition)) → Knows self.old.names said → KnowsBodies self.old.bodies.types.bank self.old.bodies.bodies.items said defs source.now (line_of_text text.now.lines.items) → AreAnnounced from self.old.bodies.bodies.items said source.now (line_of_text text.now.lines.items) → AreAnnounced from self.new.bodies.bodies.items (said ++ said_in source.now text.now.lines.items) source.now (line_of_text text.now.lines.items)) }
     {
         for (line, declaration) in text.lines.as_slice().iter().enumerate() {
             self.announce_line(source, declaration, line)?;

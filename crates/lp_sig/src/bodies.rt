@@ -1,5 +1,5 @@
 // The types so far, with the bodies of abbreviations at the places of their names.
-ghost use Rattle.std.specs.Prelude.{is_some, ◌≡◌, ◌<◌, ◌++◌, ◌∷◌, ℕ, [], length, map, slice_set, Some, None, true, false, OnOk};
+ghost use Rattle.std.specs.Prelude.{◌≡◌, ◌<◌, ◌++◌, ◌∷◌, ℕ, [], length, map, slice_set, Some, None, true, false, OnOk};
 ghost use Rattle.lp_term.specs.Nodes.{type_tree};
 ghost use Rattle.lp_term.specs.declared.node.TypeId.{TypeId};
 ghost use Rattle.lp_sig.specs.Holding.{body_of, line_at};
@@ -69,29 +69,6 @@ impl Bodies {
             return false;
         };
         !self.types.are_equal(known, new)
-    }
-
-    // Whether both the body of an abbreviation and this one have a type.
-    pub(crate) fn are_settled(&self, place: usize, body: Option<TypeId>) -> bool
-        ensures { result ≡ true → (known : TypeId) × (new : TypeId) × (body_of self.now.bodies.items place ≡ Some known) × (body ≡ Some new) }
-    {
-        match (self.body_at(place), body) {
-            (Some(_), Some(_)) => true,
-            (Some(_), None) => false,
-            (None, _) => false,
-        }
-    }
-
-    // Whether each abbreviation has a body.
-    pub(crate) fn are_all_settled(&self) -> bool
-        ensures { result ≡ true → (place : ℕ) → place < length self.now.bodies.items → is_some (body_of self.now.bodies.items place) ≡ true }
-    {
-        for place in 0..self.bodies.len() {
-            let Some(_) = self.body_at(place) else {
-                return false;
-            };
-        }
-        true
     }
 
     fn leave_at(&mut self, place: usize)

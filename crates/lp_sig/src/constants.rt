@@ -1,5 +1,5 @@
 // The constants so far, each with the type of its first declaration.
-ghost use Rattle.std.specs.Prelude.{◌≡◌, ◌<◌, ◌≤◌, ◌+◌, ◌++◌, ◌⊎◌, ℕ, List, [], ◌∷◌, length, Some, None, IfErr, IfOk, IfSome, OnOk};
+ghost use Rattle.std.specs.Prelude.{◌≡◌, ◌<◌, ◌≤◌, ◌+◌, ◌++◌, ◌⊎◌, ℕ, List, [], ◌∷◌, length, Some, None, true, is_some, IfErr, IfOk, IfSome, OnOk};
 ghost use Rattle.lp_base.specs.declared.limit.Limit.TheVariants as limit;
 ghost use Rattle.lp_term.specs.Nodes.{Nodes, Extends, type_tree};
 ghost use Rattle.lp_sig.specs.declared.fault.SigFault.TheVariants as fault;
@@ -8,8 +8,9 @@ ghost use Rattle.lp_sig.specs.Rows.{Row, found};
 ghost use Rattle.lp_sig.specs.Standard.{standard_constants};
 ghost use Rattle.lp_sig.specs.Said.{Said, each};
 ghost use Rattle.lp_sig.specs.Types.{Definition};
-ghost use Rattle.lp_sig.specs.Constants.{Written, IsNoted, IsConstant, IsTyped, IfTyped, KnowsConstants, AreTyped, IsKnownAs, AreConstants, HaveNumbers, HasIts, HaveIts, IsConstantFault, IsFirstConstant};
-ghost use Rattle.lp_sig.specs.Refusals.{IsFaultOf, IsWant, named};
+ghost use Rattle.lp_sig.specs.Abbreviations.{Seen};
+ghost use Rattle.lp_sig.specs.Standing.{TypeStands};
+ghost use Rattle.lp_sig.specs.Constants.{Written, IsNoted, IsConstant, IsTyped, IfTyped, KnowsConstants, AreTyped, AreTypedIf, FirstStands, IsTakenConstant, AreTakenConstants, IsKnownAs, AreConstants, HaveNumbers, IsConstantFault, IsFirstConstant};
 ghost use Rattle.lp_sig.specs.declared.constants.Known.TheVariants as known;
 
 use crate::entries::ConstantEntry;
@@ -129,10 +130,9 @@ impl Constants {
         word: &[u8],
         declared: Option<DeclaredType>,
     ) -> Result<(), SigFault>
-        ensures want { IfErr result IsWant }
         ensures full { IfErr result (λ e. (e ≡ fault.Memory) ⊎ ((e ≡ fault.Limit limit.Names) × ((d : DeclaredType) × (declared ≡ Some d)) × (65535 ≤ 32 + length self.old.constants.items))) }
         ensures added { OnOk result ((b : Nodes) (said : List (Row Said)) (defs : List (Row Definition)) (rows : List (Row Written)) (w : Written) → KnowsConstants b self.old said defs rows → (found word.now standard_constants ≡ None) × (found word.now rows ≡ None) → IfTyped declared (IsTyped b said defs w) → KnowsConstants b self.new said defs (rows ++ (word.now, w) ∷ [])) }
-        ensures typed { OnOk result ((d : DeclaredType) → declared ≡ Some d → AreTyped self.old → AreTyped self.new) }
+        ensures typed { OnOk result ((from : ℕ) (z : Seen) (rows : List (Row Written)) (w : Written) → (found word.now standard_constants ≡ None) × (found word.now rows ≡ None) → AreTypedIf from z rows self.old → (TypeStands from z w.text w.raw → is_some declared ≡ true) → AreTypedIf from z (rows ++ (word.now, w) ∷ []) self.new) }
         ensures room { OnOk result (IfTyped declared (λ d. 32 + length self.old.constants.items < 65535)) }
     {
         let place = self.constants.len();
@@ -147,7 +147,7 @@ impl Constants {
     pub(crate) fn known_as(&self, types: &mut Types, word: &[u8]) -> Result<Known, Memory>
         ensures kept { Extends types.old.bank types.new.bank }
         ensures is { IfOk result (λ k. (said : List (Row Said)) (defs : List (Row Definition)) (rows : List (Row Written)) → KnowsConstants types.old.bank self.now said defs rows → IsKnownAs types.new.bank said defs rows word.now k) }
-        ensures untyped { IfOk result (λ k. k ≡ known.Untyped → AreTyped self.now → ⊥) }
+        ensures untyped { IfOk result (λ k. k ≡ known.Untyped → (from : ℕ) (z : Seen) (rows : List (Row Written)) → KnowsConstants types.old.bank self.now z.said z.definitions rows → AreTypedIf from z rows self.now → FirstStands from z rows word.now → ⊥) }
     {
         if let Some(number) = standard_constant(word) {
             let known = standard_type(types, number)?;
@@ -173,12 +173,11 @@ impl Constants {
         name: Spot,
         declared: Option<DeclaredType>,
     ) -> Result<(), SigFault>
-        ensures refused { IfErr result (IsFaultOf source.now (named (name ∷ [])) ⊥) }
         ensures kept { Extends types.old.bank types.new.bank }
         ensures why { IfErr result (λ e. (e ≡ fault.Memory) ⊎ ((d : DeclaredType) × (declared ≡ Some d) × ((said : List (Row Said)) (defs : List (Row Definition)) (rows : List (Row Written)) → KnowsConstants types.old.bank self.old said defs rows → d.scheme.0 < length types.old.bank.types → IsConstantFault said defs rows (spelled source.now name) (type_tree types.old.bank d.scheme.0) name e))) }
         ensures known { OnOk result ((said : List (Row Said)) (defs : List (Row Definition)) (rows : List (Row Written)) (w : Written) → KnowsConstants types.old.bank self.old said defs rows → IfTyped declared (IsTyped types.old.bank said defs w) → KnowsConstants types.new.bank self.new said defs (rows ++ (spelled source.now name, w) ∷ [])) }
-        ensures typed { OnOk result ((d : DeclaredType) → declared ≡ Some d → AreTyped self.old → AreTyped self.new) }
-        ensures has { OnOk result ((said : List (Row Said)) (defs : List (Row Definition)) (rows : List (Row Written)) (w : Written) → KnowsConstants types.old.bank self.old said defs rows → AreTyped self.old → (d : DeclaredType) → declared ≡ Some d → IsTyped types.old.bank said defs w d → HasIts said defs rows (spelled source.now name, w) (type_tree types.old.bank d.scheme.0)) }
+        ensures typed { OnOk result ((from : ℕ) (z : Seen) (rows : List (Row Written)) (w : Written) → KnowsConstants types.old.bank self.old z.said z.definitions rows → AreTypedIf from z rows self.old → (TypeStands from z w.text w.raw → is_some declared ≡ true) → AreTypedIf from z (rows ++ (spelled source.now name, w) ∷ []) self.new) }
+        ensures taken { OnOk result ((from : ℕ) (z : Seen) (rows : List (Row Written)) (w : Written) → KnowsConstants types.old.bank self.old z.said z.definitions rows → IfTyped declared (IsTyped types.old.bank z.said z.definitions w) → AreTypedIf from z rows self.old → (TypeStands from z w.text w.raw → is_some declared ≡ true) → IsTakenConstant from z rows (spelled source.now name, w)) }
     {
         let word = spelled_at(source, name);
         match self.known_as(types, word)? {
@@ -203,12 +202,11 @@ impl Constants {
         names: &[Spot],
         declared: Option<DeclaredType>,
     ) -> Result<(), SigFault>
-        ensures refused { IfErr result (IsFaultOf source.now (named names.now) ⊥) }
         ensures kept { Extends types.old.bank types.new.bank }
-        ensures why { IfErr result (λ e. (e ≡ fault.Memory) ⊎ ((d : DeclaredType) × (declared ≡ Some d) × ((said : List (Row Said)) (defs : List (Row Definition)) (rows : List (Row Written)) (w : Written) → KnowsConstants types.old.bank self.old said defs rows → IsTyped types.old.bank said defs w d → IsFirstConstant (AreTyped self.old) source.now said defs rows names.now w e))) }
+        ensures why { IfErr result (λ e. (e ≡ fault.Memory) ⊎ ((d : DeclaredType) × (declared ≡ Some d) × ((from : ℕ) (z : Seen) (rows : List (Row Written)) (w : Written) → KnowsConstants types.old.bank self.old z.said z.definitions rows → IsTyped types.old.bank z.said z.definitions w d → d.type_vars ≤ 255 → AreTypedIf from z rows self.old → IsFirstConstant from source.now z rows names.now w e))) }
         ensures known { OnOk result ((said : List (Row Said)) (defs : List (Row Definition)) (rows : List (Row Written)) (w : Written) → KnowsConstants types.old.bank self.old said defs rows → IfTyped declared (IsTyped types.old.bank said defs w) → KnowsConstants types.new.bank self.new said defs (rows ++ each source.now w names.now)) }
-        ensures typed { OnOk result ((d : DeclaredType) → declared ≡ Some d → AreTyped self.old → AreTyped self.new) }
-        ensures has { OnOk result ((said : List (Row Said)) (defs : List (Row Definition)) (rows : List (Row Written)) (w : Written) → KnowsConstants types.old.bank self.old said defs rows → AreTyped self.old → (d : DeclaredType) → declared ≡ Some d → IsTyped types.old.bank said defs w d → HaveIts source.now said defs rows names.now w (type_tree types.old.bank d.scheme.0)) }
+        ensures typed { OnOk result ((from : ℕ) (z : Seen) (rows : List (Row Written)) (w : Written) → KnowsConstants types.old.bank self.old z.said z.definitions rows → IfTyped declared (IsTyped types.old.bank z.said z.definitions w) → AreTypedIf from z rows self.old → (TypeStands from z w.text w.raw → is_some declared ≡ true) → AreTypedIf from z (rows ++ each source.now w names.now) self.new) }
+        ensures taken { OnOk result ((from : ℕ) (z : Seen) (rows : List (Row Written)) (w : Written) → KnowsConstants types.old.bank self.old z.said z.definitions rows → IfTyped declared (IsTyped types.old.bank z.said z.definitions w) → AreTypedIf from z rows self.old → (TypeStands from z w.text w.raw → is_some declared ≡ true) → AreTakenConstants from z rows (each source.now w names.now)) }
     {
         for name in names {
             self.declare(types, source, *name, declared)?;

@@ -1,16 +1,16 @@
 // What the declarations of a text say, line by line.
-ghost use Rattle.std.specs.Prelude.{◌<◌, ◌≤◌, ◌≡◌, ◌++◌, ℕ, List, [], ◌∷◌, length, Contains, IfErr, IfOk, OnOk, Some, map, true, false};
+ghost use Rattle.std.specs.Prelude.{◌<◌, ◌≤◌, ◌≡◌, ◌++◌, ℕ, List, length, Contains, IfErr, IfOk, OnOk, Some, map};
 ghost use Rattle.lp_base.specs.declared.limit.Limit.TheVariants as limit;
 ghost use Rattle.lp_sig.specs.declared.fault.SigFault.TheVariants as fault;
 ghost use Rattle.lp_sig.specs.Pieces.{spelled};
-ghost use Rattle.lp_sig.specs.Refusals.{IsFaultOf, IsFaultIn, named};
+ghost use Rattle.lp_sig.specs.Refusals.{IsFaultIn};
 ghost use Rattle.lp_fixity.specs.declared.fixity.Fixity.{Fixity as IsFixity};
 ghost use Rattle.lp_sig.specs.Rows.{Row};
 ghost use Rattle.lp_sig.specs.Said.{Said, a_kind, an_abbreviation, each, fixities_by, fixities_in};
 ghost use Rattle.lp_sig.specs.Words.{IsNameFault, IsMeant, AreMeant, IsNumbered, AreNumbered, IsKindsFault, IsSoundType};
-ghost use Rattle.lp_sig.specs.Faults.{IsAbbreviationFault, IsSoundAbbreviation, IsSentenceFault, IsSound, AreSound, HaveFirstTypes};
+ghost use Rattle.lp_sig.specs.Standing.{seen_count, AllStand, TypeStands};
+ghost use Rattle.lp_sig.specs.Faults.{IsAbbreviationFault, IsSoundAbbreviation, HasFirstBody, IsSentenceFault, IsSound, AreSound};
 ghost use Rattle.lp_sig.specs.Declares.{AreAllTyped};
-ghost use Rattle.lp_sig.specs.Types.{definitions_by, IsAlike, AreAlike};
 ghost use Rattle.lp_sig.specs.Knowing.{Knows, KnowsOperators};
 ghost use Rattle.lp_sig.specs.Limits.{IsShort, AreShort, AreApart, IsWithin, AreWithin};
 ghost use Rattle.lp_base.specs.declared.place.Spot.{Spot};
@@ -19,7 +19,7 @@ ghost use Rattle.lp_sig.specs.Places.{first_place};
 ghost use Rattle.lp_sig.specs.Abbreviations.{abbreviation_names, Seen, seen_text};
 ghost use Rattle.lp_sig.specs.Holding.{Sees, KnowsSeen, HoldsBodies};
 ghost use Rattle.lp_sig.specs.Types.{Definition};
-ghost use Rattle.lp_sig.specs.Constants.{Written, written_in, constants_by, constants_in, KnowsConstants, AreSettled, AreTyped, AreDeclared, IsConstantsRefusal};
+ghost use Rattle.lp_sig.specs.Constants.{Written, written_in, constants_by, constants_in, KnowsConstants, AreSettledIf, AreTypedIf, AreTakenConstants, HasFewVariables, IsConstantsFault};
 
 use crate::bodies::Bodies;
 use crate::constants::Constants;
@@ -36,7 +36,6 @@ use lp_syntax::{Declaration, RawType, SignatureText};
 
 // A declared name has at most 255 bytes.
 pub(crate) fn check_length(source: &[u8], name: Spot) -> Result<(), SigFault>
-    ensures refused { IfErr result (IsFaultOf source.now (named (name ∷ [])) ⊥) }
     ensures long { IfErr result (λ e. (e ≡ fault.Limit limit.NameLength) × (255 < length (spelled source.now name))) }
     ensures taken { IfOk result (λ done. IsShort source.now name) }
 {
@@ -47,7 +46,6 @@ pub(crate) fn check_length(source: &[u8], name: Spot) -> Result<(), SigFault>
 }
 
 pub(crate) fn check_lengths(source: &[u8], names: &[Spot]) -> Result<(), SigFault>
-    ensures refused { IfErr result (IsFaultOf source.now (named names.now) ⊥) }
     ensures long { IfErr result (λ e. (e ≡ fault.Limit limit.NameLength) × ((s : Spot) × Contains names.now s × (255 < length (spelled source.now s)))) }
     ensures taken { IfOk result (λ done. AreShort source.now names.now) }
 {
@@ -142,8 +140,9 @@ pub(crate) fn declare_constants(
     ensures kept { Extends bodies.old.types.bank bodies.new.types.bank }
     ensures bodies { bodies.new.bodies ≡ bodies.old.bodies }
     ensures constants { OnOk result ((said : List (Row Said)) (defs : List (Row Definition)) (rows : List (Row Written)) → Knows names.now said → HoldsBodies bodies.old.types.bank bodies.old.bodies.items said defs → KnowsConstants bodies.old.types.bank constants.old said defs rows → KnowsConstants bodies.new.types.bank constants.new said defs (rows ++ each source.now (written_in source.now raw.now) spots.now)) }
-    ensures exact { (said : List (Row Said)) (defs : List (Row Definition)) (rows : List (Row Written)) → Knows names.now said → HoldsBodies bodies.old.types.bank bodies.old.bodies.items said defs → KnowsConstants bodies.old.types.bank constants.old said defs rows → IfErr result (IsConstantsRefusal (AreTyped constants.old) source.now said defs rows spots.now raw.now) }
-    ensures declared { (said : List (Row Said)) (defs : List (Row Definition)) (rows : List (Row Written)) → Knows names.now said → HoldsBodies bodies.old.types.bank bodies.old.bodies.items said defs → KnowsConstants bodies.old.types.bank constants.old said defs rows → AreSettled bodies.old.bodies.items said → AreTyped constants.old → IfOk result (λ done. AreTyped constants.new × AreDeclared source.now said defs rows spots.now raw.now) }
+    ensures exact { (from : ℕ) (z : Seen) (rows : List (Row Written)) → Knows names.now z.said → HoldsBodies bodies.old.types.bank bodies.old.bodies.items z.said z.definitions → AreSettledIf from z bodies.old.bodies.items → KnowsConstants bodies.old.types.bank constants.old z.said z.definitions rows → AreTypedIf from z rows constants.old → IfErr result (IsConstantsFault from source.now z rows spots.now raw.now) }
+    ensures few { (from : ℕ) (z : Seen) → Knows names.now z.said → HoldsBodies bodies.old.types.bank bodies.old.bodies.items z.said z.definitions → AreSettledIf from z bodies.old.bodies.items → IfOk result (λ done. TypeStands from z source.now raw.now → HasFewVariables z.said z.definitions (written_in source.now raw.now)) }
+    ensures declared { (from : ℕ) (z : Seen) (rows : List (Row Written)) → Knows names.now z.said → HoldsBodies bodies.old.types.bank bodies.old.bodies.items z.said z.definitions → AreSettledIf from z bodies.old.bodies.items → KnowsConstants bodies.old.types.bank constants.old z.said z.definitions rows → AreTypedIf from z rows constants.old → IfOk result (λ done. AreTypedIf from z (rows ++ each source.now (written_in source.now raw.now) spots.now) constants.new × AreTakenConstants from z rows (each source.now (written_in source.now raw.now) spots.now)) }
 {
     check_lengths(source, spots)?;
     let declared = bodies.scheme(names, source, raw)?;
@@ -151,8 +150,8 @@ pub(crate) fn declare_constants(
 }
 
 impl Bodies {
-    // A sentence of typeabbrev. Says whether its body was compared with the first one of its name: both have a type, unless an
-    // abbreviation that they use has a fault.
+    // A sentence of typeabbrev. Its body is compared with the first one of its name, unless an abbreviation that they use has a
+    // fault: then one of them has no type.
     pub(crate) fn declare_abbreviation(
         &mut self,
         names: &Names,
@@ -161,11 +160,11 @@ impl Bodies {
         name: Spot,
         parameters: &[Spot],
         raw: &RawType,
-    ) -> Result<bool, SigFault>
+    ) -> Result<(), SigFault>
         ensures why { (z : Seen) → Sees names.now (map (λ out. out.items) uses.now.ways.items) self.old.types.bank self.old.bodies.items z → IfErr result (IsAbbreviationFault source.now z name parameters.now raw.now) }
-        ensures taken { IfOk result (λ compared. IsShort source.now name × AreApart source.now parameters.now × (length parameters.now ≤ 255)) }
-        ensures stand { (z : Seen) → Sees names.now (map (λ out. out.items) uses.now.ways.items) self.old.types.bank self.old.bodies.items z → IfOk result (λ compared. IsSoundAbbreviation source.now z name parameters.now raw.now) }
-        ensures same { (z : Seen) → Sees names.now (map (λ out. out.items) uses.now.ways.items) self.old.types.bank self.old.bodies.items z → IfOk result (λ compared. compared ≡ true → IsAlike z.said z.definitions (spelled source.now name) (record { text = source.now; parameters = parameters.now; body = raw.now })) }
+        ensures taken { IfOk result (λ done. IsShort source.now name × AreApart source.now parameters.now × (length parameters.now ≤ 255)) }
+        ensures stand { (z : Seen) → Sees names.now (map (λ out. out.items) uses.now.ways.items) self.old.types.bank self.old.bodies.items z → IfOk result (λ done. IsSoundAbbreviation source.now z name parameters.now raw.now) }
+        ensures same { (from : ℕ) (z : Seen) → Sees names.now (map (λ out. out.items) uses.now.ways.items) self.old.types.bank self.old.bodies.items z → AreSettledIf from z self.old.bodies.items → IfOk result (λ done. HasFirstBody from source.now z name parameters.now raw.now) }
         ensures kept { Extends self.old.types.bank self.new.types.bank }
         ensures bodies { self.new.bodies ≡ self.old.bodies }
     {
@@ -182,14 +181,8 @@ impl Bodies {
         if self.has_other_body(place, body) {
             return Err(SigFault::Differ(name));
         }
-        Ok(self.are_settled(place, body))
+        Ok(())
     }
-}
-
-fn is_missing(known: bool, compared: bool) -> bool
-    ensures { result ≡ false → (known ≡ false) × (compared ≡ true) }
-{
-    known || !compared
 }
 
 impl Making {
@@ -203,8 +196,7 @@ impl Making {
         ensures why { (z : Seen) → Sees self.old.names (map (λ out. out.items) self.old.uses.ways.items) self.old.bodies.types.bank self.old.bodies.bodies.items z → IfErr result (IsAbbreviationFault source.now z name parameters.now raw.now) }
         ensures taken { IfOk result (λ done. IsShort source.now name × AreApart source.now parameters.now × (length parameters.now ≤ 255)) }
         ensures stand { (z : Seen) → Sees self.old.names (map (λ out. out.items) self.old.uses.ways.items) self.old.bodies.types.bank self.old.bodies.bodies.items z → IfOk result (λ done. IsSoundAbbreviation source.now z name parameters.now raw.now) }
-        ensures same { (z : Seen) → Sees self.old.names (map (λ out. out.items) self.old.uses.ways.items) self.old.bodies.types.bank self.old.bodies.bodies.items z → IfOk result (λ done. self.new.missing ≡ false → IsAlike z.said z.definitions (spelled source.now name) (record { text = source.now; parameters = parameters.now; body = raw.now })) }
-        ensures missing { self.new.missing ≡ false → self.old.missing ≡ false }
+        ensures same { (from : ℕ) (z : Seen) → Sees self.old.names (map (λ out. out.items) self.old.uses.ways.items) self.old.bodies.types.bank self.old.bodies.bodies.items z → AreSettledIf from z self.old.bodies.bodies.items → IfOk result (λ done. HasFirstBody from source.now z name parameters.now raw.now) }
         ensures names { self.new.names ≡ self.old.names }
         ensures uses { self.new.uses ≡ self.old.uses }
         ensures constants { self.new.constants ≡ self.old.constants }
@@ -212,26 +204,16 @@ impl Making {
         ensures kept { Extends self.old.bodies.types.bank self.new.bodies.types.bank }
         ensures bodies { self.new.bodies.bodies ≡ self.old.bodies.bodies }
     {
-        match self
-            .bodies
+        self.bodies
             .declare_abbreviation(&self.names, &self.uses, source, name, parameters, raw)
-        {
-            Ok(compared) => {
-                self.missing = is_missing(self.missing, compared);
-                Ok(())
-            }
-            Err(fault) => Err(fault),
-        }
     }
 
     fn declare_line(&mut self, source: &[u8], declaration: &Declaration) -> Result<(), SigFault>
-        ensures why { (z : Seen) (rows : List (Row Written)) → Sees self.old.names (map (λ out. out.items) self.old.uses.ways.items) self.old.bodies.types.bank self.old.bodies.bodies.items z → KnowsConstants self.old.bodies.types.bank self.old.constants z.said z.definitions rows → IfErr result (IsSentenceFault source.now z rows declaration.now) }
+        ensures why { (from : ℕ) (z : Seen) (rows : List (Row Written)) → Sees self.old.names (map (λ out. out.items) self.old.uses.ways.items) self.old.bodies.types.bank self.old.bodies.bodies.items z → AreSettledIf from z self.old.bodies.bodies.items → KnowsConstants self.old.bodies.types.bank self.old.constants z.said z.definitions rows → AreTypedIf from z rows self.old.constants → IfErr result (IsSentenceFault from source.now z rows declaration.now) }
         ensures constants { OnOk result ((z : Seen) (rows : List (Row Written)) → Sees self.old.names (map (λ out. out.items) self.old.uses.ways.items) self.old.bodies.types.bank self.old.bodies.bodies.items z → KnowsConstants self.old.bodies.types.bank self.old.constants z.said z.definitions rows → KnowsConstants self.new.bodies.types.bank self.new.constants z.said z.definitions (rows ++ constants_by source.now declaration.now)) }
-        ensures declared { (z : Seen) (rows : List (Row Written)) → Sees self.old.names (map (λ out. out.items) self.old.uses.ways.items) self.old.bodies.types.bank self.old.bodies.bodies.items z → KnowsConstants self.old.bodies.types.bank self.old.constants z.said z.definitions rows → AreSettled self.old.bodies.bodies.items z.said → AreTyped self.old.constants → IfOk result (λ done. AreTyped self.new.constants × HaveFirstTypes z.said z.definitions (rows ++ constants_by source.now declaration.now) (constants_by source.now declaration.now)) }
+        ensures declared { (from : ℕ) (z : Seen) (rows : List (Row Written)) → Sees self.old.names (map (λ out. out.items) self.old.uses.ways.items) self.old.bodies.types.bank self.old.bodies.bodies.items z → AreSettledIf from z self.old.bodies.bodies.items → KnowsConstants self.old.bodies.types.bank self.old.constants z.said z.definitions rows → AreTypedIf from z rows self.old.constants → IfOk result (λ done. AreTypedIf from z (rows ++ constants_by source.now declaration.now) self.new.constants × AreTakenConstants from z rows (constants_by source.now declaration.now)) }
         ensures taken { IfOk result (λ done. IsWithin source.now declaration.now) }
-        ensures sound { (z : Seen) → Sees self.old.names (map (λ out. out.items) self.old.uses.ways.items) self.old.bodies.types.bank self.old.bodies.bodies.items z → IfOk result (λ done. IsSound source.now z declaration.now) }
-        ensures same { (z : Seen) → Sees self.old.names (map (λ out. out.items) self.old.uses.ways.items) self.old.bodies.types.bank self.old.bodies.bodies.items z → IfOk result (λ done. self.new.missing ≡ false → AreAlike z.said z.definitions (definitions_by source.now declaration.now)) }
-        ensures missing { self.new.missing ≡ false → self.old.missing ≡ false }
+        ensures sound { (from : ℕ) (z : Seen) → Sees self.old.names (map (λ out. out.items) self.old.uses.ways.items) self.old.bodies.types.bank self.old.bodies.bodies.items z → AreSettledIf from z self.old.bodies.bodies.items → IfOk result (λ done. IsSound from source.now z declaration.now) }
         ensures names { self.new.names ≡ self.old.names }
         ensures uses { self.new.uses ≡ self.old.uses }
         ensures kept { Extends self.old.bodies.types.bank self.new.bodies.types.bank }
@@ -267,10 +249,12 @@ impl Making {
 
     // The declarations of a signature's own text, or the first fault in text order.
     pub(crate) fn declare(&mut self, source: &[u8], text: &SignatureText) -> Result<(), SigFault>
-        ensures refused { (z : Seen) (rows : List (Row Written)) → KnowsSeen self.old z → KnowsConstants self.old.bodies.types.bank self.old.constants z.said z.definitions rows → IfErr result (IsFaultIn source.now (seen_text z source.now text.now.lines.items) rows text.now.lines.items) }
+        ensures refused { (z : Seen) (rows : List (Row Written)) → KnowsSeen self.old z → KnowsConstants self.old.bodies.types.bank self.old.constants z.said z.definitions rows → AreAllTyped self.old z rows → IfErr result (IsFaultIn source.now (seen_count z) (seen_text z source.now text.now.lines.items) rows text.now.lines.items) }
         ensures constants { OnOk result ((z : Seen) (rows : List (Row Written)) → KnowsSeen self.old z → KnowsConstants self.old.bodies.types.bank self.old.constants z.said z.definitions rows → KnowsConstants self.new.bodies.types.bank self.new.constants (seen_text z source.now text.now.lines.items).said (seen_text z source.now text.now.lines.items).definitions (rows ++ constants_in source.now text.now.lines.items) × (AreAllTyped self.old z rows → AreAllTyped self.new (seen_text z source.now text.now.lines.items) (rows ++ constants_in source.now text.now.lines.items))) }
         ensures taken { IfOk result (λ done. AreWithin source.now text.now.lines.items) }
-        ensures sound { (z : Seen) → KnowsSeen self.old z → IfOk result (λ done. AreSound source.now (seen_text z source.now text.now.lines.items) text.now.lines.items) }
+        ensures declared { (z : Seen) (rows : List (Row Written)) → KnowsSeen self.old z → KnowsConstants self.old.bodies.types.bank self.old.constants z.said z.definitions rows → AreAllTyped self.old z rows → IfOk result (λ done. AreTakenConstants (seen_count z) (seen_text z source.now text.now.lines.items) rows (constants_in source.now text.now.lines.items)) }
+        ensures sound { (z : Seen) → KnowsSeen self.old z → IfOk result (λ done. AreSound (seen_count z) source.now (seen_text z source.now text.now.lines.items) text.now.lines.items) }
+        ensures stand { (z : Seen) → KnowsSeen self.old z → IfOk result (λ done. AllStand (seen_count z) (seen_text z source.now text.now.lines.items)) }
         ensures seen { OnOk result ((z : Seen) → KnowsSeen self.old z → KnowsSeen self.new (seen_text z source.now text.now.lines.items)) }
         ensures operators { OnOk result ((said : List (Row (IsFixity × ℕ))) → KnowsOperators self.old.operators said → KnowsOperators self.new.operators (said ++ fixities_in source.now text.now.lines.items)) }
     {
@@ -279,7 +263,6 @@ impl Making {
         self.uses.note(self.alloc, &self.names, source, text)?;
         self.bodies
             .settle(&self.names, &self.uses, source, text, from)?;
-        self.missing = is_missing(self.missing, self.bodies.are_all_settled());
         for declaration in &text.lines {
             self.declare_line(source, declaration)?;
         }

@@ -2,26 +2,24 @@
 ghost use Rattle.std.specs.Prelude.{◌≡◌, ◌⊎◌, ◌<◌, ◌≤◌, ◌+◌, ℕ, Vec, List, [], ◌∷◌, length, Option, Some, None, is_some, true, false, option_map, if◌then◌else◌, IfErr, IfOk, IfSome, OnOk, All, map};
 ghost use Rattle.std.specs.Global.{Global};
 ghost use Rattle.std.specs.Str.{bytes_eq};
-ghost use Rattle.lp_base.specs.declared.limit.Limit.TheVariants as limit;
 ghost use Rattle.lp_sig.specs.declared.fault.SigFault.TheVariants as fault;
 ghost use Rattle.lp_sig.specs.declared.names.Meaning.TheVariants as meaning;
 ghost use Rattle.lp_sig.specs.Rows.{Row};
 ghost use Rattle.lp_sig.specs.Said.{Said};
-ghost use Rattle.lp_sig.specs.Words.{may_stand, on_count, fault_of_word, word_fault, beginning, WordsStand, IsFirstFault, parameters_of, earlier_of, IsLongType, IsSoundType, IsTypeFault};
+ghost use Rattle.lp_sig.specs.Words.{may_stand, on_count, fault_of_word, word_fault, beginning, WordsStand, IsFirstFault, parameters_of, earlier_of, IsLongType, IsSoundType};
 ghost use Rattle.lp_sig.specs.Knowing.{Knows, Holds, number_of, blamed, said_as};
 ghost use Rattle.lp_term.specs.Nodes.{Extends};
 ghost use Rattle.lp_syntax.specs.declared.text.RawTypeNode.{RawTypeNode};
 ghost use Rattle.lp_syntax.specs.declared.text.RawTypeNode.TheVariants as node;
 ghost use Rattle.lp_base.specs.declared.place.Spot.{Spot};
 ghost use Rattle.lp_sig.specs.Places.{first_place};
-ghost use Rattle.lp_sig.specs.Abbreviations.{abbreviation_names};
+ghost use Rattle.lp_sig.specs.Abbreviations.{abbreviation_names, uses_in};
 ghost use Rattle.lp_sig.specs.Types.{Definition, IsTypeOf, IsNode, by_parameters};
 ghost use Rattle.lp_sig.specs.Holding.{given_number, AreParameters, type_done, IsTree, AreDone, HoldsBodies, IfType, IsReplaced, IsNumbered};
 ghost use Rattle.lp_sig.specs.Limits.{AreApart, IsRepeated};
-ghost use Rattle.lp_sig.specs.Refusals.{IsFaultOf, typed, words_of};
 ghost use Rattle.lp_sig.specs.declared.expand.Made.TheVariants as outcome;
 ghost use Rattle.lp_sig.specs.Schemes.{place};
-ghost use Rattle.lp_sig.specs.Constants.{IsTyped, IsWrittenFault, AreSettled, AllMade, written_in};
+ghost use Rattle.lp_sig.specs.Constants.{IsTyped, IsWrittenFault, IsSettledAt, AreUsesSettled, AllMade, written_in};
 ghost use Rattle.lp_sig.specs.Ordering.{HasNames, names_with, names_by_word, names_by, in_order, AreNewNames};
 
 use crate::bodies::Bodies;
@@ -47,7 +45,6 @@ pub(crate) struct Variables {
 
 // No parameter stands a second time.
 fn check_apart(alloc: Global, source: &[u8], parameters: &[Spot]) -> Result<(), SigFault>
-    ensures refused { IfErr result (IsFaultOf source.now (record { names = []; heads = []; parameters = parameters.now; words = [] }) ⊥) }
     ensures repeated { IfErr result (λ e. (e ≡ fault.Memory) ⊎ ((s : Spot) × (e ≡ fault.Differ s) × IsRepeated source.now parameters.now s)) }
     ensures taken { IfOk result (λ done. AreApart source.now parameters.now) }
 {
@@ -93,7 +90,6 @@ impl Variables {
         source: &[u8],
         parameters: &[Spot],
     ) -> Result<Variables, SigFault>
-        ensures refused { IfErr result (IsFaultOf source.now (record { names = []; heads = []; parameters = parameters.now; words = [] }) ⊥) }
         ensures repeated { IfErr result (λ e. (e ≡ fault.Memory) ⊎ ((s : Spot) × (e ≡ fault.Differ s) × IsRepeated source.now parameters.now s)) }
         ensures taken { IfOk result (λ variables. AreApart source.now parameters.now) }
         ensures held { IfOk result (λ variables. Holds variables (parameters_of source.now parameters.now)) }
@@ -223,7 +219,7 @@ impl Bodies {
         ensures fault { (said : List (Row Said)) (vs : Option (List (List ℕ))) → Knows names.now said → Holds variables.old vs → IfOk result (λ made. blamed spot made ≡ fault_of_word source.now said vs spot (length arguments.now)) }
         ensures held { (vs : Option (List (List ℕ))) → Holds variables.old vs → Holds variables.new vs }
         ensures names { OnOk result ((ks : List (List ℕ)) → HasNames variables.old ks → HasNames variables.new (names_by_word source.now ks spot)) }
-        ensures settled { (said : List (Row Said)) → Knows names.now said → AreSettled self.old.bodies.items said → AllMade done.now → IfOk result (λ made. made ≡ outcome.Open → ⊥) }
+        ensures settled { (said : List (Row Said)) (args : Vec ℕ Global) → Knows names.now said → AreUsesSettled self.old.bodies.items (uses_in (abbreviation_names said) source.now (node.Word spot args ∷ [])) → AllMade done.now → IfOk result (λ made. made ≡ outcome.Open → ⊥) }
     {
         let name = spelled_at(source, spot);
         if is_variable(name) {
@@ -257,7 +253,7 @@ impl Bodies {
         arguments: &[usize],
         done: &[Option<TypeId>],
     ) -> Result<Made, Memory>
-        ensures settled { (said : List (Row Said)) (name : List ℕ) → AreSettled self.old.bodies.items said → first_place name (abbreviation_names said) ≡ Some place → AllMade done.now → IfOk result (λ made. made ≡ outcome.Open → ⊥) }
+        ensures settled { IsSettledAt self.old.bodies.items place → AllMade done.now → IfOk result (λ made. made ≡ outcome.Open → ⊥) }
         ensures counted { (s : Spot) → IfOk result (λ made. blamed s made ≡ on_count s (length arguments.now) (said_as names.now (meaning.Abbreviation place))) }
         ensures kept { Extends self.old.types.bank self.new.types.bank }
         ensures bodies { self.new.bodies ≡ self.old.bodies }
@@ -315,11 +311,10 @@ impl Bodies {
         ensures closed { (text : List ℕ) (ps : List Spot) → AreParameters variables.old text ps → AreParameters variables.new text ps }
         ensures more { IfOk result (λ fault. length done.new.items ≡ length done.old.items + 1) }
         ensures typed { (said : List (Row Said)) (defs : List (Row Definition)) (ν : ℕ → Spot → Option ℕ) (nodes : List RawTypeNode) → Knows names.now said → HoldsBodies self.old.types.bank self.old.bodies.items said defs → AreDone self.old.types.bank said defs source.now ν nodes done.old.items → IsNode nodes (length done.old.items) node.now → IsNumbered ν (given_number variables.old) source.now (length done.old.items) node.now → IfOk result (λ fault. AreDone self.new.types.bank said defs source.now ν nodes done.new.items) }
-        ensures among { IfOk result (λ fault. IfSome fault (λ f. IsFaultOf source.now (typed [] (words_of (node.now ∷ []))) ⊥ f.1)) }
         ensures fault { (said : List (Row Said)) (vs : Option (List (List ℕ))) → Knows names.now said → Holds variables.old vs → IfOk result (λ o. o ≡ option_map (λ e. (beginning node.now, e)) (word_fault source.now said vs node.now)) }
         ensures held { (vs : Option (List (List ℕ))) → Holds variables.old vs → Holds variables.new vs }
         ensures names { OnOk result ((ks : List (List ℕ)) → HasNames variables.old ks → HasNames variables.new (names_by source.now ks node.now)) }
-        ensures settled { (said : List (Row Said)) → Knows names.now said → AreSettled self.old.bodies.items said → AllMade done.old.items → IfOk result (λ fault. fault ≡ None → AllMade done.new.items) }
+        ensures settled { (said : List (Row Said)) → Knows names.now said → AreUsesSettled self.old.bodies.items (uses_in (abbreviation_names said) source.now (node.now ∷ [])) → AllMade done.old.items → IfOk result (λ fault. fault ≡ None → AllMade done.new.items) }
     {
         match node {
             RawTypeNode::Arrow(from, to) => {
@@ -370,8 +365,7 @@ impl Bodies {
         ensures bodies { self.new.bodies ≡ self.old.bodies }
         ensures body { (said : List (Row Said)) (defs : List (Row Definition)) (ps : List Spot) → Knows names.now said → HoldsBodies self.old.types.bank self.old.bodies.items said defs → AreParameters variables.old source.now ps → IfOk result (λ made. IfSome made (IsTree self.new.types.bank (IsTypeOf said defs source.now (by_parameters source.now ps) raw.now.nodes.items raw.now.root))) }
         ensures open { (said : List (Row Said)) (defs : List (Row Definition)) → Knows names.now said → HoldsBodies self.old.types.bank self.old.bodies.items said defs → HasNames variables.old [] → IfOk result (λ made. IfSome made (IsTree self.new.types.bank (IsTypeOf said defs source.now (in_order source.now raw.now.nodes.items) raw.now.nodes.items raw.now.root))) }
-        ensures settled { (said : List (Row Said)) → Knows names.now said → AreSettled self.old.bodies.items said → IfOk result (λ made. is_some made ≡ true) }
-        ensures among { IfErr result (IsFaultOf source.now (typed [] (words_of raw.now.nodes.items)) ⊥) }
+        ensures settled { (said : List (Row Said)) → Knows names.now said → AreUsesSettled self.old.bodies.items (uses_in (abbreviation_names said) source.now raw.now.nodes.items) → IfOk result (λ made. is_some made ≡ true) }
         ensures first { (said : List (Row Said)) (vs : Option (List (List ℕ))) → Knows names.now said → Holds variables.old vs → IfErr result (λ e. (e ≡ fault.Memory) ⊎ IsFirstFault source.now said vs raw.now.nodes.items e) }
         ensures stand { (said : List (Row Said)) (vs : Option (List (List ℕ))) → Knows names.now said → Holds variables.old vs → IfOk result (λ made. WordsStand source.now said vs raw.now.nodes.items) }
     {
@@ -395,14 +389,12 @@ impl Bodies {
         source: &[u8],
         raw: &RawType,
     ) -> Result<Option<DeclaredType>, SigFault>
-        ensures among { IfErr result (IsFaultOf source.now (typed [] (words_of raw.now.nodes.items)) (Unit {0})) }
-        ensures first { (said : List (Row Said)) → Knows names.now said → IfErr result (λ e. (e ≡ fault.Memory) ⊎ IsTypeFault source.now said raw.now e) }
         ensures stand { (said : List (Row Said)) → Knows names.now said → IfOk result (λ made. IsSoundType source.now said raw.now) }
         ensures kept { Extends self.old.types.bank self.new.types.bank }
         ensures bodies { self.new.bodies ≡ self.old.bodies }
         ensures exact { (said : List (Row Said)) (defs : List (Row Definition)) → Knows names.now said → HoldsBodies self.old.types.bank self.old.bodies.items said defs → IfErr result (λ e. (e ≡ fault.Memory) ⊎ IsWrittenFault source.now said defs raw.now e) }
         ensures few { IfOk result (λ made. IfSome made (λ d. d.type_vars ≤ 255)) }
-        ensures settled { (said : List (Row Said)) → Knows names.now said → AreSettled self.old.bodies.items said → IfOk result (λ made. is_some made ≡ true) }
+        ensures settled { (said : List (Row Said)) → Knows names.now said → AreUsesSettled self.old.bodies.items (uses_in (abbreviation_names said) source.now raw.now.nodes.items) → IfOk result (λ made. is_some made ≡ true) }
         ensures typed { (said : List (Row Said)) (defs : List (Row Definition)) → Knows names.now said → HoldsBodies self.old.types.bank self.old.bodies.items said defs → IfOk result (λ made. IfSome made (IsTyped self.new.types.bank said defs (written_in source.now raw.now))) }
     {
         if has_many_arguments(raw) {

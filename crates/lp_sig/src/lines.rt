@@ -1,5 +1,5 @@
 // The declarations of a text by their lines, whether it is a signature's or a module's.
-ghost use Rattle.std.specs.Prelude.{◌≡◌, ℕ, Option, Some, IfSome};
+ghost use Rattle.std.specs.Prelude.{◌≡◌, ℕ, Option, Some, None, IfSome};
 ghost use Rattle.lp_syntax.specs.declared.text.Declaration.{Declaration};
 ghost use Rattle.lp_sig.specs.Holding.{line_of_text, line_of_module};
 
@@ -10,7 +10,8 @@ pub(crate) trait Lines {
 
     // The declaration of a line, if it is one.
     fn declaration(&self, line: usize) -> Option<&Declaration>
-        ensures { IfSome result (λ d. Self.declared self.now line ≡ Some d.now) };
+        ensures is { IfSome result (λ d. Self.declared self.now line ≡ Some d.now) }
+        ensures none { result ≡ None → Self.declared self.now line ≡ None };
 }
 
 impl Lines for SignatureText {

@@ -1,5 +1,5 @@
 // The declarations so far.
-ghost use Rattle.std.specs.Prelude.{◌≡◌, ◌+◌, List, [], map, IfOk, Some, false};
+ghost use Rattle.std.specs.Prelude.{◌≡◌, ◌+◌, List, [], map, IfOk, Some};
 ghost use Rattle.lp_sig.specs.Rows.{kind_row};
 ghost use Rattle.lp_sig.specs.Said.{numbered};
 ghost use Rattle.lp_sig.specs.Knowing.{Knows, kinded_row, head_row, KnowsOperators};
@@ -30,8 +30,6 @@ pub(crate) struct Making {
     pub bodies: Bodies,
     pub constants: Constants,
     pub operators: Operators,
-    // A sentence of typeabbrev had no type to compare with the first one of its name.
-    pub missing: bool,
 }
 
 // The entry of the kind at a place. One that passes a limit was refused where it is declared.
@@ -94,7 +92,6 @@ impl Making {
         ensures operators { KnowsOperators result.operators [] }
         ensures uses { map (λ out. out.items) result.uses.ways.items ≡ [] }
         ensures bodies { result.bodies.bodies.items ≡ [] }
-        ensures missing { result.missing ≡ false }
         ensures constants { KnowsConstants result.bodies.types.bank result.constants [] [] [] }
         ensures typed { AreTyped result.constants }
     {
@@ -105,7 +102,6 @@ impl Making {
             bodies: Bodies::new(alloc),
             constants: Constants::new(alloc),
             operators: Operators::new(alloc),
-            missing: false,
         }
     }
 
@@ -127,12 +123,8 @@ impl Making {
         ensures kinds { IfOk result (λ s. map kind_row s.kinds.items ≡ numbered 8 (map kinded_row self.names.kinds.items)) }
         ensures fixities { IfOk result (λ s. s.fixities ≡ self.operators.fixities) }
         ensures abbreviations { IfOk result (λ s. (z : Seen) → KnowsSeen self z → AreAbbreviations s.bank z s.abbreviations.items) }
-        ensures compared { IfOk result (λ s. self.missing ≡ false) }
         ensures constants { IfOk result (λ s. (z : Seen) (rows : List (Row Written)) → KnowsConstants self.bodies.types.bank self.constants z.said z.definitions rows → AreConstants s.bank z.said z.definitions rows s.constants.items × HaveNumbers rows) }
     {
-        if self.missing {
-            return Err(Memory);
-        }
         let kinds = entries_of(self.alloc, self.names.kinds.as_slice())?;
         let abbreviations = self.abbreviations()?;
         let constants = self.constants.entries()?;

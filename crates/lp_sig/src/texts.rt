@@ -10,7 +10,7 @@ ghost use Rattle.lp_sig.specs.declared.fault.SigFault.TheVariants as fault;
 ghost use Rattle.lp_sig.specs.Abbreviations.{Seen, one_text};
 ghost use Rattle.lp_sig.specs.Constants.{Written, KnowsConstants};
 ghost use Rattle.lp_sig.specs.Holding.{KnowsSeen, Follows};
-ghost use Rattle.lp_sig.specs.Declares.{Declares};
+ghost use Rattle.lp_sig.specs.Declares.{AreAllTyped, Declares};
 
 use crate::fault::SigFault;
 use crate::making::Making;
@@ -61,9 +61,9 @@ fn declare(
     texts: &[SignatureText],
     at: usize,
 ) -> Result<(), SigFault>
-    ensures refused { (z : Seen) (rows : List (Row Written)) → KnowsSeen making.old z → KnowsConstants making.old.bodies.types.bank making.old.constants z.said z.definitions rows → IfErr result (λ e. (e ≡ fault.Memory) ⊎ IsAtFault sources.now texts.now z rows at e) }
+    ensures refused { (z : Seen) (rows : List (Row Written)) → KnowsSeen making.old z → KnowsConstants making.old.bodies.types.bank making.old.constants z.said z.definitions rows → AreAllTyped making.old z rows → IfErr result (λ e. (e ≡ fault.Memory) ⊎ IsAtFault sources.now texts.now z rows at e) }
     ensures constants { OnOk result (Declares making.old making.new (of_text one_text sources.now texts.now at)) }
-    ensures taken { (z : Seen) → KnowsSeen making.old z → IfOk result (λ done. AreTaken sources.now texts.now z at) }
+    ensures taken { (z : Seen) (rows : List (Row Written)) → KnowsSeen making.old z → KnowsConstants making.old.bodies.types.bank making.old.constants z.said z.definitions rows → AreAllTyped making.old z rows → IfOk result (λ done. AreTaken sources.now texts.now z rows at) }
     ensures seen { OnOk result (Follows making.old making.new (of_text one_text sources.now texts.now at)) }
     ensures operators { OnOk result ((said : List (Row (Fixity × ℕ))) → KnowsOperators making.old.operators said → KnowsOperators making.new.operators (said ++ of_text fixities_in sources.now texts.now at)) }
 {
@@ -84,9 +84,9 @@ fn take(
     texts: &[SignatureText],
     step: Step,
 ) -> Result<(), SigFault>
-    ensures refused { (z : Seen) (rows : List (Row Written)) → KnowsSeen making.old z → KnowsConstants making.old.bodies.types.bank making.old.constants z.said z.definitions rows → IfErr result (λ e. (e ≡ fault.Memory) ⊎ IsStepRefused names.now sources.now texts.now z rows step e) }
+    ensures refused { (z : Seen) (rows : List (Row Written)) → KnowsSeen making.old z → KnowsConstants making.old.bodies.types.bank making.old.constants z.said z.definitions rows → AreAllTyped making.old z rows → IfErr result (λ e. (e ≡ fault.Memory) ⊎ IsStepRefused names.now sources.now texts.now z rows step e) }
     ensures constants { OnOk result (Declares making.old making.new (of_step one_text sources.now texts.now step)) }
-    ensures taken { (z : Seen) → KnowsSeen making.old z → IfOk result (λ done. IsStepTaken names.now sources.now texts.now z step) }
+    ensures taken { (z : Seen) (rows : List (Row Written)) → KnowsSeen making.old z → KnowsConstants making.old.bodies.types.bank making.old.constants z.said z.definitions rows → AreAllTyped making.old z rows → IfOk result (λ done. IsStepTaken names.now sources.now texts.now z rows step) }
     ensures seen { OnOk result (Follows making.old making.new (of_step one_text sources.now texts.now step)) }
     ensures operators { OnOk result ((said : List (Row (Fixity × ℕ))) → KnowsOperators making.old.operators said → KnowsOperators making.new.operators (said ++ of_step fixities_in sources.now texts.now step)) }
 {

@@ -1,5 +1,5 @@
 // The order of signatures, and circles of accum_sig.
-ghost use Rattle.std.specs.Prelude.{◌≡◌, ◌≤◌, ◌+◌, ℕ, List, [], ◌∷◌, ◌++◌, Bool, true, false, not, map, reverse, replicate, length, Contains, OnOk, IfErr, IfOk, if◌then◌else◌, string_bytes, slice_index_or, slice_set};
+ghost use Rattle.std.specs.Prelude.{◌≡◌, ◌<◌, ◌≤◌, ◌+◌, ℕ, List, [], ◌∷◌, ◌++◌, true, false, not, map, reverse, replicate, length, Contains, OnOk, IfErr, IfOk, if◌then◌else◌, string_bytes, slice_index_or, slice_set};
 ghost use Rattle.lp_sig.specs.Places.{HasPlaces};
 ghost use Rattle.lp_sig.specs.Loading.{accum_words, ways_in, ways_between, ways_out, Loads, IsLoadOrder, HasNoCircle, NoneLeads};
 ghost use Rattle.lp_sig.specs.Walking.{entries, waiting, SomeLeads, IsCircleFault, IsFirstCircleFault, Moves};
@@ -107,6 +107,18 @@ fn push_entries(words: &[(Spot, usize)], work: &mut Vec<Step>) -> Result<(), Mem
     Ok(())
 }
 
+// The places before one are marked, among so many.
+pub(crate) fn marks_before(alloc: Global, from: usize, count: usize) -> Result<Vec<bool>, Memory>
+    ensures marked { IfOk result (λ marks. (k : ℕ) → k < count → slice_index_or marks.items k true ≡ true → k < from) }
+    ensures clear { IfOk result (λ marks. (k : ℕ) → slice_index_or marks.items k true ≡ false → from ≤ k) }
+{
+    let mut marks = no_marks(alloc, count)?;
+    for place in 0..from {
+        mark(&mut marks, place);
+    }
+    Ok(marks)
+}
+
 // The ways between signatures, or between abbreviations: of each the words that name another, with its number.
 #[derive(Drop)]
 pub(crate) struct Ways {
@@ -207,7 +219,7 @@ impl Ways {
         root: usize,
         marks: &mut Vec<bool>,
     ) -> Result<Vec<Step>, Memory>
-        ensures { IfOk result (λ steps. (new : List Bool) × Loads (map (λ out. out.items) self.now.ways.items) marks.old.items root steps.items new) }
+        ensures { IfOk result (λ steps. Loads (map (λ out. out.items) self.now.ways.items) marks.old.items root steps.items marks.new.items) }
     {
         let mut steps = Vec::new(alloc);
         let mut work = Vec::new(alloc);

@@ -5,12 +5,6 @@ use Rattle.lp_sig.specs.Places.{HasPlaces}
 use Rattle.lp_sig.proofs.Repeats.{placed, not_placed, names_more, still_apart, all_apart, repeated, so_long}
 use Rattle.lp_sig.proofs.expand.check_apart.Goals as goal
 
-pub returns-then-is_some-clause-refused : goal.returns-then-is_some-clause-refused
-returns-then-is_some-clause-refused c =
-    let ns = map (λ w. spelled c.args.source.now w) (take c.loop-i.i c.args.parameters.now) in
-    inr (repeated c.args.source.now c.args.parameters.now c.loop-i.i _ c.loop-i-test.true c.loop-i.invariant.apart
-    (subst (Contains ns) c.spelled_at-word.ensures (placed c.spelled_at-word.result.now ns c.of.result (c.of.ensures ∙ c.loop-i.invariant.known c.spelled_at-word.result.now) (sym c.is_some.ensures ∙ c.if-is_some.true))))
-
 pub loop-i-preserved : goal.loop-i-preserved
 loop-i-preserved c =
     let ps = c.args.parameters.now in

@@ -1,4 +1,4 @@
-use Rattle.std.proofs.Common.{◌≡◌, ◌<◌, arith, take_all, subst}
+use Rattle.std.proofs.Common.{◌<◌, take_all, subst}
 use Rattle.std.specs.Prelude.{All}
 use Rattle.lp_sig.proofs.Renaming.{above_more}
 use Rattle.lp_sig.proofs.expand.end_of.Goals as goal

@@ -1,4 +1,4 @@
-use Rattle.std.proofs.Common.{◌≡◌, arith}
+use Rattle.std.proofs.Common.{arith}
 use Rattle.lp_sig.proofs.Renaming.{place_later, place_here, place_none}
 use Rattle.lp_sig.proofs.expand.place_among.Goals as goal
 

@@ -1,4 +1,3 @@
-use Rattle.std.proofs.Common.{arith}
 use Rattle.lp_sig.proofs.Copies.{pick_within, pick_past}
 use Rattle.lp_sig.proofs.Instances.{known_within}
 use Rattle.lp_sig.proofs.interned.put_for.Goals as goal

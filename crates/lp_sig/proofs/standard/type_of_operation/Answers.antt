@@ -1,11 +1,11 @@
-use Rattle.std.proofs.Common.{◌≡◌, ℕ, zero, suc, ◌+◌, ◌<◌, ◌≤◌, length, get_or, refl, sym, ap, ◌∙◌, arith, inl, inr}
+use Rattle.std.proofs.Common.{◌≡◌, ℕ, zero, suc, ◌<◌, ◌≤◌, length, refl, sym, ap, ◌∙◌, arith, inl, inr}
 use Rattle.std.specs.Prelude.{◌⊎◌}
 use Rattle.std.proofs.lemmas.List.{get_or_past}
-use Rattle.lp_calculus.specs.Types.{Ty, arrow}
+use Rattle.lp_calculus.specs.Types.{arrow}
 use Rattle.lp_calculus.specs.Typing.{int_type, string_type}
 use Rattle.lp_term.specs.Nodes.{type_tree}
 use Rattle.lp_sig.specs.Holding.{IsTree}
-use Rattle.lp_sig.specs.Constants.{AreParts, standard_tree, standard_types}
+use Rattle.lp_sig.specs.Constants.{standard_tree, standard_types}
 use Rattle.lp_sig.proofs.Blame.{for_ok}
 use Rattle.lp_sig.proofs.standard.type_of_operation.Goals as goal
 

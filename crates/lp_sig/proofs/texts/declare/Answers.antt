@@ -6,6 +6,8 @@ use Rattle.lp_sig.specs.declared.fault.SigFault.TheVariants as fault
 use Rattle.lp_sig.specs.Said.{fixities_in, of_text}
 use Rattle.lp_sig.specs.Abbreviations.{one_text, seen_text}
 use Rattle.lp_sig.specs.Faults.{AreSound}
+use Rattle.lp_sig.specs.Standing.{seen_count, AllStand}
+use Rattle.lp_sig.specs.Constants.{constants_in, AreTakenConstants}
 use Rattle.lp_sig.specs.Knowing.{KnowsOperators}
 use Rattle.lp_sig.proofs.Spoken.{at_text}
 use Rattle.lp_sig.proofs.Seeing.{text_follows}
@@ -14,20 +16,23 @@ use Rattle.lp_sig.proofs.Blame.{on_ok, both_ok, for_err, for_ok, text_at_fault, 
 use Rattle.lp_sig.proofs.texts.declare.Goals as goal
 
 pub returns-clause-refused : goal.returns-clause-refused
-returns-clause-refused c = λ z rows k a.
+returns-clause-refused c = λ z rows k a t.
     let bytes = c.as_slice.result.now in
     let lines = c.in-Some-get.text.now.lines.items in
-    for_err c.declare.result (IsFaultIn bytes (seen_text z bytes lines) rows lines) (λ e. (e ≡ fault.Memory) ⊎ IsAtFault c.args.sources.now c.args.texts.now z rows c.args.at e)
+    for_err c.declare.result (IsFaultIn bytes (seen_count z) (seen_text z bytes lines) rows lines) (λ e. (e ≡ fault.Memory) ⊎ IsAtFault c.args.sources.now c.args.texts.now z rows c.args.at e)
     (λ e f. inr (text_at_fault c.args.sources.now c.args.texts.now z rows c.args.at c.in-Some.source.now c.in-Some-get.text.now bytes e c.as_slice.ensures.value (c.in-Some.ensures.lookup.3.0, sym c.in-Some.ensures.lookup.1) (c.in-Some-get.ensures.lookup.3.0, sym c.in-Some-get.ensures.lookup.1) f))
-    (c.declare.ensures.refused z rows k a)
+    (c.declare.ensures.refused z rows k a t)
 
 pub returns-clause-taken : goal.returns-clause-taken
-returns-clause-taken c = λ z k.
+returns-clause-taken c = λ z rows k a t.
     let bytes = c.as_slice.result.now in
     let lines = c.in-Some-get.text.now.lines.items in
-    for_ok c.declare.result (λ done. AreWithin bytes lines × AreSound bytes (seen_text z bytes lines) lines) (λ done. AreTaken c.args.sources.now c.args.texts.now z c.args.at)
-    (λ done f. text_taken c.args.sources.now c.args.texts.now z c.args.at c.in-Some.source.now c.in-Some-get.text.now bytes c.as_slice.ensures.value (c.in-Some.ensures.lookup.3.0, sym c.in-Some.ensures.lookup.1) (c.in-Some-get.ensures.lookup.3.0, sym c.in-Some-get.ensures.lookup.1) f.0 f.1)
-    (both_ok c.declare.result (λ done. AreWithin bytes lines) (λ done. AreSound bytes (seen_text z bytes lines) lines) c.declare.ensures.taken (c.declare.ensures.sound z k))
+    for_ok c.declare.result (λ done. (AreWithin bytes lines × AreSound (seen_count z) bytes (seen_text z bytes lines) lines) × (AreTakenConstants (seen_count z) (seen_text z bytes lines) rows (constants_in bytes lines) × AllStand (seen_count z) (seen_text z bytes lines)))
+    (λ done. AreTaken c.args.sources.now c.args.texts.now z rows c.args.at)
+    (λ done f. text_taken c.args.sources.now c.args.texts.now z rows c.args.at c.in-Some.source.now c.in-Some-get.text.now bytes c.as_slice.ensures.value (c.in-Some.ensures.lookup.3.0, sym c.in-Some.ensures.lookup.1) (c.in-Some-get.ensures.lookup.3.0, sym c.in-Some-get.ensures.lookup.1) f.0.0 f.0.1 f.1.0 f.1.1)
+    (both_ok c.declare.result (λ done. AreWithin bytes lines × AreSound (seen_count z) bytes (seen_text z bytes lines) lines) (λ done. AreTakenConstants (seen_count z) (seen_text z bytes lines) rows (constants_in bytes lines) × AllStand (seen_count z) (seen_text z bytes lines))
+    (both_ok c.declare.result (λ done. AreWithin bytes lines) (λ done. AreSound (seen_count z) bytes (seen_text z bytes lines) lines) c.declare.ensures.taken (c.declare.ensures.sound z k))
+    (both_ok c.declare.result (λ done. AreTakenConstants (seen_count z) (seen_text z bytes lines) rows (constants_in bytes lines)) (λ done. AllStand (seen_count z) (seen_text z bytes lines)) (c.declare.ensures.declared z rows k a t) (c.declare.ensures.stand z k)))
 
 pub returns-clause-operators : goal.returns-clause-operators
 returns-clause-operators c = on_ok c.declare.result _ _ (λ h said k. subst (λ z. KnowsOperators c.declare.new.self.operators (said ++ z)) (ap (λ b. fixities_in b c.in-Some-get.text.now.lines.items) c.as_slice.ensures.value ∙ sym (at_text fixities_in c.args.sources.now c.args.texts.now c.args.at c.in-Some.source.now c.in-Some-get.text.now c.in-Some.ensures.lookup.3.0 c.in-Some.ensures.lookup.1 c.in-Some-get.ensures.lookup.3.0 c.in-Some-get.ensures.lookup.1)) (h said k)) c.declare.ensures.operators

@@ -1,12 +1,17 @@
 use Rattle.std.proofs.Common.{refl, ap, ◌∙◌, map}
 use Rattle.lp_sig.specs.Faults.{IsAbbreviationFault, a_name, circle, arguments, other, memory}
+use Rattle.lp_sig.specs.Pieces.{spelled}
 use Rattle.lp_sig.specs.Words.{parameters_of}
+use Rattle.lp_sig.specs.Abbreviations.{abbreviation_names}
+use Rattle.lp_sig.specs.Holding.{body_of}
 use Rattle.lp_sig.specs.declared.fault.SigFault.TheVariants as fault
 use Rattle.lp_sig.proofs.Blame.{passed_up}
+use Rattle.lp_sig.proofs.Heads.{place_below}
 use Rattle.lp_sig.proofs.Typing.{bodies_stay}
 use Rattle.lp_sig.proofs.Differing.{other_body}
 use Rattle.lp_sig.proofs.Alike.{same_body}
 use Rattle.lp_sig.proofs.Leading.{leads_back, never_back}
+use Rattle.lp_sig.proofs.SoundSentences.{uses_settled, value_of}
 use Rattle.lp_sig.proofs.Sentences.{abbreviation_repeated, abbreviation_word}
 use Rattle.lp_sig.proofs.bodies.Bodies.declare_abbreviation.Goals as goal
 
@@ -61,10 +66,17 @@ returns-clause-stand c = λ z s. record {
 }
 
 pub returns-clause-same : goal.returns-clause-same
-returns-clause-same c = λ z s e.
+returns-clause-same c = λ from z s settled stands first_stands.
+    let text = c.args.source.now in
     let ps = c.args.parameters.now in
+    let ty = c.args.raw.now in
+    let old = c.args.self.now in
     let b = c.expand.new.self in
-    let o = c.are_settled.ensures e in
-    same_body b.types.bank b.bodies.items z.said z.definitions c.args.source.now c.args.name ps c.args.raw.now c.in_ok-place.place o.0 o.1 c.in_ok-body.body
-    (bodies_stay c.args.self.now.types.bank b.types.bank c.args.self.now.bodies.items b.bodies.items z.said z.definitions c.expand.ensures.kept (ap (λ v. v.items) c.expand.ensures.bodies) s.holds) (c.in_ok-place.ensures.place z.said s.known) o.2 o.3
-    (c.in_ok-body.ensures.body z.said z.definitions ps s.known s.holds c.in_ok-variables.ensures.numbered) (c.has_other_body.ensures.same c.if-has_other_body.false o.0 o.1 o.2 o.3)
+    let place = c.in_ok-place.place in
+    let there = c.in_ok-place.ensures.place z.said s.known in
+    let known = value_of (body_of old.bodies.items place) (settled place (place_below (spelled text c.args.name) (abbreviation_names z.said) place there) (first_stands place there)) in
+    let at = ap (λ v. body_of v.items place) c.expand.ensures.bodies ∙ known.1 in
+    let new = value_of c.in_ok-body.body (c.in_ok-body.ensures.settled z.said s.known (uses_settled from z old.bodies.items text ty settled stands)) in
+    same_body b.types.bank b.bodies.items z.said z.definitions text c.args.name ps ty place known.0 new.0 c.in_ok-body.body
+    (bodies_stay old.types.bank b.types.bank old.bodies.items b.bodies.items z.said z.definitions c.expand.ensures.kept (ap (λ v. v.items) c.expand.ensures.bodies) s.holds) there at new.1
+    (c.in_ok-body.ensures.body z.said z.definitions ps s.known s.holds c.in_ok-variables.ensures.numbered) (c.has_other_body.ensures.same c.if-has_other_body.false known.0 new.0 at new.1)

@@ -1,19 +1,18 @@
-use Rattle.std.proofs.Common.{[], refl, sym, subst, ap, ◌∙◌, ◌≡◌, get_or, length, ◌<◌, ◌+◌}
-use Rattle.lp_sig.specs.Refusals.{IsFaultOf, typed, words_of}
-use Rattle.lp_sig.proofs.Blame.{one_of_two, fault_among}
+use Rattle.std.proofs.Common.{[], ◌∷◌, refl, sym, subst, ap, ◌∙◌, ◌≡◌, get_or, length, ◌<◌, ◌+◌}
 use Rattle.lp_sig.proofs.Wording.{finds_nothing, finds_more, finds_all, first_found, nothing_found}
 use Rattle.lp_sig.specs.Types.{IsNode, by_parameters}
 use Rattle.lp_sig.proofs.Copies.{extends_itself, extends_then}
 use Rattle.lp_sig.proofs.Typing.{nothing_done, bodies_stay, as_parameters, if_done}
 use Rattle.lp_sig.specs.Ordering.{HasNames, names_by, in_order}
 use Rattle.lp_sig.proofs.InOrder.{names_more, as_in_order}
-use Rattle.lp_sig.specs.Constants.{AreSettled, AllMade}
+use Rattle.lp_sig.specs.Abbreviations.{abbreviation_names, uses_in}
+use Rattle.lp_sig.specs.Constants.{AreUsesSettled, AllMade}
 use Rattle.lp_sig.proofs.Settled.{nothing_made, neither}
+use Rattle.lp_sig.proofs.UsesSettled.{uses_at}
 use Rattle.lp_sig.proofs.bodies.Bodies.expand.Goals as goal
 
 pub loop-node-init : goal.loop-node-init
 loop-node-init c = record {
-  among = tt;
   found = λ said vs k h. finds_nothing c.args.source.now said vs;
   held = λ vs h. h;
   kept = extends_itself c.args.self.now.types.bank;
@@ -33,8 +32,6 @@ loop-node-preserved c =
     let h : i < length c.args.raw.now.nodes.items = subst (λ l. i < length l) same c.loop-node-test.true in
     let at : c.node-item.result ≡ get_or c.args.raw.now.nodes.items i c.node-item.result = c.node-item.is ∙ ap (λ l. get_or l i c.node-item.result) same in
     record {
-      among = one_of_two (IsFaultOf c.args.source.now (typed [] (words_of c.args.raw.now.nodes.items)) ⊥) c.loop-node.fault c.in_ok-found.found c.earlier-fault.result c.earlier-fault.ensures.one c.loop-node.invariant.among
-          (fault_among c.args.source.now c.args.raw.now.nodes.items i c.node-item.result c.in_ok-found.found h at c.in_ok-found.ensures.among);
       found = λ said vs k g. finds_more c.args.source.now said vs c.args.raw.now.nodes.items c.deref-node-items.result.now i c.node-item.result c.loop-node.fault c.in_ok-found.found c.earlier-fault.result same c.loop-node-test.true c.node-item.is
           (c.loop-node.invariant.found said vs k g) (c.in_ok-found.ensures.fault said vs k (c.loop-node.invariant.held vs g)) c.earlier-fault.ensures.is;
       held = λ vs g. c.expand_node.ensures.held vs (c.loop-node.invariant.held vs g);
@@ -50,7 +47,7 @@ loop-node-preserved c =
           (λ ks n. subst (λ n. HasNames c.expand_node.new.variables (names_by c.args.source.now ks n)) at (c.in_ok-found.ensures.names ks n)) (c.loop-node.invariant.names g);
       settled = λ said k s none.
           let both = neither c.loop-node.fault c.in_ok-found.found (sym c.earlier-fault.ensures.is ∙ none) in
-          c.in_ok-found.ensures.settled said k (subst (λ bs. AreSettled bs said) (sym (ap (λ v. v.items) c.loop-node.invariant.bodies)) s) (c.loop-node.invariant.settled said k s both.0) both.1;
+          c.in_ok-found.ensures.settled said k (subst (λ bs. AreUsesSettled bs (uses_in (abbreviation_names said) c.args.source.now (c.node-item.result ∷ []))) (sym (ap (λ v. v.items) c.loop-node.invariant.bodies)) (λ w d. s w (uses_at (abbreviation_names said) c.args.source.now c.args.raw.now.nodes.items i c.node-item.result h at w d))) (c.loop-node.invariant.settled said k s both.0) both.1;
       ordered = λ said defs k b g.
           c.in_ok-found.ensures.typed said defs (in_order c.args.source.now c.args.raw.now.nodes.items) c.args.raw.now.nodes.items k
           (bodies_stay c.args.self.now.types.bank c.loop-node.self.types.bank c.args.self.now.bodies.items c.loop-node.self.bodies.items said defs c.loop-node.invariant.kept (ap (λ v. v.items) c.loop-node.invariant.bodies) b) (c.loop-node.invariant.ordered said defs k b g)

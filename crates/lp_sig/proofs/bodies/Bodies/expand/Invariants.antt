@@ -1,12 +1,11 @@
 use Rattle.std.proofs.Common.{◌≡◌, ℕ, List, [], take, Option, None, length}
-use Rattle.lp_sig.specs.Constants.{AreSettled, AllMade}
-use Rattle.std.specs.Prelude.{IfSome}
+use Rattle.lp_sig.specs.Abbreviations.{abbreviation_names, uses_in}
+use Rattle.lp_sig.specs.Constants.{AreUsesSettled, AllMade}
 use Rattle.lp_base.specs.declared.place.Spot.{Spot}
 use Rattle.lp_term.specs.Nodes.{Extends}
 use Rattle.lp_sig.specs.Rows.{Row}
 use Rattle.lp_sig.specs.Said.{Said}
 use Rattle.lp_sig.specs.Knowing.{Knows, Holds}
-use Rattle.lp_sig.specs.Refusals.{IsFaultOf, typed, words_of}
 use Rattle.lp_sig.specs.Types.{Definition, by_parameters}
 use Rattle.lp_sig.specs.Holding.{AreParameters, AreDone, HoldsBodies}
 use Rattle.lp_sig.specs.Ordering.{HasNames, names_behind, in_order}
@@ -15,7 +14,6 @@ use Rattle.lp_sig.proofs.bodies.Bodies.expand.Given as goal
 
 abbrev pub invariant-loop-node : goal.invariant-loop-node
 invariant-loop-node l = record {
-  among : IfSome l.fault (λ f. IsFaultOf l.source (typed [] (words_of l.raw.nodes.items)) ⊥ f.1);
   found : (said : List (Row Said)) (vs : Option (List (List ℕ))) → Knows l.names said → Holds l.fn.variables vs → Finds l.source said vs (take l.node-index l.raw.nodes.items) l.fault;
   held : (vs : Option (List (List ℕ))) → Holds l.fn.variables vs → Holds l.variables vs;
   kept : Extends l.fn.self.types.bank l.self.types.bank;
@@ -27,5 +25,5 @@ invariant-loop-node l = record {
   names : HasNames l.fn.variables [] → HasNames l.variables (names_behind l.source [] (take l.node-index l.raw.nodes.items));
   ordered : (said : List (Row Said)) (defs : List (Row Definition)) → Knows l.names said → HoldsBodies l.fn.self.types.bank l.fn.self.bodies.items said defs → HasNames l.fn.variables [] →
       AreDone l.self.types.bank said defs l.source (in_order l.source l.raw.nodes.items) l.raw.nodes.items l.done.items;
-  settled : (said : List (Row Said)) → Knows l.names said → AreSettled l.fn.self.bodies.items said → l.fault ≡ None → AllMade l.done.items;
+  settled : (said : List (Row Said)) → Knows l.names said → AreUsesSettled l.fn.self.bodies.items (uses_in (abbreviation_names said) l.source l.raw.nodes.items) → l.fault ≡ None → AllMade l.done.items;
 }

@@ -1,8 +1,9 @@
-use Rattle.std.proofs.Common.{length, sym, subst, refl, Some, None}
+use Rattle.std.proofs.Common.{[], ◌∷◌, length, sym, subst, refl, Some, None}
 use Rattle.lp_sig.specs.Types.{IsNode, IsTypeOf}
 use Rattle.lp_sig.specs.Holding.{given_number, AreDone, IsNumbered, IsTree, IfType}
 use Rattle.lp_sig.proofs.Typing.{done_more}
-use Rattle.lp_sig.specs.Constants.{AllMade}
+use Rattle.lp_sig.specs.Abbreviations.{abbreviation_names, uses_in}
+use Rattle.lp_sig.specs.Constants.{AreUsesSettled, AllMade}
 use Rattle.lp_sig.proofs.Settled.{made_more}
 use Rattle.lp_sig.proofs.bodies.Bodies.expand_node.Goals as goal
 
@@ -46,7 +47,7 @@ returns-in_ok-push-in-Type-clause-settled c = λ said k settled all none.
 
 pub returns-in_ok-push-in-Open-clause-settled : goal.returns-in_ok-push-in-Open-clause-settled
 returns-in_ok-push-in-Open-clause-settled c = λ said k settled all none.
-    absurd (c.in_ok-id-in-Word.ensures.settled said k settled (subst AllMade (sym c.as_slice-in-Word-2.ensures.value) all) c.in-Open.is)
+    absurd (c.in_ok-id-in-Word.ensures.settled said c.in-Word.arguments k (subst (λ n. AreUsesSettled c.args.self.now.bodies.items (uses_in (abbreviation_names said) c.args.source.now (n ∷ []))) c.in-Word.is settled) (subst AllMade (sym c.as_slice-in-Word-2.ensures.value) all) c.in-Open.is)
 
 pub returns-in_ok-push-in-Unknown-clause-settled : goal.returns-in_ok-push-in-Unknown-clause-settled
 returns-in_ok-push-in-Unknown-clause-settled c = λ said k settled all none. absurd (cc)

@@ -22,7 +22,7 @@ returns-clause-typed c = λ said defs name h at.
     }
 
 pub returns-in_default-body_at-clause-settled : goal.returns-in_default-body_at-clause-settled
-returns-in_default-body_at-clause-settled c = λ said name settled at all is. no_type c.body_at.result c.in_default-body_at.is (ap is_some c.body_at.ensures ∙ settled name c.args.place at)
+returns-in_default-body_at-clause-settled c = λ settled all is. no_type c.body_at.result c.in_default-body_at.is (ap is_some c.body_at.ensures ∙ settled)
 
 pub returns-in_default-2-clause-settled : goal.returns-in_default-2-clause-settled
-returns-in_default-2-clause-settled c = λ said name settled at all is. no_type c.in_ok-parts.field-0 c.in_default-2.is (c.in_ok-parts.ensures.made all)
+returns-in_default-2-clause-settled c = λ settled all is. no_type c.in_ok-parts.field-0 c.in_default-2.is (c.in_ok-parts.ensures.made all)

@@ -1,5 +1,6 @@
-use Rattle.std.proofs.Common.{◌≡◌, Some, None, ap, refl, ◌∙◌, sym, subst, length, map}
+use Rattle.std.proofs.Common.{◌≡◌, Some, None, false, ap, refl, ◌∙◌, sym, subst, length, map}
 use Rattle.std.specs.Prelude.{option_map, IfSome}
+use Rattle.lp_sig.specs.Pieces.{spelled, begins_variable}
 use Rattle.lp_sig.specs.Said.{a_kind}
 use Rattle.lp_sig.specs.Words.{on_count, fault_of_word, meaning_of}
 use Rattle.lp_sig.specs.Places.{first_place}
@@ -12,6 +13,7 @@ use Rattle.lp_sig.proofs.Blame.{for_ok, both_ok}
 use Rattle.lp_sig.proofs.Typing.{variable_made, kind_made, abbreviation_made, as_type}
 use Rattle.lp_sig.proofs.Judging.{variable_stands, variable_unknown, as_name, other_arity, same_arity}
 use Rattle.lp_sig.proofs.Settled.{no_type}
+use Rattle.lp_sig.proofs.UsesSettled.{word_settled}
 use Rattle.lp_sig.proofs.bodies.Bodies.word.Goals as goal
 
 pub returns-in_default-clause-fault : goal.returns-in_default-clause-fault
@@ -78,11 +80,14 @@ returns-in-Some-Abbreviation-clause-typed c = λ said defs ν nodes i args k h a
     (both_ok c.replaced.result (λ made. blamed c.args.spot made ≡ on_count c.args.spot (length c.args.arguments.now) m) (λ made. IfType made (IsReplaced b now said defs word c.args.done.now c.args.arguments.now)) (c.replaced.ensures.counted c.args.spot) (c.replaced.ensures.typed said defs word h there))
 
 pub returns-in_default-2-clause-settled : goal.returns-in_default-2-clause-settled
-returns-in_default-2-clause-settled c = λ said k settled all is. no_type c.in_ok-parts-in-Some-Kind.field-0 c.in_default-2.is (c.in_ok-parts-in-Some-Kind.ensures.made all)
+returns-in_default-2-clause-settled c = λ said args k settled all is. no_type c.in_ok-parts-in-Some-Kind.field-0 c.in_default-2.is (c.in_ok-parts-in-Some-Kind.ensures.made all)
 
 pub returns-in-Some-Abbreviation-clause-settled : goal.returns-in-Some-Abbreviation-clause-settled
-returns-in-Some-Abbreviation-clause-settled c = λ said k settled all.
+returns-in-Some-Abbreviation-clause-settled c = λ said args k settled all.
+    let text = c.args.source.now in
+    let s = c.args.spot in
     let word = c.spelled_at-name.result.now in
     let place = c.in-Some-Abbreviation.place in
     let there : first_place word (abbreviation_names said) ≡ Some place = sym (c.in-Some-Abbreviation.ensures.place said k) ∙ ap (λ m. place_meant (Some m)) c.in-Some-Abbreviation.field-0-is in
-    c.replaced.ensures.settled said word settled there all
+    let constant : begins_variable (spelled text s) ≡ false = ap begins_variable (sym c.spelled_at-name.ensures) ∙ sym c.is_variable.ensures ∙ c.if-is_variable.false in
+    c.replaced.ensures.settled (word_settled c.args.self.now.bodies.items (abbreviation_names said) text s args place constant (sym there ∙ ap (λ w. first_place w (abbreviation_names said)) c.spelled_at-name.ensures) settled) all

@@ -1,7 +1,6 @@
-use Rattle.std.proofs.Common.{◌≡◌, length, map, arith, sym, refl}
+use Rattle.std.proofs.Common.{◌≡◌, length, map, arith}
 use Rattle.std.proofs.lemmas.List.{length-map}
-use Rattle.lp_sig.proofs.Blame.{on_ok, always}
-use Rattle.lp_sig.proofs.Constancy.{known_more, typed_more}
+use Rattle.lp_sig.proofs.Constancy.{known_more, typed_if_more}
 use Rattle.lp_sig.proofs.constants.Constants.add.Goals as goal
 
 pub returns-clause-added : goal.returns-clause-added
@@ -12,4 +11,4 @@ returns-clause-added c = λ b said defs rows w k new typed.
     known_more b c.args.self.now _ said defs rows c.args.word.now w k new _ typed c.in_ok-name.ensures.items c.in_ok-push.ensures.items (c.in_ok-add.ensures.added (map (λ k. k.name.items) old) n k.places)
 
 pub returns-clause-typed : goal.returns-clause-typed
-returns-clause-typed c = λ d some all. typed_more c.args.self.now.constants.items _ _ c.args.declared d refl some c.in_ok-push.ensures.items all
+returns-clause-typed c = λ from z rows w new typed some. typed_if_more from z rows c.args.self.now _ c.args.word.now w _ new c.in_ok-push.ensures.items some typed

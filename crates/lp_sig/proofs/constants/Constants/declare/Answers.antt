@@ -1,6 +1,6 @@
-use Rattle.std.proofs.Common.{◌≡◌, inr, refl}
+use Rattle.std.proofs.Common.{inr, refl}
 use Rattle.lp_sig.proofs.Blame.{for_err, on_ok}
-use Rattle.lp_sig.proofs.Declaring.{new_refused, new_known, new_has, untyped_known, typed_known, typed_refused, typed_has}
+use Rattle.lp_sig.proofs.Declaring.{new_refused, new_known, new_typed, new_taken, untyped_known, untyped_typed, untyped_taken, typed_known, typed_again, typed_refused, typed_taken, missing_taken}
 use Rattle.lp_sig.proofs.constants.Constants.declare.Goals as goal
 
 pub returns-in-New-clause-why : goal.returns-in-New-clause-why
@@ -11,20 +11,37 @@ pub returns-in-New-clause-known : goal.returns-in-New-clause-known
 returns-in-New-clause-known c = on_ok c.add.result _ _
     (λ h. new_known c.args.types.now.bank c.known_as.new.types.bank c.args.self.now c.spelled_at-word.result.now _ c.in_ok-known_as.field-0 c.known_as.ensures.kept c.spelled_at-word.ensures c.in_ok-known_as.ensures.is c.add.new.self c.args.declared c.in-New.is h) c.add.ensures.added
 
-pub returns-in-New-clause-has : goal.returns-in-New-clause-has
-returns-in-New-clause-has c = on_ok c.add.result _ _
-    (λ h said defs rows w k all. new_has c.args.types.now.bank c.known_as.new.types.bank c.args.self.now c.spelled_at-word.result.now _ c.in_ok-known_as.field-0 c.known_as.ensures.kept c.spelled_at-word.ensures c.in_ok-known_as.ensures.is c.args.declared c.in-New.is h said defs rows w k) c.add.ensures.room
+pub returns-in-New-clause-typed : goal.returns-in-New-clause-typed
+returns-in-New-clause-typed c = on_ok c.add.result _ _
+    (λ h. new_typed c.args.types.now.bank c.known_as.new.types.bank c.args.self.now c.spelled_at-word.result.now _ c.in_ok-known_as.field-0 c.known_as.ensures.kept c.spelled_at-word.ensures c.in_ok-known_as.ensures.is c.add.new.self c.args.declared c.in-New.is h) c.add.ensures.typed
+
+pub returns-in-New-clause-taken : goal.returns-in-New-clause-taken
+returns-in-New-clause-taken c = on_ok c.add.result _ _
+    (λ h from z rows w k t all some. new_taken c.args.types.now.bank c.known_as.new.types.bank c.args.self.now c.spelled_at-word.result.now _ c.in_ok-known_as.field-0 c.known_as.ensures.kept c.spelled_at-word.ensures c.in_ok-known_as.ensures.is c.args.declared c.in-New.is h from z rows w k t some) c.add.ensures.room
 
 pub returns-in-Untyped-clause-known : goal.returns-in-Untyped-clause-known
 returns-in-Untyped-clause-known c = λ said defs rows w k t.
     untyped_known c.args.types.now.bank c.known_as.new.types.bank c.args.self.now c.spelled_at-word.result.now _ c.in_ok-known_as.field-0 c.known_as.ensures.kept c.spelled_at-word.ensures c.in_ok-known_as.ensures.is c.in-Untyped.is said defs rows w k
 
-pub returns-in-Untyped-clause-has : goal.returns-in-Untyped-clause-has
-returns-in-Untyped-clause-has c = λ said defs rows w k all d e t. absurd (c.in_ok-known_as.ensures.untyped c.in-Untyped.is all)
+pub returns-in-Untyped-clause-typed : goal.returns-in-Untyped-clause-typed
+returns-in-Untyped-clause-typed c = λ from z rows w k all some.
+    untyped_typed c.args.types.now.bank c.known_as.new.types.bank c.args.self.now c.spelled_at-word.result.now _ c.in_ok-known_as.field-0 c.known_as.ensures.kept c.spelled_at-word.ensures c.in_ok-known_as.ensures.is c.in-Untyped.is from z rows w k all
+
+pub returns-in-Untyped-clause-taken : goal.returns-in-Untyped-clause-taken
+returns-in-Untyped-clause-taken c = λ from z rows w k t all some.
+    untyped_taken c.args.types.now.bank c.known_as.new.types.bank c.args.self.now c.spelled_at-word.result.now _ c.in_ok-known_as.field-0 c.known_as.ensures.kept c.spelled_at-word.ensures c.in_ok-known_as.ensures.is c.in-Untyped.is c.in_ok-known_as.ensures.untyped from z rows w k all
 
 pub returns-in_default-clause-known : goal.returns-in_default-clause-known
 returns-in_default-clause-known c = λ said defs rows w k t.
     typed_known c.args.types.now.bank c.known_as.new.types.bank c.args.self.now c.spelled_at-word.result.now _ c.in_ok-known_as.field-0 c.known_as.ensures.kept c.spelled_at-word.ensures c.in_ok-known_as.ensures.is c.in-Typed.known c.in-Typed.is said defs rows w k
+
+pub returns-in_default-clause-typed : goal.returns-in_default-clause-typed
+returns-in_default-clause-typed c = λ from z rows w k all some.
+    typed_again c.args.types.now.bank c.known_as.new.types.bank c.args.self.now c.spelled_at-word.result.now _ c.in_ok-known_as.field-0 c.known_as.ensures.kept c.spelled_at-word.ensures c.in_ok-known_as.ensures.is c.in-Typed.known c.in-Typed.is from z rows w k all
+
+pub returns-in_default-clause-taken : goal.returns-in_default-clause-taken
+returns-in_default-clause-taken c = λ from z rows w k t all some.
+    missing_taken c.args.types.now.bank c.known_as.new.types.bank c.args.self.now c.spelled_at-word.result.now _ c.in_ok-known_as.field-0 c.known_as.ensures.kept c.spelled_at-word.ensures c.in_ok-known_as.ensures.is c.in-Typed.known c.in-Typed.is c.args.declared c.in_default.is from z rows w some
 
 pub returns-then-not-are_equal-clause-why : goal.returns-then-not-are_equal-clause-why
 returns-then-not-are_equal-clause-why c = inr
@@ -34,6 +51,10 @@ pub returns-else-not-are_equal-clause-known : goal.returns-else-not-are_equal-cl
 returns-else-not-are_equal-clause-known c = λ said defs rows w k t.
     typed_known c.args.types.now.bank c.known_as.new.types.bank c.args.self.now c.spelled_at-word.result.now _ c.in_ok-known_as.field-0 c.known_as.ensures.kept c.spelled_at-word.ensures c.in_ok-known_as.ensures.is c.in-Typed.known c.in-Typed.is said defs rows w k
 
-pub returns-else-not-are_equal-clause-has : goal.returns-else-not-are_equal-clause-has
-returns-else-not-are_equal-clause-has c = λ said defs rows w k all.
-    typed_has c.args.types.now.bank c.known_as.new.types.bank c.args.self.now c.spelled_at-word.result.now _ c.in_ok-known_as.field-0 c.known_as.ensures.kept c.spelled_at-word.ensures c.in_ok-known_as.ensures.is c.in-Typed.known c.in-Typed.is c.args.declared c.in-Some.new c.in-Some.is (c.if-not-are_equal.ensures.same refl) said defs rows w k
+pub returns-else-not-are_equal-clause-typed : goal.returns-else-not-are_equal-clause-typed
+returns-else-not-are_equal-clause-typed c = λ from z rows w k all some.
+    typed_again c.args.types.now.bank c.known_as.new.types.bank c.args.self.now c.spelled_at-word.result.now _ c.in_ok-known_as.field-0 c.known_as.ensures.kept c.spelled_at-word.ensures c.in_ok-known_as.ensures.is c.in-Typed.known c.in-Typed.is from z rows w k all
+
+pub returns-else-not-are_equal-clause-taken : goal.returns-else-not-are_equal-clause-taken
+returns-else-not-are_equal-clause-taken c = λ from z rows w k t all some.
+    typed_taken c.args.types.now.bank c.known_as.new.types.bank c.args.self.now c.spelled_at-word.result.now _ c.in_ok-known_as.field-0 c.known_as.ensures.kept c.spelled_at-word.ensures c.in_ok-known_as.ensures.is c.in-Typed.known c.in-Typed.is c.args.declared c.in-Some.new c.in-Some.is (c.if-not-are_equal.ensures.same refl) from z rows w k t

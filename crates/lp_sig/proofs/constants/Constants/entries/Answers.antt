@@ -1,4 +1,4 @@
-use Rattle.std.proofs.Common.{◌≡◌, ◌<◌, ◌≤◌, ◌+◌, length, subst, sym, arith, get_or, ap, ◌∙◌}
+use Rattle.std.proofs.Common.{◌<◌, ◌≤◌, length, subst, arith, get_or, ap, ◌∙◌}
 use Rattle.lp_sig.specs.Constants.{declared_constants}
 use Rattle.lp_sig.proofs.Listing.{entry_listed, all_listed, numbers_for_all}
 use Rattle.lp_sig.proofs.constants.Constants.entries.Goals as goal

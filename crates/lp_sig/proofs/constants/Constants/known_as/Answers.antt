@@ -1,5 +1,5 @@
-use Rattle.std.proofs.Common.{◌≡◌, ◌<◌, length, get_or, sym, ap, subst, ◌∙◌}
-use Rattle.lp_sig.proofs.Constancy.{known_standard, known_new, known_typed, known_untyped, not_typed}
+use Rattle.std.proofs.Common.{◌≡◌, get_or, ap, ◌∙◌}
+use Rattle.lp_sig.proofs.Constancy.{known_standard, known_new, known_typed, known_untyped, never_untyped}
 use Rattle.lp_sig.proofs.constants.Constants.known_as.Goals as goal
 
 pub returns-in-Some-clause-is : goal.returns-in-Some-clause-is
@@ -23,7 +23,7 @@ returns-in-None-clause-is c = λ said defs rows k.
     known_untyped c.args.types.now.bank c.args.self.now said defs rows c.args.word.now k c.in_default.ensures c.in-Some-of.place x c.in-Some-of.ensures at
 
 pub returns-in-None-clause-untyped : goal.returns-in-None-clause-untyped
-returns-in-None-clause-untyped c = λ is all.
+returns-in-None-clause-untyped c = λ is from z rows k typed first.
     let x = c.in-Some-get.constant.now in
     let at : x ≡ get_or c.args.self.now.constants.items c.in-Some-of.place x = c.in-Some-get.ensures.lookup.1 ∙ ap (λ xs. get_or xs c.in-Some-of.place x) c.deref.ensures.value in
-    not_typed c.args.self.now c.in-Some-of.place x (subst (λ xs. c.in-Some-of.place < length xs) c.deref.ensures.value c.in-Some-get.ensures.lookup.3.0) at c.in-None.is all
+    never_untyped from z rows c.args.types.now.bank c.args.self.now c.args.word.now c.in-Some-of.place x k typed c.in_default.ensures c.in-Some-of.ensures at c.in-None.is first

@@ -1,7 +1,6 @@
 use Rattle.std.proofs.Common.{ap, refl, ◌∙◌, ◌+◌}
 use Rattle.std.specs.Prelude.{is_some}
 use Rattle.lp_sig.proofs.Parameters.{listed_more, all_listed, numbered_more, all_numbered}
-use Rattle.lp_sig.proofs.OneType.{one_type}
 use Rattle.lp_sig.proofs.expand.Variables.parameters.Goals as goal
 
 pub loop-spot-init : goal.loop-spot-init

@@ -1,10 +1,11 @@
-use Rattle.std.proofs.Common.{◌≡◌, ◌∷◌, [], length, refl, ap, arith, ◌∙◌, Some}
-use Rattle.lp_sig.specs.Said.{a_kind, an_abbreviation, each}
+use Rattle.std.proofs.Common.{◌≡◌, ◌∷◌, ◌++◌, [], length, sym, subst, refl, ap, arith, ◌∙◌, Some}
+use Rattle.lp_sig.specs.Said.{a_kind, an_abbreviation, each, said_by}
 use Rattle.lp_sig.proofs.Blame.{on_ok, always}
 use Rattle.lp_sig.proofs.Spoken.{no_names, its_names}
 use Rattle.lp_sig.specs.Types.{definitions_by}
-use Rattle.lp_sig.proofs.Abbreviating.{is_quiet}
-use Rattle.lp_sig.proofs.Announcing.{quiet_line, abbreviation_announced}
+use Rattle.lp_sig.specs.Announced.{AreAnnounced}
+use Rattle.lp_sig.proofs.Abbreviating.{is_quiet, names_quiet}
+use Rattle.lp_sig.proofs.Announcing.{quiet_line, abbreviation_announced, none_announced}
 use Rattle.lp_sig.proofs.making.Making.announce_line.Goals as goal
 
 pub returns-in-Kinds-clause-names : goal.returns-in-Kinds-clause-names
@@ -47,3 +48,54 @@ returns-in-Abbreviation-clause-bodies c =
     let n : c.len.result ≡ length ps.items = omega (arith, c.len.ensures, ps.ok) in
     on_ok c.announce_abbreviation.result _ _ (λ h said defs declared k there known.
     abbreviation_announced new.types.bank new.bodies.items said defs c.args.source.now declared c.args.declaration.now c.in-Abbreviation.name ps c.in-Abbreviation.field-2 c.len.result c.in-Abbreviation.is n (h said defs declared ps c.in-Abbreviation.field-2 k (there ∙ ap (λ d. Some d) c.in-Abbreviation.is) known)) c.announce_abbreviation.ensures.bodies
+
+pub returns-in-Kinds-clause-lines : goal.returns-in-Kinds-clause-lines
+returns-in-Kinds-clause-lines c = always c.announce_kinds.result _ (λ from said defs declared k there known all.
+    none_announced from c.args.self.now.bodies.bodies.items said (said_by c.args.source.now c.args.declaration.now) c.args.source.now declared all (names_quiet said c.args.source.now c.args.declaration.now (ap is_quiet c.in-Kinds.is)))
+
+pub returns-in-Some-clause-lines : goal.returns-in-Some-clause-lines
+returns-in-Some-clause-lines c = always c.announce_kinds-in-Some.result _ (λ from said defs declared k there known all.
+    none_announced from c.args.self.now.bodies.bodies.items said (said_by c.args.source.now c.args.declaration.now) c.args.source.now declared all (names_quiet said c.args.source.now c.args.declaration.now (ap is_quiet c.in-LocalKinds.is)))
+
+pub returns-in-None-clause-lines : goal.returns-in-None-clause-lines
+returns-in-None-clause-lines c = λ from said defs declared k there known all.
+    none_announced from c.args.self.now.bodies.bodies.items said (said_by c.args.source.now c.args.declaration.now) c.args.source.now declared all (names_quiet said c.args.source.now c.args.declaration.now (ap is_quiet c.in-LocalKinds.is))
+
+pub returns-in-Constants-clause-lines : goal.returns-in-Constants-clause-lines
+returns-in-Constants-clause-lines c = λ from said defs declared k there known all.
+    none_announced from c.args.self.now.bodies.bodies.items said (said_by c.args.source.now c.args.declaration.now) c.args.source.now declared all (names_quiet said c.args.source.now c.args.declaration.now (ap is_quiet c.in-Constants.is))
+
+pub returns-in-Locals-clause-lines : goal.returns-in-Locals-clause-lines
+returns-in-Locals-clause-lines c = λ from said defs declared k there known all.
+    none_announced from c.args.self.now.bodies.bodies.items said (said_by c.args.source.now c.args.declaration.now) c.args.source.now declared all (names_quiet said c.args.source.now c.args.declaration.now (ap is_quiet c.in-Locals.is))
+
+pub returns-in-Accumulate-clause-lines : goal.returns-in-Accumulate-clause-lines
+returns-in-Accumulate-clause-lines c = λ from said defs declared k there known all.
+    none_announced from c.args.self.now.bodies.bodies.items said (said_by c.args.source.now c.args.declaration.now) c.args.source.now declared all (names_quiet said c.args.source.now c.args.declaration.now (ap is_quiet c.in-Accumulate.is))
+
+pub returns-in-AccumSig-clause-lines : goal.returns-in-AccumSig-clause-lines
+returns-in-AccumSig-clause-lines c = λ from said defs declared k there known all.
+    none_announced from c.args.self.now.bodies.bodies.items said (said_by c.args.source.now c.args.declaration.now) c.args.source.now declared all (names_quiet said c.args.source.now c.args.declaration.now (ap is_quiet c.in-AccumSig.is))
+
+pub returns-in-Fixities-clause-lines : goal.returns-in-Fixities-clause-lines
+returns-in-Fixities-clause-lines c = λ from said defs declared k there known all.
+    none_announced from c.args.self.now.bodies.bodies.items said (said_by c.args.source.now c.args.declaration.now) c.args.source.now declared all (names_quiet said c.args.source.now c.args.declaration.now (ap is_quiet c.in-Fixities.is))
+
+pub returns-in-Abbreviation-clause-lines : goal.returns-in-Abbreviation-clause-lines
+returns-in-Abbreviation-clause-lines c =
+    let ps = c.in-Abbreviation.parameters in
+    let text = c.args.source.now in
+    let new = c.announce_abbreviation.new.self.bodies in
+    let n : c.len.result ≡ length ps.items = omega (arith, c.len.ensures, ps.ok) in
+    on_ok c.announce_abbreviation.result _ _ (λ h from said defs declared k there known all.
+    subst (λ d. AreAnnounced from new.bodies.items (said ++ said_by text d) text declared) (sym c.in-Abbreviation.is) (subst (λ p. AreAnnounced from new.bodies.items (said ++ each text (an_abbreviation p) (c.in-Abbreviation.name ∷ [])) text declared) n
+    (h from said defs declared ps c.in-Abbreviation.field-2 k (there ∙ ap (λ d. Some d) c.in-Abbreviation.is) known all))) c.announce_abbreviation.ensures.lines
+
+pub returns-in-Kinds-clause-stay : goal.returns-in-Kinds-clause-stay
+returns-in-Kinds-clause-stay c = always c.announce_kinds.result _ (λ k h. h)
+
+pub returns-in-Some-clause-stay : goal.returns-in-Some-clause-stay
+returns-in-Some-clause-stay c = always c.announce_kinds-in-Some.result _ (λ k h. h)
+
+pub returns-in-Abbreviation-clause-stay : goal.returns-in-Abbreviation-clause-stay
+returns-in-Abbreviation-clause-stay c = c.announce_abbreviation.ensures.stay

@@ -1,18 +1,16 @@
-use Rattle.std.proofs.Common.{map, subst, sym, refl, ◌<◌, ◌++◌, length}
+use Rattle.std.proofs.Common.{subst, sym, refl, ◌++◌, length}
 use Rattle.std.specs.Prelude.{IfErr, IfOk, ◌≤◌}
 use Rattle.lp_sig.specs.Limits.{IsShort, AreShort, AreApart, IsWithin}
 use Rattle.lp_sig.specs.Said.{a_kind, fixities_by}
 use Rattle.lp_sig.specs.Knowing.{KnowsOperators}
 use Rattle.lp_sig.specs.Words.{IsKindsFault, AreMeant, AreNumbered}
-use Rattle.lp_sig.specs.Faults.{IsSentenceFault, IsAbbreviationFault, IsSound, IsSoundAbbreviation}
-use Rattle.lp_sig.specs.Constants.{constants_by, KnowsConstants, AreTyped}
-use Rattle.lp_sig.proofs.FirstTypes.{nothing_first, its_first}
-use Rattle.lp_sig.proofs.Blame.{always, on_ok, for_ok, for_err}
+use Rattle.lp_sig.specs.Faults.{IsSentenceFault, IsAbbreviationFault, IsSound, IsSoundAbbreviation, HasFirstBody}
+use Rattle.lp_sig.specs.Constants.{constants_by, KnowsConstants, AreTypedIf, IsConstantsFault}
+use Rattle.lp_sig.proofs.Blame.{always, on_ok, for_ok, both_ok}
 use Rattle.lp_sig.proofs.Constancy.{constants_kept}
-use Rattle.lp_sig.proofs.DeclaredConstants.{any_refusal, nothing_declared, its_constants}
+use Rattle.lp_sig.proofs.DeclaredConstants.{nothing_declared, its_constants}
 use Rattle.lp_sig.proofs.Sentences.{ok_with}
-use Rattle.lp_sig.proofs.Alike.{nothing_alike, one_alike}
-use Rattle.lp_sig.proofs.Copies.{extends_itself}
+use Rattle.lp_sig.proofs.SoundSentences.{none_taken, its_taken}
 use Rattle.lp_sig.proofs.Spoken.{no_fixities, its_fixities}
 use Rattle.lp_sig.proofs.making.Making.declare_line.Goals as goal
 
@@ -58,19 +56,19 @@ returns-in_ok-declare_all-in-Fixities-clause-operators c = λ said k.
     (c.in_ok-declare_all-in-Fixities.ensures said k)
 
 pub returns-in-Kinds-clause-why : goal.returns-in-Kinds-clause-why
-returns-in-Kinds-clause-why c = λ z rows s k.
-    subst (λ d. IfErr c.declare_kinds.result (IsSentenceFault c.args.source.now z rows d)) (sym c.in-Kinds.is)
+returns-in-Kinds-clause-why c = λ from z rows s settled k t.
+    subst (λ d. IfErr c.declare_kinds.result (IsSentenceFault from c.args.source.now z rows d)) (sym c.in-Kinds.is)
     (subst (λ ns. IfErr c.declare_kinds.result (IsKindsFault c.args.source.now z.said ns c.in-Kinds.arity)) c.as_slice.ensures.value (c.declare_kinds.ensures.why z.said s.known))
 
 pub returns-in-Constants-clause-why : goal.returns-in-Constants-clause-why
-returns-in-Constants-clause-why c = λ z rows s k.
-    subst (λ d. IfErr c.declare_constants.result (IsSentenceFault c.args.source.now z rows d)) (sym c.in-Constants.is)
-    (for_err c.declare_constants.result _ _ (λ e f. any_refusal _ c.args.source.now z rows c.in-Constants.names.items c.as_slice-in-Constants.result.now c.in-Constants.raw e c.as_slice-in-Constants.ensures.value f)
-    (c.declare_constants.ensures.exact z.said z.definitions rows s.known s.holds k))
+returns-in-Constants-clause-why c = λ from z rows s settled k t.
+    subst (λ d. IfErr c.declare_constants.result (IsSentenceFault from c.args.source.now z rows d)) (sym c.in-Constants.is)
+    (subst (λ ns. IfErr c.declare_constants.result (IsConstantsFault from c.args.source.now z rows ns c.in-Constants.raw)) c.as_slice-in-Constants.ensures.value
+    (c.declare_constants.ensures.exact from z rows s.known s.holds settled k t))
 
 pub returns-in-Abbreviation-clause-why : goal.returns-in-Abbreviation-clause-why
-returns-in-Abbreviation-clause-why c = λ z rows s k.
-    subst (λ d. IfErr c.declare_abbreviation.result (IsSentenceFault c.args.source.now z rows d)) (sym c.in-Abbreviation.is)
+returns-in-Abbreviation-clause-why c = λ from z rows s settled k t.
+    subst (λ d. IfErr c.declare_abbreviation.result (IsSentenceFault from c.args.source.now z rows d)) (sym c.in-Abbreviation.is)
     (subst (λ ps. IfErr c.declare_abbreviation.result (IsAbbreviationFault c.args.source.now z c.in-Abbreviation.name ps c.in-Abbreviation.raw)) c.as_slice-in-Abbreviation.ensures.value (c.declare_abbreviation.ensures.why z s))
 
 pub returns-in-Constants-clause-constants : goal.returns-in-Constants-clause-constants
@@ -105,65 +103,47 @@ pub returns-in_ok-declare_all-in-Fixities-clause-constants : goal.returns-in_ok-
 returns-in_ok-declare_all-in-Fixities-clause-constants c = λ z rows s k. nothing_declared c.args.self.now.bodies.types.bank c.args.self.now.constants z.said z.definitions rows c.args.source.now c.args.declaration.now _ c.in-Fixities.is refl k
 
 pub returns-in-Kinds-clause-sound : goal.returns-in-Kinds-clause-sound
-returns-in-Kinds-clause-sound c = λ z s.
-    subst (λ d. IfOk c.declare_kinds.result (λ done. IsSound c.args.source.now z d)) (sym c.in-Kinds.is)
+returns-in-Kinds-clause-sound c = λ from z s settled.
+    subst (λ d. IfOk c.declare_kinds.result (λ done. IsSound from c.args.source.now z d)) (sym c.in-Kinds.is)
     (subst (λ ns. IfOk c.declare_kinds.result (λ done. AreMeant c.args.source.now z.said (a_kind c.in-Kinds.arity) ns × AreNumbered c.args.source.now z.said ns)) c.as_slice.ensures.value (c.declare_kinds.ensures.meant z.said s.known))
 
 pub returns-in-Constants-clause-sound : goal.returns-in-Constants-clause-sound
-returns-in-Constants-clause-sound c = λ z s. subst (λ d. IfOk c.declare_constants.result (λ done. IsSound c.args.source.now z d)) (sym c.in-Constants.is) (c.declare_constants.ensures.stand z.said s.known)
+returns-in-Constants-clause-sound c = λ from z s settled.
+    subst (λ d. IfOk c.declare_constants.result (λ done. IsSound from c.args.source.now z d)) (sym c.in-Constants.is)
+    (both_ok c.declare_constants.result _ _ (c.declare_constants.ensures.stand z.said s.known) (c.declare_constants.ensures.few from z s.known s.holds settled))
 
 pub returns-in-Abbreviation-clause-sound : goal.returns-in-Abbreviation-clause-sound
-returns-in-Abbreviation-clause-sound c = λ z s.
-    subst (λ d. IfOk c.declare_abbreviation.result (λ done. IsSound c.args.source.now z d)) (sym c.in-Abbreviation.is)
-    (subst (λ ps. IfOk c.declare_abbreviation.result (λ done. IsSoundAbbreviation c.args.source.now z c.in-Abbreviation.name ps c.in-Abbreviation.raw)) c.as_slice-in-Abbreviation.ensures.value (c.declare_abbreviation.ensures.stand z s))
-
-pub returns-in-Kinds-clause-same : goal.returns-in-Kinds-clause-same
-returns-in-Kinds-clause-same c = λ z s. ok_with c.declare_kinds.result _ (nothing_alike z.said z.definitions c.args.source.now c.args.declaration.now _ _ c.in-Kinds.is refl)
-
-pub returns-in-Constants-clause-same : goal.returns-in-Constants-clause-same
-returns-in-Constants-clause-same c = λ z s. ok_with c.declare_constants.result _ (nothing_alike z.said z.definitions c.args.source.now c.args.declaration.now _ _ c.in-Constants.is refl)
-
-pub returns-in-LocalKinds-clause-same : goal.returns-in-LocalKinds-clause-same
-returns-in-LocalKinds-clause-same c = λ z s. nothing_alike z.said z.definitions c.args.source.now c.args.declaration.now _ _ c.in-LocalKinds.is refl
-
-pub returns-in-Locals-clause-same : goal.returns-in-Locals-clause-same
-returns-in-Locals-clause-same c = λ z s. nothing_alike z.said z.definitions c.args.source.now c.args.declaration.now _ _ c.in-Locals.is refl
-
-pub returns-in-Accumulate-clause-same : goal.returns-in-Accumulate-clause-same
-returns-in-Accumulate-clause-same c = λ z s. nothing_alike z.said z.definitions c.args.source.now c.args.declaration.now _ _ c.in-Accumulate.is refl
-
-pub returns-in-AccumSig-clause-same : goal.returns-in-AccumSig-clause-same
-returns-in-AccumSig-clause-same c = λ z s. nothing_alike z.said z.definitions c.args.source.now c.args.declaration.now _ _ c.in-AccumSig.is refl
-
-pub returns-in_ok-declare_all-in-Fixities-clause-same : goal.returns-in_ok-declare_all-in-Fixities-clause-same
-returns-in_ok-declare_all-in-Fixities-clause-same c = λ z s. nothing_alike z.said z.definitions c.args.source.now c.args.declaration.now _ _ c.in-Fixities.is refl
-
-pub returns-in-Abbreviation-clause-same : goal.returns-in-Abbreviation-clause-same
-returns-in-Abbreviation-clause-same c = λ z s.
-    for_ok c.declare_abbreviation.result _ _ (λ x f m. one_alike z.said z.definitions c.args.source.now c.args.declaration.now c.in-Abbreviation.name c.in-Abbreviation.parameters c.as_slice-in-Abbreviation.result.now c.in-Abbreviation.raw c.in-Abbreviation.is c.as_slice-in-Abbreviation.ensures.value (f m)) (c.declare_abbreviation.ensures.same z s)
+returns-in-Abbreviation-clause-sound c = λ from z s settled.
+    let text = c.args.source.now in
+    let name = c.in-Abbreviation.name in
+    let raw = c.in-Abbreviation.raw in
+    subst (λ d. IfOk c.declare_abbreviation.result (λ done. IsSound from text z d)) (sym c.in-Abbreviation.is)
+    (subst (λ ps. IfOk c.declare_abbreviation.result (λ done. IsSoundAbbreviation text z name ps raw × HasFirstBody from text z name ps raw)) c.as_slice-in-Abbreviation.ensures.value
+    (both_ok c.declare_abbreviation.result _ _ (c.declare_abbreviation.ensures.stand z s) (c.declare_abbreviation.ensures.same from z s settled)))
 
 pub returns-in-Kinds-clause-declared : goal.returns-in-Kinds-clause-declared
-returns-in-Kinds-clause-declared c = λ z rows s k settled typed. ok_with c.declare_kinds.result _ (typed, nothing_first z.said z.definitions rows c.args.source.now c.args.declaration.now _ c.in-Kinds.is refl)
+returns-in-Kinds-clause-declared c = λ from z rows s settled k t. ok_with c.declare_kinds.result _ (none_taken from z rows c.args.source.now c.args.self.now.constants c.args.declaration.now _ c.in-Kinds.is refl t)
 
 pub returns-in-Constants-clause-declared : goal.returns-in-Constants-clause-declared
-returns-in-Constants-clause-declared c = λ z rows s k settled typed.
-    for_ok c.declare_constants.result _ _ (λ x f. (f.0, its_first z.said z.definitions rows c.args.source.now c.args.declaration.now c.in-Constants.names c.as_slice-in-Constants.result.now c.in-Constants.raw c.in-Constants.is c.as_slice-in-Constants.ensures.value f.1))
-    (c.declare_constants.ensures.declared z.said z.definitions rows s.known s.holds k settled typed)
+returns-in-Constants-clause-declared c = λ from z rows s settled k t.
+    for_ok c.declare_constants.result _ _ (λ x f. its_taken from z rows c.args.source.now c.declare_constants.new.constants c.args.declaration.now c.in-Constants.names c.as_slice-in-Constants.result.now c.in-Constants.raw c.in-Constants.is c.as_slice-in-Constants.ensures.value f)
+    (c.declare_constants.ensures.declared from z rows s.known s.holds settled k t)
 
 pub returns-in-Abbreviation-clause-declared : goal.returns-in-Abbreviation-clause-declared
-returns-in-Abbreviation-clause-declared c = λ z rows s k settled typed. ok_with c.declare_abbreviation.result _ (subst AreTyped (sym c.declare_abbreviation.ensures.constants) typed, nothing_first z.said z.definitions rows c.args.source.now c.args.declaration.now _ c.in-Abbreviation.is refl)
+returns-in-Abbreviation-clause-declared c = λ from z rows s settled k t.
+    ok_with c.declare_abbreviation.result _ (none_taken from z rows c.args.source.now c.declare_abbreviation.new.self.constants c.args.declaration.now _ c.in-Abbreviation.is refl (subst (AreTypedIf from z rows) (sym c.declare_abbreviation.ensures.constants) t))
 
 pub returns-in_ok-declare_all-in-Fixities-clause-declared : goal.returns-in_ok-declare_all-in-Fixities-clause-declared
-returns-in_ok-declare_all-in-Fixities-clause-declared c = λ z rows s k settled typed. (typed, nothing_first z.said z.definitions rows c.args.source.now c.args.declaration.now _ c.in-Fixities.is refl)
+returns-in_ok-declare_all-in-Fixities-clause-declared c = λ from z rows s settled k t. none_taken from z rows c.args.source.now c.args.self.now.constants c.args.declaration.now _ c.in-Fixities.is refl t
 
 pub returns-in-LocalKinds-clause-declared : goal.returns-in-LocalKinds-clause-declared
-returns-in-LocalKinds-clause-declared c = λ z rows s k settled typed. (typed, nothing_first z.said z.definitions rows c.args.source.now c.args.declaration.now _ c.in-LocalKinds.is refl)
+returns-in-LocalKinds-clause-declared c = λ from z rows s settled k t. none_taken from z rows c.args.source.now c.args.self.now.constants c.args.declaration.now _ c.in-LocalKinds.is refl t
 
 pub returns-in-Locals-clause-declared : goal.returns-in-Locals-clause-declared
-returns-in-Locals-clause-declared c = λ z rows s k settled typed. (typed, nothing_first z.said z.definitions rows c.args.source.now c.args.declaration.now _ c.in-Locals.is refl)
+returns-in-Locals-clause-declared c = λ from z rows s settled k t. none_taken from z rows c.args.source.now c.args.self.now.constants c.args.declaration.now _ c.in-Locals.is refl t
 
 pub returns-in-Accumulate-clause-declared : goal.returns-in-Accumulate-clause-declared
-returns-in-Accumulate-clause-declared c = λ z rows s k settled typed. (typed, nothing_first z.said z.definitions rows c.args.source.now c.args.declaration.now _ c.in-Accumulate.is refl)
+returns-in-Accumulate-clause-declared c = λ from z rows s settled k t. none_taken from z rows c.args.source.now c.args.self.now.constants c.args.declaration.now _ c.in-Accumulate.is refl t
 
 pub returns-in-AccumSig-clause-declared : goal.returns-in-AccumSig-clause-declared
-returns-in-AccumSig-clause-declared c = λ z rows s k settled typed. (typed, nothing_first z.said z.definitions rows c.args.source.now c.args.declaration.now _ c.in-AccumSig.is refl)
+returns-in-AccumSig-clause-declared c = λ from z rows s settled k t. none_taken from z rows c.args.source.now c.args.self.now.constants c.args.declaration.now _ c.in-AccumSig.is refl t

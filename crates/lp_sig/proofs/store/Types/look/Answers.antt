@@ -1,4 +1,4 @@
-use Rattle.std.proofs.Common.{sym, ◌∙◌, ap, not, reverse, true}
+use Rattle.std.proofs.Common.{sym, ◌∙◌, reverse}
 use Rattle.std.specs.Prelude.{nat_eq}
 use Rattle.std.specs.List.{list_any}
 use Rattle.lp_sig.proofs.Blame.{on_ok}
