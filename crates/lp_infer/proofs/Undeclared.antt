@@ -7,7 +7,7 @@ use Rattle.std.proofs.lemmas.List.Elements.{Contains-append_left, Contains-appen
 use Rattle.lp_base.specs.declared.place.Spot.{Spot}
 use Rattle.lp_syntax.specs.declared.text.RawTypeNode.{RawTypeNode}
 use Rattle.lp_syntax.specs.declared.text.RawTypeNode.TheVariants.{Word, Arrow}
-use Rattle.lp_sig.specs.Refusals.{words_of}
+use Rattle.lp_infer.specs.Names.{words_of}
 use Rattle.lp_infer.specs.Scanning.{Finds}
 use Rattle.lp_infer.proofs.Finding.{finds_then}
 

@@ -1,8 +1,7 @@
 // The first name of a text that is not declared.
 ghost use Rattle.std.specs.Prelude.{◌≡◌, ◌∷◌, ℕ, List, None, Some, IfOk, OnOk, Contains, false, reverse};
 ghost use Rattle.lp_sig.specs.Pieces.{spelled, begins_variable};
-ghost use Rattle.lp_sig.specs.Refusals.{words_of};
-ghost use Rattle.lp_infer.specs.Names.{IsNoConstant, IsNoKind, note_words};
+ghost use Rattle.lp_infer.specs.Names.{IsNoConstant, IsNoKind, note_words, words_of};
 ghost use Rattle.lp_infer.specs.Scope.{IsFirstUndeclared};
 ghost use Rattle.lp_infer.specs.Scanning.{Finds, HasLevel, IsEntered, Scanned, level_in};
 ghost use Rattle.lp_infer.specs.declared.names.Task.TheVariants.{Visit};

@@ -1,8 +1,7 @@
 use Rattle.std.proofs.Common.{◌≡◌, take}
 use Rattle.std.specs.Prelude.{Contains}
 use Rattle.lp_sig.specs.Pieces.{spelled}
-use Rattle.lp_sig.specs.Refusals.{words_of}
-use Rattle.lp_infer.specs.Names.{IsNoKind}
+use Rattle.lp_infer.specs.Names.{words_of, IsNoKind}
 use Rattle.lp_infer.specs.Scanning.{Finds}
 use Rattle.lp_infer.proofs.names.Names.check_note.Given as goal
 
