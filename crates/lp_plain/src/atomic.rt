@@ -91,7 +91,7 @@ pub(crate) fn try_candidate(
     candidate: Candidate,
 ) -> Result<Turn, Memory> {
     let mark = machine.choices.len();
-    if let Some(next) = machine.candidate_after(call, candidate) {
+    if let Some(next) = machine.candidate_after(call, candidate)? {
         machine.put_choice(Untried::Clauses(*call, next))?;
     }
     let unified = attempt(machine, call, candidate, mark)?;
@@ -123,7 +123,7 @@ fn take_call(
         place,
         behind,
     };
-    match machine.first_candidate(&call) {
+    match machine.first_candidate(&call)? {
         Some(candidate) => try_candidate(machine, &call, candidate),
         None => Ok(Turn::Back),
     }

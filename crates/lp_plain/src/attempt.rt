@@ -1,4 +1,8 @@
 // One try of a clause for a goal.
+ghost use Rattle.std.specs.Prelude.{◌≡◌, ◌<◌, ℕ, ◌+◌, length, IfOk};
+ghost use Rattle.lp_calculus.specs.Term.{atom, logic};
+ghost use Rattle.lp_term.specs.Nodes.{Extends, tree};
+ghost use Rattle.lp_plain.specs.Slots.{AreIn, IsSlotted, AreSlotted};
 
 use crate::candidates::Candidate;
 use crate::choice::Call;
@@ -48,6 +52,15 @@ fn new_types(machine: &mut Machine, rule: usize) -> Result<u64, Memory> {
     Ok(types)
 }
 
+fn put_variable(bank: &mut Bank, id: u64, level: u64) -> Result<TermId, Memory>
+    ensures kept { Extends bank.old bank.new }
+    ensures within { IfOk result (λ t. t.0 < length bank.new.terms) }
+    ensures tree { IfOk result (λ t. tree bank.new t.0 ≡ atom (logic id level)) }
+{
+    let made = bank.put_term(TermNode::Logic { id, level })?;
+    Ok(made)
+}
+
 // What a variable of the clause becomes: the goal's argument, or a new variable.
 fn slot_value(
     bank: &mut Bank,
@@ -55,13 +68,17 @@ fn slot_value(
     args: &[TermId],
     id: u64,
     level: u64,
-) -> Result<TermId, Memory> {
-    if let Some(place) = slot {
-        if let Some(arg) = args.get(place) {
-            return Ok(*arg);
-        }
+) -> Result<TermId, Memory>
+    ensures kept { Extends bank.old bank.new }
+    ensures value { IfOk result (λ t. (next k : ℕ) → id ≡ next + k → AreIn bank.old args.now → IsSlotted bank.old bank.new args.now next level k slot t) }
+{
+    let Some(place) = slot else {
+        return put_variable(bank, id, level);
+    };
+    match args.get(place) {
+        Some(arg) => Ok(*arg),
+        None => put_variable(bank, id, level),
     }
-    bank.put_term(TermNode::Logic { id, level })
 }
 
 // The values of the clause's variables, where the goal has these arguments and the next new variable has this number.
@@ -72,11 +89,16 @@ fn slot_values(
     args: &[TermId],
     next: u64,
     level: u64,
-) -> Result<Vec<TermId>, Memory> {
+) -> Result<Vec<TermId>, Memory>
+    ensures kept { Extends bank.old bank.new }
+    ensures count { IfOk result (λ values. length values.items ≡ length slots.now.items) }
+    ensures values { IfOk result (λ values. AreIn bank.old args.now → AreSlotted bank.old bank.new args.now next level slots.now.items values.items) }
+{
     let mut values = Vec::new(alloc);
     let mut id = next;
-    for slot in slots {
-        values.push(slot_value(bank, *slot, args, id, level)?)?;
+    'variables: for number in 0..slots.len() {
+        let value = slot_value(bank, slots[number], args, id, level)?;
+        values.push(value)?;
         let Some(more) = id.checked_add(1) else {
             return Err(Memory);
         };
@@ -132,7 +154,7 @@ fn zipped_types(
         return Ok(pairs);
     };
     let mut place = 0usize;
-    for left in lefts.iter().copied() {
+    'arguments: for left in lefts.iter().copied() {
         let Some(right) = rights.get(place) else {
             return Ok(pairs);
         };
@@ -152,7 +174,7 @@ fn type_pairs(
 ) -> Result<Vec<(TypeId, TypeId)>, Memory> {
     let old = zipped_types(alloc, bank, goal, clause)?;
     let mut new = Vec::new(alloc);
-    for pair in old.iter().copied() {
+    'both: for pair in old.iter().copied() {
         let right = renewed(alloc, bank, pair.1, types)?;
         new.push((pair.0, right))?;
     }
@@ -170,7 +192,7 @@ fn term_pairs(
     level: u64,
 ) -> Result<Vec<Pair>, Memory> {
     let mut pairs = Vec::new(alloc);
-    for head in heads {
+    'places: for head in heads {
         let Some(arg) = args.get(head.place) else {
             continue;
         };

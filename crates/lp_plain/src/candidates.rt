@@ -1,12 +1,16 @@
 // The clauses that may meet a goal: first the assumed ones, the newest first, then those of the program that pass the
 // filter, in order.
+ghost use Rattle.std.specs.Prelude.{◌≡◌, ◌<◌, ◌-◌, ◌++◌, length, map, List, [], ◌∷◌, ℕ, suc, filter, drop, nat_eq, Option, Some, None, slice_get, IfOk};
+ghost use Rattle.std.specs.HashMap.{get};
+ghost use Rattle.lp_plain.specs.Newest.{IsNewest};
+ghost use Rattle.lp_plain.specs.Candidates.{constant_at, set_next, unlinked, IsLinked, IsIndex, IsChain, IsLeft, AreLeft, nexts, numbers, numbers_in, passes, first_for, in_turn};
 
 use crate::choice::Call;
 use crate::frame::Assumption;
-use crate::head::{Head, may_meet};
+use crate::head::{Head, Key, may_meet};
 use crate::known::known;
 use crate::newest::{Newest, newest_of};
-use crate::table::{Span, Table};
+use crate::table::{Rule, Span};
 use lp_base::Memory;
 use lp_term::{Bank, TermNode};
 use std::alloc::Global;
@@ -22,103 +26,195 @@ pub(crate) enum Candidate {
 /// The first program clause of each constant.
 pub(crate) type Index = HashMap<u32, usize>;
 
-fn add_rule(
-    bank: &Bank,
-    table: &mut Table,
-    number: usize,
-    index: &mut Index,
-) -> Result<(), Memory> {
-    let Some(rule) = table.rules.get_mut(number) else {
+// The constant at the head of a clause.
+fn constant_of(bank: &Bank, rules: &Vec<Rule>, number: usize) -> Result<Option<u32>, Memory>
+    ensures { IfOk result (λ found. found ≡ constant_at bank.now (slice_get rules.now.items number)) }
+{
+    let Some(rule) = rules.get(number) else {
         return Err(Memory);
     };
     known(bank, rule.head)?;
-    if let TermNode::Const(constant, _) = bank.term_node(rule.head) {
-        rule.next = index.insert(constant, number)?;
+    match bank.term_node(rule.head) {
+        TermNode::Const(constant, _) => Ok(Some(constant)),
+        TermNode::Index(_) => Ok(None),
+        TermNode::Int(_) => Ok(None),
+        TermNode::Text(_) => Ok(None),
+        TermNode::Eigen(_) => Ok(None),
+        TermNode::Logic { .. } => Ok(None),
+        TermNode::Param(_, _) => Ok(None),
+        TermNode::Abs(_) => Ok(None),
+        TermNode::App(_, _) => Ok(None),
     }
+}
+
+fn link(rules: &mut Vec<Rule>, number: usize, next: Option<usize>) -> Result<(), Memory>
+    ensures { IfOk result (λ done. (number < length rules.old.items) × (rules.new.items ≡ set_next rules.old.items number next)) }
+{
+    let Some(rule) = rules.get_mut(number) else {
+        return Err(Memory);
+    };
+    rule.next = next;
     Ok(())
+}
+
+fn add_rule(
+    bank: &Bank,
+    rules: &mut Vec<Rule>,
+    number: usize,
+    index: &mut Index,
+) -> Result<(), Memory>
+    ensures { IfOk result (λ done. IsLinked bank.now rules.old.items rules.new.items (λ c. get nat_eq index.old c) (λ c. get nat_eq index.new c) (number ∷ []) (suc number) number) }
+{
+    let Some(constant) = constant_of(bank, rules, number)? else {
+        return Ok(());
+    };
+    let next = index.insert(constant, number)?;
+    link(rules, number, next)?;
+    Ok(())
+}
+
+// Links the clauses of a span before those of the program behind them, the first of which is given. Gives the first one now.
+fn add_span(
+    bank: &Bank,
+    rules: &mut Vec<Rule>,
+    span: Span,
+    behind: usize,
+    index: &mut Index,
+) -> Result<usize, Memory>
+    ensures { IfOk result (λ first. IsLinked bank.now rules.old.items rules.new.items (λ c. get nat_eq index.old c) (λ c. get nat_eq index.new c) (numbers_in span) behind first) }
+{
+    let mut left = span.to;
+    if left > behind {
+        return Err(Memory);
+    }
+    'rules: while left > span.from {
+        left -= 1;
+        add_rule(bank, rules, left, index)?;
+    }
+    Ok(left)
 }
 
 /// Links the program's clauses by the constants at their heads.
 pub(crate) fn index_of(
     alloc: Global,
     bank: &Bank,
-    table: &mut Table,
-    program: &[Span],
-) -> Result<Index, Memory> {
+    rules: &mut Vec<Rule>,
+    program: &Vec<Span>,
+) -> Result<Index, Memory>
+    ensures same { IfOk result (λ index. map unlinked rules.new.items ≡ map unlinked rules.old.items) }
+    ensures index { IfOk result (λ index. IsIndex bank.now rules.new.items (λ c. get nat_eq index c) (numbers program.now.items)) }
+{
     let mut index = HashMap::new(alloc);
-    for span in program.iter().rev().copied() {
-        for number in (span.from..span.to).rev() {
-            add_rule(bank, table, number, &mut index)?;
-        }
+    let mut first = rules.len();
+    let mut left = program.len();
+    'spans: while left > 0 {
+        left -= 1;
+        first = add_span(bank, rules, program[left], first, &mut index)?;
     }
     Ok(index)
 }
 
-// The first program clause from one on that passes the filter.
-fn program_from(bank: &Bank, table: &Table, call: &Call, from: Option<usize>) -> Option<usize> {
+// The first clause of a chain that passes the filter.
+fn program_from(
+    bank: &Bank,
+    rules: &Vec<Rule>,
+    key: Option<Key>,
+    from: Option<usize>,
+) -> Result<Option<usize>, Memory>
+    ensures { IfOk result (λ found. (ks : List ℕ) → IsChain (nexts rules.now.items) from ks → IsLeft bank.now rules.now.items key found (filter (passes bank.now rules.now.items key) ks)) }
+{
     let mut at = from;
-    for _ in 0..u64::MAX {
-        let number = at?;
-        let rule = table.rules.get(number)?;
-        if may_meet(bank, rule.key, call.key) {
-            return Some(number);
+    'rules: for _ in 0..u64::MAX {
+        let Some(number) = at else {
+            return Ok(None);
+        };
+        let Some(rule) = rules.get(number) else {
+            return Err(Memory);
+        };
+        if may_meet(bank, rule.key, key) {
+            return Ok(Some(number));
         }
         at = rule.next;
     }
-    None
+    Err(Memory)
 }
 
-fn program_first(bank: &Bank, table: &Table, index: &Index, call: &Call) -> Option<Candidate> {
-    match call.head {
-        Head::Constant(constant) => {
-            let first = index.get(&constant).copied();
-            program_from(bank, table, call, first).map(Candidate::Program)
-        }
+fn first_rule(index: &Index, head: Head) -> Option<usize>
+    ensures { result ≡ first_for (λ c. get nat_eq index.now c) head }
+{
+    match head {
+        Head::Constant(constant) => index.get(&constant).copied(),
         Head::Eigen(_) => None,
+    }
+}
+
+// The first program clause of a chain that passes the filter, as a candidate.
+fn program_candidate(
+    bank: &Bank,
+    rules: &Vec<Rule>,
+    key: Option<Key>,
+    from: Option<usize>,
+) -> Result<Option<Candidate>, Memory>
+    ensures { IfOk result (λ found. (older : List (Option ℕ)) (first : Option ℕ) (ks : List ℕ) → IsChain (nexts rules.now.items) from ks → AreLeft bank.now rules.now.items older first key found (in_turn bank.now rules.now.items key [] ks)) }
+{
+    match program_from(bank, rules, key, from)? {
+        Some(number) => Ok(Some(Candidate::Program(number))),
+        None => Ok(None),
     }
 }
 
 // This assumption, or the first program clause where there is none.
 fn assumed_or_first(
     bank: &Bank,
-    table: &Table,
+    rules: &Vec<Rule>,
     index: &Index,
     call: &Call,
     assumed: Option<usize>,
-) -> Option<Candidate> {
+) -> Result<Option<Candidate>, Memory>
+    ensures { IfOk result (λ found. (older : List (Option ℕ)) (ns ks : List ℕ) → IsChain older assumed ns → IsChain (nexts rules.now.items) (first_for (λ c. get nat_eq index.now c) call.now.head) ks → AreLeft bank.now rules.now.items older (first_for (λ c. get nat_eq index.now c) call.now.head) call.now.key found (in_turn bank.now rules.now.items call.now.key ns ks)) }
+{
     match assumed {
-        Some(number) => Some(Candidate::Assumed(number)),
-        None => program_first(bank, table, index, call),
+        Some(number) => Ok(Some(Candidate::Assumed(number))),
+        None => program_candidate(bank, rules, call.key, first_rule(index, call.head)),
     }
 }
 
 pub(crate) fn first_candidate(
     bank: &Bank,
-    table: &Table,
+    rules: &Vec<Rule>,
     index: &Index,
     newest: &Vec<Newest>,
     call: &Call,
-) -> Option<Candidate> {
-    let assumed = newest_of(newest, call.place.assumed, call.head);
-    assumed_or_first(bank, table, index, call, assumed)
+) -> Result<Option<Candidate>, Memory>
+    ensures { IfOk result (λ found. (older : List (Option ℕ)) (assumed : Option ℕ) (ns ks : List ℕ) → IsNewest newest.now.items call.now.place.assumed call.now.head assumed → IsChain older assumed ns → IsChain (nexts rules.now.items) (first_for (λ c. get nat_eq index.now c) call.now.head) ks → AreLeft bank.now rules.now.items older (first_for (λ c. get nat_eq index.now c) call.now.head) call.now.key found (in_turn bank.now rules.now.items call.now.key ns ks)) }
+{
+    let assumed = newest_of(newest, call.place.assumed, call.head)?;
+    let found = assumed_or_first(bank, rules, index, call, assumed)?;
+    Ok(found)
 }
 
 pub(crate) fn candidate_after(
     bank: &Bank,
-    table: &Table,
+    rules: &Vec<Rule>,
     index: &Index,
     assumptions: &Vec<Assumption>,
     call: &Call,
     candidate: Candidate,
-) -> Option<Candidate> {
+) -> Result<Option<Candidate>, Memory>
+    ensures { IfOk result (λ found. (left : List Candidate) → AreLeft bank.now rules.now.items (map (λ a. a.older) assumptions.now.items) (first_for (λ c. get nat_eq index.now c) call.now.head) call.now.key (Some candidate) left → (rest : List Candidate) × (left ≡ candidate ∷ rest) × AreLeft bank.now rules.now.items (map (λ a. a.older) assumptions.now.items) (first_for (λ c. get nat_eq index.now c) call.now.head) call.now.key found rest) }
+{
     match candidate {
         Candidate::Assumed(number) => {
-            let older = assumptions.get(number)?.older;
-            assumed_or_first(bank, table, index, call, older)
+            let Some(assumption) = assumptions.get(number) else {
+                return Err(Memory);
+            };
+            assumed_or_first(bank, rules, index, call, assumption.older)
         }
         Candidate::Program(number) => {
-            let next = table.rules.get(number)?.next;
-            program_from(bank, table, call, next).map(Candidate::Program)
+            let Some(rule) = rules.get(number) else {
+                return Err(Memory);
+            };
+            program_candidate(bank, rules, call.key, rule.next)
         }
     }
 }

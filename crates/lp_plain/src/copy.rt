@@ -1,4 +1,9 @@
 // Terms and types of one bank in another. What is shared stays shared.
+ghost use Rattle.std.specs.Prelude.{◌≡◌, ◌<◌, ℕ, length, map, IfOk, OnOk, Some, nat_eq, if◌then◌else◌};
+ghost use Rattle.std.specs.HashMap.{get};
+ghost use Rattle.lp_term.specs.Nodes.{Nodes, Extends, tree, type_tree, node_tree, type_node_tree};
+ghost use Rattle.lp_term.specs.Shapes.{term_shape, type_shape};
+ghost use Rattle.lp_plain.specs.Copying.{IsCopy, IsTypeCopy, AreCopies};
 
 use crate::known::{
     known, known_type, put_abstraction, put_application, put_arrow, put_constant, put_constructor,
@@ -17,6 +22,56 @@ enum Task {
     BuildType(TypeId),
 }
 
+// A node without parts.
+fn put_leaf(bank: &mut Bank, node: TermNode<'_>) -> Result<TermId, Memory>
+    ensures kept { Extends bank.old bank.new }
+    ensures within { IfOk result (λ id. id.0 < length bank.new.terms) }
+    ensures tree { IfOk result (λ id. (b : Nodes) → tree bank.new id.0 ≡ node_tree b (term_shape node.entry)) }
+{
+    match node {
+        TermNode::Index(at) => {
+            let made = bank.put_term(TermNode::Index(at))?;
+            Ok(made)
+        }
+        TermNode::Int(value) => {
+            let made = bank.put_term(TermNode::Int(value))?;
+            Ok(made)
+        }
+        TermNode::Text(bytes) => {
+            let made = bank.put_term(TermNode::Text(bytes))?;
+            Ok(made)
+        }
+        TermNode::Eigen(level) => {
+            let made = bank.put_term(TermNode::Eigen(level))?;
+            Ok(made)
+        }
+        TermNode::Logic { id, level } => {
+            let made = bank.put_term(TermNode::Logic { id, level })?;
+            Ok(made)
+        }
+        _ => Err(Memory),
+    }
+}
+
+// A type node without parts.
+fn put_type_leaf(bank: &mut Bank, node: TypeNode<'_>) -> Result<TypeId, Memory>
+    ensures kept { Extends bank.old bank.new }
+    ensures within { IfOk result (λ id. id.0 < length bank.new.types) }
+    ensures tree { IfOk result (λ id. (b : Nodes) → type_tree bank.new id.0 ≡ type_node_tree b (type_shape node.entry)) }
+{
+    match node {
+        TypeNode::Var(number) => {
+            let id = bank.put_type(TypeNode::Var(number))?;
+            Ok(id)
+        }
+        TypeNode::Param(number) => {
+            let id = bank.put_type(TypeNode::Param(number))?;
+            Ok(id)
+        }
+        _ => Err(Memory),
+    }
+}
+
 /// The copies that were made, by the numbers in the old bank.
 #[derive(Drop)]
 pub(crate) struct Copies {
@@ -25,7 +80,9 @@ pub(crate) struct Copies {
 }
 
 impl Copies {
-    pub(crate) fn new(alloc: Global) -> Copies {
+    pub(crate) fn new(alloc: Global) -> Copies
+        ensures { (a b : Nodes) → AreCopies a b result }
+    {
         Copies {
             terms: HashMap::new(alloc),
             types: HashMap::new(alloc),
@@ -33,7 +90,9 @@ impl Copies {
     }
 
     // The copy of a term, which was made before.
-    fn term(&self, id: TermId) -> Result<TermId, Memory> {
+    fn term(&self, id: TermId) -> Result<TermId, Memory>
+        ensures { IfOk result (λ copy. get nat_eq self.now.terms id.0 ≡ Some copy.0) }
+    {
         match self.terms.get(&id.0) {
             Some(copy) => Ok(TermId(*copy)),
             None => Err(Memory),
@@ -41,14 +100,18 @@ impl Copies {
     }
 
     // The copy of a type, which was made before.
-    fn ty(&self, id: TypeId) -> Result<TypeId, Memory> {
+    fn ty(&self, id: TypeId) -> Result<TypeId, Memory>
+        ensures { IfOk result (λ copy. get nat_eq self.now.types id.0 ≡ Some copy.0) }
+    {
         match self.types.get(&id.0) {
             Some(copy) => Ok(TypeId(*copy)),
             None => Err(Memory),
         }
     }
 
-    fn all_terms(&self, alloc: Global, ids: &[TermId]) -> Result<Vec<TermId>, Memory> {
+    fn all_terms(&self, alloc: Global, ids: &[TermId]) -> Result<Vec<TermId>, Memory>
+        ensures { IfOk result (λ copies. map (λ t. get nat_eq self.now.terms t.0) ids.now ≡ map (λ t. Some t.0) copies.items) }
+    {
         let mut made = Vec::new(alloc);
         for id in ids.iter().copied() {
             made.push(self.term(id)?)?;
@@ -56,12 +119,30 @@ impl Copies {
         Ok(made)
     }
 
-    fn all_types(&self, alloc: Global, ids: &[TypeId]) -> Result<Vec<TypeId>, Memory> {
+    fn all_types(&self, alloc: Global, ids: &[TypeId]) -> Result<Vec<TypeId>, Memory>
+        ensures { IfOk result (λ copies. map (λ t. get nat_eq self.now.types t.0) ids.now ≡ map (λ t. Some t.0) copies.items) }
+    {
         let mut made = Vec::new(alloc);
         for id in ids.iter().copied() {
             made.push(self.ty(id)?)?;
         }
         Ok(made)
+    }
+
+    fn keep(&mut self, id: TermId, copy: TermId) -> Result<(), Memory>
+        ensures types { self.new.types ≡ self.old.types }
+        ensures terms { OnOk result ((i : ℕ) → get nat_eq self.new.terms i ≡ (if nat_eq id.0 i then Some copy.0 else get nat_eq self.old.terms i)) }
+    {
+        self.terms.insert(id.0, copy.0)?;
+        Ok(())
+    }
+
+    fn keep_type(&mut self, id: TypeId, copy: TypeId) -> Result<(), Memory>
+        ensures terms { self.new.terms ≡ self.old.terms }
+        ensures types { OnOk result ((i : ℕ) → get nat_eq self.new.types i ≡ (if nat_eq id.0 i then Some copy.0 else get nat_eq self.old.types i)) }
+    {
+        self.types.insert(id.0, copy.0)?;
+        Ok(())
     }
 
     // The parts of a term come first.
@@ -113,15 +194,13 @@ impl Copies {
     }
 
     // The copy of a term whose parts have copies.
-    fn made(
-        &self,
-        alloc: Global,
-        from: &Bank,
-        id: TermId,
-        to: &mut Bank,
-    ) -> Result<TermId, Memory> {
+    fn made(&self, alloc: Global, from: &Bank, id: TermId, to: &mut Bank) -> Result<TermId, Memory>
+        ensures kept { Extends to.old to.new }
+        ensures made { IfOk result (λ copy. AreCopies from.now to.old self.now → IsCopy from.now to.new id.0 copy.0) }
+    {
         known(from, id)?;
-        match from.term_node(id) {
+        let node = from.term_node(id);
+        match node {
             TermNode::Const(number, types) => {
                 let copies = self.all_types(alloc, types)?;
                 put_constant(to, number, copies.as_slice())
@@ -139,11 +218,7 @@ impl Copies {
                 let copies = self.all_terms(alloc, args)?;
                 put_application(to, first, copies.as_slice())
             }
-            TermNode::Index(at) => to.put_term(TermNode::Index(at)),
-            TermNode::Int(value) => to.put_term(TermNode::Int(value)),
-            TermNode::Text(bytes) => to.put_term(TermNode::Text(bytes)),
-            TermNode::Eigen(level) => to.put_term(TermNode::Eigen(level)),
-            TermNode::Logic { id, level } => to.put_term(TermNode::Logic { id, level }),
+            _ => put_leaf(to, node),
         }
     }
 
@@ -154,11 +229,13 @@ impl Copies {
         from: &Bank,
         id: TypeId,
         to: &mut Bank,
-    ) -> Result<TypeId, Memory> {
+    ) -> Result<TypeId, Memory>
+        ensures kept { Extends to.old to.new }
+        ensures made { IfOk result (λ copy. AreCopies from.now to.old self.now → IsTypeCopy from.now to.new id.0 copy.0) }
+    {
         known_type(from, id)?;
-        match from.type_node(id) {
-            TypeNode::Var(number) => to.put_type(TypeNode::Var(number)),
-            TypeNode::Param(number) => to.put_type(TypeNode::Param(number)),
+        let node = from.type_node(id);
+        match node {
             TypeNode::Con(kind, parts) => {
                 let copies = self.all_types(alloc, parts)?;
                 put_constructor(to, kind, copies.as_slice())
@@ -168,6 +245,7 @@ impl Copies {
                 let other = self.ty(right)?;
                 put_arrow(to, one, other)
             }
+            _ => put_type_leaf(to, node),
         }
     }
 
@@ -178,19 +256,20 @@ impl Copies {
         task: Task,
         to: &mut Bank,
         tasks: &mut Vec<Task>,
-    ) -> Result<(), Memory> {
+    ) -> Result<(), Memory>
+        ensures kept { Extends to.old to.new }
+        ensures copied { OnOk result (AreCopies from.now to.old self.old → AreCopies from.now to.new self.new) }
+    {
         match task {
             Task::Visit(id) => self.visit(from, id, tasks),
             Task::VisitType(id) => self.visit_type(from, id, tasks),
             Task::Build(id) => {
                 let made = self.made(alloc, from, id, to)?;
-                self.terms.insert(id.0, made.0)?;
-                Ok(())
+                self.keep(id, made)
             }
             Task::BuildType(id) => {
                 let made = self.made_type(alloc, from, id, to)?;
-                self.types.insert(id.0, made.0)?;
-                Ok(())
+                self.keep_type(id, made)
             }
         }
     }
@@ -202,10 +281,14 @@ impl Copies {
         from: &Bank,
         term: TermId,
         to: &mut Bank,
-    ) -> Result<TermId, Memory> {
+    ) -> Result<TermId, Memory>
+        ensures kept { Extends to.old to.new }
+        ensures copied { OnOk result (AreCopies from.now to.old self.old → AreCopies from.now to.new self.new) }
+        ensures made { IfOk result (λ copy. AreCopies from.now to.old self.old → IsCopy from.now to.new term.0 copy.0) }
+    {
         let mut tasks = Vec::new(alloc);
         tasks.push(Task::Visit(term))?;
-        for _ in 0..u64::MAX {
+        'tasks: for _ in 0..u64::MAX {
             let Some(task) = tasks.pop() else {
                 return self.term(term);
             };

@@ -1,4 +1,7 @@
 // What a goal is by its head-normal form.
+ghost use Rattle.std.specs.Prelude.{◌≡◌, IfOk};
+ghost use Rattle.lp_term.specs.Nodes.{tree};
+ghost use Rattle.lp_plain.specs.Forms.{by_one, by_two, by_constant, HasItsTypes, IsForm};
 
 use crate::head::Head;
 use crate::known::known;
@@ -27,7 +30,9 @@ pub(crate) enum Form {
     Other,
 }
 
-fn of_two(number: u32, left: TermId, right: TermId) -> Form {
+fn of_two(number: u32, left: TermId, right: TermId) -> Form
+    ensures { result ≡ by_two number left right }
+{
     match number {
         0 => Form::Both(left, right),
         1 => Form::OneOf(left, right),
@@ -42,7 +47,9 @@ fn of_two(number: u32, left: TermId, right: TermId) -> Form {
     }
 }
 
-fn of_one(number: u32, arg: TermId) -> Form {
+fn of_one(number: u32, arg: TermId) -> Form
+    ensures { result ≡ by_one number arg }
+{
     match number {
         4 => Form::Every(arg),
         5 => Form::Exist(arg),
@@ -50,7 +57,9 @@ fn of_one(number: u32, arg: TermId) -> Form {
     }
 }
 
-fn of_constant(number: u32, args: &[TermId]) -> Form {
+fn of_constant(number: u32, args: &[TermId]) -> Form
+    ensures { result ≡ by_constant number args.now }
+{
     match args {
         [] => match number {
             6 => Form::Truth,
@@ -64,7 +73,9 @@ fn of_constant(number: u32, args: &[TermId]) -> Form {
 }
 
 /// What a head-normal goal is.
-pub(crate) fn form_of(alloc: Global, bank: &Bank, goal: TermId) -> Result<Form, Memory> {
+pub(crate) fn form_of(alloc: Global, bank: &Bank, goal: TermId) -> Result<Form, Memory>
+    ensures { IfOk result (λ form. HasItsTypes (tree bank.now goal.0) → IsForm bank.now (tree bank.now goal.0) form) }
+{
     let Spine { head, args } = unwound(alloc, bank, goal)?;
     known(bank, head)?;
     match bank.term_node(head) {

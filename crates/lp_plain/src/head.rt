@@ -1,4 +1,12 @@
 // What is told of a clause's head before it is tried.
+ghost use Rattle.std.specs.Prelude.{◌≡◌, ◌<◌, ℕ, ◌+◌, ◌++◌, ◌||◌, ◌∷◌, [], nat_eq, true, None, Some, Option, List, All, get_or, set, length, map, IfOk, OnOk};
+ghost use Rattle.lp_calculus.specs.Term.{Term, Atom, index, atom, constant, integer, text, eigen};
+ghost use Rattle.lp_term.specs.Nodes.{Nodes, tree};
+ghost use Rattle.lp_model.specs.Same.{same_name};
+ghost use Rattle.lp_model.specs.Search.{key_of, may_meet, first_key, slotted, slots_of, pairs_of};
+ghost use Rattle.lp_plain.specs.Candidates.{same_texts, same_keys, meets};
+ghost use Rattle.lp_plain.specs.declared.head.Key.TheVariants as kept;
+ghost use Rattle.lp_plain.specs.Heads.{IsKey, IsTextKey, trees_of, slot_place, pair_places, pair_in, new_among, with_slot, with_pair, places_of, stands, MarksMore, HaveBecome, slot_term, pairs_at};
 
 use crate::known::known;
 use crate::spine::head_of;
@@ -43,13 +51,50 @@ struct Place {
     depth: u64,
 }
 
-fn mark_index(index: u64, depth: u64, seen: &mut Vec<bool>) {
+fn mark(variable: usize, seen: &mut Vec<bool>)
+    ensures { seen.new.items ≡ set seen.old.items variable true }
+{
+    if variable < seen.len() {
+        seen[variable] = true;
+    }
+}
+
+fn mark_index(index: u64, depth: u64, seen: &mut Vec<bool>)
+    ensures count { length seen.new.items ≡ length seen.old.items }
+    ensures marks { (k : ℕ) → get_or seen.new.items k true ≡ (get_or seen.old.items k true || nat_eq index (k + depth)) }
+{
     if index < depth {
         return;
     }
-    if let Some(mark) = seen.get_mut((index - depth) as usize) {
-        *mark = true;
+    mark((index - depth) as usize, seen);
+}
+
+fn push_parts(
+    head: TermId,
+    args: &[TermId],
+    depth: u64,
+    places: &mut Vec<Place>,
+) -> Result<(), Memory>
+    ensures { OnOk result (places.new.items ≡ places.old.items ++ places_of depth (head ∷ args.now)) }
+{
+    places.push(Place { term: head, depth })?;
+    for term in args.iter().copied() {
+        places.push(Place { term, depth })?;
     }
+    Ok(())
+}
+
+fn push_body(body: TermId, depth: u64, places: &mut Vec<Place>) -> Result<(), Memory>
+    ensures { OnOk result (places.new.items ≡ places.old.items ++ record { term = body; depth = depth + 1 } ∷ []) }
+{
+    let Some(inner) = depth.checked_add(1) else {
+        return Err(Memory);
+    };
+    places.push(Place {
+        term: body,
+        depth: inner,
+    })?;
+    Ok(())
 }
 
 fn mark_node(
@@ -57,32 +102,29 @@ fn mark_node(
     place: Place,
     seen: &mut Vec<bool>,
     places: &mut Vec<Place>,
-) -> Result<(), Memory> {
+) -> Result<(), Memory>
+    ensures count { length seen.new.items ≡ length seen.old.items }
+    ensures marks { OnOk result ((k : ℕ) → (get_or seen.new.items k true || stands bank.now k places.new.items) ≡ (get_or seen.old.items k true || stands bank.now k (places.old.items ++ place ∷ []))) }
+{
     let depth = place.depth;
     known(bank, place.term)?;
     if bank.is_known_below(place.term, depth) {
         return Ok(());
     }
     match bank.term_node(place.term) {
-        TermNode::Index(at) => mark_index(at, depth, seen),
-        TermNode::Abs(body) => {
-            let Some(inner) = depth.checked_add(1) else {
-                return Err(Memory);
-            };
-            places.push(Place {
-                term: body,
-                depth: inner,
-            })?;
+        TermNode::Index(at) => {
+            mark_index(at, depth, seen);
+            Ok(())
         }
-        TermNode::App(head, args) => {
-            places.push(Place { term: head, depth })?;
-            for term in args.iter().copied() {
-                places.push(Place { term, depth })?;
-            }
-        }
-        _ => {}
+        TermNode::Abs(body) => push_body(body, depth, places),
+        TermNode::App(head, args) => push_parts(head, args, depth, places),
+        TermNode::Const(_, _) => Ok(()),
+        TermNode::Int(_) => Ok(()),
+        TermNode::Text(_) => Ok(()),
+        TermNode::Eigen(_) => Ok(()),
+        TermNode::Logic { id: _, level: _ } => Ok(()),
+        TermNode::Param(_, _) => Ok(()),
     }
-    Ok(())
 }
 
 // Marks the variables of the clause that stand in the term.
@@ -91,10 +133,12 @@ fn mark_variables(
     bank: &Bank,
     term: TermId,
     seen: &mut Vec<bool>,
-) -> Result<(), Memory> {
+) -> Result<(), Memory>
+    ensures { OnOk result (MarksMore seen.old.items seen.new.items (tree bank.now term.0)) }
+{
     let mut places = Vec::new(alloc);
     places.push(Place { term, depth: 0 })?;
-    for _ in 0..u64::MAX {
+    'places: for _ in 0..u64::MAX {
         let Some(place) = places.pop() else {
             return Ok(());
         };
@@ -103,15 +147,44 @@ fn mark_variables(
     Err(Memory)
 }
 
+// The variable, if it has no mark.
+fn unmarked(at: u64, seen: &Vec<bool>) -> Option<usize>
+    ensures { result ≡ new_among seen.now.items (index at) }
+{
+    let variable = at as usize;
+    if variable >= seen.len() {
+        return None;
+    }
+    if seen[variable] {
+        return None;
+    }
+    Some(variable)
+}
+
 // The variable of the clause that the argument is, if it was not seen before.
-fn new_variable(bank: &Bank, arg: TermId, seen: &Vec<bool>) -> Result<Option<usize>, Memory> {
+fn new_variable(bank: &Bank, arg: TermId, seen: &Vec<bool>) -> Result<Option<usize>, Memory>
+    ensures known { OnOk result (arg.0 < length bank.now.terms) }
+    ensures variable { IfOk result (λ variable. variable ≡ new_among seen.now.items (tree bank.now arg.0)) }
+{
     known(bank, arg)?;
-    let TermNode::Index(at) = bank.term_node(arg) else {
-        return Ok(None);
-    };
-    match seen.get(at as usize) {
-        Some(false) => Ok(Some(at as usize)),
-        _ => Ok(None),
+    match bank.term_node(arg) {
+        TermNode::Index(at) => Ok(unmarked(at, seen)),
+        TermNode::Abs(_) => Ok(None),
+        TermNode::App(_, _) => Ok(None),
+        TermNode::Const(_, _) => Ok(None),
+        TermNode::Int(_) => Ok(None),
+        TermNode::Text(_) => Ok(None),
+        TermNode::Eigen(_) => Ok(None),
+        TermNode::Logic { id: _, level: _ } => Ok(None),
+        TermNode::Param(_, _) => Ok(None),
+    }
+}
+
+fn put_slot(variable: usize, place: usize, slots: &mut Vec<Option<usize>>)
+    ensures { slots.new.items ≡ set slots.old.items variable (Some place) }
+{
+    if variable < slots.len() {
+        slots[variable] = Some(place);
     }
 }
 
@@ -122,17 +195,18 @@ fn add_arg(
     term: TermId,
     seen: &mut Vec<bool>,
     made: &mut HeadArgs,
-) -> Result<(), Memory> {
+) -> Result<(), Memory>
+    ensures known { OnOk result (term.0 < length bank.now.terms) }
+    ensures marks { OnOk result (MarksMore seen.old.items seen.new.items (tree bank.now term.0)) }
+    ensures slots { OnOk result (made.new.slots.items ≡ with_slot (new_among seen.old.items (tree bank.now term.0)) place made.old.slots.items) }
+    ensures pairs { OnOk result (made.new.pairs.items ≡ made.old.pairs.items ++ with_pair (new_among seen.old.items (tree bank.now term.0)) place term) }
+{
     let Some(variable) = new_variable(bank, term, seen)? else {
         made.pairs.push(HeadPair { place, term })?;
         return mark_variables(alloc, bank, term, seen);
     };
-    if let Some(mark) = seen.get_mut(variable) {
-        *mark = true;
-    }
-    if let Some(slot) = made.slots.get_mut(variable) {
-        *slot = Some(place);
-    }
+    mark(variable, seen);
+    put_slot(variable, place, &mut made.slots);
     Ok(())
 }
 
@@ -142,26 +216,33 @@ pub(crate) fn head_args(
     bank: &Bank,
     vars: usize,
     args: &[TermId],
-) -> Result<HeadArgs, Memory> {
+) -> Result<HeadArgs, Memory>
+    ensures known { IfOk result (λ made. All (λ p. p.term.0 < length bank.now.terms) made.pairs.items) }
+    ensures count { IfOk result (λ made. length made.slots.items ≡ vars) }
+    ensures slots { IfOk result (λ made. (k : ℕ) → k < vars → get_or made.slots.items k None ≡ slot_place k 0 [] (trees_of bank.now args.now)) }
+    ensures pairs { IfOk result (λ made. map (pair_in bank.now) made.pairs.items ≡ pair_places vars 0 [] (trees_of bank.now args.now)) }
+    ensures slotted { IfOk result (λ made. (hs ts : List Term) → (next level k : ℕ) → k < vars → HaveBecome vars (trees_of bank.now args.now) hs → slotted (slots_of [] hs ts) next level k ≡ slot_term ts next level k (get_or made.slots.items k None)) }
+    ensures paired { IfOk result (λ made. (hs ts : List Term) → (σ : ℕ → Term) → (level : ℕ) → HaveBecome vars (trees_of bank.now args.now) hs → pairs_of σ level [] hs ts ≡ pairs_at σ level hs ts (map (pair_in bank.now) made.pairs.items)) }
+{
     let mut seen = Vec::new(alloc);
     let mut made = HeadArgs {
         slots: Vec::new(alloc),
         pairs: Vec::new(alloc),
     };
-    for _ in 0..vars {
+    'variables: for number in 0..vars {
         seen.push(false)?;
         made.slots.push(None)?;
     }
-    let mut place = 0usize;
-    for arg in args.iter().copied() {
-        add_arg(alloc, bank, place, arg, &mut seen, &mut made)?;
-        place = place.saturating_add(1);
+    'arguments: for place in 0..args.len() {
+        add_arg(alloc, bank, place, args[place], &mut seen, &mut made)?;
     }
     Ok(made)
 }
 
 /// The constant, integer, text or eigenconstant at the head of what is no abstraction.
-pub(crate) fn key_of(bank: &Bank, term: TermId) -> Result<Option<Key>, Memory> {
+pub(crate) fn key_of(bank: &Bank, term: TermId) -> Result<Option<Key>, Memory>
+    ensures { IfOk result (λ key. IsKey bank.now key (key_of (tree bank.now term.0))) }
+{
     let head = head_of(bank, term)?;
     known(bank, head)?;
     match bank.term_node(head) {
@@ -169,35 +250,107 @@ pub(crate) fn key_of(bank: &Bank, term: TermId) -> Result<Option<Key>, Memory> {
         TermNode::Int(value) => Ok(Some(Key::Number(value))),
         TermNode::Text(_) => Ok(Some(Key::Text(head))),
         TermNode::Eigen(level) => Ok(Some(Key::Eigen(level))),
-        _ => Ok(None),
+        TermNode::Index(_) => Ok(None),
+        TermNode::Logic { id: _, level: _ } => Ok(None),
+        TermNode::Param(_, _) => Ok(None),
+        TermNode::Abs(_) => Ok(None),
+        TermNode::App(_, _) => Err(Memory),
     }
 }
 
-fn same_text(bank: &Bank, one: TermId, other: TermId) -> bool {
-    if one.0 >= bank.term_count() || other.0 >= bank.term_count() {
-        return false;
-    }
-    let TermNode::Text(left) = bank.term_node(one) else {
-        return false;
-    };
-    let TermNode::Text(right) = bank.term_node(other) else {
-        return false;
-    };
-    left == right
-}
-
-fn same_key(bank: &Bank, one: Key, other: Key) -> bool {
-    match (one, other) {
-        (Key::Constant(left), Key::Constant(right)) => left == right,
-        (Key::Number(left), Key::Number(right)) => left == right,
-        (Key::Text(left), Key::Text(right)) => same_text(bank, left, right),
-        (Key::Eigen(left), Key::Eigen(right)) => left == right,
+// Whether the term is the text of these bytes.
+fn has_bytes(bank: &Bank, id: TermId, bytes: &[u8]) -> bool
+    requires { id.0 < length bank.now.terms }
+    ensures { result ≡ same_name (atom (text bytes.now)) (tree bank.now id.0) }
+{
+    match bank.term_node(id) {
+        TermNode::Text(others) => bytes == others,
         _ => false,
     }
 }
 
+// Whether the texts are the same, where both terms are texts.
+fn same_text(bank: &Bank, one: TermId, other: TermId) -> bool
+    ensures same { result ≡ same_texts bank.now one.0 other.0 }
+    ensures meet { (a o : Option Atom) → IsTextKey bank.now one a → IsTextKey bank.now other o → result ≡ may_meet a o }
+{
+    if one.0 >= bank.term_count() {
+        return false;
+    }
+    if other.0 >= bank.term_count() {
+        return false;
+    }
+    match bank.term_node(one) {
+        TermNode::Text(left) => has_bytes(bank, other, left),
+        _ => false,
+    }
+}
+
+fn is_constant(key: Key, number: u32) -> bool
+    ensures same { (b : Nodes) → result ≡ same_keys b (kept.Constant number) key }
+    ensures meet { (b : Nodes) → (a : Option Atom) → IsKey b (Some key) a → result ≡ may_meet (Some (constant number [])) a }
+{
+    match key {
+        Key::Constant(other) => number == other,
+        Key::Number(_) => false,
+        Key::Text(_) => false,
+        Key::Eigen(_) => false,
+    }
+}
+
+fn is_number(key: Key, value: i64) -> bool
+    ensures same { (b : Nodes) → result ≡ same_keys b (kept.Number value) key }
+    ensures meet { (b : Nodes) → (a : Option Atom) → IsKey b (Some key) a → result ≡ may_meet (Some (integer value)) a }
+{
+    match key {
+        Key::Constant(_) => false,
+        Key::Number(other) => value == other,
+        Key::Text(_) => false,
+        Key::Eigen(_) => false,
+    }
+}
+
+fn is_text(bank: &Bank, key: Key, term: TermId) -> bool
+    ensures same { result ≡ same_keys bank.now (kept.Text term) key }
+    ensures meet { (a o : Option Atom) → IsTextKey bank.now term a → IsKey bank.now (Some key) o → result ≡ may_meet a o }
+{
+    match key {
+        Key::Constant(_) => false,
+        Key::Number(_) => false,
+        Key::Text(other) => same_text(bank, term, other),
+        Key::Eigen(_) => false,
+    }
+}
+
+fn is_eigen(key: Key, level: u64) -> bool
+    ensures same { (b : Nodes) → result ≡ same_keys b (kept.Eigen level) key }
+    ensures meet { (b : Nodes) → (a : Option Atom) → IsKey b (Some key) a → result ≡ may_meet (Some (eigen level)) a }
+{
+    match key {
+        Key::Constant(_) => false,
+        Key::Number(_) => false,
+        Key::Text(_) => false,
+        Key::Eigen(other) => level == other,
+    }
+}
+
+fn same_key(bank: &Bank, one: Key, other: Key) -> bool
+    ensures same { result ≡ same_keys bank.now one other }
+    ensures meet { (a o : Option Atom) → IsKey bank.now (Some one) a → IsKey bank.now (Some other) o → result ≡ may_meet a o }
+{
+    match one {
+        Key::Constant(number) => is_constant(other, number),
+        Key::Number(value) => is_number(other, value),
+        Key::Text(term) => is_text(bank, other, term),
+        Key::Eigen(level) => is_eigen(other, level),
+    }
+}
+
 /// Whether a clause passes the filter by the key of its first head argument and that of the goal's first argument.
-pub(crate) fn may_meet(bank: &Bank, clause: Option<Key>, goal: Option<Key>) -> bool {
+pub(crate) fn may_meet(bank: &Bank, clause: Option<Key>, goal: Option<Key>) -> bool
+    ensures same { result ≡ meets bank.now clause goal }
+    ensures meet { (a o : Option Atom) → IsKey bank.now clause a → IsKey bank.now goal o → result ≡ may_meet a o }
+{
     let Some(one) = clause else {
         return true;
     };
@@ -208,7 +361,9 @@ pub(crate) fn may_meet(bank: &Bank, clause: Option<Key>, goal: Option<Key>) -> b
 }
 
 /// The key of the first of the arguments of a clause's head.
-pub(crate) fn first_key(bank: &Bank, args: &[TermId]) -> Result<Option<Key>, Memory> {
+pub(crate) fn first_key(bank: &Bank, args: &[TermId]) -> Result<Option<Key>, Memory>
+    ensures { IfOk result (λ key. IsKey bank.now key (first_key (trees_of bank.now args.now))) }
+{
     match args.first() {
         Some(arg) => key_of(bank, *arg),
         None => Ok(None),

@@ -1,4 +1,15 @@
 // Terms of a clause with values for its variables and new type variables.
+ghost use Rattle.std.specs.Prelude.{◌≡◌, ℕ, ◌-◌, ◌<◌, ◌≤◌, List, [], ◌∷◌, ◌++◌, length, map, reverse, true, All, Some, slice_get, OnOk, IfOk};
+ghost use Rattle.lp_calculus.specs.Term.{Term, atom, constant};
+ghost use Rattle.lp_calculus.specs.Types.{instance};
+ghost use Rattle.lp_calculus.specs.Instance.{instance_term};
+ghost use Rattle.lp_term.specs.Nodes.{Extends, tree, type_tree};
+ghost use Rattle.lp_term.specs.declared.node.TermId.{TermId};
+ghost use Rattle.lp_model.specs.Index.{instantiate};
+ghost use Rattle.lp_plain.specs.Instances.{values_of, AreValues, StandFor, IsRenewedAtom, KeepsInstancing, visits_at};
+ghost use Rattle.lp_plain.specs.Renewal.{further};
+ghost use Rattle.lp_plain.specs.Scopes.{IsScope};
+ghost use Rattle.lp_plain.specs.Written.{IsWritten};
 
 use crate::known::{known, put_abstraction, put_application, put_constant};
 use crate::scope::Scopes;
@@ -22,29 +33,80 @@ enum Task {
     Build(TermId),
 }
 
-fn value_of(scopes: &Scopes, values: Values, index: u64) -> Result<TermId, Memory> {
-    match scopes.value(values.scope, index) {
-        Some(value) => Ok(value),
-        None => Err(Memory),
+// What stands for the index of the node, below so many binders.
+fn value_of(
+    scopes: &Scopes,
+    values: Values,
+    id: TermId,
+    at: u64,
+    depth: u64,
+) -> Result<TermId, Memory>
+    ensures bound { IfOk result (λ new. at < depth → new ≡ id) }
+    ensures value { IfOk result (λ new. depth ≤ at → (nb nv : ℕ) → (vs : List TermId) → IsScope scopes.now nb nv values.scope vs → slice_get vs (at - depth) ≡ Some new) }
+{
+    if at < depth {
+        return Ok(id);
     }
+    let Some(value) = scopes.value(values.scope, at - depth) else {
+        return Err(Memory);
+    };
+    Ok(value)
 }
 
-fn visit_constant(
+// The constant with its type variables raised.
+fn put_renewed(
     alloc: Global,
     bank: &mut Bank,
-    id: TermId,
+    number: u32,
+    ids: &[TypeId],
     types: u64,
-) -> Result<TermId, Memory> {
-    known(bank, id)?;
-    let TermNode::Const(number, ids) = bank.term_node(id) else {
-        return Ok(id);
-    };
-    if types == 0 || ids.is_empty() {
-        return Ok(id);
+) -> Result<TermId, Memory>
+    ensures kept { Extends bank.old bank.new }
+    ensures within { IfOk result (λ new. new.0 < length bank.new.terms) }
+    ensures tree { IfOk result (λ new. All (λ t. t.0 < length bank.old.types) ids.now → tree bank.new new.0 ≡ atom (constant number (map (λ t. instance (further types) (type_tree bank.old t.0)) ids.now))) }
+{
+    let renewed = all_renewed(alloc, bank, ids, types)?;
+    let id = put_constant(bank, number, renewed.as_slice())?;
+    Ok(id)
+}
+
+// Puts a visit of each term behind the other tasks, the last one first.
+fn push_visits(ids: &[TermId], depth: u64, tasks: &mut Vec<Task>) -> Result<(), Memory>
+    ensures { OnOk result (tasks.new.items ≡ tasks.old.items ++ reverse (visits_at depth ids.now)) }
+{
+    for done in 0..ids.len() {
+        let at = ids.len() - 1 - done;
+        tasks.push(Task::Visit(ids[at], depth))?;
     }
-    let old: Vec<TypeId> = Vec::from_slice(alloc, ids)?;
-    let new = all_renewed(alloc, bank, old.as_slice(), types)?;
-    put_constant(bank, number, new.as_slice())
+    Ok(())
+}
+
+// The atom with its type variables raised.
+fn renewed_atom(alloc: Global, bank: &mut Bank, id: TermId, types: u64) -> Result<TermId, Memory>
+    ensures kept { Extends bank.old bank.new }
+    ensures within { IfOk result (λ new. new.0 < length bank.new.terms) }
+    ensures renewed { IfOk result (λ new. IsRenewedAtom types (tree bank.old id.0) (tree bank.new new.0)) }
+{
+    known(bank, id)?;
+    match bank.term_node(id) {
+        TermNode::Const(number, ids) => {
+            if ids.is_empty() {
+                return Ok(id);
+            }
+            if types == 0 {
+                return Ok(id);
+            }
+            let old: Vec<TypeId> = Vec::from_slice(alloc, ids)?;
+            let new = put_renewed(alloc, bank, number, old.as_slice(), types)?;
+            Ok(new)
+        }
+        TermNode::Int(_) => Ok(id),
+        TermNode::Text(_) => Ok(id),
+        TermNode::Eigen(_) => Ok(id),
+        TermNode::Logic { .. } => Ok(id),
+        TermNode::Param(_, _) => Ok(id),
+        _ => Err(Memory),
+    }
 }
 
 fn visit(
@@ -56,19 +118,23 @@ fn visit(
     depth: u64,
     tasks: &mut Vec<Task>,
     made: &mut Vec<TermId>,
-) -> Result<(), Memory> {
+) -> Result<(), Memory>
+    ensures kept { Extends bank.old bank.new }
+    ensures moves { OnOk result ((nb nv : ℕ) → (vs : List TermId) → IsScope scopes.now nb nv values.scope vs → (σ : ℕ → Term) → StandFor bank.old vs σ →
+        KeepsInstancing σ values.types bank.old bank.new (tasks.old.items ++ Task.Visit id depth ∷ []) tasks.new.items made.old.items made.new.items) }
+{
     known(bank, id)?;
-    if values.types == 0 && bank.is_known_below(id, depth) {
-        made.push(id)?;
-        return Ok(());
+    if values.types == 0 {
+        if bank.is_known_below(id, depth) {
+            made.push(id)?;
+            return Ok(());
+        }
     }
     match bank.term_node(id) {
         TermNode::Index(at) => {
-            if at < depth {
-                made.push(id)?;
-                return Ok(());
-            }
-            made.push(value_of(scopes, values, at - depth)?)?;
+            let new = value_of(scopes, values, id, at, depth)?;
+            made.push(new)?;
+            Ok(())
         }
         TermNode::Abs(body) => {
             let Some(inner) = depth.checked_add(1) else {
@@ -76,26 +142,27 @@ fn visit(
             };
             tasks.push(Task::Build(id))?;
             tasks.push(Task::Visit(body, inner))?;
+            Ok(())
         }
         TermNode::App(head, args) => {
             tasks.push(Task::Build(id))?;
-            for arg in args.iter().rev().copied() {
-                tasks.push(Task::Visit(arg, depth))?;
-            }
+            push_visits(args, depth, tasks)?;
             tasks.push(Task::Visit(head, depth))?;
+            Ok(())
         }
-        TermNode::Const(_, _) => made.push(visit_constant(alloc, bank, id, values.types)?)?,
-        TermNode::Int(_) => made.push(id)?,
-        TermNode::Text(_) => made.push(id)?,
-        TermNode::Eigen(_) => made.push(id)?,
-        TermNode::Logic { .. } => made.push(id)?,
-        TermNode::Param(_, _) => made.push(id)?,
+        _ => {
+            let new = renewed_atom(alloc, bank, id, values.types)?;
+            made.push(new)?;
+            Ok(())
+        }
     }
-    Ok(())
 }
 
 // The last so many terms, in order.
-fn take_last(alloc: Global, made: &mut Vec<TermId>, count: usize) -> Result<Vec<TermId>, Memory> {
+fn take_last(alloc: Global, made: &mut Vec<TermId>, count: usize) -> Result<Vec<TermId>, Memory>
+    ensures taken { IfOk result (λ parts. made.old.items ≡ made.new.items ++ parts.items) }
+    ensures many { IfOk result (λ parts. length parts.items ≡ count) }
+{
     let mut parts = Vec::new(alloc);
     for _ in 0..count {
         let Some(part) = made.pop() else {
@@ -107,34 +174,89 @@ fn take_last(alloc: Global, made: &mut Vec<TermId>, count: usize) -> Result<Vec<
     Ok(parts)
 }
 
-fn build(
-    alloc: Global,
-    bank: &mut Bank,
-    id: TermId,
-    made: &mut Vec<TermId>,
-) -> Result<TermId, Memory> {
+// Whether the terms have the same numbers.
+fn are_same(ones: &[TermId], others: &[TermId]) -> bool
+    ensures { result ≡ true → ones.now ≡ others.now }
+{
+    if ones.len() != others.len() {
+        return false;
+    }
+    for place in 0..ones.len() {
+        if ones[place].0 != others[place].0 {
+            return false;
+        }
+    }
+    true
+}
+
+// Whether the head and the arguments are those that there were.
+fn is_unchanged(head: TermId, old: TermId, args: &[TermId], parts: &[TermId]) -> bool
+    ensures head { result ≡ true → head.0 ≡ old.0 }
+    ensures args { result ≡ true → args.now ≡ parts.now }
+{
+    if head.0 != old.0 {
+        return false;
+    }
+    are_same(args, parts)
+}
+
+fn build(alloc: Global, bank: &mut Bank, id: TermId, made: &mut Vec<TermId>) -> Result<(), Memory>
+    ensures kept { Extends bank.old bank.new }
+    ensures moves { OnOk result ((σ : ℕ → Term) → (k : ℕ) → (tasks : List Task) → KeepsInstancing σ k bank.old bank.new (tasks ++ Task.Build id ∷ []) tasks made.old.items made.new.items) }
+{
     known(bank, id)?;
     match bank.term_node(id) {
         TermNode::Abs(old) => {
             let Some(body) = made.pop() else {
                 return Err(Memory);
             };
-            if body == old {
-                return Ok(id);
+            if body.0 == old.0 {
+                made.push(id)?;
+                return Ok(());
             }
-            put_abstraction(bank, body)
+            let put = put_abstraction(bank, body)?;
+            made.push(put)?;
+            Ok(())
         }
         TermNode::App(old, parts) => {
             let args = take_last(alloc, made, parts.len())?;
             let Some(head) = made.pop() else {
                 return Err(Memory);
             };
-            if head == old && args.as_slice() == parts {
-                return Ok(id);
+            if is_unchanged(head, old, args.as_slice(), parts) {
+                made.push(id)?;
+                return Ok(());
             }
-            put_application(bank, head, args.as_slice())
+            let put = put_application(bank, head, args.as_slice())?;
+            made.push(put)?;
+            Ok(())
         }
-        _ => Ok(id),
+        _ => Err(Memory),
+    }
+}
+
+fn step(
+    alloc: Global,
+    bank: &mut Bank,
+    scopes: &Scopes,
+    values: Values,
+    task: Task,
+    tasks: &mut Vec<Task>,
+    made: &mut Vec<TermId>,
+) -> Result<(), Memory>
+    ensures kept { Extends bank.old bank.new }
+    ensures moves { OnOk result ((nb nv : ℕ) → (vs : List TermId) → IsScope scopes.now nb nv values.scope vs → (σ : ℕ → Term) → StandFor bank.old vs σ →
+        KeepsInstancing σ values.types bank.old bank.new (tasks.old.items ++ task ∷ []) tasks.new.items made.old.items made.new.items) }
+{
+    match task {
+        Task::Visit(id, depth) => {
+            visit(alloc, bank, scopes, values, id, depth, tasks, made)?;
+            Ok(())
+        }
+        Task::Build(id) => {
+            build(alloc, bank, id, made)?;
+            Ok(())
+        }
     }
 }
 
@@ -145,21 +267,25 @@ pub(crate) fn instance(
     scopes: &Scopes,
     values: Values,
     term: TermId,
-) -> Result<TermId, Memory> {
+) -> Result<TermId, Memory>
+    ensures kept { Extends bank.old bank.new }
+    ensures within { IfOk result (λ id. id.0 < length bank.new.terms) }
+    ensures tree { IfOk result (λ id. (nb nv : ℕ) → (vs : List TermId) → IsScope scopes.now nb nv values.scope vs → AreValues bank.old vs → (ar : ℕ → ℕ) → (k : ℕ) → IsWritten ar k (length vs) (tree bank.old term.0) →
+        tree bank.new id.0 ≡ instantiate (values_of bank.old vs) (instance_term (further values.types) (tree bank.old term.0))) }
+{
+    known(bank, term)?;
     let mut tasks = Vec::new(alloc);
     let mut made = Vec::new(alloc);
     tasks.push(Task::Visit(term, 0))?;
-    for _ in 0..u64::MAX {
-        match tasks.pop() {
-            None => return made.pop().ok_or(Memory),
-            Some(Task::Visit(id, depth)) => visit(
-                alloc, bank, scopes, values, id, depth, &mut tasks, &mut made,
-            )?,
-            Some(Task::Build(id)) => {
-                let new = build(alloc, bank, id, &mut made)?;
-                made.push(new)?;
-            }
-        }
+    'tasks: for _ in 0..u64::MAX {
+        let Some(task) = tasks.pop() else {
+            let Some(new) = made.pop() else {
+                return Err(Memory);
+            };
+            known(bank, new)?;
+            return Ok(new);
+        };
+        step(alloc, bank, scopes, values, task, &mut tasks, &mut made)?;
     }
     Err(Memory)
 }

@@ -1,6 +1,8 @@
 // Terms and types of a bank by numbers that are tested to stand in it.
 ghost use Rattle.std.specs.Prelude.{◌≡◌, ◌<◌, length, map, true, All, OnOk, IfOk};
-ghost use Rattle.lp_term.specs.Nodes.{Extends};
+ghost use Rattle.lp_calculus.specs.Term.{abs, apply, atom, constant, param};
+ghost use Rattle.lp_calculus.specs.Types.{con, arrow, tys};
+ghost use Rattle.lp_term.specs.Nodes.{Extends, tree, type_tree};
 
 use lp_base::Memory;
 use lp_term::{Bank, TermId, TermNode, TypeId, TypeNode};
@@ -49,25 +51,36 @@ fn are_known_types(bank: &Bank, ids: &[TypeId]) -> bool
     true
 }
 
-pub(crate) fn put_constant(
-    bank: &mut Bank,
-    number: u32,
-    types: &[TypeId],
-) -> Result<TermId, Memory> {
+pub(crate) fn put_constant(bank: &mut Bank, number: u32, types: &[TypeId]) -> Result<TermId, Memory>
+    ensures kept { Extends bank.old bank.new }
+    ensures within { IfOk result (λ id. id.0 < length bank.new.terms) }
+    ensures tree { IfOk result (λ id. tree bank.new id.0 ≡ atom (constant number (map (λ t. type_tree bank.old t.0) types.now))) }
+{
     if !are_known_types(bank, types) {
         return Err(Memory);
     }
-    bank.put_term(TermNode::Const(number, types))
+    let id = bank.put_term(TermNode::Const(number, types))?;
+    Ok(id)
 }
 
-pub(crate) fn put_parameter(bank: &mut Bank, number: u64, id: TypeId) -> Result<TermId, Memory> {
-    known_type(bank, id)?;
-    bank.put_term(TermNode::Param(number, id))
+pub(crate) fn put_parameter(bank: &mut Bank, number: u64, of: TypeId) -> Result<TermId, Memory>
+    ensures kept { Extends bank.old bank.new }
+    ensures within { IfOk result (λ id. id.0 < length bank.new.terms) }
+    ensures tree { IfOk result (λ id. tree bank.new id.0 ≡ atom (param number (type_tree bank.old of.0))) }
+{
+    known_type(bank, of)?;
+    let id = bank.put_term(TermNode::Param(number, of))?;
+    Ok(id)
 }
 
-pub(crate) fn put_abstraction(bank: &mut Bank, body: TermId) -> Result<TermId, Memory> {
+pub(crate) fn put_abstraction(bank: &mut Bank, body: TermId) -> Result<TermId, Memory>
+    ensures kept { Extends bank.old bank.new }
+    ensures within { IfOk result (λ id. id.0 < length bank.new.terms) }
+    ensures tree { IfOk result (λ id. tree bank.new id.0 ≡ abs (tree bank.old body.0)) }
+{
     known(bank, body)?;
-    bank.put_term(TermNode::Abs(body))
+    let id = bank.put_term(TermNode::Abs(body))?;
+    Ok(id)
 }
 
 // The head on the arguments, of which there may be none.
@@ -75,7 +88,11 @@ pub(crate) fn put_application(
     bank: &mut Bank,
     head: TermId,
     args: &[TermId],
-) -> Result<TermId, Memory> {
+) -> Result<TermId, Memory>
+    ensures kept { Extends bank.old bank.new }
+    ensures within { IfOk result (λ id. id.0 < length bank.new.terms) }
+    ensures tree { IfOk result (λ id. tree bank.new id.0 ≡ apply (tree bank.old head.0) (map (λ t. tree bank.old t.0) args.now)) }
+{
     known(bank, head)?;
     if args.is_empty() {
         return Ok(head);
@@ -83,22 +100,33 @@ pub(crate) fn put_application(
     if !are_known(bank, args) {
         return Err(Memory);
     }
-    bank.put_term(TermNode::App(head, args))
+    let id = bank.put_term(TermNode::App(head, args))?;
+    Ok(id)
 }
 
 pub(crate) fn put_constructor(
     bank: &mut Bank,
     kind: u32,
     parts: &[TypeId],
-) -> Result<TypeId, Memory> {
+) -> Result<TypeId, Memory>
+    ensures kept { Extends bank.old bank.new }
+    ensures within { IfOk result (λ id. id.0 < length bank.new.types) }
+    ensures tree { IfOk result (λ id. type_tree bank.new id.0 ≡ con kind (tys (map (λ t. type_tree bank.old t.0) parts.now))) }
+{
     if !are_known_types(bank, parts) {
         return Err(Memory);
     }
-    bank.put_type(TypeNode::Con(kind, parts))
+    let id = bank.put_type(TypeNode::Con(kind, parts))?;
+    Ok(id)
 }
 
-pub(crate) fn put_arrow(bank: &mut Bank, from: TypeId, to: TypeId) -> Result<TypeId, Memory> {
+pub(crate) fn put_arrow(bank: &mut Bank, from: TypeId, to: TypeId) -> Result<TypeId, Memory>
+    ensures kept { Extends bank.old bank.new }
+    ensures within { IfOk result (λ id. id.0 < length bank.new.types) }
+    ensures tree { IfOk result (λ id. type_tree bank.new id.0 ≡ arrow (type_tree bank.old from.0) (type_tree bank.old to.0)) }
+{
     known_type(bank, from)?;
     known_type(bank, to)?;
-    bank.put_type(TypeNode::Arrow(from, to))
+    let id = bank.put_type(TypeNode::Arrow(from, to))?;
+    Ok(id)
 }

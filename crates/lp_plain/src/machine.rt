@@ -94,14 +94,24 @@ impl Machine {
         instance(self.alloc, &mut self.bank, &self.scopes, place.values, term)
     }
 
-    pub(crate) fn first_candidate(&self, call: &Call) -> Option<Candidate> {
-        first_candidate(&self.bank, &self.table, &self.index, &self.newest, call)
+    pub(crate) fn first_candidate(&self, call: &Call) -> Result<Option<Candidate>, Memory> {
+        first_candidate(
+            &self.bank,
+            &self.table.rules,
+            &self.index,
+            &self.newest,
+            call,
+        )
     }
 
-    pub(crate) fn candidate_after(&self, call: &Call, candidate: Candidate) -> Option<Candidate> {
+    pub(crate) fn candidate_after(
+        &self,
+        call: &Call,
+        candidate: Candidate,
+    ) -> Result<Option<Candidate>, Memory> {
         candidate_after(
             &self.bank,
-            &self.table,
+            &self.table.rules,
             &self.index,
             &self.assumptions,
             call,

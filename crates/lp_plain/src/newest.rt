@@ -1,4 +1,7 @@
 // The newest assumption of each head: a digital search tree (Coffman and Eve 1970) whose nodes are shared by branches. A change copies the way to it.
+ghost use Rattle.std.specs.Prelude.{◌≡◌, ◌++◌, ◌∷◌, [], true, false, length, reverse, IfOk};
+ghost use Rattle.lp_pattern.specs.Growing.{GoesOn};
+ghost use Rattle.lp_plain.specs.Newest.{code_of, is_odd, child_of, set_child, node_of, IsNewest, IsWith, IsWay};
 
 use crate::head::Head;
 use lp_base::Memory;
@@ -8,24 +11,68 @@ use std::alloc::Global;
 #[derive(Clone, Copy)]
 pub(crate) struct Newest {
     head: Head,
-    assumption: usize,
+    number: usize,
     even: Option<usize>,
     odd: Option<usize>,
 }
 
+// A node that is passed on the way to another, and which child the way goes to.
+#[derive(Clone, Copy)]
+struct Step {
+    node: Newest,
+    is_odd: bool,
+}
+
+// The way to a head's node, or to where it would stand.
+#[derive(Drop)]
+struct Way {
+    steps: Vec<Step>,
+    end: Option<Newest>,
+}
+
 // A number for a head. Two heads may have one.
-fn code(head: Head) -> u64 {
+#[tactic(auto, unfolding(crate::specs::Newest::code_of))]
+fn code(head: Head) -> u64
+    ensures { result ≡ code_of head }
+{
     match head {
-        Head::Constant(number) => (number as u64) << 1,
-        Head::Eigen(level) => (level << 1) | 1,
+        Head::Constant(number) => 2 * (number as u64),
+        Head::Eigen(level) => 2 * (level % 9_223_372_036_854_775_808) + 1,
     }
 }
 
-fn child(node: Newest, is_odd: bool) -> Option<usize> {
+#[tactic(auto, unfolding(crate::specs::Newest::is_odd))]
+fn leads_to_odd(bits: u64) -> bool
+    ensures { result ≡ is_odd bits }
+{
+    bits % 2 == 1
+}
+
+fn same_head(one: Head, other: Head) -> bool
+    ensures same { result ≡ true → one ≡ other }
+    ensures other { result ≡ false → one ≡ other → ⊥ }
+{
+    match one {
+        Head::Constant(number) => match other {
+            Head::Constant(second) => number == second,
+            Head::Eigen(_) => false,
+        },
+        Head::Eigen(level) => match other {
+            Head::Constant(_) => false,
+            Head::Eigen(second) => level == second,
+        },
+    }
+}
+
+fn child(node: Newest, is_odd: bool) -> Option<usize>
+    ensures { result ≡ child_of node is_odd }
+{
     if is_odd { node.odd } else { node.even }
 }
 
-fn with_child(node: Newest, is_odd: bool, below: usize) -> Newest {
+fn with_child(node: Newest, is_odd: bool, below: usize) -> Newest
+    ensures { result ≡ set_child node is_odd below }
+{
     if is_odd {
         Newest {
             odd: Some(below),
@@ -40,51 +87,89 @@ fn with_child(node: Newest, is_odd: bool, below: usize) -> Newest {
 }
 
 /// The newest assumption of a head in the tree of this number.
-pub(crate) fn newest_of(nodes: &Vec<Newest>, tree: Option<usize>, head: Head) -> Option<usize> {
-    let mut at = tree;
-    let mut bits = code(head);
-    for _ in 0..u64::MAX {
-        let node = nodes.get(at?)?;
-        if node.head == head {
-            return Some(node.assumption);
-        }
-        at = child(*node, bits & 1 == 1);
-        bits >>= 1;
-    }
-    None
-}
-
-// The node of a head, without an older assumption where the tree has none. The way to it goes to the list, from the root on.
-fn way_to(
+pub(crate) fn newest_of(
     nodes: &Vec<Newest>,
     tree: Option<usize>,
     head: Head,
-    way: &mut Vec<(Newest, bool)>,
-) -> Result<Option<Newest>, Memory> {
+) -> Result<Option<usize>, Memory>
+    ensures { IfOk result (λ found. IsNewest nodes.now.items tree head found) }
+{
     let mut at = tree;
     let mut bits = code(head);
-    for _ in 0..u64::MAX {
+    'nodes: for _ in 0..u64::MAX {
         let Some(number) = at else {
             return Ok(None);
         };
         let Some(node) = nodes.get(number) else {
             return Err(Memory);
         };
-        if node.head == head {
-            return Ok(Some(*node));
+        if same_head(node.head, head) {
+            return Ok(Some(node.number));
         }
-        let is_odd = bits & 1 == 1;
-        way.push((*node, is_odd))?;
-        at = child(*node, is_odd);
-        bits >>= 1;
+        at = child(*node, leads_to_odd(bits));
+        bits /= 2;
     }
     Err(Memory)
 }
 
-fn put(nodes: &mut Vec<Newest>, node: Newest) -> Result<usize, Memory> {
-    let number = nodes.len();
+// The way from the root to the node of a head.
+fn way_to(
+    alloc: Global,
+    nodes: &Vec<Newest>,
+    tree: Option<usize>,
+    head: Head,
+) -> Result<Way, Memory>
+    ensures { IfOk result (λ way. IsWay nodes.now.items head tree (reverse way.steps.items) way.end) }
+{
+    let mut steps = Vec::new(alloc);
+    let mut at = tree;
+    let mut bits = code(head);
+    'nodes: for _ in 0..u64::MAX {
+        let Some(number) = at else {
+            return Ok(Way { steps, end: None });
+        };
+        let Some(node) = nodes.get(number) else {
+            return Err(Memory);
+        };
+        if same_head(node.head, head) {
+            return Ok(Way {
+                steps,
+                end: Some(*node),
+            });
+        }
+        let is_odd = leads_to_odd(bits);
+        steps.push(Step {
+            node: *node,
+            is_odd,
+        })?;
+        at = child(*node, is_odd);
+        bits /= 2;
+    }
+    Err(Memory)
+}
+
+// The node of the head with its new assumption. Without an older node nothing stands below it.
+fn node_for(end: Option<Newest>, head: Head, number: usize) -> Newest
+    ensures { result ≡ node_of end head number }
+{
+    match end {
+        Some(node) => Newest { number, ..node },
+        None => Newest {
+            head,
+            number,
+            even: None,
+            odd: None,
+        },
+    }
+}
+
+fn put(nodes: &mut Vec<Newest>, node: Newest) -> Result<usize, Memory>
+    ensures kept { GoesOn nodes.old.items nodes.new.items }
+    ensures put { IfOk result (λ place. (place ≡ length nodes.old.items) × (nodes.new.items ≡ nodes.old.items ++ node ∷ [])) }
+{
+    let place = nodes.len();
     nodes.push(node)?;
-    Ok(number)
+    Ok(place)
 }
 
 /// The tree with this assumption as the newest one of its head.
@@ -93,22 +178,15 @@ pub(crate) fn with_newest(
     nodes: &mut Vec<Newest>,
     tree: Option<usize>,
     head: Head,
-    assumption: usize,
-) -> Result<usize, Memory> {
-    let mut way = Vec::new(alloc);
-    let found = way_to(nodes, tree, head, &mut way)?;
-    let node = match found {
-        Some(node) => Newest { assumption, ..node },
-        None => Newest {
-            head,
-            assumption,
-            even: None,
-            odd: None,
-        },
-    };
-    let mut below = put(nodes, node)?;
-    for (node, is_odd) in way.iter().rev().copied() {
-        below = put(nodes, with_child(node, is_odd, below))?;
+    number: usize,
+) -> Result<usize, Memory>
+    ensures kept { GoesOn nodes.old.items nodes.new.items }
+    ensures newest { IfOk result (λ root. IsWith nodes.old.items nodes.new.items head number tree (code_of head) root) }
+{
+    let Way { mut steps, end } = way_to(alloc, nodes, tree, head)?;
+    let mut below = put(nodes, node_for(end, head, number))?;
+    'steps: while let Some(step) = steps.pop() {
+        below = put(nodes, with_child(step.node, step.is_odd, below))?;
     }
     Ok(below)
 }

@@ -73,28 +73,33 @@ fn put_all(
     Ok(())
 }
 
-// The head of an assumed clause, in the place in which it is assumed.
-fn assumed_head(machine: &Machine, rule: usize, place: Place) -> Result<Option<Head>, Memory> {
+// The head of an assumed clause, in the place in which it is assumed. An index there is a variable that a `pi` around the clause binds.
+fn assumed_head(machine: &Machine, rule: usize, place: Place) -> Result<Head, Memory> {
     let Some(found) = machine.table.rules.get(rule) else {
         return Err(Memory);
     };
     known(&machine.bank, found.head)?;
     match machine.bank.term_node(found.head) {
-        TermNode::Const(number, _) => Ok(Some(Head::Constant(number))),
+        TermNode::Const(number, _) => Ok(Head::Constant(number)),
         TermNode::Index(at) => {
             let Some(outer) = at.checked_sub(found.slots.len() as u64) else {
-                return Ok(None);
+                return Err(Memory);
             };
-            let Some(value) = machine.scopes.value(place.values.scope, outer) else {
-                return Ok(None);
-            };
-            known(&machine.bank, value)?;
-            match machine.bank.term_node(value) {
-                TermNode::Eigen(level) => Ok(Some(Head::Eigen(level))),
-                _ => Ok(None),
-            }
+            bound_head(machine, place, outer)
         }
-        _ => Ok(None),
+        _ => Err(Memory),
+    }
+}
+
+// The head that the value of a variable around a clause is.
+fn bound_head(machine: &Machine, place: Place, variable: u64) -> Result<Head, Memory> {
+    let Some(value) = machine.scopes.value(place.values.scope, variable) else {
+        return Err(Memory);
+    };
+    known(&machine.bank, value)?;
+    match machine.bank.term_node(value) {
+        TermNode::Eigen(level) => Ok(Head::Eigen(level)),
+        _ => Err(Memory),
     }
 }
 
@@ -106,11 +111,12 @@ fn assume_one(
     tree: Option<usize>,
     head: Head,
 ) -> Result<usize, Memory> {
+    let older = newest_of(&machine.newest, tree, head)?;
     let number = machine.assumptions.len();
     machine.assumptions.push(Assumption {
         rule,
         values: place.values,
-        older: newest_of(&machine.newest, tree, head),
+        older,
     })?;
     with_newest(machine.alloc, &mut machine.newest, tree, head, number)
 }
@@ -118,10 +124,10 @@ fn assume_one(
 // Assumes clauses, the first of them to be tried first. The tree of the newest assumptions then.
 fn assume(machine: &mut Machine, rules: Span, place: Place) -> Result<Option<usize>, Memory> {
     let mut tree = place.assumed;
-    for rule in (rules.from..rules.to).rev() {
-        if let Some(head) = assumed_head(machine, rule, place)? {
-            tree = Some(assume_one(machine, rule, place, tree, head)?);
-        }
+    'rules: for rule in (rules.from..rules.to).rev() {
+        let head = assumed_head(machine, rule, place)?;
+        let newest = assume_one(machine, rule, place, tree, head)?;
+        tree = Some(newest);
     }
     Ok(tree)
 }

@@ -1,4 +1,7 @@
 // The values of the variables that are bound around a goal. A scope is the number of a block.
+ghost use Rattle.std.specs.Prelude.{◌≡◌, ℕ, ◌≤◌, List, ◌++◌, Option, slice_get, IfOk};
+ghost use Rattle.lp_term.specs.declared.node.TermId.{TermId};
+ghost use Rattle.lp_plain.specs.Scopes.{IsScope, KeepsScopes, block_count, value_count, blocks_to};
 
 use lp_base::Memory;
 use lp_term::TermId;
@@ -26,6 +29,20 @@ pub(crate) struct ScopeMark {
     values: usize,
 }
 
+// The scope around a block, which is older.
+fn older(around: Option<usize>, number: usize) -> Option<usize>
+    ensures older { blocks_to result ≤ number }
+    ensures same { blocks_to around ≤ number → result ≡ around }
+{
+    let Some(at) = around else {
+        return None;
+    };
+    if at < number {
+        return Some(at);
+    }
+    None
+}
+
 impl Scopes {
     pub(crate) fn new(alloc: Global) -> Scopes {
         Scopes {
@@ -39,13 +56,16 @@ impl Scopes {
         &mut self,
         around: Option<usize>,
         values: &[TermId],
-    ) -> Result<Option<usize>, Memory> {
+    ) -> Result<Option<usize>, Memory>
+        ensures kept { (nb nv : ℕ) → nb ≤ block_count self.old → nv ≤ value_count self.old → KeepsScopes self.old self.new nb nv }
+        ensures opened { IfOk result (λ o. (vs : List TermId) → IsScope self.old (block_count self.old) (value_count self.old) around vs → IsScope self.new (block_count self.new) (value_count self.new) o (values.now ++ vs)) }
+    {
         if values.is_empty() {
             return Ok(around);
         }
         let from = self.values.len();
-        self.values.extend_from_slice(values)?;
         let number = self.blocks.len();
+        self.values.extend_from_slice(values)?;
         self.blocks.push(Block {
             from,
             count: values.len(),
@@ -55,25 +75,33 @@ impl Scopes {
     }
 
     /// The value of an index in a scope. It has no loose index.
-    pub(crate) fn value(&self, scope: Option<usize>, index: u64) -> Option<TermId> {
+    pub(crate) fn value(&self, scope: Option<usize>, index: u64) -> Option<TermId>
+        ensures { (nb nv : ℕ) → (vs : List TermId) → IsScope self.now nb nv scope vs → result ≡ slice_get vs index }
+    {
         let mut left = index;
         let mut at = scope;
-        for _ in 0..u64::MAX {
-            let block = self.blocks.get(at?)?;
+        'outwards: while let Some(number) = at {
+            let Some(block) = self.blocks.get(number) else {
+                return None;
+            };
             let count = block.count as u64;
             if left < count {
-                return self
-                    .values
-                    .get(block.from.saturating_add(left as usize))
-                    .copied();
+                let place = block.from.saturating_add(left as usize);
+                let Some(value) = self.values.get(place) else {
+                    return None;
+                };
+                return Some(*value);
             }
             left -= count;
-            at = block.around;
+            at = older(block.around, number);
         }
         None
     }
 
-    pub(crate) fn mark(&self) -> ScopeMark {
+    pub(crate) fn mark(&self) -> ScopeMark
+        ensures blocks { result.blocks ≡ block_count self.now }
+        ensures values { result.values ≡ value_count self.now }
+    {
         ScopeMark {
             blocks: self.blocks.len(),
             values: self.values.len(),
@@ -81,7 +109,11 @@ impl Scopes {
     }
 
     /// Takes back what was opened since the mark.
-    pub(crate) fn undo(&mut self, mark: ScopeMark) {
+    pub(crate) fn undo(&mut self, mark: ScopeMark)
+        ensures kept { (nb nv : ℕ) → nb ≤ mark.blocks → nv ≤ mark.values → KeepsScopes self.old self.new nb nv }
+        ensures blocks { mark.blocks ≤ block_count self.old → block_count self.new ≡ mark.blocks }
+        ensures values { mark.values ≤ value_count self.old → value_count self.new ≡ mark.values }
+    {
         self.blocks.truncate(mark.blocks);
         self.values.truncate(mark.values);
     }

@@ -104,7 +104,7 @@ pub(crate) fn begin(
     } = program;
     let mut table = Table::new(alloc);
     let spans = put_program(alloc, &mut bank, &clauses, &mut table)?;
-    let index = index_of(alloc, &bank, &mut table, spans.as_slice())?;
+    let index = index_of(alloc, &bank, &mut table.rules, &spans)?;
     let goals = flat_query(alloc, &mut bank, &query)?;
     let list = table.put_goals(alloc, &bank, &goals)?;
     let variables = query_variables(alloc, &mut bank, query.vars.len())?;

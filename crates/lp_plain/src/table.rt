@@ -1,4 +1,5 @@
 // Flattened goals and clauses by number. A goal's parts are named by numbers of lists.
+ghost use Rattle.std.specs.Prelude.{◌≡◌, Some, slice_get, IfOk};
 
 use crate::head::{HeadPair, Key, first_key, head_args};
 use crate::spine::{Spine, unwound};
@@ -66,7 +67,9 @@ impl Table {
         }
     }
 
-    pub(crate) fn goal(&self, number: usize) -> Result<Flat, Memory> {
+    pub(crate) fn goal(&self, number: usize) -> Result<Flat, Memory>
+        ensures { IfOk result (λ flat. slice_get self.now.goals.items number ≡ Some flat) }
+    {
         match self.goals.get(number) {
             Some(goal) => Ok(*goal),
             None => Err(Memory),
@@ -74,7 +77,9 @@ impl Table {
     }
 
     /// The numbers of the goals of a list.
-    pub(crate) fn list(&self, number: usize) -> Result<Span, Memory> {
+    pub(crate) fn list(&self, number: usize) -> Result<Span, Memory>
+        ensures { IfOk result (λ span. slice_get self.now.lists.items number ≡ Some span) }
+    {
         match self.lists.get(number) {
             Some(span) => Ok(*span),
             None => Err(Memory),

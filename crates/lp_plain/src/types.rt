@@ -1,4 +1,8 @@
 // Types with new type variables.
+ghost use Rattle.std.specs.Prelude.{◌≡◌, ℕ, ◌<◌, List, [], ◌∷◌, ◌++◌, length, map, reverse, true, All, OnOk, IfOk};
+ghost use Rattle.lp_calculus.specs.Types.{instance};
+ghost use Rattle.lp_term.specs.Nodes.{Extends, type_tree};
+ghost use Rattle.lp_plain.specs.Renewal.{further, KeepsRenewing, visits};
 
 use crate::known::{known_type, put_arrow, put_constructor};
 use lp_base::Memory;
@@ -13,7 +17,10 @@ enum Task {
 }
 
 // The last so many types, in order.
-fn take_last(alloc: Global, made: &mut Vec<TypeId>, count: usize) -> Result<Vec<TypeId>, Memory> {
+fn take_last(alloc: Global, made: &mut Vec<TypeId>, count: usize) -> Result<Vec<TypeId>, Memory>
+    ensures taken { IfOk result (λ parts. made.old.items ≡ made.new.items ++ parts.items) }
+    ensures many { IfOk result (λ parts. length parts.items ≡ count) }
+{
     let mut parts = Vec::new(alloc);
     for _ in 0..count {
         let Some(part) = made.pop() else {
@@ -25,53 +32,97 @@ fn take_last(alloc: Global, made: &mut Vec<TypeId>, count: usize) -> Result<Vec<
     Ok(parts)
 }
 
+// Puts a visit of each type behind the other tasks, the last one first.
+fn push_visits(ids: &[TypeId], tasks: &mut Vec<Task>) -> Result<(), Memory>
+    ensures { OnOk result (tasks.new.items ≡ tasks.old.items ++ reverse (visits ids.now)) }
+{
+    for done in 0..ids.len() {
+        let at = ids.len() - 1 - done;
+        tasks.push(Task::Visit(ids[at]))?;
+    }
+    Ok(())
+}
+
+// The type variable so much further.
+fn put_further(bank: &mut Bank, variable: u64, by: u64) -> Result<TypeId, Memory>
+    ensures kept { Extends bank.old bank.new }
+    ensures within { IfOk result (λ id. id.0 < length bank.new.types) }
+    ensures tree { IfOk result (λ id. type_tree bank.new id.0 ≡ further by variable) }
+{
+    let Some(new) = variable.checked_add(by) else {
+        return Err(Memory);
+    };
+    let id = bank.put_type(TypeNode::Var(new))?;
+    Ok(id)
+}
+
 fn visit(
     bank: &mut Bank,
     id: TypeId,
     by: u64,
     tasks: &mut Vec<Task>,
     made: &mut Vec<TypeId>,
-) -> Result<(), Memory> {
+) -> Result<(), Memory>
+    ensures kept { Extends bank.old bank.new }
+    ensures moves { OnOk result (KeepsRenewing by bank.old bank.new (tasks.old.items ++ Task.Visit id ∷ []) tasks.new.items made.old.items made.new.items) }
+{
     known_type(bank, id)?;
     match bank.type_node(id) {
         TypeNode::Var(variable) => {
-            let Some(new) = variable.checked_add(by) else {
-                return Err(Memory);
-            };
-            made.push(bank.put_type(TypeNode::Var(new))?)?;
+            let new = put_further(bank, variable, by)?;
+            made.push(new)?;
+            Ok(())
         }
-        TypeNode::Param(_) => made.push(id)?,
+        TypeNode::Param(_) => {
+            made.push(id)?;
+            Ok(())
+        }
         TypeNode::Con(_, parts) => {
             tasks.push(Task::Build(id))?;
-            for part in parts.iter().rev().copied() {
-                tasks.push(Task::Visit(part))?;
-            }
+            push_visits(parts, tasks)?;
+            Ok(())
         }
         TypeNode::Arrow(from, to) => {
             tasks.push(Task::Build(id))?;
             tasks.push(Task::Visit(to))?;
             tasks.push(Task::Visit(from))?;
+            Ok(())
         }
     }
-    Ok(())
 }
 
-fn build(
-    alloc: Global,
-    bank: &mut Bank,
-    id: TypeId,
-    made: &mut Vec<TypeId>,
-) -> Result<TypeId, Memory> {
+// Whether the types have the same numbers.
+fn are_same(ones: &[TypeId], others: &[TypeId]) -> bool
+    ensures { result ≡ true → ones.now ≡ others.now }
+{
+    if ones.len() != others.len() {
+        return false;
+    }
+    for place in 0..ones.len() {
+        if ones[place].0 != others[place].0 {
+            return false;
+        }
+    }
+    true
+}
+
+fn build(alloc: Global, bank: &mut Bank, id: TypeId, made: &mut Vec<TypeId>) -> Result<(), Memory>
+    ensures kept { Extends bank.old bank.new }
+    ensures moves { OnOk result ((by : ℕ) → (tasks : List Task) → KeepsRenewing by bank.old bank.new (tasks ++ Task.Build id ∷ []) tasks made.old.items made.new.items) }
+{
     known_type(bank, id)?;
     match bank.type_node(id) {
-        TypeNode::Var(_) => Ok(id),
-        TypeNode::Param(_) => Ok(id),
+        TypeNode::Var(_) => Err(Memory),
+        TypeNode::Param(_) => Err(Memory),
         TypeNode::Con(kind, parts) => {
-            let new = take_last(alloc, made, parts.len())?;
-            if new.as_slice() == parts {
-                return Ok(id);
+            let taken = take_last(alloc, made, parts.len())?;
+            if are_same(taken.as_slice(), parts) {
+                made.push(id)?;
+                return Ok(());
             }
-            put_constructor(bank, kind, new.as_slice())
+            let put = put_constructor(bank, kind, taken.as_slice())?;
+            made.push(put)?;
+            Ok(())
         }
         TypeNode::Arrow(_, _) => {
             let Some(to) = made.pop() else {
@@ -80,33 +131,58 @@ fn build(
             let Some(from) = made.pop() else {
                 return Err(Memory);
             };
-            put_arrow(bank, from, to)
+            let put = put_arrow(bank, from, to)?;
+            made.push(put)?;
+            Ok(())
+        }
+    }
+}
+
+fn step(
+    alloc: Global,
+    bank: &mut Bank,
+    by: u64,
+    task: Task,
+    tasks: &mut Vec<Task>,
+    made: &mut Vec<TypeId>,
+) -> Result<(), Memory>
+    ensures kept { Extends bank.old bank.new }
+    ensures moves { OnOk result (KeepsRenewing by bank.old bank.new (tasks.old.items ++ task ∷ []) tasks.new.items made.old.items made.new.items) }
+{
+    match task {
+        Task::Visit(id) => {
+            visit(bank, id, by, tasks, made)?;
+            Ok(())
+        }
+        Task::Build(id) => {
+            build(alloc, bank, id, made)?;
+            Ok(())
         }
     }
 }
 
 /// The type with its type variables raised by a number.
-pub(crate) fn renewed(
-    alloc: Global,
-    bank: &mut Bank,
-    id: TypeId,
-    by: u64,
-) -> Result<TypeId, Memory> {
+pub(crate) fn renewed(alloc: Global, bank: &mut Bank, id: TypeId, by: u64) -> Result<TypeId, Memory>
+    ensures kept { Extends bank.old bank.new }
+    ensures within { IfOk result (λ new. new.0 < length bank.new.types) }
+    ensures tree { IfOk result (λ new. type_tree bank.new new.0 ≡ instance (further by) (type_tree bank.old id.0)) }
+    ensures known { OnOk result (id.0 < length bank.old.types) }
+{
+    known_type(bank, id)?;
     if by == 0 {
         return Ok(id);
     }
     let mut tasks = Vec::new(alloc);
     let mut made = Vec::new(alloc);
     tasks.push(Task::Visit(id))?;
-    for _ in 0..u64::MAX {
-        match tasks.pop() {
-            None => return made.pop().ok_or(Memory),
-            Some(Task::Visit(part)) => visit(bank, part, by, &mut tasks, &mut made)?,
-            Some(Task::Build(part)) => {
-                let new = build(alloc, bank, part, &mut made)?;
-                made.push(new)?;
-            }
-        }
+    'tasks: for _ in 0..u64::MAX {
+        let Some(task) = tasks.pop() else {
+            let Some(new) = made.pop() else {
+                return Err(Memory);
+            };
+            return Ok(new);
+        };
+        step(alloc, bank, by, task, &mut tasks, &mut made)?;
     }
     Err(Memory)
 }
@@ -117,10 +193,15 @@ pub(crate) fn all_renewed(
     bank: &mut Bank,
     ids: &[TypeId],
     by: u64,
-) -> Result<Vec<TypeId>, Memory> {
+) -> Result<Vec<TypeId>, Memory>
+    ensures kept { Extends bank.old bank.new }
+    ensures within { IfOk result (λ new. All (λ t. t.0 < length bank.new.types) new.items) }
+    ensures trees { IfOk result (λ new. All (λ t. t.0 < length bank.old.types) ids.now → map (λ t. type_tree bank.new t.0) new.items ≡ map (λ t. instance (further by) (type_tree bank.old t.0)) ids.now) }
+{
     let mut new = Vec::new(alloc);
-    for id in ids.iter().copied() {
-        new.push(renewed(alloc, bank, id, by)?)?;
+    'ids: for id in ids.iter().copied() {
+        let made = renewed(alloc, bank, id, by)?;
+        new.push(made)?;
     }
     Ok(new)
 }

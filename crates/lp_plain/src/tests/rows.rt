@@ -284,6 +284,37 @@ fn pairs_that_are_left(rt: HostRuntime) {
     );
 }
 
+// The first argument of a goal is looked at once, and this form of it is passed on: the state shows it in a pair that is left. The
+// definition passes the argument on as it is, `(x\ f x) a`, which converts to it.
+#[test]
+fn first_arguments_are_passed_on_in_head_normal_form(rt: HostRuntime) {
+    let alloc = rt.alloc();
+    // q F G :- p (F a) G.
+    let passes = Sentence {
+        vars: 2,
+        codes: &[
+            IF, Q, X1, App, X0, App, App, P, X1, A, App, App, X0, App, App,
+        ],
+    };
+    // p X G :- G X = a.
+    let takes = Sentence {
+        vars: 2,
+        codes: &[
+            IF, P, X1, App, X0, App, App, EQUAL, X0, X1, App, App, A, App, App,
+        ],
+    };
+    // q (x\ f x) G
+    assert!(rt;
+        tells(
+            alloc,
+            &[passes, takes],
+            1,
+            &[Q, F, X0, App, Abs, App, X0, App],
+            b" _ | (_ (c43 c33)) == c33; no more 3"
+        )
+    );
+}
+
 // A chain of `;` of so many sides, as codes.
 fn a_chain(alloc: Global, length: u64) -> Result<Vec<Code<'static>>, Memory> {
     let mut codes = Vec::new(alloc);

@@ -1,0 +1,15 @@
+mod Copies
+mod HeadPlaces
+mod HeadsJoined
+mod KeysMeet
+mod SlotValues
+pub mod GoalForms
+pub mod Indexes
+pub mod Instances
+pub mod ListReads
+pub mod NewestTrees
+pub mod RenewedTypes
+pub mod Scoped
+pub mod Spines
+pub mod Workings
+pub mod WrittenTerms
