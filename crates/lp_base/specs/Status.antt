@@ -1,7 +1,7 @@
 -- The number of each status.
 use Rattle.std.specs.Prelude.{ℕ}
 use Rattle.lp_base.specs.declared.status.Status.{Status}
-use Rattle.lp_base.specs.declared.status.Status.TheVariants.{Done, Usage, Source, Image, Steps, Flexible, Arithmetic, Deep, ReadFault, WriteFault, Memory, Limit, Missing}
+use Rattle.lp_base.specs.declared.status.Status.TheVariants.{Done, Usage, Source, Image, Steps, Flexible, Arithmetic, Deep, ReadFault, WriteFault, Memory, Limit, Missing, OpenNot}
 
 -- the number that the program exits with
 abbrev pub number_of : Status → ℕ
@@ -18,3 +18,4 @@ number_of WriteFault = 9
 number_of Memory = 10
 number_of Limit = 11
 number_of Missing = 12
+number_of OpenNot = 13

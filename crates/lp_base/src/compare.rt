@@ -1,10 +1,14 @@
 // The comparisons of arithmetic goals.
 
-/// A comparison of two integers: `<`, `>`, `=<` or `>=`.
+/// A comparison of two integers.
 #[derive(Clone, Copy, Debug, PartialEq, Eq)]
 pub enum Compare {
+    /// `<`
     Less,
+    /// `>`
     Greater,
+    /// `=<`
     AtMost,
+    /// `>=`
     AtLeast,
 }

@@ -5,6 +5,8 @@
 mod compare;
 // The limits on files, texts and programs, with their names.
 mod limit;
+// Their numbers, and those of a run.
+mod limits;
 // A folder in memory that fails at chosen calls.
 mod mem_folder;
 // The refusals that say nothing more: a failed sink, and want of memory.
@@ -24,6 +26,11 @@ mod sure_folder;
 
 pub use compare::Compare;
 pub use limit::Limit;
+pub use limits::{
+    DEFAULT_ANSWERS, DEFAULT_STEPS, END_OF_NUMBERS, MAX_ARGUMENTS, MAX_CLAUSES, MAX_CODE_BYTES,
+    MAX_CONTRACTIONS, MAX_COPIES, MAX_FILE_BYTES, MAX_IMAGE_BYTES, MAX_MODULES, MAX_NAME_BYTES,
+    MAX_NODES, MAX_REGISTERS, MAX_TERM_DEPTH, MAX_TEXT_BYTES, MAX_TYPE_DEPTH, RUN_LIMIT,
+};
 pub use mem_folder::MemFolder;
 pub use memory::{Failed, Memory};
 pub use outside::{Folder, ReadErr, Sink, WriteErr};

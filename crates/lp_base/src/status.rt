@@ -31,6 +31,8 @@ pub enum Status {
     Limit,
     /// A file is not there.
     Missing,
+    /// Whether a negated goal holds stayed open.
+    OpenNot,
 }
 
 impl Status {
@@ -52,6 +54,7 @@ impl Status {
             Status::Memory => 10,
             Status::Limit => 11,
             Status::Missing => 12,
+            Status::OpenNot => 13,
         }
     }
 }

@@ -20,6 +20,7 @@ fn statuses_have_their_numbers_and_limits_their_names(rt: HostRuntime) {
         Status::Memory,
         Status::Limit,
         Status::Missing,
+        Status::OpenNot,
     ];
     for (number, status) in statuses.iter().enumerate() {
         assert_eq!(rt; status.number() as usize, number);
@@ -36,7 +37,7 @@ fn statuses_have_their_numbers_and_limits_their_names(rt: HostRuntime) {
         (Limit::NormalForm, "normal form"),
         (Limit::Clauses, "clauses"),
         (Limit::Registers, "registers"),
-        (Limit::String, "string"),
+        (Limit::Text, "string"),
     ] {
         assert_eq!(rt; limit.name(), name);
     }

@@ -131,7 +131,7 @@ is_file limit.Nesting = inr (λ e. cc)
 is_file limit.NormalForm = inr (λ e. cc)
 is_file limit.Clauses = inr (λ e. cc)
 is_file limit.Registers = inr (λ e. cc)
-is_file limit.String = inr (λ e. cc)
+is_file limit.Text = inr (λ e. cc)
 
 fault_of_limit : (f : BuildFault) (said : Status) (line : Vec ℕ Global) → Tells f (Line said line) → said ≡ variant.Limit → IsLongFile (Some f) ⊎ IsOtherLimit line.items
 fault_of_limit (build.Read n) said line h e = let a = h.0 in absurd (cc)
