@@ -4,7 +4,7 @@ use Rattle.std.proofs.Common.{◌≡◌, ℕ, zero, suc, ◌+◌, ◌<◌, ◌�
 use Rattle.std.specs.Prelude.{option_map, option_and_then, nat_eq, ◌&&◌, if◌then◌else◌}
 use Rattle.lp_calculus.specs.Types.{Ty, Tys, var, param as type_param, con, arrow, no_types, types}
 use Rattle.lp_calculus.specs.Term.{Term, eigen}
-use Rattle.lp_types.specs.Equations.{size, sizes}
+use Rattle.lp_type_laws.specs.Equations.{size, sizes}
 use Rattle.lp_model.specs.Types.{TypePair, parts_of, same_top}
 use Rattle.lp_model.specs.Same.{same_name}
 use Rattle.lp_model.specs.Look.{Look, an_abs, rigid, flexible, look}

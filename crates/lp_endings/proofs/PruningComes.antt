@@ -17,21 +17,21 @@ use Rattle.lp_model.specs.Look.{flexible, look, pattern_of}
 use Rattle.lp_model.specs.Scan.{Side, is_side, allows, allow, Scanned, broken, whole, scan, Pattern, pattern, pattern_term, fits, first_misfit, renewal, Pruned, led_by, prune}
 use Rattle.lp_model.specs.Proofs.{Declared}
 use Rattle.lp_model.specs.Answers.{Variable, IsScopedAtom}
-use Rattle.lp_solutions.specs.Levels.{IsPairAtom, UpTo}
-use Rattle.lp_solutions.specs.Solutions.{instance_pair}
-use Rattle.lp_solutions.proofs.Sames.{both_on}
-use Rattle.lp_solutions.proofs.Abstractions.{Avoids, And, Distinct, distinct_tells, within_abstracted}
-use Rattle.lp_solutions.proofs.Closings.{WithinAll, within_apply, apply_within}
-use Rattle.lp_solutions.proofs.Looks.{look_reduces, pattern_tells}
-use Rattle.lp_solutions.proofs.Scans.{Seen, Scans, ScansAll, scans_abs, scans_rigid, scans_pattern, scans_flexible, scans_none, scans_more, scan_tells, reduces_spine}
-use Rattle.lp_solutions.proofs.Scopes.{IsMore, append_none, in_scope, variable_of, more_get, length_last, get_last, arrows, types_in}
-use Rattle.lp_solutions.proofs.NewVariables.{new_variable, one_more}
-use Rattle.lp_solutions.proofs.TypedBindings.{IsTypedTerm, IsAtomOf, term_atoms, term_pair, term_more, term_reduces, put_typed}
-use Rattle.lp_solutions.proofs.Placed.{IsScopedVariable, scoped_variable, IsPlaced, ArePlaced, scans_placed, IsTypedSide, side_typed, side_more}
-use Rattle.lp_solutions.proofs.Prunings.{Renews, renews, renewed_context, renewal_typed, renewal_scoped, pair_seen}
-use Rattle.lp_solutions.proofs.Throughs.{put_within, pair_next_term}
-use Rattle.lp_solutions.proofs.PairLists.{left_term, right_term}
-use Rattle.lp_solutions.proofs.Instances.{instance_all, instance_look, look_instance, pattern_instance, scan_instance, instance_pruned, prune_instance}
+use Rattle.lp_unify_laws.specs.Levels.{IsPairAtom, UpTo}
+use Rattle.lp_unify_laws.specs.Solutions.{instance_pair}
+use Rattle.lp_unify_laws.proofs.Sames.{both_on}
+use Rattle.lp_unify_laws.proofs.Abstractions.{Avoids, And, Distinct, distinct_tells, within_abstracted}
+use Rattle.lp_unify_laws.proofs.Closings.{WithinAll, within_apply, apply_within}
+use Rattle.lp_unify_laws.proofs.Looks.{look_reduces, pattern_tells}
+use Rattle.lp_unify_laws.proofs.Scans.{Seen, Scans, ScansAll, scans_abs, scans_rigid, scans_pattern, scans_flexible, scans_none, scans_more, scan_tells, reduces_spine}
+use Rattle.lp_unify_laws.proofs.Scopes.{IsMore, append_none, in_scope, variable_of, more_get, length_last, get_last, arrows, types_in}
+use Rattle.lp_unify_laws.proofs.NewVariables.{new_variable, one_more}
+use Rattle.lp_unify_laws.proofs.TypedBindings.{IsTypedTerm, IsAtomOf, term_atoms, term_pair, term_more, term_reduces, put_typed}
+use Rattle.lp_unify_laws.proofs.Placed.{IsScopedVariable, scoped_variable, IsPlaced, ArePlaced, scans_placed, IsTypedSide, side_typed, side_more}
+use Rattle.lp_unify_laws.proofs.Prunings.{Renews, renews, renewed_context, renewal_typed, renewal_scoped, pair_seen}
+use Rattle.lp_unify_laws.proofs.Throughs.{put_within, pair_next_term}
+use Rattle.lp_unify_laws.proofs.PairLists.{left_term, right_term}
+use Rattle.lp_unify_laws.proofs.Instances.{instance_all, instance_look, look_instance, pattern_instance, scan_instance, instance_pruned, prune_instance}
 use Rattle.lp_endings.proofs.Weights.{Weighs}
 use Rattle.lp_endings.proofs.Typed.{typed_weighs, instance_weighs}
 use Rattle.lp_laws.proofs.MoreSteps.{scan_more}

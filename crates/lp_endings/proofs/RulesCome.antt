@@ -15,7 +15,7 @@ use Rattle.lp_endings.proofs.Scannings.{scan_comes, settle_comes}
 use Rattle.lp_endings.proofs.TypesCome.{types_come}
 use Rattle.lp_laws.proofs.MoreSteps.{below_same, below_map, below_then, look_more, pattern_more, scan_more}
 use Rattle.lp_laws.proofs.MoreRules.{below_if, compare_all_more, prune_more, settle_more, pattern_side_more, by_pattern_more, by_rule_5_more, by_rule_4_more, by_looks_more}
-use Rattle.lp_solutions.proofs.Sames.{both, same_number}
+use Rattle.lp_unify_laws.proofs.Sames.{both, same_number}
 use Rattle.lp_endings.proofs.Comes.{Comes, Grows, comes_map, comes_then, comes_if}
 
 -- a term is seen as a variable on distinct eigenconstants

@@ -15,9 +15,9 @@ use Rattle.lp_model.specs.Pair.{Pair, put_types_in}
 use Rattle.lp_model.specs.Unify.{type_pairs_in}
 use Rattle.lp_model.specs.Scan.{Side, Scanned, broken, whole, scan, prune, settle}
 use Rattle.lp_model.specs.Rule.{Compared, compare_all, Verdict, fails, gives, binds, delays, Ruled, ruled, opened, type_pairs, argument_pairs, with_types, bound, has_head, solve_for, by_pattern, pattern_side, by_rule_5, by_rule_4, joined, dear, by_looks, rule}
-use Rattle.lp_solutions.specs.Solutions.{instance_pair, instance_binding, at_types}
-use Rattle.lp_solutions.proofs.Instances.{instance_all, instance_look, look_instance}
-use Rattle.lp_solutions.proofs.RuleInstances.{instance_verdict, instance_ruled, rule_5_instance, rule_4_instance}
+use Rattle.lp_unify_laws.specs.Solutions.{instance_pair, instance_binding, at_types}
+use Rattle.lp_unify_laws.proofs.Instances.{instance_all, instance_look, look_instance}
+use Rattle.lp_unify_laws.proofs.RuleInstances.{instance_verdict, instance_ruled, rule_5_instance, rule_4_instance}
 use Rattle.lp_endings.proofs.Solutions.{AreFixed, put_by, terms_put, pairs_put}
 
 pub record GivesFixed (ρ : ℕ → Ty) (ts : List TypeBinding) (ps : List Pair) : Type 0 where

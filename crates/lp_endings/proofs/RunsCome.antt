@@ -10,14 +10,14 @@ use Rattle.lp_model.specs.Rule.{Ruled, Verdict, fails, gives, binds, delays, rul
 use Rattle.lp_model.specs.Unify.{State, Turn, Goes, Fails, Solved, put_pairs, type_pairs_in, judged, turn_on, turn, Unified, Fail, Solution, Spent, limited, unify, begun, go_on, solve}
 use Rattle.lp_model.specs.Proofs.{Declared}
 use Rattle.lp_model.specs.Answers.{Variable}
-use Rattle.lp_solutions.specs.TypeSolutions.{Satisfies}
-use Rattle.lp_solutions.specs.Solutions.{instance_pair, instance_variable, at_types, IsTypedInput}
-use Rattle.lp_solutions.proofs.Identities.{instance_same, map_same, pair_same, both_types}
-use Rattle.lp_solutions.proofs.TypedInstances.{length_variables}
-use Rattle.lp_solutions.proofs.TypeSolving.{satisfies_append, satisfies_split, types_right}
-use Rattle.lp_solutions.proofs.PairLists.{HasTyping, EachTyped, each_typed, types_append, types_satisfied, put_pairs_instance}
-use Rattle.lp_solutions.proofs.Scopes.{append_none}
-use Rattle.lp_solutions.proofs.Runs.{IsStateAt, Leads, TurnRight, right_goes, right_fails, right_solved, turn_right}
+use Rattle.lp_unify_laws.specs.TypeSolutions.{Satisfies}
+use Rattle.lp_unify_laws.specs.Solutions.{instance_pair, instance_variable, at_types, IsTypedInput}
+use Rattle.lp_unify_laws.proofs.Identities.{instance_same, map_same, pair_same, both_types}
+use Rattle.lp_unify_laws.proofs.TypedInstances.{length_variables}
+use Rattle.lp_unify_laws.proofs.TypeSolving.{satisfies_append, satisfies_split, types_right}
+use Rattle.lp_unify_laws.proofs.PairLists.{HasTyping, EachTyped, each_typed, types_append, types_satisfied, put_pairs_instance}
+use Rattle.lp_unify_laws.proofs.Scopes.{append_none}
+use Rattle.lp_unify_laws.proofs.Runs.{IsStateAt, Leads, TurnRight, right_goes, right_fails, right_solved, turn_right}
 use Rattle.lp_endings.proofs.Typed.{side_weighs}
 use Rattle.lp_endings.proofs.Comes.{Comes, comes_map}
 use Rattle.lp_laws.proofs.MoreFuel.{turn_more, unify_more}

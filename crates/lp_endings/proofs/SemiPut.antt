@@ -11,9 +11,9 @@ use Rattle.lp_calculus.proofs.Steps.{converts_on, converts_is, converts_apply, c
 use Rattle.lp_calculus.proofs.Rigid.{IsRigid}
 use Rattle.lp_model.specs.Patterns.{eigens, member, chosen}
 use Rattle.lp_model.specs.Scan.{Side, is_side, allows, Pattern, renewal}
-use Rattle.lp_solutions.proofs.Sames.{both, same_number}
-use Rattle.lp_solutions.proofs.Abstractions.{Avoids, And, Distinct, within_abstracted, abstracted_beta, close_pattern}
-use Rattle.lp_solutions.proofs.Closings.{WithinAll, apply_within}
+use Rattle.lp_unify_laws.proofs.Sames.{both, same_number}
+use Rattle.lp_unify_laws.proofs.Abstractions.{Avoids, And, Distinct, within_abstracted, abstracted_beta, close_pattern}
+use Rattle.lp_unify_laws.proofs.Closings.{WithinAll, apply_within}
 use Rattle.lp_endings.proofs.Stricts.{Allowed}
 use Rattle.lp_endings.proofs.Semis.{AllAbove, Semi, AllSemi, open_on, rigid_on, pattern_on, strict_on, semi_none, semi_more, semi_like, fill_all, fill_apply, apply_last, eigens_last, above_last}
 

@@ -12,11 +12,11 @@ use Rattle.lp_calculus.proofs.Rigid.{IsRigid, rigid_head, EachReaches, reaches_n
 use Rattle.lp_model.specs.Patterns.{eigens}
 use Rattle.lp_model.specs.Look.{are_above}
 use Rattle.lp_model.specs.Scan.{Side, is_side, allows, allows_head, Pattern}
-use Rattle.lp_solutions.specs.Levels.{UpTo}
-use Rattle.lp_solutions.proofs.Abstractions.{Avoids, Distinct, distinct_tells}
-use Rattle.lp_solutions.proofs.Closings.{within_apply}
-use Rattle.lp_solutions.proofs.Cleans.{allows_local}
-use Rattle.lp_solutions.proofs.Scans.{Seen, Scans, ScansAll, scans_abs, scans_rigid, scans_pattern, scans_flexible, scans_none, scans_more, open_converts}
+use Rattle.lp_unify_laws.specs.Levels.{UpTo}
+use Rattle.lp_unify_laws.proofs.Abstractions.{Avoids, Distinct, distinct_tells}
+use Rattle.lp_unify_laws.proofs.Closings.{within_apply}
+use Rattle.lp_unify_laws.proofs.Cleans.{allows_local}
+use Rattle.lp_unify_laws.proofs.Scans.{Seen, Scans, ScansAll, scans_abs, scans_rigid, scans_pattern, scans_flexible, scans_none, scans_more, open_converts}
 use Rattle.lp_endings.proofs.Stricts.{Allowed, IsStrict, AllStrict, strict_like, strict_apply, strict_opens, rigid_strict, flexible_strict, all_strict}
 
 abbrev pub AllAbove : ℕ → List ℕ → Type 0

@@ -14,13 +14,13 @@ use Rattle.lp_model.specs.Patterns.{eigens, member}
 use Rattle.lp_model.specs.Eigens.{beta_normal, eigen_of, as_eigen}
 use Rattle.lp_model.specs.Look.{Look, an_abs, rigid, flexible, as_eigens, only_if, pattern_of, are_distinct, are_above}
 use Rattle.lp_model.specs.Scan.{Side, is_side}
-use Rattle.lp_solutions.specs.Levels.{UpTo}
-use Rattle.lp_solutions.proofs.Sames.{both_on}
-use Rattle.lp_solutions.proofs.Abstractions.{Distinct}
-use Rattle.lp_solutions.proofs.News.{avoids_member}
-use Rattle.lp_solutions.proofs.Closings.{WithinAll, within_apply}
-use Rattle.lp_solutions.proofs.Looks.{seen, look_reduces}
-use Rattle.lp_solutions.proofs.Firm.{IsFirm, look_firm}
+use Rattle.lp_unify_laws.specs.Levels.{UpTo}
+use Rattle.lp_unify_laws.proofs.Sames.{both_on}
+use Rattle.lp_unify_laws.proofs.Abstractions.{Distinct}
+use Rattle.lp_unify_laws.proofs.News.{avoids_member}
+use Rattle.lp_unify_laws.proofs.Closings.{WithinAll, within_apply}
+use Rattle.lp_unify_laws.proofs.Looks.{seen, look_reduces}
+use Rattle.lp_unify_laws.proofs.Firm.{IsFirm, look_firm}
 use Rattle.lp_endings.proofs.Weights.{Weighs, body_weighs}
 use Rattle.lp_endings.proofs.Looks.{AllWeigh, LookWeighs, look_comes, pattern_comes, normal_comes, behind}
 use Rattle.lp_laws.proofs.MoreSteps.{as_eigen_more, as_eigens_more}

@@ -7,23 +7,23 @@ use Rattle.lp_calculus.specs.Types.{Ty, var, instance}
 use Rattle.lp_calculus.specs.Term.{Term}
 use Rattle.lp_calculus.specs.Instance.{instance_term}
 use Rattle.lp_calculus.proofs.TypeLaws.{instance-instance}
-use Rattle.lp_types.specs.Equations.{one, AllHold}
-use Rattle.lp_types.specs.Solving.{goes, Outcome, solve}
-use Rattle.lp_types.specs.Solving as solving
-use Rattle.lp_types.proofs.Counts.{after_turn}
-use Rattle.lp_types.proofs.Solves.{solves}
+use Rattle.lp_type_laws.specs.Equations.{one, AllHold}
+use Rattle.lp_type_laws.specs.Solving.{goes, Outcome, solve}
+use Rattle.lp_type_laws.specs.Solving as solving
+use Rattle.lp_type_laws.proofs.Counts.{after_turn}
+use Rattle.lp_type_laws.proofs.Solves.{solves}
 use Rattle.lp_model.specs.Types.{TypePair, TypeBinding, one_type, put_type, put_types, put_in_pair, TypeVerdict, differ, bound, type_rule, TypeOutcome, none, solved, solve_types}
 use Rattle.lp_model.specs.Types as model
 use Rattle.lp_model.specs.Pair.{Pair, put_types_in, type_pair}
 use Rattle.lp_model.specs.Unify.{type_pairs_in}
-use Rattle.lp_solutions.specs.TypeSolutions.{Unifies, Satisfies}
-use Rattle.lp_solutions.specs.Solutions.{instance_pair, at_types}
-use Rattle.lp_solutions.proofs.Identities.{instance_same, map_same, pair_same, both_types, term_twice, pairs_twice}
-use Rattle.lp_solutions.proofs.TypeSolving.{types_right}
+use Rattle.lp_unify_laws.specs.TypeSolutions.{Unifies, Satisfies}
+use Rattle.lp_unify_laws.specs.Solutions.{instance_pair, at_types}
+use Rattle.lp_unify_laws.proofs.Identities.{instance_same, map_same, pair_same, both_types, term_twice, pairs_twice}
+use Rattle.lp_unify_laws.proofs.TypeSolving.{types_right}
 use Rattle.lp_endings.proofs.TypeTurns.{equations, as_turn}
 use Rattle.lp_endings.proofs.TypesCome.{equations_append, equations_put, behind, definition_turn, solving_turn}
 
--- lp_types comes to the types that the bindings put
+-- lp_type_laws comes to the types that the bindings put
 record Reached (ps : List TypePair) (made bs : List TypeBinding) (θ : ℕ → Ty) : Type 0 where
   steps : ℕ
   solution : ℕ → Ty

@@ -11,13 +11,13 @@ use Rattle.lp_calculus.proofs.Rigid.{IsRigid, EachReaches, reaches_none, reaches
 use Rattle.lp_model.specs.Patterns.{eigens}
 use Rattle.lp_model.specs.Look.{Look, an_abs, rigid, flexible, look, pattern_of}
 use Rattle.lp_model.specs.Scan.{Side, is_side, allows, allow, allows_head, Scanned, broken, whole, above, beside, Pattern, pattern, scanned_pattern, scan, scan_all}
-use Rattle.lp_solutions.proofs.Sames.{both, both_on}
-use Rattle.lp_solutions.proofs.Abstractions.{Not, abstraction_eta, converts_abstraction, within_abstraction}
-use Rattle.lp_solutions.proofs.Closings.{WithinAll, apply_within}
-use Rattle.lp_solutions.proofs.Looks.{seen, look_reduces, pattern_tells}
-use Rattle.lp_solutions.proofs.Firm.{IsFirm, look_firm}
-use Rattle.lp_solutions.proofs.Cleans.{allows_local}
-use Rattle.lp_solutions.proofs.Scans.{Seen, Scans, ScansAll, scans_abs, scans_rigid, scans_pattern, scans_flexible, scans_none, scans_more, open_converts}
+use Rattle.lp_unify_laws.proofs.Sames.{both, both_on}
+use Rattle.lp_unify_laws.proofs.Abstractions.{Not, abstraction_eta, converts_abstraction, within_abstraction}
+use Rattle.lp_unify_laws.proofs.Closings.{WithinAll, apply_within}
+use Rattle.lp_unify_laws.proofs.Looks.{seen, look_reduces, pattern_tells}
+use Rattle.lp_unify_laws.proofs.Firm.{IsFirm, look_firm}
+use Rattle.lp_unify_laws.proofs.Cleans.{allows_local}
+use Rattle.lp_unify_laws.proofs.Scans.{Seen, Scans, ScansAll, scans_abs, scans_rigid, scans_pattern, scans_flexible, scans_none, scans_more, open_converts}
 use Rattle.lp_endings.proofs.Weights.{Weighs, body_weighs}
 use Rattle.lp_endings.proofs.Looks.{AllWeigh, LookWeighs, look_comes, pattern_comes}
 use Rattle.lp_laws.proofs.MoreSteps.{look_more, pattern_more, scan_more, scan_all_more}

@@ -1,10 +1,10 @@
--- One turn of solving type equations: lp_types and the definition of unification see the same (lp_pattern has the same of their units).
+-- One turn of solving type equations: lp_type_laws and the definition of unification see the same (lp_pattern has the same of their units).
 use Rattle.std.proofs.Common.{◌≡◌, ℕ, ◌+◌, List, [], ◌∷◌, ◌++◌, map, Option, Some, None, inl, inr, refl, sym, ap, ◌∙◌}
 use Rattle.std.specs.Prelude.{nat_eq, nat_lt, if◌then◌else◌, Bool, true, false, option_map}
 use Rattle.std.proofs.lemmas.Bool.{eq-eqb, ne_eqb, cases_eq}
 use Rattle.lp_calculus.specs.Types.{Ty, Tys, var, param, con, arrow, no_types, types, instance}
-use Rattle.lp_types.specs.Equations.{Equation, equation, one, put_equation, occurs, occurs_in}
-use Rattle.lp_types.specs.Solving.{Look, nothing, binds, clash, bind_to, pairs, look_parts, Turn, clashes, goes, turn_of, turn}
+use Rattle.lp_type_laws.specs.Equations.{Equation, equation, one, put_equation, occurs, occurs_in}
+use Rattle.lp_type_laws.specs.Solving.{Look, nothing, binds, clash, bind_to, pairs, look_parts, Turn, clashes, goes, turn_of, turn}
 use Rattle.lp_model.specs.Types as model
 use Rattle.lp_model.specs.Types.{TypePair, TypeBinding, Visited, visit, visit_all, and_then, TypeVerdict, TypeRuled, differ, bound, parts_of, bind_type, plainly, of_parts, type_rule}
 

@@ -5,7 +5,7 @@ use Rattle.lp_calculus.specs.Term.{Term, Atom, index, atom, abs, app}
 use Rattle.lp_calculus.specs.Convert.{leftmost_step, option_term, or_else}
 use Rattle.lp_calculus.specs.Instance.{instance_atom, instance_term}
 use Rattle.lp_calculus.specs.Typing.{HasType}
-use Rattle.lp_solutions.proofs.Instances.{instance_substitute}
+use Rattle.lp_unify_laws.proofs.Instances.{instance_substitute}
 use Rattle.lp_endings.proofs.Ends.{none_mapped}
 use Rattle.lp_endings.proofs.Computable.{typed_ends}
 use Rattle.lp_endings.proofs.Weights.{weight, Weighs, rests, goes, weighs}

@@ -1,10 +1,10 @@
--- Type equations come to an outcome: lp_types solves the same equations turn by turn, and that ends.
+-- Type equations come to an outcome: lp_type_laws solves the same equations turn by turn, and that ends.
 use Rattle.std.proofs.Common.{◌≡◌, ◌≢◌, ℕ, zero, suc, ◌+◌, List, [], ◌∷◌, ◌++◌, map, Option, Some, refl, sym, ap, ◌∙◌}
 use Rattle.lp_calculus.specs.Types.{Ty, var, instance}
-use Rattle.lp_types.specs.Equations.{equation, one, put_equation}
-use Rattle.lp_types.specs.Solving.{unfinished, solve}
-use Rattle.lp_types.proofs.Counts.{solve_turn, after_turn}
-use Rattle.lp_types.proofs.Ends.{solve_ends}
+use Rattle.lp_type_laws.specs.Equations.{equation, one, put_equation}
+use Rattle.lp_type_laws.specs.Solving.{unfinished, solve}
+use Rattle.lp_type_laws.proofs.Counts.{solve_turn, after_turn}
+use Rattle.lp_type_laws.proofs.Ends.{solve_ends}
 use Rattle.lp_model.specs.Types.{TypePair, TypeBinding, put_in_pair, TypeVerdict, differ, bound, type_rule, TypeOutcome, none, solved, solve_types}
 use Rattle.lp_model.specs.Types as model
 use Rattle.lp_endings.proofs.TypeTurns.{equations, as_turn, turn_is}

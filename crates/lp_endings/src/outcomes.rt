@@ -13,7 +13,7 @@ ghost use Rattle.lp_model.specs.Rule.{Compared, compare, Ruled, rule};
 ghost use Rattle.lp_model.specs.Unify.{Unified, solve};
 ghost use Rattle.lp_model.specs.Proofs.{Declared};
 ghost use Rattle.lp_model.specs.Answers.{Variable, PairTyping, IsTypedPair};
-ghost use Rattle.lp_solutions.specs.Solutions.{instance_pair, instance_variable, IsTypedInput};
+ghost use Rattle.lp_unify_laws.specs.Solutions.{instance_pair, instance_variable, IsTypedInput};
 
 /// A typed term has a head-normal and a beta-normal form with enough steps.
 pub fn typed_terms_come_to_forms()

@@ -6,12 +6,12 @@ use Rattle.indexmap.proofs.ReorderLemmas.{map-reverse}
 use Rattle.std.proofs.lemmas.List.Elements.{All-append, All-cons, All-nil, All-head, All-tail}
 use Rattle.lp_calculus.specs.Types.{Ty, var, arrow, instance}
 use Rattle.lp_calculus.specs.Typing.{Scheme, type_at, o_type}
-use Rattle.lp_types.specs.Equations.{Equation, equation}
+use Rattle.lp_type_laws.specs.Equations.{Equation, equation}
 use Rattle.lp_term.specs.Nodes.{Nodes, type_tree, Extends}
 use Rattle.lp_term.specs.declared.node.TypeId.{TypeId}
 use Rattle.lp_term.proofs.Trees.{extends_same, extends-trans}
-use Rattle.lp_equations.specs.declared.bindings.Pair.{Pair}
-use Rattle.lp_equations.specs.Reading.{IsPair}
+use Rattle.lp_type_unify.specs.declared.bindings.Pair.{Pair}
+use Rattle.lp_type_unify.specs.Reading.{IsPair}
 use Rattle.lp_infer.specs.Generate.{fresh, given_equation}
 use Rattle.lp_sig.specs.declared.signature.Signature.{Signature}
 use Rattle.lp_infer.specs.Postfix.{Mark, is_constant, opens, closes, applies, mark, IsStep}

@@ -1,8 +1,8 @@
 -- Each task that is done leaves less to do.
 use Rattle.std.proofs.Common.{◌≡◌, ℕ, suc, ◌+◌, ◌*◌, ◌<◌, List, [], ◌∷◌, ◌++◌, map, sym, ap, ◌∙◌, arith}
 use Rattle.lp_calculus.specs.Types.{Ty, con, tys, instance}
-use Rattle.lp_types.specs.Equations.{size, sizes}
-use Rattle.lp_types.proofs.Types.{some_size}
+use Rattle.lp_type_laws.specs.Equations.{size, sizes}
+use Rattle.lp_type_laws.proofs.Types.{some_size}
 use Rattle.lp_term.specs.declared.node.TypeId.{TypeId}
 use Rattle.lp_infer.specs.ReadingOff.{cost}
 use Rattle.lp_infer.specs.declared.reading.Task.{Task}

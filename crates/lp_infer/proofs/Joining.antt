@@ -10,13 +10,13 @@ use Rattle.indexmap.specs.IndexMap.{IndexMap}
 use Rattle.lp_base.specs.declared.place.Spot.{Spot}
 use Rattle.lp_calculus.specs.Types.{Ty, var, instance}
 use Rattle.lp_calculus.specs.Typing.{o_type}
-use Rattle.lp_types.specs.Equations.{Equation, equation, AllHold, IsMostGeneral, HaveNoSolution, Below}
-use Rattle.lp_types.proofs.Types.{instance-var}
-use Rattle.lp_types.proofs.Solves.{hold_append}
+use Rattle.lp_type_laws.specs.Equations.{Equation, equation, AllHold, IsMostGeneral, HaveNoSolution, Below}
+use Rattle.lp_type_laws.proofs.Types.{instance-var}
+use Rattle.lp_type_laws.proofs.Solves.{hold_append}
 use Rattle.lp_term.specs.Nodes.{Nodes, Extends, type_tree}
 use Rattle.lp_term.specs.declared.node.TypeId.{TypeId}
-use Rattle.lp_equations.specs.declared.bindings.Pair.{Pair}
-use Rattle.lp_equations.specs.Reading.{reads, read_pair, read_pairs}
+use Rattle.lp_type_unify.specs.declared.bindings.Pair.{Pair}
+use Rattle.lp_type_unify.specs.Reading.{reads, read_pair, read_pairs}
 use Rattle.lp_syntax.specs.declared.text.RawTerm.{RawTerm}
 use Rattle.lp_model.specs.declared.program.Typed.{Typed}
 use Rattle.lp_sig.specs.declared.signature.Signature.{Signature}

@@ -3,7 +3,7 @@ use Rattle.std.proofs.Common.{◌≡◌, ℕ, suc, ◌+◌, List, [], ◌∷◌,
 use Rattle.std.proofs.lemmas.List.{append-nil, append_assoc, map-append}
 use Rattle.lp_calculus.specs.Types.{Ty, var, arrow, instance}
 use Rattle.lp_calculus.specs.Typing.{type_at}
-use Rattle.lp_types.specs.Equations.{Equation, equation}
+use Rattle.lp_type_laws.specs.Equations.{Equation, equation}
 use Rattle.lp_infer.specs.Typing.{Raw, raw_index, raw_constant, raw_integer, raw_text, raw_abs, raw_app, put_given, put_raw, term_arguments}
 use Rattle.lp_infer.specs.Generate.{fresh, given_equation, generate}
 use Rattle.lp_infer.specs.Postfix.{Mark, is_index, is_constant, is_integer, is_text, opens, closes, applies, postfix}

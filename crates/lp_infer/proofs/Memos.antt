@@ -23,8 +23,8 @@ use Rattle.lp_infer.proofs.Copying.{trees_stay, types_stay, tys_instance, map_tw
 use Rattle.lp_infer.proofs.Acting.{trees_append}
 use Rattle.lp_infer.proofs.Scanning.{reverse_push}
 use Rattle.lp_infer.proofs.Taking.{take_more}
-use Rattle.lp_equations.specs.Reading.{AreKept, Slot, reads}
-use Rattle.lp_equations.specs.Looking.{IsUnbound}
+use Rattle.lp_type_unify.specs.Reading.{AreKept, Slot, reads}
+use Rattle.lp_type_unify.specs.Looking.{IsUnbound}
 use Rattle.std.specs.Option.{is_some}
 use Rattle.lp_infer.proofs.Meetings.{place_absent, place_new, inserted, met_grows, met_append, all_more, all_appended, met_again, type_kept, list_kept}
 

@@ -8,12 +8,12 @@ use Rattle.lp_calculus.specs.Types.{Ty, Tys, var, param, con, arrow, no_types, t
 use Rattle.lp_calculus.specs.Term.{Term, Atom, index, atom, abs, app, constant, integer, text, eigen, logic}
 use Rattle.lp_calculus.specs.Term as term
 use Rattle.lp_calculus.proofs.TypeLaws.{instance-instance}
-use Rattle.lp_types.specs.Equations.{Equation, equation, AllHold, IsMostGeneral, HaveNoSolution, Below, AllBelow}
+use Rattle.lp_type_laws.specs.Equations.{Equation, equation, AllHold, IsMostGeneral, HaveNoSolution, Below, AllBelow}
 use Rattle.lp_calculus.specs.Typing.{Scheme, o_type, type_at}
 use Rattle.lp_infer.specs.Typing.{Raw, raw_index, raw_constant, raw_integer, raw_text, raw_abs, raw_app, put_given, put_raw, IsGiven, Elaborates, Typing, IsTyping, instance_term, IsPrincipal, HasNoTyping}
 use Rattle.lp_infer.specs.Generate.{Made, fresh, given_equation, generate, generated, typing_under, IsGivenBelow, IsScoped}
-use Rattle.lp_types.proofs.Types.{Agree, instance_agree, below_more}
-use Rattle.lp_types.proofs.Solves.{hold_append, hold_front, hold_back}
+use Rattle.lp_type_laws.proofs.Types.{Agree, instance_agree, below_more}
+use Rattle.lp_type_laws.proofs.Solves.{hold_append, hold_front, hold_back}
 
 -- lists of types
 

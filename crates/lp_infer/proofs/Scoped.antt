@@ -5,7 +5,7 @@ use Rattle.std.proofs.lemmas.List.{length-map, length-append}
 use Rattle.lp_base.specs.declared.place.Spot.{Spot}
 use Rattle.lp_calculus.specs.Types.{Ty, con, tys, instance}
 use Rattle.lp_calculus.specs.Typing.{Scheme, type_at}
-use Rattle.lp_types.specs.Equations.{Below, AllBelow}
+use Rattle.lp_type_laws.specs.Equations.{Below, AllBelow}
 use Rattle.lp_syntax.specs.declared.text.RawNode.{RawNode}
 use Rattle.lp_syntax.specs.declared.text.RawNode.TheVariants.{Name, Known, Number, Text, App, Abs}
 use Rattle.lp_syntax.specs.declared.text.RawType.{RawType}

@@ -4,8 +4,8 @@ use Rattle.std.proofs.Common.{◌≡◌, ℕ, [], ◌∷◌, Some, None, refl, s
 use Rattle.lp_calculus.specs.Types.{var, arrow}
 use Rattle.lp_calculus.specs.Term.{index, abs, app, atom, integer}
 use Rattle.lp_calculus.specs.Typing.{int_type, string_type, list_type}
-use Rattle.lp_types.specs.Solving.{Outcome, unfinished, fails, solved, solve}
-use Rattle.lp_types.proofs.Solves.{solves, fails_rightly}
+use Rattle.lp_type_laws.specs.Solving.{Outcome, unfinished, fails, solved, solve}
+use Rattle.lp_type_laws.proofs.Solves.{solves, fails_rightly}
 use Rattle.lp_infer.specs.Typing.{Raw, raw_index, raw_integer, raw_abs, raw_app, Typing, IsPrincipal, HasNoTyping}
 use Rattle.lp_infer.specs.Generate.{generated, IsScoped}
 use Rattle.std.specs.Prelude.{pos}

@@ -5,7 +5,7 @@ use Rattle.indexmap.proofs.ReorderLemmas.{map-reverse}
 use Rattle.lp_calculus.specs.Types.{Ty, var, instance}
 use Rattle.lp_calculus.specs.Term.{Term, Atom, index, atom, abs, app, constant, integer, text, eigen, logic}
 use Rattle.lp_calculus.specs.Term as term
-use Rattle.lp_types.specs.Equations.{IsMostGeneral}
+use Rattle.lp_type_laws.specs.Equations.{IsMostGeneral}
 use Rattle.lp_term.specs.Nodes.{Nodes, type_tree, tree}
 use Rattle.lp_model.specs.declared.program.Typed.{Typed}
 use Rattle.lp_infer.specs.Typing.{Raw, raw_index, raw_constant, raw_integer, raw_text, raw_abs, raw_app, Typing, IsPrincipal, instance_term, instance_atom, put_typing, atom_arguments, term_arguments}

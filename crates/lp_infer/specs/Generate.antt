@@ -3,7 +3,7 @@ use Rattle.std.specs.Prelude.{ℕ, zero, suc, ◌+◌, ◌<◌, List, [], ◌∷
 use Rattle.lp_calculus.specs.Types.{Ty, var, arrow, instance}
 use Rattle.lp_calculus.specs.Term.{Term, index, atom, abs, app, constant, integer, text}
 use Rattle.lp_calculus.specs.Typing.{o_type, int_type, string_type, type_at}
-use Rattle.lp_types.specs.Equations.{Equation, equation, Below}
+use Rattle.lp_type_laws.specs.Equations.{Equation, equation, Below}
 use Rattle.lp_infer.specs.Typing.{Raw, raw_index, raw_constant, raw_integer, raw_text, raw_abs, raw_app, Typing, instance_term}
 
 -- a term and its type, the equations under which it has this type, and the first type variable after its own

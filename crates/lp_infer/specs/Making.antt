@@ -2,11 +2,11 @@
 use Rattle.std.specs.Prelude.{◌≡◌, ℕ, ◌+◌, List, [], ◌∷◌, ◌++◌, map, reverse, length, All}
 use Rattle.lp_calculus.specs.Types.{Ty, instance}
 use Rattle.lp_calculus.specs.Typing.{Scheme, o_type, type_at}
-use Rattle.lp_types.specs.Equations.{Equation, equation}
+use Rattle.lp_type_laws.specs.Equations.{Equation, equation}
 use Rattle.lp_term.specs.Nodes.{Nodes, type_tree, Extends}
 use Rattle.lp_term.specs.declared.node.TypeId.{TypeId}
-use Rattle.lp_equations.specs.declared.bindings.Pair.{Pair}
-use Rattle.lp_equations.specs.Reading.{IsPair}
+use Rattle.lp_type_unify.specs.declared.bindings.Pair.{Pair}
+use Rattle.lp_type_unify.specs.Reading.{IsPair}
 use Rattle.lp_sig.specs.declared.signature.Signature.{Signature}
 use Rattle.lp_infer.specs.Generate.{fresh}
 use Rattle.lp_infer.specs.Postfix.{mark}

@@ -2,10 +2,10 @@
 use Rattle.std.specs.Prelude.{◌≡◌, ℕ, suc, ◌+◌, ◌*◌, ◌<◌, List, [], ◌∷◌, ◌++◌, map, length, Some, nat_eq}
 use Rattle.indexmap.specs.IndexMap.{IndexMap, get}
 use Rattle.lp_calculus.specs.Types.{Ty, instance}
-use Rattle.lp_types.specs.Equations.{size}
+use Rattle.lp_type_laws.specs.Equations.{size}
 use Rattle.lp_term.specs.Nodes.{Nodes, type_tree}
 use Rattle.lp_term.specs.declared.node.TypeId.{TypeId}
-use Rattle.lp_equations.specs.Reading.{reads}
+use Rattle.lp_type_unify.specs.Reading.{reads}
 use Rattle.lp_infer.specs.Numbering.{type_variables, all_variables}
 use Rattle.lp_infer.specs.Meeting.{met, AllMet, renaming}
 use Rattle.lp_infer.specs.Copies.{trees_of, AreTypes}

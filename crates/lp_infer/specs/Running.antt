@@ -2,7 +2,7 @@
 use Rattle.std.specs.Prelude.{ℕ, suc, ◌+◌, List, [], ◌∷◌, ◌++◌}
 use Rattle.lp_calculus.specs.Types.{Ty, var, arrow, instance}
 use Rattle.lp_calculus.specs.Typing.{int_type, string_type, type_at}
-use Rattle.lp_types.specs.Equations.{Equation, equation}
+use Rattle.lp_type_laws.specs.Equations.{Equation, equation}
 use Rattle.lp_infer.specs.Generate.{fresh, given_equation}
 use Rattle.lp_infer.specs.Postfix.{Mark, is_index, is_constant, is_integer, is_text, opens, closes, applies}
 

@@ -3,7 +3,7 @@ use Rattle.std.specs.Prelude.{ℕ, List, Option, Some, None}
 use Rattle.lp_calculus.specs.Types.{Ty, var, arrow}
 use Rattle.lp_calculus.specs.Term.{Term, atom, constant}
 use Rattle.lp_calculus.specs.Typing.{Scheme, o_type, int_type, string_type, list_type}
-use Rattle.lp_types.specs.Solving.{Outcome, unfinished, fails, solved, solve}
+use Rattle.lp_type_laws.specs.Solving.{Outcome, unfinished, fails, solved, solve}
 use Rattle.lp_infer.specs.Typing.{Raw, raw_constant, Typing}
 use Rattle.lp_infer.specs.Generate.{Made, generated, typing_under}
 

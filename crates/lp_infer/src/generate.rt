@@ -12,9 +12,9 @@ ghost use Rattle.lp_infer.specs.Making.{IsSound, Acts, Makes, MakesFresh, IsCons
 use crate::instance::{instance, put_arrow, put_con, standard_instance, standard_variables};
 use crate::lookup::Step;
 use lp_base::Memory;
-use lp_equations::Pair;
 use lp_sig::Signature;
 use lp_term::{Bank, TypeId, TypeNode};
+use lp_type_unify::Pair;
 use std::alloc::Global;
 
 // The index of a variable below so many abstractions: the first of so many is the outermost.

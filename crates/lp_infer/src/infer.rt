@@ -7,7 +7,7 @@ ghost use Rattle.lp_infer.specs.Numbering.{IsTyped};
 ghost use Rattle.lp_infer.specs.Visits.{IsLookedUp};
 ghost use Rattle.lp_infer.specs.Formulas.{HasTypes, wanted_types};
 ghost use Rattle.lp_term.specs.Nodes.{Extends};
-ghost use Rattle.lp_equations.specs.Reading.{AreKept, IsPair};
+ghost use Rattle.lp_type_unify.specs.Reading.{AreKept, IsPair};
 
 use crate::fault::InferFault;
 use crate::generate::{Typing, equations_of};
@@ -16,11 +16,11 @@ use crate::names::first_undeclared;
 use crate::reading::Reading;
 use crate::terms::Terms;
 use lp_base::{Memory, Spot};
-use lp_equations::{Bindings, Pair, unify};
 use lp_model::program::Typed;
 use lp_sig::Signature;
 use lp_syntax::{RawQuery, RawTerm};
 use lp_term::{Bank, TypeId};
+use lp_type_unify::{Bindings, Pair, unify};
 use std::alloc::Global;
 
 // Whether all pairs are in the bank.

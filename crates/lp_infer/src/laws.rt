@@ -3,7 +3,7 @@ ghost use Rattle.std.specs.Prelude.{◌≡◌, ℕ, List, [], ◌∷◌, Some, N
 ghost use Rattle.lp_calculus.specs.Types.{Ty, var, arrow, instance};
 ghost use Rattle.lp_calculus.specs.Term.{Term, index, atom, abs, app, integer};
 ghost use Rattle.lp_calculus.specs.Typing.{Context, Typed, int_type, string_type, list_type};
-ghost use Rattle.lp_types.specs.Equations.{AllHold, IsMostGeneral, HaveNoSolution};
+ghost use Rattle.lp_type_laws.specs.Equations.{AllHold, IsMostGeneral, HaveNoSolution};
 ghost use Rattle.lp_infer.specs.Typing.{Raw, raw_index, raw_integer, raw_abs, raw_app, Elaborates, Leaves, AreDeclared, Typing, IsTyping, IsPrincipal, HasNoTyping, instance_term, put_typing};
 ghost use Rattle.lp_infer.specs.Generate.{generated, typing_under, IsScoped};
 ghost use Rattle.lp_infer.specs.Worked.{p, q, r, nil, cons, at, typing};

@@ -4,8 +4,8 @@ ghost use Rattle.indexmap.specs.IndexMap.{get};
 ghost use Rattle.indexmap.specs.IndexSet.{insert_key};
 ghost use Rattle.lp_calculus.specs.Types.{Ty, var, param};
 ghost use Rattle.lp_term.specs.Nodes.{Nodes, Extends, type_tree};
-ghost use Rattle.lp_equations.specs.Reading.{AreKept};
-ghost use Rattle.lp_equations.specs.Looking.{IsUnbound};
+ghost use Rattle.lp_type_unify.specs.Reading.{AreKept};
+ghost use Rattle.lp_type_unify.specs.Looking.{IsUnbound};
 ghost use Rattle.lp_infer.specs.Meeting.{place};
 ghost use Rattle.lp_infer.specs.ReadingOff.{bound_type, cost, IsReadAs, IsReadMemo, AreRead, IsTaken, ReadsOne, ReadsAll};
 ghost use Rattle.lp_infer.specs.declared.reading.Task.{Task};
@@ -13,8 +13,8 @@ ghost use Rattle.lp_infer.specs.declared.reading.Task.{Task};
 use crate::instance::{put_arrow, put_con};
 use indexmap::{IndexMap, IndexSet};
 use lp_base::Memory;
-use lp_equations::Bindings;
 use lp_term::{Bank, TypeId, TypeNode};
+use lp_type_unify::Bindings;
 use std::alloc::Global;
 
 #[derive(Clone, Copy)]

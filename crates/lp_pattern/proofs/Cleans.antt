@@ -18,7 +18,7 @@ use Rattle.lp_pattern.specs.Seen.{weak_step}
 use Rattle.lp_pattern.specs.TopLooks.{top_normal, top_look, scan_top, scan_seen, scan_tops}
 use Rattle.lp_pattern.proofs.BetaForms.{weak_leftmost}
 use Rattle.lp_pattern.proofs.Compares.{from_bind, from_map}
-use Rattle.lp_solutions.proofs.Looks.{leftmost_steps, as_eigens_is}
+use Rattle.lp_unify_laws.proofs.Looks.{leftmost_steps, as_eigens_is}
 use Rattle.lp_pattern.proofs.Looking.{weak_apply, looked_apply}
 use Rattle.lp_pattern.proofs.TopScans.{top_is}
 

@@ -31,7 +31,7 @@ use Rattle.lp_pattern.specs.Under.{under}
 use Rattle.lp_pattern.specs.Visiting.{Part, scan_parts}
 use Rattle.lp_pattern.proofs.BetaForms.{weak_leftmost}
 use Rattle.lp_pattern.proofs.Compares.{from_bind, from_map}
-use Rattle.lp_solutions.proofs.Looks.{leftmost_steps}
+use Rattle.lp_unify_laws.proofs.Looks.{leftmost_steps}
 use Rattle.lp_pattern.proofs.Opening.{SeenAt}
 use Rattle.lp_pattern.proofs.Passings.{split_first, Found, passed_scan}
 use Rattle.lp_pattern.proofs.TopScans.{scan_of}

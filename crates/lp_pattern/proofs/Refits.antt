@@ -21,7 +21,7 @@ use Rattle.lp_pattern.specs.Stripping.{opens}
 use Rattle.lp_pattern.specs.TopLooks.{top_normal, top_look, scan_top, scan_seen, scan_tops}
 use Rattle.lp_pattern.proofs.Cleans.{top_reduces, top_ended, View, as_abs, as_head, view, looked_head, EachClean, clean_none, clean_more, clean_like, clean_apply, eigens_of_pattern, clean_fits}
 use Rattle.lp_pattern.proofs.Compares.{from_bind, from_map}
-use Rattle.lp_solutions.proofs.Looks.{beta_reduces, eta_normal_is}
+use Rattle.lp_unify_laws.proofs.Looks.{beta_reduces, eta_normal_is}
 use Rattle.lp_pattern.proofs.Naming.{AreLeaves, weak_named, subst_apply}
 use Rattle.lp_pattern.proofs.Opening.{opens_leaves, opens_none, opened_once}
 use Rattle.lp_pattern.proofs.Stripped.{by_form}

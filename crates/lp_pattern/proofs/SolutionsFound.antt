@@ -17,17 +17,17 @@ use Rattle.lp_model.specs.Unify.{State, Unified, Fail, Solution, solve}
 use Rattle.lp_model.specs.Proofs.{Declared}
 use Rattle.lp_model.specs.Answers.{Variable, type_of, IsPrefix, PairTyping, AreTypedPairs}
 use Rattle.lp_model.specs.declared.answer.Pair.{Pair as Numbers}
-use Rattle.lp_solutions.specs.TypeSolutions.{Satisfies}
-use Rattle.lp_solutions.specs.Solutions.{at_types, instance_pair, instance_binding, IsMore, AreTypedBindings, HaveTypings, IsTypedInput, through_bindings, AreStuck, KeptClosing, HasSameClosings}
-use Rattle.lp_solutions.proofs.Decomposing.{put_types_satisfied}
-use Rattle.lp_solutions.specs.Solutions as solutions
-use Rattle.lp_solutions.proofs.Laws.{comes, failures_have_no_solution, residual_pairs_are_stuck}
-use Rattle.lp_solutions.proofs.NewInstances.{reduces_instance}
-use Rattle.lp_solutions.proofs.PairLists.{put_all_instance, left_term, right_term, pair_of}
-use Rattle.lp_solutions.proofs.Principal.{closings_are_the_same}
-use Rattle.lp_solutions.proofs.Sames.{number_same}
-use Rattle.lp_solutions.proofs.Scopes.{got_before, more_get, prefix_none, in_scope, variable_of}
-use Rattle.lp_solutions.proofs.TypedBindings.{IsTypedTerm, term_reduces, term_atoms, IsAtomOf, put_all_typed}
+use Rattle.lp_unify_laws.specs.TypeSolutions.{Satisfies}
+use Rattle.lp_unify_laws.specs.Solutions.{at_types, instance_pair, instance_binding, IsMore, AreTypedBindings, HaveTypings, IsTypedInput, through_bindings, AreStuck, KeptClosing, HasSameClosings}
+use Rattle.lp_unify_laws.proofs.Decomposing.{put_types_satisfied}
+use Rattle.lp_unify_laws.specs.Solutions as solutions
+use Rattle.lp_unify_laws.proofs.Laws.{comes, failures_have_no_solution, residual_pairs_are_stuck}
+use Rattle.lp_unify_laws.proofs.NewInstances.{reduces_instance}
+use Rattle.lp_unify_laws.proofs.PairLists.{put_all_instance, left_term, right_term, pair_of}
+use Rattle.lp_unify_laws.proofs.Principal.{closings_are_the_same}
+use Rattle.lp_unify_laws.proofs.Sames.{number_same}
+use Rattle.lp_unify_laws.proofs.Scopes.{got_before, more_get, prefix_none, in_scope, variable_of}
+use Rattle.lp_unify_laws.proofs.TypedBindings.{IsTypedTerm, term_reduces, term_atoms, IsAtomOf, put_all_typed}
 use Rattle.lp_pattern.proofs.PruneSteps.{weak_reduces}
 use Rattle.lp_pattern.specs.Pruning.{Known}
 use Rattle.lp_pattern.specs.Solutions.{left_pairs, through, KeptThrough, HasSolutions}

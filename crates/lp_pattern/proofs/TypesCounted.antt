@@ -10,7 +10,7 @@ use Rattle.std.proofs.lemmas.Map.Entries.{length-keys_of}
 use Rattle.std.proofs.lemmas.Map.Made.{is_some-lookup, length-from_same_keys}
 use Rattle.lp_calculus.specs.Types.{Ty, var, param, con, arrow, instance}
 use Rattle.lp_term.specs.declared.node.TypeId.{TypeId}
-use Rattle.lp_equations.specs.Reading.{IsOlder, Slot}
+use Rattle.lp_type_unify.specs.Reading.{IsOlder, Slot}
 use Rattle.lp_model.specs.Types.{TypeBinding, one_type, put_types}
 use Rattle.lp_pattern.proofs.TypesBound.{Over, Away, OverBindings, IsGood, puts_over}
 

@@ -6,18 +6,18 @@ use Rattle.std.specs.Map.{lookup, keys_of}
 use Rattle.std.proofs.lemmas.Cmp.{nat_eq_equiv}
 use Rattle.lp_calculus.specs.Types.{Ty, var, instance}
 use Rattle.lp_calculus.proofs.TypeLaws.{instance-instance}
-use Rattle.lp_types.specs.Equations.{Equation, equation, AllHold, IsMostGeneralFrom}
-use Rattle.lp_types.specs.Solving.{fails}
-use Rattle.lp_types.specs.Solving as types
-use Rattle.lp_types.specs.Units.{units, solve_within}
-use Rattle.lp_types.proofs.GoingOn.{as_without}
-use Rattle.lp_types.proofs.Types.{instance-var}
+use Rattle.lp_type_laws.specs.Equations.{Equation, equation, AllHold, IsMostGeneralFrom}
+use Rattle.lp_type_laws.specs.Solving.{fails}
+use Rattle.lp_type_laws.specs.Solving as types
+use Rattle.lp_type_laws.specs.Units.{units, solve_within}
+use Rattle.lp_type_laws.proofs.GoingOn.{as_without}
+use Rattle.lp_type_laws.proofs.Types.{instance-var}
 use Rattle.lp_term.specs.Nodes.{Nodes, type_tree, Extends}
 use Rattle.lp_term.specs.declared.node.TypeId.{TypeId}
-use Rattle.lp_equations.specs.Reading.{Slot, read_pair, read_pairs}
-use Rattle.lp_equations.specs.Counting.{HasEnded, IsRefused}
-use Rattle.lp_equations.specs.declared.bindings.Pair.{Pair}
-use Rattle.lp_equations.specs.declared.counted.EquationRefusal.{EquationRefusal}
+use Rattle.lp_type_unify.specs.Reading.{Slot, read_pair, read_pairs}
+use Rattle.lp_type_unify.specs.Counting.{HasEnded, IsRefused}
+use Rattle.lp_type_unify.specs.declared.bindings.Pair.{Pair}
+use Rattle.lp_type_unify.specs.declared.counted.EquationRefusal.{EquationRefusal}
 use Rattle.lp_model.specs.Types.{TypePair, TypeBinding, put_types, put_type, one_type, TypeOutcome, none, solved, solve_types}
 use Rattle.lp_pattern.specs.declared.bindings.Bindings.{Bindings}
 use Rattle.lp_pattern.specs.declared.fault.PatternRefusal.{PatternRefusal}

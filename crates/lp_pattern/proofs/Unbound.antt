@@ -6,7 +6,7 @@ use Rattle.lp_calculus.specs.Types.{Ty, var, instance}
 use Rattle.lp_calculus.specs.Term.{Term, Atom, index, atom, abs, app, constant, integer, text, eigen, logic, param}
 use Rattle.lp_calculus.specs.Fill.{fill, raise, at_variables}
 use Rattle.lp_calculus.specs.Instance.{instance_term}
-use Rattle.lp_types.proofs.Types.{instance-var}
+use Rattle.lp_type_laws.proofs.Types.{instance-var}
 use Rattle.lp_term.specs.Nodes.{Nodes, tree}
 use Rattle.lp_term.specs.declared.node.TermId.{TermId}
 use Rattle.lp_term.specs.declared.node.TypeId.{TypeId}

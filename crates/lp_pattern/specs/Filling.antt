@@ -2,11 +2,11 @@
 use Rattle.std.specs.Prelude.{◌≡◌, ℕ, ◌+◌, ◌<◌, ◌≤◌, List, [], ◌∷◌, map, length, Some, nat_eq}
 use Rattle.indexmap.specs.IndexMap.{get}
 use Rattle.lp_calculus.specs.Types.{Ty, instance}
-use Rattle.lp_types.specs.Equations.{Equation, equation}
+use Rattle.lp_type_laws.specs.Equations.{Equation, equation}
 use Rattle.lp_term.specs.Nodes.{Nodes, type_tree}
 use Rattle.lp_term.specs.Node.{TypeShape, var_node, param_node, con_node, arrow_node}
 use Rattle.lp_term.specs.declared.node.TypeId.{TypeId}
-use Rattle.lp_equations.specs.declared.bindings.Pair.{Pair}
+use Rattle.lp_type_unify.specs.declared.bindings.Pair.{Pair}
 use Rattle.lp_model.specs.Types.{TypePair, TypeBinding, put_types, TypeOutcome, none, solved}
 use Rattle.lp_pattern.specs.Under.{AreTypes}
 use Rattle.lp_pattern.specs.declared.bindings.Bindings.{Bindings}

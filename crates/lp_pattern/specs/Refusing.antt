@@ -1,7 +1,7 @@
 -- What the refusals of terms and of type equations become.
 use Rattle.std.specs.Prelude.{◌≡◌, ℕ, ◌≤◌, Option, None}
 use Rattle.lp_term.specs.declared.reduce.TermRefusal.{TermRefusal}
-use Rattle.lp_equations.specs.declared.counted.EquationRefusal.{EquationRefusal}
+use Rattle.lp_type_unify.specs.declared.counted.EquationRefusal.{EquationRefusal}
 use Rattle.lp_pattern.specs.declared.fault.PatternRefusal.{PatternRefusal}
 
 abbrev pub IsOfTerm : TermRefusal → PatternRefusal → Type 0

@@ -10,7 +10,7 @@ use Rattle.lp_model.specs.Pair.{Pair, Closing, closed, SolvesAll}
 use Rattle.lp_model.specs.Proofs.{Declared}
 use Rattle.lp_model.specs.Answers.{Variable, over, Closes}
 use Rattle.lp_model.specs.declared.answer.Pair.{Pair as Numbers}
-use Rattle.lp_solutions.specs.Solutions.{at_types, IsMore, HaveTypings, AreStuck}
+use Rattle.lp_unify_laws.specs.Solutions.{at_types, IsMore, HaveTypings, AreStuck}
 use Rattle.lp_pattern.specs.Comparing.{pair_under}
 use Rattle.lp_pattern.specs.Turning.{ArePairsFor}
 

@@ -1,8 +1,8 @@
 // Why there is no unifier.
 
 use lp_base::Memory;
-use lp_equations::EquationRefusal;
 use lp_term::TermRefusal;
+use lp_type_unify::EquationRefusal;
 use std::alloc::{AllocError, AllocFailed};
 
 /// Why a unification gives nothing.

@@ -14,7 +14,7 @@ ghost use Rattle.lp_pattern.specs.Under.{AreTypes, IsReading};
 ghost use Rattle.lp_pattern.specs.Reading.{paired, type_pairs_of};
 ghost use Rattle.lp_pattern.specs.Comparing.{IsLoose, HasSameTop, IsComparedTo, IsPassed};
 ghost use Rattle.lp_pattern.specs.Growing.{Grows};
-ghost use Rattle.lp_equations.specs.Reading.{IsPair, read_pairs};
+ghost use Rattle.lp_type_unify.specs.Reading.{IsPair, read_pairs};
 ghost use Rattle.lp_pattern.specs.Filling.{equations, IsStill, AreSolved, IsSolvedIn, IsUnsolvedIn};
 
 use crate::bindings::Bindings;
@@ -22,8 +22,8 @@ use crate::fault::PatternRefusal;
 use crate::fill_types::{TypesFilled, filled_in, resolved};
 use crate::units::spend;
 use lp_base::Memory;
-use lp_equations::{Bindings as Solution, Pair, unify_within};
 use lp_term::{Bank, TypeId, TypeNode};
+use lp_type_unify::{Bindings as Solution, Pair, unify_within};
 use std::alloc::Global;
 
 fn are_pairs(bank: &Bank, pairs: &[Pair]) -> bool

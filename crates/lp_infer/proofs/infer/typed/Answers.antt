@@ -2,9 +2,9 @@ use Rattle.std.proofs.Common.{◌≡◌, ◌+◌, sym, subst, length, arith}
 use Rattle.std.specs.Prelude.{All, MatchOption}
 use Rattle.std.proofs.lemmas.Grind.{common_steps}
 use Rattle.lp_calculus.specs.Types.{var}
-use Rattle.lp_types.specs.Equations.{IsMostGeneral, HaveNoSolution}
+use Rattle.lp_type_laws.specs.Equations.{IsMostGeneral, HaveNoSolution}
 use Rattle.lp_term.specs.Nodes.{type_tree}
-use Rattle.lp_equations.specs.Reading.{reads, read_pairs}
+use Rattle.lp_type_unify.specs.Reading.{reads, read_pairs}
 use Rattle.lp_infer.specs.Postfix.{IsStep}
 use Rattle.lp_infer.specs.Formulas.{HasTypes, wanted_types}
 use Rattle.lp_infer.proofs.Joining.{is_made, none_typed, is_typed}

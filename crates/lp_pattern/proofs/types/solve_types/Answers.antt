@@ -1,6 +1,6 @@
 use Rattle.std.proofs.Common.{◌≡◌, ap, refl, length, rules}
 use Rattle.lp_term.specs.Nodes.{type_tree}
-use Rattle.lp_equations.specs.Reading.{reading, reads}
+use Rattle.lp_type_unify.specs.Reading.{reading, reads}
 use Rattle.lp_pattern.proofs.TypesSolved.{all_solved, none_solved, refused_rightly, units_solved, ended_there, general_there, refused_there}
 use Rattle.lp_pattern.specs.Refusing.{IsOfEquations}
 use Rattle.lp_term.proofs.Moves.{nothing}

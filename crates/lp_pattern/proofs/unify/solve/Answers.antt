@@ -5,7 +5,7 @@ use Rattle.lp_model.specs.Pair.{Closing}
 use Rattle.lp_model.specs.Proofs.{Declared}
 use Rattle.lp_model.specs.Answers.{Variable}
 use Rattle.lp_model.specs.Unify.{Unified, Solution, solve}
-use Rattle.lp_solutions.specs.Solutions.{IsTypedInput, IsSolution as SolvesInput}
+use Rattle.lp_unify_laws.specs.Solutions.{IsTypedInput, IsSolution as SolvesInput}
 use Rattle.lp_pattern.specs.declared.fault.PatternRefusal.TheVariants.{Fails}
 use Rattle.lp_pattern.proofs.SolutionsFound.{right_found, none_found}
 use Rattle.lp_pattern.specs.Reading.{type_pairs_of}

@@ -1,7 +1,7 @@
 use Rattle.std.proofs.Common.{subst}
 use Rattle.lp_calculus.specs.Types.{con, tys}
 use Rattle.lp_term.specs.Nodes.{type_tree}
-use Rattle.lp_equations.specs.Reading.{reads}
+use Rattle.lp_type_unify.specs.Reading.{reads}
 use Rattle.lp_infer.specs.Copies.{trees_of, IsType}
 use Rattle.lp_infer.specs.ReadingOff.{bound_type}
 use Rattle.lp_infer.proofs.Results.{on_ok_as}

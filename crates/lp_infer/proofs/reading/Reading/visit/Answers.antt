@@ -3,12 +3,12 @@ use Rattle.lp_calculus.specs.Types.{instance}
 use Rattle.lp_term.specs.Nodes.{type_tree}
 use Rattle.lp_infer.specs.Numbering.{type_variables}
 use Rattle.lp_infer.specs.declared.reading.Task.TheVariants as task
-use Rattle.lp_equations.specs.Reading.{reads}
+use Rattle.lp_type_unify.specs.Reading.{reads}
 use Rattle.lp_infer.specs.ReadingOff.{bound_type}
 use Rattle.lp_infer.proofs.Results.{on_ok_as, on_ok_two}
 use Rattle.lp_infer.proofs.Memos.{again, some_of, unbound_reads, taken_variable, taken_parameter, taken_parts, taken_arrow, con_variables, parts_pushed, arrow_pushed}
 use Rattle.lp_infer.proofs.Costs.{con_size, visit_cost, parts_cost, arrow_cost}
-use Rattle.lp_types.specs.Equations.{size}
+use Rattle.lp_type_laws.specs.Equations.{size}
 use Rattle.lp_infer.proofs.reading.Reading.visit.Goals as goal
 
 pub returns-then-is_some-clause-taken : goal.returns-then-is_some-clause-taken

@@ -1,5 +1,0 @@
-use Rattle.lp_answers.proofs.Expressions as lemmas
-use Rattle.lp_answers.proofs.arithmetic.values_are_unique.Goals as goal
-
-pub returns : goal.returns
-returns c = lemmas.one_value

@@ -1,5 +1,0 @@
-use Rattle.lp_answers.proofs.InFocus as lemmas
-use Rattle.lp_answers.proofs.clauses.clauses_in_focus.Goals as goal
-
-pub returns : goal.returns
-returns c = λ d std E P z k vs h b A head fine at_atom. ((λ r. lemmas.focus_applies d std E P A at_atom z k vs h b head fine r), (λ r. lemmas.applies_focus d std E P A at_atom z k vs h b head fine r))

@@ -1,5 +1,0 @@
-use Rattle.lp_answers.proofs.EnoughSteps as lemmas
-use Rattle.lp_answers.proofs.enough.branches_have_enough.Goals as goal
-
-pub returns : goal.returns
-returns c = lemmas.branches_have_enough

@@ -1,5 +1,0 @@
-use Rattle.lp_answers.proofs.SameViews as lemmas
-use Rattle.lp_answers.proofs.enough.enough_steps_see_all.Goals as goal
-
-pub returns : goal.returns
-returns c = lemmas.view_same

@@ -1,5 +1,0 @@
-use Rattle.lp_answers.proofs.EnoughSteps as lemmas
-use Rattle.lp_answers.proofs.enough.more_steps_are_enough.Goals as goal
-
-pub returns : goal.returns
-returns c = lemmas.enough_more

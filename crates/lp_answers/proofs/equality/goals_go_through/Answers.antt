@@ -1,5 +1,0 @@
-use Rattle.lp_answers.proofs.Kept as lemmas
-use Rattle.lp_answers.proofs.equality.goals_go_through.Goals as goal
-
-pub returns : goal.returns
-returns c = lemmas.goals_go_through

@@ -1,5 +1,0 @@
-use Rattle.lp_answers.proofs.RunsKeep as lemmas
-use Rattle.lp_answers.proofs.residual.solve_keeps_plain.Goals as goal
-
-pub returns : goal.returns
-returns c = lemmas.solve_keeps_plain

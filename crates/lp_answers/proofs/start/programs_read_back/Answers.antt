@@ -1,5 +1,0 @@
-use Rattle.lp_answers.proofs.Programs as lemmas
-use Rattle.lp_answers.proofs.start.programs_read_back.Goals as goal
-
-pub returns : goal.returns
-returns c = lemmas.program_reads_back

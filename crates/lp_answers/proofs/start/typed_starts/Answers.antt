@@ -1,5 +1,0 @@
-use Rattle.lp_answers.proofs.Begins as lemmas
-use Rattle.lp_answers.proofs.start.typed_starts.Goals as goal
-
-pub returns : goal.returns
-returns c = λ n m d std q gs steps answers t e. lemmas.start_typed d std m q gs t e n steps answers

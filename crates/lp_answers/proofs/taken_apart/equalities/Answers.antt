@@ -1,5 +1,0 @@
-use Rattle.lp_answers.proofs.Connectives as lemmas
-use Rattle.lp_answers.proofs.taken_apart.equalities.Goals as goal
-
-pub returns : goal.returns
-returns c = λ d std E P z T a b k f. lemmas.equal_holds d std E P z T a b f

@@ -1,5 +1,0 @@
-use Rattle.lp_answers.proofs.Matching as lemmas
-use Rattle.lp_answers.proofs.tries.solved_clauses_apply.Goals as goal
-
-pub returns : goal.returns
-returns c = lemmas.match_applies

@@ -1,5 +1,0 @@
-use Rattle.lp_answers.proofs.LooksRight as lemmas
-use Rattle.lp_answers.proofs.views.each_branch_is_right.Goals as goal
-
-pub returns : goal.returns
-returns c = λ n height d std P program q y b h. lemmas.each_branch n d std P program q height y b h

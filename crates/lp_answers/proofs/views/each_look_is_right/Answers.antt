@@ -1,5 +1,0 @@
-use Rattle.lp_answers.proofs.LooksRight as lemmas
-use Rattle.lp_answers.proofs.views.each_look_is_right.Goals as goal
-
-pub returns : goal.returns
-returns c = λ n height d std P program q T h. lemmas.each_look n d std P program q height T h

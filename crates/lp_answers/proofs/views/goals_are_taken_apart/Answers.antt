@@ -1,5 +1,0 @@
-use Rattle.lp_answers.proofs.Looked as lemmas
-use Rattle.lp_answers.proofs.views.goals_are_taken_apart.Goals as goal
-
-pub returns : goal.returns
-returns c = lemmas.goals_are_taken_apart

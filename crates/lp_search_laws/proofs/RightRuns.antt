@@ -1,0 +1,150 @@
+-- Where each look is right each run is: the search of typed tasks, in step with the search of tasks, is faithful.
+use Rattle.std.proofs.Common.{◌≡◌, ℕ, List, [], ◌∷◌, map, ◌∙◌, refl, sym, ap, subst as transport, inl, inr}
+use Rattle.lp_model.specs.Skeleton.{View, Gives, Opens, Parts, Takes, Cuts, Halts, starts, run}
+use Rattle.lp_model.specs.Faithful.{AnyOf, EachOf, Covers, AreFine, Faithful}
+use Rattle.lp_model.specs.Flat.{Clause}
+use Rattle.lp_model.specs.Branch.{Branch, Answer, Task, Go}
+use Rattle.lp_model.specs.Proofs.{Declared}
+use Rattle.lp_model.specs.Answers.{Query, Instance, IsInstance, IsWellFormed, TypedAnswer}
+use Rattle.lp_model.specs.Search.{look}
+use Rattle.lp_laws.proofs.Lists.{each_from_any}
+use Rattle.lp_laws.proofs.Stacks.{sound, exhausts, fine}
+use Rattle.lp_laws.proofs.InStep.{view_map, told_map, in_step}
+use Rattle.lp_search_laws.specs.Branches.{TypedTask, going, task_of, IsOk, Sol, BranchTyping, IsTypedBranch, IsQueryInstance, SolvesBranch, IsRightView}
+use Rattle.lp_search_laws.specs.Right.{IsRightOf}
+
+module _ (n : ℕ) (d : Declared) (P : List Clause) (q : Query) (looks : (height : ℕ) (T : TypedTask) → IsOk n d P q T → IsRightView n d P q T (look n P height (task_of T))) where
+  -- a typed task that is as it should be
+  record Marked : Type 0 where
+    task : TypedTask
+    ok : IsOk n d P q task
+
+  bare : Marked → Task
+  bare M = task_of M.task
+
+  answer_only : TypedAnswer → Answer
+  answer_only a = a.answer
+
+  marks : (Ts : List TypedTask) → EachOf (IsOk n d P q) Ts → List Marked
+  marks [] h = []
+  marks (T ∷ Ts) h = record { task = T; ok = h.0 } ∷ marks Ts h.1
+
+  marked : (T : TypedTask) (v : View Task Answer) → IsRightView n d P q T v → View Marked TypedAnswer
+  marked T (Gives a) r = Gives (record { answer = a; typing = r.typing })
+  marked T (Opens ts) r = Opens (marks r.typed r.ok)
+  marked T (Parts ts) r = Parts (marks r.typed r.ok)
+  marked T (Takes name ts) r = Takes name (marks r.typed r.ok)
+  marked T (Cuts m ts) r = Cuts m (marks r.typed r.ok)
+  marked T (Halts e) r = Halts e
+
+  looked : ℕ → Marked → View Marked TypedAnswer
+  looked height M = marked M.task (look n P height (task_of M.task)) (looks height M.task M.ok)
+
+  -- it is in step
+  unfolded : (Ts : List TypedTask) (h : EachOf (IsOk n d P q) Ts) → map task_of Ts ≡ map bare (marks Ts h)
+  unfolding bare marks
+  unfolded [] h = refl
+  unfolded (T ∷ Ts) h = ap (λ x. task_of T ∷ x) (unfolded Ts h.1)
+
+  same_view : (T : TypedTask) (v : View Task Answer) (r : IsRightView n d P q T v) → v ≡ view_map bare answer_only (marked T v r)
+  unfolding bare marks answer_only marked
+  same_view T (Gives a) r = refl
+  same_view T (Opens ts) r = ap Opens (sym r.is ∙ unfolded r.typed r.ok)
+  same_view T (Parts ts) r = ap Parts (sym r.is ∙ unfolded r.typed r.ok)
+  same_view T (Takes name ts) r = ap (Takes name) (sym r.is ∙ unfolded r.typed r.ok)
+  same_view T (Cuts m ts) r = ap (Cuts m) (sym r.is ∙ unfolded r.typed r.ok)
+  same_view T (Halts e) r = refl
+
+  -- and faithful
+  abbrev Fine : TypedAnswer → Type 0
+  Fine a = IsWellFormed d q a.typing a.answer
+
+  abbrev Is : Instance → TypedAnswer → Type 0
+  Is i a = IsQueryInstance d q i × IsInstance d a.typing a.answer i
+
+  abbrev MarkedSol : Instance → Marked → Type 0
+  MarkedSol i M = Sol d P q i M.task
+
+  any_marked : (i : Instance) (Ts : List TypedTask) (h : EachOf (IsOk n d P q) Ts) → AnyOf (Sol d P q i) Ts → AnyOf (MarkedSol i) (marks Ts h)
+  unfolding marks
+  any_marked i [] h s = s
+  any_marked i (T ∷ Ts) h s = elim s [ inl x ↦ inl x | inr x ↦ inr (any_marked i Ts h.1 x) ]
+
+  marked_any : (i : Instance) (Ts : List TypedTask) (h : EachOf (IsOk n d P q) Ts) → AnyOf (MarkedSol i) (marks Ts h) → AnyOf (Sol d P q i) Ts
+  unfolding marks
+  marked_any i [] h s = s
+  marked_any i (T ∷ Ts) h s = elim s [ inl x ↦ inl x | inr x ↦ inr (marked_any i Ts h.1 x) ]
+
+  all_fine : (Ms : List Marked) → EachOf (λ M. Unit {0}) Ms
+  all_fine [] = tt
+  all_fine (M ∷ Ms) = (tt, all_fine Ms)
+
+  view_stays : (T : TypedTask) (v : View Task Answer) (r : IsRightView n d P q T v) → AreFine (λ M. Unit {0}) Fine (marked T v r)
+  unfolding marked
+  view_stays T (Gives a) r = r.ok
+  view_stays T (Opens ts) r = all_fine (marks r.typed r.ok)
+  view_stays T (Parts ts) r = all_fine (marks r.typed r.ok)
+  view_stays T (Takes name ts) r = all_fine (marks r.typed r.ok)
+  view_stays T (Cuts m ts) r = all_fine (marks r.typed r.ok)
+  view_stays T (Halts e) r = r
+
+  view_keeps : (T : TypedTask) (v : View Task Answer) (r : IsRightView n d P q T v) (i : Instance) → Sol d P q i T → Covers (Unit {0}) MarkedSol Is i (marked T v r)
+  unfolding marked
+  view_keeps T (Gives a) r i s = r.keeps i s
+  view_keeps T (Opens ts) r i s = any_marked i r.typed r.ok (r.keeps i s)
+  view_keeps T (Parts ts) r i s = any_marked i r.typed r.ok (r.keeps i s)
+  view_keeps T (Takes name ts) r i s = any_marked i r.typed r.ok (r.keeps i s)
+  view_keeps T (Cuts m ts) r i s = any_marked i r.typed r.ok (r.keeps i s)
+  view_keeps T (Halts e) r i s = tt
+
+  view_gives : (T : TypedTask) (v : View Task Answer) (r : IsRightView n d P q T v) (i : Instance) → Covers ⊥ MarkedSol Is i (marked T v r) → Sol d P q i T
+  unfolding marked
+  view_gives T (Gives a) r i s = r.gives i s.0 s.1
+  view_gives T (Opens ts) r i s = r.gives i (marked_any i r.typed r.ok s)
+  view_gives T (Parts ts) r i s = r.gives i (marked_any i r.typed r.ok s)
+  view_gives T (Takes name ts) r i s = r.gives i (marked_any i r.typed r.ok s)
+  view_gives T (Cuts m ts) r i s = r.gives i (marked_any i r.typed r.ok s)
+  view_gives T (Halts e) r i s = absurd s
+
+  faithful : Faithful looked (λ M. Unit {0}) Fine MarkedSol Is
+  unfolding looked
+  faithful = record {
+    stays = λ height M u. view_stays M.task (look n P height (task_of M.task)) (looks height M.task M.ok);
+    keeps = λ height M u i s. view_keeps M.task (look n P height (task_of M.task)) (looks height M.task M.ok) i s;
+    gives = λ height M u i s. view_gives M.task (look n P height (task_of M.task)) (looks height M.task M.ok) i s;
+  }
+
+  module _ (y : BranchTyping) (b : Branch) (h : IsTypedBranch n d q y b) (m steps answers : ℕ) where
+    first : Marked
+    first = record { task = going y b; ok = h }
+
+    in_both : run (look n P) m (starts (Go b) steps answers) ≡ told_map bare answer_only (run looked m (starts first steps answers))
+    unfolding bare first looked
+    in_both = in_step bare answer_only looked (look n P) (λ height M. same_view M.task (look n P height (task_of M.task)) (looks height M.task M.ok)) m (starts first steps answers)
+
+    any_instance : (i : Instance) (as' : List TypedAnswer) → AnyOf (Is i) as' → AnyOf (λ a. IsInstance d a.typing a.answer i) as'
+    any_instance i [] s = s
+    any_instance i (a ∷ as') s = elim s [ inl x ↦ inl x.1 | inr x ↦ inr (any_instance i as' x) ]
+
+    each_instance : (as' : List TypedAnswer) → EachOf (λ a. (i : Instance) → Is i a → SolvesBranch d P q i y b) as' → EachOf (λ a. (i : Instance) → IsQueryInstance d q i → IsInstance d a.typing a.answer i → SolvesBranch d P q i y b) as'
+    each_instance [] s = tt
+    each_instance (a ∷ as') s = (λ i x z. s.0 i (x, z), each_instance as' s.1)
+
+    one_of : (i : Instance) → AnyOf (MarkedSol i) (first ∷ []) → SolvesBranch d P q i y b
+    unfolding first
+    one_of i s = elim s [ inl x ↦ x | inr x ↦ absurd x ]
+
+    the_one : (i : Instance) → SolvesBranch d P q i y b → AnyOf (MarkedSol i) (first ∷ [])
+    unfolding first
+    the_one i s = inl s
+
+    pub right_run : IsRightOf d P q y b (run (look n P) m (starts (Go b) steps answers))
+    unfolding answer_only
+    right_run = transport (IsRightOf d P q y b) (sym in_both) (record {
+      typed = (run looked m (starts first steps answers)).answers;
+      is = refl;
+      well_formed = fine looked (λ M. Unit {0}) Fine MarkedSol Is faithful m (starts first steps answers) (tt, tt);
+      sound = each_instance (run looked m (starts first steps answers)).answers
+          (each_from_any Is (λ i. SolvesBranch d P q i y b) (run looked m (starts first steps answers)).answers (λ i s. one_of i (sound looked (λ M. Unit {0}) Fine MarkedSol Is faithful m (starts first steps answers) (tt, tt) i s)));
+      exhausts = λ e i s. any_instance i (run looked m (starts first steps answers)).answers (exhausts looked (λ M. Unit {0}) Fine MarkedSol Is faithful m (starts first steps answers) (tt, tt) e i (the_one i s));
+    })

@@ -1,0 +1,5 @@
+use Rattle.lp_search_laws.proofs.Kept as lemmas
+use Rattle.lp_search_laws.proofs.equality.terms_go_through.Goals as goal
+
+pub returns : goal.returns
+returns c = lemmas.terms_go_through

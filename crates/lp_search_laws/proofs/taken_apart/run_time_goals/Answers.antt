@@ -1,0 +1,5 @@
+use Rattle.lp_search_laws.proofs.Goals as lemmas
+use Rattle.lp_search_laws.proofs.taken_apart.run_time_goals.Goals as goal
+
+pub returns : goal.returns
+returns c = lemmas.run_time_goals

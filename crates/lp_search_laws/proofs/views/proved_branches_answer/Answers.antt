@@ -1,0 +1,5 @@
+use Rattle.lp_search_laws.proofs.Standing as lemmas
+use Rattle.lp_search_laws.proofs.views.proved_branches_answer.Goals as goal
+
+pub returns : goal.returns
+returns c = lemmas.proved_branches_answer

@@ -1,0 +1,104 @@
+-- What a goal says under a closing, and what stands in its place where it is taken apart.
+use Rattle.std.specs.Prelude.{ℕ, suc, nat_eq, false, ◌&&◌, if◌then◌else◌, ◌⊎◌, ◌≡◌, List, [], ◌∷◌, ◌++◌, length, map, Some, slice_get}
+use Rattle.lp_calculus.specs.Types.{Ty, instance}
+use Rattle.lp_calculus.specs.Term.{Term, Atom, atom, substitute, constant, integer, text, eigen, logic, param}
+use Rattle.lp_calculus.specs.Fill.{Within}
+use Rattle.lp_model.specs.Pair.{Pair, Closing, closed, SolvesAll}
+use Rattle.lp_model.specs.Unify.{State}
+use Rattle.lp_model.specs.Answers.{Variable, over, IsScopedAtom, Closes}
+use Rattle.lp_calculus.specs.Typing.{Typed}
+use Rattle.lp_calculus.specs.Instance.{instance_term}
+use Rattle.lp_unify_laws.specs.Solutions.{at_types, instance_binding, through_bindings, KeepsTypings, KeptClosing}
+use Rattle.lp_model.specs.Flatten.{ClauseFormula}
+use Rattle.lp_model.specs.Flat.{Goal, Atomic, Cut, Either, Exists, Forall, Assume, formula_of_goals, formula_of_clauses}
+use Rattle.lp_model.specs.Proofs.{Declared, IsWitness, IsFormula, Provable, assumed}
+use Rattle.lp_model.specs.Standard.{two, Form, Truth, Cutting, Both, OneOf, Implies, Every, Exist, Plain}
+
+-- the term is provable as the closing makes it; E are the types of the eigenconstants
+abbrev pub Holds : Declared → (E : List Ty) → (P : List ClauseFormula) → Closing → Term → Type 0
+Holds d E P c t = Provable d E P (closed c t)
+
+-- the closing with another term for one variable
+abbrev pub with_value : Closing → (x l : ℕ) → Term → Closing
+with_value c x l w = record { types = c.types; terms = λ y m. if nat_eq y x && nat_eq m l then w else c.terms y m }
+
+-- the variable does not stand in the term
+abbrev pub IsOther : (x l : ℕ) → Atom → Type 0
+IsOther x l (logic y m) = (nat_eq y x && nat_eq m l) ≡ false
+IsOther x l (constant c ts) = Unit {0}
+IsOther x l (integer z) = Unit {0}
+IsOther x l (text s) = Unit {0}
+IsOther x l (eigen k) = Unit {0}
+IsOther x l (param k T) = Unit {0}
+
+abbrev pub IsUnused : (x l : ℕ) → Term → Type 0
+IsUnused x l t = Within (IsOther x l) 0 t
+
+-- the next eigenconstant
+abbrev pub next_eigen : List Ty → Term
+next_eigen E = atom (eigen (suc (length E)))
+
+-- a form that the search takes apart, under a closing: x of level l is the variable that a `sigma` gets
+abbrev pub FormHolds : Declared → (E : List Ty) → (P : List ClauseFormula) → Closing → (x l : ℕ) → Form → Type 0
+FormHolds d E P c x l Truth = Unit {0}
+FormHolds d E P c x l (Both a b) = Holds d E P c a × Holds d E P c b
+FormHolds d E P c x l (OneOf a b) = Holds d E P c a ⊎ Holds d E P c b
+FormHolds d E P c x l (Every T s) = Holds d (E ++ instance c.types T ∷ []) P c (substitute (next_eigen E) s)
+FormHolds d E P c x l (Exist T s) = (w : Term) × IsWitness d E w (instance c.types T) × Holds d E P (with_value c x l w) (substitute (atom (logic x l)) s)
+FormHolds d E P c x l Cutting = ⊥
+FormHolds d E P c x l (Implies a b) = ⊥
+FormHolds d E P c x l Plain = ⊥
+
+-- the forms that are taken apart
+abbrev pub IsTakenApart : Form → Type 0
+IsTakenApart Truth = Unit {0}
+IsTakenApart (Both a b) = Unit {0}
+IsTakenApart (OneOf a b) = Unit {0}
+IsTakenApart (Every T s) = Unit {0}
+IsTakenApart (Exist T s) = Unit {0}
+IsTakenApart Cutting = ⊥
+IsTakenApart (Implies a b) = ⊥
+IsTakenApart Plain = ⊥
+
+-- a flattened goal that is taken apart, by the formulas of its parts
+abbrev pub GoalHolds : Declared → (E : List Ty) → (P : List ClauseFormula) → Closing → (x l : ℕ) → Goal → Type 0
+GoalHolds d E P c x l (Atomic t) = Holds d E P c t
+GoalHolds d E P c x l Cut = Unit {0}
+GoalHolds d E P c x l (Either gs hs) = Holds d E P c (formula_of_goals gs) ⊎ Holds d E P c (formula_of_goals hs)
+GoalHolds d E P c x l (Forall T gs) = Holds d (E ++ instance c.types T ∷ []) P c (substitute (next_eigen E) (formula_of_goals gs))
+GoalHolds d E P c x l (Exists T gs) = (w : Term) × IsWitness d E w (instance c.types T) × Holds d E P (with_value c x l w) (substitute (atom (logic x l)) (formula_of_goals gs))
+GoalHolds d E P c x l (Assume cs gs) = Holds d E (P ++ assumed (closed c (formula_of_clauses cs)) ∷ []) c (formula_of_goals gs)
+
+abbrev pub equation : (l r : Term) → (level : ℕ) → List Pair
+equation l r k = record { left = l; right = r; level = k } ∷ []
+
+abbrev pub equality : Ty → (l r : Term) → Term
+equality T l r = two 8 (T ∷ []) l r
+
+-- an equality through the unifier, with the types θ put in: what is left is typed over one list of variables, and its closings that solve the
+-- residual pairs are, through the bindings, those that solve the pairs of before and make the equality hold
+pub record EqualityHolds (θ : ℕ → Ty) (d : Declared) (V : List Variable) (E : List Ty) (P : List ClauseFormula) (T : Ty) (l r : Term) (ds : List Pair) (s : State) : Type 0 where
+  pub typings : KeepsTypings θ d V s
+  pub keeps : (c : Closing) → Closes d V c → SolvesAll c (at_types θ ds) → IsFormula d E (closed c (instance_term θ (equality T l r))) → Holds d E P c (instance_term θ (equality T l r)) → KeptClosing d V typings.after c (map (instance_binding θ) s.bindings) (at_types θ s.delayed)
+  pub gives : (c : Closing) → Closes d typings.after c → SolvesAll c (at_types θ s.delayed) → IsFormula d E (closed (through_bindings (map (instance_binding θ) s.bindings) c) (instance_term θ (equality T l r))) →
+      Holds d E P (through_bindings (map (instance_binding θ) s.bindings) c) (instance_term θ (equality T l r)) × SolvesAll (through_bindings (map (instance_binding θ) s.bindings) c) (at_types θ ds)
+
+-- a term of a type over the variables V, at the eigenconstants E
+pub record IsTyped (d : Declared) (E : List Ty) (V : List Variable) (t : Term) (T : Ty) : Type 0 where
+  pub typed : Typed (over d E V) [] t T
+  pub scoped : Within (IsScopedAtom V E) 0 t
+
+-- a variable that stands there is one of V, at its own level
+abbrev pub IsVariableOf : List Variable → Atom → Type 0
+IsVariableOf V (logic x l) = (v : Variable) × (slice_get V x ≡ Some v) × (l ≡ length v.scope)
+IsVariableOf V (constant c ts) = Unit {0}
+IsVariableOf V (integer z) = Unit {0}
+IsVariableOf V (text s) = Unit {0}
+IsVariableOf V (eigen k) = Unit {0}
+IsVariableOf V (param k T) = Unit {0}
+
+-- a goal that holds exactly where another one does
+pub record IsSameGoal (d : Declared) (E : List Ty) (P : List ClauseFormula) (c : Closing) (t u : Term) : Type 0 where
+  pub fine : IsFormula d E (closed c u)
+  pub to : Holds d E P c t → Holds d E P c u
+  pub from : Holds d E P c u → Holds d E P c t

@@ -1,0 +1,71 @@
+-- Typed queries, programs of flattened clauses, and what the search of a query starts with.
+use Rattle.std.specs.Prelude.{◌≡◌, ℕ, suc, ◌-◌, ◌<◌, List, [], ◌∷◌, ◌++◌, map, length, reverse, Some}
+use Rattle.lp_calculus.specs.Types.{Ty, Tys, var, param as type_param, con, arrow, no_types, types, instance}
+use Rattle.lp_calculus.specs.Term.{Atom, atom, constant, integer, text, eigen, logic, param}
+use Rattle.lp_calculus.specs.Fill.{Within}
+use Rattle.lp_calculus.specs.Typing.{Typed, o_type}
+use Rattle.lp_model.specs.Faithful.{EachOf}
+use Rattle.lp_model.specs.Pair.{Closing, closed}
+use Rattle.lp_model.specs.Flat.{Goals, Clause, clause, Clauses, clause_list, goal_list, instantiate_goals, formula_of_goal, formula_of_clause}
+use Rattle.lp_model.specs.Flatten.{ClauseFormula, flatten}
+use Rattle.lp_model.specs.Proofs.{Declared, under}
+use Rattle.lp_model.specs.Answers.{Query, Variable, Instance, Closes, ConvertEach}
+use Rattle.lp_model.specs.Search.{vars_from, types_from}
+use Rattle.lp_search_laws.specs.Holds.{Holds}
+
+-- the type variables are below k
+abbrev mutual
+  pub IsTypeBelow : (k : ℕ) → Ty → Type 0
+  IsTypeBelow k (var i) = i < k
+  IsTypeBelow k (type_param n) = Unit {0}
+  IsTypeBelow k (con c ts) = AreTypesInBelow k ts
+  IsTypeBelow k (arrow a b) = IsTypeBelow k a × IsTypeBelow k b
+
+  pub AreTypesInBelow : (k : ℕ) → Tys → Type 0
+  AreTypesInBelow k no_types = Unit {0}
+  AreTypesInBelow k (types t ts) = IsTypeBelow k t × AreTypesInBelow k ts
+
+abbrev pub AreTypesBelow : (k : ℕ) → List Ty → Type 0
+AreTypesBelow k [] = Unit {0}
+AreTypesBelow k (t ∷ ts) = IsTypeBelow k t × AreTypesBelow k ts
+
+-- an atom of a query: no logic variable and no eigenconstant, and only the query's type variables
+abbrev pub IsQueryAtom : (k : ℕ) → Atom → Type 0
+IsQueryAtom k (constant c ts) = AreTypesBelow k ts
+IsQueryAtom k (integer z) = Unit {0}
+IsQueryAtom k (text s) = Unit {0}
+IsQueryAtom k (eigen n) = ⊥
+IsQueryAtom k (logic x l) = ⊥
+IsQueryAtom k (param n T) = IsTypeBelow k T
+
+-- a query is typed over its type variables: its variables are the loose indices, the first one the outermost
+pub record IsTypedQuery (d : Declared) (q : Query) : Type 0 where
+  pub vars : AreTypesBelow q.type_vars q.vars
+  pub typed : Typed (under d []) (reverse q.vars) q.formula o_type
+  pub within : Within (IsQueryAtom q.type_vars) (length q.vars) q.formula
+
+-- a sentence is typed over its type variables
+pub record IsTypedSentence (d : Declared) (D : ClauseFormula) : Type 0 where
+  pub typed : Typed (under d []) [] D.formula o_type
+  pub within : Within (IsQueryAtom D.type_vars) 0 D.formula
+
+-- a flattened clause of a program as a formula over its type variables
+abbrev pub clause_formula : Clause → ClauseFormula
+clause_formula (clause k vs h b) = record { type_vars = k; formula = formula_of_clause (clause k vs h b) }
+
+-- the flattened clauses of each sentence, one sentence behind the other
+abbrev pub AreFlattened : (n : ℕ) → Declared → List ClauseFormula → List Clause → Type 0
+AreFlattened n d [] P = P ≡ []
+AreFlattened n d (D ∷ F) P = (cs : Clauses) × (R : List Clause) × (flatten n d D ≡ Some cs) × (P ≡ clause_list cs ++ R) × AreFlattened n d F R
+
+-- a variable of level 0
+abbrev pub outermost : Ty → Variable
+outermost T = record { type = T; scope = [] }
+
+-- a closing of the variables that a query starts with gives the instance, and makes each of the goals provable
+pub record StartHolds (d : Declared) (P : List ClauseFormula) (q : Query) (gs : Goals) (i : Instance) : Type 0 where
+  pub closing : Closing
+  pub closes : Closes d (map outermost q.vars) closing
+  pub types : map (instance closing.types) (types_from q.type_vars 0) ≡ i.types
+  pub values : ConvertEach (map (closed closing) (vars_from (length q.vars) 0)) i.values
+  pub holds : EachOf (λ g. Holds d [] P closing (formula_of_goal g)) (goal_list (instantiate_goals (λ k. atom (logic (length q.vars - suc k) 0)) gs))

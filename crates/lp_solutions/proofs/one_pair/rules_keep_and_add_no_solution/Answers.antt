@@ -1,5 +1,0 @@
-use Rattle.lp_solutions.proofs.PairLaws as lemmas
-use Rattle.lp_solutions.proofs.one_pair.rules_keep_and_add_no_solution.Goals as goal
-
-pub returns : goal.returns
-returns c = lemmas.rules_keep_and_add_no_solution

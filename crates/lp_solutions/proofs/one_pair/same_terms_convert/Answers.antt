@@ -1,5 +1,0 @@
-use Rattle.lp_solutions.proofs.Laws as lemmas
-use Rattle.lp_solutions.proofs.one_pair.same_terms_convert.Goals as goal
-
-pub returns : goal.returns
-returns c = lemmas.same_terms_convert

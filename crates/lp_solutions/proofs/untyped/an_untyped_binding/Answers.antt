@@ -1,5 +1,0 @@
-use Rattle.lp_solutions.proofs.UntypedRows as rows
-use Rattle.lp_solutions.proofs.untyped.an_untyped_binding.Goals as goal
-
-pub returns : goal.returns
-returns c = (rows.swapped_binds, rows.swapped_solved)

@@ -1,5 +1,0 @@
-use Rattle.lp_solutions.proofs.UntypedRows as rows
-use Rattle.lp_solutions.proofs.untyped.an_untyped_failure.Goals as goal
-
-pub returns : goal.returns
-returns c = (rows.occurs_fails, rows.occurs_solved)

@@ -1,5 +1,0 @@
-use Rattle.lp_solutions.proofs.Trimmed as lemmas
-use Rattle.lp_solutions.proofs.whole_runs.closings_are_kept.Goals as goal
-
-pub returns : goal.returns
-returns c = lemmas.closings_are_kept

@@ -1,5 +1,0 @@
-use Rattle.lp_solutions.proofs.Principal as lemmas
-use Rattle.lp_solutions.proofs.whole_runs.closings_are_the_same.Goals as goal
-
-pub returns : goal.returns
-returns c = lemmas.closings_are_the_same

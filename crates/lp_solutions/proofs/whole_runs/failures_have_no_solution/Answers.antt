@@ -1,5 +1,0 @@
-use Rattle.lp_solutions.proofs.Laws as lemmas
-use Rattle.lp_solutions.proofs.whole_runs.failures_have_no_solution.Goals as goal
-
-pub returns : goal.returns
-returns c = lemmas.failures_have_no_solution

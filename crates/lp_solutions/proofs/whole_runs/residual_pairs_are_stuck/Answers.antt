@@ -1,5 +1,0 @@
-use Rattle.lp_solutions.proofs.Laws as lemmas
-use Rattle.lp_solutions.proofs.whole_runs.residual_pairs_are_stuck.Goals as goal
-
-pub returns : goal.returns
-returns c = lemmas.residual_pairs_are_stuck

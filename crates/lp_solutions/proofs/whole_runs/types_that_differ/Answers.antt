@@ -1,5 +1,0 @@
-use Rattle.lp_solutions.proofs.Laws as lemmas
-use Rattle.lp_solutions.proofs.whole_runs.types_that_differ.Goals as goal
-
-pub returns : goal.returns
-returns c = lemmas.types_that_differ

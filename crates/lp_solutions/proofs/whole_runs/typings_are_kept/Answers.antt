@@ -1,5 +1,0 @@
-use Rattle.lp_solutions.proofs.Laws as lemmas
-use Rattle.lp_solutions.proofs.whole_runs.typings_are_kept.Goals as goal
-
-pub returns : goal.returns
-returns c = lemmas.typings_are_kept

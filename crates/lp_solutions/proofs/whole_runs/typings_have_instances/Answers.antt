@@ -1,5 +1,0 @@
-use Rattle.lp_solutions.proofs.TypedInstances as lemmas
-use Rattle.lp_solutions.proofs.whole_runs.typings_have_instances.Goals as goal
-
-pub returns : goal.returns
-returns c = lemmas.typings_have_instances

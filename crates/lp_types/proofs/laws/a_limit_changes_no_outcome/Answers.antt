@@ -1,6 +1,0 @@
-use Rattle.lp_types.specs.Solving.{solved}
-use Rattle.lp_types.proofs.GoingOn.{as_without}
-use Rattle.lp_types.proofs.laws.a_limit_changes_no_outcome.Goals as goal
-
-pub returns : goal.returns
-returns c = λ limit used es θ ι e. as_without limit used (solved ι) es θ e

@@ -1,5 +1,0 @@
-use Rattle.lp_types.proofs.GoingOn.{going_on}
-use Rattle.lp_types.proofs.laws.going_on_is_most_general.Goals as goal
-
-pub returns : goal.returns
-returns c = going_on
