@@ -1,5 +1,5 @@
 -- What the faults of texts hold: never a lower crate's want of memory or limit.
-use Rattle.lp_fixity.specs.declared.fixity.FixFault.TheVariants as fix
+use Rattle.lp_fixity.specs.declared.fault.FixFault.TheVariants as fix
 use Rattle.lp_infer.specs.declared.fault.InferFault.{InferFault}
 use Rattle.lp_infer.specs.declared.fault.InferFault.TheVariants as infer
 use Rattle.lp_syntax.specs.declared.fault.SyntaxFault.{SyntaxFault}

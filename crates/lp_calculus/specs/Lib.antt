@@ -3,6 +3,7 @@ pub mod Term
 pub mod Convert
 pub mod Fill
 pub mod Typing
+pub mod Spine
 pub mod Instance
 pub mod Closed
 pub mod Normal

@@ -2,10 +2,12 @@
 use Rattle.std.specs.Prelude.{◌≡◌, ◌≢◌, ◌<◌, ◌≤◌, ℕ, List, [], ◌∷◌, ◌++◌, Option, Some, None, codes, if◌then◌else◌}
 use Rattle.std.specs.Str.{bytes_eq}
 use Rattle.std.specs.Map.{lookup}
-use Rattle.lp_fixity.specs.declared.fixity.Fixity.{Fixity}
-use Rattle.lp_fixity.specs.declared.fixity.Fixity.TheVariants.{Infix, Infixl, Infixr, Prefix}
-use Rattle.lp_fixity.specs.declared.fixity.FixFault.{FixFault}
-use Rattle.lp_fixity.specs.declared.fixity.FixFault.TheVariants as fault
+use Rattle.lp_standard.specs.declared.fixity.Fixity.{Fixity}
+use Rattle.lp_standard.specs.declared.fixity.Fixity.TheVariants.{Infixr}
+use Rattle.lp_standard.specs.declared.constant.Constant.{Constant}
+use Rattle.lp_standard.specs.Constants.{name, fixity, language}
+use Rattle.lp_fixity.specs.declared.fault.FixFault.{FixFault}
+use Rattle.lp_fixity.specs.declared.fault.FixFault.TheVariants as fault
 use Rattle.lp_fixity.specs.declared.table.Table.{Table}
 
 -- a name with its fixity and its number
@@ -25,38 +27,21 @@ abbrev pub with_entries : List Entry → (List ℕ → Option (Fixity × ℕ)) �
 with_entries [] on name = on name
 with_entries (e ∷ es) on name = if bytes_eq name e.0 then Some e.1 else with_entries es on name
 
--- the operators of every text, from the weakest to the strongest
-abbrev pub weak_entries : List Entry
-weak_entries =
-    (codes ":-", (Infixl, 1)) ∷
-    (codes ";", (Infixr, 100)) ∷
-    (codes ",", (Infixr, 110)) ∷
-    (codes "&", (Infixr, 120)) ∷
-    (codes "=>", (Infixr, 130)) ∷ []
+-- the entry of a constant, if it is an operator
+abbrev pub operator : Constant → List Entry
+operator c = elim (fixity c) [ None ↦ [] | Some f ↦ (name c, f) ∷ [] ]
 
-abbrev pub relation_entries : List Entry
-relation_entries =
-    (codes "=", (Infix, 130)) ∷
-    (codes "<", (Infix, 130)) ∷
-    (codes ">", (Infix, 130)) ∷
-    (codes "=<", (Infix, 130)) ∷
-    (codes ">=", (Infix, 130)) ∷
-    (codes "is", (Infix, 130)) ∷ []
+abbrev pub operators : List Constant → List Entry
+operators [] = []
+operators (c ∷ cs) = operator c ++ operators cs
 
-abbrev pub strong_entries : List Entry
-strong_entries =
-    (codes "::", (Infixr, 140)) ∷
-    (codes "+", (Infixl, 150)) ∷
-    (codes "-", (Infixl, 150)) ∷
-    (codes "^", (Infixl, 150)) ∷
-    (codes "*", (Infixl, 160)) ∷
-    (codes "div", (Infixl, 160)) ∷
-    (codes "mod", (Infixl, 160)) ∷
-    (codes "~", (Prefix, 200)) ∷ []
+-- `&` is read as `,`, and binds closer
+abbrev pub ampersand : Entry
+ampersand = (codes "&", (Infixr, 120))
 
--- no name stands twice
+-- the operators of every text; no name stands twice
 abbrev pub standard_entries : List Entry
-standard_entries = weak_entries ++ (relation_entries ++ strong_entries)
+standard_entries = ampersand ∷ operators language
 
 abbrev pub standard : List ℕ → Option (Fixity × ℕ)
 standard name = with_entries standard_entries (λ _. None) name

@@ -1,12 +1,13 @@
 // The table of operators, a finite map from names.
 ghost use Rattle.std.specs.Prelude.{◌≡◌, ◌<◌, ℕ, List, Some, None, Err, Ok, IfOk, ◌≤◌, IfErr, OnOk, OnErr, codes, if◌then◌else◌};
 ghost use Rattle.std.specs.Str.{bytes_eq};
-ghost use Rattle.lp_fixity.specs.Table.{entry_of, standard, strong_entries, relation_entries, weak_entries, with_entry, with_entries, Extends, HasEntry, HasOther, IsCause};
-ghost use Rattle.lp_fixity.specs.declared.fixity.FixFault.TheVariants as fault;
+ghost use Rattle.lp_fixity.specs.Table.{entry_of, operator, standard, with_entry, with_entries, Extends, HasEntry, HasOther, IsCause};
+ghost use Rattle.lp_fixity.specs.declared.fault.FixFault.TheVariants as fault;
 
-use crate::fixity::{FixFault, Fixity};
+use crate::fault::FixFault;
 use indexmap::IndexMap;
 use lp_base::Memory;
+use lp_standard::{Constant, Fixity, RESERVED};
 use std::alloc::Global;
 
 /// The operators that a text may use.
@@ -36,38 +37,14 @@ impl Table {
         Ok(())
     }
 
-    fn put_strong(&mut self) -> Result<(), Memory>
-        ensures { OnOk result ((name : List ℕ) → entry_of self.new name ≡ with_entries strong_entries (entry_of self.old) name) }
+    // Gives a constant its entry, if it is an operator.
+    fn put_constant(&mut self, constant: Constant) -> Result<(), Memory>
+        ensures { OnOk result ((other : List ℕ) → entry_of self.new other ≡ with_entries (operator constant) (entry_of self.old) other) }
     {
-        self.put(b"~", Fixity::Prefix, 200)?;
-        self.put(b"mod", Fixity::Infixl, 160)?;
-        self.put(b"div", Fixity::Infixl, 160)?;
-        self.put(b"*", Fixity::Infixl, 160)?;
-        self.put(b"^", Fixity::Infixl, 150)?;
-        self.put(b"-", Fixity::Infixl, 150)?;
-        self.put(b"+", Fixity::Infixl, 150)?;
-        self.put(b"::", Fixity::Infixr, 140)
-    }
-
-    fn put_relations(&mut self) -> Result<(), Memory>
-        ensures { OnOk result ((name : List ℕ) → entry_of self.new name ≡ with_entries relation_entries (entry_of self.old) name) }
-    {
-        self.put(b"is", Fixity::Infix, 130)?;
-        self.put(b">=", Fixity::Infix, 130)?;
-        self.put(b"=<", Fixity::Infix, 130)?;
-        self.put(b">", Fixity::Infix, 130)?;
-        self.put(b"<", Fixity::Infix, 130)?;
-        self.put(b"=", Fixity::Infix, 130)
-    }
-
-    fn put_weak(&mut self) -> Result<(), Memory>
-        ensures { OnOk result ((name : List ℕ) → entry_of self.new name ≡ with_entries weak_entries (entry_of self.old) name) }
-    {
-        self.put(b"=>", Fixity::Infixr, 130)?;
-        self.put(b"&", Fixity::Infixr, 120)?;
-        self.put(b",", Fixity::Infixr, 110)?;
-        self.put(b";", Fixity::Infixr, 100)?;
-        self.put(b":-", Fixity::Infixl, 1)
+        match constant.fixity() {
+            Some((fixity, number)) => self.put(constant.name(), fixity, number),
+            None => Ok(()),
+        }
     }
 
     /// The table that every text begins with.
@@ -75,9 +52,14 @@ impl Table {
         ensures { IfOk result (λ table. (name : List ℕ) → entry_of table name ≡ standard name) }
     {
         let mut table = Table::empty(alloc);
-        table.put_strong()?;
-        table.put_relations()?;
-        table.put_weak()?;
+        let mut left = RESERVED;
+        'constants: while left > 0 {
+            left -= 1;
+            if let Some(constant) = Constant::from_number(left) {
+                table.put_constant(constant)?;
+            }
+        }
+        table.put(b"&", Fixity::Infixr, 120)?;
         Ok(table)
     }
 

@@ -2,8 +2,8 @@
 use Rattle.std.proofs.Common.{◌≡◌, ℕ, List, [], ◌∷◌, Some, None, refl}
 use Rattle.std.specs.Prelude.{codes, pos, neg_ℤ}
 use Rattle.std.specs.Fmt.{digits}
-use Rattle.lp_fixity.specs.Operands.{fits_left, fits_right}
-use Rattle.lp_fixity.specs.declared.fixity.Fixity.TheVariants.{Postfix, Prefixr}
+use Rattle.lp_standard.specs.Operands.{fits_left, fits_right}
+use Rattle.lp_standard.specs.declared.fixity.Fixity.TheVariants.{Postfix, Prefixr}
 use Rattle.lp_calculus.specs.Types.{var}
 use Rattle.lp_calculus.specs.Term.{Term, index, atom, abs, app, constant, integer, text, logic, eigen}
 use Rattle.lp_model.specs.Standard.{two}

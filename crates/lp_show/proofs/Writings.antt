@@ -10,7 +10,7 @@ use Rattle.lp_term.proofs.Walks.{All-front, All-back, trees-push}
 use Rattle.lp_model.specs.Shown.{Piece, applied, arguments_text, binder_name, bracketed}
 use Rattle.lp_show.specs.declared.task.Task.{Task}
 use Rattle.lp_show.specs.declared.task.Task.TheVariants.{Show, Bytes}
-use Rattle.lp_fixity.specs.declared.fixity.Fixity.{Fixity}
+use Rattle.lp_standard.specs.declared.fixity.Fixity.{Fixity}
 use Rattle.lp_show.specs.declared.operator.Operands.{Operands}
 use Rattle.lp_show.specs.declared.operator.Operands.TheVariants.{Before, Both}
 use Rattle.lp_show.specs.Operators.{operands_size, operands_text}

@@ -1,6 +1,6 @@
 -- An operator with its operands, as a piece of text.
 use Rattle.std.specs.Prelude.{◌≡◌, ℕ, ◌+◌, ◌<◌, List, ◌++◌, length, Option, None, option_and_then, nat_eq, if◌then◌else◌, codes}
-use Rattle.lp_fixity.specs.declared.fixity.Fixity.{Fixity}
+use Rattle.lp_standard.specs.declared.fixity.Fixity.{Fixity}
 use Rattle.lp_calculus.specs.Term.{Term, index, atom, abs, app, constant}
 use Rattle.lp_term.specs.Nodes.{tree}
 use Rattle.lp_term.specs.Walk.{size}

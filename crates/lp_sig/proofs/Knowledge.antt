@@ -6,7 +6,7 @@ use Rattle.lp_sig.specs.Rows.{Row, found, kind_row, fixity_row}
 use Rattle.lp_sig.specs.Standard.{standard_kinds}
 use Rattle.lp_sig.specs.Said.{Said, a_kind, an_abbreviation, is_among, names_in, numbered, firsts, declared_names, kinds_among, abbreviations_among}
 use Rattle.lp_sig.specs.Knowing.{Knows, KnowsOperators, is_known, kinded_row, head_row}
-use Rattle.lp_fixity.specs.declared.fixity.Fixity.{Fixity}
+use Rattle.lp_standard.specs.declared.fixity.Fixity.{Fixity}
 use Rattle.std.proofs.lemmas.Grind.{common_steps}
 use Rattle.std.proofs.lemmas.List.{map-append, take_more}
 use Rattle.lp_sig.specs.declared.entries.KindEntry.{KindEntry}

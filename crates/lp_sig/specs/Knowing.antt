@@ -7,7 +7,7 @@ use Rattle.lp_sig.specs.Places.{HasPlaces}
 use Rattle.lp_sig.specs.Rows.{Row, fixity_row}
 use Rattle.lp_sig.specs.Standard.{standard_kinds}
 use Rattle.lp_sig.specs.Said.{Said, a_kind, an_abbreviation, is_among, names_in, firsts, declared_names, kinds_among, abbreviations_among}
-use Rattle.lp_fixity.specs.declared.fixity.Fixity.{Fixity}
+use Rattle.lp_standard.specs.declared.fixity.Fixity.{Fixity}
 use Rattle.lp_sig.specs.declared.operators.Operators.{Operators}
 use Rattle.lp_sig.specs.declared.names.Kinded.{Kinded}
 use Rattle.lp_sig.specs.declared.names.Head.{Head}

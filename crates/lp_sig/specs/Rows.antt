@@ -2,7 +2,7 @@
 use Rattle.std.specs.Prelude.{ℕ, List, Option}
 use Rattle.std.specs.Str.{bytes_eq}
 use Rattle.std.specs.Map.{lookup}
-use Rattle.lp_fixity.specs.declared.fixity.Fixity.{Fixity}
+use Rattle.lp_standard.specs.declared.fixity.Fixity.{Fixity}
 use Rattle.lp_sig.specs.declared.entries.KindEntry.{KindEntry}
 use Rattle.lp_sig.specs.declared.entries.ConstantEntry.{ConstantEntry}
 use Rattle.lp_sig.specs.declared.entries.AbbreviationEntry.{AbbreviationEntry}

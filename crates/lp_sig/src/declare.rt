@@ -4,7 +4,7 @@ ghost use Rattle.lp_base.specs.declared.limit.Limit.TheVariants as limit;
 ghost use Rattle.lp_sig.specs.declared.fault.SigFault.TheVariants as fault;
 ghost use Rattle.lp_sig.specs.Pieces.{spelled};
 ghost use Rattle.lp_sig.specs.Refusals.{IsFaultIn};
-ghost use Rattle.lp_fixity.specs.declared.fixity.Fixity.{Fixity as IsFixity};
+ghost use Rattle.lp_standard.specs.declared.fixity.Fixity.{Fixity as IsFixity};
 ghost use Rattle.lp_sig.specs.Rows.{Row};
 ghost use Rattle.lp_sig.specs.Said.{Said, a_kind, an_abbreviation, each, fixities_by, fixities_in};
 ghost use Rattle.lp_sig.specs.Words.{IsNameFault, IsMeant, AreMeant, IsNumbered, AreNumbered, IsKindsFault, IsSoundType};

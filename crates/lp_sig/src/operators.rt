@@ -1,6 +1,6 @@
 // The fixities so far, each at its first declaration.
 ghost use Rattle.std.specs.Prelude.{◌≡◌, ℕ, List, [], ◌∷◌, ◌++◌, nat_le, if◌then◌else◌, OnOk};
-ghost use Rattle.lp_fixity.specs.declared.fixity.Fixity.{Fixity as IsFixity};
+ghost use Rattle.lp_standard.specs.declared.fixity.Fixity.{Fixity as IsFixity};
 ghost use Rattle.lp_sig.specs.Rows.{Row};
 ghost use Rattle.lp_sig.specs.Said.{each};
 ghost use Rattle.lp_sig.specs.Knowing.{KnowsOperators};

@@ -1,7 +1,7 @@
 // From texts to a signature.
 ghost use Rattle.std.specs.Prelude.{◌≡◌, ◌≢◌, ◌⊎◌, ◌++◌, ℕ, List, IfOk, IfErr, OnOk, map, string_bytes};
 ghost use Rattle.lp_sig.specs.Pieces.{spelled};
-ghost use Rattle.lp_fixity.specs.declared.fixity.Fixity.{Fixity};
+ghost use Rattle.lp_standard.specs.declared.fixity.Fixity.{Fixity};
 ghost use Rattle.lp_sig.specs.Rows.{Row, kind_row, fixity_row};
 ghost use Rattle.lp_sig.specs.Said.{fixities_in, of_text, of_step};
 ghost use Rattle.lp_sig.specs.Knowing.{KnowsOperators};

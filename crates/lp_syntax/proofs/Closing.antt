@@ -11,7 +11,7 @@ use Rattle.lp_syntax.specs.declared.symbol.Sym.{Sym}
 use Rattle.lp_syntax.specs.declared.symbol.Sym.TheVariants.{Bar}
 use Rattle.lp_syntax.specs.declared.held.Doing.{Doing}
 use Rattle.lp_syntax.specs.declared.symbol.Oper.{Oper}
-use Rattle.lp_fixity.specs.declared.fixity.Fixity.{Fixity}
+use Rattle.lp_standard.specs.declared.fixity.Fixity.{Fixity}
 use Rattle.lp_syntax.specs.declared.symbol.Fault.TheVariants.{Unexpected}
 use Rattle.std.proofs.Common.{refl, true, false, Bool, get_or, zero, suc, ◌+◌, length-append, arith}
 use Rattle.std.specs.Prelude.{if◌then◌else◌}

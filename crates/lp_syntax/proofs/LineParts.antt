@@ -2,7 +2,7 @@
 use Rattle.std.proofs.Common.{◌≡◌, ◌≢◌, ℕ, ◌+◌, ◌<◌, ◌≤◌, ◌⊎◌, inl, inr, true, false, List, length, refl, sym, ap, ◌∙◌, subst, arith}
 use Rattle.std.specs.Prelude.{None, ℤ, Result, Ok, Err, IfErr}
 use Rattle.lp_base.specs.declared.place.Spot.{Spot}
-use Rattle.lp_fixity.specs.declared.fixity.Fixity.{Fixity}
+use Rattle.lp_standard.specs.declared.fixity.Fixity.{Fixity}
 use Rattle.lp_syntax.specs.declared.class.Keyword.{Keyword}
 use Rattle.lp_syntax.specs.declared.class.Keyword.TheVariants as keyword
 use Rattle.lp_syntax.specs.declared.class.Class.{Class}

@@ -2,7 +2,7 @@
 use Rattle.std.proofs.Common.{◌≡◌, ℕ, zero, suc, ◌⊎◌, inl, inr, List, [], ◌∷◌, ◌++◌, map, take, drop, refl, sym, ap, ◌∙◌, subst}
 use Rattle.std.specs.Prelude.{Some, None, Result, Ok, Err, OnErr}
 use Rattle.lp_base.specs.declared.place.Spot.{Spot}
-use Rattle.lp_fixity.specs.declared.fixity.Fixity.{Fixity}
+use Rattle.lp_standard.specs.declared.fixity.Fixity.{Fixity}
 use Rattle.lp_lexer.specs.declared.token.Token.{Token}
 use Rattle.lp_syntax.specs.declared.text.Declaration.{Declaration}
 use Rattle.lp_syntax.specs.declared.text.Declaration.TheVariants.{Kinds, LocalKinds, Constants, Locals, Abbreviation, Accumulate, AccumSig, Fixities}

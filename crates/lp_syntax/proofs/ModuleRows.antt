@@ -2,8 +2,8 @@
 -- before, `module m. a o b. infixr o 110.`, where `a o b` is `a` on two arguments.
 use Rattle.std.proofs.Common.{◌≡◌, ℕ, List, [], ◌∷◌, refl, codes, arith}
 use Rattle.std.specs.Prelude.{Option, Some, None, pos}
-use Rattle.lp_fixity.specs.declared.fixity.Fixity.{Fixity}
-use Rattle.lp_fixity.specs.declared.fixity.Fixity.TheVariants.{Infixr}
+use Rattle.lp_standard.specs.declared.fixity.Fixity.{Fixity}
+use Rattle.lp_standard.specs.declared.fixity.Fixity.TheVariants.{Infixr}
 use Rattle.lp_fixity.specs.Table.{with_entry, standard}
 use Rattle.lp_syntax.specs.declared.class.Class.TheVariants as class
 use Rattle.lp_syntax.specs.declared.class.Keyword.TheVariants as keyword

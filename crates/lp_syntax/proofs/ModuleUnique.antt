@@ -4,9 +4,9 @@ use Rattle.std.proofs.lemmas.List.Elements.{All-pop}
 use Rattle.std.specs.Prelude.{All, Some, Result, Ok, Err, IfOk, IfErr}
 use Rattle.lp_base.specs.declared.place.Spot.{Spot}
 use Rattle.lp_base.specs.declared.limit.Limit.TheVariants.{Nesting}
-use Rattle.lp_fixity.specs.declared.fixity.Fixity.{Fixity}
-use Rattle.lp_fixity.specs.declared.fixity.FixFault.{FixFault}
-use Rattle.lp_fixity.specs.declared.fixity.FixFault.TheVariants as fix
+use Rattle.lp_standard.specs.declared.fixity.Fixity.{Fixity}
+use Rattle.lp_fixity.specs.declared.fault.FixFault.{FixFault}
+use Rattle.lp_fixity.specs.declared.fault.FixFault.TheVariants as fix
 use Rattle.lp_fixity.specs.Table.{with_entry}
 use Rattle.lp_syntax.specs.declared.class.Class.TheVariants as class
 use Rattle.lp_syntax.specs.declared.fault.SyntaxFault.{SyntaxFault}

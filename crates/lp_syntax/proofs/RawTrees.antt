@@ -12,7 +12,7 @@ use Rattle.lp_syntax.specs.declared.text.RawType.{RawType}
 use Rattle.lp_syntax.specs.Symbols.{Tree, Leaf, Cons, Nil, App, Lam}
 use Rattle.lp_syntax.specs.Grammar.{Kind, Derives, word, atom, parens, named, empty, listed, last, tail, more, single, applied, abstracted, bound, between, before, behind}
 use Rattle.lp_syntax.specs.Nodes.{trees, trees_from, node_tree, at, IsNodeBelow, IsOrdered}
-use Rattle.lp_fixity.specs.declared.fixity.Fixity.{Fixity}
+use Rattle.lp_standard.specs.declared.fixity.Fixity.{Fixity}
 use Rattle.lp_syntax.specs.declared.class.Class.{Class}
 use Rattle.lp_syntax.specs.declared.class.Class.TheVariants as class
 use Rattle.lp_syntax.specs.Tokens.{Lexeme, Operators, class_at, bytes_at, symbol_of, symbol_at}

@@ -2,7 +2,7 @@
 -- operators' cases that are easily read wrongly, and how deep such trees are. Leaves are the numbers of tokens.
 use Rattle.std.proofs.Common.{◌≡◌, ℕ, suc, List, [], ◌∷◌, drop, refl, codes}
 use Rattle.std.specs.Prelude.{None, pos}
-use Rattle.lp_fixity.specs.declared.fixity.Fixity.TheVariants.{Infixl, Infixr, Prefix, Prefixr, Postfix, Postfixl}
+use Rattle.lp_standard.specs.declared.fixity.Fixity.TheVariants.{Infixl, Infixr, Prefix, Prefixr, Postfix, Postfixl}
 use Rattle.lp_fixity.specs.Table.{Entry, with_entries, standard}
 use Rattle.lp_lexer.specs.declared.token.TokenKind.{TokenKind}
 use Rattle.lp_lexer.specs.declared.token.TokenKind.TheVariants as kind

@@ -1,6 +1,6 @@
 -- A state in which a term has been read, its operators not yet put together.
 use Rattle.std.proofs.Common.{◌≡◌, ℕ, Bool, true, false, List, [], ◌∷◌, Option, Some, None, refl, ◌∙◌}
-use Rattle.lp_fixity.specs.declared.fixity.Fixity.{Fixity}
+use Rattle.lp_standard.specs.declared.fixity.Fixity.{Fixity}
 use Rattle.lp_syntax.specs.declared.symbol.Oper.{Oper}
 use Rattle.lp_syntax.specs.declared.symbol.Sym.{Sym}
 use Rattle.lp_syntax.specs.declared.symbol.Sym.TheVariants.{Word, Atom, Op, Opens, Closes, OpensList, ClosesList, Bar}

@@ -1,8 +1,8 @@
 -- What a token is to the grammar, by its kind and its bytes.
 use Rattle.std.specs.Prelude.{ℕ, Bool, false, ◌||◌, List, [], ◌∷◌, codes, Option, Some, None, if◌then◌else◌}
 use Rattle.std.specs.Str.{bytes_eq}
-use Rattle.lp_fixity.specs.declared.fixity.Fixity.{Fixity}
-use Rattle.lp_fixity.specs.declared.fixity.Fixity.TheVariants as fixity
+use Rattle.lp_standard.specs.declared.fixity.Fixity.{Fixity}
+use Rattle.lp_standard.specs.declared.fixity.Fixity.TheVariants as fixity
 use Rattle.lp_lexer.specs.declared.token.TokenKind.{TokenKind}
 use Rattle.lp_lexer.specs.declared.token.TokenKind.TheVariants as kind
 use Rattle.lp_syntax.specs.declared.class.Keyword.{Keyword}

@@ -2,7 +2,7 @@
 -- tokens, and what is handed out of them.
 use Rattle.std.specs.Prelude.{◌≡◌, ℕ, ◌+◌, ◌-◌, ◌^◌, ◌≤◌, min, Bool, true, false, nat_lt, List, [], ◌∷◌, ◌++◌, map, Option, Some, None, ℤ, pos, negsuc, if◌then◌else◌}
 use Rattle.lp_base.specs.declared.place.Spot.{Spot}
-use Rattle.lp_fixity.specs.declared.fixity.Fixity.{Fixity}
+use Rattle.lp_standard.specs.declared.fixity.Fixity.{Fixity}
 use Rattle.lp_syntax.specs.declared.class.Keyword.{Keyword}
 use Rattle.lp_syntax.specs.declared.class.Keyword.TheVariants as keyword
 use Rattle.lp_syntax.specs.declared.class.Class.{Class}

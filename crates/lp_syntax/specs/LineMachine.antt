@@ -1,7 +1,7 @@
 -- The reader of sentences that are no terms: where it is in a sentence, and what one token does to it.
 use Rattle.std.specs.Prelude.{◌≡◌, ℕ, ◌+◌, ◌<◌, ◌≤◌, Bool, true, false, List, []}
 use Rattle.lp_base.specs.declared.place.Spot.{Spot}
-use Rattle.lp_fixity.specs.declared.fixity.Fixity.{Fixity}
+use Rattle.lp_standard.specs.declared.fixity.Fixity.{Fixity}
 use Rattle.std.specs.Prelude.{ℤ, length}
 use Rattle.lp_syntax.specs.declared.class.Keyword.{Keyword}
 use Rattle.lp_syntax.specs.declared.class.Keyword.TheVariants as keyword

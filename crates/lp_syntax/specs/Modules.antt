@@ -2,9 +2,9 @@
 use Rattle.std.specs.Prelude.{◌≡◌, ◌≢◌, ℕ, suc, ◌+◌, ◌<◌, ◌≤◌, ◌⊎◌, List, [], ◌∷◌, ◌++◌, length, map, All, Some, Result, Ok, Err}
 use Rattle.lp_base.specs.declared.place.Spot.{Spot}
 use Rattle.lp_base.specs.declared.limit.Limit.TheVariants.{Nesting}
-use Rattle.lp_fixity.specs.declared.fixity.Fixity.{Fixity}
-use Rattle.lp_fixity.specs.declared.fixity.FixFault.{FixFault}
-use Rattle.lp_fixity.specs.declared.fixity.FixFault.TheVariants as fix
+use Rattle.lp_standard.specs.declared.fixity.Fixity.{Fixity}
+use Rattle.lp_fixity.specs.declared.fault.FixFault.{FixFault}
+use Rattle.lp_fixity.specs.declared.fault.FixFault.TheVariants as fix
 use Rattle.lp_fixity.specs.Table.{with_entry}
 use Rattle.lp_syntax.specs.declared.class.Keyword.{Keyword}
 use Rattle.lp_syntax.specs.declared.class.Keyword.TheVariants as keyword

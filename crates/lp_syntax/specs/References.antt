@@ -1,7 +1,7 @@
 -- The sentences of a text that name other files or declare fixities, whatever else it holds.
 use Rattle.std.specs.Prelude.{◌≡◌, ◌≢◌, ℕ, ◌+◌, ◌≤◌, Bool, true, false, List, [], ◌∷◌, ◌++◌, length, map, Option, Some, None}
 use Rattle.lp_base.specs.declared.place.Spot.{Spot}
-use Rattle.lp_fixity.specs.declared.fixity.Fixity.{Fixity}
+use Rattle.lp_standard.specs.declared.fixity.Fixity.{Fixity}
 use Rattle.lp_syntax.specs.declared.class.Keyword.{Keyword}
 use Rattle.lp_syntax.specs.declared.class.Keyword.TheVariants as keyword
 use Rattle.lp_syntax.specs.declared.class.Class.TheVariants as class

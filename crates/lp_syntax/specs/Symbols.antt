@@ -1,10 +1,10 @@
 -- The trees of terms, whose leaves are the numbers of tokens, and what fits beside an operator. A binder has the number of its annotation.
-use Rattle.lp_fixity.specs.declared.fixity.Fixity.{Fixity}
-use Rattle.lp_fixity.specs.declared.fixity.Fixity.TheVariants.{Infixr}
+use Rattle.lp_standard.specs.declared.fixity.Fixity.{Fixity}
+use Rattle.lp_standard.specs.declared.fixity.Fixity.TheVariants.{Infixr}
 use Rattle.lp_syntax.specs.declared.symbol.Oper.{Oper}
 use Rattle.std.specs.Prelude.{ℕ, Bool, true, false, ◌&&◌, nat_eq, nat_le, Option, Some, None}
-pub use Rattle.lp_fixity.specs.Operands.{Form, Whole, By, is_left, is_right, is_prefix, is_postfix}
-unfoldable pub use Rattle.lp_fixity.specs.Operands.{fits_left, fits_right}
+pub use Rattle.lp_standard.specs.Operands.{Form, Whole, By, is_left, is_right, is_prefix, is_postfix}
+unfoldable pub use Rattle.lp_standard.specs.Operands.{fits_left, fits_right}
 
 pub data Tree : Type 0 where
   Leaf : ℕ → Tree

@@ -1,7 +1,7 @@
 -- A text as the grammar sees it: its tokens, by their numbers, and the operators that are in force.
 use Rattle.std.specs.Prelude.{◌≡◌, ℕ, zero, suc, ◌-◌, ◌<◌, ◌≤◌, Bool, true, false, ◌&&◌, nat_le, List, [], ◌∷◌, ◌++◌, length, take, map, slice_get, slice_range, Option, Some, None, if◌then◌else◌}
 use Rattle.lp_base.specs.declared.place.Spot.{Spot}
-use Rattle.lp_fixity.specs.declared.fixity.Fixity.{Fixity}
+use Rattle.lp_standard.specs.declared.fixity.Fixity.{Fixity}
 use Rattle.lp_lexer.specs.declared.token.Token.{Token}
 use Rattle.lp_lexer.specs.declared.token.TokenKind.{TokenKind}
 use Rattle.lp_lexer.specs.Lexis.{place_at}

@@ -7,7 +7,7 @@ use Rattle.lp_syntax.specs.declared.held.Doing.TheVariants as doing
 use Rattle.lp_syntax.specs.declared.held.Step.{Step}
 use Rattle.lp_syntax.specs.declared.held.Step.TheVariants as step
 use Rattle.lp_syntax.specs.declared.node.Node.{Node}
-use Rattle.lp_fixity.specs.declared.fixity.Fixity.{Fixity}
+use Rattle.lp_standard.specs.declared.fixity.Fixity.{Fixity}
 use Rattle.lp_syntax.specs.Symbols.{Tree, By}
 use Rattle.lp_syntax.specs.Machine.{Frame, Waits, Under, Inside, Item, Tail, Mode, Wants, Fresh, FreshList, Named, Has, Formed, st, Move, Goes, Stops, admits}
 use Rattle.lp_syntax.specs.Nodes.{trees, at, maybe, IsMaybeBelow, Grows}

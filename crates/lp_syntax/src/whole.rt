@@ -5,7 +5,7 @@ ghost use Rattle.lp_syntax.specs.declared.class.Class.TheVariants as class;
 ghost use Rattle.lp_syntax.specs.Declarations.{Line, is_word};
 ghost use Rattle.lp_syntax.specs.LineMachine.{AtHeader, StopsIn};
 ghost use Rattle.std.specs.Prelude.{ℕ, map, take, OnOk, OnErr};
-ghost use Rattle.lp_fixity.specs.declared.fixity.FixFault.{FixFault};
+ghost use Rattle.lp_fixity.specs.declared.fault.FixFault.{FixFault};
 ghost use Rattle.lp_syntax.specs.declared.class.Keyword.{Keyword as Word};
 ghost use Rattle.lp_syntax.specs.declared.fault.SyntaxFault.TheVariants as fault;
 ghost use Rattle.lp_syntax.specs.Terms.{MemoryOr};

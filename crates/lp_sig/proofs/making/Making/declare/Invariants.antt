@@ -1,5 +1,5 @@
 use Rattle.std.proofs.Common.{ℕ, List, map, take, ◌++◌}
-use Rattle.lp_fixity.specs.declared.fixity.Fixity.{Fixity}
+use Rattle.lp_standard.specs.declared.fixity.Fixity.{Fixity}
 use Rattle.lp_sig.specs.Limits.{AreWithin}
 use Rattle.lp_sig.specs.Rows.{Row}
 use Rattle.lp_sig.specs.Said.{said_in, fixities_in}

@@ -1,5 +1,5 @@
 use Rattle.std.proofs.Common.{ℕ, List, take, ◌++◌}
-use Rattle.lp_fixity.specs.declared.fixity.Fixity.{Fixity}
+use Rattle.lp_standard.specs.declared.fixity.Fixity.{Fixity}
 use Rattle.lp_sig.specs.Rows.{Row}
 use Rattle.lp_sig.specs.Said.{each}
 use Rattle.lp_sig.specs.Knowing.{KnowsOperators}

@@ -1,6 +1,6 @@
 // What may stand beside an operator without parentheses.
 ghost use Rattle.std.specs.Prelude.{◌≡◌};
-ghost use Rattle.lp_fixity.specs.Operands.{By, fits_left, fits_right, is_left, is_postfix, is_prefix, is_right};
+ghost use Rattle.lp_standard.specs.Operands.{By, fits_left, fits_right, is_left, is_postfix, is_prefix, is_right};
 
 use crate::fixity::Fixity;
 

@@ -1,7 +1,7 @@
 -- What may stand beside an operator without parentheses: the one table by which terms are read and shown.
 use Rattle.std.specs.Prelude.{ℕ, Bool, true, false, ◌&&◌, ◌||◌, nat_eq, nat_lt}
-use Rattle.lp_fixity.specs.declared.fixity.Fixity.{Fixity}
-use Rattle.lp_fixity.specs.declared.fixity.Fixity.TheVariants.{Infixl, Infixr, Prefix, Prefixr, Postfix, Postfixl}
+use Rattle.lp_standard.specs.declared.fixity.Fixity.{Fixity}
+use Rattle.lp_standard.specs.declared.fixity.Fixity.TheVariants.{Infixl, Infixr, Prefix, Prefixr, Postfix, Postfixl}
 
 -- what stands at the top of a term: no operator, or this one
 pub data Form : Type 0 where

@@ -1,0 +1,7 @@
+pub mod Operands
+pub mod Numbers
+pub mod Kinds
+pub mod Constants
+pub mod Shapes
+pub mod Connectives
+pub mod Positive
