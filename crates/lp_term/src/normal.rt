@@ -10,7 +10,8 @@ ghost use Rattle.lp_term.specs.Frame.{closed, in_order, standing, load, IsFrame,
 
 use crate::bank::Bank;
 use crate::node::{TermId, TermNode};
-use crate::reduce::{TermRefusal, put_abstractions, reduce_spine};
+use crate::put::put_abstractions;
+use crate::reduce::{TermRefusal, reduce_spine};
 use lp_base::Memory;
 use std::alloc::Global;
 

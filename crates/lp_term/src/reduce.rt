@@ -9,6 +9,7 @@ ghost use Rattle.lp_term.specs.Answer.{IsDeepOnlyWhere, IsDeepAfter, IsReducedWi
 use crate::bank::Bank;
 use crate::carry::substitute;
 use crate::node::{TermId, TermNode};
+use crate::put::put_abstractions;
 use crate::unwind::{DEEPEST, unwind};
 use lp_base::Memory;
 use std::alloc::{AllocFailed, Global};
@@ -71,25 +72,6 @@ fn put_application(
     let newest = last_first(alloc, args)?;
     let id = bank.put_term(TermNode::App(head, newest.as_slice()))?;
     Ok(id)
-}
-
-// The term below so many abstractions.
-pub(crate) fn put_abstractions(
-    bank: &mut Bank,
-    mut depth: u64,
-    term: TermId,
-) -> Result<TermId, Memory>
-    requires { term.0 < length bank.old.terms }
-    ensures kept { Extends bank.old bank.new }
-    ensures within { IfOk result (λ id. id.0 < length bank.new.terms) }
-    ensures tree { IfOk result (λ id. tree bank.new id.0 ≡ abstractions depth (tree bank.old term.0)) }
-{
-    let mut top = term;
-    'levels: while depth > 0 {
-        top = bank.put_term(TermNode::Abs(top))?;
-        depth -= 1;
-    }
-    Ok(top)
 }
 
 /// A term as its leading abstractions, its head and the head's arguments, of which the last comes first; and how many

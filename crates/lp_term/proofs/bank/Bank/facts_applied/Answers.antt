@@ -2,14 +2,11 @@ use Rattle.std.proofs.Common.{sym, subst as transport, arith, map, add-one}
 use Rattle.lp_calculus.specs.Term.{apply}
 use Rattle.lp_term.specs.Nodes.{tree}
 use Rattle.lp_term.specs.Facts.{AreFacts, IsNoAbstraction}
-use Rattle.lp_term.proofs.Knowing.{applied_next, take_whole, id_below}
+use Rattle.lp_term.proofs.Knowing.{applied_next, take_whole}
 use Rattle.lp_term.proofs.bank.Bank.facts_applied.Goals as goal
 
 pub loop-arg-init : goal.loop-arg-init
 loop-arg-init c = record { facts = c.head_facts-facts.ensures.facts; head = c.head_facts-facts.ensures.head }
-
-pub facts-requires : goal.facts-requires
-facts-requires c = id_below _ c.args.args.now c.loop-arg.arg-index c.requires.args c.loop-arg-test.true
 
 pub loop-arg-preserved : goal.loop-arg-preserved
 loop-arg-preserved c =

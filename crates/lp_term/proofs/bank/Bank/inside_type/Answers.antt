@@ -1,0 +1,8 @@
+use Rattle.std.proofs.Common.{◌≤◌, subst as transport}
+use Rattle.lp_term.proofs.Within.{type_stands_for}
+use Rattle.lp_term.proofs.bank.Bank.inside_type.Goals as goal
+
+pub returns-clause-tree : goal.returns-clause-tree
+returns-clause-tree c =
+    type_stands_for c.args.self.now c.put_type.new.self c.args.id c.in_ok-made.made c.in_ok-made.ensures.kept (transport (λ n. n ≤ c.args.id.0) c.type_count.ensures.count c.if-id-type_count.false)
+    c.in_ok-made.ensures.tree
