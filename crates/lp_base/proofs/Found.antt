@@ -3,20 +3,16 @@ use Rattle.std.proofs.Common.{◌≡◌, ◌≢◌, ℕ, zero, suc, ◌+◌, ◌
 use Rattle.std.specs.Str.{bytes_eq}
 use Rattle.std.proofs.lemmas.List.{drop_more}
 use Rattle.std.proofs.lemmas.Slice.Eq.{bytes_eq-Decides}
+use Rattle.lp_lemmas.proofs.Lists.{drop_read}
 use Rattle.lp_base.specs.Files.{File, found, name_at}
-
--- what is left of the files begins with the file read there
-pub left_at : (files : List File) (i : ℕ) (x : File) → i < length files → x ≡ get_or files i x
-    → drop i files ≡ x ∷ drop (i + 1) files
-left_at files i x h e = drop_more files i x h ∙ ap (λ y. y ∷ drop (i + 1) files) (sym e)
 
 pub found_here : (files : List File) (name : List ℕ) (i : ℕ) (x : File) (b : List ℕ) → i < length files → x ≡ get_or files i x
     → b ≡ string_bytes x.0 → bytes_eq b name ≡ true → found (drop i files) name ≡ Some x.1.items
-found_here files name i x b h e s same = let at = left_at files i x h e in grind (arith, at, s, same)
+found_here files name i x b h e s same = let at = drop_read files i x h e in grind (arith, at, s, same)
 
 pub found_later : (files : List File) (name : List ℕ) (i : ℕ) (x : File) (b : List ℕ) → i < length files → x ≡ get_or files i x
     → b ≡ string_bytes x.0 → bytes_eq b name ≡ false → found (drop i files) name ≡ found (drop (i + 1) files) name
-found_later files name i x b h e s same = let at = left_at files i x h e in grind (arith, at, s, same)
+found_later files name i x b h e s same = let at = drop_read files i x h e in grind (arith, at, s, same)
 
 -- the name at a place is that of the file read there
 pub name_at_read : (files : List File) (i : ℕ) (x : File) → i < length files → name_at files i ≡ string_bytes (get_or files i x).0

@@ -1,18 +1,10 @@
 -- What a table has at each name after a change, from the list of its entries.
-use Rattle.std.proofs.Common.{◌≡◌, ℕ, List, [], ◌∷◌, Option, Some, Bool, true, false, refl, sym, ap, ◌∙◌, true≢false, Result, Ok, Err}
+use Rattle.std.proofs.Common.{◌≡◌, ℕ, List, [], ◌∷◌, Option, Some, Bool, true, false, refl, sym, ap, ◌∙◌, true≢false}
 use Rattle.std.specs.Prelude.{if◌then◌else◌}
-use Rattle.std.specs.Result.{OnErr}
 use Rattle.std.specs.Str.{bytes_eq}
 use Rattle.std.specs.Map.{lookup}
 use Rattle.indexmap.specs.IndexMap.{insert_entry}
 use Rattle.std.proofs.lemmas.Slice.Eq.{bytes_eq-Decides}
-
-pub on_err : {T E P : Type 0} (r : Result T E) → P → OnErr r P
-on_err (Ok x) p = tt
-on_err (Err f) p = p
-
-bytes_same : (xs : List ℕ) → bytes_eq xs xs ≡ true
-bytes_same xs = (bytes_eq-Decides xs xs).1 refl
 
 -- two tests of one name cannot both hold where their keys differ
 only_one : (name a b : List ℕ) → bytes_eq a b ≡ false → bytes_eq name a ≡ true → bytes_eq name b ≡ true → ⊥

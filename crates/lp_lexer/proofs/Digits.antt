@@ -1,7 +1,7 @@
 -- What begins with a digit is the longest of all numbers and reals there.
 use Rattle.std.proofs.Common.{◌≡◌, ℕ, ◌<◌, ◌≤◌, ◌^◌, List, ◌∷◌, take, true, false, refl, sym, ◌∙◌, subst, arith, true≢false, inl, inr}
 use Rattle.std.specs.Prelude.{pos, nat_lt}
-use Rattle.std.proofs.lemmas.Bool.{ltb-true, ltb-false}
+use Rattle.std.proofs.lemmas.Bool.{ltb-true, ltb-false, cond_both}
 use Rattle.lp_lexer.specs.declared.class.Class.TheVariants.{Digit}
 use Rattle.lp_lexer.specs.declared.token.TokenKind.{TokenKind}
 use Rattle.lp_lexer.specs.declared.token.TokenKind.TheVariants as kind
@@ -10,7 +10,7 @@ use Rattle.lp_lexer.specs.Bytes.{is_in, run}
 use Rattle.lp_lexer.specs.Front.{decimal_from, number_of, number_at}
 use Rattle.lp_lexer.specs.Stands.{Begins, IsLongest, HasNoGap, IsBounded, Stands}
 use Rattle.lp_lexer.proofs.Leads.{digit, of_digit}
-use Rattle.lp_lexer.proofs.Runs.{if_by, led_form, led_longest}
+use Rattle.lp_lexer.proofs.Runs.{led_form, led_longest}
 use Rattle.lp_lexer.proofs.Reals.{HasPart, real_len, real_is, real_form}
 use Rattle.lp_lexer.proofs.Fronts.{shape_at}
 use Rattle.lp_lexer.proofs.Within.{run_within, real_within}
@@ -36,9 +36,7 @@ number_stands : (b : ℕ) (t : List ℕ) → is_in Digit b ≡ true → HasNoGap
 number_stands b t e gap f =
     let r = run Digit (b ∷ t) in
     let v = decimal_from 0 (take r (b ∷ t)) in
-    if_by (Stands (b ∷ t)) (nat_lt v (2 ^ 63)) (Found (kind.Number (pos v)) r) BigNumber
-    (λ l. (number_longest b t e f, bounded v (ltb-true v (2 ^ 63) l), gap))
-    (λ l. (v, r, number_longest b t e f, ltb-false v (2 ^ 63) l, gap))
+    cond_both (nat_lt v (2 ^ 63)) (Found (kind.Number (pos v)) r) BigNumber (Stands (b ∷ t)) (λ l. (number_longest b t e f, bounded v (ltb-true v (2 ^ 63) l), gap)) (λ l. (v, r, number_longest b t e f, ltb-false v (2 ^ 63) l, gap))
 
 real_at_most : (b : ℕ) (t : List ℕ) (k : TokenKind) (m : ℕ) → is_in Digit b ≡ true → Begins (b ∷ t) k m → m ≤ real_len (b ∷ t)
 real_at_most b t k m e h = elim (shape_at digit b t k m (of_digit b e) h) [
@@ -64,4 +62,4 @@ real_stands b t e gap f = (
 )
 
 pub digits_stand : (b : ℕ) (t : List ℕ) → is_in Digit b ≡ true → HasNoGap (b ∷ t) → Stands (b ∷ t) (number_at (run Digit (b ∷ t)) (b ∷ t))
-digits_stand b t e gap = if_by (Stands (b ∷ t)) (HasPart (run Digit (b ∷ t)) (b ∷ t)) (Found kind.Real (real_len (b ∷ t))) _ (real_stands b t e gap) (number_stands b t e gap)
+digits_stand b t e gap = cond_both (HasPart (run Digit (b ∷ t)) (b ∷ t)) (Found kind.Real (real_len (b ∷ t))) _ (Stands (b ∷ t)) (real_stands b t e gap) (number_stands b t e gap)

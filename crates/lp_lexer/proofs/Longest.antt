@@ -1,7 +1,7 @@
 -- What the order of tests finds at the front is what the forms say that stands there.
 use Rattle.std.proofs.Common.{◌≡◌, ℕ, suc, ◌+◌, ◌<◌, ◌≤◌, List, [], ◌∷◌, length, drop, take, true, false, ◌&&◌, nat_eq, refl, sym, ap, ◌∙◌, subst, arith, true≢false, inl, inr}
 use Rattle.std.specs.Prelude.{slice_index}
-use Rattle.std.proofs.lemmas.Bool.{and_parts, eqb-true}
+use Rattle.std.proofs.lemmas.Bool.{and_parts, eqb-true, cond_both}
 use Rattle.lp_lexer.specs.declared.class.Class.TheVariants.{Blank, Lower, Upper, Digit, Word, Symbol, Alone, Line}
 use Rattle.lp_lexer.specs.declared.token.TokenKind.{TokenKind}
 use Rattle.lp_lexer.specs.declared.token.TokenKind.TheVariants as kind
@@ -17,7 +17,7 @@ use Rattle.lp_lexer.proofs.Digits.{digits_stand}
 use Rattle.lp_lexer.proofs.Fronts.{shape_at, no_gap, name_stands, symbol_stands, one_stands}
 use Rattle.lp_lexer.proofs.Gaps.{blanks_stand, line_stands, comments_stand}
 use Rattle.lp_lexer.proofs.Leads.{Lead, nothing, blank, percent, lower, upper, digit, quote, symbol, alone, mark, lead, mark_lead, Shape, shape, gap_leads, of_lower, of_upper, of_digit, of_symbol, of_alone}
-use Rattle.lp_lexer.proofs.Runs.{if_by, led_form}
+use Rattle.lp_lexer.proofs.Runs.{led_form}
 use Rattle.lp_lexer.proofs.Steps.{lower_word, upper_word}
 use Rattle.lp_lexer.proofs.Strings.{Told, told, string_is, closed_is, finds}
 use Rattle.lp_lexer.proofs.Within.{text_within, symbol_front}
@@ -55,9 +55,7 @@ text_stands rest (Closed n) f (held, g, s) l gap =
     subst (λ i. Stands (34 ∷ rest) (Found kind.Text i)) (sym one) (string_closed rest n f (held, ap (λ x. 34 ∷ x) g, s) l gap)
 text_stands rest (BadAt n) f (h, c) l gap =
     let no : HasNoToken (34 ∷ rest) = no_string rest (BadAt n) f (λ i x. absurd (cc)) in
-    if_by (Stands (34 ∷ rest)) (closes (drop n rest)) (Bad (1 + n)) OpenText
-    (λ q. inr (n, refl, refl, h, finds rest (c ∙ q), no, gap))
-    (λ q. (refl, never_closed rest (c ∙ q), no, gap))
+    cond_both (closes (drop n rest)) (Bad (1 + n)) OpenText (Stands (34 ∷ rest)) (λ q. inr (n, refl, refl, h, finds rest (c ∙ q), no, gap)) (λ q. (refl, never_closed rest (c ∙ q), no, gap))
 text_stands rest Open f h l gap = (refl, never_closed rest h, no_string rest Open f (λ i x. absurd (cc)), gap)
 
 texts_stand : (b : ℕ) (t : List ℕ) → nat_eq b 34 ≡ true → HasNoGap (b ∷ t) → Stands (b ∷ t) (text_at (text_end t) t)
@@ -116,7 +114,7 @@ no_mark_gap : (b : ℕ) → (mark_lead b ≡ blank → ⊥) × (mark_lead b ≡ 
 no_mark_gap b =
     let P : Lead → Type 0 = λ l. (l ≡ blank → ⊥) × (l ≡ percent → ⊥) in
     let on : (j : TokenKind) → P (mark j) = λ j. ((λ s. absurd (cc)), (λ s. absurd (cc))) in
-    if_by P (nat_eq b 40) _ _ (λ _. on _) (λ _. if_by P (nat_eq b 41) _ _ (λ _. on _) (λ _. if_by P (nat_eq b 91) _ _ (λ _. on _) (λ _. if_by P (nat_eq b 93) _ _ (λ _. on _) (λ _. if_by P (nat_eq b 124) _ _ (λ _. on _) (λ _. if_by P (nat_eq b 46) _ _ (λ _. on _) (λ _. if_by P (nat_eq b 92) _ nothing (λ _. on _) (λ _. ((λ s. absurd (cc)), (λ s. absurd (cc))))))))))
+    cond_both (nat_eq b 40) _ _ P (λ _. on _) (λ _. cond_both (nat_eq b 41) _ _ P (λ _. on _) (λ _. cond_both (nat_eq b 91) _ _ P (λ _. on _) (λ _. cond_both (nat_eq b 93) _ _ P (λ _. on _) (λ _. cond_both (nat_eq b 124) _ _ P (λ _. on _) (λ _. cond_both (nat_eq b 46) _ _ P (λ _. on _) (λ _. cond_both (nat_eq b 92) _ nothing P (λ _. on _) (λ _. ((λ s. absurd (cc)), (λ s. absurd (cc))))))))))
 
 no_gap_at_mark : (b : ℕ) (t : List ℕ) → IsNone b → opens (b ∷ t) ≡ false → HasNoGap (b ∷ t)
 no_gap_at_mark b t n o = no_gap (mark_lead b) b t (lead_rest b n) (no_mark_gap b).0 (no_mark_gap b).1 o
@@ -126,28 +124,28 @@ unfolding is_in lead
 marks_stand b t n o gap =
     let P : Piece → Type 0 = Stands (b ∷ t) in
     let on : (j : TokenKind) (x : ℕ) → lead x ≡ mark j → IsToken j (x ∷ []) → IsBounded j → nat_eq b x ≡ true → P (Found j 1) = λ j x l f m e. mark_stands j x b t l f m o gap e in
-    if_by P (nat_eq b 40) _ _ (on kind.Open 40 refl refl (λ v s. absurd (cc))) (λ a.
-    if_by P (nat_eq b 41) _ _ (on kind.Close 41 refl refl (λ v s. absurd (cc))) (λ c.
-    if_by P (nat_eq b 91) _ _ (on kind.OpenList 91 refl refl (λ v s. absurd (cc))) (λ d.
-    if_by P (nat_eq b 93) _ _ (on kind.CloseList 93 refl refl (λ v s. absurd (cc))) (λ e.
-    if_by P (nat_eq b 124) _ _ (on kind.Bar 124 refl refl (λ v s. absurd (cc))) (λ f.
-    if_by P (nat_eq b 46) _ _ (on kind.Dot 46 refl refl (λ v s. absurd (cc))) (λ g.
-    if_by P (nat_eq b 92) _ (Bad 0) (on kind.Backslash 92 refl refl (λ v s. absurd (cc))) (λ h.
+    cond_both (nat_eq b 40) _ _ P (on kind.Open 40 refl refl (λ v s. absurd (cc))) (λ a.
+    cond_both (nat_eq b 41) _ _ P (on kind.Close 41 refl refl (λ v s. absurd (cc))) (λ c.
+    cond_both (nat_eq b 91) _ _ P (on kind.OpenList 91 refl refl (λ v s. absurd (cc))) (λ d.
+    cond_both (nat_eq b 93) _ _ P (on kind.CloseList 93 refl refl (λ v s. absurd (cc))) (λ e.
+    cond_both (nat_eq b 124) _ _ P (on kind.Bar 124 refl refl (λ v s. absurd (cc))) (λ f.
+    cond_both (nat_eq b 46) _ _ P (on kind.Dot 46 refl refl (λ v s. absurd (cc))) (λ g.
+    cond_both (nat_eq b 92) _ (Bad 0) P (on kind.Backslash 92 refl refl (λ v s. absurd (cc))) (λ h.
     inl (refl, stray b (lead_rest b n ∙ (rw (a, c, d, e, f, g, h) refl))))))))))
 
 pub front_stands : (b : ℕ) (t : List ℕ) → Stands (b ∷ t) (front (b ∷ t))
 unfolding front
 front_stands b t =
     let P : Piece → Type 0 = Stands (b ∷ t) in
-    if_by P (is_in Blank b) _ _ (blanks_stand b t) (λ bla.
-    if_by P (nat_eq b 37) _ _ (λ e. subst (λ x. Stands (x ∷ t) (Skip (run Line (x ∷ t)))) (sym (eqb-true b 37 e)) (line_stands t)) (λ per.
-    if_by P (nat_eq b 47 && nat_eq (slice_index (b ∷ t) 1) 42) _ _ (comments_stand b t) (λ o.
-    if_by P (is_in Lower b) _ _ (λ e. names_lower b t e (no_gap lower b t (of_lower b e) (λ s. absurd (cc)) (λ s. absurd (cc)) o)) (λ low.
-    if_by P (is_in Upper b) _ _ (λ e. names_upper b t e (no_gap upper b t (of_upper b e) (λ s. absurd (cc)) (λ s. absurd (cc)) o)) (λ up.
-    if_by P (is_in Digit b) _ _ (λ e. digits_stand b t e (no_gap digit b t (of_digit b e) (λ s. absurd (cc)) (λ s. absurd (cc)) o)) (λ dig.
-    if_by P (nat_eq b 34) _ _ (λ e. texts_stand b t e (no_gap quote b t (ap lead (eqb-true b 34 e) ∙ lead_quote) (λ s. absurd (cc)) (λ s. absurd (cc)) o)) (λ quo.
-    if_by P (is_in Symbol b) _ _ (λ e. symbol_stands b t e (symbol_front b t o e) (no_gap symbol b t (of_symbol b e) (λ s. absurd (cc)) (λ s. absurd (cc)) o)) (λ sy.
-    if_by P (is_in Alone b) _ (mark_at b) (λ e. alone_stands b t e o (no_gap alone b t (of_alone b e) (λ s. absurd (cc)) (λ s. absurd (cc)) o)) (λ alo.
+    cond_both (is_in Blank b) _ _ P (blanks_stand b t) (λ bla.
+    cond_both (nat_eq b 37) _ _ P (λ e. subst (λ x. Stands (x ∷ t) (Skip (run Line (x ∷ t)))) (sym (eqb-true b 37 e)) (line_stands t)) (λ per.
+    cond_both (nat_eq b 47 && nat_eq (slice_index (b ∷ t) 1) 42) _ _ P (comments_stand b t) (λ o.
+    cond_both (is_in Lower b) _ _ P (λ e. names_lower b t e (no_gap lower b t (of_lower b e) (λ s. absurd (cc)) (λ s. absurd (cc)) o)) (λ low.
+    cond_both (is_in Upper b) _ _ P (λ e. names_upper b t e (no_gap upper b t (of_upper b e) (λ s. absurd (cc)) (λ s. absurd (cc)) o)) (λ up.
+    cond_both (is_in Digit b) _ _ P (λ e. digits_stand b t e (no_gap digit b t (of_digit b e) (λ s. absurd (cc)) (λ s. absurd (cc)) o)) (λ dig.
+    cond_both (nat_eq b 34) _ _ P (λ e. texts_stand b t e (no_gap quote b t (ap lead (eqb-true b 34 e) ∙ lead_quote) (λ s. absurd (cc)) (λ s. absurd (cc)) o)) (λ quo.
+    cond_both (is_in Symbol b) _ _ P (λ e. symbol_stands b t e (symbol_front b t o e) (no_gap symbol b t (of_symbol b e) (λ s. absurd (cc)) (λ s. absurd (cc)) o)) (λ sy.
+    cond_both (is_in Alone b) _ (mark_at b) P (λ e. alone_stands b t e o (no_gap alone b t (of_alone b e) (λ s. absurd (cc)) (λ s. absurd (cc)) o)) (λ alo.
     let n : IsNone b = record { lower = low; upper = up; digit = dig; blank = bla; percent = per; quote = quo; symbol = sy; alone = alo } in
     marks_stand b t n o (no_gap_at_mark b t n o))))))))))
 

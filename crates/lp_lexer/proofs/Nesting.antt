@@ -1,19 +1,12 @@
 -- The count of depths finds the end that the grammar of comments gives: from a derivation by counting, and back by splitting a
 -- count of depth d into d comments in turn.
-use Rattle.std.proofs.Common.{◌≡◌, ℕ, suc, zero, ◌+◌, ◌-◌, ◌<◌, List, [], ◌∷◌, drop, Option, Some, None, Bool, true, false, ◌&&◌, ◌||◌, nat_eq, refl, sym, ap, ◌∙◌, subst, arith, drop-drop, ne_eqb}
+use Rattle.std.proofs.Common.{◌≡◌, ℕ, suc, zero, ◌+◌, ◌-◌, ◌<◌, List, [], ◌∷◌, drop, Option, Some, None, Bool, true, false, ◌&&◌, nat_eq, refl, sym, ap, ◌∙◌, subst, arith, drop-drop, ne_eqb}
 use Rattle.std.specs.Prelude.{if◌then◌else◌}
 use Rattle.std.proofs.lemmas.Bool.{and_parts, eqb-true}
+use Rattle.lp_lemmas.proofs.Booleans.{or_false_left, or_false_right}
 use Rattle.lp_lexer.specs.Comments.{Ends, ends, byte, nested}
 use Rattle.lp_lexer.specs.Front.{comment_len, later}
 use Rattle.lp_lexer.proofs.Steps.{later_later, comment_by}
-
-or_left : (a b : Bool) → (a || b) ≡ false → a ≡ false
-or_left false b h = refl
-or_left true b h = absurd (cc)
-
-or_right : (a b : Bool) → (a || b) ≡ false → b ≡ false
-or_right false b h = h
-or_right true b h = absurd (cc)
 
 no_end : (n : ℕ) → Ends n [] → ⊥
 no_end n h = elim h [ ]
@@ -26,7 +19,7 @@ passes d n _ p (ends _ bs e) =
 passes d n _ p (byte _ m b [] e q h) = absurd (no_end m h)
 passes d n _ p (byte _ m b (c ∷ bs) e q h) =
     let one : 1 + m ≡ suc m = omega arith in
-    rw (e) (comment_by (suc d) b c bs (or_left _ _ q) (or_right _ _ q) ∙ ap (later 1) (passes d m (c ∷ bs) p h) ∙ later_later 1 m _ ∙ ap (λ k. later k (comment_len d (drop m (c ∷ bs)))) one)
+    rw (e) (comment_by (suc d) b c bs (or_false_left _ _ q) (or_false_right _ _ q) ∙ ap (later 1) (passes d m (c ∷ bs) p h) ∙ later_later 1 m _ ∙ ap (λ k. later k (comment_len d (drop m (c ∷ bs)))) one)
 passes d n _ p (nested _ i m bs e h k) =
     let two : 2 + (i + m) ≡ suc (suc (i + m)) = omega arith in
     rw (e, sym (drop-drop m i bs)) (
@@ -39,7 +32,7 @@ closes_first n _ (ends _ bs e) = rw e refl
 closes_first n _ (byte _ m b [] e q h) = absurd (no_end m h)
 closes_first n _ (byte _ m b (c ∷ bs) e q h) =
     let one : 1 + m ≡ suc m = omega arith in
-    rw (e, sym one) (comment_by 1 b c bs (or_left _ _ q) (or_right _ _ q) ∙ ap (later 1) (closes_first m (c ∷ bs) h))
+    rw (e, sym one) (comment_by 1 b c bs (or_false_left _ _ q) (or_false_right _ _ q) ∙ ap (later 1) (closes_first m (c ∷ bs) h))
 closes_first n _ (nested _ i m bs e h k) =
     let two : 2 + (i + m) ≡ suc (suc (i + m)) = omega arith in
     rw (e, sym two) (ap (later 2) (passes 1 i bs (omega arith) h ∙ ap (later i) (closes_first m (drop i bs) k)))

@@ -1,7 +1,6 @@
 -- A run is the longest front of its class, and a symbol the longest front of symbol bytes in which no /* begins.
 use Rattle.std.proofs.Common.{◌≡◌, ℕ, suc, zero, ◌<◌, ◌≤◌, List, [], ◌∷◌, ◌++◌, length, drop, take, Bool, true, false, ◌&&◌, nat_eq, refl, ap, arith}
-use Rattle.std.specs.Prelude.{if◌then◌else◌}
-use Rattle.std.proofs.lemmas.Bool.{and_from, and_parts}
+use Rattle.std.proofs.lemmas.Bool.{and_from, and_parts, cond_both}
 use Rattle.lp_lexer.specs.declared.class.Class.{Class}
 use Rattle.lp_lexer.specs.declared.class.Class.TheVariants.{Symbol}
 use Rattle.lp_lexer.specs.Bytes.{is_in, run}
@@ -9,14 +8,9 @@ use Rattle.lp_lexer.specs.Forms.{are_in, is_led}
 use Rattle.lp_lexer.specs.Front.{symbol_len}
 use Rattle.lp_lexer.specs.Stands.{opens}
 
--- by a test and its answer
-pub if_by : {A : Type 0} (P : A → Type 0) (t : Bool) (x y : A) → (t ≡ true → P x) → (t ≡ false → P y) → P (if t then x else y)
-if_by P true x y a b = a refl
-if_by P false x y a b = b refl
-
 pub run_form : (k : Class) (bs : List ℕ) → are_in k (take (run k bs) bs) ≡ true
 run_form k [] = refl
-run_form k (b ∷ bs) = if_by (λ n. are_in k (take n (b ∷ bs)) ≡ true) (is_in k b) (suc (run k bs)) 0 (λ e. and_from (is_in k b) _ e (run_form k bs)) (λ _. refl)
+run_form k (b ∷ bs) = cond_both (is_in k b) (suc (run k bs)) 0 (λ n. are_in k (take n (b ∷ bs)) ≡ true) (λ e. and_from (is_in k b) _ e (run_form k bs)) (λ _. refl)
 
 pub run_longest : (k : Class) (bs : List ℕ) (m : ℕ) → m ≤ length bs → are_in k (take m bs) ≡ true → m ≤ run k bs
 run_longest k bs zero h e = omega arith
@@ -61,10 +55,10 @@ Apart n bs = (i : ℕ) → i < n → opens (drop i bs) ≡ false
 
 symbol_form : (bs : List ℕ) → are_in Symbol (take (symbol_len bs) bs) ≡ true
 symbol_form [] = refl
-symbol_form (b ∷ []) = if_by (λ n. are_in Symbol (take n (b ∷ [])) ≡ true) (is_in Symbol b) 1 0 (λ e. and_from (is_in Symbol b) true e refl) (λ _. refl)
+symbol_form (b ∷ []) = cond_both (is_in Symbol b) 1 0 (λ n. are_in Symbol (take n (b ∷ [])) ≡ true) (λ e. and_from (is_in Symbol b) true e refl) (λ _. refl)
 symbol_form (b ∷ c ∷ bs) =
     let P : ℕ → Type 0 = λ n. are_in Symbol (take n (b ∷ c ∷ bs)) ≡ true in
-    if_by P (nat_eq b 47 && nat_eq c 42) 0 _ (λ _. refl) (λ _. if_by P (is_in Symbol b) (suc (symbol_len (c ∷ bs))) 0 (λ e. and_from (is_in Symbol b) _ e (symbol_form (c ∷ bs))) (λ _. refl))
+    cond_both (nat_eq b 47 && nat_eq c 42) 0 _ P (λ _. refl) (λ _. cond_both (is_in Symbol b) (suc (symbol_len (c ∷ bs))) 0 P (λ e. and_from (is_in Symbol b) _ e (symbol_form (c ∷ bs))) (λ _. refl))
 
 pub symbol_led : (b : ℕ) (bs : List ℕ) → 0 < symbol_len (b ∷ bs) → is_led Symbol Symbol (take (symbol_len (b ∷ bs)) (b ∷ bs)) ≡ true
 symbol_led b bs h = go (symbol_len (b ∷ bs)) h (symbol_form (b ∷ bs))
@@ -90,10 +84,10 @@ no_second b = go (nat_eq b 47)
 
 pub symbol_apart : (bs : List ℕ) → Apart (symbol_len bs) bs
 symbol_apart [] = none_apart []
-symbol_apart (b ∷ []) = if_by (λ n. Apart n (b ∷ [])) (is_in Symbol b) 1 0 (λ _. more_apart 0 b [] (no_second b) (none_apart [])) (λ _. none_apart (b ∷ []))
+symbol_apart (b ∷ []) = cond_both (is_in Symbol b) 1 0 (λ n. Apart n (b ∷ [])) (λ _. more_apart 0 b [] (no_second b) (none_apart [])) (λ _. none_apart (b ∷ []))
 symbol_apart (b ∷ c ∷ bs) =
     let P : ℕ → Type 0 = λ n. Apart n (b ∷ c ∷ bs) in
-    if_by P (nat_eq b 47 && nat_eq c 42) 0 _ (λ _. none_apart (b ∷ c ∷ bs)) (λ f. if_by P (is_in Symbol b) (suc (symbol_len (c ∷ bs))) 0 (λ _. more_apart _ b (c ∷ bs) f (symbol_apart (c ∷ bs))) (λ _. none_apart (b ∷ c ∷ bs)))
+    cond_both (nat_eq b 47 && nat_eq c 42) 0 _ P (λ _. none_apart (b ∷ c ∷ bs)) (λ f. cond_both (is_in Symbol b) (suc (symbol_len (c ∷ bs))) 0 P (λ _. more_apart _ b (c ∷ bs) f (symbol_apart (c ∷ bs))) (λ _. none_apart (b ∷ c ∷ bs)))
 
 less_apart : (n b : ℕ) (bs : List ℕ) → Apart (suc n) (b ∷ bs) → Apart n bs
 less_apart n b bs h i l = h (suc i) (omega arith)

@@ -1,7 +1,7 @@
 -- What the end of a string tells, in the words of what a string holds.
 use Rattle.std.proofs.Common.{◌≡◌, ℕ, suc, zero, ◌+◌, ◌≤◌, List, [], ◌∷◌, ◌++◌, length, drop, take, Bool, true, false, ◌&&◌, nat_eq, refl, sym, ap, ◌∙◌, subst, arith, true≢false, ne_eqb, append_assoc}
 use Rattle.std.specs.Prelude.{slice_index, not}
-use Rattle.std.proofs.lemmas.Bool.{not-true, and_parts, and_left, and_right, eqb-true}
+use Rattle.std.proofs.lemmas.Bool.{not-true, and_parts, and_left, and_right, eqb-true, cond_both}
 use Rattle.std.proofs.lemmas.List.{take-append-drop, length-take-le, length-append}
 use Rattle.lp_lexer.specs.declared.class.Class.TheVariants.{Escaped, Inside}
 use Rattle.lp_lexer.specs.declared.token.Ended.{Ended}
@@ -10,7 +10,6 @@ use Rattle.lp_lexer.specs.Bytes.{is_in}
 use Rattle.lp_lexer.specs.Forms.{is_plain, Strung, none, plain, escape, IsString}
 use Rattle.lp_lexer.specs.Front.{text_end, further, closes}
 use Rattle.lp_lexer.specs.Stands.{Loose, none as nothing, escape as skipped, lone, other, IsClosed, IsBadIn}
-use Rattle.lp_lexer.proofs.Runs.{if_by}
 use Rattle.lp_lexer.proofs.Steps.{text_cons, text_close, closes_quote, closes_escape, closes_by, zero_no_escape, drop_one}
 
 line_outside : is_in Inside 10 ≡ false
@@ -95,17 +94,15 @@ pub told : (bs : List ℕ) → Told bs (text_end bs)
 told [] = refl
 told (b ∷ []) =
     let P : Ended → Type 0 = Told (b ∷ []) in
-    if_by P (nat_eq b 34) _ _ (quoted b []) (λ no.
-    if_by P (nat_eq b 10) Open _ (λ _. no) (λ line.
-    if_by P (nat_eq b 92) (BadAt 0) _ (λ e. bad_here b [] (slash_not_plain b e) (and_right (nat_eq b 92) _ zero_no_escape) no line) (λ slash.
-    if_by P (is_in Inside b) Open (BadAt 0) (λ _. no) (λ e. bad_here b [] (outside_not_plain b e) (and_left (nat_eq b 92) _ slash) no line))))
+    cond_both (nat_eq b 34) _ _ P (quoted b []) (λ no.
+    cond_both (nat_eq b 10) Open _ P (λ _. no) (λ line.
+    cond_both (nat_eq b 92) (BadAt 0) _ P (λ e. bad_here b [] (slash_not_plain b e) (and_right (nat_eq b 92) _ zero_no_escape) no line) (λ slash.
+    cond_both (is_in Inside b) Open (BadAt 0) P (λ _. no) (λ e. bad_here b [] (outside_not_plain b e) (and_left (nat_eq b 92) _ slash) no line))))
 told (b ∷ c ∷ bs) =
     let P : Ended → Type 0 = Told (b ∷ c ∷ bs) in
-    if_by P (nat_eq b 34) _ _ (quoted b (c ∷ bs)) (λ no.
-    if_by P (nat_eq b 10) Open _ (λ e. rw (no, e) refl) (λ line.
-    if_by P (nat_eq b 92) _ _
-    (λ e. if_by P (is_in Escaped c) _ (BadAt 0) (λ f. subst (λ x. Told (x ∷ c ∷ bs) (further 2 (text_end bs))) (sym (eqb-true b 92 e)) (grow_escape c bs (text_end bs) f (told bs))) (λ f. bad_here b (c ∷ bs) (slash_not_plain b e) (and_right (nat_eq b 92) _ f) no line))
-    (λ slash. if_by P (is_in Inside b) _ (BadAt 0) (λ f. grow_plain b (c ∷ bs) (text_end (c ∷ bs)) (inside_plain b no slash f) (told (c ∷ bs))) (λ f. bad_here b (c ∷ bs) (outside_not_plain b f) (and_left (nat_eq b 92) _ slash) no line))))
+    cond_both (nat_eq b 34) _ _ P (quoted b (c ∷ bs)) (λ no.
+    cond_both (nat_eq b 10) Open _ P (λ e. rw (no, e) refl) (λ line.
+    cond_both (nat_eq b 92) _ _ P (λ e. cond_both (is_in Escaped c) _ (BadAt 0) P (λ f. subst (λ x. Told (x ∷ c ∷ bs) (further 2 (text_end bs))) (sym (eqb-true b 92 e)) (grow_escape c bs (text_end bs) f (told bs))) (λ f. bad_here b (c ∷ bs) (slash_not_plain b e) (and_right (nat_eq b 92) _ f) no line)) (λ slash. cond_both (is_in Inside b) _ (BadAt 0) P (λ f. grow_plain b (c ∷ bs) (text_end (c ∷ bs)) (inside_plain b no slash f) (told (c ∷ bs))) (λ f. bad_here b (c ∷ bs) (outside_not_plain b f) (and_left (nat_eq b 92) _ slash) no line))))
 
 -- what a string holds ends at the quote behind it
 pub ends_strung : (held q : List ℕ) → Strung held → text_end (held ++ 34 ∷ q) ≡ Closed (suc (length held))
@@ -158,9 +155,9 @@ finds [] h = absurd (cc)
 finds (b ∷ []) h = (0, omega arith, nothing, eqb-true b 34 h)
 finds (b ∷ c ∷ bs) h =
     let P : Bool → Type 0 = Finds (b ∷ c ∷ bs) in
-    if_by P (nat_eq b 34) true _ (λ e _. (0, omega arith, nothing, eqb-true b 34 e)) (λ no.
-    if_by P (nat_eq b 10) false _ (λ _ k. absurd (cc)) (λ line.
-    if_by P (nat_eq b 92 && is_in Escaped c) _ _ (λ e k. escaped (and_parts _ _ e) (finds bs k)) (λ e k. found_on b c bs no line e (finds (c ∷ bs) k)))) h
+    cond_both (nat_eq b 34) true _ P (λ e _. (0, omega arith, nothing, eqb-true b 34 e)) (λ no.
+    cond_both (nat_eq b 10) false _ P (λ _ k. absurd (cc)) (λ line.
+    cond_both (nat_eq b 92 && is_in Escaped c) _ _ P (λ e k. escaped (and_parts _ _ e) (finds bs k)) (λ e k. found_on b c bs no line e (finds (c ∷ bs) k)))) h
   where
     escaped : (nat_eq b 92 ≡ true) × (is_in Escaped c ≡ true) → IsClosed bs → IsClosed (b ∷ c ∷ bs)
     escaped (x, e) (n, h, s, q) = (suc (suc n), omega (arith, h), rw (eqb-true b 92 x) (skipped c (take n bs) e s), q)

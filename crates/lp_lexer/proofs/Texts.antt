@@ -1,5 +1,6 @@
 -- What the tokens so far say of the whole text.
-use Rattle.std.proofs.Common.{◌≡◌, ℕ, ◌+◌, ◌<◌, List, [], ◌∷◌, ◌++◌, length, take, drop, Result, Ok, refl, sym, ap, ◌∙◌, subst, append_assoc, append-nil, take-add, arith, ◌≤◌, ◌-◌, take_all, length-drop}
+use Rattle.std.proofs.Common.{◌≡◌, ℕ, ◌+◌, ◌<◌, List, [], ◌∷◌, ◌++◌, length, take, drop, Result, Ok, refl, sym, ap, ◌∙◌, subst, append_assoc, append-nil, take-add, arith, ◌≤◌, ◌-◌, length-drop}
+use Rattle.std.proofs.lemmas.List.{take_rest}
 use Rattle.lp_base.specs.declared.place.Place.{Place}
 use Rattle.lp_lexer.specs.declared.token.Token.{Token}
 use Rattle.lp_lexer.specs.declared.token.TokenKind.{TokenKind}
@@ -51,14 +52,11 @@ all_done text i out b h l =
     let P : List Token → Type 0 = λ ts. Lexes text 0 ts (Ok (place_at text i)) in
     (place_at text i, subst P (append-nil out) (b.on [] _ (ends i e)))
 
-pub rest_is : (text : List ℕ) (i : ℕ) → take (length text - i) (drop i text) ≡ drop i text
-rest_is text i = take_all (length text - i) (drop i text) (omega (arith, length-drop i text))
-
 pub front_is : (text : List ℕ) (i : ℕ) (p : Piece) → p ≡ front (take (length text - i) (drop i text)) → front (drop i text) ≡ p
-front_is text i p h = ap front (sym (rest_is text i)) ∙ sym h
+front_is text i p h = ap front (sym (take_rest text i)) ∙ sym h
 
 pub rest_length : (text : List ℕ) (i : ℕ) → length (take (length text - i) (drop i text)) ≡ length text - i
-rest_length text i = ap length (rest_is text i) ∙ length-drop i text
+rest_length text i = ap length (take_rest text i) ∙ length-drop i text
 
 pub pushed_token : (text : List ℕ) (i n : ℕ) (k : TokenKind) (out new : List Token) (p : Place) → p ≡ place_at text i → new ≡ out ++ record { kind = k; at = p; from = i; to = i + n } ∷ [] → i < length text → front (drop i text) ≡ Found k n → Before text i out → Before text (i + n) new
 pushed_token text i n k out new p e f h g b = rw (f, e) (before_take text i n k out h g b)

@@ -1,13 +1,14 @@
 -- What the code counts for a node is how deep the tree is that it shows, as far as 64 bits go.
-use Rattle.std.proofs.Common.{◌≡◌, ℕ, zero, suc, ◌+◌, ◌-◌, ◌^◌, ◌<◌, ◌≤◌, max, min, Bool, true, false, List, [], ◌∷◌, ◌++◌, length, refl, sym, ap, ◌∙◌, subst, arith, length-append, get_or}
+use Rattle.std.proofs.Common.{◌≡◌, ℕ, ◌+◌, ◌-◌, ◌^◌, ◌<◌, ◌≤◌, max, min, Bool, true, false, List, [], ◌∷◌, ◌++◌, length, refl, sym, ap, ◌∙◌, subst, arith, length-append, get_or}
 use Rattle.std.specs.Global.{Global}
 use Rattle.std.specs.Prelude.{Vec}
-use Rattle.std.proofs.lemmas.List.{get_or_append_left}
+use Rattle.std.proofs.lemmas.List.{get_or_append_left, same_from_push}
 use Rattle.std.proofs.Math.Seq.{get_or-append_seam}
 use Rattle.std.specs.Prelude.{ℤ, Option, Some, None, Result, Ok, Err, IfOk, slice_get}
 use Rattle.lp_base.specs.declared.place.Spot.{Spot}
 use Rattle.std.specs.Prelude.{codes, if◌then◌else◌}
 use Rattle.std.specs.Str.{bytes_eq}
+use Rattle.std.proofs.lemmas.Option.{slice_get_within}
 use Rattle.lp_syntax.specs.declared.class.Class.{Class}
 use Rattle.lp_syntax.specs.declared.class.Class.TheVariants as class
 use Rattle.lp_syntax.specs.declared.text.RawNode.{RawNode}
@@ -21,7 +22,7 @@ use Rattle.lp_syntax.specs.Types.{TypeTree, Arrows}
 use Rattle.lp_syntax.specs.Raw.{IsNoted, Shows, leaf_in, leaf, leaf_node, cons_node, nil_node, app_node, abs_node}
 use Rattle.lp_syntax.specs.RawTypes.{Node, OnNodes, AreBelow, ShowsType, on_none, on_more, word_node, arrow_node}
 use Rattle.lp_syntax.specs.Depth.{as_target, type_depth, as_head, binds, leaf as leaf_depth, cons, nil, applied, abstracted, annotated, TermFits, TermTooDeep, counted, IsDepth, AreTypeDepths, AreDepths, IsNoteDepth}
-use Rattle.lp_syntax.proofs.TypeTrees.{snoc_same, snoc_some}
+use Rattle.lp_syntax.proofs.TypeTrees.{snoc_some}
 use Rattle.lp_syntax.proofs.TypeFaults.{Compared, less, same, more, compared}
 
 -- counts
@@ -43,15 +44,9 @@ term_fits ls t d h l = (h.0, h.1, counted_low d h.0 2000 h.2 l (omega arith))
 pub term_deep : (ls : List Lexeme) (t : Tree) (d : ℕ) → IsDepth ls t d → 2000 < d → TermTooDeep ls t
 term_deep ls t d h l = (h.0, h.1, counted_high d h.0 2000 h.2 l)
 
--- types
-get_within : {A : Type 0} (xs : List A) (i : ℕ) (x : A) → slice_get xs i ≡ Some x → i < length xs
-get_within [] i x e = absurd (cc)
-get_within (y ∷ xs) zero x e = omega arith
-get_within (y ∷ xs) (suc i) x e = let h = get_within xs i x e in omega (arith, h)
-
 pub type_within : (spot : ℕ → Spot) (nodes : List RawTypeNode) (i : ℕ) (t : TypeTree) → ShowsType spot nodes (Node i) t → i < length nodes
-type_within spot nodes i t (word_node _ w xs _ e b s) = get_within nodes i _ e
-type_within spot nodes i t (arrow_node _ l r u v e a b s q) = get_within nodes i _ e
+type_within spot nodes i t (word_node _ w xs _ e b s) = slice_get_within nodes i _ e
+type_within spot nodes i t (arrow_node _ l r u v e a b s q) = slice_get_within nodes i _ e
 
 pub no_type_depth : (nodes : List RawTypeNode) (ds : List ℕ) → ds ≡ [] → AreTypeDepths nodes ds
 no_type_depth nodes ds e spot i t l s = let z = ap length e in absurd (omega (arith, l, z))
@@ -76,7 +71,7 @@ below_front n (x ∷ xs) a h = let r = below_front n xs a h.1 in ((h.0, r.0), r.
 pub argument_depth : (spot : ℕ → Spot) (nodes : List RawTypeNode) (ds : List ℕ) (w d a : ℕ) (xs ys : List ℕ) (t : TypeTree) → AreTypeDepths nodes ds → AreBelow (length ds) ys → ys ≡ xs ++ a ∷ [] → ((u : TypeTree) → AreBelow (length ds) xs → ShowsType spot nodes (OnNodes w xs) u → d ≡ counted (type_depth u)) → ShowsType spot nodes (OnNodes w ys) t → max d (min (get_or ds a 0 + 1) (2 ^ 64 - 1)) ≡ counted (type_depth t)
 argument_depth spot nodes ds w d a xs ys t h b e k (on_none _ _ f) = absurd (snoc_some xs a (sym f ∙ e))
 argument_depth spot nodes ds w d a xs ys t h b e k (on_more _ c zs _ u v f p q) =
-    let r = snoc_same zs xs c a (sym f ∙ e) in
+    let r = same_from_push zs xs c a (sym f ∙ e) in
     let s = below_front (length ds) xs a (subst (AreBelow (length ds)) e b) in
     let m = k u s.0 (subst (λ l. ShowsType spot nodes (OnNodes w l) u) r.0 p) in
     let n = counted_more (get_or ds a 0) (type_depth v) (h spot a v s.1 (subst (λ i. ShowsType spot nodes (Node i) v) r.1 q)) in
@@ -164,11 +159,11 @@ unfolding leaf
 leaf_binds spot ls i = leaf_in_like binds false (spot i) (bytes_at ls i) (class_at ls i) (λ n. refl) refl (named_binds (spot i))
 
 pub term_within : (spot : ℕ → Spot) (ls : List Lexeme) (nodes : List RawNode) (i : ℕ) (t : Tree) → Shows spot ls nodes i t → i < length nodes
-term_within spot ls nodes i t (leaf_node _ s e) = get_within nodes i _ e
-term_within spot ls nodes i t (cons_node _ s e) = get_within nodes i _ e
-term_within spot ls nodes i t (nil_node _ s e) = get_within nodes i _ e
-term_within spot ls nodes i t (app_node _ f x u v e a b p q) = get_within nodes i _ e
-term_within spot ls nodes i t (abs_node _ x v y n u e a b p) = get_within nodes i _ e
+term_within spot ls nodes i t (leaf_node _ s e) = slice_get_within nodes i _ e
+term_within spot ls nodes i t (cons_node _ s e) = slice_get_within nodes i _ e
+term_within spot ls nodes i t (nil_node _ s e) = slice_get_within nodes i _ e
+term_within spot ls nodes i t (app_node _ f x u v e a b p q) = slice_get_within nodes i _ e
+term_within spot ls nodes i t (abs_node _ x v y n u e a b p) = slice_get_within nodes i _ e
 
 pub no_depth : (nodes : List RawNode) (ds : List ℕ) → ds ≡ [] → AreDepths nodes ds
 no_depth nodes ds e spot ls i t l s = let z = ap length e in absurd (omega (arith, l, z))

@@ -1,6 +1,6 @@
 -- The laws of what fits beside an operator.
 use Rattle.std.proofs.Common.{◌≡◌, ℕ, ◌<◌, ◌≤◌, Bool, true, false, ◌&&◌, ◌||◌, nat_eq, nat_lt, nat_le, refl, sym, ap, ◌∙◌, arith, inl, inr, ltb-true, lt-ltb, eqb-true, true≢false, eq-eqb, leb-true, le-leb}
-use Rattle.std.proofs.lemmas.Bool.{and_parts, or_cases, and_from, cases_Bool, cases_order, false≢true}
+use Rattle.std.proofs.lemmas.Bool.{and_parts, or_cases, and_from, cases_Bool, cases_order, false≢true, or_left, or_right}
 use Rattle.lp_standard.specs.declared.fixity.Fixity.{Fixity}
 use Rattle.lp_standard.specs.declared.fixity.Fixity.TheVariants.{Infix, Infixl, Infixr, Prefix, Prefixr, Postfix, Postfixl}
 use Rattle.lp_syntax.specs.declared.symbol.Oper.{Oper}
@@ -14,16 +14,6 @@ no_both Prefix h k = false≢true h
 no_both Prefixr h k = false≢true h
 no_both Postfix h k = false≢true h
 no_both Postfixl h k = false≢true k
-
-or_left : (x y : Bool) → x ≡ true → (x || y) ≡ true
-or_left x y h = rw h refl
-
-or_right : (x y : Bool) → y ≡ true → (x || y) ≡ true
-or_right true y h = refl
-or_right false y h = h
-
-or_none : (x y : Bool) → x ≡ false → y ≡ false → (x || y) ≡ false
-or_none x y h k = rw (h, k) refl
 
 -- what fits, as numbers
 pub data Fit (m n : ℕ) (a b : Bool) : Type 0 where

@@ -1,6 +1,6 @@
 -- Where the code that reads declarations stops, their reader does.
 use Rattle.std.proofs.Common.{◌≡◌, ◌≢◌, ℕ, ◌+◌, ◌<◌, ◌≤◌, inl, inr, Bool, true, false, List, [], ◌∷◌, ◌++◌, length, map, refl, sym, ap, ◌∙◌, subst, arith}
-use Rattle.std.specs.Prelude.{Option, Some, None, Result, Ok, Err, IfErr, IsErrAnd}
+use Rattle.std.specs.Prelude.{Option, Some, None}
 use Rattle.lp_base.specs.declared.place.Spot.{Spot}
 use Rattle.lp_lexer.specs.declared.token.Token.{Token}
 use Rattle.lp_syntax.specs.declared.class.Keyword.{Keyword}
@@ -39,11 +39,6 @@ listed_there false e = cc
 
 pub listed_within : (source : List ℕ) (ts : List Token) (i : ℕ) (w : Bool) → is_listed w (class_at (lexemes source ts) i) ≡ true → i < length ts
 listed_within source ts i w e = there_if source ts i (λ z. listed_there w (sym (ap (is_listed w) z) ∙ e))
-
--- what passes up through `?`
-pub passed : {T : Type 0} (P : SyntaxFault → Type 0) (r : Result T SyntaxFault) (e : SyntaxFault) → IsErrAnd r (λ y. y ≡ e) → P e → IfErr r P
-passed P (Ok x) e is m = tt
-passed P (Err y) e is m = subst P (sym is) m
 
 pub memory_or : {P Q : Type 0} (f : SyntaxFault) → (P → Q) → MemoryOr f P → MemoryOr f Q
 memory_or f g (inl e) = inl e

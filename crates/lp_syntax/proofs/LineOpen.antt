@@ -1,5 +1,6 @@
 -- The brackets that are open where the reader of declarations is.
 use Rattle.std.proofs.Common.{◌≡◌, ℕ, suc, ◌+◌, ◌-◌, ◌≤◌, Bool, true, false, List, [], ◌∷◌, length, take, refl, sym, ap, ◌∙◌, subst, arith, length-append}
+use Rattle.std.proofs.lemmas.List.{nil_from_length}
 use Rattle.lp_base.specs.declared.place.Spot.{Spot}
 use Rattle.lp_syntax.specs.declared.class.Class.{Class}
 use Rattle.lp_syntax.specs.declared.class.Class.TheVariants as class
@@ -9,7 +10,7 @@ use Rattle.lp_syntax.specs.Faults.{refused, innermost}
 use Rattle.lp_syntax.specs.TypeMachine.{TypeState, Goes, type_step}
 use Rattle.lp_syntax.specs.Declarations.{is_listed}
 use Rattle.lp_syntax.specs.LineMachine.{LineState, AtHeadName, AtParameter, InType, lists_words, no_type, LineStep, header, header_word, header_dot, start_list, start_head, name, comma, list_kind, list_type, list_number, list_dot, arrow, kind, kind_dot, bare_head, head_bracket, head_name, one_parameter, head_closed, in_type, type_dot, full_stop, LineRuns, stays, goes, LineStops, StopsIn}
-use Rattle.lp_syntax.proofs.OpenBrackets.{brackets, KeepsOpen, step_open, on_split, ends_none, is_empty}
+use Rattle.lp_syntax.proofs.OpenBrackets.{brackets, KeepsOpen, step_open, on_split, ends_none}
 use Rattle.lp_syntax.proofs.Lines.{line_up, line_on}
 
 -- how many brackets are open
@@ -95,7 +96,7 @@ open_from ls i m n l h e =
     on_split ls [] i (m - i) (n - m) (n - i) (omega (arith, l, h)) ∙ (λ k. open_on ls (e k) (z k) (n - m))
 
 pub line_closed : (ls : List Lexeme) (s r : LineState) (i j : ℕ) → LineRuns ls s i r j → opened s ≡ 0 → opened r ≡ 0 → open_brackets ls i j ≡ []
-line_closed ls s r i j d e f = is_empty (open_brackets ls i j) (line_counts ls s r i j d [] (sym e) ∙ f)
+line_closed ls s r i j d e f = nil_from_length (open_brackets ls i j) (line_counts ls s r i j d [] (sym e) ∙ f)
 
 pub stops_up : (ls : List Lexeme) (s : LineState) (i n : ℕ) → LineStops ls s i n → i ≤ n
 stops_up ls s i n h = line_up ls s h.state i n h.runs

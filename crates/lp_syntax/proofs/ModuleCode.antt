@@ -1,5 +1,5 @@
 -- What the code that reads modules gives.
-use Rattle.std.proofs.Common.{◌≡◌, ◌≢◌, ℕ, zero, suc, ◌+◌, ◌-◌, ◌<◌, ◌≤◌, ◌⊎◌, inl, inr, Bool, true, false, List, [], ◌∷◌, ◌++◌, length, map, take, drop, refl, sym, ap, ◌∙◌, subst, arith}
+use Rattle.std.proofs.Common.{◌≡◌, ◌≢◌, ℕ, zero, suc, ◌+◌, ◌<◌, ◌≤◌, ◌⊎◌, inl, inr, Bool, true, false, List, [], ◌∷◌, ◌++◌, length, map, take, refl, sym, ap, ◌∙◌, subst, arith}
 use Rattle.std.specs.Prelude.{Some, None, slice_get}
 use Rattle.lp_base.specs.declared.place.Spot.{Spot}
 use Rattle.lp_standard.specs.declared.fixity.Fixity.{Fixity}
@@ -14,7 +14,7 @@ use Rattle.lp_syntax.specs.Terms.{TermAt, TermFault, MemoryOr}
 use Rattle.lp_syntax.specs.TermViews.{IsOver}
 use Rattle.lp_syntax.specs.Declarations.{Line}
 use Rattle.lp_syntax.specs.LineMachine.{AtStart, StopsIn, IsTooDeep}
-use Rattle.std.specs.Prelude.{slice_range, nat_le, ◌&&◌, if◌then◌else◌}
+use Rattle.std.specs.Prelude.{nat_le, ◌&&◌, if◌then◌else◌}
 use Rattle.lp_lexer.specs.declared.token.Token.{Token}
 use Rattle.lp_fixity.specs.declared.fault.FixFault.{FixFault}
 use Rattle.lp_syntax.specs.declared.class.Keyword.TheVariants as keyword
@@ -28,6 +28,8 @@ use Rattle.lp_syntax.specs.Signatures.{IsHeader, IsLine}
 use Rattle.lp_syntax.specs.Modules.{Said, IsSaid, AreSaid, AreSentences, no_sentence, one_sentence, Follows, SentencesRead, IsSentenceText, SentenceFollows, SentenceRefuses, LineFollows, LineRefuses, NameFault, OperatorFault, IsBadOperator, IsModuleRefusal, IsFixFault, ClauseFits}
 use Rattle.lp_syntax.specs.Modules.{Clause, Declared, IsSentence, declares, SentenceFault, IsSentenceRefusal, DeclaresOne, DeclaresAll, one_declared, bytes_of}
 use Rattle.std.proofs.lemmas.List.Elements.{All-nil, All-push}
+use Rattle.std.proofs.lemmas.List.{take_all, take-map}
+use Rattle.lp_lemmas.proofs.Lists.{slice_range_none}
 use Rattle.lp_syntax.proofs.Tokens.{past_end}
 use Rattle.lp_syntax.proofs.LineCode.{memory_or}
 use Rattle.lp_syntax.proofs.ModuleFaults.{declaration_fault, term_fault, end_fault}
@@ -64,21 +66,11 @@ map_more source (x ∷ ss) s = ap (λ l. bytes_of source x ∷ l) (map_more sour
 pub one_more_name : (source : List ℕ) (ss : List Spot) (n : ℕ) (s : Spot) (e : Fixity × ℕ) (ops now after : Operators) → slice_get ss n ≡ Some s → DeclaresAll e ops (map (bytes_of source) (take n ss)) now → DeclaresOne (bytes_of source s) e now after → DeclaresAll e ops (map (bytes_of source) (take (n + 1) ss)) after
 one_more_name source ss n s e ops now after h d o = one_declared (map (bytes_of source) (take n ss)) _ (bytes_of source s) now after d o (ap (map (bytes_of source)) (take_more ss n s h) ∙ map_more source (take n ss) s)
 
-take_all : (ss : List Spot) (n : ℕ) → length ss ≤ n → take n ss ≡ ss
-take_all [] zero l = refl
-take_all [] (suc n) l = refl
-take_all (x ∷ ss) zero l = absurd (omega (arith, l))
-take_all (x ∷ ss) (suc n) l = ap (λ y. x ∷ y) (take_all ss n (omega (arith, l)))
-
 pub all_names : (source : List ℕ) (ss : List Spot) (n : ℕ) (e : Fixity × ℕ) (ops now : Operators) → length ss ≤ n → DeclaresAll e ops (map (bytes_of source) (take n ss)) now → DeclaresAll e ops (map (bytes_of source) ss) now
-all_names source ss n e ops now l d = subst (λ x. DeclaresAll e ops (map (bytes_of source) x) now) (take_all ss n l) d
+all_names source ss n e ops now l d = subst (λ x. DeclaresAll e ops (map (bytes_of source) x) now) (take_all n ss l) d
 
 pub name_refused : (source : List ℕ) (ss : List Spot) (n : ℕ) (s : Spot) (e : Fixity × ℕ) (ops now : Operators) (f : SyntaxFault) → slice_get ss n ≡ Some s → DeclaresAll e ops (map (bytes_of source) (take n ss)) now → MemoryOr f ((c : FixFault) × IsFixFault now (bytes_of source s) e c × (f ≡ fault.Operator c s)) → MemoryOr f (NameFault source ss e ops f)
 name_refused source ss n s e ops now f h d m = memory_or f (λ x. record { place = n; name = s; there = h; now = now; before = d; cause = x.0; is_cause = x.1; is = x.2 }) m
-
--- the bytes of a token by its spot
-none_between : (source : List ℕ) (n : ℕ) → slice_range source n n ≡ []
-none_between source n = let z : n - n ≡ 0 = omega arith in ap (λ k. take k (drop n source)) z
 
 no_piece : (b : Bool) (x : List ℕ) → x ≡ [] → (if b then x else []) ≡ []
 no_piece true x e = e
@@ -89,7 +81,7 @@ unfolding bytes_at spot_at piece
 bytes_there file source ts i = go ts i
   where
     go : (ts : List Token) (i : ℕ) → bytes_of source (spot_in file source (slice_get ts i)) ≡ bytes_in (slice_get (map (lexeme source) ts) i)
-    go [] i = no_piece (nat_le (length source) (length source) && nat_le (length source) (length source)) _ (none_between source (length source))
+    go [] i = no_piece (nat_le (length source) (length source) && nat_le (length source) (length source)) _ (slice_range_none source (length source))
     go (t ∷ ts) zero = refl
     go (t ∷ ts) (suc i) = go ts i
 
@@ -222,11 +214,6 @@ split_at spot (n ∷ ns) zero s e = (record { number = n; rest = ns; all = refl 
     same e = cc
 split_at spot (n ∷ ns) (suc place) s e = let h = split_at spot ns place s e in (record { number = h.0.number; rest = h.0.rest; all = ap (λ l. n ∷ l) h.0.all }, h.1)
 
-pub take_map : (spot : ℕ → Spot) (place : ℕ) (ns : List ℕ) → take place (map spot ns) ≡ map spot (take place ns)
-take_map spot zero ns = refl
-take_map spot (suc place) [] = refl
-take_map spot (suc place) (n ∷ ns) = ap (λ l. spot n ∷ l) (take_map spot place ns)
-
 operator_fault : (file : ℕ) (source : List ℕ) (ts : List Token) (ns : List ℕ) (ss : List Spot) (g : Fixity) (m : ℕ) (now : Operators) (f : SyntaxFault) → ss ≡ map (spot_at file source ts) ns → NameFault source ss (g, m) now f → OperatorFault (spot_at file source ts) (lexemes source ts) now (FixityLine ns g m) f
 operator_fault file source ts ns ss g m now f e x =
     let spot = spot_at file source ts in
@@ -239,7 +226,7 @@ operator_fault file source ts ns ss g m now f e x =
       number = m;
       line_is = ap (λ l. FixityLine l g m) h.0.all;
       now = x.now;
-      before = subst (λ l. DeclaresAll (g, m) now l x.now) (ap (λ l. map (bytes_of source) (take x.place l)) e ∙ ap (map (bytes_of source)) (take_map spot x.place ns) ∙ bytes_all file source ts (take x.place ns)) x.before;
+      before = subst (λ l. DeclaresAll (g, m) now l x.now) (ap (λ l. map (bytes_of source) (take x.place l)) e ∙ ap (map (bytes_of source)) (take-map spot x.place ns) ∙ bytes_all file source ts (take x.place ns)) x.before;
       cause = x.cause;
       is_cause = subst (λ b. IsFixFault x.now b (g, m) x.cause) (ap (bytes_of source) h.1 ∙ bytes_there file source ts h.0.number) x.is_cause;
       is = x.is ∙ ap (fault.Operator x.cause) h.1;

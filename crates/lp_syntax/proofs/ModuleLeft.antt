@@ -1,6 +1,7 @@
 -- What a module that is refused leaves in the table.
 use Rattle.std.proofs.Common.{◌≡◌, ℕ, zero, suc, ◌⊎◌, inl, inr, List, [], ◌∷◌, ◌++◌, map, take, drop, refl, sym, ap, ◌∙◌, subst}
-use Rattle.std.specs.Prelude.{Some, None, Result, Ok, Err, OnErr}
+use Rattle.std.specs.Prelude.{Some, None}
+use Rattle.std.proofs.lemmas.List.{take-map}
 use Rattle.lp_base.specs.declared.place.Spot.{Spot}
 use Rattle.lp_standard.specs.declared.fixity.Fixity.{Fixity}
 use Rattle.lp_lexer.specs.declared.token.Token.{Token}
@@ -12,7 +13,7 @@ use Rattle.lp_syntax.specs.Tokens.{Lexeme, Operators, lexemes, spot_at}
 use Rattle.lp_syntax.specs.Declarations.{Line, KindLine, LocalKindLine, ConstantLine, LocalLine, AbbreviationLine, AccumulateLine, AccumSigLine, FixityLine, IsShown}
 use Rattle.lp_syntax.specs.Signatures.{IsLine}
 use Rattle.lp_syntax.specs.Modules.{Clause, Declared, Said, IsSentence, declares, DeclaresAll, no_sentence, IsSaid, SentencesRead, IsSentenceText, IsPartDeclared, IsLeft, LineLeft, SentenceLeft, bytes_of}
-use Rattle.lp_syntax.proofs.ModuleCode.{bytes_all, take_map}
+use Rattle.lp_syntax.proofs.ModuleCode.{bytes_all}
 
 -- a table that is the same at each name
 pub names_kept : (e : Fixity × ℕ) (ops now after : Operators) (ws : List (List ℕ)) → DeclaresAll e ops ws now → ((o : List ℕ) → after o ≡ now o) → DeclaresAll e ops ws after
@@ -34,7 +35,7 @@ part_left file source ts ns ss g m at end place now after k e d = record {
   fixity = g;
   number = m;
   line = subst (λ l. IsLine (lexemes source ts) at end (FixityLine l g m)) (take_drop place ns) k;
-  declared = subst (λ l. DeclaresAll (g, m) now l after) (ap (λ l. map (bytes_of source) (take place l)) e ∙ ap (map (bytes_of source)) (take_map (spot_at file source ts) place ns) ∙ bytes_all file source ts (take place ns)) d;
+  declared = subst (λ l. DeclaresAll (g, m) now l after) (ap (λ l. map (bytes_of source) (take place l)) e ∙ ap (map (bytes_of source)) (take-map (spot_at file source ts) place ns) ∙ bytes_all file source ts (take place ns)) d;
 }
 
 line_left : (file : ℕ) (source : List ℕ) (ts : List Token) (l : Line) (d : Declaration) (at end : ℕ) (now after : Operators) → IsLine (lexemes source ts) at end l → IsShown (spot_at file source ts) d l → LineLeft source d now after → LeftBy (lexemes source ts) at now after
@@ -71,7 +72,3 @@ left_behind spot ls ops now i ds r = record { at = i; behind = now; before = r.b
 
 pub left_within : (file : ℕ) (source : List ℕ) (ts : List Token) (ops now after : Operators) (i j : ℕ) (ds : List Sentence) (d : Sentence) → SentencesRead (spot_at file source ts) (lexemes source ts) ops now i ds → IsSentenceText (spot_at file source ts) now (lexemes source ts) i j d → SentenceLeft source d now after → IsLeft (lexemes source ts) ops after
 left_within file source ts ops now after i j ds d r t p = record { at = i; behind = now; before = r.before; sentences = r.sentences; names = sentence_left file source ts t.clause d i j now after t.is t.said p }
-
-pub on_each_error : {T E P : Type 0} (r : Result T E) → P → OnErr r P
-on_each_error (Ok x) p = tt
-on_each_error (Err e) p = p

@@ -2,6 +2,7 @@
 use Rattle.std.proofs.Common.{◌≡◌, ℕ, suc, ◌+◌, ◌<◌, ◌≤◌, ◌⊎◌, inl, inr, max, List, [], ◌∷◌, ◌++◌, length, map, refl, sym, ap, ◌∙◌, subst, arith, length-append}
 use Rattle.std.proofs.lemmas.List.Elements.{All-pop}
 use Rattle.std.specs.Prelude.{All, Some, Result, Ok, Err, IfOk, IfErr}
+use Rattle.std.proofs.lemmas.List.{same_from_push}
 use Rattle.lp_base.specs.declared.place.Spot.{Spot}
 use Rattle.lp_base.specs.declared.limit.Limit.TheVariants.{Nesting}
 use Rattle.lp_standard.specs.declared.fixity.Fixity.{Fixity}
@@ -19,7 +20,7 @@ use Rattle.lp_syntax.specs.Depth.{HasDepth, leaf, cons, nil, applied, abstracted
 use Rattle.lp_syntax.specs.Declarations.{Line, KindLine, LocalKindLine, ConstantLine, LocalLine, AbbreviationLine, AccumulateLine, AccumSigLine, FixityLine}
 use Rattle.lp_syntax.specs.Modules.{Clause, Declared, Said, IsSentence, declares, says, DeclaresOne, DeclaresAll, none_declared, one_declared, Follows, AreSentences, no_sentence, one_sentence, IsModule, ClauseFits, ClauseTooDeep, AreSaid, IsModuleText, IsFixFault, OperatorFault, IsBadOperator, IsSentenceRefusal, BehindSentences, IsModuleRefusal, IsGivenModule}
 use Rattle.lp_syntax.proofs.Tokens.{past_end}
-use Rattle.lp_syntax.proofs.TypeTrees.{snoc_same, snoc_some}
+use Rattle.lp_syntax.proofs.TypeTrees.{snoc_some}
 use Rattle.lp_syntax.proofs.TypeFaults.{Compared, less, same, more, compared}
 use Rattle.lp_syntax.proofs.TypeUnique.{one_annotation}
 use Rattle.lp_syntax.proofs.TermFaults.{one_term}
@@ -80,7 +81,7 @@ declares_same e ops ws a b (none_declared _ f) (none_declared _ g) = λ i name. 
 declares_same e ops ws a b (none_declared _ f) (one_declared us _ u now _ d o p) = absurd (snoc_some us u p)
 declares_same e ops ws a b (one_declared us _ u now _ d o p) (none_declared _ f) = absurd (snoc_some us u p)
 declares_same e ops ws a b (one_declared us _ u now _ d o p) (one_declared vs _ v then _ g q r) =
-    let z = snoc_same us vs u v (sym p ∙ r) in
+    let z = same_from_push us vs u v (sym p ∙ r) in
     let n = declares_same e ops us now then d (subst (λ x. DeclaresAll e ops x then) (sym z.0) g) in
     λ i name. (o.is name ∙ (λ j. with_entry (z.1 j, e) (n j) name) ∙ sym (q.is name)) i
 

@@ -1,6 +1,7 @@
 -- Open brackets, and those that a type opens.
 use Rattle.std.proofs.Common.{◌≡◌, ℕ, zero, suc, ◌+◌, ◌-◌, ◌≤◌, List, [], ◌∷◌, ◌++◌, length, take, refl, sym, ap, ◌∙◌, subst, arith, length-append, append_assoc, append-nil}
 use Rattle.std.specs.Prelude.{Some, None, slice_get}
+use Rattle.std.proofs.lemmas.List.{nil_from_length}
 use Rattle.lp_syntax.specs.declared.class.Class.{Class}
 use Rattle.lp_syntax.specs.declared.class.Class.TheVariants.{Lower, Upper, Symbol, Comma, Colon, Arrow, Number, Text, Open, Close, OpenList, CloseList, Bar, Dot, Backslash, Keyword, Unsupported, End}
 use Rattle.lp_syntax.specs.Tokens.{Lexeme, class_at, open_behind, open_on, open_brackets}
@@ -247,12 +248,8 @@ note_brackets ls from at p bs q l c e d =
     ∙ ap (λ b. open_on ls b (at + 1) (p - (at + 1))) (sym (append-nil bs))
     ∙ (runs_open ls (ts [] Wants) q (at + 1) p d bs [] refl).same
 
-pub is_empty : (os : List ℕ) → length os ≡ 0 → os ≡ []
-is_empty [] e = refl
-is_empty (o ∷ os) e = absurd (omega (arith, e))
-
 pub type_closed : (ls : List Lexeme) (i p : ℕ) (q : TypeState) → Runs ls (ts [] Wants) i q p → type_step q (class_at ls p) ≡ Ends → open_brackets ls i p ≡ []
-type_closed ls i p q d h = is_empty (open_brackets ls i p) ((runs_open ls (ts [] Wants) q i p d [] [] refl).count ∙ ends_none q.need (class_at ls p) q.waits h)
+type_closed ls i p q d h = nil_from_length (open_brackets ls i p) ((runs_open ls (ts [] Wants) q i p d [] [] refl).count ∙ ends_none q.need (class_at ls p) q.waits h)
 
 pub note_closed : (ls : List Lexeme) (from at p : ℕ) (bs : List ℕ) (q : TypeState) → from ≤ at → class_at ls at ≡ Colon → bs ≡ open_brackets ls from at → Runs ls (ts [] Wants) (at + 1) q p → type_step q (class_at ls p) ≡ Ends → open_brackets ls from p ≡ bs
 note_closed ls from at p bs q l c e d h = note_brackets ls from at p bs q l c e d ∙ ap (λ os. bs ++ os) (type_closed ls (at + 1) p q d h) ∙ append-nil bs

@@ -1,6 +1,8 @@
 -- The nodes that are handed out show the tree of the nodes that were built.
 use Rattle.std.proofs.Common.{◌≡◌, ℕ, zero, suc, ◌+◌, ◌<◌, ◌≤◌, inl, inr, List, [], ◌∷◌, ◌++◌, length, take, refl, sym, ap, ◌∙◌, subst, arith, append_assoc, length-append, get_or}
 use Rattle.std.specs.Prelude.{Option, Some, None, slice_get}
+use Rattle.std.proofs.lemmas.List.{take_more}
+use Rattle.lp_lemmas.proofs.Lists.{get_below}
 use Rattle.lp_base.specs.declared.place.Spot.{Spot}
 use Rattle.lp_syntax.specs.declared.class.Class.TheVariants.{Colon, Backslash}
 use Rattle.lp_syntax.specs.declared.node.Node.{Node}
@@ -192,15 +194,10 @@ noted_lam : (spot : ℕ → Spot) (ls : List Lexeme) (v : ℕ) (y : Option ℕ) 
 noted_lam spot ls v None t w h r = (subst (IsNoted spot ls None) (sym r) tt, h)
 noted_lam spot ls v (Some c) t w h r = (noted spot ls c w h.0 r, h.1)
 
-get_there : (ns : List Node) (i : ℕ) → i < length ns → (n : Node) × (slice_get ns i ≡ Some n)
-get_there [] i l = absurd (omega (arith, l))
-get_there (n ∷ ns) zero l = (n, refl)
-get_there (n ∷ ns) (suc i) l = get_there ns i (omega (arith, l))
-
 show_from : (spot : ℕ → Spot) (ls : List Lexeme) (ns : List Node) (rs : List RawNode) → AreRaw spot ls ns rs → IsOrdered ns → (k i : ℕ) → i < k → i < length ns → Notes (IsNoteAt ls) (at (trees ns) i) → Shows spot ls rs i (at (trees ns) i)
 show_from spot ls ns rs a o zero i l m h = absurd (omega (arith, l))
 show_from spot ls ns rs a o (suc k) i l m h =
-    let g = get_there ns i m in
+    let g = get_below ns i m in
     let r = raw_at spot ls ns rs i g.0 a g.1 in
     let b = o i g.0 g.1 in
     let e = tree_at ns i g.0 b g.1 in
@@ -222,10 +219,5 @@ raw_push spot ls [] (x ∷ rs) n r a w = absurd a
 raw_push spot ls (m ∷ ns) [] n r a w = absurd a
 raw_push spot ls (m ∷ ns) (x ∷ rs) n r a w = (a.0, raw_push spot ls ns rs n r a.1 w)
 
-take_one : (ns : List Node) (i : ℕ) (d : Node) → i < length ns → take (i + 1) ns ≡ take i ns ++ get_or ns i d ∷ []
-take_one [] i d l = absurd (omega (arith, l))
-take_one (n ∷ ns) zero d l = refl
-take_one (n ∷ ns) (suc i) d l = let z : suc i + 1 ≡ suc (i + 1) = omega arith in ap (λ k. take k (n ∷ ns)) z ∙ ap (λ l. n ∷ l) (take_one ns i d (omega (arith, l)))
-
 pub one_more_raw : (spot : ℕ → Spot) (ls : List Lexeme) (ns : List Node) (rs new : List RawNode) (i : ℕ) (d : Node) (r : RawNode) → i < length ns → AreRaw spot ls (take i ns) rs → IsRaw spot ls (get_or ns i d) r → new ≡ rs ++ r ∷ [] → AreRaw spot ls (take (i + 1) ns) new
-one_more_raw spot ls ns rs new i d r l a w e = subst (AreRaw spot ls (take (i + 1) ns)) (sym e) (subst (λ ms. AreRaw spot ls ms (rs ++ r ∷ [])) (sym (take_one ns i d l)) (raw_push spot ls (take i ns) rs (get_or ns i d) r a w))
+one_more_raw spot ls ns rs new i d r l a w e = subst (AreRaw spot ls (take (i + 1) ns)) (sym e) (subst (λ ms. AreRaw spot ls ms (rs ++ r ∷ [])) (sym (take_more ns i d l)) (raw_push spot ls (take i ns) rs (get_or ns i d) r a w))

@@ -1,6 +1,7 @@
 -- The sentences that name other files or declare fixities.
 use Rattle.std.proofs.Common.{arith, ◌<◌, ◌≡◌, ◌≢◌, ℕ, ◌+◌, ◌≤◌, ◌⊎◌, inl, inr, true, false, List, [], ◌∷◌, ◌++◌, length, map, refl, sym, ap, ◌∙◌, append_assoc, append-nil}
 use Rattle.std.specs.Prelude.{Some, None, Result, Ok, Err, OnOk}
+use Rattle.std.proofs.lemmas.List.{map-append}
 use Rattle.lp_base.specs.declared.place.Spot.{Spot}
 use Rattle.lp_syntax.specs.declared.class.Keyword.{Keyword}
 use Rattle.lp_syntax.specs.declared.class.Class.TheVariants as class
@@ -109,10 +110,6 @@ all_more : {A : Type 0} (f : Line → List A) (ds : List Line) (l : Line) → al
 all_more f [] l = append-nil (f l)
 all_more f (d ∷ ds) l = ap (λ x. f d ++ x) (all_more f ds l) ∙ sym (append_assoc (f d) (all_of f ds) (f l))
 
-map_both : (spot : ℕ → Spot) (xs ys : List ℕ) → map spot (xs ++ ys) ≡ map spot xs ++ map spot ys
-map_both spot [] ys = refl
-map_both spot (x ∷ xs) ys = ap (λ l. spot x ∷ l) (map_both spot xs ys)
-
 two_parts : {A : Type 0} {a b c d : List A} → a ≡ b → c ≡ d → a ++ c ≡ b ++ d
 two_parts e f = λ i. e i ++ f i
 
@@ -124,8 +121,8 @@ one_more_refers spot ls i j d old new a h n e f g =
     record {
       lines = a.lines ++ l ∷ [];
       refer = one_refers i h.0 j a.lines (a.lines ++ l ∷ []) l a.refer h.2 h.3 n refl;
-      accumulate = e ∙ two_parts a.accumulate s.words ∙ sym (map_both spot (all_of words_of a.lines) (words_of l)) ∙ ap (map spot) (sym (all_more words_of a.lines l));
-      accum_sig = f ∙ two_parts a.accum_sig s.sig_words ∙ sym (map_both spot (all_of sig_words_of a.lines) (sig_words_of l)) ∙ ap (map spot) (sym (all_more sig_words_of a.lines l));
+      accumulate = e ∙ two_parts a.accumulate s.words ∙ sym (map-append spot (all_of words_of a.lines) (words_of l)) ∙ ap (map spot) (sym (all_more words_of a.lines l));
+      accum_sig = f ∙ two_parts a.accum_sig s.sig_words ∙ sym (map-append spot (all_of sig_words_of a.lines) (sig_words_of l)) ∙ ap (map spot) (sym (all_more sig_words_of a.lines l));
       fixities = g ∙ two_parts a.fixities s.entries ∙ sym (all_more (entries_of spot) a.lines l);
     }
 

@@ -4,6 +4,7 @@ use Rattle.std.proofs.Common.{◌≡◌, ◌≢◌, ℕ, suc, ◌+◌, ◌<◌, 
 use Rattle.std.specs.Prelude.{Option, Some, None, if◌then◌else◌, Result, Ok, Err, IfErr, IsErrAnd}
 use Rattle.std.proofs.lemmas.Option.{slice_get_past, slice_get-get_or}
 use Rattle.std.proofs.Common.{get_or}
+use Rattle.std.proofs.Math.Numerals.{suc-eq-add-one}
 use Rattle.lp_base.specs.declared.place.Spot.{Spot}
 use Rattle.lp_syntax.specs.declared.class.Class.{Class}
 use Rattle.lp_syntax.specs.declared.class.Class.TheVariants.{Colon, Backslash, Dot, End}
@@ -54,9 +55,6 @@ stopped r d ns hs c m x e s = sym s.is ∙ ap (move_of (trees ns) hs) e
 below_went : (n : ℕ) (hs : List Held) (next : Doing) (m : Step) → m ≡ taken.Goes next → IsStepBelow n hs m → EachBelow n hs × IsDoingBelow n next
 below_went n hs next m e b = subst (IsStepBelow n hs) e b
 
-plus_one : (at : ℕ) → suc at ≡ at + 1
-plus_one at = omega arith
-
 pub token_reads : (ops : Operators) (ls : List Lexeme) (r : Reader) (d next : Doing) (i : ℕ) (ns : Vec Node Global) (hs : Vec Held Global) (os : Vec ℕ Global) (c : Sym) (m : Step) → IsReading ops ls r d i → i < length ls → class_at ls i ≢ Colon → c ≡ symbol_at ops ls i → m ≡ taken.Goes next → Steps r.nodes.items ns.items hs.items m (step (state_of r d) c) → os.items ≡ open_behind i (class_at ls i) r.opens.items → IsReading ops ls (reader r.from ns hs os) next (i + 1)
 token_reads ops ls r d next i ns hs os c m v l n e g s b =
     let w = below_went (length ns.items) hs.items next m g s.below in
@@ -66,7 +64,7 @@ token_reads ops ls r d next i ns hs os c m v l n e g s b =
       due = w.1;
       low = let h = v.low in omega (arith, h);
       high = omega (arith, l);
-      read = subst (λ k. HasRead ops ls r.from k (state_of (reader r.from ns hs os) next)) (plus_one i) (read_token ops ls r.from i (state_of r d) _ v.read n (sym (ap (step (state_of r d)) e) ∙ went r d next ns hs os c m g s));
+      read = subst (λ k. HasRead ops ls r.from k (state_of (reader r.from ns hs os) next)) (suc-eq-add-one i) (read_token ops ls r.from i (state_of r d) _ v.read n (sym (ap (step (state_of r d)) e) ∙ went r d next ns hs os c m g s));
       inner = b ∙ brackets_more ls r.from i r.opens.items v.low v.inner;
     }
 
@@ -153,7 +151,7 @@ a_binder r (doing.Formed f k x) y n = absurd n
 pub note_reads : (ops : Operators) (ls : List Lexeme) (r : Reader) (d next : Doing) (i k : ℕ) (ns : Vec Node Global) (hs : Vec Held Global) (m : Step) → IsReading ops ls r d i → i < k → k < length ls → class_at ls i ≡ Colon → ComesTo ls (i + 1) k Ends → class_at ls k ≡ Backslash → m ≡ taken.Goes next → Steps r.nodes.items ns.items hs.items m (step (state_of r d) (Binds (Some i))) → IsReading ops ls (reader r.from ns hs r.opens) next (k + 1)
 note_reads ops ls r d next i k ns hs m v u l c y b g s =
     let w = below_went (length ns.items) hs.items next m g s.below in
-    let z = subst (λ j. ComesTo ls j k Ends) (sym (plus_one i)) y in
+    let z = subst (λ j. ComesTo ls j k Ends) (sym (suc-eq-add-one i)) y in
     let o = note_closed ls r.from i k r.opens.items y.state v.low c v.inner y.runs y.moves in
     let h = v.low in
     record {
@@ -162,7 +160,7 @@ note_reads ops ls r d next i k ns hs m v u l c y b g s =
       due = w.1;
       low = omega (arith, h, u);
       high = omega (arith, l);
-      read = subst (λ j. HasRead ops ls r.from j (state_of (reader r.from ns hs r.opens) next)) (plus_one k) (read_note ops ls r.from i k (state_of r d) _ v.read c z b (went r d next ns hs r.opens (Binds (Some i)) m g s));
+      read = subst (λ j. HasRead ops ls r.from j (state_of (reader r.from ns hs r.opens) next)) (suc-eq-add-one k) (read_note ops ls r.from i k (state_of r d) _ v.read c z b (went r d next ns hs r.opens (Binds (Some i)) m g s));
       inner = ap (λ q. open_behind k q r.opens.items) (sym b) ∙ brackets_more ls r.from k r.opens.items (omega (arith, h, u)) (sym o);
     }
 
@@ -179,7 +177,7 @@ note_over ops ls r d i p q v u c e k text a = λ m t l z.
 pub note_faults : (spot : ℕ → Spot) (ops : Operators) (ls : List Lexeme) (r : Reader) (d : Doing) (i : ℕ) (f : SyntaxFault) → IsReading ops ls r d i → class_at ls i ≡ Colon → MayBind d → NoteFault spot ls r.opens.items i f → TermFault spot ops ls r.from f
 note_faults spot ops ls r d i f v c n h =
     let s = a_binder r d (Some i) n in
-    let e = subst (λ j. Runs ls (ts [] NeedsType) j h.state h.number) (sym (plus_one i)) h.runs in
+    let e = subst (λ j. Runs ls (ts [] NeedsType) j h.state h.number) (sym (suc-eq-add-one i)) h.runs in
     let low = v.low in
     let u = h.low in
     record {

@@ -2,6 +2,7 @@
 use Rattle.std.proofs.Common.{◌≡◌, ℕ, zero, suc, ◌+◌, ◌<◌, ◌≤◌, List, [], ◌∷◌, ◌++◌, length, take, refl, sym, ap, ◌∙◌, subst, arith, length-append, append_assoc}
 use Rattle.std.specs.Prelude.{Some, slice_get}
 use Rattle.std.proofs.lemmas.Option.{slice_get_past}
+use Rattle.std.proofs.lemmas.List.{length-take-le}
 use Rattle.lp_lexer.specs.declared.token.Token.{Token}
 use Rattle.lp_syntax.specs.declared.class.Class.TheVariants.{End}
 use Rattle.lp_syntax.specs.Tokens.{Lexeme, Operators, lexemes, class_in, class_at, bytes_in, bytes_at, symbol_of, symbol_at, Agree}
@@ -60,11 +61,6 @@ front_get (suc n) i [] ms l h = absurd (omega (arith, h))
 front_get (suc n) zero (x ∷ ls) ms l h = refl
 front_get (suc n) (suc i) (x ∷ ls) ms l h = front_get n i ls ms (omega (arith, l)) (omega (arith, h))
 
-length_front : (n : ℕ) (ls : List Lexeme) → n ≤ length ls → length (take n ls) ≡ n
-length_front zero ls h = refl
-length_front (suc n) [] h = absurd (omega (arith, h))
-length_front (suc n) (x ∷ ls) h = ap suc (length_front n ls (omega (arith, h)))
-
 -- a text whose tokens from this number on are these
 pub record GoesOn (n : ℕ) (ls ms : List Lexeme) : Type 0 where
   pub text : List Lexeme
@@ -74,7 +70,7 @@ pub record GoesOn (n : ℕ) (ls ms : List Lexeme) : Type 0 where
 
 pub going_on : (n : ℕ) (ls ms : List Lexeme) → n ≤ length ls → GoesOn n ls ms
 going_on n ls ms h =
-    let f = length_front n ls h in
+    let f = length-take-le n ls h in
     let l = length-append (take n ls) ms in
     record {
       text = take n ls ++ ms;

@@ -8,6 +8,9 @@ use Rattle.lp_syntax.specs.declared.class.Class.TheVariants.{Lower, Upper, Open,
 use Rattle.lp_syntax.specs.declared.text.RawTypeNode.{RawTypeNode}
 use Rattle.lp_syntax.specs.declared.text.RawTypeNode.TheVariants as raw
 use Rattle.std.specs.Prelude.{Result, Ok, Err, IfOk}
+use Rattle.std.proofs.lemmas.List.{same_from_push}
+use Rattle.std.proofs.Math.Numerals.{suc-eq-add-one}
+use Rattle.lp_lemmas.proofs.Lists.{get_push}
 use Rattle.lp_syntax.specs.declared.types.Turn.{Turn}
 use Rattle.lp_syntax.specs.declared.types.Turn.TheVariants as turn
 use Rattle.lp_syntax.specs.declared.types.Due.TheVariants as due
@@ -20,16 +23,6 @@ use Rattle.lp_syntax.specs.TypeHeld.{TypeText, AreKept, IsHeld, at_none, at_arro
 use Rattle.lp_syntax.specs.TypeMachine.{Wait, left, type_has, type_applies}
 use Rattle.lp_syntax.specs.declared.class.Class.{Class}
 use Rattle.lp_syntax.specs.declared.class.Class.TheVariants.{Symbol, Comma, Colon, Number, Text, OpenList, CloseList, Bar, Dot, Backslash, Keyword, Unsupported, End}
-
-pub snoc_same : {A : Type 0} (xs ys : List A) (x y : A) → xs ++ x ∷ [] ≡ ys ++ y ∷ [] → (xs ≡ ys) × (x ≡ y)
-snoc_same [] [] x y e = let f : x ≡ y = cc in (refl, f)
-snoc_same [] (b ∷ ys) x y e = let n = ap length e in let m = length-append ys (y ∷ []) in absurd (omega (arith, n, m))
-snoc_same (a ∷ xs) [] x y e = let n = ap length e in let m = length-append xs (x ∷ []) in absurd (omega (arith, n, m))
-snoc_same (a ∷ xs) (b ∷ ys) x y e =
-    let f : a ≡ b = cc in
-    let g : xs ++ x ∷ [] ≡ ys ++ y ∷ [] = cc in
-    let r = snoc_same xs ys x y g in
-    ((λ k. f k ∷ r.0 k), r.1)
 
 pub snoc_some : {A : Type 0} (xs : List A) (x : A) → [] ≡ xs ++ x ∷ [] → ⊥
 snoc_some xs x e = let n = ap length e in let m = length-append xs (x ∷ []) in omega (arith, n, m)
@@ -45,15 +38,11 @@ get_front [] m n i e = cc
 get_front (x ∷ ns) m n zero e = e
 get_front (x ∷ ns) m n (suc i) e = get_front ns m n i e
 
-get_end : (ns : List RawTypeNode) (m : RawTypeNode) → slice_get (ns ++ m ∷ []) (length ns) ≡ Some m
-get_end [] m = refl
-get_end (x ∷ ns) m = get_end ns m
-
 pub kept_push : (old new : List RawTypeNode) (n : RawTypeNode) → new ≡ old ++ n ∷ [] → AreKept old new
 kept_push old new n e = subst (AreKept old) (sym e) (record { longer = let l = length-append old (n ∷ []) in omega (arith, l); kept = λ i m. get_front old n m i })
 
 pub pushed_node : (old new : List RawTypeNode) (n : RawTypeNode) (i : ℕ) → new ≡ old ++ n ∷ [] → i ≡ length old → slice_get new i ≡ Some n
-pushed_node old new n i e f = ap (λ ns. slice_get ns i) e ∙ ap (slice_get (old ++ n ∷ [])) f ∙ get_end old n
+pushed_node old new n i e f = ap (λ ns. slice_get ns i) e ∙ ap (slice_get (old ++ n ∷ [])) f ∙ get_push old n
 
 pub below_more : (n m : ℕ) (xs : List ℕ) → n ≤ m → AreBelow n xs → AreBelow m xs
 below_more n m [] l h = tt
@@ -79,14 +68,14 @@ kept_held x old new k ks i (at_argument _ hs w m j xs t e h s b d o) = at_argume
 arrow_top : (x : TypeText) (ns : List RawTypeNode) (ks hs : List Waiting) (l i : ℕ) → ks ≡ hs ++ waiting.Arrow l ∷ [] → IsHeld x ns ks i → (j : ℕ) × (m : ℕ) × (t : TypeTree) × (i ≡ suc j) × IsHeld x ns hs m × ShowsType x.spot ns (Node l) t × (l < length ns) × IsType x.lexemes Side m j t × (class_at x.lexemes j ≡ Arrow)
 arrow_top x ns ks hs l i e (at_none _ _ f g) = absurd (snoc_some hs _ (sym f ∙ e))
 arrow_top x ns ks hs l i e (at_arrow _ gs k m j t f h s b d a) =
-    let r = snoc_same gs hs _ _ (sym f ∙ e) in
+    let r = same_from_push gs hs _ _ (sym f ∙ e) in
     let z : k ≡ l = same_arrow k l r.1 in
     (j, m, t, refl, subst (λ g. IsHeld x ns g m) r.0 h, subst (λ q. ShowsType x.spot ns (Node q) t) z s, subst (λ q. q < length ns) z b, d, a)
   where
     same_arrow : (a b : ℕ) → waiting.Arrow a ≡ waiting.Arrow b → a ≡ b
     same_arrow a b q = cc
-arrow_top x ns ks hs l i e (at_group _ gs m f h o) = let r = snoc_same gs hs _ _ (sym f ∙ e) in let q = r.1 in absurd (cc)
-arrow_top x ns ks hs l i e (at_argument _ gs w m j xs t f h s b d o) = let r = snoc_same gs hs _ _ (sym f ∙ e) in let q = r.1 in absurd (cc)
+arrow_top x ns ks hs l i e (at_group _ gs m f h o) = let r = same_from_push gs hs _ _ (sym f ∙ e) in let q = r.1 in absurd (cc)
+arrow_top x ns ks hs l i e (at_argument _ gs w m j xs t f h s b d o) = let r = same_from_push gs hs _ _ (sym f ∙ e) in let q = r.1 in absurd (cc)
 
 pub fold_arrow : (x : TypeText) (old new : List RawTypeNode) (ks hs : List Waiting) (l node n at : ℕ) → ks ≡ hs ++ waiting.Arrow l ∷ [] → IsWhole x old ks at node → AreKept old new → slice_get new n ≡ Some (raw.Arrow l node) → n ≡ length old → n < length new → IsWhole x new hs at n
 fold_arrow x old new ks hs l node n at e w k g f b =
@@ -116,9 +105,9 @@ fold_group x ns ks hs node at e w = go w.start w.held w.type_is
   where
     go : (i : ℕ) → IsHeld x ns ks i → IsType x.lexemes Whole i at w.tree → IsGrouped x ns hs at node
     go i (at_none _ _ f g) y = absurd (snoc_some hs _ (sym f ∙ e))
-    go i (at_arrow _ gs l m j t f h s b d a) y = let r = snoc_same gs hs _ _ (sym f ∙ e) in let q = r.1 in absurd (cc)
-    go i (at_group _ gs m f h o) y = let r = snoc_same gs hs _ _ (sym f ∙ e) in record { start = m; tree = w.tree; held = subst (λ g. IsHeld x ns g m) r.0 h; mark = o; shows = w.shows; below = w.below; type_is = y }
-    go i (at_argument _ gs v m j xs t f h s b d o) y = let r = snoc_same gs hs _ _ (sym f ∙ e) in let q = r.1 in absurd (cc)
+    go i (at_arrow _ gs l m j t f h s b d a) y = let r = same_from_push gs hs _ _ (sym f ∙ e) in let q = r.1 in absurd (cc)
+    go i (at_group _ gs m f h o) y = let r = same_from_push gs hs _ _ (sym f ∙ e) in record { start = m; tree = w.tree; held = subst (λ g. IsHeld x ns g m) r.0 h; mark = o; shows = w.shows; below = w.below; type_is = y }
+    go i (at_argument _ gs v m j xs t f h s b d o) y = let r = same_from_push gs hs _ _ (sym f ∙ e) in let q = r.1 in absurd (cc)
 
 pub fold_argument : (x : TypeText) (ns : List RawTypeNode) (ks hs : List Waiting) (s : Spot) (xs : Vec ℕ Global) (node at : ℕ) → ks ≡ hs ++ waiting.Argument s xs ∷ [] → IsWhole x ns ks at node → IsInner x ns hs at s xs node
 fold_argument x ns ks hs s xs node at e w = go w.start w.held w.type_is
@@ -128,10 +117,10 @@ fold_argument x ns ks hs s xs node at e w = go w.start w.held w.type_is
 
     go : (i : ℕ) → IsHeld x ns ks i → IsType x.lexemes Whole i at w.tree → IsInner x ns hs at s xs node
     go i (at_none _ _ f g) y = absurd (snoc_some hs _ (sym f ∙ e))
-    go i (at_arrow _ gs l m j t f h z b d a) y = let r = snoc_same gs hs _ _ (sym f ∙ e) in let q = r.1 in absurd (cc)
-    go i (at_group _ gs m f h o) y = let r = snoc_same gs hs _ _ (sym f ∙ e) in let q = r.1 in absurd (cc)
+    go i (at_arrow _ gs l m j t f h z b d a) y = let r = same_from_push gs hs _ _ (sym f ∙ e) in let q = r.1 in absurd (cc)
+    go i (at_group _ gs m f h o) y = let r = same_from_push gs hs _ _ (sym f ∙ e) in let q = r.1 in absurd (cc)
     go i (at_argument _ gs v m j ys t f h z b d o) y =
-        let r = snoc_same gs hs _ _ (sym f ∙ e) in
+        let r = same_from_push gs hs _ _ (sym f ∙ e) in
         let q = same_argument (x.spot v) s ys xs r.1 in
         record {
           open_at = j;
@@ -143,12 +132,9 @@ fold_argument x ns ks hs s xs node at e w = go w.start w.held w.type_is
           type_is = y;
         }
 
-plus_one : (at : ℕ) → suc at ≡ at + 1
-plus_one at = omega arith
-
 -- a closing bracket
 pub closes_group : (x : TypeText) (ns : List RawTypeNode) (hs : List Waiting) (node at : ℕ) → class_at x.lexemes at ≡ Close → IsGrouped x ns hs at node → IsBuilt x ns hs (at + 1) node
-closes_group x ns hs node at c g = record { start = g.start; tree = g.tree; held = g.held; shows = g.shows; below = g.below; type_is = subst (λ j. IsType x.lexemes Side g.start j g.tree) (plus_one at) (side_argument g.start (suc at) g.tree (group g.start at g.tree g.mark g.type_is c)) }
+closes_group x ns hs node at c g = record { start = g.start; tree = g.tree; held = g.held; shows = g.shows; below = g.below; type_is = subst (λ j. IsType x.lexemes Side g.start j g.tree) (suc-eq-add-one at) (side_argument g.start (suc at) g.tree (group g.start at g.tree g.mark g.type_is c)) }
 
 more_applied : (x : TypeText) (ns : List RawTypeNode) (hs : List Waiting) (s : Spot) (xs ys : Vec ℕ Global) (j k node : ℕ) (u : TypeTree) → IsApplied x ns hs j s xs → ShowsType x.spot ns (Node node) u → node < length ns → IsType x.lexemes Argument j k u → ys.items ≡ xs.items ++ node ∷ [] → IsApplied x ns hs k s ys
 more_applied x ns hs s xs ys j k node u a w b d e = record {
@@ -163,7 +149,7 @@ more_applied x ns hs s xs ys j k node u a w b d e = record {
 }
 
 pub closes_argument : (x : TypeText) (ns : List RawTypeNode) (hs : List Waiting) (s : Spot) (xs ys : Vec ℕ Global) (node at : ℕ) → class_at x.lexemes at ≡ Close → IsInner x ns hs at s xs node → ys.items ≡ xs.items ++ node ∷ [] → IsApplied x ns hs (at + 1) s ys
-closes_argument x ns hs s xs ys node at c g e = more_applied x ns hs s xs ys g.open_at (at + 1) node g.tree g.applied g.shows g.below (subst (λ j. IsType x.lexemes Argument g.open_at j g.tree) (plus_one at) (group g.open_at at g.tree g.mark g.type_is c)) e
+closes_argument x ns hs s xs ys node at c g e = more_applied x ns hs s xs ys g.open_at (at + 1) node g.tree g.applied g.shows g.below (subst (λ j. IsType x.lexemes Argument g.open_at j g.tree) (suc-eq-add-one at) (group g.open_at at g.tree g.mark g.type_is c)) e
 
 pub kept_applied : (x : TypeText) (old new : List RawTypeNode) (hs : List Waiting) (at : ℕ) (s : Spot) (xs : Vec ℕ Global) → AreKept old new → IsApplied x old hs at s xs → IsApplied x new hs at s xs
 kept_applied x old new hs at s xs k a = record { start = a.start; word = a.word; tree = a.tree; held = kept_held x old new k hs a.start a.held; spot_is = a.spot_is; shows = kept_shows x.spot old new k _ a.tree a.shows; below = below_more (length old) (length new) xs.items k.longer a.below; type_is = a.type_is }
@@ -177,7 +163,7 @@ pub one_word : (x : TypeText) (old new : List RawTypeNode) (hs : List Waiting) (
 one_word x old new hs at n s a xs ys none d k g f b q z y e =
     more_applied x new hs s xs ys at (at + 1) n (Named at) (kept_applied x old new hs at s xs k d)
     (node_of_word x old new at n a none (Named at) q (on_none at none.items z) (subst (AreBelow (length old)) (sym z) tt) k g f)
-    b (subst (λ j. IsType x.lexemes Argument at j (Named at)) (plus_one at) y) e
+    b (subst (λ j. IsType x.lexemes Argument at j (Named at)) (suc-eq-add-one at) y) e
 
 -- a word with its arguments becomes a node
 pub built_word : (x : TypeText) (old new : List RawTypeNode) (hs : List Waiting) (at n : ℕ) (s : Spot) (xs : Vec ℕ Global) → IsApplied x old hs at s xs → AreKept old new → slice_get new n ≡ Some (raw.Word s xs) → n ≡ length old → n < length new → IsBuilt x new hs at n
@@ -185,7 +171,7 @@ built_word x old new hs at n s xs a k g f b = record { start = a.start; tree = a
 
 -- a word where a type is due
 pub begins_word : (x : TypeText) (ns : List RawTypeNode) (hs : List Waiting) (at : ℕ) (s : Spot) (xs : Vec ℕ Global) → IsHeld x ns hs at → class_at x.lexemes at ≡ Lower → s ≡ x.spot at → xs.items ≡ [] → IsApplied x ns hs (at + 1) s xs
-begins_word x ns hs at s xs h c e f = record { start = at; word = at; tree = Named at; held = h; spot_is = e; shows = on_none at xs.items f; below = subst (AreBelow (length ns)) (sym f) tt; type_is = subst (λ j. IsType x.lexemes Head at j (Named at)) (plus_one at) (head at c) }
+begins_word x ns hs at s xs h c e f = record { start = at; word = at; tree = Named at; held = h; spot_is = e; shows = on_none at xs.items f; below = subst (AreBelow (length ns)) (sym f) tt; type_is = subst (λ j. IsType x.lexemes Head at j (Named at)) (suc-eq-add-one at) (head at c) }
 
 pub begins_variable : (x : TypeText) (old new : List RawTypeNode) (hs : List Waiting) (at n : ℕ) (s : Spot) (none : Vec ℕ Global) → IsHeld x old hs at → class_at x.lexemes at ≡ Upper → s ≡ x.spot at → none.items ≡ [] → AreKept old new → slice_get new n ≡ Some (raw.Word s none) → n ≡ length old → n < length new → IsBuilt x new hs (at + 1) n
 begins_variable x old new hs at n s none h c e z k g f b = record {
@@ -194,18 +180,18 @@ begins_variable x old new hs at n s none h c e z k g f b = record {
   held = kept_held x old new k hs at h;
   shows = node_of_word x old new at n s none (Named at) e (on_none at none.items z) (subst (AreBelow (length old)) (sym z) tt) k g f;
   below = b;
-  type_is = subst (λ j. IsType x.lexemes Side at j (Named at)) (plus_one at) (side_argument at (suc at) (Named at) (variable at c));
+  type_is = subst (λ j. IsType x.lexemes Side at j (Named at)) (suc-eq-add-one at) (side_argument at (suc at) (Named at) (variable at c));
 }
 
 -- brackets and arrows
 pub opens_group : (x : TypeText) (ns : List RawTypeNode) (hs ks : List Waiting) (at : ℕ) → IsHeld x ns hs at → class_at x.lexemes at ≡ Open → ks ≡ hs ++ waiting.Group ∷ [] → IsHeld x ns ks (at + 1)
-opens_group x ns hs ks at h c e = subst (IsHeld x ns ks) (plus_one at) (at_group ks hs at e h c)
+opens_group x ns hs ks at h c e = subst (IsHeld x ns ks) (suc-eq-add-one at) (at_group ks hs at e h c)
 
 pub opens_argument : (x : TypeText) (ns : List RawTypeNode) (hs ks : List Waiting) (at : ℕ) (s : Spot) (xs : Vec ℕ Global) → IsApplied x ns hs at s xs → class_at x.lexemes at ≡ Open → ks ≡ hs ++ waiting.Argument s xs ∷ [] → IsHeld x ns ks (at + 1)
-opens_argument x ns hs ks at s xs a c e = subst (IsHeld x ns ks) (plus_one at) (at_argument ks hs a.word a.start at xs a.tree (e ∙ ap (λ z. hs ++ waiting.Argument z xs ∷ []) a.spot_is) a.held a.shows a.below a.type_is c)
+opens_argument x ns hs ks at s xs a c e = subst (IsHeld x ns ks) (suc-eq-add-one at) (at_argument ks hs a.word a.start at xs a.tree (e ∙ ap (λ z. hs ++ waiting.Argument z xs ∷ []) a.spot_is) a.held a.shows a.below a.type_is c)
 
 pub takes_arrow : (x : TypeText) (ns : List RawTypeNode) (hs ks : List Waiting) (at n : ℕ) → IsBuilt x ns hs at n → class_at x.lexemes at ≡ Arrow → ks ≡ hs ++ waiting.Arrow n ∷ [] → IsHeld x ns ks (at + 1)
-takes_arrow x ns hs ks at n b c e = subst (IsHeld x ns ks) (plus_one at) (at_arrow ks hs n b.start at b.tree e b.held b.shows b.below b.type_is c)
+takes_arrow x ns hs ks at n b c e = subst (IsHeld x ns ks) (suc-eq-add-one at) (at_arrow ks hs n b.start at b.tree e b.held b.shows b.below b.type_is c)
 
 pub whole_of : (x : TypeText) (ns : List RawTypeNode) (hs : List Waiting) (at n : ℕ) → IsBuilt x ns hs at n → IsWhole x ns hs at n
 whole_of x ns hs at n b = record { start = b.start; tree = b.tree; held = b.held; shows = b.shows; below = b.below; type_is = target b.start at b.tree b.type_is }

@@ -1,8 +1,9 @@
 -- The steps of a walk along the places, by the numbers of the place and of the watcher.
 use Rattle.std.specs.Global.{Global}
-use Rattle.std.proofs.Common.{◌≡◌, ℕ, zero, suc, ◌+◌, ◌≤◌, ◌<◌, List, [], ◌∷◌, ◌++◌, length, map, take, drop, set, get_or, remove, replicate, Option, Some, None, Vec, Result, Ok, Err, OnOk, OnErr, true, false, is_some, refl, sym, ◌∙◌, ap, arith, subst, add-one}
+use Rattle.std.proofs.Common.{◌≡◌, ℕ, zero, suc, ◌+◌, ◌≤◌, ◌<◌, List, [], ◌∷◌, ◌++◌, length, map, take, drop, set, get_or, remove, replicate, Option, Some, None, Vec, true, false, is_some, refl, sym, ◌∙◌, ap, arith, subst, add-one}
 use Rattle.std.specs.List.{AllZip, flat_map}
-use Rattle.std.proofs.lemmas.List.{append_assoc, take_more, drop_more, take_more_set, drop-set-lt, take-append-drop}
+use Rattle.std.proofs.lemmas.List.{append_assoc, take_more, take_more_set, drop-set-lt, take-append-drop}
+use Rattle.lp_lemmas.proofs.Lists.{drop_read}
 use Rattle.lp_watch.specs.Notes.{Event}
 use Rattle.lp_watch.specs.Seen.{Seen, seen_after, stays}
 use Rattle.lp_watch.specs.Crowd.{crowd_after, ReachesPart, Place, here, gone, places, open_places, Noted, text_at}
@@ -20,10 +21,6 @@ walk_along {W} seen report e before old A A' B B' U U' V V' a b u v walk =
     let R : List W → Type 0 = λ l. Walk seen report e before old A' B' l V in
     let S : List W → Type 0 = λ l. Walk seen report e before old A' B' U' l in
     subst S v (subst R u (subst Q b (subst P a walk)))
-
--- a list from one of its places on
-pub from_place : {X : Type 0} (xs : List X) (i : ℕ) (x : X) → i < length xs → x ≡ get_or xs i x → drop i xs ≡ x ∷ drop (i + 1) xs
-from_place xs i x lt is = drop_more xs i x lt ∙ ap (λ y. y ∷ drop (i + 1) xs) (sym is)
 
 pub up_to_place : {X : Type 0} (xs : List X) (i : ℕ) (x : X) → i < length xs → x ≡ get_or xs i x → take (i + 1) xs ≡ take i xs ++ x ∷ []
 up_to_place xs i x lt is = take_more xs i x lt ∙ ap (λ y. take i xs ++ y ∷ []) (sym is)
@@ -57,7 +54,7 @@ skip_at seen report e before old texts U V p (Some t) some is lt walk =
     walk_along seen report e before old (take p texts ++ Some t ∷ []) (take (p + 1) texts) (drop (p + 1) texts) (drop (p + 1) texts) U U V V
     (sym (up_to_place texts p (Some t) lt is)) refl refl refl
     (walk_skips seen report e before old (take p texts) (drop (p + 1) texts) U V t
-    (walk_along seen report e before old (take p texts) (take p texts) (drop p texts) (Some t ∷ drop (p + 1) texts) U U V V refl (from_place texts p (Some t) lt is) refl refl walk))
+    (walk_along seen report e before old (take p texts) (take p texts) (drop p texts) (Some t ∷ drop (p + 1) texts) U U V V refl (drop_read texts p (Some t) lt is) refl refl walk))
 
 -- the walk before a place with a watcher
 pub before_watcher : {W : Type 0} (seen : W → Seen) (report : W → List ℕ) (e : Event) (before : List (Place W)) (old : List Seen)
@@ -68,7 +65,7 @@ pub before_watcher : {W : Type 0} (seen : W → Seen) (report : W → List ℕ) 
 before_watcher seen report e before old texts watchers p i (Some t) w none is lt is_w lt_w walk = absurd (cc)
 before_watcher seen report e before old texts watchers p i None w none is lt is_w lt_w walk =
     walk_along seen report e before old (take p texts) (take p texts) (drop p texts) (None ∷ drop (p + 1) texts)
-    (take i watchers) (take i watchers) (drop i watchers) (w ∷ drop (i + 1) watchers) refl (from_place texts p None lt is) refl (from_place watchers i w lt_w is_w) walk
+    (take i watchers) (take i watchers) (drop i watchers) (w ∷ drop (i + 1) watchers) refl (drop_read texts p None lt is) refl (drop_read watchers i w lt_w is_w) walk
 
 -- over a watcher that takes more
 pub stay_at : {W : Type 0} (seen : W → Seen) (report : W → List ℕ) (e : Event) (before : List (Place W)) (old : List Seen)
@@ -105,7 +102,7 @@ pub stop_at : {W : Type 0} (seen : W → Seen) (report : W → List ℕ) (e : Ev
 stop_at seen report e before old texts watchers p i w v is_w lt_w same walk =
     walk_stops seen report e before old (take p texts) (drop p texts) (take i watchers) (drop i watchers) (set watchers i v) walk
     (map_set seen watchers i v lt_w ∙ ap (λ s. map seen (take i watchers) ++ s ∷ map seen (drop (suc i) watchers)) same
-    ∙ ap (λ l. map seen (take i watchers) ++ map seen l) (sym (from_place watchers i w lt_w is_w ∙ ap (λ n. w ∷ drop n watchers) (add-one i))))
+    ∙ ap (λ l. map seen (take i watchers) ++ map seen l) (sym (drop_read watchers i w lt_w is_w ∙ ap (λ n. w ∷ drop n watchers) (add-one i))))
 
 -- where the next watcher took the note, and could not give its text
 pub stop_after_at : {W : Type 0} (seen : W → Seen) (report : W → List ℕ) (e : Event) (before : List (Place W)) (old : List Seen)
@@ -167,11 +164,6 @@ places_made (None ∷ texts) (w ∷ watchers) n = ap (λ l. here w ∷ l) (place
 pub reaches_none : (e : Event) (old : List Seen) → ReachesPart e old old
 reaches_none e old = ([], [], old, refl, refl)
 
--- what holds in any case holds after an error
-pub after_error : {T E : Type 0} {P : Type 0} (r : Result T E) → P → OnErr r P
-after_error (Ok x) p = tt
-after_error (Err e) p = p
-
 -- one more empty place
 pub one_made : (texts made : Texts) (n : ℕ) → made ≡ texts ++ replicate n None → made ++ None ∷ [] ≡ texts ++ replicate (n + 1) None
 one_made texts made n is = ap (λ l. l ++ None ∷ []) is ∙ append_assoc texts (replicate n None) (None ∷ []) ∙ ap (λ l. texts ++ l) (at_end n)
@@ -198,7 +190,3 @@ pub passed_open : (texts : Texts) (p : ℕ) (x : Option (Vec ℕ Global)) → is
     → open_places (take (p + 1) texts) ≡ open_places (take p texts) + 1
 passed_open texts p (Some t) none is lt = absurd (cc)
 passed_open texts p None none is lt = ap open_places (up_to_place texts p None lt is) ∙ open_append (take p texts) (None ∷ [])
-
-pub on_ok : {T E : Type 0} {P Q : Type 0} (r : Result T E) → (P → Q) → OnOk r P → OnOk r Q
-on_ok (Ok x) f p = f p
-on_ok (Err e) f p = tt

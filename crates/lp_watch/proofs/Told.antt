@@ -2,6 +2,7 @@
 use Rattle.std.proofs.Common.{◌≡◌, ℕ, zero, suc, ◌-◌, List, [], ◌∷◌, ◌++◌, length, map, filter, Option, Some, None, option_map, true, false, Bool, cond, refl, sym, ◌∙◌, ap, arith}
 use Rattle.std.specs.List.{AllZip}
 use Rattle.std.proofs.lemmas.List.{append_assoc, append-nil}
+use Rattle.lp_lemmas.proofs.Lists.{length_push_suc}
 use Rattle.lp_watch.specs.Notes.{Event}
 use Rattle.lp_watch.specs.Seen.{Seen, seen_after, stays}
 use Rattle.lp_watch.specs.Crowd.{crowd_after, Place, here, gone, Noted}
@@ -86,10 +87,6 @@ stays_one_more zero (Some n) h = grind arith
 stays_one_more (suc k) None h = refl
 stays_one_more (suc k) (Some n) h = grind (arith, h)
 
-pub length_one_more : (notes : List Event) (e : Event) → length (notes ++ e ∷ []) ≡ suc (length notes)
-length_one_more [] e = refl
-length_one_more (n ∷ notes) e = ap suc (length_one_more notes e)
-
 -- a text stays
 pub text_stays : {W : Type 0} (seen : W → Seen) (report : W → List ℕ) (e : Event) (t : List ℕ) (b c : Place W) → b ≡ gone t → Noted seen report e b c → c ≡ gone t
 text_stays seen report e t (gone u) c is one = one ∙ is
@@ -105,7 +102,7 @@ place_one_more seen report notes e (here w) (gone t) (gone u) all one =
     (first, rest ++ e ∷ [], v, ap (λ l. l ++ e ∷ []) is ∙ append_assoc first rest (e ∷ []), over, noted, same ∙ gave)
 place_one_more seen report notes e (here w) (gone t) (here v) all one = absurd (cc)
 place_one_more seen report notes e (here w) (here v) (here u) all one = (
-  ap (λ n. stays_for n (seen w).left) (length_one_more notes e) ∙ sym (stays_one_more (length notes) (seen w).left all.0)
+  ap (λ n. stays_for n (seen w).left) (length_push_suc notes e) ∙ sym (stays_one_more (length notes) (seen w).left all.0)
       ∙ ap stays (sym (ap (λ s. s.left) all.1 ∙ left_is notes (seen w))) ∙ one.0,
   one.1 ∙ ap (seen_after e) all.1 ∙ sym (seen_one_more notes e (seen w)),
 )
@@ -115,7 +112,7 @@ place_one_more seen report notes e (here w) (here v) (gone t) all one =
       [],
       u,
       sym (append-nil (notes ++ e ∷ [])),
-      ap (λ n. stays_for n (seen w).left) (length_one_more notes e) ∙ sym (stays_one_more (length notes) (seen w).left all.0)
+      ap (λ n. stays_for n (seen w).left) (length_push_suc notes e) ∙ sym (stays_one_more (length notes) (seen w).left all.0)
           ∙ ap stays (sym (ap (λ s. s.left) all.1 ∙ left_is notes (seen w))) ∙ done,
       noted ∙ ap (seen_after e) all.1 ∙ sym (seen_one_more notes e (seen w)),
       gave,

@@ -1,11 +1,12 @@
 use Rattle.std.proofs.Common.{◌≡◌, true, false, refl, sym, ap, ◌∙◌, arith}
+use Rattle.lp_lemmas.proofs.Results.{passed_up}
 use Rattle.lp_syntax.specs.declared.class.Class.TheVariants as class
 use Rattle.lp_syntax.specs.Tokens.{lexemes, spot_at, class_at}
 use Rattle.lp_syntax.specs.Declarations.{is_word}
 use Rattle.lp_syntax.specs.LineMachine.{AtHeader, StopsIn}
 use Rattle.lp_syntax.specs.Signatures.{title}
 use Rattle.lp_syntax.proofs.Tokens.{length_lexemes}
-use Rattle.lp_syntax.proofs.LineCode.{class_within, word_within, passed}
+use Rattle.lp_syntax.proofs.LineCode.{class_within, word_within}
 use Rattle.lp_syntax.proofs.SignatureCode.{title_stops, word_stops, header_dot_stops}
 use Rattle.lp_syntax.proofs.whole.header.Goals as goal
 
@@ -26,4 +27,4 @@ returns-in_err-end-clause-fault c =
     let h : is_word (class_at (lexemes c.args.input.now.source.now c.args.input.now.tokens.now) 1) ≡ true = ap is_word (sym c.class-2.ensures) ∙ sym c.is_word.ensures ∙ c.if-not-is_word.false in
     let w = word_within c.args.input.now.source.now c.args.input.now.tokens.now 1 h in
     let l = length_lexemes c.args.input.now.source.now c.args.input.now.tokens.now in
-    passed (λ f. StopsIn (spot_at c.args.input.now.file c.args.input.now.source.now c.args.input.now.tokens.now) (lexemes c.args.input.now.source.now c.args.input.now.tokens.now) (AtHeader (title c.args.signature)) 0 f) c.from_residual.result c.in_err-end.field-0.0 c.from_residual.ensures.1 (header_dot_stops (spot_at c.args.input.now.file c.args.input.now.source.now c.args.input.now.tokens.now) (lexemes c.args.input.now.source.now c.args.input.now.tokens.now) (title c.args.signature) _ e h c.in_err-end.ensures.none (omega (arith, w, l)) c.in_err-end.ensures.refused)
+    passed_up c.from_residual.result c.in_err-end.field-0.0 (λ f. StopsIn (spot_at c.args.input.now.file c.args.input.now.source.now c.args.input.now.tokens.now) (lexemes c.args.input.now.source.now c.args.input.now.tokens.now) (AtHeader (title c.args.signature)) 0 f) c.from_residual.ensures.1 (header_dot_stops (spot_at c.args.input.now.file c.args.input.now.source.now c.args.input.now.tokens.now) (lexemes c.args.input.now.source.now c.args.input.now.tokens.now) (title c.args.signature) _ e h c.in_err-end.ensures.none (omega (arith, w, l)) c.in_err-end.ensures.refused)

@@ -1,8 +1,9 @@
 use Rattle.std.proofs.Common.{rules, ◌≡◌, true, false, map, take, drop}
+use Rattle.lp_lemmas.proofs.Results.{on_err_always}
 use Rattle.lp_watch.specs.Crowd.{places}
 use Rattle.lp_watch.specs.Notes.{event_of}
 use Rattle.lp_watch.specs.Seen.{stays}
-use Rattle.lp_watch.proofs.Steps.{skip_at, stay_at, leave_at, stop_at, stop_after_at, over_at, over_all, still_within, after_error}
+use Rattle.lp_watch.proofs.Steps.{skip_at, stay_at, leave_at, stop_at, stop_after_at, over_at, over_all, still_within}
 use Rattle.lp_watch.proofs.crowd.tell_places.Goals as goal
 
 pub loop-place-preserved-then-is_some : goal.loop-place-preserved-then-is_some
@@ -28,7 +29,7 @@ returns-in_err-note-clause-memory g c =
     let before = places c.args.texts.now.items c.args.watchers.now.items in
     let old = map g.W.Watch.seen c.args.watchers.now.items in
     let here = c.loop-place in
-    after_error c.from_residual.result
+    on_err_always c.from_residual.result
     (stop_at g.W.Watch.seen g.W.Watch.report (event_of c.args.note) before old here.texts.items here.watchers.items here.place here.i c.index_mut.result.now c.note.new.self
     (search rules) (search rules) (search rules) here.invariant.0)
 
@@ -49,7 +50,7 @@ returns-in_err-text-clause-memory g c =
     let before = places c.args.texts.now.items c.args.watchers.now.items in
     let old = map g.W.Watch.seen c.args.watchers.now.items in
     let here = c.loop-place in
-    after_error c.from_residual-in_err-text.result
+    on_err_always c.from_residual-in_err-text.result
     (stop_after_at g.W.Watch.seen g.W.Watch.report (event_of c.args.note) before old here.texts.items here.watchers.items here.place here.i c.index.result.now c.index_mut.result.now c.note.new.self
     (search rules) (search rules) (search rules) (search rules) (search rules) (search rules) here.invariant.0)
 

@@ -2,7 +2,8 @@ use Rattle.std.proofs.Common.{◌∙◌, sym, ap}
 use Rattle.std.specs.Prelude.{if◌then◌else◌, Some}
 use Rattle.std.specs.Str.{bytes_eq}
 use Rattle.std.specs.Map.{lookup}
-use Rattle.lp_fixity.proofs.Lookups.{lookup_put, on_err}
+use Rattle.lp_lemmas.proofs.Results.{on_err_always}
+use Rattle.lp_fixity.proofs.Lookups.{lookup_put}
 use Rattle.lp_sig.specs.Places.{place_of}
 use Rattle.lp_sig.proofs.Finding.{first_again, first_new}
 use Rattle.lp_sig.proofs.places.Places.add.Goals as goal
@@ -13,7 +14,7 @@ returns-then-is_some-clause-added c = λ names at h other.
 
 pub returns-in_err-insert-clause-kept : goal.returns-in_err-insert-clause-kept
 unfolding place_of
-returns-in_err-insert-clause-kept c = on_err c.from_residual-in_err-insert.result (λ names h name. ap (lookup (λ k. bytes_eq name k.items)) c.in_err-insert.ensures.err ∙ h name)
+returns-in_err-insert-clause-kept c = on_err_always c.from_residual-in_err-insert.result (λ names h name. ap (lookup (λ k. bytes_eq name k.items)) c.in_err-insert.ensures.err ∙ h name)
 
 pub returns-clause-added : goal.returns-clause-added
 unfolding place_of

@@ -1,6 +1,6 @@
 use Rattle.std.proofs.Common.{ap, ◌∙◌, take}
+use Rattle.lp_lemmas.proofs.Lists.{map_take}
 use Rattle.lp_store.specs.Slots.{cell_of, cells_of}
-use Rattle.lp_store.proofs.Maps.{map_take}
 use Rattle.lp_store.proofs.cells.Cells.truncate.Goals as goal
 
 pub returns : goal.returns
