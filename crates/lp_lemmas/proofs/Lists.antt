@@ -10,6 +10,12 @@ use Rattle.std.proofs.lemmas.Option.{slice_get-get_or}
 pub cons_equal : {A : Type 0} (x y : A) (xs ys : List A) → x ≡ y → xs ≡ ys → x ∷ xs ≡ y ∷ ys
 cons_equal x y xs ys e f = λ i. e i ∷ f i
 
+pub cons_head : {A : Type 0} (x y : A) (xs ys : List A) → x ∷ xs ≡ y ∷ ys → x ≡ y
+cons_head x y xs ys e = cc
+
+pub cons_tail : {A : Type 0} (x y : A) (xs ys : List A) → x ∷ xs ≡ y ∷ ys → xs ≡ ys
+cons_tail x y xs ys e = cc
+
 pub single_equal : {A : Type 0} (x y : A) → x ∷ [] ≡ y ∷ [] → x ≡ y
 single_equal x y e = cc
 

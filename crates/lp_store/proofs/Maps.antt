@@ -1,1 +1,0 @@
--- A map of a list that is shortened or changed at a place.
