@@ -1,8 +1,8 @@
 -- What binding a variable does to the reading, to what is kept and to the pairs; and the choice between two tops.
 use Rattle.std.proofs.Common.{◌≡◌, ◌≢◌, ℕ, ◌<◌, ◌≤◌, inl, inr, List, [], ◌∷◌, ◌++◌, map, reverse, Option, Some, None, refl, sym, ap, ◌∙◌, subst, arith}
 use Rattle.std.specs.Prelude.{nat_eq, nat_lt, if◌then◌else◌, true, false}
-use Rattle.std.proofs.lemmas.List.{map-append}
 use Rattle.std.proofs.lemmas.Bool.{eq-eqb, ne_eqb, cases_eq, lt-ltb, le-ltb}
+use Rattle.lp_lemmas.proofs.Lists.{map_reverse}
 use Rattle.lp_calculus.specs.Types.{Ty, var, param, con, arrow, instance}
 use Rattle.lp_calculus.proofs.TypeLaws.{instance-instance}
 use Rattle.lp_term.specs.declared.node.TypeId.{TypeId}
@@ -13,7 +13,6 @@ use Rattle.lp_type_laws.proofs.Types.{one_same, one_other, one_absent}
 use Rattle.lp_type_unify.specs.declared.bindings.Pair.{Pair}
 use Rattle.lp_type_unify.specs.Reading.{and_bound, reading_from, reading, IsOlder, Slot, Kept, read_pair, read_pairs}
 use Rattle.lp_type_unify.specs.Looking.{IsLoose, IsUnbound, IsMade, Binds}
-use Rattle.lp_type_unify.proofs.Stacks.{reverse-cons}
 
 reading_append : (τ θ : ℕ → Ty) (bs : List (ℕ × TypeId)) (b : ℕ × TypeId) → reading_from τ θ (bs ++ b ∷ []) ≡ and_bound b.0 (τ b.1.0) (reading_from τ θ bs)
 reading_append τ θ [] b = refl
@@ -60,17 +59,13 @@ kept_now τ n s r bs cs x to K u o k a e f = subst (λ ι. Kept τ n r ι) (sym 
 
 -- pairs under a replacement
 
-map-reverse : {A B : Type 0} (f : A → B) (xs : List A) → map f (reverse xs) ≡ reverse (map f xs)
-map-reverse f [] = refl
-map-reverse f (x ∷ xs) = ap (map f) (reverse-cons x xs) ∙ map-append f (reverse xs) (x ∷ []) ∙ ap (λ l. l ++ f x ∷ []) (map-reverse f xs) ∙ sym (reverse-cons (f x) (map f xs))
-
 map-put : (τ θ κ : ℕ → Ty) (ps : List Pair) → map (put_equation κ) (map (read_pair τ θ) ps) ≡ map (read_pair τ (λ i. instance κ (θ i))) ps
 map-put τ θ κ [] = refl
 map-put τ θ κ (p ∷ ps) =
     let e = instance-instance θ κ (τ p.left.0) in let f = instance-instance θ κ (τ p.right.0) in let g = map-put τ θ κ ps in cc
 
 pub read_put : (τ θ κ : ℕ → Ty) (ps : List Pair) → map (put_equation κ) (read_pairs τ θ ps) ≡ read_pairs τ (λ i. instance κ (θ i)) ps
-read_put τ θ κ ps = map-reverse (put_equation κ) (map (read_pair τ θ) ps) ∙ ap reverse (map-put τ θ κ ps)
+read_put τ θ κ ps = map_reverse (put_equation κ) (map (read_pair τ θ) ps) ∙ ap reverse (map-put τ θ κ ps)
 
 -- a look that binds, if it can
 

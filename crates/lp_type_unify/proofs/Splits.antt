@@ -4,6 +4,8 @@ use Rattle.std.specs.Prelude.{if◌then◌else◌, All}
 use Rattle.std.proofs.lemmas.List.{map-append}
 use Rattle.std.proofs.lemmas.List.Elements.{All-append, All-cons, All-nil, All-head, All-tail}
 use Rattle.std.proofs.lemmas.Bool.{eq-eqb}
+use Rattle.lp_lemmas.proofs.Lists.{map_reverse}
+use Rattle.lp_lemmas.proofs.Elements.{All_reverse}
 use Rattle.lp_calculus.specs.Types.{Ty, Tys, con, tys, instance}
 use Rattle.lp_term.specs.declared.node.TypeId.{TypeId}
 use Rattle.lp_type_laws.specs.Equations.{Equation, equation}
@@ -11,7 +13,7 @@ use Rattle.lp_type_laws.specs.Solving.{clash, pairs, look_parts, look, clashes, 
 use Rattle.lp_type_unify.specs.declared.bindings.Pair.{Pair}
 use Rattle.lp_type_unify.specs.Reading.{IsPair, read_pair, read_pairs}
 use Rattle.lp_type_unify.specs.Looking.{zipped}
-use Rattle.lp_type_unify.proofs.Stacks.{numbers, Parts, parts_known, All-reverse, reverse-cons, reverse_onto}
+use Rattle.lp_type_unify.proofs.Stacks.{numbers, Parts, parts_known, reverse_onto}
 
 pairs_zipped : (τ θ : ℕ → Ty) (ids js : List TypeId) → length ids ≡ length js → pairs (Parts τ θ ids) (Parts τ θ js) ≡ Some (map (read_pair τ θ) (zipped ids js))
 pairs_zipped τ θ [] [] e = refl
@@ -27,13 +29,9 @@ pairs_uneven τ θ (i ∷ is) [] e = refl
 pairs_uneven τ θ (i ∷ is) (j ∷ js) e =
     ap (λ o. elim o [ None ↦ None | Some es ↦ Some (equation (instance θ (τ i.0)) (instance θ (τ j.0)) ∷ es) ]) (pairs_uneven τ θ is js (λ f. e (ap suc f)))
 
-map-reverse : {A B : Type 0} (f : A → B) (xs : List A) → map f (reverse xs) ≡ reverse (map f xs)
-map-reverse f [] = refl
-map-reverse f (x ∷ xs) = ap (map f) (reverse-cons x xs) ∙ map-append f (reverse xs) (x ∷ []) ∙ ap (λ l. l ++ f x ∷ []) (map-reverse f xs) ∙ sym (reverse-cons (f x) (map f xs))
-
 pub read_onto : (τ θ : ℕ → Ty) (old zs : List Pair) → read_pairs τ θ (old ++ reverse zs) ≡ map (read_pair τ θ) zs ++ read_pairs τ θ old
 read_onto τ θ old zs =
-    ap reverse (map-append (read_pair τ θ) old (reverse zs) ∙ ap (λ l. map (read_pair τ θ) old ++ l) (map-reverse (read_pair τ θ) zs)) ∙
+    ap reverse (map-append (read_pair τ θ) old (reverse zs) ∙ ap (λ l. map (read_pair τ θ) old ++ l) (map_reverse (read_pair τ θ) zs)) ∙
     reverse_onto (map (read_pair τ θ) old) (map (read_pair τ θ) zs)
 
 look_equal : (c d : ℕ) (ts us : Tys) → c ≡ d → look (con c ts) (con d us) ≡ look_parts (pairs ts us)
@@ -70,5 +68,5 @@ pub todos_even : (n : ℕ) (ids js : List TypeId) (left right : TypeId) (old new
 todos_even n ids js left right old new x y e k l h =
     subst (λ ps. All (IsPair n) ps) (sym e)
     (All-append (IsPair n) old (reverse (zipped ids js)) h
-    (All-reverse (IsPair n) (zipped ids js)
+    (All_reverse (IsPair n) (zipped ids js)
     (zipped_known n ids js (parts_known n left.0 ids k x) (parts_known n right.0 js l y))))

@@ -2,7 +2,7 @@
 use Rattle.std.proofs.Common.{◌≡◌, ℕ, suc, ◌+◌, ◌<◌, inl, inr, List, [], ◌∷◌, ◌++◌, map, reverse, refl, sym, ap, ◌∙◌, subst, arith, append_assoc}
 use Rattle.std.specs.Prelude.{nat_eq, if◌then◌else◌, Bool, true, false, All}
 use Rattle.std.proofs.lemmas.List.{map-append, reverse-append, reverse-reverse}
-use Rattle.std.proofs.lemmas.List.Elements.{All-append, All-cons, All-nil, All-head, All-tail}
+use Rattle.std.proofs.lemmas.List.Elements.{All-cons, All-nil, All-head, All-tail}
 use Rattle.std.proofs.lemmas.Bool.{eq-eqb, ne_eqb, cases_eq}
 use Rattle.lp_calculus.specs.Types.{Ty, Tys, var, param, con, arrow, tys, instance, instances}
 use Rattle.lp_term.specs.declared.node.TypeId.{TypeId}
@@ -21,11 +21,6 @@ Parts τ θ ids = instances θ (tys (map τ (numbers ids)))
 
 pub reverse-cons : {A : Type 0} (t : A) (ts : List A) → reverse (t ∷ ts) ≡ reverse ts ++ t ∷ []
 reverse-cons t ts = reverse-append (t ∷ []) ts
-
-pub All-reverse : {X : Type 0} (P : X → Type 0) (xs : List X) → All P xs → All P (reverse xs)
-All-reverse P [] a = a
-All-reverse P (x ∷ xs) a =
-    subst (λ l. All P l) (sym (reverse-cons x xs)) (All-append P (reverse xs) (x ∷ []) (All-reverse P xs (All-tail P x xs a)) (All-cons P x [] (All-head P x xs a) (All-nil P)))
 
 pub reverse_onto : {A : Type 0} (old new : List A) → reverse (old ++ reverse new) ≡ new ++ reverse old
 reverse_onto old new = reverse-append old (reverse new) ∙ ap (λ l. l ++ reverse old) (reverse-reverse new)
