@@ -1,6 +1,7 @@
 -- Head steps of a term that is given as its head and arguments.
 use Rattle.std.proofs.Common.{◌≡◌, ℕ, zero, suc, ◌+◌, ◌<◌, List, [], ◌∷◌, ◌++◌, refl, sym, ap, ◌∙◌, subst, arith, Option, Some, None}
 use Rattle.std.specs.Prelude.{IsSome}
+use Rattle.lp_lemmas.proofs.Options.{IsSome_from}
 use Rattle.lp_calculus.specs.Term.{Term, index, atom, abs, app, apply, substitute}
 use Rattle.lp_calculus.specs.Convert.{Converts, same, forth, BetaEta, by_beta, in_argument, head_step, option_term, steps, Reduces, done, then_step, BetaStep, Anywhere, here, beta, in_abs, in_head}
 use Rattle.lp_calculus.proofs.Parallel.{Par}
@@ -90,10 +91,6 @@ works_step (rests t) e p = contracts e (elsewhere p (rests _))
 works_step (contracts q w) e p = contracts q (works_step w e p)
 works_step (elsewhere q w) e p = elsewhere q (works_step w e p)
 
--- reductions of a term make no strategy's count greater
-pub some_is : (o : Option Term) (t : Term) → o ≡ Some t → IsSome o
-some_is o t e = rw e refl
-
 none_is_not : (o : Option Term) → IsSome o → o ≡ None → ⊥
 none_is_not None h e = cc
 none_is_not (Some x) h e = cc
@@ -127,7 +124,7 @@ module _ (f : Term → Option Term) (w : IsStrategy f) where
   longer n {t} {s} p h = go (steps f n t) refl
     where
       go : (o : Option Term) → steps f n t ≡ o → IsSome (steps f n t)
-      go (Some x) e = some_is (steps f n t) x e
+      go (Some x) e = IsSome_from (steps f n t) x e
       go None e =
           let k = ends_where n t e in
           let m = no_longer f w k.count p k.end k.leads in

@@ -1,23 +1,21 @@
 -- Frames around a term: a leftmost step inside is one of the whole, and reductions inside are reductions of the whole.
-use Rattle.std.proofs.Common.{◌≡◌, ℕ, zero, suc, ◌+◌, ◌<◌, ◌≤◌, ◌⊎◌, inl, inr, List, [], ◌∷◌, ◌++◌, length, map, get_or, refl, sym, ap, ◌∙◌, subst, arith, Option, Some, None}
+use Rattle.std.proofs.Common.{◌≡◌, ℕ, suc, ◌+◌, ◌⊎◌, inl, inr, List, [], ◌∷◌, ◌++◌, refl, sym, ap, ◌∙◌, subst, arith, Option, Some, None}
 use Rattle.std.specs.Prelude.{All, IsSome}
 use Rattle.std.proofs.lemmas.List.Elements.{All-cons}
+use Rattle.lp_lemmas.proofs.Options.{IsSome_from}
 use Rattle.lp_calculus.specs.Term.{Term, index, atom, abs, app, apply, substitute}
-use Rattle.lp_calculus.specs.Convert.{head_step, leftmost_step, option_term, or_else, steps, Reduces, done, then_step, BetaStep, Anywhere, here, beta, in_abs, in_head, in_argument}
+use Rattle.lp_calculus.specs.Convert.{head_step, leftmost_step, option_term, or_else, steps, Reduces, done, then_step, BetaStep, here, beta, in_abs, in_head, in_argument}
 use Rattle.lp_calculus.proofs.Confluent.{reduces_on, reduces_abs, reduces_app, reduces_argument, reduces_pars}
 use Rattle.lp_calculus.proofs.Leftmost.{leftmost_strategy}
-use Rattle.lp_store.specs.declared.cell.CellId.{CellId}
-use Rattle.lp_store.specs.declared.cell.Span.{Span}
 use Rattle.lp_store.specs.Contents.{Contents, span}
 use Rattle.lp_store.specs.Reading.{Reads, ReadAll, none, more}
-use Rattle.lp_term.specs.declared.node.TermId.{TermId}
 use Rattle.lp_term.specs.Nodes.{Nodes, tree, Extends}
 use Rattle.lp_susp.specs.declared.reading.Frame.{Frame}
 use Rattle.lp_susp.specs.declared.reading.Frame.TheVariants.{Under, Head, Argument}
 use Rattle.lp_susp.specs.Kept.{Reduced, Grows}
 use Rattle.lp_susp.specs.Counted.{Counts, Works, rests, contracts, elsewhere, IsApplication}
 use Rattle.lp_susp.specs.Frames.{IsNeutral, numbers, Framed, Plugged, FrameStands}
-use Rattle.lp_susp.proofs.Heads.{all_longer, some_is}
+use Rattle.lp_susp.proofs.Heads.{all_longer}
 
 -- neutral terms
 pub neutral_apply : (t : Term) (us : List Term) → IsNeutral (apply t us) → IsNeutral t
@@ -229,4 +227,4 @@ one_step None h = absurd (cc)
 one_step (Some x) h = refl
 
 pub one_more_step : (w v : Term) → leftmost_step w ≡ Some v → IsSome (steps leftmost_step 1 w)
-one_more_step w v e = one_step (leftmost_step w) (some_is (leftmost_step w) v e)
+one_more_step w v e = one_step (leftmost_step w) (IsSome_from (leftmost_step w) v e)

@@ -147,7 +147,3 @@ is_exposed c (Logic k) e f g = tt
 is_exposed c (Index k) e f g = tt
 is_exposed c (Abs k) e f g = tt
 is_exposed c (App k l) e f g = tt
-
-pub empty_list : {A : Type 0} (xs : List A) → length xs ≡ 0 → xs ≡ []
-empty_list [] e = refl
-empty_list (x ∷ xs) e = absurd (omega arith)

@@ -1,14 +1,16 @@
 -- The work on types, step by step.
 use Rattle.std.proofs.Common.{◌≡◌, ℕ, zero, suc, ◌+◌, ◌<◌, ◌≤◌, List, [], ◌∷◌, ◌++◌, length, map, reverse, take, drop, refl, sym, ap, ◌∙◌, subst, arith, length-append, length-drop, take_all, ◌-◌, append_assoc, append-nil}
 use Rattle.std.specs.Prelude.{All}
-use Rattle.std.proofs.lemmas.List.{reverse-append, map-append}
-use Rattle.std.proofs.lemmas.List.Elements.{All-push, All-append, All-weaker, All-cons, All-take}
+use Rattle.std.proofs.lemmas.List.{reverse-append, map-append, length-map, same_from_push}
+use Rattle.std.proofs.lemmas.List.Elements.{All-push, All-weaker, All-cons, All-take}
+use mathlib.Core.List.{map-map}
+use Rattle.lp_lemmas.proofs.Lists.{map_take}
 use Rattle.lp_calculus.specs.Types.{Ty, var, con, arrow, tys}
 use Rattle.lp_store.specs.declared.cell.CellId.{CellId}
 use Rattle.lp_store.specs.declared.cell.Span.{Span}
 use Rattle.lp_store.specs.declared.cell.Cell.TheVariants.{TypeVar, TypeCon, TypeArrow, Ref}
 use Rattle.lp_store.specs.Contents.{Contents, cell_at, span}
-use Rattle.lp_store.specs.Reading.{ReadsType, ReadTypes, no_types, more_types, first_type, rest_types}
+use Rattle.lp_store.specs.Reading.{ReadTypes, no_types, more_types, first_type, rest_types}
 use Rattle.lp_store.proofs.Changes.{type_parts_read}
 use Rattle.lp_term.specs.declared.node.TypeId.{TypeId}
 use Rattle.lp_term.specs.Nodes.{Nodes, type_tree, Extends}
@@ -71,16 +73,12 @@ types_length : {s : Contents} {is : List ℕ} {Ts : List Ty} → ReadTypes s is 
 types_length no_types = refl
 types_length (more_types r p) = ap suc (types_length p)
 
-length-map : {A B : Type 0} (f : A → B) (xs : List A) → length (map f xs) ≡ length xs
-length-map f [] = refl
-length-map f (x ∷ xs) = ap suc (length-map f xs)
-
 pub con_task : (s : Contents) (c : CellId) (name : ℕ) (l : Span) (n : ℕ) (cells : List CellId) → cell_at s c.0 ≡ TypeCon name l → cells ≡ span s.items l.from l.count → n ≡ length cells → (old mid : List Ty) → Act s (Read c) old mid →
     Ran s (MakeCon name n ∷ reverse (reads_of cells)) old mid
 con_task s c name l n cells e q m old mid a =
     let k = type_parts_read s c.0 (TypeCon name l) e a.1 in
     let p : ReadTypes s (map (λ t. t.0) cells) k.0 = subst (λ y. ReadTypes s (map (λ t. t.0) y) k.0) (sym q) k.1 in
-    (old ++ k.0, reads_run s cells k.0 p old, (old, k.0, refl, types_length p ∙ length-map (λ t. t.0) cells ∙ sym m, a.2 ∙ ap (λ y. old ++ y ∷ []) k.2))
+    (old ++ k.0, reads_run s cells k.0 p old, (old, k.0, refl, types_length p ∙ length-map cells (λ t. t.0) ∙ sym m, a.2 ∙ ap (λ y. old ++ y ∷ []) k.2))
 
 pub arrow_task : (s : Contents) (c f t : CellId) → cell_at s c.0 ≡ TypeArrow f t → (old mid : List Ty) → Act s (Read c) old mid → Ran s (MakeArrow ∷ Read t ∷ Read f ∷ []) old mid
 arrow_task s c f t e old mid a = made (type_parts_read s c.0 (TypeArrow f t) e a.1)
@@ -129,28 +127,19 @@ front_back xs front back from count e h l =
     drop_front [] ys = refl
     drop_front (x ∷ xs) ys = drop_front xs ys
 
-map-take : {A B : Type 0} (f : A → B) (n : ℕ) (xs : List A) → map f (take n xs) ≡ take n (map f xs)
-map-take f zero xs = refl
-map-take f (suc n) [] = refl
-map-take f (suc n) (x ∷ xs) = ap (λ l. f x ∷ l) (map-take f n xs)
-
 map-drop : {A B : Type 0} (f : A → B) (n : ℕ) (xs : List A) → map f (drop n xs) ≡ drop n (map f xs)
 map-drop f zero xs = refl
 map-drop f (suc n) [] = refl
 map-drop f (suc n) (x ∷ xs) = map-drop f n xs
-
-map-map : {A B C : Type 0} (f : B → C) (g : A → B) (xs : List A) → map f (map g xs) ≡ map (λ x. f (g x)) xs
-map-map f g [] = refl
-map-map f g (x ∷ xs) = ap (λ l. f (g x) ∷ l) (map-map f g xs)
 
 -- a constructor on the newest types
 pub con_made : (b d : Nodes) → Extends b d → (old cut new args : List TypeId) (id : TypeId) (name from count : ℕ) (front Ts : List Ty) → All (λ t. t.0 < length b.types) old → from + count ≡ length old → args ≡ drop from old → cut ≡ take from old → new ≡ cut ++ id ∷ [] →
     type_tree d id.0 ≡ con name (tys (map (type_tree b) (map (λ t. t.0) args))) → map (λ t. type_tree b t.0) old ≡ front ++ Ts → length Ts ≡ count → map (λ t. type_tree d t.0) new ≡ front ++ con name (tys Ts) ∷ []
 con_made b d e old cut new args id name from count front Ts a l p q r h m n =
     let f : TypeId → Ty = λ t. type_tree b t.0 in
-    let k = front_back (map f old) front Ts from count m n (l ∙ sym (length-map f old)) in
+    let k = front_back (map f old) front Ts from count m n (l ∙ sym (length-map old f)) in
     let g : map (type_tree b) (map (λ t. t.0) args) ≡ Ts = map-map (type_tree b) (λ t. t.0) args ∙ ap (map f) p ∙ map-drop f from old ∙ k.1 in
-    let w : map f cut ≡ front = ap (map f) q ∙ map-take f from old ∙ k.0 in
+    let w : map f cut ≡ front = ap (map f) q ∙ map_take f from old ∙ k.0 in
     let ac : All (λ t. t.0 < length b.types) cut = subst (λ y. All (λ t. t.0 < length b.types) y) (sym q) (All-take (λ t. t.0 < length b.types) from old a) in
     trees_push b d e cut new id (con name (tys Ts)) ac r (h ∙ ap (λ y. con name (tys y)) g) ∙ ap (λ y. y ++ con name (tys Ts) ∷ []) w
 
@@ -164,26 +153,13 @@ rest_of xs old from e = (λ i. take (length (e i) - from) (drop from (e i))) ∙
 pub constant_trees : (b : Nodes) (xs ids : List TypeId) (Ts : List Ty) → xs ≡ ids → map (λ t. type_tree b t.0) ids ≡ Ts → map (type_tree b) (map (λ t. t.0) xs) ≡ Ts
 constant_trees b xs ids Ts e h = map-map (type_tree b) (λ t. t.0) xs ∙ ap (map (λ t. type_tree b t.0)) e ∙ h
 
-snoc_same : {A : Type 0} (xs ys : List A) (x y : A) → xs ++ x ∷ [] ≡ ys ++ y ∷ [] → (xs ≡ ys) × (x ≡ y)
-snoc_same [] [] x y e = (refl, (cc))
-snoc_same [] (z ∷ zs) x y e = absurd (omega (arith, ap length e, length-append zs (y ∷ [])))
-snoc_same (z ∷ zs) [] x y e = absurd (omega (arith, ap length e, length-append zs (x ∷ [])))
-snoc_same (z ∷ zs) (v ∷ vs) x y e =
-    let k = snoc_same zs vs x y (ap rest_list e) in
-    let h : z ≡ v = cc in
-    ((λ i. h i ∷ k.0 i), k.1)
-  where
-    rest_list : {B : Type 0} → List B → List B
-    rest_list [] = []
-    rest_list (b ∷ bs) = bs
-
 -- the function type of the two newest types
 pub arrow_made : (b d : Nodes) → Extends b d → (old mid cut new : List TypeId) (from to id : TypeId) (front : List Ty) (A B : Ty) → All (λ t. t.0 < length b.types) old → old ≡ mid ++ to ∷ [] → mid ≡ cut ++ from ∷ [] → new ≡ cut ++ id ∷ [] →
     type_tree d id.0 ≡ arrow (type_tree b from.0) (type_tree b to.0) → map (λ t. type_tree b t.0) old ≡ front ++ A ∷ B ∷ [] → map (λ t. type_tree d t.0) new ≡ front ++ arrow A B ∷ []
 arrow_made b d e old mid cut new from to id front A B a p q r h m =
     let f : TypeId → Ty = λ t. type_tree b t.0 in
-    let x = snoc_same (map f mid) (front ++ A ∷ []) (f to) B (sym (ap (map f) p ∙ map-append f mid (to ∷ [])) ∙ m ∙ sym (append_assoc front (A ∷ []) (B ∷ []))) in
-    let y = snoc_same (map f cut) front (f from) A (sym (ap (map f) q ∙ map-append f cut (from ∷ [])) ∙ x.0) in
+    let x = same_from_push (map f mid) (front ++ A ∷ []) (f to) B (sym (ap (map f) p ∙ map-append f mid (to ∷ [])) ∙ m ∙ sym (append_assoc front (A ∷ []) (B ∷ []))) in
+    let y = same_from_push (map f cut) front (f from) A (sym (ap (map f) q ∙ map-append f cut (from ∷ [])) ∙ x.0) in
     let n : length cut ≤ length old = omega (arith, ap length p, ap length q, length-append mid (to ∷ []), length-append cut (from ∷ [])) in
     let c : cut ≡ take (length cut) old = sym (ap (take (length cut)) (p ∙ ap (λ l. l ++ to ∷ []) q ∙ append_assoc cut (from ∷ []) (to ∷ [])) ∙ front_take cut (from ∷ to ∷ [])) in
     let ac : All (λ t. t.0 < length b.types) cut = subst (λ l. All (λ t. t.0 < length b.types) l) (sym c) (All-take (λ t. t.0 < length b.types) (length cut) old a) in

@@ -1,15 +1,13 @@
-use Rattle.std.proofs.Common.{◌≡◌, ◌∙◌, ◌<◌, ◌+◌, ◌++◌, ◌∷◌, [], length, refl, sym, ap, subst, arith}
+use Rattle.std.proofs.Common.{◌≡◌, ◌∙◌, ◌<◌, ◌+◌, ◌++◌, ◌∷◌, [], length, sym, ap, subst, arith}
 use Rattle.std.specs.Prelude.{All}
 use Rattle.std.proofs.lemmas.Grind.{common_steps}
 use Rattle.std.proofs.lemmas.List.Elements.{All-push}
+use Rattle.std.proofs.lemmas.List.{nil_from_length}
 use Rattle.lp_store.specs.Contents.{span}
-use Rattle.lp_susp.specs.declared.reading.Frame.{Frame}
-use Rattle.lp_susp.specs.declared.reading.Frame.TheVariants.{Under, Head, Argument}
-use Rattle.lp_susp.specs.declared.reading.State.TheVariants.{Fresh}
+use Rattle.lp_susp.specs.declared.reading.Frame.TheVariants.{Head, Argument}
 use Rattle.lp_susp.specs.Frames.{FrameStands, StateStands, StateOf}
 use Rattle.lp_susp.proofs.Chains.{all_front, all_last}
 use Rattle.lp_susp.proofs.Keeping.{grows_same}
-use Rattle.lp_susp.proofs.Routes.{empty_list}
 use Rattle.lp_susp.proofs.Plugs.{all_stand_more}
 use Rattle.lp_susp.proofs.Sizes.{up_abs_counted, up_last_counted, up_head_counted, up_next_counted}
 use Rattle.lp_susp.proofs.Readbacks.{up_abs, up_head, up_last, up_next, some_count}
@@ -30,7 +28,7 @@ returns-then-is_empty-clause-state c =
     let a = subst (λ l. All (FrameStands s b) l) c.in-Some.ensures.items c.requires.frames in
     let r = c.in-Argument.rest in
     up_last s b c.put_term-in-Argument.new.self front c.args.frames.now.items c.args.built c.in_ok-id-in-Argument.id c.in-Argument.head r c.in_ok-id-in-Argument.ensures.kept (all_front (FrameStands s b) front c.in-Some.frame a)
-    (c.in-Some.ensures.items ∙ ap (λ f. front ++ f ∷ []) c.in-Argument.is) (empty_list (span s.items r.from r.count) (ap length (sym c.items.ensures.items) ∙ nothing c)) c.in_ok-id-in-Argument.ensures.tree
+    (c.in-Some.ensures.items ∙ ap (λ f. front ++ f ∷ []) c.in-Argument.is) (nil_from_length (span s.items r.from r.count) (ap length (sym c.items.ensures.items) ∙ nothing c)) c.in_ok-id-in-Argument.ensures.tree
 
 pub returns-in_ok-id-in-Under-clause-state : goal.returns-in_ok-id-in-Under-clause-state
 returns-in_ok-id-in-Under-clause-state c =

@@ -1,11 +1,10 @@
-use Rattle.std.proofs.Common.{◌≡◌, ◌∙◌, ◌<◌, ◌++◌, ◌∷◌, [], length, map, reverse, refl, sym, ap, subst, arith}
+use Rattle.std.proofs.Common.{◌≡◌, ◌∙◌, ◌<◌, ◌++◌, [], length, map, reverse, refl, sym, ap, subst, arith}
 use Rattle.std.specs.Prelude.{All}
-use Rattle.lp_store.specs.Contents.{span}
+use Rattle.std.proofs.lemmas.List.{nil_from_length}
 use Rattle.lp_store.specs.Reading.{ReadTypes}
 use Rattle.lp_term.specs.Nodes.{type_tree}
 use Rattle.lp_susp.specs.TypeWork.{Ran, IsThere, reads_of}
 use Rattle.lp_susp.proofs.Chains.{all_front, all_last}
-use Rattle.lp_susp.proofs.Routes.{empty_list}
 use Rattle.lp_susp.proofs.TypeWorks.{reads_run, there_all, bank_same, bank_on}
 use Rattle.lp_susp.proofs.type_reading.read_types.Goals as goal
 
@@ -26,7 +25,7 @@ loop-task-init c =
 
 pub returns-in_default-clause-types : goal.returns-in_default-clause-types
 returns-in_default-clause-types c = λ Ts r.
-    let n : c.loop-task.work.items ≡ [] = empty_list c.loop-task.work.items (omega (arith, c.in_default.ensures.cases.0, c.loop-task.work.ok)) in
+    let n : c.loop-task.work.items ≡ [] = nil_from_length c.loop-task.work.items (omega (arith, c.in_default.ensures.cases.0, c.loop-task.work.ok)) in
     subst (λ l. Ran c.args.store.now l (map (λ t. type_tree c.loop-task.bank t.0) c.loop-task.out.items) Ts) n (c.loop-task.invariant.ran Ts r)
 
 pub type_step-requires-clause-tasks : goal.type_step-requires-clause-tasks
