@@ -1,12 +1,12 @@
 #!/usr/bin/env bash
-# Times of reductions in the bank, by the rows of crates/lp_term/src/timed.rt, which `rt test` builds:
+# Times of reductions in the bank, by the rows of crates/lp_rows/src/term_timed.rt, which `rt test` builds:
 #   - twenty products of two Church numerals of 40, normalised: 81 contractions each, and the contractions a second;
 #   - head reduction of a spine of 10,000 and of 100,000 arguments, one contraction each: ten times the time, so it is linear;
 #   - 100,000 abstractions, of which the beta-eta normal form is the term itself.
 # Run it from any folder: bash bench/church.sh. Each is the best of five runs, less the time of a run that does nothing.
 root=$(cd "$(dirname "$0")/.." && pwd)
-tests="$root/crates/lp_term/out/lp_term_tests"
-[ -x "$tests" ] || ( cd "$root/crates/lp_term" && rt test ) || exit 1
+tests="$root/crates/lp_rows/out/lp_rows_tests"
+[ -x "$tests" ] || ( cd "$root/crates/lp_rows" && rt test ) || exit 1
 
 # the best of five runs, in microseconds
 best() {
@@ -14,7 +14,7 @@ best() {
     for _ in 1 2 3 4 5; do
         local start end
         start=$(date +%s%N)
-        "$tests" "timed::$1" > /dev/null || exit 1
+        "$tests" "term_timed::$1" > /dev/null || exit 1
         end=$(date +%s%N)
         local took=$(((end - start) / 1000))
         [ -z "$least" ] || [ "$took" -lt "$least" ] && least=$took

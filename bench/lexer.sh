@@ -11,8 +11,11 @@ cp -r "$root/crates/lp_base" "$root/crates/lp_lexer" "$work/crates/"
 cp "$root/HANDLES" "$work/"
 printf 'lp_base:\nlp_lexer: lp_base\n' > "$work/crates.txt"
 tests=$work/crates/lp_lexer/src/tests.rt
+printf '\n#[cfg(test)]\nmod tests;\n' >> "$work/crates/lp_lexer/src/lib.rt"
 
-cat >> "$tests" <<'TESTS'
+cat > "$tests" <<'TESTS'
+use crate::tokens;
+use std::alloc::Global;
 
 fn filled(alloc: Global, before: &[u8], piece: &[u8], times: usize, after: &[u8]) -> Vec<u8> {
     let mut text = Vec::new(alloc);

@@ -38,6 +38,3 @@ pub use place::{Place, Spot};
 pub use sinks::{MemSink, SureSink};
 pub use status::Status;
 pub use sure_folder::SureFolder;
-
-#[cfg(test)]
-mod tests;

@@ -28,6 +28,3 @@ pub use build::{Built, build_program};
 pub use fault::BuildFault;
 pub use load::{gather, gather_with};
 pub use sources::Sources;
-
-#[cfg(test)]
-mod tests;

@@ -8,6 +8,12 @@ mod examples;
 mod refusals;
 // Queries and their answers.
 mod rows;
+// Sets of files.
+mod sets;
+// Limits of texts and of sets.
+mod limits;
+// Why the texts of one module are refused.
+mod module_texts;
 // Faults of the outside.
 mod outside;
 // The first path beside that of the whole language.

@@ -9,6 +9,3 @@ mod table;
 pub use fault::FixFault;
 pub use lp_standard::Fixity;
 pub use table::Table;
-
-#[cfg(test)]
-mod tests;

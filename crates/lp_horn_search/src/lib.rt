@@ -15,6 +15,3 @@ mod values;
 
 pub use horn::{Horn, HornEvent};
 pub use search::Search;
-
-#[cfg(test)]
-mod tests;

@@ -31,6 +31,3 @@ pub use laws::{
     a_most_general_solution_is_principal, formulas_of_a_text_are_typed, no_solution_is_no_typing,
     renaming_keeps_a_principal_typing, typings_are_solutions,
 };
-
-#[cfg(test)]
-mod tests;

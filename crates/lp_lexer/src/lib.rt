@@ -15,6 +15,3 @@ mod token;
 pub use laws::{comments_nest, one_reading, some_reading, tokens_are_longest};
 pub use read::{end_place, tokens};
 pub use token::{LexFault, Token, TokenKind};
-
-#[cfg(test)]
-mod tests;

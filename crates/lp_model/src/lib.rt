@@ -15,6 +15,3 @@ pub use answer::{Answer, Event, Pair};
 pub use clause::{Clause, Goal};
 pub use ending::{Ending, Fault};
 pub use program::{ClauseFormula, Declared, Program, Typed};
-
-#[cfg(test)]
-mod tests;

@@ -31,8 +31,6 @@ mod numbers;
 mod reading;
 // The sentences of a module.
 mod sentences;
-#[cfg(test)]
-mod tests;
 // The order of copies, and their numbers.
 mod tree;
 // The walk from the root.

@@ -17,8 +17,6 @@ mod goals;
 mod raising;
 // The moves of the flattening.
 mod step;
-#[cfg(test)]
-mod tests;
 
 pub use fault::NormalRefusal;
 pub use flattening::{normalise, query_body};

@@ -44,6 +44,3 @@ pub use fill::filled;
 pub use fill_types::filled_type;
 pub use under::head_under;
 pub use unify::{Solved, solve, solve_under};
-
-#[cfg(test)]
-mod tests;

@@ -47,8 +47,6 @@ mod spine;
 mod start;
 // Flattened goals and clauses by number.
 mod table;
-#[cfg(test)]
-mod tests;
 // The next goal of a branch.
 mod turn;
 // Types with new type variables.

@@ -23,8 +23,6 @@ mod place;
 mod spine;
 // What is still to be written.
 mod task;
-#[cfg(test)]
-mod tests;
 // The variables of a term, by first place.
 mod variables;
 // The text of a term.

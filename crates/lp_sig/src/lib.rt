@@ -63,6 +63,3 @@ pub use pieces::{is_variable, spelled_at};
 pub use signature::Signature;
 pub use standard::{END_OF_NUMBERS, FIRST_CONSTANT, FIRST_KIND, standard_constant, standard_kind};
 pub use texts::elaborate;
-
-#[cfg(test)]
-mod tests;

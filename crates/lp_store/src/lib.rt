@@ -11,10 +11,6 @@ pub mod laws;
 mod slot;
 // The store, and what its calls promise of readings and marks.
 mod store;
-#[cfg(test)]
-mod tests;
-#[cfg(test)]
-mod timed;
 // What bound and overwritten cells were.
 mod trail;
 

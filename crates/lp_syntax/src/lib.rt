@@ -57,6 +57,3 @@ pub use text::{
     References, Sentence, SignatureText,
 };
 pub use whole::{module_text, query_text, signature_text};
-
-#[cfg(test)]
-mod tests;

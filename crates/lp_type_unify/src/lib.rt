@@ -11,6 +11,3 @@ mod shared;
 pub use bindings::{Bindings, Pair};
 pub use counted::{EquationRefusal, unify_within};
 pub use shared::unify;
-
-#[cfg(test)]
-mod tests;

@@ -22,6 +22,3 @@ pub use laws::{each_has_the_notes, notes_add_up, places_add_up, who_stays};
 pub use note::{Go, Note};
 pub use tracer::Tracer;
 pub use watch::Watch;
-
-#[cfg(test)]
-mod tests;

@@ -1,7 +1,7 @@
 // The modules of the worked rows.
 
 /// The files of the modules, by name.
-pub const FILES: [(&str, &str); 30] = [
+pub const FILES: [(&str, &str); 38] = [
     (
         "fam.sig",
         "sig fam. kind p type. type ann, bob, cal p. type par, anc p -> p -> o. type any p -> o.",
@@ -74,4 +74,30 @@ pub const FILES: [(&str, &str); 30] = [
         "trial.mod",
         "module trial. copy (app M N) (app P Q) :- copy M P, copy N Q. copy (abs M) (abs P) :- pi x\\ pi y\\ (copy x y => copy (M x) (P y)).",
     ),
+    (
+        "rev.sig",
+        "sig rev. type append list A -> list A -> list A -> o. type rev list A -> list A -> o.",
+    ),
+    (
+        "rev.mod",
+        "module rev. append nil K K. append (X :: L) K (X :: M) :- append L K M. rev nil nil. rev (X :: L) K :- rev L M, append M (X :: nil) K.",
+    ),
+    (
+        "calls.sig",
+        "sig calls. kind i type. type a, b i. type f i -> i. type p, s i -> o. type q o -> o.",
+    ),
+    ("calls.mod", "module calls. p a. p b. q X :- X."),
+    (
+        "forms.sig",
+        "sig forms. kind i type. type a i. type p i -> o. type q, r o.",
+    ),
+    (
+        "forms.mod",
+        "module forms. (q :- q) => r. pi p. (x\\ p x, q :- x = x) a.",
+    ),
+    (
+        "shown.sig",
+        "sig shown. kind i type. type f i -> i -> i. type g, up, no i -> i. type a, x1 i. type h (i -> i) -> i. postfix up 10. prefixr no 10.",
+    ),
+    ("shown.mod", "module shown."),
 ];

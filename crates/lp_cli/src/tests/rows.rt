@@ -159,3 +159,125 @@ fn queries_are_answered(rt: HostRuntime) -> Result<(), Memory> {
     }
     Ok(())
 }
+
+#[test]
+fn goals_of_all_forms_are_proved(rt: HostRuntime) -> Result<(), Memory> {
+    let alloc = rt.alloc();
+    for (module, query, written) in [
+        ("forms", "r", "answer 1\nanswer 2\nno more answers\n"),
+        ("forms", "q", "answer 1\nno more answers\n"),
+        (
+            "forms",
+            "p X",
+            "answer 1\n  X = _1\nanswer 2\n  X = a\nno more answers\n",
+        ),
+        (
+            "calls",
+            "q (p X ; p b)",
+            "answer 1\n  X = a\nanswer 2\n  X = b\nanswer 3\n  X = _1\nno more answers\n",
+        ),
+        (
+            "calls",
+            "q (sigma y\\ (p y, true))",
+            "answer 1\nanswer 2\nno more answers\n",
+        ),
+        ("calls", "q (pi y\\ X = f y)", "no more answers\n"),
+        (
+            "calls",
+            "s a => (s b => s X)",
+            "answer 1\n  X = b\nanswer 2\n  X = a\nno more answers\n",
+        ),
+        (
+            "calls",
+            "p X, !",
+            "answer 1\n  X = a\nno more answers; some were cut away\n",
+        ),
+        (
+            "once",
+            "one X ; one X",
+            "answer 1\n  X = a\nanswer 2\n  X = a\nno more answers; some were cut away\n",
+        ),
+        ("e", "pi x\\ (x => x)", "answer 1\nno more answers\n"),
+        ("e", "1 < 2, 2 >= 2", "answer 1\nno more answers\n"),
+        ("e", "2 < 1", "no more answers\n"),
+        (
+            "e",
+            "X is 2 + 3 * 4",
+            "answer 1\n  X = 14\nno more answers\n",
+        ),
+    ] {
+        check(&rt, alloc, &["solve", module, query], Status::Done, written)?;
+    }
+    Ok(())
+}
+
+#[test]
+fn terms_are_unified_and_shown(rt: HostRuntime) -> Result<(), Memory> {
+    let alloc = rt.alloc();
+    for (module, query, shown) in [
+        ("fun", "pi x\\ sigma y\\ X = f y y", "  X = f _1 _1\n"),
+        (
+            "fun",
+            "pi x\\ pi y\\ pi z\\ f (F x y) a = f (F x z) a",
+            "  F = x1\\ x2\\ _1 x1\n",
+        ),
+        (
+            "fun",
+            "pi x\\ F (y\\ x y) = f (x a) a",
+            "  F = x1\\ f (x1 a) a\n",
+        ),
+        ("fun", "F a = a, F = (x\\ x)", "  F = x1\\ x1\n"),
+        (
+            "fun",
+            "pi x\\ X = f (Y x) a",
+            "  X = f _1 a\n  Y = x1\\ _1\n",
+        ),
+        ("shown", "F = (x\\ y\\ f x1 y)", "  F = x2\\ f x1\n"),
+        ("shown", "X = (no no (a up))", "  X = no no (a up)\n"),
+        ("shown", "X = ((g a) up)", "  X = g a up\n"),
+        ("shown", "X = f (g a) (no a)", "  X = f (g a) (no a)\n"),
+        ("shown", "X = h (y\\ y up)", "  X = h (x2\\ x2 up)\n"),
+        ("e", "X = 1 + 2 - (3 - ~ 4)", "  X = 1 + 2 - (3 - ~ 4)\n"),
+        ("e", "X = (1 :: nil) :: nil", "  X = (1 :: nil) :: nil\n"),
+        (
+            "e",
+            "X = \"a\\\"b\\\\\\n\\t!\"",
+            "  X = \"a\\\"b\\\\\\n\\t!\"\n",
+        ),
+        ("e", "X = (+)", "  X = (+)\n"),
+    ] {
+        let mut written = String::from_str(alloc, "answer 1\n")?;
+        written.push_str(shown)?;
+        written.push_str("no more answers\n")?;
+        check(
+            &rt,
+            alloc,
+            &["solve", module, query],
+            Status::Done,
+            written.as_str(),
+        )?;
+    }
+    Ok(())
+}
+
+#[test]
+fn a_reversal_takes_so_many_steps(rt: HostRuntime) -> Result<(), Memory> {
+    let alloc = rt.alloc();
+    for (steps, status, written) in [
+        (
+            "--steps=15",
+            Status::Done,
+            "answer 1\n  X = 4 :: 3 :: 2 :: 1 :: nil\nno more answers\n",
+        ),
+        ("--steps=14", Status::Steps, "stopped: steps\n"),
+    ] {
+        check(
+            &rt,
+            alloc,
+            &["solve", "rev", "rev [1, 2, 3, 4] X", steps],
+            status,
+            written,
+        )?;
+    }
+    Ok(())
+}
