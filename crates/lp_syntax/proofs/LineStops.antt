@@ -15,7 +15,7 @@ use Rattle.lp_syntax.proofs.Tokens.{class_same}
 use Rattle.lp_syntax.proofs.TypeFaults.{Compared, less, same, more, compared}
 use Rattle.lp_syntax.proofs.Lines.{line_up}
 
-same_keyword : {k m : Keyword} → class.Keyword k ≡ class.Keyword m → k ≡ m
+pub same_keyword : {k m : Keyword} → class.Keyword k ≡ class.Keyword m → k ≡ m
 same_keyword e = cc
 
 same_goes : {q r : TypeState} → Goes q ≡ Goes r → q ≡ r

@@ -1,6 +1,7 @@
 -- The tokens of a declaration are one declaration.
 use Rattle.std.proofs.Common.{◌≡◌, ◌≢◌, ℕ, zero, suc, ◌+◌, ◌<◌, Bool, true, false, List, [], ◌∷◌, ◌++◌, length, refl, sym, ap, ◌∙◌, subst, arith}
 use Rattle.std.specs.Prelude.{Some, None, ℤ}
+use Rattle.lp_lemmas.proofs.Lists.{cons_equal}
 use Rattle.lp_syntax.specs.declared.class.Keyword.{Keyword}
 use Rattle.lp_syntax.specs.declared.class.Keyword.TheVariants as keyword
 use Rattle.lp_syntax.specs.declared.class.Class.{Class}
@@ -255,16 +256,13 @@ same_line ls i j k l m a b =
     same_word : {k m : Keyword} → class.Keyword k ≡ class.Keyword m → k ≡ m
     same_word e = cc
 
-two_lists : {l m : Line} {ls ms : List Line} → l ≡ m → ls ≡ ms → l ∷ ls ≡ m ∷ ms
-two_lists e f = λ i. e i ∷ f i
-
 same_lines : (ls : List Lexeme) (i j i' j' : ℕ) (ds es : List Line) → i ≡ i' → j ≡ j' → AreLines ls i j ds → AreLines ls i' j' es → ds ≡ es
 same_lines ls i j i' j' ds es p q (no_line _) (no_line _) = refl
 same_lines ls i j i' j' ds es p q (no_line _) (one_line _ k _ d rest h y t) = let u = lines_grow ls k j' rest t in let z = line_longer ls i' k (line_runs_of ls i' k d h) in absurd (omega (arith, u, z, p, q))
 same_lines ls i j i' j' ds es p q (one_line _ k _ d rest h y t) (no_line _) = let u = lines_grow ls k j rest t in let z = line_longer ls i k (line_runs_of ls i k d h) in absurd (omega (arith, u, z, p, q))
 same_lines ls i j i' j' ds es p q (one_line _ k _ d rest h y t) (one_line _ k' _ d' rest' h' y' t') =
     let s = same_line ls i k k' d d' h (subst (λ z. IsLine ls z k' d') (sym p) h') in
-    two_lists s.line (same_lines ls k j k' j' rest rest' s.ends q t t')
+    cons_equal _ _ _ _ s.line (same_lines ls k j k' j' rest rest' s.ends q t t')
 
 pub one_signature : (ls : List Lexeme) (ds es : List Line) → IsSignature ls ds → IsSignature ls es → ds ≡ es
 one_signature ls ds es a b = same_lines ls 3 (length ls) 3 (length ls) ds es refl refl a.lines b.lines

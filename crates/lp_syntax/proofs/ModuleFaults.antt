@@ -1,6 +1,7 @@
 -- Where a sentence of a module has its fault.
-use Rattle.std.proofs.Common.{◌≡◌, ℕ, suc, ◌+◌, ◌<◌, ◌≤◌, inl, inr, List, [], ◌∷◌, length, refl, sym, ap, ◌∙◌, subst, arith}
-use Rattle.std.specs.Prelude.{Option, Some, None, Result, Ok, Err, IfOk, IfErr}
+use Rattle.std.proofs.Common.{◌≡◌, ℕ, suc, ◌+◌, ◌<◌, inl, inr, List, [], ◌∷◌, length, refl, sym, ap, ◌∙◌, subst, arith}
+use Rattle.std.specs.Prelude.{Some}
+use Rattle.lp_syntax.proofs.Referring.{agree_self}
 use Rattle.lp_base.specs.declared.place.Spot.{Spot}
 use Rattle.lp_syntax.specs.declared.class.Keyword.{Keyword}
 use Rattle.lp_syntax.specs.declared.class.Class.TheVariants as class
@@ -29,9 +30,6 @@ use Rattle.lp_syntax.proofs.QueryFaults.{over_dot}
 use Rattle.lp_syntax.proofs.LineOpen.{stops_up}
 use Rattle.lp_syntax.proofs.LineStops.{dot_token}
 use Rattle.lp_syntax.proofs.SignatureFaults.{line_runs_of, finished, no_line_there}
-
-agree_self : (n : ℕ) (ls : List Lexeme) → n ≤ length ls → Agree n ls ls
-agree_self n ls l = record { long = l; same = λ i h. refl }
 
 -- no term begins with a keyword
 keyword_symbol : (ops : Operators) (ls : List Lexeme) (i : ℕ) (k : Keyword) → class_at ls i ≡ class.Keyword k → symbol_at ops ls i ≡ Other

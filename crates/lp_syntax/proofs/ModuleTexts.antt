@@ -1,5 +1,6 @@
 -- Where the header of a text is that of no module.
 use Rattle.std.proofs.Common.{◌≡◌, ℕ, suc, ◌≤◌, List, [], ◌∷◌, length, refl, sym, ◌∙◌, subst, arith, codes}
+use Rattle.lp_syntax.proofs.Referring.{agree_self}
 use Rattle.lp_base.specs.declared.place.Spot.{Spot}
 use Rattle.lp_syntax.specs.declared.class.Keyword.TheVariants as keyword
 use Rattle.lp_syntax.specs.declared.fault.SyntaxFault.{SyntaxFault}
@@ -13,9 +14,6 @@ use Rattle.lp_syntax.proofs.LineStops.{line_same, word_token, is_module_token, l
 use Rattle.lp_syntax.proofs.LineEnds.{CanEnd, line_ends, to_end}
 use Rattle.lp_syntax.proofs.SignatureFaults.{no_line_there, header_runs, header_sound}
 use Rattle.lp_syntax.proofs.SignatureTexts.{in_header}
-
-agree_self : (n : ℕ) (ls : List Lexeme) → n ≤ length ls → Agree n ls ls
-agree_self n ls l = record { long = l; same = λ i h. refl }
 
 header_begins : (ops : Operators) (ls text : List Lexeme) (n : ℕ) → Agree n ls text → LineRuns text (AtHeader keyword.Module) 0 AtEnd (length text) → ModuleBegins ops ls n
 header_begins ops ls text n a d =

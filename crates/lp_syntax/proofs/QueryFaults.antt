@@ -4,10 +4,11 @@ use Rattle.lp_base.specs.declared.place.Spot.{Spot}
 use Rattle.lp_syntax.specs.declared.class.Class.TheVariants.{Dot}
 use Rattle.lp_syntax.specs.declared.fault.SyntaxFault.{SyntaxFault}
 use Rattle.std.specs.Prelude.{None, Result, Ok, Err, IfOk, IfErr, IsErrAnd}
+use Rattle.lp_syntax.proofs.Referring.{agree_self}
 use Rattle.lp_syntax.specs.Faults.{refused, innermost}
 use Rattle.lp_syntax.specs.Symbols.{Tree}
 use Rattle.lp_syntax.proofs.Classes.{class_there, refused_there}
-use Rattle.lp_syntax.specs.Tokens.{Lexeme, Operators, class_at, open_brackets, Agree}
+use Rattle.lp_syntax.specs.Tokens.{Lexeme, Operators, class_at, open_brackets}
 use Rattle.lp_syntax.specs.Terms.{TermAt, CanGoOn, NoneOver, StopsAt, IsKind, TermFault, MemoryOr}
 use Rattle.lp_syntax.specs.TermViews.{IsOver}
 use Rattle.lp_syntax.specs.Depth.{TermFits, TermTooDeep}
@@ -45,9 +46,6 @@ stops_first ops ls n s l b = go b.query.rest
     go : (b.query.end ≡ length b.text) ⊎ ((class_at b.text b.query.end ≡ Dot) × (suc b.query.end ≡ length b.text)) → ⊥
     go (inl e) = let h = b.agrees.long in s.first b.text b.agrees b.query.end b.tree (omega (arith, e, h)) b.query.term
     go (inr e) = at_dot e.0 (compared n b.query.end) e.1
-
-agree_self : (n : ℕ) (ls : List Lexeme) → n ≤ length ls → Agree n ls ls
-agree_self n ls l = record { long = l; same = λ i h. refl }
 
 stops_none : (ops : Operators) (ls : List Lexeme) (n : ℕ) → StopsAt ops ls 0 n → (t : Tree) → IsQuery ops ls t → ⊥
 stops_none ops ls n s t q = go (compared n q.end)

@@ -2,6 +2,7 @@
 use Rattle.std.proofs.Common.{arith, ◌<◌, ◌≡◌, ◌≢◌, ℕ, ◌+◌, ◌≤◌, ◌⊎◌, inl, inr, true, false, List, [], ◌∷◌, ◌++◌, length, map, refl, sym, ap, ◌∙◌, append_assoc, append-nil}
 use Rattle.std.specs.Prelude.{Some, None, Result, Ok, Err, OnOk}
 use Rattle.std.proofs.lemmas.List.{map-append}
+use Rattle.lp_syntax.proofs.LineStops.{same_keyword}
 use Rattle.lp_base.specs.declared.place.Spot.{Spot}
 use Rattle.lp_syntax.specs.declared.class.Keyword.{Keyword}
 use Rattle.lp_syntax.specs.declared.class.Class.TheVariants as class
@@ -40,17 +41,14 @@ refers_no_type (AccumulateLine ns) a b = omega (arith, b)
 refers_no_type (AccumSigLine ns) a b = omega (arith, b)
 refers_no_type (FixityLine ns f n) a b = omega (arith, b)
 
-same_word : {k m : Keyword} → class.Keyword k ≡ class.Keyword m → k ≡ m
-same_word e = cc
-
 -- no sentence of these kinds
 pub no_keyword : (ls : List Lexeme) (i : ℕ) → ((k : Keyword) → class_at ls i ≡ class.Keyword k → ⊥) → NoReference ls i
 no_keyword ls i n j l h r = n h.word h.there
 
 pub other_keyword : (ls : List Lexeme) (i : ℕ) (k : Keyword) → class_at ls i ≡ class.Keyword k → refers_word k ≡ false → NoReference ls i
-other_keyword ls i k e f j l h r = let z : true ≡ false = sym r ∙ refers_by_word ls h.word (i + 1) j l h.body ∙ ap refers_word (same_word (sym h.there ∙ e)) ∙ f in cc
+other_keyword ls i k e f j l h r = let z : true ≡ false = sym r ∙ refers_by_word ls h.word (i + 1) j l h.body ∙ ap refers_word (same_keyword (sym h.there ∙ e)) ∙ f in cc
 
-agree_self : (n : ℕ) (ls : List Lexeme) → n ≤ length ls → Agree n ls ls
+pub agree_self : (n : ℕ) (ls : List Lexeme) → n ≤ length ls → Agree n ls ls
 agree_self n ls l = record { long = l; same = λ i h. refl }
 
 pub refused_reference : (spot : ℕ → Spot) (ls : List Lexeme) (i : ℕ) (k : Keyword) (f : SyntaxFault) → class_at ls i ≡ class.Keyword k → refers_word k ≡ true → f ≢ fault.Memory → MemoryOr f (IsTooDeep ls k (i + 1) f ⊎ StopsIn spot ls AtStart i f) → NoReference ls i

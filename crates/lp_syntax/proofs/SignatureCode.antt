@@ -2,6 +2,8 @@
 use Rattle.std.proofs.Common.{◌≡◌, ◌≢◌, ℕ, ◌+◌, ◌<◌, ◌≤◌, ◌⊎◌, inl, inr, true, false, List, [], ◌∷◌, ◌++◌, length, refl, sym, ap, ◌∙◌, subst, arith}
 use Rattle.std.proofs.lemmas.List.Elements.{All-nil, All-push, All-head, All-tail}
 use Rattle.std.specs.Prelude.{All, None, Result, Ok, Err, IfOk, IfErr}
+use Rattle.lp_syntax.proofs.Referring.{agree_self}
+use Rattle.lp_syntax.proofs.LineStops.{same_keyword}
 use Rattle.lp_base.specs.declared.place.Spot.{Spot}
 use Rattle.lp_base.specs.declared.limit.Limit.TheVariants.{Nesting}
 use Rattle.lp_syntax.specs.declared.class.Keyword.{Keyword}
@@ -13,7 +15,7 @@ use Rattle.lp_syntax.specs.declared.fault.SyntaxFault.TheVariants as fault
 use Rattle.lp_syntax.specs.declared.text.Declaration.{Declaration}
 use Rattle.lp_syntax.specs.declared.text.SignatureText.{SignatureText}
 use Rattle.lp_syntax.specs.Faults.{refused}
-use Rattle.lp_syntax.specs.Tokens.{Lexeme, class_at, Agree}
+use Rattle.lp_syntax.specs.Tokens.{Lexeme, class_at}
 use Rattle.lp_syntax.specs.Terms.{MemoryOr}
 use Rattle.lp_syntax.specs.Declarations.{is_word, Line, IsBody, IsShown, IsDeclared, line_depth, LineFits}
 use Rattle.lp_syntax.specs.LineMachine.{LineState, AtHeader, AtWord, AtHeaderDot, AtStart, LineStep, header, header_word, header_dot, LineRuns, stays, StopsIn, IsTooDeep}
@@ -25,10 +27,6 @@ use Rattle.lp_syntax.proofs.LineParts.{start_refused}
 use Rattle.lp_syntax.proofs.SignatureFaults.{local_by_word, lines_on, no_line_there, line_runs_of, header_runs}
 use Rattle.lp_syntax.proofs.LineUnique.{one_signature, same_line}
 use Rattle.lp_syntax.proofs.SignatureTexts.{line_fault, local_fault, header_fault}
-
--- lines that are too deep
-agree_self : (n : ℕ) (ls : List Lexeme) → n ≤ length ls → Agree n ls ls
-agree_self n ls l = record { long = l; same = λ i h. refl }
 
 -- lines from one token on are the same as far as both go
 lines_meet : (ls : List Lexeme) (i j k m : ℕ) (ds es : List Line) (l : Line) → AreLines ls i j ds → AreLines ls i k es → IsLine ls k m l → is_local l ≡ false → ((n : ℕ) (d : Line) → IsLine ls j n d → is_local d ≡ false → ⊥) → All LineFits ds → LineFits l
@@ -76,14 +74,11 @@ header_dot_stops spot ls k f e w d l h = stops_here spot ls (AtHeader k) AtHeade
 pub line_given : (spot : ℕ → Spot) (ls : List Lexeme) (i j : ℕ) (k : Keyword) (d : Declaration) → class_at ls i ≡ class.Keyword k → is_local_word k ≡ false → IsDeclared spot ls k (i + 1) j d → IsLineText spot ls i j d
 line_given spot ls i j k d e s h = record { line = h.line; is = record { word = k; there = e; body = h.body }; shared = local_by_word ls k (i + 1) j h.line h.body ∙ s; shown = h.shown; fits = h.fits }
 
-same_word : {k m : Keyword} → class.Keyword k ≡ class.Keyword m → k ≡ m
-same_word e = cc
-
 no_local_line : (ls : List Lexeme) (i : ℕ) (k : Keyword) → class_at ls i ≡ class.Keyword k → is_local_word k ≡ true → (n : ℕ) (d : Line) → IsLine ls i n d → is_local d ≡ false → ⊥
-no_local_line ls i k e y n d h s = let z : true ≡ false = sym y ∙ ap is_local_word (same_word (sym e ∙ h.there)) ∙ sym (local_by_word ls h.word (i + 1) n d h.body) ∙ s in cc
+no_local_line ls i k e y n d h s = let z : true ≡ false = sym y ∙ ap is_local_word (same_keyword (sym e ∙ h.there)) ∙ sym (local_by_word ls h.word (i + 1) n d h.body) ∙ s in cc
 
 shared_by : (ls : List Lexeme) (i : ℕ) (k : Keyword) → class_at ls i ≡ class.Keyword k → is_local_word k ≡ false → IsShared ls i
-shared_by ls i k e s = λ m f. ap is_local_word (same_word (sym f ∙ e)) ∙ s
+shared_by ls i k e s = λ m f. ap is_local_word (same_keyword (sym f ∙ e)) ∙ s
 
 pub line_refused : {T : Type 0} (spot : ℕ → Spot) (ls : List Lexeme) (i : ℕ) (k : Keyword) (r : Result T SyntaxFault) → class_at ls i ≡ class.Keyword k → is_local_word k ≡ false → IfErr r (λ f. MemoryOr f (IsTooDeep ls k (i + 1) f ⊎ StopsIn spot ls AtStart i f)) → IfErr r (IsLineRefusal spot ls i)
 line_refused spot ls i k (Ok x) e s h = tt

@@ -9,7 +9,7 @@ use Rattle.lp_syntax.specs.Signatures.{IsShared, IsHeader, IsLine, is_local, is_
 use Rattle.lp_syntax.proofs.Tokens.{class_same, going_on}
 use Rattle.lp_syntax.proofs.Lines.{line_on, line_up, one_step, body_runs, body_starts, first_state}
 use Rattle.lp_syntax.proofs.LineSound.{LineAt, LineReads, reads_start, reads_commas, reads_names, reads_front, reads_kind, reads_abbreviation, reads_bracket, reads_parameters, reads_type, reads_number, reads_line, line_reads, line_sound}
-use Rattle.lp_syntax.proofs.LineStops.{never_ends, one_end, line_same}
+use Rattle.lp_syntax.proofs.LineStops.{never_ends, one_end, line_same, same_keyword}
 use Rattle.lp_syntax.proofs.LineEnds.{CanEnd, line_ends, to_end}
 
 -- a declaration in any text is read
@@ -67,11 +67,8 @@ local_by_word ls k i e l (accumulate _ j _ ns a z) = refl
 local_by_word ls k i e l (accum_sig _ j _ ns a z) = refl
 local_by_word ls k i e l (fixities _ j _ n f ns a y z) = refl
 
-same_word : {k m : Keyword} → class.Keyword k ≡ class.Keyword m → k ≡ m
-same_word e = cc
-
 line_shared : (ls : List Lexeme) (i j : ℕ) (d : Line) → IsLine ls i j d → is_local d ≡ false → IsShared ls i
-line_shared ls i j d h e = λ k y. ap is_local_word (same_word (sym y ∙ h.there)) ∙ sym (local_by_word ls h.word (i + 1) j d h.body) ∙ e
+line_shared ls i j d h e = λ k y. ap is_local_word (same_keyword (sym y ∙ h.there)) ∙ sym (local_by_word ls h.word (i + 1) j d h.body) ∙ e
 
 pub line_runs_of : (ls : List Lexeme) (i j : ℕ) (d : Line) → IsLine ls i j d → LineRuns ls AtStart i AtEnd j
 line_runs_of ls i j d h = line_run ls i j h.word d h.there h.body

@@ -1,6 +1,7 @@
 -- Where a text is no signature.
 use Rattle.std.proofs.Common.{◌≡◌, ℕ, suc, ◌+◌, ◌<◌, ◌≤◌, true, false, List, [], ◌∷◌, ◌++◌, length, refl, sym, ap, ◌∙◌, subst, arith, codes}
 use Rattle.std.specs.Prelude.{None}
+use Rattle.lp_syntax.proofs.Referring.{agree_self}
 use Rattle.lp_base.specs.declared.place.Spot.{Spot}
 use Rattle.lp_syntax.specs.declared.class.Keyword.{Keyword}
 use Rattle.lp_syntax.specs.declared.class.Keyword.TheVariants as keyword
@@ -32,9 +33,6 @@ all_closed ls at n ds h t l =
     let u = lines_grow ls 3 at ds t in
     open_from ls 0 3 n (omega arith) (omega (arith, u, l)) (line_closed ls (AtHeader keyword.Sig) AtEnd 0 3 (header_runs ls keyword.Sig h) refl refl)
     ∙ open_from ls 3 at n u l (lines_closed ls 3 at ds t)
-
-agree_self : (n : ℕ) (ls : List Lexeme) → n ≤ length ls → Agree n ls ls
-agree_self n ls l = record { long = l; same = λ i h. refl }
 
 -- these lines, and those behind them in a text that begins so
 begins_with : (ls : List Lexeme) (at n : ℕ) (ds : List Line) → IsHeader ls keyword.Sig → AreLines ls 3 at ds → at ≤ n → (text : List Lexeme) → Agree n ls text → (es : List Line) → AreLines text at (length text) es → SignatureBegins ls n

@@ -1,6 +1,7 @@
 -- The grammar of declarations, from behind their keyword up to behind their full stop: their trees, whose words are the numbers of
 -- tokens, and what is handed out of them.
 use Rattle.std.specs.Prelude.{◌≡◌, ℕ, ◌+◌, ◌-◌, ◌^◌, ◌≤◌, min, Bool, true, false, nat_lt, List, [], ◌∷◌, ◌++◌, map, Option, Some, None, ℤ, pos, negsuc, if◌then◌else◌}
+use Rattle.lp_base.specs.declared.limits.TheConstants.{MAX_TYPE_DEPTH}
 use Rattle.lp_base.specs.declared.place.Spot.{Spot}
 use Rattle.lp_standard.specs.declared.fixity.Fixity.{Fixity}
 use Rattle.lp_syntax.specs.declared.class.Keyword.{Keyword}
@@ -117,7 +118,7 @@ line_depth (AbbreviationLine n ns t) = type_depth t
 line_depth _ = 0
 
 abbrev pub LineFits : Line → Type 0
-LineFits l = line_depth l ≤ 255
+LineFits l = line_depth l ≤ MAX_TYPE_DEPTH
 
 -- the spots of numbers of which this holds
 pub record Spotted (spot : ℕ → Spot) (Holds : List ℕ → Type 0) (ss : List Spot) : Type 0 where

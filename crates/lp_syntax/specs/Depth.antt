@@ -1,6 +1,7 @@
 -- How deep the trees of terms and of types are. A leaf is 1 deep; a head with its arguments, however many, is one level above them; an
 -- abstraction is one level above its body. So a list of n names is n + 1 deep, since each tail is an argument of the item before it.
 use Rattle.std.specs.Prelude.{◌≡◌, ℕ, suc, ◌+◌, ◌-◌, ◌^◌, ◌<◌, ◌≤◌, max, min, Bool, true, false, List, length, get_or, Option, Some, None}
+use Rattle.lp_base.specs.declared.limits.TheConstants.{MAX_TERM_DEPTH}
 use Rattle.lp_base.specs.declared.place.Spot.{Spot}
 use Rattle.lp_syntax.specs.declared.class.Class.TheVariants.{Backslash}
 use Rattle.lp_syntax.specs.declared.text.RawNode.{RawNode}
@@ -40,10 +41,10 @@ pub data HasDepth (ls : List Lexeme) : Tree → ℕ → Type 0 where
 
 -- the term of a sentence or of a query is at most 2,000 deep
 abbrev pub TermFits : List Lexeme → Tree → Type 0
-TermFits ls t = (n : ℕ) × HasDepth ls t n × (n ≤ 2000)
+TermFits ls t = (n : ℕ) × HasDepth ls t n × (n ≤ MAX_TERM_DEPTH)
 
 abbrev pub TermTooDeep : List Lexeme → Tree → Type 0
-TermTooDeep ls t = (n : ℕ) × HasDepth ls t n × (2000 < n)
+TermTooDeep ls t = (n : ℕ) × HasDepth ls t n × (MAX_TERM_DEPTH < n)
 
 -- what is counted, in 64 bits, as far as they go
 abbrev pub counted : ℕ → ℕ

@@ -3,6 +3,7 @@ use Rattle.std.specs.Prelude.{◌≡◌, ℕ, ◌+◌, ◌<◌, ◌≤◌, Bool,
 use Rattle.lp_base.specs.declared.place.Spot.{Spot}
 use Rattle.lp_standard.specs.declared.fixity.Fixity.{Fixity}
 use Rattle.std.specs.Prelude.{ℤ, length}
+use Rattle.lp_base.specs.declared.limits.TheConstants.{MAX_TYPE_DEPTH}
 use Rattle.lp_syntax.specs.declared.class.Keyword.{Keyword}
 use Rattle.lp_syntax.specs.declared.class.Keyword.TheVariants as keyword
 use Rattle.lp_syntax.specs.declared.class.Class.{Class}
@@ -119,4 +120,4 @@ pub record StopsIn (spot : ℕ → Spot) (ls : List Lexeme) (s : LineState) (i :
 
 -- a declaration is refused for the depth of its type
 abbrev pub IsTooDeep : List Lexeme → Keyword → ℕ → SyntaxFault → Type 0
-IsTooDeep ls k i f = (f ≡ fault.Limit Nesting) × ((j : ℕ) × (l : Line) × IsBody ls k i j l × (255 < line_depth l))
+IsTooDeep ls k i f = (f ≡ fault.Limit Nesting) × ((j : ℕ) × (l : Line) × IsBody ls k i j l × (MAX_TYPE_DEPTH < line_depth l))

@@ -12,6 +12,7 @@ use Rattle.lp_syntax.specs.declared.class.Class.TheVariants as class
 use Rattle.lp_syntax.specs.declared.fault.SyntaxFault.{SyntaxFault}
 use Rattle.lp_syntax.specs.declared.fault.SyntaxFault.TheVariants as fault
 use Rattle.std.specs.Prelude.{take, slice_get}
+use Rattle.lp_base.specs.declared.limits.TheConstants.{MAX_TYPE_DEPTH}
 use Rattle.lp_syntax.specs.declared.text.Declaration.{Declaration}
 use Rattle.lp_syntax.specs.declared.text.Declaration.TheVariants as declaration
 use Rattle.lp_syntax.specs.declared.text.Sentence.{Sentence}
@@ -36,7 +37,7 @@ ClauseFits ls (Declared l) = LineFits l
 ClauseFits ls (Said t) = TermFits ls t
 
 abbrev pub ClauseTooDeep : List Lexeme → Clause → Type 0
-ClauseTooDeep ls (Declared l) = 255 < line_depth l
+ClauseTooDeep ls (Declared l) = MAX_TYPE_DEPTH < line_depth l
 ClauseTooDeep ls (Said t) = TermTooDeep ls t
 
 -- a declaration, or a term with a full stop

@@ -12,6 +12,7 @@ use Rattle.lp_syntax.specs.declared.text.SignatureText.{SignatureText}
 use Rattle.lp_syntax.specs.Tokens.{Lexeme, class_at, open_brackets, Agree}
 use Rattle.lp_syntax.specs.Faults.{refused, innermost}
 use Rattle.std.specs.Prelude.{None}
+use Rattle.lp_base.specs.declared.limits.TheConstants.{MAX_TYPE_DEPTH}
 use Rattle.lp_syntax.specs.LineMachine.{AtStart, StopsIn}
 use Rattle.lp_syntax.specs.Declarations.{is_word, Line, LocalKindLine, LocalLine, AccumulateLine, IsBody, IsShown, line_depth, LineFits}
 
@@ -90,7 +91,7 @@ pub record HasDeepLine (ls : List Lexeme) : Type 0 where
   pub line : Line
   pub is : IsLine ls from to line
   pub shared : is_local line ≡ false
-  pub deep : 255 < line_depth line
+  pub deep : MAX_TYPE_DEPTH < line_depth line
 
 -- why a text is refused: want of memory, a line whose type is too deep, or no signature, where no line before the fault is too deep
 abbrev pub IsSignatureRefusal : (ℕ → Spot) → List Lexeme → SyntaxFault → Type 0
@@ -119,7 +120,7 @@ IsShared ls i = (k : Keyword) → class_at ls i ≡ class.Keyword k → is_local
 
 -- why a line is refused
 abbrev pub IsDeepLine : List Lexeme → ℕ → SyntaxFault → Type 0
-IsDeepLine ls i f = (f ≡ fault.Limit Nesting) × ((j : ℕ) × (l : Line) × IsLine ls i j l × (is_local l ≡ false) × (255 < line_depth l))
+IsDeepLine ls i f = (f ≡ fault.Limit Nesting) × ((j : ℕ) × (l : Line) × IsLine ls i j l × (is_local l ≡ false) × (MAX_TYPE_DEPTH < line_depth l))
 
 abbrev pub IsLocalThere : (ℕ → Spot) → List Lexeme → ℕ → SyntaxFault → Type 0
 IsLocalThere spot ls i f = (k : Keyword) × (class_at ls i ≡ class.Keyword k) × (is_local_word k ≡ true) × (f ≡ refused spot i None (class_at ls i))

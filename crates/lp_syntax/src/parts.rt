@@ -8,6 +8,7 @@ ghost use Rattle.lp_syntax.specs.declared.class.Keyword.TheVariants as keyword;
 ghost use Rattle.lp_syntax.specs.declared.class.Class.TheVariants as class;
 ghost use Rattle.lp_syntax.specs.Tokens.{lexemes, class_at, spot_at};
 ghost use Rattle.lp_base.specs.declared.place.Spot.{Spot as Place};
+ghost use Rattle.lp_base.specs.declared.limits.TheConstants.{MAX_TYPE_DEPTH};
 ghost use Rattle.lp_syntax.specs.Types.{TypeTree};
 ghost use Rattle.lp_syntax.specs.Depth.{type_depth, counted};
 ghost use Rattle.lp_syntax.specs.TypeMachine.{Ends};
@@ -22,11 +23,8 @@ use crate::fault::SyntaxFault;
 use crate::input::Input;
 use crate::text::RawType;
 use crate::types::{TypeEnd, read_type};
-use lp_base::{Limit, Spot};
+use lp_base::{Limit, MAX_TYPE_DEPTH, Spot};
 use std::alloc::Global;
-
-// How deep a declared type may be.
-const TYPE_DEPTH: usize = 255;
 
 /// A type of a declaration, which is refused where it is too deep, directly behind its sentence.
 #[derive(Drop)]
@@ -38,11 +36,11 @@ pub struct TypeText {
 impl TypeText {
     pub fn within(self) -> Result<RawType, SyntaxFault>
         ensures text { IfOk result (λ ty. ty ≡ self.text) }
-        ensures fits { IfOk result (λ ty. self.depth ≤ 255) }
+        ensures fits { IfOk result (λ ty. self.depth ≤ MAX_TYPE_DEPTH) }
         ensures limit { IfErr result (λ f. f ≡ fault.Limit Nesting) }
-        ensures deep { IfErr result (λ f. 255 < self.depth) }
+        ensures deep { IfErr result (λ f. MAX_TYPE_DEPTH < self.depth) }
     {
-        if self.depth > TYPE_DEPTH {
+        if self.depth > MAX_TYPE_DEPTH {
             return Err(SyntaxFault::Limit(Limit::Nesting));
         }
         Ok(self.text)

@@ -2,6 +2,7 @@
 ghost use Rattle.std.specs.Prelude.{◌≡◌, ◌≢◌, ◌<◌, ◌≤◌, ◌+◌, length, true, false, None, IfOk, IfErr};
 ghost use Rattle.lp_fixity.specs.Table.{entry_of};
 ghost use Rattle.lp_base.specs.declared.limit.Limit.TheVariants.{Nesting};
+ghost use Rattle.lp_base.specs.declared.limits.TheConstants.{MAX_TERM_DEPTH};
 ghost use Rattle.lp_syntax.specs.declared.class.Class.TheVariants.{Colon, Backslash, Dot};
 ghost use Rattle.lp_syntax.specs.declared.fault.SyntaxFault.TheVariants as fault;
 ghost use Rattle.lp_syntax.specs.Tokens.{lexemes, spot_at, class_at, bytes_at, named, symbol_at};
@@ -22,12 +23,9 @@ use crate::step::step;
 use crate::symbol::{Fault, Oper, Sym};
 use crate::text::RawTerm;
 use crate::types::{TypeEnd, read_type};
-use lp_base::Limit;
+use lp_base::{Limit, MAX_TERM_DEPTH};
 use lp_fixity::Table;
 use std::alloc::Global;
-
-// How deep a term may be.
-const TERM_DEPTH: usize = 2000;
 
 /// A term with its depth, and the number of the token behind it.
 #[derive(Drop)]
@@ -41,11 +39,11 @@ impl TermText {
     // A term is refused directly behind its sentence where it is too deep.
     pub fn within(self) -> Result<RawTerm, SyntaxFault>
         ensures term { IfOk result (λ term. term ≡ self.term) }
-        ensures fits { IfOk result (λ term. self.depth ≤ 2000) }
+        ensures fits { IfOk result (λ term. self.depth ≤ MAX_TERM_DEPTH) }
         ensures limit { IfErr result (λ f. f ≡ fault.Limit Nesting) }
-        ensures deep { IfErr result (λ f. 2000 < self.depth) }
+        ensures deep { IfErr result (λ f. MAX_TERM_DEPTH < self.depth) }
     {
-        if self.depth > TERM_DEPTH {
+        if self.depth > MAX_TERM_DEPTH {
             return Err(SyntaxFault::Limit(Limit::Nesting));
         }
         Ok(self.term)
