@@ -1,4 +1,4 @@
--- Terms that are closed at a level, and positive terms.
+-- Terms that are closed at a level.
 use Rattle.std.specs.Prelude.{◌≡◌, ℕ, ◌≤◌, List, [], ◌∷◌}
 use Rattle.lp_calculus.specs.Types.{Ty, Tys, var, param as type_param, con, arrow, no_types, types}
 use Rattle.lp_calculus.specs.Term.{Term, Atom, index, atom, abs, app, constant, integer, text, eigen, logic, param}
@@ -39,16 +39,3 @@ AllAtoms P (index i) = Unit {0}
 AllAtoms P (atom a) = P a
 AllAtoms P (abs b) = AllAtoms P b
 AllAtoms P (app t u) = AllAtoms P t × AllAtoms P u
-
--- none of the constants 2, 3 and 7: `=>`, `:-` and `!`
-abbrev pub IsPositiveAtom : Atom → Type 0
-IsPositiveAtom (constant c ts) = (c ≡ 2 → ⊥) × (c ≡ 3 → ⊥) × (c ≡ 7 → ⊥)
-IsPositiveAtom (integer z) = Unit {0}
-IsPositiveAtom (text s) = Unit {0}
-IsPositiveAtom (eigen k) = Unit {0}
-IsPositiveAtom (logic x l) = Unit {0}
-IsPositiveAtom (param k t) = Unit {0}
-
--- a term without the constants of implication and cut
-abbrev pub IsPositive : Term → Type 0
-IsPositive t = AllAtoms IsPositiveAtom t

@@ -4,7 +4,8 @@ use Rattle.std.proofs.lemmas.List.{drop_more}
 use Rattle.lp_calculus.specs.Term.{Term, atom, app, apply, constant, logic}
 use Rattle.lp_calculus.specs.Fill as fill
 use Rattle.lp_model.specs.Index.{instantiate}
-use Rattle.lp_model.specs.Spine.{arguments_and, arguments, constant_of_head}
+use Rattle.lp_calculus.specs.Spine.{arguments_and, arguments}
+use Rattle.lp_model.specs.Spine.{constant_of_head}
 use Rattle.lp_model.specs.HornSearch.{renamed, vars_from}
 use Rattle.lp_horn_search.specs.declared.atom.Slot.{Slot}
 use Rattle.lp_horn_search.specs.declared.atom.Value.{Value}

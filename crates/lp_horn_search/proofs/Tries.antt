@@ -5,7 +5,8 @@ use Rattle.std.proofs.lemmas.Bool.{eq-eqb}
 use Rattle.std.proofs.lemmas.List.{drop-map, drop_more}
 use Rattle.std.proofs.lemmas.Option.{get_or_from_slice_get}
 use Rattle.lp_calculus.specs.Fill as fill
-use Rattle.lp_model.specs.Spine.{same_name, constant_of_head, arguments}
+use Rattle.lp_calculus.specs.Spine.{arguments}
+use Rattle.lp_model.specs.Spine.{same_name, constant_of_head}
 use Rattle.lp_model.specs.Horn as model
 use Rattle.lp_model.specs.HornUnify.{unify}
 use Rattle.lp_model.specs.HornSearch.{TaskOf, Go, Try, by_number, is_candidate, resolve, resumed, renamed}

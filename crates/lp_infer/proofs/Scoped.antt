@@ -15,7 +15,7 @@ use Rattle.lp_sig.specs.Pieces.{spelled, begins_variable}
 use Rattle.lp_sig.specs.Places.{first_place}
 use Rattle.lp_sig.specs.Rows.{found, kind_row, number_row, abbreviation_row}
 use Rattle.lp_sig.specs.Standard.{standard_kinds, standard_constants}
-use Rattle.lp_model.specs.Schemes.{standard_schemes, entry}
+use Rattle.lp_standard.specs.Schemes.{standard_schemes, entry}
 use Rattle.lp_term.specs.Nodes.{type_tree}
 use Rattle.lp_infer.specs.Typing.{Raw, raw_index, raw_constant, raw_integer, raw_text}
 use Rattle.lp_infer.specs.Texts.{Notes, is_blank, variable_index, string_bytes, constant_scheme, variable_type, abbreviated_type, kind_type, word_type, Means, word, function, AllMean, no_parts, more_parts, IsNoted, Read, read_constant, read_number, read_variable, read_free, read_bound, read_name, read_leaf, Reads, leaf, application, abstraction}

@@ -2,7 +2,7 @@
 use Rattle.std.proofs.Common.{◌≡◌, ℕ, zero, suc, ◌+◌, ◌-◌, ◌<◌, ◌≤◌, refl, ap, ◌∙◌, arith}
 use Rattle.lp_calculus.specs.Types.{Ty, arrow, instance}
 use Rattle.lp_calculus.specs.Typing.{o_type, int_type, string_type, list_type}
-use Rattle.lp_model.specs.Schemes.{standard_schemes, entry, on_two}
+use Rattle.lp_standard.specs.Schemes.{standard_schemes, entry, on_two}
 use Rattle.lp_infer.specs.Postfix.{scheme_or}
 
 abbrev at : (ℕ → Ty) → ℕ → Ty

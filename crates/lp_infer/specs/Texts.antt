@@ -14,7 +14,7 @@ use Rattle.lp_syntax.specs.declared.text.RawTypeNode.{RawTypeNode}
 use Rattle.lp_syntax.specs.declared.text.RawTypeNode.TheVariants.{Word, Arrow}
 use Rattle.lp_syntax.specs.declared.text.RawTerm.{RawTerm}
 use Rattle.lp_syntax.specs.RawTypes.{AreBelow}
-use Rattle.lp_model.specs.Schemes.{standard_schemes, entry}
+use Rattle.lp_standard.specs.Schemes.{standard_schemes, entry}
 use Rattle.lp_sig.specs.declared.signature.Signature.{Signature}
 use Rattle.lp_sig.specs.declared.entries.ConstantEntry.{ConstantEntry}
 use Rattle.lp_sig.specs.Pieces.{spelled, begins_variable}

@@ -3,7 +3,7 @@ ghost use Rattle.std.specs.Prelude.{◌≡◌, ℕ, suc, ◌+◌, ◌-◌, ◌<�
 ghost use Rattle.lp_calculus.specs.Types.{Ty, con, tys, var};
 ghost use Rattle.lp_calculus.specs.Typing.{Scheme};
 ghost use Rattle.lp_term.specs.Nodes.{type_tree};
-ghost use Rattle.lp_model.specs.Schemes.{standard_schemes, entry};
+ghost use Rattle.lp_standard.specs.Schemes.{standard_schemes, entry};
 ghost use Rattle.lp_infer.specs.Postfix.{is_index, is_constant, opens, closes, applies, scheme_or, mark, given_type, IsGivenKnown, IsStep};
 ghost use Rattle.lp_infer.specs.Running.{act, run, pushed};
 ghost use Rattle.lp_infer.specs.Copies.{AreTypes, IsType};

@@ -4,7 +4,7 @@ ghost use Rattle.indexmap.specs.IndexMap.{get};
 ghost use Rattle.lp_calculus.specs.Types.{Ty, con, arrow, tys, instance as put_in};
 ghost use Rattle.lp_calculus.specs.Typing.{type_at, o_type, int_type, string_type, list_type};
 ghost use Rattle.lp_term.specs.Nodes.{Extends, type_tree};
-ghost use Rattle.lp_model.specs.Schemes.{standard_schemes, entry, on_two as twice};
+ghost use Rattle.lp_standard.specs.Schemes.{standard_schemes, entry, on_two as twice};
 ghost use Rattle.lp_infer.specs.Postfix.{scheme_or};
 ghost use Rattle.lp_infer.specs.Copies.{trees_of, AreTypes, IsType, IsFilling, IsMemo};
 

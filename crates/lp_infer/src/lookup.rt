@@ -1,7 +1,7 @@
 // A text with its names looked up.
 ghost use Rattle.std.specs.Prelude.{◌≡◌, ℕ, List, [], ◌∷◌, ◌++◌, map, reverse, IfOk, OnOk, Option, Some, length};
 ghost use Rattle.lp_calculus.specs.Typing.{Scheme};
-ghost use Rattle.lp_model.specs.Schemes.{standard_schemes, entry};
+ghost use Rattle.lp_standard.specs.Schemes.{standard_schemes, entry};
 ghost use Rattle.lp_sig.specs.Pieces.{spelled, begins_variable};
 ghost use Rattle.lp_sig.specs.Places.{first_place};
 ghost use Rattle.lp_infer.specs.Typing.{raw_integer};

@@ -9,12 +9,12 @@ use Rattle.lp_calculus.proofs.Steps.{converts_sym}
 use Rattle.lp_calculus.proofs.Subject.{typed_shift}
 use Rattle.lp_calculus.proofs.Fills.{within_shift}
 use Rattle.lp_model.specs.Index.{instantiate}
-use Rattle.lp_model.specs.Spine.{head_of}
+use Rattle.lp_calculus.specs.Spine.{head_of}
 use Rattle.lp_model.specs.Faithful.{EachOf}
-use Rattle.lp_model.specs.Standard.{truth, two, pi_of, body_of}
+use Rattle.lp_standard.specs.Connectives.{truth, two, pi_of, body_of}
 use Rattle.lp_model.specs.Flat.{Goals, no_goals, goals, Clause, clause, Clauses, no_clauses, clauses, add_clauses, all_of, formula_of_goals, formula_of_clause, formula_of_clauses}
 use Rattle.lp_model.specs.Flatten.{ClauseFormula}
-use Rattle.lp_model.specs.Schemes.{IsStandard}
+use Rattle.lp_standard.specs.Schemes.{IsStandard}
 use Rattle.lp_model.specs.Proofs.{Declared, under, IsWitness, IsAtomHead, FAll, FTake, FNeed, Provable, Focusable}
 use Rattle.lp_laws.proofs.Formulas.{quantified, at_witness}
 use Rattle.lp_laws.proofs.Openings.{cons, IsOpen, Fits, open_formula, fits_cons, abs_at, body_at, past_shift, open_two, open_parts, open_function, open_body, open_quantified}

@@ -7,12 +7,12 @@ use Rattle.lp_calculus.specs.Typing.{Typed, o_type, scheme_type}
 use Rattle.lp_calculus.specs.Closed.{IsClosedType, IsClosedAt}
 use Rattle.lp_calculus.proofs.Steps.{converts_sym}
 use Rattle.lp_model.specs.Index.{instantiate}
-use Rattle.lp_model.specs.Standard.{truth, cut, two, pi_of, sigma_of, body_of}
+use Rattle.lp_standard.specs.Connectives.{truth, cut, two, pi_of, sigma_of, body_of}
 use Rattle.lp_model.specs.Flat.{Goal, Atomic, Cut, Either, Exists, Forall, Assume, Goals, no_goals, goals, Clause, clause, Clauses, no_clauses, clauses, under_all, map_goal, map_goals, map_clause, map_clauses, same_type, raise_goals, all_of, formula_of_goal, formula_of_goals, formula_of_clause, formula_of_clauses}
 use Rattle.lp_model.specs.Flatten.{ClauseFormula}
-use Rattle.lp_model.specs.Schemes.{IsStandard}
+use Rattle.lp_standard.specs.Schemes.{IsStandard}
 use Rattle.lp_model.specs.Proofs.{Declared, under, IsAtomHead, assumed, True, And, Left, Right, Witness, All, Assume as assuming, Provable, Focusable}
-use Rattle.lp_model.specs.Spine.{head_of}
+use Rattle.lp_calculus.specs.Spine.{head_of}
 use Rattle.lp_laws.proofs.Formulas.{quantified, at_witness, at_eigen, last_type}
 use Rattle.lp_laws.proofs.Openings.{cons, IsOpen, Fits, open_formula, closed_open, fits_cons, fits_more, abs_at, body_at, past_shift, open_two, open_function, open_body, open_quantified}
 use Rattle.lp_laws.proofs.Roots.{connective, sigma_type, pi_type}

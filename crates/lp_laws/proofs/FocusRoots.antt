@@ -6,10 +6,10 @@ use Rattle.lp_calculus.specs.Term.{Term, index, atom, abs, app, apply, Atom, con
 use Rattle.lp_calculus.specs.Convert.{Converts, same}
 use Rattle.lp_calculus.proofs.Steps.{converts_on, converts_sym, converts_app}
 use Rattle.lp_calculus.proofs.Rigid.{heads_joint}
-use Rattle.lp_model.specs.Spine.{head_of, arguments}
-use Rattle.lp_model.specs.Standard.{truth, two, pi_of}
+use Rattle.lp_calculus.specs.Spine.{head_of, arguments}
+use Rattle.lp_standard.specs.Connectives.{truth, two, pi_of}
 use Rattle.lp_model.specs.Flatten.{ClauseFormula}
-use Rattle.lp_model.specs.Schemes.{IsStandard}
+use Rattle.lp_standard.specs.Schemes.{IsStandard}
 use Rattle.lp_model.specs.Proofs.{Declared, IsFormula, IsWitness, IsAtomHead, IsImplication, Focus, FConv, FAll, FTake, FNeed, FHit, focuses, Provable, Focusable, Conv}
 use Rattle.lp_laws.proofs.Forms.{apply_arguments}
 use Rattle.lp_laws.proofs.Formulas.{parts, quantified}

@@ -8,7 +8,7 @@ use Rattle.lp_calculus.specs.Instance.{instance_atom, instance_term}
 use Rattle.lp_calculus.specs.Closed.{AreClosed, IsClosedType, AreClosedTypes, IsClosedAtom, IsClosedAt}
 use Rattle.lp_calculus.proofs.Fills.{fill_none, within_more}
 use Rattle.lp_calculus.proofs.Commutations.{instance_fill}
-use Rattle.lp_model.specs.Standard.{two}
+use Rattle.lp_standard.specs.Connectives.{two}
 use Rattle.lp_model.specs.Proofs.{Declared, under, IsFormula, IsWitness}
 use Rattle.lp_laws.proofs.Contexts.{get_front}
 

@@ -3,9 +3,9 @@ use Rattle.std.proofs.Common.{◌≡◌, ℕ, suc, ◌≤◌, List, [], ◌∷�
 use Rattle.std.specs.Prelude.{◌⊎◌}
 use Rattle.lp_calculus.specs.Types.{Ty}
 use Rattle.lp_calculus.specs.Term.{Term, atom, app, constant, eigen}
-use Rattle.lp_model.specs.Standard.{two, pi_of, sigma_of}
+use Rattle.lp_standard.specs.Connectives.{two, pi_of, sigma_of}
 use Rattle.lp_model.specs.Flatten.{ClauseFormula}
-use Rattle.lp_model.specs.Schemes.{IsStandard}
+use Rattle.lp_standard.specs.Schemes.{IsStandard}
 use Rattle.lp_model.specs.Proofs.{Declared, IsFormula, IsWitness, assumed, IsArith, Provable, Rooted, trivially, both_sides, left_side, right_side, at_witness, for_all, under_assumption, equally, by_arithmetic, by_clause}
 use Rattle.lp_laws.proofs.Roots.{rooted}
 

@@ -9,7 +9,8 @@ use Rattle.lp_calculus.specs.Term.{Term, index, atom, apply, constant, logic}
 use Rattle.lp_calculus.specs.Typing.{scheme_type, o_type}
 use Rattle.lp_calculus.specs.Fill.{close, Binding, put_all}
 use Rattle.lp_model.specs.Index.{instantiate, at}
-use Rattle.lp_model.specs.Spine.{arguments, constant_of_head, same_name}
+use Rattle.lp_calculus.specs.Spine.{arguments}
+use Rattle.lp_model.specs.Spine.{constant_of_head, same_name}
 use Rattle.lp_model.specs.Faithful.{AnyOf, EachOf, Covers, AreFine, Faithful}
 use Rattle.lp_model.specs.Horn.{Declared, Clause, Query, AreArguments, IsAtom, IsClause, IsValue, AreValues, arrows}
 use Rattle.lp_model.specs.HornProofs.{Proof, Done, Back, proves, Provable}

@@ -7,7 +7,8 @@ use Rattle.lp_calculus.specs.Types.{Ty}
 use Rattle.lp_calculus.specs.Term.{Term, index}
 use Rattle.lp_calculus.specs.Fill.{close, Binding, put_all}
 use Rattle.lp_model.specs.Index.{instantiate, at}
-use Rattle.lp_model.specs.Spine.{arguments, goal_name}
+use Rattle.lp_calculus.specs.Spine.{arguments}
+use Rattle.lp_model.specs.Spine.{goal_name}
 use Rattle.lp_model.specs.Skeleton.{Opens, Takes, run}
 use Rattle.lp_model.specs.Faithful.{AnyOf, EachOf}
 use Rattle.lp_model.specs.Horn.{Declared, Clause, Query, Horn, counted, IsAtom, IsClause, IsQuery, AreValues}

@@ -4,7 +4,7 @@ use Rattle.lp_calculus.specs.Term.{Term}
 use Rattle.lp_calculus.specs.Fill.{Binding}
 use Rattle.lp_model.specs.declared.ending.Ending.{Ending}
 use Rattle.lp_model.specs.Skeleton.{run}
-use Rattle.lp_model.specs.Spine.{arguments}
+use Rattle.lp_calculus.specs.Spine.{arguments}
 use Rattle.lp_model.specs.Faithful.{total, OpensLighter, Falls}
 use Rattle.lp_model.specs.Horn.{ClauseOf, QueryOf}
 use Rattle.lp_model.specs.HornUnify.{unify}

@@ -6,8 +6,11 @@ use Rattle.lp_calculus.specs.Term.{Term, index, atom, abs, app, apply, constant,
 use Rattle.lp_calculus.specs.Fill.{fill, at_variables, close, Binding, put, put_all}
 use Rattle.lp_calculus.specs.Closed.{AreClosed}
 use Rattle.lp_model.specs.Index.{instantiate, at}
-use Rattle.lp_model.specs.Spine.{arguments, arguments_and, constant_of_head}
-use Rattle.lp_model.specs.Horn.{Declared, IsSimple, IsArgument, AreArguments, IsAtom, IsValue, AreValues, first_declared}
+use Rattle.lp_calculus.specs.Spine.{arguments, arguments_and}
+use Rattle.lp_standard.proofs.Positives.{declared_is_positive}
+use Rattle.lp_standard.specs.Constants.{first_declared}
+use Rattle.lp_model.specs.Spine.{constant_of_head}
+use Rattle.lp_model.specs.Horn.{Declared, IsSimple, IsArgument, AreArguments, IsAtom, IsValue, AreValues}
 use Rattle.lp_model.specs.HornSearch.{renamed}
 use Rattle.lp_model.specs.HornRight.{Closes}
 use Rattle.lp_laws.proofs.Contexts.{get_front, get_back}
@@ -78,7 +81,7 @@ constant_value d V C c us T h =
     record {
       typed = h.typed;
       closed = subst (λ (vs : List Ty). AreClosed vs) (sym e) tt;
-      positive = (λ q. let p : c ≡ 2 = q in omega arith, λ q. let p : c ≡ 3 = q in omega arith, λ q. let p : c ≡ 7 = q in omega arith);
+      positive = declared_is_positive c l;
     }
 
 -- s and r agree on the variables of V

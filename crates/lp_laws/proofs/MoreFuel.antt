@@ -9,7 +9,7 @@ use Rattle.lp_calculus.specs.Normal.{eta_normal}
 use Rattle.lp_model.specs.declared.ending.Ending.{Ending}
 use Rattle.lp_model.specs.declared.ending.Ending.TheVariants.{Deep}
 use Rattle.lp_model.specs.Skeleton.{GoalName, View, Opens, Takes, Halts, State, Move, Goes, Tells, Stops, Told, move_view, move_at, told_after, run}
-use Rattle.lp_model.specs.Spine.{head_of, arguments}
+use Rattle.lp_calculus.specs.Spine.{head_of, arguments}
 use Rattle.lp_model.specs.Eigens.{beta_normal}
 use Rattle.lp_model.specs.Look.{head_normal}
 use Rattle.lp_model.specs.Types.{TypePair, TypeOutcome, none, solved, solve_types}
@@ -17,7 +17,8 @@ use Rattle.lp_model.specs.Pair.{Pair}
 use Rattle.lp_model.specs.Rule.{rule, type_pairs}
 use Rattle.lp_model.specs.Unify.{Turn, Goes as UGoes, Fails, Solved, judged, turn_on, turn, Unified, Fail, Solution, Spent, limited, unify, begun, go_on, solve, unit_limit}
 use Rattle.lp_model.specs.Unify as unification
-use Rattle.lp_model.specs.Standard.{Form, Truth, Cutting, Both, OneOf, Implies, Every, Exist, Plain, form_of}
+use Rattle.lp_standard.specs.Connectives.{Connective, connective_of}
+use Rattle.lp_standard.specs.Connectives as connective
 use Rattle.lp_model.specs.Flat.{Goal, Atomic, Cut, Either, Exists, Forall, Assume, Goals, Clause, clause, goal_list, instantiate_goals, type_goals}
 use Rattle.lp_model.specs.Values.{Outcome, Is, Faults, Number, Bytes, value, evaluate, term_of}
 use Rattle.lp_model.specs.Branch.{Entry, Branch, Answer, Task, Go, Try, Stop, entries}
@@ -161,19 +162,20 @@ atom_more n m l P height e b t (index i) = same_look refl
 atom_more n m l P height e b t (abs u) = same_look refl
 atom_more n m l P height e b t (app f u) = same_look refl
 
-form_more : (n m : ℕ) → n ≤ m → (P : List Clause) (height : ℕ) (e : Entry) (b : Branch) (t : Term) (f : Form) → Fewer (look_form n P height e b t f) (look_form m P height e b t f)
-form_more n m l P height e b t Truth = same_look refl
-form_more n m l P height e b t Cutting = same_look refl
-form_more n m l P height e b t (Both x y) = same_look refl
-form_more n m l P height e b t (OneOf x y) = same_look refl
-form_more n m l P height e b t (Implies x y) = same_look refl
-form_more n m l P height e b t (Every T x) = same_look refl
-form_more n m l P height e b t (Exist T x) = same_look refl
-form_more n m l P height e b t Plain = atom_more n m l P height e b t (head_of t)
+form_more : (n m : ℕ) → n ≤ m → (P : List Clause) (height : ℕ) (e : Entry) (b : Branch) (t : Term) (f : Connective) → Fewer (look_form n P height e b t f) (look_form m P height e b t f)
+form_more n m l P height e b t connective.True = same_look refl
+form_more n m l P height e b t connective.Cut = same_look refl
+form_more n m l P height e b t (connective.And x y) = same_look refl
+form_more n m l P height e b t (connective.Or x y) = same_look refl
+form_more n m l P height e b t (connective.Implies x y) = same_look refl
+form_more n m l P height e b t (connective.ForAll T x) = same_look refl
+form_more n m l P height e b t (connective.Exists T x) = same_look refl
+form_more n m l P height e b t (connective.Not g) = same_look refl
+form_more n m l P height e b t connective.Atomic = atom_more n m l P height e b t (head_of t)
 
 normal_more : (n m : ℕ) → n ≤ m → (P : List Clause) (height : ℕ) (e : Entry) (b : Branch) (o o' : Option Term) → Below o o' → Fewer (look_normal n P height e b o) (look_normal m P height e b o')
 normal_more n m l P height e b None o' h = halts refl
-normal_more n m l P height e b (Some t) o' h = subst (λ z. Fewer (look_normal n P height e b (Some t)) (look_normal m P height e b z)) (sym (h t refl)) (form_more n m l P height e b t (form_of t))
+normal_more n m l P height e b (Some t) o' h = subst (λ z. Fewer (look_normal n P height e b (Some t)) (look_normal m P height e b z)) (sym (h t refl)) (form_more n m l P height e b t (connective_of t))
 
 goal_more : (n m : ℕ) → n ≤ m → (P : List Clause) (height : ℕ) (e : Entry) (b : Branch) (g : Goal) → Fewer (look_goal n P height e b g) (look_goal m P height e b g)
 goal_more n m l P height e b (Atomic t) = normal_more n m l P height e b (head_normal n t) (head_normal m t) (head_normal_more n m l t)

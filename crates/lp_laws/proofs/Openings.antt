@@ -15,7 +15,7 @@ use Rattle.lp_calculus.proofs.Fills.{within_subst, within_more, within_shift}
 use Rattle.lp_calculus.proofs.Subject.{typed_subst, typed_shift}
 use Rattle.lp_calculus.proofs.Steps.{converts_is}
 use Rattle.lp_model.specs.Index.{lifted, instantiate}
-use Rattle.lp_model.specs.Standard.{two, body_of}
+use Rattle.lp_standard.specs.Connectives.{two, body_of}
 use Rattle.lp_model.specs.Proofs.{Declared, under, IsFormula}
 use Rattle.lp_laws.proofs.Formulas.{typed_more, atom_more, closed_atom_more, typed_eigens, closed_eigens}
 

@@ -4,7 +4,7 @@ use Rattle.lp_calculus.specs.Types.{arrow}
 use Rattle.lp_calculus.specs.Term.{Term, index, atom, abs, eigen}
 use Rattle.lp_calculus.specs.Convert.{same, back, here, by_beta}
 use Rattle.lp_calculus.specs.Typing.{Scheme, o_type}
-use Rattle.lp_model.specs.Standard.{pi_of}
+use Rattle.lp_standard.specs.Connectives.{pi_of}
 use Rattle.lp_model.specs.Proofs.{Declared, IsFormula, Conv, All, Assume, Back, FHit, Provable}
 use Rattle.lp_laws.proofs.Worked.{kind, on, impl, plain_type}
 

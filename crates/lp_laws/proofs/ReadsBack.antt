@@ -10,7 +10,7 @@ use Rattle.lp_calculus.proofs.Sigma.{subst-index}
 use Rattle.lp_model.specs.Index.{instantiate}
 use Rattle.lp_model.specs.Flat.{Goals, no_goals, Clauses, formula_of_goals, formula_of_clauses}
 use Rattle.lp_model.specs.Flatten.{ClauseFormula, flat_goal, flat_clause}
-use Rattle.lp_model.specs.Schemes.{IsStandard}
+use Rattle.lp_standard.specs.Schemes.{IsStandard}
 use Rattle.lp_model.specs.Proofs.{Declared, IsFormula, IsSentence, assumed, Provable, Focusable}
 use Rattle.lp_laws.proofs.Openings.{instantiate_subst, IsOpen, Fits, closed_open}
 use Rattle.lp_laws.proofs.Assumptions.{Focuses, replaced_assumption, replaced_clause}

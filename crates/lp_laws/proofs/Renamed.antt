@@ -8,11 +8,12 @@ use Rattle.lp_calculus.specs.Convert.{Converts, done, then_step, ReducesTo}
 use Rattle.lp_calculus.specs.Typing.{Typed, atom_type, o_type}
 use Rattle.lp_calculus.specs.Fill.{Within}
 use Rattle.lp_calculus.specs.Instance.{instance_atom, instance_term}
-use Rattle.lp_calculus.specs.Closed.{AllAtoms, IsClosedAtom, IsClosedAt, IsPositiveAtom}
+use Rattle.lp_calculus.specs.Closed.{AllAtoms, IsClosedAtom, IsClosedAt}
+use Rattle.lp_standard.specs.Positive.{IsPositiveAtom}
 use Rattle.lp_calculus.proofs.Steps.{step_fill, converts_fill}
 use Rattle.lp_calculus.proofs.Fills.{within_fill}
 use Rattle.lp_calculus.proofs.Subject.{typed_fill}
-use Rattle.lp_model.specs.Spine.{head_of}
+use Rattle.lp_calculus.specs.Spine.{head_of}
 use Rattle.lp_model.specs.Values.{Value, Outcome, Is, Faults, both, single, value, is_two_place, is_one_place, HasValue}
 use Rattle.lp_model.specs.declared.ending.Fault.TheVariants.{NotClosed}
 use Rattle.lp_model.specs.Proofs.{Declared, under, IsFormula, IsWitness, IsAtomHead}

@@ -10,11 +10,11 @@ use Rattle.lp_calculus.specs.Typing.{o_type, scheme_type}
 use Rattle.lp_calculus.proofs.BetaEta.{conversion_meets}
 use Rattle.lp_calculus.proofs.Steps.{converts_on, converts_sym, converts_app, converts_reduces}
 use Rattle.lp_calculus.proofs.Rigid.{heads_joint}
-use Rattle.lp_model.specs.Spine.{head_of, arguments}
-use Rattle.lp_model.specs.Standard.{two}
+use Rattle.lp_calculus.specs.Spine.{head_of, arguments}
+use Rattle.lp_standard.specs.Connectives.{two}
 use Rattle.lp_model.specs.Flatten.{ClauseFormula}
 use Rattle.lp_model.specs.Values.{Value, HasValue}
-use Rattle.lp_model.specs.Schemes.{IsStandard}
+use Rattle.lp_standard.specs.Schemes.{IsStandard}
 use Rattle.lp_model.specs.Proofs.{Declared, IsFormula, Proof, Conv, True, And, Left, Right, Witness, All, Assume, Equal, Arith, Back, Focus, FConv, FAll, FTake, FNeed, FHit, IsAtomHead, IsArith, assumed, proves, focuses, Provable, Focusable, Rooted, trivially, both_sides, left_side, right_side, at_witness, for_all, under_assumption, equally, by_arithmetic, by_clause}
 use Rattle.lp_laws.proofs.Formulas.{parts, quantified, at_eigen}
 use Rattle.lp_laws.proofs.Formulas as formulas

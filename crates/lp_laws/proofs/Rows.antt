@@ -7,7 +7,7 @@ use Rattle.lp_model.specs.declared.ending.Ending.TheVariants.{NoMore, NoMoreCut,
 use Rattle.lp_model.specs.declared.ending.Fault.TheVariants.{Overflow, ZeroDivisor, NotClosed}
 use Rattle.lp_model.specs.Skeleton.{GoalNote, BackNote, AnswerNote, named}
 use Rattle.std.specs.Prelude.{pos, neg_ℤ}
-use Rattle.lp_model.specs.Standard.{two, pi_of, sigma_of}
+use Rattle.lp_standard.specs.Connectives.{two, pi_of, sigma_of}
 use Rattle.lp_model.specs.Flatten.{ClauseFormula}
 use Rattle.lp_laws.proofs.Worked.{known, kind, on, on2, conj, impl, plain_type, declares, fact, told, values, residues}
 

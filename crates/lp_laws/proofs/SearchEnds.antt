@@ -4,8 +4,9 @@ use Rattle.lp_calculus.specs.Term.{Term}
 use Rattle.lp_model.specs.declared.ending.Ending.{Ending}
 use Rattle.lp_model.specs.Skeleton.{State, run, View}
 use Rattle.lp_model.specs.Faithful.{total, OpensLighter, Falls}
-use Rattle.lp_model.specs.Spine.{head_of, arguments}
-use Rattle.lp_model.specs.Standard.{Form, Truth, Cutting, Both, OneOf, Implies, Every, Exist, Plain, form_of}
+use Rattle.lp_calculus.specs.Spine.{head_of, arguments}
+use Rattle.lp_standard.specs.Connectives.{Connective, connective_of}
+use Rattle.lp_standard.specs.Connectives as connective
 use Rattle.lp_model.specs.Unify.{Unified, Fail, Solution, Spent, solve, unit_limit}
 use Rattle.lp_model.specs.Rule.{type_pairs}
 use Rattle.lp_calculus.specs.Types.{Ty}
@@ -45,21 +46,22 @@ atom_counted n P height e b t (atom (param j u)) k = tt
 atom_counted n P height e b t (abs u) k = tt
 atom_counted n P height e b t (app f a) k = tt
 
-form_counted : (n : ℕ) (P : List Clause) (height : ℕ) (e : Entry) (b : Branch) (t : Term) (f : Form) → Counted (look_form n P height e b t f)
+form_counted : (n : ℕ) (P : List Clause) (height : ℕ) (e : Entry) (b : Branch) (t : Term) (f : Connective) → Counted (look_form n P height e b t f)
 unfolding Counted
-form_counted n P height e b t Truth k = tt
-form_counted n P height e b t Cutting k = tt
-form_counted n P height e b t (Both l r) k = tt
-form_counted n P height e b t (OneOf l r) k = tt
-form_counted n P height e b t (Implies c g) k = tt
-form_counted n P height e b t (Every T s) k = tt
-form_counted n P height e b t (Exist T s) k = tt
-form_counted n P height e b t Plain k = atom_counted n P height e b t (head_of t) k
+form_counted n P height e b t connective.True k = tt
+form_counted n P height e b t connective.Cut k = tt
+form_counted n P height e b t (connective.And l r) k = tt
+form_counted n P height e b t (connective.Or l r) k = tt
+form_counted n P height e b t (connective.Implies c g) k = tt
+form_counted n P height e b t (connective.ForAll T s) k = tt
+form_counted n P height e b t (connective.Exists T s) k = tt
+form_counted n P height e b t (connective.Not g) k = tt
+form_counted n P height e b t connective.Atomic k = atom_counted n P height e b t (head_of t) k
 
 normal_counted : (n : ℕ) (P : List Clause) (height : ℕ) (e : Entry) (b : Branch) (o : Option Term) → Counted (look_normal n P height e b o)
 unfolding Counted
 normal_counted n P height e b None k = tt
-normal_counted n P height e b (Some t) k = form_counted n P height e b t (form_of t) k
+normal_counted n P height e b (Some t) k = form_counted n P height e b t (connective_of t) k
 
 goal_counted : (n : ℕ) (P : List Clause) (height : ℕ) (e : Entry) (b : Branch) (g : Goal) → Counted (look_goal n P height e b g)
 unfolding Counted

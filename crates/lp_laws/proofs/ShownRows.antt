@@ -6,7 +6,7 @@ use Rattle.lp_standard.specs.Operands.{fits_left, fits_right}
 use Rattle.lp_standard.specs.declared.fixity.Fixity.TheVariants.{Postfix, Prefixr}
 use Rattle.lp_calculus.specs.Types.{var}
 use Rattle.lp_calculus.specs.Term.{Term, index, atom, abs, app, constant, integer, text, logic, eigen}
-use Rattle.lp_model.specs.Standard.{two}
+use Rattle.lp_standard.specs.Connectives.{two}
 use Rattle.lp_model.specs.Shown.{Entry, shown_term, shown_answer}
 
 abbrev entry : ℕ → List ℕ → ℕ → Entry

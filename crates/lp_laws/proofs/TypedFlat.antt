@@ -4,9 +4,11 @@ use Rattle.std.specs.Prelude.{◌&&◌, option_map}
 use Rattle.lp_calculus.specs.Types.{Ty, instance}
 use Rattle.lp_calculus.specs.Term.{Term, index, atom, abs, app, constant, integer, text, eigen, logic, param, shift}
 use Rattle.lp_calculus.specs.Instance.{instance_term}
-use Rattle.lp_model.specs.Spine.{head_of, arguments}
+use Rattle.lp_calculus.specs.Spine.{head_of, arguments}
 use Rattle.lp_model.specs.Look.{◌>>=◌}
-use Rattle.lp_model.specs.Standard.{two, pi_of, sigma_of, Form, Truth, Cutting, Both, OneOf, Implies, Every, Exist, Plain, form_of, are_positive}
+use Rattle.lp_standard.specs.Connectives.{two, pi_of, sigma_of, Connective, connective_of}
+use Rattle.lp_standard.specs.Connectives as connective
+use Rattle.lp_standard.specs.Positive.{are_positive}
 use Rattle.lp_model.specs.Flat.{Goal, Atomic, Cut, Either, Exists, Forall, Assume, Goals, no_goals, goals, Clause, clause, Clauses, no_clauses, clauses, add_clauses, map_clauses, raise_goals, type_goal, type_goals, type_clause, all_of, formula_of_goal, formula_of_goals, formula_of_clause, formula_of_clauses}
 use Rattle.lp_model.specs.Flatten.{only, is_goal_head, is_clause_head, flat_goal, flat_goal_form, flat_list, flat_clause, flat_clause_form}
 use Rattle.lp_model.specs.Proofs.{Declared}
@@ -64,23 +66,24 @@ one_clause θ vars h gs = rw (under_stay vars zero) refl
 mutual
   pub flat_goal_typed : (θ : ℕ → Ty) (n : ℕ) (d : Declared) (bs : List Bool) (t : Term) (rest : Goals) → Typed (type_goals θ) (flat_goal n d bs (instance_term θ t) (type_goals θ rest)) (flat_goal n d bs t rest)
   flat_goal_typed θ zero d bs t rest = refl
-  flat_goal_typed θ (suc n) d bs t rest = rw (form_typed θ t) (flat_goal_form_typed θ n d bs t (form_of t) rest)
+  flat_goal_typed θ (suc n) d bs t rest = rw (form_typed θ t) (flat_goal_form_typed θ n d bs t (connective_of t) rest)
 
-  flat_goal_form_typed : (θ : ℕ → Ty) (n : ℕ) (d : Declared) (bs : List Bool) (t : Term) (f : Form) (rest : Goals) → Typed (type_goals θ) (flat_goal_form n d bs (instance_term θ t) (type_form θ f) (type_goals θ rest)) (flat_goal_form n d bs t f rest)
+  flat_goal_form_typed : (θ : ℕ → Ty) (n : ℕ) (d : Declared) (bs : List Bool) (t : Term) (f : Connective) (rest : Goals) → Typed (type_goals θ) (flat_goal_form n d bs (instance_term θ t) (type_form θ f) (type_goals θ rest)) (flat_goal_form n d bs t f rest)
   flat_goal_form_typed θ zero d bs t f rest = refl
-  flat_goal_form_typed θ (suc n) d bs t Truth rest = refl
-  flat_goal_form_typed θ (suc n) d bs t Cutting rest = refl
-  flat_goal_form_typed θ (suc n) d bs t (Both a b) rest =
+  flat_goal_form_typed θ (suc n) d bs t connective.True rest = refl
+  flat_goal_form_typed θ (suc n) d bs t connective.Cut rest = refl
+  flat_goal_form_typed θ (suc n) d bs t (connective.And a b) rest =
       typed_then (type_goals θ) (type_goals θ) (flat_goal n d bs (instance_term θ b) (type_goals θ rest)) (flat_goal n d bs b rest) (flat_goal n d bs (instance_term θ a)) (flat_goal n d bs a) (flat_goal_typed θ n d bs b rest) (λ gs. flat_goal_typed θ n d bs a gs)
-  flat_goal_form_typed θ (suc n) d bs t (OneOf a b) rest =
+  flat_goal_form_typed θ (suc n) d bs t (connective.Or a b) rest =
       typed_then (type_goals θ) (type_goals θ) (flat_goal n d bs (instance_term θ a) no_goals) (flat_goal n d bs a no_goals) _ _ (flat_goal_typed θ n d bs a no_goals) (λ l. typed_map (type_goals θ) (type_goals θ) (flat_goal n d bs (instance_term θ b) no_goals) (flat_goal n d bs b no_goals) (λ r. goals (Either (type_goals θ l) r) (type_goals θ rest)) (λ r. goals (Either l r) rest) (flat_goal_typed θ n d bs b no_goals) (λ r. refl))
-  flat_goal_form_typed θ (suc n) d bs t (Implies c g) rest =
+  flat_goal_form_typed θ (suc n) d bs t (connective.Implies c g) rest =
       typed_then (type_clauses θ) (type_goals θ) (flat_clause n d bs (instance_term θ c) [] []) (flat_clause n d bs c [] []) _ _ (flat_clause_typed θ n d bs c [] []) (λ cs. typed_map (type_goals θ) (type_goals θ) (flat_goal n d bs (instance_term θ g) no_goals) (flat_goal n d bs g no_goals) (λ gs. goals (Assume (type_clauses θ cs) gs) (type_goals θ rest)) (λ gs. goals (Assume cs gs) rest) (flat_goal_typed θ n d bs g no_goals) (λ gs. refl))
-  flat_goal_form_typed θ (suc n) d bs t (Every T b) rest =
+  flat_goal_form_typed θ (suc n) d bs t (connective.ForAll T b) rest =
       typed_map (type_goals θ) (type_goals θ) (flat_goal n d (true ∷ bs) (instance_term θ b) no_goals) (flat_goal n d (true ∷ bs) b no_goals) (λ gs. goals (Forall (instance θ T) gs) (type_goals θ rest)) (λ gs. goals (Forall T gs) rest) (flat_goal_typed θ n d (true ∷ bs) b no_goals) (λ gs. refl)
-  flat_goal_form_typed θ (suc n) d bs t (Exist T b) rest =
+  flat_goal_form_typed θ (suc n) d bs t (connective.Exists T b) rest =
       typed_map (type_goals θ) (type_goals θ) (flat_goal n d (false ∷ bs) (instance_term θ b) (raise_goals 0 (type_goals θ rest))) (flat_goal n d (false ∷ bs) b (raise_goals 0 rest)) (λ gs. goals (Exists (instance θ T) gs) no_goals) (λ gs. goals (Exists T gs) no_goals) (rw (raise_typed θ 0 rest) (flat_goal_typed θ n d (false ∷ bs) b (raise_goals 0 rest))) (λ gs. refl)
-  flat_goal_form_typed θ (suc n) d bs t Plain rest = only_typed (type_goals θ) _ _ (goals (Atomic t) rest) _ (goal_test θ t) refl
+  flat_goal_form_typed θ (suc n) d bs t (connective.Not g) rest = refl
+  flat_goal_form_typed θ (suc n) d bs t connective.Atomic rest = only_typed (type_goals θ) _ _ (goals (Atomic t) rest) _ (goal_test θ t) refl
 
   flat_list_typed : (θ : ℕ → Ty) (n : ℕ) (d : Declared) (bs : List Bool) (ts : List Term) → Typed (type_goals θ) (flat_list n d bs (map (instance_term θ) ts)) (flat_list n d bs ts)
   flat_list_typed θ zero d bs ts = refl
@@ -90,22 +93,23 @@ mutual
 
   pub flat_clause_typed : (θ : ℕ → Ty) (n : ℕ) (d : Declared) (bs : List Bool) (t : Term) (vars : List Ty) (body : List Term) → Typed (type_clauses θ) (flat_clause n d bs (instance_term θ t) (map (instance θ) vars) (map (instance_term θ) body)) (flat_clause n d bs t vars body)
   flat_clause_typed θ zero d bs t vars body = refl
-  flat_clause_typed θ (suc n) d bs t vars body = rw (form_typed θ t) (flat_clause_form_typed θ n d bs t (form_of t) vars body)
+  flat_clause_typed θ (suc n) d bs t vars body = rw (form_typed θ t) (flat_clause_form_typed θ n d bs t (connective_of t) vars body)
 
-  flat_clause_form_typed : (θ : ℕ → Ty) (n : ℕ) (d : Declared) (bs : List Bool) (t : Term) (f : Form) (vars : List Ty) (body : List Term) → Typed (type_clauses θ) (flat_clause_form n d bs (instance_term θ t) (type_form θ f) (map (instance θ) vars) (map (instance_term θ) body)) (flat_clause_form n d bs t f vars body)
+  flat_clause_form_typed : (θ : ℕ → Ty) (n : ℕ) (d : Declared) (bs : List Bool) (t : Term) (f : Connective) (vars : List Ty) (body : List Term) → Typed (type_clauses θ) (flat_clause_form n d bs (instance_term θ t) (type_form θ f) (map (instance θ) vars) (map (instance_term θ) body)) (flat_clause_form n d bs t f vars body)
   flat_clause_form_typed θ zero d bs t f vars body = refl
-  flat_clause_form_typed θ (suc n) d bs t (Both a b) vars body =
+  flat_clause_form_typed θ (suc n) d bs t (connective.And a b) vars body =
       typed_then (type_clauses θ) (type_clauses θ) (flat_clause n d bs (instance_term θ a) (map (instance θ) vars) (map (instance_term θ) body)) (flat_clause n d bs a vars body) _ _ (flat_clause_typed θ n d bs a vars body) (λ l. typed_map (type_clauses θ) (type_clauses θ) (flat_clause n d bs (instance_term θ b) (map (instance θ) vars) (map (instance_term θ) body)) (flat_clause n d bs b vars body) (add_clauses (type_clauses θ l)) (add_clauses l) (flat_clause_typed θ n d bs b vars body) (λ r. add_typed θ l r))
-  flat_clause_form_typed θ (suc n) d bs t (Implies g c) vars body =
+  flat_clause_form_typed θ (suc n) d bs t (connective.Implies g c) vars body =
       rw (maps_typed θ body g) (flat_clause_typed θ n d bs c vars (body ++ g ∷ []))
-  flat_clause_form_typed θ (suc n) d bs t (Every T b) vars body =
+  flat_clause_form_typed θ (suc n) d bs t (connective.ForAll T b) vars body =
       subst (λ z. Typed (type_clauses θ) (flat_clause n d (false ∷ bs) (instance_term θ b) (instance θ T ∷ map (instance θ) vars) z) (flat_clause n d (false ∷ bs) b (T ∷ vars) (map (shift 0 1) body))) (shifts_typed θ body) (flat_clause_typed θ n d (false ∷ bs) b (T ∷ vars) (map (shift 0 1) body))
-  flat_clause_form_typed θ (suc n) d bs t Plain vars body =
+  flat_clause_form_typed θ (suc n) d bs t connective.Atomic vars body =
       typed_then (instance_term θ) (type_clauses θ) _ _ _ _ (only_typed (instance_term θ) _ _ t (instance_term θ t) (clause_test θ d bs t) refl) (λ h. typed_map (type_goals θ) (type_clauses θ) (flat_list n d bs (map (instance_term θ) body)) (flat_list n d bs body) (λ gs. clauses (clause 0 (map (instance θ) vars) (instance_term θ h) gs) no_clauses) (λ gs. clauses (clause 0 vars h gs) no_clauses) (flat_list_typed θ n d bs body) (λ gs. one_clause θ vars h gs))
-  flat_clause_form_typed θ (suc n) d bs t Truth vars body = refl
-  flat_clause_form_typed θ (suc n) d bs t Cutting vars body = refl
-  flat_clause_form_typed θ (suc n) d bs t (OneOf a b) vars body = refl
-  flat_clause_form_typed θ (suc n) d bs t (Exist T b) vars body = refl
+  flat_clause_form_typed θ (suc n) d bs t connective.True vars body = refl
+  flat_clause_form_typed θ (suc n) d bs t connective.Cut vars body = refl
+  flat_clause_form_typed θ (suc n) d bs t (connective.Or a b) vars body = refl
+  flat_clause_form_typed θ (suc n) d bs t (connective.Exists T b) vars body = refl
+  flat_clause_form_typed θ (suc n) d bs t (connective.Not g) vars body = refl
 
 -- read as formulas
 two_same : (c : ℕ) {t s u v : Term} → t ≡ s → u ≡ v → two c [] t u ≡ two c [] s v

@@ -4,8 +4,10 @@ use Rattle.std.specs.Prelude.{nat_eq, nat_lt, ◌&&◌, if◌then◌else◌}
 use Rattle.lp_calculus.specs.Types.{Ty, instance}
 use Rattle.lp_calculus.specs.Term.{Term, index, atom, abs, app, constant, integer, text, eigen, logic, param, shift, raised}
 use Rattle.lp_calculus.specs.Instance.{instance_term}
-use Rattle.lp_model.specs.Spine.{head_of, arguments, arguments_and}
-use Rattle.lp_model.specs.Standard.{body_of, Form, Truth, Cutting, Both, OneOf, Implies, Every, Exist, Plain, form_of_constant, form_at, form_of, is_positive, are_positive}
+use Rattle.lp_calculus.specs.Spine.{head_of, arguments, arguments_and}
+use Rattle.lp_standard.specs.Connectives.{body_of, Connective, connective_of_constant, connective_at, connective_of}
+use Rattle.lp_standard.specs.Connectives as connective
+use Rattle.lp_standard.specs.Positive.{is_positive, are_positive}
 use Rattle.lp_model.specs.Flat.{Goal, Atomic, Cut, Either, Exists, Forall, Assume, Goals, no_goals, goals, Clause, clause, Clauses, no_clauses, clauses, under_all, map_goal, map_goals, map_clause, map_clauses, same_type, raise_goals, type_goal, type_goals, type_clause}
 use Rattle.lp_model.specs.Flatten.{is_goal_head}
 
@@ -34,15 +36,16 @@ shifts_typed θ (t ∷ ts) =
     cc
 
 -- the form
-abbrev pub type_form : (ℕ → Ty) → Form → Form
-type_form θ Truth = Truth
-type_form θ Cutting = Cutting
-type_form θ (Both a b) = Both (instance_term θ a) (instance_term θ b)
-type_form θ (OneOf a b) = OneOf (instance_term θ a) (instance_term θ b)
-type_form θ (Implies a b) = Implies (instance_term θ a) (instance_term θ b)
-type_form θ (Every T b) = Every (instance θ T) (instance_term θ b)
-type_form θ (Exist T b) = Exist (instance θ T) (instance_term θ b)
-type_form θ Plain = Plain
+abbrev pub type_form : (ℕ → Ty) → Connective → Connective
+type_form θ connective.True = connective.True
+type_form θ connective.Cut = connective.Cut
+type_form θ (connective.And a b) = connective.And (instance_term θ a) (instance_term θ b)
+type_form θ (connective.Or a b) = connective.Or (instance_term θ a) (instance_term θ b)
+type_form θ (connective.Implies a b) = connective.Implies (instance_term θ a) (instance_term θ b)
+type_form θ (connective.ForAll T b) = connective.ForAll (instance θ T) (instance_term θ b)
+type_form θ (connective.Exists T b) = connective.Exists (instance θ T) (instance_term θ b)
+type_form θ (connective.Not g) = connective.Not (instance_term θ g)
+type_form θ connective.Atomic = connective.Atomic
 
 body_typed : (θ : ℕ → Ty) (t : Term) → body_of (instance_term θ t) ≡ instance_term θ (body_of t)
 body_typed θ (index i) = ap (λ z. app z (index 0)) (sym (shift_typed θ 0 1 (index i)))
@@ -50,28 +53,32 @@ body_typed θ (atom a) = refl
 body_typed θ (abs b) = refl
 body_typed θ (app t u) = ap (λ z. app z (index 0)) (sym (shift_typed θ 0 1 (app t u)))
 
-none_typed : (θ : ℕ → Ty) (p q : Bool) → (if p then Truth else (if q then Cutting else Plain)) ≡ type_form θ (if p then Truth else (if q then Cutting else Plain))
+none_typed : (θ : ℕ → Ty) (p q : Bool) → (if p then connective.True else (if q then connective.Cut else connective.Atomic)) ≡ type_form θ (if p then connective.True else (if q then connective.Cut else connective.Atomic))
 none_typed θ true q = refl
 none_typed θ false true = refl
 none_typed θ false false = refl
 
-one_typed : (θ : ℕ → Ty) (p q : Bool) (T : Ty) (a : Term) → (if p then Every (instance θ T) (body_of (instance_term θ a)) else (if q then Exist (instance θ T) (body_of (instance_term θ a)) else Plain)) ≡ type_form θ (if p then Every T (body_of a) else (if q then Exist T (body_of a) else Plain))
-one_typed θ true q T a = ap (Every (instance θ T)) (body_typed θ a)
-one_typed θ false true T a = ap (Exist (instance θ T)) (body_typed θ a)
+one_typed : (θ : ℕ → Ty) (p q : Bool) (T : Ty) (a : Term) → (if p then connective.ForAll (instance θ T) (body_of (instance_term θ a)) else (if q then connective.Exists (instance θ T) (body_of (instance_term θ a)) else connective.Atomic)) ≡ type_form θ (if p then connective.ForAll T (body_of a) else (if q then connective.Exists T (body_of a) else connective.Atomic))
+one_typed θ true q T a = ap (connective.ForAll (instance θ T)) (body_typed θ a)
+one_typed θ false true T a = ap (connective.Exists (instance θ T)) (body_typed θ a)
 one_typed θ false false T a = refl
 
-two_typed : (θ : ℕ → Ty) (p q r s : Bool) (a b : Term) → (if p then Both (instance_term θ a) (instance_term θ b) else (if q then OneOf (instance_term θ a) (instance_term θ b) else (if r then Implies (instance_term θ a) (instance_term θ b) else (if s then Implies (instance_term θ b) (instance_term θ a) else Plain)))) ≡ type_form θ (if p then Both a b else (if q then OneOf a b else (if r then Implies a b else (if s then Implies b a else Plain))))
+two_typed : (θ : ℕ → Ty) (p q r s : Bool) (a b : Term) → (if p then connective.And (instance_term θ a) (instance_term θ b) else (if q then connective.Or (instance_term θ a) (instance_term θ b) else (if r then connective.Implies (instance_term θ a) (instance_term θ b) else (if s then connective.Implies (instance_term θ b) (instance_term θ a) else connective.Atomic)))) ≡ type_form θ (if p then connective.And a b else (if q then connective.Or a b else (if r then connective.Implies a b else (if s then connective.Implies b a else connective.Atomic))))
 two_typed θ true q r s a b = refl
 two_typed θ false true r s a b = refl
 two_typed θ false false true s a b = refl
 two_typed θ false false false true a b = refl
 two_typed θ false false false false a b = refl
 
-constant_typed : (θ : ℕ → Ty) (c : ℕ) (ts : List Ty) (us : List Term) → form_of_constant c (map (instance θ) ts) (map (instance_term θ) us) ≡ type_form θ (form_of_constant c ts us)
+not_typed : (θ : ℕ → Ty) (p : Bool) (a : Term) → (if p then connective.Not (instance_term θ a) else connective.Atomic) ≡ type_form θ (if p then connective.Not a else connective.Atomic)
+not_typed θ true a = refl
+not_typed θ false a = refl
+
+constant_typed : (θ : ℕ → Ty) (c : ℕ) (ts : List Ty) (us : List Term) → connective_of_constant c (map (instance θ) ts) (map (instance_term θ) us) ≡ type_form θ (connective_of_constant c ts us)
 constant_typed θ c ts [] = none_typed θ (nat_eq c 6) (nat_eq c 7)
 constant_typed θ c (T ∷ []) (a ∷ []) = one_typed θ (nat_eq c 4) (nat_eq c 5) T a
 constant_typed θ c [] (a ∷ b ∷ []) = two_typed θ (nat_eq c 0) (nat_eq c 1) (nat_eq c 2) (nat_eq c 3) a b
-constant_typed θ c [] (a ∷ []) = refl
+constant_typed θ c [] (a ∷ []) = not_typed θ (nat_eq c 24) a
 constant_typed θ c (T ∷ U ∷ ts) (a ∷ []) = refl
 constant_typed θ c (T ∷ []) (a ∷ b ∷ []) = refl
 constant_typed θ c (T ∷ U ∷ ts) (a ∷ b ∷ []) = refl
@@ -79,7 +86,7 @@ constant_typed θ c [] (a ∷ b ∷ x ∷ us) = refl
 constant_typed θ c (T ∷ []) (a ∷ b ∷ x ∷ us) = refl
 constant_typed θ c (T ∷ U ∷ ts) (a ∷ b ∷ x ∷ us) = refl
 
-at_typed : (θ : ℕ → Ty) (h : Term) (us : List Term) → form_at (instance_term θ h) (map (instance_term θ) us) ≡ type_form θ (form_at h us)
+at_typed : (θ : ℕ → Ty) (h : Term) (us : List Term) → connective_at (instance_term θ h) (map (instance_term θ) us) ≡ type_form θ (connective_at h us)
 at_typed θ (atom (constant c ts)) us = constant_typed θ c ts us
 at_typed θ (atom (integer z)) us = refl
 at_typed θ (atom (text s)) us = refl
@@ -105,9 +112,9 @@ arguments_and_typed θ (app t u) more = arguments_and_typed θ t (u ∷ more)
 pub arguments_typed : (θ : ℕ → Ty) (t : Term) → arguments (instance_term θ t) ≡ map (instance_term θ) (arguments t)
 arguments_typed θ t = arguments_and_typed θ t []
 
-pub form_typed : (θ : ℕ → Ty) (t : Term) → form_of (instance_term θ t) ≡ type_form θ (form_of t)
+pub form_typed : (θ : ℕ → Ty) (t : Term) → connective_of (instance_term θ t) ≡ type_form θ (connective_of t)
 form_typed θ t =
-    ap (λ h. form_at h (arguments (instance_term θ t))) (head_typed θ t) ∙ ap (form_at (instance_term θ (head_of t))) (arguments_typed θ t) ∙ at_typed θ (head_of t) (arguments t)
+    ap (λ h. connective_at h (arguments (instance_term θ t))) (head_typed θ t) ∙ ap (connective_at (instance_term θ (head_of t))) (arguments_typed θ t) ∙ at_typed θ (head_of t) (arguments t)
 
 -- positive terms and heads
 positive_typed : (θ : ℕ → Ty) (t : Term) → is_positive (instance_term θ t) ≡ is_positive t

@@ -5,7 +5,7 @@ use Rattle.lp_calculus.specs.Types.{Ty, con, no_types}
 use Rattle.lp_calculus.specs.Term.{Term, atom, app, constant}
 use Rattle.lp_calculus.specs.Typing.{Scheme}
 use Rattle.lp_model.specs.Skeleton.{Told, run}
-use Rattle.lp_model.specs.Standard.{two}
+use Rattle.lp_standard.specs.Connectives.{two}
 use Rattle.lp_model.specs.Flat.{Clause, Clauses, clause_list, Goals, no_goals}
 use Rattle.lp_model.specs.Flatten.{ClauseFormula, flatten, flatten_query}
 use Rattle.lp_model.specs.Pair.{Pair}

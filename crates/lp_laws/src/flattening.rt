@@ -6,7 +6,7 @@ ghost use Rattle.lp_calculus.specs.Types.{Ty};
 ghost use Rattle.lp_model.specs.Flat.{Clauses, Goals, formula_of_clauses, formula_of_goals, no_goals};
 ghost use Rattle.lp_model.specs.Flatten.{ClauseFormula, flat_clause, flat_goal};
 ghost use Rattle.lp_model.specs.Proofs.{Declared, IsFormula, IsSentence, Provable, assumed};
-ghost use Rattle.lp_model.specs.Schemes.{IsStandard};
+ghost use Rattle.lp_standard.specs.Schemes.{IsStandard};
 
 /// The flattened goals of a closed formula are provable exactly where the formula is.
 pub fn flattened_goals_read_back()

@@ -8,7 +8,7 @@ ghost use Rattle.lp_model.specs.Faithful.{EachOf};
 ghost use Rattle.lp_model.specs.Flatten.{ClauseFormula};
 ghost use Rattle.lp_model.specs.Proofs.{Declared, IsFormula, Provable, Rooted, Stands, assumed};
 ghost use Rattle.lp_model.specs.Renaming.{HasLevel, IsRenaming, renamed, renamed_clause};
-ghost use Rattle.lp_model.specs.Schemes.{IsStandard};
+ghost use Rattle.lp_standard.specs.Schemes.{IsStandard};
 
 /// What is provable stays so with more clauses, in any order.
 pub fn more_clauses_prove_as_much()

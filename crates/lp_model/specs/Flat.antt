@@ -6,7 +6,8 @@ use Rattle.lp_calculus.specs.Term.{Term, abs, shift}
 use Rattle.lp_calculus.specs.Fill.{Binding, put}
 use Rattle.lp_calculus.specs.Instance.{instance_term}
 use Rattle.lp_model.specs.Index.{instantiate, lifted}
-use Rattle.lp_model.specs.Standard.{truth, cut, two, pi_of, sigma_of}
+use Rattle.lp_standard.specs.Numbers as number
+use Rattle.lp_standard.specs.Connectives.{truth, cut, two, pi_of, sigma_of}
 
 mutual
   pub data Goal : Type 0 where
@@ -110,22 +111,22 @@ abbrev mutual
   pub formula_of_goal : Goal → Term
   formula_of_goal (Atomic t) = t
   formula_of_goal Cut = cut
-  formula_of_goal (Either gs hs) = two 1 [] (formula_of_goals gs) (formula_of_goals hs)
+  formula_of_goal (Either gs hs) = two number.Or [] (formula_of_goals gs) (formula_of_goals hs)
   formula_of_goal (Exists T gs) = sigma_of T (abs (formula_of_goals gs))
   formula_of_goal (Forall T gs) = pi_of T (abs (formula_of_goals gs))
-  formula_of_goal (Assume cs gs) = two 2 [] (formula_of_clauses cs) (formula_of_goals gs)
+  formula_of_goal (Assume cs gs) = two number.Implies [] (formula_of_clauses cs) (formula_of_goals gs)
 
   pub formula_of_goals : Goals → Term
   formula_of_goals no_goals = truth
   formula_of_goals (goals g no_goals) = formula_of_goal g
-  formula_of_goals (goals g (goals h gs)) = two 0 [] (formula_of_goal g) (formula_of_goals (goals h gs))
+  formula_of_goals (goals g (goals h gs)) = two number.And [] (formula_of_goal g) (formula_of_goals (goals h gs))
 
   -- a fact is its head
   pub formula_of_clause : Clause → Term
   formula_of_clause (clause n vs h no_goals) = all_of vs h
-  formula_of_clause (clause n vs h (goals g gs)) = all_of vs (two 2 [] (formula_of_goals (goals g gs)) h)
+  formula_of_clause (clause n vs h (goals g gs)) = all_of vs (two number.Implies [] (formula_of_goals (goals g gs)) h)
 
   pub formula_of_clauses : Clauses → Term
   formula_of_clauses no_clauses = truth
   formula_of_clauses (clauses c no_clauses) = formula_of_clause c
-  formula_of_clauses (clauses c (clauses d cs)) = two 0 [] (formula_of_clause c) (formula_of_clauses (clauses d cs))
+  formula_of_clauses (clauses c (clauses d cs)) = two number.And [] (formula_of_clause c) (formula_of_clauses (clauses d cs))

@@ -1,18 +1,17 @@
 -- Goal form, clause form and flattening of a beta-normal formula (Miller, Nadathur, Pfenning and Scedrov 1991: hereditary Harrop
 -- formulas). None where the formula has not the form.
-use Rattle.std.specs.Prelude.{ℕ, zero, suc, nat_le, Bool, true, false, ◌&&◌, List, [], ◌∷◌, ◌++◌, map, Option, Some, None, option_map, slice_index_or}
+use Rattle.std.specs.Prelude.{ℕ, zero, suc, Bool, true, false, ◌&&◌, List, [], ◌∷◌, ◌++◌, map, Option, Some, None, option_map, slice_index_or}
 use Rattle.lp_calculus.specs.Types.{Ty, var, param as type_param, con, arrow}
 use Rattle.lp_calculus.specs.Term.{Term, index, atom, abs, app, shift, constant, integer, text, eigen, logic, param}
 use Rattle.lp_calculus.specs.Typing.{Scheme}
-use Rattle.lp_model.specs.Spine.{head_of, arguments}
+use Rattle.lp_calculus.specs.Spine.{head_of, arguments}
 use Rattle.lp_model.specs.Look.{◌>>=◌}
 use Rattle.lp_model.specs.Eigens.{beta_normal}
-use Rattle.lp_model.specs.Standard.{Form, Truth, Cutting, Both, OneOf, Implies, Every, Exist, Plain, form_of, are_positive}
+use Rattle.lp_standard.specs.Constants.{is_declared}
+use Rattle.lp_standard.specs.Connectives.{Connective, connective_of}
+use Rattle.lp_standard.specs.Connectives as connective
+use Rattle.lp_standard.specs.Positive.{are_positive}
 use Rattle.lp_model.specs.Flat.{Atomic, Cut, Either, Exists, Forall, Assume, Goals, no_goals, goals, clause, Clauses, no_clauses, clauses, add_clauses, raise_goals}
-
--- a standard constant has a number below the first declared one
-abbrev pub is_declared : ℕ → Bool
-is_declared c = nat_le 32 c
 
 -- the declared type ends in `o`
 abbrev pub ends_in_o : Ty → Bool
@@ -59,23 +58,25 @@ is_clause_head d binders (app f a) = false
 abbrev mutual
   pub flat_goal : ℕ → (ℕ → Option Scheme) → (binders : List Bool) → Term → (rest : Goals) → Option Goals
   flat_goal zero d binders t rest = None
-  flat_goal (suc n) d binders t rest = flat_goal_form n d binders t (form_of t) rest
+  flat_goal (suc n) d binders t rest = flat_goal_form n d binders t (connective_of t) rest
 
-  pub flat_goal_form : ℕ → (ℕ → Option Scheme) → (binders : List Bool) → Term → Form → (rest : Goals) → Option Goals
+  pub flat_goal_form : ℕ → (ℕ → Option Scheme) → (binders : List Bool) → Term → Connective → (rest : Goals) → Option Goals
   flat_goal_form zero d binders t f rest = None
-  flat_goal_form (suc n) d binders t Truth rest = Some rest
-  flat_goal_form (suc n) d binders t Cutting rest = Some (goals Cut rest)
-  flat_goal_form (suc n) d binders t (Both a b) rest = flat_goal n d binders b rest >>= flat_goal n d binders a
-  flat_goal_form (suc n) d binders t (OneOf a b) rest =
+  flat_goal_form (suc n) d binders t connective.True rest = Some rest
+  flat_goal_form (suc n) d binders t connective.Cut rest = Some (goals Cut rest)
+  flat_goal_form (suc n) d binders t (connective.And a b) rest = flat_goal n d binders b rest >>= flat_goal n d binders a
+  flat_goal_form (suc n) d binders t (connective.Or a b) rest =
       flat_goal n d binders a no_goals >>= λ l. option_map (λ r. goals (Either l r) rest) (flat_goal n d binders b no_goals)
-  flat_goal_form (suc n) d binders t (Implies c g) rest =
+  flat_goal_form (suc n) d binders t (connective.Implies c g) rest =
       flat_clause n d binders c [] [] >>= λ cs. option_map (λ gs. goals (Assume cs gs) rest) (flat_goal n d binders g no_goals)
-  flat_goal_form (suc n) d binders t (Every T b) rest =
+  flat_goal_form (suc n) d binders t (connective.ForAll T b) rest =
       option_map (λ gs. goals (Forall T gs) rest) (flat_goal n d (true ∷ binders) b no_goals)
   -- takes the goals that follow into its scope
-  flat_goal_form (suc n) d binders t (Exist T b) rest =
+  flat_goal_form (suc n) d binders t (connective.Exists T b) rest =
       option_map (λ gs. goals (Exists T gs) no_goals) (flat_goal n d (false ∷ binders) b (raise_goals 0 rest))
-  flat_goal_form (suc n) d binders t Plain rest = only (is_goal_head (head_of t) && are_positive (arguments t)) (goals (Atomic t) rest)
+  -- `not` is no goal yet
+  flat_goal_form (suc n) d binders t (connective.Not g) rest = None
+  flat_goal_form (suc n) d binders t connective.Atomic rest = only (is_goal_head (head_of t) && are_positive (arguments t)) (goals (Atomic t) rest)
 
   -- the goals of a list of formulas, one behind the other
   pub flat_list : ℕ → (ℕ → Option Scheme) → (binders : List Bool) → List Term → Option Goals
@@ -86,20 +87,21 @@ abbrev mutual
   -- `vars` are the variables so far, innermost first, and `body` the goals so far, the outermost first
   pub flat_clause : ℕ → (ℕ → Option Scheme) → (binders : List Bool) → Term → (vars : List Ty) → (body : List Term) → Option Clauses
   flat_clause zero d binders t vars body = None
-  flat_clause (suc n) d binders t vars body = flat_clause_form n d binders t (form_of t) vars body
+  flat_clause (suc n) d binders t vars body = flat_clause_form n d binders t (connective_of t) vars body
 
-  pub flat_clause_form : ℕ → (ℕ → Option Scheme) → (binders : List Bool) → Term → Form → (vars : List Ty) → (body : List Term) → Option Clauses
+  pub flat_clause_form : ℕ → (ℕ → Option Scheme) → (binders : List Bool) → Term → Connective → (vars : List Ty) → (body : List Term) → Option Clauses
   flat_clause_form zero d binders t f vars body = None
-  flat_clause_form (suc n) d binders t (Both a b) vars body =
+  flat_clause_form (suc n) d binders t (connective.And a b) vars body =
       flat_clause n d binders a vars body >>= λ l. option_map (add_clauses l) (flat_clause n d binders b vars body)
-  flat_clause_form (suc n) d binders t (Implies g c) vars body = flat_clause n d binders c vars (body ++ g ∷ [])
-  flat_clause_form (suc n) d binders t (Every T b) vars body = flat_clause n d (false ∷ binders) b (T ∷ vars) (map (shift 0 1) body)
-  flat_clause_form (suc n) d binders t Plain vars body =
+  flat_clause_form (suc n) d binders t (connective.Implies g c) vars body = flat_clause n d binders c vars (body ++ g ∷ [])
+  flat_clause_form (suc n) d binders t (connective.ForAll T b) vars body = flat_clause n d (false ∷ binders) b (T ∷ vars) (map (shift 0 1) body)
+  flat_clause_form (suc n) d binders t connective.Atomic vars body =
       only (is_clause_head d binders (head_of t) && are_positive (arguments t)) t >>= λ h. option_map (λ gs. clauses (clause 0 vars h gs) no_clauses) (flat_list n d binders body)
-  flat_clause_form (suc n) d binders t Truth vars body = None
-  flat_clause_form (suc n) d binders t Cutting vars body = None
-  flat_clause_form (suc n) d binders t (OneOf a b) vars body = None
-  flat_clause_form (suc n) d binders t (Exist T b) vars body = None
+  flat_clause_form (suc n) d binders t connective.True vars body = None
+  flat_clause_form (suc n) d binders t connective.Cut vars body = None
+  flat_clause_form (suc n) d binders t (connective.Or a b) vars body = None
+  flat_clause_form (suc n) d binders t (connective.Exists T b) vars body = None
+  flat_clause_form (suc n) d binders t (connective.Not g) vars body = None
 
 -- a clause formula of a program, with its count of type variables
 pub record ClauseFormula : Type 0 where

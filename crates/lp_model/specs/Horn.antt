@@ -3,7 +3,9 @@ use Rattle.std.specs.Prelude.{◌≡◌, ℕ, ◌≤◌, nat_eq, if◌then◌els
 use Rattle.lp_calculus.specs.Types.{Ty, arrow}
 use Rattle.lp_calculus.specs.Term.{Term, index, atom, abs, app, apply, constant, integer, text, eigen, logic, param}
 use Rattle.lp_calculus.specs.Typing.{Scheme, Context, Typed, scheme_type, o_type}
-use Rattle.lp_calculus.specs.Closed.{IsClosedAt, IsPositive}
+use Rattle.lp_calculus.specs.Closed.{IsClosedAt}
+use Rattle.lp_standard.specs.Positive.{IsPositive}
+use Rattle.lp_standard.specs.Constants.{first_declared}
 use Rattle.lp_model.specs.Faithful.{EachOf}
 
 -- a flattened clause: its variables are the indices below their number. X says what is kept of them: their types, or only how many they are
@@ -39,10 +41,6 @@ counted_query q = record { vars = length q.vars; goals = q.goals }
 -- the declared type of each constant, by its number
 abbrev pub Declared : Type 0
 Declared = ℕ → Option Scheme
-
--- the numbers of declared constants begin here
-abbrev pub first_declared : ℕ
-first_declared = 32
 
 -- typing where the logic variables, all of level 0, have these types, and there is no eigenconstant
 abbrev pub over : Declared → List Ty → Context

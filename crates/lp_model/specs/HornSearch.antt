@@ -4,7 +4,8 @@ use Rattle.lp_calculus.specs.Types.{Ty}
 use Rattle.lp_calculus.specs.Term.{Term, atom, logic}
 use Rattle.lp_calculus.specs.Fill.{Binding, put_all}
 use Rattle.lp_model.specs.Index.{instantiate}
-use Rattle.lp_model.specs.Spine.{arguments, constant_of_head, same_name, goal_name}
+use Rattle.lp_calculus.specs.Spine.{arguments}
+use Rattle.lp_model.specs.Spine.{constant_of_head, same_name, goal_name}
 use Rattle.lp_model.specs.Skeleton.{View, Gives, Opens, Takes, State, starts}
 use Rattle.lp_model.specs.Horn.{ClauseOf, QueryOf}
 use Rattle.lp_model.specs.HornUnify.{unify}

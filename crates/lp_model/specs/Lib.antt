@@ -18,8 +18,6 @@ pub mod Pair
 pub mod Scan
 pub mod Rule
 pub mod Unify
-pub mod Standard
-pub mod Schemes
 pub mod Flat
 pub mod Flatten
 pub mod Values

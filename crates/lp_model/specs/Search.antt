@@ -1,6 +1,6 @@
--- Plain depth-first search of hereditary Harrop goals, as a look at tasks (Miller, Nadathur, Pfenning and Scedrov 1991; levels of Nadathur 1993).
+-- connective.Atomic depth-first search of hereditary Harrop goals, as a look at tasks (Miller, Nadathur, Pfenning and Scedrov 1991; levels of Nadathur 1993).
 -- Where a head reduction needs n steps or more the look halts with `Deep`: head reduction of typed terms ends, so a large n never shows.
-use Rattle.std.specs.Prelude.{ℕ, zero, suc, ◌+◌, ◌-◌, nat_eq, nat_le, nat_lt, Bool, true, false, ◌&&◌, if◌then◌else◌, List, [], ◌∷◌, ◌++◌, map, length, filter, Option, Some, None, option_map}
+use Rattle.std.specs.Prelude.{ℕ, zero, suc, ◌+◌, ◌-◌, nat_eq, nat_lt, Bool, true, false, ◌&&◌, if◌then◌else◌, List, [], ◌∷◌, ◌++◌, map, length, filter, Option, Some, None, option_map}
 use Rattle.lp_calculus.specs.Types.{Ty, var}
 use Rattle.lp_calculus.specs.Term.{Term, index, atom, abs, app, substitute, Atom, constant, integer, text, eigen, logic, param}
 use Rattle.lp_calculus.specs.Instance.{instance_term}
@@ -8,14 +8,17 @@ use Rattle.lp_calculus.specs.Normal.{is_absent}
 use Rattle.lp_model.specs.declared.ending.Ending.TheVariants.{Flexible, Arithmetic, Deep}
 use Rattle.lp_model.specs.declared.ending.Fault.TheVariants.{NotClosed}
 use Rattle.lp_model.specs.Index.{instantiate}
-use Rattle.lp_model.specs.Spine.{head_of, arguments}
+use Rattle.lp_calculus.specs.Spine.{head_of, arguments}
 use Rattle.lp_model.specs.Skeleton.{View, Gives, Opens, Parts, Takes, Cuts, Halts, named, eigenconstant, variable, State, starts}
 use Rattle.lp_model.specs.Look.{head_normal}
 use Rattle.lp_model.specs.Same.{same_name}
 use Rattle.lp_model.specs.Pair.{Pair}
 use Rattle.lp_model.specs.Rule.{type_pairs}
 use Rattle.lp_model.specs.Unify.{Unified, Fail, Solution, Spent, solve, unit_limit}
-use Rattle.lp_model.specs.Standard.{Form, Truth, Cutting, Both, OneOf, Implies, Every, Exist, Plain, form_of}
+use Rattle.lp_standard.specs.Numbers as number
+use Rattle.lp_standard.specs.Constants.{is_order}
+use Rattle.lp_standard.specs.Connectives.{Connective, connective_of}
+use Rattle.lp_standard.specs.Connectives as connective
 use Rattle.lp_model.specs.Flat.{Goal, Atomic, Cut, Either, Exists, Forall, Assume, Goals, Clause, clause, goal_list, clause_list, instantiate_goals, type_goals}
 use Rattle.lp_model.specs.Values.{Outcome, Is, Faults, Number, Bytes, evaluate, term_of, ordered}
 use Rattle.lp_model.specs.Branch.{Entry, Branch, Answer, Task, Go, Try, Stop, resume, entries}
@@ -168,7 +171,7 @@ at_next_level e t = record { goal = Atomic t; assumed = e.assumed; level = suc e
 -- the atom takes a step; b is the rest of the branch, its goals those behind the atom
 abbrev pub look_constant : ℕ → List Clause → (height : ℕ) → Entry → Branch → Term → (constant : ℕ) → List Term → List Task
 look_constant n P height e b t c (l ∷ r ∷ []) =
-    if nat_eq c 8 then equated n e.level l r b else (if nat_eq c 9 then assigned n e.level l b (evaluate n r) else (if nat_le 10 c && nat_le c 13 then compared c b (evaluate n l) (evaluate n r) else tries P t e b height (goal_key n (arguments t))))
+    if nat_eq c number.Equal then equated n e.level l r b else (if nat_eq c number.Is then assigned n e.level l b (evaluate n r) else (if is_order c then compared c b (evaluate n l) (evaluate n r) else tries P t e b height (goal_key n (arguments t))))
 look_constant n P height e b t c ts = tries P t e b height (goal_key n (arguments t))
 
 abbrev pub look_atom : ℕ → List Clause → (height : ℕ) → Entry → Branch → Term → (head : Term) → View Task Answer
@@ -178,12 +181,12 @@ look_atom n P height e b t (atom (logic x l)) = Takes variable (Stop Flexible �
 -- no well-typed goal has another head
 look_atom n P height e b t h = Takes variable []
 
-abbrev pub look_form : ℕ → List Clause → (height : ℕ) → Entry → Branch → Term → Form → View Task Answer
-look_form n P height e b t Truth = Parts (Go b ∷ [])
-look_form n P height e b t (Both l r) = Parts (Go (with_goals b (in_place e (l ∷ r ∷ []) ++ b.goals)) ∷ [])
-look_form n P height e b t (OneOf l r) = Parts (Go (with_goals b (in_place e (l ∷ []) ++ b.goals)) ∷ Go (with_goals b (in_place e (r ∷ []) ++ b.goals)) ∷ [])
-look_form n P height e b t (Every T s) = Parts (Go (with_goals b (at_next_level e (substitute (atom (eigen (suc e.level))) s) ∷ b.goals)) ∷ [])
-look_form n P height e b t (Exist T s) = Parts (Go (record {
+abbrev pub look_form : ℕ → List Clause → (height : ℕ) → Entry → Branch → Term → Connective → View Task Answer
+look_form n P height e b t connective.True = Parts (Go b ∷ [])
+look_form n P height e b t (connective.And l r) = Parts (Go (with_goals b (in_place e (l ∷ r ∷ []) ++ b.goals)) ∷ [])
+look_form n P height e b t (connective.Or l r) = Parts (Go (with_goals b (in_place e (l ∷ []) ++ b.goals)) ∷ Go (with_goals b (in_place e (r ∷ []) ++ b.goals)) ∷ [])
+look_form n P height e b t (connective.ForAll T s) = Parts (Go (with_goals b (at_next_level e (substitute (atom (eigen (suc e.level))) s) ∷ b.goals)) ∷ [])
+look_form n P height e b t (connective.Exists T s) = Parts (Go (record {
   next = suc b.next;
   next_type = b.next_type;
   goals = in_place e (substitute (atom (logic b.next e.level)) s ∷ []) ++ b.goals;
@@ -191,14 +194,15 @@ look_form n P height e b t (Exist T s) = Parts (Go (record {
   values = b.values;
   pairs = b.pairs;
 }) ∷ [])
-look_form n P height e b t Plain = look_atom n P height e b t (head_of t)
+look_form n P height e b t connective.Atomic = look_atom n P height e b t (head_of t)
 -- no positive term is of these forms
-look_form n P height e b t Cutting = Takes variable []
-look_form n P height e b t (Implies c g) = Takes variable []
+look_form n P height e b t connective.Cut = Takes variable []
+look_form n P height e b t (connective.Implies c g) = Takes variable []
+look_form n P height e b t (connective.Not g) = Takes variable []
 
 abbrev pub look_normal : ℕ → List Clause → (height : ℕ) → Entry → Branch → Option Term → View Task Answer
 look_normal n P height e b None = Halts Deep
-look_normal n P height e b (Some t) = look_form n P height e b t (form_of t)
+look_normal n P height e b (Some t) = look_form n P height e b t (connective_of t)
 
 -- a goal, by what it was when flattened
 

@@ -1,11 +1,11 @@
 -- How terms and answers are shown: binders get names, operators stand between their operands with parentheses where the table of
 -- operators asks for them, and variables are numbered as they come (the notation of Nadathur and Miller 1988).
-use Rattle.std.specs.Prelude.{ℕ, zero, suc, ◌-◌, nat_eq, Bool, true, false, ◌&&◌, ◌||◌, if◌then◌else◌, List, [], ◌∷◌, ◌++◌, length, Option, Some, None, option_and_then, unwrap_or, slice_index_or, codes, decimal}
+use Rattle.std.specs.Prelude.{ℕ, zero, suc, ◌-◌, nat_eq, Bool, true, false, ◌&&◌, ◌||◌, if◌then◌else◌, List, [], ◌∷◌, ◌++◌, length, Option, Some, None, option_and_then, unwrap_or, codes, decimal}
 use Rattle.std.specs.Str.{bytes_eq}
 use Rattle.std.specs.Fmt.{signed_decimal}
 use Rattle.lp_standard.specs.declared.fixity.Fixity.{Fixity}
 use Rattle.lp_standard.specs.Operands.{By, is_prefix, is_postfix, fits_left, fits_right}
-use Rattle.lp_fixity.specs.Table.{standard}
+use Rattle.lp_standard.specs.Constants.{numbered, name, fixity}
 use Rattle.lp_calculus.specs.Term.{Term, Atom, index, atom, abs, app, constant, integer, text, eigen, logic, param}
 
 -- a constant: its name, which of the hidden constants of this name it is (0 where it is not hidden), and its fixity and number
@@ -15,16 +15,12 @@ pub record Entry : Type 0 where
   pub hidden : ℕ
   pub fixity : Option (Fixity × ℕ)
 
--- the names of the standard constants, by their numbers
-abbrev pub standard_names : List (List ℕ)
-standard_names =
-    codes "," ∷ codes ";" ∷ codes "=>" ∷ codes ":-" ∷ codes "pi" ∷ codes "sigma" ∷ codes "true" ∷ codes "!"
-    ∷ codes "=" ∷ codes "is" ∷ codes "<" ∷ codes ">" ∷ codes "=<" ∷ codes ">=" ∷ codes "::" ∷ codes "nil"
-    ∷ codes "+" ∷ codes "-" ∷ codes "*" ∷ codes "div" ∷ codes "mod" ∷ codes "~" ∷ codes "^" ∷ codes "size" ∷ []
-
 -- a constant as it is seen without a declaration
 abbrev pub plain_entry : ℕ → Entry
-plain_entry c = record { number = c; name = slice_index_or standard_names c []; hidden = 0; fixity = standard (slice_index_or standard_names c []) }
+plain_entry c = elim (numbered c) [
+  | None ↦ record { number = c; name = []; hidden = 0; fixity = None }
+  | Some k ↦ record { number = c; name = name k; hidden = 0; fixity = fixity k }
+]
 
 -- the entry of a constant: standard constants need none
 abbrev pub entry_in : List Entry → ℕ → Entry

@@ -2,6 +2,7 @@
 use Rattle.std.specs.Prelude.{◌≡◌, ℕ, nat_eq, if◌then◌else◌, Bool, ◌&&◌, ◌||◌, nat_le, List, ◌++◌, length, Option, option_map, ℤ, pos, neg_ℤ, ◌+ℤ◌, ◌-ℤ◌, ◌*ℤ◌, int_le, int_lt, int_div, int_rem}
 use Rattle.lp_calculus.specs.Term.{Term, atom, app, constant, integer, text}
 use Rattle.lp_calculus.specs.Normal.{IsFormOf, eta_normal}
+use Rattle.lp_standard.specs.Numbers as standard
 use Rattle.lp_model.specs.declared.ending.Fault.{Fault}
 use Rattle.lp_model.specs.declared.ending.Fault.TheVariants.{Overflow, ZeroDivisor, NotClosed}
 use Rattle.lp_model.specs.Eigens.{beta_normal}
@@ -32,21 +33,21 @@ divided a b = if is_zero b then Faults ZeroDivisor else number (int_div a b)
 abbrev pub remainder : ℤ → ℤ → Outcome
 remainder a b = if is_zero b then Faults ZeroDivisor else (elim (number (int_div a b)) [ Is v ↦ number (int_rem a b) | Faults f ↦ Faults f ])
 
--- constants 16 to 20: `+`, `-`, `*`, `div`, `mod`, on integers; 22: `^`, on strings
+-- `+`, `-`, `*`, `div` and `mod`, on integers; `^`, on strings
 abbrev pub binary : ℕ → Value → Value → Outcome
 binary c (Number a) (Number b) =
-    if nat_eq c 16 then number (a +ℤ b) else (if nat_eq c 17 then number (a -ℤ b) else (if nat_eq c 18 then number (a *ℤ b) else (if nat_eq c 19 then divided a b else (if nat_eq c 20 then remainder a b else Faults NotClosed))))
-binary c (Bytes a) (Bytes b) = if nat_eq c 22 then Is (Bytes (a ++ b)) else Faults NotClosed
+    if nat_eq c standard.Add then number (a +ℤ b) else (if nat_eq c standard.Subtract then number (a -ℤ b) else (if nat_eq c standard.Multiply then number (a *ℤ b) else (if nat_eq c standard.Divide then divided a b else (if nat_eq c standard.Remainder then remainder a b else Faults NotClosed))))
+binary c (Bytes a) (Bytes b) = if nat_eq c standard.Concatenate then Is (Bytes (a ++ b)) else Faults NotClosed
 binary c (Number a) (Bytes b) = Faults NotClosed
 binary c (Bytes a) (Number b) = Faults NotClosed
 
--- constants 21 and 23: `~`, on an integer, and `size`, on a string
+-- `~`, on an integer, and `size`, on a string
 abbrev pub unary : ℕ → Value → Outcome
-unary c (Number a) = if nat_eq c 21 then number (neg_ℤ a) else Faults NotClosed
-unary c (Bytes s) = if nat_eq c 23 then number (pos (length s)) else Faults NotClosed
+unary c (Number a) = if nat_eq c standard.Negate then number (neg_ℤ a) else Faults NotClosed
+unary c (Bytes s) = if nat_eq c standard.Size then number (pos (length s)) else Faults NotClosed
 
 abbrev pub is_binary : ℕ → Bool
-is_binary c = nat_le 16 c && nat_le c 20
+is_binary c = nat_le standard.Add c && nat_le c standard.Remainder
 
 -- the first fault, left to right
 abbrev pub both : ℕ → Outcome → Outcome → Outcome
@@ -59,10 +60,10 @@ single c (Faults f) = Faults f
 single c (Is a) = unary c a
 
 abbrev pub is_two_place : ℕ → Bool
-is_two_place c = is_binary c || nat_eq c 22
+is_two_place c = is_binary c || nat_eq c standard.Concatenate
 
 abbrev pub is_one_place : ℕ → Bool
-is_one_place c = nat_eq c 21 || nat_eq c 23
+is_one_place c = nat_eq c standard.Negate || nat_eq c standard.Size
 
 -- the value of a tree
 abbrev pub value : Term → Outcome
@@ -86,6 +87,6 @@ abbrev pub term_of : Value → Term
 term_of (Number z) = atom (integer z)
 term_of (Bytes s) = atom (text s)
 
--- constants 10 to 13: `<`, `>`, `=<`, `>=`
+-- `<`, `>`, `=<` and `>=`
 abbrev pub ordered : ℕ → ℤ → ℤ → Bool
-ordered c a b = if nat_eq c 10 then int_lt a b else (if nat_eq c 11 then int_lt b a else (if nat_eq c 12 then int_le a b else int_le b a))
+ordered c a b = if nat_eq c standard.Less then int_lt a b else (if nat_eq c standard.Greater then int_lt b a else (if nat_eq c standard.AtMost then int_le a b else int_le b a))

@@ -7,7 +7,8 @@ use Rattle.lp_term.specs.Nodes.{Nodes, Extends, tree, type_tree}
 use Rattle.lp_term.specs.declared.node.TermId.{TermId}
 use Rattle.lp_term.specs.declared.node.TypeId.{TypeId}
 use Rattle.lp_model.specs.declared.clause.Clause.{Clause}
-use Rattle.lp_model.specs.Standard.{Both, Implies, Every, Plain, form_of}
+use Rattle.lp_standard.specs.Connectives.{connective_of}
+use Rattle.lp_standard.specs.Connectives as connective
 use Rattle.lp_model.specs.Flat.{Clause as FlatClause, Goals, no_goals, clause, Clauses, no_clauses, clauses, add_clauses}
 use Rattle.lp_model.specs.Flatten.{with_type_vars}
 use Rattle.lp_model.specs.Flattened.{clause_of, clauses_of}
@@ -68,10 +69,10 @@ module _ (b : Nodes) (l : ClauseList) (t : ℕ) (out : Flat) where
       (subst (λ n. AssumedComesTo b l.assumed (add_clauses done (with_type_vars n ds)) out) (sym y) (subst (λ z. AssumedComesTo b l.assumed (add_clauses done (with_type_vars l.type_vars z)) out) e h))
 
   pub both_parts : (m : ClauseList) (left right : TermId) → m.type_vars ≡ l.type_vars → m.assumed ≡ l.assumed → m.done ≡ l.done → m.waiting.items ≡ (l.waiting.items ++ Part.Visit right ∷ []) ++ Part.Visit left ∷ [] → m.around ≡ l.around →
-      form_of (tree b t) ≡ Both (tree b left.0) (tree b right.0) → PartComesTo b l t out → ClausesComeTo b m no_clauses out
+      connective_of (tree b t) ≡ connective.And (tree b left.0) (tree b right.0) → PartComesTo b l t out → ClausesComeTo b m no_clauses out
   both_parts m left right y a d w r f h =
       let ls = reverse l.around.items in
-      let k = clauses_by (tree b t) (Both (tree b left.0) (tree b right.0)) (vars_in b ls) (body_in b ls) h.first f h.clause in
+      let k = clauses_by (tree b t) (connective.And (tree b left.0) (tree b right.0)) (vars_in b ls) (body_in b ls) h.first f h.clause in
       let q : reverse m.waiting.items ≡ Part.Visit left ∷ Part.Visit right ∷ reverse l.waiting.items =
       reverse_push m.waiting.items (l.waiting.items ++ Part.Visit right ∷ []) (Part.Visit left) w ∙ ap (λ z. Part.Visit left ∷ z) (reverse-append l.waiting.items (Part.Visit right ∷ [])) in
       let rest = add_clauses k.0 (add_clauses k.1 h.rest) in
@@ -100,25 +101,25 @@ module _ (b : Nodes) (l : ClauseList) (t : ℕ) (out : Flat) where
       }
 
   pub guard_comes : (m : ClauseList) (g part : TermId) → m.type_vars ≡ l.type_vars → m.assumed ≡ l.assumed → m.done ≡ l.done → m.waiting.items ≡ (l.waiting.items ++ Part.Leave ∷ []) ++ Part.Visit part ∷ [] → m.around.items ≡ l.around.items ++ Link.Guard g ∷ [] →
-      form_of (tree b t) ≡ Implies (tree b g.0) (tree b part.0) → PartComesTo b l t out → ClausesComeTo b m no_clauses out
+      connective_of (tree b t) ≡ connective.Implies (tree b g.0) (tree b part.0) → PartComesTo b l t out → ClausesComeTo b m no_clauses out
   guard_comes m g part y a d w r f h =
       let ls = reverse l.around.items in
-      enter_comes m (Link.Guard g) part y a d w r h (clauses_by (tree b t) (Implies (tree b g.0) (tree b part.0)) (vars_in b ls) (body_in b ls) h.first f h.clause)
+      enter_comes m (Link.Guard g) part y a d w r h (clauses_by (tree b t) (connective.Implies (tree b g.0) (tree b part.0)) (vars_in b ls) (body_in b ls) h.first f h.clause)
 
   pub variable_comes : (m : ClauseList) (T : TypeId) (part : TermId) (u : Term) → m.type_vars ≡ l.type_vars → m.assumed ≡ l.assumed → m.done ≡ l.done → m.waiting.items ≡ (l.waiting.items ++ Part.Leave ∷ []) ++ Part.Visit part ∷ [] → m.around.items ≡ l.around.items ++ Link.Variable T ∷ [] →
-      form_of (tree b t) ≡ Every (type_tree b T.0) u → tree b part.0 ≡ u → PartComesTo b l t out → ClausesComeTo b m no_clauses out
+      connective_of (tree b t) ≡ connective.ForAll (type_tree b T.0) u → tree b part.0 ≡ u → PartComesTo b l t out → ClausesComeTo b m no_clauses out
   variable_comes m T part u y a d w r f e h =
       let ls = reverse l.around.items in
-      let p = clauses_by (tree b t) (Every (type_tree b T.0) u) (vars_in b ls) (body_in b ls) h.first f h.clause in
+      let p = clauses_by (tree b t) (connective.ForAll (type_tree b T.0) u) (vars_in b ls) (body_in b ls) h.first f h.clause in
       enter_comes m (Link.Variable T) part y a d w r h (subst (λ z. IsFlatClause z (vars_in b (Link.Variable T ∷ ls)) (body_in b (Link.Variable T ∷ ls)) h.first) (sym e) p)
 
   -- an atom: the goals of its body are flattened next
   pub head_comes : (whole : Flat) (m : GoalList) (s : Scope) (head : TermId) (n : ℕ) (fs gs : List Frame) → head.0 ≡ t → n ≡ length s.vars.items → m.opened.items ≡ [] → m.done.items ≡ [] → m.waiting ≡ s.body → m.level ≡ n →
       map (λ T. type_tree b T.0) s.vars.items ≡ vars_in b (reverse l.around.items) → ((hs : Goals) → IsFlatList (body_in b (reverse l.around.items)) hs → Flatten b (length s.vars.items) (reverse s.body.items) hs) →
-      gs ≡ fs ++ Frame.Body l s.vars head ∷ [] → form_of (tree b t) ≡ Plain → PartComesTo b l t out → AllTurn b (reverse fs) out whole → InnerComesTo b (Inner.Goals m) gs whole
+      gs ≡ fs ++ Frame.Body l s.vars head ∷ [] → connective_of (tree b t) ≡ connective.Atomic → PartComesTo b l t out → AllTurn b (reverse fs) out whole → InnerComesTo b (Inner.Goals m) gs whole
   head_comes whole m s head n fs gs q e o d w v vs bs g f h u =
       let ls = reverse l.around.items in
-      let k = clauses_by (tree b t) Plain (vars_in b ls) (body_in b ls) h.first f h.clause in
+      let k = clauses_by (tree b t) connective.Atomic (vars_in b ls) (body_in b ls) h.first f h.clause in
       let c : clause 0 (vars_in b ls) (tree b t) k.0 ≡ clause 0 (map (λ T. type_tree b T.0) s.vars.items) (tree b head.0) k.0 =
       ap (λ z. clause 0 z (tree b t) k.0) (sym vs) ∙ ap (λ z. clause 0 (map (λ T. type_tree b T.0) s.vars.items) (tree b z) k.0) (sym q) in (
         k.0,

@@ -4,8 +4,10 @@ use Rattle.std.specs.Prelude.{◌&&◌, Bool, true, false, option_map, option_an
 use Rattle.lp_calculus.specs.Types.{Ty}
 use Rattle.lp_calculus.specs.Term.{Term, shift}
 use Rattle.lp_calculus.specs.Typing.{Scheme}
-use Rattle.lp_model.specs.Spine.{head_of, arguments}
-use Rattle.lp_model.specs.Standard.{Form, Truth, Cutting, Both, OneOf, Implies, Every, Exist, Plain, form_of, are_positive}
+use Rattle.lp_calculus.specs.Spine.{head_of, arguments}
+use Rattle.lp_standard.specs.Connectives.{Connective, connective_of}
+use Rattle.lp_standard.specs.Connectives as connective
+use Rattle.lp_standard.specs.Positive.{are_positive}
 use Rattle.lp_model.specs.Flat.{Atomic, Cut, Either, Exists, Forall, Assume, Goals, no_goals, goals, clause, Clauses, no_clauses, clauses, add_clauses, raise_goals}
 use Rattle.lp_model.specs.Flatten.{only, is_goal_head, is_clause_head, flat_goal, flat_goal_form, flat_list, flat_clause, flat_clause_form, with_type_vars}
 use Rattle.lp_normal.specs.Flats.{IsFlatGoal, truth, cutting, both, one_of, implies, every, exist, plain, IsFlatList, no_more, one_more, IsFlatClause, both_clauses, implied, for_every, head}
@@ -29,30 +31,30 @@ module _ (d : ℕ → Option Scheme) where
   mutual
     pub goal_derived : (n : ℕ) (binders : List Bool) (t : Term) (rest gs : Goals) → flat_goal n d binders t rest ≡ Some gs → IsFlatGoal t rest gs
     goal_derived zero binders t rest gs e = absurd (cc)
-    goal_derived (suc n) binders t rest gs e = form_derived n binders t (form_of t) refl rest gs e
+    goal_derived (suc n) binders t rest gs e = form_derived n binders t (connective_of t) refl rest gs e
 
-    form_derived : (n : ℕ) (binders : List Bool) (t : Term) (f : Form) → form_of t ≡ f → (rest gs : Goals) → flat_goal_form n d binders t f rest ≡ Some gs → IsFlatGoal t rest gs
+    form_derived : (n : ℕ) (binders : List Bool) (t : Term) (f : Connective) → connective_of t ≡ f → (rest gs : Goals) → flat_goal_form n d binders t f rest ≡ Some gs → IsFlatGoal t rest gs
     form_derived zero binders t f s rest gs e = absurd (cc)
-    form_derived (suc n) binders t Truth s rest gs e = truth s (sym (some_is rest gs e))
-    form_derived (suc n) binders t Cutting s rest gs e = cutting s (sym (some_is (goals Cut rest) gs e))
-    form_derived (suc n) binders t (Both a b) s rest gs e =
+    form_derived (suc n) binders t connective.True s rest gs e = truth s (sym (some_is rest gs e))
+    form_derived (suc n) binders t connective.Cut s rest gs e = cutting s (sym (some_is (goals Cut rest) gs e))
+    form_derived (suc n) binders t (connective.And a b) s rest gs e =
         let q = bind_some (flat_goal n d binders b rest) (flat_goal n d binders a) gs e in
         both a b q.0 s (goal_derived n binders b rest q.0 q.1) (goal_derived n binders a q.0 gs q.2)
-    form_derived (suc n) binders t (OneOf a b) s rest gs e =
+    form_derived (suc n) binders t (connective.Or a b) s rest gs e =
         let q = bind_some (flat_goal n d binders a no_goals) (λ l. option_map (λ k. goals (Either l k) rest) (flat_goal n d binders b no_goals)) gs e in
         let z = map_some (flat_goal n d binders b no_goals) (λ k. goals (Either q.0 k) rest) gs q.2 in
         one_of a b q.0 z.0 s (goal_derived n binders a no_goals q.0 q.1) (goal_derived n binders b no_goals z.0 z.1) (sym z.2)
-    form_derived (suc n) binders t (Implies c g) s rest gs e =
+    form_derived (suc n) binders t (connective.Implies c g) s rest gs e =
         let q = bind_some (flat_clause n d binders c [] []) (λ cs. option_map (λ hs. goals (Assume cs hs) rest) (flat_goal n d binders g no_goals)) gs e in
         let z = map_some (flat_goal n d binders g no_goals) (λ hs. goals (Assume q.0 hs) rest) gs q.2 in
         implies c g q.0 z.0 s (clause_derived n binders c [] [] q.0 q.1) (goal_derived n binders g no_goals z.0 z.1) (sym z.2)
-    form_derived (suc n) binders t (Every T b) s rest gs e =
+    form_derived (suc n) binders t (connective.ForAll T b) s rest gs e =
         let z = map_some (flat_goal n d (true ∷ binders) b no_goals) (λ hs. goals (Forall T hs) rest) gs e in
         every T b z.0 s (goal_derived n (true ∷ binders) b no_goals z.0 z.1) (sym z.2)
-    form_derived (suc n) binders t (Exist T b) s rest gs e =
+    form_derived (suc n) binders t (connective.Exists T b) s rest gs e =
         let z = map_some (flat_goal n d (false ∷ binders) b (raise_goals 0 rest)) (λ hs. goals (Exists T hs) no_goals) gs e in
         exist T b z.0 s (goal_derived n (false ∷ binders) b (raise_goals 0 rest) z.0 z.1) (sym z.2)
-    form_derived (suc n) binders t Plain s rest gs e =
+    form_derived (suc n) binders t connective.Atomic s rest gs e =
         plain s (sym (only_some (is_goal_head (head_of t) && are_positive (arguments t)) (goals (Atomic t) rest) gs e))
 
     list_derived : (n : ℕ) (binders : List Bool) (ts : List Term) (gs : Goals) → flat_list n d binders ts ≡ Some gs → IsFlatList ts gs
@@ -64,23 +66,23 @@ module _ (d : ℕ → Option Scheme) where
 
     pub clause_derived : (n : ℕ) (binders : List Bool) (c : Term) (vars : List Ty) (body : List Term) (cs : Clauses) → flat_clause n d binders c vars body ≡ Some cs → IsFlatClause c vars body cs
     clause_derived zero binders c vars body cs e = absurd (cc)
-    clause_derived (suc n) binders c vars body cs e = clause_form_derived n binders c (form_of c) refl vars body cs e
+    clause_derived (suc n) binders c vars body cs e = clause_form_derived n binders c (connective_of c) refl vars body cs e
 
-    clause_form_derived : (n : ℕ) (binders : List Bool) (c : Term) (f : Form) → form_of c ≡ f → (vars : List Ty) (body : List Term) (cs : Clauses) → flat_clause_form n d binders c f vars body ≡ Some cs → IsFlatClause c vars body cs
+    clause_form_derived : (n : ℕ) (binders : List Bool) (c : Term) (f : Connective) → connective_of c ≡ f → (vars : List Ty) (body : List Term) (cs : Clauses) → flat_clause_form n d binders c f vars body ≡ Some cs → IsFlatClause c vars body cs
     clause_form_derived zero binders c f s vars body cs e = absurd (cc)
-    clause_form_derived (suc n) binders c Truth s vars body cs e = absurd (cc)
-    clause_form_derived (suc n) binders c Cutting s vars body cs e = absurd (cc)
-    clause_form_derived (suc n) binders c (OneOf a b) s vars body cs e = absurd (cc)
-    clause_form_derived (suc n) binders c (Exist T b) s vars body cs e = absurd (cc)
-    clause_form_derived (suc n) binders c (Both a b) s vars body cs e =
+    clause_form_derived (suc n) binders c connective.True s vars body cs e = absurd (cc)
+    clause_form_derived (suc n) binders c connective.Cut s vars body cs e = absurd (cc)
+    clause_form_derived (suc n) binders c (connective.Or a b) s vars body cs e = absurd (cc)
+    clause_form_derived (suc n) binders c (connective.Exists T b) s vars body cs e = absurd (cc)
+    clause_form_derived (suc n) binders c (connective.And a b) s vars body cs e =
         let q = bind_some (flat_clause n d binders a vars body) (λ l. option_map (add_clauses l) (flat_clause n d binders b vars body)) cs e in
         let z = map_some (flat_clause n d binders b vars body) (add_clauses q.0) cs q.2 in
         both_clauses a b q.0 z.0 s (clause_derived n binders a vars body q.0 q.1) (clause_derived n binders b vars body z.0 z.1) (sym z.2)
-    clause_form_derived (suc n) binders c (Implies g b) s vars body cs e =
+    clause_form_derived (suc n) binders c (connective.Implies g b) s vars body cs e =
         implied g b s (clause_derived n binders b vars (body ++ g ∷ []) cs e)
-    clause_form_derived (suc n) binders c (Every T b) s vars body cs e =
+    clause_form_derived (suc n) binders c (connective.ForAll T b) s vars body cs e =
         for_every T b s (clause_derived n (false ∷ binders) b (T ∷ vars) (map (shift 0 1) body) cs e)
-    clause_form_derived (suc n) binders c Plain s vars body cs e =
+    clause_form_derived (suc n) binders c connective.Atomic s vars body cs e =
         let q = bind_some (only (is_clause_head d binders (head_of c) && are_positive (arguments c)) c) (λ u. option_map (λ gs. clauses (clause 0 vars u gs) no_clauses) (flat_list n d binders body)) cs e in
         let z = map_some (flat_list n d binders body) (λ gs. clauses (clause 0 vars q.0 gs) no_clauses) cs q.2 in
         let u = only_some (is_clause_head d binders (head_of c) && are_positive (arguments c)) c q.0 q.1 in

@@ -14,8 +14,9 @@ use Rattle.lp_term.specs.declared.node.TermId.{TermId}
 use Rattle.lp_term.specs.declared.node.TypeId.{TypeId}
 use Rattle.lp_term.specs.declared.node.TermNode.{TermNode}
 use Rattle.lp_term.proofs.Loose.{everywhere_both, below_height, height_below}
-use Rattle.lp_model.specs.Spine.{head_of, arguments_and}
-use Rattle.lp_model.specs.Standard.{Plain, body_of, form_of_constant, form_at, form_of}
+use Rattle.lp_calculus.specs.Spine.{head_of, arguments_and}
+use Rattle.lp_standard.specs.Connectives.{body_of, connective_of_constant, connective_at, connective_of}
+use Rattle.lp_standard.specs.Connectives as connective
 use Rattle.lp_normal.specs.Formed.{IsNoApplication, IsApplication}
 
 -- the trees of arguments
@@ -39,32 +40,32 @@ pub is_applied : (b : Nodes) (t h : Term) (ids : List TermId) → map (λ t. t.0
 is_applied b t h [] n e = absurd (n refl)
 is_applied b t h (i ∷ ids) n e = subst IsApplication e (applied h (tree b i.0) (on b ids))
 
-plain_applied : (t : Term) → IsApplication t → (us : List Term) → form_at t us ≡ Plain
+plain_applied : (t : Term) → IsApplication t → (us : List Term) → connective_at t us ≡ connective.Atomic
 plain_applied (index i) a us = absurd a
 plain_applied (atom x) a us = absurd a
 plain_applied (abs b) a us = absurd a
 plain_applied (app t u) a us = refl
 
 -- where a node is no constant
-pub no_constant : (b : Nodes) (n m : ℕ) (node : TermNode) (t : Term) (us : List Term) → TermBelow n m (term_shape node) → node_tree b (term_shape node) ≡ t → ((c : ℕ) (ts : Bor (List TypeId)) → node ≡ TermNode.Const c ts → ⊥) → form_at t us ≡ Plain
-no_constant b n m (TermNode.Index i) t us o e h = subst (λ z. form_at z us ≡ Plain) e refl
+pub no_constant : (b : Nodes) (n m : ℕ) (node : TermNode) (t : Term) (us : List Term) → TermBelow n m (term_shape node) → node_tree b (term_shape node) ≡ t → ((c : ℕ) (ts : Bor (List TypeId)) → node ≡ TermNode.Const c ts → ⊥) → connective_at t us ≡ connective.Atomic
+no_constant b n m (TermNode.Index i) t us o e h = subst (λ z. connective_at z us ≡ connective.Atomic) e refl
 no_constant b n m (TermNode.Const c ts) t us o e h = absurd (h c ts refl)
-no_constant b n m (TermNode.Int z) t us o e h = subst (λ z. form_at z us ≡ Plain) e refl
-no_constant b n m (TermNode.Text s) t us o e h = subst (λ z. form_at z us ≡ Plain) e refl
-no_constant b n m (TermNode.Eigen k) t us o e h = subst (λ z. form_at z us ≡ Plain) e refl
-no_constant b n m (TermNode.Logic id level) t us o e h = subst (λ z. form_at z us ≡ Plain) e refl
-no_constant b n m (TermNode.Param k x) t us o e h = subst (λ z. form_at z us ≡ Plain) e refl
-no_constant b n m (TermNode.Abs x) t us o e h = subst (λ z. form_at z us ≡ Plain) e refl
+no_constant b n m (TermNode.Int z) t us o e h = subst (λ z. connective_at z us ≡ connective.Atomic) e refl
+no_constant b n m (TermNode.Text s) t us o e h = subst (λ z. connective_at z us ≡ connective.Atomic) e refl
+no_constant b n m (TermNode.Eigen k) t us o e h = subst (λ z. connective_at z us ≡ connective.Atomic) e refl
+no_constant b n m (TermNode.Logic id level) t us o e h = subst (λ z. connective_at z us ≡ connective.Atomic) e refl
+no_constant b n m (TermNode.Param k x) t us o e h = subst (λ z. connective_at z us ≡ connective.Atomic) e refl
+no_constant b n m (TermNode.Abs x) t us o e h = subst (λ z. connective_at z us ≡ connective.Atomic) e refl
 no_constant b n m (TermNode.App f ids) t us o e h = plain_applied t (is_applied b t (tree b f.0) ids.now o.2 e) us
 
 -- more than two arguments
 
-plain_constant : (c : ℕ) (ts : List Ty) (x y z : Term) (ws : List Term) → form_of_constant c ts (x ∷ y ∷ z ∷ ws) ≡ Plain
+plain_constant : (c : ℕ) (ts : List Ty) (x y z : Term) (ws : List Term) → connective_of_constant c ts (x ∷ y ∷ z ∷ ws) ≡ connective.Atomic
 plain_constant c [] x y z ws = refl
 plain_constant c (T ∷ []) x y z ws = refl
 plain_constant c (T ∷ U ∷ ts) x y z ws = refl
 
-plain_long : (t x y z : Term) (ws : List Term) → form_at (head_of t) (arguments_and t (x ∷ y ∷ z ∷ ws)) ≡ Plain
+plain_long : (t x y z : Term) (ws : List Term) → connective_at (head_of t) (arguments_and t (x ∷ y ∷ z ∷ ws)) ≡ connective.Atomic
 plain_long (index i) x y z ws = refl
 plain_long (atom (constant c ts)) x y z ws = plain_constant c ts x y z ws
 plain_long (atom (integer k)) x y z ws = refl
@@ -75,61 +76,61 @@ plain_long (atom (param k T)) x y z ws = refl
 plain_long (abs b) x y z ws = refl
 plain_long (app f u) x y z ws = plain_long f u x y (z ∷ ws)
 
-form_apply : (h : Term) (xs us : List Term) → form_at (head_of (apply h xs)) (arguments_and (apply h xs) us) ≡ form_at (head_of h) (arguments_and h (xs ++ us))
+form_apply : (h : Term) (xs us : List Term) → connective_at (head_of (apply h xs)) (arguments_and (apply h xs) us) ≡ connective_at (head_of h) (arguments_and h (xs ++ us))
 form_apply h [] us = refl
 form_apply h (x ∷ xs) us = form_apply (app h x) xs us
 
-head_form : (h : Term) → IsNoApplication h → (us : List Term) → form_at (head_of h) (arguments_and h us) ≡ form_at h us
+head_form : (h : Term) → IsNoApplication h → (us : List Term) → connective_at (head_of h) (arguments_and h us) ≡ connective_at h us
 head_form (index i) n us = refl
 head_form (atom a) n us = refl
 head_form (abs b) n us = refl
 head_form (app f u) n us = absurd n
 
-long_two : (h x y l : Term) (xs : List Term) → form_at (head_of h) (arguments_and h (x ∷ y ∷ (xs ++ l ∷ []))) ≡ Plain
+long_two : (h x y l : Term) (xs : List Term) → connective_at (head_of h) (arguments_and h (x ∷ y ∷ (xs ++ l ∷ []))) ≡ connective.Atomic
 long_two h x y l [] = plain_long h x y l []
 long_two h x y l (z ∷ zs) = plain_long h x y z (zs ++ l ∷ [])
 
-applied_one : (h x y : Term) → IsApplication h → form_at (head_of h) (arguments_and h (x ∷ y ∷ [])) ≡ Plain
+applied_one : (h x y : Term) → IsApplication h → connective_at (head_of h) (arguments_and h (x ∷ y ∷ [])) ≡ connective.Atomic
 applied_one (index i) x y a = absurd a
 applied_one (atom k) x y a = absurd a
 applied_one (abs b) x y a = absurd a
 applied_one (app f u) x y a = plain_long f u x y []
 
 -- a head on arguments, on one argument more
-pub more_before : (b : Nodes) (t h l : Term) (ids : List TermId) → map (λ t. t.0) ids ≢ [] → apply h (on b ids) ≡ t → (length ids ≡ 1 → ⊥) → form_of (app t l) ≡ Plain
+pub more_before : (b : Nodes) (t h l : Term) (ids : List TermId) → map (λ t. t.0) ids ≢ [] → apply h (on b ids) ≡ t → (length ids ≡ 1 → ⊥) → connective_of (app t l) ≡ connective.Atomic
 more_before b t h l [] n e k = absurd (n refl)
 more_before b t h l (i ∷ []) n e k = absurd (k refl)
 more_before b t h l (i ∷ j ∷ ids) n e k =
-    subst (λ z. form_of (app z l) ≡ Plain) e (form_apply h (on b (i ∷ j ∷ ids)) (l ∷ []) ∙ long_two h (tree b i.0) (tree b j.0) l (on b ids))
+    subst (λ z. connective_of (app z l) ≡ connective.Atomic) e (form_apply h (on b (i ∷ j ∷ ids)) (l ∷ []) ∙ long_two h (tree b i.0) (tree b j.0) l (on b ids))
 
-pub applied_before : (b : Nodes) (t h l : Term) (ids : List TermId) → length ids ≡ 1 → apply h (on b ids) ≡ t → IsApplication h → form_of (app t l) ≡ Plain
+pub applied_before : (b : Nodes) (t h l : Term) (ids : List TermId) → length ids ≡ 1 → apply h (on b ids) ≡ t → IsApplication h → connective_of (app t l) ≡ connective.Atomic
 applied_before b t h l [] k e a = absurd (omega arith)
-applied_before b t h l (i ∷ []) k e a = subst (λ z. form_of (app z l) ≡ Plain) e (applied_one h (tree b i.0) l a)
+applied_before b t h l (i ∷ []) k e a = subst (λ z. connective_of (app z l) ≡ connective.Atomic) e (applied_one h (tree b i.0) l a)
 applied_before b t h l (i ∷ j ∷ ids) k e a = absurd (omega arith)
 
-pub two_before : (b : Nodes) (t h l : Term) (ids : List TermId) → length ids ≡ 1 → apply h (on b ids) ≡ t → IsNoApplication h → form_of (app t l) ≡ form_at h (tree b (slice_index_or ids 0 (record { 0 = 0 })).0 ∷ l ∷ [])
+pub two_before : (b : Nodes) (t h l : Term) (ids : List TermId) → length ids ≡ 1 → apply h (on b ids) ≡ t → IsNoApplication h → connective_of (app t l) ≡ connective_at h (tree b (slice_index_or ids 0 (record { 0 = 0 })).0 ∷ l ∷ [])
 two_before b t h l [] k e a = absurd (omega arith)
-two_before b t h l (i ∷ []) k e a = subst (λ z. form_of (app z l) ≡ form_at h (tree b i.0 ∷ l ∷ [])) e (head_form h a (tree b i.0 ∷ l ∷ []))
+two_before b t h l (i ∷ []) k e a = subst (λ z. connective_of (app z l) ≡ connective_at h (tree b i.0 ∷ l ∷ [])) e (head_form h a (tree b i.0 ∷ l ∷ []))
 two_before b t h l (i ∷ j ∷ ids) k e a = absurd (omega arith)
 
-pub one_before : (t l : Term) → IsNoApplication t → form_of (app t l) ≡ form_at t (l ∷ [])
+pub one_before : (t l : Term) → IsNoApplication t → connective_of (app t l) ≡ connective_at t (l ∷ [])
 one_before t l a = head_form t a (l ∷ [])
 
-pub form_alone : (t : Term) → IsNoApplication t → form_of t ≡ form_at t []
+pub form_alone : (t : Term) → IsNoApplication t → connective_of t ≡ connective_at t []
 form_alone t a = head_form t a []
 
 -- a head on arguments
-pub more_arguments : (b : Nodes) (t h : Term) (ids : List TermId) → map (λ t. t.0) ids ≢ [] → apply h (on b ids) ≡ t → (length ids ≡ 1 → ⊥) → (length ids ≡ 2 → ⊥) → form_of t ≡ Plain
+pub more_arguments : (b : Nodes) (t h : Term) (ids : List TermId) → map (λ t. t.0) ids ≢ [] → apply h (on b ids) ≡ t → (length ids ≡ 1 → ⊥) → (length ids ≡ 2 → ⊥) → connective_of t ≡ connective.Atomic
 more_arguments b t h [] n e k m = absurd (n refl)
 more_arguments b t h (i ∷ []) n e k m = absurd (k refl)
 more_arguments b t h (i ∷ j ∷ []) n e k m = absurd (m refl)
 more_arguments b t h (i ∷ j ∷ x ∷ ids) n e k m =
-    subst (λ z. form_of z ≡ Plain) e (form_apply h (on b (i ∷ j ∷ x ∷ ids)) [] ∙ plain_long h (tree b i.0) (tree b j.0) (tree b x.0) (on b ids ++ []))
+    subst (λ z. connective_of z ≡ connective.Atomic) e (form_apply h (on b (i ∷ j ∷ x ∷ ids)) [] ∙ plain_long h (tree b i.0) (tree b j.0) (tree b x.0) (on b ids ++ []))
 
-pub applied_two : (b : Nodes) (t h : Term) (ids : List TermId) → length ids ≡ 2 → apply h (on b ids) ≡ t → IsApplication h → form_of t ≡ Plain
+pub applied_two : (b : Nodes) (t h : Term) (ids : List TermId) → length ids ≡ 2 → apply h (on b ids) ≡ t → IsApplication h → connective_of t ≡ connective.Atomic
 applied_two b t h [] k e a = absurd (omega arith)
 applied_two b t h (i ∷ []) k e a = absurd (omega arith)
-applied_two b t h (i ∷ j ∷ []) k e a = subst (λ z. form_of z ≡ Plain) e (applied_one h (tree b i.0) (tree b j.0) a)
+applied_two b t h (i ∷ j ∷ []) k e a = subst (λ z. connective_of z ≡ connective.Atomic) e (applied_one h (tree b i.0) (tree b j.0) a)
 applied_two b t h (i ∷ j ∷ x ∷ ids) k e a = absurd (omega arith)
 
 -- where a node is no application

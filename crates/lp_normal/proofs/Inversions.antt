@@ -2,21 +2,22 @@
 use Rattle.std.proofs.Common.{◌≡◌, List, [], ◌∷◌, ◌++◌, map, sym, subst}
 use Rattle.lp_calculus.specs.Types.{Ty}
 use Rattle.lp_calculus.specs.Term.{Term, shift}
-use Rattle.lp_model.specs.Standard.{Form, Truth, Cutting, Both, OneOf, Implies, Every, Exist, Plain, form_of}
+use Rattle.lp_standard.specs.Connectives.{Connective, connective_of}
+use Rattle.lp_standard.specs.Connectives as connective
 use Rattle.lp_model.specs.Flat.{Atomic, Cut, Either, Exists, Forall, Assume, Goals, no_goals, goals, clause, Clauses, no_clauses, clauses, add_clauses, raise_goals}
 use Rattle.lp_normal.specs.Flats.{IsFlatGoal, truth, cutting, both, one_of, implies, every, exist, plain, IsFlatList, IsFlatClause, both_clauses, implied, for_every, head}
 
-abbrev pub GoalBy : Term → Form → (rest gs : Goals) → Type 0
-GoalBy t Truth rest gs = gs ≡ rest
-GoalBy t Cutting rest gs = gs ≡ goals Cut rest
-GoalBy t (Both a b) rest gs = (between : Goals) × IsFlatGoal b rest between × IsFlatGoal a between gs
-GoalBy t (OneOf a b) rest gs = (l r : Goals) × IsFlatGoal a no_goals l × IsFlatGoal b no_goals r × (gs ≡ goals (Either l r) rest)
-GoalBy t (Implies c g) rest gs = (cs : Clauses) × (hs : Goals) × IsFlatClause c [] [] cs × IsFlatGoal g no_goals hs × (gs ≡ goals (Assume cs hs) rest)
-GoalBy t (Every T b) rest gs = (hs : Goals) × IsFlatGoal b no_goals hs × (gs ≡ goals (Forall T hs) rest)
-GoalBy t (Exist T b) rest gs = (hs : Goals) × IsFlatGoal b (raise_goals 0 rest) hs × (gs ≡ goals (Exists T hs) no_goals)
-GoalBy t Plain rest gs = gs ≡ goals (Atomic t) rest
+abbrev pub GoalBy : Term → Connective → (rest gs : Goals) → Type 0
+GoalBy t connective.True rest gs = gs ≡ rest
+GoalBy t connective.Cut rest gs = gs ≡ goals Cut rest
+GoalBy t (connective.And a b) rest gs = (between : Goals) × IsFlatGoal b rest between × IsFlatGoal a between gs
+GoalBy t (connective.Or a b) rest gs = (l r : Goals) × IsFlatGoal a no_goals l × IsFlatGoal b no_goals r × (gs ≡ goals (Either l r) rest)
+GoalBy t (connective.Implies c g) rest gs = (cs : Clauses) × (hs : Goals) × IsFlatClause c [] [] cs × IsFlatGoal g no_goals hs × (gs ≡ goals (Assume cs hs) rest)
+GoalBy t (connective.ForAll T b) rest gs = (hs : Goals) × IsFlatGoal b no_goals hs × (gs ≡ goals (Forall T hs) rest)
+GoalBy t (connective.Exists T b) rest gs = (hs : Goals) × IsFlatGoal b (raise_goals 0 rest) hs × (gs ≡ goals (Exists T hs) no_goals)
+GoalBy t connective.Atomic rest gs = gs ≡ goals (Atomic t) rest
 
-goal_is : (t : Term) (rest gs : Goals) → IsFlatGoal t rest gs → GoalBy t (form_of t) rest gs
+goal_is : (t : Term) (rest gs : Goals) → IsFlatGoal t rest gs → GoalBy t (connective_of t) rest gs
 goal_is t rest gs (truth f e) = subst (λ z. GoalBy t z rest gs) (sym f) e
 goal_is t rest gs (cutting f e) = subst (λ z. GoalBy t z rest gs) (sym f) e
 goal_is t rest gs (both a b m f p q) = subst (λ z. GoalBy t z rest gs) (sym f) (m, p, q)
@@ -26,24 +27,24 @@ goal_is t rest gs (every T b hs f p e) = subst (λ z. GoalBy t z rest gs) (sym f
 goal_is t rest gs (exist T b hs f p e) = subst (λ z. GoalBy t z rest gs) (sym f) (hs, p, e)
 goal_is t rest gs (plain f e) = subst (λ z. GoalBy t z rest gs) (sym f) e
 
-pub goal_by : (t : Term) (f : Form) (rest gs : Goals) → form_of t ≡ f → IsFlatGoal t rest gs → GoalBy t f rest gs
+pub goal_by : (t : Term) (f : Connective) (rest gs : Goals) → connective_of t ≡ f → IsFlatGoal t rest gs → GoalBy t f rest gs
 goal_by t f rest gs e p = subst (λ z. GoalBy t z rest gs) e (goal_is t rest gs p)
 
-abbrev pub ClausesBy : Term → Form → (vars : List Ty) → (body : List Term) → Clauses → Type 0
-ClausesBy t Truth vars body cs = ⊥
-ClausesBy t Cutting vars body cs = ⊥
-ClausesBy t (Both a b) vars body cs = (l r : Clauses) × IsFlatClause a vars body l × IsFlatClause b vars body r × (cs ≡ add_clauses l r)
-ClausesBy t (OneOf a b) vars body cs = ⊥
-ClausesBy t (Implies g c) vars body cs = IsFlatClause c vars (body ++ g ∷ []) cs
-ClausesBy t (Every T b) vars body cs = IsFlatClause b (T ∷ vars) (map (shift 0 1) body) cs
-ClausesBy t (Exist T b) vars body cs = ⊥
-ClausesBy t Plain vars body cs = (gs : Goals) × IsFlatList body gs × (cs ≡ clauses (clause 0 vars t gs) no_clauses)
+abbrev pub ClausesBy : Term → Connective → (vars : List Ty) → (body : List Term) → Clauses → Type 0
+ClausesBy t connective.True vars body cs = ⊥
+ClausesBy t connective.Cut vars body cs = ⊥
+ClausesBy t (connective.And a b) vars body cs = (l r : Clauses) × IsFlatClause a vars body l × IsFlatClause b vars body r × (cs ≡ add_clauses l r)
+ClausesBy t (connective.Or a b) vars body cs = ⊥
+ClausesBy t (connective.Implies g c) vars body cs = IsFlatClause c vars (body ++ g ∷ []) cs
+ClausesBy t (connective.ForAll T b) vars body cs = IsFlatClause b (T ∷ vars) (map (shift 0 1) body) cs
+ClausesBy t (connective.Exists T b) vars body cs = ⊥
+ClausesBy t connective.Atomic vars body cs = (gs : Goals) × IsFlatList body gs × (cs ≡ clauses (clause 0 vars t gs) no_clauses)
 
-clauses_are : (t : Term) (vars : List Ty) (body : List Term) (cs : Clauses) → IsFlatClause t vars body cs → ClausesBy t (form_of t) vars body cs
+clauses_are : (t : Term) (vars : List Ty) (body : List Term) (cs : Clauses) → IsFlatClause t vars body cs → ClausesBy t (connective_of t) vars body cs
 clauses_are t vars body cs (both_clauses a b l r f p q e) = subst (λ z. ClausesBy t z vars body cs) (sym f) (l, r, p, q, e)
 clauses_are t vars body cs (implied g c f p) = subst (λ z. ClausesBy t z vars body cs) (sym f) p
 clauses_are t vars body cs (for_every T b f p) = subst (λ z. ClausesBy t z vars body cs) (sym f) p
 clauses_are t vars body cs (head gs f p e) = subst (λ z. ClausesBy t z vars body cs) (sym f) (gs, p, e)
 
-pub clauses_by : (t : Term) (f : Form) (vars : List Ty) (body : List Term) (cs : Clauses) → form_of t ≡ f → IsFlatClause t vars body cs → ClausesBy t f vars body cs
+pub clauses_by : (t : Term) (f : Connective) (vars : List Ty) (body : List Term) (cs : Clauses) → connective_of t ≡ f → IsFlatClause t vars body cs → ClausesBy t f vars body cs
 clauses_by t f vars body cs e p = subst (λ z. ClausesBy t z vars body cs) e (clauses_are t vars body cs p)

@@ -8,8 +8,9 @@ use Rattle.lp_calculus.specs.Term.{Term, index, atom, abs, app, constant, intege
 use Rattle.lp_calculus.proofs.Sigma.{rename, rename-rename}
 use Rattle.lp_calculus.proofs.Plain.{bump, shift-rename, shift-suc}
 use Rattle.lp_calculus.proofs.BetaEta.{shift_one}
-use Rattle.lp_model.specs.Spine.{head_of, arguments_and}
-use Rattle.lp_model.specs.Standard.{Form, Truth, Cutting, Both, OneOf, Implies, Every, Exist, Plain, body_of, form_of_constant, form_at, form_of}
+use Rattle.lp_calculus.specs.Spine.{head_of, arguments_and}
+use Rattle.lp_standard.specs.Connectives.{body_of, Connective, connective_of_constant, connective_at, connective_of}
+use Rattle.lp_standard.specs.Connectives as connective
 use Rattle.lp_model.specs.Flat.{Goal, Atomic, Cut, Either, Exists, Forall, Assume, Goals, no_goals, goals, Clause, clause, Clauses, no_clauses, clauses, add_clauses, under_all, map_goal, map_clause, map_clauses, same_type, raise_goals}
 use Rattle.lp_normal.specs.Flats.{IsFlatGoal, truth, cutting, both, one_of, implies, every, exist, plain, IsFlatList, no_more, one_more, IsFlatClause, both_clauses, implied, for_every, head}
 
@@ -29,21 +30,21 @@ shift_more n t = shift-suc n t ∙ sym (shift_one (shift 0 n t))
 
 -- the connective of a raised formula
 
-abbrev pub shifted : (k by : ℕ) → Form → Form
-shifted k by Truth = Truth
-shifted k by Cutting = Cutting
-shifted k by (Both a b) = Both (shift k by a) (shift k by b)
-shifted k by (OneOf a b) = OneOf (shift k by a) (shift k by b)
-shifted k by (Implies c g) = Implies (shift k by c) (shift k by g)
-shifted k by (Every T b) = Every T (shift (suc k) by b)
-shifted k by (Exist T b) = Exist T (shift (suc k) by b)
-shifted k by Plain = Plain
+abbrev pub shifted : (k by : ℕ) → Connective → Connective
+shifted k by connective.True = connective.True
+shifted k by connective.Cut = connective.Cut
+shifted k by (connective.And a b) = connective.And (shift k by a) (shift k by b)
+shifted k by (connective.Or a b) = connective.Or (shift k by a) (shift k by b)
+shifted k by (connective.Implies c g) = connective.Implies (shift k by c) (shift k by g)
+shifted k by (connective.ForAll T b) = connective.ForAll T (shift (suc k) by b)
+shifted k by (connective.Exists T b) = connective.Exists T (shift (suc k) by b)
+shifted k by connective.Atomic = connective.Atomic
 
-shift_if : (k by : ℕ) (c : Bool) (x y : Form) → shifted k by (if c then x else y) ≡ (if c then shifted k by x else shifted k by y)
+shift_if : (k by : ℕ) (c : Bool) (x y : Connective) → shifted k by (if c then x else y) ≡ (if c then shifted k by x else shifted k by y)
 shift_if k by true x y = refl
 shift_if k by false x y = refl
 
-if_same : {x y u v : Form} (c : Bool) → x ≡ u → y ≡ v → (if c then x else y) ≡ (if c then u else v)
+if_same : {x y u v : Connective} (c : Bool) → x ≡ u → y ≡ v → (if c then x else y) ≡ (if c then u else v)
 if_same true e f = e
 if_same false e f = f
 
@@ -66,17 +67,17 @@ body_shift k by (index i) = body_raised k by i ∙ under_body k by (index i)
 body_shift k by (atom a) = ap (app (atom a)) (zero_stays k by)
 body_shift k by (app t u) = under_body k by (app t u)
 
-form_constant : (k by c : ℕ) (ts : List Ty) (us : List Term) → form_of_constant c ts (map (shift k by) us) ≡ shifted k by (form_of_constant c ts us)
+form_constant : (k by c : ℕ) (ts : List Ty) (us : List Term) → connective_of_constant c ts (map (shift k by) us) ≡ shifted k by (connective_of_constant c ts us)
 form_constant k by c ts [] =
-    sym (shift_if k by (nat_eq c 6) Truth (if nat_eq c 7 then Cutting else Plain) ∙ if_same (nat_eq c 6) refl (shift_if k by (nat_eq c 7) Cutting Plain))
+    sym (shift_if k by (nat_eq c 6) connective.True (if nat_eq c 7 then connective.Cut else connective.Atomic) ∙ if_same (nat_eq c 6) refl (shift_if k by (nat_eq c 7) connective.Cut connective.Atomic))
 form_constant k by c (T ∷ []) (a ∷ []) =
-    if_same (nat_eq c 4) (ap (Every T) (body_shift k by a)) (if_same (nat_eq c 5) (ap (Exist T) (body_shift k by a)) refl ∙ sym (shift_if k by (nat_eq c 5) (Exist T (body_of a)) Plain)) ∙
-    sym (shift_if k by (nat_eq c 4) (Every T (body_of a)) (if nat_eq c 5 then Exist T (body_of a) else Plain))
+    if_same (nat_eq c 4) (ap (connective.ForAll T) (body_shift k by a)) (if_same (nat_eq c 5) (ap (connective.Exists T) (body_shift k by a)) refl ∙ sym (shift_if k by (nat_eq c 5) (connective.Exists T (body_of a)) connective.Atomic)) ∙
+    sym (shift_if k by (nat_eq c 4) (connective.ForAll T (body_of a)) (if nat_eq c 5 then connective.Exists T (body_of a) else connective.Atomic))
 form_constant k by c [] (a ∷ b ∷ []) =
-    sym (shift_if k by (nat_eq c 0) (Both a b) (if nat_eq c 1 then OneOf a b else (if nat_eq c 2 then Implies a b else (if nat_eq c 3 then Implies b a else Plain))) ∙
-    if_same (nat_eq c 0) refl (shift_if k by (nat_eq c 1) (OneOf a b) (if nat_eq c 2 then Implies a b else (if nat_eq c 3 then Implies b a else Plain)) ∙
-    if_same (nat_eq c 1) refl (shift_if k by (nat_eq c 2) (Implies a b) (if nat_eq c 3 then Implies b a else Plain) ∙
-    if_same (nat_eq c 2) refl (shift_if k by (nat_eq c 3) (Implies b a) Plain))))
+    sym (shift_if k by (nat_eq c 0) (connective.And a b) (if nat_eq c 1 then connective.Or a b else (if nat_eq c 2 then connective.Implies a b else (if nat_eq c 3 then connective.Implies b a else connective.Atomic))) ∙
+    if_same (nat_eq c 0) refl (shift_if k by (nat_eq c 1) (connective.Or a b) (if nat_eq c 2 then connective.Implies a b else (if nat_eq c 3 then connective.Implies b a else connective.Atomic)) ∙
+    if_same (nat_eq c 1) refl (shift_if k by (nat_eq c 2) (connective.Implies a b) (if nat_eq c 3 then connective.Implies b a else connective.Atomic) ∙
+    if_same (nat_eq c 2) refl (shift_if k by (nat_eq c 3) (connective.Implies b a) connective.Atomic))))
 form_constant k by c [] (a ∷ []) = refl
 form_constant k by c (T ∷ U ∷ ts) (a ∷ []) = refl
 form_constant k by c (T ∷ []) (a ∷ b ∷ []) = refl
@@ -85,14 +86,14 @@ form_constant k by c [] (a ∷ b ∷ x ∷ us) = refl
 form_constant k by c (T ∷ []) (a ∷ b ∷ x ∷ us) = refl
 form_constant k by c (T ∷ U ∷ ts) (a ∷ b ∷ x ∷ us) = refl
 
-index_form : (k by i : ℕ) (us : List Term) → form_at (head_of (raised by k i)) (arguments_and (raised by k i) us) ≡ Plain
+index_form : (k by i : ℕ) (us : List Term) → connective_at (head_of (raised by k i)) (arguments_and (raised by k i) us) ≡ connective.Atomic
 index_form k by i us = go (nat_lt i k)
   where
-    go : (c : Bool) → form_at (head_of (if c then index i else index (i + by))) (arguments_and (if c then index i else index (i + by)) us) ≡ Plain
+    go : (c : Bool) → connective_at (head_of (if c then index i else index (i + by))) (arguments_and (if c then index i else index (i + by)) us) ≡ connective.Atomic
     go true = refl
     go false = refl
 
-form_spine : (k by : ℕ) (t : Term) (us : List Term) → form_at (head_of (shift k by t)) (arguments_and (shift k by t) (map (shift k by) us)) ≡ shifted k by (form_at (head_of t) (arguments_and t us))
+form_spine : (k by : ℕ) (t : Term) (us : List Term) → connective_at (head_of (shift k by t)) (arguments_and (shift k by t) (map (shift k by) us)) ≡ shifted k by (connective_at (head_of t) (arguments_and t us))
 form_spine k by (index i) us = index_form k by i (map (shift k by) us)
 form_spine k by (atom (constant c ts)) us = form_constant k by c ts us
 form_spine k by (atom (integer z)) us = refl
@@ -103,10 +104,10 @@ form_spine k by (atom (param x T)) us = refl
 form_spine k by (abs b) us = refl
 form_spine k by (app t u) us = form_spine k by t (u ∷ us)
 
-pub form_shift : (k by : ℕ) (t : Term) → form_of (shift k by t) ≡ shifted k by (form_of t)
+pub form_shift : (k by : ℕ) (t : Term) → connective_of (shift k by t) ≡ shifted k by (connective_of t)
 form_shift k by t = form_spine k by t []
 
-pub form_shifted : (k by : ℕ) (t : Term) (f : Form) → form_of t ≡ f → form_of (shift k by t) ≡ shifted k by f
+pub form_shifted : (k by : ℕ) (t : Term) (f : Connective) → connective_of t ≡ f → connective_of (shift k by t) ≡ shifted k by f
 form_shifted k by t f e = form_shift k by t ∙ ap (shifted k by) e
 
 -- goals raised twice
@@ -184,20 +185,20 @@ map_shifts k (t ∷ ts) = ap (λ z. z ∷ map (shift (suc k) 1) (map (shift 0 1)
 
 mutual
   pub goal_raised : (k : ℕ) (t : Term) (rest gs : Goals) → IsFlatGoal t rest gs → IsFlatGoal (shift k 1 t) (raise_goals k rest) (raise_goals k gs)
-  goal_raised k t rest gs (truth f e) = truth (form_shifted k 1 t Truth f) (ap (raise_goals k) e)
-  goal_raised k t rest gs (cutting f e) = cutting (form_shifted k 1 t Cutting f) (ap (raise_goals k) e)
+  goal_raised k t rest gs (truth f e) = truth (form_shifted k 1 t connective.True f) (ap (raise_goals k) e)
+  goal_raised k t rest gs (cutting f e) = cutting (form_shifted k 1 t connective.Cut f) (ap (raise_goals k) e)
   goal_raised k t rest gs (both a b m f p q) =
-      both (shift k 1 a) (shift k 1 b) (raise_goals k m) (form_shifted k 1 t (Both a b) f) (goal_raised k b rest m p) (goal_raised k a m gs q)
+      both (shift k 1 a) (shift k 1 b) (raise_goals k m) (form_shifted k 1 t (connective.And a b) f) (goal_raised k b rest m p) (goal_raised k a m gs q)
   goal_raised k t rest gs (one_of a b l r f p q e) =
-      one_of (shift k 1 a) (shift k 1 b) (raise_goals k l) (raise_goals k r) (form_shifted k 1 t (OneOf a b) f) (goal_raised k a no_goals l p) (goal_raised k b no_goals r q) (ap (raise_goals k) e)
+      one_of (shift k 1 a) (shift k 1 b) (raise_goals k l) (raise_goals k r) (form_shifted k 1 t (connective.Or a b) f) (goal_raised k a no_goals l p) (goal_raised k b no_goals r q) (ap (raise_goals k) e)
   goal_raised k t rest gs (implies c g cs hs f p q e) =
-      implies (shift k 1 c) (shift k 1 g) (raise_clauses k cs) (raise_goals k hs) (form_shifted k 1 t (Implies c g) f) (clause_raised k c [] [] cs p) (goal_raised k g no_goals hs q) (ap (raise_goals k) e)
+      implies (shift k 1 c) (shift k 1 g) (raise_clauses k cs) (raise_goals k hs) (form_shifted k 1 t (connective.Implies c g) f) (clause_raised k c [] [] cs p) (goal_raised k g no_goals hs q) (ap (raise_goals k) e)
   goal_raised k t rest gs (every T b hs f p e) =
-      every T (shift (suc k) 1 b) (raise_goals (suc k) hs) (form_shifted k 1 t (Every T b) f) (goal_raised (suc k) b no_goals hs p) (ap (raise_goals k) e)
+      every T (shift (suc k) 1 b) (raise_goals (suc k) hs) (form_shifted k 1 t (connective.ForAll T b) f) (goal_raised (suc k) b no_goals hs p) (ap (raise_goals k) e)
   goal_raised k t rest gs (exist T b hs f p e) =
-      exist T (shift (suc k) 1 b) (raise_goals (suc k) hs) (form_shifted k 1 t (Exist T b) f)
+      exist T (shift (suc k) 1 b) (raise_goals (suc k) hs) (form_shifted k 1 t (connective.Exists T b) f)
       (subst (λ z. IsFlatGoal (shift (suc k) 1 b) z (raise_goals (suc k) hs)) (goals_twice 0 k rest (omega arith)) (goal_raised (suc k) b (raise_goals 0 rest) hs p)) (ap (raise_goals k) e)
-  goal_raised k t rest gs (plain f e) = plain (form_shifted k 1 t Plain f) (ap (raise_goals k) e)
+  goal_raised k t rest gs (plain f e) = plain (form_shifted k 1 t connective.Atomic f) (ap (raise_goals k) e)
 
   list_raised : (k : ℕ) (ts : List Term) (gs : Goals) → IsFlatList ts gs → IsFlatList (map (shift k 1) ts) (raise_goals k gs)
   list_raised k ts gs (no_more e f) = no_more (ap (map (shift k 1)) e) (ap (raise_goals k) f)
@@ -207,17 +208,17 @@ mutual
   clause_raised : (k : ℕ) (t : Term) (vars : List Ty) (body : List Term) (cs : Clauses) → IsFlatClause t vars body cs → IsFlatClause (shift (under_all suc vars k) 1 t) vars (map (shift (under_all suc vars k) 1) body) (raise_clauses k cs)
   clause_raised k t vars body cs (both_clauses a b l r f p q e) =
       let u = under_all suc vars k in
-      both_clauses (shift u 1 a) (shift u 1 b) (raise_clauses k l) (raise_clauses k r) (form_shifted u 1 t (Both a b) f) (clause_raised k a vars body l p) (clause_raised k b vars body r q)
+      both_clauses (shift u 1 a) (shift u 1 b) (raise_clauses k l) (raise_clauses k r) (form_shifted u 1 t (connective.And a b) f) (clause_raised k a vars body l p) (clause_raised k b vars body r q)
       (ap (raise_clauses k) e ∙ raise_added k l r)
   clause_raised k t vars body cs (implied g c f p) =
       let u = under_all suc vars k in
-      implied (shift u 1 g) (shift u 1 c) (form_shifted u 1 t (Implies g c) f)
+      implied (shift u 1 g) (shift u 1 c) (form_shifted u 1 t (connective.Implies g c) f)
       (subst (λ z. IsFlatClause (shift u 1 c) vars z (raise_clauses k cs)) (map_both (shift u 1) body (g ∷ [])) (clause_raised k c vars (body ++ g ∷ []) cs p))
   clause_raised k t vars body cs (for_every T b f p) =
       let u = under_all suc vars k in
-      for_every T (shift (suc u) 1 b) (form_shifted u 1 t (Every T b) f)
+      for_every T (shift (suc u) 1 b) (form_shifted u 1 t (connective.ForAll T b) f)
       (subst (λ z. IsFlatClause (shift (suc u) 1 b) (T ∷ vars) z (raise_clauses k cs)) (map_shifts u body) (clause_raised k b (T ∷ vars) (map (shift 0 1) body) cs p))
   clause_raised k t vars body cs (head gs f p e) =
       let u = under_all suc vars k in
-      head (raise_goals u gs) (form_shifted u 1 t Plain f) (list_raised u body gs p)
+      head (raise_goals u gs) (form_shifted u 1 t connective.Atomic f) (list_raised u body gs p)
       (ap (raise_clauses k) e ∙ ap (λ z. clauses (clause 0 z (shift u 1 t) (raise_goals u gs)) no_clauses) (map_same vars))

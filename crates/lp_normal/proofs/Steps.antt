@@ -9,7 +9,8 @@ use Rattle.lp_term.specs.Nodes.{Nodes, Extends, tree, type_tree}
 use Rattle.lp_term.specs.declared.node.TermId.{TermId}
 use Rattle.lp_term.specs.declared.node.TypeId.{TypeId}
 use Rattle.lp_model.specs.declared.clause.Goal.{Goal}
-use Rattle.lp_model.specs.Standard.{Form, Truth, Cutting, Both, OneOf, Implies, Every, Exist, Plain, body_of, form_of}
+use Rattle.lp_standard.specs.Connectives.{body_of, Connective, connective_of}
+use Rattle.lp_standard.specs.Connectives as connective
 use Rattle.lp_model.specs.Flat.{Goal as FlatGoal, Atomic, Cut, Either, Forall, Assume, Goals, no_goals, goals, Clauses, no_clauses, clauses, add_goals, add_clauses, raise_goals}
 use Rattle.lp_model.specs.Flatten.{with_type_vars}
 use Rattle.lp_model.specs.Flattened.{goal_of, goals_of, clauses_of}
@@ -84,10 +85,10 @@ one_comes b m w n gs o d q v p = record {
 
 -- the next formula, by its connective
 module _ (b : Nodes) (l : GoalList) (next : Waiting) (out : Goals) where
-  raised_form : (f : Form) → form_of (tree b next.formula.0) ≡ f → form_of (raised_in b l.level next) ≡ shifted 0 (l.level - next.level) f
+  raised_form : (f : Connective) → connective_of (tree b next.formula.0) ≡ f → connective_of (raised_in b l.level next) ≡ shifted 0 (l.level - next.level) f
   raised_form f e = form_shifted 0 (l.level - next.level) (tree b next.formula.0) f e
 
-  next_by : (f : Form) → form_of (tree b next.formula.0) ≡ f → (h : NextComesTo b l next out) → GoalBy (raised_in b l.level next) (shifted 0 (l.level - next.level) f) h.behind h.rest
+  next_by : (f : Connective) → connective_of (tree b next.formula.0) ≡ f → (h : NextComesTo b l next out) → GoalBy (raised_in b l.level next) (shifted 0 (l.level - next.level) f) h.behind h.rest
   next_by f e h = goal_by (raised_in b l.level next) (shifted 0 (l.level - next.level) f) h.behind h.rest (raised_form f e) h.goal
 
   -- it is one goal, and those behind it
@@ -100,26 +101,26 @@ module _ (b : Nodes) (l : GoalList) (next : Waiting) (out : Goals) where
     closes = subst (λ z. Closes b (reverse l.opened.items) (add_goals h.done z) out) e h.closes;
   }
 
-  pub truth_next : form_of (tree b next.formula.0) ≡ Truth → NextComesTo b l next out → ComesTo b l no_goals out
+  pub truth_next : connective_of (tree b next.formula.0) ≡ connective.True → NextComesTo b l next out → ComesTo b l no_goals out
   truth_next f h = record {
     done = h.done;
     rest = h.behind;
     reads = h.reads;
     flatten = h.flatten;
-    closes = subst (λ z. Closes b (reverse l.opened.items) (add_goals h.done z) out) (next_by Truth f h) h.closes;
+    closes = subst (λ z. Closes b (reverse l.opened.items) (add_goals h.done z) out) (next_by connective.True f h) h.closes;
   }
 
-  pub cut_next : form_of (tree b next.formula.0) ≡ Cutting → NextComesTo b l next out → ComesTo b l (goals Cut no_goals) out
-  cut_next f h = one_goal Cut h (next_by Cutting f h)
+  pub cut_next : connective_of (tree b next.formula.0) ≡ connective.Cut → NextComesTo b l next out → ComesTo b l (goals Cut no_goals) out
+  cut_next f h = one_goal Cut h (next_by connective.Cut f h)
 
-  pub plain_next : form_of (tree b next.formula.0) ≡ Plain → NextComesTo b l next out → ComesTo b l (goals (Atomic (raised_in b l.level next)) no_goals) out
-  plain_next f h = one_goal (Atomic (raised_in b l.level next)) h (next_by Plain f h)
+  pub plain_next : connective_of (tree b next.formula.0) ≡ connective.Atomic → NextComesTo b l next out → ComesTo b l (goals (Atomic (raised_in b l.level next)) no_goals) out
+  plain_next f h = one_goal (Atomic (raised_in b l.level next)) h (next_by connective.Atomic f h)
 
   pub both_next : (m : GoalList) (left right : TermId) → m.opened ≡ l.opened → m.done ≡ l.done →
       m.waiting.items ≡ (l.waiting.items ++ record { formula = right; level = next.level } ∷ []) ++ record { formula = left; level = next.level } ∷ [] → m.level ≡ l.level →
-      form_of (tree b next.formula.0) ≡ Both (tree b left.0) (tree b right.0) → NextComesTo b l next out → ComesTo b m no_goals out
+      connective_of (tree b next.formula.0) ≡ connective.And (tree b left.0) (tree b right.0) → NextComesTo b l next out → ComesTo b m no_goals out
   both_next m left right o d w v f h =
-      let k = next_by (Both (tree b left.0) (tree b right.0)) f h in
+      let k = next_by (connective.And (tree b left.0) (tree b right.0)) f h in
       let second : Waiting = record { formula = right; level = next.level } in
       let first : Waiting = record { formula = left; level = next.level } in
       let q : reverse m.waiting.items ≡ first ∷ second ∷ reverse l.waiting.items = reverse_push m.waiting.items (l.waiting.items ++ second ∷ []) first w ∙ ap (λ z. first ∷ z) (reverse-append l.waiting.items (second ∷ [])) in
@@ -133,9 +134,9 @@ module _ (b : Nodes) (l : GoalList) (next : Waiting) (out : Goals) where
 
   pub one_of_next : (whole : Flat) (m : GoalList) (fs gs : List Frame) (left right : TermId) → m.opened.items ≡ [] → m.done.items ≡ [] → m.waiting.items ≡ record { formula = left; level = next.level } ∷ [] → m.level ≡ l.level →
       gs ≡ fs ++ Frame.Left l (record { formula = right; level = next.level }) ∷ [] →
-      form_of (tree b next.formula.0) ≡ OneOf (tree b left.0) (tree b right.0) → NextComesTo b l next out → AllTurn b (reverse fs) (these_goals out) whole → InnerComesTo b (Inner.Goals m) gs whole
+      connective_of (tree b next.formula.0) ≡ connective.Or (tree b left.0) (tree b right.0) → NextComesTo b l next out → AllTurn b (reverse fs) (these_goals out) whole → InnerComesTo b (Inner.Goals m) gs whole
   one_of_next whole m fs gs left right o d w v e f h t =
-      let k = next_by (OneOf (tree b left.0) (tree b right.0)) f h in
+      let k = next_by (connective.Or (tree b left.0) (tree b right.0)) f h in
       let second : Waiting = record { formula = right; level = next.level } in (
         k.0,
         one_comes b m (record { formula = left; level = next.level }) l.level k.0 o d w v k.2,
@@ -145,9 +146,9 @@ module _ (b : Nodes) (l : GoalList) (next : Waiting) (out : Goals) where
 
   pub implies_next : (m : ClauseList) (v : Assumed) (formula goal : TermId) → v.outer ≡ l → v.goal ≡ record { formula = goal; level = next.level } → m.type_vars ≡ 0 → m.assumed ≡ Some v → m.done.items ≡ [] → m.waiting.items ≡ Part.Visit formula ∷ [] → m.around.items ≡ [] →
       (u : Term) → tree b formula.0 ≡ shift 0 (l.level - next.level) u →
-      form_of (tree b next.formula.0) ≡ Implies u (tree b goal.0) → NextComesTo b l next out → ClausesComeTo b m no_clauses (these_goals out)
+      connective_of (tree b next.formula.0) ≡ connective.Implies u (tree b goal.0) → NextComesTo b l next out → ClausesComeTo b m no_clauses (these_goals out)
   implies_next m v formula goal vo vg y a d w r u e f h =
-      let k = next_by (Implies u (tree b goal.0)) f h in
+      let k = next_by (connective.Implies u (tree b goal.0)) f h in
       let second : Waiting = record { formula = goal; level = next.level } in
       record {
         done = no_clauses;
@@ -168,9 +169,9 @@ module _ (b : Nodes) (l : GoalList) (next : Waiting) (out : Goals) where
 
   pub every_next : (whole : Flat) (m : GoalList) (fs gs : List Frame) (bound : TypeId) (formula : TermId) → m.opened.items ≡ [] → m.done.items ≡ [] → m.waiting.items ≡ record { formula = formula; level = 0 } ∷ [] → m.level ≡ 0 →
       gs ≡ fs ++ Frame.All l bound ∷ [] → (u : Term) → tree b formula.0 ≡ body_of (shift 0 (l.level - next.level) u) →
-      form_of (tree b next.formula.0) ≡ Every (type_tree b bound.0) (body_of u) → NextComesTo b l next out → AllTurn b (reverse fs) (these_goals out) whole → InnerComesTo b (Inner.Goals m) gs whole
+      connective_of (tree b next.formula.0) ≡ connective.ForAll (type_tree b bound.0) (body_of u) → NextComesTo b l next out → AllTurn b (reverse fs) (these_goals out) whole → InnerComesTo b (Inner.Goals m) gs whole
   every_next whole m fs gs bound formula o d w v e u s f h t =
-      let k = next_by (Every (type_tree b bound.0) (body_of u)) f h in
+      let k = next_by (connective.ForAll (type_tree b bound.0) (body_of u)) f h in
       let p : IsFlatGoal (shift 0 0 (tree b formula.0)) no_goals k.0 = subst (λ z. IsFlatGoal z no_goals k.0) (sym (shift-none (tree b formula.0) ∙ s ∙ body_shift 0 (l.level - next.level) u)) k.1 in (
         k.0,
         one_comes b m (record { formula = formula; level = 0 }) 0 k.0 o d w v p,
@@ -190,9 +191,9 @@ flatten_raised b n (w ∷ ws) gs a f =
 
 pub exist_next : (b : Nodes) (l : GoalList) (next : Waiting) (out : Goals) (m : GoalList) (bound : TypeId) (body : TermId) → m.opened.items ≡ l.opened.items ++ record { bound = bound; before = l.done } ∷ [] → m.done.items ≡ [] →
     m.waiting.items ≡ l.waiting.items ++ record { formula = body; level = suc l.level } ∷ [] → m.level ≡ suc l.level → All (IsWaitingIn b l.level) l.waiting.items → (u : Term) → tree b body.0 ≡ body_of (shift 0 (l.level - next.level) u) →
-    form_of (tree b next.formula.0) ≡ Exist (type_tree b bound.0) (body_of u) → NextComesTo b l next out → ComesTo b m no_goals out
+    connective_of (tree b next.formula.0) ≡ connective.Exists (type_tree b bound.0) (body_of u) → NextComesTo b l next out → ComesTo b m no_goals out
 exist_next b l next out m bound body o d w v a u s f h =
-    let k = next_by b l next out (Exist (type_tree b bound.0) (body_of u)) f h in
+    let k = next_by b l next out (connective.Exists (type_tree b bound.0) (body_of u)) f h in
     let first : Waiting = record { formula = body; level = suc l.level } in
     let outer : Opened = record { bound = bound; before = l.done } in
     let z0 : suc l.level - suc l.level ≡ 0 = omega arith in

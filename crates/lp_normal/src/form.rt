@@ -2,7 +2,7 @@
 ghost use Rattle.std.specs.Prelude.{◌≡◌, ◌<◌, length, [], ◌∷◌, true, false};
 ghost use Rattle.lp_calculus.specs.Term.{app};
 ghost use Rattle.lp_term.specs.Nodes.{tree};
-ghost use Rattle.lp_model.specs.Standard.{form_at, form_of};
+ghost use Rattle.lp_standard.specs.Connectives.{connective_at, connective_of};
 ghost use Rattle.lp_normal.specs.Formed.{IsConnectiveIn, form_in, IsSpineIn, spine_form, IsNoApplication, IsApplication};
 
 use lp_term::{Bank, TermId, TermNode, TypeId};

@@ -3,7 +3,7 @@ ghost use Rattle.std.specs.Prelude.{◌≡◌, ◌<◌, ◌≤◌, ◌^◌, leng
 ghost use Rattle.lp_calculus.specs.Term.{app, shift};
 ghost use Rattle.lp_term.specs.Nodes.{Extends, tree};
 ghost use Rattle.lp_term.specs.Spine.{LooseBelow};
-ghost use Rattle.lp_model.specs.Standard.{body_of};
+ghost use Rattle.lp_standard.specs.Connectives.{body_of};
 
 use lp_base::Memory;
 use lp_term::{Bank, TermId, TermNode, shift};

@@ -2,7 +2,8 @@
 ghost use Rattle.std.specs.Prelude.{◌≡◌, ◌<◌, length, [], All, IfOk, OnOk, reverse};
 ghost use Rattle.lp_calculus.specs.Term.{shift};
 ghost use Rattle.lp_term.specs.Nodes.{Nodes, Extends, tree, type_tree};
-ghost use Rattle.lp_model.specs.Standard.{OneOf, Implies, Every, Exist, Plain, body_of, form_of};
+ghost use Rattle.lp_standard.specs.Connectives.{body_of, connective_of};
+ghost use Rattle.lp_standard.specs.Connectives as connective;
 ghost use Rattle.lp_model.specs.Flat.{Goals, no_goals, no_clauses};
 ghost use Rattle.lp_normal.specs.Within.{AreGoalsIn, IsWaitingIn, IsGoalListIn, IsClauseListIn, IsFrameIn, IsInnerIn, IsMoveIn};
 ghost use Rattle.lp_normal.specs.Making.{Flat, these_goals, Reads, NextComesTo, PartComesTo, ComesTo, ClausesComeTo, Turns, AllTurn, InnerComesTo, MoveComesTo};

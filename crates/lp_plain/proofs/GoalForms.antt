@@ -5,8 +5,9 @@ use Rattle.std.proofs.lemmas.Bool.{eqb-true}
 use Rattle.lp_base.specs.declared.compare.Compare.TheVariants.{Less, Greater, AtMost, AtLeast}
 use Rattle.lp_calculus.specs.Types.{Ty}
 use Rattle.lp_calculus.specs.Term.{Term, atom, constant, eigen, logic}
-use Rattle.lp_model.specs.Spine.{head_of, arguments}
-use Rattle.lp_model.specs.Standard.{Implies, Plain, form_of, form_at, form_of_constant}
+use Rattle.lp_calculus.specs.Spine.{head_of, arguments}
+use Rattle.lp_standard.specs.Connectives.{connective_of, connective_at, connective_of_constant}
+use Rattle.lp_standard.specs.Connectives as connective
 use Rattle.lp_term.specs.Node.{TermBelow}
 use Rattle.lp_term.specs.Nodes.{Nodes, tree, node_tree}
 use Rattle.lp_term.specs.Shapes.{term_shape}
@@ -28,8 +29,8 @@ if_true t x y e = ap (λ z. if z then x else y) e
 if_false : {X : Type 0} (t : Bool) (x y : X) → t ≡ false → (if t then x else y) ≡ y
 if_false t x y e = ap (λ z. if z then x else y) e
 
-form_told : (t : Term) (h : Term) (us : List Term) → head_of t ≡ h → arguments t ≡ us → form_of t ≡ form_at h us
-form_told t h us e a = ap (λ z. form_at z (arguments t)) e ∙ ap (form_at h) a
+form_told : (t : Term) (h : Term) (us : List Term) → head_of t ≡ h → arguments t ≡ us → connective_of t ≡ connective_at h us
+form_told t h us e a = ap (λ z. connective_at z (arguments t)) e ∙ ap (connective_at h) a
 
 no_types : (n k : ℕ) (ts : List Ty) → HasTypes n ts → nat_eq n k ≡ true → nat_lt k 4 ≡ true → ts ≡ []
 no_types n k ts h e l = h.0 (ap (λ z. nat_lt z 4) (eqb-true n k e) ∙ l)
@@ -37,17 +38,17 @@ no_types n k ts h e l = h.0 (ap (λ z. nat_lt z 4) (eqb-true n k e) ∙ l)
 one_type : (n k : ℕ) (ts : List Ty) → HasTypes n ts → nat_eq n k ≡ true → nat_lt k 4 ≡ false → nat_lt k 6 ≡ true → (T : Ty) × (ts ≡ T ∷ [])
 one_type n k ts h e l m = h.1 (ap (λ z. nat_lt z 4) (eqb-true n k e) ∙ l) (ap (λ z. nat_lt z 6) (eqb-true n k e) ∙ m)
 
-plain_two : (n : ℕ) (ts : List Ty) (a b : Term) → nat_eq n 0 ≡ false → nat_eq n 1 ≡ false → nat_eq n 2 ≡ false → nat_eq n 3 ≡ false → form_of_constant n ts (a ∷ b ∷ []) ≡ Plain
+plain_two : (n : ℕ) (ts : List Ty) (a b : Term) → nat_eq n 0 ≡ false → nat_eq n 1 ≡ false → nat_eq n 2 ≡ false → nat_eq n 3 ≡ false → connective_of_constant n ts (a ∷ b ∷ []) ≡ connective.Atomic
 plain_two n [] a b e f g h = if_false _ _ _ e ∙ if_false _ _ _ f ∙ if_false _ _ _ g ∙ if_false _ _ _ h
 plain_two n (T ∷ []) a b e f g h = refl
 plain_two n (T ∷ S ∷ ts) a b e f g h = refl
 
-plain_one : (n : ℕ) (ts : List Ty) (a : Term) → nat_eq n 4 ≡ false → nat_eq n 5 ≡ false → form_of_constant n ts (a ∷ []) ≡ Plain
+plain_one : (n : ℕ) (ts : List Ty) (a : Term) → nat_eq n 4 ≡ false → nat_eq n 5 ≡ false → connective_of_constant n ts (a ∷ []) ≡ connective.Atomic
 plain_one n [] a e f = refl
 plain_one n (T ∷ []) a e f = if_false _ _ _ e ∙ if_false _ _ _ f
 plain_one n (T ∷ S ∷ ts) a e f = refl
 
-plain_many : (n : ℕ) (ts : List Ty) (a b c : Term) (us : List Term) → form_of_constant n ts (a ∷ b ∷ c ∷ us) ≡ Plain
+plain_many : (n : ℕ) (ts : List Ty) (a b c : Term) (us : List Term) → connective_of_constant n ts (a ∷ b ∷ c ∷ us) ≡ connective.Atomic
 plain_many n [] a b c us = refl
 plain_many n (T ∷ []) a b c us = refl
 plain_many n (T ∷ S ∷ ts) a b c us = refl
@@ -58,22 +59,22 @@ none_is b t n ts e a =
     (λ h. if_by (IsForm b t) (nat_eq n 7) form.Other _ (λ i. subst (λ z. IsNoGoal z (head_of t)) (sym (f ∙ if_false _ _ _ h ∙ if_true _ _ _ i)) tt)
     (λ i. (f ∙ if_false _ _ _ h ∙ if_false _ _ _ i, ts, e, ap (is_call n) a, subst (λ z. IsFirst b z None) (sym a) refl)))
   where
-    f : form_of t ≡ form_of_constant n ts []
+    f : connective_of t ≡ connective_of_constant n ts []
     f = form_told t (atom (constant n ts)) [] e a
 
 one_is : (b : Nodes) (t : Term) (n : ℕ) (ts : List Ty) (x : TermId) → head_of t ≡ atom (constant n ts) → arguments t ≡ tree b x.0 ∷ [] → HasTypes n ts → IsForm b t (by_one n x)
 one_is b t n ts x e a w =
-    if_by (IsForm b t) (nat_eq n 4) (form.Every x) _ (λ h. let T = one_type n 4 ts w h refl refl in (T.0, f ∙ ap (λ z. form_of_constant n z us) T.1 ∙ if_true _ _ _ h))
-    (λ h. if_by (IsForm b t) (nat_eq n 5) (form.Exist x) _ (λ i. let T = one_type n 5 ts w i refl refl in (T.0, f ∙ ap (λ z. form_of_constant n z us) T.1 ∙ if_false _ _ _ h ∙ if_true _ _ _ i))
+    if_by (IsForm b t) (nat_eq n 4) (form.Every x) _ (λ h. let T = one_type n 4 ts w h refl refl in (T.0, f ∙ ap (λ z. connective_of_constant n z us) T.1 ∙ if_true _ _ _ h))
+    (λ h. if_by (IsForm b t) (nat_eq n 5) (form.Exist x) _ (λ i. let T = one_type n 5 ts w i refl refl in (T.0, f ∙ ap (λ z. connective_of_constant n z us) T.1 ∙ if_false _ _ _ h ∙ if_true _ _ _ i))
     (λ i. (f ∙ plain_one n ts (tree b x.0) h i, ts, e, ap (is_call n) a, subst (λ z. IsFirst b z (Some x)) (sym a) (x, refl, refl))))
   where
     us : List Term
     us = tree b x.0 ∷ []
 
-    f : form_of t ≡ form_of_constant n ts us
+    f : connective_of t ≡ connective_of_constant n ts us
     f = form_told t (atom (constant n ts)) us e a
 
-relation_is : (b : Nodes) (t : Term) (n : ℕ) (ts : List Ty) (l r : TermId) → head_of t ≡ atom (constant n ts) → arguments t ≡ tree b l.0 ∷ tree b r.0 ∷ [] → form_of t ≡ Plain → IsForm b t (by_relation n l r)
+relation_is : (b : Nodes) (t : Term) (n : ℕ) (ts : List Ty) (l r : TermId) → head_of t ≡ atom (constant n ts) → arguments t ≡ tree b l.0 ∷ tree b r.0 ∷ [] → connective_of t ≡ connective.Atomic → IsForm b t (by_relation n l r)
 relation_is b t n ts l r e a p =
     if_by (IsForm b t) (nat_eq n 8) (form.Equal l r) _ (λ h. (p, ts, at 8 h, a)) (λ h8.
     if_by (IsForm b t) (nat_eq n 9) (form.Is l r) _ (λ h. (p, ts, at 9 h, a)) (λ h9.
@@ -97,10 +98,10 @@ two_is b t n ts l r e a w =
     us : List Term
     us = tree b l.0 ∷ tree b r.0 ∷ []
 
-    plain : (k : ℕ) → nat_eq n k ≡ true → nat_lt k 4 ≡ true → form_of t ≡ form_of_constant n [] us
-    plain k h q = form_told t (atom (constant n ts)) us e a ∙ ap (λ z. form_of_constant n z us) (no_types n k ts w h q)
+    plain : (k : ℕ) → nat_eq n k ≡ true → nat_lt k 4 ≡ true → connective_of t ≡ connective_of_constant n [] us
+    plain k h q = form_told t (atom (constant n ts)) us e a ∙ ap (λ z. connective_of_constant n z us) (no_types n k ts w h q)
 
-    no_goal : {c g : Term} → form_of t ≡ Implies c g → IsForm b t form.Other
+    no_goal : {c g : Term} → connective_of t ≡ connective.Implies c g → IsForm b t form.Other
     no_goal q = subst (λ z. IsNoGoal z (head_of t)) (sym q) tt
 
 pub constant_is : (b : Nodes) (t h : Term) (n : ℕ) (ts : List Ty) (ids : List TermId) → h ≡ head_of t → atom (constant n ts) ≡ h → map (λ (i : TermId). tree b i.0) ids ≡ arguments t → ((c : ℕ) (us : List Ty) → head_of t ≡ atom (constant c us) → HasTypes c us) → IsForm b t (by_constant n ids)
@@ -121,7 +122,7 @@ eigen_is b t h k o e f i = (form_told t (atom (eigen k)) (arguments t) (sym (f �
 pub logic_is : (b : Nodes) (t h : Term) (x l : ℕ) → h ≡ head_of t → atom (logic x l) ≡ h → IsForm b t form.Flexible
 logic_is b t h x l e f = (form_told t (atom (logic x l)) (arguments t) (sym (f ∙ e)) refl, x, l, sym (f ∙ e))
 
-nothing_told : (h : Term) (us : List Term) → (kind h ≡ 1 → ⊥) → (kind h ≡ 4 → ⊥) → (kind h ≡ 5 → ⊥) → IsNoGoal (form_at h us) h
+nothing_told : (h : Term) (us : List Term) → (kind h ≡ 1 → ⊥) → (kind h ≡ 4 → ⊥) → (kind h ≡ 5 → ⊥) → IsNoGoal (connective_at h us) h
 nothing_told (atom (constant c ts)) us n k l = absurd (n refl)
 nothing_told (atom (eigen j)) us n k l = absurd (k refl)
 nothing_told (atom (logic x y)) us n k l = absurd (l refl)

@@ -8,7 +8,7 @@ use Rattle.lp_term.specs.declared.node.TermId.{TermId}
 use Rattle.lp_term.specs.declared.node.TermNode.{TermNode}
 use Rattle.lp_model.specs.Same.{same_name}
 use Rattle.lp_model.specs.Search.{may_meet, key_of}
-use Rattle.lp_model.specs.Spine.{head_of}
+use Rattle.lp_calculus.specs.Spine.{head_of}
 use Rattle.lp_plain.specs.Heads.{IsTextKey}
 
 key_of_head : (t : Term) → key_of t ≡ key_of (head_of t)

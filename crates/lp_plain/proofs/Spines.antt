@@ -5,7 +5,7 @@ use Rattle.lp_calculus.specs.Term.{Term, index, atom, abs, app, apply}
 use Rattle.lp_term.specs.Nodes.{Nodes, tree}
 use Rattle.lp_term.specs.declared.node.TermId.{TermId}
 use Rattle.lp_term.proofs.Walks.{map_map}
-use Rattle.lp_model.specs.Spine.{head_of, arguments_and, arguments}
+use Rattle.lp_calculus.specs.Spine.{head_of, arguments_and, arguments}
 
 pub head_applied : (ts : List Term) (f : Term) → head_of (apply f ts) ≡ head_of f
 head_applied [] f = refl

@@ -4,8 +4,9 @@ use Rattle.lp_base.specs.declared.compare.Compare.{Compare}
 use Rattle.lp_base.specs.declared.compare.Compare.TheVariants.{Less, Greater, AtMost, AtLeast}
 use Rattle.lp_calculus.specs.Types.{Ty}
 use Rattle.lp_calculus.specs.Term.{Term, atom, constant, eigen, logic}
-use Rattle.lp_model.specs.Spine.{head_of, arguments}
-use Rattle.lp_model.specs.Standard.{form_of, body_of, Plain}
+use Rattle.lp_calculus.specs.Spine.{head_of, arguments}
+use Rattle.lp_standard.specs.Connectives.{body_of, connective_of}
+use Rattle.lp_standard.specs.Connectives as connective
 use Rattle.lp_model.specs.Standard as standard
 use Rattle.lp_term.specs.Nodes.{Nodes, tree}
 use Rattle.lp_term.specs.declared.node.TermId.{TermId}
@@ -33,7 +34,7 @@ IsFirst b (t ∷ ts) o = (id : TermId) × (o ≡ Some id) × (tree b id.0 ≡ t)
 
 -- the goal is this constant on these two terms
 abbrev pub IsRelation : Nodes → Term → (constant : ℕ) → (left right : TermId) → Type 0
-IsRelation b t c l r = (form_of t ≡ Plain) × (ts : List Ty) × (head_of t ≡ atom (constant c ts)) × (arguments t ≡ tree b l.0 ∷ tree b r.0 ∷ [])
+IsRelation b t c l r = (connective_of t ≡ connective.Atomic) × (ts : List Ty) × (head_of t ≡ atom (constant c ts)) × (arguments t ≡ tree b l.0 ∷ tree b r.0 ∷ [])
 
 -- equality, arithmetic and the orders are no calls
 abbrev pub is_call : (constant : ℕ) → List Term → Bool
@@ -57,18 +58,18 @@ IsNoGoal _ h = ⊥
 
 -- the form says what the goal is
 abbrev pub IsForm : Nodes → Term → Form → Type 0
-IsForm b t form.Truth = form_of t ≡ standard.Truth
-IsForm b t (form.Both l r) = form_of t ≡ standard.Both (tree b l.0) (tree b r.0)
-IsForm b t (form.OneOf l r) = form_of t ≡ standard.OneOf (tree b l.0) (tree b r.0)
-IsForm b t (form.Every a) = (T : Ty) × (form_of t ≡ standard.Every T (body_of (tree b a.0)))
-IsForm b t (form.Exist a) = (T : Ty) × (form_of t ≡ standard.Exist T (body_of (tree b a.0)))
+IsForm b t form.Truth = connective_of t ≡ standard.Truth
+IsForm b t (form.Both l r) = connective_of t ≡ standard.Both (tree b l.0) (tree b r.0)
+IsForm b t (form.OneOf l r) = connective_of t ≡ standard.OneOf (tree b l.0) (tree b r.0)
+IsForm b t (form.Every a) = (T : Ty) × (connective_of t ≡ standard.Every T (body_of (tree b a.0)))
+IsForm b t (form.Exist a) = (T : Ty) × (connective_of t ≡ standard.Exist T (body_of (tree b a.0)))
 IsForm b t (form.Equal l r) = IsRelation b t 8 l r
 IsForm b t (form.Is l r) = IsRelation b t 9 l r
 IsForm b t (form.Order o l r) = IsRelation b t (order_number o) l r
-IsForm b t (form.Call (head.Constant c) o) = (form_of t ≡ Plain) × (ts : List Ty) × (head_of t ≡ atom (constant c ts)) × (is_call c (arguments t) ≡ true) × IsFirst b (arguments t) o
-IsForm b t (form.Call (head.Eigen k) o) = (form_of t ≡ Plain) × (head_of t ≡ atom (eigen k)) × IsFirst b (arguments t) o
-IsForm b t form.Flexible = (form_of t ≡ Plain) × (x : ℕ) × (l : ℕ) × (head_of t ≡ atom (logic x l))
-IsForm b t form.Other = IsNoGoal (form_of t) (head_of t)
+IsForm b t (form.Call (head.Constant c) o) = (connective_of t ≡ connective.Atomic) × (ts : List Ty) × (head_of t ≡ atom (constant c ts)) × (is_call c (arguments t) ≡ true) × IsFirst b (arguments t) o
+IsForm b t (form.Call (head.Eigen k) o) = (connective_of t ≡ connective.Atomic) × (head_of t ≡ atom (eigen k)) × IsFirst b (arguments t) o
+IsForm b t form.Flexible = (connective_of t ≡ connective.Atomic) × (x : ℕ) × (l : ℕ) × (head_of t ≡ atom (logic x l))
+IsForm b t form.Other = IsNoGoal (connective_of t) (head_of t)
 
 -- what the code tells by a constant and its arguments
 

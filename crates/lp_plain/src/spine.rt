@@ -1,7 +1,7 @@
 // The head and the arguments of a term.
 ghost use Rattle.std.specs.Prelude.{◌≡◌, ◌<◌, ◌++◌, length, map, reverse, All, OnOk, IfOk};
 ghost use Rattle.lp_term.specs.Nodes.{tree};
-ghost use Rattle.lp_model.specs.Spine.{head_of, arguments};
+ghost use Rattle.lp_calculus.specs.Spine.{head_of, arguments};
 
 use crate::known::known;
 use lp_base::Memory;

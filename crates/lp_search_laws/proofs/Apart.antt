@@ -3,11 +3,11 @@ use Rattle.std.proofs.Common.{◌≡◌, ℕ, zero, suc, List, [], Some, refl, s
 use Rattle.std.specs.Prelude.{slice_get, true, false}
 use Rattle.lp_calculus.specs.Types.{Ty}
 use Rattle.lp_calculus.specs.Term.{Term}
-use Rattle.lp_model.specs.Spine.{head_of}
-use Rattle.lp_model.specs.Standard.{truth, two}
+use Rattle.lp_calculus.specs.Spine.{head_of}
+use Rattle.lp_standard.specs.Connectives.{truth, two}
 use Rattle.lp_model.specs.Flat.{Clause, Clauses, no_clauses, clauses, clause_list, formula_of_clause, formula_of_clauses}
 use Rattle.lp_model.specs.Flatten.{ClauseFormula}
-use Rattle.lp_model.specs.Schemes.{IsStandard}
+use Rattle.lp_standard.specs.Schemes.{IsStandard}
 use Rattle.lp_model.specs.Proofs.{Declared, IsFormula, IsAtomHead, Focusable, FTake}
 use Rattle.lp_laws.proofs.Formulas.{parts}
 use Rattle.lp_laws.proofs.Roots.{connective}

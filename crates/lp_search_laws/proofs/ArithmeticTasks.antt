@@ -2,7 +2,7 @@
 use Rattle.std.proofs.Common.{◌≡◌, ℕ, zero, suc, ◌≤◌, List, [], ◌∷◌, map, refl, sym, ap, ◌∙◌, subst as transport, arith, inl, inr, Bool, true, false, Option, Some, None, if◌then◌else◌}
 use Rattle.std.specs.Prelude.{ℤ}
 use Rattle.lp_calculus.specs.Types.{Ty, instance, arrow}
-use Rattle.lp_calculus.specs.Closed.{IsPositiveAtom}
+use Rattle.lp_standard.specs.Positive.{IsPositiveAtom}
 use Rattle.lp_calculus.specs.Term.{Term, constant}
 use Rattle.lp_calculus.specs.Convert.{ReducesTo}
 use Rattle.lp_calculus.specs.Fill.{Within}
@@ -11,8 +11,8 @@ use Rattle.lp_model.specs.declared.ending.Ending.TheVariants.{Deep, Arithmetic}
 use Rattle.lp_model.specs.declared.ending.Fault.TheVariants.{NotClosed}
 use Rattle.lp_model.specs.Look.{head_normal}
 use Rattle.lp_model.specs.Pair.{Closing, closed}
-use Rattle.lp_model.specs.Standard.{two}
-use Rattle.lp_model.specs.Schemes.{IsStandard}
+use Rattle.lp_standard.specs.Connectives.{two}
+use Rattle.lp_standard.specs.Schemes.{IsStandard}
 use Rattle.lp_model.specs.Flat.{Atomic, Clause, formula_of_goal}
 use Rattle.lp_model.specs.Flatten.{ClauseFormula}
 use Rattle.lp_model.specs.Values.{Value, Number, Bytes, Outcome, Is, Faults, evaluate, term_of, ordered}
@@ -111,7 +111,7 @@ module _ (n : ℕ) (d : Declared) (std : IsStandard d) (P : List Clause) (q : Qu
     equal_plain : IsPlainTerm b.next_type equal
     equal_plain =
         let h = transport (IsPlainTerm b.next_type) shape normal_plain in
-        let positive : IsPositiveAtom (constant 8 (T ∷ [])) = ((λ f. absurd (omega (f, arith))), (λ f. absurd (omega (f, arith))), (λ f. absurd (omega (f, arith)))) in
+        let positive : IsPositiveAtom (constant 8 (T ∷ [])) = refl in
         (((positive, h.0.0.1), h.0.1), value_plain b.next_type v)
 
     pub equal_branch : IsTypedBranch n d q typing branch_of

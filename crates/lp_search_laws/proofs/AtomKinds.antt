@@ -5,8 +5,9 @@ use Rattle.std.proofs.lemmas.Bool.{eqb-true, cases_lt}
 use Rattle.lp_calculus.specs.Types.{Ty, var, arrow, instance}
 use Rattle.lp_calculus.specs.Term.{Term, Atom}
 use Rattle.lp_calculus.specs.Typing.{HaveTypes, Scheme, scheme_type, type_at, o_type, int_type, string_type, list_type}
-use Rattle.lp_model.specs.Schemes.{IsStandard, entry, standard_schemes}
-use Rattle.lp_model.specs.Standard.{Plain, form_of_constant}
+use Rattle.lp_standard.specs.Schemes.{IsStandard, entry, standard_schemes}
+use Rattle.lp_standard.specs.Connectives.{connective_of_constant}
+use Rattle.lp_standard.specs.Connectives as connective
 use Rattle.lp_model.specs.Proofs.{Declared}
 
 -- a constant c at types ts on arguments us, of type `o` and without a connective
@@ -57,28 +58,28 @@ module _ (τ : Atom → Option Ty) where
       (u, r.0, ap (λ v. u ∷ v) r.1, r.2)
 
   abbrev Kind : ℕ → Option Scheme → Type 0
-  Kind c o = (ts : List Ty) (us : List Term) (A : Ty) → scheme_type ts o ≡ Some A → HaveTypes τ [] A us o_type → form_of_constant c ts us ≡ Plain → AtomKind c ts us
+  Kind c o = (ts : List Ty) (us : List Term) (A : Ty) → scheme_type ts o ≡ Some A → HaveTypes τ [] A us o_type → connective_of_constant c ts us ≡ connective.Atomic → AtomKind c ts us
 
-  connective : (c : ℕ) → ((a b : Term) → form_of_constant c [] (a ∷ b ∷ []) ≡ Plain → ⊥) → Kind c (Some (record { count = 0; body = arrow o_type (arrow o_type o_type) }))
-  connective c n ts us A e h p =
+  junctor : (c : ℕ) → ((a b : Term) → connective_of_constant c [] (a ∷ b ∷ []) ≡ connective.Atomic → ⊥) → Kind c (Some (record { count = 0; body = arrow o_type (arrow o_type o_type) }))
+  junctor c n ts us A e h p =
       let r = count_is ts 0 _ A e in
       let g = takes_two o_type o_type o_type A (λ B D x. absurd (cc)) r.1 us h in
-      let q = transport (λ z. form_of_constant c z us ≡ Plain) (none_is ts r.0) p in
-      absurd (n g.0 g.1 (transport (λ z. form_of_constant c [] z ≡ Plain) g.2 q))
+      let q = transport (λ z. connective_of_constant c z us ≡ connective.Atomic) (none_is ts r.0) p in
+      absurd (n g.0 g.1 (transport (λ z. connective_of_constant c [] z ≡ connective.Atomic) g.2 q))
 
-  quantifier : (c : ℕ) → ((T : Ty) (a : Term) → form_of_constant c (T ∷ []) (a ∷ []) ≡ Plain → ⊥) → Kind c (Some (record { count = 1; body = arrow (arrow (var 0) o_type) o_type }))
+  quantifier : (c : ℕ) → ((T : Ty) (a : Term) → connective_of_constant c (T ∷ []) (a ∷ []) ≡ connective.Atomic → ⊥) → Kind c (Some (record { count = 1; body = arrow (arrow (var 0) o_type) o_type }))
   quantifier c n ts us A e h p =
       let r = count_is ts 1 _ A e in
       let g = takes_one (arrow (type_at ts 0) o_type) o_type A (λ B D x. absurd (cc)) r.1 us h in
       let o = one_is ts r.0 in
-      let q = transport (λ z. form_of_constant c z us ≡ Plain) o.1 p in
-      absurd (n o.0 g.0 (transport (λ z. form_of_constant c (o.0 ∷ []) z ≡ Plain) g.1 q))
+      let q = transport (λ z. connective_of_constant c z us ≡ connective.Atomic) o.1 p in
+      absurd (n o.0 g.0 (transport (λ z. connective_of_constant c (o.0 ∷ []) z ≡ connective.Atomic) g.1 q))
 
-  nullary : (c : ℕ) → (form_of_constant c [] [] ≡ Plain → ⊥) → Kind c (Some (record { count = 0; body = o_type }))
+  nullary : (c : ℕ) → (connective_of_constant c [] [] ≡ connective.Atomic → ⊥) → Kind c (Some (record { count = 0; body = o_type }))
   nullary c n ts us A e h p =
       let r = count_is ts 0 _ A e in
       let g = takes_none o_type A (λ B D x. absurd (cc)) r.1 us h in
-      absurd (n (transport (λ z. form_of_constant c [] z ≡ Plain) g.0 (transport (λ z. form_of_constant c z us ≡ Plain) (none_is ts r.0) p)))
+      absurd (n (transport (λ z. connective_of_constant c [] z ≡ connective.Atomic) g.0 (transport (λ z. connective_of_constant c z us ≡ connective.Atomic) (none_is ts r.0) p)))
 
   two_values : (c : ℕ) → ((T : Ty) (l r : Term) (ts : List Ty) (us : List Term) → ts ≡ T ∷ [] → us ≡ l ∷ r ∷ [] → AtomKind c ts us) → Kind c (Some (record { count = 1; body = arrow (var 0) (arrow (var 0) o_type) }))
   two_values c n ts us A e h p =
@@ -114,13 +115,13 @@ module _ (τ : Atom → Option Ty) where
 
   all_kinds : AllFrom 0 standard_schemes
   all_kinds = (
-    connective 0 (λ a b x. absurd (cc)),
+    junctor 0 (λ a b x. absurd (cc)),
     (
-      connective 1 (λ a b x. absurd (cc)),
+      junctor 1 (λ a b x. absurd (cc)),
       (
-        connective 2 (λ a b x. absurd (cc)),
+        junctor 2 (λ a b x. absurd (cc)),
         (
-          connective 3 (λ a b x. absurd (cc)),
+          junctor 3 (λ a b x. absurd (cc)),
           (
             quantifier 4 (λ T a x. absurd (cc)),
             (

@@ -9,10 +9,11 @@ use Rattle.lp_calculus.specs.Typing.{HasType, HaveTypes, Typed, o_type, atom_typ
 use Rattle.lp_calculus.proofs.Typings.{typed_parts}
 use Rattle.lp_model.specs.declared.ending.Ending.TheVariants.{Flexible}
 use Rattle.lp_model.specs.Look.{head_normal}
-use Rattle.lp_model.specs.Spine.{head_of, arguments}
+use Rattle.lp_calculus.specs.Spine.{head_of, arguments}
 use Rattle.lp_model.specs.Pair.{Closing, closed}
-use Rattle.lp_model.specs.Standard.{two, Plain, form_of, form_at, form_of_constant}
-use Rattle.lp_model.specs.Schemes.{IsStandard}
+use Rattle.lp_standard.specs.Connectives.{two, connective_of, connective_at, connective_of_constant}
+use Rattle.lp_standard.specs.Connectives as connective
+use Rattle.lp_standard.specs.Schemes.{IsStandard}
 use Rattle.lp_model.specs.Flat.{Atomic, Clause}
 use Rattle.lp_model.specs.Flatten.{ClauseFormula}
 use Rattle.lp_model.specs.Branch.{Entry, Branch, Task}
@@ -89,7 +90,7 @@ no_root d E R G a e n (by_arithmetic (inr x)) = no_constant a x.0 [] n (sym e �
 no_root d E R G a e n (by_clause i D ts x l k h r) = no_atom_head a n (transport IsAtomHead e h)
 
 module _ (n : ℕ) (d : Declared) (std : IsStandard d) (P : List Clause) (q : Query) (z : AnswerTyping) (b : Branch) (E : List Ty) (Es : List (List Ty)) (e : Entry) (es : List Entry) (h : IsTypedHere n d P q z b E Es e es)
-    (t u : Term) (i : e.goal ≡ Atomic t) (r : head_normal n t ≡ Some u) (plain : form_of u ≡ Plain) where
+    (t u : Term) (i : e.goal ≡ Atomic t) (r : head_normal n t ≡ Some u) (plain : connective_of u ≡ connective.Atomic) where
   abbrev Stands : List Task → Type 0
   Stands ts = StandFor n d P q (going (Typings n d P q z b E Es e es (E ∷ Es)) (with_goals b (e ∷ es))) ts
 
@@ -190,7 +191,7 @@ module _ (n : ℕ) (d : Declared) (std : IsStandard d) (P : List Clause) (q : Qu
     by_head : (t' : Term) → head_of u ≡ t' → IsRightView n d P q (going (Typings n d P q z b E Es e es (E ∷ Es)) (with_goals b (e ∷ es))) (look_atom n P height e (with_goals b es) u t')
     by_head (atom (constant c ts)) x =
         let p = parts (atom (constant c ts)) x in
-        let f : form_of_constant c ts (arguments u) ≡ Plain = transport (λ y. form_at y (arguments u) ≡ Plain) x plain in
+        let f : connective_of_constant c ts (arguments u) ≡ connective.Atomic = transport (λ y. connective_at y (arguments u) ≡ connective.Atomic) x plain in
         by_kind c ts x (atom_kind (atom_type (over d E z.variables)) d std c ts (arguments u) p.0 p.1 p.2 f)
     by_head (atom (eigen k)) x = tried (transport IsAtomHead (sym x) tt)
     by_head (atom (logic y l)) x = stopped n d P q _ Flexible (λ w. absurd (cc))

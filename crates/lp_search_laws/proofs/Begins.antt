@@ -16,7 +16,7 @@ use Rattle.lp_model.specs.Eigens.{beta_normal}
 use Rattle.lp_model.specs.Pair.{Closing}
 use Rattle.lp_model.specs.Flat.{Goal, Goals, no_goals, goals, Clause, clause, Clauses, no_clauses, clauses, clause_list, goal_list, instantiate_goals, formula_of_goal, formula_of_goals, formula_of_clause}
 use Rattle.lp_model.specs.Flatten.{ClauseFormula, with_type_vars, flat_goal, flatten_query}
-use Rattle.lp_model.specs.Schemes.{IsStandard}
+use Rattle.lp_standard.specs.Schemes.{IsStandard}
 use Rattle.lp_model.specs.Proofs.{Declared, under, IsSentence, Provable}
 use Rattle.lp_model.specs.Answers.{Query, Variable, type_of, over, IsPrefix, IsScopedAtom, AreTypedValues, IsWellFormed, Instance, IsProvable, filled}
 use Rattle.lp_model.specs.Branch.{Branch, Go, entries}

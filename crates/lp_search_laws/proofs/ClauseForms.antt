@@ -9,10 +9,10 @@ use Rattle.lp_calculus.specs.Instance.{instance_atom, instance_term}
 use Rattle.lp_calculus.specs.Typing.{type_at, o_type}
 use Rattle.lp_calculus.specs.Closed.{IsClosedType, AreClosed, AllAtoms}
 use Rattle.lp_calculus.proofs.Eta.{app_same}
-use Rattle.lp_model.specs.Spine.{head_of}
+use Rattle.lp_calculus.specs.Spine.{head_of}
 use Rattle.lp_model.specs.Faithful.{EachOf}
 use Rattle.lp_model.specs.Pair.{Closing}
-use Rattle.lp_model.specs.Standard.{two, pi_of}
+use Rattle.lp_standard.specs.Connectives.{two, pi_of}
 use Rattle.lp_model.specs.Flat.{Goal, Atomic, Cut, Either, Exists, Forall, Assume, Goals, no_goals, goals, Clause, clause, Clauses, no_clauses, clauses, all_of, formula_of_goal, formula_of_goals, formula_of_clause, formula_of_clauses}
 use Rattle.lp_model.specs.Proofs.{Declared, IsFormula, IsAtomHead}
 use Rattle.lp_model.specs.Answers.{Variable, Closes}

@@ -16,7 +16,7 @@ use Rattle.lp_calculus.proofs.Commutations.{substitute_shift}
 use Rattle.lp_calculus.proofs.Plain.{substitute-subst}
 use Rattle.lp_model.specs.Pair.{Closing, closed}
 use Rattle.lp_model.specs.Proofs.{Declared, under, IsFormula}
-use Rattle.lp_model.specs.Standard.{body_of}
+use Rattle.lp_standard.specs.Connectives.{body_of}
 use Rattle.lp_search_laws.specs.Holds.{with_value, IsOther, IsUnused}
 use Rattle.lp_unify_laws.proofs.NewInstances.{reduces_instance}
 

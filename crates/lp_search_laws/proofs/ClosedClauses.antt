@@ -9,9 +9,9 @@ use Rattle.lp_calculus.proofs.BetaEta.{shift_one}
 use Rattle.lp_calculus.proofs.Eta.{app_same}
 use Rattle.lp_calculus.proofs.Fills.{within_unrename, shift_closed}
 use Rattle.lp_model.specs.Index.{instantiate}
-use Rattle.lp_model.specs.Spine.{head_of}
+use Rattle.lp_calculus.specs.Spine.{head_of}
 use Rattle.lp_model.specs.Pair.{Closing, closed}
-use Rattle.lp_model.specs.Standard.{two, pi_of}
+use Rattle.lp_standard.specs.Connectives.{two, pi_of}
 use Rattle.lp_model.specs.Proofs.{IsAtomHead}
 use Rattle.lp_model.specs.Flat.{Goals, no_goals, goals, clause, all_of, formula_of_goals, formula_of_clause}
 

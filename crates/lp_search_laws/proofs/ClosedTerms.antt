@@ -8,7 +8,8 @@ use Rattle.lp_calculus.specs.Fill.{Within, fill, raise, close, at_variables}
 use Rattle.lp_calculus.specs.Convert.{Converts}
 use Rattle.lp_calculus.specs.Instance.{instance_term, instance_atom, instance_context}
 use Rattle.lp_calculus.specs.Typing.{HasType, Typed, atom_type, o_type}
-use Rattle.lp_calculus.specs.Closed.{IsClosedType, AreClosedTypes, AreClosed, IsClosedAtom, IsClosedAt, IsPositive, IsPositiveAtom, AllAtoms}
+use Rattle.lp_calculus.specs.Closed.{IsClosedType, AreClosedTypes, AreClosed, IsClosedAtom, IsClosedAt, AllAtoms}
+use Rattle.lp_standard.specs.Positive.{IsPositive, IsPositiveAtom}
 use Rattle.lp_calculus.proofs.Fills.{fill-fill, within_fill, within_more, shift_closed, subst_closed, fill_same}
 use Rattle.lp_calculus.proofs.Commutations.{instance_fill, fill_shift}
 use Rattle.lp_calculus.proofs.Steps.{converts_is, converts_abs, converts_app, converts_shift}

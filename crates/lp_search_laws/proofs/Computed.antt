@@ -10,8 +10,8 @@ use Rattle.lp_calculus.specs.Closed.{IsClosedAt}
 use Rattle.lp_calculus.proofs.Subject.{typed_reduces}
 use Rattle.lp_model.specs.declared.ending.Fault.TheVariants.{Overflow, ZeroDivisor}
 use Rattle.lp_model.specs.Pair.{Closing, closed}
-use Rattle.lp_model.specs.Standard.{two}
-use Rattle.lp_model.specs.Schemes.{IsStandard, plain, over_one, on_two, entry, standard_schemes}
+use Rattle.lp_standard.specs.Connectives.{two}
+use Rattle.lp_standard.specs.Schemes.{IsStandard, plain, over_one, on_two, entry, standard_schemes}
 use Rattle.lp_model.specs.Flatten.{ClauseFormula}
 use Rattle.lp_model.specs.Values.{Value, Number, Bytes, Outcome, Is, Faults, bound, number, divided, remainder, is_zero, binary, unary, is_binary, is_two_place, is_one_place, evaluate, HasValue, term_of, ordered}
 use Rattle.lp_model.specs.Proofs.{Declared, under, IsFormula, IsArith, Provable, Rooted, trivially, both_sides, left_side, right_side, at_witness, for_all, under_assumption, equally, by_arithmetic, by_clause, Arith}

@@ -7,8 +7,8 @@ use Rattle.lp_calculus.specs.Convert.{Converts, ReducesTo}
 use Rattle.lp_calculus.proofs.Steps.{converts_reduces, converts_sym}
 use Rattle.lp_model.specs.Pair.{Closing, closed}
 use Rattle.lp_model.specs.Proofs.{Declared, IsFormula, IsWitness, IsArith, Provable, Rooted, trivially, both_sides, left_side, right_side, at_witness, for_all, under_assumption, equally, by_arithmetic, by_clause, And, Left, Right, Witness, All, Assume, Equal, assumed}
-use Rattle.lp_model.specs.Schemes.{IsStandard}
-use Rattle.lp_model.specs.Standard.{two, pi_of, sigma_of, body_of}
+use Rattle.lp_standard.specs.Schemes.{IsStandard}
+use Rattle.lp_standard.specs.Connectives.{two, pi_of, sigma_of, body_of}
 use Rattle.lp_model.specs.Flatten.{ClauseFormula}
 use Rattle.lp_search_laws.specs.Holds.{Holds, with_value, IsUnused, next_eigen}
 use Rattle.lp_search_laws.proofs.Closed.{closed_reduces, formula_reduces, body_opens, unused_closed, value_at}

@@ -9,10 +9,11 @@ use Rattle.lp_calculus.proofs.Typings.{typed_parts}
 use Rattle.lp_calculus.specs.Fill.{Within}
 use Rattle.lp_model.specs.Look.{head_normal}
 use Rattle.lp_model.specs.Eigens.{beta_normal}
-use Rattle.lp_model.specs.Spine.{head_of, arguments}
+use Rattle.lp_calculus.specs.Spine.{head_of, arguments}
 use Rattle.lp_model.specs.Pair.{Pair}
-use Rattle.lp_model.specs.Standard.{two, Form, Truth, Cutting, Both, OneOf, Implies, Every, Exist, Plain, form_of, form_at, form_of_constant}
-use Rattle.lp_model.specs.Schemes.{IsStandard}
+use Rattle.lp_standard.specs.Connectives.{two, Connective, connective_of, connective_at, connective_of_constant}
+use Rattle.lp_standard.specs.Connectives as connective
+use Rattle.lp_standard.specs.Schemes.{IsStandard}
 use Rattle.lp_model.specs.Unify.{solve, unit_limit}
 use Rattle.lp_model.specs.Values.{Value, Number, Bytes, Outcome, Is, Faults, value, evaluate, term_of}
 use Rattle.lp_model.specs.Flat.{Goal, Atomic, Cut, Either, Exists, Forall, Assume, clause, formula_of_goal}
@@ -91,15 +92,16 @@ two_kinds o T X Y e f =
     let k : X ≡ T = cc in
     (h, k)
 
-plain_or : (f : Form) → (f ≡ Plain) ⊎ (f ≡ Plain → ⊥)
-plain_or Truth = inr (λ e. cc)
-plain_or Cutting = inr (λ e. cc)
-plain_or (Both a b) = inr (λ e. cc)
-plain_or (OneOf a b) = inr (λ e. cc)
-plain_or (Implies a b) = inr (λ e. cc)
-plain_or (Every T b) = inr (λ e. cc)
-plain_or (Exist T b) = inr (λ e. cc)
-plain_or Plain = inl refl
+plain_or : (f : Connective) → (f ≡ connective.Atomic) ⊎ (f ≡ connective.Atomic → ⊥)
+plain_or connective.True = inr (λ e. cc)
+plain_or connective.Cut = inr (λ e. cc)
+plain_or (connective.And a b) = inr (λ e. cc)
+plain_or (connective.Or a b) = inr (λ e. cc)
+plain_or (connective.Implies a b) = inr (λ e. cc)
+plain_or (connective.ForAll T b) = inr (λ e. cc)
+plain_or (connective.Exists T b) = inr (λ e. cc)
+plain_or (connective.Not g) = inr (λ e. cc)
+plain_or connective.Atomic = inl refl
 
 module _ (n : ℕ) (d : Declared) (std : IsStandard d) (q : Query) (y : BranchTyping) (b : Branch) (h : IsTypedBranch n d q y b) (E : List Ty) (level : ℕ) (long : length E ≡ level) where
   abbrev V : List Variable
@@ -192,12 +194,12 @@ module _ (n : ℕ) (d : Declared) (std : IsStandard d) (q : Query) (y : BranchTy
         },
       )
 
-  heads : (u t' : Term) → head_of u ≡ t' → form_of u ≡ Plain → IsTyped d E y.answer.variables u o_type → (m : ℕ) × HeadHasEnough m level b t' (arguments u)
+  heads : (u t' : Term) → head_of u ≡ t' → connective_of u ≡ connective.Atomic → IsTyped d E y.answer.variables u o_type → (m : ℕ) × HeadHasEnough m level b t' (arguments u)
   heads u (atom (constant c ts)) x p w =
       let s : apply (atom (constant c ts)) (arguments u) ≡ u = transport (λ v. apply v (arguments u) ≡ u) x (apply_arguments u []) in
       let w' = transport (λ v. IsTyped d E y.answer.variables v o_type) (sym s) w in
       let g = typed_parts (atom_type (over d E y.answer.variables)) [] (atom (constant c ts)) (arguments u) o_type w'.typed in
-      let f : form_of_constant c ts (arguments u) ≡ Plain = transport (λ v. form_at v (arguments u) ≡ Plain) x p in
+      let f : connective_of_constant c ts (arguments u) ≡ connective.Atomic = transport (λ v. connective_at v (arguments u) ≡ connective.Atomic) x p in
       calls c ts (arguments u) (atom_kind (atom_type (over d E y.answer.variables)) d std c ts (arguments u) g.0 g.1 g.2 f) w'
   heads u (atom (eigen k)) x p w = (0, tt)
   heads u (atom (integer z)) x p w = (0, tt)
@@ -208,7 +210,7 @@ module _ (n : ℕ) (d : Declared) (std : IsStandard d) (q : Query) (y : BranchTy
   heads u (abs t) x p w = (0, tt)
   heads u (app t v) x p w = (0, tt)
 
-  atoms : (u : Term) → form_of u ≡ Plain → IsTyped d E y.answer.variables u o_type → (m : ℕ) × AtomHasEnough m level b u
+  atoms : (u : Term) → connective_of u ≡ connective.Atomic → IsTyped d E y.answer.variables u o_type → (m : ℕ) × AtomHasEnough m level b u
   atoms u p w =
       let g = typed_parts (atom_type (over d E y.answer.variables)) [] (head_of u) (arguments u) o_type (transport (λ v. Typed (over d E y.answer.variables) [] v o_type) (sym (apply_arguments u [])) w.typed) in
       let k = arguments_typed g.0 (arguments u) o_type g.2 in
@@ -222,9 +224,9 @@ module _ (n : ℕ) (d : Declared) (std : IsStandard d) (q : Query) (y : BranchTy
   terms t w =
       let c = head_comes (typed_weighs (atom_type (over d E y.answer.variables)) [] t o_type w.typed).1 in
       let u = typed_reduced d E y.answer.variables o_type t c.form (head_reduces c.steps t c.form c.is) w in
-      go c.steps c.form c.is u (plain_or (form_of c.form))
+      go c.steps c.form c.is u (plain_or (connective_of c.form))
     where
-      go : (k : ℕ) (u : Term) → head_normal k t ≡ Some u → IsTyped d E y.answer.variables u o_type → (form_of u ≡ Plain) ⊎ (form_of u ≡ Plain → ⊥) → (m : ℕ) × TermHasEnough m level b t
+      go : (k : ℕ) (u : Term) → head_normal k t ≡ Some u → IsTyped d E y.answer.variables u o_type → (connective_of u ≡ connective.Atomic) ⊎ (connective_of u ≡ connective.Atomic → ⊥) → (m : ℕ) × TermHasEnough m level b t
       go k u e v (inl p) =
           let a = atoms u p v in
           let i : k ≤ k + a.0 = omega arith in

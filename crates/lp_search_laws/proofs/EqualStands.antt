@@ -5,8 +5,8 @@ use Rattle.lp_calculus.specs.Term.{Term}
 use Rattle.lp_calculus.specs.Typing.{Typed, scheme_type, o_type}
 use Rattle.lp_model.specs.Look.{head_normal}
 use Rattle.lp_model.specs.Pair.{Pair, Closing}
-use Rattle.lp_model.specs.Standard.{two}
-use Rattle.lp_model.specs.Schemes.{IsStandard}
+use Rattle.lp_standard.specs.Connectives.{two}
+use Rattle.lp_standard.specs.Schemes.{IsStandard}
 use Rattle.lp_model.specs.Flat.{Atomic, Clause}
 use Rattle.lp_model.specs.Branch.{Entry, Branch}
 use Rattle.lp_model.specs.Answers.{Query, AnswerTyping, PairTyping, Instance, IsTypedPair, over}

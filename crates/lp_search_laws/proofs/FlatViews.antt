@@ -8,8 +8,8 @@ use Rattle.lp_calculus.specs.Typing.{o_type}
 use Rattle.lp_calculus.proofs.Sigma.{instead}
 use Rattle.lp_model.specs.Faithful.{EachOf}
 use Rattle.lp_model.specs.Pair.{Closing, closed}
-use Rattle.lp_model.specs.Spine.{head_of}
-use Rattle.lp_model.specs.Schemes.{IsStandard}
+use Rattle.lp_calculus.specs.Spine.{head_of}
+use Rattle.lp_standard.specs.Schemes.{IsStandard}
 use Rattle.lp_model.specs.Flat.{Goal, Goals, Clause, Clauses, goal_list, clause_list, instantiate_goals, formula_of_goal, formula_of_goals, formula_of_clause, formula_of_clauses}
 use Rattle.lp_model.specs.Flatten.{ClauseFormula}
 use Rattle.lp_model.specs.Branch.{Entry, entries}

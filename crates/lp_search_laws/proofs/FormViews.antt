@@ -1,15 +1,16 @@
 -- What a goal known at run time leaves, by the connective at its head.
-use Rattle.std.proofs.Common.{◌≡◌, ℕ, suc, List, [], ◌∷◌, ◌++◌, map, length, Some, ◌∙◌, refl, sym, ap, subst as transport, arith, inl, inr}
+use Rattle.std.proofs.Common.{true≢false, ◌≡◌, ℕ, suc, List, [], ◌∷◌, ◌++◌, map, length, Some, ◌∙◌, refl, sym, ap, subst as transport, arith, inl, inr}
 use Rattle.std.specs.Prelude.{◌⊎◌}
 use Rattle.lp_calculus.specs.Types.{Ty, instance}
 use Rattle.lp_calculus.specs.Term.{Term, atom, substitute, eigen, logic}
 use Rattle.lp_calculus.specs.Convert.{ReducesTo}
 use Rattle.lp_calculus.specs.Typing.{o_type, Typed}
 use Rattle.lp_model.specs.Look.{head_normal}
-use Rattle.lp_model.specs.Spine.{head_of}
+use Rattle.lp_calculus.specs.Spine.{head_of}
 use Rattle.lp_model.specs.Pair.{Closing}
-use Rattle.lp_model.specs.Standard.{two, Form, Truth, Cutting, Both, OneOf, Implies, Every, Exist, Plain, form_of}
-use Rattle.lp_model.specs.Schemes.{IsStandard}
+use Rattle.lp_standard.specs.Connectives.{two, Connective, connective_of}
+use Rattle.lp_standard.specs.Connectives as connective
+use Rattle.lp_standard.specs.Schemes.{IsStandard}
 use Rattle.lp_model.specs.Flat.{Atomic, Clause}
 use Rattle.lp_model.specs.Branch.{Entry, Branch, Go}
 use Rattle.lp_model.specs.Answers.{Query, AnswerTyping, Closes, over, IsScopedAtom}
@@ -57,7 +58,7 @@ module _ (n : ℕ) (d : Declared) (std : IsStandard d) (P : List Clause) (q : Qu
       by_goal n d std P q z b E Es e es h (Atomic t) i c _ ((λ p. reduces_on d (map (instance c.types) E) (clauses_at P e.assumed c) f (closed_reduces c reduces) p), (λ p. reduces_back d (map (instance c.types) E) (clauses_at P e.assumed c) f (closed_reduces c reduces) p))
 
   -- and where the parts of the form do
-  by_parts : (f : Form) → form_of u ≡ f → IsTakenApart f → (c : Closing) → Closes d z.variables c → (EntryHolds d P c E e → FormHolds d (map (instance c.types) E) (clauses_at P e.assumed c) c b.next e.level f) × (FormHolds d (map (instance c.types) E) (clauses_at P e.assumed c) c b.next e.level f → EntryHolds d P c E e)
+  by_parts : (f : Connective) → connective_of u ≡ f → IsTakenApart f → (c : Closing) → Closes d z.variables c → (EntryHolds d P c E e → FormHolds d (map (instance c.types) E) (clauses_at P e.assumed c) c b.next e.level f) × (FormHolds d (map (instance c.types) E) (clauses_at P e.assumed c) c b.next e.level f → EntryHolds d P c E e)
   by_parts f x a c l =
       let E' = map (instance c.types) E in
       let R = clauses_at P e.assumed c in
@@ -68,10 +69,10 @@ module _ (n : ℕ) (d : Declared) (std : IsStandard d) (P : List Clause) (q : Qu
   one_in_place : (x : Term) → IsTyped d E z.variables x o_type → IsPlainTerm b.next_type x → MayStand d z.variables b.next_type (E ∷ []) (in_place e (x ∷ []))
   one_in_place x w p = record { typed = (record { level = h.entries.0.level; goal = w; assumed = h.entries.0.assumed }, tt); plain = (record { eigens = h.goals.0.eigens; goal = p; assumed = h.goals.0.assumed }, tt) }
 
-  truth_stands : form_of u ≡ Truth → StandFor n d P q (going (Typings n d P q z b E Es e es (E ∷ Es)) (with_goals b (e ∷ es))) (Go (with_goals b es) ∷ [])
-  truth_stands x = stands_one n d P q z b E Es e es h [] [] (record { typed = tt; plain = tt }) (λ c l. by_parts Truth x tt c l)
+  truth_stands : connective_of u ≡ connective.True → StandFor n d P q (going (Typings n d P q z b E Es e es (E ∷ Es)) (with_goals b (e ∷ es))) (Go (with_goals b es) ∷ [])
+  truth_stands x = stands_one n d P q z b E Es e es h [] [] (record { typed = tt; plain = tt }) (λ c l. by_parts connective.True x tt c l)
 
-  both_stand : (a c : Term) → form_of u ≡ Both a c → StandFor n d P q (going (Typings n d P q z b E Es e es (E ∷ Es)) (with_goals b (e ∷ es))) (Go (with_goals b (in_place e (a ∷ c ∷ []) ++ es)) ∷ [])
+  both_stand : (a c : Term) → connective_of u ≡ connective.And a c → StandFor n d P q (going (Typings n d P q z b E Es e es (E ∷ Es)) (with_goals b (e ∷ es))) (Go (with_goals b (in_place e (a ∷ c ∷ []) ++ es)) ∷ [])
   both_stand a c x =
       let s : u ≡ two 0 [] a c = transport (λ f. Shape f u) x (form_shape u) in
       let w = both_typed d E z.variables 0 a c (connective d std 0 (omega arith)) (transport (λ y. IsTyped d E z.variables y o_type) s form_typed) in
@@ -79,17 +80,17 @@ module _ (n : ℕ) (d : Declared) (std : IsStandard d) (P : List Clause) (q : Qu
       let l = one_in_place a w.0 p.0.1 in
       let m = one_in_place c w.1 p.1 in
       stands_one n d P q z b E Es e es h (E ∷ E ∷ []) (in_place e (a ∷ c ∷ [])) (record { typed = (l.typed.0, (m.typed.0, tt)); plain = (l.plain.0, (m.plain.0, tt)) })
-      (λ v g. let y = by_parts (Both a c) x tt v g in ((λ o. let j = y.0 o in (j.0, (j.1, tt))), (λ o. y.1 (o.0, o.1.0))))
+      (λ v g. let y = by_parts (connective.And a c) x tt v g in ((λ o. let j = y.0 o in (j.0, (j.1, tt))), (λ o. y.1 (o.0, o.1.0))))
 
-  either_stand : (a c : Term) → form_of u ≡ OneOf a c → StandFor n d P q (going (Typings n d P q z b E Es e es (E ∷ Es)) (with_goals b (e ∷ es))) (Go (with_goals b (in_place e (a ∷ []) ++ es)) ∷ Go (with_goals b (in_place e (c ∷ []) ++ es)) ∷ [])
+  either_stand : (a c : Term) → connective_of u ≡ connective.Or a c → StandFor n d P q (going (Typings n d P q z b E Es e es (E ∷ Es)) (with_goals b (e ∷ es))) (Go (with_goals b (in_place e (a ∷ []) ++ es)) ∷ Go (with_goals b (in_place e (c ∷ []) ++ es)) ∷ [])
   either_stand a c x =
       let s : u ≡ two 1 [] a c = transport (λ f. Shape f u) x (form_shape u) in
       let w = both_typed d E z.variables 1 a c (connective d std 1 (omega arith)) (transport (λ y. IsTyped d E z.variables y o_type) s form_typed) in
       let p = transport (IsPlainTerm b.next_type) s form_plain in
       stands_two n d P q z b E Es e es h (E ∷ []) (E ∷ []) (in_place e (a ∷ [])) (in_place e (c ∷ [])) (one_in_place a w.0 p.0.1) (one_in_place c w.1 p.1)
-      (λ v g. let y = by_parts (OneOf a c) x tt v g in ((λ o. elim (y.0 o) [ inl j ↦ inl (j, tt) | inr j ↦ inr (j, tt) ]), (λ o. y.1 (elim o [ inl j ↦ inl j.0 | inr j ↦ inr j.0 ]))))
+      (λ v g. let y = by_parts (connective.Or a c) x tt v g in ((λ o. elim (y.0 o) [ inl j ↦ inl (j, tt) | inr j ↦ inr (j, tt) ]), (λ o. y.1 (elim o [ inl j ↦ inl j.0 | inr j ↦ inr j.0 ]))))
 
-  every_stands : (T : Ty) (s : Term) → form_of u ≡ Every T s → StandFor n d P q (going (Typings n d P q z b E Es e es (E ∷ Es)) (with_goals b (e ∷ es))) (Go (with_goals b (at_next_level e (substitute (atom (eigen (suc e.level))) s) ∷ es)) ∷ [])
+  every_stands : (T : Ty) (s : Term) → connective_of u ≡ connective.ForAll T s → StandFor n d P q (going (Typings n d P q z b E Es e es (E ∷ Es)) (with_goals b (e ∷ es))) (Go (with_goals b (at_next_level e (substitute (atom (eigen (suc e.level))) s) ∷ es)) ∷ [])
   every_stands T s x =
       let g = transport (λ f. Shape f u) x (form_shape u) in
       let F = E ++ T ∷ [] in
@@ -110,14 +111,14 @@ module _ (n : ℕ) (d : Declared) (std : IsStandard d) (P : List Clause) (q : Qu
       (λ c l.
       let E' = map (instance c.types) E in
       let R = clauses_at P e.assumed c in
-      let y = by_parts (Every T s) x tt c l in
+      let y = by_parts (connective.ForAll T s) x tt c l in
       let j : suc (length E') ≡ suc e.level = ap suc (length_map (instance c.types) E ∙ h.entries.0.level) in
       let k' : map (instance c.types) F ≡ E' ++ instance c.types T ∷ [] = map_append (instance c.types) E (T ∷ []) in (
         (λ m. (transport (λ G. Holds d G R c (substitute v s)) (sym k') (transport (λ f. Holds d (E' ++ instance c.types T ∷ []) R c (substitute (atom (eigen f)) s)) j (y.0 m)), tt)),
         (λ m. y.1 (transport (λ f. Holds d (E' ++ instance c.types T ∷ []) R c (substitute (atom (eigen f)) s)) (sym j) (transport (λ G. Holds d G R c (substitute v s)) k' m.0))),
       ))
 
-  exist_stands : (T : Ty) (s : Term) → form_of u ≡ Exist T s → StandFor n d P q (going (Typings n d P q z b E Es e es (E ∷ Es)) (with_goals b (e ∷ es)))
+  exist_stands : (T : Ty) (s : Term) → connective_of u ≡ connective.Exists T s → StandFor n d P q (going (Typings n d P q z b E Es e es (E ∷ Es)) (with_goals b (e ∷ es)))
       (Go (record { next = suc b.next; next_type = b.next_type; goals = in_place e (substitute (atom (logic b.next e.level)) s ∷ []) ++ es; types = b.types; values = b.values; pairs = b.pairs }) ∷ [])
   exist_stands T s x =
       let g = transport (λ f. Shape f u) x (form_shape u) in
@@ -133,24 +134,27 @@ module _ (n : ℕ) (d : Declared) (std : IsStandard d) (P : List Clause) (q : Qu
       let pp = transport (λ y. IsPlainTerm b.next_type (substitute v y)) (sym g.2) (plain_opened (IsPlainAtom b.next_type) (IsScopedAtom X E) g.0 v a'.scoped nt.scoped p.1 tt) in
       stands_new n d P q z b E Es e es h T p.0.1.0 (substitute v s) (E ∷ []) (in_place e (substitute v s ∷ []))
       (record { typed = (record { level = np.is_level; goal = o; assumed = np.typed }, tt); plain = (record { eigens = np.below; goal = pp; assumed = np.plain }, tt) })
-      (λ c l. by_parts (Exist T s) x tt c l)
+      (λ c l. by_parts (connective.Exists T s) x tt c l)
       (λ c l. ((λ m. (m, tt)), (λ m. m.0)))
 
   no_implication : (a c : Term) → (u ≡ two 2 [] a c) ⊎ (u ≡ two 3 [] c a) → ⊥
-  no_implication a c (inl x) = let p = transport (IsPlainTerm b.next_type) x form_plain in p.0.0.0.0 refl
-  no_implication a c (inr x) = let p = transport (IsPlainTerm b.next_type) x form_plain in p.0.0.0.1 refl
+  no_implication a c (inl x) = let p = transport (IsPlainTerm b.next_type) x form_plain in true≢false (sym p.0.0.0)
+  no_implication a c (inr x) = let p = transport (IsPlainTerm b.next_type) x form_plain in true≢false (sym p.0.0.0)
 
   -- what each form leaves
-  pub form_view : (height : ℕ) → (form_of u ≡ Plain → IsRightView n d P q (going (Typings n d P q z b E Es e es (E ∷ Es)) (with_goals b (e ∷ es))) (look_atom n P height e (with_goals b es) u (head_of u))) →
-      (f : Form) → form_of u ≡ f → IsRightView n d P q (going (Typings n d P q z b E Es e es (E ∷ Es)) (with_goals b (e ∷ es))) (look_form n P height e (with_goals b es) u f)
-  form_view height atomic Truth x = truth_stands x
-  form_view height atomic (Both a c) x = both_stand a c x
-  form_view height atomic (OneOf a c) x = either_stand a c x
-  form_view height atomic (Every T s) x = every_stands T s x
-  form_view height atomic (Exist T s) x = exist_stands T s x
-  form_view height atomic Cutting x =
+  pub form_view : (height : ℕ) → (connective_of u ≡ connective.Atomic → IsRightView n d P q (going (Typings n d P q z b E Es e es (E ∷ Es)) (with_goals b (e ∷ es))) (look_atom n P height e (with_goals b es) u (head_of u))) →
+      (f : Connective) → connective_of u ≡ f → IsRightView n d P q (going (Typings n d P q z b E Es e es (E ∷ Es)) (with_goals b (e ∷ es))) (look_form n P height e (with_goals b es) u f)
+  form_view height atomic connective.True x = truth_stands x
+  form_view height atomic (connective.And a c) x = both_stand a c x
+  form_view height atomic (connective.Or a c) x = either_stand a c x
+  form_view height atomic (connective.ForAll T s) x = every_stands T s x
+  form_view height atomic (connective.Exists T s) x = exist_stands T s x
+  form_view height atomic connective.Cut x =
       let g = transport (λ f. Shape f u) x (form_shape u) in
       let p = transport (IsPlainTerm b.next_type) g.1 form_plain in
-      absurd (p.0.2 refl)
-  form_view height atomic (Implies a c) x = absurd (no_implication a c (transport (λ f. Shape f u) x (form_shape u)))
-  form_view height atomic Plain x = atomic x
+      absurd (true≢false (sym p.0))
+  form_view height atomic (connective.Implies a c) x = absurd (no_implication a c (transport (λ f. Shape f u) x (form_shape u)))
+  form_view height atomic (connective.Not g) x =
+      let p = transport (IsPlainTerm b.next_type) (transport (λ f. Shape f u) x (form_shape u)) form_plain in
+      absurd (true≢false (sym p.0.0))
+  form_view height atomic connective.Atomic x = atomic x

@@ -6,7 +6,7 @@ use Rattle.lp_calculus.specs.Term.{Term, abs, atom, substitute, eigen, logic}
 use Rattle.lp_calculus.specs.Typing.{o_type, Typed}
 use Rattle.lp_calculus.proofs.Sigma.{instead}
 use Rattle.lp_model.specs.Pair.{Closing, closed}
-use Rattle.lp_model.specs.Schemes.{IsStandard}
+use Rattle.lp_standard.specs.Schemes.{IsStandard}
 use Rattle.lp_model.specs.Flat.{Goal, Cut, Either, Forall, Assume, Goals, Clause, Clauses, goal_list, clause_list, instantiate_goals, formula_of_goal, formula_of_goals, formula_of_clause, formula_of_clauses, Exists}
 use Rattle.lp_model.specs.Branch.{Entry, Branch, Go, entries}
 use Rattle.lp_model.specs.Answers.{Query, Variable, AnswerTyping, over, type_of, IsPrefix}

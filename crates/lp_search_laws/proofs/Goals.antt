@@ -9,8 +9,9 @@ use Rattle.lp_model.specs.Look.{head_normal}
 use Rattle.lp_model.specs.Faithful.{EachOf}
 use Rattle.lp_model.specs.Pair.{Closing, closed}
 use Rattle.lp_model.specs.Proofs.{Declared, under, IsFormula, IsWitness, True}
-use Rattle.lp_model.specs.Schemes.{IsStandard}
-use Rattle.lp_model.specs.Standard.{truth, Form, Truth, Cutting, Both, OneOf, Implies, Every, Exist, Plain, form_of}
+use Rattle.lp_standard.specs.Schemes.{IsStandard}
+use Rattle.lp_standard.specs.Connectives.{truth, Connective, connective_of}
+use Rattle.lp_standard.specs.Connectives as connective
 use Rattle.lp_model.specs.Flat.{Goal, Atomic, Cut, Either, Exists, Forall, Assume, Goals, no_goals, goals, goal_list, formula_of_goal, formula_of_goals, formula_of_clauses}
 use Rattle.lp_model.specs.Flatten.{ClauseFormula}
 use Rattle.lp_laws.proofs.Forms.{Shape, form_shape}
@@ -29,40 +30,41 @@ no_types d std (t ∷ ts) e =
     let y : (if false then Some o_type else None) ≡ Some o_type = sym (ap (λ b. if b then Some o_type else None) q) ∙ z in
     absurd (cc)
 
-shaped : (d : Declared) → IsStandard d → (E : List Ty) (P : List ClauseFormula) (c : Closing) (x l : ℕ) (t : Term) (f : Form) → Shape f t → IsTakenApart f → IsUnused x l t → IsFormula d E (closed c t) → (Holds d E P c t → FormHolds d E P c x l f) × (FormHolds d E P c x l f → Holds d E P c t)
-shaped d std E P c x l t Truth s a n f = ((λ p. tt), (λ p. record { proof = True; holds = inl is }))
+shaped : (d : Declared) → IsStandard d → (E : List Ty) (P : List ClauseFormula) (c : Closing) (x l : ℕ) (t : Term) (f : Connective) → Shape f t → IsTakenApart f → IsUnused x l t → IsFormula d E (closed c t) → (Holds d E P c t → FormHolds d E P c x l f) × (FormHolds d E P c x l f → Holds d E P c t)
+shaped d std E P c x l t connective.True s a n f = ((λ p. tt), (λ p. record { proof = True; holds = inl is }))
   where
     typed : scheme_type (map (instance c.types) s.0) (d 6) ≡ Some o_type
     typed = transport (λ z. Typed (under d E) [] (closed c z) o_type) s.1 f.typed
 
     is : closed c t ≡ truth
     is = ap (closed c) s.1 ∙ ap (λ us. atom (constant 6 us)) (no_types d std (map (instance c.types) s.0) typed)
-shaped d std E P c x l t (Both u v) s a n f =
+shaped d std E P c x l t (connective.And u v) s a n f =
     let h = both_holds d std E P c u v (transport (λ z. IsFormula d E (closed c z)) s f) in
     ((λ p. h.0 (transport (Holds d E P c) s p)), (λ p. transport (Holds d E P c) (sym s) (h.1 p)))
-shaped d std E P c x l t (OneOf u v) s a n f =
+shaped d std E P c x l t (connective.Or u v) s a n f =
     let h = either_holds d std E P c u v (transport (λ z. IsFormula d E (closed c z)) s f) in
     ((λ p. h.0 (transport (Holds d E P c) s p)), (λ p. transport (Holds d E P c) (sym s) (h.1 p)))
-shaped d std E P c x l t (Every T b) s a n f =
+shaped d std E P c x l t (connective.ForAll T b) s a n f =
     let h = pi_holds d std E P c T s.0 (transport (λ z. IsFormula d E (closed c z)) s.1 f) in (
       (λ p. transport (λ z. Holds d (E ++ instance c.types T ∷ []) P c (substitute (next_eigen E) z)) (sym s.2) (h.0 (transport (Holds d E P c) s.1 p))),
       (λ p. transport (Holds d E P c) (sym s.1) (h.1 (transport (λ z. Holds d (E ++ instance c.types T ∷ []) P c (substitute (next_eigen E) z)) s.2 p))),
     )
-shaped d std E P c x l t (Exist T b) s a n f =
+shaped d std E P c x l t (connective.Exists T b) s a n f =
     let m = transport (IsUnused x l) s.1 n in
     let h = sigma_holds d std E P c x l T s.0 m.1 (transport (λ z. IsFormula d E (closed c z)) s.1 f) in (
       (λ p. transport (λ z. (w : Term) × IsWitness d E w (instance c.types T) × Holds d E P (with_value c x l w) (substitute (atom (logic x l)) z)) (sym s.2) (h.0 (transport (Holds d E P c) s.1 p))),
       (λ p. transport (Holds d E P c) (sym s.1) (h.1 (transport (λ z. (w : Term) × IsWitness d E w (instance c.types T) × Holds d E P (with_value c x l w) (substitute (atom (logic x l)) z)) s.2 p))),
     )
-shaped d std E P c x l t Cutting s a n f = absurd a
-shaped d std E P c x l t (Implies u v) s a n f = absurd a
-shaped d std E P c x l t Plain s a n f = absurd a
+shaped d std E P c x l t connective.Cut s a n f = absurd a
+shaped d std E P c x l t (connective.Implies u v) s a n f = absurd a
+shaped d std E P c x l t (connective.Not g) s a n f = absurd a
+shaped d std E P c x l t connective.Atomic s a n f = absurd a
 
-pub run_time_goals : (d : Declared) → IsStandard d → (E : List Ty) (P : List ClauseFormula) (c : Closing) (x l n : ℕ) (t u : Term) → head_normal n t ≡ Some u → IsTakenApart (form_of u) → IsUnused x l t → IsFormula d E (closed c t) → (Holds d E P c t → FormHolds d E P c x l (form_of u)) × (FormHolds d E P c x l (form_of u) → Holds d E P c t)
+pub run_time_goals : (d : Declared) → IsStandard d → (E : List Ty) (P : List ClauseFormula) (c : Closing) (x l n : ℕ) (t u : Term) → head_normal n t ≡ Some u → IsTakenApart (connective_of u) → IsUnused x l t → IsFormula d E (closed c t) → (Holds d E P c t → FormHolds d E P c x l (connective_of u)) × (FormHolds d E P c x l (connective_of u) → Holds d E P c t)
 run_time_goals d std E P c x l n t u e a m f =
     let r = head_reduces n t u e in
     let q = closed_reduces c r in
-    let h = shaped d std E P c x l u (form_of u) (form_shape u) a (within_reduces (IsOther x l) 0 r m) (formula_reduces d E q f) in
+    let h = shaped d std E P c x l u (connective_of u) (form_shape u) a (within_reduces (IsOther x l) 0 r m) (formula_reduces d E q f) in
     ((λ p. h.0 (reduces_on d E P f q p)), (λ p. reduces_back d E P f q (h.1 p)))
 
 -- flattened goals

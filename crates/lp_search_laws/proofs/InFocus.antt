@@ -11,10 +11,10 @@ use Rattle.lp_calculus.proofs.Fills.{subst_closed}
 use Rattle.lp_calculus.proofs.Steps.{converts_on, converts_sym}
 use Rattle.lp_calculus.proofs.Rigid.{heads_joint}
 use Rattle.lp_model.specs.Index.{instantiate, lifted, at}
-use Rattle.lp_model.specs.Spine.{head_of, arguments}
+use Rattle.lp_calculus.specs.Spine.{head_of, arguments}
 use Rattle.lp_model.specs.Pair.{Closing, closed}
-use Rattle.lp_model.specs.Standard.{pi_of}
-use Rattle.lp_model.specs.Schemes.{IsStandard}
+use Rattle.lp_standard.specs.Connectives.{pi_of}
+use Rattle.lp_standard.specs.Schemes.{IsStandard}
 use Rattle.lp_model.specs.Flat.{Goals, no_goals, goals, clause, all_of, formula_of_goals, formula_of_clause}
 use Rattle.lp_model.specs.Flatten.{ClauseFormula}
 use Rattle.lp_model.specs.Proofs.{Declared, IsFormula, IsWitness, IsAtomHead, Focus, FConv, FAll, FTake, FNeed, FHit, focuses, Provable, True, Focusable}

@@ -3,9 +3,10 @@ use Rattle.std.proofs.Common.{◌≡◌, ℕ, suc, List, [], ◌∷◌, Option, 
 use Rattle.lp_calculus.specs.Types.{Ty}
 use Rattle.lp_calculus.specs.Term.{Term, atom, eigen, logic}
 use Rattle.lp_model.specs.Look.{head_normal}
-use Rattle.lp_model.specs.Spine.{head_of}
-use Rattle.lp_model.specs.Standard.{Plain, form_of}
-use Rattle.lp_model.specs.Schemes.{IsStandard}
+use Rattle.lp_calculus.specs.Spine.{head_of}
+use Rattle.lp_standard.specs.Connectives.{connective_of}
+use Rattle.lp_standard.specs.Connectives as connective
+use Rattle.lp_standard.specs.Schemes.{IsStandard}
 use Rattle.lp_model.specs.Flat.{Goal, Atomic, Cut, Either, Exists, Forall, Assume, Clause}
 use Rattle.lp_model.specs.Branch.{Entry, Branch, Go}
 use Rattle.lp_model.specs.Answers.{Query, AnswerTyping}
@@ -20,12 +21,12 @@ use Rattle.lp_search_laws.proofs.Standing.{proved_branches_answer}
 
 module _ (n height : ℕ) (d : Declared) (std : IsStandard d) (P : List Clause) (q : Query) (z : AnswerTyping) (b : Branch) where
   abbrev pub Atoms : List Ty → List (List Ty) → Entry → List Entry → Type 0
-  Atoms E Es e es = (t u : Term) → e.goal ≡ Atomic t → head_normal n t ≡ Some u → form_of u ≡ Plain → IsRightView n d P q (going (Typings n d P q z b E Es e es (E ∷ Es)) (with_goals b (e ∷ es))) (look_atom n P height e (with_goals b es) u (head_of u))
+  Atoms E Es e es = (t u : Term) → e.goal ≡ Atomic t → head_normal n t ≡ Some u → connective_of u ≡ connective.Atomic → IsRightView n d P q (going (Typings n d P q z b E Es e es (E ∷ Es)) (with_goals b (e ∷ es))) (look_atom n P height e (with_goals b es) u (head_of u))
 
   module _ (E : List Ty) (Es : List (List Ty)) (e : Entry) (es : List Entry) (h : IsTypedHere n d P q z b E Es e es) (atoms : Atoms E Es e es) where
     normal_view : (t : Term) → e.goal ≡ Atomic t → (o : Option Term) → head_normal n t ≡ o → IsRightView n d P q (going (Typings n d P q z b E Es e es (E ∷ Es)) (with_goals b (e ∷ es))) (look_normal n P height e (with_goals b es) o)
     normal_view t i None x = λ w. absurd (cc)
-    normal_view t i (Some u) x = form_view n d std P q z b E Es e es h t u i x height (λ p. atoms t u i x p) (form_of u) refl
+    normal_view t i (Some u) x = form_view n d std P q z b E Es e es h t u i x height (λ p. atoms t u i x p) (connective_of u) refl
 
     goal_view : (g : Goal) → e.goal ≡ g → IsRightView n d P q (going (Typings n d P q z b E Es e es (E ∷ Es)) (with_goals b (e ∷ es))) (look_goal n P height e (with_goals b es) g)
     goal_view (Atomic t) i = normal_view t i (head_normal n t) refl

@@ -2,8 +2,8 @@
 use Rattle.std.proofs.Common.{◌≡◌, ℕ, List, [], ◌∷◌, length, Some, refl}
 use Rattle.lp_calculus.specs.Types.{Ty}
 use Rattle.lp_model.specs.Faithful.{EachOf}
-use Rattle.lp_model.specs.Standard.{two}
-use Rattle.lp_model.specs.Schemes.{IsStandard}
+use Rattle.lp_standard.specs.Connectives.{two}
+use Rattle.lp_standard.specs.Schemes.{IsStandard}
 use Rattle.lp_model.specs.Skeleton.{starts, run}
 use Rattle.lp_model.specs.Values.{evaluate}
 use Rattle.lp_model.specs.Flat.{Goals, Clause}

@@ -15,7 +15,7 @@ use Rattle.lp_calculus.proofs.Typings.{typed_parts, typed_instance}
 use Rattle.lp_model.specs.Faithful.{EachOf}
 use Rattle.lp_model.specs.Types.{zipped}
 use Rattle.lp_model.specs.Rule.{type_pairs}
-use Rattle.lp_model.specs.Spine.{head_of, arguments}
+use Rattle.lp_calculus.specs.Spine.{head_of, arguments}
 use Rattle.lp_model.specs.Index.{instantiate}
 use Rattle.lp_model.specs.Search.{is_new, slots_of, pairs_of}
 use Rattle.lp_model.specs.Proofs.{Declared}

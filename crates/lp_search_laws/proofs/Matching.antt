@@ -9,7 +9,8 @@ use Rattle.lp_calculus.specs.Term.{Term, Atom, index, atom, app, apply, constant
 use Rattle.lp_calculus.specs.Fill.{Within}
 use Rattle.lp_calculus.specs.Convert.{Converts}
 use Rattle.lp_calculus.specs.Typing.{HasType, HaveTypes, Typed, atom_type, o_type}
-use Rattle.lp_calculus.specs.Closed.{IsClosedType, IsClosedAtom, IsPositive, IsPositiveAtom, AllAtoms}
+use Rattle.lp_calculus.specs.Closed.{IsClosedType, IsClosedAtom, AllAtoms}
+use Rattle.lp_standard.specs.Positive.{IsPositive, IsPositiveAtom}
 use Rattle.lp_calculus.proofs.Fills.{within_subst}
 use Rattle.lp_calculus.proofs.Steps.{converts_on, converts_is, converts_sym}
 use Rattle.lp_calculus.proofs.Subject.{typed_subst}
@@ -18,7 +19,7 @@ use Rattle.lp_calculus.proofs.Rigid.{heads_joint}
 use Rattle.lp_model.specs.Faithful.{EachOf}
 use Rattle.lp_model.specs.Types.{zipped}
 use Rattle.lp_model.specs.Rule.{type_pairs}
-use Rattle.lp_model.specs.Spine.{head_of, arguments}
+use Rattle.lp_calculus.specs.Spine.{head_of, arguments}
 use Rattle.lp_model.specs.Index.{instantiate, at}
 use Rattle.lp_model.specs.Pair.{Closing, closed, SolvesAll}
 use Rattle.lp_model.specs.Search.{slots_of, pairs_of}

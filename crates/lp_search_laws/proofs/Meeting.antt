@@ -10,7 +10,7 @@ use Rattle.lp_calculus.specs.Instance.{instance_atom}
 use Rattle.lp_calculus.proofs.Steps.{converts_on, converts_reduces, converts_is}
 use Rattle.lp_calculus.proofs.Rigid.{heads_joint}
 use Rattle.lp_model.specs.Index.{instantiate}
-use Rattle.lp_model.specs.Spine.{head_of, arguments}
+use Rattle.lp_calculus.specs.Spine.{head_of, arguments}
 use Rattle.lp_model.specs.Look.{head_normal}
 use Rattle.lp_model.specs.Same.{same_name, same_atom, same_numbers}
 use Rattle.lp_model.specs.Pair.{Closing, closed}

@@ -5,13 +5,16 @@ use Rattle.std.proofs.lemmas.Bool.Decides.{nat_tests}
 use Rattle.lp_calculus.specs.Types.{Ty}
 use Rattle.lp_calculus.specs.Term.{Term, Atom, index, atom, abs, app, shift, constant, integer, text, eigen, logic, param}
 use Rattle.lp_calculus.specs.Fill.{Within}
-use Rattle.lp_calculus.specs.Closed.{AllAtoms, IsPositiveAtom}
+use Rattle.lp_calculus.specs.Closed.{AllAtoms}
+use Rattle.lp_standard.specs.Positive.{IsPositiveAtom}
 use Rattle.lp_calculus.proofs.Sigma.{rename}
 use Rattle.lp_calculus.proofs.Plain.{bump, shift-rename}
-use Rattle.lp_model.specs.Spine.{head_of, arguments_and}
-use Rattle.lp_model.specs.Standard.{is_positive, are_positive}
+use Rattle.lp_calculus.specs.Spine.{head_of, arguments_and}
+use Rattle.lp_standard.proofs.Positives.{declared_is_positive}
+use Rattle.lp_standard.specs.Constants.{is_declared}
+use Rattle.lp_standard.specs.Positive.{is_positive, are_positive}
 use Rattle.lp_model.specs.Flat.{Goal, Atomic, Cut, Either, Exists, Forall, Assume, Goals, no_goals, goals, Clause, clause, Clauses, no_clauses, clauses, under_all, map_goal, map_goals, map_clause, map_clauses, same_type}
-use Rattle.lp_model.specs.Flatten.{is_declared, heads_clauses, is_clause_head}
+use Rattle.lp_model.specs.Flatten.{heads_clauses, is_clause_head}
 use Rattle.lp_model.specs.Proofs.{Declared}
 use Rattle.lp_search_laws.specs.Started.{AreTypesBelow, IsQueryAtom}
 use Rattle.lp_search_laws.specs.Branches.{IsPlainAtom, IsPlainTerm, IsClauseHead, IsGoal, AreGoals, IsClause, AreClauses}
@@ -101,16 +104,9 @@ head_within P n (atom a) w = w
 head_within P n (abs b) w = w
 head_within P n (app t u) w = head_within P n t w.0
 
-positive_constant : (c : ℕ) (ts : List Ty) → not (nat_eq c 2 || nat_eq c 3 || nat_eq c 7) ≡ true → IsPositiveAtom (constant c ts)
-positive_constant c ts e = (
-  (λ q. let f : not (nat_eq 2 2 || nat_eq 2 3 || nat_eq 2 7) ≡ true = transport (λ z. not (nat_eq z 2 || nat_eq z 3 || nat_eq z 7) ≡ true) q e in absurd (cc)),
-  (λ q. let f : not (nat_eq 3 2 || nat_eq 3 3 || nat_eq 3 7) ≡ true = transport (λ z. not (nat_eq z 2 || nat_eq z 3 || nat_eq z 7) ≡ true) q e in absurd (cc)),
-  (λ q. let f : not (nat_eq 7 2 || nat_eq 7 3 || nat_eq 7 7) ≡ true = transport (λ z. not (nat_eq z 2 || nat_eq z 3 || nat_eq z 7) ≡ true) q e in absurd (cc)),
-)
-
 plain_term : (k n : ℕ) (t : Term) → is_positive t ≡ true → Within (IsQueryAtom k) n t → IsPlainTerm k t
 plain_term k n (index i) e w = tt
-plain_term k n (atom (constant c ts)) e w = (positive_constant c ts e, w)
+plain_term k n (atom (constant c ts)) e w = (e, w)
 plain_term k n (atom (integer z)) e w = tt
 plain_term k n (atom (text s)) e w = tt
 plain_term k n (atom (eigen j)) e w = tt
@@ -141,7 +137,7 @@ clause_head d B (app t u) e = absurd (cc)
 
 pub plain_clause_head : (k n : ℕ) (B : List Bool) (h : Term) → IsClauseHead B h → Within (IsQueryAtom k) n h → IsPlainTerm k h
 plain_clause_head k n B (index i) e w = tt
-plain_clause_head k n B (atom (constant c ts)) e w = let m : 32 ≤ c = e in (((λ q. absurd (omega (m, q, arith))), (λ q. absurd (omega (m, q, arith))), (λ q. absurd (omega (m, q, arith)))), w)
+plain_clause_head k n B (atom (constant c ts)) e w = let m : 32 ≤ c = e in (declared_is_positive c m, w)
 plain_clause_head k n B (atom (eigen j)) e w = tt
 plain_clause_head k n B (atom (integer z)) e w = tt
 plain_clause_head k n B (atom (text s)) e w = tt

@@ -9,9 +9,9 @@ use Rattle.lp_calculus.specs.Instance.{instance_atom, instance_term}
 use Rattle.lp_calculus.proofs.BetaEta.{shift_one}
 use Rattle.lp_calculus.proofs.Sigma.{rename}
 use Rattle.lp_model.specs.Faithful.{EachOf}
-use Rattle.lp_model.specs.Schemes.{IsStandard}
+use Rattle.lp_standard.specs.Schemes.{IsStandard}
 use Rattle.lp_model.specs.Index.{instantiate, lifted}
-use Rattle.lp_model.specs.Spine.{head_of, arguments}
+use Rattle.lp_calculus.specs.Spine.{head_of, arguments}
 use Rattle.lp_model.specs.Types.{zipped}
 use Rattle.lp_model.specs.Rule.{type_pairs}
 use Rattle.lp_model.specs.Search.{is_new, renewed, slots_of, pairs_of}

@@ -7,9 +7,10 @@ use Rattle.lp_calculus.specs.Term.{Term, Atom, index, atom, abs, app, shift, con
 use Rattle.lp_calculus.specs.Fill.{Binding, fill, raise, at_variables, one, put, put_all}
 use Rattle.lp_calculus.specs.Instance.{instance_term, instance_atom}
 use Rattle.lp_calculus.specs.Typing.{o_type}
-use Rattle.lp_calculus.specs.Closed.{AllAtoms, IsPositiveAtom, IsPositive}
+use Rattle.lp_calculus.specs.Closed.{AllAtoms}
+use Rattle.lp_standard.specs.Positive.{IsPositiveAtom, IsPositive}
 use Rattle.lp_model.specs.Faithful.{EachOf}
-use Rattle.lp_model.specs.Spine.{head_of}
+use Rattle.lp_calculus.specs.Spine.{head_of}
 use Rattle.lp_model.specs.Types.{TypeBinding, one_type, put_types}
 use Rattle.lp_model.specs.Pair.{put_type_in, put_types_in}
 use Rattle.lp_model.specs.Flat.{Goal, Atomic, Cut, Either, Exists, Forall, Assume, Goals, no_goals, goals, Clause, clause, Clauses, no_clauses, clauses, under_all, map_goal, map_goals, map_clause, map_clauses, same_type, all_of, formula_of_goal, formula_of_goals, formula_of_clause, formula_of_clauses}

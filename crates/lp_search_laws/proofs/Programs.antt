@@ -11,12 +11,12 @@ use Rattle.lp_calculus.specs.Closed.{AreClosed}
 use Rattle.lp_calculus.proofs.Steps.{converts_reduces, converts_sym}
 use Rattle.lp_model.specs.Faithful.{EachOf}
 use Rattle.lp_model.specs.Pair.{Closing, closed}
-use Rattle.lp_model.specs.Spine.{head_of}
+use Rattle.lp_calculus.specs.Spine.{head_of}
 use Rattle.lp_model.specs.Eigens.{beta_normal}
-use Rattle.lp_model.specs.Standard.{two}
+use Rattle.lp_standard.specs.Connectives.{two}
 use Rattle.lp_model.specs.Flat.{Goals, no_goals, goals, Clause, clause, Clauses, no_clauses, clauses, clause_list, formula_of_clause, formula_of_clauses}
 use Rattle.lp_model.specs.Flatten.{ClauseFormula, with_type_vars, flatten, flat_clause}
-use Rattle.lp_model.specs.Schemes.{IsStandard}
+use Rattle.lp_standard.specs.Schemes.{IsStandard}
 use Rattle.lp_model.specs.Proofs.{Declared, IsFormula, IsSentence, IsAtomHead, Provable, Focusable, assumed}
 use Rattle.lp_laws.proofs.Formulas.{formula_eigens, closed_instance, parts}
 use Rattle.lp_laws.proofs.Roots.{connective}

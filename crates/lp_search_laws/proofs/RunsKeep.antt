@@ -9,6 +9,7 @@ use Rattle.lp_calculus.specs.Fill.{Binding, abstracted}
 use Rattle.lp_calculus.specs.Closed.{AllAtoms}
 use Rattle.lp_calculus.specs.Instance.{instance_atom, instance_term}
 use Rattle.lp_calculus.proofs.Eta.{app_same}
+use Rattle.lp_standard.specs.Positive.{IsPositiveConstant}
 use Rattle.lp_model.specs.Faithful.{EachOf}
 use Rattle.lp_model.specs.Patterns.{eigens, agreeing}
 use Rattle.lp_model.specs.Same.{same_name}
@@ -457,9 +458,6 @@ types_satisfy_themselves n limit eqs ps ds next s e =
     (g.types.satisfied, pairs_fixed Any (Left Any s.types) (types_put s.types) (λ i l. free_stays s.types i l.1) s.delayed g.delayed)
 
 -- positive constants, and type variables below k
-abbrev IsPositiveConstant : ℕ → Type 0
-IsPositiveConstant c = (c ≡ 2 → ⊥) × (c ≡ 3 → ⊥) × (c ≡ 7 → ⊥)
-
 abbrev Below : ℕ → ℕ → Type 0
 Below k i = i < k
 

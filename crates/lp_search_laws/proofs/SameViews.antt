@@ -5,8 +5,9 @@ use Rattle.std.proofs.lemmas.Bool.{eqb-true}
 use Rattle.std.proofs.lemmas.Bool.Decides.{nat_tests}
 use Rattle.lp_calculus.specs.Term.{Term, index, atom, abs, app, constant, integer, text, eigen, logic, param}
 use Rattle.lp_model.specs.Look.{head_normal}
-use Rattle.lp_model.specs.Spine.{head_of, arguments}
-use Rattle.lp_model.specs.Standard.{Form, Truth, Cutting, Both, OneOf, Implies, Every, Exist, Plain, form_of}
+use Rattle.lp_calculus.specs.Spine.{head_of, arguments}
+use Rattle.lp_standard.specs.Connectives.{Connective, connective_of}
+use Rattle.lp_standard.specs.Connectives as connective
 use Rattle.lp_model.specs.Skeleton.{Opens, Takes, named, eigenconstant}
 use Rattle.lp_model.specs.Unify.{solve, unit_limit}
 use Rattle.lp_model.specs.Values.{Outcome, Is, Faults, evaluate, term_of}
@@ -80,19 +81,20 @@ module _ (n m : ℕ) (more : n ≤ m) where
     atom_same (abs u) k f = refl
     atom_same (app u v) k f = refl
 
-    form_same : (f : Form) → (f ≡ Plain → AtomHasEnough n e.level b t) → look_form m P height e b t f ≡ look_form n P height e b t f
-    form_same Truth h = refl
-    form_same Cutting h = refl
-    form_same (Both l r) h = refl
-    form_same (OneOf l r) h = refl
-    form_same (Implies c g) h = refl
-    form_same (Every T s) h = refl
-    form_same (Exist T s) h = refl
-    form_same Plain h = let a = h refl in atom_same (head_of t) a.key a.head
+    form_same : (f : Connective) → (f ≡ connective.Atomic → AtomHasEnough n e.level b t) → look_form m P height e b t f ≡ look_form n P height e b t f
+    form_same connective.True h = refl
+    form_same connective.Cut h = refl
+    form_same (connective.And l r) h = refl
+    form_same (connective.Or l r) h = refl
+    form_same (connective.Implies c g) h = refl
+    form_same (connective.ForAll T s) h = refl
+    form_same (connective.Exists T s) h = refl
+    form_same (connective.Not g) h = refl
+    form_same connective.Atomic h = let a = h refl in atom_same (head_of t) a.key a.head
 
   term_same : (P : List Clause) (height : ℕ) (e : Entry) (b : Branch) (t : Term) → TermHasEnough n e.level b t → look_normal m P height e b (head_normal m t) ≡ look_normal n P height e b (head_normal n t)
   term_same P height e b t f =
-      ap (look_normal m P height e b) (head_normal_more n m more t f.form f.comes) ∙ form_same P height e b f.form (form_of f.form) f.call ∙ ap (look_normal n P height e b) (sym f.comes)
+      ap (look_normal m P height e b) (head_normal_more n m more t f.form f.comes) ∙ form_same P height e b f.form (connective_of f.form) f.call ∙ ap (look_normal n P height e b) (sym f.comes)
 
   goal_same : (P : List Clause) (height : ℕ) (e : Entry) (b : Branch) (g : Goal) → e.goal ≡ g → ((t : Term) → e.goal ≡ Atomic t → TermHasEnough n e.level b t) → look_goal m P height e b g ≡ look_goal n P height e b g
   goal_same P height e b (Atomic t) i f = term_same P height e b t (f t i)

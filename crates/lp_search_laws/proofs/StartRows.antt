@@ -4,8 +4,8 @@ use Rattle.std.specs.Prelude.{pos}
 use Rattle.lp_calculus.specs.Types.{arrow}
 use Rattle.lp_calculus.specs.Term.{Term, index, atom, abs, app, constant, integer}
 use Rattle.lp_calculus.specs.Typing.{o_type, int_type}
-use Rattle.lp_model.specs.Standard.{two, pi_of}
-use Rattle.lp_model.specs.Schemes.{entry, standard_schemes, plain}
+use Rattle.lp_standard.specs.Connectives.{two, pi_of}
+use Rattle.lp_standard.specs.Schemes.{entry, standard_schemes, plain}
 use Rattle.lp_model.specs.Flat.{Atomic, no_goals, goals, Clause, clause, no_clauses, clauses}
 use Rattle.lp_model.specs.Flatten.{ClauseFormula, flatten_query}
 use Rattle.lp_model.specs.Values.{Number, Is, evaluate}

@@ -10,12 +10,12 @@ use Rattle.lp_calculus.specs.Closed.{AllAtoms}
 use Rattle.lp_calculus.proofs.Steps.{within_reduces}
 use Rattle.lp_calculus.proofs.Subject.{typed_reduces}
 use Rattle.lp_model.specs.declared.ending.Ending.TheVariants.{Deep}
-use Rattle.lp_model.specs.Spine.{head_of, arguments}
+use Rattle.lp_calculus.specs.Spine.{head_of, arguments}
 use Rattle.lp_model.specs.Faithful.{AnyOf, EachOf}
 use Rattle.lp_model.specs.Look.{head_normal}
 use Rattle.lp_model.specs.Same.{same_name}
 use Rattle.lp_model.specs.Pair.{Closing, closed}
-use Rattle.lp_model.specs.Schemes.{IsStandard}
+use Rattle.lp_standard.specs.Schemes.{IsStandard}
 use Rattle.lp_model.specs.Flat.{Atomic, Clause, clause, formula_of_goal}
 use Rattle.lp_model.specs.Proofs.{Declared, IsFormula, IsAtomHead}
 use Rattle.lp_model.specs.Answers.{Query, Variable, over, IsScopedAtom, Instance, AnswerTyping, Closes}

@@ -5,11 +5,11 @@ use Rattle.lp_calculus.specs.Term.{Term}
 use Rattle.lp_calculus.specs.Instance.{instance_term}
 use Rattle.lp_calculus.specs.Typing.{o_type}
 use Rattle.lp_model.specs.Faithful.{EachOf}
-use Rattle.lp_model.specs.Spine.{head_of}
+use Rattle.lp_calculus.specs.Spine.{head_of}
 use Rattle.lp_model.specs.Types.{TypeBinding}
 use Rattle.lp_model.specs.Pair.{Pair}
 use Rattle.lp_model.specs.Rule.{type_pairs}
-use Rattle.lp_model.specs.Schemes.{IsStandard}
+use Rattle.lp_standard.specs.Schemes.{IsStandard}
 use Rattle.lp_model.specs.Flat.{Goal, Goals, no_goals, goals, Clause, clause, goal_list, type_goals, instantiate_goals, formula_of_goal, formula_of_goals, formula_of_clause}
 use Rattle.lp_model.specs.Branch.{Entry, Branch, entries}
 use Rattle.lp_model.specs.Search.{renewed}

@@ -8,12 +8,13 @@ use Rattle.lp_calculus.specs.Term.{Term, Atom, index, atom, abs, app, constant, 
 use Rattle.lp_calculus.specs.Fill.{Within}
 use Rattle.lp_calculus.specs.Instance.{instance_term}
 use Rattle.lp_calculus.specs.Typing.{Typed, Context, scheme_type, o_type}
-use Rattle.lp_calculus.specs.Closed.{AllAtoms, IsPositive, IsPositiveAtom}
+use Rattle.lp_calculus.specs.Closed.{AllAtoms}
+use Rattle.lp_standard.specs.Positive.{IsPositive, IsPositiveAtom}
 use Rattle.lp_model.specs.Faithful.{AnyOf, EachOf}
-use Rattle.lp_model.specs.Standard.{two, pi_of}
-use Rattle.lp_model.specs.Schemes.{IsStandard}
+use Rattle.lp_standard.specs.Connectives.{two, pi_of}
+use Rattle.lp_standard.specs.Schemes.{IsStandard}
 use Rattle.lp_model.specs.Same.{same_name}
-use Rattle.lp_model.specs.Spine.{head_of, arguments}
+use Rattle.lp_calculus.specs.Spine.{head_of, arguments}
 use Rattle.lp_model.specs.Rule.{type_pairs}
 use Rattle.lp_model.specs.Unify.{Unified, solve, unit_limit}
 use Rattle.lp_model.specs.Search.{renewed, slots_of, slotted, pairs_of}

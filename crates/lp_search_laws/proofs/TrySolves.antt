@@ -10,11 +10,11 @@ use Rattle.lp_calculus.specs.Typing.{o_type}
 use Rattle.lp_calculus.specs.Closed.{IsClosedType}
 use Rattle.lp_calculus.proofs.Steps.{converts_on, converts_is}
 use Rattle.lp_model.specs.Faithful.{EachOf}
-use Rattle.lp_model.specs.Spine.{head_of, arguments}
+use Rattle.lp_calculus.specs.Spine.{head_of, arguments}
 use Rattle.lp_model.specs.Index.{instantiate}
 use Rattle.lp_model.specs.Rule.{type_pairs}
 use Rattle.lp_model.specs.Pair.{Pair, Closing, closed, SolvesAll}
-use Rattle.lp_model.specs.Schemes.{IsStandard}
+use Rattle.lp_standard.specs.Schemes.{IsStandard}
 use Rattle.lp_model.specs.Search.{renewed, pairs_of}
 use Rattle.lp_model.specs.Proofs.{Declared, IsFormula, IsWitness, Provable}
 use Rattle.lp_model.specs.Flat.{Goal, Goals, Clause, clause, goal_list, instantiate_goals, type_goals, formula_of_goal, formula_of_goals, formula_of_clause}

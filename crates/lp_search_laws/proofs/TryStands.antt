@@ -4,11 +4,11 @@ use Rattle.lp_calculus.specs.Types.{Ty, instance}
 use Rattle.lp_calculus.specs.Term.{Term}
 use Rattle.lp_calculus.specs.Instance.{instance_term}
 use Rattle.lp_model.specs.Faithful.{EachOf}
-use Rattle.lp_model.specs.Spine.{head_of, arguments}
+use Rattle.lp_calculus.specs.Spine.{head_of, arguments}
 use Rattle.lp_model.specs.Types.{TypePair}
 use Rattle.lp_model.specs.Pair.{Pair}
 use Rattle.lp_model.specs.Rule.{type_pairs}
-use Rattle.lp_model.specs.Schemes.{IsStandard}
+use Rattle.lp_standard.specs.Schemes.{IsStandard}
 use Rattle.lp_model.specs.Flat.{Goals, Clause, clause, type_goals, formula_of_goals}
 use Rattle.lp_model.specs.Branch.{Entry, Branch}
 use Rattle.lp_model.specs.Search.{renewed, slots_of, slotted, pairs_of, tried, try_clause}

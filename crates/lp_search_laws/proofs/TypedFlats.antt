@@ -1,5 +1,5 @@
 -- Flattened goals and clauses of typed formulas are typed over the same type variables, and plain.
-use Rattle.std.proofs.Common.{◌≡◌, ℕ, zero, suc, List, [], ◌∷◌, ◌++◌, map, length, Option, Some, refl, sym, ap, ◌∙◌, subst as transport, arith, inl, inr, Bool, true, false}
+use Rattle.std.proofs.Common.{None, ◌≡◌, ℕ, zero, suc, List, [], ◌∷◌, ◌++◌, map, length, Option, Some, refl, sym, ap, ◌∙◌, subst as transport, arith, inl, inr, Bool, true, false}
 use Rattle.std.specs.Prelude.{option_map, ◌&&◌}
 use Rattle.lp_calculus.specs.Types.{Ty, arrow}
 use Rattle.lp_calculus.specs.Term.{Term, Atom, index, atom, abs, app, apply, shift, constant, integer, text, eigen, logic, param}
@@ -9,11 +9,15 @@ use Rattle.lp_calculus.proofs.Fills.{within_shift}
 use Rattle.lp_calculus.proofs.Subject.{typed_shift}
 use Rattle.lp_calculus.proofs.Typings.{typed_parts}
 use Rattle.lp_model.specs.Faithful.{EachOf}
-use Rattle.lp_model.specs.Spine.{head_of, arguments}
-use Rattle.lp_model.specs.Standard.{truth, cut, two, pi_of, sigma_of, body_of, Form, Truth, Cutting, Both, OneOf, Implies, Every, Exist, Plain, form_of, form_at, form_of_constant, are_positive}
+use Rattle.lp_calculus.specs.Spine.{head_of, arguments}
+use Rattle.lp_standard.specs.Positive.{IsPositiveConstant}
+use Rattle.lp_standard.proofs.Positives.{others_are_positive}
+use Rattle.lp_standard.specs.Connectives.{truth, cut, two, pi_of, sigma_of, body_of, Connective, connective_of, connective_at, connective_of_constant}
+use Rattle.lp_standard.specs.Connectives as connective
+use Rattle.lp_standard.specs.Positive.{are_positive}
 use Rattle.lp_model.specs.Flat.{Goal, Atomic, Cut, Either, Exists, Forall, Assume, Goals, no_goals, goals, Clause, clause, Clauses, no_clauses, clauses, add_clauses, raise_goals, all_of, formula_of_goal, formula_of_goals, formula_of_clause, formula_of_clauses}
 use Rattle.lp_model.specs.Flatten.{only, is_goal_head, is_clause_head, flat_goal, flat_goal_form, flat_list, flat_clause, flat_clause_form}
-use Rattle.lp_model.specs.Schemes.{IsStandard, on_two}
+use Rattle.lp_standard.specs.Schemes.{IsStandard, on_two}
 use Rattle.lp_model.specs.Proofs.{Declared, under}
 use Rattle.lp_laws.proofs.Lists.{each_append}
 use Rattle.lp_laws.proofs.Forms.{Shape, form_shape, apply_arguments}
@@ -73,38 +77,45 @@ module _ (d : Declared) (std : IsStandard d) (k : ℕ) where
   abbrev Over : List Ty → Term → Type 0
   Over Γ t = IsOver d k Γ t
 
-  plain_constant : (Γ : List Ty) (c : ℕ) (ts : List Ty) (us : List Term) → Typed (under d []) Γ (apply (atom (constant c ts)) us) o_type → form_of_constant c ts us ≡ Plain → (c ≡ 2 → ⊥) × (c ≡ 3 → ⊥) × (c ≡ 7 → ⊥)
-  plain_constant Γ c ts us h e = (
-    (λ q. not_two (transport (λ z. Typed (under d []) Γ (apply (atom (constant z ts)) us) o_type) q h) (transport (λ z. form_of_constant z ts us ≡ Plain) q e)),
-    (λ q. not_three (transport (λ z. Typed (under d []) Γ (apply (atom (constant z ts)) us) o_type) q h) (transport (λ z. form_of_constant z ts us ≡ Plain) q e)),
-    (λ q. not_seven (transport (λ z. Typed (under d []) Γ (apply (atom (constant z ts)) us) o_type) q h) (transport (λ z. form_of_constant z ts us ≡ Plain) q e)),
-  )
+  plain_constant : (Γ : List Ty) (c : ℕ) (ts : List Ty) (us : List Term) → Typed (under d []) Γ (apply (atom (constant c ts)) us) o_type → connective_of_constant c ts us ≡ connective.Atomic → IsPositiveConstant c
+  plain_constant Γ c ts us h e =
+      others_are_positive c
+      (λ q. not_two (transport (λ z. Typed (under d []) Γ (apply (atom (constant z ts)) us) o_type) q h) (transport (λ z. connective_of_constant z ts us ≡ connective.Atomic) q e))
+      (λ q. not_three (transport (λ z. Typed (under d []) Γ (apply (atom (constant z ts)) us) o_type) q h) (transport (λ z. connective_of_constant z ts us ≡ connective.Atomic) q e))
+      (λ q. not_seven (transport (λ z. Typed (under d []) Γ (apply (atom (constant z ts)) us) o_type) q h) (transport (λ z. connective_of_constant z ts us ≡ connective.Atomic) q e))
+      (λ q. not_reserved (transport (λ z. Typed (under d []) Γ (apply (atom (constant z ts)) us) o_type) q h))
     where
-      not_two : Typed (under d []) Γ (apply (atom (constant 2 ts)) us) o_type → form_of_constant 2 ts us ≡ Plain → ⊥
+      not_two : Typed (under d []) Γ (apply (atom (constant 2 ts)) us) o_type → connective_of_constant 2 ts us ≡ connective.Atomic → ⊥
       not_two w f =
           let p = typed_parts (atom_type (under d [])) Γ (atom (constant 2 ts)) us o_type w in
           let s = plain_type ts (on_two o_type o_type) p.0 (sym (ap (scheme_type ts) (std.at 2 (omega arith))) ∙ p.1) in
           let a = no_arrow (atom_type (under d [])) Γ us (transport (λ z. HaveTypes (atom_type (under d [])) Γ z us o_type) s.1 p.2) in
-          let g : form_of_constant 2 [] (a.0 ∷ a.1 ∷ []) ≡ Plain = ap (form_of_constant 2 []) (sym a.2) ∙ ap (λ z. form_of_constant 2 z us) (sym s.0) ∙ f in
+          let g : connective_of_constant 2 [] (a.0 ∷ a.1 ∷ []) ≡ connective.Atomic = ap (connective_of_constant 2 []) (sym a.2) ∙ ap (λ z. connective_of_constant 2 z us) (sym s.0) ∙ f in
           absurd (cc)
 
-      not_three : Typed (under d []) Γ (apply (atom (constant 3 ts)) us) o_type → form_of_constant 3 ts us ≡ Plain → ⊥
+      not_three : Typed (under d []) Γ (apply (atom (constant 3 ts)) us) o_type → connective_of_constant 3 ts us ≡ connective.Atomic → ⊥
       not_three w f =
           let p = typed_parts (atom_type (under d [])) Γ (atom (constant 3 ts)) us o_type w in
           let s = plain_type ts (on_two o_type o_type) p.0 (sym (ap (scheme_type ts) (std.at 3 (omega arith))) ∙ p.1) in
           let a = no_arrow (atom_type (under d [])) Γ us (transport (λ z. HaveTypes (atom_type (under d [])) Γ z us o_type) s.1 p.2) in
-          let g : form_of_constant 3 [] (a.0 ∷ a.1 ∷ []) ≡ Plain = ap (form_of_constant 3 []) (sym a.2) ∙ ap (λ z. form_of_constant 3 z us) (sym s.0) ∙ f in
+          let g : connective_of_constant 3 [] (a.0 ∷ a.1 ∷ []) ≡ connective.Atomic = ap (connective_of_constant 3 []) (sym a.2) ∙ ap (λ z. connective_of_constant 3 z us) (sym s.0) ∙ f in
           absurd (cc)
 
-      not_seven : Typed (under d []) Γ (apply (atom (constant 7 ts)) us) o_type → form_of_constant 7 ts us ≡ Plain → ⊥
+      not_reserved : Typed (under d []) Γ (apply (atom (constant 24 ts)) us) o_type → ⊥
+      not_reserved w =
+          let p = typed_parts (atom_type (under d [])) Γ (atom (constant 24 ts)) us o_type w in
+          let e : None ≡ Some p.0 = sym (ap (scheme_type ts) (std.at 24 (omega arith))) ∙ p.1 in
+          absurd (cc)
+
+      not_seven : Typed (under d []) Γ (apply (atom (constant 7 ts)) us) o_type → connective_of_constant 7 ts us ≡ connective.Atomic → ⊥
       not_seven w f =
           let p = typed_parts (atom_type (under d [])) Γ (atom (constant 7 ts)) us o_type w in
           let s = plain_type ts o_type p.0 (sym (ap (scheme_type ts) (std.at 7 (omega arith))) ∙ p.1) in
           let a = no_cut (atom_type (under d [])) Γ us (transport (λ z. HaveTypes (atom_type (under d [])) Γ z us o_type) s.1 p.2) in
-          let g : form_of_constant 7 [] [] ≡ Plain = ap (form_of_constant 7 []) (sym a) ∙ ap (λ z. form_of_constant 7 z us) (sym s.0) ∙ f in
+          let g : connective_of_constant 7 [] [] ≡ connective.Atomic = ap (connective_of_constant 7 []) (sym a) ∙ ap (λ z. connective_of_constant 7 z us) (sym s.0) ∙ f in
           absurd (cc)
 
-  goal_head : (Γ : List Ty) (t : Term) → Over Γ t → form_of t ≡ Plain → is_goal_head (head_of t) ≡ true → IsPlainTerm k (head_of t)
+  goal_head : (Γ : List Ty) (t : Term) → Over Γ t → connective_of t ≡ connective.Atomic → is_goal_head (head_of t) ≡ true → IsPlainTerm k (head_of t)
   goal_head Γ t o f g = go (head_of t) refl
     where
       at_head : (h : Term) → head_of t ≡ h → Within (IsQueryAtom k) (length Γ) h
@@ -114,7 +125,7 @@ module _ (d : Declared) (std : IsStandard d) (k : ℕ) where
       go (index i) e = transport (IsPlainTerm k) (sym e) tt
       go (atom (constant c ts)) e =
           let w = transport (λ z. Typed (under d []) Γ z o_type) (sym (apply_arguments t []) ∙ ap (λ z. apply z (arguments t)) e) o.typed in
-          let r : form_of_constant c ts (arguments t) ≡ Plain = ap (λ z. form_at z (arguments t)) (sym e) ∙ f in
+          let r : connective_of_constant c ts (arguments t) ≡ connective.Atomic = ap (λ z. connective_at z (arguments t)) (sym e) ∙ f in
           transport (IsPlainTerm k) (sym e) (plain_constant Γ c ts (arguments t) w r, at_head (atom (constant c ts)) e)
       go (atom (integer z)) e = transport (IsPlainTerm k) (sym e) tt
       go (atom (text s)) e = transport (IsPlainTerm k) (sym e) tt
@@ -205,48 +216,49 @@ module _ (d : Declared) (std : IsStandard d) (k : ℕ) where
   mutual
     goal_fine : (n : ℕ) (B : List Bool) (t : Term) (rest gs : Goals) (Γ : List Ty) → flat_goal n d B t rest ≡ Some gs → Over Γ t → AreFine d k Γ B rest → AreFine d k Γ B gs
     goal_fine zero B t rest gs Γ e o r = absurd (cc)
-    goal_fine (suc n) B t rest gs Γ e o r = form_fine n B t (form_of t) refl (form_shape t) rest gs Γ e o r
+    goal_fine (suc n) B t rest gs Γ e o r = form_fine n B t (connective_of t) refl (form_shape t) rest gs Γ e o r
 
-    form_fine : (n : ℕ) (B : List Bool) (t : Term) (f : Form) → form_of t ≡ f → Shape f t → (rest gs : Goals) (Γ : List Ty) → flat_goal_form n d B t f rest ≡ Some gs → Over Γ t → AreFine d k Γ B rest → AreFine d k Γ B gs
+    form_fine : (n : ℕ) (B : List Bool) (t : Term) (f : Connective) → connective_of t ≡ f → Shape f t → (rest gs : Goals) (Γ : List Ty) → flat_goal_form n d B t f rest ≡ Some gs → Over Γ t → AreFine d k Γ B rest → AreFine d k Γ B gs
     form_fine zero B t f is s rest gs Γ e o r = absurd (cc)
-    form_fine (suc n) B t Truth is s rest gs Γ e o r = transport (AreFine d k Γ B) (some_is rest gs e) r
-    form_fine (suc n) B t Cutting is s rest gs Γ e o r = transport (AreFine d k Γ B) (some_is (goals Cut rest) gs e) (in_front Γ B Cut rest (over_cut Γ) tt r)
-    form_fine (suc n) B t (Both a b) is s rest gs Γ e o r =
+    form_fine (suc n) B t connective.True is s rest gs Γ e o r = transport (AreFine d k Γ B) (some_is rest gs e) r
+    form_fine (suc n) B t connective.Cut is s rest gs Γ e o r = transport (AreFine d k Γ B) (some_is (goals Cut rest) gs e) (in_front Γ B Cut rest (over_cut Γ) tt r)
+    form_fine (suc n) B t (connective.And a b) is s rest gs Γ e o r =
         let p = over_parts Γ 0 a b (connective d std 0 (omega arith)) (over_equal Γ t (two 0 [] a b) s o) in
         let q = bind_some (flat_goal n d B b rest) (flat_goal n d B a) gs e in
         goal_fine n B a q.0 gs Γ q.2 p.0 (goal_fine n B b rest q.0 Γ q.1 p.1 r)
-    form_fine (suc n) B t (OneOf a b) is s rest gs Γ e o r =
+    form_fine (suc n) B t (connective.Or a b) is s rest gs Γ e o r =
         let p = over_parts Γ 1 a b (connective d std 1 (omega arith)) (over_equal Γ t (two 1 [] a b) s o) in
         let q = bind_some (flat_goal n d B a no_goals) (λ l. option_map (λ m. goals (Either l m) rest) (flat_goal n d B b no_goals)) gs e in
         let z = map_some (flat_goal n d B b no_goals) (λ m. goals (Either q.0 m) rest) gs q.2 in
         let x = goal_fine n B a no_goals q.0 Γ q.1 p.0 (none_fine Γ B) in
         let y = goal_fine n B b no_goals z.0 Γ z.1 p.1 (none_fine Γ B) in
         transport (AreFine d k Γ B) z.2 (in_front Γ B (Either q.0 z.0) rest (over_two Γ 1 (formula_of_goals q.0) (formula_of_goals z.0) (connective d std 1 (omega arith)) x.over y.over) (x.form, y.form) r)
-    form_fine (suc n) B t (Implies c g) is (inl s) rest gs Γ e o r =
+    form_fine (suc n) B t (connective.Implies c g) is (inl s) rest gs Γ e o r =
         let p = over_parts Γ 2 c g (connective d std 2 (omega arith)) (over_equal Γ t (two 2 [] c g) s o) in
         let q = bind_some (flat_clause n d B c [] []) (λ cs. option_map (λ hs. goals (Assume cs hs) rest) (flat_goal n d B g no_goals)) gs e in
         let z = map_some (flat_goal n d B g no_goals) (λ hs. goals (Assume q.0 hs) rest) gs q.2 in
         let x = clause_fine n B c [] [] q.0 Γ q.1 tt p.0 tt in
         let y = goal_fine n B g no_goals z.0 Γ z.1 p.1 (none_fine Γ B) in
         transport (AreFine d k Γ B) z.2 (in_front Γ B (Assume q.0 z.0) rest (over_two Γ 2 (formula_of_clauses q.0) (formula_of_goals z.0) (connective d std 2 (omega arith)) x.over y.over) (x.form, y.form) r)
-    form_fine (suc n) B t (Implies c g) is (inr s) rest gs Γ e o r =
+    form_fine (suc n) B t (connective.Implies c g) is (inr s) rest gs Γ e o r =
         let p = over_parts Γ 3 g c (connective d std 3 (omega arith)) (over_equal Γ t (two 3 [] g c) s o) in
         let q = bind_some (flat_clause n d B c [] []) (λ cs. option_map (λ hs. goals (Assume cs hs) rest) (flat_goal n d B g no_goals)) gs e in
         let z = map_some (flat_goal n d B g no_goals) (λ hs. goals (Assume q.0 hs) rest) gs q.2 in
         let x = clause_fine n B c [] [] q.0 Γ q.1 tt p.1 tt in
         let y = goal_fine n B g no_goals z.0 Γ z.1 p.0 (none_fine Γ B) in
         transport (AreFine d k Γ B) z.2 (in_front Γ B (Assume q.0 z.0) rest (over_two Γ 2 (formula_of_clauses q.0) (formula_of_goals z.0) (connective d std 2 (omega arith)) x.over y.over) (x.form, y.form) r)
-    form_fine (suc n) B t (Every T b) is s rest gs Γ e o r =
+    form_fine (suc n) B t (connective.ForAll T b) is s rest gs Γ e o r =
         let p = over_body Γ 4 T s.0 (pi_type d std T) (over_equal Γ t (pi_of T s.0) s.1 o) in
         let z = map_some (flat_goal n d (true ∷ B) b no_goals) (λ hs. goals (Forall T hs) rest) gs e in
         let x = goal_fine n (true ∷ B) b no_goals z.0 (T ∷ Γ) z.1 (over_equal (T ∷ Γ) (body_of s.0) b (sym s.2) p.1) (none_fine (T ∷ Γ) (true ∷ B)) in
         transport (AreFine d k Γ B) z.2 (in_front Γ B (Forall T z.0) rest (over_quantified Γ 4 T (formula_of_goals z.0) (pi_type d std T) p.0 x.over) (p.0, x.form) r)
-    form_fine (suc n) B t (Exist T b) is s rest gs Γ e o r =
+    form_fine (suc n) B t (connective.Exists T b) is s rest gs Γ e o r =
         let p = over_body Γ 5 T s.0 (sigma_type d std T) (over_equal Γ t (sigma_of T s.0) s.1 o) in
         let z = map_some (flat_goal n d (false ∷ B) b (raise_goals 0 rest)) (λ hs. goals (Exists T hs) no_goals) gs e in
         let x = goal_fine n (false ∷ B) b (raise_goals 0 rest) z.0 (T ∷ Γ) z.1 (over_equal (T ∷ Γ) (body_of s.0) b (sym s.2) p.1) (raised_fine Γ B T rest r) in
         transport (AreFine d k Γ B) z.2 (in_front Γ B (Exists T z.0) no_goals (over_quantified Γ 5 T (formula_of_goals z.0) (sigma_type d std T) p.0 x.over) (p.0, x.form) (none_fine Γ B))
-    form_fine (suc n) B t Plain is s rest gs Γ e o r =
+    form_fine (suc n) B t (connective.Not g) is s rest gs Γ e o r = absurd (cc)
+    form_fine (suc n) B t connective.Atomic is s rest gs Γ e o r =
         let q = only_some (is_goal_head (head_of t) && are_positive (arguments t)) (goals (Atomic t) rest) gs e in
         let h = both_true (is_goal_head (head_of t)) (are_positive (arguments t)) q.0 in
         transport (AreFine d k Γ B) q.1 (in_front Γ B (Atomic t) rest o (plain_spine k (length Γ) t [] h.1 o.within (goal_head Γ t o is h.0)).0 r)
@@ -260,29 +272,30 @@ module _ (d : Declared) (std : IsStandard d) (k : ℕ) where
 
     clause_fine : (n : ℕ) (B : List Bool) (c : Term) (vs : List Ty) (body : List Term) (cs : Clauses) (Γ : List Ty) → flat_clause n d (falses vs ++ B) c vs body ≡ Some cs → AreTypesBelow k vs → Over (vs ++ Γ) c → EachOf (Over (vs ++ Γ)) body → ClausesFine d k Γ B cs
     clause_fine zero B c vs body cs Γ e m o h = absurd (cc)
-    clause_fine (suc n) B c vs body cs Γ e m o h = clause_form_fine n B c (form_of c) (form_shape c) vs body cs Γ e m o h
+    clause_fine (suc n) B c vs body cs Γ e m o h = clause_form_fine n B c (connective_of c) (form_shape c) vs body cs Γ e m o h
 
-    clause_form_fine : (n : ℕ) (B : List Bool) (c : Term) (f : Form) → Shape f c → (vs : List Ty) (body : List Term) (cs : Clauses) (Γ : List Ty) → flat_clause_form n d (falses vs ++ B) c f vs body ≡ Some cs → AreTypesBelow k vs → Over (vs ++ Γ) c → EachOf (Over (vs ++ Γ)) body → ClausesFine d k Γ B cs
+    clause_form_fine : (n : ℕ) (B : List Bool) (c : Term) (f : Connective) → Shape f c → (vs : List Ty) (body : List Term) (cs : Clauses) (Γ : List Ty) → flat_clause_form n d (falses vs ++ B) c f vs body ≡ Some cs → AreTypesBelow k vs → Over (vs ++ Γ) c → EachOf (Over (vs ++ Γ)) body → ClausesFine d k Γ B cs
     clause_form_fine zero B c f s vs body cs Γ e m o h = absurd (cc)
-    clause_form_fine (suc n) B c Truth s vs body cs Γ e m o h = absurd (cc)
-    clause_form_fine (suc n) B c Cutting s vs body cs Γ e m o h = absurd (cc)
-    clause_form_fine (suc n) B c (OneOf a b) s vs body cs Γ e m o h = absurd (cc)
-    clause_form_fine (suc n) B c (Exist T b) s vs body cs Γ e m o h = absurd (cc)
-    clause_form_fine (suc n) B c (Both a b) s vs body cs Γ e m o h =
+    clause_form_fine (suc n) B c connective.True s vs body cs Γ e m o h = absurd (cc)
+    clause_form_fine (suc n) B c connective.Cut s vs body cs Γ e m o h = absurd (cc)
+    clause_form_fine (suc n) B c (connective.Or a b) s vs body cs Γ e m o h = absurd (cc)
+    clause_form_fine (suc n) B c (connective.Not g) s vs body cs Γ e m o h = absurd (cc)
+    clause_form_fine (suc n) B c (connective.Exists T b) s vs body cs Γ e m o h = absurd (cc)
+    clause_form_fine (suc n) B c (connective.And a b) s vs body cs Γ e m o h =
         let p = over_parts (vs ++ Γ) 0 a b (connective d std 0 (omega arith)) (over_equal (vs ++ Γ) c (two 0 [] a b) s o) in
         let q = bind_some (flat_clause n d (falses vs ++ B) a vs body) (λ l. option_map (add_clauses l) (flat_clause n d (falses vs ++ B) b vs body)) cs e in
         let z = map_some (flat_clause n d (falses vs ++ B) b vs body) (add_clauses q.0) cs q.2 in
         transport (ClausesFine d k Γ B) z.2 (add_fine Γ B q.0 z.0 (clause_fine n B a vs body q.0 Γ q.1 m p.0 h) (clause_fine n B b vs body z.0 Γ z.1 m p.1 h))
-    clause_form_fine (suc n) B c (Implies g b) (inl s) vs body cs Γ e m o h =
+    clause_form_fine (suc n) B c (connective.Implies g b) (inl s) vs body cs Γ e m o h =
         let p = over_parts (vs ++ Γ) 2 g b (connective d std 2 (omega arith)) (over_equal (vs ++ Γ) c (two 2 [] g b) s o) in
         clause_fine n B b vs (body ++ g ∷ []) cs Γ e m p.1 (each_append (Over (vs ++ Γ)) body (g ∷ []) h (p.0, tt))
-    clause_form_fine (suc n) B c (Implies g b) (inr s) vs body cs Γ e m o h =
+    clause_form_fine (suc n) B c (connective.Implies g b) (inr s) vs body cs Γ e m o h =
         let p = over_parts (vs ++ Γ) 3 b g (connective d std 3 (omega arith)) (over_equal (vs ++ Γ) c (two 3 [] b g) s o) in
         clause_fine n B b vs (body ++ g ∷ []) cs Γ e m p.0 (each_append (Over (vs ++ Γ)) body (g ∷ []) h (p.1, tt))
-    clause_form_fine (suc n) B c (Every T b) s vs body cs Γ e m o h =
+    clause_form_fine (suc n) B c (connective.ForAll T b) s vs body cs Γ e m o h =
         let p = over_body (vs ++ Γ) 4 T s.0 (pi_type d std T) (over_equal (vs ++ Γ) c (pi_of T s.0) s.1 o) in
         clause_fine n B b (T ∷ vs) (map (shift 0 1) body) cs Γ e (p.0, m) (over_equal (T ∷ (vs ++ Γ)) (body_of s.0) b (sym s.2) p.1) (shifts_over (vs ++ Γ) T body h)
-    clause_form_fine (suc n) B c Plain s vs body cs Γ e m o h =
+    clause_form_fine (suc n) B c connective.Atomic s vs body cs Γ e m o h =
         let q = bind_some (only (is_clause_head d (falses vs ++ B) (head_of c) && are_positive (arguments c)) c) (λ u. option_map (λ gs. clauses (clause 0 vs u gs) no_clauses) (flat_list n d (falses vs ++ B) body)) cs e in
         let z = map_some (flat_list n d (falses vs ++ B) body) (λ gs. clauses (clause 0 vs q.0 gs) no_clauses) cs q.2 in
         let u = only_some (is_clause_head d (falses vs ++ B) (head_of c) && are_positive (arguments c)) c q.0 q.1 in

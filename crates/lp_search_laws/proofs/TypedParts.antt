@@ -12,9 +12,9 @@ use Rattle.lp_calculus.proofs.BetaEta.{shift_one}
 use Rattle.lp_calculus.proofs.Sigma.{rename}
 use Rattle.lp_model.specs.Faithful.{EachOf}
 use Rattle.lp_model.specs.Index.{instantiate, lifted}
-use Rattle.lp_model.specs.Spine.{head_of}
-use Rattle.lp_model.specs.Standard.{two, body_of}
-use Rattle.lp_model.specs.Schemes.{IsStandard}
+use Rattle.lp_calculus.specs.Spine.{head_of}
+use Rattle.lp_standard.specs.Connectives.{two, body_of}
+use Rattle.lp_standard.specs.Schemes.{IsStandard}
 use Rattle.lp_model.specs.Flat.{Goal, Atomic, Cut, Either, Exists, Forall, Assume, Goals, no_goals, goals, Clause, clause, Clauses, no_clauses, clauses, goal_list, clause_list, under_all, map_goal, map_goals, map_clause, map_clauses, same_type, formula_of_goal, formula_of_goals, formula_of_clause, formula_of_clauses}
 use Rattle.lp_model.specs.Proofs.{Declared}
 use Rattle.lp_model.specs.Answers.{Variable, over, IsPrefix}

@@ -4,14 +4,16 @@ use Rattle.std.specs.Prelude.{◌≡◌, ◌≢◌, ◌≤◌, ◌⊎◌, ℕ, B
 use Rattle.lp_calculus.specs.Types.{Ty, instance}
 use Rattle.lp_calculus.specs.Term.{Term, Atom, index, atom, abs, app, constant, integer, text, eigen, logic, param}
 use Rattle.lp_calculus.specs.Typing.{o_type, type_at}
-use Rattle.lp_calculus.specs.Closed.{AreClosed, AllAtoms, IsPositiveAtom}
+use Rattle.lp_calculus.specs.Closed.{AreClosed, AllAtoms}
+use Rattle.lp_standard.specs.Positive.{IsPositiveAtom}
 use Rattle.lp_model.specs.declared.ending.Ending.{Ending}
 use Rattle.lp_model.specs.declared.ending.Ending.TheVariants.{NoMore}
 use Rattle.lp_model.specs.Faithful.{AnyOf, EachOf}
 use Rattle.lp_model.specs.Skeleton.{View, Gives, Opens, Parts, Takes, Cuts, Halts}
-use Rattle.lp_model.specs.Spine.{head_of}
+use Rattle.lp_calculus.specs.Spine.{head_of}
 use Rattle.lp_model.specs.Look.{head_normal}
-use Rattle.lp_model.specs.Standard.{Plain, form_of}
+use Rattle.lp_standard.specs.Connectives.{connective_of}
+use Rattle.lp_standard.specs.Connectives as connective
 use Rattle.lp_model.specs.Pair.{Pair, Closing, closed}
 use Rattle.lp_model.specs.Flat.{Goal, Atomic, Cut, Either, Exists, Forall, Assume, Goals, no_goals, goals, Clause, clause, Clauses, no_clauses, clauses, formula_of_goal, formula_of_clause}
 use Rattle.lp_model.specs.Proofs.{Declared, IsAtomHead}
@@ -243,4 +245,4 @@ pub record IsAtAtom (n : ℕ) (e : Entry) : Type 0 where
   pub goal : e.goal ≡ Atomic term
   pub form : Term
   pub comes : head_normal n term ≡ Some form
-  pub plain : form_of form ≡ Plain
+  pub plain : connective_of form ≡ connective.Atomic

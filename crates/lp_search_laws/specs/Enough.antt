@@ -4,8 +4,9 @@ use Rattle.lp_calculus.specs.Types.{Ty}
 use Rattle.lp_calculus.specs.Term.{Term, index, atom, abs, app, constant, integer, text, eigen, logic, param}
 use Rattle.lp_calculus.specs.Instance.{instance_term}
 use Rattle.lp_model.specs.Look.{head_normal}
-use Rattle.lp_model.specs.Spine.{head_of, arguments}
-use Rattle.lp_model.specs.Standard.{Plain, form_of}
+use Rattle.lp_calculus.specs.Spine.{head_of, arguments}
+use Rattle.lp_standard.specs.Connectives.{connective_of}
+use Rattle.lp_standard.specs.Connectives as connective
 use Rattle.lp_model.specs.Rule.{type_pairs}
 use Rattle.lp_model.specs.Unify.{solve, unit_limit}
 use Rattle.lp_model.specs.Values.{Value, Outcome, Is, evaluate, term_of}
@@ -49,7 +50,7 @@ pub record AtomHasEnough (n level : ℕ) (b : Branch) (u : Term) : Type 0 where
 pub record TermHasEnough (n level : ℕ) (b : Branch) (t : Term) : Type 0 where
   pub form : Term
   pub comes : head_normal n t ≡ Some form
-  pub call : form_of form ≡ Plain → AtomHasEnough n level b form
+  pub call : connective_of form ≡ connective.Atomic → AtomHasEnough n level b form
 
 -- the head and the goal's arguments against those of the clause, with new variables
 abbrev pub TryHasEnough : (n : ℕ) → (vars : List Ty) → (head goal : Term) → Entry → Branch → Type 0

@@ -12,7 +12,8 @@ use Rattle.lp_unify_laws.specs.Solutions.{at_types, instance_binding, through_bi
 use Rattle.lp_model.specs.Flatten.{ClauseFormula}
 use Rattle.lp_model.specs.Flat.{Goal, Atomic, Cut, Either, Exists, Forall, Assume, formula_of_goals, formula_of_clauses}
 use Rattle.lp_model.specs.Proofs.{Declared, IsWitness, IsFormula, Provable, assumed}
-use Rattle.lp_model.specs.Standard.{two, Form, Truth, Cutting, Both, OneOf, Implies, Every, Exist, Plain}
+use Rattle.lp_standard.specs.Connectives.{two, Connective}
+use Rattle.lp_standard.specs.Connectives as connective
 
 -- the term is provable as the closing makes it; E are the types of the eigenconstants
 abbrev pub Holds : Declared → (E : List Ty) → (P : List ClauseFormula) → Closing → Term → Type 0
@@ -39,26 +40,28 @@ abbrev pub next_eigen : List Ty → Term
 next_eigen E = atom (eigen (suc (length E)))
 
 -- a form that the search takes apart, under a closing: x of level l is the variable that a `sigma` gets
-abbrev pub FormHolds : Declared → (E : List Ty) → (P : List ClauseFormula) → Closing → (x l : ℕ) → Form → Type 0
-FormHolds d E P c x l Truth = Unit {0}
-FormHolds d E P c x l (Both a b) = Holds d E P c a × Holds d E P c b
-FormHolds d E P c x l (OneOf a b) = Holds d E P c a ⊎ Holds d E P c b
-FormHolds d E P c x l (Every T s) = Holds d (E ++ instance c.types T ∷ []) P c (substitute (next_eigen E) s)
-FormHolds d E P c x l (Exist T s) = (w : Term) × IsWitness d E w (instance c.types T) × Holds d E P (with_value c x l w) (substitute (atom (logic x l)) s)
-FormHolds d E P c x l Cutting = ⊥
-FormHolds d E P c x l (Implies a b) = ⊥
-FormHolds d E P c x l Plain = ⊥
+abbrev pub FormHolds : Declared → (E : List Ty) → (P : List ClauseFormula) → Closing → (x l : ℕ) → Connective → Type 0
+FormHolds d E P c x l connective.True = Unit {0}
+FormHolds d E P c x l (connective.And a b) = Holds d E P c a × Holds d E P c b
+FormHolds d E P c x l (connective.Or a b) = Holds d E P c a ⊎ Holds d E P c b
+FormHolds d E P c x l (connective.ForAll T s) = Holds d (E ++ instance c.types T ∷ []) P c (substitute (next_eigen E) s)
+FormHolds d E P c x l (connective.Exists T s) = (w : Term) × IsWitness d E w (instance c.types T) × Holds d E P (with_value c x l w) (substitute (atom (logic x l)) s)
+FormHolds d E P c x l connective.Cut = ⊥
+FormHolds d E P c x l (connective.Implies a b) = ⊥
+FormHolds d E P c x l (connective.Not g) = ⊥
+FormHolds d E P c x l connective.Atomic = ⊥
 
 -- the forms that are taken apart
-abbrev pub IsTakenApart : Form → Type 0
-IsTakenApart Truth = Unit {0}
-IsTakenApart (Both a b) = Unit {0}
-IsTakenApart (OneOf a b) = Unit {0}
-IsTakenApart (Every T s) = Unit {0}
-IsTakenApart (Exist T s) = Unit {0}
-IsTakenApart Cutting = ⊥
-IsTakenApart (Implies a b) = ⊥
-IsTakenApart Plain = ⊥
+abbrev pub IsTakenApart : Connective → Type 0
+IsTakenApart connective.True = Unit {0}
+IsTakenApart (connective.And a b) = Unit {0}
+IsTakenApart (connective.Or a b) = Unit {0}
+IsTakenApart (connective.ForAll T s) = Unit {0}
+IsTakenApart (connective.Exists T s) = Unit {0}
+IsTakenApart connective.Cut = ⊥
+IsTakenApart (connective.Implies a b) = ⊥
+IsTakenApart (connective.Not g) = ⊥
+IsTakenApart connective.Atomic = ⊥
 
 -- a flattened goal that is taken apart, by the formulas of its parts
 abbrev pub GoalHolds : Declared → (E : List Ty) → (P : List ClauseFormula) → Closing → (x l : ℕ) → Goal → Type 0

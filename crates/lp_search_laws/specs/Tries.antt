@@ -3,9 +3,9 @@ use Rattle.std.specs.Prelude.{◌≡◌, ◌<◌, ◌+◌, ℕ, List, [], ◌++�
 use Rattle.lp_calculus.specs.Types.{Ty, instance}
 use Rattle.lp_calculus.specs.Term.{Term, atom, constant, eigen}
 use Rattle.lp_calculus.specs.Fill.{Within}
-use Rattle.lp_calculus.specs.Closed.{IsPositive}
+use Rattle.lp_standard.specs.Positive.{IsPositive}
 use Rattle.lp_calculus.specs.Typing.{Typed, o_type}
-use Rattle.lp_model.specs.Spine.{head_of, arguments}
+use Rattle.lp_calculus.specs.Spine.{head_of, arguments}
 use Rattle.lp_model.specs.Index.{instantiate}
 use Rattle.lp_model.specs.Pair.{Closing, closed, SolvesAll}
 use Rattle.lp_model.specs.Rule.{type_pairs}

@@ -3,11 +3,11 @@
 ghost use Rattle.std.specs.Prelude.{◌≡◌, ℕ, List, ◌∷◌, Option, Some};
 ghost use Rattle.lp_calculus.specs.Types.{Ty};
 ghost use Rattle.lp_calculus.specs.Term.{Term, Atom};
-ghost use Rattle.lp_model.specs.Spine.{head_of, arguments};
+ghost use Rattle.lp_calculus.specs.Spine.{head_of, arguments};
 ghost use Rattle.lp_model.specs.Faithful.{AnyOf, EachOf};
 ghost use Rattle.lp_model.specs.Pair.{Closing, closed};
 ghost use Rattle.lp_model.specs.Proofs.{Declared, IsFormula, IsAtomHead, Focusable};
-ghost use Rattle.lp_model.specs.Schemes.{IsStandard};
+ghost use Rattle.lp_standard.specs.Schemes.{IsStandard};
 ghost use Rattle.lp_model.specs.Flat.{Goals, Atomic, Clause, clause, formula_of_clause};
 ghost use Rattle.lp_model.specs.Flatten.{ClauseFormula};
 ghost use Rattle.lp_model.specs.Search.{with_goals, candidates, goal_key, tries};

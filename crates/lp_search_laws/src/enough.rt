@@ -8,7 +8,7 @@ ghost use Rattle.lp_model.specs.Search.{look};
 ghost use Rattle.lp_model.specs.Branch.{Entry, Branch, Task, Go, Try};
 ghost use Rattle.lp_model.specs.Answers.{Query};
 ghost use Rattle.lp_model.specs.Proofs.{Declared};
-ghost use Rattle.lp_model.specs.Schemes.{IsStandard};
+ghost use Rattle.lp_standard.specs.Schemes.{IsStandard};
 ghost use Rattle.lp_search_laws.specs.Branches.{BranchTyping, IsTypedBranch, IsTypedTry, IsProgramTyped};
 ghost use Rattle.lp_search_laws.specs.Enough.{HasEnough};
 

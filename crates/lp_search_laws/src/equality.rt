@@ -6,7 +6,7 @@ ghost use Rattle.lp_calculus.specs.Term.{Term};
 ghost use Rattle.lp_model.specs.Pair.{Pair, Closing, closed, SolvesAll};
 ghost use Rattle.lp_model.specs.Unify.{State, Fail, Solution, solve};
 ghost use Rattle.lp_model.specs.Proofs.{Declared, IsFormula};
-ghost use Rattle.lp_model.specs.Schemes.{IsStandard};
+ghost use Rattle.lp_standard.specs.Schemes.{IsStandard};
 ghost use Rattle.lp_model.specs.Flatten.{ClauseFormula};
 ghost use Rattle.lp_model.specs.Answers.{Variable, Closes};
 ghost use Rattle.lp_unify_laws.specs.TypeSolutions.{Satisfies};

@@ -7,7 +7,7 @@ ghost use Rattle.lp_calculus.specs.Typing.{type_at};
 ghost use Rattle.lp_model.specs.Faithful.{EachOf};
 ghost use Rattle.lp_model.specs.Pair.{Closing, closed};
 ghost use Rattle.lp_model.specs.Proofs.{Declared, IsFormula, IsSentence, Provable, assumed};
-ghost use Rattle.lp_model.specs.Schemes.{IsStandard};
+ghost use Rattle.lp_standard.specs.Schemes.{IsStandard};
 ghost use Rattle.lp_model.specs.Flat.{Goals, Clause, Clauses, clause_list, formula_of_clause, formula_of_clauses};
 ghost use Rattle.lp_model.specs.Flatten.{ClauseFormula, flatten_query};
 ghost use Rattle.lp_model.specs.Answers.{Query, Instance, AreWitnesses, IsProvable};

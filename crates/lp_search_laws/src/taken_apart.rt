@@ -9,15 +9,15 @@ ghost use Rattle.lp_model.specs.Look.{head_normal};
 ghost use Rattle.lp_model.specs.Faithful.{EachOf};
 ghost use Rattle.lp_model.specs.Pair.{Closing, closed, Solves};
 ghost use Rattle.lp_model.specs.Proofs.{Declared, IsFormula};
-ghost use Rattle.lp_model.specs.Schemes.{IsStandard};
-ghost use Rattle.lp_model.specs.Standard.{two, form_of};
+ghost use Rattle.lp_standard.specs.Schemes.{IsStandard};
+ghost use Rattle.lp_standard.specs.Connectives.{two, connective_of};
 ghost use Rattle.lp_model.specs.Flat.{Goal, Goals, goal_list, formula_of_goal, formula_of_goals};
 ghost use Rattle.lp_model.specs.Flatten.{ClauseFormula};
 ghost use Rattle.lp_search_laws.specs.Holds.{Holds, FormHolds, GoalHolds, IsTakenApart, IsUnused};
 
 /// A goal known at run time, by the connective at the head of its head-normal form. The variable that `sigma` gets does not stand in it.
 pub fn run_time_goals()
-    ensures { (d : Declared) → IsStandard d → (E : List Ty) (P : List ClauseFormula) (c : Closing) (x l n : ℕ) (t u : Term) → head_normal n t ≡ Some u → IsTakenApart (form_of u) → IsUnused x l t → IsFormula d E (closed c t) → (Holds d E P c t → FormHolds d E P c x l (form_of u)) × (FormHolds d E P c x l (form_of u) → Holds d E P c t) }
+    ensures { (d : Declared) → IsStandard d → (E : List Ty) (P : List ClauseFormula) (c : Closing) (x l n : ℕ) (t u : Term) → head_normal n t ≡ Some u → IsTakenApart (connective_of u) → IsUnused x l t → IsFormula d E (closed c t) → (Holds d E P c t → FormHolds d E P c x l (connective_of u)) × (FormHolds d E P c x l (connective_of u) → Holds d E P c t) }
 {}
 
 /// A flattened goal, by its parts.

@@ -2,7 +2,7 @@
 
 ghost use Rattle.std.specs.Prelude.{◌≡◌, ℕ, List, length, Some};
 ghost use Rattle.lp_model.specs.Faithful.{EachOf};
-ghost use Rattle.lp_model.specs.Schemes.{IsStandard};
+ghost use Rattle.lp_standard.specs.Schemes.{IsStandard};
 ghost use Rattle.lp_model.specs.Skeleton.{run};
 ghost use Rattle.lp_model.specs.Flat.{Goals, Clause};
 ghost use Rattle.lp_model.specs.Flatten.{ClauseFormula, flatten_query};

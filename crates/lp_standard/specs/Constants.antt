@@ -1,5 +1,5 @@
 -- The constants that the language fixes: numbers, names, fixities and types.
-use Rattle.std.specs.Prelude.{ℕ, List, [], ◌∷◌, ◌++◌, Bool, true, false, Option, Some, None, codes, slice_get, nat_le, option_map}
+use Rattle.std.specs.Prelude.{ℕ, List, [], ◌∷◌, ◌++◌, ◌≤◌, Bool, ◌&&◌, Option, Some, None, codes, slice_get, nat_le}
 use Rattle.std.specs.Str.{bytes_eq}
 use Rattle.std.specs.List.{find}
 use Rattle.lp_standard.specs.declared.fixity.Fixity.{Fixity}
@@ -128,3 +128,10 @@ first_declared = 32
 
 abbrev pub is_declared : ℕ → Bool
 is_declared c = nat_le first_declared c
+
+-- `<`, `>`, `=<` or `>=`
+abbrev pub is_order : ℕ → Bool
+is_order c = nat_le numbers.Less c && nat_le c numbers.AtLeast
+
+abbrev pub IsOrder : ℕ → Type 0
+IsOrder c = (numbers.Less ≤ c) × (c ≤ numbers.AtLeast)

@@ -2,6 +2,6 @@ pub mod Operands
 pub mod Numbers
 pub mod Kinds
 pub mod Constants
-pub mod Shapes
+pub mod Schemes
 pub mod Connectives
 pub mod Positive

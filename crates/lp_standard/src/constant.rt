@@ -1,7 +1,7 @@
 // The fixed constants.
-ghost use Rattle.std.specs.Prelude.{◌≡◌, Some};
+ghost use Rattle.std.specs.Prelude.{◌≡◌, Some, option_map};
 ghost use Rattle.lp_standard.specs.Constants.{number, name, fixity, connectives, relations, operations, numbered, named_in, named};
-ghost use Rattle.lp_standard.specs.Shapes.{shape};
+ghost use Rattle.lp_standard.specs.Schemes.{scheme, shape_scheme};
 
 use crate::fixity::Fixity;
 use crate::shape::{Part, Shape};
@@ -305,7 +305,7 @@ impl Constant {
 
     /// Its type. `print` has none.
     pub fn shape(self) -> Option<Shape>
-        ensures { result ≡ shape self }
+        ensures { option_map shape_scheme result ≡ scheme self }
     {
         match self {
             Constant::And | Constant::Or | Constant::Implies | Constant::If => Some(

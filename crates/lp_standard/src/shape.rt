@@ -1,6 +1,6 @@
 // The types of the fixed constants.
 ghost use Rattle.std.specs.Prelude.{◌≡◌};
-ghost use Rattle.lp_standard.specs.Shapes.{part_variables, shape_variables};
+ghost use Rattle.lp_standard.specs.Schemes.{part_variables, shape_variables};
 
 /// A part of the type of a fixed constant. `A` is its one type variable, of number 0.
 #[derive(Clone, Copy, Debug, PartialEq, Eq)]

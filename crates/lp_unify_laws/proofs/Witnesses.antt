@@ -3,7 +3,8 @@ use Rattle.std.proofs.Common.{◌≡◌, ℕ, suc, List, [], ◌∷◌, length, 
 use Rattle.lp_calculus.specs.Types.{Ty}
 use Rattle.lp_calculus.specs.Term.{Term, index, atom, abs, app, apply, Atom, constant, integer, text, eigen, logic, param}
 use Rattle.lp_calculus.specs.Convert.{ReducesTo}
-use Rattle.lp_calculus.specs.Closed.{IsClosedType, AreClosed, IsClosedAtom, AllAtoms, IsPositiveAtom}
+use Rattle.lp_calculus.specs.Closed.{IsClosedType, AreClosed, IsClosedAtom, AllAtoms}
+use Rattle.lp_standard.specs.Positive.{IsPositiveConstant, IsPositiveAtom}
 use Rattle.lp_calculus.specs.Fill.{Within, abstracted}
 use Rattle.lp_calculus.specs.Typing.{HasType, atom_type, eigen_type}
 use Rattle.lp_calculus.proofs.Fills.{within_more, within_both}
@@ -17,7 +18,7 @@ use Rattle.lp_unify_laws.proofs.Scopes.{in_scope, Grows, typed_grows, arrows, ty
 
 -- types that are closed, and no constant of implication or cut
 abbrev pub IsGroundAtom : Atom → Type 0
-IsGroundAtom (constant c ts) = AreClosed ts × ((c ≡ 2 → ⊥) × (c ≡ 3 → ⊥) × (c ≡ 7 → ⊥))
+IsGroundAtom (constant c ts) = AreClosed ts × IsPositiveConstant c
 IsGroundAtom (param k T) = IsClosedType T
 IsGroundAtom (integer z) = Unit {0}
 IsGroundAtom (text s) = Unit {0}

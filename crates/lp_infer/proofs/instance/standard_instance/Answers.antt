@@ -1,7 +1,7 @@
 use Rattle.std.proofs.Common.{◌∙◌, sym, ap}
 use Rattle.lp_calculus.specs.Types.{arrow}
 use Rattle.lp_calculus.specs.Typing.{type_at, o_type, list_type}
-use Rattle.lp_model.specs.Schemes.{on_two}
+use Rattle.lp_standard.specs.Schemes.{on_two}
 use Rattle.lp_infer.specs.Copies.{trees_of}
 use Rattle.lp_infer.proofs.Copying.{ok_type}
 use Rattle.lp_infer.proofs.StandardTypes.{is_connective, is_quantifier, is_goal, is_relation, is_comparison, is_pair, is_nil, is_operation, is_negation, is_join, is_size}

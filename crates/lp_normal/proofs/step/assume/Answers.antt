@@ -1,7 +1,8 @@
 use Rattle.std.proofs.Common.{◌∙◌, ap, sym, refl}
 use Rattle.lp_calculus.specs.Term.{shift}
 use Rattle.lp_term.specs.Nodes.{tree}
-use Rattle.lp_model.specs.Standard.{Implies, form_of}
+use Rattle.lp_standard.specs.Connectives.{connective_of}
+use Rattle.lp_standard.specs.Connectives as connective
 use Rattle.lp_normal.proofs.Steps.{implies_next}
 use Rattle.lp_normal.proofs.Comings.{next_later}
 use Rattle.lp_normal.proofs.step.assume.Goals as goal
@@ -17,5 +18,5 @@ returns-clause-comes c = λ out h.
     let u = tree b c.args.clause.0 in
     implies_next n l w out c.in_ok-inner.inner (record { outer = l; goal = record { formula = c.args.goal; level = w.level } }) c.in_ok-formula.formula c.args.goal refl refl e.type_vars e.assumed e.done e.waiting e.around u
     (c.in_ok-formula.ensures.tree ∙ ap (λ k. shift 0 k u) c.raise_from-by.ensures)
-    (ap form_of (x.same_terms w.formula.0 c.requires.next.formula) ∙ c.requires.form ∙ ap (Implies u) (sym (x.same_terms c.args.goal.0 c.requires.goal)))
+    (ap connective_of (x.same_terms w.formula.0 c.requires.next.formula) ∙ c.requires.form ∙ ap (connective.Implies u) (sym (x.same_terms c.args.goal.0 c.requires.goal)))
     (next_later b n x l w out c.requires.list c.requires.next h)

@@ -1,7 +1,8 @@
 use Rattle.std.proofs.Common.{◌∙◌, ap, sym}
 use Rattle.lp_calculus.specs.Term.{shift}
 use Rattle.lp_term.specs.Nodes.{tree}
-use Rattle.lp_model.specs.Standard.{Exist, body_of, form_of}
+use Rattle.lp_standard.specs.Connectives.{body_of, connective_of}
+use Rattle.lp_standard.specs.Connectives as connective
 use Rattle.lp_normal.proofs.Bounds.{grown_list}
 use Rattle.lp_normal.proofs.Steps.{exist_next}
 use Rattle.lp_normal.proofs.Comings.{next_later}
@@ -18,5 +19,5 @@ returns-clause-comes c = λ out h.
     let u = tree b c.args.on.0 in
     exist_next n l w out c.in_ok-made.made c.args.bound c.in_ok-inside.inside e.opened e.done e.waiting e.level (grown_list b n x l c.requires.list).waiting u
     (c.in_ok-inside.ensures.tree ∙ ap (λ k. body_of (shift 0 k u)) c.raise_from-by.ensures)
-    (ap form_of (x.same_terms w.formula.0 c.requires.next.formula) ∙ c.requires.form ∙ ap (λ T. Exist T (body_of u)) (sym (x.same_types c.args.bound.0 c.requires.bound)))
+    (ap connective_of (x.same_terms w.formula.0 c.requires.next.formula) ∙ c.requires.form ∙ ap (λ T. connective.Exists T (body_of u)) (sym (x.same_types c.args.bound.0 c.requires.bound)))
     (next_later b n x l w out c.requires.list c.requires.next h)

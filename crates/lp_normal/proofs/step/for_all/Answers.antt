@@ -1,7 +1,8 @@
 use Rattle.std.proofs.Common.{◌∙◌, ap, sym, reverse}
 use Rattle.lp_calculus.specs.Term.{shift}
 use Rattle.lp_term.specs.Nodes.{tree}
-use Rattle.lp_model.specs.Standard.{Every, body_of, form_of}
+use Rattle.lp_standard.specs.Connectives.{body_of, connective_of}
+use Rattle.lp_standard.specs.Connectives as connective
 use Rattle.lp_normal.specs.Within.{IsFrameIn}
 use Rattle.lp_normal.specs.Making.{these_goals}
 use Rattle.lp_normal.proofs.Bounds.{All-reverse}
@@ -21,5 +22,5 @@ returns-clause-comes c = λ out whole h t.
     let u = tree b c.args.on.0 in
     every_next n l w out whole c.in_ok-inner.inner fs c.push.new.self.items c.args.bound c.in_ok-formula.formula e.opened e.done e.waiting e.level c.in_ok-push.ensures.items u
     (c.in_ok-formula.ensures.tree ∙ ap (λ k. body_of (shift 0 k u)) c.raise_from-by.ensures)
-    (ap form_of (x.same_terms w.formula.0 c.requires.next.formula) ∙ c.requires.form ∙ ap (λ T. Every T (body_of u)) (sym (x.same_types c.args.bound.0 c.requires.bound)))
+    (ap connective_of (x.same_terms w.formula.0 c.requires.next.formula) ∙ c.requires.form ∙ ap (λ T. connective.ForAll T (body_of u)) (sym (x.same_types c.args.bound.0 c.requires.bound)))
     (next_later b n x l w out c.requires.list c.requires.next h) (all_turn_later b n x (reverse fs) (these_goals out) whole (All-reverse (IsFrameIn b) fs c.requires.frames) t)

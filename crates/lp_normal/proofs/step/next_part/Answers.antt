@@ -1,6 +1,7 @@
 use Rattle.std.proofs.Common.{◌∙◌, ap, sym, reverse, arith}
 use Rattle.lp_term.specs.Nodes.{tree}
-use Rattle.lp_model.specs.Standard.{Every, body_of, form_of}
+use Rattle.lp_standard.specs.Connectives.{body_of, connective_of}
+use Rattle.lp_standard.specs.Connectives as connective
 use Rattle.lp_normal.specs.Within.{IsFrameIn}
 use Rattle.lp_normal.specs.declared.clauses.Link.{Link}
 use Rattle.lp_normal.proofs.Bounds.{All-reverse, join_parts, enter_part, grown_clause_list}
@@ -30,27 +31,27 @@ returns-in_ok-made-in-Implies-clause-comes c = λ out whole h t.
     let e = c.in_ok-made-in-Implies.ensures in
     (out, guard_comes c.args.bank.now c.args.list c.args.part.0 out c.in_ok-made-in-Implies.made c.in-Implies.goal c.in-Implies.clause e.type_vars e.assumed e.done e.waiting e.around c.in-Implies.ensures.form h, t)
 
-pub returns-in_ok-made-in-Every-clause-within : goal.returns-in_ok-made-in-Every-clause-within
-returns-in_ok-made-in-Every-clause-within c =
+pub returns-in_ok-made-in-connective.ForAll-clause-within : goal.returns-in_ok-made-in-connective.ForAll-clause-within
+returns-in_ok-made-in-connective.ForAll-clause-within c =
     let b = c.args.bank.now in
     let n = c.body.new.bank in
-    let x = c.in_ok-inside-in-Every.ensures.kept in
-    let e = c.in_ok-made-in-Every.ensures in
-    let i = c.in-Every.ensures.within in
-    enter_part n c.args.list c.in_ok-made-in-Every.made (Link.Variable c.in-Every.bound) c.in_ok-inside-in-Every.inside e.assumed e.done e.waiting e.around (grown_clause_list b n x c.args.list c.requires.list) (omega (arith, i.0, x.more_types)) c.in_ok-inside-in-Every.ensures.within
+    let x = c.in_ok-inside-in-connective.ForAll.ensures.kept in
+    let e = c.in_ok-made-in-connective.ForAll.ensures in
+    let i = c.in-connective.ForAll.ensures.within in
+    enter_part n c.args.list c.in_ok-made-in-connective.ForAll.made (Link.Variable c.in-connective.ForAll.bound) c.in_ok-inside-in-connective.ForAll.inside e.assumed e.done e.waiting e.around (grown_clause_list b n x c.args.list c.requires.list) (omega (arith, i.0, x.more_types)) c.in_ok-inside-in-connective.ForAll.ensures.within
 
-pub returns-in_ok-made-in-Every-clause-comes : goal.returns-in_ok-made-in-Every-clause-comes
-returns-in_ok-made-in-Every-clause-comes c = λ out whole h t.
+pub returns-in_ok-made-in-connective.ForAll-clause-comes : goal.returns-in_ok-made-in-connective.ForAll-clause-comes
+returns-in_ok-made-in-connective.ForAll-clause-comes c = λ out whole h t.
     let b = c.args.bank.now in
     let n = c.body.new.bank in
-    let x = c.in_ok-inside-in-Every.ensures.kept in
-    let e = c.in_ok-made-in-Every.ensures in
-    let i = c.in-Every.ensures.within in
+    let x = c.in_ok-inside-in-connective.ForAll.ensures.kept in
+    let e = c.in_ok-made-in-connective.ForAll.ensures in
+    let i = c.in-connective.ForAll.ensures.within in
     let fs = c.args.frames.now.items in
-    let u = body_of (tree b c.in-Every.on.0) in (
+    let u = body_of (tree b c.in-connective.ForAll.on.0) in (
       out,
-      variable_comes n c.args.list c.args.part.0 out c.in_ok-made-in-Every.made c.in-Every.bound c.in_ok-inside-in-Every.inside u e.type_vars e.assumed e.done e.waiting e.around
-          (ap form_of (x.same_terms c.args.part.0 c.requires.part) ∙ c.in-Every.ensures.form ∙ ap (λ T. Every T u) (sym (x.same_types c.in-Every.bound.0 i.0))) c.in_ok-inside-in-Every.ensures.tree
+      variable_comes n c.args.list c.args.part.0 out c.in_ok-made-in-connective.ForAll.made c.in-connective.ForAll.bound c.in_ok-inside-in-connective.ForAll.inside u e.type_vars e.assumed e.done e.waiting e.around
+          (ap connective_of (x.same_terms c.args.part.0 c.requires.part) ∙ c.in-connective.ForAll.ensures.form ∙ ap (λ T. connective.ForAll T u) (sym (x.same_types c.in-connective.ForAll.bound.0 i.0))) c.in_ok-inside-in-connective.ForAll.ensures.tree
           (part_later b n x c.args.list c.args.part.0 out c.requires.list c.requires.part h),
       all_turn_later b n x (reverse fs) out whole (All-reverse (IsFrameIn b) fs c.requires.frames) t,
     )

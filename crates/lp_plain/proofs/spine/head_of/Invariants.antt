@@ -1,6 +1,6 @@
 use Rattle.std.proofs.Common.{◌≡◌}
 use Rattle.lp_term.specs.Nodes.{tree}
-use Rattle.lp_model.specs.Spine.{head_of}
+use Rattle.lp_calculus.specs.Spine.{head_of}
 use Rattle.lp_plain.proofs.spine.head_of.Given as goal
 
 abbrev pub invariant-down : goal.invariant-down

@@ -1,7 +1,7 @@
 use Rattle.std.proofs.Common.{◌≡◌, ◌<◌, length, map, reverse}
 use Rattle.std.specs.Prelude.{All}
 use Rattle.lp_term.specs.Nodes.{tree}
-use Rattle.lp_model.specs.Spine.{head_of, arguments, arguments_and}
+use Rattle.lp_calculus.specs.Spine.{head_of, arguments, arguments_and}
 use Rattle.lp_plain.proofs.spine.unwound.Given as goal
 
 abbrev pub invariant-down : goal.invariant-down

@@ -1,7 +1,7 @@
 use Rattle.std.proofs.Common.{◌∙◌, refl, sym, ap, subst}
 use Rattle.lp_calculus.specs.Types.{instance}
 use Rattle.lp_calculus.specs.Typing.{type_at}
-use Rattle.lp_model.specs.Schemes.{standard_schemes, entry}
+use Rattle.lp_standard.specs.Schemes.{standard_schemes, entry}
 use Rattle.lp_infer.specs.Postfix.{scheme_or}
 use Rattle.lp_infer.specs.Copies.{trees_of, AreTypes}
 use Rattle.lp_infer.proofs.Scanning.{on_ok}

@@ -1,5 +1,5 @@
 use Rattle.std.proofs.Common.{refl, ap}
-use Rattle.lp_model.specs.Schemes.{standard_schemes, entry}
+use Rattle.lp_standard.specs.Schemes.{standard_schemes, entry}
 use Rattle.lp_infer.specs.Typing.{raw_constant}
 use Rattle.lp_infer.specs.Texts.{read_constant}
 use Rattle.lp_infer.specs.Postfix.{scheme_or}
