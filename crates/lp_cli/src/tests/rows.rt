@@ -236,7 +236,7 @@ fn terms_are_unified_and_shown(rt: HostRuntime) -> Result<(), Memory> {
         ("shown", "X = (no no (a up))", "  X = no no (a up)\n"),
         ("shown", "X = ((g a) up)", "  X = g a up\n"),
         ("shown", "X = f (g a) (no a)", "  X = f (g a) (no a)\n"),
-        ("shown", "X = h (y\\ y up)", "  X = h (x2\\ x2 up)\n"),
+        ("shown", "X = h (y\\ y up)", "  X = h (up)\n"),
         ("e", "X = 1 + 2 - (3 - ~ 4)", "  X = 1 + 2 - (3 - ~ 4)\n"),
         ("e", "X = (1 :: nil) :: nil", "  X = (1 :: nil) :: nil\n"),
         (

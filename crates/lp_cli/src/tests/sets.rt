@@ -225,9 +225,9 @@ fn sets_are_read(rt: HostRuntime) -> Result<(), Memory> {
             "answer 1\n  X = c\nanswer 2\n  X = d$1\nno more answers\n",
         ),
         (
-            "X = likes, pi y : u\\ deep y = F y",
+            "X = (likes), pi y : u\\ (deep y) = F y",
             Status::Done,
-            "answer 1\n  X = (likes)\n  F = deep\nno more answers\n",
+            "answer 1\n  X = (likes)\n  F = (deep)\nno more answers\n",
         ),
         (
             "d likes c",
