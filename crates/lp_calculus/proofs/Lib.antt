@@ -13,3 +13,5 @@ pub mod Subject
 pub mod Countings
 pub mod Commutations
 pub mod Typings
+pub mod Applied
+pub mod Atoms
