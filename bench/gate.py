@@ -11,6 +11,7 @@ What ends between two looks is missed: the last line has what the system counted
 """
 import os
 import re
+import shutil
 import subprocess
 import sys
 import time
@@ -132,24 +133,49 @@ def attach(number):
     return 0
 
 
+def libraries(root):
+    """The libraries that each crate names, by crates.txt."""
+    with open(f"{root}/crates.txt", encoding="utf-8") as file:
+        lines = [it.partition(":") for it in file if ":" in it and not it.startswith("#")]
+    return {head.split()[0]: tail.split() for head, _, tail in lines}
+
+
 def functions(crate, least):
     """Checks the crate from nothing, one module at a time, and takes the time from one function's line to the next."""
     root = os.path.dirname(os.path.dirname(os.path.abspath(__file__)))
-    words = ["rt", "verdict", "--jobs", "1", "--progress"]
-    command = subprocess.Popen(words, cwd=f"{root}/crates/{crate}", stdout=subprocess.PIPE, stderr=subprocess.STDOUT, text=True, errors="replace")
-    began = last = time.time()
-    took = []
+    kit = os.path.dirname(os.path.dirname(os.path.realpath(shutil.which("rt"))))
+    folder, of = f"{root}/crates/{crate}", libraries(root)
+    # (builds the libraries below, and proves nothing)
+    subprocess.run(["rt", "check", "--only", ""], cwd=folder, stdout=subprocess.DEVNULL, stderr=subprocess.DEVNULL)
+    rlib = lambda it: f"{root}/crates/{it}/out/rlib/{it}.rlib" if it in of else f"{kit}/rlibs/{it}.rlib"
+    top = "src/main.rt" if os.path.isfile(f"{folder}/src/main.rt") else "src/lib.rt"
+    words = [f"{kit}/bin/rattle", "check", "--crate-name", crate, top]
+    for it in ["std", *of[crate]]:
+        words += ["--extern", f"{it}={rlib(it)}"]
+    for it in [f"{kit}/rlibs", *[f"{root}/crates/{it}/out/rlib" for it in of]]:
+        words += ["-L", f"dependency={it}"]
+    words += ["--antt-project", f"{kit}/rattle/logic/antt-project.json", "--logic-built", f"{kit}/logic_built", "--jobs", "1", "--progress"]
+    command = subprocess.Popen(words, cwd=folder, stdout=subprocess.PIPE, stderr=subprocess.STDOUT, text=True, errors="replace")
+    first, took, line = 0.0, [], ""
+    last = None
     for line in command.stdout:
-        now = time.time()
+        try:
+            now = Process(command.pid).seconds
+        except Gone:
+            break
         found = re.match(r"checked (\S+), \d+ of \d+", line)
         if found:
+            first, last = (now, now) if last is None else (first, last)
             took.append((now - last, found[1]))
             last = now
+    rest = command.stdout.read()
     status = command.wait()
     for seconds, name in sorted(took, reverse=True):
         if seconds > least:
             print(f"{seconds:6.0f}  {name}")
-    print(f"{len(took)} functions in {time.time() - began:.0f} s{'' if status == 0 else ', and the crate is NOT proved'}")
+    print(f"{len(took)} functions in {(last or 0) - first:.0f} processor seconds, {first:.0f} before the first ended{'' if status == 0 else ', and the crate is NOT proved'}")
+    if status:
+        print((line + rest)[-2000:])
     return status
 
 
