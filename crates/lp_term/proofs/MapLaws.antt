@@ -6,7 +6,7 @@ use Rattle.lp_calculus.specs.Term as term
 use Rattle.lp_calculus.specs.Instance.{instance_atom, instance_term}
 use Rattle.lp_calculus.specs.Fill.{fill, raise, at_variables, close}
 use Rattle.lp_term.specs.Nodes.{Nodes}
-use Rattle.lp_term.specs.Mapped.{Map, Told, IsMap, mapped_type, mapped_types, mapped_atom, mapped}
+use Rattle.lp_term.specs.Mapped.{Map, IsMap, mapped_type, mapped_types, mapped_atom, mapped}
 use Rattle.lp_term.specs.Same.{same_told, same_map}
 
 -- nothing changes

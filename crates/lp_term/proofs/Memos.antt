@@ -1,7 +1,6 @@
 -- What has been made by a walk.
-use Rattle.std.proofs.Common.{◌≡◌, ℕ, ◌<◌, ◌≤◌, length, refl, sym, ap, ◌∙◌, subst as transport, arith, Option, Some, None}
+use Rattle.std.proofs.Common.{◌≡◌, ℕ, ◌<◌, ◌≤◌, length, refl, sym, ap, ◌∙◌, subst as transport, Option, Some, None}
 use Rattle.std.specs.Prelude.{is_some, true}
-use Rattle.lp_calculus.specs.Types.{var}
 use Rattle.lp_calculus.specs.Term.{index}
 use Rattle.lp_term.specs.Nodes.{Nodes, Extends, tree, type_tree}
 use Rattle.lp_term.specs.Mapped.{Map, Told, IsMap, TypeIs, mapped, mapped_type}
@@ -10,7 +9,7 @@ use Rattle.lp_term.specs.declared.becomes.TypeChange.{TypeChange}
 use Rattle.lp_term.specs.declared.node.TypeId.{TypeId}
 use Rattle.lp_term.specs.declared.changed.Changed.{Changed}
 use Rattle.lp_term.specs.declared.walked.Node.{Node}
-use Rattle.lp_term.specs.inner.Walking.{made_of, or_own, IsIn, IsBegun, IsRight, IsRightAt, AreRight}
+use Rattle.lp_term.specs.inner.Walking.{made_of, or_own, IsBegun, IsRight, AreRight}
 use Rattle.lp_term.specs.inner.Rebuilt.{rebuilt_variable}
 use Rattle.lp_term.proofs.Trees.{tree-past, type_tree-past}
 use Rattle.lp_term.proofs.Walking.{right_later}

@@ -3,7 +3,7 @@ use Rattle.std.proofs.Common.{◌≡◌, ℕ, ◌<◌, List, [], ◌∷◌, leng
 use Rattle.std.specs.Prelude.{All, ◌&&◌}
 use Rattle.std.specs.Cmp.Lexicographic.{pointwise}
 use Rattle.std.proofs.lemmas.List.Elements.{All-head, All-tail}
-use Rattle.lp_calculus.specs.Types.{Ty, var, con, arrow, tys, types}
+use Rattle.lp_calculus.specs.Types.{Ty, con, arrow, tys, types}
 use Rattle.lp_calculus.specs.Term.{Term, constant, atom, abs, app, apply}
 use Rattle.lp_calculus.specs.Term as term
 use Rattle.lp_term.specs.Node.{TypeShape, var_node, param_node, con_node, arrow_node, TermShape, index_node, const_node, int_node, text_node, eigen_node, logic_node, typed_param_node, abs_node, app_node}

@@ -1,21 +1,20 @@
 -- The moves of the walk.
-use Rattle.std.proofs.Common.{◌≡◌, ℕ, suc, zero, ◌+◌, ◌<◌, ◌≤◌, List, [], ◌∷◌, ◌++◌, length, map, refl, sym, ap, ◌∙◌, subst as transport, arith, ◌⊎◌, inl, inr, Bool, true, false, Option, Some, None, length-append, Result, Ok, Err}
+use Rattle.std.proofs.Common.{◌≡◌, ℕ, suc, ◌<◌, ◌≤◌, List, [], ◌∷◌, ◌++◌, length, map, refl, sym, ap, ◌∙◌, subst as transport, arith, ◌⊎◌, inl, inr, Bool, true, false, Option, Some, None, length-append, Result, Ok, Err}
 use Rattle.std.specs.Prelude.{All, if◌then◌else◌, nat_eq, is_some, OnOk}
 use Rattle.std.specs.HashMap.{get}
 use Rattle.std.proofs.lemmas.List.Elements.{All-nil, All-cons, All-weaker, All-append, All-head, All-map}
 use Rattle.std.proofs.lemmas.Bool.{eqb-true}
 use Rattle.std.proofs.lemmas.Bool.Decides.{nat_tests}
-use Rattle.std.proofs.lemmas.List.{length-map}
 use Rattle.lp_term.specs.Node.{TypeShape, var_node, param_node, con_node, arrow_node, TermShape, index_node, const_node, int_node, text_node, eigen_node, logic_node, typed_param_node, abs_node, app_node, TypeBelow, TermBelow}
-use Rattle.lp_term.specs.Nodes.{Nodes, IsSound, Extends, tree, type_tree, term_at, type_at}
-use Rattle.lp_term.specs.Mapped.{Map, Told, IsMap, TypeIs, TermIs, mapped, mapped_type}
+use Rattle.lp_term.specs.Nodes.{Nodes, IsSound, Extends, term_at, type_at}
+use Rattle.lp_term.specs.Mapped.{Map, Told, IsMap, TypeIs, TermIs}
 use Rattle.lp_term.specs.declared.becomes.TypeChange.{TypeChange}
 use Rattle.lp_term.specs.declared.becomes.TermChange.{TermChange}
 use Rattle.lp_term.specs.declared.changed.Changed.{Changed}
 use Rattle.lp_term.specs.declared.walked.Node.{Node}
 use Rattle.lp_term.specs.declared.walked.Task.{Task}
 use Rattle.lp_term.specs.inner.Reading.{read_of}
-use Rattle.lp_term.specs.inner.Walking.{node_of, same_node, made_of, IsBegun, visits, type_parts, term_parts, type_detour, term_detour, parts, IsIn, IsRight, IsRightAt, AreRight, weight, IsVisited, IsOpen, Stacked, Walks, waiting, toil, own, IsNoted, IsBegin, IsPassed, IsVisit, IsMove}
+use Rattle.lp_term.specs.inner.Walking.{node_of, same_node, made_of, IsBegun, visits, type_parts, term_parts, type_detour, term_detour, parts, IsIn, IsRight, IsRightAt, AreRight, weight, IsOpen, Walks, waiting, toil, own, IsNoted, IsVisit, IsMove}
 use Rattle.lp_term.proofs.Stacks.{visited_last, visited_before, visited_more, open_before, open_last, open_more, open_here, stacked_skipped, stacked_built, stacked_begun, last_parts, heavier, waiting_less, waiting_falls}
 use Rattle.lp_term.proofs.Trees.{type_below, term_below, extends_same}
 use Rattle.lp_term.proofs.Weights.{parts_lighter}

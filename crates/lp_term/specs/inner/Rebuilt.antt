@@ -1,5 +1,5 @@
 -- A node with what its parts have become.
-use Rattle.std.specs.Prelude.{ℕ, List, map}
+use Rattle.std.specs.Prelude.{ℕ, map}
 use Rattle.lp_calculus.specs.Types.{Ty, var, param, con, arrow, tys}
 use Rattle.lp_calculus.specs.Term.{Term, constant, integer, text, eigen, logic, index, atom, abs, apply}
 use Rattle.lp_calculus.specs.Term as term

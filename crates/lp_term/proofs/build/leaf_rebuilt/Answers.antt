@@ -1,7 +1,6 @@
-use Rattle.std.proofs.Common.{◌≡◌, ◌∙◌, ap, sym, subst as transport}
+use Rattle.std.proofs.Common.{◌≡◌, ◌∙◌, ap, sym}
 use Rattle.lp_term.specs.Nodes.{term_at, node_tree}
 use Rattle.lp_term.specs.inner.Reading.{read_of}
-use Rattle.lp_term.specs.inner.Rebuilt.{IsLeaf}
 use Rattle.lp_term.proofs.Rebuilding.{leaf_same}
 use Rattle.lp_term.proofs.build.leaf_rebuilt.Goals as goal
 

@@ -1,4 +1,4 @@
-use Rattle.std.proofs.Common.{◌∙◌, ◌≤◌, ◌<◌, ap, sym, length, arith, subst as transport}
+use Rattle.std.proofs.Common.{◌∙◌, ◌≤◌, ◌<◌, ap, length, subst as transport}
 use Rattle.lp_term.specs.inner.Reading.{read_of}
 use Rattle.lp_term.proofs.Memos.{right_from, made_from, made_later, term_at_end, term_outside}
 use Rattle.lp_term.proofs.map.term_mapped.Goals as goal

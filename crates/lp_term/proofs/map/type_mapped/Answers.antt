@@ -1,4 +1,4 @@
-use Rattle.std.proofs.Common.{◌∙◌, ◌≤◌, ◌<◌, ap, sym, length, arith, subst as transport}
+use Rattle.std.proofs.Common.{◌∙◌, ◌≤◌, ◌<◌, ap, sym, length, subst as transport}
 use Rattle.lp_term.specs.inner.Reading.{read_of}
 use Rattle.lp_term.proofs.Memos.{right_from, made_from, made_later, type_at_end, type_outside, variable_is, variable_as}
 use Rattle.lp_term.proofs.map.type_mapped.Goals as goal

@@ -1,5 +1,5 @@
 use Rattle.std.proofs.Common.{◌∙◌, ap, length, subst as transport}
-use Rattle.lp_term.specs.Nodes.{Extends, IsSound}
+use Rattle.lp_term.specs.Nodes.{IsSound}
 use Rattle.lp_term.specs.inner.Reading.{read_of}
 use Rattle.lp_term.specs.inner.Walking.{Walks}
 use Rattle.lp_term.proofs.Trees.{extends-trans}
