@@ -3,7 +3,8 @@
 
     gate.py run [COMMAND ..]     runs a command (rt ci --anew, if none is given) and prints its table
     gate.py attach PID           the same of a command that runs already, from now on, until it ends
-    gate.py functions CRATE [N]  the functions of a crate whose check from nothing takes over N seconds (30), dearest first
+    gate.py functions CRATE [N]  the functions of a crate whose check from nothing takes over N seconds (30), dearest first; with --test
+                                 behind it, of the crate with its tests
 
 The first two look at the command's processes twice a second. The columns: `proof` is the check of the crate from nothing, `tests` its
 second check, with its tests, `seed` the third, over which its must-fail edits are tried, `edits` the edits, `other` compilers and runs.
@@ -140,7 +141,7 @@ def libraries(root):
     return {head.split()[0]: tail.split() for head, _, tail in lines}
 
 
-def functions(crate, least):
+def functions(crate, least, more):
     """Checks the crate from nothing, one module at a time, and takes the time from one function's line to the next."""
     root = os.path.dirname(os.path.dirname(os.path.abspath(__file__)))
     kit = os.path.dirname(os.path.dirname(os.path.realpath(shutil.which("rt"))))
@@ -154,7 +155,7 @@ def functions(crate, least):
         words += ["--extern", f"{it}={rlib(it)}"]
     for it in [f"{kit}/rlibs", *[f"{root}/crates/{it}/out/rlib" for it in of]]:
         words += ["-L", f"dependency={it}"]
-    words += ["--antt-project", f"{kit}/rattle/logic/antt-project.json", "--logic-built", f"{kit}/logic_built", "--jobs", "1", "--progress"]
+    words += ["--antt-project", f"{kit}/rattle/logic/antt-project.json", "--logic-built", f"{kit}/logic_built", "--jobs", "1", "--progress", *more]
     command = subprocess.Popen(words, cwd=folder, stdout=subprocess.PIPE, stderr=subprocess.STDOUT, text=True, errors="replace")
     first, took, line = 0.0, [], ""
     last = None
@@ -184,8 +185,10 @@ def main(words):
         return run(words[1:] or ["rt", "ci", "--anew"])
     if words[:1] == ["attach"] and len(words) == 2 and words[1].isdigit():
         return attach(int(words[1]))
+    more = words[-1:] if words[-1:] == ["--test"] else []
+    words = words[: len(words) - len(more)]
     if words[:1] == ["functions"] and len(words) in (2, 3):
-        return functions(words[1], float(words[2]) if len(words) == 3 else 30)
+        return functions(words[1], float(words[2]) if len(words) == 3 else 30, more)
     print(__doc__, end="", file=sys.stderr)
     return 2
 
