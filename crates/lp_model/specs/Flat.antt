@@ -7,7 +7,7 @@ use Rattle.lp_calculus.specs.Fill.{Binding, put}
 use Rattle.lp_calculus.specs.Instance.{instance_term}
 use Rattle.lp_model.specs.Index.{instantiate, lifted}
 use Rattle.lp_standard.specs.Numbers as number
-use Rattle.lp_standard.specs.Connectives.{truth, cut, two, pi_of, sigma_of}
+use Rattle.lp_standard.specs.Connectives.{truth, cut, two, pi_of, sigma_of, not_of}
 
 mutual
   pub data Goal : Type 0 where
@@ -17,6 +17,8 @@ mutual
     Exists : Ty → Goals → Goal
     Forall : Ty → Goals → Goal
     Assume : Clauses → Goals → Goal
+    -- not all of them are provable
+    Not : Goals → Goal
 
   -- all of them are to be proved, the first one first
   pub data Goals : Type 0 where
@@ -59,6 +61,7 @@ abbrev mutual
   map_goal under term ty e (Exists T gs) = Exists (ty T) (map_goals under term ty (under e) gs)
   map_goal under term ty e (Forall T gs) = Forall (ty T) (map_goals under term ty (under e) gs)
   map_goal under term ty e (Assume cs gs) = Assume (map_clauses under term ty e cs) (map_goals under term ty e gs)
+  map_goal under term ty e (Not gs) = Not (map_goals under term ty e gs)
 
   pub map_goals : {E : Type 0} → (under : E → E) → (term : E → Term → Term) → (ty : Ty → Ty) → E → Goals → Goals
   map_goals under term ty e no_goals = no_goals
@@ -115,6 +118,7 @@ abbrev mutual
   formula_of_goal (Exists T gs) = sigma_of T (abs (formula_of_goals gs))
   formula_of_goal (Forall T gs) = pi_of T (abs (formula_of_goals gs))
   formula_of_goal (Assume cs gs) = two number.Implies [] (formula_of_clauses cs) (formula_of_goals gs)
+  formula_of_goal (Not gs) = not_of (formula_of_goals gs)
 
   pub formula_of_goals : Goals → Term
   formula_of_goals no_goals = truth

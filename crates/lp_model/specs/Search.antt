@@ -1,11 +1,11 @@
--- connective.Atomic depth-first search of hereditary Harrop goals, as a look at tasks (Miller, Nadathur, Pfenning and Scedrov 1991; levels of Nadathur 1993).
+-- Plain depth-first search of hereditary Harrop goals, as a look at tasks (Miller, Nadathur, Pfenning and Scedrov 1991; levels of Nadathur 1993).
 -- Where a head reduction needs n steps or more the look halts with `Deep`: head reduction of typed terms ends, so a large n never shows.
 use Rattle.std.specs.Prelude.{ℕ, zero, suc, ◌+◌, ◌-◌, nat_eq, nat_lt, Bool, true, false, ◌&&◌, if◌then◌else◌, List, [], ◌∷◌, ◌++◌, map, length, filter, Option, Some, None, option_map}
 use Rattle.lp_calculus.specs.Types.{Ty, var}
 use Rattle.lp_calculus.specs.Term.{Term, index, atom, abs, app, substitute, Atom, constant, integer, text, eigen, logic, param}
 use Rattle.lp_calculus.specs.Instance.{instance_term}
 use Rattle.lp_calculus.specs.Normal.{is_absent}
-use Rattle.lp_model.specs.declared.ending.Ending.TheVariants.{Flexible, Arithmetic, Deep}
+use Rattle.lp_model.specs.declared.ending.Ending.TheVariants.{Flexible, Arithmetic, OpenNot, Deep}
 use Rattle.lp_model.specs.declared.ending.Fault.TheVariants.{NotClosed}
 use Rattle.lp_model.specs.Index.{instantiate}
 use Rattle.lp_calculus.specs.Spine.{head_of, arguments}
@@ -19,7 +19,7 @@ use Rattle.lp_standard.specs.Numbers as number
 use Rattle.lp_standard.specs.Constants.{is_order}
 use Rattle.lp_standard.specs.Connectives.{Connective, connective_of}
 use Rattle.lp_standard.specs.Connectives as connective
-use Rattle.lp_model.specs.Flat.{Goal, Atomic, Cut, Either, Exists, Forall, Assume, Goals, Clause, clause, goal_list, clause_list, instantiate_goals, type_goals}
+use Rattle.lp_model.specs.Flat.{Goal, Atomic, Cut, Either, Exists, Forall, Assume, Not, Goals, Clause, clause, goal_list, clause_list, instantiate_goals, type_goals}
 use Rattle.lp_model.specs.Values.{Outcome, Is, Faults, Number, Bytes, evaluate, term_of, ordered}
 use Rattle.lp_model.specs.Branch.{Entry, Branch, Answer, Task, Go, Try, Stop, resume, entries}
 
@@ -231,6 +231,8 @@ look_goal n P height e b (Forall T gs) =
     Parts (Go (with_goals b (entries (opened (atom (eigen (suc e.level))) gs) e.assumed (suc e.level) e.mark ++ b.goals)) ∷ [])
 look_goal n P height e b (Assume cs gs) =
     Parts (Go (with_goals b (entries (goal_list gs) (clause_list cs ++ e.assumed) e.level e.mark ++ b.goals)) ∷ [])
+-- no text has one yet
+look_goal n P height e b (Not gs) = Halts OpenNot
 
 abbrev pub look_branch : ℕ → List Clause → (height : ℕ) → Branch → List Entry → View Task Answer
 look_branch n P height b [] = Gives (record { next = b.next; next_type = b.next_type; types = b.types; values = b.values; pairs = b.pairs })

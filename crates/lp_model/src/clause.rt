@@ -22,6 +22,7 @@ pub enum Goal {
     Some(TypeId, Vec<Goal>),
     All(TypeId, Vec<Goal>),
     Assume(Vec<Clause>, Vec<Goal>),
+    Not(Vec<Goal>),
 }
 
 impl Drop for Clause {
@@ -49,6 +50,7 @@ impl Drop for Goal {
                 Goal::Either(_, _) => return,
                 Goal::All(_, _) => return,
                 Goal::Assume(_, _) => return,
+                Goal::Not(_) => return,
             }
         }
     }

@@ -26,6 +26,8 @@ pub enum Ending {
     Flexible,
     /// An expression without a value.
     Arithmetic(Fault),
+    /// A negated goal of which it is open whether it holds.
+    OpenNot,
     /// Unification or the taking apart of goals went on too long.
     Deep,
 }

@@ -18,6 +18,10 @@ cut = atom (constant number.Cut [])
 abbrev pub two : ℕ → List Ty → Term → Term → Term
 two c ts a b = app (app (atom (constant c ts)) a) b
 
+-- `not t`
+abbrev pub not_of : Term → Term
+not_of t = app (atom (constant number.Not [])) t
+
 -- `pi t` and `sigma t` at a type
 abbrev pub pi_of : Ty → Term → Term
 pi_of T t = app (atom (constant number.ForAll (T ∷ []))) t
