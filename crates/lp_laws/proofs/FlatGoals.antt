@@ -7,8 +7,8 @@ use Rattle.lp_calculus.specs.Typing.{Typed, o_type, scheme_type}
 use Rattle.lp_calculus.specs.Closed.{IsClosedType, IsClosedAt}
 use Rattle.lp_calculus.proofs.Steps.{converts_sym}
 use Rattle.lp_model.specs.Index.{instantiate}
-use Rattle.lp_standard.specs.Connectives.{truth, cut, two, pi_of, sigma_of, body_of}
-use Rattle.lp_model.specs.Flat.{Goal, Atomic, Cut, Either, Exists, Forall, Assume, Goals, no_goals, goals, Clause, clause, Clauses, no_clauses, clauses, under_all, map_goal, map_goals, map_clause, map_clauses, same_type, raise_goals, all_of, formula_of_goal, formula_of_goals, formula_of_clause, formula_of_clauses}
+use Rattle.lp_standard.specs.Connectives.{not_of, truth, cut, two, pi_of, sigma_of, body_of}
+use Rattle.lp_model.specs.Flat.{Goal, Atomic, Cut, Either, Exists, Forall, Assume, Not, Goals, no_goals, goals, Clause, clause, Clauses, no_clauses, clauses, under_all, map_goal, map_goals, map_clause, map_clauses, same_type, raise_goals, all_of, formula_of_goal, formula_of_goals, formula_of_clause, formula_of_clauses}
 use Rattle.lp_model.specs.Flatten.{ClauseFormula}
 use Rattle.lp_standard.specs.Schemes.{IsStandard}
 use Rattle.lp_model.specs.Proofs.{Declared, under, IsAtomHead, assumed, True, And, Left, Right, Witness, All, Assume as assuming, Provable, Focusable}
@@ -41,6 +41,7 @@ mutual
   goal_raise from (Exists T gs) = ap (λ z. sigma_of T (abs z)) (goals_raise (suc from) gs)
   goal_raise from (Forall T gs) = ap (λ z. pi_of T (abs z)) (goals_raise (suc from) gs)
   goal_raise from (Assume cs gs) = two_same 2 (clauses_raise from cs) (goals_raise from gs)
+  goal_raise from (Not gs) = ap not_of (goals_raise from gs)
 
   goals_raise : (from : ℕ) (gs : Goals) → formula_of_goals (map_goals suc (λ e t. shift e 1 t) same_type from gs) ≡ shift from 1 (formula_of_goals gs)
   goals_raise from no_goals = refl

@@ -19,7 +19,7 @@ use Rattle.lp_model.specs.Unify.{Turn, Goes as UGoes, Fails, Solved, judged, tur
 use Rattle.lp_model.specs.Unify as unification
 use Rattle.lp_standard.specs.Connectives.{Connective, connective_of}
 use Rattle.lp_standard.specs.Connectives as connective
-use Rattle.lp_model.specs.Flat.{Goal, Atomic, Cut, Either, Exists, Forall, Assume, Goals, Clause, clause, goal_list, instantiate_goals, type_goals}
+use Rattle.lp_model.specs.Flat.{Goal, Atomic, Cut, Either, Exists, Forall, Assume, Not, Goals, Clause, clause, goal_list, instantiate_goals, type_goals}
 use Rattle.lp_model.specs.Values.{Outcome, Is, Faults, Number, Bytes, value, evaluate, term_of}
 use Rattle.lp_model.specs.Branch.{Entry, Branch, Answer, Task, Go, Try, Stop, entries}
 use Rattle.lp_model.specs.Search.{with_goals, follow, equated, assigned, compared, key_of, goal_key, tries, slots_of, slotted, pairs_of, renewed, tried, try_clause, look_constant, look_atom, look_form, look_normal, look_goal, look_branch, look}
@@ -184,6 +184,7 @@ goal_more n m l P height e b (Either x y) = same_look refl
 goal_more n m l P height e b (Exists T x) = same_look refl
 goal_more n m l P height e b (Forall T x) = same_look refl
 goal_more n m l P height e b (Assume cs x) = same_look refl
+goal_more n m l P height e b (Not x) = same_look refl
 
 branch_more : (n m : ℕ) → n ≤ m → (P : List Clause) (height : ℕ) (b : Branch) (es : List Entry) → Fewer (look_branch n P height b es) (look_branch m P height b es)
 branch_more n m l P height b [] = same_look refl

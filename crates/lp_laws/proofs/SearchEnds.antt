@@ -11,7 +11,7 @@ use Rattle.lp_model.specs.Unify.{Unified, Fail, Solution, Spent, solve, unit_lim
 use Rattle.lp_model.specs.Rule.{type_pairs}
 use Rattle.lp_calculus.specs.Types.{Ty}
 use Rattle.lp_calculus.specs.Instance.{instance_term}
-use Rattle.lp_model.specs.Flat.{Goal, Atomic, Cut, Either, Exists, Forall, Assume, Clause, clause, Goals, goal_list, instantiate_goals, type_goals}
+use Rattle.lp_model.specs.Flat.{Goal, Atomic, Cut, Either, Exists, Forall, Assume, Not, Clause, clause, Goals, goal_list, instantiate_goals, type_goals}
 use Rattle.lp_model.specs.Look.{head_normal}
 use Rattle.lp_model.specs.Branch.{entries, Entry, Branch, Answer, Task, Go, Try, Stop}
 use Rattle.lp_calculus.specs.Term.{index, atom, abs, app, constant, integer, text, eigen, logic, param}
@@ -71,6 +71,7 @@ goal_counted n P height e b (Either l r) k = tt
 goal_counted n P height e b (Exists T gs) k = tt
 goal_counted n P height e b (Forall T gs) k = tt
 goal_counted n P height e b (Assume cs gs) k = tt
+goal_counted n P height e b (Not gs) k = tt
 
 branch_counted : (n : ℕ) (P : List Clause) (height : ℕ) (b : Branch) (es : List Entry) → Counted (look_branch n P height b es)
 unfolding Counted

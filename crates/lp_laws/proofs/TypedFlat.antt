@@ -6,10 +6,10 @@ use Rattle.lp_calculus.specs.Term.{Term, index, atom, abs, app, constant, intege
 use Rattle.lp_calculus.specs.Instance.{instance_term}
 use Rattle.lp_calculus.specs.Spine.{head_of, arguments}
 use Rattle.lp_model.specs.Look.{◌>>=◌}
-use Rattle.lp_standard.specs.Connectives.{two, pi_of, sigma_of, Connective, connective_of}
+use Rattle.lp_standard.specs.Connectives.{not_of, two, pi_of, sigma_of, Connective, connective_of}
 use Rattle.lp_standard.specs.Connectives as connective
 use Rattle.lp_standard.specs.Positive.{are_positive}
-use Rattle.lp_model.specs.Flat.{Goal, Atomic, Cut, Either, Exists, Forall, Assume, Goals, no_goals, goals, Clause, clause, Clauses, no_clauses, clauses, add_clauses, map_clauses, raise_goals, type_goal, type_goals, type_clause, all_of, formula_of_goal, formula_of_goals, formula_of_clause, formula_of_clauses}
+use Rattle.lp_model.specs.Flat.{Goal, Atomic, Cut, Either, Exists, Forall, Assume, Not, Goals, no_goals, goals, Clause, clause, Clauses, no_clauses, clauses, add_clauses, map_clauses, raise_goals, type_goal, type_goals, type_clause, all_of, formula_of_goal, formula_of_goals, formula_of_clause, formula_of_clauses}
 use Rattle.lp_model.specs.Flatten.{only, is_goal_head, is_clause_head, flat_goal, flat_goal_form, flat_list, flat_clause, flat_clause_form}
 use Rattle.lp_model.specs.Proofs.{Declared}
 use Rattle.lp_laws.proofs.TypedForms.{shifts_typed, type_form, head_typed, arguments_typed, form_typed, positives_typed, goal_head_typed, under_stay, raise_typed}
@@ -127,6 +127,7 @@ mutual
   goal_formula θ (Exists T gs) = ap (λ z. sigma_of (instance θ T) (abs z)) (goals_formula θ gs)
   goal_formula θ (Forall T gs) = ap (λ z. pi_of (instance θ T) (abs z)) (goals_formula θ gs)
   goal_formula θ (Assume cs gs) = two_same 2 (clauses_formula θ cs) (goals_formula θ gs)
+  goal_formula θ (Not gs) = ap not_of (goals_formula θ gs)
 
   pub goals_formula : (θ : ℕ → Ty) (gs : Goals) → formula_of_goals (type_goals θ gs) ≡ instance_term θ (formula_of_goals gs)
   goals_formula θ no_goals = refl

@@ -8,7 +8,7 @@ use Rattle.lp_calculus.specs.Spine.{head_of, arguments, arguments_and}
 use Rattle.lp_standard.specs.Connectives.{body_of, Connective, connective_of_constant, connective_at, connective_of}
 use Rattle.lp_standard.specs.Connectives as connective
 use Rattle.lp_standard.specs.Positive.{is_positive, are_positive}
-use Rattle.lp_model.specs.Flat.{Goal, Atomic, Cut, Either, Exists, Forall, Assume, Goals, no_goals, goals, Clause, clause, Clauses, no_clauses, clauses, under_all, map_goal, map_goals, map_clause, map_clauses, same_type, raise_goals, type_goal, type_goals, type_clause}
+use Rattle.lp_model.specs.Flat.{Goal, Atomic, Cut, Either, Exists, Forall, Assume, Not, Goals, no_goals, goals, Clause, clause, Clauses, no_clauses, clauses, under_all, map_goal, map_goals, map_clause, map_clauses, same_type, raise_goals, type_goal, type_goals, type_clause}
 use Rattle.lp_model.specs.Flatten.{is_goal_head}
 
 app_same : {t s u v : Term} → t ≡ s → u ≡ v → app t u ≡ app s v
@@ -192,6 +192,7 @@ mutual
   raise_goal_typed θ d (Exists T gs) = ap (Exists (instance θ T)) (raise_goals_typed θ (suc d) gs)
   raise_goal_typed θ d (Forall T gs) = ap (Forall (instance θ T)) (raise_goals_typed θ (suc d) gs)
   raise_goal_typed θ d (Assume cs gs) = assume_same (raise_clauses_typed θ d cs) (raise_goals_typed θ d gs)
+  raise_goal_typed θ d (Not gs) = ap Not (raise_goals_typed θ d gs)
 
   raise_goals_typed : (θ : ℕ → Ty) (d : ℕ) (gs : Goals) → map_goals suc raise_term same_type d (type_goals θ gs) ≡ type_goals θ (map_goals suc raise_term same_type d gs)
   raise_goals_typed θ d no_goals = refl

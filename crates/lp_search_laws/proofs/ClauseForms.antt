@@ -13,7 +13,7 @@ use Rattle.lp_calculus.specs.Spine.{head_of}
 use Rattle.lp_model.specs.Faithful.{EachOf}
 use Rattle.lp_model.specs.Pair.{Closing}
 use Rattle.lp_standard.specs.Connectives.{two, pi_of}
-use Rattle.lp_model.specs.Flat.{Goal, Atomic, Cut, Either, Exists, Forall, Assume, Goals, no_goals, goals, Clause, clause, Clauses, no_clauses, clauses, all_of, formula_of_goal, formula_of_goals, formula_of_clause, formula_of_clauses}
+use Rattle.lp_model.specs.Flat.{Goal, Atomic, Cut, Either, Exists, Forall, Assume, Not, Goals, no_goals, goals, Clause, clause, Clauses, no_clauses, clauses, all_of, formula_of_goal, formula_of_goals, formula_of_clause, formula_of_clauses}
 use Rattle.lp_model.specs.Proofs.{Declared, IsFormula, IsAtomHead}
 use Rattle.lp_model.specs.Answers.{Variable, Closes}
 use Rattle.lp_search_laws.specs.Holds.{IsTyped}
@@ -57,6 +57,7 @@ mutual
   goal_types k B (Exists T gs) h = ((h.0, tt), goals_types k (false ∷ B) gs h.1)
   goal_types k B (Forall T gs) h = ((h.0, tt), goals_types k (true ∷ B) gs h.1)
   goal_types k B (Assume cs gs) h = ((tt, clauses_types k B cs h.0), goals_types k B gs h.1)
+  goal_types k B (Not gs) h = absurd h
 
   goals_types : (k : ℕ) (B : List Bool) (gs : Goals) → AreGoals k B gs → AllAtoms (HasTypesBelow k) (formula_of_goals gs)
   goals_types k B no_goals h = tt

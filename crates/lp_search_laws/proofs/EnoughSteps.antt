@@ -16,7 +16,7 @@ use Rattle.lp_standard.specs.Connectives as connective
 use Rattle.lp_standard.specs.Schemes.{IsStandard}
 use Rattle.lp_model.specs.Unify.{solve, unit_limit}
 use Rattle.lp_model.specs.Values.{Value, Number, Bytes, Outcome, Is, Faults, value, evaluate, term_of}
-use Rattle.lp_model.specs.Flat.{Goal, Atomic, Cut, Either, Exists, Forall, Assume, clause, formula_of_goal}
+use Rattle.lp_model.specs.Flat.{Goal, Atomic, Cut, Either, Exists, Forall, Assume, Not, clause, formula_of_goal}
 use Rattle.lp_model.specs.Branch.{Entry, Branch, Task, Go, Try, Stop}
 use Rattle.lp_model.specs.Answers.{Query, Variable, over, IsScopedAtom, PairTyping, IsTypedPair}
 use Rattle.lp_model.specs.Proofs.{Declared}
@@ -247,6 +247,7 @@ module _ (n : ℕ) (d : Declared) (std : IsStandard d) (q : Query) (y : BranchTy
   by_goal E e l (Exists T x) i w = (0, λ u j. let s : Exists T x ≡ Atomic u = sym i ∙ j in absurd (cc))
   by_goal E e l (Forall T x) i w = (0, λ u j. let s : Forall T x ≡ Atomic u = sym i ∙ j in absurd (cc))
   by_goal E e l (Assume x z) i w = (0, λ u j. let s : Assume x z ≡ Atomic u = sym i ∙ j in absurd (cc))
+  by_goal E e l (Not z) i w = (0, λ u j. let s : Not z ≡ Atomic u = sym i ∙ j in absurd (cc))
 
   by_goals : (Es : List (List Ty)) (gs : List Entry) → b.goals ≡ gs → AreTypedEntries d y.answer.variables Es gs → (m : ℕ) × HasEnough m (Go b)
   by_goals [] [] i w = (0, λ e es t j k. absurd (let s = sym i ∙ j in cc))

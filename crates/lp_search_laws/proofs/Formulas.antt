@@ -7,8 +7,9 @@ use Rattle.lp_calculus.specs.Types.{Ty, instance}
 use Rattle.lp_calculus.specs.Term.{Term, Atom, atom, abs, app, shift, constant, integer, text, eigen, logic, param}
 use Rattle.lp_calculus.specs.Fill.{Binding, fill, raise, at_variables, one, put}
 use Rattle.lp_calculus.specs.Instance.{instance_term}
-use Rattle.lp_standard.specs.Connectives.{two, pi_of}
-use Rattle.lp_model.specs.Flat.{Goal, Atomic, Cut, Either, Exists, Forall, Assume, Goals, no_goals, goals, Clause, clause, Clauses, no_clauses, clauses, under_all, map_goal, map_goals, map_clause, map_clauses, same_type, all_of, formula_of_goal, formula_of_goals, formula_of_clause, formula_of_clauses}
+use Rattle.lp_standard.specs.Numbers as number
+use Rattle.lp_standard.specs.Connectives.{not_of, two, pi_of}
+use Rattle.lp_model.specs.Flat.{Goal, Atomic, Cut, Either, Exists, Forall, Assume, Not, Goals, no_goals, goals, Clause, clause, Clauses, no_clauses, clauses, under_all, map_goal, map_goals, map_clause, map_clauses, same_type, all_of, formula_of_goal, formula_of_goals, formula_of_clause, formula_of_clauses}
 use Rattle.lp_search_laws.proofs.Opened.{map_same}
 
 -- a change of terms that goes below applications and abstractions, and into the types of constants
@@ -25,6 +26,9 @@ quantified_inside : (f : Term → Term) (ty : Ty → Ty) → GoesInside f ty →
 quantified_inside f ty g c T A e =
     ap (λ z. app (atom (constant c (ty T ∷ []))) (abs z)) e ∙ ap (λ z. app (atom (constant c (ty T ∷ []))) z) (sym (g.abss A)) ∙ ap (λ z. app z (f (abs A))) (sym (g.constants c (T ∷ []))) ∙ sym (g.apps (atom (constant c (T ∷ []))) (abs A))
 
+not_inside : (f : Term → Term) (ty : Ty → Ty) → GoesInside f ty → {X : Term} (A : Term) → X ≡ f A → not_of X ≡ f (not_of A)
+not_inside f ty g A e = ap not_of e ∙ ap (λ z. app z (f A)) (sym (g.constants number.Not [])) ∙ sym (g.apps (atom (constant number.Not [])) A)
+
 all_inside : (f : Term → Term) (ty : Ty → Ty) → GoesInside f ty → (vs : List Ty) {X : Term} (A : Term) → X ≡ f A → all_of (map ty vs) X ≡ f (all_of vs A)
 all_inside f ty g [] A e = e
 all_inside f ty g (v ∷ vs) A e = all_inside f ty g vs (pi_of v (abs A)) (quantified_inside f ty g 4 v A e)
@@ -36,6 +40,7 @@ mutual
   goal_inside f ty w n (Either gs hs) = two_inside f ty w 1 (formula_of_goals gs) (formula_of_goals hs) (goals_inside f ty w n gs) (goals_inside f ty w n hs)
   goal_inside f ty w n (Exists T gs) = quantified_inside f ty w 5 T (formula_of_goals gs) (goals_inside f ty w n gs)
   goal_inside f ty w n (Forall T gs) = quantified_inside f ty w 4 T (formula_of_goals gs) (goals_inside f ty w n gs)
+  goal_inside f ty w n (Not gs) = not_inside f ty w (formula_of_goals gs) (goals_inside f ty w n gs)
   goal_inside f ty w n (Assume cs gs) = two_inside f ty w 2 (formula_of_clauses cs) (formula_of_goals gs) (clauses_inside f ty w n cs) (goals_inside f ty w n gs)
 
   pub goals_inside : (f : Term → Term) (ty : Ty → Ty) → GoesInside f ty → (n : ℕ) (gs : Goals) → formula_of_goals (map_goals (λ u. u) (λ u t. f t) ty n gs) ≡ f (formula_of_goals gs)

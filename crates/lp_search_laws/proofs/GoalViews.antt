@@ -7,7 +7,7 @@ use Rattle.lp_calculus.specs.Typing.{o_type, Typed}
 use Rattle.lp_calculus.proofs.Sigma.{instead}
 use Rattle.lp_model.specs.Pair.{Closing, closed}
 use Rattle.lp_standard.specs.Schemes.{IsStandard}
-use Rattle.lp_model.specs.Flat.{Goal, Cut, Either, Forall, Assume, Goals, Clause, Clauses, goal_list, clause_list, instantiate_goals, formula_of_goal, formula_of_goals, formula_of_clause, formula_of_clauses, Exists}
+use Rattle.lp_model.specs.Flat.{Goal, Cut, Either, Forall, Assume, Not, Goals, Clause, Clauses, goal_list, clause_list, instantiate_goals, formula_of_goal, formula_of_goals, formula_of_clause, formula_of_clauses, Exists}
 use Rattle.lp_model.specs.Branch.{Entry, Branch, Go, entries}
 use Rattle.lp_model.specs.Answers.{Query, Variable, AnswerTyping, over, type_of, IsPrefix}
 use Rattle.lp_model.specs.Proofs.{Declared}
@@ -99,6 +99,10 @@ module _ (n : ℕ) (d : Declared) (std : IsStandard d) (P : List Clause) (q : Qu
         (λ p. r.0 (transport (λ G. Holds d G R c (substitute u (formula_of_goals gs))) (sym y) (m (o.0 p)))),
         (λ p. o.1 (m' (transport (λ G. Holds d G R c (substitute u (formula_of_goals gs))) y (r.1 p)))),
       ))
+
+  -- no text has a negated goal yet
+  pub no_denial : (gs : Goals) → e.goal ≡ Not gs → ⊥
+  no_denial gs i = plain_as (Not gs) i
 
   pub assume_stands : (cs : Clauses) (gs : Goals) → e.goal ≡ Assume cs gs → StandFor n d P q (going (Typings n d P q z b E Es e es (E ∷ Es)) (with_goals b (e ∷ es))) (Go (with_goals b (entries (goal_list gs) (clause_list cs ++ e.assumed) e.level e.mark ++ es)) ∷ [])
   assume_stands cs gs i =

@@ -12,7 +12,7 @@ use Rattle.lp_model.specs.Proofs.{Declared, under, IsFormula, IsWitness, True}
 use Rattle.lp_standard.specs.Schemes.{IsStandard}
 use Rattle.lp_standard.specs.Connectives.{truth, Connective, connective_of}
 use Rattle.lp_standard.specs.Connectives as connective
-use Rattle.lp_model.specs.Flat.{Goal, Atomic, Cut, Either, Exists, Forall, Assume, Goals, no_goals, goals, goal_list, formula_of_goal, formula_of_goals, formula_of_clauses}
+use Rattle.lp_model.specs.Flat.{Goal, Atomic, Cut, Either, Exists, Forall, Assume, Not, Goals, no_goals, goals, goal_list, formula_of_goal, formula_of_goals, formula_of_clauses}
 use Rattle.lp_model.specs.Flatten.{ClauseFormula}
 use Rattle.lp_laws.proofs.Forms.{Shape, form_shape}
 use Rattle.lp_laws.proofs.Roots.{connective}
@@ -74,6 +74,7 @@ flat_goals d std E P c x l Cut m f = ((λ p. tt), (λ p. record { proof = True; 
 flat_goals d std E P c x l (Either gs hs) m f = either_holds d std E P c (formula_of_goals gs) (formula_of_goals hs) f
 flat_goals d std E P c x l (Forall T gs) m f = pi_holds d std E P c T (abs (formula_of_goals gs)) f
 flat_goals d std E P c x l (Exists T gs) m f = sigma_holds d std E P c x l T (abs (formula_of_goals gs)) m.1 f
+flat_goals d std E P c x l (Not gs) m f = ((λ p. p), (λ p. p))
 flat_goals d std E P c x l (Assume cs gs) m f = implied_holds d std E P c (formula_of_clauses cs) (formula_of_goals gs) f
 
 -- goals one behind the other

@@ -7,7 +7,7 @@ use Rattle.lp_calculus.specs.Spine.{head_of}
 use Rattle.lp_standard.specs.Connectives.{connective_of}
 use Rattle.lp_standard.specs.Connectives as connective
 use Rattle.lp_standard.specs.Schemes.{IsStandard}
-use Rattle.lp_model.specs.Flat.{Goal, Atomic, Cut, Either, Exists, Forall, Assume, Clause}
+use Rattle.lp_model.specs.Flat.{Goal, Atomic, Cut, Either, Exists, Forall, Assume, Not, Clause}
 use Rattle.lp_model.specs.Branch.{Entry, Branch, Go}
 use Rattle.lp_model.specs.Answers.{Query, AnswerTyping}
 use Rattle.lp_model.specs.Proofs.{Declared}
@@ -15,7 +15,7 @@ use Rattle.lp_model.specs.Search.{with_goals, look, look_branch, look_goal, look
 use Rattle.lp_search_laws.specs.Branches.{BranchTyping, IsTypedBranch, IsRightView, IsAtAtom, going}
 use Rattle.lp_search_laws.proofs.Opened.{by_cases}
 use Rattle.lp_search_laws.proofs.Fronts.{Typings, Typed as IsTypedHere}
-use Rattle.lp_search_laws.proofs.GoalViews.{cut_stands, either_stands, forall_stands, assume_stands, exists_stands}
+use Rattle.lp_search_laws.proofs.GoalViews.{cut_stands, either_stands, forall_stands, no_denial, assume_stands, exists_stands}
 use Rattle.lp_search_laws.proofs.FormViews.{form_view}
 use Rattle.lp_search_laws.proofs.Standing.{proved_branches_answer}
 
@@ -34,6 +34,7 @@ module _ (n height : ℕ) (d : Declared) (std : IsStandard d) (P : List Clause) 
     goal_view (Either l r) i = either_stands n d std P q z b E Es e es h l r i
     goal_view (Exists T gs) i = exists_stands n d std P q z b E Es e es h T gs _ (by_cases (atom (logic b.next e.level)) _ refl (λ j. refl)) i
     goal_view (Forall T gs) i = forall_stands n d std P q z b E Es e es h T gs _ (by_cases (atom (eigen (suc e.level))) _ refl (λ j. refl)) i
+    goal_view (Not gs) i = absurd (no_denial n d std P q z b E Es e es h gs i)
     goal_view (Assume cs gs) i = assume_stands n d std P q z b E Es e es h cs gs i
 
   pub branch_view : (Es : List (List Ty)) (gs : List Entry) → IsTypedBranch n d q (record { answer = z; eigens = Es }) (with_goals b gs) →

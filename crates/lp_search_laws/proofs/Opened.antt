@@ -8,9 +8,9 @@ use Rattle.lp_calculus.proofs.Plain.{substitute-subst}
 use Rattle.lp_model.specs.Faithful.{EachOf}
 use Rattle.lp_model.specs.Index.{instantiate, lifted}
 use Rattle.lp_model.specs.Pair.{Closing, closed}
-use Rattle.lp_standard.specs.Connectives.{two, pi_of, sigma_of}
+use Rattle.lp_standard.specs.Connectives.{two, not_of, pi_of, sigma_of}
 use Rattle.lp_standard.specs.Schemes.{IsStandard}
-use Rattle.lp_model.specs.Flat.{Goal, Atomic, Cut, Either, Exists, Forall, Assume, Goals, no_goals, goals, Clause, clause, Clauses, no_clauses, clauses, under_all, map_goal, map_goals, map_clause, map_clauses, same_type, all_of, goal_list, instantiate_goals, formula_of_goal, formula_of_goals, formula_of_clause, formula_of_clauses}
+use Rattle.lp_model.specs.Flat.{Goal, Atomic, Cut, Either, Exists, Forall, Assume, Not, Goals, no_goals, goals, Clause, clause, Clauses, no_clauses, clauses, under_all, map_goal, map_goals, map_clause, map_clauses, same_type, all_of, goal_list, instantiate_goals, formula_of_goal, formula_of_goals, formula_of_clause, formula_of_clauses}
 use Rattle.lp_model.specs.Flatten.{ClauseFormula}
 use Rattle.lp_model.specs.Proofs.{Declared, IsFormula}
 use Rattle.lp_model.specs.Search.{opened}
@@ -37,6 +37,7 @@ mutual
   goal_instantiate f (Exists T gs) = ap (λ z. sigma_of T (abs z)) (goals_instantiate (lifted f) gs)
   goal_instantiate f (Forall T gs) = ap (λ z. pi_of T (abs z)) (goals_instantiate (lifted f) gs)
   goal_instantiate f (Assume cs gs) = two_same 2 (clauses_instantiate f cs) (goals_instantiate f gs)
+  goal_instantiate f (Not gs) = ap not_of (goals_instantiate f gs)
 
   pub goals_instantiate : (f : ℕ → Term) (gs : Goals) → formula_of_goals (map_goals lifted instantiate same_type f gs) ≡ instantiate f (formula_of_goals gs)
   goals_instantiate f no_goals = refl

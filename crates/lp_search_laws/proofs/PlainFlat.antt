@@ -13,7 +13,7 @@ use Rattle.lp_calculus.specs.Spine.{head_of, arguments_and}
 use Rattle.lp_standard.proofs.Positives.{declared_is_positive}
 use Rattle.lp_standard.specs.Constants.{is_declared}
 use Rattle.lp_standard.specs.Positive.{is_positive, are_positive}
-use Rattle.lp_model.specs.Flat.{Goal, Atomic, Cut, Either, Exists, Forall, Assume, Goals, no_goals, goals, Clause, clause, Clauses, no_clauses, clauses, under_all, map_goal, map_goals, map_clause, map_clauses, same_type}
+use Rattle.lp_model.specs.Flat.{Goal, Atomic, Cut, Either, Exists, Forall, Assume, Not, Goals, no_goals, goals, Clause, clause, Clauses, no_clauses, clauses, under_all, map_goal, map_goals, map_clause, map_clauses, same_type}
 use Rattle.lp_model.specs.Flatten.{heads_clauses, is_clause_head}
 use Rattle.lp_model.specs.Proofs.{Declared}
 use Rattle.lp_search_laws.specs.Started.{AreTypesBelow, IsQueryAtom}
@@ -77,6 +77,7 @@ mutual
   goal_raise k from B D m (Exists T gs) h = (h.0, goals_raise k (suc from) (false ∷ B) (false ∷ D) (raise_below false from B D m) gs h.1)
   goal_raise k from B D m (Forall T gs) h = (h.0, goals_raise k (suc from) (true ∷ B) (true ∷ D) (raise_below true from B D m) gs h.1)
   goal_raise k from B D m (Assume cs gs) h = (clauses_raise k from B D m cs h.0, goals_raise k from B D m gs h.1)
+  goal_raise k from B D m (Not gs) h = absurd h
 
   pub goals_raise : (k from : ℕ) (B D : List Bool) → MayRaise from B D → (gs : Goals) → AreGoals k B gs → AreGoals k D (map_goals suc (λ e t. shift e 1 t) same_type from gs)
   goals_raise k from B D m no_goals h = tt

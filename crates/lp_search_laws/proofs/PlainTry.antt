@@ -15,7 +15,7 @@ use Rattle.lp_calculus.specs.Spine.{head_of, arguments}
 use Rattle.lp_model.specs.Types.{zipped}
 use Rattle.lp_model.specs.Rule.{type_pairs}
 use Rattle.lp_model.specs.Search.{is_new, renewed, slots_of, pairs_of}
-use Rattle.lp_model.specs.Flat.{Goal, Atomic, Cut, Either, Exists, Forall, Assume, Goals, no_goals, goals, Clause, clause, Clauses, no_clauses, clauses, under_all, map_goal, map_goals, map_clause, map_clauses, type_goals, instantiate_goals}
+use Rattle.lp_model.specs.Flat.{Goal, Atomic, Cut, Either, Exists, Forall, Assume, Not, Goals, no_goals, goals, Clause, clause, Clauses, no_clauses, clauses, under_all, map_goal, map_goals, map_clause, map_clauses, type_goals, instantiate_goals}
 use Rattle.lp_model.specs.Branch.{Entry, Branch}
 use Rattle.lp_model.specs.Proofs.{Declared}
 use Rattle.lp_model.specs.Answers.{Query, Variable}
@@ -89,6 +89,7 @@ module _ (k j : ℕ) (θ : ℕ → Ty) (f : (i : ℕ) → i < k → IsTypeBelow 
     goal_at n B (Exists T gs) w = (type_at T w.0, goals_at n (false ∷ B) gs w.1)
     goal_at n B (Forall T gs) w = (type_at T w.0, goals_at n (true ∷ B) gs w.1)
     goal_at n B (Assume cs gs) w = (clauses_at n B cs w.0, goals_at n B gs w.1)
+    goal_at n B (Not gs) w = absurd w
 
     goals_at : (n : ℕ) (B : List Bool) (gs : Goals) → AreGoals k B gs → AreGoals j B (map_goals (λ u. u) (λ u t. instance_term θ t) (instance θ) n gs)
     goals_at n B no_goals w = tt

@@ -11,7 +11,7 @@ use Rattle.lp_standard.specs.Connectives as connective
 use Rattle.lp_model.specs.Skeleton.{Opens, Takes, named, eigenconstant}
 use Rattle.lp_model.specs.Unify.{solve, unit_limit}
 use Rattle.lp_model.specs.Values.{Outcome, Is, Faults, evaluate, term_of}
-use Rattle.lp_model.specs.Flat.{Goal, Atomic, Cut, Either, Exists, Forall, Assume, Clause, clause, Goals, goal_list, instantiate_goals, type_goals}
+use Rattle.lp_model.specs.Flat.{Goal, Atomic, Cut, Either, Exists, Forall, Assume, Not, Clause, clause, Goals, goal_list, instantiate_goals, type_goals}
 use Rattle.lp_model.specs.Branch.{Entry, Branch, Task, Go, Try, Stop, entries}
 use Rattle.lp_model.specs.Rule.{type_pairs}
 use Rattle.lp_calculus.specs.Types.{Ty}
@@ -103,6 +103,7 @@ module _ (n m : ℕ) (more : n ≤ m) where
   goal_same P height e b (Exists T gs) i f = refl
   goal_same P height e b (Forall T gs) i f = refl
   goal_same P height e b (Assume cs gs) i f = refl
+  goal_same P height e b (Not gs) i f = refl
 
   term_with : (level : ℕ) (b : Branch) (es : List Entry) (t : Term) → TermHasEnough n level b t → TermHasEnough n level (with_goals b es) t
   term_with v b es t f = record { form = f.form; comes = f.comes; call = λ p. let a = f.call p in record { key = a.key; head = head_with v b es (head_of f.form) (arguments f.form) a.head } }

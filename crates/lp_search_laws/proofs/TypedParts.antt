@@ -15,7 +15,7 @@ use Rattle.lp_model.specs.Index.{instantiate, lifted}
 use Rattle.lp_calculus.specs.Spine.{head_of}
 use Rattle.lp_standard.specs.Connectives.{two, body_of}
 use Rattle.lp_standard.specs.Schemes.{IsStandard}
-use Rattle.lp_model.specs.Flat.{Goal, Atomic, Cut, Either, Exists, Forall, Assume, Goals, no_goals, goals, Clause, clause, Clauses, no_clauses, clauses, goal_list, clause_list, under_all, map_goal, map_goals, map_clause, map_clauses, same_type, formula_of_goal, formula_of_goals, formula_of_clause, formula_of_clauses}
+use Rattle.lp_model.specs.Flat.{Goal, Atomic, Cut, Either, Exists, Forall, Assume, Not, Goals, no_goals, goals, Clause, clause, Clauses, no_clauses, clauses, goal_list, clause_list, under_all, map_goal, map_goals, map_clause, map_clauses, same_type, formula_of_goal, formula_of_goals, formula_of_clause, formula_of_clauses}
 use Rattle.lp_model.specs.Proofs.{Declared}
 use Rattle.lp_model.specs.Answers.{Variable, over, IsPrefix}
 use Rattle.lp_unify_laws.specs.Solutions.{IsMore}
@@ -168,6 +168,7 @@ mutual
   goal_put k B D f m (Exists T gs) h = (h.0, goals_put k (false ∷ B) (false ∷ D) (lifted f) (put_below k false B D f m) gs h.1)
   goal_put k B D f m (Forall T gs) h = (h.0, goals_put k (true ∷ B) (true ∷ D) (lifted f) (put_below k true B D f m) gs h.1)
   goal_put k B D f m (Assume cs gs) h = (clauses_put k B D f m cs h.0, goals_put k B D f m gs h.1)
+  goal_put k B D f m (Not gs) h = absurd h
 
   pub goals_put : (k : ℕ) (B D : List Bool) (f : ℕ → Term) → MayPut k B D f → (gs : Goals) → AreGoals k B gs → AreGoals k D (map_goals lifted instantiate same_type f gs)
   goals_put k B D f m no_goals h = tt

@@ -15,7 +15,7 @@ use Rattle.lp_model.specs.Look.{head_normal}
 use Rattle.lp_standard.specs.Connectives.{connective_of}
 use Rattle.lp_standard.specs.Connectives as connective
 use Rattle.lp_model.specs.Pair.{Pair, Closing, closed}
-use Rattle.lp_model.specs.Flat.{Goal, Atomic, Cut, Either, Exists, Forall, Assume, Goals, no_goals, goals, Clause, clause, Clauses, no_clauses, clauses, formula_of_goal, formula_of_clause}
+use Rattle.lp_model.specs.Flat.{Goal, Atomic, Cut, Either, Exists, Forall, Assume, Not, Goals, no_goals, goals, Clause, clause, Clauses, no_clauses, clauses, formula_of_goal, formula_of_clause}
 use Rattle.lp_model.specs.Proofs.{Declared, IsAtomHead}
 use Rattle.lp_model.specs.Answers.{Query, Variable, AnswerTyping, Instance, AreWitnesses, IsInstance, IsWellFormed}
 use Rattle.lp_model.specs.Branch.{Entry, Branch, Answer, Task, Go, Try, Stop}
@@ -59,6 +59,8 @@ abbrev mutual
   IsGoal k B (Exists T gs) = IsTypeBelow k T × AreGoals k (false ∷ B) gs
   IsGoal k B (Forall T gs) = IsTypeBelow k T × AreGoals k (true ∷ B) gs
   IsGoal k B (Assume cs gs) = AreClauses k B cs × AreGoals k B gs
+  -- no text has a negated goal yet
+  IsGoal k B (Not gs) = ⊥
 
   pub AreGoals : (k : ℕ) → (binders : List Bool) → Goals → Type 0
   AreGoals k B no_goals = Unit {0}
