@@ -5,7 +5,7 @@ use Rattle.std.specs.Prelude.{IfOk, Result, Ok, Err, false, map, Vec}
 use Rattle.lp_base.specs.Written.{Appends, AppendsPrefix}
 use Rattle.lp_base.specs.declared.status.Status.TheVariants as variant
 use Rattle.lp_model.specs.declared.ending.Ending.{Ending}
-use Rattle.lp_model.specs.declared.ending.Ending.TheVariants.{NoMore, NoMoreCut, Enough, Steps, Flexible, Arithmetic, Deep}
+use Rattle.lp_model.specs.declared.ending.Ending.TheVariants.{NoMore, NoMoreCut, Enough, Steps, Flexible, Arithmetic, OpenNot, Deep}
 use Rattle.lp_model.specs.Events.{Event, Gave, Over, Advances, Gathers}
 use Rattle.lp_model.specs.Horn.{Horn, HornQuery, counted, counted_query}
 use Rattle.lp_model.specs.HornSearch.{AnswerOf, by_number, look, start}
@@ -189,6 +189,7 @@ ends_without_fault Enough h = cc
 ends_without_fault Steps h = cc
 ends_without_fault Flexible h = cc
 ends_without_fault (Arithmetic f) h = cc
+ends_without_fault OpenNot h = cc
 ends_without_fault Deep h = cc
 
 -- a search that was started from the module's clauses and the query is at its beginning

@@ -3,7 +3,7 @@ use Rattle.std.proofs.Common.{◌≡◌, ◌≢◌, ℕ, ◌<◌, ◌≤◌, ref
 use Rattle.std.specs.Global.{Global}
 use Rattle.std.specs.Prelude.{Vec, List, Option, true, false, ◌⊎◌, Ok, Err}
 use Rattle.lp_base.specs.declared.status.Status.{Status}
-use Rattle.lp_base.specs.declared.status.Status.TheVariants.{Done, Usage, Source, Image, Steps, Flexible, Arithmetic, Deep, ReadFault, WriteFault, Memory, Limit, Missing}
+use Rattle.lp_base.specs.declared.status.Status.TheVariants.{Done, Usage, Source, Image, Steps, Flexible, Arithmetic, Deep, ReadFault, WriteFault, Memory, Limit, Missing, OpenNot}
 use Rattle.lp_model.specs.declared.ending.Ending.{Ending}
 use Rattle.lp_model.specs.declared.ending.Ending.TheVariants as ending
 use Rattle.lp_fragment.specs.Meaning.{Meaning}
@@ -23,6 +23,7 @@ ending_is ending.Enough = refl
 ending_is ending.Steps = refl
 ending_is ending.Flexible = refl
 ending_is (ending.Arithmetic f) = refl
+ending_is ending.OpenNot = refl
 ending_is ending.Deep = refl
 
 pub searched_is : (m : Meaning) (status : Status) (text : List ℕ) → IsSearched m status text → is_of_search status ≡ true
@@ -38,6 +39,7 @@ is_fault Source = inr (λ e. cc)
 is_fault Image = inr (λ e. cc)
 is_fault Steps = inr (λ e. cc)
 is_fault Flexible = inr (λ e. cc)
+is_fault OpenNot = inr (λ e. cc)
 is_fault Arithmetic = inr (λ e. cc)
 is_fault Deep = inr (λ e. cc)
 is_fault ReadFault = inr (λ e. cc)

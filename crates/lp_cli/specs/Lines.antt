@@ -6,7 +6,7 @@ use Rattle.lp_base.specs.declared.limit.Limit.TheVariants as limit
 use Rattle.lp_base.specs.declared.status.Status.{Status}
 use Rattle.lp_base.specs.declared.status.Status.TheVariants as variant
 use Rattle.lp_model.specs.declared.ending.Ending.{Ending}
-use Rattle.lp_model.specs.declared.ending.Ending.TheVariants.{NoMore, NoMoreCut, Enough, Steps, Flexible, Arithmetic, Deep}
+use Rattle.lp_model.specs.declared.ending.Ending.TheVariants.{NoMore, NoMoreCut, Enough, Steps, Flexible, Arithmetic, OpenNot, Deep}
 use Rattle.lp_model.specs.declared.ending.Fault.{Fault}
 use Rattle.lp_model.specs.declared.ending.Fault.TheVariants.{Overflow, ZeroDivisor, NotClosed}
 
@@ -43,6 +43,7 @@ ending_line Enough = codes "stopped: answers\n"
 ending_line Steps = codes "stopped: steps\n"
 ending_line Flexible = codes "stopped: flexible goal\n"
 ending_line (Arithmetic fault) = fault_line fault
+ending_line OpenNot = codes "stopped: open negation\n"
 ending_line Deep = codes "stopped: term too deep\n"
 
 unfoldable pub ending_status : Ending → Status
@@ -52,6 +53,7 @@ ending_status Enough = variant.Done
 ending_status Steps = variant.Steps
 ending_status Flexible = variant.Flexible
 ending_status (Arithmetic fault) = variant.Arithmetic
+ending_status OpenNot = variant.OpenNot
 ending_status Deep = variant.Deep
 
 -- the statuses with which a search ends
@@ -61,5 +63,6 @@ is_of_search variant.Steps = true
 is_of_search variant.Flexible = true
 is_of_search variant.Arithmetic = true
 is_of_search variant.Deep = true
+is_of_search variant.OpenNot = true
 is_of_search variant.Memory = true
 is_of_search _ = false

@@ -75,6 +75,7 @@ pub fn ending(ending: Ending) -> &'static str
         Ending::Steps => "stopped: steps\n",
         Ending::Flexible => "stopped: flexible goal\n",
         Ending::Arithmetic(kind) => fault(kind),
+        Ending::OpenNot => "stopped: open negation\n",
         Ending::Deep => "stopped: term too deep\n",
     }
 }
@@ -88,6 +89,7 @@ pub fn status(ending: Ending) -> Status
         Ending::Steps => Status::Steps,
         Ending::Flexible => Status::Flexible,
         Ending::Arithmetic(_) => Status::Arithmetic,
+        Ending::OpenNot => Status::OpenNot,
         Ending::Deep => Status::Deep,
     }
 }

@@ -47,6 +47,7 @@ fn endings_have_their_lines(rt: HostRuntime) {
             Ending::Arithmetic(Fault::NotClosed),
             "stopped: arithmetic: not closed",
         ),
+        (Ending::OpenNot, "stopped: open negation"),
         (Ending::Deep, "stopped: term too deep"),
     ] {
         assert_eq!(rt; ending(end), line);

@@ -17,4 +17,5 @@ ending_line ending.Enough = codes "stopped: answers"
 ending_line ending.Steps = codes "stopped: steps"
 ending_line ending.Flexible = codes "stopped: flexible goal"
 ending_line (ending.Arithmetic fault) = fault_line fault
+ending_line ending.OpenNot = codes "stopped: open negation"
 ending_line ending.Deep = codes "stopped: term too deep"

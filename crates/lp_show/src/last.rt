@@ -26,6 +26,7 @@ pub fn ending(ending: Ending) -> &'static str
         Ending::Steps => "stopped: steps",
         Ending::Flexible => "stopped: flexible goal",
         Ending::Arithmetic(kind) => fault(kind),
+        Ending::OpenNot => "stopped: open negation",
         Ending::Deep => "stopped: term too deep",
     }
 }
