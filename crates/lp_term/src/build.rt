@@ -3,6 +3,8 @@ ghost use Rattle.std.specs.Prelude.{◌≡◌, ◌<◌, ℕ, All, IfOk, length, 
 ghost use Rattle.lp_term.specs.Nodes.{Nodes, Extends, IsSound, tree, type_tree, node_tree, term_at, type_at};
 ghost use Rattle.lp_term.specs.Shapes.{term_shape, type_shape};
 ghost use Rattle.lp_term.specs.Mapped.{Map, IsMap};
+ghost use Rattle.lp_term.specs.declared.becomes.TermChange.{TermChange};
+ghost use Rattle.lp_term.specs.declared.becomes.TypeChange.{TypeChange};
 ghost use Rattle.lp_term.specs.inner.Reading.{read_of};
 ghost use Rattle.lp_term.specs.inner.Rebuilt.{IsLeaf, rebuilt, rebuilt_type, rebuilt_variable, rebuilt_logic};
 ghost use Rattle.lp_term.specs.inner.Walking.{made_of, parts, IsIn, IsRight, IsRightAt};
@@ -20,6 +22,26 @@ use crate::read::read;
 use crate::walked::Node;
 use lp_base::Memory;
 use std::alloc::Global;
+
+fn stays(change: TermChange) -> bool
+    ensures { result ≡ true → change ≡ TermChange.Stays }
+{
+    match change {
+        TermChange::Stays => true,
+        TermChange::Is(_) => false,
+        TermChange::As(_) => false,
+    }
+}
+
+fn is_variable(change: TypeChange, number: u64) -> bool
+    ensures { result ≡ true → change ≡ TypeChange.Var number }
+{
+    match change {
+        TypeChange::Var(new) => new == number,
+        TypeChange::Is(_) => false,
+        TypeChange::As(_) => false,
+    }
+}
 
 // What a type variable becomes.
 pub(crate) fn put_variable(
@@ -72,7 +94,11 @@ fn type_rebuilt<M: Mapping>(
 {
     match read(here, from, to).type_node(id) {
         TypeNode::Var(number) => {
-            let made = put_variable(to, done, map.type_variable(number))?;
+            let change = map.type_variable(number);
+            if here && is_variable(change, number) {
+                return Ok(id);
+            }
+            let made = put_variable(to, done, change)?;
             Ok(made)
         }
         TypeNode::Param(number) => {
@@ -190,7 +216,11 @@ fn term_rebuilt<M: Mapping>(
             id: variable,
             level,
         } => {
-            let made = put_logic_changed(to, done, variable, level, map.logic_variable(variable))?;
+            let change = map.logic_variable(variable);
+            if here && stays(change) {
+                return Ok(id);
+            }
+            let made = put_logic_changed(to, done, variable, level, change)?;
             Ok(made)
         }
         _ => {

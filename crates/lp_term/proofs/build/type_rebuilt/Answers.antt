@@ -8,7 +8,7 @@ use Rattle.lp_term.proofs.build.type_rebuilt.Goals as goal
 
 pub returns-then-eq-clause-tree : goal.returns-then-eq-clause-tree
 returns-then-eq-clause-tree g c =
-    let here : c.read.result.now ≡ c.args.to.now = c.read.ensures ∙ ap (λ h. read_of h c.args.from.now c.args.to.now) c.if-here-2.true in
+    let here : c.read.result.now ≡ c.args.to.now = c.read.ensures ∙ ap (λ h. read_of h c.args.from.now c.args.to.now) c.if-here-3.true in
     let ids = c.in-Con.ids.now in
     constructor_stays (g.M.Mapping.told c.args.map.now) c.args.done.now c.args.to.now c.in-Con.kind c.kind-new.result c.args.id.0 ids c.in_ok-parts-in-Con.parts.items c.as_slice.result.now
     (type_at (read_of c.args.here c.args.from.now c.args.to.now) c.args.id.0) (c.in-Con.ensures.node ∙ ap (λ b. type_at b c.args.id.0) c.read.ensures)
