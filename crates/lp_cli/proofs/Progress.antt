@@ -9,8 +9,8 @@ use Rattle.lp_model.specs.declared.ending.Ending.TheVariants.{NoMore, NoMoreCut,
 use Rattle.lp_model.specs.Events.{Event, Gave, Over, Advances, Gathers}
 use Rattle.lp_model.specs.Horn.{Horn, HornQuery, counted, counted_query}
 use Rattle.lp_model.specs.HornSearch.{AnswerOf, by_number, look, start}
-use Rattle.lp_laws.proofs.Wholes.{gathers_none, gathers_more, gathers_over, gathers_prefix, gives_fewer}
-use Rattle.lp_laws.proofs.HornCorrect.{horn_search_is_right}
+use Rattle.lp_search_laws.proofs.Stack.Events.{gathers_none, gathers_more, gathers_over, gathers_prefix, gives_fewer}
+use Rattle.lp_horn_laws.proofs.Correct.{horn_search_is_right}
 use Rattle.lp_horn_search.specs.Held.{Held, held}
 use Rattle.lp_horn_search.specs.declared.search.Search.{Search as Searching}
 use Rattle.lp_term.specs.Nodes.{Nodes}

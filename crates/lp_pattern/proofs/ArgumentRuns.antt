@@ -22,7 +22,7 @@ use Rattle.lp_pattern.specs.declared.patterns.Wanted.{Wanted}
 use Rattle.lp_pattern.specs.Seen.{weak_step, IsRigid, IsHead, IsLooked, IsReachedWithin}
 use Rattle.lp_pattern.specs.Stripping.{opens, IsNoAbstraction, stop, HasForm, HasNoForm, Comes, is_name, name_term, eigen_past, is_at, AllFormed, AllCome, IsNamed, IsTaken, read_at, IsAlone, IsEigen, HasNoEigen, IsPattern, HasNoPattern}
 use Rattle.lp_pattern.specs.Under.{IsReading, under}
-use Rattle.lp_pattern.proofs.MoreFuel.{Below, below_map}
+use Rattle.lp_unify_laws.proofs.MoreSteps.Scans.{Below, below_map}
 use Rattle.lp_pattern.proofs.Compares.{from_bind, from_map}
 use Rattle.lp_pattern.proofs.BetaForms.{beta_behind, beta_named, leaf_form}
 use Rattle.lp_pattern.proofs.Naming.{IsLeaf}

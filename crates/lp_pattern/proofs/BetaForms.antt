@@ -6,8 +6,7 @@ use Rattle.lp_calculus.specs.Convert.{leftmost_step, option_term, or_else, steps
 use Rattle.lp_calculus.proofs.Sigma.{subst}
 use Rattle.lp_model.specs.Eigens.{beta_normal}
 use Rattle.lp_pattern.specs.Seen.{weak_step}
-use Rattle.lp_pattern.proofs.MoreFuel.{Below, below_none}
-use Rattle.lp_pattern.proofs.TopScans.{beta_more}
+use Rattle.lp_unify_laws.proofs.MoreSteps.Scans.{Below, below_none, beta_normal_more}
 use Rattle.lp_pattern.proofs.Naming.{IsLeaf, AreLeaves, leftmost_named}
 
 abbrev turn : ℕ → Term → Option Term → Option Term
@@ -36,7 +35,7 @@ beta_behind (suc k) (suc n) t s e = go (weak_step t) refl e (λ u q. beta_behind
     go : (o : Option Term) → weak_step t ≡ o → (elim o as (λ z. Option Term) [ None ↦ None | Some u ↦ steps weak_step k u ]) ≡ Some s → ((u : Term) → steps weak_step k u ≡ Some s → Below (beta_normal n u) (beta_normal n s)) →
         Below (beta_normal (suc n) t) (beta_normal (suc n) s)
     go None p q f = absurd (cc)
-    go (Some u) p q f = λ r x. beta_more n (suc n) (omega arith) s r (f u q r (sym (ap (turn n t) (weak_leftmost t u p)) ∙ x))
+    go (Some u) p q f = λ r x. beta_normal_more n (suc n) (omega arith) s r (f u q r (sym (ap (turn n t) (weak_leftmost t u p)) ∙ x))
 
 -- an abstraction
 pub beta_abs : (n : ℕ) (b : Term) → beta_normal n (abs b) ≡ option_map abs (beta_normal n b)
@@ -98,10 +97,10 @@ on_argument (suc n) f u r h e =
         record { head = f; argument = u; is = sym z; head_form = ap (turn n f) p; argument_form = ap (turn n u) q }
     go None (Some v) p q x a b =
         let w = b v (sym (λ i. turn n (app f u) (or_else (option_term (λ s. app s u) (p i)) (option_term (app f) (q i)))) ∙ x) in
-        record { head = w.head; argument = w.argument; is = w.is; head_form = beta_more n (suc n) (omega arith) f w.head w.head_form; argument_form = ap (turn n u) q ∙ w.argument_form }
+        record { head = w.head; argument = w.argument; is = w.is; head_form = beta_normal_more n (suc n) (omega arith) f w.head w.head_form; argument_form = ap (turn n u) q ∙ w.argument_form }
     go (Some g) o p q x a b =
         let w = a g (neutral_stays f g h p) (sym (ap (λ y. turn n (app f u) (or_else (option_term (λ s. app s u) y) (option_term (app f) (leftmost_step u)))) p) ∙ x) in
-        record { head = w.head; argument = w.argument; is = w.is; head_form = ap (turn n f) p ∙ w.head_form; argument_form = beta_more n (suc n) (omega arith) u w.argument w.argument_form }
+        record { head = w.head; argument = w.argument; is = w.is; head_form = ap (turn n f) p ∙ w.head_form; argument_form = beta_normal_more n (suc n) (omega arith) u w.argument w.argument_form }
 
 -- the forms of a list of terms
 pub data Forms (n : ℕ) : List Term → List Term → Type 0 where

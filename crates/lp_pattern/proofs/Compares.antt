@@ -10,7 +10,9 @@ use Rattle.lp_model.specs.Rule.{Compared, dearer, open_with, type_pairs, argumen
 use Rattle.lp_pattern.specs.Seen.{weak_step}
 use Rattle.lp_pattern.specs.Comparing.{compare_pairs, IsComparedTo, IsRest}
 use Rattle.lp_pattern.proofs.Looking.{weak_look, steps_on, look_abs}
-use Rattle.lp_pattern.proofs.MoreFuel.{Below, below_none, below_same, below_then, look_more, compare_more, pairs_more, all_pairs}
+use Rattle.lp_unify_laws.proofs.MoreSteps.Scans.{Below, below_none, below_same, below_then, look_more}
+use Rattle.lp_unify_laws.proofs.MoreSteps.Rules.{compare_more}
+use Rattle.lp_pattern.proofs.PairsCompared.{pairs_more, all_pairs}
 
 -- sides that are some steps further
 pub reached_look : (j n : ℕ) (t s : Term) → steps weak_step j t ≡ Some s → Below (look n t) (look n s)

@@ -33,7 +33,7 @@ use Rattle.lp_pattern.specs.Stripping.{IsPattern, HasNoPattern, eigens_of, read_
 use Rattle.lp_pattern.specs.Under.{IsReading, under, below}
 use Rattle.lp_pattern.specs.Visiting.{IsScanned, IsStopped, Exceeds}
 use Rattle.lp_pattern.specs.Visiting as visiting
-use Rattle.lp_pattern.proofs.MoreFuel.{Below, below_none, below_same, below_then}
+use Rattle.lp_unify_laws.proofs.MoreSteps.Scans.{Below, below_none, below_same, below_then}
 use Rattle.lp_pattern.proofs.Compares.{reached_look, from_bind, from_map}
 use Rattle.lp_pattern.proofs.Opening.{read_none}
 use Rattle.lp_pattern.proofs.Stacks.{under_kept}

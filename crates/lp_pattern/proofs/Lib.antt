@@ -7,7 +7,7 @@ pub mod HeadTypes
 pub mod Judging
 pub mod Keeps
 pub mod Looking
-pub mod MoreFuel
+pub mod PairsCompared
 pub mod Names
 pub mod Naming
 pub mod SameTypes
@@ -39,7 +39,6 @@ pub mod VisitSteps
 pub mod Verdicts
 pub mod Visits
 pub mod Walking
-pub mod TypeTurns
 pub mod FilledTypes
 pub mod TypesSolved
 pub mod TypesBound

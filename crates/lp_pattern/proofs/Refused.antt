@@ -15,7 +15,7 @@ use Rattle.lp_pattern.specs.Refusing.{IsOfTerm}
 use Rattle.lp_pattern.specs.Seen.{weak_step, IsDeepWhere}
 use Rattle.lp_pattern.specs.Comparing.{compare_pairs, IsPassed, IsRest, IsHeadPassed}
 use Rattle.lp_pattern.proofs.Looking.{weak_head}
-use Rattle.lp_pattern.proofs.MoreFuel.{Below}
+use Rattle.lp_unify_laws.proofs.MoreSteps.Scans.{Below}
 use Rattle.lp_pattern.proofs.Compares.{from_bind, from_map, by_looks, First, goes_on, ends, first}
 
 -- a head that is too far

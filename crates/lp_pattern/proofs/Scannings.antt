@@ -37,7 +37,7 @@ use Rattle.lp_pattern.specs.Seen.{weak_step, IsRigid, IsHead, IsLooked, IsReache
 use Rattle.lp_pattern.specs.Stripping.{opens, IsShut, IsPattern, HasNoPattern, read_at}
 use Rattle.lp_pattern.specs.Under.{IsReading, under}
 use Rattle.lp_pattern.specs.Visiting.{Part, scan_parts, part_at, part_of, parts_of, IsVisitOf, IsRestOf, IsStopped, IsScanned, Merged}
-use Rattle.lp_pattern.proofs.MoreFuel.{Below, below_none, below_same, below_then, below_map}
+use Rattle.lp_unify_laws.proofs.MoreSteps.Scans.{Below, below_none, below_same, below_then, below_map}
 use Rattle.lp_pattern.specs.TopLooks.{top_normal, top_look, scan_top, scan_seen}
 use Rattle.lp_pattern.proofs.TopScans.{scan_of, top_is}
 use Rattle.lp_pattern.proofs.Naming.{weak_named, steps_named}

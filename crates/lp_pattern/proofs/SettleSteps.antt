@@ -28,7 +28,7 @@ use Rattle.lp_pattern.specs.Under.{ValueIs, IsReading, under}
 use Rattle.lp_pattern.proofs.ArgumentForms.{abstraction_whole, whole_is}
 use Rattle.lp_pattern.proofs.Indices.{indexed_abs}
 use Rattle.lp_pattern.proofs.Looking.{closed_apply}
-use Rattle.lp_pattern.proofs.MoreFuel.{below_map}
+use Rattle.lp_unify_laws.proofs.MoreSteps.Scans.{below_map}
 use Rattle.lp_pattern.proofs.Opening.{SeenAt, read_kept, read_reached, rigid_at, variable_at, abstraction_at, opened_once, top_of}
 use Rattle.lp_pattern.proofs.Renewing.{fill_apply}
 use Rattle.lp_pattern.proofs.Scannings.{top_behind}

@@ -26,7 +26,7 @@ use Rattle.lp_pattern.specs.Visiting.{IsScanned}
 use Rattle.lp_pattern.proofs.BoundOnce.{IsOneBinding, once_put, once_read, once_longer, put_then, bound_of}
 use Rattle.lp_pattern.proofs.Compares.{reached_look, from_bind, from_map}
 use Rattle.lp_pattern.proofs.Judging.{scan_reached, behind, scanned_to, pruned_to}
-use Rattle.lp_pattern.proofs.MoreFuel.{Below, below_none, below_same, below_then}
+use Rattle.lp_unify_laws.proofs.MoreSteps.Scans.{Below, below_none, below_same, below_then}
 use Rattle.lp_pattern.proofs.Passings.{steps_fill}
 use Rattle.lp_pattern.proofs.PruneSteps.{turn_of}
 use Rattle.lp_pattern.proofs.Refits.{Any, scanned_clean}

@@ -10,32 +10,9 @@ use Rattle.lp_model.specs.Scan.{Side, is_side, allows_head, Scanned, broken, who
 use Rattle.lp_pattern.specs.Seen.{weak_step}
 use Rattle.lp_pattern.specs.TopLooks.{top_normal, top_look, scan_top, scan_seen, scan_tops}
 use Rattle.lp_pattern.proofs.Looking.{weak_head}
-use Rattle.lp_pattern.proofs.MoreFuel.{Below, below_none, below_same, below_then, below_map}
+use Rattle.lp_unify_laws.proofs.MoreSteps.Scans.{Below, below_none, below_same, below_then, below_map, pattern_more}
 use Rattle.lp_pattern.proofs.Compares.{from_bind, from_map}
 use Rattle.lp_pattern.proofs.Naming.{opened_normal, opened_steps}
-
--- more steps for the test for a pattern
-pub beta_more : (n m : ℕ) → n ≤ m → (t : Term) → Below (beta_normal n t) (beta_normal m t)
-beta_more zero m h t = below_none (beta_normal m t)
-beta_more (suc n) zero h t = absurd (omega (arith, h))
-beta_more (suc n) (suc m) h t = elim (leftmost_step t) as (λ o. Below (elim o [ None ↦ Some t | Some s ↦ beta_normal n s ]) (elim o [ None ↦ Some t | Some s ↦ beta_normal m s ])) [
-  | None ↦ below_same (Some t)
-  | Some s ↦ beta_more n m (omega (arith, h)) s
-]
-
-eigens_more : (n m : ℕ) → n ≤ m → (ts : List Term) → Below (as_eigens n ts) (as_eigens m ts)
-eigens_more n m h [] = below_same _
-eigens_more n m h (t ∷ ts) =
-    below_then (as_eigen n t) (as_eigen m t) _ _ (below_map (beta_normal n t) (beta_normal m t) _ (beta_more n m h t)) λ o. go o (eigens_more n m h ts)
-  where
-    go : (o : Option ℕ) → Below (as_eigens n ts) (as_eigens m ts) →
-        Below (elim o as (λ z. Option (Option (List ℕ))) [ None ↦ Some None | Some k ↦ option_map (option_map (λ ks. k ∷ ks)) (as_eigens n ts) ])
-        (elim o as (λ z. Option (Option (List ℕ))) [ None ↦ Some None | Some k ↦ option_map (option_map (λ ks. k ∷ ks)) (as_eigens m ts) ])
-    go None ih = below_same _
-    go (Some k) ih = below_map (as_eigens n ts) (as_eigens m ts) _ ih
-
-pub pattern_more : (n m : ℕ) → n ≤ m → (l : ℕ) (ts : List Term) → Below (pattern_of n l ts) (pattern_of m l ts)
-pattern_more n m h l ts = below_map (as_eigens n ts) (as_eigens m ts) _ (eigens_more n m h ts)
 
 -- a look is a number of head steps to a term that takes none
 pub record Reached (n : ℕ) (t : Term) (v : Term) : Type 0 where

@@ -11,7 +11,8 @@ use Rattle.lp_pattern.specs.Settling.{Settles, settles_abs, settles_rigid, settl
 use Rattle.lp_pattern.specs.TopLooks.{top_look}
 use Rattle.lp_pattern.proofs.Compares.{from_bind, from_map}
 use Rattle.lp_pattern.proofs.Naming.{opened_normal, opened_steps}
-use Rattle.lp_pattern.proofs.TopScans.{pattern_more, from_look, Tops, at_top, at_abs, split, together, sooner, body_normal, seen_top}
+use Rattle.lp_unify_laws.proofs.MoreSteps.Scans.{pattern_more}
+use Rattle.lp_pattern.proofs.TopScans.{from_look, Tops, at_top, at_abs, split, together, sooner, body_normal, seen_top}
 
 abbrev by_pattern : ℕ → (k y m : ℕ) → List Term → Option (List ℕ) → Option Term
 by_pattern n k y m ts o = elim o [

@@ -19,7 +19,8 @@ use Rattle.lp_pattern.specs.Under.{IsReading, under, below}
 use Rattle.lp_pattern.specs.Growing.{IsPairOf}
 use Rattle.lp_pattern.specs.Seen.{IsHead, IsLooked, IsReachedWithin, seen}
 use Rattle.lp_pattern.specs.Comparing.{IsRest, IsComparedTo, IsPassed, IsStep, IsHeadCompared, IsHeadPassed, IsAbstraction, are_apart, compare_pairs, pair_at, pair_under, opened_pair, pairs_under, pairs_of}
-use Rattle.lp_pattern.proofs.MoreFuel.{Below, below_same, below_then, all_pairs}
+use Rattle.lp_unify_laws.proofs.MoreSteps.Scans.{Below, below_same, below_then}
+use Rattle.lp_pattern.proofs.PairsCompared.{all_pairs}
 use Rattle.lp_pattern.proofs.Compares.{reached_compare, rest_in_front, first_differs, rigid_same, rigid_types_differ, rigid_apart, flexible_same, flexible_apart, mixed_left, mixed_right, opened_left, opened_right, rest_then, rest_compared}
 use Rattle.lp_pattern.proofs.Refused.{passed_in_front, passed_before, rest_passed, none_left, heads_passed}
 use Rattle.std.proofs.lemmas.List.Elements.{All-nil, All-head, All-tail, All-cons}

@@ -12,37 +12,12 @@ use Rattle.lp_type_laws.specs.Units.{units, spent, ended, solve_within}
 use Rattle.lp_type_laws.proofs.Counts.{solve_turn, after_turn}
 use Rattle.lp_model.specs.Types.{TypePair, TypeBinding, put_types, put_in_pair, TypeVerdict, differ, bound, type_rule, TypeOutcome, none, solve_types}
 use Rattle.lp_model.specs.Types as model
-use Rattle.lp_pattern.specs.Filling.{equations, units_in}
-use Rattle.lp_pattern.proofs.TypeTurns.{as_turn, turn_is, cost_is}
-
-equations_append : (ps qs : List TypePair) → equations (ps ++ qs) ≡ equations ps ++ equations qs
-equations_append [] qs = refl
-equations_append (p ∷ ps) qs = ap (λ es. equation p.left p.right ∷ es) (equations_append ps qs)
-
-equations_put : (b : TypeBinding) (ps : List TypePair) → equations (map (put_in_pair b) ps) ≡ map (put_equation (one b.id b.value)) (equations ps)
-equations_put b [] = refl
-equations_put b (p ∷ ps) = ap (λ es. equation (instance (one b.id b.value) p.left) (instance (one b.id b.value) p.right) ∷ es) (equations_put b ps)
-
--- the definition, behind the verdict on its first pair
-abbrev pub behind : ℕ → List TypePair → List TypeBinding → ℕ → TypeVerdict → Option TypeOutcome
-behind n ps made u differ = Some (none u)
-behind n ps made u (model.parts qs) = solve_types n (qs ++ ps) made u
-behind n ps made u (bound b) = solve_types n (map (put_in_pair b) ps) (made ++ b ∷ []) u
-
-pub definition_turn : (n : ℕ) (p : TypePair) (ps : List TypePair) (made : List TypeBinding) (u : ℕ) →
-    solve_types (suc n) (p ∷ ps) made u ≡ behind n ps made (suc u + (type_rule p.left p.right).units) (type_rule p.left p.right).verdict
-definition_turn n p ps made u = go (type_rule p.left p.right).verdict
-  where
-    go : (v : TypeVerdict) → (elim v [ differ ↦ Some (none (suc u + (type_rule p.left p.right).units)) | model.parts qs ↦ solve_types n (qs ++ ps) made (suc u + (type_rule p.left p.right).units) | bound b ↦ solve_types n (map (put_in_pair b) ps) (made ++ b ∷ []) (suc u + (type_rule p.left p.right).units) ]) ≡ behind n ps made (suc u + (type_rule p.left p.right).units) v
-    go differ = refl
-    go (model.parts qs) = refl
-    go (bound b) = refl
+use Rattle.lp_unify_laws.specs.TypeSolutions.{equations}
+use Rattle.lp_pattern.specs.Filling.{units_in}
+use Rattle.lp_unify_laws.proofs.TypeTurns.{as_turn, turn_is, cost_is, equations_append, equations_put, behind, definition_turn, solving_turn}
 
 abbrev rest_units : ℕ → Turn → ℕ
 rest_units n t = elim t [ clashes ↦ 0 | goes fs ι ↦ units n fs ι ]
-
-solving_turn : (m : ℕ) (p : TypePair) (ps : List TypePair) (θ : ℕ → Ty) → solve (suc m) (equations (p ∷ ps)) θ ≡ after_turn m (as_turn (type_rule p.left p.right).verdict (equations ps) θ)
-solving_turn m p ps θ = solve_turn m (equation p.left p.right) (equations ps) θ ∙ ap (after_turn m) (turn_is p.left p.right (equations ps) θ)
 
 units_turn : (m : ℕ) (p : TypePair) (ps : List TypePair) (θ : ℕ → Ty) →
     units (suc m) (equations (p ∷ ps)) θ ≡ suc (type_rule p.left p.right).units + rest_units m (as_turn (type_rule p.left p.right).verdict (equations ps) θ)

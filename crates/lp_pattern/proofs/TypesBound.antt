@@ -3,7 +3,7 @@ use Rattle.std.proofs.Common.{◌≡◌, ℕ, zero, suc, ◌+◌, List, [], ◌�
 use Rattle.std.specs.Prelude.{nat_lt}
 use Rattle.lp_calculus.specs.Types.{Ty, Tys, var, param, con, arrow, no_types, types, instance, instances}
 use Rattle.lp_model.specs.Types.{TypePair, TypeBinding, one_type, put_type, put_types, put_in_pair, Visited, visit, visit_all, and_then, TypeVerdict, TypeRuled, differ, parts, bound, parts_of, bind_type, plainly, of_parts, type_rule, solved, solve_types}
-use Rattle.lp_pattern.proofs.TypeSolving.{behind, definition_turn}
+use Rattle.lp_unify_laws.proofs.TypeTurns.{behind, definition_turn}
 
 -- each variable of a type is among the given ones
 abbrev mutual

@@ -24,7 +24,8 @@ use Rattle.lp_pattern.specs.declared.fault.PatternRefusal.{PatternRefusal}
 use Rattle.lp_pattern.specs.Refusing.{IsOfEquations}
 use Rattle.lp_pattern.specs.Under.{TypeIs, AreTypes}
 use Rattle.lp_pattern.specs.Reading.{type_pairs_of}
-use Rattle.lp_pattern.specs.Filling.{equations, AreFilled, AreKnown, IsStill, AreSolved, IsSolvedIn, IsUnsolvedIn, units_in, held, equation_under, AreIn}
+use Rattle.lp_unify_laws.specs.TypeSolutions.{equations}
+use Rattle.lp_pattern.specs.Filling.{AreFilled, AreKnown, IsStill, AreSolved, IsSolvedIn, IsUnsolvedIn, units_in, held, equation_under, AreIn}
 use Rattle.lp_pattern.specs.declared.fill_types.TypesFilled.{TypesFilled}
 use Rattle.lp_pattern.proofs.FilledTypes.{types_later}
 use Rattle.lp_pattern.proofs.TypesBound.{solved_good}

@@ -16,7 +16,7 @@ use Rattle.lp_pattern.specs.Reading.{side_of}
 use Rattle.lp_pattern.specs.Ruling.{view, IsSideOf, IsNoSide, IsSeenPair, IsJudged, IsRuledOut}
 use Rattle.lp_pattern.specs.Seen.{weak_step, IsLooked}
 use Rattle.lp_pattern.specs.Under.{under}
-use Rattle.lp_pattern.proofs.MoreFuel.{Below}
+use Rattle.lp_unify_laws.proofs.MoreSteps.Scans.{Below}
 use Rattle.lp_pattern.proofs.Stacks.{under_kept}
 use Rattle.lp_pattern.proofs.Judging.{judged_below, out_below, left_side, right_side, view_kept, all_under, as_variable, variables_same, variables_differ, differ_out, compare_out, four_open, four_half, four_joined, four_left_out, four_right_out, length_map}
 

@@ -6,7 +6,7 @@ use Rattle.lp_model.specs.Look.{Look, an_abs, rigid, flexible, pattern_of}
 use Rattle.lp_model.specs.Scan.{Side, is_side, allows_head, Scanned, broken, whole, above, beside, scanned_pattern}
 use Rattle.lp_pattern.specs.TopLooks.{top_look, scan_top, scan_seen, scan_tops}
 use Rattle.lp_pattern.specs.Visiting.{Part, scan_parts}
-use Rattle.lp_pattern.proofs.MoreFuel.{Below, below_none, below_same, below_then, below_map}
+use Rattle.lp_unify_laws.proofs.MoreSteps.Scans.{Below, below_none, below_same, below_then, below_map}
 use Rattle.lp_pattern.proofs.TopScans.{top_is}
 
 -- more turns change no answer

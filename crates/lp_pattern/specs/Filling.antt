@@ -34,10 +34,6 @@ AreFilled b θ done = (i : ℕ) (j : TypeId) → get nat_eq done.made i ≡ Some
 abbrev pub HaveBecome : Nodes → (ℕ → Ty) → (olds news : List TypeId) → Type 0
 HaveBecome b θ olds news = map (λ t. type_tree b t.0) news ≡ map (λ t. instance θ (type_tree b t.0)) olds
 
-abbrev pub equations : List TypePair → List Equation
-equations [] = []
-equations (p ∷ ps) = equation p.left p.right ∷ equations ps
-
 -- a pair of types, and what it is under the bindings
 abbrev pub held : Nodes → Pair → Equation
 held b p = equation (type_tree b p.left.0) (type_tree b p.right.0)

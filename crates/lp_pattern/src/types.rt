@@ -15,7 +15,8 @@ ghost use Rattle.lp_pattern.specs.Reading.{paired, type_pairs_of};
 ghost use Rattle.lp_pattern.specs.Comparing.{IsLoose, HasSameTop, IsComparedTo, IsPassed};
 ghost use Rattle.lp_pattern.specs.Growing.{Grows};
 ghost use Rattle.lp_type_unify.specs.Reading.{IsPair, read_pairs};
-ghost use Rattle.lp_pattern.specs.Filling.{equations, IsStill, AreSolved, IsSolvedIn, IsUnsolvedIn};
+ghost use Rattle.lp_unify_laws.specs.TypeSolutions.{equations};
+ghost use Rattle.lp_pattern.specs.Filling.{IsStill, AreSolved, IsSolvedIn, IsUnsolvedIn};
 
 use crate::bindings::Bindings;
 use crate::fault::PatternRefusal;

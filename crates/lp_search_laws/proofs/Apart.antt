@@ -9,9 +9,9 @@ use Rattle.lp_model.specs.Flat.{Clause, Clauses, no_clauses, clauses, clause_lis
 use Rattle.lp_model.specs.Flatten.{ClauseFormula}
 use Rattle.lp_standard.specs.Schemes.{IsStandard}
 use Rattle.lp_model.specs.Proofs.{Declared, IsFormula, IsAtomHead, Focusable, FTake}
-use Rattle.lp_laws.proofs.Formulas.{parts}
-use Rattle.lp_laws.proofs.Roots.{connective}
-use Rattle.lp_laws.proofs.FocusRoots.{truth_focus, both_focus}
+use Rattle.lp_proof_laws.proofs.Uniform.Formulas.{parts}
+use Rattle.lp_proof_laws.proofs.Uniform.Roots.{connective}
+use Rattle.lp_proof_laws.proofs.Uniform.FocusRoots.{truth_focus, both_focus}
 
 -- a change of terms that keeps truth and conjunctions
 pub record KeepsBoth (f : Term → Term) : Type 0 where

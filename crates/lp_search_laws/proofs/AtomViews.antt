@@ -21,8 +21,8 @@ use Rattle.lp_model.specs.Values.{evaluate}
 use Rattle.lp_model.specs.Answers.{Query, AnswerTyping, Closes, over}
 use Rattle.lp_model.specs.Proofs.{Declared, IsFormula, IsAtomHead, Provable, Rooted, trivially, both_sides, left_side, right_side, at_witness, for_all, under_assumption, equally, by_arithmetic, by_clause}
 use Rattle.lp_model.specs.Search.{with_goals, look_atom, look_constant, tries, goal_key, equated, assigned, compared}
-use Rattle.lp_laws.proofs.Forms.{apply_arguments}
-use Rattle.lp_laws.proofs.Roots.{rooted, head_apply}
+use Rattle.lp_proof_laws.proofs.Uniform.Forms.{apply_arguments}
+use Rattle.lp_proof_laws.proofs.Uniform.Roots.{rooted, head_apply}
 use Rattle.lp_search_laws.specs.Holds.{Holds}
 use Rattle.lp_search_laws.specs.Clauses.{clauses_at}
 use Rattle.lp_search_laws.specs.Branches.{StandFor, IsRightView, going}

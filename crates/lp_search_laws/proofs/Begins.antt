@@ -2,6 +2,7 @@
 use Rattle.std.proofs.Common.{◌≡◌, ℕ, zero, suc, ◌+◌, ◌-◌, ◌≤◌, ◌<◌, List, [], ◌∷◌, ◌++◌, map, length, reverse, Some, refl, sym, ap, ◌∙◌, subst as transport, arith, append-nil}
 use Rattle.std.specs.Prelude.{slice_get, option_map}
 use Rattle.std.proofs.lemmas.List.{length-reverse, length-map}
+use Rattle.lp_unify_laws.specs.TypesBelow.{IsTypeBelow, AreTysBelow, AreTypesBelow}
 use Rattle.lp_calculus.specs.Types.{Ty, Tys, var, param as type_param, con, arrow, no_types, types, instance, instances}
 use Rattle.lp_calculus.specs.Term.{Term, Atom, atom, constant, integer, text, eigen, logic, param}
 use Rattle.lp_calculus.specs.Fill.{Within}
@@ -21,12 +22,12 @@ use Rattle.lp_model.specs.Proofs.{Declared, under, IsSentence, Provable}
 use Rattle.lp_model.specs.Answers.{Query, Variable, type_of, over, IsPrefix, IsScopedAtom, AreTypedValues, IsWellFormed, Instance, IsProvable, filled}
 use Rattle.lp_model.specs.Branch.{Branch, Go, entries}
 use Rattle.lp_model.specs.Search.{vars_from, types_from, start}
-use Rattle.lp_laws.proofs.Formulas.{typed_more}
-use Rattle.lp_laws.proofs.Openings.{instantiate_subst}
+use Rattle.lp_proof_laws.proofs.Uniform.Formulas.{typed_more}
+use Rattle.lp_proof_laws.proofs.Uniform.Openings.{instantiate_subst}
 use Rattle.lp_unify_laws.proofs.Looks.{beta_reduces}
 use Rattle.lp_unify_laws.proofs.TypedInstances.{get_map}
 use Rattle.lp_search_laws.specs.Holds.{Holds, IsTyped}
-use Rattle.lp_search_laws.specs.Started.{IsTypeBelow, AreTypesInBelow, AreTypesBelow, IsQueryAtom, IsTypedQuery, IsTypedSentence, clause_formula, AreFlattened, outermost}
+use Rattle.lp_search_laws.specs.Started.{IsQueryAtom, IsTypedQuery, IsTypedSentence, AreFlattened, outermost}
 use Rattle.lp_search_laws.specs.Clauses.{sentence_of, clauses_at}
 use Rattle.lp_search_laws.specs.Branches.{IsPlainTerm, IsClause, IsProgramTyped, IsTypedBranch, IsPlainVariable, SolvesBranch}
 use Rattle.lp_search_laws.specs.Begun.{first_branch, first_typing}
@@ -34,7 +35,8 @@ use Rattle.lp_search_laws.proofs.Opened.{goals_instantiate}
 use Rattle.lp_search_laws.proofs.Fronts.{MayStand, each_at, entries_hold, hold_entries}
 use Rattle.lp_search_laws.proofs.FlatViews.{goals_stand}
 use Rattle.lp_search_laws.proofs.TypedParts.{goals_put, MayPut}
-use Rattle.lp_search_laws.proofs.Programs.{bind_some, map_some, flattened, program_reads_back}
+use Rattle.lp_lemmas.proofs.Options.{and_then_some, option_map_some}
+use Rattle.lp_search_laws.proofs.Programs.{flattened, program_reads_back}
 use Rattle.lp_search_laws.proofs.Queries.{get_reverse, term_shut, at_closed, query_starts}
 use Rattle.lp_search_laws.proofs.TypedFlats.{IsOver, AreFine, ClausesFine, goals_fine, clauses_fine, first_of}
 
@@ -109,7 +111,7 @@ mutual
   type_stays f k h (con c ts) w = ap (con c) (types_stay f k h ts w)
   type_stays f k h (arrow a b) w = λ i. arrow (type_stays f k h a w.0 i) (type_stays f k h b w.1 i)
 
-  types_stay : (f : ℕ → Ty) (k : ℕ) → ((i : ℕ) → i < k → f i ≡ var i) → (ts : Tys) → AreTypesInBelow k ts → instances f ts ≡ ts
+  types_stay : (f : ℕ → Ty) (k : ℕ) → ((i : ℕ) → i < k → f i ≡ var i) → (ts : Tys) → AreTysBelow k ts → instances f ts ≡ ts
   types_stay f k h no_types w = refl
   types_stay f k h (types t ts) w = λ i. types (type_stays f k h t w.0 i) (types_stay f k h ts w.1 i)
 
@@ -149,7 +151,7 @@ module _ (d : Declared) (std : IsStandard d) (m : ℕ) (q : Query) (gs : Goals) 
 
   fine : AreFine d q.type_vars (reverse q.vars) [] gs
   fine =
-      let b = bind_some (beta_normal m q.formula) (λ s. flat_goal m d [] s no_goals) gs e in
+      let b = and_then_some (beta_normal m q.formula) (λ s. flat_goal m d [] s no_goals) gs e in
       let r = beta_reduces m q.formula b.0 b.1 in
       let w = transport (λ z. Within (IsQueryAtom q.type_vars) z q.formula) (sym (length-reverse q.vars)) t.within in
       goals_fine d std q.type_vars m [] b.0 gs (reverse q.vars) b.2 (record { typed = typed_reduces (atom_type (under d [])) (reverse q.vars) r o_type t.typed; within = within_reduces (IsQueryAtom q.type_vars) (length (reverse q.vars)) r w })
@@ -159,7 +161,7 @@ module _ (d : Declared) (std : IsStandard d) (m : ℕ) (q : Query) (gs : Goals) 
 
   scope_at : (i : ℕ) → Within (IsScopedAtom V []) 0 (put_in i)
   scope_at i v w =
-      let m = map_some (slice_get q.vars (length q.vars - suc i)) outermost v (sym (get_map outermost q.vars (length q.vars - suc i)) ∙ w) in
+      let m = option_map_some (slice_get q.vars (length q.vars - suc i)) outermost v (sym (get_map outermost q.vars (length q.vars - suc i)) ∙ w) in
       transport (λ z. IsPrefix z.scope []) m.2 (record { rest = []; is = refl })
 
   goals_typed_in : IsTyped d [] V (formula_of_goals (instantiate_goals put_in gs)) o_type
@@ -205,18 +207,18 @@ module _ (d : Declared) (std : IsStandard d) (m : ℕ) (q : Query) (gs : Goals) 
 
   -- solutions
   module _ (F : List ClauseFormula) (P : List Clause) (s : EachOf (IsTypedSentence d) F) (x : AreFlattened m d F P) (i : Instance) where
-    same_sentence : (P : List Clause) → map clause_formula P ≡ map sentence_of P
+    same_sentence : (P : List Clause) → map sentence_of P ≡ map sentence_of P
     same_sentence [] = refl
-    same_sentence (clause k vs h b ∷ P) = ap (λ z. clause_formula (clause k vs h b) ∷ z) (same_sentence P)
+    same_sentence (clause k vs h b ∷ P) = ap (λ z. sentence_of (clause k vs h b) ∷ z) (same_sentence P)
 
-    program_at : (c : Closing) → map clause_formula P ≡ clauses_at P [] c
+    program_at : (c : Closing) → map sentence_of P ≡ clauses_at P [] c
     program_at c = same_sentence P ∙ sym (append-nil (map sentence_of P))
 
-    to_program : (G : Term) → Provable d [] F G → Provable d [] (map clause_formula P) G
-    to_program G p = transport (λ z. Provable d [] z G) (append-nil (map clause_formula P)) ((program_reads_back d std m F P (each_sentence d F s) x [] [] G).0 (transport (λ z. Provable d [] z G) (sym (append-nil F)) p))
+    to_program : (G : Term) → Provable d [] F G → Provable d [] (map sentence_of P) G
+    to_program G p = transport (λ z. Provable d [] z G) (append-nil (map sentence_of P)) ((program_reads_back d std m F P (each_sentence d F s) x [] [] G).0 (transport (λ z. Provable d [] z G) (sym (append-nil F)) p))
 
-    from_program : (G : Term) → Provable d [] (map clause_formula P) G → Provable d [] F G
-    from_program G p = transport (λ z. Provable d [] z G) (append-nil F) ((program_reads_back d std m F P (each_sentence d F s) x [] [] G).1 (transport (λ z. Provable d [] z G) (sym (append-nil (map clause_formula P))) p))
+    from_program : (G : Term) → Provable d [] (map sentence_of P) G → Provable d [] F G
+    from_program G p = transport (λ z. Provable d [] z G) (append-nil F) ((program_reads_back d std m F P (each_sentence d F s) x [] [] G).1 (transport (λ z. Provable d [] z G) (sym (append-nil (map sentence_of P))) p))
 
     abbrev first : Branch
     first = first_branch q.type_vars (length q.vars) gs
@@ -229,16 +231,16 @@ module _ (d : Declared) (std : IsStandard d) (m : ℕ) (q : Query) (gs : Goals) 
 
     pub solves : IsProvable d F q i → SolvesBranch d P q i (first_typing q gs) first
     solves p =
-        let h = (query_starts d std m q gs t e (map clause_formula P) i).0 (record { types = p.types; types_closed = p.types_closed; values = p.values; proved = to_program (filled q i) p.proved }) in
+        let h = (query_starts d std m q gs t e (map sentence_of P) i).0 (record { types = p.types; types_closed = p.types_closed; values = p.values; proved = to_program (filled q i) p.proved }) in
         record {
           query = record { types = p.types; types_closed = p.types_closed; values = p.values };
           answer = record { closing = h.closing; closes = h.closes; solves = tt; types = h.types; values = h.values };
-          proved = entries_hold d P h.closing [] [] 0 0 goals_in (at_program h.closing (map clause_formula P) (clauses_at P [] h.closing) (program_at h.closing) goals_in h.holds);
+          proved = entries_hold d P h.closing [] [] 0 0 goals_in (at_program h.closing (map sentence_of P) (clauses_at P [] h.closing) (program_at h.closing) goals_in h.holds);
         }
 
     pub proves_it : SolvesBranch d P q i (first_typing q gs) first → IsProvable d F q i
     proves_it s =
         let c = s.answer.closing in
-        let h = at_program c (clauses_at P [] c) (map clause_formula P) (sym (program_at c)) goals_in (hold_entries d P c [] [] 0 0 goals_in s.proved) in
-        let p = (query_starts d std m q gs t e (map clause_formula P) i).1 s.query.values (record { closing = c; closes = s.answer.closes; types = s.answer.types; values = s.answer.values; holds = h }) in
+        let h = at_program c (clauses_at P [] c) (map sentence_of P) (sym (program_at c)) goals_in (hold_entries d P c [] [] 0 0 goals_in s.proved) in
+        let p = (query_starts d std m q gs t e (map sentence_of P) i).1 s.query.values (record { closing = c; closes = s.answer.closes; types = s.answer.types; values = s.answer.values; holds = h }) in
         record { types = p.types; types_closed = p.types_closed; values = p.values; proved = from_program (filled q i) p.proved }

@@ -12,9 +12,9 @@ use Rattle.lp_standard.specs.Schemes.{IsStandard}
 use Rattle.lp_model.specs.Flat.{Clause, clause}
 use Rattle.lp_model.specs.Flatten.{ClauseFormula}
 use Rattle.lp_model.specs.Proofs.{Declared, IsFormula, IsAtomHead, Back, Provable, Rooted, trivially, both_sides, left_side, right_side, at_witness, for_all, under_assumption, equally, by_arithmetic, by_clause}
-use Rattle.lp_laws.proofs.Contexts.{get_front, get_back, get_split}
-use Rattle.lp_laws.proofs.Forms.{apply_arguments}
-use Rattle.lp_laws.proofs.Roots.{rooted}
+use Rattle.lp_proof_laws.proofs.Uniform.Contexts.{get_front, get_back, get_split}
+use Rattle.lp_proof_laws.proofs.Uniform.Forms.{apply_arguments}
+use Rattle.lp_proof_laws.proofs.Uniform.Roots.{rooted}
 use Rattle.lp_search_laws.specs.Holds.{Holds}
 use Rattle.lp_search_laws.specs.Clauses.{with_own, Serves, IsInFocus, sentence_of, assumed_as, clauses_at, IsProgramClause, IsAssumedClause}
 use Rattle.lp_search_laws.proofs.ClosedClauses.{atom_closed}

@@ -2,6 +2,7 @@
 -- nothing in them, and they are formulas under a closing.
 use Rattle.std.proofs.Common.{◌≡◌, ℕ, zero, suc, ◌<◌, List, [], ◌∷◌, ◌++◌, map, ◌∙◌, refl, sym, ap, subst as transport, Bool, true, false}
 use Rattle.std.specs.Prelude.{slice_index_or}
+use Rattle.lp_unify_laws.specs.TypesBelow.{IsTypeBelow, AreTysBelow, AreTypesBelow}
 use Rattle.lp_calculus.specs.Types.{Ty, Tys, var, param as type_param, con, arrow, no_types, types, instance, instances}
 use Rattle.lp_calculus.specs.Term.{Term, Atom, index, atom, abs, app, shift, constant, integer, text, eigen, logic, param}
 use Rattle.lp_calculus.specs.Fill.{fill, raise, at_variables}
@@ -17,7 +18,6 @@ use Rattle.lp_model.specs.Flat.{Goal, Atomic, Cut, Either, Exists, Forall, Assum
 use Rattle.lp_model.specs.Proofs.{Declared, IsFormula, IsAtomHead}
 use Rattle.lp_model.specs.Answers.{Variable, Closes}
 use Rattle.lp_search_laws.specs.Holds.{IsTyped}
-use Rattle.lp_search_laws.specs.Started.{IsTypeBelow, AreTypesInBelow, AreTypesBelow}
 use Rattle.lp_search_laws.specs.Branches.{IsPlainAtom, IsClauseHead, IsGoal, AreGoals, IsClause, AreClauses, IsAssumable, IsProgramTyped}
 use Rattle.lp_search_laws.specs.Clauses.{IsProgramClause, IsAssumedClause}
 use Rattle.lp_search_laws.proofs.Formed.{formula_at}
@@ -83,7 +83,7 @@ module _ (k : ℕ) (θ κ : ℕ → Ty) (same_at : (i : ℕ) → i < k → θ i 
     type_agrees (con c ts) h = ap (con c) (types_agree ts h)
     type_agrees (arrow a b) h = let e = type_agrees a h.0 in let f = type_agrees b h.1 in λ i. arrow (e i) (f i)
 
-    types_agree : (ts : Tys) → AreTypesInBelow k ts → instances θ ts ≡ instances κ ts
+    types_agree : (ts : Tys) → AreTysBelow k ts → instances θ ts ≡ instances κ ts
     types_agree no_types h = refl
     types_agree (types t ts) h = let e = type_agrees t h.0 in let f = types_agree ts h.1 in λ i. types (e i) (f i)
 

@@ -16,7 +16,7 @@ use Rattle.lp_standard.specs.Schemes.{IsStandard}
 use Rattle.lp_model.specs.Flat.{Clause, clause, formula_of_clause}
 use Rattle.lp_model.specs.Flatten.{ClauseFormula}
 use Rattle.lp_model.specs.Proofs.{Declared, IsFormula, IsAtomHead, Focusable}
-use Rattle.lp_laws.proofs.Formulas.{formula_eigens, closed_instance}
+use Rattle.lp_proof_laws.proofs.Uniform.Formulas.{formula_eigens, closed_instance}
 use Rattle.lp_search_laws.specs.Clauses.{with_own, Applies, Serves, IsInFocus, sentence_of, assumed_as, IsProgramClause, IsAssumedClause}
 use Rattle.lp_search_laws.proofs.InFocus.{focus_applies, applies_focus}
 

@@ -25,8 +25,8 @@ use Rattle.lp_unify_laws.proofs.Scopes.{in_scope, Grows, typed_grows, typed_fill
 use Rattle.lp_unify_laws.proofs.TypedBindings.{HasAtomType, IsAtomOf, typed_atoms}
 use Rattle.lp_unify_laws.proofs.Trimmed.{closes_typed}
 use Rattle.lp_unify_laws.proofs.Witnesses.{IsGroundAtom, witness_ground}
-use Rattle.lp_laws.proofs.Formulas.{typed_more, atom_more, closed_atom_more}
-use Rattle.lp_laws.proofs.Openings.{instantiate_subst}
+use Rattle.lp_proof_laws.proofs.Uniform.Formulas.{typed_more, atom_more, closed_atom_more}
+use Rattle.lp_proof_laws.proofs.Uniform.Openings.{instantiate_subst}
 use Rattle.lp_search_laws.specs.Holds.{IsTyped}
 
 -- types

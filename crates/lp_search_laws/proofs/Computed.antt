@@ -15,7 +15,7 @@ use Rattle.lp_standard.specs.Schemes.{IsStandard, plain, over_one, on_two, entry
 use Rattle.lp_model.specs.Flatten.{ClauseFormula}
 use Rattle.lp_model.specs.Values.{Value, Number, Bytes, Outcome, Is, Faults, bound, number, divided, remainder, is_zero, binary, unary, is_binary, is_two_place, is_one_place, evaluate, HasValue, term_of, ordered}
 use Rattle.lp_model.specs.Proofs.{Declared, under, IsFormula, IsArith, Provable, Rooted, trivially, both_sides, left_side, right_side, at_witness, for_all, under_assumption, equally, by_arithmetic, by_clause, Arith}
-use Rattle.lp_laws.proofs.Roots.{rooted}
+use Rattle.lp_proof_laws.proofs.Uniform.Roots.{rooted}
 use Rattle.lp_search_laws.specs.Holds.{Holds, IsSameGoal}
 use Rattle.lp_search_laws.proofs.Connectives.{equal_holds}
 use Rattle.lp_search_laws.proofs.Expressions.{Expression, of_number, of_text, of_two, of_one, expression, evaluated, value_closed, one_value}
@@ -247,10 +247,6 @@ one_of_map : (f : Ty → Ty) (ts : List Ty) (U : Ty) → map f ts ≡ U ∷ [] �
 one_of_map f [] U e = absurd (cc)
 one_of_map f (T ∷ []) U e = let q : f T ≡ U = cc in (T, refl, q)
 one_of_map f (T ∷ W ∷ ts) U e = absurd (cc)
-
-none_of_map : (f : Ty → Ty) (ts : List Ty) → map f ts ≡ [] → ts ≡ []
-none_of_map f [] e = refl
-none_of_map f (T ∷ ts) e = absurd (cc)
 
 pub arrows_same : (A B U : Ty) → arrow A (arrow B o_type) ≡ on_two U o_type → (A ≡ U) × (B ≡ U)
 arrows_same A B U e = let p : A ≡ U = cc in let q : B ≡ U = cc in (p, q)

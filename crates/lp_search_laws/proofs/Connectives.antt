@@ -12,11 +12,11 @@ use Rattle.lp_standard.specs.Connectives.{two, pi_of, sigma_of, body_of}
 use Rattle.lp_model.specs.Flatten.{ClauseFormula}
 use Rattle.lp_search_laws.specs.Holds.{Holds, with_value, IsUnused, next_eigen}
 use Rattle.lp_search_laws.proofs.Closed.{closed_reduces, formula_reduces, body_opens, unused_closed, value_at}
-use Rattle.lp_laws.proofs.Heads.{both_root, either_root, sigma_root, pi_root, implied_root}
-use Rattle.lp_laws.proofs.Roots.{rooted, sigma_type, pi_type}
-use Rattle.lp_laws.proofs.Uniforms.{by_conversion}
-use Rattle.lp_laws.proofs.Formulas.{quantified, at_eigen}
-use Rattle.lp_laws.proofs.Formulas as formulas
+use Rattle.lp_proof_laws.proofs.Uniform.Heads.{both_root, either_root, sigma_root, pi_root, implied_root}
+use Rattle.lp_proof_laws.proofs.Uniform.Roots.{rooted, sigma_type, pi_type}
+use Rattle.lp_proof_laws.proofs.Uniform.Uniforms.{by_conversion}
+use Rattle.lp_proof_laws.proofs.Uniform.Formulas.{quantified, at_eigen}
+use Rattle.lp_proof_laws.proofs.Uniform.Formulas as formulas
 
 -- what a formula reduces to is provable exactly where it is
 pub reduces_on : (d : Declared) (E : List Ty) (P : List ClauseFormula) {t u : Term} → IsFormula d E t → ReducesTo t u → Provable d E P t → Provable d E P u

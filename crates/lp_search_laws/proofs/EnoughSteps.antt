@@ -24,13 +24,13 @@ use Rattle.lp_model.specs.Search.{goal_key, key_of}
 use Rattle.lp_unify_laws.specs.Solutions.{instance_typing}
 use Rattle.lp_unify_laws.proofs.TypedInstances.{typings_have_instances, pairs_have_instances}
 use Rattle.lp_unify_laws.proofs.Looks.{head_reduces}
-use Rattle.lp_laws.proofs.Forms.{apply_arguments}
-use Rattle.lp_laws.proofs.MoreSteps.{Below, below_map, below_same, head_normal_more, beta_normal_more}
-use Rattle.lp_laws.proofs.MoreFuel.{solve_more}
-use Rattle.lp_endings.proofs.Typed.{typed_weighs}
-use Rattle.lp_endings.proofs.Looks.{head_comes, normal_comes}
-use Rattle.lp_endings.proofs.RunsCome.{solve_comes}
-use Rattle.lp_endings.proofs.PruningComes.{prunes_typed}
+use Rattle.lp_proof_laws.proofs.Uniform.Forms.{apply_arguments}
+use Rattle.lp_unify_laws.proofs.MoreSteps.Scans.{Below, below_map, below_same, head_normal_more, beta_normal_more}
+use Rattle.lp_unify_laws.proofs.MoreSteps.Solving.{solve_more}
+use Rattle.lp_unify_laws.proofs.NormalForms.Typed.{typed_weighs}
+use Rattle.lp_unify_laws.proofs.Termination.Looks.{head_comes, normal_comes}
+use Rattle.lp_unify_laws.proofs.Termination.Runs.{solve_comes}
+use Rattle.lp_unify_laws.proofs.Termination.Pruning.{prunes_typed}
 use Rattle.lp_search_laws.specs.Holds.{IsTyped, equation}
 use Rattle.lp_search_laws.specs.Branches.{BranchTyping, IsTypedBranch, AreTypedEntries}
 use Rattle.lp_search_laws.specs.Enough.{IsFound, CanEquate, CanAssign, CallHasEnough, HeadHasEnough, AtomHasEnough, TermHasEnough, HasEnough}

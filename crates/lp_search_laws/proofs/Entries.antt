@@ -22,10 +22,10 @@ use Rattle.lp_unify_laws.proofs.Decomposing.{put_types_satisfied}
 use Rattle.lp_unify_laws.proofs.TypedInstances.{length_map, side_instance, scoped_instance}
 use Rattle.lp_unify_laws.proofs.TypedBindings.{IsTypedTerm, IsAtomOf, term_atoms, term_more, put_all_typed}
 use Rattle.lp_unify_laws.proofs.PairLists.{put_all_instance}
-use Rattle.lp_laws.proofs.Assumptions.{Focuses, replaced_clause}
-use Rattle.lp_laws.proofs.Formulas.{formula_eigens, closed_instance}
-use Rattle.lp_laws.proofs.Uniforms.{by_conversion}
-use Rattle.lp_laws.proofs.FocusRoots.{fconv}
+use Rattle.lp_proof_laws.proofs.Uniform.Assumptions.{Focuses, replaced_clause}
+use Rattle.lp_proof_laws.proofs.Uniform.Formulas.{formula_eigens, closed_instance}
+use Rattle.lp_proof_laws.proofs.Uniform.Uniforms.{by_conversion}
+use Rattle.lp_proof_laws.proofs.Uniform.FocusRoots.{fconv}
 use Rattle.lp_search_laws.specs.Holds.{IsTyped, IsVariableOf}
 use Rattle.lp_search_laws.specs.Clauses.{assumed_as, sentence_of, clauses_at}
 use Rattle.lp_search_laws.specs.Branches.{IsTypedEntry, AreTypedEntries, EntryHolds, AreProved}
@@ -98,10 +98,6 @@ formulas A = map formula_of_clause A
 map_same_as : {A B : Type 0} (f : B → Term) (g : A → B) (h : A → Term) → ((x : A) → f (g x) ≡ h x) → (xs : List A) → map f (map g xs) ≡ map h xs
 map_same_as f g h k [] = refl
 map_same_as f g h k (x ∷ xs) = λ i. k x i ∷ map_same_as f g h k xs i
-
-map_on : {A : Type 0} (f : A → Term) (g h : Term → Term) (xs : List A) → map (λ x. g (h (f x))) xs ≡ map (λ t. g (h t)) (map f xs)
-map_on f g h [] = refl
-map_on f g h (x ∷ xs) = ap (λ z. g (h (f x)) ∷ z) (map_on f g h xs)
 
 map_both : (g h : Term → Term) (xs : List Term) → map g (map h xs) ≡ map (λ t. g (h t)) xs
 map_both g h [] = refl

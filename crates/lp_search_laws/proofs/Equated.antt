@@ -10,8 +10,8 @@ use Rattle.lp_model.specs.Flatten.{ClauseFormula}
 use Rattle.lp_model.specs.Proofs.{Declared, IsFormula}
 use Rattle.lp_model.specs.Answers.{Variable, Closes}
 use Rattle.lp_unify_laws.specs.TypeSolutions.{Satisfies}
-use Rattle.lp_unify_laws.specs.Solutions.{instance_binding, IsTypedInput, closed_variables, through_bindings, AreStuck, KeepsSolution}
-use Rattle.lp_unify_laws.proofs.Trimmed.{closings_have_none, closings_are_kept}
+use Rattle.lp_unify_laws.specs.Solutions.{instance_binding, IsTypedInput, closed_variables, through_bindings, AreStuck}
+use Rattle.lp_unify_laws.proofs.Trimmed.{closings_have_none}
 use Rattle.lp_search_laws.specs.Holds.{Holds, equation, EqualityHolds}
 use Rattle.lp_unify_laws.proofs.Principal.{closings_are_the_same}
 use Rattle.lp_calculus.specs.Instance.{instance_term}
@@ -20,10 +20,6 @@ use Rattle.lp_search_laws.proofs.Connectives.{equal_holds}
 pub refused_equalities : (d : Declared) → IsStandard d → (V : List Variable) (E : List Ty) (P : List ClauseFormula) (n limit k : ℕ) (T : Ty) (l r : Term) (ds : List Pair) (c : Closing) → IsTypedInput c.types d (closed_variables c V) [] (equation l r k) ds → solve n limit [] (equation l r k) ds (length V) ≡ Some Fail → Closes d V c → SolvesAll c ds → IsFormula d E (closed c (two 8 (T ∷ []) l r)) → Holds d E P c (two 8 (T ∷ []) l r) → ⊥
 refused_equalities d std V E P n limit k T l r ds c i e h s f p =
     closings_have_none d V n limit [] (equation l r k) ds c i e (record { closes = h; types = tt; pairs = ((equal_holds d std E P c T l r f).0 p, tt); delayed = s })
-
-pub solved_equalities : (d : Declared) → IsStandard d → (V : List Variable) (E : List Ty) (P : List ClauseFormula) (n limit k : ℕ) (T : Ty) (l r : Term) (ds : List Pair) (s : State) (c : Closing) → IsTypedInput c.types d (closed_variables c V) [] (equation l r k) ds → solve n limit [] (equation l r k) ds (length V) ≡ Some (Solution s) → Closes d V c → SolvesAll c ds → IsFormula d E (closed c (two 8 (T ∷ []) l r)) → Holds d E P c (two 8 (T ∷ []) l r) → KeepsSolution d (closed_variables c V) c s
-solved_equalities d std V E P n limit k T l r ds s c i e h q f p =
-    closings_are_kept d V n limit [] (equation l r k) ds s c i e (record { closes = h; types = tt; pairs = ((equal_holds d std E P c T l r f).0 p, tt); delayed = q })
 
 pub equalities_are_solved : (d : Declared) → IsStandard d → (V : List Variable) (E : List Ty) (P : List ClauseFormula) (n limit k : ℕ) (T : Ty) (l r : Term) (ds : List Pair) (s : State) (θ : ℕ → Ty) → IsTypedInput θ d V [] (equation l r k) ds → solve n limit [] (equation l r k) ds (length V) ≡ Some (Solution s) → AreStuck n ds → Satisfies θ s.types → EqualityHolds θ d V E P T l r ds s
 equalities_are_solved d std V E P n limit k T l r ds s θ i e q m =

@@ -1,10 +1,10 @@
 -- Expressions that have a value: they are built of integers, strings and operations alone, so they are normal, and a closing changes nothing of their value.
-use Rattle.std.proofs.Common.{◌≡◌, ℕ, zero, suc, List, map, Option, Some, None, refl, sym, ap, ◌∙◌, subst as transport, Bool, true, false, if◌then◌else◌}
+use Rattle.std.proofs.Common.{◌≡◌, ℕ, List, map, Some, refl, sym, ap, ◌∙◌, subst as transport, Bool, true, false, if◌then◌else◌}
 use Rattle.std.specs.Prelude.{ℤ}
 use Rattle.lp_calculus.specs.Types.{Ty, instance}
 use Rattle.lp_calculus.specs.Term.{Term, index, atom, abs, app, constant, integer, text, eigen, logic, param}
-use Rattle.lp_calculus.specs.Convert.{here, in_head, in_argument, Converts, same, leftmost_step, steps}
-use Rattle.lp_calculus.specs.Normal.{IsNormal, NormalisesTo, eta_normal}
+use Rattle.lp_calculus.specs.Convert.{here, in_head, in_argument, Converts, same}
+use Rattle.lp_calculus.specs.Normal.{IsNormal, eta_normal}
 use Rattle.lp_calculus.proofs.Steps.{Step, converts_on, converts_sym, converts_reduces}
 use Rattle.lp_calculus.proofs.BetaEta.{normal_same}
 use Rattle.lp_term.proofs.EtaForms.{form_is}
@@ -13,7 +13,8 @@ use Rattle.lp_model.specs.Pair.{Closing, closed}
 use Rattle.lp_model.specs.Eigens.{beta_normal}
 use Rattle.lp_model.specs.Values.{Value, Number, Bytes, Outcome, Is, Faults, both, single, binary, unary, is_two_place, is_one_place, value, evaluate, HasValue}
 use Rattle.lp_search_laws.proofs.Closed.{closed_reduces}
-use Rattle.lp_search_laws.proofs.Programs.{map_some}
+use Rattle.lp_lemmas.proofs.Options.{option_map_some}
+use Rattle.lp_unify_laws.proofs.Termination.SemiForms.{normal_of}
 
 pub data Expression : Term → Value → Type 0 where
   of_number : (z : ℤ) → Expression (atom (integer z)) (Number z)
@@ -93,17 +94,9 @@ expression_normal (of_one k ts t p e) s (here x) = elim x [ ]
 expression_normal (of_one k ts t p e) s (in_head u x) = atom_stays k ts _ x
 expression_normal (of_one k ts t p e) s (in_argument u x) = expression_normal p _ x
 
--- as normal_of of lp_endings/proofs/SemisGood (private there)
-normal_of : (n : ℕ) (t r : Term) → beta_normal n t ≡ Some r → (k : ℕ) × NormalisesTo k t r
-normal_of zero t r e = absurd (cc)
-normal_of (suc n) t r e = elim (leftmost_step t) as (λ o. leftmost_step t ≡ o → (elim o as (λ x. Option Term) [ None ↦ Some t | Some x ↦ beta_normal n x ]) ≡ Some r → (k : ℕ) × NormalisesTo k t r) [
-  | None ↦ λ p q. let z : t ≡ r = cc in transport (λ x. (k : ℕ) × NormalisesTo k t x) z (0, (refl, p))
-  | Some x ↦ λ p q. let z = normal_of n x r q in (suc z.0, (ap (λ o. elim o as (λ y. Option Term) [ None ↦ None | Some y ↦ steps leftmost_step z.0 y ]) p ∙ z.1.0, z.1.1))
-] refl e
-
 pub evaluated : (n : ℕ) (t : Term) (v : Value) → evaluate n t ≡ Some (Is v) → HasValue t v
 evaluated n t v e =
-    let m = map_some (beta_normal n t) (λ s. value (eta_normal s)) (Is v) e in
+    let m = option_map_some (beta_normal n t) (λ s. value (eta_normal s)) (Is v) e in
     let z = normal_of n t m.0 m.1 in
     record { form = eta_normal m.0; is_form = form_is z.0 t m.0 z.1; is = m.2 }
 

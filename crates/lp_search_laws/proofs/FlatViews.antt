@@ -2,6 +2,7 @@
 use Rattle.std.proofs.Common.{◌≡◌, ℕ, zero, suc, List, [], ◌∷◌, ◌++◌, map, length, Some, ◌∙◌, refl, sym, ap, subst as transport, inl, inr, Bool, true, false, append_assoc}
 use Rattle.std.specs.Prelude.{◌+◌, slice_get, slice_index_or}
 use Rattle.std.proofs.lemmas.List.{map-append}
+use Rattle.lp_unify_laws.specs.TypesBelow.{AreTypesBelow}
 use Rattle.lp_calculus.specs.Types.{Ty, instance}
 use Rattle.lp_calculus.specs.Term.{Term, substitute}
 use Rattle.lp_calculus.specs.Typing.{o_type}
@@ -16,10 +17,9 @@ use Rattle.lp_model.specs.Branch.{Entry, entries}
 use Rattle.lp_model.specs.Answers.{Variable, Closes}
 use Rattle.lp_model.specs.Proofs.{Declared, IsFormula, Provable, Stands, assumed}
 use Rattle.lp_unify_laws.proofs.Scopes.{prefix_more, more_none}
-use Rattle.lp_laws.proofs.Contexts.{get_front, get_back, get_split}
-use Rattle.lp_laws.proofs.Uniforms.{wider}
+use Rattle.lp_proof_laws.proofs.Uniform.Contexts.{get_front, get_back, get_split}
+use Rattle.lp_proof_laws.proofs.Uniform.Uniforms.{wider}
 use Rattle.lp_search_laws.specs.Holds.{Holds, IsTyped}
-use Rattle.lp_search_laws.specs.Started.{AreTypesBelow}
 use Rattle.lp_search_laws.specs.Clauses.{assumed_as, sentence_of, clauses_at}
 use Rattle.lp_search_laws.specs.Branches.{IsPlainTerm, IsClauseHead, IsGoal, AreGoals, IsAssumable, IsTypedEntry, AreProved, IsPlainEntry}
 use Rattle.lp_search_laws.proofs.Goals.{goals_in_turn}
@@ -28,10 +28,6 @@ use Rattle.lp_search_laws.proofs.Programs.{stand_apart}
 use Rattle.lp_search_laws.proofs.Formed.{formula_at}
 use Rattle.lp_search_laws.proofs.TypedParts.{goals_typed, goals_each, goals_put, MayPut, typed_wider}
 use Rattle.lp_search_laws.proofs.Fronts.{MayStand, each_at, entries_hold, hold_entries, entries_stand}
-
-each_with : {A : Type 0} (P Q R : A → Type 0) → ((a : A) → P a → Q a → R a) → (xs : List A) → EachOf P xs → EachOf Q xs → EachOf R xs
-each_with P Q R f [] h k = tt
-each_with P Q R f (x ∷ xs) h k = (f x h.0 k.0, each_with P Q R f xs h.1 k.1)
 
 pub each_so : {A : Type 0} (P Q : A → Type 0) → ((a : A) → P a → Q a) → (xs : List A) → EachOf P xs → EachOf Q xs
 each_so P Q f [] h = tt

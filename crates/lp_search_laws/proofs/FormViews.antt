@@ -16,8 +16,8 @@ use Rattle.lp_model.specs.Branch.{Entry, Branch, Go}
 use Rattle.lp_model.specs.Answers.{Query, AnswerTyping, Closes, over, IsScopedAtom}
 use Rattle.lp_model.specs.Proofs.{Declared}
 use Rattle.lp_model.specs.Search.{with_goals, in_place, at_next_level, look_form, look_atom}
-use Rattle.lp_laws.proofs.Forms.{Shape, form_shape}
-use Rattle.lp_laws.proofs.Roots.{connective, pi_type, sigma_type}
+use Rattle.lp_proof_laws.proofs.Uniform.Forms.{Shape, form_shape}
+use Rattle.lp_proof_laws.proofs.Uniform.Roots.{connective, pi_type, sigma_type}
 use Rattle.lp_unify_laws.proofs.Scopes.{prefix_more, prefix_none, more_none, eigen_last}
 use Rattle.lp_unify_laws.proofs.TypedInstances.{length_map, map_append}
 use Rattle.lp_unify_laws.proofs.Looks.{head_reduces}

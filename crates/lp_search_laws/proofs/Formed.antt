@@ -15,7 +15,7 @@ use Rattle.lp_unify_laws.proofs.Scopes.{in_scope, variable_of, typed_fill_where}
 use Rattle.lp_unify_laws.proofs.TypedBindings.{IsAtomOf, term_atoms}
 use Rattle.lp_unify_laws.proofs.TypedInstances.{side_instance, scoped_instance}
 use Rattle.lp_unify_laws.proofs.Trimmed.{closes_typed}
-use Rattle.lp_laws.proofs.Formulas.{typed_eigens, closed_eigens}
+use Rattle.lp_proof_laws.proofs.Uniform.Formulas.{typed_eigens, closed_eigens}
 use Rattle.lp_search_laws.specs.Holds.{IsTyped}
 
 mutual

@@ -12,7 +12,7 @@ use Rattle.lp_model.specs.Branch.{Entry, Branch, Go, entries}
 use Rattle.lp_model.specs.Answers.{Query, Variable, AnswerTyping, over, type_of, IsPrefix}
 use Rattle.lp_model.specs.Proofs.{Declared}
 use Rattle.lp_model.specs.Search.{with_goals}
-use Rattle.lp_laws.proofs.Roots.{connective, pi_type, sigma_type}
+use Rattle.lp_proof_laws.proofs.Uniform.Roots.{connective, pi_type, sigma_type}
 use Rattle.lp_unify_laws.proofs.Scopes.{prefix_more, prefix_none, more_none, eigen_last, get_last, of_variable}
 use Rattle.lp_unify_laws.proofs.TypedInstances.{length_map, map_append}
 use Rattle.lp_search_laws.specs.Holds.{Holds, IsTyped}
@@ -24,7 +24,7 @@ use Rattle.lp_search_laws.proofs.TypedParts.{both_typed, function_typed, opened_
 use Rattle.lp_search_laws.proofs.Fronts.{each_at, Typings, Typed as IsTypedHere, stands_one, stands_two}
 use Rattle.lp_search_laws.proofs.NewVariable.{stands_new, clauses_more, unused_new}
 use Rattle.lp_search_laws.proofs.FlatViews.{IsPlaceOf, place_of, goals_stand, goals_proved, opened_stand, opened_proved, next_place, assumed_proved}
-use Rattle.lp_laws.proofs.Lists.{each_append}
+use Rattle.lp_proof_laws.proofs.Uniform.Lists.{each_append}
 use Rattle.lp_search_laws.specs.Branches.{IsAssumable}
 use Rattle.lp_model.specs.Proofs.{True}
 

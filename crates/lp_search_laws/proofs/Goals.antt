@@ -14,9 +14,9 @@ use Rattle.lp_standard.specs.Connectives.{truth, Connective, connective_of}
 use Rattle.lp_standard.specs.Connectives as connective
 use Rattle.lp_model.specs.Flat.{Goal, Atomic, Cut, Either, Exists, Forall, Assume, Not, Goals, no_goals, goals, goal_list, formula_of_goal, formula_of_goals, formula_of_clauses}
 use Rattle.lp_model.specs.Flatten.{ClauseFormula}
-use Rattle.lp_laws.proofs.Forms.{Shape, form_shape}
-use Rattle.lp_laws.proofs.Roots.{connective}
-use Rattle.lp_laws.proofs.Formulas.{parts}
+use Rattle.lp_proof_laws.proofs.Uniform.Forms.{Shape, form_shape}
+use Rattle.lp_proof_laws.proofs.Uniform.Roots.{connective}
+use Rattle.lp_proof_laws.proofs.Uniform.Formulas.{parts}
 use Rattle.lp_unify_laws.proofs.Looks.{head_reduces}
 use Rattle.lp_search_laws.specs.Holds.{Holds, with_value, IsOther, IsUnused, next_eigen, FormHolds, IsTakenApart, GoalHolds}
 use Rattle.lp_search_laws.proofs.Closed.{closed_reduces, formula_reduces}

@@ -1,55 +1,39 @@
 -- A focus on one clause for an atom: terms for its variables one by one, the outermost first, then its goals, then its head.
-use Rattle.std.proofs.Common.{◌≡◌, ℕ, zero, suc, ◌<◌, ◌≤◌, List, [], ◌∷◌, map, length, ◌∙◌, refl, sym, ap, subst as transport, arith, inl, inr}
+use Rattle.std.proofs.Common.{◌≡◌, ℕ, zero, suc, List, [], ◌∷◌, map, length, ◌∙◌, refl, sym, ap, subst as transport, arith, inl, inr}
 use Rattle.std.specs.Prelude.{true, false}
 use mathlib.Core.Path.{fun_ext}
 use Rattle.lp_calculus.specs.Types.{Ty, instance}
-use Rattle.lp_calculus.specs.Term.{Term, index, atom, abs, app, apply, substitute, constant}
+use Rattle.lp_calculus.specs.Term.{Term, abs, app, substitute}
 use Rattle.lp_calculus.specs.Convert.{Converts, same, ReducesTo, done, then_step, here, by_beta}
 use Rattle.lp_calculus.specs.Closed.{IsClosedAtom}
 use Rattle.lp_calculus.specs.Fill.{Within}
 use Rattle.lp_calculus.proofs.Fills.{subst_closed}
 use Rattle.lp_calculus.proofs.Steps.{converts_on, converts_sym}
-use Rattle.lp_calculus.proofs.Rigid.{heads_joint}
 use Rattle.lp_model.specs.Index.{instantiate, lifted, at}
-use Rattle.lp_calculus.specs.Spine.{head_of, arguments}
+use Rattle.lp_calculus.specs.Spine.{head_of}
 use Rattle.lp_model.specs.Pair.{Closing, closed}
 use Rattle.lp_standard.specs.Connectives.{pi_of}
 use Rattle.lp_standard.specs.Schemes.{IsStandard}
 use Rattle.lp_model.specs.Flat.{Goals, no_goals, goals, clause, all_of, formula_of_goals, formula_of_clause}
 use Rattle.lp_model.specs.Flatten.{ClauseFormula}
 use Rattle.lp_model.specs.Proofs.{Declared, IsFormula, IsWitness, IsAtomHead, Focus, FConv, FAll, FTake, FNeed, FHit, focuses, Provable, True, Focusable}
-use Rattle.lp_laws.proofs.Forms.{apply_arguments}
-use Rattle.lp_laws.proofs.Formulas.{quantified, at_witness}
-use Rattle.lp_laws.proofs.Openings.{cons, instantiate_subst, open_lifted, abs_at}
-use Rattle.lp_laws.proofs.Roots.{pi_type}
-use Rattle.lp_laws.proofs.FocusRoots.{fconv, pi_focus, implied_focus}
+use Rattle.lp_proof_laws.proofs.Uniform.Formulas.{quantified, at_witness}
+use Rattle.lp_proof_laws.proofs.Uniform.Openings.{cons, instantiate_subst, open_lifted, abs_at}
+use Rattle.lp_proof_laws.proofs.Uniform.Roots.{pi_type}
+use Rattle.lp_proof_laws.proofs.Uniform.FocusRoots.{no_hit, fconv, pi_focus, implied_focus}
 use Rattle.lp_search_laws.specs.Clauses.{AreWitnessesAt, Applies}
 use Rattle.lp_search_laws.proofs.Closed.{formula_reduces}
 use Rattle.lp_search_laws.proofs.ClosedClauses.{under_goals, closed_clause, atom_closed, atom_instantiated}
 
--- no connective converts to an atom (as `no_hit` of lp_laws' FocusRoots, which is private)
-no_connective : (c : ℕ) (ts : List Ty) (us : List Term) (A : Term) → c < 32 → IsAtomHead (head_of A) → Converts (apply (atom (constant c ts)) us) A → ⊥
-no_connective c ts us A l h v = go (head_of A) refl h
-  where
-    go : (k : Term) → head_of A ≡ k → IsAtomHead k → ⊥
-    go (atom b) e i =
-        let w : Converts (apply (atom (constant c ts)) us) (apply (atom b) (arguments A)) = transport (Converts (apply (atom (constant c ts)) us)) (sym (apply_arguments A []) ∙ ap (λ k. apply k (arguments A)) e) v in
-        let j = heads_joint (atom (constant c ts)) (atom b) us (arguments A) tt tt w in
-        let m : 32 ≤ c = transport IsAtomHead (sym j.heads) i in
-        omega arith
-    go (index n) e i = absurd i
-    go (abs t) e i = absurd i
-    go (app t u) e i = absurd i
-
 -- a focus on an atom is a hit
 atom_hit : (d : Declared) (E : List Ty) (P : List ClauseFormula) (D H A : Term) → IsAtomHead (head_of H) → Converts D H → (f : Focus) → focuses d E P D A f → Converts H A
 atom_hit d E P D H A i c (FConv K f) h = atom_hit d E P K H A i (converts_on h.1 c) f h.2
-atom_hit d E P D H A i c (FAll t f) h = absurd (no_connective 4 (h.0 ∷ []) (h.1 ∷ []) H (omega arith) i (transport (λ z. Converts z H) h.2 c))
-atom_hit d E P D H A i c (FTake true f) h = absurd (no_connective 0 [] (h.0 ∷ h.1 ∷ []) H (omega arith) i (transport (λ z. Converts z H) h.2 c))
-atom_hit d E P D H A i c (FTake false f) h = absurd (no_connective 0 [] (h.0 ∷ h.1 ∷ []) H (omega arith) i (transport (λ z. Converts z H) h.2 c))
+atom_hit d E P D H A i c (FAll t f) h = absurd (no_hit 4 (h.0 ∷ []) (h.1 ∷ []) H (omega arith) i (transport (λ z. Converts z H) h.2 c))
+atom_hit d E P D H A i c (FTake true f) h = absurd (no_hit 0 [] (h.0 ∷ h.1 ∷ []) H (omega arith) i (transport (λ z. Converts z H) h.2 c))
+atom_hit d E P D H A i c (FTake false f) h = absurd (no_hit 0 [] (h.0 ∷ h.1 ∷ []) H (omega arith) i (transport (λ z. Converts z H) h.2 c))
 atom_hit d E P D H A i c (FNeed p f) h = elim h.2 [
-  | inl e ↦ absurd (no_connective 2 [] (h.0 ∷ h.1 ∷ []) H (omega arith) i (transport (λ z. Converts z H) e c))
-  | inr e ↦ absurd (no_connective 3 [] (h.1 ∷ h.0 ∷ []) H (omega arith) i (transport (λ z. Converts z H) e c))
+  | inl e ↦ absurd (no_hit 2 [] (h.0 ∷ h.1 ∷ []) H (omega arith) i (transport (λ z. Converts z H) e c))
+  | inr e ↦ absurd (no_hit 3 [] (h.1 ∷ h.0 ∷ []) H (omega arith) i (transport (λ z. Converts z H) e c))
 ]
 atom_hit d E P D H A i c FHit h = converts_on (converts_sym c) h
 

@@ -19,7 +19,7 @@ use Rattle.lp_unify_laws.proofs.TypedBindings.{IsAtomOf, term_atoms}
 use Rattle.lp_unify_laws.proofs.PairLists.{put_all_instance}
 use Rattle.lp_unify_laws.proofs.Runs.{bindings_at}
 use Rattle.lp_unify_laws.proofs.Laws.{gives_through}
-use Rattle.lp_laws.proofs.Uniforms.{by_conversion}
+use Rattle.lp_proof_laws.proofs.Uniform.Uniforms.{by_conversion}
 use Rattle.lp_search_laws.specs.Holds.{Holds, IsTyped, IsVariableOf}
 
 -- a variable of V at its own level

@@ -59,3 +59,7 @@ pub mod MoreTypes
 pub mod TriedBranch
 pub mod TrySolves
 pub mod TryStands
+pub mod Rows
+pub mod Stack
+pub mod SearchEnds
+pub mod MoreSteps

@@ -1,6 +1,6 @@
 -- What a try asks unification is typed: once types solve the equations of the heads, each pair of arguments has one type, over the branch's variables and those
 -- of the clause.
-use Rattle.std.proofs.Common.{◌≡◌, ℕ, zero, suc, ◌+◌, ◌<◌, List, [], ◌∷◌, ◌++◌, map, length, ◌∙◌, refl, sym, ap, subst as transport, arith, inl, inr, true, false, if◌then◌else◌, Option, Some}
+use Rattle.std.proofs.Common.{◌≡◌, ℕ, zero, suc, ◌+◌, List, [], ◌∷◌, ◌++◌, map, length, ◌∙◌, refl, sym, ap, subst as transport, inl, inr, true, false, if◌then◌else◌, Option, Some}
 use Rattle.std.specs.Prelude.{slice_get, option_map}
 use Rattle.lp_calculus.specs.Types.{Ty, instance, arrow}
 use Rattle.lp_calculus.specs.Term.{Term, Atom, index, atom, abs, app, apply, constant, integer, text, eigen, logic, param}
@@ -24,9 +24,9 @@ use Rattle.lp_unify_laws.specs.TypeSolutions.{Unifies}
 use Rattle.lp_unify_laws.specs.Solutions.{instance_pair, instance_variable, at_types, HaveTypings, IsMore}
 use Rattle.lp_unify_laws.proofs.Scopes.{in_scope, typed_grows, scope_grows, prefix_none, of_variable}
 use Rattle.lp_unify_laws.proofs.TypedInstances.{side_instance, scoped_instance, length_map, get_map}
-use Rattle.lp_laws.proofs.Contexts.{get_back, get_split}
-use Rattle.lp_laws.proofs.Forms.{apply_arguments}
-use Rattle.lp_laws.proofs.Openings.{instantiate_subst}
+use Rattle.lp_proof_laws.proofs.Uniform.Contexts.{get_back, get_split}
+use Rattle.lp_proof_laws.proofs.Uniform.Forms.{apply_arguments}
+use Rattle.lp_proof_laws.proofs.Uniform.Openings.{instantiate_subst}
 use Rattle.lp_search_laws.specs.Holds.{IsTyped}
 use Rattle.lp_search_laws.specs.Tries.{new_variables, tried_values, HeadsMatch, both_constants, both_eigens, IsMatch}
 use Rattle.lp_search_laws.proofs.Slots.{EachTwo, slots_are, slotted_is}
@@ -73,11 +73,6 @@ arguments_within P n t w = (within_parts P n (head_of t) (arguments t) (transpor
 
 arrow_parts : {A B X Y : Ty} → arrow A B ≡ arrow X Y → (A ≡ X) × (B ≡ Y)
 arrow_parts {A} {B} {X} {Y} e = let p : A ≡ X = cc in let q : B ≡ Y = cc in (p, q)
-
-get_some : {A : Type 0} (xs : List A) (i : ℕ) → i < length xs → (x : A) × (slice_get xs i ≡ Some x)
-get_some [] i h = absurd (omega (arith, h))
-get_some (x ∷ xs) zero h = (x, refl)
-get_some (x ∷ xs) (suc i) h = get_some xs i (omega (arith, h))
 
 get_mapped : {A B : Type 0} (f : A → B) (xs : List A) (i : ℕ) (y : B) → slice_get (map f xs) i ≡ Some y → (x : A) × (slice_get xs i ≡ Some x) × (f x ≡ y)
 get_mapped f [] i y e = absurd (cc)

@@ -31,10 +31,10 @@ use Rattle.lp_unify_laws.proofs.Scopes.{get_append, got_before}
 use Rattle.lp_unify_laws.proofs.TypedInstances.{length_map, get_map}
 use Rattle.lp_unify_laws.proofs.TypedBindings.{IsAtomOf}
 use Rattle.lp_unify_laws.proofs.Looks.{converts_spine}
-use Rattle.lp_laws.proofs.Contexts.{get_back, get_split}
-use Rattle.lp_laws.proofs.Forms.{apply_arguments}
-use Rattle.lp_laws.proofs.Openings.{instantiate_subst}
-use Rattle.lp_laws.proofs.Uniforms.{by_conversion}
+use Rattle.lp_proof_laws.proofs.Uniform.Contexts.{get_back, get_split}
+use Rattle.lp_proof_laws.proofs.Uniform.Forms.{apply_arguments}
+use Rattle.lp_proof_laws.proofs.Uniform.Openings.{instantiate_subst}
+use Rattle.lp_proof_laws.proofs.Uniform.Uniforms.{by_conversion}
 use Rattle.lp_search_laws.specs.Clauses.{AreWitnessesAt, Applies}
 use Rattle.lp_model.specs.Flat.{Goals, formula_of_goals}
 use Rattle.lp_search_laws.specs.Tries.{new_variables, tried_values, SolvesMatch, GoesOn, IsMatch, HeadsMatch, both_constants, both_eigens}

@@ -16,7 +16,7 @@ use Rattle.lp_model.specs.Same.{same_name, same_atom, same_numbers}
 use Rattle.lp_model.specs.Pair.{Closing, closed}
 use Rattle.lp_model.specs.Search.{key_of, may_meet, first_key, goal_key}
 use Rattle.lp_model.specs.Proofs.{IsAtomHead}
-use Rattle.lp_laws.proofs.Forms.{apply_arguments}
+use Rattle.lp_proof_laws.proofs.Uniform.Forms.{apply_arguments}
 use Rattle.lp_unify_laws.proofs.Looks.{head_reduces}
 use Rattle.lp_unify_laws.proofs.Sames.{numbers_same}
 use Rattle.lp_search_laws.proofs.Closed.{closed_reduces}

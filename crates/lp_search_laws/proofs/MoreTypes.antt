@@ -1,5 +1,6 @@
 -- What is plain over some type variables is plain over more.
 use Rattle.std.proofs.Common.{ℕ, ◌≤◌, List, [], ◌∷◌, ◌++◌, map, arith, Bool, true, false}
+use Rattle.lp_unify_laws.specs.TypesBelow.{IsTypeBelow, AreTysBelow, AreTypesBelow}
 use Rattle.lp_calculus.specs.Types.{Ty, Tys, var, param as type_param, con, arrow, no_types, types}
 use Rattle.lp_calculus.specs.Term.{Term, Atom, constant, integer, text, eigen, logic, param}
 use Rattle.lp_model.specs.Faithful.{EachOf}
@@ -7,7 +8,6 @@ use Rattle.lp_model.specs.Pair.{Pair}
 use Rattle.lp_model.specs.Flat.{Goal, Atomic, Cut, Either, Exists, Forall, Assume, Not, Goals, no_goals, goals, Clause, clause, Clauses, no_clauses, clauses}
 use Rattle.lp_model.specs.Branch.{Entry}
 use Rattle.lp_model.specs.Answers.{Variable}
-use Rattle.lp_search_laws.specs.Started.{IsTypeBelow, AreTypesInBelow, AreTypesBelow}
 use Rattle.lp_search_laws.specs.Branches.{IsPlainAtom, IsPlainTerm, IsGoal, AreGoals, IsClause, AreClauses, IsAssumable, IsPlainVariable, IsPlainPair, ArePlainEntries}
 use Rattle.lp_search_laws.proofs.PlainTypes.{atoms_map}
 
@@ -19,7 +19,7 @@ module _ (k j : ℕ) (l : k ≤ j) where
     type_more (con c ts) h = types_in_more ts h
     type_more (arrow a b) h = (type_more a h.0, type_more b h.1)
 
-    types_in_more : (ts : Tys) → AreTypesInBelow k ts → AreTypesInBelow j ts
+    types_in_more : (ts : Tys) → AreTysBelow k ts → AreTysBelow j ts
     types_in_more no_types h = tt
     types_in_more (types t ts) h = (type_more t h.0, types_in_more ts h.1)
 

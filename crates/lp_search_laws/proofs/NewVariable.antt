@@ -3,6 +3,7 @@ use Rattle.std.proofs.Common.{◌≡◌, ℕ, zero, suc, ◌<◌, List, [], ◌�
 use Rattle.std.specs.Prelude.{◌&&◌, ◌+◌, slice_get}
 use Rattle.std.proofs.lemmas.Bool.Decides.{nat_tests}
 use Rattle.std.proofs.lemmas.Bool.{eqb-true}
+use Rattle.lp_unify_laws.specs.TypesBelow.{IsTypeBelow}
 use Rattle.lp_calculus.specs.Types.{Ty, instance}
 use Rattle.lp_calculus.specs.Term.{Term, Atom, constant, integer, text, eigen, logic, param}
 use Rattle.lp_calculus.specs.Convert.{Converts}
@@ -19,10 +20,9 @@ use Rattle.lp_calculus.specs.Typing.{o_type}
 use Rattle.lp_unify_laws.specs.Solutions.{IsMore}
 use Rattle.lp_unify_laws.proofs.Scopes.{in_scope, typed_grows, scope_grows, prefix_none, variable_of, got_before, get_last, length_last}
 use Rattle.lp_unify_laws.proofs.TypedBindings.{HasAtomType, typed_atoms}
-use Rattle.lp_laws.proofs.Contexts.{get_front, get_split}
-use Rattle.lp_laws.proofs.Lists.{each_append}
+use Rattle.lp_proof_laws.proofs.Uniform.Contexts.{get_front, get_split}
+use Rattle.lp_proof_laws.proofs.Uniform.Lists.{each_append}
 use Rattle.lp_search_laws.specs.Holds.{Holds, IsTyped, with_value, IsOther, IsUnused}
-use Rattle.lp_search_laws.specs.Started.{IsTypeBelow}
 use Rattle.lp_search_laws.specs.Clauses.{clauses_at, assumed_as, sentence_of}
 use Rattle.lp_search_laws.specs.Branches.{AreTypedEntries, AreProved, EntryHolds, BranchTyping, IsTypedBranch, SolvesBranch, IsPlainVariable, StandFor, going}
 use Rattle.lp_search_laws.proofs.Closed.{unused_closed, value_at}

@@ -14,7 +14,7 @@ use Rattle.lp_model.specs.Flat.{Goal, Atomic, Cut, Either, Exists, Forall, Assum
 use Rattle.lp_model.specs.Flatten.{ClauseFormula}
 use Rattle.lp_model.specs.Proofs.{Declared, IsFormula}
 use Rattle.lp_model.specs.Search.{opened}
-use Rattle.lp_laws.proofs.Openings.{instantiate_subst}
+use Rattle.lp_proof_laws.proofs.Uniform.Openings.{instantiate_subst}
 use Rattle.lp_search_laws.specs.Holds.{Holds}
 use Rattle.lp_search_laws.proofs.Goals.{goals_in_turn}
 

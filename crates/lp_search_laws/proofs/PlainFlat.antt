@@ -1,12 +1,12 @@
 -- Flattened goals and clauses of typed formulas are typed over the same type variables, and plain: by induction on the depth of flattening.
-use Rattle.std.proofs.Common.{◌≡◌, ℕ, zero, suc, ◌≤◌, List, [], ◌∷◌, ◌++◌, map, refl, sym, ap, ◌∙◌, subst as transport, arith, Bool, true, false, nat_eq, not}
-use Rattle.std.specs.Prelude.{slice_index_or, ◌||◌}
+use Rattle.std.proofs.Common.{◌≡◌, ℕ, zero, suc, ◌≤◌, List, [], ◌∷◌, ◌++◌, map, refl, sym, ap, ◌∙◌, subst as transport, arith, Bool, true, false}
+use Rattle.std.specs.Prelude.{slice_index_or}
 use Rattle.std.proofs.lemmas.Bool.Decides.{nat_tests}
+use Rattle.lp_unify_laws.specs.TypesBelow.{AreTypesBelow}
 use Rattle.lp_calculus.specs.Types.{Ty}
 use Rattle.lp_calculus.specs.Term.{Term, Atom, index, atom, abs, app, shift, constant, integer, text, eigen, logic, param}
 use Rattle.lp_calculus.specs.Fill.{Within}
 use Rattle.lp_calculus.specs.Closed.{AllAtoms}
-use Rattle.lp_standard.specs.Positive.{IsPositiveAtom}
 use Rattle.lp_calculus.proofs.Sigma.{rename}
 use Rattle.lp_calculus.proofs.Plain.{bump, shift-rename}
 use Rattle.lp_calculus.specs.Spine.{head_of, arguments_and}
@@ -16,7 +16,7 @@ use Rattle.lp_standard.specs.Positive.{is_positive, are_positive}
 use Rattle.lp_model.specs.Flat.{Goal, Atomic, Cut, Either, Exists, Forall, Assume, Not, Goals, no_goals, goals, Clause, clause, Clauses, no_clauses, clauses, under_all, map_goal, map_goals, map_clause, map_clauses, same_type}
 use Rattle.lp_model.specs.Flatten.{heads_clauses, is_clause_head}
 use Rattle.lp_model.specs.Proofs.{Declared}
-use Rattle.lp_search_laws.specs.Started.{AreTypesBelow, IsQueryAtom}
+use Rattle.lp_search_laws.specs.Started.{IsQueryAtom}
 use Rattle.lp_search_laws.specs.Branches.{IsPlainAtom, IsPlainTerm, IsClauseHead, IsGoal, AreGoals, IsClause, AreClauses}
 use Rattle.lp_search_laws.specs.Clauses.{own_types}
 use Rattle.lp_search_laws.proofs.Computed.{both_true, not_above}

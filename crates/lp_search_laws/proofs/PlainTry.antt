@@ -2,6 +2,7 @@
 use Rattle.std.proofs.Common.{◌≡◌, ℕ, zero, suc, ◌+◌, ◌<◌, List, [], ◌∷◌, ◌++◌, map, length, ◌∙◌, refl, sym, ap, subst as transport, arith, inl, inr, Bool, true, false, if◌then◌else◌}
 use Rattle.std.specs.Prelude.{nat_lt}
 use Rattle.std.proofs.lemmas.Bool.Decides.{nat_tests}
+use Rattle.lp_unify_laws.specs.TypesBelow.{IsTypeBelow, AreTysBelow, AreTypesBelow}
 use Rattle.lp_calculus.specs.Types.{Ty, Tys, var, param as type_param, con, arrow, no_types, types, instance, instances}
 use Rattle.lp_calculus.specs.Term.{Term, Atom, index, atom, abs, app, constant, integer, text, eigen, logic, param}
 use Rattle.lp_calculus.specs.Closed.{AllAtoms}
@@ -19,8 +20,7 @@ use Rattle.lp_model.specs.Flat.{Goal, Atomic, Cut, Either, Exists, Forall, Assum
 use Rattle.lp_model.specs.Branch.{Entry, Branch}
 use Rattle.lp_model.specs.Proofs.{Declared}
 use Rattle.lp_model.specs.Answers.{Query, Variable}
-use Rattle.lp_laws.proofs.Forms.{apply_arguments}
-use Rattle.lp_search_laws.specs.Started.{IsTypeBelow, AreTypesInBelow, AreTypesBelow}
+use Rattle.lp_proof_laws.proofs.Uniform.Forms.{apply_arguments}
 use Rattle.lp_search_laws.specs.Branches.{IsPlainAtom, IsPlainTerm, IsClauseHead, IsGoal, AreGoals, IsClause, AreClauses, IsAssumable, IsProgramTyped, IsPlainVariable, IsPlainPair, IsTypedTry, BranchTyping}
 use Rattle.lp_search_laws.specs.Clauses.{own_types}
 use Rattle.lp_search_laws.specs.Tries.{new_variables, tried_values}
@@ -45,7 +45,7 @@ module _ (k j : ℕ) (θ : ℕ → Ty) (f : (i : ℕ) → i < k → IsTypeBelow 
     type_at (con c ts) w = types_at ts w
     type_at (arrow a b) w = (type_at a w.0, type_at b w.1)
 
-    types_at : (ts : Tys) → AreTypesInBelow k ts → AreTypesInBelow j (instances θ ts)
+    types_at : (ts : Tys) → AreTysBelow k ts → AreTysBelow j (instances θ ts)
     types_at no_types w = tt
     types_at (types t ts) w = (type_at t w.0, types_at ts w.1)
 

@@ -2,6 +2,7 @@
 use Rattle.std.proofs.Common.{◌≡◌, ℕ, zero, suc, ◌+◌, ◌<◌, List, [], ◌∷◌, ◌++◌, map, refl, sym, ap, subst as transport, arith, Bool, true, false, nat_eq, nat_lt, if◌then◌else◌}
 use Rattle.std.specs.Prelude.{◌&&◌}
 use Rattle.std.proofs.lemmas.Bool.Decides.{nat_tests}
+use Rattle.lp_unify_laws.specs.TypesBelow.{IsTypeBelow, AreTysBelow, AreTypesBelow}
 use Rattle.lp_calculus.specs.Types.{Ty, Tys, var, param as type_param, con, arrow, no_types, types, instance, instances}
 use Rattle.lp_calculus.specs.Term.{Term, Atom, index, atom, abs, app, shift, constant, integer, text, eigen, logic, param}
 use Rattle.lp_calculus.specs.Fill.{Binding, fill, raise, at_variables, one, put, put_all}
@@ -14,7 +15,6 @@ use Rattle.lp_calculus.specs.Spine.{head_of}
 use Rattle.lp_model.specs.Types.{TypeBinding, one_type, put_types}
 use Rattle.lp_model.specs.Pair.{put_type_in, put_types_in}
 use Rattle.lp_model.specs.Flat.{Goal, Atomic, Cut, Either, Exists, Forall, Assume, Not, Goals, no_goals, goals, Clause, clause, Clauses, no_clauses, clauses, under_all, map_goal, map_goals, map_clause, map_clauses, same_type, all_of, formula_of_goal, formula_of_goals, formula_of_clause, formula_of_clauses}
-use Rattle.lp_search_laws.specs.Started.{IsTypeBelow, AreTypesInBelow, AreTypesBelow}
 use Rattle.lp_search_laws.specs.Branches.{IsPlainAtom, IsPlainTerm, IsClauseHead, IsGoal, AreGoals, IsClause, AreClauses, IsAssumable}
 use Rattle.lp_search_laws.specs.Clauses.{own_types}
 use Rattle.lp_search_laws.specs.Behind.{types_of}
@@ -27,7 +27,7 @@ mutual
   agree_type k κ μ h (con c ts) w = ap (con c) (agree_types k κ μ h ts w)
   agree_type k κ μ h (arrow a b) w = λ i. arrow (agree_type k κ μ h a w.0 i) (agree_type k κ μ h b w.1 i)
 
-  agree_types : (k : ℕ) (κ μ : ℕ → Ty) → ((i : ℕ) → i < k → κ i ≡ μ i) → (ts : Tys) → AreTypesInBelow k ts → instances κ ts ≡ instances μ ts
+  agree_types : (k : ℕ) (κ μ : ℕ → Ty) → ((i : ℕ) → i < k → κ i ≡ μ i) → (ts : Tys) → AreTysBelow k ts → instances κ ts ≡ instances μ ts
   agree_types k κ μ h no_types w = refl
   agree_types k κ μ h (types t ts) w = λ i. types (agree_type k κ μ h t w.0 i) (agree_types k κ μ h ts w.1 i)
 
@@ -171,7 +171,7 @@ mutual
   type_below k θ h (con c ts) w = types_below k θ h ts w
   type_below k θ h (arrow a b) w = (type_below k θ h a w.0, type_below k θ h b w.1)
 
-  types_below : (k : ℕ) (θ : ℕ → Ty) → ((i : ℕ) → i < k → IsTypeBelow k (θ i)) → (ts : Tys) → AreTypesInBelow k ts → AreTypesInBelow k (instances θ ts)
+  types_below : (k : ℕ) (θ : ℕ → Ty) → ((i : ℕ) → i < k → IsTypeBelow k (θ i)) → (ts : Tys) → AreTysBelow k ts → AreTysBelow k (instances θ ts)
   types_below k θ h no_types w = tt
   types_below k θ h (types t ts) w = (type_below k θ h t w.0, types_below k θ h ts w.1)
 

@@ -1,7 +1,8 @@
 -- The flattened clauses of a program in the place of its sentences: who focuses on a sentence focuses on one of its clauses, and the other way.
-use Rattle.std.proofs.Common.{◌≡◌, ℕ, zero, suc, List, [], ◌∷◌, ◌++◌, map, length, Option, Some, None, refl, sym, ap, ◌∙◌, subst as transport, inl, inr, arith}
+use Rattle.std.proofs.Common.{◌≡◌, ℕ, zero, suc, List, [], ◌∷◌, ◌++◌, map, length, Some, refl, sym, ap, ◌∙◌, subst as transport, inl, inr, arith}
 use Rattle.std.proofs.lemmas.List.{map-append}
-use Rattle.std.specs.Prelude.{slice_get, option_map, option_and_then}
+use Rattle.std.specs.Prelude.{slice_get, option_map}
+use Rattle.lp_lemmas.proofs.Options.{and_then_some, option_map_some}
 use Rattle.lp_calculus.specs.Types.{Ty}
 use Rattle.lp_calculus.specs.Term.{Term}
 use Rattle.lp_calculus.specs.Convert.{ReducesTo}
@@ -18,18 +19,19 @@ use Rattle.lp_model.specs.Flat.{Goals, no_goals, goals, Clause, clause, Clauses,
 use Rattle.lp_model.specs.Flatten.{ClauseFormula, with_type_vars, flatten, flat_clause}
 use Rattle.lp_standard.specs.Schemes.{IsStandard}
 use Rattle.lp_model.specs.Proofs.{Declared, IsFormula, IsSentence, IsAtomHead, Provable, Focusable, assumed}
-use Rattle.lp_laws.proofs.Formulas.{formula_eigens, closed_instance, parts}
-use Rattle.lp_laws.proofs.Roots.{connective}
-use Rattle.lp_laws.proofs.FocusRoots.{fconv}
-use Rattle.lp_laws.proofs.Contexts.{get_split}
-use Rattle.lp_laws.proofs.Assumptions.{Extends, Focuses}
-use Rattle.lp_laws.proofs.TypedFlat.{type_clauses, flat_clause_typed, clauses_formula}
-use Rattle.lp_laws.proofs.Flattens.{flattened_clause}
-use Rattle.lp_laws.proofs.ReadsBack.{to_flat, from_flat}
+use Rattle.lp_proof_laws.proofs.Uniform.Formulas.{formula_eigens, closed_instance, parts}
+use Rattle.lp_proof_laws.proofs.Uniform.Roots.{connective}
+use Rattle.lp_proof_laws.proofs.Uniform.FocusRoots.{fconv}
+use Rattle.lp_proof_laws.proofs.Uniform.Contexts.{get_split}
+use Rattle.lp_proof_laws.proofs.Uniform.Assumptions.{Extends, Focuses}
+use Rattle.lp_proof_laws.proofs.Flattened.TypedFlat.{type_clauses, flat_clause_typed, clauses_formula}
+use Rattle.lp_proof_laws.proofs.Flattened.Flattens.{flattened_clause}
+use Rattle.lp_proof_laws.proofs.Flattened.ReadsBack.{to_flat, from_flat}
 use Rattle.lp_unify_laws.proofs.Looks.{beta_reduces}
 use Rattle.lp_unify_laws.proofs.NewInstances.{reduces_instance}
 use Rattle.lp_unify_laws.proofs.TypedInstances.{get_map}
-use Rattle.lp_search_laws.specs.Started.{clause_formula, AreFlattened}
+use Rattle.lp_search_laws.specs.Clauses.{sentence_of}
+use Rattle.lp_search_laws.specs.Started.{AreFlattened}
 use Rattle.lp_search_laws.proofs.Closed.{formula_reduces}
 use Rattle.lp_search_laws.proofs.Serving.{Served, Serves, served_in_front, served_behind, serves_more, serves_first, serves_eigens, served}
 use Rattle.lp_search_laws.proofs.Apart.{KeepsBoth, IsOneOf, split_focus, join_focus}
@@ -47,22 +49,13 @@ formulas_of k no_clauses = refl
 formulas_of k (clauses (clause n vs h b) no_clauses) = same_formula k n vs h b
 formulas_of k (clauses (clause n vs h b) (clauses (clause m us j a) cs)) = λ i. two 0 [] (same_formula k n vs h b i) (formulas_of k (clauses (clause m us j a) cs) i)
 
-type_vars_of : (k : ℕ) (cs : Clauses) (j : ℕ) (c : Clause) → slice_get (clause_list (with_type_vars k cs)) j ≡ Some c → (clause_formula c).type_vars ≡ k
+type_vars_of : (k : ℕ) (cs : Clauses) (j : ℕ) (c : Clause) → slice_get (clause_list (with_type_vars k cs)) j ≡ Some c → (sentence_of c).type_vars ≡ k
 type_vars_of k no_clauses j c e = absurd (cc)
-type_vars_of k (clauses (clause n vs h b) cs) zero c e = let g : clause k vs h b ≡ c = cc in ap (λ z. (clause_formula z).type_vars) (sym g)
+type_vars_of k (clauses (clause n vs h b) cs) zero c e = let g : clause k vs h b ≡ c = cc in ap (λ z. (sentence_of z).type_vars) (sym g)
 type_vars_of k (clauses (clause n vs h b) cs) (suc j) c e = type_vars_of k cs j c e
 
-formula_is : (c : Clause) → (clause_formula c).formula ≡ formula_of_clause c
+formula_is : (c : Clause) → (sentence_of c).formula ≡ formula_of_clause c
 formula_is (clause k vs h b) = refl
-
--- as bind_some and map_some of lp_laws (private there)
-pub bind_some : {A B : Type 0} (o : Option A) (f : A → Option B) (x : B) → option_and_then f o ≡ Some x → (a : A) × (o ≡ Some a) × (f a ≡ Some x)
-bind_some None f x e = absurd (cc)
-bind_some (Some a) f x e = (a, refl, e)
-
-pub map_some : {A B : Type 0} (o : Option A) (f : A → B) (x : B) → option_map f o ≡ Some x → (a : A) × (o ≡ Some a) × (f a ≡ x)
-map_some None f x e = absurd (cc)
-map_some (Some a) f x e = let g : f a ≡ x = cc in (a, refl, g)
 
 -- what a formula is flattened to, by its beta-normal form
 pub record IsFlattened (n : ℕ) (d : Declared) (D : ClauseFormula) (cs : Clauses) : Type 0 where
@@ -74,8 +67,8 @@ pub record IsFlattened (n : ℕ) (d : Declared) (D : ClauseFormula) (cs : Clause
 
 pub flattened : (n : ℕ) (d : Declared) (D : ClauseFormula) (cs : Clauses) → flatten n d D ≡ Some cs → IsFlattened n d D cs
 flattened n d D cs e =
-    let b = bind_some (beta_normal n D.formula) (λ t. option_map (with_type_vars D.type_vars) (flat_clause n d [] t [] [])) cs e in
-    let m = map_some (flat_clause n d [] b.0 [] []) (with_type_vars D.type_vars) cs b.2 in
+    let b = and_then_some (beta_normal n D.formula) (λ t. option_map (with_type_vars D.type_vars) (flat_clause n d [] t [] [])) cs e in
+    let m = option_map_some (flat_clause n d [] b.0 [] []) (with_type_vars D.type_vars) cs b.2 in
     record { form = b.0; plain = m.0; leads = beta_reduces n D.formula b.0 b.1; flat = m.1; is = m.2 }
 
 module _ (d : Declared) (std : IsStandard d) (n : ℕ) (D : ClauseFormula) (cs : Clauses) (x : IsFlattened n d D cs) (s : IsSentence d D) where
@@ -113,70 +106,70 @@ module _ (d : Declared) (std : IsStandard d) (n : ℕ) (D : ClauseFormula) (cs :
           let w = from_flat d std n (instance_term θ x.form) (type_clauses θ x.plain) form_flat form_fine [] F (record { rest = F; is = refl }) Q A at (transport (λ z. Focusable d F Q z A) (sym read) v) in
           fconv d F Q (instance_term θ x.form) (instance_term θ D.formula) A (formula_eigens d [] F (instance_term θ x.form) form_fine) (converts_sym (converts_reduces (reduces_instance θ x.leads))) w
 
-  vars_of : (j : ℕ) (c : Clause) → slice_get (clause_list cs) j ≡ Some c → (clause_formula c).type_vars ≡ D.type_vars
+  vars_of : (j : ℕ) (c : Clause) → slice_get (clause_list cs) j ≡ Some c → (sentence_of c).type_vars ≡ D.type_vars
   vars_of j c e = type_vars_of D.type_vars x.plain j c (transport (λ z. slice_get (clause_list z) j ≡ Some c) (sym x.is) e)
 
   -- one of the sentence's clauses serves
-  serving_clause : (ts : List Ty) → length ts ≡ D.type_vars → AreClosed ts → (F : List Ty) (Q : List ClauseFormula) (A : Term) → IsAtomHead (head_of A) → Focusable d F Q (instance_term (type_at ts) D.formula) A → Served d F Q (map clause_formula (clause_list cs)) A
+  serving_clause : (ts : List Ty) → length ts ≡ D.type_vars → AreClosed ts → (F : List Ty) (Q : List ClauseFormula) (A : Term) → IsAtomHead (head_of A) → Focusable d F Q (instance_term (type_at ts) D.formula) A → Served d F Q (map sentence_of (clause_list cs)) A
   serving_clause ts l k F Q A h r =
       let o = to_clauses ts l k F Q A h r in
       record {
         place = o.place;
-        clause = clause_formula o.clause;
-        is = get_map clause_formula (clause_list cs) o.place ∙ ap (option_map clause_formula) o.is;
+        clause = sentence_of o.clause;
+        is = get_map sentence_of (clause_list cs) o.place ∙ ap (option_map sentence_of) o.is;
         types = ts;
         count = l ∙ sym (vars_of o.place o.clause o.is);
         closed = k;
         focus = transport (λ z. Focusable d F Q (instance_term (type_at ts) z) A) (sym (formula_is o.clause)) o.focus;
       }
 
-  serving_sentence : (i : ℕ) (K : ClauseFormula) → slice_get (map clause_formula (clause_list cs)) i ≡ Some K → (ts : List Ty) → length ts ≡ K.type_vars → AreClosed ts → (F : List Ty) (Q : List ClauseFormula) (A : Term) → IsAtomHead (head_of A) → Focusable d F Q (instance_term (type_at ts) K.formula) A → Served d F Q (D ∷ []) A
+  serving_sentence : (i : ℕ) (K : ClauseFormula) → slice_get (map sentence_of (clause_list cs)) i ≡ Some K → (ts : List Ty) → length ts ≡ K.type_vars → AreClosed ts → (F : List Ty) (Q : List ClauseFormula) (A : Term) → IsAtomHead (head_of A) → Focusable d F Q (instance_term (type_at ts) K.formula) A → Served d F Q (D ∷ []) A
   serving_sentence i K e ts l k F Q A h r =
-      let m = map_some (slice_get (clause_list cs) i) clause_formula K (sym (get_map clause_formula (clause_list cs) i) ∙ e) in
+      let m = option_map_some (slice_get (clause_list cs) i) sentence_of K (sym (get_map sentence_of (clause_list cs) i) ∙ e) in
       let c = l ∙ ap (λ z. z.type_vars) (sym m.2) ∙ vars_of i m.0 m.1 in
       let q = transport (λ z. Focusable d F Q (instance_term (type_at ts) z) A) (ap (λ z. z.formula) (sym m.2) ∙ formula_is m.0) r in
       record { place = 0; clause = D; is = refl; types = ts; count = c; closed = k; focus = from_clause ts c k F Q A h i m.0 m.1 q }
 
 -- the whole program
 module _ (d : Declared) (std : IsStandard d) (n : ℕ) where
-  program_serves : (F : List ClauseFormula) (P : List Clause) → EachOf (IsSentence d) F → AreFlattened n d F P → Serves d [] F (map clause_formula P)
+  program_serves : (F : List ClauseFormula) (P : List Clause) → EachOf (IsSentence d) F → AreFlattened n d F P → Serves d [] F (map sentence_of P)
   program_serves [] P s x = record { at = λ i D e. absurd (cc) }
   program_serves (D ∷ F) P s x =
       let cs = x.0 in
       let R = x.1 in
       let rest = program_serves F R s.1 x.4 in
       let y = flattened n d D cs x.2 in
-      transport (Serves d [] (D ∷ F)) (sym (ap (map clause_formula) x.3 ∙ map-append clause_formula (clause_list cs) R)) (record { at = go cs R y rest })
+      transport (Serves d [] (D ∷ F)) (sym (ap (map sentence_of) x.3 ∙ map-append sentence_of (clause_list cs) R)) (record { at = go cs R y rest })
     where
-      go : (cs : Clauses) (R : List Clause) → IsFlattened n d D cs → Serves d [] F (map clause_formula R) → (i : ℕ) (K : ClauseFormula) → slice_get (D ∷ F) i ≡ Some K → (ts : List Ty) → length ts ≡ K.type_vars → AreClosed ts → (G : List Ty) → Extends [] G → (Q : List ClauseFormula) (A : Term) → IsAtomHead (head_of A) → Focusable d G Q (instance_term (type_at ts) K.formula) A → Served d G Q (map clause_formula (clause_list cs) ++ map clause_formula R) A
+      go : (cs : Clauses) (R : List Clause) → IsFlattened n d D cs → Serves d [] F (map sentence_of R) → (i : ℕ) (K : ClauseFormula) → slice_get (D ∷ F) i ≡ Some K → (ts : List Ty) → length ts ≡ K.type_vars → AreClosed ts → (G : List Ty) → Extends [] G → (Q : List ClauseFormula) (A : Term) → IsAtomHead (head_of A) → Focusable d G Q (instance_term (type_at ts) K.formula) A → Served d G Q (map sentence_of (clause_list cs) ++ map sentence_of R) A
       go cs R y rest zero K e ts l k G g Q A h r =
           let q : K ≡ D = cc in
-          served_in_front d G Q (map clause_formula (clause_list cs)) (map clause_formula R) A (serving_clause d std n D cs y s.0 ts (l ∙ ap (λ w. w.type_vars) q) k G Q A h (transport (λ w. Focusable d G Q (instance_term (type_at ts) w.formula) A) q r))
-      go cs R y rest (suc i) K e ts l k G g Q A h r = served_behind d G Q (map clause_formula (clause_list cs)) (map clause_formula R) A (rest.at i K e ts l k G g Q A h r)
+          served_in_front d G Q (map sentence_of (clause_list cs)) (map sentence_of R) A (serving_clause d std n D cs y s.0 ts (l ∙ ap (λ w. w.type_vars) q) k G Q A h (transport (λ w. Focusable d G Q (instance_term (type_at ts) w.formula) A) q r))
+      go cs R y rest (suc i) K e ts l k G g Q A h r = served_behind d G Q (map sentence_of (clause_list cs)) (map sentence_of R) A (rest.at i K e ts l k G g Q A h r)
 
-  sentences_serve : (F : List ClauseFormula) (P : List Clause) → EachOf (IsSentence d) F → AreFlattened n d F P → Serves d [] (map clause_formula P) F
-  sentences_serve [] P s x = record { at = λ i D e. let q : slice_get (map clause_formula []) i ≡ Some D = ap (λ z. slice_get (map clause_formula z) i) (sym x) ∙ e in absurd (cc) }
+  sentences_serve : (F : List ClauseFormula) (P : List Clause) → EachOf (IsSentence d) F → AreFlattened n d F P → Serves d [] (map sentence_of P) F
+  sentences_serve [] P s x = record { at = λ i D e. let q : slice_get (map sentence_of []) i ≡ Some D = ap (λ z. slice_get (map sentence_of z) i) (sym x) ∙ e in absurd (cc) }
   sentences_serve (D ∷ F) P s x =
       let cs = x.0 in
       let R = x.1 in
       let rest = sentences_serve F R s.1 x.4 in
       let y = flattened n d D cs x.2 in
-      transport (λ z. Serves d [] z (D ∷ F)) (sym (ap (map clause_formula) x.3 ∙ map-append clause_formula (clause_list cs) R)) (record {
-        at = λ i K e ts l k G g Q A h r. elim (get_split (map clause_formula (clause_list cs)) (map clause_formula R) i K e) [
+      transport (λ z. Serves d [] z (D ∷ F)) (sym (ap (map sentence_of) x.3 ∙ map-append sentence_of (clause_list cs) R)) (record {
+        at = λ i K e ts l k G g Q A h r. elim (get_split (map sentence_of (clause_list cs)) (map sentence_of R) i K e) [
           | inl a ↦ served_in_front d G Q (D ∷ []) F A (serving_sentence d std n D cs y s.0 i K a ts l k G Q A h r)
           | inr b ↦ served_behind d G Q (D ∷ []) F A (rest.at b.0 K b.2 ts l k G g Q A h r)
         ];
       })
 
-  pub program_reads_back : (F : List ClauseFormula) (P : List Clause) → EachOf (IsSentence d) F → AreFlattened n d F P → (E : List Ty) (Q : List ClauseFormula) (G : Term) → (Provable d E (F ++ Q) G → Provable d E (map clause_formula P ++ Q) G) × (Provable d E (map clause_formula P ++ Q) G → Provable d E (F ++ Q) G)
+  pub program_reads_back : (F : List ClauseFormula) (P : List Clause) → EachOf (IsSentence d) F → AreFlattened n d F P → (E : List Ty) (Q : List ClauseFormula) (G : Term) → (Provable d E (F ++ Q) G → Provable d E (map sentence_of P ++ Q) G) × (Provable d E (map sentence_of P ++ Q) G → Provable d E (F ++ Q) G)
   program_reads_back F P s x E Q G = (
-    λ p. served d E (F ++ Q) (map clause_formula P ++ Q) G (serves_more d E F (map clause_formula P) Q (serves_eigens d [] E F (map clause_formula P) (program_serves F P s x))) p,
-    λ p. served d E (map clause_formula P ++ Q) (F ++ Q) G (serves_more d E (map clause_formula P) F Q (serves_eigens d [] E (map clause_formula P) F (sentences_serve F P s x))) p,
+    λ p. served d E (F ++ Q) (map sentence_of P ++ Q) G (serves_more d E F (map sentence_of P) Q (serves_eigens d [] E F (map sentence_of P) (program_serves F P s x))) p,
+    λ p. served d E (map sentence_of P ++ Q) (F ++ Q) G (serves_more d E (map sentence_of P) F Q (serves_eigens d [] E (map sentence_of P) F (sentences_serve F P s x))) p,
   )
 
 -- each flattened clause is a sentence
 module _ (d : Declared) (std : IsStandard d) where
-  each_fine : (k : ℕ) (cs : Clauses) → ((ts : List Ty) → length ts ≡ k → AreClosed ts → IsFormula d [] (instance_term (type_at ts) (formula_of_clauses cs))) → EachOf (λ c. IsSentence d (clause_formula c)) (clause_list (with_type_vars k cs))
+  each_fine : (k : ℕ) (cs : Clauses) → ((ts : List Ty) → length ts ≡ k → AreClosed ts → IsFormula d [] (instance_term (type_at ts) (formula_of_clauses cs))) → EachOf (λ c. IsSentence d (sentence_of c)) (clause_list (with_type_vars k cs))
   each_fine k no_clauses f = tt
   each_fine k (clauses (clause n vs h b) no_clauses) f = (record { instances = λ ts l a. transport (λ z. IsFormula d [] (instance_term (type_at ts) z)) (same_formula n k vs h b) (f ts l a) }, tt)
   each_fine k (clauses (clause n vs h b) (clauses e cs)) f =
@@ -187,12 +180,12 @@ module _ (d : Declared) (std : IsStandard d) where
   each_append X [] ys h k = k
   each_append X (x ∷ xs) ys h k = (h.0, each_append X xs ys h.1 k)
 
-  pub clauses_are_sentences : (n : ℕ) (F : List ClauseFormula) (P : List Clause) → EachOf (IsSentence d) F → AreFlattened n d F P → EachOf (λ c. IsSentence d (clause_formula c)) P
-  clauses_are_sentences n [] P s x = transport (EachOf (λ c. IsSentence d (clause_formula c))) (sym x) tt
+  pub clauses_are_sentences : (n : ℕ) (F : List ClauseFormula) (P : List Clause) → EachOf (IsSentence d) F → AreFlattened n d F P → EachOf (λ c. IsSentence d (sentence_of c)) P
+  clauses_are_sentences n [] P s x = transport (EachOf (λ c. IsSentence d (sentence_of c))) (sym x) tt
   clauses_are_sentences n (D ∷ F) P s x =
       let y = flattened n d D x.0 x.2 in
-      let here = transport (λ z. EachOf (λ c. IsSentence d (clause_formula c)) (clause_list z)) y.is (each_fine D.type_vars y.plain (λ ts l k. transport (λ z. IsFormula d [] (instance_term (type_at ts) z)) (ap formula_of_clauses (sym y.is) ∙ formulas_of D.type_vars y.plain) (clauses_fine d std n D x.0 y s.0 ts l k))) in
-      transport (EachOf (λ c. IsSentence d (clause_formula c))) (sym x.3) (each_append (λ c. IsSentence d (clause_formula c)) (clause_list x.0) x.1 here (clauses_are_sentences n F x.1 s.1 x.4))
+      let here = transport (λ z. EachOf (λ c. IsSentence d (sentence_of c)) (clause_list z)) y.is (each_fine D.type_vars y.plain (λ ts l k. transport (λ z. IsFormula d [] (instance_term (type_at ts) z)) (ap formula_of_clauses (sym y.is) ∙ formulas_of D.type_vars y.plain) (clauses_fine d std n D x.0 y s.0 ts l k))) in
+      transport (EachOf (λ c. IsSentence d (sentence_of c))) (sym x.3) (each_append (λ c. IsSentence d (sentence_of c)) (clause_list x.0) x.1 here (clauses_are_sentences n F x.1 s.1 x.4))
 
   -- assumptions
   closing_keeps : (c : Closing) (θ : ℕ → Ty) → KeepsBoth (λ t. instance_term θ (closed c t))
@@ -221,7 +214,7 @@ module _ (d : Declared) (std : IsStandard d) where
     whole_serves : Serves d E (map as_assumed (clause_list cs)) (whole ∷ [])
     whole_serves = record {
       at = λ i K e ts l k F x Q A h r.
-          let m = map_some (slice_get (clause_list cs) i) as_assumed K (sym (get_map as_assumed (clause_list cs) i) ∙ e) in
+          let m = option_map_some (slice_get (clause_list cs) i) as_assumed K (sym (get_map as_assumed (clause_list cs) i) ∙ e) in
           let q = transport (λ w. Focusable d F Q (instance_term (type_at ts) w.formula) A) (sym m.2) r in
           record { place = 0; clause = whole; is = refl; types = ts; count = l ∙ ap (λ w. w.type_vars) (sym m.2); closed = k; focus = join_focus d F Q (λ t. instance_term (type_at ts) (closed c t)) (closing_keeps c (type_at ts)) A cs i m.0 m.1 q };
     }

@@ -3,6 +3,7 @@ use Rattle.std.proofs.Common.{◌≡◌, ℕ, zero, suc, ◌+◌, ◌-◌, ◌<�
 use Rattle.std.specs.Prelude.{slice_get, option_map}
 use Rattle.std.proofs.lemmas.List.{reverse-append, length-reverse, length-map}
 use mathlib.Core.Path.{fun_ext}
+use Rattle.lp_unify_laws.specs.TypesBelow.{IsTypeBelow, AreTysBelow, AreTypesBelow}
 use Rattle.lp_calculus.specs.Types.{Ty, Tys, var, param as type_param, con, arrow, no_types, types, instance, instances}
 use Rattle.lp_calculus.specs.Term.{Term, Atom, index, atom, abs, app, shift, substitute, constant, integer, text, eigen, logic, param}
 use Rattle.lp_calculus.specs.Convert.{Anywhere, BetaEta, here, in_abs, in_head, in_argument, by_beta, by_eta, Converts, ReducesTo}
@@ -27,22 +28,22 @@ use Rattle.lp_standard.specs.Schemes.{IsStandard}
 use Rattle.lp_model.specs.Proofs.{Declared, under, IsFormula, IsWitness, Provable}
 use Rattle.lp_model.specs.Answers.{Query, Instance, Closes, ConvertEach, AreWitnesses, IsProvable, filled}
 use Rattle.lp_model.specs.Search.{vars_from, types_from}
-use Rattle.lp_laws.proofs.Contexts.{get_split}
-use Rattle.lp_laws.proofs.Openings.{instantiate_subst, IsOpen, Fits, open_formula}
-use Rattle.lp_laws.proofs.FlatGoals.{open_truth, truth_proved, GoalLaw}
-use Rattle.lp_laws.proofs.Flattens.{flattened_goal}
-use Rattle.lp_laws.proofs.TypedForms.{shift_typed}
-use Rattle.lp_laws.proofs.TypedFlat.{flat_goal_typed, goals_formula}
-use Rattle.lp_laws.proofs.Uniforms.{by_conversion}
+use Rattle.lp_proof_laws.proofs.Uniform.Contexts.{get_split}
+use Rattle.lp_proof_laws.proofs.Uniform.Openings.{instantiate_subst, IsOpen, Fits, open_formula}
+use Rattle.lp_proof_laws.proofs.Flattened.FlatGoals.{open_truth, truth_proved, GoalLaw}
+use Rattle.lp_proof_laws.proofs.Flattened.Flattens.{flattened_goal}
+use Rattle.lp_proof_laws.proofs.Flattened.TypedForms.{shift_typed}
+use Rattle.lp_proof_laws.proofs.Flattened.TypedFlat.{flat_goal_typed, goals_formula}
+use Rattle.lp_proof_laws.proofs.Uniform.Uniforms.{by_conversion}
 use Rattle.lp_unify_laws.proofs.Looks.{beta_reduces}
 use Rattle.lp_unify_laws.proofs.NewInstances.{reduces_instance}
 use Rattle.lp_unify_laws.proofs.TypedInstances.{get_map}
 use Rattle.lp_search_laws.specs.Holds.{Holds}
-use Rattle.lp_search_laws.specs.Started.{IsTypeBelow, AreTypesInBelow, AreTypesBelow, IsQueryAtom, IsTypedQuery, outermost, StartHolds}
+use Rattle.lp_search_laws.specs.Started.{IsQueryAtom, IsTypedQuery, outermost, StartHolds}
 use Rattle.lp_search_laws.proofs.ClosedTerms.{closed_type, all_closed, fill_instantiate, instantiate_converts}
 use Rattle.lp_search_laws.proofs.Goals.{goals_in_turn}
 use Rattle.lp_search_laws.proofs.Opened.{goals_instantiate}
-use Rattle.lp_search_laws.proofs.Programs.{bind_some, map_some}
+use Rattle.lp_lemmas.proofs.Options.{and_then_some, option_map_some}
 
 -- steps, with terms put for indices (as in lp_store/proofs/Congruent, private there)
 raised-subst : (σ : ℕ → Term) (t : Term) → subst (up σ) (shift 0 1 t) ≡ shift 0 1 (subst σ t)
@@ -118,7 +119,7 @@ mutual
   type_same f g k h (con c ts) w = ap (con c) (types_same f g k h ts w)
   type_same f g k h (arrow a b) w = λ i. arrow (type_same f g k h a w.0 i) (type_same f g k h b w.1 i)
 
-  types_same : (f g : ℕ → Ty) (k : ℕ) → ((i : ℕ) → i < k → f i ≡ g i) → (ts : Tys) → AreTypesInBelow k ts → instances f ts ≡ instances g ts
+  types_same : (f g : ℕ → Ty) (k : ℕ) → ((i : ℕ) → i < k → f i ≡ g i) → (ts : Tys) → AreTysBelow k ts → instances f ts ≡ instances g ts
   types_same f g k h no_types w = refl
   types_same f g k h (types t ts) w = λ i. types (type_same f g k h t w.0 i) (types_same f g k h ts w.1 i)
 
@@ -214,7 +215,7 @@ module _ (d : Declared) (std : IsStandard d) (n : ℕ) (q : Query) (gs : Goals) 
 
     value_fits : (i : ℕ) (T : Ty) → slice_get types_in i ≡ Some T → IsWitness d [] (values_at i) T
     value_fits i T w =
-        let m = map_some (slice_get (reverse q.vars) i) (instance c.types) T (sym (get_map (instance c.types) (reverse q.vars) i) ∙ w) in
+        let m = option_map_some (slice_get (reverse q.vars) i) (instance c.types) T (sym (get_map (instance c.types) (reverse q.vars) i) ∙ w) in
         let r = get_reverse q.vars i m.0 m.1 in
         transport (IsWitness d [] (values_at i)) m.2 (h.terms (count - suc i) (outermost m.0) (get_map outermost q.vars (count - suc i) ∙ ap (option_map outermost) r.1))
 
@@ -275,10 +276,10 @@ module _ (d : Declared) (std : IsStandard d) (n : ℕ) (q : Query) (gs : Goals) 
           by_conversion d [] P (instantiate values_at (instance_term c.types q.formula)) (instantiate values_at (instance_term c.types s)) form_fine (converts_sym form_converts) b
 
     pub goals_hold : Provable d [] P (instantiate values_at (instance_term c.types q.formula)) → EachOf (λ g. Holds d [] P c (formula_of_goal g)) (goal_list goals_opened)
-    goals_hold p = let b = bind_some (beta_normal n q.formula) (λ s. flat_goal n d [] s no_goals) gs e in to_goals b.0 (beta_reduces n q.formula b.0 b.1) b.2 p
+    goals_hold p = let b = and_then_some (beta_normal n q.formula) (λ s. flat_goal n d [] s no_goals) gs e in to_goals b.0 (beta_reduces n q.formula b.0 b.1) b.2 p
 
     pub goals_prove : EachOf (λ g. Holds d [] P c (formula_of_goal g)) (goal_list goals_opened) → Provable d [] P (instantiate values_at (instance_term c.types q.formula))
-    goals_prove p = let b = bind_some (beta_normal n q.formula) (λ s. flat_goal n d [] s no_goals) gs e in from_goals b.0 (beta_reduces n q.formula b.0 b.1) b.2 p
+    goals_prove p = let b = and_then_some (beta_normal n q.formula) (λ s. flat_goal n d [] s no_goals) gs e in from_goals b.0 (beta_reduces n q.formula b.0 b.1) b.2 p
 
   -- of a provable instance
   module _ (i : Instance) where
@@ -289,7 +290,7 @@ module _ (d : Declared) (std : IsStandard d) (n : ℕ) (q : Query) (gs : Goals) 
     instance_closes k w = record {
       types = at_closed i.types k;
       terms = λ x v g.
-          let m = map_some (slice_get q.vars x) outermost v (sym (get_map outermost q.vars x) ∙ g) in
+          let m = option_map_some (slice_get q.vars x) outermost v (sym (get_map outermost q.vars x) ∙ g) in
           transport (λ z. IsWitness d (map (instance (type_at i.types)) z.scope) (at i.values x) (instance (type_at i.types) z.type)) m.2 (witness_at d i.values (map (instance (type_at i.types)) q.vars) w x (instance (type_at i.types) m.0) (get_map (instance (type_at i.types)) q.vars x ∙ ap (option_map (instance (type_at i.types))) m.1));
     }
 

@@ -2,6 +2,7 @@
 use Rattle.std.proofs.Common.{◌≡◌, ℕ, zero, suc, ◌<◌, List, [], ◌∷◌, ◌++◌, map, length, ◌∙◌, refl, sym, ap, subst as transport, arith, Bool, true, false, nat_eq, nat_lt, if◌then◌else◌, Option, Some, None, inl, inr}
 use Rattle.std.specs.Prelude.{slice_get, ◌&&◌, ◌≢◌}
 use mathlib.Core.Path.{fun_ext}
+use Rattle.lp_unify_laws.specs.TypesBelow.{IsTypeBelow, AreTypesBelow}
 use Rattle.lp_calculus.specs.Types.{Ty, instance}
 use Rattle.lp_calculus.specs.Term.{Term, Atom, atom, constant, integer, text, eigen, logic, param}
 use Rattle.lp_calculus.specs.Convert.{Converts}
@@ -37,7 +38,6 @@ use Rattle.lp_unify_laws.proofs.Principal.{closings_are_the_same}
 use Rattle.lp_unify_laws.proofs.Stuck.{solve_stuck}
 use Rattle.lp_search_laws.specs.Holds.{IsTyped, IsVariableOf}
 use Rattle.lp_search_laws.specs.Clauses.{assumed_as, sentence_of, clauses_at}
-use Rattle.lp_search_laws.specs.Started.{IsTypeBelow, AreTypesBelow}
 use Rattle.lp_search_laws.specs.Branches.{IsPlainTerm, IsAssumable, AreProved, ArePlainEntries, IsPlainVariable, IsPlainPair, BranchTyping, IsTypedBranch, SolvesBranch, TypedTask, going, Sol, StandFor}
 use Rattle.lp_search_laws.specs.Behind.{LeadsThrough, behind, types_of, variables_of, eigens_of, IsBranchWith, SolvesWith}
 use Rattle.lp_search_laws.proofs.TypesPut.{put_types_is, put_types_in_is, satisfied_types, satisfied_instance, satisfied_term, satisfied_all}

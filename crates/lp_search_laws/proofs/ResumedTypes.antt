@@ -2,6 +2,7 @@
 use Rattle.std.proofs.Common.{◌≡◌, ℕ, zero, suc, ◌<◌, ◌≤◌, List, [], ◌∷◌, ◌++◌, map, length, ◌∙◌, refl, sym, ap, subst as transport, arith, Bool, true, false, nat_lt, if◌then◌else◌, Some}
 use Rattle.std.proofs.lemmas.Bool.Decides.{nat_tests}
 use mathlib.Core.Path.{fun_ext}
+use Rattle.lp_unify_laws.specs.TypesBelow.{IsTypeBelow, AreTysBelow, AreTypesBelow}
 use Rattle.lp_calculus.specs.Types.{Ty, Tys, var, param as type_param, con, arrow, no_types, types, instance, instances}
 use Rattle.lp_calculus.specs.Term.{Term, Atom, constant, integer, text, eigen, logic, param}
 use Rattle.lp_calculus.specs.Fill.{Within, Binding, put_all}
@@ -26,7 +27,6 @@ use Rattle.lp_unify_laws.proofs.Scopes.{in_scope, variable_of, prefix_length}
 use Rattle.lp_unify_laws.proofs.TypedBindings.{IsTypedTerm, HasAtomType, typed_atoms, term_more, put_all_typed}
 use Rattle.lp_unify_laws.proofs.PairLists.{put_all_instance}
 use Rattle.lp_search_laws.specs.Holds.{IsTyped}
-use Rattle.lp_search_laws.specs.Started.{IsTypeBelow, AreTypesInBelow, AreTypesBelow}
 use Rattle.lp_search_laws.specs.Branches.{IsPlainTerm, IsGoal, IsAssumable, ArePlainEntries, IsPlainVariable, IsPlainPair, BranchTyping, IsTypedBranch}
 use Rattle.lp_search_laws.specs.Behind.{IsBranchWith, behind, types_of, variables_of, eigens_of}
 use Rattle.lp_search_laws.proofs.TypesPut.{put_types_is, put_types_in_is, satisfied_instance}
@@ -55,7 +55,7 @@ mutual
   any_below k θ h (con c ts) = anys_below k θ h ts
   any_below k θ h (arrow a b) = (any_below k θ h a, any_below k θ h b)
 
-  anys_below : (k : ℕ) (θ : ℕ → Ty) → ((i : ℕ) → IsTypeBelow k (θ i)) → (ts : Tys) → AreTypesInBelow k (instances θ ts)
+  anys_below : (k : ℕ) (θ : ℕ → Ty) → ((i : ℕ) → IsTypeBelow k (θ i)) → (ts : Tys) → AreTysBelow k (instances θ ts)
   anys_below k θ h no_types = tt
   anys_below k θ h (types t ts) = (any_below k θ h t, anys_below k θ h ts)
 

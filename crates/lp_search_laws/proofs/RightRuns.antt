@@ -7,9 +7,9 @@ use Rattle.lp_model.specs.Branch.{Branch, Answer, Task, Go}
 use Rattle.lp_model.specs.Proofs.{Declared}
 use Rattle.lp_model.specs.Answers.{Query, Instance, IsInstance, IsWellFormed, TypedAnswer}
 use Rattle.lp_model.specs.Search.{look}
-use Rattle.lp_laws.proofs.Lists.{each_from_any}
-use Rattle.lp_laws.proofs.Stacks.{sound, exhausts, fine}
-use Rattle.lp_laws.proofs.InStep.{view_map, told_map, in_step}
+use Rattle.lp_proof_laws.proofs.Uniform.Lists.{each_from_any}
+use Rattle.lp_search_laws.proofs.Stack.Faithful.{sound, exhausts, fine}
+use Rattle.lp_search_laws.proofs.Stack.InStep.{view_map, told_map, in_step}
 use Rattle.lp_search_laws.specs.Branches.{TypedTask, going, task_of, IsOk, Sol, BranchTyping, IsTypedBranch, IsQueryInstance, SolvesBranch, IsRightView}
 use Rattle.lp_search_laws.specs.Right.{IsRightOf}
 

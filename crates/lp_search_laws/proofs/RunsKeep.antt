@@ -3,6 +3,7 @@
 use Rattle.std.proofs.Common.{◌≡◌, ℕ, zero, suc, ◌<◌, ◌+◌, List, [], ◌∷◌, ◌++◌, map, length, ◌∙◌, refl, sym, ap, subst as transport, inl, inr, Bool, true, false, nat_eq, Option, Some, None}
 use Rattle.std.specs.Prelude.{◌⊎◌, ◌&&◌, nat_lt, option_map, option_and_then}
 use mathlib.Core.Path.{fun_ext}
+use Rattle.lp_unify_laws.specs.TypesBelow.{IsTypeBelow, AreTysBelow, AreTypesBelow}
 use Rattle.lp_calculus.specs.Types.{Ty, Tys, var, param as type_param, con, arrow, no_types, types, instance}
 use Rattle.lp_calculus.specs.Term.{Term, Atom, index, atom, abs, app, apply, constant, integer, text, eigen, logic, param}
 use Rattle.lp_calculus.specs.Fill.{Binding, abstracted}
@@ -23,7 +24,6 @@ use Rattle.lp_unify_laws.specs.TypeSolutions.{Satisfies}
 use Rattle.lp_unify_laws.specs.Solutions.{at_types}
 use Rattle.lp_unify_laws.proofs.Looks.{seen}
 use Rattle.lp_unify_laws.proofs.Identities.{term_twice}
-use Rattle.lp_search_laws.specs.Started.{IsTypeBelow, AreTypesInBelow, AreTypesBelow}
 use Rattle.lp_search_laws.specs.Branches.{IsPlainAtom, IsPlainTerm, IsPlainPair}
 use Rattle.lp_search_laws.proofs.TypesOver.{itself, Over, AreOver, over_more, over_instance, over_fixed, types_put, Left, free_stays, each_more, left_append, IsBoundOver, AreSolved, solved_none, solved_append, ArePairsOver, solve_over, put_types_put}
 use Rattle.lp_search_laws.proofs.AtomsKept.{bind_is, map_is, some_is, apply_atoms, atoms_put, atoms_abstracted, atoms_pattern, atoms_look, atoms_settle, atoms_prune}
@@ -468,7 +468,7 @@ mutual
   type_over k (con c ts) h = types_over k ts h
   type_over k (arrow a b) h = (type_over k a h.0, type_over k b h.1)
 
-  types_over : (k : ℕ) (ts : Tys) → AreTypesInBelow k ts → AreOver (Below k) ts
+  types_over : (k : ℕ) (ts : Tys) → AreTysBelow k ts → AreOver (Below k) ts
   types_over k no_types h = tt
   types_over k (types t ts) h = (type_over k t h.0, types_over k ts h.1)
 
@@ -479,7 +479,7 @@ mutual
   over_type k (con c ts) h = over_types k ts h
   over_type k (arrow a b) h = (over_type k a h.0, over_type k b h.1)
 
-  over_types : (k : ℕ) (ts : Tys) → AreOver (Below k) ts → AreTypesInBelow k ts
+  over_types : (k : ℕ) (ts : Tys) → AreOver (Below k) ts → AreTysBelow k ts
   over_types k no_types h = tt
   over_types k (types t ts) h = (over_type k t h.0, over_types k ts h.1)
 

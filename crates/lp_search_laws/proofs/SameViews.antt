@@ -17,8 +17,8 @@ use Rattle.lp_model.specs.Rule.{type_pairs}
 use Rattle.lp_calculus.specs.Types.{Ty}
 use Rattle.lp_calculus.specs.Instance.{instance_term}
 use Rattle.lp_model.specs.Search.{with_goals, follow, equated, assigned, compared, tries, goal_key, look_constant, look_atom, look_form, look_normal, look_goal, look_branch, look, renewed, slotted, slots_of, pairs_of}
-use Rattle.lp_laws.proofs.MoreSteps.{Below, head_normal_more}
-use Rattle.lp_laws.proofs.MoreFuel.{solve_more}
+use Rattle.lp_unify_laws.proofs.MoreSteps.Scans.{Below, head_normal_more}
+use Rattle.lp_unify_laws.proofs.MoreSteps.Solving.{solve_more}
 use Rattle.lp_search_laws.specs.Holds.{equation}
 use Rattle.lp_search_laws.specs.Enough.{IsFound, CanEquate, CanAssign, CallHasEnough, HeadHasEnough, AtomHasEnough, TermHasEnough, HasEnough}
 use Rattle.lp_search_laws.proofs.EnoughSteps.{evaluate_more, key_more}

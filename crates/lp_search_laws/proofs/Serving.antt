@@ -9,8 +9,8 @@ use Rattle.lp_calculus.specs.Closed.{AreClosed}
 use Rattle.lp_calculus.specs.Spine.{head_of}
 use Rattle.lp_model.specs.Flatten.{ClauseFormula}
 use Rattle.lp_model.specs.Proofs.{Declared, Proof, Conv, True, And, Left, Right, Witness, All, Assume, Equal, Arith, Back, Focus, FConv, FAll, FTake, FNeed, FHit, IsAtomHead, assumed, proves, focuses, Provable, Focusable}
-use Rattle.lp_laws.proofs.Contexts.{get_front, get_back, get_split}
-use Rattle.lp_laws.proofs.Assumptions.{Extends, extends_self, extends_then}
+use Rattle.lp_proof_laws.proofs.Uniform.Contexts.{get_front, get_back, get_split}
+use Rattle.lp_proof_laws.proofs.Uniform.Assumptions.{Extends, extends_self, extends_then}
 
 -- some clause of R is focused on for the atom
 pub record Served (d : Declared) (E : List Ty) (Q R : List ClauseFormula) (A : Term) : Type 0 where

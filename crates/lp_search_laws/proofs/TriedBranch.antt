@@ -1,5 +1,6 @@
 -- The branch that a try makes, before unification: its goals are typed once the types of the heads are one.
 use Rattle.std.proofs.Common.{◌≡◌, ℕ, ◌+◌, List, [], ◌∷◌, ◌++◌, map, length, refl, sym, subst as transport, arith}
+use Rattle.lp_unify_laws.specs.TypesBelow.{AreTypesBelow}
 use Rattle.lp_calculus.specs.Types.{Ty, instance}
 use Rattle.lp_calculus.specs.Term.{Term}
 use Rattle.lp_calculus.specs.Instance.{instance_term}
@@ -18,9 +19,8 @@ use Rattle.lp_model.specs.Answers.{Query, Variable, PairTyping, AreTypedPairs, A
 use Rattle.lp_unify_laws.specs.TypeSolutions.{Unifies}
 use Rattle.lp_unify_laws.specs.Solutions.{instance_variable, IsMore}
 use Rattle.lp_unify_laws.proofs.Scopes.{in_scope, typed_grows, scope_grows, prefix_none}
-use Rattle.lp_laws.proofs.Roots.{connective}
+use Rattle.lp_proof_laws.proofs.Uniform.Roots.{connective}
 use Rattle.lp_search_laws.specs.Holds.{IsTyped}
-use Rattle.lp_search_laws.specs.Started.{AreTypesBelow}
 use Rattle.lp_search_laws.specs.Branches.{AreTypedEntries, IsGoal, AreGoals, IsAssumable, ArePlainEntries, IsPlainVariable, IsProgramTyped, IsTypedTry, BranchTyping, with_atom, answer_of}
 use Rattle.lp_search_laws.specs.Behind.{types_of, IsTypedAt, AreEntriesAt, IsBranchWith}
 use Rattle.lp_search_laws.specs.Tries.{new_variables, tried_values, tried_typing, tried_branch_of}

@@ -22,16 +22,16 @@ use Rattle.lp_model.specs.Flat.{Goals, no_goals, goals, Clause, clause, all_of, 
 use Rattle.lp_model.specs.Branch.{Entry, Branch, Try}
 use Rattle.lp_model.specs.Proofs.{Declared, IsAtomHead}
 use Rattle.lp_model.specs.Answers.{Query, Variable, over, IsScopedAtom}
-use Rattle.lp_laws.proofs.Roots.{connective, pi_type}
-use Rattle.lp_laws.proofs.TypedForms.{head_typed}
-use Rattle.lp_laws.proofs.TypedFlat.{goals_formula}
+use Rattle.lp_proof_laws.proofs.Uniform.Roots.{connective, pi_type}
+use Rattle.lp_proof_laws.proofs.Flattened.TypedForms.{head_typed}
+use Rattle.lp_proof_laws.proofs.Flattened.TypedFlat.{goals_formula}
 use Rattle.lp_unify_laws.specs.Solutions.{instance_typing, IsMore}
 use Rattle.lp_unify_laws.proofs.Sames.{both, same_number}
 use Rattle.lp_unify_laws.proofs.Scopes.{none_more}
 use Rattle.lp_unify_laws.proofs.TypedInstances.{side_instance, scoped_instance, length_map, pairs_have_instances}
 use Rattle.lp_unify_laws.proofs.PairLists.{HasTyping, each_typed, typings_of, each_map, pair_more}
-use Rattle.lp_endings.proofs.RunsCome.{solve_comes}
-use Rattle.lp_endings.proofs.PruningComes.{prunes_typed}
+use Rattle.lp_unify_laws.proofs.Termination.Runs.{solve_comes}
+use Rattle.lp_unify_laws.proofs.Termination.Pruning.{prunes_typed}
 use Rattle.lp_search_laws.specs.Holds.{IsTyped}
 use Rattle.lp_search_laws.specs.Branches.{AreTypedEntries, ArePlainEntries, IsPlainAtom, IsProgramTyped, IsAssumable, IsTypedTry, BranchTyping, with_atom}
 use Rattle.lp_search_laws.specs.Tries.{new_variables, tried_values, HeadsMatch, both_constants, both_eigens, IsMatch}

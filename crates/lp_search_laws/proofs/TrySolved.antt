@@ -2,6 +2,7 @@
 use Rattle.std.proofs.Common.{◌≡◌, ℕ, zero, suc, ◌+◌, ◌-◌, ◌<◌, List, [], ◌∷◌, map, length, ◌∙◌, refl, sym, ap, subst as transport, arith, Bool, true, false, nat_lt, if◌then◌else◌, inl, inr}
 use Rattle.std.specs.Prelude.{◌⊎◌}
 use Rattle.std.proofs.lemmas.Bool.Decides.{nat_tests}
+use Rattle.lp_unify_laws.specs.TypesBelow.{AreTypesBelow}
 use Rattle.lp_calculus.specs.Types.{Ty, var, instance}
 use Rattle.lp_calculus.specs.Term.{Term}
 use Rattle.lp_calculus.specs.Convert.{Converts}
@@ -17,7 +18,6 @@ use Rattle.lp_model.specs.Flatten.{ClauseFormula}
 use Rattle.lp_model.specs.Proofs.{Declared, Provable}
 use Rattle.lp_model.specs.Flat.{Goals, type_goals, formula_of_goals}
 use Rattle.lp_unify_laws.proofs.Identities.{both_types, term_twice, map_twice}
-use Rattle.lp_search_laws.specs.Started.{AreTypesBelow}
 use Rattle.lp_search_laws.specs.Branches.{IsPlainTerm, AreGoals}
 use Rattle.lp_search_laws.specs.Clauses.{AreWitnessesAt, with_own, Applies}
 use Rattle.lp_search_laws.proofs.Formulas.{goals_inside, types_inside}

@@ -1,6 +1,7 @@
 -- Flattened goals and clauses of typed formulas are typed over the same type variables, and plain.
 use Rattle.std.proofs.Common.{None, ◌≡◌, ℕ, zero, suc, List, [], ◌∷◌, ◌++◌, map, length, Option, Some, refl, sym, ap, ◌∙◌, subst as transport, arith, inl, inr, Bool, true, false}
 use Rattle.std.specs.Prelude.{option_map, ◌&&◌}
+use Rattle.lp_unify_laws.specs.TypesBelow.{IsTypeBelow, AreTypesBelow}
 use Rattle.lp_calculus.specs.Types.{Ty, arrow}
 use Rattle.lp_calculus.specs.Term.{Term, Atom, index, atom, abs, app, apply, shift, constant, integer, text, eigen, logic, param}
 use Rattle.lp_calculus.specs.Fill.{Within}
@@ -19,13 +20,13 @@ use Rattle.lp_model.specs.Flat.{Goal, Atomic, Cut, Either, Exists, Forall, Assum
 use Rattle.lp_model.specs.Flatten.{only, is_goal_head, is_clause_head, flat_goal, flat_goal_form, flat_list, flat_clause, flat_clause_form}
 use Rattle.lp_standard.specs.Schemes.{IsStandard, on_two}
 use Rattle.lp_model.specs.Proofs.{Declared, under}
-use Rattle.lp_laws.proofs.Lists.{each_append}
-use Rattle.lp_laws.proofs.Forms.{Shape, form_shape, apply_arguments}
-use Rattle.lp_laws.proofs.FlatGoals.{formula_raise}
-use Rattle.lp_laws.proofs.Roots.{connective, sigma_type, pi_type}
-use Rattle.lp_search_laws.specs.Started.{IsTypeBelow, AreTypesBelow, IsQueryAtom}
+use Rattle.lp_proof_laws.proofs.Uniform.Lists.{each_append}
+use Rattle.lp_proof_laws.proofs.Uniform.Forms.{Shape, form_shape, apply_arguments}
+use Rattle.lp_proof_laws.proofs.Flattened.FlatGoals.{formula_raise}
+use Rattle.lp_proof_laws.proofs.Uniform.Roots.{connective, sigma_type, pi_type}
+use Rattle.lp_search_laws.specs.Started.{IsQueryAtom}
 use Rattle.lp_search_laws.specs.Branches.{IsPlainTerm, IsClauseHead, IsGoal, AreGoals, AreClauses}
-use Rattle.lp_search_laws.proofs.Programs.{bind_some, map_some}
+use Rattle.lp_lemmas.proofs.Options.{and_then_some, option_map_some}
 use Rattle.lp_search_laws.proofs.Computed.{plain_type, both_true}
 use Rattle.lp_search_laws.proofs.PlainFlat.{raise_first, goals_raise, head_within, plain_spine, clause_head, plain_clause_head}
 
@@ -224,37 +225,37 @@ module _ (d : Declared) (std : IsStandard d) (k : ℕ) where
     form_fine (suc n) B t connective.Cut is s rest gs Γ e o r = transport (AreFine d k Γ B) (some_is (goals Cut rest) gs e) (in_front Γ B Cut rest (over_cut Γ) tt r)
     form_fine (suc n) B t (connective.And a b) is s rest gs Γ e o r =
         let p = over_parts Γ 0 a b (connective d std 0 (omega arith)) (over_equal Γ t (two 0 [] a b) s o) in
-        let q = bind_some (flat_goal n d B b rest) (flat_goal n d B a) gs e in
+        let q = and_then_some (flat_goal n d B b rest) (flat_goal n d B a) gs e in
         goal_fine n B a q.0 gs Γ q.2 p.0 (goal_fine n B b rest q.0 Γ q.1 p.1 r)
     form_fine (suc n) B t (connective.Or a b) is s rest gs Γ e o r =
         let p = over_parts Γ 1 a b (connective d std 1 (omega arith)) (over_equal Γ t (two 1 [] a b) s o) in
-        let q = bind_some (flat_goal n d B a no_goals) (λ l. option_map (λ m. goals (Either l m) rest) (flat_goal n d B b no_goals)) gs e in
-        let z = map_some (flat_goal n d B b no_goals) (λ m. goals (Either q.0 m) rest) gs q.2 in
+        let q = and_then_some (flat_goal n d B a no_goals) (λ l. option_map (λ m. goals (Either l m) rest) (flat_goal n d B b no_goals)) gs e in
+        let z = option_map_some (flat_goal n d B b no_goals) (λ m. goals (Either q.0 m) rest) gs q.2 in
         let x = goal_fine n B a no_goals q.0 Γ q.1 p.0 (none_fine Γ B) in
         let y = goal_fine n B b no_goals z.0 Γ z.1 p.1 (none_fine Γ B) in
         transport (AreFine d k Γ B) z.2 (in_front Γ B (Either q.0 z.0) rest (over_two Γ 1 (formula_of_goals q.0) (formula_of_goals z.0) (connective d std 1 (omega arith)) x.over y.over) (x.form, y.form) r)
     form_fine (suc n) B t (connective.Implies c g) is (inl s) rest gs Γ e o r =
         let p = over_parts Γ 2 c g (connective d std 2 (omega arith)) (over_equal Γ t (two 2 [] c g) s o) in
-        let q = bind_some (flat_clause n d B c [] []) (λ cs. option_map (λ hs. goals (Assume cs hs) rest) (flat_goal n d B g no_goals)) gs e in
-        let z = map_some (flat_goal n d B g no_goals) (λ hs. goals (Assume q.0 hs) rest) gs q.2 in
+        let q = and_then_some (flat_clause n d B c [] []) (λ cs. option_map (λ hs. goals (Assume cs hs) rest) (flat_goal n d B g no_goals)) gs e in
+        let z = option_map_some (flat_goal n d B g no_goals) (λ hs. goals (Assume q.0 hs) rest) gs q.2 in
         let x = clause_fine n B c [] [] q.0 Γ q.1 tt p.0 tt in
         let y = goal_fine n B g no_goals z.0 Γ z.1 p.1 (none_fine Γ B) in
         transport (AreFine d k Γ B) z.2 (in_front Γ B (Assume q.0 z.0) rest (over_two Γ 2 (formula_of_clauses q.0) (formula_of_goals z.0) (connective d std 2 (omega arith)) x.over y.over) (x.form, y.form) r)
     form_fine (suc n) B t (connective.Implies c g) is (inr s) rest gs Γ e o r =
         let p = over_parts Γ 3 g c (connective d std 3 (omega arith)) (over_equal Γ t (two 3 [] g c) s o) in
-        let q = bind_some (flat_clause n d B c [] []) (λ cs. option_map (λ hs. goals (Assume cs hs) rest) (flat_goal n d B g no_goals)) gs e in
-        let z = map_some (flat_goal n d B g no_goals) (λ hs. goals (Assume q.0 hs) rest) gs q.2 in
+        let q = and_then_some (flat_clause n d B c [] []) (λ cs. option_map (λ hs. goals (Assume cs hs) rest) (flat_goal n d B g no_goals)) gs e in
+        let z = option_map_some (flat_goal n d B g no_goals) (λ hs. goals (Assume q.0 hs) rest) gs q.2 in
         let x = clause_fine n B c [] [] q.0 Γ q.1 tt p.1 tt in
         let y = goal_fine n B g no_goals z.0 Γ z.1 p.0 (none_fine Γ B) in
         transport (AreFine d k Γ B) z.2 (in_front Γ B (Assume q.0 z.0) rest (over_two Γ 2 (formula_of_clauses q.0) (formula_of_goals z.0) (connective d std 2 (omega arith)) x.over y.over) (x.form, y.form) r)
     form_fine (suc n) B t (connective.ForAll T b) is s rest gs Γ e o r =
         let p = over_body Γ 4 T s.0 (pi_type d std T) (over_equal Γ t (pi_of T s.0) s.1 o) in
-        let z = map_some (flat_goal n d (true ∷ B) b no_goals) (λ hs. goals (Forall T hs) rest) gs e in
+        let z = option_map_some (flat_goal n d (true ∷ B) b no_goals) (λ hs. goals (Forall T hs) rest) gs e in
         let x = goal_fine n (true ∷ B) b no_goals z.0 (T ∷ Γ) z.1 (over_equal (T ∷ Γ) (body_of s.0) b (sym s.2) p.1) (none_fine (T ∷ Γ) (true ∷ B)) in
         transport (AreFine d k Γ B) z.2 (in_front Γ B (Forall T z.0) rest (over_quantified Γ 4 T (formula_of_goals z.0) (pi_type d std T) p.0 x.over) (p.0, x.form) r)
     form_fine (suc n) B t (connective.Exists T b) is s rest gs Γ e o r =
         let p = over_body Γ 5 T s.0 (sigma_type d std T) (over_equal Γ t (sigma_of T s.0) s.1 o) in
-        let z = map_some (flat_goal n d (false ∷ B) b (raise_goals 0 rest)) (λ hs. goals (Exists T hs) no_goals) gs e in
+        let z = option_map_some (flat_goal n d (false ∷ B) b (raise_goals 0 rest)) (λ hs. goals (Exists T hs) no_goals) gs e in
         let x = goal_fine n (false ∷ B) b (raise_goals 0 rest) z.0 (T ∷ Γ) z.1 (over_equal (T ∷ Γ) (body_of s.0) b (sym s.2) p.1) (raised_fine Γ B T rest r) in
         transport (AreFine d k Γ B) z.2 (in_front Γ B (Exists T z.0) no_goals (over_quantified Γ 5 T (formula_of_goals z.0) (sigma_type d std T) p.0 x.over) (p.0, x.form) (none_fine Γ B))
     form_fine (suc n) B t (connective.Not g) is s rest gs Γ e o r = absurd (cc)
@@ -267,7 +268,7 @@ module _ (d : Declared) (std : IsStandard d) (k : ℕ) where
     list_fine zero B ts gs Γ e h = absurd (cc)
     list_fine (suc n) B [] gs Γ e h = transport (AreFine d k Γ B) (some_is no_goals gs e) (none_fine Γ B)
     list_fine (suc n) B (t ∷ ts) gs Γ e h =
-        let q = bind_some (flat_list n d B ts) (flat_goal n d B t) gs e in
+        let q = and_then_some (flat_list n d B ts) (flat_goal n d B t) gs e in
         goal_fine n B t q.0 gs Γ q.2 h.0 (list_fine n B ts q.0 Γ q.1 h.1)
 
     clause_fine : (n : ℕ) (B : List Bool) (c : Term) (vs : List Ty) (body : List Term) (cs : Clauses) (Γ : List Ty) → flat_clause n d (falses vs ++ B) c vs body ≡ Some cs → AreTypesBelow k vs → Over (vs ++ Γ) c → EachOf (Over (vs ++ Γ)) body → ClausesFine d k Γ B cs
@@ -283,8 +284,8 @@ module _ (d : Declared) (std : IsStandard d) (k : ℕ) where
     clause_form_fine (suc n) B c (connective.Exists T b) s vs body cs Γ e m o h = absurd (cc)
     clause_form_fine (suc n) B c (connective.And a b) s vs body cs Γ e m o h =
         let p = over_parts (vs ++ Γ) 0 a b (connective d std 0 (omega arith)) (over_equal (vs ++ Γ) c (two 0 [] a b) s o) in
-        let q = bind_some (flat_clause n d (falses vs ++ B) a vs body) (λ l. option_map (add_clauses l) (flat_clause n d (falses vs ++ B) b vs body)) cs e in
-        let z = map_some (flat_clause n d (falses vs ++ B) b vs body) (add_clauses q.0) cs q.2 in
+        let q = and_then_some (flat_clause n d (falses vs ++ B) a vs body) (λ l. option_map (add_clauses l) (flat_clause n d (falses vs ++ B) b vs body)) cs e in
+        let z = option_map_some (flat_clause n d (falses vs ++ B) b vs body) (add_clauses q.0) cs q.2 in
         transport (ClausesFine d k Γ B) z.2 (add_fine Γ B q.0 z.0 (clause_fine n B a vs body q.0 Γ q.1 m p.0 h) (clause_fine n B b vs body z.0 Γ z.1 m p.1 h))
     clause_form_fine (suc n) B c (connective.Implies g b) (inl s) vs body cs Γ e m o h =
         let p = over_parts (vs ++ Γ) 2 g b (connective d std 2 (omega arith)) (over_equal (vs ++ Γ) c (two 2 [] g b) s o) in
@@ -296,8 +297,8 @@ module _ (d : Declared) (std : IsStandard d) (k : ℕ) where
         let p = over_body (vs ++ Γ) 4 T s.0 (pi_type d std T) (over_equal (vs ++ Γ) c (pi_of T s.0) s.1 o) in
         clause_fine n B b (T ∷ vs) (map (shift 0 1) body) cs Γ e (p.0, m) (over_equal (T ∷ (vs ++ Γ)) (body_of s.0) b (sym s.2) p.1) (shifts_over (vs ++ Γ) T body h)
     clause_form_fine (suc n) B c connective.Atomic s vs body cs Γ e m o h =
-        let q = bind_some (only (is_clause_head d (falses vs ++ B) (head_of c) && are_positive (arguments c)) c) (λ u. option_map (λ gs. clauses (clause 0 vs u gs) no_clauses) (flat_list n d (falses vs ++ B) body)) cs e in
-        let z = map_some (flat_list n d (falses vs ++ B) body) (λ gs. clauses (clause 0 vs q.0 gs) no_clauses) cs q.2 in
+        let q = and_then_some (only (is_clause_head d (falses vs ++ B) (head_of c) && are_positive (arguments c)) c) (λ u. option_map (λ gs. clauses (clause 0 vs u gs) no_clauses) (flat_list n d (falses vs ++ B) body)) cs e in
+        let z = option_map_some (flat_list n d (falses vs ++ B) body) (λ gs. clauses (clause 0 vs q.0 gs) no_clauses) cs q.2 in
         let u = only_some (is_clause_head d (falses vs ++ B) (head_of c) && are_positive (arguments c)) c q.0 q.1 in
         let w = both_true (is_clause_head d (falses vs ++ B) (head_of c)) (are_positive (arguments c)) u.0 in
         let i = clause_head d (falses vs ++ B) (head_of c) w.0 in

@@ -1,6 +1,7 @@
 -- The parts of typed goals and clauses over variables, and their atoms.
 use Rattle.std.proofs.Common.{◌≡◌, ℕ, zero, suc, List, [], ◌∷◌, ◌++◌, map, Option, Some, ◌∙◌, refl, sym, ap, subst as transport, arith, Bool, true, false}
 use Rattle.std.specs.Prelude.{slice_index_or}
+use Rattle.lp_unify_laws.specs.TypesBelow.{AreTypesBelow}
 use Rattle.lp_calculus.specs.Types.{Ty, arrow}
 use Rattle.lp_calculus.specs.Term.{Term, Atom, index, atom, abs, app, shift, substitute, constant, integer, text, eigen, logic, param}
 use Rattle.lp_calculus.specs.Convert.{ReducesTo}
@@ -19,10 +20,9 @@ use Rattle.lp_model.specs.Flat.{Goal, Atomic, Cut, Either, Exists, Forall, Assum
 use Rattle.lp_model.specs.Proofs.{Declared}
 use Rattle.lp_model.specs.Answers.{Variable, over, IsPrefix}
 use Rattle.lp_unify_laws.specs.Solutions.{IsMore}
-use Rattle.lp_unify_laws.proofs.TypedBindings.{IsTypedTerm, term_reduces, term_more, term_wider}
-use Rattle.lp_laws.proofs.Roots.{connective}
+use Rattle.lp_unify_laws.proofs.TypedBindings.{term_reduces, term_more, term_wider}
+use Rattle.lp_proof_laws.proofs.Uniform.Roots.{connective}
 use Rattle.lp_search_laws.specs.Holds.{IsTyped}
-use Rattle.lp_search_laws.specs.Started.{AreTypesBelow}
 use Rattle.lp_search_laws.specs.Clauses.{own_types}
 use Rattle.lp_search_laws.specs.Branches.{IsPlainAtom, IsPlainTerm, IsClauseHead, IsGoal, AreGoals, IsClause, AreClauses, IsAssumable}
 use Rattle.lp_search_laws.proofs.Closed.{body_opens}
@@ -45,9 +45,6 @@ both_typed d E V c A B s h =
 
 pub function_typed : (d : Declared) (E : List Ty) (V : List Variable) (c : ℕ) (T : Ty) (s : Term) → scheme_type (T ∷ []) (d c) ≡ Some (arrow (arrow T o_type) o_type) → IsTyped d E V (app (atom (constant c (T ∷ []))) s) o_type → IsTyped d E V s (arrow T o_type)
 function_typed d E V c T s e h = record { typed = transport (Typed (over d E V) [] s) (quantifier_is (scheme_type (T ∷ []) (d c)) T h.typed.0 e h.typed.1) h.typed.2; scoped = h.scoped.1 }
-
-abbrev up_term : {d : Declared} {E : List Ty} {V : List Variable} {t : Term} {T : Ty} → IsTyped d E V t T → IsTypedTerm d E V t T
-up_term h = record { typed = h.typed; scoped = h.scoped }
 
 pub typed_reduced : (d : Declared) (E : List Ty) (V : List Variable) (T : Ty) (t u : Term) → ReducesTo t u → IsTyped d E V t T → IsTyped d E V u T
 typed_reduced d E V T t u r h = let x = term_reduces d E V T r (record { typed = h.typed; scoped = h.scoped }) in record { typed = x.typed; scoped = x.scoped }

@@ -180,9 +180,6 @@ solved_one Q b h = record { satisfied = (one_here b ∙ sym (over_fixed (Not b.i
 
 -- what a rule comes to
 
-abbrev IsPairOver : (Q : ℕ → Type 0) → TypePair → Type 0
-IsPairOver Q p = Over Q p.left × Over Q p.right
-
 abbrev pub ArePairsOver : (Q : ℕ → Type 0) → List TypePair → Type 0
 ArePairsOver Q ps = EachOf (λ p. Over Q p.left × Over Q p.right) ps
 

@@ -1,5 +1,6 @@
 -- Closings that lead through what a unification leaves, and the entries behind it.
 use Rattle.std.specs.Prelude.{ℕ, ◌≡◌, List, [], ◌∷◌, map, length, Some, slice_get}
+use Rattle.lp_unify_laws.specs.TypesBelow.{AreTypesBelow}
 use Rattle.lp_calculus.specs.Types.{Ty, var, instance}
 use Rattle.lp_calculus.specs.Convert.{Converts}
 use Rattle.lp_calculus.specs.Fill.{Binding}
@@ -16,7 +17,6 @@ use Rattle.lp_model.specs.Branch.{Entry, Branch, put_entries, type_entries}
 use Rattle.lp_unify_laws.specs.TypeSolutions.{Unifies, Satisfies}
 use Rattle.lp_unify_laws.specs.Solutions.{instance_variable, through_bindings, AreStuck}
 use Rattle.lp_search_laws.specs.Holds.{IsTyped}
-use Rattle.lp_search_laws.specs.Started.{AreTypesBelow}
 use Rattle.lp_search_laws.specs.Branches.{IsPlainTerm, IsPlainVariable, IsPlainPair, ArePlainEntries, BranchTyping, SolvesBranch, answer_of}
 
 -- the closing c is, through bindings and types, the closing z: to the variables V they give the same

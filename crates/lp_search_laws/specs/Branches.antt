@@ -1,6 +1,7 @@
 -- Branches of the plain search with their typings, and the instances of the query that a task can still give. A typing is carried beside the
 -- task: what a search leaves of a typed task are typed tasks.
 use Rattle.std.specs.Prelude.{◌≡◌, ◌≢◌, ◌≤◌, ◌⊎◌, ℕ, Bool, true, false, List, [], ◌∷◌, ◌++◌, map, length, slice_index_or, Some}
+use Rattle.lp_unify_laws.specs.TypesBelow.{IsTypeBelow, AreTypesBelow}
 use Rattle.lp_calculus.specs.Types.{Ty, instance}
 use Rattle.lp_calculus.specs.Term.{Term, Atom, index, atom, abs, app, constant, integer, text, eigen, logic, param}
 use Rattle.lp_calculus.specs.Typing.{o_type, type_at}
@@ -22,7 +23,6 @@ use Rattle.lp_model.specs.Branch.{Entry, Branch, Answer, Task, Go, Try, Stop}
 use Rattle.lp_model.specs.Search.{with_goals, has_head}
 use Rattle.lp_unify_laws.specs.Solutions.{AreStuck}
 use Rattle.lp_search_laws.specs.Holds.{Holds, IsTyped}
-use Rattle.lp_search_laws.specs.Started.{IsTypeBelow, AreTypesBelow}
 use Rattle.lp_search_laws.specs.Clauses.{Serves, clauses_at, own_types}
 
 -- goals and clauses: atoms are positive, type variables are below k

@@ -1,33 +1,18 @@
 -- Typed queries, programs of flattened clauses, and what the search of a query starts with.
-use Rattle.std.specs.Prelude.{◌≡◌, ℕ, suc, ◌-◌, ◌<◌, List, [], ◌∷◌, ◌++◌, map, length, reverse, Some}
-use Rattle.lp_calculus.specs.Types.{Ty, Tys, var, param as type_param, con, arrow, no_types, types, instance}
+use Rattle.std.specs.Prelude.{◌≡◌, ℕ, suc, ◌-◌, List, [], ◌∷◌, ◌++◌, map, length, reverse, Some}
+use Rattle.lp_unify_laws.specs.TypesBelow.{IsTypeBelow, AreTypesBelow}
+use Rattle.lp_calculus.specs.Types.{Ty, instance}
 use Rattle.lp_calculus.specs.Term.{Atom, atom, constant, integer, text, eigen, logic, param}
 use Rattle.lp_calculus.specs.Fill.{Within}
 use Rattle.lp_calculus.specs.Typing.{Typed, o_type}
 use Rattle.lp_model.specs.Faithful.{EachOf}
 use Rattle.lp_model.specs.Pair.{Closing, closed}
-use Rattle.lp_model.specs.Flat.{Goals, Clause, clause, Clauses, clause_list, goal_list, instantiate_goals, formula_of_goal, formula_of_clause}
+use Rattle.lp_model.specs.Flat.{Goals, Clause, Clauses, clause_list, goal_list, instantiate_goals, formula_of_goal}
 use Rattle.lp_model.specs.Flatten.{ClauseFormula, flatten}
 use Rattle.lp_model.specs.Proofs.{Declared, under}
 use Rattle.lp_model.specs.Answers.{Query, Variable, Instance, Closes, ConvertEach}
 use Rattle.lp_model.specs.Search.{vars_from, types_from}
 use Rattle.lp_search_laws.specs.Holds.{Holds}
-
--- the type variables are below k
-abbrev mutual
-  pub IsTypeBelow : (k : ℕ) → Ty → Type 0
-  IsTypeBelow k (var i) = i < k
-  IsTypeBelow k (type_param n) = Unit {0}
-  IsTypeBelow k (con c ts) = AreTypesInBelow k ts
-  IsTypeBelow k (arrow a b) = IsTypeBelow k a × IsTypeBelow k b
-
-  pub AreTypesInBelow : (k : ℕ) → Tys → Type 0
-  AreTypesInBelow k no_types = Unit {0}
-  AreTypesInBelow k (types t ts) = IsTypeBelow k t × AreTypesInBelow k ts
-
-abbrev pub AreTypesBelow : (k : ℕ) → List Ty → Type 0
-AreTypesBelow k [] = Unit {0}
-AreTypesBelow k (t ∷ ts) = IsTypeBelow k t × AreTypesBelow k ts
 
 -- an atom of a query: no logic variable and no eigenconstant, and only the query's type variables
 abbrev pub IsQueryAtom : (k : ℕ) → Atom → Type 0
@@ -48,10 +33,6 @@ pub record IsTypedQuery (d : Declared) (q : Query) : Type 0 where
 pub record IsTypedSentence (d : Declared) (D : ClauseFormula) : Type 0 where
   pub typed : Typed (under d []) [] D.formula o_type
   pub within : Within (IsQueryAtom D.type_vars) 0 D.formula
-
--- a flattened clause of a program as a formula over its type variables
-abbrev pub clause_formula : Clause → ClauseFormula
-clause_formula (clause k vs h b) = record { type_vars = k; formula = formula_of_clause (clause k vs h b) }
 
 -- the flattened clauses of each sentence, one sentence behind the other
 abbrev pub AreFlattened : (n : ℕ) → Declared → List ClauseFormula → List Clause → Type 0

@@ -1,7 +1,11 @@
-//! Answers of the plain search are right: what holds of the look of hereditary Harrop goals in lp_model, as functions that do nothing; each
-//! contract is a law.
+//! The plain search ends and its answers are right: what holds of the search over a stack, whatever a task is, and of the look of hereditary Harrop
+//! goals in lp_model, as functions that do nothing; each contract is a law.
 #![tactic(auto)]
 
+/// The search over a stack, whatever a task is.
+pub mod skeleton;
+/// The plain search ends, and more steps change nothing.
+pub mod search;
 /// Goals that are taken apart.
 pub mod taken_apart;
 /// Equalities, through the unifier.

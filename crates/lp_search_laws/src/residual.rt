@@ -1,6 +1,7 @@
 // What unification leaves is made of what it was given.
 
 ghost use Rattle.std.specs.Prelude.{◌≡◌, ℕ, ◌<◌, List, Some};
+ghost use Rattle.lp_unify_laws.specs.TypesBelow.{IsTypeBelow};
 ghost use Rattle.lp_calculus.specs.Types.{var};
 ghost use Rattle.lp_model.specs.Faithful.{EachOf};
 ghost use Rattle.lp_model.specs.Types.{TypePair, put_types};
@@ -8,7 +9,6 @@ ghost use Rattle.lp_model.specs.Pair.{Pair};
 ghost use Rattle.lp_model.specs.Unify.{State, Solution, solve};
 ghost use Rattle.lp_unify_laws.specs.TypeSolutions.{Satisfies};
 ghost use Rattle.lp_unify_laws.specs.Solutions.{at_types};
-ghost use Rattle.lp_search_laws.specs.Started.{IsTypeBelow};
 ghost use Rattle.lp_search_laws.specs.Branches.{IsPlainTerm, IsPlainPair};
 
 /// Positive terms over some type variables leave positive terms over these.

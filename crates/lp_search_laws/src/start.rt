@@ -15,16 +15,17 @@ ghost use Rattle.lp_model.specs.Branch.{Go};
 ghost use Rattle.lp_model.specs.Search.{start};
 ghost use Rattle.lp_search_laws.specs.Begun.{first_branch, first_typing};
 ghost use Rattle.lp_search_laws.specs.Branches.{IsProgramTyped, IsTypedBranch, SolvesBranch};
-ghost use Rattle.lp_search_laws.specs.Started.{IsTypedQuery, IsTypedSentence, clause_formula, AreFlattened, StartHolds};
+ghost use Rattle.lp_search_laws.specs.Clauses.{sentence_of};
+ghost use Rattle.lp_search_laws.specs.Started.{IsTypedQuery, IsTypedSentence, AreFlattened, StartHolds};
 
 /// The flattened clauses of a program, each on its own, prove exactly what its sentences prove, with any clauses behind them.
 pub fn programs_read_back()
-    ensures { (d : Declared) → IsStandard d → (n : ℕ) (F : List ClauseFormula) (P : List Clause) → EachOf (IsSentence d) F → AreFlattened n d F P → (E : List Ty) (Q : List ClauseFormula) (G : Term) → (Provable d E (F ++ Q) G → Provable d E (map clause_formula P ++ Q) G) × (Provable d E (map clause_formula P ++ Q) G → Provable d E (F ++ Q) G) }
+    ensures { (d : Declared) → IsStandard d → (n : ℕ) (F : List ClauseFormula) (P : List Clause) → EachOf (IsSentence d) F → AreFlattened n d F P → (E : List Ty) (Q : List ClauseFormula) (G : Term) → (Provable d E (F ++ Q) G → Provable d E (map sentence_of P ++ Q) G) × (Provable d E (map sentence_of P ++ Q) G → Provable d E (F ++ Q) G) }
 {}
 
 /// Each of them is a sentence.
 pub fn flattened_clauses_are_sentences()
-    ensures { (d : Declared) → IsStandard d → (n : ℕ) (F : List ClauseFormula) (P : List Clause) → EachOf (IsSentence d) F → AreFlattened n d F P → EachOf (λ c. IsSentence d (clause_formula c)) P }
+    ensures { (d : Declared) → IsStandard d → (n : ℕ) (F : List ClauseFormula) (P : List Clause) → EachOf (IsSentence d) F → AreFlattened n d F P → EachOf (λ c. IsSentence d (sentence_of c)) P }
 {}
 
 /// Clauses that are assumed together may be assumed each on its own.

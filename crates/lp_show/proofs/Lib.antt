@@ -5,3 +5,5 @@ pub mod Stacks
 pub mod Writings
 pub mod Formings
 pub mod Listings
+pub mod BinderNames
+pub mod ShownRows

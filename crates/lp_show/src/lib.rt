@@ -9,6 +9,8 @@ mod last;
 mod forms;
 // The glossary, as the caller tells it.
 mod glossary;
+// What holds of the names of binders.
+mod laws;
 // Constants, variables and literals by themselves.
 mod leaves;
 // The text of a term, and the lines of an answer.
@@ -30,4 +32,5 @@ mod write;
 
 pub use glossary::{Entry, Glossary};
 pub use last::ending;
+pub use laws::{binders_differ, binders_name_no_constant};
 pub use lines::{answer, term};

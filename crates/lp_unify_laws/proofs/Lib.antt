@@ -44,3 +44,8 @@ pub mod Principal
 pub mod PairLaws
 pub mod UntypedRows
 pub mod CaseRows
+pub mod Termination
+pub mod TypeTurns
+pub mod MoreSteps
+pub mod TypeInstances
+pub mod NormalForms

@@ -18,7 +18,8 @@ use Rattle.lp_unify_laws.specs.Solutions.{instance_variable, instance_binding}
 use Rattle.lp_unify_laws.proofs.Scopes.{arrows, types_in, or_o, AreEigens}
 use Rattle.lp_unify_laws.proofs.NewVariables.{IsNew, new_variable, with_new}
 use Rattle.lp_unify_laws.proofs.Scans.{Seen, Scans, ScansAll, scans_abs, scans_rigid, scans_pattern, scans_flexible, scans_none, scans_more}
-use Rattle.lp_unify_laws.proofs.Instances.{typed_by, instance_all, instance_apply, instance_pattern, instance_substitute, head_instance}
+use Rattle.lp_unify_laws.proofs.TypeInstances.{typed_by, instance_substitute}
+use Rattle.lp_unify_laws.proofs.Instances.{instance_all, instance_apply, instance_pattern, head_instance}
 use Rattle.lp_unify_laws.proofs.Decomposing.{instance_rigid}
 use Rattle.lp_unify_laws.proofs.TypedInstances.{length_map, map_append, get_map}
 use Rattle.lp_unify_laws.proofs.Placed.{IsTypedSide}

@@ -4,13 +4,13 @@ use Rattle.std.specs.Prelude.{◌&&◌, nat_le}
 use Rattle.std.proofs.lemmas.Bool.Decides.{nat_tests}
 use Rattle.lp_calculus.specs.Term.{Term, atom, apply, Atom, constant, integer, text, eigen, logic, param}
 use Rattle.lp_calculus.specs.Convert.{Converts}
-use Rattle.lp_calculus.specs.Fill.{Within, at_variables, close, Binding, put, abstracted}
+use Rattle.lp_calculus.specs.Fill.{Within, close, abstracted}
 use Rattle.lp_model.specs.Patterns.{eigens, member}
 use Rattle.lp_model.specs.Look.{are_distinct, are_above}
 use Rattle.lp_unify_laws.specs.Levels.{IsPairAtom, IsLevelAtom, IsClosing}
 use Rattle.lp_unify_laws.specs.Right.{through}
 use Rattle.lp_model.specs.Scan.{renewed}
-use Rattle.lp_calculus.proofs.Fills.{fill_same, within_more}
+use Rattle.lp_calculus.proofs.Fills.{within_more}
 use Rattle.lp_calculus.proofs.Steps.{converts_on, converts_sym, converts_is}
 use Rattle.lp_unify_laws.proofs.Abstractions.{Avoids, And, distinct_tells, closed_avoids, within_abstracted, abstracted_beta, abstracted_eta, converts_abstracted, close_abstracted, close_pattern}
 use Rattle.lp_unify_laws.proofs.Sames.{both, same_number}
@@ -70,18 +70,6 @@ extended_closing σ n m t c w = record {
   closed = λ x l. if_closed (Within (IsLevelAtom l) 0) (nat_eq x n && nat_eq l m) t (σ x l)
       (λ e. let r = both (nat_eq x n) (nat_eq l m) e in transport (λ j. Within (IsLevelAtom j) 0 t) (sym (same_number l m r.1)) w) (c.closed x l);
 }
-
--- on terms with older variables alone nothing changes
-old_atom : (σ : ℕ → ℕ → Term) (n m k : ℕ) (t : Term) (a : Atom) → IsPairAtom n k a → at_variables (extended σ n m t) a ≡ at_variables σ a
-old_atom σ n m k t (eigen j) p = refl
-old_atom σ n m k t (logic x l) p = extended_old σ n m t x l p.0
-old_atom σ n m k t (constant c ts) p = refl
-old_atom σ n m k t (integer z) p = refl
-old_atom σ n m k t (text s) p = refl
-old_atom σ n m k t (param j u) p = refl
-
-pub extended_close : (σ : ℕ → ℕ → Term) (n m k : ℕ) (t u : Term) → Within (IsPairAtom n k) 0 u → close (extended σ n m t) u ≡ close σ u
-extended_close σ n m k t u w = fill_same (IsPairAtom n k) (at_variables (extended σ n m t)) (at_variables σ) (old_atom σ n m k t) 0 u w
 
 -- what stands in the value
 abbrev pub Inside : ℕ → ℕ → ℕ → List ℕ → Atom → Type 0
@@ -143,13 +131,6 @@ renewed_gives σ next y m l b cs w c h d a r q e =
     (converts_on (converts_abstracted b e)
     (converts_on (converts_abstracted b (converts_sym (abstracted_beta (Among l cs) cs w q)))
     (converts_is (sym out))))
-
--- the closing through one binding, at older variables
-put_here : (bd : Binding) → put bd (atom (logic bd.id bd.level)) ≡ bd.value
-put_here bd =
-    let p : nat_eq bd.id bd.id ≡ true = grind (arith, nat_tests) in
-    let q : nat_eq bd.level bd.level ≡ true = grind (arith, nat_tests) in
-    rw (p, q)
 
 if_through : (b : Bool) (σ' : ℕ → ℕ → Term) (s t u : Term) → (b ≡ true → Converts s (close σ' t)) → Converts s (close σ' u) → Converts s (close σ' (if b then t else u))
 if_through true σ' s t u h k = h refl

@@ -62,9 +62,6 @@ opened_typed d F V k b A B e w =
 pub opened_scoped : (V : List Variable) (E : List Ty) (k : ℕ) (b : Term) → Within (IsScopedVariable V E) 0 (abs b) → Within (IsScopedVariable V E) 0 (substitute (atom (eigen k)) b)
 opened_scoped V E k b w = within_step (IsScopedVariable V E) 0 (here (by_beta b (atom (eigen k)))) (w, tt)
 
-abbrev AllTyped : (d : Declared) (F : List Ty) (V : List Variable) → (A : Ty) → List Term → (T : Ty) → Type 0
-AllTyped d F V A ts T = HaveTypes (in_scope d F V) [] A ts T
-
 mutual
   pub scans_placed : (s : Side) (next : ℕ) (d : Declared) (E : List Ty) (V : List Variable) → {inside : Bool} {k : ℕ} {t : Term} {ps : List Pattern} → Scans s next inside k t ps → (L : List Ty) (T : Ty) → length (E ++ L) ≡ k → HasType (in_scope d (E ++ L) V) [] t T → Within (IsScopedVariable V E) 0 t → ArePlaced d E V ps
   scans_placed s next d E V (scans_abs {k = k} b w r i) L T e ty sc =

@@ -22,18 +22,6 @@ pair_up next n (integer z) p = tt
 pair_up next n (text s) p = tt
 pair_up next n (param k t) p = tt
 
-pub up_all : (next n : ℕ) (ts : List Term) → WithinAll (IsPairAtom next n) ts → WithinAll (UpTo n) ts
-up_all next n [] w = tt
-up_all next n (t ∷ ts) w = (within_more (IsPairAtom next n) (UpTo n) 0 0 (pair_up next n) (omega arith) t w.0, up_all next n ts w.1)
-
--- rule 1
-pub dropped_right : (next : ℕ) (p : Pair) → Converts p.left p.right → IsGiven next p []
-dropped_right next p h = record {
-  pairs = tt;
-  keeps = λ σ c s. tt;
-  solves = λ σ c s. converts_fill (at_variables σ) h;
-}
-
 -- rule 2
 closed_new : (next n : ℕ) (σ : ℕ → ℕ → Term) → IsClosing σ → (t : Term) → Within (IsPairAtom next n) 0 t → Within (Not (suc n)) 0 (close σ t)
 closed_new next n σ c t w = within_more (IsLevelAtom n) (Not (suc n)) 0 0 (closed_not n (suc n) (omega arith)) (omega arith) (close σ t) (within_close next n σ c t w)

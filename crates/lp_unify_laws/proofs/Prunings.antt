@@ -263,14 +263,6 @@ pair_seen next n (integer z) p = tt
 pair_seen next n (text s) p = tt
 pair_seen next n (param k t) p = tt
 
-pub seen_pair : (next n : ℕ) (a : Atom) → Seen next n n a → IsPairAtom next n a
-seen_pair next n (eigen k) p = p
-seen_pair next n (logic x l) p = p
-seen_pair next n (constant c ts) p = tt
-seen_pair next n (integer z) p = tt
-seen_pair next n (text s) p = tt
-seen_pair next n (param k t) p = tt
-
 abbrev side_variable : Side → Term
 side_variable s = atom (logic s.id s.level)
 

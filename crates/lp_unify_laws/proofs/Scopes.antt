@@ -61,9 +61,6 @@ more_get V W m x v e = transport (λ z. slice_get z x ≡ Some v) (sym m.is) (ge
 pub more_before : (V W : List Variable) → IsMore V W → (x : ℕ) (v : Variable) → x < length V → slice_get W x ≡ Some v → slice_get V x ≡ Some v
 more_before V W m x v h e = get_before V m.more x v h (transport (λ z. slice_get z x ≡ Some v) m.is e)
 
-pub more_length : (V W : List Variable) → IsMore V W → length V ≤ length W
-more_length V W m = transport (λ z. length V ≤ length z) (sym m.is) (length_append V m.more)
-
 -- types of atoms
 abbrev pub in_scope : Declared → List Ty → List Variable → Atom → Option Ty
 in_scope d E V a = atom_type (over d E V) a

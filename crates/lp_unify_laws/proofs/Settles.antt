@@ -14,7 +14,6 @@ use Rattle.lp_model.specs.Look.{Look, an_abs, rigid, flexible, look, pattern_of}
 use Rattle.lp_model.specs.Scan.{settle, settle_all}
 use Rattle.lp_calculus.proofs.Fills.{within_shift, fill-substitute, fill_none, subst_closed}
 use Rattle.lp_calculus.proofs.Steps.{Step, within_reduces, within_step, step_fill}
-use Rattle.lp_unify_laws.proofs.Abstractions.{Not}
 use Rattle.lp_unify_laws.proofs.Looks.{seen, look_reduces, pattern_tells}
 use Rattle.lp_unify_laws.proofs.Firm.{IsFirm, look_firm}
 use Rattle.lp_calculus.proofs.Rigid.{IsRigid, reduces_on}
@@ -154,14 +153,6 @@ rigid_nf (index i) r = tt
 rigid_nf (atom a) r = tt
 rigid_nf (abs b) r = absurd r
 rigid_nf (app t u) r = absurd r
-
-up_not : (k : ℕ) (a : Atom) → UpTo k a → Not (suc k) a
-up_not k (eigen j) p = λ e. omega arith
-up_not k (logic x l) p = tt
-up_not k (constant c ts) p = tt
-up_not k (integer z) p = tt
-up_not k (text s) p = tt
-up_not k (param i t) p = tt
 
 abbrev Tells : ℕ → Type 0
 Tells n = (k : ℕ) (t u : Term) → Within (UpTo k) 0 t → settle n k t ≡ Some u → IsSettled t u

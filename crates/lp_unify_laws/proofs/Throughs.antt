@@ -58,10 +58,6 @@ pair_next next next' n h (param k t) p = tt
 pub pair_next_term : (next next' n : ℕ) → next ≤ next' → (t : Term) → Within (IsPairAtom next n) 0 t → Within (IsPairAtom next' n) 0 t
 pair_next_term next next' n h t w = within_more (IsPairAtom next n) (IsPairAtom next' n) 0 0 (pair_next next next' n h) (omega arith) t w
 
-pub scoped_next : (next next' : ℕ) → next ≤ next' → (bs : List Binding) → AreScoped next bs → AreScoped next' bs
-scoped_next next next' h [] w = tt
-scoped_next next next' h (b ∷ bs) w = (pair_next_term next next' b.level h b.value w.0, scoped_next next next' h bs w.1)
-
 -- closings that agree on the older variables agree on terms of them
 like_atom : (σ τ : ℕ → ℕ → Term) (next n : ℕ) → ((x l : ℕ) → x < next → Converts (σ x l) (τ x l)) → (a : Atom) → IsPairAtom next n a → Converts (at_variables σ a) (at_variables τ a)
 like_atom σ τ next n h (logic x l) p = h x l p.0

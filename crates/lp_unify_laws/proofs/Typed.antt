@@ -9,7 +9,7 @@ use Rattle.lp_calculus.proofs.Sigma.{up, subst, instead, subst-subst, subst-rena
 use Rattle.lp_calculus.proofs.Plain.{substitute-subst}
 use Rattle.lp_calculus.specs.Fill.{fill}
 use Rattle.lp_calculus.specs.Typing.{HasType}
-use Rattle.lp_calculus.proofs.Steps.{converts_on, converts_sym, converts_is, converts_step, converts_app, converts_fill}
+use Rattle.lp_calculus.proofs.Steps.{converts_on, converts_sym, converts_is, converts_step, converts_app}
 use Rattle.lp_calculus.proofs.Rigid.{heads_joint}
 
 abbrev pub IsBase : Ty → Type 0
@@ -140,11 +140,6 @@ mutual
       let q = sizes_same τ all d all' in
       omega arith
 
--- a renaming of atoms that keeps types and parameters keeps sizes
-pub record IsRenaming (τ : Atom → Ty) (ρ : Atom → Atom) : Type 0 where
-  pub types : (a : Atom) → τ (ρ a) ≡ τ a
-  pub params : (A : Ty) → ρ (param 0 A) ≡ param 0 A
-
 abbrev pub renamed : (Atom → Atom) → Term → Term
 renamed ρ t = fill (λ a. atom (ρ a)) t
 
@@ -155,17 +150,6 @@ renamed_all ρ (t ∷ ts) = renamed ρ t ∷ renamed_all ρ ts
 pub renamed_apply : (ρ : Atom → Atom) (h : Term) (ts : List Term) → renamed ρ (apply h ts) ≡ apply (renamed ρ h) (renamed_all ρ ts)
 renamed_apply ρ h [] = refl
 renamed_apply ρ h (t ∷ ts) = renamed_apply ρ (app h t) ts
-
-mutual
-  pub sized_renamed : (τ : Atom → Ty) (ρ : Atom → Atom) → IsRenaming τ ρ → {T : Ty} {t : Term} {n : ℕ} → Sized τ T t n → Sized τ T (renamed ρ t) n
-  sized_renamed τ ρ r (sized_arrow {A = A} {B = B} {t = t} {n = n} h) = sized_arrow (transport (λ z. Sized τ B (app (renamed ρ t) (atom z)) n) (r.params A) (sized_renamed τ ρ r h))
-  sized_renamed τ ρ r (sized_base {T = T} b a ts c m e all) =
-      sized_base b (ρ a) (renamed_all ρ ts) (converts_on (converts_fill (λ a. atom (ρ a)) c) (converts_is (renamed_apply ρ (atom a) ts))) m e
-      (transport (λ z. SizedAll τ z (renamed_all ρ ts) T m) (sym (r.types a)) (all_renamed τ ρ r all))
-
-  all_renamed : (τ : Atom → Ty) (ρ : Atom → Atom) → IsRenaming τ ρ → {T U : Ty} {ts : List Term} {n : ℕ} → SizedAll τ T ts U n → SizedAll τ T (renamed_all ρ ts) U n
-  all_renamed τ ρ r (sized_none e) = sized_none e
-  all_renamed τ ρ r (sized_more n m e h all) = sized_more n m e (sized_renamed τ ρ r h) (all_renamed τ ρ r all)
 
 -- p stands in a term below heads and, for each abstraction, a parameter
 mutual
@@ -227,12 +211,3 @@ path_below τ p U (sized_base b a' ts' d m e all) a ts c g =
     let r = any_smaller τ p U all j.arguments (transport (λ z. PathAny τ p U (τ z) ts) i g) in
     let q = r.least in
     (r.size, r.sized, omega arith)
-
--- so no typed term stands, with its atoms renamed, below a head in itself
-pub no_proper_part : (τ : Atom → Ty) (ρ : Atom → Atom) → IsRenaming τ ρ → (T : Ty) (t : Term) → Long τ T t → (a : Atom) (ts : List Term) → Converts t (apply (atom a) ts) → PathAny τ (renamed ρ t) T (τ a) ts → ⊥
-no_proper_part τ ρ r T t l a ts c g =
-    let s = long_sized τ l in
-    let z = path_below τ (renamed ρ t) T s.1 a ts c g in
-    let e = size_same τ (sized_renamed τ ρ r s.1) (same (renamed ρ t)) z.1 in
-    let q = z.2 in
-    omega arith

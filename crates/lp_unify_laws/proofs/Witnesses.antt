@@ -1,5 +1,5 @@
 -- Positive closed terms: their atoms, and what reduction and the abstraction of eigenconstants keep of them.
-use Rattle.std.proofs.Common.{◌≡◌, ℕ, suc, List, [], ◌∷◌, length, arith}
+use Rattle.std.proofs.Common.{ℕ, suc, List, [], ◌∷◌, length, arith}
 use Rattle.lp_calculus.specs.Types.{Ty}
 use Rattle.lp_calculus.specs.Term.{Term, index, atom, abs, app, apply, Atom, constant, integer, text, eigen, logic, param}
 use Rattle.lp_calculus.specs.Convert.{ReducesTo}

@@ -4,3 +4,4 @@ pub mod TypeSolutions
 pub mod Solutions
 pub mod Untyped
 pub mod Cases
+pub mod TypesBelow

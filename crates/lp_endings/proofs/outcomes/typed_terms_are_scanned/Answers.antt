@@ -1,6 +1,0 @@
-use Rattle.lp_endings.proofs.Typed.{typed_weighs}
-use Rattle.lp_endings.proofs.Scannings.{scan_comes}
-use Rattle.lp_endings.proofs.outcomes.typed_terms_are_scanned.Goals as goal
-
-pub returns : goal.returns
-returns c = λ τ C t T h s inside k. let w = typed_weighs τ C t T h in scan_comes s inside k t w.0 w.1

@@ -1,6 +1,0 @@
-use Rattle.lp_endings.proofs.RunsCome.{solve_comes}
-use Rattle.lp_endings.proofs.PruningComes.{prunes_typed}
-use Rattle.lp_endings.proofs.outcomes.unification_comes_to_an_outcome.Goals as goal
-
-pub returns : goal.returns
-returns c = λ d V eqs ps ds h limit. solve_comes d (prunes_typed d) V eqs ps ds h limit

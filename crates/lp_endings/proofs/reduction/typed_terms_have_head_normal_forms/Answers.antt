@@ -1,8 +1,0 @@
-use Rattle.lp_calculus.specs.Convert.{head_step}
-use Rattle.lp_endings.proofs.Ends.{ends_after}
-use Rattle.lp_endings.proofs.Computable.{typed_ends}
-use Rattle.lp_endings.proofs.Headed.{head_ends}
-use Rattle.lp_endings.proofs.reduction.typed_terms_have_head_normal_forms.Goals as goal
-
-pub returns : goal.returns
-returns c = λ τ C t T h. ends_after head_step (head_ends (typed_ends τ C t T h))

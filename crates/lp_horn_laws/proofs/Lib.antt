@@ -1,0 +1,7 @@
+pub mod Branches
+pub mod Correct
+pub mod Ends
+pub mod Terms
+pub mod Typed
+pub mod Unifies
+pub mod Rows

@@ -1,5 +1,0 @@
-use Rattle.lp_laws.proofs.ReadsBack as lemmas
-use Rattle.lp_laws.proofs.flattening.flattened_clauses_read_back.Goals as goal
-
-pub returns : goal.returns
-returns c = λ d s n x cs e f E P G. lemmas.clauses_read_back d s n x cs e f E P G

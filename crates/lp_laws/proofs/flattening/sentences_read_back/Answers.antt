@@ -1,5 +1,0 @@
-use Rattle.lp_laws.proofs.ReadsBack as lemmas
-use Rattle.lp_laws.proofs.flattening.sentences_read_back.Goals as goal
-
-pub returns : goal.returns
-returns c = λ d std n D cs e s E P R G. lemmas.sentence_reads_back d std n D cs e s E P R G

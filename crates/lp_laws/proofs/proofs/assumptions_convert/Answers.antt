@@ -1,5 +1,0 @@
-use Rattle.lp_laws.proofs.Assumptions as lemmas
-use Rattle.lp_laws.proofs.proofs.assumptions_convert.Goals as goal
-
-pub returns : goal.returns
-returns c = λ d E P D F G f g c h. lemmas.converted_assumption d E P D F G f g c h

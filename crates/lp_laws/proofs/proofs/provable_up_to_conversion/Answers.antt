@@ -1,5 +1,0 @@
-use Rattle.lp_laws.proofs.Uniforms as lemmas
-use Rattle.lp_laws.proofs.proofs.provable_up_to_conversion.Goals as goal
-
-pub returns : goal.returns
-returns c = λ d E P G H f c h. lemmas.by_conversion d E P G H f c h

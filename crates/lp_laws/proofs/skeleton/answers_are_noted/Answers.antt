@@ -1,5 +1,0 @@
-use Rattle.lp_laws.proofs.Moves as lemmas
-use Rattle.lp_laws.proofs.skeleton.answers_are_noted.Goals as goal
-
-pub returns : goal.returns
-returns g c = λ look n s. lemmas.answers_are_noted look n s

@@ -1,5 +1,0 @@
-use Rattle.lp_laws.proofs.Ends as lemmas
-use Rattle.lp_laws.proofs.skeleton.ended_run_stays.Goals as goal
-
-pub returns : goal.returns
-returns g c = λ look n m l s e h. lemmas.stays_over look n m l s e h

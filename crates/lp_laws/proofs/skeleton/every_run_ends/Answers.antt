@@ -1,5 +1,0 @@
-use Rattle.lp_laws.proofs.Ends as lemmas
-use Rattle.lp_laws.proofs.skeleton.every_run_ends.Goals as goal
-
-pub returns : goal.returns
-returns g c = λ look w f s. lemmas.ends look w f s

@@ -1,5 +1,0 @@
-use Rattle.lp_laws.proofs.Moves as lemmas
-use Rattle.lp_laws.proofs.skeleton.moves_tell.Goals as goal
-
-pub returns : goal.returns
-returns g c = λ look n s. lemmas.told_by_moves look n s

@@ -1,0 +1,6 @@
+pub mod FlatGoals
+pub mod FlatClauses
+pub mod Flattens
+pub mod TypedForms
+pub mod TypedFlat
+pub mod ReadsBack

@@ -1,0 +1,13 @@
+pub mod Lists
+pub mod Contexts
+pub mod Formulas
+pub mod Assumptions
+pub mod Forms
+pub mod Heads
+pub mod Roots
+pub mod FocusRoots
+pub mod Openings
+pub mod Renamed
+pub mod Renamings
+pub mod Uniforms
+pub mod Rows

@@ -1,0 +1,5 @@
+pub mod Ends
+pub mod InStep
+pub mod Moves
+pub mod Faithful
+pub mod Events

@@ -1,0 +1,14 @@
+pub mod Comes
+pub mod Looks
+pub mod Comparisons
+pub mod Scans
+pub mod Types
+pub mod Rules
+pub mod TypeSolutions
+pub mod FixedTypes
+pub mod Runs
+pub mod Stricts
+pub mod Semis
+pub mod SemiForms
+pub mod SemiBindings
+pub mod Pruning
