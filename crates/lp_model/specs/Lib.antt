@@ -29,3 +29,5 @@ pub mod Answers
 pub mod Readings
 pub mod Flattened
 pub mod Shown
+pub mod Connected
+pub mod inner

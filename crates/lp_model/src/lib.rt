@@ -6,6 +6,8 @@
 pub mod answer;
 /// Flattened clauses and goals.
 pub mod clause;
+/// The connective at the top of a formula.
+pub mod connective;
 /// How a search ends.
 pub mod ending;
 /// Programs and typed formulas.
@@ -13,5 +15,6 @@ pub mod program;
 
 pub use answer::{Answer, Event, Pair};
 pub use clause::{Clause, Goal};
+pub use connective::{Connective, connective_of};
 pub use ending::{Ending, Fault};
 pub use program::{ClauseFormula, Declared, Program, Typed};

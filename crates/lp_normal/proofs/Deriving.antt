@@ -54,6 +54,7 @@ module _ (d : ℕ → Option Scheme) where
     form_derived (suc n) binders t (connective.Exists T b) s rest gs e =
         let z = map_some (flat_goal n d (false ∷ binders) b (raise_goals 0 rest)) (λ hs. goals (Exists T hs) no_goals) gs e in
         exist T b z.0 s (goal_derived n (false ∷ binders) b (raise_goals 0 rest) z.0 z.1) (sym z.2)
+    form_derived (suc n) binders t (connective.Not g) s rest gs e = absurd (cc)
     form_derived (suc n) binders t connective.Atomic s rest gs e =
         plain s (sym (only_some (is_goal_head (head_of t) && are_positive (arguments t)) (goals (Atomic t) rest) gs e))
 
@@ -73,6 +74,7 @@ module _ (d : ℕ → Option Scheme) where
     clause_form_derived (suc n) binders c connective.True s vars body cs e = absurd (cc)
     clause_form_derived (suc n) binders c connective.Cut s vars body cs e = absurd (cc)
     clause_form_derived (suc n) binders c (connective.Or a b) s vars body cs e = absurd (cc)
+    clause_form_derived (suc n) binders c (connective.Not g) s vars body cs e = absurd (cc)
     clause_form_derived (suc n) binders c (connective.Exists T b) s vars body cs e = absurd (cc)
     clause_form_derived (suc n) binders c (connective.And a b) s vars body cs e =
         let q = bind_some (flat_clause n d binders a vars body) (λ l. option_map (add_clauses l) (flat_clause n d binders b vars body)) cs e in

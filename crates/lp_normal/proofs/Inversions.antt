@@ -15,6 +15,7 @@ GoalBy t (connective.Or a b) rest gs = (l r : Goals) × IsFlatGoal a no_goals l 
 GoalBy t (connective.Implies c g) rest gs = (cs : Clauses) × (hs : Goals) × IsFlatClause c [] [] cs × IsFlatGoal g no_goals hs × (gs ≡ goals (Assume cs hs) rest)
 GoalBy t (connective.ForAll T b) rest gs = (hs : Goals) × IsFlatGoal b no_goals hs × (gs ≡ goals (Forall T hs) rest)
 GoalBy t (connective.Exists T b) rest gs = (hs : Goals) × IsFlatGoal b (raise_goals 0 rest) hs × (gs ≡ goals (Exists T hs) no_goals)
+GoalBy t (connective.Not g) rest gs = ⊥
 GoalBy t connective.Atomic rest gs = gs ≡ goals (Atomic t) rest
 
 goal_is : (t : Term) (rest gs : Goals) → IsFlatGoal t rest gs → GoalBy t (connective_of t) rest gs
@@ -38,6 +39,7 @@ ClausesBy t (connective.Or a b) vars body cs = ⊥
 ClausesBy t (connective.Implies g c) vars body cs = IsFlatClause c vars (body ++ g ∷ []) cs
 ClausesBy t (connective.ForAll T b) vars body cs = IsFlatClause b (T ∷ vars) (map (shift 0 1) body) cs
 ClausesBy t (connective.Exists T b) vars body cs = ⊥
+ClausesBy t (connective.Not g) vars body cs = ⊥
 ClausesBy t connective.Atomic vars body cs = (gs : Goals) × IsFlatList body gs × (cs ≡ clauses (clause 0 vars t gs) no_clauses)
 
 clauses_are : (t : Term) (vars : List Ty) (body : List Term) (cs : Clauses) → IsFlatClause t vars body cs → ClausesBy t (connective_of t) vars body cs

@@ -1,4 +1,4 @@
-mod Forming
+mod Bodies
 mod Deriving
 mod Shifts
 mod Bounds

@@ -11,7 +11,7 @@ use Rattle.lp_calculus.proofs.BetaEta.{shift_one}
 use Rattle.lp_calculus.specs.Spine.{head_of, arguments_and}
 use Rattle.lp_standard.specs.Connectives.{body_of, Connective, connective_of_constant, connective_at, connective_of}
 use Rattle.lp_standard.specs.Connectives as connective
-use Rattle.lp_model.specs.Flat.{Goal, Atomic, Cut, Either, Exists, Forall, Assume, Goals, no_goals, goals, Clause, clause, Clauses, no_clauses, clauses, add_clauses, under_all, map_goal, map_clause, map_clauses, same_type, raise_goals}
+use Rattle.lp_model.specs.Flat.{Goal, Atomic, Cut, Either, Exists, Forall, Assume, Not, Goals, no_goals, goals, Clause, clause, Clauses, no_clauses, clauses, add_clauses, under_all, map_goal, map_clause, map_clauses, same_type, raise_goals}
 use Rattle.lp_normal.specs.Flats.{IsFlatGoal, truth, cutting, both, one_of, implies, every, exist, plain, IsFlatList, no_more, one_more, IsFlatClause, both_clauses, implied, for_every, head}
 
 -- two shifts, the one inside the other
@@ -38,6 +38,7 @@ shifted k by (connective.Or a b) = connective.Or (shift k by a) (shift k by b)
 shifted k by (connective.Implies c g) = connective.Implies (shift k by c) (shift k by g)
 shifted k by (connective.ForAll T b) = connective.ForAll T (shift (suc k) by b)
 shifted k by (connective.Exists T b) = connective.Exists T (shift (suc k) by b)
+shifted k by (connective.Not g) = connective.Not (shift k by g)
 shifted k by connective.Atomic = connective.Atomic
 
 shift_if : (k by : ℕ) (c : Bool) (x y : Connective) → shifted k by (if c then x else y) ≡ (if c then shifted k by x else shifted k by y)
@@ -78,7 +79,7 @@ form_constant k by c [] (a ∷ b ∷ []) =
     if_same (nat_eq c 0) refl (shift_if k by (nat_eq c 1) (connective.Or a b) (if nat_eq c 2 then connective.Implies a b else (if nat_eq c 3 then connective.Implies b a else connective.Atomic)) ∙
     if_same (nat_eq c 1) refl (shift_if k by (nat_eq c 2) (connective.Implies a b) (if nat_eq c 3 then connective.Implies b a else connective.Atomic) ∙
     if_same (nat_eq c 2) refl (shift_if k by (nat_eq c 3) (connective.Implies b a) connective.Atomic))))
-form_constant k by c [] (a ∷ []) = refl
+form_constant k by c [] (a ∷ []) = sym (shift_if k by (nat_eq c 24) (connective.Not a) connective.Atomic)
 form_constant k by c (T ∷ U ∷ ts) (a ∷ []) = refl
 form_constant k by c (T ∷ []) (a ∷ b ∷ []) = refl
 form_constant k by c (T ∷ U ∷ ts) (a ∷ b ∷ []) = refl
@@ -150,6 +151,7 @@ mutual
   goal_twice j k (Exists T gs) h = ap (Exists T) (goals_twice (suc j) (suc k) gs (omega arith))
   goal_twice j k (Forall T gs) h = ap (Forall T) (goals_twice (suc j) (suc k) gs (omega arith))
   goal_twice j k (Assume cs gs) h = same_assume (clauses_twice j k cs h) (goals_twice j k gs h)
+  goal_twice j k (Not gs) h = ap Not (goals_twice j k gs h)
 
   pub goals_twice : (j k : ℕ) (gs : Goals) → j ≤ k → raise_goals (suc k) (raise_goals j gs) ≡ raise_goals j (raise_goals k gs)
   goals_twice j k no_goals h = refl

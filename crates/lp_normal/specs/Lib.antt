@@ -1,4 +1,3 @@
 pub mod Flats
-pub mod Formed
 pub mod Within
 pub mod Making

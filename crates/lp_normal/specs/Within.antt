@@ -30,6 +30,7 @@ term_bound_at (Goal-F.Either l r) = max (highest l.items) (highest r.items)
 term_bound_at (Goal-F.Some T l) = highest l.items
 term_bound_at (Goal-F.All T l) = highest l.items
 term_bound_at (Goal-F.Assume cs l) = max (highest cs.items) (highest l.items)
+term_bound_at (Goal-F.Not l) = highest l.items
 
 abbrev pub clause_term_bound_at : clause.Clause-F ℕ ℕ → ℕ
 clause_term_bound_at c = max (suc c.head.0) (highest c.body.items)
@@ -49,6 +50,7 @@ type_bound_at (Goal-F.Either l r) = max (highest l.items) (highest r.items)
 type_bound_at (Goal-F.Some T l) = max (suc T.0) (highest l.items)
 type_bound_at (Goal-F.All T l) = max (suc T.0) (highest l.items)
 type_bound_at (Goal-F.Assume cs l) = max (highest cs.items) (highest l.items)
+type_bound_at (Goal-F.Not l) = highest l.items
 
 abbrev pub clause_type_bound_at : clause.Clause-F ℕ ℕ → ℕ
 clause_type_bound_at c = max (highest (map (λ T. suc T.0) c.vars.items)) (highest c.body.items)

@@ -7,8 +7,6 @@ mod clauses;
 mod fault;
 // The flattening of sentences and queries.
 mod flattening;
-// The connective at the top of a formula.
-mod form;
 // What waits for the list in the making.
 mod frame;
 // Goals in the making.

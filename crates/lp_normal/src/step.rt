@@ -10,12 +10,11 @@ ghost use Rattle.lp_normal.specs.Making.{Flat, these_goals, Reads, NextComesTo, 
 
 use crate::clauses::{Assumed, ClauseList, Link, Part};
 use crate::fault::NormalRefusal;
-use crate::form::{Connective, connective_of};
 use crate::frame::{Frame, Inner, Made, Move};
 use crate::goals::{GoalList, Waiting};
 use crate::raising::{body, raised};
 use lp_base::{Limit, Memory};
-use lp_model::{Clause, Goal};
+use lp_model::{Clause, Connective, Goal, connective_of};
 use lp_term::{Bank, TermId, TypeId};
 use std::alloc::Global;
 
@@ -38,7 +37,7 @@ fn raised_body(alloc: Global, bank: &mut Bank, on: TermId, by: u64) -> Result<Te
 fn atom(alloc: Global, bank: &mut Bank, list: GoalList, next: Waiting) -> Result<GoalList, Memory>
     requires list { IsGoalListIn bank.old list }
     requires next { IsWaitingIn bank.old list.level next }
-    requires form { form_of (tree bank.old next.formula.0) ≡ Plain }
+    requires form { connective_of (tree bank.old next.formula.0) ≡ connective.Atomic }
     ensures kept { Extends bank.old bank.new }
     ensures within { IfOk result (IsGoalListIn bank.new) }
     ensures comes { IfOk result (λ l. (out : Goals) → NextComesTo bank.old list next out → ComesTo bank.new l no_goals out) }
@@ -62,7 +61,7 @@ fn exists(
     requires next { IsWaitingIn bank.old list.level next }
     requires bound { bound.0 < length bank.old.types }
     requires on { on.0 < length bank.old.terms }
-    requires form { form_of (tree bank.old next.formula.0) ≡ Exist (type_tree bank.old bound.0) (body_of (tree bank.old on.0)) }
+    requires form { connective_of (tree bank.old next.formula.0) ≡ connective.Exists (type_tree bank.old bound.0) (body_of (tree bank.old on.0)) }
     ensures kept { Extends bank.old bank.new }
     ensures within { IfOk result (IsGoalListIn bank.new) }
     ensures comes { IfOk result (λ l. (out : Goals) → NextComesTo bank.old list next out → ComesTo bank.new l no_goals out) }
@@ -88,7 +87,7 @@ fn for_all(
     requires next { IsWaitingIn bank.old list.level next }
     requires bound { bound.0 < length bank.old.types }
     requires on { on.0 < length bank.old.terms }
-    requires form { form_of (tree bank.old next.formula.0) ≡ Every (type_tree bank.old bound.0) (body_of (tree bank.old on.0)) }
+    requires form { connective_of (tree bank.old next.formula.0) ≡ connective.ForAll (type_tree bank.old bound.0) (body_of (tree bank.old on.0)) }
     ensures kept { Extends bank.old bank.new }
     ensures frames { OnOk result (All (IsFrameIn bank.new) frames.new.items) }
     ensures within { IfOk result (IsGoalListIn bank.new) }
@@ -116,7 +115,7 @@ fn either(
     requires next { IsWaitingIn bank.now list.level next }
     requires left { left.0 < length bank.now.terms }
     requires right { right.0 < length bank.now.terms }
-    requires form { form_of (tree bank.now next.formula.0) ≡ OneOf (tree bank.now left.0) (tree bank.now right.0) }
+    requires form { connective_of (tree bank.now next.formula.0) ≡ connective.Or (tree bank.now left.0) (tree bank.now right.0) }
     ensures frames { OnOk result (All (IsFrameIn bank.now) frames.new.items) }
     ensures within { IfOk result (IsGoalListIn bank.now) }
     ensures comes { IfOk result (λ l. (out : Goals) (whole : Flat) → NextComesTo bank.now list next out → AllTurn bank.now (reverse frames.old.items) (these_goals out) whole → InnerComesTo bank.now (Inner.Goals l) frames.new.items whole) }
@@ -147,7 +146,7 @@ fn assume(
     requires next { IsWaitingIn bank.old list.level next }
     requires clause { clause.0 < length bank.old.terms }
     requires goal { goal.0 < length bank.old.terms }
-    requires form { form_of (tree bank.old next.formula.0) ≡ Implies (tree bank.old clause.0) (tree bank.old goal.0) }
+    requires form { connective_of (tree bank.old next.formula.0) ≡ connective.Implies (tree bank.old clause.0) (tree bank.old goal.0) }
     ensures kept { Extends bank.old bank.new }
     ensures within { IfOk result (IsClauseListIn bank.new) }
     ensures comes { IfOk result (λ l. (out : Goals) → NextComesTo bank.old list next out → ClausesComeTo bank.new l no_clauses (these_goals out)) }
@@ -179,16 +178,16 @@ fn next_goal(
     ensures comes { IfOk result (λ inner. (out : Goals) (whole : Flat) → NextComesTo bank.old list next out → AllTurn bank.old (reverse frames.old.items) (these_goals out) whole → InnerComesTo bank.new inner frames.new.items whole) }
 {
     match connective_of(bank, next.formula) {
-        Connective::Truth => Ok(Inner::Goals(list)),
+        Connective::True => Ok(Inner::Goals(list)),
         Connective::Cut => {
             let made = list.with(Goal::Cut)?;
             Ok(Inner::Goals(made))
         }
-        Connective::Both(left, right) => {
+        Connective::And(left, right) => {
             let made = list.wait_for(left, right, next.level)?;
             Ok(Inner::Goals(made))
         }
-        Connective::OneOf(left, right) => {
+        Connective::Or(left, right) => {
             let made = either(alloc, bank, frames, list, next, left, right)?;
             Ok(Inner::Goals(made))
         }
@@ -196,15 +195,17 @@ fn next_goal(
             let made = assume(alloc, bank, list, next, clause, goal)?;
             Ok(Inner::Clauses(made))
         }
-        Connective::Every(bound, on) => {
+        Connective::ForAll(bound, on) => {
             let made = for_all(alloc, bank, frames, list, next, bound, on)?;
             Ok(Inner::Goals(made))
         }
-        Connective::Exist(bound, on) => {
+        Connective::Exists(bound, on) => {
             let made = exists(alloc, bank, list, next, bound, on)?;
             Ok(Inner::Goals(made))
         }
-        Connective::Plain => {
+        // No goal yet.
+        Connective::Not(_) => Err(Memory),
+        Connective::Atomic => {
             let made = atom(alloc, bank, list, next)?;
             Ok(Inner::Goals(made))
         }
@@ -309,7 +310,7 @@ fn clause_body(
     requires frames { All (IsFrameIn bank.now) frames.old.items }
     requires list { IsClauseListIn bank.now list }
     requires head { head.0 < length bank.now.terms }
-    requires form { form_of (tree bank.now head.0) ≡ Plain }
+    requires form { connective_of (tree bank.now head.0) ≡ connective.Atomic }
     ensures frames { OnOk result (All (IsFrameIn bank.now) frames.new.items) }
     ensures within { IfOk result (IsGoalListIn bank.now) }
     ensures comes { IfOk result (λ l. (out whole : Flat) → PartComesTo bank.now list head.0 out → AllTurn bank.now (reverse frames.old.items) out whole → InnerComesTo bank.now (Inner.Goals l) frames.new.items whole) }
@@ -348,7 +349,7 @@ fn next_part(
     ensures comes { IfOk result (λ inner. (out whole : Flat) → PartComesTo bank.old list part.0 out → AllTurn bank.old (reverse frames.old.items) out whole → InnerComesTo bank.new inner frames.new.items whole) }
 {
     match connective_of(bank, part) {
-        Connective::Both(left, right) => {
+        Connective::And(left, right) => {
             let made = list.wait_for(left, right)?;
             Ok(Inner::Clauses(made))
         }
@@ -356,19 +357,20 @@ fn next_part(
             let made = list.enter(Link::Guard(goal), clause)?;
             Ok(Inner::Clauses(made))
         }
-        Connective::Every(bound, on) => {
+        Connective::ForAll(bound, on) => {
             let inside = body(alloc, bank, on)?;
             let made = list.enter(Link::Variable(bound), inside)?;
             Ok(Inner::Clauses(made))
         }
-        Connective::Plain => {
+        Connective::Atomic => {
             let made = clause_body(alloc, bank, frames, count, list, part)?;
             Ok(Inner::Goals(made))
         }
-        Connective::Truth => Err(no_clause()),
+        Connective::True => Err(no_clause()),
         Connective::Cut => Err(no_clause()),
-        Connective::OneOf(_, _) => Err(no_clause()),
-        Connective::Exist(_, _) => Err(no_clause()),
+        Connective::Or(_, _) => Err(no_clause()),
+        Connective::Exists(_, _) => Err(no_clause()),
+        Connective::Not(_) => Err(no_clause()),
     }
 }
 

@@ -7,7 +7,7 @@ use Rattle.std.proofs.lemmas.Slice.Eq.{bytes_eq-Decides}
 use Rattle.std.proofs.lemmas.List.Folds.{list_any-append}
 use Rattle.lp_show.specs.declared.glossary.Entry as code
 use Rattle.lp_show.specs.Glossary.{entry_of, entries_of, place_in}
-use Rattle.lp_model.specs.Shown.{Entry, entry_in, has_name, is_taken, next_free, binder_number, plain_entry, standard_names}
+use Rattle.lp_model.specs.Shown.{Entry, entry_in, has_name, is_taken, next_free, binder_number, plain_entry}
 use Rattle.std.specs.Prelude.{slice_index_or}
 
 -- the entry that a place found is of

@@ -3,7 +3,6 @@ use Rattle.std.specs.Prelude.{◌≡◌, ◌<◌, ℕ, List, length, get_or, nat
 use Rattle.std.specs.HashMap.{get}
 use Rattle.indexmap.specs.IndexSet.{contains_by}
 use Rattle.std.specs.Str.{bytes_eq}
-use Rattle.lp_fixity.specs.Table as table
 use Rattle.lp_show.specs.declared.names.Names.{Names}
 use Rattle.lp_show.specs.declared.names.Known.{Known}
 use Rattle.lp_show.specs.Glossary.{entries_of, place_in}
@@ -16,7 +15,6 @@ all names = entries_of names.entries.now
 pub record IsReady (names : Names) : Type 0 where
   pub places : (c : ℕ) → get nat_eq names.places c ≡ place_in 0 names.entries.now c
   pub taken : (n : List ℕ) → contains_by (λ k. bytes_eq n k.items) names.taken ≡ has_name n (all names)
-  pub standard : (n : List ℕ) → table.entry_of names.standard n ≡ table.standard n
 
 -- what is told of a constant is its entry
 pub record IsKnown (known : Known) (e : Entry) : Type 0 where

@@ -1,4 +1,4 @@
-use lp_fixity::Fixity;
+use lp_standard::Fixity;
 
 /// A constant as it is shown: its number in the program, its name, which of the hidden constants of this name it is, from 1, and 0 where it is not
 /// hidden, and its fixity and number where it is an operator.

@@ -1,8 +1,8 @@
-ghost use Rattle.std.specs.Prelude.{◌≡◌, ◌||◌, ◌<◌, ◌-◌, ℕ, List, length, get_or, nat_eq, slice_index_or, [], IfOk, OnOk, codes, decimal};
+ghost use Rattle.std.specs.Prelude.{◌≡◌, ◌||◌, ◌<◌, ◌-◌, ℕ, List, length, get_or, nat_eq, IfOk, OnOk, codes, decimal};
 ghost use Rattle.std.specs.HashMap.{get};
 ghost use Rattle.indexmap.specs.IndexSet.{contains_by};
 ghost use Rattle.std.specs.Str.{bytes_eq};
-ghost use Rattle.lp_model.specs.Shown.{entry_in, has_name, is_taken, next_free, standard_names};
+ghost use Rattle.lp_model.specs.Shown.{entry_in, has_name, is_taken, next_free, plain_entry};
 ghost use Rattle.lp_show.specs.Glossary.{entries_of, entry_of, place_in};
 ghost use Rattle.lp_show.specs.declared.glossary.Entry as code;
 ghost use Rattle.lp_show.specs.Named.{all, IsReady, IsKnown};
@@ -11,7 +11,7 @@ use crate::glossary::Entry;
 use crate::leaves::push_number;
 use indexmap::IndexSet;
 use lp_base::Memory;
-use lp_fixity::{Fixity, Table};
+use lp_standard::{Constant, Fixity};
 use std::alloc::Global;
 use std::collections::HashMap;
 
@@ -24,8 +24,6 @@ pub(crate) struct Names<'a> {
     pub(crate) places: HashMap<u32, usize>,
     /// The names that are not hidden.
     pub(crate) taken: IndexSet<Vec<u8>>,
-    /// The operators among the standard constants.
-    pub(crate) standard: Table,
 }
 
 /// A constant as it is shown.
@@ -71,36 +69,21 @@ fn taken_of(alloc: Global, entries: &[Entry]) -> Result<IndexSet<Vec<u8>>, Memor
     Ok(taken)
 }
 
-// The name of a standard constant.
-fn standard_name(constant: u32) -> &'static [u8]
-    ensures { result.now ≡ slice_index_or standard_names constant [] }
+// A constant without an entry.
+fn standard(constant: u32) -> Known<'static>
+    ensures { IsKnown result (plain_entry constant) }
 {
-    match constant {
-        0 => b",",
-        1 => b";",
-        2 => b"=>",
-        3 => b":-",
-        4 => b"pi",
-        5 => b"sigma",
-        6 => b"true",
-        7 => b"!",
-        8 => b"=",
-        9 => b"is",
-        10 => b"<",
-        11 => b">",
-        12 => b"=<",
-        13 => b">=",
-        14 => b"::",
-        15 => b"nil",
-        16 => b"+",
-        17 => b"-",
-        18 => b"*",
-        19 => b"div",
-        20 => b"mod",
-        21 => b"~",
-        22 => b"^",
-        23 => b"size",
-        _ => b"",
+    match Constant::from_number(constant) {
+        Some(fixed) => Known {
+            name: fixed.name(),
+            hidden: 0,
+            fixity: fixed.fixity(),
+        },
+        None => Known {
+            name: b"",
+            hidden: 0,
+            fixity: None,
+        },
     }
 }
 
@@ -123,13 +106,11 @@ impl<'a> Names<'a> {
     {
         let places = places_of(alloc, entries)?;
         let taken = taken_of(alloc, entries)?;
-        let standard = Table::standard(alloc)?;
         Ok(Names {
             alloc,
             entries,
             places,
             taken,
-            standard,
         })
     }
 
@@ -140,14 +121,7 @@ impl<'a> Names<'a> {
     {
         match self.places.get(&constant) {
             Some(place) => known_at(self.entries, *place),
-            None => {
-                let name = standard_name(constant);
-                Known {
-                    name,
-                    hidden: 0,
-                    fixity: self.standard.of(name),
-                }
-            }
+            None => standard(constant),
         }
     }
 

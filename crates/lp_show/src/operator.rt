@@ -6,7 +6,7 @@ ghost use Rattle.lp_show.specs.Named.{IsKnown};
 ghost use Rattle.lp_show.specs.Operators.{operands_piece, operands_size, operation, of_entry, within_bank};
 
 use crate::names::Known;
-use lp_fixity::Fixity;
+use lp_standard::Fixity;
 use lp_term::TermId;
 
 /// The operands of an operator: one behind it, one before it, or both, the one before it first.

@@ -2,7 +2,7 @@ ghost use Rattle.std.specs.Prelude.{◌≡◌, ℕ, List, if◌then◌else◌};
 ghost use Rattle.lp_model.specs.Shown.{bracketed};
 ghost use Rattle.lp_show.specs.Places.{shape_of, standing};
 
-use lp_fixity::Fixity;
+use lp_standard::Fixity;
 
 /// Where a term stands: by itself, as an argument, as a side of a `where` line, or as an operand.
 #[derive(Clone, Copy)]

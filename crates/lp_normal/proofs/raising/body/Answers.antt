@@ -1,7 +1,7 @@
 use Rattle.std.proofs.Common.{◌∙◌, length}
 use Rattle.lp_term.specs.Nodes.{tree}
 use Rattle.lp_term.proofs.Trees.{extends-trans}
-use Rattle.lp_normal.proofs.Forming.{no_abstraction, body_put}
+use Rattle.lp_normal.proofs.Bodies.{no_abstraction, body_put}
 use Rattle.lp_normal.proofs.raising.body.Goals as goal
 
 pub returns : goal.returns

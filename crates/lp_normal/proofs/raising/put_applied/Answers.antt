@@ -1,6 +1,6 @@
 use Rattle.std.proofs.Common.{◌∙◌, ap, ◌++◌, ◌∷◌, []}
 use Rattle.lp_term.specs.Nodes.{tree}
-use Rattle.lp_normal.proofs.Forming.{put_last}
+use Rattle.lp_normal.proofs.Bodies.{put_last}
 use Rattle.lp_normal.proofs.raising.put_applied.Goals as goal
 
 pub returns-in_ok-made-in-App-clause-tree : goal.returns-in_ok-made-in-App-clause-tree

@@ -2,7 +2,7 @@ use Rattle.std.proofs.Common.{sym, ap, ◌∙◌}
 use Rattle.lp_calculus.specs.Term.{shift}
 use Rattle.lp_calculus.proofs.Plain.{shift-none}
 use Rattle.lp_term.specs.Nodes.{tree}
-use Rattle.lp_normal.proofs.Forming.{can_raise}
+use Rattle.lp_normal.proofs.Bodies.{can_raise}
 use Rattle.lp_normal.proofs.raising.raised.Goals as goal
 
 pub returns-then-by-eq0-clause-tree : goal.returns-then-by-eq0-clause-tree

@@ -9,8 +9,8 @@ use Rattle.lp_normal.proofs.Steps.{truth_next, cut_next, both_next, with_comes}
 use Rattle.lp_normal.proofs.Comings.{all_turn_later}
 use Rattle.lp_normal.proofs.step.next_goal.Goals as goal
 
-pub returns-in-Truth-clause-comes : goal.returns-in-Truth-clause-comes
-returns-in-Truth-clause-comes c = λ out whole h t. (out, truth_next c.args.bank.now c.args.list c.args.next out c.in-Truth.ensures.form h, t)
+pub returns-in-True-clause-comes : goal.returns-in-True-clause-comes
+returns-in-True-clause-comes c = λ out whole h t. (out, truth_next c.args.bank.now c.args.list c.args.next out c.in-True.ensures.tree h, t)
 
 pub returns-in_ok-made-in-Cut-clause-within : goal.returns-in_ok-made-in-Cut-clause-within
 returns-in_ok-made-in-Cut-clause-within c =
@@ -20,18 +20,18 @@ returns-in_ok-made-in-Cut-clause-within c =
 pub returns-in_ok-made-in-Cut-clause-comes : goal.returns-in_ok-made-in-Cut-clause-comes
 returns-in_ok-made-in-Cut-clause-comes c = λ out whole h t.
     let e = c.in_ok-made-in-Cut.ensures in
-    (out, with_comes c.args.bank.now c.args.list c.in_ok-made-in-Cut.made code.Cut Cut out e.opened e.done e.waiting e.level (λ later x. cut_is later) (cut_next c.args.bank.now c.args.list c.args.next out c.in-Cut.ensures.form h), t)
+    (out, with_comes c.args.bank.now c.args.list c.in_ok-made-in-Cut.made code.Cut Cut out e.opened e.done e.waiting e.level (λ later x. cut_is later) (cut_next c.args.bank.now c.args.list c.args.next out c.in-Cut.ensures.tree h), t)
 
-pub returns-in_ok-made-in-Both-clause-within : goal.returns-in_ok-made-in-Both-clause-within
-returns-in_ok-made-in-Both-clause-within c =
-    let e = c.in_ok-made-in-Both.ensures in
-    let i = c.in-Both.ensures.within in
-    join_list c.args.bank.now c.args.list c.in_ok-made-in-Both.made c.in-Both.left c.in-Both.right c.args.next.level e.opened e.done e.waiting e.level c.requires.list c.requires.next.outside i.0 i.1
+pub returns-in_ok-made-in-And-clause-within : goal.returns-in_ok-made-in-And-clause-within
+returns-in_ok-made-in-And-clause-within c =
+    let e = c.in_ok-made-in-And.ensures in
+    let i = c.in-And.ensures.within in
+    join_list c.args.bank.now c.args.list c.in_ok-made-in-And.made c.in-And.left c.in-And.right c.args.next.level e.opened e.done e.waiting e.level c.requires.list c.requires.next.outside i.0 i.1
 
-pub returns-in_ok-made-in-Both-clause-comes : goal.returns-in_ok-made-in-Both-clause-comes
-returns-in_ok-made-in-Both-clause-comes c = λ out whole h t.
-    let e = c.in_ok-made-in-Both.ensures in
-    (out, both_next c.args.bank.now c.args.list c.args.next out c.in_ok-made-in-Both.made c.in-Both.left c.in-Both.right e.opened e.done e.waiting e.level c.in-Both.ensures.form h, t)
+pub returns-in_ok-made-in-And-clause-comes : goal.returns-in_ok-made-in-And-clause-comes
+returns-in_ok-made-in-And-clause-comes c = λ out whole h t.
+    let e = c.in_ok-made-in-And.ensures in
+    (out, both_next c.args.bank.now c.args.list c.args.next out c.in_ok-made-in-And.made c.in-And.left c.in-And.right e.opened e.done e.waiting e.level c.in-And.ensures.tree h, t)
 
 pub returns-in_ok-made-in-Implies-clause-comes : goal.returns-in_ok-made-in-Implies-clause-comes
 returns-in_ok-made-in-Implies-clause-comes c = λ out whole h t.
@@ -39,14 +39,14 @@ returns-in_ok-made-in-Implies-clause-comes c = λ out whole h t.
     let fs = c.args.frames.now.items in
     (these_goals out, c.in_ok-made-in-Implies.ensures.comes out h, all_turn_later b c.assume.new.bank c.in_ok-made-in-Implies.ensures.kept (reverse fs) (these_goals out) whole (All-reverse (IsFrameIn b) fs c.requires.frames) t)
 
-pub returns-in_ok-made-in-Exist-clause-comes : goal.returns-in_ok-made-in-Exist-clause-comes
-returns-in_ok-made-in-Exist-clause-comes c = λ out whole h t.
+pub returns-in_ok-made-in-Exists-clause-comes : goal.returns-in_ok-made-in-Exists-clause-comes
+returns-in_ok-made-in-Exists-clause-comes c = λ out whole h t.
     let b = c.args.bank.now in
     let fs = c.args.frames.now.items in
-    (out, c.in_ok-made-in-Exist.ensures.comes out h, all_turn_later b c.exists.new.bank c.in_ok-made-in-Exist.ensures.kept (reverse fs) (these_goals out) whole (All-reverse (IsFrameIn b) fs c.requires.frames) t)
+    (out, c.in_ok-made-in-Exists.ensures.comes out h, all_turn_later b c.exists.new.bank c.in_ok-made-in-Exists.ensures.kept (reverse fs) (these_goals out) whole (All-reverse (IsFrameIn b) fs c.requires.frames) t)
 
-pub returns-in_ok-made-in-Plain-clause-comes : goal.returns-in_ok-made-in-Plain-clause-comes
-returns-in_ok-made-in-Plain-clause-comes c = λ out whole h t.
+pub returns-in_ok-made-in-Atomic-clause-comes : goal.returns-in_ok-made-in-Atomic-clause-comes
+returns-in_ok-made-in-Atomic-clause-comes c = λ out whole h t.
     let b = c.args.bank.now in
     let fs = c.args.frames.now.items in
-    (out, c.in_ok-made-in-Plain.ensures.comes out h, all_turn_later b c.atom.new.bank c.in_ok-made-in-Plain.ensures.kept (reverse fs) (these_goals out) whole (All-reverse (IsFrameIn b) fs c.requires.frames) t)
+    (out, c.in_ok-made-in-Atomic.ensures.comes out h, all_turn_later b c.atom.new.bank c.in_ok-made-in-Atomic.ensures.kept (reverse fs) (these_goals out) whole (All-reverse (IsFrameIn b) fs c.requires.frames) t)

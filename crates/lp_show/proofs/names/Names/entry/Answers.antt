@@ -1,5 +1,4 @@
 use Rattle.std.proofs.Common.{◌≡◌, ◌∙◌, ◌<◌, length, get_or, sym, ap, subst, arith}
-use Rattle.lp_fixity.specs.Table.{standard}
 use Rattle.lp_show.specs.Glossary.{entry_of}
 use Rattle.lp_show.specs.Named.{IsKnown}
 use Rattle.lp_show.proofs.Glossaries.{any_entry, place_found, place_missing}
@@ -18,8 +17,5 @@ returns-in-Some c =
 
 pub returns-in-None : goal.returns-in-None
 returns-in-None c =
-    let m = place_missing c.args.self.now.entries.now 0 c.args.constant (sym (c.in-None.ensures.value ∙ c.requires.places c.args.constant)) in record {
-      name = c.standard_name-name.ensures ∙ sym (ap (λ e. e.name) m);
-      hidden = sym (ap (λ e. e.hidden) m);
-      fixity = c.of.ensures ∙ c.requires.standard c.standard_name-name.result.now ∙ ap standard c.standard_name-name.ensures ∙ sym (ap (λ e. e.fixity) m);
-    }
+    let m = place_missing c.args.self.now.entries.now 0 c.args.constant (sym (c.in-None.ensures.value ∙ c.requires.places c.args.constant)) in
+    subst (IsKnown c.standard.result) (sym m) c.standard.ensures

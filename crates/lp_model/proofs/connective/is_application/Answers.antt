@@ -1,6 +1,6 @@
 use Rattle.lp_term.specs.Nodes.{tree}
-use Rattle.lp_normal.proofs.Forming.{is_applied}
-use Rattle.lp_normal.proofs.form.is_application.Goals as goal
+use Rattle.lp_model.proofs.Connectives.{is_applied}
+use Rattle.lp_model.proofs.connective.is_application.Goals as goal
 
 pub returns-in-App-clause-application : goal.returns-in-App-clause-application
 returns-in-App-clause-application c = λ e.

@@ -1,31 +1,31 @@
--- Terms taken apart by their nodes, and what their connectives are.
-use Rattle.std.proofs.Common.{◌≡◌, ◌≢◌, ℕ, zero, suc, ◌<◌, ◌≤◌, ◌^◌, List, [], ◌∷◌, ◌++◌, length, map, refl, sym, ap, ◌∙◌, subst, arith, Bor}
-use Rattle.std.specs.Prelude.{All, slice_index_or}
+-- Terms taken apart by their nodes, and the connectives that their heads make.
+use Rattle.std.proofs.Common.{◌≡◌, ◌≢◌, ℕ, zero, suc, ◌+◌, ◌<◌, ◌≤◌, List, [], ◌∷◌, ◌++◌, Option, Some, None, Bool, true, false, length, map, refl, sym, ap, ◌∙◌, subst, arith, Bor}
+use Rattle.std.specs.Prelude.{All, slice_get, slice_index_or, nat_eq, if◌then◌else◌}
+use Rattle.std.proofs.lemmas.Bool.{ne_eqb}
 use Rattle.std.proofs.lemmas.List.Elements.{All-head, All-tail}
+use Rattle.std.proofs.lemmas.Option.{slice_get-get_or}
 use Rattle.lp_calculus.specs.Types.{Ty}
-use Rattle.lp_calculus.specs.Term.{Term, index, atom, abs, app, apply, constant, integer, text, eigen, logic, param, shift}
-use Rattle.lp_term.specs.Node.{TermBelow}
-use Rattle.lp_term.specs.Nodes.{Nodes, IsSound, tree, node_tree}
-use Rattle.lp_term.specs.Shapes.{term_shape}
-use Rattle.lp_term.specs.Walk.{Everywhere}
-use Rattle.lp_term.specs.Raise.{FitsRaised}
-use Rattle.lp_term.specs.Spine.{LooseBelow, IsLoose}
-use Rattle.lp_term.specs.declared.node.TermId.{TermId}
-use Rattle.lp_term.specs.declared.node.TypeId.{TypeId}
-use Rattle.lp_term.specs.declared.node.TermNode.{TermNode}
-use Rattle.lp_term.proofs.Loose.{everywhere_both, below_height, height_below}
+use Rattle.lp_calculus.specs.Term.{Term, index, atom, abs, app, apply, constant, integer, text, eigen, logic, param}
 use Rattle.lp_calculus.specs.Spine.{head_of, arguments_and}
 use Rattle.lp_standard.specs.Connectives.{body_of, connective_of_constant, connective_at, connective_of}
 use Rattle.lp_standard.specs.Connectives as connective
-use Rattle.lp_normal.specs.Formed.{IsNoApplication, IsApplication}
+use Rattle.lp_standard.specs.Constants.{number, numbered, language, reserved}
+use Rattle.lp_standard.specs.declared.constant.Constant.{Constant}
+use Rattle.lp_standard.specs.declared.constant.Constant.TheVariants as fixed
+use Rattle.lp_term.specs.Node.{TermBelow}
+use Rattle.lp_term.specs.Nodes.{Nodes, tree, type_tree, node_tree}
+use Rattle.lp_term.specs.Shapes.{term_shape}
+use Rattle.lp_term.specs.Spine.{IsNoApplication}
+use Rattle.lp_term.specs.declared.node.TermId.{TermId}
+use Rattle.lp_term.specs.declared.node.TypeId.{TypeId}
+use Rattle.lp_term.specs.declared.node.TermNode.{TermNode}
+use Rattle.lp_model.proofs.Numbers.{number_back}
+use Rattle.lp_model.specs.Connected.{connective_in, IsConnectiveIn}
+use Rattle.lp_model.specs.inner.Connected.{alone_by, negated_by, quantified_by, joined_by, IsApplication}
 
 -- the trees of arguments
 abbrev pub on : Nodes → List TermId → List Term
 on b ids = map (tree b) (map (λ t. t.0) ids)
-
-pub first_within : (n : ℕ) (ts : List TypeId) → All (λ t. t < n) (map (λ t. t.0) ts) → length ts ≡ 1 → (slice_index_or ts 0 (record { 0 = 0 })).0 < n
-first_within n [] a e = absurd (omega arith)
-first_within n (t ∷ ts) a e = All-head (λ t. t < n) t.0 (map (λ t. t.0) ts) a
 
 pub nth_within : (n m i : ℕ) (ts : List TermId) → All (λ t. t < n) (map (λ t. t.0) ts) → i < length ts → n ≤ m → (slice_index_or ts i (record { 0 = 0 })).0 < m
 nth_within n m i [] a l h = absurd (omega arith)
@@ -145,40 +145,92 @@ no_application b (TermNode.Param k x) t e h = subst IsNoApplication e tt
 no_application b (TermNode.Abs x) t e h = subst IsNoApplication e tt
 no_application b (TermNode.App f ids) t e h = absurd (h f ids refl)
 
--- one argument more
-apply_last : (h a : Term) (xs : List Term) → apply h (xs ++ a ∷ []) ≡ app (apply h xs) a
-apply_last h a [] = refl
-apply_last h a (x ∷ xs) = apply_last (app h x) a xs
+-- what fixed constants make of their arguments
 
-on_last : (b : Nodes) (xs : List TermId) (i : TermId) → on b (xs ++ i ∷ []) ≡ on b xs ++ tree b i.0 ∷ []
-on_last b [] i = refl
-on_last b (x ∷ xs) i = ap (λ l. tree b x.0 ∷ l) (on_last b xs i)
+any_alone : (b : Nodes) (k : Constant) (ts : List Ty) → connective_of_constant (number k) ts [] ≡ connective_in b (alone_by k)
+any_alone b fixed.True ts = refl
+any_alone b fixed.Cut ts = refl
+any_alone b _ ts = refl
 
-pub put_last : (b : Nodes) (h : Term) (i : TermId) (xs ys : List TermId) (t : Term) → ys ≡ xs ++ i ∷ [] → apply h (on b xs) ≡ t → apply h (on b ys) ≡ app t (tree b i.0)
-put_last b h i xs ys t e f = ap (λ l. apply h (on b l)) e ∙ ap (apply h) (on_last b xs i) ∙ apply_last h (tree b i.0) (on b xs) ∙ ap (λ z. app z (tree b i.0)) f
+any_negated : (b : Nodes) (k : Constant) (a : TermId) → connective_of_constant (number k) [] (tree b a.0 ∷ []) ≡ connective_in b (negated_by k a)
+any_negated b fixed.Not a = refl
+any_negated b _ a = refl
 
--- where a node is no abstraction
-body_applied : (t : Term) → IsApplication t → body_of t ≡ app (shift 0 1 t) (index 0)
-body_applied (index i) a = absurd a
-body_applied (atom x) a = absurd a
-body_applied (abs b) a = absurd a
-body_applied (app t u) a = refl
+any_quantified : (b : Nodes) (k : Constant) (T : TypeId) (a : TermId) → connective_of_constant (number k) (type_tree b T.0 ∷ []) (tree b a.0 ∷ []) ≡ connective_in b (quantified_by k T a)
+any_quantified b fixed.ForAll T a = refl
+any_quantified b fixed.Exists T a = refl
+any_quantified b _ T a = refl
 
-pub no_abstraction : (b : Nodes) (n m : ℕ) (node : TermNode) (t : Term) → TermBelow n m (term_shape node) → node_tree b (term_shape node) ≡ t → ((x : TermId) → node ≡ TermNode.Abs x → ⊥) → body_of t ≡ app (shift 0 1 t) (index 0)
-no_abstraction b n m (TermNode.Index i) t o e h = subst (λ z. body_of z ≡ app (shift 0 1 z) (index 0)) e refl
-no_abstraction b n m (TermNode.Const c ts) t o e h = subst (λ z. body_of z ≡ app (shift 0 1 z) (index 0)) e refl
-no_abstraction b n m (TermNode.Int z) t o e h = subst (λ z. body_of z ≡ app (shift 0 1 z) (index 0)) e refl
-no_abstraction b n m (TermNode.Text s) t o e h = subst (λ z. body_of z ≡ app (shift 0 1 z) (index 0)) e refl
-no_abstraction b n m (TermNode.Eigen k) t o e h = subst (λ z. body_of z ≡ app (shift 0 1 z) (index 0)) e refl
-no_abstraction b n m (TermNode.Logic id level) t o e h = subst (λ z. body_of z ≡ app (shift 0 1 z) (index 0)) e refl
-no_abstraction b n m (TermNode.Param k x) t o e h = subst (λ z. body_of z ≡ app (shift 0 1 z) (index 0)) e refl
-no_abstraction b n m (TermNode.Abs x) t o e h = absurd (h x refl)
-no_abstraction b n m (TermNode.App f ids) t o e h = body_applied t (is_applied b t (tree b f.0) ids.now o.2 e)
+any_joined : (b : Nodes) (k : Constant) (l r : TermId) → connective_of_constant (number k) [] (tree b l.0 ∷ tree b r.0 ∷ []) ≡ connective_in b (joined_by k l r)
+any_joined b fixed.And l r = refl
+any_joined b fixed.Or l r = refl
+any_joined b fixed.Implies l r = refl
+any_joined b fixed.If l r = refl
+any_joined b _ l r = refl
 
-pub body_put : (t s u x : Term) → body_of t ≡ app (shift 0 1 t) (index 0) → u ≡ shift 0 1 t → x ≡ index 0 → s ≡ app u x → s ≡ body_of t
-body_put t s u x h e f g = g ∙ ap (λ z. app z x) e ∙ ap (app (shift 0 1 t)) f ∙ sym h
+-- the other constants are none of them
 
--- the condition of a raise
-pub can_raise : (b : Nodes) → IsSound b → (i by : ℕ) → i < length b.terms → length b.terms < 2 ^ 62 → by ≤ 2 ^ 32 → LooseBelow (2 ^ 32) 0 (tree b i) → Everywhere (FitsRaised by) 0 (tree b i)
-can_raise b s i by h few m l =
-    everywhere_both (IsLoose (2 ^ 32)) (λ e j. e ≤ i) (FitsRaised by) (λ e j p q r. omega arith) 0 (tree b i) l (below_height i 0 (tree b i) (omega (arith, height_below b s i h)))
+not_fixed : (c : ℕ) → numbered c ≡ None → (n : ℕ) → n < 26 → nat_eq c n ≡ false
+not_fixed c e n l = ne_eqb c n (λ q. some c e (subst (λ z. z < 26) (sym q) l))
+  where
+    some : (m : ℕ) → numbered m ≡ None → m < 26 → ⊥
+    some m f h = let g : Some _ ≡ None = sym (slice_get-get_or (language ++ reserved) m fixed.And h) ∙ f in absurd (cc)
+
+if_false : {X : Type 0} (t : Bool) (x y : X) → t ≡ false → (if t then x else y) ≡ y
+if_false t x y e = ap (λ z. if z then x else y) e
+
+other_constant : (c : ℕ) → numbered c ≡ None → (ts : List Ty) (us : List Term) → connective_of_constant c ts us ≡ connective.Atomic
+other_constant c e ts [] = if_false _ _ _ (not_fixed c e 6 (omega arith)) ∙ if_false _ _ _ (not_fixed c e 7 (omega arith))
+other_constant c e [] (a ∷ []) = if_false _ _ _ (not_fixed c e 24 (omega arith))
+other_constant c e (T ∷ []) (a ∷ []) = if_false _ _ _ (not_fixed c e 4 (omega arith)) ∙ if_false _ _ _ (not_fixed c e 5 (omega arith))
+other_constant c e (T ∷ U ∷ ts) (a ∷ []) = refl
+other_constant c e [] (a ∷ b ∷ []) =
+    if_false _ _ _ (not_fixed c e 0 (omega arith)) ∙ if_false _ _ _ (not_fixed c e 1 (omega arith)) ∙ if_false _ _ _ (not_fixed c e 2 (omega arith)) ∙ if_false _ _ _ (not_fixed c e 3 (omega arith))
+other_constant c e (T ∷ []) (a ∷ b ∷ []) = refl
+other_constant c e (T ∷ U ∷ ts) (a ∷ b ∷ []) = refl
+other_constant c e [] (a ∷ b ∷ x ∷ us) = refl
+other_constant c e (T ∷ []) (a ∷ b ∷ x ∷ us) = refl
+other_constant c e (T ∷ U ∷ ts) (a ∷ b ∷ x ∷ us) = refl
+
+-- a head that is a constant
+
+pub told_other : (h : Term) (c : ℕ) (ts : List Ty) (us : List Term) → atom (constant c ts) ≡ h → numbered c ≡ None → connective_at h us ≡ connective.Atomic
+told_other h c ts us e n = subst (λ z. connective_at z us ≡ connective.Atomic) e (other_constant c n ts us)
+
+pub told_alone : (b : Nodes) (h : Term) (c : ℕ) (ts : List Ty) (k : Constant) → atom (constant c ts) ≡ h → numbered c ≡ Some k → connective_at h [] ≡ connective_in b (alone_by k)
+told_alone b h c ts k e n = subst (λ z. connective_at z [] ≡ connective_in b (alone_by k)) e (ap (λ m. connective_of_constant m ts []) (number_back c k n) ∙ any_alone b k ts)
+
+abbrev types_of : Nodes → List TypeId → List Ty
+types_of b ids = map (type_tree b) (map (λ t. t.0) ids)
+
+pub told_negated : (b : Nodes) (h : Term) (c : ℕ) (ids : List TypeId) (k : Constant) (a : TermId) → atom (constant c (types_of b ids)) ≡ h → numbered c ≡ Some k → length ids < 1 → connective_at h (tree b a.0 ∷ []) ≡ connective_in b (negated_by k a)
+told_negated b h c [] k a e n l = subst (λ z. connective_at z (tree b a.0 ∷ []) ≡ connective_in b (negated_by k a)) e (ap (λ m. connective_of_constant m [] (tree b a.0 ∷ [])) (number_back c k n) ∙ any_negated b k a)
+told_negated b h c (t ∷ ids) k a e n l = absurd (omega (arith, l))
+
+pub first_within : (n : ℕ) (ts : List TypeId) → All (λ t. t < n) (map (λ t. t.0) ts) → 1 ≤ length ts → (slice_index_or ts 0 (record { 0 = 0 })).0 < n
+first_within n [] a e = absurd (omega (arith, e))
+first_within n (t ∷ ts) a e = All-head (λ t. t < n) t.0 (map (λ t. t.0) ts) a
+
+pub told_quantified : (b : Nodes) (h : Term) (c : ℕ) (ids : List TypeId) (k : Constant) (a : TermId) → atom (constant c (types_of b ids)) ≡ h → numbered c ≡ Some k → 1 ≤ length ids → length ids < 2 →
+    connective_at h (tree b a.0 ∷ []) ≡ connective_in b (quantified_by k (slice_index_or ids 0 (record { 0 = 0 })) a)
+told_quantified b h c [] k a e n l m = absurd (omega (arith, l))
+told_quantified b h c (t ∷ []) k a e n l m =
+    subst (λ z. connective_at z (tree b a.0 ∷ []) ≡ connective_in b (quantified_by k t a)) e (ap (λ j. connective_of_constant j (type_tree b t.0 ∷ []) (tree b a.0 ∷ [])) (number_back c k n) ∙ any_quantified b k t a)
+told_quantified b h c (t ∷ u ∷ ids) k a e n l m = absurd (omega (arith, m))
+
+pub told_many : (b : Nodes) (h : Term) (c : ℕ) (ids : List TypeId) (a : Term) → atom (constant c (types_of b ids)) ≡ h → 2 ≤ length ids → connective_at h (a ∷ []) ≡ connective.Atomic
+told_many b h c [] a e l = absurd (omega (arith, l))
+told_many b h c (t ∷ []) a e l = absurd (omega (arith, l))
+told_many b h c (t ∷ u ∷ ids) a e l = subst (λ z. connective_at z (a ∷ []) ≡ connective.Atomic) e refl
+
+pub told_joined : (b : Nodes) (h : Term) (c : ℕ) (ids : List TypeId) (k : Constant) (x y : TermId) → atom (constant c (types_of b ids)) ≡ h → numbered c ≡ Some k → length ids ≡ 0 →
+    connective_at h (tree b x.0 ∷ tree b y.0 ∷ []) ≡ connective_in b (joined_by k x y)
+told_joined b h c [] k x y e n l =
+    subst (λ z. connective_at z (tree b x.0 ∷ tree b y.0 ∷ []) ≡ connective_in b (joined_by k x y)) e (ap (λ m. connective_of_constant m [] (tree b x.0 ∷ tree b y.0 ∷ [])) (number_back c k n) ∙ any_joined b k x y)
+told_joined b h c (t ∷ ids) k x y e n l = absurd (omega (arith, l))
+
+-- what a quantifier is made of stands in the bank
+pub quantified_within : (b : Nodes) (k : Constant) (T : TypeId) (a : TermId) → T.0 < length b.types → a.0 < length b.terms → IsConnectiveIn b (quantified_by k T a)
+quantified_within b fixed.ForAll T a t u = (t, u)
+quantified_within b fixed.Exists T a t u = (t, u)
+quantified_within b _ T a t u = tt

@@ -1,0 +1,2 @@
+-- What only the reading of a formula keeps.
+pub mod Connected
