@@ -10,8 +10,8 @@ use crate::copying::{Copying, Turn};
 use crate::fault::ModuleFault;
 use crate::files::Files;
 use crate::module::Module;
-use lp_base::{Limit, Memory};
-use lp_sig::{END_OF_NUMBERS, FIRST_CONSTANT, FIRST_KIND};
+use lp_base::{END_OF_NUMBERS, Limit, Memory};
+use lp_sig::{FIRST_CONSTANT, FIRST_KIND};
 use std::alloc::Global;
 
 /// The numbers of the first hidden kind and constant of a copy.

@@ -1,5 +1,5 @@
 -- What the bodies of abbreviations use, one more declaration after the other.
-use Rattle.std.proofs.Common.{◌≡◌, ℕ, suc, ◌+◌, ◌<◌, ◌≤◌, List, [], ◌∷◌, ◌++◌, Bool, true, false, length, map, take, take_all, drop, get_or, arith, Option, Some, None, refl, sym, ap, subst, ◌∙◌, true≢false, append_assoc, append-nil, inl, inr, ⊎_elim}
+use Rattle.std.proofs.Common.{◌≡◌, ℕ, suc, ◌+◌, ◌<◌, ◌≤◌, List, [], ◌∷◌, ◌++◌, Bool, true, false, length, map, take, take_all, drop, get_or, arith, Option, Some, None, refl, sym, ap, subst, ◌∙◌, true≢false, append_assoc, append-nil, ⊎_elim}
 use Rattle.std.specs.Prelude.{if◌then◌else◌, option_map, is_some, ◌||◌, ◌⊎◌}
 use Rattle.std.specs.Str.{bytes_eq}
 use Rattle.std.proofs.lemmas.Slice.Eq.{bytes_eq-Decides}
@@ -9,6 +9,8 @@ use Rattle.lp_syntax.specs.declared.text.Declaration.{Declaration}
 use Rattle.lp_syntax.specs.declared.text.Declaration.TheVariants.{Kinds, LocalKinds, Constants, Locals, Abbreviation, Accumulate, AccumSig, Fixities}
 use Rattle.std.specs.Global.{Global}
 use Rattle.std.specs.Prelude.{Vec}
+use Rattle.std.proofs.lemmas.Bool.{or_left, or_right, or_cases}
+use Rattle.lp_lemmas.proofs.Booleans.{bytes_eq_self}
 use Rattle.lp_syntax.specs.declared.text.RawType.{RawType}
 use Rattle.lp_syntax.specs.declared.text.RawTypeNode.{RawTypeNode}
 use Rattle.lp_syntax.specs.declared.text.RawTypeNode.TheVariants.{Word, Arrow}
@@ -36,20 +38,6 @@ among_append n (x ∷ xs) ys = by (bytes_eq n x) (is_among n (xs ++ ys)) (is_amo
 
 names_append : {A : Type 0} (xs ys : List (Row A)) → names_in (xs ++ ys) ≡ names_in xs ++ names_in ys
 names_append xs ys = map-append (λ r. r.0) xs ys
-
-itself : (n : List ℕ) → bytes_eq n n ≡ true
-itself n = (bytes_eq-Decides n n).1 refl
-
-or_left : (a b : Bool) → a ≡ true → (a || b) ≡ true
-or_left a b e = ap (λ t. t || b) e
-
-or_right : (a b : Bool) → b ≡ true → (a || b) ≡ true
-or_right true b e = refl
-or_right false b e = e
-
-or_cases : (a b : Bool) → (a || b) ≡ true → (a ≡ true) ⊎ (b ≡ true)
-or_cases true b e = inl refl
-or_cases false b e = inr e
 
 -- the names that are known behind rows
 known_after : {A : Type 0} → List (List ℕ) → List (Row A) → List (List ℕ)
@@ -86,7 +74,7 @@ module _ {A : Type 0} where
 
       this : (t : Bool) → is_among x.0 known ≡ t → n ≡ x.0 → is_among n (if t then known_after known xs else known_after (x.0 ∷ known) xs) ≡ true
       this true e same = still_known n known xs (ap (λ m. is_among m known) same ∙ e)
-      this false e same = still_known n (x.0 ∷ known) xs (or_left (bytes_eq n x.0) (is_among n known) (ap (λ m. bytes_eq m x.0) same ∙ itself x.0))
+      this false e same = still_known n (x.0 ∷ known) xs (or_left (bytes_eq n x.0) (is_among n known) (ap (λ m. bytes_eq m x.0) same ∙ bytes_eq_self x.0))
 
   -- what is known has no first row
   apart : (n : List ℕ) (known : List (List ℕ)) (xs : List (Row A)) → is_among n known ≡ true → is_among n (names_in (firsts known xs)) ≡ false
@@ -173,7 +161,7 @@ in_front n (a ∷ ms) bs i h e = by (λ j f q. in_front n ms bs j f q) (bytes_eq
         omega (arith, z, l)
 
 behind : (n : List ℕ) (ms bs : List (List ℕ)) → is_among n ms ≡ false → first_place n (ms ++ (n ∷ bs)) ≡ Some (length ms)
-behind n [] bs h = ap (λ t. if t then Some 0 else option_map (λ i. suc i) (first_place n bs)) (itself n)
+behind n [] bs h = ap (λ t. if t then Some 0 else option_map (λ i. suc i) (first_place n bs)) (bytes_eq_self n)
 behind n (a ∷ ms) bs h = by (bytes_eq n a) h (behind n ms bs)
   where
     by : (t : Bool) → (t || is_among n ms) ≡ false → (is_among n ms ≡ false → first_place n (ms ++ (n ∷ bs)) ≡ Some (length ms)) → (if t then Some 0 else option_map (λ i. suc i) (first_place n (ms ++ (n ∷ bs)))) ≡ Some (suc (length ms))
@@ -189,7 +177,7 @@ uses_same (b ∷ bs) x n h = by (bytes_eq n b.0) h (uses_same bs x n)
     by false h f = f h
 
 uses_new : (bodies : List (Row (List Way))) (n : List ℕ) (w : List Way) → is_among n (names_in bodies) ≡ false → uses_of (bodies ++ (n, w) ∷ []) n ≡ w
-uses_new [] n w h = ap (λ t. if t then w else []) (itself n)
+uses_new [] n w h = ap (λ t. if t then w else []) (bytes_eq_self n)
 uses_new (b ∷ bs) n w h = by (bytes_eq n b.0) h (uses_new bs n w)
   where
     by : (t : Bool) → (t || is_among n (names_in bs)) ≡ false → (is_among n (names_in bs) ≡ false → uses_of (bs ++ (n, w) ∷ []) n ≡ w) → (if t then b.1 else uses_of (bs ++ (n, w) ∷ []) n) ≡ w
@@ -198,7 +186,7 @@ uses_new (b ∷ bs) n w h = by (bytes_eq n b.0) h (uses_new bs n w)
 
 map_same : {A : Type 0} (f g : List ℕ → A) (ns : List (List ℕ)) → ((n : List ℕ) → is_among n ns ≡ true → f n ≡ g n) → map f ns ≡ map g ns
 map_same f g [] h = refl
-map_same f g (n ∷ ns) h = ap (λ y. y ∷ map f ns) (h n (or_left (bytes_eq n n) (is_among n ns) (itself n))) ∙ ap (λ z. g n ∷ z) (map_same f g ns (λ m e. h m (or_right (bytes_eq m n) (is_among m ns) e)))
+map_same f g (n ∷ ns) h = ap (λ y. y ∷ map f ns) (h n (or_left (bytes_eq n n) (is_among n ns) (bytes_eq_self n))) ∙ ap (λ z. g n ∷ z) (map_same f g ns (λ m e. h m (or_right (bytes_eq m n) (is_among m ns) e)))
 
 -- a known name is declared again, and a new one for the first time
 module _ (uses : List (List Way)) (z : Seen) (n : List ℕ) (p : ℕ) (w : List Way) (k : KnowsUses uses z) where
@@ -262,7 +250,7 @@ module _ (uses : List (List Way)) (z : Seen) (n : List ℕ) (p : ℕ) (w : List 
 
     known_then : is_known n (z.said ++ (n, an_abbreviation p) ∷ []) ≡ true
     known_then = or_right (is_among n (names_in standard_kinds)) (is_among n (names_in (z.said ++ (n, an_abbreviation p) ∷ [])))
-        (ap (is_among n) (names_append z.said ((n, an_abbreviation p) ∷ [])) ∙ among_append n (names_in z.said) (n ∷ []) ∙ or_right (is_among n (names_in z.said)) (is_among n (n ∷ [])) (or_left (bytes_eq n n) false (itself n)))
+        (ap (is_among n) (names_append z.said ((n, an_abbreviation p) ∷ [])) ∙ among_append n (names_in z.said) (n ∷ []) ∙ or_right (is_among n (names_in z.said)) (is_among n (n ∷ [])) (or_left (bytes_eq n n) false (bytes_eq_self n)))
 
     old_place : is_known n z.said ≡ true → o ≡ first_place n (abbreviation_names z.said ++ later (z.said ++ (n, an_abbreviation p) ∷ []) more)
     old_place h = is ∙ ap (first_place n) (names_later (z.said ++ (n, an_abbreviation p) ∷ []) more ∙ ap (λ y. y ++ later (z.said ++ (n, an_abbreviation p) ∷ []) more) (names_again h))

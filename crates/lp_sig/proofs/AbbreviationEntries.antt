@@ -4,6 +4,7 @@ use Rattle.std.specs.Prelude.{if◌then◌else◌, option_map, ◌||◌}
 use Rattle.std.specs.Str.{bytes_eq}
 use Rattle.std.proofs.lemmas.Slice.Eq.{bytes_eq-Decides}
 use Rattle.std.proofs.lemmas.List.{map-append, take_more, length-map}
+use Rattle.lp_lemmas.proofs.Booleans.{or_false_right}
 use Rattle.lp_sig.specs.Places.{first_place}
 use Rattle.lp_sig.specs.Rows.{Row}
 use Rattle.lp_sig.specs.Standard.{standard_kinds}
@@ -45,10 +46,6 @@ distinct_place (n ∷ ns) (suc i) d k h = by (bytes_eq (get_or ns i d) n) refl (
 abbrev heads_behind : List (List ℕ) → List (Row Said) → List (List ℕ)
 heads_behind known said = names_in (abbreviations_among (firsts known said))
 
-or_false : (a b : Bool) → (a || b) ≡ false → b ≡ false
-or_false true b e = absurd (true≢false e)
-or_false false b e = e
-
 -- the first rows of names are distinct, and none of them is known
 heads_distinct : (known : List (List ℕ)) (said : List (Row Said)) → Distinct (heads_behind known said) × ((n : List ℕ) → is_among n (heads_behind known said) ≡ true → is_among n known ≡ false)
 heads_distinct known [] = (tt, λ n e. absurd (true≢false (sym e)))
@@ -59,7 +56,7 @@ heads_distinct known ((m, a_kind c) ∷ rs) = by (is_among m known) refl (heads_
         Distinct (names_in (abbreviations_among (if t then firsts known rs else (m, a_kind c) ∷ firsts (m ∷ known) rs))) ×
         ((n : List ℕ) → is_among n (names_in (abbreviations_among (if t then firsts known rs else (m, a_kind c) ∷ firsts (m ∷ known) rs))) ≡ true → is_among n known ≡ false)
     by true e h k = h
-    by false e h k = (k.0, λ n f. or_false (bytes_eq n m) (is_among n known) (k.1 n f))
+    by false e h k = (k.0, λ n f. or_false_right (bytes_eq n m) (is_among n known) (k.1 n f))
 heads_distinct known ((m, an_abbreviation p) ∷ rs) = by (is_among m known) refl (heads_distinct known rs) (heads_distinct (m ∷ known) rs)
   where
     fresh : (b : Bool) → is_among m (heads_behind (m ∷ known) rs) ≡ b → ((n : List ℕ) → is_among n (heads_behind (m ∷ known) rs) ≡ true → is_among n (m ∷ known) ≡ false) → is_among m (heads_behind (m ∷ known) rs) ≡ false
@@ -77,7 +74,7 @@ heads_distinct known ((m, an_abbreviation p) ∷ rs) = by (is_among m known) ref
     by true e h k = h
     by false e h k = (
       (fresh (is_among m (heads_behind (m ∷ known) rs)) refl k.1, k.0),
-      λ n f. here n (bytes_eq n m) refl e (λ g. or_false (bytes_eq n m) (is_among n known) (k.1 n g)) f,
+      λ n f. here n (bytes_eq n m) refl e (λ g. or_false_right (bytes_eq n m) (is_among n known) (k.1 n g)) f,
     )
 
 -- an abbreviation stands first at its place

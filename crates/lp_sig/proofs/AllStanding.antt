@@ -5,6 +5,7 @@ use Rattle.std.specs.Global.{Global}
 use Rattle.std.specs.Prelude.{if◌then◌else◌, option_map, is_some, Contains, Vec}
 use Rattle.std.specs.Str.{bytes_eq}
 use Rattle.std.proofs.lemmas.Slice.Eq.{bytes_eq-Decides}
+use Rattle.std.proofs.lemmas.Option.{same_Some}
 use Rattle.lp_base.specs.declared.place.Spot.{Spot}
 use Rattle.lp_syntax.specs.declared.text.Declaration.{Declaration}
 use Rattle.lp_syntax.specs.declared.text.Declaration.TheVariants.{Abbreviation}
@@ -24,9 +25,6 @@ use Rattle.lp_sig.specs.declared.bodies.Body.{Body}
 use Rattle.lp_sig.proofs.FirstBodies.{line_defines, line_uses}
 use Rattle.lp_sig.proofs.Heads.{place_below}
 
-some_same : {A : Type 0} (x y : A) → Some x ≡ Some y → x ≡ y
-some_same x y e = cc
-
 -- names with one first place are spelled alike
 one_place : (m n : List ℕ) (ns : List (List ℕ)) (i : ℕ) → first_place m ns ≡ Some i → first_place n ns ≡ Some i → m ≡ n
 one_place m n [] i e f = absurd (cc)
@@ -36,21 +34,21 @@ one_place m n (x ∷ xs) i e f = by (bytes_eq m x) (bytes_eq n x) (first_place m
         ((j : ℕ) → first_place m xs ≡ Some j → first_place n xs ≡ Some j → m ≡ n) → m ≡ n
     by true true o p s t c d e f r = (bytes_eq-Decides m x).0 s ∙ sym ((bytes_eq-Decides n x).0 t)
     by true false o None s t c d e f r = absurd (cc)
-    by true false o (Some k) s t c d e f r = let a : 0 ≡ i = some_same 0 i e in let b : suc k ≡ i = some_same (suc k) i f in absurd (omega (arith, a, b))
+    by true false o (Some k) s t c d e f r = let a : 0 ≡ i = same_Some 0 i e in let b : suc k ≡ i = same_Some (suc k) i f in absurd (omega (arith, a, b))
     by false true None p s t c d e f r = absurd (cc)
-    by false true (Some k) p s t c d e f r = let a : 0 ≡ i = some_same 0 i f in let b : suc k ≡ i = some_same (suc k) i e in absurd (omega (arith, a, b))
+    by false true (Some k) p s t c d e f r = let a : 0 ≡ i = same_Some 0 i f in let b : suc k ≡ i = same_Some (suc k) i e in absurd (omega (arith, a, b))
     by false false None p s t c d e f r = absurd (cc)
     by false false (Some j) None s t c d e f r = absurd (cc)
     by false false (Some j) (Some k) s t c d e f r =
-        let a : suc j ≡ i = some_same (suc j) i e in
-        let b : suc k ≡ i = some_same (suc k) i f in
+        let a : suc j ≡ i = same_Some (suc j) i e in
+        let b : suc k ≡ i = same_Some (suc k) i f in
         let l : k ≡ j = omega (arith, a, b) in
         r j c (d ∙ ap (λ k. Some k) l)
 
 -- the sentence of a line
 line_got : (lines : List Declaration) (i : ℕ) (d : Declaration) → line_of_text lines i ≡ Some d → (i < length lines) × (get_or lines i d ≡ d)
 line_got [] i d e = absurd (cc)
-line_got (x ∷ xs) zero d e = (omega arith, some_same x d e)
+line_got (x ∷ xs) zero d e = (omega arith, same_Some x d e)
 line_got (x ∷ xs) (suc i) d e = let r = line_got xs i d e in let l = r.0 in (omega (arith, l), r.1)
 
 module _ (z : Seen) (text : List ℕ) (lines : List Declaration) where
@@ -68,7 +66,7 @@ module _ (z : Seen) (text : List ℕ) (lines : List Declaration) where
       let a = all place behind (omega (arith, l, count)) in
       let s = its_sentence a.line a.name a.parameters a.body sound a.declares in
       let same = one_place name (spelled text a.name) (abbreviation_names (z.said ++ said_in text lines)) place at a.its_place in
-      let this = some_same (record { text = text; parameters = a.parameters.items; body = a.body }) d (sym (line_defines z text lines bodies place holds a) ∙ ap (λ n. found n (z.definitions ++ definitions_in text lines)) (sym same) ∙ is) in
+      let this = same_Some (record { text = text; parameters = a.parameters.items; body = a.body }) d (sym (line_defines z text lines bodies place holds a) ∙ ap (λ n. found n (z.definitions ++ definitions_in text lines)) (sym same) ∙ is) in
       let are = line_uses z text lines bodies place of_bodies of_definitions holds behind a in
       subst (DefinitionStands (seen_text z text lines) place) this (record {
         apart = s.straight.head.1;

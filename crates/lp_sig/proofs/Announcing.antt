@@ -5,6 +5,7 @@ use Rattle.std.specs.Prelude.{◌⊎◌, ◌||◌, if◌then◌else◌, option_m
 use Rattle.std.specs.Str.{bytes_eq}
 use Rattle.std.proofs.lemmas.Slice.Eq.{bytes_eq-Decides}
 use Rattle.std.proofs.lemmas.List.{map-append, length-append, length-map, take_more, get_or_append_left}
+use Rattle.std.proofs.lemmas.Option.{same_Some}
 use Rattle.lp_base.specs.declared.place.Spot.{Spot}
 use Rattle.lp_term.specs.Nodes.{Nodes, type_tree}
 use Rattle.lp_term.specs.declared.node.TypeId.{TypeId}
@@ -36,9 +37,6 @@ last_some {A} (x ∷ xs) o (suc i) a e = deeper (last_some xs o i a e)
     deeper (inl p) = let l = p.1 in inl (p.0, omega (arith, l))
     deeper (inr p) = inr (ap (λ n. suc n) p.0, p.1)
 
-some_same : {A : Type 0} (x y : A) → Some x ≡ Some y → x ≡ y
-some_same x y e = cc
-
 place_front : (name : List ℕ) (ns ms : List (List ℕ)) (i : ℕ) → first_place name (ns ++ ms) ≡ Some i → i < length ns → first_place name ns ≡ Some i
 place_front name [] ms i e h = absurd (omega (arith, h))
 place_front name (n ∷ ns) ms i e h = by (λ j f l. place_front name ns ms j f l) (bytes_eq name n) (first_place name (ns ++ ms)) refl e
@@ -46,7 +44,7 @@ place_front name (n ∷ ns) ms i e h = by (λ j f l. place_front name ns ms j f 
     by : ((j : ℕ) → first_place name (ns ++ ms) ≡ Some j → j < length ns → first_place name ns ≡ Some j) → (t : Bool) (o : Option ℕ) → first_place name (ns ++ ms) ≡ o → (if t then Some 0 else option_map (λ i. suc i) o) ≡ Some i → (if t then Some 0 else option_map (λ i. suc i) (first_place name ns)) ≡ Some i
     by f true o p e = e
     by f false None p e = absurd (cc)
-    by f false (Some j) p e = let s : suc j ≡ i = some_same (suc j) i e in ap (option_map (λ i. suc i)) (f j p (omega (arith, s, h))) ∙ e
+    by f false (Some j) p e = let s : suc j ≡ i = same_Some (suc j) i e in ap (option_map (λ i. suc i)) (f j p (omega (arith, s, h))) ∙ e
 
 place_last : (name n : List ℕ) (ns : List (List ℕ)) (i : ℕ) → first_place name (ns ++ n ∷ []) ≡ Some i → i ≡ length ns → bytes_eq name n ≡ true
 place_last name n [] i e h = by (bytes_eq name n) None refl e
@@ -58,9 +56,9 @@ place_last name n [] i e h = by (bytes_eq name n) None refl e
 place_last name n (m ∷ ms) i e h = by (λ j f k. place_last name n ms j f k) (bytes_eq name m) (first_place name (ms ++ n ∷ [])) refl e
   where
     by : ((j : ℕ) → first_place name (ms ++ n ∷ []) ≡ Some j → j ≡ length ms → bytes_eq name n ≡ true) → (t : Bool) (o : Option ℕ) → first_place name (ms ++ n ∷ []) ≡ o → (if t then Some 0 else option_map (λ i. suc i) o) ≡ Some i → bytes_eq name n ≡ true
-    by f true o p e = let z : 0 ≡ i = some_same 0 i e in absurd (omega (arith, z, h))
+    by f true o p e = let z : 0 ≡ i = same_Some 0 i e in absurd (omega (arith, z, h))
     by f false None p e = absurd (cc)
-    by f false (Some j) p e = let s : suc j ≡ i = some_same (suc j) i e in f j p (omega (arith, s, h))
+    by f false (Some j) p e = let s : suc j ≡ i = same_Some (suc j) i e in f j p (omega (arith, s, h))
 
 found_new : {A : Type 0} (n : List ℕ) (rows : List (Row A)) (a : A) → is_among n (names_in rows) ≡ false → found n (rows ++ (n, a) ∷ []) ≡ Some a
 found_new n [] a h = ap (λ t. cond t (Some a) None) ((bytes_eq-Decides n n).1 refl)
@@ -110,7 +108,7 @@ module _ (b : Nodes) (bodies : List Body) (said : List (Row Said)) (defs : List 
 
     same_type : (z : Spot) (qs : Vec Spot Global) (tz : RawType) → Some (declaration.Abbreviation s ps ty) ≡ Some (declaration.Abbreviation z qs tz) → definition ≡ record { text = text; parameters = qs.items; body = tz }
     same_type z qs tz e =
-        let f : declaration.Abbreviation s ps ty ≡ declaration.Abbreviation z qs tz = some_same (declaration.Abbreviation s ps ty) (declaration.Abbreviation z qs tz) e in
+        let f : declaration.Abbreviation s ps ty ≡ declaration.Abbreviation z qs tz = same_Some (declaration.Abbreviation s ps ty) (declaration.Abbreviation z qs tz) e in
         let g : ps ≡ qs = cc in
         let h : ty ≡ tz = cc in
         ap (λ ps. record { text = text; parameters = ps.items; body = ty }) g ∙ ap (λ ty. record { text = text; parameters = qs.items; body = ty }) h
@@ -142,7 +140,7 @@ module _ (b : Nodes) (bodies : List Body) (said : List (Row Said)) (defs : List 
             let m = k.count in
             let e = q.0 in
             let same : name ≡ n = (bytes_eq-Decides name n).0 (place_last name n (abbreviation_names said) place (ap (first_place name) (sym names) ∙ at) (omega (arith, e, c, m))) in
-            ap (λ m. found m (defs ++ (n, definition) ∷ [])) same ∙ found_new n defs definition untold ∙ ap (λ d. Some d) (same_type z qs tz (sym there ∙ ap declared (some_same line l q.1) ∙ d))
+            ap (λ m. found m (defs ++ (n, definition) ∷ [])) same ∙ found_new n defs definition untold ∙ ap (λ d. Some d) (same_type z qs tz (sym there ∙ ap declared (same_Some line l q.1) ∙ d))
 
     pub known_new : KnowsBodies b new (said ++ (n, an_abbreviation p) ∷ []) (defs ++ (n, definition) ∷ []) text declared
     known_new = record {

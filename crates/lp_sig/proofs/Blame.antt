@@ -1,11 +1,10 @@
 -- What is to blame for a refusal, seen from the declaration.
 use Rattle.std.proofs.Common.{◌≡◌, ℕ, ◌+◌, ◌<◌, ◌≤◌, List, ◌++◌, length, take, take_all, get_or, refl, sym, ap, subst, ◌∙◌, arith, Result, Ok, Err, inl, inr, Bool, true, false}
 use Rattle.std.specs.Global.{Global}
-use Rattle.std.specs.Prelude.{◌≢◌, Contains, IfErr, IfOk, OnOk, ◌⊎◌, String, Vec, string_bytes, nat_le}
+use Rattle.std.specs.Prelude.{◌≢◌, Contains, IfOk, ◌⊎◌, String, Vec, string_bytes, nat_le}
 use Rattle.std.proofs.lemmas.List.{get_or_default}
 use Rattle.std.proofs.lemmas.List.Elements.{All-more}
 use Rattle.std.proofs.lemmas.Bool.{leb-true, leb-false}
-use Rattle.std.specs.Result.{IsErrAnd}
 use Rattle.lp_base.specs.declared.place.Spot.{Spot}
 use Rattle.lp_syntax.specs.declared.text.Declaration.{Declaration}
 use Rattle.lp_syntax.specs.declared.text.SignatureText.{SignatureText}
@@ -25,31 +24,9 @@ use Rattle.lp_sig.specs.declared.walk.Step.TheVariants.{Enter, Declare}
 use Rattle.lp_sig.specs.declared.fault.SigFault.{SigFault}
 use Rattle.lp_sig.specs.declared.fault.SigFault.TheVariants as fault
 
--- `?` passes a refusal up as it is
-pub passed_up : {T E : Type 0} (r : Result T E) (e : E) (P : E → Type 0) → IsErrAnd r (λ y. y ≡ e) → P e → IfErr r P
-passed_up (Ok x) e P is p = tt
-passed_up (Err y) e P is p = subst P (sym is) p
-
-pub for_err : {T E : Type 0} (r : Result T E) (P Q : E → Type 0) → ((e : E) → P e → Q e) → IfErr r P → IfErr r Q
-for_err (Ok x) P Q f h = tt
-for_err (Err e) P Q f h = f e h
-
-pub for_ok : {T E : Type 0} (r : Result T E) (P Q : T → Type 0) → ((x : T) → P x → Q x) → IfOk r P → IfOk r Q
-for_ok (Ok x) P Q f h = f x h
-for_ok (Err e) P Q f h = tt
-
 pub both_ok : {T E : Type 0} (r : Result T E) (P Q : T → Type 0) → IfOk r P → IfOk r Q → IfOk r (λ x. P x × Q x)
 both_ok (Ok x) P Q p q = (p, q)
 both_ok (Err e) P Q p q = tt
-
--- what a call says of its end, from what one that it stands on says
-pub on_ok : {T E : Type 0} (r : Result T E) (P Q : Type 0) → (P → Q) → OnOk r P → OnOk r Q
-on_ok (Ok x) P Q f h = f h
-on_ok (Err e) P Q f h = tt
-
-pub always : {T E : Type 0} (r : Result T E) (P : Type 0) → P → OnOk r P
-always (Ok x) P p = p
-always (Err e) P p = tt
 
 -- a line at fault, where those before it pass no limit and have no fault
 pub line_at_fault : (text : List ℕ) (from : ℕ) (z : Seen) (rows : List (Row Written)) (lines ds : List Declaration) (i : ℕ) (d : Declaration) (e : SigFault) → ds ≡ lines → i < length ds → d ≡ get_or ds i d → AreWithin text (take i lines) → AreSound from text z (take i lines) → AreTakenConstants from z rows (constants_in text (take i lines)) →

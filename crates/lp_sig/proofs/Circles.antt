@@ -3,6 +3,7 @@ use Rattle.std.proofs.Common.{◌≡◌, ℕ, zero, suc, ◌+◌, ◌<◌, ◌�
 use Rattle.std.specs.Prelude.{Contains, ◌⊎◌, if◌then◌else◌}
 use Rattle.std.proofs.lemmas.List.{take_more, get_or_default}
 use Rattle.std.proofs.lemmas.List.Elements.{Contains-append_left, Contains-append_right, Contains-append_cases, Contains-push, Contains-push_cases}
+use Rattle.lp_lemmas.proofs.Elements.{Contains_single}
 use Rattle.lp_sig.specs.Loading.{Way, ways_out, LeadsTo, there, onward, NoneLeads, HasNoCircle, IsCircle}
 use Rattle.lp_sig.specs.Walking.{SomeLeads, IsCircleFault, IsFirstCircleFault}
 use Rattle.lp_sig.specs.declared.fault.SigFault.{SigFault}
@@ -101,13 +102,9 @@ at_end ways words to m work empty c = λ w d l. let x = sure w (c.begun w d) in 
     nowhere (there e) f h other = other (e ∙ f)
     nowhere {a} {b} (onward w d l) f h other = let x = sure w ((c.closed a (inside ways a w d) h).1 w d) in nowhere l f x.0 x.1
 
-only : (w v : Way) → Contains (w ∷ []) v → w ≡ v
-only w v (zero, l, e) = e
-only w v (suc k, l, e) = absurd (omega (arith, l))
-
 -- the one word leads there, or does not
 pub one_leads : (ways : List (List Way)) (w : Way) (to : ℕ) → SomeLeads ways (w ∷ []) to → LeadsTo ways w.1 to
-one_leads ways w to x = subst (λ v. LeadsTo ways v.1 to) (sym (only w x.0 x.1)) x.2
+one_leads ways w to x = subst (λ v. LeadsTo ways v.1 to) (sym (Contains_single w x.0 x.1)) x.2
 
 alone : (w : Way) → Contains (w ∷ []) w
 alone w = (0, omega arith, refl)

@@ -3,6 +3,8 @@ use Rattle.std.proofs.Common.{◌≡◌, ℕ, zero, suc, ◌+◌, ◌<◌, ◌�
 use Rattle.std.specs.Prelude.{if◌then◌else◌, option_map, is_some, IfSome, ◌||◌}
 use Rattle.std.specs.Str.{bytes_eq}
 use Rattle.std.proofs.lemmas.List.{map-append}
+use Rattle.std.proofs.lemmas.Option.{IfSome_then}
+use Rattle.lp_lemmas.proofs.Options.{none_from_is_some}
 use Rattle.lp_calculus.specs.Types.{Ty}
 use Rattle.lp_term.specs.Nodes.{Nodes, Extends, type_tree}
 use Rattle.lp_term.specs.declared.node.TypeId.{TypeId}
@@ -81,26 +83,22 @@ typed_stays b said more defs others w d h = record {
   scheme = scheme_stays said more defs others w d.type_vars (type_tree b d.scheme.0) h.scheme;
 }
 
-if_some : {X : Type 0} (o : Option X) (P Q : X → Type 0) → ((x : X) → P x → Q x) → IfSome o P → IfSome o Q
-if_some None P Q f h = h
-if_some (Some x) P Q f h = f x h
-
 pub constants_kept : (b c : Nodes) (constants : Constants) (said : List (Row Said)) (defs : List (Row Definition)) (rows : List (Row Written)) → Extends b c → KnowsConstants b constants said defs rows → KnowsConstants c constants said defs rows
 constants_kept b c constants said defs rows x k = record {
   are = in_step_map (IsNoted b said defs) (IsNoted c said defs)
-      (λ n r e h. record { name = h.name; typed = if_some e.declared (IsTyped b said defs r.1) (IsTyped c said defs r.1) (λ d g. typed_kept b c said defs r.1 d x g) h.typed }) 32 (declared_constants rows) constants.constants.items k.are;
+      (λ n r e h. record { name = h.name; typed = IfSome_then e.declared h.typed (λ d g. typed_kept b c said defs r.1 d x g) }) 32 (declared_constants rows) constants.constants.items k.are;
   places = k.places;
 }
 
 pub constants_stay : (b : Nodes) (constants : Constants) (said more : List (Row Said)) (defs others : List (Row Definition)) (rows : List (Row Written)) → KnowsConstants b constants said defs rows → KnowsConstants b constants (said ++ more) (defs ++ others) rows
 constants_stay b constants said more defs others rows k = record {
   are = in_step_map (IsNoted b said defs) (IsNoted b (said ++ more) (defs ++ others))
-      (λ n r e h. record { name = h.name; typed = if_some e.declared (IsTyped b said defs r.1) (IsTyped b (said ++ more) (defs ++ others) r.1) (λ d g. typed_stays b said more defs others r.1 d g) h.typed }) 32 (declared_constants rows) constants.constants.items k.are;
+      (λ n r e h. record { name = h.name; typed = IfSome_then e.declared h.typed (λ d g. typed_stays b said more defs others r.1 d g) }) 32 (declared_constants rows) constants.constants.items k.are;
   places = k.places;
 }
 
 -- a name that is not known is found among the first rows where it is found among all
-firsts_found : {A : Type 0} (n : List ℕ) (known : List (List ℕ)) (rows : List (Row A)) → is_among n known ≡ false → found n (firsts known rows) ≡ found n rows
+pub firsts_found : {A : Type 0} (n : List ℕ) (known : List (List ℕ)) (rows : List (Row A)) → is_among n known ≡ false → found n (firsts known rows) ≡ found n rows
 firsts_found n known [] h = refl
 firsts_found {A} n known (r ∷ rs) h = by (is_among r.0 known) (bytes_eq n r.0) refl refl (firsts_found n known rs h) (firsts_found n (r.0 ∷ known) rs)
   where
@@ -111,11 +109,7 @@ firsts_found {A} n known (r ∷ rs) h = by (is_among r.0 known) (bytes_eq n r.0)
     by false true p q f g = ap (λ b. cond b (Some r.1) (found n (firsts (r.0 ∷ known) rs))) q
     by false false p q f g = ap (λ b. cond b (Some r.1) (found n (firsts (r.0 ∷ known) rs))) q ∙ g h
 
-nothing_found : {X : Type 0} (o : Option X) → is_some o ≡ false → o ≡ None
-nothing_found None e = refl
-nothing_found (Some x) e = absurd (true≢false e)
-
-not_among : {A : Type 0} (n : List ℕ) (rows : List (Row A)) → found n rows ≡ None → is_among n (names_in rows) ≡ false
+pub not_among : {A : Type 0} (n : List ℕ) (rows : List (Row A)) → found n rows ≡ None → is_among n (names_in rows) ≡ false
 not_among n rows e = sym (found_among n rows) ∙ ap is_some e
 
 pub found_first : (name : List ℕ) (rows : List (Row Written)) → found name standard_constants ≡ None → found name (declared_constants rows) ≡ found name rows
@@ -170,7 +164,7 @@ module _ (b : Nodes) (constants : Constants) (said : List (Row Said)) (defs : Li
         let names = names_same (IsNoted b said defs) (λ n row c h. h.name) 32 (declared_constants rows) constants.constants.items k.are in
         let here : is_some (found name (declared_constants rows)) ≡ false =
         found_among name (declared_constants rows) ∙ ap (is_among name) (sym names) ∙ sym (place_among name all_names) ∙ ap is_some (sym (k.places name) ∙ sym e) in
-        (sym standard, sym (found_first name rows (sym standard)) ∙ nothing_found (found name (declared_constants rows)) here)
+        (sym standard, sym (found_first name rows (sym standard)) ∙ none_from_is_some (found name (declared_constants rows)) here)
 
     there : (i : ℕ) (c : Constant) → Some i ≡ place_of constants.places name → c ≡ get_or constants.constants.items i c → IsOfFirst (IsNoted b said defs) (λ n row c h. h.name) name (declared_constants rows) c
     there i c e is = of_first (IsNoted b said defs) (λ n row c h. h.name) name 32 (declared_constants rows) constants.constants.items i c k.are (sym (k.places name) ∙ sym e) is

@@ -12,31 +12,6 @@ use Rattle.lp_sig.specs.Copying.{type_size, type_sizes, total, cost, left, InRan
 use Rattle.lp_sig.specs.declared.interned.Task.{Task}
 use Rattle.lp_sig.specs.declared.interned.Task.TheVariants.{Visit, Build}
 
-pub extends_itself : (b : Nodes) → Extends b b
-extends_itself b = record {
-  types_stay = λ i h. refl;
-  terms_stay = λ i h. refl;
-  more_types = omega arith;
-  more_terms = omega arith;
-  same_types = λ i h. refl;
-  same_terms = λ i h. refl;
-}
-
-pub extends_then : (a b c : Nodes) → Extends a b → Extends b c → Extends a c
-extends_then a b c x y =
-    let types = x.more_types in
-    let terms = x.more_terms in
-    let later_types = y.more_types in
-    let later_terms = y.more_terms in
-    record {
-      types_stay = λ i h. y.types_stay i (omega (arith, h, types)) ∙ x.types_stay i h;
-      terms_stay = λ i h. y.terms_stay i (omega (arith, h, terms)) ∙ x.terms_stay i h;
-      more_types = omega (arith, types, later_types);
-      more_terms = omega (arith, terms, later_terms);
-      same_types = λ i h. y.same_types i (omega (arith, h, types)) ∙ x.same_types i h;
-      same_terms = λ i h. y.same_terms i (omega (arith, h, terms)) ∙ x.same_terms i h;
-    }
-
 pub some_nodes : (t : Ty) → 0 < type_size t
 some_nodes (var i) = omega arith
 some_nodes (param k) = omega arith

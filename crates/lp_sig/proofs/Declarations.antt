@@ -1,6 +1,7 @@
 -- A sentence of constants: what comes of its type and of its names.
 use Rattle.std.proofs.Common.{◌≡◌, ℕ, ◌<◌, ◌≤◌, List, ◌++◌, length, Option, Some, Result, Ok, Err, subst, true, inl, inr}
 use Rattle.std.specs.Prelude.{◌⊎◌, Contains, IfSome, IfOk, OnOk, is_some}
+use Rattle.lp_lemmas.proofs.Options.{some_from_is_some}
 use Rattle.lp_base.specs.declared.limit.Limit.TheVariants as limit
 use Rattle.lp_base.specs.declared.place.Spot.{Spot}
 use Rattle.lp_term.specs.Nodes.{Nodes, Extends, type_tree}
@@ -20,7 +21,6 @@ use Rattle.lp_sig.specs.declared.constants.DeclaredType.{DeclaredType}
 use Rattle.lp_sig.specs.declared.fault.SigFault.{SigFault}
 use Rattle.lp_sig.specs.declared.fault.SigFault.TheVariants as fault
 use Rattle.lp_sig.proofs.Constancy.{constants_kept}
-use Rattle.lp_sig.proofs.SoundSentences.{value_of}
 
 pub as_typed : (declared : Option DeclaredType) (P : DeclaredType → Type 0) → IfSome declared P → IfTyped declared P
 as_typed declared P typed d e = subst (λ o. IfSome o P) e typed
@@ -28,7 +28,7 @@ as_typed declared P typed d e = subst (λ o. IfSome o P) e typed
 -- a declared type that was made has a tree, and few variables
 pub few_variables : (b : Nodes) (said : List (Row Said)) (defs : List (Row Definition)) (w : Written) (declared : Option DeclaredType) → is_some declared ≡ true → IfSome declared (λ d. d.type_vars ≤ 255) → IfSome declared (IsTyped b said defs w) → HasFewVariables said defs w
 few_variables b said defs w declared some few typed =
-    let made = value_of declared some in
+    let made = some_from_is_some declared some in
     let d = made.0 in
     let t = as_typed declared (IsTyped b said defs w) typed d made.1 in
     record { count = d.type_vars; tree = type_tree b d.scheme.0; scheme = t.scheme; few = as_typed declared (λ d. d.type_vars ≤ 255) few d made.1 }

@@ -3,6 +3,7 @@ use Rattle.std.proofs.Common.{◌≡◌, ℕ, ◌+◌, ◌<◌, ◌≤◌, List,
 use Rattle.std.specs.Prelude.{◌⊎◌, true, is_some}
 use Rattle.std.proofs.lemmas.List.{get_or_default}
 use Rattle.std.proofs.lemmas.Slice.Eq.{bytes_eq-Decides}
+use Rattle.lp_lemmas.proofs.Options.{one_value, some_from_is_some}
 use Rattle.lp_base.specs.declared.limit.Limit.TheVariants as limit
 use Rattle.lp_base.specs.declared.place.Spot.{Spot}
 use Rattle.lp_term.specs.Nodes.{Nodes, Extends, type_tree}
@@ -23,16 +24,6 @@ use Rattle.lp_sig.specs.declared.fault.SigFault.TheVariants as fault
 use Rattle.lp_sig.proofs.Constancy.{in_step_length, constants_kept, typed_kept, typed_declared, known_again, known_typed_again, has_more, found_last, no_number_left, not_new, typed_if_again}
 use Rattle.lp_sig.proofs.Growing.{found_more}
 use Rattle.lp_sig.specs.Pieces.{spelled}
-
-pub some_one : {A : Type 0} (o : Option A) (x y : A) → o ≡ Some x → o ≡ Some y → x ≡ y
-some_one o x y e f = by (sym e ∙ f)
-  where
-    by : Some x ≡ Some y → x ≡ y
-    by g = cc
-
-pub some_of : {A : Type 0} (o : Option A) → is_some o ≡ true → (x : A) × (o ≡ Some x)
-some_of None e = absurd (true≢false (sym e))
-some_of (Some x) e = (x, refl)
 
 module _ (b now : Nodes) (self : Constants) (word name : List ℕ) (k : Known) (kept : Extends b now) (same : word ≡ name)
     (seen : (said : List (Row Said)) (defs : List (Row Definition)) (rows : List (Row Written)) → KnowsConstants b self said defs rows → IsKnownAs now said defs rows word k) where
@@ -81,7 +72,7 @@ module _ (b now : Nodes) (self : Constants) (word name : List ℕ) (k : Known) (
       let n = seen_as known.New is z.said z.definitions rows h in
       record {
         typed = λ stands first.
-            let d = some_of declared (some stands) in
+            let d = some_from_is_some declared (some stands) in
             let typed = t d.0 d.1 in
             record {
               count = d.0.type_vars;
@@ -90,7 +81,7 @@ module _ (b now : Nodes) (self : Constants) (word name : List ℕ) (k : Known) (
               first = declared_one n.0 w (found_last name rows w n.1 ((bytes_eq-Decides name name).1 refl)) d.0.type_vars typed.scheme;
             };
         number = λ stands none new.
-            let d = some_of declared (some stands) in
+            let d = some_from_is_some declared (some stands) in
             let left = room d.0 d.1 in
             let l = in_step_length (IsNoted b z.said z.definitions) 32 (declared_constants rows) self.constants.items h.are in
             omega (arith, l, left);
@@ -178,7 +169,7 @@ name_refused b now self here text names i x declared e l kept known taken (inr r
       let s = get_or names i x in
       let more = kept.more_types in
       let inside = typed.inside in
-      let each_typed : IfTyped declared (IsTyped b z.said z.definitions w) = λ y f. subst (IsTyped b z.said z.definitions w) (some_one declared d y r.1 f) typed in
+      let each_typed : IfTyped declared (IsTyped b z.said z.definitions w) = λ y f. subst (IsTyped b z.said z.definitions w) (one_value declared d y r.1 f) typed in
       record {
         type = record { count = d.type_vars; tree = type_tree b d.scheme.0; scheme = typed.scheme; few = few };
         k = i;

@@ -4,7 +4,7 @@ use Rattle.std.specs.Prelude.{if◌then◌else◌, option_map, find, is_some}
 use Rattle.std.specs.Str.{bytes_eq}
 use Rattle.std.specs.Borrow.{Bor}
 use Rattle.std.specs.Slice.{IsGetResult}
-use Rattle.std.proofs.lemmas.Slice.Eq.{bytes_eq-Decides}
+use Rattle.lp_lemmas.proofs.Booleans.{bytes_eq_true}
 use Rattle.lp_sig.specs.Places.{first_place}
 use Rattle.lp_sig.specs.Rows.{Row, found}
 
@@ -34,9 +34,6 @@ first_more name n (m ∷ ms) = by (first_more name n ms) (bytes_eq name m)
     by h true = refl
     by h false = ap (option_map (λ i. suc i)) h ∙ later (first_place name ms) (bytes_eq name n) (length ms)
 
-same_bytes : (a b : List ℕ) → bytes_eq a b ≡ true → a ≡ b
-same_bytes a b = (bytes_eq-Decides a b).0
-
 -- a name that is there keeps its place, and no other gets one
 pub first_again : (name other : List ℕ) (ns : List (List ℕ)) (o : Option ℕ) → is_some o ≡ true → o ≡ first_place name ns → first_place other ns ≡ first_place other (ns ++ name ∷ [])
 unfolding or
@@ -45,7 +42,7 @@ first_again name other ns (Some i) some is = by (bytes_eq other name) refl
   where
     by : (t : Bool) → bytes_eq other name ≡ t → first_place other ns ≡ first_place other (ns ++ name ∷ [])
     by true e =
-        let p : first_place other ns ≡ Some i = ap (λ n. first_place n ns) (same_bytes other name e) ∙ sym is in
+        let p : first_place other ns ≡ Some i = ap (λ n. first_place n ns) (bytes_eq_true other name e) ∙ sym is in
         p ∙ sym (first_more other name ns ∙ ap (λ o. or o (if bytes_eq other name then Some (length ns) else None)) p)
     by false e = sym (first_more other name ns ∙ ap (λ t. or (first_place other ns) (if t then Some (length ns) else None)) e ∙ or_none (first_place other ns))
 
@@ -57,7 +54,7 @@ first_new name other ns place o None at is none there = by (bytes_eq other name)
   where
     by : (t : Bool) → bytes_eq other name ≡ t → (if t then Some place else o) ≡ first_place other (ns ++ name ∷ [])
     by true e =
-        let p : first_place other ns ≡ None = ap (λ n. first_place n ns) (same_bytes other name e) ∙ sym there in
+        let p : first_place other ns ≡ None = ap (λ n. first_place n ns) (bytes_eq_true other name e) ∙ sym there in
         ap (λ n. Some n) at ∙ sym (first_more other name ns ∙ ap (λ o. or o (if bytes_eq other name then Some (length ns) else None)) p ∙ ap (λ t. if t then Some (length ns) else None) e)
     by false e = is ∙ sym (first_more other name ns ∙ ap (λ t. or (first_place other ns) (if t then Some (length ns) else None)) e ∙ or_none (first_place other ns))
 

@@ -1,5 +1,5 @@
 -- The node of a key that is found has the key's number, and a key that is put where there is none stands last.
-use Rattle.std.proofs.Common.{◌≡◌, ℕ, ◌<◌, ◌≢◌, List, [], ◌∷◌, ◌++◌, length, map, get_or, Bool, not, true, false, true≢false, position, Option, Some, refl, sym, ap, subst, ◌∙◌, arith, Result, Ok, Err}
+use Rattle.std.proofs.Common.{◌≡◌, ℕ, ◌<◌, ◌≢◌, List, [], ◌∷◌, ◌++◌, length, map, get_or, Bool, false, true≢false, position, Option, Some, sym, ap, subst, ◌∙◌, arith, Result, Ok, Err}
 use Rattle.std.specs.Prelude.{nat_eq, if◌then◌else◌, IfOk}
 use Rattle.std.specs.Bool.{Decides}
 use Rattle.std.specs.List.{list_any}
@@ -25,7 +25,7 @@ same_key = (compared.ghosts).eq
 two_parts : (c d : ℕ) (is js : List ℕ) → c ≡ d → is ≡ js → con_node c is ≡ con_node d js
 two_parts c d is js e f = cc
 
-two_sides : (a b c d : ℕ) → a ≡ c → b ≡ d → arrow_node a b ≡ arrow_node c d
+pub two_sides : (a b c d : ℕ) → a ≡ c → b ≡ d → arrow_node a b ≡ arrow_node c d
 two_sides a b c d e f = cc
 
 -- it tells whether the nodes are the same
@@ -60,14 +60,6 @@ module _ (key : TypeKey) where
   pub key_behind : {T E : Type 0} (r : Result T E) (keys after : List TypeKey) → IsOk r → IfOk r (λ _. after ≡ insert_key same_key keys key) → list_any (same_key key) keys ≡ false → after ≡ keys ++ key ∷ []
   key_behind (Ok x) keys after ok h none = h ∙ ap (λ t. if t then keys else keys ++ key ∷ []) none
   key_behind (Err e) keys after ok h none = absurd (cc)
-
-pub not_true : (b : Bool) → not b ≡ true → b ≡ false
-not_true true e = absurd (true≢false (sym e))
-not_true false e = refl
-
-pub not_false : (b : Bool) → not b ≡ false → b ≡ true
-not_false true e = refl
-not_false false e = absurd (true≢false e)
 
 pub first_of_two : (o : Option TypeId) (x y : TypeId) → o ≡ Some x → o ≡ Some y → x.0 ≡ y.0
 first_of_two o x y e f = let g : x ≡ y = cc in ap (λ t. t.0) g

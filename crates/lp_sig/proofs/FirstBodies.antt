@@ -3,6 +3,7 @@ use Rattle.std.proofs.Common.{◌≡◌, ℕ, suc, ◌<◌, ◌≤◌, List, [],
 use Rattle.std.specs.Prelude.{◌||◌, if◌then◌else◌, option_map, Contains}
 use Rattle.std.specs.Str.{bytes_eq}
 use Rattle.std.proofs.lemmas.Slice.Eq.{bytes_eq-Decides}
+use Rattle.std.proofs.lemmas.Option.{same_Some}
 use Rattle.lp_syntax.specs.declared.text.Declaration.{Declaration}
 use Rattle.lp_syntax.specs.declared.text.Declaration.TheVariants.{Kinds, LocalKinds, Constants, Locals, Abbreviation, Accumulate, AccumSig, Fixities}
 use Rattle.lp_sig.specs.Pieces.{spelled}
@@ -18,9 +19,6 @@ use Rattle.lp_sig.specs.Announced.{IsAnnounced, AreAnnounced, CanBeSettled, HasU
 use Rattle.lp_sig.specs.declared.bodies.Body.{Body}
 use Rattle.lp_sig.proofs.Abbreviating.{new_unknown, unknown_untold}
 use Rattle.lp_sig.proofs.UsesSettled.{use_inside}
-
-some_same : {A : Type 0} (x y : A) → Some x ≡ Some y → x ≡ y
-some_same x y e = cc
 
 -- what stands before has no such name
 found_past : {A : Type 0} (name : List ℕ) (front back : List (Row A)) → is_among name (names_in front) ≡ false → found name (front ++ back) ≡ found name back
@@ -53,7 +51,7 @@ uses_found ns text (Abbreviation s ps ty ∷ ds) name d e = by (bytes_eq name (s
   where
     by : (t : Bool) → cond t (Some (record { text = text; parameters = ps.items; body = ty })) (found name (definitions_in text ds)) ≡ Some d → (found name (definitions_in text ds) ≡ Some d → uses_of (bodies_in ns text ds) name ≡ uses_in ns d.text d.body.nodes.items) →
         (if t then uses_in ns text ty.nodes.items else uses_of (bodies_in ns text ds) name) ≡ uses_in ns d.text d.body.nodes.items
-    by true e f = ap (λ d. uses_in ns d.text d.body.nodes.items) (some_same (record { text = text; parameters = ps.items; body = ty }) d e)
+    by true e f = ap (λ d. uses_in ns d.text d.body.nodes.items) (same_Some (record { text = text; parameters = ps.items; body = ty }) d e)
     by false e f = f e
 
 -- the uses at the place of a name
@@ -62,9 +60,9 @@ way_at f [] name place e = absurd (cc)
 way_at f (n ∷ ns) name place e = by (bytes_eq name n) (first_place name ns) refl refl e (λ j g. way_at f ns name j g)
   where
     by : (t : Bool) (o : Option ℕ) → bytes_eq name n ≡ t → first_place name ns ≡ o → (if t then Some 0 else option_map (λ i. suc i) o) ≡ Some place → ((j : ℕ) → first_place name ns ≡ Some j → ways_out (map f ns) j ≡ f name) → ways_out (map f (n ∷ ns)) place ≡ f name
-    by true o s p e r = let q : 0 ≡ place = some_same 0 place e in ap (λ i. ways_out (map f (n ∷ ns)) i) (sym q) ∙ ap f (sym ((bytes_eq-Decides name n).0 s))
+    by true o s p e r = let q : 0 ≡ place = same_Some 0 place e in ap (λ i. ways_out (map f (n ∷ ns)) i) (sym q) ∙ ap f (sym ((bytes_eq-Decides name n).0 s))
     by false None s p e r = absurd (cc)
-    by false (Some j) s p e r = let q : suc j ≡ place = some_same (suc j) place e in ap (λ i. ways_out (map f (n ∷ ns)) i) (sym q) ∙ r j p
+    by false (Some j) s p e r = let q : suc j ≡ place = same_Some (suc j) place e in ap (λ i. ways_out (map f (n ∷ ns)) i) (sym q) ∙ r j p
 
 module _ (z : Seen) (text : List ℕ) (lines : List Declaration) where
   -- an abbreviation of the text is that of its line

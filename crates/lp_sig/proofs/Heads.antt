@@ -3,6 +3,7 @@ use Rattle.std.proofs.Common.{◌≡◌, ℕ, zero, suc, ◌<◌, ◌≤◌, Lis
 use Rattle.std.specs.Prelude.{if◌then◌else◌, option_map}
 use Rattle.std.specs.Str.{bytes_eq}
 use Rattle.std.proofs.lemmas.List.{length-map}
+use Rattle.std.proofs.lemmas.Option.{same_Some}
 use Rattle.lp_sig.specs.Places.{first_place}
 use Rattle.lp_sig.specs.Rows.{Row}
 use Rattle.lp_sig.specs.Said.{Said, an_abbreviation, abbreviations_among, declared_names}
@@ -19,17 +20,14 @@ row_at (x ∷ xs) (suc i) h l is = row_at xs i h (omega (arith, l)) is
 pub parameters_at : (heads seen : List Head) (i : ℕ) (h : Head) → seen ≡ heads → i < length seen → h ≡ get_or seen i h → an_abbreviation (get_or (map head_row heads) i ([], 0)).1 ≡ an_abbreviation h.parameters
 parameters_at heads seen i h same l is = ap (λ s. an_abbreviation (get_or (map head_row s) i ([], 0)).1) (sym same) ∙ ap an_abbreviation (row_at seen i h l is)
 
-some_is : (a b : ℕ) → Some a ≡ Some b → a ≡ b
-some_is a b e = cc
-
 pub place_below : (name : List ℕ) (ns : List (List ℕ)) (i : ℕ) → first_place name ns ≡ Some i → i < length ns
 place_below name [] i e = absurd (cc)
 place_below name (n ∷ ns) i e = by (bytes_eq name n) (first_place name ns) refl e (λ j f. place_below name ns j f)
   where
     by : (t : Bool) (o : Option ℕ) → first_place name ns ≡ o → (if t then Some 0 else option_map (λ i. suc i) o) ≡ Some i → ((j : ℕ) → first_place name ns ≡ Some j → j < length ns) → i < suc (length ns)
-    by true o p e f = let z : 0 ≡ i = some_is 0 i e in omega (arith, z)
+    by true o p e f = let z : 0 ≡ i = same_Some 0 i e in omega (arith, z)
     by false None p e f = absurd (cc)
-    by false (Some j) p e f = let z : suc j ≡ i = some_is (suc j) i e in let l = f j p in omega (arith, z, l)
+    by false (Some j) p e f = let z : suc j ≡ i = same_Some (suc j) i e in let l = f j p in omega (arith, z, l)
 
 -- an abbreviation that a name means has its head
 pub has_head : (names : Names) (said : List (Row Said)) (name : List ℕ) (place : ℕ) (seen : List Head) → Knows names said → seen ≡ names.heads.items → Some place ≡ first_place name (abbreviation_names said) → length seen ≤ place → ⊥

@@ -6,6 +6,7 @@ use Rattle.std.specs.Map.{lookup}
 use Rattle.std.proofs.lemmas.List.{length-append, get_or_append_left, take_more, take_all}
 use Rattle.std.proofs.Math.Seq.{get_or-append_seam}
 use Rattle.std.proofs.lemmas.Slice.Eq.{bytes_eq-Decides}
+use Rattle.std.proofs.lemmas.Bool.{cases_lt}
 use Rattle.lp_base.specs.declared.place.Spot.{Spot}
 use Rattle.lp_syntax.specs.declared.text.RawTypeNode.{RawTypeNode}
 use Rattle.lp_syntax.specs.declared.text.RawTypeNode.TheVariants as node
@@ -127,15 +128,6 @@ pub behind_more : (text : List ℕ) (ks : List (List ℕ)) (ns : List RawTypeNod
 behind_more text ks [] n = refl
 behind_more text ks (x ∷ ns) n = behind_more text (names_by text ks x) ns n
 
-in_or_past : (a b : ℕ) → (a < b) ⊎ (b ≤ a)
-in_or_past a zero = inr (omega arith)
-in_or_past zero (suc b) = inl (omega arith)
-in_or_past (suc a) (suc b) = deeper (in_or_past a b)
-  where
-    deeper : (a < b) ⊎ (b ≤ a) → (suc a < suc b) ⊎ (suc b ≤ suc a)
-    deeper (inl h) = inl (omega (arith, h))
-    deeper (inr h) = inr (omega (arith, h))
-
 -- of two numbers one is the later one, or they are the same
 Order : ℕ → ℕ → Type 0
 Order i j = ((k : ℕ) × (j ≡ (i + 1) + k)) ⊎ ((i ≡ j) ⊎ ((k : ℕ) × (i ≡ (j + 1) + k)))
@@ -173,7 +165,7 @@ module _ (text : List ℕ) (nodes : List RawTypeNode) where
   K_grows : (i : ℕ) (d : RawTypeNode) → (k j : ℕ) → j ≡ i + k → (more : List (List ℕ)) × (K j ≡ K i ++ more)
   unfolding K
   K_grows i d zero j e = ([], ap K (let f : j ≡ i = omega (arith, e) in f) ∙ sym (append-nil (K i)))
-  K_grows i d (suc k) j e = by (K_grows i d k (i + k) refl) (in_or_past (i + k) (length nodes))
+  K_grows i d (suc k) j e = by (K_grows i d k (i + k) refl) (cases_lt (i + k) (length nodes))
     where
       is : j ≡ (i + k) + 1
       is = omega (arith, e)

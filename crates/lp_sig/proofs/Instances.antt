@@ -3,6 +3,7 @@ use Rattle.std.proofs.Common.{◌≡◌, ℕ, zero, suc, ◌<◌, ◌≤◌, Lis
 use Rattle.std.specs.Prelude.{All, nat_eq}
 use Rattle.std.specs.Map.{lookup}
 use Rattle.std.proofs.lemmas.List.Elements.{All-head, All-tail}
+use Rattle.lp_lemmas.proofs.Lists.{cons_equal, cons_tail}
 use Rattle.indexmap.specs.IndexMap.{IndexMap}
 use Rattle.lp_calculus.specs.Types.{Ty, Tys, con, arrow, tys, types, instance, instances}
 use Rattle.lp_term.specs.Node.{TypeShape, var_node, param_node, con_node, arrow_node, TypeBelow}
@@ -13,17 +14,11 @@ use Rattle.lp_sig.specs.Copying.{picked, filled, AreCopies}
 two_types : (a x : Ty) (ps xs : Tys) → a ≡ x → ps ≡ xs → types a ps ≡ types x xs
 two_types a x ps xs e f = cc
 
-two_sides : (a x c z : Ty) → a ≡ x → c ≡ z → arrow a c ≡ arrow x z
+pub two_sides : (a x c z : Ty) → a ≡ x → c ≡ z → arrow a c ≡ arrow x z
 two_sides a x c z e f = cc
-
-two_more : (t u : Ty) (ts us : List Ty) → t ≡ u → ts ≡ us → t ∷ ts ≡ u ∷ us
-two_more t u ts us e f = cc
 
 first_same : (o : Option ℕ) (y : ℕ) (os : List (Option ℕ)) (ys : List (Option ℕ)) → o ∷ os ≡ Some y ∷ ys → o ≡ Some y
 first_same o y os ys e = cc
-
-rest_same : (o p : Option ℕ) (os ps : List (Option ℕ)) → o ∷ os ≡ p ∷ ps → os ≡ ps
-rest_same o p os ps e = cc
 
 pub nothing_copied : {S : Type 0} (b now : Nodes) (args : List TypeId) (made : IndexMap ℕ ℕ S) → made.entries ≡ [] → AreCopies b args now made
 nothing_copied b now args made e x y h = let g : Some y ≡ None = sym h ∙ ap (λ es. lookup (nat_eq x) es) e in absurd (cc)
@@ -38,7 +33,7 @@ same_trees : (b now : Nodes) (n : ℕ) (ids : List ℕ) → Extends b now → n 
 same_trees b now n [] x l all = refl
 same_trees b now n (t ∷ ts) x l all =
     let h = All-head (λ t. t < n) t ts all in
-    two_more (type_tree now t) (type_tree b t) (map (type_tree now) ts) (map (type_tree b) ts) (x.same_types t (omega (arith, h, l))) (same_trees b now n ts x l (All-tail (λ t. t < n) t ts all))
+    cons_equal (type_tree now t) (type_tree b t) (map (type_tree now) ts) (map (type_tree b) ts) (x.same_types t (omega (arith, h, l))) (same_trees b now n ts x l (All-tail (λ t. t < n) t ts all))
 
 pub same_top : (b now : Nodes) (n : ℕ) (s : TypeShape) → Extends b now → n ≤ length b.types → TypeBelow n s → type_node_tree now s ≡ type_node_tree b s
 same_top b now n (var_node i) x l p = refl
@@ -57,7 +52,7 @@ module _ (b now : Nodes) (θ : ℕ → Ty) (find : ℕ → Option ℕ) (kept : (
   copied_trees (t ∷ ts) [] e = absurd (cc)
   copied_trees (t ∷ ts) (c ∷ cs) e =
       let f = first_same (find t.0) c.0 (map (λ t. find t.0) ts) (map (λ c. Some c.0) cs) e in
-      let g = rest_same (find t.0) (Some c.0) (map (λ t. find t.0) ts) (map (λ c. Some c.0) cs) e in
+      let g = cons_tail (find t.0) (Some c.0) (map (λ t. find t.0) ts) (map (λ c. Some c.0) cs) e in
       two_types (type_tree now c.0) (instance θ (type_tree b t.0)) (tys (map (type_tree now) (map (λ t. t.0) cs))) (instances θ (tys (map (type_tree b) (map (λ t. t.0) ts)))) (kept t.0 c.0 f).1 (copied_trees ts cs g)
 
 module _ (b now : Nodes) (id : ℕ) (shape : TypeShape) (x : Extends b now) (h : id < length b.types) (older : TypeBelow id shape) (tree : type_node_tree now shape ≡ type_tree now id) where

@@ -1,8 +1,10 @@
 -- What a name means is what is found in the tables: among the standard names, else among the abbreviations, else among the kinds.
-use Rattle.std.proofs.Common.{◌≡◌, ℕ, suc, List, [], ◌∷◌, ◌++◌, Bool, true, false, Option, Some, None, refl, sym, ap, subst, ◌∙◌, true≢false, cond, map, get_or}
-use Rattle.std.specs.Prelude.{if◌then◌else◌, option_map, is_some, ◌||◌}
+use Rattle.std.proofs.Common.{◌≡◌, ℕ, suc, List, [], ◌∷◌, Bool, true, false, Option, Some, None, refl, sym, ap, subst, ◌∙◌, true≢false, cond, map, get_or}
+use Rattle.std.specs.Prelude.{if◌then◌else◌, option_map, ◌||◌}
 use Rattle.std.specs.Str.{bytes_eq}
 use Rattle.std.proofs.lemmas.Slice.Eq.{bytes_eq-Decides}
+use Rattle.lp_sig.proofs.Constancy.{firsts_found, not_among}
+use Rattle.lp_sig.proofs.Growing.{found_more}
 use Rattle.lp_sig.specs.Places.{first_place}
 use Rattle.lp_sig.specs.Rows.{Row, found}
 use Rattle.lp_sig.specs.Standard.{standard_kinds}
@@ -12,7 +14,6 @@ use Rattle.lp_sig.specs.Knowing.{Knows, kinded_row, head_row}
 use Rattle.lp_sig.specs.declared.names.Names.{Names}
 use Rattle.lp_sig.specs.declared.names.Kinded.{Kinded}
 use Rattle.lp_sig.specs.declared.names.Head.{Head}
-use Rattle.lp_sig.proofs.Firsts.{same_known, found_among}
 use Rattle.lp_sig.proofs.Finding.{behind, absent, present, beside_found}
 
 -- a table with other things beside its names
@@ -23,30 +24,6 @@ found_map f name (r ∷ rs) = by (found_map f name rs) (bytes_eq name r.0)
     by : found name (map (λ r. (r.0, f r.1)) rs) ≡ option_map f (found name rs) → (t : Bool) → cond t (Some (f r.1)) (found name (map (λ r. (r.0, f r.1)) rs)) ≡ option_map f (cond t (Some r.1) (found name rs))
     by h true = refl
     by h false = h
-
--- what is found in front
-before : {A : Type 0} (name : List ℕ) (front back : List (Row A)) (a : A) → found name front ≡ Some a → found name (front ++ back) ≡ Some a
-before name [] back a some = absurd (cc)
-before {A} name (x ∷ xs) back a some = by (before name xs back a) (bytes_eq name x.0) some
-  where
-    by : (found name xs ≡ Some a → found name (xs ++ back) ≡ Some a) → (t : Bool) → cond t (Some x.1) (found name xs) ≡ Some a → cond t (Some x.1) (found name (xs ++ back)) ≡ Some a
-    by h true e = e
-    by h false e = h e
-
-none_among : {A : Type 0} (name : List ℕ) (rows : List (Row A)) → found name rows ≡ None → is_among name (names_in rows) ≡ false
-none_among name rows none = sym (found_among name rows) ∙ ap is_some none
-
--- the first row of a name that was not known is what is found of it
-found_first : {A : Type 0} (name : List ℕ) (known : List (List ℕ)) (said : List (Row A)) → is_among name known ≡ false → found name (firsts known said) ≡ found name said
-found_first name known [] new = refl
-found_first {A} name known (s ∷ ss) new = by (is_among s.0 known) (bytes_eq name s.0) refl refl (found_first name known ss new) (λ g. found_first name (s.0 ∷ known) ss g)
-  where
-    by : (t b : Bool) → is_among s.0 known ≡ t → bytes_eq name s.0 ≡ b → found name (firsts known ss) ≡ found name ss → (is_among name (s.0 ∷ known) ≡ false → found name (firsts (s.0 ∷ known) ss) ≡ found name ss) →
-        found name (if t then firsts known ss else s ∷ firsts (s.0 ∷ known) ss) ≡ cond b (Some s.1) (found name ss)
-    by true true e f h g = absurd (true≢false (sym (same_known name s.0 known e f) ∙ new))
-    by true false e f h g = h
-    by false true e f h g = ap (λ b. cond b (Some s.1) (found name (firsts (s.0 ∷ known) ss))) f
-    by false false e f h g = ap (λ b. cond b (Some s.1) (found name (firsts (s.0 ∷ known) ss))) f ∙ g (ap (λ b. b || is_among name known) f ∙ new)
 
 -- a name that is known is no abbreviation behind
 no_head : (name : List ℕ) (known : List (List ℕ)) (said : List (Row Said)) → is_among name known ≡ true → found name (abbreviations_among (firsts known said)) ≡ None
@@ -109,7 +86,7 @@ parts_found name known ((n, w) ∷ ss) = by (is_among n known) (parts_found name
 -- a standard name
 pub means_standard : (name : List ℕ) (said : List (Row Said)) (number count : ℕ) → Some (number, count) ≡ found name standard_kinds → Some (a_kind count) ≡ meaning_of name said
 unfolding meaning_of
-means_standard name said number count some = sym (before name standard_said said (a_kind count) (found_map (λ r. a_kind r.1) name standard_kinds ∙ ap (option_map (λ r. a_kind r.1)) (sym some)))
+means_standard name said number count some = sym (found_more name standard_said said (a_kind count) (found_map (λ r. a_kind r.1) name standard_kinds ∙ ap (option_map (λ r. a_kind r.1)) (sym some)))
 
 -- another name, by the tables
 module _ (names : Names) (said : List (Row Said)) (name : List ℕ) (k : Knows names said) (standard : None ≡ found name standard_kinds) where
@@ -119,7 +96,7 @@ module _ (names : Names) (said : List (Row Said)) (name : List ℕ) (k : Knows n
   by_tables : meaning_of name said ≡ joined (found name (map head_row names.heads.items)) (found name (map kinded_row names.kinds.items))
   unfolding meaning_of
   by_tables =
-      behind name standard_said said not_standard ∙ sym (found_first name (names_in standard_kinds) said (none_among name standard_kinds (sym standard))) ∙ parts_found name (names_in standard_kinds) said ∙
+      behind name standard_said said not_standard ∙ sym (firsts_found name (names_in standard_kinds) said (not_among name standard_kinds (sym standard))) ∙ parts_found name (names_in standard_kinds) said ∙
       ap (λ r. joined (found name r) (found name (kinds_among (declared_names said)))) (sym k.heads) ∙ ap (λ r. joined (found name (map head_row names.heads.items)) (found name r)) (sym k.kinds)
 
   head_found : (heads : List Head) (i : ℕ) → first_place name (map (λ h. h.name.items) heads) ≡ Some i → found name (map head_row heads) ≡ Some (get_or (map head_row heads) i ([], 0)).1

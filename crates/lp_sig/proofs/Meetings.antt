@@ -1,35 +1,17 @@
 -- Type variables are met in the order of their first places, though a type that was seen is passed over.
-use Rattle.std.proofs.Common.{◌≡◌, ℕ, suc, ◌<◌, List, [], ◌∷◌, ◌++◌, map, reverse, length, refl, sym, ap, subst, ◌∙◌, Bool, not, true, false, true≢false, arith, inl, inr}
+use Rattle.std.proofs.Common.{◌≡◌, ℕ, suc, ◌<◌, List, [], ◌∷◌, ◌++◌, map, reverse, refl, sym, ap, subst, ◌∙◌, Bool, not, true, false, true≢false, arith, inl, inr}
 use Rattle.std.specs.Prelude.{nat_eq, if◌then◌else◌, ◌||◌, ◌⊎◌, All}
 use Rattle.std.specs.List.{list_any}
 use Rattle.std.proofs.lemmas.List.{append-nil, append_assoc, reverse-append, reverse-reverse}
 use Rattle.std.proofs.lemmas.List.Elements.{All-head, All-tail, All-cons, All-nil}
-use Rattle.std.proofs.lemmas.Bool.{eqb-true, eq-eqb}
+use Rattle.std.proofs.lemmas.Bool.{eqb-true}
+use Rattle.lp_lemmas.proofs.Lists.{any_append, any_push}
 use Rattle.indexmap.specs.IndexSet.{insert_key}
 use Rattle.lp_calculus.specs.Types.{tys}
 use Rattle.lp_term.specs.Node.{TypeShape, var_node, param_node, con_node, arrow_node, TypeBelow}
 use Rattle.lp_term.specs.Nodes.{Nodes, type_tree, type_node_tree}
 use Rattle.lp_term.specs.declared.node.TypeId.{TypeId}
 use Rattle.lp_sig.specs.Schemes.{type_variables, types_variables, met, first_variables, AllMet, waiting_variables, WillBeMet, IsOnWay, IsOpened}
-
-or_left : (a b : Bool) → a ≡ true → (a || b) ≡ true
-or_left true b e = refl
-or_left false b e = absurd (true≢false (sym e))
-
-or_right : (a b : Bool) → b ≡ true → (a || b) ≡ true
-or_right true b e = refl
-or_right false b e = e
-
-any_more : (N more : List ℕ) (x : ℕ) → list_any (nat_eq x) N ≡ true → list_any (nat_eq x) (N ++ more) ≡ true
-any_more [] more x e = absurd (true≢false (sym e))
-any_more (y ∷ N) more x e = go (nat_eq x y) e (any_more N more x) where
-  go : (b : Bool) → (b || list_any (nat_eq x) N) ≡ true → (list_any (nat_eq x) N ≡ true → list_any (nat_eq x) (N ++ more) ≡ true) → (b || list_any (nat_eq x) (N ++ more)) ≡ true
-  go true e h = refl
-  go false e h = h e
-
-any_last : (N : List ℕ) (x : ℕ) → list_any (nat_eq x) (N ++ x ∷ []) ≡ true
-any_last [] x = or_left (nat_eq x x) false (eq-eqb x x refl)
-any_last (y ∷ N) x = or_right (nat_eq x y) (list_any (nat_eq x) (N ++ x ∷ [])) (any_last N x)
 
 keeps : (N : List ℕ) (x : ℕ) → (more : List ℕ) × (insert_key nat_eq N x ≡ N ++ more)
 keeps N x = go (list_any (nat_eq x) N) where
@@ -41,7 +23,7 @@ inserted : (N : List ℕ) (x : ℕ) → list_any (nat_eq x) (insert_key nat_eq N
 inserted N x = go (list_any (nat_eq x) N) refl where
   go : (b : Bool) → list_any (nat_eq x) N ≡ b → list_any (nat_eq x) (if b then N else N ++ x ∷ []) ≡ true
   go true e = e
-  go false e = any_last N x
+  go false e = any_push N x
 
 met_grows : (xs N : List ℕ) → (more : List ℕ) × (met N xs ≡ N ++ more)
 met_grows [] N = ([], sym (append-nil N))
@@ -56,13 +38,13 @@ met_append (x ∷ xs) ys N = met_append xs ys (insert_key nat_eq N x)
 
 all_more : (N more xs : List ℕ) → AllMet N xs → AllMet (N ++ more) xs
 all_more N more [] h = tt
-all_more N more (x ∷ xs) h = (any_more N more x h.0, all_more N more xs h.1)
+all_more N more (x ∷ xs) h = (any_append N more x h.0, all_more N more xs h.1)
 
 pub all_met : (xs N : List ℕ) → AllMet (met N xs) xs
 all_met [] N = tt
 all_met (x ∷ xs) N =
     let h = met_grows xs (insert_key nat_eq N x) in
-    (subst (λ M. list_any (nat_eq x) M ≡ true) (sym h.1) (any_more (insert_key nat_eq N x) h.0 x (inserted N x)), all_met xs (insert_key nat_eq N x))
+    (subst (λ M. list_any (nat_eq x) M ≡ true) (sym h.1) (any_append (insert_key nat_eq N x) h.0 x (inserted N x)), all_met xs (insert_key nat_eq N x))
 
 met_again : (xs N : List ℕ) → AllMet N xs → met N xs ≡ N
 met_again [] N h = refl
@@ -206,7 +188,3 @@ walk_ends b found seen all stack is w = ap (λ s. met found (waiting_variables b
 pub was_there : (b : Bool) → false ≡ not b → b ≡ true
 was_there true e = refl
 was_there false e = absurd (true≢false (sym e))
-
-pub nothing_left : (stack : List TypeId) → length stack ≡ 0 → stack ≡ []
-nothing_left [] e = refl
-nothing_left (t ∷ ts) e = absurd (omega (arith, e))

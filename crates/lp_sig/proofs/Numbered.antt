@@ -4,6 +4,7 @@ use Rattle.std.specs.Prelude.{nat_eq, if◌then◌else◌, ◌||◌, ◌⊎◌}
 use Rattle.std.specs.List.{list_any}
 use Rattle.std.proofs.lemmas.List.{length-append}
 use Rattle.std.proofs.lemmas.Bool.{eq-eqb}
+use Rattle.lp_lemmas.proofs.Numbers.{below_suc}
 use Rattle.indexmap.specs.IndexSet.{insert_key}
 use Rattle.lp_calculus.specs.Types.{Ty, Tys, var, param, con, arrow, no_types, types, instance, instances}
 use Rattle.lp_term.specs.Nodes.{Nodes}
@@ -80,16 +81,6 @@ at_last : (N : List ℕ) (x : ℕ) → get_or (N ++ x ∷ []) (length N) 0 ≡ x
 at_last [] x = refl
 at_last (y ∷ N) x = at_last N x
 
-front_or_last : (n i : ℕ) → i < suc n → (i < n) ⊎ (i ≡ n)
-front_or_last zero zero h = inr refl
-front_or_last zero (suc i) h = absurd (omega (arith, h))
-front_or_last (suc n) zero h = inl (omega arith)
-front_or_last (suc n) (suc i) h = deeper (front_or_last n i (omega (arith, h)))
-  where
-    deeper : (i < n) ⊎ (i ≡ n) → (suc i < suc n) ⊎ (suc i ≡ suc n)
-    deeper (inl l) = inl (omega (arith, l))
-    deeper (inr e) = inr (ap (λ n. suc n) e)
-
 one_more_apart : (N : List ℕ) (x : ℕ) → AreApart N → AreApart (insert_key nat_eq N x)
 unfolding AreApart
 one_more_apart N x apart = by (list_any (nat_eq x) N) refl
@@ -100,7 +91,7 @@ one_more_apart N x apart = by (list_any (nat_eq x) N) refl
 
     by : (t : Bool) → list_any (nat_eq x) N ≡ t → (i : ℕ) → i < length (if t then N else N ++ x ∷ []) → place (if t then N else N ++ x ∷ []) (get_or (if t then N else N ++ x ∷ []) i 0) ≡ i
     by true e i h = apart i h
-    by false e i h = last e i (front_or_last (length N) i (let l = length-append N (x ∷ []) in omega (arith, h, l)))
+    by false e i h = last e i (below_suc (length N) i (let l = length-append N (x ∷ []) in omega (arith, h, l)))
 
 met_apart : (xs N : List ℕ) → AreApart N → AreApart (met N xs)
 met_apart [] N a = a

@@ -2,16 +2,12 @@
 use Rattle.std.proofs.Common.{◌≡◌, ℕ, ◌<◌, ◌≤◌, List, [], ◌∷◌, length, map, refl, sym, ap, subst, ◌∙◌, arith}
 use Rattle.std.specs.Prelude.{AllPairs, ◌≢◌, All}
 use Rattle.std.proofs.lemmas.List.Elements.{All-head, All-tail}
+use Rattle.lp_sig.proofs.Finds.{two_sides}
+use Rattle.lp_lemmas.proofs.Lists.{cons_equal}
 use Rattle.lp_calculus.specs.Types.{Ty, Tys, var, param, con, arrow, tys, no_types, types}
 use Rattle.lp_term.specs.Node.{TypeShape, var_node, param_node, con_node, arrow_node, TypeBelow}
 use Rattle.lp_term.specs.Nodes.{Nodes, IsSound, type_at, type_tree, type_node_tree}
 use Rattle.lp_term.proofs.Trees.{type_tree-node, type_below}
-
-two_nodes : (a c x z : ℕ) → a ≡ c → x ≡ z → arrow_node a x ≡ arrow_node c z
-two_nodes a c x z e f = cc
-
-two_heads : (i j : ℕ) (is js : List ℕ) → i ≡ j → is ≡ js → i ∷ is ≡ j ∷ js
-two_heads i j is js e f = cc
 
 -- the node of a tree
 module _ (θ : ℕ → Ty) where
@@ -96,7 +92,7 @@ module _ (b : Nodes) where
           let m = x.1 in
           let n = y.0 in
           let o = y.1 in
-          one_place i j h k (p.is ∙ two_nodes p.left q.left p.right q.right (same_number t p.left q.left (omega (arith, l, h)) (omega (arith, n, k)) p.from q.from) (same_number u p.right q.right (omega (arith, m, h)) (omega (arith, o, k)) p.to q.to) ∙ sym q.is)
+          one_place i j h k (p.is ∙ two_sides p.left p.right q.left q.right (same_number t p.left q.left (omega (arith, l, h)) (omega (arith, n, k)) p.from q.from) (same_number u p.right q.right (omega (arith, m, h)) (omega (arith, o, k)) p.to q.to) ∙ sym q.is)
 
       same_list : (ts : Tys) (is js : List ℕ) → AreIn (length b.types) is → AreIn (length b.types) js → tys (map (type_tree b) is) ≡ ts → tys (map (type_tree b) js) ≡ ts → is ≡ js
       same_list no_types [] [] h k e f = refl
@@ -109,7 +105,7 @@ module _ (b : Nodes) where
           let q : type_tree b j ≡ t = cc in
           let v : tys (map (type_tree b) is) ≡ ts = cc in
           let w : tys (map (type_tree b) js) ≡ ts = cc in
-          two_heads i j is js (same_number t i j h.0 k.0 p q) (same_list ts is js h.1 k.1 v w)
+          cons_equal i j is js (same_number t i j h.0 k.0 p q) (same_list ts is js h.1 k.1 v w)
 
     -- equal types have equal numbers
     pub equal_numbers : (i j : ℕ) → i < length b.types → j < length b.types → type_tree b i ≡ type_tree b j → i ≡ j

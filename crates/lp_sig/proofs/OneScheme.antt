@@ -1,18 +1,17 @@
 -- A declared type has one scheme: it does not depend on the numbers that its variables are given.
-use Rattle.std.specs.Global.{Global}
-use Rattle.std.proofs.Common.{◌≡◌, ℕ, zero, suc, ◌<◌, List, [], ◌∷◌, ◌++◌, Bool, true, false, length, map, Option, Some, None, refl, sym, ap, subst, ◌∙◌, true≢false, arith, inl, inr}
-use Rattle.std.specs.Prelude.{nat_eq, if◌then◌else◌, ◌||◌, ◌⊎◌, ◌≢◌, option_map, Vec, codes}
+use Rattle.std.proofs.Common.{◌≡◌, ℕ, zero, suc, ◌<◌, List, [], ◌∷◌, ◌++◌, Bool, true, false, length, map, Option, Some, refl, sym, ap, subst, ◌∙◌, true≢false, arith, inl, inr}
+use Rattle.std.specs.Prelude.{nat_eq, if◌then◌else◌, ◌||◌, ◌⊎◌, ◌≢◌, codes}
 use Rattle.std.specs.List.{list_any}
-use Rattle.std.specs.Str.{bytes_eq}
 use Rattle.std.proofs.lemmas.Bool.{eqb-true, eq-eqb}
 use Rattle.std.proofs.lemmas.List.{length-map, get_or_default}
+use Rattle.std.proofs.lemmas.Option.{same_Some}
+use Rattle.lp_sig.proofs.Heads.{place_below}
 use Rattle.indexmap.specs.IndexSet.{insert_key}
 use Rattle.lp_base.specs.declared.place.Spot.{Spot}
 use Rattle.lp_calculus.specs.Types.{Ty, Tys, var, param, con, arrow, tys, no_types, types, instance, instances}
 use Rattle.lp_syntax.specs.declared.text.RawTypeNode.{RawTypeNode}
 use Rattle.lp_syntax.specs.declared.text.RawTypeNode.TheVariants as node
 use Rattle.lp_sig.specs.Pieces.{spelled}
-use Rattle.lp_sig.specs.Places.{first_place}
 use Rattle.lp_sig.specs.Rows.{Row}
 use Rattle.lp_sig.specs.Said.{Said}
 use Rattle.lp_sig.specs.Schemes.{type_variables, types_variables, met, first_variables, place, numbered_type}
@@ -20,7 +19,7 @@ use Rattle.lp_sig.specs.Types.{Definition, given_for, on_arguments, by_parameter
 use Rattle.lp_sig.specs.Laws.{Agree}
 use Rattle.lp_sig.specs.Constants.{Written, IsVariable, IsNumbering, IsSchemeOf}
 use Rattle.lp_sig.specs.Ordering.{in_order}
-use Rattle.lp_sig.proofs.OneType.{one_type}
+use Rattle.lp_sig.proofs.OneType.{one_type, same_word}
 use Rattle.lp_sig.proofs.InOrder.{in_order_numbers, in_order_some}
 
 module _ (R : ℕ → ℕ → Type 0) where
@@ -210,26 +209,6 @@ module _ (ts : List Ty) (k : ℕ) (all : AllBelow k (tys ts)) where
     all_fill_below no_types b = tt
     all_fill_below (types t bs) b = (fill_below t b.0, all_fill_below bs b.1)
 
-place_below : (name : List ℕ) (names : List (List ℕ)) (n : ℕ) → first_place name names ≡ Some n → n < length names
-place_below name [] n e = absurd (cc)
-place_below name (m ∷ ms) n e = by (bytes_eq name m) (first_place name ms) refl (λ j f. place_below name ms j f) n e
-  where
-    by : (t : Bool) (o : Option ℕ) → first_place name ms ≡ o → ((j : ℕ) → first_place name ms ≡ Some j → j < length ms) → (n : ℕ) → (if t then Some 0 else option_map (λ i. suc i) o) ≡ Some n → n < suc (length ms)
-    by true o f h zero e = omega arith
-    by true o f h (suc n) e = absurd (cc)
-    by false None f h n e = absurd (cc)
-    by false (Some j) f h zero e = absurd (cc)
-    by false (Some j) f h (suc n) e =
-        let same : j ≡ n = cc in
-        let l = h n (f ∙ ap (λ j. Some j) same) in
-        omega (arith, l)
-
-some_same : (n m : ℕ) → Some n ≡ Some m → n ≡ m
-some_same n m e = cc
-
-same_word : (s z : Spot) (a b : Vec ℕ Global) → node.Word s a ≡ node.Word z b → s ≡ z
-same_word s z a b e = cc
-
 -- where one numbering has one number another has one
 linked : (text : List ℕ) (nodes : List RawTypeNode) (ν μ : ℕ → Spot → Option ℕ) → IsNumbering text nodes ν → IsNumbering text nodes μ → (i j : ℕ) (s z : Spot) (x a b : ℕ) → IsVariable text nodes i s → IsVariable text nodes j z →
     ν i s ≡ Some x → ν j z ≡ Some x → μ i s ≡ Some a → μ j z ≡ Some b → a ≡ b
@@ -239,8 +218,8 @@ linked text nodes ν μ h k i j s z x a b v w e f g l = by (h.apart i j s z x v 
     by (inl p) =
         let there = subst (λ i. IsNode nodes i (node.Word s v.0)) p v.1 in
         let same : s ≡ z = same_word s z v.0 w.0 (sym there.1 ∙ get_or_default nodes j (node.Word s v.0) (node.Word z w.0) there.0 ∙ w.1.1) in
-        some_same a b (sym g ∙ ap (λ i. μ i s) p ∙ ap (μ j) same ∙ l)
-    by (inr p) = some_same a b (sym (k.same i j s z a v w p.0 p.1 g) ∙ l)
+        same_Some a b (sym g ∙ ap (λ i. μ i s) p ∙ ap (μ j) same ∙ l)
+    by (inr p) = same_Some a b (sym (k.same i j s z a v w p.0 p.1 g) ∙ l)
 
 -- the numbers of one word
 record IsPair (text : List ℕ) (nodes : List RawTypeNode) (ν : ℕ → Spot → Option ℕ) (x y : ℕ) : Type 0 where

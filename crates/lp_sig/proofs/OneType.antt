@@ -3,8 +3,11 @@ use Rattle.std.specs.Global.{Global}
 use Rattle.std.proofs.Common.{◌≡◌, ℕ, List, [], ◌∷◌, length, true, false, true≢false, Option, Some, sym, ap, subst, ◌∙◌}
 use Rattle.std.specs.Prelude.{Vec}
 use Rattle.std.proofs.lemmas.List.{get_or_default}
+use Rattle.std.proofs.lemmas.Option.{same_Some}
+use Rattle.lp_sig.proofs.Instances.{two_sides}
+use Rattle.lp_lemmas.proofs.Lists.{cons_equal, cons_head, cons_tail}
 use Rattle.lp_base.specs.declared.place.Spot.{Spot}
-use Rattle.lp_calculus.specs.Types.{Ty, var, con, arrow, tys}
+use Rattle.lp_calculus.specs.Types.{Ty, var, con, tys}
 use Rattle.lp_syntax.specs.declared.text.RawTypeNode.{RawTypeNode}
 use Rattle.lp_syntax.specs.declared.text.RawTypeNode.TheVariants as node
 use Rattle.lp_sig.specs.Pieces.{spelled, begins_variable}
@@ -16,7 +19,7 @@ use Rattle.lp_sig.specs.Types.{kind_number_of, Definition, on_arguments, by_para
 same_node : (nodes : List RawTypeNode) (i : ℕ) (n m : RawTypeNode) → IsNode nodes i n → IsNode nodes i m → n ≡ m
 same_node nodes i n m h k = sym h.1 ∙ get_or_default nodes i n m h.0 ∙ k.1
 
-same_word : (s z : Spot) (a b : Vec ℕ Global) → node.Word s a ≡ node.Word z b → s ≡ z
+pub same_word : (s z : Spot) (a b : Vec ℕ Global) → node.Word s a ≡ node.Word z b → s ≡ z
 same_word s z a b e = cc
 
 same_arguments : (s z : Spot) (a b : Vec ℕ Global) → node.Word s a ≡ node.Word z b → a ≡ b
@@ -28,29 +31,14 @@ same_from a b c d e = cc
 same_to : (a b c d : ℕ) → node.Arrow a b ≡ node.Arrow c d → b ≡ d
 same_to a b c d e = cc
 
-some_same : {A : Type 0} (x y : A) → Some x ≡ Some y → x ≡ y
-some_same x y e = cc
-
 no_word : (s : Spot) (a : Vec ℕ Global) (b c : ℕ) → node.Word s a ≡ node.Arrow b c → ⊥
 no_word s a b c e = absurd (cc)
-
-same_sides : (a b c d : Ty) → a ≡ c → b ≡ d → arrow a b ≡ arrow c d
-same_sides a b c d e f = cc
-
-same_more : (t u : Ty) (ts us : List Ty) → t ≡ u → ts ≡ us → t ∷ ts ≡ u ∷ us
-same_more t u ts us e f = cc
 
 same_con : (k j : ℕ) (ts us : List Ty) → k ≡ j → ts ≡ us → con k (tys ts) ≡ con j (tys us)
 same_con k j ts us e f = cc
 
 no_kind_is : (n m : ℕ) → Some (a_kind n) ≡ Some (an_abbreviation m) → ⊥
 no_kind_is n m e = absurd (cc)
-
-head_same : (i j : ℕ) (is js : List ℕ) → i ∷ is ≡ j ∷ js → i ≡ j
-head_same i j is js e = cc
-
-tail_same : (i j : ℕ) (is js : List ℕ) → i ∷ is ≡ j ∷ js → is ≡ js
-tail_same i j is js e = cc
 
 not_empty : (i : ℕ) (is : List ℕ) → [] ≡ i ∷ is → ⊥
 not_empty i is e = absurd (cc)
@@ -71,14 +59,14 @@ module _ (said : List (Row Said)) (defs : List (Row Definition)) where
     one_meaning m n v w = sym v ∙ ap (λ s. meaning_of (spelled text s) said) word_is ∙ w
 
     one_number : (m n : ℕ) → kind_number_of (spelled text s) said ≡ Some m → kind_number_of (spelled text z) said ≡ Some n → m ≡ n
-    one_number m n v w = some_same m n (sym v ∙ ap (λ s. kind_number_of (spelled text s) said) word_is ∙ w)
+    one_number m n v w = same_Some m n (sym v ∙ ap (λ s. kind_number_of (spelled text s) said) word_is ∙ w)
 
     one_definition : (d e : Definition) → found (spelled text s) defs ≡ Some d → found (spelled text z) defs ≡ Some e → d ≡ e
-    one_definition d e v w = some_same d e (sym v ∙ ap (λ s. found (spelled text s) defs) word_is ∙ w)
+    one_definition d e v w = same_Some d e (sym v ∙ ap (λ s. found (spelled text s) defs) word_is ∙ w)
 
   mutual
     pub one_type : (text : List ℕ) (ν : ℕ → Spot → Option ℕ) (nodes : List RawTypeNode) (i : ℕ) (t u : Ty) → IsTypeOf said defs text ν nodes i t → IsTypeOf said defs text ν nodes i u → t ≡ u
-    one_type text ν nodes i t u (a_variable s a n at v is e) (a_variable z b m here w same f) = e ∙ ap var (some_same n m (sym is ∙ ap (ν i) (word_is text nodes i s z a b at here) ∙ same)) ∙ sym f
+    one_type text ν nodes i t u (a_variable s a n at v is e) (a_variable z b m here w same f) = e ∙ ap var (same_Some n m (sym is ∙ ap (ν i) (word_is text nodes i s z a b at here) ∙ same)) ∙ sym f
     one_type text ν nodes i t u (a_variable s a n at v is e) (kind_on z b k us here w means number parts f) = absurd (not_both text nodes i s z a b at here v w)
     one_type text ν nodes i t u (a_variable s a n at v is e) (abbreviation_on z b d body us here w means declared apart inner parts f) = absurd (not_both text nodes i s z a b at here v w)
     one_type text ν nodes i t u (a_variable s a n at v is e) (an_arrow c d x y here left right f) = absurd (no_word s a c d (same_node nodes i (node.Word s a) (node.Arrow c d) at here))
@@ -102,8 +90,7 @@ module _ (said : List (Row Said)) (defs : List (Row Definition)) where
     one_type text ν nodes i t u (an_arrow b c x y at left right e) (abbreviation_on z a d body us here w means declared apart inner parts f) = absurd (no_word z a b c (same_node nodes i (node.Word z a) (node.Arrow b c) here at))
     one_type text ν nodes i t u (an_arrow b c x y at left right e) (an_arrow j k v w here first second f) =
         let p = same_node nodes i (node.Arrow b c) (node.Arrow j k) at here in
-        e ∙ same_sides x y v w (one_type text ν nodes b x v left (subst (λ j. IsTypeOf said defs text ν nodes j v) (sym (same_from b c j k p)) first))
-        (one_type text ν nodes c y w right (subst (λ j. IsTypeOf said defs text ν nodes j w) (sym (same_to b c j k p)) second)) ∙ sym f
+        e ∙ two_sides x v y w (one_type text ν nodes b x v left (subst (λ j. IsTypeOf said defs text ν nodes j v) (sym (same_from b c j k p)) first)) (one_type text ν nodes c y w right (subst (λ j. IsTypeOf said defs text ν nodes j w) (sym (same_to b c j k p)) second)) ∙ sym f
 
     one_list : (text : List ℕ) (ν : ℕ → Spot → Option ℕ) (nodes : List RawTypeNode) (is js : List ℕ) (ts us : List Ty) → AreTypesOf said defs text ν nodes is ts → AreTypesOf said defs text ν nodes js us → is ≡ js → ts ≡ us
     one_list text ν nodes is js ts us (no_more e f) (no_more g h) same = f ∙ sym h
@@ -111,11 +98,11 @@ module _ (said : List (Row Said)) (defs : List (Row Definition)) where
     one_list text ν nodes is js ts us (one_more i more t rest e f first others) (no_more g h) same = absurd (not_empty i more (sym g ∙ sym same ∙ e))
     one_list text ν nodes is js ts us (one_more i more t rest e f first others) (one_more j behind u left g h second further) same =
         let p = sym e ∙ same ∙ g in
-        f ∙ same_more t u rest left (one_type text ν nodes i t u first (subst (λ j. IsTypeOf said defs text ν nodes j u) (sym (head_same i j more behind p)) second)) (one_list text ν nodes more behind rest left others further (tail_same i j more behind p)) ∙ sym h
+        f ∙ cons_equal t u rest left (one_type text ν nodes i t u first (subst (λ j. IsTypeOf said defs text ν nodes j u) (sym (cons_head i j more behind p)) second)) (one_list text ν nodes more behind rest left others further (cons_tail i j more behind p)) ∙ sym h
 
   -- a name is declared as one tree
   pub one_body : (name : List ℕ) (t u : Ty) → HasBody said defs name t → HasBody said defs name u → t ≡ u
   one_body name t u h k =
-      let same = some_same h.definition k.definition (sym h.declared ∙ k.declared) in
+      let same = same_Some h.definition k.definition (sym h.declared ∙ k.declared) in
       let d = h.definition in
       one_type d.text (by_parameters d.text d.parameters) d.body.nodes.items d.body.root t u h.is (subst (λ d. IsTypeOf said defs d.text (by_parameters d.text d.parameters) d.body.nodes.items d.body.root u) (sym same) k.is)

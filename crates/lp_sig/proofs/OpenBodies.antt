@@ -3,6 +3,7 @@ use Rattle.std.specs.Global.{Global}
 use Rattle.std.proofs.Common.{◌≡◌, ℕ, zero, suc, ◌<◌, List, [], ◌∷◌, length, map, take, get_or, Option, Some, None, sym, ap, subst, ◌∙◌, arith}
 use Rattle.std.specs.Prelude.{Contains, Vec, slice_index_or}
 use Rattle.std.proofs.lemmas.List.{get_or-map, length-map}
+use Rattle.std.proofs.lemmas.Option.{same_Some}
 use Rattle.lp_base.specs.declared.place.Spot.{Spot}
 use Rattle.lp_syntax.specs.declared.text.Declaration.{Declaration}
 use Rattle.lp_syntax.specs.declared.text.Declaration.TheVariants as declaration
@@ -21,14 +22,11 @@ use Rattle.lp_sig.specs.Announced.{CanBeSettled}
 use Rattle.lp_sig.specs.declared.bodies.Body.{Body}
 use Rattle.lp_sig.specs.declared.fault.SigFault.{SigFault}
 
-some_same : {A : Type 0} (x y : A) → Some x ≡ Some y → x ≡ y
-some_same x y e = cc
-
 pub none_some : {A : Type 0} (o : Option A) (x : A) → o ≡ None → o ≡ Some x → ⊥
 none_some o x e f = let g : None ≡ Some x = sym e ∙ f in absurd (cc)
 
 pub same_line : (bodies : List Body) (place a b : ℕ) → line_at bodies place ≡ Some a → line_at bodies place ≡ Some b → a ≡ b
-same_line bodies place a b e f = some_same a b (sym e ∙ f)
+same_line bodies place a b e f = same_Some a b (sym e ∙ f)
 
 -- words that stand have no first fault
 pub no_fault : (text : List ℕ) (said : List (Row Said)) (vs : Option (List (List ℕ))) (nodes : List RawTypeNode) (e : SigFault) → WordsStand text said vs nodes → IsFirstFault text said vs nodes e → ⊥
@@ -50,8 +48,8 @@ not_repeated text words s a r = again text words r.k s r.inside r.word r.again a
 module _ (bodies : List Body) (said : List (Row Said)) (uses : List (List Way)) (text : List ℕ) (declared : ℕ → Option Declaration) (place line : ℕ) (s : Spot) (ps : Vec Spot Global) (ty : RawType) (can : CanBeSettled bodies said uses text declared place)
     (at : line_at bodies place ≡ Some line) (is : declared line ≡ Some (declaration.Abbreviation s ps ty)) where
   same : declaration.Abbreviation can.announced.name can.announced.parameters can.announced.body ≡ declaration.Abbreviation s ps ty
-  same = some_same (declaration.Abbreviation can.announced.name can.announced.parameters can.announced.body) (declaration.Abbreviation s ps ty)
-      (sym can.announced.declares ∙ ap declared (some_same can.announced.line line (sym can.announced.at_line ∙ at)) ∙ is)
+  same = same_Some (declaration.Abbreviation can.announced.name can.announced.parameters can.announced.body) (declaration.Abbreviation s ps ty)
+      (sym can.announced.declares ∙ ap declared (same_Some can.announced.line line (sym can.announced.at_line ∙ at)) ∙ is)
 
   same_parameters : can.announced.parameters ≡ ps
   same_parameters = let e = same in cc

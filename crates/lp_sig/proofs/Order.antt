@@ -155,7 +155,3 @@ one_off_then ways m m' all old work w off le =
 pub start_moves : (ways : List (List Way)) (root : ℕ) (m : List Bool) (work steps : List Step) → work ≡ Enter root ∷ [] → steps ≡ [] → Moves ways m (Enter root ∷ []) [] m work steps
 start_moves ways root m work steps one empty = λ rest end run.
     (rest, subst (λ z. Run ways m (reverse z) rest end) one run, ap (λ z. z ++ rest) empty)
-
-pub nil_of : {A : Type 0} (xs : List A) → length xs ≡ 0 → xs ≡ []
-nil_of [] h = refl
-nil_of (x ∷ xs) h = absurd (omega (arith, h))

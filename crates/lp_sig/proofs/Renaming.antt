@@ -6,6 +6,7 @@ use Rattle.std.proofs.lemmas.Bool.{eqb-true, eq-eqb}
 use Rattle.std.proofs.lemmas.List.{length-append, get_or_append_left}
 use Rattle.std.proofs.lemmas.List.Elements.{All-head, All-tail, All-more, All-weaker}
 use Rattle.std.proofs.Math.Seq.{get_or-append_seam}
+use Rattle.lp_lemmas.proofs.Numbers.{below_suc}
 use Rattle.lp_calculus.specs.Types.{Ty, var, instance}
 use Rattle.lp_term.specs.Nodes.{Nodes, Extends, type_tree}
 use Rattle.lp_term.specs.declared.node.TypeId.{TypeId}
@@ -61,21 +62,10 @@ pub above_more : (N : List ℕ) (i d old next end : ℕ) → i < length N → ne
 above_more N i d old next end l is m p all =
     All-more (λ n. n < end) N i d l (All-weaker (λ n. n < old) (λ n. n < end) (λ n h. omega (arith, h, m)) (take i N) all) (omega (arith, is, p))
 
--- one more new name
-in_front_or_last : (n i : ℕ) → i < suc n → (i < n) ⊎ (i ≡ n)
-in_front_or_last zero zero h = inr refl
-in_front_or_last zero (suc i) h = absurd (omega (arith, h))
-in_front_or_last (suc n) zero h = inl (omega arith)
-in_front_or_last (suc n) (suc i) h = deeper (in_front_or_last n i (omega (arith, h)))
-  where
-    deeper : (i < n) ⊎ (i ≡ n) → (suc i < suc n) ⊎ (suc i ≡ suc n)
-    deeper (inl l) = inl (omega (arith, l))
-    deeper (inr e) = inr (ap (λ n. suc n) e)
-
 pub one_more_name : (b now : Nodes) (old new : List TypeId) (found : List ℕ) (id : TypeId) → Extends b now → AreNewNames b old found → id.0 < length now.types → type_tree now id.0 ≡ var (place found (length old)) → new ≡ old ++ id ∷ [] → AreNewNames now new found
 one_more_name b now old new found id kept are inside tree is = subst (λ l. AreNewNames now l found) (sym is) (record {
-  inside = λ x t l. inside_at x t (in_front_or_last (length old) x (let m = length-append old (id ∷ []) in omega (arith, l, m)));
-  tree = λ x t l. tree_at x t (in_front_or_last (length old) x (let m = length-append old (id ∷ []) in omega (arith, l, m)));
+  inside = λ x t l. inside_at x t (below_suc (length old) x (let m = length-append old (id ∷ []) in omega (arith, l, m)));
+  tree = λ x t l. tree_at x t (below_suc (length old) x (let m = length-append old (id ∷ []) in omega (arith, l, m)));
 })
   where
     front : (x : ℕ) (t : TypeId) → x < length old → get_or (old ++ id ∷ []) x t ≡ get_or old x t

@@ -6,13 +6,11 @@ use Rattle.std.proofs.lemmas.Grind.{common_steps}
 use Rattle.std.proofs.lemmas.Slice.Eq.{bytes_eq-Decides}
 use Rattle.std.proofs.lemmas.List.{take_more, get_or_default, map-append}
 use Rattle.std.proofs.lemmas.List.Elements.{Contains-push_cases}
+use Rattle.lp_lemmas.proofs.Elements.{Contains_tail}
 use Rattle.lp_base.specs.declared.place.Spot.{Spot}
 use Rattle.lp_sig.specs.Pieces.{spelled}
 use Rattle.lp_sig.specs.Places.{first_place}
 use Rattle.lp_sig.specs.Limits.{Apart, AreApart, IsRepeated}
-
-further : (m n : List ℕ) (ms : List (List ℕ)) → Contains ms n → Contains (m ∷ ms) n
-further m n ms c = let h = c.1 in (suc c.0, omega (arith, h), c.2)
 
 -- a name with a place is there
 at_place : (n : List ℕ) (ns : List (List ℕ)) (i : ℕ) → first_place n ns ≡ Some i → Contains ns n
@@ -21,7 +19,7 @@ at_place n (m ∷ ms) i h = by (λ j g. at_place n ms j g) (bytes_eq n m) refl h
   where
     deeper : ((j : ℕ) → first_place n ms ≡ Some j → Contains ms n) → (o : Option ℕ) → o ≡ first_place n ms → option_map (λ i. suc i) o ≡ Some i → Contains (m ∷ ms) n
     deeper f None e h = absurd (cc)
-    deeper f (Some j) e h = further m n ms (f j (sym e))
+    deeper f (Some j) e h = Contains_tail m n ms (f j (sym e))
 
     by : ((j : ℕ) → first_place n ms ≡ Some j → Contains ms n) → (t : Bool) → bytes_eq n m ≡ t → (if t then Some 0 else option_map (λ i. suc i) (first_place n ms)) ≡ Some i → Contains (m ∷ ms) n
     by f true e h = (0, omega arith, sym ((bytes_eq-Decides n m).0 e))
@@ -51,7 +49,7 @@ not_placed n ns (Some i) e h = absurd (cc)
 
 apart_more : (ns : List (List ℕ)) (n : List ℕ) → Apart ns → (Contains ns n → ⊥) → Apart (ns ++ n ∷ [])
 apart_more [] n a f = (λ c. let l = c.1 in absurd (omega (arith, l)), tt)
-apart_more (m ∷ ms) n a f = (λ c. ⊎_elim a.0 (λ e. f (0, omega arith, sym e)) (Contains-push_cases ms n m c), apart_more ms n a.1 (λ c. f (further m n ms c)))
+apart_more (m ∷ ms) n a f = (λ c. ⊎_elim a.0 (λ e. f (0, omega arith, sym e)) (Contains-push_cases ms n m c), apart_more ms n a.1 (λ c. f (Contains_tail m n ms c)))
 
 module _ (text : List ℕ) (ps : List Spot) (i : ℕ) (d : Spot) where
   pub names_more : i < length ps → map (λ w. spelled text w) (take i ps) ++ spelled text (get_or ps i d) ∷ [] ≡ map (λ w. spelled text w) (take (i + 1) ps)

@@ -1,7 +1,7 @@
 -- What holds of a sentence that is taken: where its type stands, all that the type uses is settled.
 use Rattle.std.specs.Global.{Global}
-use Rattle.std.proofs.Common.{◌≡◌, ℕ, ◌++◌, List, [], Option, Some, None, true, refl, sym, ap, subst, ◌∙◌, append-nil, true≢false}
-use Rattle.std.specs.Prelude.{Vec, is_some}
+use Rattle.std.proofs.Common.{◌≡◌, ℕ, ◌++◌, List, [], sym, ap, subst, ◌∙◌, append-nil}
+use Rattle.std.specs.Prelude.{Vec}
 use Rattle.lp_base.specs.declared.place.Spot.{Spot}
 use Rattle.lp_syntax.specs.declared.text.Declaration.{Declaration}
 use Rattle.lp_syntax.specs.declared.text.Declaration.TheVariants as declaration
@@ -18,11 +18,6 @@ use Rattle.lp_sig.proofs.UsesSettled.{use_inside}
 -- what a type uses that stands is settled
 pub uses_settled : (from : ℕ) (z : Seen) (bodies : List Body) (text : List ℕ) (ty : RawType) → AreSettledIf from z bodies → TypeStands from z text ty → AreUsesSettled bodies (uses_in (abbreviation_names z.said) text ty.nodes.items)
 uses_settled from z bodies text ty all stands = λ w c. all w.1 (use_inside (abbreviation_names z.said) text ty.nodes.items w c) (stands w c)
-
--- what is there has a value
-pub value_of : {X : Type 0} (o : Option X) → is_some o ≡ true → (x : X) × (o ≡ Some x)
-value_of None e = absurd (true≢false (sym e))
-value_of (Some x) e = (x, refl)
 
 -- the constants behind a sentence, and that its own were taken
 abbrev pub HasItsConstants : ℕ → Seen → List (Row Written) → Constants → List (Row Written) → Type 0

@@ -2,7 +2,8 @@
 -- entered and is not yet settled waits for the one at hand, and no good one waits for itself.
 use Rattle.std.proofs.Common.{◌≡◌, ℕ, ◌<◌, ◌≤◌, List, [], ◌∷◌, ◌++◌, Bool, true, false, length, get_or, set, refl, sym, ap, subst, ◌∙◌, arith, inl, inr, ⊎_elim, true≢false}
 use Rattle.std.specs.Prelude.{Contains, ◌⊎◌}
-use Rattle.std.proofs.lemmas.List.Elements.{Contains-append_right, Contains-append_cases, Contains-push_cases}
+use Rattle.std.proofs.lemmas.List.Elements.{Contains-append_right, Contains-append_cases}
+use Rattle.lp_lemmas.proofs.Elements.{Contains_single}
 use Rattle.lp_sig.specs.Loading.{Way, ways_out, Loads, again, first, LoadsAll, none, next, LeadsTo, there, onward, HasNoCircle}
 use Rattle.lp_sig.specs.UseOrder.{Behind, UsesComeFirst}
 use Rattle.lp_sig.specs.declared.walk.Step.{Step}
@@ -48,9 +49,6 @@ leads_through : (ways : List (List Way)) (a b c : ℕ) → LeadsTo ways a b → 
 leads_through ways a b c (there e) m = subst (λ x. LeadsTo ways x c) (sym e) m
 leads_through ways a b c (onward w d l) m = onward w d (leads_through ways w.1 b c l m)
 
-pub only_one : {A : Type 0} (a x : A) → Contains (a ∷ []) x → a ≡ x
-only_one a x c = ⊎_elim (λ d. absurd (omega (arith, d.1))) (λ e. e) (Contains-push_cases [] a x c)
-
 not_set : (m : List Bool) (j i : ℕ) → get_or (set m j true) i true ≡ false → get_or m i true ≡ false
 not_set m j i h = by (get_or m i true) refl
   where
@@ -63,13 +61,13 @@ nothing_in xs x e c = let q : length xs ≡ 0 = ap length e in omega (arith, c.1
 
 -- the declarations among the steps of a place
 past_entry : (i k : ℕ) (inner : List Step) → Contains (Enter i ∷ inner) (Declare k) → Contains inner (Declare k)
-past_entry i k inner c = ⊎_elim (λ x. absurd (other (only_one (Enter i) (Declare k) x))) (λ y. y) (Contains-append_cases (Enter i ∷ []) inner (Declare k) c)
+past_entry i k inner c = ⊎_elim (λ x. absurd (other (Contains_single (Enter i) (Declare k) x))) (λ y. y) (Contains-append_cases (Enter i ∷ []) inner (Declare k) c)
   where
     other : Enter i ≡ Declare k → ⊥
     other e = absurd (cc)
 
 own_or_inner : (i k : ℕ) (inner : List Step) → Contains (Enter i ∷ (inner ++ Declare i ∷ [])) (Declare k) → Contains (Enter i ∷ inner) (Declare k) ⊎ (i ≡ k)
-own_or_inner i k inner c = ⊎_elim (λ x. inl x) (λ y. inr (same (only_one (Declare i) (Declare k) y))) (Contains-append_cases (Enter i ∷ inner) (Declare i ∷ []) (Declare k) c)
+own_or_inner i k inner c = ⊎_elim (λ x. inl x) (λ y. inr (same (Contains_single (Declare i) (Declare k) y))) (Contains-append_cases (Enter i ∷ inner) (Declare i ∷ []) (Declare k) c)
   where
     same : Declare i ≡ Declare k → i ≡ k
     same e = cc
@@ -142,7 +140,7 @@ module _ (ways : List (List Way)) (n from : ℕ) (G : ℕ → Type 0) where
   waits_on P p k w late c (inr (inr o)) = inr (o.0, (o.1.0, o.1.1, leads_through ways o.1.0.1 p w.1 o.1.2 (onward w c (there refl))))
 
   either_word : (w v : Way) (more : List Way) (Q : ℕ → Type 0) → Contains (w ∷ more) v → Q w.1 → (Contains more v → Q v.1) → Q v.1
-  either_word w v more Q c q f = ⊎_elim (λ x. subst (λ u. Q u.1) (only_one w v x) q) f (Contains-append_cases (w ∷ []) more v c)
+  either_word w v more Q c q f = ⊎_elim (λ x. subst (λ u. Q u.1) (Contains_single w v x) q) f (Contains-append_cases (w ∷ []) more v c)
 
   module _ (good : AreGood) where
     never_waits : (i : ℕ) → i < n → G i → Waits i i → ⊥

@@ -3,6 +3,7 @@ use Rattle.std.specs.Global.{Global}
 use Rattle.std.proofs.Common.{◌≡◌, ℕ, zero, suc, ◌<◌, List, [], ◌∷◌, ◌++◌, false, length, get_or, Option, Some, None, refl, sym, ap, subst, ◌∙◌, arith, ⊎_elim}
 use Rattle.std.specs.Prelude.{Contains, Vec}
 use Rattle.std.proofs.lemmas.List.Elements.{Contains-append_left, Contains-append_right, Contains-append_cases}
+use Rattle.lp_lemmas.proofs.Elements.{Contains_single}
 use Rattle.lp_base.specs.declared.place.Spot.{Spot}
 use Rattle.lp_syntax.specs.declared.text.RawTypeNode.{RawTypeNode}
 use Rattle.lp_syntax.specs.declared.text.RawTypeNode.TheVariants.{Word}
@@ -15,7 +16,6 @@ use Rattle.lp_sig.specs.declared.bodies.Body.{Body}
 use Rattle.lp_sig.proofs.Abbreviating.{type_names_append, node_word, word_used}
 use Rattle.lp_sig.proofs.Heads.{place_below}
 use Rattle.lp_sig.proofs.Naming.{one_way, ways_append}
-use Rattle.lp_sig.proofs.UsesFirst.{only_one}
 
 uses_append : (ns : List (List ℕ)) (text : List ℕ) (xs ys : List RawTypeNode) → uses_in ns text (xs ++ ys) ≡ uses_in ns text xs ++ uses_in ns text ys
 uses_append ns text xs ys = ap (ways_in ns text) (type_names_append text xs ys) ∙ ways_append ns text (type_names text xs) (type_names text ys)
@@ -40,7 +40,7 @@ way_meant ns text (x ∷ xs) w c = ⊎_elim (λ d. one (first_place (spelled tex
   where
     one : (o : Option ℕ) → first_place (spelled text x) ns ≡ o → Contains (ways_in ns text (x ∷ [])) w → first_place (spelled text w.0) ns ≡ Some w.1
     one None e d = let q : length (ways_in ns text (x ∷ [])) ≡ 0 = ap length (one_way ns text x None (sym e)) in absurd (omega (arith, d.1, q))
-    one (Some i) e d = subst (λ v. first_place (spelled text v.0) ns ≡ Some v.1) (only_one (x, i) w (subst (λ u. Contains u w) (one_way ns text x (Some i) (sym e)) d)) e
+    one (Some i) e d = subst (λ v. first_place (spelled text v.0) ns ≡ Some v.1) (Contains_single (x, i) w (subst (λ u. Contains u w) (one_way ns text x (Some i) (sym e)) d)) e
 
 pub use_inside : (ns : List (List ℕ)) (text : List ℕ) (nodes : List RawTypeNode) (w : Way) → Contains (uses_in ns text nodes) w → w.1 < length ns
 use_inside ns text nodes w c = place_below (spelled text w.0) ns w.1 (way_meant ns text (type_names text nodes) w c)

@@ -1,6 +1,7 @@
 -- Constants: what sentences declare, which type each has, and why a sentence of constants is refused.
 use Rattle.std.specs.Global.{Global}
 use Rattle.std.specs.Prelude.{◌≡◌, ◌≢◌, ◌≤◌, ◌<◌, ◌+◌, ◌⊎◌, ℕ, suc, List, [], ◌∷◌, ◌++◌, Option, Some, None, Vec, map, take, length, All, Contains, codes, true, is_some, IfSome, slice_index_or, ◌||◌}
+use Rattle.lp_base.specs.declared.limits.TheConstants.{END_OF_NUMBERS, MAX_ARGUMENTS, MAX_NAME_BYTES}
 use Rattle.lp_base.specs.declared.limit.Limit.TheVariants as limit
 use Rattle.lp_base.specs.declared.place.Spot.{Spot}
 use Rattle.lp_calculus.specs.Types.{Ty, var, arrow}
@@ -132,7 +133,7 @@ AreConstants b said defs rows entries = AreInStep (IsConstant b said defs) 32 (d
 
 -- there are numbers below 65535 for all constants
 abbrev pub HaveNumbers : List (Row Written) → Type 0
-HaveNumbers rows = 32 + length (declared_constants rows) ≤ 65535
+HaveNumbers rows = 32 + length (declared_constants rows) ≤ END_OF_NUMBERS
 
 -- a type of the bank is that of a declared constant
 pub record IsTyped (b : Nodes) (said : List (Row Said)) (defs : List (Row Definition)) (w : Written) (d : DeclaredType) : Type 0 where
@@ -182,12 +183,12 @@ AllMade done = All (λ o. is_some o ≡ true) done
 pub data IsWrittenFault (text : List ℕ) (said : List (Row Said)) (defs : List (Row Definition)) (ty : RawType) : SigFault → Type 0 where
   long_type : {e : SigFault} → e ≡ fault.Limit limit.Arguments → IsLongType ty.nodes.items ty.root → IsWrittenFault text said defs ty e
   word_of_type : {e : SigFault} → (IsLongType ty.nodes.items ty.root → ⊥) → IsFirstFault text said None ty.nodes.items e → IsWrittenFault text said defs ty e
-  many_variables : {e : SigFault} → e ≡ fault.Limit limit.Arguments → IsSoundType text said ty → (count : ℕ) (t : Ty) → IsSchemeOf said defs (written_in text ty) count t → 255 < count → IsWrittenFault text said defs ty e
+  many_variables : {e : SigFault} → e ≡ fault.Limit limit.Arguments → IsSoundType text said ty → (count : ℕ) (t : Ty) → IsSchemeOf said defs (written_in text ty) count t → MAX_ARGUMENTS < count → IsWrittenFault text said defs ty e
 
 -- why a name is refused: it is declared with another type, or it is new and no number is left for it
 pub data IsConstantFault (said : List (Row Said)) (defs : List (Row Definition)) (rows : List (Row Written)) (name : List ℕ) (t : Ty) (s : Spot) : SigFault → Type 0 where
   other_type : {e : SigFault} → e ≡ fault.Differ s → (first : Ty) → HasType said defs rows name first → first ≢ t → IsConstantFault said defs rows name t s e
-  no_number : {e : SigFault} → e ≡ fault.Limit limit.Names → found name standard_constants ≡ None → found name rows ≡ None → 65535 ≤ 32 + length (declared_constants rows) → IsConstantFault said defs rows name t s e
+  no_number : {e : SigFault} → e ≡ fault.Limit limit.Names → found name standard_constants ≡ None → found name rows ≡ None → END_OF_NUMBERS ≤ 32 + length (declared_constants rows) → IsConstantFault said defs rows name t s e
 
 -- a name is declared with the type with which it is declared first
 pub record HasFirstType (said : List (Row Said)) (defs : List (Row Definition)) (all : List (Row Written)) (row : Row Written) : Type 0 where
@@ -207,7 +208,7 @@ FirstStands from z rows name = (w : Written) → found name standard_constants �
 -- there is a number for it if it is new
 pub record IsTakenConstant (from : ℕ) (z : Seen) (rows : List (Row Written)) (row : Row Written) : Type 0 where
   pub typed : TypeStands from z row.1.text row.1.raw → FirstStands from z (rows ++ row ∷ []) row.0 → HasFirstType z.said z.definitions (rows ++ row ∷ []) row
-  pub number : TypeStands from z row.1.text row.1.raw → found row.0 standard_constants ≡ None → found row.0 rows ≡ None → 32 + length (declared_constants rows) < 65535
+  pub number : TypeStands from z row.1.text row.1.raw → found row.0 standard_constants ≡ None → found row.0 rows ≡ None → 32 + length (declared_constants rows) < END_OF_NUMBERS
 
 -- so are constants, one after the other
 abbrev pub AreTakenConstants : ℕ → Seen → List (Row Written) → List (Row Written) → Type 0
@@ -219,7 +220,7 @@ pub record HasFewVariables (said : List (Row Said)) (defs : List (Row Definition
   pub count : ℕ
   pub tree : Ty
   pub scheme : IsSchemeOf said defs w count tree
-  pub few : count ≤ 255
+  pub few : count ≤ MAX_ARGUMENTS
 
 -- the first name of a sentence that is refused
 pub record IsFirstConstant (from : ℕ) (text : List ℕ) (z : Seen) (rows : List (Row Written)) (names : List Spot) (w : Written) (e : SigFault) : Type 0 where
@@ -234,7 +235,7 @@ pub record IsFirstConstant (from : ℕ) (text : List ℕ) (z : Seen) (rows : Lis
 -- why a sentence of constants is refused, where these were declared before it: a long name goes first, then its type, then its names
 -- in order
 pub data IsConstantsFault (from : ℕ) (text : List ℕ) (z : Seen) (rows : List (Row Written)) (names : List Spot) (ty : RawType) : SigFault → Type 0 where
-  long_name : {e : SigFault} → e ≡ fault.Limit limit.NameLength → (s : Spot) → Contains names s → 255 < length (spelled text s) → IsConstantsFault from text z rows names ty e
+  long_name : {e : SigFault} → e ≡ fault.Limit limit.NameLength → (s : Spot) → Contains names s → MAX_NAME_BYTES < length (spelled text s) → IsConstantsFault from text z rows names ty e
   bad_type : {e : SigFault} → AreShort text names → IsWrittenFault text z.said z.definitions ty e → IsConstantsFault from text z rows names ty e
   bad_name : {e : SigFault} → AreShort text names → IsSoundType text z.said ty → IsFirstConstant from text z rows names (written_in text ty) e → IsConstantsFault from text z rows names ty e
   no_memory : {e : SigFault} → e ≡ fault.Memory → IsConstantsFault from text z rows names ty e

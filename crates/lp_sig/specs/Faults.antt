@@ -1,5 +1,6 @@
 -- Why a sentence is refused, and what holds of one that is taken, under all that is seen up to the end of its text.
 use Rattle.std.specs.Prelude.{◌≡◌, ℕ, ◌<◌, List, length, All, Some}
+use Rattle.lp_base.specs.declared.limits.TheConstants.{MAX_ARGUMENTS}
 use Rattle.lp_base.specs.declared.limit.Limit.TheVariants as limit
 use Rattle.lp_base.specs.declared.place.Spot.{Spot}
 use Rattle.lp_calculus.specs.Types.{Ty}
@@ -47,7 +48,7 @@ pub data IsAbbreviationFault (text : List ℕ) (z : Seen) (name : Spot) (ps : Li
   a_name : {e : SigFault} → IsNameFault text z.said (an_abbreviation (length ps)) name e → IsAbbreviationFault text z name ps ty e
   circle : {e : SigFault} → e ≡ fault.CyclicAbbreviation name → IsMeant text z.said (an_abbreviation (length ps)) name → IsCyclic text z name ty → IsAbbreviationFault text z name ps ty e
   repeated : {e : SigFault} → (s : Spot) → e ≡ fault.Differ s → IsStraight text z name (length ps) ty → IsRepeated text ps s → IsAbbreviationFault text z name ps ty e
-  arguments : {e : SigFault} → e ≡ fault.Limit limit.Arguments → IsStraight text z name (length ps) ty → AreApart text ps → 255 < length ps → IsAbbreviationFault text z name ps ty e
+  arguments : {e : SigFault} → e ≡ fault.Limit limit.Arguments → IsStraight text z name (length ps) ty → AreApart text ps → MAX_ARGUMENTS < length ps → IsAbbreviationFault text z name ps ty e
   a_word : {e : SigFault} → IsStraightHead text z name ps ty → IsFirstFault text z.said (parameters_of text ps) ty.nodes.items e → IsAbbreviationFault text z name ps ty e
   other : {e : SigFault} → e ≡ fault.Differ name → IsStraightHead text z name ps ty → WordsStand text z.said (parameters_of text ps) ty.nodes.items → HasOtherBody z.said z.definitions text name ps ty → IsAbbreviationFault text z name ps ty e
   memory : {e : SigFault} → e ≡ fault.Memory → IsAbbreviationFault text z name ps ty e

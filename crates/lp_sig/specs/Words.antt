@@ -1,5 +1,6 @@
 -- What names and words mean, and the faults of a sentence by them, under all that is said up to the end of its text.
 use Rattle.std.specs.Prelude.{◌≡◌, ◌≢◌, ◌≤◌, ◌<◌, ℕ, suc, nat_eq, nat_le, List, ◌++◌, Option, Some, None, Bool, true, map, take, length, All, Contains, if◌then◌else◌, is_some, option_map, IfSome, slice_index_or}
+use Rattle.lp_base.specs.declared.limits.TheConstants.{END_OF_NUMBERS, MAX_ARGUMENTS, MAX_NAME_BYTES}
 use Rattle.lp_base.specs.declared.limit.Limit.TheVariants as limit
 use Rattle.lp_base.specs.declared.place.Spot.{Spot}
 use Rattle.lp_syntax.specs.declared.text.RawType.{RawType}
@@ -83,16 +84,16 @@ unfoldable pub number_said : List ℕ → List (Row Said) → Option ℕ
 number_said name said = option_map (λ r. r.0) (found name (numbered 8 (kinds_among (declared_names said))))
 
 abbrev pub IsNumbered : List ℕ → List (Row Said) → Spot → Type 0
-IsNumbered text said s = IfSome (number_said (spelled text s) said) (λ n. n < 65535)
+IsNumbered text said s = IfSome (number_said (spelled text s) said) (λ n. n < END_OF_NUMBERS)
 
 abbrev pub AreNumbered : List ℕ → List (Row Said) → List Spot → Type 0
 AreNumbered text said names = All (IsNumbered text said) names
 
 -- why a name is refused: it is long, or it means something else than what is said of it here, or there are too many names
 pub data IsNameFault (text : List ℕ) (said : List (Row Said)) (m : Said) (s : Spot) : SigFault → Type 0 where
-  long : {e : SigFault} → e ≡ fault.Limit limit.NameLength → 255 < length (spelled text s) → IsNameFault text said m s e
+  long : {e : SigFault} → e ≡ fault.Limit limit.NameLength → MAX_NAME_BYTES < length (spelled text s) → IsNameFault text said m s e
   other : {e : SigFault} → e ≡ fault.Differ s → IsShort text s → meaning_of (spelled text s) said ≢ Some m → IsNameFault text said m s e
-  many : {e : SigFault} → e ≡ fault.Limit limit.Names → IsMeant text said m s → (n : ℕ) → number_said (spelled text s) said ≡ Some n → 65535 ≤ n → IsNameFault text said m s e
+  many : {e : SigFault} → e ≡ fault.Limit limit.Names → IsMeant text said m s → (n : ℕ) → number_said (spelled text s) said ≡ Some n → END_OF_NUMBERS ≤ n → IsNameFault text said m s e
 
 -- the first of these names that is refused
 pub record IsFirstName (text : List ℕ) (said : List (Row Said)) (m : Said) (names : List Spot) (e : SigFault) : Type 0 where
@@ -107,7 +108,7 @@ pub record IsFirstName (text : List ℕ) (said : List (Row Said)) (m : Said) (na
 -- why a sentence of kinds is refused: one of its names, then its count of arguments
 pub data IsKindsFault (text : List ℕ) (said : List (Row Said)) (names : List Spot) (n : ℕ) : SigFault → Type 0 where
   a_name : {e : SigFault} → IsFirstName text said (a_kind n) names e → IsKindsFault text said names n e
-  arguments : {e : SigFault} → e ≡ fault.Limit limit.Arguments → AreMeant text said (a_kind n) names → AreNumbered text said names → 255 < n → IsKindsFault text said names n e
+  arguments : {e : SigFault} → e ≡ fault.Limit limit.Arguments → AreMeant text said (a_kind n) names → AreNumbered text said names → MAX_ARGUMENTS < n → IsKindsFault text said names n e
 
 -- a type as written has so many arguments, or more
 pub data HasArguments (nodes : List RawTypeNode) : ℕ → ℕ → Type 0 where
@@ -116,7 +117,7 @@ pub data HasArguments (nodes : List RawTypeNode) : ℕ → ℕ → Type 0 where
 
 -- a type as written has more than 255 arguments
 abbrev pub IsLongType : List RawTypeNode → ℕ → Type 0
-IsLongType nodes root = (n : ℕ) × (255 < n) × HasArguments nodes root n
+IsLongType nodes root = (n : ℕ) × (MAX_ARGUMENTS < n) × HasArguments nodes root n
 
 -- a declared type has at most 255 arguments as written, and its words have no fault
 abbrev pub IsSoundType : List ℕ → List (Row Said) → RawType → Type 0
@@ -124,7 +125,7 @@ IsSoundType text said ty = (IsLongType ty.nodes.items ty.root → ⊥) × WordsS
 
 -- an abbreviation's name means it, no parameter stands twice, and there are at most 255
 abbrev pub IsHead : List ℕ → List (Row Said) → Spot → List Spot → Type 0
-IsHead text said name ps = IsMeant text said (an_abbreviation (length ps)) name × AreApart text ps × (length ps ≤ 255)
+IsHead text said name ps = IsMeant text said (an_abbreviation (length ps)) name × AreApart text ps × (length ps ≤ MAX_ARGUMENTS)
 
 abbrev pub parameters_of : List ℕ → List Spot → Option (List (List ℕ))
 parameters_of text ps = Some (map (λ p. spelled text p) ps)

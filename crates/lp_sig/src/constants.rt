@@ -1,6 +1,7 @@
 // The constants so far, each with the type of its first declaration.
 ghost use Rattle.std.specs.Prelude.{◌≡◌, ◌<◌, ◌≤◌, ◌+◌, ◌++◌, ◌⊎◌, ℕ, List, [], ◌∷◌, length, Some, None, true, is_some, IfErr, IfOk, IfSome, OnOk};
 ghost use Rattle.lp_base.specs.declared.limit.Limit.TheVariants as limit;
+ghost use Rattle.lp_base.specs.declared.limits.TheConstants.{END_OF_NUMBERS};
 ghost use Rattle.lp_term.specs.Nodes.{Nodes, Extends, type_tree};
 ghost use Rattle.lp_sig.specs.declared.fault.SigFault.TheVariants as fault;
 ghost use Rattle.lp_sig.specs.Pieces.{spelled};
@@ -17,9 +18,9 @@ use crate::entries::ConstantEntry;
 use crate::fault::SigFault;
 use crate::pieces::spelled_at;
 use crate::places::Places;
-use crate::standard::{END_OF_NUMBERS, FIRST_CONSTANT, standard_constant, standard_type};
+use crate::standard::{FIRST_CONSTANT, standard_constant, standard_type};
 use crate::store::Types;
-use lp_base::{Limit, Memory, Spot};
+use lp_base::{END_OF_NUMBERS, Limit, Memory, Spot};
 use lp_term::TypeId;
 use std::alloc::Global;
 
@@ -55,8 +56,8 @@ pub(crate) enum Known {
 
 // The number of the constant at a place, if it has one.
 fn constant_number(place: usize) -> Option<u32>
-    ensures some { IfSome result (λ n. (n ≡ 32 + place) × (32 + place < 65535)) }
-    ensures none { result ≡ None → 65535 ≤ 32 + place }
+    ensures some { IfSome result (λ n. (n ≡ 32 + place) × (32 + place < END_OF_NUMBERS)) }
+    ensures none { result ≡ None → END_OF_NUMBERS ≤ 32 + place }
 {
     let number = FIRST_CONSTANT.saturating_add(place.min(u32::MAX as usize) as u32);
     if number >= END_OF_NUMBERS {
@@ -67,8 +68,8 @@ fn constant_number(place: usize) -> Option<u32>
 
 // A constant with a type wants a number.
 fn check_number(declared: Option<DeclaredType>, place: usize) -> Result<(), SigFault>
-    ensures refused { IfErr result (λ e. (e ≡ fault.Limit limit.Names) × ((d : DeclaredType) × (declared ≡ Some d)) × (65535 ≤ 32 + place)) }
-    ensures taken { IfOk result (λ done. IfTyped declared (λ d. 32 + place < 65535)) }
+    ensures refused { IfErr result (λ e. (e ≡ fault.Limit limit.Names) × ((d : DeclaredType) × (declared ≡ Some d)) × (END_OF_NUMBERS ≤ 32 + place)) }
+    ensures taken { IfOk result (λ done. IfTyped declared (λ d. 32 + place < END_OF_NUMBERS)) }
 {
     match declared {
         None => Ok(()),
@@ -82,7 +83,7 @@ fn check_number(declared: Option<DeclaredType>, place: usize) -> Result<(), SigF
 // The entry of the constant at a place. One without a type or a number was refused where it is declared.
 fn entry_of(alloc: Global, constant: &Constant, place: usize) -> Result<ConstantEntry, Memory>
     ensures is { IfOk result (λ e. (b : Nodes) (said : List (Row Said)) (defs : List (Row Definition)) (row : Row Written) → IsNoted b said defs (32 + place) row constant.now → IsConstant b said defs (32 + place) row e) }
-    ensures number { IfOk result (λ e. 32 + place < 65535) }
+    ensures number { IfOk result (λ e. 32 + place < END_OF_NUMBERS) }
 {
     let Some(declared) = constant.declared else {
         return Err(Memory);
@@ -130,10 +131,10 @@ impl Constants {
         word: &[u8],
         declared: Option<DeclaredType>,
     ) -> Result<(), SigFault>
-        ensures full { IfErr result (λ e. (e ≡ fault.Memory) ⊎ ((e ≡ fault.Limit limit.Names) × ((d : DeclaredType) × (declared ≡ Some d)) × (65535 ≤ 32 + length self.old.constants.items))) }
+        ensures full { IfErr result (λ e. (e ≡ fault.Memory) ⊎ ((e ≡ fault.Limit limit.Names) × ((d : DeclaredType) × (declared ≡ Some d)) × (END_OF_NUMBERS ≤ 32 + length self.old.constants.items))) }
         ensures added { OnOk result ((b : Nodes) (said : List (Row Said)) (defs : List (Row Definition)) (rows : List (Row Written)) (w : Written) → KnowsConstants b self.old said defs rows → (found word.now standard_constants ≡ None) × (found word.now rows ≡ None) → IfTyped declared (IsTyped b said defs w) → KnowsConstants b self.new said defs (rows ++ (word.now, w) ∷ [])) }
         ensures typed { OnOk result ((from : ℕ) (z : Seen) (rows : List (Row Written)) (w : Written) → (found word.now standard_constants ≡ None) × (found word.now rows ≡ None) → AreTypedIf from z rows self.old → (TypeStands from z w.text w.raw → is_some declared ≡ true) → AreTypedIf from z (rows ++ (word.now, w) ∷ []) self.new) }
-        ensures room { OnOk result (IfTyped declared (λ d. 32 + length self.old.constants.items < 65535)) }
+        ensures room { OnOk result (IfTyped declared (λ d. 32 + length self.old.constants.items < END_OF_NUMBERS)) }
     {
         let place = self.constants.len();
         check_number(declared, place)?;

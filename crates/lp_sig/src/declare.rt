@@ -14,6 +14,7 @@ ghost use Rattle.lp_sig.specs.Declares.{AreAllTyped};
 ghost use Rattle.lp_sig.specs.Knowing.{Knows, KnowsOperators};
 ghost use Rattle.lp_sig.specs.Limits.{IsShort, AreShort, AreApart, IsWithin, AreWithin};
 ghost use Rattle.lp_base.specs.declared.place.Spot.{Spot};
+ghost use Rattle.lp_base.specs.declared.limits.TheConstants.{MAX_ARGUMENTS, MAX_NAME_BYTES};
 ghost use Rattle.lp_term.specs.Nodes.{Extends};
 ghost use Rattle.lp_sig.specs.Places.{first_place};
 ghost use Rattle.lp_sig.specs.Abbreviations.{abbreviation_names, Seen, seen_text};
@@ -28,25 +29,24 @@ use crate::fault::SigFault;
 use crate::making::Making;
 use crate::names::{Meaning, Names};
 use crate::pieces::spelled_at;
-use crate::standard::END_OF_NUMBERS;
 use crate::uses::uses_of;
 use crate::walk::Ways;
-use lp_base::{Limit, Spot};
+use lp_base::{END_OF_NUMBERS, Limit, MAX_ARGUMENTS, MAX_NAME_BYTES, Spot};
 use lp_syntax::{Declaration, RawType, SignatureText};
 
 // A declared name has at most 255 bytes.
 pub(crate) fn check_length(source: &[u8], name: Spot) -> Result<(), SigFault>
-    ensures long { IfErr result (λ e. (e ≡ fault.Limit limit.NameLength) × (255 < length (spelled source.now name))) }
+    ensures long { IfErr result (λ e. (e ≡ fault.Limit limit.NameLength) × (MAX_NAME_BYTES < length (spelled source.now name))) }
     ensures taken { IfOk result (λ done. IsShort source.now name) }
 {
-    if spelled_at(source, name).len() > 255 {
+    if spelled_at(source, name).len() > MAX_NAME_BYTES {
         return Err(SigFault::Limit(Limit::NameLength));
     }
     Ok(())
 }
 
 pub(crate) fn check_lengths(source: &[u8], names: &[Spot]) -> Result<(), SigFault>
-    ensures long { IfErr result (λ e. (e ≡ fault.Limit limit.NameLength) × ((s : Spot) × Contains names.now s × (255 < length (spelled source.now s)))) }
+    ensures long { IfErr result (λ e. (e ≡ fault.Limit limit.NameLength) × ((s : Spot) × Contains names.now s × (MAX_NAME_BYTES < length (spelled source.now s)))) }
     ensures taken { IfOk result (λ done. AreShort source.now names.now) }
 {
     for name in names {
@@ -86,12 +86,12 @@ impl Names {
     ) -> Result<(), SigFault>
         ensures why { (said : List (Row Said)) → Knows self.now said → IfErr result (IsKindsFault source.now said names.now arity) }
         ensures meant { (said : List (Row Said)) → Knows self.now said → IfOk result (λ done. AreMeant source.now said (a_kind arity) names.now × AreNumbered source.now said names.now) }
-        ensures taken { IfOk result (λ done. AreShort source.now names.now × (arity ≤ 255)) }
+        ensures taken { IfOk result (λ done. AreShort source.now names.now × (arity ≤ MAX_ARGUMENTS)) }
     {
         for name in names {
             self.declare_kind(source, *name, arity)?;
         }
-        if arity > 255 {
+        if arity > MAX_ARGUMENTS as u32 {
             return Err(SigFault::Limit(Limit::Arguments));
         }
         Ok(())
@@ -162,7 +162,7 @@ impl Bodies {
         raw: &RawType,
     ) -> Result<(), SigFault>
         ensures why { (z : Seen) → Sees names.now (map (λ out. out.items) uses.now.ways.items) self.old.types.bank self.old.bodies.items z → IfErr result (IsAbbreviationFault source.now z name parameters.now raw.now) }
-        ensures taken { IfOk result (λ done. IsShort source.now name × AreApart source.now parameters.now × (length parameters.now ≤ 255)) }
+        ensures taken { IfOk result (λ done. IsShort source.now name × AreApart source.now parameters.now × (length parameters.now ≤ MAX_ARGUMENTS)) }
         ensures stand { (z : Seen) → Sees names.now (map (λ out. out.items) uses.now.ways.items) self.old.types.bank self.old.bodies.items z → IfOk result (λ done. IsSoundAbbreviation source.now z name parameters.now raw.now) }
         ensures same { (from : ℕ) (z : Seen) → Sees names.now (map (λ out. out.items) uses.now.ways.items) self.old.types.bank self.old.bodies.items z → AreSettledIf from z self.old.bodies.items → IfOk result (λ done. HasFirstBody from source.now z name parameters.now raw.now) }
         ensures kept { Extends self.old.types.bank self.new.types.bank }
@@ -174,7 +174,7 @@ impl Bodies {
             return Err(SigFault::CyclicAbbreviation(name));
         }
         let mut variables = Variables::parameters(self.alloc, source, parameters)?;
-        if parameters.len() > 255 {
+        if parameters.len() > MAX_ARGUMENTS {
             return Err(SigFault::Limit(Limit::Arguments));
         }
         let body = self.expand(names, source, raw, &mut variables)?;
@@ -194,7 +194,7 @@ impl Making {
         raw: &RawType,
     ) -> Result<(), SigFault>
         ensures why { (z : Seen) → Sees self.old.names (map (λ out. out.items) self.old.uses.ways.items) self.old.bodies.types.bank self.old.bodies.bodies.items z → IfErr result (IsAbbreviationFault source.now z name parameters.now raw.now) }
-        ensures taken { IfOk result (λ done. IsShort source.now name × AreApart source.now parameters.now × (length parameters.now ≤ 255)) }
+        ensures taken { IfOk result (λ done. IsShort source.now name × AreApart source.now parameters.now × (length parameters.now ≤ MAX_ARGUMENTS)) }
         ensures stand { (z : Seen) → Sees self.old.names (map (λ out. out.items) self.old.uses.ways.items) self.old.bodies.types.bank self.old.bodies.bodies.items z → IfOk result (λ done. IsSoundAbbreviation source.now z name parameters.now raw.now) }
         ensures same { (from : ℕ) (z : Seen) → Sees self.old.names (map (λ out. out.items) self.old.uses.ways.items) self.old.bodies.types.bank self.old.bodies.bodies.items z → AreSettledIf from z self.old.bodies.bodies.items → IfOk result (λ done. HasFirstBody from source.now z name parameters.now raw.now) }
         ensures names { self.new.names ≡ self.old.names }

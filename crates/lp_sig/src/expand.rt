@@ -12,6 +12,7 @@ ghost use Rattle.lp_term.specs.Nodes.{Extends};
 ghost use Rattle.lp_syntax.specs.declared.text.RawTypeNode.{RawTypeNode};
 ghost use Rattle.lp_syntax.specs.declared.text.RawTypeNode.TheVariants as node;
 ghost use Rattle.lp_base.specs.declared.place.Spot.{Spot};
+ghost use Rattle.lp_base.specs.declared.limits.TheConstants.{MAX_ARGUMENTS};
 ghost use Rattle.lp_sig.specs.Places.{first_place};
 ghost use Rattle.lp_sig.specs.Abbreviations.{abbreviation_names, uses_in};
 ghost use Rattle.lp_sig.specs.Types.{Definition, IsTypeOf, IsNode, by_parameters};
@@ -29,7 +30,7 @@ use crate::names::{Meaning, Names};
 use crate::pieces::{is_variable, spelled_at};
 use crate::places::Places;
 use indexmap::IndexMap;
-use lp_base::{Limit, Memory, Spot};
+use lp_base::{Limit, MAX_ARGUMENTS, Memory, Spot};
 use lp_syntax::{RawType, RawTypeNode};
 use lp_term::TypeId;
 use std::alloc::Global;
@@ -393,7 +394,7 @@ impl Bodies {
         ensures kept { Extends self.old.types.bank self.new.types.bank }
         ensures bodies { self.new.bodies ≡ self.old.bodies }
         ensures exact { (said : List (Row Said)) (defs : List (Row Definition)) → Knows names.now said → HoldsBodies self.old.types.bank self.old.bodies.items said defs → IfErr result (λ e. (e ≡ fault.Memory) ⊎ IsWrittenFault source.now said defs raw.now e) }
-        ensures few { IfOk result (λ made. IfSome made (λ d. d.type_vars ≤ 255)) }
+        ensures few { IfOk result (λ made. IfSome made (λ d. d.type_vars ≤ MAX_ARGUMENTS)) }
         ensures settled { (said : List (Row Said)) → Knows names.now said → AreUsesSettled self.old.bodies.items (uses_in (abbreviation_names said) source.now raw.now.nodes.items) → IfOk result (λ made. is_some made ≡ true) }
         ensures typed { (said : List (Row Said)) (defs : List (Row Definition)) → Knows names.now said → HoldsBodies self.old.types.bank self.old.bodies.items said defs → IfOk result (λ made. IfSome made (IsTyped self.new.types.bank said defs (written_in source.now raw.now))) }
     {
@@ -405,7 +406,7 @@ impl Bodies {
             return Ok(None);
         };
         let found = self.types.variables(whole)?;
-        if found.len() > 255 {
+        if found.len() > MAX_ARGUMENTS {
             return Err(SigFault::Limit(Limit::Arguments));
         }
         let new = self.new_names(found.as_slice())?;

@@ -61,5 +61,5 @@ pub use module_fault::ModuleSigFault;
 pub use module_text::module_signature;
 pub use pieces::{is_variable, spelled_at};
 pub use signature::Signature;
-pub use standard::{END_OF_NUMBERS, FIRST_CONSTANT, FIRST_KIND, standard_constant, standard_kind};
+pub use standard::{FIRST_CONSTANT, FIRST_KIND, standard_constant, standard_kind};
 pub use texts::elaborate;

@@ -15,9 +15,8 @@ use crate::entries::{AbbreviationEntry, KindEntry};
 use crate::names::{Head, Kinded, Names, kind_number};
 use crate::operators::Operators;
 use crate::signature::Signature;
-use crate::standard::END_OF_NUMBERS;
 use crate::walk::Ways;
-use lp_base::Memory;
+use lp_base::{END_OF_NUMBERS, MAX_ARGUMENTS, Memory};
 use lp_term::TypeId;
 use std::alloc::Global;
 
@@ -40,7 +39,7 @@ fn entry_of(alloc: Global, kind: &Kinded, place: usize) -> Result<KindEntry, Mem
     if number >= END_OF_NUMBERS {
         return Err(Memory);
     }
-    if kind.arity > 255 {
+    if kind.arity > MAX_ARGUMENTS as u32 {
         return Err(Memory);
     }
     let name = Vec::from_slice(alloc, kind.name.as_slice())?;
@@ -63,7 +62,7 @@ fn abbreviation_of(
     let Some(body) = body else {
         return Err(Memory);
     };
-    if head.parameters > 255 {
+    if head.parameters > MAX_ARGUMENTS {
         return Err(Memory);
     }
     let name = Vec::from_slice(alloc, head.name.as_slice())?;

@@ -10,7 +10,7 @@ use crate::see::Sight;
 use crate::signature::Signature;
 use crate::standard::{standard_constant, standard_kind};
 use indexmap::{IndexMap, IndexSet};
-use lp_base::{Limit, Memory, Spot};
+use lp_base::{Limit, MAX_ARGUMENTS, Memory, Spot};
 use lp_syntax::{Declaration, ModuleText, RawType, Sentence};
 use std::alloc::Global;
 
@@ -193,7 +193,7 @@ impl<'a> ModuleLines<'a> {
             }
             making.names.declare_kind(self.source, *name, arity)?;
         }
-        if arity > 255 {
+        if arity > MAX_ARGUMENTS as u32 {
             return Err(ModuleSigFault::Sig(SigFault::Limit(Limit::Arguments)));
         }
         Ok(())

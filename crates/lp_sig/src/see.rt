@@ -6,9 +6,9 @@ use crate::fault::SigFault;
 use crate::making::Making;
 use crate::names::Meaning;
 use crate::signature::Signature;
-use crate::standard::{END_OF_NUMBERS, FIRST_KIND};
+use crate::standard::FIRST_KIND;
 use indexmap::IndexMap;
-use lp_base::{Limit, Memory};
+use lp_base::{END_OF_NUMBERS, Limit, Memory};
 use lp_term::{Bank, TypeId, TypeNode};
 use std::alloc::Global;
 

@@ -18,9 +18,6 @@ pub const FIRST_KIND: u32 = 8;
 /// The number of the first declared constant.
 pub const FIRST_CONSTANT: u32 = 32;
 
-/// The numbers of kinds and constants are below this one.
-pub const END_OF_NUMBERS: u32 = 65535;
-
 /// The number of a standard kind, and its count of arguments.
 pub fn standard_kind(name: &[u8]) -> Option<(u32, u8)>
     ensures { result ≡ found name.now standard_kinds }

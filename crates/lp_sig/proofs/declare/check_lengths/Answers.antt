@@ -4,9 +4,9 @@ use Rattle.lp_base.specs.declared.limit.Limit.TheVariants as limit
 use Rattle.lp_base.specs.declared.place.Spot.{Spot}
 use Rattle.lp_sig.specs.Pieces.{spelled}
 use Rattle.lp_sig.specs.declared.fault.SigFault.TheVariants as fault
-use Rattle.lp_sig.proofs.Blame.{passed_up}
 use Rattle.lp_sig.proofs.Wording.{long_among}
 use Rattle.std.proofs.lemmas.List.Elements.{All-more}
+use Rattle.lp_lemmas.proofs.Results.{passed_up}
 use Rattle.lp_sig.specs.Limits.{IsShort}
 use Rattle.lp_sig.proofs.declare.check_lengths.Goals as goal
 

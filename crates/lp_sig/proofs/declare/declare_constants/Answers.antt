@@ -1,5 +1,6 @@
+use Rattle.std.proofs.lemmas.Result.{IfErr-weaker, on_ok_weaker}
+use Rattle.lp_lemmas.proofs.Results.{passed_up}
 use Rattle.lp_sig.specs.Constants.{written_in, IsTyped, IsConstantsFault}
-use Rattle.lp_sig.proofs.Blame.{passed_up, for_err, on_ok}
 use Rattle.lp_sig.proofs.Constancy.{constants_kept}
 use Rattle.lp_sig.proofs.Sentences.{ok_with}
 use Rattle.lp_sig.proofs.SoundSentences.{uses_settled}
@@ -17,7 +18,7 @@ returns-in_err-declared-clause-exact c = λ from z rows k b s kc t.
     (refused_type from c.args.source.now z rows c.args.spots.now c.args.raw.now c.in_err-declared.field-0.0 c.in_ok-check_lengths.ensures.taken (c.in_err-declared.ensures.exact z.said z.definitions k b))
 
 pub returns-clause-constants : goal.returns-clause-constants
-returns-clause-constants c = on_ok c.declare_all.result _ _ (λ h said defs rows k b kc.
+returns-clause-constants c = on_ok_weaker c.declare_all.result (λ h said defs rows k b kc.
     let w = written_in c.args.source.now c.args.raw.now in
     let now = c.scheme.new.self.types.bank in
     h said defs rows w (constants_kept c.args.bodies.now.types.bank now c.args.constants.now said defs rows c.scheme.ensures.kept kc)
@@ -27,7 +28,7 @@ pub returns-clause-exact : goal.returns-clause-exact
 returns-clause-exact c = λ from z rows k b s kc t.
     let text = c.args.source.now in
     let ty = c.args.raw.now in
-    for_err c.declare_all.result _ (IsConstantsFault from text z rows c.args.spots.now ty)
+    IfErr-weaker c.declare_all.result _ (IsConstantsFault from text z rows c.args.spots.now ty)
     (λ e f. refused_name from text z rows c.args.spots.now ty c.args.bodies.now.types.bank c.scheme.new.self.types.bank c.args.constants.now c.in_ok-declared.declared c.scheme.ensures.kept kc (c.in_ok-declared.ensures.typed z.said z.definitions k b) t e
     c.in_ok-check_lengths.ensures.taken (c.in_ok-declared.ensures.stand z.said k) c.in_ok-declared.ensures.few f) c.declare_all.ensures.why
 

@@ -1,27 +1,18 @@
-use Rattle.std.proofs.Common.{◌≡◌, ℕ, zero, suc, ◌<◌, ◌≤◌, length, refl, sym, ap, ◌∙◌, arith, inl, inr}
+use Rattle.std.proofs.Common.{◌≡◌, ℕ, ◌<◌, ◌≤◌, length, sym, ap, ◌∙◌, arith, inl, inr}
 use Rattle.std.specs.Prelude.{◌⊎◌}
 use Rattle.std.proofs.lemmas.List.{get_or_past}
+use Rattle.std.proofs.lemmas.Result.{IfOk-weaker}
+use Rattle.lp_lemmas.proofs.Numbers.{equal_or_above}
 use Rattle.lp_calculus.specs.Types.{arrow}
 use Rattle.lp_calculus.specs.Typing.{int_type, string_type}
 use Rattle.lp_term.specs.Nodes.{type_tree}
 use Rattle.lp_sig.specs.Holding.{IsTree}
 use Rattle.lp_sig.specs.Constants.{standard_tree, standard_types}
-use Rattle.lp_sig.proofs.Blame.{for_ok}
 use Rattle.lp_sig.proofs.standard.type_of_operation.Goals as goal
-
-same_or_past : (n m : ℕ) → n ≤ m → (m ≡ n) ⊎ (suc n ≤ m)
-same_or_past zero zero h = inl refl
-same_or_past zero (suc m) h = inr (omega arith)
-same_or_past (suc n) zero h = absurd (omega (arith, h))
-same_or_past (suc n) (suc m) h = deeper (same_or_past n m (omega (arith, h)))
-  where
-    deeper : (m ≡ n) ⊎ (suc n ≤ m) → (suc m ≡ suc n) ⊎ (suc (suc n) ≤ suc m)
-    deeper (inl e) = inl (ap (λ n. suc n) e)
-    deeper (inr l) = inr (omega (arith, l))
 
 -- the last of the table, and what is past it
 last : (n : ℕ) → 23 ≤ n → standard_tree n ≡ arrow string_type int_type
-last n h = by (same_or_past 23 n h)
+last n h = by (equal_or_above 23 n h)
   where
     by : (n ≡ 23) ⊎ (24 ≤ n) → standard_tree n ≡ arrow string_type int_type
     by (inl e) = ap standard_tree e
@@ -34,5 +25,5 @@ returns-clause-tree c = λ p.
     let above = c.if-number-lt23.false in
     let e : type_tree b c.args.parts.string.0 ≡ string_type = p.string.1 in
     let f : type_tree b c.args.parts.int.0 ≡ int_type = p.int.1 in
-    for_ok c.arrow-2.result (λ id. (id.0 < length now.types) × (type_tree now id.0 ≡ arrow (type_tree b c.args.parts.string.0) (type_tree b c.args.parts.int.0))) (IsTree now (λ t. t ≡ standard_tree c.args.number))
+    IfOk-weaker c.arrow-2.result (λ id. (id.0 < length now.types) × (type_tree now id.0 ≡ arrow (type_tree b c.args.parts.string.0) (type_tree b c.args.parts.int.0))) (IsTree now (λ t. t ≡ standard_tree c.args.number))
     (λ id h. (h.0, h.1 ∙ ap (λ x. arrow x (type_tree b c.args.parts.int.0)) e ∙ ap (arrow string_type) f ∙ sym (last c.args.number (omega (arith, above))))) c.arrow-2.ensures.tree

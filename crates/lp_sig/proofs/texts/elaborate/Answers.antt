@@ -1,4 +1,5 @@
 use Rattle.std.proofs.Common.{map, subst, arith, ap, ◌∙◌, []}
+use Rattle.lp_lemmas.proofs.Results.{passed_up}
 use Rattle.lp_sig.specs.Loading.{IsLoadOrder}
 use Rattle.lp_sig.specs.Walking.{IsFirstCircleFault}
 use Rattle.lp_sig.specs.Refusals.{IsRefusal, seen_in, seen_before, constants_before}
@@ -11,7 +12,7 @@ use Rattle.lp_sig.specs.Said.{numbered, kinds_among, declared_names, firsts, fix
 use Rattle.lp_sig.specs.Knowing.{KnowsOperators}
 use Rattle.lp_sig.proofs.Spoken.{steps_more, all_steps_said}
 use Rattle.lp_sig.proofs.Seeing.{knows_nothing, step_seen, all_seen}
-use Rattle.lp_sig.proofs.Blame.{passed_up, circle, step_at_fault, taken_more, all_taken, free_steps}
+use Rattle.lp_sig.proofs.Blame.{circle, step_at_fault, taken_more, all_taken, free_steps}
 use Rattle.lp_sig.proofs.texts.elaborate.Goals as goal
 
 pub returns-in_err-check_circles-clause-refused : goal.returns-in_err-check_circles-clause-refused

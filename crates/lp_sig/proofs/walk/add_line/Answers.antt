@@ -1,5 +1,5 @@
 use Rattle.std.proofs.Common.{refl}
-use Rattle.lp_sig.proofs.Blame.{on_ok}
+use Rattle.std.proofs.lemmas.Result.{on_ok_weaker}
 use Rattle.lp_sig.proofs.Naming.{no_words, its_words}
 use Rattle.lp_sig.proofs.walk.add_line.Goals as goal
 
@@ -25,4 +25,4 @@ pub returns-in-Fixities : goal.returns-in-Fixities
 returns-in-Fixities c = λ ns has. no_words ns c.args.source.now _ c.args.line.now c.args.ways.now.items c.in-Fixities.is refl
 
 pub returns-in-AccumSig : goal.returns-in-AccumSig
-returns-in-AccumSig c = on_ok c.add_ways.result _ _ (λ h ns has. its_words ns c.args.source.now c.in-AccumSig.words c.as_slice.result.now c.args.line.now c.args.ways.now.items c.add_ways.new.ways.items c.in-AccumSig.is c.as_slice.ensures.value (h ns has)) c.add_ways.ensures
+returns-in-AccumSig c = on_ok_weaker c.add_ways.result (λ h ns has. its_words ns c.args.source.now c.in-AccumSig.words c.as_slice.result.now c.args.line.now c.args.ways.now.items c.add_ways.new.ways.items c.in-AccumSig.is c.as_slice.ensures.value (h ns has)) c.add_ways.ensures

@@ -1,17 +1,18 @@
 use Rattle.std.proofs.Common.{refl, ap, ◌∙◌, map}
+use Rattle.lp_lemmas.proofs.Options.{some_from_is_some}
+use Rattle.lp_lemmas.proofs.Results.{passed_up}
 use Rattle.lp_sig.specs.Faults.{IsAbbreviationFault, a_name, circle, arguments, other, memory}
 use Rattle.lp_sig.specs.Pieces.{spelled}
 use Rattle.lp_sig.specs.Words.{parameters_of}
 use Rattle.lp_sig.specs.Abbreviations.{abbreviation_names}
 use Rattle.lp_sig.specs.Holding.{body_of}
 use Rattle.lp_sig.specs.declared.fault.SigFault.TheVariants as fault
-use Rattle.lp_sig.proofs.Blame.{passed_up}
 use Rattle.lp_sig.proofs.Heads.{place_below}
 use Rattle.lp_sig.proofs.Typing.{bodies_stay}
 use Rattle.lp_sig.proofs.Differing.{other_body}
 use Rattle.lp_sig.proofs.Alike.{same_body}
 use Rattle.lp_sig.proofs.Leading.{leads_back, never_back}
-use Rattle.lp_sig.proofs.SoundSentences.{uses_settled, value_of}
+use Rattle.lp_sig.proofs.SoundSentences.{uses_settled}
 use Rattle.lp_sig.proofs.Sentences.{abbreviation_repeated, abbreviation_word}
 use Rattle.lp_sig.proofs.bodies.Bodies.declare_abbreviation.Goals as goal
 
@@ -39,14 +40,14 @@ returns-in_err-variables-clause-why c = λ z s.
     passed_up c.from_residual-in_err-variables.result c.in_err-variables.field-0.0 (IsAbbreviationFault c.args.source.now z c.args.name c.args.parameters.now c.args.raw.now) c.from_residual-in_err-variables.ensures.1
     (abbreviation_repeated c.args.source.now z c.args.name c.args.parameters.now c.args.raw.now c.in_err-variables.field-0.0 (record { meant = c.in_ok-place.ensures.meant z.said s.known; ends = never_back z (map (λ out. out.items) c.args.uses.now.ways.items) c.args.source.now c.args.name c.args.raw.now c.in_ok-place.place c.as_slice.result.now s.uses (c.in_ok-place.ensures.place z.said s.known) (c.as_slice.ensures.value ∙ c.in_ok-words.ensures z.said s.known) (c.in_ok-lead_to.ensures.none c.if-branch.false) }) c.in_err-variables.ensures.repeated)
 
-pub returns-then-parameters-gt255-clause-why : goal.returns-then-parameters-gt255-clause-why
-returns-then-parameters-gt255-clause-why c = λ z s. arguments refl (record { meant = c.in_ok-place.ensures.meant z.said s.known; ends = never_back z (map (λ out. out.items) c.args.uses.now.ways.items) c.args.source.now c.args.name c.args.raw.now c.in_ok-place.place c.as_slice.result.now s.uses (c.in_ok-place.ensures.place z.said s.known) (c.as_slice.ensures.value ∙ c.in_ok-words.ensures z.said s.known) (c.in_ok-lead_to.ensures.none c.if-branch.false) }) c.in_ok-variables.ensures.taken c.if-parameters-gt255.true
+pub returns-then-parameters-gt-MAX_ARGUMENTS-clause-why : goal.returns-then-parameters-gt-MAX_ARGUMENTS-clause-why
+returns-then-parameters-gt-MAX_ARGUMENTS-clause-why c = λ z s. arguments refl (record { meant = c.in_ok-place.ensures.meant z.said s.known; ends = never_back z (map (λ out. out.items) c.args.uses.now.ways.items) c.args.source.now c.args.name c.args.raw.now c.in_ok-place.place c.as_slice.result.now s.uses (c.in_ok-place.ensures.place z.said s.known) (c.as_slice.ensures.value ∙ c.in_ok-words.ensures z.said s.known) (c.in_ok-lead_to.ensures.none c.if-branch.false) }) c.in_ok-variables.ensures.taken c.if-parameters-gt-MAX_ARGUMENTS.true
 
 pub returns-in_err-body-clause-why : goal.returns-in_err-body-clause-why
 returns-in_err-body-clause-why c = λ z s.
     let ps = c.args.parameters.now in
     passed_up c.from_residual-in_err-body.result c.in_err-body.field-0.0 (IsAbbreviationFault c.args.source.now z c.args.name ps c.args.raw.now) c.from_residual-in_err-body.ensures.1
-    (abbreviation_word c.args.source.now z c.args.name ps c.args.raw.now c.in_err-body.field-0.0 (record { head = (c.in_ok-place.ensures.meant z.said s.known, c.in_ok-variables.ensures.taken, c.if-parameters-gt255.false); ends = never_back z (map (λ out. out.items) c.args.uses.now.ways.items) c.args.source.now c.args.name c.args.raw.now c.in_ok-place.place c.as_slice.result.now s.uses (c.in_ok-place.ensures.place z.said s.known) (c.as_slice.ensures.value ∙ c.in_ok-words.ensures z.said s.known) (c.in_ok-lead_to.ensures.none c.if-branch.false) })
+    (abbreviation_word c.args.source.now z c.args.name ps c.args.raw.now c.in_err-body.field-0.0 (record { head = (c.in_ok-place.ensures.meant z.said s.known, c.in_ok-variables.ensures.taken, c.if-parameters-gt-MAX_ARGUMENTS.false); ends = never_back z (map (λ out. out.items) c.args.uses.now.ways.items) c.args.source.now c.args.name c.args.raw.now c.in_ok-place.place c.as_slice.result.now s.uses (c.in_ok-place.ensures.place z.said s.known) (c.as_slice.ensures.value ∙ c.in_ok-words.ensures z.said s.known) (c.in_ok-lead_to.ensures.none c.if-branch.false) })
     (c.in_err-body.ensures.first z.said (parameters_of c.args.source.now ps) s.known c.in_ok-variables.ensures.held))
 
 pub returns-then-has_other_body-clause-why : goal.returns-then-has_other_body-clause-why
@@ -54,14 +55,14 @@ returns-then-has_other_body-clause-why c = λ z s.
     let ps = c.args.parameters.now in
     let b = c.expand.new.self in
     let o = c.has_other_body.ensures.other c.if-has_other_body.true in
-    other refl (record { head = (c.in_ok-place.ensures.meant z.said s.known, c.in_ok-variables.ensures.taken, c.if-parameters-gt255.false); ends = never_back z (map (λ out. out.items) c.args.uses.now.ways.items) c.args.source.now c.args.name c.args.raw.now c.in_ok-place.place c.as_slice.result.now s.uses (c.in_ok-place.ensures.place z.said s.known) (c.as_slice.ensures.value ∙ c.in_ok-words.ensures z.said s.known) (c.in_ok-lead_to.ensures.none c.if-branch.false) }) (c.in_ok-body.ensures.stand z.said (parameters_of c.args.source.now ps) s.known c.in_ok-variables.ensures.held)
+    other refl (record { head = (c.in_ok-place.ensures.meant z.said s.known, c.in_ok-variables.ensures.taken, c.if-parameters-gt-MAX_ARGUMENTS.false); ends = never_back z (map (λ out. out.items) c.args.uses.now.ways.items) c.args.source.now c.args.name c.args.raw.now c.in_ok-place.place c.as_slice.result.now s.uses (c.in_ok-place.ensures.place z.said s.known) (c.as_slice.ensures.value ∙ c.in_ok-words.ensures z.said s.known) (c.in_ok-lead_to.ensures.none c.if-branch.false) }) (c.in_ok-body.ensures.stand z.said (parameters_of c.args.source.now ps) s.known c.in_ok-variables.ensures.held)
     (other_body b.types.bank b.bodies.items z.said z.definitions c.args.source.now c.args.name ps c.args.raw.now c.in_ok-place.place o.0 o.1 c.in_ok-body.body
     (bodies_stay c.args.self.now.types.bank b.types.bank c.args.self.now.bodies.items b.bodies.items z.said z.definitions c.expand.ensures.kept (ap (λ v. v.items) c.expand.ensures.bodies) s.holds) (c.in_ok-place.ensures.place z.said s.known) o.2 o.3
     (c.in_ok-body.ensures.body z.said z.definitions ps s.known s.holds c.in_ok-variables.ensures.numbered) o.4)
 
 pub returns-clause-stand : goal.returns-clause-stand
 returns-clause-stand c = λ z s. record {
-  straight = record { head = (c.in_ok-place.ensures.meant z.said s.known, c.in_ok-variables.ensures.taken, c.if-parameters-gt255.false); ends = never_back z (map (λ out. out.items) c.args.uses.now.ways.items) c.args.source.now c.args.name c.args.raw.now c.in_ok-place.place c.as_slice.result.now s.uses (c.in_ok-place.ensures.place z.said s.known) (c.as_slice.ensures.value ∙ c.in_ok-words.ensures z.said s.known) (c.in_ok-lead_to.ensures.none c.if-branch.false) };
+  straight = record { head = (c.in_ok-place.ensures.meant z.said s.known, c.in_ok-variables.ensures.taken, c.if-parameters-gt-MAX_ARGUMENTS.false); ends = never_back z (map (λ out. out.items) c.args.uses.now.ways.items) c.args.source.now c.args.name c.args.raw.now c.in_ok-place.place c.as_slice.result.now s.uses (c.in_ok-place.ensures.place z.said s.known) (c.as_slice.ensures.value ∙ c.in_ok-words.ensures z.said s.known) (c.in_ok-lead_to.ensures.none c.if-branch.false) };
   words = c.in_ok-body.ensures.stand z.said (parameters_of c.args.source.now c.args.parameters.now) s.known c.in_ok-variables.ensures.held;
 }
 
@@ -74,9 +75,9 @@ returns-clause-same c = λ from z s settled stands first_stands.
     let b = c.expand.new.self in
     let place = c.in_ok-place.place in
     let there = c.in_ok-place.ensures.place z.said s.known in
-    let known = value_of (body_of old.bodies.items place) (settled place (place_below (spelled text c.args.name) (abbreviation_names z.said) place there) (first_stands place there)) in
+    let known = some_from_is_some (body_of old.bodies.items place) (settled place (place_below (spelled text c.args.name) (abbreviation_names z.said) place there) (first_stands place there)) in
     let at = ap (λ v. body_of v.items place) c.expand.ensures.bodies ∙ known.1 in
-    let new = value_of c.in_ok-body.body (c.in_ok-body.ensures.settled z.said s.known (uses_settled from z old.bodies.items text ty settled stands)) in
+    let new = some_from_is_some c.in_ok-body.body (c.in_ok-body.ensures.settled z.said s.known (uses_settled from z old.bodies.items text ty settled stands)) in
     same_body b.types.bank b.bodies.items z.said z.definitions text c.args.name ps ty place known.0 new.0 c.in_ok-body.body
     (bodies_stay old.types.bank b.types.bank old.bodies.items b.bodies.items z.said z.definitions c.expand.ensures.kept (ap (λ v. v.items) c.expand.ensures.bodies) s.holds) there at new.1
     (c.in_ok-body.ensures.body z.said z.definitions ps s.known s.holds c.in_ok-variables.ensures.numbered) (c.has_other_body.ensures.same c.if-has_other_body.false known.0 new.0 at new.1)

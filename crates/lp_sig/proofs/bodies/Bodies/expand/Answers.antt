@@ -1,7 +1,8 @@
 use Rattle.std.proofs.Common.{[], ◌∷◌, refl, sym, subst, ap, ◌∙◌, ◌≡◌, get_or, length, ◌<◌, ◌+◌}
+use Rattle.lp_term.proofs.Within.{kept_then}
+use Rattle.lp_term.proofs.Trees.{extends_same}
 use Rattle.lp_sig.proofs.Wording.{finds_nothing, finds_more, finds_all, first_found, nothing_found}
 use Rattle.lp_sig.specs.Types.{IsNode, by_parameters}
-use Rattle.lp_sig.proofs.Copies.{extends_itself, extends_then}
 use Rattle.lp_sig.proofs.Typing.{nothing_done, bodies_stay, as_parameters, if_done}
 use Rattle.lp_sig.specs.Ordering.{HasNames, names_by, in_order}
 use Rattle.lp_sig.proofs.InOrder.{names_more, as_in_order}
@@ -15,7 +16,7 @@ pub loop-node-init : goal.loop-node-init
 loop-node-init c = record {
   found = λ said vs k h. finds_nothing c.args.source.now said vs;
   held = λ vs h. h;
-  kept = extends_itself c.args.self.now.types.bank;
+  kept = extends_same c.args.self.now.types.bank;
   bodies = refl;
   closed = λ ps h. h;
   count = ap length c.new-done.ensures.items;
@@ -35,7 +36,7 @@ loop-node-preserved c =
       found = λ said vs k g. finds_more c.args.source.now said vs c.args.raw.now.nodes.items c.deref-node-items.result.now i c.node-item.result c.loop-node.fault c.in_ok-found.found c.earlier-fault.result same c.loop-node-test.true c.node-item.is
           (c.loop-node.invariant.found said vs k g) (c.in_ok-found.ensures.fault said vs k (c.loop-node.invariant.held vs g)) c.earlier-fault.ensures.is;
       held = λ vs g. c.expand_node.ensures.held vs (c.loop-node.invariant.held vs g);
-      kept = extends_then c.args.self.now.types.bank c.loop-node.self.types.bank c.expand_node.new.self.types.bank c.loop-node.invariant.kept c.expand_node.ensures.kept;
+      kept = kept_then c.args.self.now.types.bank c.loop-node.self.types.bank c.expand_node.new.self.types.bank c.loop-node.invariant.kept c.expand_node.ensures.kept;
       bodies = c.expand_node.ensures.bodies ∙ c.loop-node.invariant.bodies;
       closed = λ ps g. c.expand_node.ensures.closed c.args.source.now ps (c.loop-node.invariant.closed ps g);
       count = c.in_ok-found.ensures.more ∙ ap (λ n. n + 1) c.loop-node.invariant.count;

@@ -6,7 +6,8 @@ use Rattle.lp_sig.specs.Constants.{IsSettledIf}
 use Rattle.lp_sig.specs.UseOrder.{Behind, UsesComeFirst}
 use Rattle.lp_sig.specs.declared.walk.Step.TheVariants.{Declare}
 use Rattle.std.specs.Prelude.{Contains}
-use Rattle.lp_sig.proofs.Copies.{extends_itself, extends_then}
+use Rattle.lp_term.proofs.Within.{kept_then}
+use Rattle.lp_term.proofs.Trees.{extends_same}
 use Rattle.lp_sig.proofs.Settling.{lines_stay}
 use Rattle.lp_sig.proofs.OpenBodies.{can_stay}
 use Rattle.lp_sig.proofs.InTurn.{are_good, starts, place_order, place_new, place_settled}
@@ -15,7 +16,7 @@ use Rattle.lp_sig.proofs.bodies.Bodies.settle.Goals as goal
 pub loop-place-init : goal.loop-place-init
 loop-place-init g c = record {
   lines = refl;
-  kept = extends_itself c.args.self.now.types.bank;
+  kept = extends_same c.args.self.now.types.bank;
   bodies = λ said defs k l h. h;
   settled = λ z k same count old can.
       let from = c.args.from in
@@ -26,7 +27,7 @@ loop-place-init g c = record {
 pub loop-place-preserved : goal.loop-place-preserved
 loop-place-preserved g c = record {
   lines = c.settle_all.ensures.lines ∙ c.loop-place.invariant.lines;
-  kept = extends_then c.args.self.now.types.bank c.loop-place.self.types.bank c.settle_all.new.self.types.bank c.loop-place.invariant.kept c.settle_all.ensures.kept;
+  kept = kept_then c.args.self.now.types.bank c.loop-place.self.types.bank c.settle_all.new.self.types.bank c.loop-place.invariant.kept c.settle_all.ensures.kept;
   bodies = λ said defs k l h.
       c.settle_all.ensures.bodies said defs k (lines_stay c.args.self.now.bodies.items c.loop-place.self.bodies.items said defs c.args.source.now (g.T.Lines.declared c.args.text.now) c.loop-place.invariant.lines l) (c.loop-place.invariant.bodies said defs k l h);
   settled = λ z k same count old can.
@@ -71,4 +72,4 @@ returns-in_err-settle_all-clause-bodies g c = λ said defs k l h.
     c.settle_all.ensures.bodies said defs k (lines_stay c.args.self.now.bodies.items c.loop-place.self.bodies.items said defs c.args.source.now (g.T.Lines.declared c.args.text.now) c.loop-place.invariant.lines l) (c.loop-place.invariant.bodies said defs k l h)
 
 pub returns-in_err-settle_all-clause-kept : goal.returns-in_err-settle_all-clause-kept
-returns-in_err-settle_all-clause-kept g c = extends_then c.args.self.now.types.bank c.loop-place.self.types.bank c.settle_all.new.self.types.bank c.loop-place.invariant.kept c.settle_all.ensures.kept
+returns-in_err-settle_all-clause-kept g c = kept_then c.args.self.now.types.bank c.loop-place.self.types.bank c.settle_all.new.self.types.bank c.loop-place.invariant.kept c.settle_all.ensures.kept

@@ -1,22 +1,23 @@
 use Rattle.std.proofs.Common.{refl, subst, ◌∙◌}
 use Rattle.std.specs.Prelude.{Contains}
 use Rattle.std.proofs.lemmas.List.Elements.{Contains-get_or}
+use Rattle.lp_term.proofs.Within.{kept_then}
+use Rattle.lp_term.proofs.Trees.{extends_same}
 use Rattle.lp_sig.specs.Abbreviations.{all_uses}
 use Rattle.lp_sig.specs.Standing.{BodyStands}
 use Rattle.lp_sig.specs.Constants.{IsSettledIf}
-use Rattle.lp_sig.proofs.Copies.{extends_itself, extends_then}
 use Rattle.lp_sig.proofs.Settling.{lines_stay}
 use Rattle.lp_sig.proofs.OpenBodies.{can_stay}
 use Rattle.lp_sig.proofs.InTurn.{next_first, step_settled, steps_settled}
 use Rattle.lp_sig.proofs.bodies.Bodies.settle_all.Goals as goal
 
 pub loop-step-init : goal.loop-step-init
-loop-step-init g c = record { lines = refl; kept = extends_itself c.args.self.now.types.bank; bodies = λ said defs k l h. h; settled = λ from z k can first. (first, λ k b. b) }
+loop-step-init g c = record { lines = refl; kept = extends_same c.args.self.now.types.bank; bodies = λ said defs k l h. h; settled = λ from z k can first. (first, λ k b. b) }
 
 pub loop-step-preserved : goal.loop-step-preserved
 loop-step-preserved g c = record {
   lines = c.settle_at.ensures.lines ∙ c.loop-step.invariant.lines;
-  kept = extends_then c.args.self.now.types.bank c.loop-step.self.types.bank c.settle_at.new.self.types.bank c.loop-step.invariant.kept c.settle_at.ensures.kept;
+  kept = kept_then c.args.self.now.types.bank c.loop-step.self.types.bank c.settle_at.new.self.types.bank c.loop-step.invariant.kept c.settle_at.ensures.kept;
   bodies = λ said defs k l h.
       c.settle_at.ensures.bodies said defs k (lines_stay c.args.self.now.bodies.items c.loop-step.self.bodies.items said defs c.args.source.now (g.T.Lines.declared c.args.text.now) c.loop-step.invariant.lines l) (c.loop-step.invariant.bodies said defs k l h);
   settled = λ from z k can first.
@@ -44,4 +45,4 @@ returns-in_err-settle_at-clause-bodies g c = λ said defs k l h.
     c.settle_at.ensures.bodies said defs k (lines_stay c.args.self.now.bodies.items c.loop-step.self.bodies.items said defs c.args.source.now (g.T.Lines.declared c.args.text.now) c.loop-step.invariant.lines l) (c.loop-step.invariant.bodies said defs k l h)
 
 pub returns-in_err-settle_at-clause-kept : goal.returns-in_err-settle_at-clause-kept
-returns-in_err-settle_at-clause-kept g c = extends_then c.args.self.now.types.bank c.loop-step.self.types.bank c.settle_at.new.self.types.bank c.loop-step.invariant.kept c.settle_at.ensures.kept
+returns-in_err-settle_at-clause-kept g c = kept_then c.args.self.now.types.bank c.loop-step.self.types.bank c.settle_at.new.self.types.bank c.loop-step.invariant.kept c.settle_at.ensures.kept

@@ -1,5 +1,6 @@
 use Rattle.std.proofs.Common.{◌≡◌, Some, None, false, ap, refl, ◌∙◌, sym, subst, length, map}
 use Rattle.std.specs.Prelude.{option_map, IfSome}
+use Rattle.std.proofs.lemmas.Result.{IfOk-weaker}
 use Rattle.lp_sig.specs.Pieces.{spelled, begins_variable}
 use Rattle.lp_sig.specs.Said.{a_kind}
 use Rattle.lp_sig.specs.Words.{on_count, fault_of_word, meaning_of}
@@ -9,7 +10,7 @@ use Rattle.lp_sig.specs.Types.{kind_number_of, IsTypeOf}
 use Rattle.lp_sig.specs.Holding.{given_number, HasNumber, type_done, IsTree, IfType, IsReplaced}
 use Rattle.lp_sig.specs.Knowing.{said_as, blamed}
 use Rattle.lp_sig.specs.declared.names.Meaning.TheVariants as meaning
-use Rattle.lp_sig.proofs.Blame.{for_ok, both_ok}
+use Rattle.lp_sig.proofs.Blame.{both_ok}
 use Rattle.lp_sig.proofs.Typing.{variable_made, kind_made, abbreviation_made, as_type}
 use Rattle.lp_sig.proofs.Judging.{variable_stands, variable_unknown, as_name, other_arity, same_arity}
 use Rattle.lp_sig.proofs.Settled.{no_type}
@@ -48,7 +49,7 @@ pub returns-in-Some-Abbreviation-clause-fault : goal.returns-in-Some-Abbreviatio
 returns-in-Some-Abbreviation-clause-fault c = λ said vs k h.
     let n = length c.args.arguments.now in
     let m = said_as c.args.names.now (meaning.Abbreviation c.in-Some-Abbreviation.place) in
-    for_ok c.replaced.result (λ made. blamed c.args.spot made ≡ on_count c.args.spot n m) (λ made. blamed c.args.spot made ≡ fault_of_word c.args.source.now said vs c.args.spot n)
+    IfOk-weaker c.replaced.result (λ made. blamed c.args.spot made ≡ on_count c.args.spot n m) (λ made. blamed c.args.spot made ≡ fault_of_word c.args.source.now said vs c.args.spot n)
     (λ made is. is ∙ as_name c.args.source.now said vs c.args.spot n c.spelled_at-name.result.now c.spelled_at-name.ensures (Some m) (sym c.is_variable.ensures ∙ c.if-is_variable.false)
     (ap (λ m. Some (said_as c.args.names.now m)) (sym c.in-Some-Abbreviation.field-0-is) ∙ c.in-Some-Abbreviation.ensures.means said k)) (c.replaced.ensures.counted c.args.spot)
 
@@ -74,7 +75,7 @@ returns-in-Some-Abbreviation-clause-typed c = λ said defs ν nodes i args k h a
     let m = said_as c.args.names.now (meaning.Abbreviation place) in
     let there : first_place word (abbreviation_names said) ≡ Some place = sym (c.in-Some-Abbreviation.ensures.place said k) ∙ ap (λ m. place_meant (Some m)) c.in-Some-Abbreviation.field-0-is in
     let means : Some m ≡ meaning_of word said = ap (λ m. Some (said_as c.args.names.now m)) (sym c.in-Some-Abbreviation.field-0-is) ∙ c.in-Some-Abbreviation.ensures.means said k in
-    for_ok c.replaced.result (λ made. (blamed c.args.spot made ≡ on_count c.args.spot (length c.args.arguments.now) m) × IfType made (IsReplaced b now said defs word c.args.done.now c.args.arguments.now)) (λ made. IfType made (IsTree now (IsTypeOf said defs text ν nodes i)))
+    IfOk-weaker c.replaced.result (λ made. (blamed c.args.spot made ≡ on_count c.args.spot (length c.args.arguments.now) m) × IfType made (IsReplaced b now said defs word c.args.done.now c.args.arguments.now)) (λ made. IfType made (IsTree now (IsTypeOf said defs text ν nodes i)))
     (λ made p. as_type made (IsReplaced b now said defs word c.args.done.now c.args.arguments.now) (IsTree now (IsTypeOf said defs text ν nodes i))
     (λ id is r. abbreviation_made b said defs text ν nodes c.args.done.now all now i c.args.spot args c.args.arguments.now word m _ id at same c.spelled_at-name.ensures (sym c.is_variable.ensures ∙ c.if-is_variable.false) means refl (ap (blamed c.args.spot) (sym is) ∙ p.0) r) p.1)
     (both_ok c.replaced.result (λ made. blamed c.args.spot made ≡ on_count c.args.spot (length c.args.arguments.now) m) (λ made. IfType made (IsReplaced b now said defs word c.args.done.now c.args.arguments.now)) (c.replaced.ensures.counted c.args.spot) (c.replaced.ensures.typed said defs word h there))

@@ -1,23 +1,20 @@
 use Rattle.std.proofs.Common.{inr, refl}
-use Rattle.lp_sig.proofs.Blame.{for_err, on_ok}
+use Rattle.std.proofs.lemmas.Result.{IfErr-weaker, on_ok_weaker}
 use Rattle.lp_sig.proofs.Declaring.{new_refused, new_known, new_typed, new_taken, untyped_known, untyped_typed, untyped_taken, typed_known, typed_again, typed_refused, typed_taken, missing_taken}
 use Rattle.lp_sig.proofs.constants.Constants.declare.Goals as goal
 
 pub returns-in-New-clause-why : goal.returns-in-New-clause-why
-returns-in-New-clause-why c = for_err c.add.result _ _
+returns-in-New-clause-why c = IfErr-weaker c.add.result _ _
     (λ e f. new_refused c.args.types.now.bank c.known_as.new.types.bank c.args.self.now c.spelled_at-word.result.now _ c.in_ok-known_as.field-0 c.known_as.ensures.kept c.spelled_at-word.ensures c.in_ok-known_as.ensures.is c.args.declared c.args.name e c.in-New.is f) c.add.ensures.full
 
 pub returns-in-New-clause-known : goal.returns-in-New-clause-known
-returns-in-New-clause-known c = on_ok c.add.result _ _
-    (λ h. new_known c.args.types.now.bank c.known_as.new.types.bank c.args.self.now c.spelled_at-word.result.now _ c.in_ok-known_as.field-0 c.known_as.ensures.kept c.spelled_at-word.ensures c.in_ok-known_as.ensures.is c.add.new.self c.args.declared c.in-New.is h) c.add.ensures.added
+returns-in-New-clause-known c = on_ok_weaker c.add.result (λ h. new_known c.args.types.now.bank c.known_as.new.types.bank c.args.self.now c.spelled_at-word.result.now _ c.in_ok-known_as.field-0 c.known_as.ensures.kept c.spelled_at-word.ensures c.in_ok-known_as.ensures.is c.add.new.self c.args.declared c.in-New.is h) c.add.ensures.added
 
 pub returns-in-New-clause-typed : goal.returns-in-New-clause-typed
-returns-in-New-clause-typed c = on_ok c.add.result _ _
-    (λ h. new_typed c.args.types.now.bank c.known_as.new.types.bank c.args.self.now c.spelled_at-word.result.now _ c.in_ok-known_as.field-0 c.known_as.ensures.kept c.spelled_at-word.ensures c.in_ok-known_as.ensures.is c.add.new.self c.args.declared c.in-New.is h) c.add.ensures.typed
+returns-in-New-clause-typed c = on_ok_weaker c.add.result (λ h. new_typed c.args.types.now.bank c.known_as.new.types.bank c.args.self.now c.spelled_at-word.result.now _ c.in_ok-known_as.field-0 c.known_as.ensures.kept c.spelled_at-word.ensures c.in_ok-known_as.ensures.is c.add.new.self c.args.declared c.in-New.is h) c.add.ensures.typed
 
 pub returns-in-New-clause-taken : goal.returns-in-New-clause-taken
-returns-in-New-clause-taken c = on_ok c.add.result _ _
-    (λ h from z rows w k t all some. new_taken c.args.types.now.bank c.known_as.new.types.bank c.args.self.now c.spelled_at-word.result.now _ c.in_ok-known_as.field-0 c.known_as.ensures.kept c.spelled_at-word.ensures c.in_ok-known_as.ensures.is c.args.declared c.in-New.is h from z rows w k t some) c.add.ensures.room
+returns-in-New-clause-taken c = on_ok_weaker c.add.result (λ h from z rows w k t all some. new_taken c.args.types.now.bank c.known_as.new.types.bank c.args.self.now c.spelled_at-word.result.now _ c.in_ok-known_as.field-0 c.known_as.ensures.kept c.spelled_at-word.ensures c.in_ok-known_as.ensures.is c.args.declared c.in-New.is h from z rows w k t some) c.add.ensures.room
 
 pub returns-in-Untyped-clause-known : goal.returns-in-Untyped-clause-known
 returns-in-Untyped-clause-known c = λ said defs rows w k t.

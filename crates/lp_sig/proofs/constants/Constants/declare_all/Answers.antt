@@ -1,8 +1,9 @@
 use Rattle.std.proofs.Common.{◌++◌, sym, subst, take, append-nil, take_all, []}
+use Rattle.lp_term.proofs.Within.{kept_then}
+use Rattle.lp_term.proofs.Trees.{extends_same}
+use Rattle.lp_lemmas.proofs.Results.{passed_up}
 use Rattle.lp_sig.specs.Said.{each}
 use Rattle.lp_sig.specs.Constants.{KnowsConstants, AreTypedIf, AreTakenConstants}
-use Rattle.lp_sig.proofs.Blame.{passed_up}
-use Rattle.lp_sig.proofs.Copies.{extends_itself, extends_then}
 use Rattle.lp_sig.proofs.Spoken.{each_more}
 use Rattle.lp_sig.proofs.Constancy.{typed_kept}
 use Rattle.lp_sig.proofs.TakenConstants.{taken_one_more}
@@ -11,7 +12,7 @@ use Rattle.lp_sig.proofs.constants.Constants.declare_all.Goals as goal
 
 pub loop-name-init : goal.loop-name-init
 loop-name-init c = record {
-  kept = extends_itself c.args.types.now.bank;
+  kept = extends_same c.args.types.now.bank;
   known = λ said defs rows w k t. subst (KnowsConstants c.args.types.now.bank c.args.self.now said defs) (sym (append-nil rows)) k;
   typed = λ from z rows w k t all some. subst (λ r. AreTypedIf from z r c.args.self.now) (sym (append-nil rows)) all;
   taken = λ from z rows w k t all some. tt;
@@ -26,7 +27,7 @@ loop-name-preserved c =
     let text = c.args.source.now in
     let names = c.args.names.now in
     record {
-      kept = extends_then b here c.declare.new.types.bank inv.kept c.declare.ensures.kept;
+      kept = kept_then b here c.declare.new.types.bank inv.kept c.declare.ensures.kept;
       known = λ said defs rows w k t.
           subst (KnowsConstants c.declare.new.types.bank c.declare.new.self said defs) (each_more text w names i _ rows c.loop-name-test.true)
           (c.in_ok-declare.ensures.known said defs (rows ++ each text w (take i names)) w (inv.known said defs rows w k t) (λ d e. typed_kept b here said defs w d inv.kept (t d e)));
@@ -40,7 +41,7 @@ loop-name-preserved c =
     }
 
 pub returns-in_err-declare-clause-kept : goal.returns-in_err-declare-clause-kept
-returns-in_err-declare-clause-kept c = extends_then c.args.types.now.bank c.loop-name.types.bank c.declare.new.types.bank c.loop-name.invariant.kept c.declare.ensures.kept
+returns-in_err-declare-clause-kept c = kept_then c.args.types.now.bank c.loop-name.types.bank c.declare.new.types.bank c.loop-name.invariant.kept c.declare.ensures.kept
 
 pub returns-in_err-declare-clause-why : goal.returns-in_err-declare-clause-why
 returns-in_err-declare-clause-why c =

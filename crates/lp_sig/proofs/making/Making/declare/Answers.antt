@@ -1,4 +1,5 @@
 use Rattle.std.proofs.Common.{◌≡◌, ◌<◌, ◌≤◌, ◌++◌, map, length, get_or, take, take_all, subst, sym, ap, ◌∙◌, append-nil, arith}
+use Rattle.lp_lemmas.proofs.Results.{passed_up}
 use Rattle.lp_sig.specs.Refusals.{IsFaultIn}
 use Rattle.lp_sig.specs.Said.{said_in, fixities_in}
 use Rattle.lp_sig.specs.Types.{definitions_in}
@@ -9,7 +10,7 @@ use Rattle.lp_sig.specs.Holding.{line_of_text, KnowsTypes}
 use Rattle.lp_sig.specs.Constants.{constants_in, KnowsConstants, AreTyped, AreSettledIf}
 use Rattle.lp_sig.specs.Announced.{CanBeSettled, HasUsesInside}
 use Rattle.lp_sig.specs.Loading.{HasNoCircle}
-use Rattle.lp_sig.proofs.Blame.{passed_up, line_at_fault, within_more, within_all, nothing_within, nothing_sound, sound_more, sound_all}
+use Rattle.lp_sig.proofs.Blame.{line_at_fault, within_more, within_all, nothing_within, nothing_sound, sound_more, sound_all}
 use Rattle.lp_sig.proofs.Seeing.{at_work, settled, work_stays, left_behind, bodies_left}
 use Rattle.lp_sig.proofs.Alike.{all_alike}
 use Rattle.lp_sig.proofs.AllStanding.{all_settled_bodies}

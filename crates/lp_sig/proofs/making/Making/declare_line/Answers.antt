@@ -1,12 +1,14 @@
 use Rattle.std.proofs.Common.{subst, sym, refl, ◌++◌, length}
 use Rattle.std.specs.Prelude.{IfErr, IfOk, ◌≤◌}
+use Rattle.std.proofs.lemmas.Result.{IfOk-weaker, on_ok_weaker}
+use Rattle.lp_lemmas.proofs.Results.{on_ok_always}
 use Rattle.lp_sig.specs.Limits.{IsShort, AreShort, AreApart, IsWithin}
 use Rattle.lp_sig.specs.Said.{a_kind, fixities_by}
 use Rattle.lp_sig.specs.Knowing.{KnowsOperators}
 use Rattle.lp_sig.specs.Words.{IsKindsFault, AreMeant, AreNumbered}
 use Rattle.lp_sig.specs.Faults.{IsSentenceFault, IsAbbreviationFault, IsSound, IsSoundAbbreviation, HasFirstBody}
 use Rattle.lp_sig.specs.Constants.{constants_by, KnowsConstants, AreTypedIf, IsConstantsFault}
-use Rattle.lp_sig.proofs.Blame.{always, on_ok, for_ok, both_ok}
+use Rattle.lp_sig.proofs.Blame.{both_ok}
 use Rattle.lp_sig.proofs.Constancy.{constants_kept}
 use Rattle.lp_sig.proofs.DeclaredConstants.{nothing_declared, its_constants}
 use Rattle.lp_sig.proofs.Sentences.{ok_with}
@@ -30,13 +32,13 @@ returns-in-Abbreviation-clause-taken c =
     (subst (λ ps. IfOk c.declare_abbreviation.result (λ done. IsShort c.args.source.now c.in-Abbreviation.name × AreApart c.args.source.now ps × (length ps ≤ 255))) c.as_slice-in-Abbreviation.ensures.value c.declare_abbreviation.ensures.taken)
 
 pub returns-in-Kinds-clause-operators : goal.returns-in-Kinds-clause-operators
-returns-in-Kinds-clause-operators c = always c.declare_kinds.result _ (no_fixities c.args.self.now.operators c.args.source.now c.args.declaration.now _ c.in-Kinds.is refl)
+returns-in-Kinds-clause-operators c = on_ok_always c.declare_kinds.result _ (no_fixities c.args.self.now.operators c.args.source.now c.args.declaration.now _ c.in-Kinds.is refl)
 
 pub returns-in-Constants-clause-operators : goal.returns-in-Constants-clause-operators
-returns-in-Constants-clause-operators c = always c.declare_constants.result _ (no_fixities c.args.self.now.operators c.args.source.now c.args.declaration.now _ c.in-Constants.is refl)
+returns-in-Constants-clause-operators c = on_ok_always c.declare_constants.result _ (no_fixities c.args.self.now.operators c.args.source.now c.args.declaration.now _ c.in-Constants.is refl)
 
 pub returns-in-Abbreviation-clause-operators : goal.returns-in-Abbreviation-clause-operators
-returns-in-Abbreviation-clause-operators c = always c.declare_abbreviation.result _ (λ said k. subst (λ o. KnowsOperators o (said ++ fixities_by c.args.source.now c.args.declaration.now)) (sym c.declare_abbreviation.ensures.operators) (no_fixities c.args.self.now.operators c.args.source.now c.args.declaration.now _ c.in-Abbreviation.is refl said k))
+returns-in-Abbreviation-clause-operators c = on_ok_always c.declare_abbreviation.result _ (λ said k. subst (λ o. KnowsOperators o (said ++ fixities_by c.args.source.now c.args.declaration.now)) (sym c.declare_abbreviation.ensures.operators) (no_fixities c.args.self.now.operators c.args.source.now c.args.declaration.now _ c.in-Abbreviation.is refl said k))
 
 pub returns-in-LocalKinds-clause-operators : goal.returns-in-LocalKinds-clause-operators
 returns-in-LocalKinds-clause-operators c = no_fixities c.args.self.now.operators c.args.source.now c.args.declaration.now _ c.in-LocalKinds.is refl
@@ -72,15 +74,15 @@ returns-in-Abbreviation-clause-why c = λ from z rows s settled k t.
     (subst (λ ps. IfErr c.declare_abbreviation.result (IsAbbreviationFault c.args.source.now z c.in-Abbreviation.name ps c.in-Abbreviation.raw)) c.as_slice-in-Abbreviation.ensures.value (c.declare_abbreviation.ensures.why z s))
 
 pub returns-in-Constants-clause-constants : goal.returns-in-Constants-clause-constants
-returns-in-Constants-clause-constants c = on_ok c.declare_constants.result _ _ (λ h z rows s k.
+returns-in-Constants-clause-constants c = on_ok_weaker c.declare_constants.result (λ h z rows s k.
     its_constants c.declare_constants.new.bodies.types.bank c.declare_constants.new.constants z.said z.definitions rows c.args.source.now c.args.declaration.now c.in-Constants.names c.as_slice-in-Constants.result.now c.in-Constants.raw c.in-Constants.is c.as_slice-in-Constants.ensures.value
     (h z.said z.definitions rows s.known s.holds k)) c.declare_constants.ensures.constants
 
 pub returns-in-Kinds-clause-constants : goal.returns-in-Kinds-clause-constants
-returns-in-Kinds-clause-constants c = always c.declare_kinds.result _ (λ z rows s k. nothing_declared c.args.self.now.bodies.types.bank c.args.self.now.constants z.said z.definitions rows c.args.source.now c.args.declaration.now _ c.in-Kinds.is refl k)
+returns-in-Kinds-clause-constants c = on_ok_always c.declare_kinds.result _ (λ z rows s k. nothing_declared c.args.self.now.bodies.types.bank c.args.self.now.constants z.said z.definitions rows c.args.source.now c.args.declaration.now _ c.in-Kinds.is refl k)
 
 pub returns-in-Abbreviation-clause-constants : goal.returns-in-Abbreviation-clause-constants
-returns-in-Abbreviation-clause-constants c = always c.declare_abbreviation.result _ (λ z rows s k.
+returns-in-Abbreviation-clause-constants c = on_ok_always c.declare_abbreviation.result _ (λ z rows s k.
     let old = c.args.self.now in
     let new = c.declare_abbreviation.new.self in
     let rest = nothing_declared old.bodies.types.bank old.constants z.said z.definitions rows c.args.source.now c.args.declaration.now _ c.in-Abbreviation.is refl k in
@@ -126,7 +128,7 @@ returns-in-Kinds-clause-declared c = λ from z rows s settled k t. ok_with c.dec
 
 pub returns-in-Constants-clause-declared : goal.returns-in-Constants-clause-declared
 returns-in-Constants-clause-declared c = λ from z rows s settled k t.
-    for_ok c.declare_constants.result _ _ (λ x f. its_taken from z rows c.args.source.now c.declare_constants.new.constants c.args.declaration.now c.in-Constants.names c.as_slice-in-Constants.result.now c.in-Constants.raw c.in-Constants.is c.as_slice-in-Constants.ensures.value f)
+    IfOk-weaker c.declare_constants.result _ _ (λ x f. its_taken from z rows c.args.source.now c.declare_constants.new.constants c.args.declaration.now c.in-Constants.names c.as_slice-in-Constants.result.now c.in-Constants.raw c.in-Constants.is c.as_slice-in-Constants.ensures.value f)
     (c.declare_constants.ensures.declared from z rows s.known s.holds settled k t)
 
 pub returns-in-Abbreviation-clause-declared : goal.returns-in-Abbreviation-clause-declared

@@ -1,9 +1,9 @@
 use Rattle.std.proofs.Common.{ap, refl, ◌∙◌, sym, Some}
 use Rattle.std.specs.Prelude.{option_map}
+use Rattle.lp_lemmas.proofs.Results.{passed_up}
 use Rattle.lp_sig.specs.Said.{an_abbreviation}
 use Rattle.lp_sig.specs.Words.{IsNameFault, long, other}
 use Rattle.lp_sig.specs.Knowing.{said_as}
-use Rattle.lp_sig.proofs.Blame.{passed_up}
 use Rattle.lp_sig.specs.Abbreviations.{place_meant}
 use Rattle.lp_sig.proofs.Heads.{parameters_at, has_head}
 use Rattle.lp_sig.proofs.Wording.{other_parameters, not_a_head, no_meaning}

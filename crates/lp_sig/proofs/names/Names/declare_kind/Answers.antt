@@ -1,10 +1,10 @@
 use Rattle.std.proofs.Common.{ap}
 use Rattle.lp_sig.specs.Said.{a_kind}
 use Rattle.lp_sig.specs.Words.{IsNameFault, long, other, many, number_said}
-use Rattle.lp_sig.proofs.Blame.{passed_up}
 use Rattle.lp_sig.proofs.Wording.{other_count, not_a_kind, no_meaning, so_meant}
 use Rattle.std.proofs.Common.{refl, ◌∙◌, sym, subst, Some}
 use Rattle.std.specs.Prelude.{option_map}
+use Rattle.lp_lemmas.proofs.Results.{passed_up}
 use Rattle.lp_sig.specs.Knowing.{said_as, IsNumberOf}
 use Rattle.lp_sig.proofs.Numbering.{past_end}
 use Rattle.lp_sig.proofs.names.Names.declare_kind.Goals as goal

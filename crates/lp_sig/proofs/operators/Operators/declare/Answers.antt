@@ -1,9 +1,9 @@
 use Rattle.std.proofs.Common.{◌≡◌, ◌++◌, ◌∷◌, [], ◌∙◌, sym, ap, subst, map, length, arith}
 use Rattle.std.specs.Prelude.{is_some}
 use Rattle.std.proofs.lemmas.List.{map-append, length-map}
+use Rattle.std.proofs.lemmas.Result.{on_ok_weaker}
 use Rattle.lp_sig.specs.Places.{HasPlaces}
 use Rattle.lp_sig.specs.Rows.{fixity_row}
-use Rattle.lp_sig.proofs.Blame.{on_ok}
 use Rattle.lp_sig.proofs.Knowledge.{operator_again, operator_new}
 use Rattle.lp_sig.proofs.operators.Operators.declare.Goals as goal
 
@@ -11,7 +11,7 @@ pub returns-then-is_some : goal.returns-then-is_some
 returns-then-is_some c = λ said k. operator_again c.args.self.now said (c.args.word.now, (c.args.fixity, c.args.number)) (ap is_some (sym (c.of.ensures ∙ k.places c.args.word.now)) ∙ sym c.is_some.ensures ∙ c.if-is_some.true) k
 
 pub returns : goal.returns
-returns c = on_ok c.add.result _ _ (λ h said k.
+returns c = on_ok_weaker c.add.result (λ h said k.
     let old = c.args.self.now.fixities.items in
     let word = c.args.word.now in
     let same = c.in_ok-name.ensures.items in

@@ -1,8 +1,9 @@
 use Rattle.std.proofs.Common.{◌∙◌, ◌++◌, ◌∷◌, [], ap, arith}
+use Rattle.std.proofs.lemmas.List.{nil_from_length}
 use Rattle.lp_term.specs.Nodes.{type_tree}
 use Rattle.lp_sig.specs.Schemes.{first_variables}
 use Rattle.lp_sig.proofs.Copies.{type_taken}
-use Rattle.lp_sig.proofs.Meetings.{walk_begins, next_taken, walk_ends, nothing_left}
+use Rattle.lp_sig.proofs.Meetings.{walk_begins, next_taken, walk_ends}
 use Rattle.lp_sig.proofs.store.Types.variables.Goals as goal
 
 pub types-init : goal.types-init
@@ -19,5 +20,5 @@ types-smaller c = type_taken c.args.self.now.bank c.types.work.items c.pop.new.s
 pub returns : goal.returns
 returns c =
     let all = first_variables (type_tree c.args.self.now.bank c.args.body.0) in
-    let none = nothing_left c.types.work.items (omega (arith, c.in_default.ensures.cases.0, c.types.work.ok)) in
+    let none = nil_from_length c.types.work.items (omega (arith, c.in_default.ensures.cases.0, c.types.work.ok)) in
     c.in_ok-list.ensures.items ∙ c.as_slice.ensures.keys ∙ walk_ends c.args.self.now.bank c.types.found.keys c.types.seen.keys all c.types.work.items none c.types.invariant

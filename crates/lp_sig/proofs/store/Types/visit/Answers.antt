@@ -1,10 +1,12 @@
 use Rattle.std.proofs.Common.{ap}
 use Rattle.std.specs.Prelude.{nat_eq}
+use Rattle.std.proofs.lemmas.Result.{on_ok_weaker}
+use Rattle.lp_term.proofs.Trees.{extends_same}
+use Rattle.lp_lemmas.proofs.Results.{on_ok_always}
 use Rattle.indexmap.specs.IndexMap.{get}
 use Rattle.lp_term.specs.Shapes.{type_shape}
 use Rattle.lp_sig.specs.Copying.{filled}
-use Rattle.lp_sig.proofs.Blame.{on_ok, always}
-use Rattle.lp_sig.proofs.Copies.{same_visited, con_visited, arrow_visited, one_more_copy, extends_itself}
+use Rattle.lp_sig.proofs.Copies.{same_visited, con_visited, arrow_visited, one_more_copy}
 use Rattle.lp_sig.proofs.Instances.{var_copied, param_copied}
 use Rattle.lp_sig.proofs.store.Types.visit.Goals as goal
 
@@ -13,7 +15,7 @@ returns-then-contains_key-clause-falls c = λ b x h r. same_visited b c.args.id 
 
 pub returns-in_ok-push-in-Con-clause-falls : goal.returns-in_ok-push-in-Con-clause-falls
 returns-in_ok-push-in-Con-clause-falls c =
-    on_ok c.push_visits.result _ _ (λ e b x h r. con_visited b c.args.self.now.bank c.args.id.0 (type_shape c.type_node.result) x h c.type_node.ensures.older c.type_node.ensures.tree c.args.work.now.items c.push.new.self.items c.push_visits.new.work.items c.in-Con.field-0 c.args.id c.in-Con.parts.now h (ap type_shape c.in-Con.is) c.in_ok-push-in-Con.ensures.items e r) c.push_visits.ensures
+    on_ok_weaker c.push_visits.result (λ e b x h r. con_visited b c.args.self.now.bank c.args.id.0 (type_shape c.type_node.result) x h c.type_node.ensures.older c.type_node.ensures.tree c.args.work.now.items c.push.new.self.items c.push_visits.new.work.items c.in-Con.field-0 c.args.id c.in-Con.parts.now h (ap type_shape c.in-Con.is) c.in_ok-push-in-Con.ensures.items e r) c.push_visits.ensures
 
 pub returns-in_ok-push-in-Arrow-3-clause-falls : goal.returns-in_ok-push-in-Arrow-3-clause-falls
 returns-in_ok-push-in-Arrow-3-clause-falls c = λ b x h r.
@@ -21,30 +23,30 @@ returns-in_ok-push-in-Arrow-3-clause-falls c = λ b x h r.
     c.in_ok-push-in-Arrow.ensures.items c.in_ok-push-in-Arrow-2.ensures.items c.in_ok-push-in-Arrow-3.ensures.items r
 
 pub returns-in-Var-clause-falls : goal.returns-in-Var-clause-falls
-returns-in-Var-clause-falls c = always c.keep.result _ (λ b x h r. same_visited b c.args.id c.args.work.now.items r)
+returns-in-Var-clause-falls c = on_ok_always c.keep.result _ (λ b x h r. same_visited b c.args.id c.args.work.now.items r)
 
 pub returns-in-Param-clause-falls : goal.returns-in-Param-clause-falls
-returns-in-Param-clause-falls c = always c.keep-in-Param.result _ (λ b x h r. same_visited b c.args.id c.args.work.now.items r)
+returns-in-Param-clause-falls c = on_ok_always c.keep-in-Param.result _ (λ b x h r. same_visited b c.args.id c.args.work.now.items r)
 
 pub returns-then-contains_key-clause-copies : goal.returns-then-contains_key-clause-copies
 returns-then-contains_key-clause-copies c = λ b x h all kept. kept
 
 pub returns-in_ok-push-in-Con-clause-copies : goal.returns-in_ok-push-in-Con-clause-copies
-returns-in_ok-push-in-Con-clause-copies c = always c.push_visits.result _ (λ b x h all kept. kept)
+returns-in_ok-push-in-Con-clause-copies c = on_ok_always c.push_visits.result _ (λ b x h all kept. kept)
 
 pub returns-in_ok-push-in-Arrow-3-clause-copies : goal.returns-in_ok-push-in-Arrow-3-clause-copies
 returns-in_ok-push-in-Arrow-3-clause-copies c = λ b x h all kept. kept
 
 pub returns-in-Var-clause-copies : goal.returns-in-Var-clause-copies
 returns-in-Var-clause-copies c =
-    on_ok c.keep.result _ _ (λ put b x h all kept.
+    on_ok_weaker c.keep.result (λ put b x h all kept.
     let now = c.args.self.now.bank in
     let p = var_copied b now c.args.id.0 (type_shape c.type_node.result) x h c.type_node.ensures.older c.type_node.ensures.tree c.args.args.now c.in-Var.number c.put_for.result (ap type_shape c.in-Var.is) (c.put_for.ensures.known _ h all) (c.put_for.ensures.tree b) in
-    one_more_copy b now now c.args.args.now (get nat_eq c.args.made.now) (get nat_eq c.keep.new.made) c.args.id.0 c.put_for.result.0 put (extends_itself now) kept p.0 p.1) c.keep.ensures
+    one_more_copy b now now c.args.args.now (get nat_eq c.args.made.now) (get nat_eq c.keep.new.made) c.args.id.0 c.put_for.result.0 put (extends_same now) kept p.0 p.1) c.keep.ensures
 
 pub returns-in-Param-clause-copies : goal.returns-in-Param-clause-copies
 returns-in-Param-clause-copies c =
-    on_ok c.keep-in-Param.result _ _ (λ put b x h all kept.
+    on_ok_weaker c.keep-in-Param.result (λ put b x h all kept.
     let now = c.args.self.now.bank in
     let p = param_copied b now c.args.id.0 (type_shape c.type_node.result) x h c.type_node.ensures.older c.type_node.ensures.tree (filled b c.args.args.now) c.in-Param.field-0 (ap type_shape c.in-Param.is) in
-    one_more_copy b now now c.args.args.now (get nat_eq c.args.made.now) (get nat_eq c.keep-in-Param.new.made) c.args.id.0 c.args.id.0 put (extends_itself now) kept p.0 p.1) c.keep-in-Param.ensures
+    one_more_copy b now now c.args.args.now (get nat_eq c.args.made.now) (get nat_eq c.keep-in-Param.new.made) c.args.id.0 c.args.id.0 put (extends_same now) kept p.0 p.1) c.keep-in-Param.ensures

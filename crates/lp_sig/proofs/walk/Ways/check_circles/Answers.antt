@@ -1,7 +1,7 @@
 use Rattle.std.proofs.Common.{map, arith}
+use Rattle.lp_lemmas.proofs.Results.{passed_up}
 use Rattle.lp_sig.specs.Walking.{IsFirstCircleFault}
 use Rattle.lp_sig.specs.declared.walk.Step.TheVariants.{Enter}
-use Rattle.lp_sig.proofs.Blame.{passed_up}
 use Rattle.lp_sig.proofs.Circles.{after_declare, after_enter, first_fault, all_steps}
 use Rattle.lp_sig.proofs.walk.Ways.check_circles.Goals as goal
 

@@ -1,7 +1,7 @@
 use Rattle.std.proofs.Common.{map, sym, subst, ◌++◌, ◌∷◌, [], arith, ap}
+use Rattle.std.proofs.lemmas.Result.{on_ok_weaker}
 use Rattle.lp_sig.specs.Walking.{Moves, waiting}
 use Rattle.lp_sig.specs.declared.walk.Step.TheVariants.{Enter}
-use Rattle.lp_sig.proofs.Blame.{on_ok}
 use Rattle.lp_sig.proofs.Circles.{seen_mark, new_mark}
 use Rattle.lp_sig.proofs.Order.{known, entered, less_left}
 use Rattle.lp_sig.proofs.walk.Ways.enter.Goals as goal
@@ -26,10 +26,10 @@ pub returns-clause-moves : goal.returns-clause-moves
 returns-clause-moves c =
     let ways = map (λ out. out.items) c.args.self.now.ways.items in
     let x = new_mark c.args.marks.now.items c.mark.new.marks.items c.args.at c.if-not-mark.ensures.fresh c.mark.ensures.marked in
-    on_ok c.push_named.result _ _ (λ e. entered ways c.args.marks.now.items c.mark.new.marks.items c.args.work.now.items c.push-2.new.self.items c.push_named.new.work.items c.args.steps.now.items c.push.new.self.items c.args.at x.0 x.1 c.in_ok-push.ensures.items c.in_ok-push-2.ensures.items e) c.push_named.ensures
+    on_ok_weaker c.push_named.result (λ e. entered ways c.args.marks.now.items c.mark.new.marks.items c.args.work.now.items c.push-2.new.self.items c.push_named.new.work.items c.args.steps.now.items c.push.new.self.items c.args.at x.0 x.1 c.in_ok-push.ensures.items c.in_ok-push-2.ensures.items e) c.push_named.ensures
 
 pub returns-clause-falls : goal.returns-clause-falls
 returns-clause-falls c =
     let ways = map (λ out. out.items) c.args.self.now.ways.items in
     let x = new_mark c.args.marks.now.items c.mark.new.marks.items c.args.at c.if-not-mark.ensures.fresh c.mark.ensures.marked in
-    on_ok c.push_named.result _ _ (λ e. less_left ways c.args.marks.now.items c.mark.new.marks.items c.args.at c.args.work.now.items c.push-2.new.self.items c.push_named.new.work.items x.0 x.1 c.in_ok-push-2.ensures.items e) c.push_named.ensures
+    on_ok_weaker c.push_named.result (λ e. less_left ways c.args.marks.now.items c.mark.new.marks.items c.args.at c.args.work.now.items c.push-2.new.self.items c.push_named.new.work.items x.0 x.1 c.in_ok-push-2.ensures.items e) c.push_named.ensures

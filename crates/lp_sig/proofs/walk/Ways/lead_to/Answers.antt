@@ -1,7 +1,7 @@
 use Rattle.std.proofs.Common.{◌≡◌, map, length, arith, ◌∙◌, ap, replicate, false}
-use Rattle.std.proofs.lemmas.List.{length-map}
+use Rattle.std.proofs.lemmas.List.{length-map, nil_from_length}
 use Rattle.lp_sig.proofs.Circles.{at_start, found, skipped, opened, at_end, seen_mark, new_mark}
-use Rattle.lp_sig.proofs.Order.{one_off, fewer_left, nil_of}
+use Rattle.lp_sig.proofs.Order.{one_off, fewer_left}
 use Rattle.lp_sig.proofs.walk.Ways.lead_to.Goals as goal
 
 pub places-init : goal.places-init
@@ -44,4 +44,4 @@ pub returns-clause-none : goal.returns-clause-none
 returns-clause-none c = λ e.
     let ways = map (λ out. out.items) c.args.self.now.ways.items in
     let l : length c.places.work.items ≡ 0 = omega (arith, c.in_default.ensures.cases.0, c.places.work.ok) in
-    at_end ways c.args.words.now c.args.to c.places.marks.items c.places.work.items (nil_of c.places.work.items l) c.places.invariant
+    at_end ways c.args.words.now c.args.to c.places.marks.items c.places.work.items (nil_from_length c.places.work.items l) c.places.invariant

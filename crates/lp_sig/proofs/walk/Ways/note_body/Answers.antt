@@ -1,10 +1,10 @@
 use Rattle.std.proofs.Common.{◌<◌, ◌≤◌, ◌++◌, ◌∷◌, [], ap, ◌∙◌, map, length, arith}
 use Rattle.std.proofs.lemmas.List.{length-map}
+use Rattle.std.proofs.lemmas.Result.{on_ok_weaker}
 use Rattle.lp_sig.specs.Places.{first_place}
 use Rattle.lp_sig.specs.Said.{an_abbreviation}
 use Rattle.lp_sig.specs.Pieces.{spelled}
 use Rattle.lp_sig.specs.Abbreviations.{abbreviation_names}
-use Rattle.lp_sig.proofs.Blame.{on_ok}
 use Rattle.lp_sig.proofs.Abbreviating.{no_abbreviation, old_abbreviation, new_abbreviation}
 use Rattle.lp_sig.proofs.walk.Ways.note_body.Goals as goal
 
@@ -24,7 +24,7 @@ returns-then-place-len c = λ z p more k u.
     old_abbreviation uses z n p _ u more c.abbreviation.result (c.abbreviation.ensures all k ∙ ap (λ n. first_place n (abbreviation_names all)) c.spelled_at.ensures) c.in-Some.place c.in-Some.is less
 
 pub returns : goal.returns
-returns c = on_ok c.push.result _ _ (λ e z p more k u.
+returns c = on_ok_weaker c.push.result (λ e z p more k u.
     let n = spelled c.args.source.now c.args.name in
     let all = (z.said ++ (n, an_abbreviation p) ∷ []) ++ more in
     let uses = map (λ out. out.items) c.args.self.now.ways.items in

@@ -1,5 +1,5 @@
 use Rattle.std.proofs.Common.{ap, map}
-use Rattle.lp_sig.proofs.Blame.{on_ok}
+use Rattle.std.proofs.lemmas.Result.{on_ok_weaker}
 use Rattle.lp_sig.proofs.Abbreviating.{is_quiet, quiet, abbreviation_noted}
 use Rattle.lp_sig.proofs.walk.Ways.note_line.Goals as goal
 
@@ -16,7 +16,7 @@ pub returns-in-Locals : goal.returns-in-Locals
 returns-in-Locals c = λ z more k u. quiet (map (λ out. out.items) c.args.self.now.ways.items) z _ c.args.source.now c.args.line.now (ap is_quiet c.in-Locals.is) u
 
 pub returns-in-Abbreviation : goal.returns-in-Abbreviation
-returns-in-Abbreviation c = on_ok c.note_body.result _ _ (λ f z more k u. abbreviation_noted c.args.names.now z more c.args.source.now c.args.line.now c.in-Abbreviation.name c.in-Abbreviation.field-1 c.in-Abbreviation.raw (map (λ out. out.items) c.args.self.now.ways.items) (map (λ out. out.items) c.note_body.new.self.ways.items) c.in-Abbreviation.is k u f) c.note_body.ensures
+returns-in-Abbreviation c = on_ok_weaker c.note_body.result (λ f z more k u. abbreviation_noted c.args.names.now z more c.args.source.now c.args.line.now c.in-Abbreviation.name c.in-Abbreviation.field-1 c.in-Abbreviation.raw (map (λ out. out.items) c.args.self.now.ways.items) (map (λ out. out.items) c.note_body.new.self.ways.items) c.in-Abbreviation.is k u f) c.note_body.ensures
 
 pub returns-in-Accumulate : goal.returns-in-Accumulate
 returns-in-Accumulate c = λ z more k u. quiet (map (λ out. out.items) c.args.self.now.ways.items) z _ c.args.source.now c.args.line.now (ap is_quiet c.in-Accumulate.is) u

@@ -1,7 +1,8 @@
 use Rattle.std.proofs.Common.{◌≡◌, map, sym, subst, ◌++◌, ◌∷◌, [], length, arith, ◌∙◌, ap}
+use Rattle.std.proofs.lemmas.List.{nil_from_length}
 use Rattle.lp_sig.specs.Walking.{Moves}
 use Rattle.lp_sig.specs.declared.walk.Step.TheVariants.{Enter}
-use Rattle.lp_sig.proofs.Order.{start_moves, moves_then, one_off_then, all_loaded, nil_of}
+use Rattle.lp_sig.proofs.Order.{start_moves, moves_then, one_off_then, all_loaded}
 use Rattle.lp_sig.proofs.walk.Ways.steps_from.Goals as goal
 
 pub steps-init : goal.steps-init
@@ -24,4 +25,4 @@ pub returns : goal.returns
 returns c =
     let ways = map (λ out. out.items) c.args.self.now.ways.items in
     let l : length c.steps.work.items ≡ 0 = omega (arith, c.in_default.ensures.cases.0, c.steps.work.ok) in
-    all_loaded ways c.args.marks.now.items c.steps.marks.items c.args.root c.steps.work.items c.steps.steps.items c.steps.invariant (nil_of c.steps.work.items l)
+    all_loaded ways c.args.marks.now.items c.steps.marks.items c.args.root c.steps.work.items c.steps.steps.items c.steps.invariant (nil_from_length c.steps.work.items l)
