@@ -1,4 +1,3 @@
-pub mod Keeps
 pub mod Fits
 pub mod Marks
 pub mod Reaching

@@ -2,28 +2,20 @@
 use Rattle.std.proofs.Common.{◌≡◌, ◌≢◌, ℕ, zero, suc, ◌<◌, List, [], ◌∷◌, length, get_or, refl, sym, ap, ◌∙◌, Bool, true, false, true≢false, arith, inl, inr, replicate}
 use Rattle.std.specs.Prelude.{◌⊎◌, slice_set}
 use Rattle.std.proofs.lemmas.List.{get_or-set_same, get_or-set_other}
+use Rattle.lp_lemmas.proofs.Numbers.{equal_or_not}
 use Rattle.lp_module.specs.Searching.{IsMarked, unmarked}
-
-same_or_not : (m n : ℕ) → (m ≡ n) ⊎ (m ≢ n)
-same_or_not zero zero = inl refl
-same_or_not zero (suc n) = inr (λ e. omega (arith, e))
-same_or_not (suc m) zero = inr (λ e. omega (arith, e))
-same_or_not (suc m) (suc n) = elim (same_or_not m n) [
-  | inl e ↦ inl (ap (λ i. suc i) e)
-  | inr e ↦ inr (λ f. e (omega (arith, f)))
-]
 
 pub set_marks : (marks : List Bool) (at : ℕ) → at < length marks → IsMarked (slice_set marks at true) at
 set_marks marks at h = get_or-set_same marks at true false h
 
 pub set_keeps : (marks : List Bool) (at m : ℕ) → at < length marks → IsMarked marks m → IsMarked (slice_set marks at true) m
-set_keeps marks at m h k = elim (same_or_not m at) [
+set_keeps marks at m h k = elim (equal_or_not m at) [
   | inl e ↦ ap (λ i. get_or (slice_set marks at true) i false) e ∙ set_marks marks at h
   | inr e ↦ get_or-set_other marks at m true false e ∙ k
 ]
 
 pub set_cases : (marks : List Bool) (at m : ℕ) → IsMarked (slice_set marks at true) m → IsMarked marks m ⊎ (m ≡ at)
-set_cases marks at m k = elim (same_or_not m at) [
+set_cases marks at m k = elim (equal_or_not m at) [
   | inl e ↦ inr e
   | inr e ↦ inl (sym (get_or-set_other marks at m true false e) ∙ k)
 ]

@@ -1,10 +1,10 @@
 -- From the words of the texts to ways, one after the other.
 use Rattle.std.proofs.Common.{◌≡◌, ℕ, suc, ◌+◌, ◌<◌, ◌≤◌, List, [], ◌∷◌, ◌++◌, length, drop, get_or, refl, sym, ap, subst, ◌∙◌, arith, Option, Some, None, append_assoc}
-use Rattle.std.specs.Prelude.{All, Vec, if◌then◌else◌, option_map, Bool, true, false}
+use Rattle.std.specs.Prelude.{All, Vec}
 use Rattle.std.specs.Global.{Global}
-use Rattle.std.specs.Str.{bytes_eq}
 use Rattle.std.proofs.lemmas.List.{drop_more, drop_all, append-nil, map-append}
 use Rattle.std.proofs.lemmas.List.Elements.{All-nil, All-cons, All-append}
+use Rattle.lp_sig.proofs.Heads.{place_below}
 use Rattle.lp_base.specs.declared.place.Spot.{Spot}
 use Rattle.lp_syntax.specs.declared.text.ModuleText.{ModuleText}
 use Rattle.lp_sig.specs.Pieces.{spelled}
@@ -47,27 +47,9 @@ texts_done names sources texts i old all h e = sym (ap (λ l. ways_in old ++ all
 
 -- each way leads to one of the names
 
-some_same : {X : Type 0} (x y : X) → Some x ≡ Some y → x ≡ y
-some_same x y e = ap (λ o. value_or x o) e where
-  value_or : {X : Type 0} → X → Option X → X
-  value_or x None = x
-  value_or x (Some y) = y
-
-pub place_within : (name : List ℕ) (names : List (List ℕ)) (i : ℕ) → first_place name names ≡ Some i → i < length names
-place_within name [] i e = absurd (cc)
-place_within name (n ∷ ns) i e = by (bytes_eq name n) (first_place name ns) refl (place_within name ns) e
-  where
-    by : (t : Bool) (o : Option ℕ) → first_place name ns ≡ o → ((j : ℕ) → first_place name ns ≡ Some j → j < length ns) → (if t then Some 0 else option_map (λ j. suc j) o) ≡ Some i → i < suc (length ns)
-    by true o is ih e = let z : 0 ≡ i = some_same 0 i e in omega (arith, z)
-    by false None is ih e = absurd (cc)
-    by false (Some j) is ih e =
-        let z : suc j ≡ i = some_same (suc j) i e in
-        let r : j < length ns = ih j is in
-        omega (arith, z, r)
-
 way_within : (names : List (List ℕ)) (n : ℕ) (w : Spot) (name : List ℕ) (o : Option ℕ) → length names ≡ n → first_place name names ≡ o → All (λ v. v.1 < n) (way_to w o)
 way_within names n w name None e is = All-nil (λ v. v.1 < n)
-way_within names n w name (Some i) e is = All-cons (λ v. v.1 < n) (w, i) [] (subst (λ k. i < k) e (place_within name names i is)) (All-nil (λ v. v.1 < n))
+way_within names n w name (Some i) e is = All-cons (λ v. v.1 < n) (w, i) [] (subst (λ k. i < k) e (place_below name names i is)) (All-nil (λ v. v.1 < n))
 
 ways_within : (names : List (List ℕ)) (n : ℕ) (text : List ℕ) (words : List Spot) → length names ≡ n → All (λ v. v.1 < n) (ways_of names text words)
 ways_within names n text [] e = All-nil (λ v. v.1 < n)

@@ -2,13 +2,8 @@
 use Rattle.std.proofs.Common.{◌≡◌, ℕ, suc, ◌<◌, List, [], ◌∷◌, ◌++◌, length, refl, sym, ap, subst, ◌∙◌, zero, get_or, arith, inl, inr}
 use Rattle.std.specs.Prelude.{◌⊎◌, All, Contains}
 use Rattle.std.proofs.lemmas.List.Elements.{All-nil, All-cons, All-map, All-contains, Contains-append_left, Contains-push, Contains-push_cases, Contains-get_or}
+use Rattle.lp_lemmas.proofs.Elements.{Contains_head, Contains_tail}
 use Rattle.lp_module.specs.Order.{Way, out_of, used_by, Leads, there, onward, HasNoCircle, Visits, visited, again, first_time, Ordered, no_module, one_more}
-
-in_front : {X : Type 0} (x : X) (xs : List X) → Contains (x ∷ xs) x
-in_front x xs = (0, omega arith, refl)
-
-further_on : {X : Type 0} (x y : X) (xs : List X) → Contains xs y → Contains (x ∷ xs) y
-further_on x y xs (k, h, e) = (suc k, omega (arith, h), e)
 
 -- what a walk does to what was visited before
 record Walked (ways : List (List Way)) (before rest after : List ℕ) : Type 0 where
@@ -27,7 +22,7 @@ entered ways before between rest after m free new first then_rest = record {
   where
     from_first : (x : ℕ) → Contains before x ⊎ ((r : ℕ) × Contains (used_by ways m) r × Leads ways r x) → Contains before x ⊎ ((r : ℕ) × Contains (m ∷ rest) r × Leads ways r x)
     from_first x (inl c) = inl c
-    from_first x (inr (r, u, l)) = inr (m, in_front m rest, onward m r x u l)
+    from_first x (inr (r, u, l)) = inr (m, Contains_head m rest, onward m r x u l)
 
     not_met : Contains before m ⊎ ((r : ℕ) × Contains (used_by ways m) r × Leads ways r m) → ⊥
     not_met (inl c) = new c
@@ -38,11 +33,11 @@ entered ways before between rest after m free new first then_rest = record {
 
     from_between : (x : ℕ) → Contains between x ⊎ (m ≡ x) → Contains before x ⊎ ((r : ℕ) × Contains (m ∷ rest) r × Leads ways r x)
     from_between x (inl c) = from_first x (first.reached x c)
-    from_between x (inr e) = inr (m, in_front m rest, subst (Leads ways m) e (there m))
+    from_between x (inr e) = inr (m, Contains_head m rest, subst (Leads ways m) e (there m))
 
     from_second : (x : ℕ) → Contains (between ++ m ∷ []) x ⊎ ((r : ℕ) × Contains rest r × Leads ways r x) → Contains before x ⊎ ((r : ℕ) × Contains (m ∷ rest) r × Leads ways r x)
     from_second x (inl c) = from_between x (Contains-push_cases between m x c)
-    from_second x (inr (r, d, l)) = inr (r, further_on m r rest d, l)
+    from_second x (inr (r, d, l)) = inr (r, Contains_tail m r rest d, l)
 
 walked : (ways : List (List Way)) (before rest after : List ℕ) → HasNoCircle ways → Visits ways before rest after → Ordered ways before → Walked ways before rest after
 walked ways before rest after free (visited b) o = record { ordered = o; taken = All-nil (Contains before); kept = λ x c. c; reached = λ x c. inl c }
@@ -52,7 +47,7 @@ walked ways before rest after free (again b r a m c v) o =
       ordered = w.ordered;
       taken = All-cons (Contains after) m r (w.kept m c) w.taken;
       kept = w.kept;
-      reached = λ x d. elim (w.reached x d) [ inl e ↦ inl e | inr (k, i, l) ↦ inr (k, further_on m k r i, l) ];
+      reached = λ x d. elim (w.reached x d) [ inl e ↦ inl e | inr (k, i, l) ↦ inr (k, Contains_tail m k r i, l) ];
     }
 walked ways before rest after free (first_time b t r a m new v w) o =
     entered ways before t r after m free new (walked ways before (used_by ways m) t free v o) (λ p. walked ways (t ++ m ∷ []) r after free w p)

@@ -1,8 +1,9 @@
 -- The sentences of a text that are no declarations, and which of them is to blame.
-use Rattle.std.proofs.Common.{◌≡◌, ℕ, zero, suc, ◌+◌, ◌<◌, ◌≤◌, List, [], ◌∷◌, ◌++◌, length, map, drop, get_or, refl, sym, ap, subst, ◌∙◌, arith, inl, inr, Result, Ok, Err, append_assoc}
-use Rattle.std.specs.Prelude.{◌⊎◌, Contains, IfErr}
+use Rattle.std.proofs.Common.{◌≡◌, ℕ, zero, suc, ◌+◌, ◌<◌, ◌≤◌, List, [], ◌∷◌, ◌++◌, length, map, drop, get_or, sym, ap, subst, ◌∙◌, arith, inl, inr, append_assoc}
+use Rattle.std.specs.Prelude.{◌⊎◌, Contains}
 use Rattle.std.specs.List.{range_with_len}
 use Rattle.std.proofs.lemmas.List.{drop_more, drop_all, append-nil, length-map, get_or-map, map-append}
+use Rattle.lp_lemmas.proofs.Elements.{Contains_head, Contains_tail}
 use Rattle.lp_base.specs.declared.place.Spot.{Spot}
 use Rattle.lp_calculus.specs.Term.{Term}
 use Rattle.lp_syntax.specs.declared.text.ModuleText.{ModuleText}
@@ -16,26 +17,20 @@ use Rattle.lp_module.specs.declared.fault.ModuleFault.{ModuleFault}
 use Rattle.lp_module.specs.declared.fault.ModuleFault.TheVariants as fault
 use Rattle.lp_module.specs.declared.sentences.TypedSentence.{TypedSentence}
 
-at_head : {X : Type 0} (x : X) (xs : List X) → Contains (x ∷ xs) x
-at_head x xs = (0, omega arith, refl)
-
-behind : {X : Type 0} (x y : X) (xs : List X) → Contains xs y → Contains (x ∷ xs) y
-behind x y xs (k, h, e) = (suc k, omega (arith, h), e)
-
 -- what is said is a sentence
 said_in : (lines : List Sentence) (raw : RawTerm) → Contains (said lines) raw → Contains lines (Says raw)
 said_in [] raw (k, h, e) = absurd (omega (arith, h))
-said_in (Declares d ∷ ls) raw c = behind (Declares d) (Says raw) ls (said_in ls raw c)
-said_in (Says x ∷ ls) raw (zero, h, e) = subst (λ y. Contains (Says x ∷ ls) (Says y)) e (at_head (Says x) ls)
-said_in (Says x ∷ ls) raw (suc k, h, e) = behind (Says x) (Says raw) ls (said_in ls raw (k, omega (arith, h), e))
+said_in (Declares d ∷ ls) raw c = Contains_tail (Declares d) (Says raw) ls (said_in ls raw c)
+said_in (Says x ∷ ls) raw (zero, h, e) = subst (λ y. Contains (Says x ∷ ls) (Says y)) e (Contains_head (Says x) ls)
+said_in (Says x ∷ ls) raw (suc k, h, e) = Contains_tail (Says x) (Says raw) ls (said_in ls raw (k, omega (arith, h), e))
 
 -- an element of a list of values comes from an element
 picked : {A B : Type 0} (g : A → B) (xs : List A) (i : ℕ) (b : B) → i < length (map g xs) → get_or (map g xs) i b ≡ b → (x : A) × Contains xs x × (b ≡ g x)
 picked g [] i b h e = absurd (omega (arith, h))
-picked g (x ∷ xs) zero b h e = (x, at_head x xs, sym e)
+picked g (x ∷ xs) zero b h e = (x, Contains_head x xs, sym e)
 picked g (x ∷ xs) (suc i) b h e =
     let (y, c, is) = picked g xs i b (omega (arith, h)) e in
-    (y, behind x y xs c, is)
+    (y, Contains_tail x y xs c, is)
 
 -- the sentence of a typed one
 pub said_at : (lines : List Sentence) (typed : List TypedSentence) (i : ℕ) (t : TypedSentence) → AreSaid lines typed → i < length typed → t ≡ get_or typed i t → (raw : RawTerm) × Contains lines (Says raw) × (t.first ≡ raw.first)
@@ -75,11 +70,6 @@ said_all lines typed i h e = sym (ap (λ l. map (λ t. t.first) typed ++ firsts 
 -- as many clauses as sentences that are clauses
 pub as_many : (lines : List Sentence) (typed : List TypedSentence) → AreSaid lines typed → length typed ≡ length (said lines)
 as_many lines typed same = sym (length-map typed (λ t. t.first)) ∙ ap length same ∙ length-map (said lines) (λ r. r.first)
-
--- a refusal that is another, as one of two
-pub for_err : {T E : Type 0} (r : Result T E) (P Q : E → Type 0) → ((e : E) → P e → Q e) → IfErr r P → IfErr r Q
-for_err (Ok x) P Q f h = tt
-for_err (Err e) P Q f h = f e h
 
 -- one more number
 range_last : (a n : ℕ) → range_with_len a (suc n) ≡ range_with_len a n ++ (a + n) ∷ []

@@ -5,11 +5,11 @@ use Rattle.std.specs.Global.{Global}
 use Rattle.std.proofs.lemmas.List.{drop_more, drop_all, take_all, append-nil, length-map, map-append, map_more, get_or-map, reverse-append}
 use Rattle.std.proofs.lemmas.List.Sums.{sum_by-drop_more, sum_by_push}
 use Rattle.std.proofs.lemmas.List.Elements.{All-nil, All-cons, All-append}
+use Rattle.lp_sig.proofs.Heads.{place_below}
 use Rattle.lp_sig.specs.Places.{first_place}
 use Rattle.lp_module.specs.Copies.{Copies, no_copy, copy, number_list, numbers_of, names_of, uses_of}
 use Rattle.lp_module.specs.Trees.{lists_in}
 use Rattle.lp_module.specs.declared.module.Module.{Module}
-use Rattle.lp_module.proofs.Naming.{place_within}
 
 -- one more name
 pub number_more : (names : List (List ℕ)) (us : List (Vec ℕ Global)) (i : ℕ) (u : Vec ℕ Global) (m : ℕ) (old new all : List ℕ) → i < length us → u ≡ get_or us i u → Some m ≡ first_place u.items names → new ≡ old ++ m ∷ [] →
@@ -40,7 +40,7 @@ modules_done modules i uses h e = e ∙ ap (map (λ m. numbers_of (names_of modu
 -- each use is a module
 number_within : (names : List (List ℕ)) (n : ℕ) (u : List ℕ) (o : Option ℕ) → length names ≡ n → first_place u names ≡ o → All (λ m. m < n) (number_list o)
 number_within names n u None e is = All-nil (λ m. m < n)
-number_within names n u (Some m) e is = All-cons (λ m. m < n) m [] (subst (λ k. m < k) e (place_within u names m is)) (All-nil (λ m. m < n))
+number_within names n u (Some m) e is = All-cons (λ m. m < n) m [] (subst (λ k. m < k) e (place_below u names m is)) (All-nil (λ m. m < n))
 
 numbers_within : (names : List (List ℕ)) (n : ℕ) (us : List (List ℕ)) → length names ≡ n → All (λ m. m < n) (numbers_of names us)
 numbers_within names n [] e = All-nil (λ m. m < n)

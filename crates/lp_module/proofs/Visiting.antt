@@ -4,6 +4,7 @@ use Rattle.std.specs.Prelude.{◌⊎◌, slice_set, Contains, Vec}
 use Rattle.std.specs.Global.{Global}
 use Rattle.std.proofs.lemmas.List.{drop_more, drop_all, length-set, length-replicate, length-map, get_or-map, reverse-append}
 use Rattle.std.proofs.lemmas.List.Elements.{Contains-append_left, Contains-push, Contains-push_cases, Contains-get_or}
+use Rattle.lp_lemmas.proofs.Elements.{Contains_head, Contains_tail}
 use Rattle.lp_module.specs.Order.{Way, out_of, used_by, Leads, there, HasNoCircle, Visits, visited, again, first_time}
 use Rattle.lp_module.specs.Searching.{IsMarked, Frame, IsPath, Rest, load, open_load, Goes, ways_in, AreWithin}
 use Rattle.lp_module.proofs.Marks.{set_marks, set_keeps, set_cases, none_marked}
@@ -11,12 +12,6 @@ use Rattle.lp_module.proofs.Reaching.{leads_on, out_is, count_is, words_within}
 
 nothing_in : {X : Type 0} (x : X) → Contains [] x → ⊥
 nothing_in x (k, h, e) = omega (arith, h)
-
-first_in : {X : Type 0} (x : X) (xs : List X) → Contains (x ∷ xs) x
-first_in x xs = (0, omega arith, refl)
-
-later_in : {X : Type 0} (x y : X) (xs : List X) → Contains xs y → Contains (x ∷ xs) y
-later_in x y xs (k, h, e) = (suc k, omega (arith, h), e)
 
 first_or_later : {X : Type 0} (x y : X) (xs : List X) → Contains (x ∷ xs) y → (x ≡ y) ⊎ Contains xs y
 first_or_later x y xs (zero, h, e) = inl e
@@ -56,7 +51,7 @@ begins ways root marks h e = record {
   placed = λ m c. absurd (nothing_in m c);
   known = λ m k. inr (elim (set_cases marks root m k) [
     | inl old ↦ absurd (none_marked (length ways) m (subst (λ l. IsMarked l m) e old))
-    | inr is ↦ subst (λ x. Contains (root ∷ []) x) (sym is) (first_in root [])
+    | inr is ↦ subst (λ x. Contains (root ∷ []) x) (sym is) (Contains_head root [])
   ]);
   path = tt;
   rest = λ after (between, v, is). first_time [] between [] after root (nothing_in root) v (subst (Visits ways (between ++ root ∷ []) []) is (visited (between ++ root ∷ [])));
@@ -120,8 +115,8 @@ enters ways root seen order at next fs d h within new g = record {
     not_yet c = true≢false (sym (g.placed to c) ∙ new)
 
     by : (m : ℕ) → IsMarked seen m ⊎ (m ≡ to) → Contains order m ⊎ Contains (to ∷ at ∷ map (λ f. f.0) fs) m
-    by m (inr e) = inr (subst (Contains (to ∷ at ∷ map (λ f. f.0) fs)) (sym e) (first_in to (at ∷ map (λ f. f.0) fs)))
-    by m (inl k) = elim (g.known m k) [ inl c ↦ inl c | inr c ↦ inr (later_in to m (at ∷ map (λ f. f.0) fs) c) ]
+    by m (inr e) = inr (subst (Contains (to ∷ at ∷ map (λ f. f.0) fs)) (sym e) (Contains_head to (at ∷ map (λ f. f.0) fs)))
+    by m (inl k) = elim (g.known m k) [ inl c ↦ inl c | inr c ↦ inr (Contains_tail to m (at ∷ map (λ f. f.0) fs) c) ]
 
 -- the innermost is left
 leaves_to : (ways : List (List Way)) (order order_then : List ℕ) (at next : ℕ) (fs : List Frame) (after : List ℕ) → length (out_of ways at) ≤ next → order_then ≡ order ++ at ∷ [] → Rest ways order_then fs after → Rest ways order ((at, next) ∷ fs) after
@@ -132,7 +127,7 @@ pub leaves : (ways : List (List Way)) (root : ℕ) (seen : List Bool) (order ord
 leaves ways root seen order order_then at next f fs h is g = record {
   count = g.count;
   within = g.path.0;
-  opened = λ m c. g.opened m (later_in at m (f.0 ∷ map (λ x. x.0) fs) c);
+  opened = λ m c. g.opened m (Contains_tail at m (f.0 ∷ map (λ x. x.0) fs) c);
   placed = λ m c. in_order m (Contains-push_cases order at m (subst (λ o. Contains o m) is c));
   known = λ m k. by m (g.known m k);
   path = g.path.2;
@@ -140,7 +135,7 @@ leaves ways root seen order order_then at next f fs h is g = record {
 }
   where
     at_marked : IsMarked seen at
-    at_marked = g.opened at (first_in at (f.0 ∷ map (λ x. x.0) fs))
+    at_marked = g.opened at (Contains_head at (f.0 ∷ map (λ x. x.0) fs))
 
     in_order : (m : ℕ) → Contains order m ⊎ (at ≡ m) → IsMarked seen m
     in_order m (inl c) = g.placed m c
@@ -233,10 +228,6 @@ meets outs root seen seen_then order order_then at at_then next next_then around
   where
     words : out.items ≡ out_of (ways_in outs) at
     words = out_is outs at out (subst (λ k. at < k) (count_is outs) g.within) out_at
-
-pub no_more : {X : Type 0} (xs : List X) → length xs ≡ 0 → xs ≡ []
-no_more [] e = refl
-no_more (x ∷ xs) e = absurd (omega (arith, e))
 
 left_count : (outs : List (Vec Way Global)) (at next : ℕ) (out : Vec Way Global) → at < length (ways_in outs) → out ≡ get_or outs at out → length out.items ≤ next → length (out_of (ways_in outs) at) ≤ next
 left_count outs at next out h out_at past = subst (λ l. length l ≤ next) (out_is outs at out (subst (λ k. at < k) (count_is outs) h) out_at) past

@@ -1,5 +1,6 @@
 -- How many arguments the heads of a term as written have.
 use Rattle.std.specs.Prelude.{ℕ, ◌+◌, ◌<◌, List, [], ◌∷◌, ◌++◌, get_or, Contains}
+use Rattle.lp_base.specs.declared.limits.TheConstants.{MAX_ARGUMENTS}
 use Rattle.lp_syntax.specs.declared.text.RawNode.{RawNode}
 use Rattle.lp_syntax.specs.declared.text.RawNode.TheVariants.{Name, Known, Number, Text, App, Abs}
 use Rattle.lp_syntax.specs.declared.text.RawTerm.{RawTerm}
@@ -20,4 +21,4 @@ counts_behind before (n ∷ ns) = counts_behind (before ++ own_count before n �
 
 -- some head has more than 255
 abbrev pub HasManyArguments : RawTerm → Type 0
-HasManyArguments raw = (k : ℕ) × Contains (counts_behind [] raw.nodes.items) k × (255 < k)
+HasManyArguments raw = (k : ℕ) × Contains (counts_behind [] raw.nodes.items) k × (MAX_ARGUMENTS < k)

@@ -1,5 +1,6 @@
 -- The tree of copies: below each copy stands one for each entry of its accumulate list, in order, a repeated entry giving a further copy.
 use Rattle.std.specs.Prelude.{◌≡◌, ℕ, ◌+◌, ◌-◌, ◌<◌, ◌≤◌, ◌⊎◌, List, [], ◌∷◌, ◌++◌, map, length, drop, get_or, sum_by, All, Option, Some, None}
+use Rattle.lp_base.specs.declared.limits.TheConstants.{END_OF_NUMBERS, MAX_COPIES}
 use Rattle.lp_base.specs.declared.limit.Limit.TheVariants as limit
 use Rattle.lp_sig.specs.Places.{first_place}
 use Rattle.lp_module.specs.declared.fault.ModuleFault.{ModuleFault}
@@ -49,14 +50,14 @@ RestOfCopies uses left (f ∷ fs) all = (below : List ℕ) × Copies uses (drop 
 
 pub record Copying (uses : List (List ℕ)) (root : ℕ) (left : List ℕ) (entered : ℕ) (frames : List (ℕ × ℕ)) : Type 0 where
   pub count : entered ≡ length left + length frames
-  pub few : entered ≤ 4096
+  pub few : entered ≤ MAX_COPIES
   pub within : All (λ f. f.0 < length uses) frames
   pub only : (all : List ℕ) → RestOfCopies uses left frames all → Copies uses (root ∷ []) all
   pub each : (all : List ℕ) → Copies uses (root ∷ []) all → RestOfCopies uses left frames all
 
 -- why there are not so many copies
 abbrev pub IsTooMany : List (List ℕ) → ℕ → ModuleFault → Type 0
-IsTooMany uses root (fault.Limit limit.Copies) = (all : List ℕ) → Copies uses (root ∷ []) all → 4096 < length all
+IsTooMany uses root (fault.Limit limit.Copies) = (all : List ℕ) → Copies uses (root ∷ []) all → MAX_COPIES < length all
 IsTooMany uses root fault.Memory = Unit {0}
 IsTooMany uses root _ = ⊥
 
@@ -65,7 +66,7 @@ counts_of m = length m.clauses.items
 
 -- why there is no program
 abbrev pub IsProgramRefusal : List Module → ℕ → ModuleFault → Type 0
-IsProgramRefusal modules root (fault.Limit limit.Copies) = (all : List ℕ) → IsOrder modules root all → 4096 < length all
-IsProgramRefusal modules root (fault.Limit limit.Names) = (all : List ℕ) → IsOrder modules root all → (65535 < kinds_end modules root all) ⊎ (65535 < constants_end modules root all)
+IsProgramRefusal modules root (fault.Limit limit.Copies) = (all : List ℕ) → IsOrder modules root all → MAX_COPIES < length all
+IsProgramRefusal modules root (fault.Limit limit.Names) = (all : List ℕ) → IsOrder modules root all → (END_OF_NUMBERS < kinds_end modules root all) ⊎ (END_OF_NUMBERS < constants_end modules root all)
 IsProgramRefusal modules root fault.Memory = Unit {0}
 IsProgramRefusal modules root _ = ⊥

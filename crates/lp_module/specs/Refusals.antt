@@ -1,5 +1,6 @@
 -- Why modules and queries are refused, and at which spots.
 use Rattle.std.specs.Prelude.{◌≡◌, ◌≢◌, ℕ, ◌⊎◌, ◌≤◌, List, Contains}
+use Rattle.lp_base.specs.declared.limits.TheConstants.{MAX_CONTRACTIONS, MAX_NODES}
 use Rattle.lp_base.specs.declared.limit.Limit.{Limit}
 use Rattle.lp_base.specs.declared.limit.Limit.TheVariants as limit
 use Rattle.lp_base.specs.declared.place.Spot.{Spot}
@@ -33,11 +34,11 @@ IsOrderRefusal ways _ = ⊥
 
 -- the limit on normal forms: a formula takes more than 1,000,000 contractions, or its form has more nodes
 abbrev pub IsLong : Term → Type 0
-IsLong formula = (most : ℕ) × IsDeepBeta 1000000 1000000 formula (Deep most)
+IsLong formula = (most : ℕ) × IsDeepBeta MAX_CONTRACTIONS MAX_NODES formula (Deep most)
 
 -- a formula has a normal form within the limit
 abbrev pub IsShort : Term → Type 0
-IsShort formula = (form : Term) × IsBetaForm 1000000 formula form × (nodes form ≤ 1000000)
+IsShort formula = (form : Term) × IsBetaForm MAX_CONTRACTIONS formula form × (nodes form ≤ MAX_NODES)
 
 -- the limits on the normal form of a sentence or query
 abbrev pub IsFormLimit : Term → Limit → Type 0

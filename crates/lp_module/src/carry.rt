@@ -129,7 +129,7 @@ impl Types {
     }
 
     // Looks at a type that was not put yet; its parts come first.
-    #[tactic(auto, using(crate::proofs::Keeps::kept_then))]
+    #[tactic(auto, using(lp_term::proofs::Within::kept_then))]
     fn visit(
         &mut self,
         from: &Bank,
@@ -165,7 +165,7 @@ impl Types {
     }
 
     // Puts a type whose parts were put.
-    #[tactic(auto, using(crate::proofs::Keeps::kept_then))]
+    #[tactic(auto, using(lp_term::proofs::Within::kept_then))]
     fn build(
         &mut self,
         from: &Bank,
@@ -197,7 +197,7 @@ impl Types {
     }
 
     /// The type with its kinds renumbered.
-    #[tactic(auto, using(crate::proofs::Keeps::kept_then))]
+    #[tactic(auto, using(lp_term::proofs::Within::kept_then))]
     pub(crate) fn carry(
         &mut self,
         from: &Bank,
@@ -219,7 +219,7 @@ impl Types {
         Err(Memory)
     }
 
-    #[tactic(auto, using(crate::proofs::Keeps::kept_then))]
+    #[tactic(auto, using(lp_term::proofs::Within::kept_then))]
     fn carry_all(
         &mut self,
         from: &Bank,
@@ -255,7 +255,7 @@ fn made_terms(alloc: Global, made: &[TermId], ids: &[TermId]) -> Result<Vec<Term
 }
 
 // A term whose parts were put.
-#[tactic(auto, using(crate::proofs::Keeps::kept_then))]
+#[tactic(auto, using(lp_term::proofs::Within::kept_then))]
 fn carry_term(
     alloc: Global,
     from: &Bank,
@@ -291,7 +291,7 @@ fn carry_term(
 }
 
 /// The terms of a bank, in order, with their kinds and constants renumbered.
-#[tactic(auto, using(crate::proofs::Keeps::kept_then))]
+#[tactic(auto, using(lp_term::proofs::Within::kept_then))]
 pub(crate) fn carry_terms(
     alloc: Global,
     from: &Bank,

@@ -1,6 +1,7 @@
 // The program of a set of modules.
 ghost use Rattle.std.specs.Prelude.{◌≡◌, ℕ, ◌+◌, ◌<◌, ◌≤◌, ◌++◌, List, [], ◌∷◌, length, map, All, IfErr, IfOk, OnOk, if◌then◌else◌};
 ghost use Rattle.std.specs.Str.{bytes_eq};
+ghost use Rattle.lp_base.specs.declared.limits.TheConstants.{END_OF_NUMBERS, MAX_COPIES};
 ghost use Rattle.lp_module.specs.Copies.{Copies, IsOrder, IsTooMany, IsProgramRefusal, counts_of, total, kinds_end, constants_end};
 ghost use Rattle.lp_module.specs.Making.{IsSoFar, IsMade, MakesNames, clauses_of};
 ghost use Rattle.lp_module.specs.Numbering.{AreNumbered, count_in, following};
@@ -370,7 +371,7 @@ pub fn assemble(alloc: Global, modules: &[Module], root: u32) -> Result<Assemble
     ensures constants { IfOk result (λ a. length a.program.constants.items ≡ length a.constants.items) }
     ensures hidden_kinds { IfOk result (λ a. AreNumbered a.kinds.items) }
     ensures hidden_constants { IfOk result (λ a. AreNumbered a.constants.items) }
-    ensures copies { IfOk result (λ a. (order : List ℕ) × IsOrder modules.now root order × (length order ≤ 4096) × (kinds_end modules.now root order ≤ 65535) × (constants_end modules.now root order ≤ 65535) × (length a.program.clauses.items ≡ total counts_of modules.now order)) }
+    ensures copies { IfOk result (λ a. (order : List ℕ) × IsOrder modules.now root order × (length order ≤ MAX_COPIES) × (kinds_end modules.now root order ≤ END_OF_NUMBERS) × (constants_end modules.now root order ≤ END_OF_NUMBERS) × (length a.program.clauses.items ≡ total counts_of modules.now order)) }
     ensures refused { IfErr result (IsProgramRefusal modules.now root) }
 {
     let root = root as usize;

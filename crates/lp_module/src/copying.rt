@@ -1,14 +1,12 @@
 // The copies of the modules that the root accumulates, one behind the other.
 ghost use Rattle.std.specs.Prelude.{◌≡◌, ◌+◌, ◌<◌, ◌++◌, [], ◌∷◌, length, All, IfOk, IfErr, OnOk};
+ghost use Rattle.lp_base.specs.declared.limits.TheConstants.{MAX_COPIES};
 ghost use Rattle.lp_module.specs.Copies.{IsTooMany};
 ghost use Rattle.lp_module.specs.Trees.{lists_in, frames_of, IsCopying, Turns};
 
 use crate::fault::ModuleFault;
-use lp_base::{Limit, Memory};
+use lp_base::{Limit, MAX_COPIES, Memory};
 use std::alloc::Global;
-
-// The greatest number of copies.
-const COPIES: usize = 4096;
 
 /// What came: a copy of a module was entered, or one was left, or the last.
 #[derive(Clone, Copy)]
@@ -51,7 +49,7 @@ impl Copying {
     // Enters a copy of a module.
     fn enter(&mut self, to: usize) -> Result<(), Memory>
         requires next { self.old.next + 1 < 18446744073709551616 }
-        requires entered { self.old.entered < 4096 }
+        requires entered { self.old.entered < MAX_COPIES }
         ensures { OnOk result ((self.new.root ≡ self.old.root) × (self.new.left.items ≡ self.old.left.items) × (self.new.entered ≡ self.old.entered + 1) × (self.new.around.items ≡ self.old.around.items ++ (self.old.at, self.old.next + 1) ∷ []) × (self.new.at ≡ to) × (self.new.next ≡ 0)) }
     {
         self.around.push((self.at, self.next + 1))?;
@@ -71,7 +69,7 @@ impl Copying {
         let out = &uses[self.at];
         if self.next < out.len() {
             let to = out[self.next];
-            if self.entered >= COPIES {
+            if self.entered >= MAX_COPIES {
                 return Err(ModuleFault::Limit(Limit::Copies));
             }
             self.enter(to)?;

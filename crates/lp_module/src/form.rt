@@ -1,6 +1,7 @@
 // The form of clauses and queries, and the limits on their normal forms.
 ghost use Rattle.std.specs.Prelude.{◌<◌, ◌≤◌, length, IfOk, IfErr, OnOk};
 ghost use Rattle.lp_base.specs.declared.place.Spot.{Spot};
+ghost use Rattle.lp_base.specs.declared.limits.TheConstants.{MAX_ARGUMENTS};
 ghost use Rattle.lp_term.specs.Nodes.{Extends, tree};
 ghost use Rattle.lp_module.specs.Refusals.{IsFormFault, IsShort};
 
@@ -8,17 +9,10 @@ use crate::fault::ModuleFault;
 use crate::heads::Heads;
 use crate::judge::{Judge, Position};
 use crate::reading::LOOSE;
-use lp_base::{Limit, Spot};
+use lp_base::{Limit, MAX_ARGUMENTS, MAX_CONTRACTIONS, MAX_NODES, Spot};
 use lp_model::Typed;
 use lp_term::{Bank, TermId, TermRefusal, beta_normal};
 use std::alloc::Global;
-
-// The greatest numbers of contractions and of nodes of a normal form, and of type variables.
-const CONTRACTIONS: u64 = 1_000_000;
-
-const NODES: u64 = 1_000_000;
-
-const TYPE_VARIABLES: u64 = 255;
 
 // The beta-normal form of a formula.
 fn normal_of(alloc: Global, bank: &mut Bank, formula: TermId) -> Result<TermId, ModuleFault>
@@ -33,7 +27,7 @@ fn normal_of(alloc: Global, bank: &mut Bank, formula: TermId) -> Result<TermId, 
     if !bank.is_known_below(formula, LOOSE) {
         return Err(ModuleFault::Memory);
     }
-    match beta_normal(alloc, bank, formula, CONTRACTIONS, NODES) {
+    match beta_normal(alloc, bank, formula, MAX_CONTRACTIONS, MAX_NODES) {
         Ok(normal) => Ok(normal),
         Err(TermRefusal::Deep(_)) => Err(ModuleFault::Limit(Limit::NormalForm)),
         Err(TermRefusal::Memory) => Err(ModuleFault::Memory),
@@ -51,7 +45,7 @@ pub(crate) fn check_form(
 ) -> Result<(), ModuleFault>
     ensures kept { Extends bank.old bank.new }
     ensures short { OnOk result (IsShort (tree bank.old typed.now.formula.0)) }
-    ensures variables { OnOk result (typed.now.type_vars ≤ 255) }
+    ensures variables { OnOk result (typed.now.type_vars ≤ MAX_ARGUMENTS) }
     ensures refused { IfErr result (IsFormFault (tree bank.old typed.now.formula.0) first) }
 {
     let normal = normal_of(alloc, bank, typed.formula)?;
@@ -63,7 +57,7 @@ pub(crate) fn check_form(
     if verdict.wide {
         return Err(ModuleFault::Limit(Limit::Arguments));
     }
-    if typed.type_vars > TYPE_VARIABLES {
+    if typed.type_vars > MAX_ARGUMENTS as u64 {
         return Err(ModuleFault::Limit(Limit::Arguments));
     }
     if verdict.in_term {
@@ -84,7 +78,7 @@ pub fn query_form(
 ) -> Result<(), ModuleFault>
     ensures kept { Extends bank.old bank.new }
     ensures short { OnOk result (IsShort (tree bank.old query.now.formula.0)) }
-    ensures variables { OnOk result (query.now.type_vars ≤ 255) }
+    ensures variables { OnOk result (query.now.type_vars ≤ MAX_ARGUMENTS) }
     ensures refused { IfErr result (IsFormFault (tree bank.old query.now.formula.0) first) }
 {
     check_form(alloc, bank, &Heads::Any, Position::Goal, query, first)

@@ -4,14 +4,9 @@ ghost use Rattle.lp_term.specs.Nodes.{Extends};
 use crate::heads::Heads;
 use crate::measure::Measures;
 use crate::reading::{Form, applied_to_new, form_of, head_of};
-use lp_base::Memory;
+use lp_base::{MAX_ARGUMENTS, MAX_TERM_DEPTH, Memory};
 use lp_term::{Bank, TermId, TermNode};
 use std::alloc::Global;
-
-// The greatest depth, and the greatest number of arguments on one head.
-const DEEPEST: u64 = 2000;
-
-const WIDEST: u64 = 255;
 
 /// Where a formula stands.
 #[derive(Clone, Copy, PartialEq, Eq)]
@@ -147,10 +142,10 @@ impl<'a> Judge<'a> {
     // A formula that is no connective's, or stands where its connective may not.
     fn take_term(&mut self, bank: &Bank, task: Task) -> Result<(), Memory> {
         let measure = self.measures.of(bank, task.formula)?;
-        if task.depth.saturating_add(measure.depth) > DEEPEST + 1 {
+        if task.depth.saturating_add(measure.depth) > MAX_TERM_DEPTH as u64 + 1 {
             self.verdict.deep = true;
         }
-        if measure.widest > WIDEST {
+        if measure.widest > MAX_ARGUMENTS as u64 {
             self.verdict.wide = true;
         }
         if measure.connective {
@@ -214,7 +209,7 @@ impl<'a> Judge<'a> {
         if task.formula.0 >= bank.term_count() {
             return Err(Memory);
         }
-        if task.depth > DEEPEST {
+        if task.depth > MAX_TERM_DEPTH as u64 {
             self.verdict.deep = true;
         }
         let form = form_of(bank, task.formula);

@@ -1,5 +1,6 @@
 // The sentences of a module: their typing, and the closed formulas.
 ghost use Rattle.std.specs.Prelude.{◌≡◌, ◌≤◌, ◌<◌, ◌⊎◌, length, get_or, All, true, false, IfOk, IfErr};
+ghost use Rattle.lp_base.specs.declared.limits.TheConstants.{MAX_ARGUMENTS};
 ghost use Rattle.lp_term.specs.Nodes.{Extends};
 ghost use Rattle.lp_module.specs.Arguments.{own_count, HasManyArguments};
 ghost use Rattle.lp_module.specs.Refusals.{IsTypingFault, IsUntyped};
@@ -8,7 +9,7 @@ ghost use Rattle.lp_module.specs.declared.fault.ModuleFault.TheVariants as fault
 
 use crate::carry::{put_abstraction, put_application, put_constant};
 use crate::fault::ModuleFault;
-use lp_base::{Limit, Memory, Spot};
+use lp_base::{Limit, MAX_ARGUMENTS, Memory, Spot};
 use lp_infer::{InferFault, type_formula};
 use lp_model::{ClauseFormula, Typed};
 use lp_sig::Signature;
@@ -38,7 +39,7 @@ fn count_at(counts: &Vec<u64>, place: usize) -> u64
 
 // How many arguments the head of a node has, behind the nodes before it.
 fn own_count(counts: &Vec<u64>, node: &RawNode) -> u64
-    requires { All (λ k. k ≤ 255) counts.now.items }
+    requires { All (λ k. k ≤ MAX_ARGUMENTS) counts.now.items }
     ensures { result ≡ own_count counts.now.items node.now }
 {
     match node {
@@ -59,7 +60,7 @@ pub fn has_many_arguments(alloc: Global, raw: &RawTerm) -> Result<bool, Memory>
     let mut counts = Vec::new(alloc);
     for at in 0..raw.nodes.len() {
         let count = own_count(&counts, &raw.nodes[at]);
-        if count > 255 {
+        if count > MAX_ARGUMENTS as u64 {
             return Ok(true);
         }
         counts.push(count)?;

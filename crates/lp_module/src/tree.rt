@@ -5,6 +5,7 @@ ghost use Rattle.lp_module.specs.Files.{HasNames};
 ghost use Rattle.lp_module.specs.Trees.{lists_in};
 ghost use Rattle.lp_module.specs.declared.fault.ModuleFault.TheVariants as fault;
 ghost use Rattle.lp_base.specs.declared.limit.Limit.TheVariants as limit;
+ghost use Rattle.lp_base.specs.declared.limits.TheConstants.{END_OF_NUMBERS, MAX_COPIES};
 
 use crate::copying::{Copying, Turn};
 use crate::fault::ModuleFault;
@@ -58,7 +59,7 @@ pub(crate) fn order_of(
     requires root { root < length uses.now.items }
     requires within { All (λ out. All (λ m. m < length uses.now.items) out) (lists_in uses.now.items) }
     ensures copies { IfOk result (λ order. Copies (lists_in uses.now.items) (root ∷ []) order.items) }
-    ensures few { IfOk result (λ order. length order.items ≤ 4096) }
+    ensures few { IfOk result (λ order. length order.items ≤ MAX_COPIES) }
     ensures only { IfOk result (λ order. (all : List ℕ) → Copies (lists_in uses.now.items) (root ∷ []) all → all ≡ order.items) }
     ensures refused { IfErr result (IsTooMany (lists_in uses.now.items) root) }
 {
@@ -74,8 +75,8 @@ pub(crate) fn order_of(
 
 // So many more names, if the numbers do not end before.
 fn more_names(names: usize, more: usize) -> Result<usize, ModuleFault>
-    ensures sum { IfOk result (λ all. (all ≡ names + more) × (all ≤ 65535)) }
-    ensures refused { IfErr result (λ e. (e ≡ fault.Limit limit.Names) × (65535 < names + more)) }
+    ensures sum { IfOk result (λ all. (all ≡ names + more) × (all ≤ END_OF_NUMBERS)) }
+    ensures refused { IfErr result (λ e. (e ≡ fault.Limit limit.Names) × (END_OF_NUMBERS < names + more)) }
 {
     let all = names.saturating_add(more);
     if all > END_OF_NUMBERS as usize {
@@ -99,8 +100,8 @@ pub(crate) fn end_of_kinds(
 ) -> Result<usize, ModuleFault>
     requires root { root < length modules.now }
     requires order { All (λ m. m < length modules.now) order.now.items }
-    ensures sum { IfOk result (λ all. (all ≡ kinds_end modules.now root order.now.items) × (all ≤ 65535)) }
-    ensures refused { IfErr result (λ e. (e ≡ fault.Limit limit.Names) × (65535 < kinds_end modules.now root order.now.items)) }
+    ensures sum { IfOk result (λ all. (all ≡ kinds_end modules.now root order.now.items) × (all ≤ END_OF_NUMBERS)) }
+    ensures refused { IfErr result (λ e. (e ≡ fault.Limit limit.Names) × (END_OF_NUMBERS < kinds_end modules.now root order.now.items)) }
 {
     let top = &modules[root];
     let exported = exported(top.signature.kinds().len(), top.hidden_kinds.len());
@@ -119,8 +120,8 @@ pub(crate) fn end_of_constants(
 ) -> Result<usize, ModuleFault>
     requires root { root < length modules.now }
     requires order { All (λ m. m < length modules.now) order.now.items }
-    ensures sum { IfOk result (λ all. (all ≡ constants_end modules.now root order.now.items) × (all ≤ 65535)) }
-    ensures refused { IfErr result (λ e. (e ≡ fault.Limit limit.Names) × (65535 < constants_end modules.now root order.now.items)) }
+    ensures sum { IfOk result (λ all. (all ≡ constants_end modules.now root order.now.items) × (all ≤ END_OF_NUMBERS)) }
+    ensures refused { IfErr result (λ e. (e ≡ fault.Limit limit.Names) × (END_OF_NUMBERS < constants_end modules.now root order.now.items)) }
 {
     let top = &modules[root];
     let exported = exported(top.signature.constants().len(), top.hidden_constants.len());

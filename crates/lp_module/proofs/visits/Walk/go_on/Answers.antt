@@ -1,6 +1,7 @@
 use Rattle.std.proofs.Common.{sym, subst, arith, refl, reverse}
+use Rattle.std.proofs.lemmas.List.{nil_from_length}
 use Rattle.lp_module.specs.Searching.{ways_in, Goes}
-use Rattle.lp_module.proofs.Visiting.{to_within, meets, ended, left, no_more}
+use Rattle.lp_module.proofs.Visiting.{to_within, meets, ended, left}
 use Rattle.lp_module.proofs.visits.Walk.go_on.Goals as goal
 
 pub meet-requires-clause-to : goal.meet-requires-clause-to
@@ -19,7 +20,7 @@ pub returns-in-None : goal.returns-in-None
 returns-in-None c =
     let w = c.args.self.now in
     ended c.args.ways.now.items w.root w.seen.items w.order.items c.push.new.self.items w.at w.next w.around.items c.index-out.result.now c.index-out.ensures (omega (arith, c.if-self-len.false, c.len.ensures, c.index-out.result.now.ok)) c.in_ok-push.ensures.items
-    (no_more w.around.items (omega (arith, c.in-None.ensures.cases.0, w.around.ok))) c.requires.walk
+    (nil_from_length w.around.items (omega (arith, c.in-None.ensures.cases.0, w.around.ok))) c.requires.walk
 
 pub returns-in-Some : goal.returns-in-Some
 returns-in-Some c =
