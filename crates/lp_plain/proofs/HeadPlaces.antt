@@ -2,7 +2,7 @@
 use Rattle.std.proofs.Common.{◌≡◌, ◌≢◌, ℕ, zero, suc, ◌+◌, ◌-◌, ◌<◌, ◌≤◌, List, [], ◌∷◌, ◌++◌, length, map, take, get_or, set, append_assoc, refl, sym, ap, ◌∙◌, subst as transport, arith, Bool, true, false, nat_eq, nat_lt, Option, Some, None, inl, inr, length-set}
 use Rattle.std.specs.Prelude.{All, not, ◌&&◌, ◌||◌, if◌then◌else◌, OnOk, Result, Ok, Err}
 use Rattle.std.proofs.lemmas.Bool.{cases_eq, eq-eqb, ne_eqb, ltb-true, ltb-false}
-use Rattle.std.proofs.lemmas.List.Elements.{All-nil, All-push}
+use Rattle.std.proofs.lemmas.List.Elements.{All-nil, All-push, All-head, All-tail}
 use Rattle.std.proofs.lemmas.List.{length-append, take_more, append-nil, map-append, get_or_past, get_or-set_same, get_or-set_other}
 use Rattle.lp_calculus.specs.Term.{Term, index, atom, abs, app, apply}
 use Rattle.lp_calculus.specs.Normal.{is_absent}
@@ -339,6 +339,11 @@ none_known n ps e = transport (All (λ p. p.term.0 < n)) (sym e) (All-nil (λ p.
 pub known_more : (n : ℕ) (o : Option ℕ) (place : ℕ) (t : TermId) (ps qs : List HeadPair) → qs ≡ ps ++ with_pair o place t → t.0 < n → All (λ p. p.term.0 < n) ps → All (λ p. p.term.0 < n) qs
 known_more n None place t ps qs e k a = transport (All (λ p. p.term.0 < n)) (sym e) (All-push (λ p. p.term.0 < n) ps (record { place = place; term = t }) a k)
 known_more n (Some v) place t ps qs e k a = transport (All (λ p. p.term.0 < n)) (sym (e ∙ append-nil ps)) a
+
+pub term_at_place : (n : ℕ) (xs : List TermId) (i : ℕ) (d : TermId) → i < length xs → All (λ t. t.0 < n) xs → (get_or xs i d).0 < n
+term_at_place n [] i d h a = absurd (omega (arith, h))
+term_at_place n (x ∷ xs) zero d h a = All-head (λ (t : TermId). t.0 < n) x xs a
+term_at_place n (x ∷ xs) (suc i) d h a = term_at_place n xs i d (omega (arith, h)) (All-tail (λ (t : TermId). t.0 < n) x xs a)
 
 pub read_at : (xs : List TermId) (i : ℕ) (d : TermId) → i < length xs → get_or xs i d ≡ get_or xs i (get_or xs i d)
 read_at [] i d h = absurd (omega (arith, h))

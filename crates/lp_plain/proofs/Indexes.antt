@@ -1,7 +1,7 @@
 -- The links of the program's clauses lead from each to the next one with its constant; what is left of a chain behind a clause that passes the filter.
 use Rattle.std.proofs.Common.{◌≡◌, ℕ, zero, suc, ◌-◌, ◌<◌, ◌≤◌, List, [], ◌∷◌, ◌++◌, map, drop, length, cond, Option, Some, None, refl, sym, ap, ◌∙◌, subst, arith, inl, inr, append_assoc, append-nil}
-use Rattle.std.specs.Prelude.{filter, slice_get, slice_set, Bool, true, false, nat_eq, ◌⊎◌, option_map, nat_lt, ◌&&◌}
-use Rattle.std.proofs.lemmas.Bool.{eqb-true, lt-ltb}
+use Rattle.std.specs.Prelude.{filter, slice_get, slice_set, Bool, true, false, nat_eq, ◌⊎◌, option_map}
+use Rattle.std.proofs.lemmas.Bool.{eqb-true}
 use Rattle.std.proofs.lemmas.Option.{slice_get-map}
 use Rattle.lp_calculus.specs.Term.{Term, atom, constant, text}
 use Rattle.lp_term.specs.Node.{TermBelow}
@@ -246,12 +246,9 @@ no_text_in : (t u : Term) → (kind t ≡ 3 → ⊥) → false ≡ is_text_of t 
 no_text_in (atom (text s)) u h = absurd (h refl)
 no_text_in _ u h = refl
 
-pub both_known : (b : Nodes) (i j : ℕ) → i < length b.terms → j < length b.terms → (t : Bool) → t ≡ is_text_of (tree b i) (tree b j) → t ≡ same_texts b i j
-both_known b i j k l t e = e ∙ sym (ap (λ z. z && (nat_lt j (length b.terms) && is_text_of (tree b i) (tree b j))) (lt-ltb i (length b.terms) k) ∙ ap (λ z. z && is_text_of (tree b i) (tree b j)) (lt-ltb j (length b.terms) l))
-
--- both terms stand in the bank, and the first one's node is no text
-pub other_text : (b : Nodes) (i j n m : ℕ) (x : TermNode) → i < length b.terms → j < length b.terms → TermBelow n m (term_shape x) → node_tree b (term_shape x) ≡ tree b i → (node_kind x ≡ 3 → ⊥) → false ≡ same_texts b i j
-other_text b i j n m x k l w t h = both_known b i j k l false (no_text_in (tree b i) (tree b j) (λ q. h (sym (kind_of b n m x w) ∙ ap kind t ∙ q)))
+-- the first term's node is no text
+pub other_text : (b : Nodes) (i j n m : ℕ) (x : TermNode) → TermBelow n m (term_shape x) → node_tree b (term_shape x) ≡ tree b i → (node_kind x ≡ 3 → ⊥) → false ≡ same_texts b i j
+other_text b i j n m x w t h = no_text_in (tree b i) (tree b j) (λ q. h (sym (kind_of b n m x w) ∙ ap kind t ∙ q))
 
 pub after_assumed : (b : Nodes) (rules : List Rule) (assumptions : List Assumption) (first : Option ℕ) (k : Option Key) (found : Option Candidate) (which : Candidate) (i : ℕ) (a : Assumption) (left : List Candidate) → which ≡ candidate.Assumed i → slice_get assumptions i ≡ Some a
     → ((ns ks : List ℕ) → IsChain (map (λ (x : Assumption). x.older) assumptions) a.older ns → IsChain (nexts rules) first ks → AreLeft b rules (map (λ (x : Assumption). x.older) assumptions) first k found (in_turn b rules k ns ks))

@@ -122,25 +122,25 @@ instances_kept σ k b d e (Task.Visit t n) us v h =
     (omega (arith, h.0, e.more_terms), h.1, transport (AllAtoms IsNoParameter) q h.2, h.3 ∙ ap (instanced σ k n) q)
 instances_kept σ k b d e (Task.Build t) us v h = (omega (arith, h.0, e.more_terms), transport (λ x. IsBuiltTerm x us v) (sym (e.terms_stay t.0 h.0)) h.1)
 
-done_terms : (σ : ℕ → Term) (k : ℕ) (b d : Nodes) (old : List Task) (t : Task) (made mid ids made' : List TermId) (new : TermId) → Extends b d → made ≡ mid ++ ids → new.0 < length d.terms →
-    ((us : List Term) (v : Term) → Instances σ k b t us v → (length us ≡ length ids) × (us ≡ map (λ i. tree b i.0) ids → v ≡ tree d new.0)) → made' ≡ mid ++ new ∷ [] → KeepsInstancing σ k b d (old ++ t ∷ []) old made made'
-done_terms σ k b d old t made mid ids made' new e q l f z = λ r w.
+done_terms : (σ : ℕ → Term) (k : ℕ) (b d : Nodes) (old : List Task) (t : Task) (made mid ids made' : List TermId) (new : TermId) → Extends b d → made ≡ mid ++ ids →
+    ((us : List Term) (v : Term) → Instances σ k b t us v → (length us ≡ length ids) × (new.0 < length d.terms) × (us ≡ map (λ i. tree b i.0) ids → v ≡ tree d new.0)) → made' ≡ mid ++ new ∷ [] → KeepsInstancing σ k b d (old ++ t ∷ []) old made made'
+done_terms σ k b d old t made mid ids made' new e q f z = λ r w.
     task_done (Instances σ k b) (Instances σ k d) (λ i. tree b i.0) (λ i. tree d i.0) (λ i. i.0 < length b.terms) (λ i. i.0 < length d.terms) (instances_kept σ k b d e) (λ i h. omega (arith, h, e.more_terms))
-    (λ i h. e.same_terms i.0 h) old t made mid ids made' new r q l f z w
+    (λ i h. e.same_terms i.0 h) old t made mid ids made' new r q f z w
 
 -- a visit that makes the term at once
-visited : (σ : ℕ → Term) (k : ℕ) (b d : Nodes) (old : List Task) (id new : TermId) (n : ℕ) (made made' : List TermId) → Extends b d → new.0 < length d.terms →
+visited : (σ : ℕ → Term) (k : ℕ) (b d : Nodes) (old : List Task) (id new : TermId) (n : ℕ) (made made' : List TermId) → Extends b d → (id.0 < length b.terms → new.0 < length d.terms) →
     (AllAtoms IsNoParameter (tree b id.0) → instanced σ k n (tree b id.0) ≡ tree d new.0) → made' ≡ made ++ new ∷ [] → KeepsInstancing σ k b d (old ++ Task.Visit id n ∷ []) old made made'
 visited σ k b d old id new n made made' e l f z =
-    done_terms σ k b d old (Task.Visit id n) made made [] made' new e (sym (append-nil made)) l (λ us v h. (ap length h.1, λ _. h.3 ∙ f h.2)) z
+    done_terms σ k b d old (Task.Visit id n) made made [] made' new e (sym (append-nil made)) (λ us v h. (ap length h.1, l h.0, λ _. h.3 ∙ f h.2)) z
 
 -- it is shared
-pub visited_shared : (σ : ℕ → Term) (k : ℕ) (b : Nodes) (old : List Task) (id : TermId) (n : ℕ) (made made' : List TermId) → id.0 < length b.terms → k ≡ 0 → LooseBelow n 0 (tree b id.0) → made' ≡ made ++ id ∷ [] →
+pub visited_shared : (σ : ℕ → Term) (k : ℕ) (b : Nodes) (old : List Task) (id : TermId) (n : ℕ) (made made' : List TermId) → k ≡ 0 → LooseBelow n 0 (tree b id.0) → made' ≡ made ++ id ∷ [] →
     KeepsInstancing σ k b b (old ++ Task.Visit id n ∷ []) old made made'
-visited_shared σ k b old id n made made' l q h z = visited σ k b b old id id n made made' (extends_same b) l (λ _. ap (λ j. instanced σ j n (tree b id.0)) q ∙ shared_is σ n (tree b id.0) h) z
+visited_shared σ k b old id n made made' q h z = visited σ k b b old id id n made made' (extends_same b) (λ l. l) (λ _. ap (λ j. instanced σ j n (tree b id.0)) q ∙ shared_is σ n (tree b id.0) h) z
 
 -- an atom
-pub visited_atom : (σ : ℕ → Term) (k : ℕ) (b d : Nodes) (old : List Task) (id new : TermId) (n : ℕ) (made made' : List TermId) → Extends b d → new.0 < length d.terms → IsRenewedAtom k (tree b id.0) (tree d new.0) → made' ≡ made ++ new ∷ [] →
+pub visited_atom : (σ : ℕ → Term) (k : ℕ) (b d : Nodes) (old : List Task) (id new : TermId) (n : ℕ) (made made' : List TermId) → Extends b d → (id.0 < length b.terms → new.0 < length d.terms) → IsRenewedAtom k (tree b id.0) (tree d new.0) → made' ≡ made ++ new ∷ [] →
     KeepsInstancing σ k b d (old ++ Task.Visit id n ∷ []) old made made'
 visited_atom σ k b d old id new n made made' e l r z =
     visited σ k b d old id new n made made' e l (λ h. ap (instanced σ k n) r.1 ∙ sym (r.2 (transport (AllAtoms IsNoParameter) r.1 h))) z
@@ -173,20 +173,20 @@ constant_renewed k b c ids copies t u e a q f = (
     types_renewed (i ∷ is) = ap (λ x. instance (further k) (type_tree b i.0) ∷ x) (types_renewed is)
 
 -- an index
-pub visited_index : (σ : ℕ → Term) (k : ℕ) (b : Nodes) (old : List Task) (id new : TermId) (i n : ℕ) (vs made made' : List TermId) → id.0 < length b.terms → index i ≡ tree b id.0 → StandFor b vs σ → (i < n → new ≡ id) →
+pub visited_index : (σ : ℕ → Term) (k : ℕ) (b : Nodes) (old : List Task) (id new : TermId) (i n : ℕ) (vs made made' : List TermId) → index i ≡ tree b id.0 → StandFor b vs σ → (i < n → new ≡ id) →
     (n ≤ i → slice_get vs (i - n) ≡ Some new) → made' ≡ made ++ new ∷ [] → KeepsInstancing σ k b b (old ++ Task.Visit id n ∷ []) old made made'
-visited_index σ k b old id new i n vs made made' l e s f g z = by_place (nat_lt i n) refl
+visited_index σ k b old id new i n vs made made' e s f g z = by_place (nat_lt i n) refl
   where
     low : i < n → KeepsInstancing σ k b b (old ++ Task.Visit id n ∷ []) old made made'
     low h =
         let q = f h in
-        visited σ k b b old id new n made made' (extends_same b) (transport (λ t. t.0 < length b.terms) (sym q) l)
+        visited σ k b b old id new n made made' (extends_same b) (transport (λ t. t.0 < length b.terms) (sym q))
         (λ _. sym (ap (instanced σ k n) e) ∙ lifted_below n σ i h ∙ e ∙ ap (λ t. tree b t.0) (sym q)) z
 
     high : n ≤ i → KeepsInstancing σ k b b (old ++ Task.Visit id n ∷ []) old made made'
     high h =
         let w = s (i - n) new (g h) in
-        visited σ k b b old id new n made made' (extends_same b) w.0 (λ _. sym (ap (instanced σ k n) e) ∙ lifted_at n σ i (i - n) (omega (arith, h)) w.2 ∙ sym w.1) z
+        visited σ k b b old id new n made made' (extends_same b) (λ _. w.0) (λ _. sym (ap (instanced σ k n) e) ∙ lifted_at n σ i (i - n) (omega (arith, h)) w.2 ∙ sym w.1) z
 
     by_place : (c : Bool) → nat_lt i n ≡ c → KeepsInstancing σ k b b (old ++ Task.Visit id n ∷ []) old made made'
     by_place true p = low (grind (arith, nat_tests))
@@ -211,18 +211,18 @@ instanced_parts : (σ : ℕ → Term) (k : ℕ) (b : Nodes) (d : ℕ) (ids : Lis
 instanced_parts σ k b d [] = refl
 instanced_parts σ k b d (i ∷ ids) = ap (λ x. instanced σ k d (tree b i.0) ∷ x) (instanced_parts σ k b d ids)
 
-pub opened_application : (σ : ℕ → Term) (k : ℕ) (b : Nodes) (old mid more new : List Task) (id : TermId) (d : ℕ) (made : List TermId) (head : TermId) (ids : List TermId) → id.0 < length b.terms →
+pub opened_application : (σ : ℕ → Term) (k : ℕ) (b : Nodes) (old mid more new : List Task) (id : TermId) (d : ℕ) (made : List TermId) (head : TermId) (ids : List TermId) →
     app_node head.0 (map (λ i. i.0) ids) ≡ term_at b id.0 → apply (tree b head.0) (map (tree b) (map (λ i. i.0) ids)) ≡ tree b id.0 → head.0 < id.0 → All (λ i. i < id.0) (map (λ i. i.0) ids) → mid ≡ old ++ Task.Build id ∷ [] →
     more ≡ mid ++ reverse (visits_at d ids) → new ≡ more ++ Task.Visit head d ∷ [] → KeepsInstancing σ k b b (old ++ Task.Visit id d ∷ []) new made made
-opened_application σ k b old mid more new id d made head ids l n e f a p q z = λ r w.
+opened_application σ k b old mid more new id d made head ids n e f a p q z = λ r w.
     task_opens (Instances σ k b) (λ i. tree b i.0) (λ i. i.0 < length b.terms) old new (Task.Visit id d) (Task.Build id) made r (λ i. Task.Visit i d) (λ i. instanced σ k d (tree b i.0)) (head ∷ ids)
-    (pushed old mid more new (Task.Build id) (Task.Visit head d) (visits_at d ids) p q z) (λ us v h. (h.1, visits h.2, (l, transport (λ x. IsBuiltTerm x (map (λ i. instanced σ k d (tree b i.0)) (head ∷ ids)) v) n (built v h.3)))) w
+    (pushed old mid more new (Task.Build id) (Task.Visit head d) (visits_at d ids) p q z) (λ us v h. (h.1, visits h.0 h.2, (h.0, transport (λ x. IsBuiltTerm x (map (λ i. instanced σ k d (tree b i.0)) (head ∷ ids)) v) n (built v h.3)))) w
   where
     parts : List Term
     parts = map (tree b) (map (λ i. i.0) ids)
 
-    visits : AllAtoms IsNoParameter (tree b id.0) → All (λ i. Instances σ k b (Task.Visit i d) [] (instanced σ k d (tree b i.0))) (head ∷ ids)
-    visits h =
+    visits : id.0 < length b.terms → AllAtoms IsNoParameter (tree b id.0) → All (λ i. Instances σ k b (Task.Visit i d) [] (instanced σ k d (tree b i.0))) (head ∷ ids)
+    visits l h =
         let g = transport (AllAtoms IsNoParameter) (sym e) h in
         All-cons (λ i. Instances σ k b (Task.Visit i d) [] (instanced σ k d (tree b i.0))) head ids (omega (arith, f, l), refl, head_atoms IsNoParameter parts (tree b head.0) g, refl)
         (as_visits σ k b d id.0 ids l a (argument_atoms IsNoParameter parts (tree b head.0) g))
@@ -236,16 +236,16 @@ opened_application σ k b old mid more new id d made head ids l n e f a p q z = 
       h ∙ ap (instanced σ k d) (sym e) ∙ instantiate_applied (lifted_by d σ) (further k) parts (tree b head.0) ∙ ap (apply (instanced σ k d (tree b head.0))) (instanced_parts σ k b d ids),
     )
 
-pub opened_abstraction : (σ : ℕ → Term) (k : ℕ) (b : Nodes) (old mid new : List Task) (id : TermId) (d inner : ℕ) (made : List TermId) (body : TermId) → id.0 < length b.terms → abs_node body.0 ≡ term_at b id.0 →
+pub opened_abstraction : (σ : ℕ → Term) (k : ℕ) (b : Nodes) (old mid new : List Task) (id : TermId) (d inner : ℕ) (made : List TermId) (body : TermId) → abs_node body.0 ≡ term_at b id.0 →
     abs (tree b body.0) ≡ tree b id.0 → body.0 < id.0 → inner ≡ suc d → mid ≡ old ++ Task.Build id ∷ [] → new ≡ mid ++ Task.Visit body inner ∷ [] → KeepsInstancing σ k b b (old ++ Task.Visit id d ∷ []) new made made
-opened_abstraction σ k b old mid new id d inner made body l n e f s p z = λ r w.
+opened_abstraction σ k b old mid new id d inner made body n e f s p z = λ r w.
     task_opens (Instances σ k b) (λ i. tree b i.0) (λ i. i.0 < length b.terms) old new (Task.Visit id d) (Task.Build id) made r (λ i. Task.Visit i (suc d)) (λ i. instanced σ k (suc d) (tree b i.0)) (body ∷ [])
     (ap reverse z ∙ reverse-append mid (Task.Visit body inner ∷ []) ∙ (λ i. Task.Visit body (s i) ∷ (ap reverse p ∙ reverse-append old (Task.Build id ∷ [])) i))
     (λ us v h. (
       h.1,
-      All-cons (λ i. Instances σ k b (Task.Visit i (suc d)) [] (instanced σ k (suc d) (tree b i.0))) body [] (omega (arith, f, l), refl, transport (AllAtoms IsNoParameter) (sym e) h.2, refl)
+      All-cons (λ i. Instances σ k b (Task.Visit i (suc d)) [] (instanced σ k (suc d) (tree b i.0))) body [] (omega (arith, f, h.0), refl, transport (AllAtoms IsNoParameter) (sym e) h.2, refl)
           (All-nil (λ i. Instances σ k b (Task.Visit i (suc d)) [] (instanced σ k (suc d) (tree b i.0)))),
-      (l, transport (λ x. IsBuiltTerm x (instanced σ k (suc d) (tree b body.0) ∷ []) v) n (instanced σ k (suc d) (tree b body.0), refl, h.3 ∙ ap (instanced σ k d) (sym e))),
+      (h.0, transport (λ x. IsBuiltTerm x (instanced σ k (suc d) (tree b body.0) ∷ []) v) n (instanced σ k (suc d) (tree b body.0), refl, h.3 ∙ ap (instanced σ k d) (sym e))),
     ))
     w
 
@@ -253,18 +253,18 @@ opened_abstraction σ k b old mid new id d inner made body l n e f s p z = λ r 
 one_same : (x y : Term) → x ∷ [] ≡ y ∷ [] → x ≡ y
 one_same x y e = cc
 
-pub built_abstraction : (σ : ℕ → Term) (k : ℕ) (b d : Nodes) (old : List Task) (id new body : TermId) (n : ℕ) (made mid made' : List TermId) → Extends b d → abs_node n ≡ term_at b id.0 → made ≡ mid ++ body ∷ [] → new.0 < length d.terms →
+pub built_abstraction : (σ : ℕ → Term) (k : ℕ) (b d : Nodes) (old : List Task) (id new body : TermId) (n : ℕ) (made mid made' : List TermId) → Extends b d → abs_node n ≡ term_at b id.0 → made ≡ mid ++ body ∷ [] → (id.0 < length b.terms → new.0 < length d.terms) →
     tree d new.0 ≡ abs (tree b body.0) → made' ≡ mid ++ new ∷ [] → KeepsInstancing σ k b d (old ++ Task.Build id ∷ []) old made made'
 built_abstraction σ k b d old id new body n made mid made' e q m l t z =
-    done_terms σ k b d old (Task.Build id) made mid (body ∷ []) made' new e m l (λ us v h. takes us v (transport (λ x. IsBuiltTerm x us v) (sym q) h.1)) z
+    done_terms σ k b d old (Task.Build id) made mid (body ∷ []) made' new e m (λ us v h. takes us v h.0 (transport (λ x. IsBuiltTerm x us v) (sym q) h.1)) z
   where
-    takes : (us : List Term) (v : Term) → IsBuiltTerm (abs_node n) us v → (length us ≡ 1) × (us ≡ tree b body.0 ∷ [] → v ≡ tree d new.0)
-    takes us v h = (ap length h.1, λ s. h.2 ∙ ap abs (one_same h.0 (tree b body.0) (sym h.1 ∙ s)) ∙ sym t)
+    takes : (us : List Term) (v : Term) → id.0 < length b.terms → IsBuiltTerm (abs_node n) us v → (length us ≡ 1) × (new.0 < length d.terms) × (us ≡ tree b body.0 ∷ [] → v ≡ tree d new.0)
+    takes us v j h = (ap length h.1, l j, λ s. h.2 ∙ ap abs (one_same h.0 (tree b body.0) (sym h.1 ∙ s)) ∙ sym t)
 
 pub stays_abstraction : (σ : ℕ → Term) (k : ℕ) (b : Nodes) (old : List Task) (id body part : TermId) (made mid made' : List TermId) → abs_node part.0 ≡ term_at b id.0 → abs (tree b part.0) ≡ tree b id.0 → made ≡ mid ++ body ∷ [] →
-    id.0 < length b.terms → body.0 ≡ part.0 → made' ≡ mid ++ id ∷ [] → KeepsInstancing σ k b b (old ++ Task.Build id ∷ []) old made made'
-stays_abstraction σ k b old id body part made mid made' q t m l s z =
-    built_abstraction σ k b b old id id body part.0 made mid made' (extends_same b) q m l (sym t ∙ ap (λ j. abs (tree b j)) (sym s)) z
+    body.0 ≡ part.0 → made' ≡ mid ++ id ∷ [] → KeepsInstancing σ k b b (old ++ Task.Build id ∷ []) old made made'
+stays_abstraction σ k b old id body part made mid made' q t m s z =
+    built_abstraction σ k b b old id id body part.0 made mid made' (extends_same b) q m (λ l. l) (sym t ∙ ap (λ j. abs (tree b j)) (sym s)) z
 
 first_same : (x y : Term) (xs ys : List Term) → x ∷ xs ≡ y ∷ ys → x ≡ y
 first_same x y xs ys e = cc
@@ -273,22 +273,23 @@ rest_same : (x y : Term) (xs ys : List Term) → x ∷ xs ≡ y ∷ ys → xs �
 rest_same x y xs ys e = cc
 
 pub built_application : (σ : ℕ → Term) (k : ℕ) (b d : Nodes) (old : List Task) (id new head : TermId) (n : ℕ) (parts ids : List TermId) (made front mid made' : List TermId) → Extends b d → app_node n (map (λ i. i.0) parts) ≡ term_at b id.0 →
-    made ≡ front ++ ids → length ids ≡ length parts → front ≡ mid ++ head ∷ [] → new.0 < length d.terms → tree d new.0 ≡ apply (tree b head.0) (map (λ i. tree b i.0) ids) → made' ≡ mid ++ new ∷ [] →
+    made ≡ front ++ ids → length ids ≡ length parts → front ≡ mid ++ head ∷ [] → (id.0 < length b.terms → new.0 < length d.terms) → tree d new.0 ≡ apply (tree b head.0) (map (λ i. tree b i.0) ids) → made' ≡ mid ++ new ∷ [] →
     KeepsInstancing σ k b d (old ++ Task.Build id ∷ []) old made made'
 built_application σ k b d old id new head n parts ids made front mid made' e q m c f l t z =
-    done_terms σ k b d old (Task.Build id) made mid (head ∷ ids) made' new e (m ∙ ap (λ x. x ++ ids) f ∙ append_assoc mid (head ∷ []) ids) l (λ us v h. takes us v (transport (λ x. IsBuiltTerm x us v) (sym q) h.1)) z
+    done_terms σ k b d old (Task.Build id) made mid (head ∷ ids) made' new e (m ∙ ap (λ x. x ++ ids) f ∙ append_assoc mid (head ∷ []) ids) (λ us v h. takes us v h.0 (transport (λ x. IsBuiltTerm x us v) (sym q) h.1)) z
   where
-    takes : (us : List Term) (v : Term) → IsBuiltTerm (app_node n (map (λ i. i.0) parts)) us v → (length us ≡ length (head ∷ ids)) × (us ≡ tree b head.0 ∷ map (λ i. tree b i.0) ids → v ≡ tree d new.0)
-    takes us v h = (
+    takes : (us : List Term) (v : Term) → id.0 < length b.terms → IsBuiltTerm (app_node n (map (λ i. i.0) parts)) us v → (length us ≡ length (head ∷ ids)) × (new.0 < length d.terms) × (us ≡ tree b head.0 ∷ map (λ i. tree b i.0) ids → v ≡ tree d new.0)
+    takes us v j h = (
       ap length h.2 ∙ ap suc (h.3 ∙ length-map parts (λ i. i.0) ∙ sym c),
+      l j,
       λ s. h.4 ∙ (λ i. apply (first_same h.0 (tree b head.0) h.1 (map (λ i. tree b i.0) ids) (sym h.2 ∙ s) i) (rest_same h.0 (tree b head.0) h.1 (map (λ i. tree b i.0) ids) (sym h.2 ∙ s) i)) ∙ sym t,
     )
 
 pub stays_application : (σ : ℕ → Term) (k : ℕ) (b : Nodes) (old : List Task) (id head part : TermId) (parts ids : List TermId) (made front mid made' : List TermId) → app_node part.0 (map (λ i. i.0) parts) ≡ term_at b id.0 →
-    apply (tree b part.0) (map (tree b) (map (λ i. i.0) parts)) ≡ tree b id.0 → made ≡ front ++ ids → length ids ≡ length parts → front ≡ mid ++ head ∷ [] → id.0 < length b.terms → head.0 ≡ part.0 → ids ≡ parts →
+    apply (tree b part.0) (map (tree b) (map (λ i. i.0) parts)) ≡ tree b id.0 → made ≡ front ++ ids → length ids ≡ length parts → front ≡ mid ++ head ∷ [] → head.0 ≡ part.0 → ids ≡ parts →
     made' ≡ mid ++ id ∷ [] → KeepsInstancing σ k b b (old ++ Task.Build id ∷ []) old made made'
-stays_application σ k b old id head part parts ids made front mid made' q t m c f l s y z =
-    built_application σ k b b old id id head part.0 parts ids made front mid made' (extends_same b) q m c f l
+stays_application σ k b old id head part parts ids made front mid made' q t m c f s y z =
+    built_application σ k b b old id id head part.0 parts ids made front mid made' (extends_same b) q m c f (λ l. l)
     (sym t ∙ (λ i. apply (tree b (sym s i)) ((map_map (tree b) (λ i. i.0) parts ∙ ap (map (λ i. tree b i.0)) (sym y)) i))) z
 
 -- the start and the end

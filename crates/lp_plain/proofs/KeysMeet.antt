@@ -8,16 +8,16 @@ use Rattle.lp_term.specs.declared.node.TermId.{TermId}
 use Rattle.lp_term.specs.declared.node.TermNode.{TermNode}
 use Rattle.lp_model.specs.Same.{same_name}
 use Rattle.lp_model.specs.Search.{may_meet, key_of}
-use Rattle.lp_calculus.specs.Spine.{head_of}
+use Rattle.lp_term.specs.Spine.{head}
 use Rattle.lp_plain.specs.Heads.{IsTextKey}
 
-key_of_head : (t : Term) → key_of t ≡ key_of (head_of t)
+key_of_head : (t : Term) → key_of t ≡ key_of (head t)
 key_of_head (index i) = refl
 key_of_head (atom a) = refl
 key_of_head (abs b) = refl
 key_of_head (app f a) = key_of_head f
 
-pub key_is : (t h T : Term) → T ≡ h → h ≡ head_of t → key_of t ≡ key_of T
+pub key_is : (t h T : Term) → T ≡ h → h ≡ head t → key_of t ≡ key_of T
 key_is t h T e f = key_of_head t ∙ ap key_of (sym (e ∙ f))
 
 -- texts
@@ -43,7 +43,7 @@ no_text b n m (TermNode.App f ids) t s o e h q = no_text_ids b (tree b f.0) (map
 
 pub first_is_none : (b : Nodes) (n m : ℕ) (node : TermNode) (one other : TermId) → TermBelow n m (term_shape node) → node_tree b (term_shape node) ≡ tree b one.0 → ((bytes : Bor (List ℕ)) → node ≡ TermNode.Text bytes → ⊥) →
     (a o : Option _) → IsTextKey b one a → IsTextKey b other o → false ≡ may_meet a o
-first_is_none b n m node one other w e h a o k l = absurd (no_text b n m node (tree b one.0) k.1 w e h k.2)
+first_is_none b n m node one other w e h a o k l = absurd (no_text b n m node (tree b one.0) k.0 w e h k.1)
 
 same_text : (s r : List ℕ) (t : Term) → atom (text s) ≡ t → t ≡ atom (text r) → s ≡ r
 same_text s r t e f = cc
@@ -51,5 +51,5 @@ same_text s r t e f = cc
 pub texts_meet : (b : Nodes) (one other : TermId) (left : List ℕ) (r : Bool) → atom (text left) ≡ tree b one.0 → r ≡ same_name (atom (text left)) (tree b other.0) →
     (a o : Option _) → IsTextKey b one a → IsTextKey b other o → r ≡ may_meet a o
 texts_meet b one other left r e g a o k l =
-    let x : left ≡ k.1 = same_text left k.1 (tree b one.0) e k.2 in
-    g ∙ (λ i. same_name (atom (text (x i))) (l.2 i)) ∙ (λ i. may_meet (sym k.3 i) (sym l.3 i))
+    let x : left ≡ k.0 = same_text left k.0 (tree b one.0) e k.1 in
+    g ∙ (λ i. same_name (atom (text (x i))) (l.1 i)) ∙ (λ i. may_meet (sym k.2 i) (sym l.2 i))

@@ -1,4 +1,3 @@
-mod Copies
 mod HeadPlaces
 mod HeadsJoined
 mod KeysMeet

@@ -18,46 +18,46 @@ renews_kept : (by : ℕ) (b d : Nodes) → Extends b d → (t : Task) (us : List
 renews_kept by b d e (Task.Visit t) us T h = (omega (arith, h.0, e.more_types), h.1, h.2 ∙ ap (instance (further by)) (sym (e.same_types t.0 h.0)))
 renews_kept by b d e (Task.Build t) us T h = (omega (arith, h.0, e.more_types), transport (λ x. IsBuiltType x us T) (sym (e.types_stay t.0 h.0)) h.1)
 
-done_types : (by : ℕ) (b d : Nodes) (old : List Task) (t : Task) (made mid ids made' : List TypeId) (new : TypeId) → Extends b d → made ≡ mid ++ ids → new.0 < length d.types →
-    ((us : List Ty) (T : Ty) → Renews by b t us T → (length us ≡ length ids) × (us ≡ map (λ i. type_tree b i.0) ids → T ≡ type_tree d new.0)) → made' ≡ mid ++ new ∷ [] →
+done_types : (by : ℕ) (b d : Nodes) (old : List Task) (t : Task) (made mid ids made' : List TypeId) (new : TypeId) → Extends b d → made ≡ mid ++ ids →
+    ((us : List Ty) (T : Ty) → Renews by b t us T → (length us ≡ length ids) × (new.0 < length d.types) × (us ≡ map (λ i. type_tree b i.0) ids → T ≡ type_tree d new.0)) → made' ≡ mid ++ new ∷ [] →
     KeepsRenewing by b d (old ++ t ∷ []) old made made'
-done_types by b d old t made mid ids made' new e q l f z = λ r w.
+done_types by b d old t made mid ids made' new e q f z = λ r w.
     task_done (Renews by b) (Renews by d) (λ i. type_tree b i.0) (λ i. type_tree d i.0) (λ i. i.0 < length b.types) (λ i. i.0 < length d.types) (renews_kept by b d e) (λ i h. omega (arith, h, e.more_types))
-    (λ i h. e.same_types i.0 h) old t made mid ids made' new r q l f z w
+    (λ i h. e.same_types i.0 h) old t made mid ids made' new r q f z w
 
 -- a visit that makes the type at once
-pub visited : (by : ℕ) (b d : Nodes) (old : List Task) (id new : TypeId) (made made' : List TypeId) → Extends b d → new.0 < length d.types → type_tree d new.0 ≡ instance (further by) (type_tree b id.0) → made' ≡ made ++ new ∷ [] →
+pub visited : (by : ℕ) (b d : Nodes) (old : List Task) (id new : TypeId) (made made' : List TypeId) → Extends b d → (id.0 < length b.types → new.0 < length d.types) → type_tree d new.0 ≡ instance (further by) (type_tree b id.0) → made' ≡ made ++ new ∷ [] →
     KeepsRenewing by b d (old ++ Task.Visit id ∷ []) old made made'
 visited by b d old id new made made' e l q z =
-    done_types by b d old (Task.Visit id) made made [] made' new e (sym (append-nil made)) l (λ us T h. (ap length h.1, λ _. h.2 ∙ sym q)) z
+    done_types by b d old (Task.Visit id) made made [] made' new e (sym (append-nil made)) (λ us T h. (ap length h.1, l h.0, λ _. h.2 ∙ sym q)) z
 
 -- a constructor or an arrow on what was made last
 pub built_constructor : (by : ℕ) (b d : Nodes) (old : List Task) (id new : TypeId) (made mid ids made' : List TypeId) (c : ℕ) (parts : List TypeId) → Extends b d → con_node c (map (λ i. i.0) parts) ≡ type_at b id.0 → made ≡ mid ++ ids →
-    length ids ≡ length parts → new.0 < length d.types → type_tree d new.0 ≡ con c (tys (map (λ i. type_tree b i.0) ids)) → made' ≡ mid ++ new ∷ [] → KeepsRenewing by b d (old ++ Task.Build id ∷ []) old made made'
+    length ids ≡ length parts → (id.0 < length b.types → new.0 < length d.types) → type_tree d new.0 ≡ con c (tys (map (λ i. type_tree b i.0) ids)) → made' ≡ mid ++ new ∷ [] → KeepsRenewing by b d (old ++ Task.Build id ∷ []) old made made'
 built_constructor by b d old id new made mid ids made' c parts e n q k l t z =
-    done_types by b d old (Task.Build id) made mid ids made' new e q l (λ us T h. takes us T (transport (λ x. IsBuiltType x us T) (sym n) h.1)) z
+    done_types by b d old (Task.Build id) made mid ids made' new e q (λ us T h. takes us T h.0 (transport (λ x. IsBuiltType x us T) (sym n) h.1)) z
   where
-    takes : (us : List Ty) (T : Ty) → IsBuiltType (con_node c (map (λ i. i.0) parts)) us T → (length us ≡ length ids) × (us ≡ map (λ i. type_tree b i.0) ids → T ≡ type_tree d new.0)
-    takes us T h = (h.0 ∙ length-map parts (λ i. i.0) ∙ sym k, λ s. h.1 ∙ ap (λ x. con c (tys x)) s ∙ sym t)
+    takes : (us : List Ty) (T : Ty) → id.0 < length b.types → IsBuiltType (con_node c (map (λ i. i.0) parts)) us T → (length us ≡ length ids) × (new.0 < length d.types) × (us ≡ map (λ i. type_tree b i.0) ids → T ≡ type_tree d new.0)
+    takes us T m h = (h.0 ∙ length-map parts (λ i. i.0) ∙ sym k, l m, λ s. h.1 ∙ ap (λ x. con c (tys x)) s ∙ sym t)
 
 -- on its own parts
 pub stays_constructor : (by : ℕ) (b : Nodes) (old : List Task) (id : TypeId) (made mid ids made' : List TypeId) (c : ℕ) (parts : List TypeId) → con_node c (map (λ i. i.0) parts) ≡ type_at b id.0 →
-    con c (tys (map (type_tree b) (map (λ i. i.0) parts))) ≡ type_tree b id.0 → made ≡ mid ++ ids → length ids ≡ length parts → id.0 < length b.types → ids ≡ parts → made' ≡ mid ++ id ∷ [] →
+    con c (tys (map (type_tree b) (map (λ i. i.0) parts))) ≡ type_tree b id.0 → made ≡ mid ++ ids → length ids ≡ length parts → ids ≡ parts → made' ≡ mid ++ id ∷ [] →
     KeepsRenewing by b b (old ++ Task.Build id ∷ []) old made made'
-stays_constructor by b old id made mid ids made' c parts n t q k l s z =
-    built_constructor by b b old id id made mid ids made' c parts (extends_same b) n q k l
+stays_constructor by b old id made mid ids made' c parts n t q k s z =
+    built_constructor by b b old id id made mid ids made' c parts (extends_same b) n q k (λ l. l)
     (sym t ∙ ap (λ x. con c (tys x)) (map_map (type_tree b) (λ i. i.0) parts ∙ ap (map (λ i. type_tree b i.0)) (sym s))) z
 
 two : (x y u v : Ty) → x ∷ y ∷ [] ≡ u ∷ v ∷ [] → arrow x y ≡ arrow u v
 two x y u v e = cc
 
 pub built_arrow : (by : ℕ) (b d : Nodes) (old : List Task) (id new : TypeId) (made mid : List TypeId) (from to : TypeId) (made' : List TypeId) (i j : ℕ) → Extends b d → arrow_node i j ≡ type_at b id.0 → made ≡ mid ++ from ∷ to ∷ [] →
-    new.0 < length d.types → type_tree d new.0 ≡ arrow (type_tree b from.0) (type_tree b to.0) → made' ≡ mid ++ new ∷ [] → KeepsRenewing by b d (old ++ Task.Build id ∷ []) old made made'
+    (id.0 < length b.types → new.0 < length d.types) → type_tree d new.0 ≡ arrow (type_tree b from.0) (type_tree b to.0) → made' ≡ mid ++ new ∷ [] → KeepsRenewing by b d (old ++ Task.Build id ∷ []) old made made'
 built_arrow by b d old id new made mid from to made' i j e n q l t z =
-    done_types by b d old (Task.Build id) made mid (from ∷ to ∷ []) made' new e q l (λ us T h. takes us T (transport (λ x. IsBuiltType x us T) (sym n) h.1)) z
+    done_types by b d old (Task.Build id) made mid (from ∷ to ∷ []) made' new e q (λ us T h. takes us T h.0 (transport (λ x. IsBuiltType x us T) (sym n) h.1)) z
   where
-    takes : (us : List Ty) (T : Ty) → IsBuiltType (arrow_node i j) us T → (length us ≡ 2) × (us ≡ type_tree b from.0 ∷ type_tree b to.0 ∷ [] → T ≡ type_tree d new.0)
-    takes us T h = (ap length h.2, λ s. h.3 ∙ two h.0 h.1 _ _ (sym h.2 ∙ s) ∙ sym t)
+    takes : (us : List Ty) (T : Ty) → id.0 < length b.types → IsBuiltType (arrow_node i j) us T → (length us ≡ 2) × (new.0 < length d.types) × (us ≡ type_tree b from.0 ∷ type_tree b to.0 ∷ [] → T ≡ type_tree d new.0)
+    takes us T m h = (ap length h.2, l m, λ s. h.3 ∙ two h.0 h.1 _ _ (sym h.2 ∙ s) ∙ sym t)
 
 -- a type with parts
 instances_tys : (θ : ℕ → Ty) (ts : List Ty) → instances θ (tys ts) ≡ tys (map (instance θ) ts)
@@ -78,12 +78,12 @@ pushed : (old mid new more : List Task) (t : Task) → mid ≡ old ++ t ∷ [] �
 pushed old mid new more t p e =
     ap reverse e ∙ reverse-append mid (reverse more) ∙ (λ i. reverse-reverse more i ++ (ap reverse p ∙ reverse-append old (t ∷ [])) i)
 
-pub opened_constructor : (by : ℕ) (b : Nodes) (old mid new : List Task) (id : TypeId) (made : List TypeId) (c : ℕ) (ids : List TypeId) → id.0 < length b.types → con_node c (map (λ i. i.0) ids) ≡ type_at b id.0 →
+pub opened_constructor : (by : ℕ) (b : Nodes) (old mid new : List Task) (id : TypeId) (made : List TypeId) (c : ℕ) (ids : List TypeId) → con_node c (map (λ i. i.0) ids) ≡ type_at b id.0 →
     con c (tys (map (type_tree b) (map (λ i. i.0) ids))) ≡ type_tree b id.0 → All (λ i. i < id.0) (map (λ i. i.0) ids) → mid ≡ old ++ Task.Build id ∷ [] → new ≡ mid ++ reverse (visits ids) →
     KeepsRenewing by b b (old ++ Task.Visit id ∷ []) new made made
-opened_constructor by b old mid new id made c ids l n e a p q = λ r w.
+opened_constructor by b old mid new id made c ids n e a p q = λ r w.
     task_opens (Renews by b) (λ i. type_tree b i.0) (λ i. i.0 < length b.types) old new (Task.Visit id) (Task.Build id) made r (λ i. Task.Visit i) (λ i. instance (further by) (type_tree b i.0)) ids
-    (pushed old mid new (visits ids) (Task.Build id) p q) (λ us T h. (h.1, as_visits by b id.0 ids l a, (l, transport (λ x. IsBuiltType x (map (λ i. instance (further by) (type_tree b i.0)) ids) T) n (built T h.2)))) w
+    (pushed old mid new (visits ids) (Task.Build id) p q) (λ us T h. (h.1, as_visits by b id.0 ids h.0 a, (h.0, transport (λ x. IsBuiltType x (map (λ i. instance (further by) (type_tree b i.0)) ids) T) n (built T h.2)))) w
   where
     built : (T : Ty) → T ≡ instance (further by) (type_tree b id.0) → IsBuiltType (con_node c (map (λ i. i.0) ids)) (map (λ i. instance (further by) (type_tree b i.0)) ids) T
     built T h = (
@@ -91,18 +91,18 @@ opened_constructor by b old mid new id made c ids l n e a p q = λ r w.
       h ∙ ap (instance (further by)) (sym e) ∙ ap (con c) (instances_tys (further by) (map (type_tree b) (map (λ i. i.0) ids))) ∙ ap (λ l. con c (tys l)) (renewed_parts by b ids),
     )
 
-pub opened_arrow : (by : ℕ) (b : Nodes) (old mid more new : List Task) (id : TypeId) (made : List TypeId) (from to : TypeId) → id.0 < length b.types → arrow_node from.0 to.0 ≡ type_at b id.0 →
+pub opened_arrow : (by : ℕ) (b : Nodes) (old mid more new : List Task) (id : TypeId) (made : List TypeId) (from to : TypeId) → arrow_node from.0 to.0 ≡ type_at b id.0 →
     arrow (type_tree b from.0) (type_tree b to.0) ≡ type_tree b id.0 → from.0 < id.0 → to.0 < id.0 → mid ≡ old ++ Task.Build id ∷ [] → more ≡ mid ++ Task.Visit to ∷ [] → new ≡ more ++ Task.Visit from ∷ [] →
     KeepsRenewing by b b (old ++ Task.Visit id ∷ []) new made made
-opened_arrow by b old mid more new id made from to l n e f t p q z = λ r w.
+opened_arrow by b old mid more new id made from to n e f t p q z = λ r w.
     task_opens (Renews by b) (λ i. type_tree b i.0) (λ i. i.0 < length b.types) old new (Task.Visit id) (Task.Build id) made r (λ i. Task.Visit i) (λ i. instance (further by) (type_tree b i.0)) (from ∷ to ∷ [])
     (ap reverse z ∙ reverse-append more (Task.Visit from ∷ []) ∙
     ap (λ x. Task.Visit from ∷ x) (ap reverse q ∙ reverse-append mid (Task.Visit to ∷ []) ∙ ap (λ x. Task.Visit to ∷ x) (ap reverse p ∙ reverse-append old (Task.Build id ∷ []))))
     (λ us T h. (
       h.1,
-      All-cons V from (to ∷ []) (omega (arith, f, l), refl, refl) (All-cons V to [] (omega (arith, t, l), refl, refl) (All-nil V)),
+      All-cons V from (to ∷ []) (omega (arith, f, h.0), refl, refl) (All-cons V to [] (omega (arith, t, h.0), refl, refl) (All-nil V)),
       (
-        l,
+        h.0,
         transport (λ x. IsBuiltType x (instance (further by) (type_tree b from.0) ∷ instance (further by) (type_tree b to.0) ∷ []) T) n
             (instance (further by) (type_tree b from.0), instance (further by) (type_tree b to.0), refl, h.2 ∙ ap (instance (further by)) (sym e)),
       ),

@@ -43,17 +43,17 @@ next D old t made r w = transport (λ l. Ends D l made r) (reverse-append old (t
 
 -- the task takes the values of these numbers, and makes that of the new one
 pub task_done : {T I V : Type 0} (D E : T → List V → V → Type 0) (read now : I → V) (K L : I → Type 0) → ((t : T) (us : List V) (v : V) → D t us v → E t us v) → ((i : I) → K i → L i) →
-    ((i : I) → K i → now i ≡ read i) → (old : List T) (t : T) (made mid ids made' : List I) (new : I) (r : V) → made ≡ mid ++ ids → L new →
-    ((us : List V) (v : V) → D t us v → (length us ≡ length ids) × (us ≡ map read ids → v ≡ now new)) → made' ≡ mid ++ new ∷ [] → IsLeft D read K (old ++ t ∷ []) made r → IsLeft E now L old made' r
-task_done D E read now K L grow known same old t made mid ids made' new r q l f z w =
+    ((i : I) → K i → now i ≡ read i) → (old : List T) (t : T) (made mid ids made' : List I) (new : I) (r : V) → made ≡ mid ++ ids →
+    ((us : List V) (v : V) → D t us v → (length us ≡ length ids) × L new × (us ≡ map read ids → v ≡ now new)) → made' ≡ mid ++ new ∷ [] → IsLeft D read K (old ++ t ∷ []) made r → IsLeft E now L old made' r
+task_done D E read now K L grow known same old t made mid ids made' new r q f z w =
     let a : All K (mid ++ ids) = transport (All K) q w.known in
     let m : All K mid = All-front K mid ids a in
     let h = next D old t (map read made) r w.ends in
     let p = f h.1 h.2 h.4 in
     let e : map read mid ++ map read ids ≡ h.0 ++ h.1 = sym (ap (map read) q ∙ map-append read mid ids) ∙ h.3 in
     let s = tails_same (map read mid) h.0 (map read ids) h.1 (length-map ids read ∙ sym p.0) e in
-    let v : h.2 ≡ now new = p.1 (sym s.1) in record {
-      known = transport (All L) (sym z) (All-push L mid new (All-weaker K L known mid m) l);
+    let v : h.2 ≡ now new = p.2 (sym s.1) in record {
+      known = transport (All L) (sym z) (All-push L mid new (All-weaker K L known mid m) p.1);
       ends = transport (λ x. Ends E (reverse old) x r)
           ((λ i. sym s.0 i ++ v i ∷ []) ∙ ap (λ x. x ++ now new ∷ []) (sym (same_on K read now same mid m)) ∙ sym (map-append now mid (new ∷ [])) ∙ ap (map now) (sym z))
           (weaker D E grow (reverse old) (h.0 ++ h.2 ∷ []) r h.5);

@@ -1,5 +1,5 @@
 -- The clauses that may meet a goal, by their numbers: the program's are linked by the constants at their heads, the assumed ones by their heads.
-use Rattle.std.specs.Prelude.{◌≡◌, ℕ, zero, suc, ◌-◌, ◌≤◌, Bool, true, false, nat_eq, nat_lt, ◌&&◌, List, [], ◌∷◌, ◌++◌, map, filter, length, Option, Some, None, slice_get}
+use Rattle.std.specs.Prelude.{◌≡◌, ℕ, zero, suc, ◌-◌, ◌≤◌, Bool, true, false, nat_eq, List, [], ◌∷◌, ◌++◌, map, filter, Option, Some, None, slice_get}
 use Rattle.std.specs.Ordering.{int_eq}
 use Rattle.lp_calculus.specs.Term.{Term, atom, constant, text}
 use Rattle.lp_model.specs.Same.{same_name}
@@ -82,7 +82,7 @@ is_text_of (atom (text s)) t = same_name (atom (text s)) t
 is_text_of _ t = false
 
 abbrev pub same_texts : Nodes → ℕ → ℕ → Bool
-same_texts b i j = nat_lt i (length b.terms) && (nat_lt j (length b.terms) && is_text_of (tree b i) (tree b j))
+same_texts b i j = is_text_of (tree b i) (tree b j)
 
 abbrev pub same_keys : Nodes → Key → Key → Bool
 same_keys b (key.Constant c) (key.Constant d) = nat_eq c d

@@ -13,7 +13,7 @@ use Rattle.lp_plain.specs.declared.head.Place.{Place}
 
 -- the term is a text, and this is its key
 abbrev pub IsTextKey : Nodes → TermId → Option Atom → Type 0
-IsTextKey b t a = (t.0 < length b.terms) × (s : List ℕ) × (tree b t.0 ≡ atom (text s)) × (a ≡ Some (text s))
+IsTextKey b t a = (s : List ℕ) × (tree b t.0 ≡ atom (text s)) × (a ≡ Some (text s))
 
 -- what a key stands for
 abbrev pub IsKey : Nodes → Option Key → Option Atom → Type 0

@@ -2,12 +2,11 @@
 ghost use Rattle.std.specs.Prelude.{◌≡◌, true, length, All, IfOk};
 ghost use Rattle.lp_plain.specs.Answers.{CanBeShown, CanPairBeShown, IsWhole};
 
-use crate::copy::Copies;
 use crate::machine::Machine;
 use lp_base::Memory;
 use lp_model::{Answer, Pair};
 use lp_pattern::filled;
-use lp_term::{Bank, TermId};
+use lp_term::{Bank, Changed, Same, TermId};
 use std::alloc::Global;
 
 // The term with all bindings put in.
@@ -18,13 +17,12 @@ fn filled_in(machine: &mut Machine, term: TermId) -> Result<TermId, Memory> {
 // The term with all bindings put in, in another bank.
 fn shown(
     machine: &mut Machine,
-    copies: &mut Copies,
+    copies: &mut Changed,
     term: TermId,
     to: &mut Bank,
 ) -> Result<TermId, Memory> {
     let full = filled_in(machine, term)?;
-    let copy = copies.copy(machine.alloc, &machine.bank, full, to)?;
-    Ok(copy)
+    copies.copy(machine.alloc, &Same, &machine.bank, full, to)
 }
 
 fn can_be_shown(bank: &Bank, id: TermId) -> bool
@@ -87,7 +85,7 @@ pub(crate) fn answer_of(machine: &mut Machine, variables: &Vec<TermId>) -> Resul
 {
     let alloc = machine.alloc;
     let mut bank = Bank::new(alloc);
-    let mut copies = Copies::new(alloc);
+    let mut copies = Changed::new(alloc);
     let mut values = Vec::new(alloc);
     for variable in variables {
         values.push(shown(machine, &mut copies, *variable, &mut bank)?)?;

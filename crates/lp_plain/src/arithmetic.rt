@@ -1,12 +1,11 @@
 // The values of expressions.
 
-use crate::known::known;
 use crate::machine::Machine;
-use crate::spine::{Spine, unwound};
-use crate::unified::{LIMIT, head_normal};
-use lp_base::{Compare, Memory};
+use crate::unified::head_normal;
+use lp_base::{Compare, Memory, RUN_LIMIT};
 use lp_model::Fault;
-use lp_term::{Bank, TermId, TermNode};
+use lp_standard::Constant;
+use lp_term::{Bank, Spine, TermId, TermNode, put_integer, put_text, spine_of};
 use std::alloc::Global;
 
 /// A value. A text is known by a term.
@@ -27,33 +26,52 @@ pub(crate) enum Outcome {
 #[derive(Clone, Copy)]
 enum Task {
     Visit(TermId),
-    /// The operation of this number on the last two values, or on the last one.
-    Two(u32),
-    One(u32),
+    /// The operation on the last two values, or on the last one.
+    Two(Constant),
+    One(Constant),
 }
 
 /// A head-normal expression.
 #[derive(Clone, Copy)]
 enum Expression {
     Leaf(Value),
-    Two(u32, TermId, TermId),
-    One(u32, TermId),
+    Two(Constant, TermId, TermId),
+    One(Constant, TermId),
     Other,
 }
 
-fn applied(number: u32, args: &[TermId]) -> Expression {
-    match args {
-        [left, right] if (16 <= number && number <= 20) || number == 22 => {
-            Expression::Two(number, *left, *right)
+fn on_two_args(operation: Constant, left: TermId, right: TermId) -> Expression {
+    match operation {
+        Constant::Add | Constant::Subtract | Constant::Multiply => {
+            Expression::Two(operation, left, right)
         }
-        [arg] if number == 21 || number == 23 => Expression::One(number, *arg),
+        Constant::Divide | Constant::Remainder | Constant::Concatenate => {
+            Expression::Two(operation, left, right)
+        }
+        _ => Expression::Other,
+    }
+}
+
+fn on_one_arg(operation: Constant, arg: TermId) -> Expression {
+    match operation {
+        Constant::Negate | Constant::Size => Expression::One(operation, arg),
+        _ => Expression::Other,
+    }
+}
+
+fn applied(number: u32, args: &[TermId]) -> Expression {
+    let Some(operation) = Constant::from_number(number) else {
+        return Expression::Other;
+    };
+    match args {
+        [left, right] => on_two_args(operation, *left, *right),
+        [arg] => on_one_arg(operation, *arg),
         _ => Expression::Other,
     }
 }
 
 fn read_expression(alloc: Global, bank: &Bank, term: TermId) -> Result<Expression, Memory> {
-    let Spine { head, args } = unwound(alloc, bank, term)?;
-    known(bank, head)?;
+    let Spine { head, args } = spine_of(alloc, bank, term)?;
     match bank.term_node(head) {
         TermNode::Int(value) if args.is_empty() => Ok(Expression::Leaf(Value::Number(value))),
         TermNode::Text(_) if args.is_empty() => Ok(Expression::Leaf(Value::Text(head))),
@@ -70,21 +88,21 @@ fn number(value: Option<i64>) -> Outcome {
     }
 }
 
-fn on_numbers(operation: u32, left: i64, right: i64) -> Outcome {
+fn on_numbers(operation: Constant, left: i64, right: i64) -> Outcome {
     match operation {
-        16 => number(left.checked_add(right)),
-        17 => number(left.checked_sub(right)),
-        18 => number(left.checked_mul(right)),
-        19 if right == 0 => Outcome::Faults(Fault::ZeroDivisor),
-        20 if right == 0 => Outcome::Faults(Fault::ZeroDivisor),
-        19 => number(left.checked_div(right)),
-        20 => number(left.checked_rem(right)),
+        Constant::Add => number(left.checked_add(right)),
+        Constant::Subtract => number(left.checked_sub(right)),
+        Constant::Multiply => number(left.checked_mul(right)),
+        Constant::Divide | Constant::Remainder if right == 0 => {
+            Outcome::Faults(Fault::ZeroDivisor)
+        }
+        Constant::Divide => number(left.checked_div(right)),
+        Constant::Remainder => number(left.checked_rem(right)),
         _ => Outcome::Faults(Fault::NotClosed),
     }
 }
 
 fn add_text(bank: &Bank, text: TermId, out: &mut Vec<u8>) -> Result<(), Memory> {
-    known(bank, text)?;
     if let TermNode::Text(bytes) = bank.term_node(text) {
         out.extend_from_slice(bytes)?;
     }
@@ -95,20 +113,20 @@ fn joined(alloc: Global, bank: &mut Bank, left: TermId, right: TermId) -> Result
     let mut bytes = Vec::new(alloc);
     add_text(bank, left, &mut bytes)?;
     add_text(bank, right, &mut bytes)?;
-    bank.put_term(TermNode::Text(bytes.as_slice()))
+    put_text(bank, bytes.as_slice())
 }
 
 fn on_two(
     alloc: Global,
     bank: &mut Bank,
-    operation: u32,
+    operation: Constant,
     left: Value,
     right: Value,
 ) -> Result<Outcome, Memory> {
     match (left, right) {
         (Value::Number(a), Value::Number(b)) => Ok(on_numbers(operation, a, b)),
         (Value::Text(a), Value::Text(b)) => {
-            if operation != 22 {
+            if operation != Constant::Concatenate {
                 return Ok(Outcome::Faults(Fault::NotClosed));
             }
             let text = joined(alloc, bank, a, b)?;
@@ -118,19 +136,18 @@ fn on_two(
     }
 }
 
-fn size_of_text(bank: &Bank, text: TermId) -> Result<Outcome, Memory> {
-    known(bank, text)?;
+fn size_of_text(bank: &Bank, text: TermId) -> Outcome {
     let TermNode::Text(bytes) = bank.term_node(text) else {
-        return Ok(Outcome::Faults(Fault::NotClosed));
+        return Outcome::Faults(Fault::NotClosed);
     };
-    Ok(number(i64::try_from(bytes.len()).ok()))
+    number(i64::try_from(bytes.len()).ok())
 }
 
-fn on_one(bank: &Bank, operation: u32, value: Value) -> Result<Outcome, Memory> {
-    match value {
-        Value::Number(a) if operation == 21 => Ok(number(a.checked_neg())),
-        Value::Text(text) if operation == 23 => size_of_text(bank, text),
-        _ => Ok(Outcome::Faults(Fault::NotClosed)),
+fn on_one(bank: &Bank, operation: Constant, value: Value) -> Outcome {
+    match (operation, value) {
+        (Constant::Negate, Value::Number(a)) => number(a.checked_neg()),
+        (Constant::Size, Value::Text(text)) => size_of_text(bank, text),
+        _ => Outcome::Faults(Fault::NotClosed),
     }
 }
 
@@ -173,7 +190,7 @@ fn keep(outcome: Outcome, values: &mut Vec<Value>) -> Result<Option<Outcome>, Me
 
 fn operate_on_two(
     machine: &mut Machine,
-    operation: u32,
+    operation: Constant,
     values: &mut Vec<Value>,
 ) -> Result<Option<Outcome>, Memory> {
     let Some(right) = values.pop() else {
@@ -188,13 +205,13 @@ fn operate_on_two(
 
 fn operate_on_one(
     machine: &Machine,
-    operation: u32,
+    operation: Constant,
     values: &mut Vec<Value>,
 ) -> Result<Option<Outcome>, Memory> {
     let Some(value) = values.pop() else {
         return Err(Memory);
     };
-    let outcome = on_one(&machine.bank, operation, value)?;
+    let outcome = on_one(&machine.bank, operation, value);
     keep(outcome, values)
 }
 
@@ -230,7 +247,7 @@ pub(crate) fn evaluate(machine: &mut Machine, term: TermId) -> Result<Outcome, M
             return values.pop().map(Outcome::Is).ok_or(Memory);
         };
         if is_visit(task) {
-            if visited >= LIMIT {
+            if visited >= RUN_LIMIT {
                 return Ok(Outcome::Deep);
             }
             visited += 1;
@@ -245,7 +262,7 @@ pub(crate) fn evaluate(machine: &mut Machine, term: TermId) -> Result<Outcome, M
 /// The term of a value.
 pub(crate) fn term_of(bank: &mut Bank, value: Value) -> Result<TermId, Memory> {
     match value {
-        Value::Number(number) => bank.put_term(TermNode::Int(number)),
+        Value::Number(number) => put_integer(bank, number),
         Value::Text(text) => Ok(text),
     }
 }

@@ -13,15 +13,16 @@ use crate::outcome::{Turn, take_step, turn_of};
 use crate::unified::{equate, head_normal};
 use lp_base::{Compare, Memory};
 use lp_model::{Ending, Fault};
+use lp_standard::Constant;
 use lp_term::TermId;
 use lp_watch::{Crowd, Note, Watch};
 
-fn order_number(order: Compare) -> u32 {
+fn order_constant(order: Compare) -> Constant {
     match order {
-        Compare::Less => 10,
-        Compare::Greater => 11,
-        Compare::AtMost => 12,
-        Compare::AtLeast => 13,
+        Compare::Less => Constant::Less,
+        Compare::Greater => Constant::Greater,
+        Compare::AtMost => Constant::AtMost,
+        Compare::AtLeast => Constant::AtLeast,
     }
 }
 
@@ -32,9 +33,9 @@ fn tell_goal<W: Watch>(
     form: Form,
 ) -> Result<(), Memory> {
     match form {
-        Form::Equal(_, _) => tell_constant(machine, crowd, 8),
-        Form::Is(_, _) => tell_constant(machine, crowd, 9),
-        Form::Order(order, _, _) => tell_constant(machine, crowd, order_number(order)),
+        Form::Equal(_, _) => crowd.tell(Note::Goal(Constant::Equal.name())),
+        Form::Is(_, _) => crowd.tell(Note::Goal(Constant::Is.name())),
+        Form::Order(order, _, _) => crowd.tell(Note::Goal(order_constant(order).name())),
         Form::Call(Head::Constant(number), _) => tell_constant(machine, crowd, number),
         Form::Call(Head::Eigen(level), _) => tell_eigen(machine.alloc, crowd, level),
         _ => tell_variable(crowd),
@@ -113,7 +114,7 @@ fn take_call(
             return Ok(Turn::Ended(Ending::Deep));
         };
         looked = Some(form);
-        key = key_of(&machine.bank, form)?;
+        key = key_of(&machine.bank, form);
     }
     let call = Call {
         goal,

@@ -1,7 +1,6 @@
 // One try of a clause for a goal.
-ghost use Rattle.std.specs.Prelude.{◌≡◌, ◌<◌, ℕ, ◌+◌, length, IfOk};
-ghost use Rattle.lp_calculus.specs.Term.{atom, logic};
-ghost use Rattle.lp_term.specs.Nodes.{Extends, tree};
+ghost use Rattle.std.specs.Prelude.{◌≡◌, ℕ, ◌+◌, length, IfOk};
+ghost use Rattle.lp_term.specs.Nodes.{Extends};
 ghost use Rattle.lp_plain.specs.Slots.{AreIn, IsSlotted, AreSlotted};
 
 use crate::candidates::Candidate;
@@ -9,15 +8,13 @@ use crate::choice::Call;
 use crate::frame::Place;
 use crate::head::HeadPair;
 use crate::instance::{Values, instance};
-use crate::known::known;
 use crate::machine::Machine;
 use crate::scope::Scopes;
-use crate::spine::{Spine, unwound};
 use crate::types::renewed;
 use crate::unified::{Unified, unify};
 use lp_base::Memory;
 use lp_model::Pair;
-use lp_term::{Bank, TermId, TermNode, TypeId};
+use lp_term::{Bank, Spine, TermId, TermNode, TypeId, put_logic, spine_of};
 use std::alloc::Global;
 
 // The number of the candidate's clause, and what stands around it. A program clause gets new type variables.
@@ -52,15 +49,6 @@ fn new_types(machine: &mut Machine, rule: usize) -> Result<u64, Memory> {
     Ok(types)
 }
 
-fn put_variable(bank: &mut Bank, id: u64, level: u64) -> Result<TermId, Memory>
-    ensures kept { Extends bank.old bank.new }
-    ensures within { IfOk result (λ t. t.0 < length bank.new.terms) }
-    ensures tree { IfOk result (λ t. tree bank.new t.0 ≡ atom (logic id level)) }
-{
-    let made = bank.put_term(TermNode::Logic { id, level })?;
-    Ok(made)
-}
-
 // What a variable of the clause becomes: the goal's argument, or a new variable.
 fn slot_value(
     bank: &mut Bank,
@@ -73,11 +61,11 @@ fn slot_value(
     ensures value { IfOk result (λ t. (next k : ℕ) → id ≡ next + k → AreIn bank.old args.now → IsSlotted bank.old bank.new args.now next level k slot t) }
 {
     let Some(place) = slot else {
-        return put_variable(bank, id, level);
+        return put_logic(bank, id, level);
     };
     match args.get(place) {
         Some(arg) => Ok(*arg),
-        None => put_variable(bank, id, level),
+        None => put_logic(bank, id, level),
     }
 }
 
@@ -145,8 +133,6 @@ fn zipped_types(
     clause: TermId,
 ) -> Result<Vec<(TypeId, TypeId)>, Memory> {
     let mut pairs = Vec::new(alloc);
-    known(bank, goal)?;
-    known(bank, clause)?;
     let TermNode::Const(_, lefts) = bank.term_node(goal) else {
         return Ok(pairs);
     };
@@ -248,8 +234,8 @@ fn put_body(
 }
 
 // The head of a goal and its arguments. The first one was looked at already: it is not reduced anew for each clause.
-fn spine_of(machine: &Machine, call: &Call) -> Result<Spine, Memory> {
-    let mut spine = unwound(machine.alloc, &machine.bank, call.goal)?;
+fn looked_at(machine: &Machine, call: &Call) -> Result<Spine, Memory> {
+    let mut spine = spine_of(machine.alloc, &machine.bank, call.goal)?;
     if let (Some(form), Some(first)) = (call.first, spine.args.get_mut(0)) {
         *first = form;
     }
@@ -264,7 +250,7 @@ pub(crate) fn attempt(
     candidate: Candidate,
     mark: usize,
 ) -> Result<Unified, Memory> {
-    let Spine { head, args } = spine_of(machine, call)?;
+    let Spine { head, args } = looked_at(machine, call)?;
     let level = call.place.level;
     let (rule, around) = clause_of(machine, candidate)?;
     let values = open(machine, rule, args.as_slice(), level, around)?;

@@ -8,7 +8,6 @@ ghost use Rattle.lp_plain.specs.Candidates.{constant_at, set_next, unlinked, IsL
 use crate::choice::Call;
 use crate::frame::Assumption;
 use crate::head::{Head, Key, may_meet};
-use crate::known::known;
 use crate::newest::{Newest, newest_of};
 use crate::table::{Rule, Span};
 use lp_base::Memory;
@@ -33,7 +32,6 @@ fn constant_of(bank: &Bank, rules: &Vec<Rule>, number: usize) -> Result<Option<u
     let Some(rule) = rules.get(number) else {
         return Err(Memory);
     };
-    known(bank, rule.head)?;
     match bank.term_node(rule.head) {
         TermNode::Const(constant, _) => Ok(Some(constant)),
         TermNode::Index(_) => Ok(None),

@@ -1,24 +1,17 @@
-// What a goal is by its head-normal form.
+// What an atomic goal is by its head-normal form.
 ghost use Rattle.std.specs.Prelude.{◌≡◌, IfOk};
 ghost use Rattle.lp_term.specs.Nodes.{tree};
-ghost use Rattle.lp_plain.specs.Forms.{by_one, by_two, by_constant, HasItsTypes, IsForm};
+ghost use Rattle.lp_plain.specs.Forms.{relation_by, by_two, by_constant, IsForm};
 
 use crate::head::Head;
-use crate::known::known;
-use crate::spine::{Spine, unwound};
 use lp_base::{Compare, Memory};
-use lp_term::{Bank, TermId, TermNode};
+use lp_standard::Constant;
+use lp_term::{Bank, Spine, TermId, TermNode, spine_of};
 use std::alloc::Global;
 
-/// A goal by its head-normal form.
+/// An atomic goal by its head-normal form.
 #[derive(Clone, Copy)]
 pub(crate) enum Form {
-    Truth,
-    Both(TermId, TermId),
-    OneOf(TermId, TermId),
-    /// `pi` and `sigma` of a term.
-    Every(TermId),
-    Exist(TermId),
     Equal(TermId, TermId),
     Is(TermId, TermId),
     Order(Compare, TermId, TermId),
@@ -30,30 +23,28 @@ pub(crate) enum Form {
     Other,
 }
 
-fn of_two(number: u32, left: TermId, right: TermId) -> Form
-    ensures { result ≡ by_two number left right }
+// What a constant makes of two terms, where no clauses define it.
+fn relation(constant: Constant, left: TermId, right: TermId) -> Option<Form>
+    ensures { result ≡ relation_by constant left right }
 {
-    match number {
-        0 => Form::Both(left, right),
-        1 => Form::OneOf(left, right),
-        2 | 3 => Form::Other,
-        8 => Form::Equal(left, right),
-        9 => Form::Is(left, right),
-        10 => Form::Order(Compare::Less, left, right),
-        11 => Form::Order(Compare::Greater, left, right),
-        12 => Form::Order(Compare::AtMost, left, right),
-        13 => Form::Order(Compare::AtLeast, left, right),
-        _ => Form::Call(Head::Constant(number), Some(left)),
+    match constant {
+        Constant::Equal => Some(Form::Equal(left, right)),
+        Constant::Is => Some(Form::Is(left, right)),
+        Constant::Less => Some(Form::Order(Compare::Less, left, right)),
+        Constant::Greater => Some(Form::Order(Compare::Greater, left, right)),
+        Constant::AtMost => Some(Form::Order(Compare::AtMost, left, right)),
+        Constant::AtLeast => Some(Form::Order(Compare::AtLeast, left, right)),
+        _ => None,
     }
 }
 
-fn of_one(number: u32, arg: TermId) -> Form
-    ensures { result ≡ by_one number arg }
+fn of_two(number: u32, left: TermId, right: TermId) -> Form
+    ensures { result ≡ by_two number left right }
 {
-    match number {
-        4 => Form::Every(arg),
-        5 => Form::Exist(arg),
-        _ => Form::Call(Head::Constant(number), Some(arg)),
+    let call = Form::Call(Head::Constant(number), Some(left));
+    match Constant::from_number(number) {
+        Some(constant) => relation(constant, left, right).unwrap_or(call),
+        None => call,
     }
 }
 
@@ -61,23 +52,17 @@ fn of_constant(number: u32, args: &[TermId]) -> Form
     ensures { result ≡ by_constant number args.now }
 {
     match args {
-        [] => match number {
-            6 => Form::Truth,
-            7 => Form::Other,
-            _ => Form::Call(Head::Constant(number), None),
-        },
-        [arg] => of_one(number, *arg),
         [left, right] => of_two(number, *left, *right),
+        [] => Form::Call(Head::Constant(number), None),
         [first, ..] => Form::Call(Head::Constant(number), Some(*first)),
     }
 }
 
-/// What a head-normal goal is.
+/// What a head-normal atomic goal is.
 pub(crate) fn form_of(alloc: Global, bank: &Bank, goal: TermId) -> Result<Form, Memory>
-    ensures { IfOk result (λ form. HasItsTypes (tree bank.now goal.0) → IsForm bank.now (tree bank.now goal.0) form) }
+    ensures { IfOk result (IsForm bank.now (tree bank.now goal.0)) }
 {
-    let Spine { head, args } = unwound(alloc, bank, goal)?;
-    known(bank, head)?;
+    let Spine { head, args } = spine_of(alloc, bank, goal)?;
     match bank.term_node(head) {
         TermNode::Const(number, _) => Ok(of_constant(number, args.as_slice())),
         TermNode::Eigen(level) => Ok(Form::Call(Head::Eigen(level), args.first().copied())),

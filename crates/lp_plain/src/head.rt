@@ -2,16 +2,15 @@
 ghost use Rattle.std.specs.Prelude.{◌≡◌, ◌<◌, ℕ, ◌+◌, ◌++◌, ◌||◌, ◌∷◌, [], nat_eq, true, None, Some, Option, List, All, get_or, set, length, map, IfOk, OnOk};
 ghost use Rattle.lp_calculus.specs.Term.{Term, Atom, index, atom, constant, integer, text, eigen};
 ghost use Rattle.lp_term.specs.Nodes.{Nodes, tree};
+ghost use Rattle.lp_term.specs.Within.{AreTermsOf};
 ghost use Rattle.lp_model.specs.Same.{same_name};
 ghost use Rattle.lp_model.specs.Search.{key_of, may_meet, first_key, slotted, slots_of, pairs_of};
 ghost use Rattle.lp_plain.specs.Candidates.{same_texts, same_keys, meets};
 ghost use Rattle.lp_plain.specs.declared.head.Key.TheVariants as kept;
 ghost use Rattle.lp_plain.specs.Heads.{IsKey, IsTextKey, trees_of, slot_place, pair_places, pair_in, new_among, with_slot, with_pair, places_of, stands, MarksMore, HaveBecome, slot_term, pairs_at};
 
-use crate::known::known;
-use crate::spine::head_of;
 use lp_base::Memory;
-use lp_term::{Bank, TermId, TermNode};
+use lp_term::{Bank, TermId, TermNode, head_of};
 use std::alloc::Global;
 
 /// The head of an atom: a constant, or the eigenconstant of a level.
@@ -107,7 +106,6 @@ fn mark_node(
     ensures marks { OnOk result ((k : ℕ) → (get_or seen.new.items k true || stands bank.now k places.new.items) ≡ (get_or seen.old.items k true || stands bank.now k (places.old.items ++ place ∷ []))) }
 {
     let depth = place.depth;
-    known(bank, place.term)?;
     if bank.is_known_below(place.term, depth) {
         return Ok(());
     }
@@ -162,21 +160,19 @@ fn unmarked(at: u64, seen: &Vec<bool>) -> Option<usize>
 }
 
 // The variable of the clause that the argument is, if it was not seen before.
-fn new_variable(bank: &Bank, arg: TermId, seen: &Vec<bool>) -> Result<Option<usize>, Memory>
-    ensures known { OnOk result (arg.0 < length bank.now.terms) }
-    ensures variable { IfOk result (λ variable. variable ≡ new_among seen.now.items (tree bank.now arg.0)) }
+fn new_variable(bank: &Bank, arg: TermId, seen: &Vec<bool>) -> Option<usize>
+    ensures { result ≡ new_among seen.now.items (tree bank.now arg.0) }
 {
-    known(bank, arg)?;
     match bank.term_node(arg) {
-        TermNode::Index(at) => Ok(unmarked(at, seen)),
-        TermNode::Abs(_) => Ok(None),
-        TermNode::App(_, _) => Ok(None),
-        TermNode::Const(_, _) => Ok(None),
-        TermNode::Int(_) => Ok(None),
-        TermNode::Text(_) => Ok(None),
-        TermNode::Eigen(_) => Ok(None),
-        TermNode::Logic { id: _, level: _ } => Ok(None),
-        TermNode::Param(_, _) => Ok(None),
+        TermNode::Index(at) => unmarked(at, seen),
+        TermNode::Abs(_) => None,
+        TermNode::App(_, _) => None,
+        TermNode::Const(_, _) => None,
+        TermNode::Int(_) => None,
+        TermNode::Text(_) => None,
+        TermNode::Eigen(_) => None,
+        TermNode::Logic { id: _, level: _ } => None,
+        TermNode::Param(_, _) => None,
     }
 }
 
@@ -196,12 +192,11 @@ fn add_arg(
     seen: &mut Vec<bool>,
     made: &mut HeadArgs,
 ) -> Result<(), Memory>
-    ensures known { OnOk result (term.0 < length bank.now.terms) }
     ensures marks { OnOk result (MarksMore seen.old.items seen.new.items (tree bank.now term.0)) }
     ensures slots { OnOk result (made.new.slots.items ≡ with_slot (new_among seen.old.items (tree bank.now term.0)) place made.old.slots.items) }
     ensures pairs { OnOk result (made.new.pairs.items ≡ made.old.pairs.items ++ with_pair (new_among seen.old.items (tree bank.now term.0)) place term) }
 {
-    let Some(variable) = new_variable(bank, term, seen)? else {
+    let Some(variable) = new_variable(bank, term, seen) else {
         made.pairs.push(HeadPair { place, term })?;
         return mark_variables(alloc, bank, term, seen);
     };
@@ -217,7 +212,7 @@ pub(crate) fn head_args(
     vars: usize,
     args: &[TermId],
 ) -> Result<HeadArgs, Memory>
-    ensures known { IfOk result (λ made. All (λ p. p.term.0 < length bank.now.terms) made.pairs.items) }
+    ensures within { IfOk result (λ made. AreTermsOf bank.now args.now → All (λ p. p.term.0 < length bank.now.terms) made.pairs.items) }
     ensures count { IfOk result (λ made. length made.slots.items ≡ vars) }
     ensures slots { IfOk result (λ made. (k : ℕ) → k < vars → get_or made.slots.items k None ≡ slot_place k 0 [] (trees_of bank.now args.now)) }
     ensures pairs { IfOk result (λ made. map (pair_in bank.now) made.pairs.items ≡ pair_places vars 0 [] (trees_of bank.now args.now)) }
@@ -240,27 +235,25 @@ pub(crate) fn head_args(
 }
 
 /// The constant, integer, text or eigenconstant at the head of what is no abstraction.
-pub(crate) fn key_of(bank: &Bank, term: TermId) -> Result<Option<Key>, Memory>
-    ensures { IfOk result (λ key. IsKey bank.now key (key_of (tree bank.now term.0))) }
+pub(crate) fn key_of(bank: &Bank, term: TermId) -> Option<Key>
+    ensures { IsKey bank.now result (key_of (tree bank.now term.0)) }
 {
-    let head = head_of(bank, term)?;
-    known(bank, head)?;
+    let head = head_of(bank, term);
     match bank.term_node(head) {
-        TermNode::Const(number, _) => Ok(Some(Key::Constant(number))),
-        TermNode::Int(value) => Ok(Some(Key::Number(value))),
-        TermNode::Text(_) => Ok(Some(Key::Text(head))),
-        TermNode::Eigen(level) => Ok(Some(Key::Eigen(level))),
-        TermNode::Index(_) => Ok(None),
-        TermNode::Logic { id: _, level: _ } => Ok(None),
-        TermNode::Param(_, _) => Ok(None),
-        TermNode::Abs(_) => Ok(None),
-        TermNode::App(_, _) => Err(Memory),
+        TermNode::Const(number, _) => Some(Key::Constant(number)),
+        TermNode::Int(value) => Some(Key::Number(value)),
+        TermNode::Text(_) => Some(Key::Text(head)),
+        TermNode::Eigen(level) => Some(Key::Eigen(level)),
+        TermNode::Index(_) => None,
+        TermNode::Logic { id: _, level: _ } => None,
+        TermNode::Param(_, _) => None,
+        TermNode::Abs(_) => None,
+        TermNode::App(_, _) => None,
     }
 }
 
 // Whether the term is the text of these bytes.
 fn has_bytes(bank: &Bank, id: TermId, bytes: &[u8]) -> bool
-    requires { id.0 < length bank.now.terms }
     ensures { result ≡ same_name (atom (text bytes.now)) (tree bank.now id.0) }
 {
     match bank.term_node(id) {
@@ -274,12 +267,6 @@ fn same_text(bank: &Bank, one: TermId, other: TermId) -> bool
     ensures same { result ≡ same_texts bank.now one.0 other.0 }
     ensures meet { (a o : Option Atom) → IsTextKey bank.now one a → IsTextKey bank.now other o → result ≡ may_meet a o }
 {
-    if one.0 >= bank.term_count() {
-        return false;
-    }
-    if other.0 >= bank.term_count() {
-        return false;
-    }
     match bank.term_node(one) {
         TermNode::Text(left) => has_bytes(bank, other, left),
         _ => false,
@@ -361,11 +348,11 @@ pub(crate) fn may_meet(bank: &Bank, clause: Option<Key>, goal: Option<Key>) -> b
 }
 
 /// The key of the first of the arguments of a clause's head.
-pub(crate) fn first_key(bank: &Bank, args: &[TermId]) -> Result<Option<Key>, Memory>
-    ensures { IfOk result (λ key. IsKey bank.now key (first_key (trees_of bank.now args.now))) }
+pub(crate) fn first_key(bank: &Bank, args: &[TermId]) -> Option<Key>
+    ensures { IsKey bank.now result (first_key (trees_of bank.now args.now)) }
 {
     match args.first() {
         Some(arg) => key_of(bank, *arg),
-        None => Ok(None),
+        None => None,
     }
 }

@@ -11,11 +11,10 @@ ghost use Rattle.lp_plain.specs.Renewal.{further};
 ghost use Rattle.lp_plain.specs.Scopes.{IsScope};
 ghost use Rattle.lp_plain.specs.Written.{IsWritten};
 
-use crate::known::{known, put_abstraction, put_application, put_constant};
 use crate::scope::Scopes;
 use crate::types::all_renewed;
 use lp_base::Memory;
-use lp_term::{Bank, TermId, TermNode, TypeId};
+use lp_term::{Bank, TermId, TermNode, TypeId, put_abstraction, put_application, put_constant};
 use std::alloc::Global;
 
 /// What stands for the loose indices of a clause's term, and by how much its type variables are raised.
@@ -84,10 +83,9 @@ fn push_visits(ids: &[TermId], depth: u64, tasks: &mut Vec<Task>) -> Result<(), 
 // The atom with its type variables raised.
 fn renewed_atom(alloc: Global, bank: &mut Bank, id: TermId, types: u64) -> Result<TermId, Memory>
     ensures kept { Extends bank.old bank.new }
-    ensures within { IfOk result (λ new. new.0 < length bank.new.terms) }
+    ensures within { IfOk result (λ new. id.0 < length bank.old.terms → new.0 < length bank.new.terms) }
     ensures renewed { IfOk result (λ new. IsRenewedAtom types (tree bank.old id.0) (tree bank.new new.0)) }
 {
-    known(bank, id)?;
     match bank.term_node(id) {
         TermNode::Const(number, ids) => {
             if ids.is_empty() {
@@ -123,7 +121,6 @@ fn visit(
     ensures moves { OnOk result ((nb nv : ℕ) → (vs : List TermId) → IsScope scopes.now nb nv values.scope vs → (σ : ℕ → Term) → StandFor bank.old vs σ →
         KeepsInstancing σ values.types bank.old bank.new (tasks.old.items ++ Task.Visit id depth ∷ []) tasks.new.items made.old.items made.new.items) }
 {
-    known(bank, id)?;
     if values.types == 0 {
         if bank.is_known_below(id, depth) {
             made.push(id)?;
@@ -204,7 +201,6 @@ fn build(alloc: Global, bank: &mut Bank, id: TermId, made: &mut Vec<TermId>) -> 
     ensures kept { Extends bank.old bank.new }
     ensures moves { OnOk result ((σ : ℕ → Term) → (k : ℕ) → (tasks : List Task) → KeepsInstancing σ k bank.old bank.new (tasks ++ Task.Build id ∷ []) tasks made.old.items made.new.items) }
 {
-    known(bank, id)?;
     match bank.term_node(id) {
         TermNode::Abs(old) => {
             let Some(body) = made.pop() else {
@@ -273,16 +269,16 @@ pub(crate) fn instance(
     ensures tree { IfOk result (λ id. (nb nv : ℕ) → (vs : List TermId) → IsScope scopes.now nb nv values.scope vs → AreValues bank.old vs → (ar : ℕ → ℕ) → (k : ℕ) → IsWritten ar k (length vs) (tree bank.old term.0) →
         tree bank.new id.0 ≡ instantiate (values_of bank.old vs) (instance_term (further values.types) (tree bank.old term.0))) }
 {
-    known(bank, term)?;
+    let root = bank.inside(term)?;
     let mut tasks = Vec::new(alloc);
     let mut made = Vec::new(alloc);
-    tasks.push(Task::Visit(term, 0))?;
+    tasks.push(Task::Visit(root, 0))?;
     'tasks: for _ in 0..u64::MAX {
         let Some(task) = tasks.pop() else {
-            let Some(new) = made.pop() else {
+            let Some(last) = made.pop() else {
                 return Err(Memory);
             };
-            known(bank, new)?;
+            let new = bank.inside(last)?;
             return Ok(new);
         };
         step(alloc, bank, scopes, values, task, &mut tasks, &mut made)?;

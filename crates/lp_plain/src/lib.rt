@@ -13,11 +13,9 @@ mod atomic;
 mod candidates;
 // What is left to try.
 mod choice;
-// Terms and types from one bank in another.
-mod copy;
 // A search, from one event to the next.
 mod events;
-// A goal by its head-normal form.
+// An atomic goal by its head-normal form.
 mod form;
 // Goals that are to be proved, and assumed clauses.
 mod frame;
@@ -25,8 +23,6 @@ mod frame;
 mod head;
 // Terms of a clause with values for its variables.
 mod instance;
-// Terms and types whose numbers are tested.
-mod known;
 // What a search works on.
 mod machine;
 // The names of goals, as a note tells them.
@@ -41,8 +37,6 @@ mod outcome;
 mod parts;
 // A search, between its events.
 mod search;
-// The head and the arguments of a term.
-mod spine;
 // The start of a search.
 mod start;
 // Flattened goals and clauses by number.

@@ -11,7 +11,7 @@ use crate::table::Table;
 use lp_base::Memory;
 use lp_model::{Declared, Pair};
 use lp_pattern::Bindings;
-use lp_term::{Bank, TermId, TermNode};
+use lp_term::{Bank, TermId, put_logic};
 use std::alloc::Global;
 
 /// The branch at work: its goals, the numbers of its next logic variable and next type variable, its residual pairs.
@@ -86,7 +86,7 @@ impl Machine {
             return Err(Memory);
         };
         self.branch.next = next;
-        self.bank.put_term(TermNode::Logic { id, level })
+        put_logic(&mut self.bank, id, level)
     }
 
     /// The clause's term in a place.

@@ -3,39 +3,9 @@
 use crate::machine::Machine;
 use itoa::Buffer;
 use lp_base::Memory;
+use lp_standard::{Constant, FIRST_CONSTANT};
 use lp_watch::{Crowd, Note, Watch};
 use std::alloc::Global;
-
-// The name of a standard constant; empty where there is none of this number.
-fn standard_name(number: u32) -> &'static [u8] {
-    match number {
-        0 => b",",
-        1 => b";",
-        2 => b"=>",
-        3 => b":-",
-        4 => b"pi",
-        5 => b"sigma",
-        6 => b"true",
-        7 => b"!",
-        8 => b"=",
-        9 => b"is",
-        10 => b"<",
-        11 => b">",
-        12 => b"=<",
-        13 => b">=",
-        14 => b"::",
-        15 => b"nil",
-        16 => b"+",
-        17 => b"-",
-        18 => b"*",
-        19 => b"div",
-        20 => b"mod",
-        21 => b"~",
-        22 => b"^",
-        23 => b"size",
-        _ => b"",
-    }
-}
 
 /// Tells that a goal is taken whose head is this constant.
 pub(crate) fn tell_constant<W: Watch>(
@@ -43,12 +13,13 @@ pub(crate) fn tell_constant<W: Watch>(
     crowd: &mut Crowd<'_, W>,
     number: u32,
 ) -> Result<(), Memory> {
-    if number < 32 {
-        return crowd.tell(Note::Goal(standard_name(number)));
+    if let Some(constant) = Constant::from_number(number) {
+        return crowd.tell(Note::Goal(constant.name()));
     }
-    match machine.constants.get((number - 32) as usize) {
+    let place = number.saturating_sub(FIRST_CONSTANT) as usize;
+    match machine.constants.get(place) {
         Some(declared) => crowd.tell(Note::Goal(declared.shown.as_slice())),
-        None => Err(Memory),
+        None => tell_variable(crowd),
     }
 }
 

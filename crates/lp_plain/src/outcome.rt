@@ -1,7 +1,8 @@
 // How the search goes on, and what is counted on its way.
 
 use crate::machine::Machine;
-use crate::unified::{LIMIT, Unified};
+use crate::unified::Unified;
+use lp_base::RUN_LIMIT;
 use lp_model::Ending;
 
 /// How the search goes on: with the branch at work, with the newest alternative, with the answer that the branch is, or
@@ -25,7 +26,7 @@ pub(crate) fn turn_of(unified: Unified) -> Turn {
 
 /// Counts a goal that is taken apart. Whether it may be.
 pub(crate) fn take_apart(machine: &mut Machine) -> bool {
-    if machine.counts.row >= LIMIT {
+    if machine.counts.row >= RUN_LIMIT {
         return false;
     }
     machine.counts.row += 1;

@@ -1,18 +1,16 @@
 // Goals that are taken apart.
 
 use crate::choice::Untried;
-use crate::form::Form;
 use crate::frame::{Assumption, Place, Todo};
 use crate::head::Head;
 use crate::instance::Values;
-use crate::known::{known, put_application};
 use crate::machine::Machine;
 use crate::newest::{newest_of, with_newest};
 use crate::outcome::{Turn, take_apart};
 use crate::table::{Flat, Span};
 use lp_base::Memory;
-use lp_model::Ending;
-use lp_term::{TermId, TermNode};
+use lp_model::{Connective, Ending};
+use lp_term::{TermId, TermNode, put_applied, put_eigen};
 
 // The place inside the scope of one more variable.
 fn bound(machine: &mut Machine, place: Place, value: TermId) -> Result<Place, Memory> {
@@ -32,7 +30,7 @@ fn raised(machine: &mut Machine, place: Place) -> Result<(Place, TermId), Memory
     let Some(level) = place.level.checked_add(1) else {
         return Err(Memory);
     };
-    let eigen = machine.bank.put_term(TermNode::Eigen(level))?;
+    let eigen = put_eigen(&mut machine.bank, level)?;
     Ok((Place { level, ..place }, eigen))
 }
 
@@ -78,7 +76,6 @@ fn assumed_head(machine: &Machine, rule: usize, place: Place) -> Result<Head, Me
     let Some(found) = machine.table.rules.get(rule) else {
         return Err(Memory);
     };
-    known(&machine.bank, found.head)?;
     match machine.bank.term_node(found.head) {
         TermNode::Const(number, _) => Ok(Head::Constant(number)),
         TermNode::Index(at) => {
@@ -96,7 +93,6 @@ fn bound_head(machine: &Machine, place: Place, variable: u64) -> Result<Head, Me
     let Some(value) = machine.scopes.value(place.values.scope, variable) else {
         return Err(Memory);
     };
-    known(&machine.bank, value)?;
     match machine.bank.term_node(value) {
         TermNode::Eigen(level) => Ok(Head::Eigen(level)),
         _ => Err(Memory),
@@ -161,12 +157,13 @@ pub(crate) fn put_parts(
         Flat::Assume(rules, goals) => put_assume(machine, rules, goals, place, behind)?,
         Flat::Atom(_) => {}
         Flat::Cut => {}
+        Flat::Not => {}
     }
     Ok(Turn::On)
 }
 
 // Terms as goals of a place, in front of others.
-fn put_both(
+fn put_and(
     machine: &mut Machine,
     left: TermId,
     right: TermId,
@@ -178,7 +175,7 @@ fn put_both(
     Ok(())
 }
 
-fn put_one_of(
+fn put_or(
     machine: &mut Machine,
     left: TermId,
     right: TermId,
@@ -192,39 +189,38 @@ fn put_one_of(
 }
 
 // The term on a value, as the goal of a place.
-fn put_applied(
+fn put_goal_of(
     machine: &mut Machine,
     term: TermId,
     value: TermId,
     place: Place,
     behind: Option<usize>,
 ) -> Result<(), Memory> {
-    let args = [value];
-    let goal = put_application(&mut machine.bank, term, &args)?;
+    let goal = put_applied(&mut machine.bank, term, value)?;
     machine.branch.goals = machine.put_frame(Todo::Term(goal), place, behind)?;
     Ok(())
 }
 
 /// Takes a goal that is known at run time apart.
-pub(crate) fn put_form(
+pub(crate) fn put_connective(
     machine: &mut Machine,
-    form: Form,
+    connective: Connective,
     place: Place,
     behind: Option<usize>,
 ) -> Result<Turn, Memory> {
     if !take_apart(machine) {
         return Ok(Turn::Ended(Ending::Deep));
     }
-    match form {
-        Form::Both(left, right) => put_both(machine, left, right, place, behind)?,
-        Form::OneOf(left, right) => put_one_of(machine, left, right, place, behind)?,
-        Form::Every(term) => {
+    match connective {
+        Connective::And(left, right) => put_and(machine, left, right, place, behind)?,
+        Connective::Or(left, right) => put_or(machine, left, right, place, behind)?,
+        Connective::ForAll(_, term) => {
             let (above, eigen) = raised(machine, place)?;
-            put_applied(machine, term, eigen, above, behind)?;
+            put_goal_of(machine, term, eigen, above, behind)?;
         }
-        Form::Exist(term) => {
+        Connective::Exists(_, term) => {
             let variable = machine.new_variable(place.level)?;
-            put_applied(machine, term, variable, place, behind)?;
+            put_goal_of(machine, term, variable, place, behind)?;
         }
         _ => machine.branch.goals = behind,
     }

@@ -11,7 +11,7 @@ use lp_base::Memory;
 use lp_model::{Clause, ClauseFormula, Goal, Program, Typed};
 use lp_normal::{NormalRefusal, normalise, query_body};
 use lp_pattern::Bindings;
-use lp_term::{Bank, TermId, TermNode};
+use lp_term::{Bank, TermId, put_logic};
 use std::alloc::Global;
 
 /// A search before its first goal, and the query's variables in order.
@@ -63,10 +63,7 @@ fn query_variables(alloc: Global, bank: &mut Bank, count: usize) -> Result<Vec<T
 {
     let mut variables = Vec::new(alloc);
     for number in 0..count {
-        variables.push(bank.put_term(TermNode::Logic {
-            id: number as u64,
-            level: 0,
-        })?)?;
+        variables.push(put_logic(bank, number as u64, 0)?)?;
     }
     Ok(variables)
 }

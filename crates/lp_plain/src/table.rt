@@ -2,10 +2,9 @@
 ghost use Rattle.std.specs.Prelude.{◌≡◌, Some, slice_get, IfOk};
 
 use crate::head::{HeadPair, Key, first_key, head_args};
-use crate::spine::{Spine, unwound};
 use lp_base::Memory;
 use lp_model::{Clause, Goal};
-use lp_term::{Bank, TermId};
+use lp_term::{Bank, Spine, TermId, spine_of};
 use std::alloc::Global;
 
 /// Numbers from one to before another.
@@ -24,6 +23,8 @@ pub(crate) enum Flat {
     Some(usize),
     All(usize),
     Assume(Span, usize),
+    /// A negation, at which the search halts.
+    Not,
 }
 
 /// A flattened clause.
@@ -110,9 +111,9 @@ impl Table {
         clause: &'a Clause,
         waiting: &mut Vec<Waiting<'a>>,
     ) -> Result<(), Memory> {
-        let Spine { head, args } = unwound(alloc, bank, clause.head)?;
+        let Spine { head, args } = spine_of(alloc, bank, clause.head)?;
         let found = head_args(alloc, bank, clause.vars.len(), args.as_slice())?;
-        let key = first_key(bank, args.as_slice())?;
+        let key = first_key(bank, args.as_slice());
         let body = self.wait(&clause.body, waiting)?;
         self.rules.push(Rule {
             type_vars: clause.type_vars,
@@ -163,6 +164,7 @@ impl Table {
                 let list = self.wait(goals, waiting)?;
                 Ok(Flat::Assume(assumed, list))
             }
+            Goal::Not(_) => Ok(Flat::Not),
         }
     }
 

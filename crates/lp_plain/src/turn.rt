@@ -6,11 +6,11 @@ use crate::form::{Form, form_of};
 use crate::frame::{Place, Todo};
 use crate::machine::Machine;
 use crate::outcome::Turn;
-use crate::parts::{put_form, put_parts};
+use crate::parts::{put_connective, put_parts};
 use crate::table::{Flat, Span};
 use crate::unified::head_normal;
 use lp_base::Memory;
-use lp_model::Ending;
+use lp_model::{Connective, Ending, connective_of};
 use lp_term::TermId;
 use lp_watch::{Crowd, Note, Watch};
 
@@ -27,6 +27,7 @@ fn take_flat<W: Watch>(
             take_term(machine, crowd, atom, place, behind)
         }
         Flat::Cut => take_cut(machine, crowd, place, behind),
+        Flat::Not => Ok(Turn::Ended(Ending::OpenNot)),
         _ => put_parts(machine, goal, place, behind),
     }
 }
@@ -42,15 +43,13 @@ fn take_term<W: Watch>(
     let Some(goal) = head_normal(machine, term)? else {
         return Ok(Turn::Ended(Ending::Deep));
     };
-    let form = form_of(machine.alloc, &machine.bank, goal)?;
-    match form {
-        Form::Truth => put_form(machine, form, place, behind),
-        Form::Both(_, _) => put_form(machine, form, place, behind),
-        Form::OneOf(_, _) => put_form(machine, form, place, behind),
-        Form::Every(_) => put_form(machine, form, place, behind),
-        Form::Exist(_) => put_form(machine, form, place, behind),
-        _ => take_atom(machine, crowd, goal, form, place, behind),
-    }
+    let form = match connective_of(&machine.bank, goal) {
+        Connective::Atomic => form_of(machine.alloc, &machine.bank, goal)?,
+        // No term that stands for a variable is built so.
+        Connective::Cut | Connective::Implies(_, _) | Connective::Not(_) => Form::Other,
+        connective => return put_connective(machine, connective, place, behind),
+    };
+    take_atom(machine, crowd, goal, form, place, behind)
 }
 
 // Takes the first of the flattened goals; the others stay in front of those behind.

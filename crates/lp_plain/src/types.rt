@@ -4,9 +4,8 @@ ghost use Rattle.lp_calculus.specs.Types.{instance};
 ghost use Rattle.lp_term.specs.Nodes.{Extends, type_tree};
 ghost use Rattle.lp_plain.specs.Renewal.{further, KeepsRenewing, visits};
 
-use crate::known::{known_type, put_arrow, put_constructor};
 use lp_base::Memory;
-use lp_term::{Bank, TypeId, TypeNode};
+use lp_term::{Bank, TypeId, TypeNode, put_arrow, put_constructor, put_type_variable};
 use std::alloc::Global;
 
 #[derive(Clone, Copy)]
@@ -52,8 +51,7 @@ fn put_further(bank: &mut Bank, variable: u64, by: u64) -> Result<TypeId, Memory
     let Some(new) = variable.checked_add(by) else {
         return Err(Memory);
     };
-    let id = bank.put_type(TypeNode::Var(new))?;
-    Ok(id)
+    put_type_variable(bank, new)
 }
 
 fn visit(
@@ -66,7 +64,6 @@ fn visit(
     ensures kept { Extends bank.old bank.new }
     ensures moves { OnOk result (KeepsRenewing by bank.old bank.new (tasks.old.items ++ Task.Visit id ∷ []) tasks.new.items made.old.items made.new.items) }
 {
-    known_type(bank, id)?;
     match bank.type_node(id) {
         TypeNode::Var(variable) => {
             let new = put_further(bank, variable, by)?;
@@ -110,7 +107,6 @@ fn build(alloc: Global, bank: &mut Bank, id: TypeId, made: &mut Vec<TypeId>) -> 
     ensures kept { Extends bank.old bank.new }
     ensures moves { OnOk result ((by : ℕ) → (tasks : List Task) → KeepsRenewing by bank.old bank.new (tasks ++ Task.Build id ∷ []) tasks made.old.items made.new.items) }
 {
-    known_type(bank, id)?;
     match bank.type_node(id) {
         TypeNode::Var(_) => Err(Memory),
         TypeNode::Param(_) => Err(Memory),
@@ -166,15 +162,14 @@ pub(crate) fn renewed(alloc: Global, bank: &mut Bank, id: TypeId, by: u64) -> Re
     ensures kept { Extends bank.old bank.new }
     ensures within { IfOk result (λ new. new.0 < length bank.new.types) }
     ensures tree { IfOk result (λ new. type_tree bank.new new.0 ≡ instance (further by) (type_tree bank.old id.0)) }
-    ensures known { OnOk result (id.0 < length bank.old.types) }
 {
-    known_type(bank, id)?;
+    let root = bank.inside_type(id)?;
     if by == 0 {
-        return Ok(id);
+        return Ok(root);
     }
     let mut tasks = Vec::new(alloc);
     let mut made = Vec::new(alloc);
-    tasks.push(Task::Visit(id))?;
+    tasks.push(Task::Visit(root))?;
     'tasks: for _ in 0..u64::MAX {
         let Some(task) = tasks.pop() else {
             let Some(new) = made.pop() else {

@@ -1,14 +1,10 @@
 // Unification in the branch at work.
 
-use crate::known::known;
 use crate::machine::Machine;
-use lp_base::Memory;
+use lp_base::{Memory, RUN_LIMIT};
 use lp_model::Pair;
 use lp_pattern::{PatternRefusal, head_under, solve_under};
 use lp_term::{Bank, TermId, TermNode, TermRefusal, TypeId};
-
-/// Each limit of a run.
-pub(crate) const LIMIT: u64 = 1_000_000;
 
 /// What a unification came to.
 #[derive(Clone, Copy, PartialEq, Eq)]
@@ -35,7 +31,7 @@ pub(crate) fn unify(
         pairs,
         machine.branch.pairs.as_slice(),
         &mut machine.branch.next,
-        LIMIT,
+        RUN_LIMIT,
     ) {
         Ok(residual) => {
             machine.branch.pairs = residual;
@@ -59,20 +55,18 @@ pub(crate) fn equate(
 }
 
 // Whether the term is a constant, an eigenconstant or a literal.
-fn is_rigid_head(bank: &Bank, head: TermId) -> Result<bool, Memory> {
-    known(bank, head)?;
+fn is_rigid_head(bank: &Bank, head: TermId) -> bool {
     match bank.term_node(head) {
-        TermNode::Const(_, _) => Ok(true),
-        TermNode::Eigen(_) => Ok(true),
-        TermNode::Int(_) => Ok(true),
-        TermNode::Text(_) => Ok(true),
-        _ => Ok(false),
+        TermNode::Const(_, _) => true,
+        TermNode::Eigen(_) => true,
+        TermNode::Int(_) => true,
+        TermNode::Text(_) => true,
+        _ => false,
     }
 }
 
 // Whether the term is seen to be head-normal at once: a rigid head, or one on arguments.
-fn is_rigid(bank: &Bank, term: TermId) -> Result<bool, Memory> {
-    known(bank, term)?;
+fn is_rigid(bank: &Bank, term: TermId) -> bool {
     match bank.term_node(term) {
         TermNode::App(head, _) => is_rigid_head(bank, head),
         _ => is_rigid_head(bank, term),
@@ -81,7 +75,7 @@ fn is_rigid(bank: &Bank, term: TermId) -> Result<bool, Memory> {
 
 /// The head-normal form in the branch at work; none where it takes too many contractions.
 pub(crate) fn head_normal(machine: &mut Machine, term: TermId) -> Result<Option<TermId>, Memory> {
-    if is_rigid(&machine.bank, term)? {
+    if is_rigid(&machine.bank, term) {
         return Ok(Some(term));
     }
     match head_under(
@@ -89,7 +83,7 @@ pub(crate) fn head_normal(machine: &mut Machine, term: TermId) -> Result<Option<
         &mut machine.bank,
         &machine.bindings,
         term,
-        LIMIT,
+        RUN_LIMIT,
     ) {
         Ok(form) => Ok(Some(form)),
         Err(TermRefusal::Deep(_)) => Ok(None),

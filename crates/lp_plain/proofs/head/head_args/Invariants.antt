@@ -1,5 +1,6 @@
 use Rattle.std.proofs.Common.{◌<◌, ◌≡◌, length, map, take, false, None, []}
 use Rattle.std.specs.Prelude.{All}
+use Rattle.lp_term.specs.Within.{AreTermsOf}
 use Rattle.lp_plain.specs.Heads.{trees_of, pair_in, AreAll, IsDone}
 use Rattle.lp_plain.proofs.head.head_args.Given as goal
 
@@ -14,6 +15,6 @@ invariant-variables l = record {
 
 abbrev pub invariant-arguments : goal.invariant-arguments
 invariant-arguments l = record {
-  known : All (λ p. p.term.0 < length l.bank.terms) l.made.pairs.items;
+  within : AreTermsOf l.bank l.args → All (λ p. p.term.0 < length l.bank.terms) l.made.pairs.items;
   done : IsDone l.vars (trees_of l.bank (take l.place l.args)) l.seen.items l.made.slots.items (map (pair_in l.bank) l.made.pairs.items);
 }

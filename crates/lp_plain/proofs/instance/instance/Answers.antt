@@ -1,18 +1,23 @@
-use Rattle.std.proofs.Common.{◌∙◌, ◌++◌, ◌∷◌, [], ap, subst, arith, length}
+use Rattle.std.proofs.Common.{◌∙◌, ◌++◌, ◌∷◌, [], ap, sym, subst, arith, length}
+use Rattle.lp_calculus.specs.Closed.{AllAtoms}
 use Rattle.lp_term.specs.Nodes.{tree}
 use Rattle.lp_term.proofs.Moves.{nothing}
-use Rattle.lp_term.proofs.Trees.{extends_same, extends-trans}
+use Rattle.lp_term.proofs.Trees.{extends-trans}
 use Rattle.lp_plain.specs.declared.instance.Task.{Task}
-use Rattle.lp_plain.specs.Instances.{instanced, values_of, ToInstance}
+use Rattle.lp_plain.specs.Instances.{instanced, values_of, IsNoParameter, ToInstance}
 use Rattle.lp_plain.proofs.Instances.{instance_begins, instance_ends, values_stand, values_kept, written_begins}
 use Rattle.lp_plain.proofs.instance.instance.Goals as goal
 
 pub tasks-init : goal.tasks-init
-tasks-init c = record {
-  kept = extends_same c.args.bank.now;
-  left = λ nb nv vs w σ s a.
-      instance_begins σ c.args.values.types c.args.bank.now c.args.term _ _ c.in_ok-known.ensures a (c.in_ok-push.ensures.items ∙ ap (λ l. l ++ Task.Visit c.args.term 0 ∷ []) c.new-tasks.ensures.items) c.new-made.ensures.items;
-}
+tasks-init c =
+    let b = c.inside.new.self in
+    let r = c.in_ok-root in
+    record {
+      kept = r.ensures.kept;
+      left = λ nb nv vs w σ s a.
+          subst (λ t. ToInstance σ c.args.values.types b c.push.new.self.items c.new-made.result.items (instanced σ c.args.values.types 0 t)) r.ensures.tree
+          (instance_begins σ c.args.values.types b r.root _ _ r.ensures.within (subst (AllAtoms IsNoParameter) (sym r.ensures.tree) a) (c.in_ok-push.ensures.items ∙ ap (λ l. l ++ Task.Visit r.root 0 ∷ []) c.new-tasks.ensures.items) c.new-made.ensures.items);
+    }
 
 pub tasks-preserved : goal.tasks-preserved
 tasks-preserved c = record {
@@ -24,6 +29,7 @@ tasks-preserved c = record {
 
 pub returns-in_default-clause-tree : goal.returns-in_default-clause-tree
 returns-in_default-clause-tree c = λ nb nv vs w a ar k h.
-    instance_ends (values_of c.args.bank.now vs) c.args.values.types c.tasks.bank c.tasks.tasks.items c.tasks.made.items _ c.in-Some-pop.new _ (nothing c.tasks.tasks.items (omega (arith, c.in_default.ensures.cases.0, c.tasks.tasks.ok)))
+    c.in_ok-new.ensures.tree ∙
+    instance_ends (values_of c.args.bank.now vs) c.args.values.types c.tasks.bank c.tasks.tasks.items c.tasks.made.items _ c.in-Some-pop.last _ (nothing c.tasks.tasks.items (omega (arith, c.in_default.ensures.cases.0, c.tasks.tasks.ok)))
     c.in-Some-pop.ensures.items
     (c.tasks.invariant.left nb nv vs w (values_of c.args.bank.now vs) (values_stand c.args.bank.now vs a) (written_begins ar k (length vs) (tree c.args.bank.now c.args.term.0) h))

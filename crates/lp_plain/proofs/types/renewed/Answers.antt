@@ -2,7 +2,7 @@ use Rattle.std.proofs.Common.{◌≡◌, ◌∙◌, ◌++◌, ◌∷◌, [], sym
 use Rattle.lp_calculus.specs.Types.{instance}
 use Rattle.lp_term.specs.Nodes.{type_tree}
 use Rattle.lp_term.proofs.Moves.{nothing}
-use Rattle.lp_term.proofs.Trees.{extends_same, extends-trans}
+use Rattle.lp_term.proofs.Trees.{extends-trans}
 use Rattle.lp_plain.specs.declared.types.Task.{Task}
 use Rattle.lp_plain.specs.Renewal.{further, ToRenew}
 use Rattle.lp_plain.proofs.RenewedTypes.{further_none, renewing_begins, renewing_ends}
@@ -11,13 +11,16 @@ use Rattle.lp_plain.proofs.types.renewed.Goals as goal
 pub returns-then-by-eq0-clause-tree : goal.returns-then-by-eq0-clause-tree
 returns-then-by-eq0-clause-tree c =
     let t = type_tree c.args.bank.now c.args.id.0 in
-    sym (subst (λ k. instance (further k) t ≡ t) (sym c.if-by-eq0.true) (further_none t))
+    c.in_ok-root.ensures.tree ∙ sym (subst (λ k. instance (further k) t ≡ t) (sym c.if-by-eq0.true) (further_none t))
 
 pub tasks-init : goal.tasks-init
-tasks-init c = record {
-  kept = extends_same c.args.bank.now;
-  left = renewing_begins c.args.by c.args.bank.now c.args.id _ _ c.in_ok-known_type.ensures (c.in_ok-push.ensures.items ∙ ap (λ l. l ++ Task.Visit c.args.id ∷ []) c.new-tasks.ensures.items) c.new-made.ensures.items;
-}
+tasks-init c =
+    let b = c.inside_type.new.self in
+    record {
+      kept = c.in_ok-root.ensures.kept;
+      left = subst (λ T. ToRenew c.args.by b c.push.new.self.items c.new-made.result.items (instance (further c.args.by) T)) c.in_ok-root.ensures.tree
+          (renewing_begins c.args.by b c.in_ok-root.root _ _ c.in_ok-root.ensures.within (c.in_ok-push.ensures.items ∙ ap (λ l. l ++ Task.Visit c.in_ok-root.root ∷ []) c.new-tasks.ensures.items) c.new-made.ensures.items);
+    }
 
 pub returns-in_default-clause-within : goal.returns-in_default-clause-within
 returns-in_default-clause-within c =
