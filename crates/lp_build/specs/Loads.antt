@@ -1,5 +1,6 @@
 -- What the loading of files comes to.
 use Rattle.std.specs.Prelude.{◌≡◌, ℕ, ◌≤◌, List, [], ◌∷◌, map, codes, Option, Some, None, Result, Ok, Err, string_bytes}
+use Rattle.lp_base.specs.declared.limits.TheConstants.{MAX_MODULES}
 use Rattle.lp_base.specs.Counts.{Counts}
 use Rattle.lp_base.specs.Held.{Held}
 use Rattle.lp_base.specs.declared.limit.Limit.{Limit}
@@ -70,7 +71,7 @@ IsOfWord _ = ⊥
 
 abbrev pub IsLimitOfLoading : Limit → ℕ → Type 0
 IsLimitOfLoading limit.File n = Unit {0}
-IsLimitOfLoading limit.Modules n = 256 ≤ n
+IsLimitOfLoading limit.Modules n = MAX_MODULES ≤ n
 IsLimitOfLoading limit.NameLength n = Unit {0}
 IsLimitOfLoading _ n = ⊥
 

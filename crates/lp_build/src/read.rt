@@ -7,16 +7,10 @@ ghost use Rattle.lp_build.specs.Told.{IsTold, AreKnown, IsFaultOf, IsFaultAt, Ho
 
 use crate::fault::BuildFault;
 use crate::sources::{File, Part, Sources, Text};
-use lp_base::{Folder, Limit, Memory, ReadErr};
+use lp_base::{Folder, Limit, MAX_FILE_BYTES, MAX_MODULES, Memory, ReadErr};
 use lp_lexer::{LexFault, tokens};
 use lp_syntax::references;
 use std::alloc::Global;
-
-// A source file has at most so many bytes.
-const LONGEST_FILE: u64 = 1_048_576;
-
-// At most so many files are loaded.
-const MOST_FILES: usize = 256;
 
 // Whether a known file has this name.
 fn is_named(known: &(String, Vec<u8>), name: &str) -> bool
@@ -49,7 +43,7 @@ fn read_bytes<F: Folder>(
     ensures refused { IfErr result (IsOfRead number) }
     ensures told { IfOk result (λ bytes. IsTold (F.held folder.old) name.now bytes.items) }
 {
-    match folder.read(alloc, name, LONGEST_FILE) {
+    match folder.read(alloc, name, MAX_FILE_BYTES) {
         Ok(bytes) => Ok(bytes),
         Err(ReadErr::Failed) => Err(BuildFault::Read(number)),
         Err(ReadErr::Missing) => Err(BuildFault::Missing(number)),
@@ -125,7 +119,7 @@ pub(crate) fn load_file<F: Folder>(
     ensures told { HoldsTold (F.held folder.old) known.old.items sources.old None → HoldsTold (F.held folder.old) known.new.items sources.new (fault_of result) }
 {
     let at = sources.files.len();
-    if at >= MOST_FILES {
+    if at >= MAX_MODULES {
         return Err(BuildFault::Limit(Limit::Modules));
     }
     let name = file_name(alloc, stem, part)?;

@@ -8,12 +8,9 @@ use crate::fault::BuildFault;
 use crate::read::load_file;
 use crate::sources::{Part, Sources};
 use indexmap::IndexSet;
-use lp_base::{Folder, Limit, Memory, Spot};
+use lp_base::{Folder, Limit, MAX_NAME_BYTES, Memory, Spot};
 use lp_sig::spelled_at;
 use std::alloc::Global;
-
-// A word of accumulate or accum_sig has at most so many bytes.
-const LONGEST_WORD: usize = 255;
 
 // What is still to be loaded.
 #[derive(Drop)]
@@ -279,7 +276,7 @@ fn name_of(alloc: Global, source: &[u8], word: Spot) -> Result<Option<String>, B
     ensures { IfErr result IsOfWord }
 {
     let spelled = spelled_at(source, word);
-    if spelled.len() > LONGEST_WORD {
+    if spelled.len() > MAX_NAME_BYTES {
         return Err(BuildFault::Limit(Limit::NameLength));
     }
     match str::from_utf8(spelled) {

@@ -1,6 +1,6 @@
+use Rattle.lp_lemmas.proofs.Results.{passed_up}
 use Rattle.lp_build.specs.Faults.{IsOfTexts}
 use Rattle.lp_build.specs.declared.fault.BuildFault.TheVariants as fault
-use Rattle.lp_build.proofs.Passing.{passed_up}
 use Rattle.lp_build.proofs.build.build_program.Goals as goal
 
 pub returns-in_err-table : goal.returns-in_err-table
