@@ -14,7 +14,7 @@ use Rattle.lp_term.specs.declared.reduce.TermRefusal.{TermRefusal}
 use Rattle.lp_term.specs.declared.reduce.TermRefusal.TheVariants.{Deep, Memory}
 use Rattle.lp_term.proofs.Frames.{some_of}
 use Rattle.lp_term.proofs.Openings.{all_reverse}
-use Rattle.std.proofs.lemmas.List.Elements.{All-weaker, All-head, All-tail}
+use Rattle.std.proofs.lemmas.List.Elements.{All-nil, All-weaker, All-head, All-tail}
 use Rattle.lp_term.proofs.Spines.{unwound_application}
 use Rattle.lp_term.proofs.Walks.{trees-push, trees_stay, All-front, map_map}
 use Rattle.lp_model.specs.Pair.{Closing, closed}
@@ -24,7 +24,7 @@ use Rattle.lp_pattern.specs.declared.look.Head.{Head}
 use Rattle.lp_pattern.specs.declared.look.Looked.{Looked}
 use Rattle.lp_pattern.specs.declared.look.Spine.{Spine}
 use Rattle.lp_pattern.specs.Under.{ValueIs, TypeIs, AreTypes, IsReading, under, below}
-use Rattle.lp_pattern.specs.Seen.{IsRigid, IsHead, IsLooked, IsReachedWithin, IsDeepWhere, IsEndedHead, IsEnded, seen, Sees, weak_step, at_hand, Follows}
+use Rattle.lp_pattern.specs.Seen.{IsRigid, IsHead, IsLooked, Stands, IsReachedWithin, IsDeepWhere, IsEndedHead, IsEnded, seen, Sees, weak_step, at_hand, Follows}
 use Rattle.lp_pattern.proofs.Looking.{closed_apply, closed_redex, closed_value, steps_then, one_step, look_later, look_abs, look_ended}
 
 -- a reading in a bank that has grown
@@ -77,12 +77,45 @@ too_deep c b top body arg args rest n z q p =
     let s = one_step weak_step (closed c (apply (tree b top.0) (trees b args))) _ e in
     some_is (steps weak_step (suc n) (closed c (apply (tree b top.0) (trees b args)))) _ (ap (λ m. steps weak_step (suc m) (closed c (apply (tree b top.0) (trees b args)))) z ∙ s)
 
+whole_alone : (d : Nodes) (top : TermId) (args : List TermId) (o : Option TermId) → top.0 < length d.terms → IfSome o (λ id. (id ≡ top) × (args ≡ [])) →
+    IfSome o (λ id. (id.0 < length d.terms) × (tree d id.0 ≡ apply (tree d top.0) (trees d args)))
+whole_alone d top args None l h = tt
+whole_alone d top args (Some id) l h =
+    (transport (λ t. t.0 < length d.terms) (sym h.0) l, ap (λ t. tree d t.0) h.0 ∙ sym (ap (λ ts. apply (tree d top.0) (trees d ts)) h.1))
+
 -- a value
 pub value_follows : (c : Closing) (b : Nodes) (s : Bindings) (x l : ℕ) (value : TermId) (t : Term) (ts : List Term) → IsReading b s c → get nat_eq s.terms x ≡ Some value → t ≡ atom (logic x l) →
     closed c (apply t ts) ≡ closed c (apply (tree b value.0) ts)
 value_follows c b s x l value t ts r e q =
     let v : ValueIs b c x (Some value) = transport (ValueIs b c x) e (r.terms x) in
     ap (λ h. closed c (apply h ts)) q ∙ closed_value c x l (tree b value.0) ts (v.1 l)
+
+pub value_goes : (c : Closing) (b d : Nodes) (s : Bindings) (x l : ℕ) (value top : TermId) (t : Term) (args : List TermId) → IsReading b s c → get nat_eq s.terms x ≡ Some value → t ≡ atom (logic x l) →
+    Extends b d → All (λ a. a.0 < length b.terms) args → tree d top.0 ≡ tree b value.0 → closed c (apply t (trees b args)) ≡ closed c (apply (tree d top.0) (trees d args))
+value_goes c b d s x l value top t args r e q E a h =
+    value_follows c b s x l value t (trees b args) r e q ∙ ap (λ u. closed c (apply u (trees b args))) (sym h) ∙ ap (λ l. closed c (apply (tree d top.0) l)) (sym (trees_stay b d args E a))
+
+-- a value on the arguments
+pub value_stands : (b d : Nodes) (s : Spine) → Extends b d → All (λ a. a.0 < length b.terms) s.arguments.items → s.top.0 < length d.terms →
+    IfSome s.whole (λ id. (id ≡ s.top) × (s.arguments.items ≡ [])) → Stands d s
+value_stands b d s E a l h = record {
+  top = l;
+  arguments = All-weaker (λ x. x.0 < length b.terms) (λ x. x.0 < length d.terms) (λ x k. omega (arith, k, E.more_terms)) s.arguments.items a;
+  whole = whole_alone d s.top s.arguments.items s.whole l h;
+}
+
+-- the term itself, before any step
+pub start_stands : (d : Nodes) (s : Spine) → s.top.0 < length d.terms → s.whole ≡ Some s.top → s.arguments.items ≡ [] → Stands d s
+start_stands d s l w q = record {
+  top = l;
+  arguments = transport (All (λ x. x.0 < length d.terms)) (sym q) (All-nil (λ x. x.0 < length d.terms));
+  whole = transport (λ o. IfSome o (λ id. (id.0 < length d.terms) × (tree d id.0 ≡ at_hand d s))) (sym w) (whole_alone d s.top s.arguments.items (Some s.top) l (refl, q));
+}
+
+pub start_follows : (c : Closing) (b d : Nodes) (term : TermId) (s : Spine) (limit : ℕ) → tree d s.top.0 ≡ tree b term.0 → s.arguments.items ≡ [] →
+    steps weak_step (limit - limit) (under b c term) ≡ Some (closed c (at_hand d s))
+start_follows c b d term s limit h q =
+    ap (λ n. steps weak_step n (under b c term)) (omega arith) ∙ ap (λ u. Some (closed c u)) (sym (ap (λ l. apply (tree d s.top.0) (trees d l)) q ∙ h))
 
 -- steps so far and one move more
 pub moved_on : (limit left next k : ℕ) (t s r : Term) → left ≤ limit → k + next ≡ left → steps weak_step (limit - left) t ≡ Some s → steps weak_step k s ≡ Some r →

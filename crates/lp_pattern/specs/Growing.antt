@@ -2,6 +2,7 @@
 use Rattle.std.specs.Prelude.{◌≡◌, ℕ, ◌<◌, List, ◌++◌}
 use Rattle.lp_model.specs.declared.answer.Pair.{Pair}
 use Rattle.lp_pattern.specs.declared.bindings.Bindings.{Bindings}
+use Rattle.lp_pattern.specs.declared.rules.Verdict.{Verdict}
 
 -- the second list is the first with more behind it
 abbrev pub GoesOn : {A : Type 0} → List A → List A → Type 0
@@ -15,3 +16,8 @@ pub record Grows (old new : Bindings) : Type 0 where
 -- both sides are among the first n terms
 abbrev pub IsPairOf : ℕ → Pair → Type 0
 IsPairOf n p = (p.left.0 < n) × (p.right.0 < n)
+
+-- a pair that is delayed is such a pair
+abbrev pub IsVerdictIn : ℕ → Verdict → Type 0
+IsVerdictIn n Verdict.Gone = Unit {0}
+IsVerdictIn n (Verdict.Delayed p) = IsPairOf n p

@@ -13,12 +13,11 @@ use crate::bindings::Bindings;
 use crate::fault::PatternRefusal;
 use crate::heads::{have_same_name, type_pairs};
 use crate::look::{CONTRACTIONS, Head, Looked, look};
-use crate::parts::put_opened;
 use crate::types::are_same_types;
 use crate::units::spend;
 use lp_base::Memory;
 use lp_model::Pair;
-use lp_term::{Bank, TermId};
+use lp_term::{Bank, TermId, put_applied, put_eigen};
 use std::alloc::Global;
 
 // Levels of pairs are below this.
@@ -31,6 +30,8 @@ pub(crate) fn opened(
     right: TermId,
     level: u64,
 ) -> Result<Pair, Memory>
+    requires left { left.0 < length bank.old.terms }
+    requires right { right.0 < length bank.old.terms }
     ensures kept { Extends bank.old bank.new }
     ensures within { IfOk result (IsPairOf (length bank.new.terms)) }
     ensures opened { IfOk result (λ pair. (c : Closing) → pair_under bank.new c pair ≡ opened_pair level (under bank.old c left) (under bank.old c right)) }
@@ -38,12 +39,10 @@ pub(crate) fn opened(
     if level >= LEVELS {
         return Err(Memory);
     }
-    if left.0 >= bank.term_count() || right.0 >= bank.term_count() {
-        return Err(Memory);
-    }
     let level = level + 1;
-    let left = put_opened(bank, left, level)?;
-    let right = put_opened(bank, right, level)?;
+    let eigen = put_eigen(bank, level)?;
+    let left = put_applied(bank, left, eigen)?;
+    let right = put_applied(bank, right, eigen)?;
     Ok(Pair { left, right, level })
 }
 
@@ -90,7 +89,7 @@ fn have_same_head(
     if one.arguments.len() != other.arguments.len() {
         return Ok(false);
     }
-    if !have_same_name(bank, one.top, other.top)? {
+    if !have_same_name(bank, one.top, other.top) {
         return Ok(false);
     }
     let pairs = type_pairs(alloc, bank, one.top, other.top)?;

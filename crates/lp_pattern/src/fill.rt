@@ -10,10 +10,11 @@ ghost use Rattle.lp_pattern.specs.Under.{IsReading};
 
 use crate::bindings::Bindings;
 use crate::fill_types::{TypesFilled, filled_in};
-use crate::parts::{put_abstraction, put_application, put_constant, put_parameter, term_of};
 use indexmap::IndexMap;
 use lp_base::Memory;
-use lp_term::{Bank, TermId, TermNode, TypeId};
+use lp_term::{
+    Bank, TermId, TermNode, TypeId, put_abstraction, put_application, put_constant, put_parameter,
+};
 use std::alloc::Global;
 
 // What terms and their types have become, by their numbers.
@@ -294,7 +295,7 @@ pub fn filled(
     ensures within { IfOk result (λ id. id.0 < length bank.new.terms) }
     ensures filled { IfOk result (λ id. (c : Closing) → IsReading bank.old bindings.now c → IsShut c → tree bank.new id.0 ≡ closed c (tree bank.old term.0)) }
 {
-    let root = term_of(bank, term)?;
+    let root = bank.inside(term)?;
     let mut done = TermsFilled::new(alloc);
     let mut left = Vec::new(alloc);
     left.push(root)?;
@@ -303,7 +304,7 @@ pub fn filled(
             let Some(made) = done.at(root) else {
                 return Err(Memory);
             };
-            let made = term_of(bank, made)?;
+            let made = bank.inside(made)?;
             return Ok(made);
         };
         step(alloc, bank, bindings, &mut done, top, &mut left)?;

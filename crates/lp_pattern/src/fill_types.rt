@@ -8,10 +8,9 @@ ghost use Rattle.lp_pattern.specs.Comparing.{IsLoose};
 ghost use Rattle.lp_pattern.specs.Filling.{part_numbers, AreFilled, HaveBecome};
 
 use crate::bindings::Bindings;
-use crate::parts::{put_arrow, put_constructor, type_of};
 use indexmap::IndexMap;
 use lp_base::Memory;
-use lp_term::{Bank, TypeId, TypeNode};
+use lp_term::{Bank, TypeId, TypeNode, put_arrow, put_constructor};
 use std::alloc::Global;
 
 // What types have become, by their numbers. They are past the bindings at their top.
@@ -224,6 +223,6 @@ pub fn filled_type(
 {
     let mut done = TypesFilled::new(alloc);
     let made = filled_in(alloc, bank, bindings, &mut done, id)?;
-    let of = type_of(bank, made)?;
+    let of = bank.inside_type(made)?;
     Ok(of)
 }

@@ -14,7 +14,6 @@ use lp_term::{Bank, TermId, TermNode, TypeId};
 use std::alloc::Global;
 
 fn is_index(bank: &Bank, id: TermId, i: u64) -> bool
-    requires { id.0 < length bank.now.terms }
     ensures { result ≡ same_name (index i) (tree bank.now id.0) }
 {
     match bank.term_node(id) {
@@ -24,7 +23,6 @@ fn is_index(bank: &Bank, id: TermId, i: u64) -> bool
 }
 
 fn is_constant(bank: &Bank, id: TermId, c: u32, count: usize) -> bool
-    requires { id.0 < length bank.now.terms }
     ensures { (ts : List Ty) → count ≡ length ts → result ≡ same_name (atom (constant c ts)) (tree bank.now id.0) }
 {
     match bank.term_node(id) {
@@ -34,7 +32,6 @@ fn is_constant(bank: &Bank, id: TermId, c: u32, count: usize) -> bool
 }
 
 fn is_integer(bank: &Bank, id: TermId, i: i64) -> bool
-    requires { id.0 < length bank.now.terms }
     ensures { result ≡ same_name (atom (integer i)) (tree bank.now id.0) }
 {
     match bank.term_node(id) {
@@ -44,7 +41,6 @@ fn is_integer(bank: &Bank, id: TermId, i: i64) -> bool
 }
 
 fn is_text(bank: &Bank, id: TermId, bytes: &[u8]) -> bool
-    requires { id.0 < length bank.now.terms }
     ensures { result ≡ same_name (atom (text bytes.now)) (tree bank.now id.0) }
 {
     match bank.term_node(id) {
@@ -54,7 +50,6 @@ fn is_text(bank: &Bank, id: TermId, bytes: &[u8]) -> bool
 }
 
 fn is_eigen(bank: &Bank, id: TermId, k: u64) -> bool
-    requires { id.0 < length bank.now.terms }
     ensures { result ≡ same_name (atom (eigen k)) (tree bank.now id.0) }
 {
     match bank.term_node(id) {
@@ -64,7 +59,6 @@ fn is_eigen(bank: &Bank, id: TermId, k: u64) -> bool
 }
 
 fn is_logic(bank: &Bank, id: TermId, x: u64, l: u64) -> bool
-    requires { id.0 < length bank.now.terms }
     ensures { result ≡ same_name (atom (logic x l)) (tree bank.now id.0) }
 {
     match bank.term_node(id) {
@@ -74,7 +68,6 @@ fn is_logic(bank: &Bank, id: TermId, x: u64, l: u64) -> bool
 }
 
 fn is_parameter(bank: &Bank, id: TermId, k: u64) -> bool
-    requires { id.0 < length bank.now.terms }
     ensures { (t : Ty) → result ≡ same_name (atom (param k t)) (tree bank.now id.0) }
 {
     match bank.term_node(id) {
@@ -84,9 +77,7 @@ fn is_parameter(bank: &Bank, id: TermId, k: u64) -> bool
 }
 
 // Whether two terms are the same name.
-fn are_same_names(bank: &Bank, one: TermId, other: TermId) -> bool
-    requires one { one.0 < length bank.now.terms }
-    requires other { other.0 < length bank.now.terms }
+pub(crate) fn have_same_name(bank: &Bank, one: TermId, other: TermId) -> bool
     ensures { result ≡ same_name (tree bank.now one.0) (tree bank.now other.0) }
 {
     match bank.term_node(one) {
@@ -100,15 +91,6 @@ fn are_same_names(bank: &Bank, one: TermId, other: TermId) -> bool
         TermNode::Abs(_) => false,
         TermNode::App(_, _) => false,
     }
-}
-
-pub(crate) fn have_same_name(bank: &Bank, one: TermId, other: TermId) -> Result<bool, Memory>
-    ensures { IfOk result (λ same. same ≡ same_name (tree bank.now one.0) (tree bank.now other.0)) }
-{
-    if one.0 >= bank.term_count() || other.0 >= bank.term_count() {
-        return Err(Memory);
-    }
-    Ok(are_same_names(bank, one, other))
 }
 
 // The elements of two lists of one length, place by place.
@@ -144,7 +126,6 @@ fn beside_constant(
     types: &[TypeId],
     id: TermId,
 ) -> Result<Vec<(TypeId, TypeId)>, Memory>
-    requires { id.0 < length bank.now.terms }
     ensures { IfOk result (λ pairs. (θ : ℕ → Ty) → (c : ℕ) →
         type_pairs_of bank.now θ pairs.items ≡ type_pairs (atom (constant c (map (λ t. instance θ (type_tree bank.now t.0)) types.now))) (instance_term θ (tree bank.now id.0))) }
 {
@@ -161,7 +142,6 @@ fn beside_parameter(
     of: TypeId,
     id: TermId,
 ) -> Result<Vec<(TypeId, TypeId)>, Memory>
-    requires { id.0 < length bank.now.terms }
     ensures { IfOk result (λ pairs. (θ : ℕ → Ty) → (k : ℕ) →
         type_pairs_of bank.now θ pairs.items ≡ type_pairs (atom (param k (instance θ (type_tree bank.now of.0)))) (instance_term θ (tree bank.now id.0))) }
 {
@@ -181,9 +161,6 @@ pub(crate) fn type_pairs(
     ensures { IfOk result (λ pairs. (θ : ℕ → Ty) →
         type_pairs_of bank.now θ pairs.items ≡ type_pairs (instance_term θ (tree bank.now one.0)) (instance_term θ (tree bank.now other.0))) }
 {
-    if one.0 >= bank.term_count() || other.0 >= bank.term_count() {
-        return Err(Memory);
-    }
     match bank.term_node(one) {
         TermNode::Const(_, types) => beside_constant(alloc, bank, types, other),
         TermNode::Param(_, of) => beside_parameter(alloc, bank, of, other),

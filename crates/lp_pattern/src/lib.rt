@@ -15,8 +15,6 @@ mod fill_types;
 mod heads;
 // A term when it is looked at.
 mod look;
-// New nodes over parts that are tested.
-mod parts;
 // Variables on distinct eigenconstants.
 mod patterns;
 // Pruning and lowering.

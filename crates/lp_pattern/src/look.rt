@@ -7,13 +7,12 @@ ghost use Rattle.lp_pattern.specs.Under.{IsReading, under};
 ghost use Rattle.lp_pattern.specs.Seen.{IsHead, IsLooked, IsReachedWithin, IsDeepWhere, Sees, at_hand, Stands, Follows};
 
 use crate::bindings::Bindings;
-use crate::parts::put_application;
-use lp_base::Memory;
-use lp_term::{Bank, TermId, TermNode, TermRefusal, substitute};
+use lp_base::{Memory, RUN_LIMIT};
+use lp_term::{Bank, TermId, TermNode, TermRefusal, put_application, substitute};
 use std::alloc::Global;
 
 // As many contractions may lead to the head of one term.
-pub(crate) const CONTRACTIONS: u64 = 1_000_000;
+pub(crate) const CONTRACTIONS: u64 = RUN_LIMIT;
 
 // Loose indices are below this bound in each term that is put for one.
 const INDICES: u64 = 4_294_967_296;
@@ -120,27 +119,26 @@ fn contract(
 
 // A bound variable gives way to its value.
 fn put_value(
-    bank: &Bank,
+    bank: &mut Bank,
     bindings: &Bindings,
     spine: &mut Spine,
     id: u64,
     level: u64,
 ) -> Result<Option<Head>, Memory>
-    requires stands { Stands bank.now spine.old }
-    requires top { tree bank.now spine.old.top.0 ≡ atom (logic id level) }
-    ensures stands { OnOk result (Stands bank.now spine.new) }
+    requires stands { Stands bank.old spine.old }
+    requires top { tree bank.old spine.old.top.0 ≡ atom (logic id level) }
+    ensures kept { Extends bank.old bank.new }
+    ensures stands { OnOk result (Stands bank.new spine.new) }
     ensures left { OnOk result (spine.new.left ≤ spine.old.left) }
-    ensures followed { OnOk result ((c : Closing) → IsReading bank.now bindings.now c → Follows c bank.now spine.old bank.now spine.new) }
-    ensures head { IfOk result (λ found. IfSome found (λ head. IsHead bank.now bindings.now head (tree bank.now spine.new.top.0) spine.new.arguments.items)) }
+    ensures followed { OnOk result ((c : Closing) → IsReading bank.old bindings.now c → Follows c bank.old spine.old bank.new spine.new) }
+    ensures head { IfOk result (λ found. IfSome found (λ head. IsHead bank.new bindings.now head (tree bank.new spine.new.top.0) spine.new.arguments.items)) }
 {
     let Some(value) = bindings.value(id) else {
         return Ok(Some(Head::Variable { id, level }));
     };
-    if value.0 >= bank.term_count() {
-        return Err(Memory);
-    }
-    spine.top = value;
-    spine.whole = alone(value, &spine.arguments);
+    let top = bank.inside(value)?;
+    spine.top = top;
+    spine.whole = alone(top, &spine.arguments);
     Ok(None)
 }
 
@@ -232,13 +230,11 @@ pub(crate) fn look(
     ensures seen { IfOk result (λ r. (c : Closing) → IsReading bank.old bindings.now c → Sees limit bank.new c r (under bank.old c term)) }
     ensures refused { IfErr result (λ e. (c : Closing) → IsReading bank.old bindings.now c → IsDeepWhere limit (under bank.old c term) e) }
 {
-    if term.0 >= bank.term_count() {
-        return Err(TermRefusal::Memory);
-    }
+    let top = bank.inside(term)?;
     let mut spine = Spine {
-        top: term,
+        top,
         arguments: Vec::new(alloc),
-        whole: Some(term),
+        whole: Some(top),
         left: limit,
     };
     'steps: for _ in 0..u64::MAX {

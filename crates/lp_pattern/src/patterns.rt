@@ -97,16 +97,13 @@ enum Name {
     Index(u64),
 }
 
-fn name_of(bank: &Bank, id: TermId) -> Result<Option<Name>, Memory>
-    ensures { IfOk result (λ o. IsNameOf o (tree bank.now id.0)) }
+fn name_of(bank: &Bank, id: TermId) -> Option<Name>
+    ensures { IsNameOf result (tree bank.now id.0) }
 {
-    if id.0 >= bank.term_count() {
-        return Err(Memory);
-    }
     match bank.term_node(id) {
-        TermNode::Eigen(k) => Ok(Some(Name::Eigen(k))),
-        TermNode::Index(i) => Ok(Some(Name::Index(i))),
-        _ => Ok(None),
+        TermNode::Eigen(k) => Some(Name::Eigen(k)),
+        TermNode::Index(i) => Some(Name::Index(i)),
+        _ => None,
     }
 }
 
@@ -193,7 +190,7 @@ fn stripped_name(
     if looked.arguments.len() as u64 != count {
         return Ok(None);
     }
-    let Some(name) = name_of(bank, looked.top)? else {
+    let Some(name) = name_of(bank, looked.top) else {
         return Ok(None);
     };
     push_wanted(looked.arguments.as_slice(), count, left)?;
@@ -257,7 +254,7 @@ fn alone(bank: &Bank, looked: &Looked, opened: Opened) -> Result<Option<u64>, Me
     if !looked.arguments.is_empty() {
         return Ok(None);
     }
-    let Some(name) = name_of(bank, looked.top)? else {
+    let Some(name) = name_of(bank, looked.top) else {
         return Ok(None);
     };
     eigen_below(name, 0, opened)

@@ -21,12 +21,13 @@ ghost use Rattle.lp_pattern.specs.Under.{under};
 use crate::bindings::Bindings;
 use crate::fault::PatternRefusal;
 use crate::look::{CONTRACTIONS, Head, Looked, look};
-use crate::parts::{put_abstractions, put_application, put_eigen, put_index};
 use crate::patterns::pattern_of;
 use crate::scan::{Visit, push_arguments};
 use crate::side::Side;
 use lp_base::Memory;
-use lp_term::{Bank, TermId, TermNode};
+use lp_term::{
+    Bank, TermId, put_abstractions, put_application, put_eigen, put_index, put_logic,
+};
 use std::alloc::Global;
 
 // A new variable of the level.
@@ -42,7 +43,7 @@ pub(crate) fn put_variable(bank: &mut Bank, next: &mut u64, level: u64) -> Resul
         return Err(Memory);
     }
     *next = id + 1;
-    bank.put_term(TermNode::Logic { id, level })
+    put_logic(bank, id, level)
 }
 
 // An eigenconstant, if it is not above the level.
@@ -136,7 +137,7 @@ fn renew(
     let arguments = put_allowed(alloc, bank, side, level, eigens)?;
     let variable = put_variable(bank, next, smaller(side.level, level))?;
     let body = put_application(bank, variable, arguments.as_slice())?;
-    let value = put_abstractions(bank, eigens.len(), body)?;
+    let value = put_abstractions(bank, eigens.len() as u64, body)?;
     bindings.put_term(id, value)
 }
 

@@ -1,5 +1,5 @@
 // The rules for one pair: the first that applies is taken.
-ghost use Rattle.std.specs.Prelude.{◌≡◌, ◌≤◌, ◌<◌, ◌+◌, ◌++◌, ℕ, suc, nat_eq, length, map, reverse, true, false, Some, IfOk, OnOk, IfErr};
+ghost use Rattle.std.specs.Prelude.{◌≡◌, ◌≤◌, ◌<◌, ◌+◌, ◌++◌, ℕ, suc, nat_eq, length, map, reverse, true, false, All, Some, IfOk, OnOk, IfErr};
 ghost use Rattle.lp_calculus.specs.Convert.{steps};
 ghost use Rattle.lp_calculus.specs.Term.{Term, atom, apply, index, logic};
 ghost use Rattle.lp_calculus.specs.Fill.{Within, abstracted};
@@ -12,7 +12,7 @@ ghost use Rattle.lp_pattern.specs.Behind.{IsGiven};
 ghost use Rattle.lp_pattern.specs.Comparing.{pairs_of};
 ghost use Rattle.lp_pattern.specs.declared.look.Head.TheVariants.{Rigid, Variable};
 ghost use Rattle.lp_pattern.specs.Filling.{IsStill};
-ghost use Rattle.lp_pattern.specs.Growing.{Grows};
+ghost use Rattle.lp_pattern.specs.Growing.{Grows, IsPairOf, IsVerdictIn};
 ghost use Rattle.lp_pattern.specs.Putting.{Known};
 ghost use Rattle.lp_pattern.specs.Reading.{side_of};
 ghost use Rattle.lp_pattern.specs.Refusing.{IsNoFailure};
@@ -29,7 +29,6 @@ use crate::compare::{are_one_variable, are_same, opened, push_pairs};
 use crate::fault::PatternRefusal;
 use crate::heads::{have_same_name, type_pairs};
 use crate::look::{CONTRACTIONS, Head, Looked, look};
-use crate::parts::{put_abstractions, put_application, put_index, term_of};
 use crate::patterns::{Opened, pattern_of};
 use crate::prune::{prune, put_variable};
 use crate::scan::{Scanned, scan};
@@ -38,7 +37,7 @@ use crate::side::Side;
 use crate::types::solve_types;
 use lp_base::Memory;
 use lp_model::Pair;
-use lp_term::{Bank, TermId};
+use lp_term::{Bank, TermId, put_abstractions, put_application, put_index};
 use std::alloc::Global;
 
 // What a pair comes to that does not fail.
@@ -65,7 +64,9 @@ fn decompose(
     requires other { IsLooked bank.old bindings.old other.now }
     requires rigid_one { one.now.head ≡ Rigid }
     requires rigid_other { other.now.head ≡ Rigid }
+    requires todo { All (IsPairOf (length bank.old.terms)) todo.old.items }
     ensures kept { Extends bank.old bank.new }
+    ensures todo { OnOk result (All (IsPairOf (length bank.new.terms)) todo.new.items) }
     ensures grown { Grows bindings.old bindings.new }
     ensures terms { bindings.new.terms ≡ bindings.old.terms }
     ensures pushed { OnOk result (todo.new.items ≡ todo.old.items ++ reverse (pairs_of level one.now.arguments.items other.now.arguments.items)) }
@@ -76,7 +77,7 @@ fn decompose(
     if one.arguments.len() != other.arguments.len() {
         return Err(PatternRefusal::Fails);
     }
-    let is_named = have_same_name(bank, one.top, other.top)?;
+    let is_named = have_same_name(bank, one.top, other.top);
     if !is_named {
         return Err(PatternRefusal::Fails);
     }
@@ -149,7 +150,7 @@ fn join(
     let arguments = put_agreeing(alloc, bank, ones, others)?;
     let variable = put_variable(bank, next, level)?;
     let body = put_application(bank, variable, arguments.as_slice())?;
-    let value = put_abstractions(bank, ones.len(), body)?;
+    let value = put_abstractions(bank, ones.len() as u64, body)?;
     bindings.bind(id, value)
 }
 
@@ -453,7 +454,9 @@ fn replace(
     requires one { IsLooked bank.old bindings.old one.now }
     requires other { IsLooked bank.old bindings.old other.now }
     requires flexible { is_flexible one.now.head other.now.head ≡ false }
+    requires todo { All (IsPairOf (length bank.old.terms)) todo.old.items }
     ensures kept { Extends bank.old bank.new }
+    ensures todo { OnOk result (All (IsPairOf (length bank.new.terms)) todo.new.items) }
     ensures grown { Grows bindings.old bindings.new }
     ensures replaced { OnOk result ((c : Closing) → IsReading bank.old bindings.old c → IsShut c → (n next : ℕ) (p : Equation) → IsSeenPair bank.old c level one.now other.now p → (r : Ruled) → rule n next p ≡ Some r → (units.old ≡ r.units + units.new) × IsDone r.verdict) }
     ensures given { OnOk result ((next : ℕ) (c : Closing) → IsOpenReading bank.old bindings.old next c → (levels : ℕ → ℕ) → (n : ℕ) (p : Equation) → IsSeenPair bank.old c level one.now other.now p → IsKnownPair levels next p → (r : Ruled) → rule n next p ≡ Some r →
@@ -482,7 +485,10 @@ fn take_seen(
 ) -> Result<Verdict, PatternRefusal>
     requires one { IsLooked bank.old bindings.old one.now }
     requires other { IsLooked bank.old bindings.old other.now }
+    requires todo { All (IsPairOf (length bank.old.terms)) todo.old.items }
     ensures kept { Extends bank.old bank.new }
+    ensures todo { OnOk result (All (IsPairOf (length bank.new.terms)) todo.new.items) }
+    ensures delayed { IfOk result (IsVerdictIn (length bank.new.terms)) }
     ensures more { next.old ≤ next.new }
     ensures grown { Grows bindings.old bindings.new }
     ensures judged { IfOk result (λ v. (c : Closing) → IsReading bank.old bindings.old c → IsShut c → (n : ℕ) (p : Equation) → IsSeenPair bank.old c level one.now other.now p → (r : Ruled) → rule n next.old p ≡ Some r →
@@ -516,7 +522,11 @@ pub(crate) fn take(
     todo: &mut Vec<Pair>,
     units: &mut u64,
 ) -> Result<Verdict, PatternRefusal>
+    requires pair { IsPairOf (length bank.old.terms) pair }
+    requires todo { All (IsPairOf (length bank.old.terms)) todo.old.items }
     ensures kept { Extends bank.old bank.new }
+    ensures todo { OnOk result (All (IsPairOf (length bank.new.terms)) todo.new.items) }
+    ensures delayed { IfOk result (IsVerdictIn (length bank.new.terms)) }
     ensures more { next.old ≤ next.new }
     ensures grown { Grows bindings.old bindings.new }
     ensures judged { IfOk result (λ v. (c : Closing) → IsReading bank.old bindings.old c → IsShut c → (p : Equation) → IsPairFor bank.old c pair p → (n : ℕ) (r : Ruled) → rule n next.old p ≡ Some r → IsTaken v units.old units.new r) }
@@ -524,9 +534,8 @@ pub(crate) fn take(
         IsTakenAs v levels next.old c bindings.old bank.new bindings.new next.new todo.old.items todo.new.items p r.verdict) }
     ensures refused { IfErr result (λ e. (c : Closing) → IsOpenReading bank.old bindings.old next.old c → (levels : ℕ → ℕ) → (p : Equation) → IsPairFor bank.old c pair p → IsKnownPair levels next.old p → (n : ℕ) → IsRuledOut n e units.old (rule n next.old p)) }
 {
-    let right = term_of(bank, pair.right)?;
     let one = look(alloc, bank, bindings, pair.left, CONTRACTIONS)?;
-    let other = look(alloc, bank, bindings, right, CONTRACTIONS)?;
+    let other = look(alloc, bank, bindings, pair.right, CONTRACTIONS)?;
     take_seen(
         alloc, bank, bindings, next, &one, &other, pair.level, todo, units,
     )

@@ -97,15 +97,12 @@ pub(crate) fn push_arguments(
 }
 
 // Whether a rigid head is allowed.
-fn allows_head(bank: &Bank, side: &Side, head: TermId) -> Result<bool, Memory>
-    ensures { IfOk result (λ is. is ≡ allows_head (side_of side.now) (tree bank.now head.0)) }
+fn allows_head(bank: &Bank, side: &Side, head: TermId) -> bool
+    ensures { result ≡ allows_head (side_of side.now) (tree bank.now head.0) }
 {
-    if head.0 >= bank.term_count() {
-        return Err(Memory);
-    }
     match bank.term_node(head) {
-        TermNode::Eigen(k) => Ok(side.allows(k)),
-        _ => Ok(true),
+        TermNode::Eigen(k) => side.allows(k),
+        _ => true,
     }
 }
 
@@ -132,7 +129,7 @@ fn visit_rigid(
         (scan_parts m n (side_of side.now) (part_at bank.now c visit looked.now.whole ∷ parts_of bank.now c left.old.items))) }
 {
     spend(units)?;
-    let is_allowed = allows_head(bank, side, looked.top)?;
+    let is_allowed = allows_head(bank, side, looked.top);
     let goes = either(is_allowed, visit.is_inside);
     if !goes {
         return Err(PatternRefusal::Fails);

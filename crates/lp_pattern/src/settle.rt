@@ -19,11 +19,12 @@ ghost use Rattle.lp_pattern.specs.Under.{IsReading, under};
 use crate::bindings::Bindings;
 use crate::fault::PatternRefusal;
 use crate::look::{CONTRACTIONS, Head, Looked, look};
-use crate::parts::{put_abstraction, put_abstractions, put_application, put_eigen, put_index};
 use crate::patterns::{Opened, pattern_of};
 use crate::side::Side;
 use lp_base::Memory;
-use lp_term::{Bank, TermId, TermNode};
+use lp_term::{
+    Bank, TermId, TermNode, put_abstraction, put_abstractions, put_application, put_eigen, put_index,
+};
 use std::alloc::Global;
 
 // What is left to do: to visit a part, or to put a node together from the results behind it.
@@ -115,14 +116,12 @@ fn put_stand_in(
 
 // A rigid head, which is another one where it is an eigenconstant for which an abstraction stands. A term of a pair has no loose index.
 fn head_in(bank: &mut Bank, side: &Side, opened: Opened, head: TermId) -> Result<TermId, Memory>
+    requires within { head.0 < length bank.old.terms }
     requires rigid { IsRigid (tree bank.old head.0) }
     ensures kept { Extends bank.old bank.new }
     ensures within { IfOk result (λ id. id.0 < length bank.new.terms) }
     ensures head { IfOk result (λ id. IsHeadIn bank.old bank.new side.now.eigens.items opened.level opened.depth head id) }
 {
-    if head.0 >= bank.term_count() {
-        return Err(Memory);
-    }
     match bank.term_node(head) {
         TermNode::Eigen(eigen) => put_stand_in(bank, side, opened, eigen, head),
         TermNode::Index(place) => {
@@ -461,7 +460,7 @@ pub(crate) fn settled(
             let Some(body) = work.made.pop() else {
                 return Err(PatternRefusal::Memory);
             };
-            let id = put_abstractions(bank, side.eigens.len(), body)?;
+            let id = put_abstractions(bank, side.eigens.len() as u64, body)?;
             return Ok(id);
         };
         step(alloc, bank, bindings, side, &mut work, task)?;

@@ -66,7 +66,10 @@ fn take_all(
     next: &mut u64,
     units: &mut u64,
 ) -> Result<bool, PatternRefusal>
+    requires todo { All (IsPairOf (length bank.old.terms)) todo.old.items }
+    requires waiting { All (IsPairOf (length bank.old.terms)) waiting.old.items }
     ensures kept { Extends bank.old bank.new }
+    ensures waiting { OnOk result (All (IsPairOf (length bank.new.terms)) waiting.new.items) }
     ensures more { next.old ≤ next.new }
     ensures grown { Grows bindings.old bindings.new }
     ensures emptied { OnOk result (todo.new.items ≡ []) }

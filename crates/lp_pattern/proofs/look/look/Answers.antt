@@ -1,10 +1,10 @@
-use Rattle.std.proofs.Common.{arith, ◌≤◌}
+use Rattle.std.proofs.Common.{arith, ◌≤◌, refl, Some}
 use Rattle.lp_term.proofs.Trees.{extends-trans}
 use Rattle.lp_term.proofs.Moves.{passed_up}
 use Rattle.lp_model.specs.Pair.{Closing, closed}
 use Rattle.lp_pattern.specs.Under.{IsReading, under}
 use Rattle.lp_pattern.specs.Seen.{IsDeepWhere, at_hand}
-use Rattle.lp_pattern.proofs.Walking.{reading_kept, deep_later, follows_on, ended_within, sees}
+use Rattle.lp_pattern.proofs.Walking.{reading_kept, deep_later, follows_on, ended_within, sees, start_stands, start_follows}
 use Rattle.lp_pattern.proofs.look.look.Goals as goal
 
 pub returns-in_err-found-clause-refused : goal.returns-in_err-found-clause-refused
@@ -43,3 +43,13 @@ steps-preserved c = record {
       follows_on r c.args.limit (under c.args.bank.now r c.args.term) c.steps.bank c.step.new.bank c.steps.spine c.step.new.spine c.steps.invariant.left (c.steps.invariant.followed r i)
       (c.in_ok-found.ensures.followed r (reading_kept c.args.bank.now c.steps.bank c.args.bindings.now r c.steps.invariant.kept i));
 }
+
+pub steps-init : goal.steps-init
+steps-init c =
+    let s = record { top = c.in_ok-top.top; arguments = c.new.result; whole = Some c.in_ok-top.top; left = c.args.limit } in
+    record {
+      kept = c.in_ok-top.ensures.kept;
+      stands = start_stands c.inside.new.self s c.in_ok-top.ensures.within refl c.new.ensures.items;
+      left = omega arith;
+      followed = λ r i. start_follows r c.args.bank.now c.inside.new.self c.args.term s c.args.limit c.in_ok-top.ensures.tree c.new.ensures.items;
+    }

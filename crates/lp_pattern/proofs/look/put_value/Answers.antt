@@ -1,14 +1,18 @@
 use Rattle.std.proofs.Common.{◌∙◌, sym, ap, arith, Some}
 use Rattle.lp_term.specs.Nodes.{tree}
-use Rattle.lp_term.specs.Walk.{trees}
-use Rattle.lp_pattern.proofs.Walking.{value_follows}
+use Rattle.lp_pattern.proofs.Walking.{value_goes, value_stands}
 use Rattle.lp_pattern.proofs.look.put_value.Goals as goal
+
+pub returns-clause-stands : goal.returns-clause-stands
+returns-clause-stands c =
+    value_stands c.args.bank.now c.inside.new.self (record { top = c.in_ok-top.top; arguments = c.args.spine.now.arguments; whole = c.alone.result; left = c.args.spine.now.left })
+    c.in_ok-top.ensures.kept c.requires.stands.arguments c.in_ok-top.ensures.within c.alone.ensures
 
 pub returns-clause-followed : goal.returns-clause-followed
 returns-clause-followed c = λ r i. (
   0,
   omega arith,
   ap (λ x. Some x)
-      (value_follows r c.args.bank.now c.args.bindings.now c.args.id c.args.level c.in-Some.value (tree c.args.bank.now c.args.spine.now.top.0) (trees c.args.bank.now c.args.spine.now.arguments.items) i
-      (sym c.value.ensures ∙ c.in-Some.is) c.requires.top),
+      (value_goes r c.args.bank.now c.inside.new.self c.args.bindings.now c.args.id c.args.level c.in-Some.value c.in_ok-top.top (tree c.args.bank.now c.args.spine.now.top.0) c.args.spine.now.arguments.items i
+      (sym c.value.ensures ∙ c.in-Some.is) c.requires.top c.in_ok-top.ensures.kept c.requires.stands.arguments c.in_ok-top.ensures.tree),
 )

@@ -15,7 +15,7 @@ pub returns-in_default-clause-stripped : goal.returns-in_default-clause-stripped
 returns-in_default-clause-stripped c = λ r i h m f.
     stripped_none m c.in_ok-looked.count c.args.bank.now c.strip.new.bank c.args.bindings.now r c.args.term c.in_ok-looked.looked c.in_ok-looked.ensures.looked (reading_kept c.args.bank.now c.strip.new.bank c.args.bindings.now r c.in_ok-looked.ensures.kept i)
     c.in_ok-looked.ensures.top (c.in_ok-looked.ensures.strips r i h)
-    (transport (λ o. IsNameOf o (tree c.strip.new.bank c.in_ok-looked.looked.top.0)) c.in_default.is c.in_ok-name.ensures)
+    (transport (λ o. IsNameOf o (tree c.strip.new.bank c.in_ok-looked.looked.top.0)) c.in_default.is c.name_of.ensures)
 
 pub returns-clause-known : goal.returns-clause-known
 returns-clause-known c =
@@ -28,6 +28,6 @@ returns-clause-stripped c = λ r i h m f. (
   c.in_ok-push_wanted.ensures ∙ ap (λ l. c.args.left.now.items ++ wanted_at c.in_ok-looked.count l) c.as_slice.ensures.value,
   stripped_some m c.in_ok-looked.count c.args.bank.now c.strip.new.bank c.args.bindings.now r c.args.term c.in_ok-looked.looked c.in_ok-looked.ensures.looked (reading_kept c.args.bank.now c.strip.new.bank c.args.bindings.now r c.in_ok-looked.ensures.kept i)
       c.in_ok-looked.ensures.top (c.in_ok-looked.ensures.strips r i h)
-      c.in-Some.name (transport (λ o. IsNameOf o (tree c.strip.new.bank c.in_ok-looked.looked.top.0)) c.in-Some.is c.in_ok-name.ensures) f
+      c.in-Some.name (transport (λ o. IsNameOf o (tree c.strip.new.bank c.in_ok-looked.looked.top.0)) c.in-Some.is c.name_of.ensures) f
       (omega (arith, c.if-len-count.false, c.len.ensures, c.in_ok-looked.looked.arguments.ok)),
 )

@@ -19,7 +19,7 @@ returns-in_err-spend-clause-stopped c =
 
 pub returns-then-not-goes-clause-stopped : goal.returns-then-not-goes-clause-stopped
 returns-then-not-goes-clause-stopped c = λ r i h m n.
-    rigid_breaks c.args.bank.now c.args.bindings.now r c.args.side.now c.args.visit c.args.looked.now c.args.left.now.items c.requires.looked c.requires.visit m n c.args.units.now c.spend.new.units c.in_ok-is_allowed.is_allowed _ c.requires.head c.in_ok-is_allowed.ensures (sym c.either-goes.ensures ∙ c.if-not-goes.true)
+    rigid_breaks c.args.bank.now c.args.bindings.now r c.args.side.now c.args.visit c.args.looked.now c.args.left.now.items c.requires.looked c.requires.visit m n c.args.units.now c.spend.new.units c.allows_head-is_allowed.result _ c.requires.head c.allows_head-is_allowed.ensures (sym c.either-goes.ensures ∙ c.if-not-goes.true)
     c.in_ok-spend.ensures.spent refl
 
 pub returns-clause-left : goal.returns-clause-left
@@ -30,6 +30,6 @@ returns-clause-left c =
 pub returns-clause-scanned : goal.returns-clause-scanned
 returns-clause-scanned c = λ r i h m n.
     rigid_goes c.args.bank.now c.args.bindings.now r c.args.side.now c.args.visit c.args.looked.now c.args.left.now.items c.requires.looked c.requires.visit m n c.args.units.now c.spend.new.units c.args.found.now
-    (record { is_delayed = c.either-found.result; has_misfit = c.args.found.now.has_misfit }) c.in_ok-is_allowed.is_allowed c.push_arguments.new.left.items c.requires.head c.in_ok-is_allowed.ensures (sym c.either-goes.ensures ∙ c.if-not-goes.false)
+    (record { is_delayed = c.either-found.result; has_misfit = c.args.found.now.has_misfit }) c.allows_head-is_allowed.result c.push_arguments.new.left.items c.requires.head c.allows_head-is_allowed.ensures (sym c.either-goes.ensures ∙ c.if-not-goes.false)
     c.in_ok-spend.ensures.spent c.either-found.ensures refl
     (c.in_ok-push_arguments.ensures ∙ ap (λ l. c.args.left.now.items ++ reverse (visits c.args.visit c.args.visit.is_inside l)) c.as_slice.ensures.value)

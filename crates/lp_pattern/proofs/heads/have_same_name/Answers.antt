@@ -1,6 +1,6 @@
 use Rattle.lp_term.specs.Nodes.{tree}
 use Rattle.lp_pattern.proofs.Names.{apart_from_applied}
-use Rattle.lp_pattern.proofs.heads.are_same_names.Goals as goal
+use Rattle.lp_pattern.proofs.heads.have_same_name.Goals as goal
 
 pub returns-in-App : goal.returns-in-App
 returns-in-App c =

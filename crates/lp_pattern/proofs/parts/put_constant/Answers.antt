@@ -1,8 +1,0 @@
-use Rattle.std.proofs.Common.{◌∙◌, ap}
-use Rattle.lp_calculus.specs.Term.{atom, constant}
-use Rattle.lp_term.specs.Nodes.{type_tree}
-use Rattle.lp_pattern.proofs.FilledTypes.{fused}
-use Rattle.lp_pattern.proofs.parts.put_constant.Goals as goal
-
-pub returns-clause-tree : goal.returns-clause-tree
-returns-clause-tree c = c.in_ok-id.ensures.tree ∙ ap (λ ts. atom (constant c.args.number ts)) (fused (type_tree c.args.bank.now) (λ t. t.0) c.args.types.now)
