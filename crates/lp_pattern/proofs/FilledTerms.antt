@@ -190,8 +190,8 @@ pub bound_made : (b : Nodes) (s : Bindings) (c : Closing) (id value made : TermI
 bound_made b s c id value made shape e h R F = record { within = F.made; is = F.is ∙ sym (transport (HasShape b s id.0) e h c R) }
 
 -- the term at the end
-pub term_filled : (a b : Nodes) (c : Closing) (id made new : TermId) → Extends a b → id.0 < length a.terms → IsFilledTerm b c id.0 made.0 → new ≡ made → tree b new.0 ≡ closed c (tree a id.0)
-term_filled a b c id made new E k F e = ap (λ t. tree b t.0) e ∙ F.is ∙ ap (closed c) (E.same_terms id.0 k)
+pub term_filled : (a b : Nodes) (c : Closing) (id made : TermId) → Extends a b → id.0 < length a.terms → IsFilledTerm b c id.0 made.0 → tree b made.0 ≡ closed c (tree a id.0)
+term_filled a b c id made E k F = F.is ∙ ap (closed c) (E.same_terms id.0 k)
 
 -- the shapes, over slices of their lists
 pub typed_shape : (b : Nodes) (s : Bindings) (i n : ℕ) (shape : Shape) (types : Vec TypeId Global) (ts : List TypeId) → shape ≡ Shape.Typed n types → ts ≡ types.items → HasShape b s i shape →

@@ -1,12 +1,12 @@
 -- Pairs in the place of others: they have the same trees, so what is read off them is the same.
-use Rattle.std.proofs.Common.{◌≡◌, ℕ, ◌<◌, List, [], ◌∷◌, ◌++◌, map, length, ◌∙◌, refl, sym, ap, subst as transport, Some}
+use Rattle.std.proofs.Common.{◌≡◌, ℕ, List, [], ◌∷◌, ◌++◌, map, length, ◌∙◌, sym, ap, subst as transport, Some}
 use Rattle.std.specs.Prelude.{All}
 use Rattle.std.proofs.lemmas.List.{map-append}
 use Rattle.std.proofs.lemmas.List.Elements.{All-nil}
 use Rattle.lp_lemmas.proofs.Elements.{All_pushed}
 use Rattle.lp_lemmas.proofs.Lists.{cons_head, cons_tail, map_pushed}
 use Rattle.lp_calculus.specs.Types.{Ty, instance}
-use Rattle.lp_term.specs.Nodes.{Nodes, Extends, tree, type_tree}
+use Rattle.lp_term.specs.Nodes.{Nodes, tree, type_tree}
 use Rattle.lp_term.specs.declared.node.TypeId.{TypeId}
 use Rattle.lp_model.specs.Pair.{Pair, Closing, closed}
 use Rattle.lp_model.specs.declared.answer.Pair.{Pair as Numbers}
@@ -65,6 +65,7 @@ pairs_for b d c [] [] ps e h = h
 pairs_for b d c [] (r ∷ rs) ps e h = absurd (cc)
 pairs_for b d c (q ∷ qs) [] ps e h = absurd (cc)
 pairs_for b d c (q ∷ qs) (r ∷ rs) [] e h = h
-pairs_for b d c (q ∷ qs) (r ∷ rs) (p ∷ ps) e h =
-    (pair_for b d c q r p (cons_head (pair_of d r) (pair_of b q) (pairs_at d rs) (pairs_at b qs) e) h.0,
-    pairs_for b d c qs rs ps (cons_tail (pair_of d r) (pair_of b q) (pairs_at d rs) (pairs_at b qs) e) h.1)
+pairs_for b d c (q ∷ qs) (r ∷ rs) (p ∷ ps) e h = (
+  pair_for b d c q r p (cons_head (pair_of d r) (pair_of b q) (pairs_at d rs) (pairs_at b qs) e) h.0,
+  pairs_for b d c qs rs ps (cons_tail (pair_of d r) (pair_of b q) (pairs_at d rs) (pairs_at b qs) e) h.1,
+)

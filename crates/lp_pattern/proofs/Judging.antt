@@ -512,10 +512,10 @@ pub taken_out : (b : Nodes) (s : Bindings) (c : Closing) (one other : Looked) (n
 taken_out b s c one other n next level u p o i k m h f g = out_below n u o (rule n next p) (by_looks n next p (view b c one) (view b c other)) (λ r q. by_views b s c one other i k m n next level p h r q f) g
 
 -- the sides of a pair that were looked at one after the other
-pub seen_pair : (b d e : Nodes) (c : Closing) (limit : ℕ) (p : Numbers) (t : TermId) (one other : Looked) → Extends b d → Extends d e → t ≡ p.right → t.0 < length b.terms → one.whole.0 < length d.terms →
-    IsReachedWithin limit (under b c p.left) (under d c one.whole) → IsReachedWithin limit (under d c t) (under e c other.whole) → IsSeenPair e c p.level one other (pair_under b c p)
-seen_pair b d e c limit p t one other x y q l k v w = record {
+pub seen_pair : (b d e : Nodes) (c : Closing) (limit : ℕ) (p : Numbers) (one other : Looked) → Extends b d → Extends d e → p.right.0 < length b.terms → one.whole.0 < length d.terms →
+    IsReachedWithin limit (under b c p.left) (under d c one.whole) → IsReachedWithin limit (under d c p.right) (under e c other.whole) → IsSeenPair e c p.level one other (pair_under b c p)
+seen_pair b d e c limit p one other x y l k v w = record {
   stands = refl;
   left = (v.0, v.2 ∙ ap (λ z. Some z) (sym (under_kept d e c one.whole y k)));
-  right = (w.0, ap (steps weak_step w.0) (ap (under b c) (sym q) ∙ sym (under_kept b d c t x l)) ∙ w.2);
+  right = (w.0, ap (steps weak_step w.0) (sym (under_kept b d c p.right x l)) ∙ w.2);
 }

@@ -4,6 +4,7 @@ pub mod BetaForms
 pub mod Compares
 pub mod Etas
 pub mod HeadTypes
+pub mod InPlace
 pub mod Judging
 pub mod Keeps
 pub mod Looking
@@ -49,6 +50,7 @@ pub mod ReadingsBehind
 pub mod BoundOnce
 pub mod Cleans
 pub mod Refits
+pub mod PairedLists
 pub mod PairsGiven
 pub mod PairsThrough
 pub mod Passings

@@ -2,7 +2,7 @@
 use Rattle.std.proofs.Common.{ℕ, zero, suc, ◌≤◌, List, [], ◌∷◌, arith, Some}
 use Rattle.lp_calculus.specs.Term.{Term}
 use Rattle.lp_model.specs.Pair.{Pair}
-use Rattle.lp_model.specs.Rule.{Compared, dearer, argument_pairs, compare, compare_all}
+use Rattle.lp_model.specs.Rule.{dearer, argument_pairs, compare, compare_all}
 use Rattle.lp_pattern.specs.Comparing.{compare_pairs}
 use Rattle.lp_unify_laws.proofs.MoreSteps.Scans.{Below, below_none, below_same, below_then, below_map}
 use Rattle.lp_unify_laws.proofs.MoreSteps.Rules.{below_if, compare_more}

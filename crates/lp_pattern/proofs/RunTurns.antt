@@ -1,8 +1,8 @@
 -- The turns of a run: each turn of the code is one of the definition.
 use Rattle.std.proofs.Common.{◌≡◌, ℕ, zero, suc, ◌+◌, ◌<◌, ◌≤◌, List, [], ◌∷◌, ◌++◌, reverse, length, ◌∙◌, refl, sym, ap, subst as transport, arith, Bool, true, false, Option, Some, None}
-use Rattle.std.specs.Prelude.{nat_lt, ◌||◌, option_and_then}
+use Rattle.std.specs.Prelude.{nat_lt, ◌||◌, option_and_then, All}
 use Rattle.std.proofs.lemmas.Bool.Decides.{nat_tests}
-use Rattle.std.proofs.lemmas.List.Elements.{All-nil}
+use Rattle.std.proofs.lemmas.List.Elements.{All-nil, All-push}
 use Rattle.lp_term.specs.Nodes.{Nodes, Extends}
 use Rattle.lp_model.specs.Types.{TypeBinding}
 use Rattle.lp_model.specs.Pair.{Pair, Closing}
@@ -13,7 +13,7 @@ use Rattle.lp_pattern.specs.declared.bindings.Bindings.{Bindings}
 use Rattle.lp_pattern.specs.declared.fault.PatternRefusal.{PatternRefusal}
 use Rattle.lp_pattern.specs.declared.fault.PatternRefusal.TheVariants as refusal
 use Rattle.lp_pattern.specs.declared.rules.Verdict.{Verdict as Taken}
-use Rattle.lp_pattern.specs.Growing.{IsPairOf}
+use Rattle.lp_pattern.specs.Growing.{IsPairOf, IsVerdictIn}
 use Rattle.lp_pattern.specs.Ruling.{IsTaken, IsRuledOut}
 use Rattle.lp_pattern.specs.Stripping.{IsShut}
 use Rattle.lp_pattern.specs.Turning.{IsOpenReading, IsKnownPair, IsPairFor, ArePairsFor, IsTypedBehind, IsTakenAs}
@@ -21,6 +21,7 @@ use Rattle.lp_pattern.specs.Turns.{Began, LeadsTo, IsBoundSince, ComesTo}
 use Rattle.lp_pattern.specs.Under.{IsReading}
 use Rattle.lp_pattern.specs.Unifying.{IsSolutionUnder, IsRefusedAs}
 use Rattle.lp_pattern.proofs.Compares.{from_map}
+use Rattle.lp_pattern.proofs.Stacks.{still_pairs}
 use Rattle.lp_pattern.proofs.RunStates.{First, first, with_given, given_state, with_bound, bound_state, with_delayed, delayed_state}
 
 -- what comes behind a turn
@@ -89,6 +90,10 @@ limited_past limit v l = let q : nat_lt limit v ≡ true = grind (arith, nat_tes
 abbrev pub waiting_behind : Taken → List Numbers → List Numbers
 waiting_behind Taken.Gone ws = ws
 waiting_behind (Taken.Delayed q) ws = ws ++ q ∷ []
+
+pub waiting_known : (b d : Nodes) (v : Taken) (ws : List Numbers) → Extends b d → IsVerdictIn (length d.terms) v → All (IsPairOf (length b.terms)) ws → All (IsPairOf (length d.terms)) (waiting_behind v ws)
+waiting_known b d Taken.Gone ws e h a = still_pairs b d ws e a
+waiting_known b d (Taken.Delayed q) ws e h a = All-push (IsPairOf (length d.terms)) ws q (still_pairs b d ws e a) h
 
 or_true : (b : Bool) → true ≡ (b || true)
 or_true true = refl

@@ -1,11 +1,13 @@
 -- Pairs on a stack: what they are under bindings.
-use Rattle.std.proofs.Common.{◌≡◌, ℕ, ◌<◌, List, [], ◌∷◌, ◌++◌, map, reverse, length, ◌∙◌, refl, ap, arith}
+use Rattle.std.proofs.Common.{◌≡◌, ℕ, suc, ◌<◌, List, [], ◌∷◌, ◌++◌, map, reverse, length, ◌∙◌, refl, sym, ap, subst as transport, arith}
 use Rattle.std.specs.Prelude.{All}
 use Rattle.std.proofs.lemmas.List.{map-append, reverse-append, reverse-reverse}
-use Rattle.std.proofs.lemmas.List.Elements.{All-nil, All-head, All-tail, All-cons, All-append, All-weaker, All-push}
+use Rattle.std.proofs.lemmas.List.Elements.{All-nil, All-head, All-tail, All-cons, All-append, All-weaker}
+use Rattle.lp_lemmas.proofs.Elements.{All_reverse}
 use Rattle.lp_calculus.specs.Term.{Term, index, atom, abs, app, constant, integer, text, eigen, logic, param}
 use Rattle.lp_calculus.specs.Instance.{instance_term}
-use Rattle.lp_term.specs.Nodes.{Nodes, Extends}
+use Rattle.lp_term.specs.Nodes.{Nodes, Extends, tree}
+use Rattle.lp_term.proofs.Within.{terms_later}
 use Rattle.lp_term.specs.declared.node.TermId.{TermId}
 use Rattle.lp_model.specs.Pair.{Closing, closed}
 use Rattle.lp_model.specs.Rule.{argument_pairs}
@@ -13,7 +15,7 @@ use Rattle.lp_model.specs.declared.answer.Pair.{Pair as Numbers}
 use Rattle.lp_pattern.specs.Growing.{IsPairOf}
 use Rattle.lp_pattern.specs.Under.{under}
 use Rattle.lp_pattern.specs.Seen.{IsRigid}
-use Rattle.lp_pattern.specs.Comparing.{pair_under, pairs_under, pairs_of}
+use Rattle.lp_pattern.specs.Comparing.{opened_pair, pair_under, pairs_under, pairs_of}
 
 -- a bank that has grown
 pub under_kept : (b d : Nodes) (c : Closing) (t : TermId) → Extends b d → t.0 < length b.terms → under d c t ≡ under b c t
@@ -26,12 +28,8 @@ map_kept : (b d : Nodes) (c : Closing) (ps : List Numbers) → Extends b d → A
 map_kept b d c [] e a = refl
 map_kept b d c (p ∷ ps) e a = λ i. pair_kept b d c p e (All-head (IsPairOf (length b.terms)) p ps a) i ∷ map_kept b d c ps e (All-tail (IsPairOf (length b.terms)) p ps a) i
 
-all_reverse : {X : Type 0} (P : X → Type 0) (xs : List X) → All P xs → All P (reverse xs)
-all_reverse P [] a = a
-all_reverse P (x ∷ xs) a = rw (reverse-append (x ∷ []) xs) (All-push P (reverse xs) x (all_reverse P xs (All-tail P x xs a)) (All-head P x xs a))
-
 pub pairs_kept : (b d : Nodes) (c : Closing) (ps : List Numbers) → Extends b d → All (IsPairOf (length b.terms)) ps → pairs_under d c ps ≡ pairs_under b c ps
-pairs_kept b d c ps e a = map_kept b d c (reverse ps) e (all_reverse (IsPairOf (length b.terms)) ps a)
+pairs_kept b d c ps e a = map_kept b d c (reverse ps) e (All_reverse (IsPairOf (length b.terms)) ps a)
 
 pub still_pairs : (b d : Nodes) (ps : List Numbers) → Extends b d → All (IsPairOf (length b.terms)) ps → All (IsPairOf (length d.terms)) ps
 still_pairs b d ps e a = All-weaker (IsPairOf (length b.terms)) (IsPairOf (length d.terms)) (λ p l. (omega (arith, l.0, e.more_terms), omega (arith, l.1, e.more_terms))) ps a
@@ -58,7 +56,7 @@ arguments_known n k (t ∷ ts) (u ∷ us) a e =
     (arguments_known n k ts us (All-tail (λ t. t.0 < n) t ts a) (All-tail (λ t. t.0 < n) u us e))
 
 pub more_known : (n : ℕ) (ps qs : List Numbers) → All (IsPairOf n) ps → All (IsPairOf n) qs → All (IsPairOf n) (ps ++ reverse qs)
-more_known n ps qs a e = All-append (IsPairOf n) ps (reverse qs) a (all_reverse (IsPairOf n) qs e)
+more_known n ps qs a e = All-append (IsPairOf n) ps (reverse qs) a (All_reverse (IsPairOf n) qs e)
 
 -- rigid heads
 pub rigid_closed : (c : Closing) (t : Term) → IsRigid t → closed c t ≡ instance_term c.types t
@@ -71,3 +69,24 @@ rigid_closed c (atom (logic x l)) h = absurd h
 rigid_closed c (atom (param k u)) h = refl
 rigid_closed c (abs b) h = absurd h
 rigid_closed c (app t u) h = absurd h
+
+-- the pairs of arguments put behind others
+pub pairs_join : (b d : Nodes) (old new : List Numbers) (k : ℕ) (ts us : List TermId) → Extends b d → All (IsPairOf (length b.terms)) old → All (λ t. t.0 < length b.terms) ts →
+    All (λ t. t.0 < length b.terms) us → new ≡ old ++ reverse (pairs_of k ts us) → All (IsPairOf (length d.terms)) new
+pairs_join b d old new k ts us e a f g q =
+    transport (All (IsPairOf (length d.terms))) (sym q)
+    (more_known (length d.terms) old (pairs_of k ts us) (still_pairs b d old e a) (arguments_known (length d.terms) k ts us (terms_later b d ts e f) (terms_later b d us e g)))
+
+pub stacked_known : (n : ℕ) (ps old new : List Numbers) → old ≡ [] → new ≡ old ++ reverse ps → All (IsPairOf n) ps → All (IsPairOf n) new
+stacked_known n ps old new e q a = transport (All (IsPairOf n)) (sym (q ∙ ap (λ l. l ++ reverse ps) e)) (All_reverse (IsPairOf n) ps a)
+
+-- both sides on an eigenconstant
+pub opened_made : (a b d e : Nodes) (c : Closing) (k n : ℕ) (left right on l r : TermId) → n ≡ suc k → Extends a b → Extends b d → Extends d e → left.0 < length a.terms → right.0 < length a.terms →
+    on.0 < length b.terms → tree b on.0 ≡ atom (eigen n) → l.0 < length d.terms → tree d l.0 ≡ app (tree b left.0) (tree b on.0) → tree e r.0 ≡ app (tree d right.0) (tree d on.0) →
+    pair_under e c (record { left = l; right = r; level = n }) ≡ opened_pair k (under a c left) (under a c right)
+opened_made a b d e c k n left right on l r h x y z w v o q m f g =
+    let constant : tree b on.0 ≡ atom (eigen (suc k)) = q ∙ ap (λ i. atom (eigen i)) h in
+    let one : tree e l.0 ≡ app (tree a left.0) (atom (eigen (suc k))) = z.same_terms l.0 m ∙ f ∙ (λ i. app (x.same_terms left.0 w i) (constant i)) in
+    let other : tree e r.0 ≡ app (tree a right.0) (atom (eigen (suc k))) =
+    g ∙ (λ i. app (y.same_terms right.0 (omega (arith, v, x.more_terms)) i) (y.same_terms on.0 o i)) ∙ (λ i. app (x.same_terms right.0 v i) (constant i)) in
+    λ i. record { left = closed c (one i); right = closed c (other i); level = h i }

@@ -1,15 +1,15 @@
 -- Solving type equations: lp_type_laws keeps a substitution, the definition of unification a list of bindings. They come to the same, with the
 -- same units.
-use Rattle.std.proofs.Common.{◌≡◌, ℕ, zero, suc, ◌+◌, ◌<◌, ◌≤◌, List, [], ◌∷◌, ◌++◌, map, Option, Some, refl, sym, ap, ◌∙◌, arith}
+use Rattle.std.proofs.Common.{◌≡◌, ℕ, zero, suc, ◌+◌, ◌<◌, ◌≤◌, List, [], ◌∷◌, ◌++◌, map, Some, refl, sym, ap, ◌∙◌, arith}
 use Rattle.std.specs.Prelude.{Bool, true, false, nat_lt, if◌then◌else◌}
 use Rattle.std.proofs.lemmas.Bool.{ltb-true}
 use Rattle.std.proofs.lemmas.List.{append-nil, append_assoc}
 use Rattle.lp_calculus.specs.Types.{Ty, instance}
-use Rattle.lp_type_laws.specs.Equations.{equation, one, put_equation}
+use Rattle.lp_type_laws.specs.Equations.{one}
 use Rattle.lp_type_laws.specs.Solving.{Turn, clashes, goes, turn, Outcome, unfinished, fails, solve}
 use Rattle.lp_type_laws.specs.Solving as types
 use Rattle.lp_type_laws.specs.Units.{units, spent, ended, solve_within}
-use Rattle.lp_type_laws.proofs.Counts.{solve_turn, after_turn}
+use Rattle.lp_type_laws.proofs.Counts.{after_turn}
 use Rattle.lp_model.specs.Types.{TypePair, TypeBinding, put_types, put_in_pair, TypeVerdict, differ, bound, type_rule, TypeOutcome, none, solve_types}
 use Rattle.lp_model.specs.Types as model
 use Rattle.lp_unify_laws.specs.TypeSolutions.{equations}

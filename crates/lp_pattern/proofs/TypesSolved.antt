@@ -1,6 +1,9 @@
 -- Type equations under bindings: what the code solves with the bindings put in, and adds to them, is what the definition solves.
 use Rattle.std.proofs.Common.{◌≡◌, ℕ, zero, suc, ◌+◌, ◌<◌, ◌≤◌, List, [], ◌∷◌, ◌++◌, map, reverse, length, Option, Some, None, refl, sym, ap, subst as transport, ◌∙◌, arith, nat_eq, if◌then◌else◌, Bool, true, false, take, slice_get}
+use Rattle.std.specs.Prelude.{All}
 use Rattle.std.proofs.lemmas.List.{append_assoc, map-append, reverse-reverse}
+use Rattle.std.proofs.lemmas.List.Elements.{All-head, All-tail, All-weaker}
+use Rattle.lp_lemmas.proofs.Elements.{All_pushed}
 use Rattle.std.specs.List.{IsDistinct, AllByRecursion}
 use Rattle.std.specs.Map.{lookup, keys_of}
 use Rattle.std.proofs.lemmas.Cmp.{nat_eq_equiv}
@@ -14,7 +17,7 @@ use Rattle.lp_type_laws.proofs.GoingOn.{as_without}
 use Rattle.lp_type_laws.proofs.Types.{instance-var}
 use Rattle.lp_term.specs.Nodes.{Nodes, type_tree, Extends}
 use Rattle.lp_term.specs.declared.node.TypeId.{TypeId}
-use Rattle.lp_type_unify.specs.Reading.{Slot, read_pair, read_pairs}
+use Rattle.lp_type_unify.specs.Reading.{Slot, read_pair, read_pairs, IsPair}
 use Rattle.lp_type_unify.specs.Counting.{HasEnded, IsRefused}
 use Rattle.lp_type_unify.specs.declared.bindings.Pair.{Pair}
 use Rattle.lp_type_unify.specs.declared.counted.EquationRefusal.{EquationRefusal}
@@ -23,6 +26,7 @@ use Rattle.lp_pattern.specs.declared.bindings.Bindings.{Bindings}
 use Rattle.lp_pattern.specs.declared.fault.PatternRefusal.{PatternRefusal}
 use Rattle.lp_pattern.specs.Refusing.{IsOfEquations}
 use Rattle.lp_pattern.specs.Under.{TypeIs, AreTypes}
+use Rattle.lp_pattern.specs.Inside.{IsTypePairOf}
 use Rattle.lp_pattern.specs.Reading.{type_pairs_of}
 use Rattle.lp_unify_laws.specs.TypeSolutions.{equations}
 use Rattle.lp_pattern.specs.Filling.{AreFilled, AreKnown, IsStill, AreSolved, IsSolvedIn, IsUnsolvedIn, units_in, held, equation_under, AreIn}
@@ -59,9 +63,16 @@ known_split : (b : Nodes) (ps : List (TypeId × TypeId)) (p : TypeId × TypeId) 
 known_split b [] p k = (tt, k.0, k.1)
 known_split b (q ∷ qs) p k = let w = known_split b qs p k.2 in ((k.0, k.1, w.0), w.1, w.2)
 
-pub known_snoc : (b : Nodes) (ps : List (TypeId × TypeId)) (p : TypeId × TypeId) → AreKnown b ps → p.0.0 < length b.types → p.1.0 < length b.types → AreKnown b (ps ++ p ∷ [])
-known_snoc b [] p k l r = (l, r, tt)
-known_snoc b (q ∷ qs) p k l r = (k.0, k.1, known_snoc b qs p k.2 l r)
+pub all_known : (b : Nodes) (ps : List (TypeId × TypeId)) → All (IsTypePairOf (length b.types)) ps → AreKnown b ps
+all_known b [] a = tt
+all_known b (p ∷ ps) a = let w = All-head (IsTypePairOf (length b.types)) p ps a in (w.0, w.1, all_known b ps (All-tail (IsTypePairOf (length b.types)) p ps a))
+
+pub one_more_pair : (b c d : Nodes) (old new : List Pair) (left right : TypeId) → Extends b c → Extends c d → new ≡ old ++ (record { left = left; right = right }) ∷ [] →
+    All (IsPair (length b.types)) old → left.0 < length c.types → right.0 < length d.types → All (IsPair (length d.types)) new
+one_more_pair b c d old new left right E F e a l r =
+    All_pushed (IsPair (length d.types)) new old (record { left = left; right = right }) e
+    (All-weaker (IsPair (length b.types)) (IsPair (length d.types)) (λ p w. (omega (arith, w.0, E.more_types, F.more_types), omega (arith, w.1, E.more_types, F.more_types))) old a)
+    (omega (arith, l, F.more_types), r)
 
 -- one pair more has its bindings put in
 pub one_more : (a b c d : Nodes) (s : Bindings) (θ : ℕ → Ty) (done : List (TypeId × TypeId)) (p : TypeId × TypeId) (old new : List Pair) (left right : TypeId) (before between after : TypesFilled) →

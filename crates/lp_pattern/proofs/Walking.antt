@@ -115,7 +115,8 @@ start_stands d s l w q = record {
 pub start_follows : (c : Closing) (b d : Nodes) (term : TermId) (s : Spine) (limit : ℕ) → tree d s.top.0 ≡ tree b term.0 → s.arguments.items ≡ [] →
     steps weak_step (limit - limit) (under b c term) ≡ Some (closed c (at_hand d s))
 start_follows c b d term s limit h q =
-    ap (λ n. steps weak_step n (under b c term)) (omega arith) ∙ ap (λ u. Some (closed c u)) (sym (ap (λ l. apply (tree d s.top.0) (trees d l)) q ∙ h))
+    let none : limit - limit ≡ 0 = omega arith in
+    ap (λ n. steps weak_step n (under b c term)) none ∙ ap (λ u. Some (closed c u)) (sym (ap (λ l. apply (tree d s.top.0) (trees d l)) q ∙ h))
 
 -- steps so far and one move more
 pub moved_on : (limit left next k : ℕ) (t s r : Term) → left ≤ limit → k + next ≡ left → steps weak_step (limit - left) t ≡ Some s → steps weak_step k s ≡ Some r →

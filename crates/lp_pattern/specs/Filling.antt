@@ -7,7 +7,7 @@ use Rattle.lp_term.specs.Nodes.{Nodes, type_tree}
 use Rattle.lp_term.specs.Node.{TypeShape, var_node, param_node, con_node, arrow_node}
 use Rattle.lp_term.specs.declared.node.TypeId.{TypeId}
 use Rattle.lp_type_unify.specs.declared.bindings.Pair.{Pair}
-use Rattle.lp_model.specs.Types.{TypePair, TypeBinding, put_types, TypeOutcome, none, solved}
+use Rattle.lp_model.specs.Types.{TypeBinding, put_types, TypeOutcome, none, solved}
 use Rattle.lp_pattern.specs.Under.{AreTypes}
 use Rattle.lp_pattern.specs.declared.bindings.Bindings.{Bindings}
 use Rattle.lp_pattern.specs.declared.fault.PatternRefusal.{PatternRefusal}

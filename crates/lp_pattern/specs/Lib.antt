@@ -3,6 +3,7 @@ pub mod Cleaning
 pub mod Comparing
 pub mod Filling
 pub mod Growing
+pub mod Inside
 pub mod Pruning
 pub mod Putting
 pub mod Reading

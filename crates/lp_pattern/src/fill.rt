@@ -61,16 +61,18 @@ enum Shape {
     Application(TermId, Vec<TermId>),
 }
 
+// A value outside the bank is none.
 fn shape_of(alloc: Global, bank: &Bank, bindings: &Bindings, id: TermId) -> Result<Shape, Memory>
-    ensures known { IfOk result (λ _. id.0 < length bank.now.terms) }
-    ensures shape { IfOk result (HasShape bank.now bindings.now id.0) }
+    ensures { IfOk result (HasShape bank.now bindings.now id.0) }
 {
-    if id.0 >= bank.term_count() {
-        return Err(Memory);
-    }
     match bank.term_node(id) {
         TermNode::Logic { id, level: _ } => match bindings.value(id) {
-            Some(value) => Ok(Shape::Bound(value)),
+            Some(value) => {
+                if value.0 >= bank.term_count() {
+                    return Ok(Shape::Leaf);
+                }
+                Ok(Shape::Bound(value))
+            }
             None => Ok(Shape::Leaf),
         },
         TermNode::Const(number, types) => {
@@ -239,8 +241,8 @@ fn made_of(
     id: TermId,
     left: &mut Vec<TermId>,
 ) -> Result<Option<TermId>, Memory>
+    requires { id.0 < length bank.old.terms }
     ensures kept { Extends bank.old bank.new }
-    ensures known { IfOk result (λ _. id.0 < length bank.old.terms) }
     ensures filled { OnOk result ((c : Closing) → IsReading bank.old bindings.now c → IsShut c → AreAllFilled bank.old c done.old → AreAllFilled bank.new c done.new) }
     ensures made { IfOk result (λ known. IfSome known (λ t. (c : Closing) → IsReading bank.old bindings.now c → IsShut c → AreAllFilled bank.old c done.old → IsMade bank.old bank.new c id.0 t)) }
 {
@@ -274,14 +276,15 @@ fn step(
     ensures kept { Extends bank.old bank.new }
     ensures filled { OnOk result ((c : Closing) → IsReading bank.old bindings.now c → IsShut c → AreAllFilled bank.old c done.old → AreAllFilled bank.new c done.new) }
 {
-    if done.at(id).is_some() {
+    let top = bank.inside(id)?;
+    if done.at(top).is_some() {
         return Ok(());
     }
-    left.push(id)?;
-    let Some(made) = made_of(alloc, bank, bindings, done, id, left)? else {
+    left.push(top)?;
+    let Some(made) = made_of(alloc, bank, bindings, done, top, left)? else {
         return Ok(());
     };
-    done.note(id, made)
+    done.note(top, made)
 }
 
 /// The term with all bindings put in. Shared parts are gone through once.

@@ -42,23 +42,23 @@ impl TypesFilled {
     }
 }
 
-// The type past the bindings at its top.
+// The type past the bindings at its top. A value outside the bank is none.
 pub(crate) fn resolved(bank: &Bank, bindings: &Bindings, id: TypeId) -> Result<TypeId, Memory>
-    ensures within { IfOk result (λ t. t.0 < length bank.now.types) }
+    ensures within { IfOk result (λ t. id.0 < length bank.now.types → t.0 < length bank.now.types) }
     ensures same { IfOk result (λ t. (θ : ℕ → Ty) → AreTypes bank.now bindings.now θ → instance θ (type_tree bank.now t.0) ≡ instance θ (type_tree bank.now id.0)) }
-    ensures unbound { IfOk result (λ t. IsUnbound bindings.now (type_tree bank.now t.0)) }
+    ensures unbound { IfOk result (λ t. (θ : ℕ → Ty) → AreTypes bank.now bindings.now θ → IsUnbound bindings.now (type_tree bank.now t.0)) }
 {
     let mut top = id;
     for _ in 0..u64::MAX {
-        if top.0 >= bank.type_count() {
-            return Err(Memory);
-        }
         let TypeNode::Var(variable) = bank.type_node(top) else {
             return Ok(top);
         };
         let Some(value) = bindings.type_value(variable) else {
             return Ok(top);
         };
+        if value.0 >= bank.type_count() {
+            return Ok(top);
+        }
         top = value;
     }
     Err(Memory)
@@ -69,9 +69,6 @@ fn parts_of(alloc: Global, bank: &Bank, id: TypeId) -> Result<Vec<TypeId>, Memor
     ensures { IfOk result (λ parts. map (λ t. t.0) parts.items ≡ part_numbers (type_at bank.now id.0)) }
 {
     let mut parts = Vec::new(alloc);
-    if id.0 >= bank.type_count() {
-        return Err(Memory);
-    }
     match bank.type_node(id) {
         TypeNode::Con(_, ids) => parts.extend_from_slice(ids)?,
         TypeNode::Arrow(from, to) => {
@@ -154,7 +151,8 @@ fn step(
     ensures kept { Extends bank.old bank.new }
     ensures filled { OnOk result ((θ : ℕ → Ty) → AreTypes bank.old bindings.now θ → AreFilled bank.old θ done.old → AreFilled bank.new θ done.new) }
 {
-    let top = resolved(bank, bindings, id)?;
+    let inside = bank.inside_type(id)?;
+    let top = resolved(bank, bindings, inside)?;
     if done.at(top).is_some() {
         return Ok(());
     }
@@ -169,7 +167,6 @@ fn step(
 
 // Whether a type has no parts.
 fn is_leaf(bank: &Bank, id: TypeId) -> bool
-    requires { id.0 < length bank.now.types }
     ensures { result ≡ true → (θ : ℕ → Ty) → IsLoose θ (type_tree bank.now id.0) → instance θ (type_tree bank.now id.0) ≡ type_tree bank.now id.0 }
 {
     match bank.type_node(id) {
@@ -189,10 +186,12 @@ pub(crate) fn filled_in(
     id: TypeId,
 ) -> Result<TypeId, Memory>
     ensures kept { Extends bank.old bank.new }
+    ensures within { IfOk result (λ of. of.0 < length bank.new.types) }
     ensures filled { IfOk result (λ of. (θ : ℕ → Ty) → AreTypes bank.old bindings.now θ → AreFilled bank.old θ done.old →
         AreFilled bank.new θ done.new × (of.0 < length bank.new.types) × (type_tree bank.new of.0 ≡ instance θ (type_tree bank.old id.0))) }
 {
-    let root = resolved(bank, bindings, id)?;
+    let inside = bank.inside_type(id)?;
+    let root = resolved(bank, bindings, inside)?;
     if is_leaf(bank, root) {
         return Ok(root);
     }
@@ -203,7 +202,8 @@ pub(crate) fn filled_in(
             let Some(made) = done.at(root) else {
                 return Err(Memory);
             };
-            return Ok(made);
+            let of = bank.inside_type(made)?;
+            return Ok(of);
         };
         step(alloc, bank, bindings, done, top, &mut left)?;
     }
@@ -222,7 +222,6 @@ pub fn filled_type(
     ensures filled { IfOk result (λ of. (θ : ℕ → Ty) → AreTypes bank.old bindings.now θ → type_tree bank.new of.0 ≡ instance θ (type_tree bank.old id.0)) }
 {
     let mut done = TypesFilled::new(alloc);
-    let made = filled_in(alloc, bank, bindings, &mut done, id)?;
-    let of = bank.inside_type(made)?;
+    let of = filled_in(alloc, bank, bindings, &mut done, id)?;
     Ok(of)
 }

@@ -1,14 +1,15 @@
 // Rigid heads: whether they are the same but for their types, and the pairs of their types.
-ghost use Rattle.std.specs.Prelude.{◌≡◌, ◌<◌, length, List, [], ◌∷◌, map, ℕ, IfOk};
+ghost use Rattle.std.specs.Prelude.{◌≡◌, ◌<◌, length, List, [], ◌∷◌, map, ℕ, All, IfOk};
+ghost use Rattle.lp_term.specs.Within.{AreTypesOf, IsTypeOf};
 ghost use Rattle.lp_calculus.specs.Types.{Ty, instance};
 ghost use Rattle.lp_calculus.specs.Term.{index, atom, constant, integer, text, eigen, logic, param};
 ghost use Rattle.lp_calculus.specs.Instance.{instance_term};
 ghost use Rattle.lp_term.specs.Nodes.{tree, type_tree};
 ghost use Rattle.lp_model.specs.Same.{same_name};
 ghost use Rattle.lp_model.specs.Rule.{type_pairs};
+ghost use Rattle.lp_pattern.specs.Inside.{IsTypePairOf};
 ghost use Rattle.lp_pattern.specs.Reading.{paired, type_pairs_of};
 
-use crate::types::push_pairs;
 use lp_base::Memory;
 use lp_term::{Bank, TermId, TermNode, TypeId};
 use std::alloc::Global;
@@ -93,7 +94,7 @@ pub(crate) fn have_same_name(bank: &Bank, one: TermId, other: TermId) -> bool
     }
 }
 
-// The elements of two lists of one length, place by place.
+// The elements of two lists, place by place.
 fn places(
     alloc: Global,
     ones: &[TypeId],
@@ -102,11 +103,9 @@ fn places(
     ensures { IfOk result (λ pairs. pairs.items ≡ paired ones.now others.now) }
 {
     let mut pairs = Vec::new(alloc);
-    if ones.len() != others.len() {
-        return Err(Memory);
+    for (one, other) in ones.iter().zip(others.iter()) {
+        pairs.push((*one, *other))?;
     }
-    push_pairs(ones, others, &mut pairs)?;
-    pairs.reverse();
     Ok(pairs)
 }
 
@@ -126,7 +125,9 @@ fn beside_constant(
     types: &[TypeId],
     id: TermId,
 ) -> Result<Vec<(TypeId, TypeId)>, Memory>
-    ensures { IfOk result (λ pairs. (θ : ℕ → Ty) → (c : ℕ) →
+    requires { AreTypesOf bank.now types.now }
+    ensures within { IfOk result (λ pairs. All (IsTypePairOf (length bank.now.types)) pairs.items) }
+    ensures pairs { IfOk result (λ pairs. (θ : ℕ → Ty) → (c : ℕ) →
         type_pairs_of bank.now θ pairs.items ≡ type_pairs (atom (constant c (map (λ t. instance θ (type_tree bank.now t.0)) types.now))) (instance_term θ (tree bank.now id.0))) }
 {
     match bank.term_node(id) {
@@ -142,7 +143,9 @@ fn beside_parameter(
     of: TypeId,
     id: TermId,
 ) -> Result<Vec<(TypeId, TypeId)>, Memory>
-    ensures { IfOk result (λ pairs. (θ : ℕ → Ty) → (k : ℕ) →
+    requires { IsTypeOf bank.now of }
+    ensures within { IfOk result (λ pairs. All (IsTypePairOf (length bank.now.types)) pairs.items) }
+    ensures pairs { IfOk result (λ pairs. (θ : ℕ → Ty) → (k : ℕ) →
         type_pairs_of bank.now θ pairs.items ≡ type_pairs (atom (param k (instance θ (type_tree bank.now of.0)))) (instance_term θ (tree bank.now id.0))) }
 {
     match bank.term_node(id) {
@@ -158,7 +161,8 @@ pub(crate) fn type_pairs(
     one: TermId,
     other: TermId,
 ) -> Result<Vec<(TypeId, TypeId)>, Memory>
-    ensures { IfOk result (λ pairs. (θ : ℕ → Ty) →
+    ensures within { IfOk result (λ pairs. All (IsTypePairOf (length bank.now.types)) pairs.items) }
+    ensures pairs { IfOk result (λ pairs. (θ : ℕ → Ty) →
         type_pairs_of bank.now θ pairs.items ≡ type_pairs (instance_term θ (tree bank.now one.0)) (instance_term θ (tree bank.now other.0))) }
 {
     match bank.term_node(one) {

@@ -13,6 +13,8 @@ mod fill;
 mod fill_types;
 // Heads and their types.
 mod heads;
+// What is given, at numbers of the bank.
+mod inside;
 // A term when it is looked at.
 mod look;
 // Variables on distinct eigenconstants.

@@ -25,9 +25,7 @@ use crate::patterns::pattern_of;
 use crate::scan::{Visit, push_arguments};
 use crate::side::Side;
 use lp_base::Memory;
-use lp_term::{
-    Bank, TermId, put_abstractions, put_application, put_eigen, put_index, put_logic,
-};
+use lp_term::{Bank, TermId, put_abstractions, put_application, put_eigen, put_index, put_logic};
 use std::alloc::Global;
 
 // A new variable of the level.

@@ -23,7 +23,8 @@ use crate::patterns::{Opened, pattern_of};
 use crate::side::Side;
 use lp_base::Memory;
 use lp_term::{
-    Bank, TermId, TermNode, put_abstraction, put_abstractions, put_application, put_eigen, put_index,
+    Bank, TermId, TermNode, put_abstraction, put_abstractions, put_application, put_eigen,
+    put_index,
 };
 use std::alloc::Global;
 

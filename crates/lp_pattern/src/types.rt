@@ -14,6 +14,7 @@ ghost use Rattle.lp_pattern.specs.Under.{AreTypes, IsReading};
 ghost use Rattle.lp_pattern.specs.Reading.{paired, type_pairs_of};
 ghost use Rattle.lp_pattern.specs.Comparing.{IsLoose, HasSameTop, IsComparedTo, IsPassed};
 ghost use Rattle.lp_pattern.specs.Growing.{Grows};
+ghost use Rattle.lp_pattern.specs.Inside.{IsTypePairOf};
 ghost use Rattle.lp_type_unify.specs.Reading.{IsPair, read_pairs};
 ghost use Rattle.lp_unify_laws.specs.TypeSolutions.{equations};
 ghost use Rattle.lp_pattern.specs.Filling.{IsStill, AreSolved, IsSolvedIn, IsUnsolvedIn};
@@ -27,17 +28,6 @@ use lp_term::{Bank, TypeId, TypeNode};
 use lp_type_unify::{Bindings as Solution, Pair, unify_within};
 use std::alloc::Global;
 
-fn are_pairs(bank: &Bank, pairs: &[Pair]) -> bool
-    ensures { result ≡ true → All (IsPair (length bank.now.types)) pairs.now }
-{
-    for pair in pairs.iter().copied() {
-        if pair.left.0 >= bank.type_count() || pair.right.0 >= bank.type_count() {
-            return false;
-        }
-    }
-    true
-}
-
 // The pairs with all bindings put in, the last one first.
 fn filled_pairs(
     alloc: Global,
@@ -45,17 +35,15 @@ fn filled_pairs(
     bindings: &Bindings,
     pairs: &[(TypeId, TypeId)],
 ) -> Result<Vec<Pair>, Memory>
+    requires { All (IsTypePairOf (length bank.old.types)) pairs.now }
     ensures kept { Extends bank.old bank.new }
+    ensures within { IfOk result (λ filled. All (IsPair (length bank.new.types)) filled.items) }
     ensures filled { IfOk result (λ filled. (θ : ℕ → Ty) → AreTypes bank.old bindings.now θ →
         read_pairs (type_tree bank.new) var filled.items ≡ equations (type_pairs_of bank.old θ pairs.now)) }
 {
-    let known = bank.type_count();
     let mut done = TypesFilled::new(alloc);
     let mut filled = Vec::new(alloc);
     for pair in pairs.iter().rev().copied() {
-        if pair.0.0 >= known || pair.1.0 >= known {
-            return Err(Memory);
-        }
         let left = filled_in(alloc, bank, bindings, &mut done, pair.0)?;
         let right = filled_in(alloc, bank, bindings, &mut done, pair.1)?;
         filled.push(Pair { left, right })?;
@@ -87,6 +75,7 @@ pub(crate) fn solve_types(
     pairs: &[(TypeId, TypeId)],
     units: &mut u64,
 ) -> Result<(), PatternRefusal>
+    requires { All (IsTypePairOf (length bank.old.types)) pairs.now }
     ensures kept { Extends bank.old bank.new }
     ensures grown { Grows bindings.old bindings.new }
     ensures terms { bindings.new.terms ≡ bindings.old.terms }
@@ -99,9 +88,6 @@ pub(crate) fn solve_types(
         return Ok(());
     }
     let filled = filled_pairs(alloc, bank, bindings, pairs)?;
-    if !are_pairs(bank, filled.as_slice()) {
-        return Err(PatternRefusal::Memory);
-    }
     let mut solution = Solution::new(alloc);
     *units = unify_within(alloc, bank, &mut solution, filled.as_slice(), *units)?;
     adopt(bindings, &solution)?;
@@ -131,8 +117,6 @@ fn same_top(
     other: TypeId,
     left: &mut Vec<(TypeId, TypeId)>,
 ) -> Result<bool, Memory>
-    requires one { one.0 < length bank.now.types }
-    requires other { other.0 < length bank.now.types }
     ensures { IfOk result (λ same. (θ : ℕ → Ty) → IsLoose θ (type_tree bank.now one.0) → IsLoose θ (type_tree bank.now other.0) →
         HasSameTop same (same_top (instance θ (type_tree bank.now one.0)) (instance θ (type_tree bank.now other.0)))
         (type_pairs_of bank.now θ (reverse left.old.items)) (type_pairs_of bank.now θ (reverse left.new.items))) }

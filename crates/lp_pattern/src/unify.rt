@@ -10,6 +10,7 @@ ghost use Rattle.lp_unify_laws.specs.TypeSolutions.{Satisfies};
 ghost use Rattle.lp_unify_laws.specs.Solutions.{IsTypedInput, AreStuck, IsSolution as SolvesInput};
 ghost use Rattle.lp_pattern.specs.declared.fault.PatternRefusal.TheVariants.{Fails};
 ghost use Rattle.lp_pattern.specs.Growing.{Grows, IsPairOf};
+ghost use Rattle.lp_pattern.specs.Inside.{IsTypePairOf};
 ghost use Rattle.lp_pattern.specs.Reading.{type_pairs_of};
 ghost use Rattle.lp_pattern.specs.Solutions.{HasSolutions};
 ghost use Rattle.lp_pattern.specs.Turning.{IsOpenReading, AreKnownPairs, ArePairsFor};
@@ -18,6 +19,7 @@ ghost use Rattle.lp_pattern.specs.Unifying.{pairs_at, run, Reads, IsSolutionUnde
 
 use crate::bindings::Bindings;
 use crate::fault::PatternRefusal;
+use crate::inside::{are_pairs, are_type_pairs, inside};
 use crate::rules::{Verdict, take};
 use crate::types::solve_types;
 use crate::units::spend;
@@ -42,18 +44,6 @@ fn push_pairs(pairs: &[Pair], todo: &mut Vec<Pair>) -> Result<(), Memory>
         todo.push(pair)?;
     }
     Ok(())
-}
-
-// Whether the sides of all pairs are in the bank.
-fn stand(bank: &Bank, pairs: &[Pair]) -> bool
-    ensures { result ≡ true → All (IsPairOf (length bank.now.terms)) pairs.now }
-{
-    for pair in pairs.iter().copied() {
-        if pair.left.0 >= bank.term_count() || pair.right.0 >= bank.term_count() {
-            return false;
-        }
-    }
-    true
 }
 
 // Takes the pairs until none is left. Says whether a variable was bound.
@@ -91,13 +81,63 @@ fn take_all(
     Err(PatternRefusal::Memory)
 }
 
+// Unifies where all types and terms are in the bank.
+fn solve_inside(
+    alloc: Global,
+    bank: &mut Bank,
+    bindings: &mut Bindings,
+    types: &[(TypeId, TypeId)],
+    pairs: &[Pair],
+    delayed: &[Pair],
+    next: &mut u64,
+    limit: u64,
+) -> Result<Vec<Pair>, PatternRefusal>
+    requires types { All (IsTypePairOf (length bank.old.types)) types.now }
+    requires pairs { All (IsPairOf (length bank.old.terms)) pairs.now }
+    requires delayed { All (IsPairOf (length bank.old.terms)) delayed.now }
+    ensures kept { Extends bank.old bank.new }
+    ensures more { next.old ≤ next.new }
+    ensures grown { Grows bindings.old bindings.new }
+    ensures within { IfOk result (λ left. All (IsPairOf (length bank.new.terms)) left.items) }
+    ensures solved { IfOk result (λ left. (c : Closing) → IsOpenReading bank.old bindings.old next.old c → (levels : ℕ → ℕ) → (ps ds : List Equation) → ArePairsFor bank.old c pairs.now ps → ArePairsFor bank.old c delayed.now ds → AreKnownPairs levels next.old ps → AreKnownPairs levels next.old ds → (n : ℕ) (u : Unified) →
+        solve n limit (type_pairs_of bank.old c.types types.now) ps ds next.old ≡ Some u → IsSolutionUnder levels next.old c bank.new bindings.new next.new left.items u) }
+    ensures refused { IfErr result (λ e. (c : Closing) → IsOpenReading bank.old bindings.old next.old c → (levels : ℕ → ℕ) → (ps ds : List Equation) → ArePairsFor bank.old c pairs.now ps → ArePairsFor bank.old c delayed.now ds → AreKnownPairs levels next.old ps → AreKnownPairs levels next.old ds → (n : ℕ) (u : Unified) →
+        solve n limit (type_pairs_of bank.old c.types types.now) ps ds next.old ≡ Some u → IsRefusedAs e n u) }
+{
+    let mut units = limit;
+    let mut waiting = Vec::from_slice(alloc, delayed)?;
+    let mut todo = Vec::new(alloc);
+    push_pairs(pairs, &mut todo)?;
+    let before = bindings.mark();
+    solve_types(alloc, bank, bindings, types, &mut units)?;
+    let mut has_types = bindings.mark() != before;
+    'rounds: for _ in 0..u64::MAX {
+        let is_bound = take_all(
+            alloc,
+            bank,
+            bindings,
+            &mut todo,
+            &mut waiting,
+            next,
+            &mut units,
+        )?;
+        if !is_bound && !has_types {
+            return Ok(waiting);
+        }
+        has_types = false;
+        push_pairs(waiting.as_slice(), &mut todo)?;
+        waiting.clear();
+    }
+    Err(PatternRefusal::Memory)
+}
+
 /// Unifies under bindings and adds to them: first the type equations, in order, then the pairs. The delayed pairs, oldest first, are
 /// taken up again when something was bound. The result is the residual pairs. After a refusal some variables may have been bound: the
 /// caller undoes to a mark.
 ///
 /// `next` is above the number of each variable, and is raised past the new ones. Each variable has one level. A pair that is taken, a
-/// pair of types, and a node that a scan visits are units; `Deep` comes where they pass the limit. `Memory` stands for a pair that is
-/// not in the bank, too.
+/// pair of types, and a node that a scan visits are units; `Deep` comes where they pass the limit. A number outside
+/// the bank stands for its tree.
 pub fn solve_under(
     alloc: Global,
     bank: &mut Bank,
@@ -117,40 +157,14 @@ pub fn solve_under(
     ensures refused { IfErr result (λ e. (c : Closing) → IsOpenReading bank.old bindings.old next.old c → (levels : ℕ → ℕ) → (ps ds : List Equation) → ArePairsFor bank.old c pairs.now ps → ArePairsFor bank.old c delayed.now ds → AreKnownPairs levels next.old ps → AreKnownPairs levels next.old ds → (n : ℕ) (u : Unified) →
         solve n limit (type_pairs_of bank.old c.types types.now) ps ds next.old ≡ Some u → IsRefusedAs e n u) }
 {
-    if !stand(bank, pairs) {
-        return Err(PatternRefusal::Memory);
+    if are_type_pairs(bank, types) && are_pairs(bank, pairs) && are_pairs(bank, delayed) {
+        return solve_inside(alloc, bank, bindings, types, pairs, delayed, next, limit);
     }
-    if !stand(bank, delayed) {
-        return Err(PatternRefusal::Memory);
-    }
-    let mut units = limit;
-    let mut waiting = Vec::from_slice(alloc, delayed)?;
-    let mut todo = Vec::new(alloc);
-    push_pairs(pairs, &mut todo)?;
-    let before = bindings.mark();
-    solve_types(alloc, bank, bindings, types, &mut units)?;
-    let mut has_types = bindings.mark() != before;
-    'rounds: for _ in 0..u64::MAX {
-        let is_bound = take_all(
-            alloc,
-            bank,
-            bindings,
-            &mut todo,
-            &mut waiting,
-            next,
-            &mut units,
-        )?;
-        if !is_bound && !has_types {
-            if !stand(bank, waiting.as_slice()) {
-                return Err(PatternRefusal::Memory);
-            }
-            return Ok(waiting);
-        }
-        has_types = false;
-        push_pairs(waiting.as_slice(), &mut todo)?;
-        waiting.clear();
-    }
-    Err(PatternRefusal::Memory)
+    let input = inside(alloc, bank, types, pairs, delayed)?;
+    let types = input.types.as_slice();
+    let pairs = input.pairs.as_slice();
+    let delayed = input.delayed.as_slice();
+    solve_inside(alloc, bank, bindings, types, pairs, delayed, next, limit)
 }
 
 /// Unifies, with nothing bound at the start, where each variable has one level: what comes out is what the definition of unification makes of the input,

@@ -13,7 +13,7 @@ returns-clause-compared c =
     c.as_slice.result.now (rigid_top c.args.bank.now c.args.bindings.now c.args.one.now c.requires.looked_one c.requires.one)
     (rigid_top c.args.bank.now c.args.bindings.now c.args.other.now c.requires.looked_other c.requires.other) c.have_same_name.ensures c.if-not-have_same_name.false
     (omega (arith, c.if-len.false, c.len.ensures, c.len-2.ensures, c.args.one.now.arguments.ok, c.args.other.now.arguments.ok))
-    (ap (type_pairs_of c.args.bank.now r.types) c.as_slice.ensures.value ∙ c.in_ok-pairs.ensures r.types) (λ n. h r.types i.types n))
+    (ap (type_pairs_of c.args.bank.now r.types) c.as_slice.ensures.value ∙ c.in_ok-pairs.ensures.pairs r.types) (λ n. h r.types i.types n))
     c.are_same_types.ensures.compared
 
 pub returns-clause-refused : goal.returns-clause-refused
@@ -24,5 +24,5 @@ returns-clause-refused c =
     c.as_slice.result.now (rigid_top c.args.bank.now c.args.bindings.now c.args.one.now c.requires.looked_one c.requires.one)
     (rigid_top c.args.bank.now c.args.bindings.now c.args.other.now c.requires.looked_other c.requires.other) c.have_same_name.ensures c.if-not-have_same_name.false
     (omega (arith, c.if-len.false, c.len.ensures, c.len-2.ensures, c.args.one.now.arguments.ok, c.args.other.now.arguments.ok))
-    (ap (type_pairs_of c.args.bank.now r.types) c.as_slice.ensures.value ∙ c.in_ok-pairs.ensures r.types) (λ n. h r.types i.types n))
+    (ap (type_pairs_of c.args.bank.now r.types) c.as_slice.ensures.value ∙ c.in_ok-pairs.ensures.pairs r.types) (λ n. h r.types i.types n))
     c.are_same_types.ensures.spent

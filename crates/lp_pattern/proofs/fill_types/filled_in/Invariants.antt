@@ -6,4 +6,8 @@ use Rattle.lp_pattern.specs.Filling.{AreFilled}
 use Rattle.lp_pattern.proofs.fill_types.filled_in.Given as goal
 
 abbrev pub invariant-types : goal.invariant-types
-invariant-types l = Extends l.fn.bank l.bank × ((θ : ℕ → Ty) → AreTypes l.fn.bank l.bindings θ → AreFilled l.fn.bank θ l.fn.done → AreFilled l.bank θ l.done)
+invariant-types l = record {
+  kept : Extends l.fn.bank l.bank;
+  later : Extends l.initial.bank l.bank;
+  filled : (θ : ℕ → Ty) → AreTypes l.fn.bank l.bindings θ → AreFilled l.fn.bank θ l.fn.done → AreFilled l.bank θ l.done;
+}

@@ -2,6 +2,7 @@ use Rattle.std.proofs.Common.{arith, ◌≤◌, refl, Some}
 use Rattle.lp_term.proofs.Trees.{extends-trans}
 use Rattle.lp_term.proofs.Moves.{passed_up}
 use Rattle.lp_model.specs.Pair.{Closing, closed}
+use Rattle.lp_pattern.specs.declared.look.Spine.{Spine}
 use Rattle.lp_pattern.specs.Under.{IsReading, under}
 use Rattle.lp_pattern.specs.Seen.{IsDeepWhere, at_hand}
 use Rattle.lp_pattern.proofs.Walking.{reading_kept, deep_later, follows_on, ended_within, sees, start_stands, start_follows}
@@ -9,8 +10,8 @@ use Rattle.lp_pattern.proofs.look.look.Goals as goal
 
 pub returns-in_err-found-clause-refused : goal.returns-in_err-found-clause-refused
 returns-in_err-found-clause-refused c =
-    passed_up c.from_residual.result c.in_err-found.field-0.0 (λ e. (r : Closing) → IsReading c.args.bank.now c.args.bindings.now r → IsDeepWhere c.args.limit (under c.args.bank.now r c.args.term) e)
-    c.from_residual.ensures.1
+    passed_up c.from_residual-in_err-found.result c.in_err-found.field-0.0 (λ e. (r : Closing) → IsReading c.args.bank.now c.args.bindings.now r → IsDeepWhere c.args.limit (under c.args.bank.now r c.args.term) e)
+    c.from_residual-in_err-found.ensures.1
     (λ r i.
     deep_later c.args.limit c.steps.spine.left (under c.args.bank.now r c.args.term) (closed r (at_hand c.steps.bank c.steps.spine)) c.in_err-found.field-0.0 c.steps.invariant.left
     (c.steps.invariant.followed r i) (c.in_err-found.ensures.refused r))
@@ -46,7 +47,7 @@ steps-preserved c = record {
 
 pub steps-init : goal.steps-init
 steps-init c =
-    let s = record { top = c.in_ok-top.top; arguments = c.new.result; whole = Some c.in_ok-top.top; left = c.args.limit } in
+    let s : Spine = record { top = c.in_ok-top.top; arguments = c.new.result; whole = Some c.in_ok-top.top; left = c.args.limit } in
     record {
       kept = c.in_ok-top.ensures.kept;
       stands = start_stands c.inside.new.self s c.in_ok-top.ensures.within refl c.new.ensures.items;

@@ -5,8 +5,8 @@ use Rattle.lp_pattern.proofs.look.put_value.Goals as goal
 
 pub returns-clause-stands : goal.returns-clause-stands
 returns-clause-stands c =
-    value_stands c.args.bank.now c.inside.new.self (record { top = c.in_ok-top.top; arguments = c.args.spine.now.arguments; whole = c.alone.result; left = c.args.spine.now.left })
-    c.in_ok-top.ensures.kept c.requires.stands.arguments c.in_ok-top.ensures.within c.alone.ensures
+    value_stands c.args.bank.now c.inside.new.self (record { top = c.in_ok-top.top; arguments = c.args.spine.now.arguments; whole = c.alone-spine.result; left = c.args.spine.now.left })
+    c.in_ok-top.ensures.kept c.requires.stands.arguments c.in_ok-top.ensures.within c.alone-spine.ensures
 
 pub returns-clause-followed : goal.returns-clause-followed
 returns-clause-followed c = λ r i. (

@@ -1,4 +1,4 @@
-use Rattle.std.proofs.Common.{sym, ap, ◌∙◌, map}
+use Rattle.std.proofs.Common.{sym, ap, ◌∙◌, map, length}
 use Rattle.lp_model.specs.Rule.{rule, decompose}
 use Rattle.lp_pattern.specs.Under.{under}
 use Rattle.lp_pattern.proofs.Judging.{out_below}
@@ -6,6 +6,9 @@ use Rattle.lp_pattern.proofs.PairsGiven.{on_two, arguments_given, opened_given}
 use Rattle.lp_pattern.proofs.Results.{if_err}
 use Rattle.lp_pattern.proofs.Taking.{both_rigid, rule_rigid, rule_opens, rule_gives}
 use Rattle.lp_pattern.proofs.Walking.{on_ok}
+use Rattle.lp_lemmas.proofs.Elements.{All_pushed}
+use Rattle.lp_pattern.specs.Growing.{IsPairOf}
+use Rattle.lp_pattern.proofs.Stacks.{still_pairs}
 use Rattle.lp_pattern.proofs.rules.replace.Goals as goal
 
 pub decompose-requires-clause-rigid_one : goal.decompose-requires-clause-rigid_one
@@ -39,3 +42,8 @@ returns-clause-given c = λ next r i lv n p h w y q.
     opened_given c.args.bank.now c.opened.new.bank c.args.bindings.now next r c.args.one.now c.args.other.now i c.requires.one c.requires.other c.args.level lv p h w c.in_ok-pair.ensures.kept c.args.todo.now.items c.push.new.self.items c.in_ok-pair.pair y.verdict
     (ap (λ z. z.verdict) (rule_gives c.args.bank.now c.args.bindings.now r c.args.one.now c.args.other.now i.reading c.requires.one c.requires.other n next c.args.level p h y q c.requires.flexible (sym c.are_rigid.ensures ∙ c.if-are_rigid.false)))
     c.in_ok-push.ensures.items c.in_ok-pair.ensures.within (c.in_ok-pair.ensures.opened r)
+
+pub returns-clause-todo : goal.returns-clause-todo
+returns-clause-todo c =
+    All_pushed (IsPairOf (length c.opened.new.bank.terms)) c.push.new.self.items c.args.todo.now.items c.in_ok-pair.pair c.in_ok-push.ensures.items
+    (still_pairs c.args.bank.now c.opened.new.bank c.args.todo.now.items c.in_ok-pair.ensures.kept c.requires.todo) c.in_ok-pair.ensures.within

@@ -6,6 +6,7 @@ use Rattle.lp_pattern.specs.Ruling.{IsSeenPair, IsRuledOut}
 use Rattle.lp_pattern.specs.Turning.{IsOpenReading, IsKnownPair}
 use Rattle.lp_pattern.proofs.Judging.{by_views, taken_done, taken_delayed, taken_out}
 use Rattle.lp_pattern.proofs.PairsGiven.{done_taken, delayed_taken, given_taken}
+use Rattle.lp_pattern.proofs.Stacks.{still_pairs}
 use Rattle.lp_pattern.proofs.rules.take_seen.Goals as goal
 
 pub by_variables-requires-clause-flexible : goal.by_variables-requires-clause-flexible
@@ -52,3 +53,9 @@ pub returns-clause-taken : goal.returns-clause-taken
 returns-clause-taken c = λ r i lv n p h w y q.
     given_taken c.args.bank.now c.replace.new.bank c.args.bindings.now c.args.next.now r c.args.one.now c.args.other.now i c.requires.one c.requires.other c.args.level lv p h w c.in_ok-replace.ensures.kept c.args.todo.now.items c.replace.new.todo.items c.replace.new.bindings y.verdict
     (c.in_ok-replace.ensures.given c.args.next.now r i lv n p h w y q)
+
+pub returns-then-is_done-clause-todo : goal.returns-then-is_done-clause-todo
+returns-then-is_done-clause-todo c = still_pairs c.args.bank.now c.by_variables.new.bank c.args.todo.now.items c.in_ok-is_done.ensures.kept c.requires.todo
+
+pub returns-then-are_flexible-clause-todo : goal.returns-then-are_flexible-clause-todo
+returns-then-are_flexible-clause-todo c = still_pairs c.args.bank.now c.by_variables.new.bank c.args.todo.now.items c.in_ok-is_done.ensures.kept c.requires.todo

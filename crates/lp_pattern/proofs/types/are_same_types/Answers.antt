@@ -37,8 +37,8 @@ returns-then-not-branch-clause-compared c = λ θ r n.
     transport
     (λ x. HasSameTop x (same_top (instance θ (type_tree b c.in_ok-one.one.0)) (instance θ (type_tree b c.in_ok-other.other.0))) (type_pairs_of b θ (reverse c.pop.new.self.items)) (type_pairs_of b θ (reverse c.same_top.new.left.items)))
     c.if-not-branch.true
-    (c.in_ok-same_top.ensures θ (unbound_loose b c.args.bindings.now θ c.in_ok-one.one r c.in_ok-one.ensures.unbound)
-    (unbound_loose b c.args.bindings.now θ c.in_ok-other.other r c.in_ok-other.ensures.unbound)) in
+    (c.in_ok-same_top.ensures θ (unbound_loose b c.args.bindings.now θ c.in_ok-one.one r (c.in_ok-one.ensures.unbound θ r))
+    (unbound_loose b c.args.bindings.now θ c.in_ok-other.other r (c.in_ok-other.ensures.unbound θ r))) in
     types_apart b θ c.args.units.now c.pairs.units w.0 (compare_types n (type_pairs_of b θ c.args.pairs.now)) c.pairs.left.items c.pop.new.self.items c.in-Some.one c.in-Some.other c.in-Some.ensures.items w.1
     c.spend.new.units c.in_ok-one.one c.in_ok-other.other c.in_ok-spend.ensures.spent (c.in_ok-one.ensures.same θ r) (c.in_ok-other.ensures.same θ r) s
 
@@ -50,7 +50,7 @@ pairs-preserved c = λ θ r n.
     transport
     (λ x. HasSameTop x (same_top (instance θ (type_tree b c.in_ok-one.one.0)) (instance θ (type_tree b c.in_ok-other.other.0))) (type_pairs_of b θ (reverse c.pop.new.self.items)) (type_pairs_of b θ (reverse c.same_top.new.left.items)))
     c.if-not-branch.false
-    (c.in_ok-same_top.ensures θ (unbound_loose b c.args.bindings.now θ c.in_ok-one.one r c.in_ok-one.ensures.unbound)
-    (unbound_loose b c.args.bindings.now θ c.in_ok-other.other r c.in_ok-other.ensures.unbound)) in
+    (c.in_ok-same_top.ensures θ (unbound_loose b c.args.bindings.now θ c.in_ok-one.one r (c.in_ok-one.ensures.unbound θ r))
+    (unbound_loose b c.args.bindings.now θ c.in_ok-other.other r (c.in_ok-other.ensures.unbound θ r))) in
     types_next b θ c.args.units.now c.pairs.units w.0 (compare_types n (type_pairs_of b θ c.args.pairs.now)) c.pairs.left.items c.pop.new.self.items c.in-Some.one c.in-Some.other c.in-Some.ensures.items w.1
     c.spend.new.units c.same_top.new.left.items c.in_ok-one.one c.in_ok-other.other c.in_ok-spend.ensures.spent (c.in_ok-one.ensures.same θ r) (c.in_ok-other.ensures.same θ r) s

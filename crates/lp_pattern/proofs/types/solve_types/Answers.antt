@@ -17,7 +17,7 @@ returns-in_err-units-clause-refused c =
     err_and c.from_residual-in_err-units.result (λ e. IsOfEquations c.in_err-units.field-0.0 e) _ c.from_residual-in_err-units.ensures.1
     (λ e is θ A n r d.
     refused_rightly c.in_err-units.field-0.0 e c.args.units.now n _ r is
-    (refused_there (type_tree later) _ _ _ _ c.args.units.now c.in_err-units.field-0.0 none c.as_slice-2.ensures.value (c.in_ok-filled.ensures.filled θ A) c.in_err-units.ensures.refused) d)
+    (refused_there (type_tree later) _ _ _ _ c.args.units.now c.in_err-units.field-0.0 none c.as_slice.ensures.value (c.in_ok-filled.ensures.filled θ A) c.in_err-units.ensures.refused) d)
 
 pub returns-clause-types : goal.returns-clause-types
 returns-clause-types c = λ θ A still n r d.
@@ -26,14 +26,14 @@ returns-clause-types c = λ θ A still n r d.
     let none = ap (reading (type_tree later)) c.new-solution.ensures in
     let same = c.in_ok-filled.ensures.filled θ A in
     all_solved b later c.args.bindings.now c.adopt.new.bindings θ (reads later c.unify_within.new.bindings.made) c.args.bindings.now.types.entries c.unify_within.new.bindings.made.entries c.args.pairs.now c.args.units.now
-    c.in_ok-units.field-0 n r c.in_ok-filled.ensures.kept A still refl c.in_ok-adopt.ensures.taken c.in_ok-adopt.ensures.distinct (ended_there (type_tree later) _ _ _ _ c.args.units.now c.in_ok-units.field-0 _ none c.as_slice-2.ensures.value same c.in_ok-units.ensures.solved)
-    (general_there (type_tree later) _ _ _ _ _ none c.as_slice-2.ensures.value same c.in_ok-units.ensures.general) c.in_ok-units.ensures.kept d
+    c.in_ok-units.field-0 n r c.in_ok-filled.ensures.kept A still refl c.in_ok-adopt.ensures.taken c.in_ok-adopt.ensures.distinct (ended_there (type_tree later) _ _ _ _ c.args.units.now c.in_ok-units.field-0 _ none c.as_slice.ensures.value same c.in_ok-units.ensures.solved)
+    (general_there (type_tree later) _ _ _ _ _ none c.as_slice.ensures.value same c.in_ok-units.ensures.general) c.in_ok-units.ensures.kept d
 
 pub returns-clause-solved : goal.returns-clause-solved
 returns-clause-solved c = λ θ A n o d.
     let later = c.filled_pairs.new.bank in
     units_solved _ _ c.args.units.now c.in_ok-units.field-0 n o
-    (ended_there (type_tree later) _ _ _ _ c.args.units.now c.in_ok-units.field-0 _ (ap (reading (type_tree later)) c.new-solution.ensures) c.as_slice-2.ensures.value (c.in_ok-filled.ensures.filled θ A) c.in_ok-units.ensures.solved) d
+    (ended_there (type_tree later) _ _ _ _ c.args.units.now c.in_ok-units.field-0 _ (ap (reading (type_tree later)) c.new-solution.ensures) c.as_slice.ensures.value (c.in_ok-filled.ensures.filled θ A) c.in_ok-units.ensures.solved) d
 
 pub returns-clause-behind : goal.returns-clause-behind
 returns-clause-behind c = λ r i h still n o d.

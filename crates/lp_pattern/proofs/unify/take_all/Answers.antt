@@ -1,4 +1,7 @@
-use Rattle.std.proofs.Common.{◌≡◌, ◌∙◌, ap, sym, arith, ℕ, Bool, reverse}
+use Rattle.std.proofs.Common.{◌≡◌, ◌∙◌, ap, sym, arith, ℕ, Bool, reverse, length, subst as transport}
+use Rattle.std.specs.Prelude.{All}
+use Rattle.lp_lemmas.proofs.Elements.{All_popped}
+use Rattle.lp_pattern.specs.Growing.{IsPairOf}
 use Rattle.lp_term.proofs.Moves.{passed_up}
 use Rattle.lp_term.proofs.Trees.{extends-trans}
 use Rattle.lp_model.specs.Unify.{Unified}
@@ -6,7 +9,7 @@ use Rattle.lp_pattern.specs.Turns.{Began, LeadsTo}
 use Rattle.lp_pattern.specs.Unifying.{IsRefusedAs}
 use Rattle.lp_pattern.proofs.Keeps.{grows_then}
 use Rattle.lp_pattern.proofs.RunLoops.{next_turn, turn_spent, turn_refused}
-use Rattle.lp_pattern.proofs.RunTurns.{waiting_behind}
+use Rattle.lp_pattern.proofs.RunTurns.{waiting_behind, waiting_known}
 use Rattle.lp_pattern.proofs.unify.take_all.Goals as goal
 use Rattle.lp_pattern.proofs.unify.take_all.Goals.{in-Gone, in-Delayed+in_ok-push-in-Delayed}
 
@@ -36,6 +39,15 @@ pairs-preserved c =
       kept = extends-trans c.args.bank.now c.pairs.bank c.take.new.bank c.pairs.invariant.kept c.in_ok-take.ensures.kept;
       more = omega (arith, c.pairs.invariant.more, c.in_ok-take.ensures.more);
       grown = grows_then c.args.bindings.now c.pairs.bindings c.take.new.bindings c.pairs.invariant.grown c.in_ok-take.ensures.grown;
+      todo = c.in_ok-take.ensures.todo;
+      waiting = transport (All (IsPairOf (length c.take.new.bank.terms))) later
+          (waiting_known c.pairs.bank c.take.new.bank c.in_ok-take.field-0 c.pairs.waiting.items c.in_ok-take.ensures.kept c.in_ok-take.ensures.delayed c.pairs.invariant.waiting);
       comes = λ limit o n u bound w. next_turn limit o n u bound c.args.bindings.now c.pairs.bank c.pairs.bindings c.pairs.next c.pairs.units c.in-Some.pair c.pairs.todo.items c.pop.new.self.items c.pairs.waiting.items c.in-Some.ensures.items (c.pairs.invariant.comes limit o n u bound w)
           c.take.new.bank c.take.new.bindings c.take.new.next c.spend.new.units c.take.new.units c.take.new.todo.items c.match-branch-3.waiting.items c.in_ok-take.ensures.kept c.in_ok-take.field-0 c.in_ok-spend.ensures.spent c.in_ok-take.ensures.judged c.in_ok-take.ensures.taken later;
     }
+
+pub take-requires-clause-pair : goal.take-requires-clause-pair
+take-requires-clause-pair c = (All_popped (IsPairOf (length c.pairs.bank.terms)) c.pairs.todo.items c.pop.new.self.items c.in-Some.pair c.in-Some.ensures.items c.pairs.invariant.todo).1
+
+pub take-requires-clause-todo : goal.take-requires-clause-todo
+take-requires-clause-todo c = (All_popped (IsPairOf (length c.pairs.bank.terms)) c.pairs.todo.items c.pop.new.self.items c.in-Some.pair c.in-Some.ensures.items c.pairs.invariant.todo).0
