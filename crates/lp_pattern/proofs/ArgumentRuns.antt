@@ -28,7 +28,7 @@ use Rattle.lp_pattern.proofs.BetaForms.{beta_behind, beta_named, leaf_form}
 use Rattle.lp_pattern.proofs.Naming.{IsLeaf}
 use Rattle.lp_pattern.proofs.Opening.{opens_leaves, read_reached, read_kept}
 use Rattle.lp_pattern.proofs.Stacks.{under_kept}
-use Rattle.lp_pattern.proofs.Stripped.{by_form, comes_to_none, found_at, not_all, comes_if, comes_only, comes_never}
+use Rattle.lp_pattern.proofs.Stripped.{by_form, comes_to_none, found_at, not_all, comes_if, comes_only, comes_never, leaf_eta}
 use Rattle.lp_pattern.proofs.ArgumentForms.{whole_is, top_leaf, stripped_count, stripped_none}
 
 -- one of them
@@ -155,12 +155,6 @@ variable_none m l k limit b d s c t r x y i h q w =
     named_none m l k b c t (λ f z n a. stripped_none m 0 b d s c t r h i (transport IsNoAbstraction (sym q) tt) (stop w.0 w.2) (ap is_name v.0) z n a)
 
 -- a head alone
-leaf_eta : (h : Term) → IsLeaf h → eta_normal h ≡ h
-leaf_eta (index i) l = refl
-leaf_eta (atom a) l = refl
-leaf_eta (abs b) l = absurd l
-leaf_eta (app t u) l = absurd l
-
 rigid_eigen : (c : Closing) (σ : ℕ → Term) (t : Term) → IsRigid t → eigen_of (subst σ (closed c t)) ≡ eigen_of (subst σ t)
 rigid_eigen c σ (index i) h = refl
 rigid_eigen c σ (atom (constant k us)) h = refl

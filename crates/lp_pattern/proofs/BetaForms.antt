@@ -1,10 +1,11 @@
 -- Beta-normal forms by counted steps: of abstractions, of a head on arguments, and behind steps at the top.
-use Rattle.std.proofs.Common.{◌≡◌, ℕ, zero, suc, List, [], ◌∷◌, ◌∙◌, refl, sym, ap, subst as transport, arith, Option, Some, None}
+use Rattle.std.proofs.Common.{◌≡◌, ℕ, zero, suc, List, [], ◌∷◌, ◌∙◌, refl, sym, ap, arith, Option, Some, None}
 use Rattle.std.specs.Prelude.{option_map}
 use Rattle.lp_calculus.specs.Term.{Term, index, atom, abs, app, apply}
 use Rattle.lp_calculus.specs.Convert.{leftmost_step, option_term, or_else, steps}
 use Rattle.lp_calculus.proofs.Sigma.{subst}
 use Rattle.lp_model.specs.Eigens.{beta_normal}
+use Rattle.lp_unify_laws.proofs.NormalForms.Applied.{app_step, neutral_stays}
 use Rattle.lp_pattern.specs.Seen.{weak_step}
 use Rattle.lp_unify_laws.proofs.MoreSteps.Scans.{Below, below_none, beta_normal_more}
 use Rattle.lp_pattern.proofs.Naming.{IsLeaf, AreLeaves, leftmost_named}
@@ -53,29 +54,6 @@ IsNeutral (atom a) = Unit {0}
 IsNeutral (abs b) = ⊥
 IsNeutral (app t u) = IsNeutral t
 
-neutral_step : (f u : Term) → IsNeutral f → leftmost_step (app f u) ≡ or_else (option_term (λ s. app s u) (leftmost_step f)) (option_term (app f) (leftmost_step u))
-neutral_step (index i) u h = refl
-neutral_step (atom a) u h = refl
-neutral_step (abs b) u h = absurd h
-neutral_step (app t v) u h = refl
-
-neutral_stays : (f g : Term) → IsNeutral f → leftmost_step f ≡ Some g → IsNeutral g
-neutral_stays (index i) g h e = absurd (cc)
-neutral_stays (atom a) g h e = absurd (cc)
-neutral_stays (abs b) g h e = absurd h
-neutral_stays (app t u) g h e = go (leftmost_step t) (leftmost_step u) refl (sym (neutral_step t u h) ∙ e) (λ s q. neutral_stays t s h q)
-  where
-    go : (o p : Option Term) → leftmost_step t ≡ o → or_else (option_term (λ s. app s u) (leftmost_step t)) (option_term (app t) p) ≡ Some g → ((s : Term) → leftmost_step t ≡ Some s → IsNeutral s) → IsNeutral g
-    go None None q x f = absurd (let y : None ≡ Some g = sym (ap (λ o. or_else (option_term (λ s. app s u) o) None) q) ∙ x in cc)
-    go None (Some v) q x f =
-        let y : Some (app t v) ≡ Some g = sym (ap (λ o. or_else (option_term (λ s. app s u) o) (Some (app t v))) q) ∙ x in
-        let z : app t v ≡ g = cc in
-        transport IsNeutral z h
-    go (Some s) p q x f =
-        let y : Some (app s u) ≡ Some g = sym (ap (λ o. or_else (option_term (λ s. app s u) o) (option_term (app t) p)) q) ∙ x in
-        let z : app s u ≡ g = cc in
-        transport IsNeutral z (f s q)
-
 -- the form of a head on an argument
 pub record OnArgument (n : ℕ) (f u r : Term) : Type 0 where
   pub head : Term
@@ -87,7 +65,7 @@ pub record OnArgument (n : ℕ) (f u r : Term) : Type 0 where
 on_argument : (n : ℕ) (f u r : Term) → IsNeutral f → beta_normal n (app f u) ≡ Some r → OnArgument n f u r
 on_argument zero f u r h e = absurd (cc)
 on_argument (suc n) f u r h e =
-    go (leftmost_step f) (leftmost_step u) refl refl (sym (ap (turn n (app f u)) (neutral_step f u h)) ∙ e) (λ g k x. on_argument n g u r k x) (λ v x. on_argument n f v r h x)
+    go (leftmost_step f) (leftmost_step u) refl refl (sym (ap (turn n (app f u)) (app_step f u h)) ∙ e) (λ g k x. on_argument n g u r k x) (λ v x. on_argument n f v r h x)
   where
     go : (o p : Option Term) → leftmost_step f ≡ o → leftmost_step u ≡ p → turn n (app f u) (or_else (option_term (λ s. app s u) (leftmost_step f)) (option_term (app f) (leftmost_step u))) ≡ Some r →
         ((g : Term) → IsNeutral g → beta_normal n (app g u) ≡ Some r → OnArgument n g u r) → ((v : Term) → beta_normal n (app f v) ≡ Some r → OnArgument n f v r) → OnArgument (suc n) f u r

@@ -17,6 +17,7 @@ use Rattle.lp_term.specs.declared.node.TermId.{TermId}
 use Rattle.lp_model.specs.Pair.{Closing, closed, put_type_in, put_types_in}
 use Rattle.lp_model.specs.Patterns.{eigens, agreeing}
 use Rattle.lp_model.specs.Types.{TypeBinding, one_type}
+use Rattle.lp_calculus.proofs.Atoms.{put_all_append}
 use Rattle.lp_pattern.specs.declared.bindings.Bindings.{Bindings}
 use Rattle.lp_pattern.specs.Behind.{at_number, with_value, HasLevel}
 use Rattle.lp_pattern.specs.Putting.{Known, IsFirm, IsPutBehind}
@@ -28,7 +29,7 @@ use Rattle.lp_pattern.proofs.Passings.{steps_fill}
 use Rattle.lp_pattern.proofs.PruneSteps.{Fresh, fresh_abstracted, fresh_pattern, fresh_closed, fresh_absent, levels_with, fresh_known, level_known}
 use Rattle.lp_pattern.proofs.ReadingsBehind.{closed_valued, shut_valued, reading_valued, put_valued}
 use Rattle.lp_pattern.proofs.TypesSolved.{lookup_past}
-use Rattle.lp_pattern.proofs.Walking.{reading_kept}
+use Rattle.lp_pattern.proofs.Walking.{open_kept}
 
 -- types put in before or behind a term for variables
 abbrev typed : (ℕ → Ty) → Atom → Term
@@ -143,10 +144,6 @@ put_none levels next c s = record {
   types = refl;
 }
 
-pub put_both : (bs cs : List Binding) (t : Term) → put_all (bs ++ cs) t ≡ put_all cs (put_all bs t)
-put_both [] cs t = refl
-put_both (b ∷ bs) cs t = put_both bs cs (put b t)
-
 pub put_then : (lv lv' lv'' : ℕ → ℕ) (n n' n'' : ℕ) (c c' c'' : Closing) (s s' s'' : Bindings) (bs cs : List Binding) → IsPutBehind lv lv' n n' c c' s s' bs → IsPutBehind lv' lv'' n' n'' c' c'' s' s'' cs →
     IsPutBehind lv lv'' n n'' c c'' s s'' (bs ++ cs)
 put_then lv lv' lv'' n n' n'' c c' c'' s s' s'' bs cs h k = record {
@@ -154,13 +151,13 @@ put_then lv lv' lv'' n n' n'' c c' c'' s s' s'' bs cs h k = record {
   more = let m = h.more in let j = k.more in omega (arith, m, j);
   puts = λ t w.
       let e = h.puts t w in
-      k.puts t (transport (Within (Known lv' n') 0) (sym e) (h.knows (closed c t) w)) ∙ ap (put_all cs) e ∙ sym (put_both bs cs (closed c t));
-  knows = λ t w. transport (Within (Known lv'' n'') 0) (sym (put_both bs cs t)) (k.knows (put_all bs t) (h.knows t w));
+      k.puts t (transport (Within (Known lv' n') 0) (sym e) (h.knows (closed c t) w)) ∙ ap (put_all cs) e ∙ sym (put_all_append bs cs (closed c t));
+  knows = λ t w. transport (Within (Known lv'' n'') 0) (sym (put_all_append bs cs t)) (k.knows (put_all bs t) (h.knows t w));
   reaches = λ t u j w e.
-      ap (steps weak_step j) (put_both bs cs t) ∙ k.reaches (put_all bs t) (put_all bs u) j (h.knows t w) (h.reaches t u j w e) ∙ ap (λ x. Some x) (sym (put_both bs cs u));
+      ap (steps weak_step j) (put_all_append bs cs t) ∙ k.reaches (put_all bs t) (put_all bs u) j (h.knows t w) (h.reaches t u j w e) ∙ ap (λ x. Some x) (sym (put_all_append bs cs u));
   firm = λ ts f. k.firm ts (h.firm ts f);
   values = λ ts f t.
-      put_both bs cs (put_types_in ts t) ∙ ap (put_all cs) (h.values ts f t) ∙ k.values ts (h.firm ts f) (put_all bs t) ∙ ap (put_types_in ts) (sym (put_both bs cs t));
+      put_all_append bs cs (put_types_in ts t) ∙ ap (put_all cs) (h.values ts f t) ∙ k.values ts (h.firm ts f) (put_all bs t) ∙ ap (put_types_in ts) (sym (put_all_append bs cs t));
   terms = let m = h.terms in let j = k.terms in omega (arith, m, j);
   types = k.types ∙ h.types;
 }
@@ -183,9 +180,6 @@ bound_of levels levels' next next' c c' d s s' bs o h l = record {
 }
 
 -- nothing was bound
-pub open_kept : (b d : Nodes) (s : Bindings) (next : ℕ) (c : Closing) → Extends b d → IsOpenReading b s next c → IsOpenReading d s next c
-open_kept b d s next c e o = record { reading = reading_kept b d s c e o.reading; shut = o.shut; still = o.still; unbound = o.unbound }
-
 pub kept_behind : (b d : Nodes) (s : Bindings) (next : ℕ) (c : Closing) → Extends b d → IsOpenReading b s next c → IsKeptBehind next c s d s next
 kept_behind b d s next c e o = record { reading = open_kept b d s next c e o; last = refl; terms = refl; types = refl }
 

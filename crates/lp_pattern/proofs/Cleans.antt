@@ -12,6 +12,7 @@ use Rattle.lp_calculus.proofs.Steps.{converts_on, converts_sym, converts_step, c
 use Rattle.lp_model.specs.Look.{rigid, flexible, looked, as_eigens, only_if, pattern_of, are_distinct, are_above}
 use Rattle.lp_model.specs.Patterns.{eigens, member}
 use Rattle.lp_model.specs.Scan.{Side, is_side, allows, allow, allows_head, Pattern, pattern, fits, Scanned, broken, whole, above, beside, scanned_pattern}
+use Rattle.std.proofs.lemmas.Bool.{and_from}
 use Rattle.lp_pattern.specs.Cleaning.{MayStand, IsClean, IsFit}
 use Rattle.lp_pattern.specs.Scanning.{all_fit}
 use Rattle.lp_pattern.specs.Seen.{weak_step}
@@ -134,17 +135,12 @@ eigens_of_pattern limit l ts b e =
     let w = from_map (only_if (λ ks. are_distinct ks && are_above l ks)) (as_eigens limit ts) (Some b) e in
     w.1 ∙ ap (λ x. Some x) (chosen_only (λ ks. are_distinct ks && are_above l ks) w.0 b (sym w.2))
 
-both_hold : (a b : Bool) → a ≡ true → b ≡ true → (a && b) ≡ true
-both_hold true true e f = refl
-both_hold true false e f = absurd (cc)
-both_hold false b e f = absurd (cc)
-
 allowed_eigens : (s : Side) (ts : List Term) (b : List ℕ) → ConvertAll ts (eigens b) → EachClean s 0 ts → allow s b ≡ true
 allowed_eigens s [] [] c e = refl
 allowed_eigens s [] (k ∷ b) c e = absurd (elim c [ ])
 allowed_eigens s (t ∷ ts) [] c e = absurd (elim c [ ])
 allowed_eigens s (t ∷ ts) (k ∷ b) (convert_more c cs) (clean_more h e) =
-    both_hold (allows s k) (allow s b) (head_reaches (MayStand s) (atom (eigen k)) [] h.to tt (converts_on (converts_sym c) h.converts) h.within).0 (allowed_eigens s ts b cs e)
+    and_from (allows s k) (allow s b) (head_reaches (MayStand s) (atom (eigen k)) [] h.to tt (converts_on (converts_sym c) h.converts) h.within).0 (allowed_eigens s ts b cs e)
 
 fit_pattern : (s : Side) (inside : Bool) (y m : ℕ) (b : List ℕ) → is_side s y m ≡ false → nat_lt s.level m ≡ false → allow s b ≡ true → IsFit s (scanned_pattern s inside y m b)
 fit_pattern s inside y m b e f a = go inside
@@ -153,7 +149,7 @@ fit_pattern s inside y m b e f a = go inside
     low = grind (arith, nat_tests)
 
     fitting : all_fit s (pattern y m b ∷ []) ≡ true
-    fitting = both_hold (nat_le m s.level && allow s b) true (both_hold (nat_le m s.level) (allow s b) low a) refl
+    fitting = and_from (nat_le m s.level && allow s b) true (and_from (nat_le m s.level) (allow s b) low a) refl
 
     go : (i : Bool) → IsFit s (scanned_pattern s i y m b)
     go true = ((λ i. e i || f i || not (a i)), fitting)

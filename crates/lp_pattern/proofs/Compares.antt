@@ -83,7 +83,7 @@ right_opened (suc n) k t b = λ d e.
     go (suc m) d (flexible x l ts) c e = compare_more m (suc (suc m)) (omega arith) (suc k) (open_with (suc k) t) (open_with (suc k) (abs b)) d e
 
 -- a pair that gives way to one that comes to the same
-pairs_same : (n : ℕ) (p q : Pair) (ps : List Pair) → Below (compare n p.level p.left p.right) (compare n q.level q.left q.right) → Below (compare_pairs n (p ∷ ps)) (compare_pairs n (q ∷ ps))
+pub pairs_same : (n : ℕ) (p q : Pair) (ps : List Pair) → Below (compare n p.level p.left p.right) (compare n q.level q.left q.right) → Below (compare_pairs n (p ∷ ps)) (compare_pairs n (q ∷ ps))
 pairs_same n p q ps h = below_then (compare n p.level p.left p.right) (compare n q.level q.left q.right) _ _ h (λ c. below_same _)
 
 rest_same : (old : ℕ) (o o' : Option Compared) → Below o o' → IsRest old old o o'

@@ -11,6 +11,7 @@ use Rattle.lp_model.specs.Pair.{Pair, Closing, closed}
 use Rattle.lp_model.specs.Patterns.{eigens, agreeing}
 use Rattle.lp_model.specs.Rule.{gives, Ruled, ruled, joined, pattern_side, side, solve_for, by_pattern, by_rule_5, by_rule_4, by_looks, compare_all, dear}
 use Rattle.lp_model.specs.Scan as scan
+use Rattle.lp_pattern.proofs.Walking.{open_kept}
 use Rattle.lp_pattern.specs.declared.bindings.Bindings.{Bindings}
 use Rattle.lp_pattern.specs.declared.look.Head.{Head}
 use Rattle.lp_pattern.specs.declared.look.Looked.{Looked}
@@ -24,13 +25,13 @@ use Rattle.lp_pattern.specs.Seen.{weak_step, IsLooked}
 use Rattle.lp_pattern.specs.Turning.{IsOpenReading, IsKnownPair, IsDoneAs}
 use Rattle.lp_pattern.specs.Under.{IsReading, under}
 use Rattle.lp_pattern.specs.Valuing.{IsKnownSide}
-use Rattle.lp_pattern.proofs.BoundOnce.{join_behind, open_kept, kept_behind}
+use Rattle.lp_pattern.proofs.BoundOnce.{join_behind, kept_behind}
 use Rattle.lp_pattern.proofs.Compares.{from_bind, from_map}
-use Rattle.lp_pattern.proofs.Judging.{sides, by_right, left_side, right_side, no_side, view_kept, all_under, as_variable, some_same, behind_compare, or_at, both_of, some_of, side_at, when_both, four_open, four_half}
+use Rattle.lp_pattern.proofs.Judging.{sides, by_right, left_side, right_side, no_side, view_kept, as_variable, some_same, behind_compare, or_at, both_of, some_of, side_at, when_both, four_open, four_half}
 use Rattle.lp_pattern.proofs.Looking.{closed_apply}
 use Rattle.lp_pattern.proofs.PruneSteps.{weak_reduces, within_apply}
 use Rattle.lp_pattern.proofs.SettleSteps.{top_variable}
-use Rattle.lp_pattern.proofs.Stacks.{under_kept}
+use Rattle.lp_pattern.proofs.Stacks.{under_kept, unders_kept}
 use Rattle.lp_pattern.proofs.Verdicts.{at_one, at_other, below_five, looks_at, even, differs}
 
 -- the variable of a pattern is known, and its eigenconstants are distinct
@@ -159,7 +160,7 @@ module _ (b d : Nodes) (s : Bindings) (c : Closing) (one other : Looked) (level 
 
     -- rule 4 in a bank that has grown
     pub four_done : (done : Bool) (f : Nodes) (s' : Bindings) (next' : ℕ) → Ends done f s' next' (by_rule_4 n next p x l (map (under d c) one.arguments.items) (map (under d c) other.arguments.items)) → Ends done f s' next' (by_rule_4 n next p x l ts us)
-    four_done done f s' next' g r q = g r ((λ i. by_rule_4 n next p x l (all_under b d c one.arguments.items e k.arguments i) (all_under b d c other.arguments.items e m.arguments i)) ∙ q)
+    four_done done f s' next' g r q = g r ((λ i. by_rule_4 n next p x l (unders_kept b d c one.arguments.items e k.arguments i) (unders_kept b d c other.arguments.items e m.arguments i)) ∙ q)
 
 -- the comparison of one variable's arguments
 module _ (b : Nodes) (s : Bindings) (c : Closing) (one other : Looked) (level n next u : ℕ) (p : Pair) (h : IsSeenPair b c level one other p) (x l : ℕ) (y : one.head ≡ Head.Variable x l) (z : other.head ≡ Head.Variable x l)

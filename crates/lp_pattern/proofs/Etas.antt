@@ -8,6 +8,8 @@ use Rattle.lp_calculus.specs.Normal.{is_absent, contracted, eta_normal}
 use Rattle.lp_calculus.proofs.Sigma.{rename, up, subst, instead, subst-subst, subst-rename, subst-index}
 use Rattle.lp_calculus.proofs.Plain.{substitute-subst}
 use Rattle.lp_term.specs.Spine.{abstractions}
+use Rattle.lp_lemmas.proofs.Booleans.{and_true_left, and_true_right}
+use Rattle.std.proofs.lemmas.Bool.{and_from}
 use Rattle.lp_pattern.specs.Stripping.{name_below as below}
 use Rattle.lp_pattern.proofs.Naming.{IsLeaf, AreLeaves, up_leaves, subst_apply}
 
@@ -90,14 +92,6 @@ leaf_no_app (atom a) t u h e = absurd (cc)
 leaf_no_app (abs b) t u h e = absurd h
 leaf_no_app (app s v) t u h e = absurd h
 
-and_first : (a b : Bool) → (a && b) ≡ true → a ≡ true
-and_first true b e = refl
-and_first false b e = absurd (cc)
-
-and_second : (a b : Bool) → (a && b) ≡ true → b ≡ true
-and_second true b e = e
-and_second false b e = absurd (cc)
-
 all_absent : List Term → Type 0
 all_absent [] = Unit {0}
 all_absent (u ∷ us) = (is_absent 0 u ≡ true) × all_absent us
@@ -109,7 +103,7 @@ mutual
   absent_apply [] h e = (e, tt)
   absent_apply (u ∷ us) h e =
       let w = absent_apply us (app h u) e in
-      (and_first (is_absent 0 h) (is_absent 0 u) w.0, (and_second (is_absent 0 h) (is_absent 0 u) w.0, w.1))
+      (and_true_left (is_absent 0 h) (is_absent 0 u) w.0, (and_true_right (is_absent 0 h) (is_absent 0 u) w.0, w.1))
 
 -- one higher
 higher : List Term → List Term
@@ -195,9 +189,6 @@ mutual
               (z ∙ (λ i. lower_descending n vs b.1 w.0 i ++ v' i ∷ []) ∙ sym (descends n), lower_head n h x l b.0 w.1 k)
 
 -- and then it is reached
-both : (a b : Bool) → a ≡ true → b ≡ true → (a && b) ≡ true
-both a b p q = λ i. p i && q i
-
 absent_index : (i : ℕ) → is_absent 0 (index (i + 1)) ≡ true
 absent_index i = let q : nat_eq (i + 1) 0 ≡ false = grind (arith, nat_tests) in ap not q
 
@@ -206,7 +197,7 @@ mutual
 
   absent_all : (us : List Term) (h : Term) → is_absent 0 h ≡ true → all_absent us → is_absent 0 (apply h us) ≡ true
   absent_all [] h a b = a
-  absent_all (u ∷ us) h a b = absent_all us (app h u) (both (is_absent 0 h) (is_absent 0 u) a b.0) b.1
+  absent_all (u ∷ us) h a b = absent_all us (app h u) (and_from (is_absent 0 h) (is_absent 0 u) a b.0) b.1
 
 mutual
   unfolding all_absent descending
@@ -291,7 +282,7 @@ subst_absent : (d : ℕ) (θ ι : ℕ → Term) → Agree d θ ι → (t : Term)
 subst_absent d θ ι h (index i) e = h i e
 subst_absent d θ ι h (atom a) e = refl
 subst_absent d θ ι h (abs b) e = ap abs (subst_absent (suc d) (up θ) (up ι) (agree_up d θ ι h) b e)
-subst_absent d θ ι h (app t u) e = λ i. app (subst_absent d θ ι h t (and_first (is_absent d t) (is_absent d u) e) i) (subst_absent d θ ι h u (and_second (is_absent d t) (is_absent d u) e) i)
+subst_absent d θ ι h (app t u) e = λ i. app (subst_absent d θ ι h t (and_true_left (is_absent d t) (is_absent d u) e) i) (subst_absent d θ ι h u (and_true_right (is_absent d t) (is_absent d u) e) i)
 
 lowered_agree : (σ : ℕ → Term) → Agree 0 (λ i. subst (instead (index 0)) (up σ i)) (λ i. subst σ (instead (index 0) i))
 lowered_agree σ zero e = absurd (cc)

@@ -1,10 +1,10 @@
 -- Terms with all bindings put in: what was made of a term's parts, put together, is the term under the bindings.
-use Rattle.std.proofs.Common.{◌≡◌, ℕ, ◌<◌, List, [], ◌∷◌, ◌++◌, map, length, Option, Some, None, inl, inr, refl, sym, ap, subst as transport, ◌∙◌, arith, nat_eq, if◌then◌else◌, Bool, true, Vec, Global}
-use Rattle.std.specs.Prelude.{All, IfSome, OnOk, Result, Ok, Err}
+use Rattle.std.proofs.Common.{◌≡◌, ℕ, ◌<◌, List, [], ◌∷◌, ◌++◌, map, length, Option, Some, None, inl, inr, sym, ap, subst as transport, ◌∙◌, arith, nat_eq, if◌then◌else◌, Vec, Global}
+use Rattle.std.specs.Prelude.{All, IfSome}
 use Rattle.std.proofs.lemmas.List.{map-append}
-use Rattle.std.proofs.lemmas.List.Elements.{All-head, All-tail}
+use Rattle.std.proofs.lemmas.List.Elements.{All-push}
+use Rattle.lp_lemmas.proofs.Elements.{All_push_parts, All_unmap}
 use Rattle.std.proofs.lemmas.Bool.{eq-eqb, ne_eqb, cases_eq}
-use lib.Pointwise.{pointwise}
 use Rattle.std.specs.Map.{lookup}
 use Rattle.indexmap.specs.IndexMap.{IndexMap, get}
 use Rattle.lp_calculus.specs.Types.{instance}
@@ -13,6 +13,9 @@ use Rattle.lp_term.specs.Nodes.{Nodes, Extends, tree, type_tree}
 use Rattle.lp_term.specs.declared.node.TermId.{TermId}
 use Rattle.lp_term.specs.declared.node.TypeId.{TypeId}
 use Rattle.lp_model.specs.Pair.{Closing, closed}
+use Rattle.lp_term.specs.Within.{IsTypeOf, AreTypesOf}
+use Rattle.lp_term.proofs.Within.{types_later, type_trees_later}
+use Rattle.lp_term.proofs.Walks.{map_map}
 use Rattle.lp_pattern.specs.declared.bindings.Bindings.{Bindings}
 use Rattle.lp_pattern.specs.declared.fill.Shape.{Shape}
 use Rattle.lp_pattern.specs.declared.fill.TermsFilled.{TermsFilled}
@@ -20,26 +23,14 @@ use Rattle.lp_pattern.specs.declared.fill_types.TypesFilled.{TypesFilled}
 use Rattle.lp_pattern.specs.Stripping.{IsShut}
 use Rattle.lp_pattern.specs.Under.{AreTypes, IsReading}
 use Rattle.lp_pattern.specs.Filling.{AreFilled}
-use Rattle.lp_pattern.specs.FillingTerms.{IsFilledTerm, AreAllFilled, AreTypesOf, TermsBecome, HasShape, IsMade}
-use Rattle.lp_pattern.proofs.FilledTypes.{fused, all_later, first, second}
+use Rattle.lp_pattern.specs.FillingTerms.{IsFilledTerm, AreAllFilled, TermsBecome, HasShape, IsMade}
+use Rattle.lp_pattern.proofs.FilledTypes.{all_later}
 use Rattle.lp_pattern.proofs.Looking.{closed_apply}
 use Rattle.lp_pattern.proofs.Opening.{body_closed}
 
 pub some_weaker : {A : Type 0} (o : Option A) (P Q : A → Type 0) → ((x : A) → P x → Q x) → IfSome o P → IfSome o Q
 some_weaker None P Q f h = h
 some_weaker (Some x) P Q f h = f x h
-
-pub on_any : {T E : Type 0} (r : Result T E) (P : Type 0) → P → OnOk r P
-on_any (Ok x) P p = p
-on_any (Err e) P p = tt
-
--- lists that `==` finds the same
-
-pub same_terms : (E : TermId → TermId → Bool) → ((x y : TermId) → E x y ≡ true → x.0 ≡ y.0) → (xs ys : List TermId) → pointwise E xs ys ≡ true → map (λ t. t.0) xs ≡ map (λ t. t.0) ys
-same_terms E d [] [] h = refl
-same_terms E d [] (y ∷ ys) h = absurd (cc)
-same_terms E d (x ∷ xs) [] h = absurd (cc)
-same_terms E d (x ∷ xs) (y ∷ ys) h = λ i. d x y (first (E x y) (pointwise E xs ys) h) i ∷ same_terms E d xs ys (second (E x y) (pointwise E xs ys) h) i
 
 -- a bank that has grown
 pub term_later : (b d : Nodes) (c : Closing) (i j : ℕ) → Extends b d → IsFilledTerm b c i j → IsFilledTerm d c i j
@@ -94,11 +85,11 @@ application_made b d c id head top new arguments made F h e l q = record {
   within = l;
   is =
       q ∙
-      application_is c (tree b id.0) (tree b head.0) (tree b top.0) (map (λ t. tree b t.0) arguments) (map (λ t. tree b t.0) made) e F.is (h ∙ sym (fused (closed c) (λ t. tree b t.0) arguments));
+      application_is c (tree b id.0) (tree b head.0) (tree b top.0) (map (λ t. tree b t.0) arguments) (map (λ t. tree b t.0) made) e F.is (h ∙ sym (map_map (closed c) (λ t. tree b t.0) arguments));
 }
 
 same_trees : (b : Nodes) (xs ys : List TermId) → map (λ t. t.0) xs ≡ map (λ t. t.0) ys → map (λ t. tree b t.0) xs ≡ map (λ t. tree b t.0) ys
-same_trees b xs ys e = sym (fused (tree b) (λ t. t.0) xs) ∙ ap (map (tree b)) e ∙ fused (tree b) (λ t. t.0) ys
+same_trees b xs ys e = sym (map_map (tree b) (λ t. t.0) xs) ∙ ap (map (tree b)) e ∙ map_map (tree b) (λ t. t.0) ys
 
 pub application_stays : (b : Nodes) (c : Closing) (id head top : TermId) (arguments made : List TermId) → IsFilledTerm b c head.0 top.0 → TermsBecome b c arguments made →
     tree b id.0 ≡ apply (tree b head.0) (map (λ t. tree b t.0) arguments) → id.0 < length b.terms → top.0 ≡ head.0 → map (λ t. t.0) made ≡ map (λ t. t.0) arguments → IsMade b b c id.0 id
@@ -108,35 +99,15 @@ application_stays b c id head top arguments made F h e l p q =
     application_made b b c id head top id arguments made F h e l (e ∙ (λ i. apply (f i) (g i)))
 
 -- types of constants
-types_in : (b : Nodes) (ts : List TypeId) → All (λ i. i < length b.types) (map (λ t. t.0) ts) → AreTypesOf b ts
-types_in b [] h = tt
-types_in b (t ∷ ts) h = (All-head (λ i. i < length b.types) t.0 (map (λ t. t.0) ts) h, types_in b ts (All-tail (λ i. i < length b.types) t.0 (map (λ t. t.0) ts) h))
-
 pub constant_shape : (b : Nodes) (n : ℕ) (xs ys : List TypeId) (T : Term) → atom (constant n (map (type_tree b) (map (λ t. t.0) xs))) ≡ T → All (λ i. i < length b.types) (map (λ t. t.0) xs) → ys ≡ xs →
     AreTypesOf b ys × (T ≡ atom (constant n (map (λ t. type_tree b t.0) ys)))
 constant_shape b n xs ys T e a q = (
-  transport (AreTypesOf b) (sym q) (types_in b xs a),
-  sym e ∙ ap (λ ts. atom (constant n ts)) (fused (type_tree b) (λ t. t.0) xs ∙ ap (map (λ t. type_tree b t.0)) (sym q)),
+  transport (AreTypesOf b) (sym q) (All_unmap (λ i. i < length b.types) (λ t. t.0) xs a),
+  sym e ∙ ap (λ ts. atom (constant n ts)) (map_map (type_tree b) (λ t. t.0) xs ∙ ap (map (λ t. type_tree b t.0)) (sym q)),
 )
 
 pub application_shape : (b : Nodes) (head : TermId) (xs ys : List TermId) (T : Term) → apply (tree b head.0) (map (tree b) (map (λ t. t.0) xs)) ≡ T → ys ≡ xs → T ≡ apply (tree b head.0) (map (λ t. tree b t.0) ys)
-application_shape b head xs ys T e q = sym e ∙ ap (apply (tree b head.0)) (fused (tree b) (λ t. t.0) xs ∙ ap (map (λ t. tree b t.0)) (sym q))
-
-types_split : (b : Nodes) (ts : List TypeId) (t : TypeId) → AreTypesOf b (ts ++ t ∷ []) → AreTypesOf b ts × (t.0 < length b.types)
-types_split b [] t k = (tt, k.0)
-types_split b (u ∷ ts) t k = let w = types_split b ts t k.1 in ((k.0, w.0), w.1)
-
-types_snoc : (b : Nodes) (ts : List TypeId) (t : TypeId) → AreTypesOf b ts → t.0 < length b.types → AreTypesOf b (ts ++ t ∷ [])
-types_snoc b [] t k l = (l, tt)
-types_snoc b (u ∷ ts) t k l = (k.0, types_snoc b ts t k.1 l)
-
-types_of_later : (b d : Nodes) (ts : List TypeId) → Extends b d → AreTypesOf b ts → AreTypesOf d ts
-types_of_later b d [] E k = tt
-types_of_later b d (t ∷ ts) E k = (let m = E.more_types in let l = k.0 in omega arith, types_of_later b d ts E k.1)
-
-type_trees_later : (b d : Nodes) (ts : List TypeId) → Extends b d → AreTypesOf b ts → map (λ t. type_tree d t.0) ts ≡ map (λ t. type_tree b t.0) ts
-type_trees_later b d [] E k = refl
-type_trees_later b d (t ∷ ts) E k = let f = E.same_types t.0 k.0 in let g = type_trees_later b d ts E k.1 in (λ i. f i ∷ g i)
+application_shape b head xs ys T e q = sym e ∙ ap (apply (tree b head.0)) (map_map (tree b) (λ t. t.0) xs ∙ ap (map (λ t. tree b t.0)) (sym q))
 
 -- one type more has its bindings put in
 pub one_type_more : (a b d : Nodes) (s : Bindings) (c : Closing) (done olds news : List TypeId) (of new : TypeId) (before : TermsFilled) (after : TypesFilled) → Extends a b → Extends b d → AreTypes b s c.types → AreTypesOf a (done ++ of ∷ []) →
@@ -144,13 +115,13 @@ pub one_type_more : (a b d : Nodes) (s : Bindings) (c : Closing) (done olds news
     (AreTypes b s c.types → AreFilled b c.types before.types → AreFilled d c.types after × (new.0 < length d.types) × (type_tree d new.0 ≡ instance c.types (type_tree b of.0))) →
     AreAllFilled d c (record { terms = before.terms; types = after }) × AreTypesOf d news × (map (λ t. type_tree d t.0) news ≡ map (λ t. instance c.types (type_tree a t.0)) (done ++ of ∷ []))
 one_type_more a b d s c done olds news of new before after E F A k h e f =
-    let q = types_split a done of k in
+    let q = All_push_parts (IsTypeOf a) done of k in
     let w = h q.0 in
     let r = f A w.0.types in
     let all : map (λ t. type_tree d t.0) olds ≡ map (λ t. instance c.types (type_tree a t.0)) done = type_trees_later b d olds F w.1 ∙ w.2 in
     let one : type_tree d new.0 ≡ instance c.types (type_tree a of.0) = r.2 ∙ ap (instance c.types) (E.same_types of.0 q.1) in (
       types_noted b d c before after F w.0 r.0,
-      transport (AreTypesOf d) (sym e) (types_snoc d olds new (types_of_later b d olds F w.1) r.1),
+      transport (AreTypesOf d) (sym e) (All-push (IsTypeOf d) olds new (types_later b d olds F w.1) r.1),
       ap (map (λ t. type_tree d t.0)) e ∙ map-append (λ t. type_tree d t.0) olds (new ∷ []) ∙ (λ i. all i ++ one i ∷ []) ∙ sym (map-append (λ t. instance c.types (type_tree a t.0)) done (of ∷ [])),
     )
 
@@ -158,14 +129,14 @@ one_type_more a b d s c done olds news of new before after E F A k h e f =
 constant_is : (a b : Nodes) (c : Closing) (n : ℕ) (types made : List TypeId) (T : Term) → T ≡ atom (constant n (map (λ t. type_tree a t.0) types)) →
     map (λ t. type_tree b t.0) made ≡ map (λ t. instance c.types (type_tree a t.0)) types → atom (constant n (map (λ t. type_tree b t.0) made)) ≡ closed c T
 constant_is a b c n types made T e h =
-    ap (λ ts. atom (constant n ts)) (h ∙ sym (fused (instance c.types) (λ t. type_tree a t.0) types)) ∙ ap (closed c) (sym e)
+    ap (λ ts. atom (constant n ts)) (h ∙ sym (map_map (instance c.types) (λ t. type_tree a t.0) types)) ∙ ap (closed c) (sym e)
 
 pub constant_made : (a b d : Nodes) (c : Closing) (n : ℕ) (id new : TermId) (types made : List TypeId) → tree a id.0 ≡ atom (constant n (map (λ t. type_tree a t.0) types)) →
     map (λ t. type_tree b t.0) made ≡ map (λ t. instance c.types (type_tree a t.0)) types → new.0 < length d.terms → tree d new.0 ≡ atom (constant n (map (λ t. type_tree b t.0) made)) → IsMade a d c id.0 new
 constant_made a b d c n id new types made e h l q = record { within = l; is = q ∙ constant_is a b c n types made (tree a id.0) e h }
 
 same_type_trees : (b : Nodes) (xs ys : List TypeId) → map (λ t. t.0) xs ≡ map (λ t. t.0) ys → map (λ t. type_tree b t.0) xs ≡ map (λ t. type_tree b t.0) ys
-same_type_trees b xs ys e = sym (fused (type_tree b) (λ t. t.0) xs) ∙ ap (map (type_tree b)) e ∙ fused (type_tree b) (λ t. t.0) ys
+same_type_trees b xs ys e = sym (map_map (type_tree b) (λ t. t.0) xs) ∙ ap (map (type_tree b)) e ∙ map_map (type_tree b) (λ t. t.0) ys
 
 pub constant_stays : (a b : Nodes) (c : Closing) (n : ℕ) (id : TermId) (types made : List TypeId) → Extends a b → id.0 < length a.terms → AreTypesOf a types → tree a id.0 ≡ atom (constant n (map (λ t. type_tree a t.0) types)) →
     map (λ t. type_tree b t.0) made ≡ map (λ t. instance c.types (type_tree a t.0)) types → map (λ t. t.0) made ≡ map (λ t. t.0) types → IsMade a b c id.0 id

@@ -1,32 +1,26 @@
 -- Types with all bindings put in: what was made of a type is the type under the bindings, part by part.
-use Rattle.std.proofs.Common.{◌≡◌, ℕ, ◌<◌, List, [], ◌∷◌, map, length, Option, Some, None, inl, inr, refl, sym, ap, subst as transport, ◌∙◌, arith, nat_eq, if◌then◌else◌, ◌≤◌, Bool, true, false, slice_index_or}
-use Rattle.std.specs.Prelude.{◌&&◌, IfSome}
-use lib.Pointwise.{pointwise}
+use Rattle.std.proofs.Common.{◌≡◌, ℕ, ◌<◌, List, [], ◌∷◌, map, length, Option, Some, inl, inr, refl, sym, ap, subst as transport, ◌∙◌, arith, nat_eq, if◌then◌else◌, ◌≤◌, slice_index_or}
+use Rattle.std.specs.Prelude.{IfSome}
 use Rattle.std.proofs.lemmas.Bool.{eq-eqb, ne_eqb, cases_eq}
 use Rattle.indexmap.specs.IndexMap.{get}
 use Rattle.lp_calculus.specs.Types.{Ty, con, arrow, tys, types, instance, instances}
 use Rattle.lp_term.specs.Nodes.{Nodes, type_tree, Extends}
 use Rattle.lp_term.specs.declared.node.TypeId.{TypeId}
-use Rattle.lp_pattern.specs.declared.bindings.Bindings.{Bindings}
+use Rattle.lp_term.proofs.Walks.{map_map}
 use Rattle.lp_pattern.specs.declared.fill_types.TypesFilled.{TypesFilled}
-use Rattle.lp_pattern.specs.Under.{TypeIs, AreTypes}
 use Rattle.lp_pattern.specs.Filling.{IsFilledAs, AreFilled, HaveBecome}
-
-pub fused : {A B C : Type 0} (g : B → C) (f : A → B) (xs : List A) → map g (map f xs) ≡ map (λ x. g (f x)) xs
-fused g f [] = refl
-fused g f (x ∷ xs) = ap (λ ys. g (f x) ∷ ys) (fused g f xs)
 
 pub instances_tys : (θ : ℕ → Ty) (ts : List Ty) → instances θ (tys ts) ≡ tys (map (instance θ) ts)
 instances_tys θ [] = refl
 instances_tys θ (t ∷ ts) = ap (types (instance θ t)) (instances_tys θ ts)
 
 pub constructor_tree : (b : Nodes) (c : ℕ) (ids : List TypeId) (T : Ty) → T ≡ con c (tys (map (type_tree b) (map (λ t. t.0) ids))) → T ≡ con c (tys (map (λ t. type_tree b t.0) ids))
-constructor_tree b c ids T e = e ∙ ap (λ ts. con c (tys ts)) (fused (type_tree b) (λ t. t.0) ids)
+constructor_tree b c ids T e = e ∙ ap (λ ts. con c (tys ts)) (map_map (type_tree b) (λ t. t.0) ids)
 
 -- the parts, as their numbers, under the bindings
 parts_under : (b : Nodes) (θ : ℕ → Ty) (ids : List ℕ) (parts made : List TypeId) → map (λ t. t.0) parts ≡ ids → HaveBecome b θ parts made → map (λ t. type_tree b t.0) made ≡ map (instance θ) (map (type_tree b) ids)
 parts_under b θ ids parts made e h =
-    h ∙ sym (fused (λ i. instance θ (type_tree b i)) (λ t. t.0) parts) ∙ ap (map (λ i. instance θ (type_tree b i))) e ∙ sym (fused (instance θ) (type_tree b) ids)
+    h ∙ sym (map_map (λ i. instance θ (type_tree b i)) (λ t. t.0) parts) ∙ ap (map (λ i. instance θ (type_tree b i))) e ∙ sym (map_map (instance θ) (type_tree b) ids)
 
 pub constructor_filled : (b : Nodes) (θ : ℕ → Ty) (c : ℕ) (ids : List ℕ) (parts made : List TypeId) (T : Ty) → con c (tys (map (type_tree b) ids)) ≡ T → map (λ t. t.0) parts ≡ ids → HaveBecome b θ parts made →
     con c (tys (map (λ t. type_tree b t.0) made)) ≡ instance θ T
@@ -37,7 +31,7 @@ constructor_filled b θ c ids parts made T e f h =
 pub constructor_stays : (b : Nodes) (θ : ℕ → Ty) (c : ℕ) (ids : List ℕ) (parts made : List TypeId) (T : Ty) → con c (tys (map (type_tree b) ids)) ≡ T → map (λ t. t.0) parts ≡ ids → HaveBecome b θ parts made →
     map (λ t. t.0) parts ≡ map (λ t. t.0) made → T ≡ instance θ T
 constructor_stays b θ c ids parts made T e f h same =
-    sym e ∙ ap (λ is. con c (tys (map (type_tree b) is))) (sym f ∙ same) ∙ ap (λ ts. con c (tys ts)) (fused (type_tree b) (λ t. t.0) made) ∙ constructor_filled b θ c ids parts made T e f h
+    sym e ∙ ap (λ is. con c (tys (map (type_tree b) is))) (sym f ∙ same) ∙ ap (λ ts. con c (tys ts)) (map_map (type_tree b) (λ t. t.0) made) ∙ constructor_filled b θ c ids parts made T e f h
 
 two : (x y u v : Ty) → x ∷ y ∷ [] ≡ u ∷ v ∷ [] → arrow x y ≡ arrow u v
 two x y u v e = cc
@@ -53,22 +47,6 @@ arrow_stays b θ i j parts from to T e f h same =
     let g : from.0 ∷ to.0 ∷ [] ≡ i ∷ j ∷ [] = sym same ∙ f in
     let k : arrow (type_tree b from.0) (type_tree b to.0) ≡ arrow (type_tree b i) (type_tree b j) = two _ _ _ _ (ap (map (type_tree b)) g) in
     sym e ∙ sym k ∙ arrow_filled b θ i j parts from to T e f h
-
--- lists that `==` finds the same
-
-pub first : (s t : Bool) → (s && t) ≡ true → s ≡ true
-first true t h = refl
-first false t h = h
-
-pub second : (s t : Bool) → (s && t) ≡ true → t ≡ true
-second true t h = h
-second false t h = absurd (cc)
-
-pub same_numbers : (E : TypeId → TypeId → Bool) → ((x y : TypeId) → E x y ≡ true → x.0 ≡ y.0) → (xs ys : List TypeId) → pointwise E xs ys ≡ true → map (λ t. t.0) xs ≡ map (λ t. t.0) ys
-same_numbers E d [] [] h = refl
-same_numbers E d [] (y ∷ ys) h = absurd (cc)
-same_numbers E d (x ∷ xs) [] h = absurd (cc)
-same_numbers E d (x ∷ xs) (y ∷ ys) h = λ i. d x y (first (E x y) (pointwise E xs ys) h) i ∷ same_numbers E d xs ys (second (E x y) (pointwise E xs ys) h) i
 
 -- a list of two
 pub both : (xs : List TypeId) → 2 ≤ length xs → length xs < 3 → (d : TypeId) → xs ≡ slice_index_or xs 0 d ∷ slice_index_or xs 1 d ∷ []
@@ -96,13 +74,6 @@ filled_later b c θ i j E F = record {
 
 pub all_later : (b c : Nodes) (θ : ℕ → Ty) (done : TypesFilled) → Extends b c → AreFilled b θ done → AreFilled c θ done
 all_later b c θ done E F i j g = filled_later b c θ i j.0 E (F i j g)
-
-type_later : (b c : Nodes) (θ : ℕ → Ty) (x : ℕ) (o : Option TypeId) → Extends b c → TypeIs b θ x o → TypeIs c θ x o
-type_later b c θ x None E v = v
-type_later b c θ x (Some t) E v = (let m = E.more_types in let k = v.0 in omega arith, v.1 ∙ ap (instance θ) (sym (E.same_types t.0 v.0)))
-
-pub types_later : (b c : Nodes) (s : Bindings) (θ : ℕ → Ty) → Extends b c → AreTypes b s θ → AreTypes c s θ
-types_later b c s θ E A x = type_later b c θ x (get nat_eq s.types x) E (A x)
 
 some_is : (x y : TypeId) → Some x ≡ Some y → x ≡ y
 some_is x y e = cc

@@ -1,7 +1,6 @@
 -- Heads of the same name under bindings, and the types of two heads.
-use Rattle.std.proofs.Common.{◌≡◌, ℕ, suc, List, [], ◌∷◌, map, length, ◌∙◌, refl, sym, ap, subst as transport, Bool, true, false, nat_eq, inr}
+use Rattle.std.proofs.Common.{◌≡◌, ℕ, List, ◌∙◌, refl, sym, subst as transport, Bool, true, false, nat_eq, inr}
 use Rattle.std.specs.Prelude.{◌&&◌}
-use Rattle.std.proofs.lemmas.Bool.{eq-eqb}
 use Rattle.lp_calculus.specs.Types.{Ty, instance}
 use Rattle.lp_calculus.specs.Term.{Term, Atom, index, atom, abs, app, constant, integer, text, eigen, logic, param}
 use Rattle.lp_calculus.specs.Instance.{instance_atom, instance_term}
@@ -10,6 +9,8 @@ use Rattle.lp_term.specs.declared.node.TypeId.{TypeId}
 use Rattle.lp_model.specs.Pair.{Closing, closed}
 use Rattle.lp_model.specs.Same.{same_atom, same_name}
 use Rattle.lp_model.specs.Rule.{type_pairs, compare_types}
+use Rattle.lp_unify_laws.proofs.TypedInstances.{length_map}
+use Rattle.lp_lemmas.proofs.Booleans.{and_equal}
 use Rattle.lp_pattern.specs.declared.fault.PatternRefusal.{PatternRefusal}
 use Rattle.lp_pattern.specs.declared.fault.PatternRefusal.TheVariants.{Deep, Fails, Memory}
 use Rattle.lp_pattern.specs.declared.bindings.Bindings.{Bindings}
@@ -19,10 +20,6 @@ use Rattle.lp_pattern.specs.Seen.{IsRigid, IsHead, IsLooked}
 use Rattle.lp_pattern.specs.Reading.{type_pairs_of}
 use Rattle.lp_pattern.specs.Comparing.{IsComparedTo, IsPassed, IsHeadCompared, IsHeadPassed}
 use Rattle.lp_pattern.proofs.Stacks.{rigid_closed}
-
-length_map : {A B : Type 0} (f : A → B) (xs : List A) → length (map f xs) ≡ length xs
-length_map f [] = refl
-length_map f (x ∷ xs) = ap suc (length_map f xs)
 
 atoms_same : (θ : ℕ → Ty) (a b : Atom) → same_atom (instance_atom θ a) (instance_atom θ b) ≡ same_atom a b
 atoms_same θ (constant c ts) (constant d us) = λ i. nat_eq c d && nat_eq (length_map (instance θ) ts i) (length_map (instance θ) us i)
@@ -83,9 +80,6 @@ names_same θ (app t u) (app v w) = refl
 pub names_under : (c : Closing) (t u : Term) → IsRigid t → IsRigid u → same_name (closed c t) (closed c u) ≡ same_name t u
 names_under c t u i j = (λ k. same_name (rigid_closed c t i k) (rigid_closed c u j k)) ∙ names_same c.types t u
 
-both : (h : Bool) (m n : ℕ) → h ≡ true → m ≡ n → (h && nat_eq m n) ≡ true
-both h m n p q = λ i. p i && eq-eqb m n q i
-
 -- the types of two heads of one name, with as many arguments
 pub head_compared : (b : Nodes) (c : Closing) (t u : Term) (same h : Bool) (old new m n : ℕ) (ps : List (TypeId × TypeId)) → IsRigid t → IsRigid u → h ≡ same_name t u → h ≡ true → m ≡ n →
     type_pairs_of b c.types ps ≡ type_pairs (instance_term c.types t) (instance_term c.types u) → ((k : ℕ) → IsComparedTo same old new (compare_types k (type_pairs_of b c.types ps))) →
@@ -93,7 +87,7 @@ pub head_compared : (b : Nodes) (c : Closing) (t u : Term) (same h : Bool) (old 
 head_compared b c t u same h old new m n ps i j e f q p k = go same k
   where
     named : (same_name (closed c t) (closed c u) && nat_eq m n) ≡ true
-    named = both (same_name (closed c t) (closed c u)) m n (names_under c t u i j ∙ sym e ∙ f) q
+    named = and_equal (same_name (closed c t) (closed c u)) m n (names_under c t u i j ∙ sym e ∙ f) q
 
     pairs : type_pairs_of b c.types ps ≡ type_pairs (closed c t) (closed c u)
     pairs = p ∙ (λ x. type_pairs (sym (rigid_closed c t i) x) (sym (rigid_closed c u j) x))
@@ -106,7 +100,7 @@ pub head_passed : (b : Nodes) (c : Closing) (t u : Term) (r : PatternRefusal) (h
     type_pairs_of b c.types ps ≡ type_pairs (instance_term c.types t) (instance_term c.types u) → ((k : ℕ) → IsPassed r old (compare_types k (type_pairs_of b c.types ps))) →
     IsHeadPassed r old (closed c t) (closed c u) m n
 head_passed b c t u Deep h old m n ps i j e f q p k = (
-  both (same_name (closed c t) (closed c u)) m n (names_under c t u i j ∙ sym e ∙ f) q,
+  and_equal (same_name (closed c t) (closed c u)) m n (names_under c t u i j ∙ sym e ∙ f) q,
   λ x. transport (λ l. IsPassed Deep old (compare_types x l)) (p ∙ (λ y. type_pairs (sym (rigid_closed c t i) y) (sym (rigid_closed c u j) y))) (k x),
 )
 head_passed b c t u Fails h old m n ps i j e f q p k = k 0

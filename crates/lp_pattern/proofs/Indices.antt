@@ -10,8 +10,9 @@ use Rattle.lp_calculus.proofs.Fills.{fill-fill}
 use Rattle.lp_term.specs.Spine.{abstractions}
 use Rattle.lp_model.specs.Patterns.{member}
 use Rattle.lp_model.specs.Look.{are_distinct}
+use Rattle.lp_lemmas.proofs.Booleans.{and_true_left, and_true_right}
 use Rattle.lp_pattern.specs.Settling.{side_index, index_past, index_in, eigen_or, indexed_in}
-use Rattle.lp_pattern.proofs.Renewing.{raises, fill_abstractions, abs_inside, shift_index, raises_eigen, placed, placed_first, not_true, and_first, and_second}
+use Rattle.lp_pattern.proofs.Renewing.{raises, fill_abstractions, abs_inside, shift_index, raises_eigen, placed, placed_first, not_true}
 
 raise_or : (k : ℕ) (o : Option ℕ) → shift 0 1 (eigen_or k o) ≡ eigen_or k (option_map suc o)
 raise_or k None = refl
@@ -123,7 +124,7 @@ mutual
 
   placed_is : (cs : List ℕ) → are_distinct cs ≡ true → (k : ℕ) → placed cs k ≡ eigen_or k (side_index cs k)
   placed_is [] e k = refl
-  placed_is (c ∷ cs) e k = go (nat_eq k c) refl (placed_is cs (and_second (not (member c cs)) (are_distinct cs) e) k)
+  placed_is (c ∷ cs) e k = go (nat_eq k c) refl (placed_is cs (and_true_right (not (member c cs)) (are_distinct cs) e) k)
     where
       behind : (o : Option ℕ) → nat_eq k c ≡ false → fill (raises (length cs) (indexed c)) (eigen_or k o) ≡ eigen_or k o
       behind None h = raises_eigen (length cs) c k ∙ ap (λ b. if b then index (length cs) else atom (eigen k)) h
@@ -131,7 +132,7 @@ mutual
 
       go : (b : Bool) → nat_eq k c ≡ b → placed cs k ≡ eigen_or k (side_index cs k) → placed (c ∷ cs) k ≡ eigen_or k (if b then Some (length cs) else side_index cs k)
       go true h ih =
-          let x : k ≡ c = grind (arith, nat_tests) in ap (placed (c ∷ cs)) x ∙ placed_first c cs (not_true (member c cs) (and_first (not (member c cs)) (are_distinct cs) e))
+          let x : k ≡ c = grind (arith, nat_tests) in ap (placed (c ∷ cs)) x ∙ placed_first c cs (not_true (member c cs) (and_true_left (not (member c cs)) (are_distinct cs) e))
       go false h ih = ap (fill (raises (length cs) (indexed c))) ih ∙ behind (side_index cs k) h
 
 none_past : (k : ℕ) (o : Option ℕ) → eigen_or k (option_map (λ i. 0 + i) o) ≡ eigen_or k o

@@ -2,7 +2,6 @@
 use Rattle.std.proofs.Common.{◌≡◌, ℕ, zero, suc, ◌+◌, ◌<◌, ◌≤◌, List, [], ◌∷◌, map, length, ◌∙◌, refl, sym, ap, subst as transport, arith, Bool, true, false, Option, Some, None, nat_eq}
 use Rattle.std.specs.Prelude.{option_map, option_and_then, ◌&&◌, All}
 use Rattle.std.proofs.lemmas.Bool.Decides.{nat_tests}
-use Rattle.std.proofs.lemmas.List.Elements.{All-head, All-tail}
 use Rattle.lp_calculus.specs.Term.{Term}
 use Rattle.lp_calculus.specs.Convert.{steps}
 use Rattle.lp_term.specs.Nodes.{Nodes, Extends, tree}
@@ -13,6 +12,8 @@ use Rattle.lp_model.specs.Pair.{Pair, Closing}
 use Rattle.lp_model.specs.Scan as scan
 use Rattle.lp_model.specs.Scan.{Scanned, broken, whole, Pruned, prune, settle}
 use Rattle.lp_model.specs.Rule.{Compared, Verdict, fails, gives, binds, delays, Ruled, ruled, joined, bound, has_head, solve_for, side, by_pattern, pattern_side, by_rule_5, by_rule_4, dear, by_looks, compare_all, rule}
+use Rattle.lp_unify_laws.proofs.TypedInstances.{length_map}
+use Rattle.lp_unify_laws.proofs.Sames.{same_number}
 use Rattle.lp_pattern.specs.declared.bindings.Bindings.{Bindings}
 use Rattle.lp_pattern.specs.declared.fault.PatternRefusal.{PatternRefusal}
 use Rattle.lp_pattern.specs.declared.fault.PatternRefusal.TheVariants.{Deep}
@@ -36,7 +37,7 @@ use Rattle.lp_pattern.specs.Visiting as visiting
 use Rattle.lp_unify_laws.proofs.MoreSteps.Scans.{Below, below_none, below_same, below_then}
 use Rattle.lp_pattern.proofs.Compares.{reached_look, from_bind, from_map}
 use Rattle.lp_pattern.proofs.Opening.{read_none}
-use Rattle.lp_pattern.proofs.Stacks.{under_kept}
+use Rattle.lp_pattern.proofs.Stacks.{under_kept, unders_kept}
 use Rattle.lp_pattern.proofs.Tops.{whole_look}
 
 -- what holds of a later rule holds of an earlier one that comes to it
@@ -240,15 +241,11 @@ right_out n next level u p v w Deep h l = λ k r q.
 right_out n next level u p v w refusal.Memory h l = tt
 
 -- what was seen, in a bank that has grown
-pub all_under : (b d : Nodes) (c : Closing) (ids : List TermId) → Extends b d → All (λ t. t.0 < length b.terms) ids → map (under d c) ids ≡ map (under b c) ids
-all_under b d c [] e a = refl
-all_under b d c (t ∷ ids) e a = λ i. under_kept b d c t e (All-head (λ t. t.0 < length b.terms) t ids a) i ∷ all_under b d c ids e (All-tail (λ t. t.0 < length b.terms) t ids a) i
-
 view_stays : (b d : Nodes) (s : Bindings) (c : Closing) (h : Head) (top : TermId) (ids : List TermId) → Extends b d → top.0 < length b.terms → All (λ t. t.0 < length b.terms) ids → IsHead b s h (tree b top.0) ids →
     view_of d c h top ids ≡ view_of b c h top ids
 view_stays b d s c (Head.Abstraction body) top ids e l a h = ap (λ t. an_abs (below c t)) (e.same_terms body.0 h.1)
-view_stays b d s c (Head.Variable x m) top ids e l a h = ap (flexible x m) (all_under b d c ids e a)
-view_stays b d s c Head.Rigid top ids e l a h = λ i. rigid (under_kept b d c top e l i) (all_under b d c ids e a i)
+view_stays b d s c (Head.Variable x m) top ids e l a h = ap (flexible x m) (unders_kept b d c ids e a)
+view_stays b d s c Head.Rigid top ids e l a h = λ i. rigid (under_kept b d c top e l i) (unders_kept b d c ids e a i)
 
 pub view_kept : (b d : Nodes) (s : Bindings) (c : Closing) (r : Looked) → Extends b d → IsLooked b s r → view d c r ≡ view b c r
 view_kept b d s c r e k = view_stays b d s c r.head r.top r.arguments.items e k.top k.arguments k.head
@@ -387,23 +384,16 @@ module _ (n next : ℕ) (p : Pair) (x l : ℕ) (ts us : List Term) where
   four_right_out level u Deep h k = λ m r q. let b = both_of r q in absurd (no_sides us level b.other (h m) k b.right)
   four_right_out level u refusal.Memory h k = tt
 
-pub length_map : {A B : Type 0} (f : A → B) (xs : List A) → length (map f xs) ≡ length xs
-length_map f [] = refl
-length_map f (x ∷ xs) = ap suc (length_map f xs)
-
 and_both : (a b d : Bool) → (a && b && d) ≡ true → (a ≡ true) × (b ≡ true) × (d ≡ true)
 and_both true true true e = (refl, refl, refl)
 and_both true true false e = absurd (cc)
 and_both true false d e = absurd (cc)
 and_both false b d e = absurd (cc)
 
-equal_of : (i j : ℕ) → nat_eq i j ≡ true → i ≡ j
-equal_of i j e = grind (arith, nat_tests)
-
 -- what the test for one variable tells
 pub one_of : (h g : Head) (i j : ℕ) → is_one_variable h g i j ≡ true → (x : ℕ) × (l : ℕ) × (h ≡ Head.Variable x l) × (g ≡ Head.Variable x l) × (i ≡ j)
 one_of (Head.Variable x l) (Head.Variable y k) i j e =
-    let w = and_both (nat_eq x y) (nat_eq l k) (nat_eq i j) e in (x, l, refl, (λ z. Head.Variable (sym (equal_of x y w.0) z) (sym (equal_of l k w.1) z)), equal_of i j w.2)
+    let w = and_both (nat_eq x y) (nat_eq l k) (nat_eq i j) e in (x, l, refl, (λ z. Head.Variable (sym (same_number x y w.0) z) (sym (same_number l k w.1) z)), same_number i j w.2)
 one_of (Head.Variable x l) (Head.Abstraction b) i j e = absurd (cc)
 one_of (Head.Variable x l) Head.Rigid i j e = absurd (cc)
 one_of (Head.Abstraction b) g i j e = absurd (cc)

@@ -1,13 +1,8 @@
 -- Banks and bindings that have grown twice.
 use Rattle.std.proofs.Common.{◌∙◌, List, [], ◌++◌, sym, ap}
 use Rattle.std.proofs.lemmas.List.{append_assoc, append-nil}
-use Rattle.lp_term.specs.Nodes.{Nodes, Extends}
-use Rattle.lp_term.proofs.Trees.{extends-trans}
 use Rattle.lp_pattern.specs.declared.bindings.Bindings.{Bindings}
 use Rattle.lp_pattern.specs.Growing.{GoesOn, Grows}
-
-pub kept_then : (a b c : Nodes) → Extends a b → Extends b c → Extends a c
-kept_then a b c e f = extends-trans a b c e f
 
 pub goes_on_same : {A : Type 0} (xs : List A) → GoesOn xs xs
 goes_on_same xs = ([], sym (append-nil xs))

@@ -2,17 +2,16 @@
 use Rattle.std.proofs.Common.{◌≡◌, ℕ, zero, suc, ◌+◌, List, [], ◌∷◌, ◌++◌, map, ◌∙◌, refl, sym, ap, arith, Option, Some, None}
 use Rattle.std.specs.Prelude.{option_map}
 use Rattle.std.proofs.lemmas.List.{append-nil}
-use Rattle.lp_calculus.specs.Types.{Ty}
 use Rattle.lp_calculus.specs.Term.{Term, index, atom, abs, app, apply, substitute, logic}
 use Rattle.lp_calculus.specs.Convert.{head_step, option_term, steps}
 use Rattle.lp_calculus.specs.Fill.{fill, at_variables}
-use Rattle.lp_calculus.specs.Instance.{instance_atom, instance_term}
+use Rattle.lp_calculus.specs.Instance.{instance_term}
 use Rattle.lp_calculus.proofs.Fills.{fill-substitute}
-use Rattle.lp_calculus.proofs.Commutations.{instance_fill}
 use Rattle.lp_term.specs.Spine.{IsNoRedexHead}
 use Rattle.lp_term.proofs.Spines.{normal_head}
 use Rattle.lp_model.specs.Pair.{Closing, closed}
 use Rattle.lp_model.specs.Look.{an_abs, looked, head_normal, look}
+use Rattle.lp_unify_laws.proofs.TypeInstances.{instance_substitute}
 use Rattle.lp_pattern.specs.Under.{below}
 use Rattle.lp_pattern.specs.Seen.{weak_step}
 
@@ -21,12 +20,8 @@ pub closed_apply : (c : Closing) (ts : List Term) (h : Term) → closed c (apply
 closed_apply c [] h = refl
 closed_apply c (t ∷ ts) h = closed_apply c ts (app h t)
 
-pub typed_substitute : (θ : ℕ → Ty) (u b : Term) → instance_term θ (substitute u b) ≡ substitute (instance_term θ u) (instance_term θ b)
-typed_substitute θ u b =
-    instance_fill θ (substitute u b) ∙ fill-substitute (λ a. atom (instance_atom θ a)) u b ∙ (λ i. substitute (sym (instance_fill θ u) i) (sym (instance_fill θ b) i))
-
 pub closed_substitute : (c : Closing) (u b : Term) → closed c (substitute u b) ≡ substitute (closed c u) (below c b)
-closed_substitute c u b = ap (fill (at_variables c.terms)) (typed_substitute c.types u b) ∙ fill-substitute (at_variables c.terms) (instance_term c.types u) (instance_term c.types b)
+closed_substitute c u b = ap (fill (at_variables c.terms)) (instance_substitute c.types u b) ∙ fill-substitute (at_variables c.terms) (instance_term c.types u) (instance_term c.types b)
 
 -- a step of a term is one of it on arguments, and a head step
 pub weak_apply : (ts : List Term) (t u s : Term) → weak_step (app t u) ≡ Some s → weak_step (apply (app t u) ts) ≡ Some (apply s ts)

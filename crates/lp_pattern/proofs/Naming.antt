@@ -40,7 +40,7 @@ leaf_head (atom a) h = refl
 leaf_head (abs b) h = absurd h
 leaf_head (app t u) h = absurd h
 
-leaf_weak : (t : Term) → IsLeaf t → weak_step t ≡ None
+pub leaf_weak : (t : Term) → IsLeaf t → weak_step t ≡ None
 leaf_weak (index i) h = refl
 leaf_weak (atom a) h = refl
 leaf_weak (abs b) h = absurd h
@@ -58,7 +58,7 @@ leaf_head_on (atom a) u h = refl
 leaf_head_on (abs b) u h = absurd h
 leaf_head_on (app t v) u h = absurd h
 
-leaf_weak_on : (t u : Term) → IsLeaf t → weak_step (app t u) ≡ None
+pub leaf_weak_on : (t u : Term) → IsLeaf t → weak_step (app t u) ≡ None
 leaf_weak_on (index i) u h = refl
 leaf_weak_on (atom a) u h = refl
 leaf_weak_on (abs b) u h = absurd h

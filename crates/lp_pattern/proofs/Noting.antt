@@ -21,7 +21,7 @@ fits_then false true fit e = absurd (cc)
 fits_then false false true e = refl
 fits_then false false false e = absurd (cc)
 
-or_false : (o : Bool) → o ≡ (o || false)
+pub or_false : (o : Bool) → o ≡ (o || false)
 or_false true = refl
 or_false false = refl
 

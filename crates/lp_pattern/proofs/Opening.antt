@@ -13,6 +13,7 @@ use Rattle.lp_term.specs.Nodes.{Nodes, Extends, tree}
 use Rattle.lp_term.specs.declared.node.TermId.{TermId}
 use Rattle.lp_model.specs.Pair.{Closing, closed}
 use Rattle.lp_model.specs.Look.{Look, an_abs, rigid, flexible, looked}
+use Rattle.lp_term.proofs.Walks.{map_map}
 use Rattle.lp_pattern.specs.declared.bindings.Bindings.{Bindings}
 use Rattle.lp_pattern.specs.declared.look.Head.{Head}
 use Rattle.lp_pattern.specs.declared.look.Looked.{Looked}
@@ -22,7 +23,7 @@ use Rattle.lp_pattern.specs.Stripping.{opens, IsShut, read_at}
 use Rattle.lp_pattern.specs.TopLooks.{top_normal, top_look}
 use Rattle.std.proofs.lemmas.List.{append-nil}
 use Rattle.lp_pattern.proofs.Looking.{closed_apply, looked_apply}
-use Rattle.lp_pattern.proofs.Naming.{IsLeaf, AreLeaves, weak_named, steps_named, subst_apply}
+use Rattle.lp_pattern.proofs.Naming.{IsLeaf, AreLeaves, weak_named, steps_named, subst_apply, leaf_weak, leaf_weak_on}
 use Rattle.lp_pattern.proofs.Stacks.{under_kept}
 
 pub opens_leaves : (l d : ℕ) → AreLeaves (opens l d)
@@ -77,37 +78,21 @@ read_reached b d c l k n t s e = steps_named weak_step (opens l k) (weak_named (
 pub read_kept : (b d : Nodes) (c : Closing) (l k : ℕ) (t : TermId) → Extends b d → t.0 < length b.terms → read_at d c l k t ≡ read_at b c l k t
 read_kept b d c l k t e h = ap (subst (opens l k)) (under_kept b d c t e h)
 
-map_after : {A B C : Type 0} (g : B → C) (f : A → B) (xs : List A) → map g (map f xs) ≡ map (λ x. g (f x)) xs
-map_after g f [] = refl
-map_after g f (x ∷ xs) = ap (λ l. g (f x) ∷ l) (map_after g f xs)
-
 -- the whole of what was looked at: its head on its arguments
 pub read_whole : (b : Nodes) (s : Bindings) (c : Closing) (l k : ℕ) (r : Looked) → IsLooked b s r → read_at b c l k r.whole ≡ apply (read_at b c l k r.top) (map (read_at b c l k) r.arguments.items)
 read_whole b s c l k r h =
     ap (λ t. subst (opens l k) (closed c t)) h.made ∙ ap (subst (opens l k)) (closed_apply c (map (λ t. tree b t.0) r.arguments.items) (tree b r.top.0)) ∙
     subst_apply (opens l k) (map (closed c) (map (λ t. tree b t.0) r.arguments.items)) (under b c r.top) ∙
-    ap (apply (read_at b c l k r.top)) (map_after (subst (opens l k)) (closed c) (map (λ t. tree b t.0) r.arguments.items) ∙ map_after (λ t. subst (opens l k) (closed c t)) (λ t. tree b t.0) r.arguments.items)
+    ap (apply (read_at b c l k r.top)) (map_map (subst (opens l k)) (closed c) (map (λ t. tree b t.0) r.arguments.items) ∙ map_map (λ t. subst (opens l k) (closed c t)) (λ t. tree b t.0) r.arguments.items)
 
 -- the step of a leaf on arguments
 spine_none : (ts : List Term) (h t : Term) → weak_step (app h t) ≡ None → weak_step (apply (app h t) ts) ≡ None
 spine_none [] h t e = e
 spine_none (u ∷ ts) h t e = spine_none ts (app h t) u (ap (λ (o : Option Term). elim o as (λ z. Option Term) [ None ↦ None | Some s ↦ Some (app s u) ]) e)
 
-leaf_none : (h : Term) → IsLeaf h → weak_step h ≡ None
-leaf_none (index i) l = refl
-leaf_none (atom a) l = refl
-leaf_none (abs b) l = absurd l
-leaf_none (app t u) l = absurd l
-
-leaf_on_none : (h u : Term) → IsLeaf h → weak_step (app h u) ≡ None
-leaf_on_none (index i) u l = refl
-leaf_on_none (atom a) u l = refl
-leaf_on_none (abs b) u l = absurd l
-leaf_on_none (app t v) u l = absurd l
-
 weak_leaf : (ts : List Term) (h : Term) → IsLeaf h → weak_step (apply h ts) ≡ None
-weak_leaf [] h l = leaf_none h l
-weak_leaf (t ∷ ts) h l = spine_none ts h t (leaf_on_none h t l)
+weak_leaf [] h l = leaf_weak h l
+weak_leaf (t ∷ ts) h l = spine_none ts h t (leaf_weak_on h t l)
 
 -- what a look at the top comes to
 reached_same : (m p : ℕ) (t x v : Term) → top_normal m t ≡ Some x → steps weak_step p t ≡ Some v → weak_step v ≡ None → x ≡ v

@@ -30,16 +30,13 @@ use Rattle.lp_pattern.proofs.Judging.{pair_kept}
 use Rattle.lp_pattern.proofs.Looking.{steps_on, steps_then}
 use Rattle.lp_pattern.proofs.PairsThrough.{within_typed, within_reached}
 use Rattle.lp_pattern.proofs.Stacks.{under_kept}
-use Rattle.lp_pattern.proofs.Walking.{reading_kept}
+use Rattle.lp_pattern.proofs.Walking.{open_kept}
 
 pub on_two : {T E : Type 0} (r : Result T E) (P Q R : Type 0) → (P → Q → R) → OnOk r P → OnOk r Q → OnOk r R
 on_two (Ok x) P Q R f h k = f h k
 on_two (Err e) P Q R f h k = h
 
 -- a reading in a bank that has grown
-pub open_kept : (b d : Nodes) (s : Bindings) (next : ℕ) (c : Closing) → Extends b d → IsOpenReading b s next c → IsOpenReading d s next c
-open_kept b d s next c e i = record { reading = reading_kept b d s c e i.reading; shut = i.shut; still = i.still; unbound = i.unbound }
-
 -- the variables of arguments are those of the whole
 abbrev pub EachKnown : Nodes → Closing → (ℕ → ℕ) → ℕ → List TermId → Type 0
 EachKnown b c lv n [] = Unit {0}

@@ -14,12 +14,12 @@ use Rattle.lp_model.specs.Types.{TypeBinding, one_type}
 use Rattle.lp_model.specs.Pair.{Pair, Closing, put_pair, put_type_in, put_types_in, type_pair}
 use Rattle.lp_model.specs.Unify.{put_pairs, type_pairs_in}
 use Rattle.lp_model.specs.declared.answer.Pair.{Pair as Numbers}
+use Rattle.lp_unify_laws.proofs.TypeInstances.{instance_substitute}
 use Rattle.lp_pattern.specs.Growing.{IsPairOf}
 use Rattle.lp_pattern.specs.Pruning.{Known}
 use Rattle.lp_pattern.specs.Seen.{weak_step}
 use Rattle.lp_pattern.specs.Turning.{IsKnownPair, AreKnownPairs, IsReachedAs, IsPairFor, ArePairsFor}
 use Rattle.lp_pattern.specs.Under.{under}
-use Rattle.lp_pattern.proofs.Looking.{typed_substitute}
 use Rattle.lp_pattern.proofs.PruneSteps.{weak_reduces}
 use Rattle.lp_pattern.proofs.Stacks.{under_kept}
 
@@ -32,7 +32,7 @@ weak_typed : (θ : ℕ → Ty) (t : Term) → weak_step (instance_term θ t) ≡
 weak_typed θ (index i) = refl
 weak_typed θ (atom a) = refl
 weak_typed θ (abs b) = refl
-weak_typed θ (app (abs b) u) = ap (λ x. Some x) (sym (typed_substitute θ u b))
+weak_typed θ (app (abs b) u) = ap (λ x. Some x) (sym (instance_substitute θ u b))
 weak_typed θ (app (index i) u) = refl
 weak_typed θ (app (atom a) u) = refl
 weak_typed θ (app (app t v) u) =

@@ -15,6 +15,7 @@ use Rattle.lp_term.proofs.Openings.{all_reverse}
 use Rattle.lp_model.specs.Look.{flexible, pattern_of}
 use Rattle.lp_model.specs.Pair.{Closing, closed}
 use Rattle.lp_model.specs.Scan.{Side, Pattern, pattern, fits, Pruned, prune, renewal}
+use Rattle.lp_lemmas.proofs.Elements.{All_popped}
 use Rattle.lp_pattern.specs.declared.bindings.Bindings.{Bindings}
 use Rattle.lp_pattern.specs.declared.look.Head.{Head}
 use Rattle.lp_pattern.specs.declared.look.Looked.{Looked}
@@ -41,7 +42,6 @@ use Rattle.lp_pattern.proofs.Refits.{Any, scanned_clean, open_clean, renewal_sta
 use Rattle.lp_pattern.proofs.Scannings.{visits_kept, pushed_known}
 use Rattle.lp_pattern.proofs.SettleSteps.{top_variable}
 use Rattle.lp_pattern.proofs.Stacks.{under_kept}
-use Rattle.lp_pattern.proofs.Tops.{popped_known}
 use Rattle.lp_pattern.proofs.Walking.{reading_kept}
 
 -- what is left, the last one first
@@ -113,7 +113,7 @@ pub look_prunes : (s : Side) (b d : Nodes) (bs : Bindings) (next limit : ℕ) (l
     Prunes s b d bs bs next next (left ++ v ∷ []) (left ++ visit_at v q.whole ∷ [])
 look_prunes s b d bs next limit left v q e k x l o most term r h =
     let g = pruning_kept s o most b d bs next term (left ++ v ∷ []) r e h in
-    let a = popped_known (IsVisitOf (length b.terms) s.pair) (left ++ v ∷ []) left v refl h.inside in
+    let a = All_popped (IsVisitOf (length b.terms) s.pair) (left ++ v ∷ []) left v refl h.inside in
     let w = x h.closing h.reading in
     moved s o most d bs next term (left ++ v ∷ []) (left ++ visit_at v q.whole ∷ []) r g
     (All-push (IsVisitOf (length d.terms) s.pair) left (visit_at v q.whole) (visits_kept b d s.pair left e a.0) (k.known, a.1.1))
@@ -127,7 +127,7 @@ abstraction_read b s c l k r body h i q = ap (subst (opens l k)) (abstraction_wh
 pub body_prunes : (s : Side) (b : Nodes) (bs : Bindings) (next : ℕ) (left left' : List Visit) (v inner : Visit) (q : Looked) (body : TermId) → IsLooked b bs q → q.head ≡ Head.Abstraction body → inner.term ≡ body → inner.opened.level ≡ v.opened.level →
     inner.opened.depth ≡ suc v.opened.depth → left' ≡ left ++ inner ∷ [] → Prunes s b b bs bs next next (left ++ visit_at v q.whole ∷ []) left'
 body_prunes s b bs next left left' v inner q body k g e x y z l o most term r h =
-    let a = popped_known (IsVisitOf (length b.terms) s.pair) (left ++ visit_at v q.whole ∷ []) left (visit_at v q.whole) refl h.inside in
+    let a = All_popped (IsVisitOf (length b.terms) s.pair) (left ++ visit_at v q.whole ∷ []) left (visit_at v q.whole) refl h.inside in
     let n : IsHead b bs (Head.Abstraction body) (tree b q.top.0) q.arguments.items = transport (λ y. IsHead b bs y (tree b q.top.0) q.arguments.items) g k.head in
     let last_is : inner.opened.level + inner.opened.depth ≡ suc (v.opened.level + v.opened.depth) = omega (arith, x, y) in
     let term_is : read_at b h.closing inner.opened.level inner.opened.depth inner.term ≡ substitute (atom (eigen (suc (v.opened.level + v.opened.depth)))) (subst (up (opens v.opened.level v.opened.depth)) (under b h.closing body)) =
@@ -168,7 +168,7 @@ outers_pushed b c v ids left left' q =
 pub rigid_prunes : (s : Side) (b : Nodes) (bs : Bindings) (next : ℕ) (left left' : List Visit) (v : Visit) (q : Looked) → IsLooked b bs q → q.head ≡ Head.Rigid → left' ≡ left ++ reverse (visits v false q.arguments.items) →
     Prunes s b b bs bs next next (left ++ visit_at v q.whole ∷ []) left'
 rigid_prunes s b bs next left left' v q k g z l o most term r h =
-    let a = popped_known (IsVisitOf (length b.terms) s.pair) (left ++ visit_at v q.whole ∷ []) left (visit_at v q.whole) refl h.inside in
+    let a = All_popped (IsVisitOf (length b.terms) s.pair) (left ++ visit_at v q.whole ∷ []) left (visit_at v q.whole) refl h.inside in
     let i : IsRigid (tree b q.top.0) = transport (λ y. IsHead b bs y (tree b q.top.0) q.arguments.items) g k.head in
     moved s o most b bs next term (left ++ visit_at v q.whole ∷ []) left' r h (pushed_known (length b.terms) s.pair v false q.arguments.items left left' a.1.1 k.arguments a.0 z)
     (pass_rigid (v.opened.level + v.opened.depth) 0 (read_at b h.closing v.opened.level v.opened.depth q.whole) (read_at b h.closing v.opened.level v.opened.depth q.top)
@@ -205,7 +205,7 @@ module _ (s : Side) (o : Start) (most : ℕ) (b : Nodes) (bs : Bindings) (next x
   whole_term = under b h.closing term
 
   known_left : All (IsVisitOf (length b.terms) s.pair) left × IsVisitOf (length b.terms) s.pair (visit_at v q.whole)
-  known_left = popped_known (IsVisitOf (length b.terms) s.pair) (left ++ visit_at v q.whole ∷ []) left (visit_at v q.whole) refl h.inside
+  known_left = All_popped (IsVisitOf (length b.terms) s.pair) (left ++ visit_at v q.whole ∷ []) left (visit_at v q.whole) refl h.inside
 
   here : Passed s (outer s.pair whole_term ∷ []) (outer level part ∷ outers_of b h.closing left)
   here = front_passed s o most b bs next term left (visit_at v q.whole) r h

@@ -13,6 +13,7 @@ use Rattle.lp_model.specs.Eigens.{eigen_of, as_eigen}
 use Rattle.lp_model.specs.Look.{Look, rigid, flexible, looked, as_eigens, pattern_of}
 use Rattle.lp_model.specs.Patterns.{eigens, member, chosen}
 use Rattle.lp_model.specs.Scan.{Side, is_side, allows, allow, allows_head, Pattern, pattern, pattern_term, fits, Scanned, broken, whole, above, beside, scanned_pattern, renewal}
+use Rattle.lp_lemmas.proofs.Booleans.{and_true_left, and_true_right}
 use Rattle.lp_pattern.specs.Behind.{at_number}
 use Rattle.lp_pattern.specs.Cleaning.{MayStand, IsClean, IsFit}
 use Rattle.lp_pattern.specs.Scanning.{all_fit}
@@ -64,14 +65,6 @@ or_second : (a b : Bool) → false ≡ (a || b) → b ≡ false
 or_second true b e = absurd (cc)
 or_second false b e = sym e
 
-and_first : (a b : Bool) → (a && b) ≡ true → a ≡ true
-and_first true b e = refl
-and_first false b e = absurd (cc)
-
-and_second : (a b : Bool) → (a && b) ≡ true → b ≡ true
-and_second true b e = e
-and_second false b e = absurd (cc)
-
 whole_units : (u v : ℕ) (d e : Bool) (ps qs : List Pattern) → whole u d ps ≡ whole v e qs → (d ≡ e) × (ps ≡ qs)
 whole_units u v d e ps qs q = (cc, cc)
 
@@ -102,7 +95,7 @@ fit_front s (p ∷ ps) qs e = go (fits s p) e (fit_front s ps qs)
 
 pub fit_back : (s : Side) (ps qs : List Pattern) → all_fit s (ps ++ qs) ≡ true → all_fit s qs ≡ true
 fit_back s [] qs e = e
-fit_back s (p ∷ ps) qs e = fit_back s ps qs (and_second (fits s p) (all_fit s (ps ++ qs)) e)
+fit_back s (p ∷ ps) qs e = fit_back s ps qs (and_true_right (fits s p) (all_fit s (ps ++ qs)) e)
 
 -- a name that comes to an allowed eigenconstant
 clean_name : (base : ℕ) (s : Side) (d k : ℕ) (y : Term) → Some k ≡ eigen_of (subst (opens base d) y) → allows s k ≡ true → IsClean s d y
@@ -135,7 +128,7 @@ named_all limit base s d (t ∷ ts) b e a = let w = from_bind _ (as_eigen limit 
     more k (Some js) q p x f =
         let z : b ≡ k ∷ js = cc in
         let y : (allows s k && allow s js) ≡ true = ap (allow s) (sym z) ∙ a in
-        clean_more (named_one limit base s d k t q (and_first (allows s k) (allow s js) y)) (f js p (and_second (allows s k) (allow s js) y))
+        clean_more (named_one limit base s d k t q (and_true_left (allows s k) (allow s js) y)) (f js p (and_true_right (allows s k) (allow s js) y))
 
     go : (o : Option ℕ) → as_eigen limit (subst (opens base d) t) ≡ Some o →
         (elim o as (λ z. Option (Option (List ℕ))) [ None ↦ Some None | Some k ↦ option_map (option_map (λ ks. k ∷ ks)) (as_eigens limit (map (subst (opens base d)) ts)) ]) ≡ Some (Some b) →
@@ -185,9 +178,9 @@ good_pattern s false y m w b ps e f = go (is_side s y m) refl e
     go true q x = absurd (cc)
     go false q x =
         let z = whole_units 1 w false false (pattern y m b ∷ []) ps x in
-        let v : (nat_le m s.level && allow s b) ≡ true = and_first (nat_le m s.level && allow s b) true (ap (all_fit s) z.1 ∙ f) in
-        let k : nat_le m s.level ≡ true = and_first (nat_le m s.level) (allow s b) v in
-        record { other = q; low = (let n : nat_lt s.level m ≡ false = grind (arith, nat_tests) in n); allowed = and_second (nat_le m s.level) (allow s b) v }
+        let v : (nat_le m s.level && allow s b) ≡ true = and_true_left (nat_le m s.level && allow s b) true (ap (all_fit s) z.1 ∙ f) in
+        let k : nat_le m s.level ≡ true = and_true_left (nat_le m s.level) (allow s b) v in
+        record { other = q; low = (let n : nat_lt s.level m ≡ false = grind (arith, nat_tests) in n); allowed = and_true_right (nat_le m s.level) (allow s b) v }
 
 module _ (limit base : ℕ) (s : Side) where
   abbrev Cleans : ℕ → Type 0
@@ -386,7 +379,7 @@ within_abstracted s (c ∷ cs) t w = within_fill (MayStand s) (MayStand s) (inde
 
 within_pattern : (s : Side) (cs : List ℕ) (h : Term) → Within (MayStand s) 0 h → allow s cs ≡ true → Within (MayStand s) 0 (apply h (eigens cs))
 within_pattern s [] h w e = w
-within_pattern s (c ∷ cs) h w e = within_pattern s cs (app h (atom (eigen c))) (w, and_first (allows s c) (allow s cs) e) (and_second (allows s c) (allow s cs) e)
+within_pattern s (c ∷ cs) h w e = within_pattern s cs (app h (atom (eigen c))) (w, and_true_left (allows s c) (allow s cs) e) (and_true_right (allows s c) (allow s cs) e)
 
 allow_both : (s : Side) (xs ys : List ℕ) → allow s xs ≡ true → allow s ys ≡ true → allow s (xs ++ ys) ≡ true
 allow_both s [] ys e f = f

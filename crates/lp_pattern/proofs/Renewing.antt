@@ -1,6 +1,6 @@
 -- Values of variables on distinct eigenconstants: the abstraction of the eigenconstants over a new variable on some of them.
 use Rattle.std.proofs.Common.{◌≡◌, ℕ, zero, suc, ◌-◌, ◌≤◌, List, [], ◌∷◌, ◌++◌, map, length, ◌∙◌, refl, sym, ap, arith, Bool, true, false, nat_eq, ◌||◌, if◌then◌else◌}
-use Rattle.std.specs.Prelude.{◌&&◌, ◌+◌, min, nat_le, nat_lt, not}
+use Rattle.std.specs.Prelude.{◌+◌, min, nat_le, nat_lt, not}
 use Rattle.std.proofs.lemmas.Bool.Decides.{nat_tests}
 use Rattle.std.proofs.lemmas.List.{map-append}
 use Rattle.lp_calculus.specs.Term.{Term, Atom, index, atom, abs, app, apply, shift, eigen, logic}
@@ -9,6 +9,9 @@ use Rattle.lp_term.specs.Spine.{abstractions}
 use Rattle.lp_model.specs.Patterns.{eigens, member, chosen, agreeing}
 use Rattle.lp_model.specs.Look.{are_distinct, are_above}
 use Rattle.lp_model.specs.Scan.{Side, allows, pattern, renewal}
+use Rattle.lp_term.proofs.Walks.{map_map}
+use Rattle.lp_lemmas.proofs.Booleans.{or_false_left, or_false_right, and_true_left, and_true_right, or_true_left}
+use Rattle.lp_lemmas.proofs.Numbers.{nat_eq_self}
 use Rattle.lp_pattern.specs.Scanning.{allowed_places, agreeing_places}
 
 -- below n abstractions
@@ -64,10 +67,6 @@ eigens_map : (ks : List ℕ) → eigens ks ≡ map (λ k. atom (eigen k)) ks
 eigens_map [] = refl
 eigens_map (k ∷ ks) = ap (λ l. atom (eigen k) ∷ l) (eigens_map ks)
 
-map_after : {A B C : Type 0} (g : B → C) (f : A → B) (xs : List A) → map g (map f xs) ≡ map (λ x. g (f x)) xs
-map_after g f [] = refl
-map_after g f (x ∷ xs) = ap (λ l. g (f x) ∷ l) (map_after g f xs)
-
 mutual
   unfolding placed
 
@@ -79,25 +78,9 @@ mutual
       abs_inside (length cs) (fill (raises (length cs) (indexed c)) (apply (atom (logic x l)) (map (placed cs) ks))) ∙
       ap (λ t. abstractions (length cs) (abs t))
       (fill_apply (raises (length cs) (indexed c)) (map (placed cs) ks) (atom (logic x l)) ∙
-      (λ i. apply (raises_logic (length cs) c x l i) (map_after (fill (raises (length cs) (indexed c))) (placed cs) ks i)))
+      (λ i. apply (raises_logic (length cs) c x l i) (map_map (fill (raises (length cs) (indexed c))) (placed cs) ks i)))
 
 -- members
-or_left : (a b : Bool) → (a || b) ≡ false → a ≡ false
-or_left true b e = absurd (cc)
-or_left false b e = refl
-
-or_right : (a b : Bool) → (a || b) ≡ false → b ≡ false
-or_right true b e = absurd (cc)
-or_right false b e = e
-
-pub and_first : (a b : Bool) → (a && b) ≡ true → a ≡ true
-and_first true b e = refl
-and_first false b e = absurd (cc)
-
-pub and_second : (a b : Bool) → (a && b) ≡ true → b ≡ true
-and_second true b e = e
-and_second false b e = absurd (cc)
-
 pub not_true : (a : Bool) → not a ≡ true → a ≡ false
 not_true true e = absurd (cc)
 not_true false e = refl
@@ -108,8 +91,8 @@ mutual
   placed_not : (cs : List ℕ) (k : ℕ) → member k cs ≡ false → placed cs k ≡ atom (eigen k)
   placed_not [] k e = refl
   placed_not (c ∷ cs) k e =
-      ap (fill (raises (length cs) (indexed c))) (placed_not cs k (or_right (nat_eq k c) (member k cs) e)) ∙ raises_eigen (length cs) c k ∙
-      ap (λ b. if b then index (length cs) else atom (eigen k)) (or_left (nat_eq k c) (member k cs) e)
+      ap (fill (raises (length cs) (indexed c))) (placed_not cs k (or_false_right (nat_eq k c) (member k cs) e)) ∙ raises_eigen (length cs) c k ∙
+      ap (λ b. if b then index (length cs) else atom (eigen k)) (or_false_left (nat_eq k c) (member k cs) e)
 
 mutual
   unfolding placed
@@ -118,10 +101,6 @@ mutual
   placed_first c cs e =
       let q : nat_eq c c ≡ true = grind (arith, nat_tests) in
       ap (fill (raises (length cs) (indexed c))) (placed_not cs c e) ∙ raises_eigen (length cs) c c ∙ ap (λ b. if b then index (length cs) else atom (eigen c)) q
-
-first_of : (a b : Bool) → (a || b) ≡ true → b ≡ false → a ≡ true
-first_of true b p q = refl
-first_of false b p q = absurd (let x : false ≡ true = sym q ∙ p in cc)
 
 mutual
   unfolding placed
@@ -135,7 +114,7 @@ mutual
       go false h f = (
         length cs,
         ap (fill (raises (length cs) (indexed c))) (placed_not cs k h) ∙ raises_eigen (length cs) c k ∙
-            ap (λ b. if b then index (length cs) else atom (eigen k)) (first_of (nat_eq k c) (member k cs) e h),
+            ap (λ b. if b then index (length cs) else atom (eigen k)) (or_true_left (nat_eq k c) (member k cs) e h),
       )
 
 mutual
@@ -144,15 +123,12 @@ mutual
   placed_more : (c : ℕ) (cs : List ℕ) (k : ℕ) → member k cs ≡ true → placed (c ∷ cs) k ≡ placed cs k
   placed_more c cs k e = let w = placed_in cs k e in ap (fill (raises (length cs) (indexed c))) w.1 ∙ sym w.1
 
-equal_self : (k : ℕ) → nat_eq k k ≡ true
-equal_self k = grind (arith, nat_tests)
-
 or_true : (a : Bool) → (a || true) ≡ true
 or_true true = refl
 or_true false = refl
 
 member_first : (k : ℕ) (ks : List ℕ) → member k (k ∷ ks) ≡ true
-member_first k ks = ap (λ b. b || member k ks) (equal_self k)
+member_first k ks = ap (λ b. b || member k ks) (nat_eq_self k)
 
 member_behind : (j k : ℕ) (ks : List ℕ) → member j ks ≡ true → member j (k ∷ ks) ≡ true
 member_behind j k ks e = ap (λ b. nat_eq j k || b) e ∙ or_true (nat_eq j k)
@@ -169,9 +145,9 @@ same_chosen f g p (k ∷ ks) h = go (p k) (same_chosen f g p ks (λ j e. h j (me
 high_not : (m : ℕ) (cs : List ℕ) (k : ℕ) → are_above m cs ≡ true → k ≤ m → member k cs ≡ false
 high_not m [] k e l = refl
 high_not m (c ∷ cs) k e l =
-    let q : nat_lt m c ≡ true = and_first (nat_lt m c) (are_above m cs) e in
+    let q : nat_lt m c ≡ true = and_true_left (nat_lt m c) (are_above m cs) e in
     let n : nat_eq k c ≡ false = grind (arith, nat_tests) in
-    ap (λ b. b || member k cs) n ∙ high_not m cs k (and_second (nat_lt m c) (are_above m cs) e) l
+    ap (λ b. b || member k cs) n ∙ high_not m cs k (and_true_right (nat_lt m c) (are_above m cs) e) l
 
 low_places : (m : ℕ) (cs is : List ℕ) → are_above m cs ≡ true → map (placed cs) (chosen (λ k. nat_le k m) is) ≡ eigens (chosen (λ k. nat_le k m) is)
 low_places m cs [] e = refl
@@ -185,7 +161,7 @@ low_places m cs (a ∷ is) e = go (nat_le a m) refl (low_places m cs is e)
 -- the places of those that stay
 pub chosen_places : (s : Side) (cs : List ℕ) → are_distinct cs ≡ true → map (placed cs) (chosen (allows s) cs) ≡ allowed_places s (length cs) cs
 chosen_places s [] e = refl
-chosen_places s (c ∷ cs) e = go (allows s c) (chosen_places s cs (and_second (not (member c cs)) (are_distinct cs) e))
+chosen_places s (c ∷ cs) e = go (allows s c) (chosen_places s cs (and_true_right (not (member c cs)) (are_distinct cs) e))
   where
     behind : map (placed (c ∷ cs)) (chosen (allows s) cs) ≡ map (placed cs) (chosen (allows s) cs)
     behind = same_chosen (placed (c ∷ cs)) (placed cs) (allows s) cs (λ k q. placed_more c cs k q)
@@ -196,7 +172,7 @@ chosen_places s (c ∷ cs) e = go (allows s c) (chosen_places s cs (and_second (
     go : (b : Bool) → map (placed cs) (chosen (allows s) cs) ≡ allowed_places s (length cs) cs →
         map (placed (c ∷ cs)) (if b then c ∷ chosen (allows s) cs else chosen (allows s) cs) ≡
         (if b then index (suc (length cs) - 1) ∷ allowed_places s (suc (length cs) - 1) cs else allowed_places s (suc (length cs) - 1) cs)
-    go true ih = λ i. (placed_first c cs (not_true (member c cs) (and_first (not (member c cs)) (are_distinct cs) e)) ∙ ap index (sym one_less)) i ∷
+    go true ih = λ i. (placed_first c cs (not_true (member c cs) (and_true_left (not (member c cs)) (are_distinct cs) e)) ∙ ap index (sym one_less)) i ∷
         (behind ∙ ih ∙ ap (λ n. allowed_places s n cs) (sym one_less)) i
     go false ih = behind ∙ ih ∙ ap (λ n. allowed_places s n cs) (sym one_less)
 
@@ -225,7 +201,7 @@ same_agreeing c cs bs = same_agreed (placed (c ∷ cs)) (placed cs) cs bs (λ k 
 pub agreed_places : (is bs : List ℕ) → are_distinct is ≡ true → map (placed is) (agreeing is bs) ≡ agreeing_places (length is) is bs
 agreed_places [] bs e = refl
 agreed_places (c ∷ cs) [] e = refl
-agreed_places (c ∷ cs) (b ∷ bs) e = go (nat_eq c b) (agreed_places cs bs (and_second (not (member c cs)) (are_distinct cs) e))
+agreed_places (c ∷ cs) (b ∷ bs) e = go (nat_eq c b) (agreed_places cs bs (and_true_right (not (member c cs)) (are_distinct cs) e))
   where
     one_less : suc (length cs) - 1 ≡ length cs
     one_less = omega arith
@@ -233,7 +209,7 @@ agreed_places (c ∷ cs) (b ∷ bs) e = go (nat_eq c b) (agreed_places cs bs (an
     go : (t : Bool) → map (placed cs) (agreeing cs bs) ≡ agreeing_places (length cs) cs bs →
         map (placed (c ∷ cs)) (if t then c ∷ agreeing cs bs else agreeing cs bs) ≡
         (if t then index (suc (length cs) - 1) ∷ agreeing_places (suc (length cs) - 1) cs bs else agreeing_places (suc (length cs) - 1) cs bs)
-    go true ih = λ i. (placed_first c cs (not_true (member c cs) (and_first (not (member c cs)) (are_distinct cs) e)) ∙ ap index (sym one_less)) i ∷
+    go true ih = λ i. (placed_first c cs (not_true (member c cs) (and_true_left (not (member c cs)) (are_distinct cs) e)) ∙ ap index (sym one_less)) i ∷
         (same_agreeing c cs bs ∙ ih ∙ ap (λ n. agreeing_places n cs bs) (sym one_less)) i
     go false ih = same_agreeing c cs bs ∙ ih ∙ ap (λ n. agreeing_places n cs bs) (sym one_less)
 

@@ -15,7 +15,3 @@ if_err (Err e) P Q f h = f e h
 pub err_and : {T E : Type 0} (r : Result T E) (P Q : E → Type 0) → IsErrAnd r P → ((e : E) → P e → Q e) → IfErr r Q
 err_and (Ok x) P Q h f = tt
 err_and (Err e) P Q h f = f e h
-
-pub if_two : {T E : Type 0} (r : Result T E) (P Q R : T → Type 0) → ((x : T) → P x → Q x → R x) → IfOk r P → IfOk r Q → IfOk r R
-if_two (Ok x) P Q R f h g = f x h g
-if_two (Err e) P Q R f h g = h

@@ -8,6 +8,8 @@ use Rattle.lp_model.specs.Pair.{Pair, Closing}
 use Rattle.lp_model.specs.Rule.{Ruled, rule}
 use Rattle.lp_model.specs.Unify.{Unified}
 use Rattle.lp_model.specs.declared.answer.Pair.{Pair as Numbers}
+use Rattle.lp_lemmas.proofs.Booleans.{or_assoc}
+use Rattle.lp_unify_laws.proofs.Sames.{same_number}
 use Rattle.lp_pattern.specs.declared.bindings.Bindings.{Bindings}
 use Rattle.lp_pattern.specs.declared.fault.PatternRefusal.{PatternRefusal}
 use Rattle.lp_pattern.specs.declared.fault.PatternRefusal.TheVariants as refusal
@@ -19,10 +21,6 @@ use Rattle.lp_pattern.specs.Turns.{Began, LeadsTo, IsBoundSince, ComesTo}
 use Rattle.lp_pattern.specs.Under.{IsReading}
 use Rattle.lp_pattern.specs.Unifying.{IsSolutionUnder, IsRefusedAs}
 use Rattle.lp_pattern.proofs.RunTurns.{waiting_behind, taken_turn, refused_turn, none_left, woken, ended}
-
-or_then : (a b c : Bool) → ((a || b) || c) ≡ (a || (b || c))
-or_then true b c = refl
-or_then false b c = refl
 
 since_then : (x y : Bool) (r s t : Bindings) → IsBoundSince x r s → IsBoundSince y s t → IsBoundSince (x || y) r t
 since_then false false r s t a b = (b.0 ∙ a.0, b.1 ∙ a.1)
@@ -51,7 +49,7 @@ module _ (limit : ℕ) (o : Began) (n : ℕ) (u : Unified) (bound : Bool) (start
         k.0 || w.0,
         since_then k.0 w.0 start s s' k.1 w.1,
         transport (λ ws. LeadsTo limit o n u d s' next' left (reverse new) ws (bound || (k.0 || w.0))) l
-            (transport (LeadsTo limit o n u d s' next' left (reverse new) (waiting_behind v waiting)) (or_then bound k.0 w.0) w.2),
+            (transport (LeadsTo limit o n u d s' next' left (reverse new) (waiting_behind v waiting)) (or_assoc bound k.0 w.0) w.2),
       )
 
   pub turn_spent : (e : PatternRefusal) → (e ≡ refusal.Deep) × (units ≡ 0) → IsRefusedAs e n u
@@ -67,9 +65,6 @@ one_of false false (inl e) = e
 one_of false false (inr e) = e
 
 -- two marks tell whether something was bound between
-equal_of : (i j : ℕ) → nat_eq i j ≡ true → i ≡ j
-equal_of i j e = grind (arith, nat_tests)
-
 pub marks_tell : (x since : Bool) (s s' : Bindings) (t t' y y' : ℕ) → x ≡ not (nat_eq t' t && nat_eq y' y) → t ≡ length s.terms.entries → t' ≡ length s'.terms.entries → y ≡ length s.types.entries → y' ≡ length s'.types.entries → IsBoundSince since s s' → since ≡ x
 marks_tell x false s s' t t' y y' e a a' b b' h =
     let p : t' ≡ t = a' ∙ h.0 ∙ sym a in
@@ -80,7 +75,7 @@ marks_tell x false s s' t t' y y' e a a' b b' h =
 marks_tell x true s s' t t' y y' e a a' b b' h = go (nat_eq t' t) (nat_eq y' y) refl refl
   where
     go : (v w : Bool) → nat_eq t' t ≡ v → nat_eq y' y ≡ w → true ≡ x
-    go true true i j = let p = equal_of t' t i in let q = equal_of y' y j in absurd (omega (arith, a, a', b, b', h, p, q))
+    go true true i j = let p = same_number t' t i in let q = same_number y' y j in absurd (omega (arith, a, a', b, b', h, p, q))
     go true false i j = sym (e ∙ (λ k. not (i k && j k)))
     go false w i j = sym (e ∙ (λ k. not (i k && j k)))
 

@@ -4,13 +4,15 @@ use Rattle.std.specs.Prelude.{All, ◌||◌}
 use Rattle.std.proofs.lemmas.List.{reverse-append, reverse-reverse}
 use Rattle.std.proofs.lemmas.List.Elements.{All-tail, All-append, All-push}
 use Rattle.lp_calculus.specs.Term.{Term}
-use Rattle.lp_calculus.specs.Fill.{Within, Binding, put, put_all}
+use Rattle.lp_calculus.specs.Fill.{Within, Binding, put_all}
 use Rattle.lp_term.specs.Nodes.{Nodes, Extends, tree}
 use Rattle.lp_term.specs.declared.node.TermId.{TermId}
 use Rattle.lp_model.specs.Types.{TypeBinding}
-use Rattle.lp_model.specs.Pair.{Pair, Closing, closed, put_type_in, put_types_in}
+use Rattle.lp_model.specs.Pair.{Pair, Closing, closed, put_types_in}
 use Rattle.lp_model.specs.Unify.{State, put_pairs, type_pairs_in, is_some_bound}
 use Rattle.lp_model.specs.declared.answer.Pair.{Pair as Numbers}
+use Rattle.lp_calculus.proofs.Atoms.{put_all_append}
+use Rattle.lp_pattern.proofs.TypesFirm.{puts_behind}
 use Rattle.lp_pattern.specs.declared.bindings.Bindings.{Bindings}
 use Rattle.lp_pattern.specs.Behind.{with_types}
 use Rattle.lp_pattern.specs.Growing.{IsPairOf}
@@ -22,14 +24,6 @@ use Rattle.lp_pattern.proofs.PairsThrough.{steps_typed, within_typed, types_on_s
 use Rattle.lp_pattern.proofs.Stacks.{under_kept, still_pairs}
 
 -- bindings one after the other
-pub types_then : (ts us : List TypeBinding) (t : Term) → put_types_in (ts ++ us) t ≡ put_types_in us (put_types_in ts t)
-types_then [] us t = refl
-types_then (b ∷ ts) us t = types_then ts us (put_type_in b t)
-
-pub terms_then : (bs ds : List Binding) (t : Term) → put_all (bs ++ ds) t ≡ put_all ds (put_all bs t)
-terms_then [] ds t = refl
-terms_then (b ∷ bs) ds t = terms_then bs ds (put b t)
-
 -- the first pair, and those behind it
 pub record First (b : Nodes) (c : Closing) (lv : ℕ → ℕ) (n : ℕ) (q : Numbers) (qs : List Numbers) (ps : List Pair) : Type 0 where
   pub pair : Pair
@@ -98,8 +92,8 @@ module _ (limit : ℕ) (o : Began) (b d : Nodes) (s s' : Bindings) (next next' u
       within_delayed = still_pairs b d waiting e k.within_delayed;
       known = known_behind k.levels next' ps (type_pairs_in ts f.rest) a.known (typed_known f.rest f.known_others);
       known_delayed = typed_known st.delayed k.known_delayed;
-      puts = λ t' w. t.puts t' ∙ ap (put_types_in ts) (k.puts t' w) ∙ sym (types_then st.types ts (put_all st.bindings (closed o.closing t')));
-      knows = λ t' w. transport (Within (Known k.levels next') 0) (sym (types_then st.types ts (put_all st.bindings t'))) (later (put_types_in st.types (put_all st.bindings t')) (k.knows t' w));
+      puts = λ t' w. t.puts t' ∙ ap (put_types_in ts) (k.puts t' w) ∙ sym (puts_behind st.types ts (put_all st.bindings (closed o.closing t')));
+      knows = λ t' w. transport (Within (Known k.levels next') 0) (sym (puts_behind st.types ts (put_all st.bindings t'))) (later (put_types_in st.types (put_all st.bindings t')) (k.knows t' w));
       firm = t.firm st.types k.firm;
     }
 
@@ -130,7 +124,7 @@ module _ (limit : ℕ) (o : Began) (b d : Nodes) (s s' : Bindings) (next next' u
 
     -- the bindings behind those of before, and the types behind them
     in_turn : (t' : Term) → put_all bs (put_types_in st.types (put_all st.bindings t')) ≡ put_types_in st.types (put_all (st.bindings ++ bs) t')
-    in_turn t' = t.values st.types k.firm (put_all st.bindings t') ∙ ap (put_types_in st.types) (sym (terms_then st.bindings bs t'))
+    in_turn t' = t.values st.types k.firm (put_all st.bindings t') ∙ ap (put_types_in st.types) (sym (put_all_append st.bindings bs t'))
 
     known_before : (t' : Term) → Within (Known o.levels o.next) 0 (closed o.closing t') → Within (Known k.levels next) 0 (closed k.closing t')
     known_before t' w = transport (Within (Known k.levels next) 0) (sym (k.puts t' w)) (k.knows (closed o.closing t') w)

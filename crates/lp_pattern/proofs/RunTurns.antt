@@ -9,6 +9,7 @@ use Rattle.lp_model.specs.Pair.{Pair, Closing}
 use Rattle.lp_model.specs.Rule.{Verdict, fails, gives, binds, delays, Ruled, rule}
 use Rattle.lp_model.specs.Unify.{State, Turn, Goes, Fails, Solved, is_some_bound, judged, turn_on, turn, Unified, Fail, Solution, Spent, limited, unify}
 use Rattle.lp_model.specs.declared.answer.Pair.{Pair as Numbers}
+use Rattle.lp_pattern.proofs.Noting.{or_false}
 use Rattle.lp_pattern.specs.declared.bindings.Bindings.{Bindings}
 use Rattle.lp_pattern.specs.declared.fault.PatternRefusal.{PatternRefusal}
 use Rattle.lp_pattern.specs.declared.fault.PatternRefusal.TheVariants as refusal
@@ -98,10 +99,6 @@ waiting_known b d (Taken.Delayed q) ws e h a = All-push (IsPairOf (length d.term
 or_true : (b : Bool) → true ≡ (b || true)
 or_true true = refl
 or_true false = refl
-
-or_false : (b : Bool) → b ≡ (b || false)
-or_false true = refl
-or_false false = refl
 
 typed_since : (next next' : ℕ) (c : Closing) (s s' : Bindings) (d : Nodes) (ts : List TypeBinding) → IsTypedBehind next c s d s' next' ts → IsBoundSince (is_some_bound ts) s s'
 typed_since next next' c s s' d [] t = (t.terms, t.types ∙ (let z : length s.types.entries + 0 ≡ length s.types.entries = omega arith in z))

@@ -12,6 +12,7 @@ use Rattle.lp_term.specs.Node.{TermBelow}
 use Rattle.lp_term.specs.Shapes.{term_shape}
 use Rattle.lp_term.specs.declared.node.TermNode.{TermNode}
 use Rattle.lp_term.specs.Nodes.{Nodes, Extends, tree, node_tree}
+use Rattle.lp_lemmas.proofs.Lists.{map_reverse}
 use Rattle.lp_pattern.proofs.Names.{kind, node_kind, kind_of}
 use Rattle.lp_term.specs.declared.node.TermId.{TermId}
 use Rattle.lp_term.specs.declared.reduce.TermRefusal.{TermRefusal}
@@ -43,7 +44,6 @@ use Rattle.lp_pattern.proofs.TopScans.{scan_of, top_is}
 use Rattle.lp_pattern.proofs.Naming.{weak_named, steps_named}
 use Rattle.lp_pattern.proofs.Opening.{opens_leaves, read_reached, read_kept, read_none, rigid_at, variable_at, abstraction_at, opened_once}
 use Rattle.lp_pattern.proofs.Visits.{args_of}
-use Rattle.lp_pattern.proofs.Walking.{map-reverse}
 use Rattle.lp_pattern.proofs.VisitSteps.{opened_rest, rigid_rest, rigid_fails, open_rest, pattern_rest, pattern_fails, none_left, too_far, pattern_too_far, rest_then, rest_stopped, all_scanned}
 
 -- what is allowed as a head does not change where it is opened
@@ -321,7 +321,7 @@ pub scan_done : (n : ℕ) (s : Seen) (b : Nodes) (c : Closing) (items : List Vis
 scan_done n s b c items u w f g o d e q a = all_scanned s n n u w f g o d e (transport (λ l. IsRestOf s u w f g o (scan_parts n n s (parts_of b c l))) q a)
 
 pub reversed_visits : (v : Visit) (inside : Bool) (ids : List TermId) → visits v inside (reverse ids) ≡ reverse (visits v inside ids)
-reversed_visits v inside ids = map-reverse (λ t. record { term = t; opened = v.opened; is_inside = inside }) ids
+reversed_visits v inside ids = map_reverse (λ t. record { term = t; opened = v.opened; is_inside = inside }) ids
 
 -- heads that are no eigenconstants
 other_head : (s : Seen) (t : Term) → (kind t ≡ 4 → ⊥) → true ≡ allows_head s t

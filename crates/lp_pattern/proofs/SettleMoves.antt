@@ -17,6 +17,9 @@ use Rattle.lp_model.specs.Look.{are_distinct}
 use Rattle.lp_model.specs.Pair.{Closing, closed}
 use Rattle.lp_model.specs.Scan.{settle}
 use Rattle.lp_calculus.specs.Fill.{abstracted}
+use Rattle.lp_lemmas.proofs.Elements.{All_popped}
+use Rattle.lp_lemmas.proofs.Lists.{map_reverse, cons_head}
+use Rattle.lp_pattern.proofs.Stacks.{unders_kept}
 use Rattle.lp_pattern.specs.declared.bindings.Bindings.{Bindings}
 use Rattle.lp_pattern.specs.declared.look.Head.{Head}
 use Rattle.lp_pattern.specs.declared.look.Looked.{Looked}
@@ -32,10 +35,9 @@ use Rattle.lp_pattern.proofs.Indices.{abstracted_is}
 use Rattle.lp_pattern.proofs.Looking.{closed_apply}
 use Rattle.lp_pattern.proofs.Names.{kind, node_kind, kind_of}
 use Rattle.lp_pattern.proofs.Opening.{read_none, body_closed}
-use Rattle.lp_pattern.proofs.SettleSteps.{known_kept, unders_kept, ends_kept, visit_later, body_ends, rigid_ends, open_ends, pattern_ends, last_made, next_task, pushed_tasks, abstraction_ends, abstraction_stands}
+use Rattle.lp_pattern.proofs.SettleSteps.{known_kept, ends_kept, visit_later, body_ends, rigid_ends, open_ends, pattern_ends, last_made, next_task, pushed_tasks, abstraction_ends, abstraction_stands}
 use Rattle.lp_pattern.proofs.TopSettles.{settled_in}
-use Rattle.lp_pattern.proofs.Tops.{popped_known}
-use Rattle.lp_pattern.proofs.Walking.{reading_kept, map-reverse}
+use Rattle.lp_pattern.proofs.Walking.{reading_kept}
 
 left_at : (m : ℕ) (b d : Nodes) (c : Closing) (cs : List ℕ) (ts us : List Task) (made : List TermId) (r : Term) → Extends b d → All (λ t. t.0 < length b.terms) made → reverse ts ≡ us → Ends m d c cs us (map (under b c) (reverse made)) r →
     IsLeft m d c cs ts made r
@@ -97,7 +99,7 @@ visit_moves b d f s cs o limit term q old new made made' e k x g = λ c i j m r 
 pub abstraction_moves : (b d : Nodes) (s : Bindings) (cs : List ℕ) (old body id put : TermId) (ts : List Task) (made mid new : List TermId) → Extends b d → made ≡ mid ++ id ∷ [] → put.0 < length d.terms →
     tree d put.0 ≡ abs (tree b id.0) → new ≡ mid ++ put ∷ [] → Moves b d s cs (ts ++ Task.Abstract old body ∷ []) made ts new
 abstraction_moves b d s cs old body id put ts made mid new e q l t z = λ c i j m r w.
-    let k = popped_known (λ t. t.0 < length b.terms) made mid id q w.known in
+    let k = All_popped (λ t. t.0 < length b.terms) made mid id q w.known in
     one_made m b d c cs ts mid new put r e k.0 l z
     (abstraction_ends m b d c cs old body id put (reverse ts) mid (map (under b c) (reverse mid)) r e (ap (closed c) t ∙ ap abs (body_closed c j (tree b id.0)))
     (transport (λ x. Ends m b c cs (Task.Abstract old body ∷ reverse ts) x r) (last_made b c made mid id q) (first_task m b c cs ts (Task.Abstract old body) made r w)))
@@ -105,7 +107,7 @@ abstraction_moves b d s cs old body id put ts made mid new e q l t z = λ c i j 
 pub abstraction_stays : (b : Nodes) (s : Bindings) (cs : List ℕ) (old body id : TermId) (ts : List Task) (made mid new : List TermId) → made ≡ mid ++ id ∷ [] → id.0 ≡ body.0 → new ≡ mid ++ old ∷ [] →
     Moves b b s cs (ts ++ Task.Abstract old body ∷ []) made ts new
 abstraction_stays b s cs old body id ts made mid new q y z = λ c i j m r w.
-    let k = popped_known (λ t. t.0 < length b.terms) made mid id q w.known in
+    let k = All_popped (λ t. t.0 < length b.terms) made mid id q w.known in
     let h = transport (λ x. Ends m b c cs (Task.Abstract old body ∷ reverse ts) x r) (last_made b c made mid id q) (first_task m b c cs ts (Task.Abstract old body) made r w) in
     one_made m b b c cs ts mid new old r (extends_same b) k.0 h.2 z
     (abstraction_ends m b b c cs old body id old (reverse ts) mid (map (under b c) (reverse mid)) r (extends_same b) (abstraction_stands m b c cs old body id (reverse ts) (map (under b c) (reverse mid)) r y h) h)
@@ -130,7 +132,7 @@ record Popped (b : Nodes) (c : Closing) (us vs : List Term) (ids mid : List Term
 popped_values : (b : Nodes) (c : Closing) (us rest : List Term) (made mid ids : List TermId) (n : ℕ) → made ≡ mid ++ ids → length ids ≡ n → length us ≡ n → map (under b c) (reverse made) ≡ reverse us ++ rest → Popped b c us rest ids mid
 popped_values b c us rest made mid ids n q l k e =
     let z : reverse (map (under b c) ids) ++ map (under b c) (reverse mid) ≡ reverse us ++ rest =
-    ap (λ x. x ++ map (under b c) (reverse mid)) (sym (map-reverse (under b c) ids)) ∙ sym (map-append (under b c) (reverse ids) (reverse mid)) ∙
+    ap (λ x. x ++ map (under b c) (reverse mid)) (sym (map_reverse (under b c) ids)) ∙ sym (map-append (under b c) (reverse ids) (reverse mid)) ∙
     ap (map (under b c)) (sym (ap reverse q ∙ reverse-append mid ids)) ∙ e in
     let y : length (reverse (map (under b c) ids)) ≡ length (reverse us) =
     length-reverse (map (under b c) ids) ∙ length-map ids (under b c) ∙ l ∙ sym k ∙ sym (length-reverse us) in
@@ -183,9 +185,6 @@ settle_starts b c cs term o tasks made n v l d q z e = record {
     level_only k p r = transport (λ j. Settles n j (read_at b c o.level o.depth term) v) (sym p)
         (transport (λ x. Settles n o.level x v) (sym r ∙ ap (λ j. read_at b c o.level j term) (sym d)) (settled_in n o.level (under b c term) v e))
 
-head_of : (x y : Term) (xs ys : List Term) → x ∷ xs ≡ y ∷ ys → x ≡ y
-head_of x y xs ys e = cc
-
 closed_abstractions : (c : Closing) → IsShut c → (n : ℕ) (t : Term) → closed c (abstractions n t) ≡ abstractions n (closed c t)
 closed_abstractions c h zero t = refl
 closed_abstractions c h (suc n) t = closed_abstractions c h n (abs t) ∙ ap (abstractions n) (ap abs (body_closed c h t))
@@ -194,7 +193,7 @@ pub settle_ends : (m : ℕ) (b d : Nodes) (c : Closing) (cs : List ℕ) (l : ℕ
     n ≡ length cs → tree d id.0 ≡ abstractions n (tree b body.0) → IsLeft m b c cs tasks made (indexed_in cs l 0 v) → under d c id ≡ abstracted cs v
 settle_ends m b d c cs l tasks made rest body id v n h e z q k t w =
     let x = transport (λ ts. Ends m b c cs (reverse ts) (map (under b c) (reverse made)) (indexed_in cs l 0 v)) z w.ends in
-    let y : under b c body ≡ indexed_in cs l 0 v = head_of (under b c body) (indexed_in cs l 0 v) (map (under b c) (reverse rest)) x.0 (sym (last_made b c made rest body q) ∙ x.1) in
+    let y : under b c body ≡ indexed_in cs l 0 v = cons_head (under b c body) (indexed_in cs l 0 v) (map (under b c) (reverse rest)) x.0 (sym (last_made b c made rest body q) ∙ x.1) in
     ap (closed c) t ∙ closed_abstractions c h n (tree b body.0) ∙ (λ i. abstractions (k i) (y i)) ∙ sym (abstracted_is cs l v e)
 
 pub settle_begins : (b : Nodes) (c : Closing) (cs : List ℕ) (term : TermId) (o : Opened) (p : ℕ) (tasks : List Task) (made : List TermId) (n : ℕ) (v : Term) → term.0 < length b.terms → o.level ≡ p → o.depth ≡ 0 → tasks ≡ Task.Visit term o ∷ [] →

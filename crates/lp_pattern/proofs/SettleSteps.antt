@@ -13,6 +13,7 @@ use Rattle.lp_term.proofs.Trees.{extends-trans}
 use Rattle.lp_model.specs.Look.{Look, an_abs, rigid, flexible, looked, pattern_of}
 use Rattle.lp_model.specs.Patterns.{eigens}
 use Rattle.lp_model.specs.Pair.{Closing, closed}
+use Rattle.lp_lemmas.proofs.Lists.{cons_head}
 use Rattle.lp_pattern.specs.declared.bindings.Bindings.{Bindings}
 use Rattle.lp_pattern.specs.declared.look.Head.{Head}
 use Rattle.lp_pattern.specs.declared.look.Looked.{Looked}
@@ -32,7 +33,7 @@ use Rattle.lp_unify_laws.proofs.MoreSteps.Scans.{below_map}
 use Rattle.lp_pattern.proofs.Opening.{SeenAt, read_kept, read_reached, rigid_at, variable_at, abstraction_at, opened_once, top_of}
 use Rattle.lp_pattern.proofs.Renewing.{fill_apply}
 use Rattle.lp_pattern.proofs.Scannings.{top_behind}
-use Rattle.lp_pattern.proofs.Stacks.{under_kept}
+use Rattle.lp_pattern.proofs.Stacks.{under_kept, unders_kept}
 use Rattle.lp_pattern.proofs.Walking.{reading_kept, looked_stays}
 
 -- a term is settled as what the look at it finds
@@ -125,11 +126,6 @@ settles_later m k j t s v h (settles_open y l is us e p r q) = settles_open y l 
 -- a bank that has grown
 pub known_kept : (b d : Nodes) (ids : List TermId) → Extends b d → All (λ t. t.0 < length b.terms) ids → All (λ t. t.0 < length d.terms) ids
 known_kept b d ids e a = All-weaker (λ t. t.0 < length b.terms) (λ t. t.0 < length d.terms) (λ t l. omega (arith, l, e.more_terms)) ids a
-
-pub unders_kept : (b d : Nodes) (c : Closing) (ids : List TermId) → Extends b d → All (λ t. t.0 < length b.terms) ids → map (under d c) ids ≡ map (under b c) ids
-unders_kept b d c [] e a = refl
-unders_kept b d c (t ∷ ids) e a =
-    λ i. under_kept b d c t e (All-head (λ t. t.0 < length b.terms) t ids a) i ∷ unders_kept b d c ids e (All-tail (λ t. t.0 < length b.terms) t ids a) i
 
 application_kept : (b d : Nodes) (c : Closing) (a : Application) → Extends b d → IsApplication b c a → IsApplication d c a
 application_kept b d c a e h = record {
@@ -313,9 +309,6 @@ pub pushed_tasks : (old new more : List Task) (t : Task) → new ≡ (old ++ t �
 pushed_tasks old new more t e =
     ap reverse e ∙ reverse-append (old ++ t ∷ []) (reverse more) ∙ (λ i. reverse-reverse more i ++ next_task old t i)
 
-heads_same : (x y : Term) (xs ys : List Term) → x ∷ xs ≡ y ∷ ys → x ≡ y
-heads_same x y xs ys e = cc
-
 rests_same : (x y : Term) (xs ys : List Term) → x ∷ xs ≡ y ∷ ys → xs ≡ ys
 rests_same x y xs ys e = cc
 
@@ -325,7 +318,7 @@ pub abstraction_ends : (m : ℕ) (b d : Nodes) (c : Closing) (cs : List ℕ) (ol
 abstraction_ends m b d c cs old body id made ts ids rest r e q h =
     ends_kept m b d c cs ts (under d c made ∷ rest) r e
     (transport (λ l. Ends m b c cs ts l r)
-    (λ i. (ap abs (sym (heads_same (under b c id) h.0 rest h.1 h.5)) ∙ sym q) i ∷ sym (rests_same (under b c id) h.0 rest h.1 h.5) i)
+    (λ i. (ap abs (sym (cons_head (under b c id) h.0 rest h.1 h.5)) ∙ sym q) i ∷ sym (rests_same (under b c id) h.0 rest h.1 h.5) i)
     h.6)
 
 pub abstraction_stands : (m : ℕ) (b : Nodes) (c : Closing) (cs : List ℕ) (old body id : TermId) (ts : List Task) (rest : List Term) (r : Term) → id.0 ≡ body.0 →

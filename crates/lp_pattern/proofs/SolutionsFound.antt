@@ -28,6 +28,7 @@ use Rattle.lp_unify_laws.proofs.Principal.{closings_are_the_same}
 use Rattle.lp_unify_laws.proofs.Sames.{number_same}
 use Rattle.lp_unify_laws.proofs.Scopes.{got_before, more_get, prefix_none, in_scope, variable_of}
 use Rattle.lp_unify_laws.proofs.TypedBindings.{IsTypedTerm, term_reduces, term_atoms, IsAtomOf, put_all_typed}
+use Rattle.lp_pattern.proofs.TypeSolving.{some_is}
 use Rattle.lp_pattern.proofs.PruneSteps.{weak_reduces}
 use Rattle.lp_pattern.specs.Pruning.{Known}
 use Rattle.lp_pattern.specs.Solutions.{left_pairs, through, KeptThrough, HasSolutions}
@@ -145,9 +146,6 @@ typed_left θ d W b z (t ∷ ts) (q ∷ qs) (p ∷ ps) a h = let r = reached_at 
   typed_left θ d W b z ts qs ps a.1 h.1,
 )
 
-some_same : {A : Type 0} (x y : A) → Some x ≡ Some y → x ≡ y
-some_same x y e = cc
-
 -- what the values found are, at types
 module _ (d : Declared) (V : List Variable) (θ : ℕ → Ty) (ps ds : List Pair) (b : Nodes) (next : ℕ) (residual : List Numbers) (z : Closing) (s : State) (f : IsFound (level_of V) (length V) unbound b next residual z s) (m : Satisfies θ s.types)
     (n : ℕ) (stays : AreStuck n s.delayed) (known_pairs : AreKnownPairs (level_of V) (length V) ps) (known_delayed : AreKnownPairs (level_of V) (length V) ds) (l : HasSameClosings θ d V ps ds s) where
@@ -159,7 +157,7 @@ module _ (d : Declared) (V : List Variable) (θ : ℕ → Ty) (ps ds : List Pair
 
   typed_value : (x : ℕ) (v : Variable) → slice_get V x ≡ Some v → HasType (in_scope d v.scope l.typings.after) [] (instance_term θ (z.terms x (length v.scope))) v.type
   typed_value x v e = transport (λ t. HasType (in_scope d v.scope l.typings.after) [] t v.type) (sym (value_at x (length v.scope) (known_variable V x v e)))
-      (put_all_typed d v.scope l.typings.after (map (instance_binding θ) s.bindings) l.typings.bindings (atom (logic x (length v.scope))) v.type (record { typed = typed_there; scoped = λ w q. let r : v ≡ w = some_same v w (sym there ∙ q) in transport (λ u. IsPrefix u.scope v.scope) r (prefix_none v.scope) })).typed
+      (put_all_typed d v.scope l.typings.after (map (instance_binding θ) s.bindings) l.typings.bindings (atom (logic x (length v.scope))) v.type (record { typed = typed_there; scoped = λ w q. let r : v ≡ w = some_is v w (sym there ∙ q) in transport (λ u. IsPrefix u.scope v.scope) r (prefix_none v.scope) })).typed
     where
       there : slice_get l.typings.after x ≡ Some v
       there = more_get V l.typings.after l.typings.more x v e

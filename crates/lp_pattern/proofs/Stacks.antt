@@ -34,6 +34,11 @@ pairs_kept b d c ps e a = map_kept b d c (reverse ps) e (All_reverse (IsPairOf (
 pub still_pairs : (b d : Nodes) (ps : List Numbers) → Extends b d → All (IsPairOf (length b.terms)) ps → All (IsPairOf (length d.terms)) ps
 still_pairs b d ps e a = All-weaker (IsPairOf (length b.terms)) (IsPairOf (length d.terms)) (λ p l. (omega (arith, l.0, e.more_terms), omega (arith, l.1, e.more_terms))) ps a
 
+pub unders_kept : (b d : Nodes) (c : Closing) (ids : List TermId) → Extends b d → All (λ t. t.0 < length b.terms) ids → map (under d c) ids ≡ map (under b c) ids
+unders_kept b d c [] e a = refl
+unders_kept b d c (t ∷ ids) e a =
+    λ i. under_kept b d c t e (All-head (λ t. t.0 < length b.terms) t ids a) i ∷ unders_kept b d c ids e (All-tail (λ t. t.0 < length b.terms) t ids a) i
+
 -- the top of the stack
 pub pairs_pushed : (b : Nodes) (c : Closing) (ps : List Numbers) (p : Numbers) → pairs_under b c (ps ++ p ∷ []) ≡ pair_under b c p ∷ pairs_under b c ps
 pairs_pushed b c ps p = ap (map (pair_under b c)) (reverse-append ps (p ∷ []))

@@ -32,7 +32,7 @@ stripped_form {t = t} {s = s} (strip {n} k b e h) m r f =
     let x = stripped_form h m w.0 w.1 in
     (x.0, x.1, w.2 ∙ ap abs x.2 ∙ abs_inside n x.0)
 
-leaf_eta : (h : Term) → IsLeaf h → eta_normal h ≡ h
+pub leaf_eta : (h : Term) → IsLeaf h → eta_normal h ≡ h
 leaf_eta (index i) l = refl
 leaf_eta (atom a) l = refl
 leaf_eta (abs b) l = absurd l

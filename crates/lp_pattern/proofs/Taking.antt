@@ -1,7 +1,7 @@
 -- Pairs without a variable as a head: the rule that applies, and its units.
-use Rattle.std.proofs.Common.{◌≡◌, ℕ, suc, ◌+◌, ◌<◌, ◌≤◌, List, [], ◌∷◌, map, length, ◌∙◌, refl, sym, ap, subst as transport, arith, Bool, true, false, Option, Some, None, nat_eq}
+use Rattle.std.proofs.Common.{◌≡◌, ℕ, ◌+◌, ◌<◌, ◌≤◌, List, [], ◌∷◌, map, length, ◌∙◌, refl, sym, ap, subst as transport, arith, Bool, true, false, Option, Some, None, nat_eq}
 use Rattle.std.specs.Prelude.{option_map, ◌&&◌}
-use Rattle.std.proofs.lemmas.Bool.{eq-eqb, ne_eqb}
+use Rattle.std.proofs.lemmas.Bool.{ne_eqb}
 use Rattle.lp_calculus.specs.Term.{Term}
 use Rattle.lp_term.specs.Nodes.{Nodes}
 use Rattle.lp_term.specs.declared.node.TermId.{TermId}
@@ -13,6 +13,8 @@ use Rattle.lp_model.specs.Rule.{fails, gives, Ruled, ruled, rule, by_looks, deco
 use Rattle.lp_model.specs.Same.{same_name}
 use Rattle.lp_model.specs.Types.{TypeOutcome, none, solved, solve_types}
 use Rattle.lp_calculus.specs.Instance.{instance_term}
+use Rattle.lp_lemmas.proofs.Booleans.{and_equal}
+use Rattle.lp_unify_laws.proofs.TypedInstances.{length_map}
 use Rattle.lp_pattern.specs.declared.bindings.Bindings.{Bindings}
 use Rattle.lp_pattern.specs.declared.fault.PatternRefusal.{PatternRefusal}
 use Rattle.lp_pattern.specs.declared.fault.PatternRefusal.TheVariants.{Deep}
@@ -35,14 +37,11 @@ use Rattle.lp_pattern.proofs.Judging.{IsLookedAt, looked_at, Ruling, ruling, see
 abbrev decomposed : ℕ → (level : ℕ) → Term → List Term → Term → List Term → Bool → Option Ruled
 decomposed n level h ts g us b = elim b [ true ↦ option_map (with_types level ts us) (solve_types n (type_pairs h g) [] 0) | false ↦ Some (ruled 0 fails) ]
 
-both : (h : Bool) (m n : ℕ) → h ≡ true → m ≡ n → (h && nat_eq m n) ≡ true
-both h m n p q = λ i. p i && eq-eqb m n q i
-
 -- two heads of one name with as many arguments
 module _ (b : Nodes) (c : Closing) (t u : Term) (h : Bool) (ts us : List Term) (level n limit : ℕ) (ps : List (TypeId × TypeId)) (i : IsRigid t) (j : IsRigid u) (e : h ≡ same_name t u) (f : h ≡ true) (q : length ts ≡ length us)
     (p : type_pairs_of b c.types ps ≡ type_pairs (instance_term c.types t) (instance_term c.types u)) where
   alike : (same_name (closed c t) (closed c u) && nat_eq (length ts) (length us)) ≡ true
-  alike = both (same_name (closed c t) (closed c u)) (length ts) (length us) (names_under c t u i j ∙ sym e ∙ f) q
+  alike = and_equal (same_name (closed c t) (closed c u)) (length ts) (length us) (names_under c t u i j ∙ sym e ∙ f) q
 
   their_types : type_pairs (closed c t) (closed c u) ≡ type_pairs_of b c.types ps
   their_types = (λ x. type_pairs (rigid_closed c t i x) (rigid_closed c u j x)) ∙ sym p
@@ -98,10 +97,6 @@ decompose_fails n level limit h g ts us e r x =
 and_false : (h : Bool) → (h && false) ≡ false
 and_false true = refl
 and_false false = refl
-
-length_map : {A B : Type 0} (f : A → B) (xs : List A) → length (map f xs) ≡ length xs
-length_map f [] = refl
-length_map f (x ∷ xs) = ap suc (length_map f xs)
 
 pub lengths_differ : (b : Nodes) (c : Closing) (h : Bool) (ts us : List TermId) → (length ts ≡ length us → ⊥) → (h && nat_eq (length (map (under b c) ts)) (length (map (under b c) us))) ≡ false
 lengths_differ b c h ts us e = (λ i. h && nat_eq (length_map (under b c) ts i) (length_map (under b c) us i)) ∙ ap (λ x. h && x) (ne_eqb (length ts) (length us) e) ∙ and_false h

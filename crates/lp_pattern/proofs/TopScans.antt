@@ -139,7 +139,7 @@ after_is n s inside k (an_abs b) r e = e
 after_is n s inside k (rigid h ts) r e = e
 after_is n s inside k (flexible y m ts) r e = e
 
-below_elim : (b : Bool) (x x' y : Option Scanned) → Below x x' → Below (elim b as (λ z. Option Scanned) [ true ↦ x | false ↦ y ]) (elim b as (λ z. Option Scanned) [ true ↦ x' | false ↦ y ])
+pub below_elim : (b : Bool) (x x' y : Option Scanned) → Below x x' → Below (elim b as (λ z. Option Scanned) [ true ↦ x | false ↦ y ]) (elim b as (λ z. Option Scanned) [ true ↦ x' | false ↦ y ])
 below_elim true x x' y h = h
 below_elim false x x' y h = below_same y
 

@@ -19,11 +19,11 @@ use Rattle.lp_pattern.specs.Under.{IsReading, under, below}
 use Rattle.lp_pattern.specs.Growing.{IsPairOf}
 use Rattle.lp_pattern.specs.Seen.{IsHead, IsLooked, IsReachedWithin, seen}
 use Rattle.lp_pattern.specs.Comparing.{IsRest, IsComparedTo, IsPassed, IsStep, IsHeadCompared, IsHeadPassed, IsAbstraction, are_apart, compare_pairs, pair_at, pair_under, opened_pair, pairs_under, pairs_of}
-use Rattle.lp_unify_laws.proofs.MoreSteps.Scans.{Below, below_same, below_then}
+use Rattle.lp_unify_laws.proofs.MoreSteps.Scans.{Below}
 use Rattle.lp_pattern.proofs.PairsCompared.{all_pairs}
-use Rattle.lp_pattern.proofs.Compares.{reached_compare, rest_in_front, first_differs, rigid_same, rigid_types_differ, rigid_apart, flexible_same, flexible_apart, mixed_left, mixed_right, opened_left, opened_right, rest_then, rest_compared}
+use Rattle.lp_pattern.proofs.Compares.{reached_compare, rest_in_front, first_differs, rigid_same, rigid_types_differ, rigid_apart, flexible_same, flexible_apart, mixed_left, mixed_right, opened_left, opened_right, rest_then, rest_compared, pairs_same}
 use Rattle.lp_pattern.proofs.Refused.{passed_in_front, passed_before, rest_passed, none_left, heads_passed}
-use Rattle.std.proofs.lemmas.List.Elements.{All-nil, All-head, All-tail, All-cons}
+use Rattle.std.proofs.lemmas.List.Elements.{All-nil}
 use Rattle.lp_pattern.proofs.Stacks.{pairs_put, pairs_pushed, arguments_under, under_kept, pairs_kept, arguments_known, more_known}
 use Rattle.lp_pattern.proofs.Walking.{sees}
 
@@ -201,12 +201,9 @@ module _ (b : Nodes) (s : Bindings) (c : Closing) (one other : Looked) (level n 
       passed_in_front u0 n (pair_at level (under b c one.whole) (under b c other.whole)) (pairs_under b c old) r (apart_none u0 r one.head other.head refl refl e z d)
 
 -- the pair whose sides were looked at
-pair_reached : (n : ℕ) (p q : Pair) (ps : List Pair) → Below (compare n p.level p.left p.right) (compare n q.level q.left q.right) → Below (compare_pairs n (p ∷ ps)) (compare_pairs n (q ∷ ps))
-pair_reached n p q ps h = below_then (compare n p.level p.left p.right) (compare n q.level q.left q.right) _ _ h (λ c. below_same _)
-
 pub sides_reached : (n level : ℕ) (t t' u u' : Term) (ps : List Pair) (limit : ℕ) → IsReachedWithin limit t t' → IsReachedWithin limit u u' →
     Below (compare_pairs n (pair_at level t u ∷ ps)) (compare_pairs n (pair_at level t' u' ∷ ps))
-sides_reached n level t t' u u' ps limit a e = pair_reached n (pair_at level t u) (pair_at level t' u') ps (reached_compare n level t t' u u' a.0 e.0 a.2 e.2)
+sides_reached n level t t' u u' ps limit a e = pairs_same n (pair_at level t u) (pair_at level t' u') ps (reached_compare n level t t' u u' a.0 e.0 a.2 e.2)
 
 pub step_before : (same : Bool) (u0 u1 : ℕ) (o o' p : Option Compared) → Below o o' → IsStep same u0 u1 o' p → IsStep same u0 u1 o p
 step_before true u0 u1 o o' p b h = λ r e. h r (b r e)
@@ -276,13 +273,6 @@ pub left_known : (n level : ℕ) (t : Bool) (ones others : List TermId) (old new
     (t ≡ true → new ≡ old ++ reverse (pairs_of level ones others)) → (t ≡ false → new ≡ old) → All (IsPairOf n) new
 left_known n level true ones others old new a e k p q = transport (All (IsPairOf n)) (sym (p refl)) (more_known n old (pairs_of level ones others) k (arguments_known n level ones others a e))
 left_known n level false ones others old new a e k p q = transport (All (IsPairOf n)) (sym (q refl)) k
-
-front_known : {A : Type 0} (P : A → Type 0) (rest : List A) (p : A) → All P (rest ++ p ∷ []) → All P rest × P p
-front_known P [] p a = (All-nil P, All-head P p [] a)
-front_known P (x ∷ rest) p a = let w = front_known P rest p (All-tail P x (rest ++ p ∷ []) a) in (All-cons P x rest (All-head P x (rest ++ p ∷ []) a) w.0, w.1)
-
-pub popped_known : {A : Type 0} (P : A → Type 0) (items rest : List A) (p : A) → items ≡ rest ++ p ∷ [] → All P items → All P rest × P p
-popped_known P items rest p q a = front_known P rest p (transport (All P) q a)
 
 pub refused_at : (b : Nodes) (c : Closing) (old now n : ℕ) (o : Option Compared) (items rest : List Numbers) (p : Numbers) (r : PatternRefusal) → items ≡ rest ++ p ∷ [] →
     IsRest old now o (compare_pairs n (pairs_under b c items)) → IsPassed r now (compare_pairs n (pair_under b c p ∷ pairs_under b c rest)) → IsPassed r old o

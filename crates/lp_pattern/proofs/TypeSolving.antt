@@ -29,7 +29,7 @@ pub record HasSolved (r : TypeOutcome) (made : List TypeBinding) (u : ℕ) (θ �
   pub is : r ≡ model.solved (made ++ bindings) u
   pub puts : (x : ℕ) → ι x ≡ put_types bindings (θ x)
 
-some_is : {A : Type 0} (x y : A) → Some x ≡ Some y → x ≡ y
+pub some_is : {A : Type 0} (x y : A) → Some x ≡ Some y → x ≡ y
 some_is x y e = cc
 
 nothing_left : (m : ℕ) (θ ι : ℕ → Ty) → solve m [] θ ≡ types.solved ι → θ ≡ ι

@@ -3,7 +3,7 @@ use Rattle.std.proofs.Common.{◌≡◌, ℕ, zero, suc, ◌<◌, List, [], ◌�
 use Rattle.std.specs.Prelude.{◌||◌, is_some, if◌then◌else◌}
 use Rattle.std.specs.List.{IsDistinct, AllByRecursion, list_any}
 use Rattle.std.specs.Map.{lookup, keys_of}
-use Rattle.std.proofs.lemmas.Bool.{eq-eqb, eqb-true}
+use Rattle.std.proofs.lemmas.Bool.{eq-eqb, eqb-true, or_parts}
 use Rattle.std.proofs.lemmas.Cmp.{nat_eq_equiv}
 use Rattle.std.proofs.lemmas.List.{length-map}
 use Rattle.std.proofs.lemmas.Map.Entries.{length-keys_of}
@@ -29,16 +29,12 @@ good_distinct (b ∷ bs) g = (all_away b.id bs g.1, good_distinct bs g.2)
 self_away : (x : ℕ) → Away x x → ⊥
 self_away x e = let r = eq-eqb x x refl in cc
 
-neither : (a b : Bool) → (a || b) ≡ false → (a ≡ false) × (b ≡ false)
-neither true b e = absurd (cc)
-neither false b e = (refl, e)
-
 other_var : (b : TypeBinding) (x : ℕ) → nat_eq x b.id ≡ false → one_type b x ≡ var x
 other_var b x e = ap (λ f. if f then b.value else var x) e
 
 not_bound : (bs : List TypeBinding) (x : ℕ) → list_any (nat_eq x) (ids bs) ≡ false → put_types bs (var x) ≡ var x
 not_bound [] x e = refl
-not_bound (b ∷ bs) x e = let w = neither (nat_eq x b.id) (list_any (nat_eq x) (ids bs)) e in ap (put_types bs) (other_var b x w.0) ∙ not_bound bs x w.1
+not_bound (b ∷ bs) x e = let w = or_parts (nat_eq x b.id) (list_any (nat_eq x) (ids bs)) e in ap (put_types bs) (other_var b x w.0) ∙ not_bound bs x w.1
 
 is_bound : (bs : List TypeBinding) → IsGood bs → (x : ℕ) → list_any (nat_eq x) (ids bs) ≡ true → put_types bs (var x) ≡ var x → ⊥
 is_bound [] g x m e = absurd (cc)

@@ -147,7 +147,7 @@ puts_again bs g t =
     puts_at_once bs (put_types_in bs t) ∙ ap (instance_term (λ x. put_types bs (var x))) (puts_at_once bs t) ∙ term_twice (λ x. put_types bs (var x)) (λ x. put_types bs (var x)) t ∙
     (λ i. instance_term (λ x. (sym (put_is bs (put_types bs (var x))) ∙ puts_twice bs g (var x)) i) t) ∙ sym (puts_at_once bs t)
 
-puts_behind : (us bs : List TypeBinding) (t : Term) → put_types_in (us ++ bs) t ≡ put_types_in bs (put_types_in us t)
+pub puts_behind : (us bs : List TypeBinding) (t : Term) → put_types_in (us ++ bs) t ≡ put_types_in bs (put_types_in us t)
 puts_behind [] bs t = refl
 puts_behind (u ∷ us) bs t = puts_behind us bs (put_type_in u t)
 

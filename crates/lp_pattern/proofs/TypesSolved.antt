@@ -22,6 +22,8 @@ use Rattle.lp_type_unify.specs.Counting.{HasEnded, IsRefused}
 use Rattle.lp_type_unify.specs.declared.bindings.Pair.{Pair}
 use Rattle.lp_type_unify.specs.declared.counted.EquationRefusal.{EquationRefusal}
 use Rattle.lp_model.specs.Types.{TypePair, TypeBinding, put_types, put_type, one_type, TypeOutcome, none, solved, solve_types}
+use Rattle.lp_lemmas.proofs.Lists.{map_reverse}
+use Rattle.lp_pattern.proofs.Walking.{types_kept}
 use Rattle.lp_pattern.specs.declared.bindings.Bindings.{Bindings}
 use Rattle.lp_pattern.specs.declared.fault.PatternRefusal.{PatternRefusal}
 use Rattle.lp_pattern.specs.Refusing.{IsOfEquations}
@@ -31,10 +33,8 @@ use Rattle.lp_pattern.specs.Reading.{type_pairs_of}
 use Rattle.lp_unify_laws.specs.TypeSolutions.{equations}
 use Rattle.lp_pattern.specs.Filling.{AreFilled, AreKnown, IsStill, AreSolved, IsSolvedIn, IsUnsolvedIn, units_in, held, equation_under, AreIn}
 use Rattle.lp_pattern.specs.declared.fill_types.TypesFilled.{TypesFilled}
-use Rattle.lp_pattern.proofs.FilledTypes.{types_later}
 use Rattle.lp_pattern.proofs.TypesBound.{solved_good}
 use Rattle.lp_pattern.proofs.TypesCounted.{as_many}
-use Rattle.lp_pattern.proofs.Walking.{map-reverse}
 use Rattle.lp_pattern.proofs.TypeSolving.{solved_same, fails_same, spent_same}
 
 -- lists of pairs
@@ -84,8 +84,8 @@ pub one_more : (a b c d : Nodes) (s : Bindings) (θ : ℕ → Ty) (done : List (
 one_more a b c d s θ done p old new left right before between after D E F A k h e f g =
     let q = known_split a done p k in
     let w = h q.0 in
-    let l = f θ (types_later a b s θ D A) w.0 in
-    let r = g θ (types_later b c s θ E (types_later a b s θ D A)) l.0 in
+    let l = f θ (types_kept a b s θ D A) w.0 in
+    let r = g θ (types_kept b c s θ E (types_kept a b s θ D A)) l.0 in
     let m = F.more_types in
     let n = D.more_types in
     let last : Pair = record { left = left; right = right } in
@@ -106,7 +106,7 @@ one_more a b c d s θ done p old new left right before between after D E F A k h
 pub all_read : (a b : Nodes) (θ : ℕ → Ty) (ps done : List (TypeId × TypeId)) (made : List Pair) (Rest : Type 0) → done ≡ reverse ps → AreKnown a done →
     (AreKnown a done → Rest × AreIn b made × (map (held b) made ≡ map (equation_under a θ) done)) → read_pairs (type_tree b) var made ≡ equations (type_pairs_of a θ ps)
 all_read a b θ ps done made Rest e k h =
-    ap reverse (read_held b made ∙ (h k).2 ∙ ap (map (equation_under a θ)) e ∙ map-reverse (equation_under a θ) ps) ∙ reverse-reverse (map (equation_under a θ) ps) ∙ sym (equations_are a θ ps)
+    ap reverse (read_held b made ∙ (h k).2 ∙ ap (map (equation_under a θ)) e ∙ map_reverse (equation_under a θ) ps) ∙ reverse-reverse (map (equation_under a θ) ps) ∙ sym (equations_are a θ ps)
 
 -- bindings put in one after the other
 

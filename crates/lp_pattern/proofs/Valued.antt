@@ -7,6 +7,7 @@ use Rattle.lp_term.specs.declared.node.TermId.{TermId}
 use Rattle.lp_model.specs.Look.{are_distinct}
 use Rattle.lp_model.specs.Pair.{Closing}
 use Rattle.lp_model.specs.Scan.{Side, Pruned, settle}
+use Rattle.lp_pattern.proofs.Walking.{open_kept}
 use Rattle.lp_pattern.specs.declared.bindings.Bindings.{Bindings}
 use Rattle.lp_pattern.specs.Pruning.{IsPruned}
 use Rattle.lp_pattern.specs.Putting.{Known}
@@ -14,7 +15,7 @@ use Rattle.lp_pattern.specs.Stripping.{IsShut}
 use Rattle.lp_pattern.specs.Turning.{IsOpenReading}
 use Rattle.lp_pattern.specs.Under.{IsReading, under}
 use Rattle.lp_pattern.specs.Valuing.{IsValued}
-use Rattle.lp_pattern.proofs.BoundOnce.{put_none, open_kept}
+use Rattle.lp_pattern.proofs.BoundOnce.{put_none}
 
 -- where the definition settles the term at a number, the value is that under each reading
 abbrev SettlesAs : Side → (b d : Nodes) → Bindings → (term id : TermId) → Type 0

@@ -6,6 +6,7 @@ use Rattle.lp_term.specs.Nodes.{Nodes, Extends}
 use Rattle.lp_model.specs.Look.{flexible}
 use Rattle.lp_model.specs.Pair.{Pair, Closing}
 use Rattle.lp_model.specs.Rule.{solve_for, by_rule_5, by_rule_4, by_looks, compare_all}
+use Rattle.lp_unify_laws.proofs.TypedInstances.{length_map}
 use Rattle.lp_pattern.specs.declared.bindings.Bindings.{Bindings}
 use Rattle.lp_pattern.specs.declared.fault.PatternRefusal.{PatternRefusal}
 use Rattle.lp_pattern.specs.declared.look.Head.{Head}
@@ -17,8 +18,8 @@ use Rattle.lp_pattern.specs.Ruling.{view, IsSideOf, IsNoSide, IsSeenPair, IsJudg
 use Rattle.lp_pattern.specs.Seen.{weak_step, IsLooked}
 use Rattle.lp_pattern.specs.Under.{under}
 use Rattle.lp_unify_laws.proofs.MoreSteps.Scans.{Below}
-use Rattle.lp_pattern.proofs.Stacks.{under_kept}
-use Rattle.lp_pattern.proofs.Judging.{judged_below, out_below, left_side, right_side, view_kept, all_under, as_variable, variables_same, variables_differ, differ_out, compare_out, four_open, four_half, four_joined, four_left_out, four_right_out, length_map}
+use Rattle.lp_pattern.proofs.Stacks.{under_kept, unders_kept}
+use Rattle.lp_pattern.proofs.Judging.{judged_below, out_below, left_side, right_side, view_kept, as_variable, variables_same, variables_differ, differ_out, compare_out, four_open, four_half, four_joined, four_left_out, four_right_out}
 
 module _ (b d : Nodes) (s : Bindings) (c : Closing) (one other : Looked) (level n next u : ℕ) (p : Pair) (e : Extends b d) (k : IsLooked b s one) (m : IsLooked b s other) (h : IsSeenPair b c level one other p) where
   later_right : steps weak_step h.right.0 p.right ≡ Some (under d c other.whole)
@@ -101,13 +102,13 @@ module _ (b d : Nodes) (s : Bindings) (c : Closing) (one other : Looked) (level 
     -- rule 4 in a bank that has grown
     pub four_before : (w : ℕ) (done : Bool) → IsJudged done u w (by_rule_4 n next p x l (map (under d c) one.arguments.items) (map (under d c) other.arguments.items)) → IsJudged done u w (by_rule_4 n next p x l ts us)
     four_before w done f =
-        transport (λ v. IsJudged done u w (by_rule_4 n next p x l v us)) (all_under b d c one.arguments.items e k.arguments)
-        (transport (λ v. IsJudged done u w (by_rule_4 n next p x l (map (under d c) one.arguments.items) v)) (all_under b d c other.arguments.items e m.arguments) f)
+        transport (λ v. IsJudged done u w (by_rule_4 n next p x l v us)) (unders_kept b d c one.arguments.items e k.arguments)
+        (transport (λ v. IsJudged done u w (by_rule_4 n next p x l (map (under d c) one.arguments.items) v)) (unders_kept b d c other.arguments.items e m.arguments) f)
 
     pub four_out_before : (o : PatternRefusal) → IsRuledOut n o u (by_rule_4 n next p x l (map (under d c) one.arguments.items) (map (under d c) other.arguments.items)) → IsRuledOut n o u (by_rule_4 n next p x l ts us)
     four_out_before o f =
-        transport (λ v. IsRuledOut n o u (by_rule_4 n next p x l v us)) (all_under b d c one.arguments.items e k.arguments)
-        (transport (λ v. IsRuledOut n o u (by_rule_4 n next p x l (map (under d c) one.arguments.items) v)) (all_under b d c other.arguments.items e m.arguments) f)
+        transport (λ v. IsRuledOut n o u (by_rule_4 n next p x l v us)) (unders_kept b d c one.arguments.items e k.arguments)
+        (transport (λ v. IsRuledOut n o u (by_rule_4 n next p x l (map (under d c) one.arguments.items) v)) (unders_kept b d c other.arguments.items e m.arguments) f)
 
 -- the comparison of one variable's arguments
 module _ (b : Nodes) (s : Bindings) (c : Closing) (one other : Looked) (level n next u : ℕ) (p : Pair) (h : IsSeenPair b c level one other p) (x l : ℕ) (y : one.head ≡ Head.Variable x l) (z : other.head ≡ Head.Variable x l)

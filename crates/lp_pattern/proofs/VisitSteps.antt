@@ -7,6 +7,7 @@ use Rattle.lp_term.specs.declared.reduce.TermRefusal.{TermRefusal}
 use Rattle.lp_term.proofs.Frames.{some_of}
 use Rattle.lp_model.specs.Look.{Look, an_abs, rigid, flexible, looked, pattern_of}
 use Rattle.lp_model.specs.Scan.{Side, is_side, allows_head, Pattern, Scanned, broken, whole, above, beside, fits, pattern, scanned_pattern}
+use Rattle.lp_lemmas.proofs.Booleans.{or_false_left}
 use Rattle.lp_pattern.specs.declared.fault.PatternRefusal.{PatternRefusal}
 use Rattle.lp_pattern.specs.declared.fault.PatternRefusal.TheVariants.{Deep, Memory}
 use Rattle.lp_pattern.specs.declared.fault.PatternRefusal.TheVariants as refusal
@@ -207,17 +208,13 @@ not_both true b false = refl
 not_both false b true = refl
 not_both false b false = refl
 
-left_false : (a b : Bool) → (a || b) ≡ false → a ≡ false
-left_false true b e = absurd (cc)
-left_false false b e = refl
-
 noted_merged : (s : Side) (u w : ℕ) (f g : Noted) (d : Bool) (ps : List Pattern) (y : Scanned) → u ≡ suc w → Adds s f g (whole 1 d ps) → Merged s u w f g (beside 1 d ps y) y
 noted_merged s u w f g d ps (broken m) z a = omega (arith, z)
 noted_merged s u w f g d ps (whole m e qs) z a = (
   omega (arith, z),
   or_assoc f.is_delayed d e ∙ ap (λ b. b || e) (sym a.0),
   λ h.
-      ap (λ b. f.has_misfit || not b) (fit_append s ps qs) ∙ not_both (all_fit s ps) (all_fit s qs) f.has_misfit ∙ ap (λ b. b || not (all_fit s qs)) (sym (a.1 (left_false g.is_delayed e h))),
+      ap (λ b. f.has_misfit || not b) (fit_append s ps qs) ∙ not_both (all_fit s ps) (all_fit s qs) f.has_misfit ∙ ap (λ b. b || not (all_fit s qs)) (sym (a.1 (or_false_left g.is_delayed e h))),
 )
 
 -- a pattern is one unit

@@ -1,5 +1,5 @@
 -- Steps of a scan: a part gives way to its parts, with what is noted and the units between.
-use Rattle.std.proofs.Common.{ℕ, zero, suc, ◌≤◌, List, [], ◌∷◌, map, ◌∙◌, sym, arith, Bool, true, false, Option, Some, None, ◌||◌}
+use Rattle.std.proofs.Common.{ℕ, zero, suc, ◌≤◌, List, [], ◌∷◌, map, ◌∙◌, sym, arith, Bool, true, Option, Some, None, ◌||◌}
 use Rattle.std.specs.Prelude.{option_map, not, nat_lt}
 use Rattle.lp_calculus.specs.Term.{Term, atom, eigen, substitute}
 use Rattle.lp_model.specs.Look.{Look, an_abs, rigid, flexible, pattern_of}
@@ -7,17 +7,13 @@ use Rattle.lp_model.specs.Scan.{Side, is_side, allows_head, Scanned, broken, who
 use Rattle.lp_pattern.specs.TopLooks.{top_look, scan_top, scan_seen, scan_tops}
 use Rattle.lp_pattern.specs.Visiting.{Part, scan_parts}
 use Rattle.lp_unify_laws.proofs.MoreSteps.Scans.{Below, below_none, below_same, below_then, below_map}
-use Rattle.lp_pattern.proofs.TopScans.{top_is}
+use Rattle.lp_pattern.proofs.TopScans.{top_is, below_elim}
 
 -- more turns change no answer
-below_test : (b : Bool) (x x' y : Option Scanned) → Below x x' → Below (elim b as (λ z. Option Scanned) [ true ↦ x | false ↦ y ]) (elim b as (λ z. Option Scanned) [ true ↦ x' | false ↦ y ])
-below_test true x x' y h = h
-below_test false x x' y h = below_same y
-
 seen_more : (limit n m : ℕ) (s : Side) (inside : Bool) (k : ℕ) (v : Look) → ((k : ℕ) (t : Term) → Below (scan_top limit n s inside k t) (scan_top limit m s inside k t)) →
     ((inside : Bool) (ts : List Term) → Below (scan_tops limit n s inside k ts) (scan_tops limit m s inside k ts)) → Below (scan_seen limit n s inside k v) (scan_seen limit m s inside k v)
 seen_more limit n m s inside k (an_abs b) f g = f (suc k) (substitute (atom (eigen (suc k))) b)
-seen_more limit n m s inside k (rigid h ts) f g = below_test (allows_head s h || inside) _ _ _ (below_map (scan_tops limit n s inside k ts) (scan_tops limit m s inside k ts) (above (not (allows_head s h))) (g inside ts))
+seen_more limit n m s inside k (rigid h ts) f g = below_elim (allows_head s h || inside) _ _ _ (below_map (scan_tops limit n s inside k ts) (scan_tops limit m s inside k ts) (above (not (allows_head s h))) (g inside ts))
 seen_more limit n m s inside k (flexible y l ts) f g = below_then (pattern_of limit l ts) (pattern_of limit l ts) _ _ (below_same _) λ o. go o
   where
     go : (o : Option (List ℕ)) → Below (elim o as (λ z. Option Scanned) [ None ↦ option_map (above (is_side s y l || nat_lt s.level l)) (scan_tops limit n s true k ts) | Some b ↦ Some (scanned_pattern s inside y l b) ])

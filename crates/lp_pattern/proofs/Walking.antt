@@ -1,7 +1,6 @@
 -- The moves of a look: what is at hand is followed under each reading of the bindings.
 use Rattle.std.proofs.Common.{◌≡◌, ℕ, suc, ◌+◌, ◌-◌, ◌<◌, ◌≤◌, List, [], ◌∷◌, ◌++◌, map, reverse, length, ◌∙◌, refl, sym, ap, subst as transport, arith, Option, Some, None, nat_eq}
-use Rattle.std.specs.Prelude.{All, IsSome, IfSome, OnOk, Result, Ok, Err}
-use Rattle.std.proofs.lemmas.List.{map-append, reverse-append}
+use Rattle.std.specs.Prelude.{All, IsSome, IfSome}
 use Rattle.indexmap.specs.IndexMap.{get}
 use Rattle.lp_calculus.specs.Types.{Ty, instance}
 use Rattle.lp_calculus.specs.Term.{Term, index, atom, abs, app, apply, substitute, constant, integer, text, eigen, logic, param}
@@ -19,12 +18,15 @@ use Rattle.lp_term.proofs.Spines.{unwound_application}
 use Rattle.lp_term.proofs.Walks.{trees-push, trees_stay, All-front, map_map}
 use Rattle.lp_model.specs.Pair.{Closing, closed}
 use Rattle.lp_model.specs.Look.{rigid, look}
+use Rattle.lp_lemmas.proofs.Options.{IsSome_from}
+use Rattle.lp_lemmas.proofs.Lists.{map_reverse}
 use Rattle.lp_pattern.specs.declared.bindings.Bindings.{Bindings}
 use Rattle.lp_pattern.specs.declared.look.Head.{Head}
 use Rattle.lp_pattern.specs.declared.look.Looked.{Looked}
 use Rattle.lp_pattern.specs.declared.look.Spine.{Spine}
 use Rattle.lp_pattern.specs.Under.{ValueIs, TypeIs, AreTypes, IsReading, under, below}
 use Rattle.lp_pattern.specs.Seen.{IsRigid, IsHead, IsLooked, Stands, IsReachedWithin, IsDeepWhere, IsEndedHead, IsEnded, seen, Sees, weak_step, at_hand, Follows}
+use Rattle.lp_pattern.specs.Turning.{IsOpenReading}
 use Rattle.lp_pattern.proofs.Looking.{closed_apply, closed_redex, closed_value, steps_then, one_step, look_later, look_abs, look_ended}
 
 -- a reading in a bank that has grown
@@ -44,6 +46,9 @@ reading_kept b d s c e r = record {
   terms = λ x. value_kept b d c x (get nat_eq s.terms x) e (r.terms x);
   types = types_kept b d s c.types e r.types;
 }
+
+pub open_kept : (b d : Nodes) (s : Bindings) (next : ℕ) (c : Closing) → Extends b d → IsOpenReading b s next c → IsOpenReading d s next c
+open_kept b d s next c e i = record { reading = reading_kept b d s c e i.reading; shut = i.shut; still = i.still; unbound = i.unbound }
 
 -- a contraction
 pub redex_shape : (b : Nodes) (top body arg : TermId) (args rest : List TermId) → tree b top.0 ≡ abs (tree b body.0) → args ≡ rest ++ arg ∷ [] →
@@ -66,16 +71,13 @@ pub contraction_one : (c : Closing) (b d : Nodes) (top body arg next : TermId) (
 contraction_one c b d top body arg next args rest q p e a h =
     one_step weak_step (closed c (apply (tree b top.0) (trees b args))) (closed c (apply (tree d next.0) (trees d rest))) (contraction_follows c b d top body arg next args rest q p e a h)
 
-some_is : {A : Type 0} (o : Option A) (x : A) → o ≡ Some x → IsSome o
-some_is o x e = rw e refl
-
 -- a contraction where none is left
 pub too_deep : (c : Closing) (b : Nodes) (top body arg : TermId) (args rest : List TermId) (n : ℕ) → n ≡ 0 → tree b top.0 ≡ abs (tree b body.0) → args ≡ rest ++ arg ∷ [] →
     IsSome (steps weak_step (suc n) (closed c (apply (tree b top.0) (trees b args))))
 too_deep c b top body arg args rest n z q p =
     let e = ap (λ t. weak_step (closed c t)) (redex_shape b top body arg args rest q p) ∙ closed_redex c (tree b body.0) (tree b arg.0) (trees b rest) in
     let s = one_step weak_step (closed c (apply (tree b top.0) (trees b args))) _ e in
-    some_is (steps weak_step (suc n) (closed c (apply (tree b top.0) (trees b args)))) _ (ap (λ m. steps weak_step (suc m) (closed c (apply (tree b top.0) (trees b args)))) z ∙ s)
+    IsSome_from (steps weak_step (suc n) (closed c (apply (tree b top.0) (trees b args)))) _ (ap (λ m. steps weak_step (suc m) (closed c (apply (tree b top.0) (trees b args)))) z ∙ s)
 
 whole_alone : (d : Nodes) (top : TermId) (args : List TermId) (o : Option TermId) → top.0 < length d.terms → IfSome o (λ id. (id ≡ top) × (args ≡ [])) →
     IfSome o (λ id. (id.0 < length d.terms) × (tree d id.0 ≡ apply (tree d top.0) (trees d args)))
@@ -126,7 +128,7 @@ moved_on limit left next k t s r l e f g = steps_then weak_step (limit - left) k
 pub deep_later : (limit left : ℕ) (t s : Term) (e : TermRefusal) → left ≤ limit → steps weak_step (limit - left) t ≡ Some s → IsDeepWhere left s e → IsDeepWhere limit t e
 deep_later limit left t s (Deep n) l f d =
     let k = some_of (steps weak_step (suc left) s) d in
-    some_is (steps weak_step (suc limit) t) k.0 (steps_then weak_step (limit - left) (suc left) (suc limit) t s k.0 (omega arith) f k.1)
+    IsSome_from (steps weak_step (suc limit) t) k.0 (steps_then weak_step (limit - left) (suc left) (suc limit) t s k.0 (omega arith) f k.1)
 deep_later limit left t s Memory l f d = tt
 
 pub follows_on : (c : Closing) (limit : ℕ) (t : Term) (b d : Nodes) (s r : Spine) → s.left ≤ limit → steps weak_step (limit - s.left) t ≡ Some (closed c (at_hand b s)) → Follows c b s d r →
@@ -146,17 +148,9 @@ pub whole_stays : (b : Nodes) (o : Option TermId) (t s : Term) → s ≡ t → I
 whole_stays b None t s e h = h
 whole_stays b (Some id) t s e h = (h.0, h.1 ∙ sym e)
 
-pub on_ok : {T E : Type 0} (r : Result T E) (P Q : Type 0) → (P → Q) → OnOk r P → OnOk r Q
-on_ok (Ok x) P Q f h = f h
-on_ok (Err e) P Q f h = h
-
 -- the arguments in their order
-pub map-reverse : {A B : Type 0} (f : A → B) (xs : List A) → map f (reverse xs) ≡ reverse (map f xs)
-map-reverse f [] = refl
-map-reverse f (x ∷ xs) = ap (map f) (reverse-append (x ∷ []) xs) ∙ map-append f (reverse xs) (x ∷ []) ∙ ap (λ l. l ++ f x ∷ []) (map-reverse f xs) ∙ sym (reverse-append (f x ∷ []) (map f xs))
-
 pub reversed_trees : (b : Nodes) (ids : List TermId) → map (λ t. tree b t.0) (reverse ids) ≡ trees b ids
-reversed_trees b ids = map-reverse (λ t. tree b t.0) ids
+reversed_trees b ids = map_reverse (λ t. tree b t.0) ids
 
 pub spine_ordered : (b : Nodes) (top : TermId) (args items : List TermId) → items ≡ reverse args → apply (tree b top.0) (map (λ t. tree b t.0) items) ≡ apply (tree b top.0) (trees b args)
 spine_ordered b top args items q = ap (apply (tree b top.0)) (ap (map (λ t. tree b t.0)) q ∙ reversed_trees b args)

@@ -1,10 +1,10 @@
 -- Terms with all bindings put in.
-use Rattle.std.specs.Prelude.{◌≡◌, ℕ, ◌<◌, List, [], ◌∷◌, map, length, Some, nat_eq}
+use Rattle.std.specs.Prelude.{◌≡◌, ℕ, ◌<◌, List, map, length, Some, nat_eq}
 use Rattle.indexmap.specs.IndexMap.{get}
 use Rattle.lp_calculus.specs.Term.{atom, abs, apply, constant, param}
 use Rattle.lp_term.specs.Nodes.{Nodes, tree, type_tree}
+use Rattle.lp_term.specs.Within.{AreTypesOf}
 use Rattle.lp_term.specs.declared.node.TermId.{TermId}
-use Rattle.lp_term.specs.declared.node.TypeId.{TypeId}
 use Rattle.lp_model.specs.Pair.{Closing, closed}
 use Rattle.lp_pattern.specs.Under.{IsReading}
 use Rattle.lp_pattern.specs.Filling.{AreFilled}
@@ -26,10 +26,6 @@ pub record AreAllFilled (b : Nodes) (c : Closing) (done : TermsFilled) : Type 0 
 -- the terms of a list have become those of another
 abbrev pub TermsBecome : Nodes → Closing → (olds news : List TermId) → Type 0
 TermsBecome b c olds news = map (λ t. tree b t.0) news ≡ map (λ t. closed c (tree b t.0)) olds
-
-abbrev pub AreTypesOf : Nodes → List TypeId → Type 0
-AreTypesOf b [] = Unit {0}
-AreTypesOf b (t ∷ ts) = (t.0 < length b.types) × AreTypesOf b ts
 
 -- a node by what has to be done with it
 abbrev pub HasShape : Nodes → Bindings → ℕ → Shape → Type 0

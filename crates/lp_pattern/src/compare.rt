@@ -13,15 +13,13 @@ use crate::bindings::Bindings;
 use crate::fault::PatternRefusal;
 use crate::heads::{have_same_name, type_pairs};
 use crate::look::{CONTRACTIONS, Head, Looked, look};
+use crate::patterns::LEVELS;
 use crate::types::are_same_types;
 use crate::units::spend;
 use lp_base::Memory;
 use lp_model::Pair;
 use lp_term::{Bank, TermId, put_applied, put_eigen};
 use std::alloc::Global;
-
-// Levels of pairs are below this.
-const LEVELS: u64 = 4_611_686_018_427_387_904;
 
 // Both sides on the eigenconstant of the level plus one.
 pub(crate) fn opened(

@@ -3,8 +3,9 @@ ghost use Rattle.std.specs.Prelude.{◌≡◌, ◌<◌, ℕ, length, map, IfOk, 
 ghost use Rattle.indexmap.specs.IndexMap.{get};
 ghost use Rattle.lp_calculus.specs.Term.{abs, apply, atom, constant, param};
 ghost use Rattle.lp_term.specs.Nodes.{Extends, Nodes, tree, type_tree};
+ghost use Rattle.lp_term.specs.Within.{AreTypesOf};
 ghost use Rattle.lp_model.specs.Pair.{Closing, closed};
-ghost use Rattle.lp_pattern.specs.FillingTerms.{IsFilledTerm, AreAllFilled, AreTypesOf, TermsBecome, HasShape, IsMade};
+ghost use Rattle.lp_pattern.specs.FillingTerms.{IsFilledTerm, AreAllFilled, TermsBecome, HasShape, IsMade};
 ghost use Rattle.lp_pattern.specs.Stripping.{IsShut};
 ghost use Rattle.lp_pattern.specs.Under.{IsReading};
 

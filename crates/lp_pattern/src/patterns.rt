@@ -17,7 +17,7 @@ use lp_term::{Bank, TermId, TermNode, TermRefusal};
 use std::alloc::Global;
 
 // Levels and depths are below this.
-const LEVELS: u64 = 4_611_686_018_427_387_904;
+pub(crate) const LEVELS: u64 = 4_611_686_018_427_387_904;
 
 // Abstractions that were opened: the outermost stands for the eigenconstant of the level plus one, and so on.
 #[derive(Clone, Copy)]

@@ -3,10 +3,11 @@ use Rattle.lp_term.proofs.Trees.{extends_same, extends-trans}
 use Rattle.lp_term.proofs.Moves.{passed_up, nothing}
 use Rattle.lp_model.specs.Pair.{Closing}
 use Rattle.lp_model.specs.Rule.{compare_all}
+use Rattle.lp_lemmas.proofs.Elements.{All_popped}
 use Rattle.lp_pattern.specs.Growing.{IsPairOf}
 use Rattle.lp_pattern.specs.Under.{IsReading, under}
 use Rattle.lp_pattern.specs.Comparing.{IsPassed, pairs_of}
-use Rattle.lp_pattern.proofs.Tops.{are_start, are_next, are_apart_at, are_done, popped_known, refused_at, start_known}
+use Rattle.lp_pattern.proofs.Tops.{are_start, are_next, are_apart_at, are_done, refused_at, start_known}
 use Rattle.lp_pattern.proofs.Walking.{reading_kept}
 use Rattle.lp_pattern.proofs.compare.are_same.Goals as goal
 
@@ -23,10 +24,10 @@ returns-in_default-clause-compared c = λ r i n.
     (nothing c.pairs.left.items (omega (arith, c.in_default.ensures.cases.0, c.pairs.left.ok))) (c.pairs.invariant.rest r i n)
 
 pub compare-requires-clause-pair : goal.compare-requires-clause-pair
-compare-requires-clause-pair c = (popped_known (IsPairOf (length c.pairs.bank.terms)) c.pairs.left.items c.pop.new.self.items c.in-Some.pair c.in-Some.ensures.items c.pairs.invariant.left).1
+compare-requires-clause-pair c = (All_popped (IsPairOf (length c.pairs.bank.terms)) c.pairs.left.items c.pop.new.self.items c.in-Some.pair c.in-Some.ensures.items c.pairs.invariant.left).1
 
 pub compare-requires-clause-left : goal.compare-requires-clause-left
-compare-requires-clause-left c = (popped_known (IsPairOf (length c.pairs.bank.terms)) c.pairs.left.items c.pop.new.self.items c.in-Some.pair c.in-Some.ensures.items c.pairs.invariant.left).0
+compare-requires-clause-left c = (All_popped (IsPairOf (length c.pairs.bank.terms)) c.pairs.left.items c.pop.new.self.items c.in-Some.pair c.in-Some.ensures.items c.pairs.invariant.left).0
 
 pub returns-in_err-is_same-clause-refused : goal.returns-in_err-is_same-clause-refused
 returns-in_err-is_same-clause-refused c =

@@ -2,8 +2,9 @@ use Rattle.std.proofs.Common.{◌∙◌, sym, ap, map}
 use Rattle.std.proofs.lemmas.Bool.{eqb-true}
 use Rattle.lp_calculus.specs.Term.{apply}
 use Rattle.lp_term.specs.Nodes.{tree}
+use Rattle.lp_term.proofs.Rebuilding.{same_terms}
 use Rattle.lp_pattern.proofs.FilledTypes.{some_given}
-use Rattle.lp_pattern.proofs.FilledTerms.{application_made, application_stays, same_terms}
+use Rattle.lp_pattern.proofs.FilledTerms.{application_made, application_stays}
 use Rattle.lp_pattern.proofs.fill.application.Goals as goal
 
 pub returns-then-eq-2-clause-made : goal.returns-then-eq-2-clause-made

@@ -1,8 +1,8 @@
 use Rattle.std.proofs.Common.{◌∙◌, sym, ap}
 use Rattle.lp_term.proofs.Trees.{extends_same}
 use Rattle.lp_model.specs.Pair.{closed}
+use Rattle.lp_term.proofs.Within.{kept_then}
 use Rattle.lp_pattern.proofs.FilledTerms.{term_filled}
-use Rattle.lp_pattern.proofs.Keeps.{kept_then}
 use Rattle.lp_pattern.proofs.Walking.{reading_kept}
 use Rattle.lp_pattern.proofs.fill.filled.Goals as goal
 

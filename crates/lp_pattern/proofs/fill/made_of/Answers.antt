@@ -1,7 +1,8 @@
 use Rattle.std.proofs.Common.{subst as transport}
 use Rattle.std.proofs.lemmas.Result.{IfOk-weaker}
+use Rattle.lp_lemmas.proofs.Results.{on_ok_always}
 use Rattle.lp_pattern.specs.FillingTerms.{HasShape}
-use Rattle.lp_pattern.proofs.FilledTerms.{bound_made, typed_shape, applied_shape, some_weaker, on_any, terms_later}
+use Rattle.lp_pattern.proofs.FilledTerms.{bound_made, typed_shape, applied_shape, some_weaker, terms_later}
 use Rattle.lp_pattern.proofs.fill.made_of.Goals as goal
 
 pub returns-in-Bound-clause-made : goal.returns-in-Bound-clause-made
@@ -37,7 +38,7 @@ returns-in_ok-new-in-Parameter-clause-made c = λ d R h F.
 
 pub returns-in-Abstraction-clause-filled : goal.returns-in-Abstraction-clause-filled
 returns-in-Abstraction-clause-filled c =
-    on_any c.abstraction.result _ (λ d R h F. terms_later c.args.bank.now c.abstraction.new.bank d c.args.done.now c.abstraction.ensures.kept F)
+    on_ok_always c.abstraction.result _ (λ d R h F. terms_later c.args.bank.now c.abstraction.new.bank d c.args.done.now c.abstraction.ensures.kept F)
 
 pub returns-in-Abstraction-clause-made : goal.returns-in-Abstraction-clause-made
 returns-in-Abstraction-clause-made c =
@@ -48,7 +49,7 @@ returns-in-Abstraction-clause-made c =
 
 pub returns-in-Application-clause-filled : goal.returns-in-Application-clause-filled
 returns-in-Application-clause-filled c =
-    on_any c.application.result _ (λ d R h F. terms_later c.args.bank.now c.application.new.bank d c.args.done.now c.application.ensures.kept F)
+    on_ok_always c.application.result _ (λ d R h F. terms_later c.args.bank.now c.application.new.bank d c.args.done.now c.application.ensures.kept F)
 
 pub returns-in-Application-clause-made : goal.returns-in-Application-clause-made
 returns-in-Application-clause-made c =

@@ -1,4 +1,5 @@
-use Rattle.lp_pattern.proofs.Walking.{on_ok, reading_kept}
+use Rattle.lp_pattern.proofs.Walking.{reading_kept}
+use Rattle.lp_term.proofs.Walking.{on_ok}
 use Rattle.lp_pattern.proofs.FilledTypes.{some_given}
 use Rattle.lp_pattern.proofs.FilledTerms.{term_noted, terms_later}
 use Rattle.lp_pattern.proofs.fill.step.Goals as goal

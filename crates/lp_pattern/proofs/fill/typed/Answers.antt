@@ -6,10 +6,10 @@ use Rattle.std.proofs.lemmas.Iterator.Consumers.{YieldsList-end, YieldsList-from
 use Rattle.lp_calculus.specs.Term.{atom, constant}
 use Rattle.lp_calculus.specs.Types.{instance}
 use Rattle.lp_term.specs.Nodes.{type_tree}
-use Rattle.lp_pattern.specs.FillingTerms.{AreTypesOf}
-use Rattle.lp_pattern.proofs.FilledTypes.{same_numbers}
+use Rattle.lp_term.proofs.Within.{kept_then}
+use Rattle.lp_term.proofs.Rebuilding.{same_types}
+use Rattle.lp_term.specs.Within.{AreTypesOf}
 use Rattle.lp_pattern.proofs.FilledTerms.{one_type_more, constant_made, constant_stays, terms_later}
-use Rattle.lp_pattern.proofs.Keeps.{kept_then}
 use Rattle.lp_pattern.proofs.Walking.{types_kept}
 use Rattle.lp_pattern.proofs.fill.typed.Goals as goal
 
@@ -34,7 +34,7 @@ returns-then-eq-clause-made c =
     let w = c.loop-of.invariant.1 d R (transport (AreTypesOf a) (sym whole) k) F in (
       w.0,
       constant_stays a b d c.args.number c.args.id c.args.types.now c.loop-of.made.items c.loop-of.invariant.0 c.requires k e (w.2 ∙ ap (map (λ t. instance d.types (type_tree a t.0))) whole)
-          (ap (map (λ t. t.0)) (sym c.as_slice.ensures.value) ∙ same_numbers _ (λ x y e. eqb-true x.0 y.0 e) c.as_slice.result.now c.args.types.now (sym c.eq.ensures ∙ c.if-eq.true)),
+          (ap (map (λ t. t.0)) (sym c.as_slice.ensures.value) ∙ same_types _ (λ x y e. eqb-true x.0 y.0 e) c.as_slice.result.now c.args.types.now (sym c.eq.ensures ∙ c.if-eq.true)),
     )
 
 pub returns-clause-made : goal.returns-clause-made

@@ -3,7 +3,8 @@ use Rattle.lp_term.specs.Nodes.{Extends, type_tree}
 use Rattle.lp_calculus.specs.Types.{instance}
 use Rattle.lp_model.specs.Pair.{Closing}
 use Rattle.lp_pattern.specs.Under.{IsReading}
-use Rattle.lp_pattern.specs.FillingTerms.{AreAllFilled, AreTypesOf}
+use Rattle.lp_term.specs.Within.{AreTypesOf}
+use Rattle.lp_pattern.specs.FillingTerms.{AreAllFilled}
 use Rattle.lp_pattern.proofs.fill.typed.Given as goal
 
 abbrev pub invariant-loop-of : goal.invariant-loop-of

@@ -1,6 +1,7 @@
 use Rattle.std.proofs.Common.{◌∙◌, ap, sym, map}
-use Rattle.lp_pattern.proofs.Walking.{on_ok}
-use Rattle.lp_pattern.proofs.FilledTypes.{one_noted, become, some_given, types_later, all_later}
+use Rattle.lp_term.proofs.Walking.{on_ok}
+use Rattle.lp_pattern.proofs.Walking.{types_kept}
+use Rattle.lp_pattern.proofs.FilledTypes.{one_noted, become, some_given, all_later}
 use Rattle.lp_pattern.proofs.SameTypes.{unbound_loose}
 use Rattle.lp_pattern.proofs.fill_types.step.Goals as goal
 
@@ -9,7 +10,7 @@ returns-clause-filled c =
     let b = c.inside_type.new.self in
     on_ok c.note.result _ _
     (λ n θ A0 F0.
-    let A = types_later c.args.bank.now b c.args.bindings.now θ c.in_ok-inside.ensures.kept A0 in
+    let A = types_kept c.args.bank.now b c.args.bindings.now θ c.in_ok-inside.ensures.kept A0 in
     let F = all_later c.args.bank.now b θ c.args.done.now c.in_ok-inside.ensures.kept F0 in
     one_noted b c.rebuilt.new.bank θ c.args.done.now c.note.new.self c.in_ok-top.top c.in_ok-new.new c.in_ok-new.ensures.kept F n (c.in_ok-top.ensures.within c.in_ok-inside.ensures.within) c.in_ok-new.ensures.within
     (c.in_ok-new.ensures.filled θ (unbound_loose b c.args.bindings.now θ c.in_ok-top.top A (c.in_ok-top.ensures.unbound θ A)) (ap (map (λ t. t.0)) c.as_slice-2.ensures.value ∙ c.in_ok-parts.ensures)

@@ -1,9 +1,10 @@
 use Rattle.std.proofs.Common.{sym, ap, arith, Some}
 use Rattle.lp_term.proofs.Spines.{args_after}
 use Rattle.lp_model.specs.Pair.{Closing, closed}
+use Rattle.lp_term.proofs.Walking.{on_ok}
 use Rattle.lp_pattern.specs.Under.{IsReading}
 use Rattle.lp_pattern.specs.Seen.{Follows}
-use Rattle.lp_pattern.proofs.Walking.{taken_off, whole_stays, on_ok}
+use Rattle.lp_pattern.proofs.Walking.{taken_off, whole_stays}
 use Rattle.lp_pattern.proofs.look.step.Goals as goal
 
 pub returns-in_ok-push_reversed-in-App-clause-stands : goal.returns-in_ok-push_reversed-in-App-clause-stands

@@ -2,10 +2,10 @@ use Rattle.std.proofs.Common.{ℕ, ◌≤◌, ◌∙◌, ap, ◌++◌, arith, le
 use Rattle.lp_term.proofs.Trees.{extends-trans}
 use Rattle.lp_term.proofs.Moves.{passed_up, nothing}
 use Rattle.lp_model.specs.Pair.{Closing}
+use Rattle.lp_lemmas.proofs.Elements.{All_popped}
 use Rattle.lp_pattern.specs.Under.{IsReading, under}
 use Rattle.lp_pattern.specs.Stripping.{IsShut, IsStripped, HasNoEigen, read_at}
 use Rattle.lp_pattern.proofs.ArgumentRuns.{left_start, left_none, left_form, left_fails, left_goes, no_form_no_eigen, one_no_form, named_none, formed_by}
-use Rattle.lp_pattern.proofs.Tops.{popped_known}
 use Rattle.lp_pattern.proofs.Walking.{reading_kept}
 use Rattle.lp_pattern.proofs.patterns.contracted.Goals as goal
 
@@ -36,7 +36,7 @@ returns-in_default-pop-clause-eigen c = λ r i h m p e.
     left_none m c.parts.bank r c.parts.left.items p c.in_ok-found.found (nothing c.parts.left.items (omega (arith, c.in_default-pop.ensures.cases.0, c.parts.left.ok))) (c.parts.invariant.parts r i h m p e)
 
 pub comes-requires : goal.comes-requires
-comes-requires c = record { known = (popped_known (λ w. w.term.0 < length c.parts.bank.terms) c.parts.left.items c.pop.new.self.items c.in-Some-pop.wanted c.in-Some-pop.ensures.items c.parts.invariant.known).0 }
+comes-requires c = record { known = (All_popped (λ w. w.term.0 < length c.parts.bank.terms) c.parts.left.items c.pop.new.self.items c.in-Some-pop.wanted c.in-Some-pop.ensures.items c.parts.invariant.known).0 }
 
 pub returns-in_err-goes-clause-refused : goal.returns-in_err-goes-clause-refused
 returns-in_err-goes-clause-refused c =
@@ -62,7 +62,7 @@ parts-preserved c = record {
   parts = λ r i h m p e.
       let w = c.parts.invariant.parts r i h m p e in
       left_goes m c.parts.bank c.comes.new.bank r c.parts.left.items c.pop.new.self.items c.comes.new.left.items c.in-Some-pop.wanted c.in_ok-goes.goes p c.in_ok-found.found c.in_ok-goes.ensures.kept
-      (popped_known (λ w. w.term.0 < length c.parts.bank.terms) c.parts.left.items c.pop.new.self.items c.in-Some-pop.wanted c.in-Some-pop.ensures.items c.parts.invariant.known).0 c.in-Some-pop.ensures.items w
+      (All_popped (λ w. w.term.0 < length c.parts.bank.terms) c.parts.left.items c.pop.new.self.items c.in-Some-pop.wanted c.in-Some-pop.ensures.items c.parts.invariant.known).0 c.in-Some-pop.ensures.items w
       c.if-not-goes.false
       (c.in_ok-goes.ensures.comes r (reading_kept c.args.bank.now c.parts.bank c.args.bindings.now r c.parts.invariant.kept i) h m
       (left_form m c.parts.bank r c.parts.left.items c.pop.new.self.items c.in-Some-pop.wanted p c.in_ok-found.found c.in-Some-pop.ensures.items w));

@@ -2,10 +2,10 @@ use Rattle.std.proofs.Common.{◌∙◌, sym, ap, length, map}
 use Rattle.lp_calculus.specs.Term.{apply, atom, logic}
 use Rattle.lp_term.specs.Spine.{abstractions}
 use Rattle.lp_term.specs.Nodes.{tree}
+use Rattle.lp_term.proofs.Walking.{on_ok}
 use Rattle.lp_pattern.specs.Reading.{side_of}
 use Rattle.lp_pattern.proofs.Pushing.{terms_stay}
 use Rattle.lp_pattern.proofs.Renewing.{renewed_value}
-use Rattle.lp_pattern.proofs.Walking.{on_ok}
 use Rattle.lp_pattern.proofs.prune.renew.Goals as goal
 
 pub returns-clause-bound : goal.returns-clause-bound

@@ -1,11 +1,11 @@
 use Rattle.std.proofs.Common.{[], ◌∷◌, ◌++◌, arith}
+use Rattle.lp_term.proofs.Walking.{on_ok}
 use Rattle.lp_pattern.specs.Pruning.{visit_at}
 use Rattle.lp_pattern.specs.Reading.{side_of}
 use Rattle.lp_pattern.proofs.PruneMoves.{look_prunes, prunes_then}
 use Rattle.lp_pattern.specs.Refusing.{IsOfTerm}
 use Rattle.lp_pattern.proofs.GivenUp.{prune_far, prune_seen}
 use Rattle.lp_pattern.proofs.Results.{err_and, if_err}
-use Rattle.lp_pattern.proofs.Walking.{on_ok}
 use Rattle.lp_pattern.proofs.prune.visit_part.Goals as goal
 
 pub returns-clause-prunes : goal.returns-clause-prunes

@@ -1,8 +1,8 @@
 use Rattle.std.proofs.Common.{◌∙◌, ◌++◌, ap, reverse, false}
+use Rattle.lp_term.proofs.Walking.{on_ok}
 use Rattle.lp_pattern.specs.Reading.{side_of}
 use Rattle.lp_pattern.specs.Scanning.{visits}
 use Rattle.lp_pattern.proofs.PruneMoves.{rigid_prunes}
-use Rattle.lp_pattern.proofs.Walking.{on_ok}
 use Rattle.lp_pattern.proofs.prune.visit_rigid.Goals as goal
 
 pub returns : goal.returns

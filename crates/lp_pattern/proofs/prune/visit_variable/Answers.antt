@@ -1,7 +1,7 @@
 use Rattle.std.proofs.Common.{◌≡◌, true, [], ◌∷◌, ◌++◌, ◌∙◌, sym, ap, map, None, Some, subst as transport}
 use Rattle.std.specs.Prelude.{IfSome, ◌&&◌}
 use Rattle.lp_model.specs.Look.{are_distinct, are_above}
-use Rattle.lp_pattern.proofs.Renewing.{and_first, and_second}
+use Rattle.lp_lemmas.proofs.Booleans.{and_true_left, and_true_right}
 use Rattle.lp_model.specs.Scan.{fits, pattern, renewal}
 use Rattle.lp_term.proofs.Trees.{extends-trans}
 use Rattle.lp_pattern.specs.Reading.{side_of}
@@ -43,8 +43,8 @@ returns-clause-prunes c =
     (transport (λ o. IsPattern m c.args.level (map (read_at c.args.bank.now r c.args.visit.opened.level c.args.visit.opened.depth) c.as_slice-arguments.result.now) o) c.in-Some.is (c.in_ok-pattern.ensures.pattern r i h m)))
     (ap (λ l. fits (side_of c.args.side.now) (pattern c.args.id c.args.level l)) (sym same) ∙ sym c.fits.ensures ∙ c.if-fits.false) c.in_ok-renew.ensures.next
     (transport (λ l. Binds c.renew.new.bank c.args.bindings.now c.renew.new.bindings c.args.id (renewal (side_of c.args.side.now) c.args.next.now (pattern c.args.id c.args.level l)).value) same
-    (c.in_ok-renew.ensures.bound (ap are_distinct same ∙ and_first (are_distinct c.in-Some.pattern.eigens.items) (are_above c.args.level c.in-Some.pattern.eigens.items) d)
-    (ap (are_above c.args.level) same ∙ and_second (are_distinct c.in-Some.pattern.eigens.items) (are_above c.args.level c.in-Some.pattern.eigens.items) d)))
+    (c.in_ok-renew.ensures.bound (ap are_distinct same ∙ and_true_left (are_distinct c.in-Some.pattern.eigens.items) (are_above c.args.level c.in-Some.pattern.eigens.items) d)
+    (ap (are_above c.args.level) same ∙ and_true_right (are_distinct c.in-Some.pattern.eigens.items) (are_above c.args.level c.in-Some.pattern.eigens.items) d)))
     c.in_ok-renew.ensures.types (c.in_ok-push.ensures.items ∙ ap (λ v. c.args.left.now.items ++ v ∷ []) c.at.ensures)
 
 pub returns-in_err-pattern-clause-refused : goal.returns-in_err-pattern-clause-refused

@@ -6,10 +6,9 @@ use Rattle.lp_model.specs.Rule.{by_rule_5}
 use Rattle.lp_pattern.specs.Ruling.{view, IsSeenPair, IsSideOf, IsRuledOut}
 use Rattle.lp_pattern.specs.Turning.{IsOpenReading, IsKnownPair}
 use Rattle.lp_pattern.proofs.Results.{if_ok, if_err}
-use Rattle.lp_pattern.proofs.Walking.{reading_kept, looked_stays}
+use Rattle.lp_pattern.proofs.Walking.{reading_kept, looked_stays, open_kept}
 use Rattle.lp_pattern.proofs.Judging.{left_out, right_out, no_side}
 use Rattle.lp_pattern.proofs.Verdicts.{left_judged, right_judged, side_before, no_side_before}
-use Rattle.lp_pattern.proofs.BoundOnce.{open_kept}
 use Rattle.lp_pattern.proofs.Dones.{left_done, right_done, no_side_done}
 use Rattle.lp_pattern.proofs.RuledOut.{left_stopped, right_stopped}
 use Rattle.lp_pattern.proofs.rules.by_pattern.Goals as goal

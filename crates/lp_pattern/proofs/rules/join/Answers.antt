@@ -2,9 +2,9 @@ use Rattle.std.proofs.Common.{◌∙◌, sym, ap, length, map}
 use Rattle.lp_calculus.specs.Term.{apply}
 use Rattle.lp_term.specs.Spine.{abstractions}
 use Rattle.lp_term.specs.Nodes.{tree}
+use Rattle.lp_term.proofs.Walking.{on_ok}
 use Rattle.lp_pattern.proofs.Pushing.{terms_stay}
 use Rattle.lp_pattern.proofs.Renewing.{joined_value}
-use Rattle.lp_pattern.proofs.Walking.{on_ok}
 use Rattle.lp_pattern.proofs.rules.join.Goals as goal
 
 pub returns-clause-bound : goal.returns-clause-bound

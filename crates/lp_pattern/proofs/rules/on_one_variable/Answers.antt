@@ -7,10 +7,9 @@ use Rattle.lp_pattern.specs.Ruling.{view, IsSeenPair, IsRuledOut}
 use Rattle.lp_pattern.specs.Turning.{IsOpenReading, IsKnownPair}
 use Rattle.lp_pattern.specs.Under.{under}
 use Rattle.lp_pattern.proofs.Results.{if_ok, if_err}
-use Rattle.lp_pattern.proofs.Walking.{reading_kept, looked_stays}
+use Rattle.lp_pattern.proofs.Walking.{reading_kept, looked_stays, open_kept}
 use Rattle.lp_pattern.proofs.Judging.{pair_kept, one_of}
 use Rattle.lp_pattern.proofs.Verdicts.{same_judged, other_judged, other_ruled, compare_ruled, four_before, four_out_before}
-use Rattle.lp_pattern.proofs.BoundOnce.{open_kept}
 use Rattle.lp_pattern.proofs.Dones.{same_done, other_done, four_done}
 use Rattle.lp_pattern.proofs.rules.on_one_variable.Goals as goal
 

@@ -8,10 +8,9 @@ use Rattle.lp_pattern.specs.Ruling.{view, IsSeenPair, IsSideOf, IsRuledOut}
 use Rattle.lp_pattern.specs.Turning.{IsOpenReading, IsKnownPair}
 use Rattle.lp_pattern.specs.Under.{under}
 use Rattle.lp_pattern.proofs.Results.{if_ok, if_err}
-use Rattle.lp_pattern.proofs.Walking.{reading_kept, looked_stays}
+use Rattle.lp_pattern.proofs.Walking.{reading_kept, looked_stays, open_kept}
 use Rattle.lp_pattern.proofs.Judging.{pair_kept}
 use Rattle.lp_pattern.proofs.Verdicts.{side_before, no_side_before, five_before, five_out_before, open_judged, open_ruled, half_judged, half_ruled, both_judged, left_test_out, right_test_out}
-use Rattle.lp_pattern.proofs.BoundOnce.{open_kept}
 use Rattle.lp_pattern.proofs.Dones.{five_done, open_done, half_done, both_done}
 use Rattle.lp_pattern.proofs.rules.on_others.Goals as goal
 

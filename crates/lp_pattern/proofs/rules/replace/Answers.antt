@@ -1,11 +1,11 @@
 use Rattle.std.proofs.Common.{sym, ap, ◌∙◌, map, length}
 use Rattle.lp_model.specs.Rule.{rule, decompose}
+use Rattle.lp_term.proofs.Walking.{on_ok}
 use Rattle.lp_pattern.specs.Under.{under}
 use Rattle.lp_pattern.proofs.Judging.{out_below}
 use Rattle.lp_pattern.proofs.PairsGiven.{on_two, arguments_given, opened_given}
 use Rattle.lp_pattern.proofs.Results.{if_err}
 use Rattle.lp_pattern.proofs.Taking.{both_rigid, rule_rigid, rule_opens, rule_gives}
-use Rattle.lp_pattern.proofs.Walking.{on_ok}
 use Rattle.lp_lemmas.proofs.Elements.{All_pushed}
 use Rattle.lp_pattern.specs.Growing.{IsPairOf}
 use Rattle.lp_pattern.proofs.Stacks.{still_pairs}

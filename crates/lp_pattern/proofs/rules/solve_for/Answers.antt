@@ -7,6 +7,7 @@ use Rattle.lp_calculus.specs.Convert.{steps}
 use Rattle.lp_calculus.specs.Term.{Term}
 use Rattle.lp_model.specs.Pair.{Closing}
 use Rattle.lp_model.specs.Rule.{solve_for}
+use Rattle.lp_pattern.proofs.Walking.{open_kept}
 use Rattle.lp_pattern.specs.Reading.{side_of}
 use Rattle.lp_pattern.specs.Ruling.{view, IsRuledOut}
 use Rattle.lp_pattern.specs.Seen.{weak_step}
@@ -14,7 +15,7 @@ use Rattle.lp_pattern.specs.Turning.{IsOpenReading}
 use Rattle.lp_pattern.specs.Under.{under}
 use Rattle.lp_pattern.specs.Putting.{Known}
 use Rattle.lp_pattern.specs.Valuing.{IsKnownSide, Values, HasNoValue}
-use Rattle.lp_pattern.proofs.BoundOnce.{open_kept, kept_behind}
+use Rattle.lp_pattern.proofs.BoundOnce.{kept_behind}
 use Rattle.lp_pattern.proofs.PruneSteps.{weak_reduces}
 use Rattle.lp_pattern.proofs.SidesBound.{bound_done}
 use Rattle.lp_pattern.proofs.Stacks.{under_kept}

@@ -3,11 +3,11 @@ use Rattle.lp_term.proofs.Trees.{extends-trans}
 use Rattle.lp_pattern.specs.Refusing.{IsOfTerm}
 use Rattle.lp_pattern.specs.Under.{under}
 use Rattle.lp_pattern.proofs.Judging.{seen_pair}
-use Rattle.lp_pattern.proofs.PairsGiven.{open_kept, seen_from, deep_before}
+use Rattle.lp_pattern.proofs.PairsGiven.{seen_from, deep_before}
 use Rattle.lp_pattern.proofs.Results.{err_and, if_ok, if_err}
 use Rattle.lp_pattern.proofs.Stacks.{under_kept, still_pairs}
 use Rattle.lp_pattern.proofs.Taking.{left_far, right_far}
-use Rattle.lp_pattern.proofs.Walking.{reading_kept, looked_stays}
+use Rattle.lp_pattern.proofs.Walking.{reading_kept, looked_stays, open_kept}
 use Rattle.lp_pattern.proofs.rules.take.Goals as goal
 
 pub take_seen-requires-clause-one : goal.take_seen-requires-clause-one

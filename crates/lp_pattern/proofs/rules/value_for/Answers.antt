@@ -2,6 +2,7 @@ use Rattle.std.proofs.Common.{◌<◌, ℕ, length, sym, ap, subst as transport}
 use Rattle.lp_term.proofs.Moves.{passed_up}
 use Rattle.lp_calculus.specs.Fill.{Within}
 use Rattle.lp_model.specs.Pair.{Closing}
+use Rattle.lp_lemmas.proofs.Results.{if_ok_both}
 use Rattle.lp_pattern.specs.Putting.{Known}
 use Rattle.lp_pattern.specs.Turning.{IsOpenReading}
 use Rattle.lp_pattern.specs.Under.{under}
@@ -9,14 +10,14 @@ use Rattle.lp_pattern.specs.Valuing.{IsKnownSide, HasNoValue}
 use Rattle.lp_pattern.specs.Reading.{side_of}
 use Rattle.lp_pattern.specs.Refusing.{IsNothing}
 use Rattle.lp_model.specs.Scan.{prune, settle}
-use Rattle.lp_pattern.proofs.Results.{if_two, if_err}
+use Rattle.lp_pattern.proofs.Results.{if_err}
 use Rattle.lp_pattern.proofs.RuledOut.{nothing_behind, no_value_behind}
 use Rattle.lp_pattern.proofs.Valued.{valued_pruned, valued_whole}
 use Rattle.lp_pattern.proofs.rules.value_for.Goals as goal
 
 pub returns-then-found-clause-value : goal.returns-then-found-clause-value
 returns-then-found-clause-value c =
-    if_two c.settled.result _ _ _
+    if_ok_both c.settled.result _ _ _
     (λ id w g l r o levels k i n y p q t z.
     valued_pruned (side_of c.args.side.now) levels c.args.next.now c.prune.new.next n r c.args.bindings.now c.prune.new.bindings c.prune.new.bank c.settled.new.bank c.args.term id y t (c.in_ok-prune.ensures.pruned k.below l r o levels i n y p) c.settled.ensures.kept w
     g k.distinct z)
@@ -24,7 +25,7 @@ returns-then-found-clause-value c =
 
 pub returns-clause-value : goal.returns-clause-value
 returns-clause-value c =
-    if_two c.settled-2.result _ _ _
+    if_ok_both c.settled-2.result _ _ _
     (λ id w g l r o levels k i n y p q t z.
     valued_whole (side_of c.args.side.now) levels c.args.next.now n r c.args.bindings.now c.args.bank.now c.settled-2.new.bank c.args.term id y t o i l c.settled-2.ensures.kept w g k.distinct (q c.if-found.false) z)
     c.settled-2.ensures.within c.settled-2.ensures.value

@@ -4,12 +4,12 @@ use Rattle.lp_term.proofs.Trees.{extends_same, extends-trans}
 use Rattle.lp_term.proofs.Moves.{passed_up, nothing}
 use Rattle.lp_model.specs.Pair.{Closing}
 use Rattle.lp_model.specs.Scan.{scan}
+use Rattle.lp_lemmas.proofs.Elements.{All_popped}
 use Rattle.lp_pattern.specs.Reading.{side_of}
 use Rattle.lp_pattern.specs.Stripping.{IsShut}
 use Rattle.lp_pattern.specs.Under.{IsReading, under}
 use Rattle.lp_pattern.specs.Visiting.{IsVisitOf, IsStopped}
 use Rattle.lp_pattern.proofs.Scannings.{scan_first, scan_next, scan_done, scan_stops, one_known}
-use Rattle.lp_pattern.proofs.Tops.{popped_known}
 use Rattle.lp_pattern.proofs.Walking.{reading_kept}
 use Rattle.lp_pattern.proofs.scan.scan.Goals as goal
 
@@ -31,11 +31,11 @@ returns-in_default-clause-scanned c = λ r i h n.
 
 pub visit_part-requires-clause-visit : goal.visit_part-requires-clause-visit
 visit_part-requires-clause-visit c =
-    (popped_known (IsVisitOf (length c.parts.bank.terms) c.args.side.now.pair) c.parts.left.items c.pop.new.self.items c.in-Some.visit c.in-Some.ensures.items c.parts.invariant.left).1
+    (All_popped (IsVisitOf (length c.parts.bank.terms) c.args.side.now.pair) c.parts.left.items c.pop.new.self.items c.in-Some.visit c.in-Some.ensures.items c.parts.invariant.left).1
 
 pub visit_part-requires-clause-left : goal.visit_part-requires-clause-left
 visit_part-requires-clause-left c =
-    (popped_known (IsVisitOf (length c.parts.bank.terms) c.args.side.now.pair) c.parts.left.items c.pop.new.self.items c.in-Some.visit c.in-Some.ensures.items c.parts.invariant.left).0
+    (All_popped (IsVisitOf (length c.parts.bank.terms) c.args.side.now.pair) c.parts.left.items c.pop.new.self.items c.in-Some.visit c.in-Some.ensures.items c.parts.invariant.left).0
 
 pub returns-in_err-visit_part-clause-stopped : goal.returns-in_err-visit_part-clause-stopped
 returns-in_err-visit_part-clause-stopped c =

@@ -1,8 +1,9 @@
 use Rattle.std.proofs.Common.{arith, refl}
+use Rattle.lp_term.proofs.Walking.{on_ok}
 use Rattle.lp_pattern.specs.Reading.{side_of}
 use Rattle.lp_pattern.specs.Refusing.{IsOfTerm}
 use Rattle.lp_pattern.proofs.Results.{err_and, if_err}
-use Rattle.lp_pattern.proofs.Walking.{on_ok, reading_kept}
+use Rattle.lp_pattern.proofs.Walking.{reading_kept}
 use Rattle.lp_pattern.proofs.Scannings.{visit_goes, visit_stops, visit_far, visits_kept}
 use Rattle.lp_pattern.proofs.scan.visit_part.Goals as goal
 

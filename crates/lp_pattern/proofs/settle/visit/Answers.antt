@@ -1,8 +1,8 @@
 use Rattle.lp_pattern.proofs.SettleMoves.{visit_moves}
+use Rattle.lp_term.proofs.Walking.{on_ok}
 use Rattle.lp_pattern.specs.Refusing.{IsOfTerm}
 use Rattle.lp_pattern.proofs.GivenUp.{settle_far, settle_seen}
 use Rattle.lp_pattern.proofs.Results.{err_and, if_err}
-use Rattle.lp_pattern.proofs.Walking.{on_ok}
 use Rattle.lp_pattern.proofs.settle.visit.Goals as goal
 
 pub returns-clause-moves : goal.returns-clause-moves

@@ -1,8 +1,8 @@
 use Rattle.std.proofs.Common.{[], ◌∷◌, ◌++◌, sym, subst as transport}
+use Rattle.lp_term.proofs.Walking.{on_ok}
 use Rattle.lp_pattern.specs.declared.settle.Task.TheVariants.{Visit}
 use Rattle.lp_pattern.specs.Settling.{Moves}
 use Rattle.lp_pattern.proofs.SettleMoves.{rigid_moves}
-use Rattle.lp_pattern.proofs.Walking.{on_ok}
 use Rattle.lp_pattern.proofs.settle.visit_rigid.Goals as goal
 
 pub returns-clause-moves : goal.returns-clause-moves

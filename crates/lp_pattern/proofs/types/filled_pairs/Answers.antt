@@ -6,9 +6,9 @@ use Rattle.std.proofs.lemmas.Iterator.Consumers.{YieldsList-end, YieldsList-from
 use Rattle.lp_lemmas.proofs.Elements.{All_empty, All_reverse}
 use Rattle.lp_term.proofs.Trees.{extends_same}
 use Rattle.lp_type_unify.specs.Reading.{IsPair}
+use Rattle.lp_term.proofs.Within.{kept_then}
 use Rattle.lp_pattern.specs.Filling.{AreIn, held}
 use Rattle.lp_pattern.specs.Inside.{IsTypePairOf}
-use Rattle.lp_pattern.proofs.Keeps.{kept_then}
 use Rattle.lp_pattern.proofs.TypesSolved.{one_more, one_more_pair, all_read, all_known}
 use Rattle.lp_pattern.proofs.types.filled_pairs.Goals as goal
 

@@ -1,8 +1,8 @@
 use Rattle.std.proofs.Common.{◌∙◌, ap, sym, subst as transport}
 use Rattle.lp_model.specs.Unify.{solve}
+use Rattle.lp_pattern.proofs.Walking.{open_kept}
 use Rattle.lp_pattern.specs.Inside.{ArePairsInPlaceOf, AreTypePairsInPlaceOf}
 use Rattle.lp_pattern.proofs.InPlace.{pairs_for}
-use Rattle.lp_pattern.proofs.PairsGiven.{open_kept}
 use Rattle.lp_pattern.proofs.Results.{if_ok, if_err}
 use Rattle.lp_pattern.proofs.unify.solve_under.Goals as goal
 
