@@ -1,0 +1,4 @@
+mod Growing
+mod Adding
+pub mod Recording
+mod WorkedRows

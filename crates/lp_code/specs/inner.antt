@@ -1,0 +1,2 @@
+-- What only loops and private types keep.
+pub mod Told
