@@ -1,4 +1,7 @@
 // Terms that are written behind their parts, and what they reduce to within limits.
+ghost use Rattle.std.specs.Prelude.{◌≡◌, ◌<◌, ◌^◌, length, true};
+ghost use Rattle.lp_term.specs.Nodes.{tree};
+ghost use Rattle.lp_term.specs.Spine.{LooseBelow};
 
 use lp_base::Memory;
 use lp_term::{
@@ -48,8 +51,14 @@ fn put(alloc: Global, bank: &mut Bank, text: &[u8]) -> Result<TermId, Memory> {
 }
 
 // Whether the reductions take the term.
-pub(crate) fn is_taken(bank: &Bank, term: TermId) -> bool {
-    term.0 < bank.term_count() && bank.is_known_below(term, 4_294_967_296)
+pub(crate) fn is_taken(bank: &Bank, term: TermId) -> bool
+    ensures within { result ≡ true → term.0 < length bank.now.terms }
+    ensures loose { result ≡ true → LooseBelow (2 ^ 32) 0 (tree bank.now term.0) }
+{
+    if term.0 >= bank.term_count() {
+        return false;
+    }
+    bank.is_known_below(term, 4_294_967_296)
 }
 
 #[derive(Clone, Copy)]
