@@ -30,7 +30,7 @@ def queries(path):
 
 
 # The statuses by the last line of an output.
-STATUSES = {"no more": "Done", "stopped: answers": "Done", "stopped: steps": "Steps", "stopped: flexible": "Flexible", "stopped: arithmetic": "Arithmetic"}
+STATUSES = {"no more": "Done", "stopped: answers": "Done", "stopped: steps": "Steps", "stopped: flexible": "Flexible", "stopped: arithmetic": "Arithmetic", "stopped: open": "OpenNot"}
 
 QUERIES = """// The examples, each with its queries. This file is written by `examples/check.py --write`.
 

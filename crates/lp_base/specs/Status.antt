@@ -1,7 +1,7 @@
 -- The number of each status.
 use Rattle.std.specs.Prelude.{ℕ}
 use Rattle.lp_base.specs.declared.status.Status.{Status}
-use Rattle.lp_base.specs.declared.status.Status.TheVariants.{Done, Usage, Source, Image, Steps, Flexible, Arithmetic, Deep, ReadFault, WriteFault, Memory, Limit, Missing, OpenNot}
+use Rattle.lp_base.specs.declared.status.Status.TheVariants.{Done, Usage, Source, Image, Steps, Flexible, Arithmetic, Deep, ReadFault, WriteFault, Memory, Limit, Missing, OpenNot, No}
 
 -- the number that the program exits with
 abbrev pub number_of : Status → ℕ
@@ -19,3 +19,4 @@ number_of Memory = 10
 number_of Limit = 11
 number_of Missing = 12
 number_of OpenNot = 13
+number_of No = 14

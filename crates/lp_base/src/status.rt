@@ -33,6 +33,8 @@ pub enum Status {
     Missing,
     /// Whether a negated goal holds stayed open.
     OpenNot,
+    /// What was to be judged is not so: a text outside the pattern fragment, or a certificate that is no proof.
+    No,
 }
 
 impl Status {
@@ -55,6 +57,7 @@ impl Status {
             Status::Limit => 11,
             Status::Missing => 12,
             Status::OpenNot => 13,
+            Status::No => 14,
         }
     }
 }

@@ -1,17 +1,22 @@
 // The program of the files.
-ghost use Rattle.std.specs.Prelude.{IfErr};
+ghost use Rattle.std.specs.Prelude.{◌<◌, length, IfErr, IfOk};
 ghost use Rattle.lp_build.specs.Faults.{IsOfTexts};
 
 use crate::fault::BuildFault;
 use crate::links::Links;
-use crate::modules::{modules_of, own_of};
+use crate::meanings::{module_at, modules_of, own_of};
+use crate::objects::{check_names, code_of, names_of};
 use crate::queries::{query_signature, query_table};
 use crate::signatures::Signatures;
 use crate::sources::{Sources, as_number};
-use crate::texts::texts_of;
+use crate::texts::{Group, texts_of};
+use lp_base::{Limit, MAX_COPIES, Memory};
+use lp_code::{Code, Image, Object};
 use lp_fixity::Table;
-use lp_module::{Assembled, assemble};
+use lp_link::{check_copies, link};
+use lp_module::{Assembled, Module, assemble};
 use lp_sig::Signature;
+use lp_syntax::ModuleText;
 use std::alloc::Global;
 
 /// The program of a set of modules, with what its queries see: the kinds and constants of the root's signature, under the numbers of the program, and
@@ -52,4 +57,164 @@ pub fn build_program(alloc: Global, sources: &Sources) -> Result<Built, BuildFau
         signature,
         table,
     })
+}
+
+// The place in a group at which the text of a file stands.
+fn place_of(group: &Group<ModuleText>, module: u32) -> Option<usize> {
+    let mut place: usize = 0;
+    for number in group.numbers.iter() {
+        if as_number(*number) == module {
+            return Some(place);
+        }
+        place = place.saturating_add(1);
+    }
+    None
+}
+
+// The object of a module, within its limits.
+fn object_of(alloc: Global, module: &mut Module) -> Result<Object, BuildFault>
+    ensures { IfErr result IsOfTexts }
+{
+    if module.uses.len() >= MAX_COPIES {
+        return Err(BuildFault::Limit(Limit::Copies));
+    }
+    let mut object = names_of(alloc, module)?;
+    object.code = code_of(alloc, module)?;
+    check_names(&object)?;
+    Ok(object)
+}
+
+/// The object of a module whose text is a file of this number. Of the modules that it accumulates the signatures alone are wanted.
+///
+/// # Errors
+/// The first fault of syntax in load order; then the first circle of accum_sig, then the first fault of a signature in load order; then the first fault
+/// of the module; then the limits of its object, `copies` first, of which the module itself and the words of its accumulate lists are counted.
+pub fn build_object(alloc: Global, sources: &Sources, module: u32) -> Result<Object, BuildFault>
+    ensures refused { IfErr result IsOfTexts }
+{
+    let links = Links::of(alloc, sources)?;
+    let texts = texts_of(alloc, sources, &links)?;
+    let signatures = Signatures::of(alloc, &texts.signatures)?;
+    let group = &texts.modules;
+    let Some(place) = place_of(group, module) else {
+        return Err(BuildFault::Memory);
+    };
+    let mut module = module_at(alloc, &links, &signatures, group, place)?;
+    object_of(alloc, &mut module)
+}
+
+// The number of the last of these objects.
+fn last_of(objects: &[Object]) -> Result<u32, Memory>
+    ensures { IfOk result (λ last. last < length objects.now) }
+{
+    match objects.len().checked_sub(1) {
+        Some(last) => Ok(as_number(last)),
+        None => Err(Memory),
+    }
+}
+
+// The objects of the modules, without their code.
+fn all_names(alloc: Global, modules: &Vec<Module>) -> Result<Vec<Object>, Memory> {
+    let mut objects = Vec::new(alloc);
+    for module in modules.iter() {
+        objects.push(names_of(alloc, module)?)?;
+    }
+    Ok(objects)
+}
+
+// The code of each module, in order.
+fn all_code(alloc: Global, modules: &mut Vec<Module>) -> Result<Vec<Code>, BuildFault>
+    ensures { IfErr result IsOfTexts }
+{
+    let mut codes = Vec::new(alloc);
+    for module in modules.iter_mut() {
+        codes.push(code_of(alloc, module)?)?;
+    }
+    Ok(codes)
+}
+
+fn check_all_names(objects: &Vec<Object>) -> Result<(), BuildFault>
+    ensures { IfErr result IsOfTexts }
+{
+    for object in objects.iter() {
+        check_names(object)?;
+    }
+    Ok(())
+}
+
+// The objects with their code, one for each.
+fn with_code(alloc: Global, objects: Vec<Object>, codes: Vec<Code>) -> Result<Vec<Object>, Memory> {
+    let mut whole = Vec::new(alloc);
+    for (object, code) in objects.into_iter().zip(codes) {
+        let Object {
+            name,
+            bank,
+            kinds,
+            constants,
+            uses,
+            code: _,
+        } = object;
+        whole.push(Object {
+            name,
+            bank,
+            kinds,
+            constants,
+            uses,
+            code,
+        })?;
+    }
+    Ok(whole)
+}
+
+fn linked(alloc: Global, objects: &Vec<Object>) -> Result<Image, BuildFault>
+    ensures { IfErr result IsOfTexts }
+{
+    let last = last_of(objects.as_slice())?;
+    Ok(link(alloc, objects.as_slice(), last)?)
+}
+
+fn within_copies(alloc: Global, objects: &Vec<Object>) -> Result<(), BuildFault>
+    ensures { IfErr result IsOfTexts }
+{
+    let last = last_of(objects.as_slice())?;
+    check_copies(alloc, objects.as_slice(), last)?;
+    Ok(())
+}
+
+// The image of modules, the root last.
+fn image_of(alloc: Global, modules: &mut Vec<Module>) -> Result<Image, BuildFault>
+    ensures { IfErr result IsOfTexts }
+{
+    let named = all_names(alloc, modules)?;
+    within_copies(alloc, &named)?;
+    let codes = all_code(alloc, modules)?;
+    let objects = with_code(alloc, named, codes)?;
+    check_all_names(&objects)?;
+    linked(alloc, &objects)
+}
+
+/// The modules of the files, which are those that `gather` gave with `all`: the accumulated ones first, the root last.
+///
+/// # Errors
+/// The first fault of syntax in load order; then the first circle of accum_sig, then the first fault of a signature in load order; then a circle of
+/// accumulate, then the first fault of a module, accumulated ones first.
+pub fn modules(alloc: Global, sources: &Sources) -> Result<Vec<Module>, BuildFault>
+    ensures refused { IfErr result IsOfTexts }
+{
+    let links = Links::of(alloc, sources)?;
+    let texts = texts_of(alloc, sources, &links)?;
+    let signatures = Signatures::of(alloc, &texts.signatures)?;
+    modules_of(alloc, &links, &signatures, &texts.modules)
+}
+
+/// The image of the files, which are those that `gather` gave with `all`. The root is the last module.
+///
+/// # Errors
+/// The first fault of syntax in load order; then the first circle of accum_sig, then the first fault of a signature in load order; then a circle of
+/// accumulate, then the first fault of a module, accumulated ones first; then the limit `copies`, those of each module's object, and `names`.
+pub fn build_image(alloc: Global, sources: &Sources) -> Result<Image, BuildFault>
+    ensures refused { IfErr result IsOfTexts }
+{
+    let mut modules = modules(alloc, sources)?;
+    image_of(alloc, &mut modules)
 }

@@ -2,9 +2,12 @@
 
 use lp_base::{Limit, Memory};
 use lp_fixity::FixFault;
+use lp_gen::GenRefusal;
 use lp_infer::InferFault;
 use lp_lexer::LexFault;
+use lp_link::LinkRefusal;
 use lp_module::ModuleFault;
+use lp_normal::NormalRefusal;
 use lp_sig::SigFault;
 use lp_syntax::SyntaxFault;
 use std::alloc::{AllocError, AllocFailed};
@@ -114,6 +117,46 @@ impl From<ModuleFault> for BuildFault {
             | ModuleFault::Sig(SigFault::Memory)
             | ModuleFault::Infer(InferFault::Memory) => BuildFault::Memory,
             _ => BuildFault::Module(fault),
+        }
+    }
+}
+
+impl From<NormalRefusal> for BuildFault {
+    ghost use Rattle.lp_build.specs.Faults.{IsOfTexts};
+
+    ghost from_gives = { λ _ e. IsOfTexts e };
+
+    fn from(refusal: NormalRefusal) -> BuildFault {
+        match refusal {
+            NormalRefusal::Limit(limit) => BuildFault::Limit(limit),
+            NormalRefusal::Memory => BuildFault::Memory,
+        }
+    }
+}
+
+impl From<GenRefusal> for BuildFault {
+    ghost use Rattle.lp_build.specs.Faults.{IsOfTexts};
+
+    ghost from_gives = { λ _ e. IsOfTexts e };
+
+    fn from(refusal: GenRefusal) -> BuildFault {
+        match refusal {
+            GenRefusal::Limit(limit) => BuildFault::Limit(limit),
+            GenRefusal::Memory => BuildFault::Memory,
+        }
+    }
+}
+
+// The objects of one set of texts never differ in a name.
+impl From<LinkRefusal> for BuildFault {
+    ghost use Rattle.lp_build.specs.Faults.{IsOfTexts};
+
+    ghost from_gives = { λ _ e. IsOfTexts e };
+
+    fn from(refusal: LinkRefusal) -> BuildFault {
+        match refusal {
+            LinkRefusal::Limit(limit) => BuildFault::Limit(limit),
+            LinkRefusal::Differ(_, _) | LinkRefusal::Memory => BuildFault::Memory,
         }
     }
 }

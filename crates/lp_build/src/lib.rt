@@ -3,6 +3,8 @@
 
 // The program of the files.
 mod build;
+// The limits that are counted before a module has code.
+mod counts;
 // Why the files have no program.
 mod fault;
 // Which files the texts name.
@@ -10,7 +12,9 @@ mod links;
 // The loading of files.
 mod load;
 // What all modules mean.
-mod modules;
+mod meanings;
+// The objects of modules.
+mod objects;
 // What queries see.
 mod queries;
 // The reading of one file.
@@ -24,7 +28,7 @@ mod texts;
 // The order in which files are loaded.
 mod walk;
 
-pub use build::{Built, build_program};
+pub use build::{Built, build_image, build_object, build_program, modules};
 pub use fault::BuildFault;
 pub use load::{gather, gather_with};
 pub use sources::Sources;

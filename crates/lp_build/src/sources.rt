@@ -1,5 +1,5 @@
 // Files as they were loaded.
-ghost use Rattle.std.specs.Prelude.{◌≡◌, Option, IfSome, string_bytes};
+ghost use Rattle.std.specs.Prelude.{◌≡◌, ◌≤◌, Option, IfSome, string_bytes};
 ghost use Rattle.lp_base.specs.Held.{Held};
 ghost use Rattle.lp_build.specs.Told.{IsTold, AreLoaded};
 
@@ -38,7 +38,9 @@ pub(crate) struct Text {
 }
 
 // A place as a number of 32 bits; no list of files or names is longer.
-pub(crate) fn as_number(place: usize) -> u32 {
+pub(crate) fn as_number(place: usize) -> u32
+    ensures { result ≤ place }
+{
     place.min(u32::MAX as usize) as u32
 }
 
@@ -51,6 +53,15 @@ impl Sources {
             Some(found) => Some((found.name.as_str(), found.text.bytes.as_slice())),
             None => None,
         }
+    }
+
+    /// The number of the file of this name, with its ending.
+    pub fn number_of(&self, name: &str) -> Option<u32> {
+        let found = self
+            .files
+            .iter()
+            .position(|file| file.name.as_str() == name);
+        found.map(as_number)
     }
 
     /// The name of the file at fault, with its ending, after a refusal of loading.

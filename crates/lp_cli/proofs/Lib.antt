@@ -1,10 +1,2 @@
-mod Appending
-mod Counting
-mod Files
-mod Loading
+mod Doing
 mod Orders
-mod Placing
-mod Progress
-mod Reading
-mod Refusing
-mod Statuses

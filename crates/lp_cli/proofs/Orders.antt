@@ -1,96 +1,48 @@
 -- What the words and the files come to, and what is then written.
-use Rattle.std.proofs.Common.{◌≡◌, ◌≢◌, ℕ, List, length, Option, Some, None, refl, sym, ap, ◌∙◌, subst, inl, inr}
-use Rattle.std.specs.Global.{Global}
-use Rattle.std.specs.Prelude.{IfSome, Vec, Bool, true, false, nat_lt, ◌⊎◌, Ok, Err, if◌then◌else◌}
+use Rattle.std.proofs.Common.{◌≡◌, ◌≢◌, ℕ, List, ◌++◌, Option, Some, None, refl, sym, ap, ◌∙◌, subst, inl, inr, Bool, true, false, option_map}
+use Rattle.std.specs.Option.{option_and_then}
+use Rattle.std.specs.Prelude.{◌⊎◌, IfSome, if◌then◌else◌}
 use Rattle.lp_base.specs.Held.{Held}
 use Rattle.lp_base.specs.Written.{Appends, AppendsPrefix}
 use Rattle.lp_base.specs.declared.status.Status.{Status}
 use Rattle.lp_base.specs.declared.status.Status.TheVariants as variant
-use Rattle.lp_fragment.specs.Kinds.{IsMeaning}
-use Rattle.lp_fragment.specs.Meaning.{Meaning, meaning, is_signature}
-use Rattle.lp_fragment.proofs.WellKinded.{meaning_is}
-use Rattle.lp_cli.specs.Asked.{Asked, solve, trial, asked, is_plain, IsCommand, IsWatched}
-use Rattle.lp_cli.specs.Words.{signature_file, module_file}
-use Rattle.lp_cli.specs.declared.asked.Options.{Options}
-use Rattle.lp_cli.specs.Lines.{usage_line, memory_line, long_file_line}
-use Rattle.lp_cli.specs.Order.{Order, Refuse, Search, Beyond, file_limit, with_bytes, with_file, with_meaning, order_of_texts, order_read, order_behind, order_of, order_asked, order, AsksPlain}
-use Rattle.lp_cli.specs.Ends.{Ends, with_line, without_memory, cut_short, Writes, WritesPrefix, IsFault, own, beyond, WritesReadFault, BeginsReadFault, Grows}
-use Rattle.lp_cli.specs.Refusals.{Loads}
-use Rattle.lp_cli.specs.declared.first.loaded.Loaded.TheVariants as loaded
-use Rattle.lp_cli.specs.declared.refusal.Refusal.TheVariants.{Line}
-use Rattle.lp_cli.proofs.Appending.{whole_prefix}
-use Rattle.lp_cli.proofs.Progress.{first_cut}
-
--- the order of words that ask for something, and of others
-order_is : (words : List (List ℕ)) (name query : List ℕ) → AsksPlain words name query → (held : Held) → order words held ≡ order_of name query held
-unfolding order
-order_is words name query a held = ap (λ o. order_asked o held) a.is_asked ∙ ap (λ (b : Bool). if b then order_of name query held else Beyond) a.plain
+use Rattle.lp_cli.specs.Does.{Does}
+use Rattle.lp_cli.specs.Ends.{IsAskedFault, of_plain, of_beyond, BeginsAskedFault, WritesAskedFault, IsReadFault, own, beyond, BeginsReadFault, WritesReadFault}
+use Rattle.lp_cli.specs.Order.{order, order_asked}
+use Rattle.lp_files.specs.Target.{done_line, ending_of}
+use Rattle.lp_lines.specs.Ends.{KeepsFiles}
+use Rattle.lp_judge.specs.Proved.{Proves}
+use Rattle.lp_lines.specs.Left.{Leaves}
+use Rattle.lp_lines.specs.Lines.{memory_line}
+use Rattle.lp_load.specs.Placed.{WritesPlaced}
+use Rattle.lp_solve.specs.Ends.{Ends, with_line, without_memory, Writes, WritesPrefix}
+use Rattle.lp_solve.specs.Order.{Beyond, Refuse, order_of}
+use Rattle.lp_solve.proofs.Orders.{for_each, for_told, query_wanting}
+use Rattle.lp_words.specs.Asked.{Asked, asked, check, files, is_plain, lambda, prove, query_on_texts, solve, trial, watches, writes_file, IsCommand, IsWatched, WritesNone}
+use Rattle.lp_words.specs.Commands.{usage_line}
+use Rattle.lp_words.specs.declared.asked.FileCommand.{FileCommand}
+use Rattle.lp_words.specs.declared.asked.Options.{Options}
 
 order_none : (words : List (List ℕ)) → asked words ≡ None → (held : Held) → order words held ≡ Refuse variant.Usage usage_line
 unfolding order
 order_none words h held = ap (λ o. order_asked o held) h
 
-pub trial_is_beyond : (words : List (List ℕ)) (size : ℕ) → asked words ≡ Some (trial size) → (held : Held) → order words held ≡ Beyond
+order_some : (words : List (List ℕ)) (a : Asked) → asked words ≡ Some a → (held : Held) → order words held ≡ order_asked (Some a) held
 unfolding order
-trial_is_beyond words size h held = ap (λ o. order_asked o held) h
-
-pub options_are_beyond : (words : List (List ℕ)) (name query : List ℕ) (options : Options) → asked words ≡ Some (solve name query options) → is_plain options ≡ false → (held : Held) → order words held ≡ Beyond
-unfolding order
-options_are_beyond words name query options h plain held = ap (λ o. order_asked o held) h ∙ ap (λ (b : Bool). if b then order_of name query held else Beyond) plain
-
--- a search is of a meaning
-read_through : (held : Held) (file : List ℕ) (go : List ℕ → Order) (m : Meaning) → with_file held file go ≡ Search m → (bytes : List ℕ) × (go bytes ≡ Search m)
-unfolding with_file
-read_through held file go m h = open_up (held file) h
-  where
-    within : (bytes : List ℕ) (b : Bool) → (if b then Refuse variant.Limit long_file_line else go bytes) ≡ Search m → go bytes ≡ Search m
-    within bytes true e = cc
-    within bytes false e = e
-
-    open_up : (o : Option (List ℕ)) → with_bytes file o go ≡ Search m → (bytes : List ℕ) × (go bytes ≡ Search m)
-    open_up None e = cc
-    open_up (Some bytes) e = (bytes, within bytes (nat_lt file_limit (length bytes)) e)
-
--- a choice that comes to a search
-chosen : (b : Bool) (o : Order) (m : Meaning) → (if b then o else Beyond) ≡ Search m → o ≡ Search m
-chosen true o m e = e
-chosen false o m e = cc
-
-meant : (o : Option Meaning) (m : Meaning) → with_meaning o ≡ Search m → o ≡ Some m
-unfolding with_meaning
-meant None m e = cc
-meant (Some n) m e = let f : n ≡ m = cc in ap Some f
-
-pub order_means : (name query : List ℕ) (held : Held) (m : Meaning) → order_of name query held ≡ Search m → IsMeaning m
-unfolding order_of order_behind order_read
-order_means name query held m h =
-    let sig = read_through held (signature_file name) (λ text. order_behind name query text held) m h in
-    let body = read_through held (module_file name) (order_of_texts name query sig.0) m (chosen (is_signature name sig.0) (order_read name query sig.0 held) m sig.1) in
-    meaning_is name sig.0 body.0 query m (meant (meaning name sig.0 body.0 query) m body.1)
-
--- want of memory may end each run
-ends_wanting : (o : Order) → ((m : Meaning) → o ≡ Search m → IsMeaning m) → Ends o variant.Memory memory_line
-ends_wanting (Refuse said line) f = without_memory refl refl
-ends_wanting (Search m) f = cut_short (first_cut m (f m refl))
-ends_wanting Beyond f = tt
-
--- where the folder tells, for what it holds
-for_told : {P Q : Held → Type 0} (told : Option Held) → ((held : Held) → P held → Q held) → IfSome told P → IfSome told Q
-for_told None f h = tt
-for_told (Some held) f h = f held h
-
-for_each : {Q : Held → Type 0} (told : Option Held) → ((held : Held) → Q held) → IfSome told Q
-for_each None f = tt
-for_each (Some held) f = f held
+order_some words a h held = ap (λ o. order_asked o held) h
 
 -- want of memory ends words that ask for something, and others
 wanted_at : (held : Held) (o : Option Asked) → Ends (order_asked o held) variant.Memory memory_line
 wanted_at held None = without_memory refl refl
 wanted_at held (Some (trial size)) = tt
+wanted_at held (Some (files command name)) = tt
+wanted_at held (Some (lambda name query)) = tt
+wanted_at held (Some (prove name query options)) = tt
+wanted_at held (Some (check name query)) = tt
 wanted_at held (Some (solve name query options)) = choose (is_plain options)
   where
     choose : (b : Bool) → Ends (if b then order_of name query held else Beyond) variant.Memory memory_line
-    choose true = ends_wanting (order_of name query held) (order_means name query held)
+    choose true = query_wanting name query held
     choose false = tt
 
 wanting : (words : List (List ℕ)) (held : Held) → Ends (order words held) variant.Memory memory_line
@@ -120,21 +72,6 @@ module _ (told : Option Held) (words : List (List ℕ)) (old new : Option (List 
     appended = w;
   }))
 
-  -- what is beyond the fragment
-  pub beyond_told : (status : Status) → IfSome told (λ held. order words held ≡ Beyond) → Grows old new → Wrote status
-  beyond_told status h w = for_told told (λ held e. record { text = w.0; ends = subst (λ o. Ends o status w.0) (sym e) tt; appended = w.1 }) h
-
-  pub beyond_began : IfSome told (λ held. order words held ≡ Beyond) → Grows old new → Began
-  beyond_began h w = for_told told (λ held e. inl (record {
-    status = variant.WriteFault;
-    text = w.0;
-    ends = subst (λ o. Ends o variant.WriteFault w.0) (sym e) tt;
-    appended = whole_prefix old new w.0 w.1;
-  })) h
-
-  pub beyond_fault : IfSome told (λ held. order words held ≡ Beyond) → (text : List ℕ) × (IsFault text × Appends old new text) → WritesReadFault told words old new
-  beyond_fault h w = record { text = w.0; fault = beyond h w.1.0; appended = w.1.1 }
-
   -- want of memory may end each run
   pub wanting_told : Appends old new memory_line → Wrote variant.Memory
   wanting_told w = for_each told (λ held. record { text = memory_line; ends = wanting words held; appended = w })
@@ -142,76 +79,49 @@ module _ (told : Option Held) (words : List (List ℕ)) (old new : Option (List 
   pub wanting_began : AppendsPrefix old new memory_line → Began
   wanting_began w = for_each told (λ held. inl (record { status = variant.Memory; text = memory_line; ends = wanting words held; appended = w }))
 
-  module _ (name query : List ℕ) (h : AsksPlain words name query) where
-    -- a search that was written, and one that was begun
-    pub searched_told : (m : Meaning) (status : Status) → Loads name (order_of name query) told (Ok (loaded.Meaning m)) → Writes (Search m) status old new → Wrote status
-    searched_told m status l w = for_told told (λ held e. subst (λ o. Writes o status old new) (sym (order_is words name query h held ∙ e)) w) l
+not_true : (b : Bool) → (b ≡ true → ⊥) → b ≡ false
+not_true true h = absurd (h refl)
+not_true false h = refl
 
-    pub searched_began : (m : Meaning) → Loads name (order_of name query) told (Ok (loaded.Meaning m)) → WritesPrefix (Search m) old new → Began
-    searched_began m l w = for_told told (λ held e. inl (subst (λ o. WritesPrefix o old new) (sym (order_is words name query h held ∙ e)) w)) l
+-- what is carried out of what the words ask for
+module _ (words : List (List ℕ)) (a : Asked) (is : asked words ≡ Some a) where
+  some_is : {x y : Asked} → asked words ≡ Some x → asked words ≡ Some y → x ≡ y
+  some_is {x} {y} e f = let s : ◌≡◌ {A = Option Asked} (Some x) (Some y) = sym e ∙ f in cc
 
-    -- a refusal that was written, and one that was begun
-    pub refused_told : (said : Status) (line : Vec ℕ Global) → Loads name (order_of name query) told (Err (Line said line)) → said ≢ variant.ReadFault → Appends old new line.items → Wrote said
-    refused_told said line l never w = elim l [
-      | inl x ↦ absurd (never x.0)
-      | inr x ↦ for_told told (λ held e. record {
-        text = line.items;
-        ends = subst (λ o. Ends o said line.items) (sym (order_is words name query h held ∙ e)) (with_line refl refl);
-        appended = w;
-      }) x.1
-    ]
+  fault_for : (told : Option Held) (text : List ℕ) → IsAskedFault told a text → IsReadFault told words text
+  fault_for told text (of_plain name query options e plain f) = own name query (record { options = options; is_asked = is ∙ ap Some e; plain = plain }) f
+  fault_for told text (of_beyond e f) = beyond (for_told told (λ held x. order_some words a is held ∙ x) e) f
 
-    pub refused_began : (said : Status) (line : Vec ℕ Global) → Loads name (order_of name query) told (Err (Line said line)) → AppendsPrefix old new line.items → Began
-    refused_began said line l w = elim l [
-      | inl x ↦ for_each told (λ held. inr (record { text = line.items; fault = own name query h x.1; appended = w }))
-      | inr x ↦ for_told told (λ held e. inl (record {
-        status = said;
-        text = line.items;
-        ends = subst (λ o. Ends o said line.items) (sym (order_is words name query h held ∙ e)) (with_line refl refl);
-        appended = w;
-      })) x.1
-    ]
+  begins_for : (told : Option Held) (old new : Option (List ℕ)) → BeginsAskedFault told a old new → BeginsReadFault told words old new
+  begins_for told old new w = record { text = w.text; fault = fault_for told w.text w.fault; appended = w.appended }
 
-    pub fault_told : (line : Vec ℕ Global) → Loads name (order_of name query) told (Err (Line variant.ReadFault line)) → Appends old new line.items → WritesReadFault told words old new
-    fault_told line l w = elim l [
-      | inl x ↦ record { text = line.items; fault = own name query h x.1; appended = w }
-      | inr x ↦ absurd (elim x.0 [ inl y ↦ cc | inr y ↦ cc ])
-    ]
+  pub command_asked : IsCommand words
+  command_asked e = cc
 
-    -- what comes to lie beyond the fragment
-    pub moved_beyond : (known : _) → Loads name (order_of name query) told (Ok (loaded.Beyond known)) → IfSome told (λ held. order words held ≡ Beyond)
-    moved_beyond known l = for_told told (λ held e. order_is words name query h held ∙ e) l
+  pub watched_asked : {X : Type 0} {old new : X} → (watches a ≡ true) ⊎ (new ≡ old) → IsWatched words ⊎ (new ≡ old)
+  watched_asked h = elim h [ inl w ↦ inl (ap (λ x. option_map watches x) is ∙ ap Some w) | inr e ↦ inr e ]
 
-    -- the same of any status
-    pub fault_written : (said result : Status) (line : Vec ℕ Global) → Loads name (order_of name query) told (Err (Line said line)) → (result ≢ variant.WriteFault → (result ≡ said) × Appends old new line.items) → result ≡ variant.ReadFault → WritesReadFault told words old new
-    fault_written said result line l kept e =
-        let n : result ≢ variant.WriteFault = λ f. cc in
-        let same : said ≡ variant.ReadFault = sym (kept n).0 ∙ e in
-        fault_told line (subst (λ s. Loads name (order_of name query) told (Err (Line s line))) same l) (kept n).1
+  module _ {F K : Type 0} {rf ms ov wf : F → ℕ} {held : F → Option Held} {faults : K → ℕ} {written : K → Option (List ℕ)} {f g : F} {o p : K} {result : Status} (d : Does rf ms ov wf held faults written a f g o p result) where
+    pub told_asked : result ≢ variant.WriteFault → result ≢ variant.ReadFault → IfSome (held f) (λ h. Writes (order words h) result (written o) (written p))
+    told_asked n other = for_told (held f) (λ h w. subst (λ x. Writes x result (written o) (written p)) (sym (order_some words a is h)) w) (d.told n other)
 
--- the refusals of the two files
-module _ (name : List ℕ) (f : Held → Order) (told : Option Held) (said : Status) (line : Vec ℕ Global) (l : Loads name f told (Err (Line said line))) where
-  pub refused_not_fault : said ≢ variant.WriteFault
-  refused_not_fault e = elim l [ inl x ↦ let a = x.0 in cc | inr x ↦ elim x.0 [ inl a ↦ cc | inr a ↦ cc ] ]
+    pub prefix_asked : result ≡ variant.WriteFault → IfSome (held f) (λ h. WritesPrefix (order words h) (written o) (written p) ⊎ BeginsReadFault (held f) words (written o) (written p))
+    prefix_asked e = for_told (held f) (λ h w. elim w [
+      | inl x ↦ inl (subst (λ y. WritesPrefix y (written o) (written p)) (sym (order_some words a is h)) x)
+      | inr x ↦ inr (begins_for (held f) (written o) (written p) x)
+    ]) (d.prefix e)
 
-  pub refused_not_source : said ≢ variant.Source
-  refused_not_source e = elim l [ inl x ↦ let a = x.0 in cc | inr x ↦ elim x.0 [ inl a ↦ cc | inr a ↦ cc ] ]
+    pub fault_asked : result ≡ variant.ReadFault → WritesReadFault (held f) words (written o) (written p)
+    fault_asked e = let w = d.fault e in record { text = w.text; fault = fault_for (held f) w.text w.fault; appended = w.appended }
 
-  pub refused_not_usage : said ≢ variant.Usage
-  refused_not_usage e = elim l [ inl x ↦ let a = x.0 in cc | inr x ↦ elim x.0 [ inl a ↦ cc | inr a ↦ cc ] ]
+    pub placed_asked : result ≡ variant.Source → (query : List ℕ) → option_and_then query_on_texts (asked words) ≡ Some query → WritesPlaced (held f) query (written o) (written p)
+    placed_asked e query h = d.placed e query (sym (ap (λ x. option_and_then query_on_texts x) is) ∙ h)
 
--- words that are beyond the fragment whatever is held
-pub always : (told : Option Held) (words : List (List ℕ)) → ((held : Held) → order words held ≡ Beyond) → IfSome told (λ held. order words held ≡ Beyond)
-always told words h = for_each told h
+    pub keeps_asked : WritesNone words → KeepsFiles wf held faults f g o p result
+    keeps_asked none = d.keeps (not_true (writes_file a) (λ e. none (ap (λ x. option_map writes_file x) is ∙ ap Some e)))
 
--- words that ask for something are a command
-pub is_command : (words : List (List ℕ)) (a : Asked) → asked words ≡ Some a → IsCommand words
-is_command words a is e = cc
+    pub leaves_asked : (command : FileCommand) (name : List ℕ) → asked words ≡ Some (files command name) → Leaves wf held faults written f g o p (name ++ ending_of command) (done_line command (name ++ ending_of command)) result
+    leaves_asked command name h = d.leaves command name (some_is is h)
 
--- without `--watch` what is lent stays
-pub watched_or : {X : Type 0} (words : List (List ℕ)) (name query : List ℕ) (options : Options) (old new : X) → asked words ≡ Some (solve name query options) → (options.watch ≡ false → new ≡ old) → IsWatched words ⊎ (new ≡ old)
-watched_or words name query options old new is kept = go options.watch refl
-  where
-    go : (b : Bool) → options.watch ≡ b → IsWatched words ⊎ (new ≡ old)
-    go true e = inl (name, query, (options, (is, e)))
-    go false e = inr (kept e)
+    pub certifies_asked : (name query : List ℕ) (options : Options) → asked words ≡ Some (prove name query options) → Proves wf held faults written f g o p name result
+    certifies_asked name query options h = d.certifies name query options (some_is is h)

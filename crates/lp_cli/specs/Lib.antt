@@ -1,11 +1,3 @@
-pub mod Words
-pub mod Commands
-pub mod Asked
-pub mod Lines
 pub mod Order
-pub mod Answered
 pub mod Ends
-pub mod Refusals
-pub mod Pieces
-pub mod Prepared
-pub mod Placed
+pub mod Does

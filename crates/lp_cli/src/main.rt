@@ -1,36 +1,10 @@
 //! The program: its words, its folder and its output.
 #![tactic(auto)]
 
-// What the words ask for.
-mod asked;
-// Why texts are refused.
-mod cause;
-// What is said of each fault of a text.
-mod causes;
-// The first fragment.
-mod first;
-// The lines that are written.
-mod lines;
-// Numbers in words, and the names of modules.
-mod numbers;
 // The current directory and the standard output.
 mod outside;
-// What a search tells from one event to the next.
-mod piece;
-// Why there is no query to answer.
-mod refusal;
-// The refusals of texts: their lines.
-mod refused;
 // The top call.
 mod run;
-// The last line of a run.
-mod say;
-// A generated query, and the summary of its search.
-mod trial;
-// The whole language.
-mod whole;
-// The command set, and the words as it reads them.
-mod words;
 
 use lp_base::{Memory, Status};
 use lp_watch::{Counter, Tracer, Watch};

@@ -57,6 +57,11 @@ fn take_all<R: Read>(alloc: Global, file: &mut R, limit: u64) -> Result<Vec<u8>,
     Err(ReadErr::Failed)
 }
 
+// Whether a file of a folder may have this name. An object that someone else made may use a module with a name that leads out of the folder.
+fn is_name(name: &str) -> bool {
+    name.bytes().all(|byte| byte != b'/' && byte != 0)
+}
+
 fn write_all<W: Write>(file: &mut W, bytes: &[u8]) -> Result<(), Failed> {
     let mut at = 0;
     while at < bytes.len() {
@@ -80,13 +85,17 @@ impl<R: Files> Folder for DirFolder<'_, R> {
     ghost overs = { λ d. d.overs };
 
     fn read(&mut self, alloc: Global, name: &str, limit: u64) -> Result<Vec<u8>, ReadErr> {
-        let answer = match File::open(self.rt, name) {
-            Err(error) => Err(if error.kind() == ErrorKind::NotFound {
-                ReadErr::Missing
-            } else {
-                ReadErr::Failed
-            }),
-            Ok(mut file) => take_all(alloc, &mut file, limit),
+        let answer = if is_name(name) {
+            match File::open(self.rt, name) {
+                Err(error) => Err(if error.kind() == ErrorKind::NotFound {
+                    ReadErr::Missing
+                } else {
+                    ReadErr::Failed
+                }),
+                Ok(mut file) => take_all(alloc, &mut file, limit),
+            }
+        } else {
+            Err(ReadErr::Missing)
         };
         match &answer {
             Ok(_) | Err(ReadErr::Memory) => {}

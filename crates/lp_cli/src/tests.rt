@@ -2,6 +2,8 @@
 
 // The modules of the worked rows.
 mod modules;
+// Negated goals.
+mod negation;
 // The examples, each with its queries.
 mod examples;
 // Why texts are refused.
@@ -14,6 +16,8 @@ mod sets;
 mod limits;
 // Why the texts of one module are refused.
 mod module_texts;
+// Objects and images as files.
+mod files;
 // Faults of the outside.
 mod outside;
 // The first path beside that of the whole language.

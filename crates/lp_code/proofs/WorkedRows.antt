@@ -6,7 +6,7 @@ use Rattle.std.specs.declared.vec.Vec as vec
 use Rattle.lp_code.specs.declared.instruction.Instr.{Instr}
 use Rattle.lp_code.specs.declared.record.Key.TheVariants as key
 use Rattle.lp_code.specs.declared.rule.Rule.TheVariants as rule
-use Rattle.lp_model.specs.Flat.{Atomic, Not, clause, no_goals, goals}
+use Rattle.lp_model.specs.Flat.{Atomic, denied, clause, no_goals, goals}
 use Rattle.lp_code.specs.Denote.{denote, first_fault}
 use Rattle.lp_code.specs.Worked.{IsWorked, tables, of_q, q_a, fact, negated, unset, set_twice, fault}
 
@@ -33,7 +33,7 @@ abbrev Fact : Vec ℕ Global → Vec Instr Global → Type 0
 Fact none code = denote tables (of_q 0 (key.Const 32) code ∷ []) ≡ Some (clause 0 [] q_a no_goals ∷ [])
 
 abbrev Negation : Vec ℕ Global → Vec Instr Global → Type 0
-Negation none code = denote tables (of_q 1 (key.Const 32) code ∷ []) ≡ Some (clause 0 [] q_a (goals (Not (goals (Atomic q_a) no_goals)) no_goals) ∷ [])
+Negation none code = denote tables (of_q 1 (key.Const 32) code ∷ []) ≡ Some (clause 0 [] q_a (goals (denied (goals (Atomic q_a) no_goals)) no_goals) ∷ [])
 
 abbrev SetTwice : Vec ℕ Global → Vec Instr Global → Type 0
 SetTwice none code = first_fault tables (of_q 1 (key.Const 32) code ∷ []) ≡ fault 6 rule.Set

@@ -6,7 +6,6 @@ use Rattle.lp_calculus.specs.Term.{Term, Atom, index, atom, abs, app, constant, 
 use Rattle.lp_model.specs.Flat.{Goal, Goals, Clause, Clauses, Atomic, Cut, Either, Exists, Forall, Assume, Not, no_goals, goals, clause, no_clauses, clauses}
 use Rattle.lp_model.specs.Flatten.{ends_in_o, heads_clauses}
 use Rattle.lp_standard.specs.Constants.{is_declared}
-use Rattle.lp_model.specs.Search.{key_of}
 use Rattle.lp_code.specs.declared.instruction.Instr.{Instr}
 use Rattle.lp_code.specs.declared.instruction.Instr.TheVariants as on
 use Rattle.lp_code.specs.declared.record.Record.{Record}
@@ -17,6 +16,7 @@ use Rattle.lp_code.specs.declared.record.Key.TheVariants as key
 use Rattle.lp_code.specs.declared.rule.Rule.{Rule}
 use Rattle.lp_code.specs.declared.rule.Rule.TheVariants as rule
 use Rattle.lp_code.specs.Symbolic.{Tables, Built, term_in, plain_terms}
+use Rattle.lp_code.specs.Written.{written_goals}
 use Rattle.lp_code.specs.States.{Captured, State, Home, member, bind_term, bind_goals}
 use Rattle.lp_code.specs.Steps.{Later, own_types, own_variables, head_built, after}
 use Rattle.lp_code.specs.Rules.{breaks_register, breaks_unset, breaks_set, breaks_constant, breaks_type, breaks_index, breaks_term, breaks_order, breaks_head, breaks_block, breaks_clause, has_none, named_before}
@@ -74,24 +74,35 @@ key_is key.None None = true
 key_is key.None (Some (eigen k)) = true
 key_is k o = false
 
-abbrev pub first_key : List Built → Option Atom
-first_key [] = None
-first_key (b ∷ bs) = key_of b.term
+-- what the terms in registers have as key, behind an instruction: a register has that of the last instruction that set it
+abbrev pub with_key : ℕ → Option Atom → (ℕ → Option Atom) → ℕ → Option Atom
+with_key d k keys r = if nat_eq r d then k else keys r
 
--- the arguments of the head, whatever rules the instructions before NECK break
-abbrev pub head_arguments : Home → State → List Instr → List Built
-head_arguments h s [] = s.head_arguments
-head_arguments h s (on.Neck ∷ is) = s.head_arguments
-head_arguments h s (i ∷ is) = elim (after h (λ n c. None) s i) [
-  | None ↦ s.head_arguments
-  | Some t ↦ head_arguments h t is
-]
+abbrev pub keys_behind : (ℕ → Option Atom) → Instr → ℕ → Option Atom
+keys_behind keys (on.PutConst d c ts) = with_key d (Some (constant c [])) keys
+keys_behind keys (on.PutInt d z) = with_key d (Some (integer z)) keys
+keys_behind keys (on.PutStr d s) = with_key d (Some (text s.items)) keys
+keys_behind keys (on.PutApp d f rs) = with_key d (keys f) keys
+keys_behind keys (on.New d t) = with_key d None keys
+keys_behind keys (on.PutIndex d i t) = with_key d None keys
+keys_behind keys (on.PutAbs d b t) = with_key d None keys
+keys_behind keys (on.Sigma d t) = with_key d None keys
+keys_behind keys (on.All d t) = with_key d None keys
+keys_behind keys i = keys
 
-abbrev pub has_right_key : Home → State → Bool
-has_right_key h s = elim h.self.head [
-  | None ↦ true
-  | Some p ↦ if h.self.program then key_is h.self.key (first_key (head_arguments h s h.self.code.items)) else key_is h.self.key None
-]
+-- the key of the head's first argument, as it stands: whatever rules the instructions before it break
+abbrev pub first_key : (ℕ → Option Atom) → List Instr → Option Atom
+first_key keys [] = None
+first_key keys (on.Neck ∷ is) = None
+first_key keys (on.GetVar i d ∷ is) = None
+first_key keys (on.Get i r ∷ is) = keys r
+first_key keys (on.GetConst i c ts ∷ is) = Some (constant c [])
+first_key keys (on.GetInt i z ∷ is) = Some (integer z)
+first_key keys (on.GetStr i s ∷ is) = Some (text s.items)
+first_key keys (i ∷ is) = first_key (keys_behind keys i) is
+
+abbrev pub has_right_key : Home → Bool
+has_right_key h = is_none h.self.head || (if h.self.program then key_is h.self.key (first_key (λ r. None) h.self.code.items) else key_is h.self.key None)
 
 -- the rule is broken by the record as a whole
 abbrev pub broken_by_record : Home → State → Rule → Bool
@@ -101,7 +112,7 @@ broken_by_record h s rule.Order = not (has_neck h.self.code.items)
 broken_by_record h s rule.Head = not (head_passes (heads h s) h.self.head)
 broken_by_record h s rule.Block = not (ends_with_proceed h.self.code.items)
 broken_by_record h s rule.Clause = if h.self.program then not (nat_eq (h.self.captured_types + h.self.captured) 0) else not (is_named h)
-broken_by_record h s rule.Key = not (has_right_key h s)
+broken_by_record h s rule.Key = not (has_right_key h)
 broken_by_record h s r = false
 
 abbrev pub broken_by : Home → State → (rest : List Instr) → Instr → Rule → Bool
@@ -127,10 +138,10 @@ abbrev pub first_broken : (Rule → Bool) → List Rule → Option Rule
 first_broken test [] = None
 first_broken test (r ∷ rs) = if test r then Some r else first_broken test rs
 
--- the rule that is broken before the next instruction, with those of the record where it is the first one
-abbrev pub broken : Home → State → List Instr → Option Rule
-broken h s [] = if nat_eq s.place 0 then first_broken (broken_by_record h s) rules else None
-broken h s (i ∷ is) = if nat_eq s.place 0 then first_broken (λ r. broken_by_record h s r || broken_by h s is i r) rules else first_broken (broken_by h s is i) rules
+-- of some rules the one that is broken before the next instruction, with those of the record where it is the first one
+abbrev pub broken_of : List Rule → Home → State → List Instr → Option Rule
+broken_of rs h s [] = if nat_eq s.place 0 then first_broken (broken_by_record h s) rs else None
+broken_of rs h s (i ∷ is) = if nat_eq s.place 0 then first_broken (λ r. broken_by_record h s r || broken_by h s is i r) rs else first_broken (broken_by h s is i) rs
 
 -- what comes of running instructions: all are run, a rule is broken at an offset, or a record that is assumed denotes nothing
 pub data Ran : Type 0 where
@@ -138,19 +149,20 @@ pub data Ran : Type 0 where
   Broken : (at : ℕ) → Rule → Ran
   Void : Ran
 
+abbrev pub unless_broken : Option Rule → (at : ℕ) → Ran → Ran
+unless_broken None at ran = ran
+unless_broken (Some r) at ran = Broken at r
+
+abbrev pub run_on : (State → Ran) → Option State → Ran
+run_on go None = Void
+run_on go (Some t) = go t
+
+abbrev pub run_of : List Rule → Home → Later → State → List Instr → Ran
+run_of rs h later s [] = unless_broken (broken_of rs h s []) s.place (Done s)
+run_of rs h later s (i ∷ is) = unless_broken (broken_of rs h s (i ∷ is)) s.place (run_on (λ t. run_of rs h later t is) (after h later s i))
+
 abbrev pub run : Home → Later → State → List Instr → Ran
-run h later s [] = elim (broken h s []) [
-  | None ↦ Done s
-  | Some r ↦ Broken s.place r
-]
-run h later s (i ∷ is) = elim (broken h s (i ∷ is)) [
-  | None ↦ go_on (λ t. run h later t is) (after h later s i)
-  | Some r ↦ Broken s.place r
-]
-  where
-    go_on : (State → Ran) → Option State → Ran
-    go_on go None = Void
-    go_on go (Some t) = go t
+run = run_of rules
 
 -- the state before the first instruction
 abbrev pub from_zero : ℕ → List ℕ
@@ -183,7 +195,7 @@ abbrev pub head_term : Home → State → Term
 head_term h s = Rattle.lp_calculus.specs.Term.apply (head_built h s).term (plain_terms s.head_arguments)
 
 abbrev pub clause_of : Home → State → Clause
-clause_of h s = clause (if h.self.program then length (own_types h.self) else 0) (variable_types s (own_variables h.self)) (bind_term (own_variables h.self) h.number 0 (head_term h s)) (bind_goals (own_variables h.self) h.number s.goals)
+clause_of h s = clause (if h.self.program then length (own_types h.self) else 0) (variable_types s (own_variables h.self)) (bind_term (own_variables h.self) h.number 0 (head_term h s)) (written_goals (bind_goals (own_variables h.self) h.number s.goals))
 
 abbrev pub clause_ran : Home → Ran → Option Clause
 clause_ran h (Done s) = Some (clause_of h s)
@@ -226,7 +238,7 @@ abbrev pub query_ran : Home → Ran → Option DenotedQuery
 query_ran h (Done s) = Some (record {
   type_vars = length (own_types h.self);
   vars = variable_types s (own_variables h.self);
-  body = bind_goals (reverse (own_variables h.self)) h.number s.goals;
+  body = written_goals (bind_goals (reverse (own_variables h.self)) h.number s.goals);
 })
 query_ran h (Broken at r) = None
 query_ran h Void = None
@@ -255,15 +267,21 @@ abbrev pub captured_of : List (ℕ × Captured) → ℕ → Captured
 captured_of [] n = nothing_captured
 captured_of ((m, c) ∷ more) n = if nat_eq m n then c else captured_of more n
 
+abbrev pub fault_of_run : (record_number : ℕ) → (State → Option CodeFault) → Ran → Option CodeFault
+fault_of_run n go (Done s) = go s
+fault_of_run n go (Broken at rule) = Some (record { record_number = n; at = at; rule = rule })
+fault_of_run n go Void = None
+
 -- `handed` is what the earlier records hand to those that they assume
-abbrev pub fault_from : Tables → (all : List Record) → (handed : List (ℕ × Captured)) → (n : ℕ) → List Record → Option CodeFault
-fault_from t all handed n [] = None
-fault_from t all handed n (r ∷ rs) = elim (run (home_of t all n r) any_clause (first_state r (captured_of handed n)) r.code.items) [
-  | Done s ↦ fault_from t all (handed ++ s.assumed) (suc n) rs
-  | Broken at rule ↦ Some (record { record_number = n; at = at; rule = rule })
-  | Void ↦ None
-]
+abbrev pub fault_from : List Rule → Tables → (all : List Record) → (handed : List (ℕ × Captured)) → (n : ℕ) → List Record → Option CodeFault
+fault_from judged t all handed n [] = None
+fault_from judged t all handed n (r ∷ rs) =
+    fault_of_run n (λ s. fault_from judged t all (handed ++ s.assumed) (suc n) rs) (run_of judged (home_of t all n r) any_clause (first_state r (captured_of handed n)) r.code.items)
+
+-- the first instruction that breaks one of some rules, and the first of these that it breaks
+abbrev pub first_fault_of : List Rule → Tables → List Record → Option CodeFault
+first_fault_of judged t rs = fault_from judged t rs [] 0 rs
 
 -- the first instruction that breaks a rule, and the first rule that it breaks
 abbrev pub first_fault : Tables → List Record → Option CodeFault
-first_fault t rs = fault_from t rs [] 0 rs
+first_fault = first_fault_of rules

@@ -1,11 +1,11 @@
 pub mod Length
+pub mod Written
 pub mod Symbolic
 pub mod Operands
 pub mod States
 pub mod Steps
 pub mod Rules
 pub mod Denote
-pub mod Written
 pub mod Standing
 pub mod Groups
 pub mod inner

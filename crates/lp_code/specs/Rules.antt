@@ -143,19 +143,17 @@ breaks_order s i = false
 
 -- `head`: an argument or type argument is missing or too many; a variable of the clause stands in no earlier argument, and is no new one by GET_VAR
 
-abbrev pub head_count : Home → ℕ
-head_count h = elim h.self.head [
-  | None ↦ 0
-  | Some p ↦ count_of p
-]
-  where
-    of_scheme : Option Scheme → ℕ
-    of_scheme None = 0
-    of_scheme (Some c) = c.count
+abbrev pub scheme_count : Option Scheme → ℕ
+scheme_count None = 0
+scheme_count (Some c) = c.count
 
-    count_of : RecordHead → ℕ
-    count_of (Const c) = of_scheme (h.tables.constants c)
-    count_of (Register r) = 0
+abbrev pub count_of : Home → Option RecordHead → ℕ
+count_of h None = 0
+count_of h (Some (Const c)) = scheme_count (h.tables.constants c)
+count_of h (Some (Register r)) = 0
+
+abbrev pub head_count : Home → ℕ
+head_count h = count_of h h.self.head
 
 abbrev pub is_variable_of : Term → (register home : ℕ) → Bool
 is_variable_of (atom (logic r h)) s k = nat_eq r s && nat_eq h k
@@ -203,15 +201,13 @@ ends_block on.EndNot (Some under_not) = true
 ends_block i o = false
 
 -- a side that should have ended is still open
+abbrev pub side_is_passed : ℕ → Block → Bool
+side_is_passed place (left_side n) = nat_le n place
+side_is_passed place (right_side n l) = nat_le n place
+side_is_passed place b = false
+
 abbrev pub is_passed : ℕ → Frame → Bool
-is_passed place f = elim f.block [
-  | under_sigma r T ↦ false
-  | under_all r T ↦ false
-  | under_assumption cs ↦ false
-  | under_not ↦ false
-  | left_side n ↦ nat_le n place
-  | right_side n l ↦ nat_le n place
-]
+is_passed place f = side_is_passed place f.block
 
 abbrev pub is_too_deep : State → Bool
 is_too_deep s = nat_le nesting_limit (depth s.frames)

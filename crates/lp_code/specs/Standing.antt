@@ -3,8 +3,7 @@ use Rattle.std.specs.Prelude.{ℕ, zero, suc, nat_eq, Bool, false, ◌||◌, if�
 use Rattle.lp_calculus.specs.Types.{Ty, var}
 use Rattle.lp_calculus.specs.Term.{Term, index, atom, abs, app, logic}
 use Rattle.lp_calculus.specs.Typing.{o_type}
-use Rattle.lp_model.specs.Flat.{Goals, Clause, no_clauses, clauses}
-use Rattle.lp_code.specs.Written.{collect_goals, collect_clauses, type_variables_in}
+use Rattle.lp_model.specs.Flat.{Goals, Clause, no_clauses, clauses, collect_goals, collect_clauses, type_variables_in}
 use Rattle.lp_code.specs.declared.instruction.Instr.{Instr}
 use Rattle.lp_code.specs.declared.instruction.Instr.TheVariants as on
 use Rattle.lp_code.specs.declared.record.Record.{Record}

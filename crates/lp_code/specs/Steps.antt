@@ -11,6 +11,7 @@ use Rattle.lp_code.specs.declared.record.Record.{Record}
 use Rattle.lp_code.specs.declared.record.RecordHead.{RecordHead}
 use Rattle.lp_code.specs.declared.record.RecordHead.TheVariants.{Const, Register}
 use Rattle.lp_code.specs.Length.{length_of}
+use Rattle.lp_code.specs.Written.{nothing_written}
 use Rattle.lp_code.specs.Operands.{type_set, term_set, own_set}
 use Rattle.lp_code.specs.Symbolic.{Tables, Built, Registers, variable, type_in, types_in, term_in, terms_in, set_type, set_term, whole, plain_terms, argument_type, bound_index, abstraction_of, application_of}
 use Rattle.lp_code.specs.States.{Block, under_sigma, under_all, under_assumption, under_not, left_side, right_side, Frame, Captured, State, Home, member, passing, bind_goals, with_goal, Ended, end_variables, innermost_block, depth}
@@ -49,15 +50,13 @@ abbrev pub own_type : Record → ℕ → Ty
 own_type r d = var (length (passing d (is_own_type r)))
 
 -- the head's predicate on the type arguments so far
+abbrev pub built_of : Home → State → Option RecordHead → Built
+built_of h s None = whole (atom (constant 6 [])) o_type
+built_of h s (Some (Const c)) = constant_of h.tables c s.head_types
+built_of h s (Some (Register r)) = term_in s.now r
+
 abbrev pub head_built : Home → State → Built
-head_built h s = elim h.self.head [
-  | None ↦ whole (atom (constant 6 [])) o_type
-  | Some p ↦ of_head p
-]
-  where
-    of_head : RecordHead → Built
-    of_head (Const c) = constant_of h.tables c s.head_types
-    of_head (Register r) = term_in s.now r
+head_built h s = built_of h s h.self.head
 
 abbrev pub argument_at : Home → State → ℕ → Ty
 argument_at h s i = unwrap_or (argument_type (head_built h s).type i) o_type
@@ -86,39 +85,33 @@ opens s b = record s { goals = no_goals; frames = record { block = b; from = s.p
 abbrev pub ends_with : State → Frame → List Frame → (Goals → flat.Goal) → Goals → State
 ends_with s f fs goal gs = record s { now = f.registers; goals = with_goal f.before (goal gs); frames = fs }
 
--- what the goals of a block become at its end, where an instruction ends it
+-- what the goals of a block become at its end, where an instruction ends it; what is written in them is told of the whole clause
 abbrev pub goal_of_block : (home : ℕ) → Block → Goals → Option flat.Goal
 goal_of_block home (under_all r T) gs = Some (Forall T (bind_goals (r ∷ []) home gs))
-goal_of_block home (under_assumption cs) gs = Some (flat.Assume cs gs)
-goal_of_block home under_not gs = Some (flat.Not gs)
+goal_of_block home (under_assumption cs) gs = Some (flat.Assume nothing_written cs gs)
+goal_of_block home under_not gs = Some (flat.Not nothing_written gs)
 goal_of_block home (right_side n left) gs = Some (Either left gs)
 goal_of_block home (left_side n) gs = None
 goal_of_block home (under_sigma r T) gs = None
 
+abbrev pub leave_block : State → Frame → List Frame → Option flat.Goal → State
+leave_block s f fs None = s
+leave_block s f fs (Some g) = record s { now = f.registers; goals = with_goal f.before g; frames = fs }
+
+abbrev pub leave_from : (home : ℕ) → State → Goals → List Frame → State
+leave_from home s gs [] = s
+leave_from home s gs (f ∷ fs) = leave_block s f fs (goal_of_block home f.block gs)
+
 abbrev pub leave : (home : ℕ) → State → State
-leave home s = leave_to (end_variables home s.goals s.frames)
-  where
-    leave_block : State → Goals → Frame → List Frame → Option flat.Goal → State
-    leave_block s gs f fs None = s
-    leave_block s gs f fs (Some g) = record s { now = f.registers; goals = with_goal f.before g; frames = fs }
-
-    leave_from : State → Goals → List Frame → State
-    leave_from s gs [] = s
-    leave_from s gs (f ∷ fs) = leave_block s gs f fs (goal_of_block home f.block gs)
-
-    leave_to : Ended → State
-    leave_to e = leave_from s e.goals e.frames
+leave home s = leave_from home s (end_variables home s.goals s.frames).goals (end_variables home s.goals s.frames).frames
 
 -- a left side gives way to its right side, which has n bytes
-abbrev pub turn : (home : ℕ) → State → (n : ℕ) → State
-turn home s n = turn_from (end_variables home s.goals s.frames)
-  where
-    turn_at : State → ℕ → Goals → List Frame → State
-    turn_at s n gs [] = s
-    turn_at s n gs (f ∷ fs) = record s { now = f.registers; goals = no_goals; frames = record { block = right_side (s.place + 5 + n) gs; from = s.place; before = f.before; registers = f.registers } ∷ fs }
+abbrev pub turn_from : State → (n : ℕ) → Goals → List Frame → State
+turn_from s n gs [] = s
+turn_from s n gs (f ∷ fs) = record s { now = f.registers; goals = no_goals; frames = record { block = right_side (s.place + 5 + n) gs; from = s.place; before = f.before; registers = f.registers } ∷ fs }
 
-    turn_from : Ended → State
-    turn_from e = turn_at s n e.goals e.frames
+abbrev pub turn : (home : ℕ) → State → (n : ℕ) → State
+turn home s n = turn_from s n (end_variables home s.goals s.frames).goals (end_variables home s.goals s.frames).frames
 
 -- the clauses of records, in order, if each denotes one
 abbrev pub clauses_of_records : Later → List ℕ → Captured → Option Clauses

@@ -5,7 +5,7 @@ use Rattle.std.specs.Prelude.{◌≡◌, ℕ, nat_eq, List, [], ◌∷◌, Optio
 use Rattle.lp_calculus.specs.Types.{con, arrow, tys}
 use Rattle.lp_calculus.specs.Term.{Term, atom, app, constant}
 use Rattle.lp_calculus.specs.Typing.{Scheme, o_type}
-use Rattle.lp_model.specs.Flat.{Goals, Clause, Atomic, clause, Not, no_goals, goals}
+use Rattle.lp_model.specs.Flat.{Goals, Clause, Atomic, clause, denied, no_goals, goals}
 use Rattle.lp_code.specs.declared.instruction.Instr.{Instr}
 use Rattle.lp_code.specs.declared.instruction.Instr.TheVariants as on
 use Rattle.lp_code.specs.declared.record.Record.{Record}
@@ -73,7 +73,7 @@ pub record IsWorked : Type 0 where
   pub fact_denotes : (none first : Vec ℕ Global) (code : Vec Instr Global) → AreLists none first → code.items ≡ fact none
       → denote tables (of_q 0 (key.Const 32) code ∷ []) ≡ Some (clause 0 [] q_a no_goals ∷ [])
   pub negation_denotes : (none first : Vec ℕ Global) (code : Vec Instr Global) → AreLists none first → code.items ≡ negated none first
-      → denote tables (of_q 1 (key.Const 32) code ∷ []) ≡ Some (clause 0 [] q_a (goals (Not (goals (Atomic q_a) no_goals)) no_goals) ∷ [])
+      → denote tables (of_q 1 (key.Const 32) code ∷ []) ≡ Some (clause 0 [] q_a (goals (denied (goals (Atomic q_a) no_goals)) no_goals) ∷ [])
   pub unset_register : (code : Vec Instr Global) → code.items ≡ unset → first_fault tables (of_q 1 key.None code ∷ []) ≡ fault 0 rule.Unset
   pub register_too_high : (code : Vec Instr Global) → code.items ≡ unset → first_fault tables (of_q 0 key.None code ∷ []) ≡ fault 0 rule.Register
   pub register_set_twice : (none first : Vec ℕ Global) (code : Vec Instr Global) → AreLists none first → code.items ≡ set_twice none → first_fault tables (of_q 1 (key.Const 32) code ∷ []) ≡ fault 6 rule.Set

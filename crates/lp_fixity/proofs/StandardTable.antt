@@ -21,7 +21,7 @@ with_both [] fs f n = refl
 with_both (x ∷ es) fs f n = ap (λ o. if bytes_eq n x.0 then Some x.1 else o) (with_both es fs f n)
 
 -- a constant more
-pub one_more : (old new : List ℕ → Option (Fixity × ℕ)) (left k : ℕ) (c : Constant) → left ≡ suc k → k < 24 → numbered k ≡ Some c →
+pub one_more : (old new : List ℕ → Option (Fixity × ℕ)) (left k : ℕ) (c : Constant) → left ≡ suc k → k < 25 → numbered k ≡ Some c →
     ((n : List ℕ) → old n ≡ with_entries (operators (drop left language)) (λ _. None) n) →
     ((n : List ℕ) → new n ≡ with_entries (operator c) old n) → (n : List ℕ) → new n ≡ with_entries (operators (drop k language)) (λ _. None) n
 one_more old new left k c l below is before now n =

@@ -6,7 +6,7 @@ use Rattle.lp_calculus.specs.Types.{Ty, arrow, con, no_types, instance}
 use Rattle.lp_calculus.specs.Term.{Term, index, atom, apply}
 use Rattle.lp_calculus.specs.Term as term
 use Rattle.lp_calculus.specs.Typing.{Scheme, Typed, scheme_type, type_at, o_type}
-use Rattle.lp_model.specs.Faithful.{EachOf}
+use Rattle.lp_lemmas.specs.Each.{EachOf}
 use Rattle.lp_model.specs.Horn.{Clause, Query, Declared, arrows, over, IsSimple, IsArgument, AreArguments, IsAtom, IsClause, IsQuery}
 use Rattle.lp_fragment.specs.Declarations.{Constant, Constants}
 use Rattle.lp_fragment.specs.Sentences.{Argument, constant, variable, Atom, Goals}

@@ -1,5 +1,5 @@
 -- What is said of the clauses and the query of a meaning: they are well typed.
-use Rattle.lp_model.specs.Faithful.{EachOf}
+use Rattle.lp_lemmas.specs.Each.{EachOf}
 use Rattle.lp_model.specs.Horn.{IsClause, IsQuery}
 use Rattle.lp_fragment.specs.Kinds.{IsMeaning}
 use Rattle.lp_fragment.specs.Meaning.{Meaning}

@@ -11,13 +11,15 @@ use Rattle.lp_calculus.specs.Fill.{close, Binding, put_all}
 use Rattle.lp_model.specs.Index.{instantiate, at}
 use Rattle.lp_calculus.specs.Spine.{arguments}
 use Rattle.lp_model.specs.Spine.{constant_of_head, same_name}
-use Rattle.lp_model.specs.Faithful.{AnyOf, EachOf, Covers, AreFine, Faithful}
+use Rattle.lp_model.specs.Faithful.{Covers, AreFine, Denied, Faithful}
+use Rattle.lp_lemmas.specs.Each.{AnyOf, EachOf}
 use Rattle.lp_model.specs.Horn.{Declared, Clause, Query, AreArguments, IsAtom, IsClause, IsValue, AreValues, arrows}
 use Rattle.lp_model.specs.HornProofs.{Proof, Done, Back, proves, Provable}
 use Rattle.lp_model.specs.HornUnify.{unify}
+use Rattle.lp_model.specs.Skeleton.{Denies}
 use Rattle.lp_model.specs.HornSearch.{BranchOf, TaskOf, Go, Try, by_type, vars_from, renamed, is_candidate, tries, resumed, look_goals, look}
-use Rattle.lp_model.specs.HornRight.{Closes, IsInstance, IsAnswer}
-use Rattle.lp_proof_laws.proofs.Uniform.Lists.{each_append, each_map}
+use Rattle.lp_model.specs.HornRight.{Answer, Closes, IsInstance, IsAnswer}
+use Rattle.lp_lemmas.proofs.Each.{each_append, each_map}
 use Rattle.lp_proof_laws.proofs.Uniform.Contexts.{get_front, get_back, get_split, join, join_front, join_back}
 use Rattle.lp_horn_laws.proofs.Terms.{bound, Agree, is_variable, arguments_apply, constant_apply, close_agree, close_value, put_argument, argument_front, renamed_argument, map_arguments, arguments_map, values_map, at_values, closed_atom, instantiated_atom, atom_agree, closes_puts, atom_close_put, closes_renamed, atom_close_renamed, atom_put, atom_front, atom_renamed}
 use Rattle.lp_horn_laws.proofs.Unifies.{IsUnifier, unify_is_unifier}
@@ -375,8 +377,8 @@ module _ (d : Declared) (P : List Clause) (q : Query) (hP : EachOf (IsClause d) 
   go_stays b [] hg hq = hq
   go_stays b (g ∷ gs) hg hq = each_candidate P hP (record { vars = b.vars; goals = gs; query = b.query }) g hg.0 (record { goals = hg.1; query = hq })
 
-  pub search_is_faithful : Faithful (look by_type P) (IsTask d q.vars) (IsAnswer d q) (Solves d P) (IsInstance d)
-  search_is_faithful = record { stays = stays; keeps = keeps; gives = gives }
+  pub search_is_faithful : (bound : ℕ) → Faithful (look by_type P) bound (IsTask d q.vars) (IsAnswer d q) (Solves d P) (IsInstance d)
+  search_is_faithful bound = record { stays = stays; keeps = keeps; gives = gives; denies = denies bound }
     where
       stays : (height : ℕ) (t : Task) → IsTask d q.vars t → AreFine (IsTask d q.vars) (IsAnswer d q) (look by_type P height t)
       stays height (Go b) ok = go_stays b b.goals ok.goals ok.query
@@ -389,3 +391,11 @@ module _ (d : Declared) (P : List Clause) (q : Query) (hP : EachOf (IsClause d) 
       gives : (height : ℕ) (t : Task) → IsTask d q.vars t → (i : List Term) → Covers ⊥ (Solves d P) (IsInstance d) i (look by_type P height t) → Solves d P i t
       gives height (Go b) ok i h = go_gives i b b.goals h
       gives height (Try c g b) ok i h = try_gives c g b ok _ (unified c g b ok) i h
+
+      denies : (bound height : ℕ) (t : Task) → IsTask d q.vars t → (u : Task) (is_final : Answer → Bool) (ts : List Task) → look by_type P height t ≡ Denies u is_final ts → Denied (look by_type P) bound (Solves d P) t u is_final ts
+      denies bound height (Go b) ok u is_final ts e = go b.goals e
+        where
+          go : (gs : List Term) → look_goals by_type P b gs ≡ Denies u is_final ts → Denied (look by_type P) bound (Solves d P) (Go b) u is_final ts
+          go [] e = absurd (cc)
+          go (g ∷ gs) e = absurd (cc)
+      denies bound height (Try c g b) ok u is_final ts e = absurd (cc)

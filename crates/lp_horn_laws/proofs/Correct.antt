@@ -1,5 +1,5 @@
 -- Soundness and exhaustion of the search over Horn clauses, with types, and with the number of the variables in their place.
-use Rattle.std.proofs.Common.{◌≡◌, ℕ, suc, ◌+◌, ◌<◌, List, [], ◌∷◌, ◌++◌, map, length, Option, Some, None, inl, inr, refl, sym, ap, ◌∙◌, subst, arith, cond, length-append}
+use Rattle.std.proofs.Common.{◌≡◌, ◌≤◌, ℕ, suc, ◌+◌, ◌<◌, List, [], ◌∷◌, ◌++◌, map, length, Option, Some, None, inl, inr, refl, sym, ap, ◌∙◌, subst, arith, cond, length-append}
 use Rattle.std.specs.Prelude.{slice_get, filter, Bool, true, false}
 use Rattle.std.proofs.lemmas.List.{get_or-map}
 use Rattle.std.proofs.lemmas.Option.{slice_get_within}
@@ -10,15 +10,15 @@ use Rattle.lp_model.specs.Index.{instantiate, at}
 use Rattle.lp_calculus.specs.Spine.{arguments}
 use Rattle.lp_model.specs.Spine.{goal_name}
 use Rattle.lp_model.specs.Skeleton.{Opens, Takes, run}
-use Rattle.lp_model.specs.Faithful.{AnyOf, EachOf}
+use Rattle.lp_lemmas.specs.Each.{AnyOf, EachOf}
 use Rattle.lp_model.specs.Horn.{Declared, Clause, Query, Horn, counted, IsAtom, IsClause, IsQuery, AreValues}
 use Rattle.lp_model.specs.HornProofs.{Provable, IsProvable}
 use Rattle.lp_model.specs.HornUnify.{unify}
 use Rattle.lp_model.specs.HornSearch.{BranchOf, TaskOf, Go, Try, by_type, by_number, vars_from, renamed, is_candidate, tries, resumed, look_goals, look, start}
 use Rattle.lp_model.specs.HornRight.{IsInstance, IsRight, counted_answer, HornSearchIsRight}
-use Rattle.lp_proof_laws.proofs.Uniform.Lists.{each_from_any, each_map}
+use Rattle.lp_lemmas.proofs.Each.{each_from_any, each_map}
 use Rattle.lp_search_laws.proofs.Stack.Faithful.{sound, exhausts, fine}
-use Rattle.lp_search_laws.proofs.Stack.InStep.{view_map, in_step}
+use Rattle.lp_search_laws.proofs.Stack.InStep.{HasNoDenial, view_map, in_step}
 use Rattle.lp_horn_laws.proofs.Terms.{at_values, values_map, close_value, atom_renamed, atom_close_renamed}
 use Rattle.lp_horn_laws.proofs.Branches.{Branch, Task, SolvesGo, Solves, IsTask, vars_types, at_vars, long_vars, search_is_faithful}
 
@@ -72,18 +72,19 @@ module _ (d : Declared) (P : List Clause) (q : Query) where
         proved = subst (λ gs. Provable d P gs) (goals_at hq h.closing i reads) h.goals;
       }
 
-  pub typed_search_is_right : EachOf (IsClause d) P → IsQuery d q → (steps answers n : ℕ) → IsRight d P q (run (look by_type P) n (start by_type q steps answers))
-  typed_search_is_right hP hq steps answers n =
-      let f = search_is_faithful d P q hP in
+  pub typed_search_is_right : EachOf (IsClause d) P → IsQuery d q → (steps answers j n : ℕ) → IsRight d P q (run (look by_type P) j n (start by_type q steps answers))
+  typed_search_is_right hP hq steps answers j n =
+      let f = search_is_faithful d P q hP steps in
+      let here : steps ≤ steps = omega arith in
       let s = start by_type q steps answers in
       let typed = vars_types d q.vars q.vars 0 (λ x T e. let g : 0 + x ≡ x = omega arith in ap (slice_get q.vars) g ∙ e) in
       let goals : EachOf (IsAtom d q.vars []) (map (renamed 0) q.goals) = each_map (IsAtom d [] q.vars) (IsAtom d q.vars []) (renamed 0) (λ t h. atom_renamed d [] q.vars t h) q.goals hq.goals in
       let ok : EachOf (IsTask d q.vars) s.stack = (record { goals = goals; query = typed }, tt) in
       record {
-        well_formed = fine (look by_type P) (IsTask d q.vars) _ (Solves d P) (IsInstance d) f n s ok;
+        well_formed = fine (look by_type P) steps (IsTask d q.vars) _ (Solves d P) (IsInstance d) f j n s ok;
         sound = each_from_any (IsInstance d) (IsProvable d P q) _ (λ i h.
-            from_first hq i (only i (sound (look by_type P) (IsTask d q.vars) _ (Solves d P) (IsInstance d) f n s ok i h)));
-        exhausts = λ e i h. exhausts (look by_type P) (IsTask d q.vars) _ (Solves d P) (IsInstance d) f n s ok e i (inl (to_first hq i h));
+            from_first hq i (only i (sound (look by_type P) steps (IsTask d q.vars) _ (Solves d P) (IsInstance d) f j n s here ok i h)));
+        exhausts = λ e i h. exhausts (look by_type P) steps (IsTask d q.vars) _ (Solves d P) (IsInstance d) f j n s here ok e i (inl (to_first hq i h));
       }
     where
       only : (i : List Term) → AnyOf (Solves d P i) (Go first ∷ []) → SolvesGo d P i first
@@ -118,9 +119,17 @@ counted_look P height (Try c g b) = ap Opens (go (unify (arguments g) (arguments
     go None = refl
     go (Some made) = ap (λ n. Go (record { vars = n; goals = map (put_all made) (map (renamed (length b.vars)) c.body ++ b.goals); query = map (put_all made) b.query }) ∷ []) (sym (length-append b.vars c.vars))
 
+none_denied : (P : List Clause) (height : ℕ) (t : Task) → HasNoDenial (look by_type P height t)
+none_denied P height (Go b) = go b.goals
+  where
+    go : (gs : List Term) → HasNoDenial (look_goals by_type P b gs)
+    go [] = tt
+    go (g ∷ gs) = tt
+none_denied P height (Try c g b) = tt
+
 pub horn_search_is_right : HornSearchIsRight
-horn_search_is_right d P q hP hq steps answers n = record {
-  typed = run (look by_type P) n (start by_type q steps answers);
-  is = in_step counted_task counted_answer (look by_type P) (look by_number (map counted P)) (counted_look P) n (start by_type q steps answers);
-  right = typed_search_is_right d P q hP hq steps answers n;
+horn_search_is_right d P q hP hq steps answers j n = record {
+  typed = run (look by_type P) j n (start by_type q steps answers);
+  is = in_step counted_task counted_answer (look by_type P) (look by_number (map counted P)) (counted_look P) (none_denied P) j n (start by_type q steps answers);
+  right = typed_search_is_right d P q hP hq steps answers j n;
 }

@@ -23,7 +23,7 @@ family =
     ∷ []
 
 abbrev told : List Horn → HornQuery → (steps n : ℕ) → Told (AnswerOf ℕ)
-told P q steps n = run (look by_number P) n (start by_number q steps 1000)
+told P q steps n = run (look by_number P) n n (start by_number q steps 1000)
 
 abbrev values : Told (AnswerOf ℕ) → List (List Term)
 values t = map (λ a. a.values) t.answers

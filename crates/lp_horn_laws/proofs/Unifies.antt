@@ -5,10 +5,10 @@ use Rattle.std.proofs.lemmas.Bool.{eq-eqb, eqb-true}
 use Rattle.lp_calculus.specs.Types.{Ty}
 use Rattle.lp_calculus.specs.Term.{Term, index, atom, abs, app, constant, integer, text, eigen, logic, param}
 use Rattle.lp_calculus.specs.Fill.{close, Binding, one, put, put_all}
-use Rattle.lp_model.specs.Faithful.{EachOf}
+use Rattle.lp_lemmas.specs.Each.{EachOf}
 use Rattle.lp_model.specs.Horn.{Declared, IsSimple, IsArgument, AreArguments}
 use Rattle.lp_model.specs.HornUnify.{bind, unify_constant, unify_variable, unify_two, unify_on, unify}
-use Rattle.lp_proof_laws.proofs.Uniform.Lists.{each_append}
+use Rattle.lp_lemmas.proofs.Each.{each_append}
 use Rattle.lp_horn_laws.proofs.Terms.{bound, Agree, Sends, variable_type, is_variable, put_all_append}
 
 -- where two numbers and two levels are the same

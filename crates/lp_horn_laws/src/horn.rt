@@ -18,7 +18,7 @@ pub fn horn_search_is_right()
 
 /// Each search ends.
 pub fn horn_search_ends()
-    ensures { (P : List Horn) → (q : HornQuery) → (steps answers : ℕ) → (n : ℕ) × (e : Ending) × ((run (look by_number P) n (start by_number q steps answers)).ending ≡ Some e) }
+    ensures { (P : List Horn) → (q : HornQuery) → (steps answers : ℕ) → (n : ℕ) × (e : Ending) × ((run (look by_number P) n n (start by_number q steps answers)).ending ≡ Some e) }
 {}
 
 /// An atom of the fragment is a term of type `o` of the calculus.

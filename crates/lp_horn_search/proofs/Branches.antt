@@ -28,7 +28,7 @@ pub first_is : (q : model.HornQuery) (b : Branch) (body : List Term) → b.vars 
 unfolding branch_state at_state
 first_is q b body e f g h = λ steps answers.
     let gs = ap (map (renamed 0)) (sym f) ∙ sym (reverse_map (renamed 0) body) ∙ ap reverse (sym g) in
-    λ i. record { steps = steps; answers = answers; given = 0; row = 1000000; lost = false; stack = Go (record { vars = sym e i; goals = gs i; query = sym h i }) ∷ [] }
+    λ i. record { steps = steps; answers = answers; given = 0; rows = 1000000; row = 1000000; lost = false; stack = Go (record { vars = sym e i; goals = gs i; query = sym h i }) ∷ [] }
 
 -- the goal in front stands last
 pub popped : (b rest : Branch) (g : Goal) → b.goals.items ≡ rest.goals.items ++ g ∷ [] → rest.vars ≡ b.vars → rest.query ≡ b.query → branch_state b ≡ record { vars = (branch_state rest).vars; goals = goal_term g ∷ (branch_state rest).goals; query = (branch_state rest).query }

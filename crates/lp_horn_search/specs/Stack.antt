@@ -32,7 +32,7 @@ stack_of P (c ∷ cs) = stack_of P cs ++ tasks_of P c
 
 -- no cut is made, and no goal is taken apart
 unfoldable pub at_state : (steps answers given : ℕ) → List (TaskOf ℕ) → State (TaskOf ℕ)
-at_state n k g ts = record { steps = n; answers = k; given = g; row = row_limit; lost = false; stack = ts }
+at_state n k g ts = record { steps = n; answers = k; given = g; rows = row_limit; row = row_limit; lost = false; stack = ts }
 
 -- the search comes from one stack to another and tells nothing, at this many steps
 unfoldable pub Passes : List model.Horn → (steps : ℕ) → List (TaskOf ℕ) → (steps : ℕ) → List (TaskOf ℕ) → Type 0

@@ -4,6 +4,8 @@ use Rattle.std.specs.Prelude.{All}
 use Rattle.std.proofs.lemmas.List.{map-append, reverse-append, length-map, length-reverse, get_or-reverse, append-nil, reverse-reverse}
 use Rattle.indexmap.proofs.ReorderLemmas.{map-reverse}
 use Rattle.std.proofs.lemmas.List.Elements.{All-append, All-cons, All-nil, All-head, All-tail}
+use Rattle.lp_sig.proofs.Instances.{two_sides}
+use Rattle.lp_lemmas.proofs.Lists.{map_agree_on}
 use Rattle.lp_calculus.specs.Types.{Ty, var, arrow, instance}
 use Rattle.lp_calculus.specs.Typing.{Scheme, type_at, o_type}
 use Rattle.lp_type_laws.specs.Equations.{Equation, equation}
@@ -17,34 +19,29 @@ use Rattle.lp_sig.specs.declared.signature.Signature.{Signature}
 use Rattle.lp_infer.specs.Postfix.{Mark, is_constant, opens, closes, applies, mark, IsStep}
 use Rattle.lp_infer.specs.declared.lookup.Step.{Step}
 use Rattle.lp_infer.specs.declared.lookup.Step.TheVariants as step
-use Rattle.lp_infer.proofs.Visiting.{map_agree, step_more}
+use Rattle.lp_infer.proofs.Visiting.{step_more}
 use Rattle.lp_infer.specs.Running.{Sofar, sofar, act, run, pushed, closed, applied}
-use Rattle.lp_infer.specs.Copies.{trees_of, AreTypes, IsType}
+use Rattle.lp_term.specs.Within.{IsTypeOf, AreTypesOf}
+use Rattle.lp_lemmas.proofs.Elements.{All_pushed, All_popped}
+use Rattle.lp_infer.specs.Copies.{trees_of, IsType}
 use Rattle.lp_infer.specs.Making.{held, state, IsSound, Acts, Makes, MakesFresh, IsConstant, IsEquated, HasVariables, IsEnded, IsGenerated}
 use Rattle.lp_infer.specs.declared.generate.Typing.{Typing}
-use Rattle.lp_infer.proofs.Copying.{trees_stay, types_stay, type_stays, get_number}
+use Rattle.lp_term.proofs.Within.{type_trees_later, types_later}
+use Rattle.lp_infer.proofs.Copying.{type_stays, get_number}
 
 -- lists of types
 
 pub trees_append : (b : Nodes) (xs ys : List TypeId) → trees_of b (xs ++ ys) ≡ trees_of b xs ++ trees_of b ys
-trees_append b xs ys = ap (map (type_tree b)) (map-append (λ t. t.0) xs ys) ∙ map-append (type_tree b) (map (λ t. t.0) xs) (map (λ t. t.0) ys)
+trees_append b xs ys = map-append (λ t. type_tree b t.0) xs ys
 
 pub trees_pushed : (b : Nodes) (xs ys : List TypeId) (x : TypeId) → ys ≡ xs ++ x ∷ [] → reverse (trees_of b ys) ≡ type_tree b x.0 ∷ reverse (trees_of b xs)
 trees_pushed b xs ys x e = ap (λ l. reverse (trees_of b l)) e ∙ ap reverse (trees_append b xs (x ∷ [])) ∙ reverse-append (trees_of b xs) (type_tree b x.0 ∷ [])
 
-pub types_pushed : (b : Nodes) (xs ys : List TypeId) (x : TypeId) → ys ≡ xs ++ x ∷ [] → AreTypes b xs → x.0 < length b.types → AreTypes b ys
-types_pushed b xs ys x e k h =
-    subst (AreTypes b) (sym e)
-    (subst (All (λ i. i < length b.types)) (sym (map-append (λ t. t.0) xs (x ∷ []))) (All-append (λ i. i < length b.types) (map (λ t. t.0) xs) (x.0 ∷ []) k (All-cons (λ i. i < length b.types) x.0 [] h (All-nil (λ i. i < length b.types)))))
+pub types_pushed : (b : Nodes) (xs ys : List TypeId) (x : TypeId) → ys ≡ xs ++ x ∷ [] → AreTypesOf b xs → x.0 < length b.types → AreTypesOf b ys
+types_pushed b xs ys x e k h = All_pushed (IsTypeOf b) ys xs x e k h
 
-both_known : (n : ℕ) (xs : List TypeId) (x : TypeId) → All (λ i. i < n) (map (λ t. t.0) (xs ++ x ∷ [])) → All (λ i. i < n) (map (λ t. t.0) xs) × (x.0 < n)
-both_known n [] x k = (All-nil (λ i. i < n), All-head (λ i. i < n) x.0 [] k)
-both_known n (y ∷ xs) x k =
-    let h = both_known n xs x (All-tail (λ i. i < n) y.0 (map (λ t. t.0) (xs ++ x ∷ [])) k) in
-    (All-cons (λ i. i < n) y.0 (map (λ t. t.0) xs) (All-head (λ i. i < n) y.0 (map (λ t. t.0) (xs ++ x ∷ [])) k) h.0, h.1)
-
-pub types_popped : (b : Nodes) (xs ys : List TypeId) (x : TypeId) → ys ≡ xs ++ x ∷ [] → AreTypes b ys → AreTypes b xs × (x.0 < length b.types)
-types_popped b xs ys x e k = both_known (length b.types) xs x (subst (AreTypes b) e k)
+pub types_popped : (b : Nodes) (xs ys : List TypeId) (x : TypeId) → ys ≡ xs ++ x ∷ [] → AreTypesOf b ys → AreTypesOf b xs × (x.0 < length b.types)
+types_popped b xs ys x e k = All_popped (IsTypeOf b) ys xs x e k
 
 -- pairs
 
@@ -84,28 +81,28 @@ acts_then a b c f g F G = record {
 -- what stays where only the bank has grown
 module _ (old new : Typing) (E : Extends old.types new.types) (S : IsSound old) where
   pub contexts : (xs : List TypeId) → xs ≡ old.context.items → reverse (trees_of new.types xs) ≡ reverse (trees_of old.types old.context.items)
-  contexts xs e = ap (λ l. reverse (trees_of new.types l)) e ∙ ap reverse (trees_stay old.types new.types E old.context.items S.context)
+  contexts xs e = ap (λ l. reverse (trees_of new.types l)) e ∙ ap reverse (type_trees_later old.types new.types old.context.items E S.context)
 
   pub equations : (ps : List Pair) → ps ≡ old.pairs.items → map (held new.types) ps ≡ map (held old.types) old.pairs.items
   equations ps e = ap (map (held new.types)) e ∙ helds_stay old.types new.types E old.pairs.items S.pairs
 
   pub wanteds : (xs : List TypeId) → xs ≡ old.wanted.items → trees_of new.types xs ≡ trees_of old.types old.wanted.items
-  wanteds xs e = ap (trees_of new.types) e ∙ trees_stay old.types new.types E old.wanted.items S.wanted
+  wanteds xs e = ap (trees_of new.types) e ∙ type_trees_later old.types new.types old.wanted.items E S.wanted
 
   pub stacks : (xs : List TypeId) → xs ≡ old.stack.items → reverse (trees_of new.types xs) ≡ reverse (trees_of old.types old.stack.items)
-  stacks xs e = ap (λ l. reverse (trees_of new.types l)) e ∙ ap reverse (trees_stay old.types new.types E old.stack.items S.stack)
+  stacks xs e = ap (λ l. reverse (trees_of new.types l)) e ∙ ap reverse (type_trees_later old.types new.types old.stack.items E S.stack)
 
-  pub known_context : (xs : List TypeId) → xs ≡ old.context.items → AreTypes new.types xs
-  known_context xs e = subst (AreTypes new.types) (sym e) (types_stay old.types new.types E old.context.items S.context)
+  pub known_context : (xs : List TypeId) → xs ≡ old.context.items → AreTypesOf new.types xs
+  known_context xs e = subst (AreTypesOf new.types) (sym e) (types_later old.types new.types old.context.items E S.context)
 
   pub known_pairs : (ps : List Pair) → ps ≡ old.pairs.items → All (IsPair (length new.types.types)) ps
   known_pairs ps e = subst (All (IsPair (length new.types.types))) (sym e) (pairs_stay old.types new.types E old.pairs.items S.pairs)
 
-  pub known_wanted : (xs : List TypeId) → xs ≡ old.wanted.items → AreTypes new.types xs
-  known_wanted xs e = subst (AreTypes new.types) (sym e) (types_stay old.types new.types E old.wanted.items S.wanted)
+  pub known_wanted : (xs : List TypeId) → xs ≡ old.wanted.items → AreTypesOf new.types xs
+  known_wanted xs e = subst (AreTypesOf new.types) (sym e) (types_later old.types new.types old.wanted.items E S.wanted)
 
-  pub known_stack : (xs : List TypeId) → xs ≡ old.stack.items → AreTypes new.types xs
-  known_stack xs e = subst (AreTypes new.types) (sym e) (types_stay old.types new.types E old.stack.items S.stack)
+  pub known_stack : (xs : List TypeId) → xs ≡ old.stack.items → AreTypesOf new.types xs
+  known_stack xs e = subst (AreTypesOf new.types) (sym e) (types_later old.types new.types old.stack.items E S.stack)
 
 -- one type more on the stack
 pub push_acts : (old new : Typing) (id : TypeId) (T : Ty) → Extends old.types new.types → new.context.items ≡ old.context.items → new.next ≡ old.next → new.pairs.items ≡ old.pairs.items → new.wanted.items ≡ old.wanted.items →
@@ -116,7 +113,7 @@ push_acts old new id T E context next pairs wanted stack is = record {
     context = known_context old new E S new.context.items context;
     pairs = known_pairs old new E S new.pairs.items pairs;
     wanted = known_wanted old new E S new.wanted.items wanted;
-    stack = types_pushed new.types old.stack.items new.stack.items id stack (types_stay old.types new.types E old.stack.items S.stack) (is S).0;
+    stack = types_pushed new.types old.stack.items new.stack.items id stack (types_later old.types new.types old.stack.items E S.stack) (is S).0;
   };
   state = λ S.
       sofar_same _ _ _ _ _ _ _ _ _ _ (contexts old new E S new.context.items context) next (equations old new E S new.pairs.items pairs) (wanteds old new E S new.wanted.items wanted)
@@ -131,7 +128,7 @@ past_all (T ∷ Ts) zero h = absurd (omega (arith, h))
 past_all (T ∷ Ts) (suc i) h = past_all Ts i (omega (arith, h))
 
 trees_length : (b : Nodes) (xs : List TypeId) → length (trees_of b xs) ≡ length xs
-trees_length b xs = length-map (map (λ t. t.0) xs) (type_tree b) ∙ length-map xs (λ t. t.0)
+trees_length b xs = length-map xs (λ t. type_tree b t.0)
 
 pub index_type : (b : Nodes) (xs : List TypeId) (i : ℕ) (id : TypeId) → i < length xs → id ≡ get_or xs (length xs - 1 - i) id → type_at (reverse (trees_of b xs)) i ≡ type_tree b id.0
 index_type b xs i id h e =
@@ -150,7 +147,7 @@ pub constant_acts : (before mid new : Typing) (arguments : List TypeId) (id : Ty
 constant_acts before mid new arguments id scheme number C types context next pairs wanted stack =
     let E : Extends before.types new.types = subst (Extends before.types) (sym types) C.grown.kept in
     let is : IsType new.types id (instance (type_at (fresh scheme.count before.next)) scheme.body) = subst (λ b. IsType b id (instance (type_at (fresh scheme.count before.next)) scheme.body)) (sym types) C.is in
-    let known : AreTypes new.types arguments = subst (λ b. AreTypes b arguments) (sym types) C.known in
+    let known : AreTypesOf new.types arguments = subst (λ b. AreTypesOf b arguments) (sym types) C.known in
     let are : trees_of new.types arguments ≡ fresh scheme.count before.next = ap (λ b. trees_of b arguments) types ∙ C.are in
     let more : new.wanted.items ≡ before.wanted.items ++ arguments = wanted ∙ ap (λ v. v.items ++ arguments) C.grown.wanted in
     let higher : new.stack.items ≡ before.stack.items ++ id ∷ [] = stack ∙ ap (λ v. v.items ++ id ∷ []) C.grown.stack in
@@ -159,10 +156,9 @@ constant_acts before mid new arguments id scheme number C types context next pai
       sound = λ S. record {
         context = known_context before new E S new.context.items (ap (λ v. v.items) (context ∙ C.grown.context));
         pairs = known_pairs before new E S new.pairs.items (ap (λ v. v.items) (pairs ∙ C.grown.pairs));
-        wanted = subst (AreTypes new.types) (sym more)
-            (subst (All (λ i. i < length new.types.types)) (sym (map-append (λ t. t.0) before.wanted.items arguments))
-            (All-append (λ i. i < length new.types.types) (map (λ t. t.0) before.wanted.items) (map (λ t. t.0) arguments) (types_stay before.types new.types E before.wanted.items S.wanted) known));
-        stack = types_pushed new.types before.stack.items new.stack.items id higher (types_stay before.types new.types E before.stack.items S.stack) is.0;
+        wanted = subst (AreTypesOf new.types) (sym more)
+            (All-append (IsTypeOf new.types) before.wanted.items arguments (types_later before.types new.types before.wanted.items E S.wanted) known);
+        stack = types_pushed new.types before.stack.items new.stack.items id higher (types_later before.types new.types before.stack.items E S.stack) is.0;
       };
       state = λ S.
           sofar_same _ _ _ _ _ _ _ _ _ _ (contexts before new E S new.context.items (ap (λ v. v.items) (context ∙ C.grown.context))) (next ∙ C.grown.next)
@@ -186,7 +182,7 @@ module _ (old mid new : Typing) (from : TypeId) (M : Makes old mid (suc old.next
   opens_with given sound is = record {
     kept = grew;
     sound = λ S. record {
-      context = types_pushed new.types old.context.items new.context.items from deeper (types_stay old.types new.types grew old.context.items S.context) is_var.0;
+      context = types_pushed new.types old.context.items new.context.items from deeper (types_later old.types new.types old.context.items grew S.context) is_var.0;
       pairs = sound S;
       wanted = known_wanted old new grew S new.wanted.items (ap (λ v. v.items) (wanted ∙ M.grown.wanted));
       stack = known_stack old new grew S new.stack.items (ap (λ v. v.items) (stack ∙ M.grown.stack));
@@ -210,28 +206,25 @@ module _ (old mid new : Typing) (from : TypeId) (M : Makes old mid (suc old.next
       helds_pushed new.types old.pairs.items new.pairs.items from id more ∙ ap (λ l. l ++ equation (type_tree new.types from.0) (type_tree new.types id.0) ∷ []) (equations old new grew S old.pairs.items refl) ∙
       ap (λ U. map (held old.types) old.pairs.items ++ equation U (type_tree new.types id.0) ∷ []) is_var.1 ∙ ap (λ U. map (held old.types) old.pairs.items ++ equation (var old.next) U ∷ []) (grew.same_types id.0 known))
 
-arrows : (A B C D : Ty) → A ≡ C → B ≡ D → arrow A B ≡ arrow C D
-arrows A B C D e f = cc
-
 -- the end of an abstraction
 pub close_acts : (old new : Typing) (from to id : TypeId) (C st : List TypeId) → old.context.items ≡ C ++ from ∷ [] → old.stack.items ≡ st ++ to ∷ [] → Extends old.types new.types → IsType new.types id (arrow (type_tree old.types from.0) (type_tree old.types to.0)) →
     new.context.items ≡ C → new.stack.items ≡ st ++ id ∷ [] → new.next ≡ old.next → new.pairs ≡ old.pairs → new.wanted ≡ old.wanted → Acts old new (act closes)
 close_acts old new from to id C st c s E is context stack next pairs wanted = record {
   kept = E;
   sound = λ S. record {
-    context = subst (AreTypes new.types) (sym context) (types_stay old.types new.types E C (types_popped old.types C old.context.items from c S.context).0);
+    context = subst (AreTypesOf new.types) (sym context) (types_later old.types new.types C E (types_popped old.types C old.context.items from c S.context).0);
     pairs = known_pairs old new E S new.pairs.items (ap (λ v. v.items) pairs);
     wanted = known_wanted old new E S new.wanted.items (ap (λ v. v.items) wanted);
-    stack = types_pushed new.types st new.stack.items id stack (types_stay old.types new.types E st (types_popped old.types st old.stack.items to s S.stack).0) is.0;
+    stack = types_pushed new.types st new.stack.items id stack (types_later old.types new.types st E (types_popped old.types st old.stack.items to s S.stack).0) is.0;
   };
   state = λ S.
       let P = type_tree old.types from.0 in
       let T = type_tree old.types to.0 in
       let below = reverse (trees_of old.types C) in
       let rest = reverse (trees_of old.types st) in
-      sofar_same _ _ _ _ _ _ _ _ _ _ (ap (λ l. reverse (trees_of new.types l)) context ∙ ap reverse (trees_stay old.types new.types E C (types_popped old.types C old.context.items from c S.context).0)) next
+      sofar_same _ _ _ _ _ _ _ _ _ _ (ap (λ l. reverse (trees_of new.types l)) context ∙ ap reverse (type_trees_later old.types new.types C E (types_popped old.types C old.context.items from c S.context).0)) next
       (equations old new E S new.pairs.items (ap (λ v. v.items) pairs)) (wanteds old new E S new.wanted.items (ap (λ v. v.items) wanted))
-      (trees_pushed new.types st new.stack.items id stack ∙ ap (λ U. U ∷ reverse (trees_of new.types st)) is.1 ∙ ap (λ l. arrow P T ∷ reverse l) (trees_stay old.types new.types E st (types_popped old.types st old.stack.items to s S.stack).0)) ∙
+      (trees_pushed new.types st new.stack.items id stack ∙ ap (λ U. U ∷ reverse (trees_of new.types st)) is.1 ∙ ap (λ l. arrow P T ∷ reverse l) (type_trees_later old.types new.types st E (types_popped old.types st old.stack.items to s S.stack).0)) ∙
       sym (ap (λ l. closed old.next (map (held old.types) old.pairs.items) (trees_of old.types old.wanted.items) l (reverse (trees_of old.types old.stack.items))) (trees_pushed old.types C old.context.items from c) ∙
       ap (closed old.next (map (held old.types) old.pairs.items) (trees_of old.types old.wanted.items) (P ∷ below)) (trees_pushed old.types st old.stack.items to s));
 }
@@ -252,7 +245,7 @@ apply_acts old mid new head argument id arrow_id st more s t E v F is pairs stac
             context = known_context old new G S new.context.items (ap (λ v. v.items) context);
             pairs = pairs_pushed (length new.types.types) old.pairs.items new.pairs.items head arrow_id pairs (pairs_stay old.types new.types G old.pairs.items S.pairs) (let m = G.more_types in let h = second.1 in omega (arith, h, m)) is.0;
             wanted = known_wanted old new G S new.wanted.items (ap (λ v. v.items) wanted);
-            stack = types_pushed new.types st new.stack.items id stack (types_stay old.types new.types G st second.0) w.0;
+            stack = types_pushed new.types st new.stack.items id stack (types_later old.types new.types st G second.0) w.0;
           };
       state = λ S.
           let first = types_popped old.types more old.stack.items argument s S.stack in
@@ -265,9 +258,9 @@ apply_acts old mid new head argument id arrow_id st more s t E v F is pairs stac
           let rest = reverse (trees_of old.types st) in
           sofar_same _ _ _ _ _ _ _ _ _ _ (contexts old new G S new.context.items (ap (λ v. v.items) context)) next
           (helds_pushed new.types old.pairs.items new.pairs.items head arrow_id pairs ∙ ap (λ l. l ++ equation (type_tree new.types head.0) (type_tree new.types arrow_id.0) ∷ []) (equations old new G S old.pairs.items refl) ∙
-          ap (λ A. es ++ equation A (type_tree new.types arrow_id.0) ∷ []) (G.same_types head.0 second.1) ∙ ap (λ A. es ++ equation T A ∷ []) (is.1 ∙ arrows _ _ _ _ (E.same_types argument.0 first.1) v.1))
+          ap (λ A. es ++ equation A (type_tree new.types arrow_id.0) ∷ []) (G.same_types head.0 second.1) ∙ ap (λ A. es ++ equation T A ∷ []) (is.1 ∙ two_sides _ _ _ _ (E.same_types argument.0 first.1) v.1))
           (wanteds old new G S new.wanted.items (ap (λ v. v.items) wanted))
-          (trees_pushed new.types st new.stack.items id stack ∙ ap (λ A. A ∷ reverse (trees_of new.types st)) w.1 ∙ ap (λ l. var old.next ∷ reverse l) (trees_stay old.types new.types G st second.0)) ∙
+          (trees_pushed new.types st new.stack.items id stack ∙ ap (λ A. A ∷ reverse (trees_of new.types st)) w.1 ∙ ap (λ l. var old.next ∷ reverse l) (type_trees_later old.types new.types st G second.0)) ∙
           sym (ap (applied C old.next es as_) (trees_pushed old.types more old.stack.items argument s ∙ ap (λ l. U ∷ l) (trees_pushed old.types st more head t)));
     }
 
@@ -299,7 +292,7 @@ fresh_pushed (suc n) i = let e : suc i + n ≡ i + suc n = omega arith in ap (λ
 pub no_fresh : (t : Typing) (ids : List TypeId) → ids ≡ [] → MakesFresh t t 0 ids
 no_fresh t ids e = record {
   grown = record { kept = extends_same t.types; context = refl; pairs = refl; wanted = refl; stack = refl; next = (let f : t.next ≡ t.next + 0 = omega arith in f) };
-  known = subst (AreTypes t.types) (sym e) (All-nil (λ i. i < length t.types.types));
+  known = subst (AreTypesOf t.types) (sym e) (All-nil (IsTypeOf t.types));
   are = ap (trees_of t.types) e;
 }
 
@@ -317,8 +310,8 @@ more_fresh a b c n ids more id F M e =
         stack = H.stack ∙ G.stack;
         next = (let g = G.next in let h = H.next in omega (arith, g, h));
       };
-      known = types_pushed c.types ids more id e (types_stay b.types c.types H.kept ids F.known) M.is.0;
-      are = ap (trees_of c.types) e ∙ trees_append c.types ids (id ∷ []) ∙ ap (λ l. l ++ type_tree c.types id.0 ∷ []) (trees_stay b.types c.types H.kept ids F.known ∙ F.are) ∙ ap (λ T. fresh n a.next ++ T ∷ []) (M.is.1 ∙ ap var G.next) ∙
+      known = types_pushed c.types ids more id e (types_later b.types c.types ids H.kept F.known) M.is.0;
+      are = ap (trees_of c.types) e ∙ trees_append c.types ids (id ∷ []) ∙ ap (λ l. l ++ type_tree c.types id.0 ∷ []) (type_trees_later b.types c.types ids H.kept F.known ∙ F.are) ∙ ap (λ T. fresh n a.next ++ T ∷ []) (M.is.1 ∙ ap var G.next) ∙
           sym (fresh_pushed n a.next) ∙ ap (λ m. fresh m a.next) (sym k);
     }
 
@@ -331,43 +324,43 @@ pub constant_made : (before mid now : Typing) (count : ℕ) (ids arguments : Lis
 constant_made before mid now count ids arguments id scheme T F same many E context pairs wanted stack next is e =
     let G = F.grown in
     let are : trees_of mid.types arguments ≡ fresh scheme.count before.next = ap (trees_of mid.types) same ∙ F.are ∙ ap (λ n. fresh n before.next) many in
-    let known : AreTypes mid.types arguments = subst (AreTypes mid.types) (sym same) F.known in
+    let known : AreTypesOf mid.types arguments = subst (AreTypesOf mid.types) (sym same) F.known in
     record {
       grown = record { kept = extends-trans before.types mid.types now.types G.kept E; context = context ∙ G.context; pairs = pairs ∙ G.pairs; wanted = wanted ∙ G.wanted; stack = stack ∙ G.stack; next = next ∙ G.next ∙ ap (λ n. before.next + n) many };
-      known = types_stay mid.types now.types E arguments known;
-      are = trees_stay mid.types now.types E arguments known ∙ are;
+      known = types_later mid.types now.types arguments E known;
+      are = type_trees_later mid.types now.types arguments E known ∙ are;
       is = (is.0, is.1 ∙ e ∙ ap (λ Ts. instance (type_at Ts) scheme.body) are);
     }
 
 -- the variables of a text
 
 trees_reverse : (b : Nodes) (xs : List TypeId) → trees_of b (reverse xs) ≡ reverse (trees_of b xs)
-trees_reverse b xs = ap (map (type_tree b)) (map-reverse (λ t. t.0) xs) ∙ map-reverse (type_tree b) (map (λ t. t.0) xs)
+trees_reverse b xs = map-reverse (λ t. type_tree b t.0) xs
 
-types_reverse : (b : Nodes) (xs : List TypeId) → AreTypes b xs → AreTypes b (reverse xs)
+types_reverse : (b : Nodes) (xs : List TypeId) → AreTypesOf b xs → AreTypesOf b (reverse xs)
 types_reverse b [] k = k
 types_reverse b (x ∷ xs) k =
-    types_pushed b (reverse xs) (reverse (x ∷ xs)) x (reverse-append (x ∷ []) xs) (types_reverse b xs (All-tail (λ i. i < length b.types) x.0 (map (λ t. t.0) xs) k)) (All-head (λ i. i < length b.types) x.0 (map (λ t. t.0) xs) k)
+    types_pushed b (reverse xs) (reverse (x ∷ xs)) x (reverse-append (x ∷ []) xs) (types_reverse b xs (All-tail (IsTypeOf b) x xs k)) (All-head (IsTypeOf b) x xs k)
 
-types_append : (b : Nodes) (xs ys zs : List TypeId) → zs ≡ xs ++ ys → AreTypes b xs → AreTypes b ys → AreTypes b zs
+types_append : (b : Nodes) (xs ys zs : List TypeId) → zs ≡ xs ++ ys → AreTypesOf b xs → AreTypesOf b ys → AreTypesOf b zs
 types_append b xs ys zs e h k =
-    subst (AreTypes b) (sym e) (subst (All (λ i. i < length b.types)) (sym (map-append (λ t. t.0) xs ys)) (All-append (λ i. i < length b.types) (map (λ t. t.0) xs) (map (λ t. t.0) ys) h k))
+    subst (AreTypesOf b) (sym e) (All-append (IsTypeOf b) xs ys h k)
 
 pub variables_made : (old mid new : Typing) (count : ℕ) (ids other : List TypeId) → MakesFresh old mid count ids → other ≡ reverse ids → new.types ≡ mid.types → new.context.items ≡ mid.context.items ++ other → new.wanted.items ≡ mid.wanted.items ++ other →
     new.pairs ≡ mid.pairs → new.stack ≡ mid.stack → new.next ≡ mid.next → HasVariables count old new
 variables_made old mid new count ids other F same types context wanted pairs stack next =
     let G = F.grown in
     let E : Extends old.types new.types = subst (Extends old.types) (sym types) G.kept in
-    let known : AreTypes new.types other = subst (λ b. AreTypes b other) (sym types) (subst (AreTypes mid.types) (sym same) (types_reverse mid.types ids F.known)) in
+    let known : AreTypesOf new.types other = subst (λ b. AreTypesOf b other) (sym types) (subst (AreTypesOf mid.types) (sym same) (types_reverse mid.types ids F.known)) in
     let are : trees_of new.types other ≡ reverse (fresh count old.next) = ap (λ b. trees_of b other) types ∙ ap (trees_of mid.types) same ∙ trees_reverse mid.types ids ∙ ap reverse F.are in
     let c : new.context.items ≡ old.context.items ++ other = context ∙ ap (λ v. v.items ++ other) G.context in
     let w : new.wanted.items ≡ old.wanted.items ++ other = wanted ∙ ap (λ v. v.items ++ other) G.wanted in
     record {
       kept = E;
       sound = λ S. record {
-        context = types_append new.types old.context.items other new.context.items c (types_stay old.types new.types E old.context.items S.context) known;
+        context = types_append new.types old.context.items other new.context.items c (types_later old.types new.types old.context.items E S.context) known;
         pairs = known_pairs old new E S new.pairs.items (ap (λ v. v.items) (pairs ∙ G.pairs));
-        wanted = types_append new.types old.wanted.items other new.wanted.items w (types_stay old.types new.types E old.wanted.items S.wanted) known;
+        wanted = types_append new.types old.wanted.items other new.wanted.items w (types_later old.types new.types old.wanted.items E S.wanted) known;
         stack = known_stack old new E S new.stack.items (ap (λ v. v.items) (stack ∙ G.stack));
       };
       state = λ a b d e.
@@ -390,7 +383,7 @@ end_made old mid new has goal others s E is context pairs wanted stack Q =
             context = known_context old new F S new.context.items (ap (λ v. v.items) (Q.context ∙ context));
             pairs = pairs_pushed (length new.types.types) old.pairs.items new.pairs.items has goal more (pairs_stay old.types new.types F old.pairs.items S.pairs) (let m = F.more_types in let h = popped.1 in omega (arith, h, m)) g.0;
             wanted = known_wanted old new F S new.wanted.items (ap (λ v. v.items) (Q.wanted ∙ wanted));
-            stack = subst (AreTypes new.types) (sym (ap (λ v. v.items) Q.stack ∙ stack)) (types_stay old.types new.types F others popped.0);
+            stack = subst (AreTypesOf new.types) (sym (ap (λ v. v.items) Q.stack ∙ stack)) (types_later old.types new.types others F popped.0);
           };
       has = has;
       others = others;
@@ -435,16 +428,16 @@ pub generated_all : (sig : Signature) (text : List ℕ) (steps : List Step) (cou
     Acts first last (run (map (mark text sig.bank count (type_tree first.types)) steps)) → All (IsStep (length start.types.types)) steps → IsEnded last end → IsGenerated sig text steps count start.types start.next end
 generated_all sig text steps count start first last end a b d e V A k N =
     let none : IsSound start = record {
-      context = subst (AreTypes start.types) (sym a) (All-nil (λ i. i < length start.types.types));
+      context = subst (AreTypesOf start.types) (sym a) (All-nil (IsTypeOf start.types));
       pairs = subst (All (IsPair (length start.types.types))) (sym b) (All-nil (IsPair (length start.types.types)));
-      wanted = subst (AreTypes start.types) (sym d) (All-nil (λ i. i < length start.types.types));
-      stack = subst (AreTypes start.types) (sym e) (All-nil (λ i. i < length start.types.types));
+      wanted = subst (AreTypesOf start.types) (sym d) (All-nil (IsTypeOf start.types));
+      stack = subst (AreTypesOf start.types) (sym e) (All-nil (IsTypeOf start.types));
     } in
     let S = V.sound none in
     let L = A.sound S in
     let begins = sofar (fresh count start.next) (start.next + count) [] (reverse (fresh count start.next)) [] in
     let ms = map (mark text sig.bank count (type_tree start.types)) steps in
-    let same : map (mark text sig.bank count (type_tree first.types)) steps ≡ ms = map_agree (IsStep (length start.types.types)) _ _ (λ s h. mark_types sig text count start.types first.types V.kept s h) steps k in
+    let same : map (mark text sig.bank count (type_tree first.types)) steps ≡ ms = map_agree_on (IsStep (length start.types.types)) _ _ (λ s h. mark_types sig text count start.types first.types V.kept s h) steps k in
     let z : state last ≡ run ms begins = A.state S ∙ ap (λ l. run l (state first)) same ∙ ap (run ms) (V.state a b d e) in
     let E = N.sound L in
     record {

@@ -1,7 +1,6 @@
 -- The formula of a text from its type arguments is the one that its equations speak of, and it is what the parts of the text lead to.
 use Rattle.std.proofs.Common.{◌≡◌, ℕ, suc, List, [], ◌∷◌, ◌++◌, map, reverse, length, take, drop, refl, sym, ap, ◌∙◌}
-use Rattle.std.proofs.lemmas.List.{append_assoc, append-nil, map-append, length-map, length-reverse}
-use Rattle.std.proofs.Math.Seq.{take-append_seam, drop-append_seam}
+use Rattle.std.proofs.lemmas.List.{append_assoc, append-nil, map-append, length-map, length-reverse, take_at, drop_at}
 use Rattle.lp_calculus.specs.Types.{Ty, var, instance}
 use Rattle.lp_calculus.specs.Term.{Term, atom, abs, app, constant}
 use Rattle.lp_infer.specs.Typing.{Raw, raw_index, raw_constant, raw_integer, raw_text, raw_abs, raw_app, instance_term, term_arguments}
@@ -10,12 +9,6 @@ use Rattle.lp_infer.specs.Postfix.{Mark, closes, applies, postfix}
 use Rattle.lp_infer.specs.Filling.{fills, Formed, formed, form, form_all}
 use Rattle.lp_infer.proofs.Principal.{fresh_length}
 use Rattle.lp_infer.proofs.Marked.{same_parts}
-
-pub take_front : (xs ys : List Ty) (n : ℕ) → length xs ≡ n → take n (xs ++ ys) ≡ xs
-take_front xs ys n e = ap (λ k. take k (xs ++ ys)) (sym e) ∙ take-append_seam xs ys
-
-pub drop_front : (xs ys : List Ty) (n : ℕ) → length xs ≡ n → drop n (xs ++ ys) ≡ ys
-drop_front xs ys n e = ap (λ k. drop k (xs ++ ys)) (sym e) ∙ drop-append_seam xs ys
 
 pair_same : (a c : Term) (b d : List Ty) → a ≡ c → b ≡ d → ◌≡◌ {A = Term × List Ty} (a, b) (c, d)
 pair_same a c b d e f = ap {B = Term × List Ty} (λ t. (t, b)) e ∙ ap {B = Term × List Ty} (λ l. (c, l)) f
@@ -26,7 +19,7 @@ filled_all θ (raw_index i) C n rest = refl
 filled_all θ (raw_constant c s) C n rest =
     let Ts = map (instance θ) (fresh s.count n) in
     let many : length Ts ≡ s.count = length-map (fresh s.count n) (instance θ) ∙ fresh_length s.count n in
-    pair_same (atom (constant c (take s.count (Ts ++ rest)))) (atom (constant c Ts)) (drop s.count (Ts ++ rest)) rest (ap (λ l. atom (constant c l)) (take_front Ts rest s.count many)) (drop_front Ts rest s.count many)
+    pair_same (atom (constant c (take s.count (Ts ++ rest)))) (atom (constant c Ts)) (drop s.count (Ts ++ rest)) rest (ap (λ l. atom (constant c l)) (take_at Ts rest s.count many)) (drop_at Ts rest s.count many)
 filled_all θ (raw_integer z) C n rest = refl
 filled_all θ (raw_text t) C n rest = refl
 filled_all θ (raw_abs given b) C n rest = ap (λ p. (abs p.0, p.1)) (filled_all θ b (var n ∷ C) (suc n) rest)
@@ -45,7 +38,7 @@ filled θ R C n count next Ts e =
     let A = term_arguments (generate C R n).term in
     let vars = map (instance θ) (reverse (fresh count next)) in
     let many : length vars ≡ count = length-map (reverse (fresh count next)) (instance θ) ∙ length-reverse (fresh count next) ∙ fresh_length count next in
-    ap (λ l. (fills R (drop count l)).0) (e ∙ map-append (instance θ) (reverse (fresh count next)) A) ∙ ap (λ l. (fills R l).0) (drop_front vars (map (instance θ) A) count many) ∙
+    ap (λ l. (fills R (drop count l)).0) (e ∙ map-append (instance θ) (reverse (fresh count next)) A) ∙ ap (λ l. (fills R l).0) (drop_at vars (map (instance θ) A) count many) ∙
     ap (λ l. (fills R l).0) (sym (append-nil (map (instance θ) A))) ∙ ap (λ p. p.0) (filled_all θ R C n [])
 
 -- the parts of a text lead to its formula

@@ -1,48 +1,33 @@
 -- What the parts of a text do to the spines of the terms so far, as trees.
-use Rattle.std.proofs.Common.{◌≡◌, ℕ, ◌+◌, ◌<◌, List, [], ◌∷◌, ◌++◌, map, reverse, length, take, drop, get_or, refl, sym, ap, subst, ◌∙◌, arith, Result, Ok, Err}
+use Rattle.std.proofs.Common.{◌≡◌, ℕ, ◌+◌, List, [], ◌∷◌, ◌++◌, map, reverse, take, drop, get_or, refl, sym, ap, subst, ◌∙◌, Result, Ok, Err}
 use Rattle.std.specs.Prelude.{All, IfOk}
 use Rattle.std.proofs.lemmas.List.{map-append, reverse-append, drop-drop, take-map, drop-map}
-use Rattle.std.proofs.lemmas.List.Elements.{All-append, All-cons, All-nil, All-head, All-tail}
+use Rattle.std.proofs.lemmas.List.Elements.{All-nil, All-head, All-tail}
+use Rattle.lp_term.proofs.Knowing.{apply_last}
+use Rattle.lp_lemmas.proofs.Lists.{cons_head}
+use Rattle.lp_lemmas.proofs.Elements.{All_pushed, All_popped}
 use Rattle.lp_calculus.specs.Types.{Ty}
 use Rattle.lp_calculus.specs.Typing.{Scheme}
 use Rattle.lp_calculus.specs.Term.{Term, atom, abs, app, apply, constant}
 use Rattle.lp_term.specs.Nodes.{Nodes, tree, type_tree, Extends}
 use Rattle.lp_term.specs.declared.node.TermId.{TermId}
 use Rattle.lp_term.specs.declared.node.TypeId.{TypeId}
-use Rattle.lp_term.proofs.Trees.{map_same, extends_same, extends-trans}
+use Rattle.lp_term.proofs.Trees.{extends_same, extends-trans}
 use Rattle.lp_infer.specs.Typing.{Raw}
 use Rattle.lp_infer.specs.Postfix.{Mark, is_constant, closes, applies, postfix}
-use Rattle.lp_infer.specs.Copies.{trees_of, AreTypes}
-use Rattle.lp_infer.specs.Filling.{fills, IsTerm, Formed, formed, one_more, abstracted, on_argument, form, form_all, numbers, spine_tree, IsSpine, terms_so_far, AreSound, Forms, IsPushed, IsPopped, IsTaken}
+use Rattle.lp_term.specs.Within.{IsTermOf, AreTermsOf, AreTypesOf}
+use Rattle.lp_infer.specs.Copies.{trees_of}
+use Rattle.lp_infer.specs.Filling.{fills, IsTerm, Formed, formed, one_more, abstracted, on_argument, form, form_all, spine_tree, IsSpine, terms_so_far, AreSound, Forms, IsPushed, IsPopped, IsTaken}
 use Rattle.lp_infer.specs.declared.lookup.Step.{Step}
 use Rattle.lp_infer.specs.declared.terms.Spine.{Spine}
 use Rattle.lp_infer.specs.declared.terms.Terms.{Terms}
-use Rattle.lp_infer.proofs.Copying.{trees_stay, types_stay}
+use Rattle.lp_term.proofs.Within.{term_later, terms_later, trees_later, type_trees_later, types_later}
 use Rattle.lp_infer.proofs.Filling.{formed_whole, form_more}
 
 -- lists
 
-pub all_pushed : {X : Type 0} (P : X → Type 0) (xs ys : List X) (x : X) → ys ≡ xs ++ x ∷ [] → All P xs → P x → All P ys
-all_pushed P xs ys x e k h = subst (All P) (sym e) (All-append P xs (x ∷ []) k (All-cons P x [] h (All-nil P)))
-
-both_hold : {X : Type 0} (P : X → Type 0) (xs : List X) (x : X) → All P (xs ++ x ∷ []) → All P xs × P x
-both_hold P [] x k = (All-nil P, All-head P x [] k)
-both_hold P (y ∷ xs) x k =
-    let h = both_hold P xs x (All-tail P y (xs ++ x ∷ []) k) in
-    (All-cons P y xs (All-head P y (xs ++ x ∷ []) k) h.0, h.1)
-
-pub all_popped : {X : Type 0} (P : X → Type 0) (xs ys : List X) (x : X) → ys ≡ xs ++ x ∷ [] → All P ys → All P xs × P x
-all_popped P xs ys x e k = both_hold P xs x (subst (All P) e k)
-
 reverse_pushed : {X Y : Type 0} (f : X → Y) (xs ys : List X) (x : X) → ys ≡ xs ++ x ∷ [] → reverse (map f ys) ≡ f x ∷ reverse (map f xs)
 reverse_pushed f xs ys x e = ap (λ l. reverse (map f l)) e ∙ ap reverse (map-append f xs (x ∷ [])) ∙ reverse-append (map f xs) (f x ∷ [])
-
-apply_last : (t u : Term) (xs : List Term) → apply t (xs ++ u ∷ []) ≡ app (apply t xs) u
-apply_last t u [] = refl
-apply_last t u (x ∷ xs) = apply_last (app t x) u xs
-
-heads_same : (t u : Term) (ts us : List Term) → t ∷ ts ≡ u ∷ us → t ≡ u
-heads_same t u ts us e = cc
 
 formed_same : (ts us : List Term) (Ts Us : List Ty) → ts ≡ us → Ts ≡ Us → formed ts Ts ≡ formed us Us
 formed_same ts us Ts Us e f = ap (λ l. formed l Ts) e ∙ ap (formed us) f
@@ -50,10 +35,10 @@ formed_same ts us Ts Us e f = ap (λ l. formed l Ts) e ∙ ap (formed us) f
 -- spines in a bank that grows
 module _ (b c : Nodes) (E : Extends b c) where
   spine_stays : (s : Spine) → IsSpine b s → IsSpine c s
-  spine_stays s h = let m = E.more_terms in (omega (arith, h.0, m), λ i d l. let k = h.1 i d l in omega (arith, k, m))
+  spine_stays s h = (term_later b c s.head E h.0, terms_later b c s.arguments.items E h.1)
 
   spine_same : (s : Spine) → IsSpine b s → spine_tree c s ≡ spine_tree b s
-  spine_same s h = ap (λ t. apply t (map (tree c) (numbers s.arguments.items))) (E.same_terms s.head.0 h.0) ∙ ap (apply (tree b s.head.0)) (map_same (tree c) (tree b) (length b.terms) E.same_terms (numbers s.arguments.items) h.1)
+  spine_same s h = ap (λ t. apply t (map (λ u. tree c u.0) s.arguments.items)) (E.same_terms s.head.0 h.0) ∙ ap (apply (tree b s.head.0)) (trees_later b c s.arguments.items E h.1)
 
   pub spines_stay : (ss : List Spine) → All (IsSpine b) ss → All (IsSpine c) ss
   spines_stay ss h = λ i d l. spine_stays (get_or ss i d) (h i d l)
@@ -81,9 +66,9 @@ pub forms_as : (b c : Nodes) (types : List TypeId) (old new : Terms) (f g : Form
 forms_as b c types old new f g e F = record { kept = F.kept; sound = F.sound; changed = λ s. F.changed s ∙ e (terms_so_far b types old) }
 
 -- a spine more on spines that were there
-module _ (b c : Nodes) (types : List TypeId) (E : Extends b c) (before : List Spine) (new : Terms) (spine : Spine) (e : new.stack.items ≡ before ++ spine ∷ []) (K : AreTypes b types) (S : All (IsSpine b) before) where
+module _ (b c : Nodes) (types : List TypeId) (E : Extends b c) (before : List Spine) (new : Terms) (spine : Spine) (e : new.stack.items ≡ before ++ spine ∷ []) (K : AreTypesOf b types) (S : All (IsSpine b) before) where
   more_sound : IsSpine c spine → AreSound c types new
-  more_sound h = record { known = types_stay b c E types K; spines = all_pushed (IsSpine c) before new.stack.items spine e (spines_stay b c E before S) h }
+  more_sound h = record { known = types_later b c types E K; spines = All_pushed (IsSpine c) new.stack.items before spine e (spines_stay b c E before S) h }
 
   more_terms : reverse (map (spine_tree c) new.stack.items) ≡ spine_tree c spine ∷ reverse (map (spine_tree b) before)
   more_terms = reverse_pushed (spine_tree c) before new.stack.items spine e ∙ ap (λ l. spine_tree c spine ∷ reverse l) (spines_same b c E before S)
@@ -91,14 +76,14 @@ module _ (b c : Nodes) (types : List TypeId) (E : Extends b c) (before : List Sp
   more_formed : (t : Term) (Ts : List Ty) → spine_tree c spine ≡ t → drop new.used (trees_of b types) ≡ Ts → terms_so_far c types new ≡ formed (t ∷ reverse (map (spine_tree b) before)) Ts
   more_formed t Ts f g =
       formed_same (reverse (map (spine_tree c) new.stack.items)) (t ∷ reverse (map (spine_tree b) before)) (drop new.used (trees_of c types)) Ts
-      (more_terms ∙ ap (λ u. u ∷ reverse (map (spine_tree b) before)) f) (ap (drop new.used) (trees_stay b c E types K) ∙ g)
+      (more_terms ∙ ap (λ u. u ∷ reverse (map (spine_tree b) before)) f) (ap (drop new.used) (type_trees_later b c types E K) ∙ g)
 
 -- a bare head
 
 bare_spine : (c : Nodes) (head : TermId) (t : Term) (s : Spine) → s.head ≡ head → s.arguments.items ≡ [] → IsTerm c head t → IsSpine c s × (spine_tree c s ≡ t)
 bare_spine c head t s e f h = (
-  (subst (λ i. i.0 < length c.terms) (sym e) h.0, subst (λ l. All (λ i. i < length c.terms) (numbers l)) (sym f) (All-nil (λ i. i < length c.terms))),
-  ap (λ l. apply (tree c s.head.0) (map (tree c) (numbers l))) f ∙ ap (λ i. tree c i.0) e ∙ h.1,
+  (subst (IsTermOf c) (sym e) h.0, subst (AreTermsOf c) (sym f) (All-nil (IsTermOf c))),
+  ap (λ l. apply (tree c s.head.0) (map (λ u. tree c u.0) l)) f ∙ ap (λ i. tree c i.0) e ∙ h.1,
 )
 
 pub head_forms : (b c : Nodes) (types : List TypeId) (old new : Terms) (head : TermId) (t : Term) → Extends b c → IsTerm c head t → IsPushed head old new → Forms b c types old new (one_more t)
@@ -113,8 +98,7 @@ head_forms b c types old new head t E h P =
 
 next_types : (b : Nodes) (types arguments : List TypeId) (n k : ℕ) → arguments ≡ take n (drop k types) → trees_of b arguments ≡ take n (drop k (trees_of b types))
 next_types b types arguments n k e =
-    ap (trees_of b) e ∙ ap (map (type_tree b)) (sym (take-map (λ t. t.0) n (drop k types)) ∙ ap (take n) (sym (drop-map (λ t. t.0) k types))) ∙
-    sym (take-map (type_tree b) n (drop k (map (λ t. t.0) types))) ∙ ap (take n) (sym (drop-map (type_tree b) k (map (λ t. t.0) types)))
+    ap (trees_of b) e ∙ sym (take-map (λ t. type_tree b t.0) n (drop k types)) ∙ ap (take n) (sym (drop-map (λ t. type_tree b t.0) k types))
 
 pub constant_forms : (b c : Nodes) (types arguments : List TypeId) (old mid new : Terms) (number : ℕ) (s : Scheme) (head : TermId) → Extends b c → mid.stack.items ≡ old.stack.items → mid.used ≡ old.used + s.count →
     arguments ≡ take s.count (drop old.used types) → IsTerm c head (atom (constant number (trees_of b arguments))) → IsPushed head mid new → Forms b c types old new (form (is_constant number s))
@@ -133,7 +117,7 @@ constant_forms b c types arguments old mid new number s head E e f a h P =
 -- the end of an abstraction
 pub close_forms : (b m c : Nodes) (types : List TypeId) (old mid new : Terms) (body head : TermId) → Extends b m → Extends m c → IsTaken b m old mid body → IsTerm c head (abs (tree m body.0)) → IsPushed head mid new → Forms b c types old new (form closes)
 close_forms b m c types old mid new body head E F T h P =
-    let parts : AreSound b types old → All (IsSpine b) mid.stack.items × IsSpine b T.spine = λ S. all_popped (IsSpine b) mid.stack.items old.stack.items T.spine T.popped.stack S.spines in
+    let parts : AreSound b types old → All (IsSpine b) mid.stack.items × IsSpine b T.spine = λ S. All_popped (IsSpine b) old.stack.items mid.stack.items T.spine T.popped.stack S.spines in
     let G = extends-trans b m c E F in
     let s = bare_spine c head (abs (tree m body.0)) P.spine P.at_head P.bare h in record {
       kept = G;
@@ -147,19 +131,18 @@ close_forms b m c types old mid new body head E F T h P =
 longer_spine : (b c : Nodes) (E : Extends b c) (argument : TermId) (t : Term) (s longer : Spine) → longer.head ≡ s.head → longer.arguments.items ≡ s.arguments.items ++ argument ∷ [] → IsSpine b s → IsTerm c argument t →
     IsSpine c longer × (spine_tree c longer ≡ app (spine_tree b s) t)
 longer_spine b c E argument t s longer e f h k =
-    let g : numbers longer.arguments.items ≡ numbers s.arguments.items ++ argument.0 ∷ [] = ap numbers f ∙ map-append (λ i. i.0) s.arguments.items (argument ∷ []) in
     let d = spine_stays b c E s h in (
-      (subst (λ i. i.0 < length c.terms) (sym e) d.0, all_pushed (λ i. i < length c.terms) (numbers s.arguments.items) (numbers longer.arguments.items) argument.0 g d.1 k.0),
-      ap (λ l. apply (tree c longer.head.0) (map (tree c) l)) g ∙ ap (λ i. apply (tree c i.0) (map (tree c) (numbers s.arguments.items ++ argument.0 ∷ []))) e ∙
-          ap (apply (tree c s.head.0)) (map-append (tree c) (numbers s.arguments.items) (argument.0 ∷ [])) ∙ apply_last (tree c s.head.0) (tree c argument.0) (map (tree c) (numbers s.arguments.items)) ∙
+      (subst (IsTermOf c) (sym e) d.0, All_pushed (IsTermOf c) longer.arguments.items s.arguments.items argument f d.1 k.0),
+      ap (λ l. apply (tree c longer.head.0) (map (λ u. tree c u.0) l)) f ∙ ap (λ i. apply (tree c i.0) (map (λ u. tree c u.0) (s.arguments.items ++ argument ∷ []))) e ∙
+          ap (apply (tree c s.head.0)) (map-append (λ u. tree c u.0) s.arguments.items (argument ∷ [])) ∙ apply_last (tree c s.head.0) (map (λ u. tree c u.0) s.arguments.items) (tree c argument.0) ∙
           ap (λ u. app u (tree c argument.0)) (spine_same b c E s h) ∙ ap (app (spine_tree b s)) k.1,
     )
 
 pub apply_forms : (b c : Nodes) (types : List TypeId) (old mid rest new : Terms) (argument : TermId) (spine longer : Spine) → Extends b c → IsTaken b c old mid argument → IsPopped mid rest spine → longer.head ≡ spine.head → longer.arguments.items ≡ spine.arguments.items ++ argument ∷ [] →
     new.stack.items ≡ rest.stack.items ++ longer ∷ [] → new.used ≡ rest.used → Forms b c types old new (form applies)
 apply_forms b c types old mid rest new argument spine longer E T P e f stack used =
-    let first : AreSound b types old → All (IsSpine b) mid.stack.items × IsSpine b T.spine = λ S. all_popped (IsSpine b) mid.stack.items old.stack.items T.spine T.popped.stack S.spines in
-    let second : AreSound b types old → All (IsSpine b) rest.stack.items × IsSpine b spine = λ S. all_popped (IsSpine b) rest.stack.items mid.stack.items spine P.stack (first S).0 in
+    let first : AreSound b types old → All (IsSpine b) mid.stack.items × IsSpine b T.spine = λ S. All_popped (IsSpine b) old.stack.items mid.stack.items T.spine T.popped.stack S.spines in
+    let second : AreSound b types old → All (IsSpine b) rest.stack.items × IsSpine b spine = λ S. All_popped (IsSpine b) mid.stack.items rest.stack.items spine P.stack (first S).0 in
     let long : AreSound b types old → IsSpine c longer × (spine_tree c longer ≡ app (spine_tree b spine) (spine_tree b T.spine)) = λ S. longer_spine b c E argument (spine_tree b T.spine) spine longer e f (second S).1 (T.is (first S).1) in record {
       kept = E;
       sound = λ S. more_sound b c types E rest.stack.items new longer stack S.known (second S).0 (long S).0;
@@ -170,7 +153,7 @@ apply_forms b c types old mid rest new argument spine longer E T P e f stack use
     }
 
 -- the formula of a text
-pub formula_formed : (b m c : Nodes) (types : List TypeId) (old mid new : Terms) (id : TermId) (R : Raw) (ms : List Mark) → postfix R ≡ ms → old.stack.items ≡ [] → AreTypes b types → Forms b m types old mid (form_all ms) → IsTaken m c mid new id →
+pub formula_formed : (b m c : Nodes) (types : List TypeId) (old mid new : Terms) (id : TermId) (R : Raw) (ms : List Mark) → postfix R ≡ ms → old.stack.items ≡ [] → AreTypesOf b types → Forms b m types old mid (form_all ms) → IsTaken m c mid new id →
     IsTerm c id (fills R (drop old.used (trees_of b types))).0
 formula_formed b m c types old mid new id R ms e none known F T =
     let Ts = drop old.used (trees_of b types) in
@@ -178,18 +161,15 @@ formula_formed b m c types old mid new id R ms e none known F T =
     let first : terms_so_far b types old ≡ formed [] Ts = ap (λ l. formed (reverse (map (spine_tree b) l)) Ts) none in
     let last : terms_so_far m types mid ≡ formed ((fills R Ts).0 ∷ []) (fills R Ts).1 = F.changed sound ∙ ap (form_all ms) first ∙ ap (λ l. form_all l (formed [] Ts)) (sym e) ∙ formed_whole R Ts in
     let top : spine_tree m T.spine ∷ reverse (map (spine_tree m) new.stack.items) ≡ (fills R Ts).0 ∷ [] = sym (reverse_pushed (spine_tree m) new.stack.items mid.stack.items T.spine T.popped.stack) ∙ ap (λ f. f.terms) last in
-    let h = T.is (all_popped (IsSpine m) new.stack.items mid.stack.items T.spine T.popped.stack (F.sound sound).spines).1 in
-    (h.0, h.1 ∙ heads_same (spine_tree m T.spine) (fills R Ts).0 (reverse (map (spine_tree m) new.stack.items)) [] top)
+    let h = T.is (All_popped (IsSpine m) mid.stack.items new.stack.items T.spine T.popped.stack (F.sound sound).spines).1 in
+    (h.0, h.1 ∙ cons_head (spine_tree m T.spine) (fills R Ts).0 (reverse (map (spine_tree m) new.stack.items)) [] top)
 
 -- the newest spine as a term of the bank
 
-pub bare_taken : (b : Nodes) (old new : Terms) (spine : Spine) → IsPopped old new spine → spine.arguments.items ≡ [] → IsTaken b b old new spine.head
-bare_taken b old new spine P e = record { spine = spine; popped = P; is = λ h. (h.0, ap (λ l. apply (tree b spine.head.0) (map (tree b) (numbers l))) (sym e)) }
-
 pub taken_by : {E : Type 0} (b c : Nodes) (old new : Terms) (spine : Spine) → IsPopped old new spine → (arguments : List TermId) → arguments ≡ spine.arguments.items → (r : Result TermId E) →
-    IfOk r (λ id. IsTerm c id (apply (tree b spine.head.0) (map (tree b) (numbers arguments)))) → IfOk r (IsTaken b c old new)
-taken_by b c old new spine P arguments e (Ok id) h = record { spine = spine; popped = P; is = λ k. (h.0, h.1 ∙ ap (λ l. apply (tree b spine.head.0) (map (tree b) (numbers l))) e) }
-taken_by b c old new spine P arguments e (Err x) h = tt
+    IfOk r (IsTermOf c) → IfOk r (λ id. tree c id.0 ≡ apply (tree b spine.head.0) (map (λ u. tree b u.0) arguments)) → IfOk r (IsTaken b c old new)
+taken_by b c old new spine P arguments e (Ok id) w h = record { spine = spine; popped = P; is = λ k. (w, h ∙ ap (λ l. apply (tree b spine.head.0) (map (λ u. tree b u.0) l)) e) }
+taken_by b c old new spine P arguments e (Err x) w h = tt
 
 -- all parts of a text, and the formula in the end
 
@@ -199,7 +179,7 @@ step_forms a b c types old mid new says steps step F G =
     forms_as a c types old new (λ x. form (says step) (form_all (map says steps) x)) (form_all (map says (steps ++ step ∷ []))) (λ x. sym (ap (λ ms. form_all ms x) (map-append says steps (step ∷ [])) ∙ form_more (map says steps) (says step) x))
     (forms_then a b c types old mid new (form_all (map says steps)) (form (says step)) F G)
 
-pub formula_told : {E : Type 0} (a m c : Nodes) (types : List TypeId) (old mid new : Terms) (says : Nodes → (ℕ → Ty) → Step → Mark) (taken steps : List Step) → taken ≡ steps → old.stack.items ≡ [] → AreTypes a types →
+pub formula_told : {E : Type 0} (a m c : Nodes) (types : List TypeId) (old mid new : Terms) (says : Nodes → (ℕ → Ty) → Step → Mark) (taken steps : List Step) → taken ≡ steps → old.stack.items ≡ [] → AreTypesOf a types →
     ((b : Nodes) (τ : ℕ → Ty) → Forms a m types old mid (form_all (map (says b τ) taken))) → (r : Result TermId E) → IfOk r (IsTaken m c mid new) →
     IfOk r (λ id. (R : Raw) → (b : Nodes) → (τ : ℕ → Ty) → postfix R ≡ map (says b τ) steps → IsTerm c id (fills R (drop old.used (trees_of a types))).0)
 formula_told a m c types old mid new says taken steps e none known F (Ok id) T = λ R b τ f.

@@ -2,8 +2,11 @@
 use Rattle.std.proofs.Common.{◌≡◌, ℕ, zero, suc, ◌+◌, ◌-◌, ◌<◌, ◌≤◌, zero-add, add-one, le_refl, inl, inr, List, [], ◌∷◌, ◌++◌, map, reverse, length, take, drop, refl, sym, ap, subst, ◌∙◌, Option, Some, None, true, arith}
 use Rattle.std.specs.Prelude.{codes, slice_get, get_or, ◌⊎◌}
 use Rattle.std.proofs.lemmas.Bool.{cases_lt}
-use Rattle.std.proofs.lemmas.List.{append-nil, reverse-reverse, length-map}
+use Rattle.std.proofs.lemmas.List.{append-nil, reverse-reverse, length-map, take_all, take_more}
 use Rattle.std.proofs.lemmas.Slice.Eq.{bytes_eq-Decides}
+use Rattle.lp_sig.proofs.Heads.{place_below}
+use Rattle.lp_term.proofs.Walks.{map_map}
+use Rattle.lp_lemmas.proofs.Lists.{map_take, take_suc, map_pushed}
 use mathlib.Core.List.{reverse-cons}
 use mathlib.Core.Path.{fun_ext}
 use Rattle.indexmap.specs.IndexMap.{IndexMap}
@@ -32,7 +35,7 @@ use Rattle.lp_infer.specs.Visits.{marks, IsLookedUp, HasNoReading}
 use Rattle.lp_infer.specs.Making.{held, IsGenerated}
 use Rattle.lp_infer.specs.Copies.{trees_of}
 use Rattle.lp_infer.specs.Filling.{fills, IsTerm}
-use Rattle.lp_infer.specs.ReadingOff.{ReadsAll}
+use Rattle.lp_infer.specs.ReadingOff.{bound_type, ReadsAll}
 use Rattle.lp_infer.specs.Meeting.{met, renaming}
 use Rattle.lp_infer.specs.declared.reading.Reading.{Reading}
 use Rattle.lp_infer.specs.Formulas.{wanted_types, variables_of, in_order, HasTypes}
@@ -40,13 +43,11 @@ use Rattle.lp_infer.specs.declared.lookup.Step.{Step}
 use Rattle.lp_infer.specs.declared.lookup.Lookup.{Lookup}
 use Rattle.lp_infer.specs.declared.generate.Typing.{Typing}
 use Rattle.lp_infer.proofs.Principal.{no_typing}
-use Rattle.lp_infer.proofs.Levels.{first_below}
 use Rattle.lp_infer.proofs.LookedUp.{or_goal, notes_of, notes_agree}
 use Rattle.lp_infer.proofs.Scoped.{NotesBelow, is_scoped}
 use Rattle.lp_infer.proofs.Marked.{runs}
 use Rattle.lp_infer.proofs.Whole.{principal_text, no_text}
-use Rattle.lp_infer.proofs.Copying.{map_twice, trees_stay}
-use Rattle.lp_infer.proofs.Taking.{take_whole, taken_more, map_pushed}
+use Rattle.lp_term.proofs.Within.{type_trees_later}
 use Rattle.lp_infer.proofs.Typings.{types_under, in_numbers, is_principal, are_numbered, is_typing}
 
 -- solutions
@@ -132,7 +133,7 @@ module _ (text : List ℕ) (places : List Spot) where
 
   notes_below : NotesBelow (length text + length places) text (notes_of text places var)
   notes_below = record {
-    named = λ w. named_below (first_place w (map (spelled text) places)) (λ j e. let l = first_below w (map (spelled text) places) j e in let m = length-map places (spelled text) in omega (arith, l, m));
+    named = λ w. named_below (first_place w (map (spelled text) places)) (λ j e. let l = place_below w (map (spelled text) places) j e in let m = length-map places (spelled text) in omega (arith, l, m));
     blank = λ s e. let l = blank_inside text s e in omega (arith, l);
   }
 
@@ -178,7 +179,7 @@ module _ (sig : Signature) (text : List ℕ) (raw : RawTerm) (l : Lookup) (L : I
   -- the types that are wanted are those of the typing
   wanted_are : {S : Type 0} (made : IndexMap ℕ TypeId S) → wanted_types t made ≡ types_under F.found names_ next_ (reads t.types made)
   wanted_are made =
-      sym (map_twice (instance (reads t.types made)) (type_tree t.types) (map (λ i. i.0) t.wanted.items)) ∙
+      map_map (bound_type t.types made) (λ i. i.0) t.wanted.items ∙ sym (map_map (instance (reads t.types made)) (λ i. type_tree t.types i.0) t.wanted.items) ∙
       ap (map (instance (reads t.types made))) (arguments_are sig text l.steps.items names_ next_ l.types t F.found G list)
 
   -- what is read off under a most general solution is the principal typing
@@ -204,11 +205,6 @@ none_read sig text raw none places T I = none I.notes (length places) I.looked_u
 
 -- what was read off has the types that are wanted
 
-map_taken : {A B : Type 0} (f : A → B) (n : ℕ) (xs : List A) → map f (take n xs) ≡ take n (map f xs)
-map_taken f zero xs = refl
-map_taken f (suc n) [] = refl
-map_taken f (suc n) (x ∷ xs) = ap (λ l. f x ∷ l) (map_taken f n xs)
-
 pub has_types : (text : List ℕ) (steps : List Step) (spots : List Spot) (A : ℕ → Ty) (b c : Nodes) (ids types : List TypeId) (first last : Reading) (t : Typed) → Extends b c → first.numbers.keys ≡ [] → ReadsAll A b first last ids types →
     (map (λ v. v.0) t.vars.items ≡ spots) × (map (λ v. v.1) t.vars.items ≡ take (length spots) types) →
     ((R : Raw) (d : Nodes) (τ : ℕ → Ty) → postfix R ≡ map (mark text d (length spots) τ) steps → IsTerm c t.formula (fills R (drop (length spots) (trees_of b types))).0) → t.type_vars ≡ length last.numbers.keys →
@@ -217,35 +213,30 @@ has_types text steps spots A b c ids types first last t E none R vars formula co
     let As = map A (map (λ i. i.0) ids) in
     let keys : last.numbers.keys ≡ variables_of As = R.numbers ∙ ap (λ N. met N (all_variables As)) none in
     let trees : trees_of b types ≡ in_order As = R.are.are ∙ ap (λ N. map (instance (renaming N)) As) keys in
-    let stay : trees_of c types ≡ in_order As = trees_stay b c E types R.are.known ∙ trees in
+    let stay : trees_of c types ≡ in_order As = type_trees_later b c types E R.are.known ∙ trees in
     record {
       places = vars.0;
       types =
-          sym (map_twice (λ i. type_tree c i.0) (λ v. v.1) t.vars.items) ∙ ap (map (λ i. type_tree c i.0)) vars.1 ∙ map_taken (λ i. type_tree c i.0) (length spots) types ∙
-          ap (take (length spots)) (sym (map_twice (type_tree c) (λ i. i.0) types) ∙ stay);
+          sym (map_map (λ i. type_tree c i.0) (λ v. v.1) t.vars.items) ∙ ap (map (λ i. type_tree c i.0)) vars.1 ∙ map_take (λ i. type_tree c i.0) (length spots) types ∙
+          ap (take (length spots)) stay;
       formula = λ R τ d e. (formula R d τ e).1 ∙ ap (λ l. (fills R (drop (length spots) l)).0) trees;
       count = count ∙ ap length keys;
     }
 
 -- the variables with their types
 
-got : {A : Type 0} (xs : List A) (i : ℕ) (x : A) → slice_get xs i ≡ Some x → take (suc i) xs ≡ take i xs ++ x ∷ []
-got [] i x e = absurd (cc)
-got (y ∷ ys) zero x e = let f : y ≡ x = cc in ap (λ z. z ∷ []) f
-got (y ∷ ys) (suc i) x e = ap (λ l. y ∷ l) (got ys i x e)
-
 pub variable_more : (spots : List Spot) (types : List TypeId) (vs ws : List (Spot × TypeId)) (i : ℕ) (d : Spot) (id : TypeId) → i < length spots → slice_get types i ≡ Some id → map (λ v. v.0) vs ≡ take i spots → map (λ v. v.1) vs ≡ take i types →
     ws ≡ vs ++ (get_or spots i d, id) ∷ [] → (map (λ v. v.0) ws ≡ take (i + 1) spots) × (map (λ v. v.1) ws ≡ take (i + 1) types)
 variable_more spots types vs ws i d id below got_id first second e = (
-  map_pushed (λ v. v.0) vs ws (get_or spots i d, id) e ∙ ap (λ l. l ++ get_or spots i d ∷ []) first ∙ sym (taken_more spots i d below),
-  map_pushed (λ v. v.1) vs ws (get_or spots i d, id) e ∙ ap (λ l. l ++ id ∷ []) second ∙ sym (ap (λ k. take k types) (add-one i) ∙ got types i id got_id),
+  map_pushed (λ v. v.0) vs ws (get_or spots i d, id) e ∙ ap (λ l. l ++ get_or spots i d ∷ []) first ∙ sym (take_more spots i d below),
+  map_pushed (λ v. v.1) vs ws (get_or spots i d, id) e ∙ ap (λ l. l ++ id ∷ []) second ∙ sym (ap (λ k. take k types) (add-one i) ∙ take_suc types i id got_id),
 )
 
 pub variables_all : (spots : List Spot) (types : List TypeId) (vs : List (Spot × TypeId)) (i : ℕ) → length spots ≤ i → i ≤ length spots → map (λ v. v.0) vs ≡ take i spots → map (λ v. v.1) vs ≡ take i types →
     (map (λ v. v.0) vs ≡ spots) × (map (λ v. v.1) vs ≡ take (length spots) types)
 variables_all spots types vs i low high first second =
     let e : i ≡ length spots = omega arith in
-    (first ∙ take_whole spots i low, second ∙ ap (λ k. take k types) e)
+    (first ∙ take_all i spots low, second ∙ ap (λ k. take k types) e)
 
 -- the same equations, as the calls give them
 pub is_made : (sig : Signature) (text : List ℕ) (l : Lookup) (t : Typing) (steps : List Step) (count next : ℕ) → IsGenerated sig text steps count l.types next t → steps ≡ l.steps.items → count ≡ length l.variables.places.items → next ≡ length text + length l.notes.places.items →

@@ -2,7 +2,7 @@
 use Rattle.std.proofs.Common.{◌≡◌, ℕ, zero, suc, ◌+◌, ◌-◌, ◌<◌, ◌≤◌, List, [], ◌∷◌, ◌++◌, map, length, refl, sym, ap, subst, ◌∙◌, Option, Some, None, Bool, true, false, arith, option_map}
 use Rattle.std.specs.Prelude.{find, if◌then◌else◌}
 use Rattle.std.specs.Str.{bytes_eq}
-use Rattle.std.proofs.lemmas.Bool.{le-ltb}
+use Rattle.std.proofs.lemmas.Bool.{le-ltb, cond-true, cond-false}
 use Rattle.lp_base.specs.declared.place.Spot.{Spot}
 use Rattle.lp_calculus.specs.Types.{Ty}
 use Rattle.lp_calculus.specs.Typing.{Scheme}
@@ -92,7 +92,7 @@ some_at (None ∷ ss) n h l = absurd h
 some_at (Some s ∷ ss) zero h l = refl
 some_at (Some s ∷ ss) (suc n) h l = some_at ss n h (omega (arith, l))
 
-pub standard_there : (n : ℕ) → n < 24 → entry standard_schemes n ≡ Some (scheme_or (entry standard_schemes n))
+pub standard_there : (n : ℕ) → n < 25 → entry standard_schemes n ≡ Some (scheme_or (entry standard_schemes n))
 standard_there n h = some_at standard_schemes n tt h
 
 none_at : (ss : List (Option Scheme)) (n : ℕ) → length ss ≤ n → entry ss n ≡ None
@@ -100,7 +100,7 @@ none_at [] n h = refl
 none_at (s ∷ ss) zero h = absurd (omega (arith, h))
 none_at (s ∷ ss) (suc n) h = none_at ss n (omega (arith, h))
 
-pub none_standard : (n : ℕ) → 24 ≤ n → entry standard_schemes n ≡ None
+pub none_standard : (n : ℕ) → 25 ≤ n → entry standard_schemes n ≡ None
 none_standard n h = none_at standard_schemes n h
 
 pub declared_scheme : (sig : Signature) (w : List ℕ) (n : ℕ) (e : ConstantEntry) → 32 ≤ n → find (λ e. bytes_eq w e.name.items) sig.constants.items ≡ Some e → constant_scheme sig w n ≡ Some (entry_scheme sig.bank e)
@@ -109,30 +109,24 @@ declared_scheme sig w n e h f =
 
 -- names, by cases
 
-if_true : {A : Type 0} (b : Bool) (x y : A) → b ≡ true → (if b then x else y) ≡ x
-if_true b x y e = ap (λ t. if t then x else y) e
-
-if_false : {A : Type 0} (b : Bool) (x y : A) → b ≡ false → (if b then x else y) ≡ y
-if_false b x y e = ap (λ t. if t then x else y) e
-
 module _ (sig : Signature) (text : List ℕ) (count : ℕ) (names : List (List ℕ)) (s : Spot) (before : List Spot) where
   pub free_variable : (o : Option ℕ) → begins_variable (spelled text s) ≡ true → o ≡ first_place (spelled text s) (map (spelled text) before) → read_free sig text count names s before ≡ read_variable count names s o before
   free_variable o e f =
-      if_true (begins_variable (spelled text s)) (read_variable count names s (first_place (spelled text s) (map (spelled text) before)) before)
+      cond-true (begins_variable (spelled text s)) (read_variable count names s (first_place (spelled text s) (map (spelled text) before)) before)
       (read_number sig (spelled text s) (found (spelled text s) (standard_constants ++ map number_row sig.constants.items)) before) e ∙
       ap (λ k. read_variable count names s k before) (sym f)
 
   pub free_constant : (o : Option ℕ) → begins_variable (spelled text s) ≡ false → o ≡ found (spelled text s) (standard_constants ++ map number_row sig.constants.items) → read_free sig text count names s before ≡ read_number sig (spelled text s) o before
   free_constant o e f =
-      if_false (begins_variable (spelled text s)) (read_variable count names s (first_place (spelled text s) (map (spelled text) before)) before)
+      cond-false (begins_variable (spelled text s)) (read_variable count names s (first_place (spelled text s) (map (spelled text) before)) before)
       (read_number sig (spelled text s) (found (spelled text s) (standard_constants ++ map number_row sig.constants.items)) before) e ∙
       ap (λ k. read_number sig (spelled text s) k before) (sym f)
 
   pub name_blank : is_blank (spelled text s) ≡ true → read_name sig text count names s before ≡ read_variable count names s None before
   name_blank e =
-      if_true (is_blank (spelled text s)) (read_variable count names s None before) (read_bound sig text count names s (first_place (spelled text s) names) before) e
+      cond-true (is_blank (spelled text s)) (read_variable count names s None before) (read_bound sig text count names s (first_place (spelled text s) names) before) e
 
   pub name_bound : (o : Option ℕ) → is_blank (spelled text s) ≡ false → o ≡ first_place (spelled text s) names → read_name sig text count names s before ≡ read_bound sig text count names s o before
   name_bound o e f =
-      if_false (is_blank (spelled text s)) (read_variable count names s None before) (read_bound sig text count names s (first_place (spelled text s) names) before) e ∙
+      cond-false (is_blank (spelled text s)) (read_variable count names s None before) (read_bound sig text count names s (first_place (spelled text s) names) before) e ∙
       ap (λ k. read_bound sig text count names s k before) (sym f)

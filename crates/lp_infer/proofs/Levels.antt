@@ -1,8 +1,9 @@
 -- The levels of names when an abstraction is opened and closed.
-use Rattle.std.proofs.Common.{◌≡◌, ℕ, suc, ◌-◌, ◌<◌, List, [], ◌∷◌, length, refl, sym, ap, ◌∙◌, arith, Option, Some, None, Bool, true, false, option_map}
+use Rattle.std.proofs.Common.{◌≡◌, ℕ, suc, ◌-◌, ◌<◌, List, ◌∷◌, length, refl, sym, ap, ◌∙◌, arith, Option, Some, None, Bool, true, false, option_map}
 use Rattle.std.specs.Prelude.{if◌then◌else◌}
 use Rattle.std.specs.Str.{bytes_eq}
-use Rattle.std.proofs.lemmas.Slice.Eq.{bytes_eq-Decides}
+use Rattle.lp_sig.proofs.Heads.{place_below}
+use Rattle.lp_lemmas.proofs.Booleans.{bytes_eq_true}
 use Rattle.lp_sig.specs.Places.{first_place}
 use Rattle.lp_infer.specs.Levels.{level_of, level_in, HasScope}
 use Rattle.lp_infer.specs.declared.scope.Scope.{Scope}
@@ -15,17 +16,6 @@ suc_below : (n : ℕ) (o : Option ℕ) → ((i : ℕ) → o ≡ Some i → i < n
 suc_below n None h i e = cc
 suc_below n (Some j) h i e = let f : suc j ≡ i = cc in let g = h j refl in omega (arith, f, g)
 
-pub first_below : (name : List ℕ) (ns : List (List ℕ)) (i : ℕ) → first_place name ns ≡ Some i → i < length ns
-first_below name [] i e = cc
-first_below name (n ∷ ns) i e = go (bytes_eq name n) refl (first_below name ns) where
-  go : (b : Bool) → bytes_eq name n ≡ b → ((j : ℕ) → first_place name ns ≡ Some j → j < length ns) → i < suc (length ns)
-  go true f h =
-      let g : Some 0 ≡ Some i = sym (ap (λ t. if t then Some 0 else option_map (λ i. suc i) (first_place name ns)) f) ∙ e in
-      let k : 0 ≡ i = cc in
-      omega (arith, k)
-  go false f h =
-      suc_below (length ns) (first_place name ns) h i (sym (ap (λ t. if t then Some 0 else option_map (λ i. suc i) (first_place name ns)) f) ∙ e)
-
 out_of : (depth n level : ℕ) (o : Option ℕ) → depth ≡ n → ((i : ℕ) → o ≡ Some i → i < n) → Some level ≡ option_map (λ i. n - suc i) o → Some (depth - level - 1) ≡ o
 out_of depth n level None d h e = cc
 out_of depth n level (Some i) d h e =
@@ -36,7 +26,7 @@ out_of depth n level (Some i) d h e =
 
 -- the level leads back to the number of abstractions between
 pub level_out : (name : List ℕ) (scope : List (List ℕ)) (s : Scope) (level : ℕ) → HasScope scope s → Some level ≡ level_in s name → Some (s.depth - level - 1) ≡ first_place name scope
-level_out name scope s level H e = out_of s.depth (length scope) level (first_place name scope) H.depth (first_below name scope) (e ∙ H.levels name)
+level_out name scope s level H e = out_of s.depth (length scope) level (first_place name scope) H.depth (place_below name scope) (e ∙ H.levels name)
 
 -- an abstraction more
 
@@ -57,14 +47,11 @@ entered name scope old new d l H = record {
       l other ∙ ap (λ n. if bytes_eq other name then Some n else level_in old other) H.depth ∙ ap (λ o. if bytes_eq other name then Some (length scope) else o) (H.levels other) ∙ sym (level_more name other scope);
 }
 
-same_name : (name other : List ℕ) → bytes_eq other name ≡ true → other ≡ name
-same_name name other e = (bytes_eq-Decides other name).0 e
-
 pub left : (name : List ℕ) (scope : List (List ℕ)) (outside : Option ℕ) (old new : Scope) → new.depth ≡ old.depth - 1 → ((other : List ℕ) → level_in new other ≡ (if bytes_eq other name then outside else level_in old other)) → HasScope (name ∷ scope) old → outside ≡ level_of name scope → HasScope scope new
 left name scope outside old new d l H o = record {
   depth = d ∙ (let e : old.depth - 1 ≡ length scope = omega (arith, H.depth) in e);
   levels = λ other. l other ∙ go other (bytes_eq other name) refl;
 } where
   go : (other : List ℕ) (b : Bool) → bytes_eq other name ≡ b → (if b then outside else level_in old other) ≡ level_of other scope
-  go other true e = o ∙ ap (λ n. level_of n scope) (sym (same_name name other e))
+  go other true e = o ∙ ap (λ n. level_of n scope) (sym (bytes_eq_true other name e))
   go other false e = H.levels other ∙ level_more name other scope ∙ ap (λ b. if b then Some (length scope) else level_of other scope) e

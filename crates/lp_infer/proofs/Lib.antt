@@ -1,4 +1,3 @@
-pub mod Keeps
 pub mod Finding
 pub mod Undeclared
 pub mod Scanning
@@ -15,10 +14,9 @@ pub mod Marked
 pub mod Scoped
 pub mod Whole
 pub mod Copying
-pub mod StandardTypes
+pub mod Standards
 pub mod Noting
 pub mod Results
-pub mod Taking
 pub mod Leaves
 pub mod Acting
 pub mod Meetings

@@ -3,34 +3,12 @@ use Rattle.std.proofs.Common.{◌≡◌, ℕ, suc, ◌<◌, List, [], ◌∷◌,
 use Rattle.std.specs.Prelude.{nat_eq, if◌then◌else◌, ◌||◌, ◌⊎◌}
 use Rattle.std.specs.List.{list_any}
 use Rattle.std.proofs.lemmas.List.{append-nil, append_assoc, map-append, length-append}
-use Rattle.std.proofs.lemmas.Bool.{eqb-true, eq-eqb}
+use Rattle.std.proofs.lemmas.Bool.{eqb-true, eq-eqb, or_parts}
+use Rattle.lp_lemmas.proofs.Lists.{any_append, any_push}
 use Rattle.indexmap.specs.IndexSet.{insert_key}
 use Rattle.lp_calculus.specs.Types.{Ty, Tys, var, param, con, arrow, no_types, types, instance, instances}
 use Rattle.lp_infer.specs.Numbering.{type_variables, types_variables, all_variables, AreNumbered}
 use Rattle.lp_infer.specs.Meeting.{place, met, AllMet, renaming, unnaming}
-
-or_left : (a b : Bool) → a ≡ true → (a || b) ≡ true
-or_left true b e = refl
-or_left false b e = absurd (true≢false (sym e))
-
-or_right : (a b : Bool) → b ≡ true → (a || b) ≡ true
-or_right true b e = refl
-or_right false b e = e
-
-neither : (a b : Bool) → (a || b) ≡ false → (a ≡ false) × (b ≡ false)
-neither true b e = absurd (true≢false e)
-neither false b e = (refl, e)
-
-pub any_more : (N more : List ℕ) (x : ℕ) → list_any (nat_eq x) N ≡ true → list_any (nat_eq x) (N ++ more) ≡ true
-any_more [] more x e = absurd (true≢false (sym e))
-any_more (y ∷ N) more x e = go (nat_eq x y) e (any_more N more x) where
-  go : (b : Bool) → (b || list_any (nat_eq x) N) ≡ true → (list_any (nat_eq x) N ≡ true → list_any (nat_eq x) (N ++ more) ≡ true) → (b || list_any (nat_eq x) (N ++ more)) ≡ true
-  go true e h = refl
-  go false e h = h e
-
-pub any_last : (N : List ℕ) (x : ℕ) → list_any (nat_eq x) (N ++ x ∷ []) ≡ true
-any_last [] x = or_left (nat_eq x x) false (eq-eqb x x refl)
-any_last (y ∷ N) x = or_right (nat_eq x y) (list_any (nat_eq x) (N ++ x ∷ [])) (any_last N x)
 
 pub place_more : (N more : List ℕ) (x : ℕ) → list_any (nat_eq x) N ≡ true → place (N ++ more) x ≡ place N x
 place_more [] more x e = absurd (true≢false (sym e))
@@ -57,18 +35,18 @@ place_at (y ∷ N) x e = go (nat_eq x y) refl e (place_at N x) where
 pub place_new : (N more : List ℕ) (x : ℕ) → list_any (nat_eq x) N ≡ false → place ((N ++ x ∷ []) ++ more) x ≡ length N
 place_new [] more x e = ap (λ b. if b then 0 else suc (place more x)) (eq-eqb x x refl)
 place_new (y ∷ N) more x e =
-    let h = neither (nat_eq x y) (list_any (nat_eq x) N) e in
+    let h = or_parts (nat_eq x y) (list_any (nat_eq x) N) e in
     ap (λ b. if b then 0 else suc (place ((N ++ x ∷ []) ++ more) x)) h.0 ∙ ap (λ n. suc n) (place_new N more x h.1)
 
 pub place_absent : (N : List ℕ) (x : ℕ) → list_any (nat_eq x) N ≡ false → place N x ≡ length N
 place_absent [] x e = refl
 place_absent (y ∷ N) x e =
-    let h = neither (nat_eq x y) (list_any (nat_eq x) N) e in
+    let h = or_parts (nat_eq x y) (list_any (nat_eq x) N) e in
     ap (λ b. if b then 0 else suc (place N x)) h.0 ∙ ap (λ n. suc n) (place_absent N x h.1)
 
 -- lists
 
-keeps : (N : List ℕ) (x : ℕ) → (more : List ℕ) × (insert_key nat_eq N x ≡ N ++ more)
+pub keeps : (N : List ℕ) (x : ℕ) → (more : List ℕ) × (insert_key nat_eq N x ≡ N ++ more)
 keeps N x = go (list_any (nat_eq x) N) where
   go : (b : Bool) → (more : List ℕ) × ((if b then N else N ++ x ∷ []) ≡ N ++ more)
   go true = ([], sym (append-nil N))
@@ -78,7 +56,7 @@ pub inserted : (N : List ℕ) (x : ℕ) → list_any (nat_eq x) (insert_key nat_
 inserted N x = go (list_any (nat_eq x) N) refl where
   go : (b : Bool) → list_any (nat_eq x) N ≡ b → list_any (nat_eq x) (if b then N else N ++ x ∷ []) ≡ true
   go true e = e
-  go false e = any_last N x
+  go false e = any_push N x
 
 pub met_grows : (xs N : List ℕ) → (more : List ℕ) × (met N xs ≡ N ++ more)
 met_grows [] N = ([], sym (append-nil N))
@@ -93,7 +71,7 @@ met_append (x ∷ xs) ys N = met_append xs ys (insert_key nat_eq N x)
 
 pub all_more : (N more xs : List ℕ) → AllMet N xs → AllMet (N ++ more) xs
 all_more N more [] h = tt
-all_more N more (x ∷ xs) h = (any_more N more x h.0, all_more N more xs h.1)
+all_more N more (x ∷ xs) h = (any_append N more x h.0, all_more N more xs h.1)
 
 pub all_appended : (N xs ys : List ℕ) → AllMet N xs → AllMet N ys → AllMet N (xs ++ ys)
 all_appended N [] ys h k = k
@@ -111,7 +89,7 @@ pub all_met : (xs N : List ℕ) → AllMet (met N xs) xs
 all_met [] N = tt
 all_met (x ∷ xs) N =
     let h = met_grows xs (insert_key nat_eq N x) in
-    (subst (λ M. list_any (nat_eq x) M ≡ true) (sym h.1) (any_more (insert_key nat_eq N x) h.0 x (inserted N x)), all_met xs (insert_key nat_eq N x))
+    (subst (λ M. list_any (nat_eq x) M ≡ true) (sym h.1) (any_append (insert_key nat_eq N x) h.0 x (inserted N x)), all_met xs (insert_key nat_eq N x))
 
 pub met_again : (xs N : List ℕ) → AllMet N xs → met N xs ≡ N
 met_again [] N h = refl

@@ -1,10 +1,10 @@
 -- Types that are read off with their type variables numbered: what was made stays right while more is met.
-use Rattle.std.proofs.Common.{◌≡◌, ℕ, suc, ◌+◌, ◌<◌, List, [], ◌∷◌, ◌++◌, map, reverse, length, refl, sym, ap, subst, ◌∙◌, Option, Some, None, Bool, true, false, arith, take, get_or, true≢false}
-use Rattle.std.specs.Prelude.{All, nat_eq, if◌then◌else◌}
+use Rattle.std.proofs.Common.{◌≡◌, ℕ, suc, ◌+◌, ◌<◌, List, [], ◌∷◌, ◌++◌, map, reverse, length, refl, sym, ap, subst, ◌∙◌, Option, Some, None, Bool, true, false, arith, take, get_or}
+use Rattle.std.specs.Prelude.{nat_eq, if◌then◌else◌}
 use Rattle.std.specs.List.{list_any, position_or_len}
 use Rattle.std.specs.Map.{lookup}
 use Rattle.std.proofs.lemmas.Bool.{eqb-true}
-use Rattle.std.proofs.lemmas.List.{append-nil, append_assoc, map-append, reverse-append, reverse-reverse}
+use Rattle.std.proofs.lemmas.List.{append-nil, append_assoc, map-append, reverse-append, reverse-reverse, map_more}
 use Rattle.std.proofs.lemmas.List.Elements.{All-append, All-cons, All-nil}
 use Rattle.indexmap.specs.IndexMap.{IndexMap, get}
 use Rattle.indexmap.specs.IndexSet.{insert_key}
@@ -14,19 +14,21 @@ use Rattle.lp_term.specs.Nodes.{Nodes, type_tree, Extends}
 use Rattle.lp_term.specs.declared.node.TypeId.{TypeId}
 use Rattle.lp_infer.specs.Numbering.{type_variables, types_variables, all_variables}
 use Rattle.lp_infer.specs.Meeting.{place, met, AllMet, renaming}
-use Rattle.lp_infer.specs.Copies.{trees_of, AreTypes, IsType}
+use Rattle.lp_term.specs.Within.{IsTypeOf, AreTypesOf}
+use Rattle.lp_infer.specs.Copies.{trees_of, IsType}
 use Rattle.lp_infer.specs.ReadingOff.{bound_type, IsReadAs, IsReadMemo, AreRead, pending, ReadsOne, ReadsAll, IsTaken}
 use Rattle.lp_infer.specs.declared.reading.Reading.{Reading}
 use Rattle.lp_infer.specs.declared.reading.Task.{Task}
 use Rattle.lp_infer.specs.declared.reading.Task.TheVariants as task
-use Rattle.lp_infer.proofs.Copying.{trees_stay, types_stay, tys_instance, map_twice}
+use Rattle.lp_term.proofs.Within.{type_trees_later, types_later}
+use Rattle.lp_infer.proofs.Copying.{tys_instance}
 use Rattle.lp_infer.proofs.Acting.{trees_append}
-use Rattle.lp_infer.proofs.Scanning.{reverse_push}
-use Rattle.lp_infer.proofs.Taking.{take_more}
 use Rattle.lp_type_unify.specs.Reading.{AreKept, Slot, reads}
 use Rattle.lp_type_unify.specs.Looking.{IsUnbound}
-use Rattle.std.specs.Option.{is_some}
-use Rattle.lp_infer.proofs.Meetings.{place_absent, place_new, inserted, met_grows, met_append, all_more, all_appended, met_again, type_kept, list_kept}
+use Rattle.std.proofs.lemmas.Option.{same_Some}
+use Rattle.lp_term.proofs.Walks.{map_map}
+use Rattle.lp_lemmas.proofs.Lists.{reverse_pushed}
+use Rattle.lp_infer.proofs.Meetings.{place_absent, place_new, inserted, met_grows, met_append, all_more, all_appended, met_again, type_kept, list_kept, keeps}
 
 -- the number of a type variable
 
@@ -46,12 +48,6 @@ place_inserted N x = sym (place_is N x) ∙ go (list_any (nat_eq x) N) refl wher
   go true e = refl
   go false e = place_absent N x e ∙ sym (place_new N [] x e) ∙ ap (λ l. place l x) (append-nil (N ++ x ∷ []))
 
-pub key_more : (N : List ℕ) (x : ℕ) → (more : List ℕ) × (insert_key nat_eq N x ≡ N ++ more)
-key_more N x = go (list_any (nat_eq x) N) where
-  go : (b : Bool) → (more : List ℕ) × ((if b then N else N ++ x ∷ []) ≡ N ++ more)
-  go true = ([], sym (append-nil N))
-  go false = (x ∷ [], refl)
-
 -- what was read off stays
 
 pub read_stays : (b c : Nodes) (N M more : List ℕ) (A : Ty) (j : ℕ) → Extends b c → M ≡ N ++ more → IsReadAs b N A j → IsReadAs c M A j
@@ -60,9 +56,6 @@ read_stays b c N M more A j E e R = record {
   is = E.same_types j R.known ∙ R.is ∙ sym (ap (λ l. instance (renaming l) A) e ∙ type_kept N more A R.all);
   all = subst (λ l. AllMet l (type_variables A)) (sym e) (all_more N more (type_variables A) R.all);
 }
-
-some_is : (x y : ℕ) → Some x ≡ Some y → x ≡ y
-some_is x y e = cc
 
 pub nothing_kept : {S : Type 0} (m : IndexMap ℕ ℕ S) (i j : ℕ) → m.entries ≡ [] → get nat_eq m i ≡ Some j → ⊥
 nothing_kept m i j e f = let g : Some j ≡ None = sym f ∙ ap (λ es. lookup (nat_eq i) es) e in absurd (cc)
@@ -77,7 +70,7 @@ module _ (A : ℕ → Ty) where
     go : (i k : ℕ) (t : Bool) → nat_eq top i ≡ t → (if nat_eq top i then Some j else get nat_eq old.made i) ≡ Some k → IsReadAs c new.numbers.keys (A i) k
     go i k true f e =
         let g : top ≡ i = eqb-true top i f in
-        let d : j ≡ k = some_is j k (sym (ap (λ t. if t then Some j else get nat_eq old.made i) f) ∙ e) in
+        let d : j ≡ k = same_Some j k (sym (ap (λ t. if t then Some j else get nat_eq old.made i) f) ∙ e) in
         subst (λ n. IsReadAs c new.numbers.keys (A i) n) d (subst (λ n. IsReadAs c new.numbers.keys (A n) j) g R)
     go i k false f e = read_stays b c old.numbers.keys new.numbers.keys more (A i) k E keys (M i k (sym (ap (λ t. if t then Some j else get nat_eq old.made i) f) ∙ e))
 
@@ -86,10 +79,6 @@ variable_read b N A v j e h m = record { known = h.0; is = h.1 ∙ ap (instance 
 
 pub parameter_read : (b : Nodes) (N : List ℕ) (A : Ty) (k j : ℕ) → A ≡ param k → (j < length b.types) × (type_tree b j ≡ param k) → IsReadAs b N A j
 parameter_read b N A k j e h = record { known = h.0; is = h.1 ∙ ap (instance (renaming N)) (sym e); all = subst (λ T. AllMet N (type_variables T)) (sym e) tt }
-
-pub some_of : (o : Option ℕ) → is_some o ≡ true → (j : ℕ) × (o ≡ Some j)
-some_of None e = absurd (true≢false (sym e))
-some_of (Some j) e = (j, refl)
 
 -- a variable that is not bound reads as itself
 pub unbound_reads : {S : Type 0} (b : Nodes) (made : IndexMap ℕ TypeId S) (top v : ℕ) → AreKept b made → IsUnbound (get nat_eq made) (type_tree b top) → var v ≡ type_tree b top → bound_type b made top ≡ var v
@@ -103,7 +92,7 @@ module _ (A : ℕ → Ty) where
   pub variable_kept : (b c : Nodes) (old now new : Reading) (v top j number : ℕ) → Extends b c → now.made ≡ old.made → now.numbers.keys ≡ insert_key nat_eq old.numbers.keys v → number ≡ place now.numbers.keys v → new.numbers ≡ now.numbers →
       ((i : ℕ) → get nat_eq new.made i ≡ (if nat_eq top i then Some j else get nat_eq now.made i)) → (j < length c.types) × (type_tree c j ≡ var number) → A top ≡ var v → IsReadMemo A b old → IsReadMemo A c new
   variable_kept b c old now new v top j number E made keys number_is kept put h is M =
-      let more = key_more old.numbers.keys v in
+      let more = keeps old.numbers.keys v in
       let all : new.numbers.keys ≡ insert_key nat_eq old.numbers.keys v = ap (λ n. n.keys) kept ∙ keys in
       memo_more A b c old new more.0 top j E (all ∙ more.1) (λ i. put i ∙ ap (λ m. if nat_eq top i then Some j else get nat_eq m i) made)
       (variable_read c new.numbers.keys (A top) v j is (h.0, h.1 ∙ ap var (number_is ∙ ap (λ l. place l v) (sym (ap (λ n. n.keys) kept)))) (subst (λ l. list_any (nat_eq v) l ≡ true) (sym all) (inserted old.numbers.keys v))) M
@@ -121,27 +110,27 @@ module _ (A : ℕ → Ty) where
 -- lists
 
 pub list_pushed : (A : ℕ → Ty) (ids : List TypeId) (i : ℕ) (d : TypeId) → i < length ids → map A (map (λ t. t.0) (take (i + 1) ids)) ≡ map A (map (λ t. t.0) (take i ids)) ++ A (get_or ids i d).0 ∷ []
-list_pushed A ids i d h = ap (map A) (take_more (λ t. t.0) ids i d h) ∙ map-append A (map (λ t. t.0) (take i ids)) ((get_or ids i d).0 ∷ [])
+list_pushed A ids i d h = ap (map A) (map_more (λ t. t.0) ids i d h) ∙ map-append A (map (λ t. t.0) (take i ids)) ((get_or ids i d).0 ∷ [])
 
 all_pushed : (As : List Ty) (A : Ty) → all_variables (As ++ A ∷ []) ≡ all_variables As ++ type_variables A
 all_pushed [] A = append-nil (type_variables A)
 all_pushed (B ∷ As) A = ap (λ l. type_variables B ++ l) (all_pushed As A) ∙ sym (append_assoc (type_variables B) (all_variables As) (type_variables A))
 
 pub none_read : (b : Nodes) (N : List ℕ) (ids : List TypeId) → ids ≡ [] → AreRead b N [] ids
-none_read b N ids e = record { known = subst (AreTypes b) (sym e) (All-nil (λ i. i < length b.types)); are = ap (trees_of b) e; all = tt }
+none_read b N ids e = record { known = subst (AreTypesOf b) (sym e) (All-nil (IsTypeOf b)); are = ap (trees_of b) e; all = tt }
 
 pub more_read : (b : Nodes) (N : List ℕ) (As Bs : List Ty) (ids more : List TypeId) (A : Ty) (j : TypeId) → Bs ≡ As ++ A ∷ [] → more ≡ ids ++ j ∷ [] → AreRead b N As ids → IsReadAs b N A j.0 → AreRead b N Bs more
 more_read b N As Bs ids more A j f e R S = record {
-  known = subst (AreTypes b) (sym e)
-      (subst (All (λ i. i < length b.types)) (sym (map-append (λ t. t.0) ids (j ∷ []))) (All-append (λ i. i < length b.types) (map (λ t. t.0) ids) (j.0 ∷ []) R.known (All-cons (λ i. i < length b.types) j.0 [] S.known (All-nil (λ i. i < length b.types)))));
+  known = subst (AreTypesOf b) (sym e)
+      (All-append (IsTypeOf b) ids (j ∷ []) R.known (All-cons (IsTypeOf b) j [] S.known (All-nil (IsTypeOf b))));
   are = ap (trees_of b) e ∙ trees_append b ids (j ∷ []) ∙ ap (λ l. l ++ type_tree b j.0 ∷ []) R.are ∙ ap (λ T. map (instance (renaming N)) As ++ T ∷ []) S.is ∙ sym (map-append (instance (renaming N)) As (A ∷ [])) ∙ ap (map (instance (renaming N))) (sym f);
   all = subst (AllMet N) (sym (ap all_variables f ∙ all_pushed As A)) (all_appended N (all_variables As) (type_variables A) R.all S.all);
 }
 
 pub list_stays : (b c : Nodes) (N M more : List ℕ) (As : List Ty) (ids : List TypeId) → Extends b c → M ≡ N ++ more → AreRead b N As ids → AreRead c M As ids
 list_stays b c N M more As ids E e R = record {
-  known = types_stay b c E ids R.known;
-  are = trees_stay b c E ids R.known ∙ R.are ∙ sym (ap (λ l. map (instance (renaming l)) As) e ∙ list_kept N more As R.all);
+  known = types_later b c ids E R.known;
+  are = type_trees_later b c ids E R.known ∙ R.are ∙ sym (ap (λ l. map (instance (renaming l)) As) e ∙ list_kept N more As R.all);
   all = subst (λ l. AllMet l (all_variables As)) (sym e) (all_more N more (all_variables As) R.all);
 }
 
@@ -156,7 +145,7 @@ module _ (θ τ : ℕ → Ty) where
   A_ i = instance θ (τ i)
 
   pub con_is : (k : ℕ) (ids : List ℕ) → instance θ (con k (tys (map τ ids))) ≡ con k (tys (map (λ i. instance θ (τ i)) ids))
-  con_is k ids = ap (con k) (sym (tys_instance θ (map τ ids))) ∙ ap (λ l. con k (tys l)) (map_twice (instance θ) τ ids)
+  con_is k ids = ap (con k) (sym (tys_instance θ (map τ ids))) ∙ ap (λ l. con k (tys l)) (map_map (instance θ) τ ids)
 
   pub con_variables : (k : ℕ) (ids : List ℕ) (T : Ty) → con k (tys (map τ ids)) ≡ T → type_variables (instance θ T) ≡ all_variables (map (λ i. instance θ (τ i)) ids)
   con_variables k ids T e = ap (λ U. type_variables (instance θ U)) (sym e) ∙ ap type_variables (con_is k ids) ∙ variables_of (map (λ i. instance θ (τ i)) ids)
@@ -183,10 +172,10 @@ module _ (θ τ : ℕ → Ty) where
 
 pub parts_pushed : (work now new : List Task) (b : Task) (ids : List TypeId) → now ≡ work ++ b ∷ [] → new ≡ now ++ map task.Visit (reverse ids) → reverse new ≡ map task.Visit ids ++ b ∷ reverse work
 parts_pushed work now new b ids e f =
-    ap reverse f ∙ reverse-append now (map task.Visit (reverse ids)) ∙ ap (λ l. l ++ reverse now) (sym (map-reverse task.Visit (reverse ids)) ∙ ap (map task.Visit) (reverse-reverse ids)) ∙ ap (λ l. map task.Visit ids ++ l) (reverse_push now work b e)
+    ap reverse f ∙ reverse-append now (map task.Visit (reverse ids)) ∙ ap (λ l. l ++ reverse now) (sym (map-reverse task.Visit (reverse ids)) ∙ ap (map task.Visit) (reverse-reverse ids)) ∙ ap (λ l. map task.Visit ids ++ l) (reverse_pushed now work b e)
 
 pub arrow_pushed : (work one two three : List Task) (a b c : Task) → one ≡ work ++ a ∷ [] → two ≡ one ++ b ∷ [] → three ≡ two ++ c ∷ [] → reverse three ≡ c ∷ b ∷ a ∷ reverse work
-arrow_pushed work one two three a b c e f g = reverse_push three two c g ∙ ap (λ l. c ∷ l) (reverse_push two one b f ∙ ap (λ l. b ∷ l) (reverse_push one work a e))
+arrow_pushed work one two three a b c e f g = reverse_pushed three two c g ∙ ap (λ l. c ∷ l) (reverse_pushed two one b f ∙ ap (λ l. b ∷ l) (reverse_pushed one work a e))
 
 pub visits_pending : (A : ℕ → Ty) (ids : List TypeId) (ts : List Task) → pending A (map task.Visit ids ++ ts) ≡ all_variables (map A (map (λ t. t.0) ids)) ++ pending A ts
 visits_pending A [] ts = refl

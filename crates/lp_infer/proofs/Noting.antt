@@ -6,7 +6,6 @@ use Rattle.std.specs.Global.{Global}
 use Rattle.std.specs.Str.{bytes_eq}
 use Rattle.std.proofs.lemmas.List.{map-append, length-map}
 use Rattle.std.proofs.lemmas.List.Elements.{All-cons, All-nil}
-use Rattle.std.proofs.lemmas.Slice.Eq.{bytes_eq-Decides}
 use Rattle.lp_base.specs.declared.place.Spot.{Spot}
 use Rattle.lp_calculus.specs.Types.{Ty, arrow, con, tys, instance}
 use Rattle.lp_calculus.specs.Typing.{type_at}
@@ -28,14 +27,19 @@ use Rattle.lp_infer.specs.declared.lookup.Step.TheVariants as step
 use Rattle.lp_infer.specs.Visits.{Agrees, noted_types, NotesGrow, IsNoteRead, IsBegun, IsOpened}
 use Rattle.lp_infer.specs.Noted.{known_at, NodeNoted, AreNoted, KindNoted, NoteRead}
 use Rattle.lp_syntax.specs.declared.text.RawType.{RawType}
-use Rattle.lp_infer.specs.Copies.{AreTypes, IsType, trees_of}
-use Rattle.lp_infer.proofs.Copying.{trees_stay, tys_instance, map_twice}
+use Rattle.lp_term.specs.Within.{IsTypeOf, AreTypesOf}
+use Rattle.lp_infer.specs.Copies.{IsType, trees_of}
+use Rattle.lp_term.proofs.Within.{type_trees_later}
+use Rattle.lp_infer.proofs.Copying.{tys_instance}
 use Rattle.lp_infer.proofs.Principal.{scheme_instance}
 use Rattle.lp_sig.specs.Rows.{found, kind_row, abbreviation_row}
 use Rattle.lp_sig.specs.Standard.{standard_kinds}
 use Rattle.std.proofs.lemmas.Bool.{eq-eqb, eqb-true}
+use Rattle.std.proofs.lemmas.Option.{slice_get_within}
+use Rattle.lp_term.proofs.Walks.{map_map}
+use Rattle.lp_lemmas.proofs.Options.{one_value}
+use Rattle.lp_lemmas.proofs.Booleans.{bytes_eq_self}
 use Rattle.lp_infer.specs.declared.lookup.Lookup.{Lookup}
-use Rattle.lp_infer.proofs.Meanings.{some_same}
 
 -- names behind others
 
@@ -51,15 +55,12 @@ first_stays w v (n ∷ ns) k e = go (bytes_eq w n) (first_stays w v ns) e where
   go true h f = f
   go false h f = more_suc (first_place w ns) (first_place w (ns ++ v ∷ [])) k h f
 
-same_bytes : (w : List ℕ) → bytes_eq w w ≡ true
-same_bytes w = (bytes_eq-Decides w w).1 refl
-
 not_some : (o : Option ℕ) → option_map (λ i. suc i) o ≡ None → o ≡ None
 not_some None e = refl
 not_some (Some i) e = absurd (cc)
 
 pub first_behind : (w : List ℕ) (ns : List (List ℕ)) → first_place w ns ≡ None → first_place w (ns ++ w ∷ []) ≡ Some (length ns)
-first_behind w [] e = ap (λ b. if b then Some 0 else None) (same_bytes w)
+first_behind w [] e = ap (λ b. if b then Some 0 else None) (bytes_eq_self w)
 first_behind w (n ∷ ns) e = go (bytes_eq w n) (first_behind w ns) e where
   go : (b : Bool) → (first_place w ns ≡ None → first_place w (ns ++ w ∷ []) ≡ Some (length ns)) → (if b then Some 0 else option_map (λ i. suc i) (first_place w ns)) ≡ None →
       (if b then Some 0 else option_map (λ i. suc i) (first_place w (ns ++ w ∷ []))) ≡ Some (suc (length ns))
@@ -104,15 +105,10 @@ some_there [] p t e = absurd (cc)
 some_there (d ∷ done) zero t e = ap (λ o. Some o) e
 some_there (d ∷ done) (suc p) t e = some_there done p t e
 
-there_below : {A : Type 0} (xs : List A) (p : ℕ) (x : A) → slice_get xs p ≡ Some x → p < length xs
-there_below [] p x e = absurd (cc)
-there_below (y ∷ xs) zero x e = omega arith
-there_below (y ∷ xs) (suc p) x e = let h = there_below xs p x e in omega (arith, h)
-
 module _ (sig : Signature) (text : List ℕ) (nodes : List RawTypeNode) where
   pub means_below : (κ : Notes) (n : ℕ) (A : Ty) → Means sig text κ nodes n A → n < length nodes
-  means_below κ n A (word m s ps Ts B at below parts is) = there_below nodes n (Word s ps) at
-  means_below κ n A (function m a b C D at la lb ma mb) = there_below nodes n (Arrow a b) at
+  means_below κ n A (word m s ps Ts B at below parts is) = slice_get_within nodes n (Word s ps) at
+  means_below κ n A (function m a b C D at la lb ma mb) = slice_get_within nodes n (Arrow a b) at
 
   module _ (l : Lookup) (done : List (Option TypeId)) (N : AreNoted sig text nodes l done) where
     pub means_nothing : (κ : Notes) (p : ℕ) (A : Ty) → known_at done p ≡ None → p < length done → Means sig text κ nodes p A → ⊥
@@ -125,13 +121,13 @@ module _ (sig : Signature) (text : List ℕ) (nodes : List RawTypeNode) where
 
     pub arrow_nothing : (a b : ℕ) → (known_at done a ≡ None) ⊎ (known_at done b ≡ None) → slice_get nodes (length done) ≡ Some (Arrow a b) → (κ : Notes) (A : Ty) → Means sig text κ nodes (length done) A → ⊥
     arrow_nothing a b none at κ A (word m s ps Ts B at' below parts is) =
-        let e : Arrow a b ≡ Word s ps = some_same (slice_get nodes (length done)) (Arrow a b) (Word s ps) at at' in absurd (cc)
+        let e : Arrow a b ≡ Word s ps = one_value (slice_get nodes (length done)) (Arrow a b) (Word s ps) at at' in absurd (cc)
     arrow_nothing a b (inl none) at κ A (function m c d C D at' lc ld mc md) =
-        let e : Arrow a b ≡ Arrow c d = some_same (slice_get nodes (length done)) (Arrow a b) (Arrow c d) at at' in
+        let e : Arrow a b ≡ Arrow c d = one_value (slice_get nodes (length done)) (Arrow a b) (Arrow c d) at at' in
         let f : a ≡ c = cc in
         means_nothing κ c C (ap (known_at done) (sym f) ∙ none) lc mc
     arrow_nothing a b (inr none) at κ A (function m c d C D at' lc ld mc md) =
-        let e : Arrow a b ≡ Arrow c d = some_same (slice_get nodes (length done)) (Arrow a b) (Arrow c d) at at' in
+        let e : Arrow a b ≡ Arrow c d = one_value (slice_get nodes (length done)) (Arrow a b) (Arrow c d) at at' in
         let f : b ≡ d = cc in
         means_nothing κ d D (ap (known_at done) (sym f) ∙ none) ld md
 
@@ -139,7 +135,7 @@ module _ (sig : Signature) (text : List ℕ) (nodes : List RawTypeNode) where
         (A : Ty) → A ≡ arrow (type_tree l.types t.0) (type_tree l.types u.0) → Means sig text κ nodes (length done) (instance ρ A)
     arrow_means a b t u e f at κ ρ G A is =
         subst (λ T. Means sig text κ nodes (length done) (instance ρ T)) (sym is)
-        (function (length done) a b (noted_types l.types ρ t.0) (noted_types l.types ρ u.0) at (there_below done a (Some t) (some_there done a t e)) (there_below done b (Some u) (some_there done b u f)) ((means_known a t e).1 κ ρ G) ((means_known b u f).1 κ ρ G))
+        (function (length done) a b (noted_types l.types ρ t.0) (noted_types l.types ρ u.0) at (slice_get_within done a (Some t) (some_there done a t e)) (slice_get_within done b (Some u) (some_there done b u f)) ((means_known a t e).1 κ ρ G) ((means_known b u f).1 κ ρ G))
 
     -- the arguments of a word
 
@@ -149,16 +145,16 @@ module _ (sig : Signature) (text : List ℕ) (nodes : List RawTypeNode) where
     parts_below (p ∷ ps) (t ∷ ts) e =
         let f : known_at done p ≡ Some t = cc in
         let g : map (known_at done) ps ≡ map (λ t. Some t) ts = cc in
-        (there_below done p (Some t) (some_there done p t f), parts_below ps ts g)
+        (slice_get_within done p (Some t) (some_there done p t f), parts_below ps ts g)
 
-    pub parts_types : (ps : List ℕ) (ts : List TypeId) → map (known_at done) ps ≡ map (λ t. Some t) ts → AreTypes l.types ts
-    parts_types [] [] e = All-nil (λ i. i < length l.types.types)
+    pub parts_types : (ps : List ℕ) (ts : List TypeId) → map (known_at done) ps ≡ map (λ t. Some t) ts → AreTypesOf l.types ts
+    parts_types [] [] e = All-nil (IsTypeOf l.types)
     parts_types [] (t ∷ ts) e = absurd (cc)
     parts_types (p ∷ ps) [] e = absurd (cc)
     parts_types (p ∷ ps) (t ∷ ts) e =
         let f : known_at done p ≡ Some t = cc in
         let g : map (known_at done) ps ≡ map (λ t. Some t) ts = cc in
-        All-cons (λ i. i < length l.types.types) t.0 (map (λ t. t.0) ts) (means_known p t f).0 (parts_types ps ts g)
+        All-cons (IsTypeOf l.types) t ts (means_known p t f).0 (parts_types ps ts g)
 
     pub parts_mean : (ps : List ℕ) (ts : List TypeId) → map (known_at done) ps ≡ map (λ t. Some t) ts → (κ : Notes) (ρ : ℕ → Ty) → Agrees text l.notes.places.items κ ρ → AllMean sig text κ nodes ps (map (λ t. noted_types l.types ρ t.0) ts)
     parts_mean [] [] e κ ρ G = no_parts
@@ -176,9 +172,9 @@ module _ (sig : Signature) (text : List ℕ) (nodes : List RawTypeNode) where
 
     pub word_nothing : (s : Spot) (ps : Vec ℕ Global) (p : ℕ) → Contains ps.items p → known_at done p ≡ None → slice_get nodes (length done) ≡ Some (Word s ps) → (κ : Notes) (A : Ty) → Means sig text κ nodes (length done) A → ⊥
     word_nothing s ps p c none at κ A (function m a b C D at' lc ld mc md) =
-        let e : Word s ps ≡ Arrow a b = some_same (slice_get nodes (length done)) (Word s ps) (Arrow a b) at at' in absurd (cc)
+        let e : Word s ps ≡ Arrow a b = one_value (slice_get nodes (length done)) (Word s ps) (Arrow a b) at at' in absurd (cc)
     word_nothing s ps p c none at κ A (word m t qs Ts B at' below parts is) =
-        let e : Word s ps ≡ Word t qs = some_same (slice_get nodes (length done)) (Word s ps) (Word t qs) at at' in
+        let e : Word s ps ≡ Word t qs = one_value (slice_get nodes (length done)) (Word s ps) (Word t qs) at at' in
         let f : ps ≡ qs = cc in
         let d : Contains qs.items p = subst (λ v. Contains v.items p) f c in
         part_nothing κ qs.items p d.0 d.1 d.2 none below Ts parts
@@ -191,9 +187,9 @@ module _ (sig : Signature) (text : List ℕ) (nodes : List RawTypeNode) where
 
   pub word_not : (n : ℕ) (s : Spot) (ps : Vec ℕ Global) → slice_get nodes n ≡ Some (Word s ps) → (κ : Notes) → ((Ts : List Ty) → length Ts ≡ length ps.items → word_type sig text κ s Ts ≡ None) → (A : Ty) → Means sig text κ nodes n A → ⊥
   word_not n s ps at κ none A (function m a b C D at' lc ld mc md) =
-      let e : Word s ps ≡ Arrow a b = some_same (slice_get nodes n) (Word s ps) (Arrow a b) at at' in absurd (cc)
+      let e : Word s ps ≡ Arrow a b = one_value (slice_get nodes n) (Word s ps) (Arrow a b) at at' in absurd (cc)
   word_not n s ps at κ none A (word m t qs Ts B at' below parts is) =
-      let e : Word s ps ≡ Word t qs = some_same (slice_get nodes n) (Word s ps) (Word t qs) at at' in
+      let e : Word s ps ≡ Word t qs = one_value (slice_get nodes n) (Word s ps) (Word t qs) at at' in
       let f : s ≡ t = cc in
       let g : ps ≡ qs = cc in
       let h : None ≡ Some A = sym (none Ts (means_count κ qs.items Ts parts ∙ ap (λ v. length v.items) (sym g))) ∙ ap (λ r. word_type sig text κ r Ts) f ∙ is in
@@ -204,21 +200,21 @@ module _ (sig : Signature) (text : List ℕ) (nodes : List RawTypeNode) where
 
 -- a kind and an abbreviation on types
 
-noted_types_of : (b c : Nodes) → Extends b c → (ρ : ℕ → Ty) (parts : List TypeId) → AreTypes b parts → map (λ t. noted_types c ρ t.0) parts ≡ map (instance ρ) (trees_of b parts)
+noted_types_of : (b c : Nodes) → Extends b c → (ρ : ℕ → Ty) (parts : List TypeId) → AreTypesOf b parts → map (λ t. noted_types c ρ t.0) parts ≡ map (instance ρ) (trees_of b parts)
 noted_types_of b c E ρ parts k =
-    sym (map_twice (λ i. instance ρ (type_tree c i)) (λ t. t.0) parts) ∙ sym (map_twice (instance ρ) (type_tree c) (map (λ t. t.0) parts)) ∙ ap (map (instance ρ)) (trees_stay b c E parts k)
+    sym (map_map (instance ρ) (λ t. type_tree c t.0) parts) ∙ ap (map (instance ρ)) (type_trees_later b c parts E k)
 
 as_many : (b : Nodes) (ρ : ℕ → Ty) (parts : List TypeId) (n : ℕ) → length parts ≡ n → length (map (λ t. noted_types b ρ t.0) parts) ≡ n
 as_many b ρ parts n e = length-map parts (λ t. noted_types b ρ t.0) ∙ e
 
-pub kind_is : (sig : Signature) (name : List ℕ) (b c : Nodes) (parts : List TypeId) (o : Option (ℕ × ℕ)) (number arity : ℕ) (id : TypeId) → Extends b c → AreTypes b parts → o ≡ Some (number, arity) → length parts ≡ arity →
+pub kind_is : (sig : Signature) (name : List ℕ) (b c : Nodes) (parts : List TypeId) (o : Option (ℕ × ℕ)) (number arity : ℕ) (id : TypeId) → Extends b c → AreTypesOf b parts → o ≡ Some (number, arity) → length parts ≡ arity →
     IsType c id (con number (tys (trees_of b parts))) → (ρ : ℕ → Ty) → kind_type sig name (map (λ t. noted_types c ρ t.0) parts) o ≡ Some (noted_types c ρ id.0)
 kind_is sig name b c parts o number arity id E k e l h ρ =
     let Ts = map (λ t. noted_types c ρ t.0) parts in
     ap (kind_type sig name Ts) e ∙ ap (λ t. if t then Some (con number (tys Ts)) else None) (eq-eqb (length Ts) arity (as_many c ρ parts arity l)) ∙
     ap (λ us. Some (con number (tys us))) (noted_types_of b c E ρ parts k) ∙ ap (λ us. Some (con number us)) (tys_instance ρ (trees_of b parts)) ∙ ap (λ T. Some (instance ρ T)) (sym h.1)
 
-pub abbreviation_is : (sig : Signature) (name : List ℕ) (b c s : Nodes) (parts : List TypeId) (o p : Option (ℕ × ℕ)) (count body : ℕ) (id : TypeId) → Extends b c → AreTypes b parts → o ≡ None →
+pub abbreviation_is : (sig : Signature) (name : List ℕ) (b c s : Nodes) (parts : List TypeId) (o p : Option (ℕ × ℕ)) (count body : ℕ) (id : TypeId) → Extends b c → AreTypesOf b parts → o ≡ None →
     found name (map abbreviation_row sig.abbreviations.items) ≡ Some (count, body) → length parts ≡ count → s ≡ sig.bank → IsType c id (instance (type_at (trees_of b parts)) (type_tree s body)) →
     (ρ : ℕ → Ty) → kind_type sig name (map (λ t. noted_types c ρ t.0) parts) o ≡ Some (noted_types c ρ id.0)
 abbreviation_is sig name b c s parts o p count body id E k e f l g h ρ =
@@ -228,7 +224,7 @@ abbreviation_is sig name b c s parts o p count body id E k e f l g h ρ =
     ap (λ us. Some (instance (type_at us) B)) (noted_types_of b c E ρ parts k) ∙ ap (λ T. Some T) (sym (scheme_instance (record { count = 0; body = B }) ρ (trees_of b parts))) ∙
     ap (λ n. Some (instance ρ (instance (type_at (trees_of b parts)) (type_tree n body)))) (sym g) ∙ ap (λ T. Some (instance ρ T)) (sym h.1)
 
-pub noted_same : (b c : Nodes) → Extends b c → (ρ : ℕ → Ty) (ts : List TypeId) → AreTypes b ts → map (λ t. noted_types b ρ t.0) ts ≡ map (λ t. noted_types c ρ t.0) ts
+pub noted_same : (b c : Nodes) → Extends b c → (ρ : ℕ → Ty) (ts : List TypeId) → AreTypesOf b ts → map (λ t. noted_types b ρ t.0) ts ≡ map (λ t. noted_types c ρ t.0) ts
 noted_same b c E ρ ts k =
     noted_types_of b b (extends_same b) ρ ts k ∙ sym (noted_types_of b c E ρ ts k)
 

@@ -3,6 +3,7 @@ use Rattle.std.proofs.Common.{◌≡◌, ℕ, ◌<◌, ◌≤◌, List, [], ◌�
 use Rattle.std.specs.Prelude.{All, slice_get}
 use Rattle.std.proofs.lemmas.List.{map-append, append-nil, append_assoc}
 use Rattle.std.proofs.lemmas.List.Elements.{All-append, All-cons, All-nil}
+use Rattle.lp_lemmas.proofs.Lists.{map_agree_on}
 use Rattle.lp_base.specs.declared.place.Spot.{Spot}
 use Rattle.lp_calculus.specs.Types.{Ty}
 use Rattle.lp_term.specs.Nodes.{Extends}
@@ -24,7 +25,7 @@ use Rattle.lp_infer.specs.declared.lookup.Task.{Task}
 use Rattle.lp_infer.specs.declared.lookup.Task.TheVariants as task
 use Rattle.lp_infer.specs.declared.lookup.Lookup.{Lookup}
 use Rattle.lp_infer.proofs.Meanings.{noted_once}
-use Rattle.lp_infer.proofs.Visiting.{mark_same, map_agree, step_more, reads_leaf, reads_app, reads_abs}
+use Rattle.lp_infer.proofs.Visiting.{mark_same, step_more, reads_leaf, reads_app, reads_abs}
 
 known_pushed : (n m : ℕ) (old new : List Step) (s : Step) → n ≤ m → new ≡ old ++ s ∷ [] → All (IsStep n) old → IsStep m s → All (IsStep m) new
 known_pushed n m old new s l e h k =
@@ -44,7 +45,7 @@ module _ (sig : Signature) (text : List ℕ) (nodes : List RawNode) (root : ℕ)
       ap (map (mark text sig.bank count (noted_types new.types ρ))) e ∙
       map-append (mark text sig.bank count (noted_types new.types ρ)) old.steps.items (s ∷ []) ∙
       ap (λ l. l ++ mark text sig.bank count (noted_types new.types ρ) s ∷ [])
-      (sym (map_agree (IsStep (length old.types.types)) (mark text sig.bank count (noted_types old.types ρ)) (mark text sig.bank count (noted_types new.types ρ)) (λ s h. mark_same sig text count old.types new.types E ρ s h) old.steps.items k))
+      (sym (map_agree_on (IsStep (length old.types.types)) (mark text sig.bank count (noted_types old.types ρ)) (mark text sig.bank count (noted_types new.types ρ)) (λ s h. mark_same sig text count old.types new.types E ρ s h) old.steps.items k))
 
   -- what changes when tasks are done, and what stays
   record Change (old new : Lookup) (tasks left : List Task) (S : Looked sig text nodes root old tasks) : Type 0 where

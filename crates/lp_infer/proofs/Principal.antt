@@ -3,6 +3,8 @@ use Rattle.std.proofs.Common.{◌≡◌, ℕ, zero, suc, ◌+◌, ◌-◌, ◌<�
 use Rattle.std.specs.Prelude.{nat_lt, if◌then◌else◌, slice_get}
 use Rattle.std.proofs.lemmas.List.{length-map}
 use Rattle.std.proofs.lemmas.Bool.{lt-ltb, le-ltb}
+use Rattle.std.proofs.lemmas.Option.{same_Some}
+use Rattle.lp_type_laws.proofs.Principal.{map_map}
 use mathlib.Core.Path.{fun_ext}
 use Rattle.lp_calculus.specs.Types.{Ty, Tys, var, param, con, arrow, no_types, types, instance, instances}
 use Rattle.lp_calculus.specs.Term.{Term, Atom, index, atom, abs, app, constant, integer, text, eigen, logic}
@@ -56,10 +58,6 @@ fresh_below (suc n) i m l = (omega arith, fresh_below n (suc i) m (omega arith))
 maps_agree : (n : ℕ) (ρ κ : ℕ → Ty) → Agree n ρ κ → (ts : List Ty) → Belows n ts → map (instance ρ) ts ≡ map (instance κ) ts
 maps_agree n ρ κ A [] h = refl
 maps_agree n ρ κ A (t ∷ ts) h = let e = instance_agree n ρ κ A t h.0 in let f = maps_agree n ρ κ A ts h.1 in cc
-
-pub map_map : (ρ θ : ℕ → Ty) (ts : List Ty) → map (instance ρ) (map (instance θ) ts) ≡ map (instance (λ i. instance ρ (θ i))) ts
-map_map ρ θ [] = refl
-map_map ρ θ (t ∷ ts) = let e = instance-instance θ ρ t in let f = map_map ρ θ ts in cc
 
 mutual
   pub instance_below : (m : ℕ) (θ : ℕ → Ty) → ((x : ℕ) → Below m (θ x)) → (t : Ty) → Below m (instance θ t)
@@ -252,9 +250,6 @@ pub record Solution (n : ℕ) (m : Made) (ρ : ℕ → Ty) (t : Term) (A : Ty) :
   pub is : instance_term types m.term ≡ t
   pub type_is : instance types m.type_is ≡ A
 
-if_some : {a b : Ty} → Some a ≡ Some b → a ≡ b
-if_some {a} {b} e = ap (λ o. elim o [ None ↦ a | Some c ↦ c ]) e
-
 agree_same : (n : ℕ) (ρ : ℕ → Ty) → Agree n ρ ρ
 agree_same n ρ = record { on = λ x h. refl }
 
@@ -267,7 +262,7 @@ complete k κ (raw_index i) C n s l c ρ e t A h =
       agrees = agree_same n ρ;
       solves = tt;
       is = sym h.0;
-      type_is = sym (at_map ρ C i) ∙ if_some (sym (get_at (map (instance ρ) C) i p) ∙ h.1);
+      type_is = sym (at_map ρ C i) ∙ same_Some _ _ (sym (get_at (map (instance ρ) C) i p) ∙ h.1);
     }
 complete k κ (raw_constant d f) C n s l c ρ e t A h =
     let us = h.0 in

@@ -1,5 +1,5 @@
 -- Why a text has no typing.
-use Rattle.std.proofs.Common.{◌≡◌, ℕ, List, refl, sym, subst, Result, Ok, Err, Option, Some, None, true, false, true≢false}
+use Rattle.std.proofs.Common.{◌≡◌, ℕ, List, sym, subst, Result, Ok, Err, Option, Some, None, true, true≢false}
 use Rattle.std.specs.Option.{is_some}
 use Rattle.std.specs.Prelude.{IfErr}
 use Rattle.std.specs.Result.{IsErrAnd}
@@ -19,7 +19,3 @@ for_memory sig text raw (Err e) is = subst (IsRefusal sig text raw) (sym is) tt
 pub not_none : {A : Type 0} (o : Option A) → is_some o ≡ true → o ≡ None → ⊥
 not_none None e f = true≢false (sym e)
 not_none (Some x) e f = cc
-
-pub none_left : {A : Type 0} (o : Option A) → is_some o ≡ false → o ≡ None
-none_left None e = refl
-none_left (Some x) e = absurd (true≢false e)

@@ -1,15 +1,17 @@
 -- What elaborates is typed in the calculus and leaves the text; types put for type variables keep a typing, and other names for the
 -- type variables keep a principal one.
-use Rattle.std.proofs.Common.{◌≡◌, ℕ, zero, suc, List, [], ◌∷◌, map, length, Option, Some, None, refl, sym, ap, ◌∙◌, subst}
-use Rattle.std.specs.Prelude.{slice_get, if◌then◌else◌}
+use Rattle.std.proofs.Common.{◌≡◌, ℕ, List, ◌∷◌, map, length, Option, Some, None, refl, sym, ap, ◌∙◌, subst}
+use Rattle.std.specs.Prelude.{if◌then◌else◌}
 use Rattle.std.proofs.lemmas.List.{length-map}
 use Rattle.std.proofs.lemmas.Bool.{eq-eqb}
+use Rattle.lp_type_laws.proofs.Principal.{map_map}
+use Rattle.lp_lemmas.proofs.Lists.{get_map}
 use Rattle.lp_calculus.specs.Types.{Ty, arrow, instance}
 use Rattle.lp_calculus.specs.Term.{Term}
 use Rattle.lp_calculus.specs.Typing.{Scheme, o_type, type_at, scheme_type, Context, Typed}
 use Rattle.lp_calculus.proofs.TypeLaws.{instance-instance}
 use Rattle.lp_infer.specs.Typing.{Raw, raw_index, raw_constant, raw_integer, raw_text, raw_abs, raw_app, put_given, put_raw, IsGiven, Elaborates, Leaves, AreDeclared, Typing, IsTyping, instance_term, put_typing, IsPrincipal}
-use Rattle.lp_infer.proofs.Principal.{scheme_instance, map_map, term_twice}
+use Rattle.lp_infer.proofs.Principal.{scheme_instance, term_twice}
 
 scheme_is : (ts : List Ty) (s : Scheme) (o : Option Scheme) → o ≡ Some s → length ts ≡ s.count → scheme_type ts o ≡ Some (instance (type_at ts) s.body)
 scheme_is ts s o e l =
@@ -36,11 +38,6 @@ elaborates_leaves C (raw_abs given b) t A h = (h.0, h.1, elaborates_leaves (h.2 
 elaborates_leaves C (raw_app f u) t A h = (h.0, h.1, h.2, elaborates_leaves C f h.0 (arrow h.3 A) h.4, elaborates_leaves C u h.1 h.3 h.5)
 
 -- types put for type variables
-
-pub get_map : (f : Ty → Ty) (C : List Ty) (i : ℕ) (A : Ty) → slice_get C i ≡ Some A → slice_get (map f C) i ≡ Some (f A)
-get_map f [] i A e = cc
-get_map f (B ∷ C) zero A e = let g : B ≡ A = cc in ap (λ t. Some (f t)) g
-get_map f (B ∷ C) (suc i) A e = get_map f C i A e
 
 given_instance : (θ : ℕ → Ty) (o : Option Ty) (P : Ty) → IsGiven o P → IsGiven (put_given θ o) (instance θ P)
 given_instance θ None P h = tt

@@ -1,12 +1,12 @@
 -- The first undeclared name is found: each task that is done keeps what `Scanned` says. A name that is bound has a level, and the levels are those of
 -- the abstractions that are open.
-use Rattle.std.proofs.Common.{◌≡◌, ℕ, List, [], ◌∷◌, ◌++◌, length, reverse, refl, sym, ap, subst, ◌∙◌, Bool, true, false, arith, Option, Some, None, inl, inr, true≢false, Result, Ok, Err}
-use Rattle.std.specs.Prelude.{Contains, ◌⊎◌, ◌||◌, IfSome, IfOk, OnOk, slice_get, if◌then◌else◌}
+use Rattle.std.proofs.Common.{◌≡◌, ℕ, List, [], ◌∷◌, ◌++◌, reverse, refl, sym, ap, subst, ◌∙◌, Bool, true, false, Option, Some, None, inl, inr, true≢false, Result, Ok, Err}
+use Rattle.std.specs.Prelude.{Contains, ◌⊎◌, ◌||◌, IfSome, IfOk, slice_get, if◌then◌else◌}
 use Rattle.std.specs.Map.{lookup}
-use Rattle.std.proofs.lemmas.List.{reverse-append}
 use Rattle.lp_base.specs.declared.memory.Memory.{Memory}
 use Rattle.std.specs.Str.{bytes_eq}
 use Rattle.std.proofs.lemmas.Slice.Eq.{bytes_eq-Decides}
+use Rattle.lp_lemmas.proofs.Lists.{reverse_pushed}
 use Rattle.lp_base.specs.declared.place.Spot.{Spot}
 use Rattle.lp_syntax.specs.declared.text.RawNode.{RawNode}
 use Rattle.lp_syntax.specs.declared.text.RawNode.TheVariants.{Name, Known, Number, Text, App, Abs}
@@ -20,12 +20,6 @@ use Rattle.lp_infer.specs.declared.names.Names.{Names}
 use Rattle.lp_infer.specs.declared.names.Task.{Task}
 use Rattle.lp_infer.specs.declared.names.Task.TheVariants.{Visit, Leave}
 use Rattle.lp_infer.proofs.Finding.{finds_none}
-
-some_same : {X : Type 0} (x y : X) → Some x ≡ Some y → x ≡ y
-some_same x y e = ap (λ o. value_or x o) e where
-  value_or : {X : Type 0} → X → Option X → X
-  value_or x None = x
-  value_or x (Some y) = y
 
 -- levels and abstractions
 
@@ -56,10 +50,6 @@ level_same old new e name = ap (λ b. level_at (lookup (λ k. bytes_eq name k.it
 tracks_same : (scope : List (List ℕ)) (old new : Names) → new.bound ≡ old.bound → Tracks scope old → Tracks scope new
 tracks_same scope old new e known = λ name. ap is_level (level_same old new e name) ∙ known name
 
--- the last task of a list is the next one
-pub reverse_push : {X : Type 0} (all xs : List X) (x : X) → all ≡ xs ++ x ∷ [] → reverse all ≡ x ∷ reverse xs
-reverse_push all xs x e = subst (λ z. reverse z ≡ x ∷ reverse xs) (sym e) (reverse-append xs (x ∷ []))
-
 -- an abstraction is entered behind its annotation
 pub entered_past : (x : List ℕ) (old mid new : Names) (r : Result (Option ℕ) Memory) → mid.bound ≡ old.bound → IfOk r (IsEntered x mid new) → IfOk r (IsEntered x old new)
 entered_past x old mid new (Err e) same h = tt
@@ -69,21 +59,9 @@ entered_past x old mid new (Ok outside) same h = record {
   before = h.before ∙ level_same old mid same x;
 }
 
-pub is_ok : {T E P : Type 0} (r : Result T E) → P → OnOk r P
-is_ok (Ok x) p = p
-is_ok (Err e) p = tt
-
-pub on_ok : {T E P Q : Type 0} (r : Result T E) → OnOk r P → (P → Q) → OnOk r Q
-on_ok (Ok x) p f = f p
-on_ok (Err e) p f = tt
-
-pub empty_list : {X : Type 0} (xs : List X) → length xs ≡ 0 → xs ≡ []
-empty_list [] e = refl
-empty_list (x ∷ xs) e = absurd (omega (arith, e))
-
 -- two tasks on top
 pub reverse_two : {X : Type 0} (xs ys zs : List X) (a b : X) → ys ≡ xs ++ a ∷ [] → zs ≡ ys ++ b ∷ [] → reverse zs ≡ b ∷ a ∷ reverse xs
-reverse_two xs ys zs a b e f = reverse_push zs ys b f ∙ ap (λ l. b ∷ l) (reverse_push ys xs a e)
+reverse_two xs ys zs a b e f = reverse_pushed zs ys b f ∙ ap (λ l. b ∷ l) (reverse_pushed ys xs a e)
 
 module _ (sig : Signature) (text : List ℕ) (nodes : List RawNode) where
   -- what is undeclared below one node

@@ -2,6 +2,8 @@
 use Rattle.std.proofs.Common.{◌≡◌, ℕ, suc, ◌+◌, ◌<◌, ◌≤◌, List, [], ◌∷◌, ◌++◌, map, length, refl, sym, ap, subst, Option, Some, None, Bool, true, false, arith}
 use Rattle.std.specs.Prelude.{nat_eq, if◌then◌else◌}
 use Rattle.std.proofs.lemmas.List.{length-map, length-append}
+use Rattle.std.proofs.lemmas.Option.{same_Some}
+use Rattle.lp_sig.proofs.Heads.{place_below}
 use Rattle.lp_base.specs.declared.place.Spot.{Spot}
 use Rattle.lp_calculus.specs.Types.{Ty, con, tys, instance}
 use Rattle.lp_calculus.specs.Typing.{Scheme, type_at}
@@ -21,7 +23,6 @@ use Rattle.lp_infer.specs.Typing.{Raw, raw_index, raw_constant, raw_integer, raw
 use Rattle.lp_infer.specs.Texts.{Notes, is_blank, variable_index, string_bytes, constant_scheme, variable_type, abbreviated_type, kind_type, word_type, Means, word, function, AllMean, no_parts, more_parts, IsNoted, Read, read_constant, read_number, read_variable, read_free, read_bound, read_name, read_leaf, Reads, leaf, application, abstraction}
 use Rattle.lp_infer.specs.Generate.{IsGivenBelow, IsScoped}
 use Rattle.lp_infer.proofs.Principal.{Belows, at_below, instance_below}
-use Rattle.lp_infer.proofs.Levels.{first_below}
 
 -- the type variables of annotations have types with type variables below k
 pub record NotesBelow (k : ℕ) (text : List ℕ) (κ : Notes) : Type 0 where
@@ -32,9 +33,6 @@ tys_below : (k : ℕ) (Ts : List Ty) → Belows k Ts → AllBelow k (tys Ts)
 tys_below k [] h = tt
 tys_below k (T ∷ Ts) h = (h.0, tys_below k Ts h.1)
 
-some_is : {A : Type 0} (x y : A) → Some x ≡ Some y → x ≡ y
-some_is x y e = cc
-
 -- what is read, where it is read, is below k
 abbrev IfBelow : ℕ → Option Ty → Type 0
 IfBelow k o = (A : Ty) → o ≡ Some A → Below k A
@@ -43,7 +41,7 @@ none_below : (k : ℕ) → IfBelow k None
 none_below k A e = absurd (cc)
 
 some_below : (k : ℕ) (T : Ty) → Below k T → IfBelow k (Some T)
-some_below k T h A e = subst (Below k) (some_is T A e) h
+some_below k T h A e = subst (Below k) (same_Some T A e) h
 
 if_below : (k : ℕ) (b : Bool) (x y : Option Ty) → (b ≡ true → IfBelow k x) → (b ≡ false → IfBelow k y) → IfBelow k (if b then x else y)
 if_below k true x y f g = f refl
@@ -102,7 +100,7 @@ none_good n k count before R after e l = absurd (cc)
 
 some_good : (n k count : ℕ) (before : List Spot) (R : Raw) (after : List Spot) → (length after ≤ count → IsGood n k R before after) → IfGood n k count before (Some (R, after))
 some_good n k count before R after h Q last e l =
-    let f : (R, after) ≡ (Q, last) = some_is (R, after) (Q, last) e in
+    let f : (R, after) ≡ (Q, last) = same_Some (R, after) (Q, last) e in
     let g : after ≡ last = ap (λ p. p.1) f in
     subst (λ p. IsGood n k p.0 before p.1) f (h (subst (λ ps. length ps ≤ count) (sym g) l))
 
@@ -130,7 +128,7 @@ module _ (k count : ℕ) (sig : Signature) (text : List ℕ) (scope : List (List
   number_good w (Some c) before = constant_good c (constant_scheme sig w c) before
 
   first_among : (w : List ℕ) (before : List Spot) (j : ℕ) → first_place w (map (spelled text) before) ≡ Some j → j < length before
-  first_among w before j e = let f = first_below w (map (spelled text) before) j e in let g = length-map before (spelled text) in omega (arith, f, g)
+  first_among w before j e = let f = place_below w (map (spelled text) before) j e in let g = length-map before (spelled text) in omega (arith, f, g)
 
   free_good : (s : Spot) (before : List Spot) → IfGood (length scope + count) k count before (read_free sig text count scope s before)
   free_good s before =
@@ -147,7 +145,7 @@ module _ (k count : ℕ) (sig : Signature) (text : List ℕ) (scope : List (List
   name_good : (s : Spot) (before : List Spot) → IfGood (length scope + count) k count before (read_name sig text count scope s before)
   name_good s before =
       if_good (length scope + count) k count before (is_blank (spelled text s)) (read_variable count scope s None before) (read_bound sig text count scope s (first_place (spelled text s) scope) before)
-      (λ e. variable_good s None before (λ j f. absurd (cc))) (λ e. bound_good s (first_place (spelled text s) scope) before (first_below (spelled text s) scope))
+      (λ e. variable_good s None before (λ j f. absurd (cc))) (λ e. bound_good s (first_place (spelled text s) scope) before (place_below (spelled text s) scope))
 
   pub leaf_good : (node : RawNode) (before : List Spot) → IfGood (length scope + count) k count before (read_leaf sig text count scope node before)
   leaf_good (Name s) before = name_good s before

@@ -9,16 +9,14 @@ use Rattle.lp_type_laws.proofs.Solves.{solves, fails_rightly}
 use Rattle.lp_infer.specs.Typing.{Raw, raw_index, raw_integer, raw_abs, raw_app, Typing, IsPrincipal, HasNoTyping}
 use Rattle.lp_infer.specs.Generate.{generated, IsScoped}
 use Rattle.std.specs.Prelude.{pos}
+use Rattle.std.proofs.lemmas.Option.{same_Some}
 use Rattle.lp_infer.specs.Worked.{typed_by, typed, p, q, r, nil, cons, at, typing}
 use Rattle.lp_infer.proofs.Principal.{principal, no_typing}
-
-some_typing : (T U : Typing) → Some T ≡ Some U → T ≡ U
-some_typing T U e = cc
 
 from_outcome : (R : Raw) (names : ℕ) (T : Typing) → IsScoped names 0 R → (o : Outcome) → solve 50 (generated R names 0).equations var ≡ o → typed_by names (generated R names 0) o ≡ Some T → IsPrincipal R names T
 from_outcome R names T s unfinished e f = absurd (cc)
 from_outcome R names T s fails e f = absurd (cc)
-from_outcome R names T s (solved θ) e f = transport (IsPrincipal R names) (some_typing _ T f) (principal R names 0 s θ (solves 50 (generated R names 0).equations θ e))
+from_outcome R names T s (solved θ) e f = transport (IsPrincipal R names) (same_Some _ T f) (principal R names 0 s θ (solves 50 (generated R names 0).equations θ e))
 
 is_principal : (R : Raw) (names : ℕ) (T : Typing) → IsScoped names 0 R → typed names R ≡ Some T → IsPrincipal R names T
 is_principal R names T s e = from_outcome R names T s (solve 50 (generated R names 0).equations var) refl e

@@ -1,6 +1,7 @@
 -- A text under a most general solution of its equations, with its type variables numbered as they are met, is the principal typing.
 use Rattle.std.proofs.Common.{◌≡◌, ℕ, suc, ◌+◌, List, [], ◌∷◌, ◌++◌, map, reverse, length, take, drop, refl, sym, ap, subst, ◌∙◌}
-use Rattle.std.proofs.lemmas.List.{append-nil, append_assoc, map-append, reverse-reverse, length-map, length-reverse}
+use Rattle.std.proofs.lemmas.List.{append-nil, append_assoc, map-append, reverse-reverse, length-map, length-reverse, take_at}
+use Rattle.lp_type_laws.proofs.Principal.{map_map}
 use Rattle.indexmap.proofs.ReorderLemmas.{map-reverse}
 use Rattle.lp_calculus.specs.Types.{Ty, var, instance}
 use Rattle.lp_calculus.specs.Term.{Term, Atom, index, atom, abs, app, constant, integer, text, eigen, logic}
@@ -14,10 +15,10 @@ use Rattle.lp_infer.specs.Numbering.{all_variables, type_variables, typing_varia
 use Rattle.lp_infer.specs.Meeting.{AllMet, renaming, unnaming}
 use Rattle.lp_infer.specs.Filling.{fills}
 use Rattle.lp_infer.specs.Formulas.{variables_of, in_order}
-use Rattle.lp_infer.proofs.Principal.{principal, typing_same, map_map, term_twice, fresh_length}
+use Rattle.lp_infer.proofs.Principal.{principal, typing_same, term_twice, fresh_length}
 use Rattle.lp_infer.proofs.Renaming.{renamed}
 use Rattle.lp_infer.proofs.Meetings.{all_met, all_front, all_back, list_back, lists_renamed, numbered}
-use Rattle.lp_infer.proofs.Filling.{take_front, filled}
+use Rattle.lp_infer.proofs.Filling.{filled}
 
 -- lists
 
@@ -120,7 +121,7 @@ module _ (R : Raw) (names k : ℕ) (θ : ℕ → Ty) where
   -- what has these types is the typing
   pub is_typing : (b : Nodes) (t : Typed) → map (λ v. type_tree b v.1.0) t.vars.items ≡ take names (in_order types_under) → tree b t.formula.0 ≡ (fills R (drop names (in_order types_under))).0 → typing_of b t ≡ in_numbers
   is_typing b t vars formula =
-      let free : take names (in_order types_under) ≡ map (instance π) (reverse frees) = ap (take names) parted ∙ take_front (map (instance π) (reverse frees)) (map (instance π) arguments) names many in
+      let free : take names (in_order types_under) ≡ map (instance π) (reverse frees) = ap (take names) parted ∙ take_at (map (instance π) (reverse frees)) (map (instance π) arguments) names many in
       typing_same (typing_of b t) in_numbers
       (ap reverse (vars ∙ free ∙ map-reverse (instance π) frees) ∙ reverse-reverse (map (instance π) frees))
       (formula ∙ filled (λ i. instance π (θ i)) R (fresh names k) (k + names) names k (in_order types_under) (map_map π θ (reverse (fresh names k) ++ term_arguments (generated R names k).term)) ∙ sym (term_twice π θ (generated R names k).term))

@@ -2,8 +2,9 @@
 use Rattle.std.proofs.Common.{◌≡◌, ℕ, zero, suc, ◌+◌, ◌≤◌, ◌<◌, List, [], ◌∷◌, ◌++◌, length, get_or, take, refl, sym, ap, subst, ◌∙◌, arith, Option, inl, inr}
 use Rattle.std.specs.Prelude.{Contains, ◌⊎◌}
 use Rattle.std.proofs.Math.Seq.{take-suc}
-use Rattle.std.proofs.lemmas.List.{append-nil}
+use Rattle.std.proofs.lemmas.List.{append-nil, take_all}
 use Rattle.std.proofs.lemmas.List.Elements.{Contains-append_left, Contains-append_right, Contains-append_cases}
+use Rattle.std.proofs.Math.Numerals.{add-one}
 use Rattle.lp_base.specs.declared.place.Spot.{Spot}
 use Rattle.lp_syntax.specs.declared.text.RawTypeNode.{RawTypeNode}
 use Rattle.lp_syntax.specs.declared.text.RawTypeNode.TheVariants.{Word, Arrow}
@@ -25,12 +26,9 @@ words_append [] ns = refl
 words_append (Word t args ∷ ms) ns = ap (λ l. t ∷ l) (words_append ms ns)
 words_append (Arrow a b ∷ ms) ns = words_append ms ns
 
-one_behind : (i : ℕ) → i + 1 ≡ suc i
-one_behind i = omega arith
-
 -- the words of one node more
 pub one_more : (ns : List RawTypeNode) (i : ℕ) (n : RawTypeNode) → i < length ns → n ≡ get_or ns i n → words_of (take (i + 1) ns) ≡ words_of (take i ns) ++ words_of (n ∷ [])
-one_more ns i n h at = ap (λ k. words_of (take k ns)) (one_behind i) ∙ ap words_of (take-suc ns i n h) ∙ words_append (take i ns) (get_or ns i n ∷ []) ∙ ap (λ m. words_of (take i ns) ++ words_of (m ∷ [])) (sym at)
+one_more ns i n h at = ap (λ k. words_of (take k ns)) (add-one i) ∙ ap words_of (take-suc ns i n h) ∙ words_append (take i ns) (get_or ns i n ∷ []) ∙ ap (λ m. words_of (take i ns) ++ words_of (m ∷ [])) (sym at)
 
 -- a word that is looked at
 pub word_step : (K : Spot → Type 0) (ws more : List Spot) (a b c : Option Spot) (t : Spot) → more ≡ ws ++ t ∷ [] → Finds (λ s. Contains ws s × K s) a b → Finds (λ s. (s ≡ t) × K s) b c → Finds (λ s. Contains more s × K s) a c
@@ -55,12 +53,6 @@ no_word ws (Arrow a b) none = append-nil ws
 pub has_word : (ws : List Spot) (n : RawTypeNode) (s : Spot) (args : _) → n ≡ Word s args → ws ++ words_of (n ∷ []) ≡ ws ++ s ∷ []
 has_word ws n s args is = ap (λ m. ws ++ words_of (m ∷ [])) is
 
-take_all : (ns : List RawTypeNode) (i : ℕ) → length ns ≤ i → take i ns ≡ ns
-take_all [] zero h = refl
-take_all [] (suc i) h = refl
-take_all (n ∷ ns) zero h = absurd (omega (arith, h))
-take_all (n ∷ ns) (suc i) h = ap (λ l. n ∷ l) (take_all ns i (omega (arith, h)))
-
 -- all words were looked at
 pub all_words : (ns : List RawTypeNode) (i : ℕ) → length ns ≤ i → words_of (take i ns) ≡ words_of ns
-all_words ns i past = ap words_of (take_all ns i past)
+all_words ns i past = ap words_of (take_all i ns past)

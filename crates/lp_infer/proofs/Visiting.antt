@@ -1,7 +1,7 @@
 -- A text while its nodes are gone through: each step keeps that the list so far and what the tasks give are what the root gives.
-use Rattle.std.proofs.Common.{◌≡◌, ℕ, ◌<◌, ◌≤◌, List, [], ◌∷◌, map, length, refl, sym, ap, subst, ◌∙◌, Option, Some, None, arith}
-use Rattle.std.specs.Prelude.{All, slice_get}
-use Rattle.std.proofs.lemmas.List.Elements.{All-head, All-tail}
+use Rattle.std.proofs.Common.{◌≡◌, ℕ, ◌<◌, ◌≤◌, List, ◌∷◌, length, refl, sym, ap, subst, ◌∙◌, Option, Some, None, arith}
+use Rattle.std.specs.Prelude.{slice_get}
+use Rattle.lp_lemmas.proofs.Options.{one_value}
 use Rattle.lp_base.specs.declared.place.Spot.{Spot}
 use Rattle.lp_calculus.specs.Types.{Ty, instance}
 use Rattle.lp_term.specs.Nodes.{Nodes, Extends}
@@ -17,7 +17,6 @@ use Rattle.lp_infer.specs.Postfix.{opens, mark, given_type, IsGivenKnown, IsStep
 use Rattle.lp_infer.specs.Visits.{noted_types}
 use Rattle.lp_infer.specs.declared.lookup.Step.{Step}
 use Rattle.lp_infer.specs.declared.lookup.Step.TheVariants as step
-use Rattle.lp_infer.proofs.Meanings.{some_same}
 
 -- the marks of older steps stay
 
@@ -37,10 +36,6 @@ mark_same sig text count b c E ρ (step.Open given) k = ap opens (given_same b c
 mark_same sig text count b c E ρ step.Close k = refl
 mark_same sig text count b c E ρ step.Apply k = refl
 
-pub map_agree : {A B : Type 0} (P : A → Type 0) (f g : A → B) → ((x : A) → P x → f x ≡ g x) → (xs : List A) → All P xs → map f xs ≡ map g xs
-map_agree P f g h [] k = refl
-map_agree P f g h (x ∷ xs) k = let e = h x (All-head P x xs k) in let d = map_agree P f g h xs (All-tail P x xs k) in cc
-
 pub step_more : (n m : ℕ) → n ≤ m → (s : Step) → IsStep n s → IsStep m s
 step_more n m l (step.Bound i) k = tt
 step_more n m l (step.Variable d i) k = tt
@@ -59,15 +54,15 @@ module _ (sig : Signature) (text : List ℕ) (nodes : List RawNode) (κ : Notes)
   pub reads_leaf : (scope : List (List ℕ)) (before : List Spot) (n : ℕ) (node : RawNode) (R : Raw) (after : List Spot) (Q : Raw) (last : List Spot) → slice_get nodes n ≡ Some node →
       read_leaf sig text count scope node before ≡ Some (R, after) → Reads sig text nodes κ count scope before n Q last → (Q ≡ R) × (last ≡ after)
   reads_leaf scope before n node R after Q last at is (leaf scope' before' m other Q' last' at' is') =
-      let e : other ≡ node = some_same (slice_get nodes n) other node at' at in
+      let e : other ≡ node = one_value (slice_get nodes n) other node at' at in
       let f : Some (Q, last) ≡ Some (R, after) = sym is' ∙ ap (λ x. read_leaf sig text count scope x before) e ∙ is in
       (ap (λ o. elim o [ None ↦ Q | Some p ↦ p.0 ]) f, ap (λ o. elim o [ None ↦ last | Some p ↦ p.1 ]) f)
   reads_leaf scope before n node R after Q last at is (application scope' before' m f x F X middle last' at' lf lx rf rx) =
-      let e : node ≡ App f x = some_same (slice_get nodes n) node (App f x) at at' in
+      let e : node ≡ App f x = one_value (slice_get nodes n) node (App f x) at at' in
       let g : Some (R, after) ≡ None = sym is ∙ ap (λ x. read_leaf sig text count scope x before) e in
       absurd (cc)
   reads_leaf scope before n node R after Q last at is (abstraction scope' before' m s note b given B last' at' lb noted rb) =
-      let e : node ≡ Abs s note b = some_same (slice_get nodes n) node (Abs s note b) at at' in
+      let e : node ≡ Abs s note b = one_value (slice_get nodes n) node (Abs s note b) at at' in
       let g : Some (R, after) ≡ None = sym is ∙ ap (λ x. read_leaf sig text count scope x before) e in
       absurd (cc)
 
@@ -88,13 +83,13 @@ module _ (sig : Signature) (text : List ℕ) (nodes : List RawNode) (κ : Notes)
 
   pub reads_app : (scope : List (List ℕ)) (before : List Spot) (n f x : ℕ) (Q : Raw) (last : List Spot) → slice_get nodes n ≡ Some (App f x) → Reads sig text nodes κ count scope before n Q last → OfApplication scope before f x Q last
   reads_app scope before n f x Q last at (leaf scope' before' m other Q' last' at' is') =
-      let e : other ≡ App f x = some_same (slice_get nodes n) other (App f x) at' at in
+      let e : other ≡ App f x = one_value (slice_get nodes n) other (App f x) at' at in
       let g : Some (Q, last) ≡ None = sym is' ∙ ap (λ x. read_leaf sig text count scope x before) e in
       absurd (cc)
   reads_app scope before n f x Q last at (application scope' before' m g y F X middle last' at' lf lx rf rx) =
-      at_app scope before middle last f x g y F X (some_same (slice_get nodes n) (App g y) (App f x) at' at) rf rx
+      at_app scope before middle last f x g y F X (one_value (slice_get nodes n) (App g y) (App f x) at' at) rf rx
   reads_app scope before n f x Q last at (abstraction scope' before' m s note b given B last' at' lb noted rb) =
-      let e : App f x ≡ Abs s note b = some_same (slice_get nodes n) (App f x) (Abs s note b) at at' in
+      let e : App f x ≡ Abs s note b = one_value (slice_get nodes n) (App f x) (Abs s note b) at at' in
       absurd (cc)
 
   pub record OfAbstraction (scope : List (List ℕ)) (before : List Spot) (s : Spot) (note : Option RawType) (b : ℕ) (Q : Raw) (last : List Spot) : Type 0 where
@@ -119,14 +114,14 @@ module _ (sig : Signature) (text : List ℕ) (nodes : List RawNode) (κ : Notes)
 
   pub reads_abs : (scope : List (List ℕ)) (before : List Spot) (n : ℕ) (s : Spot) (note : Option RawType) (b : ℕ) (Q : Raw) (last : List Spot) → slice_get nodes n ≡ Some (Abs s note b) → Reads sig text nodes κ count scope before n Q last → OfAbstraction scope before s note b Q last
   reads_abs scope before n s note b Q last at (leaf scope' before' m other Q' last' at' is') =
-      let e : other ≡ Abs s note b = some_same (slice_get nodes n) other (Abs s note b) at' at in
+      let e : other ≡ Abs s note b = one_value (slice_get nodes n) other (Abs s note b) at' at in
       let g : Some (Q, last) ≡ None = sym is' ∙ ap (λ x. read_leaf sig text count scope x before) e in
       absurd (cc)
   reads_abs scope before n s note b Q last at (application scope' before' m g y F X middle last' at' lf lx rf rx) =
-      let e : Abs s note b ≡ App g y = some_same (slice_get nodes n) (Abs s note b) (App g y) at at' in
+      let e : Abs s note b ≡ App g y = one_value (slice_get nodes n) (Abs s note b) (App g y) at at' in
       absurd (cc)
   reads_abs scope before n s note b Q last at (abstraction scope' before' m t other d given B last' at' lb noted rb) =
-      at_abs scope before last s t note other b d given B (some_same (slice_get nodes n) (Abs t other d) (Abs s note b) at' at) noted rb
+      at_abs scope before last s t note other b d given B (one_value (slice_get nodes n) (Abs t other d) (Abs s note b) at' at) noted rb
 
   -- nodes that have no reading
 
@@ -138,11 +133,11 @@ module _ (sig : Signature) (text : List ℕ) (nodes : List RawNode) (κ : Notes)
   pub no_leaf : (scope : List (List ℕ)) (before : List Spot) (n : ℕ) (node : RawNode) (Q : Raw) (last : List Spot) → slice_get nodes n ≡ Some node → ((f x : ℕ) → node ≡ App f x → ⊥) → ((s : Spot) (o : Option RawType) (b : ℕ) → node ≡ Abs s o b → ⊥) →
       read_leaf sig text count scope node before ≡ None → Reads sig text nodes κ count scope before n Q last → ⊥
   no_leaf scope before n node Q last at app abs none (leaf scope' before' m other Q' last' at' is) =
-      let e : other ≡ node = some_same (slice_get nodes n) other node at' at in
+      let e : other ≡ node = one_value (slice_get nodes n) other node at' at in
       let g : Some (Q, last) ≡ None = sym is ∙ ap (λ x. read_leaf sig text count scope x before) e ∙ none in
       absurd (cc)
-  no_leaf scope before n node Q last at app abs none (application scope' before' m g y F X middle last' at' lf lx rf rx) = app g y (some_same (slice_get nodes n) node (App g y) at at')
-  no_leaf scope before n node Q last at app abs none (abstraction scope' before' m t other d given B last' at' lb noted rb) = abs t other d (some_same (slice_get nodes n) node (Abs t other d) at at')
+  no_leaf scope before n node Q last at app abs none (application scope' before' m g y F X middle last' at' lf lx rf rx) = app g y (one_value (slice_get nodes n) node (App g y) at at')
+  no_leaf scope before n node Q last at app abs none (abstraction scope' before' m t other d given B last' at' lb noted rb) = abs t other d (one_value (slice_get nodes n) node (Abs t other d) at at')
 
   two_below : (f x g y n : ℕ) → App g y ≡ App f x → g < n → y < n → (f < n) × (x < n)
   two_below f x g y n e l m = let a : g ≡ f = cc in let b : y ≡ x = cc in (subst (λ k. k < n) a l, subst (λ k. k < n) b m)
@@ -152,18 +147,18 @@ module _ (sig : Signature) (text : List ℕ) (nodes : List RawNode) (κ : Notes)
 
   pub parts_older : (scope : List (List ℕ)) (before : List Spot) (n f x : ℕ) (Q : Raw) (last : List Spot) → slice_get nodes n ≡ Some (App f x) → Reads sig text nodes κ count scope before n Q last → (f < n) × (x < n)
   parts_older scope before n f x Q last at (leaf scope' before' m other Q' last' at' is') =
-      let e : other ≡ App f x = some_same (slice_get nodes n) other (App f x) at' at in
+      let e : other ≡ App f x = one_value (slice_get nodes n) other (App f x) at' at in
       let g : Some (Q, last) ≡ None = sym is' ∙ ap (λ x. read_leaf sig text count scope x before) e in
       absurd (cc)
-  parts_older scope before n f x Q last at (application scope' before' m g y F X middle last' at' lf lx rf rx) = two_below f x g y n (some_same (slice_get nodes n) (App g y) (App f x) at' at) lf lx
+  parts_older scope before n f x Q last at (application scope' before' m g y F X middle last' at' lf lx rf rx) = two_below f x g y n (one_value (slice_get nodes n) (App g y) (App f x) at' at) lf lx
   parts_older scope before n f x Q last at (abstraction scope' before' m t other d given B last' at' lb noted rb) =
-      let e : App f x ≡ Abs t other d = some_same (slice_get nodes n) (App f x) (Abs t other d) at at' in absurd (cc)
+      let e : App f x ≡ Abs t other d = one_value (slice_get nodes n) (App f x) (Abs t other d) at at' in absurd (cc)
 
   pub body_older : (scope : List (List ℕ)) (before : List Spot) (n : ℕ) (s : Spot) (o : Option RawType) (b : ℕ) (Q : Raw) (last : List Spot) → slice_get nodes n ≡ Some (Abs s o b) → Reads sig text nodes κ count scope before n Q last → b < n
   body_older scope before n s o b Q last at (leaf scope' before' m other Q' last' at' is') =
-      let e : other ≡ Abs s o b = some_same (slice_get nodes n) other (Abs s o b) at' at in
+      let e : other ≡ Abs s o b = one_value (slice_get nodes n) other (Abs s o b) at' at in
       let g : Some (Q, last) ≡ None = sym is' ∙ ap (λ x. read_leaf sig text count scope x before) e in
       absurd (cc)
   body_older scope before n s o b Q last at (application scope' before' m g y F X middle last' at' lf lx rf rx) =
-      let e : Abs s o b ≡ App g y = some_same (slice_get nodes n) (Abs s o b) (App g y) at at' in absurd (cc)
-  body_older scope before n s o b Q last at (abstraction scope' before' m t other d given B last' at' lb noted rb) = one_below s t o other b d n (some_same (slice_get nodes n) (Abs t other d) (Abs s o b) at' at) lb
+      let e : Abs s o b ≡ App g y = one_value (slice_get nodes n) (Abs s o b) (App g y) at at' in absurd (cc)
+  body_older scope before n s o b Q last at (abstraction scope' before' m t other d given B last' at' lb noted rb) = one_below s t o other b d n (one_value (slice_get nodes n) (Abs t other d) (Abs s o b) at' at) lb

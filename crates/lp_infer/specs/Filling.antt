@@ -1,5 +1,5 @@
 -- The formula of a text from the type arguments of its constants, as a whole and part by part.
-use Rattle.std.specs.Prelude.{◌≡◌, ℕ, ◌<◌, List, [], ◌∷◌, ◌++◌, map, reverse, length, take, drop, All}
+use Rattle.std.specs.Prelude.{◌≡◌, ◌<◌, List, [], ◌∷◌, ◌++◌, map, reverse, length, take, drop, All}
 use Rattle.lp_calculus.specs.Types.{Ty}
 use Rattle.lp_calculus.specs.Term.{Term, index, atom, abs, app, apply, constant, integer, text}
 use Rattle.lp_term.specs.Nodes.{Nodes, tree, Extends}
@@ -7,7 +7,8 @@ use Rattle.lp_term.specs.declared.node.TermId.{TermId}
 use Rattle.lp_term.specs.declared.node.TypeId.{TypeId}
 use Rattle.lp_infer.specs.Typing.{Raw, raw_index, raw_constant, raw_integer, raw_text, raw_abs, raw_app}
 use Rattle.lp_infer.specs.Postfix.{Mark, is_index, is_constant, is_integer, is_text, opens, closes, applies}
-use Rattle.lp_infer.specs.Copies.{trees_of, AreTypes}
+use Rattle.lp_term.specs.Within.{IsTermOf, AreTermsOf, AreTypesOf}
+use Rattle.lp_infer.specs.Copies.{trees_of}
 use Rattle.lp_infer.specs.declared.terms.Spine.{Spine}
 use Rattle.lp_infer.specs.declared.terms.Terms.{Terms}
 
@@ -60,16 +61,12 @@ abbrev pub form_all : List Mark → Formed → Formed
 form_all [] f = f
 form_all (m ∷ ms) f = form_all ms (form m f)
 
--- the numbers of terms
-abbrev pub numbers : List TermId → List ℕ
-numbers ids = map (λ t. t.0) ids
-
 -- a head on the arguments that it has so far
 abbrev pub spine_tree : Nodes → Spine → Term
-spine_tree b s = apply (tree b s.head.0) (map (tree b) (numbers s.arguments.items))
+spine_tree b s = apply (tree b s.head.0) (map (λ t. tree b t.0) s.arguments.items)
 
 abbrev pub IsSpine : Nodes → Spine → Type 0
-IsSpine b s = (s.head.0 < length b.terms) × All (λ i. i < length b.terms) (numbers s.arguments.items)
+IsSpine b s = IsTermOf b s.head × AreTermsOf b s.arguments.items
 
 -- what was made so far, as trees
 abbrev pub terms_so_far : Nodes → List TypeId → Terms → Formed
@@ -77,7 +74,7 @@ terms_so_far b types t = formed (reverse (map (spine_tree b) t.stack.items)) (dr
 
 -- all that is named stands in the bank
 pub record AreSound (b : Nodes) (types : List TypeId) (t : Terms) : Type 0 where
-  pub known : AreTypes b types
+  pub known : AreTypesOf b types
   pub spines : All (IsSpine b) t.stack.items
 
 -- what was made is changed so, while the bank grows

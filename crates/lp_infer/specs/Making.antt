@@ -11,7 +11,8 @@ use Rattle.lp_sig.specs.declared.signature.Signature.{Signature}
 use Rattle.lp_infer.specs.Generate.{fresh}
 use Rattle.lp_infer.specs.Postfix.{mark}
 use Rattle.lp_infer.specs.Running.{Sofar, sofar, run}
-use Rattle.lp_infer.specs.Copies.{trees_of, AreTypes, IsType}
+use Rattle.lp_term.specs.Within.{AreTypesOf}
+use Rattle.lp_infer.specs.Copies.{trees_of, IsType}
 use Rattle.lp_infer.specs.declared.lookup.Step.{Step}
 use Rattle.lp_infer.specs.declared.generate.Typing.{Typing}
 
@@ -24,10 +25,10 @@ state t = sofar (reverse (trees_of t.types t.context.items)) t.next (map (held t
 
 -- all that is named stands in the bank
 pub record IsSound (t : Typing) : Type 0 where
-  pub context : AreTypes t.types t.context.items
+  pub context : AreTypesOf t.types t.context.items
   pub pairs : All (IsPair (length t.types.types)) t.pairs.items
-  pub wanted : AreTypes t.types t.wanted.items
-  pub stack : AreTypes t.types t.stack.items
+  pub wanted : AreTypesOf t.types t.wanted.items
+  pub stack : AreTypesOf t.types t.stack.items
 
 -- what was made is changed so
 pub record Acts (old new : Typing) (f : Sofar → Sofar) : Type 0 where
@@ -52,13 +53,13 @@ pub record Makes (old new : Typing) (number : ℕ) (T : Ty) (id : TypeId) : Type
 -- as many new type variables were made
 pub record MakesFresh (old new : Typing) (count : ℕ) (ids : List TypeId) : Type 0 where
   pub grown : Grown old new (old.next + count)
-  pub known : AreTypes new.types ids
+  pub known : AreTypesOf new.types ids
   pub are : trees_of new.types ids ≡ fresh count old.next
 
 -- a constant at new type variables: its type arguments and its type were made
 pub record IsConstant (before now : Typing) (arguments : List TypeId) (id : TypeId) (scheme : Scheme) : Type 0 where
   pub grown : Grown before now (before.next + scheme.count)
-  pub known : AreTypes now.types arguments
+  pub known : AreTypesOf now.types arguments
   pub are : trees_of now.types arguments ≡ fresh scheme.count before.next
   pub is : IsType now.types id (instance (type_at (fresh scheme.count before.next)) scheme.body)
 
@@ -91,7 +92,7 @@ pub record IsEnded (old new : Typing) : Type 0 where
 pub record IsGenerated (sig : Signature) (text : List ℕ) (steps : List Step) (count : ℕ) (b : Nodes) (next : ℕ) (t : Typing) : Type 0 where
   pub kept : Extends b t.types
   pub pairs : All (IsPair (length t.types.types)) t.pairs.items
-  pub wanted : AreTypes t.types t.wanted.items
+  pub wanted : AreTypesOf t.types t.wanted.items
   pub has : Ty
   pub others : List Ty
   pub stack : (run (map (mark text sig.bank count (type_tree b)) steps) (sofar (fresh count next) (next + count) [] (reverse (fresh count next)) [])).stack ≡ has ∷ others

@@ -58,6 +58,6 @@ IsGivenKnown n (Some id) = id.0 < n
 
 -- the types that a step names are there
 abbrev pub IsStep : ℕ → Step → Type 0
-IsStep n (step.Standard c) = c < 24
+IsStep n (step.Standard c) = c < 25
 IsStep n (step.Open given) = IsGivenKnown n given
 IsStep n _ = Unit {0}

@@ -8,7 +8,8 @@ use Rattle.lp_term.specs.declared.node.TypeId.{TypeId}
 use Rattle.lp_type_unify.specs.Reading.{reads}
 use Rattle.lp_infer.specs.Numbering.{type_variables, all_variables}
 use Rattle.lp_infer.specs.Meeting.{met, AllMet, renaming}
-use Rattle.lp_infer.specs.Copies.{trees_of, AreTypes}
+use Rattle.lp_term.specs.Within.{AreTypesOf}
+use Rattle.lp_infer.specs.Copies.{trees_of}
 use Rattle.lp_infer.specs.declared.reading.Reading.{Reading}
 use Rattle.lp_infer.specs.declared.reading.Task.{Task}
 use Rattle.lp_infer.specs.declared.reading.Task.TheVariants as task
@@ -29,7 +30,7 @@ IsReadMemo A b r = (i j : ℕ) → get nat_eq r.made i ≡ Some j → IsReadAs b
 
 -- types were read off
 pub record AreRead (b : Nodes) (N : List ℕ) (As : List Ty) (ids : List TypeId) : Type 0 where
-  pub known : AreTypes b ids
+  pub known : AreTypesOf b ids
   pub are : trees_of b ids ≡ map (instance (renaming N)) As
   pub all : AllMet N (all_variables As)
 

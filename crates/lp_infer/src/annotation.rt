@@ -8,16 +8,16 @@ ghost use Rattle.lp_syntax.specs.declared.text.RawTypeNode.{RawTypeNode};
 ghost use Rattle.lp_syntax.specs.declared.text.RawTypeNode.TheVariants as raw_node;
 ghost use Rattle.lp_infer.specs.Texts.{Notes, is_blank};
 ghost use Rattle.lp_infer.specs.Firsts.{AreFirsts};
-ghost use Rattle.lp_infer.specs.Copies.{AreTypes};
+ghost use Rattle.lp_term.specs.Within.{AreTypesOf};
 ghost use Rattle.lp_infer.specs.Visits.{Agrees, noted_types, NotesGrow, HasNoNote, IsNoteRead};
 ghost use Rattle.lp_infer.specs.Noted.{known_at, TypesAt, NodeNoted, AreNoted, KindNoted, NoteRead};
 
-use crate::instance::{instance, put_arrow, put_con};
+use crate::instance::instance;
 use crate::lookup::Lookup;
 use lp_base::{Memory, Spot};
 use lp_sig::{Signature, is_variable, spelled_at};
 use lp_syntax::{RawType, RawTypeNode};
-use lp_term::{TypeId, TypeNode};
+use lp_term::{TypeId, put_arrow, put_constructor, put_type_variable};
 use std::alloc::Global;
 
 // The type at a place, if it is known.
@@ -69,11 +69,11 @@ impl Lookup {
             noted_types self.new.types ρ id.0 ≡ (if is_blank (spelled source.now spot) then κ.blank spot.from else κ.named (spelled source.now spot))) }
     {
         if spelled_at(source, spot) == b"_".as_slice() {
-            return self.types.put_type(TypeNode::Var(spot.from as u64));
+            return put_type_variable(&mut self.types, spot.from as u64);
         }
         let number = self.note_number(source, spot)?;
         match (source.len() as u64).checked_add(number as u64) {
-            Some(at) => self.types.put_type(TypeNode::Var(at)),
+            Some(at) => put_type_variable(&mut self.types, at),
             None => Err(Memory),
         }
     }
@@ -86,13 +86,13 @@ impl Lookup {
         parts: &[TypeId],
     ) -> Result<Option<TypeId>, Memory>
         ensures grows { OnOk result ((text : List ℕ) → NotesGrow text self.old self.new) }
-        ensures kind { AreTypes self.old.types parts.now → IfOk result (KindNoted signature.now name.now parts.now self.new) }
+        ensures kind { AreTypesOf self.old.types parts.now → IfOk result (KindNoted signature.now name.now parts.now self.new) }
     {
         if let Some((number, arity)) = signature.kind(name) {
             if parts.len() != arity as usize {
                 return Ok(None);
             }
-            let id = put_con(&mut self.types, number, parts)?;
+            let id = put_constructor(&mut self.types, number, parts)?;
             return Ok(Some(id));
         }
         let Some((count, body)) = signature.abbreviation(name) else {

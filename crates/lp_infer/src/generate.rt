@@ -6,14 +6,16 @@ ghost use Rattle.lp_term.specs.Nodes.{type_tree};
 ghost use Rattle.lp_standard.specs.Schemes.{standard_schemes, entry};
 ghost use Rattle.lp_infer.specs.Postfix.{is_index, is_constant, opens, closes, applies, scheme_or, mark, given_type, IsGivenKnown, IsStep};
 ghost use Rattle.lp_infer.specs.Running.{act, run, pushed};
-ghost use Rattle.lp_infer.specs.Copies.{AreTypes, IsType};
+ghost use Rattle.lp_term.specs.Within.{AreTypesOf};
+ghost use Rattle.lp_infer.specs.Copies.{IsType};
 ghost use Rattle.lp_infer.specs.Making.{IsSound, Acts, Makes, MakesFresh, IsConstant, IsEquated, HasVariables, IsEnded, IsGenerated};
 
-use crate::instance::{instance, put_arrow, put_con, standard_instance, standard_variables};
+use crate::instance::instance;
 use crate::lookup::Step;
+use crate::standard::{standard_instance, standard_variables};
 use lp_base::Memory;
 use lp_sig::Signature;
-use lp_term::{Bank, TypeId, TypeNode};
+use lp_term::{Bank, TypeId, put_arrow, put_constructor, put_type_variable};
 use lp_type_unify::Pair;
 use std::alloc::Global;
 
@@ -45,7 +47,7 @@ impl Typing {
         let Some(next) = number.checked_add(1) else {
             return Err(Memory);
         };
-        let id = self.types.put_type(TypeNode::Var(number))?;
+        let id = put_type_variable(&mut self.types, number)?;
         self.next = next;
         Ok(id)
     }
@@ -73,7 +75,7 @@ impl Typing {
     fn push_kind(&mut self, kind: u32) -> Result<(), Memory>
         ensures { OnOk result (Acts self.old self.new (pushed (con kind (tys [])))) }
     {
-        let id = put_con(&mut self.types, kind, &[])?;
+        let id = put_constructor(&mut self.types, kind, &[])?;
         self.push(id)
     }
 
@@ -110,7 +112,7 @@ impl Typing {
 
     // A standard constant at new type variables.
     fn standard(&mut self, number: u32) -> Result<(), Memory>
-        ensures { number < 24 → OnOk result (Acts self.old self.new (act (is_constant number (scheme_or (entry standard_schemes number))))) }
+        ensures { OnOk result (Acts self.old self.new (act (is_constant number (scheme_or (entry standard_schemes number))))) }
     {
         let arguments = self.new_variables(standard_variables(number) as usize)?;
         let id = standard_instance(&mut self.types, number, arguments.as_slice())?;
@@ -227,7 +229,7 @@ impl Typing {
         let Some(has) = self.stack.pop() else {
             return Err(Memory);
         };
-        let goal = put_con(&mut self.types, 0, &[])?;
+        let goal = put_constructor(&mut self.types, 0, &[])?;
         self.equate(has, goal)
     }
 }

@@ -1,13 +1,15 @@
 // The typing of a text.
-ghost use Rattle.std.specs.Prelude.{◌≡◌, ◌<◌, length, map, take, true, All, IfOk, IfErr, IfSome, MatchOption};
+ghost use Rattle.std.specs.Prelude.{◌≡◌, ◌<◌, length, map, take, All, IfOk, IfErr, IfSome, MatchOption};
 ghost use Rattle.lp_syntax.specs.declared.text.RawTerm.{RawTerm};
 ghost use Rattle.lp_infer.specs.Refusals.{IsDeclared, IsRefusal, Stands};
 ghost use Rattle.lp_infer.specs.Texts.{HasNoTextTyping};
 ghost use Rattle.lp_infer.specs.Numbering.{IsTyped};
 ghost use Rattle.lp_infer.specs.Visits.{IsLookedUp};
+ghost use Rattle.lp_infer.specs.Postfix.{IsStep};
 ghost use Rattle.lp_infer.specs.Formulas.{HasTypes, wanted_types};
 ghost use Rattle.lp_term.specs.Nodes.{Extends};
-ghost use Rattle.lp_type_unify.specs.Reading.{AreKept, IsPair};
+ghost use Rattle.lp_term.specs.Within.{AreTypesOf};
+ghost use Rattle.lp_type_unify.specs.Reading.{AreKept};
 
 use crate::fault::InferFault;
 use crate::generate::{Typing, equations_of};
@@ -20,20 +22,8 @@ use lp_model::program::Typed;
 use lp_sig::Signature;
 use lp_syntax::{RawQuery, RawTerm};
 use lp_term::{Bank, TypeId};
-use lp_type_unify::{Bindings, Pair, unify};
+use lp_type_unify::{Bindings, unify};
 use std::alloc::Global;
-
-// Whether all pairs are in the bank.
-fn are_pairs(bank: &Bank, pairs: &[Pair]) -> bool
-    ensures { result ≡ true → All (IsPair (length bank.now.types)) pairs.now }
-{
-    for pair in pairs.iter().copied() {
-        if pair.left.0 >= bank.type_count() || pair.right.0 >= bank.type_count() {
-            return false;
-        }
-    }
-    true
-}
 
 // The variables with their places and types.
 fn variables(
@@ -42,6 +32,7 @@ fn variables(
     places: &[Spot],
     types: &[TypeId],
 ) -> Result<Vec<(Spot, TypeId)>, Memory>
+    requires { AreTypesOf bank.now types.now }
     ensures known { IfOk result (λ variables. All (λ v. v.1.0 < length bank.now.types) variables.items) }
     ensures are { IfOk result (λ variables. (map (λ v. v.0) variables.items ≡ places.now) × (map (λ v. v.1) variables.items ≡ take (length places.now) types.now)) }
 {
@@ -50,16 +41,13 @@ fn variables(
         let Some(id) = types.get(at).copied() else {
             return Err(Memory);
         };
-        if id.0 >= bank.type_count() {
-            return Err(Memory);
-        }
         variables.push((*place, id))?;
     }
     Ok(variables)
 }
 
 // The typed formula, under what its type variables are bound to.
-#[tactic(auto, using(crate::proofs::Keeps::kept_then))]
+#[tactic(auto, using(lp_term::proofs::Within::kept_then))]
 fn read_off(
     source: &[u8],
     steps: &[Step],
@@ -78,9 +66,6 @@ fn read_off(
     let types = reading.read_all(&typing.types, bindings, typing.wanted.as_slice(), bank)?;
     let mut terms = Terms::new(alloc, places.len());
     let formula = terms.formula(source, places.len() as u64, types.as_slice(), steps, bank)?;
-    if formula.0 >= bank.term_count() {
-        return Err(Memory);
-    }
     let vars = variables(alloc, bank, places, types.as_slice())?;
     Ok(Typed {
         type_vars: reading.count(),
@@ -90,7 +75,7 @@ fn read_off(
 }
 
 // The typing of a text with its names looked up, if it has one.
-#[tactic(auto, using(crate::proofs::Keeps::kept_then))]
+#[tactic(auto, using(lp_term::proofs::Within::kept_then))]
 fn typed(
     alloc: Global,
     signature: &Signature,
@@ -98,6 +83,7 @@ fn typed(
     text: Lookup,
     bank: &mut Bank,
 ) -> Result<Option<Typed>, Memory>
+    requires { All (IsStep (length text.types.types)) text.steps.items }
     ensures kept { Extends bank.old bank.new }
     ensures stands { IfOk result (λ found. IfSome found (Stands bank.new)) }
     ensures typed { IfOk result (λ found. (raw : RawTerm) → IsLookedUp signature.now source.now raw.nodes.items raw.root text → MatchOption found (HasNoTextTyping signature.now source.now raw) (IsTyped signature.now source.now raw bank.new)) }
@@ -119,9 +105,6 @@ fn typed(
         types,
         next,
     )?;
-    if !are_pairs(&typing.types, typing.pairs.as_slice()) {
-        return Err(Memory);
-    }
     match unify(alloc, &typing.types, typing.pairs.as_slice())? {
         None => Ok(None),
         Some(bindings) => {

@@ -22,6 +22,8 @@ mod names;
 mod reading;
 // The names that abstractions bind.
 mod scope;
+// The types of the fixed constants.
+mod standard;
 // The formula of a text.
 mod terms;
 

@@ -15,6 +15,7 @@ use crate::firsts::Firsts;
 use crate::scope::Scope;
 use lp_base::{Memory, Spot};
 use lp_sig::{Signature, is_variable, spelled_at};
+use lp_standard::RESERVED;
 use lp_syntax::{RawNode, RawTerm, RawType};
 use lp_term::{Bank, TypeId};
 use std::alloc::Global;
@@ -114,7 +115,7 @@ impl Lookup {
     fn standard(&mut self, number: u32) -> Result<bool, Memory>
         ensures { IfOk result (λ ok. (sig : Signature) → (text : List ℕ) → LeafRead ok sig text (λ count. read_constant number (entry standard_schemes number) self.old.variables.places.items) self.old self.new) }
     {
-        if number >= 24 {
+        if number >= RESERVED {
             return Ok(false);
         }
         self.steps.push(Step::Standard(number))?;

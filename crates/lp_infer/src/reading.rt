@@ -10,10 +10,9 @@ ghost use Rattle.lp_infer.specs.Meeting.{place};
 ghost use Rattle.lp_infer.specs.ReadingOff.{bound_type, cost, IsReadAs, IsReadMemo, AreRead, IsTaken, ReadsOne, ReadsAll};
 ghost use Rattle.lp_infer.specs.declared.reading.Task.{Task};
 
-use crate::instance::{put_arrow, put_con};
 use indexmap::{IndexMap, IndexSet};
 use lp_base::Memory;
-use lp_term::{Bank, TypeId, TypeNode};
+use lp_term::{Bank, TypeId, TypeNode, put_arrow, put_constructor, put_type_variable};
 use lp_type_unify::Bindings;
 use std::alloc::Global;
 
@@ -125,7 +124,7 @@ impl Reading {
         ensures memo { OnOk result ((A : ℕ → Ty) → A top.0 ≡ var variable → IsReadMemo A to.old self.old → IsReadMemo A to.new self.new) }
     {
         let number = self.number(variable)?;
-        let made = to.put_type(TypeNode::Var(number))?;
+        let made = put_type_variable(to, number)?;
         self.keep(top, made)
     }
 
@@ -183,15 +182,12 @@ impl Reading {
         ensures numbers { self.new.numbers ≡ self.old.numbers }
         ensures memo { OnOk result (IsReadMemo (bound_type from.now bindings.now.made) to.old self.old → IsReadMemo (bound_type from.now bindings.now.made) to.new self.new) }
     {
-        if top.0 >= from.type_count() {
-            return Err(Memory);
-        }
         match from.type_node(top) {
             TypeNode::Var(_) => Ok(()),
             TypeNode::Param(_) => Ok(()),
             TypeNode::Con(kind, ids) => {
                 let parts = self.parts(from, bindings, ids)?;
-                let made = put_con(to, kind, parts.as_slice())?;
+                let made = put_constructor(to, kind, parts.as_slice())?;
                 self.keep(top, made)
             }
             TypeNode::Arrow(left, right) => {

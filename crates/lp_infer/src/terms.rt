@@ -2,63 +2,24 @@
 ghost use Rattle.std.specs.Prelude.{◌≡◌, ◌<◌, ℕ, List, [], length, map, drop, true, All, IfOk, OnOk};
 ghost use Rattle.lp_calculus.specs.Types.{Ty};
 ghost use Rattle.lp_calculus.specs.Typing.{Scheme};
-ghost use Rattle.lp_calculus.specs.Term.{atom, abs, apply, constant as constant_atom};
-ghost use Rattle.lp_term.specs.Nodes.{Nodes, Extends, tree};
+ghost use Rattle.lp_term.specs.Nodes.{Nodes, Extends};
 ghost use Rattle.lp_infer.specs.Typing.{Raw};
 ghost use Rattle.lp_infer.specs.Texts.{escaped as escaped_byte, string_bytes};
 ghost use Rattle.lp_infer.specs.Postfix.{is_index, is_constant, is_integer, is_text, closes, applies, mark, postfix};
-ghost use Rattle.lp_infer.specs.Copies.{trees_of, AreTypes};
-ghost use Rattle.lp_infer.specs.Filling.{fills, IsTerm, form, numbers, IsPushed, IsPopped, IsTaken, Forms};
+ghost use Rattle.lp_term.specs.Within.{AreTypesOf};
+ghost use Rattle.lp_infer.specs.Copies.{trees_of};
+ghost use Rattle.lp_infer.specs.Filling.{fills, IsTerm, form, IsPushed, IsPopped, IsTaken, Forms};
 
 use crate::generate::index_of;
-use crate::instance::{are_known, standard_variables};
 use crate::lookup::Step;
+use crate::standard::standard_variables;
 use lp_base::{Memory, Spot};
 use lp_sig::spelled_at;
-use lp_term::{Bank, TermId, TermNode, TypeId};
+use lp_term::{
+    Bank, TermId, TypeId, put_abstraction, put_application, put_constant, put_index, put_integer,
+    put_text,
+};
 use std::alloc::Global;
-
-// Whether all terms are in the bank.
-fn are_terms(bank: &Bank, ids: &[TermId]) -> bool
-    ensures { result ≡ true → All (λ i. i < length bank.now.terms) (map (λ t. t.0) ids.now) }
-{
-    for id in ids.iter().copied() {
-        if id.0 >= bank.term_count() {
-            return false;
-        }
-    }
-    true
-}
-
-fn put_constant(bank: &mut Bank, number: u32, types: &[TypeId]) -> Result<TermId, Memory>
-    ensures kept { Extends bank.old bank.new }
-    ensures tree { IfOk result (λ id. IsTerm bank.new id (atom (constant_atom number (trees_of bank.old types.now)))) }
-{
-    if !are_known(bank, types) {
-        return Err(Memory);
-    }
-    bank.put_term(TermNode::Const(number, types))
-}
-
-fn put_abstraction(bank: &mut Bank, body: TermId) -> Result<TermId, Memory>
-    ensures kept { Extends bank.old bank.new }
-    ensures tree { IfOk result (λ id. IsTerm bank.new id (abs (tree bank.old body.0))) }
-{
-    if body.0 >= bank.term_count() {
-        return Err(Memory);
-    }
-    bank.put_term(TermNode::Abs(body))
-}
-
-fn put_application(bank: &mut Bank, head: TermId, arguments: &[TermId]) -> Result<TermId, Memory>
-    ensures kept { Extends bank.old bank.new }
-    ensures tree { IfOk result (λ id. IsTerm bank.new id (apply (tree bank.old head.0) (map (tree bank.old) (numbers arguments.now)))) }
-{
-    if arguments.is_empty() || head.0 >= bank.term_count() || !are_terms(bank, arguments) {
-        return Err(Memory);
-    }
-    bank.put_term(TermNode::App(head, arguments))
-}
 
 // The byte that a letter stands for behind `\`.
 fn escaped(letter: u8) -> u8
@@ -141,12 +102,10 @@ impl Terms {
     // The term of the part before.
     fn term(&mut self, bank: &mut Bank) -> Result<TermId, Memory>
         ensures kept { Extends bank.old bank.new }
+        ensures within { IfOk result (λ id. id.0 < length bank.new.terms) }
         ensures term { IfOk result (IsTaken bank.old bank.new self.old self.new) }
     {
         let spine = self.pop()?;
-        if spine.arguments.is_empty() {
-            return Ok(spine.head);
-        }
         put_application(bank, spine.head, spine.arguments.as_slice())
     }
 
@@ -177,7 +136,7 @@ impl Terms {
         ensures formed { OnOk result ((types : List TypeId) → Forms bank.old bank.new types self.old self.new (form (is_text (string_bytes token.now)))) }
     {
         let bytes = bytes_of(self.alloc, token)?;
-        let head = bank.put_term(TermNode::Text(bytes.as_slice()))?;
+        let head = put_text(bank, bytes.as_slice())?;
         self.push(head)
     }
 
@@ -185,7 +144,7 @@ impl Terms {
         ensures kept { Extends bank.old bank.new }
         ensures formed { OnOk result ((types : List TypeId) → Forms bank.old bank.new types self.old self.new (form (is_index index))) }
     {
-        let head = bank.put_term(TermNode::Index(index))?;
+        let head = put_index(bank, index)?;
         self.push(head)
     }
 
@@ -193,7 +152,7 @@ impl Terms {
         ensures kept { Extends bank.old bank.new }
         ensures formed { OnOk result ((types : List TypeId) → Forms bank.old bank.new types self.old self.new (form (is_integer value))) }
     {
-        let head = bank.put_term(TermNode::Int(value))?;
+        let head = put_integer(bank, value)?;
         self.push(head)
     }
 
@@ -206,7 +165,7 @@ impl Terms {
         self.push(head)
     }
 
-    #[tactic(auto, using(crate::proofs::Keeps::kept_then))]
+    #[tactic(auto, using(lp_term::proofs::Within::kept_then))]
     fn apply(&mut self, bank: &mut Bank) -> Result<(), Memory>
         ensures kept { Extends bank.old bank.new }
         ensures formed { OnOk result ((types : List TypeId) → Forms bank.old bank.new types self.old self.new (form applies)) }
@@ -218,7 +177,7 @@ impl Terms {
         Ok(())
     }
 
-    #[tactic(auto, using(crate::proofs::Keeps::kept_then))]
+    #[tactic(auto, using(lp_term::proofs::Within::kept_then))]
     fn step(
         &mut self,
         source: &[u8],
@@ -249,7 +208,7 @@ impl Terms {
     }
 
     // The formula of a text with so many variables, whose constants have these type arguments.
-    #[tactic(auto, using(crate::proofs::Keeps::kept_then))]
+    #[tactic(auto, using(lp_term::proofs::Within::kept_then))]
     pub(crate) fn formula(
         &mut self,
         source: &[u8],
@@ -259,7 +218,8 @@ impl Terms {
         bank: &mut Bank,
     ) -> Result<TermId, Memory>
         ensures kept { Extends bank.old bank.new }
-        ensures term { self.old.stack.items ≡ [] → AreTypes bank.old types.now → IfOk result (λ id. (R : Raw) → (b : Nodes) → (τ : ℕ → Ty) → postfix R ≡ map (mark source.now b count τ) steps.now → IsTerm bank.new id (fills R (drop self.old.used (trees_of bank.old types.now))).0) }
+        ensures within { IfOk result (λ id. id.0 < length bank.new.terms) }
+        ensures term { self.old.stack.items ≡ [] → AreTypesOf bank.old types.now → IfOk result (λ id. (R : Raw) → (b : Nodes) → (τ : ℕ → Ty) → postfix R ≡ map (mark source.now b count τ) steps.now → IsTerm bank.new id (fills R (drop self.old.used (trees_of bank.old types.now))).0) }
     {
         for step in steps.iter().copied() {
             self.step(source, count, types, step, bank)?;

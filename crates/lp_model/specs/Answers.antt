@@ -7,9 +7,10 @@ use Rattle.lp_calculus.specs.Fill.{Within}
 use Rattle.lp_calculus.specs.Typing.{Context, Typed, type_at}
 use Rattle.lp_calculus.specs.Instance.{instance_term}
 use Rattle.lp_calculus.specs.Closed.{AreClosed, IsClosedType}
+use Rattle.lp_standard.specs.Positive.{IsPositive}
 use Rattle.lp_model.specs.declared.ending.Ending.TheVariants.{NoMore}
 use Rattle.lp_model.specs.Skeleton.{Told}
-use Rattle.lp_model.specs.Faithful.{AnyOf, EachOf}
+use Rattle.lp_lemmas.specs.Each.{AnyOf, EachOf}
 use Rattle.lp_model.specs.Index.{instantiate, at}
 use Rattle.lp_model.specs.Pair.{Pair, Closing, closed, SolvesAll}
 use Rattle.lp_model.specs.Flatten.{ClauseFormula}
@@ -83,6 +84,7 @@ IsOutermostAtom (param k t) = Unit {0}
 pub record IsTypedValue (d : Declared) (V : List Variable) (t : Term) (T : Ty) : Type 0 where
   pub typed : Typed (over d [] V) [] t T
   pub outermost : Within IsOutermostAtom 0 t
+  pub positive : IsPositive t
 
 abbrev pub AreTypedValues : Declared → List Variable → List Term → List Ty → Type 0
 AreTypedValues d V [] [] = Unit {0}
@@ -113,7 +115,15 @@ ConvertEach (t ∷ ts) (u ∷ us) = Converts t u × ConvertEach ts us
 ConvertEach [] (u ∷ us) = ⊥
 ConvertEach (t ∷ ts) [] = ⊥
 
--- the instance is, up to conversion, what a closing that solves the pairs makes of the answer
+-- a closed instance of the answer: what a closing that solves the pairs makes of it
+pub record IsClosedInstance (d : Declared) (y : AnswerTyping) (a : Answer) (i : Instance) : Type 0 where
+  pub closing : Closing
+  pub closes : Closes d y.variables closing
+  pub solves : SolvesAll closing a.pairs
+  pub types : map (instance closing.types) a.types ≡ i.types
+  pub values : map (closed closing) a.values ≡ i.values
+
+-- the same up to conversion of the values
 pub record IsInstance (d : Declared) (y : AnswerTyping) (a : Answer) (i : Instance) : Type 0 where
   pub closing : Closing
   pub closes : Closes d y.variables closing
@@ -136,18 +146,18 @@ pub record IsProvable (d : Declared) (P : List ClauseFormula) (q : Query) (i : I
   pub types : length i.types ≡ q.type_vars
   pub types_closed : AreClosed i.types
   pub values : AreWitnesses d i.values (map (instance (type_at i.types)) q.vars)
-  pub proved : Provable d [] P (filled q i)
+  pub proved : Provable d (length P) [] P (filled q i)
 
 -- an answer of a search with its typing
 pub record TypedAnswer : Type 0 where
   pub answer : Answer
   pub typing : AnswerTyping
 
--- what was told of a query is right: its answers have typings under which each is well formed, each closed instance of an answer is
--- provable, and after `NoMore` each provable instance is one of an answer
+-- what was told of a query is right: its answers have typings under which each is well formed and each of its closed instances is provable, and after
+-- `NoMore` each provable instance is, up to conversion, one of an answer
 pub record IsRight (d : Declared) (P : List ClauseFormula) (q : Query) (t : Told Answer) : Type 0 where
   pub typed : List TypedAnswer
   pub is : map (λ a. a.answer) typed ≡ t.answers
   pub well_formed : EachOf (λ a. IsWellFormed d q a.typing a.answer) typed
-  pub sound : EachOf (λ a. (i : Instance) → IsInstance d a.typing a.answer i → IsProvable d P q i) typed
+  pub sound : EachOf (λ a. (i : Instance) → IsClosedInstance d a.typing a.answer i → IsProvable d P q i) typed
   pub exhausts : t.ending ≡ Some NoMore → (i : Instance) → IsProvable d P q i → AnyOf (λ a. IsInstance d a.typing a.answer i) typed

@@ -1,19 +1,22 @@
 -- Branches of the plain search of hereditary Harrop goals: goals with their assumptions, levels and cut marks; logic variables and type
 -- variables, numbered in the order made; the terms and types of the query's variables; the residual pairs.
-use Rattle.std.specs.Prelude.{ℕ, List, [], ◌∷◌, map}
-use Rattle.lp_calculus.specs.Types.{Ty}
+use Rattle.std.specs.Prelude.{ℕ, List, [], ◌∷◌, ◌++◌, map}
+use Rattle.lp_calculus.specs.Types.{Ty, instance}
 use Rattle.lp_calculus.specs.Term.{Term}
-use Rattle.lp_calculus.specs.Fill.{Binding, put_all}
+use Rattle.lp_calculus.specs.Fill.{Binding, put, put_all}
+use Rattle.lp_calculus.specs.Instance.{instance_term}
 use Rattle.lp_model.specs.declared.ending.Ending.{Ending}
 use Rattle.lp_model.specs.Types.{TypeBinding, one_type, put_types}
 use Rattle.lp_model.specs.Pair.{Pair, put_types_in}
 use Rattle.lp_model.specs.Unify.{State}
-use Rattle.lp_model.specs.Flat.{Goal, Clause, put_goal, put_clause, type_goal, type_clause}
+use Rattle.lp_model.specs.Flat.{Goal, Clause, Written, map_written, put_goal, put_clause, type_goal, type_clause}
 
--- a goal without loose indices; the assumptions are its own, newest first; a cut in it keeps the oldest `mark` alternatives
+-- a goal without loose indices; the assumptions are its own, newest first, with what stands for the variables that are written in them; a cut in it
+-- keeps the oldest `mark` alternatives
 pub record Entry : Type 0 where
   pub goal : Goal
   pub assumed : List Clause
+  pub written : Written
   pub level : ℕ
   pub mark : ℕ
 
@@ -40,16 +43,30 @@ pub data Task : Type 0 where
   Try : Clause → (goal : Term) → Entry → (rest : Branch) → (mark : ℕ) → Task
   -- the search cannot go on
   Stop : Ending → Task
+  -- the look needs more steps than it was allowed
+  Lack : Task
 
 abbrev pub put_entry : Binding → Entry → Entry
-put_entry b e = record { goal = put_goal b e.goal; assumed = map (put_clause b) e.assumed; level = e.level; mark = e.mark }
+put_entry b e = record {
+  goal = put_goal b e.goal;
+  assumed = map (put_clause b) e.assumed;
+  written = map_written (put b) (λ T. T) e.written;
+  level = e.level;
+  mark = e.mark;
+}
 
 abbrev pub put_entries : List Binding → List Entry → List Entry
 put_entries [] es = es
 put_entries (b ∷ bs) es = put_entries bs (map (put_entry b) es)
 
 abbrev pub type_entry : TypeBinding → Entry → Entry
-type_entry b e = record { goal = type_goal (one_type b) e.goal; assumed = map (type_clause (one_type b)) e.assumed; level = e.level; mark = e.mark }
+type_entry b e = record {
+  goal = type_goal (one_type b) e.goal;
+  assumed = map (type_clause (one_type b)) e.assumed;
+  written = map_written (instance_term (one_type b)) (instance (one_type b)) e.written;
+  level = e.level;
+  mark = e.mark;
+}
 
 abbrev pub type_entries : List TypeBinding → List Entry → List Entry
 type_entries [] es = es
@@ -66,6 +83,13 @@ resume b s = record {
   pairs = s.delayed;
 }
 
-abbrev pub entries : List Goal → List Clause → (level mark : ℕ) → List Entry
-entries [] assumed level mark = []
-entries (g ∷ gs) assumed level mark = record { goal = g; assumed = assumed; level = level; mark = mark } ∷ entries gs assumed level mark
+abbrev pub entries : List Goal → List Clause → Written → (level mark : ℕ) → List Entry
+entries [] assumed written level mark = []
+entries (g ∷ gs) assumed written level mark = record { goal = g; assumed = assumed; written = written; level = level; mark = mark } ∷ entries gs assumed written level mark
+
+-- of an assumption, and of those before it
+abbrev pub both_written : Written → Written → Written
+both_written v w = record { terms = v.terms ++ w.terms; types = v.types ++ w.types }
+
+abbrev pub nothing_written : Written
+nothing_written = record { terms = []; types = [] }

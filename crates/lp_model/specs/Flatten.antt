@@ -11,7 +11,7 @@ use Rattle.lp_standard.specs.Constants.{is_declared}
 use Rattle.lp_standard.specs.Connectives.{Connective, connective_of}
 use Rattle.lp_standard.specs.Connectives as connective
 use Rattle.lp_standard.specs.Positive.{are_positive}
-use Rattle.lp_model.specs.Flat.{Atomic, Cut, Either, Exists, Forall, Assume, Goals, no_goals, goals, clause, Clauses, no_clauses, clauses, add_clauses, raise_goals}
+use Rattle.lp_model.specs.Flat.{Atomic, Cut, Either, Exists, Forall, Goals, no_goals, goals, clause, Clauses, no_clauses, clauses, add_clauses, raise_goals, assuming, denied}
 
 -- the declared type ends in `o`
 abbrev pub ends_in_o : Ty → Bool
@@ -68,14 +68,13 @@ abbrev mutual
   flat_goal_form (suc n) d binders t (connective.Or a b) rest =
       flat_goal n d binders a no_goals >>= λ l. option_map (λ r. goals (Either l r) rest) (flat_goal n d binders b no_goals)
   flat_goal_form (suc n) d binders t (connective.Implies c g) rest =
-      flat_clause n d binders c [] [] >>= λ cs. option_map (λ gs. goals (Assume cs gs) rest) (flat_goal n d binders g no_goals)
+      flat_clause n d binders c [] [] >>= λ cs. option_map (λ gs. goals (assuming cs gs) rest) (flat_goal n d binders g no_goals)
   flat_goal_form (suc n) d binders t (connective.ForAll T b) rest =
       option_map (λ gs. goals (Forall T gs) rest) (flat_goal n d (true ∷ binders) b no_goals)
   -- takes the goals that follow into its scope
   flat_goal_form (suc n) d binders t (connective.Exists T b) rest =
       option_map (λ gs. goals (Exists T gs) no_goals) (flat_goal n d (false ∷ binders) b (raise_goals 0 rest))
-  -- `not` is no goal yet
-  flat_goal_form (suc n) d binders t (connective.Not g) rest = None
+  flat_goal_form (suc n) d binders t (connective.Not g) rest = option_map (λ gs. goals (denied gs) rest) (flat_goal n d binders g no_goals)
   flat_goal_form (suc n) d binders t connective.Atomic rest = only (is_goal_head (head_of t) && are_positive (arguments t)) (goals (Atomic t) rest)
 
   -- the goals of a list of formulas, one behind the other

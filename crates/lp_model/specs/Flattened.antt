@@ -4,7 +4,7 @@ use Rattle.lp_term.specs.Nodes.{Nodes, tree, type_tree}
 use Rattle.lp_model.specs.declared.clause.Goal as code
 use Rattle.lp_model.specs.declared.clause.Goal.TheOpen.{Goal-F}
 use Rattle.lp_model.specs.declared.clause.Clause as code_clause
-use Rattle.lp_model.specs.Flat.{Goal, Atomic, Cut, Either, Exists, Forall, Assume, Not, Goals, no_goals, goals, Clause, clause, Clauses, no_clauses, clauses}
+use Rattle.lp_model.specs.Flat.{Goal, Atomic, Cut, Either, Exists, Forall, Goals, no_goals, goals, Clause, clause, Clauses, no_clauses, clauses, assuming, denied}
 
 abbrev pub goals_in : List Goal → Goals
 goals_in [] = no_goals
@@ -21,8 +21,8 @@ goal_top b Goal-F.Cut = Cut
 goal_top b (Goal-F.Either l r) = Either (goals_in l.items) (goals_in r.items)
 goal_top b (Goal-F.Some T l) = Exists (type_tree b T.0) (goals_in l.items)
 goal_top b (Goal-F.All T l) = Forall (type_tree b T.0) (goals_in l.items)
-goal_top b (Goal-F.Assume cs l) = Assume (clauses_in cs.items) (goals_in l.items)
-goal_top b (Goal-F.Not l) = Not (goals_in l.items)
+goal_top b (Goal-F.Assume cs l) = assuming (clauses_in cs.items) (goals_in l.items)
+goal_top b (Goal-F.Not l) = denied (goals_in l.items)
 
 abbrev pub clause_top : Nodes → code_clause.Clause-F Goal Clause → Clause
 clause_top b c = clause c.type_vars (map (λ T. type_tree b T.0) c.vars.items) (tree b c.head.0) (goals_in c.body.items)

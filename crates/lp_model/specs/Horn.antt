@@ -6,7 +6,7 @@ use Rattle.lp_calculus.specs.Typing.{Scheme, Context, Typed, scheme_type, o_type
 use Rattle.lp_calculus.specs.Closed.{IsClosedAt}
 use Rattle.lp_standard.specs.Positive.{IsPositive}
 use Rattle.lp_standard.specs.Constants.{first_declared}
-use Rattle.lp_model.specs.Faithful.{EachOf}
+use Rattle.lp_lemmas.specs.Each.{EachOf}
 
 -- a flattened clause: its variables are the indices below their number. X says what is kept of them: their types, or only how many they are
 pub record ClauseOf (X : Type 0) : Type 0 where

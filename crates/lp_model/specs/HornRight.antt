@@ -5,7 +5,7 @@ use Rattle.lp_calculus.specs.Term.{Term}
 use Rattle.lp_calculus.specs.Fill.{close}
 use Rattle.lp_model.specs.declared.ending.Ending.TheVariants.{NoMore}
 use Rattle.lp_model.specs.Skeleton.{Told, run}
-use Rattle.lp_model.specs.Faithful.{AnyOf, EachOf}
+use Rattle.lp_lemmas.specs.Each.{AnyOf, EachOf}
 use Rattle.lp_model.specs.Horn.{Declared, Clause, Query, counted, counted_query, IsValue, IsClause, IsQuery, AreArguments}
 use Rattle.lp_model.specs.HornProofs.{IsProvable}
 use Rattle.lp_model.specs.HornSearch.{AnswerOf, by_number, look, start}
@@ -52,5 +52,5 @@ pub record IsRightCounted (d : Declared) (P : List Clause) (q : Query) (t : Told
 -- each run of the search on well-typed clauses and a well-typed query is right, however far it went
 abbrev pub HornSearchIsRight : Type 0
 HornSearchIsRight =
-    (d : Declared) (P : List Clause) (q : Query) → EachOf (IsClause d) P → IsQuery d q → (steps answers n : ℕ) →
-    IsRightCounted d P q (run (look by_number (map counted P)) n (start by_number (counted_query q) steps answers))
+    (d : Declared) (P : List Clause) (q : Query) → EachOf (IsClause d) P → IsQuery d q → (steps answers j n : ℕ) →
+    IsRightCounted d P q (run (look by_number (map counted P)) j n (start by_number (counted_query q) steps answers))

@@ -1,16 +1,18 @@
 -- A run as the list of its moves: its answers, notes and steps are functions of that list.
 use Rattle.std.specs.Prelude.{ℕ, zero, suc, List, [], ◌∷◌, None}
-use Rattle.lp_model.specs.Skeleton.{View, State, Note, GoalNote, BackNote, AnswerNote, CutNote, Move, Goes, Tells, Stops, Told, move, told_after}
+use Rattle.lp_model.specs.Skeleton.{View, State, Note, GoalNote, BackNote, AnswerNote, CutNote, Move, Goes, Tells, Stops, Breaks, Waits, Told, move, inner, told_after}
 
 abbrev pub moves_after : {Task Answer : Type 0} → (State Task → List (Move Task Answer)) → Move Task Answer → List (Move Task Answer)
 moves_after go (Goes k ns s) = Goes k ns s ∷ go s
 moves_after go (Tells a ns s) = Tells a ns s ∷ go s
 moves_after go (Stops e) = Stops e ∷ []
+moves_after go (Breaks k ns e) = Breaks k ns e ∷ []
+moves_after go (Waits k ns) = Waits k ns ∷ []
 
--- the first n moves of a search, up to its end
-abbrev pub moves : {Task Answer : Type 0} → (ℕ → Task → View Task Answer) → ℕ → State Task → List (Move Task Answer)
-moves look zero s = []
-moves look (suc n) s = moves_after (moves look n) (move look s)
+-- the first n moves of a search, up to its end, with at most j in each search of a negated goal
+abbrev pub moves : {Task Answer : Type 0} → (ℕ → Task → View Task Answer) → (j n : ℕ) → State Task → List (Move Task Answer)
+moves look j zero s = []
+moves look j (suc n) s = moves_after (moves look j n) (move (inner look j) look s)
 
 -- what a list of moves tells
 abbrev pub told_of : {Task Answer : Type 0} → List (Move Task Answer) → Told Answer

@@ -1,6 +1,6 @@
 -- Uniform proofs (Miller, Nadathur, Pfenning and Scedrov 1991) of raw formulas, as a test on a pair of trees: a proof of a goal, and a
--- focus on a clause for an atom.
-use Rattle.std.specs.Prelude.{◌≡◌, ℕ, suc, ◌≤◌, List, [], ◌∷◌, ◌++◌, length, Option, Some, None, slice_get, Bool, true, false, ◌⊎◌, ℤ}
+-- focus on a clause for an atom. A negated goal is proved by a search of the goal that fails, which is a leaf (Clark 1978: negation as failure).
+use Rattle.std.specs.Prelude.{◌≡◌, ℕ, suc, ◌<◌, ◌≤◌, List, [], ◌∷◌, ◌++◌, length, take, drop, Option, Some, None, slice_get, Bool, true, false, ◌⊎◌, ℤ}
 use Rattle.lp_calculus.specs.Types.{Ty}
 use Rattle.lp_calculus.specs.Term.{Term, index, atom, abs, app, constant, integer, text, eigen, logic, param}
 use Rattle.lp_calculus.specs.Convert.{Converts}
@@ -11,8 +11,14 @@ use Rattle.lp_standard.specs.Positive.{IsPositive}
 use Rattle.lp_calculus.specs.Spine.{head_of}
 use Rattle.lp_standard.specs.Numbers as number
 use Rattle.lp_standard.specs.Constants.{first_declared}
-use Rattle.lp_standard.specs.Connectives.{truth, cut, two, pi_of, sigma_of}
-use Rattle.lp_model.specs.Flatten.{ClauseFormula}
+use Rattle.lp_standard.specs.Connectives.{truth, cut, two, pi_of, sigma_of, not_of}
+use Rattle.lp_model.specs.declared.ending.Ending.TheVariants.{NoMore}
+use Rattle.lp_model.specs.Index.{instantiate}
+use Rattle.lp_model.specs.Flat.{Goals, Clause, Clauses, Written, goal_list, clause_list, no_goals, instantiate_goals, instantiate_clauses, type_goals, type_clauses}
+use Rattle.lp_model.specs.Flatten.{ClauseFormula, flat_goal, flat_clause, flatten}
+use Rattle.lp_model.specs.Skeleton.{State, Told, starts_within, run}
+use Rattle.lp_model.specs.Branch.{Answer, Task, Go, entries}
+use Rattle.lp_model.specs.Search.{look}
 use Rattle.lp_model.specs.Values.{Value, Number, HasValue, term_of, ordered}
 
 abbrev pub Declared : Type 0
@@ -38,6 +44,19 @@ pub record IsWitness (d : Declared) (E : List Ty) (t : Term) (T : Ty) : Type 0 w
   pub positive : IsPositive t
   pub type_closed : IsClosedType T
 
+-- a search: its limit on steps, on the units of a unification and on goals taken apart in a row, steps that are enough for each look and for the run, the
+-- numbers of the next variables, its goals, the clauses of each assumption in order with what is written in them, and its program
+pub record Failure : Type 0 where
+  pub limit : ℕ
+  pub looks : ℕ
+  pub moves : ℕ
+  pub next : ℕ
+  pub next_type : ℕ
+  pub goals : Goals
+  pub assumed : List Clauses
+  pub written : Written
+  pub program : List Clause
+
 mutual
   pub data Proof : Type 0 where
     -- of a formula that the goal converts to
@@ -54,6 +73,8 @@ mutual
     Arith : Proof
     -- by a clause of the program with types for its type variables
     Back : (clause : ℕ) → (types : List Ty) → Focus → Proof
+    -- of a negated goal, by a search that fails
+    Fails : Failure → Proof
 
   pub data Focus : Type 0 where
     FConv : Term → Focus → Focus
@@ -89,51 +110,152 @@ IsImplication G D A = (G ≡ two number.Implies [] D A) ⊎ (G ≡ two number.If
 abbrev pub assumed : Term → ClauseFormula
 assumed D = record { type_vars = 0; formula = D }
 
+-- how a formula with variables is filled: types, and positive terms for the variables, of which each that heads a clause becomes an eigenconstant
+pub record Filling : Type 0 where
+  pub types : ℕ → Ty
+  pub terms : ℕ → Term
+  -- of each variable, whether it heads clauses
+  pub heads : List Bool
+
+pub record IsFilling (f : Filling) : Type 0 where
+  pub positive : (i : ℕ) → i < length f.heads → IsPositive (f.terms i)
+  pub heads : (i : ℕ) → slice_get f.heads i ≡ Some true → (k : ℕ) × (f.terms i ≡ atom (eigen k))
+
+abbrev pub filled_formula : Filling → Term → Term
+filled_formula f t = instantiate f.terms (instance_term f.types t)
+
+-- the goals stand for the formula G: they are those of some formula with variables, filled, which filled in the same way converts to G
+pub record StandsForGoal (d : Declared) (G : Term) (gs : Goals) : Type 0 where
+  pub filling : Filling
+  pub is_filling : IsFilling filling
+  pub formula : Term
+  pub converts : Converts (filled_formula filling formula) G
+  pub depth : ℕ
+  pub flat : Goals
+  pub flattened : flat_goal depth d filling.heads formula no_goals ≡ Some flat
+  pub is : gs ≡ instantiate_goals filling.terms (type_goals filling.types flat)
+
+-- the same of clauses
+pub record StandsForClause (d : Declared) (D : Term) (cs : Clauses) : Type 0 where
+  pub filling : Filling
+  pub is_filling : IsFilling filling
+  pub formula : Term
+  pub converts : Converts (filled_formula filling formula) D
+  pub depth : ℕ
+  pub flat : Clauses
+  pub flattened : flat_clause depth d filling.heads formula [] [] ≡ Some flat
+  pub is : cs ≡ instantiate_clauses filling.terms (type_clauses filling.types flat)
+
+abbrev pub StandForClauses : Declared → List ClauseFormula → List Clauses → Type 0
+StandForClauses d [] [] = Unit {0}
+StandForClauses d (D ∷ Ds) (cs ∷ css) = StandsForClause d D.formula cs × StandForClauses d Ds css
+StandForClauses d [] (cs ∷ css) = ⊥
+StandForClauses d (D ∷ Ds) [] = ⊥
+
+-- these clauses are those of the formulas, in order
+abbrev pub AreFlattened : Declared → List ClauseFormula → List Clause → Type 0
+AreFlattened d [] P = P ≡ []
+AreFlattened d (D ∷ Ds) P = (depth : ℕ) × (cs : Clauses) × (Q : List Clause) × (flatten depth d D ≡ Some cs) × AreFlattened d Ds Q × (P ≡ clause_list cs ++ Q)
+
+-- the clauses of the last list first
+abbrev pub newest_first : List Clauses → List Clause
+newest_first [] = []
+newest_first (cs ∷ css) = newest_first css ++ clause_list cs
+
+-- what the search of the goals at a level tells
+abbrev pub failure_state : (level : ℕ) → Failure → State Task
+failure_state level f = starts_within f.limit (Go (record {
+  next = f.next;
+  next_type = f.next_type;
+  goals = entries (goal_list f.goals) (newest_first f.assumed) f.written level 0;
+  types = [];
+  values = [];
+  pairs = [];
+})) f.limit 1
+
+abbrev pub failure_told : (level : ℕ) → Failure → Told Answer
+failure_told level f = run (look f.limit f.looks f.program) f.moves f.moves (failure_state level f)
+
+-- a search that fails for the goal G at a level, where the first k formulas of P are the program and the others are assumed
+pub record IsFailure (d : Declared) (k level : ℕ) (P : List ClauseFormula) (G : Term) (f : Failure) : Type 0 where
+  pub goals : StandsForGoal d G f.goals
+  pub assumed : StandForClauses d (drop k P) f.assumed
+  pub program : AreFlattened d (take k P) f.program
+  pub ends : (failure_told level f).ending ≡ Some NoMore
+  pub gives_none : (failure_told level f).answers ≡ []
+
+-- which searches may stand as leaves, at a level, where these are the clauses, for this goal
+abbrev pub Leaves : Type 1
+Leaves = (level : ℕ) → List ClauseFormula → Term → Failure → Type 0
+
 -- E are the types of the eigenconstants, P the clauses
 abbrev mutual
-  pub proves : Declared → (E : List Ty) → (P : List ClauseFormula) → (G : Term) → Proof → Type 0
-  proves d E P G (Conv H p) = IsFormula d E H × Converts H G × proves d E P H p
-  proves d E P G True = (G ≡ truth) ⊎ (G ≡ cut)
-  proves d E P G (And p q) = (A : Term) × (B : Term) × (G ≡ two number.And [] A B) × proves d E P A p × proves d E P B q
-  proves d E P G (Left p) = (A : Term) × (B : Term) × (G ≡ two number.Or [] A B) × proves d E P A p
-  proves d E P G (Right p) = (A : Term) × (B : Term) × (G ≡ two number.Or [] A B) × proves d E P B p
-  proves d E P G (Witness t p) = (T : Ty) × (s : Term) × (G ≡ sigma_of T s) × IsWitness d E t T × proves d E P (app s t) p
-  proves d E P G (All p) = (T : Ty) × (s : Term) × (G ≡ pi_of T s) × proves d (E ++ T ∷ []) P (app s (atom (eigen (suc (length E))))) p
-  proves d E P G (Assume p) = (D : Term) × (A : Term) × IsImplication G D A × proves d E (P ++ assumed D ∷ []) A p
-  proves d E P G Equal = (T : Ty) × (t : Term) × (u : Term) × (G ≡ two number.Equal (T ∷ []) t u) × Converts t u
-  proves d E P G Arith = IsArith G
-  proves d E P G (Back i ts f) = (D : ClauseFormula) × (slice_get P i ≡ Some D) × (length ts ≡ D.type_vars) × AreClosed ts × IsAtomHead (head_of G) × focuses d E P (instance_term (type_at ts) D.formula) G f
+  pub proves_by : (L : Leaves) → Declared → (E : List Ty) → (P : List ClauseFormula) → (G : Term) → Proof → Type 0
+  proves_by L d E P G (Conv H p) = IsFormula d E H × Converts H G × proves_by L d E P H p
+  proves_by L d E P G True = (G ≡ truth) ⊎ (G ≡ cut)
+  proves_by L d E P G (And p q) = (A : Term) × (B : Term) × (G ≡ two number.And [] A B) × proves_by L d E P A p × proves_by L d E P B q
+  proves_by L d E P G (Left p) = (A : Term) × (B : Term) × (G ≡ two number.Or [] A B) × proves_by L d E P A p
+  proves_by L d E P G (Right p) = (A : Term) × (B : Term) × (G ≡ two number.Or [] A B) × proves_by L d E P B p
+  proves_by L d E P G (Witness t p) = (T : Ty) × (s : Term) × (G ≡ sigma_of T s) × IsWitness d E t T × proves_by L d E P (app s t) p
+  proves_by L d E P G (All p) = (T : Ty) × (s : Term) × (G ≡ pi_of T s) × proves_by L d (E ++ T ∷ []) P (app s (atom (eigen (suc (length E))))) p
+  proves_by L d E P G (Assume p) = (D : Term) × (A : Term) × IsImplication G D A × proves_by L d E (P ++ assumed D ∷ []) A p
+  proves_by L d E P G Equal = (T : Ty) × (t : Term) × (u : Term) × (G ≡ two number.Equal (T ∷ []) t u) × Converts t u
+  proves_by L d E P G Arith = IsArith G
+  proves_by L d E P G (Back i ts f) = (D : ClauseFormula) × (slice_get P i ≡ Some D) × (length ts ≡ D.type_vars) × AreClosed ts × IsAtomHead (head_of G) × focuses_by L d E P (instance_term (type_at ts) D.formula) G f
+  proves_by L d E P G (Fails f) = (H : Term) × (G ≡ not_of H) × L (length E) P H f
 
   -- on the clause D for the atom A
-  pub focuses : Declared → (E : List Ty) → (P : List ClauseFormula) → (D A : Term) → Focus → Type 0
-  focuses d E P D A (FConv H f) = IsFormula d E H × Converts H D × focuses d E P H A f
-  focuses d E P D A (FAll t f) = (T : Ty) × (s : Term) × (D ≡ pi_of T s) × IsWitness d E t T × focuses d E P (app s t) A f
-  focuses d E P D A (FTake true f) = (B : Term) × (C : Term) × (D ≡ two number.And [] B C) × focuses d E P C A f
-  focuses d E P D A (FTake false f) = (B : Term) × (C : Term) × (D ≡ two number.And [] B C) × focuses d E P B A f
-  focuses d E P D A (FNeed p f) = (G : Term) × (B : Term) × IsImplication D G B × proves d E P G p × focuses d E P B A f
-  focuses d E P D A FHit = Converts D A
+  pub focuses_by : (L : Leaves) → Declared → (E : List Ty) → (P : List ClauseFormula) → (D A : Term) → Focus → Type 0
+  focuses_by L d E P D A (FConv H f) = IsFormula d E H × Converts H D × focuses_by L d E P H A f
+  focuses_by L d E P D A (FAll t f) = (T : Ty) × (s : Term) × (D ≡ pi_of T s) × IsWitness d E t T × focuses_by L d E P (app s t) A f
+  focuses_by L d E P D A (FTake true f) = (B : Term) × (C : Term) × (D ≡ two number.And [] B C) × focuses_by L d E P C A f
+  focuses_by L d E P D A (FTake false f) = (B : Term) × (C : Term) × (D ≡ two number.And [] B C) × focuses_by L d E P B A f
+  focuses_by L d E P D A (FNeed p f) = (G : Term) × (B : Term) × IsImplication D G B × proves_by L d E P G p × focuses_by L d E P B A f
+  focuses_by L d E P D A FHit = Converts D A
 
-pub record Provable (d : Declared) (E : List Ty) (P : List ClauseFormula) (G : Term) : Type 0 where
+pub record ProvableBy (L : Leaves) (d : Declared) (E : List Ty) (P : List ClauseFormula) (G : Term) : Type 0 where
   pub proof : Proof
-  pub holds : proves d E P G proof
+  pub holds : proves_by L d E P G proof
+
+pub record FocusableBy (L : Leaves) (d : Declared) (E : List Ty) (P : List ClauseFormula) (D A : Term) : Type 0 where
+  pub focus : Focus
+  pub holds : focuses_by L d E P D A focus
+
+-- the first k clauses of P are the program's
+abbrev pub Provable : Declared → (k : ℕ) → (E : List Ty) → (P : List ClauseFormula) → (G : Term) → Type 0
+Provable d k E P G = ProvableBy (IsFailure d k) d E P G
+
+abbrev pub Focusable : Declared → (k : ℕ) → (E : List Ty) → (P : List ClauseFormula) → (D A : Term) → Type 0
+Focusable d k E P D A = FocusableBy (IsFailure d k) d E P D A
+
+-- no search stands as a leaf
+abbrev pub no_leaf : Leaves
+no_leaf level P G f = ⊥
+
+-- by a proof without failing searches
+abbrev pub PlainlyProvable : Declared → (E : List Ty) → (P : List ClauseFormula) → (G : Term) → Type 0
+PlainlyProvable d E P G = ProvableBy no_leaf d E P G
+
+abbrev pub PlainlyFocusable : Declared → (E : List Ty) → (P : List ClauseFormula) → (D A : Term) → Type 0
+PlainlyFocusable d E P D A = FocusableBy no_leaf d E P D A
 
 -- each clause of P stands in R, maybe elsewhere
 pub record Stands (P R : List ClauseFormula) : Type 0 where
   pub at : (i : ℕ) (D : ClauseFormula) → slice_get P i ≡ Some D → (j : ℕ) × (slice_get R j ≡ Some D)
 
-pub record Focusable (d : Declared) (E : List Ty) (P : List ClauseFormula) (D A : Term) : Type 0 where
-  pub focus : Focus
-  pub holds : focuses d E P D A focus
-
 -- how a formula is proved, where the proof does not begin with a conversion
-pub data Rooted (d : Declared) (E : List Ty) (P : List ClauseFormula) (G : Term) : Type 0 where
-  trivially : (G ≡ truth) ⊎ (G ≡ cut) → Rooted d E P G
-  both_sides : (A B : Term) → G ≡ two number.And [] A B → Provable d E P A → Provable d E P B → Rooted d E P G
-  left_side : (A B : Term) → G ≡ two number.Or [] A B → Provable d E P A → Rooted d E P G
-  right_side : (A B : Term) → G ≡ two number.Or [] A B → Provable d E P B → Rooted d E P G
-  at_witness : (T : Ty) → (s t : Term) → G ≡ sigma_of T s → IsWitness d E t T → Provable d E P (app s t) → Rooted d E P G
-  for_all : (T : Ty) → (s : Term) → G ≡ pi_of T s → Provable d (E ++ T ∷ []) P (app s (atom (eigen (suc (length E))))) → Rooted d E P G
-  under_assumption : (D A : Term) → IsImplication G D A → Provable d E (P ++ assumed D ∷ []) A → Rooted d E P G
-  equally : (T : Ty) → (t u : Term) → G ≡ two number.Equal (T ∷ []) t u → Converts t u → Rooted d E P G
-  by_arithmetic : IsArith G → Rooted d E P G
-  by_clause : (i : ℕ) → (D : ClauseFormula) → (ts : List Ty) → slice_get P i ≡ Some D → length ts ≡ D.type_vars → AreClosed ts → IsAtomHead (head_of G) → Focusable d E P (instance_term (type_at ts) D.formula) G → Rooted d E P G
+pub data RootedBy (L : Leaves) (d : Declared) (E : List Ty) (P : List ClauseFormula) (G : Term) : Type 0 where
+  trivially : (G ≡ truth) ⊎ (G ≡ cut) → RootedBy L d E P G
+  both_sides : (A B : Term) → G ≡ two number.And [] A B → ProvableBy L d E P A → ProvableBy L d E P B → RootedBy L d E P G
+  left_side : (A B : Term) → G ≡ two number.Or [] A B → ProvableBy L d E P A → RootedBy L d E P G
+  right_side : (A B : Term) → G ≡ two number.Or [] A B → ProvableBy L d E P B → RootedBy L d E P G
+  at_witness : (T : Ty) → (s t : Term) → G ≡ sigma_of T s → IsWitness d E t T → ProvableBy L d E P (app s t) → RootedBy L d E P G
+  for_all : (T : Ty) → (s : Term) → G ≡ pi_of T s → ProvableBy L d (E ++ T ∷ []) P (app s (atom (eigen (suc (length E))))) → RootedBy L d E P G
+  under_assumption : (D A : Term) → IsImplication G D A → ProvableBy L d E (P ++ assumed D ∷ []) A → RootedBy L d E P G
+  equally : (T : Ty) → (t u : Term) → G ≡ two number.Equal (T ∷ []) t u → Converts t u → RootedBy L d E P G
+  by_arithmetic : IsArith G → RootedBy L d E P G
+  by_clause : (i : ℕ) → (D : ClauseFormula) → (ts : List Ty) → slice_get P i ≡ Some D → length ts ≡ D.type_vars → AreClosed ts → IsAtomHead (head_of G) → FocusableBy L d E P (instance_term (type_at ts) D.formula) G → RootedBy L d E P G
+  by_failure : (H : Term) → G ≡ not_of H → (f : Failure) → L (length E) P H f → RootedBy L d E P G
+
+abbrev pub Rooted : Declared → (k : ℕ) → (E : List Ty) → (P : List ClauseFormula) → (G : Term) → Type 0
+Rooted d k E P G = RootedBy (IsFailure d k) d E P G

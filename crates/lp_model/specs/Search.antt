@@ -1,16 +1,20 @@
--- Plain depth-first search of hereditary Harrop goals, as a look at tasks (Miller, Nadathur, Pfenning and Scedrov 1991; levels of Nadathur 1993).
--- Where a head reduction needs n steps or more the look halts with `Deep`: head reduction of typed terms ends, so a large n never shows.
-use Rattle.std.specs.Prelude.{ℕ, zero, suc, ◌+◌, ◌-◌, nat_eq, nat_lt, Bool, true, false, ◌&&◌, if◌then◌else◌, List, [], ◌∷◌, ◌++◌, map, length, filter, Option, Some, None, option_map}
+-- Plain depth-first search of hereditary Harrop goals with negation as failure, as a look at tasks (Miller, Nadathur, Pfenning and Scedrov 1991; levels of
+-- Nadathur 1993; Clark 1978). Where a head reduction needs n steps or more the look lacks them, and the run has no end: reduction of typed terms ends, so a
+-- large n never shows. Each unification has u units.
+use Rattle.std.specs.Prelude.{◌≡◌, ℕ, zero, suc, ◌+◌, ◌-◌, nat_eq, nat_lt, Bool, true, false, not, ◌&&◌, ◌||◌, if◌then◌else◌, List, [], ◌∷◌, ◌++◌, map, length, filter, Option, Some, None, option_map}
 use Rattle.lp_calculus.specs.Types.{Ty, var}
 use Rattle.lp_calculus.specs.Term.{Term, index, atom, abs, app, substitute, Atom, constant, integer, text, eigen, logic, param}
 use Rattle.lp_calculus.specs.Instance.{instance_term}
 use Rattle.lp_calculus.specs.Normal.{is_absent}
+use Rattle.std.specs.List.{list_any}
+use Rattle.lp_model.specs.declared.ending.Ending.{Ending}
 use Rattle.lp_model.specs.declared.ending.Ending.TheVariants.{Flexible, Arithmetic, OpenNot, Deep}
 use Rattle.lp_model.specs.declared.ending.Fault.TheVariants.{NotClosed}
 use Rattle.lp_model.specs.Index.{instantiate}
 use Rattle.lp_calculus.specs.Spine.{head_of, arguments}
-use Rattle.lp_model.specs.Skeleton.{View, Gives, Opens, Parts, Takes, Cuts, Halts, named, eigenconstant, variable, State, starts}
-use Rattle.lp_model.specs.Look.{head_normal}
+use Rattle.lp_model.specs.Skeleton.{View, Gives, Opens, Parts, Takes, Cuts, Denies, Halts, Lacks, not_constant, named, eigenconstant, variable, State, Told, starts, run}
+use Rattle.lp_model.specs.Look.{head_normal, ◌>>=◌}
+use Rattle.lp_model.specs.Eigens.{beta_normal}
 use Rattle.lp_model.specs.Same.{same_name}
 use Rattle.lp_model.specs.Pair.{Pair}
 use Rattle.lp_model.specs.Rule.{type_pairs}
@@ -19,9 +23,9 @@ use Rattle.lp_standard.specs.Numbers as number
 use Rattle.lp_standard.specs.Constants.{is_order}
 use Rattle.lp_standard.specs.Connectives.{Connective, connective_of}
 use Rattle.lp_standard.specs.Connectives as connective
-use Rattle.lp_model.specs.Flat.{Goal, Atomic, Cut, Either, Exists, Forall, Assume, Not, Goals, Clause, clause, goal_list, clause_list, instantiate_goals, type_goals}
+use Rattle.lp_model.specs.Flat.{Goal, Atomic, Cut, Either, Exists, Forall, Assume, Not, Written, Goals, Clause, clause, goal_list, clause_list, instantiate_goals, type_goals, type_variables}
 use Rattle.lp_model.specs.Values.{Outcome, Is, Faults, Number, Bytes, evaluate, term_of, ordered}
-use Rattle.lp_model.specs.Branch.{Entry, Branch, Answer, Task, Go, Try, Stop, resume, entries}
+use Rattle.lp_model.specs.Branch.{Entry, Branch, Answer, Task, Go, Try, Stop, Lack, resume, entries, both_written, nothing_written}
 
 -- the branch with these goals
 abbrev pub with_goals : Branch → List Entry → Branch
@@ -29,27 +33,27 @@ with_goals b es = record { next = b.next; next_type = b.next_type; goals = es; t
 
 -- what a unification for the branch leaves; None where more steps are needed
 abbrev pub follow : Branch → Option Unified → List Task
-follow b None = Stop Deep ∷ []
+follow b None = Lack ∷ []
 follow b (Some Spent) = Stop Deep ∷ []
 follow b (Some Fail) = []
 follow b (Some (Solution s)) = Go (resume b s) ∷ []
 
 -- two terms made one, in a branch
-abbrev pub equated : ℕ → (level : ℕ) → (left right : Term) → Branch → List Task
-equated n level t u b = follow b (solve n unit_limit [] (record { left = t; right = u; level = level } ∷ []) b.pairs b.next)
+abbrev pub equated : (u n : ℕ) → (level : ℕ) → (left right : Term) → Branch → List Task
+equated u n level s t b = follow b (solve n u [] (record { left = s; right = t; level = level } ∷ []) b.pairs b.next)
 
 -- arithmetic
 
-abbrev pub assigned : ℕ → (level : ℕ) → Term → Branch → Option Outcome → List Task
-assigned n level t b None = Stop Deep ∷ []
-assigned n level t b (Some (Faults f)) = Stop (Arithmetic f) ∷ []
-assigned n level t b (Some (Is v)) = equated n level t (term_of v) b
+abbrev pub assigned : (u n : ℕ) → (level : ℕ) → Term → Branch → Option Outcome → List Task
+assigned u n level t b None = Lack ∷ []
+assigned u n level t b (Some (Faults f)) = Stop (Arithmetic f) ∷ []
+assigned u n level t b (Some (Is v)) = equated u n level t (term_of v) b
 
 abbrev pub compared : ℕ → Branch → Option Outcome → Option Outcome → List Task
-compared c b None r = Stop Deep ∷ []
+compared c b None r = Lack ∷ []
 compared c b (Some (Faults f)) r = Stop (Arithmetic f) ∷ []
 compared c b (Some (Is (Bytes s))) r = Stop (Arithmetic NotClosed) ∷ []
-compared c b (Some (Is (Number x))) None = Stop Deep ∷ []
+compared c b (Some (Is (Number x))) None = Lack ∷ []
 compared c b (Some (Is (Number x))) (Some (Faults f)) = Stop (Arithmetic f) ∷ []
 compared c b (Some (Is (Number x))) (Some (Is (Bytes s))) = Stop (Arithmetic NotClosed) ∷ []
 compared c b (Some (Is (Number x))) (Some (Is (Number y))) = if ordered c x y then Go b ∷ [] else []
@@ -135,58 +139,93 @@ pairs_of σ level earlier hs ts = []
 abbrev pub renewed : (type_vars next_type : ℕ) → ℕ → Ty
 renewed k next i = if nat_lt i k then var (next + i) else var i
 
-abbrev pub tried : ℕ → (type_vars : ℕ) → (vars : List Ty) → (head : Term) → (body : Goals) → (goal : Term) → Entry → Branch → (mark : ℕ) → (σ : ℕ → Term) → List Task
-tried n k vs h body t e b mark σ = follow (record {
+abbrev pub tried : (u n : ℕ) → (type_vars : ℕ) → (vars : List Ty) → (head : Term) → (body : Goals) → (goal : Term) → Entry → Branch → (mark : ℕ) → (σ : ℕ → Term) → List Task
+tried u n k vs h body t e b mark σ = follow (record {
   next = b.next + length vs;
   next_type = b.next_type + k;
-  goals = entries (goal_list (instantiate_goals σ body)) e.assumed e.level mark ++ b.goals;
+  goals = entries (goal_list (instantiate_goals σ body)) e.assumed e.written e.level mark ++ b.goals;
   types = b.types;
   values = b.values;
   pairs = b.pairs;
-}) (solve n unit_limit (type_pairs (head_of t) (head_of h)) (pairs_of σ e.level [] (arguments h) (arguments t)) b.pairs (b.next + length vs))
+}) (solve n u (type_pairs (head_of t) (head_of h)) (pairs_of σ e.level [] (arguments h) (arguments t)) b.pairs (b.next + length vs))
 
 -- with types for its type variables
-abbrev pub typed_try : ℕ → (type_vars : ℕ) → (vars : List Ty) → (head : Term) → (body : Goals) → (goal : Term) → Entry → Branch → (mark : ℕ) → List Task
-typed_try n k vs h body t e b mark = tried n k vs h body t e b mark (slotted (slots_of [] (arguments h) (arguments t)) b.next e.level)
+abbrev pub typed_try : (u n : ℕ) → (type_vars : ℕ) → (vars : List Ty) → (head : Term) → (body : Goals) → (goal : Term) → Entry → Branch → (mark : ℕ) → List Task
+typed_try u n k vs h body t e b mark = tried u n k vs h body t e b mark (slotted (slots_of [] (arguments h) (arguments t)) b.next e.level)
 
-abbrev pub try_clause : ℕ → Clause → (goal : Term) → Entry → Branch → (mark : ℕ) → List Task
-try_clause n (clause k vs h body) t e b mark =
-    typed_try n k vs (instance_term (renewed k b.next_type) h) (type_goals (renewed k b.next_type) body) t e b mark
+abbrev pub try_clause : (u n : ℕ) → Clause → (goal : Term) → Entry → Branch → (mark : ℕ) → List Task
+try_clause u n (clause k vs h body) t e b mark =
+    typed_try u n k vs (instance_term (renewed k b.next_type) h) (type_goals (renewed k b.next_type) body) t e b mark
+
+-- whether a variable stands in what a negated goal speaks of
+
+abbrev pub is_variable : Atom → Bool
+is_variable (logic x l) = true
+is_variable (constant c ts) = false
+is_variable (integer z) = false
+is_variable (text s) = false
+is_variable (eigen k) = false
+is_variable (param k t) = false
+
+abbrev pub has_variable : Term → Bool
+has_variable (index i) = false
+has_variable (atom a) = is_variable a
+has_variable (abs b) = has_variable b
+has_variable (app t u) = has_variable t || has_variable u
+
+abbrev pub has_type_variable : Ty → Bool
+has_type_variable T = not (is_empty (type_variables T))
+  where
+    is_empty : List ℕ → Bool
+    is_empty [] = true
+    is_empty (i ∷ is) = false
+
+abbrev pub beta_normals : ℕ → List Term → Option (List Term)
+beta_normals n [] = Some []
+beta_normals n (t ∷ ts) = beta_normal n t >>= λ s. option_map (λ ss. s ∷ ss) (beta_normals n ts)
+
+-- in the beta-normal form of one of the terms, or in one of the types; None where more steps are needed
+abbrev pub has_variables : ℕ → Written → Option Bool
+has_variables n w = option_map (λ ts. list_any has_variable ts || list_any has_type_variable w.types) (beta_normals n w.terms)
+
+-- an answer that holds as it stands
+abbrev pub has_no_pairs : Answer → Bool
+has_no_pairs a = nat_eq (length a.pairs) 0
 
 -- a goal known only at run time, by its head-normal form
 
 -- each candidate as a task, where the key of the goal's first argument was found
 abbrev pub tries : (program : List Clause) → (goal : Term) → Entry → (rest : Branch) → (mark : ℕ) → Option (Option Atom) → List Task
-tries P t e b mark None = Stop Deep ∷ []
+tries P t e b mark None = Lack ∷ []
 tries P t e b mark (Some key) = map (λ c. Try c t e b mark) (candidates P e.assumed t key)
 
 -- the goals of the entry's place
 abbrev pub in_place : Entry → List Term → List Entry
 in_place e [] = []
-in_place e (t ∷ ts) = record { goal = Atomic t; assumed = e.assumed; level = e.level; mark = e.mark } ∷ in_place e ts
+in_place e (t ∷ ts) = record { goal = Atomic t; assumed = e.assumed; written = e.written; level = e.level; mark = e.mark } ∷ in_place e ts
 
 abbrev pub at_next_level : Entry → Term → Entry
-at_next_level e t = record { goal = Atomic t; assumed = e.assumed; level = suc e.level; mark = e.mark }
+at_next_level e t = record { goal = Atomic t; assumed = e.assumed; written = e.written; level = suc e.level; mark = e.mark }
 
 -- the atom takes a step; b is the rest of the branch, its goals those behind the atom
-abbrev pub look_constant : ℕ → List Clause → (height : ℕ) → Entry → Branch → Term → (constant : ℕ) → List Term → List Task
-look_constant n P height e b t c (l ∷ r ∷ []) =
-    if nat_eq c number.Equal then equated n e.level l r b else (if nat_eq c number.Is then assigned n e.level l b (evaluate n r) else (if is_order c then compared c b (evaluate n l) (evaluate n r) else tries P t e b height (goal_key n (arguments t))))
-look_constant n P height e b t c ts = tries P t e b height (goal_key n (arguments t))
+abbrev pub look_constant : (u n : ℕ) → List Clause → (height : ℕ) → Entry → Branch → Term → (constant : ℕ) → List Term → List Task
+look_constant u n P height e b t c (l ∷ r ∷ []) =
+    if nat_eq c number.Equal then equated u n e.level l r b else (if nat_eq c number.Is then assigned u n e.level l b (evaluate n r) else (if is_order c then compared c b (evaluate n l) (evaluate n r) else tries P t e b height (goal_key n (arguments t))))
+look_constant u n P height e b t c ts = tries P t e b height (goal_key n (arguments t))
 
-abbrev pub look_atom : ℕ → List Clause → (height : ℕ) → Entry → Branch → Term → (head : Term) → View Task Answer
-look_atom n P height e b t (atom (constant c ts)) = Takes (named c) (look_constant n P height e b t c (arguments t))
-look_atom n P height e b t (atom (eigen k)) = Takes (eigenconstant k) (tries P t e b height (goal_key n (arguments t)))
-look_atom n P height e b t (atom (logic x l)) = Takes variable (Stop Flexible ∷ [])
+abbrev pub look_atom : (u n : ℕ) → List Clause → (height : ℕ) → Entry → Branch → Term → (head : Term) → View Task Answer
+look_atom u n P height e b t (atom (constant c ts)) = Takes (named c) (look_constant u n P height e b t c (arguments t))
+look_atom u n P height e b t (atom (eigen k)) = Takes (eigenconstant k) (tries P t e b height (goal_key n (arguments t)))
+look_atom u n P height e b t (atom (logic x l)) = Takes variable (Stop Flexible ∷ [])
 -- no well-typed goal has another head
-look_atom n P height e b t h = Takes variable []
+look_atom u n P height e b t h = Takes variable []
 
-abbrev pub look_form : ℕ → List Clause → (height : ℕ) → Entry → Branch → Term → Connective → View Task Answer
-look_form n P height e b t connective.True = Parts (Go b ∷ [])
-look_form n P height e b t (connective.And l r) = Parts (Go (with_goals b (in_place e (l ∷ r ∷ []) ++ b.goals)) ∷ [])
-look_form n P height e b t (connective.Or l r) = Parts (Go (with_goals b (in_place e (l ∷ []) ++ b.goals)) ∷ Go (with_goals b (in_place e (r ∷ []) ++ b.goals)) ∷ [])
-look_form n P height e b t (connective.ForAll T s) = Parts (Go (with_goals b (at_next_level e (substitute (atom (eigen (suc e.level))) s) ∷ b.goals)) ∷ [])
-look_form n P height e b t (connective.Exists T s) = Parts (Go (record {
+abbrev pub look_form : (u n : ℕ) → List Clause → (height : ℕ) → Entry → Branch → Term → Connective → View Task Answer
+look_form u n P height e b t connective.True = Parts (Go b ∷ [])
+look_form u n P height e b t (connective.And l r) = Parts (Go (with_goals b (in_place e (l ∷ r ∷ []) ++ b.goals)) ∷ [])
+look_form u n P height e b t (connective.Or l r) = Parts (Go (with_goals b (in_place e (l ∷ []) ++ b.goals)) ∷ Go (with_goals b (in_place e (r ∷ []) ++ b.goals)) ∷ [])
+look_form u n P height e b t (connective.ForAll T s) = Parts (Go (with_goals b (at_next_level e (substitute (atom (eigen (suc e.level))) s) ∷ b.goals)) ∷ [])
+look_form u n P height e b t (connective.Exists T s) = Parts (Go (record {
   next = suc b.next;
   next_type = b.next_type;
   goals = in_place e (substitute (atom (logic b.next e.level)) s ∷ []) ++ b.goals;
@@ -194,15 +233,15 @@ look_form n P height e b t (connective.Exists T s) = Parts (Go (record {
   values = b.values;
   pairs = b.pairs;
 }) ∷ [])
-look_form n P height e b t connective.Atomic = look_atom n P height e b t (head_of t)
+look_form u n P height e b t connective.Atomic = look_atom u n P height e b t (head_of t)
 -- no positive term is of these forms
-look_form n P height e b t connective.Cut = Takes variable []
-look_form n P height e b t (connective.Implies c g) = Takes variable []
-look_form n P height e b t (connective.Not g) = Takes variable []
+look_form u n P height e b t connective.Cut = Takes variable []
+look_form u n P height e b t (connective.Implies c g) = Takes variable []
+look_form u n P height e b t (connective.Not g) = Takes variable []
 
-abbrev pub look_normal : ℕ → List Clause → (height : ℕ) → Entry → Branch → Option Term → View Task Answer
-look_normal n P height e b None = Halts Deep
-look_normal n P height e b (Some t) = look_form n P height e b t (connective_of t)
+abbrev pub look_normal : (u n : ℕ) → List Clause → (height : ℕ) → Entry → Branch → Option Term → View Task Answer
+look_normal u n P height e b None = Lacks
+look_normal u n P height e b (Some t) = look_form u n P height e b t (connective_of t)
 
 -- a goal, by what it was when flattened
 
@@ -214,35 +253,49 @@ opened u gs = goal_list (instantiate_goals (put_first u) gs)
     put_first v zero = v
     put_first v (suc i) = index i
 
-abbrev pub look_goal : ℕ → List Clause → (height : ℕ) → Entry → Branch → Goal → View Task Answer
-look_goal n P height e b (Atomic t) = look_normal n P height e b (head_normal n t)
-look_goal n P height e b Cut = Cuts e.mark (Go b ∷ [])
-look_goal n P height e b (Either l r) =
-    Parts (Go (with_goals b (entries (goal_list l) e.assumed e.level e.mark ++ b.goals)) ∷ Go (with_goals b (entries (goal_list r) e.assumed e.level e.mark ++ b.goals)) ∷ [])
-look_goal n P height e b (Exists T gs) = Parts (Go (record {
+-- a negated goal, where no variable stands in what is written in its goals and in its assumptions: its search begins with its goals alone, in their place, and an
+-- answer without residual pairs is final
+abbrev pub look_not : Entry → Branch → Goals → Option Bool → View Task Answer
+look_not e b gs None = Lacks
+look_not e b gs (Some true) = Takes (named not_constant) (Stop OpenNot ∷ [])
+look_not e b gs (Some false) = Denies (Go (record {
+  next = b.next;
+  next_type = b.next_type;
+  goals = entries (goal_list gs) e.assumed e.written e.level 0;
+  types = [];
+  values = [];
+  pairs = [];
+})) has_no_pairs (Go b ∷ [])
+
+abbrev pub look_goal : (u n : ℕ) → List Clause → (height : ℕ) → Entry → Branch → Goal → View Task Answer
+look_goal u n P height e b (Atomic t) = look_normal u n P height e b (head_normal n t)
+look_goal u n P height e b Cut = Cuts e.mark (Go b ∷ [])
+look_goal u n P height e b (Either l r) =
+    Parts (Go (with_goals b (entries (goal_list l) e.assumed e.written e.level e.mark ++ b.goals)) ∷ Go (with_goals b (entries (goal_list r) e.assumed e.written e.level e.mark ++ b.goals)) ∷ [])
+look_goal u n P height e b (Exists T gs) = Parts (Go (record {
   next = suc b.next;
   next_type = b.next_type;
-  goals = entries (opened (atom (logic b.next e.level)) gs) e.assumed e.level e.mark ++ b.goals;
+  goals = entries (opened (atom (logic b.next e.level)) gs) e.assumed e.written e.level e.mark ++ b.goals;
   types = b.types;
   values = b.values;
   pairs = b.pairs;
 }) ∷ [])
-look_goal n P height e b (Forall T gs) =
-    Parts (Go (with_goals b (entries (opened (atom (eigen (suc e.level))) gs) e.assumed (suc e.level) e.mark ++ b.goals)) ∷ [])
-look_goal n P height e b (Assume cs gs) =
-    Parts (Go (with_goals b (entries (goal_list gs) (clause_list cs ++ e.assumed) e.level e.mark ++ b.goals)) ∷ [])
--- no text has one yet
-look_goal n P height e b (Not gs) = Halts OpenNot
+look_goal u n P height e b (Forall T gs) =
+    Parts (Go (with_goals b (entries (opened (atom (eigen (suc e.level))) gs) e.assumed e.written (suc e.level) e.mark ++ b.goals)) ∷ [])
+look_goal u n P height e b (Assume w cs gs) =
+    Parts (Go (with_goals b (entries (goal_list gs) (clause_list cs ++ e.assumed) (both_written w e.written) e.level e.mark ++ b.goals)) ∷ [])
+look_goal u n P height e b (Not w gs) = look_not e b gs (has_variables n (both_written w e.written))
 
-abbrev pub look_branch : ℕ → List Clause → (height : ℕ) → Branch → List Entry → View Task Answer
-look_branch n P height b [] = Gives (record { next = b.next; next_type = b.next_type; types = b.types; values = b.values; pairs = b.pairs })
-look_branch n P height b (e ∷ es) = look_goal n P height e (with_goals b es) e.goal
+abbrev pub look_branch : (u n : ℕ) → List Clause → (height : ℕ) → Branch → List Entry → View Task Answer
+look_branch u n P height b [] = Gives (record { next = b.next; next_type = b.next_type; types = b.types; values = b.values; pairs = b.pairs })
+look_branch u n P height b (e ∷ es) = look_goal u n P height e (with_goals b es) e.goal
 
 -- what a task turns out to be, where the program is P; n bounds each head reduction
-abbrev pub look : ℕ → List Clause → (height : ℕ) → Task → View Task Answer
-look n P height (Go b) = look_branch n P height b b.goals
-look n P height (Try c t e b mark) = Opens (try_clause n c t e b mark)
-look n P height (Stop e) = Halts e
+abbrev pub look : (u n : ℕ) → List Clause → (height : ℕ) → Task → View Task Answer
+look u n P height (Go b) = look_branch u n P height b b.goals
+look u n P height (Try c t e b mark) = Opens (try_clause u n c t e b mark)
+look u n P height (Stop e) = Halts e
+look u n P height Lack = Lacks
 
 -- k variables from i on, of level 0
 abbrev pub vars_from : (k i : ℕ) → List Term
@@ -258,8 +311,15 @@ abbrev pub start : (type_vars vars : ℕ) → Goals → (steps answers : ℕ) �
 start j k gs steps answers = starts (Go (record {
   next = k;
   next_type = j;
-  goals = entries (goal_list (instantiate_goals (λ i. atom (logic (k - suc i) 0)) gs)) [] 0 0;
+  goals = entries (goal_list (instantiate_goals (λ i. atom (logic (k - suc i) 0)) gs)) [] nothing_written 0 0;
   types = types_from j 0;
   values = vars_from k 0;
   pairs = [];
 })) steps answers
+
+-- the search comes to what is told: it ends so, with enough steps for each look and enough moves
+pub record ComesTo (P : List Clause) (s : State Task) (t : Told Answer) : Type 0 where
+  pub enough : ℕ
+  pub tells : run (look unit_limit enough P) enough enough s ≡ t
+  pub ending : Ending
+  pub ends : t.ending ≡ Some ending

@@ -26,7 +26,7 @@ pub enum Ending {
     Flexible,
     /// An expression without a value.
     Arithmetic(Fault),
-    /// A negated goal of which it is open whether it holds.
+    /// A negated goal with a variable in it, or whose search left open whether the goal holds: it was cut, or its answer has residual pairs.
     OpenNot,
     /// Unification or the taking apart of goals went on too long.
     Deep,

@@ -4,6 +4,8 @@
 
 /// Answers and the events of a search.
 pub mod answer;
+/// Certificates of answers.
+pub mod certificate;
 /// Flattened clauses and goals.
 pub mod clause;
 /// The connective at the top of a formula.
@@ -14,6 +16,7 @@ pub mod ending;
 pub mod program;
 
 pub use answer::{Answer, Event, Pair};
+pub use certificate::{Certificate, ProofNode};
 pub use clause::{Clause, Goal};
 pub use connective::{Connective, connective_of};
 pub use ending::{Ending, Fault};

@@ -6,7 +6,6 @@ pub mod Lines
 pub mod Naming
 pub mod Saying
 pub mod Ordering
-pub mod Copied
 pub mod Uses
 pub mod Numbered
 pub mod Counting

@@ -7,8 +7,9 @@ use Rattle.std.proofs.lemmas.List.Sums.{sum_by-drop_more, sum_by_push}
 use Rattle.std.proofs.lemmas.List.Elements.{All-nil, All-cons, All-append}
 use Rattle.lp_sig.proofs.Heads.{place_below}
 use Rattle.lp_sig.specs.Places.{first_place}
-use Rattle.lp_module.specs.Copies.{Copies, no_copy, copy, number_list, numbers_of, names_of, uses_of}
-use Rattle.lp_module.specs.Trees.{lists_in}
+use Rattle.lp_copies.specs.Copies.{Copies, no_copy, copy}
+use Rattle.lp_module.specs.Copies.{number_list, numbers_of, names_of, uses_of}
+use Rattle.lp_copies.specs.Trees.{lists_in}
 use Rattle.lp_module.specs.declared.module.Module.{Module}
 
 -- one more name
@@ -81,8 +82,8 @@ sum_more f modules order i at m sum all whole h is inside m_at e w =
     let g : get_or (map f modules) (get_or order i at) 0 ≡ f m = ap (λ k. get_or (map f modules) k 0) (sym is) ∙ get_or-map f modules at m 0 inside ∙ ap f (sym m_at) in
     omega (arith, s, g, e, w)
 
-pub sum_passed : (f : Module → ℕ) (modules : List Module) (order : List ℕ) (i at : ℕ) (m : Module) (sum whole : ℕ) → i < length order → at ≡ get_or order i at → at < length modules → m ≡ get_or modules at m → 65535 < sum + f m →
-    sum + sum_by (λ k. get_or (map f modules) k 0) (drop i order) ≡ whole → 65535 < whole
+pub sum_passed : (f : Module → ℕ) (modules : List Module) (order : List ℕ) (i at : ℕ) (m : Module) (sum whole : ℕ) → i < length order → at ≡ get_or order i at → at < length modules → m ≡ get_or modules at m → 1048576 < sum + f m →
+    sum + sum_by (λ k. get_or (map f modules) k 0) (drop i order) ≡ whole → 1048576 < whole
 sum_passed f modules order i at m sum whole h is inside m_at e w =
     let s = sum_by-drop_more (λ k. get_or (map f modules) k 0) order i at h in
     let g : get_or (map f modules) (get_or order i at) 0 ≡ f m = ap (λ k. get_or (map f modules) k 0) (sym is) ∙ get_or-map f modules at m 0 inside ∙ ap f (sym m_at) in
@@ -98,8 +99,8 @@ sum_begun f e base root modules order top x all h at is sum =
     let g : get_or (map e modules) root 0 ≡ e top = get_or-map e modules root top 0 h ∙ ap e (sym at) in
     omega (arith, g, is, sum)
 
-pub begun_passed : (f e : Module → ℕ) (base root : ℕ) (modules : List Module) (order : List ℕ) (top : Module) (x : ℕ) → root < length modules → top ≡ get_or modules root top → x ≡ e top → 65535 < base + x →
-    65535 < base + get_or (map e modules) root 0 + sum_by (λ k. get_or (map f modules) k 0) order
+pub begun_passed : (f e : Module → ℕ) (base root : ℕ) (modules : List Module) (order : List ℕ) (top : Module) (x : ℕ) → root < length modules → top ≡ get_or modules root top → x ≡ e top → 1048576 < base + x →
+    1048576 < base + get_or (map e modules) root 0 + sum_by (λ k. get_or (map f modules) k 0) order
 begun_passed f e base root modules order top x h at is passed =
     let g : get_or (map e modules) root 0 ≡ e top = get_or-map e modules root top 0 h ∙ ap e (sym at) in
     omega (arith, g, is, passed)

@@ -7,6 +7,7 @@ pub mod Refusals
 pub mod Sentences
 pub mod Making
 pub mod Copies
-pub mod Trees
 pub mod Numbering
 pub mod Arguments
+pub mod Renumbering
+pub mod Trees

@@ -1,15 +1,15 @@
 // The program of a set of modules.
 ghost use Rattle.std.specs.Prelude.{◌≡◌, ℕ, ◌+◌, ◌<◌, ◌≤◌, ◌++◌, List, [], ◌∷◌, length, map, All, IfErr, IfOk, OnOk, if◌then◌else◌};
 ghost use Rattle.std.specs.Str.{bytes_eq};
-ghost use Rattle.lp_base.specs.declared.limits.TheConstants.{END_OF_NUMBERS, MAX_COPIES};
-ghost use Rattle.lp_module.specs.Copies.{Copies, IsOrder, IsTooMany, IsProgramRefusal, counts_of, total, kinds_end, constants_end};
+ghost use Rattle.lp_base.specs.declared.limits.TheConstants.{MAX_COPIES};
+ghost use Rattle.lp_copies.specs.declared.names.TheConstants.{END_OF_IMAGE_NUMBERS};
+ghost use Rattle.lp_copies.specs.Copies.{Copies};
+ghost use Rattle.lp_copies.specs.Trees.{lists_in};
+ghost use Rattle.lp_module.specs.Copies.{IsOrder, IsTooMany, IsProgramRefusal, counts_of, total, kinds_end, constants_end};
 ghost use Rattle.lp_module.specs.Making.{IsSoFar, IsMade, MakesNames, clauses_of};
 ghost use Rattle.lp_module.specs.Numbering.{AreNumbered, count_in, following};
 ghost use Rattle.lp_module.specs.Sentences.{AreWithin};
-ghost use Rattle.lp_module.specs.Trees.{lists_in};
 
-use crate::carry::{Types, carry_terms};
-use crate::copying::{Copying, Turn};
 use crate::fault::ModuleFault;
 use crate::module::Module;
 use crate::numbers::{Names, Open};
@@ -17,16 +17,19 @@ use crate::tree::{Copied, end_of_constants, end_of_kinds, firsts_of, order_of, u
 use indexmap::IndexMap;
 use itoa::Buffer;
 use lp_base::Memory;
+use lp_copies::{Copying, Turn};
 use lp_model::{ClauseFormula, Declared, Program};
 use lp_sig::{ConstantEntry, FIRST_CONSTANT, FIRST_KIND};
-use lp_term::{Bank, TermId, TypeId};
+use lp_term::{Bank, Changed, TermId, TypeId};
 use std::alloc::Global;
 
 /// A kind or constant of a program: its name, and 0 where it is global; else it is the hidden one of this number among those of its name, from 1.
+/// The arity is the count of a kind's arguments, or of a constant's type variables.
 #[derive(Drop)]
 pub struct GlobalName {
     pub name: Vec<u8>,
     pub hidden: u16,
+    pub arity: u8,
 }
 
 /// The program of a set of modules. The entries of `kinds` have the numbers from 8, those of `constants` from 32.
@@ -111,20 +114,28 @@ impl Making {
         }
     }
 
-    fn add_global_kind(&mut self, name: &[u8]) -> Result<(), Memory>
+    fn add_global_kind(&mut self, name: &[u8], arity: u8) -> Result<(), Memory>
         ensures { OnOk result (MakesNames self.old self.new) }
     {
         let name = Vec::from_slice(self.alloc, name)?;
-        self.kinds.push(GlobalName { name, hidden: 0 })?;
+        self.kinds.push(GlobalName {
+            name,
+            hidden: 0,
+            arity,
+        })?;
         Ok(())
     }
 
-    fn add_hidden_kind(&mut self, name: &[u8]) -> Result<(), Memory>
+    fn add_hidden_kind(&mut self, name: &[u8], arity: u8) -> Result<(), Memory>
         ensures { OnOk result (MakesNames self.old self.new) }
     {
         let hidden = next_hidden(self.alloc, &mut self.hidden_kinds, name)?;
         let name = Vec::from_slice(self.alloc, name)?;
-        self.kinds.push(GlobalName { name, hidden })?;
+        self.kinds.push(GlobalName {
+            name,
+            hidden,
+            arity,
+        })?;
         Ok(())
     }
 
@@ -133,7 +144,11 @@ impl Making {
     {
         let name = Vec::from_slice(self.alloc, entry.name.as_slice())?;
         let shown = shown(self.alloc, entry.name.as_slice(), 0)?;
-        self.constants.push(GlobalName { name, hidden: 0 })?;
+        self.constants.push(GlobalName {
+            name,
+            hidden: 0,
+            arity: entry.type_vars,
+        })?;
         self.declared.push(Declared {
             shown,
             type_vars: entry.type_vars,
@@ -152,7 +167,11 @@ impl Making {
         )?;
         let name = Vec::from_slice(self.alloc, entry.name.as_slice())?;
         let shown = shown(self.alloc, entry.name.as_slice(), hidden)?;
-        self.constants.push(GlobalName { name, hidden })?;
+        self.constants.push(GlobalName {
+            name,
+            hidden,
+            arity: entry.type_vars,
+        })?;
         self.declared.push(Declared {
             shown,
             type_vars: entry.type_vars,
@@ -170,17 +189,18 @@ impl Making {
             let Some(entry) = signature.kinds().get(kind) else {
                 return Err(Memory);
             };
-            self.add_global_kind(entry.name.as_slice())?;
+            self.add_global_kind(entry.name.as_slice(), entry.arity)?;
         }
-        let mut types = Types::new(self.alloc);
+        let mut types = Changed::new(self.alloc);
         for constant in root.names.exported_constants.iter().copied() {
             let Some(entry) = signature.constants().get(constant) else {
                 return Err(Memory);
             };
-            let scheme = types.carry(
+            let scheme = types.copy_type(
+                self.alloc,
+                &root.names,
                 signature.bank(),
                 entry.scheme,
-                &root.names.kinds,
                 &mut self.bank,
             )?;
             self.add_global_constant(entry, scheme)?;
@@ -197,7 +217,7 @@ impl Making {
             let Some(entry) = kinds.get(number.saturating_sub(FIRST_KIND) as usize) else {
                 return Err(Memory);
             };
-            self.add_hidden_kind(entry.name.as_slice())?;
+            self.add_hidden_kind(entry.name.as_slice(), entry.arity)?;
         }
         Ok(())
     }
@@ -207,16 +227,17 @@ impl Making {
         ensures { OnOk result (MakesNames self.old self.new) }
     {
         let signature = &copy.module.signature;
-        let mut types = Types::new(self.alloc);
+        let mut types = Changed::new(self.alloc);
         for number in copy.module.hidden_constants.iter().copied() {
             let place = number.saturating_sub(FIRST_CONSTANT) as usize;
             let Some(entry) = signature.constants().get(place) else {
                 return Err(Memory);
             };
-            let scheme = types.carry(
+            let scheme = types.copy_type(
+                self.alloc,
+                &copy.names,
                 signature.bank(),
                 entry.scheme,
-                &copy.names.kinds,
                 &mut self.bank,
             )?;
             self.add_hidden_constant(entry, scheme)?;
@@ -225,12 +246,10 @@ impl Making {
     }
 
     fn add_clause(&mut self, type_vars: u32, formula: TermId) -> Result<(), Memory>
+        requires { formula.0 < length self.old.bank.terms }
         ensures made { OnOk result (IsMade self.old self.new) }
         ensures count { OnOk result (length self.new.clauses.items ≡ length self.old.clauses.items + 1) }
     {
-        if formula.0 >= self.bank.term_count() {
-            return Err(Memory);
-        }
         self.clauses.push(ClauseFormula { type_vars, formula })?;
         Ok(())
     }
@@ -240,13 +259,17 @@ impl Making {
         ensures made { OnOk result (IsMade self.old self.new) }
         ensures count { OnOk result (length self.new.clauses.items ≡ length self.old.clauses.items + length copy.now.module.now.clauses.items) }
     {
-        let made = carry_terms(self.alloc, &copy.module.bank, &copy.names, &mut self.bank)?;
+        let mut terms = Changed::new(self.alloc);
         let clauses = &copy.module.clauses;
         for at in 0..clauses.len() {
             let clause = clauses[at];
-            let Some(formula) = made.get(clause.formula.0).copied() else {
-                return Err(Memory);
-            };
+            let formula = terms.copy(
+                self.alloc,
+                &copy.names,
+                &copy.module.bank,
+                clause.formula,
+                &mut self.bank,
+            )?;
             self.add_clause(clause.type_vars, formula)?;
         }
         Ok(())
@@ -371,7 +394,7 @@ pub fn assemble(alloc: Global, modules: &[Module], root: u32) -> Result<Assemble
     ensures constants { IfOk result (λ a. length a.program.constants.items ≡ length a.constants.items) }
     ensures hidden_kinds { IfOk result (λ a. AreNumbered a.kinds.items) }
     ensures hidden_constants { IfOk result (λ a. AreNumbered a.constants.items) }
-    ensures copies { IfOk result (λ a. (order : List ℕ) × IsOrder modules.now root order × (length order ≤ MAX_COPIES) × (kinds_end modules.now root order ≤ END_OF_NUMBERS) × (constants_end modules.now root order ≤ END_OF_NUMBERS) × (length a.program.clauses.items ≡ total counts_of modules.now order)) }
+    ensures copies { IfOk result (λ a. (order : List ℕ) × IsOrder modules.now root order × (length order ≤ MAX_COPIES) × (kinds_end modules.now root order ≤ END_OF_IMAGE_NUMBERS) × (constants_end modules.now root order ≤ END_OF_IMAGE_NUMBERS) × (length a.program.clauses.items ≡ total counts_of modules.now order)) }
     ensures refused { IfErr result (IsProgramRefusal modules.now root) }
 {
     let root = root as usize;

@@ -1,6 +1,7 @@
 // Why a module is refused.
 
 use lp_base::{Limit, Memory, Spot};
+use lp_copies::TreeRefusal;
 use lp_infer::InferFault;
 use lp_sig::SigFault;
 use std::alloc::{AllocError, AllocFailed};
@@ -34,6 +35,20 @@ impl From<Memory> for ModuleFault {
 
     fn from(_: Memory) -> ModuleFault {
         ModuleFault::Memory
+    }
+}
+
+impl From<TreeRefusal> for ModuleFault {
+    ghost use Rattle.std.specs.Prelude.{◌≡◌};
+    ghost use Rattle.lp_module.specs.Trees.{fault_of};
+
+    ghost from_gives = { λ r e. e ≡ fault_of r };
+
+    fn from(refusal: TreeRefusal) -> ModuleFault {
+        match refusal {
+            TreeRefusal::TooMany => ModuleFault::Limit(Limit::Copies),
+            TreeRefusal::Memory => ModuleFault::Memory,
+        }
     }
 }
 

@@ -8,7 +8,7 @@ ghost use Rattle.lp_module.specs.Refusals.{IsFormFault, IsShort};
 use crate::fault::ModuleFault;
 use crate::heads::Heads;
 use crate::judge::{Judge, Position};
-use crate::reading::LOOSE;
+use crate::quantified::LOOSE;
 use lp_base::{Limit, MAX_ARGUMENTS, MAX_CONTRACTIONS, MAX_NODES, Spot};
 use lp_model::Typed;
 use lp_term::{Bank, TermId, TermRefusal, beta_normal};
@@ -21,9 +21,7 @@ fn normal_of(alloc: Global, bank: &mut Bank, formula: TermId) -> Result<TermId, 
     ensures short { OnOk result (IsShort (tree bank.old formula.0)) }
     ensures refused { (first : Spot) → IfErr result (IsFormFault (tree bank.old formula.0) first) }
 {
-    if formula.0 >= bank.term_count() {
-        return Err(ModuleFault::Memory);
-    }
+    let formula = bank.inside(formula)?;
     if !bank.is_known_below(formula, LOOSE) {
         return Err(ModuleFault::Memory);
     }
@@ -40,15 +38,16 @@ pub(crate) fn check_form(
     bank: &mut Bank,
     heads: &Heads,
     position: Position,
-    typed: &Typed,
+    type_vars: u64,
+    formula: TermId,
     first: Spot,
 ) -> Result<(), ModuleFault>
     ensures kept { Extends bank.old bank.new }
-    ensures short { OnOk result (IsShort (tree bank.old typed.now.formula.0)) }
-    ensures variables { OnOk result (typed.now.type_vars ≤ MAX_ARGUMENTS) }
-    ensures refused { IfErr result (IsFormFault (tree bank.old typed.now.formula.0) first) }
+    ensures short { OnOk result (IsShort (tree bank.old formula.0)) }
+    ensures variables { OnOk result (type_vars ≤ MAX_ARGUMENTS) }
+    ensures refused { IfErr result (IsFormFault (tree bank.old formula.0) first) }
 {
-    let normal = normal_of(alloc, bank, typed.formula)?;
+    let normal = normal_of(alloc, bank, formula)?;
     let mut judge = Judge::new(alloc, heads);
     let verdict = judge.judge(bank, position, normal)?;
     if verdict.deep {
@@ -57,7 +56,7 @@ pub(crate) fn check_form(
     if verdict.wide {
         return Err(ModuleFault::Limit(Limit::Arguments));
     }
-    if typed.type_vars > MAX_ARGUMENTS as u64 {
+    if type_vars > MAX_ARGUMENTS as u64 {
         return Err(ModuleFault::Limit(Limit::Arguments));
     }
     if verdict.in_term {
@@ -81,5 +80,13 @@ pub fn query_form(
     ensures variables { OnOk result (query.now.type_vars ≤ MAX_ARGUMENTS) }
     ensures refused { IfErr result (IsFormFault (tree bank.old query.now.formula.0) first) }
 {
-    check_form(alloc, bank, &Heads::Any, Position::Goal, query, first)
+    check_form(
+        alloc,
+        bank,
+        &Heads::Any,
+        Position::Goal,
+        query.type_vars,
+        query.formula,
+        first,
+    )
 }

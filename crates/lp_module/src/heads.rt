@@ -1,12 +1,9 @@
 // Which constants can stand at the head of a clause.
 
 use lp_base::Memory;
-use lp_sig::Signature;
+use lp_sig::{FIRST_CONSTANT, Signature};
 use lp_term::{Bank, TypeId, TypeNode};
 use std::alloc::Global;
-
-// The first number of a declared constant.
-const FIRST_CONSTANT: u32 = 32;
 
 /// For each declared constant whether its type ends in `o`. Of a query's constants nothing is known, and each may head a clause.
 #[derive(Drop)]
@@ -16,26 +13,22 @@ pub(crate) enum Heads {
 }
 
 // Whether a type ends in `o`.
-fn ends_in_goal(bank: &Bank, id: TypeId) -> Result<bool, Memory> {
+fn ends_in_goal(bank: &Bank, id: TypeId) -> bool {
     let mut at = id;
-    for _ in 0..u64::MAX {
-        if at.0 >= bank.type_count() {
-            return Err(Memory);
-        }
+    'results: loop {
         match bank.type_node(at) {
             TypeNode::Arrow(_, to) => at = to,
-            TypeNode::Con(kind, _) => return Ok(kind == 0),
-            _ => return Ok(false),
+            TypeNode::Con(kind, _) => return kind == 0,
+            _ => return false,
         }
     }
-    Err(Memory)
 }
 
 impl Heads {
     pub(crate) fn of(alloc: Global, signature: &Signature) -> Result<Heads, Memory> {
         let mut ends = Vec::new(alloc);
         for entry in signature.constants().iter() {
-            let end = ends_in_goal(signature.bank(), entry.scheme)?;
+            let end = ends_in_goal(signature.bank(), entry.scheme);
             ends.push(end)?;
         }
         Ok(Heads::Known(ends))

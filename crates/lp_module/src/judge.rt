@@ -3,9 +3,10 @@ ghost use Rattle.lp_term.specs.Nodes.{Extends};
 
 use crate::heads::Heads;
 use crate::measure::Measures;
-use crate::reading::{Form, applied_to_new, form_of, head_of};
+use crate::quantified::body_of;
 use lp_base::{MAX_ARGUMENTS, MAX_TERM_DEPTH, Memory};
-use lp_term::{Bank, TermId, TermNode};
+use lp_model::{Connective, connective_of};
+use lp_term::{Bank, TermId, TermNode, head_of};
 use std::alloc::Global;
 
 /// Where a formula stands.
@@ -41,8 +42,8 @@ struct Binder {
     outer: usize,
 }
 
-/// What is wrong with a formula: it is too deep, a head has too many arguments, `=>`, `:-` or `!` stands in a term, or it has another
-/// form.
+/// What is wrong with a formula: it is too deep, a head has too many arguments, `=>`, `:-`, `!` or `not` stands in a term, or it has
+/// another form.
 #[derive(Clone, Copy)]
 pub(crate) struct Verdict {
     pub deep: bool,
@@ -119,13 +120,7 @@ impl<'a> Judge<'a> {
     ) -> Result<(), Memory>
         ensures { Extends bank.old bank.new }
     {
-        if part.0 >= bank.term_count() {
-            return Err(Memory);
-        }
-        let body = match bank.term_node(part) {
-            TermNode::Abs(body) => body,
-            _ => applied_to_new(self.alloc, bank, part)?,
-        };
+        let body = body_of(self.alloc, bank, part)?;
         self.binders.push(Binder {
             in_goal,
             outer: task.binder,
@@ -161,9 +156,6 @@ impl<'a> Judge<'a> {
 
     // Whether a head can head an atom in its position.
     fn is_head(&self, bank: &Bank, task: Task) -> bool {
-        if task.formula.0 >= bank.term_count() {
-            return false;
-        }
         let head = bank.term_node(head_of(bank, task.formula));
         match task.position {
             Position::Goal => match head {
@@ -189,15 +181,21 @@ impl<'a> Judge<'a> {
     }
 
     // A formula that may stand in goal position alone.
-    fn take_goal(&mut self, bank: &mut Bank, task: Task, form: Form) -> Result<(), Memory>
+    fn take_goal(
+        &mut self,
+        bank: &mut Bank,
+        task: Task,
+        connective: Connective,
+    ) -> Result<(), Memory>
         ensures { Extends bank.old bank.new }
     {
         if task.position == Position::Clause {
             return self.refuse(bank, task);
         }
-        match form {
-            Form::Either(left, right) => self.push_both(task, left, right),
-            Form::Exist(part) => self.push_body(bank, task, false, part),
+        match connective {
+            Connective::Or(left, right) => self.push_both(task, left, right),
+            Connective::Exists(_, part) => self.push_body(bank, task, false, part),
+            Connective::Not(part) => self.push(task, Position::Goal, part),
             _ => Ok(()),
         }
     }
@@ -206,27 +204,21 @@ impl<'a> Judge<'a> {
     fn take(&mut self, bank: &mut Bank, task: Task) -> Result<(), Memory>
         ensures { Extends bank.old bank.new }
     {
-        if task.formula.0 >= bank.term_count() {
-            return Err(Memory);
-        }
         if task.depth > MAX_TERM_DEPTH as u64 {
             self.verdict.deep = true;
         }
-        let form = form_of(bank, task.formula);
-        match form {
-            Form::Both(left, right) => self.push_both(task, left, right),
-            Form::Implies {
-                premise,
-                conclusion,
-            } => {
+        let connective = connective_of(bank, task.formula);
+        match connective {
+            Connective::And(left, right) => self.push_both(task, left, right),
+            Connective::Implies(premise, conclusion) => {
                 self.push(task, task.position.opposite(), premise)?;
                 self.push(task, task.position, conclusion)
             }
-            Form::Every(part) => {
+            Connective::ForAll(_, part) => {
                 self.push_body(bank, task, task.position == Position::Goal, part)
             }
-            Form::Plain => self.take_atom(bank, task),
-            _ => self.take_goal(bank, task, form),
+            Connective::Atomic => self.take_atom(bank, task),
+            _ => self.take_goal(bank, task, connective),
         }
     }
 

@@ -1,14 +1,10 @@
 //! Modules: their order, what one means, the program of a set of them, and the form of clauses and queries.
 #![tactic(auto)]
 
-// Types and terms with their kinds and constants renumbered.
-mod carry;
 // Words of accumulate that lead back.
 mod circles;
 // The program of a set of modules.
 mod copies;
-// The copies one behind the other.
-mod copying;
 // Why a module is refused.
 mod fault;
 // The numbers of files.
@@ -27,8 +23,8 @@ mod measure;
 mod module;
 // The numbers that the names of a copy have in the program.
 mod numbers;
-// What a formula is by the constant at its top.
-mod reading;
+// The bodies of quantifiers.
+mod quantified;
 // The sentences of a module.
 mod sentences;
 // The order of copies, and their numbers.

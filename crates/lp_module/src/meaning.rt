@@ -8,13 +8,11 @@ ghost use Rattle.lp_module.specs.Sentences.{said, AreSaid, AreWithin};
 ghost use Rattle.lp_module.specs.Words.{accumulate_words};
 ghost use Rattle.lp_module.specs.declared.fault.ModuleFault.TheVariants as fault;
 
-use crate::carry::carry_terms;
 use crate::fault::ModuleFault;
 use crate::form::check_form;
 use crate::heads::Heads;
 use crate::judge::Position;
 use crate::module::Module;
-use crate::numbers::Names;
 use crate::sentences::{TypedSentence, closed_sentences, typed_sentences};
 use crate::words::accumulated;
 use lp_base::Memory;
@@ -23,7 +21,7 @@ use lp_sig::{
     FIRST_CONSTANT, FIRST_KIND, ModuleSigFault, SigFault, Signature, module_signature, spelled_at,
 };
 use lp_syntax::ModuleText;
-use lp_term::Bank;
+use lp_term::{Bank, Changed, Same};
 use std::alloc::Global;
 
 // A header has the name of its file.
@@ -94,13 +92,6 @@ fn uses_of(alloc: Global, source: &[u8], text: &ModuleText) -> Result<Vec<Vec<u8
     Ok(uses)
 }
 
-// A bank with the same terms under the same numbers.
-fn copy_of(alloc: Global, bank: &Bank) -> Result<Bank, Memory> {
-    let mut copy = Bank::new(alloc);
-    carry_terms(alloc, bank, &Names::same(alloc), &mut copy)?;
-    Ok(copy)
-}
-
 // The limits and the form of each sentence. They are judged in a bank that is left behind, so that the module keeps no normal forms.
 fn check_clauses(
     alloc: Global,
@@ -111,15 +102,18 @@ fn check_clauses(
     ensures { (lines : List Sentence) → AreSaid lines sentences.now → IfErr result (λ e. (e ≡ fault.Memory) ⊎ IsUnformed lines e) }
 {
     let heads = Heads::of(alloc, signature)?;
-    let mut scratch = copy_of(alloc, bank)?;
+    let mut copied = Changed::new(alloc);
+    let mut scratch = Bank::new(alloc);
     for at in 0..sentences.len() {
         let sentence = &sentences[at];
+        let formula = copied.copy(alloc, &Same, bank, sentence.typed.formula, &mut scratch)?;
         check_form(
             alloc,
             &mut scratch,
             &heads,
             Position::Clause,
-            &sentence.typed,
+            sentence.typed.type_vars,
+            formula,
             sentence.first,
         )?;
     }

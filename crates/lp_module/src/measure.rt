@@ -2,11 +2,12 @@
 
 use indexmap::IndexMap;
 use lp_base::Memory;
+use lp_standard::Constant;
 use lp_term::{Bank, TermId, TermNode};
 use std::alloc::Global;
 
 /// How deep a term is, a head with its arguments on one level; how many arguments its head has; the greatest number of arguments on
-/// one head in it; and whether `=>`, `:-` or `!` stands in it.
+/// one head in it; and whether `=>`, `:-`, `!` or `not` stands in it.
 #[derive(Clone, Copy)]
 pub(crate) struct Measure {
     pub depth: u64,
@@ -51,9 +52,12 @@ impl Measure {
     }
 }
 
-// Whether a constant is `=>`, `:-` or `!`.
+// Whether a constant is `=>`, `:-`, `!` or `not`.
 fn is_connective(constant: u32) -> bool {
-    constant == 2 || constant == 3 || constant == 7
+    constant == Constant::Implies.number()
+        || constant == Constant::If.number()
+        || constant == Constant::Cut.number()
+        || constant == Constant::Not.number()
 }
 
 #[derive(Drop)]
@@ -70,10 +74,11 @@ impl Measures {
         }
     }
 
-    fn known(&self, id: TermId) -> Result<Measure, Memory> {
+    // One that is not known is as a leaf.
+    fn known(&self, id: TermId) -> Measure {
         match self.known.get(&id.0) {
-            Some(measure) => Ok(*measure),
-            None => Err(Memory),
+            Some(measure) => *measure,
+            None => Measure::leaf(false),
         }
     }
 
@@ -81,9 +86,6 @@ impl Measures {
     fn visit(&mut self, bank: &Bank, id: TermId, work: &mut Vec<Task>) -> Result<(), Memory> {
         if self.known.contains_key(&id.0) {
             return Ok(());
-        }
-        if id.0 >= bank.term_count() {
-            return Err(Memory);
         }
         match bank.term_node(id) {
             TermNode::Abs(body) => {
@@ -108,16 +110,13 @@ impl Measures {
 
     // Measures an abstraction or an application, whose parts are measured.
     fn build(&mut self, bank: &Bank, id: TermId) -> Result<(), Memory> {
-        if id.0 >= bank.term_count() {
-            return Err(Memory);
-        }
         match bank.term_node(id) {
             TermNode::Abs(body) => {
-                let measure = self.known(body)?.abstracted();
+                let measure = self.known(body).abstracted();
                 self.known.insert(id.0, measure)?;
             }
             TermNode::App(head, arguments) => {
-                let measure = self.application(head, arguments)?;
+                let measure = self.application(head, arguments);
                 self.known.insert(id.0, measure)?;
             }
             _ => {}
@@ -125,13 +124,12 @@ impl Measures {
         Ok(())
     }
 
-    fn application(&self, head: TermId, arguments: &[TermId]) -> Result<Measure, Memory> {
-        let mut measure = self.known(head)?;
+    fn application(&self, head: TermId, arguments: &[TermId]) -> Measure {
+        let mut measure = self.known(head);
         for argument in arguments.iter().copied() {
-            let part = self.known(argument)?;
-            measure = measure.applied(part);
+            measure = measure.applied(self.known(argument));
         }
-        Ok(measure)
+        measure
     }
 
     pub(crate) fn of(&mut self, bank: &Bank, id: TermId) -> Result<Measure, Memory> {
@@ -139,7 +137,7 @@ impl Measures {
         work.push(Task::Visit(id))?;
         for _ in 0..u64::MAX {
             match work.pop() {
-                None => return self.known(id),
+                None => return Ok(self.known(id)),
                 Some(Task::Visit(next)) => self.visit(bank, next, &mut work)?,
                 Some(Task::Build(next)) => self.build(bank, next)?,
             }

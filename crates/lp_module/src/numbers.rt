@@ -1,9 +1,12 @@
 // The numbers that the names of a copy have in the program.
+ghost use Rattle.std.specs.Prelude.{◌≡◌};
+ghost use Rattle.lp_module.specs.Renumbering.{number_in, renumbered};
 
 use crate::module::Module;
 use crate::tree::Copied;
 use lp_base::Memory;
 use lp_sig::{FIRST_CONSTANT, FIRST_KIND};
+use lp_term::{Mapping, TermChange, TypeChange};
 use std::alloc::Global;
 
 /// What becomes of the numbers from `first` on; those below it stay.
@@ -18,13 +21,6 @@ fn number_of(place: usize) -> u32 {
 }
 
 impl Numbers {
-    fn same(alloc: Global) -> Numbers {
-        Numbers {
-            first: u32::MAX,
-            numbers: Vec::new(alloc),
-        }
-    }
-
     // The hidden ones have the numbers from `from` on; the others have none yet.
     fn hidden(
         alloc: Global,
@@ -69,14 +65,17 @@ impl Numbers {
         }
     }
 
-    /// The number in the program.
-    pub(crate) fn of(&self, number: u32) -> Result<u32, Memory> {
+    /// The number in the program; one without it stays.
+    pub(crate) fn of(&self, number: u32) -> u32
+        ensures { result ≡ number_in self.now number }
+    {
         if number < self.first {
-            return Ok(number);
+            return number;
         }
         match self.numbers.get((number - self.first) as usize) {
-            Some(Some(new)) => Ok(*new),
-            _ => Err(Memory),
+            Some(Some(new)) => *new,
+            Some(None) => number,
+            None => number,
         }
     }
 }
@@ -91,16 +90,6 @@ pub(crate) struct Names {
 }
 
 impl Names {
-    /// Each number stays.
-    pub(crate) fn same(alloc: Global) -> Names {
-        Names {
-            kinds: Numbers::same(alloc),
-            constants: Numbers::same(alloc),
-            exported_kinds: Vec::new(alloc),
-            exported_constants: Vec::new(alloc),
-        }
-    }
-
     // The copy's hidden names alone.
     fn hidden(alloc: Global, module: &Module, copied: Copied) -> Result<Names, Memory> {
         let kinds = Numbers::hidden(
@@ -145,7 +134,7 @@ impl Names {
         let Some((number, _)) = above.module.signature.kind(entry.name.as_slice()) else {
             return Err(Memory);
         };
-        let new = above.names.kinds.of(number)?;
+        let new = above.names.kinds.of(number);
         self.kinds.set(place, new);
         Ok(())
     }
@@ -163,7 +152,7 @@ impl Names {
         let Some(number) = above.module.signature.constant(entry.name.as_slice()) else {
             return Err(Memory);
         };
-        let new = above.names.constants.of(number)?;
+        let new = above.names.constants.of(number);
         self.constants.set(place, new);
         Ok(())
     }
@@ -189,6 +178,26 @@ impl Names {
             names.link_constant(place, module, above)?;
         }
         Ok(names)
+    }
+}
+
+impl Mapping for Names {
+    ghost told = { renumbered };
+
+    fn kind(&self, kind: u32) -> u32 {
+        self.kinds.of(kind)
+    }
+
+    fn constant(&self, constant: u32) -> u32 {
+        self.constants.of(constant)
+    }
+
+    fn type_variable(&self, variable: u64) -> TypeChange {
+        TypeChange::Var(variable)
+    }
+
+    fn logic_variable(&self, _variable: u64) -> TermChange {
+        TermChange::Stays
     }
 }
 

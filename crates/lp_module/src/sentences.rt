@@ -7,14 +7,13 @@ ghost use Rattle.lp_module.specs.Refusals.{IsTypingFault, IsUntyped};
 ghost use Rattle.lp_module.specs.Sentences.{AreSaid, AreWithin};
 ghost use Rattle.lp_module.specs.declared.fault.ModuleFault.TheVariants as fault;
 
-use crate::carry::{put_abstraction, put_application, put_constant};
 use crate::fault::ModuleFault;
 use lp_base::{Limit, MAX_ARGUMENTS, Memory, Spot};
 use lp_infer::{InferFault, type_formula};
 use lp_model::{ClauseFormula, Typed};
 use lp_sig::Signature;
 use lp_syntax::{ModuleText, RawNode, RawTerm, Sentence};
-use lp_term::{Bank, TermId, TypeId};
+use lp_term::{Bank, TermId, TypeId, put_abstraction, put_applied, put_constant};
 use std::alloc::Global;
 
 // The standard constant `pi`.
@@ -124,7 +123,7 @@ fn put_pi(bank: &mut Bank, at: TypeId, body: TermId) -> Result<TermId, Memory>
 {
     let inner = put_abstraction(bank, body)?;
     let head = put_constant(bank, PI, &[at])?;
-    put_application(bank, head, &[inner])
+    put_applied(bank, head, inner)
 }
 
 // The formula of a sentence, its variables closed by `pi`, the first outermost.
@@ -132,10 +131,7 @@ fn closed(bank: &mut Bank, typed: &Typed) -> Result<ClauseFormula, Memory>
     ensures kept { Extends bank.old bank.new }
     ensures within { IfOk result (λ clause. clause.formula.0 < length bank.new.terms) }
 {
-    if typed.formula.0 >= bank.term_count() {
-        return Err(Memory);
-    }
-    let mut formula = typed.formula;
+    let mut formula = bank.inside(typed.formula)?;
     for variable in typed.vars.iter().rev() {
         formula = put_pi(bank, variable.1, formula)?;
     }

@@ -1,17 +1,19 @@
 // The tree of copies: how its modules stand in order, and whether there are too many copies or names.
 ghost use Rattle.std.specs.Prelude.{◌≡◌, ℕ, ◌+◌, ◌-◌, ◌<◌, ◌≤◌, ◌⊎◌, List, [], ◌∷◌, length, map, All, IfOk, IfErr};
-ghost use Rattle.lp_module.specs.Copies.{Copies, IsTooMany, names_of, numbers_of, uses_of, kinds_end, constants_end};
+ghost use Rattle.lp_copies.specs.Copies.{Copies};
+ghost use Rattle.lp_copies.specs.Trees.{lists_in};
+ghost use Rattle.lp_module.specs.Copies.{IsTooMany, names_of, numbers_of, uses_of, kinds_end, constants_end};
 ghost use Rattle.lp_module.specs.Files.{HasNames};
-ghost use Rattle.lp_module.specs.Trees.{lists_in};
 ghost use Rattle.lp_module.specs.declared.fault.ModuleFault.TheVariants as fault;
 ghost use Rattle.lp_base.specs.declared.limit.Limit.TheVariants as limit;
-ghost use Rattle.lp_base.specs.declared.limits.TheConstants.{END_OF_NUMBERS, MAX_COPIES};
+ghost use Rattle.lp_base.specs.declared.limits.TheConstants.{MAX_COPIES};
+ghost use Rattle.lp_copies.specs.declared.names.TheConstants.{END_OF_IMAGE_NUMBERS};
 
-use crate::copying::{Copying, Turn};
 use crate::fault::ModuleFault;
 use crate::files::Files;
 use crate::module::Module;
-use lp_base::{END_OF_NUMBERS, Limit, Memory};
+use lp_base::{Limit, Memory};
+use lp_copies::{Copying, END_OF_IMAGE_NUMBERS, Turn};
 use lp_sig::{FIRST_CONSTANT, FIRST_KIND};
 use std::alloc::Global;
 
@@ -75,11 +77,11 @@ pub(crate) fn order_of(
 
 // So many more names, if the numbers do not end before.
 fn more_names(names: usize, more: usize) -> Result<usize, ModuleFault>
-    ensures sum { IfOk result (λ all. (all ≡ names + more) × (all ≤ END_OF_NUMBERS)) }
-    ensures refused { IfErr result (λ e. (e ≡ fault.Limit limit.Names) × (END_OF_NUMBERS < names + more)) }
+    ensures sum { IfOk result (λ all. (all ≡ names + more) × (all ≤ END_OF_IMAGE_NUMBERS)) }
+    ensures refused { IfErr result (λ e. (e ≡ fault.Limit limit.Names) × (END_OF_IMAGE_NUMBERS < names + more)) }
 {
     let all = names.saturating_add(more);
-    if all > END_OF_NUMBERS as usize {
+    if all > END_OF_IMAGE_NUMBERS as usize {
         return Err(ModuleFault::Limit(Limit::Names));
     }
     Ok(all)
@@ -100,8 +102,8 @@ pub(crate) fn end_of_kinds(
 ) -> Result<usize, ModuleFault>
     requires root { root < length modules.now }
     requires order { All (λ m. m < length modules.now) order.now.items }
-    ensures sum { IfOk result (λ all. (all ≡ kinds_end modules.now root order.now.items) × (all ≤ END_OF_NUMBERS)) }
-    ensures refused { IfErr result (λ e. (e ≡ fault.Limit limit.Names) × (END_OF_NUMBERS < kinds_end modules.now root order.now.items)) }
+    ensures sum { IfOk result (λ all. (all ≡ kinds_end modules.now root order.now.items) × (all ≤ END_OF_IMAGE_NUMBERS)) }
+    ensures refused { IfErr result (λ e. (e ≡ fault.Limit limit.Names) × (END_OF_IMAGE_NUMBERS < kinds_end modules.now root order.now.items)) }
 {
     let top = &modules[root];
     let exported = exported(top.signature.kinds().len(), top.hidden_kinds.len());
@@ -120,8 +122,8 @@ pub(crate) fn end_of_constants(
 ) -> Result<usize, ModuleFault>
     requires root { root < length modules.now }
     requires order { All (λ m. m < length modules.now) order.now.items }
-    ensures sum { IfOk result (λ all. (all ≡ constants_end modules.now root order.now.items) × (all ≤ END_OF_NUMBERS)) }
-    ensures refused { IfErr result (λ e. (e ≡ fault.Limit limit.Names) × (END_OF_NUMBERS < constants_end modules.now root order.now.items)) }
+    ensures sum { IfOk result (λ all. (all ≡ constants_end modules.now root order.now.items) × (all ≤ END_OF_IMAGE_NUMBERS)) }
+    ensures refused { IfErr result (λ e. (e ≡ fault.Limit limit.Names) × (END_OF_IMAGE_NUMBERS < constants_end modules.now root order.now.items)) }
 {
     let top = &modules[root];
     let exported = exported(top.signature.constants().len(), top.hidden_constants.len());

@@ -1,9 +1,6 @@
 -- The bodies of quantifiers.
-use Rattle.std.proofs.Common.{◌≡◌, ◌≢◌, ℕ, zero, suc, ◌<◌, ◌≤◌, ◌^◌, List, [], ◌∷◌, ◌++◌, length, map, refl, sym, ap, ◌∙◌, subst, arith, Bor}
-use Rattle.std.specs.Prelude.{All, slice_index_or}
-use Rattle.std.proofs.lemmas.List.Elements.{All-head, All-tail}
-use Rattle.lp_calculus.specs.Types.{Ty}
-use Rattle.lp_calculus.specs.Term.{Term, index, atom, abs, app, apply, constant, integer, text, eigen, logic, param, shift}
+use Rattle.std.proofs.Common.{◌≡◌, ◌≢◌, ℕ, ◌<◌, ◌≤◌, ◌^◌, List, [], ◌∷◌, ◌++◌, length, map, refl, sym, ap, ◌∙◌, subst, arith}
+use Rattle.lp_calculus.specs.Term.{Term, index, atom, abs, app, apply, shift}
 use Rattle.lp_term.specs.Node.{TermBelow}
 use Rattle.lp_term.specs.Nodes.{Nodes, IsSound, tree, node_tree}
 use Rattle.lp_term.specs.Shapes.{term_shape}
@@ -11,10 +8,8 @@ use Rattle.lp_term.specs.Walk.{Everywhere}
 use Rattle.lp_term.specs.Raise.{FitsRaised}
 use Rattle.lp_term.specs.Spine.{LooseBelow, IsLoose}
 use Rattle.lp_term.specs.declared.node.TermId.{TermId}
-use Rattle.lp_term.specs.declared.node.TypeId.{TypeId}
 use Rattle.lp_term.specs.declared.node.TermNode.{TermNode}
 use Rattle.lp_term.proofs.Loose.{everywhere_both, below_height, height_below}
-use Rattle.lp_calculus.specs.Spine.{head_of, arguments_and}
 use Rattle.lp_standard.specs.Connectives.{body_of}
 use Rattle.lp_model.specs.inner.Connected.{IsApplication}
 

@@ -121,6 +121,7 @@ module _ (b c : Nodes) (x : Extends b c) where
   grown_frame (Frame.Right o l) i = (grown_list o i.0, grown_goals l.items i.1)
   grown_frame (Frame.All o T) i = (grown_list o i.0, omega (arith, i.1, x.more_types))
   grown_frame (Frame.Assume o cs) i = (grown_list o i.0, grown_clauses cs.items i.1)
+  grown_frame (Frame.Not o) i = grown_list o i
   grown_frame (Frame.Body o vars head) i = (grown_clause_list o i.0, grown_types vars.items i.1, omega (arith, i.2, x.more_terms))
 
   pub grown_frames : (fs : List Frame) → All (IsFrameIn b) fs → All (IsFrameIn c) fs

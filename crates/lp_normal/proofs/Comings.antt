@@ -9,7 +9,7 @@ use Rattle.lp_term.specs.declared.node.TypeId.{TypeId}
 use Rattle.lp_term.proofs.Trees.{extends-trans}
 use Rattle.lp_model.specs.declared.clause.Goal.{Goal}
 use Rattle.lp_model.specs.declared.clause.Clause.{Clause}
-use Rattle.lp_model.specs.Flat.{Either, Exists, Forall, Assume, Goals, no_goals, goals, clause, Clauses, no_clauses, clauses, add_goals, add_clauses}
+use Rattle.lp_model.specs.Flat.{Either, Exists, Forall, Goals, no_goals, goals, clause, Clauses, no_clauses, clauses, add_goals, add_clauses, assuming, denied}
 use Rattle.lp_model.specs.Flatten.{with_type_vars}
 use Rattle.lp_normal.specs.Flats.{IsFlatGoal, IsFlatClause}
 use Rattle.lp_normal.specs.declared.goals.Waiting.{Waiting}
@@ -111,7 +111,7 @@ module _ (b c : Nodes) (x : Extends b c) where
     h.0,
     h.1,
     goal_later a.outer.level a.outer.level a.goal no_goals h.0 i.goal h.2,
-    comes_later a.outer (goals (Assume cs h.0) no_goals) h.1 i.outer h.3,
+    comes_later a.outer (goals (assuming cs h.0) no_goals) h.1 i.outer h.3,
     h.4,
   )
 
@@ -152,7 +152,8 @@ module _ (b c : Nodes) (x : Extends b c) where
     subst (λ z. ComesTo c o (goals (Forall z gs) no_goals) h.0) (sym (x.same_types T.0 i.1)) (comes_later o (goals (Forall (type_tree b T.0) gs) no_goals) h.0 i.0 h.1),
     h.2,
   )
-  turns_later (Frame.Assume o l) gs out i h = (h.0, h.1, clauses_later l.items h.0 h.2, comes_later o (goals (Assume h.0 gs) no_goals) h.1 i.0 h.3, h.4)
+  turns_later (Frame.Assume o l) gs out i h = (h.0, h.1, clauses_later l.items h.0 h.2, comes_later o (goals (assuming h.0 gs) no_goals) h.1 i.0 h.3, h.4)
+  turns_later (Frame.Not o) gs out i h = (h.0, comes_later o (goals (denied gs) no_goals) h.0 i h.1, h.2)
   turns_later (Frame.Body o vars head) gs out i h =
       subst (λ z. ClausesComeTo c o (clauses z no_clauses) out) (sym (same_clause o.type_vars gs (types_later vars.items i.1) (x.same_terms head.0 i.2)))
       (clauses_come_later o (clauses (clause o.type_vars (map (λ T. type_tree b T.0) vars.items) (tree b head.0) gs) no_clauses) out i.0 h)

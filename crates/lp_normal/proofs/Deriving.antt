@@ -8,9 +8,9 @@ use Rattle.lp_calculus.specs.Spine.{head_of, arguments}
 use Rattle.lp_standard.specs.Connectives.{Connective, connective_of}
 use Rattle.lp_standard.specs.Connectives as connective
 use Rattle.lp_standard.specs.Positive.{are_positive}
-use Rattle.lp_model.specs.Flat.{Atomic, Cut, Either, Exists, Forall, Assume, Goals, no_goals, goals, clause, Clauses, no_clauses, clauses, add_clauses, raise_goals}
+use Rattle.lp_model.specs.Flat.{Atomic, Cut, Either, Exists, Forall, Goals, no_goals, goals, clause, Clauses, no_clauses, clauses, add_clauses, raise_goals, assuming, denied}
 use Rattle.lp_model.specs.Flatten.{only, is_goal_head, is_clause_head, flat_goal, flat_goal_form, flat_list, flat_clause, flat_clause_form, with_type_vars}
-use Rattle.lp_normal.specs.Flats.{IsFlatGoal, truth, cutting, both, one_of, implies, every, exist, plain, IsFlatList, no_more, one_more, IsFlatClause, both_clauses, implied, for_every, head}
+use Rattle.lp_normal.specs.Flats.{IsFlatGoal, truth, cutting, both, one_of, implies, every, exist, negated, plain, IsFlatList, no_more, one_more, IsFlatClause, both_clauses, implied, for_every, head}
 
 pub bind_some : {A B : Type 0} (o : Option A) (f : A → Option B) (x : B) → option_and_then f o ≡ Some x → (a : A) × (o ≡ Some a) × (f a ≡ Some x)
 bind_some None f x e = cc
@@ -45,8 +45,8 @@ module _ (d : ℕ → Option Scheme) where
         let z = map_some (flat_goal n d binders b no_goals) (λ k. goals (Either q.0 k) rest) gs q.2 in
         one_of a b q.0 z.0 s (goal_derived n binders a no_goals q.0 q.1) (goal_derived n binders b no_goals z.0 z.1) (sym z.2)
     form_derived (suc n) binders t (connective.Implies c g) s rest gs e =
-        let q = bind_some (flat_clause n d binders c [] []) (λ cs. option_map (λ hs. goals (Assume cs hs) rest) (flat_goal n d binders g no_goals)) gs e in
-        let z = map_some (flat_goal n d binders g no_goals) (λ hs. goals (Assume q.0 hs) rest) gs q.2 in
+        let q = bind_some (flat_clause n d binders c [] []) (λ cs. option_map (λ hs. goals (assuming cs hs) rest) (flat_goal n d binders g no_goals)) gs e in
+        let z = map_some (flat_goal n d binders g no_goals) (λ hs. goals (assuming q.0 hs) rest) gs q.2 in
         implies c g q.0 z.0 s (clause_derived n binders c [] [] q.0 q.1) (goal_derived n binders g no_goals z.0 z.1) (sym z.2)
     form_derived (suc n) binders t (connective.ForAll T b) s rest gs e =
         let z = map_some (flat_goal n d (true ∷ binders) b no_goals) (λ hs. goals (Forall T hs) rest) gs e in
@@ -54,7 +54,9 @@ module _ (d : ℕ → Option Scheme) where
     form_derived (suc n) binders t (connective.Exists T b) s rest gs e =
         let z = map_some (flat_goal n d (false ∷ binders) b (raise_goals 0 rest)) (λ hs. goals (Exists T hs) no_goals) gs e in
         exist T b z.0 s (goal_derived n (false ∷ binders) b (raise_goals 0 rest) z.0 z.1) (sym z.2)
-    form_derived (suc n) binders t (connective.Not g) s rest gs e = absurd (cc)
+    form_derived (suc n) binders t (connective.Not g) s rest gs e =
+        let z = map_some (flat_goal n d binders g no_goals) (λ hs. goals (denied hs) rest) gs e in
+        negated g z.0 s (goal_derived n binders g no_goals z.0 z.1) (sym z.2)
     form_derived (suc n) binders t connective.Atomic s rest gs e =
         plain s (sym (only_some (is_goal_head (head_of t) && are_positive (arguments t)) (goals (Atomic t) rest) gs e))
 

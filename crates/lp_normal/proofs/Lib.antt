@@ -1,5 +1,6 @@
 mod Bodies
 mod Deriving
+mod Written
 mod Shifts
 mod Bounds
 mod Inversions

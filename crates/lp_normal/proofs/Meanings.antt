@@ -7,10 +7,10 @@ use Rattle.lp_term.specs.declared.node.TypeId.{TypeId}
 use Rattle.lp_model.specs.declared.clause.Goal as code
 use Rattle.lp_model.specs.declared.clause.Goal.{Goal}
 use Rattle.lp_model.specs.declared.clause.Goal.TheOpen.{Goal-F}
-use Rattle.lp_model.specs.declared.clause.Goal.TheVariants.{rolls-Atom, rolls-Cut, rolls-Either, rolls-Some, rolls-All, rolls-Assume}
+use Rattle.lp_model.specs.declared.clause.Goal.TheVariants.{rolls-Atom, rolls-Cut, rolls-Either, rolls-Some, rolls-All, rolls-Assume, rolls-Not}
 use Rattle.lp_model.specs.declared.clause.Goal.TheFolds.{fold-roll-Goal, fold_out-Clause}
 use Rattle.lp_model.specs.declared.clause.Clause.{Clause}
-use Rattle.lp_model.specs.Flat.{Goal as FlatGoal, Clause as FlatClause, Atomic, Cut, Either, Exists, Forall, Assume, clause}
+use Rattle.lp_model.specs.Flat.{Goal as FlatGoal, Clause as FlatClause, Atomic, Cut, Either, Exists, Forall, clause, assuming, denied}
 use Rattle.lp_model.specs.Flattened.{goal_top, clause_top, goal_of, goals_of, clause_of, clauses_of}
 use Rattle.lp_normal.specs.Within.{highest, term_bound_at, clause_term_bound_at, term_bound, clause_term_bound, type_bound_at, clause_type_bound_at, type_bound, clause_type_bound}
 
@@ -29,8 +29,11 @@ some_is b T l = ap (goal_of b) (sym (rolls-Some T l)) ∙ fold-roll-Goal FlatGoa
 pub all_is : (b : Nodes) (T : TypeId) (l : Vec Goal Global) → goal_of b (code.All T l) ≡ Forall (type_tree b T.0) (goals_of b l.items)
 all_is b T l = ap (goal_of b) (sym (rolls-All T l)) ∙ fold-roll-Goal FlatGoal FlatClause (goal_top b) (clause_top b) (Goal-F.All T l)
 
-pub assume_is : (b : Nodes) (cs : Vec Clause Global) (l : Vec Goal Global) → goal_of b (code.Assume cs l) ≡ Assume (clauses_of b cs.items) (goals_of b l.items)
+pub assume_is : (b : Nodes) (cs : Vec Clause Global) (l : Vec Goal Global) → goal_of b (code.Assume cs l) ≡ assuming (clauses_of b cs.items) (goals_of b l.items)
 assume_is b cs l = ap (goal_of b) (sym (rolls-Assume cs l)) ∙ fold-roll-Goal FlatGoal FlatClause (goal_top b) (clause_top b) (Goal-F.Assume cs l)
+
+pub not_is : (b : Nodes) (l : Vec Goal Global) → goal_of b (code.Not l) ≡ denied (goals_of b l.items)
+not_is b l = ap (goal_of b) (sym (rolls-Not l)) ∙ fold-roll-Goal FlatGoal FlatClause (goal_top b) (clause_top b) (Goal-F.Not l)
 
 -- bounds
 
@@ -69,6 +72,12 @@ assume_terms cs l = ap term_bound (sym (rolls-Assume cs l)) ∙ fold-roll-Goal �
 
 pub assume_types : (cs : Vec Clause Global) (l : Vec Goal Global) → type_bound (code.Assume cs l) ≡ max (highest (map clause_type_bound cs.items)) (highest (map type_bound l.items))
 assume_types cs l = ap type_bound (sym (rolls-Assume cs l)) ∙ fold-roll-Goal ℕ ℕ type_bound_at clause_type_bound_at (Goal-F.Assume cs l)
+
+pub not_terms : (l : Vec Goal Global) → term_bound (code.Not l) ≡ highest (map term_bound l.items)
+not_terms l = ap term_bound (sym (rolls-Not l)) ∙ fold-roll-Goal ℕ ℕ term_bound_at clause_term_bound_at (Goal-F.Not l)
+
+pub not_types : (l : Vec Goal Global) → type_bound (code.Not l) ≡ highest (map type_bound l.items)
+not_types l = ap type_bound (sym (rolls-Not l)) ∙ fold-roll-Goal ℕ ℕ type_bound_at clause_type_bound_at (Goal-F.Not l)
 
 -- a clause
 

@@ -2,6 +2,7 @@
 use Rattle.std.proofs.Common.{◌≡◌, ℕ, suc, ◌+◌, ◌≤◌, List, [], ◌∷◌, ◌++◌, map, refl, sym, ap, ◌∙◌, subst, arith}
 use Rattle.std.specs.Prelude.{Bool, true, false, nat_eq, nat_lt, if◌then◌else◌}
 use Rattle.std.proofs.lemmas.Bool.Decides.{nat_tests}
+use Rattle.std.proofs.lemmas.List.{map-append}
 use mathlib.Core.Path.{fun_ext}
 use Rattle.lp_calculus.specs.Types.{Ty}
 use Rattle.lp_calculus.specs.Term.{Term, index, atom, abs, app, constant, integer, text, eigen, logic, param, raised, shift}
@@ -11,8 +12,9 @@ use Rattle.lp_calculus.proofs.BetaEta.{shift_one}
 use Rattle.lp_calculus.specs.Spine.{head_of, arguments_and}
 use Rattle.lp_standard.specs.Connectives.{body_of, Connective, connective_of_constant, connective_at, connective_of}
 use Rattle.lp_standard.specs.Connectives as connective
-use Rattle.lp_model.specs.Flat.{Goal, Atomic, Cut, Either, Exists, Forall, Assume, Not, Goals, no_goals, goals, Clause, clause, Clauses, no_clauses, clauses, add_clauses, under_all, map_goal, map_clause, map_clauses, same_type, raise_goals}
-use Rattle.lp_normal.specs.Flats.{IsFlatGoal, truth, cutting, both, one_of, implies, every, exist, plain, IsFlatList, no_more, one_more, IsFlatClause, both_clauses, implied, for_every, head}
+use Rattle.lp_model.specs.Flat.{Goal, Atomic, Cut, Either, Exists, Forall, Assume, Not, Goals, no_goals, goals, Clause, clause, Clauses, no_clauses, clauses, add_clauses, under_all, map_goal, map_clause, same_type, raise_goals, Written, map_written}
+use Rattle.lp_normal.specs.Flats.{IsFlatGoal, truth, cutting, both, one_of, implies, every, exist, negated, plain, IsFlatList, no_more, one_more, IsFlatClause, both_clauses, implied, for_every, head}
+use Rattle.lp_normal.proofs.Written.{raise_clauses, map_same, same_written, goals_written, clauses_written}
 
 -- two shifts, the one inside the other
 
@@ -113,13 +115,6 @@ form_shifted k by t f e = form_shift k by t ∙ ap (shifted k by) e
 
 -- goals raised twice
 
-abbrev pub raise_clauses : (from : ℕ) → Clauses → Clauses
-raise_clauses from cs = map_clauses suc (λ d t. shift d 1 t) same_type from cs
-
-map_same : (vs : List Ty) → map same_type vs ≡ vs
-map_same [] = refl
-map_same (v ∷ vs) = ap (λ us. v ∷ us) (map_same vs)
-
 under_suc : (vs : List Ty) (k : ℕ) → under_all suc vs (suc k) ≡ suc (under_all suc vs k)
 under_suc [] k = refl
 under_suc (v ∷ vs) k = ap suc (under_suc vs k)
@@ -131,8 +126,11 @@ under_le (v ∷ vs) j k h = omega (arith, under_le vs j k h)
 same_either : {A B X Y : Goals} → A ≡ X → B ≡ Y → Either A B ≡ Either X Y
 same_either {A} {B} {X} {Y} e f = ap (λ z. Either z B) e ∙ ap (Either X) f
 
-same_assume : {A X : Clauses} {B Y : Goals} → A ≡ X → B ≡ Y → Assume A B ≡ Assume X Y
-same_assume {A} {X} {B} {Y} e f = ap (λ z. Assume z B) e ∙ ap (Assume X) f
+same_assume : {v w : Written} {A X : Clauses} {B Y : Goals} → v ≡ w → A ≡ X → B ≡ Y → Assume v A B ≡ Assume w X Y
+same_assume {v} {w} {A} {X} {B} {Y} d e f = ap (λ z. Assume z A B) d ∙ ap (λ z. Assume w z B) e ∙ ap (Assume w X) f
+
+same_not : {v w : Written} {A X : Goals} → v ≡ w → A ≡ X → Not v A ≡ Not w X
+same_not {v} {w} {A} {X} d e = ap (λ z. Not z A) d ∙ ap (Not w) e
 
 same_goals : {A X : Goal} {B Y : Goals} → A ≡ X → B ≡ Y → goals A B ≡ goals X Y
 same_goals {A} {X} {B} {Y} e f = ap (λ z. goals z B) e ∙ ap (goals X) f
@@ -143,6 +141,14 @@ same_clauses {A} {X} {B} {Y} e f = ap (λ z. clauses z B) e ∙ ap (clauses X) f
 same_clause : (n : ℕ) {us vs : List Ty} {h i : Term} {a b : Goals} → us ≡ vs → h ≡ i → a ≡ b → clause n us h a ≡ clause n vs i b
 same_clause n {us} {vs} {h} {i} {a} {b} e f g = ap (λ z. clause n z h a) e ∙ ap (λ z. clause n vs z a) f ∙ ap (clause n vs i) g
 
+map_shifts : (j k : ℕ) (ts : List Term) → j ≤ k → map (λ t. shift (suc k) 1 t) (map (λ t. shift j 1 t) ts) ≡ map (λ t. shift j 1 t) (map (λ t. shift k 1 t) ts)
+map_shifts j k [] h = refl
+map_shifts j k (t ∷ ts) h =
+    ap (λ z. z ∷ map (λ u. shift (suc k) 1 u) (map (λ u. shift j 1 u) ts)) (shift_shift j k 1 t h) ∙ ap (λ z. shift j 1 (shift k 1 t) ∷ z) (map_shifts j k ts h)
+
+written_twice : (j k : ℕ) (w : Written) → j ≤ k → map_written (λ t. shift (suc k) 1 t) same_type (map_written (λ t. shift j 1 t) same_type w) ≡ map_written (λ t. shift j 1 t) same_type (map_written (λ t. shift k 1 t) same_type w)
+written_twice j k w h = same_written (map_shifts j k w.terms h) refl
+
 mutual
   goal_twice : (j k : ℕ) (g : Goal) → j ≤ k → map_goal suc (λ d t. shift d 1 t) same_type (suc k) (map_goal suc (λ d t. shift d 1 t) same_type j g) ≡ map_goal suc (λ d t. shift d 1 t) same_type j (map_goal suc (λ d t. shift d 1 t) same_type k g)
   goal_twice j k (Atomic t) h = ap Atomic (shift_shift j k 1 t h)
@@ -150,8 +156,8 @@ mutual
   goal_twice j k (Either gs hs) h = same_either (goals_twice j k gs h) (goals_twice j k hs h)
   goal_twice j k (Exists T gs) h = ap (Exists T) (goals_twice (suc j) (suc k) gs (omega arith))
   goal_twice j k (Forall T gs) h = ap (Forall T) (goals_twice (suc j) (suc k) gs (omega arith))
-  goal_twice j k (Assume cs gs) h = same_assume (clauses_twice j k cs h) (goals_twice j k gs h)
-  goal_twice j k (Not gs) h = ap Not (goals_twice j k gs h)
+  goal_twice j k (Assume w cs gs) h = same_assume (written_twice j k w h) (clauses_twice j k cs h) (goals_twice j k gs h)
+  goal_twice j k (Not w gs) h = same_not (written_twice j k w h) (goals_twice j k gs h)
 
   pub goals_twice : (j k : ℕ) (gs : Goals) → j ≤ k → raise_goals (suc k) (raise_goals j gs) ≡ raise_goals j (raise_goals k gs)
   goals_twice j k no_goals h = refl
@@ -177,14 +183,6 @@ raise_added : (k : ℕ) (cs ds : Clauses) → raise_clauses k (add_clauses cs ds
 raise_added k no_clauses ds = refl
 raise_added k (clauses c cs) ds = ap (clauses (map_clause suc (λ d t. shift d 1 t) same_type k c)) (raise_added k cs ds)
 
-map_both : {A B : Type 0} (f : A → B) (xs ys : List A) → map f (xs ++ ys) ≡ map f xs ++ map f ys
-map_both f [] ys = refl
-map_both f (x ∷ xs) ys = ap (λ l. f x ∷ l) (map_both f xs ys)
-
-map_shifts : (k : ℕ) (ts : List Term) → map (shift (suc k) 1) (map (shift 0 1) ts) ≡ map (shift 0 1) (map (shift k 1) ts)
-map_shifts k [] = refl
-map_shifts k (t ∷ ts) = ap (λ z. z ∷ map (shift (suc k) 1) (map (shift 0 1) ts)) (shift_shift 0 k 1 t (omega arith)) ∙ ap (λ z. shift 0 1 (shift k 1 t) ∷ z) (map_shifts k ts)
-
 mutual
   pub goal_raised : (k : ℕ) (t : Term) (rest gs : Goals) → IsFlatGoal t rest gs → IsFlatGoal (shift k 1 t) (raise_goals k rest) (raise_goals k gs)
   goal_raised k t rest gs (truth f e) = truth (form_shifted k 1 t connective.True f) (ap (raise_goals k) e)
@@ -194,12 +192,16 @@ mutual
   goal_raised k t rest gs (one_of a b l r f p q e) =
       one_of (shift k 1 a) (shift k 1 b) (raise_goals k l) (raise_goals k r) (form_shifted k 1 t (connective.Or a b) f) (goal_raised k a no_goals l p) (goal_raised k b no_goals r q) (ap (raise_goals k) e)
   goal_raised k t rest gs (implies c g cs hs f p q e) =
-      implies (shift k 1 c) (shift k 1 g) (raise_clauses k cs) (raise_goals k hs) (form_shifted k 1 t (connective.Implies c g) f) (clause_raised k c [] [] cs p) (goal_raised k g no_goals hs q) (ap (raise_goals k) e)
+      implies (shift k 1 c) (shift k 1 g) (raise_clauses k cs) (raise_goals k hs) (form_shifted k 1 t (connective.Implies c g) f) (clause_raised k c [] [] cs p) (goal_raised k g no_goals hs q)
+      (ap (raise_goals k) e ∙ ap (λ w. goals (Assume w (raise_clauses k cs) (raise_goals k hs)) (raise_goals k rest)) (clauses_written k cs))
   goal_raised k t rest gs (every T b hs f p e) =
       every T (shift (suc k) 1 b) (raise_goals (suc k) hs) (form_shifted k 1 t (connective.ForAll T b) f) (goal_raised (suc k) b no_goals hs p) (ap (raise_goals k) e)
   goal_raised k t rest gs (exist T b hs f p e) =
       exist T (shift (suc k) 1 b) (raise_goals (suc k) hs) (form_shifted k 1 t (connective.Exists T b) f)
       (subst (λ z. IsFlatGoal (shift (suc k) 1 b) z (raise_goals (suc k) hs)) (goals_twice 0 k rest (omega arith)) (goal_raised (suc k) b (raise_goals 0 rest) hs p)) (ap (raise_goals k) e)
+  goal_raised k t rest gs (negated g hs f p e) =
+      negated (shift k 1 g) (raise_goals k hs) (form_shifted k 1 t (connective.Not g) f) (goal_raised k g no_goals hs p)
+      (ap (raise_goals k) e ∙ ap (λ w. goals (Not w (raise_goals k hs)) (raise_goals k rest)) (goals_written k hs))
   goal_raised k t rest gs (plain f e) = plain (form_shifted k 1 t connective.Atomic f) (ap (raise_goals k) e)
 
   list_raised : (k : ℕ) (ts : List Term) (gs : Goals) → IsFlatList ts gs → IsFlatList (map (shift k 1) ts) (raise_goals k gs)
@@ -215,11 +217,11 @@ mutual
   clause_raised k t vars body cs (implied g c f p) =
       let u = under_all suc vars k in
       implied (shift u 1 g) (shift u 1 c) (form_shifted u 1 t (connective.Implies g c) f)
-      (subst (λ z. IsFlatClause (shift u 1 c) vars z (raise_clauses k cs)) (map_both (shift u 1) body (g ∷ [])) (clause_raised k c vars (body ++ g ∷ []) cs p))
+      (subst (λ z. IsFlatClause (shift u 1 c) vars z (raise_clauses k cs)) (map-append (shift u 1) body (g ∷ [])) (clause_raised k c vars (body ++ g ∷ []) cs p))
   clause_raised k t vars body cs (for_every T b f p) =
       let u = under_all suc vars k in
       for_every T (shift (suc u) 1 b) (form_shifted u 1 t (connective.ForAll T b) f)
-      (subst (λ z. IsFlatClause (shift (suc u) 1 b) (T ∷ vars) z (raise_clauses k cs)) (map_shifts u body) (clause_raised k b (T ∷ vars) (map (shift 0 1) body) cs p))
+      (subst (λ z. IsFlatClause (shift (suc u) 1 b) (T ∷ vars) z (raise_clauses k cs)) (map_shifts 0 u body (omega arith)) (clause_raised k b (T ∷ vars) (map (shift 0 1) body) cs p))
   clause_raised k t vars body cs (head gs f p e) =
       let u = under_all suc vars k in
       head (raise_goals u gs) (form_shifted u 1 t connective.Atomic f) (list_raised u body gs p)

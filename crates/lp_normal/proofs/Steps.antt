@@ -11,7 +11,7 @@ use Rattle.lp_term.specs.declared.node.TypeId.{TypeId}
 use Rattle.lp_model.specs.declared.clause.Goal.{Goal}
 use Rattle.lp_standard.specs.Connectives.{body_of, Connective, connective_of}
 use Rattle.lp_standard.specs.Connectives as connective
-use Rattle.lp_model.specs.Flat.{Goal as FlatGoal, Atomic, Cut, Either, Forall, Assume, Goals, no_goals, goals, Clauses, no_clauses, clauses, add_goals, add_clauses, raise_goals}
+use Rattle.lp_model.specs.Flat.{Goal as FlatGoal, Atomic, Cut, Either, Forall, Goals, no_goals, goals, Clauses, no_clauses, clauses, add_goals, add_clauses, raise_goals, assuming, denied}
 use Rattle.lp_model.specs.Flatten.{with_type_vars}
 use Rattle.lp_model.specs.Flattened.{goal_of, goals_of, clauses_of}
 use Rattle.lp_normal.specs.Flats.{IsFlatGoal, IsFlatClause}
@@ -144,6 +144,17 @@ module _ (b : Nodes) (l : GoalList) (next : Waiting) (out : Goals) where
             (k.0, these_goals out, refl, (k.1, out, k.3, one_goal (Either k.0 k.1) h k.4, refl), t),
       )
 
+  pub not_next : (whole : Flat) (m : GoalList) (fs gs : List Frame) (on : TermId) → m.opened.items ≡ [] → m.done.items ≡ [] → m.waiting.items ≡ record { formula = on; level = next.level } ∷ [] → m.level ≡ l.level →
+      gs ≡ fs ++ Frame.Not l ∷ [] →
+      connective_of (tree b next.formula.0) ≡ connective.Not (tree b on.0) → NextComesTo b l next out → AllTurn b (reverse fs) (these_goals out) whole → InnerComesTo b (Inner.Goals m) gs whole
+  not_next whole m fs gs on o d w v e f h t =
+      let k = next_by (connective.Not (tree b on.0)) f h in (
+        k.0,
+        one_comes b m (record { formula = on; level = next.level }) l.level k.0 o d w v k.1,
+        subst (λ z. AllTurn b z (these_goals k.0) whole) (sym (reverse_push gs fs (Frame.Not l) e))
+            (k.0, these_goals out, refl, (out, one_goal (denied k.0) h k.2, refl), t),
+      )
+
   pub implies_next : (m : ClauseList) (v : Assumed) (formula goal : TermId) → v.outer ≡ l → v.goal ≡ record { formula = goal; level = next.level } → m.type_vars ≡ 0 → m.assumed ≡ Some v → m.done.items ≡ [] → m.waiting.items ≡ Part.Visit formula ∷ [] → m.around.items ≡ [] →
       (u : Term) → tree b formula.0 ≡ shift 0 (l.level - next.level) u →
       connective_of (tree b next.formula.0) ≡ connective.Implies u (tree b goal.0) → NextComesTo b l next out → ClausesComeTo b m no_clauses (these_goals out)
@@ -162,7 +173,7 @@ module _ (b : Nodes) (l : GoalList) (next : Waiting) (out : Goals) where
               k.1,
               out,
               subst (λ z. IsFlatGoal (raised_in b z.level v.goal) no_goals k.1) (sym vo) (subst (λ z. IsFlatGoal (raised_in b l.level z) no_goals k.1) (sym vg) k.3),
-              subst (λ z. ComesTo b z (goals (Assume k.0 k.1) no_goals) out) (sym vo) (one_goal (Assume k.0 k.1) h k.4),
+              subst (λ z. ComesTo b z (goals (assuming k.0 k.1) no_goals) out) (sym vo) (one_goal (assuming k.0 k.1) h k.4),
               refl,
             )));
       }

@@ -15,7 +15,7 @@ use Rattle.lp_model.specs.declared.clause.Goal as code
 use Rattle.lp_model.specs.declared.clause.Goal.{Goal}
 use Rattle.lp_model.specs.declared.clause.Clause.{Clause}
 use Rattle.lp_model.specs.Eigens.{beta_normal}
-use Rattle.lp_model.specs.Flat.{Either, Forall, Assume, Goals, no_goals, clause, Clauses, no_clauses, add_goals, add_clauses}
+use Rattle.lp_model.specs.Flat.{Either, Forall, Goals, no_goals, clause, Clauses, no_clauses, add_goals, add_clauses, assuming, denied}
 use Rattle.lp_model.specs.Flatten.{ClauseFormula, with_type_vars, flat_clause, flat_goal, flatten, flatten_query}
 use Rattle.lp_model.specs.Flattened.{goals_of}
 use Rattle.lp_normal.specs.Flats.{IsFlatGoal, IsFlatClause}
@@ -32,7 +32,7 @@ use Rattle.lp_normal.specs.Within.{IsWaitingIn, IsGoalListIn, IsLinkIn, IsPartIn
 use Rattle.lp_normal.specs.Making.{Reads, ReadsClauses, Flatten, Closes, ComesTo, NextComesTo, PartsFlatten, Flat, these_goals, these_clauses, AssumedComesTo, ClausesComeTo, PartComesTo, Turns, AllTurn, InnerComesTo, IsMadeOf}
 use Rattle.lp_normal.proofs.Bounds.{All-last, All-pushed, reverse_push, grown_frames}
 use Rattle.lp_normal.proofs.Deriving.{bind_some, map_some, goal_derived, clause_derived}
-use Rattle.lp_normal.proofs.Meanings.{clause_is, either_is, all_is, assume_is}
+use Rattle.lp_normal.proofs.Meanings.{clause_is, either_is, all_is, assume_is, not_is}
 use Rattle.lp_normal.proofs.Comings.{types_later}
 use Rattle.lp_normal.proofs.Steps.{add_none, add_no_clauses, with_comes, one_comes}
 use Rattle.lp_normal.proofs.ClauseSteps.{with_clause_comes, one_part}
@@ -109,8 +109,12 @@ module _ (b : Nodes) (fs gs : List Frame) (now : List Goal) (hs : Goals) (next w
 
   pub assume_turns : (o m : GoalList) (l : Vec Clause Global) (v : Vec Goal Global) → v.items ≡ now → gs ≡ fs → m.opened ≡ o.opened → m.done.items ≡ o.done.items ++ code.Assume l v ∷ [] → m.waiting ≡ o.waiting → m.level ≡ o.level → Turns b (Frame.Assume o l) hs next → InnerComesTo b (Inner.Goals m) gs whole
   assume_turns o m l v q e mo d w n h =
-      goes_on o m h.1 e (with_comes b o m (code.Assume l v) (Assume h.0 hs) h.1 mo d w n
-      (λ later x. assume_is later l v ∙ ap (λ z. Assume z (goals_of later v.items)) (h.2 later x) ∙ ap (Assume h.0) (ap (goals_of later) q ∙ r later x)) h.3) h.4
+      goes_on o m h.1 e (with_comes b o m (code.Assume l v) (assuming h.0 hs) h.1 mo d w n
+      (λ later x. assume_is later l v ∙ ap (λ z. assuming z (goals_of later v.items)) (h.2 later x) ∙ ap (assuming h.0) (ap (goals_of later) q ∙ r later x)) h.3) h.4
+
+  pub not_turns : (o m : GoalList) (v : Vec Goal Global) → v.items ≡ now → gs ≡ fs → m.opened ≡ o.opened → m.done.items ≡ o.done.items ++ code.Not v ∷ [] → m.waiting ≡ o.waiting → m.level ≡ o.level → Turns b (Frame.Not o) hs next → InnerComesTo b (Inner.Goals m) gs whole
+  not_turns o m v q e mo d w n h =
+      goes_on o m h.0 e (with_comes b o m (code.Not v) (denied hs) h.0 mo d w n (λ later x. not_is later v ∙ ap denied (ap (goals_of later) q ∙ r later x)) h.1) h.2
 
   types_in_later : (later : Nodes) → Extends b later → (ts : List TypeId) → All (λ T. T.0 < length b.types) ts → map (λ T. type_tree later T.0) ts ≡ map (λ T. type_tree b T.0) ts
   types_in_later later x ts a = types_later b later x ts a

@@ -4,7 +4,7 @@ use Rattle.lp_calculus.specs.Types.{Ty}
 use Rattle.lp_calculus.specs.Term.{Term, shift}
 use Rattle.lp_standard.specs.Connectives.{connective_of}
 use Rattle.lp_standard.specs.Connectives as connective
-use Rattle.lp_model.specs.Flat.{Atomic, Cut, Either, Exists, Forall, Assume, Goals, no_goals, goals, clause, Clauses, no_clauses, clauses, add_clauses, raise_goals}
+use Rattle.lp_model.specs.Flat.{Atomic, Cut, Either, Exists, Forall, Goals, no_goals, goals, clause, Clauses, no_clauses, clauses, add_clauses, raise_goals, assuming, denied}
 
 mutual
   -- the goals are those of the formula, with these behind them
@@ -13,9 +13,10 @@ mutual
     cutting : {t : Term} → {rest gs : Goals} → connective_of t ≡ connective.Cut → gs ≡ goals Cut rest → IsFlatGoal t rest gs
     both : {t : Term} → {rest gs : Goals} → (a b : Term) → (between : Goals) → connective_of t ≡ connective.And a b → IsFlatGoal b rest between → IsFlatGoal a between gs → IsFlatGoal t rest gs
     one_of : {t : Term} → {rest gs : Goals} → (a b : Term) → (l r : Goals) → connective_of t ≡ connective.Or a b → IsFlatGoal a no_goals l → IsFlatGoal b no_goals r → gs ≡ goals (Either l r) rest → IsFlatGoal t rest gs
-    implies : {t : Term} → {rest gs : Goals} → (c g : Term) → (cs : Clauses) → (hs : Goals) → connective_of t ≡ connective.Implies c g → IsFlatClause c [] [] cs → IsFlatGoal g no_goals hs → gs ≡ goals (Assume cs hs) rest → IsFlatGoal t rest gs
+    implies : {t : Term} → {rest gs : Goals} → (c g : Term) → (cs : Clauses) → (hs : Goals) → connective_of t ≡ connective.Implies c g → IsFlatClause c [] [] cs → IsFlatGoal g no_goals hs → gs ≡ goals (assuming cs hs) rest → IsFlatGoal t rest gs
     every : {t : Term} → {rest gs : Goals} → (T : Ty) → (b : Term) → (hs : Goals) → connective_of t ≡ connective.ForAll T b → IsFlatGoal b no_goals hs → gs ≡ goals (Forall T hs) rest → IsFlatGoal t rest gs
     exist : {t : Term} → {rest gs : Goals} → (T : Ty) → (b : Term) → (hs : Goals) → connective_of t ≡ connective.Exists T b → IsFlatGoal b (raise_goals 0 rest) hs → gs ≡ goals (Exists T hs) no_goals → IsFlatGoal t rest gs
+    negated : {t : Term} → {rest gs : Goals} → (g : Term) → (hs : Goals) → connective_of t ≡ connective.Not g → IsFlatGoal g no_goals hs → gs ≡ goals (denied hs) rest → IsFlatGoal t rest gs
     plain : {t : Term} → {rest gs : Goals} → connective_of t ≡ connective.Atomic → gs ≡ goals (Atomic t) rest → IsFlatGoal t rest gs
 
   -- those of the formulas, one behind the other

@@ -3,7 +3,7 @@ use Rattle.std.specs.Prelude.{◌≡◌, ℕ, ◌-◌, ◌≤◌, All, length, L
 use Rattle.lp_calculus.specs.Types.{Ty}
 use Rattle.lp_calculus.specs.Term.{Term, shift}
 use Rattle.lp_term.specs.Nodes.{Nodes, Extends, tree, type_tree}
-use Rattle.lp_model.specs.Flat.{Either, Exists, Forall, Assume, Goals, no_goals, goals, clause, Clauses, no_clauses, clauses, add_goals, add_clauses}
+use Rattle.lp_model.specs.Flat.{Either, Exists, Forall, Goals, no_goals, goals, clause, Clauses, no_clauses, clauses, add_goals, add_clauses, assuming, denied}
 use Rattle.lp_model.specs.Flatten.{with_type_vars}
 use Rattle.lp_model.specs.Flattened.{goals_of, clauses_of}
 use Rattle.lp_model.specs.declared.clause.Goal.{Goal}
@@ -95,7 +95,7 @@ pub data Flat : Type 0 where
 -- what the clauses are made for comes to this
 abbrev pub AssumedComesTo : Nodes → Option Assumed → Clauses → (out : Flat) → Type 0
 AssumedComesTo b None cs out = these_clauses cs ≡ out
-AssumedComesTo b (Some a) cs out = (hs whole : Goals) × IsFlatGoal (raised_in b a.outer.level a.goal) no_goals hs × ComesTo b a.outer (goals (Assume cs hs) no_goals) whole × (these_goals whole ≡ out)
+AssumedComesTo b (Some a) cs out = (hs whole : Goals) × IsFlatGoal (raised_in b a.outer.level a.goal) no_goals hs × ComesTo b a.outer (goals (assuming cs hs) no_goals) whole × (these_goals whole ≡ out)
 
 -- so does the list, where some more clauses stand between those that it has and those of the parts that wait
 pub record ClausesComeTo (b : Nodes) (l : ClauseList) (between : Clauses) (out : Flat) : Type 0 where
@@ -120,7 +120,8 @@ abbrev pub Turns : Nodes → Frame → Goals → (out : Flat) → Type 0
 Turns b (Frame.Left outer right) gs out = (hs whole : Goals) × IsFlatGoal (raised_in b outer.level right) no_goals hs × ComesTo b outer (goals (Either gs hs) no_goals) whole × (these_goals whole ≡ out)
 Turns b (Frame.Right outer l) gs out = (left whole : Goals) × Reads b l.items left × ComesTo b outer (goals (Either left gs) no_goals) whole × (these_goals whole ≡ out)
 Turns b (Frame.All outer T) gs out = (whole : Goals) × ComesTo b outer (goals (Forall (type_tree b T.0) gs) no_goals) whole × (these_goals whole ≡ out)
-Turns b (Frame.Assume outer l) gs out = (cs : Clauses) × (whole : Goals) × ReadsClauses b l.items cs × ComesTo b outer (goals (Assume cs gs) no_goals) whole × (these_goals whole ≡ out)
+Turns b (Frame.Assume outer l) gs out = (cs : Clauses) × (whole : Goals) × ReadsClauses b l.items cs × ComesTo b outer (goals (assuming cs gs) no_goals) whole × (these_goals whole ≡ out)
+Turns b (Frame.Not outer) gs out = (whole : Goals) × ComesTo b outer (goals (denied gs) no_goals) whole × (these_goals whole ≡ out)
 Turns b (Frame.Body outer vars head) gs out = ClausesComeTo b outer (clauses (clause outer.type_vars (map (λ T. type_tree b T.0) vars.items) (tree b head.0) gs) no_clauses) out
 
 -- the innermost frame first

@@ -110,6 +110,7 @@ IsFrameIn b (Frame.Left outer right) = IsGoalListIn b outer × IsWaitingIn b out
 IsFrameIn b (Frame.Right outer left) = IsGoalListIn b outer × AreGoalsIn b left.items
 IsFrameIn b (Frame.All outer T) = IsGoalListIn b outer × (T.0 < length b.types)
 IsFrameIn b (Frame.Assume outer cs) = IsGoalListIn b outer × AreClausesIn b cs.items
+IsFrameIn b (Frame.Not outer) = IsGoalListIn b outer
 IsFrameIn b (Frame.Body outer vars head) = IsClauseListIn b outer × All (λ T. T.0 < length b.types) vars.items × (head.0 < length b.terms)
 
 abbrev pub IsInnerIn : Nodes → Inner → Type 0

@@ -16,6 +16,8 @@ pub(crate) enum Frame {
     All(GoalList, TypeId),
     /// They are proved under clauses.
     Assume(GoalList, Vec<Clause>),
+    /// They are denied.
+    Not(GoalList),
     /// They are the body of a clause with this head.
     Body(ClauseList, Vec<TypeId>, TermId),
 }

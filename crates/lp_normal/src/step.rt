@@ -161,6 +161,33 @@ fn assume(
     Ok(inner)
 }
 
+// A `not`: its goals are next.
+fn negated(
+    alloc: Global,
+    bank: &Bank,
+    frames: &mut Vec<Frame>,
+    list: GoalList,
+    next: Waiting,
+    on: TermId,
+) -> Result<GoalList, Memory>
+    requires frames { All (IsFrameIn bank.now) frames.old.items }
+    requires list { IsGoalListIn bank.now list }
+    requires next { IsWaitingIn bank.now list.level next }
+    requires on { on.0 < length bank.now.terms }
+    requires form { connective_of (tree bank.now next.formula.0) ≡ connective.Not (tree bank.now on.0) }
+    ensures frames { OnOk result (All (IsFrameIn bank.now) frames.new.items) }
+    ensures within { IfOk result (IsGoalListIn bank.now) }
+    ensures comes { IfOk result (λ l. (out : Goals) (whole : Flat) → NextComesTo bank.now list next out → AllTurn bank.now (reverse frames.old.items) (these_goals out) whole → InnerComesTo bank.now (Inner.Goals l) frames.new.items whole) }
+{
+    let first = Waiting {
+        formula: on,
+        level: next.level,
+    };
+    let inner = GoalList::of(alloc, first, list.level)?;
+    frames.push(Frame::Not(list))?;
+    Ok(inner)
+}
+
 // The next formula of a list of goals.
 fn next_goal(
     alloc: Global,
@@ -203,8 +230,10 @@ fn next_goal(
             let made = exists(alloc, bank, list, next, bound, on)?;
             Ok(Inner::Goals(made))
         }
-        // No goal yet.
-        Connective::Not(_) => Err(Memory),
+        Connective::Not(on) => {
+            let made = negated(alloc, bank, frames, list, next, on)?;
+            Ok(Inner::Goals(made))
+        }
         Connective::Atomic => {
             let made = atom(alloc, bank, list, next)?;
             Ok(Inner::Goals(made))
@@ -239,6 +268,10 @@ fn take_goals(
         }
         Frame::Assume(outer, clauses) => {
             let made = outer.with(Goal::Assume(clauses, goals))?;
+            Ok(Inner::Goals(made))
+        }
+        Frame::Not(outer) => {
+            let made = outer.with(Goal::Not(goals))?;
             Ok(Inner::Goals(made))
         }
         Frame::Body(outer, vars, head) => {

@@ -1,5 +1,9 @@
 // The code of a record: one field, of instructions.
 
+ghost use Rattle.std.specs.Prelude.{IfOk};
+ghost use Rattle.std.specs.List.{All};
+ghost use Rattle.lp_code.specs.Length.{Fits};
+
 use crate::fault::{FormatFault, WriteRefusal};
 use crate::reader::Reader;
 use crate::width::Width;
@@ -17,24 +21,36 @@ fn fault_at(fault: FormatFault, at: usize) -> FormatFault {
 }
 
 impl Reader<'_> {
+    // The next instruction, whose faults are told at its first byte.
+    fn located(&mut self, alloc: Global, width: Width) -> Result<Instr, FormatFault>
+        ensures { IfOk result (λ instr. Fits instr) }
+    {
+        let at = self.at;
+        match self.instruction(alloc, width) {
+            Ok(instr) => Ok(instr),
+            Err(fault) => Err(fault_at(fault, at)),
+        }
+    }
+
     // Instructions up to the end of the code, which is that of the bytes.
-    fn instructions(&mut self, alloc: Global, width: Width) -> Result<Vec<Instr>, FormatFault> {
+    fn instructions(&mut self, alloc: Global, width: Width) -> Result<Vec<Instr>, FormatFault>
+        ensures { IfOk result (λ code. All Fits code.items) }
+    {
         let mut code = Vec::new(alloc);
         for _ in 0..self.bytes.len() {
             if self.at >= self.bytes.len() {
                 return Ok(code);
             }
-            let at = self.at;
-            match self.instruction(alloc, width) {
-                Ok(instr) => code.push(instr).map_err(Memory::from)?,
-                Err(fault) => return Err(fault_at(fault, at)),
-            }
+            let instr = self.located(alloc, width)?;
+            code.push(instr).map_err(Memory::from)?;
         }
         Ok(code)
     }
 
     // The length of the code, and the code.
-    pub(crate) fn code(&mut self, alloc: Global, width: Width) -> Result<Vec<Instr>, FormatFault> {
+    pub(crate) fn code(&mut self, alloc: Global, width: Width) -> Result<Vec<Instr>, FormatFault>
+        ensures { IfOk result (λ code. All Fits code.items) }
+    {
         let length = self.four()?;
         let from = self.at;
         self.take(length as usize)?;

@@ -1,5 +1,8 @@
 // Images.
 
+ghost use Rattle.std.specs.Prelude.{◌<◌, ◌^◌, IfOk, length};
+ghost use Rattle.lp_code.specs.Length.{AllFit};
+
 use crate::fault::{FormatFault, WriteRefusal};
 use crate::names::Names;
 use crate::reader::Reader;
@@ -85,7 +88,10 @@ impl Reader<'_> {
     }
 
     // What stands behind the version, but for the tables.
-    fn image(&mut self, alloc: Global, width: Width) -> Result<Image, FormatFault> {
+    fn image(&mut self, alloc: Global, width: Width) -> Result<Image, FormatFault>
+        ensures few { IfOk result (λ image. length image.code.records.items < 2 ^ 32) }
+        ensures fit { IfOk result (λ image. AllFit image.code.records.items) }
+    {
         let name = Reader::owned(alloc, self.name()?)?;
         let mut bank = Bank::new(alloc);
         let kinds = self.image_kinds(alloc, width)?;
@@ -105,7 +111,10 @@ fn arities_of(alloc: Global, kinds: &[ImageKind]) -> Result<Vec<u8>, Memory> {
 }
 
 /// The image that the bytes spell in version 1 or 2, or the first fault in their order.
-pub fn read_image(alloc: Global, bytes: &[u8]) -> Result<Image, FormatFault> {
+pub fn read_image(alloc: Global, bytes: &[u8]) -> Result<Image, FormatFault>
+    ensures few { IfOk result (λ image. length image.code.records.items < 2 ^ 32) }
+    ensures fit { IfOk result (λ image. AllFit image.code.records.items) }
+{
     let mut reader = Reader::begin(bytes)?;
     reader.magic(b"LPIM")?;
     let image = match reader.two()? {

@@ -1,5 +1,8 @@
 // Instructions: the number of each, and its operands in order.
 
+ghost use Rattle.std.specs.Prelude.{IfOk};
+ghost use Rattle.lp_code.specs.Length.{Fits};
+
 use crate::fault::{FormatFault, WriteRefusal};
 use crate::reader::Reader;
 use crate::width::Width;
@@ -9,7 +12,9 @@ use std::alloc::Global;
 
 impl Reader<'_> {
     // Those that build types and terms.
-    fn building(&mut self, alloc: Global, width: Width, byte: u8) -> Result<Instr, FormatFault> {
+    fn building(&mut self, alloc: Global, width: Width, byte: u8) -> Result<Instr, FormatFault>
+        ensures { IfOk result (λ instr. Fits instr) }
+    {
         Ok(match byte {
             0x01 => Instr::TyCon(self.two()?, self.number(width)?, self.few(alloc)?),
             0x02 => Instr::TyArr(self.two()?, self.two()?, self.two()?),
@@ -25,7 +30,9 @@ impl Reader<'_> {
     }
 
     // An application, which has one argument or more.
-    fn application(&mut self, alloc: Global) -> Result<Instr, FormatFault> {
+    fn application(&mut self, alloc: Global) -> Result<Instr, FormatFault>
+        ensures { IfOk result (λ instr. Fits instr) }
+    {
         let made = self.two()?;
         let head = self.two()?;
         let at = self.at;
@@ -37,7 +44,9 @@ impl Reader<'_> {
     }
 
     // Those of the head.
-    fn matching(&mut self, alloc: Global, width: Width, byte: u8) -> Result<Instr, FormatFault> {
+    fn matching(&mut self, alloc: Global, width: Width, byte: u8) -> Result<Instr, FormatFault>
+        ensures { IfOk result (λ instr. Fits instr) }
+    {
         Ok(match byte {
             0x0b => Instr::GetType(self.byte()?, self.two()?),
             0x0c => Instr::GetVar(self.byte()?, self.two()?),
@@ -50,7 +59,9 @@ impl Reader<'_> {
     }
 
     // Goals without a block.
-    fn calling(&mut self, alloc: Global, width: Width, byte: u8) -> Result<Instr, FormatFault> {
+    fn calling(&mut self, alloc: Global, width: Width, byte: u8) -> Result<Instr, FormatFault>
+        ensures { IfOk result (λ instr. Fits instr) }
+    {
         Ok(match byte {
             0x12 => Instr::Call(self.number(width)?, self.few(alloc)?, self.few(alloc)?),
             0x13 => Instr::CallTerm(self.two()?),
@@ -65,7 +76,9 @@ impl Reader<'_> {
     }
 
     // Those that begin and end blocks.
-    fn nesting(&mut self, alloc: Global, byte: u8) -> Result<Instr, FormatFault> {
+    fn nesting(&mut self, alloc: Global, byte: u8) -> Result<Instr, FormatFault>
+        ensures { IfOk result (λ instr. Fits instr) }
+    {
         Ok(match byte {
             0x1b => Instr::Sigma(self.two()?, self.two()?),
             0x1c => Instr::All(self.two()?, self.two()?),
@@ -80,17 +93,17 @@ impl Reader<'_> {
         })
     }
 
-    fn assumption(&mut self, alloc: Global) -> Result<Instr, FormatFault> {
+    fn assumption(&mut self, alloc: Global) -> Result<Instr, FormatFault>
+        ensures { IfOk result (λ instr. Fits instr) }
+    {
         let count = self.two()?;
         let records = self.numbered(alloc, count)?;
         Ok(Instr::Assume(records, self.many(alloc)?, self.many(alloc)?))
     }
 
-    pub(crate) fn instruction(
-        &mut self,
-        alloc: Global,
-        width: Width,
-    ) -> Result<Instr, FormatFault> {
+    pub(crate) fn instruction(&mut self, alloc: Global, width: Width) -> Result<Instr, FormatFault>
+        ensures { IfOk result (λ instr. Fits instr) }
+    {
         let at = self.at;
         let byte = self.byte()?;
         match byte {

@@ -29,6 +29,3 @@ mod writer;
 pub use fault::{FormatFault, WriteRefusal};
 pub use image::{read_image, write_image};
 pub use object::{read_object, write_object};
-
-#[cfg(test)]
-mod tests;

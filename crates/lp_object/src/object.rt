@@ -1,5 +1,8 @@
 // Objects.
 
+ghost use Rattle.std.specs.Prelude.{◌<◌, ◌^◌, IfOk, length};
+ghost use Rattle.lp_code.specs.Length.{AllFit};
+
 use crate::fault::{FormatFault, WriteRefusal};
 use crate::names::Names;
 use crate::reader::Reader;
@@ -122,7 +125,10 @@ fn arities_of(alloc: Global, kinds: &[ObjectKind]) -> Result<Vec<u8>, Memory> {
 }
 
 /// The object that the bytes spell, or the first fault in their order.
-pub fn read_object(alloc: Global, bytes: &[u8]) -> Result<Object, FormatFault> {
+pub fn read_object(alloc: Global, bytes: &[u8]) -> Result<Object, FormatFault>
+    ensures few { IfOk result (λ object. length object.code.records.items < 2 ^ 32) }
+    ensures fit { IfOk result (λ object. AllFit object.code.records.items) }
+{
     let mut reader = Reader::begin(bytes)?;
     reader.magic(b"LPOB")?;
     let version = reader.two()?;

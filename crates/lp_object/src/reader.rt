@@ -1,5 +1,8 @@
 // The bytes that are left to read, and fields of one number or text.
 
+ghost use Rattle.std.specs.Prelude.{◌≡◌, IfOk, length};
+ghost use Rattle.lp_code.specs.Length.{FitsByte, FitsTwo};
+
 use crate::fault::FormatFault;
 use crate::width::Width;
 use lp_base::Memory;
@@ -19,7 +22,9 @@ impl<'a> Reader<'a> {
     }
 
     // So many bytes, which are one field.
-    pub(crate) fn take(&mut self, count: usize) -> Result<&'a [u8], FormatFault> {
+    pub(crate) fn take(&mut self, count: usize) -> Result<&'a [u8], FormatFault>
+        ensures { IfOk result (λ taken. length taken.now ≡ count) }
+    {
         let bytes = self.bytes;
         let Some(left) = bytes.get(self.at..) else {
             return Err(FormatFault::Truncated(self.at as u64));
@@ -72,7 +77,9 @@ impl<'a> Reader<'a> {
     }
 
     // A text behind its length.
-    pub(crate) fn text(&mut self) -> Result<&'a [u8], FormatFault> {
+    pub(crate) fn text(&mut self) -> Result<&'a [u8], FormatFault>
+        ensures { IfOk result (λ text. FitsTwo text.now) }
+    {
         let length = self.two()?;
         self.take(usize::from(length))
     }
@@ -101,18 +108,24 @@ impl<'a> Reader<'a> {
     }
 
     // Registers behind a count of one byte.
-    pub(crate) fn few(&mut self, alloc: Global) -> Result<Vec<u16>, FormatFault> {
+    pub(crate) fn few(&mut self, alloc: Global) -> Result<Vec<u16>, FormatFault>
+        ensures { IfOk result (λ registers. FitsByte registers.items) }
+    {
         let count = self.byte()?;
         self.registers(alloc, u16::from(count))
     }
 
     // Registers behind a count of two bytes.
-    pub(crate) fn many(&mut self, alloc: Global) -> Result<Vec<u16>, FormatFault> {
+    pub(crate) fn many(&mut self, alloc: Global) -> Result<Vec<u16>, FormatFault>
+        ensures { IfOk result (λ registers. FitsTwo registers.items) }
+    {
         let count = self.two()?;
         self.registers(alloc, count)
     }
 
-    fn registers(&mut self, alloc: Global, count: u16) -> Result<Vec<u16>, FormatFault> {
+    fn registers(&mut self, alloc: Global, count: u16) -> Result<Vec<u16>, FormatFault>
+        ensures { IfOk result (λ registers. length registers.items ≡ count) }
+    {
         let mut registers = Vec::new(alloc);
         for _ in 0..count {
             let register = self.two()?;
@@ -122,7 +135,9 @@ impl<'a> Reader<'a> {
     }
 
     // Records by number, behind their count.
-    pub(crate) fn numbered(&mut self, alloc: Global, count: u16) -> Result<Vec<u32>, FormatFault> {
+    pub(crate) fn numbered(&mut self, alloc: Global, count: u16) -> Result<Vec<u32>, FormatFault>
+        ensures { IfOk result (λ records. length records.items ≡ count) }
+    {
         let mut records = Vec::new(alloc);
         for _ in 0..count {
             let record = self.four()?;
@@ -131,7 +146,9 @@ impl<'a> Reader<'a> {
         Ok(records)
     }
 
-    pub(crate) fn owned(alloc: Global, text: &[u8]) -> Result<Vec<u8>, FormatFault> {
+    pub(crate) fn owned(alloc: Global, text: &[u8]) -> Result<Vec<u8>, FormatFault>
+        ensures { IfOk result (λ owned. owned.items ≡ text.now) }
+    {
         let text = Vec::from_slice(alloc, text).map_err(Memory::from)?;
         Ok(text)
     }

@@ -1,5 +1,7 @@
 // Records, with their heads and keys.
 ghost use Rattle.std.specs.Prelude.{◌<◌, ◌^◌, IfOk, length};
+ghost use Rattle.std.specs.List.{All};
+ghost use Rattle.lp_code.specs.Length.{Fits, AllFit};
 
 use crate::fault::{FormatFault, WriteRefusal};
 use crate::reader::Reader;
@@ -28,7 +30,9 @@ impl<'a> Reader<'a> {
         }
     }
 
-    fn record(&mut self, alloc: Global, width: Width) -> Result<Record, FormatFault> {
+    fn record(&mut self, alloc: Global, width: Width) -> Result<Record, FormatFault>
+        ensures { IfOk result (λ made. All Fits made.code.items) }
+    {
         let program = self.choice(1, 0)?;
         let head = self.head(width)?;
         let captured_types = self.two()?;
@@ -57,6 +61,7 @@ impl<'a> Reader<'a> {
         most: u32,
     ) -> Result<Code, FormatFault>
         ensures few { IfOk result (λ code. length code.records.items < 2 ^ 32) }
+        ensures fit { IfOk result (λ code. AllFit code.records.items) }
     {
         let at = self.at;
         let count = self.four()?;

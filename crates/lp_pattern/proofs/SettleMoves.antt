@@ -1,6 +1,7 @@
 -- What each function of settling does to the tasks that are left and to what was made.
-use Rattle.std.proofs.Common.{◌≡◌, ℕ, zero, suc, ◌+◌, ◌<◌, List, [], ◌∷◌, ◌++◌, map, reverse, length, ◌∙◌, refl, sym, ap, subst as transport, arith, true, false, Some, None}
-use Rattle.std.specs.Prelude.{All}
+use Rattle.std.proofs.Common.{◌≡◌, ℕ, zero, suc, ◌+◌, ◌-◌, ◌<◌, ◌≤◌, if◌then◌else◌, List, [], ◌∷◌, ◌++◌, map, reverse, length, ◌∙◌, refl, sym, ap, subst as transport, arith, true, false, Some, None}
+use Rattle.std.proofs.lemmas.Bool.Decides.{nat_tests}
+use Rattle.std.specs.Prelude.{All, nat_lt}
 use Rattle.std.proofs.lemmas.List.{reverse-append, reverse-reverse, map-append, length-map, length-reverse}
 use Rattle.std.proofs.lemmas.List.Elements.{All-nil, All-head, All-tail, All-cons, All-push}
 use Rattle.lp_calculus.specs.Term.{Term, index, atom, abs, app, apply, constant, integer, text, eigen, logic, param}
@@ -218,6 +219,17 @@ plain_rigid c cs l d (atom (logic x m)) h f g = absurd h
 plain_rigid c cs l d (atom (param j u)) h f g = refl
 plain_rigid c cs l d (abs b) h f g = absurd h
 plain_rigid c cs l d (app t u) h f g = absurd h
+
+opens_past : (l d place : ℕ) → d ≤ place → opens l d place ≡ index (place - d)
+opens_past l d place h =
+    let past : nat_lt place d ≡ false = grind (arith, nat_tests, h) in
+    ap (λ x. if x then atom (eigen (l + (d - place))) else index (place - d)) past
+
+-- a loose index
+pub loose_head : (b e : Nodes) (c : Closing) (cs : List ℕ) (l d place : ℕ) (head made : TermId) → tree b head.0 ≡ index place → tree e made.0 ≡ index (place - d) → d ≤ place →
+    under e c made ≡ indexed_in cs l d (read_at b c l d head)
+loose_head b e c cs l d place head made q h n =
+    ap (closed c) h ∙ ap (indexed_in cs l d) (sym (opens_past l d place n)) ∙ sym (ap (λ t. indexed_in cs l d (subst (opens l d) (closed c t))) q)
 
 pub other_head : (b : Nodes) (n m : ℕ) (c : Closing) (cs : List ℕ) (l d : ℕ) (t : Term) (x : TermNode) → TermBelow n m (term_shape x) → node_tree b (term_shape x) ≡ t → (node_kind x ≡ 0 → ⊥) → (node_kind x ≡ 4 → ⊥) → IsRigid t →
     closed c t ≡ indexed_in cs l d (subst (opens l d) (closed c t))

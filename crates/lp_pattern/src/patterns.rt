@@ -162,10 +162,7 @@ fn push_wanted(arguments: &[TermId], count: u64, left: &mut Vec<Wanted>) -> Resu
 {
     let mut place = count;
     for term in arguments.iter().copied() {
-        if place == 0 {
-            return Err(Memory);
-        }
-        place -= 1;
+        place = place.saturating_sub(1);
         left.push(Wanted { term, place })?;
     }
     Ok(())

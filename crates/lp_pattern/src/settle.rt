@@ -115,7 +115,8 @@ fn put_stand_in(
     }
 }
 
-// A rigid head, which is another one where it is an eigenconstant for which an abstraction stands. A term of a pair has no loose index.
+// A rigid head, which is another one where it is an eigenconstant for which an abstraction stands. A loose index is
+// counted from outside the abstractions that are open.
 fn head_in(bank: &mut Bank, side: &Side, opened: Opened, head: TermId) -> Result<TermId, Memory>
     requires within { head.0 < length bank.old.terms }
     requires rigid { IsRigid (tree bank.old head.0) }
@@ -126,10 +127,11 @@ fn head_in(bank: &mut Bank, side: &Side, opened: Opened, head: TermId) -> Result
     match bank.term_node(head) {
         TermNode::Eigen(eigen) => put_stand_in(bank, side, opened, eigen, head),
         TermNode::Index(place) => {
-            if place >= opened.depth {
-                return Err(Memory);
+            if place < opened.depth {
+                return Ok(head);
             }
-            Ok(head)
+            let id = put_index(bank, place - opened.depth)?;
+            Ok(id)
         }
         _ => Ok(head),
     }

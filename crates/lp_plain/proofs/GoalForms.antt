@@ -1,11 +1,10 @@
 -- The form of an atomic goal is told by its head and its arguments: by cases on the constant.
-use Rattle.std.proofs.Common.{◌≡◌, ◌<◌, ℕ, List, [], ◌∷◌, ◌++◌, map, length, Option, Some, None, refl, sym, ap, ◌∙◌, subst, arith}
+use Rattle.std.proofs.Common.{◌≡◌, ◌<◌, ℕ, List, [], ◌∷◌, ◌++◌, map, Option, Some, None, refl, sym, ap, ◌∙◌, subst, arith}
 use Rattle.std.specs.Prelude.{false, slice_get}
 use Rattle.lp_calculus.specs.Types.{Ty}
-use Rattle.lp_calculus.specs.Term.{Term, index, atom, abs, app, apply, constant, integer, text, eigen, logic, param}
-use Rattle.lp_calculus.specs.Spine.{head_of, arguments, arguments_and}
+use Rattle.lp_calculus.specs.Term.{Term, atom, apply, constant, eigen, logic}
+use Rattle.lp_calculus.specs.Spine.{head_of, arguments}
 use Rattle.lp_standard.specs.Constants.{number, numbered, language, reserved}
-use Rattle.lp_standard.specs.Numbers as numbers
 use Rattle.lp_standard.specs.declared.constant.Constant.{Constant}
 use Rattle.lp_standard.specs.declared.constant.Constant.TheVariants as fixed
 use Rattle.lp_lemmas.proofs.Lists.{get_below}
@@ -20,7 +19,7 @@ use Rattle.lp_pattern.proofs.Names.{kind, node_kind, kind_of}
 use Rattle.lp_plain.specs.declared.form.Form as form_type
 use Rattle.lp_plain.specs.declared.form.Form.TheVariants as form
 use Rattle.lp_plain.specs.declared.head.Head.TheVariants as head
-use Rattle.lp_plain.specs.Forms.{IsFirst, IsCall, IsForm, is_named, by_numbered, by_two, by_constant}
+use Rattle.lp_plain.specs.Forms.{IsFirst, IsCall, IsForm, is_named, by_numbered, by_constant}
 use Rattle.lp_plain.proofs.Spines.{spine_head, spine_arguments}
 
 -- a number of no fixed constant
@@ -51,7 +50,8 @@ constant_told b t n ts (x ∷ y ∷ z ∷ ids) e a = (ts, e, subst (IsCall n) (s
 
 -- the goal is this head on these arguments
 
-pub constant_is : (b : Nodes) (t h : Term) (n : ℕ) (ts : List Ty) (ids js : List TermId) (f : form_type.Form) → IsNoApplication h → apply h (map (λ (i : TermId). tree b i.0) ids) ≡ t → atom (constant n ts) ≡ h → js ≡ ids → f ≡ by_constant n js → IsForm b t f
+pub constant_is : (b : Nodes) (t h : Term) (n : ℕ) (ts : List Ty) (ids js : List TermId) (f : form_type.Form) → IsNoApplication h → apply h (map (λ (i : TermId). tree b i.0) ids) ≡ t → atom (constant n ts) ≡ h →
+    js ≡ ids → f ≡ by_constant n js → IsForm b t f
 constant_is b t h n ts ids js f o e k q s =
     subst (IsForm b t) (sym (s ∙ ap (by_constant n) q)) (constant_told b t n ts ids (sym (k ∙ spine_head h t (map (λ (i : TermId). tree b i.0) ids) o e)) (sym (spine_arguments h t (map (λ (i : TermId). tree b i.0) ids) o e)))
 
@@ -60,7 +60,8 @@ first_is : (b : Nodes) (us : List Term) (ids : List TermId) → map (λ (i : Ter
 first_is b us [] a = subst (λ v. IsFirst b v None) a refl
 first_is b us (i ∷ ids) a = subst (λ v. IsFirst b v (Some i)) a (i, refl, refl)
 
-pub eigen_is : (b : Nodes) (t h : Term) (k : ℕ) (ids js : List TermId) (o : Option TermId) → IsNoApplication h → apply h (map (λ (i : TermId). tree b i.0) ids) ≡ t → atom (eigen k) ≡ h → js ≡ ids → o ≡ slice_get js 0 → IsForm b t (form.Call (head.Eigen k) o)
+pub eigen_is : (b : Nodes) (t h : Term) (k : ℕ) (ids js : List TermId) (o : Option TermId) → IsNoApplication h → apply h (map (λ (i : TermId). tree b i.0) ids) ≡ t → atom (eigen k) ≡ h →
+    js ≡ ids → o ≡ slice_get js 0 → IsForm b t (form.Call (head.Eigen k) o)
 eigen_is b t h k ids js o n e f q g =
     let us = map (λ (i : TermId). tree b i.0) ids in
     (sym (f ∙ spine_head h t us n e), subst (IsFirst b (arguments t)) (sym (g ∙ ap (λ l. slice_get l 0) q)) (first_is b (arguments t) ids (spine_arguments h t us n e)))
@@ -74,7 +75,8 @@ unnamed (atom (eigen k)) f g h = absurd (g refl)
 unnamed (atom (logic x l)) f g h = absurd (h refl)
 unnamed _ f g h = refl
 
-pub other_is : (b : Nodes) (t h : Term) (n m : ℕ) (x : TermNode) (us : List Term) → IsNoApplication h → apply h us ≡ t → TermBelow n m (term_shape x) → node_tree b (term_shape x) ≡ h → (node_kind x ≡ 1 → ⊥) → (node_kind x ≡ 4 → ⊥) → (node_kind x ≡ 5 → ⊥) → IsForm b t form.Other
+pub other_is : (b : Nodes) (t h : Term) (n m : ℕ) (x : TermNode) (us : List Term) → IsNoApplication h → apply h us ≡ t → TermBelow n m (term_shape x) →
+    node_tree b (term_shape x) ≡ h → (node_kind x ≡ 1 → ⊥) → (node_kind x ≡ 4 → ⊥) → (node_kind x ≡ 5 → ⊥) → IsForm b t form.Other
 other_is b t h n m x us o e l f p q r =
     let k : kind (head_of t) ≡ node_kind x = sym (ap kind (f ∙ spine_head h t us o e)) ∙ kind_of b n m x l in
     unnamed (head_of t) (λ z. p (sym k ∙ z)) (λ z. q (sym k ∙ z)) (λ z. r (sym k ∙ z))

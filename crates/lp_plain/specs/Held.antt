@@ -1,6 +1,10 @@
 -- What a contract sees of a search.
-use Rattle.std.specs.Prelude.{ℕ, Bool, Option, length}
+use Rattle.std.specs.Prelude.{ℕ, Bool, Option, length, nat_eq}
+use Rattle.indexmap.specs.IndexMap.{get}
+use Rattle.lp_term.specs.declared.node.TermId.{TermId}
+use Rattle.lp_term.specs.declared.node.TypeId.{TypeId}
 use Rattle.lp_model.specs.declared.ending.Ending.{Ending}
+use Rattle.lp_model.specs.declared.program.Typed.{Typed}
 use Rattle.lp_plain.specs.declared.search.Search.{Search}
 
 -- how many variables the query has
@@ -14,3 +18,14 @@ ended s = s.ended
 -- memory ran out
 unfoldable pub failed : Search → Bool
 failed s = s.failed
+
+-- what a variable is bound to
+unfoldable pub value_of : Search → ℕ → Option TermId
+value_of s x = get nat_eq s.machine.bindings.terms x
+
+unfoldable pub type_value_of : Search → ℕ → Option TypeId
+type_value_of s x = get nat_eq s.machine.bindings.types x
+
+-- the query
+unfoldable pub query_of : Search → Typed
+query_of s = s.source.query

@@ -1,5 +1,6 @@
--- Terms with values for their indices and their type variables raised, and what the tasks that make them come to.
+-- Terms with values for their indices and types for their type variables, and what the tasks that make them come to.
 use Rattle.std.specs.Prelude.{◌≡◌, ℕ, zero, suc, ◌<◌, List, [], ◌∷◌, map, length, All, Some, slice_get}
+use Rattle.lp_calculus.specs.Types.{Ty}
 use Rattle.lp_calculus.specs.Closed.{AllAtoms}
 use Rattle.lp_calculus.specs.Term.{Term, Atom, atom, abs, apply, constant, integer, text, eigen, logic, param}
 use Rattle.lp_calculus.specs.Instance.{instance_atom, instance_term}
@@ -9,7 +10,6 @@ use Rattle.lp_term.specs.Spine.{LooseBelow}
 use Rattle.lp_term.specs.declared.node.TermId.{TermId}
 use Rattle.lp_model.specs.Index.{lifted, instantiate, at}
 use Rattle.lp_plain.specs.declared.instance.Task.{Task}
-use Rattle.lp_plain.specs.Renewal.{further}
 use Rattle.lp_plain.specs.Working.{IsLeft}
 
 -- terms for indices, below so many more abstractions
@@ -17,9 +17,9 @@ abbrev pub lifted_by : ℕ → (ℕ → Term) → ℕ → Term
 lifted_by zero σ = σ
 lifted_by (suc d) σ = lifted (lifted_by d σ)
 
--- the term, below so many abstractions, with values for its indices and its type variables raised
-abbrev pub instanced : (σ : ℕ → Term) → (types depth : ℕ) → Term → Term
-instanced σ k d t = instantiate (lifted_by d σ) (instance_term (further k) t)
+-- the term, below so many abstractions, with values for its indices and types for its type variables
+abbrev pub instanced : (σ : ℕ → Term) → (θ : ℕ → Ty) → (depth : ℕ) → Term → Term
+instanced σ θ d t = instantiate (lifted_by d σ) (instance_term θ t)
 
 -- the terms that the values are
 abbrev pub values_of : Nodes → List TermId → ℕ → Term
@@ -41,9 +41,9 @@ IsNoParameter (eigen k) = Unit {0}
 IsNoParameter (logic x l) = Unit {0}
 IsNoParameter (param k t) = ⊥
 
--- an atom with its type variables raised, where it is no parameter
-abbrev pub IsRenewedAtom : (types : ℕ) → (old new : Term) → Type 0
-IsRenewedAtom k t u = (a : Atom) × (t ≡ atom a) × (IsNoParameter a → u ≡ atom (instance_atom (further k) a))
+-- an atom with types for its type variables, where it is no parameter
+abbrev pub IsRenewedAtom : (θ : ℕ → Ty) → (old new : Term) → Type 0
+IsRenewedAtom θ t u = (a : Atom) × (t ≡ atom a) × (IsNoParameter a → u ≡ atom (instance_atom θ a))
 
 -- a node like this one on these terms is this term
 abbrev pub IsBuiltTerm : TermShape → List Term → Term → Type 0
@@ -58,16 +58,16 @@ IsBuiltTerm (abs_node b) us v = (u : Term) × (us ≡ u ∷ []) × (v ≡ abs u)
 IsBuiltTerm (app_node f ids) us v = (h : Term) × (ts : List Term) × (us ≡ h ∷ ts) × (length ts ≡ length ids) × (v ≡ apply h ts)
 
 -- what a task takes and makes
-abbrev pub Instances : (σ : ℕ → Term) → (types : ℕ) → Nodes → Task → List Term → Term → Type 0
-Instances σ k b (Task.Visit t d) us v = (t.0 < length b.terms) × (us ≡ []) × AllAtoms IsNoParameter (tree b t.0) × (v ≡ instanced σ k d (tree b t.0))
-Instances σ k b (Task.Build t) us v = (t.0 < length b.terms) × IsBuiltTerm (term_at b t.0) us v
+abbrev pub Instances : (σ : ℕ → Term) → (θ : ℕ → Ty) → Nodes → Task → List Term → Term → Type 0
+Instances σ θ b (Task.Visit t d) us v = (t.0 < length b.terms) × (us ≡ []) × AllAtoms IsNoParameter (tree b t.0) × (v ≡ instanced σ θ d (tree b t.0))
+Instances σ θ b (Task.Build t) us v = (t.0 < length b.terms) × IsBuiltTerm (term_at b t.0) us v
 
-abbrev pub ToInstance : (σ : ℕ → Term) → (types : ℕ) → Nodes → List Task → List TermId → Term → Type 0
-ToInstance σ k b tasks made v = IsLeft (Instances σ k b) (λ t. tree b t.0) (λ t. t.0 < length b.terms) tasks made v
+abbrev pub ToInstance : (σ : ℕ → Term) → (θ : ℕ → Ty) → Nodes → List Task → List TermId → Term → Type 0
+ToInstance σ θ b tasks made v = IsLeft (Instances σ θ b) (λ t. tree b t.0) (λ t. t.0 < length b.terms) tasks made v
 
 -- what the earlier tasks lead to the later ones lead to
-abbrev pub KeepsInstancing : (σ : ℕ → Term) → (types : ℕ) → (b d : Nodes) → (old new : List Task) → (made made' : List TermId) → Type 0
-KeepsInstancing σ k b d old new made made' = (v : Term) → ToInstance σ k b old made v → ToInstance σ k d new made' v
+abbrev pub KeepsInstancing : (σ : ℕ → Term) → (θ : ℕ → Ty) → (b d : Nodes) → (old new : List Task) → (made made' : List TermId) → Type 0
+KeepsInstancing σ θ b d old new made made' = (v : Term) → ToInstance σ θ b old made v → ToInstance σ θ d new made' v
 
 -- the terms that are to be visited
 abbrev pub visits_at : (depth : ℕ) → List TermId → List Task

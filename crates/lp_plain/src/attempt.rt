@@ -1,8 +1,10 @@
 // One try of a clause for a goal.
 ghost use Rattle.std.specs.Prelude.{◌≡◌, ℕ, ◌+◌, length, IfOk};
 ghost use Rattle.lp_term.specs.Nodes.{Extends};
+ghost use Rattle.lp_plain.specs.Renewal.{Fits};
 ghost use Rattle.lp_plain.specs.Slots.{AreIn, IsSlotted, AreSlotted};
 
+use crate::act::{Act, Try};
 use crate::candidates::Candidate;
 use crate::choice::Call;
 use crate::frame::Place;
@@ -10,7 +12,7 @@ use crate::head::HeadPair;
 use crate::instance::{Values, instance};
 use crate::machine::Machine;
 use crate::scope::Scopes;
-use crate::types::renewed;
+use crate::types::{Renewal, renewed};
 use crate::unified::{Unified, unify};
 use lp_base::Memory;
 use lp_model::Pair;
@@ -33,20 +35,18 @@ fn clause_of(machine: &mut Machine, candidate: Candidate) -> Result<(usize, Valu
     }
 }
 
-// By how much the type variables of a program clause are raised.
-fn new_types(machine: &mut Machine, rule: usize) -> Result<u64, Memory> {
-    let Some(found) = machine.table.rules.get(rule) else {
-        return Err(Memory);
-    };
-    if found.type_vars == 0 {
-        return Ok(0);
-    }
-    let types = machine.branch.next_type;
-    let Some(next) = types.checked_add(found.type_vars as u64) else {
+// New numbers for the type variables of a program clause.
+fn new_types(machine: &mut Machine, rule: usize) -> Result<Renewal, Memory>
+    ensures { IfOk result (λ r. Fits r) }
+{
+    let found = machine.table.rule(rule)?;
+    let count = found.type_vars as u64;
+    let first = machine.branch.next_type;
+    let Some(next) = first.checked_add(count) else {
         return Err(Memory);
     };
     machine.branch.next_type = next;
-    Ok(types)
+    Ok(Renewal { count, first })
 }
 
 // What a variable of the clause becomes: the goal's argument, or a new variable.
@@ -103,9 +103,7 @@ fn open(
     level: u64,
     around: Values,
 ) -> Result<Values, Memory> {
-    let Some(found) = machine.table.rules.get(rule) else {
-        return Err(Memory);
-    };
+    let found = machine.table.rule(rule)?;
     let values = slot_values(
         machine.alloc,
         &mut machine.bank,
@@ -156,7 +154,7 @@ fn type_pairs(
     bank: &mut Bank,
     goal: TermId,
     clause: TermId,
-    types: u64,
+    types: Renewal,
 ) -> Result<Vec<(TypeId, TypeId)>, Memory> {
     let old = zipped_types(alloc, bank, goal, clause)?;
     let mut new = Vec::new(alloc);
@@ -202,9 +200,7 @@ fn meet(
     level: u64,
 ) -> Result<Unified, Memory> {
     let alloc = machine.alloc;
-    let Some(found) = machine.table.rules.get(rule) else {
-        return Err(Memory);
-    };
+    let found = machine.table.rule(rule)?;
     let types = type_pairs(alloc, &mut machine.bank, goal, found.head, values.types)?;
     let pairs = term_pairs(
         alloc,
@@ -225,9 +221,7 @@ fn put_body(
     place: Place,
     behind: Option<usize>,
 ) -> Result<(), Memory> {
-    let Some(found) = machine.table.rules.get(rule) else {
-        return Err(Memory);
-    };
+    let found = machine.table.rule(rule)?;
     let body = found.body;
     machine.branch.goals = machine.put_list(body, place, behind)?;
     Ok(())
@@ -256,9 +250,15 @@ pub(crate) fn attempt(
     let values = open(machine, rule, args.as_slice(), level, around)?;
     let unified = meet(machine, rule, head, args.as_slice(), values, level)?;
     if unified == Unified::Fits {
+        machine.note(Act::Met(Try {
+            candidate,
+            scope: values.scope,
+            first_type: values.types.first,
+        }))?;
         let place = Place {
             values,
             assumed: call.place.assumed,
+            standing: call.place.standing,
             level,
             mark,
         };

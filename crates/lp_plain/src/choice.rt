@@ -14,6 +14,8 @@ pub(crate) struct Lengths {
     pub(crate) frames: usize,
     pub(crate) assumptions: usize,
     pub(crate) newest: usize,
+    pub(crate) standings: usize,
+    pub(crate) acts: usize,
     pub(crate) scopes: ScopeMark,
 }
 
@@ -30,12 +32,23 @@ pub(crate) struct Call {
     pub(crate) behind: Option<usize>,
 }
 
+/// What the search of a negated goal returns to: the goals behind it, the number of the alternative of the negated goal around it, and
+/// whether a cut had removed an alternative of the search around it.
+#[derive(Clone, Copy)]
+pub(crate) struct Denial {
+    pub(crate) behind: Option<usize>,
+    pub(crate) around: Option<usize>,
+    pub(crate) lost: bool,
+}
+
 #[derive(Clone, Copy)]
 pub(crate) enum Untried {
     /// The right side of a `;`, with the goals behind it.
     Goals(Option<usize>),
     /// The candidates from one on.
     Clauses(Call, Candidate),
+    /// None is left in the search of a negated goal.
+    Denied(Denial),
 }
 
 /// An alternative, and the branch in which it stands.

@@ -3,7 +3,7 @@ ghost use Rattle.std.specs.Prelude.{◌≡◌, true, false, length, Ok, None, So
 ghost use Rattle.lp_model.specs.declared.ending.Ending.{Ending};
 ghost use Rattle.lp_model.specs.declared.answer.Event.TheVariants as told;
 ghost use Rattle.lp_plain.specs.Answers.{IsTold, Keeps};
-ghost use Rattle.lp_plain.specs.Held.{variables_of, ended, failed};
+ghost use Rattle.lp_plain.specs.Held.{variables_of, query_of, ended, failed};
 
 use crate::answer::answer_of;
 use crate::machine::Machine;
@@ -45,7 +45,7 @@ fn run<W: Watch>(
 
 impl Search {
     /// The search of a query over a program, with these limits of steps and of answers. Program and query are dropped on a refusal.
-    #[tactic(auto, unfolding(crate::specs::Held::variables_of))]
+    #[tactic(auto, unfolding(crate::specs::Held::variables_of, crate::specs::Held::query_of))]
     pub fn start(
         alloc: Global,
         program: Program,
@@ -54,10 +54,16 @@ impl Search {
         answers: u64,
     ) -> Result<Search, Memory>
         ensures variables { IfOk result (λ s. variables_of s ≡ length query.vars.items) }
+        ensures query { IfOk result (λ s. query_of s ≡ query) }
     {
-        let Started { machine, variables } = begin(alloc, program, query, steps)?;
+        let Started {
+            machine,
+            source,
+            variables,
+        } = begin(alloc, program, query, steps)?;
         Ok(Search {
             machine,
+            source,
             variables,
             answers,
             given: 0,
@@ -66,9 +72,10 @@ impl Search {
         })
     }
 
-    #[tactic(auto, unfolding(crate::specs::Held::variables_of, crate::specs::Held::ended, crate::specs::Held::failed))]
+    #[tactic(auto, unfolding(crate::specs::Held::variables_of, crate::specs::Held::query_of, crate::specs::Held::ended, crate::specs::Held::failed))]
     fn end(&mut self, ending: Ending) -> Event
         ensures variables { variables_of self.new ≡ variables_of self.old }
+        ensures query { query_of self.new ≡ query_of self.old }
         ensures told { IsTold (variables_of self.old) result }
         ensures ended { Keeps result (ended self.new) }
         ensures failed { failed self.new ≡ failed self.old }
@@ -78,9 +85,10 @@ impl Search {
     }
 
     // Tells of an answer, and that the search goes back from it where more are wanted.
-    #[tactic(auto, unfolding(crate::specs::Held::variables_of, crate::specs::Held::ended, crate::specs::Held::failed))]
+    #[tactic(auto, unfolding(crate::specs::Held::variables_of, crate::specs::Held::query_of, crate::specs::Held::ended, crate::specs::Held::failed))]
     fn tell_answer<W: Watch>(&mut self, crowd: &mut Crowd<'_, W>) -> Result<(), Memory>
         ensures variables { variables_of self.new ≡ variables_of self.old }
+        ensures query { query_of self.new ≡ query_of self.old }
         ensures ended { ended self.new ≡ ended self.old }
         ensures failed { failed self.new ≡ failed self.old }
     {
@@ -93,9 +101,10 @@ impl Search {
         tell_back(&self.machine, crowd)
     }
 
-    #[tactic(auto, unfolding(crate::specs::Held::variables_of, crate::specs::Held::ended, crate::specs::Held::failed))]
+    #[tactic(auto, unfolding(crate::specs::Held::variables_of, crate::specs::Held::query_of, crate::specs::Held::ended, crate::specs::Held::failed))]
     fn advance<W: Watch>(&mut self, crowd: &mut Crowd<'_, W>) -> Result<Event, Memory>
         ensures variables { variables_of self.new ≡ variables_of self.old }
+        ensures query { query_of self.new ≡ query_of self.old }
         ensures told { IfOk result (IsTold (variables_of self.old)) }
         ensures ended { ended self.old ≡ None → IfOk result (λ event. Keeps event (ended self.new)) }
         ensures failed { failed self.new ≡ failed self.old }
@@ -119,9 +128,10 @@ impl Search {
     }
 
     /// The next answer, or how the search ended. After an end the same end, after `Memory` always `Memory`.
-    #[tactic(auto, unfolding(crate::specs::Held::variables_of, crate::specs::Held::ended, crate::specs::Held::failed))]
+    #[tactic(auto, unfolding(crate::specs::Held::variables_of, crate::specs::Held::query_of, crate::specs::Held::ended, crate::specs::Held::failed))]
     pub fn next<W: Watch>(&mut self, crowd: &mut Crowd<'_, W>) -> Result<Event, Memory>
         ensures variables { variables_of self.new ≡ variables_of self.old }
+        ensures query { query_of self.new ≡ query_of self.old }
         ensures told { IfOk result (IsTold (variables_of self.old)) }
         ensures fails { OnErr result (failed self.new ≡ true) }
         ensures failed { failed self.old ≡ true → IsErr result }

@@ -4,12 +4,13 @@ use crate::instance::Values;
 use crate::table::Span;
 use lp_term::TermId;
 
-/// Where a goal stands: the values of its variables, the tree of its newest assumptions, its level, and how many of the
-/// oldest alternatives a cut in it keeps.
+/// Where a goal stands: the values of its variables, the tree of its newest assumptions, what is written in those that it has, its
+/// level, and how many of the oldest alternatives a cut in it keeps.
 #[derive(Clone, Copy)]
 pub(crate) struct Place {
     pub(crate) values: Values,
     pub(crate) assumed: Option<usize>,
+    pub(crate) standing: Option<usize>,
     pub(crate) level: u64,
     pub(crate) mark: usize,
 }

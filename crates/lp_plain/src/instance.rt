@@ -1,27 +1,27 @@
 // Terms of a clause with values for its variables and new type variables.
 ghost use Rattle.std.specs.Prelude.{◌≡◌, ℕ, ◌-◌, ◌<◌, ◌≤◌, List, [], ◌∷◌, ◌++◌, length, map, reverse, true, All, Some, slice_get, OnOk, IfOk};
 ghost use Rattle.lp_calculus.specs.Term.{Term, atom, constant};
-ghost use Rattle.lp_calculus.specs.Types.{instance};
+ghost use Rattle.lp_calculus.specs.Types.{Ty, instance};
 ghost use Rattle.lp_calculus.specs.Instance.{instance_term};
 ghost use Rattle.lp_term.specs.Nodes.{Extends, tree, type_tree};
 ghost use Rattle.lp_term.specs.declared.node.TermId.{TermId};
 ghost use Rattle.lp_model.specs.Index.{instantiate};
 ghost use Rattle.lp_plain.specs.Instances.{values_of, AreValues, StandFor, IsRenewedAtom, KeepsInstancing, visits_at};
-ghost use Rattle.lp_plain.specs.Renewal.{further};
+ghost use Rattle.lp_plain.specs.Renewal.{renewing};
 ghost use Rattle.lp_plain.specs.Scopes.{IsScope};
 ghost use Rattle.lp_plain.specs.Written.{IsWritten};
 
 use crate::scope::Scopes;
-use crate::types::all_renewed;
+use crate::types::{Renewal, all_renewed};
 use lp_base::Memory;
 use lp_term::{Bank, TermId, TermNode, TypeId, put_abstraction, put_application, put_constant};
 use std::alloc::Global;
 
-/// What stands for the loose indices of a clause's term, and by how much its type variables are raised.
+/// What stands for the loose indices of a clause's term, and its new type variables.
 #[derive(Clone, Copy)]
 pub(crate) struct Values {
     pub(crate) scope: Option<usize>,
-    pub(crate) types: u64,
+    pub(crate) types: Renewal,
 }
 
 #[derive(Clone, Copy)]
@@ -52,17 +52,17 @@ fn value_of(
     Ok(value)
 }
 
-// The constant with its type variables raised.
+// The constant with new type variables.
 fn put_renewed(
     alloc: Global,
     bank: &mut Bank,
     number: u32,
     ids: &[TypeId],
-    types: u64,
+    types: Renewal,
 ) -> Result<TermId, Memory>
     ensures kept { Extends bank.old bank.new }
     ensures within { IfOk result (λ new. new.0 < length bank.new.terms) }
-    ensures tree { IfOk result (λ new. All (λ t. t.0 < length bank.old.types) ids.now → tree bank.new new.0 ≡ atom (constant number (map (λ t. instance (further types) (type_tree bank.old t.0)) ids.now))) }
+    ensures tree { IfOk result (λ new. All (λ t. t.0 < length bank.old.types) ids.now → tree bank.new new.0 ≡ atom (constant number (map (λ t. instance (renewing types) (type_tree bank.old t.0)) ids.now))) }
 {
     let renewed = all_renewed(alloc, bank, ids, types)?;
     let id = put_constant(bank, number, renewed.as_slice())?;
@@ -80,18 +80,23 @@ fn push_visits(ids: &[TermId], depth: u64, tasks: &mut Vec<Task>) -> Result<(), 
     Ok(())
 }
 
-// The atom with its type variables raised.
-fn renewed_atom(alloc: Global, bank: &mut Bank, id: TermId, types: u64) -> Result<TermId, Memory>
+// The atom with new type variables.
+fn renewed_atom(
+    alloc: Global,
+    bank: &mut Bank,
+    id: TermId,
+    types: Renewal,
+) -> Result<TermId, Memory>
     ensures kept { Extends bank.old bank.new }
     ensures within { IfOk result (λ new. id.0 < length bank.old.terms → new.0 < length bank.new.terms) }
-    ensures renewed { IfOk result (λ new. IsRenewedAtom types (tree bank.old id.0) (tree bank.new new.0)) }
+    ensures renewed { IfOk result (λ new. IsRenewedAtom (renewing types) (tree bank.old id.0) (tree bank.new new.0)) }
 {
     match bank.term_node(id) {
         TermNode::Const(number, ids) => {
             if ids.is_empty() {
                 return Ok(id);
             }
-            if types == 0 {
+            if types.count == 0 {
                 return Ok(id);
             }
             let old: Vec<TypeId> = Vec::from_slice(alloc, ids)?;
@@ -119,9 +124,9 @@ fn visit(
 ) -> Result<(), Memory>
     ensures kept { Extends bank.old bank.new }
     ensures moves { OnOk result ((nb nv : ℕ) → (vs : List TermId) → IsScope scopes.now nb nv values.scope vs → (σ : ℕ → Term) → StandFor bank.old vs σ →
-        KeepsInstancing σ values.types bank.old bank.new (tasks.old.items ++ Task.Visit id depth ∷ []) tasks.new.items made.old.items made.new.items) }
+        KeepsInstancing σ (renewing values.types) bank.old bank.new (tasks.old.items ++ Task.Visit id depth ∷ []) tasks.new.items made.old.items made.new.items) }
 {
-    if values.types == 0 {
+    if values.types.count == 0 {
         if bank.is_known_below(id, depth) {
             made.push(id)?;
             return Ok(());
@@ -199,7 +204,7 @@ fn is_unchanged(head: TermId, old: TermId, args: &[TermId], parts: &[TermId]) ->
 
 fn build(alloc: Global, bank: &mut Bank, id: TermId, made: &mut Vec<TermId>) -> Result<(), Memory>
     ensures kept { Extends bank.old bank.new }
-    ensures moves { OnOk result ((σ : ℕ → Term) → (k : ℕ) → (tasks : List Task) → KeepsInstancing σ k bank.old bank.new (tasks ++ Task.Build id ∷ []) tasks made.old.items made.new.items) }
+    ensures moves { OnOk result ((σ : ℕ → Term) → (θ : ℕ → Ty) → (tasks : List Task) → KeepsInstancing σ θ bank.old bank.new (tasks ++ Task.Build id ∷ []) tasks made.old.items made.new.items) }
 {
     match bank.term_node(id) {
         TermNode::Abs(old) => {
@@ -242,7 +247,7 @@ fn step(
 ) -> Result<(), Memory>
     ensures kept { Extends bank.old bank.new }
     ensures moves { OnOk result ((nb nv : ℕ) → (vs : List TermId) → IsScope scopes.now nb nv values.scope vs → (σ : ℕ → Term) → StandFor bank.old vs σ →
-        KeepsInstancing σ values.types bank.old bank.new (tasks.old.items ++ task ∷ []) tasks.new.items made.old.items made.new.items) }
+        KeepsInstancing σ (renewing values.types) bank.old bank.new (tasks.old.items ++ task ∷ []) tasks.new.items made.old.items made.new.items) }
 {
     match task {
         Task::Visit(id, depth) => {
@@ -267,7 +272,7 @@ pub(crate) fn instance(
     ensures kept { Extends bank.old bank.new }
     ensures within { IfOk result (λ id. id.0 < length bank.new.terms) }
     ensures tree { IfOk result (λ id. (nb nv : ℕ) → (vs : List TermId) → IsScope scopes.now nb nv values.scope vs → AreValues bank.old vs → (ar : ℕ → ℕ) → (k : ℕ) → IsWritten ar k (length vs) (tree bank.old term.0) →
-        tree bank.new id.0 ≡ instantiate (values_of bank.old vs) (instance_term (further values.types) (tree bank.old term.0))) }
+        tree bank.new id.0 ≡ instantiate (values_of bank.old vs) (instance_term (renewing values.types) (tree bank.old term.0))) }
 {
     let root = bank.inside(term)?;
     let mut tasks = Vec::new(alloc);

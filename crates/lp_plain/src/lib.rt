@@ -1,6 +1,8 @@
 //! Plain search: depth-first search of a program's clauses for the answers of a query.
 #![tactic(auto)]
 
+// What was done on the way of a branch.
+mod act;
 // An answer in a bank of its own.
 mod answer;
 // The values of expressions.
@@ -17,6 +19,8 @@ mod choice;
 mod events;
 // An atomic goal by its head-normal form.
 mod form;
+// The variables that are written in goals and clauses.
+mod free;
 // Goals that are to be proved, and assumed clauses.
 mod frame;
 // What is told of a clause's head before it is tried.
@@ -27,8 +31,12 @@ mod instance;
 mod machine;
 // The names of goals, as a note tells them.
 mod name;
+// Negated goals.
+mod negation;
 // The newest assumption of each head.
 mod newest;
+// Whether a negated goal is open.
+mod openness;
 // The values of bound variables.
 mod scope;
 // How the search goes on, and what is counted on its way.
@@ -41,6 +49,8 @@ mod search;
 mod start;
 // Flattened goals and clauses by number.
 mod table;
+// What was done on the way to an answer, as others see it.
+mod trace;
 // The next goal of a branch.
 mod turn;
 // Types with new type variables.
@@ -48,4 +58,6 @@ mod types;
 // Unification in the branch at work.
 mod unified;
 
+pub use act::{Act, Try};
 pub use search::Search;
+pub use trace::Origin;

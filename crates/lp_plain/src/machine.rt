@@ -1,11 +1,13 @@
 // What a search works on: one bank and one list of bindings for all branches. An alternative holds what leads back to
 // its branch.
 
+use crate::act::Act;
 use crate::candidates::{Candidate, Index, candidate_after, first_candidate};
-use crate::choice::{Call, Choice, Lengths, Untried};
+use crate::choice::{Call, Choice, Denial, Lengths, Untried};
 use crate::frame::{Assumption, Frame, Place, Todo};
 use crate::instance::instance;
 use crate::newest::Newest;
+use crate::openness::Standing;
 use crate::scope::Scopes;
 use crate::table::Table;
 use lp_base::Memory;
@@ -44,7 +46,12 @@ pub(crate) struct Machine {
     pub(crate) frames: Vec<Frame>,
     pub(crate) assumptions: Vec<Assumption>,
     pub(crate) newest: Vec<Newest>,
+    pub(crate) standings: Vec<Standing>,
+    /// What was done on the way of the branch at work, oldest first.
+    pub(crate) acts: Vec<Act>,
     pub(crate) choices: Vec<Choice>,
+    /// The alternative of the innermost negated goal whose search goes on.
+    pub(crate) denied: Option<usize>,
     pub(crate) branch: Branch,
     pub(crate) counts: Counts,
 }
@@ -124,8 +131,16 @@ impl Machine {
             frames: self.frames.len(),
             assumptions: self.assumptions.len(),
             newest: self.newest.len(),
+            standings: self.standings.len(),
+            acts: self.acts.len(),
             scopes: self.scopes.mark(),
         }
+    }
+
+    /// Keeps what is done in the branch at work.
+    pub(crate) fn note(&mut self, act: Act) -> Result<(), Memory> {
+        self.acts.push(act)?;
+        Ok(())
     }
 
     /// Keeps an alternative of the branch as it stands.
@@ -149,6 +164,8 @@ impl Machine {
         self.frames.truncate(choice.lengths.frames);
         self.assumptions.truncate(choice.lengths.assumptions);
         self.newest.truncate(choice.lengths.newest);
+        self.standings.truncate(choice.lengths.standings);
+        self.acts.truncate(choice.lengths.acts);
         self.scopes.undo(choice.lengths.scopes);
         self.branch.next = choice.next;
         self.branch.next_type = choice.next_type;
@@ -163,6 +180,29 @@ impl Machine {
         };
         self.restore(&choice)?;
         Ok(Some(choice.untried))
+    }
+
+    /// Drops the search of the negated goal of this alternative.
+    pub(crate) fn drop_denied(&mut self, number: usize) {
+        if let Some(
+            Choice {
+                untried: Untried::Denied(Denial { around, lost, .. }),
+                ..
+            },
+        ) = self.choices.get(number)
+        {
+            self.denied = *around;
+            self.counts.lost = *lost;
+        }
+        self.choices.truncate(number);
+    }
+
+    /// Whether the search at work has an alternative. That of a negated goal has its own.
+    pub(crate) fn has_choice(&self) -> bool {
+        match self.denied {
+            None => !self.choices.is_empty(),
+            Some(number) => self.choices.len() > number.saturating_add(1),
+        }
     }
 
     /// Keeps only the oldest alternatives.

@@ -1,11 +1,13 @@
 // Goals that are taken apart.
 
+use crate::act::Act;
 use crate::choice::Untried;
 use crate::frame::{Assumption, Place, Todo};
 use crate::head::Head;
 use crate::instance::Values;
 use crate::machine::Machine;
 use crate::newest::{newest_of, with_newest};
+use crate::openness::Standing;
 use crate::outcome::{Turn, take_apart};
 use crate::table::{Flat, Span};
 use lp_base::Memory;
@@ -43,8 +45,16 @@ fn put_either(
 ) -> Result<(), Memory> {
     let other = machine.put_list(right, place, behind)?;
     machine.put_choice(Untried::Goals(other))?;
+    machine.note(Act::Left)?;
     machine.branch.goals = machine.put_list(left, place, behind)?;
     Ok(())
+}
+
+// The new variable at which a `sigma` is opened.
+fn opened(machine: &mut Machine, level: u64) -> Result<TermId, Memory> {
+    let variable = machine.new_variable(level)?;
+    machine.note(Act::Opened(variable))?;
+    Ok(variable)
 }
 
 fn put_some(
@@ -53,7 +63,7 @@ fn put_some(
     place: Place,
     behind: Option<usize>,
 ) -> Result<(), Memory> {
-    let variable = machine.new_variable(place.level)?;
+    let variable = opened(machine, place.level)?;
     let inner = bound(machine, place, variable)?;
     machine.branch.goals = machine.put_list(goals, inner, behind)?;
     Ok(())
@@ -73,9 +83,7 @@ fn put_all(
 
 // The head of an assumed clause, in the place in which it is assumed. An index there is a variable that a `pi` around the clause binds.
 fn assumed_head(machine: &Machine, rule: usize, place: Place) -> Result<Head, Memory> {
-    let Some(found) = machine.table.rules.get(rule) else {
-        return Err(Memory);
-    };
+    let found = machine.table.rule(rule)?;
     match machine.bank.term_node(found.head) {
         TermNode::Const(number, _) => Ok(Head::Constant(number)),
         TermNode::Index(at) => {
@@ -132,11 +140,26 @@ fn put_assume(
     machine: &mut Machine,
     rules: Span,
     goals: usize,
+    free: usize,
     place: Place,
     behind: Option<usize>,
 ) -> Result<(), Memory> {
+    let first = machine.assumptions.len();
     let assumed = assume(machine, rules, place)?;
-    machine.branch.goals = machine.put_list(goals, Place { assumed, ..place }, behind)?;
+    let count = machine.assumptions.len().saturating_sub(first);
+    machine.note(Act::Assumed(count, first))?;
+    let number = machine.standings.len();
+    machine.standings.push(Standing {
+        free,
+        values: place.values,
+        older: place.standing,
+    })?;
+    let inner = Place {
+        assumed,
+        standing: Some(number),
+        ..place
+    };
+    machine.branch.goals = machine.put_list(goals, inner, behind)?;
     Ok(())
 }
 
@@ -154,10 +177,12 @@ pub(crate) fn put_parts(
         Flat::Either(left, right) => put_either(machine, left, right, place, behind)?,
         Flat::Some(goals) => put_some(machine, goals, place, behind)?,
         Flat::All(goals) => put_all(machine, goals, place, behind)?,
-        Flat::Assume(rules, goals) => put_assume(machine, rules, goals, place, behind)?,
+        Flat::Assume(rules, goals, free) => {
+            put_assume(machine, rules, goals, free, place, behind)?;
+        }
         Flat::Atom(_) => {}
         Flat::Cut => {}
-        Flat::Not => {}
+        Flat::Not(_, _) => {}
     }
     Ok(Turn::On)
 }
@@ -184,6 +209,7 @@ fn put_or(
 ) -> Result<(), Memory> {
     let other = machine.put_frame(Todo::Term(right), place, behind)?;
     machine.put_choice(Untried::Goals(other))?;
+    machine.note(Act::Left)?;
     machine.branch.goals = machine.put_frame(Todo::Term(left), place, behind)?;
     Ok(())
 }
@@ -219,7 +245,7 @@ pub(crate) fn put_connective(
             put_goal_of(machine, term, eigen, above, behind)?;
         }
         Connective::Exists(_, term) => {
-            let variable = machine.new_variable(place.level)?;
+            let variable = opened(machine, place.level)?;
             put_goal_of(machine, term, variable, place, behind)?;
         }
         _ => machine.branch.goals = behind,

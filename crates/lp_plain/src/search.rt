@@ -1,6 +1,7 @@
 // A search, between its events.
 
 use crate::machine::Machine;
+use crate::start::Source;
 use lp_model::Ending;
 use lp_term::TermId;
 
@@ -8,6 +9,7 @@ use lp_term::TermId;
 #[derive(Drop)]
 pub struct Search {
     pub(crate) machine: Machine,
+    pub(crate) source: Source,
     // The query's variables, in order.
     pub(crate) variables: Vec<TermId>,
     // How many answers are wanted, and how many were given.

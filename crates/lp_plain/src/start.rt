@@ -7,6 +7,7 @@ use crate::instance::Values;
 use crate::machine::{Branch, Counts, Machine};
 use crate::scope::Scopes;
 use crate::table::{Span, Table};
+use crate::types::Renewal;
 use lp_base::Memory;
 use lp_model::{Clause, ClauseFormula, Goal, Program, Typed};
 use lp_normal::{NormalRefusal, normalise, query_body};
@@ -14,10 +15,19 @@ use lp_pattern::Bindings;
 use lp_term::{Bank, TermId, put_logic};
 use std::alloc::Global;
 
+/// What is searched, before it was flattened, and the numbers of the clauses of each clause formula.
+#[derive(Drop)]
+pub(crate) struct Source {
+    pub(crate) clauses: Vec<ClauseFormula>,
+    pub(crate) spans: Vec<Span>,
+    pub(crate) query: Typed,
+}
+
 /// A search before its first goal, and the query's variables in order.
 #[derive(Drop)]
 pub(crate) struct Started {
     pub(crate) machine: Machine,
+    pub(crate) source: Source,
     pub(crate) variables: Vec<TermId>,
 }
 
@@ -77,9 +87,12 @@ fn query_place(
     let mut inner = Vec::from_slice(alloc, variables.as_slice())?;
     inner.reverse();
     let scope = scopes.open(None, inner.as_slice())?;
+    // A query keeps its type variables.
+    let types = Renewal { count: 0, first: 0 };
     Ok(Place {
-        values: Values { scope, types: 0 },
+        values: Values { scope, types },
         assumed: None,
+        standing: None,
         level: 0,
         mark: 0,
     })
@@ -92,7 +105,8 @@ pub(crate) fn begin(
     query: Typed,
     limit: u64,
 ) -> Result<Started, Memory>
-    ensures { IfOk result (λ s. length s.variables.items ≡ length query.vars.items) }
+    ensures variables { IfOk result (λ s. length s.variables.items ≡ length query.vars.items) }
+    ensures query { IfOk result (λ s. s.source.query ≡ query) }
 {
     let Program {
         mut bank,
@@ -118,7 +132,10 @@ pub(crate) fn begin(
         frames: Vec::new(alloc),
         assumptions: Vec::new(alloc),
         newest: Vec::new(alloc),
+        standings: Vec::new(alloc),
+        acts: Vec::new(alloc),
         choices: Vec::new(alloc),
+        denied: None,
         branch: Branch {
             goals: None,
             next: query.vars.len() as u64,
@@ -133,5 +150,14 @@ pub(crate) fn begin(
         },
     };
     machine.branch.goals = machine.put_list(list, place, None)?;
-    Ok(Started { machine, variables })
+    let source = Source {
+        clauses,
+        spans,
+        query,
+    };
+    Ok(Started {
+        machine,
+        source,
+        variables,
+    })
 }

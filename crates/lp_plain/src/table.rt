@@ -1,6 +1,7 @@
 // Flattened goals and clauses by number. A goal's parts are named by numbers of lists.
 ghost use Rattle.std.specs.Prelude.{◌≡◌, Some, slice_get, IfOk};
 
+use crate::free::{Free, free_in_clauses, free_in_goals};
 use crate::head::{HeadPair, Key, first_key, head_args};
 use lp_base::Memory;
 use lp_model::{Clause, Goal};
@@ -22,9 +23,10 @@ pub(crate) enum Flat {
     Either(usize, usize),
     Some(usize),
     All(usize),
-    Assume(Span, usize),
-    /// A negation, at which the search halts.
-    Not,
+    /// With the number of what is written in the clauses.
+    Assume(Span, usize, usize),
+    /// With the number of what is written in the goals.
+    Not(usize, usize),
 }
 
 /// A flattened clause.
@@ -44,12 +46,13 @@ pub(crate) struct Rule {
     pub(crate) next: Option<usize>,
 }
 
-/// All flattened goals, lists of goals and clauses of a search.
+/// All flattened goals, lists of goals and clauses of a search, and what is written in those that are negated and assumed.
 #[derive(Drop)]
 pub(crate) struct Table {
     goals: Vec<Flat>,
     lists: Vec<Span>,
     pub(crate) rules: Vec<Rule>,
+    frees: Vec<Free>,
 }
 
 // A list of goals that has a number already.
@@ -65,6 +68,7 @@ impl Table {
             goals: Vec::new(alloc),
             lists: Vec::new(alloc),
             rules: Vec::new(alloc),
+            frees: Vec::new(alloc),
         }
     }
 
@@ -85,6 +89,22 @@ impl Table {
             Some(span) => Ok(*span),
             None => Err(Memory),
         }
+    }
+
+    /// The clause of a number.
+    pub(crate) fn rule(&self, number: usize) -> Result<&Rule, Memory> {
+        self.rules.get(number).ok_or(Memory)
+    }
+
+    /// What is written in goals or clauses, by its number.
+    pub(crate) fn free(&self, number: usize) -> Result<&Free, Memory> {
+        self.frees.get(number).ok_or(Memory)
+    }
+
+    fn put_free(&mut self, free: Free) -> Result<usize, Memory> {
+        let number = self.frees.len();
+        self.frees.push(free)?;
+        Ok(number)
     }
 
     // The number of a list that is still to come.
@@ -162,9 +182,14 @@ impl Table {
             Goal::Assume(clauses, goals) => {
                 let assumed = self.add_clauses(alloc, bank, clauses, waiting)?;
                 let list = self.wait(goals, waiting)?;
-                Ok(Flat::Assume(assumed, list))
+                let free = self.put_free(free_in_clauses(alloc, bank, clauses)?)?;
+                Ok(Flat::Assume(assumed, list, free))
             }
-            Goal::Not(_) => Ok(Flat::Not),
+            Goal::Not(goals) => {
+                let list = self.wait(goals, waiting)?;
+                let free = self.put_free(free_in_goals(alloc, bank, goals)?)?;
+                Ok(Flat::Not(list, free))
+            }
         }
     }
 

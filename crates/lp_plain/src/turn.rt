@@ -1,10 +1,12 @@
 // The next goal of the branch at work, and the way back to an alternative.
 
+use crate::act::Act;
 use crate::atomic::{take_atom, take_cut, try_candidate};
 use crate::choice::Untried;
 use crate::form::{Form, form_of};
 use crate::frame::{Place, Todo};
 use crate::machine::Machine;
+use crate::negation::{end_branch, end_denial, take_not};
 use crate::outcome::Turn;
 use crate::parts::{put_connective, put_parts};
 use crate::table::{Flat, Span};
@@ -27,7 +29,7 @@ fn take_flat<W: Watch>(
             take_term(machine, crowd, atom, place, behind)
         }
         Flat::Cut => take_cut(machine, crowd, place, behind),
-        Flat::Not => Ok(Turn::Ended(Ending::OpenNot)),
+        Flat::Not(goals, free) => take_not(machine, crowd, goals, free, place, behind),
         _ => put_parts(machine, goal, place, behind),
     }
 }
@@ -79,7 +81,7 @@ pub(crate) fn take_goal<W: Watch>(
     crowd: &mut Crowd<'_, W>,
 ) -> Result<Turn, Memory> {
     let Some(number) = machine.branch.goals else {
-        return Ok(Turn::Answered);
+        return Ok(end_branch(machine));
     };
     let Some(frame) = machine.frames.get(number).copied() else {
         return Err(Memory);
@@ -95,20 +97,22 @@ pub(crate) fn tell_back<W: Watch>(
     machine: &Machine,
     crowd: &mut Crowd<'_, W>,
 ) -> Result<(), Memory> {
-    if machine.choices.is_empty() {
-        return Ok(());
+    if machine.has_choice() {
+        return crowd.tell(Note::Back);
     }
-    crowd.tell(Note::Back)
+    Ok(())
 }
 
 /// Goes on with the newest alternative.
 pub(crate) fn go_back(machine: &mut Machine) -> Result<Turn, Memory> {
     match machine.take_choice()? {
         Some(Untried::Goals(goals)) => {
+            machine.note(Act::Right)?;
             machine.branch.goals = goals;
             Ok(Turn::On)
         }
         Some(Untried::Clauses(call, candidate)) => try_candidate(machine, &call, candidate),
+        Some(Untried::Denied(denial)) => Ok(end_denial(machine, denial)),
         None if machine.counts.lost => Ok(Turn::Ended(Ending::NoMoreCut)),
         None => Ok(Turn::Ended(Ending::NoMore)),
     }

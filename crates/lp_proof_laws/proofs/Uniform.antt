@@ -1,4 +1,3 @@
-pub mod Lists
 pub mod Contexts
 pub mod Formulas
 pub mod Assumptions
@@ -11,3 +10,5 @@ pub mod Renamed
 pub mod Renamings
 pub mod Uniforms
 pub mod Rows
+pub mod Failing
+pub mod Unnegated

@@ -5,9 +5,6 @@
 // Folders, sinks, statuses and limits.
 #[cfg(test)]
 mod base;
-// The order in which files are loaded.
-#[cfg(test)]
-mod build;
 // The table of operators.
 #[cfg(test)]
 mod fixity;
@@ -23,6 +20,9 @@ mod pattern;
 // Shown terms and endings.
 #[cfg(test)]
 mod show;
+// Fixed kinds and constants.
+#[cfg(test)]
+mod standard;
 // The store.
 #[cfg(test)]
 mod store;

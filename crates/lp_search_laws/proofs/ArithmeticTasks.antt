@@ -7,6 +7,7 @@ use Rattle.lp_calculus.specs.Term.{Term, constant}
 use Rattle.lp_calculus.specs.Convert.{ReducesTo}
 use Rattle.lp_calculus.specs.Fill.{Within}
 use Rattle.lp_calculus.specs.Typing.{Typed, o_type, scheme_type}
+use Rattle.lp_model.specs.Unify.{unit_limit}
 use Rattle.lp_model.specs.declared.ending.Ending.TheVariants.{Deep, Arithmetic}
 use Rattle.lp_model.specs.declared.ending.Fault.TheVariants.{NotClosed}
 use Rattle.lp_model.specs.Look.{head_normal}
@@ -27,7 +28,7 @@ use Rattle.lp_search_laws.specs.Branches.{IsPlainTerm, IsGoal, BranchTyping, IsT
 use Rattle.lp_search_laws.proofs.Closed.{closed_reduces}
 use Rattle.lp_search_laws.proofs.Connectives.{reduces_on, reduces_back}
 use Rattle.lp_search_laws.proofs.Formed.{formula_at}
-use Rattle.lp_search_laws.proofs.Standing.{stopped}
+use Rattle.lp_search_laws.proofs.Standing.{stopped, lacked}
 use Rattle.lp_search_laws.proofs.Tried.{typed_reduct, plain_reduct}
 use Rattle.lp_search_laws.proofs.Expressions.{evaluated}
 use Rattle.lp_search_laws.proofs.Computed.{over_type, arrows_same, value_typed, assigned_at, comparisons}
@@ -156,13 +157,13 @@ module _ (n : ℕ) (d : Declared) (std : IsStandard d) (P : List Clause) (q : Qu
 
   -- the equality's law, for each branch with it in front
   abbrev EqualitiesStand : Type 0
-  EqualitiesStand = (x : Entry) (T : Ty) (l r : Term) → x.goal ≡ Atomic (two 8 (T ∷ []) l r) → head_normal n (two 8 (T ∷ []) l r) ≡ Some (two 8 (T ∷ []) l r) → IsTypedBranch n d q typing (with_goals b (x ∷ es)) → StandFor n d P q (going typing (with_goals b (x ∷ es))) (equated n x.level l r (with_goals b es))
+  EqualitiesStand = (x : Entry) (T : Ty) (l r : Term) → x.goal ≡ Atomic (two 8 (T ∷ []) l r) → head_normal n (two 8 (T ∷ []) l r) ≡ Some (two 8 (T ∷ []) l r) → IsTypedBranch n d q typing (with_goals b (x ∷ es)) → StandFor n d P q (going typing (with_goals b (x ∷ es))) (equated unit_limit n x.level l r (with_goals b es))
 
-  pub assigned_stands : EqualitiesStand → (T : Ty) (l r : Term) → u ≡ two 9 (T ∷ []) l r → (o : Option Outcome) → evaluate n r ≡ o → StandFor n d P q here (assigned n e.level l (with_goals b es) o)
-  assigned_stands h T l r shape None k = stopped n d P q here Deep (λ w. cc)
+  pub assigned_stands : EqualitiesStand → (T : Ty) (l r : Term) → u ≡ two 9 (T ∷ []) l r → (o : Option Outcome) → evaluate n r ≡ o → StandFor n d P q here (assigned unit_limit n e.level l (with_goals b es) o)
+  assigned_stands h T l r shape None k = lacked n d P q here
   assigned_stands h T l r shape (Some (Faults f)) k = stopped n d P q here (Arithmetic f) (λ w. cc)
   assigned_stands h T l r shape (Some (Is v)) k =
-      equal_stands T l r shape v k (equated n e.level l (term_of v) (with_goals b es))
+      equal_stands T l r shape v k (equated unit_limit n e.level l (term_of v) (with_goals b es))
       (h (with_atom e (two 8 (T ∷ []) l (term_of v))) T l (term_of v) refl (head_is T l r shape v k) (equal_branch T l r shape v k))
 
   -- orders
@@ -200,10 +201,10 @@ module _ (n : ℕ) (d : Declared) (std : IsStandard d) (P : List Clause) (q : Qu
       }
 
     pub compared_stands : (o p : Option Outcome) → evaluate n l ≡ o → evaluate n r ≡ p → StandFor n d P q here (compared k (with_goals b es) o p)
-    compared_stands None p a c = stopped n d P q here Deep (λ w. cc)
+    compared_stands None p a c = lacked n d P q here
     compared_stands (Some (Faults f)) p a c = stopped n d P q here (Arithmetic f) (λ w. cc)
     compared_stands (Some (Is (Bytes s))) p a c = stopped n d P q here (Arithmetic NotClosed) (λ w. cc)
-    compared_stands (Some (Is (Number x))) None a c = stopped n d P q here Deep (λ w. cc)
+    compared_stands (Some (Is (Number x))) None a c = lacked n d P q here
     compared_stands (Some (Is (Number x))) (Some (Faults f)) a c = stopped n d P q here (Arithmetic f) (λ w. cc)
     compared_stands (Some (Is (Number x))) (Some (Is (Bytes s))) a c = stopped n d P q here (Arithmetic NotClosed) (λ w. cc)
     compared_stands (Some (Is (Number x))) (Some (Is (Number y))) a c = by_order x y a c (ordered k x y) refl

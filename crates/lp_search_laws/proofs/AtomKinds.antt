@@ -67,6 +67,13 @@ module _ (τ : Atom → Option Ty) where
       let q = transport (λ z. connective_of_constant c z us ≡ connective.Atomic) (none_is ts r.0) p in
       absurd (n g.0 g.1 (transport (λ z. connective_of_constant c [] z ≡ connective.Atomic) g.2 q))
 
+  denial : (c : ℕ) → ((a : Term) → connective_of_constant c [] (a ∷ []) ≡ connective.Atomic → ⊥) → Kind c (Some (record { count = 0; body = arrow o_type o_type }))
+  denial c n ts us A e h p =
+      let r = count_is ts 0 _ A e in
+      let g = takes_one o_type o_type A (λ B D x. absurd (cc)) r.1 us h in
+      let q = transport (λ z. connective_of_constant c z us ≡ connective.Atomic) (none_is ts r.0) p in
+      absurd (n g.0 (transport (λ z. connective_of_constant c [] z ≡ connective.Atomic) g.1 q))
+
   quantifier : (c : ℕ) → ((T : Ty) (a : Term) → connective_of_constant c (T ∷ []) (a ∷ []) ≡ connective.Atomic → ⊥) → Kind c (Some (record { count = 1; body = arrow (arrow (var 0) o_type) o_type }))
   quantifier c n ts us A e h p =
       let r = count_is ts 1 _ A e in
@@ -162,7 +169,10 @@ module _ (τ : Atom → Option Ty) where
                                                 ends_two 22 0 string_type string_type string_type (λ θ B D x. absurd (cc)) (λ θ x. absurd (cc)),
                                                 (
                                                   ends_one 23 0 string_type int_type (λ θ B D x. absurd (cc)) (λ θ x. absurd (cc)),
-                                                  tt,
+                                                  (
+                                                    denial 24 (λ a x. absurd (cc)),
+                                                    tt,
+                                                  ),
                                                 ),
                                               ),
                                             ),

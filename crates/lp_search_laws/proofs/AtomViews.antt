@@ -7,6 +7,7 @@ use Rattle.lp_calculus.specs.Term.{Term, Atom, abs, index, atom, app, apply, con
 use Rattle.lp_calculus.specs.Convert.{head_step, option_term}
 use Rattle.lp_calculus.specs.Typing.{HasType, HaveTypes, Typed, o_type, atom_type}
 use Rattle.lp_calculus.proofs.Typings.{typed_parts}
+use Rattle.lp_model.specs.Unify.{unit_limit}
 use Rattle.lp_model.specs.declared.ending.Ending.TheVariants.{Flexible}
 use Rattle.lp_model.specs.Look.{head_normal}
 use Rattle.lp_calculus.specs.Spine.{head_of, arguments}
@@ -19,7 +20,7 @@ use Rattle.lp_model.specs.Flatten.{ClauseFormula}
 use Rattle.lp_model.specs.Branch.{Entry, Branch, Task}
 use Rattle.lp_model.specs.Values.{evaluate}
 use Rattle.lp_model.specs.Answers.{Query, AnswerTyping, Closes, over}
-use Rattle.lp_model.specs.Proofs.{Declared, IsFormula, IsAtomHead, Provable, Rooted, trivially, both_sides, left_side, right_side, at_witness, for_all, under_assumption, equally, by_arithmetic, by_clause}
+use Rattle.lp_model.specs.Proofs.{by_failure, no_leaf, Declared, IsFormula, IsAtomHead, PlainlyProvable, RootedBy, trivially, both_sides, left_side, right_side, at_witness, for_all, under_assumption, equally, by_arithmetic, by_clause}
 use Rattle.lp_model.specs.Search.{with_goals, look_atom, look_constant, tries, goal_key, equated, assigned, compared}
 use Rattle.lp_proof_laws.proofs.Uniform.Forms.{apply_arguments}
 use Rattle.lp_proof_laws.proofs.Uniform.Roots.{rooted, head_apply}
@@ -74,7 +75,7 @@ no_atom_head (text s) n h = h
 no_atom_head (logic x l) n h = h
 no_atom_head (param k T) n h = h
 
-no_root : (d : Declared) (E : List Ty) (R : List ClauseFormula) (G : Term) (a : Atom) → head_of G ≡ atom a → IsNoHead a → Rooted d E R G → ⊥
+no_root : (d : Declared) (E : List Ty) (R : List ClauseFormula) (G : Term) (a : Atom) → head_of G ≡ atom a → IsNoHead a → RootedBy no_leaf d E R G → ⊥
 no_root d E R G a e n (trivially (inl x)) = no_constant a 6 [] n (sym e ∙ ap head_of x)
 no_root d E R G a e n (trivially (inr x)) = no_constant a 7 [] n (sym e ∙ ap head_of x)
 no_root d E R G a e n (both_sides A B x p r) = no_constant a 0 [] n (sym e ∙ ap head_of x)
@@ -87,6 +88,7 @@ no_root d E R G a e n (under_assumption D A (inr x) p) = no_constant a 3 [] n (s
 no_root d E R G a e n (equally T t u x p) = no_constant a 8 (T ∷ []) n (sym e ∙ ap head_of x)
 no_root d E R G a e n (by_arithmetic (inl x)) = no_constant a 9 (x.0 ∷ []) n (sym e ∙ ap head_of x.4)
 no_root d E R G a e n (by_arithmetic (inr x)) = no_constant a x.0 [] n (sym e ∙ ap head_of x.7)
+no_root d E R G a e n (by_failure K x f h) = absurd h
 no_root d E R G a e n (by_clause i D ts x l k h r) = no_atom_head a n (transport IsAtomHead e h)
 
 module _ (n : ℕ) (d : Declared) (std : IsStandard d) (P : List Clause) (q : Query) (z : AnswerTyping) (b : Branch) (E : List Ty) (Es : List (List Ty)) (e : Entry) (es : List Entry) (h : IsTypedHere n d P q z b E Es e es)
@@ -132,7 +134,7 @@ module _ (n : ℕ) (d : Declared) (std : IsStandard d) (P : List Clause) (q : Qu
       let y = head_closed c u k T x in
       let s : apply (atom (param k (instance c.types T))) (arguments (closed c u)) ≡ closed c u = transport (λ w. apply w (arguments (closed c u)) ≡ closed c u) y (apply_arguments (closed c u) []) in
       let f = transport (IsFormula d E') (sym s) (formula_at d z.variables c l E u (form_typed n d std P q z b E Es e es h t u i r)) in
-      let p' = transport (Provable d E' R) (sym s) p in
+      let p' = transport (PlainlyProvable d E' R) (sym s) p in
       no_root d E' R _ (param k (instance c.types T)) (head_apply (atom (param k (instance c.types T))) (arguments (closed c u))) tt (rooted d std E' R (param k (instance c.types T)) (arguments (closed c u)) f p')
 
   -- a head of a basic type takes no argument and is no atom
@@ -147,19 +149,19 @@ module _ (n : ℕ) (d : Declared) (std : IsStandard d) (P : List Clause) (q : Qu
   -- what is owed for the atoms that are called
   module _ (height : ℕ)
       (tried : IsAtomHead (head_of u) → Stands (tries P u e (with_goals b es) height (goal_key n (arguments u))))
-      (equal : (T : Ty) (l w : Term) → u ≡ two 8 (T ∷ []) l w → Stands (equated n e.level l w (with_goals b es)))
-      (assign : (T : Ty) (l w : Term) → u ≡ two 9 (T ∷ []) l w → Stands (assigned n e.level l (with_goals b es) (evaluate n w)))
+      (equal : (T : Ty) (l w : Term) → u ≡ two 8 (T ∷ []) l w → Stands (equated unit_limit n e.level l w (with_goals b es)))
+      (assign : (T : Ty) (l w : Term) → u ≡ two 9 (T ∷ []) l w → Stands (assigned unit_limit n e.level l (with_goals b es) (evaluate n w)))
       (compare : (c : ℕ) (l w : Term) → 10 ≤ c → c ≤ 13 → u ≡ two c [] l w → Stands (compared c (with_goals b es) (evaluate n l) (evaluate n w))) where
     abbrev Called : ℕ → List Term → List Task
-    Called c us = look_constant n P height e (with_goals b es) u c us
+    Called c us = look_constant unit_limit n P height e (with_goals b es) u c us
 
-    by_kind : (c : ℕ) (ts : List Ty) → head_of u ≡ atom (constant c ts) → AtomKind c ts (arguments u) → Stands (look_constant n P height e (with_goals b es) u c (arguments u))
+    by_kind : (c : ℕ) (ts : List Ty) → head_of u ≡ atom (constant c ts) → AtomKind c ts (arguments u) → Stands (look_constant unit_limit n P height e (with_goals b es) u c (arguments u))
     by_kind c ts x (declared l) = transport Stands (sym (go (arguments u))) (tried (transport IsAtomHead (sym x) l))
       where
         ifs : (p q' r' : Bool) (A B C D : List Task) → p ≡ false → q' ≡ false → r' ≡ false → (if p then A else (if q' then B else (if r' then C else D))) ≡ D
         ifs p q' r' A B C D e1 e2 e3 = ap (λ v. if v then A else (if q' then B else (if r' then C else D))) e1 ∙ ap (λ v. if v then B else (if r' then C else D)) e2 ∙ ap (λ v. if v then C else D) e3
 
-        go : (us : List Term) → look_constant n P height e (with_goals b es) u c us ≡ tries P u e (with_goals b es) height (goal_key n (arguments u))
+        go : (us : List Term) → look_constant unit_limit n P height e (with_goals b es) u c us ≡ tries P u e (with_goals b es) height (goal_key n (arguments u))
         go [] = refl
         go (v ∷ []) = refl
         go (v ∷ w ∷ []) =
@@ -188,7 +190,7 @@ module _ (n : ℕ) (d : Declared) (std : IsStandard d) (P : List Clause) (q : Qu
             let e3 : (nat_le 10 c && nat_le c 13) ≡ true = grind (arith, nat_tests) in
             ifs _ _ _ _ _ _ _ e1 e2 e3
 
-    by_head : (t' : Term) → head_of u ≡ t' → IsRightView n d P q (going (Typings n d P q z b E Es e es (E ∷ Es)) (with_goals b (e ∷ es))) (look_atom n P height e (with_goals b es) u t')
+    by_head : (t' : Term) → head_of u ≡ t' → IsRightView n d P q (going (Typings n d P q z b E Es e es (E ∷ Es)) (with_goals b (e ∷ es))) (look_atom unit_limit n P height e (with_goals b es) u t')
     by_head (atom (constant c ts)) x =
         let p = parts (atom (constant c ts)) x in
         let f : connective_of_constant c ts (arguments u) ≡ connective.Atomic = transport (λ y. connective_at y (arguments u) ≡ connective.Atomic) x plain in
@@ -202,5 +204,5 @@ module _ (n : ℕ) (d : Declared) (std : IsStandard d) (P : List Clause) (q : Qu
     by_head (abs y) x = nothing_stands (λ c l p. ended_abs y (arguments u) (transport (λ w. head_step w ≡ None) (sym (on_head (abs y) x)) (head_ended n t u r)) (transport (λ w. Typed (over d E z.variables) [] w o_type) (sym (on_head (abs y) x)) (form_typed n d std P q z b E Es e es h t u i r).typed))
     by_head (app f a) x = absurd (no_app u f a x)
 
-    pub atom_view : IsRightView n d P q (going (Typings n d P q z b E Es e es (E ∷ Es)) (with_goals b (e ∷ es))) (look_atom n P height e (with_goals b es) u (head_of u))
+    pub atom_view : IsRightView n d P q (going (Typings n d P q z b E Es e es (E ∷ Es)) (with_goals b (e ∷ es))) (look_atom unit_limit n P height e (with_goals b es) u (head_of u))
     atom_view = by_head (head_of u) refl

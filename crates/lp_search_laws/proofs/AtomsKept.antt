@@ -9,7 +9,7 @@ use Rattle.lp_calculus.proofs.Sigma.{lift, rename, up, subst, instead}
 use Rattle.lp_calculus.proofs.Plain.{substitute-subst}
 use Rattle.lp_calculus.proofs.BetaEta.{shift_one}
 use Rattle.lp_calculus.proofs.Steps.{Step}
-use Rattle.lp_model.specs.Faithful.{EachOf}
+use Rattle.lp_lemmas.specs.Each.{EachOf}
 use Rattle.lp_model.specs.Patterns.{eigens, chosen}
 use Rattle.lp_model.specs.Look.{Look, an_abs, rigid, flexible, look, pattern_of}
 use Rattle.lp_model.specs.Scan.{Side, allows, Pattern, Scanned, broken, whole, scan, first_misfit, renewal, Pruned, led_by, prune, settle, settle_all}

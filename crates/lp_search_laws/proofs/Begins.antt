@@ -12,22 +12,22 @@ use Rattle.lp_calculus.proofs.Fills.{within_subst, within_more}
 use Rattle.lp_calculus.proofs.Steps.{within_reduces}
 use Rattle.lp_calculus.proofs.Subject.{typed_reduces, typed_subst}
 use Rattle.lp_calculus.proofs.Typings.{instance_typed}
-use Rattle.lp_model.specs.Faithful.{EachOf}
+use Rattle.lp_lemmas.specs.Each.{EachOf}
 use Rattle.lp_model.specs.Eigens.{beta_normal}
 use Rattle.lp_model.specs.Pair.{Closing}
 use Rattle.lp_model.specs.Flat.{Goal, Goals, no_goals, goals, Clause, clause, Clauses, no_clauses, clauses, clause_list, goal_list, instantiate_goals, formula_of_goal, formula_of_goals, formula_of_clause}
 use Rattle.lp_model.specs.Flatten.{ClauseFormula, with_type_vars, flat_goal, flatten_query}
 use Rattle.lp_standard.specs.Schemes.{IsStandard}
-use Rattle.lp_model.specs.Proofs.{Declared, under, IsSentence, Provable}
-use Rattle.lp_model.specs.Answers.{Query, Variable, type_of, over, IsPrefix, IsScopedAtom, AreTypedValues, IsWellFormed, Instance, IsProvable, filled}
-use Rattle.lp_model.specs.Branch.{Branch, Go, entries}
+use Rattle.lp_model.specs.Proofs.{AreFlattened, Declared, under, IsSentence, PlainlyProvable}
+use Rattle.lp_model.specs.Answers.{Query, Variable, type_of, over, IsPrefix, IsScopedAtom, AreTypedValues, IsWellFormed, Instance, filled}
+use Rattle.lp_model.specs.Branch.{nothing_written, Branch, Go, entries}
 use Rattle.lp_model.specs.Search.{vars_from, types_from, start}
 use Rattle.lp_proof_laws.proofs.Uniform.Formulas.{typed_more}
 use Rattle.lp_proof_laws.proofs.Uniform.Openings.{instantiate_subst}
 use Rattle.lp_unify_laws.proofs.Looks.{beta_reduces}
 use Rattle.lp_unify_laws.proofs.TypedInstances.{get_map}
 use Rattle.lp_search_laws.specs.Holds.{Holds, IsTyped}
-use Rattle.lp_search_laws.specs.Started.{IsQueryAtom, IsTypedQuery, IsTypedSentence, AreFlattened, outermost}
+use Rattle.lp_search_laws.specs.Started.{IsQueryAtom, IsTypedQuery, IsTypedSentence, outermost, IsPlainlyProvable}
 use Rattle.lp_search_laws.specs.Clauses.{sentence_of, clauses_at}
 use Rattle.lp_search_laws.specs.Branches.{IsPlainTerm, IsClause, IsProgramTyped, IsTypedBranch, IsPlainVariable, SolvesBranch}
 use Rattle.lp_search_laws.specs.Begun.{first_branch, first_typing}
@@ -82,13 +82,13 @@ module _ (d : Declared) (std : IsStandard d) where
   each_append X [] ys h k = k
   each_append X (x ∷ xs) ys h k = (h.0, each_append X xs ys h.1 k)
 
-  pub program_typed : (n : ℕ) (F : List ClauseFormula) (P : List Clause) → EachOf (IsTypedSentence d) F → AreFlattened n d F P → EachOf (IsProgramTyped d) P
-  program_typed n [] P s x = transport (EachOf (IsProgramTyped d)) (sym x) tt
-  program_typed n (D ∷ F) P s x =
-      let y = flattened n d D x.0 x.2 in
+  pub program_typed : (F : List ClauseFormula) (P : List Clause) → EachOf (IsTypedSentence d) F → AreFlattened d F P → EachOf (IsProgramTyped d) P
+  program_typed [] P s x = transport (EachOf (IsProgramTyped d)) (sym x) tt
+  program_typed (D ∷ F) P s x =
+      let y = flattened x.0 d D x.1 x.3 in
       let o : IsOver d D.type_vars [] y.form = record { typed = typed_reduces (atom_type (under d [])) [] y.leads o_type s.0.typed; within = within_reduces (IsQueryAtom D.type_vars) 0 y.leads s.0.within } in
-      let here = transport (λ z. EachOf (IsProgramTyped d) (clause_list z)) y.is (program_clauses D.type_vars y.plain (clauses_fine d std D.type_vars n y.form y.plain [] y.flat o)) in
-      transport (EachOf (IsProgramTyped d)) (sym x.3) (each_append (IsProgramTyped d) (clause_list x.0) x.1 here (program_typed n F x.1 s.1 x.4))
+      let here = transport (λ z. EachOf (IsProgramTyped d) (clause_list z)) y.is (program_clauses D.type_vars y.plain (clauses_fine d std D.type_vars x.0 y.form y.plain [] y.flat o)) in
+      transport (EachOf (IsProgramTyped d)) (sym x.5) (each_append (IsProgramTyped d) (clause_list x.1) x.2 here (program_typed F x.2 s.1 x.4))
 
 -- the query's type variables and variables
 from_count : (k m : ℕ) → length (types_from k m) ≡ k
@@ -124,7 +124,7 @@ values_typed d V [] m h = tt
 values_typed d V (T ∷ Ts) m h =
     let e : m + 0 ≡ m = omega arith in
     let g : slice_get V m ≡ Some (outermost T) = ap (slice_get V) (sym e) ∙ h 0 T refl in
-    (record { typed = ap (λ o. type_of o 0) g; outermost = refl }, values_typed d V Ts (suc m) (λ i U w. let f : suc m + i ≡ m + suc i = omega arith in ap (slice_get V) f ∙ h (suc i) U w))
+    (record { typed = ap (λ o. type_of o 0) g; outermost = refl; positive = tt }, values_typed d V Ts (suc m) (λ i U w. let f : suc m + i ≡ m + suc i = omega arith in ap (slice_get V) f ∙ h (suc i) U w))
 
 plain_values : (j k m : ℕ) → EachOf (IsPlainTerm j) (vars_from k m)
 plain_values j zero m = tt
@@ -176,8 +176,8 @@ module _ (d : Declared) (std : IsStandard d) (m : ℕ) (q : Query) (gs : Goals) 
   may_put : MayPut q.type_vars [] [] put_in
   may_put = record { plain = λ i. tt; heads = λ i w. absurd (cc) }
 
-  stand : MayStand d V q.type_vars (each_at [] (goal_list (instantiate_goals put_in gs))) (entries (goal_list (instantiate_goals put_in gs)) [] 0 0)
-  stand = goals_stand d std V q.type_vars [] [] 0 0 (record { is_level = refl; below = tt; typed = tt; plain = tt }) (instantiate_goals put_in gs) goals_typed_in (goals_put q.type_vars [] [] put_in may_put gs fine.form)
+  stand : MayStand d V q.type_vars (each_at [] (goal_list (instantiate_goals put_in gs))) (entries (goal_list (instantiate_goals put_in gs)) [] nothing_written 0 0)
+  stand = goals_stand d std V q.type_vars [] [] nothing_written 0 0 (record { is_level = refl; below = tt; typed = tt; plain = tt }) (instantiate_goals put_in gs) goals_typed_in (goals_put q.type_vars [] [] put_in may_put gs fine.form)
 
   vars_stay : map (instance (type_at (types_from q.type_vars 0))) q.vars ≡ q.vars
   vars_stay = list_stays (type_at (types_from q.type_vars 0)) q.type_vars (λ i l. let a : 0 + i ≡ i = omega arith in from_at q.type_vars 0 i l ∙ ap var a) q.vars t.vars
@@ -206,7 +206,7 @@ module _ (d : Declared) (std : IsStandard d) (m : ℕ) (q : Query) (gs : Goals) 
   )
 
   -- solutions
-  module _ (F : List ClauseFormula) (P : List Clause) (s : EachOf (IsTypedSentence d) F) (x : AreFlattened m d F P) (i : Instance) where
+  module _ (F : List ClauseFormula) (P : List Clause) (s : EachOf (IsTypedSentence d) F) (x : AreFlattened d F P) (i : Instance) where
     same_sentence : (P : List Clause) → map sentence_of P ≡ map sentence_of P
     same_sentence [] = refl
     same_sentence (clause k vs h b ∷ P) = ap (λ z. sentence_of (clause k vs h b) ∷ z) (same_sentence P)
@@ -214,11 +214,11 @@ module _ (d : Declared) (std : IsStandard d) (m : ℕ) (q : Query) (gs : Goals) 
     program_at : (c : Closing) → map sentence_of P ≡ clauses_at P [] c
     program_at c = same_sentence P ∙ sym (append-nil (map sentence_of P))
 
-    to_program : (G : Term) → Provable d [] F G → Provable d [] (map sentence_of P) G
-    to_program G p = transport (λ z. Provable d [] z G) (append-nil (map sentence_of P)) ((program_reads_back d std m F P (each_sentence d F s) x [] [] G).0 (transport (λ z. Provable d [] z G) (sym (append-nil F)) p))
+    to_program : (G : Term) → PlainlyProvable d [] F G → PlainlyProvable d [] (map sentence_of P) G
+    to_program G p = transport (λ z. PlainlyProvable d [] z G) (append-nil (map sentence_of P)) ((program_reads_back d std F P (each_sentence d F s) x [] [] G).0 (transport (λ z. PlainlyProvable d [] z G) (sym (append-nil F)) p))
 
-    from_program : (G : Term) → Provable d [] (map sentence_of P) G → Provable d [] F G
-    from_program G p = transport (λ z. Provable d [] z G) (append-nil F) ((program_reads_back d std m F P (each_sentence d F s) x [] [] G).1 (transport (λ z. Provable d [] z G) (sym (append-nil (map sentence_of P))) p))
+    from_program : (G : Term) → PlainlyProvable d [] (map sentence_of P) G → PlainlyProvable d [] F G
+    from_program G p = transport (λ z. PlainlyProvable d [] z G) (append-nil F) ((program_reads_back d std F P (each_sentence d F s) x [] [] G).1 (transport (λ z. PlainlyProvable d [] z G) (sym (append-nil (map sentence_of P))) p))
 
     abbrev first : Branch
     first = first_branch q.type_vars (length q.vars) gs
@@ -229,18 +229,18 @@ module _ (d : Declared) (std : IsStandard d) (m : ℕ) (q : Query) (gs : Goals) 
     at_program : (c : Closing) (R S : List ClauseFormula) → R ≡ S → (hs : List Goal) → EachOf (λ g. Holds d [] R c (formula_of_goal g)) hs → EachOf (λ g. Holds d [] S c (formula_of_goal g)) hs
     at_program c R S w hs h = transport (λ z. EachOf (λ g. Holds d [] z c (formula_of_goal g)) hs) w h
 
-    pub solves : IsProvable d F q i → SolvesBranch d P q i (first_typing q gs) first
+    pub solves : IsPlainlyProvable d F q i → SolvesBranch d P q i (first_typing q gs) first
     solves p =
         let h = (query_starts d std m q gs t e (map sentence_of P) i).0 (record { types = p.types; types_closed = p.types_closed; values = p.values; proved = to_program (filled q i) p.proved }) in
         record {
           query = record { types = p.types; types_closed = p.types_closed; values = p.values };
           answer = record { closing = h.closing; closes = h.closes; solves = tt; types = h.types; values = h.values };
-          proved = entries_hold d P h.closing [] [] 0 0 goals_in (at_program h.closing (map sentence_of P) (clauses_at P [] h.closing) (program_at h.closing) goals_in h.holds);
+          proved = entries_hold d P h.closing [] [] nothing_written 0 0 goals_in (at_program h.closing (map sentence_of P) (clauses_at P [] h.closing) (program_at h.closing) goals_in h.holds);
         }
 
-    pub proves_it : SolvesBranch d P q i (first_typing q gs) first → IsProvable d F q i
+    pub proves_it : SolvesBranch d P q i (first_typing q gs) first → IsPlainlyProvable d F q i
     proves_it s =
         let c = s.answer.closing in
-        let h = at_program c (clauses_at P [] c) (map sentence_of P) (sym (program_at c)) goals_in (hold_entries d P c [] [] 0 0 goals_in s.proved) in
+        let h = at_program c (clauses_at P [] c) (map sentence_of P) (sym (program_at c)) goals_in (hold_entries d P c [] [] nothing_written 0 0 goals_in s.proved) in
         let p = (query_starts d std m q gs t e (map sentence_of P) i).1 s.query.values (record { closing = c; closes = s.answer.closes; types = s.answer.types; values = s.answer.values; holds = h }) in
         record { types = p.types; types_closed = p.types_closed; values = p.values; proved = from_program (filled q i) p.proved }

@@ -5,13 +5,13 @@ use Rattle.std.specs.Prelude.{◌⊎◌, cond, filter, slice_get}
 use Rattle.lp_calculus.specs.Types.{Ty}
 use Rattle.lp_calculus.specs.Term.{Term, Atom, index, atom, abs, app, apply}
 use Rattle.lp_calculus.specs.Spine.{head_of, arguments}
-use Rattle.lp_model.specs.Faithful.{AnyOf, EachOf}
+use Rattle.lp_lemmas.specs.Each.{AnyOf, EachOf}
 use Rattle.lp_model.specs.Pair.{Closing, closed}
 use Rattle.lp_model.specs.Search.{candidates, goal_key, has_head, passes}
 use Rattle.lp_standard.specs.Schemes.{IsStandard}
 use Rattle.lp_model.specs.Flat.{Clause, clause}
 use Rattle.lp_model.specs.Flatten.{ClauseFormula}
-use Rattle.lp_model.specs.Proofs.{Declared, IsFormula, IsAtomHead, Back, Provable, Rooted, trivially, both_sides, left_side, right_side, at_witness, for_all, under_assumption, equally, by_arithmetic, by_clause}
+use Rattle.lp_model.specs.Proofs.{by_failure, no_leaf, Declared, IsFormula, IsAtomHead, Back, PlainlyProvable, RootedBy, trivially, both_sides, left_side, right_side, at_witness, for_all, under_assumption, equally, by_arithmetic, by_clause}
 use Rattle.lp_proof_laws.proofs.Uniform.Contexts.{get_front, get_back, get_split}
 use Rattle.lp_proof_laws.proofs.Uniform.Forms.{apply_arguments}
 use Rattle.lp_proof_laws.proofs.Uniform.Roots.{rooted}
@@ -94,7 +94,7 @@ record Begins (d : Declared) (E : List Ty) (R : List ClauseFormula) (G : Term) :
   is : slice_get R place ≡ Some clause
   focus : IsInFocus d E R clause G
 
-begins : (d : Declared) (E : List Ty) (R : List ClauseFormula) (G : Term) → IsAtomHead (head_of G) → Rooted d E R G → Begins d E R G
+begins : (d : Declared) (E : List Ty) (R : List ClauseFormula) (G : Term) → IsAtomHead (head_of G) → RootedBy no_leaf d E R G → Begins d E R G
 begins d E R G i (trivially (inl e)) = let m : 32 ≤ 6 = transport (λ z. IsAtomHead (head_of z)) e i in absurd (omega arith)
 begins d E R G i (trivially (inr e)) = let m : 32 ≤ 7 = transport (λ z. IsAtomHead (head_of z)) e i in absurd (omega arith)
 begins d E R G i (both_sides X Y e p q) = let m : 32 ≤ 0 = transport (λ z. IsAtomHead (head_of z)) e i in absurd (omega arith)
@@ -107,20 +107,21 @@ begins d E R G i (under_assumption X Y (inr e) p) = let m : 32 ≤ 3 = transport
 begins d E R G i (equally U x y e v) = let m : 32 ≤ 8 = transport (λ z. IsAtomHead (head_of z)) e i in absurd (omega arith)
 begins d E R G i (by_arithmetic (inl h)) = let m : 32 ≤ 9 = transport (λ z. IsAtomHead (head_of z)) h.4 i in absurd (omega arith)
 begins d E R G i (by_arithmetic (inr h)) = let m : 32 ≤ h.0 = transport (λ z. IsAtomHead (head_of z)) h.7 i in let n = h.6 in absurd (omega (arith, m, n))
+begins d E R G i (by_failure K e f h) = absurd h
 begins d E R G i (by_clause j D ts e l k h r) = record { place = j; clause = D; is = e; focus = record { types = ts; long = l; types_closed = k; focus = r } }
 
-atom_begins : (d : Declared) → IsStandard d → (E : List Ty) (R : List ClauseFormula) (G : Term) → IsAtomHead (head_of G) → IsFormula d E G → Provable d E R G → Begins d E R G
+atom_begins : (d : Declared) → IsStandard d → (E : List Ty) (R : List ClauseFormula) (G : Term) → IsAtomHead (head_of G) → IsFormula d E G → PlainlyProvable d E R G → Begins d E R G
 atom_begins d std E R G i f p = go (head_of G) refl i
   where
     go : (k : Term) → head_of G ≡ k → IsAtomHead k → Begins d E R G
     go (atom a) e j =
         let q : G ≡ apply (atom a) (arguments G) = sym (apply_arguments G []) ∙ ap (λ k. apply k (arguments G)) e in
-        begins d E R G i (transport (Rooted d E R) (sym q) (rooted d std E R a (arguments G) (transport (IsFormula d E) q f) (transport (Provable d E R) q p)))
+        begins d E R G i (transport (RootedBy no_leaf d E R) (sym q) (rooted d std E R a (arguments G) (transport (IsFormula d E) q f) (transport (PlainlyProvable d E R) q p)))
     go (index n) e j = absurd j
     go (abs b) e j = absurd j
     go (app u v) e j = absurd j
 
-focus_proves : (d : Declared) (E : List Ty) (R : List ClauseFormula) (G : Term) (i : ℕ) (D : ClauseFormula) → IsAtomHead (head_of G) → slice_get R i ≡ Some D → IsInFocus d E R D G → Provable d E R G
+focus_proves : (d : Declared) (E : List Ty) (R : List ClauseFormula) (G : Term) (i : ℕ) (D : ClauseFormula) → IsAtomHead (head_of G) → slice_get R i ≡ Some D → IsInFocus d E R D G → PlainlyProvable d E R G
 focus_proves d E R G i D h g r = record { proof = Back i r.types r.focus.focus; holds = (D, g, r.long, r.types_closed, h, r.focus.holds) }
 
 -- what serves passes

@@ -11,7 +11,7 @@ use Rattle.lp_calculus.specs.Typing.{type_at, o_type}
 use Rattle.lp_calculus.specs.Closed.{IsClosedType, AreClosed, AllAtoms}
 use Rattle.lp_calculus.proofs.Eta.{app_same}
 use Rattle.lp_calculus.specs.Spine.{head_of}
-use Rattle.lp_model.specs.Faithful.{EachOf}
+use Rattle.lp_lemmas.specs.Each.{EachOf}
 use Rattle.lp_model.specs.Pair.{Closing}
 use Rattle.lp_standard.specs.Connectives.{two, pi_of}
 use Rattle.lp_model.specs.Flat.{Goal, Atomic, Cut, Either, Exists, Forall, Assume, Not, Goals, no_goals, goals, Clause, clause, Clauses, no_clauses, clauses, all_of, formula_of_goal, formula_of_goals, formula_of_clause, formula_of_clauses}
@@ -56,8 +56,8 @@ mutual
   goal_types k B (Either gs hs) h = ((tt, goals_types k B gs h.0), goals_types k B hs h.1)
   goal_types k B (Exists T gs) h = ((h.0, tt), goals_types k (false ∷ B) gs h.1)
   goal_types k B (Forall T gs) h = ((h.0, tt), goals_types k (true ∷ B) gs h.1)
-  goal_types k B (Assume cs gs) h = ((tt, clauses_types k B cs h.0), goals_types k B gs h.1)
-  goal_types k B (Not gs) h = absurd h
+  goal_types k B (Assume ws cs gs) h = ((tt, clauses_types k B cs h.0), goals_types k B gs h.1)
+  goal_types k B (Not ws gs) h = absurd h
 
   goals_types : (k : ℕ) (B : List Bool) (gs : Goals) → AreGoals k B gs → AllAtoms (HasTypesBelow k) (formula_of_goals gs)
   goals_types k B no_goals h = tt

@@ -15,7 +15,7 @@ use Rattle.lp_model.specs.Pair.{Closing, closed}
 use Rattle.lp_standard.specs.Schemes.{IsStandard}
 use Rattle.lp_model.specs.Flat.{Clause, clause, formula_of_clause}
 use Rattle.lp_model.specs.Flatten.{ClauseFormula}
-use Rattle.lp_model.specs.Proofs.{Declared, IsFormula, IsAtomHead, Focusable}
+use Rattle.lp_model.specs.Proofs.{Declared, IsFormula, IsAtomHead, PlainlyFocusable}
 use Rattle.lp_proof_laws.proofs.Uniform.Formulas.{formula_eigens, closed_instance}
 use Rattle.lp_search_laws.specs.Clauses.{with_own, Applies, Serves, IsInFocus, sentence_of, assumed_as, IsProgramClause, IsAssumedClause}
 use Rattle.lp_search_laws.proofs.InFocus.{focus_applies, applies_focus}
@@ -50,14 +50,14 @@ module _ (d : Declared) (std : IsStandard d) (E : List Ty) (P : List ClauseFormu
       let x = clause k vs h b in
       let e = own_instance x r.types p r.long r.types_closed in
       let f = own_formula x r.types p r.long r.types_closed in
-      record { types = r.types; long = r.long; types_closed = r.types_closed; applies = focus_applies d std E P A at_atom (with_own k r.types c) k vs h b p.head f (transport (λ z. Focusable d E P z A) (sym e) r.focus) }
+      record { types = r.types; long = r.long; types_closed = r.types_closed; applies = focus_applies d std E P A at_atom (with_own k r.types c) k vs h b p.head f (transport (λ z. PlainlyFocusable d E P z A) (sym e) r.focus) }
 
   pub serves_sentence : (x : Clause) → IsProgramClause d x → Serves d E P c x A → IsInFocus d E P (sentence_of x) A
   serves_sentence (clause k vs h b) p r =
       let x = clause k vs h b in
       let e = own_instance x r.types p r.long r.types_closed in
       let f = own_formula x r.types p r.long r.types_closed in
-      record { types = r.types; long = r.long; types_closed = r.types_closed; focus = transport (λ z. Focusable d E P z A) e (applies_focus d std E P A at_atom (with_own k r.types c) k vs h b p.head f r.applies) }
+      record { types = r.types; long = r.long; types_closed = r.types_closed; focus = transport (λ z. PlainlyFocusable d E P z A) e (applies_focus d std E P A at_atom (with_own k r.types c) k vs h b p.head f r.applies) }
 
   none_of_it : (k : ℕ) (ts : List Ty) → k ≡ 0 → with_own k ts c ≡ c
   none_of_it k ts e = ap (λ n. with_own n ts c) e ∙ none_own ts c
@@ -65,11 +65,11 @@ module _ (d : Declared) (std : IsStandard d) (E : List Ty) (P : List ClauseFormu
   pub assumed_serves : (x : Clause) → IsAssumedClause d E c x → IsInFocus d E P (assumed_as c x) A → Serves d E P c x A
   assumed_serves (clause k vs h b) p r =
       let e = closed_instance (length E) (type_at r.types) (closed c (formula_of_clause (clause k vs h b))) p.formula.closed in
-      let a = focus_applies d std E P A at_atom c k vs h b p.head p.formula (transport (λ z. Focusable d E P z A) e r.focus) in
+      let a = focus_applies d std E P A at_atom c k vs h b p.head p.formula (transport (λ z. PlainlyFocusable d E P z A) e r.focus) in
       record { types = []; long = sym p.none_own; types_closed = tt; applies = transport (λ z. Applies d E P z vs h b A) (sym (none_of_it k [] p.none_own)) a }
 
   pub serves_assumed : (x : Clause) → IsAssumedClause d E c x → Serves d E P c x A → IsInFocus d E P (assumed_as c x) A
   serves_assumed (clause k vs h b) p r =
       let e = closed_instance (length E) (type_at []) (closed c (formula_of_clause (clause k vs h b))) p.formula.closed in
       let a = transport (λ z. Applies d E P z vs h b A) (none_of_it k r.types p.none_own) r.applies in
-      record { types = []; long = refl; types_closed = tt; focus = transport (λ z. Focusable d E P z A) (sym e) (applies_focus d std E P A at_atom c k vs h b p.head p.formula a) }
+      record { types = []; long = refl; types_closed = tt; focus = transport (λ z. PlainlyFocusable d E P z A) (sym e) (applies_focus d std E P A at_atom c k vs h b p.head p.formula a) }

@@ -14,7 +14,7 @@ use Rattle.lp_standard.specs.Connectives.{two}
 use Rattle.lp_standard.specs.Schemes.{IsStandard, plain, over_one, on_two, entry, standard_schemes}
 use Rattle.lp_model.specs.Flatten.{ClauseFormula}
 use Rattle.lp_model.specs.Values.{Value, Number, Bytes, Outcome, Is, Faults, bound, number, divided, remainder, is_zero, binary, unary, is_binary, is_two_place, is_one_place, evaluate, HasValue, term_of, ordered}
-use Rattle.lp_model.specs.Proofs.{Declared, under, IsFormula, IsArith, Provable, Rooted, trivially, both_sides, left_side, right_side, at_witness, for_all, under_assumption, equally, by_arithmetic, by_clause, Arith}
+use Rattle.lp_model.specs.Proofs.{by_failure, no_leaf, Declared, under, IsFormula, IsArith, PlainlyProvable, RootedBy, trivially, both_sides, left_side, right_side, at_witness, for_all, under_assumption, equally, by_arithmetic, by_clause, Arith}
 use Rattle.lp_proof_laws.proofs.Uniform.Roots.{rooted}
 use Rattle.lp_search_laws.specs.Holds.{Holds, IsSameGoal}
 use Rattle.lp_search_laws.proofs.Connectives.{equal_holds}
@@ -274,10 +274,10 @@ module _ (d : Declared) (std : IsStandard d) (E : List Ty) (P : List ClauseFormu
       transport (λ x. Converts a (term_of x)) w (transport (λ x. Converts x (term_of z.3)) p z.6)
   is_arith U a b v h (inr z) = let e = z.7 in absurd (cc)
 
-  is_root : (U : Ty) (a b : Term) (v : Value) → IsFormula d E (two 9 (U ∷ []) a b) → HasValue b v → Provable d E P (two 9 (U ∷ []) a b) → Converts a (term_of v)
+  is_root : (U : Ty) (a b : Term) (v : Value) → IsFormula d E (two 9 (U ∷ []) a b) → HasValue b v → PlainlyProvable d E P (two 9 (U ∷ []) a b) → Converts a (term_of v)
   is_root U a b v f h p = go (rooted d std E P (constant 9 (U ∷ [])) (a ∷ b ∷ []) f p)
     where
-      go : Rooted d E P (two 9 (U ∷ []) a b) → Converts a (term_of v)
+      go : RootedBy no_leaf d E P (two 9 (U ∷ []) a b) → Converts a (term_of v)
       go (trivially (inl e)) = cc
       go (trivially (inr e)) = cc
       go (both_sides X Y e p' q') = cc
@@ -289,6 +289,7 @@ module _ (d : Declared) (std : IsStandard d) (E : List Ty) (P : List ClauseFormu
       go (under_assumption X Y (inr e) p') = cc
       go (equally W x y e w) = cc
       go (by_arithmetic z) = is_arith U a b v h z
+      go (by_failure K e f m) = absurd m
       go (by_clause i D' ts e l k m r) = let n : 32 ≤ 9 = m in absurd (omega arith)
 
   -- with the types known
@@ -332,10 +333,10 @@ module _ (d : Declared) (std : IsStandard d) (E : List Ty) (P : List ClauseFormu
       let w' : z.4 ≡ y = cc in
       transport (λ t. ordered k x t ≡ true) w' (transport (λ t. ordered k t z.4 ≡ true) v' (transport (λ t. ordered t z.3 z.4 ≡ true) o z.10))
 
-  order_root : (k : ℕ) → 10 ≤ k → k ≤ 13 → (a b : Term) (x y : ℤ) → IsFormula d E (two k [] a b) → HasValue a (Number x) → HasValue b (Number y) → Provable d E P (two k [] a b) → ordered k x y ≡ true
+  order_root : (k : ℕ) → 10 ≤ k → k ≤ 13 → (a b : Term) (x y : ℤ) → IsFormula d E (two k [] a b) → HasValue a (Number x) → HasValue b (Number y) → PlainlyProvable d E P (two k [] a b) → ordered k x y ≡ true
   order_root k m h a b x y f ha hb p = go (rooted d std E P (constant k []) (a ∷ b ∷ []) f p)
     where
-      go : Rooted d E P (two k [] a b) → ordered k x y ≡ true
+      go : RootedBy no_leaf d E P (two k [] a b) → ordered k x y ≡ true
       go (trivially (inl e)) = absurd (cc)
       go (trivially (inr e)) = absurd (cc)
       go (both_sides X Y e p' q') = let q : k ≡ 0 = cc in absurd (omega (q, m, arith))
@@ -347,6 +348,7 @@ module _ (d : Declared) (std : IsStandard d) (E : List Ty) (P : List ClauseFormu
       go (under_assumption X Y (inr e) p') = let q : k ≡ 3 = cc in absurd (omega (q, m, arith))
       go (equally W s t e w) = absurd (cc)
       go (by_arithmetic z) = order_arith k m a b x y ha hb z
+      go (by_failure K e f m) = absurd m
       go (by_clause i D' ts e l n s r) = let q : 32 ≤ k = s in absurd (omega (q, h, arith))
 
   pub comparisons : (c : Closing) (ts : List Ty) (k n : ℕ) (l r : Term) (x y : ℤ) → 10 ≤ k → k ≤ 13 → evaluate n l ≡ Some (Is (Number x)) → evaluate n r ≡ Some (Is (Number y)) → IsFormula d E (closed c (two k ts l r)) → (Holds d E P c (two k ts l r) → ordered k x y ≡ true) × (ordered k x y ≡ true → Holds d E P c (two k ts l r))
@@ -354,6 +356,6 @@ module _ (d : Declared) (std : IsStandard d) (E : List Ty) (P : List ClauseFormu
       let hl = value_closed c l (Number x) (evaluated n l (Number x) el) in
       let hr = value_closed c r (Number y) (evaluated n r (Number y) er) in
       let e = order_none k m h (map (instance c.types) ts) (closed c l) (closed c r) f in (
-        (λ p. order_root k m h (closed c l) (closed c r) x y (transport (λ us. IsFormula d E (two k us (closed c l) (closed c r))) e f) hl hr (transport (λ us. Provable d E P (two k us (closed c l) (closed c r))) e p)),
-        (λ o. transport (λ us. Provable d E P (two k us (closed c l) (closed c r))) (sym e) (record { proof = Arith; holds = inr (k, closed c l, closed c r, x, y, m, h, refl, hl, hr, o) })),
+        (λ p. order_root k m h (closed c l) (closed c r) x y (transport (λ us. IsFormula d E (two k us (closed c l) (closed c r))) e f) hl hr (transport (λ us. PlainlyProvable d E P (two k us (closed c l) (closed c r))) e p)),
+        (λ o. transport (λ us. PlainlyProvable d E P (two k us (closed c l) (closed c r))) (sym e) (record { proof = Arith; holds = inr (k, closed c l, closed c r, x, y, m, h, refl, hl, hr, o) })),
       )

@@ -6,7 +6,7 @@ use Rattle.lp_calculus.specs.Term.{Term, atom, app, substitute, constant, logic}
 use Rattle.lp_calculus.specs.Convert.{Converts, ReducesTo}
 use Rattle.lp_calculus.proofs.Steps.{converts_reduces, converts_sym}
 use Rattle.lp_model.specs.Pair.{Closing, closed}
-use Rattle.lp_model.specs.Proofs.{Declared, IsFormula, IsWitness, IsArith, Provable, Rooted, trivially, both_sides, left_side, right_side, at_witness, for_all, under_assumption, equally, by_arithmetic, by_clause, And, Left, Right, Witness, All, Assume, Equal, assumed}
+use Rattle.lp_model.specs.Proofs.{by_failure, no_leaf, Declared, IsFormula, IsWitness, IsArith, PlainlyProvable, RootedBy, trivially, both_sides, left_side, right_side, at_witness, for_all, under_assumption, equally, by_arithmetic, by_clause, And, Left, Right, Witness, All, Assume, Equal, assumed}
 use Rattle.lp_standard.specs.Schemes.{IsStandard}
 use Rattle.lp_standard.specs.Connectives.{two, pi_of, sigma_of, body_of}
 use Rattle.lp_model.specs.Flatten.{ClauseFormula}
@@ -19,10 +19,10 @@ use Rattle.lp_proof_laws.proofs.Uniform.Formulas.{quantified, at_eigen}
 use Rattle.lp_proof_laws.proofs.Uniform.Formulas as formulas
 
 -- what a formula reduces to is provable exactly where it is
-pub reduces_on : (d : Declared) (E : List Ty) (P : List ClauseFormula) {t u : Term} → IsFormula d E t → ReducesTo t u → Provable d E P t → Provable d E P u
+pub reduces_on : (d : Declared) (E : List Ty) (P : List ClauseFormula) {t u : Term} → IsFormula d E t → ReducesTo t u → PlainlyProvable d E P t → PlainlyProvable d E P u
 reduces_on d E P {t} {u} f r p = by_conversion d E P u t f (converts_reduces r) p
 
-pub reduces_back : (d : Declared) (E : List Ty) (P : List ClauseFormula) {t u : Term} → IsFormula d E t → ReducesTo t u → Provable d E P u → Provable d E P t
+pub reduces_back : (d : Declared) (E : List Ty) (P : List ClauseFormula) {t u : Term} → IsFormula d E t → ReducesTo t u → PlainlyProvable d E P u → PlainlyProvable d E P t
 reduces_back d E P {t} {u} f r p = by_conversion d E P t u (formula_reduces d E r f) (converts_sym (converts_reduces r)) p
 
 pub both_holds : (d : Declared) → IsStandard d → (E : List Ty) (P : List ClauseFormula) (c : Closing) (a b : Term) → IsFormula d E (closed c (two 0 [] a b)) → (Holds d E P c (two 0 [] a b) → Holds d E P c a × Holds d E P c b) × (Holds d E P c a × Holds d E P c b → Holds d E P c (two 0 [] a b))
@@ -71,10 +71,10 @@ no_arith_equal : (T : Ty) (a b : Term) → IsArith (two 8 (T ∷ []) a b) → �
 no_arith_equal T a b (inl h) = let e = h.4 in cc
 no_arith_equal T a b (inr h) = let e = h.7 in cc
 
-equal_root : (d : Declared) → IsStandard d → (E : List Ty) (P : List ClauseFormula) (T : Ty) (a b : Term) → IsFormula d E (two 8 (T ∷ []) a b) → Provable d E P (two 8 (T ∷ []) a b) → Converts a b
+equal_root : (d : Declared) → IsStandard d → (E : List Ty) (P : List ClauseFormula) (T : Ty) (a b : Term) → IsFormula d E (two 8 (T ∷ []) a b) → PlainlyProvable d E P (two 8 (T ∷ []) a b) → Converts a b
 equal_root d std E P T a b f p = go (rooted d std E P (constant 8 (T ∷ [])) (a ∷ b ∷ []) f p)
   where
-    go : Rooted d E P (two 8 (T ∷ []) a b) → Converts a b
+    go : RootedBy no_leaf d E P (two 8 (T ∷ []) a b) → Converts a b
     go (trivially (inl e)) = cc
     go (trivially (inr e)) = cc
     go (both_sides X Y e p' q') = cc
@@ -86,6 +86,7 @@ equal_root d std E P T a b f p = go (rooted d std E P (constant 8 (T ∷ [])) (a
     go (under_assumption X Y (inr e) p') = cc
     go (equally U x y e v) = let g : x ≡ a = cc in let h : y ≡ b = cc in transport (λ z. Converts a z) h (transport (λ z. Converts z y) g v)
     go (by_arithmetic h) = absurd (no_arith_equal T a b h)
+    go (by_failure K e f h) = absurd h
     go (by_clause i D' ts e l k h r) = let m : 32 ≤ 8 = h in absurd (omega arith)
 
 pub equal_holds : (d : Declared) → IsStandard d → (E : List Ty) (P : List ClauseFormula) (c : Closing) (T : Ty) (a b : Term) → IsFormula d E (closed c (two 8 (T ∷ []) a b)) → (Holds d E P c (two 8 (T ∷ []) a b) → Converts (closed c a) (closed c b)) × (Converts (closed c a) (closed c b) → Holds d E P c (two 8 (T ∷ []) a b))

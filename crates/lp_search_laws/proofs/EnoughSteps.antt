@@ -16,8 +16,8 @@ use Rattle.lp_standard.specs.Connectives as connective
 use Rattle.lp_standard.specs.Schemes.{IsStandard}
 use Rattle.lp_model.specs.Unify.{solve, unit_limit}
 use Rattle.lp_model.specs.Values.{Value, Number, Bytes, Outcome, Is, Faults, value, evaluate, term_of}
-use Rattle.lp_model.specs.Flat.{Goal, Atomic, Cut, Either, Exists, Forall, Assume, Not, clause, formula_of_goal}
-use Rattle.lp_model.specs.Branch.{Entry, Branch, Task, Go, Try, Stop}
+use Rattle.lp_model.specs.Flat.{Goal, Atomic, Cut, Either, Exists, Forall, Assume, Not, clause, formula_of_goal, Written, Goals}
+use Rattle.lp_model.specs.Branch.{Entry, Branch, Task, Go, Try, Stop, Lack, both_written}
 use Rattle.lp_model.specs.Answers.{Query, Variable, over, IsScopedAtom, PairTyping, IsTypedPair}
 use Rattle.lp_model.specs.Proofs.{Declared}
 use Rattle.lp_model.specs.Search.{goal_key, key_of}
@@ -25,6 +25,7 @@ use Rattle.lp_unify_laws.specs.Solutions.{instance_typing}
 use Rattle.lp_unify_laws.proofs.TypedInstances.{typings_have_instances, pairs_have_instances}
 use Rattle.lp_unify_laws.proofs.Looks.{head_reduces}
 use Rattle.lp_proof_laws.proofs.Uniform.Forms.{apply_arguments}
+use Rattle.lp_search_laws.proofs.MoreSteps.{variables_more}
 use Rattle.lp_unify_laws.proofs.MoreSteps.Scans.{Below, below_map, below_same, head_normal_more, beta_normal_more}
 use Rattle.lp_unify_laws.proofs.MoreSteps.Solving.{solve_more}
 use Rattle.lp_unify_laws.proofs.NormalForms.Typed.{typed_weighs}
@@ -32,7 +33,7 @@ use Rattle.lp_unify_laws.proofs.Termination.Looks.{head_comes, normal_comes}
 use Rattle.lp_unify_laws.proofs.Termination.Runs.{solve_comes}
 use Rattle.lp_unify_laws.proofs.Termination.Pruning.{prunes_typed}
 use Rattle.lp_search_laws.specs.Holds.{IsTyped, equation}
-use Rattle.lp_search_laws.specs.Branches.{BranchTyping, IsTypedBranch, AreTypedEntries}
+use Rattle.lp_search_laws.specs.Branches.{BranchTyping, IsTypedBranch, AreTypedEntries, ArePlainEntries, IsGoal}
 use Rattle.lp_search_laws.specs.Enough.{IsFound, CanEquate, CanAssign, CallHasEnough, HeadHasEnough, AtomHasEnough, TermHasEnough, HasEnough}
 use Rattle.lp_search_laws.proofs.TypedParts.{typed_reduced}
 use Rattle.lp_search_laws.proofs.AtomKinds.{AtomKind, declared, equality, assignment, order, atom_kind}
@@ -80,9 +81,10 @@ term_more : (n m : ℕ) → n ≤ m → (level : ℕ) (b : Branch) (t : Term) �
 term_more n m h v b t f = record { form = f.form; comes = head_normal_more n m h t f.form f.comes; call = λ p. atom_more n m h v b f.form (f.call p) }
 
 pub enough_more : (n m : ℕ) → n ≤ m → (t : Task) → HasEnough n t → HasEnough m t
-enough_more n m h (Go b) f = λ e es t i j. term_more n m h e.level b t (f e es t i j)
+enough_more n m h (Go b) f = (λ e es t i j. term_more n m h e.level b t (f.0 e es t i j), λ e es w gs i j. found_more _ _ (variables_more n m h (both_written w e.written)) (f.1 e es w gs i j))
 enough_more n m h (Try (clause k vs x body) t e b mark) f = found_more _ _ (solve_more n m h unit_limit _ _ _ _) f
 enough_more n m h (Stop e) f = tt
+enough_more n m h Lack f = tt
 
 -- typed terms
 pub two_kinds : (o : Option Ty) (T X Y : Ty) → o ≡ Some (arrow T (arrow T o_type)) → o ≡ Some (arrow Y (arrow X o_type)) → (Y ≡ T) × (X ≡ T)
@@ -246,10 +248,10 @@ module _ (n : ℕ) (d : Declared) (std : IsStandard d) (q : Query) (y : BranchTy
   by_goal E e l (Either x z) i w = (0, λ u j. let s : Either x z ≡ Atomic u = sym i ∙ j in absurd (cc))
   by_goal E e l (Exists T x) i w = (0, λ u j. let s : Exists T x ≡ Atomic u = sym i ∙ j in absurd (cc))
   by_goal E e l (Forall T x) i w = (0, λ u j. let s : Forall T x ≡ Atomic u = sym i ∙ j in absurd (cc))
-  by_goal E e l (Assume x z) i w = (0, λ u j. let s : Assume x z ≡ Atomic u = sym i ∙ j in absurd (cc))
-  by_goal E e l (Not z) i w = (0, λ u j. let s : Not z ≡ Atomic u = sym i ∙ j in absurd (cc))
+  by_goal E e l (Assume ws x z) i w = (0, λ u j. let s : Assume ws x z ≡ Atomic u = sym i ∙ j in absurd (cc))
+  by_goal E e l (Not ws z) i w = (0, λ u j. let s : Not ws z ≡ Atomic u = sym i ∙ j in absurd (cc))
 
-  by_goals : (Es : List (List Ty)) (gs : List Entry) → b.goals ≡ gs → AreTypedEntries d y.answer.variables Es gs → (m : ℕ) × HasEnough m (Go b)
+  by_goals : (Es : List (List Ty)) (gs : List Entry) → b.goals ≡ gs → AreTypedEntries d y.answer.variables Es gs → (m : ℕ) × ((e : Entry) (es : List Entry) (t : Term) → b.goals ≡ e ∷ es → e.goal ≡ Atomic t → TermHasEnough m e.level b t)
   by_goals [] [] i w = (0, λ e es t j k. absurd (let s = sym i ∙ j in cc))
   by_goals [] (e ∷ es) i w = absurd w
   by_goals (E ∷ Es) [] i w = absurd w
@@ -257,8 +259,14 @@ module _ (n : ℕ) (d : Declared) (std : IsStandard d) (q : Query) (y : BranchTy
       let r = by_goal E e w.0.level e.goal refl w.0.goal in
       (r.0, λ x xs t j k. let s : e ∷ es ≡ x ∷ xs = sym i ∙ j in transport (Enough r.0) (let v : e ≡ x = cc in v) r.1 t k)
 
+  no_denial : (k : ℕ) (Es : List (List Ty)) (gs : List Entry) → ArePlainEntries k Es gs → (e : Entry) (es : List Entry) (w : Written) (hs : Goals) → gs ≡ e ∷ es → e.goal ≡ Not w hs → ⊥
+  no_denial k [] [] p e es w hs i j = cc
+  no_denial k [] (x ∷ xs) p e es w hs i j = p
+  no_denial k (E ∷ Es) [] p e es w hs i j = p
+  no_denial k (E ∷ Es) (x ∷ xs) p e es w hs i j = let s : x.goal ≡ Not w hs = (let v : x ≡ e = cc in ap (λ z. z.goal) v ∙ j) in transport (IsGoal k []) s p.0.goal
+
   pub branch_has_enough : (m : ℕ) × HasEnough m (Go b)
-  branch_has_enough = by_goals y.eigens b.goals refl h.entries
+  branch_has_enough = let r = by_goals y.eigens b.goals refl h.entries in (r.0, (r.1, λ e es w gs i j. absurd (no_denial b.next_type y.eigens b.goals h.goals e es w gs i j)))
 
 pub branches_have_enough : (n : ℕ) (d : Declared) → IsStandard d → (q : Query) (y : BranchTyping) (b : Branch) → IsTypedBranch n d q y b → (m : ℕ) × HasEnough m (Go b)
 branches_have_enough n d std q y b h = branch_has_enough n d std q y b h

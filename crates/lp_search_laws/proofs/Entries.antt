@@ -8,13 +8,13 @@ use Rattle.lp_calculus.specs.Instance.{instance_term, instance_atom}
 use Rattle.lp_calculus.specs.Typing.{o_type, type_at}
 use Rattle.lp_calculus.proofs.Fills.{shift_closed}
 use Rattle.lp_calculus.proofs.Steps.{converts_on, converts_is, converts_sym, converts_atoms}
-use Rattle.lp_model.specs.Faithful.{EachOf}
+use Rattle.lp_lemmas.specs.Each.{EachOf}
 use Rattle.lp_model.specs.Types.{TypeBinding, one_type}
 use Rattle.lp_model.specs.Pair.{Closing, closed, put_type_in, put_types_in}
 use Rattle.lp_model.specs.Flat.{Clause, put_clause, type_clause, formula_of_goal, formula_of_clause}
 use Rattle.lp_model.specs.Flatten.{ClauseFormula}
 use Rattle.lp_model.specs.Branch.{Entry, put_entry, put_entries, type_entry, type_entries}
-use Rattle.lp_model.specs.Proofs.{Declared, IsFormula, IsWitness, Provable, assumed}
+use Rattle.lp_model.specs.Proofs.{no_leaf, Declared, IsFormula, IsWitness, PlainlyProvable, assumed}
 use Rattle.lp_model.specs.Answers.{Variable, IsScopedAtom, Closes}
 use Rattle.lp_unify_laws.specs.TypeSolutions.{Satisfies}
 use Rattle.lp_unify_laws.specs.Solutions.{instance_variable, instance_binding, AreTypedBindings, IsMore, through_bindings}
@@ -229,18 +229,18 @@ formula_at_types d E V c ts s cl t h =
     transport (λ X. IsFormula d X (closed c t)) (satisfied_all c.types ts s E) (transport (IsFormula d (map (instance c.types) (map (instance θ) E))) (ap (close c.terms) (satisfied_term c.types ts s t)) f)
 
 -- assumptions that convert, one by one
-converted_focus : (d : Declared) (E : List Ty) (D D' : Term) → IsFormula d E D → Converts D D' → Focuses d E D D'
+converted_focus : (d : Declared) (E : List Ty) (D D' : Term) → IsFormula d E D → Converts D D' → Focuses no_leaf d E D D'
 unfolding Focuses
 converted_focus d E D D' f c F x R A i r = fconv d F R D D' A (transport (λ z. IsFormula d z D) (sym x.is) (formula_eigens d E x.rest D f)) c r
 
-pub converted_all : (d : Declared) (E : List Ty) (f g : Term → Term) (G : Term) (us : List Term) → EachOf (λ t. IsFormula d E (f t) × IsFormula d E (g t) × Converts (f t) (g t)) us → (P : List ClauseFormula) → Provable d E (P ++ map assumed (map f us)) G → Provable d E (P ++ map assumed (map g us)) G
+pub converted_all : (d : Declared) (E : List Ty) (f g : Term → Term) (G : Term) (us : List Term) → EachOf (λ t. IsFormula d E (f t) × IsFormula d E (g t) × Converts (f t) (g t)) us → (P : List ClauseFormula) → PlainlyProvable d E (P ++ map assumed (map f us)) G → PlainlyProvable d E (P ++ map assumed (map g us)) G
 converted_all d E f g G [] h P p = p
 converted_all d E f g G (u ∷ us) h P p =
-    let q = replaced_clause d E P (map assumed (map f us)) (assumed (f u)) (assumed (g u)) G refl (λ ts l k.
-    transport (λ z. Focuses d E z (instance_term (type_at ts) (g u))) (sym (closed_instance (length E) (type_at ts) (f u) h.0.0.closed))
-    (transport (Focuses d E (f u)) (sym (closed_instance (length E) (type_at ts) (g u) h.0.1.closed)) (converted_focus d E (f u) (g u) h.0.0 h.0.2))) p in
-    let r = converted_all d E f g G us h.1 (P ++ assumed (g u) ∷ []) (transport (λ Q. Provable d E Q G) (sym (append_assoc P (assumed (g u) ∷ []) (map assumed (map f us)))) q) in
-    transport (λ Q. Provable d E Q G) (append_assoc P (assumed (g u) ∷ []) (map assumed (map g us))) r
+    let q = replaced_clause no_leaf d E P (map assumed (map f us)) (assumed (f u)) (assumed (g u)) G refl (λ S n H x y. y) (λ ts l k.
+    transport (λ z. Focuses no_leaf d E z (instance_term (type_at ts) (g u))) (sym (closed_instance (length E) (type_at ts) (f u) h.0.0.closed))
+    (transport (Focuses no_leaf d E (f u)) (sym (closed_instance (length E) (type_at ts) (g u) h.0.1.closed)) (converted_focus d E (f u) (g u) h.0.0 h.0.2))) p in
+    let r = converted_all d E f g G us h.1 (P ++ assumed (g u) ∷ []) (transport (λ Q. PlainlyProvable d E Q G) (sym (append_assoc P (assumed (g u) ∷ []) (map assumed (map f us)))) q) in
+    transport (λ Q. PlainlyProvable d E Q G) (append_assoc P (assumed (g u) ∷ []) (map assumed (map g us))) r
 
 assumed_formulas : (c : Closing) (A : List Clause) → map (assumed_as c) A ≡ map assumed (map (closed c) (formulas A))
 assumed_formulas c [] = refl
@@ -276,10 +276,10 @@ entry_leads d V W P c z bs ts k s cl zl E e h h' =
     let qs = each_swap (λ u. IsFormula d F (closed c u)) (λ u. IsFormula d F (closed z (put_in bs ts u))) (λ u. Converts (closed c u) (closed z (put_in bs ts u))) (λ u. Converts (closed z (put_in bs ts u)) (closed c u)) (λ u. converts_sym) us ps in
     let x : clauses_at P e.assumed c ≡ S ++ map assumed (map (closed c) us) = ap (λ X. S ++ X) (assumed_formulas c e.assumed) in
     let y : clauses_at P e'.assumed z ≡ S ++ map assumed (map (λ u. closed z (put_in bs ts u)) us) = ap (λ X. S ++ X) (assumed_formulas z e'.assumed) ∙ ap (λ X. S ++ map assumed (map (closed z) X)) (assumed_behind bs ts s e) ∙ ap (λ X. S ++ map assumed X) (map_both (closed z) (put_in bs ts) us) in (
-      (λ p. transport (λ X. Provable d X (clauses_at P e'.assumed z) (closed z t')) (sym same_eigens) (transport (λ X. Provable d F X (closed z t')) (sym y)
-          (converted_all d F (closed c) (λ u. closed z (put_in bs ts u)) (closed z t') us ps S (transport (λ X. Provable d F X (closed z t')) x (by_conversion d F (clauses_at P e.assumed c) (closed z t') (closed c t) (before t h.goal) v p))))),
-      (λ p. by_conversion d F (clauses_at P e.assumed c) (closed c t) (closed z t') (after t' h'.goal) (converts_sym v) (transport (λ X. Provable d F X (closed z t')) (sym x)
-          (converted_all d F (λ u. closed z (put_in bs ts u)) (closed c) (closed z t') us qs S (transport (λ X. Provable d F X (closed z t')) y (transport (λ X. Provable d X (clauses_at P e'.assumed z) (closed z t')) same_eigens p))))),
+      (λ p. transport (λ X. PlainlyProvable d X (clauses_at P e'.assumed z) (closed z t')) (sym same_eigens) (transport (λ X. PlainlyProvable d F X (closed z t')) (sym y)
+          (converted_all d F (closed c) (λ u. closed z (put_in bs ts u)) (closed z t') us ps S (transport (λ X. PlainlyProvable d F X (closed z t')) x (by_conversion d F (clauses_at P e.assumed c) (closed z t') (closed c t) (before t h.goal) v p))))),
+      (λ p. by_conversion d F (clauses_at P e.assumed c) (closed c t) (closed z t') (after t' h'.goal) (converts_sym v) (transport (λ X. PlainlyProvable d F X (closed z t')) (sym x)
+          (converted_all d F (λ u. closed z (put_in bs ts u)) (closed c) (closed z t') us qs S (transport (λ X. PlainlyProvable d F X (closed z t')) y (transport (λ X. PlainlyProvable d X (clauses_at P e'.assumed z) (closed z t')) same_eigens p))))),
     )
 
 pub entries_lead : (d : Declared) (V W : List Variable) (P : List Clause) (c z : Closing) (bs : List Binding) (ts : List TypeBinding) → LeadsThrough V c z bs ts → AreShut bs → IsMore (variables_of (types_of ts) V) W → AreTypedBindings d W (map (instance_binding (types_of ts)) bs) → Closes d V c → Closes d W z → (Es : List (List Ty)) (es : List Entry) → AreEntriesAt d V ts Es es →

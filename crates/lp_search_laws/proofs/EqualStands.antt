@@ -3,6 +3,7 @@ use Rattle.std.proofs.Common.{◌≡◌, ℕ, List, [], ◌∷◌, map, Some, sy
 use Rattle.lp_calculus.specs.Types.{Ty, instance}
 use Rattle.lp_calculus.specs.Term.{Term}
 use Rattle.lp_calculus.specs.Typing.{Typed, scheme_type, o_type}
+use Rattle.lp_model.specs.Unify.{unit_limit}
 use Rattle.lp_model.specs.Look.{head_normal}
 use Rattle.lp_model.specs.Pair.{Pair, Closing}
 use Rattle.lp_standard.specs.Connectives.{two}
@@ -72,13 +73,13 @@ module _ (n : ℕ) (d : Declared) (std : IsStandard d) (P : List Clause) (q : Qu
       let p = (by_form n d std P q z b E Es e es h t u i c v s.branch.answer.closes).1 (transport (HoldsSo v) (sym shape) (g.1 s.pairs.0)) in
       record { query = s.branch.query; answer = s.branch.answer; proved = (p, s.branch.proved) }
 
-  pub equal_here : StandFor n d P q (going (Typings n d P q z b E Es e es (E ∷ Es)) (with_goals b (e ∷ es))) (equated n e.level l r (with_goals b es))
+  pub equal_here : StandFor n d P q (going (Typings n d P q z b E Es e es (E ∷ Es)) (with_goals b (e ∷ es))) (equated unit_limit n e.level l r (with_goals b es))
   equal_here = follows n d P q (record { answer = z; eigens = Es }) (with_goals b es) [] (equation l r e.level) (with_typed n d q (record { answer = z; eigens = Es }) (with_goals b es) [] rest)
       (λ θ w. (instance_typing θ pair_typing ∷ [], (typings_have_instances θ d z.variables pair_typing pair pair_typed, tt)))
       tt (record { left = plain.0.1; right = plain.1 }, tt)
       (going (Typings n d P q z b E Es e es (E ∷ Es)) (with_goals b (e ∷ es))) to_pair from_pair
 
 pub equality_stands : (n : ℕ) (d : Declared) → IsStandard d → (P : List Clause) (q : Query) (y : BranchTyping) (b : Branch) (e : Entry) (es : List Entry) (t u : Term) (T : Ty) (l r : Term) → b.goals ≡ e ∷ es → e.goal ≡ Atomic t → head_normal n t ≡ Some u → u ≡ two 8 (T ∷ []) l r → IsTypedBranch n d q y b →
-    StandFor n d P q (going y b) (equated n e.level l r (with_goals b es))
+    StandFor n d P q (going y b) (equated unit_limit n e.level l r (with_goals b es))
 equality_stands n d std P q y b e es t u T l r g i c shape typed =
-    by_first n d q (λ x v. StandFor n d P q (going x v) (equated n e.level l r (with_goals b es))) y b e es g (λ E Es w. equal_here n d std P q y.answer b E Es e es w t u i c T l r shape) typed
+    by_first n d q (λ x v. StandFor n d P q (going x v) (equated unit_limit n e.level l r (with_goals b es))) y b e es g (λ E Es w. equal_here n d std P q y.answer b E Es e es w t u i c T l r shape) typed

@@ -7,15 +7,15 @@ use Rattle.lp_calculus.specs.Types.{Ty, instance}
 use Rattle.lp_calculus.specs.Term.{Term, substitute}
 use Rattle.lp_calculus.specs.Typing.{o_type}
 use Rattle.lp_calculus.proofs.Sigma.{instead}
-use Rattle.lp_model.specs.Faithful.{EachOf}
+use Rattle.lp_lemmas.specs.Each.{EachOf}
 use Rattle.lp_model.specs.Pair.{Closing, closed}
 use Rattle.lp_calculus.specs.Spine.{head_of}
 use Rattle.lp_standard.specs.Schemes.{IsStandard}
-use Rattle.lp_model.specs.Flat.{Goal, Goals, Clause, Clauses, goal_list, clause_list, instantiate_goals, formula_of_goal, formula_of_goals, formula_of_clause, formula_of_clauses}
+use Rattle.lp_model.specs.Flat.{Written, Goal, Goals, Clause, Clauses, goal_list, clause_list, instantiate_goals, formula_of_goal, formula_of_goals, formula_of_clause, formula_of_clauses}
 use Rattle.lp_model.specs.Flatten.{ClauseFormula}
 use Rattle.lp_model.specs.Branch.{Entry, entries}
 use Rattle.lp_model.specs.Answers.{Variable, Closes}
-use Rattle.lp_model.specs.Proofs.{Declared, IsFormula, Provable, Stands, assumed}
+use Rattle.lp_model.specs.Proofs.{Declared, IsFormula, PlainlyProvable, Stands, assumed}
 use Rattle.lp_unify_laws.proofs.Scopes.{prefix_more, more_none}
 use Rattle.lp_proof_laws.proofs.Uniform.Contexts.{get_front, get_back, get_split}
 use Rattle.lp_proof_laws.proofs.Uniform.Uniforms.{wider}
@@ -44,19 +44,19 @@ pub place_of : (d : Declared) (V : List Variable) (k : ℕ) (E : List Ty) (e : E
 place_of d V k E e t p = record { is_level = t.level; below = p.eigens; typed = t.assumed; plain = p.assumed }
 
 -- goals in a place
-pub list_stands : (d : Declared) (V : List Variable) (k : ℕ) (E : List Ty) (A : List Clause) (level mark : ℕ) → IsPlaceOf d V k E A level → (gs : List Goal) → EachOf (λ g. IsTyped d E V (formula_of_goal g) o_type) gs → EachOf (IsGoal k []) gs → MayStand d V k (each_at E gs) (entries gs A level mark)
-list_stands d V k E A l m p gs t h = entries_stand d V k E A l m gs
-    (each_so (λ g. IsTyped d E V (formula_of_goal g) o_type) (λ g. IsTypedEntry d V E (record { goal = g; assumed = A; level = l; mark = m })) (λ g w. record { level = p.is_level; goal = w; assumed = p.typed }) gs t)
-    (each_so (IsGoal k []) (λ g. IsPlainEntry k E (record { goal = g; assumed = A; level = l; mark = m })) (λ g w. record { eigens = p.below; goal = w; assumed = p.plain }) gs h)
+pub list_stands : (d : Declared) (V : List Variable) (k : ℕ) (E : List Ty) (A : List Clause) (W : Written) (level mark : ℕ) → IsPlaceOf d V k E A level → (gs : List Goal) → EachOf (λ g. IsTyped d E V (formula_of_goal g) o_type) gs → EachOf (IsGoal k []) gs → MayStand d V k (each_at E gs) (entries gs A W level mark)
+list_stands d V k E A W l m p gs t h = entries_stand d V k E A W l m gs
+    (each_so (λ g. IsTyped d E V (formula_of_goal g) o_type) (λ g. IsTypedEntry d V E (record { goal = g; assumed = A; written = W; level = l; mark = m })) (λ g w. record { level = p.is_level; goal = w; assumed = p.typed }) gs t)
+    (each_so (IsGoal k []) (λ g. IsPlainEntry k E (record { goal = g; assumed = A; written = W; level = l; mark = m })) (λ g w. record { eigens = p.below; goal = w; assumed = p.plain }) gs h)
 
-pub goals_stand : (d : Declared) → IsStandard d → (V : List Variable) (k : ℕ) (E : List Ty) (A : List Clause) (level mark : ℕ) → IsPlaceOf d V k E A level → (gs : Goals) → IsTyped d E V (formula_of_goals gs) o_type → AreGoals k [] gs → MayStand d V k (each_at E (goal_list gs)) (entries (goal_list gs) A level mark)
-goals_stand d std V k E A l m p gs t h = list_stands d V k E A l m p (goal_list gs) (goals_typed d std E V gs t) (goals_each k [] gs h)
+pub goals_stand : (d : Declared) → IsStandard d → (V : List Variable) (k : ℕ) (E : List Ty) (A : List Clause) (W : Written) (level mark : ℕ) → IsPlaceOf d V k E A level → (gs : Goals) → IsTyped d E V (formula_of_goals gs) o_type → AreGoals k [] gs → MayStand d V k (each_at E (goal_list gs)) (entries (goal_list gs) A W level mark)
+goals_stand d std V k E A W l m p gs t h = list_stands d V k E A W l m p (goal_list gs) (goals_typed d std E V gs t) (goals_each k [] gs h)
 
-pub goals_proved : (d : Declared) → IsStandard d → (P : List Clause) (V : List Variable) (c : Closing) → Closes d V c → (E : List Ty) (A : List Clause) (level mark : ℕ) (gs : Goals) → IsTyped d E V (formula_of_goals gs) o_type →
-    (Holds d (map (instance c.types) E) (clauses_at P A c) c (formula_of_goals gs) → AreProved d P c (each_at E (goal_list gs)) (entries (goal_list gs) A level mark)) × (AreProved d P c (each_at E (goal_list gs)) (entries (goal_list gs) A level mark) → Holds d (map (instance c.types) E) (clauses_at P A c) c (formula_of_goals gs))
-goals_proved d std P V c l E A v m gs t =
+pub goals_proved : (d : Declared) → IsStandard d → (P : List Clause) (V : List Variable) (c : Closing) → Closes d V c → (E : List Ty) (A : List Clause) (W : Written) (level mark : ℕ) (gs : Goals) → IsTyped d E V (formula_of_goals gs) o_type →
+    (Holds d (map (instance c.types) E) (clauses_at P A c) c (formula_of_goals gs) → AreProved d P c (each_at E (goal_list gs)) (entries (goal_list gs) A W level mark)) × (AreProved d P c (each_at E (goal_list gs)) (entries (goal_list gs) A W level mark) → Holds d (map (instance c.types) E) (clauses_at P A c) c (formula_of_goals gs))
+goals_proved d std P V c l E A W v m gs t =
     let r = goals_in_turn d std (map (instance c.types) E) (clauses_at P A c) c gs (formula_at d V c l E (formula_of_goals gs) t) in
-    ((λ p. entries_hold d P c E A v m (goal_list gs) (r.0 p)), (λ p. r.1 (hold_entries d P c E A v m (goal_list gs) p)))
+    ((λ p. entries_hold d P c E A W v m (goal_list gs) (r.0 p)), (λ p. r.1 (hold_entries d P c E A W v m (goal_list gs) p)))
 
 -- goals opened with a term
 pub may_open : (k : ℕ) (x : Bool) (u : Term) (f : ℕ → Term) → IsPlainTerm k u → (x ≡ true → IsClauseHead [] (head_of u)) → ((i : ℕ) → f i ≡ instead u i) → MayPut k (x ∷ []) [] f
@@ -70,17 +70,17 @@ may_open k x u f p h e = record { plain = plain; heads = heads }
     heads zero g = transport (λ z. IsClauseHead [] (head_of z)) (sym (e zero)) (h g)
     heads (suc i) g = absurd (cc)
 
-pub opened_stand : (d : Declared) → IsStandard d → (V : List Variable) (k : ℕ) (E : List Ty) (A : List Clause) (level mark : ℕ) → IsPlaceOf d V k E A level → (x : Bool) (u : Term) (f : ℕ → Term) → ((i : ℕ) → f i ≡ instead u i) → IsPlainTerm k u → (x ≡ true → IsClauseHead [] (head_of u)) →
-    (gs : Goals) → IsTyped d E V (substitute u (formula_of_goals gs)) o_type → AreGoals k (x ∷ []) gs → MayStand d V k (each_at E (goal_list (instantiate_goals f gs))) (entries (goal_list (instantiate_goals f gs)) A level mark)
-opened_stand d std V k E A l m p x u f e v h gs t a =
-    goals_stand d std V k E A l m p (instantiate_goals f gs) (transport (λ z. IsTyped d E V z o_type) (sym (first_only u f e gs)) t) (goals_put k (x ∷ []) [] f (may_open k x u f v h e) gs a)
+pub opened_stand : (d : Declared) → IsStandard d → (V : List Variable) (k : ℕ) (E : List Ty) (A : List Clause) (W : Written) (level mark : ℕ) → IsPlaceOf d V k E A level → (x : Bool) (u : Term) (f : ℕ → Term) → ((i : ℕ) → f i ≡ instead u i) → IsPlainTerm k u → (x ≡ true → IsClauseHead [] (head_of u)) →
+    (gs : Goals) → IsTyped d E V (substitute u (formula_of_goals gs)) o_type → AreGoals k (x ∷ []) gs → MayStand d V k (each_at E (goal_list (instantiate_goals f gs))) (entries (goal_list (instantiate_goals f gs)) A W level mark)
+opened_stand d std V k E A W l m p x u f e v h gs t a =
+    goals_stand d std V k E A W l m p (instantiate_goals f gs) (transport (λ z. IsTyped d E V z o_type) (sym (first_only u f e gs)) t) (goals_put k (x ∷ []) [] f (may_open k x u f v h e) gs a)
 
-pub opened_proved : (d : Declared) → IsStandard d → (P : List Clause) (V : List Variable) (c : Closing) → Closes d V c → (E : List Ty) (A : List Clause) (level mark : ℕ) (u : Term) (f : ℕ → Term) → ((i : ℕ) → f i ≡ instead u i) → (gs : Goals) → IsTyped d E V (substitute u (formula_of_goals gs)) o_type →
-    (Holds d (map (instance c.types) E) (clauses_at P A c) c (substitute u (formula_of_goals gs)) → AreProved d P c (each_at E (goal_list (instantiate_goals f gs))) (entries (goal_list (instantiate_goals f gs)) A level mark)) ×
-    (AreProved d P c (each_at E (goal_list (instantiate_goals f gs))) (entries (goal_list (instantiate_goals f gs)) A level mark) → Holds d (map (instance c.types) E) (clauses_at P A c) c (substitute u (formula_of_goals gs)))
-opened_proved d std P V c l E A v m u f e gs t =
+pub opened_proved : (d : Declared) → IsStandard d → (P : List Clause) (V : List Variable) (c : Closing) → Closes d V c → (E : List Ty) (A : List Clause) (W : Written) (level mark : ℕ) (u : Term) (f : ℕ → Term) → ((i : ℕ) → f i ≡ instead u i) → (gs : Goals) → IsTyped d E V (substitute u (formula_of_goals gs)) o_type →
+    (Holds d (map (instance c.types) E) (clauses_at P A c) c (substitute u (formula_of_goals gs)) → AreProved d P c (each_at E (goal_list (instantiate_goals f gs))) (entries (goal_list (instantiate_goals f gs)) A W level mark)) ×
+    (AreProved d P c (each_at E (goal_list (instantiate_goals f gs))) (entries (goal_list (instantiate_goals f gs)) A W level mark) → Holds d (map (instance c.types) E) (clauses_at P A c) c (substitute u (formula_of_goals gs)))
+opened_proved d std P V c l E A W v m u f e gs t =
     let q = first_only u f e gs in
-    let r = goals_proved d std P V c l E A v m (instantiate_goals f gs) (transport (λ z. IsTyped d E V z o_type) (sym q) t) in
+    let r = goals_proved d std P V c l E A W v m (instantiate_goals f gs) (transport (λ z. IsTyped d E V z o_type) (sym q) t) in
     ((λ p. r.0 (transport (Holds d (map (instance c.types) E) (clauses_at P A c) c) (sym q) p)), (λ p. transport (Holds d (map (instance c.types) E) (clauses_at P A c) c) q (r.1 p)))
 
 -- one more eigenconstant
@@ -114,16 +114,16 @@ swapped : (xs ys zs : List ClauseFormula) → Stands ((xs ++ ys) ++ zs) (xs ++ (
 swapped xs ys zs = record { at = λ i D e. get_swap xs ys zs i D e }
 
 pub assumed_proved : (d : Declared) → IsStandard d → (E : List Ty) (P A : List Clause) (c : Closing) (cs : Clauses) (G : Term) → IsFormula d E (closed c (formula_of_clauses cs)) →
-    (Provable d E (clauses_at P A c ++ assumed (closed c (formula_of_clauses cs)) ∷ []) G → Provable d E (clauses_at P (clause_list cs ++ A) c) G) ×
-    (Provable d E (clauses_at P (clause_list cs ++ A) c) G → Provable d E (clauses_at P A c ++ assumed (closed c (formula_of_clauses cs)) ∷ []) G)
+    (PlainlyProvable d E (clauses_at P A c ++ assumed (closed c (formula_of_clauses cs)) ∷ []) G → PlainlyProvable d E (clauses_at P (clause_list cs ++ A) c) G) ×
+    (PlainlyProvable d E (clauses_at P (clause_list cs ++ A) c) G → PlainlyProvable d E (clauses_at P A c ++ assumed (closed c (formula_of_clauses cs)) ∷ []) G)
 assumed_proved d std E P A c cs G f =
     let r = stand_apart d std E (clauses_at P A c) c cs f G in
     let xs = map sentence_of P in
     let ys = map (assumed_as c) A in
     let zs = map (assumed_as c) (clause_list cs) in
     let e : xs ++ (zs ++ ys) ≡ clauses_at P (clause_list cs ++ A) c = ap (λ z. map sentence_of P ++ z) (sym (map-append (assumed_as c) (clause_list cs) A)) in (
-      (λ p. transport (λ R. Provable d E R G) e (wider d E ((xs ++ ys) ++ zs) (xs ++ (zs ++ ys)) G (swapped xs ys zs) (r.0 p))),
-      (λ p. r.1 (wider d E (xs ++ (zs ++ ys)) ((xs ++ ys) ++ zs) G (back xs ys zs) (transport (λ R. Provable d E R G) (sym e) p))),
+      (λ p. transport (λ R. PlainlyProvable d E R G) e (wider d E ((xs ++ ys) ++ zs) (xs ++ (zs ++ ys)) G (swapped xs ys zs) (r.0 p))),
+      (λ p. r.1 (wider d E (xs ++ (zs ++ ys)) ((xs ++ ys) ++ zs) G (back xs ys zs) (transport (λ R. PlainlyProvable d E R G) (sym e) p))),
     )
   where
     back : (xs ys zs : List ClauseFormula) → Stands (xs ++ (zs ++ ys)) ((xs ++ ys) ++ zs)

@@ -5,6 +5,7 @@ use Rattle.lp_calculus.specs.Types.{Ty, instance}
 use Rattle.lp_calculus.specs.Term.{Term, atom, substitute, eigen, logic}
 use Rattle.lp_calculus.specs.Convert.{ReducesTo}
 use Rattle.lp_calculus.specs.Typing.{o_type, Typed}
+use Rattle.lp_model.specs.Unify.{unit_limit}
 use Rattle.lp_model.specs.Look.{head_normal}
 use Rattle.lp_calculus.specs.Spine.{head_of}
 use Rattle.lp_model.specs.Pair.{Closing}
@@ -142,8 +143,8 @@ module _ (n : ℕ) (d : Declared) (std : IsStandard d) (P : List Clause) (q : Qu
   no_implication a c (inr x) = let p = transport (IsPlainTerm b.next_type) x form_plain in true≢false (sym p.0.0.0)
 
   -- what each form leaves
-  pub form_view : (height : ℕ) → (connective_of u ≡ connective.Atomic → IsRightView n d P q (going (Typings n d P q z b E Es e es (E ∷ Es)) (with_goals b (e ∷ es))) (look_atom n P height e (with_goals b es) u (head_of u))) →
-      (f : Connective) → connective_of u ≡ f → IsRightView n d P q (going (Typings n d P q z b E Es e es (E ∷ Es)) (with_goals b (e ∷ es))) (look_form n P height e (with_goals b es) u f)
+  pub form_view : (height : ℕ) → (connective_of u ≡ connective.Atomic → IsRightView n d P q (going (Typings n d P q z b E Es e es (E ∷ Es)) (with_goals b (e ∷ es))) (look_atom unit_limit n P height e (with_goals b es) u (head_of u))) →
+      (f : Connective) → connective_of u ≡ f → IsRightView n d P q (going (Typings n d P q z b E Es e es (E ∷ Es)) (with_goals b (e ∷ es))) (look_form unit_limit n P height e (with_goals b es) u f)
   form_view height atomic connective.True x = truth_stands x
   form_view height atomic (connective.And a c) x = both_stand a c x
   form_view height atomic (connective.Or a c) x = either_stand a c x

@@ -40,8 +40,8 @@ mutual
   goal_inside f ty w n (Either gs hs) = two_inside f ty w 1 (formula_of_goals gs) (formula_of_goals hs) (goals_inside f ty w n gs) (goals_inside f ty w n hs)
   goal_inside f ty w n (Exists T gs) = quantified_inside f ty w 5 T (formula_of_goals gs) (goals_inside f ty w n gs)
   goal_inside f ty w n (Forall T gs) = quantified_inside f ty w 4 T (formula_of_goals gs) (goals_inside f ty w n gs)
-  goal_inside f ty w n (Not gs) = not_inside f ty w (formula_of_goals gs) (goals_inside f ty w n gs)
-  goal_inside f ty w n (Assume cs gs) = two_inside f ty w 2 (formula_of_clauses cs) (formula_of_goals gs) (clauses_inside f ty w n cs) (goals_inside f ty w n gs)
+  goal_inside f ty w n (Not ws gs) = not_inside f ty w (formula_of_goals gs) (goals_inside f ty w n gs)
+  goal_inside f ty w n (Assume ws cs gs) = two_inside f ty w 2 (formula_of_clauses cs) (formula_of_goals gs) (clauses_inside f ty w n cs) (goals_inside f ty w n gs)
 
   pub goals_inside : (f : Term → Term) (ty : Ty → Ty) → GoesInside f ty → (n : ℕ) (gs : Goals) → formula_of_goals (map_goals (λ u. u) (λ u t. f t) ty n gs) ≡ f (formula_of_goals gs)
   goals_inside f ty w n no_goals = sym (w.constants 6 [])

@@ -2,9 +2,9 @@
 use Rattle.std.proofs.Common.{ℕ, List, [], ◌∷◌, ◌++◌, map, refl, inl, inr}
 use Rattle.std.specs.Prelude.{◌⊎◌}
 use Rattle.lp_calculus.specs.Types.{Ty}
-use Rattle.lp_model.specs.Faithful.{EachOf}
+use Rattle.lp_lemmas.specs.Each.{EachOf}
 use Rattle.lp_model.specs.Pair.{Closing}
-use Rattle.lp_model.specs.Flat.{Goal, Clause}
+use Rattle.lp_model.specs.Flat.{Written, Goal, Clause}
 use Rattle.lp_model.specs.Branch.{Entry, Branch, Go, entries}
 use Rattle.lp_model.specs.Answers.{Query, Variable, Instance, AnswerTyping, Closes}
 use Rattle.lp_model.specs.Proofs.{Declared}
@@ -100,17 +100,17 @@ module _ (n : ℕ) (d : Declared) (P : List Clause) (q : Query) (z : AnswerTypin
 abbrev pub each_at : List Ty → List Goal → List (List Ty)
 each_at E gs = map (λ g. E) gs
 
-pub entries_hold : (d : Declared) (P : List Clause) (c : Closing) (E : List Ty) (A : List Clause) (level mark : ℕ) (gs : List Goal) →
-    EachOf (λ g. EntryHolds d P c E (record { goal = g; assumed = A; level = level; mark = mark })) gs → AreProved d P c (each_at E gs) (entries gs A level mark)
-entries_hold d P c E A l m [] h = tt
-entries_hold d P c E A l m (g ∷ gs) h = (h.0, entries_hold d P c E A l m gs h.1)
+pub entries_hold : (d : Declared) (P : List Clause) (c : Closing) (E : List Ty) (A : List Clause) (W : Written) (level mark : ℕ) (gs : List Goal) →
+    EachOf (λ g. EntryHolds d P c E (record { goal = g; assumed = A; written = W; level = level; mark = mark })) gs → AreProved d P c (each_at E gs) (entries gs A W level mark)
+entries_hold d P c E A W l m [] h = tt
+entries_hold d P c E A W l m (g ∷ gs) h = (h.0, entries_hold d P c E A W l m gs h.1)
 
-pub hold_entries : (d : Declared) (P : List Clause) (c : Closing) (E : List Ty) (A : List Clause) (level mark : ℕ) (gs : List Goal) →
-    AreProved d P c (each_at E gs) (entries gs A level mark) → EachOf (λ g. EntryHolds d P c E (record { goal = g; assumed = A; level = level; mark = mark })) gs
-hold_entries d P c E A l m [] h = tt
-hold_entries d P c E A l m (g ∷ gs) h = (h.0, hold_entries d P c E A l m gs h.1)
+pub hold_entries : (d : Declared) (P : List Clause) (c : Closing) (E : List Ty) (A : List Clause) (W : Written) (level mark : ℕ) (gs : List Goal) →
+    AreProved d P c (each_at E gs) (entries gs A W level mark) → EachOf (λ g. EntryHolds d P c E (record { goal = g; assumed = A; written = W; level = level; mark = mark })) gs
+hold_entries d P c E A W l m [] h = tt
+hold_entries d P c E A W l m (g ∷ gs) h = (h.0, hold_entries d P c E A W l m gs h.1)
 
-pub entries_stand : (d : Declared) (V : List Variable) (k : ℕ) (E : List Ty) (A : List Clause) (level mark : ℕ) (gs : List Goal) →
-    EachOf (λ g. IsTypedEntry d V E (record { goal = g; assumed = A; level = level; mark = mark })) gs → EachOf (λ g. IsPlainEntry k E (record { goal = g; assumed = A; level = level; mark = mark })) gs → MayStand d V k (each_at E gs) (entries gs A level mark)
-entries_stand d V k E A l m [] t p = record { typed = tt; plain = tt }
-entries_stand d V k E A l m (g ∷ gs) t p = let r = entries_stand d V k E A l m gs t.1 p.1 in record { typed = (t.0, r.typed); plain = (p.0, r.plain) }
+pub entries_stand : (d : Declared) (V : List Variable) (k : ℕ) (E : List Ty) (A : List Clause) (W : Written) (level mark : ℕ) (gs : List Goal) →
+    EachOf (λ g. IsTypedEntry d V E (record { goal = g; assumed = A; written = W; level = level; mark = mark })) gs → EachOf (λ g. IsPlainEntry k E (record { goal = g; assumed = A; written = W; level = level; mark = mark })) gs → MayStand d V k (each_at E gs) (entries gs A W level mark)
+entries_stand d V k E A W l m [] t p = record { typed = tt; plain = tt }
+entries_stand d V k E A W l m (g ∷ gs) t p = let r = entries_stand d V k E A W l m gs t.1 p.1 in record { typed = (t.0, r.typed); plain = (p.0, r.plain) }

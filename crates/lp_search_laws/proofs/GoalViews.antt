@@ -7,8 +7,8 @@ use Rattle.lp_calculus.specs.Typing.{o_type, Typed}
 use Rattle.lp_calculus.proofs.Sigma.{instead}
 use Rattle.lp_model.specs.Pair.{Closing, closed}
 use Rattle.lp_standard.specs.Schemes.{IsStandard}
-use Rattle.lp_model.specs.Flat.{Goal, Cut, Either, Forall, Assume, Not, Goals, Clause, Clauses, goal_list, clause_list, instantiate_goals, formula_of_goal, formula_of_goals, formula_of_clause, formula_of_clauses, Exists}
-use Rattle.lp_model.specs.Branch.{Entry, Branch, Go, entries}
+use Rattle.lp_model.specs.Flat.{Written, Goal, Cut, Either, Forall, Assume, Not, Goals, Clause, Clauses, goal_list, clause_list, instantiate_goals, formula_of_goal, formula_of_goals, formula_of_clause, formula_of_clauses, Exists}
+use Rattle.lp_model.specs.Branch.{both_written, Entry, Branch, Go, entries}
 use Rattle.lp_model.specs.Answers.{Query, Variable, AnswerTyping, over, type_of, IsPrefix}
 use Rattle.lp_model.specs.Proofs.{Declared}
 use Rattle.lp_model.specs.Search.{with_goals}
@@ -24,7 +24,7 @@ use Rattle.lp_search_laws.proofs.TypedParts.{both_typed, function_typed, opened_
 use Rattle.lp_search_laws.proofs.Fronts.{each_at, Typings, Typed as IsTypedHere, stands_one, stands_two}
 use Rattle.lp_search_laws.proofs.NewVariable.{stands_new, clauses_more, unused_new}
 use Rattle.lp_search_laws.proofs.FlatViews.{IsPlaceOf, place_of, goals_stand, goals_proved, opened_stand, opened_proved, next_place, assumed_proved}
-use Rattle.lp_proof_laws.proofs.Uniform.Lists.{each_append}
+use Rattle.lp_lemmas.proofs.Each.{each_append}
 use Rattle.lp_search_laws.specs.Branches.{IsAssumable}
 use Rattle.lp_model.specs.Proofs.{True}
 
@@ -54,24 +54,24 @@ module _ (n : ℕ) (d : Declared) (std : IsStandard d) (P : List Clause) (q : Qu
   pub cut_stands : e.goal ≡ Cut → StandFor n d P q (going (Typings n d P q z b E Es e es (E ∷ Es)) (with_goals b (e ∷ es))) (Go (with_goals b es) ∷ [])
   cut_stands i = stands_one n d P q z b E Es e es h [] [] (record { typed = tt; plain = tt }) (λ c l. by_goal Cut i c _ ((λ p. tt), (λ p. record { proof = True; holds = inr refl })))
 
-  pub either_stands : (l r : Goals) → e.goal ≡ Either l r → StandFor n d P q (going (Typings n d P q z b E Es e es (E ∷ Es)) (with_goals b (e ∷ es))) (Go (with_goals b (entries (goal_list l) e.assumed e.level e.mark ++ es)) ∷ Go (with_goals b (entries (goal_list r) e.assumed e.level e.mark ++ es)) ∷ [])
+  pub either_stands : (l r : Goals) → e.goal ≡ Either l r → StandFor n d P q (going (Typings n d P q z b E Es e es (E ∷ Es)) (with_goals b (e ∷ es))) (Go (with_goals b (entries (goal_list l) e.assumed e.written e.level e.mark ++ es)) ∷ Go (with_goals b (entries (goal_list r) e.assumed e.written e.level e.mark ++ es)) ∷ [])
   either_stands l r i =
       let t = both_typed d E V 1 (formula_of_goals l) (formula_of_goals r) (connective d std 1 (omega arith)) (typed_as (Either l r) i) in
       let w = plain_as (Either l r) i in
-      stands_two n d P q z b E Es e es h (each_at E (goal_list l)) (each_at E (goal_list r)) (entries (goal_list l) e.assumed e.level e.mark) (entries (goal_list r) e.assumed e.level e.mark)
-      (goals_stand d std V k E e.assumed e.level e.mark place l t.0 w.0)
-      (goals_stand d std V k E e.assumed e.level e.mark place r t.1 w.1)
+      stands_two n d P q z b E Es e es h (each_at E (goal_list l)) (each_at E (goal_list r)) (entries (goal_list l) e.assumed e.written e.level e.mark) (entries (goal_list r) e.assumed e.written e.level e.mark)
+      (goals_stand d std V k E e.assumed e.written e.level e.mark place l t.0 w.0)
+      (goals_stand d std V k E e.assumed e.written e.level e.mark place r t.1 w.1)
       (λ c s.
       let o = either_holds d std (map (instance c.types) E) (clauses_at P e.assumed c) c (formula_of_goals l) (formula_of_goals r) (formula_at d V c s E _ (typed_as (Either l r) i)) in
-      let a = goals_proved d std P V c s E e.assumed e.level e.mark l t.0 in
-      let b' = goals_proved d std P V c s E e.assumed e.level e.mark r t.1 in
+      let a = goals_proved d std P V c s E e.assumed e.written e.level e.mark l t.0 in
+      let b' = goals_proved d std P V c s E e.assumed e.written e.level e.mark r t.1 in
       by_goal (Either l r) i c _ (
         (λ p. elim (o.0 p) [ inl x ↦ inl (a.0 x) | inr x ↦ inr (b'.0 x) ]),
         (λ p. o.1 (elim p [ inl x ↦ inl (a.1 x) | inr x ↦ inr (b'.1 x) ])),
       ))
 
   pub forall_stands : (T : Ty) (gs : Goals) (f : ℕ → Term) → ((i : ℕ) → f i ≡ instead (atom (eigen (suc e.level))) i) → e.goal ≡ Forall T gs →
-      StandFor n d P q (going (Typings n d P q z b E Es e es (E ∷ Es)) (with_goals b (e ∷ es))) (Go (with_goals b (entries (goal_list (instantiate_goals f gs)) e.assumed (suc e.level) e.mark ++ es)) ∷ [])
+      StandFor n d P q (going (Typings n d P q z b E Es e es (E ∷ Es)) (with_goals b (e ∷ es))) (Go (with_goals b (entries (goal_list (instantiate_goals f gs)) e.assumed e.written (suc e.level) e.mark ++ es)) ∷ [])
   forall_stands T gs f a i =
       let F = E ++ T ∷ [] in
       let u = atom (eigen (suc e.level)) in
@@ -84,13 +84,13 @@ module _ (n : ℕ) (d : Declared) (std : IsStandard d) (P : List Clause) (q : Qu
         scoped = (let x : length (E ++ T ∷ []) ≡ suc e.level = pl.is_level in omega arith);
       } in
       let t = opened_typed d F V T (abs (formula_of_goals gs)) u s' eig in
-      stands_one n d P q z b E Es e es h (each_at F (goal_list (instantiate_goals f gs))) (entries (goal_list (instantiate_goals f gs)) e.assumed (suc e.level) e.mark)
-      (opened_stand d std V k F e.assumed (suc e.level) e.mark pl true u f a tt (λ x. tt) gs t w.1)
+      stands_one n d P q z b E Es e es h (each_at F (goal_list (instantiate_goals f gs))) (entries (goal_list (instantiate_goals f gs)) e.assumed e.written (suc e.level) e.mark)
+      (opened_stand d std V k F e.assumed e.written (suc e.level) e.mark pl true u f a tt (λ x. tt) gs t w.1)
       (λ c l.
       let E' = map (instance c.types) E in
       let R = clauses_at P e.assumed c in
       let o = pi_holds d std E' R c T (abs (formula_of_goals gs)) (formula_at d V c l E _ (typed_as (Forall T gs) i)) in
-      let r = opened_proved d std P V c l F e.assumed (suc e.level) e.mark u f a gs t in
+      let r = opened_proved d std P V c l F e.assumed e.written (suc e.level) e.mark u f a gs t in
       let x : suc (length E') ≡ suc e.level = ap suc (length_map (instance c.types) E ∙ h.entries.0.level) in
       let y : map (instance c.types) F ≡ E' ++ instance c.types T ∷ [] = map_append (instance c.types) E (T ∷ []) in
       let m = transport (λ j. Holds d (E' ++ instance c.types T ∷ []) R c (substitute (atom (eigen j)) (formula_of_goals gs))) x in
@@ -101,13 +101,13 @@ module _ (n : ℕ) (d : Declared) (std : IsStandard d) (P : List Clause) (q : Qu
       ))
 
   -- no text has a negated goal yet
-  pub no_denial : (gs : Goals) → e.goal ≡ Not gs → ⊥
-  no_denial gs i = plain_as (Not gs) i
+  pub no_denial : (ws : Written) (gs : Goals) → e.goal ≡ Not ws gs → ⊥
+  no_denial ws gs i = plain_as (Not ws gs) i
 
-  pub assume_stands : (cs : Clauses) (gs : Goals) → e.goal ≡ Assume cs gs → StandFor n d P q (going (Typings n d P q z b E Es e es (E ∷ Es)) (with_goals b (e ∷ es))) (Go (with_goals b (entries (goal_list gs) (clause_list cs ++ e.assumed) e.level e.mark ++ es)) ∷ [])
-  assume_stands cs gs i =
-      let t = both_typed d E V 2 (formula_of_clauses cs) (formula_of_goals gs) (connective d std 2 (omega arith)) (typed_as (Assume cs gs) i) in
-      let w = plain_as (Assume cs gs) i in
+  pub assume_stands : (ws : Written) (cs : Clauses) (gs : Goals) → e.goal ≡ Assume ws cs gs → StandFor n d P q (going (Typings n d P q z b E Es e es (E ∷ Es)) (with_goals b (e ∷ es))) (Go (with_goals b (entries (goal_list gs) (clause_list cs ++ e.assumed) (both_written ws e.written) e.level e.mark ++ es)) ∷ [])
+  assume_stands ws cs gs i =
+      let t = both_typed d E V 2 (formula_of_clauses cs) (formula_of_goals gs) (connective d std 2 (omega arith)) (typed_as (Assume ws cs gs) i) in
+      let w = plain_as (Assume ws cs gs) i in
       let A = clause_list cs ++ e.assumed in
       let pl : IsPlaceOf d z.variables b.next_type E (clause_list cs ++ e.assumed) e.level = record {
         is_level = place.is_level;
@@ -115,13 +115,13 @@ module _ (n : ℕ) (d : Declared) (std : IsStandard d) (P : List Clause) (q : Qu
         typed = each_append (λ c. IsTyped d E z.variables (formula_of_clause c) o_type) (clause_list cs) e.assumed (clauses_typed d std E z.variables cs t.0) place.typed;
         plain = each_append (IsAssumable b.next_type) (clause_list cs) e.assumed (clauses_each b.next_type cs w.0) place.plain;
       } in
-      stands_one n d P q z b E Es e es h (each_at E (goal_list gs)) (entries (goal_list gs) A e.level e.mark) (goals_stand d std V k E A e.level e.mark pl gs t.1 w.1)
+      stands_one n d P q z b E Es e es h (each_at E (goal_list gs)) (entries (goal_list gs) A (both_written ws e.written) e.level e.mark) (goals_stand d std V k E A (both_written ws e.written) e.level e.mark pl gs t.1 w.1)
       (λ c l.
       let E' = map (instance c.types) E in
-      let o = implied_holds d std E' (clauses_at P e.assumed c) c (formula_of_clauses cs) (formula_of_goals gs) (formula_at d V c l E _ (typed_as (Assume cs gs) i)) in
-      let r = goals_proved d std P V c l E A e.level e.mark gs t.1 in
+      let o = implied_holds d std E' (clauses_at P e.assumed c) c (formula_of_clauses cs) (formula_of_goals gs) (formula_at d V c l E _ (typed_as (Assume ws cs gs) i)) in
+      let r = goals_proved d std P V c l E A (both_written ws e.written) e.level e.mark gs t.1 in
       let x = assumed_proved d std E' P e.assumed c cs (closed c (formula_of_goals gs)) (formula_at d V c l E (formula_of_clauses cs) t.0) in
-      by_goal (Assume cs gs) i c _ ((λ p. r.0 (x.0 (o.0 p))), (λ p. o.1 (x.1 (r.1 p)))))
+      by_goal (Assume ws cs gs) i c _ ((λ p. r.0 (x.0 (o.0 p))), (λ p. o.1 (x.1 (r.1 p)))))
 
   -- the new variable of a goal that says that there is a term of type T
   module _ (T : Ty) where
@@ -139,7 +139,7 @@ module _ (n : ℕ) (d : Declared) (std : IsStandard d) (P : List Clause) (q : Qu
     new_place = record { is_level = place.is_level; below = place.below; typed = clauses_more d E z.variables (z.variables ++ record { type = T; scope = E } ∷ []) (record { more = record { type = T; scope = E } ∷ []; is = refl }) e.assumed place.typed; plain = place.plain }
 
   pub exists_stands : (T : Ty) (gs : Goals) (f : ℕ → Term) → ((i : ℕ) → f i ≡ instead (atom (logic b.next e.level)) i) → e.goal ≡ Exists T gs →
-      StandFor n d P q (going (Typings n d P q z b E Es e es (E ∷ Es)) (with_goals b (e ∷ es))) (Go (record { next = suc b.next; next_type = b.next_type; goals = entries (goal_list (instantiate_goals f gs)) e.assumed e.level e.mark ++ es; types = b.types; values = b.values; pairs = b.pairs }) ∷ [])
+      StandFor n d P q (going (Typings n d P q z b E Es e es (E ∷ Es)) (with_goals b (e ∷ es))) (Go (record { next = suc b.next; next_type = b.next_type; goals = entries (goal_list (instantiate_goals f gs)) e.assumed e.written e.level e.mark ++ es; types = b.types; values = b.values; pairs = b.pairs }) ∷ [])
   exists_stands T gs f a i =
       let u = atom (logic b.next e.level) in
       let X = z.variables ++ record { type = T; scope = E } ∷ [] in
@@ -147,7 +147,7 @@ module _ (n : ℕ) (d : Declared) (std : IsStandard d) (P : List Clause) (q : Qu
       let s = function_typed d E V 5 T (abs (formula_of_goals gs)) (sigma_type d std T) (typed_as (Exists T gs) i) in
       let s' = typed_wider d E E V X (prefix_none E) (record { more = record { type = T; scope = E } ∷ []; is = refl }) (abs (formula_of_goals gs)) _ s in
       let t = opened_typed d E X T (abs (formula_of_goals gs)) u s' (new_typed T) in
-      stands_new n d P q z b E Es e es h T w.0 (substitute u (formula_of_goals gs)) (each_at E (goal_list (instantiate_goals f gs))) (entries (goal_list (instantiate_goals f gs)) e.assumed e.level e.mark)
-      (opened_stand d std X k E e.assumed e.level e.mark (new_place T) false u f a tt (λ x. absurd (cc)) gs t w.1)
+      stands_new n d P q z b E Es e es h T w.0 (substitute u (formula_of_goals gs)) (each_at E (goal_list (instantiate_goals f gs))) (entries (goal_list (instantiate_goals f gs)) e.assumed e.written e.level e.mark)
+      (opened_stand d std X k E e.assumed e.written e.level e.mark (new_place T) false u f a tt (λ x. absurd (cc)) gs t w.1)
       (λ c l. by_goal (Exists T gs) i c _ (sigma_holds d std (map (instance c.types) E) (clauses_at P e.assumed c) c b.next e.level T (abs (formula_of_goals gs)) (unused_new d E V b.next e.level (sym h.answer.variables) (abs (formula_of_goals gs)) _ s.typed) (formula_at d V c l E _ (typed_as (Exists T gs) i))))
-      (λ c l. opened_proved d std P X c l E e.assumed e.level e.mark u f a gs t)
+      (λ c l. opened_proved d std P X c l E e.assumed e.written e.level e.mark u f a gs t)

@@ -6,7 +6,7 @@ use Rattle.lp_calculus.specs.Term.{Term, atom, abs, substitute, constant, logic}
 use Rattle.lp_calculus.specs.Typing.{Typed, scheme_type, o_type}
 use Rattle.lp_calculus.proofs.Steps.{within_reduces}
 use Rattle.lp_model.specs.Look.{head_normal}
-use Rattle.lp_model.specs.Faithful.{EachOf}
+use Rattle.lp_lemmas.specs.Each.{EachOf}
 use Rattle.lp_model.specs.Pair.{Closing, closed}
 use Rattle.lp_model.specs.Proofs.{Declared, under, IsFormula, IsWitness, True}
 use Rattle.lp_standard.specs.Schemes.{IsStandard}
@@ -74,8 +74,8 @@ flat_goals d std E P c x l Cut m f = ((λ p. tt), (λ p. record { proof = True; 
 flat_goals d std E P c x l (Either gs hs) m f = either_holds d std E P c (formula_of_goals gs) (formula_of_goals hs) f
 flat_goals d std E P c x l (Forall T gs) m f = pi_holds d std E P c T (abs (formula_of_goals gs)) f
 flat_goals d std E P c x l (Exists T gs) m f = sigma_holds d std E P c x l T (abs (formula_of_goals gs)) m.1 f
-flat_goals d std E P c x l (Not gs) m f = ((λ p. p), (λ p. p))
-flat_goals d std E P c x l (Assume cs gs) m f = implied_holds d std E P c (formula_of_clauses cs) (formula_of_goals gs) f
+flat_goals d std E P c x l (Not ws gs) m f = ((λ p. p), (λ p. p))
+flat_goals d std E P c x l (Assume ws cs gs) m f = implied_holds d std E P c (formula_of_clauses cs) (formula_of_goals gs) f
 
 -- goals one behind the other
 pub goals_in_turn : (d : Declared) → IsStandard d → (E : List Ty) (P : List ClauseFormula) (c : Closing) (gs : Goals) → IsFormula d E (closed c (formula_of_goals gs)) → (Holds d E P c (formula_of_goals gs) → EachOf (λ g. Holds d E P c (formula_of_goal g)) (goal_list gs)) × (EachOf (λ g. Holds d E P c (formula_of_goal g)) (goal_list gs) → Holds d E P c (formula_of_goals gs))

@@ -63,3 +63,6 @@ pub mod Rows
 pub mod Stack
 pub mod SearchEnds
 pub mod MoreSteps
+pub mod WholeRight
+pub mod FullViews
+pub mod Comes

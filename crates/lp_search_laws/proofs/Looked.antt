@@ -2,6 +2,7 @@
 use Rattle.std.proofs.Common.{◌≡◌, ℕ, suc, List, [], ◌∷◌, Option, Some, None, ◌∙◌, refl, sym, ap}
 use Rattle.lp_calculus.specs.Types.{Ty}
 use Rattle.lp_calculus.specs.Term.{Term, atom, eigen, logic}
+use Rattle.lp_model.specs.Unify.{unit_limit}
 use Rattle.lp_model.specs.Look.{head_normal}
 use Rattle.lp_calculus.specs.Spine.{head_of}
 use Rattle.lp_standard.specs.Connectives.{connective_of}
@@ -21,29 +22,29 @@ use Rattle.lp_search_laws.proofs.Standing.{proved_branches_answer}
 
 module _ (n height : ℕ) (d : Declared) (std : IsStandard d) (P : List Clause) (q : Query) (z : AnswerTyping) (b : Branch) where
   abbrev pub Atoms : List Ty → List (List Ty) → Entry → List Entry → Type 0
-  Atoms E Es e es = (t u : Term) → e.goal ≡ Atomic t → head_normal n t ≡ Some u → connective_of u ≡ connective.Atomic → IsRightView n d P q (going (Typings n d P q z b E Es e es (E ∷ Es)) (with_goals b (e ∷ es))) (look_atom n P height e (with_goals b es) u (head_of u))
+  Atoms E Es e es = (t u : Term) → e.goal ≡ Atomic t → head_normal n t ≡ Some u → connective_of u ≡ connective.Atomic → IsRightView n d P q (going (Typings n d P q z b E Es e es (E ∷ Es)) (with_goals b (e ∷ es))) (look_atom unit_limit n P height e (with_goals b es) u (head_of u))
 
   module _ (E : List Ty) (Es : List (List Ty)) (e : Entry) (es : List Entry) (h : IsTypedHere n d P q z b E Es e es) (atoms : Atoms E Es e es) where
-    normal_view : (t : Term) → e.goal ≡ Atomic t → (o : Option Term) → head_normal n t ≡ o → IsRightView n d P q (going (Typings n d P q z b E Es e es (E ∷ Es)) (with_goals b (e ∷ es))) (look_normal n P height e (with_goals b es) o)
-    normal_view t i None x = λ w. absurd (cc)
+    normal_view : (t : Term) → e.goal ≡ Atomic t → (o : Option Term) → head_normal n t ≡ o → IsRightView n d P q (going (Typings n d P q z b E Es e es (E ∷ Es)) (with_goals b (e ∷ es))) (look_normal unit_limit n P height e (with_goals b es) o)
+    normal_view t i None x = tt
     normal_view t i (Some u) x = form_view n d std P q z b E Es e es h t u i x height (λ p. atoms t u i x p) (connective_of u) refl
 
-    goal_view : (g : Goal) → e.goal ≡ g → IsRightView n d P q (going (Typings n d P q z b E Es e es (E ∷ Es)) (with_goals b (e ∷ es))) (look_goal n P height e (with_goals b es) g)
+    goal_view : (g : Goal) → e.goal ≡ g → IsRightView n d P q (going (Typings n d P q z b E Es e es (E ∷ Es)) (with_goals b (e ∷ es))) (look_goal unit_limit n P height e (with_goals b es) g)
     goal_view (Atomic t) i = normal_view t i (head_normal n t) refl
     goal_view Cut i = cut_stands n d std P q z b E Es e es h i
     goal_view (Either l r) i = either_stands n d std P q z b E Es e es h l r i
     goal_view (Exists T gs) i = exists_stands n d std P q z b E Es e es h T gs _ (by_cases (atom (logic b.next e.level)) _ refl (λ j. refl)) i
     goal_view (Forall T gs) i = forall_stands n d std P q z b E Es e es h T gs _ (by_cases (atom (eigen (suc e.level))) _ refl (λ j. refl)) i
-    goal_view (Not gs) i = absurd (no_denial n d std P q z b E Es e es h gs i)
-    goal_view (Assume cs gs) i = assume_stands n d std P q z b E Es e es h cs gs i
+    goal_view (Not ws gs) i = absurd (no_denial n d std P q z b E Es e es h ws gs i)
+    goal_view (Assume ws cs gs) i = assume_stands n d std P q z b E Es e es h ws cs gs i
 
   pub branch_view : (Es : List (List Ty)) (gs : List Entry) → IsTypedBranch n d q (record { answer = z; eigens = Es }) (with_goals b gs) →
       ((E : List Ty) (Fs : List (List Ty)) (e : Entry) (es : List Entry) → Es ≡ E ∷ Fs → gs ≡ e ∷ es → IsTypedHere n d P q z b E Fs e es → Atoms E Fs e es) →
-      IsRightView n d P q (going (record { answer = z; eigens = Es }) (with_goals b gs)) (look_branch n P height (with_goals b gs) gs)
+      IsRightView n d P q (going (record { answer = z; eigens = Es }) (with_goals b gs)) (look_branch unit_limit n P height (with_goals b gs) gs)
   branch_view Es [] h f = proved_branches_answer n height d P q (record { answer = z; eigens = Es }) (with_goals b []) refl h
   branch_view [] (e ∷ es) h f = absurd h.entries
   branch_view (E ∷ Es) (e ∷ es) h f = goal_view E Es e es h (f E Es e es refl refl h) e.goal refl
 
-pub goals_are_taken_apart : (n height : ℕ) (d : Declared) → IsStandard d → (P : List Clause) (q : Query) (y : BranchTyping) (b : Branch) (e : Entry) (es : List Entry) → b.goals ≡ e ∷ es → (IsAtAtom n e → ⊥) → IsTypedBranch n d q y b → IsRightView n d P q (going y b) (look n P height (Go b))
+pub goals_are_taken_apart : (n height : ℕ) (d : Declared) → IsStandard d → (P : List Clause) (q : Query) (y : BranchTyping) (b : Branch) (e : Entry) (es : List Entry) → b.goals ≡ e ∷ es → (IsAtAtom n e → ⊥) → IsTypedBranch n d q y b → IsRightView n d P q (going y b) (look unit_limit n P height (Go b))
 goals_are_taken_apart n height d std P q y b e es i f h =
     branch_view n height d std P q y.answer b y.eigens b.goals h (λ E Fs e' es' j k g t u x r p. absurd (f (let s : e' ≡ e = (let m = sym k in cc) in record { term = t; goal = ap (λ v. v.goal) (sym s) ∙ x; form = u; comes = r; plain = p })))

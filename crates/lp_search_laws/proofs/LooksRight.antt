@@ -1,7 +1,8 @@
 -- Each look at a typed task is right, and so is each run.
 use Rattle.std.proofs.Common.{◌≡◌, ℕ, List, [], ◌∷◌, length, Some, refl}
 use Rattle.lp_calculus.specs.Types.{Ty}
-use Rattle.lp_model.specs.Faithful.{EachOf}
+use Rattle.lp_model.specs.Unify.{unit_limit}
+use Rattle.lp_lemmas.specs.Each.{EachOf}
 use Rattle.lp_standard.specs.Connectives.{two}
 use Rattle.lp_standard.specs.Schemes.{IsStandard}
 use Rattle.lp_model.specs.Skeleton.{starts, run}
@@ -9,13 +10,13 @@ use Rattle.lp_model.specs.Values.{evaluate}
 use Rattle.lp_model.specs.Flat.{Goals, Clause}
 use Rattle.lp_model.specs.Flatten.{ClauseFormula, flatten_query}
 use Rattle.lp_model.specs.Branch.{Entry, Branch, Go}
-use Rattle.lp_model.specs.Answers.{Query, AnswerTyping, Instance, IsInstance, TypedAnswer, IsProvable}
-use Rattle.lp_model.specs.Proofs.{Declared}
+use Rattle.lp_model.specs.Answers.{Query, AnswerTyping, Instance, IsInstance, TypedAnswer}
+use Rattle.lp_model.specs.Proofs.{Declared, AreFlattened}
 use Rattle.lp_model.specs.Search.{with_goals, look, start}
-use Rattle.lp_search_laws.specs.Started.{IsTypedQuery, IsTypedSentence, AreFlattened}
+use Rattle.lp_search_laws.specs.Started.{IsTypedQuery, IsTypedSentence, IsPlainlyProvable}
 use Rattle.lp_search_laws.specs.Begun.{first_branch, first_typing}
 use Rattle.lp_search_laws.specs.Right.{IsRightFor, IsRightOf}
-use Rattle.lp_search_laws.specs.Branches.{BranchTyping, IsTypedBranch, IsProgramTyped, IsQueryInstance, SolvesBranch, TypedTask, going, trying, stopping, task_of, IsOk, IsRightView}
+use Rattle.lp_search_laws.specs.Branches.{BranchTyping, IsTypedBranch, IsProgramTyped, IsQueryInstance, SolvesBranch, TypedTask, going, trying, stopping, lacking, task_of, IsOk, IsRightView}
 use Rattle.lp_search_laws.proofs.Fronts.{Typings, Typed as IsTypedHere}
 use Rattle.lp_search_laws.proofs.AtomViews.{atom_view}
 use Rattle.lp_search_laws.proofs.ArithmeticTasks.{assigned_stands, comparisons_stand}
@@ -34,32 +35,33 @@ module _ (n : ℕ) (d : Declared) (std : IsStandard d) (P : List Clause) (progra
       (λ T l w s. assigned_stands n d std P q z b E Es e es t u i r h (λ x U l' r' j k g. equality_stands n d std P q (Typings n d P q z b E Es e es (E ∷ Es)) (with_goals b (x ∷ es)) x es (two 8 (U ∷ []) l' r') (two 8 (U ∷ []) l' r') U l' r' refl j k refl g) T l w s (evaluate n w) refl)
       (λ c l w x y s. comparisons_stand n d std P q (Typings n d P q z b E Es e es (E ∷ Es)) (with_goals b (e ∷ es)) e es t u c [] l w refl i r s x y h)
 
-  pub each_branch : (height : ℕ) (y : BranchTyping) (b : Branch) → IsTypedBranch n d q y b → IsRightView n d P q (going y b) (look n P height (Go b))
+  pub each_branch : (height : ℕ) (y : BranchTyping) (b : Branch) → IsTypedBranch n d q y b → IsRightView n d P q (going y b) (look unit_limit n P height (Go b))
   each_branch height y b h = branch_view n height d std P q y.answer b y.eigens b.goals h (λ E Fs e es i j g. atoms height y.answer b E Fs e es g)
 
 module _ (n : ℕ) (d : Declared) (std : IsStandard d) (P : List Clause) (program : EachOf (IsProgramTyped d) P) (q : Query) where
-  pub each_look : (height : ℕ) (T : TypedTask) → IsOk n d P q T → IsRightView n d P q T (look n P height (task_of T))
+  pub each_look : (height : ℕ) (T : TypedTask) → IsOk n d P q T → IsRightView n d P q T (look unit_limit n P height (task_of T))
   each_look height (going y b) h = each_branch n d std P program q height y b h
   each_look height (trying y c t e b mark) h = tries_stand n d std P program q y c t e b mark h
   each_look height (stopping e T) h = h
+  each_look height (lacking T) h = tt
 
-  pub each_run : (y : BranchTyping) (b : Branch) → IsTypedBranch n d q y b → (m steps answers : ℕ) → IsRightOf d P q y b (run (look n P) m (starts (Go b) steps answers))
-  each_run y b h m steps answers = right_run n d P q each_look y b h m steps answers
+  pub each_run : (y : BranchTyping) (b : Branch) → IsTypedBranch n d q y b → (j m steps answers : ℕ) → IsRightOf d P q y b (run (look unit_limit n P) j m (starts (Go b) steps answers))
+  each_run y b h j m steps answers = right_run n d P q each_look y b h j m steps answers
 
   -- a query: its typed branch, and its instances
   module _ (F : List ClauseFormula) (gs : Goals) (first : IsTypedBranch n d q (first_typing q gs) (first_branch q.type_vars (length q.vars) gs))
-      (solved : (i : Instance) → (IsProvable d F q i → SolvesBranch d P q i (first_typing q gs) (first_branch q.type_vars (length q.vars) gs)) × (SolvesBranch d P q i (first_typing q gs) (first_branch q.type_vars (length q.vars) gs) → IsProvable d F q i)) where
+      (solved : (i : Instance) → (IsPlainlyProvable d F q i → SolvesBranch d P q i (first_typing q gs) (first_branch q.type_vars (length q.vars) gs)) × (SolvesBranch d P q i (first_typing q gs) (first_branch q.type_vars (length q.vars) gs) → IsPlainlyProvable d F q i)) where
     each_sound : (xs : List TypedAnswer) → EachOf (λ a. (i : Instance) → IsQueryInstance d q i → IsInstance d a.typing a.answer i → SolvesBranch d P q i (first_typing q gs) (first_branch q.type_vars (length q.vars) gs)) xs →
-        EachOf (λ a. (i : Instance) → IsQueryInstance d q i → IsInstance d a.typing a.answer i → IsProvable d F q i) xs
+        EachOf (λ a. (i : Instance) → IsQueryInstance d q i → IsInstance d a.typing a.answer i → IsPlainlyProvable d F q i) xs
     each_sound [] h = tt
     each_sound (x ∷ xs) h = (λ i a s. (solved i).1 (h.0 i a s), each_sound xs h.1)
 
-    pub search_is_right : (m steps answers : ℕ) → IsRightFor d F q (run (look n P) m (start q.type_vars (length q.vars) gs steps answers))
-    search_is_right m steps answers =
-        let r = each_run (first_typing q gs) (first_branch q.type_vars (length q.vars) gs) first m steps answers in
+    pub search_is_right : (j m steps answers : ℕ) → IsRightFor d F q (run (look unit_limit n P) j m (start q.type_vars (length q.vars) gs steps answers))
+    search_is_right j m steps answers =
+        let r = each_run (first_typing q gs) (first_branch q.type_vars (length q.vars) gs) first j m steps answers in
         record { typed = r.typed; is = r.is; well_formed = r.well_formed; sound = each_sound r.typed r.sound; exhausts = λ e i p. r.exhausts e i ((solved i).0 p) }
 
-pub plain_search_is_right : (d : Declared) → IsStandard d → (l : ℕ) (F : List ClauseFormula) (P : List Clause) → EachOf (IsTypedSentence d) F → AreFlattened l d F P → (q : Query) (gs : Goals) → IsTypedQuery d q → flatten_query l d q.formula ≡ Some gs →
-    (n m steps answers : ℕ) → IsRightFor d F q (run (look n P) m (start q.type_vars (length q.vars) gs steps answers))
-plain_search_is_right d std l F P s x q gs t e n m steps answers =
-    search_is_right n d std P (program_typed d std l F P s x) q F gs (start_typed d std l q gs t e n steps answers).1 (λ i. (solves d std l q gs t e F P s x i, proves_it d std l q gs t e F P s x i)) m steps answers
+pub plain_search_is_right : (d : Declared) → IsStandard d → (l : ℕ) (F : List ClauseFormula) (P : List Clause) → EachOf (IsTypedSentence d) F → AreFlattened d F P → (q : Query) (gs : Goals) → IsTypedQuery d q → flatten_query l d q.formula ≡ Some gs →
+    (n j m steps answers : ℕ) → IsRightFor d F q (run (look unit_limit n P) j m (start q.type_vars (length q.vars) gs steps answers))
+plain_search_is_right d std l F P s x q gs t e n j m steps answers =
+    search_is_right n d std P (program_typed d std F P s x) q F gs (start_typed d std l q gs t e n steps answers).1 (λ i. (solves d std l q gs t e F P s x i, proves_it d std l q gs t e F P s x i)) j m steps answers

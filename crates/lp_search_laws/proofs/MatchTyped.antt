@@ -12,7 +12,7 @@ use Rattle.lp_calculus.proofs.Fills.{fill-subst, within_subst}
 use Rattle.lp_calculus.proofs.Commutations.{instance_fill}
 use Rattle.lp_calculus.proofs.Subject.{typed_subst}
 use Rattle.lp_calculus.proofs.Typings.{typed_parts, typed_instance}
-use Rattle.lp_model.specs.Faithful.{EachOf}
+use Rattle.lp_lemmas.specs.Each.{EachOf}
 use Rattle.lp_model.specs.Types.{zipped}
 use Rattle.lp_model.specs.Rule.{type_pairs}
 use Rattle.lp_calculus.specs.Spine.{head_of, arguments}

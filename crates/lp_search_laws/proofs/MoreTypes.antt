@@ -3,7 +3,7 @@ use Rattle.std.proofs.Common.{ℕ, ◌≤◌, List, [], ◌∷◌, ◌++◌, map
 use Rattle.lp_unify_laws.specs.TypesBelow.{IsTypeBelow, AreTysBelow, AreTypesBelow}
 use Rattle.lp_calculus.specs.Types.{Ty, Tys, var, param as type_param, con, arrow, no_types, types}
 use Rattle.lp_calculus.specs.Term.{Term, Atom, constant, integer, text, eigen, logic, param}
-use Rattle.lp_model.specs.Faithful.{EachOf}
+use Rattle.lp_lemmas.specs.Each.{EachOf}
 use Rattle.lp_model.specs.Pair.{Pair}
 use Rattle.lp_model.specs.Flat.{Goal, Atomic, Cut, Either, Exists, Forall, Assume, Not, Goals, no_goals, goals, Clause, clause, Clauses, no_clauses, clauses}
 use Rattle.lp_model.specs.Branch.{Entry}
@@ -45,8 +45,8 @@ module _ (k j : ℕ) (l : k ≤ j) where
     goal_more B (Either gs hs) h = (goals_more B gs h.0, goals_more B hs h.1)
     goal_more B (Exists T gs) h = (type_more T h.0, goals_more (false ∷ B) gs h.1)
     goal_more B (Forall T gs) h = (type_more T h.0, goals_more (true ∷ B) gs h.1)
-    goal_more B (Assume cs gs) h = (clauses_more B cs h.0, goals_more B gs h.1)
-    goal_more B (Not gs) h = h
+    goal_more B (Assume ws cs gs) h = (clauses_more B cs h.0, goals_more B gs h.1)
+    goal_more B (Not ws gs) h = h
 
     pub goals_more : (B : List Bool) (gs : Goals) → AreGoals k B gs → AreGoals j B gs
     goals_more B no_goals h = tt

@@ -9,19 +9,19 @@ use Rattle.lp_calculus.specs.Term.{Term, Atom, constant, integer, text, eigen, l
 use Rattle.lp_calculus.specs.Convert.{Converts}
 use Rattle.lp_calculus.specs.Typing.{Typed}
 use Rattle.lp_calculus.proofs.Fills.{within_more}
-use Rattle.lp_model.specs.Faithful.{EachOf}
+use Rattle.lp_lemmas.specs.Each.{EachOf}
 use Rattle.lp_model.specs.Pair.{Pair, Closing, closed, SolvesAll}
 use Rattle.lp_model.specs.Flat.{Clause, formula_of_clause, formula_of_goal}
 use Rattle.lp_model.specs.Branch.{Entry, Branch, Go}
 use Rattle.lp_model.specs.Answers.{Query, Variable, Instance, AnswerTyping, PairTyping, Closes, over, AreTypedValues, AreTypedPairs, IsTypedPair, ConvertEach}
-use Rattle.lp_model.specs.Proofs.{Declared, IsWitness, Provable}
+use Rattle.lp_model.specs.Proofs.{Declared, IsWitness, PlainlyProvable}
 use Rattle.lp_model.specs.Search.{with_goals}
 use Rattle.lp_calculus.specs.Typing.{o_type}
 use Rattle.lp_unify_laws.specs.Solutions.{IsMore}
 use Rattle.lp_unify_laws.proofs.Scopes.{in_scope, typed_grows, scope_grows, prefix_none, variable_of, got_before, get_last, length_last}
 use Rattle.lp_unify_laws.proofs.TypedBindings.{HasAtomType, typed_atoms}
 use Rattle.lp_proof_laws.proofs.Uniform.Contexts.{get_front, get_split}
-use Rattle.lp_proof_laws.proofs.Uniform.Lists.{each_append}
+use Rattle.lp_lemmas.proofs.Each.{each_append}
 use Rattle.lp_search_laws.specs.Holds.{Holds, IsTyped, with_value, IsOther, IsUnused}
 use Rattle.lp_search_laws.specs.Clauses.{clauses_at, assumed_as, sentence_of}
 use Rattle.lp_search_laws.specs.Branches.{AreTypedEntries, AreProved, EntryHolds, BranchTyping, IsTypedBranch, SolvesBranch, IsPlainVariable, StandFor, going}
@@ -34,7 +34,7 @@ values_more : (d : Declared) (V W : List Variable) → IsMore V W → (ts : List
 values_more d V W m [] [] h = tt
 values_more d V W m [] (T ∷ Ts) h = absurd h
 values_more d V W m (t ∷ ts) [] h = absurd h
-values_more d V W m (t ∷ ts) (T ∷ Ts) h = (record { typed = typed_grows (in_scope d [] V) (in_scope d [] W) (scope_grows d [] [] V W (prefix_none []) m) [] t T h.0.typed; outermost = h.0.outermost }, values_more d V W m ts Ts h.1)
+values_more d V W m (t ∷ ts) (T ∷ Ts) h = (record { typed = typed_grows (in_scope d [] V) (in_scope d [] W) (scope_grows d [] [] V W (prefix_none []) m) [] t T h.0.typed; outermost = h.0.outermost; positive = h.0.positive }, values_more d V W m ts Ts h.1)
 
 pair_more : (d : Declared) (V W : List Variable) → IsMore V W → (y : PairTyping) (p : Pair) → IsTypedPair d V y p → IsTypedPair d W y p
 pair_more d V W m y p h =
@@ -115,7 +115,7 @@ module _ (d : Declared) (P : List Clause) (V : List Variable) (x l : ℕ) (ne : 
   same_proved (E ∷ Es) (e ∷ es) h s =
       let a = same_term E (formula_of_goal e.goal) o_type h.0.goal.typed in
       let r = same_context E e.assumed h.0.assumed in
-      (transport (λ t. Provable d (map (instance c.types) E) (clauses_at P e.assumed (with_value c x l w)) t) (sym a) (transport (λ R. Provable d (map (instance c.types) E) R (closed c (formula_of_goal e.goal))) (sym r) s.0), same_proved Es es h.1 s.1)
+      (transport (λ t. PlainlyProvable d (map (instance c.types) E) (clauses_at P e.assumed (with_value c x l w)) t) (sym a) (transport (λ R. PlainlyProvable d (map (instance c.types) E) R (closed c (formula_of_goal e.goal))) (sym r) s.0), same_proved Es es h.1 s.1)
 
 -- closings of the variables with the new one, and without it
 pub closes_front : (d : Declared) (V W : List Variable) (c : Closing) → Closes d (V ++ W) c → Closes d V c

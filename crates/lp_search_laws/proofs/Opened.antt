@@ -5,7 +5,7 @@ use Rattle.lp_calculus.specs.Types.{Ty}
 use Rattle.lp_calculus.specs.Term.{Term, abs, index, substitute}
 use Rattle.lp_calculus.proofs.Sigma.{subst, instead}
 use Rattle.lp_calculus.proofs.Plain.{substitute-subst}
-use Rattle.lp_model.specs.Faithful.{EachOf}
+use Rattle.lp_lemmas.specs.Each.{EachOf}
 use Rattle.lp_model.specs.Index.{instantiate, lifted}
 use Rattle.lp_model.specs.Pair.{Closing, closed}
 use Rattle.lp_standard.specs.Connectives.{two, not_of, pi_of, sigma_of}
@@ -36,8 +36,8 @@ mutual
   goal_instantiate f (Either gs hs) = two_same 1 (goals_instantiate f gs) (goals_instantiate f hs)
   goal_instantiate f (Exists T gs) = ap (λ z. sigma_of T (abs z)) (goals_instantiate (lifted f) gs)
   goal_instantiate f (Forall T gs) = ap (λ z. pi_of T (abs z)) (goals_instantiate (lifted f) gs)
-  goal_instantiate f (Assume cs gs) = two_same 2 (clauses_instantiate f cs) (goals_instantiate f gs)
-  goal_instantiate f (Not gs) = ap not_of (goals_instantiate f gs)
+  goal_instantiate f (Assume ws cs gs) = two_same 2 (clauses_instantiate f cs) (goals_instantiate f gs)
+  goal_instantiate f (Not ws gs) = ap not_of (goals_instantiate f gs)
 
   pub goals_instantiate : (f : ℕ → Term) (gs : Goals) → formula_of_goals (map_goals lifted instantiate same_type f gs) ≡ instantiate f (formula_of_goals gs)
   goals_instantiate f no_goals = refl

@@ -9,7 +9,7 @@ use Rattle.lp_calculus.specs.Closed.{AllAtoms}
 use Rattle.lp_calculus.specs.Instance.{instance_atom, instance_term}
 use Rattle.lp_calculus.proofs.BetaEta.{shift_one}
 use Rattle.lp_calculus.proofs.Sigma.{rename}
-use Rattle.lp_model.specs.Faithful.{EachOf}
+use Rattle.lp_lemmas.specs.Each.{EachOf}
 use Rattle.lp_standard.specs.Schemes.{IsStandard}
 use Rattle.lp_model.specs.Index.{instantiate, lifted}
 use Rattle.lp_calculus.specs.Spine.{head_of, arguments}
@@ -88,8 +88,8 @@ module _ (k j : ℕ) (θ : ℕ → Ty) (f : (i : ℕ) → i < k → IsTypeBelow 
     goal_at n B (Either gs hs) w = (goals_at n B gs w.0, goals_at n B hs w.1)
     goal_at n B (Exists T gs) w = (type_at T w.0, goals_at n (false ∷ B) gs w.1)
     goal_at n B (Forall T gs) w = (type_at T w.0, goals_at n (true ∷ B) gs w.1)
-    goal_at n B (Assume cs gs) w = (clauses_at n B cs w.0, goals_at n B gs w.1)
-    goal_at n B (Not gs) w = absurd w
+    goal_at n B (Assume ws cs gs) w = (clauses_at n B cs w.0, goals_at n B gs w.1)
+    goal_at n B (Not ws gs) w = absurd w
 
     goals_at : (n : ℕ) (B : List Bool) (gs : Goals) → AreGoals k B gs → AreGoals j B (map_goals (λ u. u) (λ u t. instance_term θ t) (instance θ) n gs)
     goals_at n B no_goals w = tt

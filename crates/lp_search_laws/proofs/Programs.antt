@@ -10,7 +10,7 @@ use Rattle.lp_calculus.specs.Typing.{type_at}
 use Rattle.lp_calculus.specs.Instance.{instance_term}
 use Rattle.lp_calculus.specs.Closed.{AreClosed}
 use Rattle.lp_calculus.proofs.Steps.{converts_reduces, converts_sym}
-use Rattle.lp_model.specs.Faithful.{EachOf}
+use Rattle.lp_lemmas.specs.Each.{EachOf}
 use Rattle.lp_model.specs.Pair.{Closing, closed}
 use Rattle.lp_calculus.specs.Spine.{head_of}
 use Rattle.lp_model.specs.Eigens.{beta_normal}
@@ -18,20 +18,19 @@ use Rattle.lp_standard.specs.Connectives.{two}
 use Rattle.lp_model.specs.Flat.{Goals, no_goals, goals, Clause, clause, Clauses, no_clauses, clauses, clause_list, formula_of_clause, formula_of_clauses}
 use Rattle.lp_model.specs.Flatten.{ClauseFormula, with_type_vars, flatten, flat_clause}
 use Rattle.lp_standard.specs.Schemes.{IsStandard}
-use Rattle.lp_model.specs.Proofs.{Declared, IsFormula, IsSentence, IsAtomHead, Provable, Focusable, assumed}
+use Rattle.lp_model.specs.Proofs.{AreFlattened, Declared, IsFormula, IsSentence, IsAtomHead, PlainlyProvable, PlainlyFocusable, assumed}
 use Rattle.lp_proof_laws.proofs.Uniform.Formulas.{formula_eigens, closed_instance, parts}
 use Rattle.lp_proof_laws.proofs.Uniform.Roots.{connective}
 use Rattle.lp_proof_laws.proofs.Uniform.FocusRoots.{fconv}
 use Rattle.lp_proof_laws.proofs.Uniform.Contexts.{get_split}
 use Rattle.lp_proof_laws.proofs.Uniform.Assumptions.{Extends, Focuses}
-use Rattle.lp_proof_laws.proofs.Flattened.TypedFlat.{type_clauses, flat_clause_typed, clauses_formula}
+use Rattle.lp_proof_laws.proofs.Flattened.TypedFlat.{instance_flat}
 use Rattle.lp_proof_laws.proofs.Flattened.Flattens.{flattened_clause}
 use Rattle.lp_proof_laws.proofs.Flattened.ReadsBack.{to_flat, from_flat}
 use Rattle.lp_unify_laws.proofs.Looks.{beta_reduces}
 use Rattle.lp_unify_laws.proofs.NewInstances.{reduces_instance}
 use Rattle.lp_unify_laws.proofs.TypedInstances.{get_map}
 use Rattle.lp_search_laws.specs.Clauses.{sentence_of}
-use Rattle.lp_search_laws.specs.Started.{AreFlattened}
 use Rattle.lp_search_laws.proofs.Closed.{formula_reduces}
 use Rattle.lp_search_laws.proofs.Serving.{Served, Serves, served_in_front, served_behind, serves_more, serves_first, serves_eigens, served}
 use Rattle.lp_search_laws.proofs.Apart.{KeepsBoth, IsOneOf, split_focus, join_focus}
@@ -74,43 +73,43 @@ flattened n d D cs e =
 module _ (d : Declared) (std : IsStandard d) (n : ℕ) (D : ClauseFormula) (cs : Clauses) (x : IsFlattened n d D cs) (s : IsSentence d D) where
   -- with types for its type variables
   module _ (ts : List Ty) (l : length ts ≡ D.type_vars) (k : AreClosed ts) where
-    form_flat : flat_clause n d [] (instance_term (type_at ts) x.form) [] [] ≡ Some (type_clauses (type_at ts) x.plain)
-    form_flat = flat_clause_typed (type_at ts) n d [] x.form [] [] ∙ ap (option_map (type_clauses (type_at ts))) x.flat
+    form_flat : (ds : Clauses) × (flat_clause n d [] (instance_term (type_at ts) x.form) [] [] ≡ Some ds) × (formula_of_clauses ds ≡ instance_term (type_at ts) (formula_of_clauses x.plain))
+    form_flat = instance_flat (type_at ts) d n x.form x.plain x.flat
 
     form_fine : IsFormula d [] (instance_term (type_at ts) x.form)
     form_fine = formula_reduces d [] (reduces_instance (type_at ts) x.leads) (s.instances ts l k)
 
-    read : formula_of_clauses (type_clauses (type_at ts) x.plain) ≡ instance_term (type_at ts) (formula_of_clauses cs)
-    read = clauses_formula (type_at ts) x.plain ∙ ap (instance_term (type_at ts)) (sym (formulas_of D.type_vars x.plain) ∙ ap formula_of_clauses x.is)
+    read : formula_of_clauses form_flat.0 ≡ instance_term (type_at ts) (formula_of_clauses cs)
+    read = form_flat.2 ∙ ap (instance_term (type_at ts)) (sym (formulas_of D.type_vars x.plain) ∙ ap formula_of_clauses x.is)
 
     clauses_fine : IsFormula d [] (instance_term (type_at ts) (formula_of_clauses cs))
     clauses_fine =
         let f = form_fine in
-        let o = (flattened_clause d std n [] (instance_term (type_at ts) x.form) (type_clauses (type_at ts) x.plain) [] form_flat (record { typed = f.typed; within = f.closed })).opens in
+        let o = (flattened_clause d std n [] (instance_term (type_at ts) x.form) form_flat.0 [] form_flat.1 (record { typed = f.typed; within = f.closed })).opens in
         transport (IsFormula d []) read (record { typed = o.typed; closed = o.within })
 
     module _ (F : List Ty) (Q : List ClauseFormula) (A : Term) (at : IsAtomHead (head_of A)) where
-      to_clauses : Focusable d F Q (instance_term (type_at ts) D.formula) A → IsOneOf d F Q (instance_term (type_at ts)) cs A
+      to_clauses : PlainlyFocusable d F Q (instance_term (type_at ts) D.formula) A → IsOneOf d F Q (instance_term (type_at ts)) cs A
       unfolding Focuses
       to_clauses r =
           let θ = type_at ts in
           let v = fconv d F Q (instance_term θ D.formula) (instance_term θ x.form) A (formula_eigens d [] F (instance_term θ D.formula) (s.instances ts l k)) (converts_reduces (reduces_instance θ x.leads)) r in
-          let w = to_flat d std n (instance_term θ x.form) (type_clauses θ x.plain) form_flat form_fine [] F (record { rest = F; is = refl }) Q A at v in
-          split_focus d std F Q (instance_term θ) (types_keep θ) A at cs (formula_eigens d [] F (instance_term θ (formula_of_clauses cs)) clauses_fine) (transport (λ z. Focusable d F Q z A) read w)
+          let w = to_flat d std n (instance_term θ x.form) form_flat.0 form_flat.1 form_fine [] F (record { rest = F; is = refl }) Q A at v in
+          split_focus d std F Q (instance_term θ) (types_keep θ) A at cs (formula_eigens d [] F (instance_term θ (formula_of_clauses cs)) clauses_fine) (transport (λ z. PlainlyFocusable d F Q z A) read w)
 
-      from_clause : (j : ℕ) (c : Clause) → slice_get (clause_list cs) j ≡ Some c → Focusable d F Q (instance_term (type_at ts) (formula_of_clause c)) A → Focusable d F Q (instance_term (type_at ts) D.formula) A
+      from_clause : (j : ℕ) (c : Clause) → slice_get (clause_list cs) j ≡ Some c → PlainlyFocusable d F Q (instance_term (type_at ts) (formula_of_clause c)) A → PlainlyFocusable d F Q (instance_term (type_at ts) D.formula) A
       unfolding Focuses
       from_clause j c e r =
           let θ = type_at ts in
           let v = join_focus d F Q (instance_term θ) (types_keep θ) A cs j c e r in
-          let w = from_flat d std n (instance_term θ x.form) (type_clauses θ x.plain) form_flat form_fine [] F (record { rest = F; is = refl }) Q A at (transport (λ z. Focusable d F Q z A) (sym read) v) in
+          let w = from_flat d std n (instance_term θ x.form) form_flat.0 form_flat.1 form_fine [] F (record { rest = F; is = refl }) Q A at (transport (λ z. PlainlyFocusable d F Q z A) (sym read) v) in
           fconv d F Q (instance_term θ x.form) (instance_term θ D.formula) A (formula_eigens d [] F (instance_term θ x.form) form_fine) (converts_sym (converts_reduces (reduces_instance θ x.leads))) w
 
   vars_of : (j : ℕ) (c : Clause) → slice_get (clause_list cs) j ≡ Some c → (sentence_of c).type_vars ≡ D.type_vars
   vars_of j c e = type_vars_of D.type_vars x.plain j c (transport (λ z. slice_get (clause_list z) j ≡ Some c) (sym x.is) e)
 
   -- one of the sentence's clauses serves
-  serving_clause : (ts : List Ty) → length ts ≡ D.type_vars → AreClosed ts → (F : List Ty) (Q : List ClauseFormula) (A : Term) → IsAtomHead (head_of A) → Focusable d F Q (instance_term (type_at ts) D.formula) A → Served d F Q (map sentence_of (clause_list cs)) A
+  serving_clause : (ts : List Ty) → length ts ≡ D.type_vars → AreClosed ts → (F : List Ty) (Q : List ClauseFormula) (A : Term) → IsAtomHead (head_of A) → PlainlyFocusable d F Q (instance_term (type_at ts) D.formula) A → Served d F Q (map sentence_of (clause_list cs)) A
   serving_clause ts l k F Q A h r =
       let o = to_clauses ts l k F Q A h r in
       record {
@@ -120,48 +119,48 @@ module _ (d : Declared) (std : IsStandard d) (n : ℕ) (D : ClauseFormula) (cs :
         types = ts;
         count = l ∙ sym (vars_of o.place o.clause o.is);
         closed = k;
-        focus = transport (λ z. Focusable d F Q (instance_term (type_at ts) z) A) (sym (formula_is o.clause)) o.focus;
+        focus = transport (λ z. PlainlyFocusable d F Q (instance_term (type_at ts) z) A) (sym (formula_is o.clause)) o.focus;
       }
 
-  serving_sentence : (i : ℕ) (K : ClauseFormula) → slice_get (map sentence_of (clause_list cs)) i ≡ Some K → (ts : List Ty) → length ts ≡ K.type_vars → AreClosed ts → (F : List Ty) (Q : List ClauseFormula) (A : Term) → IsAtomHead (head_of A) → Focusable d F Q (instance_term (type_at ts) K.formula) A → Served d F Q (D ∷ []) A
+  serving_sentence : (i : ℕ) (K : ClauseFormula) → slice_get (map sentence_of (clause_list cs)) i ≡ Some K → (ts : List Ty) → length ts ≡ K.type_vars → AreClosed ts → (F : List Ty) (Q : List ClauseFormula) (A : Term) → IsAtomHead (head_of A) → PlainlyFocusable d F Q (instance_term (type_at ts) K.formula) A → Served d F Q (D ∷ []) A
   serving_sentence i K e ts l k F Q A h r =
       let m = option_map_some (slice_get (clause_list cs) i) sentence_of K (sym (get_map sentence_of (clause_list cs) i) ∙ e) in
       let c = l ∙ ap (λ z. z.type_vars) (sym m.2) ∙ vars_of i m.0 m.1 in
-      let q = transport (λ z. Focusable d F Q (instance_term (type_at ts) z) A) (ap (λ z. z.formula) (sym m.2) ∙ formula_is m.0) r in
+      let q = transport (λ z. PlainlyFocusable d F Q (instance_term (type_at ts) z) A) (ap (λ z. z.formula) (sym m.2) ∙ formula_is m.0) r in
       record { place = 0; clause = D; is = refl; types = ts; count = c; closed = k; focus = from_clause ts c k F Q A h i m.0 m.1 q }
 
 -- the whole program
-module _ (d : Declared) (std : IsStandard d) (n : ℕ) where
-  program_serves : (F : List ClauseFormula) (P : List Clause) → EachOf (IsSentence d) F → AreFlattened n d F P → Serves d [] F (map sentence_of P)
+module _ (d : Declared) (std : IsStandard d) where
+  program_serves : (F : List ClauseFormula) (P : List Clause) → EachOf (IsSentence d) F → AreFlattened d F P → Serves d [] F (map sentence_of P)
   program_serves [] P s x = record { at = λ i D e. absurd (cc) }
   program_serves (D ∷ F) P s x =
-      let cs = x.0 in
-      let R = x.1 in
+      let cs = x.1 in
+      let R = x.2 in
       let rest = program_serves F R s.1 x.4 in
-      let y = flattened n d D cs x.2 in
-      transport (Serves d [] (D ∷ F)) (sym (ap (map sentence_of) x.3 ∙ map-append sentence_of (clause_list cs) R)) (record { at = go cs R y rest })
+      let y = flattened x.0 d D cs x.3 in
+      transport (Serves d [] (D ∷ F)) (sym (ap (map sentence_of) x.5 ∙ map-append sentence_of (clause_list cs) R)) (record { at = go x.0 cs R y rest })
     where
-      go : (cs : Clauses) (R : List Clause) → IsFlattened n d D cs → Serves d [] F (map sentence_of R) → (i : ℕ) (K : ClauseFormula) → slice_get (D ∷ F) i ≡ Some K → (ts : List Ty) → length ts ≡ K.type_vars → AreClosed ts → (G : List Ty) → Extends [] G → (Q : List ClauseFormula) (A : Term) → IsAtomHead (head_of A) → Focusable d G Q (instance_term (type_at ts) K.formula) A → Served d G Q (map sentence_of (clause_list cs) ++ map sentence_of R) A
-      go cs R y rest zero K e ts l k G g Q A h r =
+      go : (n : ℕ) (cs : Clauses) (R : List Clause) → IsFlattened n d D cs → Serves d [] F (map sentence_of R) → (i : ℕ) (K : ClauseFormula) → slice_get (D ∷ F) i ≡ Some K → (ts : List Ty) → length ts ≡ K.type_vars → AreClosed ts → (G : List Ty) → Extends [] G → (Q : List ClauseFormula) (A : Term) → IsAtomHead (head_of A) → PlainlyFocusable d G Q (instance_term (type_at ts) K.formula) A → Served d G Q (map sentence_of (clause_list cs) ++ map sentence_of R) A
+      go n cs R y rest zero K e ts l k G g Q A h r =
           let q : K ≡ D = cc in
-          served_in_front d G Q (map sentence_of (clause_list cs)) (map sentence_of R) A (serving_clause d std n D cs y s.0 ts (l ∙ ap (λ w. w.type_vars) q) k G Q A h (transport (λ w. Focusable d G Q (instance_term (type_at ts) w.formula) A) q r))
-      go cs R y rest (suc i) K e ts l k G g Q A h r = served_behind d G Q (map sentence_of (clause_list cs)) (map sentence_of R) A (rest.at i K e ts l k G g Q A h r)
+          served_in_front d G Q (map sentence_of (clause_list cs)) (map sentence_of R) A (serving_clause d std n D cs y s.0 ts (l ∙ ap (λ w. w.type_vars) q) k G Q A h (transport (λ w. PlainlyFocusable d G Q (instance_term (type_at ts) w.formula) A) q r))
+      go n cs R y rest (suc i) K e ts l k G g Q A h r = served_behind d G Q (map sentence_of (clause_list cs)) (map sentence_of R) A (rest.at i K e ts l k G g Q A h r)
 
-  sentences_serve : (F : List ClauseFormula) (P : List Clause) → EachOf (IsSentence d) F → AreFlattened n d F P → Serves d [] (map sentence_of P) F
+  sentences_serve : (F : List ClauseFormula) (P : List Clause) → EachOf (IsSentence d) F → AreFlattened d F P → Serves d [] (map sentence_of P) F
   sentences_serve [] P s x = record { at = λ i D e. let q : slice_get (map sentence_of []) i ≡ Some D = ap (λ z. slice_get (map sentence_of z) i) (sym x) ∙ e in absurd (cc) }
   sentences_serve (D ∷ F) P s x =
-      let cs = x.0 in
-      let R = x.1 in
+      let cs = x.1 in
+      let R = x.2 in
       let rest = sentences_serve F R s.1 x.4 in
-      let y = flattened n d D cs x.2 in
-      transport (λ z. Serves d [] z (D ∷ F)) (sym (ap (map sentence_of) x.3 ∙ map-append sentence_of (clause_list cs) R)) (record {
+      let y = flattened x.0 d D cs x.3 in
+      transport (λ z. Serves d [] z (D ∷ F)) (sym (ap (map sentence_of) x.5 ∙ map-append sentence_of (clause_list cs) R)) (record {
         at = λ i K e ts l k G g Q A h r. elim (get_split (map sentence_of (clause_list cs)) (map sentence_of R) i K e) [
-          | inl a ↦ served_in_front d G Q (D ∷ []) F A (serving_sentence d std n D cs y s.0 i K a ts l k G Q A h r)
+          | inl a ↦ served_in_front d G Q (D ∷ []) F A (serving_sentence d std x.0 D cs y s.0 i K a ts l k G Q A h r)
           | inr b ↦ served_behind d G Q (D ∷ []) F A (rest.at b.0 K b.2 ts l k G g Q A h r)
         ];
       })
 
-  pub program_reads_back : (F : List ClauseFormula) (P : List Clause) → EachOf (IsSentence d) F → AreFlattened n d F P → (E : List Ty) (Q : List ClauseFormula) (G : Term) → (Provable d E (F ++ Q) G → Provable d E (map sentence_of P ++ Q) G) × (Provable d E (map sentence_of P ++ Q) G → Provable d E (F ++ Q) G)
+  pub program_reads_back : (F : List ClauseFormula) (P : List Clause) → EachOf (IsSentence d) F → AreFlattened d F P → (E : List Ty) (Q : List ClauseFormula) (G : Term) → (PlainlyProvable d E (F ++ Q) G → PlainlyProvable d E (map sentence_of P ++ Q) G) × (PlainlyProvable d E (map sentence_of P ++ Q) G → PlainlyProvable d E (F ++ Q) G)
   program_reads_back F P s x E Q G = (
     λ p. served d E (F ++ Q) (map sentence_of P ++ Q) G (serves_more d E F (map sentence_of P) Q (serves_eigens d [] E F (map sentence_of P) (program_serves F P s x))) p,
     λ p. served d E (map sentence_of P ++ Q) (F ++ Q) G (serves_more d E (map sentence_of P) F Q (serves_eigens d [] E (map sentence_of P) F (sentences_serve F P s x))) p,
@@ -180,12 +179,12 @@ module _ (d : Declared) (std : IsStandard d) where
   each_append X [] ys h k = k
   each_append X (x ∷ xs) ys h k = (h.0, each_append X xs ys h.1 k)
 
-  pub clauses_are_sentences : (n : ℕ) (F : List ClauseFormula) (P : List Clause) → EachOf (IsSentence d) F → AreFlattened n d F P → EachOf (λ c. IsSentence d (sentence_of c)) P
-  clauses_are_sentences n [] P s x = transport (EachOf (λ c. IsSentence d (sentence_of c))) (sym x) tt
-  clauses_are_sentences n (D ∷ F) P s x =
-      let y = flattened n d D x.0 x.2 in
-      let here = transport (λ z. EachOf (λ c. IsSentence d (sentence_of c)) (clause_list z)) y.is (each_fine D.type_vars y.plain (λ ts l k. transport (λ z. IsFormula d [] (instance_term (type_at ts) z)) (ap formula_of_clauses (sym y.is) ∙ formulas_of D.type_vars y.plain) (clauses_fine d std n D x.0 y s.0 ts l k))) in
-      transport (EachOf (λ c. IsSentence d (sentence_of c))) (sym x.3) (each_append (λ c. IsSentence d (sentence_of c)) (clause_list x.0) x.1 here (clauses_are_sentences n F x.1 s.1 x.4))
+  pub clauses_are_sentences : (F : List ClauseFormula) (P : List Clause) → EachOf (IsSentence d) F → AreFlattened d F P → EachOf (λ c. IsSentence d (sentence_of c)) P
+  clauses_are_sentences [] P s x = transport (EachOf (λ c. IsSentence d (sentence_of c))) (sym x) tt
+  clauses_are_sentences (D ∷ F) P s x =
+      let y = flattened x.0 d D x.1 x.3 in
+      let here = transport (λ z. EachOf (λ c. IsSentence d (sentence_of c)) (clause_list z)) y.is (each_fine D.type_vars y.plain (λ ts l k. transport (λ z. IsFormula d [] (instance_term (type_at ts) z)) (ap formula_of_clauses (sym y.is) ∙ formulas_of D.type_vars y.plain) (clauses_fine d std x.0 D x.1 y s.0 ts l k))) in
+      transport (EachOf (λ c. IsSentence d (sentence_of c))) (sym x.5) (each_append (λ c. IsSentence d (sentence_of c)) (clause_list x.1) x.2 here (clauses_are_sentences F x.2 s.1 x.4))
 
   -- assumptions
   closing_keeps : (c : Closing) (θ : ℕ → Ty) → KeepsBoth (λ t. instance_term θ (closed c t))
@@ -204,10 +203,10 @@ module _ (d : Declared) (std : IsStandard d) where
     parts_serve : Serves d E (whole ∷ []) (map as_assumed (clause_list cs))
     parts_serve = record { at = go }
       where
-        go : (i : ℕ) (K : ClauseFormula) → slice_get (whole ∷ []) i ≡ Some K → (ts : List Ty) → length ts ≡ K.type_vars → AreClosed ts → (F : List Ty) → Extends E F → (Q : List ClauseFormula) (A : Term) → IsAtomHead (head_of A) → Focusable d F Q (instance_term (type_at ts) K.formula) A → Served d F Q (map as_assumed (clause_list cs)) A
+        go : (i : ℕ) (K : ClauseFormula) → slice_get (whole ∷ []) i ≡ Some K → (ts : List Ty) → length ts ≡ K.type_vars → AreClosed ts → (F : List Ty) → Extends E F → (Q : List ClauseFormula) (A : Term) → IsAtomHead (head_of A) → PlainlyFocusable d F Q (instance_term (type_at ts) K.formula) A → Served d F Q (map as_assumed (clause_list cs)) A
         go zero K e ts l k F x Q A h r =
             let q : K ≡ whole = cc in
-            let o = split_focus d std F Q (λ t. instance_term (type_at ts) (closed c t)) (closing_keeps c (type_at ts)) A h cs (fine_at ts F x) (transport (λ w. Focusable d F Q (instance_term (type_at ts) w.formula) A) q r) in
+            let o = split_focus d std F Q (λ t. instance_term (type_at ts) (closed c t)) (closing_keeps c (type_at ts)) A h cs (fine_at ts F x) (transport (λ w. PlainlyFocusable d F Q (instance_term (type_at ts) w.formula) A) q r) in
             record { place = o.place; clause = as_assumed o.clause; is = get_map as_assumed (clause_list cs) o.place ∙ ap (option_map as_assumed) o.is; types = ts; count = l ∙ ap (λ w. w.type_vars) q; closed = k; focus = o.focus }
         go (suc i) K e ts l k F x Q A h r = absurd (cc)
 
@@ -215,11 +214,11 @@ module _ (d : Declared) (std : IsStandard d) where
     whole_serves = record {
       at = λ i K e ts l k F x Q A h r.
           let m = option_map_some (slice_get (clause_list cs) i) as_assumed K (sym (get_map as_assumed (clause_list cs) i) ∙ e) in
-          let q = transport (λ w. Focusable d F Q (instance_term (type_at ts) w.formula) A) (sym m.2) r in
+          let q = transport (λ w. PlainlyFocusable d F Q (instance_term (type_at ts) w.formula) A) (sym m.2) r in
           record { place = 0; clause = whole; is = refl; types = ts; count = l ∙ ap (λ w. w.type_vars) (sym m.2); closed = k; focus = join_focus d F Q (λ t. instance_term (type_at ts) (closed c t)) (closing_keeps c (type_at ts)) A cs i m.0 m.1 q };
     }
 
-    pub stand_apart : (G : Term) → (Provable d E (P ++ whole ∷ []) G → Provable d E (P ++ map as_assumed (clause_list cs)) G) × (Provable d E (P ++ map as_assumed (clause_list cs)) G → Provable d E (P ++ whole ∷ []) G)
+    pub stand_apart : (G : Term) → (PlainlyProvable d E (P ++ whole ∷ []) G → PlainlyProvable d E (P ++ map as_assumed (clause_list cs)) G) × (PlainlyProvable d E (P ++ map as_assumed (clause_list cs)) G → PlainlyProvable d E (P ++ whole ∷ []) G)
     stand_apart G = (
       λ p. served d E (P ++ whole ∷ []) (P ++ map as_assumed (clause_list cs)) G (serves_first d E P (whole ∷ []) (map as_assumed (clause_list cs)) parts_serve) p,
       λ p. served d E (P ++ map as_assumed (clause_list cs)) (P ++ whole ∷ []) G (serves_first d E P (map as_assumed (clause_list cs)) (whole ∷ []) whole_serves) p,

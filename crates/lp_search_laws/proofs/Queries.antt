@@ -18,28 +18,28 @@ use Rattle.lp_calculus.proofs.Fills.{fill_none}
 use Rattle.lp_calculus.proofs.Steps.{Step, converts_map, converts_on, converts_is, converts_sym, converts_reduces, within_reduces}
 use Rattle.lp_calculus.proofs.Subject.{typed_reduces}
 use Rattle.lp_calculus.proofs.Typings.{instance_typed}
-use Rattle.lp_model.specs.Faithful.{EachOf}
+use Rattle.lp_lemmas.specs.Each.{EachOf}
 use Rattle.lp_model.specs.Index.{instantiate, lifted, at}
 use Rattle.lp_model.specs.Eigens.{beta_normal}
 use Rattle.lp_model.specs.Pair.{Closing, closed}
 use Rattle.lp_model.specs.Flat.{Goals, no_goals, type_goals, goal_list, instantiate_goals, formula_of_goal, formula_of_goals}
 use Rattle.lp_model.specs.Flatten.{ClauseFormula, flat_goal, flatten_query}
 use Rattle.lp_standard.specs.Schemes.{IsStandard}
-use Rattle.lp_model.specs.Proofs.{Declared, under, IsFormula, IsWitness, Provable}
-use Rattle.lp_model.specs.Answers.{Query, Instance, Closes, ConvertEach, AreWitnesses, IsProvable, filled}
+use Rattle.lp_model.specs.Proofs.{Declared, under, IsFormula, IsWitness, PlainlyProvable}
+use Rattle.lp_model.specs.Answers.{Query, Instance, Closes, ConvertEach, AreWitnesses, filled}
 use Rattle.lp_model.specs.Search.{vars_from, types_from}
 use Rattle.lp_proof_laws.proofs.Uniform.Contexts.{get_split}
 use Rattle.lp_proof_laws.proofs.Uniform.Openings.{instantiate_subst, IsOpen, Fits, open_formula}
 use Rattle.lp_proof_laws.proofs.Flattened.FlatGoals.{open_truth, truth_proved, GoalLaw}
 use Rattle.lp_proof_laws.proofs.Flattened.Flattens.{flattened_goal}
 use Rattle.lp_proof_laws.proofs.Flattened.TypedForms.{shift_typed}
-use Rattle.lp_proof_laws.proofs.Flattened.TypedFlat.{flat_goal_typed, goals_formula}
+use Rattle.lp_proof_laws.proofs.Flattened.TypedFlat.{instance_flat_goal}
 use Rattle.lp_proof_laws.proofs.Uniform.Uniforms.{by_conversion}
 use Rattle.lp_unify_laws.proofs.Looks.{beta_reduces}
 use Rattle.lp_unify_laws.proofs.NewInstances.{reduces_instance}
 use Rattle.lp_unify_laws.proofs.TypedInstances.{get_map}
 use Rattle.lp_search_laws.specs.Holds.{Holds}
-use Rattle.lp_search_laws.specs.Started.{IsQueryAtom, IsTypedQuery, outermost, StartHolds}
+use Rattle.lp_search_laws.specs.Started.{IsPlainlyProvable, IsQueryAtom, IsTypedQuery, outermost, StartHolds}
 use Rattle.lp_search_laws.proofs.ClosedTerms.{closed_type, all_closed, fill_instantiate, instantiate_converts}
 use Rattle.lp_search_laws.proofs.Goals.{goals_in_turn}
 use Rattle.lp_search_laws.proofs.Opened.{goals_instantiate}
@@ -128,7 +128,7 @@ list_same f g k h [] w = refl
 list_same f g k h (t ∷ ts) w = λ i. type_same f g k h t w.0 i ∷ list_same f g k h ts w.1 i
 
 atom_same : (f g : ℕ → Ty) (k : ℕ) → ((i : ℕ) → i < k → f i ≡ g i) → (a : Atom) → IsQueryAtom k a → instance_atom f a ≡ instance_atom g a
-atom_same f g k h (constant c ts) w = ap (constant c) (list_same f g k h ts w)
+atom_same f g k h (constant c ts) w = ap (constant c) (list_same f g k h ts w.1)
 atom_same f g k h (integer z) w = refl
 atom_same f g k h (text s) w = refl
 atom_same f g k h (eigen n) w = refl
@@ -192,7 +192,7 @@ witness_at d (t ∷ ts) [] h x T e = absurd h
 witness_at d (t ∷ ts) (U ∷ Ts) h zero T e = let q : U ≡ T = cc in transport (IsWitness d [] t) q h.0
 witness_at d (t ∷ ts) (U ∷ Ts) h (suc x) T e = witness_at d ts Ts h.1 x T e
 
-witness_count : (d : Declared) (ts : List Term) (Ts : List Ty) → AreWitnesses d ts Ts → length ts ≡ length Ts
+pub witness_count : (d : Declared) (ts : List Term) (Ts : List Ty) → AreWitnesses d ts Ts → length ts ≡ length Ts
 witness_count d [] [] h = refl
 witness_count d [] (U ∷ Ts) h = absurd h
 witness_count d (t ∷ ts) [] h = absurd h
@@ -242,20 +242,23 @@ module _ (d : Declared) (std : IsStandard d) (n : ℕ) (q : Query) (gs : Goals) 
         within = within_reduces (IsClosedAtom 0) (length types_in) (reduces_instance c.types r) formula_open.within;
       }
 
-      law : GoalLaw d std types_in (instance_term c.types s) no_goals (type_goals c.types gs)
-      law = flattened_goal d std n [] (instance_term c.types s) no_goals (type_goals c.types gs) types_in (flat_goal_typed c.types n d [] s no_goals ∙ ap (option_map (type_goals c.types)) g) form_open (open_truth d std types_in)
+      flat : (hs : Goals) × (flat_goal n d [] (instance_term c.types s) no_goals ≡ Some hs) × (formula_of_goals hs ≡ instance_term c.types (formula_of_goals gs))
+      flat = instance_flat_goal c.types d n s gs g
 
-      read : formula_of_goals (type_goals c.types gs) ≡ instance_term c.types (formula_of_goals gs)
-      read = goals_formula c.types gs
+      law : GoalLaw d std types_in (instance_term c.types s) no_goals flat.0
+      law = flattened_goal d std n [] (instance_term c.types s) no_goals flat.0 types_in flat.1 form_open (open_truth d std types_in)
 
-      opened : closed c (formula_of_goals goals_opened) ≡ instantiate values_at (formula_of_goals (type_goals c.types gs))
+      read : formula_of_goals flat.0 ≡ instance_term c.types (formula_of_goals gs)
+      read = flat.2
+
+      opened : closed c (formula_of_goals goals_opened) ≡ instantiate values_at (formula_of_goals flat.0)
       opened =
           ap (closed c) (goals_instantiate (λ k. atom (logic (count - suc k) 0)) gs) ∙
           closed_opened c (λ k. count - suc k) (length types_in) (formula_of_goals gs) (transport (Within (IsClosedAtom 0) (length types_in)) read law.opens.within) ∙
           ap (instantiate values_at) (sym read)
 
       opened_fine : IsFormula d [] (closed c (formula_of_goals goals_opened))
-      opened_fine = transport (IsFormula d []) (sym opened) (open_formula d [] types_in values_at (formula_of_goals (type_goals c.types gs)) fits law.opens)
+      opened_fine = transport (IsFormula d []) (sym opened) (open_formula d [] types_in values_at (formula_of_goals flat.0) fits law.opens)
 
       form_fine : IsFormula d [] (instantiate values_at (instance_term c.types s))
       form_fine = open_formula d [] types_in values_at (instance_term c.types s) fits form_open
@@ -263,22 +266,22 @@ module _ (d : Declared) (std : IsStandard d) (n : ℕ) (q : Query) (gs : Goals) 
       form_converts : Converts (instantiate values_at (instance_term c.types q.formula)) (instantiate values_at (instance_term c.types s))
       form_converts = converts_instantiate values_at (converts_reduces (reduces_instance c.types r))
 
-      to_goals : Provable d [] P (instantiate values_at (instance_term c.types q.formula)) → EachOf (λ g. Holds d [] P c (formula_of_goal g)) (goal_list goals_opened)
+      to_goals : PlainlyProvable d [] P (instantiate values_at (instance_term c.types q.formula)) → EachOf (λ g. Holds d [] P c (formula_of_goal g)) (goal_list goals_opened)
       to_goals p =
           let a = by_conversion d [] P (instantiate values_at (instance_term c.types s)) (instantiate values_at (instance_term c.types q.formula)) formula_fine form_converts p in
           let b = law.together [] P values_at fits a (truth_proved d std [] P) in
-          (goals_in_turn d std [] P c goals_opened opened_fine).0 (transport (Provable d [] P) (sym opened) b)
+          (goals_in_turn d std [] P c goals_opened opened_fine).0 (transport (PlainlyProvable d [] P) (sym opened) b)
 
-      from_goals : EachOf (λ g. Holds d [] P c (formula_of_goal g)) (goal_list goals_opened) → Provable d [] P (instantiate values_at (instance_term c.types q.formula))
+      from_goals : EachOf (λ g. Holds d [] P c (formula_of_goal g)) (goal_list goals_opened) → PlainlyProvable d [] P (instantiate values_at (instance_term c.types q.formula))
       from_goals p =
           let a = (goals_in_turn d std [] P c goals_opened opened_fine).1 p in
-          let b = (law.apart [] P values_at fits (transport (Provable d [] P) opened a)).0 in
+          let b = (law.apart [] P values_at fits (transport (PlainlyProvable d [] P) opened a)).0 in
           by_conversion d [] P (instantiate values_at (instance_term c.types q.formula)) (instantiate values_at (instance_term c.types s)) form_fine (converts_sym form_converts) b
 
-    pub goals_hold : Provable d [] P (instantiate values_at (instance_term c.types q.formula)) → EachOf (λ g. Holds d [] P c (formula_of_goal g)) (goal_list goals_opened)
+    pub goals_hold : PlainlyProvable d [] P (instantiate values_at (instance_term c.types q.formula)) → EachOf (λ g. Holds d [] P c (formula_of_goal g)) (goal_list goals_opened)
     goals_hold p = let b = and_then_some (beta_normal n q.formula) (λ s. flat_goal n d [] s no_goals) gs e in to_goals b.0 (beta_reduces n q.formula b.0 b.1) b.2 p
 
-    pub goals_prove : EachOf (λ g. Holds d [] P c (formula_of_goal g)) (goal_list goals_opened) → Provable d [] P (instantiate values_at (instance_term c.types q.formula))
+    pub goals_prove : EachOf (λ g. Holds d [] P c (formula_of_goal g)) (goal_list goals_opened) → PlainlyProvable d [] P (instantiate values_at (instance_term c.types q.formula))
     goals_prove p = let b = and_then_some (beta_normal n q.formula) (λ s. flat_goal n d [] s no_goals) gs e in from_goals b.0 (beta_reduces n q.formula b.0 b.1) b.2 p
 
   -- of a provable instance
@@ -297,7 +300,7 @@ module _ (d : Declared) (std : IsStandard d) (n : ℕ) (q : Query) (gs : Goals) 
     as_many : AreWitnesses d i.values (map (instance (type_at i.types)) q.vars) → length i.values ≡ count
     as_many w = witness_count d i.values (map (instance (type_at i.types)) q.vars) w ∙ length-map q.vars (instance (type_at i.types))
 
-    pub starts : IsProvable d P q i → StartHolds d P q gs i
+    pub starts : IsPlainlyProvable d P q i → StartHolds d P q gs i
     starts p =
         let l = as_many p.values in
         let z = instance_closes p.types_closed p.values in
@@ -306,10 +309,10 @@ module _ (d : Declared) (std : IsStandard d) (n : ℕ) (q : Query) (gs : Goals) 
           closes = z;
           types = transport (λ k. map (instance (type_at i.types)) (types_from k 0) ≡ i.types) p.types (types_back (type_at i.types) i.types 0 (λ j. let a : 0 + j ≡ j = omega arith in ap (type_at i.types) a));
           values = transport (λ k. ConvertEach (map (closed of_instance) (vars_from k 0)) i.values) l (values_back of_instance i.values 0 (λ j. let a : 0 + j ≡ j = omega arith in ap (at i.values) a));
-          holds = goals_hold of_instance z (transport (λ m. Provable d [] P (instantiate (λ k. at i.values (m - suc k)) (instance_term (type_at i.types) q.formula))) l p.proved);
+          holds = goals_hold of_instance z (transport (λ m. PlainlyProvable d [] P (instantiate (λ k. at i.values (m - suc k)) (instance_term (type_at i.types) q.formula))) l p.proved);
         }
 
-    pub ends : AreWitnesses d i.values (map (instance (type_at i.types)) q.vars) → StartHolds d P q gs i → IsProvable d P q i
+    pub ends : AreWitnesses d i.values (map (instance (type_at i.types)) q.vars) → StartHolds d P q gs i → IsPlainlyProvable d P q i
     ends w s = record {
       types = ap length (sym s.types) ∙ types_count s.closing.types q.type_vars 0;
       types_closed = transport AreClosed s.types (all_closed s.closing.types s.closes.types (types_from q.type_vars 0));
@@ -333,5 +336,5 @@ module _ (d : Declared) (std : IsStandard d) (n : ℕ) (q : Query) (gs : Goals) 
             converts_is (ap (instantiate (λ k. at i.values (length i.values - suc k))) (term_same s.closing.types (type_at i.types) q.type_vars same_types count q.formula t.within))
             )
 
-  pub query_starts : (i : Instance) → (IsProvable d P q i → StartHolds d P q gs i) × (AreWitnesses d i.values (map (instance (type_at i.types)) q.vars) → StartHolds d P q gs i → IsProvable d P q i)
+  pub query_starts : (i : Instance) → (IsPlainlyProvable d P q i → StartHolds d P q gs i) × (AreWitnesses d i.values (map (instance (type_at i.types)) q.vars) → StartHolds d P q gs i → IsPlainlyProvable d P q i)
   query_starts i = (starts i, ends i)

@@ -14,11 +14,11 @@ use Rattle.lp_calculus.proofs.Fills.{within_more}
 use Rattle.lp_calculus.proofs.Steps.{converts_on, converts_is, converts_sym}
 use Rattle.lp_calculus.proofs.TypeLaws.{instance-instance}
 use Rattle.lp_model.specs.declared.ending.Ending.TheVariants.{NoMore, Deep}
-use Rattle.lp_model.specs.Faithful.{EachOf}
+use Rattle.lp_lemmas.specs.Each.{EachOf}
 use Rattle.lp_model.specs.Types.{TypePair, TypeBinding, put_types}
 use Rattle.lp_model.specs.Pair.{Pair, Closing, closed, SolvesAll}
 use Rattle.lp_model.specs.Unify.{Unified, Fail, Solution, Spent, State, solve, unit_limit}
-use Rattle.lp_model.specs.Proofs.{Declared, IsWitness, Provable}
+use Rattle.lp_model.specs.Proofs.{Declared, IsWitness, PlainlyProvable}
 use Rattle.lp_model.specs.Flat.{Clause, formula_of_goal, formula_of_clause}
 use Rattle.lp_model.specs.Branch.{Entry, Branch, resume}
 use Rattle.lp_model.specs.Search.{follow}
@@ -47,7 +47,7 @@ use Rattle.lp_search_laws.proofs.Entries.{put_in, formulas, behind_none, behind_
 use Rattle.lp_search_laws.proofs.PlainTypes.{agree_type, agree_list, agree_term, IsBelowAtom, IsBelow, plain_below, plain_positive, goal_below, clause_below, fill_plain, ArePlainBindings, ArePlainTypes, cut_off, cut_agrees}
 use Rattle.lp_search_laws.proofs.ResumedTypes.{AreMade, χ, χ_is, χ_term, χ_twice, χ_satisfies, map_list, more_behind, bindings_behind, pairs_behind, term_behind, term_plain, typing_behind, resumed_typed}
 use Rattle.lp_search_laws.proofs.RunsKeep.{solve_keeps_plain, types_satisfy_themselves}
-use Rattle.lp_search_laws.proofs.Standing.{stopped}
+use Rattle.lp_search_laws.proofs.Standing.{stopped, lacked}
 
 -- entries that two closings make the same
 abbrev pub IsSame : Closing → Closing → Term → Type 0
@@ -68,9 +68,9 @@ same_proved d P c z [] [] w p = tt
 same_proved d P c z [] (e ∷ es) w p = p
 same_proved d P c z (E ∷ Es) [] w p = p
 same_proved d P c z (E ∷ Es) (e ∷ es) w p = (
-  transport (λ X. Provable d X (clauses_at P e.assumed z) (closed z (formula_of_goal e.goal))) w.0.0
-      (transport (λ X. Provable d (map (instance c.types) E) (map sentence_of P ++ X) (closed z (formula_of_goal e.goal))) (same_assumed c z e.assumed w.0.2)
-      (transport (λ X. Provable d (map (instance c.types) E) (clauses_at P e.assumed c) X) w.0.1 p.0)),
+  transport (λ X. PlainlyProvable d X (clauses_at P e.assumed z) (closed z (formula_of_goal e.goal))) w.0.0
+      (transport (λ X. PlainlyProvable d (map (instance c.types) E) (map sentence_of P ++ X) (closed z (formula_of_goal e.goal))) (same_assumed c z e.assumed w.0.2)
+      (transport (λ X. PlainlyProvable d (map (instance c.types) E) (clauses_at P e.assumed c) X) w.0.1 p.0)),
   same_proved d P c z Es es w.1 p.1,
 )
 
@@ -424,7 +424,7 @@ follows n d P q y b eqs ps h input pe pp T on back = go (solve n unit_limit eqs 
         }
 
     go : (o : Option Unified) → solve n unit_limit eqs ps b.pairs b.next ≡ o → StandFor n d P q T (follow b o)
-    go None e = stopped n d P q T Deep not_done
+    go None e = lacked n d P q T
     go (Some Spent) e = stopped n d P q T Deep not_done
     go (Some Fail) e = record {
       typed = [];

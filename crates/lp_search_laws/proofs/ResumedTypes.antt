@@ -10,7 +10,7 @@ use Rattle.lp_calculus.specs.Instance.{instance_term}
 use Rattle.lp_calculus.specs.Typing.{Typed, o_type, type_at, eigen_type}
 use Rattle.lp_calculus.proofs.Fills.{within_both}
 use Rattle.lp_calculus.proofs.TypeLaws.{instance-instance}
-use Rattle.lp_model.specs.Faithful.{EachOf}
+use Rattle.lp_lemmas.specs.Each.{EachOf}
 use Rattle.lp_model.specs.Types.{TypePair, TypeBinding, one_type, put_types}
 use Rattle.lp_model.specs.Pair.{Pair}
 use Rattle.lp_model.specs.Unify.{State}
@@ -31,7 +31,8 @@ use Rattle.lp_search_laws.specs.Branches.{IsPlainTerm, IsGoal, IsAssumable, AreP
 use Rattle.lp_search_laws.specs.Behind.{IsBranchWith, behind, types_of, variables_of, eigens_of}
 use Rattle.lp_search_laws.proofs.TypesPut.{put_types_is, put_types_in_is, satisfied_instance}
 use Rattle.lp_search_laws.proofs.Entries.{put_in, put_one, type_one, behind_none, behind_each, are_shut, entries_behind}
-use Rattle.lp_search_laws.proofs.PlainTypes.{agree_type, agree_term, IsBelow, plain_below, goal_kept, assumable_kept, binding_keeps_plain, one_keeps_plain, list_below, type_below, types_of_below, put_all_plain, types_in_plain, ArePlainBindings, ArePlainTypes, cut_off, cut_agrees}
+use Rattle.lp_standard.specs.Positive.{IsPositive}
+use Rattle.lp_search_laws.proofs.PlainTypes.{agree_type, agree_term, IsBelow, plain_below, goal_kept, assumable_kept, binding_keeps_plain, one_keeps_plain, list_below, type_below, types_of_below, put_all_plain, types_in_plain, ArePlainBindings, ArePlainTypes, cut_off, cut_agrees, plain_positive}
 
 -- the types that were made, cut off at k
 pub record AreMade (k : ℕ) (ts : List TypeBinding) : Type 0 where
@@ -191,16 +192,16 @@ scoped_value d V t T w o = within_both (IsScopedAtom V []) (HasAtomType (in_scop
     one (text s) p q = tt
     one (param k U) p q = tt
 
-value_behind : (d : Declared) (V W : List Variable) (bs : List Binding) (ts : List TypeBinding) → IsMore (variables_of (types_of ts) V) W → AreTypedBindings d W (map (instance_binding (types_of ts)) bs) → (t : Term) (T : Ty) → IsTypedValue d V t T → IsTypedValue d W (put_in bs ts t) (instance (types_of ts) T)
-value_behind d V W bs ts m b t T h =
+value_behind : (d : Declared) (V W : List Variable) (bs : List Binding) (ts : List TypeBinding) → IsMore (variables_of (types_of ts) V) W → AreTypedBindings d W (map (instance_binding (types_of ts)) bs) → (t : Term) (T : Ty) → IsTypedValue d V t T → IsPositive (put_in bs ts t) → IsTypedValue d W (put_in bs ts t) (instance (types_of ts) T)
+value_behind d V W bs ts m b t T h p =
     let r = term_behind d V W [] bs ts m b t T (record { typed = h.typed; scoped = value_scoped d V t T h.typed h.outermost }) in
-    record { typed = r.typed; outermost = scoped_value d W (put_in bs ts t) (instance (types_of ts) T) r.typed r.scoped }
+    record { typed = r.typed; outermost = scoped_value d W (put_in bs ts t) (instance (types_of ts) T) r.typed r.scoped; positive = p }
 
-values_behind : (d : Declared) (V W : List Variable) (bs : List Binding) (ts : List TypeBinding) → IsMore (variables_of (types_of ts) V) W → AreTypedBindings d W (map (instance_binding (types_of ts)) bs) → (us : List Term) (Ts : List Ty) → AreTypedValues d V us Ts → AreTypedValues d W (map (put_in bs ts) us) (map (instance (types_of ts)) Ts)
-values_behind d V W bs ts m b [] [] h = tt
-values_behind d V W bs ts m b [] (T ∷ Ts) h = absurd h
-values_behind d V W bs ts m b (u ∷ us) [] h = absurd h
-values_behind d V W bs ts m b (u ∷ us) (T ∷ Ts) h = (value_behind d V W bs ts m b u T h.0, values_behind d V W bs ts m b us Ts h.1)
+values_behind : (d : Declared) (V W : List Variable) (bs : List Binding) (ts : List TypeBinding) → IsMore (variables_of (types_of ts) V) W → AreTypedBindings d W (map (instance_binding (types_of ts)) bs) → (us : List Term) (Ts : List Ty) → AreTypedValues d V us Ts → (k : ℕ) → EachOf (IsPlainTerm k) (map (put_in bs ts) us) → AreTypedValues d W (map (put_in bs ts) us) (map (instance (types_of ts)) Ts)
+values_behind d V W bs ts m b [] [] h k p = tt
+values_behind d V W bs ts m b [] (T ∷ Ts) h k p = absurd h
+values_behind d V W bs ts m b (u ∷ us) [] h k p = absurd h
+values_behind d V W bs ts m b (u ∷ us) (T ∷ Ts) h k p = (value_behind d V W bs ts m b u T h.0 (plain_positive k (put_in bs ts u) p.0), values_behind d V W bs ts m b us Ts h.1 k p.1)
 
 entry_at : (ts : List TypeBinding) (Ts : List Ty) (i : ℕ) → type_at (map (put_types ts) Ts) i ≡ instance (types_of ts) (type_at Ts i)
 entry_at ts [] i = refl
@@ -267,7 +268,7 @@ resumed_typed n d q y b s W eqs h u m pb pp st mo len tb r =
       answer = record {
         variables = length_map (instance_variable (χ k ts)) W ∙ len;
         types = length_map (put_types ts) b.types ∙ h.answer.types;
-        values = transport (AreTypedValues d X (map (put_in bs ts) b.values)) (query_types ts b.types q.vars) (values_behind d V X bs ts more tx b.values (map (instance (type_at b.types)) q.vars) h.answer.values);
+        values = transport (AreTypedValues d X (map (put_in bs ts) b.values)) (query_types ts b.types q.vars) (values_behind d V X bs ts more tx b.values (map (instance (type_at b.types)) q.vars) h.answer.values k (terms_plain k bs ts pb m.plain b.values h.values));
         pairs = r.1;
       };
       entries = entries_behind d V X bs ts (are_shut d X (types_of ts) bs tx) more tx y.eigens b.goals (h.entries ts u);

@@ -1,19 +1,21 @@
 -- Where each look is right each run is: the search of typed tasks, in step with the search of tasks, is faithful.
-use Rattle.std.proofs.Common.{◌≡◌, ℕ, List, [], ◌∷◌, map, ◌∙◌, refl, sym, ap, subst as transport, inl, inr}
-use Rattle.lp_model.specs.Skeleton.{View, Gives, Opens, Parts, Takes, Cuts, Halts, starts, run}
-use Rattle.lp_model.specs.Faithful.{AnyOf, EachOf, Covers, AreFine, Faithful}
+use Rattle.std.proofs.Common.{◌≡◌, ◌≤◌, arith, Bool, ℕ, List, [], ◌∷◌, map, ◌∙◌, refl, sym, ap, subst as transport, inl, inr}
+use Rattle.lp_model.specs.Unify.{unit_limit}
+use Rattle.lp_model.specs.Skeleton.{View, Gives, Opens, Parts, Takes, Cuts, Denies, Halts, Lacks, starts, run}
+use Rattle.lp_model.specs.Faithful.{Covers, AreFine, Denied, Faithful}
+use Rattle.lp_lemmas.specs.Each.{AnyOf, EachOf}
 use Rattle.lp_model.specs.Flat.{Clause}
 use Rattle.lp_model.specs.Branch.{Branch, Answer, Task, Go}
 use Rattle.lp_model.specs.Proofs.{Declared}
 use Rattle.lp_model.specs.Answers.{Query, Instance, IsInstance, IsWellFormed, TypedAnswer}
 use Rattle.lp_model.specs.Search.{look}
-use Rattle.lp_proof_laws.proofs.Uniform.Lists.{each_from_any}
+use Rattle.lp_lemmas.proofs.Each.{each_from_any}
 use Rattle.lp_search_laws.proofs.Stack.Faithful.{sound, exhausts, fine}
-use Rattle.lp_search_laws.proofs.Stack.InStep.{view_map, told_map, in_step}
+use Rattle.lp_search_laws.proofs.Stack.InStep.{HasNoDenial, view_map, told_map, in_step}
 use Rattle.lp_search_laws.specs.Branches.{TypedTask, going, task_of, IsOk, Sol, BranchTyping, IsTypedBranch, IsQueryInstance, SolvesBranch, IsRightView}
 use Rattle.lp_search_laws.specs.Right.{IsRightOf}
 
-module _ (n : ℕ) (d : Declared) (P : List Clause) (q : Query) (looks : (height : ℕ) (T : TypedTask) → IsOk n d P q T → IsRightView n d P q T (look n P height (task_of T))) where
+module _ (n : ℕ) (d : Declared) (P : List Clause) (q : Query) (looks : (height : ℕ) (T : TypedTask) → IsOk n d P q T → IsRightView n d P q T (look unit_limit n P height (task_of T))) where
   -- a typed task that is as it should be
   record Marked : Type 0 where
     task : TypedTask
@@ -35,10 +37,12 @@ module _ (n : ℕ) (d : Declared) (P : List Clause) (q : Query) (looks : (height
   marked T (Parts ts) r = Parts (marks r.typed r.ok)
   marked T (Takes name ts) r = Takes name (marks r.typed r.ok)
   marked T (Cuts m ts) r = Cuts m (marks r.typed r.ok)
+  marked T (Denies t is_final ts) r = absurd r
   marked T (Halts e) r = Halts e
+  marked T Lacks r = Lacks
 
   looked : ℕ → Marked → View Marked TypedAnswer
-  looked height M = marked M.task (look n P height (task_of M.task)) (looks height M.task M.ok)
+  looked height M = marked M.task (look unit_limit n P height (task_of M.task)) (looks height M.task M.ok)
 
   -- it is in step
   unfolded : (Ts : List TypedTask) (h : EachOf (IsOk n d P q) Ts) → map task_of Ts ≡ map bare (marks Ts h)
@@ -53,7 +57,9 @@ module _ (n : ℕ) (d : Declared) (P : List Clause) (q : Query) (looks : (height
   same_view T (Parts ts) r = ap Parts (sym r.is ∙ unfolded r.typed r.ok)
   same_view T (Takes name ts) r = ap (Takes name) (sym r.is ∙ unfolded r.typed r.ok)
   same_view T (Cuts m ts) r = ap (Cuts m) (sym r.is ∙ unfolded r.typed r.ok)
+  same_view T (Denies t is_final ts) r = absurd r
   same_view T (Halts e) r = refl
+  same_view T Lacks r = refl
 
   -- and faithful
   abbrev Fine : TypedAnswer → Type 0
@@ -86,7 +92,9 @@ module _ (n : ℕ) (d : Declared) (P : List Clause) (q : Query) (looks : (height
   view_stays T (Parts ts) r = all_fine (marks r.typed r.ok)
   view_stays T (Takes name ts) r = all_fine (marks r.typed r.ok)
   view_stays T (Cuts m ts) r = all_fine (marks r.typed r.ok)
+  view_stays T (Denies t is_final ts) r = absurd r
   view_stays T (Halts e) r = r
+  view_stays T Lacks r = tt
 
   view_keeps : (T : TypedTask) (v : View Task Answer) (r : IsRightView n d P q T v) (i : Instance) → Sol d P q i T → Covers (Unit {0}) MarkedSol Is i (marked T v r)
   unfolding marked
@@ -95,7 +103,9 @@ module _ (n : ℕ) (d : Declared) (P : List Clause) (q : Query) (looks : (height
   view_keeps T (Parts ts) r i s = any_marked i r.typed r.ok (r.keeps i s)
   view_keeps T (Takes name ts) r i s = any_marked i r.typed r.ok (r.keeps i s)
   view_keeps T (Cuts m ts) r i s = any_marked i r.typed r.ok (r.keeps i s)
+  view_keeps T (Denies t is_final ts) r i s = absurd r
   view_keeps T (Halts e) r i s = tt
+  view_keeps T Lacks r i s = tt
 
   view_gives : (T : TypedTask) (v : View Task Answer) (r : IsRightView n d P q T v) (i : Instance) → Covers ⊥ MarkedSol Is i (marked T v r) → Sol d P q i T
   unfolding marked
@@ -104,23 +114,40 @@ module _ (n : ℕ) (d : Declared) (P : List Clause) (q : Query) (looks : (height
   view_gives T (Parts ts) r i s = r.gives i (marked_any i r.typed r.ok s)
   view_gives T (Takes name ts) r i s = r.gives i (marked_any i r.typed r.ok s)
   view_gives T (Cuts m ts) r i s = r.gives i (marked_any i r.typed r.ok s)
+  view_gives T (Denies t is_final ts) r i s = absurd r
   view_gives T (Halts e) r i s = absurd s
+  view_gives T Lacks r i s = absurd s
 
-  faithful : Faithful looked (λ M. Unit {0}) Fine MarkedSol Is
+  none_denied : (T : TypedTask) (v : View Task Answer) (r : IsRightView n d P q T v) → HasNoDenial (marked T v r)
+  unfolding marked
+  none_denied T (Gives a) r = tt
+  none_denied T (Opens ts) r = tt
+  none_denied T (Parts ts) r = tt
+  none_denied T (Takes name ts) r = tt
+  none_denied T (Cuts m ts) r = tt
+  none_denied T (Denies t is_final ts) r = absurd r
+  none_denied T (Halts e) r = tt
+  none_denied T Lacks r = tt
+
+  denies_none : (M : Marked) (b : ℕ) (v : View Marked TypedAnswer) → HasNoDenial v → (u : Marked) (is_final : TypedAnswer → Bool) (ts : List Marked) → v ≡ Denies u is_final ts → Denied looked b MarkedSol M u is_final ts
+  denies_none M b v h u is_final ts e = absurd (transport HasNoDenial e h)
+
+  faithful : (b : ℕ) → Faithful looked b (λ M. Unit {0}) Fine MarkedSol Is
   unfolding looked
-  faithful = record {
-    stays = λ height M u. view_stays M.task (look n P height (task_of M.task)) (looks height M.task M.ok);
-    keeps = λ height M u i s. view_keeps M.task (look n P height (task_of M.task)) (looks height M.task M.ok) i s;
-    gives = λ height M u i s. view_gives M.task (look n P height (task_of M.task)) (looks height M.task M.ok) i s;
+  faithful b = record {
+    stays = λ height M u. view_stays M.task (look unit_limit n P height (task_of M.task)) (looks height M.task M.ok);
+    keeps = λ height M u i s. view_keeps M.task (look unit_limit n P height (task_of M.task)) (looks height M.task M.ok) i s;
+    gives = λ height M u i s. view_gives M.task (look unit_limit n P height (task_of M.task)) (looks height M.task M.ok) i s;
+    denies = λ height M k u is_final ts e. denies_none M b (looked height M) (none_denied M.task (look unit_limit n P height (task_of M.task)) (looks height M.task M.ok)) u is_final ts e;
   }
 
-  module _ (y : BranchTyping) (b : Branch) (h : IsTypedBranch n d q y b) (m steps answers : ℕ) where
+  module _ (y : BranchTyping) (b : Branch) (h : IsTypedBranch n d q y b) (j m steps answers : ℕ) where
     first : Marked
     first = record { task = going y b; ok = h }
 
-    in_both : run (look n P) m (starts (Go b) steps answers) ≡ told_map bare answer_only (run looked m (starts first steps answers))
+    in_both : run (look unit_limit n P) j m (starts (Go b) steps answers) ≡ told_map bare answer_only (run looked j m (starts first steps answers))
     unfolding bare first looked
-    in_both = in_step bare answer_only looked (look n P) (λ height M. same_view M.task (look n P height (task_of M.task)) (looks height M.task M.ok)) m (starts first steps answers)
+    in_both = in_step bare answer_only looked (look unit_limit n P) (λ height M. same_view M.task (look unit_limit n P height (task_of M.task)) (looks height M.task M.ok)) (λ height M. none_denied M.task (look unit_limit n P height (task_of M.task)) (looks height M.task M.ok)) j m (starts first steps answers)
 
     any_instance : (i : Instance) (as' : List TypedAnswer) → AnyOf (Is i) as' → AnyOf (λ a. IsInstance d a.typing a.answer i) as'
     any_instance i [] s = s
@@ -130,6 +157,9 @@ module _ (n : ℕ) (d : Declared) (P : List Clause) (q : Query) (looks : (height
     each_instance [] s = tt
     each_instance (a ∷ as') s = (λ i x z. s.0 i (x, z), each_instance as' s.1)
 
+    here : steps ≤ steps
+    here = omega arith
+
     one_of : (i : Instance) → AnyOf (MarkedSol i) (first ∷ []) → SolvesBranch d P q i y b
     unfolding first
     one_of i s = elim s [ inl x ↦ x | inr x ↦ absurd x ]
@@ -138,13 +168,13 @@ module _ (n : ℕ) (d : Declared) (P : List Clause) (q : Query) (looks : (height
     unfolding first
     the_one i s = inl s
 
-    pub right_run : IsRightOf d P q y b (run (look n P) m (starts (Go b) steps answers))
+    pub right_run : IsRightOf d P q y b (run (look unit_limit n P) j m (starts (Go b) steps answers))
     unfolding answer_only
     right_run = transport (IsRightOf d P q y b) (sym in_both) (record {
-      typed = (run looked m (starts first steps answers)).answers;
+      typed = (run looked j m (starts first steps answers)).answers;
       is = refl;
-      well_formed = fine looked (λ M. Unit {0}) Fine MarkedSol Is faithful m (starts first steps answers) (tt, tt);
-      sound = each_instance (run looked m (starts first steps answers)).answers
-          (each_from_any Is (λ i. SolvesBranch d P q i y b) (run looked m (starts first steps answers)).answers (λ i s. one_of i (sound looked (λ M. Unit {0}) Fine MarkedSol Is faithful m (starts first steps answers) (tt, tt) i s)));
-      exhausts = λ e i s. any_instance i (run looked m (starts first steps answers)).answers (exhausts looked (λ M. Unit {0}) Fine MarkedSol Is faithful m (starts first steps answers) (tt, tt) e i (the_one i s));
+      well_formed = fine looked steps (λ M. Unit {0}) Fine MarkedSol Is (faithful steps) j m (starts first steps answers) (tt, tt);
+      sound = each_instance (run looked j m (starts first steps answers)).answers
+          (each_from_any Is (λ i. SolvesBranch d P q i y b) (run looked j m (starts first steps answers)).answers (λ i s. one_of i (sound looked steps (λ M. Unit {0}) Fine MarkedSol Is (faithful steps) j m (starts first steps answers) here (tt, tt) i s)));
+      exhausts = λ e i s. any_instance i (run looked j m (starts first steps answers)).answers (exhausts looked steps (λ M. Unit {0}) Fine MarkedSol Is (faithful steps) j m (starts first steps answers) here (tt, tt) e i (the_one i s));
     })

@@ -8,7 +8,7 @@ use Rattle.lp_calculus.specs.Instance.{instance_term}
 use Rattle.lp_calculus.specs.Closed.{AreClosed}
 use Rattle.lp_calculus.specs.Spine.{head_of}
 use Rattle.lp_model.specs.Flatten.{ClauseFormula}
-use Rattle.lp_model.specs.Proofs.{Declared, Proof, Conv, True, And, Left, Right, Witness, All, Assume, Equal, Arith, Back, Focus, FConv, FAll, FTake, FNeed, FHit, IsAtomHead, assumed, proves, focuses, Provable, Focusable}
+use Rattle.lp_model.specs.Proofs.{Fails, no_leaf, Declared, Proof, Conv, True, And, Left, Right, Witness, All, Assume, Equal, Arith, Back, Focus, FConv, FAll, FTake, FNeed, FHit, IsAtomHead, assumed, proves_by, focuses_by, PlainlyProvable, PlainlyFocusable}
 use Rattle.lp_proof_laws.proofs.Uniform.Contexts.{get_front, get_back, get_split}
 use Rattle.lp_proof_laws.proofs.Uniform.Assumptions.{Extends, extends_self, extends_then}
 
@@ -20,10 +20,10 @@ pub record Served (d : Declared) (E : List Ty) (Q R : List ClauseFormula) (A : T
   pub types : List Ty
   pub count : length types ≡ clause.type_vars
   pub closed : AreClosed types
-  pub focus : Focusable d E Q (instance_term (type_at types) clause.formula) A
+  pub focus : PlainlyFocusable d E Q (instance_term (type_at types) clause.formula) A
 
 pub record Serves (d : Declared) (E : List Ty) (P R : List ClauseFormula) : Type 0 where
-  pub at : (i : ℕ) (D : ClauseFormula) → slice_get P i ≡ Some D → (ts : List Ty) → length ts ≡ D.type_vars → AreClosed ts → (F : List Ty) → Extends E F → (Q : List ClauseFormula) (A : Term) → IsAtomHead (head_of A) → Focusable d F Q (instance_term (type_at ts) D.formula) A → Served d F Q R A
+  pub at : (i : ℕ) (D : ClauseFormula) → slice_get P i ≡ Some D → (ts : List Ty) → length ts ≡ D.type_vars → AreClosed ts → (F : List Ty) → Extends E F → (Q : List ClauseFormula) (A : Term) → IsAtomHead (head_of A) → PlainlyFocusable d F Q (instance_term (type_at ts) D.formula) A → Served d F Q R A
 
 pub serves_eigens : (d : Declared) (E F : List Ty) (P R : List ClauseFormula) → Serves d E P R → Serves d (E ++ F) P R
 serves_eigens d E F P R s = record { at = λ i D e ts l k G x Q A h r. s.at i D e ts l k G (extends_then E F G x) Q A h r }
@@ -52,7 +52,7 @@ serves_first d E P R S s = record {
 }
 
 mutual
-  proof_by : (d : Declared) (E : List Ty) (P R : List ClauseFormula) (G : Term) (p : Proof) → Serves d E P R → proves d E P G p → Provable d E R G
+  proof_by : (d : Declared) (E : List Ty) (P R : List ClauseFormula) (G : Term) (p : Proof) → Serves d E P R → proves_by no_leaf d E P G p → PlainlyProvable d E R G
   proof_by d E P R G (Conv H p) s h = let r = proof_by d E P R H p s h.2 in record { proof = Conv H r.proof; holds = (h.0, h.1, r.holds) }
   proof_by d E P R G True s h = record { proof = True; holds = h }
   proof_by d E P R G (And p q) s h = let a = proof_by d E P R h.0 p s h.3 in let b = proof_by d E P R h.1 q s h.4 in record { proof = And a.proof b.proof; holds = (h.0, h.1, h.2, a.holds, b.holds) }
@@ -65,6 +65,7 @@ mutual
   proof_by d E P R G (Assume p) s h =
       let a = proof_by d E (P ++ assumed h.0 ∷ []) (R ++ assumed h.0 ∷ []) h.1 p (serves_more d E P R (assumed h.0 ∷ []) s) h.3 in
       record { proof = Assume a.proof; holds = (h.0, h.1, h.2, a.holds) }
+  proof_by d E P R G (Fails f) s h = absurd h.2
   proof_by d E P R G Equal s h = record { proof = Equal; holds = h }
   proof_by d E P R G Arith s h = record { proof = Arith; holds = h }
   proof_by d E P R G (Back i ts f) s h =
@@ -72,7 +73,7 @@ mutual
       let z = s.at i h.0 h.1 ts h.2 h.3 E (extends_self E) R G h.4 a in
       record { proof = Back z.place z.types z.focus.focus; holds = (z.clause, z.is, z.count, z.closed, h.4, z.focus.holds) }
 
-  focus_by : (d : Declared) (E : List Ty) (P R : List ClauseFormula) (D A : Term) (f : Focus) → Serves d E P R → focuses d E P D A f → Focusable d E R D A
+  focus_by : (d : Declared) (E : List Ty) (P R : List ClauseFormula) (D A : Term) (f : Focus) → Serves d E P R → focuses_by no_leaf d E P D A f → PlainlyFocusable d E R D A
   focus_by d E P R D A (FConv H f) s h = let r = focus_by d E P R H A f s h.2 in record { focus = FConv H r.focus; holds = (h.0, h.1, r.holds) }
   focus_by d E P R D A (FAll t f) s h = let r = focus_by d E P R (app h.1 t) A f s h.4 in record { focus = FAll t r.focus; holds = (h.0, h.1, h.2, h.3, r.holds) }
   focus_by d E P R D A (FTake true f) s h = let r = focus_by d E P R h.1 A f s h.3 in record { focus = FTake true r.focus; holds = (h.0, h.1, h.2, r.holds) }
@@ -80,5 +81,5 @@ mutual
   focus_by d E P R D A (FNeed p f) s h = let a = proof_by d E P R h.0 p s h.3 in let r = focus_by d E P R h.1 A f s h.4 in record { focus = FNeed a.proof r.focus; holds = (h.0, h.1, h.2, a.holds, r.holds) }
   focus_by d E P R D A FHit s h = record { focus = FHit; holds = h }
 
-pub served : (d : Declared) (E : List Ty) (P R : List ClauseFormula) (G : Term) → Serves d E P R → Provable d E P G → Provable d E R G
+pub served : (d : Declared) (E : List Ty) (P R : List ClauseFormula) (G : Term) → Serves d E P R → PlainlyProvable d E P G → PlainlyProvable d E R G
 served d E P R G s p = proof_by d E P R G p.proof s p.holds

@@ -3,3 +3,5 @@ pub mod InStep
 pub mod Moves
 pub mod Faithful
 pub mod Events
+pub mod Inners
+pub mod MoreLooks

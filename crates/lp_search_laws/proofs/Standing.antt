@@ -1,16 +1,17 @@
 -- What typed tasks turn out to be.
 use Rattle.std.proofs.Common.{◌≡◌, ℕ, List, [], ◌∷◌, refl, sym, subst as transport, inl, inr}
 use Rattle.lp_calculus.specs.Types.{Ty}
+use Rattle.lp_model.specs.Unify.{unit_limit}
 use Rattle.lp_model.specs.Pair.{Closing}
 use Rattle.lp_model.specs.Flat.{Clause}
 use Rattle.lp_model.specs.declared.ending.Ending.{Ending}
 use Rattle.lp_model.specs.declared.ending.Ending.TheVariants.{NoMore}
 use Rattle.std.specs.Prelude.{◌≢◌}
-use Rattle.lp_model.specs.Branch.{Entry, Branch, Go, Stop}
+use Rattle.lp_model.specs.Branch.{Entry, Branch, Go, Stop, Lack}
 use Rattle.lp_model.specs.Answers.{Query, Variable}
 use Rattle.lp_model.specs.Proofs.{Declared}
 use Rattle.lp_model.specs.Search.{look, look_branch}
-use Rattle.lp_search_laws.specs.Branches.{AreTypedEntries, AreProved, BranchTyping, IsTypedBranch, IsRightView, AnswersFor, StandFor, TypedTask, going, stopping, answer_of}
+use Rattle.lp_search_laws.specs.Branches.{AreTypedEntries, AreProved, BranchTyping, IsTypedBranch, IsRightView, AnswersFor, StandFor, TypedTask, going, stopping, lacking, answer_of}
 
 none_proved : (d : Declared) (P : List Clause) (c : Closing) (V : List Variable) (Es : List (List Ty)) (es : List Entry) → es ≡ [] → AreTypedEntries d V Es es → AreProved d P c Es es
 none_proved d P c V [] [] e h = tt
@@ -18,8 +19,8 @@ none_proved d P c V [] (x ∷ es) e h = absurd h
 none_proved d P c V (E ∷ Es) [] e h = absurd h
 none_proved d P c V (E ∷ Es) (x ∷ es) e h = absurd (cc)
 
-pub proved_branches_answer : (n height : ℕ) (d : Declared) (P : List Clause) (q : Query) (y : BranchTyping) (b : Branch) → b.goals ≡ [] → IsTypedBranch n d q y b → IsRightView n d P q (going y b) (look n P height (Go b))
-proved_branches_answer n height d P q y b e h = transport (λ gs. IsRightView n d P q (going y b) (look_branch n P height b gs)) (sym e) answers
+pub proved_branches_answer : (n height : ℕ) (d : Declared) (P : List Clause) (q : Query) (y : BranchTyping) (b : Branch) → b.goals ≡ [] → IsTypedBranch n d q y b → IsRightView n d P q (going y b) (look unit_limit n P height (Go b))
+proved_branches_answer n height d P q y b e h = transport (λ gs. IsRightView n d P q (going y b) (look_branch unit_limit n P height b gs)) (sym e) answers
   where
     answers : AnswersFor d P q (going y b) (answer_of b)
     answers = record {
@@ -35,6 +36,16 @@ stopped n d P q T e h = record {
   typed = stopping e T ∷ [];
   is = refl;
   ok = (h, tt);
+  keeps = λ i s. inl s;
+  gives = λ i s. elim s [ inl x ↦ x | inr x ↦ absurd x ];
+}
+
+-- where it lacks steps
+pub lacked : (n : ℕ) (d : Declared) (P : List Clause) (q : Query) (T : TypedTask) → StandFor n d P q T (Lack ∷ [])
+lacked n d P q T = record {
+  typed = lacking T ∷ [];
+  is = refl;
+  ok = (tt, tt);
   keeps = λ i s. inl s;
   gives = λ i s. elim s [ inl x ↦ x | inr x ↦ absurd x ];
 }

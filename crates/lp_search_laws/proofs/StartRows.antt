@@ -9,9 +9,9 @@ use Rattle.lp_standard.specs.Schemes.{entry, standard_schemes, plain}
 use Rattle.lp_model.specs.Flat.{Atomic, no_goals, goals, Clause, clause, no_clauses, clauses}
 use Rattle.lp_model.specs.Flatten.{ClauseFormula, flatten_query}
 use Rattle.lp_model.specs.Values.{Number, Is, evaluate}
-use Rattle.lp_model.specs.Proofs.{Declared}
+use Rattle.lp_model.specs.Proofs.{Declared, AreFlattened}
 use Rattle.lp_model.specs.Answers.{Query}
-use Rattle.lp_search_laws.specs.Started.{IsTypedQuery, IsTypedSentence, AreFlattened}
+use Rattle.lp_search_laws.specs.Started.{IsTypedQuery, IsTypedSentence}
 
 -- the constants 32 and 33 are predicates of an integer
 abbrev declared : Declared
@@ -27,14 +27,14 @@ rule = record { type_vars = 0; formula = pi_of int_type (abs (two 3 [] (on 32 (i
 rule_typed : IsTypedSentence declared rule
 rule_typed = record {
   typed = (arrow int_type o_type, refl, (int_type, o_type, refl, (o_type, (o_type, refl, (int_type, refl, refl)), (int_type, refl, refl))));
-  within = (((tt, tt)), ((tt, (tt, omega arith)), (tt, omega arith)));
+  within = (((λ e. omega arith), (tt, tt)), ((((λ e. omega arith), tt), (((λ e. omega arith), tt), omega arith)), (((λ e. omega arith), tt), omega arith)));
 }
 
 abbrev flat_rule : Clause
 flat_rule = clause 0 (int_type ∷ []) (on 32 (index 0)) (goals (Atomic (on 33 (index 0))) no_goals)
 
-program_flat : AreFlattened 9 declared (rule ∷ []) (flat_rule ∷ [])
-program_flat = (clauses flat_rule no_clauses, [], refl, refl, refl)
+program_flat : AreFlattened declared (rule ∷ []) (flat_rule ∷ [])
+program_flat = (9, clauses flat_rule no_clauses, [], refl, refl, refl)
 
 -- p X, X is 1 + 2.
 abbrev sum : Term
@@ -47,7 +47,7 @@ query_typed : IsTypedQuery declared query
 query_typed = record {
   vars = (tt, tt);
   typed = (o_type, (o_type, refl, (int_type, refl, refl)), (int_type, (int_type, refl, refl), (int_type, (int_type, refl, refl), refl)));
-  within = ((tt, (tt, omega arith)), (((tt, tt), omega arith), ((tt, tt), tt)));
+  within = ((((λ e. omega arith), tt), (((λ e. omega arith), tt), omega arith)), ((((λ e. omega arith), (tt, tt)), omega arith), ((((λ e. omega arith), tt), tt), tt)));
 }
 
 query_flat : flatten_query 9 declared query.formula ≡ Some (goals (Atomic (on 32 (index 0))) (goals (Atomic (two 9 (int_type ∷ []) (index 0) sum)) no_goals))

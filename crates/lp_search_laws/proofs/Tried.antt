@@ -11,7 +11,7 @@ use Rattle.lp_calculus.proofs.Steps.{within_reduces}
 use Rattle.lp_calculus.proofs.Subject.{typed_reduces}
 use Rattle.lp_model.specs.declared.ending.Ending.TheVariants.{Deep}
 use Rattle.lp_calculus.specs.Spine.{head_of, arguments}
-use Rattle.lp_model.specs.Faithful.{AnyOf, EachOf}
+use Rattle.lp_lemmas.specs.Each.{AnyOf, EachOf}
 use Rattle.lp_model.specs.Look.{head_normal}
 use Rattle.lp_model.specs.Same.{same_name}
 use Rattle.lp_model.specs.Pair.{Closing, closed}
@@ -28,7 +28,7 @@ use Rattle.lp_search_laws.specs.Branches.{IsPlainAtom, IsPlainTerm, IsGoal, IsPr
 use Rattle.lp_search_laws.proofs.Closed.{closed_reduces}
 use Rattle.lp_search_laws.proofs.Connectives.{reduces_on, reduces_back}
 use Rattle.lp_search_laws.proofs.Formed.{formula_at}
-use Rattle.lp_search_laws.proofs.Standing.{stopped}
+use Rattle.lp_search_laws.proofs.Standing.{lacked}
 use Rattle.lp_search_laws.proofs.ClauseForms.{program_clauses, assumed_clauses}
 use Rattle.lp_search_laws.proofs.Candidates.{some_candidate, candidate_proves}
 
@@ -170,7 +170,7 @@ module _ (n height : ℕ) (d : Declared) (std : IsStandard d) (P : List Clause) 
       record { query = s.query; answer = s.answer; proved = (transport (λ g. Holds d (map (instance c.types) E) (clauses_at P e.assumed c) c (formula_of_goal g)) (sym is) p, s.served.1) }) h
 
   pub atom_tried : (o : Option (Option Atom)) → goal_key n (arguments u) ≡ o → StandFor n d P q (going typing (with_goals b (e ∷ es))) (tries P u e (with_goals b es) height o)
-  atom_tried None k = stopped n d P q (going typing (with_goals b (e ∷ es))) Deep (λ r. cc)
+  atom_tried None k = lacked n d P q (going typing (with_goals b (e ∷ es)))
   atom_tried (Some key) k = record {
     typed = map try_of (candidates P e.assumed u key);
     is = map_tasks try_of (candidates P e.assumed u key);

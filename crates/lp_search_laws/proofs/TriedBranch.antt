@@ -5,13 +5,13 @@ use Rattle.lp_calculus.specs.Types.{Ty, instance}
 use Rattle.lp_calculus.specs.Term.{Term}
 use Rattle.lp_calculus.specs.Instance.{instance_term}
 use Rattle.lp_calculus.specs.Typing.{o_type}
-use Rattle.lp_model.specs.Faithful.{EachOf}
+use Rattle.lp_lemmas.specs.Each.{EachOf}
 use Rattle.lp_calculus.specs.Spine.{head_of}
 use Rattle.lp_model.specs.Types.{TypeBinding}
 use Rattle.lp_model.specs.Pair.{Pair}
 use Rattle.lp_model.specs.Rule.{type_pairs}
 use Rattle.lp_standard.specs.Schemes.{IsStandard}
-use Rattle.lp_model.specs.Flat.{Goal, Goals, no_goals, goals, Clause, clause, goal_list, type_goals, instantiate_goals, formula_of_goal, formula_of_goals, formula_of_clause}
+use Rattle.lp_model.specs.Flat.{Written, Goal, Goals, no_goals, goals, Clause, clause, goal_list, type_goals, instantiate_goals, formula_of_goal, formula_of_goals, formula_of_clause}
 use Rattle.lp_model.specs.Branch.{Entry, Branch, entries}
 use Rattle.lp_model.specs.Search.{renewed}
 use Rattle.lp_model.specs.Proofs.{Declared}
@@ -38,7 +38,7 @@ values_wider d V W m [] [] h = tt
 values_wider d V W m [] (T ∷ Ts) h = absurd h
 values_wider d V W m (t ∷ ts) [] h = absurd h
 values_wider d V W m (t ∷ ts) (T ∷ Ts) h =
-    (record { typed = typed_grows (in_scope d [] V) (in_scope d [] W) (scope_grows d [] [] V W (prefix_none []) m) [] t T h.0.typed; outermost = h.0.outermost }, values_wider d V W m ts Ts h.1)
+    (record { typed = typed_grows (in_scope d [] V) (in_scope d [] W) (scope_grows d [] [] V W (prefix_none []) m) [] t T h.0.typed; outermost = h.0.outermost; positive = h.0.positive }, values_wider d V W m ts Ts h.1)
 
 pairs_wider : (d : Declared) (V W : List Variable) → IsMore V W → (ts : List PairTyping) (ps : List Pair) → AreTypedPairs d V ts ps → AreTypedPairs d W ts ps
 pairs_wider d V W m [] [] h = tt
@@ -75,13 +75,13 @@ goals_at d std E V ts (goals g (goals x gs)) h =
     let r = both_typed d (map (instance (types_of ts)) E) (map (instance_variable (types_of ts)) V) 0 (instance_term (types_of ts) (formula_of_goal g)) (instance_term (types_of ts) (formula_of_goals (goals x gs))) (connective d std 0 (omega arith)) h in
     (r.0, goals_at d std E V ts (goals x gs) r.1)
 
-new_entries : (d : Declared) (E : List Ty) (V : List Variable) (ts : List TypeBinding) (A : List Clause) (level mark : ℕ) → length E ≡ level → EachOf (λ k. IsTypedAt d E V ts (formula_of_clause k)) A → (gs : List Goal) → EachOf (λ g. IsTypedAt d E V ts (formula_of_goal g)) gs → AreEntriesAt d V ts (map (λ g. E) gs) (entries gs A level mark)
-new_entries d E V ts A level mark l a [] h = tt
-new_entries d E V ts A level mark l a (g ∷ gs) h = (record { level = l; goal = h.0; assumed = a }, new_entries d E V ts A level mark l a gs h.1)
+new_entries : (d : Declared) (E : List Ty) (V : List Variable) (ts : List TypeBinding) (A : List Clause) (W : Written) (level mark : ℕ) → length E ≡ level → EachOf (λ k. IsTypedAt d E V ts (formula_of_clause k)) A → (gs : List Goal) → EachOf (λ g. IsTypedAt d E V ts (formula_of_goal g)) gs → AreEntriesAt d V ts (map (λ g. E) gs) (entries gs A W level mark)
+new_entries d E V ts A W level mark l a [] h = tt
+new_entries d E V ts A W level mark l a (g ∷ gs) h = (record { level = l; goal = h.0; assumed = a }, new_entries d E V ts A W level mark l a gs h.1)
 
-new_plain : (j : ℕ) (E : List Ty) (A : List Clause) (level mark : ℕ) → AreTypesBelow j E → EachOf (IsAssumable j) A → (gs : List Goal) → EachOf (IsGoal j []) gs → ArePlainEntries j (map (λ g. E) gs) (entries gs A level mark)
-new_plain j E A level mark e a [] h = tt
-new_plain j E A level mark e a (g ∷ gs) h = (record { eigens = e; goal = h.0; assumed = a }, new_plain j E A level mark e a gs h.1)
+new_plain : (j : ℕ) (E : List Ty) (A : List Clause) (W : Written) (level mark : ℕ) → AreTypesBelow j E → EachOf (IsAssumable j) A → (gs : List Goal) → EachOf (IsGoal j []) gs → ArePlainEntries j (map (λ g. E) gs) (entries gs A W level mark)
+new_plain j E A W level mark e a [] h = tt
+new_plain j E A W level mark e a (g ∷ gs) h = (record { eigens = e; goal = h.0; assumed = a }, new_plain j E A W level mark e a gs h.1)
 
 each_append : {A : Type 0} (X : A → Type 0) (xs ys : List A) → EachOf X xs → EachOf X ys → EachOf X (xs ++ ys)
 each_append X [] ys h k = k
@@ -127,8 +127,8 @@ module _ (n : ℕ) (d : Declared) (std : IsStandard d) (P : List Clause) (progra
       let f = tries.entries n d std P program q y k vs h g t e b w E Es is in
       let r = body_typed d E V e.level f.0.level (map (instance ρ) vs) head (formula_of_goals (type_goals ρ g)) t (tries.try_matches n d std P program q y k vs h g t e b w E Es is) (types_of ts) u in
       let s = transport (IsTypedAt d E (V ++ N) ts) (sym (goals_instantiate values (type_goals ρ g))) r in
-      at_append d (V ++ N) ts (map (λ x. E) (goal_list body)) Es (entries (goal_list body) e.assumed e.level mark) b.goals
-      (new_entries d E (V ++ N) ts e.assumed e.level mark f.0.level o.0.assumed (goal_list body) (goals_at d std E (V ++ N) ts body s)) o.1
+      at_append d (V ++ N) ts (map (λ x. E) (goal_list body)) Es (entries (goal_list body) e.assumed e.written e.level mark) b.goals
+      (new_entries d E (V ++ N) ts e.assumed e.written e.level mark f.0.level o.0.assumed (goal_list body) (goals_at d std E (V ++ N) ts body s)) o.1
 
   answer : IsWellFormed d q here_typing.answer (answer_of here)
   answer = record {
@@ -149,8 +149,8 @@ module _ (n : ℕ) (d : Declared) (std : IsStandard d) (P : List Clause) (progra
         types = types_more b.next_type j (omega arith) b.types w.branch.types;
         values = values_more b.next_type j (omega arith) b.values w.branch.values;
         pairs = pairs_more b.next_type j (omega arith) b.pairs w.branch.pairs;
-        goals = plain_append j (map (λ x. E) (goal_list body)) Es (entries (goal_list body) e.assumed e.level mark) b.goals
-            (new_plain j E e.assumed e.level mark (types_more b.next_type j (omega arith) E p.0.eigens) (assumable_more b.next_type j (omega arith) e.assumed p.0.assumed) (goal_list body) (goals_each j [] body goals_plain))
+        goals = plain_append j (map (λ x. E) (goal_list body)) Es (entries (goal_list body) e.assumed e.written e.level mark) b.goals
+            (new_plain j E e.assumed e.written e.level mark (types_more b.next_type j (omega arith) E p.0.eigens) (assumable_more b.next_type j (omega arith) e.assumed p.0.assumed) (goal_list body) (goals_each j [] body goals_plain))
             (entries_more b.next_type j (omega arith) Es b.goals p.1);
         stuck = w.branch.stuck;
       }

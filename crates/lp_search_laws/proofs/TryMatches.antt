@@ -10,7 +10,7 @@ use Rattle.lp_calculus.specs.Instance.{instance_term}
 use Rattle.lp_calculus.specs.Typing.{Typed, Context, scheme_type, o_type}
 use Rattle.lp_calculus.specs.Closed.{AllAtoms}
 use Rattle.lp_standard.specs.Positive.{IsPositive, IsPositiveAtom}
-use Rattle.lp_model.specs.Faithful.{AnyOf, EachOf}
+use Rattle.lp_lemmas.specs.Each.{AnyOf, EachOf}
 use Rattle.lp_standard.specs.Connectives.{two, pi_of}
 use Rattle.lp_standard.specs.Schemes.{IsStandard}
 use Rattle.lp_model.specs.Same.{same_name}

@@ -9,15 +9,15 @@ use Rattle.lp_calculus.specs.Instance.{instance_term}
 use Rattle.lp_calculus.specs.Typing.{o_type}
 use Rattle.lp_calculus.specs.Closed.{IsClosedType}
 use Rattle.lp_calculus.proofs.Steps.{converts_on, converts_is}
-use Rattle.lp_model.specs.Faithful.{EachOf}
+use Rattle.lp_lemmas.specs.Each.{EachOf}
 use Rattle.lp_calculus.specs.Spine.{head_of, arguments}
 use Rattle.lp_model.specs.Index.{instantiate}
 use Rattle.lp_model.specs.Rule.{type_pairs}
 use Rattle.lp_model.specs.Pair.{Pair, Closing, closed, SolvesAll}
 use Rattle.lp_standard.specs.Schemes.{IsStandard}
 use Rattle.lp_model.specs.Search.{renewed, pairs_of}
-use Rattle.lp_model.specs.Proofs.{Declared, IsFormula, IsWitness, Provable}
-use Rattle.lp_model.specs.Flat.{Goal, Goals, Clause, clause, goal_list, instantiate_goals, type_goals, formula_of_goal, formula_of_goals, formula_of_clause}
+use Rattle.lp_model.specs.Proofs.{Declared, IsFormula, IsWitness, PlainlyProvable}
+use Rattle.lp_model.specs.Flat.{Written, Goal, Goals, Clause, clause, goal_list, instantiate_goals, type_goals, formula_of_goal, formula_of_goals, formula_of_clause}
 use Rattle.lp_model.specs.Branch.{Entry, Branch, entries}
 use Rattle.lp_model.specs.Answers.{Query, Instance, Variable, PairTyping, AreTypedPairs, AreTypedValues, Closes}
 use Rattle.lp_unify_laws.specs.TypeSolutions.{Unifies}
@@ -40,9 +40,9 @@ use Rattle.lp_search_laws.proofs.Resumed.{IsSame, AreSame, same_assumed, same_pr
 use Rattle.lp_search_laws.proofs.TryMatches.{any_each, try_matches}
 use Rattle.lp_search_laws.proofs.TrySolved.{with_types, with_old, with_new, with_closed, types_given, given_long, given_closed, given_type, MayHave, renewed_types, same_clause, applies_on, applies_back}
 
-split_entries : (d : Declared) (P : List Clause) (c : Closing) (E : List Ty) (Es : List (List Ty)) (A : List Clause) (level mark : ℕ) (gs : List Goal) (es : List Entry) → AreProved d P c (each_at E gs ++ Es) (entries gs A level mark ++ es) → AreProved d P c (each_at E gs) (entries gs A level mark) × AreProved d P c Es es
-split_entries d P c E Es A l m [] es h = (tt, h)
-split_entries d P c E Es A l m (g ∷ gs) es h = let r = split_entries d P c E Es A l m gs es h.1 in ((h.0, r.0), r.1)
+split_entries : (d : Declared) (P : List Clause) (c : Closing) (E : List Ty) (Es : List (List Ty)) (A : List Clause) (W : Written) (level mark : ℕ) (gs : List Goal) (es : List Entry) → AreProved d P c (each_at E gs ++ Es) (entries gs A W level mark ++ es) → AreProved d P c (each_at E gs) (entries gs A W level mark) × AreProved d P c Es es
+split_entries d P c E Es A W l m [] es h = (tt, h)
+split_entries d P c E Es A W l m (g ∷ gs) es h = let r = split_entries d P c E Es A W l m gs es h.1 in ((h.0, r.0), r.1)
 
 agree_closes : (d : Declared) (j : ℕ) (V : List Variable) (c z : Closing) → EachOf (IsPlainVariable j) V → z.terms ≡ c.terms → ((i : ℕ) → i < j → z.types i ≡ c.types i) → ((i : ℕ) → IsClosedType (z.types i)) → Closes d V c → Closes d V z
 agree_closes d j V c z p e a t h = record {
@@ -139,9 +139,9 @@ module _ (n : ℕ) (d : Declared) (std : IsStandard d) (P : List Clause) (progra
       let cl = closes_front d V N z cl' in
       let F = map (instance z.types) E in
       let R = clauses_at P e.assumed z in
-      let x = split_entries d P z E Es e.assumed e.level mark gl b.goals s.branch.proved in
-      let each = hold_entries d P z E e.assumed e.level mark gl x.0 in
-      let p = transport (λ u. Provable d F R (closed z u)) (goals_instantiate σ g') ((goals_in_turn d std F R z (instantiate_goals σ g') (formula z cl' s.types)).1 each) in
+      let x = split_entries d P z E Es e.assumed e.written e.level mark gl b.goals s.branch.proved in
+      let each = hold_entries d P z E e.assumed e.written e.level mark gl x.0 in
+      let p = transport (λ u. PlainlyProvable d F R (closed z u)) (goals_instantiate σ g') ((goals_in_turn d std F R z (instantiate_goals σ g') (formula z cl' s.types)).1 each) in
       let a = match_applies d E V R e.level vs' h' g' t z typed.0.level matches (record { closes = cl'; types = s.types; pairs = s.pairs; goals = p }) in
       let f = λ (l : ℕ). z.types (b.next_type + l) in
       let ts = types_given k f in
@@ -178,7 +178,7 @@ module _ (n : ℕ) (d : Declared) (std : IsStandard d) (P : List Clause) (progra
       let same_clauses : R0 ≡ clauses_at P e.assumed z = ap (λ X. map sentence_of P ++ X) (same_assumed c0 z e.assumed (clauses_same d b.next_type V c0 z gives E e.assumed typed.0.assumed plain.0.assumed)) in
       let F = map (instance z.types) E in
       let R = clauses_at P e.assumed z in
-      let p = transport (λ u. Provable d F R (closed z u)) (sym (goals_instantiate σ g')) (transport (λ X. Provable d F X (closed z (instantiate σ (formula_of_goals g')))) same_clauses sm.goals) in
+      let p = transport (λ u. PlainlyProvable d F R (closed z u)) (sym (goals_instantiate σ g')) (transport (λ X. PlainlyProvable d F X (closed z (instantiate σ (formula_of_goals g')))) same_clauses sm.goals) in
       let each = (goals_in_turn d std F R z (instantiate_goals σ g') (formula z sm.closes sm.types)).0 p in
       let rest = same_proved d P c0 z Es b.goals (entries_same d b.next_type V c0 z types gives Es b.goals typed.1 plain.1) sv.1 in
       record {
@@ -191,7 +191,7 @@ module _ (n : ℕ) (d : Declared) (std : IsStandard d) (P : List Clause) (progra
             types = sym (agree_list b.next_type c0.types z.types types b.types w.branch.types) ∙ s.answer.types;
             values = convert_first (closed c0) (closed z) b.values i.values (values_same d b.next_type V c0 z gives b.values _ w.branch.answer.values w.branch.values) s.answer.values;
           };
-          proved = proved_append d P z (each_at E gl) Es (entries gl e.assumed e.level mark) b.goals (entries_hold d P z E e.assumed e.level mark gl each) rest;
+          proved = proved_append d P z (each_at E gl) Es (entries gl e.assumed e.written e.level mark) b.goals (entries_hold d P z E e.assumed e.written e.level mark gl each) rest;
         };
         types = sm.types;
         pairs = sm.pairs;

@@ -3,7 +3,8 @@ use Rattle.std.proofs.Common.{◌≡◌, ℕ, List, [], ◌∷◌, map, subst as
 use Rattle.lp_calculus.specs.Types.{Ty, instance}
 use Rattle.lp_calculus.specs.Term.{Term}
 use Rattle.lp_calculus.specs.Instance.{instance_term}
-use Rattle.lp_model.specs.Faithful.{EachOf}
+use Rattle.lp_model.specs.Unify.{unit_limit}
+use Rattle.lp_lemmas.specs.Each.{EachOf}
 use Rattle.lp_calculus.specs.Spine.{head_of, arguments}
 use Rattle.lp_model.specs.Types.{TypePair}
 use Rattle.lp_model.specs.Pair.{Pair}
@@ -48,11 +49,11 @@ module _ (n : ℕ) (d : Declared) (std : IsStandard d) (P : List Clause) (progra
   -- where its solutions are those of the branch that solve the equations and the pairs
   pub stands : ((i : Instance) → Sol d P q i here → SolvesWith d P q i (tried_typing y E Es k vs h g t e b) (tried_branch_of V k vs h g t e b mark) equations pairs) →
       ((i : Instance) → SolvesWith d P q i (tried_typing y E Es k vs h g t e b) (tried_branch_of V k vs h g t e b mark) equations pairs → Sol d P q i here) →
-      StandFor n d P q here (try_clause n (clause k vs h g) t e b mark)
+      StandFor n d P q here (try_clause unit_limit n (clause k vs h g) t e b mark)
   stands to from =
       let f = tries.entries n d std P program q y k vs h g t e b w E Es is in
       let m = tries.try_matches n d std P program q y k vs h g t e b w E Es is in
-      transport (λ x. StandFor n d P q here (tried n k vs head (type_goals ρ g) t e b mark (slotted (slots_of [] (arguments head) (arguments t)) x e.level))) w.branch.answer.variables (
+      transport (λ x. StandFor n d P q here (tried unit_limit n k vs head (type_goals ρ g) t e b mark (slotted (slots_of [] (arguments head) (arguments t)) x e.level))) w.branch.answer.variables (
       follows n d P q (tried_typing y E Es k vs h g t e b) (tried_branch_of V k vs h g t e b mark) equations pairs
       (tried_branch n d std P program q y k vs h g t e b mark w E Es is (new_goals_plain n d std P program q y k vs h g t e b w E Es is) (new_variables_plain n d std P program q y k vs h g t e b w E Es is))
       (λ θ u. match_typed d E V e.level f.0.level (map (instance ρ) vs) head (formula_of_goals (type_goals ρ g)) t m θ u)

@@ -11,7 +11,7 @@ use Rattle.lp_calculus.specs.Closed.{AllAtoms}
 use Rattle.lp_calculus.proofs.Steps.{within_reduces}
 use Rattle.lp_calculus.proofs.BetaEta.{shift_one}
 use Rattle.lp_calculus.proofs.Sigma.{rename}
-use Rattle.lp_model.specs.Faithful.{EachOf}
+use Rattle.lp_lemmas.specs.Each.{EachOf}
 use Rattle.lp_model.specs.Index.{instantiate, lifted}
 use Rattle.lp_calculus.specs.Spine.{head_of}
 use Rattle.lp_standard.specs.Connectives.{two, body_of}
@@ -164,8 +164,8 @@ mutual
   goal_put k B D f m (Either gs hs) h = (goals_put k B D f m gs h.0, goals_put k B D f m hs h.1)
   goal_put k B D f m (Exists T gs) h = (h.0, goals_put k (false ∷ B) (false ∷ D) (lifted f) (put_below k false B D f m) gs h.1)
   goal_put k B D f m (Forall T gs) h = (h.0, goals_put k (true ∷ B) (true ∷ D) (lifted f) (put_below k true B D f m) gs h.1)
-  goal_put k B D f m (Assume cs gs) h = (clauses_put k B D f m cs h.0, goals_put k B D f m gs h.1)
-  goal_put k B D f m (Not gs) h = absurd h
+  goal_put k B D f m (Assume ws cs gs) h = (clauses_put k B D f m cs h.0, goals_put k B D f m gs h.1)
+  goal_put k B D f m (Not ws gs) h = absurd h
 
   pub goals_put : (k : ℕ) (B D : List Bool) (f : ℕ → Term) → MayPut k B D f → (gs : Goals) → AreGoals k B gs → AreGoals k D (map_goals lifted instantiate same_type f gs)
   goals_put k B D f m no_goals h = tt

@@ -5,7 +5,7 @@ use Rattle.std.specs.Prelude.{nat_lt}
 use mathlib.Core.Path.{fun_ext}
 use Rattle.lp_calculus.specs.Types.{Ty, Tys, var, param, con, arrow, no_types, types, instance, instances}
 use Rattle.lp_calculus.proofs.TypeLaws.{instance-instance}
-use Rattle.lp_model.specs.Faithful.{EachOf}
+use Rattle.lp_lemmas.specs.Each.{EachOf}
 use Rattle.lp_model.specs.Types.{TypePair, TypeBinding, one_type, put_type, put_types, put_in_pair, Visited, and_then, visit, visit_all, TypeVerdict, differ, parts, bound, TypeRuled, parts_of, bind_type, plainly, of_parts, type_rule, none, solved, solve_types}
 use Rattle.lp_unify_laws.specs.TypeSolutions.{Satisfies}
 use Rattle.lp_unify_laws.proofs.TypeSolving.{satisfies_append}

@@ -7,7 +7,7 @@ use Rattle.lp_calculus.specs.Fill.{Binding}
 use Rattle.lp_calculus.specs.Term.{Term}
 use Rattle.lp_calculus.specs.Instance.{instance_term}
 use Rattle.lp_calculus.specs.Typing.{o_type}
-use Rattle.lp_model.specs.Faithful.{EachOf}
+use Rattle.lp_lemmas.specs.Each.{EachOf}
 use Rattle.lp_model.specs.Flat.{Clause, formula_of_goal, formula_of_clause}
 use Rattle.lp_model.specs.Types.{TypeBinding, TypePair, put_types}
 use Rattle.lp_model.specs.Pair.{Pair, Closing, SolvesAll}

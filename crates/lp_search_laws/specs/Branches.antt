@@ -9,8 +9,8 @@ use Rattle.lp_calculus.specs.Closed.{AreClosed, AllAtoms}
 use Rattle.lp_standard.specs.Positive.{IsPositiveAtom}
 use Rattle.lp_model.specs.declared.ending.Ending.{Ending}
 use Rattle.lp_model.specs.declared.ending.Ending.TheVariants.{NoMore}
-use Rattle.lp_model.specs.Faithful.{AnyOf, EachOf}
-use Rattle.lp_model.specs.Skeleton.{View, Gives, Opens, Parts, Takes, Cuts, Halts}
+use Rattle.lp_lemmas.specs.Each.{AnyOf, EachOf}
+use Rattle.lp_model.specs.Skeleton.{View, Gives, Opens, Parts, Takes, Cuts, Denies, Halts, Lacks}
 use Rattle.lp_calculus.specs.Spine.{head_of}
 use Rattle.lp_model.specs.Look.{head_normal}
 use Rattle.lp_standard.specs.Connectives.{connective_of}
@@ -19,7 +19,7 @@ use Rattle.lp_model.specs.Pair.{Pair, Closing, closed}
 use Rattle.lp_model.specs.Flat.{Goal, Atomic, Cut, Either, Exists, Forall, Assume, Not, Goals, no_goals, goals, Clause, clause, Clauses, no_clauses, clauses, formula_of_goal, formula_of_clause}
 use Rattle.lp_model.specs.Proofs.{Declared, IsAtomHead}
 use Rattle.lp_model.specs.Answers.{Query, Variable, AnswerTyping, Instance, AreWitnesses, IsInstance, IsWellFormed}
-use Rattle.lp_model.specs.Branch.{Entry, Branch, Answer, Task, Go, Try, Stop}
+use Rattle.lp_model.specs.Branch.{Entry, Branch, Answer, Task, Go, Try, Stop, Lack}
 use Rattle.lp_model.specs.Search.{with_goals, has_head}
 use Rattle.lp_unify_laws.specs.Solutions.{AreStuck}
 use Rattle.lp_search_laws.specs.Holds.{Holds, IsTyped}
@@ -58,9 +58,9 @@ abbrev mutual
   IsGoal k B (Either gs hs) = AreGoals k B gs × AreGoals k B hs
   IsGoal k B (Exists T gs) = IsTypeBelow k T × AreGoals k (false ∷ B) gs
   IsGoal k B (Forall T gs) = IsTypeBelow k T × AreGoals k (true ∷ B) gs
-  IsGoal k B (Assume cs gs) = AreClauses k B cs × AreGoals k B gs
-  -- no text has a negated goal yet
-  IsGoal k B (Not gs) = ⊥
+  IsGoal k B (Assume ws cs gs) = AreClauses k B cs × AreGoals k B gs
+  -- these laws are of programs without negation
+  IsGoal k B (Not ws gs) = ⊥
 
   pub AreGoals : (k : ℕ) → (binders : List Bool) → Goals → Type 0
   AreGoals k B no_goals = Unit {0}
@@ -170,7 +170,7 @@ pub record SolvesAs (n : ℕ) (d : Declared) (P : List Clause) (q : Query) (y : 
 
 -- the entry's place with the atom in it
 abbrev pub with_atom : Entry → Term → Entry
-with_atom e t = record { goal = Atomic t; assumed = e.assumed; level = e.level; mark = e.mark }
+with_atom e t = record { goal = Atomic t; assumed = e.assumed; written = e.written; level = e.level; mark = e.mark }
 
 abbrev pub IsAmong : Clause → List Clause → Type 0
 IsAmong c cs = AnyOf (λ x. x ≡ c) cs
@@ -199,21 +199,26 @@ pub data TypedTask : Type 0 where
   trying : BranchTyping → Clause → Term → Entry → Branch → (mark : ℕ) → TypedTask
   -- the search stops in the place of a task
   stopping : Ending → TypedTask → TypedTask
+  -- the look lacks steps
+  lacking : TypedTask → TypedTask
 
 abbrev pub task_of : TypedTask → Task
 task_of (going y b) = Go b
 task_of (trying y c t e b mark) = Try c t e b mark
 task_of (stopping e T) = Stop e
+task_of (lacking T) = Lack
 
 abbrev pub IsOk : (n : ℕ) → Declared → (P : List Clause) → Query → TypedTask → Type 0
 IsOk n d P q (going y b) = IsTypedBranch n d q y b
 IsOk n d P q (trying y c t e b mark) = IsTypedTry n d P q y c t e b
 IsOk n d P q (stopping e T) = e ≢ NoMore
+IsOk n d P q (lacking T) = Unit {0}
 
 abbrev pub Sol : Declared → (P : List Clause) → Query → Instance → TypedTask → Type 0
 Sol d P q i (going y b) = SolvesBranch d P q i y b
 Sol d P q i (trying y c t e b mark) = SolvesTry d P q i y c t e b
 Sol d P q i (stopping e T) = Sol d P q i T
+Sol d P q i (lacking T) = Sol d P q i T
 
 -- what is owed
 
@@ -239,7 +244,9 @@ IsRightView n d P q T (Opens ts) = StandFor n d P q T ts
 IsRightView n d P q T (Parts ts) = StandFor n d P q T ts
 IsRightView n d P q T (Takes name ts) = StandFor n d P q T ts
 IsRightView n d P q T (Cuts m ts) = StandFor n d P q T ts
+IsRightView n d P q T (Denies t is_final ts) = ⊥
 IsRightView n d P q T (Halts e) = e ≢ NoMore
+IsRightView n d P q T Lacks = Unit {0}
 
 -- the goal is known at run time, and no connective is at the head of its head-normal form
 pub record IsAtAtom (n : ℕ) (e : Entry) : Type 0 where

@@ -12,7 +12,7 @@ use Rattle.lp_calculus.specs.Spine.{head_of}
 use Rattle.lp_model.specs.Pair.{Closing, closed}
 use Rattle.lp_model.specs.Flat.{Clause, clause, Goals, formula_of_goals, formula_of_clause}
 use Rattle.lp_model.specs.Flatten.{ClauseFormula}
-use Rattle.lp_model.specs.Proofs.{Declared, IsFormula, IsSentence, IsWitness, IsAtomHead, Provable, Focusable, assumed}
+use Rattle.lp_model.specs.Proofs.{Declared, IsFormula, IsSentence, IsWitness, IsAtomHead, PlainlyProvable, PlainlyFocusable, assumed}
 
 -- terms for variables of these types, in the same order, at the eigenconstants E
 abbrev pub AreWitnessesAt : Declared → (E : List Ty) → List Term → List Ty → Type 0
@@ -30,7 +30,7 @@ pub record Applies (d : Declared) (E : List Ty) (P : List ClauseFormula) (c : Cl
   pub values : List Term
   pub witnesses : AreWitnessesAt d E values (map (instance c.types) vs)
   pub head : Converts (instantiate (at values) (closed c h)) A
-  pub goals : Provable d E P (instantiate (at values) (closed c (formula_of_goals body)))
+  pub goals : PlainlyProvable d E P (instantiate (at values) (closed c (formula_of_goals body)))
 
 -- with closed types for its k type variables
 pub record IsServing (d : Declared) (E : List Ty) (P : List ClauseFormula) (c : Closing) (k : ℕ) (vs : List Ty) (h : Term) (body : Goals) (A : Term) : Type 0 where
@@ -47,7 +47,7 @@ pub record IsInFocus (d : Declared) (E : List Ty) (P : List ClauseFormula) (D : 
   pub types : List Ty
   pub long : length types ≡ D.type_vars
   pub types_closed : AreClosed types
-  pub focus : Focusable d E P (instance_term (type_at types) D.formula) A
+  pub focus : PlainlyFocusable d E P (instance_term (type_at types) D.formula) A
 
 -- a flattened clause as a sentence
 abbrev pub sentence_of : Clause → ClauseFormula

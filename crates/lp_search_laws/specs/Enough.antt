@@ -10,9 +10,9 @@ use Rattle.lp_standard.specs.Connectives as connective
 use Rattle.lp_model.specs.Rule.{type_pairs}
 use Rattle.lp_model.specs.Unify.{solve, unit_limit}
 use Rattle.lp_model.specs.Values.{Value, Outcome, Is, evaluate, term_of}
-use Rattle.lp_model.specs.Flat.{Atomic, Clause, clause}
-use Rattle.lp_model.specs.Branch.{Entry, Branch, Task, Go, Try, Stop}
-use Rattle.lp_model.specs.Search.{goal_key, slots_of, slotted, pairs_of, renewed}
+use Rattle.lp_model.specs.Flat.{Atomic, Not, Written, Goals, Clause, clause}
+use Rattle.lp_model.specs.Branch.{Entry, Branch, Task, Go, Try, Stop, Lack, both_written}
+use Rattle.lp_model.specs.Search.{has_variables, goal_key, slots_of, slotted, pairs_of, renewed}
 use Rattle.lp_search_laws.specs.Holds.{equation}
 
 abbrev pub IsFound : {A : Type 0} → Option A → Type 0
@@ -60,6 +60,9 @@ abbrev pub ClauseHasEnough : (n : ℕ) → Clause → (goal : Term) → Entry �
 ClauseHasEnough n (clause k vs h body) t e b = TryHasEnough n vs (instance_term (renewed k b.next_type) h) t e b
 
 abbrev pub HasEnough : ℕ → Task → Type 0
-HasEnough n (Go b) = (e : Entry) (es : List Entry) (t : Term) → b.goals ≡ e ∷ es → e.goal ≡ Atomic t → TermHasEnough n e.level b t
+HasEnough n (Go b) =
+    ((e : Entry) (es : List Entry) (t : Term) → b.goals ≡ e ∷ es → e.goal ≡ Atomic t → TermHasEnough n e.level b t) ×
+    ((e : Entry) (es : List Entry) (w : Written) (gs : Goals) → b.goals ≡ e ∷ es → e.goal ≡ Not w gs → IsFound (has_variables n (both_written w e.written)))
 HasEnough n (Try c t e b mark) = ClauseHasEnough n c t e b
 HasEnough n (Stop e) = Unit {0}
+HasEnough n Lack = Unit {0}

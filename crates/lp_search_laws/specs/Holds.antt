@@ -11,13 +11,13 @@ use Rattle.lp_calculus.specs.Instance.{instance_term}
 use Rattle.lp_unify_laws.specs.Solutions.{at_types, instance_binding, through_bindings, KeepsTypings, KeptClosing}
 use Rattle.lp_model.specs.Flatten.{ClauseFormula}
 use Rattle.lp_model.specs.Flat.{Goal, Atomic, Cut, Either, Exists, Forall, Assume, Not, formula_of_goals, formula_of_clauses}
-use Rattle.lp_model.specs.Proofs.{Declared, IsWitness, IsFormula, Provable, assumed}
+use Rattle.lp_model.specs.Proofs.{Declared, IsWitness, IsFormula, PlainlyProvable, assumed}
 use Rattle.lp_standard.specs.Connectives.{two, not_of, Connective}
 use Rattle.lp_standard.specs.Connectives as connective
 
 -- the term is provable as the closing makes it; E are the types of the eigenconstants
 abbrev pub Holds : Declared → (E : List Ty) → (P : List ClauseFormula) → Closing → Term → Type 0
-Holds d E P c t = Provable d E P (closed c t)
+Holds d E P c t = PlainlyProvable d E P (closed c t)
 
 -- the closing with another term for one variable
 abbrev pub with_value : Closing → (x l : ℕ) → Term → Closing
@@ -70,8 +70,8 @@ GoalHolds d E P c x l Cut = Unit {0}
 GoalHolds d E P c x l (Either gs hs) = Holds d E P c (formula_of_goals gs) ⊎ Holds d E P c (formula_of_goals hs)
 GoalHolds d E P c x l (Forall T gs) = Holds d (E ++ instance c.types T ∷ []) P c (substitute (next_eigen E) (formula_of_goals gs))
 GoalHolds d E P c x l (Exists T gs) = (w : Term) × IsWitness d E w (instance c.types T) × Holds d E P (with_value c x l w) (substitute (atom (logic x l)) (formula_of_goals gs))
-GoalHolds d E P c x l (Not gs) = Holds d E P c (not_of (formula_of_goals gs))
-GoalHolds d E P c x l (Assume cs gs) = Holds d E (P ++ assumed (closed c (formula_of_clauses cs)) ∷ []) c (formula_of_goals gs)
+GoalHolds d E P c x l (Not ws gs) = Holds d E P c (not_of (formula_of_goals gs))
+GoalHolds d E P c x l (Assume ws cs gs) = Holds d E (P ++ assumed (closed c (formula_of_clauses cs)) ∷ []) c (formula_of_goals gs)
 
 abbrev pub equation : (l r : Term) → (level : ℕ) → List Pair
 equation l r k = record { left = l; right = r; level = k } ∷ []

@@ -1,43 +1,40 @@
 -- Typed queries, programs of flattened clauses, and what the search of a query starts with.
-use Rattle.std.specs.Prelude.{◌≡◌, ℕ, suc, ◌-◌, List, [], ◌∷◌, ◌++◌, map, length, reverse, Some}
+use Rattle.std.specs.Prelude.{◌≡◌, ◌≢◌, ℕ, suc, ◌-◌, List, [], ◌∷◌, ◌++◌, map, length, reverse, Some}
 use Rattle.lp_unify_laws.specs.TypesBelow.{IsTypeBelow, AreTypesBelow}
 use Rattle.lp_calculus.specs.Types.{Ty, instance}
 use Rattle.lp_calculus.specs.Term.{Atom, atom, constant, integer, text, eigen, logic, param}
 use Rattle.lp_calculus.specs.Fill.{Within}
-use Rattle.lp_calculus.specs.Typing.{Typed, o_type}
-use Rattle.lp_model.specs.Faithful.{EachOf}
+use Rattle.lp_calculus.specs.Closed.{AreClosed}
+use Rattle.lp_calculus.specs.Typing.{Typed, o_type, type_at}
+use Rattle.lp_standard.specs.Numbers as number
+use Rattle.lp_lemmas.specs.Each.{EachOf}
 use Rattle.lp_model.specs.Pair.{Closing, closed}
 use Rattle.lp_model.specs.Flat.{Goals, Clause, Clauses, clause_list, goal_list, instantiate_goals, formula_of_goal}
-use Rattle.lp_model.specs.Flatten.{ClauseFormula, flatten}
-use Rattle.lp_model.specs.Proofs.{Declared, under}
-use Rattle.lp_model.specs.Answers.{Query, Variable, Instance, Closes, ConvertEach}
+use Rattle.lp_model.specs.Flatten.{ClauseFormula}
+use Rattle.lp_model.specs.Proofs.{Declared, under, PlainlyProvable}
+use Rattle.lp_model.specs.Answers.{Query, Variable, Instance, Closes, ConvertEach, AreWitnesses, filled}
 use Rattle.lp_model.specs.Search.{vars_from, types_from}
 use Rattle.lp_search_laws.specs.Holds.{Holds}
 
--- an atom of a query: no logic variable and no eigenconstant, and only the query's type variables
+-- an atom of a query or a sentence: no logic variable, no eigenconstant and not the constant `not`, and only the type variables of its own
 abbrev pub IsQueryAtom : (k : ℕ) → Atom → Type 0
-IsQueryAtom k (constant c ts) = AreTypesBelow k ts
+IsQueryAtom k (constant c ts) = (c ≢ number.Not) × AreTypesBelow k ts
 IsQueryAtom k (integer z) = Unit {0}
 IsQueryAtom k (text s) = Unit {0}
 IsQueryAtom k (eigen n) = ⊥
 IsQueryAtom k (logic x l) = ⊥
 IsQueryAtom k (param n T) = IsTypeBelow k T
 
--- a query is typed over its type variables: its variables are the loose indices, the first one the outermost
+-- a query without negation is typed over its type variables: its variables are the loose indices, the first one the outermost
 pub record IsTypedQuery (d : Declared) (q : Query) : Type 0 where
   pub vars : AreTypesBelow q.type_vars q.vars
   pub typed : Typed (under d []) (reverse q.vars) q.formula o_type
   pub within : Within (IsQueryAtom q.type_vars) (length q.vars) q.formula
 
--- a sentence is typed over its type variables
+-- a sentence without negation is typed over its type variables
 pub record IsTypedSentence (d : Declared) (D : ClauseFormula) : Type 0 where
   pub typed : Typed (under d []) [] D.formula o_type
   pub within : Within (IsQueryAtom D.type_vars) 0 D.formula
-
--- the flattened clauses of each sentence, one sentence behind the other
-abbrev pub AreFlattened : (n : ℕ) → Declared → List ClauseFormula → List Clause → Type 0
-AreFlattened n d [] P = P ≡ []
-AreFlattened n d (D ∷ F) P = (cs : Clauses) × (R : List Clause) × (flatten n d D ≡ Some cs) × (P ≡ clause_list cs ++ R) × AreFlattened n d F R
 
 -- a variable of level 0
 abbrev pub outermost : Ty → Variable
@@ -50,3 +47,10 @@ pub record StartHolds (d : Declared) (P : List ClauseFormula) (q : Query) (gs : 
   pub types : map (instance closing.types) (types_from q.type_vars 0) ≡ i.types
   pub values : ConvertEach (map (closed closing) (vars_from (length q.vars) 0)) i.values
   pub holds : EachOf (λ g. Holds d [] P closing (formula_of_goal g)) (goal_list (instantiate_goals (λ k. atom (logic (length q.vars - suc k) 0)) gs))
+
+-- closed types, and closed positive terms of the variables' types, with which the query has a proof without failing searches
+pub record IsPlainlyProvable (d : Declared) (P : List ClauseFormula) (q : Query) (i : Instance) : Type 0 where
+  pub types : length i.types ≡ q.type_vars
+  pub types_closed : AreClosed i.types
+  pub values : AreWitnesses d i.values (map (instance (type_at i.types)) q.vars)
+  pub proved : PlainlyProvable d [] P (filled q i)

@@ -15,7 +15,7 @@ use Rattle.lp_model.specs.Branch.{Entry, Branch, entries}
 use Rattle.lp_model.specs.Flatten.{ClauseFormula}
 use Rattle.lp_model.specs.Flat.{Goals, goal_list, instantiate_goals, type_goals, formula_of_goals}
 use Rattle.lp_unify_laws.specs.TypeSolutions.{Unifies}
-use Rattle.lp_model.specs.Proofs.{Declared, Provable}
+use Rattle.lp_model.specs.Proofs.{Declared, PlainlyProvable}
 use Rattle.lp_model.specs.Answers.{Variable, over, IsScopedAtom, Closes}
 use Rattle.lp_search_laws.specs.Holds.{IsTyped}
 use Rattle.lp_search_laws.specs.Branches.{BranchTyping}
@@ -49,7 +49,7 @@ pub record SolvesMatch (d : Declared) (E : List Ty) (V : List Variable) (P : Lis
   pub closes : Closes d (V ++ new_variables E vs) z
   pub types : Unifies z.types (type_pairs (head_of t) (head_of h))
   pub pairs : SolvesAll z (pairs_of (tried_values V level h t) level [] (arguments h) (arguments t))
-  pub goals : Provable d (map (instance z.types) E) P (closed z (instantiate (tried_values V level h t) (formula_of_goals body)))
+  pub goals : PlainlyProvable d (map (instance z.types) E) P (closed z (instantiate (tried_values V level h t) (formula_of_goals body)))
 
 -- the closing with more variables
 pub record GoesOn (V : List Variable) (c z : Closing) : Type 0 where
@@ -67,7 +67,7 @@ abbrev pub tried_branch_of : (V : List Variable) → (k : ℕ) → (vs : List Ty
 tried_branch_of V k vs h g t e b mark = record {
   next = b.next + length vs;
   next_type = b.next_type + k;
-  goals = entries (goal_list (instantiate_goals (tried_values V e.level (instance_term (renewed k b.next_type) h) t) (type_goals (renewed k b.next_type) g))) e.assumed e.level mark ++ b.goals;
+  goals = entries (goal_list (instantiate_goals (tried_values V e.level (instance_term (renewed k b.next_type) h) t) (type_goals (renewed k b.next_type) g))) e.assumed e.written e.level mark ++ b.goals;
   types = b.types;
   values = b.values;
   pairs = b.pairs;

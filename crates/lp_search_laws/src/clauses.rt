@@ -4,9 +4,9 @@ ghost use Rattle.std.specs.Prelude.{◌≡◌, ℕ, List, ◌∷◌, Option, Som
 ghost use Rattle.lp_calculus.specs.Types.{Ty};
 ghost use Rattle.lp_calculus.specs.Term.{Term, Atom};
 ghost use Rattle.lp_calculus.specs.Spine.{head_of, arguments};
-ghost use Rattle.lp_model.specs.Faithful.{AnyOf, EachOf};
+ghost use Rattle.lp_lemmas.specs.Each.{AnyOf, EachOf};
 ghost use Rattle.lp_model.specs.Pair.{Closing, closed};
-ghost use Rattle.lp_model.specs.Proofs.{Declared, IsFormula, IsAtomHead, Focusable};
+ghost use Rattle.lp_model.specs.Proofs.{Declared, IsFormula, IsAtomHead, PlainlyFocusable};
 ghost use Rattle.lp_standard.specs.Schemes.{IsStandard};
 ghost use Rattle.lp_model.specs.Flat.{Goals, Atomic, Clause, clause, formula_of_clause};
 ghost use Rattle.lp_model.specs.Flatten.{ClauseFormula};
@@ -21,7 +21,7 @@ ghost use Rattle.lp_search_laws.specs.Clauses.{Applies, Serves, IsInFocus, IsPro
 /// One can focus on a clause that a closing makes closed, for an atom, exactly where there are terms for its variables with which its head is the
 /// atom and its goals are provable.
 pub fn clauses_in_focus()
-    ensures { (d : Declared) → IsStandard d → (E : List Ty) (P : List ClauseFormula) (c : Closing) (k : ℕ) (vs : List Ty) (h : Term) (body : Goals) (A : Term) → IsAtomHead (head_of h) → IsFormula d E (closed c (formula_of_clause (clause k vs h body))) → IsAtomHead (head_of A) → (Focusable d E P (closed c (formula_of_clause (clause k vs h body))) A → Applies d E P c vs h body A) × (Applies d E P c vs h body A → Focusable d E P (closed c (formula_of_clause (clause k vs h body))) A) }
+    ensures { (d : Declared) → IsStandard d → (E : List Ty) (P : List ClauseFormula) (c : Closing) (k : ℕ) (vs : List Ty) (h : Term) (body : Goals) (A : Term) → IsAtomHead (head_of h) → IsFormula d E (closed c (formula_of_clause (clause k vs h body))) → IsAtomHead (head_of A) → (PlainlyFocusable d E P (closed c (formula_of_clause (clause k vs h body))) A → Applies d E P c vs h body A) × (Applies d E P c vs h body A → PlainlyFocusable d E P (closed c (formula_of_clause (clause k vs h body))) A) }
 {}
 
 /// The same of a clause of the program, with types for its type variables; the closing is any.

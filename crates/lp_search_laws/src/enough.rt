@@ -2,7 +2,8 @@
 
 ghost use Rattle.std.specs.Prelude.{◌≡◌, ◌≤◌, ℕ, List};
 ghost use Rattle.lp_calculus.specs.Term.{Term};
-ghost use Rattle.lp_model.specs.Faithful.{EachOf};
+ghost use Rattle.lp_model.specs.Unify.{unit_limit};
+ghost use Rattle.lp_lemmas.specs.Each.{EachOf};
 ghost use Rattle.lp_model.specs.Flat.{Clause};
 ghost use Rattle.lp_model.specs.Search.{look};
 ghost use Rattle.lp_model.specs.Branch.{Entry, Branch, Task, Go, Try};
@@ -29,5 +30,5 @@ pub fn more_steps_are_enough()
 
 /// And they see the same.
 pub fn enough_steps_see_all()
-    ensures { (n m : ℕ) → n ≤ m → (P : List Clause) (height : ℕ) (t : Task) → HasEnough n t → look m P height t ≡ look n P height t }
+    ensures { (n m : ℕ) → n ≤ m → (P : List Clause) (height : ℕ) (t : Task) → HasEnough n t → look unit_limit m P height t ≡ look unit_limit n P height t }
 {}

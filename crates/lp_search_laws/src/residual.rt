@@ -3,7 +3,7 @@
 ghost use Rattle.std.specs.Prelude.{◌≡◌, ℕ, ◌<◌, List, Some};
 ghost use Rattle.lp_unify_laws.specs.TypesBelow.{IsTypeBelow};
 ghost use Rattle.lp_calculus.specs.Types.{var};
-ghost use Rattle.lp_model.specs.Faithful.{EachOf};
+ghost use Rattle.lp_lemmas.specs.Each.{EachOf};
 ghost use Rattle.lp_model.specs.Types.{TypePair, put_types};
 ghost use Rattle.lp_model.specs.Pair.{Pair};
 ghost use Rattle.lp_model.specs.Unify.{State, Solution, solve};

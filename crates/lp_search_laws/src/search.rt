@@ -1,19 +1,18 @@
 // The plain search of hereditary Harrop goals.
 
-ghost use Rattle.std.specs.Prelude.{◌≡◌, ◌≢◌, ◌≤◌, ℕ, List, Some};
-ghost use Rattle.lp_model.specs.declared.ending.Ending.TheVariants.{Deep};
-ghost use Rattle.lp_model.specs.Branch.{Task};
+ghost use Rattle.std.specs.Prelude.{◌≡◌, ◌≤◌, ℕ, List, Some};
+ghost use Rattle.lp_model.specs.Branch.{Answer, Task};
 ghost use Rattle.lp_model.specs.declared.ending.Ending.{Ending};
 ghost use Rattle.lp_model.specs.Flat.{Clause};
-ghost use Rattle.lp_model.specs.Search.{look};
-ghost use Rattle.lp_model.specs.Skeleton.{State, run};
+ghost use Rattle.lp_model.specs.Search.{ComesTo, look};
+ghost use Rattle.lp_model.specs.Skeleton.{State, Told, run};
 
-/// Each search ends.
-pub fn search_ends()
-    ensures { (n : ℕ) → (P : List Clause) → (s : State Task) → (m : ℕ) × (e : Ending) × ((run (look n P) m s).ending ≡ Some e) }
+/// A run that is over is the same with more steps for each look, more moves in each search of a negated goal, and more moves.
+pub fn more_steps_change_nothing()
+    ensures { (units n m : ℕ) → n ≤ m → (P : List Clause) → (j k i l : ℕ) → j ≤ k → i ≤ l → (s : State Task) → (e : Ending) → (run (look units n P) j i s).ending ≡ Some e → run (look units m P) k l s ≡ run (look units n P) j i s }
 {}
 
-/// More steps for head reduction change nothing of a run that ends otherwise than with `Deep`.
-pub fn more_steps_change_nothing()
-    ensures { (n m : ℕ) → n ≤ m → (P : List Clause) → (j : ℕ) → (s : State Task) → (e : Ending) → e ≢ Deep → (run (look n P) j s).ending ≡ Some e → run (look m P) j s ≡ run (look n P) j s }
+/// A search comes to at most one value.
+pub fn searches_come_to_one_value()
+    ensures { (P : List Clause) → (s : State Task) → (t u : Told Answer) → ComesTo P s t → ComesTo P s u → t ≡ u }
 {}

@@ -6,7 +6,7 @@ ghost use Rattle.lp_calculus.specs.Types.{Ty};
 ghost use Rattle.lp_calculus.specs.Term.{Term, substitute};
 ghost use Rattle.lp_model.specs.Search.{opened};
 ghost use Rattle.lp_model.specs.Look.{head_normal};
-ghost use Rattle.lp_model.specs.Faithful.{EachOf};
+ghost use Rattle.lp_lemmas.specs.Each.{EachOf};
 ghost use Rattle.lp_model.specs.Pair.{Closing, closed, Solves};
 ghost use Rattle.lp_model.specs.Proofs.{Declared, IsFormula};
 ghost use Rattle.lp_standard.specs.Schemes.{IsStandard};

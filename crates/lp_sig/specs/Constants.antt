@@ -83,7 +83,7 @@ pub record IsSchemeOf (said : List (Row Said)) (defs : List (Row Definition)) (w
   pub numbered : tree ≡ numbered_type replaced
 
 -- the types of the standard constants, by their numbers: `,` `;` `=>` `:-` `pi` `sigma` `true` `!` `=` `is` `<` `>` `=<` `>=` `::`
--- `nil` `+` `-` `*` `div` `mod` `~` `^` `size`
+-- `nil` `+` `-` `*` `div` `mod` `~` `^` `size` `not`
 abbrev pub on_two : Ty → Ty → Ty
 on_two from to = arrow from (arrow from to)
 
@@ -95,10 +95,10 @@ standard_types =
     on_two int_type o_type ∷ on_two int_type o_type ∷ on_two int_type o_type ∷ on_two int_type o_type ∷
     arrow (var 0) (arrow (list_type (var 0)) (list_type (var 0))) ∷ list_type (var 0) ∷
     on_two int_type int_type ∷ on_two int_type int_type ∷ on_two int_type int_type ∷ on_two int_type int_type ∷ on_two int_type int_type ∷
-    arrow int_type int_type ∷ on_two string_type string_type ∷ arrow string_type int_type ∷ []
+    arrow int_type int_type ∷ on_two string_type string_type ∷ arrow string_type int_type ∷ arrow o_type o_type ∷ []
 
 abbrev pub standard_tree : ℕ → Ty
-standard_tree n = slice_index_or standard_types n (arrow string_type int_type)
+standard_tree n = slice_index_or standard_types n (arrow o_type o_type)
 
 -- the types of which they are made
 pub record AreParts (b : Nodes) (p : Parts) : Type 0 where

@@ -40,7 +40,8 @@ operations =
     (codes "mod", 20) ∷
     (codes "~", 21) ∷
     (codes "^", 22) ∷
-    (codes "size", 23) ∷ []
+    (codes "size", 23) ∷
+    (codes "not", 24) ∷ []
 
 abbrev pub standard_constants : List (Row ℕ)
 standard_constants = connectives ++ (relations ++ operations)

@@ -124,6 +124,9 @@ fn operation(name: &[u8]) -> Option<u32>
     if name == b"size".as_slice() {
         return Some(23);
     }
+    if name == b"not".as_slice() {
+        return Some(24);
+    }
     None
 }
 
@@ -205,7 +208,7 @@ fn type_of_goal(types: &mut Types, parts: Parts, number: u32) -> Result<TypeId, 
     Ok(parts.list)
 }
 
-// The type of an operation.
+// The type of an operation, and of `not`.
 fn type_of_operation(types: &mut Types, parts: Parts, number: u32) -> Result<TypeId, Memory>
     requires above { 16 ≤ number }
     ensures kept { Extends types.old.bank types.new.bank }
@@ -220,7 +223,10 @@ fn type_of_operation(types: &mut Types, parts: Parts, number: u32) -> Result<Typ
     if number < 23 {
         return on_two(types, parts.string, parts.string, parts.string);
     }
-    types.arrow(parts.string, parts.int)
+    if number < 24 {
+        return types.arrow(parts.string, parts.int);
+    }
+    types.arrow(parts.goal, parts.goal)
 }
 
 // The type of a standard constant.

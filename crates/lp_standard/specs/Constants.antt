@@ -99,16 +99,17 @@ connectives = And ∷ Or ∷ Implies ∷ If ∷ ForAll ∷ Exists ∷ True ∷ C
 abbrev pub relations : List Constant
 relations = Equal ∷ Is ∷ Less ∷ Greater ∷ AtMost ∷ AtLeast ∷ Cons ∷ Nil ∷ []
 
+-- those of expressions, and `not`, which came to the language last
 abbrev pub operations : List Constant
-operations = Add ∷ Subtract ∷ Multiply ∷ Divide ∷ Remainder ∷ Negate ∷ Concatenate ∷ Size ∷ []
+operations = Add ∷ Subtract ∷ Multiply ∷ Divide ∷ Remainder ∷ Negate ∷ Concatenate ∷ Size ∷ Not ∷ []
 
 -- the constants of the language, in the order of their numbers
 abbrev pub language : List Constant
 language = (connectives ++ relations) ++ operations
 
--- the language has no word for these yet: `not` has its type, and `print` is only kept
+-- the language has no word for it yet
 abbrev pub reserved : List Constant
-reserved = Not ∷ Print ∷ []
+reserved = Print ∷ []
 
 -- the constant of a number
 abbrev pub numbered : ℕ → Option Constant

@@ -10,7 +10,7 @@ use crate::shape::{Part, Shape};
 pub const FIRST_CONSTANT: u32 = 32;
 
 /// The constants of the language have the numbers below this one. Of this number, and the next, is what is kept for later.
-pub const RESERVED: u32 = 24;
+pub const RESERVED: u32 = 25;
 
 /// A constant that the language fixes.
 #[derive(Clone, Copy, Debug, PartialEq, Eq)]
@@ -63,7 +63,7 @@ pub enum Constant {
     Concatenate,
     /// `size`.
     Size,
-    /// `not`, not yet a word of the language.
+    /// `not`.
     Not,
     /// `print`, kept for later.
     Print,
@@ -186,6 +186,9 @@ fn operation(name: &[u8]) -> Option<Constant>
     if name == b"size".as_slice() {
         return Some(Constant::Size);
     }
+    if name == b"not".as_slice() {
+        return Some(Constant::Not);
+    }
     None
 }
 
@@ -267,7 +270,7 @@ impl Constant {
         None
     }
 
-    /// The constant of the language that has this name. `not` and `print` are none.
+    /// The constant of the language that has this name. `print` is none.
     pub fn from_name(name: &[u8]) -> Option<Constant>
         ensures { result ≡ named name.now }
     {

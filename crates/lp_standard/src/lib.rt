@@ -17,6 +17,3 @@ pub use constant::{Constant, FIRST_CONSTANT, RESERVED};
 pub use fixity::Fixity;
 pub use kind::{FIRST_KIND, Kind};
 pub use shape::{Part, Shape};
-
-#[cfg(test)]
-mod tests;

@@ -1,14 +1,12 @@
 -- A cell without parts leads nowhere.
 use Rattle.std.proofs.Common.{◌≡◌, ℕ, [], length, refl, sym, ap, ◌∙◌, subst, get_or-set_other}
 use Rattle.std.proofs.Math.Seq.{get_or-append_seam}
-use Rattle.lp_calculus.specs.Term.{Term}
 use Rattle.lp_store.specs.declared.cell.Cell.{Cell}
 use Rattle.lp_store.specs.declared.cell.Cell.TheVariants.{Ref, Eigen, Logic, Index}
 use Rattle.lp_store.specs.declared.cell.CellId.{CellId}
 use Rattle.lp_store.specs.Contents.{Contents, cell_at}
-use Rattle.lp_store.specs.Reading.{Leads, here, through, IsAmong, parts, Reads}
-use Rattle.lp_store.specs.Change.{HasNoLoose, changed, with_cell}
-use Rattle.lp_store.proofs.Changes.{parts_read}
+use Rattle.lp_store.specs.Reading.{Leads, here, through, IsAmong, parts}
+use Rattle.lp_store.specs.Change.{changed, with_cell}
 
 eigen_leads : (s : Contents) (i j k : ℕ) → cell_at s i ≡ Eigen k → Leads s i j → i ≡ j
 eigen_leads s i j k e (here n) = refl
@@ -18,9 +16,6 @@ pub eigen_apart : (s : Contents) (i v k level : ℕ) → cell_at s i ≡ Eigen k
 eigen_apart s i v k level e f l =
     let q : Eigen k ≡ Logic level = sym e ∙ ap (cell_at s) (eigen_leads s i v k e l) ∙ f in
     cc
-
-pub eigen_closed : (s : Contents) (i k : ℕ) → cell_at s i ≡ Eigen k → (t : Term) → Reads s i t → HasNoLoose t
-eigen_closed s i k e t r = subst HasNoLoose (sym (parts_read s i (Eigen k) e r).4) tt
 
 pub pushed_is : (s z : Contents) (c : Cell) (i : ℕ) → z ≡ with_cell s c → i ≡ length s.cells → cell_at z i ≡ c
 pushed_is s z c i e q = ap (λ y. cell_at y i) e ∙ ap (cell_at (with_cell s c)) q ∙ get_or-append_seam s.cells c [] (Index 0)

@@ -1,4 +1,4 @@
-ghost use Rattle.std.specs.Prelude.{◌≡◌, ◌⊎◌, ℕ, ◌+◌, ◌<◌, ◌≤◌, length, List, [], ◌∷◌, IfOk, OnOk, OnErr, All, MatchOption};
+ghost use Rattle.std.specs.Prelude.{◌≡◌, ◌⊎◌, ℕ, ◌+◌, ◌<◌, ◌≤◌, length, List, [], ◌∷◌, true, false, IfOk, OnOk, OnErr, All, MatchOption};
 ghost use Rattle.lp_calculus.specs.Types.{Ty, instance};
 ghost use Rattle.lp_calculus.specs.Term.{Term};
 ghost use Rattle.lp_calculus.specs.Convert.{Converts, Reduces};
@@ -117,6 +117,14 @@ impl Store {
         Ok(Env(self.envs.len()))
     }
 
+    /// Whether there is a cell of this number.
+    pub fn has(&self, id: CellId) -> bool
+        ensures within { result ≡ true → id.0 < length self.now.cells }
+        ensures outside { result ≡ false → length self.now.cells ≤ id.0 }
+    {
+        id.0 < self.cells.len()
+    }
+
     pub fn cell(&self, id: CellId) -> Cell
         requires { id.0 < length self.now.cells }
         ensures cell { result ≡ cell_at self.now id.0 }
@@ -206,15 +214,14 @@ impl Store {
     }
 
     /// Binds an unbound variable of types to a type, or of terms to a term. Each reading has what the cell reads as in the
-    /// place of the variable.
+    /// place of the variable, where that has no loose index.
     pub fn bind(&mut self, variable: CellId, to: CellId) -> Result<(), Memory>
         requires variable { variable.0 < length self.old.cells }
         requires unbound { (cell_at self.old variable.0 ≡ Cell.TypeVar) ⊎ ((level : ℕ) × (cell_at self.old variable.0 ≡ Cell.Logic level)) }
         requires to { to.0 < length self.old.cells }
         requires no_circle { Leads self.old to.0 variable.0 → ⊥ }
-        requires closed { (t : Term) → Reads self.old to.0 t → HasNoLoose t }
         ensures changed { OnOk result (self.new ≡ changed self.old variable.0 to) }
-        ensures terms { OnOk result ((level : ℕ) → (cell_at self.old variable.0 ≡ Cell.Logic level) → (u : Term) → Reads self.old to.0 u →
+        ensures terms { OnOk result (((t : Term) → Reads self.old to.0 t → HasNoLoose t) → (level : ℕ) → (cell_at self.old variable.0 ≡ Cell.Logic level) → (u : Term) → Reads self.old to.0 u →
             (i : ℕ) (t : Term) → Reads self.old i t → Reads self.new i (put (record { id = variable.0; level = level; value = u }) t)) }
         ensures types_stay { OnOk result ((level : ℕ) → (cell_at self.old variable.0 ≡ Cell.Logic level) → (i : ℕ) (T : Ty) → ReadsType self.old i T → ReadsType self.new i T) }
         ensures types { OnOk result ((cell_at self.old variable.0 ≡ Cell.TypeVar) → (S : Ty) → ReadsType self.old to.0 S →

@@ -22,7 +22,7 @@ entry (e ∷ es) text = if bytes_eq text e.0 then Some e.1 else entry es text
 
 -- the words that are kept for what is not supported
 abbrev pub unsupported : List (List ℕ)
-unsupported = codes "import" ∷ codes "use_sig" ∷ codes "useonly" ∷ codes "exportdef" ∷ codes "closed" ∷ codes "not" ∷ codes "print" ∷ []
+unsupported = codes "import" ∷ codes "use_sig" ∷ codes "useonly" ∷ codes "exportdef" ∷ codes "closed" ∷ codes "print" ∷ []
 
 abbrev pub fixities : List (List ℕ × Fixity)
 fixities =

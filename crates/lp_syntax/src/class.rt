@@ -116,7 +116,6 @@ fn is_unsupported(text: &[u8]) -> bool
         || is(text, b"useonly")
         || is(text, b"exportdef")
         || is(text, b"closed")
-        || is(text, b"not")
         || is(text, b"print")
 }
 

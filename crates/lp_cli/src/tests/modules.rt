@@ -1,7 +1,7 @@
 // The modules of the worked rows.
 
 /// The files of the modules, by name.
-pub const FILES: [(&str, &str); 38] = [
+pub const FILES: [(&str, &str); 40] = [
     (
         "fam.sig",
         "sig fam. kind p type. type ann, bob, cal p. type par, anc p -> p -> o. type any p -> o.",
@@ -100,4 +100,6 @@ pub const FILES: [(&str, &str); 38] = [
         "sig shown. kind i type. type f i -> i -> i. type g, up, no i -> i. type a, x1 i. type h (i -> i) -> i. postfix up 10. prefixr no 10.",
     ),
     ("shown.mod", "module shown."),
+    ("u.sig", "sig u. kind i type. type a i. type q i -> o."),
+    ("u.mod", "module u. q a."),
 ];

@@ -3,7 +3,8 @@
 use super::check;
 use lp_base::{Memory, Status};
 
-const USAGE: &str = "usage: solve M Q | compile M | link M | query M Q | trial N\n";
+const USAGE: &str =
+    "usage: solve M Q | compile M | link M | trial N | migrate M | lambda M Q | prove M Q | check M Q\n";
 
 const FIRST: &str = "answer 1\nno more answers\n";
 
@@ -55,7 +56,7 @@ fn other_words_are_refused(rt: HostRuntime) -> Result<(), Memory> {
         ["solve", "e", "-"],
         ["solve", "e", "-q"],
         ["solve", "e", "--help"],
-        ["query", "e", "true"],
+        ["session", "e", "true"],
         ["compile", "e", "e"],
     ] {
         check(&rt, alloc, &given, Status::Usage, USAGE)?;
@@ -70,6 +71,9 @@ fn other_words_are_refused(rt: HostRuntime) -> Result<(), Memory> {
         ["solve", "e", "true", "--watch=true"],
         ["solve", "e", "true", "--step=3"],
         ["solve", "e", "true", "more"],
+        ["lambda", "e", "true", "--steps=1"],
+        ["check", "e", "true", "--answers=1"],
+        ["prove", "e", "true", "--watch"],
     ] {
         check(&rt, alloc, &given, Status::Usage, USAGE)?;
     }

@@ -10,12 +10,12 @@ use Rattle.lp_calculus.proofs.Subject.{typed_shift}
 use Rattle.lp_calculus.proofs.Fills.{within_shift}
 use Rattle.lp_model.specs.Index.{instantiate}
 use Rattle.lp_calculus.specs.Spine.{head_of}
-use Rattle.lp_model.specs.Faithful.{EachOf}
+use Rattle.lp_lemmas.specs.Each.{EachOf}
 use Rattle.lp_standard.specs.Connectives.{truth, two, pi_of, body_of}
 use Rattle.lp_model.specs.Flat.{Goals, no_goals, goals, Clause, clause, Clauses, no_clauses, clauses, add_clauses, all_of, formula_of_goals, formula_of_clause, formula_of_clauses}
 use Rattle.lp_model.specs.Flatten.{ClauseFormula}
 use Rattle.lp_standard.specs.Schemes.{IsStandard}
-use Rattle.lp_model.specs.Proofs.{Declared, under, IsWitness, IsAtomHead, FAll, FTake, FNeed, Provable, Focusable}
+use Rattle.lp_model.specs.Proofs.{Declared, under, IsWitness, IsAtomHead, FAll, FTake, FNeed, PlainlyProvable, PlainlyFocusable}
 use Rattle.lp_proof_laws.proofs.Uniform.Formulas.{quantified, at_witness}
 use Rattle.lp_proof_laws.proofs.Uniform.Openings.{cons, IsOpen, Fits, open_formula, fits_cons, abs_at, body_at, past_shift, open_two, open_parts, open_function, open_body, open_quantified}
 use Rattle.lp_proof_laws.proofs.Uniform.Roots.{connective, pi_type}
@@ -36,7 +36,7 @@ module _ (d : Declared) (std : IsStandard d) where
   EachOpen Γ ts = EachOf (λ t. IsOpen d Γ t o_type) ts
 
   EachProvable : (E : List Ty) (P : List ClauseFormula) (θ : ℕ → Term) → List Term → Type 0
-  EachProvable E P θ ts = EachOf (λ t. Provable d E P (instantiate θ t)) ts
+  EachProvable E P θ ts = EachOf (λ t. PlainlyProvable d E P (instantiate θ t)) ts
 
   pub open_imps : (Γ : List Ty) (gs : List Term) (c : Term) → EachOf (λ t. IsOpen d Γ t o_type) gs → IsOpen d Γ c o_type → IsOpen d Γ (imps gs c) o_type
   open_imps Γ [] c h o = o
@@ -55,9 +55,9 @@ module _ (d : Declared) (std : IsStandard d) where
 
   -- one can focus on Y or on Z where one can focus on X
   unfoldable pub Chooses : List Ty → (X Y Z : Term) → Type 0
-  Chooses Γ X Y Z = (E : List Ty) (P : List ClauseFormula) (θ : ℕ → Term) (A : Term) → Fits d E Γ θ → IsAtomHead (head_of A) → Focusable d E P (instantiate θ X) A → Focusable d E P (instantiate θ Y) A ⊎ Focusable d E P (instantiate θ Z) A
+  Chooses Γ X Y Z = (E : List Ty) (P : List ClauseFormula) (θ : ℕ → Term) (A : Term) → Fits d E Γ θ → IsAtomHead (head_of A) → PlainlyFocusable d E P (instantiate θ X) A → PlainlyFocusable d E P (instantiate θ Y) A ⊎ PlainlyFocusable d E P (instantiate θ Z) A
 
-  into_pi : (Γ : List Ty) (T : Ty) (Y : Term) (E : List Ty) (P : List ClauseFormula) (θ : ℕ → Term) (A w : Term) → IsOpen d (T ∷ Γ) Y o_type → Fits d E (T ∷ Γ) (cons w θ) → IsWitness d E w T → Focusable d E P (instantiate (cons w θ) Y) A → Focusable d E P (instantiate θ (pi_of T (abs Y))) A
+  into_pi : (Γ : List Ty) (T : Ty) (Y : Term) (E : List Ty) (P : List ClauseFormula) (θ : ℕ → Term) (A w : Term) → IsOpen d (T ∷ Γ) Y o_type → Fits d E (T ∷ Γ) (cons w θ) → IsWitness d E w T → PlainlyFocusable d E P (instantiate (cons w θ) Y) A → PlainlyFocusable d E P (instantiate θ (pi_of T (abs Y))) A
   into_pi Γ T Y E P θ A w o g i r =
       let z = fconv d E P (instantiate (cons w θ) Y) (app (instantiate θ (abs Y)) w) A (open_formula d E (T ∷ Γ) (cons w θ) Y g o) (converts_sym (abs_at w θ Y)) r in
       record { focus = FAll w z.focus; holds = (T, _, refl, i, z.holds) }
@@ -83,14 +83,14 @@ module _ (d : Declared) (std : IsStandard d) where
       all_chooses vs Γ (pi_of T (abs X)) (pi_of T (abs Y)) (pi_of T (abs Z)) k.1 (q X ox) (q Y oy) (q Z oz) (pi_chooses (vs ++ Γ) T X Y Z k.0 ox oy oz c)
 
   -- a formula under goals is focused on where the goals are provable and the formula is focused on
-  pub imps_split : (Γ : List Ty) (gs : List Term) (X : Term) → EachOf (λ t. IsOpen d Γ t o_type) gs → IsOpen d Γ X o_type → (E : List Ty) (P : List ClauseFormula) (θ : ℕ → Term) (A : Term) → Fits d E Γ θ → IsAtomHead (head_of A) → Focusable d E P (instantiate θ (imps gs X)) A → EachOf (λ t. Provable d E P (instantiate θ t)) gs × Focusable d E P (instantiate θ X) A
+  pub imps_split : (Γ : List Ty) (gs : List Term) (X : Term) → EachOf (λ t. IsOpen d Γ t o_type) gs → IsOpen d Γ X o_type → (E : List Ty) (P : List ClauseFormula) (θ : ℕ → Term) (A : Term) → Fits d E Γ θ → IsAtomHead (head_of A) → PlainlyFocusable d E P (instantiate θ (imps gs X)) A → EachOf (λ t. PlainlyProvable d E P (instantiate θ t)) gs × PlainlyFocusable d E P (instantiate θ X) A
   imps_split Γ [] X h o E P θ A f at r = (tt, r)
   imps_split Γ (g ∷ gs) X h o E P θ A f at r =
       let q = implied_focus d std E P A at (instantiate θ g) (instantiate θ (imps gs X)) (open_formula d E Γ θ (imps (g ∷ gs) X) f (open_imps Γ (g ∷ gs) X h o)) r in
       let s = imps_split Γ gs X h.1 o E P θ A f at q.1 in
       ((q.0, s.0), s.1)
 
-  pub imps_join : (gs : List Term) (X : Term) (E : List Ty) (P : List ClauseFormula) (θ : ℕ → Term) (A : Term) → EachOf (λ t. Provable d E P (instantiate θ t)) gs → Focusable d E P (instantiate θ X) A → Focusable d E P (instantiate θ (imps gs X)) A
+  pub imps_join : (gs : List Term) (X : Term) (E : List Ty) (P : List ClauseFormula) (θ : ℕ → Term) (A : Term) → EachOf (λ t. PlainlyProvable d E P (instantiate θ t)) gs → PlainlyFocusable d E P (instantiate θ X) A → PlainlyFocusable d E P (instantiate θ (imps gs X)) A
   imps_join [] X E P θ A p r = r
   imps_join (g ∷ gs) X E P θ A p r = let s = imps_join gs X E P θ A p.1 r in record { focus = FNeed p.0.proof s.focus; holds = (_, _, inl refl, p.0.holds, s.holds) }
 
@@ -124,10 +124,10 @@ module _ (d : Declared) (std : IsStandard d) where
 
   module _ (Γ : List Ty) (E : List Ty) (P : List ClauseFormula) (θ : ℕ → Term) (A : Term) (f : Fits d E Γ θ) (at : IsAtomHead (head_of A)) where
     On : Clauses → Type 0
-    On cs = Focusable d E P (instantiate θ (formula_of_clauses cs)) A
+    On cs = PlainlyFocusable d E P (instantiate θ (formula_of_clauses cs)) A
 
     OnOne : Clause → Type 0
-    OnOne c = Focusable d E P (instantiate θ (formula_of_clause c)) A
+    OnOne c = PlainlyFocusable d E P (instantiate θ (formula_of_clause c)) A
 
     cons_split : (c : Clause) (cs : Clauses) → IsOpen d Γ (formula_of_clauses (clauses c cs)) o_type → On (clauses c cs) → OnOne c ⊎ On cs
     unfolding On OnOne
@@ -189,7 +189,7 @@ module _ (d : Declared) (std : IsStandard d) where
     unfolding Chooses
     take_right a b E P θ A f at r = inl (record { focus = FTake true r.focus; holds = (_, _, refl, r.holds) })
 
-    one_of : (X Y : Term) → Chooses Γ X Y Y → (E : List Ty) (P : List ClauseFormula) (θ : ℕ → Term) (A : Term) → Fits d E Γ θ → IsAtomHead (head_of A) → Focusable d E P (instantiate θ X) A → Focusable d E P (instantiate θ Y) A
+    one_of : (X Y : Term) → Chooses Γ X Y Y → (E : List Ty) (P : List ClauseFormula) (θ : ℕ → Term) (A : Term) → Fits d E Γ θ → IsAtomHead (head_of A) → PlainlyFocusable d E P (instantiate θ X) A → PlainlyFocusable d E P (instantiate θ Y) A
     unfolding Chooses
     one_of X Y c E P θ A f at r = elim (c E P θ A f at r) [ inl x ↦ x | inr x ↦ x ]
 
@@ -242,13 +242,13 @@ module _ (d : Declared) (std : IsStandard d) where
       open_inner : IsOpen d (T ∷ (vs ++ Γ)) inner o_type
       open_inner = open_imps (T ∷ (vs ++ Γ)) (map (shift 0 1) body) (body_of s) (open_shifts (vs ++ Γ) T body hb) (open_body d (vs ++ Γ) T s (open_function d (vs ++ Γ) 4 T s (pi_type d std T) o))
 
-      shifted_up : (E : List Ty) (P : List ClauseFormula) (θ : ℕ → Term) (w : Term) (gs : List Term) → EachOf (λ t. Provable d E P (instantiate θ t)) gs → EachOf (λ t. Provable d E P (instantiate (cons w θ) t)) (map (shift 0 1) gs)
+      shifted_up : (E : List Ty) (P : List ClauseFormula) (θ : ℕ → Term) (w : Term) (gs : List Term) → EachOf (λ t. PlainlyProvable d E P (instantiate θ t)) gs → EachOf (λ t. PlainlyProvable d E P (instantiate (cons w θ) t)) (map (shift 0 1) gs)
       shifted_up E P θ w [] h = tt
-      shifted_up E P θ w (g ∷ gs) h = (subst (Provable d E P) (sym (past_shift w θ g)) h.0, shifted_up E P θ w gs h.1)
+      shifted_up E P θ w (g ∷ gs) h = (subst (PlainlyProvable d E P) (sym (past_shift w θ g)) h.0, shifted_up E P θ w gs h.1)
 
-      shifted_down : (E : List Ty) (P : List ClauseFormula) (θ : ℕ → Term) (w : Term) (gs : List Term) → EachOf (λ t. Provable d E P (instantiate (cons w θ) t)) (map (shift 0 1) gs) → EachOf (λ t. Provable d E P (instantiate θ t)) gs
+      shifted_down : (E : List Ty) (P : List ClauseFormula) (θ : ℕ → Term) (w : Term) (gs : List Term) → EachOf (λ t. PlainlyProvable d E P (instantiate (cons w θ) t)) (map (shift 0 1) gs) → EachOf (λ t. PlainlyProvable d E P (instantiate θ t)) gs
       shifted_down E P θ w [] h = tt
-      shifted_down E P θ w (g ∷ gs) h = (subst (Provable d E P) (past_shift w θ g) h.0, shifted_down E P θ w gs h.1)
+      shifted_down E P θ w (g ∷ gs) h = (subst (PlainlyProvable d E P) (past_shift w θ g) h.0, shifted_down E P θ w gs h.1)
 
       moves_out : Chooses (vs ++ Γ) (imps body (pi_of T s)) (pi_of T (abs inner)) (pi_of T (abs inner))
       unfolding Chooses
@@ -294,8 +294,8 @@ module _ (d : Declared) (std : IsStandard d) where
 
     pub record ListLaw (gs : Goals) : Type 0 where
       pub opens : IsOpen d (vs ++ Γ) (formula_of_goals gs) o_type
-      pub to : (E : List Ty) (P : List ClauseFormula) (θ : ℕ → Term) → Fits d E (vs ++ Γ) θ → EachOf (λ t. Provable d E P (instantiate θ t)) body → Provable d E P (instantiate θ (formula_of_goals gs))
-      pub from : (E : List Ty) (P : List ClauseFormula) (θ : ℕ → Term) → Fits d E (vs ++ Γ) θ → Provable d E P (instantiate θ (formula_of_goals gs)) → EachOf (λ t. Provable d E P (instantiate θ t)) body
+      pub to : (E : List Ty) (P : List ClauseFormula) (θ : ℕ → Term) → Fits d E (vs ++ Γ) θ → EachOf (λ t. PlainlyProvable d E P (instantiate θ t)) body → PlainlyProvable d E P (instantiate θ (formula_of_goals gs))
+      pub from : (E : List Ty) (P : List ClauseFormula) (θ : ℕ → Term) → Fits d E (vs ++ Γ) θ → PlainlyProvable d E P (instantiate θ (formula_of_goals gs)) → EachOf (λ t. PlainlyProvable d E P (instantiate θ t)) body
 
     open_headed : (gs : Goals) (h : Term) → ListLaw gs → IsOpen d (vs ++ Γ) h o_type → IsOpen d (vs ++ Γ) (headed gs h) o_type
     open_headed no_goals h l o = o
@@ -324,6 +324,6 @@ module _ (d : Declared) (std : IsStandard d) where
         let e = headed_clause n gs h in
         record {
           opens = subst (λ z. IsOpen d Γ z o_type) (sym e) (open_all vs Γ (headed gs h) k oh);
-          to = λ E P θ A f at r. subst (λ z. Focusable d E P (instantiate θ z) A) (sym e) (one_of (around h) (all_of vs (headed gs h)) (all_chooses vs Γ (imps body h) (headed gs h) (headed gs h) k ob oh oh (into_headed gs h l o)) E P θ A f at r);
-          from = λ E P θ A f at r. one_of (all_of vs (headed gs h)) (around h) (all_chooses vs Γ (headed gs h) (imps body h) (imps body h) k oh ob ob (out_of_headed gs h l o)) E P θ A f at (subst (λ z. Focusable d E P (instantiate θ z) A) e r);
+          to = λ E P θ A f at r. subst (λ z. PlainlyFocusable d E P (instantiate θ z) A) (sym e) (one_of (around h) (all_of vs (headed gs h)) (all_chooses vs Γ (imps body h) (headed gs h) (headed gs h) k ob oh oh (into_headed gs h l o)) E P θ A f at r);
+          from = λ E P θ A f at r. one_of (all_of vs (headed gs h)) (around h) (all_chooses vs Γ (headed gs h) (imps body h) (imps body h) k oh ob ob (out_of_headed gs h l o)) E P θ A f at (subst (λ z. PlainlyFocusable d E P (instantiate θ z) A) e r);
         }

@@ -1,22 +1,22 @@
 -- What each kind of flattened goal stands for: under closed terms for the indices, the flattened goals of a formula, with those behind it, are provable
 -- exactly where the formula and those behind it are.
-use Rattle.std.proofs.Common.{◌≡◌, ℕ, suc, List, [], ◌∷◌, ◌++◌, map, length, refl, sym, ap, ◌∙◌, subst, arith, inl, inr, length-append}
-use Rattle.lp_calculus.specs.Types.{Ty}
+use Rattle.std.proofs.Common.{◌≡◌, ℕ, suc, List, [], ◌∷◌, ◌++◌, map, length, Some, refl, sym, ap, ◌∙◌, subst, arith, inl, inr, length-append}
+use Rattle.lp_calculus.specs.Types.{Ty, arrow}
 use Rattle.lp_calculus.specs.Term.{Term, atom, abs, app, shift, eigen}
 use Rattle.lp_calculus.specs.Typing.{Typed, o_type, scheme_type}
 use Rattle.lp_calculus.specs.Closed.{IsClosedType, IsClosedAt}
 use Rattle.lp_calculus.proofs.Steps.{converts_sym}
 use Rattle.lp_model.specs.Index.{instantiate}
 use Rattle.lp_standard.specs.Connectives.{not_of, truth, cut, two, pi_of, sigma_of, body_of}
-use Rattle.lp_model.specs.Flat.{Goal, Atomic, Cut, Either, Exists, Forall, Assume, Not, Goals, no_goals, goals, Clause, clause, Clauses, no_clauses, clauses, under_all, map_goal, map_goals, map_clause, map_clauses, same_type, raise_goals, all_of, formula_of_goal, formula_of_goals, formula_of_clause, formula_of_clauses}
+use Rattle.lp_model.specs.Flat.{Goal, Atomic, Cut, Either, Exists, Forall, Assume, Not, Goals, no_goals, goals, Clause, clause, Clauses, no_clauses, clauses, under_all, map_goal, map_goals, map_clause, map_clauses, same_type, raise_goals, all_of, formula_of_goal, formula_of_goals, formula_of_clause, formula_of_clauses, assuming, denied}
 use Rattle.lp_model.specs.Flatten.{ClauseFormula}
 use Rattle.lp_standard.specs.Schemes.{IsStandard}
-use Rattle.lp_model.specs.Proofs.{Declared, under, IsAtomHead, assumed, True, And, Left, Right, Witness, All, Assume as assuming, Provable, Focusable}
+use Rattle.lp_model.specs.Proofs.{Declared, under, IsAtomHead, assumed, True, And, Left, Right, Witness, All, Assume as by_assumption, PlainlyProvable, PlainlyFocusable, no_leaf}
 use Rattle.lp_calculus.specs.Spine.{head_of}
 use Rattle.lp_proof_laws.proofs.Uniform.Formulas.{quantified, at_witness, at_eigen, last_type}
 use Rattle.lp_proof_laws.proofs.Uniform.Openings.{cons, IsOpen, Fits, open_formula, closed_open, fits_cons, fits_more, abs_at, body_at, past_shift, open_two, open_function, open_body, open_quantified}
 use Rattle.lp_proof_laws.proofs.Uniform.Roots.{connective, sigma_type, pi_type}
-use Rattle.lp_proof_laws.proofs.Uniform.Heads.{both_root, either_root, sigma_root, pi_root, implied_root, if_root}
+use Rattle.lp_proof_laws.proofs.Uniform.Heads.{both_root, either_root, sigma_root, pi_root, implied_root, if_root, no_plain_denial}
 use Rattle.lp_proof_laws.proofs.Uniform.FocusRoots.{pconv}
 use Rattle.lp_proof_laws.proofs.Uniform.Assumptions.{Extends, Focuses, replaced_assumption}
 
@@ -40,8 +40,8 @@ mutual
   goal_raise from (Either gs hs) = two_same 1 (goals_raise from gs) (goals_raise from hs)
   goal_raise from (Exists T gs) = ap (λ z. sigma_of T (abs z)) (goals_raise (suc from) gs)
   goal_raise from (Forall T gs) = ap (λ z. pi_of T (abs z)) (goals_raise (suc from) gs)
-  goal_raise from (Assume cs gs) = two_same 2 (clauses_raise from cs) (goals_raise from gs)
-  goal_raise from (Not gs) = ap not_of (goals_raise from gs)
+  goal_raise from (Assume w cs gs) = two_same 2 (clauses_raise from cs) (goals_raise from gs)
+  goal_raise from (Not w gs) = ap not_of (goals_raise from gs)
 
   goals_raise : (from : ℕ) (gs : Goals) → formula_of_goals (map_goals suc (λ e t. shift e 1 t) same_type from gs) ≡ shift from 1 (formula_of_goals gs)
   goals_raise from no_goals = refl
@@ -68,14 +68,14 @@ module _ (d : Declared) (std : IsStandard d) where
   pub open_cut : (Γ : List Ty) → IsOpen d Γ cut o_type
   open_cut Γ = record { typed = ap (scheme_type []) (std.at 7 (omega arith)); within = tt }
 
-  pub truth_proved : (E : List Ty) (P : List ClauseFormula) → Provable d E P truth
+  pub truth_proved : (E : List Ty) (P : List ClauseFormula) → PlainlyProvable d E P truth
   truth_proved E P = record { proof = True; holds = inl refl }
 
   -- the goals gs stand for the formula t and the goals behind it
   pub record GoalLaw (Γ : List Ty) (t : Term) (rest gs : Goals) : Type 0 where
     pub opens : IsOpen d Γ (formula_of_goals gs) o_type
-    pub apart : (E : List Ty) (P : List ClauseFormula) (θ : ℕ → Term) → Fits d E Γ θ → Provable d E P (instantiate θ (formula_of_goals gs)) → Provable d E P (instantiate θ t) × Provable d E P (instantiate θ (formula_of_goals rest))
-    pub together : (E : List Ty) (P : List ClauseFormula) (θ : ℕ → Term) → Fits d E Γ θ → Provable d E P (instantiate θ t) → Provable d E P (instantiate θ (formula_of_goals rest)) → Provable d E P (instantiate θ (formula_of_goals gs))
+    pub apart : (E : List Ty) (P : List ClauseFormula) (θ : ℕ → Term) → Fits d E Γ θ → PlainlyProvable d E P (instantiate θ (formula_of_goals gs)) → PlainlyProvable d E P (instantiate θ t) × PlainlyProvable d E P (instantiate θ (formula_of_goals rest))
+    pub together : (E : List Ty) (P : List ClauseFormula) (θ : ℕ → Term) → Fits d E Γ θ → PlainlyProvable d E P (instantiate θ t) → PlainlyProvable d E P (instantiate θ (formula_of_goals rest)) → PlainlyProvable d E P (instantiate θ (formula_of_goals gs))
 
   -- with one goal in front
   pub in_front : (Γ : List Ty) (g : Goal) (rest : Goals) → IsOpen d Γ (formula_of_goal g) o_type → IsOpen d Γ (formula_of_goals rest) o_type → GoalLaw Γ (formula_of_goal g) rest (goals g rest)
@@ -90,7 +90,7 @@ module _ (d : Declared) (std : IsStandard d) where
       opens = open_two d Γ 0 _ _ (connective d std 0 (omega arith)) o r
 
   -- a formula provable where another is
-  pub instead_of : (Γ : List Ty) (t u : Term) (rest gs : Goals) → GoalLaw Γ t rest gs → ((E : List Ty) (P : List ClauseFormula) (θ : ℕ → Term) → Fits d E Γ θ → Provable d E P (instantiate θ u) → Provable d E P (instantiate θ t)) → ((E : List Ty) (P : List ClauseFormula) (θ : ℕ → Term) → Fits d E Γ θ → Provable d E P (instantiate θ t) → Provable d E P (instantiate θ u)) → GoalLaw Γ u rest gs
+  pub instead_of : (Γ : List Ty) (t u : Term) (rest gs : Goals) → GoalLaw Γ t rest gs → ((E : List Ty) (P : List ClauseFormula) (θ : ℕ → Term) → Fits d E Γ θ → PlainlyProvable d E P (instantiate θ u) → PlainlyProvable d E P (instantiate θ t)) → ((E : List Ty) (P : List ClauseFormula) (θ : ℕ → Term) → Fits d E Γ θ → PlainlyProvable d E P (instantiate θ t) → PlainlyProvable d E P (instantiate θ u)) → GoalLaw Γ u rest gs
   instead_of Γ t u rest gs l to from = record {
     opens = l.opens;
     apart = λ E P θ f p. let r = l.apart E P θ f p in (from E P θ f r.0, r.1);
@@ -118,17 +118,30 @@ module _ (d : Declared) (std : IsStandard d) where
       opens : IsOpen d Γ (two 1 [] (formula_of_goals l) (formula_of_goals r)) o_type
       opens = open_two d Γ 1 _ _ (connective d std 1 (omega arith)) x.opens y.opens
 
-      to : (E : List Ty) (P : List ClauseFormula) (θ : ℕ → Term) → Fits d E Γ θ → Provable d E P (instantiate θ (two 1 [] a b)) → Provable d E P (instantiate θ (two 1 [] (formula_of_goals l) (formula_of_goals r)))
+      to : (E : List Ty) (P : List ClauseFormula) (θ : ℕ → Term) → Fits d E Γ θ → PlainlyProvable d E P (instantiate θ (two 1 [] a b)) → PlainlyProvable d E P (instantiate θ (two 1 [] (formula_of_goals l) (formula_of_goals r)))
       to E P θ f p = elim (either_root d std E P (instantiate θ a) (instantiate θ b) (open_formula d E Γ θ _ f o) p) [
         | inl q ↦ let s = x.together E P θ f q (truth_proved E P) in record { proof = Left s.proof; holds = (_, _, refl, s.holds) }
         | inr q ↦ let s = y.together E P θ f q (truth_proved E P) in record { proof = Right s.proof; holds = (_, _, refl, s.holds) }
       ]
 
-      from : (E : List Ty) (P : List ClauseFormula) (θ : ℕ → Term) → Fits d E Γ θ → Provable d E P (instantiate θ (two 1 [] (formula_of_goals l) (formula_of_goals r))) → Provable d E P (instantiate θ (two 1 [] a b))
+      from : (E : List Ty) (P : List ClauseFormula) (θ : ℕ → Term) → Fits d E Γ θ → PlainlyProvable d E P (instantiate θ (two 1 [] (formula_of_goals l) (formula_of_goals r))) → PlainlyProvable d E P (instantiate θ (two 1 [] a b))
       from E P θ f p = elim (either_root d std E P (instantiate θ (formula_of_goals l)) (instantiate θ (formula_of_goals r)) (open_formula d E Γ θ _ f opens) p) [
         | inl q ↦ let s = (x.apart E P θ f q).0 in record { proof = Left s.proof; holds = (_, _, refl, s.holds) }
         | inr q ↦ let s = (y.apart E P θ f q).0 in record { proof = Right s.proof; holds = (_, _, refl, s.holds) }
       ]
+
+  denial_is : (X : Ty) → scheme_type [] (d 24) ≡ Some (arrow X o_type) → X ≡ o_type
+  denial_is X h = let e = sym (ap (scheme_type []) (std.at 24 (omega arith))) ∙ h in cc
+
+  pub open_argument : (Γ : List Ty) (g : Term) → IsOpen d Γ (not_of g) o_type → IsOpen d Γ g o_type
+  open_argument Γ g o = record { typed = subst (Typed (under d []) Γ g) (denial_is o.typed.0 o.typed.1) o.typed.2; within = o.within.1 }
+
+  -- neither side has a proof without failing searches
+  pub denied_law : (Γ : List Ty) (g : Term) (rest gs : Goals) → IsOpen d Γ (not_of g) o_type → IsOpen d Γ (formula_of_goals rest) o_type → IsOpen d Γ (formula_of_goals gs) o_type → GoalLaw Γ (not_of g) rest (goals (denied gs) rest)
+  denied_law Γ g rest gs o rs os = instead_of Γ (not_of (formula_of_goals gs)) (not_of g) rest (goals (denied gs) rest) (in_front Γ (denied gs) rest opens rs) (λ E P θ f p. absurd (no_plain_denial d std E P (instantiate θ g) (open_formula d E Γ θ (not_of g) f o) p)) (λ E P θ f p. absurd (no_plain_denial d std E P (instantiate θ (formula_of_goals gs)) (open_formula d E Γ θ (not_of (formula_of_goals gs)) f opens) p))
+    where
+      opens : IsOpen d Γ (not_of (formula_of_goals gs)) o_type
+      opens = record { typed = (o_type, subst (λ X. scheme_type [] (d 24) ≡ Some (arrow X o_type)) (denial_is o.typed.0 o.typed.1) o.typed.1, os.typed); within = (tt, os.within) }
 
   -- quantifiers
 
@@ -144,7 +157,7 @@ module _ (d : Declared) (std : IsStandard d) where
       opens : IsOpen d Γ (pi_of T (abs (formula_of_goals gs))) o_type
       opens = open_quantified d Γ 4 T (formula_of_goals gs) (pi_type d std T) k l.opens
 
-      to : (E : List Ty) (P : List ClauseFormula) (θ : ℕ → Term) → Fits d E Γ θ → Provable d E P (instantiate θ (pi_of T s)) → Provable d E P (instantiate θ (pi_of T (abs (formula_of_goals gs))))
+      to : (E : List Ty) (P : List ClauseFormula) (θ : ℕ → Term) → Fits d E Γ θ → PlainlyProvable d E P (instantiate θ (pi_of T s)) → PlainlyProvable d E P (instantiate θ (pi_of T (abs (formula_of_goals gs))))
       to E P θ f p =
           let fine = open_formula d E Γ θ (pi_of T s) f o in
           let q = pi_root d std E P T (instantiate θ s) fine p in
@@ -156,7 +169,7 @@ module _ (d : Declared) (std : IsStandard d) where
           let z = pconv d (E ++ T ∷ []) P _ (app (instantiate θ (abs (formula_of_goals gs))) c) (open_formula d (E ++ T ∷ []) (T ∷ Γ) (cons c θ) (formula_of_goals gs) g l.opens) (converts_sym (abs_at c θ (formula_of_goals gs))) r in
           record { proof = All z.proof; holds = (T, _, refl, z.holds) }
 
-      from : (E : List Ty) (P : List ClauseFormula) (θ : ℕ → Term) → Fits d E Γ θ → Provable d E P (instantiate θ (pi_of T (abs (formula_of_goals gs)))) → Provable d E P (instantiate θ (pi_of T s))
+      from : (E : List Ty) (P : List ClauseFormula) (θ : ℕ → Term) → Fits d E Γ θ → PlainlyProvable d E P (instantiate θ (pi_of T (abs (formula_of_goals gs)))) → PlainlyProvable d E P (instantiate θ (pi_of T s))
       from E P θ f p =
           let fine = open_formula d E Γ θ (pi_of T (abs (formula_of_goals gs))) f opens in
           let q = pi_root d std E P T (instantiate θ (abs (formula_of_goals gs))) fine p in
@@ -178,7 +191,7 @@ module _ (d : Declared) (std : IsStandard d) where
       behind : (w : Term) (θ : ℕ → Term) → instantiate (cons w θ) (formula_of_goals (raise_goals 0 rest)) ≡ instantiate θ (formula_of_goals rest)
       behind w θ = ap (instantiate (cons w θ)) (formula_raise rest) ∙ past_shift w θ (formula_of_goals rest)
 
-      apart : (E : List Ty) (P : List ClauseFormula) (θ : ℕ → Term) → Fits d E Γ θ → Provable d E P (instantiate θ (sigma_of T (abs (formula_of_goals gs)))) → Provable d E P (instantiate θ (sigma_of T s)) × Provable d E P (instantiate θ (formula_of_goals rest))
+      apart : (E : List Ty) (P : List ClauseFormula) (θ : ℕ → Term) → Fits d E Γ θ → PlainlyProvable d E P (instantiate θ (sigma_of T (abs (formula_of_goals gs)))) → PlainlyProvable d E P (instantiate θ (sigma_of T s)) × PlainlyProvable d E P (instantiate θ (formula_of_goals rest))
       apart E P θ f p =
           let fine = open_formula d E Γ θ (sigma_of T (abs (formula_of_goals gs))) f opens in
           let q = sigma_root d std E P T (instantiate θ (abs (formula_of_goals gs))) fine p in
@@ -188,55 +201,55 @@ module _ (d : Declared) (std : IsStandard d) where
           let r = l.apart E P (cons w θ) g (pconv d E P _ (instantiate (cons w θ) (formula_of_goals gs)) fs (abs_at w θ (formula_of_goals gs)) q.2) in
           let ob = open_body d Γ T s (open_function d Γ 5 T s (sigma_type d std T) o) in
           let z = pconv d E P _ (app (instantiate θ s) w) (open_formula d E (T ∷ Γ) (cons w θ) (body_of s) g ob) (converts_sym (body_at s θ w)) r.0 in
-          (record { proof = Witness w z.proof; holds = (T, _, refl, q.1, z.holds) }, subst (Provable d E P) (behind w θ) r.1)
+          (record { proof = Witness w z.proof; holds = (T, _, refl, q.1, z.holds) }, subst (PlainlyProvable d E P) (behind w θ) r.1)
 
-      together : (E : List Ty) (P : List ClauseFormula) (θ : ℕ → Term) → Fits d E Γ θ → Provable d E P (instantiate θ (sigma_of T s)) → Provable d E P (instantiate θ (formula_of_goals rest)) → Provable d E P (instantiate θ (sigma_of T (abs (formula_of_goals gs))))
+      together : (E : List Ty) (P : List ClauseFormula) (θ : ℕ → Term) → Fits d E Γ θ → PlainlyProvable d E P (instantiate θ (sigma_of T s)) → PlainlyProvable d E P (instantiate θ (formula_of_goals rest)) → PlainlyProvable d E P (instantiate θ (sigma_of T (abs (formula_of_goals gs))))
       together E P θ f p y =
           let fine = open_formula d E Γ θ (sigma_of T s) f o in
           let q = sigma_root d std E P T (instantiate θ s) fine p in
           let w = q.0 in
           let g = fits_cons d E Γ θ w T f (q.1.typed, q.1.closed) in
           let fs = at_witness d E T (instantiate θ s) w (quantified d E 5 T (instantiate θ s) (sigma_type d std T) fine) q.1 in
-          let r = l.together E P (cons w θ) g (pconv d E P _ (instantiate (cons w θ) (body_of s)) fs (body_at s θ w) q.2) (subst (Provable d E P) (sym (behind w θ)) y) in
+          let r = l.together E P (cons w θ) g (pconv d E P _ (instantiate (cons w θ) (body_of s)) fs (body_at s θ w) q.2) (subst (PlainlyProvable d E P) (sym (behind w θ)) y) in
           let z = pconv d E P _ (app (instantiate θ (abs (formula_of_goals gs))) w) (open_formula d E (T ∷ Γ) (cons w θ) (formula_of_goals gs) g l.opens) (converts_sym (abs_at w θ (formula_of_goals gs))) r in
           record { proof = Witness w z.proof; holds = (T, _, refl, q.1, z.holds) }
 
   -- the clauses cs stand for the formula D: one can focus on the one where one can on the other
   pub record ClauseLaw (Γ : List Ty) (D : Term) (cs : Clauses) : Type 0 where
     pub opens : IsOpen d Γ (formula_of_clauses cs) o_type
-    pub to : (E : List Ty) (P : List ClauseFormula) (θ : ℕ → Term) (A : Term) → Fits d E Γ θ → IsAtomHead (head_of A) → Focusable d E P (instantiate θ D) A → Focusable d E P (instantiate θ (formula_of_clauses cs)) A
-    pub from : (E : List Ty) (P : List ClauseFormula) (θ : ℕ → Term) (A : Term) → Fits d E Γ θ → IsAtomHead (head_of A) → Focusable d E P (instantiate θ (formula_of_clauses cs)) A → Focusable d E P (instantiate θ D) A
+    pub to : (E : List Ty) (P : List ClauseFormula) (θ : ℕ → Term) (A : Term) → Fits d E Γ θ → IsAtomHead (head_of A) → PlainlyFocusable d E P (instantiate θ D) A → PlainlyFocusable d E P (instantiate θ (formula_of_clauses cs)) A
+    pub from : (E : List Ty) (P : List ClauseFormula) (θ : ℕ → Term) (A : Term) → Fits d E Γ θ → IsAtomHead (head_of A) → PlainlyFocusable d E P (instantiate θ (formula_of_clauses cs)) A → PlainlyFocusable d E P (instantiate θ D) A
 
   fits_extends : (E F Γ : List Ty) (θ : ℕ → Term) → Fits d E Γ θ → Extends E F → Fits d F Γ θ
   fits_extends E F Γ θ f x = subst (λ z. Fits d z Γ θ) (sym x.is) (fits_more d E x.rest Γ θ f)
 
   -- the goal g under the clause c
   module _ (Γ : List Ty) (c g : Term) (cs : Clauses) (gs : Goals) (oc : IsOpen d Γ c o_type) (x : ClauseLaw Γ c cs) (y : GoalLaw Γ g no_goals gs) where
-    under_flat : (E : List Ty) (P : List ClauseFormula) (θ : ℕ → Term) → Fits d E Γ θ → Provable d E (P ++ assumed (instantiate θ c) ∷ []) (instantiate θ g) → Provable d E (P ++ assumed (instantiate θ (formula_of_clauses cs)) ∷ []) (instantiate θ (formula_of_goals gs))
+    under_flat : (E : List Ty) (P : List ClauseFormula) (θ : ℕ → Term) → Fits d E Γ θ → PlainlyProvable d E (P ++ assumed (instantiate θ c) ∷ []) (instantiate θ g) → PlainlyProvable d E (P ++ assumed (instantiate θ (formula_of_clauses cs)) ∷ []) (instantiate θ (formula_of_goals gs))
     unfolding Focuses
     under_flat E P θ f p =
         let q = y.together E (P ++ assumed (instantiate θ c) ∷ []) θ f p (truth_proved E (P ++ assumed (instantiate θ c) ∷ [])) in
-        replaced_assumption d E P (instantiate θ c) (instantiate θ (formula_of_clauses cs)) (instantiate θ (formula_of_goals gs)) (closed_open d E Γ θ c o_type f oc).1 (closed_open d E Γ θ (formula_of_clauses cs) o_type f x.opens).1 (λ F e R A i h. x.to F R θ A (fits_extends E F Γ θ f e) i h) q
+        replaced_assumption no_leaf d E P (instantiate θ c) (instantiate θ (formula_of_clauses cs)) (instantiate θ (formula_of_goals gs)) (closed_open d E Γ θ c o_type f oc).1 (closed_open d E Γ θ (formula_of_clauses cs) o_type f x.opens).1 (λ S n H k h. h) (λ F e R A i h. x.to F R θ A (fits_extends E F Γ θ f e) i h) q
 
-    under_formula : (E : List Ty) (P : List ClauseFormula) (θ : ℕ → Term) → Fits d E Γ θ → Provable d E (P ++ assumed (instantiate θ (formula_of_clauses cs)) ∷ []) (instantiate θ (formula_of_goals gs)) → Provable d E (P ++ assumed (instantiate θ c) ∷ []) (instantiate θ g)
+    under_formula : (E : List Ty) (P : List ClauseFormula) (θ : ℕ → Term) → Fits d E Γ θ → PlainlyProvable d E (P ++ assumed (instantiate θ (formula_of_clauses cs)) ∷ []) (instantiate θ (formula_of_goals gs)) → PlainlyProvable d E (P ++ assumed (instantiate θ c) ∷ []) (instantiate θ g)
     unfolding Focuses
     under_formula E P θ f p =
-        let q = replaced_assumption d E P (instantiate θ (formula_of_clauses cs)) (instantiate θ c) (instantiate θ (formula_of_goals gs)) (closed_open d E Γ θ (formula_of_clauses cs) o_type f x.opens).1 (closed_open d E Γ θ c o_type f oc).1 (λ F e R A i h. x.from F R θ A (fits_extends E F Γ θ f e) i h) p in
+        let q = replaced_assumption no_leaf d E P (instantiate θ (formula_of_clauses cs)) (instantiate θ c) (instantiate θ (formula_of_goals gs)) (closed_open d E Γ θ (formula_of_clauses cs) o_type f x.opens).1 (closed_open d E Γ θ c o_type f oc).1 (λ S n H k h. h) (λ F e R A i h. x.from F R θ A (fits_extends E F Γ θ f e) i h) p in
         (y.apart E (P ++ assumed (instantiate θ c) ∷ []) θ f q).0
 
     open_implied : IsOpen d Γ (two 2 [] (formula_of_clauses cs) (formula_of_goals gs)) o_type
     open_implied = open_two d Γ 2 _ _ (connective d std 2 (omega arith)) x.opens y.opens
 
-    pub implied_law : (rest : Goals) → IsOpen d Γ (two 2 [] c g) o_type → IsOpen d Γ (formula_of_goals rest) o_type → GoalLaw Γ (two 2 [] c g) rest (goals (Assume cs gs) rest)
-    implied_law rest o rs = instead_of Γ (two 2 [] (formula_of_clauses cs) (formula_of_goals gs)) (two 2 [] c g) rest (goals (Assume cs gs) rest) (in_front Γ (Assume cs gs) rest open_implied rs) (λ E P θ f p.
+    pub implied_law : (rest : Goals) → IsOpen d Γ (two 2 [] c g) o_type → IsOpen d Γ (formula_of_goals rest) o_type → GoalLaw Γ (two 2 [] c g) rest (goals (assuming cs gs) rest)
+    implied_law rest o rs = instead_of Γ (two 2 [] (formula_of_clauses cs) (formula_of_goals gs)) (two 2 [] c g) rest (goals (assuming cs gs) rest) (in_front Γ (assuming cs gs) rest open_implied rs) (λ E P θ f p.
         let q = under_flat E P θ f (implied_root d std E P (instantiate θ c) (instantiate θ g) (open_formula d E Γ θ (two 2 [] c g) f o) p) in
-        record { proof = assuming q.proof; holds = (_, _, inl refl, q.holds) }) (λ E P θ f p.
+        record { proof = by_assumption q.proof; holds = (_, _, inl refl, q.holds) }) (λ E P θ f p.
         let q = under_formula E P θ f (implied_root d std E P (instantiate θ (formula_of_clauses cs)) (instantiate θ (formula_of_goals gs)) (open_formula d E Γ θ _ f open_implied) p) in
-        record { proof = assuming q.proof; holds = (_, _, inl refl, q.holds) })
+        record { proof = by_assumption q.proof; holds = (_, _, inl refl, q.holds) })
 
-    pub if_law : (rest : Goals) → IsOpen d Γ (two 3 [] g c) o_type → IsOpen d Γ (formula_of_goals rest) o_type → GoalLaw Γ (two 3 [] g c) rest (goals (Assume cs gs) rest)
-    if_law rest o rs = instead_of Γ (two 2 [] (formula_of_clauses cs) (formula_of_goals gs)) (two 3 [] g c) rest (goals (Assume cs gs) rest) (in_front Γ (Assume cs gs) rest open_implied rs) (λ E P θ f p.
+    pub if_law : (rest : Goals) → IsOpen d Γ (two 3 [] g c) o_type → IsOpen d Γ (formula_of_goals rest) o_type → GoalLaw Γ (two 3 [] g c) rest (goals (assuming cs gs) rest)
+    if_law rest o rs = instead_of Γ (two 2 [] (formula_of_clauses cs) (formula_of_goals gs)) (two 3 [] g c) rest (goals (assuming cs gs) rest) (in_front Γ (assuming cs gs) rest open_implied rs) (λ E P θ f p.
         let q = under_flat E P θ f (if_root d std E P (instantiate θ g) (instantiate θ c) (open_formula d E Γ θ (two 3 [] g c) f o) p) in
-        record { proof = assuming q.proof; holds = (_, _, inl refl, q.holds) }) (λ E P θ f p.
+        record { proof = by_assumption q.proof; holds = (_, _, inl refl, q.holds) }) (λ E P θ f p.
         let q = under_formula E P θ f (implied_root d std E P (instantiate θ (formula_of_clauses cs)) (instantiate θ (formula_of_goals gs)) (open_formula d E Γ θ _ f open_implied) p) in
-        record { proof = assuming q.proof; holds = (_, _, inr refl, q.holds) })
+        record { proof = by_assumption q.proof; holds = (_, _, inr refl, q.holds) })

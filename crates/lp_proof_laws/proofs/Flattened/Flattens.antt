@@ -8,19 +8,19 @@ use Rattle.lp_calculus.specs.Term.{Term, atom, constant, shift}
 use Rattle.lp_calculus.specs.Typing.{Scheme, o_type, scheme_type, type_at}
 use Rattle.lp_calculus.specs.Closed.{AreClosed}
 use Rattle.lp_calculus.specs.Spine.{head_of, arguments}
-use Rattle.lp_model.specs.Faithful.{EachOf}
-use Rattle.lp_standard.specs.Connectives.{truth, cut, two, pi_of, sigma_of, body_of, Connective, connective_of}
+use Rattle.lp_lemmas.specs.Each.{EachOf}
+use Rattle.lp_standard.specs.Connectives.{truth, cut, not_of, two, pi_of, sigma_of, body_of, Connective, connective_of}
 use Rattle.lp_standard.specs.Connectives as connective
 use Rattle.lp_standard.specs.Positive.{are_positive}
-use Rattle.lp_model.specs.Flat.{Atomic, Cut, Either, Exists, Forall, Assume, Goals, no_goals, goals, clause, Clauses, no_clauses, clauses, add_clauses, raise_goals, all_of, formula_of_goals}
+use Rattle.lp_model.specs.Flat.{Atomic, Cut, Either, Exists, Forall, Goals, no_goals, goals, clause, Clauses, no_clauses, clauses, add_clauses, raise_goals, all_of, formula_of_goals, assuming, denied}
 use Rattle.lp_model.specs.Flatten.{only, is_goal_head, is_clause_head, flat_goal, flat_goal_form, flat_list, flat_clause, flat_clause_form}
 use Rattle.lp_standard.specs.Schemes.{IsStandard}
 use Rattle.lp_model.specs.Proofs.{Declared}
-use Rattle.lp_proof_laws.proofs.Uniform.Lists.{each_append}
+use Rattle.lp_lemmas.proofs.Each.{each_append}
 use Rattle.lp_proof_laws.proofs.Uniform.Forms.{Shape, form_shape}
 use Rattle.lp_proof_laws.proofs.Uniform.Openings.{IsOpen, open_parts, open_function, open_body}
 use Rattle.lp_proof_laws.proofs.Uniform.Roots.{connective, sigma_type, pi_type}
-use Rattle.lp_proof_laws.proofs.Flattened.FlatGoals.{open_truth, open_cut, truth_proved, formula_raise, GoalLaw, in_front, truth_law, both_law, either_law, every_law, exist_law, ClauseLaw, implied_law, if_law}
+use Rattle.lp_proof_laws.proofs.Flattened.FlatGoals.{open_truth, open_cut, truth_proved, formula_raise, GoalLaw, in_front, truth_law, both_law, either_law, every_law, exist_law, open_argument, denied_law, ClauseLaw, implied_law, if_law}
 use Rattle.lp_proof_laws.proofs.Flattened.FlatClauses.{imps, open_shift, open_shifts, both_clauses, implied_clauses, if_clauses, every_clauses, ListLaw, one_clause}
 
 -- what came of options
@@ -86,16 +86,16 @@ module _ (d : Declared) (std : IsStandard d) where
     form_law (suc n) binders t (connective.Implies c g) (inl s) rest gs Γ e o r =
         let o' = open_equal Γ t (two 2 [] c g) s o in
         let p = open_parts d Γ 2 c g (connective d std 2 (omega arith)) o' in
-        let q = and_then_some (flat_clause n d binders c [] []) (λ cs. option_map (λ hs. goals (Assume cs hs) rest) (flat_goal n d binders g no_goals)) gs e in
-        let z = option_map_some (flat_goal n d binders g no_goals) (λ hs. goals (Assume q.0 hs) rest) gs q.2 in
+        let q = and_then_some (flat_clause n d binders c [] []) (λ cs. option_map (λ hs. goals (assuming cs hs) rest) (flat_goal n d binders g no_goals)) gs e in
+        let z = option_map_some (flat_goal n d binders g no_goals) (λ hs. goals (assuming q.0 hs) rest) gs q.2 in
         let x = clause_law n binders c [] [] q.0 Γ q.1 tt p.0 tt in
         let y = goal_law n binders g no_goals z.0 Γ z.1 p.1 (open_truth d std Γ) in
         law_of_equal Γ t (two 2 [] c g) rest gs s (subst (GoalLaw d std Γ (two 2 [] c g) rest) z.2 (implied_law d std Γ c g q.0 z.0 p.0 x y rest o' r))
     form_law (suc n) binders t (connective.Implies c g) (inr s) rest gs Γ e o r =
         let o' = open_equal Γ t (two 3 [] g c) s o in
         let p = open_parts d Γ 3 g c (connective d std 3 (omega arith)) o' in
-        let q = and_then_some (flat_clause n d binders c [] []) (λ cs. option_map (λ hs. goals (Assume cs hs) rest) (flat_goal n d binders g no_goals)) gs e in
-        let z = option_map_some (flat_goal n d binders g no_goals) (λ hs. goals (Assume q.0 hs) rest) gs q.2 in
+        let q = and_then_some (flat_clause n d binders c [] []) (λ cs. option_map (λ hs. goals (assuming cs hs) rest) (flat_goal n d binders g no_goals)) gs e in
+        let z = option_map_some (flat_goal n d binders g no_goals) (λ hs. goals (assuming q.0 hs) rest) gs q.2 in
         let x = clause_law n binders c [] [] q.0 Γ q.1 tt p.1 tt in
         let y = goal_law n binders g no_goals z.0 Γ z.1 p.0 (open_truth d std Γ) in
         law_of_equal Γ t (two 3 [] g c) rest gs s (subst (GoalLaw d std Γ (two 3 [] g c) rest) z.2 (if_law d std Γ c g q.0 z.0 p.1 x y rest o' r))
@@ -114,7 +114,12 @@ module _ (d : Declared) (std : IsStandard d) where
         let or = open_equal (T ∷ Γ) (shift 0 1 (formula_of_goals rest)) (formula_of_goals (raise_goals 0 rest)) (sym (formula_raise rest)) (open_shift d std Γ T (formula_of_goals rest) r) in
         let x = goal_law n (false ∷ binders) b (raise_goals 0 rest) z.0 (T ∷ Γ) z.1 ob or in
         law_of_equal Γ t (sigma_of T s.0) rest gs s.1 (subst (GoalLaw d std Γ (sigma_of T s.0) rest) z.2 (exist_law d std Γ T s.0 rest z.0 k o' (subst (λ u. GoalLaw d std (T ∷ Γ) u (raise_goals 0 rest) z.0) s.2 x)))
-    form_law (suc n) binders t (connective.Not g) s rest gs Γ e o r = absurd (cc)
+    form_law (suc n) binders t (connective.Not g) s rest gs Γ e o r =
+        let o' = open_equal Γ t (not_of g) s o in
+        let p = open_argument d std Γ g o' in
+        let z = option_map_some (flat_goal n d binders g no_goals) (λ hs. goals (denied hs) rest) gs e in
+        let x = goal_law n binders g no_goals z.0 Γ z.1 p (open_truth d std Γ) in
+        law_of_equal Γ t (not_of g) rest gs s (subst (GoalLaw d std Γ (not_of g) rest) z.2 (denied_law d std Γ g rest z.0 o' r x.opens))
     form_law (suc n) binders t connective.Atomic s rest gs Γ e o r =
         subst (GoalLaw d std Γ t rest) (only_some (is_goal_head (head_of t) && are_positive (arguments t)) (goals (Atomic t) rest) gs e) (in_front d std Γ (Atomic t) rest o r)
 

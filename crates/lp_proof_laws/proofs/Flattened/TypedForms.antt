@@ -8,7 +8,7 @@ use Rattle.lp_calculus.specs.Spine.{head_of, arguments, arguments_and}
 use Rattle.lp_standard.specs.Connectives.{body_of, Connective, connective_of_constant, connective_at, connective_of}
 use Rattle.lp_standard.specs.Connectives as connective
 use Rattle.lp_standard.specs.Positive.{is_positive, are_positive}
-use Rattle.lp_model.specs.Flat.{Goal, Atomic, Cut, Either, Exists, Forall, Assume, Not, Goals, no_goals, goals, Clause, clause, Clauses, no_clauses, clauses, under_all, map_goal, map_goals, map_clause, map_clauses, same_type, raise_goals, type_goal, type_goals, type_clause}
+use Rattle.lp_model.specs.Flat.{Goal, Atomic, Cut, Either, Exists, Forall, Assume, Not, Written, map_written, Goals, no_goals, goals, Clause, clause, Clauses, no_clauses, clauses, under_all, map_goal, map_goals, map_clause, map_clauses, same_type, raise_goals, type_goal, type_goals, type_clause}
 use Rattle.lp_model.specs.Flatten.{is_goal_head}
 
 app_same : {t s u v : Term} → t ≡ s → u ≡ v → app t u ≡ app s v
@@ -144,8 +144,11 @@ goal_head_typed θ (abs b) = refl
 goal_head_typed θ (app t u) = refl
 
 -- flattened goals are raised before types are put into them or after
-abbrev raise_term : ℕ → Term → Term
+abbrev pub raise_term : ℕ → Term → Term
 raise_term d t = shift d 1 t
+
+abbrev written : List Term → List Ty → Written
+written ts Ts = record { terms = ts; types = Ts }
 
 abbrev type_term : (ℕ → Ty) → ℕ → Term → Term
 type_term θ u t = instance_term θ t
@@ -177,8 +180,24 @@ clauses_same p q = cc
 either_same : {gs hs ks ls : Goals} → gs ≡ hs → ks ≡ ls → Either gs ks ≡ Either hs ls
 either_same p q = cc
 
-assume_same : {cs ds : Clauses} {gs hs : Goals} → cs ≡ ds → gs ≡ hs → Assume cs gs ≡ Assume ds hs
-assume_same p q = cc
+assume_same : {v w : Written} {cs ds : Clauses} {gs hs : Goals} → v ≡ w → cs ≡ ds → gs ≡ hs → Assume v cs gs ≡ Assume w ds hs
+assume_same o p q = cc
+
+denied_same : {v w : Written} {gs hs : Goals} → v ≡ w → gs ≡ hs → Not v gs ≡ Not w hs
+denied_same o p = cc
+
+terms_raised : (θ : ℕ → Ty) (d : ℕ) (ts : List Term) → map (raise_term d) (map (instance_term θ) ts) ≡ map (instance_term θ) (map (raise_term d) ts)
+terms_raised θ d [] = refl
+terms_raised θ d (t ∷ ts) =
+    let e = shift_typed θ d 1 t in
+    let f = terms_raised θ d ts in
+    cc
+
+written_same : {ts us : List Term} {Ts Us : List Ty} → ts ≡ us → Ts ≡ Us → written ts Ts ≡ written us Us
+written_same p q = cc
+
+written_raised : (θ : ℕ → Ty) (d : ℕ) (w : Written) → map_written (raise_term d) same_type (map_written (instance_term θ) (instance θ) w) ≡ map_written (instance_term θ) (instance θ) (map_written (raise_term d) same_type w)
+written_raised θ d w = written_same (terms_raised θ d w.terms) (types_same θ w.types)
 
 mutual
   raise_goal_typed : (θ : ℕ → Ty) (d : ℕ) (g : Goal) → map_goal suc raise_term same_type d (type_goal θ g) ≡ type_goal θ (map_goal suc raise_term same_type d g)
@@ -187,8 +206,8 @@ mutual
   raise_goal_typed θ d (Either gs hs) = either_same (raise_goals_typed θ d gs) (raise_goals_typed θ d hs)
   raise_goal_typed θ d (Exists T gs) = ap (Exists (instance θ T)) (raise_goals_typed θ (suc d) gs)
   raise_goal_typed θ d (Forall T gs) = ap (Forall (instance θ T)) (raise_goals_typed θ (suc d) gs)
-  raise_goal_typed θ d (Assume cs gs) = assume_same (raise_clauses_typed θ d cs) (raise_goals_typed θ d gs)
-  raise_goal_typed θ d (Not gs) = ap Not (raise_goals_typed θ d gs)
+  raise_goal_typed θ d (Assume w cs gs) = assume_same (written_raised θ d w) (raise_clauses_typed θ d cs) (raise_goals_typed θ d gs)
+  raise_goal_typed θ d (Not w gs) = denied_same (written_raised θ d w) (raise_goals_typed θ d gs)
 
   raise_goals_typed : (θ : ℕ → Ty) (d : ℕ) (gs : Goals) → map_goals suc raise_term same_type d (type_goals θ gs) ≡ type_goals θ (map_goals suc raise_term same_type d gs)
   raise_goals_typed θ d no_goals = refl

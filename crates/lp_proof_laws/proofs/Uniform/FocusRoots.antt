@@ -10,7 +10,7 @@ use Rattle.lp_calculus.specs.Spine.{head_of, arguments}
 use Rattle.lp_standard.specs.Connectives.{truth, two, pi_of}
 use Rattle.lp_model.specs.Flatten.{ClauseFormula}
 use Rattle.lp_standard.specs.Schemes.{IsStandard}
-use Rattle.lp_model.specs.Proofs.{Declared, IsFormula, IsWitness, IsAtomHead, IsImplication, Focus, FConv, FAll, FTake, FNeed, FHit, focuses, Provable, Focusable, Conv}
+use Rattle.lp_model.specs.Proofs.{Declared, Leaves, ProvableBy, FocusableBy, IsFormula, IsWitness, IsAtomHead, IsImplication, Focus, FConv, FAll, FTake, FNeed, FHit, focuses_by, no_leaf, PlainlyProvable, PlainlyFocusable, Conv}
 use Rattle.lp_proof_laws.proofs.Uniform.Forms.{apply_arguments}
 use Rattle.lp_proof_laws.proofs.Uniform.Formulas.{parts, quantified}
 use Rattle.lp_proof_laws.proofs.Uniform.Formulas as formulas
@@ -19,10 +19,10 @@ use Rattle.lp_proof_laws.proofs.Uniform.Roots.{OneJoint, TwoJoint, one_joint, tw
 -- how a clause is focused on, where the focus does not begin with a conversion
 data RootedFocus (d : Declared) (E : List Ty) (P : List ClauseFormula) (D A : Term) : Type 0 where
   hits : Converts D A → RootedFocus d E P D A
-  instance_at : (T : Ty) → (s w : Term) → D ≡ pi_of T s → IsWitness d E w T → Focusable d E P (app s w) A → RootedFocus d E P D A
-  takes_left : (B C : Term) → D ≡ two 0 [] B C → Focusable d E P B A → RootedFocus d E P D A
-  takes_right : (B C : Term) → D ≡ two 0 [] B C → Focusable d E P C A → RootedFocus d E P D A
-  needs : (G B : Term) → IsImplication D G B → Provable d E P G → Focusable d E P B A → RootedFocus d E P D A
+  instance_at : (T : Ty) → (s w : Term) → D ≡ pi_of T s → IsWitness d E w T → PlainlyFocusable d E P (app s w) A → RootedFocus d E P D A
+  takes_left : (B C : Term) → D ≡ two 0 [] B C → PlainlyFocusable d E P B A → RootedFocus d E P D A
+  takes_right : (B C : Term) → D ≡ two 0 [] B C → PlainlyFocusable d E P C A → RootedFocus d E P D A
+  needs : (G B : Term) → IsImplication D G B → PlainlyProvable d E P G → PlainlyFocusable d E P B A → RootedFocus d E P D A
 
 -- no connective converts to an atom
 pub no_hit : (c : ℕ) (ts : List Ty) (us : List Term) (A : Term) → c < 32 → IsAtomHead (head_of A) → Converts (apply (atom (constant c ts)) us) A → ⊥
@@ -38,17 +38,17 @@ no_hit c ts us A l h v = go (head_of A) refl h
     go (abs t) e i = absurd i
     go (app t u) e i = absurd i
 
-pub fconv : (d : Declared) (E : List Ty) (P : List ClauseFormula) (H D A : Term) → IsFormula d E H → Converts H D → Focusable d E P H A → Focusable d E P D A
+pub fconv : {L : Leaves} (d : Declared) (E : List Ty) (P : List ClauseFormula) (H D A : Term) → IsFormula d E H → Converts H D → FocusableBy L d E P H A → FocusableBy L d E P D A
 fconv d E P H D A f c r = record { focus = FConv H r.focus; holds = (f, c, r.holds) }
 
-pub pconv : (d : Declared) (E : List Ty) (P : List ClauseFormula) (H G : Term) → IsFormula d E H → Converts H G → Provable d E P H → Provable d E P G
+pub pconv : {L : Leaves} (d : Declared) (E : List Ty) (P : List ClauseFormula) (H G : Term) → IsFormula d E H → Converts H G → ProvableBy L d E P H → ProvableBy L d E P G
 pconv d E P H G f c r = record { proof = Conv H r.proof; holds = (f, c, r.holds) }
 
 module _ (d : Declared) (std : IsStandard d) (E : List Ty) (P : List ClauseFormula) (A : Term) where
   StrippedFocus : Term → Type 0
   StrippedFocus D = (H : Term) × Converts H D × IsFormula d E H × RootedFocus d E P H A
 
-  strip : (D : Term) (f : Focus) → IsFormula d E D → focuses d E P D A f → StrippedFocus D
+  strip : (D : Term) (f : Focus) → IsFormula d E D → focuses_by no_leaf d E P D A f → StrippedFocus D
   unfolding StrippedFocus
   strip D (FConv H f) i h = let r = strip H f h.0 h.2 in (r.0, converts_on r.1 h.1, r.2, r.3)
   strip D (FAll t f) i h = (D, same D, i, instance_at h.0 h.1 t h.2 h.3 (record { focus = f; holds = h.4 }))
@@ -85,12 +85,12 @@ module _ (d : Declared) (std : IsStandard d) (E : List Ty) (P : List ClauseFormu
         let fs = parts d E 3 B G (connective d std 3 (omega arith)) (subst (IsFormula d E) e f) in
         needs j.1 j.0 (inr j.2) (pconv d E P G j.1 fs.1 j.4 p) (fconv d E P B j.0 A fs.0 j.3 r)
 
-    rooted_focus : IsFormula d E D → Focusable d E P D A → RootedFocus d E P D A
+    rooted_focus : IsFormula d E D → PlainlyFocusable d E P D A → RootedFocus d E P D A
     unfolding StrippedFocus
     rooted_focus i r = let s = strip D r.focus i r.holds in moves s.0 s.1 s.2 s.3
 
   module _ (at : IsAtomHead (head_of A)) where
-    pub truth_focus : IsFormula d E truth → Focusable d E P truth A → ⊥
+    pub truth_focus : IsFormula d E truth → PlainlyFocusable d E P truth A → ⊥
     truth_focus i r = go (rooted_focus (constant 6 []) [] i r)
       where
         go : RootedFocus d E P truth A → ⊥
@@ -101,46 +101,46 @@ module _ (d : Declared) (std : IsStandard d) (E : List Ty) (P : List ClauseFormu
         go (needs G B (inl e) p q) = cc
         go (needs G B (inr e) p q) = cc
 
-    pub both_focus : (B C : Term) → IsFormula d E (two 0 [] B C) → Focusable d E P (two 0 [] B C) A → Focusable d E P B A ⊎ Focusable d E P C A
+    pub both_focus : (B C : Term) → IsFormula d E (two 0 [] B C) → PlainlyFocusable d E P (two 0 [] B C) A → PlainlyFocusable d E P B A ⊎ PlainlyFocusable d E P C A
     both_focus B C i r = go (rooted_focus (constant 0 []) (B ∷ C ∷ []) i r)
       where
-        go : RootedFocus d E P (two 0 [] B C) A → Focusable d E P B A ⊎ Focusable d E P C A
+        go : RootedFocus d E P (two 0 [] B C) A → PlainlyFocusable d E P B A ⊎ PlainlyFocusable d E P C A
         go (hits v) = absurd (no_hit 0 [] (B ∷ C ∷ []) A (omega arith) at v)
         go (instance_at T s w e k q) = cc
-        go (takes_left X Y e q) = let g : X ≡ B = cc in inl (subst (λ z. Focusable d E P z A) g q)
-        go (takes_right X Y e q) = let g : Y ≡ C = cc in inr (subst (λ z. Focusable d E P z A) g q)
+        go (takes_left X Y e q) = let g : X ≡ B = cc in inl (subst (λ z. PlainlyFocusable d E P z A) g q)
+        go (takes_right X Y e q) = let g : Y ≡ C = cc in inr (subst (λ z. PlainlyFocusable d E P z A) g q)
         go (needs X Y (inl e) p q) = cc
         go (needs X Y (inr e) p q) = cc
 
-    pub pi_focus : (T : Ty) (s : Term) → IsFormula d E (pi_of T s) → Focusable d E P (pi_of T s) A → (w : Term) × IsWitness d E w T × Focusable d E P (app s w) A
+    pub pi_focus : (T : Ty) (s : Term) → IsFormula d E (pi_of T s) → PlainlyFocusable d E P (pi_of T s) A → (w : Term) × IsWitness d E w T × PlainlyFocusable d E P (app s w) A
     pi_focus T s i r = go (rooted_focus (constant 4 (T ∷ [])) (s ∷ []) i r)
       where
-        go : RootedFocus d E P (pi_of T s) A → (w : Term) × IsWitness d E w T × Focusable d E P (app s w) A
+        go : RootedFocus d E P (pi_of T s) A → (w : Term) × IsWitness d E w T × PlainlyFocusable d E P (app s w) A
         go (hits v) = absurd (no_hit 4 (T ∷ []) (s ∷ []) A (omega arith) at v)
-        go (instance_at U x w e k q) = let g : U ≡ T = cc in let h : x ≡ s = cc in (w, subst (IsWitness d E w) g k, subst (λ z. Focusable d E P (app z w) A) h q)
+        go (instance_at U x w e k q) = let g : U ≡ T = cc in let h : x ≡ s = cc in (w, subst (IsWitness d E w) g k, subst (λ z. PlainlyFocusable d E P (app z w) A) h q)
         go (takes_left X Y e q) = cc
         go (takes_right X Y e q) = cc
         go (needs X Y (inl e) p q) = cc
         go (needs X Y (inr e) p q) = cc
 
-    pub implied_focus : (G B : Term) → IsFormula d E (two 2 [] G B) → Focusable d E P (two 2 [] G B) A → Provable d E P G × Focusable d E P B A
+    pub implied_focus : (G B : Term) → IsFormula d E (two 2 [] G B) → PlainlyFocusable d E P (two 2 [] G B) A → PlainlyProvable d E P G × PlainlyFocusable d E P B A
     implied_focus G B i r = go (rooted_focus (constant 2 []) (G ∷ B ∷ []) i r)
       where
-        go : RootedFocus d E P (two 2 [] G B) A → Provable d E P G × Focusable d E P B A
+        go : RootedFocus d E P (two 2 [] G B) A → PlainlyProvable d E P G × PlainlyFocusable d E P B A
         go (hits v) = absurd (no_hit 2 [] (G ∷ B ∷ []) A (omega arith) at v)
         go (instance_at U x w e k q) = cc
         go (takes_left X Y e q) = cc
         go (takes_right X Y e q) = cc
-        go (needs X Y (inl e) p q) = let g : X ≡ G = cc in let h : Y ≡ B = cc in (subst (Provable d E P) g p, subst (λ z. Focusable d E P z A) h q)
+        go (needs X Y (inl e) p q) = let g : X ≡ G = cc in let h : Y ≡ B = cc in (subst (PlainlyProvable d E P) g p, subst (λ z. PlainlyFocusable d E P z A) h q)
         go (needs X Y (inr e) p q) = cc
 
-    pub if_focus : (B G : Term) → IsFormula d E (two 3 [] B G) → Focusable d E P (two 3 [] B G) A → Provable d E P G × Focusable d E P B A
+    pub if_focus : (B G : Term) → IsFormula d E (two 3 [] B G) → PlainlyFocusable d E P (two 3 [] B G) A → PlainlyProvable d E P G × PlainlyFocusable d E P B A
     if_focus B G i r = go (rooted_focus (constant 3 []) (B ∷ G ∷ []) i r)
       where
-        go : RootedFocus d E P (two 3 [] B G) A → Provable d E P G × Focusable d E P B A
+        go : RootedFocus d E P (two 3 [] B G) A → PlainlyProvable d E P G × PlainlyFocusable d E P B A
         go (hits v) = absurd (no_hit 3 [] (B ∷ G ∷ []) A (omega arith) at v)
         go (instance_at U x w e k q) = cc
         go (takes_left X Y e q) = cc
         go (takes_right X Y e q) = cc
         go (needs X Y (inl e) p q) = cc
-        go (needs X Y (inr e) p q) = let g : X ≡ G = cc in let h : Y ≡ B = cc in (subst (Provable d E P) g p, subst (λ z. Focusable d E P z A) h q)
+        go (needs X Y (inr e) p q) = let g : X ≡ G = cc in let h : Y ≡ B = cc in (subst (PlainlyProvable d E P) g p, subst (λ z. PlainlyFocusable d E P z A) h q)

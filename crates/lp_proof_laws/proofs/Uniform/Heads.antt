@@ -3,10 +3,10 @@ use Rattle.std.proofs.Common.{◌≡◌, ℕ, suc, ◌≤◌, List, [], ◌∷�
 use Rattle.std.specs.Prelude.{◌⊎◌}
 use Rattle.lp_calculus.specs.Types.{Ty}
 use Rattle.lp_calculus.specs.Term.{Term, atom, app, constant, eigen}
-use Rattle.lp_standard.specs.Connectives.{two, pi_of, sigma_of}
+use Rattle.lp_standard.specs.Connectives.{two, pi_of, sigma_of, not_of}
 use Rattle.lp_model.specs.Flatten.{ClauseFormula}
 use Rattle.lp_standard.specs.Schemes.{IsStandard}
-use Rattle.lp_model.specs.Proofs.{Declared, IsFormula, IsWitness, assumed, IsArith, Provable, Rooted, trivially, both_sides, left_side, right_side, at_witness, for_all, under_assumption, equally, by_arithmetic, by_clause}
+use Rattle.lp_model.specs.Proofs.{Declared, IsFormula, IsWitness, assumed, IsArith, PlainlyProvable, RootedBy, no_leaf, trivially, both_sides, left_side, right_side, at_witness, for_all, under_assumption, equally, by_arithmetic, by_clause, by_failure}
 use Rattle.lp_proof_laws.proofs.Uniform.Roots.{rooted}
 
 no_arith_both : (A B : Term) → IsArith (two 0 [] A B) → ⊥
@@ -16,13 +16,13 @@ no_arith_both A B (inr h) = go h.0 h.5 h.7
     go : (c : ℕ) → 10 ≤ c → two 0 [] A B ≡ two c [] h.1 h.2 → ⊥
     go c l e = let f : 0 ≡ c = cc in omega arith
 
-pub both_root : (d : Declared) → IsStandard d → (E : List Ty) (P : List ClauseFormula) (A B : Term) → IsFormula d E (two 0 [] A B) → Provable d E P (two 0 [] A B) → Provable d E P A × Provable d E P B
+pub both_root : (d : Declared) → IsStandard d → (E : List Ty) (P : List ClauseFormula) (A B : Term) → IsFormula d E (two 0 [] A B) → PlainlyProvable d E P (two 0 [] A B) → PlainlyProvable d E P A × PlainlyProvable d E P B
 both_root d std E P A B f p = go (rooted d std E P (constant 0 []) (A ∷ B ∷ []) f p)
   where
-    go : Rooted d E P (two 0 [] A B) → Provable d E P A × Provable d E P B
+    go : RootedBy no_leaf d E P (two 0 [] A B) → PlainlyProvable d E P A × PlainlyProvable d E P B
     go (trivially (inl e)) = cc
     go (trivially (inr e)) = cc
-    go (both_sides X Y e p' q') = (let g : X ≡ A = cc in subst (Provable d E P) g p', let g : Y ≡ B = cc in subst (Provable d E P) g q')
+    go (both_sides X Y e p' q') = (let g : X ≡ A = cc in subst (PlainlyProvable d E P) g p', let g : Y ≡ B = cc in subst (PlainlyProvable d E P) g q')
     go (left_side X Y e p') = cc
     go (right_side X Y e p') = cc
     go (at_witness U r t e w p') = cc
@@ -32,6 +32,7 @@ both_root d std E P A B f p = go (rooted d std E P (constant 0 []) (A ∷ B ∷ 
     go (equally U x y e v) = cc
     go (by_arithmetic h) = absurd (no_arith_both A B h)
     go (by_clause i D' ts e l k h r) = let m : 32 ≤ 0 = h in absurd (omega arith)
+    go (by_failure K e f h) = absurd h
 
 no_arith_either : (A B : Term) → IsArith (two 1 [] A B) → ⊥
 no_arith_either A B (inl h) = let e = h.4 in cc
@@ -40,15 +41,15 @@ no_arith_either A B (inr h) = go h.0 h.5 h.7
     go : (c : ℕ) → 10 ≤ c → two 1 [] A B ≡ two c [] h.1 h.2 → ⊥
     go c l e = let f : 1 ≡ c = cc in omega arith
 
-pub either_root : (d : Declared) → IsStandard d → (E : List Ty) (P : List ClauseFormula) (A B : Term) → IsFormula d E (two 1 [] A B) → Provable d E P (two 1 [] A B) → Provable d E P A ⊎ Provable d E P B
+pub either_root : (d : Declared) → IsStandard d → (E : List Ty) (P : List ClauseFormula) (A B : Term) → IsFormula d E (two 1 [] A B) → PlainlyProvable d E P (two 1 [] A B) → PlainlyProvable d E P A ⊎ PlainlyProvable d E P B
 either_root d std E P A B f p = go (rooted d std E P (constant 1 []) (A ∷ B ∷ []) f p)
   where
-    go : Rooted d E P (two 1 [] A B) → Provable d E P A ⊎ Provable d E P B
+    go : RootedBy no_leaf d E P (two 1 [] A B) → PlainlyProvable d E P A ⊎ PlainlyProvable d E P B
     go (trivially (inl e)) = cc
     go (trivially (inr e)) = cc
     go (both_sides X Y e p' q') = cc
-    go (left_side X Y e p') = let g : X ≡ A = cc in inl (subst (Provable d E P) g p')
-    go (right_side X Y e p') = let g : Y ≡ B = cc in inr (subst (Provable d E P) g p')
+    go (left_side X Y e p') = let g : X ≡ A = cc in inl (subst (PlainlyProvable d E P) g p')
+    go (right_side X Y e p') = let g : Y ≡ B = cc in inr (subst (PlainlyProvable d E P) g p')
     go (at_witness U r t e w p') = cc
     go (for_all U r e p') = cc
     go (under_assumption X Y (inl e) p') = cc
@@ -56,48 +57,51 @@ either_root d std E P A B f p = go (rooted d std E P (constant 1 []) (A ∷ B �
     go (equally U x y e v) = cc
     go (by_arithmetic h) = absurd (no_arith_either A B h)
     go (by_clause i D' ts e l k h r) = let m : 32 ≤ 1 = h in absurd (omega arith)
+    go (by_failure K e f h) = absurd h
 
 no_arith_sigma : (T : Ty) (s : Term) → IsArith (sigma_of T s) → ⊥
 no_arith_sigma T s (inl h) = let e = h.4 in cc
 no_arith_sigma T s (inr h) = let e = h.7 in cc
 
-pub sigma_root : (d : Declared) → IsStandard d → (E : List Ty) (P : List ClauseFormula) (T : Ty) (s : Term) → IsFormula d E (sigma_of T s) → Provable d E P (sigma_of T s) → (t : Term) × IsWitness d E t T × Provable d E P (app s t)
+pub sigma_root : (d : Declared) → IsStandard d → (E : List Ty) (P : List ClauseFormula) (T : Ty) (s : Term) → IsFormula d E (sigma_of T s) → PlainlyProvable d E P (sigma_of T s) → (t : Term) × IsWitness d E t T × PlainlyProvable d E P (app s t)
 sigma_root d std E P T s f p = go (rooted d std E P (constant 5 (T ∷ [])) (s ∷ []) f p)
   where
-    go : Rooted d E P (sigma_of T s) → (t : Term) × IsWitness d E t T × Provable d E P (app s t)
+    go : RootedBy no_leaf d E P (sigma_of T s) → (t : Term) × IsWitness d E t T × PlainlyProvable d E P (app s t)
     go (trivially (inl e)) = cc
     go (trivially (inr e)) = cc
     go (both_sides X Y e p' q') = cc
     go (left_side X Y e p') = cc
     go (right_side X Y e p') = cc
-    go (at_witness U r t e w p') = let g : U ≡ T = cc in let h : r ≡ s = cc in (t, subst (IsWitness d E t) g w, subst (λ z. Provable d E P (app z t)) h p')
+    go (at_witness U r t e w p') = let g : U ≡ T = cc in let h : r ≡ s = cc in (t, subst (IsWitness d E t) g w, subst (λ z. PlainlyProvable d E P (app z t)) h p')
     go (for_all U r e p') = cc
     go (under_assumption X Y (inl e) p') = cc
     go (under_assumption X Y (inr e) p') = cc
     go (equally U x y e v) = cc
     go (by_arithmetic h) = absurd (no_arith_sigma T s h)
     go (by_clause i D' ts e l k h r) = let m : 32 ≤ 5 = h in absurd (omega arith)
+    go (by_failure K e f h) = absurd h
 
 no_arith_pi : (T : Ty) (s : Term) → IsArith (pi_of T s) → ⊥
 no_arith_pi T s (inl h) = let e = h.4 in cc
 no_arith_pi T s (inr h) = let e = h.7 in cc
 
-pub pi_root : (d : Declared) → IsStandard d → (E : List Ty) (P : List ClauseFormula) (T : Ty) (s : Term) → IsFormula d E (pi_of T s) → Provable d E P (pi_of T s) → Provable d (E ++ T ∷ []) P (app s (atom (eigen (suc (length E)))))
+pub pi_root : (d : Declared) → IsStandard d → (E : List Ty) (P : List ClauseFormula) (T : Ty) (s : Term) → IsFormula d E (pi_of T s) → PlainlyProvable d E P (pi_of T s) → PlainlyProvable d (E ++ T ∷ []) P (app s (atom (eigen (suc (length E)))))
 pi_root d std E P T s f p = go (rooted d std E P (constant 4 (T ∷ [])) (s ∷ []) f p)
   where
-    go : Rooted d E P (pi_of T s) → Provable d (E ++ T ∷ []) P (app s (atom (eigen (suc (length E)))))
+    go : RootedBy no_leaf d E P (pi_of T s) → PlainlyProvable d (E ++ T ∷ []) P (app s (atom (eigen (suc (length E)))))
     go (trivially (inl e)) = cc
     go (trivially (inr e)) = cc
     go (both_sides X Y e p' q') = cc
     go (left_side X Y e p') = cc
     go (right_side X Y e p') = cc
     go (at_witness U r t e w p') = cc
-    go (for_all U r e p') = let g : U ≡ T = cc in let h : r ≡ s = cc in subst (λ z. Provable d (E ++ z ∷ []) P (app s (atom (eigen (suc (length E)))))) g (subst (λ z. Provable d (E ++ U ∷ []) P (app z (atom (eigen (suc (length E)))))) h p')
+    go (for_all U r e p') = let g : U ≡ T = cc in let h : r ≡ s = cc in subst (λ z. PlainlyProvable d (E ++ z ∷ []) P (app s (atom (eigen (suc (length E)))))) g (subst (λ z. PlainlyProvable d (E ++ U ∷ []) P (app z (atom (eigen (suc (length E)))))) h p')
     go (under_assumption X Y (inl e) p') = cc
     go (under_assumption X Y (inr e) p') = cc
     go (equally U x y e v) = cc
     go (by_arithmetic h) = absurd (no_arith_pi T s h)
     go (by_clause i D' ts e l k h r) = let m : 32 ≤ 4 = h in absurd (omega arith)
+    go (by_failure K e f h) = absurd h
 
 no_arith_implied : (D A : Term) → IsArith (two 2 [] D A) → ⊥
 no_arith_implied D A (inl h) = let e = h.4 in cc
@@ -106,10 +110,10 @@ no_arith_implied D A (inr h) = go h.0 h.5 h.7
     go : (c : ℕ) → 10 ≤ c → two 2 [] D A ≡ two c [] h.1 h.2 → ⊥
     go c l e = let f : 2 ≡ c = cc in omega arith
 
-pub implied_root : (d : Declared) → IsStandard d → (E : List Ty) (P : List ClauseFormula) (D A : Term) → IsFormula d E (two 2 [] D A) → Provable d E P (two 2 [] D A) → Provable d E (P ++ assumed D ∷ []) A
+pub implied_root : (d : Declared) → IsStandard d → (E : List Ty) (P : List ClauseFormula) (D A : Term) → IsFormula d E (two 2 [] D A) → PlainlyProvable d E P (two 2 [] D A) → PlainlyProvable d E (P ++ assumed D ∷ []) A
 implied_root d std E P D A f p = go (rooted d std E P (constant 2 []) (D ∷ A ∷ []) f p)
   where
-    go : Rooted d E P (two 2 [] D A) → Provable d E (P ++ assumed D ∷ []) A
+    go : RootedBy no_leaf d E P (two 2 [] D A) → PlainlyProvable d E (P ++ assumed D ∷ []) A
     go (trivially (inl e)) = cc
     go (trivially (inr e)) = cc
     go (both_sides X Y e p' q') = cc
@@ -117,11 +121,12 @@ implied_root d std E P D A f p = go (rooted d std E P (constant 2 []) (D ∷ A �
     go (right_side X Y e p') = cc
     go (at_witness U r t e w p') = cc
     go (for_all U r e p') = cc
-    go (under_assumption X Y (inl e) p') = let g : X ≡ D = cc in let h : Y ≡ A = cc in subst (λ z. Provable d E (P ++ assumed z ∷ []) A) g (subst (Provable d E (P ++ assumed X ∷ [])) h p')
+    go (under_assumption X Y (inl e) p') = let g : X ≡ D = cc in let h : Y ≡ A = cc in subst (λ z. PlainlyProvable d E (P ++ assumed z ∷ []) A) g (subst (PlainlyProvable d E (P ++ assumed X ∷ [])) h p')
     go (under_assumption X Y (inr e) p') = cc
     go (equally U x y e v) = cc
     go (by_arithmetic h) = absurd (no_arith_implied D A h)
     go (by_clause i D' ts e l k h r) = let m : 32 ≤ 2 = h in absurd (omega arith)
+    go (by_failure K e f h) = absurd h
 
 no_arith_if : (A D : Term) → IsArith (two 3 [] A D) → ⊥
 no_arith_if A D (inl h) = let e = h.4 in cc
@@ -130,10 +135,10 @@ no_arith_if A D (inr h) = go h.0 h.5 h.7
     go : (c : ℕ) → 10 ≤ c → two 3 [] A D ≡ two c [] h.1 h.2 → ⊥
     go c l e = let f : 3 ≡ c = cc in omega arith
 
-pub if_root : (d : Declared) → IsStandard d → (E : List Ty) (P : List ClauseFormula) (A D : Term) → IsFormula d E (two 3 [] A D) → Provable d E P (two 3 [] A D) → Provable d E (P ++ assumed D ∷ []) A
+pub if_root : (d : Declared) → IsStandard d → (E : List Ty) (P : List ClauseFormula) (A D : Term) → IsFormula d E (two 3 [] A D) → PlainlyProvable d E P (two 3 [] A D) → PlainlyProvable d E (P ++ assumed D ∷ []) A
 if_root d std E P A D f p = go (rooted d std E P (constant 3 []) (A ∷ D ∷ []) f p)
   where
-    go : Rooted d E P (two 3 [] A D) → Provable d E (P ++ assumed D ∷ []) A
+    go : RootedBy no_leaf d E P (two 3 [] A D) → PlainlyProvable d E (P ++ assumed D ∷ []) A
     go (trivially (inl e)) = cc
     go (trivially (inr e)) = cc
     go (both_sides X Y e p' q') = cc
@@ -142,7 +147,31 @@ if_root d std E P A D f p = go (rooted d std E P (constant 3 []) (A ∷ D ∷ []
     go (at_witness U r t e w p') = cc
     go (for_all U r e p') = cc
     go (under_assumption X Y (inl e) p') = cc
-    go (under_assumption X Y (inr e) p') = let g : X ≡ D = cc in let h : Y ≡ A = cc in subst (λ z. Provable d E (P ++ assumed z ∷ []) A) g (subst (Provable d E (P ++ assumed X ∷ [])) h p')
+    go (under_assumption X Y (inr e) p') = let g : X ≡ D = cc in let h : Y ≡ A = cc in subst (λ z. PlainlyProvable d E (P ++ assumed z ∷ []) A) g (subst (PlainlyProvable d E (P ++ assumed X ∷ [])) h p')
     go (equally U x y e v) = cc
     go (by_arithmetic h) = absurd (no_arith_if A D h)
     go (by_clause i D' ts e l k h r) = let m : 32 ≤ 3 = h in absurd (omega arith)
+    go (by_failure K e f h) = absurd h
+
+no_arith_denial : (H : Term) → IsArith (not_of H) → ⊥
+no_arith_denial H (inl h) = let e = h.4 in cc
+no_arith_denial H (inr h) = let e = h.7 in cc
+
+-- a negated formula has no proof without failing searches
+pub no_plain_denial : (d : Declared) → IsStandard d → (E : List Ty) (P : List ClauseFormula) (H : Term) → IsFormula d E (not_of H) → PlainlyProvable d E P (not_of H) → ⊥
+no_plain_denial d std E P H f p = go (rooted d std E P (constant 24 []) (H ∷ []) f p)
+  where
+    go : RootedBy no_leaf d E P (not_of H) → ⊥
+    go (trivially (inl e)) = cc
+    go (trivially (inr e)) = cc
+    go (both_sides X Y e p' q') = cc
+    go (left_side X Y e p') = cc
+    go (right_side X Y e p') = cc
+    go (at_witness U r t e w p') = cc
+    go (for_all U r e p') = cc
+    go (under_assumption X Y (inl e) p') = cc
+    go (under_assumption X Y (inr e) p') = cc
+    go (equally U x y e v) = cc
+    go (by_arithmetic h) = absurd (no_arith_denial H h)
+    go (by_clause i D' ts e l k h r) = let m : 32 ≤ 24 = h in absurd (omega arith)
+    go (by_failure K e x h) = absurd h

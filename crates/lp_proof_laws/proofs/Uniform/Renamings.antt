@@ -1,4 +1,4 @@
--- Eigenconstants may be renamed: by induction on proof trees and their focuses together, a quantified variable is opened with the new context's own
+-- Eigenconstants may be renamed, where no failing search is a leaf: by induction on proof trees and their focuses together, a quantified variable is opened with the new context's own
 -- next eigenconstant.
 use Rattle.std.proofs.Common.{◌≡◌, ℕ, zero, suc, ◌+◌, ◌≤◌, ◌<◌, List, [], ◌∷◌, ◌++◌, map, length, Some, refl, sym, ap, ◌∙◌, subst, arith, inl, inr}
 use Rattle.std.specs.Prelude.{◌⊎◌, slice_get, true, false}
@@ -7,12 +7,12 @@ use Rattle.lp_calculus.specs.Term.{Term, atom, app, eigen}
 use Rattle.lp_calculus.specs.Convert.{Converts}
 use Rattle.lp_calculus.specs.Typing.{eigen_type, type_at}
 use Rattle.lp_calculus.specs.Instance.{instance_term}
-use Rattle.lp_model.specs.Faithful.{EachOf}
+use Rattle.lp_lemmas.specs.Each.{EachOf}
 use Rattle.lp_model.specs.Flatten.{ClauseFormula}
 use Rattle.lp_model.specs.Values.{Value, Number, Bytes, term_of}
-use Rattle.lp_model.specs.Proofs.{Declared, IsArith, IsImplication, Proof, Conv, True, And, Left, Right, Witness, All, Assume, Equal, Arith, Back, Focus, FConv, FAll, FTake, FNeed, FHit, assumed, proves, focuses, Provable, Focusable}
+use Rattle.lp_model.specs.Proofs.{Declared, IsArith, IsImplication, Proof, Conv, True, And, Left, Right, Witness, All, Assume, Equal, Arith, Back, Fails, Focus, FConv, FAll, FTake, FNeed, FHit, assumed, proves_by, no_leaf, focuses_by, PlainlyProvable, PlainlyFocusable}
 use Rattle.lp_model.specs.Renaming.{renamed, renamed_clause, HasLevel, IsRenaming}
-use Rattle.lp_proof_laws.proofs.Uniform.Lists.{each_append}
+use Rattle.lp_lemmas.proofs.Each.{each_append}
 use Rattle.lp_proof_laws.proofs.Uniform.Contexts.{get_front, get_split}
 use Rattle.lp_proof_laws.proofs.Uniform.Renamed.{closed_level, level_more, level_instance, renamed_same, instance_renamed, renamed_converts, renamed_formula, renamed_witness, renamed_head, renamed_value, wider, wider_new, wider_old}
 
@@ -117,7 +117,7 @@ implication_levels n G D A (inl e) h = let w = subst (HasLevel n) e h in (w.0.1,
 implication_levels n G D A (inr e) h = let w = subst (HasLevel n) e h in (w.1, w.0.1)
 
 mutual
-  proof_renamed : (d : Declared) (E F : List Ty) (ρ : ℕ → ℕ) → IsRenaming E F ρ → (P : List ClauseFormula) (G : Term) (p : Proof) → HaveLevel (length E) P → HasLevel (length E) G → proves d E P G p → Provable d F (map (renamed_clause ρ) P) (renamed ρ G)
+  proof_renamed : (d : Declared) (E F : List Ty) (ρ : ℕ → ℕ) → IsRenaming E F ρ → (P : List ClauseFormula) (G : Term) (p : Proof) → HaveLevel (length E) P → HasLevel (length E) G → proves_by no_leaf d E P G p → PlainlyProvable d F (map (renamed_clause ρ) P) (renamed ρ G)
   proof_renamed d E F ρ i P G (Conv H p) l m h =
       let r = proof_renamed d E F ρ i P H p l (closed_level (length E) H h.0.closed) h.2 in
       record { proof = Conv (renamed ρ H) r.proof; holds = (renamed_formula d E F ρ i H h.0, renamed_converts ρ H G h.1, r.holds) }
@@ -155,13 +155,13 @@ mutual
           h.0,
           renamed ρ h.1,
           ap (renamed ρ) h.2,
-          subst (λ Q. proves d (F ++ h.0 ∷ []) Q (app (renamed ρ h.1) (atom (eigen (suc (length F))))) a.proof) c (subst (λ v. proves d (F ++ h.0 ∷ []) (map (renamed_clause τ) P) (app v (atom (eigen (suc (length F))))) a.proof) s (subst (λ k. proves d (F ++ h.0 ∷ []) (map (renamed_clause τ) P) (app (renamed τ h.1) (atom (eigen k))) a.proof) (wider_new ρ (length E) (length F)) a.holds)),
+          subst (λ Q. proves_by no_leaf d (F ++ h.0 ∷ []) Q (app (renamed ρ h.1) (atom (eigen (suc (length F))))) a.proof) c (subst (λ v. proves_by no_leaf d (F ++ h.0 ∷ []) (map (renamed_clause τ) P) (app v (atom (eigen (suc (length F))))) a.proof) s (subst (λ k. proves_by no_leaf d (F ++ h.0 ∷ []) (map (renamed_clause τ) P) (app (renamed τ h.1) (atom (eigen k))) a.proof) (wider_new ρ (length E) (length F)) a.holds)),
         );
       }
   proof_renamed d E F ρ i P G (Assume p) l m h =
       let w = implication_levels (length E) G h.0 h.1 h.2 m in
       let a = proof_renamed d E F ρ i (P ++ assumed h.0 ∷ []) h.1 p (level_end (length E) P (assumed h.0) l w.0) w.1 h.3 in
-      record { proof = Assume a.proof; holds = (renamed ρ h.0, renamed ρ h.1, implication_renamed ρ G h.0 h.1 h.2, subst (λ Q. proves d F Q (renamed ρ h.1) a.proof) (renamed_end ρ P (assumed h.0)) a.holds) }
+      record { proof = Assume a.proof; holds = (renamed ρ h.0, renamed ρ h.1, implication_renamed ρ G h.0 h.1 h.2, subst (λ Q. proves_by no_leaf d F Q (renamed ρ h.1) a.proof) (renamed_end ρ P (assumed h.0)) a.holds) }
   proof_renamed d E F ρ i P G Equal l m h = record { proof = Equal; holds = (h.0, renamed ρ h.1, renamed ρ h.2, ap (renamed ρ) h.3, renamed_converts ρ h.1 h.2 h.4) }
   proof_renamed d E F ρ i P G Arith l m h = record { proof = Arith; holds = arith_renamed ρ G h }
   proof_renamed d E F ρ i P G (Back c ts f) l m h =
@@ -169,10 +169,11 @@ mutual
       let a = focus_renamed d E F ρ i P (instance_term (type_at ts) h.0.formula) G f l w m h.5 in
       record {
         proof = Back c ts a.focus;
-        holds = (renamed_clause ρ h.0, get_renamed ρ P c h.0 h.1, h.2, h.3, renamed_head ρ G h.4, subst (λ D. focuses d F (map (renamed_clause ρ) P) D (renamed ρ G) a.focus) (instance_renamed ρ (type_at ts) h.0.formula) a.holds);
+        holds = (renamed_clause ρ h.0, get_renamed ρ P c h.0 h.1, h.2, h.3, renamed_head ρ G h.4, subst (λ D. focuses_by no_leaf d F (map (renamed_clause ρ) P) D (renamed ρ G) a.focus) (instance_renamed ρ (type_at ts) h.0.formula) a.holds);
       }
+  proof_renamed d E F ρ i P G (Fails f) l m h = absurd h.2
 
-  focus_renamed : (d : Declared) (E F : List Ty) (ρ : ℕ → ℕ) → IsRenaming E F ρ → (P : List ClauseFormula) (D A : Term) (f : Focus) → HaveLevel (length E) P → HasLevel (length E) D → HasLevel (length E) A → focuses d E P D A f → Focusable d F (map (renamed_clause ρ) P) (renamed ρ D) (renamed ρ A)
+  focus_renamed : (d : Declared) (E F : List Ty) (ρ : ℕ → ℕ) → IsRenaming E F ρ → (P : List ClauseFormula) (D A : Term) (f : Focus) → HaveLevel (length E) P → HasLevel (length E) D → HasLevel (length E) A → focuses_by no_leaf d E P D A f → PlainlyFocusable d F (map (renamed_clause ρ) P) (renamed ρ D) (renamed ρ A)
   focus_renamed d E F ρ i P D A (FConv H f) l m v h =
       let r = focus_renamed d E F ρ i P H A f l (closed_level (length E) H h.0.closed) v h.2 in
       record { focus = FConv (renamed ρ H) r.focus; holds = (renamed_formula d E F ρ i H h.0, renamed_converts ρ H D h.1, r.holds) }
@@ -195,5 +196,5 @@ mutual
       record { focus = FNeed a.proof r.focus; holds = (renamed ρ h.0, renamed ρ h.1, implication_renamed ρ D h.0 h.1 h.2, a.holds, r.holds) }
   focus_renamed d E F ρ i P D A FHit l m v h = record { focus = FHit; holds = renamed_converts ρ D A h }
 
-pub provable_renamed : (d : Declared) (E F : List Ty) (ρ : ℕ → ℕ) → IsRenaming E F ρ → (P : List ClauseFormula) (G : Term) → HaveLevel (length E) P → HasLevel (length E) G → Provable d E P G → Provable d F (map (renamed_clause ρ) P) (renamed ρ G)
+pub provable_renamed : (d : Declared) (E F : List Ty) (ρ : ℕ → ℕ) → IsRenaming E F ρ → (P : List ClauseFormula) (G : Term) → HaveLevel (length E) P → HasLevel (length E) G → PlainlyProvable d E P G → PlainlyProvable d F (map (renamed_clause ρ) P) (renamed ρ G)
 provable_renamed d E F ρ i P G l m h = proof_renamed d E F ρ i P G h.proof l m h.holds

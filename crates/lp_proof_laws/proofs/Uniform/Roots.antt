@@ -15,11 +15,11 @@ use Rattle.lp_standard.specs.Connectives.{two}
 use Rattle.lp_model.specs.Flatten.{ClauseFormula}
 use Rattle.lp_model.specs.Values.{Value, HasValue}
 use Rattle.lp_standard.specs.Schemes.{IsStandard}
-use Rattle.lp_model.specs.Proofs.{Declared, IsFormula, Proof, Conv, True, And, Left, Right, Witness, All, Assume, Equal, Arith, Back, Focus, FConv, FAll, FTake, FNeed, FHit, IsAtomHead, IsArith, assumed, proves, focuses, Provable, Focusable, Rooted, trivially, both_sides, left_side, right_side, at_witness, for_all, under_assumption, equally, by_arithmetic, by_clause}
+use Rattle.lp_model.specs.Proofs.{Declared, IsFormula, Leaves, Failure, no_leaf, Proof, Conv, True, And, Left, Right, Witness, All, Assume, Equal, Arith, Back, Fails, Focus, FConv, FAll, FTake, FNeed, FHit, IsAtomHead, IsArith, assumed, proves_by, focuses_by, ProvableBy, FocusableBy, RootedBy, trivially, both_sides, left_side, right_side, at_witness, for_all, under_assumption, equally, by_arithmetic, by_clause, by_failure, PlainlyProvable}
 use Rattle.lp_proof_laws.proofs.Uniform.Formulas.{parts, quantified, at_eigen}
 use Rattle.lp_proof_laws.proofs.Uniform.Formulas as formulas
 use Rattle.lp_proof_laws.proofs.Uniform.Forms.{apply_arguments}
-use Rattle.lp_proof_laws.proofs.Uniform.Assumptions.{converted_assumption}
+use Rattle.lp_proof_laws.proofs.Uniform.Assumptions.{AreKept, converted_assumption}
 
 -- what converts to an atom of the calculus on arguments has the atom, and arguments that convert
 
@@ -66,7 +66,7 @@ value_converts e f v h c =
     record { form = h.form; is_form = (subst (ReducesTo f) q m.1, h.is_form.1); is = h.is }
 
 -- a focus is kept where the atom converts
-focus_converts : (d : Declared) (E : List Ty) (P : List ClauseFormula) (D A B : Term) (f : Focus) → Converts A B → focuses d E P D A f → Focusable d E P D B
+focus_converts : {L : Leaves} (d : Declared) (E : List Ty) (P : List ClauseFormula) (D A B : Term) (f : Focus) → Converts A B → focuses_by L d E P D A f → FocusableBy L d E P D B
 focus_converts d E P D A B (FConv H f) c h = let r = focus_converts d E P H A B f c h.2 in record { focus = FConv H r.focus; holds = (h.0, h.1, r.holds) }
 focus_converts d E P D A B (FAll t f) c h = let r = focus_converts d E P (app h.1 t) A B f c h.4 in record { focus = FAll t r.focus; holds = (h.0, h.1, h.2, h.3, r.holds) }
 focus_converts d E P D A B (FTake true f) c h = let r = focus_converts d E P h.1 A B f c h.3 in record { focus = FTake true r.focus; holds = (h.0, h.1, h.2, r.holds) }
@@ -88,15 +88,21 @@ module _ (d : Declared) (std : IsStandard d) where
   pub pi_type : (T : Ty) → scheme_type (T ∷ []) (d 4) ≡ Some (arrow (arrow T o_type) o_type)
   pi_type T = ap (scheme_type (T ∷ [])) (std.at 4 (omega arith))
 
+-- leaves that stand where the goal or an assumption behind these clauses converts
+pub record Converting (L : Leaves) (P : List ClauseFormula) : Type 0 where
+  pub goals : (n : ℕ) (Q : List ClauseFormula) (H H' : Term) (f : Failure) → Converts H H' → L n Q H f → L n Q H' f
+  pub assumptions : (D D' : Term) → Converts D D' → AreKept L (P ++ assumed D ∷ []) (P ++ assumed D' ∷ [])
+
+module _ (L : Leaves) (d : Declared) (std : IsStandard d) where
   -- without the conversions at the root
   Stripped : (E : List Ty) (P : List ClauseFormula) (G : Term) → Type 0
-  Stripped E P G = (H : Term) × Converts H G × IsFormula d E H × Rooted d E P H
+  Stripped E P G = (H : Term) × Converts H G × IsFormula d E H × RootedBy L d E P H
 
-  here_is : (E : List Ty) (P : List ClauseFormula) (G : Term) → IsFormula d E G → Rooted d E P G → Stripped E P G
+  here_is : (E : List Ty) (P : List ClauseFormula) (G : Term) → IsFormula d E G → RootedBy L d E P G → Stripped E P G
   unfolding Stripped
   here_is E P G f r = (G, same G, f, r)
 
-  strip : (E : List Ty) (P : List ClauseFormula) (G : Term) (p : Proof) → IsFormula d E G → proves d E P G p → Stripped E P G
+  strip : (E : List Ty) (P : List ClauseFormula) (G : Term) (p : Proof) → IsFormula d E G → proves_by L d E P G p → Stripped E P G
   unfolding Stripped
   strip E P G (Conv H p) f h = let r = strip E P H p h.0 h.2 in (r.0, converts_on r.1 h.1, r.2, r.3)
   strip E P G True f h = here_is E P G f (trivially h)
@@ -109,16 +115,17 @@ module _ (d : Declared) (std : IsStandard d) where
   strip E P G Equal f h = here_is E P G f (equally h.0 h.1 h.2 h.3 h.4)
   strip E P G Arith f h = here_is E P G f (by_arithmetic h)
   strip E P G (Back i ts f) g h = here_is E P G g (by_clause i h.0 ts h.1 h.2 h.3 h.4 (record { focus = f; holds = h.5 }))
+  strip E P G (Fails x) f h = here_is E P G f (by_failure h.0 h.1 x h.2)
 
-  conv : (E : List Ty) (P : List ClauseFormula) (G H : Term) → IsFormula d E H → Converts H G → Provable d E P H → Provable d E P G
+  conv : (E : List Ty) (P : List ClauseFormula) (G H : Term) → IsFormula d E H → Converts H G → ProvableBy L d E P H → ProvableBy L d E P G
   conv E P G H f c h = record { proof = Conv H h.proof; holds = (f, c, h.holds) }
 
-  module _ (E : List Ty) (P : List ClauseFormula) (a : Atom) (us : List Term) (fine : IsFormula d E (apply (atom a) us)) where
+  module _ (E : List Ty) (P : List ClauseFormula) (a : Atom) (us : List Term) (fine : IsFormula d E (apply (atom a) us)) (kept : Converting L P) where
     abbrev G : Term
     G = apply (atom a) us
 
-    implied : (c : ℕ) → (D A D' A' : Term) → IsFormula d E D × IsFormula d E A → IsFormula d E D' → Converts D D' → Converts A A' → Provable d E (P ++ assumed D ∷ []) A → Provable d E (P ++ assumed D' ∷ []) A'
-    implied c D A D' A' f f' p q h = conv E (P ++ assumed D' ∷ []) A' A f.1 q (converted_assumption d E P D D' A f.0 f' p h)
+    implied : (c : ℕ) → (D A D' A' : Term) → IsFormula d E D × IsFormula d E A → IsFormula d E D' → Converts D D' → Converts A A' → ProvableBy L d E (P ++ assumed D ∷ []) A → ProvableBy L d E (P ++ assumed D' ∷ []) A'
+    implied c D A D' A' f f' p q h = conv E (P ++ assumed D' ∷ []) A' A f.1 q (converted_assumption L d E P D D' A f.0 f' (kept.assumptions D D' p) p h)
 
     arith_moves : (H : Term) → Converts H G → IsArith H → IsArith G
     unfolding TwoJoint
@@ -141,46 +148,53 @@ module _ (d : Declared) (std : IsStandard d) where
         go (abs t) e i = absurd i
         go (app t u) e i = absurd i
 
-    moves : (H : Term) → Converts H G → IsFormula d E H → Rooted d E P H → Rooted d E P G
+    moves : (H : Term) → Converts H G → IsFormula d E H → RootedBy L d E P H → RootedBy L d E P G
     unfolding OneJoint TwoJoint
     moves H c f (trivially (inl e)) = trivially (inl (none_joint 6 [] a us (subst (λ K. Converts K G) e c)))
     moves H c f (trivially (inr e)) = trivially (inr (none_joint 7 [] a us (subst (λ K. Converts K G) e c)))
     moves H c f (both_sides A B e p q) =
         let j = two_joint 0 [] A B a us (subst (λ K. Converts K G) e c) in
-        let fs = parts d E 0 A B (connective 0 (omega arith)) (subst (IsFormula d E) e f) in
+        let fs = parts d E 0 A B (connective d std 0 (omega arith)) (subst (IsFormula d E) e f) in
         both_sides j.0 j.1 j.2 (conv E P j.0 A fs.0 j.3 p) (conv E P j.1 B fs.1 j.4 q)
     moves H c f (left_side A B e p) =
         let j = two_joint 1 [] A B a us (subst (λ K. Converts K G) e c) in
-        let fs = parts d E 1 A B (connective 1 (omega arith)) (subst (IsFormula d E) e f) in
+        let fs = parts d E 1 A B (connective d std 1 (omega arith)) (subst (IsFormula d E) e f) in
         left_side j.0 j.1 j.2 (conv E P j.0 A fs.0 j.3 p)
     moves H c f (right_side A B e p) =
         let j = two_joint 1 [] A B a us (subst (λ K. Converts K G) e c) in
-        let fs = parts d E 1 A B (connective 1 (omega arith)) (subst (IsFormula d E) e f) in
+        let fs = parts d E 1 A B (connective d std 1 (omega arith)) (subst (IsFormula d E) e f) in
         right_side j.0 j.1 j.2 (conv E P j.1 B fs.1 j.4 p)
     moves H c f (at_witness T s t e w p) =
         let j = one_joint 5 (T ∷ []) s a us (subst (λ K. Converts K G) e c) in
-        let fs = quantified d E 5 T s (sigma_type T) (subst (IsFormula d E) e f) in
+        let fs = quantified d E 5 T s (sigma_type d std T) (subst (IsFormula d E) e f) in
         at_witness T j.0 t j.1 w (conv E P (app j.0 t) (app s t) (formulas.at_witness d E T s t fs w) (converts_app j.2 (same t)) p)
     moves H c f (for_all T s e p) =
         let j = one_joint 4 (T ∷ []) s a us (subst (λ K. Converts K G) e c) in
-        let fs = quantified d E 4 T s (pi_type T) (subst (IsFormula d E) e f) in
+        let fs = quantified d E 4 T s (pi_type d std T) (subst (IsFormula d E) e f) in
         for_all T j.0 j.1 (conv (E ++ T ∷ []) P (app j.0 (atom (eigen (suc (length E))))) (app s (atom (eigen (suc (length E))))) (at_eigen d E T s fs) (converts_app j.2 (same (atom (eigen (suc (length E)))))) p)
     moves H c f (under_assumption D A (inl e) p) =
         let j = two_joint 2 [] D A a us (subst (λ K. Converts K G) e c) in
-        let fs = parts d E 2 D A (connective 2 (omega arith)) (subst (IsFormula d E) e f) in
-        let gs = parts d E 2 j.0 j.1 (connective 2 (omega arith)) (subst (IsFormula d E) j.2 fine) in
+        let fs = parts d E 2 D A (connective d std 2 (omega arith)) (subst (IsFormula d E) e f) in
+        let gs = parts d E 2 j.0 j.1 (connective d std 2 (omega arith)) (subst (IsFormula d E) j.2 fine) in
         under_assumption j.0 j.1 (inl j.2) (implied 2 D A j.0 j.1 fs gs.0 j.3 j.4 p)
     moves H c f (under_assumption D A (inr e) p) =
         let j = two_joint 3 [] A D a us (subst (λ K. Converts K G) e c) in
-        let fs = parts d E 3 A D (connective 3 (omega arith)) (subst (IsFormula d E) e f) in
-        let gs = parts d E 3 j.0 j.1 (connective 3 (omega arith)) (subst (IsFormula d E) j.2 fine) in
+        let fs = parts d E 3 A D (connective d std 3 (omega arith)) (subst (IsFormula d E) e f) in
+        let gs = parts d E 3 j.0 j.1 (connective d std 3 (omega arith)) (subst (IsFormula d E) j.2 fine) in
         under_assumption j.1 j.0 (inr j.2) (implied 3 D A j.1 j.0 (fs.1, fs.0) gs.1 j.4 j.3 p)
     moves H c f (equally T t u e v) =
         let j = two_joint 8 (T ∷ []) t u a us (subst (λ K. Converts K G) e c) in
         equally T j.0 j.1 j.2 (converts_on (converts_sym j.3) (converts_on v j.4))
     moves H c f (by_arithmetic h) = by_arithmetic (arith_moves H c h)
     moves H c f (by_clause i D ts e l k h r) = by_clause i D ts e l k (atom_head H c h) (focus_converts d E P _ H G r.focus c r.holds)
+    moves H c f (by_failure K e x h) = let j = one_joint 24 [] K a us (subst (λ M. Converts M G) e c) in by_failure j.0 j.1 x (kept.goals (length E) P K j.0 x j.2 h)
 
-    pub rooted : Provable d E P (apply (atom a) us) → Rooted d E P (apply (atom a) us)
+    pub rooted_by : ProvableBy L d E P (apply (atom a) us) → RootedBy L d E P (apply (atom a) us)
     unfolding Stripped
-    rooted p = let s = strip E P G p.proof fine p.holds in moves s.0 s.1 s.2 s.3
+    rooted_by p = let s = strip E P G p.proof fine p.holds in moves s.0 s.1 s.2 s.3
+
+pub nothing_kept : (P : List ClauseFormula) → Converting no_leaf P
+nothing_kept P = record { goals = λ n Q H H' f c h. h; assumptions = λ D D' c S n H f h. h }
+
+pub rooted : (d : Declared) → IsStandard d → (E : List Ty) (P : List ClauseFormula) (a : Atom) (us : List Term) → IsFormula d E (apply (atom a) us) → PlainlyProvable d E P (apply (atom a) us) → RootedBy no_leaf d E P (apply (atom a) us)
+rooted d std E P a us fine p = rooted_by no_leaf d std E P a us fine (nothing_kept P) p

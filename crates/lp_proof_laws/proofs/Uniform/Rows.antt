@@ -5,7 +5,7 @@ use Rattle.lp_calculus.specs.Term.{Term, index, atom, abs, app, constant, eigen}
 use Rattle.lp_calculus.specs.Convert.{same, back, here, by_beta}
 use Rattle.lp_calculus.specs.Typing.{Scheme, o_type}
 use Rattle.lp_standard.specs.Connectives.{two, pi_of}
-use Rattle.lp_model.specs.Proofs.{Declared, IsFormula, Conv, All, Assume, Back, FHit, Provable}
+use Rattle.lp_model.specs.Proofs.{Declared, IsFormula, Conv, All, Assume, Back, FHit, PlainlyProvable}
 
 abbrev pub known : ℕ → Term
 known c = atom (constant c [])
@@ -40,7 +40,7 @@ step_formula = record {
   closed = ((tt, (tt, omega arith)), (tt, omega arith));
 }
 
-hypothetical : Provable d [] [] (pi_of (kind 8) (abs (impl (on 32 (index 0)) (on 32 (index 0)))))
+hypothetical : PlainlyProvable d [] [] (pi_of (kind 8) (abs (impl (on 32 (index 0)) (on 32 (index 0)))))
 hypothetical = record {
   proof = All (Conv step (Assume (Back 0 [] FHit)));
   holds = (

@@ -8,6 +8,7 @@ use Rattle.lp_standard.specs.Connectives.{two}
 use Rattle.lp_model.specs.Flat.{Clause, Clauses, clause_list, Goals, no_goals}
 use Rattle.lp_model.specs.Flatten.{ClauseFormula, flatten, flatten_query}
 use Rattle.lp_model.specs.Pair.{Pair}
+use Rattle.lp_model.specs.Unify.{unit_limit}
 use Rattle.lp_model.specs.Branch.{Answer}
 use Rattle.lp_model.specs.Search.{look, start}
 pub use Rattle.lp_proof_laws.proofs.Uniform.Rows.{known, kind, on, impl, plain_type}
@@ -42,7 +43,7 @@ abbrev pub query : (ℕ → Option Scheme) → Term → Goals
 query d t = elim (flatten_query 100 d t) [ None ↦ no_goals | Some gs ↦ gs ]
 
 abbrev pub told : (ℕ → Option Scheme) → List ClauseFormula → (type_vars vars : ℕ) → Term → (steps moves : ℕ) → Told Answer
-told d P j k t steps moves = run (look 100 (program d P)) moves (start j k (query d t) steps 1000)
+told d P j k t steps moves = run (look unit_limit 100 (program d P)) moves moves (start j k (query d t) steps 1000)
 
 abbrev pub values : Told Answer → List (List Term)
 values t = map (λ a. a.values) t.answers

@@ -1,13 +1,14 @@
-use Rattle.std.proofs.Common.{◌∙◌, sym, ap, subst, inl, inr, refl, map, string_bytes, Err}
+use Rattle.std.proofs.Common.{◌∙◌, sym, subst, inl, inr, refl, map, string_bytes, ap, Err}
 use Rattle.lp_base.specs.Written.{Appends, AppendsPrefix}
 use Rattle.lp_base.specs.declared.status.Status.TheVariants as variant
-use Rattle.lp_cli.proofs.Orders.{Wrote, usage_told, usage_began, wanting_told, wanting_began, beyond_told, beyond_began, beyond_fault, always, trial_is_beyond, options_are_beyond, is_command, watched_or}
-use Rattle.lp_cli.proofs.Statuses.{is_fault, still, long_still, not_otherwise}
-use Rattle.lp_cli.specs.Placed.{WritesPlaced}
-use Rattle.lp_cli.proofs.Placing.{asked_once, asked_for_one}
+use Rattle.lp_model.specs.declared.ending.Ending.TheVariants as ending
+use Rattle.lp_lines.proofs.Leaving.{leaves_untouched}
+use Rattle.lp_lines.proofs.Statuses.{is_fault, still, long_still, not_otherwise}
+use Rattle.lp_words.specs.Asked.{asked_of}
+use Rattle.lp_cli.proofs.Orders.{Wrote, usage_told, usage_began, wanting_told, wanting_began, told_asked, prefix_asked, fault_asked, placed_asked, keeps_asked, leaves_asked, certifies_asked, command_asked, watched_asked}
 use Rattle.lp_cli.proofs.run.run.Goals as goal
 
--- words that are no command
+-- words that are no command, and want of memory for them
 pub returns-in-Err-Usage-clause-told : goal.returns-in-Err-Usage-clause-told
 returns-in-Err-Usage-clause-told g c =
     λ no other.
@@ -44,7 +45,6 @@ pub returns-in-Err-Usage-clause-overs : goal.returns-in-Err-Usage-clause-overs
 returns-in-Err-Usage-clause-overs g c =
     long_still c.say.result _ _ _ (not_otherwise c.say.result variant.Usage variant.Limit (λ n. (c.say.ensures.said n).0) (λ f. cc) (λ f. cc))
 
--- want of memory for the words
 pub returns-in-Err-Memory-clause-told : goal.returns-in-Err-Memory-clause-told
 returns-in-Err-Memory-clause-told g c =
     λ no other.
@@ -81,74 +81,6 @@ pub returns-in-Err-Memory-clause-overs : goal.returns-in-Err-Memory-clause-overs
 returns-in-Err-Memory-clause-overs g c =
     long_still c.say-in-Err-Memory.result _ _ _ (not_otherwise c.say-in-Err-Memory.result variant.Memory variant.Limit (λ n. (c.say-in-Err-Memory.ensures.said n).0) (λ f. cc) (λ f. cc))
 
--- a generated query
-pub returns-in-Ok-Trial-clause-told : goal.returns-in-Ok-Trial-clause-told
-returns-in-Ok-Trial-clause-told g c =
-    λ no other. beyond_told (g.F.Folder.held c.args.folder.now) (map string_bytes c.args.words.now) (g.K.Sink.written c.args.out.now) (g.K.Sink.written c.trial.new.out) c.trial.result (always (g.F.Folder.held c.args.folder.now) (map string_bytes c.args.words.now) (trial_is_beyond (map string_bytes c.args.words.now) c.in-Ok-Trial.size (rw c.in-Ok-Trial.field-0-is at c.in-Ok-Trial.ensures.ok))) c.trial.ensures.grows
-
-pub returns-in-Ok-Trial-clause-prefix : goal.returns-in-Ok-Trial-clause-prefix
-returns-in-Ok-Trial-clause-prefix g c =
-    λ is. beyond_began (g.F.Folder.held c.args.folder.now) (map string_bytes c.args.words.now) (g.K.Sink.written c.args.out.now) (g.K.Sink.written c.trial.new.out) (always (g.F.Folder.held c.args.folder.now) (map string_bytes c.args.words.now) (trial_is_beyond (map string_bytes c.args.words.now) c.in-Ok-Trial.size (rw c.in-Ok-Trial.field-0-is at c.in-Ok-Trial.ensures.ok))) c.trial.ensures.grows
-
-pub returns-in-Ok-Trial-clause-read_fault : goal.returns-in-Ok-Trial-clause-read_fault
-returns-in-Ok-Trial-clause-read_fault g c =
-    λ is. beyond_fault (g.F.Folder.held c.args.folder.now) (map string_bytes c.args.words.now) (g.K.Sink.written c.args.out.now) (g.K.Sink.written c.trial.new.out) (always (g.F.Folder.held c.args.folder.now) (map string_bytes c.args.words.now) (trial_is_beyond (map string_bytes c.args.words.now) c.in-Ok-Trial.size (rw c.in-Ok-Trial.field-0-is at c.in-Ok-Trial.ensures.ok))) (c.trial.ensures.read_fault is)
-
-pub returns-in-Ok-Trial-clause-usage : goal.returns-in-Ok-Trial-clause-usage
-returns-in-Ok-Trial-clause-usage g c =
-    λ is command. c.trial.ensures.usage is
-
-pub returns-in-Ok-Trial-clause-no_command : goal.returns-in-Ok-Trial-clause-no_command
-returns-in-Ok-Trial-clause-no_command g c =
-    λ no. absurd (no (is_command (map string_bytes c.args.words.now) _ (rw c.in-Ok-Trial.field-0-is at c.in-Ok-Trial.ensures.ok)))
-
--- a query without options
-pub returns-then-are_none-clause-told : goal.returns-then-are_none-clause-told
-returns-then-are_none-clause-told g c =
-    c.solve_plain.ensures.told (map string_bytes c.args.words.now) (record { options = c.in-Ok-Solve.options; is_asked = (rw c.in-Ok-Solve.field-0-is at c.in-Ok-Solve.ensures.ok); plain = sym c.are_none.ensures ∙ c.if-are_none.true })
-
-pub returns-then-are_none-clause-prefix : goal.returns-then-are_none-clause-prefix
-returns-then-are_none-clause-prefix g c =
-    c.solve_plain.ensures.prefix (map string_bytes c.args.words.now) (record { options = c.in-Ok-Solve.options; is_asked = (rw c.in-Ok-Solve.field-0-is at c.in-Ok-Solve.ensures.ok); plain = sym c.are_none.ensures ∙ c.if-are_none.true })
-
-pub returns-then-are_none-clause-read_fault : goal.returns-then-are_none-clause-read_fault
-returns-then-are_none-clause-read_fault g c =
-    c.solve_plain.ensures.read_fault (map string_bytes c.args.words.now) (record { options = c.in-Ok-Solve.options; is_asked = (rw c.in-Ok-Solve.field-0-is at c.in-Ok-Solve.ensures.ok); plain = sym c.are_none.ensures ∙ c.if-are_none.true })
-
-pub returns-then-are_none-clause-usage : goal.returns-then-are_none-clause-usage
-returns-then-are_none-clause-usage g c =
-    λ is command. c.solve_plain.ensures.usage is
-
-pub returns-then-are_none-clause-no_command : goal.returns-then-are_none-clause-no_command
-returns-then-are_none-clause-no_command g c =
-    λ no. absurd (no (is_command (map string_bytes c.args.words.now) _ (rw c.in-Ok-Solve.field-0-is at c.in-Ok-Solve.ensures.ok)))
-
--- a query with options
-pub returns-else-are_none-clause-told : goal.returns-else-are_none-clause-told
-returns-else-are_none-clause-told g c =
-    λ no other. beyond_told (g.F.Folder.held c.args.folder.now) (map string_bytes c.args.words.now) (g.K.Sink.written c.args.out.now) (g.K.Sink.written c.solve_with_options.new.out) c.solve_with_options.result (always (g.F.Folder.held c.args.folder.now) (map string_bytes c.args.words.now) (options_are_beyond (map string_bytes c.args.words.now) c.in-Ok-Solve.name.now c.in-Ok-Solve.query.now c.in-Ok-Solve.options (rw c.in-Ok-Solve.field-0-is at c.in-Ok-Solve.ensures.ok) (sym c.are_none.ensures ∙ c.if-are_none.false))) c.solve_with_options.ensures.grows
-
-pub returns-else-are_none-clause-prefix : goal.returns-else-are_none-clause-prefix
-returns-else-are_none-clause-prefix g c =
-    λ is. beyond_began (g.F.Folder.held c.args.folder.now) (map string_bytes c.args.words.now) (g.K.Sink.written c.args.out.now) (g.K.Sink.written c.solve_with_options.new.out) (always (g.F.Folder.held c.args.folder.now) (map string_bytes c.args.words.now) (options_are_beyond (map string_bytes c.args.words.now) c.in-Ok-Solve.name.now c.in-Ok-Solve.query.now c.in-Ok-Solve.options (rw c.in-Ok-Solve.field-0-is at c.in-Ok-Solve.ensures.ok) (sym c.are_none.ensures ∙ c.if-are_none.false))) c.solve_with_options.ensures.grows
-
-pub returns-else-are_none-clause-read_fault : goal.returns-else-are_none-clause-read_fault
-returns-else-are_none-clause-read_fault g c =
-    λ is. beyond_fault (g.F.Folder.held c.args.folder.now) (map string_bytes c.args.words.now) (g.K.Sink.written c.args.out.now) (g.K.Sink.written c.solve_with_options.new.out) (always (g.F.Folder.held c.args.folder.now) (map string_bytes c.args.words.now) (options_are_beyond (map string_bytes c.args.words.now) c.in-Ok-Solve.name.now c.in-Ok-Solve.query.now c.in-Ok-Solve.options (rw c.in-Ok-Solve.field-0-is at c.in-Ok-Solve.ensures.ok) (sym c.are_none.ensures ∙ c.if-are_none.false))) (c.solve_with_options.ensures.read_fault is)
-
-pub returns-else-are_none-clause-usage : goal.returns-else-are_none-clause-usage
-returns-else-are_none-clause-usage g c =
-    λ is command. c.solve_with_options.ensures.usage is
-
-pub returns-else-are_none-clause-no_command : goal.returns-else-are_none-clause-no_command
-returns-else-are_none-clause-no_command g c =
-    λ no. absurd (no (is_command (map string_bytes c.args.words.now) _ (rw c.in-Ok-Solve.field-0-is at c.in-Ok-Solve.ensures.ok)))
-
-pub returns-else-are_none-clause-silent : goal.returns-else-are_none-clause-silent
-returns-else-are_none-clause-silent g c =
-    watched_or (map string_bytes c.args.words.now) c.in-Ok-Solve.name.now c.in-Ok-Solve.query.now c.in-Ok-Solve.options _ _ (rw c.in-Ok-Solve.field-0-is at c.in-Ok-Solve.ensures.ok) c.solve_with_options.ensures.silent
-
--- nobody else reaches the watchers
 pub returns-in-Err-Usage-clause-silent : goal.returns-in-Err-Usage-clause-silent
 returns-in-Err-Usage-clause-silent g c =
     inr refl
@@ -157,31 +89,90 @@ pub returns-in-Err-Memory-clause-silent : goal.returns-in-Err-Memory-clause-sile
 returns-in-Err-Memory-clause-silent g c =
     inr refl
 
-pub returns-in-Ok-Trial-clause-silent : goal.returns-in-Ok-Trial-clause-silent
-returns-in-Ok-Trial-clause-silent g c =
-    inr refl
-
-pub returns-then-are_none-clause-silent : goal.returns-then-are_none-clause-silent
-returns-then-are_none-clause-silent g c =
-    inr refl
-
--- no line of sources is written but of the text that is refused
 pub returns-in-Err-Usage-clause-placed : goal.returns-in-Err-Usage-clause-placed
 returns-in-Err-Usage-clause-placed g c =
-    λ e name query options is. absurd (not_otherwise c.say.result variant.Usage variant.Source (λ n. (c.say.ensures.said n).0) (λ f. cc) (λ f. cc) e)
+    λ e query is. absurd (not_otherwise c.say.result variant.Usage variant.Source (λ n. (c.say.ensures.said n).0) (λ f. cc) (λ f. cc) e)
 
 pub returns-in-Err-Memory-clause-placed : goal.returns-in-Err-Memory-clause-placed
 returns-in-Err-Memory-clause-placed g c =
-    λ e name query options is. absurd (not_otherwise c.say-in-Err-Memory.result variant.Memory variant.Source (λ n. (c.say-in-Err-Memory.ensures.said n).0) (λ f. cc) (λ f. cc) e)
+    λ e query is. absurd (not_otherwise c.say-in-Err-Memory.result variant.Memory variant.Source (λ n. (c.say-in-Err-Memory.ensures.said n).0) (λ f. cc) (λ f. cc) e)
 
-pub returns-in-Ok-Trial-clause-placed : goal.returns-in-Ok-Trial-clause-placed
-returns-in-Ok-Trial-clause-placed g c =
-    λ e name query options is. absurd (asked_for_one (rw c.in-Ok-Trial.field-0-is at c.in-Ok-Trial.ensures.ok) is)
+pub returns-in-Err-Usage-clause-leaves : goal.returns-in-Err-Usage-clause-leaves
+returns-in-Err-Usage-clause-leaves g c =
+    λ command name is. leaves_untouched c.say.result variant.Usage (λ n. (c.say.ensures.said n).0) (λ e. cc) c.say.ensures.faults refl refl
 
-pub returns-then-are_none-clause-placed : goal.returns-then-are_none-clause-placed
-returns-then-are_none-clause-placed g c =
-    λ e name query options is. subst (λ q. WritesPlaced (g.F.Folder.held c.args.folder.now) q (g.K.Sink.written c.args.out.now) (g.K.Sink.written c.solve_plain.new.out)) (asked_once (rw c.in-Ok-Solve.field-0-is at c.in-Ok-Solve.ensures.ok) is) (c.solve_plain.ensures.placed e)
+pub returns-in-Err-Memory-clause-leaves : goal.returns-in-Err-Memory-clause-leaves
+returns-in-Err-Memory-clause-leaves g c =
+    λ command name is. leaves_untouched c.say-in-Err-Memory.result variant.Memory (λ n. (c.say-in-Err-Memory.ensures.said n).0) (λ e. cc) c.say-in-Err-Memory.ensures.faults refl refl
 
-pub returns-else-are_none-clause-placed : goal.returns-else-are_none-clause-placed
-returns-else-are_none-clause-placed g c =
-    λ e name query options is. subst (λ q. WritesPlaced (g.F.Folder.held c.args.folder.now) q (g.K.Sink.written c.args.out.now) (g.K.Sink.written c.solve_with_options.new.out)) (c.question.ensures ∙ asked_once (rw c.in-Ok-Solve.field-0-is at c.in-Ok-Solve.ensures.ok) is) (c.solve_with_options.ensures.placed e)
+pub returns-in-Err-Usage-clause-write_faults : goal.returns-in-Err-Usage-clause-write_faults
+returns-in-Err-Usage-clause-write_faults g c = λ none. c.say.ensures.faults
+
+pub returns-in-Err-Usage-clause-no_file_written : goal.returns-in-Err-Usage-clause-no_file_written
+returns-in-Err-Usage-clause-no_file_written g c = λ none. refl
+
+pub returns-in-Err-Usage-clause-held : goal.returns-in-Err-Usage-clause-held
+returns-in-Err-Usage-clause-held g c = λ none. refl
+
+pub returns-in-Err-Memory-clause-write_faults : goal.returns-in-Err-Memory-clause-write_faults
+returns-in-Err-Memory-clause-write_faults g c = λ none. c.say-in-Err-Memory.ensures.faults
+
+pub returns-in-Err-Memory-clause-no_file_written : goal.returns-in-Err-Memory-clause-no_file_written
+returns-in-Err-Memory-clause-no_file_written g c = λ none. refl
+
+pub returns-in-Err-Memory-clause-held : goal.returns-in-Err-Memory-clause-held
+returns-in-Err-Memory-clause-held g c = λ none. refl
+
+-- what the words ask for
+pub returns-in-Ok-clause-told : goal.returns-in-Ok-clause-told
+returns-in-Ok-clause-told g c = told_asked (map string_bytes c.args.words.now) (asked_of c.in-Ok.asked) c.in-Ok.ensures.ok c.perform.ensures.does
+
+pub returns-in-Ok-clause-prefix : goal.returns-in-Ok-clause-prefix
+returns-in-Ok-clause-prefix g c = prefix_asked (map string_bytes c.args.words.now) (asked_of c.in-Ok.asked) c.in-Ok.ensures.ok c.perform.ensures.does
+
+pub returns-in-Ok-clause-read_fault : goal.returns-in-Ok-clause-read_fault
+returns-in-Ok-clause-read_fault g c = fault_asked (map string_bytes c.args.words.now) (asked_of c.in-Ok.asked) c.in-Ok.ensures.ok c.perform.ensures.does
+
+pub returns-in-Ok-clause-placed : goal.returns-in-Ok-clause-placed
+returns-in-Ok-clause-placed g c = placed_asked (map string_bytes c.args.words.now) (asked_of c.in-Ok.asked) c.in-Ok.ensures.ok c.perform.ensures.does
+
+pub returns-in-Ok-clause-usage : goal.returns-in-Ok-clause-usage
+returns-in-Ok-clause-usage g c = λ e command. c.perform.ensures.does.ran.command e
+
+pub returns-in-Ok-clause-no_command : goal.returns-in-Ok-clause-no_command
+returns-in-Ok-clause-no_command g c = λ no. absurd (no (command_asked (map string_bytes c.args.words.now) (asked_of c.in-Ok.asked) c.in-Ok.ensures.ok))
+
+pub returns-in-Ok-clause-silent : goal.returns-in-Ok-clause-silent
+returns-in-Ok-clause-silent g c = watched_asked (map string_bytes c.args.words.now) (asked_of c.in-Ok.asked) c.in-Ok.ensures.ok c.perform.ensures.silent
+
+pub returns-in-Ok-clause-write_faults : goal.returns-in-Ok-clause-write_faults
+returns-in-Ok-clause-write_faults g c = λ none. (keeps_asked (map string_bytes c.args.words.now) (asked_of c.in-Ok.asked) c.in-Ok.ensures.ok c.perform.ensures.does none).output
+
+pub returns-in-Ok-clause-read_faults : goal.returns-in-Ok-clause-read_faults
+returns-in-Ok-clause-read_faults g c = c.perform.ensures.does.ran.read
+
+pub returns-in-Ok-clause-misses : goal.returns-in-Ok-clause-misses
+returns-in-Ok-clause-misses g c = c.perform.ensures.does.ran.missing
+
+pub returns-in-Ok-clause-overs : goal.returns-in-Ok-clause-overs
+returns-in-Ok-clause-overs g c = c.perform.ensures.does.ran.long
+
+pub returns-in-Ok-clause-no_file_written : goal.returns-in-Ok-clause-no_file_written
+returns-in-Ok-clause-no_file_written g c = λ none. (keeps_asked (map string_bytes c.args.words.now) (asked_of c.in-Ok.asked) c.in-Ok.ensures.ok c.perform.ensures.does none).unwritten
+
+pub returns-in-Ok-clause-held : goal.returns-in-Ok-clause-held
+returns-in-Ok-clause-held g c = λ none. (keeps_asked (map string_bytes c.args.words.now) (asked_of c.in-Ok.asked) c.in-Ok.ensures.ok c.perform.ensures.does none).same
+
+pub returns-in-Ok-clause-leaves : goal.returns-in-Ok-clause-leaves
+returns-in-Ok-clause-leaves g c = leaves_asked (map string_bytes c.args.words.now) (asked_of c.in-Ok.asked) c.in-Ok.ensures.ok c.perform.ensures.does
+
+pub returns-in-Ok-clause-certifies : goal.returns-in-Ok-clause-certifies
+returns-in-Ok-clause-certifies g c = certifies_asked (map string_bytes c.args.words.now) (asked_of c.in-Ok.asked) c.in-Ok.ensures.ok c.perform.ensures.does
+
+pub returns-in-Err-Usage-clause-certifies : goal.returns-in-Err-Usage-clause-certifies
+returns-in-Err-Usage-clause-certifies g c =
+    λ name query options is. (0, 0, ending.NoMore, leaves_untouched c.say.result variant.Usage (λ n. (c.say.ensures.said n).0) (λ e. cc) c.say.ensures.faults refl refl)
+
+pub returns-in-Err-Memory-clause-certifies : goal.returns-in-Err-Memory-clause-certifies
+returns-in-Err-Memory-clause-certifies g c =
+    λ name query options is. (0, 0, ending.NoMore, leaves_untouched c.say-in-Err-Memory.result variant.Memory (λ n. (c.say-in-Err-Memory.ensures.said n).0) (λ e. cc) c.say-in-Err-Memory.ensures.faults refl refl)

@@ -1,5 +1,7 @@
-use Rattle.std.proofs.Common.{arith, ◌∙◌, sym, ap, subst, length, take, drop}
-use Rattle.lp_infer.specs.Copies.{AreTypes, trees_of}
+use Rattle.std.proofs.Common.{◌∙◌, sym, ap, subst, length, take, drop}
+use Rattle.lp_term.specs.Within.{AreTypesOf}
+use Rattle.lp_term.proofs.Within.{types_later}
+use Rattle.lp_infer.specs.Copies.{trees_of}
 use Rattle.lp_infer.specs.Filling.{fills, IsTerm}
 use Rattle.lp_infer.specs.ReadingOff.{bound_type, ReadsAll}
 use Rattle.lp_infer.proofs.Joining.{has_types}
@@ -11,7 +13,7 @@ returns-clause-types c =
     let types = c.in_ok-types.types.items in
     let spots = c.args.places.now in
     let R = subst (λ ids. ReadsAll A c.read_all.new.to c.new-reading.result c.read_all.new.self ids types) c.as_slice.ensures.value (c.in_ok-types.ensures.read (c.new-reading.ensures.memo A c.args.bank.now)) in
-    let term = c.in_ok-formula.ensures.term c.new-terms.ensures.stack (subst (AreTypes c.read_all.new.to) (sym c.as_slice-2.ensures.value) R.are.known) in
+    let term = c.in_ok-formula.ensures.term c.new-terms.ensures.stack (subst (AreTypesOf c.read_all.new.to) (sym c.as_slice-2.ensures.value) R.are.known) in
     has_types c.args.source.now c.args.steps.now spots A c.read_all.new.to c.formula.new.bank c.args.typing.now.wanted.items types c.new-reading.result c.read_all.new.self _ c.in_ok-formula.ensures.kept c.new-reading.ensures.numbers R
     (c.in_ok-vars.ensures.are.0, c.in_ok-vars.ensures.are.1 ∙ ap (take (length spots)) c.as_slice-3.ensures.value)
     (λ S d τ e.
@@ -20,4 +22,10 @@ returns-clause-types c =
     c.count.ensures
 
 pub returns-clause-stands : goal.returns-clause-stands
-returns-clause-stands c = record { formula = omega (arith, c.if-formula-term_count.false, c.term_count.ensures.count); types = c.in_ok-vars.ensures.known }
+returns-clause-stands c = record { formula = c.in_ok-formula.ensures.within; types = c.in_ok-vars.ensures.known }
+
+pub variables-requires : goal.variables-requires
+variables-requires c =
+    let A = bound_type c.args.typing.now.types c.args.bindings.now.made in
+    let R = c.in_ok-types.ensures.read (c.new-reading.ensures.memo A c.args.bank.now) in
+    types_later c.read_all.new.to c.formula.new.bank c.as_slice-3.result.now c.in_ok-formula.ensures.kept (subst (AreTypesOf c.read_all.new.to) (sym c.as_slice-3.ensures.value) R.are.known)

@@ -1,6 +1,6 @@
 use Rattle.std.proofs.Common.{subst}
+use Rattle.std.proofs.lemmas.Result.{IfOk-weaker}
 use Rattle.lp_infer.specs.Visits.{LookedUp}
-use Rattle.lp_infer.proofs.Results.{if_ok_as}
 use Rattle.lp_infer.proofs.Joining.{none_read}
 use Rattle.lp_infer.proofs.infer.typing_of_text.Goals as goal
 
@@ -10,4 +10,7 @@ returns-in_default-clause-typed c =
 
 pub returns-clause-typed : goal.returns-clause-typed
 returns-clause-typed c =
-    if_ok_as c.typed.result c.typed.ensures.typed (λ found h. h c.args.raw.now (subst (LookedUp c.args.signature.now c.args.source.now c.args.raw.now.nodes.items c.args.raw.now.root) c.in-Some.is c.in_ok-text.ensures))
+    IfOk-weaker c.typed.result _ _ (λ found h. h c.args.raw.now (subst (LookedUp c.args.signature.now c.args.source.now c.args.raw.now.nodes.items c.args.raw.now.root) c.in-Some.is c.in_ok-text.ensures)) c.typed.ensures.typed
+
+pub typed-requires : goal.typed-requires
+typed-requires c = (subst (LookedUp c.args.signature.now c.args.source.now c.args.raw.now.nodes.items c.args.raw.now.root) c.in-Some.is c.in_ok-text.ensures).known

@@ -1,29 +1,24 @@
-use Rattle.std.proofs.Common.{refl}
-use Rattle.lp_calculus.specs.Types.{instance as put_in}
+use Rattle.std.proofs.Common.{◌∙◌, ℕ, ap}
+use Rattle.lp_calculus.specs.Types.{Ty, instance as put_in}
 use Rattle.lp_calculus.specs.Typing.{type_at}
+use Rattle.lp_calculus.specs.Term.{Term, atom, logic}
 use Rattle.lp_term.specs.Nodes.{type_tree}
-use Rattle.lp_term.proofs.Trees.{extends_same, extends-trans}
+use Rattle.lp_term.proofs.MapLaws.{putting, type_put}
+use Rattle.lp_term.proofs.Within.{types_later, type_trees_later}
+use Rattle.lp_lemmas.proofs.Results.{if_ok_both}
 use Rattle.lp_infer.specs.Copies.{trees_of}
-use Rattle.lp_infer.proofs.Copying.{filling_stays, no_memo, ok_made}
+use Rattle.lp_infer.proofs.Copying.{arguments_are_map}
 use Rattle.lp_infer.proofs.instance.instance.Goals as goal
 
-pub loop-init : goal.loop-init
-loop-init c =
-    let φ = type_at (trees_of c.args.to.now c.args.args.now) in record {
-      kept = extends_same c.args.to.now;
-      filling = record { known = c.are_known.ensures c.if-not-are_known.false; is = refl };
-      memo = no_memo (λ i. put_in φ (type_tree c.args.from.now i)) c.args.to.now c.new-made.result c.new-made.ensures.empty;
-    }
-
-pub loop-preserved : goal.loop-preserved
-loop-preserved c =
-    let φ = type_at (trees_of c.args.to.now c.args.args.now) in record {
-      kept = extends-trans c.args.to.now c.loop.to c.take.new.to c.loop.invariant.kept c.take.ensures.kept;
-      filling = filling_stays c.loop.to c.take.new.to c.take.ensures.kept c.args.args.now φ c.loop.invariant.filling;
-      memo = c.in_ok-take.ensures.memo φ c.loop.invariant.filling c.loop.invariant.memo;
-    }
-
-pub returns-in_default-clause-tree : goal.returns-in_default-clause-tree
-returns-in_default-clause-tree c =
-    let φ = type_at (trees_of c.args.to.now c.args.args.now) in
-    ok_made (λ i. put_in φ (type_tree c.args.from.now i)) c.loop.to c.loop.made c.loop.invariant.memo c.args.body c.copy_of.result c.copy_of.ensures
+pub returns-clause-tree : goal.returns-clause-tree
+returns-clause-tree c = λ known.
+    let to = c.args.to.now in
+    let d = c.put_constructor.new.bank in
+    let E = c.put_constructor.ensures.kept in
+    let T = type_tree c.args.from.now c.args.body.0 in
+    let θ : ℕ → Ty = type_at (trees_of d c.args.args.now) in
+    let σ : ℕ → ℕ → Term = λ x l. atom (logic x l) in
+    let is_map = arguments_are_map c.args.from.now d (record { args = c.args.args; other = c.in_ok-other.other }) (types_later to d c.args.args.now E known) (c.in_ok-other.ensures.within, c.in_ok-other.ensures.tree) in
+    if_ok_both c.copy_type.result _ _ _
+    (λ id w h. (w, h (putting θ σ) is_map (c.new.ensures (putting θ σ) c.args.from.now d) ∙ type_put θ σ T ∙ ap (λ Ts. put_in (type_at Ts) T) (type_trees_later to d c.args.args.now E known)))
+    c.copy_type.ensures.within c.copy_type.ensures.made

@@ -1,10 +1,11 @@
 use Rattle.std.proofs.Common.{ℕ, ◌∙◌, sym, ap, subst, length, map, reverse, get_or, arith, [], ◌∷◌}
 use Rattle.std.specs.Prelude.{sum_by}
-use Rattle.lp_module.specs.Copies.{Copies, counts_of}
+use Rattle.lp_copies.specs.Copies.{Copies}
+use Rattle.lp_module.specs.Copies.{counts_of}
 use Rattle.lp_module.specs.Making.{clauses_of}
-use Rattle.lp_module.specs.Trees.{lists_in, Turns, frames_of}
+use Rattle.lp_copies.specs.Trees.{lists_in, Turns, frames_of}
 use Rattle.lp_module.proofs.Uses.{last_apart, count_at, total_more, around_more}
-use Rattle.lp_module.proofs.Copied.{rows_are}
+use Rattle.lp_copies.proofs.Copied.{rows_are}
 use Rattle.lp_module.proofs.copies.make.Goals as goal
 
 pub copies-init : goal.copies-init

@@ -1,7 +1,7 @@
 use Rattle.std.proofs.Common.{◌≡◌, length, map, reverse, get_or}
 use Rattle.lp_module.specs.Copies.{counts_of, total}
 use Rattle.lp_module.specs.Making.{IsSoFar, clauses_of}
-use Rattle.lp_module.specs.Trees.{lists_in, IsCopying, frames_of, copy_load}
+use Rattle.lp_copies.specs.Trees.{lists_in, IsCopying, frames_of, copy_load}
 use Rattle.lp_module.proofs.copies.make.Given as goal
 
 abbrev pub invariant-copies : goal.invariant-copies

@@ -5,4 +5,4 @@ use Rattle.lp_module.proofs.form.check_form.Goals as goal
 
 pub returns-in_err-normal-clause-refused : goal.returns-in_err-normal-clause-refused
 returns-in_err-normal-clause-refused c =
-    passed_up c.from_residual.result c.in_err-normal.field-0.0 (IsFormFault (tree c.args.bank.now c.args.typed.now.formula.0) c.args.first) c.from_residual.ensures.1 (c.in_err-normal.ensures.refused c.args.first)
+    passed_up c.from_residual.result c.in_err-normal.field-0.0 (IsFormFault (tree c.args.bank.now c.args.formula.0) c.args.first) c.from_residual.ensures.1 (c.in_err-normal.ensures.refused c.args.first)

@@ -10,4 +10,4 @@ use Rattle.lp_module.proofs.meaning.check_clauses.Goals as goal
 pub returns-in_err-check_form : goal.returns-in_err-check_form
 returns-in_err-check_form c = λ lines same.
     passed_up c.from_residual-in_err-check_form.result c.in_err-check_form.field-0.0 (λ e. (e ≡ fault.Memory) ⊎ IsUnformed lines e) c.from_residual-in_err-check_form.ensures.1
-    (inr (unformed_at lines c.args.sentences.now c.loop-at.at c.index-sentences-at.result (tree c.loop-at.scratch c.index-sentences-at.result.typed.formula.0) c.in_err-check_form.field-0.0 same c.loop-at-test.true c.index-sentences-at.is c.in_err-check_form.ensures.refused))
+    (inr (unformed_at lines c.args.sentences.now c.loop-at.at c.index-sentences-at.result (tree c.copy.new.to c.in_ok-formula.formula.0) c.in_err-check_form.field-0.0 same c.loop-at-test.true c.index-sentences-at.is c.in_err-check_form.ensures.refused))

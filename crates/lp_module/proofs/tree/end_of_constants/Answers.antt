@@ -8,7 +8,7 @@ use Rattle.lp_module.proofs.tree.end_of_constants.Goals as goal
 
 pub returns-in_err-all-clause-refused : goal.returns-in_err-all-clause-refused
 returns-in_err-all-clause-refused c =
-    passed_up c.from_residual.result c.in_err-all.field-0.0 (λ e. (e ≡ fault.Limit limit.Names) × (65535 < constants_end c.args.modules.now c.args.root c.args.order.now.items)) c.from_residual.ensures.1 (
+    passed_up c.from_residual.result c.in_err-all.field-0.0 (λ e. (e ≡ fault.Limit limit.Names) × (1048576 < constants_end c.args.modules.now c.args.root c.args.order.now.items)) c.from_residual.ensures.1 (
       c.in_err-all.ensures.refused.0,
       begun_passed (λ x. length x.hidden_constants.items) (λ x. length x.signature.constants.items - length x.hidden_constants.items) 32 c.args.root c.args.modules.now c.args.order.now.items c.index-modules-root.result c.exported-exported.result c.requires.root c.index-modules-root.is (omega (arith, c.exported-exported.ensures, ap length c.constants.ensures, c.len.ensures, c.index-modules-root.result.hidden_constants.ok)) c.in_err-all.ensures.refused.1,
     )

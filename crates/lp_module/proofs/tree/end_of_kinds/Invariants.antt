@@ -4,4 +4,4 @@ use Rattle.lp_module.specs.Copies.{kinds_end}
 use Rattle.lp_module.proofs.tree.end_of_kinds.Given as goal
 
 abbrev pub invariant-loop-at : goal.invariant-loop-at
-invariant-loop-at l = (l.all + sum_by (λ m. get_or (map (λ x. length x.hidden_kinds.items) l.modules) m 0) (drop l.at l.order.items) ≡ kinds_end l.modules l.root l.order.items) × (l.all ≤ 65535)
+invariant-loop-at l = (l.all + sum_by (λ m. get_or (map (λ x. length x.hidden_kinds.items) l.modules) m 0) (drop l.at l.order.items) ≡ kinds_end l.modules l.root l.order.items) × (l.all ≤ 1048576)

@@ -1,5 +1,5 @@
 use Rattle.std.proofs.Common.{◌≡◌}
-use Rattle.lp_module.specs.Trees.{lists_in, IsCopying, copy_load}
+use Rattle.lp_copies.specs.Trees.{lists_in, IsCopying, copy_load}
 use Rattle.lp_module.proofs.tree.order_of.Given as goal
 
 abbrev pub invariant-copies : goal.invariant-copies

@@ -1,6 +1,6 @@
 use Rattle.std.proofs.Common.{◌≡◌, map, take}
 use Rattle.lp_module.specs.Copies.{names_of, numbers_of}
-use Rattle.lp_module.specs.Trees.{lists_in}
+use Rattle.lp_copies.specs.Trees.{lists_in}
 use Rattle.lp_module.proofs.tree.uses_of.Given as goal
 
 abbrev pub invariant-loop-at : goal.invariant-loop-at

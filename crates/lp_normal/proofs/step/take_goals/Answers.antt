@@ -4,8 +4,8 @@ use Rattle.lp_model.specs.declared.clause.Clause.{Clause}
 use Rattle.lp_normal.specs.Within.{IsFrameIn}
 use Rattle.lp_normal.specs.declared.frame.Frame.{Frame}
 use Rattle.lp_normal.proofs.Bounds.{All-pushed, new_list, with_goal, with_clause, types_high}
-use Rattle.lp_normal.proofs.Meanings.{either_terms, either_types, all_terms, all_types, assume_terms, assume_types, clause_terms, clause_types}
-use Rattle.lp_normal.proofs.Turnings.{left_turns, right_turns, all_turns, assume_turns, body_turns}
+use Rattle.lp_normal.proofs.Meanings.{either_terms, either_types, all_terms, all_types, assume_terms, assume_types, not_terms, not_types, clause_terms, clause_types}
+use Rattle.lp_normal.proofs.Turnings.{left_turns, right_turns, all_turns, assume_turns, not_turns, body_turns}
 use Rattle.lp_normal.proofs.step.take_goals.Goals as goal
 
 pub returns-in_ok-push-in-Left-clause-frames : goal.returns-in_ok-push-in-Left-clause-frames
@@ -67,6 +67,19 @@ returns-in_ok-made-in-Assume-clause-comes c = λ b gs next whole i r u t.
     let e = c.in_ok-made-in-Assume.ensures in
     let fs = c.args.frames.now.items in
     assume_turns b fs fs c.args.goals.items gs next whole r t c.in-Assume.outer c.in_ok-made-in-Assume.made c.in-Assume.clauses c.args.goals refl refl e.opened e.done e.waiting e.level v
+
+pub returns-in_ok-made-in-Not-clause-within : goal.returns-in_ok-made-in-Not-clause-within
+returns-in_ok-made-in-Not-clause-within c = λ b i g.
+    let j = rw c.in-Not.is at i in
+    let e = c.in_ok-made-in-Not.ensures in
+    with_goal b c.in-Not.outer c.in_ok-made-in-Not.made (code.Not c.args.goals) e.opened e.done e.waiting e.level j (omega (arith, not_terms c.args.goals, g.terms)) (omega (arith, not_types c.args.goals, g.types))
+
+pub returns-in_ok-made-in-Not-clause-comes : goal.returns-in_ok-made-in-Not-clause-comes
+returns-in_ok-made-in-Not-clause-comes c = λ b gs next whole i r u t.
+    let v = rw c.in-Not.is at u in
+    let e = c.in_ok-made-in-Not.ensures in
+    let fs = c.args.frames.now.items in
+    not_turns b fs fs c.args.goals.items gs next whole r t c.in-Not.outer c.in_ok-made-in-Not.made c.args.goals refl refl e.opened e.done e.waiting e.level v
 
 pub returns-in_ok-made-in-Body-clause-within : goal.returns-in_ok-made-in-Body-clause-within
 returns-in_ok-made-in-Body-clause-within c = λ b i g.

@@ -4,6 +4,7 @@ use Rattle.lp_calculus.specs.Term.{Term}
 use Rattle.lp_term.specs.Nodes.{Extends, tree}
 use Rattle.lp_term.specs.declared.node.TermId.{TermId}
 use Rattle.lp_plain.specs.Instances.{instanced, StandFor, IsNoParameter, ToInstance}
+use Rattle.lp_plain.specs.Renewal.{renewing}
 use Rattle.lp_plain.specs.Scopes.{IsScope}
 use Rattle.lp_plain.proofs.instance.instance.Given as goal
 
@@ -11,5 +12,5 @@ abbrev pub invariant-tasks : goal.invariant-tasks
 invariant-tasks l = record {
   kept : Extends l.fn.bank l.bank;
   left : (nb nv : ℕ) → (vs : List TermId) → IsScope l.scopes nb nv l.values.scope vs → (σ : ℕ → Term) → StandFor l.fn.bank vs σ → AllAtoms IsNoParameter (tree l.fn.bank l.fn.term.0) →
-      ToInstance σ l.values.types l.bank l.tasks.items l.made.items (instanced σ l.values.types 0 (tree l.fn.bank l.fn.term.0));
+      ToInstance σ (renewing l.values.types) l.bank l.tasks.items l.made.items (instanced σ (renewing l.values.types) 0 (tree l.fn.bank l.fn.term.0));
 }

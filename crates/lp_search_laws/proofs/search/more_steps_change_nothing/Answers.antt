@@ -2,4 +2,4 @@ use Rattle.lp_search_laws.proofs.MoreSteps as lemmas
 use Rattle.lp_search_laws.proofs.search.more_steps_change_nothing.Goals as goal
 
 pub returns : goal.returns
-returns c = λ n m l P j s e h r. lemmas.more_steps_same n m l P j s e h r
+returns c = λ u n m h P j k i l x y s e r. lemmas.more_steps_same u n m h P j k i l x y s e r

@@ -1,5 +1,5 @@
-use Rattle.lp_search_laws.proofs.LooksRight as lemmas
+use Rattle.lp_search_laws.proofs.WholeRight as lemmas
 use Rattle.lp_search_laws.proofs.whole.plain_search_is_right.Goals as goal
 
 pub returns : goal.returns
-returns c = lemmas.plain_search_is_right
+returns c = lemmas.search_is_right

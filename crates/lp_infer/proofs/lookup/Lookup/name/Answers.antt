@@ -1,10 +1,10 @@
 use Rattle.std.proofs.Common.{◌∙◌, refl, sym, ap, Some, None}
 use Rattle.std.specs.Str.{bytes_eq}
+use Rattle.std.proofs.lemmas.Result.{IfOk-weaker}
 use Rattle.lp_sig.specs.Places.{first_place}
 use Rattle.lp_infer.specs.Typing.{raw_index}
 use Rattle.lp_infer.specs.Texts.{is_blank, read_variable, read_free}
 use Rattle.lp_infer.specs.declared.lookup.Step.TheVariants as step
-use Rattle.lp_infer.proofs.Results.{if_ok_as}
 use Rattle.lp_infer.proofs.Leaves.{leaf_as, leaf_read_as, leaf_pushed, name_blank, name_bound}
 use Rattle.lp_infer.proofs.lookup.Lookup.name.Goals as goal
 
@@ -24,10 +24,10 @@ returns-in-Some c = λ names H F.
 
 pub returns : goal.returns
 returns c =
-    if_ok_as c.free.result c.free.ensures (λ ok h names H F.
+    IfOk-weaker c.free.result _ _ (λ ok h names H F.
     let before = c.args.self.now.variables.places.items in
     leaf_read_as c.args.signature.now c.args.source.now (λ count. read_free c.args.signature.now c.args.source.now count names c.args.spot before) _ c.args.self.now c.free.new.self ok
     (λ count.
     name_bound c.args.signature.now c.args.source.now count names c.args.spot before None (ap is_blank (sym c.spelled_at-name.ensures) ∙ ap (λ u. bytes_eq c.spelled_at-name.result.now u) (sym c.as_slice.ensures) ∙ sym c.eq.ensures ∙ c.if-eq.false)
     (sym c.in_default.is ∙ c.out.ensures names H ∙ ap (λ w. first_place w names) c.spelled_at-name.ensures))
-    (h names H F))
+    (h names H F)) c.free.ensures

@@ -13,8 +13,8 @@ returns-in_default-type_at-clause-node c = λ sig text nodes at N κ A m.
 
 pub returns-clause-node : goal.returns-clause-node
 returns-clause-node c = λ sig text nodes at N. (
-  c.in_ok-id.ensures.tree.0,
+  c.in_ok-id.ensures.within,
   λ κ ρ G.
       arrow_means sig text nodes c.args.self.now c.args.done.now N c.args.from c.args.to c.in-Some.left c.in-Some-type_at.right (sym c.type_at.ensures ∙ c.in-Some.is) (sym c.type_at-2.ensures ∙ c.in-Some-type_at.is) at κ ρ G
-      (type_tree c.put_arrow.new.bank c.in_ok-id.id.0) c.in_ok-id.ensures.tree.1,
+      (type_tree c.put_arrow.new.bank c.in_ok-id.id.0) c.in_ok-id.ensures.tree,
 )

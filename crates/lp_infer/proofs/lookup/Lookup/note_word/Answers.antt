@@ -1,8 +1,8 @@
 use Rattle.std.proofs.Common.{◌∙◌, sym, ap, subst, Some, None, map, length}
 use Rattle.std.specs.Prelude.{Contains}
+use Rattle.std.proofs.lemmas.Result.{on_ok_weaker}
 use Rattle.lp_sig.specs.Pieces.{begins_variable}
 use Rattle.lp_infer.specs.Noted.{known_at, TypesAt, KindNoted}
-use Rattle.lp_infer.proofs.Scanning.{on_ok}
 use Rattle.lp_infer.proofs.Results.{if_ok_late}
 use Rattle.lp_infer.proofs.Noting.{word_nothing, word_kind, word_on_parts, word_variable, parts_types, grows_same, some_parts, no_elements}
 use Rattle.lp_infer.proofs.lookup.Lookup.note_word.Goals as goal
@@ -13,7 +13,7 @@ returns-in_default-clause-node c = λ firsts nodes parts e at N κ A m.
     word_nothing c.args.signature.now c.args.source.now nodes c.args.self.now c.args.done.now N c.args.spot parts t.0 (subst (λ l. Contains l t.0) (sym e) t.1) t.2 at κ A m
 
 pub returns-then-not-is_variable-clause-grows : goal.returns-then-not-is_variable-clause-grows
-returns-then-not-is_variable-clause-grows c = on_ok c.note_kind.result c.note_kind.ensures.grows (λ g firsts. g c.args.source.now)
+returns-then-not-is_variable-clause-grows c = on_ok_weaker c.note_kind.result (λ g firsts. g c.args.source.now) c.note_kind.ensures.grows
 
 pub returns-then-not-is_variable-clause-node : goal.returns-then-not-is_variable-clause-node
 returns-then-not-is_variable-clause-node c =

@@ -1,14 +1,14 @@
 use Rattle.std.proofs.Common.{◌≡◌, ◌∷◌, subst, refl, reverse}
+use Rattle.std.proofs.lemmas.Result.{IfOk-weaker}
 use Rattle.lp_infer.specs.Levels.{HasScope, level_of}
 use Rattle.lp_infer.specs.Visits.{Looked}
-use Rattle.lp_infer.proofs.Results.{if_ok_as}
 use Rattle.lp_infer.proofs.Passing.{past_leave, past_apply}
 use Rattle.lp_infer.proofs.lookup.Lookup.take.Goals as goal
 
 pub returns-in-Visit : goal.returns-in-Visit
 returns-in-Visit c =
-    if_ok_as c.visit.result c.visit.ensures (λ ok k root S.
-    k root (subst (λ t. Looked c.args.signature.now c.args.source.now c.args.raw.now.nodes.items root c.args.self.now (t ∷ reverse c.args.work.now.items)) c.in-Visit.is S))
+    IfOk-weaker c.visit.result _ _ (λ ok k root S.
+    k root (subst (λ t. Looked c.args.signature.now c.args.source.now c.args.raw.now.nodes.items root c.args.self.now (t ∷ reverse c.args.work.now.items)) c.in-Visit.is S)) c.visit.ensures
 
 pub returns-in_ok-push-in-Leave : goal.returns-in_ok-push-in-Leave
 returns-in_ok-push-in-Leave c = λ root S.

@@ -7,11 +7,12 @@ use Rattle.lp_infer.specs.Visits.{Looked, Opened}
 use Rattle.lp_infer.specs.declared.lookup.Step.TheVariants as step
 use Rattle.lp_infer.specs.declared.lookup.Task.TheVariants as task
 use Rattle.lp_syntax.specs.declared.text.RawNode.TheVariants as node
-use Rattle.lp_infer.proofs.Scanning.{reverse_two, reverse_push}
-use Rattle.lp_infer.proofs.Results.{if_ok_as}
+use Rattle.lp_infer.proofs.Scanning.{reverse_two}
 use Rattle.lp_infer.proofs.Leaves.{leaf_as, leaf_pushed}
 use Rattle.std.proofs.Common.{arith, w64, to_z, of_z}
 use Rattle.std.proofs.lemmas.Int.{to_z-of_z}
+use Rattle.std.proofs.lemmas.Result.{IfOk-weaker}
+use Rattle.lp_lemmas.proofs.Lists.{reverse_pushed}
 use Rattle.lp_infer.proofs.Passing.{past_leaf, past_application, past_abstraction}
 use Rattle.lp_infer.proofs.LookedUp.{none_there, leaf_done, part_not_older, body_not_older, no_note}
 use Rattle.lp_infer.proofs.lookup.Lookup.visit.Goals as goal
@@ -27,18 +28,18 @@ returns-in-Name c =
     let nodes = c.args.raw.now.nodes.items in
     let h : c.args.node < length nodes = subst (λ l. c.args.node < length l) c.deref.ensures.value c.in-Some.ensures.lookup.3.0 in
     let at : c.in-Some.found.now ≡ get_or nodes c.args.node c.in-Some.found.now = c.in-Some.ensures.lookup.1 ∙ ap (λ l. get_or l c.args.node c.in-Some.found.now) c.deref.ensures.value in
-    if_ok_as c.name.result c.name.ensures (λ ok k root S.
+    IfOk-weaker c.name.result _ _ (λ ok k root S.
     leaf_done c.args.signature.now c.args.source.now nodes root c.args.self.now c.name.new.self c.args.node (node.Name c.in-Name.spot) (reverse c.args.work.now.items) ok
-    (slice_get_read nodes (length nodes) c.args.node c.in-Some.found.now refl h at ∙ ap Some c.in-Name.is) (λ f x e. absurd (cc)) (λ s o b e. absurd (cc)) S (λ names H. k names H S.variables))
+    (slice_get_read nodes (length nodes) c.args.node c.in-Some.found.now refl h at ∙ ap Some c.in-Name.is) (λ f x e. absurd (cc)) (λ s o b e. absurd (cc)) S (λ names H. k names H S.variables)) c.name.ensures
 
 pub returns-in-Known : goal.returns-in-Known
 returns-in-Known c =
     let nodes = c.args.raw.now.nodes.items in
     let h : c.args.node < length nodes = subst (λ l. c.args.node < length l) c.deref.ensures.value c.in-Some.ensures.lookup.3.0 in
     let at : c.in-Some.found.now ≡ get_or nodes c.args.node c.in-Some.found.now = c.in-Some.ensures.lookup.1 ∙ ap (λ l. get_or l c.args.node c.in-Some.found.now) c.deref.ensures.value in
-    if_ok_as c.standard.result c.standard.ensures (λ ok k root S.
+    IfOk-weaker c.standard.result _ _ (λ ok k root S.
     leaf_done c.args.signature.now c.args.source.now nodes root c.args.self.now c.standard.new.self c.args.node (node.Known c.in-Known.number c.in-Known.field-1) (reverse c.args.work.now.items) ok
-    (slice_get_read nodes (length nodes) c.args.node c.in-Some.found.now refl h at ∙ ap Some c.in-Known.is) (λ f x e. absurd (cc)) (λ s o b e. absurd (cc)) S (λ names H. k c.args.signature.now c.args.source.now))
+    (slice_get_read nodes (length nodes) c.args.node c.in-Some.found.now refl h at ∙ ap Some c.in-Known.is) (λ f x e. absurd (cc)) (λ s o b e. absurd (cc)) S (λ names H. k c.args.signature.now c.args.source.now)) c.standard.ensures
 
 pub returns-in_ok-integer-in-Number : goal.returns-in_ok-integer-in-Number
 returns-in_ok-integer-in-Number c = λ root S.
@@ -80,7 +81,7 @@ returns-in_ok-push-in-App-3 c = λ root S.
     let at : c.in-Some.found.now ≡ get_or nodes c.args.node c.in-Some.found.now = c.in-Some.ensures.lookup.1 ∙ ap (λ l. get_or l c.args.node c.in-Some.found.now) c.deref.ensures.value in
     subst (Looked c.args.signature.now c.args.source.now nodes root c.args.self.now)
     (sym (reverse_two c.push-in-App.new.self.items c.push-in-App-2.new.self.items c.push-in-App-3.new.self.items (task.Visit c.in-App.argument) (task.Visit c.in-App.head) c.in_ok-push-in-App-2.ensures.items c.in_ok-push-in-App-3.ensures.items ∙
-    ap (λ l. task.Visit c.in-App.head ∷ task.Visit c.in-App.argument ∷ l) (reverse_push c.push-in-App.new.self.items c.args.work.now.items task.Apply c.in_ok-push-in-App.ensures.items)))
+    ap (λ l. task.Visit c.in-App.head ∷ task.Visit c.in-App.argument ∷ l) (reverse_pushed c.push-in-App.new.self.items c.args.work.now.items task.Apply c.in_ok-push-in-App.ensures.items)))
     (past_application c.args.signature.now c.args.source.now nodes root c.args.self.now c.args.node c.in-App.head c.in-App.argument (reverse c.args.work.now.items) (slice_get_read nodes (length nodes) c.args.node c.in-Some.found.now refl h at ∙ ap Some c.in-App.is) c.if-head-node.false c.if-argument-node.false S)
 
 pub returns-then-body-node : goal.returns-then-body-node

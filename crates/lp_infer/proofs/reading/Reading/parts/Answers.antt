@@ -1,6 +1,6 @@
 use Rattle.std.proofs.Common.{subst, map}
+use Rattle.std.proofs.lemmas.List.{take_all}
 use Rattle.lp_infer.specs.ReadingOff.{AreRead, bound_type}
-use Rattle.lp_infer.proofs.Taking.{take_whole}
 use Rattle.lp_infer.proofs.Memos.{none_read, more_read, list_pushed}
 use Rattle.lp_infer.proofs.reading.Reading.parts.Goals as goal
 
@@ -12,4 +12,4 @@ loop-id-preserved c = λ b M.
     more_read b c.args.self.now.numbers.keys _ _ _ _ _ c.in_ok-part.field-0 (list_pushed (bound_type c.args.from.now c.args.bindings.now.made) c.args.ids.now c.loop-id.id-index _ c.loop-id-test.true) c.in_ok-push.ensures.items (c.loop-id.invariant b M) (c.in_ok-part.ensures b M)
 
 pub returns : goal.returns
-returns c = λ b M. subst (λ l. AreRead b c.args.self.now.numbers.keys (map (bound_type c.args.from.now c.args.bindings.now.made) (map (λ t. t.0) l)) c.loop-id.parts.items) (take_whole c.args.ids.now c.loop-id.id-index c.loop-id-test.false) (c.loop-id.invariant b M)
+returns c = λ b M. subst (λ l. AreRead b c.args.self.now.numbers.keys (map (bound_type c.args.from.now c.args.bindings.now.made) (map (λ t. t.0) l)) c.loop-id.parts.items) (take_all c.loop-id.id-index c.args.ids.now c.loop-id-test.false) (c.loop-id.invariant b M)

@@ -1,12 +1,12 @@
 use Rattle.std.proofs.Common.{◌<◌, ◌∙◌, sym, ap, subst, ◌∷◌, reverse, arith}
-use Rattle.std.proofs.lemmas.List.{append-nil}
+use Rattle.std.proofs.lemmas.List.{append-nil, nil_from_length}
+use Rattle.std.proofs.lemmas.Result.{IfOk-weaker}
+use Rattle.lp_lemmas.proofs.Lists.{reverse_pushed}
 use Rattle.lp_infer.specs.Numbering.{type_variables}
 use Rattle.lp_infer.specs.Meeting.{met}
 use Rattle.lp_infer.specs.ReadingOff.{bound_type, pending, cost}
 use Rattle.lp_infer.specs.declared.reading.Task.TheVariants as task
 use Rattle.lp_term.proofs.Trees.{extends_same, extends-trans}
-use Rattle.lp_infer.proofs.Scanning.{reverse_push, empty_list}
-use Rattle.lp_infer.proofs.Results.{if_ok_as}
 use Rattle.lp_infer.proofs.Memos.{reads_one}
 use Rattle.lp_infer.proofs.reading.Reading.read.Goals as goal
 
@@ -17,7 +17,7 @@ loop-task-init c =
       kept = extends_same c.args.to.now;
       memo = λ M. M;
       order = λ M.
-          ap (λ l. met c.args.self.now.numbers.keys (pending A l)) (reverse_push c.push.new.self.items c.new-work.result.items (task.Visit c.args.id) c.in_ok-push.ensures.items ∙ ap (λ l. task.Visit c.args.id ∷ reverse l) c.new-work.ensures.items) ∙
+          ap (λ l. met c.args.self.now.numbers.keys (pending A l)) (reverse_pushed c.push.new.self.items c.new-work.result.items (task.Visit c.args.id) c.in_ok-push.ensures.items ∙ ap (λ l. task.Visit c.args.id ∷ reverse l) c.new-work.ensures.items) ∙
           ap (met c.args.self.now.numbers.keys) (append-nil (type_variables (A c.args.id.0)));
     }
 
@@ -29,16 +29,16 @@ loop-task-preserved c =
       memo = λ M. c.in_ok-take.ensures.taken.memo (c.loop-task.invariant.memo M);
       order = λ M.
           c.in_ok-take.ensures.taken.order (c.loop-task.invariant.memo M) ∙
-          ap (λ l. met c.loop-task.self.numbers.keys (pending A l)) (sym (reverse_push c.loop-task.work.items c.pop.new.self.items c.in-Some.task c.in-Some.ensures.items)) ∙ c.loop-task.invariant.order M;
+          ap (λ l. met c.loop-task.self.numbers.keys (pending A l)) (sym (reverse_pushed c.loop-task.work.items c.pop.new.self.items c.in-Some.task c.in-Some.ensures.items)) ∙ c.loop-task.invariant.order M;
     }
 
 pub returns-clause-read : goal.returns-clause-read
 returns-clause-read c =
     let A = bound_type c.args.from.now c.args.bindings.now.made in
-    if_ok_as c.part.result c.part.ensures (λ j part.
-    reads_one A c.args.to.now c.loop-task.to c.args.self.now c.loop-task.self c.args.id.0 j c.loop-task.work.items (empty_list c.loop-task.work.items (omega (arith, c.in_default.ensures.cases.0, c.loop-task.work.ok))) c.loop-task.invariant.memo c.loop-task.invariant.order (part c.loop-task.to))
+    IfOk-weaker c.part.result _ _ (λ j part.
+    reads_one A c.args.to.now c.loop-task.to c.args.self.now c.loop-task.self c.args.id.0 j c.loop-task.work.items (nil_from_length c.loop-task.work.items (omega (arith, c.in_default.ensures.cases.0, c.loop-task.work.ok))) c.loop-task.invariant.memo c.loop-task.invariant.order (part c.loop-task.to)) c.part.ensures
 
 pub loop-task-smaller : goal.loop-task-smaller
 loop-task-smaller c =
     let A = bound_type c.args.from.now c.args.bindings.now.made in
-    subst (λ l. cost A (reverse c.take.new.work.items) < cost A l) (sym (reverse_push c.loop-task.work.items c.pop.new.self.items c.in-Some.task c.in-Some.ensures.items)) c.in_ok-take.ensures.fewer
+    subst (λ l. cost A (reverse c.take.new.work.items) < cost A l) (sym (reverse_pushed c.loop-task.work.items c.pop.new.self.items c.in-Some.task c.in-Some.ensures.items)) c.in_ok-take.ensures.fewer

@@ -1,7 +1,7 @@
 use Rattle.std.proofs.Common.{◌<◌, sym, subst, ◌∷◌, reverse}
 use Rattle.std.specs.Prelude.{OnOk}
+use Rattle.std.proofs.lemmas.Result.{on_ok_weaker}
 use Rattle.lp_infer.specs.ReadingOff.{bound_type, cost, IsTaken}
-use Rattle.lp_infer.proofs.Results.{on_ok_as}
 use Rattle.lp_infer.proofs.Memos.{taken_build}
 use Rattle.lp_infer.proofs.Costs.{build_cost}
 use Rattle.lp_infer.proofs.reading.Reading.take.Goals as goal
@@ -15,7 +15,7 @@ pub returns-in-Build-clause-taken : goal.returns-in-Build-clause-taken
 returns-in-Build-clause-taken c =
     let A = bound_type c.args.from.now c.args.bindings.now.made in
     subst (λ t. OnOk c.build.result (IsTaken A c.args.to.now c.build.new.to c.args.self.now c.build.new.self (t ∷ reverse c.args.work.now.items) (reverse c.args.work.now.items))) (sym c.in-Build.is)
-    (on_ok_as c.build.result c.build.ensures.memo (λ memo. taken_build A c.args.to.now c.build.new.to c.args.self.now c.build.new.self c.in-Build.top (reverse c.args.work.now.items) c.build.ensures.numbers memo))
+    (on_ok_weaker c.build.result (λ memo. taken_build A c.args.to.now c.build.new.to c.args.self.now c.build.new.self c.in-Build.top (reverse c.args.work.now.items) c.build.ensures.numbers memo) c.build.ensures.memo)
 
 pub returns-in-Visit-clause-fewer : goal.returns-in-Visit-clause-fewer
 returns-in-Visit-clause-fewer c =
@@ -26,4 +26,4 @@ pub returns-in-Build-clause-fewer : goal.returns-in-Build-clause-fewer
 returns-in-Build-clause-fewer c =
     let A = bound_type c.args.from.now c.args.bindings.now.made in
     subst (λ t. OnOk c.build.result (cost A (reverse c.args.work.now.items) < cost A (t ∷ reverse c.args.work.now.items))) (sym c.in-Build.is)
-    (on_ok_as c.build.result c.build.ensures.memo (λ memo. build_cost A c.in-Build.top (reverse c.args.work.now.items)))
+    (on_ok_weaker c.build.result (λ memo. build_cost A c.in-Build.top (reverse c.args.work.now.items)) c.build.ensures.memo)

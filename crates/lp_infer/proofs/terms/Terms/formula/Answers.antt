@@ -2,8 +2,8 @@ use Rattle.std.proofs.Common.{◌≡◌, ◌∙◌, sym}
 use Rattle.std.proofs.lemmas.List.{map-id}
 use Rattle.std.proofs.lemmas.Iterator.{YieldsList-from_slice}
 use Rattle.std.proofs.lemmas.Iterator.Consumers.{YieldsList-end, YieldsList-from_copied}
+use Rattle.lp_term.proofs.Within.{kept_then}
 use Rattle.lp_infer.specs.Postfix.{mark}
-use Rattle.lp_infer.proofs.Keeps.{kept_then}
 use Rattle.lp_infer.proofs.FillingSteps.{step_forms, formula_told}
 use Rattle.lp_infer.proofs.terms.Terms.formula.Goals as goal
 

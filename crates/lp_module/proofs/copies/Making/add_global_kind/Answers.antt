@@ -6,7 +6,7 @@ use Rattle.lp_module.proofs.copies.Making.add_global_kind.Goals as goal
 pub returns : goal.returns
 returns c = (
   (λ (within, lengths, counted, numbered, others_counted, others_numbered).
-      let a = global_added (count_in c.args.self.now.hidden_kinds) c.args.self.now.kinds.items c.push.new.self.items (record { name = c.in_ok-name.name; hidden = 0 }) c.in_ok-push.ensures.items refl counted numbered in
+      let a = global_added (count_in c.args.self.now.hidden_kinds) c.args.self.now.kinds.items c.push.new.self.items (record { name = c.in_ok-name.name; hidden = 0; arity = c.args.arity }) c.in_ok-push.ensures.items refl counted numbered in
       (within, lengths, a.0, a.1, others_counted, others_numbered)),
   refl,
 )

@@ -1,0 +1,15 @@
+//! The values of expressions of the heap: integers of 64 bits and strings.
+#![tactic(auto)]
+
+// The evaluation of an expression.
+mod evaluation;
+// An expression by its head.
+mod expression;
+// What the operations give.
+mod operation;
+// Values, and why there is none.
+mod value;
+
+pub use evaluation::evaluate;
+pub use operation::compare;
+pub use value::{ArithRefusal, Value};

@@ -1,0 +1,5 @@
+pub mod Standing
+pub mod Grown
+mod Wholes
+mod Coming
+mod Ending

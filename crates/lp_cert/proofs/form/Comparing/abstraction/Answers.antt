@@ -1,0 +1,7 @@
+use Rattle.lp_cert.proofs.Comparisons.{abs_push}
+use Rattle.lp_cert.proofs.form.Comparing.abstraction.Goals as goal
+
+pub returns-in_ok-push-in-Abs-clause-leads : goal.returns-in_ok-push-in-Abs-clause-leads
+returns-in_ok-push-in-Abs-clause-leads c = λ e h o.
+    let p = abs_push c.args.bank.now c.args.self.now.terms.items c.push.new.self.items c.args.body c.in-Abs.other _ c.in_ok-push-in-Abs.ensures.items c.in-Abs.ensures.tree h in
+    (p.0, o, p.1)

@@ -1,0 +1,13 @@
+use Rattle.std.proofs.Common.{◌∙◌}
+use Rattle.lp_cert.proofs.Comparisons.{types_equal_push}
+use Rattle.lp_cert.proofs.form.Comparing.push_types.Goals as goal
+
+pub types-preserved : goal.types-preserved
+types-preserved c = record {
+  known = c.in_ok-push_type.ensures.known;
+  closed = λ h. c.in_ok-push_type.ensures.closed (c.types.invariant.closed h);
+  one = λ h q.
+      let p = c.in_ok-push_type.ensures.one c.if-not-branch.false h in
+      c.types.invariant.one p.0 (types_equal_push c.args.bank.now c.types.ones.items c.pop.new.self.items c.types.others.items c.pop-in-Some.new.self.items c.in-Some.one c.in-Some-pop.other c.in-Some.ensures.items c.in-Some-pop.ensures.items p.1 q);
+  terms = c.in_ok-push_type.ensures.terms ∙ c.types.invariant.terms;
+}

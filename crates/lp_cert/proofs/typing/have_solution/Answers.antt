@@ -1,0 +1,5 @@
+use Rattle.lp_cert.proofs.Comparisons.{solved_is}
+use Rattle.lp_cert.proofs.typing.have_solution.Goals as goal
+
+pub returns : goal.returns
+returns c = λ e. solved_is c.args.bank.now c.args.pairs.now _ c.in-Some._bindings c.in-Some.is c.in_ok-_bindings.ensures.solved

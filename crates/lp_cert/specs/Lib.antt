@@ -1,0 +1,6 @@
+pub mod Certified
+pub mod Facts
+pub mod Filling
+pub mod Same
+pub mod Written
+pub mod Shape

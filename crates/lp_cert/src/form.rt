@@ -1,0 +1,362 @@
+// Normal forms, and whether two terms convert.
+ghost use Rattle.std.specs.Prelude.{◌≡◌, ◌<◌, length, IfOk, OnOk, All, true};
+ghost use Rattle.lp_calculus.specs.Term.{index, atom, abs, constant, integer, text, eigen, param};
+ghost use Rattle.lp_calculus.specs.Convert.{Converts};
+ghost use Rattle.lp_term.specs.Nodes.{Extends, Nodes, tree, type_tree};
+ghost use Rattle.lp_cert.specs.Facts.{IsKnown};
+ghost use Rattle.lp_cert.specs.Same.{AreEqual, AreOne, AreClosedPairs, IsFormed, Leads, terms_in, types_in};
+
+use crate::known::Known;
+use crate::typing::have_solution;
+use lp_base::{Memory, RUN_LIMIT};
+use lp_term::{Bank, Spine, TermId, TermNode, TermRefusal, TypeId, normal_form, spine_of};
+use lp_type_unify::Pair;
+use std::alloc::Global;
+
+// Loose indices are below this number where a term has a normal form here.
+const LOOSE: u64 = 4_294_967_296;
+
+// The normal form of a term; none where it is too large, or where the term is not in the bank or not closed.
+#[derive(Clone, Copy)]
+pub(crate) enum Formed {
+    Is(TermId),
+    Deep,
+    Open,
+}
+
+// Whether two terms convert, or a normal form of them is too large.
+#[derive(Clone, Copy, Debug, PartialEq, Eq)]
+pub(crate) enum Compared {
+    Same,
+    Differ,
+    Deep,
+}
+
+pub(crate) fn form_of(alloc: Global, bank: &mut Bank, term: TermId) -> Result<Formed, Memory>
+    ensures kept { Extends bank.old bank.new }
+    ensures formed { IfOk result (IsFormed (tree bank.old term.0) bank.new) }
+{
+    if term.0 >= bank.term_count() {
+        return Ok(Formed::Open);
+    }
+    if !bank.is_known_below(term, LOOSE) {
+        return Ok(Formed::Open);
+    }
+    match normal_form(alloc, bank, term, RUN_LIMIT, RUN_LIMIT) {
+        Ok(made) => Ok(Formed::Is(made)),
+        Err(TermRefusal::Deep(_)) => Ok(Formed::Deep),
+        Err(TermRefusal::Memory) => Err(Memory),
+    }
+}
+
+fn is_inside(bank: &Bank, term: TermId) -> bool
+    ensures { result ≡ true → term.0 < length bank.now.terms }
+{
+    term.0 < bank.term_count()
+}
+
+// What is left to compare: pairs of terms, and pairs of types.
+#[derive(Drop)]
+pub(crate) struct Comparing {
+    pub(crate) alloc: Global,
+    pub(crate) terms: Vec<(TermId, TermId)>,
+    pub(crate) types: Vec<Pair>,
+}
+
+fn is_index(bank: &Bank, term: TermId, at: u64) -> bool
+    ensures { result ≡ true → index at ≡ tree bank.now term.0 }
+{
+    match bank.term_node(term) {
+        TermNode::Index(other) => at == other,
+        _ => false,
+    }
+}
+
+fn is_integer(bank: &Bank, term: TermId, value: i64) -> bool
+    ensures { result ≡ true → atom (integer value) ≡ tree bank.now term.0 }
+{
+    match bank.term_node(term) {
+        TermNode::Int(other) => value == other,
+        _ => false,
+    }
+}
+
+fn is_text(bank: &Bank, term: TermId, bytes: &[u8]) -> bool
+    ensures { result ≡ true → atom (text bytes.now) ≡ tree bank.now term.0 }
+{
+    match bank.term_node(term) {
+        TermNode::Text(other) => bytes == other,
+        _ => false,
+    }
+}
+
+fn is_eigen(bank: &Bank, term: TermId, level: u64) -> bool
+    ensures { result ≡ true → atom (eigen level) ≡ tree bank.now term.0 }
+{
+    match bank.term_node(term) {
+        TermNode::Eigen(other) => level == other,
+        _ => false,
+    }
+}
+
+impl Comparing {
+    // Two types are compared where both are closed.
+    fn push_type(
+        &mut self,
+        known: &mut Known,
+        bank: &Bank,
+        left: TypeId,
+        right: TypeId,
+    ) -> Result<bool, Memory>
+        requires known { IsKnown bank.now known.old }
+        ensures known { OnOk result (IsKnown bank.now known.new) }
+        ensures closed { OnOk result (AreClosedPairs bank.now self.old.types.items → AreClosedPairs bank.now self.new.types.items) }
+        ensures one { IfOk result (λ yes. yes ≡ true → AreOne bank.now self.new.types.items → AreOne bank.now self.old.types.items × (type_tree bank.now left.0 ≡ type_tree bank.now right.0)) }
+        ensures terms { OnOk result (self.new.terms.items ≡ self.old.terms.items) }
+    {
+        if !known.is_closed_type(bank, left)? {
+            return Ok(false);
+        }
+        if !known.is_closed_type(bank, right)? {
+            return Ok(false);
+        }
+        if left.0 != right.0 {
+            self.types.push(Pair { left, right })?;
+        }
+        Ok(true)
+    }
+
+    fn push_types(
+        &mut self,
+        known: &mut Known,
+        bank: &Bank,
+        left: &[TypeId],
+        right: &[TypeId],
+    ) -> Result<bool, Memory>
+        requires known { IsKnown bank.now known.old }
+        ensures known { OnOk result (IsKnown bank.now known.new) }
+        ensures closed { OnOk result (AreClosedPairs bank.now self.old.types.items → AreClosedPairs bank.now self.new.types.items) }
+        ensures one { IfOk result (λ yes. yes ≡ true → AreOne bank.now self.new.types.items → AreOne bank.now self.old.types.items × (types_in bank.now left.now ≡ types_in bank.now right.now)) }
+        ensures terms { OnOk result (self.new.terms.items ≡ self.old.terms.items) }
+    {
+        let mut ones = Vec::from_slice(self.alloc, left)?;
+        let mut others = Vec::from_slice(self.alloc, right)?;
+        'types: while let Some(one) = ones.pop() {
+            let Some(other) = others.pop() else {
+                return Ok(false);
+            };
+            if !self.push_type(known, bank, one, other)? {
+                return Ok(false);
+            }
+        }
+        Ok(others.is_empty())
+    }
+
+    fn push_terms(&mut self, ones: Vec<TermId>, others: Vec<TermId>) -> Result<bool, Memory>
+        ensures equal { IfOk result (λ yes. yes ≡ true → (b : Nodes) → AreEqual b self.new.terms.items → AreEqual b self.old.terms.items × (terms_in b ones.items ≡ terms_in b others.items)) }
+        ensures types { OnOk result (self.new.types.items ≡ self.old.types.items) }
+    {
+        let mut left = ones;
+        let mut right = others;
+        'terms: while let Some(one) = left.pop() {
+            let Some(other) = right.pop() else {
+                return Ok(false);
+            };
+            self.terms.push((one, other))?;
+        }
+        match right.pop() {
+            None => Ok(true),
+            Some(_) => Ok(false),
+        }
+    }
+
+    fn constant(
+        &mut self,
+        known: &mut Known,
+        bank: &Bank,
+        number: u32,
+        types: &[TypeId],
+        right: TermId,
+    ) -> Result<bool, Memory>
+        requires known { IsKnown bank.now known.old }
+        ensures known { OnOk result (IsKnown bank.now known.new) }
+        ensures closed { OnOk result (AreClosedPairs bank.now self.old.types.items → AreClosedPairs bank.now self.new.types.items) }
+        ensures leads { IfOk result (λ yes. yes ≡ true → Leads bank.now self.old self.new (atom (constant number (types_in bank.now types.now))) (tree bank.now right.0)) }
+    {
+        match bank.term_node(right) {
+            TermNode::Const(other, others) => {
+                if number != other {
+                    return Ok(false);
+                }
+                self.push_types(known, bank, types, others)
+            }
+            _ => Ok(false),
+        }
+    }
+
+    fn parameter(
+        &mut self,
+        known: &mut Known,
+        bank: &Bank,
+        number: u64,
+        of: TypeId,
+        right: TermId,
+    ) -> Result<bool, Memory>
+        requires known { IsKnown bank.now known.old }
+        ensures known { OnOk result (IsKnown bank.now known.new) }
+        ensures closed { OnOk result (AreClosedPairs bank.now self.old.types.items → AreClosedPairs bank.now self.new.types.items) }
+        ensures leads { IfOk result (λ yes. yes ≡ true → Leads bank.now self.old self.new (atom (param number (type_tree bank.now of.0))) (tree bank.now right.0)) }
+    {
+        match bank.term_node(right) {
+            TermNode::Param(other, to) => {
+                if number != other {
+                    return Ok(false);
+                }
+                self.push_type(known, bank, of, to)
+            }
+            _ => Ok(false),
+        }
+    }
+
+    fn abstraction(&mut self, bank: &Bank, body: TermId, right: TermId) -> Result<bool, Memory>
+        ensures types { OnOk result (self.new.types.items ≡ self.old.types.items) }
+        ensures leads { IfOk result (λ yes. yes ≡ true → Leads bank.now self.old self.new (abs (tree bank.now body.0)) (tree bank.now right.0)) }
+    {
+        match bank.term_node(right) {
+            TermNode::Abs(other) => {
+                self.terms.push((body, other))?;
+                Ok(true)
+            }
+            _ => Ok(false),
+        }
+    }
+
+    // Compares two heads, which are no applications.
+    fn heads(
+        &mut self,
+        known: &mut Known,
+        bank: &Bank,
+        left: TermId,
+        right: TermId,
+    ) -> Result<bool, Memory>
+        requires known { IsKnown bank.now known.old }
+        ensures known { OnOk result (IsKnown bank.now known.new) }
+        ensures closed { OnOk result (AreClosedPairs bank.now self.old.types.items → AreClosedPairs bank.now self.new.types.items) }
+        ensures leads { IfOk result (λ yes. yes ≡ true → Leads bank.now self.old self.new (tree bank.now left.0) (tree bank.now right.0)) }
+    {
+        match bank.term_node(left) {
+            TermNode::Index(at) => Ok(is_index(bank, right, at)),
+            TermNode::Const(number, types) => self.constant(known, bank, number, types, right),
+            TermNode::Int(value) => Ok(is_integer(bank, right, value)),
+            TermNode::Text(bytes) => Ok(is_text(bank, right, bytes)),
+            TermNode::Eigen(level) => Ok(is_eigen(bank, right, level)),
+            TermNode::Logic { .. } => Ok(false),
+            TermNode::Param(number, of) => self.parameter(known, bank, number, of, right),
+            TermNode::Abs(body) => self.abstraction(bank, body, right),
+            TermNode::App(_, _) => Ok(false),
+        }
+    }
+
+    // Compares two terms up to their parts.
+    fn take(
+        &mut self,
+        known: &mut Known,
+        bank: &Bank,
+        left: TermId,
+        right: TermId,
+    ) -> Result<bool, Memory>
+        requires known { IsKnown bank.now known.old }
+        ensures known { OnOk result (IsKnown bank.now known.new) }
+        ensures closed { OnOk result (AreClosedPairs bank.now self.old.types.items → AreClosedPairs bank.now self.new.types.items) }
+        ensures leads { IfOk result (λ yes. yes ≡ true → Leads bank.now self.old self.new (tree bank.now left.0) (tree bank.now right.0)) }
+    {
+        let one = spine_of(self.alloc, bank, left)?;
+        let other = spine_of(self.alloc, bank, right)?;
+        if !self.push_terms(one.args, other.args)? {
+            return Ok(false);
+        }
+        self.heads(known, bank, one.head, other.head)
+    }
+}
+
+// Whether two terms without logic variables are equal.
+fn are_same(
+    alloc: Global,
+    known: &mut Known,
+    bank: &Bank,
+    left: TermId,
+    right: TermId,
+) -> Result<bool, Memory>
+    requires known { IsKnown bank.now known.old }
+    ensures known { OnOk result (IsKnown bank.now known.new) }
+    ensures same { IfOk result (λ yes. yes ≡ true → tree bank.now left.0 ≡ tree bank.now right.0) }
+{
+    let mut comparing = Comparing {
+        alloc,
+        terms: Vec::new(alloc),
+        types: Vec::new(alloc),
+    };
+    comparing.terms.push((left, right))?;
+    for _ in 0..u64::MAX {
+        let Some((one, other)) = comparing.terms.pop() else {
+            return have_solution(alloc, bank, comparing.types.as_slice());
+        };
+        if !comparing.take(known, bank, one, other)? {
+            return Ok(false);
+        }
+    }
+    Err(Memory)
+}
+
+// Whether two terms in normal form are equal.
+fn same_forms(
+    alloc: Global,
+    known: &mut Known,
+    bank: &Bank,
+    one: TermId,
+    other: TermId,
+) -> Result<Compared, Memory>
+    requires known { IsKnown bank.now known.old }
+    ensures known { OnOk result (IsKnown bank.now known.new) }
+    ensures same { IfOk result (λ c. c ≡ Compared.Same → tree bank.now one.0 ≡ tree bank.now other.0) }
+{
+    if are_same(alloc, known, bank, one, other)? {
+        return Ok(Compared::Same);
+    }
+    Ok(Compared::Differ)
+}
+
+// Whether two closed terms convert.
+pub(crate) fn compare(
+    alloc: Global,
+    known: &mut Known,
+    bank: &mut Bank,
+    left: TermId,
+    right: TermId,
+) -> Result<Compared, Memory>
+    requires known { IsKnown bank.old known.old }
+    ensures kept { Extends bank.old bank.new }
+    ensures known { OnOk result (IsKnown bank.new known.new) }
+    ensures same { IfOk result (λ c. c ≡ Compared.Same → Converts (tree bank.old left.0) (tree bank.old right.0)) }
+{
+    if !is_inside(bank, left) {
+        return Ok(Compared::Differ);
+    }
+    if !is_inside(bank, right) {
+        return Ok(Compared::Differ);
+    }
+    let first = form_of(alloc, bank, left)?;
+    let second = form_of(alloc, bank, right)?;
+    match first {
+        Formed::Is(one) => match second {
+            Formed::Is(other) => same_forms(alloc, known, bank, one, other),
+            Formed::Deep => Ok(Compared::Deep),
+            Formed::Open => Ok(Compared::Differ),
+        },
+        Formed::Deep => Ok(Compared::Deep),
+        Formed::Open => match second {
+            Formed::Deep => Ok(Compared::Deep),
+            _ => Ok(Compared::Differ),
+        },
+    }
+}

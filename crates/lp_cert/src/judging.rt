@@ -1,0 +1,162 @@
+// The judging of certificates.
+ghost use Rattle.std.specs.Prelude.{OnOk};
+ghost use Rattle.lp_term.specs.Nodes.{Extends};
+ghost use Rattle.lp_cert.specs.Facts.{IsKnown};
+
+use crate::instance::{put_values, term_at, type_at};
+use crate::work::{Task, Theory, Turn, Work};
+use lp_base::Memory;
+use lp_model::{Certificate, ProofNode, Typed};
+use lp_module::Assembled;
+use lp_term::{Bank, TermId, TypeId};
+use std::alloc::Global;
+use std::mem::replace;
+
+/// What comes of certificates: all are accepted; or the first that is not, from 1, fails, or needs a normal form that takes more than 1,000,000
+/// contractions or has more than 1,000,000 nodes.
+#[derive(Clone, Copy, Debug, PartialEq, Eq)]
+pub enum CheckVerdict {
+    Accepted,
+    Rejected(u32),
+    Deep(u32),
+}
+
+impl Work<'_> {
+    // Whether the values may stand for variables of these types, with the types for their type variables.
+    fn are_values(
+        &mut self,
+        bank: &mut Bank,
+        query: &Typed,
+        types: &[TypeId],
+        values: &[TermId],
+    ) -> Result<bool, Memory>
+        requires known { IsKnown bank.old self.old.known }
+        ensures kept { Extends bank.old bank.new }
+        ensures known { OnOk result (IsKnown bank.new self.new.known) }
+    {
+        if values.len() != query.vars.len() {
+            return Ok(false);
+        }
+        for at in 0..values.len() {
+            let (_, of) = query.vars[at];
+            let of = type_at(self.alloc, bank, types, of)?;
+            if !self.is_witness(bank, values[at], of)? {
+                return Ok(false);
+            }
+        }
+        Ok(true)
+    }
+
+    // The query with the types and values, if they are those of an instance.
+    fn instance(
+        &mut self,
+        bank: &mut Bank,
+        query: &Typed,
+        types: &[TypeId],
+        values: &[TermId],
+    ) -> Result<Option<TermId>, Memory>
+        requires known { IsKnown bank.old self.old.known }
+        ensures kept { Extends bank.old bank.new }
+        ensures known { OnOk result (IsKnown bank.new self.new.known) }
+    {
+        if types.len() as u64 != query.type_vars {
+            return Ok(None);
+        }
+        if !self.known.are_closed_types(bank, types)? {
+            return Ok(None);
+        }
+        if !self.are_values(bank, query, types, values)? {
+            return Ok(None);
+        }
+        let formula = term_at(self.alloc, bank, types, query.formula)?;
+        put_values(self.alloc, bank, formula, values)
+    }
+
+    fn step(&mut self, bank: &mut Bank, node: &ProofNode) -> Result<Turn, Memory>
+        requires known { IsKnown bank.old self.old.known }
+        ensures kept { Extends bank.old bank.new }
+        ensures known { OnOk result (IsKnown bank.new self.new.known) }
+    {
+        match self.next() {
+            Some(Task::Prove(goal)) => self.prove(bank, goal, node),
+            Some(Task::Focus(clause, atom)) => self.focus(bank, clause, atom, node),
+            _ => Ok(Turn::No),
+        }
+    }
+
+    // Whether the nodes are a proof of the goal.
+    fn proves(&mut self, bank: &mut Bank, goal: TermId, nodes: &[ProofNode]) -> Result<Turn, Memory>
+        requires known { IsKnown bank.old self.old.known }
+        ensures kept { Extends bank.old bank.new }
+        ensures known { OnOk result (IsKnown bank.new self.new.known) }
+    {
+        self.tasks.push(Task::Prove(goal))?;
+        for node in nodes {
+            let turn = self.step(bank, node)?;
+            if turn != Turn::On {
+                return Ok(turn);
+            }
+        }
+        match self.next() {
+            None => Ok(Turn::On),
+            Some(_) => Ok(Turn::No),
+        }
+    }
+
+    fn certifies(
+        &mut self,
+        bank: &mut Bank,
+        query: &Typed,
+        certificate: &Certificate,
+    ) -> Result<Turn, Memory>
+        requires known { IsKnown bank.old self.old.known }
+        ensures kept { Extends bank.old bank.new }
+        ensures known { OnOk result (IsKnown bank.new self.new.known) }
+    {
+        let types = certificate.types.as_slice();
+        let values = certificate.values.as_slice();
+        match self.instance(bank, query, types, values)? {
+            Some(goal) => self.proves(bank, goal, certificate.proof.as_slice()),
+            None => Ok(Turn::No),
+        }
+    }
+}
+
+// The certificates in order, over the clauses.
+fn judge(
+    alloc: Global,
+    bank: &mut Bank,
+    names: &Assembled,
+    query: &Typed,
+    certificates: &[Certificate],
+) -> Result<CheckVerdict, Memory>
+    ensures { Extends bank.old bank.new }
+{
+    let mut work = Work::new(alloc, Theory::of(names));
+    let mut number = 0u32;
+    for certificate in certificates {
+        number = number.saturating_add(1);
+        match work.certifies(bank, query, certificate)? {
+            Turn::On => {}
+            Turn::No => return Ok(CheckVerdict::Rejected(number)),
+            Turn::Deep => return Ok(CheckVerdict::Deep(number)),
+        }
+    }
+    Ok(CheckVerdict::Accepted)
+}
+
+/// Whether each certificate names an instance of the query and a proof of it from the program. The certificates are tested in order and the nodes of
+/// each in the order of a file, and the first one that decides ends the run. All numbers stand in the program's bank, which grows.
+pub fn check(
+    alloc: Global,
+    names: &mut Assembled,
+    query: &Typed,
+    certificates: &[Certificate],
+) -> Result<CheckVerdict, Memory>
+    ensures kept { Extends names.old.program.bank names.new.program.bank }
+{
+    let mut bank = replace(&mut names.program.bank, Bank::new(alloc));
+    let verdict = judge(alloc, &mut bank, names, query, certificates);
+    names.program.bank = bank;
+    verdict
+}

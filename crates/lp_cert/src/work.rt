@@ -1,0 +1,176 @@
+// What is still to be shown.
+ghost use Rattle.std.specs.Prelude.{◌≡◌, length, IfOk, OnOk, true};
+ghost use Rattle.lp_term.specs.Nodes.{Extends, Nodes, tree};
+ghost use Rattle.lp_calculus.specs.Closed.{IsClosedAt};
+ghost use Rattle.lp_calculus.specs.Convert.{Converts};
+ghost use Rattle.lp_standard.specs.Positive.{is_positive};
+ghost use Rattle.lp_cert.specs.Facts.{IsKnown};
+
+use crate::form::{Compared, compare};
+use crate::known::Known;
+use crate::typing::has_type;
+use lp_base::Memory;
+use lp_model::{ClauseFormula, Declared};
+use lp_module::Assembled;
+use lp_term::{Bank, TermId, TypeId};
+use std::alloc::Global;
+
+// What is left to do: to prove a goal, to focus on a clause for an atom, to leave the newest eigenconstant, or to leave the newest assumption.
+#[derive(Clone, Copy)]
+pub(crate) enum Task {
+    Prove(TermId),
+    Focus(TermId, TermId),
+    LeaveEigen,
+    LeaveAssumed,
+}
+
+// What comes of a node: it stands, it does not, or a normal form that it needs is too large.
+#[derive(Clone, Copy, Debug, PartialEq, Eq)]
+pub(crate) enum Turn {
+    On,
+    No,
+    Deep,
+}
+
+// The declared constants and the clauses of a program.
+#[derive(Clone, Copy)]
+pub(crate) struct Theory<'a> {
+    pub(crate) constants: &'a [Declared],
+    pub(crate) clauses: &'a [ClauseFormula],
+}
+
+// What is known of the terms, the types of the eigenconstants, the assumptions, and what is left to do, the next one last.
+#[derive(Drop)]
+pub(crate) struct Work<'a> {
+    pub(crate) alloc: Global,
+    pub(crate) theory: Theory<'a>,
+    pub(crate) known: Known,
+    pub(crate) eigens: Vec<TypeId>,
+    pub(crate) assumed: Vec<TermId>,
+    pub(crate) tasks: Vec<Task>,
+}
+
+impl<'a> Theory<'a> {
+    pub(crate) fn of(names: &'a Assembled) -> Theory<'a> {
+        Theory {
+            constants: names.program.constants.as_slice(),
+            clauses: names.program.clauses.as_slice(),
+        }
+    }
+}
+
+impl<'a> Work<'a> {
+    // Nothing is left to do.
+    pub(crate) fn new(alloc: Global, theory: Theory<'a>) -> Work<'a>
+        ensures known { (b : Nodes) → IsKnown b result.known }
+    {
+        Work {
+            alloc,
+            theory,
+            known: Known::new(alloc),
+            eigens: Vec::new(alloc),
+            assumed: Vec::new(alloc),
+            tasks: Vec::new(alloc),
+        }
+    }
+
+    // The number of the newest eigenconstant, 0 where there is none.
+    pub(crate) fn level(&self) -> u64
+        ensures { result ≡ length self.now.eigens.items }
+    {
+        self.eigens.len() as u64
+    }
+
+    // Whether a term is closed, at the level, and has the type.
+    pub(crate) fn is_closed_of(
+        &mut self,
+        bank: &mut Bank,
+        term: TermId,
+        of: TypeId,
+    ) -> Result<bool, Memory>
+        requires known { IsKnown bank.old self.old.known }
+        ensures kept { Extends bank.old bank.new }
+        ensures known { OnOk result (IsKnown bank.new self.new.known) }
+        ensures closed { IfOk result (λ yes. yes ≡ true → IsClosedAt (length self.old.eigens.items) (tree bank.old term.0)) }
+    {
+        let level = self.level();
+        if !self.known.is_closed_at(bank, level, term)? {
+            return Ok(false);
+        }
+        if !self.known.is_closed_type(bank, of)? {
+            return Ok(false);
+        }
+        has_type(
+            self.alloc,
+            bank,
+            &mut self.known,
+            self.theory.constants,
+            self.eigens.as_slice(),
+            term,
+            of,
+        )
+    }
+
+    // Whether the term may stand for a variable of the type.
+    pub(crate) fn is_witness(
+        &mut self,
+        bank: &mut Bank,
+        term: TermId,
+        of: TypeId,
+    ) -> Result<bool, Memory>
+        requires known { IsKnown bank.old self.old.known }
+        ensures kept { Extends bank.old bank.new }
+        ensures known { OnOk result (IsKnown bank.new self.new.known) }
+        ensures closed { IfOk result (λ yes. yes ≡ true → IsClosedAt (length self.old.eigens.items) (tree bank.old term.0)) }
+        ensures positive { IfOk result (λ yes. yes ≡ true → is_positive (tree bank.old term.0) ≡ true) }
+    {
+        if !self.known.is_positive(bank, term)? {
+            return Ok(false);
+        }
+        self.is_closed_of(bank, term, of)
+    }
+
+    pub(crate) fn converts(
+        &mut self,
+        bank: &mut Bank,
+        left: TermId,
+        right: TermId,
+    ) -> Result<Compared, Memory>
+        requires known { IsKnown bank.old self.old.known }
+        ensures kept { Extends bank.old bank.new }
+        ensures known { OnOk result (IsKnown bank.new self.new.known) }
+        ensures same { IfOk result (λ c. c ≡ Compared.Same → Converts (tree bank.old left.0) (tree bank.old right.0)) }
+    {
+        compare(self.alloc, &mut self.known, bank, left, right)
+    }
+
+    // What comes of a node whose last condition is that two terms convert.
+    pub(crate) fn turn_of(compared: Compared) -> Turn
+        ensures { result ≡ Turn.On → compared ≡ Compared.Same }
+    {
+        match compared {
+            Compared::Same => Turn::On,
+            Compared::Differ => Turn::No,
+            Compared::Deep => Turn::Deep,
+        }
+    }
+
+    // The next goal or focus, behind what is to be left before it.
+    pub(crate) fn next(&mut self) -> Option<Task>
+        ensures same { self.new.known ≡ self.old.known }
+    {
+        for _ in 0..=self.tasks.len() {
+            match self.tasks.pop() {
+                None => return None,
+                Some(Task::LeaveEigen) => {
+                    let _left = self.eigens.pop();
+                }
+                Some(Task::LeaveAssumed) => {
+                    let _left = self.assumed.pop();
+                }
+                Some(task) => return Some(task),
+            }
+        }
+        None
+    }
+}

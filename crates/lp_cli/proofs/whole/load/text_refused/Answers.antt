@@ -1,5 +1,0 @@
-use Rattle.std.proofs.Common.{[]}
-use Rattle.lp_cli.proofs.whole.load.text_refused.Goals as goal
-
-pub blamed-requires : goal.blamed-requires
-blamed-requires g = rw g.in-Text.is at g.requires []

@@ -1,0 +1,30 @@
+// An image as it is written today.
+ghost use Rattle.std.specs.Prelude.{IfErr};
+ghost use Rattle.lp_lines.specs.Looked.{Looked, refusal_of};
+ghost use Rattle.lp_lines.specs.Refusals.{IsJudged};
+
+use crate::lines::unwritten;
+use crate::open::open_image;
+use lp_base::Folder;
+use lp_code::Image;
+use lp_lines::Refusal;
+use lp_object::write_image;
+use std::alloc::Global;
+
+/// The bytes of an image.
+pub fn image_bytes(alloc: Global, image: &Image) -> Result<Vec<u8>, Refusal>
+    ensures { IfErr result IsJudged }
+{
+    match write_image(alloc, image) {
+        Ok(bytes) => Ok(bytes),
+        Err(refusal) => Err(unwritten(alloc, refusal)),
+    }
+}
+
+/// The bytes of a module's image, in the version that is written today.
+pub fn migrated<F: Folder>(alloc: Global, name: &str, folder: &mut F) -> Result<Vec<u8>, Refusal>
+    ensures { Looked F.read_faults F.misses F.overs F.write_faults F.held folder.old folder.new (refusal_of result) }
+{
+    let verified = open_image(alloc, folder, name)?;
+    image_bytes(alloc, verified.image())
+}

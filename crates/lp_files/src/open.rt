@@ -1,0 +1,75 @@
+// The reading of an object or image: its bytes, its format, its name and its code, in this order.
+ghost use Rattle.std.specs.Prelude.{IfErr, IfOk};
+ghost use Rattle.lp_code.specs.Length.{AllFit};
+ghost use Rattle.lp_lines.specs.Looked.{Looked, refusal_of};
+ghost use Rattle.lp_lines.specs.Refusals.{IsJudged};
+
+use crate::lines::{misread, rejected};
+use lp_base::{Folder, Limit, MAX_IMAGE_BYTES};
+use lp_code::Object;
+use lp_lines::{Refusal, file_name, read_file, said_of};
+use lp_object::{read_image, read_object};
+use lp_verify::{Verified, verify, verify_object};
+use std::alloc::Global;
+
+// The bytes of a file of this name.
+fn bytes_of<F: Folder>(alloc: Global, folder: &mut F, file: &str) -> Result<Vec<u8>, Refusal>
+    ensures { Looked F.read_faults F.misses F.overs F.write_faults F.held folder.old folder.new (refusal_of result) }
+{
+    read_file(alloc, folder, file, MAX_IMAGE_BYTES, Limit::Image)
+}
+
+// The object of the module of this name, which these bytes of its file spell.
+fn judged_object(alloc: Global, file: &str, name: &str, bytes: &[u8]) -> Result<Object, Refusal>
+    ensures { IfErr result IsJudged }
+{
+    let object = match read_object(alloc, bytes) {
+        Ok(object) => object,
+        Err(fault) => return Err(misread(alloc, file.as_bytes(), fault)),
+    };
+    if object.name.as_slice() != name.as_bytes() {
+        return Err(said_of(alloc, file.as_bytes(), b"name differs"));
+    }
+    match verify_object(alloc, &object) {
+        Ok(()) => Ok(object),
+        Err(refusal) => Err(rejected(alloc, file.as_bytes(), refusal)),
+    }
+}
+
+/// The object of a module, from its file `NAME.lpo`. The refusals, in their order: the file cannot be read, is not there or is too long; its bytes are
+/// none of an object; its name differs; its code denotes nothing.
+pub fn open_object<F: Folder>(alloc: Global, folder: &mut F, name: &str) -> Result<Object, Refusal>
+    ensures { Looked F.read_faults F.misses F.overs F.write_faults F.held folder.old folder.new (refusal_of result) }
+{
+    let file = file_name(alloc, name, ".lpo")?;
+    let bytes = bytes_of(alloc, folder, file.as_str())?;
+    judged_object(alloc, file.as_str(), name, bytes.as_slice())
+}
+
+// The image of the module of this name, which these bytes of its file spell.
+fn judged_image(alloc: Global, file: &str, name: &str, bytes: &[u8]) -> Result<Verified, Refusal>
+    ensures judged { IfErr result IsJudged }
+    ensures fit { IfOk result (λ verified. AllFit verified.image.code.records.items) }
+{
+    let image = match read_image(alloc, bytes) {
+        Ok(image) => image,
+        Err(fault) => return Err(misread(alloc, file.as_bytes(), fault)),
+    };
+    if image.name.as_slice() != name.as_bytes() {
+        return Err(said_of(alloc, file.as_bytes(), b"name differs"));
+    }
+    match verify(alloc, image) {
+        Ok(verified) => Ok(verified),
+        Err(refusal) => Err(rejected(alloc, file.as_bytes(), refusal)),
+    }
+}
+
+/// The image of a module, from its file `NAME.lp`, with the same refusals.
+pub fn open_image<F: Folder>(alloc: Global, folder: &mut F, name: &str) -> Result<Verified, Refusal>
+    ensures looked { Looked F.read_faults F.misses F.overs F.write_faults F.held folder.old folder.new (refusal_of result) }
+    ensures fit { IfOk result (λ verified. AllFit verified.image.code.records.items) }
+{
+    let file = file_name(alloc, name, ".lp")?;
+    let bytes = bytes_of(alloc, folder, file.as_str())?;
+    judged_image(alloc, file.as_str(), name, bytes.as_slice())
+}

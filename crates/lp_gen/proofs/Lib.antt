@@ -1,0 +1,5 @@
+mod Works
+mod Goals
+mod Arguments
+pub mod Fitting
+mod Records

@@ -1,0 +1,159 @@
+// The goals of a record.
+
+use crate::environment::Variable;
+use crate::fault::GenRefusal;
+use crate::plan::Step;
+use crate::terms::Writer;
+use crate::types::TypeView;
+use lp_code::Instr;
+use lp_standard::Constant;
+use lp_term::{TermId, TermNode, TypeId, spine_of};
+
+// An open block: how many variables the record had before it, and where its instruction stands.
+#[derive(Clone, Copy)]
+struct Block {
+    variables: usize,
+    at: usize,
+    from: u64,
+}
+
+// The bytes of `EITHER`, and of `JUMP`.
+const JUMP_BYTES: u64 = 5;
+
+impl<'a> Writer<'a> {
+    // A goal whose head is a constant. The orders and equations have instructions of their own.
+    fn call(&mut self, number: u32, types: Vec<u16>, terms: Vec<u16>) -> Result<(), GenRefusal> {
+        let standard = Constant::from_number(number);
+        let instr = match (standard, types.as_slice(), terms.as_slice()) {
+            (Some(Constant::Equal), [of], [left, right]) => Instr::Equal(*of, *left, *right),
+            (Some(Constant::Is), [of], [left, right]) => Instr::Is(*of, *left, *right),
+            (Some(Constant::Less), [], [left, right]) => Instr::Less(*left, *right),
+            (Some(Constant::Greater), [], [left, right]) => Instr::Greater(*left, *right),
+            (Some(Constant::AtMost), [], [left, right]) => Instr::AtMost(*left, *right),
+            (Some(Constant::AtLeast), [], [left, right]) => Instr::AtLeast(*left, *right),
+            _ => {
+                return self.emitter.emit(Instr::Call(number, types, terms));
+            }
+        };
+        self.emitter.emit(instr)
+    }
+
+    fn atom(&mut self, atom: TermId) -> Result<(), GenRefusal> {
+        let spine = spine_of(self.alloc, self.tables.bank, atom)?;
+        match self.tables.bank.term_node(spine.head) {
+            TermNode::Const(number, types) => {
+                let types = self.put_types(types)?;
+                let terms = self.put_arguments(spine.head, spine.args.as_slice())?;
+                self.call(number, types, terms)
+            }
+            _ => {
+                let register = self.put_term(atom, TypeView::Proposition)?;
+                self.emitter.emit(Instr::CallTerm(register))
+            }
+        }
+    }
+
+    // A new variable, in the next register; says the register of its type.
+    fn open_variable(&mut self, of: TypeId) -> Result<(u16, u16), GenRefusal> {
+        let kind = self.put_type(TypeView::Of(of, None))?;
+        let register = self.emitter.new_register()?;
+        self.environment.push(Variable {
+            register,
+            of,
+            is_set: true,
+        })?;
+        Ok((register, kind))
+    }
+
+    // A block opens with the next instruction.
+    fn block(&self) -> Block {
+        Block {
+            variables: self.environment.own.len(),
+            at: self.emitter.code.len(),
+            from: self.emitter.place,
+        }
+    }
+
+    // The block ends; its variables are gone.
+    fn leave(&mut self, blocks: &mut Vec<Block>) -> Option<Block> {
+        let block = blocks.pop()?;
+        self.environment.own.truncate(block.variables);
+        Some(block)
+    }
+
+    // The left side gives way to the right one.
+    fn turn(&mut self, blocks: &mut Vec<Block>) -> Result<(), GenRefusal> {
+        let Some(left) = self.leave(blocks) else {
+            return Ok(());
+        };
+        let right = self.block();
+        self.emitter.emit(Instr::Jump(0))?;
+        let bytes = self.emitter.bytes_behind(left.from, JUMP_BYTES);
+        self.emitter.set_bytes(left.at, bytes);
+        blocks.push(right)?;
+        Ok(())
+    }
+
+    // The right side ends.
+    fn end_either(&mut self, blocks: &mut Vec<Block>) {
+        if let Some(right) = self.leave(blocks) {
+            let bytes = self.emitter.bytes_behind(right.from, JUMP_BYTES);
+            self.emitter.set_bytes(right.at, bytes);
+        }
+    }
+
+    fn end(&mut self, blocks: &mut Vec<Block>, instr: Instr) -> Result<(), GenRefusal> {
+        let _block = self.leave(blocks);
+        self.emitter.emit(instr)
+    }
+
+    fn open(&mut self, blocks: &mut Vec<Block>, instr: Instr) -> Result<(), GenRefusal> {
+        blocks.push(self.block())?;
+        self.emitter.emit(instr)
+    }
+
+    fn step(&mut self, blocks: &mut Vec<Block>, step: Step) -> Result<(), GenRefusal> {
+        match step {
+            Step::Atom(term) => self.atom(term),
+            Step::Cut => self.emitter.emit(Instr::Cut),
+            Step::Either => self.open(blocks, Instr::Either(0)),
+            Step::Turn => self.turn(blocks),
+            Step::EndEither => {
+                self.end_either(blocks);
+                Ok(())
+            }
+            Step::Some(of) => {
+                let (register, kind) = self.open_variable(of)?;
+                self.emitter.emit(Instr::Sigma(register, kind))
+            }
+            Step::All(of) => {
+                let variables = self.environment.own.len();
+                let (register, kind) = self.open_variable(of)?;
+                blocks.push(Block {
+                    variables,
+                    at: self.emitter.code.len(),
+                    from: self.emitter.place,
+                })?;
+                self.emitter.emit(Instr::All(register, kind))
+            }
+            Step::EndAll => self.end(blocks, Instr::EndAll),
+            Step::Assume(number) => {
+                let instr = self.assumption(number)?;
+                self.open(blocks, instr)
+            }
+            Step::EndAssume => self.end(blocks, Instr::EndAssume),
+            Step::Not => self.open(blocks, Instr::Not),
+            Step::EndNot => self.end(blocks, Instr::EndNot),
+        }
+    }
+
+    /// The code behind the head.
+    pub(crate) fn write_body(&mut self, steps: &[Step]) -> Result<(), GenRefusal> {
+        self.emitter.emit(Instr::Neck)?;
+        let mut blocks = Vec::new(self.alloc);
+        for step in steps.iter().copied() {
+            self.step(&mut blocks, step)?;
+        }
+        self.emitter.emit(Instr::Proceed)
+    }
+}

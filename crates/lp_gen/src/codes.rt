@@ -1,0 +1,114 @@
+// The code of clauses and queries.
+ghost use Rattle.std.specs.Prelude.{◌≡◌, ◌<◌, ◌≤◌, ◌^◌, All, length, sum_by, IfOk, OnOk};
+ghost use Rattle.lp_code.specs.Length.{length_of, AllFit};
+
+use crate::emitter::within;
+use crate::fault::GenRefusal;
+use crate::plan::{Origin, Plan};
+use crate::record::{Starts, Tables, number_of, record_of};
+use indexmap::IndexMap;
+use lp_base::{Limit, MAX_CLAUSES};
+use lp_code::{Code, Record};
+use lp_model::{Clause, Declared, Goal, Typed};
+use lp_term::Bank;
+use std::alloc::Global;
+
+// The variables with which the records of an assumption start.
+fn start_of<'x>(starts: &'x [Starts], none: &'x Starts, within: Option<usize>) -> &'x Starts {
+    match within {
+        Some(at) if at < starts.len() => &starts[at],
+        _ => none,
+    }
+}
+
+// The records of a clause or query, behind those so far.
+fn add(
+    alloc: Global,
+    bank: &Bank,
+    constants: &[Declared],
+    type_vars: u64,
+    origin: Origin<'_>,
+    records: &mut Vec<Record>,
+) -> Result<(), GenRefusal>
+    requires fit { AllFit records.old.items }
+    requires short { All (λ r. sum_by length_of r.code.items < 2 ^ 32) records.old.items }
+    ensures fit { OnOk result (AllFit records.new.items) }
+    ensures short { OnOk result (All (λ r. sum_by length_of r.code.items < 2 ^ 32) records.new.items) }
+{
+    let Ok(type_vars) = u16::try_from(type_vars) else {
+        return Err(GenRefusal::Limit(Limit::Registers));
+    };
+    let plan = Plan::of(alloc, bank, origin)?;
+    let tables = Tables {
+        bank,
+        constants,
+        type_vars,
+        assumptions: plan.assumptions.as_slice(),
+        first: number_of(records.len()),
+    };
+    let none = IndexMap::new(alloc);
+    let mut starts = Vec::new(alloc);
+    for part in plan.parts.iter() {
+        let mut more = Vec::new(alloc);
+        let captured = start_of(starts.as_slice(), &none, part.within);
+        records.push(record_of(alloc, tables, part, captured, &mut more)?)?;
+        starts.append(&mut more)?;
+    }
+    Ok(())
+}
+
+/// The code of flattened clauses: a record for each, in order, and behind it those of the clauses that it assumes. Over the declared constants, and over
+/// each table that gives a kind the count of arguments that it has there, the code denotes the clauses.
+///
+/// # Errors
+/// `Limit(Registers)` where a record needs more than 65,535 registers of one kind or its code takes 2^32 bytes or more, `Limit(Text)` where a string is
+/// longer than 65,535 bytes, `Limit(Clauses)` where there are more than 65,535 records.
+pub fn generate(
+    alloc: Global,
+    bank: &Bank,
+    constants: &[Declared],
+    clauses: &[Clause],
+) -> Result<Code, GenRefusal>
+    ensures fit { IfOk result (λ code. AllFit code.records.items) }
+    ensures short { IfOk result (λ code. All (λ r. sum_by length_of r.code.items < 2 ^ 32) code.records.items) }
+    ensures few { IfOk result (λ code. length code.records.items ≤ 65535) }
+{
+    let mut records = Vec::new(alloc);
+    for clause in clauses {
+        let origin = Origin::Clause(clause);
+        let type_vars = clause.type_vars as u64;
+        add(alloc, bank, constants, type_vars, origin, &mut records)?;
+    }
+    within(records.len(), MAX_CLAUSES as usize, Limit::Clauses)?;
+    Ok(Code { records })
+}
+
+/// The code of a query with these flattened goals: a record without head, whose first registers are the query's variables, and those of the clauses that
+/// it assumes.
+///
+/// # Errors
+/// As for `generate`.
+pub fn generate_query(
+    alloc: Global,
+    bank: &Bank,
+    constants: &[Declared],
+    query: &Typed,
+    body: &[Goal],
+) -> Result<Code, GenRefusal>
+    ensures fit { IfOk result (λ code. AllFit code.records.items) }
+    ensures short { IfOk result (λ code. All (λ r. sum_by length_of r.code.items < 2 ^ 32) code.records.items) }
+    ensures few { IfOk result (λ code. length code.records.items ≤ 65536) }
+{
+    let mut records = Vec::new(alloc);
+    let origin = Origin::Query(query, body);
+    add(
+        alloc,
+        bank,
+        constants,
+        query.type_vars,
+        origin,
+        &mut records,
+    )?;
+    within(records.len(), MAX_CLAUSES as usize + 1, Limit::Clauses)?;
+    Ok(Code { records })
+}

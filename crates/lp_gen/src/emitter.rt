@@ -1,0 +1,119 @@
+// The code of a record in the making.
+ghost use Rattle.std.specs.Prelude.{◌≡◌, ◌≤◌, true, All, sum_by, OnOk};
+ghost use Rattle.lp_code.specs.Length.{length_of};
+ghost use Rattle.lp_gen.specs.inner.Fitting.{is_fitting};
+
+use crate::fault::GenRefusal;
+use lp_base::{Limit, MAX_ARGUMENTS, MAX_CLAUSES, MAX_CODE_BYTES, MAX_REGISTERS, MAX_TEXT_BYTES};
+use lp_code::{Instr, length};
+use std::alloc::Global;
+
+/// The instructions so far with their bytes, and the counts of registers.
+#[derive(Drop)]
+pub(crate) struct Emitter {
+    pub code: Vec<Instr>,
+    pub place: u64,
+    pub types: u16,
+    pub registers: u16,
+    ghost fit: { All (λ i. is_fitting i ≡ true) code.items },
+    ghost bytes: { sum_by length_of code.items ≡ place },
+    ghost few: { place ≤ 4294967295 },
+}
+
+/// Refuses what is more than a limit allows.
+pub(crate) fn within(count: usize, most: usize, limit: Limit) -> Result<(), GenRefusal>
+    ensures { OnOk result (count ≤ most) }
+{
+    if count > most {
+        return Err(GenRefusal::Limit(limit));
+    }
+    Ok(())
+}
+
+// Whether texts and lists fit their counts.
+fn fits(instr: &Instr) -> Result<(), GenRefusal>
+    ensures { OnOk result (is_fitting instr.now ≡ true) }
+{
+    match instr {
+        Instr::TyCon(_, _, types) => within(types.len(), MAX_ARGUMENTS, Limit::Arguments),
+        Instr::PutConst(_, _, types) => within(types.len(), MAX_ARGUMENTS, Limit::Arguments),
+        Instr::GetConst(_, _, types) => within(types.len(), MAX_ARGUMENTS, Limit::Arguments),
+        Instr::PutApp(_, _, terms) => within(terms.len(), MAX_ARGUMENTS, Limit::Arguments),
+        Instr::Call(_, types, terms) => {
+            within(types.len(), MAX_ARGUMENTS, Limit::Arguments)?;
+            within(terms.len(), MAX_ARGUMENTS, Limit::Arguments)
+        }
+        Instr::Assume(records, types, terms) => {
+            within(records.len(), MAX_CLAUSES as usize, Limit::Clauses)?;
+            within(types.len(), MAX_REGISTERS, Limit::Registers)?;
+            within(terms.len(), MAX_REGISTERS, Limit::Registers)
+        }
+        Instr::PutStr(_, text) => within(text.len(), MAX_TEXT_BYTES as usize, Limit::Text),
+        Instr::GetStr(_, text) => within(text.len(), MAX_TEXT_BYTES as usize, Limit::Text),
+        _ => Ok(()),
+    }
+}
+
+// One register more of a kind.
+fn next(count: u16) -> Result<u16, GenRefusal> {
+    match count.checked_add(1) {
+        Some(more) => Ok(more),
+        None => Err(GenRefusal::Limit(Limit::Registers)),
+    }
+}
+
+impl Emitter {
+    /// No code, behind the registers that the record starts with.
+    pub(crate) fn new(alloc: Global, types: u16, registers: u16) -> Emitter {
+        Emitter {
+            code: Vec::new(alloc),
+            place: 0,
+            types,
+            registers,
+        }
+    }
+
+    /// The next type register.
+    pub(crate) fn new_type(&mut self) -> Result<u16, GenRefusal> {
+        let register = self.types;
+        self.types = next(register)?;
+        Ok(register)
+    }
+
+    /// The next register.
+    pub(crate) fn new_register(&mut self) -> Result<u16, GenRefusal> {
+        let register = self.registers;
+        self.registers = next(register)?;
+        Ok(register)
+    }
+
+    /// One instruction more.
+    pub(crate) fn emit(&mut self, instr: Instr) -> Result<(), GenRefusal> {
+        fits(&instr)?;
+        let place = self.place.saturating_add(length(&instr) as u64);
+        if place > MAX_CODE_BYTES {
+            return Err(GenRefusal::Limit(Limit::Registers));
+        }
+        self.code.push(instr)?;
+        self.place = place;
+        Ok(())
+    }
+
+    /// Gives the instruction at a place, an `Either` or a `Jump`, its count of bytes.
+    pub(crate) fn set_bytes(&mut self, at: usize, bytes: u32) {
+        if at < self.code.len() {
+            let instr = match &self.code[at] {
+                Instr::Either(_) => Instr::Either(bytes),
+                Instr::Jump(_) => Instr::Jump(bytes),
+                _ => return,
+            };
+            self.code[at] = instr;
+        }
+    }
+
+    /// The bytes behind an offset and so many more.
+    pub(crate) fn bytes_behind(&self, from: u64, more: u64) -> u32 {
+        let bytes = self.place.saturating_sub(from.saturating_add(more));
+        bytes.min(MAX_CODE_BYTES) as u32
+    }
+}

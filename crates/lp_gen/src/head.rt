@@ -1,0 +1,108 @@
+// The head of a record.
+
+use crate::fault::GenRefusal;
+use crate::terms::Writer;
+use crate::types::TypeView;
+use lp_base::Limit;
+use lp_code::{Instr, Key, RecordHead};
+use lp_term::{Bank, TermId, TermNode, TypeId, head_of, spine_of};
+use std::alloc::Global;
+
+// The number of an argument.
+fn number_of(place: usize) -> Result<u8, GenRefusal> {
+    match u8::try_from(place) {
+        Ok(number) => Ok(number),
+        Err(_) => Err(GenRefusal::Limit(Limit::Arguments)),
+    }
+}
+
+/// The key of a clause by its head.
+pub(crate) fn key_of(alloc: Global, bank: &Bank, head: TermId) -> Result<Key, GenRefusal> {
+    let spine = spine_of(alloc, bank, head)?;
+    let Some(first) = spine.args.first().copied() else {
+        return Ok(Key::None);
+    };
+    match bank.term_node(head_of(bank, first)) {
+        TermNode::Const(number, _) => Ok(Key::Const(number)),
+        TermNode::Int(value) => Ok(Key::Int(value)),
+        TermNode::Text(bytes) => Ok(Key::Text(Vec::from_slice(alloc, bytes)?)),
+        _ => Ok(Key::None),
+    }
+}
+
+impl<'a> Writer<'a> {
+    fn get_types(&mut self, types: &[TypeId]) -> Result<(), GenRefusal> {
+        for (at, of) in types.iter().copied().enumerate() {
+            let register = self.put_type(TypeView::Of(of, None))?;
+            self.emitter.emit(Instr::GetType(number_of(at)?, register))?;
+        }
+        Ok(())
+    }
+
+    // The level and register of a variable that the argument is, at its first place.
+    fn first_place(&self, argument: TermId) -> Option<(u64, u16)> {
+        let TermNode::Index(index) = self.tables.bank.term_node(argument) else {
+            return None;
+        };
+        let level = self.environment.level(index)?;
+        let variable = self.environment.at(level)?;
+        if variable.is_set {
+            return None;
+        }
+        Some((level, variable.register))
+    }
+
+    // An argument that is matched as it stands.
+    fn get_argument(&mut self, at: u8, argument: TermId, of: TypeView) -> Result<(), GenRefusal> {
+        if let Some((level, register)) = self.first_place(argument) {
+            self.emitter.emit(Instr::GetVar(at, register))?;
+            self.environment.set(level);
+            return Ok(());
+        }
+        match self.tables.bank.term_node(argument) {
+            TermNode::Const(number, types) => {
+                let registers = self.put_types(types)?;
+                self.emitter.emit(Instr::GetConst(at, number, registers))
+            }
+            TermNode::Int(value) => self.emitter.emit(Instr::GetInt(at, value)),
+            TermNode::Text(bytes) => {
+                let text = Vec::from_slice(self.alloc, bytes)?;
+                self.emitter.emit(Instr::GetStr(at, text))
+            }
+            _ => {
+                let register = self.put_term(argument, of)?;
+                self.emitter.emit(Instr::Get(at, register))
+            }
+        }
+    }
+
+    // The register of the head's predicate, or its number.
+    fn predicate(&self, head: TermId) -> RecordHead {
+        match self.tables.bank.term_node(head) {
+            TermNode::Const(number, _) => RecordHead::Const(number),
+            TermNode::Index(index) => match self.environment.level(index) {
+                Some(level) => match self.environment.at(level) {
+                    Some(variable) => RecordHead::Register(variable.register),
+                    None => RecordHead::Register(0),
+                },
+                None => RecordHead::Register(0),
+            },
+            _ => RecordHead::Register(0),
+        }
+    }
+
+    /// Matches the head; says its predicate.
+    pub(crate) fn get_head(&mut self, head: TermId) -> Result<RecordHead, GenRefusal> {
+        let spine = spine_of(self.alloc, self.tables.bank, head)?;
+        if let TermNode::Const(_, types) = self.tables.bank.term_node(spine.head) {
+            self.get_types(types)?;
+        }
+        let mut function = self.function(spine.head);
+        for (at, argument) in spine.args.iter().copied().enumerate() {
+            let (of, left) = function.next(self.tables.bank);
+            self.get_argument(number_of(at)?, argument, of)?;
+            function = left;
+        }
+        Ok(self.predicate(spine.head))
+    }
+}

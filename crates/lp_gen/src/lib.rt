@@ -1,0 +1,28 @@
+//! The code of clauses and queries: for each flattened clause a record, and one for each clause that it assumes.
+#![tactic(auto)]
+
+// The clauses and goals of a record.
+mod body;
+// The code of a record in the making.
+mod emitter;
+// Variables by index.
+mod environment;
+// The code of clauses and queries.
+mod codes;
+// Why clauses have no code.
+mod fault;
+// The head of a record.
+mod head;
+// A clause with those that it assumes, each as a list of steps.
+mod plan;
+// A record.
+mod record;
+// The types of the arguments of standard constants.
+mod standard;
+// Terms in registers.
+mod terms;
+// Types as they are read.
+mod types;
+
+pub use codes::{generate, generate_query};
+pub use fault::GenRefusal;

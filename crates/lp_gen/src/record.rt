@@ -1,0 +1,207 @@
+// A record.
+ghost use Rattle.std.specs.Prelude.{◌≤◌, All, sum_by, IfOk};
+ghost use Rattle.lp_code.specs.Length.{Fits, length_of};
+
+use crate::emitter::Emitter;
+use crate::environment::{Environment, Variable};
+use crate::fault::GenRefusal;
+use crate::head::key_of;
+use crate::plan::{Assumption, Origin, Part};
+use crate::terms::{Writer, register_of_type};
+use indexmap::IndexMap;
+use lp_base::{Limit, Memory};
+use lp_code::{Instr, Key, Record, RecordHead};
+use lp_model::Declared;
+use lp_term::{Bank, TypeId};
+use std::alloc::Global;
+
+/// What the records of a clause or query have in common: the bank, the declared constants, how many type variables there are, the assumptions, and the
+/// number of the first record.
+#[derive(Clone, Copy)]
+pub(crate) struct Tables<'a> {
+    pub bank: &'a Bank,
+    pub constants: &'a [Declared],
+    pub type_vars: u16,
+    pub assumptions: &'a [Assumption],
+    pub first: u32,
+}
+
+/// The variables with which records start, by level.
+pub(crate) type Starts = IndexMap<u64, Variable>;
+
+/// The number of a record.
+pub(crate) fn number_of(place: usize) -> u32 {
+    place.min(u32::MAX as usize) as u32
+}
+
+fn count_of_registers(count: u64) -> Result<u16, GenRefusal> {
+    match u16::try_from(count) {
+        Ok(registers) => Ok(registers),
+        Err(_) => Err(GenRefusal::Limit(Limit::Registers)),
+    }
+}
+
+// The numbers of the records of an assumption.
+fn records_of(alloc: Global, first: u32, assumption: &Assumption) -> Result<Vec<u32>, Memory> {
+    let mut records = Vec::new(alloc);
+    for at in 0..assumption.count {
+        let place = number_of(assumption.first.saturating_add(at));
+        records.push(first.saturating_add(place))?;
+    }
+    Ok(records)
+}
+
+// The registers of all type variables.
+fn all_types(alloc: Global, type_vars: u16) -> Result<Vec<u16>, Memory> {
+    let mut types = Vec::new(alloc);
+    for register in 0..type_vars {
+        types.push(register)?;
+    }
+    Ok(types)
+}
+
+impl<'a> Writer<'a> {
+    /// The instruction that opens an assumption. Its records start with the variables that stand in them.
+    pub(crate) fn assumption(&mut self, number: usize) -> Result<Instr, GenRefusal> {
+        let mut registers = Vec::new(self.alloc);
+        let mut starts = IndexMap::new(self.alloc);
+        let Some(assumption) = self.tables.assumptions.get(number) else {
+            return Ok(Instr::Cut);
+        };
+        for level in assumption.captured.iter().copied() {
+            if let Some(variable) = self.environment.at(level) {
+                let start = Variable {
+                    register: count_of_registers(registers.len() as u64)?,
+                    of: variable.of,
+                    is_set: true,
+                };
+                registers.push(variable.register)?;
+                starts.insert(level, start)?;
+            }
+        }
+        self.starts.push(starts)?;
+        let records = records_of(self.alloc, self.tables.first, assumption)?;
+        let types = all_types(self.alloc, self.tables.type_vars)?;
+        Ok(Instr::Assume(records, types, registers))
+    }
+
+    // The type variables of the record itself.
+    fn make_types(&mut self) -> Result<(), GenRefusal> {
+        for _ in 0..self.tables.type_vars {
+            let register = self.emitter.new_type()?;
+            self.emitter.emit(Instr::TyNew(register))?;
+        }
+        Ok(())
+    }
+
+    // The variables of a clause have the next registers, index 0 the first of them.
+    fn enter_clause(&mut self, vars: &[TypeId]) -> Result<(), GenRefusal> {
+        let first = self.emitter.registers;
+        for _ in vars {
+            let _register = self.emitter.new_register()?;
+        }
+        for (at, of) in vars.iter().copied().enumerate().rev() {
+            let register = first.saturating_add(register_of_type(at as u64));
+            self.environment.push(Variable {
+                register,
+                of,
+                is_set: false,
+            })?;
+        }
+        Ok(())
+    }
+
+    // Those of a query, the outermost index the first of them.
+    fn enter_query(&mut self, vars: &[TypeId]) -> Result<(), GenRefusal> {
+        for of in vars.iter().copied() {
+            let register = self.emitter.new_register()?;
+            self.environment.push(Variable {
+                register,
+                of,
+                is_set: false,
+            })?;
+        }
+        Ok(())
+    }
+
+    // The variables that do not stand in the head, by their registers.
+    fn make_variables(&mut self, is_clause: bool) -> Result<(), GenRefusal> {
+        let base = self.environment.base;
+        let count = self.environment.own.len();
+        for at in 0..count {
+            let place = if is_clause { count - 1 - at } else { at };
+            let level = base.saturating_add(place as u64);
+            if let Some(variable) = self.environment.at(level)
+                && !variable.is_set
+            {
+                self.put_variable(level, variable)?;
+            }
+        }
+        Ok(())
+    }
+
+    // The head, and what is made before NECK.
+    fn write_head(&mut self, origin: Origin<'_>) -> Result<Option<RecordHead>, GenRefusal> {
+        match origin {
+            Origin::Clause(clause) => {
+                self.enter_clause(clause.vars.as_slice())?;
+                let head = self.get_head(clause.head)?;
+                self.make_variables(true)?;
+                Ok(Some(head))
+            }
+            Origin::Query(query, _) => {
+                let mut vars = Vec::new(self.alloc);
+                for (_, of) in query.vars.iter().copied() {
+                    vars.push(of)?;
+                }
+                self.enter_query(vars.as_slice())?;
+                self.make_variables(false)?;
+                Ok(None)
+            }
+        }
+    }
+}
+
+/// The record of a part that starts with these variables; those that it assumes start with the ones that are added to `starts`.
+pub(crate) fn record_of<'x>(
+    alloc: Global,
+    tables: Tables<'x>,
+    part: &Part<'_>,
+    captured: &'x Starts,
+    starts: &mut Vec<Starts>,
+) -> Result<Record, GenRefusal>
+    ensures fit { IfOk result (λ r. All Fits r.code.items) }
+    ensures few { IfOk result (λ r. sum_by length_of r.code.items ≤ 4294967295) }
+{
+    let program = part.within.is_none();
+    let captured_types = if program { 0 } else { tables.type_vars };
+    let registers = count_of_registers(captured.len() as u64)?;
+    let mut writer = Writer {
+        alloc,
+        tables,
+        emitter: Emitter::new(alloc, captured_types, registers),
+        environment: Environment::new(alloc, captured, part.base),
+        bound: Vec::new(alloc),
+        starts: Vec::new(alloc),
+    };
+    if program {
+        writer.make_types()?;
+    }
+    let head = writer.write_head(part.origin)?;
+    writer.write_body(part.steps.as_slice())?;
+    let key = match part.origin {
+        Origin::Clause(clause) if program => key_of(alloc, tables.bank, clause.head)?,
+        _ => Key::None,
+    };
+    starts.append(&mut writer.starts)?;
+    Ok(Record {
+        program,
+        head,
+        captured_types,
+        captured: registers,
+        types: writer.emitter.types,
+        registers: writer.emitter.registers,
+        key,
+        code: writer.emitter.code,
+    })
+}

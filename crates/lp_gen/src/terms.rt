@@ -1,0 +1,371 @@
+// Terms and types in registers.
+ghost use Rattle.std.specs.Prelude.{◌≤◌, ◌+◌, ◌*◌, map, sum_by, OnOk};
+ghost use Rattle.lp_calculus.specs.Types.{tys};
+ghost use Rattle.lp_term.specs.Nodes.{tree, type_tree};
+ghost use Rattle.lp_term.specs.Walk.{size};
+ghost use Rattle.lp_gen.specs.inner.Reading.{read, read_at};
+ghost use Rattle.lp_gen.specs.inner.Sizes.{type_size, types_size, type_work, term_work};
+
+use crate::emitter::Emitter;
+use crate::environment::{Environment, Variable};
+use crate::fault::GenRefusal;
+use crate::record::{Starts, Tables};
+use crate::standard::{Function, constant_type};
+use crate::types::{Top, TypeView};
+use lp_base::Limit;
+use lp_code::Instr;
+use lp_term::{Bank, Spine, TermId, TermNode, TypeId, spine_of};
+use std::alloc::Global;
+
+/// A record in the making: its code, its variables, the types of the indices that are bound in the term at work, the outermost first, and what the records
+/// start with that are assumed so far.
+#[derive(Drop)]
+pub(crate) struct Writer<'a> {
+    pub alloc: Global,
+    pub tables: Tables<'a>,
+    pub emitter: Emitter,
+    pub environment: Environment<'a>,
+    pub bound: Vec<TypeView>,
+    pub starts: Vec<Starts>,
+}
+
+// What is still to be done for a type, the next one last.
+#[derive(Clone, Copy)]
+enum TypeTask<'b> {
+    Visit(TypeView),
+    /// The parts of a type, read as it is.
+    Parts(&'b [TypeId], Option<TermId>),
+    Constructor(u32, usize),
+    Arrow,
+}
+
+// The same for a term. The arguments of a function wait, the last one first; an `Abstract` names the type of its index.
+#[derive(Drop)]
+enum Task {
+    Visit(TermId, TypeView),
+    Args(Vec<TermId>, Function),
+    Apply(usize),
+    Abstract(TypeView),
+}
+
+/// The register of a type variable of the clause.
+pub(crate) fn register_of_type(number: u64) -> u16 {
+    number.min(65_535) as u16
+}
+
+// The last registers of so many, taken off.
+fn take(alloc: Global, registers: &mut Vec<u16>, count: usize) -> Result<Vec<u16>, GenRefusal> {
+    let kept = registers.len().saturating_sub(count);
+    let mut taken = Vec::new(alloc);
+    for at in kept..registers.len() {
+        if let Some(register) = registers.get(at).copied() {
+            taken.push(register)?;
+        }
+    }
+    registers.truncate(kept);
+    Ok(taken)
+}
+
+// Looks at a type, whose parts come first.
+fn visit_type<'b>(
+    bank: &'b Bank,
+    of: TypeView,
+    work: &mut Vec<TypeTask<'b>>,
+    made: &mut Vec<u16>,
+) -> Result<(), GenRefusal>
+    ensures { OnOk result (type_work bank.now work.new.items + 1 ≤ type_work bank.now work.old.items + 3 * type_size (read bank.now of)) }
+{
+    match of.top(bank) {
+        Top::Variable(number) => made.push(register_of_type(number))?,
+        Top::Parameter(_) => made.push(0)?,
+        Top::Constructor(kind, parts, constant) => {
+            work.push(TypeTask::Constructor(kind, parts.len()))?;
+            work.push(TypeTask::Parts(parts, constant))?;
+        }
+        Top::Arrow(from, to) => {
+            work.push(TypeTask::Arrow)?;
+            work.push(TypeTask::Visit(to))?;
+            work.push(TypeTask::Visit(from))?;
+        }
+    }
+    Ok(())
+}
+
+// The parts of a type one by one.
+fn visit_parts<'b>(
+    bank: &'b Bank,
+    parts: &'b [TypeId],
+    constant: Option<TermId>,
+    work: &mut Vec<TypeTask<'b>>,
+) -> Result<(), GenRefusal>
+    ensures { OnOk result (type_work bank.now work.new.items ≤ type_work bank.now work.old.items + 3 * types_size (tys (map (λ p. read_at bank.now constant (type_tree bank.now p.0)) parts.now))) }
+{
+    if let Some((first, rest)) = parts.split_first() {
+        work.push(TypeTask::Parts(rest, constant))?;
+        work.push(TypeTask::Visit(TypeView::Of(*first, constant)))?;
+    }
+    Ok(())
+}
+
+// The arguments of a function one by one.
+fn visit_args(
+    bank: &Bank,
+    mut args: Vec<TermId>,
+    function: Function,
+    work: &mut Vec<Task>,
+) -> Result<(), GenRefusal>
+    ensures { OnOk result (term_work bank.now work.new.items ≤ term_work bank.now work.old.items + sum_by (λ t. 1 + 4 * size (tree bank.now t.0)) args.items) }
+{
+    if let Some(first) = args.pop() {
+        let (of, left) = function.next(bank);
+        work.push(Task::Args(args, left))?;
+        work.push(Task::Visit(first, of))?;
+    }
+    Ok(())
+}
+
+impl<'a> Writer<'a> {
+    fn put_constructor(
+        &mut self,
+        kind: u32,
+        parts: usize,
+        made: &mut Vec<u16>,
+    ) -> Result<(), GenRefusal> {
+        let types = take(self.alloc, made, parts)?;
+        let register = self.emitter.new_type()?;
+        self.emitter.emit(Instr::TyCon(register, kind, types))?;
+        made.push(register)?;
+        Ok(())
+    }
+
+    fn put_arrow(&mut self, made: &mut Vec<u16>) -> Result<(), GenRefusal> {
+        let to = made.pop().unwrap_or(0);
+        let from = made.pop().unwrap_or(0);
+        let register = self.emitter.new_type()?;
+        self.emitter.emit(Instr::TyArr(register, from, to))?;
+        made.push(register)?;
+        Ok(())
+    }
+
+    /// The type in a register.
+    pub(crate) fn put_type(&mut self, of: TypeView) -> Result<u16, GenRefusal> {
+        let bank = self.tables.bank;
+        let mut work = Vec::new(self.alloc);
+        let mut made = Vec::new(self.alloc);
+        work.push(TypeTask::Visit(of))?;
+        'types: while let Some(task) = work.pop() {
+            match task {
+                TypeTask::Visit(part) => visit_type(bank, part, &mut work, &mut made)?,
+                TypeTask::Parts(parts, constant) => {
+                    visit_parts(bank, parts, constant, &mut work)?
+                },
+                TypeTask::Constructor(kind, parts) => {
+                    self.put_constructor(kind, parts, &mut made)?
+                }
+                TypeTask::Arrow => self.put_arrow(&mut made)?,
+            }
+        }
+        Ok(made.pop().unwrap_or(0))
+    }
+
+    /// Types of the clause in registers.
+    pub(crate) fn put_types(&mut self, types: &[TypeId]) -> Result<Vec<u16>, GenRefusal> {
+        let mut registers = Vec::new(self.alloc);
+        for of in types.iter().copied() {
+            let register = self.put_type(TypeView::Of(of, None))?;
+            registers.push(register)?;
+        }
+        Ok(registers)
+    }
+
+    /// Makes a variable of the clause.
+    pub(crate) fn put_variable(&mut self, level: u64, of: Variable) -> Result<(), GenRefusal> {
+        let register = self.put_type(TypeView::Of(of.of, None))?;
+        self.emitter.emit(Instr::New(of.register, register))?;
+        self.environment.set(level);
+        Ok(())
+    }
+
+    // A variable around the term, which is made if it is not yet.
+    fn variable(&mut self, index: u64) -> Result<u16, GenRefusal> {
+        let Some(level) = self.environment.level(index) else {
+            return Ok(0);
+        };
+        let Some(variable) = self.environment.at(level) else {
+            return Ok(0);
+        };
+        if !variable.is_set {
+            self.put_variable(level, variable)?;
+        }
+        Ok(variable.register)
+    }
+
+    // An index that is bound in the term.
+    fn bound_index(&mut self, index: u64, of: TypeView) -> Result<u16, GenRefusal> {
+        let Ok(number) = u16::try_from(index) else {
+            return Err(GenRefusal::Limit(Limit::Nesting));
+        };
+        let register = self.put_type(of)?;
+        let made = self.emitter.new_register()?;
+        self.emitter.emit(Instr::PutIndex(made, number, register))?;
+        Ok(made)
+    }
+
+    // The type of a bound index, the innermost first.
+    fn bound_type(&self, index: u64) -> Option<TypeView> {
+        let depth = self.bound.len() as u64;
+        let place = depth.checked_sub(index)?.checked_sub(1)?;
+        self.bound.get(place as usize).copied()
+    }
+
+    fn index(&mut self, index: u64) -> Result<u16, GenRefusal> {
+        let depth = self.bound.len() as u64;
+        match self.bound_type(index) {
+            Some(of) => self.bound_index(index, of),
+            None => self.variable(index.saturating_sub(depth)),
+        }
+    }
+
+    fn constant(&mut self, number: u32, types: &[TypeId]) -> Result<u16, GenRefusal> {
+        let registers = self.put_types(types)?;
+        let made = self.emitter.new_register()?;
+        self.emitter.emit(Instr::PutConst(made, number, registers))?;
+        Ok(made)
+    }
+
+    fn integer(&mut self, value: i64) -> Result<u16, GenRefusal> {
+        let made = self.emitter.new_register()?;
+        self.emitter.emit(Instr::PutInt(made, value))?;
+        Ok(made)
+    }
+
+    fn text(&mut self, bytes: &[u8]) -> Result<u16, GenRefusal> {
+        let text = Vec::from_slice(self.alloc, bytes)?;
+        let made = self.emitter.new_register()?;
+        self.emitter.emit(Instr::PutStr(made, text))?;
+        Ok(made)
+    }
+
+    fn apply(&mut self, count: usize, made: &mut Vec<u16>) -> Result<(), GenRefusal> {
+        let args = take(self.alloc, made, count)?;
+        let head = made.pop().unwrap_or(0);
+        let register = self.emitter.new_register()?;
+        self.emitter.emit(Instr::PutApp(register, head, args))?;
+        made.push(register)?;
+        Ok(())
+    }
+
+    fn abstraction(&mut self, of: TypeView, made: &mut Vec<u16>) -> Result<(), GenRefusal> {
+        let _bound = self.bound.pop();
+        let body = made.pop().unwrap_or(0);
+        let register = self.put_type(of)?;
+        let abstraction = self.emitter.new_register()?;
+        self.emitter
+            .emit(Instr::PutAbs(abstraction, body, register))?;
+        made.push(abstraction)?;
+        Ok(())
+    }
+
+    /// What is known of the type of a head.
+    pub(crate) fn function(&self, head: TermId) -> Function {
+        match self.tables.bank.term_node(head) {
+            TermNode::Const(_, _) => constant_type(self.tables.bank, self.tables.constants, head),
+            TermNode::Index(index) => Function::Of(self.type_of_index(index)),
+            _ => Function::Of(TypeView::Proposition),
+        }
+    }
+
+    fn type_of_index(&self, index: u64) -> TypeView {
+        if let Some(of) = self.bound_type(index) {
+            return of;
+        }
+        let outer = index.saturating_sub(self.bound.len() as u64);
+        let Some(level) = self.environment.level(outer) else {
+            return TypeView::Proposition;
+        };
+        match self.environment.at(level) {
+            Some(variable) => TypeView::Of(variable.of, None),
+            None => TypeView::Proposition,
+        }
+    }
+
+    // A term without parts.
+    fn leaf(&mut self, node: TermNode<'_>) -> Result<u16, GenRefusal> {
+        match node {
+            TermNode::Index(index) => self.index(index),
+            TermNode::Const(number, types) => self.constant(number, types),
+            TermNode::Int(value) => self.integer(value),
+            TermNode::Text(bytes) => self.text(bytes),
+            _ => self.index(0),
+        }
+    }
+
+    // Looks at a term, whose parts come first: of an application its head and its arguments in order.
+    fn visit(
+        &mut self,
+        bank: &Bank,
+        term: TermId,
+        of: TypeView,
+        work: &mut Vec<Task>,
+        made: &mut Vec<u16>,
+    ) -> Result<(), GenRefusal>
+        ensures { OnOk result (term_work bank.now work.new.items + 1 ≤ term_work bank.now work.old.items + 4 * size (tree bank.now term.0)) }
+    {
+        match bank.term_node(term) {
+            TermNode::Abs(body) => {
+                let (from, to) = of.sides(bank);
+                self.bound.push(from)?;
+                work.push(Task::Abstract(from))?;
+                work.push(Task::Visit(body, to))?;
+            }
+            TermNode::App(_, _) => {
+                let Spine { head, mut args } = spine_of(self.alloc, bank, term)?;
+                args.reverse();
+                work.push(Task::Apply(args.len()))?;
+                work.push(Task::Args(args, self.function(head)))?;
+                work.push(Task::Visit(head, TypeView::Proposition))?;
+            }
+            leaf => {
+                let register = self.leaf(leaf)?;
+                made.push(register)?;
+            }
+        }
+        Ok(())
+    }
+
+    /// The term of this type in a register.
+    pub(crate) fn put_term(&mut self, term: TermId, of: TypeView) -> Result<u16, GenRefusal> {
+        let bank = self.tables.bank;
+        let mut work = Vec::new(self.alloc);
+        let mut made = Vec::new(self.alloc);
+        work.push(Task::Visit(term, of))?;
+        'terms: while let Some(task) = work.pop() {
+            match task {
+                Task::Visit(part, expected) => {
+                    self.visit(bank, part, expected, &mut work, &mut made)?
+                }
+                Task::Args(args, function) => visit_args(bank, args, function, &mut work)?,
+                Task::Apply(count) => self.apply(count, &mut made)?,
+                Task::Abstract(bound) => self.abstraction(bound, &mut made)?,
+            }
+        }
+        Ok(made.pop().unwrap_or(0))
+    }
+
+    /// The arguments of a head in registers.
+    pub(crate) fn put_arguments(
+        &mut self,
+        head: TermId,
+        args: &[TermId],
+    ) -> Result<Vec<u16>, GenRefusal> {
+        let mut function = self.function(head);
+        let mut registers = Vec::new(self.alloc);
+        for arg in args.iter().copied() {
+            let (of, left) = function.next(self.tables.bank);
+            let register = self.put_term(arg, of)?;
+            registers.push(register)?;
+            function = left;
+        }
+        Ok(registers)
+    }
+}

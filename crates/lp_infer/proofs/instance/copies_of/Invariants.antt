@@ -1,6 +1,0 @@
-use Rattle.std.proofs.Common.{◌≡◌, map, Some, nat_eq}
-use Rattle.indexmap.specs.IndexMap.{get}
-use Rattle.lp_infer.proofs.instance.copies_of.Given as goal
-
-abbrev pub invariant-loop-id : goal.invariant-loop-id
-invariant-loop-id l = map (λ t. get nat_eq l.made t.0) l.yielded ≡ map (λ t. Some t.0) l.copies.items

@@ -1,0 +1,73 @@
+-- The status with which a judgement ends, and what is written of it.
+use Rattle.std.proofs.Common.{◌≡◌, ◌≢◌, ℕ, ◌<◌, List, ◌∷◌, length, map, Option, refl, sym, ap, ◌∙◌, subst, inl, inr, arith, true, length-append}
+use Rattle.std.specs.Global.{Global}
+use Rattle.std.specs.Prelude.{Vec}
+use Rattle.std.proofs.lemmas.List.{length-map}
+use Rattle.lp_base.specs.Written.{Appends}
+use Rattle.lp_base.specs.declared.status.Status.{Status}
+use Rattle.lp_base.specs.declared.status.Status.TheVariants as variant
+use Rattle.lp_calculus.specs.Term.{Term}
+use Rattle.lp_module.specs.declared.module.Module.{Module}
+use Rattle.lp_lambda.specs.First.{formulas_of, IsVerdict}
+use Rattle.lp_lambda.specs.declared.first.Verdict.{Verdict}
+use Rattle.lp_lambda.specs.declared.first.Verdict.TheVariants.{Yes, Clause, Query}
+use Rattle.lp_lines.specs.Lines.{is_of_search}
+use Rattle.lp_lines.specs.Refusals.{IsRefusal, IsSourceRefusal, line_of, status_of}
+use Rattle.lp_lines.specs.declared.refusal.Refusal.{Refusal}
+use Rattle.lp_lines.specs.declared.refusal.Refusal.TheVariants.{Line, Memory}
+use Rattle.lp_lines.proofs.Refusing.{never_done}
+use Rattle.lp_lines.proofs.Statuses.{not_otherwise, said_of_search}
+use Rattle.lp_judge.specs.Judged.{verdict_status, IsJudgement, Judges}
+
+-- no refusal says that something is not so
+
+source_not_no : (said : Status) (line : Vec ℕ Global) → IsSourceRefusal (Line said line) → said ≢ variant.No
+source_not_no said line h e = elim h [ inl a ↦ cc | inr x ↦ elim x [ inl a ↦ cc | inr y ↦ elim y [ inl a ↦ cc | inr z ↦ let b = z.0 in cc ] ] ]
+
+never_no : (r : Refusal) → IsRefusal r → status_of r ≢ variant.No
+never_no (Line said line) h = λ e. elim h [ inl a ↦ cc | inr x ↦ source_not_no said line x e ]
+never_no Memory h = λ e. cc
+
+module _ (a b : Option (List ℕ)) (result : Status) where
+  -- a run that ends with another status judges nothing
+  judges_not : (said : Status) → (result ≢ variant.WriteFault → result ≡ said) → said ≢ variant.Done → said ≢ variant.No → Judges a b result
+  judges_not said kept n m = record { yes = λ e. absurd (not_otherwise result said variant.Done kept (λ f. cc) n e); no = λ e. absurd (not_otherwise result said variant.No kept (λ f. cc) m e) }
+
+  pub judges_refused : (r : Refusal) → IsRefusal r → (result ≢ variant.WriteFault → (result ≡ status_of r) × Appends a b (line_of r)) → Judges a b result
+  judges_refused r h kept = judges_not (status_of r) (λ n. (kept n).0) (never_done r h) (never_no r h)
+
+  pub judges_memory : (result ≢ variant.WriteFault → result ≡ variant.Memory) → Judges a b result
+  judges_memory kept = judges_not variant.Memory kept (λ e. cc) (λ e. cc)
+
+  -- a judgement that was told
+  pub judges_told : (line : List ℕ) (said : Status) → IsJudgement line said → (result ≢ variant.WriteFault → (result ≡ said) × Appends a b line) → Judges a b result
+  judges_told line said j kept = record { yes = λ e. told (λ f. cc); no = λ e. told (λ f. cc) }
+    where
+      told : result ≢ variant.WriteFault → (l : List ℕ) × IsJudgement l result × Appends a b l
+      told n = (line, subst (IsJudgement line) (sym (kept n).0) j, (kept n).1)
+
+verdict_of_search : (v : Verdict) → is_of_search (verdict_status v) ≡ true
+unfolding is_of_search
+verdict_of_search Yes = refl
+verdict_of_search (Clause m n) = refl
+verdict_of_search Query = refl
+
+verdict_no_fault : (v : Verdict) → verdict_status v ≢ variant.WriteFault
+verdict_no_fault Yes = λ e. cc
+verdict_no_fault (Clause m n) = λ e. cc
+verdict_no_fault Query = λ e. cc
+
+module _ (line : List ℕ) (said : Status) (j : IsJudgement line said) where
+  pub judgement_no_fault : said ≢ variant.WriteFault
+  judgement_no_fault e = verdict_no_fault j.verdict (sym j.ends ∙ e)
+
+  pub judgement_of_search : (result : Status) → (result ≢ variant.WriteFault → result ≡ said) → result ≢ variant.WriteFault → is_of_search result ≡ true
+  judgement_of_search result kept = said_of_search result said (ap is_of_search j.ends ∙ verdict_of_search j.verdict) kept
+
+-- the module of a clause that fails
+pub place_there : (ms : List Module) (q : Term) (m n : ℕ) → IsVerdict (map formulas_of ms) q (Clause m n) → m < length ms
+place_there ms q m n v =
+    let e = ap length v.3 in
+    let l = length-append v.0 (v.1 ∷ v.2) in
+    let k = length-map ms formulas_of in
+    omega (arith, e, l, k, v.4)

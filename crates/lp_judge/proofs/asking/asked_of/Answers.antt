@@ -1,0 +1,11 @@
+use Rattle.std.proofs.Common.{inl, inr, subst}
+use Rattle.std.specs.Prelude.{codes}
+use Rattle.lp_lines.specs.Placed.{IsOfText}
+use Rattle.lp_lines.proofs.Placing.{source_weaker}
+use Rattle.lp_judge.proofs.asking.asked_of.Goals as goal
+
+pub returns-in-Err-clause-placed : goal.returns-in-Err-clause-placed
+returns-in-Err-clause-placed c = λ told h. source_weaker _ _ (λ line k. inl k) c.in-Err.refusal (c.in-Err.ensures.placed told h)
+
+pub returns-in-Err-ask-clause-placed : goal.returns-in-Err-ask-clause-placed
+returns-in-Err-ask-clause-placed c = λ told h. source_weaker _ _ (λ line k. inr (subst (λ q. IsOfText (codes "query") q line) c.as_bytes.ensures.value k)) c.in-Err-ask.refusal c.in-Err-ask.ensures.placed

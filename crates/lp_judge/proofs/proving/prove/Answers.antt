@@ -1,0 +1,30 @@
+use Rattle.lp_model.specs.declared.ending.Ending.TheVariants as ending
+use Rattle.lp_lines.proofs.Leaving.{leaves_then, leaves_told}
+use Rattle.lp_lines.proofs.Refusing.{never_write_fault}
+use Rattle.lp_lines.proofs.Running.{ran_behind, ran_told}
+use Rattle.lp_lines.proofs.Statuses.{not_source}
+use Rattle.lp_load.proofs.Telling.{placed_told}
+use Rattle.lp_judge.proofs.proving.prove.Goals as goal
+
+pub returns-in-Ok-clause-ran : goal.returns-in-Ok-clause-ran
+returns-in-Ok-clause-ran g c = ran_behind c.finish.result c.in-Ok.ensures.looked c.finish.ensures.read_faults c.finish.ensures.misses c.finish.ensures.overs c.finish.ensures.grows c.finish.ensures.of_search
+
+pub returns-in-Ok-clause-leaves : goal.returns-in-Ok-clause-leaves
+returns-in-Ok-clause-leaves g c =
+    let x = c.finish.ensures.leaves _ c.in-Ok.ensures.outcome in
+    (x.0, x.1, x.2, leaves_then c.in-Ok.ensures.looked x.3)
+
+pub returns-in-Ok-clause-placed : goal.returns-in-Ok-clause-placed
+returns-in-Ok-clause-placed g c = λ e. absurd (not_source c.finish.result c.finish.ensures.of_search e)
+
+pub tell-requires : goal.tell-requires
+tell-requires g c = never_write_fault c.in-Err.refusal c.in-Err.ensures.looked.kind
+
+pub returns-in-Err-clause-ran : goal.returns-in-Err-clause-ran
+returns-in-Err-clause-ran g c = ran_told c.in-Err.refusal c.tell.result c.in-Err.ensures.looked c.tell.ensures.said c.tell.ensures.prefix
+
+pub returns-in-Err-clause-leaves : goal.returns-in-Err-clause-leaves
+returns-in-Err-clause-leaves g c = (0, 0, ending.NoMore, leaves_told c.in-Err.refusal c.tell.result c.in-Err.ensures.looked c.tell.ensures.said c.tell.ensures.faults)
+
+pub returns-in-Err-clause-placed : goal.returns-in-Err-clause-placed
+returns-in-Err-clause-placed g c = placed_told (g.F.Folder.held c.args.folder.now) c.args.claim.query.now c.in-Err.refusal c.tell.result _ _ c.in-Err.ensures.placed c.tell.ensures.said

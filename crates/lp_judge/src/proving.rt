@@ -1,0 +1,212 @@
+// The certificates of a query's answers, written to a file.
+ghost use Rattle.std.specs.Prelude.{◌≡◌, ◌≢◌, ◌++◌, ℕ, List, Option, IfOk, IfErr, OnOk, codes, true};
+ghost use Rattle.std.specs.Fmt.{decimal};
+ghost use Rattle.lp_base.specs.Held.{Held};
+ghost use Rattle.lp_lines.specs.Ends.{Grows, Ran};
+ghost use Rattle.lp_lines.specs.Left.{IsTarget};
+ghost use Rattle.lp_lines.specs.Lines.{is_of_search};
+ghost use Rattle.lp_lines.specs.Looked.{Looked, refusal_of};
+ghost use Rattle.lp_lines.specs.Placed.{IfSource};
+ghost use Rattle.lp_lines.specs.Refusals.{IsJudged};
+ghost use Rattle.lp_load.specs.Placed.{IsPlaced, WritesPlaced};
+ghost use Rattle.lp_judge.specs.Proved.{IsOutcome, IsReady, Proves, cert_file, proved_line};
+
+use crate::asking::{Asked, prepare_asked};
+use crate::collecting::{Collected, Stopped, collect};
+use crate::copying::copy_of;
+use itoa::Buffer;
+use lp_base::{Folder, Limit, Memory, Sink, Status};
+use lp_cert::{CheckVerdict, check, read_cert};
+use lp_lines::{Refusal, Target, ending, file_name, limited, put, say, status, tell, write_fault};
+use lp_model::Ending;
+use lp_plain::Search;
+use lp_term::Bank;
+use std::alloc::Global;
+use std::mem::replace;
+
+/// What is to be proved: a query of a module, with the limits of its search.
+#[derive(Clone, Copy)]
+pub struct Claim<'a> {
+    /// The module's name.
+    pub name: &'a str,
+    /// The query as it is written.
+    pub query: &'a str,
+    /// The most steps of the search.
+    pub steps: u64,
+    /// The most answers of the search.
+    pub answers: u64,
+}
+
+// A file and its bytes, to be written, and how the search ended.
+#[derive(Drop)]
+struct Ready {
+    target: Target,
+    bytes: Vec<u8>,
+    ending: Ending,
+}
+
+// What is to be done: a file is to be written, or a normal form was too large.
+#[derive(Drop)]
+enum Outcome {
+    File(Ready),
+    Deep,
+}
+
+// The search of the query over a copy of the program.
+fn start(alloc: Global, asked: &Asked, claim: Claim<'_>) -> Result<Search, Memory> {
+    let copied = copy_of(alloc, &asked.names.program, &asked.query)?;
+    Search::start(
+        alloc,
+        copied.program,
+        copied.query,
+        claim.steps,
+        claim.answers,
+    )
+}
+
+fn push_count(text: &mut Vec<u8>, count: u64) -> Result<(), Memory>
+    ensures { OnOk result (text.new.items ≡ text.old.items ++ decimal count) }
+{
+    let mut buffer = Buffer::new();
+    text.extend_from_slice(buffer.format(count).as_bytes())?;
+    Ok(())
+}
+
+// `proved P of A` and the last line of the search.
+fn lines_of(alloc: Global, collected: &Collected) -> Result<Vec<u8>, Memory>
+    ensures { IfOk result (λ text. text.items ≡ proved_line collected.now.proved collected.now.answers collected.now.ending) }
+{
+    let mut text = b"proved ".to_vec(alloc)?;
+    push_count(&mut text, collected.proved)?;
+    text.extend_from_slice(b" of ")?;
+    push_count(&mut text, collected.answers)?;
+    text.extend_from_slice(b"\n")?;
+    text.extend_from_slice(ending(collected.ending).as_bytes())?;
+    Ok(text)
+}
+
+fn target_of(alloc: Global, name: &str, collected: &Collected) -> Result<Target, Memory>
+    ensures { IfOk result (IsTarget (cert_file name.now) (proved_line collected.now.proved collected.now.answers collected.now.ending)) }
+{
+    let file = file_name(alloc, name, ".cert")?;
+    let fault = write_fault(alloc, file.as_str())?;
+    let done = lines_of(alloc, collected)?;
+    Ok(Target { file, done, fault })
+}
+
+// The verdict on the certificates that the bytes spell.
+fn verdict(alloc: Global, asked: Asked, bytes: &[u8]) -> Result<CheckVerdict, Memory> {
+    let Asked { mut names, query } = asked;
+    let mut bank = replace(&mut names.program.bank, Bank::new(alloc));
+    let Ok(certificates) = read_cert(alloc, bytes, &names, &mut bank) else {
+        return Err(Memory);
+    };
+    names.program.bank = bank;
+    check(alloc, &mut names, &query, certificates.as_slice())
+}
+
+// The file is made only where its certificates are accepted, as they are when the file is checked.
+fn judged(alloc: Global, asked: Asked, bytes: &[u8]) -> Result<(), Stopped> {
+    match verdict(alloc, asked, bytes)? {
+        CheckVerdict::Accepted => Ok(()),
+        CheckVerdict::Deep(_) => Err(Stopped::Deep),
+        CheckVerdict::Rejected(_) => Err(Stopped::Memory),
+    }
+}
+
+fn made(alloc: Global, asked: Asked, claim: Claim<'_>) -> Result<Ready, Stopped>
+    ensures { IfOk result (λ r. IsReady claim.entry.name.now r.ending r.target) }
+{
+    let search = start(alloc, &asked, claim)?;
+    let collected = collect(alloc, search)?;
+    judged(alloc, asked, collected.bytes.as_slice())?;
+    let target = target_of(alloc, claim.name, &collected)?;
+    Ok(Ready {
+        target,
+        bytes: collected.bytes,
+        ending: collected.ending,
+    })
+}
+
+// What is done where there is no file.
+fn without_file(alloc: Global, stopped: Stopped) -> Result<Outcome, Refusal>
+    ensures judged { IfErr result IsJudged }
+    ensures nowhere { IfErr result (IfSource (λ line. ⊥)) }
+    ensures outcome { (name : List ℕ) → IfOk result (IsOutcome name) }
+{
+    match stopped {
+        Stopped::Deep => Ok(Outcome::Deep),
+        Stopped::Long => Err(limited(alloc, Limit::Image)),
+        Stopped::Memory => Err(Refusal::Memory),
+    }
+}
+
+fn outcome_of(alloc: Global, asked: Asked, claim: Claim<'_>) -> Result<Outcome, Refusal>
+    ensures judged { IfErr result IsJudged }
+    ensures nowhere { IfErr result (IfSource (λ line. ⊥)) }
+    ensures outcome { IfOk result (IsOutcome claim.entry.name.now) }
+{
+    match made(alloc, asked, claim) {
+        Ok(file) => Ok(Outcome::File(file)),
+        Err(stopped) => without_file(alloc, stopped),
+    }
+}
+
+// Loads a module, searches, and makes the file.
+fn prepare<F: Folder>(alloc: Global, claim: Claim<'_>, folder: &mut F) -> Result<Outcome, Refusal>
+    ensures looked { Looked F.read_faults F.misses F.overs F.write_faults F.held folder.old folder.new (refusal_of result) }
+    ensures placed { IfErr result (IfSource (IsPlaced (F.held folder.old) claim.entry.query.now)) }
+    ensures outcome { IfOk result (IsOutcome claim.entry.name.now) }
+{
+    match prepare_asked(alloc, claim.name, claim.query, folder) {
+        Ok(asked) => outcome_of(alloc, asked, claim),
+        Err(refusal) => Err(refusal),
+    }
+}
+
+// Writes the file with its lines, or that a term is too deep.
+fn finish<F: Folder, K: Sink>(
+    alloc: Global,
+    outcome: Outcome,
+    folder: &mut F,
+    out: &mut K,
+) -> Status
+    ensures grows { Grows (K.written out.old) (K.written out.new) }
+    ensures of_search { result ≢ Status.WriteFault → is_of_search result ≡ true }
+    ensures leaves { (name : List ℕ) → IsOutcome name outcome → Proves F.write_faults F.held K.faults K.written folder.old folder.new out.old out.new name result }
+    ensures read_faults { F.read_faults folder.new ≡ F.read_faults folder.old }
+    ensures misses { F.misses folder.new ≡ F.misses folder.old }
+    ensures overs { F.overs folder.new ≡ F.overs folder.old }
+{
+    match outcome {
+        Outcome::File(file) => put(
+            alloc,
+            &file.target,
+            file.bytes.as_slice(),
+            status(file.ending),
+            folder,
+            out,
+        ),
+        Outcome::Deep => say(out, ending(Ending::Deep).as_bytes(), status(Ending::Deep)),
+    }
+}
+
+/// Searches for the answers of a query on a module, and writes the certificates of those without residual pairs to the module's file of certificates,
+/// with `proved P of A` and the last line of the search, whose status it has. No file is written after a refusal, whose line is written: of the texts;
+/// of the limit `image`, where the certificates take more than 16 MiB; or that a normal form in one of them is too deep. A file is written only where
+/// `check_certificates` accepts it.
+pub fn prove<F: Folder, K: Sink>(
+    alloc: Global,
+    claim: Claim<'_>,
+    folder: &mut F,
+    out: &mut K,
+) -> Status
+    ensures ran { Ran F.read_faults F.misses F.overs K.written folder.old folder.new out.old out.new result }
+    ensures leaves { Proves F.write_faults F.held K.faults K.written folder.old folder.new out.old out.new claim.entry.name.now result }
+    ensures placed { result ≡ Status.Source → WritesPlaced (F.held folder.old) claim.entry.query.now (K.written out.old) (K.written out.new) }
+{
+    match prepare(alloc, claim, folder) {
+        Ok(outcome) => finish(alloc, outcome, folder, out),
+        Err(refusal) => tell(out, refusal),
+    }
+}

@@ -1,0 +1,9 @@
+mod Bodies
+mod Puts
+mod Naming
+mod Weighing
+mod Spining
+mod Taking
+mod Judging
+mod Running
+mod Surveying

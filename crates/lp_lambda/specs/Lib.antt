@@ -1,0 +1,4 @@
+pub mod Pattern
+pub mod First
+pub mod Rows
+pub mod inner

@@ -1,0 +1,9 @@
+pub mod Appending
+pub mod Counting
+pub mod Leaving
+pub mod Limits
+pub mod Looking
+pub mod Placing
+pub mod Refusing
+pub mod Running
+pub mod Statuses

@@ -1,0 +1,95 @@
+-- The line of a refusal of texts tells of a byte of its text: the place of a fault of tokens is that of a byte, and what is said is a message.
+use Rattle.std.proofs.Common.{◌≡◌, ℕ, ◌+◌, ◌<◌, ◌≤◌, List, length, refl, sym, ap, ◌∙◌, subst, arith, inl, inr, Result, Ok, Err}
+use Rattle.std.specs.Global.{Global}
+use Rattle.std.specs.Result.{IsErrAnd}
+use Rattle.std.specs.Prelude.{Vec, true, false, ◌⊎◌, take, IfOk, IfErr}
+use Rattle.std.proofs.lemmas.Bool.{cases_lt}
+use Rattle.std.proofs.lemmas.List.{take_all}
+use Rattle.lp_base.specs.declared.place.Place.{Place}
+use Rattle.lp_lexer.specs.declared.token.Token.{Token}
+use Rattle.lp_lexer.specs.declared.token.LexFault.{LexFault}
+use Rattle.lp_lexer.specs.declared.token.LexFault.TheVariants as fault
+use Rattle.lp_lexer.specs.Lexis.{Lexes, ends, skips, takes, bad, open_text, open_comment, big_number, HasFault, place_at, moved}
+use Rattle.lp_lines.specs.Placed.{IsOfText, IfSource, IsSaid, IsCauseOf, is_message, source_line}
+use Rattle.lp_lines.specs.declared.cause.Cause.{Cause}
+use Rattle.lp_lines.specs.declared.refusal.Refusal.{Refusal}
+use Rattle.lp_lines.specs.declared.refusal.Refusal.TheVariants.{Line, Memory}
+
+abbrev pub IsPlaceOf : List ℕ → Place → Type 0
+IsPlaceOf text p = (i : ℕ) × ((i ≤ length text) × (p ≡ place_at text i))
+
+-- the bytes up to a place beyond the end are all of them
+reached : (text : List ℕ) (k : ℕ) → IsPlaceOf text (place_at text k)
+reached text k = go (cases_lt (length text) k)
+  where
+    go : (length text < k) ⊎ (k ≤ length text) → IsPlaceOf text (place_at text k)
+    go (inl l) =
+        let same : length text ≤ length text = omega arith in
+        let past : length text ≤ k = omega arith in
+        (length text, (same, ap (moved (record { line = 1; column = 1 })) (take_all k text past ∙ sym (take_all (length text) text same))))
+    go (inr l) = (k, (l, refl))
+
+abbrev HasPlace : List ℕ → Result Place LexFault → Type 0
+HasPlace text (Ok p) = Unit {0}
+HasPlace text (Err fault.Memory) = Unit {0}
+HasPlace text (Err (fault.BadByte p)) = IsPlaceOf text p
+HasPlace text (Err (fault.OpenText p)) = IsPlaceOf text p
+HasPlace text (Err (fault.OpenComment p)) = IsPlaceOf text p
+HasPlace text (Err (fault.BigNumber p)) = IsPlaceOf text p
+
+has_place : {text : List ℕ} {i : ℕ} {ts : List Token} {r : Result Place LexFault} → Lexes text i ts r → HasPlace text r
+has_place (ends i e) = tt
+has_place (skips i n ts r l e h) = has_place h
+has_place (takes i n k ts r l e h) = has_place h
+has_place {text = text} (bad i n l e) = reached text (i + n)
+has_place {text = text} (open_text i l e) = reached text i
+has_place {text = text} (open_comment i l e) = reached text i
+has_place {text = text} (big_number i l e) = reached text i
+
+pub bad_byte : (text : List ℕ) (p : Place) → HasFault text (fault.BadByte p) → IsPlaceOf text p
+bad_byte text p h = has_place h.1
+
+pub unclosed_text : (text : List ℕ) (p : Place) → HasFault text (fault.OpenText p) → IsPlaceOf text p
+unclosed_text text p h = has_place h.1
+
+pub unclosed_comment : (text : List ℕ) (p : Place) → HasFault text (fault.OpenComment p) → IsPlaceOf text p
+unclosed_comment text p h = has_place h.1
+
+pub great_number : (text : List ℕ) (p : Place) → HasFault text (fault.BigNumber p) → IsPlaceOf text p
+great_number text p h = has_place h.1
+
+-- a line that says a message of such a place
+pub line_of_place : {E : Type 0} (r : Result (Vec ℕ Global) E) (file text : List ℕ) (p : Place) (said : List ℕ) → IsPlaceOf text p → is_message false said ≡ true → IfOk r (λ line. line.items ≡ source_line file p said) → IfOk r (λ line. IsOfText file text line.items)
+line_of_place (Err e) file text p said h m w = tt
+line_of_place (Ok line) file text p said h m w = record { from = h.0; within = h.1.0; said = said; message = inl m; wrote = w ∙ ap (λ q. source_line file q said) h.1.1 }
+
+-- the place behind the bytes before a place
+pub place_behind : (text before : List ℕ) (from : ℕ) → before ≡ take from text → place_at before (length before) ≡ place_at text from
+place_behind text before from e =
+    let same : length before ≤ length before = omega arith in
+    ap (moved (record { line = 1; column = 1 })) (take_all (length before) before same ∙ e)
+
+-- a weaker claim of the same line
+pub source_weaker : (P Q : List ℕ → Type 0) → ((line : List ℕ) → P line → Q line) → (r : Refusal) → IfSource P r → IfSource Q r
+source_weaker P Q f (Line said line) h = λ e. f line.items (h e)
+source_weaker P Q f Memory h = tt
+
+pub sources_weaker : {T : Type 0} (P Q : List ℕ → Type 0) → ((line : List ℕ) → P line → Q line) → (r : Result T Refusal) → IfErr r (IfSource P) → IfErr r (IfSource Q)
+sources_weaker P Q f (Ok x) h = tt
+sources_weaker P Q f (Err r) h = source_weaker P Q f r h
+
+-- a line that says a message of the place behind some bytes
+pub line_behind : {E : Type 0} (r : Result (Vec ℕ Global) E) (file text before : List ℕ) (from : ℕ) (said : List ℕ) (p : Place) → from ≤ length text → before ≡ take from text → p ≡ place_at before (length before) → IsSaid text from said → IfOk r (λ line. line.items ≡ source_line file p said) → IfOk r (λ line. IsOfText file text line.items)
+line_behind (Err e) file text before from said p within is place message w = tt
+line_behind (Ok line) file text before from said p within is place message w =
+    record { from = from; within = within; said = said; message = message; wrote = w ∙ ap (λ q. source_line file q said) (place ∙ place_behind text before from is) }
+
+-- a refusal that is no line of a text
+pub nowhere : (P : List ℕ → Type 0) (r : Refusal) → IfSource (λ line. ⊥) r → IfSource P r
+nowhere P (Line said line) h = λ e. absurd (h e)
+nowhere P Memory h = tt
+
+-- a cause that is passed up
+pub cause_passed : {T : Type 0} (r : Result T Cause) (e : Cause) (text : List ℕ) → IsErrAnd r (λ y. y ≡ e) → IsCauseOf text e → IfErr r (IsCauseOf text)
+cause_passed (Ok x) e text is p = tt
+cause_passed (Err y) e text is p = subst (IsCauseOf text) (sym is) p

@@ -1,0 +1,6 @@
+pub mod Lines
+pub mod Ends
+pub mod Refusals
+pub mod Placed
+pub mod Looked
+pub mod Left

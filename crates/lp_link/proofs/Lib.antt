@@ -1,0 +1,7 @@
+mod Works
+mod Comparing
+mod Compared
+mod Uses
+mod Refusing
+mod Sums
+mod Takes

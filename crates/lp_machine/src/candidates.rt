@@ -1,0 +1,133 @@
+// The clauses that may meet a goal: first the assumed ones, the newest assumption first, then those of the program that pass the filter, in order.
+
+use crate::key::GoalKey;
+use crate::search::Search;
+use lp_code::KeyRef;
+use lp_impl::{Cursor, Head};
+
+// Predicates of more clauses are looked up by their keys.
+const FEW: u32 = 8;
+
+/// A clause for a goal: the number of its record, and where its captured registers begin.
+#[derive(Clone, Copy)]
+pub(crate) struct Clause {
+    pub(crate) record: u32,
+    pub(crate) captured: Option<usize>,
+}
+
+/// The candidates that are left: the assumed ones behind a place, and those of the program from one on.
+#[derive(Clone, Copy)]
+pub(crate) struct Left {
+    pub(crate) assumed: Cursor,
+    pub(crate) program: Option<u32>,
+}
+
+// The first number behind another, or the first.
+fn first_behind(group: &[u32], after: Option<u32>) -> Option<u32> {
+    let Some(number) = after else {
+        return group.first().copied();
+    };
+    let at = group.partition_point(|other| *other <= number);
+    group.get(at).copied()
+}
+
+// The smaller one of two numbers, if there are any.
+fn smaller(one: Option<u32>, other: Option<u32>) -> Option<u32> {
+    match (one, other) {
+        (Some(a), Some(b)) => Some(a.min(b)),
+        (Some(a), None) => Some(a),
+        (None, b) => b,
+    }
+}
+
+impl<'i> Search<'i> {
+    // The first record of a chain that passes the filter.
+    fn passing(&self, key: GoalKey, from: Option<u32>) -> Option<u32> {
+        let mut at = from;
+        for _ in 0..u64::MAX {
+            let number = at?;
+            let record = self.program.record(number)?;
+            if self.heap.may_meet(key, &record.key) {
+                return Some(number);
+            }
+            at = self.layout.next(number);
+        }
+        None
+    }
+
+    // The first record behind another, or the first, by the groups of keys.
+    fn grouped(&self, constant: u32, key: GoalKey, after: Option<u32>) -> Option<u32> {
+        let open = self.program.image.group(constant, KeyRef::None);
+        let plain = first_behind(open, after);
+        match self.heap.clause_key(key) {
+            KeyRef::None => plain,
+            wanted => {
+                let keyed = self.program.image.group(constant, wanted);
+                smaller(plain, first_behind(keyed, after))
+            }
+        }
+    }
+
+    /// The program's first candidate behind a record, or the first of all.
+    pub(crate) fn program_behind(
+        &self,
+        head: Head,
+        key: GoalKey,
+        after: Option<u32>,
+    ) -> Option<u32> {
+        let Head::Const(constant) = head else {
+            return None;
+        };
+        let predicate = self.layout.predicate(constant)?;
+        match key {
+            GoalKey::None => match after {
+                None => Some(predicate.first),
+                Some(number) => self.layout.next(number),
+            },
+            _ if predicate.count > FEW => self.grouped(constant, key, after),
+            _ => match after {
+                None => self.passing(key, Some(predicate.first)),
+                Some(number) => self.passing(key, self.layout.next(number)),
+            },
+        }
+    }
+
+    /// The first of the candidates that are left, and those behind it.
+    pub(crate) fn take_candidate(
+        &self,
+        head: Head,
+        key: GoalKey,
+        left: Left,
+    ) -> Option<(Clause, Left)> {
+        if let Some(found) = self.heap.candidate(head, left.assumed) {
+            let clause = Clause {
+                record: found.clause,
+                captured: Some(found.frame),
+            };
+            return Some((
+                clause,
+                Left {
+                    assumed: found.next,
+                    program: left.program,
+                },
+            ));
+        }
+        let number = left.program?;
+        let clause = Clause {
+            record: number,
+            captured: None,
+        };
+        Some((
+            clause,
+            Left {
+                assumed: Cursor::end(),
+                program: self.program_behind(head, key, Some(number)),
+            },
+        ))
+    }
+
+    /// Whether a candidate is left.
+    pub(crate) fn is_some_left(&self, head: Head, left: Left) -> bool {
+        left.program.is_some() || self.heap.candidate(head, left.assumed).is_some()
+    }
+}

@@ -1,0 +1,7 @@
+//! Names with the place at which each stands first in a list.
+#![tactic(auto)]
+
+// The table of names.
+mod places;
+
+pub use places::Places;

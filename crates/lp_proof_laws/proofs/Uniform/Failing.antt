@@ -1,0 +1,45 @@
+-- A failing search stands as a leaf of each goal that its goal converts to, and where an assumption gives way to one that it converts to.
+use Rattle.std.proofs.Common.{ℕ, ◌≤◌, List, [], ◌∷◌, ◌++◌, length, sym, subst, ◌∙◌, append_assoc}
+use Rattle.std.specs.Prelude.{drop}
+use Rattle.std.proofs.lemmas.List.{take-append-le, drop-append-le}
+use Rattle.lp_calculus.specs.Term.{Term}
+use Rattle.lp_calculus.specs.Convert.{Converts}
+use Rattle.lp_calculus.proofs.Steps.{converts_on}
+use Rattle.lp_model.specs.Flat.{Goals, Clauses}
+use Rattle.lp_model.specs.Flatten.{ClauseFormula}
+use Rattle.lp_model.specs.Proofs.{Declared, Failure, IsFailure, StandsForGoal, StandsForClause, StandForClauses, AreFlattened, assumed}
+use Rattle.lp_proof_laws.proofs.Uniform.Assumptions.{AreKept}
+use Rattle.lp_proof_laws.proofs.Uniform.Roots.{Converting}
+
+goal_stands : (d : Declared) (G H : Term) (gs : Goals) → Converts G H → StandsForGoal d G gs → StandsForGoal d H gs
+goal_stands d G H gs c s = record { filling = s.filling; is_filling = s.is_filling; formula = s.formula; converts = converts_on s.converts c; depth = s.depth; flat = s.flat; flattened = s.flattened; is = s.is }
+
+clause_stands : (d : Declared) (D R : Term) (cs : Clauses) → Converts D R → StandsForClause d D cs → StandsForClause d R cs
+clause_stands d D R cs c s = record { filling = s.filling; is_filling = s.is_filling; formula = s.formula; converts = converts_on s.converts c; depth = s.depth; flat = s.flat; flattened = s.flattened; is = s.is }
+
+behind : (d : Declared) (Q S : List ClauseFormula) (D R : Term) (css : List Clauses) → Converts D R → StandForClauses d (Q ++ assumed D ∷ S) css → StandForClauses d (Q ++ assumed R ∷ S) css
+behind d [] S D R [] c h = h
+behind d [] S D R (cs ∷ css) c h = (clause_stands d D R cs c h.0, h.1)
+behind d (q ∷ Q) S D R [] c h = h
+behind d (q ∷ Q) S D R (cs ∷ css) c h = (h.0, behind d Q S D R css c h.1)
+
+module _ (d : Declared) (k : ℕ) where
+  goal_fails : (n : ℕ) (P : List ClauseFormula) (G H : Term) (f : Failure) → Converts G H → IsFailure d k n P G f → IsFailure d k n P H f
+  goal_fails n P G H f c h = record { goals = goal_stands d G H f.goals c h.goals; assumed = h.assumed; program = h.program; ends = h.ends; gives_none = h.gives_none }
+
+  module _ (P : List ClauseFormula) (l : k ≤ length P) where
+    kept : (S : List ClauseFormula) (D R : Term) (n : ℕ) (G : Term) (f : Failure) → Converts D R → IsFailure d k n (P ++ assumed D ∷ S) G f → IsFailure d k n (P ++ assumed R ∷ S) G f
+    kept S D R n G f c h = record {
+      goals = h.goals;
+      assumed = subst (λ Q. StandForClauses d Q f.assumed) (sym (drop-append-le k P (assumed R ∷ S) l)) (behind d (drop k P) S D R f.assumed c (subst (λ Q. StandForClauses d Q f.assumed) (drop-append-le k P (assumed D ∷ S) l) h.assumed));
+      program = subst (λ Q. AreFlattened d Q f.program) (take-append-le k P (assumed D ∷ S) l ∙ sym (take-append-le k P (assumed R ∷ S) l)) h.program;
+      ends = h.ends;
+      gives_none = h.gives_none;
+    }
+
+    assumption_fails : (D R : Term) → Converts D R → AreKept (IsFailure d k) (P ++ assumed D ∷ []) (P ++ assumed R ∷ [])
+    assumption_fails D R c S n G f h =
+        subst (λ Q. IsFailure d k n Q G f) (sym (append_assoc P (assumed R ∷ []) S)) (kept S D R n G f c (subst (λ Q. IsFailure d k n Q G f) (append_assoc P (assumed D ∷ []) S) h))
+
+    pub failures_convert : Converting (IsFailure d k) P
+    failures_convert = record { goals = λ n Q G H f c h. goal_fails n Q G H f c h; assumptions = λ D R c. assumption_fails D R c }

@@ -1,0 +1,4 @@
+mod Names
+mod Refused
+mod Values
+mod Ends

@@ -1,0 +1,4 @@
+pub mod Refusals
+pub mod Faults
+pub mod Outcomes
+pub mod Fitting

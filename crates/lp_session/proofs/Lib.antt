@@ -1,0 +1,5 @@
+mod Feeds
+mod Forms
+mod Appending
+mod Replying
+mod Sessions

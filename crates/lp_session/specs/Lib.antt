@@ -1,0 +1,5 @@
+pub mod Lines
+pub mod Form
+pub mod Said
+pub mod Replies
+pub mod Served

@@ -1,0 +1,5 @@
+mod FilesRead
+mod Loading
+pub mod Orders
+mod Progress
+mod Searched

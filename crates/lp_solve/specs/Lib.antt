@@ -1,0 +1,6 @@
+pub mod Order
+pub mod Answered
+pub mod Ends
+pub mod Reading
+pub mod Pieces
+pub mod Prepared

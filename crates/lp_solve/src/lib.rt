@@ -1,0 +1,21 @@
+//! The answers of a query on the texts of a module: in the first fragment by its own search, and else as one of the whole language.
+#![tactic(auto)]
+
+// The search of a query of the whole language, and the writing of its answers.
+mod answers;
+// The first fragment.
+mod first;
+// What a search tells from one event to the next.
+mod piece;
+// A query on a module, ready to be searched for.
+mod prepare;
+// What answers are shown with.
+mod shown;
+// The answers of a query, with and without options.
+mod solve;
+// A generated query, and the summary of its search.
+mod generated;
+
+pub use generated::trial;
+pub use prepare::Question;
+pub use solve::{solve_plain, solve_within};

@@ -1,0 +1,4 @@
+pub mod Frames
+pub mod Entries
+pub mod Apart
+pub mod Ways

@@ -1,0 +1,74 @@
+// Rigid heads: whether they are the same but for their types, and the pairs of their types.
+ghost use Rattle.lp_unify.specs.Inside.{IsListIn};
+
+use crate::cells::read;
+use lp_base::Memory;
+use lp_store::{Cell, CellId, Span, Store};
+
+// Whether two rigid heads are the same name.
+pub(crate) fn have_same_name(store: &Store, one: CellId, other: CellId) -> bool {
+    match read(store, one) {
+        Cell::Const(c, types) => is_constant(store, other, c, store.items(types).len()),
+        Cell::Eigen(k) => matches!(read(store, other), Cell::Eigen(l) if k == l),
+        Cell::Int(i) => matches!(read(store, other), Cell::Int(j) if i == j),
+        Cell::Text(bytes) => is_text(store, other, store.bytes(bytes)),
+        Cell::Index(i) => matches!(read(store, other), Cell::Index(j) if i == j),
+        _ => false,
+    }
+}
+
+fn is_constant(store: &Store, cell: CellId, c: u32, count: usize) -> bool {
+    match read(store, cell) {
+        Cell::Const(d, types) => c == d && count == store.items(types).len(),
+        _ => false,
+    }
+}
+
+fn is_text(store: &Store, cell: CellId, bytes: &[u8]) -> bool {
+    match read(store, cell) {
+        Cell::Text(others) => bytes == store.bytes(others),
+        _ => false,
+    }
+}
+
+// The types of a constant.
+fn types_of(store: &Store, cell: CellId) -> Option<Span>
+    ensures { IsListIn store.now result }
+{
+    match read(store, cell) {
+        Cell::Const(_, types) => Some(types),
+        _ => None,
+    }
+}
+
+// Puts the pairs of types of two heads on a stack, so that the first of them comes first.
+pub(crate) fn push_types(
+    store: &Store,
+    one: CellId,
+    other: CellId,
+    todo: &mut Vec<(CellId, CellId)>,
+) -> Result<(), Memory> {
+    let Some(types) = types_of(store, one) else {
+        return Ok(());
+    };
+    let Some(others) = types_of(store, other) else {
+        return Ok(());
+    };
+    push_type_pairs(store.items(types), store.items(others), todo)
+}
+
+// Puts pairs on a stack, so that the first of them comes first.
+pub(crate) fn push_type_pairs(
+    lefts: &[CellId],
+    rights: &[CellId],
+    todo: &mut Vec<(CellId, CellId)>,
+) -> Result<(), Memory> {
+    if lefts.len() != rights.len() {
+        return Err(Memory);
+    }
+    for done in 0..lefts.len() {
+        let at = lefts.len() - 1 - done;
+        todo.push((lefts[at], rights[at]))?;
+    }
+    Ok(())
+}

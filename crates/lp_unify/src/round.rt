@@ -1,0 +1,31 @@
+// The units that are left to a unification, and whether a variable was bound.
+
+use crate::fault::PatternRefusal;
+
+/// One unification: the type equations and pairs that are given to it one after the other, and the pairs that wait.
+#[derive(Clone, Copy)]
+pub struct Round {
+    // The units that are left.
+    pub(crate) units: u64,
+    // A variable was bound since the waiting pairs were last taken up.
+    pub(crate) is_bound: bool,
+}
+
+impl Round {
+    /// A unification that may take as many units.
+    pub fn start(limit: u64) -> Round {
+        Round {
+            units: limit,
+            is_bound: false,
+        }
+    }
+}
+
+// Takes a unit.
+pub(crate) fn spend(units: &mut u64) -> Result<(), PatternRefusal> {
+    if *units == 0 {
+        return Err(PatternRefusal::Deep);
+    }
+    *units -= 1;
+    Ok(())
+}

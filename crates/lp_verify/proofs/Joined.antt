@@ -1,0 +1,154 @@
+-- The rules as they are judged at work are those of the definition.
+use Rattle.std.proofs.Common.{◌≡◌, ◌∙◌, ℕ, suc, List, [], ◌∷◌, length, Bool, true, false, Option, Some, None, ap, refl, arith}
+use Rattle.std.specs.Prelude.{nat_eq, not, ◌||◌, if◌then◌else◌, option_map}
+use Rattle.std.specs.List.{list_any}
+use Rattle.std.proofs.lemmas.Bool.{ne_eqb}
+use Rattle.lp_calculus.specs.Typing.{Scheme}
+use Rattle.lp_code.specs.declared.instruction.Instr.{Instr}
+use Rattle.lp_code.specs.declared.instruction.Instr.TheVariants as on
+use Rattle.lp_code.specs.declared.rule.Rule.{Rule}
+use Rattle.lp_code.specs.declared.rule.Rule.TheVariants as rule
+use Rattle.lp_code.specs.Operands.{type_set, term_set}
+use Rattle.lp_code.specs.States.{State, Home, member}
+use Rattle.lp_code.specs.Rules.{has_count, is_count, has_none, breaks_set, breaks_constant, breaks_order}
+use Rattle.lp_code.specs.Denote.{first_broken}
+use Rattle.lp_verify.specs.Judged.{judged, is_judged}
+use Rattle.lp_verify.specs.inner.Told.{is_out_of_order, has_wrong_count, sets_again, Broken, breaks, ArePassed, IsFirst}
+
+skip : (o next : Option Rule) (b : Bool) → b ≡ false → (if b then o else next) ≡ next
+skip o next b h = ap (λ t. if t then o else next) h
+
+stop : (o next : Option Rule) (b : Bool) → b ≡ true → (if b then o else next) ≡ o
+stop o next b h = ap (λ t. if t then o else next) h
+
+-- the judged rules from one on
+abbrev from_term : Broken → Option Rule
+from_term b = if b.term then Some rule.Term else (if b.order then Some rule.Order else (if b.key then Some rule.Key else None))
+
+abbrev from_constant : Broken → Option Rule
+from_constant b = if b.constant then Some rule.Constant else from_term b
+
+abbrev from_set : Broken → Option Rule
+from_set b = if b.set then Some rule.Set else from_constant b
+
+passed : (b : Broken) → ArePassed b → first_broken (breaks b) judged ≡ from_term b
+passed b h = skip (Some rule.Register) (from_set b) b.register h.0 ∙ skip (Some rule.Set) (from_constant b) b.set h.1 ∙ skip (Some rule.Constant) (from_term b) b.constant h.2
+
+abbrev from_order : Broken → Option Rule
+from_order b = if b.order then Some rule.Order else (if b.key then Some rule.Key else None)
+
+abbrev from_key : Broken → Option Rule
+from_key b = if b.key then Some rule.Key else None
+
+pub first_none : (b : Broken) → IsFirst b None → first_broken (breaks b) judged ≡ None
+first_none b h = passed b h.0 ∙ skip (Some rule.Term) (from_order b) b.term h.1 ∙ skip (Some rule.Order) (from_key b) b.order h.2 ∙ skip (Some rule.Key) None b.key h.3
+
+pub first_some : (b : Broken) (r : Rule) → IsFirst b (Some r) → is_judged r ≡ true → first_broken (breaks b) judged ≡ Some r
+first_some b rule.Register h j = stop (Some rule.Register) (from_set b) b.register h
+first_some b rule.Unset h j = absurd (cc)
+first_some b rule.Set h j = skip (Some rule.Register) (from_set b) b.register h.0 ∙ stop (Some rule.Set) (from_constant b) b.set h.1
+first_some b rule.Constant h j = skip (Some rule.Register) (from_set b) b.register h.0 ∙ skip (Some rule.Set) (from_constant b) b.set h.1 ∙ stop (Some rule.Constant) (from_term b) b.constant h.2
+first_some b rule.Typing h j = absurd (cc)
+first_some b rule.Index h j = absurd (cc)
+first_some b rule.Term h j = passed b h.0 ∙ stop (Some rule.Term) (from_order b) b.term h.1
+first_some b rule.Order h j = passed b h.0 ∙ skip (Some rule.Term) (from_order b) b.term h.1 ∙ stop (Some rule.Order) (from_key b) b.order h.2
+first_some b rule.Head h j = absurd (cc)
+first_some b rule.Block h j = absurd (cc)
+first_some b rule.Clause h j = absurd (cc)
+first_some b rule.Key h j = passed b h.0 ∙ skip (Some rule.Term) (from_order b) b.term h.1 ∙ skip (Some rule.Order) (from_key b) b.order h.2 ∙ stop (Some rule.Key) None b.key h.3
+
+-- tests that agree on the judged rules find the same one
+pub first_same : (f g : Rule → Bool) → f rule.Register ≡ g rule.Register → f rule.Set ≡ g rule.Set → f rule.Constant ≡ g rule.Constant → f rule.Term ≡ g rule.Term → f rule.Order ≡ g rule.Order → f rule.Key ≡ g rule.Key → first_broken f judged ≡ first_broken g judged
+first_same f g a b c d e k = λ i. if a i then Some rule.Register else (if b i then Some rule.Set else (if c i then Some rule.Constant else (if d i then Some rule.Term else (if e i then Some rule.Order else (if k i then Some rule.Key else None)))))
+
+pub or_false : (b : Bool) → (b || false) ≡ b
+or_false true = refl
+or_false false = refl
+
+counted : (o : Option Scheme) (n : ℕ) → is_count (option_map (λ (s : Scheme). s.count) o) n ≡ has_count o n
+counted None n = refl
+counted (Some s) n = refl
+
+none_counted : {A : Type 0} (xs : List A) → nat_eq (length xs) 0 ≡ has_none xs
+none_counted [] = refl
+none_counted (x ∷ xs) = ne_eqb (suc (length xs)) 0 (λ e. omega (arith, e))
+
+pub same_sets : (f g : ℕ → Bool) (s : State) (i : Instr) → ((r : ℕ) → f r ≡ member r s.types_set) → ((r : ℕ) → g r ≡ member r s.terms_set) → sets_again f g i ≡ breaks_set s i
+same_sets f g s i e k = λ j. list_any (λ r. e r j) (type_set i) || list_any (λ r. k r j) (term_set i)
+
+pub same_counts : (h : Home) (i : Instr) → has_wrong_count h.tables i ≡ breaks_constant h i
+same_counts h (on.TyCon d k ts) = refl
+same_counts h (on.TyArr d a b) = refl
+same_counts h (on.TyNew d) = refl
+same_counts h (on.New d t) = refl
+same_counts h (on.PutConst d c ts) = ap (λ b. not b) (counted (h.tables.constants c) (length ts.items))
+same_counts h (on.PutInt d z) = refl
+same_counts h (on.PutStr d b) = refl
+same_counts h (on.PutIndex d i t) = refl
+same_counts h (on.PutAbs d b t) = refl
+same_counts h (on.PutApp d f rs) = refl
+same_counts h (on.GetType j t) = refl
+same_counts h (on.GetVar i d) = refl
+same_counts h (on.Get i r) = refl
+same_counts h (on.GetConst i c ts) = ap (λ b. not b) (counted (h.tables.constants c) (length ts.items))
+same_counts h (on.GetInt i z) = refl
+same_counts h (on.GetStr i b) = refl
+same_counts h on.Neck = refl
+same_counts h (on.Call c ts rs) = ap (λ b. not b) (counted (h.tables.constants c) (length ts.items))
+same_counts h (on.CallTerm r) = refl
+same_counts h (on.Equal t l r) = refl
+same_counts h (on.Is t l r) = refl
+same_counts h (on.Less l r) = refl
+same_counts h (on.Greater l r) = refl
+same_counts h (on.AtMost l r) = refl
+same_counts h (on.AtLeast l r) = refl
+same_counts h on.Cut = refl
+same_counts h (on.Sigma d t) = refl
+same_counts h (on.All d t) = refl
+same_counts h on.EndAll = refl
+same_counts h (on.Assume ns ts rs) = refl
+same_counts h on.EndAssume = refl
+same_counts h (on.Either n) = refl
+same_counts h (on.Jump n) = refl
+same_counts h on.Proceed = refl
+same_counts h on.Not = refl
+same_counts h on.EndNot = refl
+
+-- the order, where the numbers are those of the state
+pub same_order : (s : State) (i : Instr) → is_out_of_order s.in_body (length s.head_types) (length s.head_arguments) i ≡ breaks_order s i
+same_order s (on.TyCon d k ts) = refl
+same_order s (on.TyArr d a b) = refl
+same_order s (on.TyNew d) = refl
+same_order s (on.New d t) = refl
+same_order s (on.PutConst d c ts) = refl
+same_order s (on.PutInt d z) = refl
+same_order s (on.PutStr d b) = refl
+same_order s (on.PutIndex d i t) = refl
+same_order s (on.PutAbs d b t) = refl
+same_order s (on.PutApp d f rs) = refl
+same_order s (on.GetType j t) = ap (λ b. (s.in_body || not (nat_eq j (length s.head_types))) || not b) (none_counted s.head_arguments)
+same_order s (on.GetVar i d) = refl
+same_order s (on.Get i r) = refl
+same_order s (on.GetConst i c ts) = refl
+same_order s (on.GetInt i z) = refl
+same_order s (on.GetStr i b) = refl
+same_order s on.Neck = refl
+same_order s (on.Call c ts rs) = refl
+same_order s (on.CallTerm r) = refl
+same_order s (on.Equal t l r) = refl
+same_order s (on.Is t l r) = refl
+same_order s (on.Less l r) = refl
+same_order s (on.Greater l r) = refl
+same_order s (on.AtMost l r) = refl
+same_order s (on.AtLeast l r) = refl
+same_order s on.Cut = refl
+same_order s (on.Sigma d t) = refl
+same_order s (on.All d t) = refl
+same_order s on.EndAll = refl
+same_order s (on.Assume ns ts rs) = refl
+same_order s on.EndAssume = refl
+same_order s (on.Either n) = refl
+same_order s (on.Jump n) = refl
+same_order s on.Proceed = refl
+same_order s on.Not = refl
+same_order s on.EndNot = refl

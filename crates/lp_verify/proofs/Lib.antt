@@ -1,0 +1,7 @@
+mod Language
+mod Entries
+mod Outlines
+mod Joined
+mod KeyLaws
+mod Moved
+mod Faults

@@ -1,0 +1,277 @@
+-- A record at work moves as the state of the definition does.
+use Rattle.std.proofs.Common.{◌≡◌, ◌∙◌, ◌≤◌, ◌<◌, ℕ, zero, suc, ◌+◌, List, [], ◌∷◌, ◌++◌, length, Bool, true, false, Option, Some, None, ap, refl, sym, subst, arith, inl, inr}
+use Rattle.std.specs.Prelude.{nat_eq, nat_lt, ◌||◌, ◌&&◌, ◌^◌, if◌then◌else◌}
+use Rattle.std.proofs.lemmas.Bool.{ne_eqb, lt-ltb, le-ltb, ltb-true, ltb-false, eqb-true, eqb-false}
+use Rattle.lp_lemmas.proofs.Numbers.{equal_or_above}
+use Rattle.lp_code.specs.declared.instruction.Instr.{Instr}
+use Rattle.lp_code.specs.declared.instruction.Instr.TheVariants as on
+use Rattle.lp_code.specs.declared.rule.Rule.{Rule}
+use Rattle.lp_code.specs.declared.rule.Rule.TheVariants as rule
+use Rattle.lp_code.specs.Length.{length_of}
+use Rattle.lp_code.specs.Operands.{type_set, term_set}
+use Rattle.lp_code.specs.States.{State, Home, Captured, member}
+use Rattle.lp_code.specs.Steps.{after}
+use Rattle.lp_code.specs.Rules.{breaks_set, breaks_register, breaks_term}
+use Rattle.lp_code.specs.Denote.{Done, Broken, first_broken, broken_by_record, broken_by, broken_of, unless_broken, run_on, run_of, any_clause, first_state, from_zero}
+use Rattle.lp_verify.specs.declared.record.Work.{Work}
+use Rattle.lp_verify.specs.declared.whole.Whole.{Whole}
+use Rattle.lp_verify.specs.declared.head.HeadSoFar.{HeadSoFar}
+use Rattle.lp_verify.specs.Held.{was_set}
+use Rattle.lp_verify.specs.Judged.{judged, bytes_of}
+use Rattle.lp_verify.specs.inner.Outline.{Outline, outline, arguments_behind, types_behind, body_behind, outline_behind}
+use Rattle.lp_verify.specs.inner.Told.{breaks, told, broken_whole, IsFirst, is_out_of_order}
+use Rattle.lp_verify.specs.inner.At.{home_in, IsAt, IsRun, IsActed, IsStarted, IsJudgedWhole, IsWhole, IsNoWhole, IsRan, GoesOn}
+use Rattle.lp_verify.proofs.Outlines.{behind, comes_behind, outline_is}
+use Rattle.lp_verify.proofs.Joined.{first_none, first_some, first_same, or_false, same_sets, same_counts, same_order}
+
+more_arguments : (i : Instr) (m : ℕ) → arguments_behind i m ≤ m + length_of i
+more_arguments (on.TyCon d k ts) m = omega arith
+more_arguments (on.TyArr d a b) m = omega arith
+more_arguments (on.TyNew d) m = omega arith
+more_arguments (on.New d t) m = omega arith
+more_arguments (on.PutConst d c ts) m = omega arith
+more_arguments (on.PutInt d z) m = omega arith
+more_arguments (on.PutStr d b) m = omega arith
+more_arguments (on.PutIndex d i t) m = omega arith
+more_arguments (on.PutAbs d b t) m = omega arith
+more_arguments (on.PutApp d f rs) m = omega arith
+more_arguments (on.GetType j t) m = omega arith
+more_arguments (on.GetVar i d) m = omega arith
+more_arguments (on.Get i r) m = omega arith
+more_arguments (on.GetConst i c ts) m = omega arith
+more_arguments (on.GetInt i z) m = omega arith
+more_arguments (on.GetStr i b) m = omega arith
+more_arguments on.Neck m = omega arith
+more_arguments (on.Call c ts rs) m = omega arith
+more_arguments (on.CallTerm r) m = omega arith
+more_arguments (on.Equal t l r) m = omega arith
+more_arguments (on.Is t l r) m = omega arith
+more_arguments (on.Less l r) m = omega arith
+more_arguments (on.Greater l r) m = omega arith
+more_arguments (on.AtMost l r) m = omega arith
+more_arguments (on.AtLeast l r) m = omega arith
+more_arguments on.Cut m = omega arith
+more_arguments (on.Sigma d t) m = omega arith
+more_arguments (on.All d t) m = omega arith
+more_arguments on.EndAll m = omega arith
+more_arguments (on.Assume ns ts rs) m = omega arith
+more_arguments on.EndAssume m = omega arith
+more_arguments (on.Either n) m = omega arith
+more_arguments (on.Jump n) m = omega arith
+more_arguments on.Proceed m = omega arith
+more_arguments on.Not m = omega arith
+more_arguments on.EndNot m = omega arith
+
+some_bytes : (i : Instr) → 1 ≤ length_of i
+some_bytes (on.TyCon d k ts) = omega arith
+some_bytes (on.TyArr d a b) = omega arith
+some_bytes (on.TyNew d) = omega arith
+some_bytes (on.New d t) = omega arith
+some_bytes (on.PutConst d c ts) = omega arith
+some_bytes (on.PutInt d z) = omega arith
+some_bytes (on.PutStr d b) = omega arith
+some_bytes (on.PutIndex d i t) = omega arith
+some_bytes (on.PutAbs d b t) = omega arith
+some_bytes (on.PutApp d f rs) = omega arith
+some_bytes (on.GetType j t) = omega arith
+some_bytes (on.GetVar i d) = omega arith
+some_bytes (on.Get i r) = omega arith
+some_bytes (on.GetConst i c ts) = omega arith
+some_bytes (on.GetInt i z) = omega arith
+some_bytes (on.GetStr i b) = omega arith
+some_bytes on.Neck = omega arith
+some_bytes (on.Call c ts rs) = omega arith
+some_bytes (on.CallTerm r) = omega arith
+some_bytes (on.Equal t l r) = omega arith
+some_bytes (on.Is t l r) = omega arith
+some_bytes (on.Less l r) = omega arith
+some_bytes (on.Greater l r) = omega arith
+some_bytes (on.AtMost l r) = omega arith
+some_bytes (on.AtLeast l r) = omega arith
+some_bytes on.Cut = omega arith
+some_bytes (on.Sigma d t) = omega arith
+some_bytes (on.All d t) = omega arith
+some_bytes on.EndAll = omega arith
+some_bytes (on.Assume ns ts rs) = omega arith
+some_bytes on.EndAssume = omega arith
+some_bytes (on.Either n) = omega arith
+some_bytes (on.Jump n) = omega arith
+some_bytes on.Proceed = omega arith
+some_bytes on.Not = omega arith
+some_bytes on.EndNot = omega arith
+
+pub member_append : (r : ℕ) (xs ys : List ℕ) → member r (xs ++ ys) ≡ (member r xs || member r ys)
+member_append r [] ys = refl
+member_append r (x ∷ xs) ys = also (nat_eq r x) (member_append r xs ys)
+  where
+    also : (b : Bool) → member r (xs ++ ys) ≡ (member r xs || member r ys) → (b || member r (xs ++ ys)) ≡ ((b || member r xs) || member r ys)
+    also true h = refl
+    also false h = h
+
+-- the state behind an instruction that was run
+pub moved : (h : Home) (s : State) (i : Instr) (w v : Work) → IsAt w s → IsRun i w v → s.place + length_of i < 2 ^ 63 → IsAt v (behind h s i)
+moved h s i w v a r small =
+    let o : outline (behind h s i) ≡ outline_behind i (outline s) = outline_is h s i in
+    let p : w.place ≡ s.place = a.place_is in
+    let few : length s.head_arguments ≤ s.place = a.few_arguments in
+    record {
+      place_is = r.place_moves (omega (arith, small, p)) ∙ ap (λ n. n + length_of i) p ∙ sym (ap (λ (o : Outline). o.place) o);
+      body_is = r.body_is ∙ ap (body_behind i) a.body_is ∙ sym (ap (λ (o : Outline). o.in_body) o);
+      types_are = r.types_are ∙ ap (types_behind i) a.types_are ∙ sym (ap (λ (o : Outline). o.types) o);
+      arguments_are = r.arguments_are (omega (arith, small, few, a.arguments_are)) ∙ ap (arguments_behind i) a.arguments_are ∙ sym (ap (λ (o : Outline). o.arguments) o);
+      types_set = λ n. r.types_set n ∙ ap (λ b. b || member n (type_set i)) (a.types_set n) ∙ sym (member_append n s.types_set (type_set i)) ∙ sym (ap (λ (o : Outline). member n o.types_set) o);
+      terms_set = λ n. r.terms_set n ∙ ap (λ b. b || member n (term_set i)) (a.terms_set n) ∙ sym (member_append n s.terms_set (term_set i)) ∙ sym (ap (λ (o : Outline). member n o.terms_set) o);
+      few_arguments =
+          let m : arguments_behind i (length s.head_arguments) ≤ length s.head_arguments + length_of i = more_arguments i (length s.head_arguments) in
+          let e : length (behind h s i).head_arguments ≡ arguments_behind i (length s.head_arguments) = ap (λ (o : Outline). o.arguments) o in
+          let q : (behind h s i).place ≡ s.place + length_of i = ap (λ (o : Outline). o.place) o in
+          omega (arith, m, e, q, few);
+    }
+
+-- an instruction that was acted on is passed, and right sides that end there are left
+pub passed_on : (i : Instr) (old mid new : Work) → IsActed i old mid → new.home ≡ mid.home → (mid.place + length_of i < 2 ^ 64 → new.place ≡ mid.place + length_of i) → new.in_body ≡ mid.in_body → new.head ≡ mid.head
+    → ((r : ℕ) → was_set new.types r ≡ was_set mid.types r) → ((r : ℕ) → was_set new.terms r ≡ was_set mid.terms r) → IsRun i old new
+passed_on i old mid new a home place body head types terms = record {
+  home_stays = home ∙ a.home_stays;
+  place_moves = λ h. place (subst (λ p. p + length_of i < 2 ^ 64) (sym a.place_stays) h) ∙ ap (λ p. p + length_of i) a.place_stays;
+  body_is = body ∙ a.body_is;
+  types_are = ap (λ (x : HeadSoFar). length x.types.items) head ∙ a.types_are;
+  arguments_are = λ h. ap (λ (x : HeadSoFar). x.arguments) head ∙ a.arguments_are h;
+  types_set = λ r. types r ∙ a.types_set r;
+  terms_set = λ r. terms r ∙ a.terms_set r;
+}
+
+-- the record is judged before its first instruction, and else only the instruction is
+both_false : (w b : Bool) → w ≡ false → b ≡ (w || b)
+both_false w b h = sym (ap (λ v. v || b) h)
+
+broken_at : (z : Bool) (f g : Rule → Bool) → (if z then first_broken (λ r. f r || g r) judged else first_broken g judged) ≡ first_broken (λ r. (z && f r) || g r) judged
+broken_at true f g = refl
+broken_at false f g = refl
+
+-- what is told before an instruction is what the definition finds there
+pub same_broken : (s : State) (w : Work) (x : Whole) (i : Instr) (is : List Instr) → IsAt w s → IsWhole (home_in w.home) s x
+    → broken_of judged (home_in w.home) s (i ∷ is) ≡ first_broken (breaks (told w x i)) judged
+same_broken s w x i is a b =
+    let h = home_in w.home in
+    let t : Bool = nat_eq s.place 0 in
+    broken_at t (broken_by_record h s) (broken_by h s is i) ∙ sym (first_same (breaks (told w x i)) (λ r. (t && broken_by_record h s r) || broken_by h s is i r)
+    (ap (λ v. v || breaks_register h s i) b.register_is)
+    (same_sets (was_set w.types) (was_set w.terms) s i a.types_set a.terms_set ∙ no_more t (breaks_set s i))
+    ((λ j. b.constant_is j || same_counts h i j))
+    (no_more t (breaks_term i))
+    ((λ j. b.order_is j || is_out_of_order (a.body_is j) (a.types_are j) (a.arguments_are j) i) ∙ ap (λ v. (t && broken_by_record h s rule.Order) || v) (same_order s i))
+    (b.key_is ∙ sym (or_false (t && broken_by_record h s rule.Key))))
+  where
+    no_more : (t b : Bool) → b ≡ ((t && false) || b)
+    no_more true b = refl
+    no_more false b = refl
+
+-- one instruction more
+first_passes : (place n : ℕ) → 1 ≤ n → nat_eq (place + n) 0 ≡ false
+first_passes place n h = ne_eqb (place + n) 0 (λ e. omega (arith, h, e))
+
+one_more : (c : Captured) (all : List Instr) (i : Instr) (is : List Instr) (w v : Work) (x y : Whole) → bytes_of all < 2 ^ 32
+    → GoesOn (home_in w.home) c all (i ∷ is) w x → IsFirst (told w x i) None → IsRun i w v → IsNoWhole y → GoesOn (home_in w.home) c all is v y
+one_more c all i is w v x y short g f r clean =
+    let h = home_in w.home in
+    let s = g.0 in
+    let count : s.place + (length_of i + bytes_of is) ≡ bytes_of all = g.3 in
+    let place : (behind h s i).place ≡ s.place + length_of i = ap (λ (o : Outline). o.place) (outline_is h s i) in
+    let fine = same_broken s w x i is g.2 g.4 ∙ first_none (told w x i) f in
+    let past : nat_eq (behind h s i).place 0 ≡ false = ap (λ n. nat_eq n 0) place ∙ first_passes s.place (length_of i) (some_bytes i) in (
+      behind h s i,
+      g.1 ∙ ap (λ o. unless_broken o s.place (run_on (λ t. run_of judged h any_clause t is) (after h any_clause s i))) fine ∙ ap (run_on (λ t. run_of judged h any_clause t is)) (comes_behind h s i),
+      moved h s i w v g.2 r (omega (arith, short, count)),
+      omega (arith, place, count),
+      record {
+        register_is = clean.0 ∙ sym (ap (λ t. t && broken_by_record h (behind h s i) rule.Register) past);
+        constant_is = clean.1 ∙ sym (ap (λ t. t && broken_by_record h (behind h s i) rule.Constant) past);
+        order_is = clean.2 ∙ sym (ap (λ t. t && broken_by_record h (behind h s i) rule.Order) past);
+        key_is = clean.3 ∙ sym (ap (λ t. t && broken_by_record h (behind h s i) rule.Key) past);
+      },
+    )
+
+pub goes_on : (h : Home) (c : Captured) (all : List Instr) (i : Instr) (is : List Instr) (w v : Work) (x y : Whole) → home_in w.home ≡ h → bytes_of all < 2 ^ 32
+    → GoesOn h c all (i ∷ is) w x → IsFirst (told w x i) None → IsRun i w v → IsNoWhole y → GoesOn h c all is v y
+goes_on h c all i is w v x y e short = subst (λ h. GoesOn h c all (i ∷ is) w x → IsFirst (told w x i) None → IsRun i w v → IsNoWhole y → GoesOn h c all is v y) e (one_more c all i is w v x y short)
+
+refused_at : (c : Captured) (all : List Instr) (i : Instr) (is : List Instr) (w : Work) (x : Whole) (r : Rule) → bytes_of all < 2 ^ 32
+    → GoesOn (home_in w.home) c all (i ∷ is) w x → IsFirst (told w x i) (Some r) → IsRan (run_of judged (home_in w.home) any_clause (first_state (home_in w.home).self c) all) (Some (w.place, r))
+refused_at c all i is w x r short g f j =
+    let h = home_in w.home in
+    let s = g.0 in
+    let count : s.place + (length_of i + bytes_of is) ≡ bytes_of all = g.3 in
+    let p : w.place ≡ s.place = g.2.place_is in
+    let found = same_broken s w x i is g.2 g.4 ∙ first_some (told w x i) r f j in
+    (g.1 ∙ ap (λ o. unless_broken o s.place (run_on (λ t. run_of judged h any_clause t is) (after h any_clause s i))) found ∙ ap (λ n. Broken n r) (sym p), omega (arith, short, count, p))
+
+pub refused : (h : Home) (c : Captured) (all : List Instr) (i : Instr) (is : List Instr) (w : Work) (x : Whole) (r : Rule) → home_in w.home ≡ h → bytes_of all < 2 ^ 32
+    → GoesOn h c all (i ∷ is) w x → IsFirst (told w x i) (Some r) → IsRan (run_of judged h any_clause (first_state h.self c) all) (Some (w.place, r))
+refused h c all i is w x r e short = subst (λ h. GoesOn h c all (i ∷ is) w x → IsFirst (told w x i) (Some r) → IsRan (run_of judged h any_clause (first_state h.self c) all) (Some (w.place, r))) e (refused_at c all i is w x r short)
+
+-- the end of the instructions, where the record is judged as a whole if there was none
+abbrev pub at_end : Option Rule → ℕ → Option (ℕ × Rule)
+at_end None n = None
+at_end (Some r) n = Some (n, r)
+
+whole_at : (z : Bool) (f : Rule → Bool) → (if z then first_broken f judged else None) ≡ first_broken (λ r. z && f r) judged
+whole_at true f = refl
+whole_at false f = refl
+
+none_there : (z : Bool) → false ≡ (z && false)
+none_there true = refl
+none_there false = refl
+
+whole_broken : (h : Home) (s : State) (x : Whole) → IsWhole h s x → broken_of judged h s [] ≡ first_broken (breaks (broken_whole x)) judged
+whole_broken h s x b =
+    let t : Bool = nat_eq s.place 0 in
+    whole_at t (broken_by_record h s) ∙ sym (first_same (breaks (broken_whole x)) (λ r. t && broken_by_record h s r) b.register_is (none_there t) b.constant_is (none_there t) b.order_is b.key_is)
+
+pub ended : (h : Home) (c : Captured) (all : List Instr) (w : Work) (x : Whole) (o : Option Rule) → bytes_of all < 2 ^ 32
+    → GoesOn h c all [] w x → IsFirst (broken_whole x) o → IsRan (run_of judged h any_clause (first_state h.self c) all) (at_end o w.place)
+ended h c all w x None short g f = (g.0, g.1 ∙ ap (λ o. unless_broken o g.0.place (Done g.0)) (whole_broken h g.0 x g.4 ∙ first_none (broken_whole x) f))
+ended h c all w x (Some r) short g f = λ j.
+    let s = g.0 in
+    let p : w.place ≡ s.place = g.2.place_is in
+    let count : s.place + 0 ≡ bytes_of all = g.3 in
+    (g.1 ∙ ap (λ o. unless_broken o s.place (Done s)) (whole_broken h s x g.4 ∙ first_some (broken_whole x) r f j) ∙ ap (λ n. Broken n r) (sym p), omega (arith, short, count, p))
+
+below_next : (r n : ℕ) (a b : Bool) → nat_lt r n ≡ a → nat_eq r n ≡ b → (a || (b || false)) ≡ nat_lt r (suc n)
+below_next r n true b h k = sym (lt-ltb r (suc n) (omega (arith, ltb-true r n h)))
+below_next r n false true h k = sym (lt-ltb r (suc n) (omega (arith, eqb-true r n k)))
+below_next r n false false h k = sym (le-ltb r (suc n) (elim (equal_or_above n r (ltb-false r n h)) [ inl e ↦ absurd (eqb-false r n k e) | inr l ↦ l ]))
+
+-- the first registers of a record are set before its first instruction
+from_zero_has : (r n : ℕ) → member r (from_zero n) ≡ nat_lt r n
+from_zero_has r zero = sym (le-ltb r 0 (omega arith))
+from_zero_has r (suc n) = member_append r (from_zero n) (n ∷ []) ∙ ap (λ b. b || (nat_eq r n || false)) (from_zero_has r n) ∙ below_next r n (nat_lt r n) (nat_eq r n) refl refl
+
+judged_first : (h : Home) (s : State) (x : Whole) → s.place ≡ 0 → IsJudgedWhole h x → IsWhole h s x
+judged_first h s x e j = record {
+  register_is = j.register_is ∙ ap (λ p. nat_eq p 0 && broken_by_record h s rule.Register) (sym e);
+  constant_is = j.constant_is ∙ ap (λ p. nat_eq p 0 && broken_by_record h s rule.Constant) (sym e);
+  order_is = j.order_is ∙ ap (λ p. nat_eq p 0 && broken_by_record h s rule.Order) (sym e);
+  key_is = j.key_is ∙ ap (λ p. nat_eq p 0 && broken_by_record h s rule.Key) (sym e);
+}
+
+begins : (c : Captured) (w : Work) (x : Whole) → IsStarted w → IsJudgedWhole (home_in w.home) x → GoesOn (home_in w.home) c w.home.record.now.code.items w.home.record.now.code.items w x
+begins c w x b j =
+    let r = w.home.record.now in (
+      first_state r c,
+      refl,
+      record {
+        place_is = b.place_is;
+        body_is = b.body_is;
+        types_are = b.types_are;
+        arguments_are = b.arguments_are;
+        types_set = λ n. b.types_set n ∙ sym (from_zero_has n r.captured_types);
+        terms_set = λ n. b.terms_set n ∙ sym (from_zero_has n r.captured);
+        few_arguments = omega arith;
+      },
+      omega arith,
+      judged_first (home_in w.home) (first_state r c) x refl j,
+    )
+
+pub begun : (h : Home) (c : Captured) (w : Work) (x : Whole) → home_in w.home ≡ h → IsStarted w → IsJudgedWhole (home_in w.home) x → GoesOn h c h.self.code.items h.self.code.items w x
+begun h c w x e b j = subst (λ h. GoesOn h c h.self.code.items h.self.code.items w x) e (begins c w x b j)

@@ -1,0 +1,122 @@
+-- What an instruction does to the outline of a state.
+use Rattle.std.proofs.Common.{◌≡◌, ◌∙◌, ℕ, zero, suc, ◌+◌, List, [], ◌∷◌, ◌++◌, length, Bool, true, false, Option, Some, None, ap, refl}
+use Rattle.std.specs.Prelude.{option_map, if◌then◌else◌}
+use Rattle.lp_lemmas.proofs.Lists.{length_push_suc}
+use Rattle.lp_model.specs.Flat.{Goal, Goals, no_goals, Clauses, no_clauses, clauses, clause}
+use Rattle.lp_calculus.specs.Term.{index, atom, integer, text}
+use Rattle.lp_calculus.specs.Typing.{int_type, string_type}
+use Rattle.lp_calculus.specs.Types.{Ty}
+use Rattle.lp_code.specs.Symbolic.{Built, whole, variable, term_in, types_in}
+use Rattle.lp_code.specs.declared.instruction.Instr.{Instr}
+use Rattle.lp_code.specs.declared.instruction.Instr.TheVariants as on
+use Rattle.lp_code.specs.Length.{length_of}
+use Rattle.lp_code.specs.Operands.{type_set, term_set}
+use Rattle.lp_code.specs.States.{Frame, Captured, State, Home, end_variables, innermost_block, depth, under_assumption}
+use Rattle.lp_code.specs.Steps.{put_term, argument_at, constant_of, with_argument, opens, leave_block, leave_from, leave, turn_from, turn, goal_of_block, effect, clauses_of_records, captured_by, handed, is_right_end, settled, passed, after}
+use Rattle.lp_code.specs.Denote.{any_clause}
+use Rattle.lp_verify.specs.inner.Outline.{Outline, outline, body_behind, types_behind, arguments_behind, outline_behind}
+
+block_left : (s : State) (f : Frame) (fs : List Frame) (o : Option Goal) → outline (leave_block s f fs o) ≡ outline s
+block_left s f fs None = refl
+block_left s f fs (Some g) = refl
+
+from_left : (home : ℕ) (s : State) (gs : Goals) (fs : List Frame) → outline (leave_from home s gs fs) ≡ outline s
+from_left home s gs [] = refl
+from_left home s gs (f ∷ fs) = block_left s f fs (goal_of_block home f.block gs)
+
+left : (home : ℕ) (s : State) → outline (leave home s) ≡ outline s
+left home s = from_left home s (end_variables home s.goals s.frames).goals (end_variables home s.goals s.frames).frames
+
+from_turned : (s : State) (n : ℕ) (gs : Goals) (fs : List Frame) → outline (turn_from s n gs fs) ≡ outline s
+from_turned s n gs [] = refl
+from_turned s n gs (f ∷ fs) = refl
+
+turned : (home : ℕ) (s : State) (n : ℕ) → outline (turn home s n) ≡ outline s
+turned home s n = from_turned s n (end_variables home s.goals s.frames).goals (end_variables home s.goals s.frames).frames
+
+settled_if : (home n : ℕ) (s : State) (b : Bool) → outline (settled home n (leave home s)) ≡ outline (leave home s) → outline (if b then settled home n (leave home s) else s) ≡ outline s
+settled_if home n s true h = h ∙ left home s
+settled_if home n s false h = refl
+
+settles : (home n : ℕ) (s : State) → outline (settled home n s) ≡ outline s
+settles home zero s = refl
+settles home (suc n) s = settled_if home n s (is_right_end s.place (innermost_block s.frames)) (settles home n (leave home s))
+
+-- what an instruction does before it is passed
+abbrev pub acted : Instr → Outline → Outline
+acted i o = record { place = o.place; types_set = o.types_set; terms_set = o.terms_set; in_body = body_behind i o.in_body; types = types_behind i o.types; arguments = arguments_behind i o.arguments }
+
+-- an instruction comes to a state
+pub record Comes (h : Home) (s : State) (i : Instr) : Type 0 where
+  pub to : State
+  pub comes : effect h any_clause s i ≡ Some to
+  pub outlined : outline to ≡ acted i (outline s)
+
+any_clauses : (c : Captured) (ns : List ℕ) → (cs : Clauses) × (clauses_of_records any_clause ns c ≡ Some cs)
+any_clauses c [] = (no_clauses, refl)
+any_clauses c (n ∷ ns) =
+    let more = any_clauses c ns in
+    (clauses (clause 0 [] (index 0) no_goals) more.0, ap (option_map (clauses (clause 0 [] (index 0) no_goals))) more.1)
+
+came : (h : Home) (s : State) (i : Instr) (t : State) → effect h any_clause s i ≡ Some t → outline t ≡ acted i (outline s) → Comes h s i
+came h s i t e o = record { to = t; comes = e; outlined = o }
+
+took : (s : State) (b : Built) → outline (with_argument s b) ≡ record (outline s) { arguments = suc (length s.head_arguments) }
+took s b = ap (λ n. record (outline s) { arguments = n }) (length_push_suc s.head_arguments b)
+
+took_type : (s : State) (T : Ty) → outline (record s { head_types = s.head_types ++ T ∷ [] }) ≡ record (outline s) { types = suc (length s.head_types) }
+took_type s T = ap (λ n. record (outline s) { types = n }) (length_push_suc s.head_types T)
+
+abbrev assuming : Home → State → (ns ts rs : List ℕ) → Clauses → State
+assuming h s ns ts rs cs = record (opens s (under_assumption cs)) { assumed = s.assumed ++ handed ns (captured_by s ts rs) }
+
+pub comes : (h : Home) (s : State) (i : Instr) → Comes h s i
+comes h s (on.TyCon d k ts) = came h s (on.TyCon d k ts) _ refl refl
+comes h s (on.TyArr d a b) = came h s (on.TyArr d a b) _ refl refl
+comes h s (on.TyNew d) = came h s (on.TyNew d) _ refl refl
+comes h s (on.New d t) = came h s (on.New d t) _ refl refl
+comes h s (on.PutConst d c ts) = came h s (on.PutConst d c ts) _ refl refl
+comes h s (on.PutInt d z) = came h s (on.PutInt d z) _ refl refl
+comes h s (on.PutStr d b) = came h s (on.PutStr d b) _ refl refl
+comes h s (on.PutIndex d i t) = came h s (on.PutIndex d i t) _ refl refl
+comes h s (on.PutAbs d b t) = came h s (on.PutAbs d b t) _ refl refl
+comes h s (on.PutApp d f rs) = came h s (on.PutApp d f rs) _ refl refl
+comes h s (on.GetType j t) = came h s (on.GetType j t) _ refl (took_type s _)
+comes h s (on.GetVar i d) = came h s (on.GetVar i d) (with_argument (put_term s d (whole (variable d h.number) (argument_at h s i))) (whole (variable d h.number) (argument_at h s i))) refl (took (put_term s d (whole (variable d h.number) (argument_at h s i))) (whole (variable d h.number) (argument_at h s i)))
+comes h s (on.Get i r) = came h s (on.Get i r) (with_argument s (term_in s.now r)) refl (took s (term_in s.now r))
+comes h s (on.GetConst i c ts) = came h s (on.GetConst i c ts) (with_argument s (constant_of h.tables c (types_in s.now ts.items))) refl (took s (constant_of h.tables c (types_in s.now ts.items)))
+comes h s (on.GetInt i z) = came h s (on.GetInt i z) (with_argument s (whole (atom (integer z)) int_type)) refl (took s (whole (atom (integer z)) int_type))
+comes h s (on.GetStr i b) = came h s (on.GetStr i b) (with_argument s (whole (atom (text b.items)) string_type)) refl (took s (whole (atom (text b.items)) string_type))
+comes h s on.Neck = came h s on.Neck _ refl refl
+comes h s (on.Call c ts rs) = came h s (on.Call c ts rs) _ refl refl
+comes h s (on.CallTerm r) = came h s (on.CallTerm r) _ refl refl
+comes h s (on.Equal t l r) = came h s (on.Equal t l r) _ refl refl
+comes h s (on.Is t l r) = came h s (on.Is t l r) _ refl refl
+comes h s (on.Less l r) = came h s (on.Less l r) _ refl refl
+comes h s (on.Greater l r) = came h s (on.Greater l r) _ refl refl
+comes h s (on.AtMost l r) = came h s (on.AtMost l r) _ refl refl
+comes h s (on.AtLeast l r) = came h s (on.AtLeast l r) _ refl refl
+comes h s on.Cut = came h s on.Cut _ refl refl
+comes h s (on.Sigma d t) = came h s (on.Sigma d t) _ refl refl
+comes h s (on.All d t) = came h s (on.All d t) _ refl refl
+comes h s on.EndAll = came h s on.EndAll _ refl (left h.number s)
+comes h s (on.Assume ns ts rs) = let cs = any_clauses (captured_by s ts.items rs.items) ns.items in came h s (on.Assume ns ts rs) (assuming h s ns.items ts.items rs.items cs.0) (ap (option_map (assuming h s ns.items ts.items rs.items)) cs.1) refl
+comes h s on.EndAssume = came h s on.EndAssume _ refl (left h.number s)
+comes h s (on.Either n) = came h s (on.Either n) _ refl refl
+comes h s (on.Jump n) = came h s (on.Jump n) _ refl (turned h.number s n)
+comes h s on.Proceed = came h s on.Proceed _ refl refl
+comes h s on.Not = came h s on.Not _ refl refl
+comes h s on.EndNot = came h s on.EndNot _ refl (left h.number s)
+
+abbrev pub behind : (h : Home) (s : State) (i : Instr) → State
+behind h s i = settled h.number (depth (comes h s i).to.frames) (passed i (comes h s i).to)
+
+pub comes_behind : (h : Home) (s : State) (i : Instr) → after h any_clause s i ≡ Some (behind h s i)
+comes_behind h s i = ap (option_map (λ t. settled h.number (depth t.frames) (passed i t))) (comes h s i).comes
+
+-- what is passed has the outline of what was acted, and more
+abbrev pub past : Instr → Outline → Outline
+past i o = record o { place = o.place + length_of i; types_set = o.types_set ++ type_set i; terms_set = o.terms_set ++ term_set i }
+
+pub outline_is : (h : Home) (s : State) (i : Instr) → outline (behind h s i) ≡ outline_behind i (outline s)
+outline_is h s i = settles h.number (depth (comes h s i).to.frames) (passed i (comes h s i).to) ∙ ap (past i) (comes h s i).outlined

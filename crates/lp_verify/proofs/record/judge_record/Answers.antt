@@ -1,0 +1,57 @@
+use Rattle.std.proofs.Common.{◌≡◌, ◌<◌, ◌+◌, ◌∙◌, ◌∷◌, [], length, drop, get_or, Some, None, ap, sym, subst, arith}
+use Rattle.lp_lemmas.proofs.Lists.{drop_read}
+use Rattle.lp_code.specs.Denote.{run_of, any_clause, first_state}
+use Rattle.lp_verify.specs.Judged.{judged}
+use Rattle.lp_verify.specs.inner.Told.{told, IsFirst}
+use Rattle.lp_verify.specs.inner.At.{home_in, IsRan, IsRun, IsStepped, GoesOn}
+use Rattle.lp_verify.proofs.Moved.{begun, goes_on, refused, ended}
+use Rattle.lp_verify.proofs.Faults.{none_left}
+use Rattle.lp_verify.proofs.record.judge_record.Goals as goal
+
+pub loop-instr-init : goal.loop-instr-init
+loop-instr-init c = (ap home_in c.in_ok-work.ensures.home, λ d short. begun (home_in c.args.home) d c.in_ok-work.work c.in_ok-whole.whole (ap home_in c.in_ok-work.ensures.home) c.in_ok-work.ensures.started c.in_ok-whole.ensures)
+
+pub loop-instr-preserved : goal.loop-instr-preserved
+loop-instr-preserved c =
+    let h = home_in c.args.home in
+    let code = c.args.home.record.now.code.items in
+    let n = c.loop-instr.instr-index in
+    let i = c.instr-item.result in
+    let w = c.loop-instr.work in
+    let v = c.step.new.self in
+    let inv = c.loop-instr.invariant in
+    let at : drop n code ≡ i ∷ drop (n + 1) code = drop_read code n i (subst (λ l. n < length l) c.deref-instr-items.ensures.value c.loop-instr-test.true) (c.instr-item.is ∙ ap (λ l. get_or l n i) c.deref-instr-items.ensures.value) in
+    let first : IsFirst (told w c.loop-instr.whole i) None = subst (IsFirst (told w c.loop-instr.whole i)) c.in_default.is c.in_ok-rule.ensures.0 in
+    let run : IsRun i w v = subst (IsStepped i w v) c.in_default.is c.in_ok-rule.ensures.1 in (
+      ap home_in run.home_stays ∙ inv.0,
+      λ d short. goes_on h d code i (drop (n + 1) code) w v c.loop-instr.whole c.none-whole.result inv.0 short (subst (λ l. GoesOn h d code l w c.loop-instr.whole) at (inv.1 d short)) first run c.none-whole.ensures,
+    )
+
+pub returns-in-Some : goal.returns-in-Some
+returns-in-Some c =
+    let h = home_in c.args.home in
+    let code = c.args.home.record.now.code.items in
+    let n = c.loop-instr.instr-index in
+    let i = c.instr-item.result in
+    let w = c.loop-instr.work in
+    let r = c.in-Some.rule in
+    let inv = c.loop-instr.invariant in
+    let at : drop n code ≡ i ∷ drop (n + 1) code = drop_read code n i (subst (λ l. n < length l) c.deref-instr-items.ensures.value c.loop-instr-test.true) (c.instr-item.is ∙ ap (λ l. get_or l n i) c.deref-instr-items.ensures.value) in
+    let first : IsFirst (told w c.loop-instr.whole i) (Some r) = subst (IsFirst (told w c.loop-instr.whole i)) c.in-Some.is c.in_ok-rule.ensures.0 in
+    let stays : c.step.new.self.place ≡ w.place = subst (IsStepped i w c.step.new.self) c.in-Some.is c.in_ok-rule.ensures.1 in
+    λ d short. subst (λ p. IsRan (run_of judged h any_clause (first_state h.self d) code) (Some (p, r))) (sym stays)
+    (refused h d code i (drop (n + 1) code) w c.loop-instr.whole r inv.0 short (subst (λ l. GoesOn h d code l w c.loop-instr.whole) at (inv.1 d short)) first)
+
+pub returns-in-Some-first : goal.returns-in-Some-first
+returns-in-Some-first c =
+    let h = home_in c.args.home in
+    let code = c.args.home.record.now.code.items in
+    let none : drop c.loop-instr.instr-index code ≡ [] = none_left code c.deref-instr-items.result.now c.loop-instr.instr-index c.deref-instr-items.ensures.value (omega (arith, c.loop-instr-test.false)) in
+    λ d short. ended h d code c.loop-instr.work c.loop-instr.whole (Some c.in-Some-first.rule) short (subst (λ l. GoesOn h d code l c.loop-instr.work c.loop-instr.whole) none (c.loop-instr.invariant.1 d short)) c.in-Some-first.ensures
+
+pub returns : goal.returns
+returns c =
+    let h = home_in c.args.home in
+    let code = c.args.home.record.now.code.items in
+    let none : drop c.loop-instr.instr-index code ≡ [] = none_left code c.deref-instr-items.result.now c.loop-instr.instr-index c.deref-instr-items.ensures.value (omega (arith, c.loop-instr-test.false)) in
+    λ d short. ended h d code c.loop-instr.work c.loop-instr.whole None short (subst (λ l. GoesOn h d code l c.loop-instr.work c.loop-instr.whole) none (c.loop-instr.invariant.1 d short)) c.in-None.ensures

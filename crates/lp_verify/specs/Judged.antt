@@ -1,0 +1,40 @@
+-- What a verdict says: the rules whose first fault is told, and where.
+use Rattle.std.specs.Prelude.{◌≡◌, ℕ, ◌+◌, ◌<◌, ◌^◌, List, [], ◌∷◌, Some, None, Bool, true, false, Result, Ok, Err}
+use Rattle.std.specs.List.{All as Each}
+use Rattle.lp_code.specs.declared.instruction.Instr.{Instr}
+use Rattle.lp_code.specs.declared.record.Record.{Record}
+use Rattle.lp_code.specs.declared.rule.Rule.{Rule}
+use Rattle.lp_code.specs.declared.rule.Rule.TheVariants as rule
+use Rattle.lp_code.specs.Length.{length_of}
+use Rattle.lp_code.specs.Symbolic.{Tables}
+use Rattle.lp_code.specs.Denote.{first_fault_of}
+use Rattle.lp_verify.specs.declared.refusal.VerifyRefusal.{VerifyRefusal}
+use Rattle.lp_verify.specs.declared.refusal.VerifyRefusal.TheVariants as refusal
+
+-- the rules on registers' numbers, on setting them, on constants, on the order of instructions and on the key
+abbrev pub judged : List Rule
+judged = rule.Register ∷ rule.Set ∷ rule.Constant ∷ rule.Term ∷ rule.Order ∷ rule.Key ∷ []
+
+abbrev pub is_judged : Rule → Bool
+is_judged rule.Register = true
+is_judged rule.Set = true
+is_judged rule.Constant = true
+is_judged rule.Term = true
+is_judged rule.Order = true
+is_judged rule.Key = true
+is_judged r = false
+
+-- the bytes of instructions
+abbrev pub bytes_of : List Instr → ℕ
+bytes_of [] = 0
+bytes_of (i ∷ is) = length_of i + bytes_of is
+
+-- the code of each record has less than 2^32 bytes
+abbrev pub AreShort : List Record → Type 0
+AreShort rs = Each (λ (r : Record). bytes_of r.code.items < 2 ^ 32) rs
+
+-- none of these rules is broken where code is accepted, and one that is told is the first one; want of memory says nothing
+abbrev pub IsTold : {A : Type 0} → Tables → List Record → Result A VerifyRefusal → Type 0
+IsTold t rs (Ok v) = first_fault_of judged t rs ≡ None
+IsTold t rs (Err (refusal.Invalid c at r)) = is_judged r ≡ true → first_fault_of judged t rs ≡ Some (record { record_number = c; at = at; rule = r })
+IsTold t rs (Err refusal.Memory) = Unit {0}

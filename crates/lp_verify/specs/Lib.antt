@@ -1,0 +1,6 @@
+pub mod Filling
+pub mod Listed
+pub mod Held
+pub mod Scheme
+pub mod Judged
+pub mod inner

@@ -1,0 +1,4 @@
+pub mod Outline
+pub mod Keys
+pub mod Told
+pub mod At

@@ -1,0 +1,96 @@
+-- A record at work, and the state that its instructions have come to.
+use Rattle.std.specs.Prelude.{◌≡◌, ℕ, ◌+◌, ◌≤◌, ◌<◌, ◌^◌, nat_eq, ◌||◌, ◌&&◌, List, length, Option, Some, None, true, false, nat_lt, not}
+use Rattle.lp_code.specs.declared.instruction.Instr.{Instr}
+use Rattle.lp_code.specs.declared.record.Record.{Record}
+use Rattle.lp_code.specs.declared.rule.Rule.{Rule}
+use Rattle.lp_code.specs.declared.rule.Rule.TheVariants as rule
+use Rattle.lp_code.specs.Length.{length_of}
+use Rattle.lp_code.specs.Operands.{type_set, term_set}
+use Rattle.lp_code.specs.Symbolic.{Tables}
+use Rattle.lp_code.specs.States.{State, Home, Captured, member}
+use Rattle.lp_code.specs.Denote.{Ran, Done, Broken, broken_by_record, run_of, any_clause, first_state, fault_from, first_fault_of, head_passes, is_known_head, has_neck, has_right_key}
+use Rattle.lp_verify.specs.declared.record.Work.{Work}
+use Rattle.lp_verify.specs.declared.record.Home as code_home
+use Rattle.lp_verify.specs.declared.whole.Whole.{Whole}
+use Rattle.lp_verify.specs.Held.{was_set}
+use Rattle.lp_verify.specs.Scheme.{tables_in}
+use Rattle.lp_verify.specs.Judged.{judged, is_judged, bytes_of}
+use Rattle.lp_verify.specs.inner.Outline.{body_behind, types_behind, arguments_behind}
+
+abbrev pub home_in : code_home.Home → Home
+home_in h = record { tables = tables_in h.tables.now; records = h.records.now; number = h.number; self = h.record.now }
+
+pub record IsAt (w : Work) (s : State) : Type 0 where
+  pub place_is : w.place ≡ s.place
+  pub body_is : w.in_body ≡ s.in_body
+  pub types_are : length w.head.types.items ≡ length s.head_types
+  pub arguments_are : w.head.arguments ≡ length s.head_arguments
+  pub types_set : (r : ℕ) → was_set w.types r ≡ member r s.types_set
+  pub terms_set : (r : ℕ) → was_set w.terms r ≡ member r s.terms_set
+  pub few_arguments : length s.head_arguments ≤ s.place
+
+-- an instruction was run
+pub record IsRun (i : Instr) (old new : Work) : Type 0 where
+  pub home_stays : new.home ≡ old.home
+  pub place_moves : old.place + length_of i < 2 ^ 64 → new.place ≡ old.place + length_of i
+  pub body_is : new.in_body ≡ body_behind i old.in_body
+  pub types_are : length new.head.types.items ≡ types_behind i (length old.head.types.items)
+  pub arguments_are : old.head.arguments + 1 < 2 ^ 64 → new.head.arguments ≡ arguments_behind i old.head.arguments
+  pub types_set : (r : ℕ) → was_set new.types r ≡ (was_set old.types r || member r (type_set i))
+  pub terms_set : (r : ℕ) → was_set new.terms r ≡ (was_set old.terms r || member r (term_set i))
+
+-- the same, before the instruction is passed
+pub record IsActed (i : Instr) (old new : Work) : Type 0 where
+  pub home_stays : new.home ≡ old.home
+  pub place_stays : new.place ≡ old.place
+  pub body_is : new.in_body ≡ body_behind i old.in_body
+  pub types_are : length new.head.types.items ≡ types_behind i (length old.head.types.items)
+  pub arguments_are : old.head.arguments + 1 < 2 ^ 64 → new.head.arguments ≡ arguments_behind i old.head.arguments
+  pub types_set : (r : ℕ) → was_set new.types r ≡ (was_set old.types r || member r (type_set i))
+  pub terms_set : (r : ℕ) → was_set new.terms r ≡ (was_set old.terms r || member r (term_set i))
+
+-- an instruction was run, or a rule is told at it
+abbrev pub IsStepped : Instr → (old new : Work) → Option Rule → Type 0
+IsStepped i old new None = IsRun i old new
+IsStepped i old new (Some r) = new.place ≡ old.place
+
+-- what the record breaks as a whole
+pub record IsJudgedWhole (h : Home) (x : Whole) : Type 0 where
+  pub register_is : x.register ≡ (nat_lt h.self.types h.self.captured_types || nat_lt h.self.registers h.self.captured)
+  pub constant_is : x.constant ≡ not (head_passes (is_known_head h) h.self.head)
+  pub order_is : x.order ≡ not (has_neck h.self.code.items)
+  pub key_is : x.key ≡ not (has_right_key h)
+
+-- what the record breaks as a whole, told before its first instruction alone
+pub record IsWhole (h : Home) (s : State) (x : Whole) : Type 0 where
+  pub register_is : x.register ≡ (nat_eq s.place 0 && broken_by_record h s rule.Register)
+  pub constant_is : x.constant ≡ (nat_eq s.place 0 && broken_by_record h s rule.Constant)
+  pub order_is : x.order ≡ (nat_eq s.place 0 && broken_by_record h s rule.Order)
+  pub key_is : x.key ≡ (nat_eq s.place 0 && broken_by_record h s rule.Key)
+
+-- the record before its first instruction
+pub record IsStarted (w : Work) : Type 0 where
+  pub place_is : w.place ≡ 0
+  pub body_is : w.in_body ≡ false
+  pub types_are : length w.head.types.items ≡ 0
+  pub arguments_are : w.head.arguments ≡ 0
+  pub types_set : (r : ℕ) → was_set w.types r ≡ nat_lt r w.home.record.now.captured_types
+  pub terms_set : (r : ℕ) → was_set w.terms r ≡ nat_lt r w.home.record.now.captured
+
+-- nothing is broken as a whole
+abbrev pub IsNoWhole : Whole → Type 0
+IsNoWhole x = (x.register ≡ false) × (x.constant ≡ false) × (x.order ≡ false) × (x.key ≡ false)
+
+-- what is told of a run
+abbrev pub IsRan : Ran → Option (ℕ × Rule) → Type 0
+IsRan ran None = (s : State) × (ran ≡ Done s)
+IsRan ran (Some (at, r)) = is_judged r ≡ true → (ran ≡ Broken at r) × (at < 2 ^ 32)
+
+-- a record in the midst of its instructions, of which these are left: whatever it starts with, the run goes on from here
+abbrev pub GoesOn : Home → Captured → (all left : List Instr) → Work → Whole → Type 0
+GoesOn h c all left w x =
+    (s : State) × (run_of judged h any_clause (first_state h.self c) all ≡ run_of judged h any_clause s left) × IsAt w s × (s.place + bytes_of left ≡ bytes_of all) × IsWhole h s x
+
+-- the records from a number on are left: the first fault is theirs, whatever was handed to them
+abbrev pub FaultsGoOn : Tables → (all : List Record) → (n : ℕ) → (left : List Record) → Type 0
+FaultsGoOn t all n left = (handed : List (ℕ × Captured)) × (first_fault_of judged t all ≡ fault_from judged t all handed n left)

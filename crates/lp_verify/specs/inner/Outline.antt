@@ -1,0 +1,53 @@
+-- What the rules on the order of instructions see of a state: the numbers in it, and what was set.
+use Rattle.std.specs.Prelude.{ℕ, suc, ◌+◌, Bool, true, List, ◌++◌, length}
+use Rattle.lp_code.specs.declared.instruction.Instr.{Instr}
+use Rattle.lp_code.specs.declared.instruction.Instr.TheVariants as on
+use Rattle.lp_code.specs.Length.{length_of}
+use Rattle.lp_code.specs.Operands.{type_set, term_set}
+use Rattle.lp_code.specs.States.{State}
+
+pub record Outline : Type 0 where
+  pub place : ℕ
+  pub types_set : List ℕ
+  pub terms_set : List ℕ
+  pub in_body : Bool
+  pub types : ℕ
+  pub arguments : ℕ
+
+abbrev pub outline : State → Outline
+outline s = record {
+  place = s.place;
+  types_set = s.types_set;
+  terms_set = s.terms_set;
+  in_body = s.in_body;
+  types = length s.head_types;
+  arguments = length s.head_arguments;
+}
+
+-- behind the head
+abbrev pub body_behind : Instr → Bool → Bool
+body_behind on.Neck b = true
+body_behind i b = b
+
+-- the type arguments of the head, and its arguments
+abbrev pub types_behind : Instr → ℕ → ℕ
+types_behind (on.GetType j t) n = suc n
+types_behind i n = n
+
+abbrev pub arguments_behind : Instr → ℕ → ℕ
+arguments_behind (on.GetVar i d) n = suc n
+arguments_behind (on.Get i r) n = suc n
+arguments_behind (on.GetConst i c ts) n = suc n
+arguments_behind (on.GetInt i z) n = suc n
+arguments_behind (on.GetStr i b) n = suc n
+arguments_behind i n = n
+
+abbrev pub outline_behind : Instr → Outline → Outline
+outline_behind i o = record {
+  place = o.place + length_of i;
+  types_set = o.types_set ++ type_set i;
+  terms_set = o.terms_set ++ term_set i;
+  in_body = body_behind i o.in_body;
+  types = types_behind i o.types;
+  arguments = arguments_behind i o.arguments;
+}

@@ -1,0 +1,117 @@
+-- The rules as they are judged at work, before each instruction.
+use Rattle.std.specs.Prelude.{◌≡◌, ℕ, nat_eq, nat_le, Bool, true, false, not, ◌||◌, ◌++◌, length, Option, Some, None, Result, Ok, Err}
+use Rattle.std.specs.List.{list_any}
+use Rattle.lp_code.specs.declared.instruction.Instr.{Instr}
+use Rattle.lp_code.specs.declared.instruction.Instr.TheVariants as on
+use Rattle.lp_code.specs.declared.rule.Rule.{Rule}
+use Rattle.lp_code.specs.declared.rule.Rule.TheVariants as rule
+use Rattle.lp_code.specs.Operands.{types_read, terms_read, type_set, term_set}
+use Rattle.lp_code.specs.Rules.{is_count, breaks_term}
+use Rattle.lp_code.specs.Symbolic.{Tables}
+use Rattle.lp_verify.specs.declared.record.Work.{Work}
+use Rattle.lp_verify.specs.declared.whole.Whole.{Whole}
+use Rattle.lp_verify.specs.Held.{was_set}
+use Rattle.lp_verify.specs.Scheme.{tables_in, type_vars_of}
+
+-- the numbers of registers, where a record has so many
+abbrev pub reaches_past : (types registers : ℕ) → Instr → Bool
+reaches_past m n i = list_any (nat_le m) (types_read i ++ type_set i) || list_any (nat_le n) (terms_read i ++ term_set i)
+
+-- what was set before
+abbrev pub sets_again : (types terms : ℕ → Bool) → Instr → Bool
+sets_again f g i = list_any f (type_set i) || list_any g (term_set i)
+
+-- the number of an instruction of the head, behind so many arguments
+abbrev pub is_off : Bool → (arguments number : ℕ) → Bool
+is_off b m i = b || not (nat_eq i m)
+
+abbrev pub is_out_of_order : Bool → (types arguments : ℕ) → Instr → Bool
+is_out_of_order b n m (on.TyNew d) = b
+is_out_of_order b n m (on.New d t) = b
+is_out_of_order b n m (on.GetType j t) = b || not (nat_eq j n) || not (nat_eq m 0)
+is_out_of_order b n m (on.GetVar i d) = is_off b m i
+is_out_of_order b n m (on.Get i r) = is_off b m i
+is_out_of_order b n m (on.GetConst i c ts) = is_off b m i
+is_out_of_order b n m (on.GetInt i z) = is_off b m i
+is_out_of_order b n m (on.GetStr i s) = is_off b m i
+is_out_of_order b n m on.Neck = b
+is_out_of_order b n m (on.Call c ts rs) = not b
+is_out_of_order b n m (on.CallTerm r) = not b
+is_out_of_order b n m (on.Equal t l r) = not b
+is_out_of_order b n m (on.Is t l r) = not b
+is_out_of_order b n m (on.Less l r) = not b
+is_out_of_order b n m (on.Greater l r) = not b
+is_out_of_order b n m (on.AtMost l r) = not b
+is_out_of_order b n m (on.AtLeast l r) = not b
+is_out_of_order b n m on.Cut = not b
+is_out_of_order b n m (on.Sigma d t) = not b
+is_out_of_order b n m (on.All d t) = not b
+is_out_of_order b n m (on.Assume ns ts rs) = not b
+is_out_of_order b n m (on.Either e) = not b
+is_out_of_order b n m on.Not = not b
+is_out_of_order b n m i = false
+
+abbrev pub has_wrong_count : Tables → Instr → Bool
+has_wrong_count t (on.TyCon d k ts) = not (is_count (t.kinds k) (length ts.items))
+has_wrong_count t (on.PutConst d c ts) = not (is_count (type_vars_of t c) (length ts.items))
+has_wrong_count t (on.GetConst i c ts) = not (is_count (type_vars_of t c) (length ts.items))
+has_wrong_count t (on.Call c ts rs) = not (is_count (type_vars_of t c) (length ts.items))
+has_wrong_count t i = false
+
+-- whether each of the judged rules is broken
+pub record Broken : Type 0 where
+  pub register : Bool
+  pub set : Bool
+  pub constant : Bool
+  pub term : Bool
+  pub order : Bool
+  pub key : Bool
+
+abbrev pub breaks : Broken → Rule → Bool
+breaks b rule.Register = b.register
+breaks b rule.Set = b.set
+breaks b rule.Constant = b.constant
+breaks b rule.Term = b.term
+breaks b rule.Order = b.order
+breaks b rule.Key = b.key
+breaks b r = false
+
+-- the judged rules before those on types are kept
+abbrev pub ArePassed : Broken → Type 0
+ArePassed b = (b.register ≡ false) × (b.set ≡ false) × (b.constant ≡ false)
+
+-- what is told where these are broken: a rule, before which none of them is broken, or none
+abbrev pub IsFirst : Broken → Option Rule → Type 0
+IsFirst b None = ArePassed b × (b.term ≡ false) × (b.order ≡ false) × (b.key ≡ false)
+IsFirst b (Some rule.Register) = b.register ≡ true
+IsFirst b (Some rule.Unset) = b.register ≡ false
+IsFirst b (Some rule.Set) = (b.register ≡ false) × (b.set ≡ true)
+IsFirst b (Some rule.Constant) = (b.register ≡ false) × (b.set ≡ false) × (b.constant ≡ true)
+IsFirst b (Some rule.Typing) = ArePassed b
+IsFirst b (Some rule.Index) = ArePassed b
+IsFirst b (Some rule.Term) = ArePassed b × (b.term ≡ true)
+IsFirst b (Some rule.Order) = ArePassed b × (b.term ≡ false) × (b.order ≡ true)
+IsFirst b (Some rule.Head) = ArePassed b × (b.term ≡ false) × (b.order ≡ false)
+IsFirst b (Some rule.Block) = ArePassed b × (b.term ≡ false) × (b.order ≡ false)
+IsFirst b (Some rule.Clause) = ArePassed b × (b.term ≡ false) × (b.order ≡ false)
+IsFirst b (Some rule.Key) = ArePassed b × (b.term ≡ false) × (b.order ≡ false) × (b.key ≡ true)
+
+-- the rule that is told in place of what an instruction builds
+abbrev pub rule_of : {A : Type 0} → Result A Rule → Option Rule
+rule_of (Ok x) = None
+rule_of (Err r) = Some r
+
+-- those that a record breaks as a whole
+abbrev pub broken_whole : Whole → Broken
+broken_whole w = record { register = w.register; set = false; constant = w.constant; term = false; order = w.order; key = w.key }
+
+-- those that are broken before an instruction
+abbrev pub told : Work → Whole → Instr → Broken
+told w x i = record {
+  register = x.register || reaches_past w.home.record.now.types w.home.record.now.registers i;
+  set = sets_again (was_set w.types) (was_set w.terms) i;
+  constant = x.constant || has_wrong_count (tables_in w.home.tables.now) i;
+  term = breaks_term i;
+  order = x.order || is_out_of_order w.in_body (length w.head.types.items) w.head.arguments i;
+  key = x.key;
+}

@@ -1,0 +1,236 @@
+// One record at work: its instructions are run once each, in order.
+ghost use Rattle.std.specs.Prelude.{◌≡◌, ◌<◌, ◌^◌, ℕ, IfOk, None, if◌then◌else◌};
+ghost use Rattle.lp_verify.specs.Held.{was_set};
+ghost use Rattle.std.specs.List.{All};
+ghost use Rattle.lp_code.specs.Length.{Fits};
+ghost use Rattle.lp_code.specs.States.{Captured as Start};
+ghost use Rattle.lp_code.specs.Denote.{run_of, any_clause, first_state, first_key, key_is, has_right_key};
+ghost use Rattle.lp_code.specs.Groups.{looked_key};
+ghost use Rattle.lp_verify.specs.inner.Keys.{IsKeyOf};
+ghost use Rattle.lp_verify.specs.Judged.{judged, bytes_of};
+ghost use Rattle.lp_verify.specs.inner.Told.{told, IsFirst};
+ghost use Rattle.lp_verify.specs.inner.At.{home_in, IsStarted, IsRan, IsStepped};
+
+use crate::arguments::Takings;
+use crate::blocks::{Blocks, Places};
+use crate::built::Built;
+use crate::effect::settle;
+use crate::head::HeadSoFar;
+use crate::keys::{first_key, is_key};
+use crate::loose::Lists;
+use crate::registers::Registers;
+use crate::tables::Tables;
+use crate::types::Types;
+use crate::whole::Whole;
+use lp_base::Memory;
+use lp_code::{Instr, KeyRef, Record, RecordHead, Rule, length};
+use lp_term::TypeId;
+use std::alloc::Global;
+use std::collections::BTreeMap;
+
+// What an ASSUME hands to its records.
+#[derive(Drop)]
+pub(crate) struct Captured<'a> {
+    pub(crate) types: Vec<TypeId>,
+    pub(crate) terms: Vec<Built<'a>>,
+}
+
+// What all records share: types and loose indices, what was handed on, and by number which of it a record starts with.
+#[derive(Drop)]
+pub(crate) struct Shared<'a> {
+    pub(crate) alloc: Global,
+    pub(crate) types: Types,
+    pub(crate) lists: Lists,
+    pub(crate) handed: Vec<Captured<'a>>,
+    pub(crate) named: BTreeMap<u32, usize>,
+}
+
+// A record, its number, and what its instructions may name.
+#[derive(Clone, Copy)]
+pub(crate) struct Home<'a> {
+    pub(crate) tables: &'a Tables<'a>,
+    pub(crate) records: &'a [Record],
+    pub(crate) number: u32,
+    pub(crate) record: &'a Record,
+}
+
+// A record at work.
+#[derive(Drop)]
+pub(crate) struct Work<'a> {
+    pub(crate) home: Home<'a>,
+    pub(crate) places: Places,
+    pub(crate) takings: Takings,
+    // The type variables that the record makes, by register: their numbers.
+    pub(crate) own_types: BTreeMap<u16, u64>,
+    // The next instruction: its offset and its number.
+    pub(crate) place: u64,
+    pub(crate) number: usize,
+    pub(crate) types: Registers<TypeId>,
+    pub(crate) terms: Registers<Built<'a>>,
+    // Behind the head.
+    pub(crate) in_body: bool,
+    pub(crate) head: HeadSoFar,
+    pub(crate) blocks: Blocks,
+}
+
+impl<'a> Shared<'a> {
+    pub(crate) fn new(alloc: Global) -> Result<Shared<'a>, Memory> {
+        Ok(Shared {
+            alloc,
+            types: Types::new(alloc)?,
+            lists: Lists::new(alloc),
+            handed: Vec::new(alloc),
+            named: BTreeMap::new(alloc),
+        })
+    }
+
+    // What the record of this number starts with.
+    pub(crate) fn captured(&self, number: u32) -> Option<&Captured<'a>> {
+        let place = self.named.get(&number)?;
+        self.handed.get(*place)
+    }
+}
+
+// The numbers of the type variables that the code makes, ascending by register.
+fn own_types_of(alloc: Global, code: &[Instr]) -> Result<BTreeMap<u16, u64>, Memory> {
+    let mut own = BTreeMap::new(alloc);
+    for instr in code {
+        if let Instr::TyNew(made) = instr {
+            own.insert(*made, 0)?;
+        }
+    }
+    let mut number: u64 = 0;
+    for place in own.values_mut() {
+        *place = number;
+        number = number.saturating_add(1);
+    }
+    Ok(own)
+}
+
+// Puts what was handed to the record of this number into its first registers.
+fn receive<'a>(
+    shared: &Shared<'a>,
+    number: u32,
+    types: &mut Registers<TypeId>,
+    terms: &mut Registers<Built<'a>>,
+) -> Result<(), Memory>
+    ensures types { (r : ℕ) → was_set types.new r ≡ was_set types.old r }
+    ensures terms { (r : ℕ) → was_set terms.new r ≡ was_set terms.old r }
+{
+    match shared.captured(number) {
+        Some(captured) => {
+            types.start_with(captured.types.as_slice())?;
+            terms.start_with(captured.terms.as_slice())
+        }
+        None => Ok(()),
+    }
+}
+
+impl<'a> Work<'a> {
+    // The key that the record is found by: that of an assumed clause is not kept.
+    fn found_key(&self, alloc: Global) -> Result<KeyRef<'a>, Memory>
+        ensures { IfOk result (λ key. IsKeyOf (looked_key key) (if self.now.home.record.now.program then first_key (λ r. None) self.now.home.record.now.code.items else None)) }
+    {
+        if self.home.record.program {
+            return first_key(alloc, &self.home.record.code);
+        }
+        Ok(KeyRef::None)
+    }
+
+    fn has_wanted_key(&self, alloc: Global) -> Result<bool, Memory>
+        ensures { IfOk result (λ is. is ≡ key_is self.now.home.record.now.key (if self.now.home.record.now.program then first_key (λ r. None) self.now.home.record.now.code.items else None)) }
+    {
+        let key = self.found_key(alloc)?;
+        Ok(is_key(&self.home.record.key, key))
+    }
+
+    // Whether the record has the key of its head; one without a head has none.
+    pub(crate) fn has_right_key(&self, alloc: Global) -> Result<bool, Memory>
+        ensures { IfOk result (λ is. is ≡ has_right_key (home_in self.now.home)) }
+    {
+        match self.home.record.head {
+            None => Ok(true),
+            Some(_) => self.has_wanted_key(alloc),
+        }
+    }
+
+    // The record before its first instruction.
+    fn start(shared: &mut Shared<'a>, home: Home<'a>) -> Result<Work<'a>, Memory>
+        requires { All Fits home.record.now.code.items }
+        ensures home { IfOk result (λ work. work.home ≡ home.entry) }
+        ensures started { IfOk result (λ work. IsStarted work) }
+    {
+        let alloc = shared.alloc;
+        let record = home.record;
+        let code = record.code.as_slice();
+        let mut types = Registers::new(alloc, record.captured_types);
+        let mut terms: Registers<Built<'a>> = Registers::new(alloc, record.captured);
+        receive(shared, home.number, &mut types, &mut terms)?;
+        let of = match record.head {
+            Some(RecordHead::Register(register)) => terms.get(register).map(|built| built.of),
+            _ => None,
+        };
+        let head = HeadSoFar::new(alloc, home.tables, &mut shared.types, record.head, of)?;
+        Ok(Work {
+            home,
+            places: Places::of(alloc, code)?,
+            takings: Takings::of(alloc, code)?,
+            own_types: own_types_of(alloc, code)?,
+            place: 0,
+            number: 0,
+            types,
+            terms,
+            in_body: false,
+            head,
+            blocks: Blocks::new(alloc),
+        })
+    }
+
+    // Judges the next instruction, and runs it where no rule is broken.
+    fn step(
+        &mut self,
+        shared: &mut Shared<'a>,
+        whole: Whole,
+        instr: &'a Instr,
+    ) -> Result<Option<Rule>, Memory>
+        requires { Fits instr.now }
+        ensures { IfOk result (λ found. IsFirst (told self.old whole instr.now) found × IsStepped instr.now self.old self.new found) }
+    {
+        let typed = match self.judge(shared, whole, instr)? {
+            Ok(typed) => typed,
+            Err(rule) => return Ok(Some(rule)),
+        };
+        self.act(shared, instr, typed)?;
+        self.place = self.place.saturating_add(u64::from(length(instr)));
+        self.number = self.number.saturating_add(1);
+        settle(
+            &mut self.blocks,
+            &mut self.types,
+            &mut self.terms,
+            self.place,
+        );
+        Ok(None)
+    }
+}
+
+// The first rule that the record breaks, with its offset.
+pub(crate) fn judge_record<'a>(
+    shared: &mut Shared<'a>,
+    home: Home<'a>,
+) -> Result<Option<(u64, Rule)>, Memory>
+    requires { All Fits home.record.now.code.items }
+    ensures { IfOk result (λ found. (c : Start) → bytes_of home.entry.record.now.code.items < 2 ^ 32 → IsRan (run_of judged (home_in home.entry) any_clause (first_state home.entry.record.now c) home.entry.record.now.code.items) found) }
+{
+    let mut work = Work::start(shared, home)?;
+    let mut whole = work.broken_as_a_whole(shared)?;
+    for instr in &home.record.code {
+        if let Some(rule) = work.step(shared, whole, instr)? {
+            return Ok(Some((work.place, rule)));
+        }
+        whole = Whole::none();
+    }
+    match whole.first() {
+        Some(rule) => Ok(Some((work.place, rule))),
+        None => Ok(None),
+    }
+}

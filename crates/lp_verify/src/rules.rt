@@ -1,0 +1,350 @@
+// The rules, each for the next instruction: whether it breaks it, or the record as a whole does where it is the first one.
+
+ghost use Rattle.std.specs.Prelude.{◌≡◌, ◌||◌, ◌++◌, IfOk, MatchOption, Some, None, length, nat_le};
+ghost use Rattle.std.specs.List.{list_any};
+ghost use Rattle.lp_code.specs.Operands.{types_read, terms_read, type_set, term_set};
+ghost use Rattle.lp_code.specs.Rules.{breaks_term, is_count, is_no_term};
+ghost use Rattle.lp_verify.specs.Listed.{listed};
+ghost use Rattle.lp_verify.specs.Held.{was_set};
+ghost use Rattle.lp_verify.specs.Scheme.{tables_in};
+ghost use Rattle.lp_verify.specs.inner.Told.{reaches_past, sets_again, has_wrong_count, is_off, is_out_of_order, told, ArePassed, IsFirst, rule_of};
+
+use crate::blocks::Block;
+use crate::built::Head;
+use crate::operands::{term_set, terms_read, type_set, types_read};
+use crate::record::{Shared, Work};
+use crate::typing::Typed;
+use crate::whole::Whole;
+use lp_base::Memory;
+use lp_code::{Instr, Record, Rule};
+use lp_standard::Constant;
+
+// Whether a constant stands for a connective that no term has.
+fn is_no_term(constant: u32) -> bool
+    ensures { result ≡ is_no_term constant }
+{
+    constant == Constant::Implies.number()
+        || constant == Constant::If.number()
+        || constant == Constant::Cut.number()
+        || constant == Constant::Not.number()
+}
+
+// Whether it names a constant that no term has.
+fn breaks_term(instr: &Instr) -> bool
+    ensures { result ≡ breaks_term instr.now }
+{
+    match instr {
+        Instr::PutConst(_, constant, _) => is_no_term(*constant),
+        Instr::GetConst(_, constant, _) => is_no_term(*constant),
+        Instr::Call(constant, _, _) => is_no_term(*constant),
+        _ => false,
+    }
+}
+
+// Whether the record is one that an ASSUME with so many types and terms may name.
+fn starts_with(of: &Record, types: usize, terms: usize) -> bool {
+    !of.program && usize::from(of.captured_types) == types && usize::from(of.captured) == terms
+}
+
+// Whether one of the registers is not among the first ones.
+fn are_past(registers: &[u16], count: u16) -> bool
+    ensures { result ≡ list_any (nat_le count) registers.now }
+{
+    for register in registers {
+        if *register >= count {
+            return true;
+        }
+    }
+    false
+}
+
+// Whether the register that an instruction sets is not among the first ones.
+fn is_past(made: Option<u16>, count: u16) -> bool
+    ensures { result ≡ list_any (nat_le count) (listed made) }
+{
+    match made {
+        Some(register) => register >= count,
+        None => false,
+    }
+}
+
+// Whether there are so many.
+fn is_count(count: Option<u8>, length: usize) -> bool
+    ensures { result ≡ is_count count length }
+{
+    match count {
+        Some(count) => usize::from(count) == length,
+        None => false,
+    }
+}
+
+impl<'a> Work<'a> {
+    fn reaches_past(&self, instr: &Instr, types: &[u16], terms: &[u16]) -> bool
+        ensures { types.now ≡ types_read instr.now → terms.now ≡ terms_read instr.now → result ≡ reaches_past self.now.home.record.now.types self.now.home.record.now.registers instr.now }
+    {
+        let record = self.home.record;
+        are_past(types, record.types)
+            || is_past(type_set(instr), record.types)
+            || are_past(terms, record.registers)
+            || is_past(term_set(instr), record.registers)
+    }
+
+    fn breaks_register(&self, whole: Whole, instr: &Instr, types: &[u16], terms: &[u16]) -> bool
+        ensures { types.now ≡ types_read instr.now → terms.now ≡ terms_read instr.now → result ≡ (told self.now whole instr.now).register }
+    {
+        whole.register || self.reaches_past(instr, types, terms)
+    }
+
+    fn breaks_unset(&self, types: &[u16], terms: &[u16]) -> bool {
+        self.types.lacks(types) || self.terms.lacks(terms)
+    }
+
+    fn breaks_set(&self, instr: &Instr) -> bool
+        ensures { result ≡ sets_again (was_set self.now.types) (was_set self.now.terms) instr.now }
+    {
+        self.types.was_made(type_set(instr)) || self.terms.was_made(term_set(instr))
+    }
+
+    fn has_wrong_count(&self, instr: &Instr) -> bool
+        ensures { result ≡ has_wrong_count (tables_in self.now.home.tables.now) instr.now }
+    {
+        let tables = self.home.tables;
+        match instr {
+            Instr::TyCon(_, kind, types) => !is_count(tables.arity(*kind), types.len()),
+            Instr::PutConst(_, constant, types) => {
+                !is_count(tables.type_vars(*constant), types.len())
+            }
+            Instr::GetConst(_, constant, types) => {
+                !is_count(tables.type_vars(*constant), types.len())
+            }
+            Instr::Call(constant, types, _) => !is_count(tables.type_vars(*constant), types.len()),
+            _ => false,
+        }
+    }
+
+    fn breaks_constant(&self, whole: Whole, instr: &Instr) -> bool
+        ensures { result ≡ (told self.now whole instr.now).constant }
+    {
+        whole.constant || self.has_wrong_count(instr)
+    }
+
+    fn breaks_index(&self, shared: &Shared<'a>, instr: &Instr, terms: &[u16]) -> bool {
+        match instr {
+            Instr::PutAbs(_, _, _) | Instr::PutApp(_, _, _) | Instr::Assume(_, _, _) => false,
+            _ => terms.iter().any(|register| {
+                !shared
+                    .lists
+                    .is_closed(self.term_in(&shared.types, *register).loose)
+            }),
+        }
+    }
+
+    fn is_out_of_turn(&self, number: u8) -> bool
+        ensures { result ≡ is_off self.now.in_body self.now.head.arguments number }
+    {
+        self.in_body || usize::from(number) != self.head.argument_count()
+    }
+
+    fn is_out_of_order(&self, instr: &Instr) -> bool
+        ensures { result ≡ is_out_of_order self.now.in_body (length self.now.head.types.items) self.now.head.arguments instr.now }
+    {
+        match instr {
+            Instr::TyNew(_) | Instr::New(_, _) | Instr::Neck => self.in_body,
+            Instr::GetType(number, _) => {
+                self.in_body
+                    || usize::from(*number) != self.head.type_count()
+                    || self.head.argument_count() != 0
+            }
+            Instr::GetVar(number, _)
+            | Instr::Get(number, _)
+            | Instr::GetConst(number, _, _)
+            | Instr::GetInt(number, _)
+            | Instr::GetStr(number, _) => self.is_out_of_turn(*number),
+            Instr::Call(_, _, _)
+            | Instr::CallTerm(_)
+            | Instr::Equal(_, _, _)
+            | Instr::Is(_, _, _)
+            | Instr::Less(_, _)
+            | Instr::Greater(_, _)
+            | Instr::AtMost(_, _)
+            | Instr::AtLeast(_, _)
+            | Instr::Cut
+            | Instr::Sigma(_, _)
+            | Instr::All(_, _)
+            | Instr::Assume(_, _, _)
+            | Instr::Either(_)
+            | Instr::Not => !self.in_body,
+            _ => false,
+        }
+    }
+
+    fn breaks_order(&self, whole: Whole, instr: &Instr) -> bool
+        ensures { result ≡ (told self.now whole instr.now).order }
+    {
+        whole.order || self.is_out_of_order(instr)
+    }
+
+    // Whether the register has a variable of the clause that stands in no earlier argument.
+    fn is_new_variable(&self, shared: &Shared<'a>, register: u16) -> bool {
+        match self.term_in(&shared.types, register).head {
+            Head::Own => !self.takings.is_taken_before(register, self.number),
+            _ => false,
+        }
+    }
+
+    fn breaks_head(&self, shared: &Shared<'a>, instr: &Instr) -> bool {
+        if !self.head.is_there() {
+            return false;
+        }
+        match instr {
+            Instr::Neck => !self.head.is_complete(&shared.types),
+            Instr::GetType(number, _) => !self.head.has_type(usize::from(*number)),
+            Instr::Get(_, register) => self.is_new_variable(shared, *register),
+            _ => false,
+        }
+    }
+
+    fn breaks_nesting(&self, instr: &Instr) -> bool {
+        let behind = self.place.saturating_add(5);
+        match instr {
+            Instr::Either(bytes) => {
+                let jump = self.place.saturating_add(u64::from(*bytes));
+                self.blocks.is_full() || !self.places.jumps(jump)
+            }
+            Instr::Jump(bytes) => {
+                self.blocks.innermost() != Some(Block::Left(behind))
+                    || !self.places.begins(behind.saturating_add(u64::from(*bytes)))
+            }
+            Instr::All(_, _) | Instr::Assume(_, _, _) | Instr::Not => self.blocks.is_full(),
+            Instr::EndAll => self.blocks.innermost() != Some(Block::All),
+            Instr::EndAssume => self.blocks.innermost() != Some(Block::Assumption),
+            Instr::EndNot => self.blocks.innermost() != Some(Block::Negation),
+            Instr::Proceed => {
+                let behind = self.number.saturating_add(1);
+                !self.blocks.is_empty() || behind != self.home.record.code.len()
+            }
+            _ => false,
+        }
+    }
+
+    fn breaks_block(&self, whole: Whole, instr: &Instr) -> bool {
+        whole.block || self.blocks.has_passed(self.place) || self.breaks_nesting(instr)
+    }
+
+    // Whether an ASSUME may name the records; those that it may are named from here on.
+    fn name(
+        &self,
+        shared: &mut Shared<'a>,
+        records: &[u32],
+        types: usize,
+        terms: usize,
+    ) -> Result<bool, Memory> {
+        let captured = shared.handed.len();
+        for number in records {
+            let Some(record) = self.home.records.get(*number as usize) else {
+                return Ok(false);
+            };
+            if *number <= self.home.number
+                || !starts_with(record, types, terms)
+                || shared.named.insert(*number, captured)?.is_some()
+            {
+                return Ok(false);
+            }
+        }
+        Ok(true)
+    }
+
+    fn breaks_clause(&self, shared: &mut Shared<'a>, instr: &Instr) -> Result<bool, Memory> {
+        match instr {
+            Instr::Assume(records, types, terms) => {
+                let fine = self.name(shared, records.as_slice(), types.len(), terms.len())?;
+                Ok(!fine)
+            }
+            Instr::TyNew(_) => Ok(!self.home.record.program),
+            _ => Ok(false),
+        }
+    }
+
+    // The rules behind those on types.
+    fn broken_behind(
+        &self,
+        shared: &mut Shared<'a>,
+        whole: Whole,
+        instr: &Instr,
+        terms: &[u16],
+    ) -> Result<Option<Rule>, Memory>
+        ensures { ArePassed (told self.now whole instr.now) → IfOk result (λ found. IsFirst (told self.now whole instr.now) found) }
+    {
+        if self.breaks_index(shared, instr, terms) {
+            return Ok(Some(Rule::Index));
+        }
+        if breaks_term(instr) {
+            return Ok(Some(Rule::Term));
+        }
+        if self.breaks_order(whole, instr) {
+            return Ok(Some(Rule::Order));
+        }
+        if whole.head || self.breaks_head(shared, instr) {
+            return Ok(Some(Rule::Head));
+        }
+        if self.breaks_block(whole, instr) {
+            return Ok(Some(Rule::Block));
+        }
+        if whole.clause || self.breaks_clause(shared, instr)? {
+            return Ok(Some(Rule::Clause));
+        }
+        if whole.key {
+            return Ok(Some(Rule::Key));
+        }
+        Ok(None)
+    }
+
+    // The rules before those on types.
+    fn broken_before(
+        &self,
+        whole: Whole,
+        instr: &Instr,
+        types: &[u16],
+        terms: &[u16],
+    ) -> Option<Rule>
+        ensures { types.now ≡ types_read instr.now → terms.now ≡ terms_read instr.now → MatchOption result (ArePassed (told self.now whole instr.now)) (λ rule. IsFirst (told self.now whole instr.now) (Some rule)) }
+    {
+        if self.breaks_register(whole, instr, types, terms) {
+            return Some(Rule::Register);
+        }
+        if self.breaks_unset(types, terms) {
+            return Some(Rule::Unset);
+        }
+        if self.breaks_set(instr) {
+            return Some(Rule::Set);
+        }
+        if self.breaks_constant(whole, instr) {
+            return Some(Rule::Constant);
+        }
+        None
+    }
+
+    // What the next instruction builds, or the first rule that is broken.
+    pub(crate) fn judge(
+        &self,
+        shared: &mut Shared<'a>,
+        whole: Whole,
+        instr: &'a Instr,
+    ) -> Result<Result<Typed<'a>, Rule>, Memory>
+        ensures { IfOk result (λ found. IsFirst (told self.now whole instr.now) (rule_of found)) }
+    {
+        let types = types_read(shared.alloc, instr)?;
+        let terms = terms_read(shared.alloc, instr)?;
+        if let Some(rule) = self.broken_before(whole, instr, types.as_slice(), terms.as_slice()) {
+            return Ok(Err(rule));
+        }
+        let typed = self.typed(shared, instr)?;
+        if matches!(typed, Typed::Ill) {
+            return Ok(Err(Rule::Typing));
+        }
+        match self.broken_behind(shared, whole, instr, terms.as_slice())? {
+            Some(rule) => Ok(Err(rule)),
+            None => Ok(Ok(typed)),
+        }
+    }
+}

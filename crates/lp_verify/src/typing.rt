@@ -1,0 +1,237 @@
+// What an instruction builds, where it is well typed.
+
+use crate::built::{Built, Head};
+use crate::record::{Shared, Work};
+use crate::types::Types;
+use lp_base::Memory;
+use lp_code::{Instr, KeyRef};
+use lp_term::TypeId;
+
+// What comes of an instruction's types.
+#[derive(Clone, Copy)]
+pub(crate) enum Typed<'a> {
+    Ill,
+    Fine,
+    // The term for the register that the instruction sets.
+    Built(Built<'a>),
+}
+
+impl<'a> Typed<'a> {
+    fn fine_where(holds: bool) -> Typed<'a> {
+        if holds { Typed::Fine } else { Typed::Ill }
+    }
+
+    // The term, or another one where there is none.
+    pub(crate) fn built(self, other: Built<'a>) -> Built<'a> {
+        match self {
+            Typed::Built(built) => built,
+            _ => other,
+        }
+    }
+}
+
+// What a function of this type gives on terms.
+fn applied_type(types: &Types, function: TypeId, arguments: &[Built<'_>]) -> Option<TypeId> {
+    let mut rest = function;
+    for argument in arguments {
+        let (from, to) = types.as_arrow(rest)?;
+        if from != argument.of {
+            return None;
+        }
+        rest = to;
+    }
+    Some(rest)
+}
+
+impl<'a> Work<'a> {
+    pub(crate) fn type_in(&self, types: &Types, register: u16) -> TypeId {
+        self.types.get(register).unwrap_or(types.proposition)
+    }
+
+    // The type that a GET_TYPE takes, or `o`.
+    pub(crate) fn taken_type(&self, types: &Types, instr: &Instr) -> TypeId {
+        match instr {
+            Instr::GetType(_, of) => self.type_in(types, *of),
+            _ => types.proposition,
+        }
+    }
+
+    pub(crate) fn term_in(&self, types: &Types, register: u16) -> Built<'a> {
+        match self.terms.get(register) {
+            Some(built) => built,
+            None => Built::closed(types.proposition, Head::Other),
+        }
+    }
+
+    // The type of a constant with the types of these registers; `o` where there is none.
+    fn constant_type(
+        &self,
+        shared: &mut Shared<'a>,
+        constant: u32,
+        registers: &[u16],
+    ) -> Result<TypeId, Memory> {
+        let types = self.types.all(shared.alloc, registers)?;
+        match self.home.tables.scheme(constant) {
+            Some((bank, scheme)) if usize::from(scheme.type_vars) == types.len() => {
+                shared
+                    .types
+                    .of_constant(constant, bank, scheme, types.as_slice())
+            }
+            _ => Ok(shared.types.proposition),
+        }
+    }
+
+    // An abstraction over index 0 of the body, which is of this type.
+    fn abstraction(
+        &self,
+        shared: &mut Shared<'a>,
+        body: u16,
+        of: u16,
+    ) -> Result<Typed<'a>, Memory> {
+        let body = self.term_in(&shared.types, body);
+        let from = self.type_in(&shared.types, of);
+        match shared.lists.innermost(body.loose) {
+            Some(found) if found != from => Ok(Typed::Ill),
+            _ => Ok(Typed::Built(Built {
+                of: shared.types.arrow(from, body.of)?,
+                loose: shared.lists.outer(body.loose),
+                head: Head::Other,
+            })),
+        }
+    }
+
+    fn application(
+        &self,
+        shared: &mut Shared<'a>,
+        function: u16,
+        arguments: &[u16],
+    ) -> Result<Typed<'a>, Memory> {
+        let function = self.term_in(&shared.types, function);
+        let arguments = self.terms.all(shared.alloc, arguments)?;
+        let Some(of) = applied_type(&shared.types, function.of, arguments.as_slice()) else {
+            return Ok(Typed::Ill);
+        };
+        let mut loose = function.loose;
+        for argument in &arguments {
+            match shared.lists.joined(loose, argument.loose)? {
+                Some(joined) => loose = joined,
+                None => return Ok(Typed::Ill),
+            }
+        }
+        if arguments.is_empty() {
+            return Ok(Typed::Ill);
+        }
+        Ok(Typed::Built(Built {
+            of,
+            loose,
+            head: function.applied_head(),
+        }))
+    }
+
+    // A variable of the type in a register.
+    fn variable(&self, types: &Types, of: u16, head: Head<'a>) -> Typed<'a> {
+        Typed::Built(Built::closed(self.type_in(types, of), head))
+    }
+
+    // What the instruction puts into a register.
+    fn put(&self, shared: &mut Shared<'a>, instr: &'a Instr) -> Result<Typed<'a>, Memory> {
+        match instr {
+            Instr::New(_, of) => Ok(self.variable(&shared.types, *of, Head::Own)),
+            Instr::Sigma(_, of) => Ok(self.variable(&shared.types, *of, Head::Other)),
+            Instr::All(_, of) => Ok(self.variable(&shared.types, *of, Head::Bound)),
+            Instr::PutConst(_, constant, types) => {
+                let of = self.constant_type(shared, *constant, types.as_slice())?;
+                let head = Head::Key(KeyRef::Const(*constant));
+                Ok(Typed::Built(Built::closed(of, head)))
+            }
+            Instr::PutInt(_, integer) => {
+                let head = Head::Key(KeyRef::Int(*integer));
+                Ok(Typed::Built(Built::closed(shared.types.integer, head)))
+            }
+            Instr::PutStr(_, text) => {
+                let head = Head::Key(KeyRef::Text(text.as_slice()));
+                Ok(Typed::Built(Built::closed(shared.types.text, head)))
+            }
+            Instr::PutIndex(_, index, of) => {
+                let of = self.type_in(&shared.types, *of);
+                let loose = shared.lists.one(*index, of)?;
+                Ok(Typed::Built(Built {
+                    of,
+                    loose,
+                    head: Head::Other,
+                }))
+            }
+            Instr::PutAbs(_, body, of) => self.abstraction(shared, *body, *of),
+            Instr::PutApp(_, function, arguments) => {
+                self.application(shared, *function, arguments.as_slice())
+            }
+            _ => Ok(Typed::Fine),
+        }
+    }
+
+    // Whether the head's argument of this number has the type.
+    fn is_argument(&self, types: &Types, number: u8, of: TypeId) -> Typed<'a> {
+        Typed::fine_where(self.head.argument_type(types, number) == Some(of))
+    }
+
+    // Whether both registers have the type.
+    fn have_type(&self, types: &Types, left: u16, right: u16, of: TypeId) -> Typed<'a> {
+        Typed::fine_where(self.term_in(types, left).of == of && self.term_in(types, right).of == of)
+    }
+
+    // What comes of the types of an argument of the head.
+    fn got(&self, shared: &mut Shared<'a>, instr: &'a Instr) -> Result<Typed<'a>, Memory> {
+        match instr {
+            Instr::GetVar(number, _) => match self.head.argument_type(&shared.types, *number) {
+                Some(of) => Ok(Typed::Built(Built::closed(of, Head::Own))),
+                None => Ok(Typed::Ill),
+            },
+            Instr::Get(number, register) => {
+                let of = self.term_in(&shared.types, *register).of;
+                Ok(self.is_argument(&shared.types, *number, of))
+            }
+            Instr::GetConst(number, constant, types) => {
+                let of = self.constant_type(shared, *constant, types.as_slice())?;
+                Ok(self.is_argument(&shared.types, *number, of))
+            }
+            Instr::GetInt(number, _) => {
+                Ok(self.is_argument(&shared.types, *number, shared.types.integer))
+            }
+            Instr::GetStr(number, _) => {
+                Ok(self.is_argument(&shared.types, *number, shared.types.text))
+            }
+            _ => self.put(shared, instr),
+        }
+    }
+
+    // What comes of the types of an instruction.
+    pub(crate) fn typed(
+        &self,
+        shared: &mut Shared<'a>,
+        instr: &'a Instr,
+    ) -> Result<Typed<'a>, Memory> {
+        match instr {
+            Instr::Call(constant, types, terms) => {
+                let of = self.constant_type(shared, *constant, types.as_slice())?;
+                let terms = self.terms.all(shared.alloc, terms.as_slice())?;
+                let goal = applied_type(&shared.types, of, terms.as_slice());
+                Ok(Typed::fine_where(goal == Some(shared.types.proposition)))
+            }
+            Instr::CallTerm(goal) => {
+                let of = shared.types.proposition;
+                Ok(self.have_type(&shared.types, *goal, *goal, of))
+            }
+            Instr::Equal(of, left, right) | Instr::Is(of, left, right) => {
+                let of = self.type_in(&shared.types, *of);
+                Ok(self.have_type(&shared.types, *left, *right, of))
+            }
+            Instr::Less(left, right)
+            | Instr::Greater(left, right)
+            | Instr::AtMost(left, right)
+            | Instr::AtLeast(left, right) => {
+                Ok(self.have_type(&shared.types, *left, *right, shared.types.integer))
+            }
+            _ => self.got(shared, instr),
+        }
+    }
+}
