@@ -16,7 +16,7 @@ use Rattle.lp_lines.proofs.Appending.{whole_prefix}
 use Rattle.lp_load.specs.Placed.{WritesPlaced}
 use Rattle.lp_solve.specs.Ends.{Ends, Writes, WritesPrefix, IsQueryFault, of_module, of_any, WritesQueryFault, BeginsQueryFault}
 use Rattle.lp_solve.specs.Order.{Order, Beyond, order_of}
-use Rattle.lp_words.specs.Asked.{Asked, check, files, is_plain, lambda, prove, query_on_texts, solve, trial, watches, writes_file}
+use Rattle.lp_words.specs.Asked.{Asked, check, files, is_plain, lambda, prove, query_image, query_on_texts, session, solve, trial, watches, writes_file}
 use Rattle.lp_words.specs.declared.asked.FileCommand.{FileCommand}
 use Rattle.lp_words.specs.declared.asked.Options.{Options}
 
@@ -82,6 +82,14 @@ module _ {F K : Type 0} {rf ms ov wf : F → ℕ} {held : F → Option Held} {fa
   -- a generated query, queries on an image
   pub does_trial : (size : ℕ) (result : Status) → Ran rf ms ov written a b o p result → KeepsFiles wf held faults a b o p result → Does rf ms ov wf held faults written (trial size) a b o p result
   does_trial size result r k = does_beyond (trial size) result (λ h. refl) r (λ e query is. absurd (cc)) (λ no. k) (λ command name is. absurd (cc)) (λ name query options is. absurd (cc))
+
+  pub does_query : (name query : List ℕ) (options : Options) (result : Status) → Ran rf ms ov written a b o p result → KeepsFiles wf held faults a b o p result → Does rf ms ov wf held faults written (query_image name query options) a b o p result
+  does_query name query options result r k =
+      does_beyond (query_image name query options) result (λ h. refl) r (λ e query' is. absurd (cc)) (λ no. k) (λ command name' is. absurd (cc)) (λ name' query' options' is. absurd (cc))
+
+  pub does_session : (name : List ℕ) (options : Options) (result : Status) → Ran rf ms ov written a b o p result → KeepsFiles wf held faults a b o p result → Does rf ms ov wf held faults written (session name options) a b o p result
+  does_session name options result r k =
+      does_beyond (session name options) result (λ h. refl) r (λ e query is. absurd (cc)) (λ no. k) (λ command name' is. absurd (cc)) (λ name' query options' is. absurd (cc))
 
   -- judgements
   pub does_lambda : (name query : List ℕ) (result : Status) → Ran rf ms ov written a b o p result → KeepsFiles wf held faults a b o p result

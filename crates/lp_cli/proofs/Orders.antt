@@ -18,7 +18,7 @@ use Rattle.lp_load.specs.Placed.{WritesPlaced}
 use Rattle.lp_solve.specs.Ends.{Ends, with_line, without_memory, Writes, WritesPrefix}
 use Rattle.lp_solve.specs.Order.{Beyond, Refuse, order_of}
 use Rattle.lp_solve.proofs.Orders.{for_each, for_told, query_wanting}
-use Rattle.lp_words.specs.Asked.{Asked, asked, check, files, is_plain, lambda, prove, query_on_texts, solve, trial, watches, writes_file, IsCommand, IsWatched, WritesNone}
+use Rattle.lp_words.specs.Asked.{Asked, asked, check, files, is_plain, lambda, prove, query_image, query_on_texts, session, solve, trial, watches, writes_file, IsCommand, IsWatched, WritesNone}
 use Rattle.lp_words.specs.Commands.{usage_line}
 use Rattle.lp_words.specs.declared.asked.FileCommand.{FileCommand}
 use Rattle.lp_words.specs.declared.asked.Options.{Options}
@@ -34,11 +34,13 @@ order_some words a h held = ap (λ o. order_asked o held) h
 -- want of memory ends words that ask for something, and others
 wanted_at : (held : Held) (o : Option Asked) → Ends (order_asked o held) variant.Memory memory_line
 wanted_at held None = without_memory refl refl
+wanted_at held (Some (query_image name query options)) = tt
 wanted_at held (Some (trial size)) = tt
 wanted_at held (Some (files command name)) = tt
 wanted_at held (Some (lambda name query)) = tt
 wanted_at held (Some (prove name query options)) = tt
 wanted_at held (Some (check name query)) = tt
+wanted_at held (Some (session name options)) = tt
 wanted_at held (Some (solve name query options)) = choose (is_plain options)
   where
     choose : (b : Bool) → Ends (if b then order_of name query held else Beyond) variant.Memory memory_line

@@ -16,6 +16,7 @@ ghost use Rattle.lp_cli.specs.Order.{order};
 ghost use Rattle.lp_cli.specs.Ends.{WritesReadFault, BeginsReadFault};
 ghost use Rattle.lp_cli.specs.Does.{Does};
 
+use lp_ask::{query, session};
 use lp_base::{Folder, Sink, Status};
 use lp_files::write_file;
 use lp_judge::{Claim, check_certificates, lambda, prove};
@@ -63,6 +64,25 @@ fn perform<F: Folder, K: Sink, W: Watch>(
 {
     match asked {
         Asked::Trial(size) => trial(alloc, size, folder, out),
+        Asked::Query(name, text, options) => query(
+            alloc,
+            name,
+            text,
+            options.step_limit(),
+            options.answer_limit(),
+            options.watch,
+            folder,
+            out,
+            watchers,
+        ),
+        Asked::Session(name, options) => session(
+            alloc,
+            name,
+            options.step_limit(),
+            options.answer_limit(),
+            folder,
+            out,
+        ),
         Asked::Lambda(name, text) => lambda(alloc, name, text, folder, out),
         Asked::Check(name, text) => check_certificates(alloc, name, text, folder, out),
         Asked::Prove(name, text, options) => prove(alloc, claim(name, text, options), folder, out),

@@ -18,6 +18,12 @@ mod limits;
 mod module_texts;
 // Objects and images as files.
 mod files;
+// Queries on images, one by one and in sessions.
+mod images;
+// Programs and queries that are pattern text.
+mod patterns;
+// Certificates of answers.
+mod certificates;
 // Faults of the outside.
 mod outside;
 // The first path beside that of the whole language.
@@ -31,7 +37,7 @@ mod words;
 
 use crate::run::run;
 use lp_base::{MemFolder, MemSink, Memory, Status};
-use lp_watch::Watch;
+use lp_watch::{Counter, Watch};
 use modules::FILES;
 use std::alloc::Global;
 use std::process::Abort;
@@ -96,4 +102,19 @@ fn check(
     written: &str,
 ) -> Result<(), Memory> {
     with_files(rt, alloc, &FILES, given, status, written)
+}
+
+// The commands in turn on one folder, where a counter watches, each with what it says.
+fn run_all(
+    rt: &impl Abort,
+    alloc: Global,
+    held: &mut MemFolder,
+    steps: &[(&[&str], Status, &str)],
+) -> Result<(), Memory> {
+    let mut watchers: Vec<Box<dyn Watch>> = Vec::new(alloc);
+    watchers.push(Box::new(alloc, Counter::new())?)?;
+    for (words, status, written) in steps {
+        run_on(rt, alloc, held, words, &mut watchers, *status, written)?;
+    }
+    Ok(())
 }

@@ -13,22 +13,26 @@ use Rattle.lp_words.specs.declared.asked.Options.{Options}
 use Rattle.lp_words.specs.declared.asked.QueryCommand.{QueryCommand}
 use Rattle.lp_words.specs.declared.asked.QueryCommand.TheVariants as on
 
--- a query on the texts of a module, by the module's name, within what the options say; the generated query of a size; a file of a module; whether its
--- texts and a query are of the pattern fragment; or the certificates of a query's answers, and their test
+-- a query on the texts or on the image of a module, by the module's name, within what the options say; the generated query of a size; a file of a
+-- module; whether its texts and a query are of the pattern fragment; the certificates of a query's answers, and their test; or many queries on an image
 pub data Asked : Type 0 where
   solve : (name query : Text) → Options → Asked
+  query_image : (name query : Text) → Options → Asked
   trial : (size : ℕ) → Asked
   files : FileCommand → (name : Text) → Asked
   lambda : (name query : Text) → Asked
   prove : (name query : Text) → Options → Asked
   check : (name query : Text) → Asked
+  session : (name : Text) → Options → Asked
 
 abbrev pub asked_of : code.Asked → Asked
 asked_of (variant.Solve name query options) = solve name.now query.now options
+asked_of (variant.Query name query options) = query_image name.now query.now options
 asked_of (variant.Trial size) = trial size
 asked_of (variant.Lambda name query) = lambda name.now query.now
 asked_of (variant.Prove name query options) = prove name.now query.now options
 asked_of (variant.Check name query) = check name.now query.now
+asked_of (variant.Session name options) = session name.now options
 asked_of (variant.Files command name) = files command name.now
 
 -- no option is given
@@ -57,11 +61,13 @@ options_in rows = option_and_then (λ steps. option_map (λ answers. record { st
 -- the commands on a module and a query
 abbrev pub query_command_of : (word : Text) → Option QueryCommand
 query_command_of word = if bytes_eq word (codes "solve") then Some on.Solve
+    else (if bytes_eq word (codes "query") then Some on.Query
     else (if bytes_eq word (codes "lambda") then Some on.Lambda
-    else (if bytes_eq word (codes "prove") then Some on.Prove else (if bytes_eq word (codes "check") then Some on.Check else None)))
+    else (if bytes_eq word (codes "prove") then Some on.Prove else (if bytes_eq word (codes "check") then Some on.Check else None))))
 
 abbrev pub queried : QueryCommand → (name query : Text) → Options → Asked
 queried on.Solve name query options = solve name query options
+queried on.Query name query options = query_image name query options
 queried on.Lambda name query options = lambda name query
 queried on.Prove name query options = prove name query options
 queried on.Check name query options = check name query
@@ -72,6 +78,12 @@ query_told command name query rows = if is_module_name name then option_map (λ 
 
 unfoldable pub query_in : QueryCommand → List Row → Option Asked
 query_in command rows = option_and_then (λ name. option_and_then (λ query. query_told command name query rows) (first_of (codes "query") rows)) (first_of (codes "module") rows)
+
+abbrev pub session_told : (name : Text) → List Row → Option Asked
+session_told name rows = if is_module_name name then option_map (λ o. session name o) (options_in rows) else None
+
+unfoldable pub session_in : List Row → Option Asked
+session_in rows = option_and_then (λ name. session_told name rows) (first_of (codes "module") rows)
 
 unfoldable pub trial_in : List Row → Option Asked
 trial_in rows = option_and_then (λ size. option_map (λ n. trial n) (number_between 1 400 size)) (first_of (codes "size") rows)
@@ -89,7 +101,7 @@ files_in word rows = option_and_then (λ command. option_and_then (λ name. name
 
 -- a command with one word: a size, or a module's name
 abbrev pub word_at : Text × List Row → Option Asked
-word_at p = if bytes_eq p.0 (codes "trial") then trial_in p.1 else files_in p.0 p.1
+word_at p = if bytes_eq p.0 (codes "trial") then trial_in p.1 else (if bytes_eq p.0 (codes "session") then session_in p.1 else files_in p.0 p.1)
 
 abbrev pub asked_with : Option QueryCommand → Text × List Row → Option Asked
 asked_with None p = word_at p
@@ -120,6 +132,7 @@ query_on_texts _ = None
 -- the watchers are to watch
 abbrev pub watches : Asked → Bool
 watches (solve name query options) = options.watch
+watches (query_image name query options) = options.watch
 watches _ = false
 
 -- a file is to be written

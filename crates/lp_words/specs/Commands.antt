@@ -36,12 +36,16 @@ proving name = bounded (judging name)
 abbrev pub asking : Text → App
 asking name = with_rule (proving name) watch
 
+-- a module, with what bounds each run
+abbrev pub serving : Text → App
+serving name = bounded (taking name (codes "module"))
+
 abbrev pub strict : App → App
 strict = on_top (λ s. record s { no_binary_name = true; disable_help_flag = true; disable_help_subcommand = true; subcommand_required = true })
 
--- answers on sources
+-- answers on sources and on images
 abbrev pub with_searches : App → App
-with_searches app = with_subcommand (with_subcommand app (asking (codes "solve")).top) (taking (codes "trial") (codes "size")).top
+with_searches app = with_subcommand (with_subcommand (with_subcommand app (asking (codes "solve")).top) (asking (codes "query")).top) (taking (codes "trial") (codes "size")).top
 
 -- files of a module
 abbrev pub with_files : App → App
@@ -53,7 +57,7 @@ abbrev pub with_judgements : App → App
 with_judgements app = with_subcommand (with_subcommand (with_subcommand app (judging (codes "lambda")).top) (proving (codes "prove")).top) (judging (codes "check")).top
 
 abbrev pub lprolog : App
-lprolog = with_judgements (with_files (with_searches (strict (new_app (codes "lprolog")))))
+lprolog = with_subcommand (with_judgements (with_files (with_searches (strict (new_app (codes "lprolog")))))) (serving (codes "session")).top
 
 -- a command that a parse reads as this one
 abbrev pub Reads : App → Command → Type 0
@@ -61,4 +65,4 @@ Reads app c = (app_of c ≡ app) × ((out-Command c).has_globals ≡ false)
 
 -- the line that names the commands
 unfoldable pub usage_line : List ℕ
-usage_line = codes "usage: solve M Q | compile M | link M | trial N | migrate M | lambda M Q | prove M Q | check M Q\n"
+usage_line = codes "usage: solve M Q | compile M | link M | query M Q | trial N | migrate M | lambda M Q | prove M Q | check M Q | session M\n"

@@ -3,7 +3,7 @@ ghost use Rattle.std.specs.Prelude.{◌≡◌, ◌≢◌, Bool, Some, None, IfOk
 ghost use Rattle.std.specs.Option.{option_and_then};
 ghost use Rattle.clap.specs.Words.{subcommand_rows_of, kind_of, first_of, rows_of, found_of};
 ghost use Rattle.lp_words.specs.Words.{has_lone_dash};
-ghost use Rattle.lp_words.specs.Asked.{asked, asked_at, asked_of, is_plain, is_watched, limit_in, named_module, command_of, files_in, options_in, queried, query_command_of, query_in, query_told, trial_in, word_at};
+ghost use Rattle.lp_words.specs.Asked.{asked, asked_at, asked_of, is_plain, is_watched, limit_in, named_module, command_of, files_in, options_in, queried, query_command_of, query_in, query_told, session_in, session_told, trial_in, word_at};
 
 use crate::numbers::{is_module_name, number_between};
 use crate::words::parse;
@@ -37,6 +37,8 @@ pub enum FileCommand {
 pub enum QueryCommand {
     /// It is answered, on the module's texts.
     Solve,
+    /// It is answered, on the module's image.
+    Query,
     /// Whether it and the texts are of the pattern fragment.
     Lambda,
     /// Certificates of its answers are made.
@@ -50,12 +52,16 @@ pub enum QueryCommand {
 pub enum Asked<'a> {
     /// The answers of a query on the texts of a module.
     Solve(&'a str, &'a str, Options),
+    /// The answers of a query on the image of a module.
+    Query(&'a str, &'a str, Options),
     /// Whether the texts of a module and a query are of the pattern fragment.
     Lambda(&'a str, &'a str),
     /// The certificates of the answers of a query on the texts of a module.
     Prove(&'a str, &'a str, Options),
     /// The test of these certificates.
     Check(&'a str, &'a str),
+    /// Many queries on the image of a module.
+    Session(&'a str, Options),
     /// A file of the module of this name.
     Files(FileCommand, &'a str),
     /// The generated query of this size, from 1 to 400.
@@ -148,6 +154,8 @@ fn query_command_of(word: &str) -> Option<QueryCommand>
 {
     if word == "solve" {
         Some(QueryCommand::Solve)
+    } else if word == "query" {
+        Some(QueryCommand::Query)
     } else if word == "lambda" {
         Some(QueryCommand::Lambda)
     } else if word == "prove" {
@@ -164,6 +172,7 @@ fn queried<'a>(command: QueryCommand, name: &'a str, query: &'a str, options: Op
 {
     match command {
         QueryCommand::Solve => Asked::Solve(name, query, options),
+        QueryCommand::Query => Asked::Query(name, query, options),
         QueryCommand::Lambda => Asked::Lambda(name, query),
         QueryCommand::Prove => Asked::Prove(name, query, options),
         QueryCommand::Check => Asked::Check(name, query),
@@ -199,6 +208,30 @@ fn query_in<'a>(command: QueryCommand, matches: &ArgMatches<'a>) -> Option<Asked
             None => None,
             Some(query) => query_told(command, name, query, matches),
         },
+    }
+}
+
+// Many queries on a module.
+fn session_told<'a>(name: &'a str, matches: &ArgMatches<'a>) -> Option<Asked<'a>>
+    ensures { option_map asked_of result ≡ session_told name.now (rows_of (found_of matches.now)) }
+{
+    if is_module_name(name.as_bytes()) {
+        match options_in(matches) {
+            None => None,
+            Some(options) => Some(Asked::Session(name, options)),
+        }
+    } else {
+        None
+    }
+}
+
+#[tactic(auto, unfolding(crate::specs::Asked::session_in))]
+fn session_in<'a>(matches: &ArgMatches<'a>) -> Option<Asked<'a>>
+    ensures { option_map asked_of result ≡ session_in (rows_of (found_of matches.now)) }
+{
+    match text(matches, "module") {
+        None => None,
+        Some(name) => session_told(name, matches),
     }
 }
 
@@ -259,6 +292,8 @@ fn word_in<'a>(word: &str, matches: &ArgMatches<'a>) -> Option<Asked<'a>>
 {
     if word == "trial" {
         trial_in(matches)
+    } else if word == "session" {
+        session_in(matches)
     } else {
         files_in(word, matches)
     }

@@ -4,7 +4,7 @@ ghost use Rattle.clap.specs.Words.{app_of, rule_of, with_rule, with_subcommand, 
 ghost use Rattle.clap.specs.Kinds.{FailsBy};
 ghost use Rattle.clap.specs.declared.builder.command.Command.TheViews.{out-Command};
 ghost use Rattle.clap.specs.Faults.{fault_of};
-ghost use Rattle.lp_words.specs.Commands.{Reads, place, number, watch, bounded, taking, judging, proving, asking, strict, with_searches, with_files, with_judgements, lprolog, usage_line};
+ghost use Rattle.lp_words.specs.Commands.{Reads, place, number, watch, bounded, taking, judging, proving, asking, serving, strict, with_searches, with_files, with_judgements, lprolog, usage_line};
 
 use clap::{Arg, ArgAction, ArgMatches, Command, Error};
 use std::alloc::{AllocError, Global};
@@ -81,6 +81,12 @@ fn asking<'a>(alloc: Global, name: &'a str) -> Result<Command<'a>, AllocError>
     with(proving(alloc, name)?, watch(alloc))
 }
 
+fn serving<'a>(alloc: Global, name: &'a str) -> Result<Command<'a>, AllocError>
+    ensures { IfOk result (Reads (serving name.entry.now)) }
+{
+    bounded(alloc, taking(alloc, name, "module")?)
+}
+
 fn strict<'a>(alloc: Global) -> Command<'a>
     ensures { Reads (strict (new_app (codes "lprolog"))) result }
 {
@@ -96,6 +102,7 @@ fn with_searches<'a>(alloc: Global, command: Command<'a>) -> Result<Command<'a>,
     ensures { IfOk result (Reads (with_searches (app_of command.entry))) }
 {
     let command = under(command, asking(alloc, "solve")?)?;
+    let command = under(command, asking(alloc, "query")?)?;
     let command = under(command, taking(alloc, "trial", "size")?)?;
     Ok(command)
 }
@@ -125,7 +132,8 @@ fn lprolog<'a>(alloc: Global) -> Result<Command<'a>, AllocError>
 {
     let command = with_searches(alloc, strict(alloc))?;
     let command = with_files(alloc, command)?;
-    with_judgements(alloc, command)
+    let command = with_judgements(alloc, command)?;
+    under(command, serving(alloc, "session")?)
 }
 
 /// The line that names the commands, with its line feed. It is what is written of words that are none.
@@ -133,7 +141,7 @@ fn lprolog<'a>(alloc: Global) -> Result<Command<'a>, AllocError>
 pub fn usage() -> &'static str
     ensures { result.now ≡ usage_line }
 {
-    "usage: solve M Q | compile M | link M | trial N | migrate M | lambda M Q | prove M Q | check M Q\n"
+    "usage: solve M Q | compile M | link M | query M Q | trial N | migrate M | lambda M Q | prove M Q | check M Q | session M\n"
 }
 
 /// The words as the command set reads them.

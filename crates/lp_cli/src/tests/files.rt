@@ -1,7 +1,7 @@
 // Objects and images as files.
 
 use super::modules::FILES;
-use super::{folder, run_on};
+use super::{folder, run_all, run_on};
 use lp_base::{Folder, MemFolder, Memory, Status};
 use lp_watch::Watch;
 use std::alloc::Global;
@@ -16,20 +16,6 @@ const TODAY: &[u8] =
 
 // The object of a module `h` that uses `../h`.
 const HOSTILE: &[u8] = b"LPOB\x01\x00\x01\x00h\x00\x00\x00\x00\x01\x00\x04\x00../h\x00\x00\x00\x00";
-
-// The commands in turn on one folder, each with what it says.
-fn run_all(
-    rt: &impl Abort,
-    alloc: Global,
-    held: &mut MemFolder,
-    steps: &[([&str; 2], Status, &str)],
-) -> Result<(), Memory> {
-    let mut nobody: Vec<Box<dyn Watch>> = Vec::new(alloc);
-    for (words, status, line) in steps {
-        run_on(rt, alloc, held, words, &mut nobody, *status, line)?;
-    }
-    Ok(())
-}
 
 fn put(rt: &impl Abort, alloc: Global, held: &mut MemFolder, files: &[(&str, &[u8])]) {
     for (name, bytes) in files {
@@ -60,23 +46,23 @@ fn objects_and_images(rt: HostRuntime) -> Result<(), Memory> {
         alloc,
         &mut held,
         &[
-            (["migrate", "u"], Status::Done, "migrated u.lp\n"),
+            (&["migrate", "u"], Status::Done, "migrated u.lp\n"),
             (
-                ["migrate", "v"],
+                &["migrate", "v"],
                 Status::Image,
                 "image: v.lp: name differs\n",
             ),
-            (["link", "u"], Status::Missing, "missing: u.lpo\n"),
-            (["link", "h"], Status::Missing, "missing: ../h.lpo\n"),
-            (["compile", "m"], Status::Done, "wrote m.lpo\n"),
-            (["link", "m"], Status::Missing, "missing: a.lpo\n"),
-            (["compile", "a"], Status::Done, "wrote a.lpo\n"),
-            (["compile", "b"], Status::Done, "wrote b.lpo\n"),
-            (["compile", "c"], Status::Done, "wrote c.lpo\n"),
-            (["link", "m"], Status::Done, "wrote m.lp\n"),
-            (["compile", "x"], Status::Done, "wrote x.lpo\n"),
-            (["compile", "y"], Status::Done, "wrote y.lpo\n"),
-            (["link", "x"], Status::Limit, "limit: copies\n"),
+            (&["link", "u"], Status::Missing, "missing: u.lpo\n"),
+            (&["link", "h"], Status::Missing, "missing: ../h.lpo\n"),
+            (&["compile", "m"], Status::Done, "wrote m.lpo\n"),
+            (&["link", "m"], Status::Missing, "missing: a.lpo\n"),
+            (&["compile", "a"], Status::Done, "wrote a.lpo\n"),
+            (&["compile", "b"], Status::Done, "wrote b.lpo\n"),
+            (&["compile", "c"], Status::Done, "wrote c.lpo\n"),
+            (&["link", "m"], Status::Done, "wrote m.lp\n"),
+            (&["compile", "x"], Status::Done, "wrote x.lpo\n"),
+            (&["compile", "y"], Status::Done, "wrote y.lpo\n"),
+            (&["link", "x"], Status::Limit, "limit: copies\n"),
         ],
     )?;
     assert_eq!(rt; held.get("u.lp"), Some(TODAY));
@@ -96,19 +82,19 @@ fn objects_and_images(rt: HostRuntime) -> Result<(), Memory> {
         alloc,
         &mut held,
         &[
-            (["compile", "a"], Status::Done, "wrote a.lpo\n"),
+            (&["compile", "a"], Status::Done, "wrote a.lpo\n"),
             (
-                ["link", "m"],
+                &["link", "m"],
                 Status::Image,
                 "image: a.lpo: signatures differ geta\n",
             ),
             (
-                ["migrate", "u"],
+                &["migrate", "u"],
                 Status::Image,
                 "image: u.lp: truncated at 0\n",
             ),
-            (["compile", "u"], Status::Done, "wrote u.lpo\n"),
-            (["link", "u"], Status::Done, "wrote u.lp\n"),
+            (&["compile", "u"], Status::Done, "wrote u.lpo\n"),
+            (&["link", "u"], Status::Done, "wrote u.lp\n"),
         ],
     )?;
     assert_eq!(rt; held.get("u.lp"), Some(TODAY));
@@ -151,10 +137,10 @@ fn faults_of_the_folder(rt: HostRuntime) -> Result<(), Memory> {
         alloc,
         &mut held,
         &[
-            (["compile", "m"], Status::Done, "wrote m.lpo\n"),
-            (["compile", "a"], Status::Done, "wrote a.lpo\n"),
-            (["compile", "b"], Status::Done, "wrote b.lpo\n"),
-            (["compile", "c"], Status::Done, "wrote c.lpo\n"),
+            (&["compile", "m"], Status::Done, "wrote m.lpo\n"),
+            (&["compile", "a"], Status::Done, "wrote a.lpo\n"),
+            (&["compile", "b"], Status::Done, "wrote b.lpo\n"),
+            (&["compile", "c"], Status::Done, "wrote c.lpo\n"),
         ],
     )?;
     fail_each(

@@ -4,7 +4,7 @@ use super::check;
 use lp_base::{Memory, Status};
 
 const USAGE: &str =
-    "usage: solve M Q | compile M | link M | trial N | migrate M | lambda M Q | prove M Q | check M Q\n";
+    "usage: solve M Q | compile M | link M | query M Q | trial N | migrate M | lambda M Q | prove M Q | check M Q | session M\n";
 
 const FIRST: &str = "answer 1\nno more answers\n";
 
@@ -71,6 +71,7 @@ fn other_words_are_refused(rt: HostRuntime) -> Result<(), Memory> {
         ["solve", "e", "true", "--watch=true"],
         ["solve", "e", "true", "--step=3"],
         ["solve", "e", "true", "more"],
+        ["query", "e", "true", "--answers=0"],
         ["lambda", "e", "true", "--steps=1"],
         ["check", "e", "true", "--answers=1"],
         ["prove", "e", "true", "--watch"],

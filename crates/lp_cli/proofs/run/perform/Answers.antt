@@ -2,11 +2,17 @@ use Rattle.std.proofs.Common.{◌∙◌, sym, ap, subst, inr, refl}
 use Rattle.lp_judge.specs.Proved.{Proves}
 use Rattle.lp_load.specs.Placed.{WritesPlaced}
 use Rattle.lp_words.specs.Asked.{asked_of}
-use Rattle.lp_cli.proofs.Doing.{becomes, does_check, does_files, does_lambda, does_plain, does_prove, does_trial, does_within, watching_or}
+use Rattle.lp_cli.proofs.Doing.{becomes, does_check, does_files, does_lambda, does_plain, does_prove, does_query, does_session, does_trial, does_within, watching_or}
 use Rattle.lp_cli.proofs.run.perform.Goals as goal
 
 pub returns-in-Trial-clause-does : goal.returns-in-Trial-clause-does
 returns-in-Trial-clause-does g c = becomes _ (asked_of c.args.asked) c.trial.result (ap asked_of c.in-Trial.is) (does_trial c.in-Trial.size c.trial.result c.trial.ensures.ran c.trial.ensures.keeps)
+
+pub returns-in-Query-clause-does : goal.returns-in-Query-clause-does
+returns-in-Query-clause-does g c = becomes _ (asked_of c.args.asked) c.query.result (ap asked_of c.in-Query.is) (does_query c.in-Query.name.now c.in-Query.text.now c.in-Query.options c.query.result c.query.ensures.ran c.query.ensures.keeps)
+
+pub returns-in-Session-clause-does : goal.returns-in-Session-clause-does
+returns-in-Session-clause-does g c = becomes _ (asked_of c.args.asked) c.session.result (ap asked_of c.in-Session.is) (does_session c.in-Session.name.now c.in-Session.options c.session.result c.session.ensures.ran c.session.ensures.keeps)
 
 pub returns-in-Lambda-clause-does : goal.returns-in-Lambda-clause-does
 returns-in-Lambda-clause-does g c = becomes _ (asked_of c.args.asked) c.lambda.result (ap asked_of c.in-Lambda.is) (does_lambda c.in-Lambda.name.now c.in-Lambda.text.now c.lambda.result c.lambda.ensures.ran c.lambda.ensures.keeps c.lambda.ensures.placed)
@@ -39,11 +45,17 @@ returns-else-are_none-clause-does g c =
     (does_within c.in-Solve.name.now c.in-Solve.query.now c.in-Solve.options c.solve_within.result (sym c.are_none.ensures ∙ c.if-are_none.false) c.solve_within.ensures.ran c.solve_within.ensures.keeps
     (λ e. subst (λ q. WritesPlaced (g.F.Folder.held c.args.folder.now) q (g.K.Sink.written c.args.out.now) (g.K.Sink.written c.solve_within.new.out)) c.question.ensures (c.solve_within.ensures.placed e)))
 
+pub returns-in-Query-clause-silent : goal.returns-in-Query-clause-silent
+returns-in-Query-clause-silent g c = watching_or _ (asked_of c.args.asked) _ _ (ap asked_of c.in-Query.is) c.query.ensures.silent
+
 pub returns-else-are_none-clause-silent : goal.returns-else-are_none-clause-silent
 returns-else-are_none-clause-silent g c = watching_or _ (asked_of c.args.asked) _ _ (ap asked_of c.in-Solve.is) c.solve_within.ensures.silent
 
 pub returns-in-Trial-clause-silent : goal.returns-in-Trial-clause-silent
 returns-in-Trial-clause-silent g c = inr refl
+
+pub returns-in-Session-clause-silent : goal.returns-in-Session-clause-silent
+returns-in-Session-clause-silent g c = inr refl
 
 pub returns-in-Lambda-clause-silent : goal.returns-in-Lambda-clause-silent
 returns-in-Lambda-clause-silent g c = inr refl
