@@ -66,3 +66,5 @@ pub mod MoreSteps
 pub mod WholeRight
 pub mod FullViews
 pub mod Comes
+pub mod Limits
+pub mod Refuted

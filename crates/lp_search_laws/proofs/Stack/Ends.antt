@@ -15,7 +15,7 @@ total_append w [] ys = let e : total w ys ≡ 0 + total w ys = omega arith in e
 total_append w (x ∷ xs) ys = let e = total_append w xs ys in omega arith
 
 module _ {T A : Type 0} (look : ℕ → T → View T A) where
-  made_where_ended : (go : State T → Told A) (v : Move T A) (e : Ending) → (told_after go v).ending ≡ Some e → IsMade v
+  pub made_where_ended : (go : State T → Told A) (v : Move T A) (e : Ending) → (told_after go v).ending ≡ Some e → IsMade v
   unfolding IsMade
   made_where_ended go (Goes j ns s) e h = tt
   made_where_ended go (Tells a ns s) e h = tt

@@ -144,7 +144,7 @@ module _ {T A : Type 0} (look : ℕ → T → View T A) where
     view_rightly n k g u p lost rest (Halts e) = tt
     view_rightly n k g u p lost rest Lacks = tt
 
-    at_rightly : (n k g u p : ℕ) (lost : Bool) (ts : List T) → StopsRightly (move_at go look n k g u p lost ts)
+    pub at_rightly : (n k g u p : ℕ) (lost : Bool) (ts : List T) → StopsRightly (move_at go look n k g u p lost ts)
     at_rightly n zero g u p lost ts = tt
     at_rightly n (suc k) g u p true [] = tt
     at_rightly n (suc k) g u p false [] = tt
