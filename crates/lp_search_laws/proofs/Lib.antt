@@ -68,3 +68,4 @@ pub mod FullViews
 pub mod Comes
 pub mod Limits
 pub mod Refuted
+pub mod Tested
