@@ -1,13 +1,12 @@
 -- More units for each unification, more steps, and more goals that may be taken apart in a row change nothing of a run that ends since it has no more.
-use Rattle.std.proofs.Common.{◌≡◌, ℕ, zero, suc, ◌+◌, ◌≤◌, ◌<◌, List, [], ◌∷◌, ◌++◌, length, refl, sym, ap, ◌∙◌, subst, arith, Bool, true, false, Option, Some, None, inl, inr}
+use Rattle.std.proofs.Common.{◌≡◌, ℕ, zero, suc, ◌+◌, ◌≤◌, List, [], ◌∷◌, ◌++◌, length, refl, sym, ap, ◌∙◌, arith, Bool, true, false, Option, Some, None, inl, inr}
 use Rattle.std.proofs.lemmas.Bool.{cases_lt, lt-ltb, le-ltb}
-use Rattle.std.specs.Prelude.{◌⊎◌, ◌&&◌, nat_eq, nat_le, nat_lt, if◌then◌else◌}
+use Rattle.std.specs.Prelude.{◌⊎◌, nat_eq, nat_lt, if◌then◌else◌}
 use Rattle.lp_calculus.specs.Types.{Ty}
-use Rattle.lp_calculus.specs.Term.{Term, index, atom, abs, app, Atom, constant, integer, text, eigen, logic, param}
+use Rattle.lp_calculus.specs.Term.{Term, index, atom, abs, app, constant, integer, text, eigen, logic, param}
 use Rattle.lp_calculus.specs.Instance.{instance_term}
-use Rattle.lp_model.specs.declared.ending.Ending.{Ending}
 use Rattle.lp_model.specs.declared.ending.Ending.TheVariants.{NoMore, Deep}
-use Rattle.lp_model.specs.Skeleton.{GoalName, View, Opens, Takes, Halts, State, Told, starts_within, run}
+use Rattle.lp_model.specs.Skeleton.{GoalName, View, Opens, Takes, starts_within, run}
 use Rattle.lp_calculus.specs.Spine.{head_of, arguments}
 use Rattle.lp_model.specs.Look.{head_normal, ◌>>=◌}
 use Rattle.lp_model.specs.Types.{TypePair, TypeOutcome, none, solved, solve_types}
@@ -18,9 +17,9 @@ use Rattle.lp_model.specs.Unify as unification
 use Rattle.lp_standard.specs.Connectives.{Connective, connective_of}
 use Rattle.lp_standard.specs.Connectives as connective
 use Rattle.lp_model.specs.Flat.{Goal, Atomic, Cut, Either, Exists, Forall, Assume, Not, Goals, Clause, clause, goal_list, instantiate_goals, type_goals}
-use Rattle.lp_model.specs.Values.{Outcome, Is, Faults, Number, Bytes, evaluate, term_of}
+use Rattle.lp_model.specs.Values.{Outcome, Is, Faults, evaluate, term_of}
 use Rattle.lp_model.specs.Branch.{Entry, Branch, Answer, Task, Go, Try, Stop, Lack, entries}
-use Rattle.lp_model.specs.Search.{with_goals, follow, equated, assigned, compared, goal_key, tries, slots_of, slotted, pairs_of, renewed, tried, try_clause, look_constant, look_atom, look_form, look_normal, look_goal, look_branch, look}
+use Rattle.lp_model.specs.Search.{with_goals, follow, equated, assigned, slots_of, slotted, pairs_of, renewed, tried, try_clause, look_constant, look_atom, look_form, look_normal, look_goal, look_branch, look}
 use Rattle.lp_search_laws.proofs.Stack.Limits.{Shallower, same_view, opens_dead, takes_dead, run_within}
 
 -- the first is spent, or they are the same

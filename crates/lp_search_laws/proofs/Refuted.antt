@@ -1,16 +1,15 @@
 -- The search of a negated goal that is refuted stands as a leaf of a proof.
-use Rattle.std.proofs.Common.{◌≡◌, ℕ, ◌+◌, ◌≤◌, List, [], ◌∷◌, ◌++◌, length, Bool, Some, refl, sym, ap, subst, ◌∙◌, arith, append-nil}
+use Rattle.std.proofs.Common.{◌≡◌, ℕ, ◌+◌, ◌≤◌, List, [], ◌∷◌, ◌++◌, length, Bool, Some, refl, sym, ap, subst, ◌∙◌, arith}
 use Rattle.std.specs.Prelude.{take, drop}
-use Rattle.std.proofs.lemmas.List.{take-append-le, drop-append-le}
 use Rattle.lp_calculus.specs.Types.{Ty}
 use Rattle.lp_calculus.specs.Term.{Term}
 use Rattle.lp_standard.specs.Connectives.{not_of}
 use Rattle.lp_model.specs.declared.ending.Ending.TheVariants.{NoMore}
 use Rattle.lp_model.specs.Unify.{unit_limit}
-use Rattle.lp_model.specs.Flat.{Goals, Clause, Clauses, Written, goal_list}
+use Rattle.lp_model.specs.Flat.{Goals, Clause, Clauses, Written}
 use Rattle.lp_model.specs.Flatten.{ClauseFormula}
 use Rattle.lp_model.specs.Skeleton.{Note, Told, Refuted, starts_within, inner, run}
-use Rattle.lp_model.specs.Branch.{Answer, Task, Go, entries}
+use Rattle.lp_model.specs.Branch.{Answer, Task}
 use Rattle.lp_model.specs.Search.{look}
 use Rattle.lp_model.specs.Proofs.{Declared, AreFlattened, Failure, IsFailure, Provable, Fails, StandsForGoal, StandForClauses, newest_first}
 use Rattle.lp_search_laws.specs.Denials.{denied_task}

@@ -1,5 +1,5 @@
 -- What was tested to hold no variable is the same under each closing.
-use Rattle.std.proofs.Common.{◌≡◌, ℕ, List, [], ◌∷◌, ◌++◌, map, Bool, true, false, Option, Some, refl, sym, ap, subst, ◌∙◌}
+use Rattle.std.proofs.Common.{◌≡◌, ℕ, List, [], ◌∷◌, ◌++◌, map, Bool, true, false, Some, refl, sym, ap, subst, ◌∙◌}
 use Rattle.std.specs.Prelude.{◌||◌, option_map}
 use Rattle.std.specs.List.{list_any}
 use Rattle.lp_calculus.specs.Types.{Ty, Tys, var, param as type_param, con, arrow, no_types, types, instance, instances}
@@ -9,7 +9,6 @@ use Rattle.lp_calculus.specs.Fill.{fill, raise}
 use Rattle.lp_calculus.proofs.Steps.{converts_on, converts_sym, converts_reduces}
 use Rattle.lp_lemmas.specs.Each.{EachOf}
 use Rattle.lp_lemmas.proofs.Options.{and_then_some, option_map_some}
-use Rattle.lp_model.specs.Look.{◌>>=◌}
 use Rattle.lp_model.specs.Eigens.{beta_normal}
 use Rattle.lp_model.specs.Pair.{Closing, closed}
 use Rattle.lp_model.specs.Flat.{Written, type_variables, types_variables}

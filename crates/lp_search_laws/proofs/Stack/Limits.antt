@@ -4,7 +4,7 @@ use Rattle.std.proofs.Common.{◌≡◌, ℕ, zero, suc, ◌≤◌, List, [], �
 use Rattle.std.specs.Prelude.{◌-◌, ◌||◌, nat_lt, Bool, true, false, if◌then◌else◌}
 use Rattle.lp_model.specs.declared.ending.Ending.{Ending}
 use Rattle.lp_model.specs.declared.ending.Ending.TheVariants.{NoMore, NoMoreCut, Enough, Steps, Flexible, Arithmetic, OpenNot, Deep}
-use Rattle.lp_model.specs.Skeleton.{GoalName, View, Gives, Opens, Parts, Takes, Cuts, Denies, Halts, Lacks, State, Note, GoalNote, CutNote, AnswerNote, named, not_constant, back, back_for_more, oldest, Move, Goes, Tells, Stops, Breaks, Waits, Told, Inner, Refuted, Held, Broke, Lasts, starts_within, move_denied, move_view, move_at, move, later, inner_end, inner_after, inner, told_after, run}
+use Rattle.lp_model.specs.Skeleton.{GoalName, View, Gives, Opens, Parts, Takes, Cuts, Denies, Halts, Lacks, State, Note, GoalNote, CutNote, AnswerNote, named, not_constant, back, back_for_more, oldest, Goes, Tells, Stops, Told, Inner, Refuted, Held, Broke, Lasts, starts_within, move_denied, move_view, move_at, later, inner_end, inner_after, inner, told_after, run}
 use Rattle.lp_search_laws.proofs.Stack.Inners.{BreaksRightly, inner_rightly}
 
 -- a search that is refuted or held
