@@ -88,11 +88,7 @@ fn a_certificate_has_its_bytes(rt: HostRuntime) -> Result<(), Memory> {
         alloc,
         &mut held,
         &[
-            (
-                &["check", "u", "q X"],
-                Status::Missing,
-                "missing: u.cert\n",
-            ),
+            (&["check", "u", "q X"], Status::Missing, "missing: u.cert\n"),
             (
                 &["prove", "loop", "r", "--steps=10"],
                 Status::Steps,

@@ -23,6 +23,8 @@ const FILES: [(&str, &str); 8] = [
     ("e.mod", "module e."),
 ];
 
+const SPLIT: &str = "append X Y (1 :: nil)";
+
 const SAID: &str =
     "query 1\nanswer 1\n  X = nil\n  Y = 1 :: nil\nanswer 2\n  X = 1 :: nil\n  Y = nil\nno more answers\nquery 2\nsource: query:1:1: no typing\nquery 3\nanswer 1\n  Y = 1 :: nil\nanswer 2\n  Y = nil\nno more answers\nquery 4\nsource: query:1:7: undeclared name Z\nquery 5\nsource: query:1:10: unexpected token\nquery 6\nsource: query:1:7: unexpected token\nquery 7\nsource: query:1:16: unclosed string\nquery 8\nanswer 1\n  Y = 2\n  X = 1\nno more answers\nqueries 8, answers 5\n";
 
@@ -32,7 +34,6 @@ const COUNTED: &str =
 #[test]
 fn images_are_asked(rt: HostRuntime) -> Result<(), Memory> {
     let alloc = rt.alloc();
-    let split = "append X Y (1 :: nil)";
     let mut held = folder(alloc, &FILES, &[])?;
     run_all(
         &rt,
@@ -40,16 +41,20 @@ fn images_are_asked(rt: HostRuntime) -> Result<(), Memory> {
         &mut held,
         &[
             (
-                &["query", "lists", split],
+                &["query", "lists", SPLIT],
                 Status::Missing,
                 "missing: lists.lp\n",
             ),
-            (&["session", "lists"], Status::Missing, "missing: lists.lp\n"),
+            (
+                &["session", "lists"],
+                Status::Missing,
+                "missing: lists.lp\n",
+            ),
             (&["compile", "lists"], Status::Done, "wrote lists.lpo\n"),
             (&["link", "lists"], Status::Done, "wrote lists.lp\n"),
-            (&["query", "lists", split, "--watch"], Status::Done, COUNTED),
+            (&["query", "lists", SPLIT, "--watch"], Status::Done, COUNTED),
             (
-                &["query", "lists", split, "--answers=1"],
+                &["query", "lists", SPLIT, "--answers=1"],
                 Status::Done,
                 "answer 1\n  X = nil\n  Y = 1 :: nil\nstopped: answers\n",
             ),

@@ -58,14 +58,7 @@ fn queries_are_judged(rt: HostRuntime) -> Result<(), Memory> {
 fn clauses_are_judged(rt: HostRuntime) -> Result<(), Memory> {
     let alloc = rt.alloc();
     let given = ["lambda", "beta", "true"];
-    with_files(
-        &rt,
-        alloc,
-        &BETA,
-        &given,
-        Status::No,
-        "no: beta clause 2\n",
-    )?;
+    with_files(&rt, alloc, &BETA, &given, Status::No, "no: beta clause 2\n")?;
     let given = ["lambda", "top", "q (F a)"];
     with_files(&rt, alloc, &SET, &given, Status::No, "no: low clause 2\n")
 }
