@@ -1,6 +1,9 @@
 pub mod FlatGoals
 pub mod FlatClauses
 pub mod Flattens
+pub mod Again
+pub mod Raised
+pub mod Made
 pub mod TypedForms
 pub mod TypedFlat
 pub mod ReadsBack

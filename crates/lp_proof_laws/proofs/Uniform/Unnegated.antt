@@ -1,7 +1,7 @@
 -- A proof of a goal without negation from clauses without negation has no failing search: the heads of connectives are kept under conversion, so no goal on the
 -- way is a negated one.
-use Rattle.std.proofs.Common.{◌≡◌, ℕ, zero, suc, List, [], ◌∷◌, ◌++◌, length, Some, refl, sym, ap, ◌∙◌, subst, inl, inr}
-use Rattle.std.specs.Prelude.{◌≢◌, ◌⊎◌, true, false, slice_get}
+use Rattle.std.proofs.Common.{◌≡◌, ℕ, zero, suc, List, [], ◌∷◌, ◌++◌, length, Some, refl, subst, inl, inr}
+use Rattle.std.specs.Prelude.{◌≢◌, true, false, slice_get}
 use Rattle.lp_calculus.specs.Types.{Ty}
 use Rattle.lp_calculus.specs.Term.{Term, Atom, index, atom, abs, app, constant, integer, text, eigen, logic, param}
 use Rattle.lp_calculus.specs.Fill.{Within}
@@ -9,10 +9,10 @@ use Rattle.lp_calculus.specs.Convert.{Converts, same}
 use Rattle.lp_calculus.specs.Typing.{type_at}
 use Rattle.lp_calculus.specs.Instance.{instance_atom, instance_term}
 use Rattle.lp_calculus.specs.Closed.{AllAtoms, IsClosedAtom}
-use Rattle.lp_calculus.proofs.Steps.{converts_on, converts_sym, converts_app, converts_reduces}
-use Rattle.lp_calculus.proofs.Rigid.{EachReaches, reaches_none, reaches_more, head_reaches}
+use Rattle.lp_calculus.proofs.Steps.{converts_on, converts_app, converts_reduces}
+use Rattle.lp_calculus.proofs.Rigid.{EachReaches, reaches_more, head_reaches}
 use Rattle.lp_calculus.proofs.Commutations.{instance_converts}
-use Rattle.lp_standard.specs.Connectives.{two, pi_of, sigma_of, not_of}
+use Rattle.lp_standard.specs.Connectives.{two}
 use Rattle.lp_standard.specs.Positive.{IsPositiveAtom}
 use Rattle.lp_model.specs.Flatten.{ClauseFormula}
 use Rattle.lp_lemmas.specs.Each.{EachOf}
