@@ -1,6 +1,6 @@
 -- The rules as they are judged at work are those of the definition.
-use Rattle.std.proofs.Common.{◌≡◌, ◌∙◌, ℕ, suc, List, [], ◌∷◌, length, Bool, true, false, Option, Some, None, ap, refl, arith}
-use Rattle.std.specs.Prelude.{nat_eq, not, ◌||◌, if◌then◌else◌, option_map}
+use Rattle.std.proofs.Common.{◌≡◌, ◌∙◌, ℕ, suc, List, [], ◌∷◌, ◌++◌, length, Bool, true, false, Option, Some, None, ap, refl, arith}
+use Rattle.std.specs.Prelude.{nat_eq, nat_lt, not, ◌||◌, ◌&&◌, if◌then◌else◌, option_map, slice_get, map}
 use Rattle.std.specs.List.{list_any}
 use Rattle.std.proofs.lemmas.Bool.{ne_eqb}
 use Rattle.lp_calculus.specs.Typing.{Scheme}
@@ -10,10 +10,10 @@ use Rattle.lp_code.specs.declared.rule.Rule.{Rule}
 use Rattle.lp_code.specs.declared.rule.Rule.TheVariants as rule
 use Rattle.lp_code.specs.Operands.{type_set, term_set}
 use Rattle.lp_code.specs.States.{State, Home, member}
-use Rattle.lp_code.specs.Rules.{has_count, is_count, has_none, breaks_set, breaks_constant, breaks_order}
+use Rattle.lp_code.specs.Rules.{has_count, is_count, has_none, is_assumed_record, are_fine_names, named_before, breaks_set, breaks_constant, breaks_order, breaks_clause}
 use Rattle.lp_code.specs.Denote.{first_broken}
 use Rattle.lp_verify.specs.Judged.{judged, is_judged}
-use Rattle.lp_verify.specs.inner.Told.{is_out_of_order, has_wrong_count, sets_again, Broken, breaks, ArePassed, IsFirst}
+use Rattle.lp_verify.specs.inner.Told.{is_out_of_order, has_wrong_count, sets_again, are_fine, names_badly, Broken, breaks, ArePassed, IsFirst}
 
 skip : (o next : Option Rule) (b : Bool) → b ≡ false → (if b then o else next) ≡ next
 skip o next b h = ap (λ t. if t then o else next) h
@@ -23,7 +23,7 @@ stop o next b h = ap (λ t. if t then o else next) h
 
 -- the judged rules from one on
 abbrev from_term : Broken → Option Rule
-from_term b = if b.term then Some rule.Term else (if b.order then Some rule.Order else (if b.key then Some rule.Key else None))
+from_term b = if b.term then Some rule.Term else (if b.order then Some rule.Order else (if b.clause then Some rule.Clause else (if b.key then Some rule.Key else None)))
 
 abbrev from_constant : Broken → Option Rule
 from_constant b = if b.constant then Some rule.Constant else from_term b
@@ -35,13 +35,16 @@ passed : (b : Broken) → ArePassed b → first_broken (breaks b) judged ≡ fro
 passed b h = skip (Some rule.Register) (from_set b) b.register h.0 ∙ skip (Some rule.Set) (from_constant b) b.set h.1 ∙ skip (Some rule.Constant) (from_term b) b.constant h.2
 
 abbrev from_order : Broken → Option Rule
-from_order b = if b.order then Some rule.Order else (if b.key then Some rule.Key else None)
+from_order b = if b.order then Some rule.Order else (if b.clause then Some rule.Clause else (if b.key then Some rule.Key else None))
+
+abbrev from_clause : Broken → Option Rule
+from_clause b = if b.clause then Some rule.Clause else (if b.key then Some rule.Key else None)
 
 abbrev from_key : Broken → Option Rule
 from_key b = if b.key then Some rule.Key else None
 
 pub first_none : (b : Broken) → IsFirst b None → first_broken (breaks b) judged ≡ None
-first_none b h = passed b h.0 ∙ skip (Some rule.Term) (from_order b) b.term h.1 ∙ skip (Some rule.Order) (from_key b) b.order h.2 ∙ skip (Some rule.Key) None b.key h.3
+first_none b h = passed b h.0 ∙ skip (Some rule.Term) (from_order b) b.term h.1 ∙ skip (Some rule.Order) (from_clause b) b.order h.2 ∙ skip (Some rule.Clause) (from_key b) b.clause h.3 ∙ skip (Some rule.Key) None b.key h.4
 
 pub first_some : (b : Broken) (r : Rule) → IsFirst b (Some r) → is_judged r ≡ true → first_broken (breaks b) judged ≡ Some r
 first_some b rule.Register h j = stop (Some rule.Register) (from_set b) b.register h
@@ -51,15 +54,15 @@ first_some b rule.Constant h j = skip (Some rule.Register) (from_set b) b.regist
 first_some b rule.Typing h j = absurd (cc)
 first_some b rule.Index h j = absurd (cc)
 first_some b rule.Term h j = passed b h.0 ∙ stop (Some rule.Term) (from_order b) b.term h.1
-first_some b rule.Order h j = passed b h.0 ∙ skip (Some rule.Term) (from_order b) b.term h.1 ∙ stop (Some rule.Order) (from_key b) b.order h.2
+first_some b rule.Order h j = passed b h.0 ∙ skip (Some rule.Term) (from_order b) b.term h.1 ∙ stop (Some rule.Order) (from_clause b) b.order h.2
 first_some b rule.Head h j = absurd (cc)
 first_some b rule.Block h j = absurd (cc)
-first_some b rule.Clause h j = absurd (cc)
-first_some b rule.Key h j = passed b h.0 ∙ skip (Some rule.Term) (from_order b) b.term h.1 ∙ skip (Some rule.Order) (from_key b) b.order h.2 ∙ stop (Some rule.Key) None b.key h.3
+first_some b rule.Clause h j = passed b h.0 ∙ skip (Some rule.Term) (from_order b) b.term h.1 ∙ skip (Some rule.Order) (from_clause b) b.order h.2 ∙ stop (Some rule.Clause) (from_key b) b.clause h.3
+first_some b rule.Key h j = passed b h.0 ∙ skip (Some rule.Term) (from_order b) b.term h.1 ∙ skip (Some rule.Order) (from_clause b) b.order h.2 ∙ skip (Some rule.Clause) (from_key b) b.clause h.3 ∙ stop (Some rule.Key) None b.key h.4
 
 -- tests that agree on the judged rules find the same one
-pub first_same : (f g : Rule → Bool) → f rule.Register ≡ g rule.Register → f rule.Set ≡ g rule.Set → f rule.Constant ≡ g rule.Constant → f rule.Term ≡ g rule.Term → f rule.Order ≡ g rule.Order → f rule.Key ≡ g rule.Key → first_broken f judged ≡ first_broken g judged
-first_same f g a b c d e k = λ i. if a i then Some rule.Register else (if b i then Some rule.Set else (if c i then Some rule.Constant else (if d i then Some rule.Term else (if e i then Some rule.Order else (if k i then Some rule.Key else None)))))
+pub first_same : (f g : Rule → Bool) → f rule.Register ≡ g rule.Register → f rule.Set ≡ g rule.Set → f rule.Constant ≡ g rule.Constant → f rule.Term ≡ g rule.Term → f rule.Order ≡ g rule.Order → f rule.Clause ≡ g rule.Clause → f rule.Key ≡ g rule.Key → first_broken f judged ≡ first_broken g judged
+first_same f g a b c d e l k = λ i. if a i then Some rule.Register else (if b i then Some rule.Set else (if c i then Some rule.Constant else (if d i then Some rule.Term else (if e i then Some rule.Order else (if l i then Some rule.Clause else (if k i then Some rule.Key else None))))))
 
 pub or_false : (b : Bool) → (b || false) ≡ b
 or_false true = refl
@@ -152,3 +155,51 @@ same_order s (on.Jump n) = refl
 same_order s on.Proceed = refl
 same_order s on.Not = refl
 same_order s on.EndNot = refl
+
+-- the names, where those that were named are the same ones
+abbrev pub also_named : (ℕ → Bool) → ℕ → ℕ → Bool
+also_named f n m = nat_eq m n || f m
+
+same_fine : (h : Home) (f : ℕ → Bool) (named : List ℕ) (ts rs : ℕ) (ns : List ℕ) → ((n : ℕ) → f n ≡ member n named) → are_fine h.number h.records f ts rs ns ≡ are_fine_names h named ts rs ns
+same_fine h f named ts rs [] e = refl
+same_fine h f named ts rs (n ∷ ns) e =
+    let rest = same_fine h (also_named f n) (n ∷ named) ts rs ns (λ m. ap (λ b. nat_eq m n || b) (e m)) in
+    λ j. (nat_lt h.number n && is_assumed_record (slice_get h.records n) ts rs && not (e n j)) && rest j
+
+pub same_names : (h : Home) (s : State) (f : ℕ → Bool) (i : Instr) → ((n : ℕ) → f n ≡ member n (named_before h.number h.records ++ map (λ a. a.0) s.assumed)) → names_badly h.number h.records h.self.program f i ≡ breaks_clause h s i
+same_names h s f (on.TyCon d k ts) e = refl
+same_names h s f (on.TyArr d a b) e = refl
+same_names h s f (on.TyNew d) e = refl
+same_names h s f (on.New d t) e = refl
+same_names h s f (on.PutConst d c ts) e = refl
+same_names h s f (on.PutInt d z) e = refl
+same_names h s f (on.PutStr d b) e = refl
+same_names h s f (on.PutIndex d x t) e = refl
+same_names h s f (on.PutAbs d b t) e = refl
+same_names h s f (on.PutApp d g rs) e = refl
+same_names h s f (on.GetType j t) e = refl
+same_names h s f (on.GetVar x d) e = refl
+same_names h s f (on.Get x r) e = refl
+same_names h s f (on.GetConst x c ts) e = refl
+same_names h s f (on.GetInt x z) e = refl
+same_names h s f (on.GetStr x b) e = refl
+same_names h s f on.Neck e = refl
+same_names h s f (on.Call c ts rs) e = refl
+same_names h s f (on.CallTerm r) e = refl
+same_names h s f (on.Equal t l r) e = refl
+same_names h s f (on.Is t l r) e = refl
+same_names h s f (on.Less l r) e = refl
+same_names h s f (on.Greater l r) e = refl
+same_names h s f (on.AtMost l r) e = refl
+same_names h s f (on.AtLeast l r) e = refl
+same_names h s f on.Cut e = refl
+same_names h s f (on.Sigma d t) e = refl
+same_names h s f (on.All d t) e = refl
+same_names h s f on.EndAll e = refl
+same_names h s f (on.Assume ns ts rs) e = ap (λ b. not b) (same_fine h f (named_before h.number h.records ++ map (λ a. a.0) s.assumed) (length ts.items) (length rs.items) ns.items e)
+same_names h s f on.EndAssume e = refl
+same_names h s f (on.Either n) e = refl
+same_names h s f (on.Jump n) e = refl
+same_names h s f on.Proceed e = refl
+same_names h s f on.Not e = refl
+same_names h s f on.EndNot e = refl

@@ -5,3 +5,4 @@ mod Joined
 mod KeyLaws
 mod Moved
 mod Faults
+mod Names

@@ -1,6 +1,8 @@
 -- A record at work moves as the state of the definition does.
-use Rattle.std.proofs.Common.{◌≡◌, ◌∙◌, ◌≤◌, ◌<◌, ℕ, zero, suc, ◌+◌, List, [], ◌∷◌, ◌++◌, length, Bool, true, false, Option, Some, None, ap, refl, sym, subst, arith, inl, inr}
-use Rattle.std.specs.Prelude.{nat_eq, nat_lt, ◌||◌, ◌&&◌, ◌^◌, if◌then◌else◌}
+use Rattle.std.proofs.Common.{◌≡◌, ◌∙◌, ◌≤◌, ◌<◌, ℕ, zero, suc, ◌+◌, List, [], ◌∷◌, ◌++◌, map, length, append_assoc, Bool, true, false, Option, Some, None, ap, refl, sym, subst, arith, inl, inr}
+use Rattle.std.specs.BTreeMap.{BTreeMap}
+use Rattle.std.specs.Prelude.{nat_eq, nat_lt, not, ◌||◌, ◌&&◌, ◌^◌, if◌then◌else◌}
+use Rattle.lp_lemmas.proofs.Lists.{append_nil_sym}
 use Rattle.std.proofs.lemmas.Bool.{ne_eqb, lt-ltb, le-ltb, ltb-true, ltb-false, eqb-true, eqb-false}
 use Rattle.lp_lemmas.proofs.Numbers.{equal_or_above}
 use Rattle.lp_code.specs.declared.instruction.Instr.{Instr}
@@ -11,18 +13,19 @@ use Rattle.lp_code.specs.Length.{length_of}
 use Rattle.lp_code.specs.Operands.{type_set, term_set}
 use Rattle.lp_code.specs.States.{State, Home, Captured, member}
 use Rattle.lp_code.specs.Steps.{after}
-use Rattle.lp_code.specs.Rules.{breaks_set, breaks_register, breaks_term}
+use Rattle.lp_code.specs.Rules.{breaks_set, breaks_register, breaks_term, named_before, names_of}
 use Rattle.lp_code.specs.Denote.{Done, Broken, first_broken, broken_by_record, broken_by, broken_of, unless_broken, run_on, run_of, any_clause, first_state, from_zero}
 use Rattle.lp_verify.specs.declared.record.Work.{Work}
 use Rattle.lp_verify.specs.declared.whole.Whole.{Whole}
 use Rattle.lp_verify.specs.declared.head.HeadSoFar.{HeadSoFar}
 use Rattle.lp_verify.specs.Held.{was_set}
+use Rattle.lp_verify.specs.Named.{was_named, HasNamed}
 use Rattle.lp_verify.specs.Judged.{judged, bytes_of}
 use Rattle.lp_verify.specs.inner.Outline.{Outline, outline, arguments_behind, types_behind, body_behind, outline_behind}
 use Rattle.lp_verify.specs.inner.Told.{breaks, told, broken_whole, IsFirst, is_out_of_order}
-use Rattle.lp_verify.specs.inner.At.{home_in, IsAt, IsRun, IsActed, IsStarted, IsJudgedWhole, IsWhole, IsNoWhole, IsRan, GoesOn}
-use Rattle.lp_verify.proofs.Outlines.{behind, comes_behind, outline_is}
-use Rattle.lp_verify.proofs.Joined.{first_none, first_some, first_same, or_false, same_sets, same_counts, same_order}
+use Rattle.lp_verify.specs.inner.At.{home_in, IsAt, IsRun, IsActed, IsStarted, IsJudgedWhole, IsWhole, IsNoWhole, IsRan, AreNamedBefore, NamedAt, GoesOn}
+use Rattle.lp_verify.proofs.Outlines.{behind, comes_behind, outline_is, named_with_is}
+use Rattle.lp_verify.proofs.Joined.{first_none, first_some, first_same, or_false, same_sets, same_counts, same_order, same_names}
 
 more_arguments : (i : Instr) (m : ℕ) → arguments_behind i m ≤ m + length_of i
 more_arguments (on.TyCon d k ts) m = omega arith
@@ -108,6 +111,14 @@ member_append r (x ∷ xs) ys = also (nat_eq r x) (member_append r xs ys)
     also true h = refl
     also false h = h
 
+-- the records that were named behind an instruction
+named_on : (h : Home) (s : State) (i : Instr) (m n : BTreeMap ℕ ℕ) → NamedAt h s m → HasNamed (names_of i) m n → NamedAt h (behind h s i) n
+named_on h s i m n a r = λ k.
+    let before = named_before h.number h.records in
+    let now = map (λ (a : ℕ × Captured). a.0) s.assumed in
+    let o : map (λ a. a.0) (behind h s i).assumed ≡ now ++ names_of i = ap (λ (o : Outline). o.named) (outline_is h s i) ∙ named_with_is now (names_of i) in
+    r k ∙ ap (λ b. b || member k (names_of i)) (a k) ∙ sym (member_append k (before ++ now) (names_of i)) ∙ ap (member k) (append_assoc before now (names_of i) ∙ sym (ap (λ l. before ++ l) o))
+
 -- the state behind an instruction that was run
 pub moved : (h : Home) (s : State) (i : Instr) (w v : Work) → IsAt w s → IsRun i w v → s.place + length_of i < 2 ^ 63 → IsAt v (behind h s i)
 moved h s i w v a r small =
@@ -150,17 +161,18 @@ broken_at true f g = refl
 broken_at false f g = refl
 
 -- what is told before an instruction is what the definition finds there
-pub same_broken : (s : State) (w : Work) (x : Whole) (i : Instr) (is : List Instr) → IsAt w s → IsWhole (home_in w.home) s x
-    → broken_of judged (home_in w.home) s (i ∷ is) ≡ first_broken (breaks (told w x i)) judged
-same_broken s w x i is a b =
+pub same_broken : (s : State) (w : Work) (m : BTreeMap ℕ ℕ) (x : Whole) (i : Instr) (is : List Instr) → IsAt w s → NamedAt (home_in w.home) s m → IsWhole (home_in w.home) s x
+    → broken_of judged (home_in w.home) s (i ∷ is) ≡ first_broken (breaks (told w (was_named m) x i)) judged
+same_broken s w m x i is a names b =
     let h = home_in w.home in
     let t : Bool = nat_eq s.place 0 in
-    broken_at t (broken_by_record h s) (broken_by h s is i) ∙ sym (first_same (breaks (told w x i)) (λ r. (t && broken_by_record h s r) || broken_by h s is i r)
+    broken_at t (broken_by_record h s) (broken_by h s is i) ∙ sym (first_same (breaks (told w (was_named m) x i)) (λ r. (t && broken_by_record h s r) || broken_by h s is i r)
     (ap (λ v. v || breaks_register h s i) b.register_is)
     (same_sets (was_set w.types) (was_set w.terms) s i a.types_set a.terms_set ∙ no_more t (breaks_set s i))
     ((λ j. b.constant_is j || same_counts h i j))
     (no_more t (breaks_term i))
     ((λ j. b.order_is j || is_out_of_order (a.body_is j) (a.types_are j) (a.arguments_are j) i) ∙ ap (λ v. (t && broken_by_record h s rule.Order) || v) (same_order s i))
+    ((λ j. b.clause_is j || same_names h s (was_named m) i names j))
     (b.key_is ∙ sym (or_false (t && broken_by_record h s rule.Key))))
   where
     no_more : (t b : Bool) → b ≡ ((t && false) || b)
@@ -171,14 +183,14 @@ same_broken s w x i is a b =
 first_passes : (place n : ℕ) → 1 ≤ n → nat_eq (place + n) 0 ≡ false
 first_passes place n h = ne_eqb (place + n) 0 (λ e. omega (arith, h, e))
 
-one_more : (c : Captured) (all : List Instr) (i : Instr) (is : List Instr) (w v : Work) (x y : Whole) → bytes_of all < 2 ^ 32
-    → GoesOn (home_in w.home) c all (i ∷ is) w x → IsFirst (told w x i) None → IsRun i w v → IsNoWhole y → GoesOn (home_in w.home) c all is v y
-one_more c all i is w v x y short g f r clean =
+one_more : (c : Captured) (all : List Instr) (i : Instr) (is : List Instr) (w v : Work) (m n : BTreeMap ℕ ℕ) (x y : Whole) → bytes_of all < 2 ^ 32
+    → GoesOn (home_in w.home) c all (i ∷ is) w m x → IsFirst (told w (was_named m) x i) None → IsRun i w v → HasNamed (names_of i) m n → IsNoWhole y → GoesOn (home_in w.home) c all is v n y
+one_more c all i is w v m n x y short g f r names clean =
     let h = home_in w.home in
     let s = g.0 in
     let count : s.place + (length_of i + bytes_of is) ≡ bytes_of all = g.3 in
     let place : (behind h s i).place ≡ s.place + length_of i = ap (λ (o : Outline). o.place) (outline_is h s i) in
-    let fine = same_broken s w x i is g.2 g.4 ∙ first_none (told w x i) f in
+    let fine = same_broken s w m x i is g.2 g.5 g.4 ∙ first_none (told w (was_named m) x i) f in
     let past : nat_eq (behind h s i).place 0 ≡ false = ap (λ n. nat_eq n 0) place ∙ first_passes s.place (length_of i) (some_bytes i) in (
       behind h s i,
       g.1 ∙ ap (λ o. unless_broken o s.place (run_on (λ t. run_of judged h any_clause t is) (after h any_clause s i))) fine ∙ ap (run_on (λ t. run_of judged h any_clause t is)) (comes_behind h s i),
@@ -188,27 +200,29 @@ one_more c all i is w v x y short g f r clean =
         register_is = clean.0 ∙ sym (ap (λ t. t && broken_by_record h (behind h s i) rule.Register) past);
         constant_is = clean.1 ∙ sym (ap (λ t. t && broken_by_record h (behind h s i) rule.Constant) past);
         order_is = clean.2 ∙ sym (ap (λ t. t && broken_by_record h (behind h s i) rule.Order) past);
-        key_is = clean.3 ∙ sym (ap (λ t. t && broken_by_record h (behind h s i) rule.Key) past);
+        clause_is = clean.3 ∙ sym (ap (λ t. t && broken_by_record h (behind h s i) rule.Clause) past);
+        key_is = clean.4 ∙ sym (ap (λ t. t && broken_by_record h (behind h s i) rule.Key) past);
       },
+      named_on h s i m n g.5 names,
     )
 
-pub goes_on : (h : Home) (c : Captured) (all : List Instr) (i : Instr) (is : List Instr) (w v : Work) (x y : Whole) → home_in w.home ≡ h → bytes_of all < 2 ^ 32
-    → GoesOn h c all (i ∷ is) w x → IsFirst (told w x i) None → IsRun i w v → IsNoWhole y → GoesOn h c all is v y
-goes_on h c all i is w v x y e short = subst (λ h. GoesOn h c all (i ∷ is) w x → IsFirst (told w x i) None → IsRun i w v → IsNoWhole y → GoesOn h c all is v y) e (one_more c all i is w v x y short)
+pub goes_on : (h : Home) (c : Captured) (all : List Instr) (i : Instr) (is : List Instr) (w v : Work) (m n : BTreeMap ℕ ℕ) (x y : Whole) → home_in w.home ≡ h → bytes_of all < 2 ^ 32
+    → GoesOn h c all (i ∷ is) w m x → IsFirst (told w (was_named m) x i) None → IsRun i w v → HasNamed (names_of i) m n → IsNoWhole y → GoesOn h c all is v n y
+goes_on h c all i is w v m n x y e short = subst (λ h. GoesOn h c all (i ∷ is) w m x → IsFirst (told w (was_named m) x i) None → IsRun i w v → HasNamed (names_of i) m n → IsNoWhole y → GoesOn h c all is v n y) e (one_more c all i is w v m n x y short)
 
-refused_at : (c : Captured) (all : List Instr) (i : Instr) (is : List Instr) (w : Work) (x : Whole) (r : Rule) → bytes_of all < 2 ^ 32
-    → GoesOn (home_in w.home) c all (i ∷ is) w x → IsFirst (told w x i) (Some r) → IsRan (run_of judged (home_in w.home) any_clause (first_state (home_in w.home).self c) all) (Some (w.place, r))
-refused_at c all i is w x r short g f j =
+refused_at : (c : Captured) (all : List Instr) (i : Instr) (is : List Instr) (w : Work) (m : BTreeMap ℕ ℕ) (x : Whole) (r : Rule) → bytes_of all < 2 ^ 32
+    → GoesOn (home_in w.home) c all (i ∷ is) w m x → IsFirst (told w (was_named m) x i) (Some r) → IsRan (run_of judged (home_in w.home) any_clause (first_state (home_in w.home).self c) all) (Some (w.place, r))
+refused_at c all i is w m x r short g f j =
     let h = home_in w.home in
     let s = g.0 in
     let count : s.place + (length_of i + bytes_of is) ≡ bytes_of all = g.3 in
     let p : w.place ≡ s.place = g.2.place_is in
-    let found = same_broken s w x i is g.2 g.4 ∙ first_some (told w x i) r f j in
+    let found = same_broken s w m x i is g.2 g.5 g.4 ∙ first_some (told w (was_named m) x i) r f j in
     (g.1 ∙ ap (λ o. unless_broken o s.place (run_on (λ t. run_of judged h any_clause t is) (after h any_clause s i))) found ∙ ap (λ n. Broken n r) (sym p), omega (arith, short, count, p))
 
-pub refused : (h : Home) (c : Captured) (all : List Instr) (i : Instr) (is : List Instr) (w : Work) (x : Whole) (r : Rule) → home_in w.home ≡ h → bytes_of all < 2 ^ 32
-    → GoesOn h c all (i ∷ is) w x → IsFirst (told w x i) (Some r) → IsRan (run_of judged h any_clause (first_state h.self c) all) (Some (w.place, r))
-refused h c all i is w x r e short = subst (λ h. GoesOn h c all (i ∷ is) w x → IsFirst (told w x i) (Some r) → IsRan (run_of judged h any_clause (first_state h.self c) all) (Some (w.place, r))) e (refused_at c all i is w x r short)
+pub refused : (h : Home) (c : Captured) (all : List Instr) (i : Instr) (is : List Instr) (w : Work) (m : BTreeMap ℕ ℕ) (x : Whole) (r : Rule) → home_in w.home ≡ h → bytes_of all < 2 ^ 32
+    → GoesOn h c all (i ∷ is) w m x → IsFirst (told w (was_named m) x i) (Some r) → IsRan (run_of judged h any_clause (first_state h.self c) all) (Some (w.place, r))
+refused h c all i is w m x r e short = subst (λ h. GoesOn h c all (i ∷ is) w m x → IsFirst (told w (was_named m) x i) (Some r) → IsRan (run_of judged h any_clause (first_state h.self c) all) (Some (w.place, r))) e (refused_at c all i is w m x r short)
 
 -- the end of the instructions, where the record is judged as a whole if there was none
 abbrev pub at_end : Option Rule → ℕ → Option (ℕ × Rule)
@@ -226,12 +240,12 @@ none_there false = refl
 whole_broken : (h : Home) (s : State) (x : Whole) → IsWhole h s x → broken_of judged h s [] ≡ first_broken (breaks (broken_whole x)) judged
 whole_broken h s x b =
     let t : Bool = nat_eq s.place 0 in
-    whole_at t (broken_by_record h s) ∙ sym (first_same (breaks (broken_whole x)) (λ r. t && broken_by_record h s r) b.register_is (none_there t) b.constant_is (none_there t) b.order_is b.key_is)
+    whole_at t (broken_by_record h s) ∙ sym (first_same (breaks (broken_whole x)) (λ r. t && broken_by_record h s r) b.register_is (none_there t) b.constant_is (none_there t) b.order_is b.clause_is b.key_is)
 
-pub ended : (h : Home) (c : Captured) (all : List Instr) (w : Work) (x : Whole) (o : Option Rule) → bytes_of all < 2 ^ 32
-    → GoesOn h c all [] w x → IsFirst (broken_whole x) o → IsRan (run_of judged h any_clause (first_state h.self c) all) (at_end o w.place)
-ended h c all w x None short g f = (g.0, g.1 ∙ ap (λ o. unless_broken o g.0.place (Done g.0)) (whole_broken h g.0 x g.4 ∙ first_none (broken_whole x) f))
-ended h c all w x (Some r) short g f = λ j.
+pub ended : (h : Home) (c : Captured) (all : List Instr) (w : Work) (m : BTreeMap ℕ ℕ) (x : Whole) (o : Option Rule) → bytes_of all < 2 ^ 32
+    → GoesOn h c all [] w m x → IsFirst (broken_whole x) o → IsRan (run_of judged h any_clause (first_state h.self c) all) (at_end o w.place)
+ended h c all w m x None short g f = (g.0, g.1 ∙ ap (λ o. unless_broken o g.0.place (Done g.0)) (whole_broken h g.0 x g.4 ∙ first_none (broken_whole x) f))
+ended h c all w m x (Some r) short g f = λ j.
     let s = g.0 in
     let p : w.place ≡ s.place = g.2.place_is in
     let count : s.place + 0 ≡ bytes_of all = g.3 in
@@ -247,16 +261,20 @@ from_zero_has : (r n : ℕ) → member r (from_zero n) ≡ nat_lt r n
 from_zero_has r zero = sym (le-ltb r 0 (omega arith))
 from_zero_has r (suc n) = member_append r (from_zero n) (n ∷ []) ∙ ap (λ b. b || (nat_eq r n || false)) (from_zero_has r n) ∙ below_next r n (nat_lt r n) (nat_eq r n) refl refl
 
-judged_first : (h : Home) (s : State) (x : Whole) → s.place ≡ 0 → IsJudgedWhole h x → IsWhole h s x
-judged_first h s x e j = record {
+started_badly : (program : Bool) (wrong : Bool) (a b : Bool) → a ≡ b → (if program then wrong else not a) ≡ (if program then wrong else not b)
+started_badly p w a b e = ap (λ a. if p then w else not a) e
+
+judged_first : (h : Home) (s : State) (m : BTreeMap ℕ ℕ) (x : Whole) → s.place ≡ 0 → AreNamedBefore h.number h.records m → IsJudgedWhole h (was_named m) x → IsWhole h s x
+judged_first h s m x e names j = record {
   register_is = j.register_is ∙ ap (λ p. nat_eq p 0 && broken_by_record h s rule.Register) (sym e);
   constant_is = j.constant_is ∙ ap (λ p. nat_eq p 0 && broken_by_record h s rule.Constant) (sym e);
   order_is = j.order_is ∙ ap (λ p. nat_eq p 0 && broken_by_record h s rule.Order) (sym e);
+  clause_is = j.clause_is ∙ started_badly h.self.program (not (nat_eq (h.self.captured_types + h.self.captured) 0)) (was_named m h.number) (member h.number (named_before h.number h.records)) (names h.number) ∙ ap (λ p. nat_eq p 0 && broken_by_record h s rule.Clause) (sym e);
   key_is = j.key_is ∙ ap (λ p. nat_eq p 0 && broken_by_record h s rule.Key) (sym e);
 }
 
-begins : (c : Captured) (w : Work) (x : Whole) → IsStarted w → IsJudgedWhole (home_in w.home) x → GoesOn (home_in w.home) c w.home.record.now.code.items w.home.record.now.code.items w x
-begins c w x b j =
+begins : (c : Captured) (w : Work) (m : BTreeMap ℕ ℕ) (x : Whole) → IsStarted w → AreNamedBefore w.home.number w.home.records.now m → IsJudgedWhole (home_in w.home) (was_named m) x → GoesOn (home_in w.home) c w.home.record.now.code.items w.home.record.now.code.items w m x
+begins c w m x b names j =
     let r = w.home.record.now in (
       first_state r c,
       refl,
@@ -270,8 +288,9 @@ begins c w x b j =
         few_arguments = omega arith;
       },
       omega arith,
-      judged_first (home_in w.home) (first_state r c) x refl j,
+      judged_first (home_in w.home) (first_state r c) m x refl names j,
+      λ n. names n ∙ ap (member n) (append_nil_sym (named_before w.home.number w.home.records.now)),
     )
 
-pub begun : (h : Home) (c : Captured) (w : Work) (x : Whole) → home_in w.home ≡ h → IsStarted w → IsJudgedWhole (home_in w.home) x → GoesOn h c h.self.code.items h.self.code.items w x
-begun h c w x e b j = subst (λ h. GoesOn h c h.self.code.items h.self.code.items w x) e (begins c w x b j)
+pub begun : (h : Home) (c : Captured) (w : Work) (m : BTreeMap ℕ ℕ) (x : Whole) → home_in w.home ≡ h → IsStarted w → AreNamedBefore h.number h.records m → IsJudgedWhole h (was_named m) x → GoesOn h c h.self.code.items h.self.code.items w m x
+begun h c w m x e b = subst (λ h. AreNamedBefore h.number h.records m → IsJudgedWhole h (was_named m) x → GoesOn h c h.self.code.items h.self.code.items w m x) e (begins c w m x b)

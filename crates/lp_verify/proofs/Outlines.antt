@@ -1,7 +1,7 @@
 -- What an instruction does to the outline of a state.
-use Rattle.std.proofs.Common.{◌≡◌, ◌∙◌, ℕ, zero, suc, ◌+◌, List, [], ◌∷◌, ◌++◌, length, Bool, true, false, Option, Some, None, ap, refl}
+use Rattle.std.proofs.Common.{◌≡◌, ◌∙◌, ℕ, zero, suc, ◌+◌, List, [], ◌∷◌, ◌++◌, map, length, Bool, true, false, Option, Some, None, ap, refl, sym}
 use Rattle.std.specs.Prelude.{option_map, if◌then◌else◌}
-use Rattle.lp_lemmas.proofs.Lists.{length_push_suc}
+use Rattle.lp_lemmas.proofs.Lists.{length_push_suc, append_nil_sym}
 use Rattle.lp_model.specs.Flat.{Goal, Goals, no_goals, Clauses, no_clauses, clauses, clause}
 use Rattle.lp_calculus.specs.Term.{index, atom, integer, text}
 use Rattle.lp_calculus.specs.Typing.{int_type, string_type}
@@ -14,7 +14,8 @@ use Rattle.lp_code.specs.Operands.{type_set, term_set}
 use Rattle.lp_code.specs.States.{Frame, Captured, State, Home, end_variables, innermost_block, depth, under_assumption}
 use Rattle.lp_code.specs.Steps.{put_term, argument_at, constant_of, with_argument, opens, leave_block, leave_from, leave, turn_from, turn, goal_of_block, effect, clauses_of_records, captured_by, handed, is_right_end, settled, passed, after}
 use Rattle.lp_code.specs.Denote.{any_clause}
-use Rattle.lp_verify.specs.inner.Outline.{Outline, outline, body_behind, types_behind, arguments_behind, outline_behind}
+use Rattle.lp_verify.specs.inner.Outline.{Outline, outline, body_behind, types_behind, arguments_behind, named_with, outline_behind}
+use Rattle.lp_code.specs.Rules.{names_of}
 
 block_left : (s : State) (f : Frame) (fs : List Frame) (o : Option Goal) → outline (leave_block s f fs o) ≡ outline s
 block_left s f fs None = refl
@@ -44,7 +45,7 @@ settles home (suc n) s = settled_if home n s (is_right_end s.place (innermost_bl
 
 -- what an instruction does before it is passed
 abbrev pub acted : Instr → Outline → Outline
-acted i o = record { place = o.place; types_set = o.types_set; terms_set = o.terms_set; in_body = body_behind i o.in_body; types = types_behind i o.types; arguments = arguments_behind i o.arguments }
+acted i o = record { place = o.place; types_set = o.types_set; terms_set = o.terms_set; in_body = body_behind i o.in_body; types = types_behind i o.types; arguments = arguments_behind i o.arguments; named = named_with o.named (names_of i) }
 
 -- an instruction comes to a state
 pub record Comes (h : Home) (s : State) (i : Instr) : Type 0 where
@@ -69,6 +70,21 @@ took_type s T = ap (λ n. record (outline s) { types = n }) (length_push_suc s.h
 
 abbrev assuming : Home → State → (ns ts rs : List ℕ) → Clauses → State
 assuming h s ns ts rs cs = record (opens s (under_assumption cs)) { assumed = s.assumed ++ handed ns (captured_by s ts rs) }
+
+pub named_with_is : (ns ms : List ℕ) → named_with ns ms ≡ ns ++ ms
+named_with_is ns [] = append_nil_sym ns
+named_with_is ns (m ∷ ms) = refl
+
+names_handed : (ns : List ℕ) (c : Captured) → map (λ a. a.0) (handed ns c) ≡ ns
+names_handed [] c = refl
+names_handed (n ∷ ns) c = ap (λ ms. n ∷ ms) (names_handed ns c)
+
+names_added : (xs : List (ℕ × Captured)) (ns : List ℕ) (c : Captured) → map (λ a. a.0) (xs ++ handed ns c) ≡ map (λ a. a.0) xs ++ ns
+names_added [] ns c = names_handed ns c
+names_added (x ∷ xs) ns c = ap (λ ms. x.0 ∷ ms) (names_added xs ns c)
+
+assumed_named : (h : Home) (s : State) (ns ts rs : List ℕ) (cs : Clauses) → outline (assuming h s ns ts rs cs) ≡ record (outline s) { named = named_with (map (λ a. a.0) s.assumed) ns }
+assumed_named h s ns ts rs cs = ap (λ ms. record (outline s) { named = ms }) (names_added s.assumed ns (captured_by s ts rs) ∙ sym (named_with_is (map (λ a. a.0) s.assumed) ns))
 
 pub comes : (h : Home) (s : State) (i : Instr) → Comes h s i
 comes h s (on.TyCon d k ts) = came h s (on.TyCon d k ts) _ refl refl
@@ -100,7 +116,7 @@ comes h s on.Cut = came h s on.Cut _ refl refl
 comes h s (on.Sigma d t) = came h s (on.Sigma d t) _ refl refl
 comes h s (on.All d t) = came h s (on.All d t) _ refl refl
 comes h s on.EndAll = came h s on.EndAll _ refl (left h.number s)
-comes h s (on.Assume ns ts rs) = let cs = any_clauses (captured_by s ts.items rs.items) ns.items in came h s (on.Assume ns ts rs) (assuming h s ns.items ts.items rs.items cs.0) (ap (option_map (assuming h s ns.items ts.items rs.items)) cs.1) refl
+comes h s (on.Assume ns ts rs) = let cs = any_clauses (captured_by s ts.items rs.items) ns.items in came h s (on.Assume ns ts rs) (assuming h s ns.items ts.items rs.items cs.0) (ap (option_map (assuming h s ns.items ts.items rs.items)) cs.1) (assumed_named h s ns.items ts.items rs.items cs.0)
 comes h s on.EndAssume = came h s on.EndAssume _ refl (left h.number s)
 comes h s (on.Either n) = came h s (on.Either n) _ refl refl
 comes h s (on.Jump n) = came h s (on.Jump n) _ refl (turned h.number s n)

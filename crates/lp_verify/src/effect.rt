@@ -99,7 +99,9 @@ fn is_behind_neck(in_body: bool, instr: &Instr) -> bool
 
 impl<'a> Work<'a> {
     // What the instruction puts into a type register, or `o`.
-    fn built_type(&self, shared: &mut Shared<'a>, instr: &Instr) -> Result<TypeId, Memory> {
+    fn built_type(&self, shared: &mut Shared<'a>, instr: &Instr) -> Result<TypeId, Memory>
+        ensures { shared.new.named ≡ shared.old.named }
+    {
         match instr {
             Instr::TyCon(_, kind, parts) => {
                 let parts = self.types.all(shared.alloc, parts.as_slice())?;
@@ -119,7 +121,9 @@ impl<'a> Work<'a> {
     }
 
     // Hands these registers to the records that an ASSUME names.
-    fn hand(&self, shared: &mut Shared<'a>, types: &[u16], terms: &[u16]) -> Result<(), Memory> {
+    fn hand(&self, shared: &mut Shared<'a>, types: &[u16], terms: &[u16]) -> Result<(), Memory>
+        ensures { shared.new.named ≡ shared.old.named }
+    {
         let mut handed = Vec::new(shared.alloc);
         for register in terms {
             handed.push(self.term_in(&shared.types, *register).handed())?;
@@ -131,7 +135,9 @@ impl<'a> Work<'a> {
         Ok(())
     }
 
-    fn hand_on(&self, shared: &mut Shared<'a>, instr: &Instr) -> Result<(), Memory> {
+    fn hand_on(&self, shared: &mut Shared<'a>, instr: &Instr) -> Result<(), Memory>
+        ensures { shared.new.named ≡ shared.old.named }
+    {
         match instr {
             Instr::Assume(_, types, terms) => self.hand(shared, types.as_slice(), terms.as_slice()),
             _ => Ok(()),
@@ -145,7 +151,8 @@ impl<'a> Work<'a> {
         instr: &Instr,
         typed: Typed<'a>,
     ) -> Result<(), Memory>
-        ensures { OnOk result (IsActed instr.now self.old self.new) }
+        ensures acted { OnOk result (IsActed instr.now self.old self.new) }
+        ensures named { shared.new.named ≡ shared.old.named }
     {
         let of = self.built_type(shared, instr)?;
         self.types.make(type_set(instr), of)?;

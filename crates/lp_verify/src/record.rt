@@ -1,15 +1,17 @@
 // One record at work: its instructions are run once each, in order.
-ghost use Rattle.std.specs.Prelude.{◌≡◌, ◌<◌, ◌^◌, ℕ, IfOk, None, if◌then◌else◌};
+ghost use Rattle.std.specs.Prelude.{◌≡◌, ◌<◌, ◌^◌, ℕ, IfOk, None, false, if◌then◌else◌};
 ghost use Rattle.lp_verify.specs.Held.{was_set};
+ghost use Rattle.lp_verify.specs.Named.{was_named, HasNamed};
 ghost use Rattle.std.specs.List.{All};
 ghost use Rattle.lp_code.specs.Length.{Fits};
+ghost use Rattle.lp_code.specs.Rules.{names_in};
 ghost use Rattle.lp_code.specs.States.{Captured as Start};
 ghost use Rattle.lp_code.specs.Denote.{run_of, any_clause, first_state, first_key, key_is, has_right_key};
 ghost use Rattle.lp_code.specs.Groups.{looked_key};
 ghost use Rattle.lp_verify.specs.inner.Keys.{IsKeyOf};
 ghost use Rattle.lp_verify.specs.Judged.{judged, bytes_of};
 ghost use Rattle.lp_verify.specs.inner.Told.{told, IsFirst};
-ghost use Rattle.lp_verify.specs.inner.At.{home_in, IsStarted, IsRan, IsStepped};
+ghost use Rattle.lp_verify.specs.inner.At.{home_in, IsStarted, AreNamedBefore, IsRan, IsStepped};
 
 use crate::arguments::Takings;
 use crate::blocks::{Blocks, Places};
@@ -74,7 +76,9 @@ pub(crate) struct Work<'a> {
 }
 
 impl<'a> Shared<'a> {
-    pub(crate) fn new(alloc: Global) -> Result<Shared<'a>, Memory> {
+    pub(crate) fn new(alloc: Global) -> Result<Shared<'a>, Memory>
+        ensures { IfOk result (λ shared. (n : ℕ) → was_named shared.named n ≡ false) }
+    {
         Ok(Shared {
             alloc,
             types: Types::new(alloc)?,
@@ -158,6 +162,7 @@ impl<'a> Work<'a> {
     fn start(shared: &mut Shared<'a>, home: Home<'a>) -> Result<Work<'a>, Memory>
         requires { All Fits home.record.now.code.items }
         ensures home { IfOk result (λ work. work.home ≡ home.entry) }
+        ensures named { shared.new.named ≡ shared.old.named }
         ensures started { IfOk result (λ work. IsStarted work) }
     {
         let alloc = shared.alloc;
@@ -194,7 +199,7 @@ impl<'a> Work<'a> {
         instr: &'a Instr,
     ) -> Result<Option<Rule>, Memory>
         requires { Fits instr.now }
-        ensures { IfOk result (λ found. IsFirst (told self.old whole instr.now) found × IsStepped instr.now self.old self.new found) }
+        ensures { IfOk result (λ found. IsFirst (told self.old (was_named shared.old.named) whole instr.now) found × IsStepped instr.now shared.old.named shared.new.named self.old self.new found) }
     {
         let typed = match self.judge(shared, whole, instr)? {
             Ok(typed) => typed,
@@ -219,7 +224,8 @@ pub(crate) fn judge_record<'a>(
     home: Home<'a>,
 ) -> Result<Option<(u64, Rule)>, Memory>
     requires { All Fits home.record.now.code.items }
-    ensures { IfOk result (λ found. (c : Start) → bytes_of home.entry.record.now.code.items < 2 ^ 32 → IsRan (run_of judged (home_in home.entry) any_clause (first_state home.entry.record.now c) home.entry.record.now.code.items) found) }
+    ensures { IfOk result (λ found. ((c : Start) → AreNamedBefore home.entry.number home.entry.records.now shared.old.named → bytes_of home.entry.record.now.code.items < 2 ^ 32 → IsRan (run_of judged (home_in home.entry) any_clause (first_state home.entry.record.now c) home.entry.record.now.code.items) found)
+        × (found ≡ None → HasNamed (names_in home.entry.record.now.code.items) shared.old.named shared.new.named)) }
 {
     let mut work = Work::start(shared, home)?;
     let mut whole = work.broken_as_a_whole(shared)?;

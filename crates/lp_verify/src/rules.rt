@@ -1,13 +1,14 @@
 // The rules, each for the next instruction: whether it breaks it, or the record as a whole does where it is the first one.
 
-ghost use Rattle.std.specs.Prelude.{◌≡◌, ◌||◌, ◌++◌, IfOk, MatchOption, Some, None, length, nat_le};
+ghost use Rattle.std.specs.Prelude.{◌≡◌, ◌||◌, ◌∷◌, [], ◌++◌, IfOk, MatchOption, Some, None, true, false, length, nat_le, nat_lt, nat_eq, ◌&&◌, slice_get, ℕ, Bool};
 ghost use Rattle.std.specs.List.{list_any};
 ghost use Rattle.lp_code.specs.Operands.{types_read, terms_read, type_set, term_set};
-ghost use Rattle.lp_code.specs.Rules.{breaks_term, is_count, is_no_term};
+ghost use Rattle.lp_code.specs.Rules.{breaks_term, is_count, is_no_term, starts_with_as_many, is_assumed_record, names_of};
 ghost use Rattle.lp_verify.specs.Listed.{listed};
 ghost use Rattle.lp_verify.specs.Held.{was_set};
+ghost use Rattle.lp_verify.specs.Named.{was_named, HasNamed};
 ghost use Rattle.lp_verify.specs.Scheme.{tables_in};
-ghost use Rattle.lp_verify.specs.inner.Told.{reaches_past, sets_again, has_wrong_count, is_off, is_out_of_order, told, ArePassed, IsFirst, rule_of};
+ghost use Rattle.lp_verify.specs.inner.Told.{reaches_past, sets_again, has_wrong_count, is_off, is_out_of_order, is_fine, are_fine, names_badly, told, ArePassed, IsFirst, rule_of};
 
 use crate::blocks::Block;
 use crate::built::Head;
@@ -42,7 +43,9 @@ fn breaks_term(instr: &Instr) -> bool
 }
 
 // Whether the record is one that an ASSUME with so many types and terms may name.
-fn starts_with(of: &Record, types: usize, terms: usize) -> bool {
+fn starts_with(of: &Record, types: usize, terms: usize) -> bool
+    ensures { result ≡ starts_with_as_many of.now types terms }
+{
     !of.program && usize::from(of.captured_types) == types && usize::from(of.captured) == terms
 }
 
@@ -90,7 +93,7 @@ impl<'a> Work<'a> {
     }
 
     fn breaks_register(&self, whole: Whole, instr: &Instr, types: &[u16], terms: &[u16]) -> bool
-        ensures { types.now ≡ types_read instr.now → terms.now ≡ terms_read instr.now → result ≡ (told self.now whole instr.now).register }
+        ensures { types.now ≡ types_read instr.now → terms.now ≡ terms_read instr.now → result ≡ (whole.register || reaches_past self.now.home.record.now.types self.now.home.record.now.registers instr.now) }
     {
         whole.register || self.reaches_past(instr, types, terms)
     }
@@ -123,7 +126,7 @@ impl<'a> Work<'a> {
     }
 
     fn breaks_constant(&self, whole: Whole, instr: &Instr) -> bool
-        ensures { result ≡ (told self.now whole instr.now).constant }
+        ensures { result ≡ (whole.constant || has_wrong_count (tables_in self.now.home.tables.now) instr.now) }
     {
         whole.constant || self.has_wrong_count(instr)
     }
@@ -179,7 +182,7 @@ impl<'a> Work<'a> {
     }
 
     fn breaks_order(&self, whole: Whole, instr: &Instr) -> bool
-        ensures { result ≡ (told self.now whole instr.now).order }
+        ensures { result ≡ (whole.order || is_out_of_order self.now.in_body (length self.now.head.types.items) self.now.head.arguments instr.now) }
     {
         whole.order || self.is_out_of_order(instr)
     }
@@ -231,6 +234,35 @@ impl<'a> Work<'a> {
         whole.block || self.blocks.has_passed(self.place) || self.breaks_nesting(instr)
     }
 
+    // Whether the record of this number is a later one that an ASSUME with so many types and terms may name.
+    fn may_be_assumed(&self, number: u32, types: usize, terms: usize) -> bool
+        ensures { result ≡ (nat_lt self.now.home.number number && is_assumed_record (slice_get self.now.home.records.now number) types terms) }
+    {
+        match self.home.records.get(number as usize) {
+            Some(record) => number > self.home.number && starts_with(record, types, terms),
+            None => false,
+        }
+    }
+
+    // Whether an ASSUME may name the record; it is named from here on.
+    fn name_one(
+        &self,
+        shared: &mut Shared<'a>,
+        number: u32,
+        types: usize,
+        terms: usize,
+    ) -> Result<bool, Memory>
+        ensures fine { IfOk result (λ fine. fine ≡ is_fine self.now.home.number self.now.home.records.now (was_named shared.old.named) types terms number) }
+        ensures named { IfOk result (λ fine. fine ≡ true → HasNamed (number ∷ []) shared.old.named shared.new.named) }
+    {
+        if !self.may_be_assumed(number, types, terms) {
+            return Ok(false);
+        }
+        let captured = shared.handed.len();
+        let before = shared.named.insert(number, captured)?;
+        Ok(before.is_none())
+    }
+
     // Whether an ASSUME may name the records; those that it may are named from here on.
     fn name(
         &self,
@@ -238,23 +270,23 @@ impl<'a> Work<'a> {
         records: &[u32],
         types: usize,
         terms: usize,
-    ) -> Result<bool, Memory> {
-        let captured = shared.handed.len();
+    ) -> Result<bool, Memory>
+        ensures fine { IfOk result (λ fine. fine ≡ are_fine self.now.home.number self.now.home.records.now (was_named shared.old.named) types terms records.now) }
+        ensures named { IfOk result (λ fine. fine ≡ true → HasNamed records.now shared.old.named shared.new.named) }
+    {
         for number in records {
-            let Some(record) = self.home.records.get(*number as usize) else {
-                return Ok(false);
-            };
-            if *number <= self.home.number
-                || !starts_with(record, types, terms)
-                || shared.named.insert(*number, captured)?.is_some()
-            {
+            let fine = self.name_one(shared, *number, types, terms)?;
+            if !fine {
                 return Ok(false);
             }
         }
         Ok(true)
     }
 
-    fn breaks_clause(&self, shared: &mut Shared<'a>, instr: &Instr) -> Result<bool, Memory> {
+    fn names_badly(&self, shared: &mut Shared<'a>, instr: &Instr) -> Result<bool, Memory>
+        ensures clause { IfOk result (λ broken. broken ≡ names_badly self.now.home.number self.now.home.records.now self.now.home.record.now.program (was_named shared.old.named) instr.now) }
+        ensures named { IfOk result (λ broken. broken ≡ false → HasNamed (names_of instr.now) shared.old.named shared.new.named) }
+    {
         match instr {
             Instr::Assume(records, types, terms) => {
                 let fine = self.name(shared, records.as_slice(), types.len(), terms.len())?;
@@ -265,6 +297,21 @@ impl<'a> Work<'a> {
         }
     }
 
+    fn breaks_clause(
+        &self,
+        shared: &mut Shared<'a>,
+        whole: Whole,
+        instr: &Instr,
+    ) -> Result<bool, Memory>
+        ensures clause { IfOk result (λ broken. broken ≡ (whole.clause || names_badly self.now.home.number self.now.home.records.now self.now.home.record.now.program (was_named shared.old.named) instr.now)) }
+        ensures named { IfOk result (λ broken. broken ≡ false → HasNamed (names_of instr.now) shared.old.named shared.new.named) }
+    {
+        if whole.clause {
+            return Ok(true);
+        }
+        self.names_badly(shared, instr)
+    }
+
     // The rules behind those on types.
     fn broken_behind(
         &self,
@@ -273,24 +320,29 @@ impl<'a> Work<'a> {
         instr: &Instr,
         terms: &[u16],
     ) -> Result<Option<Rule>, Memory>
-        ensures { ArePassed (told self.now whole instr.now) → IfOk result (λ found. IsFirst (told self.now whole instr.now) found) }
+        ensures first { ArePassed (told self.now (was_named shared.old.named) whole instr.now) → IfOk result (λ found. IsFirst (told self.now (was_named shared.old.named) whole instr.now) found) }
+        ensures named { IfOk result (λ found. found ≡ None → HasNamed (names_of instr.now) shared.old.named shared.new.named) }
     {
         if self.breaks_index(shared, instr, terms) {
             return Ok(Some(Rule::Index));
         }
-        if breaks_term(instr) {
+        let term = breaks_term(instr);
+        if term {
             return Ok(Some(Rule::Term));
         }
-        if self.breaks_order(whole, instr) {
+        let order = self.breaks_order(whole, instr);
+        if order {
             return Ok(Some(Rule::Order));
         }
         if whole.head || self.breaks_head(shared, instr) {
             return Ok(Some(Rule::Head));
         }
-        if self.breaks_block(whole, instr) {
+        let block = self.breaks_block(whole, instr);
+        if block {
             return Ok(Some(Rule::Block));
         }
-        if whole.clause || self.breaks_clause(shared, instr)? {
+        let clause = self.breaks_clause(shared, whole, instr)?;
+        if clause {
             return Ok(Some(Rule::Clause));
         }
         if whole.key {
@@ -302,23 +354,27 @@ impl<'a> Work<'a> {
     // The rules before those on types.
     fn broken_before(
         &self,
+        shared: &Shared<'a>,
         whole: Whole,
         instr: &Instr,
         types: &[u16],
         terms: &[u16],
     ) -> Option<Rule>
-        ensures { types.now ≡ types_read instr.now → terms.now ≡ terms_read instr.now → MatchOption result (ArePassed (told self.now whole instr.now)) (λ rule. IsFirst (told self.now whole instr.now) (Some rule)) }
+        ensures { types.now ≡ types_read instr.now → terms.now ≡ terms_read instr.now → MatchOption result (ArePassed (told self.now (was_named shared.now.named) whole instr.now)) (λ rule. IsFirst (told self.now (was_named shared.now.named) whole instr.now) (Some rule)) }
     {
-        if self.breaks_register(whole, instr, types, terms) {
+        let register = self.breaks_register(whole, instr, types, terms);
+        if register {
             return Some(Rule::Register);
         }
         if self.breaks_unset(types, terms) {
             return Some(Rule::Unset);
         }
-        if self.breaks_set(instr) {
+        let set = self.breaks_set(instr);
+        if set {
             return Some(Rule::Set);
         }
-        if self.breaks_constant(whole, instr) {
+        let constant = self.breaks_constant(whole, instr);
+        if constant {
             return Some(Rule::Constant);
         }
         None
@@ -331,11 +387,12 @@ impl<'a> Work<'a> {
         whole: Whole,
         instr: &'a Instr,
     ) -> Result<Result<Typed<'a>, Rule>, Memory>
-        ensures { IfOk result (λ found. IsFirst (told self.now whole instr.now) (rule_of found)) }
+        ensures { IfOk result (λ found. IsFirst (told self.now (was_named shared.old.named) whole instr.now) (rule_of found) × (rule_of found ≡ None → HasNamed (names_of instr.now) shared.old.named shared.new.named)) }
     {
         let types = types_read(shared.alloc, instr)?;
         let terms = terms_read(shared.alloc, instr)?;
-        if let Some(rule) = self.broken_before(whole, instr, types.as_slice(), terms.as_slice()) {
+        let before = self.broken_before(shared, whole, instr, types.as_slice(), terms.as_slice());
+        if let Some(rule) = before {
             return Ok(Err(rule));
         }
         let typed = self.typed(shared, instr)?;

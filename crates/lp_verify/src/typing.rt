@@ -1,6 +1,9 @@
 // What an instruction builds, where it is well typed.
 
+ghost use Rattle.std.specs.Prelude.{◌≡◌};
+
 use crate::built::{Built, Head};
+use crate::loose::{Lists, Loose};
 use crate::record::{Shared, Work};
 use crate::types::Types;
 use lp_base::Memory;
@@ -43,6 +46,22 @@ fn applied_type(types: &Types, function: TypeId, arguments: &[Built<'_>]) -> Opt
     Some(rest)
 }
 
+// What is loose in a term and in others; None where an index has two types.
+fn all_joined(
+    lists: &mut Lists,
+    first: Loose,
+    others: &[Built<'_>],
+) -> Result<Option<Loose>, Memory> {
+    let mut loose = first;
+    for other in others {
+        match lists.joined(loose, other.loose)? {
+            Some(joined) => loose = joined,
+            None => return Ok(None),
+        }
+    }
+    Ok(Some(loose))
+}
+
 impl<'a> Work<'a> {
     pub(crate) fn type_in(&self, types: &Types, register: u16) -> TypeId {
         self.types.get(register).unwrap_or(types.proposition)
@@ -69,7 +88,9 @@ impl<'a> Work<'a> {
         shared: &mut Shared<'a>,
         constant: u32,
         registers: &[u16],
-    ) -> Result<TypeId, Memory> {
+    ) -> Result<TypeId, Memory>
+        ensures { shared.new.named ≡ shared.old.named }
+    {
         let types = self.types.all(shared.alloc, registers)?;
         match self.home.tables.scheme(constant) {
             Some((bank, scheme)) if usize::from(scheme.type_vars) == types.len() => {
@@ -82,12 +103,9 @@ impl<'a> Work<'a> {
     }
 
     // An abstraction over index 0 of the body, which is of this type.
-    fn abstraction(
-        &self,
-        shared: &mut Shared<'a>,
-        body: u16,
-        of: u16,
-    ) -> Result<Typed<'a>, Memory> {
+    fn abstraction(&self, shared: &mut Shared<'a>, body: u16, of: u16) -> Result<Typed<'a>, Memory>
+        ensures { shared.new.named ≡ shared.old.named }
+    {
         let body = self.term_in(&shared.types, body);
         let from = self.type_in(&shared.types, of);
         match shared.lists.innermost(body.loose) {
@@ -105,19 +123,18 @@ impl<'a> Work<'a> {
         shared: &mut Shared<'a>,
         function: u16,
         arguments: &[u16],
-    ) -> Result<Typed<'a>, Memory> {
+    ) -> Result<Typed<'a>, Memory>
+        ensures { shared.new.named ≡ shared.old.named }
+    {
         let function = self.term_in(&shared.types, function);
         let arguments = self.terms.all(shared.alloc, arguments)?;
         let Some(of) = applied_type(&shared.types, function.of, arguments.as_slice()) else {
             return Ok(Typed::Ill);
         };
-        let mut loose = function.loose;
-        for argument in &arguments {
-            match shared.lists.joined(loose, argument.loose)? {
-                Some(joined) => loose = joined,
-                None => return Ok(Typed::Ill),
-            }
-        }
+        let Some(loose) = all_joined(&mut shared.lists, function.loose, arguments.as_slice())?
+        else {
+            return Ok(Typed::Ill);
+        };
         if arguments.is_empty() {
             return Ok(Typed::Ill);
         }
@@ -134,7 +151,9 @@ impl<'a> Work<'a> {
     }
 
     // What the instruction puts into a register.
-    fn put(&self, shared: &mut Shared<'a>, instr: &'a Instr) -> Result<Typed<'a>, Memory> {
+    fn put(&self, shared: &mut Shared<'a>, instr: &'a Instr) -> Result<Typed<'a>, Memory>
+        ensures { shared.new.named ≡ shared.old.named }
+    {
         match instr {
             Instr::New(_, of) => Ok(self.variable(&shared.types, *of, Head::Own)),
             Instr::Sigma(_, of) => Ok(self.variable(&shared.types, *of, Head::Other)),
@@ -180,7 +199,9 @@ impl<'a> Work<'a> {
     }
 
     // What comes of the types of an argument of the head.
-    fn got(&self, shared: &mut Shared<'a>, instr: &'a Instr) -> Result<Typed<'a>, Memory> {
+    fn got(&self, shared: &mut Shared<'a>, instr: &'a Instr) -> Result<Typed<'a>, Memory>
+        ensures { shared.new.named ≡ shared.old.named }
+    {
         match instr {
             Instr::GetVar(number, _) => match self.head.argument_type(&shared.types, *number) {
                 Some(of) => Ok(Typed::Built(Built::closed(of, Head::Own))),
@@ -209,7 +230,9 @@ impl<'a> Work<'a> {
         &self,
         shared: &mut Shared<'a>,
         instr: &'a Instr,
-    ) -> Result<Typed<'a>, Memory> {
+    ) -> Result<Typed<'a>, Memory>
+        ensures { shared.new.named ≡ shared.old.named }
+    {
         match instr {
             Instr::Call(constant, types, terms) => {
                 let of = self.constant_type(shared, *constant, types.as_slice())?;

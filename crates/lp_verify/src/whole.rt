@@ -1,9 +1,10 @@
 // The rules of a record as a whole.
 
 ghost use Rattle.std.specs.Prelude.{◌≡◌, ◌||◌, IfOk, nat_lt, not};
+ghost use Rattle.lp_verify.specs.Named.{was_named};
 ghost use Rattle.lp_code.specs.Denote.{has_neck, head_passes, is_known_head};
 ghost use Rattle.lp_verify.specs.inner.Told.{IsFirst, broken_whole};
-ghost use Rattle.lp_verify.specs.inner.At.{IsNoWhole, IsJudgedWhole, home_in};
+ghost use Rattle.lp_verify.specs.inner.At.{IsNoWhole, IsJudgedWhole, home_in, starts_badly};
 
 use crate::built::Head;
 use crate::record::{Shared, Work};
@@ -121,7 +122,9 @@ impl<'a> Work<'a> {
         matches!(self.home.record.code.last(), Some(Instr::Proceed))
     }
 
-    fn breaks_start(&self, shared: &Shared<'a>) -> bool {
+    fn breaks_start(&self, shared: &Shared<'a>) -> bool
+        ensures { result ≡ starts_badly (home_in self.now.home) (was_named shared.now.named) }
+    {
         let record = self.home.record;
         if record.program {
             return record.captured_types != 0 || record.captured != 0;
@@ -131,7 +134,7 @@ impl<'a> Work<'a> {
 
     // What the record breaks as a whole.
     pub(crate) fn broken_as_a_whole(&self, shared: &Shared<'a>) -> Result<Whole, Memory>
-        ensures { IfOk result (λ whole. IsJudgedWhole (home_in self.now.home) whole) }
+        ensures { IfOk result (λ whole. IsJudgedWhole (home_in self.now.home) (was_named shared.now.named) whole) }
     {
         let record = self.home.record;
         let has_right_key = self.has_right_key(shared.alloc)?;

@@ -1,11 +1,13 @@
 -- A record at work, and the state that its instructions have come to.
-use Rattle.std.specs.Prelude.{◌≡◌, ℕ, ◌+◌, ◌≤◌, ◌<◌, ◌^◌, nat_eq, ◌||◌, ◌&&◌, List, length, Option, Some, None, true, false, nat_lt, not}
+use Rattle.std.specs.Prelude.{◌≡◌, ℕ, ◌+◌, ◌≤◌, ◌<◌, ◌^◌, nat_eq, ◌||◌, ◌&&◌, Bool, List, ◌++◌, map, length, Option, Some, None, true, false, nat_lt, not, if◌then◌else◌}
+use Rattle.std.specs.BTreeMap.{BTreeMap}
 use Rattle.lp_code.specs.declared.instruction.Instr.{Instr}
 use Rattle.lp_code.specs.declared.record.Record.{Record}
 use Rattle.lp_code.specs.declared.rule.Rule.{Rule}
 use Rattle.lp_code.specs.declared.rule.Rule.TheVariants as rule
 use Rattle.lp_code.specs.Length.{length_of}
 use Rattle.lp_code.specs.Operands.{type_set, term_set}
+use Rattle.lp_code.specs.Rules.{named_before, names_of, names_in}
 use Rattle.lp_code.specs.Symbolic.{Tables}
 use Rattle.lp_code.specs.States.{State, Home, Captured, member}
 use Rattle.lp_code.specs.Denote.{Ran, Done, Broken, broken_by_record, run_of, any_clause, first_state, fault_from, first_fault_of, head_passes, is_known_head, has_neck, has_right_key}
@@ -13,6 +15,7 @@ use Rattle.lp_verify.specs.declared.record.Work.{Work}
 use Rattle.lp_verify.specs.declared.record.Home as code_home
 use Rattle.lp_verify.specs.declared.whole.Whole.{Whole}
 use Rattle.lp_verify.specs.Held.{was_set}
+use Rattle.lp_verify.specs.Named.{was_named, HasNamed}
 use Rattle.lp_verify.specs.Scheme.{tables_in}
 use Rattle.lp_verify.specs.Judged.{judged, is_judged, bytes_of}
 use Rattle.lp_verify.specs.inner.Outline.{body_behind, types_behind, arguments_behind}
@@ -49,16 +52,21 @@ pub record IsActed (i : Instr) (old new : Work) : Type 0 where
   pub types_set : (r : ℕ) → was_set new.types r ≡ (was_set old.types r || member r (type_set i))
   pub terms_set : (r : ℕ) → was_set new.terms r ≡ (was_set old.terms r || member r (term_set i))
 
--- an instruction was run, or a rule is told at it
-abbrev pub IsStepped : Instr → (old new : Work) → Option Rule → Type 0
-IsStepped i old new None = IsRun i old new
-IsStepped i old new (Some r) = new.place ≡ old.place
+-- an instruction was run, and named its records, or a rule is told at it
+abbrev pub IsStepped : Instr → (named names : BTreeMap ℕ ℕ) → (old new : Work) → Option Rule → Type 0
+IsStepped i m n old new None = IsRun i old new × HasNamed (names_of i) m n
+IsStepped i m n old new (Some r) = new.place ≡ old.place
 
--- what the record breaks as a whole
-pub record IsJudgedWhole (h : Home) (x : Whole) : Type 0 where
+-- a record of the program starts with something, or an assumed one was not named before
+abbrev pub starts_badly : Home → (named : ℕ → Bool) → Bool
+starts_badly h f = if h.self.program then not (nat_eq (h.self.captured_types + h.self.captured) 0) else not (f h.number)
+
+-- what the record breaks as a whole, where these records were named
+pub record IsJudgedWhole (h : Home) (f : ℕ → Bool) (x : Whole) : Type 0 where
   pub register_is : x.register ≡ (nat_lt h.self.types h.self.captured_types || nat_lt h.self.registers h.self.captured)
   pub constant_is : x.constant ≡ not (head_passes (is_known_head h) h.self.head)
   pub order_is : x.order ≡ not (has_neck h.self.code.items)
+  pub clause_is : x.clause ≡ starts_badly h f
   pub key_is : x.key ≡ not (has_right_key h)
 
 -- what the record breaks as a whole, told before its first instruction alone
@@ -66,6 +74,7 @@ pub record IsWhole (h : Home) (s : State) (x : Whole) : Type 0 where
   pub register_is : x.register ≡ (nat_eq s.place 0 && broken_by_record h s rule.Register)
   pub constant_is : x.constant ≡ (nat_eq s.place 0 && broken_by_record h s rule.Constant)
   pub order_is : x.order ≡ (nat_eq s.place 0 && broken_by_record h s rule.Order)
+  pub clause_is : x.clause ≡ (nat_eq s.place 0 && broken_by_record h s rule.Clause)
   pub key_is : x.key ≡ (nat_eq s.place 0 && broken_by_record h s rule.Key)
 
 -- the record before its first instruction
@@ -79,17 +88,29 @@ pub record IsStarted (w : Work) : Type 0 where
 
 -- nothing is broken as a whole
 abbrev pub IsNoWhole : Whole → Type 0
-IsNoWhole x = (x.register ≡ false) × (x.constant ≡ false) × (x.order ≡ false) × (x.key ≡ false)
+IsNoWhole x = (x.register ≡ false) × (x.constant ≡ false) × (x.order ≡ false) × (x.clause ≡ false) × (x.key ≡ false)
 
 -- what is told of a run
 abbrev pub IsRan : Ran → Option (ℕ × Rule) → Type 0
 IsRan ran None = (s : State) × (ran ≡ Done s)
 IsRan ran (Some (at, r)) = is_judged r ≡ true → (ran ≡ Broken at r) × (at < 2 ^ 32)
 
+-- those of the records before the one of a number
+abbrev pub AreNamedBefore : (number : ℕ) → List Record → BTreeMap ℕ ℕ → Type 0
+AreNamedBefore k all m = (n : ℕ) → was_named m n ≡ member n (named_before k all)
+
+-- those of the instructions that are left are all that are still to be named
+abbrev pub NamesLeft : (code left : List Instr) → (start now : BTreeMap ℕ ℕ) → Type 0
+NamesLeft code left start now = (n : ℕ) → (was_named now n || member n (names_in left)) ≡ (was_named start n || member n (names_in code))
+
+-- those of the records before, and those of the instructions so far
+abbrev pub NamedAt : Home → State → BTreeMap ℕ ℕ → Type 0
+NamedAt h s m = (n : ℕ) → was_named m n ≡ member n (named_before h.number h.records ++ map (λ a. a.0) s.assumed)
+
 -- a record in the midst of its instructions, of which these are left: whatever it starts with, the run goes on from here
-abbrev pub GoesOn : Home → Captured → (all left : List Instr) → Work → Whole → Type 0
-GoesOn h c all left w x =
-    (s : State) × (run_of judged h any_clause (first_state h.self c) all ≡ run_of judged h any_clause s left) × IsAt w s × (s.place + bytes_of left ≡ bytes_of all) × IsWhole h s x
+abbrev pub GoesOn : Home → Captured → (all left : List Instr) → Work → BTreeMap ℕ ℕ → Whole → Type 0
+GoesOn h c all left w m x =
+    (s : State) × (run_of judged h any_clause (first_state h.self c) all ≡ run_of judged h any_clause s left) × IsAt w s × (s.place + bytes_of left ≡ bytes_of all) × IsWhole h s x × NamedAt h s m
 
 -- the records from a number on are left: the first fault is theirs, whatever was handed to them
 abbrev pub FaultsGoOn : Tables → (all : List Record) → (n : ℕ) → (left : List Record) → Type 0

@@ -1,10 +1,11 @@
 -- What the rules on the order of instructions see of a state: the numbers in it, and what was set.
-use Rattle.std.specs.Prelude.{ℕ, suc, ◌+◌, Bool, true, List, ◌++◌, length}
+use Rattle.std.specs.Prelude.{ℕ, suc, ◌+◌, Bool, true, List, [], ◌∷◌, ◌++◌, map, length}
 use Rattle.lp_code.specs.declared.instruction.Instr.{Instr}
 use Rattle.lp_code.specs.declared.instruction.Instr.TheVariants as on
 use Rattle.lp_code.specs.Length.{length_of}
 use Rattle.lp_code.specs.Operands.{type_set, term_set}
 use Rattle.lp_code.specs.States.{State}
+use Rattle.lp_code.specs.Rules.{names_of}
 
 pub record Outline : Type 0 where
   pub place : ℕ
@@ -13,6 +14,7 @@ pub record Outline : Type 0 where
   pub in_body : Bool
   pub types : ℕ
   pub arguments : ℕ
+  pub named : List ℕ
 
 abbrev pub outline : State → Outline
 outline s = record {
@@ -22,6 +24,7 @@ outline s = record {
   in_body = s.in_body;
   types = length s.head_types;
   arguments = length s.head_arguments;
+  named = map (λ a. a.0) s.assumed;
 }
 
 -- behind the head
@@ -42,6 +45,11 @@ arguments_behind (on.GetInt i z) n = suc n
 arguments_behind (on.GetStr i b) n = suc n
 arguments_behind i n = n
 
+-- the records that were named
+abbrev pub named_with : List ℕ → (more : List ℕ) → List ℕ
+named_with ns [] = ns
+named_with ns (m ∷ ms) = ns ++ m ∷ ms
+
 abbrev pub outline_behind : Instr → Outline → Outline
 outline_behind i o = record {
   place = o.place + length_of i;
@@ -50,4 +58,5 @@ outline_behind i o = record {
   in_body = body_behind i o.in_body;
   types = types_behind i o.types;
   arguments = arguments_behind i o.arguments;
+  named = named_with o.named (names_of i);
 }

@@ -1,12 +1,13 @@
 -- The rules as they are judged at work, before each instruction.
-use Rattle.std.specs.Prelude.{◌≡◌, ℕ, nat_eq, nat_le, Bool, true, false, not, ◌||◌, ◌++◌, length, Option, Some, None, Result, Ok, Err}
+use Rattle.std.specs.Prelude.{◌≡◌, ℕ, nat_eq, nat_le, nat_lt, Bool, true, false, not, ◌||◌, ◌&&◌, List, [], ◌∷◌, ◌++◌, length, slice_get, Option, Some, None, Result, Ok, Err}
 use Rattle.std.specs.List.{list_any}
 use Rattle.lp_code.specs.declared.instruction.Instr.{Instr}
 use Rattle.lp_code.specs.declared.instruction.Instr.TheVariants as on
+use Rattle.lp_code.specs.declared.record.Record.{Record}
 use Rattle.lp_code.specs.declared.rule.Rule.{Rule}
 use Rattle.lp_code.specs.declared.rule.Rule.TheVariants as rule
 use Rattle.lp_code.specs.Operands.{types_read, terms_read, type_set, term_set}
-use Rattle.lp_code.specs.Rules.{is_count, breaks_term}
+use Rattle.lp_code.specs.Rules.{is_count, breaks_term, is_assumed_record}
 use Rattle.lp_code.specs.Symbolic.{Tables}
 use Rattle.lp_verify.specs.declared.record.Work.{Work}
 use Rattle.lp_verify.specs.declared.whole.Whole.{Whole}
@@ -58,6 +59,19 @@ has_wrong_count t (on.GetConst i c ts) = not (is_count (type_vars_of t c) (lengt
 has_wrong_count t (on.Call c ts rs) = not (is_count (type_vars_of t c) (length ts.items))
 has_wrong_count t i = false
 
+-- a later record that may be assumed with so many types and terms, and that was not named before
+abbrev pub is_fine : (number : ℕ) → List Record → (named : ℕ → Bool) → (types terms : ℕ) → ℕ → Bool
+is_fine k all f ts rs n = nat_lt k n && is_assumed_record (slice_get all n) ts rs && not (f n)
+
+abbrev pub are_fine : (number : ℕ) → List Record → (named : ℕ → Bool) → (types terms : ℕ) → List ℕ → Bool
+are_fine k all f ts rs [] = true
+are_fine k all f ts rs (n ∷ ns) = is_fine k all f ts rs n && are_fine k all (λ m. nat_eq m n || f m) ts rs ns
+
+abbrev pub names_badly : (number : ℕ) → List Record → (program : Bool) → (named : ℕ → Bool) → Instr → Bool
+names_badly k all p f (on.Assume ns ts rs) = not (are_fine k all f (length ts.items) (length rs.items) ns.items)
+names_badly k all p f (on.TyNew d) = not p
+names_badly k all p f i = false
+
 -- whether each of the judged rules is broken
 pub record Broken : Type 0 where
   pub register : Bool
@@ -65,6 +79,7 @@ pub record Broken : Type 0 where
   pub constant : Bool
   pub term : Bool
   pub order : Bool
+  pub clause : Bool
   pub key : Bool
 
 abbrev pub breaks : Broken → Rule → Bool
@@ -73,6 +88,7 @@ breaks b rule.Set = b.set
 breaks b rule.Constant = b.constant
 breaks b rule.Term = b.term
 breaks b rule.Order = b.order
+breaks b rule.Clause = b.clause
 breaks b rule.Key = b.key
 breaks b r = false
 
@@ -82,7 +98,7 @@ ArePassed b = (b.register ≡ false) × (b.set ≡ false) × (b.constant ≡ fal
 
 -- what is told where these are broken: a rule, before which none of them is broken, or none
 abbrev pub IsFirst : Broken → Option Rule → Type 0
-IsFirst b None = ArePassed b × (b.term ≡ false) × (b.order ≡ false) × (b.key ≡ false)
+IsFirst b None = ArePassed b × (b.term ≡ false) × (b.order ≡ false) × (b.clause ≡ false) × (b.key ≡ false)
 IsFirst b (Some rule.Register) = b.register ≡ true
 IsFirst b (Some rule.Unset) = b.register ≡ false
 IsFirst b (Some rule.Set) = (b.register ≡ false) × (b.set ≡ true)
@@ -93,8 +109,8 @@ IsFirst b (Some rule.Term) = ArePassed b × (b.term ≡ true)
 IsFirst b (Some rule.Order) = ArePassed b × (b.term ≡ false) × (b.order ≡ true)
 IsFirst b (Some rule.Head) = ArePassed b × (b.term ≡ false) × (b.order ≡ false)
 IsFirst b (Some rule.Block) = ArePassed b × (b.term ≡ false) × (b.order ≡ false)
-IsFirst b (Some rule.Clause) = ArePassed b × (b.term ≡ false) × (b.order ≡ false)
-IsFirst b (Some rule.Key) = ArePassed b × (b.term ≡ false) × (b.order ≡ false) × (b.key ≡ true)
+IsFirst b (Some rule.Clause) = ArePassed b × (b.term ≡ false) × (b.order ≡ false) × (b.clause ≡ true)
+IsFirst b (Some rule.Key) = ArePassed b × (b.term ≡ false) × (b.order ≡ false) × (b.clause ≡ false) × (b.key ≡ true)
 
 -- the rule that is told in place of what an instruction builds
 abbrev pub rule_of : {A : Type 0} → Result A Rule → Option Rule
@@ -103,15 +119,16 @@ rule_of (Err r) = Some r
 
 -- those that a record breaks as a whole
 abbrev pub broken_whole : Whole → Broken
-broken_whole w = record { register = w.register; set = false; constant = w.constant; term = false; order = w.order; key = w.key }
+broken_whole w = record { register = w.register; set = false; constant = w.constant; term = false; order = w.order; clause = w.clause; key = w.key }
 
--- those that are broken before an instruction
-abbrev pub told : Work → Whole → Instr → Broken
-told w x i = record {
+-- those that are broken before an instruction, where these records were named
+abbrev pub told : Work → (named : ℕ → Bool) → Whole → Instr → Broken
+told w f x i = record {
   register = x.register || reaches_past w.home.record.now.types w.home.record.now.registers i;
   set = sets_again (was_set w.types) (was_set w.terms) i;
   constant = x.constant || has_wrong_count (tables_in w.home.tables.now) i;
   term = breaks_term i;
   order = x.order || is_out_of_order w.in_body (length w.head.types.items) w.head.arguments i;
+  clause = x.clause || names_badly w.home.number w.home.records.now w.home.record.now.program f i;
   key = x.key;
 }

@@ -1,17 +1,21 @@
-use Rattle.std.proofs.Common.{subst, arith}
+use Rattle.std.proofs.Common.{refl, sym, subst, arith}
 use Rattle.lp_verify.specs.Scheme.{tables_in}
-use Rattle.lp_verify.specs.inner.At.{FaultsGoOn}
+use Rattle.lp_verify.specs.inner.At.{FaultsGoOn, AreNamedBefore}
 use Rattle.lp_verify.proofs.Faults.{IsRecordRan, record_passed, record_refused, no_more_records, none_left}
-use Rattle.std.proofs.Common.{refl}
+use Rattle.lp_verify.proofs.Names.{record_named}
 use Rattle.lp_verify.proofs.judging.judge.Goals as goal
 
 pub loop-record-preserved : goal.loop-record-preserved
 loop-record-preserved c =
     let t = tables_in c.args.tables.now in
     let all = c.args.records.now in
-    let n = c.loop-record.record-index in (
+    let n = c.loop-record.record-index in
+    let inv = c.loop-record.invariant in
+    let m = c.loop-record.shared.named in
+    let named : AreNamedBefore c.loop-record.number all m = subst (λ k. AreNamedBefore k all m) (sym inv.0) inv.2 in (
       grind arith,
-      λ short. record_passed t all n c.loop-record.number c.record-item.result c.loop-record.invariant.0 c.loop-record-test.true c.record-item.is short (c.loop-record.invariant.1 short) (subst (IsRecordRan t all c.loop-record.number c.record-item.result) c.in_default.is c.in_ok-at.ensures),
+      λ short. record_passed t all n c.loop-record.number c.record-item.result inv.0 c.loop-record-test.true c.record-item.is short (inv.1 short) (subst (IsRecordRan t all c.loop-record.number c.record-item.result) c.in_default.is (λ d s. c.in_ok-at.ensures.0 d named s)),
+      record_named all n c.record-item.result m c.judge_record.new.shared.named c.loop-record-test.true c.record-item.is inv.2 (c.in_ok-at.ensures.1 c.in_default.is),
     )
 
 pub returns-in-Some : goal.returns-in-Some
@@ -19,7 +23,10 @@ returns-in-Some c =
     let t = tables_in c.args.tables.now in
     let all = c.args.records.now in
     let n = c.loop-record.record-index in
-    λ short. record_refused t all n c.loop-record.number c.record-item.result c.in-Some.at c.as_offset.result c.in-Some.rule c.loop-record.invariant.0 c.loop-record-test.true c.record-item.is short (c.loop-record.invariant.1 short) (subst (IsRecordRan t all c.loop-record.number c.record-item.result) c.in-Some.is c.in_ok-at.ensures) c.as_offset.ensures
+    let inv = c.loop-record.invariant in
+    let m = c.loop-record.shared.named in
+    let named : AreNamedBefore c.loop-record.number all m = subst (λ k. AreNamedBefore k all m) (sym inv.0) inv.2 in
+    λ short. record_refused t all n c.loop-record.number c.record-item.result c.in-Some.at c.as_offset.result c.in-Some.rule inv.0 c.loop-record-test.true c.record-item.is short (inv.1 short) (subst (IsRecordRan t all c.loop-record.number c.record-item.result) c.in-Some.is (λ d s. c.in_ok-at.ensures.0 d named s)) c.as_offset.ensures
 
 pub returns : goal.returns
 returns c =

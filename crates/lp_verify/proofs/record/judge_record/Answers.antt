@@ -1,15 +1,28 @@
+use Rattle.std.specs.Prelude.{◌||◌}
 use Rattle.std.proofs.Common.{◌≡◌, ◌<◌, ◌+◌, ◌∙◌, ◌∷◌, [], length, drop, get_or, Some, None, ap, sym, subst, arith}
 use Rattle.lp_lemmas.proofs.Lists.{drop_read}
 use Rattle.lp_code.specs.Denote.{run_of, any_clause, first_state}
 use Rattle.lp_verify.specs.Judged.{judged}
 use Rattle.lp_verify.specs.inner.Told.{told, IsFirst}
-use Rattle.lp_verify.specs.inner.At.{home_in, IsRan, IsRun, IsStepped, GoesOn}
+use Rattle.lp_code.specs.States.{member}
+use Rattle.lp_code.specs.Rules.{names_of, names_in}
+use Rattle.lp_verify.specs.Named.{was_named, HasNamed}
+use Rattle.lp_verify.specs.inner.At.{home_in, AreNamedBefore, IsRan, IsRun, IsStepped, IsJudgedWhole, NamesLeft, GoesOn}
 use Rattle.lp_verify.proofs.Moved.{begun, goes_on, refused, ended}
+use Rattle.lp_verify.proofs.Names.{names_pass, names_end}
 use Rattle.lp_verify.proofs.Faults.{none_left}
 use Rattle.lp_verify.proofs.record.judge_record.Goals as goal
 
 pub loop-instr-init : goal.loop-instr-init
-loop-instr-init c = (ap home_in c.in_ok-work.ensures.home, λ d short. begun (home_in c.args.home) d c.in_ok-work.work c.in_ok-whole.whole (ap home_in c.in_ok-work.ensures.home) c.in_ok-work.ensures.started c.in_ok-whole.ensures)
+loop-instr-init c =
+    let h = home_in c.args.home in
+    let m = c.start.new.shared.named in
+    let same : m ≡ c.args.shared.now.named = c.start.ensures.named in
+    let home = ap home_in c.in_ok-work.ensures.home in (
+      home,
+      λ d names short. begun h d c.in_ok-work.work m c.in_ok-whole.whole home c.in_ok-work.ensures.started (subst (AreNamedBefore h.number h.records) (sym same) names) (subst (λ h. IsJudgedWhole h (was_named m) c.in_ok-whole.whole) home c.in_ok-whole.ensures),
+      λ n. ap (λ m. was_named m n || member n (names_in h.self.code.items)) same,
+    )
 
 pub loop-instr-preserved : goal.loop-instr-preserved
 loop-instr-preserved c =
@@ -21,10 +34,13 @@ loop-instr-preserved c =
     let v = c.step.new.self in
     let inv = c.loop-instr.invariant in
     let at : drop n code ≡ i ∷ drop (n + 1) code = drop_read code n i (subst (λ l. n < length l) c.deref-instr-items.ensures.value c.loop-instr-test.true) (c.instr-item.is ∙ ap (λ l. get_or l n i) c.deref-instr-items.ensures.value) in
-    let first : IsFirst (told w c.loop-instr.whole i) None = subst (IsFirst (told w c.loop-instr.whole i)) c.in_default.is c.in_ok-rule.ensures.0 in
-    let run : IsRun i w v = subst (IsStepped i w v) c.in_default.is c.in_ok-rule.ensures.1 in (
-      ap home_in run.home_stays ∙ inv.0,
-      λ d short. goes_on h d code i (drop (n + 1) code) w v c.loop-instr.whole c.none-whole.result inv.0 short (subst (λ l. GoesOn h d code l w c.loop-instr.whole) at (inv.1 d short)) first run c.none-whole.ensures,
+    let m = c.loop-instr.shared.named in
+    let k = c.step.new.shared.named in
+    let first : IsFirst (told w (was_named m) c.loop-instr.whole i) None = subst (IsFirst (told w (was_named m) c.loop-instr.whole i)) c.in_default.is c.in_ok-rule.ensures.0 in
+    let run : IsRun i w v × HasNamed (names_of i) m k = subst (IsStepped i m k w v) c.in_default.is c.in_ok-rule.ensures.1 in (
+      ap home_in run.0.home_stays ∙ inv.0,
+      λ d names short. goes_on h d code i (drop (n + 1) code) w v m k c.loop-instr.whole c.none-whole.result inv.0 short (subst (λ l. GoesOn h d code l w m c.loop-instr.whole) at (inv.1 d names short)) first run.0 run.1 c.none-whole.ensures,
+      names_pass i (drop (n + 1) code) code c.args.shared.now.named m k run.1 (subst (λ l. NamesLeft code l c.args.shared.now.named m) at inv.2),
     )
 
 pub returns-in-Some : goal.returns-in-Some
@@ -37,21 +53,30 @@ returns-in-Some c =
     let r = c.in-Some.rule in
     let inv = c.loop-instr.invariant in
     let at : drop n code ≡ i ∷ drop (n + 1) code = drop_read code n i (subst (λ l. n < length l) c.deref-instr-items.ensures.value c.loop-instr-test.true) (c.instr-item.is ∙ ap (λ l. get_or l n i) c.deref-instr-items.ensures.value) in
-    let first : IsFirst (told w c.loop-instr.whole i) (Some r) = subst (IsFirst (told w c.loop-instr.whole i)) c.in-Some.is c.in_ok-rule.ensures.0 in
-    let stays : c.step.new.self.place ≡ w.place = subst (IsStepped i w c.step.new.self) c.in-Some.is c.in_ok-rule.ensures.1 in
-    λ d short. subst (λ p. IsRan (run_of judged h any_clause (first_state h.self d) code) (Some (p, r))) (sym stays)
-    (refused h d code i (drop (n + 1) code) w c.loop-instr.whole r inv.0 short (subst (λ l. GoesOn h d code l w c.loop-instr.whole) at (inv.1 d short)) first)
+    let m = c.loop-instr.shared.named in
+    let first : IsFirst (told w (was_named m) c.loop-instr.whole i) (Some r) = subst (IsFirst (told w (was_named m) c.loop-instr.whole i)) c.in-Some.is c.in_ok-rule.ensures.0 in
+    let stays : c.step.new.self.place ≡ w.place = subst (IsStepped i m c.step.new.shared.named w c.step.new.self) c.in-Some.is c.in_ok-rule.ensures.1 in (
+      λ d names short. subst (λ p. IsRan (run_of judged h any_clause (first_state h.self d) code) (Some (p, r))) (sym stays)
+          (refused h d code i (drop (n + 1) code) w m c.loop-instr.whole r inv.0 short (subst (λ l. GoesOn h d code l w m c.loop-instr.whole) at (inv.1 d names short)) first),
+      λ e. absurd (cc),
+    )
 
 pub returns-in-Some-first : goal.returns-in-Some-first
 returns-in-Some-first c =
     let h = home_in c.args.home in
     let code = c.args.home.record.now.code.items in
     let none : drop c.loop-instr.instr-index code ≡ [] = none_left code c.deref-instr-items.result.now c.loop-instr.instr-index c.deref-instr-items.ensures.value (omega (arith, c.loop-instr-test.false)) in
-    λ d short. ended h d code c.loop-instr.work c.loop-instr.whole (Some c.in-Some-first.rule) short (subst (λ l. GoesOn h d code l c.loop-instr.work c.loop-instr.whole) none (c.loop-instr.invariant.1 d short)) c.in-Some-first.ensures
+    let m = c.loop-instr.shared.named in (
+      λ d names short. ended h d code c.loop-instr.work m c.loop-instr.whole (Some c.in-Some-first.rule) short (subst (λ l. GoesOn h d code l c.loop-instr.work m c.loop-instr.whole) none (c.loop-instr.invariant.1 d names short)) c.in-Some-first.ensures,
+      λ e. absurd (cc),
+    )
 
 pub returns : goal.returns
 returns c =
     let h = home_in c.args.home in
     let code = c.args.home.record.now.code.items in
     let none : drop c.loop-instr.instr-index code ≡ [] = none_left code c.deref-instr-items.result.now c.loop-instr.instr-index c.deref-instr-items.ensures.value (omega (arith, c.loop-instr-test.false)) in
-    λ d short. ended h d code c.loop-instr.work c.loop-instr.whole None short (subst (λ l. GoesOn h d code l c.loop-instr.work c.loop-instr.whole) none (c.loop-instr.invariant.1 d short)) c.in-None.ensures
+    let m = c.loop-instr.shared.named in (
+      λ d names short. ended h d code c.loop-instr.work m c.loop-instr.whole None short (subst (λ l. GoesOn h d code l c.loop-instr.work m c.loop-instr.whole) none (c.loop-instr.invariant.1 d names short)) c.in-None.ensures,
+      λ e. names_end code c.args.shared.now.named m (subst (λ l. NamesLeft code l c.args.shared.now.named m) none c.loop-instr.invariant.2),
+    )

@@ -1,0 +1,20 @@
+use Rattle.std.proofs.Common.{◌∙◌, sym}
+use Rattle.lp_verify.proofs.record.Work.broken_behind.Goals as goal
+
+pub returns-then-order-clause-first : goal.returns-then-order-clause-first
+returns-then-order-clause-first c = λ p. (p, sym c.breaks_term-term.ensures ∙ c.if-term.false, sym c.breaks_order-order.ensures ∙ c.if-order.true)
+
+pub returns-then-whole-clause-first : goal.returns-then-whole-clause-first
+returns-then-whole-clause-first c = λ p. (p, sym c.breaks_term-term.ensures ∙ c.if-term.false, sym c.breaks_order-order.ensures ∙ c.if-order.false)
+
+pub returns-then-block-clause-first : goal.returns-then-block-clause-first
+returns-then-block-clause-first c = λ p. (p, sym c.breaks_term-term.ensures ∙ c.if-term.false, sym c.breaks_order-order.ensures ∙ c.if-order.false)
+
+pub returns-then-clause-clause-first : goal.returns-then-clause-clause-first
+returns-then-clause-clause-first c = λ p. (p, sym c.breaks_term-term.ensures ∙ c.if-term.false, sym c.breaks_order-order.ensures ∙ c.if-order.false, sym c.in_ok-clause.ensures.clause ∙ c.if-clause.true)
+
+pub returns-then-whole-2-clause-first : goal.returns-then-whole-2-clause-first
+returns-then-whole-2-clause-first c = λ p. (p, sym c.breaks_term-term.ensures ∙ c.if-term.false, sym c.breaks_order-order.ensures ∙ c.if-order.false, sym c.in_ok-clause.ensures.clause ∙ c.if-clause.false, c.if-whole-2.true)
+
+pub returns-clause-first : goal.returns-clause-first
+returns-clause-first c = λ p. (p, sym c.breaks_term-term.ensures ∙ c.if-term.false, sym c.breaks_order-order.ensures ∙ c.if-order.false, sym c.in_ok-clause.ensures.clause ∙ c.if-clause.false, c.if-whole-2.false)
