@@ -8,7 +8,7 @@ use Rattle.lp_calculus.specs.Convert.{ReducesTo}
 use Rattle.lp_calculus.specs.Fill.{Within}
 use Rattle.lp_calculus.specs.Typing.{Typed, o_type, scheme_type}
 use Rattle.lp_model.specs.Unify.{unit_limit}
-use Rattle.lp_model.specs.declared.ending.Ending.TheVariants.{Deep, Arithmetic}
+use Rattle.lp_model.specs.declared.ending.Ending.TheVariants.{Arithmetic}
 use Rattle.lp_model.specs.declared.ending.Fault.TheVariants.{NotClosed}
 use Rattle.lp_model.specs.Look.{head_normal}
 use Rattle.lp_model.specs.Pair.{Closing, closed}

@@ -1,12 +1,9 @@
 -- The search of a typed query without negation comes to a value: typed tasks have enough steps, and so the run ends.
-use Rattle.std.proofs.Common.{◌≡◌, ℕ, zero, suc, ◌+◌, ◌≤◌, List, [], ◌∷◌, map, length, Option, Some, None, Bool, true, false, if◌then◌else◌, refl, sym, ap, ◌∙◌, subst as transport, arith, inl, inr}
-use Rattle.std.specs.Prelude.{◌⊎◌, ◌<◌}
-use Rattle.std.proofs.lemmas.Bool.{cases_lt}
-use Rattle.lp_model.specs.declared.ending.Ending.{Ending}
+use Rattle.std.proofs.Common.{◌≡◌, ℕ, ◌+◌, ◌≤◌, List, [], ◌∷◌, map, length, Some, Bool, true, false, if◌then◌else◌, refl, sym, ap, ◌∙◌, subst as transport, arith}
 use Rattle.lp_model.specs.Unify.{unit_limit}
 use Rattle.lp_model.specs.Pair.{Pair}
 use Rattle.lp_model.specs.Skeleton.{View, Gives, Opens, Parts, Takes, Cuts, Denies, Halts, Lacks, State, Told, run}
-use Rattle.lp_model.specs.Faithful.{IsLack, Leaves, Suffices, OpensLighter, Falls, total}
+use Rattle.lp_model.specs.Faithful.{IsLack, Leaves, Suffices, OpensLighter}
 use Rattle.lp_lemmas.specs.Each.{EachOf}
 use Rattle.lp_model.specs.Flat.{Goals, Clause}
 use Rattle.lp_model.specs.Flatten.{ClauseFormula, flatten_query}
@@ -19,7 +16,7 @@ use Rattle.lp_unify_laws.specs.Solutions.{IsStuck, AreStuck}
 use Rattle.lp_unify_laws.proofs.MoreSteps.Rules.{rule_more}
 use Rattle.lp_search_laws.specs.Enough.{HasEnough}
 use Rattle.lp_search_laws.specs.Started.{IsTypedQuery, IsTypedSentence}
-use Rattle.lp_search_laws.specs.Branches.{IsProgramTyped, IsTypedBranch, IsTypedTry, TypedTask, going, trying, stopping, lacking, task_of, IsOk, IsRightView}
+use Rattle.lp_search_laws.specs.Branches.{IsProgramTyped, IsTypedBranch, TypedTask, going, trying, stopping, lacking, task_of, IsOk, IsRightView}
 use Rattle.lp_search_laws.proofs.Stack.MoreLooks.{Fewer, same_look, lacks, opens_dead, takes_dead, run_same}
 use Rattle.lp_search_laws.proofs.Stack.Ends.{ends}
 use Rattle.lp_search_laws.proofs.MoreSteps.{look_more, IsLacking, more_steps_same}

@@ -1,24 +1,21 @@
 -- The search of a typed query without negation comes to a value: with enough steps no look lacks them, and the run ends.
-use Rattle.std.proofs.Common.{◌≡◌, ℕ, zero, suc, ◌+◌, ◌≤◌, List, [], ◌∷◌, ◌++◌, map, length, Option, Some, None, Bool, true, false, if◌then◌else◌, refl, sym, ap, ◌∙◌, subst as transport, arith, inl, inr, nat_eq}
-use Rattle.std.specs.Prelude.{nat_le, ◌&&◌, ◌<◌}
+use Rattle.std.proofs.Common.{◌≡◌, ℕ, ◌+◌, List, [], ◌∷◌, ◌++◌, map, length, Option, Some, None, Bool, true, false, if◌then◌else◌, refl, sym, subst as transport, arith, nat_eq}
+use Rattle.std.specs.Prelude.{nat_le, ◌&&◌}
 use Rattle.std.proofs.lemmas.Bool.{eqb-true}
 use Rattle.lp_calculus.specs.Term.{Term, index, atom, abs, app, Atom, constant, integer, text, eigen, logic, param}
 use Rattle.lp_calculus.specs.Spine.{head_of, arguments}
-use Rattle.lp_model.specs.Look.{head_normal}
 use Rattle.lp_standard.specs.Connectives.{Connective, connective_of}
 use Rattle.lp_standard.specs.Connectives as connective
-use Rattle.lp_standard.specs.Schemes.{IsStandard}
 use Rattle.lp_model.specs.Unify.{Unified, Fail, Solution, Spent, solve, unit_limit}
 use Rattle.lp_model.specs.Values.{Outcome, Is, Faults, Number, Bytes, evaluate, term_of, ordered}
 use Rattle.lp_calculus.specs.Types.{Ty}
 use Rattle.lp_calculus.specs.Instance.{instance_term}
 use Rattle.lp_model.specs.Rule.{type_pairs}
-use Rattle.lp_model.specs.Skeleton.{View, Gives, Opens, Parts, Takes, Cuts, Denies, Halts, Lacks, State, Told, run}
+use Rattle.lp_model.specs.Skeleton.{View, Gives, Opens, Parts, Takes, Cuts, Denies, Halts, Lacks}
 use Rattle.lp_model.specs.Faithful.{IsLack}
-use Rattle.lp_lemmas.specs.Each.{EachOf}
 use Rattle.lp_model.specs.Flat.{Goal, Atomic, Cut, Either, Exists, Forall, Assume, Not, Written, Goals, Clause, clause, goal_list, instantiate_goals, type_goals}
 use Rattle.lp_model.specs.Branch.{Entry, Branch, Answer, Task, Go, Try, Stop, Lack, both_written, entries}
-use Rattle.lp_model.specs.Search.{with_goals, tried, renewed, slotted, slots_of, pairs_of, follow, equated, assigned, compared, tries, candidates, goal_key, look_constant, look_atom, look_form, look_normal, look_not, look_goal, look_branch, look, try_clause, has_variables}
+use Rattle.lp_model.specs.Search.{with_goals, tried, renewed, slotted, slots_of, pairs_of, follow, assigned, compared, tries, candidates, goal_key, look_constant, look_atom, look_form, look_normal, look_not, look_goal, look_branch, look, has_variables}
 use Rattle.lp_search_laws.specs.Enough.{IsFound, CanEquate, CanAssign, CallHasEnough, HeadHasEnough, AtomHasEnough, TermHasEnough, HasEnough}
 use Rattle.lp_search_laws.proofs.SameViews.{and_is, and_also, at_least, term_with}
 

@@ -66,3 +66,6 @@ pub mod MoreSteps
 pub mod WholeRight
 pub mod FullViews
 pub mod Comes
+pub mod Limits
+pub mod Refuted
+pub mod Tested

@@ -22,7 +22,7 @@ use Rattle.lp_lemmas.specs.Each.{EachOf}
 use Rattle.lp_model.specs.Index.{instantiate, lifted, at}
 use Rattle.lp_model.specs.Eigens.{beta_normal}
 use Rattle.lp_model.specs.Pair.{Closing, closed}
-use Rattle.lp_model.specs.Flat.{Goals, no_goals, type_goals, goal_list, instantiate_goals, formula_of_goal, formula_of_goals}
+use Rattle.lp_model.specs.Flat.{Goals, no_goals, goal_list, instantiate_goals, formula_of_goal, formula_of_goals}
 use Rattle.lp_model.specs.Flatten.{ClauseFormula, flat_goal, flatten_query}
 use Rattle.lp_standard.specs.Schemes.{IsStandard}
 use Rattle.lp_model.specs.Proofs.{Declared, under, IsFormula, IsWitness, PlainlyProvable}

@@ -19,7 +19,7 @@ use Rattle.lp_model.specs.Types.{TypePair, TypeBinding, one_type, put_types, Typ
 use Rattle.lp_model.specs.Pair.{Pair, put_pair, put_type_in, put_types_in, type_pair}
 use Rattle.lp_model.specs.Scan.{Side, Scanned, broken, whole, scan, Pruned, prune, settle}
 use Rattle.lp_model.specs.Rule.{type_pairs, Verdict, fails, gives, binds, delays, Compared, Ruled, ruled, compare_all, argument_pairs, opened, with_types, decompose, joined, bound, has_head, solve_for, by_pattern, pattern_side, by_rule_5, by_rule_4, dear, by_looks, rule}
-use Rattle.lp_model.specs.Unify.{State, Turn, Goes, Fails, Solved, put_pairs, type_pairs_in, judged, turn_on, turn, Unified, Fail, Solution, Spent, limited, unify, begun, go_on, solve, unit_limit}
+use Rattle.lp_model.specs.Unify.{State, Turn, Goes, Fails, Solved, put_pairs, type_pairs_in, judged, turn_on, turn, Unified, Fail, Solution, Spent, limited, unify, begun, go_on, solve}
 use Rattle.lp_unify_laws.specs.TypeSolutions.{Satisfies}
 use Rattle.lp_unify_laws.specs.Solutions.{at_types}
 use Rattle.lp_unify_laws.proofs.Looks.{seen}

@@ -1,8 +1,7 @@
 -- A weight of tasks that falls in the plain search: a candidate opens at most one task.
-use Rattle.std.proofs.Common.{◌≡◌, ℕ, ◌+◌, List, [], ◌∷◌, ◌++◌, length, Option, Some, None, Bool, true, false, arith, ◌<◌}
+use Rattle.std.proofs.Common.{ℕ, ◌+◌, List, [], ◌∷◌, ◌++◌, length, Option, Some, None, Bool, true, false, arith, ◌<◌}
 use Rattle.lp_calculus.specs.Term.{Term}
-use Rattle.lp_model.specs.declared.ending.Ending.{Ending}
-use Rattle.lp_model.specs.Skeleton.{State, run, View}
+use Rattle.lp_model.specs.Skeleton.{View}
 use Rattle.lp_model.specs.Faithful.{total, OpensLighter, Falls}
 use Rattle.lp_calculus.specs.Spine.{head_of, arguments}
 use Rattle.lp_standard.specs.Connectives.{Connective, connective_of}

@@ -4,4 +4,6 @@ pub mod Moves
 pub mod Faithful
 pub mod Events
 pub mod Inners
+pub mod InnerRuns
+pub mod Limits
 pub mod MoreLooks

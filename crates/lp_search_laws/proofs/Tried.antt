@@ -9,7 +9,6 @@ use Rattle.lp_calculus.specs.Typing.{atom_type, o_type}
 use Rattle.lp_calculus.specs.Closed.{AllAtoms}
 use Rattle.lp_calculus.proofs.Steps.{within_reduces}
 use Rattle.lp_calculus.proofs.Subject.{typed_reduces}
-use Rattle.lp_model.specs.declared.ending.Ending.TheVariants.{Deep}
 use Rattle.lp_calculus.specs.Spine.{head_of, arguments}
 use Rattle.lp_lemmas.specs.Each.{AnyOf, EachOf}
 use Rattle.lp_model.specs.Look.{head_normal}

@@ -1,5 +1,5 @@
 -- Flattened goals and clauses of typed formulas are typed over the same type variables, and plain.
-use Rattle.std.proofs.Common.{None, ◌≡◌, ℕ, zero, suc, List, [], ◌∷◌, ◌++◌, map, length, Option, Some, refl, sym, ap, ◌∙◌, subst as transport, arith, inl, inr, Bool, true, false}
+use Rattle.std.proofs.Common.{◌≡◌, ℕ, zero, suc, List, [], ◌∷◌, ◌++◌, map, length, Option, Some, refl, sym, ap, ◌∙◌, subst as transport, arith, inl, inr, Bool, true, false}
 use Rattle.std.specs.Prelude.{option_map, ◌&&◌, ◌≢◌}
 use Rattle.lp_unify_laws.specs.TypesBelow.{IsTypeBelow, AreTypesBelow}
 use Rattle.lp_calculus.specs.Types.{Ty, arrow}

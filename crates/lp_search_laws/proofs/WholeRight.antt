@@ -6,7 +6,6 @@ use mathlib.Core.Path.{fun_ext}
 use Rattle.lp_calculus.specs.Types.{Ty, instance}
 use Rattle.lp_calculus.specs.Term.{Term, Atom, constant, integer, text, eigen, logic, param}
 use Rattle.lp_calculus.specs.Convert.{same}
-use Rattle.lp_calculus.specs.Fill.{Within}
 use Rattle.lp_calculus.specs.Typing.{type_at}
 use Rattle.lp_calculus.specs.Instance.{instance_term}
 use Rattle.lp_calculus.specs.Closed.{AreClosed}
@@ -15,12 +14,12 @@ use Rattle.lp_model.specs.Unify.{unit_limit}
 use Rattle.lp_lemmas.specs.Each.{EachOf}
 use Rattle.lp_model.specs.Flat.{Goals, Clause}
 use Rattle.lp_model.specs.Flatten.{ClauseFormula, flatten_query}
-use Rattle.lp_model.specs.Index.{instantiate, at}
+use Rattle.lp_model.specs.Index.{at}
 use Rattle.lp_model.specs.Pair.{Closing, closed}
 use Rattle.lp_model.specs.Skeleton.{Told, run}
 use Rattle.lp_model.specs.Branch.{Answer}
 use Rattle.lp_model.specs.Search.{look, start}
-use Rattle.lp_model.specs.Proofs.{Declared, AreFlattened, PlainlyProvable}
+use Rattle.lp_model.specs.Proofs.{Declared, AreFlattened}
 use Rattle.lp_model.specs.Answers.{Query, Variable, AnswerTyping, Instance, Closes, AreTypedValues, AreWitnesses, ConvertEach, IsWellFormed, IsInstance, IsClosedInstance, IsProvable, IsRight, TypedAnswer, filled}
 use Rattle.lp_standard.specs.Schemes.{IsStandard}
 use Rattle.lp_proof_laws.specs.Unnegated.{IsUnnegatedAtom, IsUnnegated}

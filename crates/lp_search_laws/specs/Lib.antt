@@ -1,6 +1,7 @@
 pub mod Behind
 pub mod Branches
 pub mod Clauses
+pub mod Denials
 pub mod Enough
 pub mod Holds
 pub mod Right

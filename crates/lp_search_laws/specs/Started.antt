@@ -1,5 +1,5 @@
 -- Typed queries, programs of flattened clauses, and what the search of a query starts with.
-use Rattle.std.specs.Prelude.{◌≡◌, ◌≢◌, ℕ, suc, ◌-◌, List, [], ◌∷◌, ◌++◌, map, length, reverse, Some}
+use Rattle.std.specs.Prelude.{◌≡◌, ◌≢◌, ℕ, suc, ◌-◌, List, [], map, length, reverse}
 use Rattle.lp_unify_laws.specs.TypesBelow.{IsTypeBelow, AreTypesBelow}
 use Rattle.lp_calculus.specs.Types.{Ty, instance}
 use Rattle.lp_calculus.specs.Term.{Atom, atom, constant, integer, text, eigen, logic, param}
@@ -9,7 +9,7 @@ use Rattle.lp_calculus.specs.Typing.{Typed, o_type, type_at}
 use Rattle.lp_standard.specs.Numbers as number
 use Rattle.lp_lemmas.specs.Each.{EachOf}
 use Rattle.lp_model.specs.Pair.{Closing, closed}
-use Rattle.lp_model.specs.Flat.{Goals, Clause, Clauses, clause_list, goal_list, instantiate_goals, formula_of_goal}
+use Rattle.lp_model.specs.Flat.{Goals, goal_list, instantiate_goals, formula_of_goal}
 use Rattle.lp_model.specs.Flatten.{ClauseFormula}
 use Rattle.lp_model.specs.Proofs.{Declared, under, PlainlyProvable}
 use Rattle.lp_model.specs.Answers.{Query, Variable, Instance, Closes, ConvertEach, AreWitnesses, filled}

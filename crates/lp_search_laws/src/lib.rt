@@ -26,5 +26,7 @@ pub mod views;
 pub mod residual;
 /// A clause against a goal.
 pub mod tries;
+/// Negated goals.
+pub mod negation;
 /// The search as a whole.
 pub mod whole;

@@ -6,11 +6,11 @@ use lp_base::{Memory, Status};
 const FILES: [(&str, &str); 2] = [
     (
         "neg.sig",
-        "sig neg. kind i type. type a, b i. type p, q, lone i -> o. type r o. type has list A -> o.",
+        "sig neg. kind i type. type a, b i. type p, q, lone, some i -> o. type r o. type has list A -> o. type wrap A -> i. type ints list int -> o.",
     ),
     (
         "neg.mod",
-        "module neg. p a. p b. q a. lone X :- p X, not (q X). r :- r. has L.",
+        "module neg. p a. p b. q a. lone X :- p X, not (q X). r :- r. has L. ints nil. some (wrap L) :- ints L.",
     ),
 ];
 
@@ -46,6 +46,8 @@ fn what_has_no_proof_is_denied(rt: HostRuntime) -> Result<(), Memory> {
         ("q Y => not (q b)", Status::OpenNot, OPEN),
         ("not (has nil)", Status::OpenNot, OPEN),
         ("has [1] => not (has [a])", Status::Done, FAILS),
+        // The list in `X` may be one of texts, of which `some` does not hold.
+        ("X = wrap nil, not (some X)", Status::OpenNot, OPEN),
         // Neither an answer with a pair nor a search that was cut says anything.
         ("not (sigma F\\ F a = a)", Status::OpenNot, OPEN),
         ("not (sigma X\\ p X, !, q b)", Status::OpenNot, OPEN),

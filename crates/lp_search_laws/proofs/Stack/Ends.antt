@@ -1,11 +1,11 @@
 -- Every run ends, where some weight of tasks falls: the steps and answers left, then the goals that may still be taken apart in a row,
 -- then the weight of the stack go down. A run that is over tells the same with more moves.
-use Rattle.std.proofs.Common.{◌≡◌, ℕ, zero, suc, ◌+◌, ◌<◌, ◌≤◌, List, [], ◌∷◌, ◌++◌, length, Some, refl, sym, ap, subst, ◌∙◌, arith}
+use Rattle.std.proofs.Common.{◌≡◌, ℕ, zero, suc, ◌+◌, ◌<◌, ◌≤◌, List, [], ◌∷◌, ◌++◌, length, Some, refl, ap, ◌∙◌, arith}
 use Rattle.std.specs.Prelude.{Bool, true, false, ◌-◌, if◌then◌else◌}
 use Rattle.lp_model.specs.declared.ending.Ending.{Ending}
 use Rattle.lp_model.specs.declared.ending.Ending.TheVariants.{NoMore, NoMoreCut, Enough, Steps, Flexible, Arithmetic, OpenNot, Deep}
 use Rattle.lp_model.specs.Skeleton.{View, Gives, Opens, Parts, Takes, Cuts, Denies, Halts, Lacks, State, Note, Move, Goes, Tells, Stops, Breaks, Waits, Told, Inner, Refuted, Held, Broke, Lasts, starts_within, oldest, move_denied, move_view, move_at, move, later, inner_end, inner_after, inner, told_after, run}
-use Rattle.lp_search_laws.proofs.Stack.Inners.{IsOver, IsMade, inner_more, move_more}
+use Rattle.lp_search_laws.proofs.Stack.Inners.{IsOver, IsMade, move_more}
 use Rattle.lp_model.specs.Faithful.{total, OpensLighter, Falls, IsLack, Leaves, Suffices}
 use Rattle.lp_lemmas.specs.Each.{EachOf}
 use Rattle.lp_lemmas.proofs.Each.{each_append, each_drop}
@@ -15,7 +15,7 @@ total_append w [] ys = let e : total w ys ≡ 0 + total w ys = omega arith in e
 total_append w (x ∷ xs) ys = let e = total_append w xs ys in omega arith
 
 module _ {T A : Type 0} (look : ℕ → T → View T A) where
-  made_where_ended : (go : State T → Told A) (v : Move T A) (e : Ending) → (told_after go v).ending ≡ Some e → IsMade v
+  pub made_where_ended : (go : State T → Told A) (v : Move T A) (e : Ending) → (told_after go v).ending ≡ Some e → IsMade v
   unfolding IsMade
   made_where_ended go (Goes j ns s) e h = tt
   made_where_ended go (Tells a ns s) e h = tt

@@ -3,7 +3,7 @@ use Rattle.std.proofs.Common.{◌≡◌, ℕ, zero, suc, ◌<◌, List, [], ◌�
 use Rattle.std.specs.Prelude.{Bool, true, false}
 use Rattle.lp_model.specs.declared.ending.Ending.{Ending}
 use Rattle.lp_model.specs.declared.ending.Ending.TheVariants.{NoMore, NoMoreCut, Enough, Steps, Deep}
-use Rattle.lp_model.specs.Skeleton.{View, Gives, Opens, Parts, Takes, Cuts, Denies, Halts, Lacks, State, Note, GoalNote, named, not_constant, Move, Goes, Tells, Stops, Breaks, Waits, Inner, Refuted, Held, Broke, Lasts, starts_within, move_denied, move_view, move_at, move, inner, Told, told_after, run}
+use Rattle.lp_model.specs.Skeleton.{View, Gives, Opens, Parts, Takes, Cuts, Denies, Halts, Lacks, State, GoalNote, named, not_constant, Move, Goes, Tells, Stops, Breaks, Waits, Inner, Refuted, Held, Broke, Lasts, starts_within, move_denied, move_view, move_at, move, inner, Told, told_after, run}
 use Rattle.lp_search_laws.proofs.Stack.Inners.{IsMade, move_more}
 use Rattle.lp_search_laws.proofs.Stack.Ends.{stays_over}
 use Rattle.lp_model.specs.Events.{Event, Gave, Over, first_after, first, Advances, Gathers}

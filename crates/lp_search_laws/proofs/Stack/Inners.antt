@@ -1,5 +1,5 @@
 -- The search of a negated goal: more moves change nothing once it is over, and so the move that it is part of stays.
-use Rattle.std.proofs.Common.{◌≡◌, ℕ, zero, suc, ◌≤◌, List, [], ◌∷◌, ◌++◌, length, refl, sym, ap, subst, ◌∙◌, arith}
+use Rattle.std.proofs.Common.{◌≡◌, ℕ, zero, suc, ◌≤◌, List, [], ◌∷◌, length, refl, ap, ◌∙◌, arith}
 use Rattle.std.specs.Prelude.{◌≢◌, Bool, true, false, if◌then◌else◌}
 use Rattle.lp_model.specs.declared.ending.Ending.{Ending}
 use Rattle.lp_model.specs.declared.ending.Ending.TheVariants.{NoMore, NoMoreCut, Enough, Steps, Flexible, Arithmetic, OpenNot, Deep}
@@ -144,7 +144,7 @@ module _ {T A : Type 0} (look : ℕ → T → View T A) where
     view_rightly n k g u p lost rest (Halts e) = tt
     view_rightly n k g u p lost rest Lacks = tt
 
-    at_rightly : (n k g u p : ℕ) (lost : Bool) (ts : List T) → StopsRightly (move_at go look n k g u p lost ts)
+    pub at_rightly : (n k g u p : ℕ) (lost : Bool) (ts : List T) → StopsRightly (move_at go look n k g u p lost ts)
     at_rightly n zero g u p lost ts = tt
     at_rightly n (suc k) g u p true [] = tt
     at_rightly n (suc k) g u p false [] = tt

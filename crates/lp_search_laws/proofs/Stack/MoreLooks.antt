@@ -3,7 +3,7 @@
 use Rattle.std.proofs.Common.{◌≡◌, ℕ, zero, suc, List, [], ◌∷◌, ◌++◌, length, Some, refl, sym, ap, subst, ◌∙◌}
 use Rattle.std.specs.Prelude.{Bool, true, false}
 use Rattle.lp_model.specs.declared.ending.Ending.{Ending}
-use Rattle.lp_model.specs.Skeleton.{GoalName, View, Opens, Parts, Takes, Lacks, State, Note, GoalNote, back, Move, Goes, Tells, Stops, Breaks, Waits, Told, Inner, move_view, move_at, move, later, inner_after, inner, told_after, run}
+use Rattle.lp_model.specs.Skeleton.{GoalName, View, Opens, Takes, Lacks, State, GoalNote, back, Move, Goes, Tells, Stops, Breaks, Waits, Told, Inner, move_view, move_at, inner_after, inner, told_after, run}
 use Rattle.lp_search_laws.proofs.Stack.Inners.{IsOver, IsMade, Follows, later_over, view_follows, made_where_over, after_follows}
 
 -- the second look has more steps than the first one; a dead task is one at which the first looks lack steps

@@ -3,7 +3,7 @@ use Rattle.std.proofs.Common.{◌≡◌, ℕ, zero, suc, ◌+◌, List, [], ◌�
 use Rattle.std.specs.Prelude.{Bool, true, false, if◌then◌else◌}
 use Rattle.lp_model.specs.declared.ending.Ending.{Ending}
 use Rattle.lp_model.specs.declared.ending.Ending.TheVariants.{NoMore, NoMoreCut, Enough, Steps, Flexible, Arithmetic, OpenNot, Deep}
-use Rattle.lp_model.specs.Skeleton.{View, Gives, Opens, Parts, Takes, Cuts, Denies, Halts, Lacks, State, Note, GoalNote, BackNote, AnswerNote, CutNote, named, not_constant, Move, Goes, Tells, Stops, Breaks, Waits, Told, Inner, Refuted, Held, Broke, Lasts, starts_within, oldest, back, back_for_more, move_denied, move_view, move_at, move, later, inner_end, inner_after, inner, told_after, run}
+use Rattle.lp_model.specs.Skeleton.{View, Gives, Opens, Parts, Takes, Cuts, Denies, Halts, Lacks, State, Note, GoalNote, BackNote, AnswerNote, CutNote, Move, Goes, Tells, Stops, Breaks, Waits, Told, Inner, Refuted, Held, Broke, Lasts, starts_within, oldest, back, back_for_more, move_denied, move_view, move_at, move, later, inner_end, inner_after, inner, told_after, run}
 use Rattle.lp_model.specs.Moves.{moves_after, moves, told_of, steps_noted, answers_noted, numbers_after}
 
 steps_append : (ns ms : List Note) → steps_noted (ns ++ ms) ≡ steps_noted ns + steps_noted ms
