@@ -35,7 +35,7 @@ use Rattle.lp_unify_laws.proofs.Termination.Looks.{head_comes, normal_comes}
 use Rattle.lp_unify_laws.proofs.Termination.Runs.{solve_comes}
 use Rattle.lp_unify_laws.proofs.Termination.Pruning.{prunes_typed}
 use Rattle.lp_search_laws.specs.Holds.{IsTyped, equation}
-use Rattle.lp_search_laws.specs.Branches.{BranchTyping, IsTypedBranch, AreTypedEntries, ArePlainEntries, IsGoal}
+use Rattle.lp_search_laws.specs.Branches.{BranchTyping, IsTypedBranch, AreTypedEntries}
 use Rattle.lp_search_laws.specs.Enough.{IsFound, CanEquate, CanAssign, CallHasEnough, HeadHasEnough, AtomHasEnough, TermHasEnough, HasEnough}
 use Rattle.lp_search_laws.proofs.TypedParts.{typed_reduced}
 use Rattle.lp_search_laws.proofs.AtomKinds.{AtomKind, declared, equality, assignment, order, atom_kind}

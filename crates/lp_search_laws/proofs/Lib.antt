@@ -65,6 +65,7 @@ pub mod SearchEnds
 pub mod MoreSteps
 pub mod WholeRight
 pub mod WellFormed
+pub mod Judged
 pub mod FullViews
 pub mod Comes
 pub mod Limits

@@ -1,6 +1,6 @@
 -- Flattened goals and clauses of typed formulas are typed over the same type variables, and plain.
 use Rattle.std.proofs.Common.{◌≡◌, ℕ, zero, suc, List, [], ◌∷◌, ◌++◌, map, length, Option, Some, refl, sym, ap, ◌∙◌, subst as transport, arith, inl, inr, Bool, true, false}
-use Rattle.std.specs.Prelude.{option_map, ◌&&◌, ◌≢◌}
+use Rattle.std.specs.Prelude.{option_map, ◌&&◌}
 use Rattle.lp_unify_laws.specs.TypesBelow.{IsTypeBelow, AreTypesBelow}
 use Rattle.lp_calculus.specs.Types.{Ty, arrow}
 use Rattle.lp_calculus.specs.Term.{Term, Atom, index, atom, abs, app, apply, shift, constant, integer, text, eigen, logic, param}
@@ -15,7 +15,6 @@ use Rattle.lp_standard.specs.Positive.{IsPositiveConstant}
 use Rattle.lp_standard.proofs.Positives.{others_are_positive}
 use Rattle.lp_standard.specs.Connectives.{truth, cut, not_of, two, pi_of, sigma_of, body_of, Connective, connective_of, connective_at, connective_of_constant}
 use Rattle.lp_standard.specs.Connectives as connective
-use Rattle.lp_standard.specs.Numbers as number
 use Rattle.lp_standard.specs.Positive.{are_positive}
 use Rattle.lp_model.specs.Flat.{Goal, Atomic, Cut, Either, Exists, Forall, assuming, denied, Goals, no_goals, goals, Clause, clause, Clauses, no_clauses, clauses, add_clauses, raise_goals, all_of, formula_of_goal, formula_of_goals, formula_of_clause, formula_of_clauses}
 use Rattle.lp_model.specs.Flatten.{only, is_goal_head, is_clause_head, flat_goal, flat_goal_form, flat_list, flat_clause, flat_clause_form}
@@ -64,7 +63,7 @@ two_is o X Y e f =
 quantifier_is : (o : Option Ty) (T X : Ty) → o ≡ Some (arrow (arrow T o_type) o_type) → o ≡ Some (arrow X o_type) → X ≡ arrow T o_type
 quantifier_is o T X e f = let g : Some (arrow (arrow T o_type) o_type) ≡ Some (arrow X o_type) = sym e ∙ f in cc
 
-denied_is : (o : Option Ty) (X : Ty) → o ≡ Some (arrow o_type o_type) → o ≡ Some (arrow X o_type) → X ≡ o_type
+pub denied_is : (o : Option Ty) (X : Ty) → o ≡ Some (arrow o_type o_type) → o ≡ Some (arrow X o_type) → X ≡ o_type
 denied_is o X e f = let g : Some (arrow o_type o_type) ≡ Some (arrow X o_type) = sym e ∙ f in cc
 
 -- no goal without a connective at its top has the head of `=>`, `:-`, `not` or `!`

@@ -1,5 +1,5 @@
 -- Without negated goals none comes: what is put into goals and clauses brings none, and no look leaves one.
-use Rattle.std.proofs.Common.{◌≡◌, ℕ, zero, suc, ◌+◌, List, [], ◌∷◌, ◌++◌, map, length, Option, Some, None, Bool, true, false, refl, sym, ap, subst as transport, inl, inr}
+use Rattle.std.proofs.Common.{ℕ, zero, suc, ◌+◌, List, [], ◌∷◌, ◌++◌, map, length, Option, Some, None, Bool, true, false}
 use Rattle.std.specs.Prelude.{cond, filter, nat_eq, nat_le, ◌&&◌, if◌then◌else◌}
 use Rattle.lp_calculus.specs.Types.{Ty}
 use Rattle.lp_calculus.specs.Term.{Term, index, atom, abs, app, Atom, constant, integer, text, eigen, logic, param}
@@ -11,14 +11,14 @@ use Rattle.lp_lemmas.proofs.Each.{each_append}
 use Rattle.lp_model.specs.Types.{TypeBinding}
 use Rattle.lp_model.specs.Look.{head_normal}
 use Rattle.lp_model.specs.Rule.{type_pairs}
-use Rattle.lp_model.specs.Unify.{Unified, Fail, Solution, Spent, State, solve}
-use Rattle.lp_model.specs.Values.{Outcome, Is, Faults, Number, Bytes, evaluate, term_of, ordered}
+use Rattle.lp_model.specs.Unify.{Unified, Fail, Solution, Spent, solve}
+use Rattle.lp_model.specs.Values.{Outcome, Is, Faults, Number, Bytes, evaluate, ordered}
 use Rattle.lp_model.specs.Skeleton.{View, Gives, Opens, Parts, Takes, Cuts, Denies, Halts, Lacks}
 use Rattle.lp_standard.specs.Connectives.{Connective, connective_of}
 use Rattle.lp_standard.specs.Connectives as connective
-use Rattle.lp_model.specs.Flat.{Goal, Atomic, Cut, Either, Exists, Forall, Assume, Not, Written, under_all, map_goal, map_goals, map_clause, map_clauses, Goals, no_goals, goals, goal_list, clause_list, Clause, clause, Clauses, no_clauses, clauses, put_goal, put_clause, type_goal, type_clause, instantiate_goals, type_goals}
-use Rattle.lp_model.specs.Branch.{Entry, Branch, Answer, Task, Go, Try, Stop, Lack, entries, put_entry, put_entries, type_entry, type_entries, resume, both_written}
-use Rattle.lp_model.specs.Search.{with_goals, follow, equated, assigned, compared, candidates, goal_key, tries, slots_of, slotted, pairs_of, renewed, tried, try_clause, in_place, look_constant, look_atom, look_form, look_normal, look_goal, look_branch, look}
+use Rattle.lp_model.specs.Flat.{Goal, Atomic, Cut, Either, Exists, Forall, Assume, Not, Written, under_all, map_goal, map_goals, map_clause, map_clauses, Goals, no_goals, goals, goal_list, clause_list, Clause, clause, Clauses, no_clauses, clauses, instantiate_goals, type_goals}
+use Rattle.lp_model.specs.Branch.{Entry, Branch, Answer, Task, Go, Try, Stop, Lack, entries, put_entry, put_entries, type_entry, type_entries, both_written}
+use Rattle.lp_model.specs.Search.{with_goals, follow, assigned, compared, candidates, goal_key, tries, slots_of, slotted, pairs_of, renewed, try_clause, in_place, look_constant, look_atom, look_form, look_normal, look_goal, look_branch, look}
 use Rattle.lp_search_laws.specs.Unnegated.{IsUnnegatedGoal, AreUnnegatedGoals, IsUnnegatedClause, AreUnnegatedClauses, IsUnnegatedEntry, IsUnnegatedTask}
 
 -- what a view leaves

@@ -1,8 +1,8 @@
 -- Flattened goals and clauses of formulas without `not` have no negated goal.
-use Rattle.std.proofs.Common.{◌≡◌, ℕ, zero, suc, List, [], ◌∷◌, ◌++◌, map, Option, Some, None, Bool, true, false, refl, sym, ap, ◌∙◌, subst as transport, inl, inr}
+use Rattle.std.proofs.Common.{◌≡◌, ℕ, zero, suc, List, [], ◌∷◌, ◌++◌, map, Some, Bool, true, false, refl, sym, subst as transport, inl, inr}
 use Rattle.std.specs.Prelude.{◌&&◌, option_map}
 use Rattle.lp_calculus.specs.Types.{Ty}
-use Rattle.lp_calculus.specs.Term.{Term, Atom, index, atom, abs, app, shift}
+use Rattle.lp_calculus.specs.Term.{Term, index, atom, abs, app, shift}
 use Rattle.lp_calculus.specs.Closed.{AllAtoms}
 use Rattle.lp_calculus.proofs.Sigma.{rename}
 use Rattle.lp_calculus.proofs.Plain.{bump, shift-rename}
@@ -10,11 +10,10 @@ use Rattle.lp_calculus.specs.Spine.{head_of, arguments}
 use Rattle.lp_lemmas.specs.Each.{EachOf}
 use Rattle.lp_lemmas.proofs.Each.{each_append}
 use Rattle.lp_lemmas.proofs.Options.{and_then_some, option_map_some}
-use Rattle.lp_model.specs.Look.{◌>>=◌}
 use Rattle.lp_standard.specs.Connectives.{two, pi_of, sigma_of, not_of, body_of, Connective, connective_of}
 use Rattle.lp_standard.specs.Connectives as connective
 use Rattle.lp_standard.specs.Positive.{are_positive}
-use Rattle.lp_model.specs.Flat.{Goal, Atomic, Cut, Either, Exists, Forall, assuming, denied, Goals, no_goals, goals, Clause, clause, Clauses, no_clauses, clauses, add_clauses, raise_goals}
+use Rattle.lp_model.specs.Flat.{Atomic, Cut, Either, Exists, Forall, assuming, Goals, no_goals, goals, clause, Clauses, no_clauses, clauses, add_clauses, raise_goals}
 use Rattle.lp_model.specs.Flatten.{only, is_goal_head, is_clause_head, flat_goal, flat_goal_form, flat_list, flat_clause, flat_clause_form}
 use Rattle.lp_model.specs.Proofs.{Declared}
 use Rattle.lp_proof_laws.specs.Unnegated.{IsUnnegatedAtom}

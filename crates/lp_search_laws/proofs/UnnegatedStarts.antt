@@ -1,14 +1,12 @@
 -- Programs and queries without negation start without negated goals.
-use Rattle.std.proofs.Common.{◌≡◌, ℕ, zero, suc, ◌-◌, List, [], ◌∷◌, ◌++◌, map, length, Some, sym, subst as transport}
-use Rattle.lp_calculus.specs.Term.{Term, Atom, index, atom, abs, app, substitute, logic}
-use Rattle.lp_calculus.specs.Closed.{AllAtoms}
-use Rattle.lp_calculus.specs.Convert.{ReducesTo}
+use Rattle.std.proofs.Common.{◌≡◌, ℕ, suc, ◌-◌, List, [], ◌∷◌, Some, sym, subst as transport}
+use Rattle.lp_calculus.specs.Term.{atom, logic}
 use Rattle.lp_lemmas.specs.Each.{EachOf}
 use Rattle.lp_lemmas.proofs.Each.{each_append}
-use Rattle.lp_lemmas.proofs.Options.{and_then_some, option_map_some}
+use Rattle.lp_lemmas.proofs.Options.{and_then_some}
 use Rattle.lp_model.specs.Eigens.{beta_normal}
 use Rattle.lp_model.specs.Flat.{Goals, no_goals, Clause, clause, Clauses, no_clauses, clauses, clause_list, instantiate_goals}
-use Rattle.lp_model.specs.Flatten.{ClauseFormula, with_type_vars, flat_goal, flat_clause, flatten, flatten_query}
+use Rattle.lp_model.specs.Flatten.{ClauseFormula, with_type_vars, flat_goal, flatten_query}
 use Rattle.lp_model.specs.Branch.{Go, nothing_written}
 use Rattle.lp_model.specs.Answers.{Query}
 use Rattle.lp_model.specs.Proofs.{Declared, AreFlattened}

@@ -1,11 +1,10 @@
 -- The answers of a search of the whole language are well formed: what a typed task turns out to be is typed, negated goals too.
-use Rattle.std.proofs.Common.{◌≡◌, ℕ, List, [], ◌∷◌, map, length, Some, refl, sym, ap, subst as transport, arith, inl, inr}
-use Rattle.std.specs.Prelude.{Bool, ◌≤◌, ◌⊎◌}
+use Rattle.std.proofs.Common.{◌≡◌, ℕ, List, [], ◌∷◌, map, length, Some, refl, subst as transport, inl, inr}
 use Rattle.lp_model.specs.Unify.{unit_limit}
 use Rattle.lp_lemmas.specs.Each.{AnyOf, EachOf}
 use Rattle.lp_standard.specs.Schemes.{IsStandard}
 use Rattle.lp_model.specs.Skeleton.{View, Gives, Opens, Parts, Takes, Cuts, Denies, Halts, Lacks, starts, run}
-use Rattle.lp_model.specs.Faithful.{Covers, AreFine, Denied, Faithful}
+use Rattle.lp_model.specs.Faithful.{Covers, AreFine, Faithful}
 use Rattle.lp_model.specs.Flat.{Goals, Clause}
 use Rattle.lp_model.specs.Flatten.{ClauseFormula, flatten_query}
 use Rattle.lp_model.specs.Branch.{Branch, Answer, Task, Go}

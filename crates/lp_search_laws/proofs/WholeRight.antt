@@ -4,13 +4,13 @@ use Rattle.std.proofs.Common.{◌≡◌, ℕ, zero, suc, ◌-◌, ◌<◌, List,
 use Rattle.std.proofs.lemmas.List.{length-map}
 use mathlib.Core.Path.{fun_ext}
 use Rattle.lp_calculus.specs.Types.{Ty, instance}
-use Rattle.lp_calculus.specs.Term.{Term, Atom, index, atom, abs, app}
+use Rattle.lp_calculus.specs.Term.{Term, index, atom, abs, app}
 use Rattle.lp_calculus.specs.Convert.{same}
 use Rattle.lp_calculus.specs.Fill.{Within}
 use Rattle.lp_calculus.specs.Typing.{type_at}
 use Rattle.lp_calculus.specs.Instance.{instance_term}
 use Rattle.lp_calculus.specs.Closed.{AreClosed, AllAtoms}
-use Rattle.lp_calculus.proofs.Fills.{within_subst, within_more}
+use Rattle.lp_calculus.proofs.Fills.{within_subst}
 use Rattle.lp_model.specs.Unify.{unit_limit}
 use Rattle.lp_lemmas.specs.Each.{EachOf}
 use Rattle.lp_model.specs.Flat.{Goals, Clause}
