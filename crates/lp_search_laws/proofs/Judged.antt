@@ -34,7 +34,7 @@ use Rattle.lp_search_laws.proofs.Stack.InnerRuns.{refuted_fails, held_gives}
 abbrev nothing : Query
 nothing = record { type_vars = 0; vars = []; formula = truth }
 
-abbrev no_values : Instance
+abbrev pub no_values : Instance
 no_values = record { types = []; values = [] }
 
 argument_typed : (d : Declared) → IsStandard d → (E : List Ty) (V : List Variable) (g : Term) → IsTyped d E V (not_of g) o_type → IsTyped d E V g o_type
@@ -48,10 +48,10 @@ value_of : Option Variable → Term
 value_of None = truth
 value_of (Some v) = atom (param 0 (instance (λ i. o_type) v.type))
 
-some_closing : List Variable → Closing
+pub some_closing : List Variable → Closing
 some_closing V = record { types = λ i. o_type; terms = λ x l. value_of (slice_get V x) }
 
-some_closes : (d : Declared) (V : List Variable) → Closes d V (some_closing V)
+pub some_closes : (d : Declared) (V : List Variable) → Closes d V (some_closing V)
 unfolding some_closing value_of
 some_closes d V = record {
   types = λ i. tt;
@@ -61,14 +61,14 @@ some_closes d V = record {
       transport (λ o. IsWitness d (map (instance (λ i. o_type)) v.scope) (value_of o) T) (sym e) (record { typed = refl; closed = c; positive = tt; type_closed = c });
 }
 
-none : {A : Type 0} (xs : List A) → length xs ≡ 0 → xs ≡ []
+pub none : {A : Type 0} (xs : List A) → length xs ≡ 0 → xs ≡ []
 none [] e = refl
 none (x ∷ xs) e = cc
 
-no_pairs : (n : ℕ) → nat_eq n 0 ≡ true → n ≡ 0
+pub no_pairs : (n : ℕ) → nat_eq n 0 ≡ true → n ≡ 0
 no_pairs n e = eqb-true n 0 e
 
-no_typed_values : (d : Declared) (V : List Variable) (ts : List Term) → AreTypedValues d V ts [] → ts ≡ []
+pub no_typed_values : (d : Declared) (V : List Variable) (ts : List Term) → AreTypedValues d V ts [] → ts ≡ []
 no_typed_values d V [] h = refl
 no_typed_values d V (t ∷ ts) h = absurd h
 

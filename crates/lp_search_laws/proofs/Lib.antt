@@ -66,6 +66,7 @@ pub mod MoreSteps
 pub mod WholeRight
 pub mod WellFormed
 pub mod Judged
+pub mod ClosedNegations
 pub mod FullViews
 pub mod Comes
 pub mod Limits
