@@ -30,11 +30,11 @@ use Rattle.lp_lemmas.proofs.Options.{and_then_some, option_map_some}
 use Rattle.lp_search_laws.proofs.Computed.{plain_type, both_true}
 use Rattle.lp_search_laws.proofs.PlainFlat.{raise_first, goals_raise, head_within, plain_spine, clause_head, plain_clause_head}
 
-only_some : {A : Type 0} (b : Bool) (a x : A) → only b a ≡ Some x → (b ≡ true) × (a ≡ x)
+pub only_some : {A : Type 0} (b : Bool) (a x : A) → only b a ≡ Some x → (b ≡ true) × (a ≡ x)
 only_some true a x e = let g : a ≡ x = cc in (refl, g)
 only_some false a x e = absurd (cc)
 
-some_is : {A : Type 0} (a x : A) → Some a ≡ Some x → a ≡ x
+pub some_is : {A : Type 0} (a x : A) → Some a ≡ Some x → a ≡ x
 some_is a x e = let g : a ≡ x = cc in g
 
 -- a formula over indices of these types, without logic variables and eigenconstants, over the type variables below k

@@ -20,35 +20,21 @@ use Rattle.lp_proof_laws.specs.Unnegated.{IsUnnegatedAtom}
 use Rattle.lp_proof_laws.proofs.Uniform.Forms.{Shape, form_shape}
 use Rattle.lp_search_laws.specs.Unnegated.{AreUnnegatedGoals, AreUnnegatedClauses}
 use Rattle.lp_search_laws.proofs.Unnegated.{goals_mapped}
+use Rattle.lp_search_laws.proofs.AtomsKept.{atoms_shift}
+use Rattle.lp_search_laws.proofs.TypedFlats.{only_some, some_is}
 
 abbrev U : Term → Type 0
 U t = AllAtoms IsUnnegatedAtom t
 
-renamed : (ρ : ℕ → ℕ) (t : Term) → U t → U (rename ρ t)
-renamed ρ (index i) h = tt
-renamed ρ (atom a) h = h
-renamed ρ (abs b) h = renamed _ b h
-renamed ρ (app t u) h = (renamed ρ t h.0, renamed ρ u h.1)
-
-raised : (t : Term) → U t → U (shift 0 1 t)
-raised t h = transport U (sym (shift-rename 0 1 t)) (renamed (bump 1 0) t h)
-
 all_raised : (ts : List Term) → EachOf U ts → EachOf U (map (shift 0 1) ts)
 all_raised [] h = tt
-all_raised (t ∷ ts) h = (raised t h.0, all_raised ts h.1)
+all_raised (t ∷ ts) h = (atoms_shift IsUnnegatedAtom t h.0, all_raised ts h.1)
 
 body : (s : Term) → U s → U (body_of s)
 body (abs b) h = h
-body (index i) h = (raised (index i) h, tt)
+body (index i) h = (atoms_shift IsUnnegatedAtom (index i) h, tt)
 body (atom a) h = (h, tt)
-body (app t u) h = (raised (app t u) h, tt)
-
-only_some : {A : Type 0} (p : Bool) (a b : A) → only p a ≡ Some b → a ≡ b
-only_some true a b e = let q : a ≡ b = cc in q
-only_some false a b e = absurd (cc)
-
-some_is : {A : Type 0} (a x : A) → Some a ≡ Some x → a ≡ x
-some_is a x e = let g : a ≡ x = cc in g
+body (app t u) h = (atoms_shift IsUnnegatedAtom (app t u) h, tt)
 
 added : (cs ds : Clauses) → AreUnnegatedClauses cs → AreUnnegatedClauses ds → AreUnnegatedClauses (add_clauses cs ds)
 added no_clauses ds h k = k
@@ -92,7 +78,7 @@ module _ (d : Declared) where
         let z = option_map_some (flat_goal n d (false ∷ B) b (raise_goals 0 rest)) (λ hs. goals (Exists T hs) no_goals) gs e in
         transport AreUnnegatedGoals z.2 (goal_flat n (false ∷ B) b (raise_goals 0 rest) z.0 z.1 (transport U (sym s.2) (body s.0 p.1)) (goals_mapped _ _ _ zero rest r), tt)
     form_flat (suc n) B t (connective.Not g) s rest gs e o r = let p = transport U s o in absurd (p.0 refl)
-    form_flat (suc n) B t connective.Atomic s rest gs e o r = transport AreUnnegatedGoals (only_some (is_goal_head (head_of t) && are_positive (arguments t)) (goals (Atomic t) rest) gs e) (tt, r)
+    form_flat (suc n) B t connective.Atomic s rest gs e o r = transport AreUnnegatedGoals (only_some (is_goal_head (head_of t) && are_positive (arguments t)) (goals (Atomic t) rest) gs e).1 (tt, r)
 
     list_flat : (n : ℕ) (B : List Bool) (ts : List Term) (gs : Goals) → flat_list n d B ts ≡ Some gs → EachOf U ts → AreUnnegatedGoals gs
     list_flat zero B ts gs e h = absurd (cc)

@@ -8,14 +8,15 @@ use Rattle.lp_model.specs.Faithful.{Covers, AreFine, Faithful}
 use Rattle.lp_model.specs.Flat.{Goals, Clause}
 use Rattle.lp_model.specs.Flatten.{ClauseFormula, flatten_query}
 use Rattle.lp_model.specs.Branch.{Branch, Answer, Task, Go}
-use Rattle.lp_model.specs.Answers.{Query, AnswerTyping, IsWellFormed}
+use Rattle.lp_model.specs.Answers.{Query, AnswerTyping, Instance, IsClosedInstance, IsWellFormed}
 use Rattle.lp_model.specs.Proofs.{Declared, AreFlattened}
 use Rattle.lp_model.specs.Search.{look, start}
 use Rattle.lp_search_laws.specs.Started.{IsTypedQuery, IsTypedSentence}
-use Rattle.lp_search_laws.specs.Branches.{BranchTyping, IsTypedBranch, IsProgramTyped, TypedTask, going, task_of, IsOk, IsRightView}
+use Rattle.lp_search_laws.specs.Branches.{BranchTyping, IsQueryInstance, IsTypedBranch, IsProgramTyped, TypedTask, going, task_of, IsOk, IsRightView}
 use Rattle.lp_search_laws.proofs.Stack.Faithful.{fine}
 use Rattle.lp_search_laws.proofs.LooksRight.{each_look}
 use Rattle.lp_search_laws.proofs.Begins.{start_typed, program_typed}
+use Rattle.lp_search_laws.proofs.WholeRight.{query_instance}
 
 none_of : {A : Type 0} (xs : List A) → AnyOf (λ x. ⊥) xs → ⊥
 none_of [] h = h
@@ -73,6 +74,10 @@ module _ (n : ℕ) (d : Declared) (std : IsStandard d) (P : List Clause) (progra
   run_fine : (y : BranchTyping) (b : Branch) → IsTypedBranch n d q y b → (j m steps answers : ℕ) → EachOf Fine (run (look unit_limit n P) j m (starts (Go b) steps answers)).answers
   run_fine y b h j m steps answers = fine (look unit_limit n P) steps Kept Fine Nothing NoAnswer (faithful steps) j m (starts (Go b) steps answers) (record { task = going y b; ok = h; is = refl }, tt)
 
+instances : (d : Declared) (q : Query) (as' : List Answer) → EachOf (λ a. (y : AnswerTyping) × IsWellFormed d q y a) as' → EachOf (λ a. (y : AnswerTyping) × IsWellFormed d q y a × ((i : Instance) → IsClosedInstance d y a i → IsQueryInstance d q i)) as'
+instances d q [] h = tt
+instances d q (a ∷ as') h = ((h.0.0, h.0.1, λ i c. query_instance d q h.0.0 a i h.0.1 c), instances d q as' h.1)
+
 pub answers_well_formed : (d : Declared) → IsStandard d → (l : ℕ) (F : List ClauseFormula) (P : List Clause) → EachOf (IsTypedSentence d) F → AreFlattened d F P → (q : Query) (gs : Goals) → IsTypedQuery d q → flatten_query l d q.formula ≡ Some gs →
-    (n j m steps answers : ℕ) → EachOf (λ a. (y : AnswerTyping) × IsWellFormed d q y a) (run (look unit_limit n P) j m (start q.type_vars (length q.vars) gs steps answers)).answers
-answers_well_formed d std l F P s x q gs t e n j m steps answers = run_fine n d std P (program_typed d std F P s x) q _ _ (start_typed d std l q gs t e n steps answers).1 j m steps answers
+    (n j m steps answers : ℕ) → EachOf (λ a. (y : AnswerTyping) × IsWellFormed d q y a × ((i : Instance) → IsClosedInstance d y a i → IsQueryInstance d q i)) (run (look unit_limit n P) j m (start q.type_vars (length q.vars) gs steps answers)).answers
+answers_well_formed d std l F P s x q gs t e n j m steps answers = instances d q _ (run_fine n d std P (program_typed d std F P s x) q _ _ (start_typed d std l q gs t e n steps answers).1 j m steps answers)

@@ -58,7 +58,7 @@ each_same [] = tt
 each_same (t ∷ ts) = (same t, each_same ts)
 
 -- a closed instance of an answer is one of the query, and one up to conversion
-query_instance : (d : Declared) (q : Query) (y : AnswerTyping) (a : Answer) (i : Instance) → IsWellFormed d q y a → IsClosedInstance d y a i → IsQueryInstance d q i
+pub query_instance : (d : Declared) (q : Query) (y : AnswerTyping) (a : Answer) (i : Instance) → IsWellFormed d q y a → IsClosedInstance d y a i → IsQueryInstance d q i
 query_instance d q y a i w x =
     let c = x.closing in
     let ts = map (instance (type_at a.types)) q.vars in
