@@ -40,7 +40,7 @@ module _ (P : Atom → Type 0) where
   atoms_unrename ρ (abs b) h = atoms_unrename (lift ρ) b h
   atoms_unrename ρ (app t u) h = (atoms_unrename ρ t h.0, atoms_unrename ρ u h.1)
 
-  atoms_shift : (t : Term) → AllAtoms P t → AllAtoms P (shift 0 1 t)
+  pub atoms_shift : (t : Term) → AllAtoms P t → AllAtoms P (shift 0 1 t)
   atoms_shift t h = transport (AllAtoms P) (sym (shift_one t)) (atoms_rename suc t h)
 
   atoms_up : (σ : ℕ → Term) → ((i : ℕ) → AllAtoms P (σ i)) → (i : ℕ) → AllAtoms P (up σ i)

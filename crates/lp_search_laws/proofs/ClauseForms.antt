@@ -57,7 +57,7 @@ mutual
   goal_types k B (Exists T gs) h = ((h.0, tt), goals_types k (false ∷ B) gs h.1)
   goal_types k B (Forall T gs) h = ((h.0, tt), goals_types k (true ∷ B) gs h.1)
   goal_types k B (Assume ws cs gs) h = ((tt, clauses_types k B cs h.0), goals_types k B gs h.1)
-  goal_types k B (Not ws gs) h = absurd h
+  goal_types k B (Not ws gs) h = (tt, goals_types k B gs h)
 
   goals_types : (k : ℕ) (B : List Bool) (gs : Goals) → AreGoals k B gs → AllAtoms (HasTypesBelow k) (formula_of_goals gs)
   goals_types k B no_goals h = tt

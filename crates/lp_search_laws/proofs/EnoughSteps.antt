@@ -1,4 +1,6 @@
 -- Typed branches have enough steps, with enough of them; and more are enough too.
+use Rattle.lp_lemmas.specs.Each.{EachOf}
+use Rattle.lp_search_laws.specs.Unnegated.{IsUnnegatedGoal, IsUnnegatedEntry, IsUnnegatedTask}
 use Rattle.std.proofs.Common.{◌≡◌, ℕ, ◌+◌, ◌≤◌, List, [], ◌∷◌, map, length, Option, Some, None, ◌∙◌, refl, sym, ap, subst as transport, arith, inl, inr}
 use Rattle.std.specs.Prelude.{option_map, ◌⊎◌}
 use Rattle.lp_calculus.specs.Types.{Ty, arrow}
@@ -33,7 +35,7 @@ use Rattle.lp_unify_laws.proofs.Termination.Looks.{head_comes, normal_comes}
 use Rattle.lp_unify_laws.proofs.Termination.Runs.{solve_comes}
 use Rattle.lp_unify_laws.proofs.Termination.Pruning.{prunes_typed}
 use Rattle.lp_search_laws.specs.Holds.{IsTyped, equation}
-use Rattle.lp_search_laws.specs.Branches.{BranchTyping, IsTypedBranch, AreTypedEntries, ArePlainEntries, IsGoal}
+use Rattle.lp_search_laws.specs.Branches.{BranchTyping, IsTypedBranch, AreTypedEntries}
 use Rattle.lp_search_laws.specs.Enough.{IsFound, CanEquate, CanAssign, CallHasEnough, HeadHasEnough, AtomHasEnough, TermHasEnough, HasEnough}
 use Rattle.lp_search_laws.proofs.TypedParts.{typed_reduced}
 use Rattle.lp_search_laws.proofs.AtomKinds.{AtomKind, declared, equality, assignment, order, atom_kind}
@@ -259,14 +261,12 @@ module _ (n : ℕ) (d : Declared) (std : IsStandard d) (q : Query) (y : BranchTy
       let r = by_goal E e w.0.level e.goal refl w.0.goal in
       (r.0, λ x xs t j k. let s : e ∷ es ≡ x ∷ xs = sym i ∙ j in transport (Enough r.0) (let v : e ≡ x = cc in v) r.1 t k)
 
-  no_denial : (k : ℕ) (Es : List (List Ty)) (gs : List Entry) → ArePlainEntries k Es gs → (e : Entry) (es : List Entry) (w : Written) (hs : Goals) → gs ≡ e ∷ es → e.goal ≡ Not w hs → ⊥
-  no_denial k [] [] p e es w hs i j = cc
-  no_denial k [] (x ∷ xs) p e es w hs i j = p
-  no_denial k (E ∷ Es) [] p e es w hs i j = p
-  no_denial k (E ∷ Es) (x ∷ xs) p e es w hs i j = let s : x.goal ≡ Not w hs = (let v : x ≡ e = cc in ap (λ z. z.goal) v ∙ j) in transport (IsGoal k []) s p.0.goal
+  no_denial : (gs : List Entry) → EachOf IsUnnegatedEntry gs → (e : Entry) (es : List Entry) (w : Written) (hs : Goals) → gs ≡ e ∷ es → e.goal ≡ Not w hs → ⊥
+  no_denial [] p e es w hs i j = cc
+  no_denial (x ∷ xs) p e es w hs i j = let s : x.goal ≡ Not w hs = (let v : x ≡ e = cc in ap (λ z. z.goal) v ∙ j) in transport IsUnnegatedGoal s p.0.goal
 
-  pub branch_has_enough : (m : ℕ) × HasEnough m (Go b)
-  branch_has_enough = let r = by_goals y.eigens b.goals refl h.entries in (r.0, (r.1, λ e es w gs i j. absurd (no_denial b.next_type y.eigens b.goals h.goals e es w gs i j)))
+  pub branch_has_enough : IsUnnegatedTask (Go b) → (m : ℕ) × HasEnough m (Go b)
+  branch_has_enough u = let r = by_goals y.eigens b.goals refl h.entries in (r.0, (r.1, λ e es w gs i j. absurd (no_denial b.goals u e es w gs i j)))
 
-pub branches_have_enough : (n : ℕ) (d : Declared) → IsStandard d → (q : Query) (y : BranchTyping) (b : Branch) → IsTypedBranch n d q y b → (m : ℕ) × HasEnough m (Go b)
-branches_have_enough n d std q y b h = branch_has_enough n d std q y b h
+pub branches_have_enough : (n : ℕ) (d : Declared) → IsStandard d → (q : Query) (y : BranchTyping) (b : Branch) → IsTypedBranch n d q y b → IsUnnegatedTask (Go b) → (m : ℕ) × HasEnough m (Go b)
+branches_have_enough n d std q y b h u = branch_has_enough n d std q y b h u

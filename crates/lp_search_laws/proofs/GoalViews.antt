@@ -7,8 +7,9 @@ use Rattle.lp_calculus.specs.Typing.{o_type, Typed}
 use Rattle.lp_calculus.proofs.Sigma.{instead}
 use Rattle.lp_model.specs.Pair.{Closing, closed}
 use Rattle.lp_standard.specs.Schemes.{IsStandard}
-use Rattle.lp_model.specs.Flat.{Written, Goal, Cut, Either, Forall, Assume, Not, Goals, Clause, Clauses, goal_list, clause_list, instantiate_goals, formula_of_goal, formula_of_goals, formula_of_clause, formula_of_clauses, Exists}
-use Rattle.lp_model.specs.Branch.{both_written, Entry, Branch, Go, entries}
+use Rattle.lp_model.specs.Flat.{Written, Goal, Cut, Either, Forall, Assume, Goals, Clause, Clauses, goal_list, clause_list, instantiate_goals, formula_of_goal, formula_of_goals, formula_of_clause, formula_of_clauses, Exists}
+use Rattle.lp_model.specs.Branch.{both_written, Entry, Branch, Go, Stop, entries}
+use Rattle.lp_model.specs.declared.ending.Ending.TheVariants.{OpenNot}
 use Rattle.lp_model.specs.Answers.{Query, Variable, AnswerTyping, over, type_of, IsPrefix}
 use Rattle.lp_model.specs.Proofs.{Declared}
 use Rattle.lp_model.specs.Search.{with_goals}
@@ -17,11 +18,11 @@ use Rattle.lp_unify_laws.proofs.Scopes.{prefix_more, prefix_none, more_none, eig
 use Rattle.lp_unify_laws.proofs.TypedInstances.{length_map, map_append}
 use Rattle.lp_search_laws.specs.Holds.{Holds, IsTyped}
 use Rattle.lp_search_laws.specs.Clauses.{clauses_at}
-use Rattle.lp_search_laws.specs.Branches.{IsGoal, EntryHolds, StandFor, going}
+use Rattle.lp_search_laws.specs.Branches.{IsGoal, EntryHolds, StandFor, AreTypedTasks, going, stopping}
 use Rattle.lp_search_laws.proofs.Connectives.{either_holds, pi_holds, implied_holds, sigma_holds}
 use Rattle.lp_search_laws.proofs.Formed.{formula_at}
 use Rattle.lp_search_laws.proofs.TypedParts.{both_typed, function_typed, opened_typed, typed_wider, clauses_typed, clauses_each}
-use Rattle.lp_search_laws.proofs.Fronts.{each_at, Typings, Typed as IsTypedHere, stands_one, stands_two}
+use Rattle.lp_search_laws.proofs.Fronts.{each_at, Typings, Typed as IsTypedHere, branch_stays, stands_one, stands_two}
 use Rattle.lp_search_laws.proofs.NewVariable.{stands_new, clauses_more, unused_new}
 use Rattle.lp_search_laws.proofs.FlatViews.{IsPlaceOf, place_of, goals_stand, goals_proved, opened_stand, opened_proved, next_place, assumed_proved}
 use Rattle.lp_lemmas.proofs.Each.{each_append}
@@ -100,9 +101,19 @@ module _ (n : ℕ) (d : Declared) (std : IsStandard d) (P : List Clause) (q : Qu
         (λ p. o.1 (m' (transport (λ G. Holds d G R c (substitute u (formula_of_goals gs))) y (r.1 p)))),
       ))
 
-  -- no text has a negated goal yet
-  pub no_denial : (ws : Written) (gs : Goals) → e.goal ≡ Not ws gs → ⊥
-  no_denial ws gs i = plain_as (Not ws gs) i
+  -- behind a negated goal
+  pub rest_typed : AreTypedTasks n d P q (Go (with_goals b es) ∷ [])
+  rest_typed = record { typed = going (Typings n d P q z b E Es e es Es) (with_goals b es) ∷ []; is = refl; ok = (branch_stays n d P q z b E Es e es h [] [] (record { typed = tt; plain = tt }), tt) }
+
+  -- one in which a variable stands stops the search
+  pub open_stands : StandFor n d P q (going (Typings n d P q z b E Es e es (E ∷ Es)) (with_goals b (e ∷ es))) (Stop OpenNot ∷ [])
+  open_stands = record {
+    typed = stopping OpenNot (going (Typings n d P q z b E Es e es (E ∷ Es)) (with_goals b (e ∷ es))) ∷ [];
+    is = refl;
+    ok = ((λ x. cc), tt);
+    keeps = λ i s. inl s;
+    gives = λ i s. elim s [ inl x ↦ x | inr x ↦ absurd x ];
+  }
 
   pub assume_stands : (ws : Written) (cs : Clauses) (gs : Goals) → e.goal ≡ Assume ws cs gs → StandFor n d P q (going (Typings n d P q z b E Es e es (E ∷ Es)) (with_goals b (e ∷ es))) (Go (with_goals b (entries (goal_list gs) (clause_list cs ++ e.assumed) (both_written ws e.written) e.level e.mark ++ es)) ∷ [])
   assume_stands ws cs gs i =

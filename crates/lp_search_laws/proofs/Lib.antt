@@ -64,8 +64,14 @@ pub mod Stack
 pub mod SearchEnds
 pub mod MoreSteps
 pub mod WholeRight
+pub mod WellFormed
+pub mod Judged
+pub mod ClosedNegations
 pub mod FullViews
 pub mod Comes
 pub mod Limits
 pub mod Refuted
 pub mod Tested
+pub mod Unnegated
+pub mod UnnegatedFlat
+pub mod UnnegatedStarts

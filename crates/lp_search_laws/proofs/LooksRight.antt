@@ -13,7 +13,9 @@ use Rattle.lp_model.specs.Branch.{Entry, Branch, Go}
 use Rattle.lp_model.specs.Answers.{Query, AnswerTyping, Instance, IsInstance, TypedAnswer}
 use Rattle.lp_model.specs.Proofs.{Declared, AreFlattened}
 use Rattle.lp_model.specs.Search.{with_goals, look, start}
-use Rattle.lp_search_laws.specs.Started.{IsTypedQuery, IsTypedSentence, IsPlainlyProvable}
+use Rattle.lp_search_laws.specs.Started.{IsPlainQuery, IsPlainSentence, IsPlainlyProvable}
+use Rattle.lp_search_laws.specs.Unnegated.{IsUnnegatedClause, IsUnnegatedTask, AreUnnegatedGoals}
+use Rattle.lp_search_laws.proofs.UnnegatedStarts.{typed_sentences, program_unnegated, query_unnegated, start_unnegated}
 use Rattle.lp_search_laws.specs.Begun.{first_branch, first_typing}
 use Rattle.lp_search_laws.specs.Right.{IsRightFor, IsRightOf}
 use Rattle.lp_search_laws.specs.Branches.{BranchTyping, IsTypedBranch, IsProgramTyped, IsQueryInstance, SolvesBranch, TypedTask, going, trying, stopping, lacking, task_of, IsOk, IsRightView}
@@ -45,11 +47,11 @@ module _ (n : ℕ) (d : Declared) (std : IsStandard d) (P : List Clause) (progra
   each_look height (stopping e T) h = h
   each_look height (lacking T) h = tt
 
-  pub each_run : (y : BranchTyping) (b : Branch) → IsTypedBranch n d q y b → (j m steps answers : ℕ) → IsRightOf d P q y b (run (look unit_limit n P) j m (starts (Go b) steps answers))
-  each_run y b h j m steps answers = right_run n d P q each_look y b h j m steps answers
+  pub each_run : EachOf IsUnnegatedClause P → (y : BranchTyping) (b : Branch) → IsTypedBranch n d q y b → IsUnnegatedTask (Go b) → (j m steps answers : ℕ) → IsRightOf d P q y b (run (look unit_limit n P) j m (starts (Go b) steps answers))
+  each_run pure y b h u j m steps answers = right_run n d P pure q each_look y b h u j m steps answers
 
   -- a query: its typed branch, and its instances
-  module _ (F : List ClauseFormula) (gs : Goals) (first : IsTypedBranch n d q (first_typing q gs) (first_branch q.type_vars (length q.vars) gs))
+  module _ (F : List ClauseFormula) (pure : EachOf IsUnnegatedClause P) (gs : Goals) (unnegated : AreUnnegatedGoals gs) (first : IsTypedBranch n d q (first_typing q gs) (first_branch q.type_vars (length q.vars) gs))
       (solved : (i : Instance) → (IsPlainlyProvable d F q i → SolvesBranch d P q i (first_typing q gs) (first_branch q.type_vars (length q.vars) gs)) × (SolvesBranch d P q i (first_typing q gs) (first_branch q.type_vars (length q.vars) gs) → IsPlainlyProvable d F q i)) where
     each_sound : (xs : List TypedAnswer) → EachOf (λ a. (i : Instance) → IsQueryInstance d q i → IsInstance d a.typing a.answer i → SolvesBranch d P q i (first_typing q gs) (first_branch q.type_vars (length q.vars) gs)) xs →
         EachOf (λ a. (i : Instance) → IsQueryInstance d q i → IsInstance d a.typing a.answer i → IsPlainlyProvable d F q i) xs
@@ -58,10 +60,11 @@ module _ (n : ℕ) (d : Declared) (std : IsStandard d) (P : List Clause) (progra
 
     pub search_is_right : (j m steps answers : ℕ) → IsRightFor d F q (run (look unit_limit n P) j m (start q.type_vars (length q.vars) gs steps answers))
     search_is_right j m steps answers =
-        let r = each_run (first_typing q gs) (first_branch q.type_vars (length q.vars) gs) first j m steps answers in
+        let r = each_run pure (first_typing q gs) (first_branch q.type_vars (length q.vars) gs) first (start_unnegated q.type_vars (length q.vars) gs unnegated) j m steps answers in
         record { typed = r.typed; is = r.is; well_formed = r.well_formed; sound = each_sound r.typed r.sound; exhausts = λ e i p. r.exhausts e i ((solved i).0 p) }
 
-pub plain_search_is_right : (d : Declared) → IsStandard d → (l : ℕ) (F : List ClauseFormula) (P : List Clause) → EachOf (IsTypedSentence d) F → AreFlattened d F P → (q : Query) (gs : Goals) → IsTypedQuery d q → flatten_query l d q.formula ≡ Some gs →
+pub plain_search_is_right : (d : Declared) → IsStandard d → (l : ℕ) (F : List ClauseFormula) (P : List Clause) → EachOf (IsPlainSentence d) F → AreFlattened d F P → (q : Query) (gs : Goals) → IsPlainQuery d q → flatten_query l d q.formula ≡ Some gs →
     (n j m steps answers : ℕ) → IsRightFor d F q (run (look unit_limit n P) j m (start q.type_vars (length q.vars) gs steps answers))
 plain_search_is_right d std l F P s x q gs t e n j m steps answers =
-    search_is_right n d std P (program_typed d std F P s x) q F gs (start_typed d std l q gs t e n steps answers).1 (λ i. (solves d std l q gs t e F P s x i, proves_it d std l q gs t e F P s x i)) j m steps answers
+    let s' = typed_sentences d F s in
+    search_is_right n d std P (program_typed d std F P s' x) q F (program_unnegated d F P s x) gs (query_unnegated d l q gs t e) (start_typed d std l q gs t.typed e n steps answers).1 (λ i. (solves d std l q gs t.typed e F P s' x i, proves_it d std l q gs t.typed e F P s' x i)) j m steps answers

@@ -46,7 +46,7 @@ module _ (k j : ℕ) (l : k ≤ j) where
     goal_more B (Exists T gs) h = (type_more T h.0, goals_more (false ∷ B) gs h.1)
     goal_more B (Forall T gs) h = (type_more T h.0, goals_more (true ∷ B) gs h.1)
     goal_more B (Assume ws cs gs) h = (clauses_more B cs h.0, goals_more B gs h.1)
-    goal_more B (Not ws gs) h = h
+    goal_more B (Not ws gs) h = goals_more B gs h
 
     pub goals_more : (B : List Bool) (gs : Goals) → AreGoals k B gs → AreGoals j B gs
     goals_more B no_goals h = tt

@@ -77,7 +77,7 @@ mutual
   goal_raise k from B D m (Exists T gs) h = (h.0, goals_raise k (suc from) (false ∷ B) (false ∷ D) (raise_below false from B D m) gs h.1)
   goal_raise k from B D m (Forall T gs) h = (h.0, goals_raise k (suc from) (true ∷ B) (true ∷ D) (raise_below true from B D m) gs h.1)
   goal_raise k from B D m (Assume ws cs gs) h = (clauses_raise k from B D m cs h.0, goals_raise k from B D m gs h.1)
-  goal_raise k from B D m (Not ws gs) h = absurd h
+  goal_raise k from B D m (Not ws gs) h = goals_raise k from B D m gs h
 
   pub goals_raise : (k from : ℕ) (B D : List Bool) → MayRaise from B D → (gs : Goals) → AreGoals k B gs → AreGoals k D (map_goals suc (λ e t. shift e 1 t) same_type from gs)
   goals_raise k from B D m no_goals h = tt
@@ -107,7 +107,7 @@ head_within P n (app t u) w = head_within P n t w.0
 
 plain_term : (k n : ℕ) (t : Term) → is_positive t ≡ true → Within (IsQueryAtom k) n t → IsPlainTerm k t
 plain_term k n (index i) e w = tt
-plain_term k n (atom (constant c ts)) e w = (e, w.1)
+plain_term k n (atom (constant c ts)) e w = (e, w)
 plain_term k n (atom (integer z)) e w = tt
 plain_term k n (atom (text s)) e w = tt
 plain_term k n (atom (eigen j)) e w = tt
@@ -138,7 +138,7 @@ clause_head d B (app t u) e = absurd (cc)
 
 pub plain_clause_head : (k n : ℕ) (B : List Bool) (h : Term) → IsClauseHead B h → Within (IsQueryAtom k) n h → IsPlainTerm k h
 plain_clause_head k n B (index i) e w = tt
-plain_clause_head k n B (atom (constant c ts)) e w = let m : 32 ≤ c = e in (declared_is_positive c m, w.1)
+plain_clause_head k n B (atom (constant c ts)) e w = let m : 32 ≤ c = e in (declared_is_positive c m, w)
 plain_clause_head k n B (atom (eigen j)) e w = tt
 plain_clause_head k n B (atom (integer z)) e w = tt
 plain_clause_head k n B (atom (text s)) e w = tt

@@ -89,7 +89,7 @@ module _ (k j : ℕ) (θ : ℕ → Ty) (f : (i : ℕ) → i < k → IsTypeBelow 
     goal_at n B (Exists T gs) w = (type_at T w.0, goals_at n (false ∷ B) gs w.1)
     goal_at n B (Forall T gs) w = (type_at T w.0, goals_at n (true ∷ B) gs w.1)
     goal_at n B (Assume ws cs gs) w = (clauses_at n B cs w.0, goals_at n B gs w.1)
-    goal_at n B (Not ws gs) w = absurd w
+    goal_at n B (Not ws gs) w = goals_at n B gs w
 
     goals_at : (n : ℕ) (B : List Bool) (gs : Goals) → AreGoals k B gs → AreGoals j B (map_goals (λ u. u) (λ u t. instance_term θ t) (instance θ) n gs)
     goals_at n B no_goals w = tt

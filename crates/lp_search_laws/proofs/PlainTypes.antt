@@ -101,7 +101,7 @@ mutual
   goal_below k B (Exists T gs) w = ((w.0, tt), goals_below k (false ∷ B) gs w.1)
   goal_below k B (Forall T gs) w = ((w.0, tt), goals_below k (true ∷ B) gs w.1)
   goal_below k B (Assume ws cs gs) w = ((tt, clauses_below k B cs w.0), goals_below k B gs w.1)
-  goal_below k B (Not ws gs) w = absurd w
+  goal_below k B (Not ws gs) w = (tt, goals_below k B gs w)
 
   pub goals_below : (k : ℕ) (B : List Bool) (gs : Goals) → AreGoals k B gs → IsBelow k (formula_of_goals gs)
   goals_below k B no_goals w = tt
@@ -139,7 +139,7 @@ mutual
   goal_kept k f ty p n B (Exists T gs) w = (p.types T w.0, goals_kept k f ty p n (false ∷ B) gs w.1)
   goal_kept k f ty p n B (Forall T gs) w = (p.types T w.0, goals_kept k f ty p n (true ∷ B) gs w.1)
   goal_kept k f ty p n B (Assume ws cs gs) w = (clauses_kept k f ty p n B cs w.0, goals_kept k f ty p n B gs w.1)
-  goal_kept k f ty p n B (Not ws gs) w = absurd w
+  goal_kept k f ty p n B (Not ws gs) w = goals_kept k f ty p n B gs w
 
   pub goals_kept : (k : ℕ) (f : Term → Term) (ty : Ty → Ty) → KeepsPlain k f ty → (n : ℕ) (B : List Bool) (gs : Goals) → AreGoals k B gs → AreGoals k B (map_goals (λ u. u) (λ u t. f t) ty n gs)
   goals_kept k f ty p n B no_goals w = tt

@@ -128,7 +128,7 @@ list_same f g k h [] w = refl
 list_same f g k h (t ∷ ts) w = λ i. type_same f g k h t w.0 i ∷ list_same f g k h ts w.1 i
 
 atom_same : (f g : ℕ → Ty) (k : ℕ) → ((i : ℕ) → i < k → f i ≡ g i) → (a : Atom) → IsQueryAtom k a → instance_atom f a ≡ instance_atom g a
-atom_same f g k h (constant c ts) w = ap (constant c) (list_same f g k h ts w.1)
+atom_same f g k h (constant c ts) w = ap (constant c) (list_same f g k h ts w)
 atom_same f g k h (integer z) w = refl
 atom_same f g k h (text s) w = refl
 atom_same f g k h (eigen n) w = refl

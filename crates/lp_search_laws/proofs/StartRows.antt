@@ -27,7 +27,7 @@ rule = record { type_vars = 0; formula = pi_of int_type (abs (two 3 [] (on 32 (i
 rule_typed : IsTypedSentence declared rule
 rule_typed = record {
   typed = (arrow int_type o_type, refl, (int_type, o_type, refl, (o_type, (o_type, refl, (int_type, refl, refl)), (int_type, refl, refl))));
-  within = (((λ e. omega arith), (tt, tt)), ((((λ e. omega arith), tt), (((λ e. omega arith), tt), omega arith)), (((λ e. omega arith), tt), omega arith)));
+  within = ((tt, tt), ((tt, (tt, omega arith)), (tt, omega arith)));
 }
 
 abbrev flat_rule : Clause
@@ -47,7 +47,7 @@ query_typed : IsTypedQuery declared query
 query_typed = record {
   vars = (tt, tt);
   typed = (o_type, (o_type, refl, (int_type, refl, refl)), (int_type, (int_type, refl, refl), (int_type, (int_type, refl, refl), refl)));
-  within = ((((λ e. omega arith), tt), (((λ e. omega arith), tt), omega arith)), ((((λ e. omega arith), (tt, tt)), omega arith), ((((λ e. omega arith), tt), tt), tt)));
+  within = ((tt, (tt, omega arith)), (((tt, tt), omega arith), ((tt, tt), tt)));
 }
 
 query_flat : flatten_query 9 declared query.formula ≡ Some (goals (Atomic (on 32 (index 0))) (goals (Atomic (two 9 (int_type ∷ []) (index 0) sum)) no_goals))

@@ -1,6 +1,6 @@
 -- Flattened goals and clauses of typed formulas are typed over the same type variables, and plain.
 use Rattle.std.proofs.Common.{◌≡◌, ℕ, zero, suc, List, [], ◌∷◌, ◌++◌, map, length, Option, Some, refl, sym, ap, ◌∙◌, subst as transport, arith, inl, inr, Bool, true, false}
-use Rattle.std.specs.Prelude.{option_map, ◌&&◌, ◌≢◌}
+use Rattle.std.specs.Prelude.{option_map, ◌&&◌}
 use Rattle.lp_unify_laws.specs.TypesBelow.{IsTypeBelow, AreTypesBelow}
 use Rattle.lp_calculus.specs.Types.{Ty, arrow}
 use Rattle.lp_calculus.specs.Term.{Term, Atom, index, atom, abs, app, apply, shift, constant, integer, text, eigen, logic, param}
@@ -15,9 +15,8 @@ use Rattle.lp_standard.specs.Positive.{IsPositiveConstant}
 use Rattle.lp_standard.proofs.Positives.{others_are_positive}
 use Rattle.lp_standard.specs.Connectives.{truth, cut, not_of, two, pi_of, sigma_of, body_of, Connective, connective_of, connective_at, connective_of_constant}
 use Rattle.lp_standard.specs.Connectives as connective
-use Rattle.lp_standard.specs.Numbers as number
 use Rattle.lp_standard.specs.Positive.{are_positive}
-use Rattle.lp_model.specs.Flat.{Goal, Atomic, Cut, Either, Exists, Forall, assuming, Goals, no_goals, goals, Clause, clause, Clauses, no_clauses, clauses, add_clauses, raise_goals, all_of, formula_of_goal, formula_of_goals, formula_of_clause, formula_of_clauses}
+use Rattle.lp_model.specs.Flat.{Goal, Atomic, Cut, Either, Exists, Forall, assuming, denied, Goals, no_goals, goals, Clause, clause, Clauses, no_clauses, clauses, add_clauses, raise_goals, all_of, formula_of_goal, formula_of_goals, formula_of_clause, formula_of_clauses}
 use Rattle.lp_model.specs.Flatten.{only, is_goal_head, is_clause_head, flat_goal, flat_goal_form, flat_list, flat_clause, flat_clause_form}
 use Rattle.lp_standard.specs.Schemes.{IsStandard, on_two}
 use Rattle.lp_model.specs.Proofs.{Declared, under}
@@ -31,11 +30,11 @@ use Rattle.lp_lemmas.proofs.Options.{and_then_some, option_map_some}
 use Rattle.lp_search_laws.proofs.Computed.{plain_type, both_true}
 use Rattle.lp_search_laws.proofs.PlainFlat.{raise_first, goals_raise, head_within, plain_spine, clause_head, plain_clause_head}
 
-only_some : {A : Type 0} (b : Bool) (a x : A) → only b a ≡ Some x → (b ≡ true) × (a ≡ x)
+pub only_some : {A : Type 0} (b : Bool) (a x : A) → only b a ≡ Some x → (b ≡ true) × (a ≡ x)
 only_some true a x e = let g : a ≡ x = cc in (refl, g)
 only_some false a x e = absurd (cc)
 
-some_is : {A : Type 0} (a x : A) → Some a ≡ Some x → a ≡ x
+pub some_is : {A : Type 0} (a x : A) → Some a ≡ Some x → a ≡ x
 some_is a x e = let g : a ≡ x = cc in g
 
 -- a formula over indices of these types, without logic variables and eigenconstants, over the type variables below k
@@ -63,6 +62,9 @@ two_is o X Y e f =
 
 quantifier_is : (o : Option Ty) (T X : Ty) → o ≡ Some (arrow (arrow T o_type) o_type) → o ≡ Some (arrow X o_type) → X ≡ arrow T o_type
 quantifier_is o T X e f = let g : Some (arrow (arrow T o_type) o_type) ≡ Some (arrow X o_type) = sym e ∙ f in cc
+
+pub denied_is : (o : Option Ty) (X : Ty) → o ≡ Some (arrow o_type o_type) → o ≡ Some (arrow X o_type) → X ≡ o_type
+denied_is o X e f = let g : Some (arrow o_type o_type) ≡ Some (arrow X o_type) = sym e ∙ f in cc
 
 -- no goal without a connective at its top has the head of `=>`, `:-`, `not` or `!`
 no_arrow : (τ : Atom → Option Ty) (C : List Ty) (us : List Term) → HaveTypes τ C (on_two o_type o_type) us o_type → (a : Term) × (b : Term) × (us ≡ a ∷ b ∷ [])
@@ -135,7 +137,7 @@ module _ (d : Declared) (std : IsStandard d) (k : ℕ) where
       go (atom (constant c ts)) e =
           let w = transport (λ z. Typed (under d []) Γ z o_type) (sym (apply_arguments t []) ∙ ap (λ z. apply z (arguments t)) e) o.typed in
           let r : connective_of_constant c ts (arguments t) ≡ connective.Atomic = ap (λ z. connective_at z (arguments t)) (sym e) ∙ f in
-          transport (IsPlainTerm k) (sym e) (plain_constant Γ c ts (arguments t) w r, (at_head (atom (constant c ts)) e).1)
+          transport (IsPlainTerm k) (sym e) (plain_constant Γ c ts (arguments t) w r, at_head (atom (constant c ts)) e)
       go (atom (integer z)) e = transport (IsPlainTerm k) (sym e) tt
       go (atom (text s)) e = transport (IsPlainTerm k) (sym e) tt
       go (atom (eigen j)) e = transport (IsPlainTerm k) (sym e) tt
@@ -154,14 +156,20 @@ module _ (d : Declared) (std : IsStandard d) (k : ℕ) where
       let e = two_is (scheme_type [] (d c)) t.0 t.1.0 s t.1.1 in
       (record { typed = transport (Typed (under d []) Γ A) e.0 t.1.2; within = h.within.0.1 }, record { typed = transport (Typed (under d []) Γ B) e.1 t.2; within = h.within.1 })
 
-  over_two : (Γ : List Ty) (c : ℕ) (A B : Term) → c ≢ number.Not → scheme_type [] (d c) ≡ Some (arrow o_type (arrow o_type o_type)) → Over Γ A → Over Γ B → Over Γ (two c [] A B)
-  over_two Γ c A B other s a b = record { typed = (o_type, (o_type, s, a.typed), b.typed); within = (((other, tt), a.within), b.within) }
+  over_two : (Γ : List Ty) (c : ℕ) (A B : Term) → scheme_type [] (d c) ≡ Some (arrow o_type (arrow o_type o_type)) → Over Γ A → Over Γ B → Over Γ (two c [] A B)
+  over_two Γ c A B s a b = record { typed = (o_type, (o_type, s, a.typed), b.typed); within = ((tt, a.within), b.within) }
+
+  over_argument : (Γ : List Ty) (g : Term) → Over Γ (not_of g) → Over Γ g
+  over_argument Γ g h = record { typed = transport (Typed (under d []) Γ g) (denied_is (scheme_type [] (d 24)) h.typed.0 (ap (scheme_type []) (std.at 24 (omega arith))) h.typed.1) h.typed.2; within = h.within.1 }
+
+  over_not : (Γ : List Ty) (g : Term) → Over Γ g → Over Γ (not_of g)
+  over_not Γ g h = record { typed = (o_type, ap (scheme_type []) (std.at 24 (omega arith)), h.typed); within = (tt, h.within) }
 
   over_shift : (Γ : List Ty) (T : Ty) (t : Term) → Over Γ t → Over (T ∷ Γ) (shift 0 1 t)
   over_shift Γ T t h = record { typed = typed_shift (atom_type (under d [])) Γ T t o_type h.typed; within = within_shift (IsQueryAtom k) (length Γ) t h.within }
 
   over_body : (Γ : List Ty) (c : ℕ) (T : Ty) (s : Term) → scheme_type (T ∷ []) (d c) ≡ Some (arrow (arrow T o_type) o_type) → Over Γ (app (atom (constant c (T ∷ []))) s) → IsTypeBelow k T × Over (T ∷ Γ) (body_of s)
-  over_body Γ c T s e h = (h.within.0.1.0, body s (transport (Typed (under d []) Γ s) (quantifier_is (scheme_type (T ∷ []) (d c)) T h.typed.0 e h.typed.1) h.typed.2) h.within.1)
+  over_body Γ c T s e h = (h.within.0.0, body s (transport (Typed (under d []) Γ s) (quantifier_is (scheme_type (T ∷ []) (d c)) T h.typed.0 e h.typed.1) h.typed.2) h.within.1)
     where
       raised : (s : Term) → Typed (under d []) Γ s (arrow T o_type) → Within (IsQueryAtom k) (length Γ) s → Over (T ∷ Γ) (app (shift 0 1 s) (index 0))
       raised s t w = record { typed = (T, typed_shift (atom_type (under d [])) Γ T s (arrow T o_type) t, refl); within = (within_shift (IsQueryAtom k) (length Γ) s w, omega arith) }
@@ -175,18 +183,18 @@ module _ (d : Declared) (std : IsStandard d) (k : ℕ) where
       body (atom a) t w = raised (atom a) t w
       body (app u v) t w = raised (app u v) t w
 
-  over_quantified : (Γ : List Ty) (c : ℕ) (T : Ty) (b : Term) → c ≢ number.Not → scheme_type (T ∷ []) (d c) ≡ Some (arrow (arrow T o_type) o_type) → IsTypeBelow k T → Over (T ∷ Γ) b → Over Γ (app (atom (constant c (T ∷ []))) (abs b))
-  over_quantified Γ c T b other e m h = record { typed = (arrow T o_type, e, (T, o_type, refl, h.typed)); within = ((other, (m, tt)), h.within) }
+  over_quantified : (Γ : List Ty) (c : ℕ) (T : Ty) (b : Term) → scheme_type (T ∷ []) (d c) ≡ Some (arrow (arrow T o_type) o_type) → IsTypeBelow k T → Over (T ∷ Γ) b → Over Γ (app (atom (constant c (T ∷ []))) (abs b))
+  over_quantified Γ c T b e m h = record { typed = (arrow T o_type, e, (T, o_type, refl, h.typed)); within = ((m, tt), h.within) }
 
   over_all : (vs Γ : List Ty) (t : Term) → AreTypesBelow k vs → Over (vs ++ Γ) t → Over Γ (all_of vs t)
   over_all [] Γ t m o = o
-  over_all (T ∷ vs) Γ t m o = over_all vs Γ (pi_of T (abs t)) m.1 (over_quantified (vs ++ Γ) 4 T t (λ e. omega arith) (pi_type d std T) m.0 o)
+  over_all (T ∷ vs) Γ t m o = over_all vs Γ (pi_of T (abs t)) m.1 (over_quantified (vs ++ Γ) 4 T t (pi_type d std T) m.0 o)
 
   over_truth : (Γ : List Ty) → Over Γ truth
-  over_truth Γ = record { typed = ap (scheme_type []) (std.at 6 (omega arith)); within = ((λ e. omega arith), tt) }
+  over_truth Γ = record { typed = ap (scheme_type []) (std.at 6 (omega arith)); within = tt }
 
   over_cut : (Γ : List Ty) → Over Γ cut
-  over_cut Γ = record { typed = ap (scheme_type []) (std.at 7 (omega arith)); within = ((λ e. omega arith), tt) }
+  over_cut Γ = record { typed = ap (scheme_type []) (std.at 7 (omega arith)); within = tt }
 
   -- goals and clauses put together
   none_fine : (Γ : List Ty) (B : List Bool) → AreFine d k Γ B no_goals
@@ -194,7 +202,7 @@ module _ (d : Declared) (std : IsStandard d) (k : ℕ) where
 
   in_front : (Γ : List Ty) (B : List Bool) (g : Goal) (rest : Goals) → Over Γ (formula_of_goal g) → IsGoal k B g → AreFine d k Γ B rest → AreFine d k Γ B (goals g rest)
   in_front Γ B g no_goals o h r = record { over = o; form = (h, tt) }
-  in_front Γ B g (goals x xs) o h r = record { over = over_two Γ 0 (formula_of_goal g) (formula_of_goals (goals x xs)) (λ e. omega arith) (connective d std 0 (omega arith)) o r.over; form = (h, r.form) }
+  in_front Γ B g (goals x xs) o h r = record { over = over_two Γ 0 (formula_of_goal g) (formula_of_goals (goals x xs)) (connective d std 0 (omega arith)) o r.over; form = (h, r.form) }
 
   raised_fine : (Γ : List Ty) (B : List Bool) (T : Ty) (gs : Goals) → AreFine d k Γ B gs → AreFine d k (T ∷ Γ) (false ∷ B) (raise_goals 0 gs)
   raised_fine Γ B T gs h = record { over = over_equal (T ∷ Γ) (shift 0 1 (formula_of_goals gs)) (formula_of_goals (raise_goals 0 gs)) (sym (formula_raise gs)) (over_shift Γ T (formula_of_goals gs) h.over); form = goals_raise k 0 B (false ∷ B) (raise_first B) gs h.form }
@@ -205,7 +213,7 @@ module _ (d : Declared) (std : IsStandard d) (k : ℕ) where
 
   cons_over : (Γ : List Ty) (c : Clause) (cs : Clauses) → Over Γ (formula_of_clause c) → Over Γ (formula_of_clauses cs) → Over Γ (formula_of_clauses (clauses c cs))
   cons_over Γ c no_clauses o p = o
-  cons_over Γ c (clauses e cs) o p = over_two Γ 0 (formula_of_clause c) (formula_of_clauses (clauses e cs)) (λ e. omega arith) (connective d std 0 (omega arith)) o p
+  cons_over Γ c (clauses e cs) o p = over_two Γ 0 (formula_of_clause c) (formula_of_clauses (clauses e cs)) (connective d std 0 (omega arith)) o p
 
   add_fine : (Γ : List Ty) (B : List Bool) (l r : Clauses) → ClausesFine d k Γ B l → ClausesFine d k Γ B r → ClausesFine d k Γ B (add_clauses l r)
   add_fine Γ B no_clauses r x y = y
@@ -220,7 +228,7 @@ module _ (d : Declared) (std : IsStandard d) (k : ℕ) where
 
   one_fine : (Γ : List Ty) (B : List Bool) (vs : List Ty) (h : Term) (gs : Goals) → AreTypesBelow k vs → Over (vs ++ Γ) h → IsClauseHead (falses vs ++ B) (head_of h) → IsPlainTerm k h → AreFine d k (vs ++ Γ) (falses vs ++ B) gs → ClausesFine d k Γ B (clauses (clause 0 vs h gs) no_clauses)
   one_fine Γ B vs h no_goals m o i p g = record { over = over_all vs Γ h m o; form = (refl, (m, i, p, g.form), tt) }
-  one_fine Γ B vs h (goals x xs) m o i p g = record { over = over_all vs Γ (two 2 [] (formula_of_goals (goals x xs)) h) m (over_two (vs ++ Γ) 2 (formula_of_goals (goals x xs)) h (λ e. omega arith) (connective d std 2 (omega arith)) g.over o); form = (refl, (m, i, p, g.form), tt) }
+  one_fine Γ B vs h (goals x xs) m o i p g = record { over = over_all vs Γ (two 2 [] (formula_of_goals (goals x xs)) h) m (over_two (vs ++ Γ) 2 (formula_of_goals (goals x xs)) h (connective d std 2 (omega arith)) g.over o); form = (refl, (m, i, p, g.form), tt) }
 
   mutual
     goal_fine : (n : ℕ) (B : List Bool) (t : Term) (rest gs : Goals) (Γ : List Ty) → flat_goal n d B t rest ≡ Some gs → Over Γ t → AreFine d k Γ B rest → AreFine d k Γ B gs
@@ -241,32 +249,36 @@ module _ (d : Declared) (std : IsStandard d) (k : ℕ) where
         let z = option_map_some (flat_goal n d B b no_goals) (λ m. goals (Either q.0 m) rest) gs q.2 in
         let x = goal_fine n B a no_goals q.0 Γ q.1 p.0 (none_fine Γ B) in
         let y = goal_fine n B b no_goals z.0 Γ z.1 p.1 (none_fine Γ B) in
-        transport (AreFine d k Γ B) z.2 (in_front Γ B (Either q.0 z.0) rest (over_two Γ 1 (formula_of_goals q.0) (formula_of_goals z.0) (λ e. omega arith) (connective d std 1 (omega arith)) x.over y.over) (x.form, y.form) r)
+        transport (AreFine d k Γ B) z.2 (in_front Γ B (Either q.0 z.0) rest (over_two Γ 1 (formula_of_goals q.0) (formula_of_goals z.0) (connective d std 1 (omega arith)) x.over y.over) (x.form, y.form) r)
     form_fine (suc n) B t (connective.Implies c g) is (inl s) rest gs Γ e o r =
         let p = over_parts Γ 2 c g (connective d std 2 (omega arith)) (over_equal Γ t (two 2 [] c g) s o) in
         let q = and_then_some (flat_clause n d B c [] []) (λ cs. option_map (λ hs. goals (assuming cs hs) rest) (flat_goal n d B g no_goals)) gs e in
         let z = option_map_some (flat_goal n d B g no_goals) (λ hs. goals (assuming q.0 hs) rest) gs q.2 in
         let x = clause_fine n B c [] [] q.0 Γ q.1 tt p.0 tt in
         let y = goal_fine n B g no_goals z.0 Γ z.1 p.1 (none_fine Γ B) in
-        transport (AreFine d k Γ B) z.2 (in_front Γ B (assuming q.0 z.0) rest (over_two Γ 2 (formula_of_clauses q.0) (formula_of_goals z.0) (λ e. omega arith) (connective d std 2 (omega arith)) x.over y.over) (x.form, y.form) r)
+        transport (AreFine d k Γ B) z.2 (in_front Γ B (assuming q.0 z.0) rest (over_two Γ 2 (formula_of_clauses q.0) (formula_of_goals z.0) (connective d std 2 (omega arith)) x.over y.over) (x.form, y.form) r)
     form_fine (suc n) B t (connective.Implies c g) is (inr s) rest gs Γ e o r =
         let p = over_parts Γ 3 g c (connective d std 3 (omega arith)) (over_equal Γ t (two 3 [] g c) s o) in
         let q = and_then_some (flat_clause n d B c [] []) (λ cs. option_map (λ hs. goals (assuming cs hs) rest) (flat_goal n d B g no_goals)) gs e in
         let z = option_map_some (flat_goal n d B g no_goals) (λ hs. goals (assuming q.0 hs) rest) gs q.2 in
         let x = clause_fine n B c [] [] q.0 Γ q.1 tt p.1 tt in
         let y = goal_fine n B g no_goals z.0 Γ z.1 p.0 (none_fine Γ B) in
-        transport (AreFine d k Γ B) z.2 (in_front Γ B (assuming q.0 z.0) rest (over_two Γ 2 (formula_of_clauses q.0) (formula_of_goals z.0) (λ e. omega arith) (connective d std 2 (omega arith)) x.over y.over) (x.form, y.form) r)
+        transport (AreFine d k Γ B) z.2 (in_front Γ B (assuming q.0 z.0) rest (over_two Γ 2 (formula_of_clauses q.0) (formula_of_goals z.0) (connective d std 2 (omega arith)) x.over y.over) (x.form, y.form) r)
     form_fine (suc n) B t (connective.ForAll T b) is s rest gs Γ e o r =
         let p = over_body Γ 4 T s.0 (pi_type d std T) (over_equal Γ t (pi_of T s.0) s.1 o) in
         let z = option_map_some (flat_goal n d (true ∷ B) b no_goals) (λ hs. goals (Forall T hs) rest) gs e in
         let x = goal_fine n (true ∷ B) b no_goals z.0 (T ∷ Γ) z.1 (over_equal (T ∷ Γ) (body_of s.0) b (sym s.2) p.1) (none_fine (T ∷ Γ) (true ∷ B)) in
-        transport (AreFine d k Γ B) z.2 (in_front Γ B (Forall T z.0) rest (over_quantified Γ 4 T (formula_of_goals z.0) (λ e. omega arith) (pi_type d std T) p.0 x.over) (p.0, x.form) r)
+        transport (AreFine d k Γ B) z.2 (in_front Γ B (Forall T z.0) rest (over_quantified Γ 4 T (formula_of_goals z.0) (pi_type d std T) p.0 x.over) (p.0, x.form) r)
     form_fine (suc n) B t (connective.Exists T b) is s rest gs Γ e o r =
         let p = over_body Γ 5 T s.0 (sigma_type d std T) (over_equal Γ t (sigma_of T s.0) s.1 o) in
         let z = option_map_some (flat_goal n d (false ∷ B) b (raise_goals 0 rest)) (λ hs. goals (Exists T hs) no_goals) gs e in
         let x = goal_fine n (false ∷ B) b (raise_goals 0 rest) z.0 (T ∷ Γ) z.1 (over_equal (T ∷ Γ) (body_of s.0) b (sym s.2) p.1) (raised_fine Γ B T rest r) in
-        transport (AreFine d k Γ B) z.2 (in_front Γ B (Exists T z.0) no_goals (over_quantified Γ 5 T (formula_of_goals z.0) (λ e. omega arith) (sigma_type d std T) p.0 x.over) (p.0, x.form) (none_fine Γ B))
-    form_fine (suc n) B t (connective.Not g) is s rest gs Γ e o r = absurd ((over_equal Γ t (not_of g) s o).within.0.0 refl)
+        transport (AreFine d k Γ B) z.2 (in_front Γ B (Exists T z.0) no_goals (over_quantified Γ 5 T (formula_of_goals z.0) (sigma_type d std T) p.0 x.over) (p.0, x.form) (none_fine Γ B))
+    form_fine (suc n) B t (connective.Not g) is s rest gs Γ e o r =
+        let p = over_argument Γ g (over_equal Γ t (not_of g) s o) in
+        let z = option_map_some (flat_goal n d B g no_goals) (λ hs. goals (denied hs) rest) gs e in
+        let x = goal_fine n B g no_goals z.0 Γ z.1 p (none_fine Γ B) in
+        transport (AreFine d k Γ B) z.2 (in_front Γ B (denied z.0) rest (over_not Γ (formula_of_goals z.0) x.over) x.form r)
     form_fine (suc n) B t connective.Atomic is s rest gs Γ e o r =
         let q = only_some (is_goal_head (head_of t) && are_positive (arguments t)) (goals (Atomic t) rest) gs e in
         let h = both_true (is_goal_head (head_of t)) (are_positive (arguments t)) q.0 in

@@ -165,7 +165,7 @@ mutual
   goal_put k B D f m (Exists T gs) h = (h.0, goals_put k (false ∷ B) (false ∷ D) (lifted f) (put_below k false B D f m) gs h.1)
   goal_put k B D f m (Forall T gs) h = (h.0, goals_put k (true ∷ B) (true ∷ D) (lifted f) (put_below k true B D f m) gs h.1)
   goal_put k B D f m (Assume ws cs gs) h = (clauses_put k B D f m cs h.0, goals_put k B D f m gs h.1)
-  goal_put k B D f m (Not ws gs) h = absurd h
+  goal_put k B D f m (Not ws gs) h = goals_put k B D f m gs h
 
   pub goals_put : (k : ℕ) (B D : List Bool) (f : ℕ → Term) → MayPut k B D f → (gs : Goals) → AreGoals k B gs → AreGoals k D (map_goals lifted instantiate same_type f gs)
   goals_put k B D f m no_goals h = tt

@@ -4,12 +4,13 @@ use Rattle.std.proofs.Common.{◌≡◌, ℕ, zero, suc, ◌-◌, ◌<◌, List,
 use Rattle.std.proofs.lemmas.List.{length-map}
 use mathlib.Core.Path.{fun_ext}
 use Rattle.lp_calculus.specs.Types.{Ty, instance}
-use Rattle.lp_calculus.specs.Term.{Term, Atom, constant, integer, text, eigen, logic, param}
+use Rattle.lp_calculus.specs.Term.{Term, index, atom, abs, app}
 use Rattle.lp_calculus.specs.Convert.{same}
+use Rattle.lp_calculus.specs.Fill.{Within}
 use Rattle.lp_calculus.specs.Typing.{type_at}
 use Rattle.lp_calculus.specs.Instance.{instance_term}
-use Rattle.lp_calculus.specs.Closed.{AreClosed}
-use Rattle.lp_calculus.proofs.Fills.{within_subst, within_more}
+use Rattle.lp_calculus.specs.Closed.{AreClosed, AllAtoms}
+use Rattle.lp_calculus.proofs.Fills.{within_subst}
 use Rattle.lp_model.specs.Unify.{unit_limit}
 use Rattle.lp_lemmas.specs.Each.{EachOf}
 use Rattle.lp_model.specs.Flat.{Goals, Clause}
@@ -26,7 +27,7 @@ use Rattle.lp_proof_laws.specs.Unnegated.{IsUnnegatedAtom, IsUnnegated}
 use Rattle.lp_proof_laws.proofs.Uniform.Unnegated.{instance_unnegated, positive_unnegated, unnegated_plain}
 use Rattle.lp_proof_laws.proofs.Uniform.Uniforms.{plain_proof}
 use Rattle.lp_proof_laws.proofs.Uniform.Openings.{instantiate_subst}
-use Rattle.lp_search_laws.specs.Started.{IsQueryAtom, IsTypedQuery, IsTypedSentence, IsPlainlyProvable}
+use Rattle.lp_search_laws.specs.Started.{IsQueryAtom, IsPlainQuery, IsPlainSentence, IsPlainlyProvable}
 use Rattle.lp_search_laws.specs.Branches.{IsQueryInstance}
 use Rattle.lp_search_laws.specs.Right.{IsRightFor}
 use Rattle.lp_search_laws.proofs.ClosedTerms.{all_closed, closed_witness}
@@ -57,7 +58,7 @@ each_same [] = tt
 each_same (t ∷ ts) = (same t, each_same ts)
 
 -- a closed instance of an answer is one of the query, and one up to conversion
-query_instance : (d : Declared) (q : Query) (y : AnswerTyping) (a : Answer) (i : Instance) → IsWellFormed d q y a → IsClosedInstance d y a i → IsQueryInstance d q i
+pub query_instance : (d : Declared) (q : Query) (y : AnswerTyping) (a : Answer) (i : Instance) → IsWellFormed d q y a → IsClosedInstance d y a i → IsQueryInstance d q i
 query_instance d q y a i w x =
     let c = x.closing in
     let ts = map (instance (type_at a.types)) q.vars in
@@ -74,17 +75,16 @@ an_instance d y a i x = record { closing = x.closing; closes = x.closes; solves 
 proved : (d : Declared) (F : List ClauseFormula) (q : Query) (i : Instance) → IsPlainlyProvable d F q i → IsProvable d F q i
 proved d F q i p = record { types = p.types; types_closed = p.types_closed; values = p.values; proved = plain_proof d (length F) [] F (filled q i) p.proved }
 
-unnegated_atom : (k : ℕ) (a : Atom) → IsQueryAtom k a → IsUnnegatedAtom a
-unnegated_atom k (constant c ts) w = w.0
-unnegated_atom k (integer z) w = tt
-unnegated_atom k (text s) w = tt
-unnegated_atom k (eigen n) w = tt
-unnegated_atom k (logic x l) w = tt
-unnegated_atom k (param n T) w = tt
+-- a formula within its indices
+unnegated_atom : (k : ℕ) (n : ℕ) (t : Term) → Within (IsQueryAtom k) n t → AllAtoms IsUnnegatedAtom t → Within IsUnnegatedAtom n t
+unnegated_atom k n (index i) w h = w
+unnegated_atom k n (atom a) w h = h
+unnegated_atom k n (abs b) w h = unnegated_atom k (suc n) b w h
+unnegated_atom k n (app t u) w h = (unnegated_atom k n t w.0 h.0, unnegated_atom k n u w.1 h.1)
 
-sentences : (d : Declared) (F : List ClauseFormula) → EachOf (IsTypedSentence d) F → EachOf (λ D. IsUnnegated D.formula) F
+sentences : (d : Declared) (F : List ClauseFormula) → EachOf (IsPlainSentence d) F → EachOf (λ D. IsUnnegated D.formula) F
 sentences d [] s = tt
-sentences d (D ∷ F) s = (within_more (IsQueryAtom D.type_vars) IsUnnegatedAtom 0 0 (unnegated_atom D.type_vars) (omega arith) D.formula s.0.within, sentences d F s.1)
+sentences d (D ∷ F) s = (unnegated_atom D.type_vars 0 D.formula s.0.typed.within s.0.unnegated, sentences d F s.1)
 
 value_at : (d : Declared) (ts : List Term) (Ts : List Ty) → AreWitnesses d ts Ts → (j : ℕ) → j < length ts → IsUnnegated (at ts j)
 value_at d [] [] w j l = absurd (omega (l, arith))
@@ -93,24 +93,24 @@ value_at d (t ∷ ts) [] w j l = absurd w
 value_at d (t ∷ ts) (T ∷ Ts) w zero l = positive_unnegated 0 0 t w.0.closed w.0.positive
 value_at d (t ∷ ts) (T ∷ Ts) w (suc j) l = value_at d ts Ts w.1 j (omega (l, arith))
 
-filled_unnegated : (d : Declared) (q : Query) (i : Instance) → IsTypedQuery d q → AreWitnesses d i.values (map (instance (type_at i.types)) q.vars) → IsUnnegated (filled q i)
+filled_unnegated : (d : Declared) (q : Query) (i : Instance) → IsPlainQuery d q → AreWitnesses d i.values (map (instance (type_at i.types)) q.vars) → IsUnnegated (filled q i)
 filled_unnegated d q i t w =
     let n = witness_count d i.values (map (instance (type_at i.types)) q.vars) w ∙ length-map q.vars (instance (type_at i.types)) in
     let x = instance_term (type_at i.types) q.formula in
     let σ = (λ (k : ℕ). at i.values (length i.values - suc k)) in
-    let base = instance_unnegated (type_at i.types) (length q.vars) q.formula (within_more (IsQueryAtom q.type_vars) IsUnnegatedAtom (length q.vars) (length q.vars) (unnegated_atom q.type_vars) (omega arith) q.formula t.within) in
+    let base = instance_unnegated (type_at i.types) (length q.vars) q.formula (unnegated_atom q.type_vars (length q.vars) q.formula t.typed.within t.unnegated) in
     transport IsUnnegated (sym (instantiate_subst σ x)) (within_subst IsUnnegatedAtom σ (length q.vars) 0 (λ k l. value_at d i.values (map (instance (type_at i.types)) q.vars) w (length i.values - suc k) (omega (l, n, arith))) x base)
 
-plainly : (d : Declared) (F : List ClauseFormula) (q : Query) → EachOf (IsTypedSentence d) F → IsTypedQuery d q → (i : Instance) → IsProvable d F q i → IsPlainlyProvable d F q i
+plainly : (d : Declared) (F : List ClauseFormula) (q : Query) → EachOf (IsPlainSentence d) F → IsPlainQuery d q → (i : Instance) → IsProvable d F q i → IsPlainlyProvable d F q i
 plainly d F q s t i p = record { types = p.types; types_closed = p.types_closed; values = p.values; proved = unnegated_plain d (length F) [] F (filled q i) (sentences d F s) (filled_unnegated d q i t p.values) p.proved }
 
 each_sound : (d : Declared) (F : List ClauseFormula) (q : Query) (xs : List TypedAnswer) → EachOf (λ a. IsWellFormed d q a.typing a.answer) xs → EachOf (λ a. (i : Instance) → IsQueryInstance d q i → IsInstance d a.typing a.answer i → IsPlainlyProvable d F q i) xs → EachOf (λ a. (i : Instance) → IsClosedInstance d a.typing a.answer i → IsProvable d F q i) xs
 each_sound d F q [] w h = tt
 each_sound d F q (x ∷ xs) w h = (λ i c. proved d F q i (h.0 i (query_instance d q x.typing x.answer i w.0 c) (an_instance d x.typing x.answer i c)), each_sound d F q xs w.1 h.1)
 
-right : (d : Declared) (F : List ClauseFormula) (q : Query) → EachOf (IsTypedSentence d) F → IsTypedQuery d q → (t : Told Answer) → IsRightFor d F q t → IsRight d F q t
+right : (d : Declared) (F : List ClauseFormula) (q : Query) → EachOf (IsPlainSentence d) F → IsPlainQuery d q → (t : Told Answer) → IsRightFor d F q t → IsRight d F q t
 right d F q s t z r = record { typed = r.typed; is = r.is; well_formed = r.well_formed; sound = each_sound d F q r.typed r.well_formed r.sound; exhausts = λ e i p. r.exhausts e i (plainly d F q s t i p) }
 
-pub search_is_right : (d : Declared) → IsStandard d → (l : ℕ) (F : List ClauseFormula) (P : List Clause) → EachOf (IsTypedSentence d) F → AreFlattened d F P → (q : Query) (gs : Goals) → IsTypedQuery d q → flatten_query l d q.formula ≡ Some gs →
+pub search_is_right : (d : Declared) → IsStandard d → (l : ℕ) (F : List ClauseFormula) (P : List Clause) → EachOf (IsPlainSentence d) F → AreFlattened d F P → (q : Query) (gs : Goals) → IsPlainQuery d q → flatten_query l d q.formula ≡ Some gs →
     (n j m steps answers : ℕ) → IsRight d F q (run (look unit_limit n P) j m (start q.type_vars (length q.vars) gs steps answers))
 search_is_right d std l F P s x q gs t e n j m steps answers = right d F q s t _ (plain_search_is_right d std l F P s x q gs t e n j m steps answers)

@@ -59,8 +59,7 @@ abbrev mutual
   IsGoal k B (Exists T gs) = IsTypeBelow k T × AreGoals k (false ∷ B) gs
   IsGoal k B (Forall T gs) = IsTypeBelow k T × AreGoals k (true ∷ B) gs
   IsGoal k B (Assume ws cs gs) = AreClauses k B cs × AreGoals k B gs
-  -- these laws are of programs without negation
-  IsGoal k B (Not ws gs) = ⊥
+  IsGoal k B (Not ws gs) = AreGoals k B gs
 
   pub AreGoals : (k : ℕ) → (binders : List Bool) → Goals → Type 0
   AreGoals k B no_goals = Unit {0}
@@ -230,6 +229,12 @@ pub record StandFor (n : ℕ) (d : Declared) (P : List Clause) (q : Query) (T : 
   pub keeps : (i : Instance) → Sol d P q i T → AnyOf (Sol d P q i) typed
   pub gives : (i : Instance) → AnyOf (Sol d P q i) typed → Sol d P q i T
 
+-- typed tasks, whatever their solutions
+pub record AreTypedTasks (n : ℕ) (d : Declared) (P : List Clause) (q : Query) (ts : List Task) : Type 0 where
+  pub typed : List TypedTask
+  pub is : map task_of typed ≡ ts
+  pub ok : EachOf (IsOk n d P q) typed
+
 -- an answer in its place
 pub record AnswersFor (d : Declared) (P : List Clause) (q : Query) (T : TypedTask) (a : Answer) : Type 0 where
   pub typing : AnswerTyping
@@ -237,14 +242,14 @@ pub record AnswersFor (d : Declared) (P : List Clause) (q : Query) (T : TypedTas
   pub keeps : (i : Instance) → Sol d P q i T → IsQueryInstance d q i × IsInstance d typing a i
   pub gives : (i : Instance) → IsQueryInstance d q i → IsInstance d typing a i → Sol d P q i T
 
--- what a typed task may turn out to be
+-- what a typed task may turn out to be. Of a negated goal the rest of its branch is typed; what its search says is not said here
 abbrev pub IsRightView : (n : ℕ) → Declared → (P : List Clause) → Query → TypedTask → View Task Answer → Type 0
 IsRightView n d P q T (Gives a) = AnswersFor d P q T a
 IsRightView n d P q T (Opens ts) = StandFor n d P q T ts
 IsRightView n d P q T (Parts ts) = StandFor n d P q T ts
 IsRightView n d P q T (Takes name ts) = StandFor n d P q T ts
 IsRightView n d P q T (Cuts m ts) = StandFor n d P q T ts
-IsRightView n d P q T (Denies t is_final ts) = ⊥
+IsRightView n d P q T (Denies t is_final ts) = AreTypedTasks n d P q ts
 IsRightView n d P q T (Halts e) = e ≢ NoMore
 IsRightView n d P q T Lacks = Unit {0}
 

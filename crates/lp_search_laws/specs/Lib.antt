@@ -7,4 +7,5 @@ pub mod Holds
 pub mod Right
 pub mod Started
 pub mod Tries
+pub mod Unnegated
 pub mod Begun

@@ -1,19 +1,27 @@
 // Negated goals: what a search that is refuted proves.
 
-ghost use Rattle.std.specs.Prelude.{◌≡◌, ◌++◌, ℕ, Bool, List, Some, false, length};
+ghost use Rattle.std.specs.Prelude.{◌≡◌, ◌++◌, ◌∷◌, [], ℕ, Bool, List, Some, false, length, map};
 ghost use Rattle.lp_calculus.specs.Convert.{Converts};
 ghost use Rattle.lp_calculus.specs.Term.{Term};
 ghost use Rattle.lp_calculus.specs.Types.{Ty, instance};
 ghost use Rattle.lp_lemmas.specs.Each.{EachOf};
-ghost use Rattle.lp_model.specs.Branch.{Answer};
-ghost use Rattle.lp_model.specs.Flat.{Clause, Clauses, Goals, Written};
-ghost use Rattle.lp_model.specs.Flatten.{ClauseFormula};
+ghost use Rattle.lp_model.specs.Branch.{Answer, Branch, Entry};
+ghost use Rattle.lp_model.specs.Flat.{Clause, Clauses, Goals, Not, Written, denied, formula_of_goals, goals, no_goals};
+ghost use Rattle.lp_model.specs.Answers.{AnswerTyping, Closes, IsProvable, Query};
+ghost use Rattle.lp_model.specs.Flatten.{ClauseFormula, flatten_query};
 ghost use Rattle.lp_model.specs.Proofs.{AreFlattened, Declared, Provable, StandForClauses, StandsForGoal, newest_first};
 ghost use Rattle.lp_model.specs.Pair.{Closing, closed};
-ghost use Rattle.lp_model.specs.Search.{has_variables, look};
-ghost use Rattle.lp_model.specs.Skeleton.{Note, Refuted, inner, starts_within};
+ghost use Rattle.lp_model.specs.Search.{has_no_pairs, has_variables, look, start, with_goals};
+ghost use Rattle.lp_model.specs.Skeleton.{Held, Note, Refuted, inner, run, starts, starts_within};
+ghost use Rattle.lp_model.specs.declared.ending.Ending.TheVariants.{NoMore};
 ghost use Rattle.lp_model.specs.Unify.{unit_limit};
+ghost use Rattle.lp_search_laws.specs.Branches.{IsProgramTyped, IsTypedBranch};
+ghost use Rattle.lp_search_laws.specs.Clauses.{clauses_at};
 ghost use Rattle.lp_search_laws.specs.Denials.{denied_task};
+ghost use Rattle.lp_search_laws.specs.Holds.{Holds};
+ghost use Rattle.lp_search_laws.specs.Started.{IsPlainQuery, IsPlainSentence};
+ghost use Rattle.lp_search_laws.specs.Unnegated.{AreUnnegatedGoals, IsUnnegatedClause};
+ghost use Rattle.lp_standard.specs.Schemes.{IsStandard};
 ghost use Rattle.lp_standard.specs.Connectives.{not_of};
 
 /// What is tested to hold no variable is the same under each closing: its terms up to conversion. So a negated goal that is searched says the same whatever
@@ -27,4 +35,21 @@ pub fn tested_values_are_closed()
 pub fn refuted_goals_have_proved_negations()
     ensures { (d : Declared) (F : List ClauseFormula) (P : List Clause) → AreFlattened d F P → (G : Term) (gs : Goals) → StandsForGoal d G gs → (Ds : List ClauseFormula) (css : List Clauses) → StandForClauses d Ds css → (w : Written) (next next_type level steps looks j rows k p : ℕ) (ns : List Note) (is_final : Answer → Bool) →
         inner (look unit_limit looks P) j is_final (starts_within rows (denied_task next next_type gs (newest_first css) w level) steps 1) ≡ Refuted k ns p → (E : List Ty) → length E ≡ level → Provable d (length F) E (F ++ Ds) (not_of G) }
+{}
+
+/// What a negated goal's search says, where neither its goals nor the clauses have a negation: where it is refuted no closing of the variables of its branch makes
+/// its goals provable, and where it is held some closing does. (And what is tested is the same under each closing.)
+pub fn negations_are_judged_rightly()
+    ensures { (n : ℕ) (d : Declared) → IsStandard d → (P : List Clause) → EachOf (IsProgramTyped d) P → EachOf IsUnnegatedClause P → (q : Query) (z : AnswerTyping) (b : Branch) (E : List Ty) (Es : List (List Ty)) (e : Entry) (es : List Entry) → IsTypedBranch n d q (record { answer = z; eigens = E ∷ Es }) (with_goals b (e ∷ es)) →
+        (w : Written) (gs : Goals) → e.goal ≡ Not w gs → AreUnnegatedGoals gs → EachOf IsUnnegatedClause e.assumed → (j steps k p : ℕ) (ns : List Note) →
+        (inner (look unit_limit n P) j has_no_pairs (starts (denied_task b.next b.next_type gs e.assumed e.written e.level) steps 1) ≡ Refuted k ns p → (c : Closing) → Closes d z.variables c → Holds d (map (instance c.types) E) (clauses_at P e.assumed c) c (formula_of_goals gs) → ⊥) ×
+        (inner (look unit_limit n P) j has_no_pairs (starts (denied_task b.next b.next_type gs e.assumed e.written e.level) steps 1) ≡ Held k ns p → (c : Closing) × Closes d z.variables c × Holds d (map (instance c.types) E) (clauses_at P e.assumed c) c (formula_of_goals gs)) }
+{}
+
+/// What the query `not G` says, where G has no variables and neither G nor the program a negation: it is answered only where G has no proof, and it ends with no
+/// more and no answer only where G has one. The goals are those of G, denied.
+pub fn closed_negations_are_right()
+    ensures { (d : Declared) → IsStandard d → (l : ℕ) (F : List ClauseFormula) (P : List Clause) → EachOf (IsPlainSentence d) F → AreFlattened d F P → (G : Term) (gs : Goals) → IsPlainQuery d (record { type_vars = 0; vars = []; formula = G }) → flatten_query l d G ≡ Some gs → (n j m steps answers : ℕ) →
+        ((a : Answer) (more : List Answer) → (run (look unit_limit n P) j m (start 0 0 (goals (denied gs) no_goals) steps answers)).answers ≡ a ∷ more → IsProvable d F (record { type_vars = 0; vars = []; formula = G }) (record { types = []; values = [] }) → ⊥) ×
+        ((run (look unit_limit n P) j m (start 0 0 (goals (denied gs) no_goals) steps answers)).ending ≡ Some NoMore → (run (look unit_limit n P) j m (start 0 0 (goals (denied gs) no_goals) steps answers)).answers ≡ [] → IsProvable d F (record { type_vars = 0; vars = []; formula = G }) (record { types = []; values = [] })) }
 {}

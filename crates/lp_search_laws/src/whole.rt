@@ -8,19 +8,26 @@ ghost use Rattle.lp_model.specs.Skeleton.{Told, run};
 ghost use Rattle.lp_model.specs.Branch.{Answer};
 ghost use Rattle.lp_model.specs.Flat.{Goals, Clause};
 ghost use Rattle.lp_model.specs.Flatten.{ClauseFormula, flatten_query};
-ghost use Rattle.lp_model.specs.Answers.{Query, IsRight};
+ghost use Rattle.lp_model.specs.Answers.{AnswerTyping, Instance, IsClosedInstance, Query, IsRight, IsWellFormed};
 ghost use Rattle.lp_model.specs.Proofs.{Declared, AreFlattened};
 ghost use Rattle.lp_model.specs.Search.{ComesTo, look, start};
-ghost use Rattle.lp_search_laws.specs.Started.{IsTypedQuery, IsTypedSentence};
+ghost use Rattle.lp_search_laws.specs.Branches.{IsQueryInstance};
+ghost use Rattle.lp_search_laws.specs.Started.{IsPlainQuery, IsPlainSentence, IsTypedQuery, IsTypedSentence};
+
+/// Of the whole language, negation too: each answer is well formed under a typing of the variables that are left, its values are positive, and each of its closed
+/// instances gives the query's variables closed positive terms of their types.
+pub fn answers_are_well_formed()
+    ensures { (d : Declared) → IsStandard d → (l : ℕ) (F : List ClauseFormula) (P : List Clause) → EachOf (IsTypedSentence d) F → AreFlattened d F P → (q : Query) (gs : Goals) → IsTypedQuery d q → flatten_query l d q.formula ≡ Some gs → (n j m steps answers : ℕ) → EachOf (λ a. (y : AnswerTyping) × IsWellFormed d q y a × ((i : Instance) → IsClosedInstance d y a i → IsQueryInstance d q i)) (run (look unit_limit n P) j m (start q.type_vars (length q.vars) gs steps answers)).answers }
+{}
 
 /// Soundness and exhaustion, of programs and queries without negation: each closed instance of an answer has a uniform proof, and where there is no more, each
 /// instance of the query that has one is, up to conversion, an instance of an answer. The steps n of each look, and the moves, are any: where they are too few
 /// the run has no end.
 pub fn plain_search_is_right()
-    ensures { (d : Declared) → IsStandard d → (l : ℕ) (F : List ClauseFormula) (P : List Clause) → EachOf (IsTypedSentence d) F → AreFlattened d F P → (q : Query) (gs : Goals) → IsTypedQuery d q → flatten_query l d q.formula ≡ Some gs → (n j m steps answers : ℕ) → IsRight d F q (run (look unit_limit n P) j m (start q.type_vars (length q.vars) gs steps answers)) }
+    ensures { (d : Declared) → IsStandard d → (l : ℕ) (F : List ClauseFormula) (P : List Clause) → EachOf (IsPlainSentence d) F → AreFlattened d F P → (q : Query) (gs : Goals) → IsPlainQuery d q → flatten_query l d q.formula ≡ Some gs → (n j m steps answers : ℕ) → IsRight d F q (run (look unit_limit n P) j m (start q.type_vars (length q.vars) gs steps answers)) }
 {}
 
 /// The search comes to a value, for each limit on steps and answers.
 pub fn plain_search_comes_to_a_value()
-    ensures { (d : Declared) → IsStandard d → (l : ℕ) (F : List ClauseFormula) (P : List Clause) → EachOf (IsTypedSentence d) F → AreFlattened d F P → (q : Query) (gs : Goals) → IsTypedQuery d q → flatten_query l d q.formula ≡ Some gs → (steps answers : ℕ) → (t : Told Answer) × ComesTo P (start q.type_vars (length q.vars) gs steps answers) t }
+    ensures { (d : Declared) → IsStandard d → (l : ℕ) (F : List ClauseFormula) (P : List Clause) → EachOf (IsPlainSentence d) F → AreFlattened d F P → (q : Query) (gs : Goals) → IsPlainQuery d q → flatten_query l d q.formula ≡ Some gs → (steps answers : ℕ) → (t : Told Answer) × ComesTo P (start q.type_vars (length q.vars) gs steps answers) t }
 {}
