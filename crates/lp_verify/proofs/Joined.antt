@@ -23,7 +23,7 @@ stop o next b h = ap (λ t. if t then o else next) h
 
 -- the judged rules from one on
 abbrev from_term : Broken → Option Rule
-from_term b = if b.term then Some rule.Term else (if b.order then Some rule.Order else (if b.clause then Some rule.Clause else (if b.key then Some rule.Key else None)))
+from_term b = if b.term then Some rule.Term else (if b.order then Some rule.Order else (if b.block then Some rule.Block else (if b.clause then Some rule.Clause else (if b.key then Some rule.Key else None))))
 
 abbrev from_constant : Broken → Option Rule
 from_constant b = if b.constant then Some rule.Constant else from_term b
@@ -35,7 +35,10 @@ passed : (b : Broken) → ArePassed b → first_broken (breaks b) judged ≡ fro
 passed b h = skip (Some rule.Register) (from_set b) b.register h.0 ∙ skip (Some rule.Set) (from_constant b) b.set h.1 ∙ skip (Some rule.Constant) (from_term b) b.constant h.2
 
 abbrev from_order : Broken → Option Rule
-from_order b = if b.order then Some rule.Order else (if b.clause then Some rule.Clause else (if b.key then Some rule.Key else None))
+from_order b = if b.order then Some rule.Order else (if b.block then Some rule.Block else (if b.clause then Some rule.Clause else (if b.key then Some rule.Key else None)))
+
+abbrev from_block : Broken → Option Rule
+from_block b = if b.block then Some rule.Block else (if b.clause then Some rule.Clause else (if b.key then Some rule.Key else None))
 
 abbrev from_clause : Broken → Option Rule
 from_clause b = if b.clause then Some rule.Clause else (if b.key then Some rule.Key else None)
@@ -44,7 +47,7 @@ abbrev from_key : Broken → Option Rule
 from_key b = if b.key then Some rule.Key else None
 
 pub first_none : (b : Broken) → IsFirst b None → first_broken (breaks b) judged ≡ None
-first_none b h = passed b h.0 ∙ skip (Some rule.Term) (from_order b) b.term h.1 ∙ skip (Some rule.Order) (from_clause b) b.order h.2 ∙ skip (Some rule.Clause) (from_key b) b.clause h.3 ∙ skip (Some rule.Key) None b.key h.4
+first_none b h = passed b h.0 ∙ skip (Some rule.Term) (from_order b) b.term h.1 ∙ skip (Some rule.Order) (from_block b) b.order h.2 ∙ skip (Some rule.Block) (from_clause b) b.block h.3 ∙ skip (Some rule.Clause) (from_key b) b.clause h.4 ∙ skip (Some rule.Key) None b.key h.5
 
 pub first_some : (b : Broken) (r : Rule) → IsFirst b (Some r) → is_judged r ≡ true → first_broken (breaks b) judged ≡ Some r
 first_some b rule.Register h j = stop (Some rule.Register) (from_set b) b.register h
@@ -54,15 +57,15 @@ first_some b rule.Constant h j = skip (Some rule.Register) (from_set b) b.regist
 first_some b rule.Typing h j = absurd (cc)
 first_some b rule.Index h j = absurd (cc)
 first_some b rule.Term h j = passed b h.0 ∙ stop (Some rule.Term) (from_order b) b.term h.1
-first_some b rule.Order h j = passed b h.0 ∙ skip (Some rule.Term) (from_order b) b.term h.1 ∙ stop (Some rule.Order) (from_clause b) b.order h.2
+first_some b rule.Order h j = passed b h.0 ∙ skip (Some rule.Term) (from_order b) b.term h.1 ∙ stop (Some rule.Order) (from_block b) b.order h.2
 first_some b rule.Head h j = absurd (cc)
-first_some b rule.Block h j = absurd (cc)
-first_some b rule.Clause h j = passed b h.0 ∙ skip (Some rule.Term) (from_order b) b.term h.1 ∙ skip (Some rule.Order) (from_clause b) b.order h.2 ∙ stop (Some rule.Clause) (from_key b) b.clause h.3
-first_some b rule.Key h j = passed b h.0 ∙ skip (Some rule.Term) (from_order b) b.term h.1 ∙ skip (Some rule.Order) (from_clause b) b.order h.2 ∙ skip (Some rule.Clause) (from_key b) b.clause h.3 ∙ stop (Some rule.Key) None b.key h.4
+first_some b rule.Block h j = passed b h.0 ∙ skip (Some rule.Term) (from_order b) b.term h.1 ∙ skip (Some rule.Order) (from_block b) b.order h.2 ∙ stop (Some rule.Block) (from_clause b) b.block h.3
+first_some b rule.Clause h j = passed b h.0 ∙ skip (Some rule.Term) (from_order b) b.term h.1 ∙ skip (Some rule.Order) (from_block b) b.order h.2 ∙ skip (Some rule.Block) (from_clause b) b.block h.3 ∙ stop (Some rule.Clause) (from_key b) b.clause h.4
+first_some b rule.Key h j = passed b h.0 ∙ skip (Some rule.Term) (from_order b) b.term h.1 ∙ skip (Some rule.Order) (from_block b) b.order h.2 ∙ skip (Some rule.Block) (from_clause b) b.block h.3 ∙ skip (Some rule.Clause) (from_key b) b.clause h.4 ∙ stop (Some rule.Key) None b.key h.5
 
 -- tests that agree on the judged rules find the same one
-pub first_same : (f g : Rule → Bool) → f rule.Register ≡ g rule.Register → f rule.Set ≡ g rule.Set → f rule.Constant ≡ g rule.Constant → f rule.Term ≡ g rule.Term → f rule.Order ≡ g rule.Order → f rule.Clause ≡ g rule.Clause → f rule.Key ≡ g rule.Key → first_broken f judged ≡ first_broken g judged
-first_same f g a b c d e l k = λ i. if a i then Some rule.Register else (if b i then Some rule.Set else (if c i then Some rule.Constant else (if d i then Some rule.Term else (if e i then Some rule.Order else (if l i then Some rule.Clause else (if k i then Some rule.Key else None))))))
+pub first_same : (f g : Rule → Bool) → f rule.Register ≡ g rule.Register → f rule.Set ≡ g rule.Set → f rule.Constant ≡ g rule.Constant → f rule.Term ≡ g rule.Term → f rule.Order ≡ g rule.Order → f rule.Block ≡ g rule.Block → f rule.Clause ≡ g rule.Clause → f rule.Key ≡ g rule.Key → first_broken f judged ≡ first_broken g judged
+first_same f g a b c d e o l k = λ i. if a i then Some rule.Register else (if b i then Some rule.Set else (if c i then Some rule.Constant else (if d i then Some rule.Term else (if e i then Some rule.Order else (if o i then Some rule.Block else (if l i then Some rule.Clause else (if k i then Some rule.Key else None)))))))
 
 pub or_false : (b : Bool) → (b || false) ≡ b
 or_false true = refl

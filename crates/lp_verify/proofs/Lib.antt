@@ -1,5 +1,8 @@
 mod Language
 mod Entries
+mod Sides
+mod KeptBlocks
+mod Places
 mod Outlines
 mod Joined
 mod KeyLaws

@@ -1,7 +1,7 @@
 -- A record at work moves as the state of the definition does.
-use Rattle.std.proofs.Common.{◌≡◌, ◌∙◌, ◌≤◌, ◌<◌, ℕ, zero, suc, ◌+◌, List, [], ◌∷◌, ◌++◌, map, length, append_assoc, Bool, true, false, Option, Some, None, ap, refl, sym, subst, arith, inl, inr}
-use Rattle.std.specs.BTreeMap.{BTreeMap}
-use Rattle.std.specs.Prelude.{nat_eq, nat_lt, not, ◌||◌, ◌&&◌, ◌^◌, if◌then◌else◌}
+use Rattle.std.proofs.Common.{◌≡◌, ◌∙◌, ◌≤◌, ◌<◌, ℕ, zero, suc, ◌+◌, List, [], ◌∷◌, ◌++◌, map, length, reverse, append_assoc, zero-add, Bool, true, false, Option, Some, None, ap, refl, sym, subst, arith, inl, inr}
+use Rattle.std.specs.BTreeMap.{BTreeMap, get}
+use Rattle.std.specs.Prelude.{nat_eq, nat_lt, nat_le, not, ◌||◌, ◌&&◌, ◌^◌, if◌then◌else◌}
 use Rattle.lp_lemmas.proofs.Lists.{append_nil_sym}
 use Rattle.std.proofs.lemmas.Bool.{ne_eqb, lt-ltb, le-ltb, ltb-true, ltb-false, eqb-true, eqb-false}
 use Rattle.lp_lemmas.proofs.Numbers.{equal_or_above}
@@ -13,7 +13,7 @@ use Rattle.lp_code.specs.Length.{length_of}
 use Rattle.lp_code.specs.Operands.{type_set, term_set}
 use Rattle.lp_code.specs.States.{State, Home, Captured, member}
 use Rattle.lp_code.specs.Steps.{after}
-use Rattle.lp_code.specs.Rules.{breaks_set, breaks_register, breaks_term, named_before, names_of}
+use Rattle.lp_code.specs.Rules.{breaks_set, breaks_register, breaks_term, breaks_nesting, has_none, is_passed, named_before, names_of}
 use Rattle.lp_code.specs.Denote.{Done, Broken, first_broken, broken_by_record, broken_by, broken_of, unless_broken, run_on, run_of, any_clause, first_state, from_zero}
 use Rattle.lp_verify.specs.declared.record.Work.{Work}
 use Rattle.lp_verify.specs.declared.whole.Whole.{Whole}
@@ -22,9 +22,15 @@ use Rattle.lp_verify.specs.Held.{was_set}
 use Rattle.lp_verify.specs.Named.{was_named, HasNamed}
 use Rattle.lp_verify.specs.Judged.{judged, bytes_of}
 use Rattle.lp_verify.specs.inner.Outline.{Outline, outline, arguments_behind, types_behind, body_behind, outline_behind}
-use Rattle.lp_verify.specs.inner.Told.{breaks, told, broken_whole, IsFirst, is_out_of_order}
-use Rattle.lp_verify.specs.inner.At.{home_in, IsAt, IsRun, IsActed, IsStarted, IsJudgedWhole, IsWhole, IsNoWhole, IsRan, AreNamedBefore, NamedAt, GoesOn}
-use Rattle.lp_verify.proofs.Outlines.{behind, comes_behind, outline_is, named_with_is}
+use Rattle.lp_verify.specs.inner.Told.{breaks, told, broken_whole, breaks_blocks, IsFirst, is_out_of_order}
+use Rattle.std.specs.Ordering.{nat_cmp}
+use Rattle.std.specs.List.{list_any}
+use Rattle.lp_verify.specs.inner.At.{home_in, IsAt, IsRun, IsActed, IsStarted, IsJudgedWhole, IsWhole, IsNoWhole, IsRan, AreNamedBefore, NamedAt, Past, GoesOn}
+use Rattle.lp_verify.specs.inner.Sides.{sides_in, sides_acted, sides_settled, is_past, is_turn, starts_from, nests_badly, first_end_of, AreEnds, HasPlaces}
+use Rattle.lp_verify.proofs.Outlines.{behind, comes_behind, outline_is, named_with_is, sides_are}
+use Rattle.lp_verify.proofs.Sides.{same_past}
+use Rattle.lp_verify.proofs.KeptBlocks.{past_is}
+use Rattle.lp_verify.proofs.Places.{some_bytes, starts_behind, same_nesting, ran_acted, last_is, turn_there, bytes_more}
 use Rattle.lp_verify.proofs.Joined.{first_none, first_some, first_same, or_false, same_sets, same_counts, same_order, same_names}
 
 more_arguments : (i : Instr) (m : ℕ) → arguments_behind i m ≤ m + length_of i
@@ -65,44 +71,6 @@ more_arguments on.Proceed m = omega arith
 more_arguments on.Not m = omega arith
 more_arguments on.EndNot m = omega arith
 
-some_bytes : (i : Instr) → 1 ≤ length_of i
-some_bytes (on.TyCon d k ts) = omega arith
-some_bytes (on.TyArr d a b) = omega arith
-some_bytes (on.TyNew d) = omega arith
-some_bytes (on.New d t) = omega arith
-some_bytes (on.PutConst d c ts) = omega arith
-some_bytes (on.PutInt d z) = omega arith
-some_bytes (on.PutStr d b) = omega arith
-some_bytes (on.PutIndex d i t) = omega arith
-some_bytes (on.PutAbs d b t) = omega arith
-some_bytes (on.PutApp d f rs) = omega arith
-some_bytes (on.GetType j t) = omega arith
-some_bytes (on.GetVar i d) = omega arith
-some_bytes (on.Get i r) = omega arith
-some_bytes (on.GetConst i c ts) = omega arith
-some_bytes (on.GetInt i z) = omega arith
-some_bytes (on.GetStr i b) = omega arith
-some_bytes on.Neck = omega arith
-some_bytes (on.Call c ts rs) = omega arith
-some_bytes (on.CallTerm r) = omega arith
-some_bytes (on.Equal t l r) = omega arith
-some_bytes (on.Is t l r) = omega arith
-some_bytes (on.Less l r) = omega arith
-some_bytes (on.Greater l r) = omega arith
-some_bytes (on.AtMost l r) = omega arith
-some_bytes (on.AtLeast l r) = omega arith
-some_bytes on.Cut = omega arith
-some_bytes (on.Sigma d t) = omega arith
-some_bytes (on.All d t) = omega arith
-some_bytes on.EndAll = omega arith
-some_bytes (on.Assume ns ts rs) = omega arith
-some_bytes on.EndAssume = omega arith
-some_bytes (on.Either n) = omega arith
-some_bytes (on.Jump n) = omega arith
-some_bytes on.Proceed = omega arith
-some_bytes on.Not = omega arith
-some_bytes on.EndNot = omega arith
-
 pub member_append : (r : ℕ) (xs ys : List ℕ) → member r (xs ++ ys) ≡ (member r xs || member r ys)
 member_append r [] ys = refl
 member_append r (x ∷ xs) ys = also (nat_eq r x) (member_append r xs ys)
@@ -120,11 +88,23 @@ named_on h s i m n a r = λ k.
     r k ∙ ap (λ b. b || member k (names_of i)) (a k) ∙ sym (member_append k (before ++ now) (names_of i)) ∙ ap (member k) (append_assoc before now (names_of i) ∙ sym (ap (λ l. before ++ l) o))
 
 -- the state behind an instruction that was run
-pub moved : (h : Home) (s : State) (i : Instr) (w v : Work) → IsAt w s → IsRun i w v → s.place + length_of i < 2 ^ 63 → IsAt v (behind h s i)
-moved h s i w v a r small =
+or_first : (a b : Bool) → (a || b) ≡ false → a ≡ false
+or_first true b h = h
+or_first false b h = refl
+
+or_second : (a b : Bool) → (a || b) ≡ false → b ≡ false
+or_second true b h = absurd (cc)
+or_second false b h = h
+
+pub moved : (h : Home) (s : State) (i : Instr) (w v : Work) → IsAt w s → breaks_blocks w i ≡ false → IsRun i w v → s.place + length_of i < 2 ^ 33 → IsAt v (behind h s i)
+moved h s i w v a fine r small =
     let o : outline (behind h s i) ≡ outline_behind i (outline s) = outline_is h s i in
     let p : w.place ≡ s.place = a.place_is in
     let few : length s.head_arguments ≤ s.place = a.few_arguments in
+    let some = some_bytes i in
+    let fewer = a.few_instructions in
+    let code = w.home.record.now.code.items in
+    let kept = or_second (nat_le (first_end_of (reverse w.blocks.frames.items)) w.place) (nests_badly w.place (get nat_cmp w.places.jumps) (nat_eq (w.number + 1) (length code)) (sides_in w.blocks.frames.items) i) fine in
     record {
       place_is = r.place_moves (omega (arith, small, p)) ∙ ap (λ n. n + length_of i) p ∙ sym (ap (λ (o : Outline). o.place) o);
       body_is = r.body_is ∙ ap (body_behind i) a.body_is ∙ sym (ap (λ (o : Outline). o.in_body) o);
@@ -137,13 +117,46 @@ moved h s i w v a r small =
           let e : length (behind h s i).head_arguments ≡ arguments_behind i (length s.head_arguments) = ap (λ (o : Outline). o.arguments) o in
           let q : (behind h s i).place ≡ s.place + length_of i = ap (λ (o : Outline). o.place) o in
           omega (arith, m, e, q, few);
+      few_instructions =
+          let q : (behind h s i).place ≡ s.place + length_of i = ap (λ (o : Outline). o.place) o in
+          let n = r.number_moves (omega (arith, fewer, small)) in
+          omega (arith, n, q, fewer, some);
+      sides_are =
+          r.sides_move (omega (arith, small, p)) ∙ ap (sides_settled (w.place + length_of i)) (ran_acted i w.place (get nat_cmp w.places.jumps) (nat_eq (w.number + 1) (length code)) (sides_in w.blocks.frames.items) kept)
+          ∙ (λ j. sides_settled (p j + length_of i) (sides_acted i (p j) (a.sides_are j))) ∙ sym (sides_are h s i);
+      ends_are = r.ends_stay a.ends_are;
+    }
+
+-- one instruction more was run
+pub run_on_past : (h : Home) (all : List Instr) (i : Instr) (is : List Instr) (s : State) (w v : Work) → Past all (i ∷ is) s w → IsAt w s → IsRun i w v → s.place + length_of i < 2 ^ 33 → Past all is (behind h s i) v
+run_on_past h all i is s w v b a r small =
+    let o = outline_is h s i in
+    let q : (behind h s i).place ≡ s.place + length_of i = ap (λ (o : Outline). o.place) o in
+    let fewer = a.few_instructions in
+    let n = r.number_moves (omega (arith, fewer, small)) in
+    let count : w.number + suc (length is) ≡ length all = b.count_is in
+    record {
+      run = b.run ++ i ∷ [];
+      parts = b.parts ∙ sym (append_assoc b.run (i ∷ []) is);
+      length_is = bytes_more b.run i ∙ ap (λ n. n + length_of i) b.length_is ∙ sym q;
+      all_is = b.all_is ∙ sym (ap (λ h. h.record.now.code.items) r.home_stays);
+      count_is = omega (arith, n, count);
+      places_are = subst (λ p. HasPlaces all p.jumps) (sym r.places_stay) b.places_are;
     }
 
 -- an instruction that was acted on is passed, and right sides that end there are left
-pub passed_on : (i : Instr) (old mid new : Work) → IsActed i old mid → new.home ≡ mid.home → (mid.place + length_of i < 2 ^ 64 → new.place ≡ mid.place + length_of i) → new.in_body ≡ mid.in_body → new.head ≡ mid.head
+pub passed_on : (i : Instr) (old mid new : Work) → IsActed i old mid → new.home ≡ mid.home → new.places ≡ mid.places → (mid.place + length_of i < 2 ^ 64 → new.place ≡ mid.place + length_of i) → (mid.number + 1 < 2 ^ 64 → new.number ≡ mid.number + 1)
+    → sides_in new.blocks.frames.items ≡ sides_settled new.place (sides_in mid.blocks.frames.items) → (AreEnds (reverse mid.blocks.frames.items) → AreEnds (reverse new.blocks.frames.items)) → new.in_body ≡ mid.in_body → new.head ≡ mid.head
     → ((r : ℕ) → was_set new.types r ≡ was_set mid.types r) → ((r : ℕ) → was_set new.terms r ≡ was_set mid.terms r) → IsRun i old new
-passed_on i old mid new a home place body head types terms = record {
+passed_on i old mid new a home places place number sides ends body head types terms = record {
   home_stays = home ∙ a.home_stays;
+  places_stay = places ∙ a.places_stay;
+  number_moves = λ h. number (subst (λ p. p + 1 < 2 ^ 64) (sym a.number_stays) h) ∙ ap (λ p. p + 1) a.number_stays;
+  sides_move = λ h.
+      let l = length_of i in
+      let p : new.place ≡ old.place + l = place (subst (λ p. p + l < 2 ^ 64) (sym a.place_stays) (omega (arith, h))) ∙ ap (λ p. p + l) a.place_stays in
+      sides ∙ (λ j. sides_settled (p j) (a.sides_act (omega (arith, h)) j));
+  ends_stay = λ h. ends (a.ends_stay h);
   place_moves = λ h. place (subst (λ p. p + length_of i < 2 ^ 64) (sym a.place_stays) h) ∙ ap (λ p. p + length_of i) a.place_stays;
   body_is = body ∙ a.body_is;
   types_are = ap (λ (x : HeadSoFar). length x.types.items) head ∙ a.types_are;
@@ -160,10 +173,23 @@ broken_at : (z : Bool) (f g : Rule → Bool) → (if z then first_broken (λ r. 
 broken_at true f g = refl
 broken_at false f g = refl
 
+-- the blocks that are told are those of the state
+same_blocks : (s : State) (w : Work) (all : List Instr) (i : Instr) (is : List Instr) → IsAt w s → Past all (i ∷ is) s w → bytes_of all < 2 ^ 32 → s.place < 2 ^ 33 → breaks_blocks w i ≡ (list_any (is_passed s.place) s.frames || breaks_nesting s is i)
+same_blocks s w all i is a b short small =
+    let p : w.place ≡ s.place = a.place_is in
+    let starts = get nat_cmp w.places.jumps in
+    let last = nat_eq (w.number + 1) (length w.home.record.now.code.items) in
+    let count : w.number + suc (length is) ≡ length all = b.count_is in
+    let ends : last ≡ has_none is = last_is w.number (length w.home.record.now.code.items) is (count ∙ ap length b.all_is) in
+    let past = past_is (reverse w.blocks.frames.items) w.place a.ends_are (omega (arith, small, p)) ∙ (λ j. list_any (is_past (p j)) (a.sides_are j)) ∙ same_past s.place s.frames in
+    let at : is_turn i ≡ true → (q : ℕ) → s.place ≤ q → starts q ≡ starts_from s.place (i ∷ is) q =
+    λ t q l. b.places_are short (ap (list_any is_turn) b.parts ∙ turn_there b.run i is t) q ∙ ap (λ l. starts_from 0 l q) b.parts ∙ starts_behind 0 q s.place b.run (i ∷ is) (zero-add (bytes_of b.run) ∙ b.length_is) l in
+    (λ j. past j || nests_badly (p j) starts last (a.sides_are j) i) ∙ ap (λ c. list_any (is_passed s.place) s.frames || c) (same_nesting s is i starts last ends at)
+
 -- what is told before an instruction is what the definition finds there
-pub same_broken : (s : State) (w : Work) (m : BTreeMap ℕ ℕ) (x : Whole) (i : Instr) (is : List Instr) → IsAt w s → NamedAt (home_in w.home) s m → IsWhole (home_in w.home) s x
+pub same_broken : (s : State) (w : Work) (m : BTreeMap ℕ ℕ) (x : Whole) (all : List Instr) (i : Instr) (is : List Instr) → IsAt w s → Past all (i ∷ is) s w → bytes_of all < 2 ^ 32 → s.place < 2 ^ 33 → NamedAt (home_in w.home) s m → IsWhole (home_in w.home) s x
     → broken_of judged (home_in w.home) s (i ∷ is) ≡ first_broken (breaks (told w (was_named m) x i)) judged
-same_broken s w m x i is a names b =
+same_broken s w m x all i is a past short small names b =
     let h = home_in w.home in
     let t : Bool = nat_eq s.place 0 in
     broken_at t (broken_by_record h s) (broken_by h s is i) ∙ sym (first_same (breaks (told w (was_named m) x i)) (λ r. (t && broken_by_record h s r) || broken_by h s is i r)
@@ -172,6 +198,7 @@ same_broken s w m x i is a names b =
     ((λ j. b.constant_is j || same_counts h i j))
     (no_more t (breaks_term i))
     ((λ j. b.order_is j || is_out_of_order (a.body_is j) (a.types_are j) (a.arguments_are j) i) ∙ ap (λ v. (t && broken_by_record h s rule.Order) || v) (same_order s i))
+    ((λ j. b.block_is j || same_blocks s w all i is a past short small j))
     ((λ j. b.clause_is j || same_names h s (was_named m) i names j))
     (b.key_is ∙ sym (or_false (t && broken_by_record h s rule.Key))))
   where
@@ -190,21 +217,32 @@ one_more c all i is w v m n x y short g f r names clean =
     let s = g.0 in
     let count : s.place + (length_of i + bytes_of is) ≡ bytes_of all = g.3 in
     let place : (behind h s i).place ≡ s.place + length_of i = ap (λ (o : Outline). o.place) (outline_is h s i) in
-    let fine = same_broken s w m x i is g.2 g.5 g.4 ∙ first_none (told w (was_named m) x i) f in
+    let small : s.place + length_of i < 2 ^ 33 = omega (arith, short, count) in
+    let fine = same_broken s w m x all i is g.2 g.6 short (omega (arith, small)) g.5 g.4 ∙ first_none (told w (was_named m) x i) f in
     let past : nat_eq (behind h s i).place 0 ≡ false = ap (λ n. nat_eq n 0) place ∙ first_passes s.place (length_of i) (some_bytes i) in (
       behind h s i,
       g.1 ∙ ap (λ o. unless_broken o s.place (run_on (λ t. run_of judged h any_clause t is) (after h any_clause s i))) fine ∙ ap (run_on (λ t. run_of judged h any_clause t is)) (comes_behind h s i),
-      moved h s i w v g.2 r (omega (arith, short, count)),
+      moved h s i w v g.2 (or_second x.block (breaks_blocks w i) f.3) r small,
       omega (arith, place, count),
       record {
         register_is = clean.0 ∙ sym (ap (λ t. t && broken_by_record h (behind h s i) rule.Register) past);
         constant_is = clean.1 ∙ sym (ap (λ t. t && broken_by_record h (behind h s i) rule.Constant) past);
         order_is = clean.2 ∙ sym (ap (λ t. t && broken_by_record h (behind h s i) rule.Order) past);
-        clause_is = clean.3 ∙ sym (ap (λ t. t && broken_by_record h (behind h s i) rule.Clause) past);
-        key_is = clean.4 ∙ sym (ap (λ t. t && broken_by_record h (behind h s i) rule.Key) past);
+        block_is = clean.3 ∙ sym (ap (λ t. t && broken_by_record h (behind h s i) rule.Block) past);
+        clause_is = clean.4 ∙ sym (ap (λ t. t && broken_by_record h (behind h s i) rule.Clause) past);
+        key_is = clean.5 ∙ sym (ap (λ t. t && broken_by_record h (behind h s i) rule.Key) past);
       },
       named_on h s i m n g.5 names,
+      run_on_past h all i is s w v g.6 g.2 r small,
     )
+
+-- the offset and the number of the next instruction are small
+pub stands_low : (h : Home) (c : Captured) (all : List Instr) (i : Instr) (is : List Instr) (w : Work) (m : BTreeMap ℕ ℕ) (x : Whole) → bytes_of all < 2 ^ 32 → GoesOn h c all (i ∷ is) w m x → (w.place < 2 ^ 63) × (w.number < 2 ^ 63)
+stands_low h c all i is w m x short g =
+    let p = g.2.place_is in
+    let few = g.2.few_instructions in
+    let count : g.0.place + (length_of i + bytes_of is) ≡ bytes_of all = g.3 in
+    (omega (arith, short, count, p), omega (arith, short, count, few))
 
 pub goes_on : (h : Home) (c : Captured) (all : List Instr) (i : Instr) (is : List Instr) (w v : Work) (m n : BTreeMap ℕ ℕ) (x y : Whole) → home_in w.home ≡ h → bytes_of all < 2 ^ 32
     → GoesOn h c all (i ∷ is) w m x → IsFirst (told w (was_named m) x i) None → IsRun i w v → HasNamed (names_of i) m n → IsNoWhole y → GoesOn h c all is v n y
@@ -217,7 +255,7 @@ refused_at c all i is w m x r short g f j =
     let s = g.0 in
     let count : s.place + (length_of i + bytes_of is) ≡ bytes_of all = g.3 in
     let p : w.place ≡ s.place = g.2.place_is in
-    let found = same_broken s w m x i is g.2 g.5 g.4 ∙ first_some (told w (was_named m) x i) r f j in
+    let found = same_broken s w m x all i is g.2 g.6 short (omega (arith, short, count)) g.5 g.4 ∙ first_some (told w (was_named m) x i) r f j in
     (g.1 ∙ ap (λ o. unless_broken o s.place (run_on (λ t. run_of judged h any_clause t is) (after h any_clause s i))) found ∙ ap (λ n. Broken n r) (sym p), omega (arith, short, count, p))
 
 pub refused : (h : Home) (c : Captured) (all : List Instr) (i : Instr) (is : List Instr) (w : Work) (m : BTreeMap ℕ ℕ) (x : Whole) (r : Rule) → home_in w.home ≡ h → bytes_of all < 2 ^ 32
@@ -240,7 +278,7 @@ none_there false = refl
 whole_broken : (h : Home) (s : State) (x : Whole) → IsWhole h s x → broken_of judged h s [] ≡ first_broken (breaks (broken_whole x)) judged
 whole_broken h s x b =
     let t : Bool = nat_eq s.place 0 in
-    whole_at t (broken_by_record h s) ∙ sym (first_same (breaks (broken_whole x)) (λ r. t && broken_by_record h s r) b.register_is (none_there t) b.constant_is (none_there t) b.order_is b.clause_is b.key_is)
+    whole_at t (broken_by_record h s) ∙ sym (first_same (breaks (broken_whole x)) (λ r. t && broken_by_record h s r) b.register_is (none_there t) b.constant_is (none_there t) b.order_is b.block_is b.clause_is b.key_is)
 
 pub ended : (h : Home) (c : Captured) (all : List Instr) (w : Work) (m : BTreeMap ℕ ℕ) (x : Whole) (o : Option Rule) → bytes_of all < 2 ^ 32
     → GoesOn h c all [] w m x → IsFirst (broken_whole x) o → IsRan (run_of judged h any_clause (first_state h.self c) all) (at_end o w.place)
@@ -269,6 +307,7 @@ judged_first h s m x e names j = record {
   register_is = j.register_is ∙ ap (λ p. nat_eq p 0 && broken_by_record h s rule.Register) (sym e);
   constant_is = j.constant_is ∙ ap (λ p. nat_eq p 0 && broken_by_record h s rule.Constant) (sym e);
   order_is = j.order_is ∙ ap (λ p. nat_eq p 0 && broken_by_record h s rule.Order) (sym e);
+  block_is = j.block_is ∙ ap (λ p. nat_eq p 0 && broken_by_record h s rule.Block) (sym e);
   clause_is = j.clause_is ∙ started_badly h.self.program (not (nat_eq (h.self.captured_types + h.self.captured) 0)) (was_named m h.number) (member h.number (named_before h.number h.records)) (names h.number) ∙ ap (λ p. nat_eq p 0 && broken_by_record h s rule.Clause) (sym e);
   key_is = j.key_is ∙ ap (λ p. nat_eq p 0 && broken_by_record h s rule.Key) (sym e);
 }
@@ -286,10 +325,14 @@ begins c w m x b names j =
         types_set = λ n. b.types_set n ∙ sym (from_zero_has n r.captured_types);
         terms_set = λ n. b.terms_set n ∙ sym (from_zero_has n r.captured);
         few_arguments = omega arith;
+        few_instructions = let n = b.number_is in omega (arith, n);
+        sides_are = ap sides_in b.frames_are;
+        ends_are = subst (λ fs. AreEnds (reverse fs)) (sym b.frames_are) tt;
       },
       omega arith,
       judged_first (home_in w.home) (first_state r c) m x refl names j,
       λ n. names n ∙ ap (member n) (append_nil_sym (named_before w.home.number w.home.records.now)),
+      record { run = []; parts = refl; length_is = refl; all_is = refl; count_is = let n = b.number_is in omega (arith, n); places_are = b.places_are },
     )
 
 pub begun : (h : Home) (c : Captured) (w : Work) (m : BTreeMap ℕ ℕ) (x : Whole) → home_in w.home ≡ h → IsStarted w → AreNamedBefore h.number h.records m → IsJudgedWhole h (was_named m) x → GoesOn h c h.self.code.items h.self.code.items w m x

@@ -1,5 +1,5 @@
 -- What an instruction does to the outline of a state.
-use Rattle.std.proofs.Common.{◌≡◌, ◌∙◌, ℕ, zero, suc, ◌+◌, List, [], ◌∷◌, ◌++◌, map, length, Bool, true, false, Option, Some, None, ap, refl, sym}
+use Rattle.std.proofs.Common.{◌≡◌, ◌∙◌, ℕ, zero, suc, ◌+◌, List, [], ◌∷◌, ◌++◌, map, length, Bool, true, false, Option, Some, None, ap, refl, sym, arith}
 use Rattle.std.specs.Prelude.{option_map, if◌then◌else◌}
 use Rattle.lp_lemmas.proofs.Lists.{length_push_suc, append_nil_sym}
 use Rattle.lp_model.specs.Flat.{Goal, Goals, no_goals, Clauses, no_clauses, clauses, clause}
@@ -14,6 +14,8 @@ use Rattle.lp_code.specs.Operands.{type_set, term_set}
 use Rattle.lp_code.specs.States.{Frame, Captured, State, Home, end_variables, innermost_block, depth, under_assumption}
 use Rattle.lp_code.specs.Steps.{put_term, argument_at, constant_of, with_argument, opens, leave_block, leave_from, leave, turn_from, turn, goal_of_block, effect, clauses_of_records, captured_by, handed, is_right_end, settled, passed, after}
 use Rattle.lp_code.specs.Denote.{any_clause}
+use Rattle.lp_verify.specs.inner.Sides.{sides_of, sides_acted, sides_settled}
+use Rattle.lp_verify.proofs.Sides.{sides_ended, sides_behind, sides_given, sides_deep, sides_settle}
 use Rattle.lp_verify.specs.inner.Outline.{Outline, outline, body_behind, types_behind, arguments_behind, named_with, outline_behind}
 use Rattle.lp_code.specs.Rules.{names_of}
 
@@ -52,6 +54,7 @@ pub record Comes (h : Home) (s : State) (i : Instr) : Type 0 where
   pub to : State
   pub comes : effect h any_clause s i ≡ Some to
   pub outlined : outline to ≡ acted i (outline s)
+  pub sided : sides_of to.frames ≡ sides_acted i s.place (sides_of s.frames)
 
 any_clauses : (c : Captured) (ns : List ℕ) → (cs : Clauses) × (clauses_of_records any_clause ns c ≡ Some cs)
 any_clauses c [] = (no_clauses, refl)
@@ -59,8 +62,8 @@ any_clauses c (n ∷ ns) =
     let more = any_clauses c ns in
     (clauses (clause 0 [] (index 0) no_goals) more.0, ap (option_map (clauses (clause 0 [] (index 0) no_goals))) more.1)
 
-came : (h : Home) (s : State) (i : Instr) (t : State) → effect h any_clause s i ≡ Some t → outline t ≡ acted i (outline s) → Comes h s i
-came h s i t e o = record { to = t; comes = e; outlined = o }
+came : (h : Home) (s : State) (i : Instr) (t : State) → effect h any_clause s i ≡ Some t → outline t ≡ acted i (outline s) → sides_of t.frames ≡ sides_acted i s.place (sides_of s.frames) → Comes h s i
+came h s i t e o b = record { to = t; comes = e; outlined = o; sided = b }
 
 took : (s : State) (b : Built) → outline (with_argument s b) ≡ record (outline s) { arguments = suc (length s.head_arguments) }
 took s b = ap (λ n. record (outline s) { arguments = n }) (length_push_suc s.head_arguments b)
@@ -87,42 +90,42 @@ assumed_named : (h : Home) (s : State) (ns ts rs : List ℕ) (cs : Clauses) → 
 assumed_named h s ns ts rs cs = ap (λ ms. record (outline s) { named = ms }) (names_added s.assumed ns (captured_by s ts rs) ∙ sym (named_with_is (map (λ a. a.0) s.assumed) ns))
 
 pub comes : (h : Home) (s : State) (i : Instr) → Comes h s i
-comes h s (on.TyCon d k ts) = came h s (on.TyCon d k ts) _ refl refl
-comes h s (on.TyArr d a b) = came h s (on.TyArr d a b) _ refl refl
-comes h s (on.TyNew d) = came h s (on.TyNew d) _ refl refl
-comes h s (on.New d t) = came h s (on.New d t) _ refl refl
-comes h s (on.PutConst d c ts) = came h s (on.PutConst d c ts) _ refl refl
-comes h s (on.PutInt d z) = came h s (on.PutInt d z) _ refl refl
-comes h s (on.PutStr d b) = came h s (on.PutStr d b) _ refl refl
-comes h s (on.PutIndex d i t) = came h s (on.PutIndex d i t) _ refl refl
-comes h s (on.PutAbs d b t) = came h s (on.PutAbs d b t) _ refl refl
-comes h s (on.PutApp d f rs) = came h s (on.PutApp d f rs) _ refl refl
-comes h s (on.GetType j t) = came h s (on.GetType j t) _ refl (took_type s _)
-comes h s (on.GetVar i d) = came h s (on.GetVar i d) (with_argument (put_term s d (whole (variable d h.number) (argument_at h s i))) (whole (variable d h.number) (argument_at h s i))) refl (took (put_term s d (whole (variable d h.number) (argument_at h s i))) (whole (variable d h.number) (argument_at h s i)))
-comes h s (on.Get i r) = came h s (on.Get i r) (with_argument s (term_in s.now r)) refl (took s (term_in s.now r))
-comes h s (on.GetConst i c ts) = came h s (on.GetConst i c ts) (with_argument s (constant_of h.tables c (types_in s.now ts.items))) refl (took s (constant_of h.tables c (types_in s.now ts.items)))
-comes h s (on.GetInt i z) = came h s (on.GetInt i z) (with_argument s (whole (atom (integer z)) int_type)) refl (took s (whole (atom (integer z)) int_type))
-comes h s (on.GetStr i b) = came h s (on.GetStr i b) (with_argument s (whole (atom (text b.items)) string_type)) refl (took s (whole (atom (text b.items)) string_type))
-comes h s on.Neck = came h s on.Neck _ refl refl
-comes h s (on.Call c ts rs) = came h s (on.Call c ts rs) _ refl refl
-comes h s (on.CallTerm r) = came h s (on.CallTerm r) _ refl refl
-comes h s (on.Equal t l r) = came h s (on.Equal t l r) _ refl refl
-comes h s (on.Is t l r) = came h s (on.Is t l r) _ refl refl
-comes h s (on.Less l r) = came h s (on.Less l r) _ refl refl
-comes h s (on.Greater l r) = came h s (on.Greater l r) _ refl refl
-comes h s (on.AtMost l r) = came h s (on.AtMost l r) _ refl refl
-comes h s (on.AtLeast l r) = came h s (on.AtLeast l r) _ refl refl
-comes h s on.Cut = came h s on.Cut _ refl refl
-comes h s (on.Sigma d t) = came h s (on.Sigma d t) _ refl refl
-comes h s (on.All d t) = came h s (on.All d t) _ refl refl
-comes h s on.EndAll = came h s on.EndAll _ refl (left h.number s)
-comes h s (on.Assume ns ts rs) = let cs = any_clauses (captured_by s ts.items rs.items) ns.items in came h s (on.Assume ns ts rs) (assuming h s ns.items ts.items rs.items cs.0) (ap (option_map (assuming h s ns.items ts.items rs.items)) cs.1) (assumed_named h s ns.items ts.items rs.items cs.0)
-comes h s on.EndAssume = came h s on.EndAssume _ refl (left h.number s)
-comes h s (on.Either n) = came h s (on.Either n) _ refl refl
-comes h s (on.Jump n) = came h s (on.Jump n) _ refl (turned h.number s n)
-comes h s on.Proceed = came h s on.Proceed _ refl refl
-comes h s on.Not = came h s on.Not _ refl refl
-comes h s on.EndNot = came h s on.EndNot _ refl (left h.number s)
+comes h s (on.TyCon d k ts) = came h s (on.TyCon d k ts) _ refl refl refl
+comes h s (on.TyArr d a b) = came h s (on.TyArr d a b) _ refl refl refl
+comes h s (on.TyNew d) = came h s (on.TyNew d) _ refl refl refl
+comes h s (on.New d t) = came h s (on.New d t) _ refl refl refl
+comes h s (on.PutConst d c ts) = came h s (on.PutConst d c ts) _ refl refl refl
+comes h s (on.PutInt d z) = came h s (on.PutInt d z) _ refl refl refl
+comes h s (on.PutStr d b) = came h s (on.PutStr d b) _ refl refl refl
+comes h s (on.PutIndex d i t) = came h s (on.PutIndex d i t) _ refl refl refl
+comes h s (on.PutAbs d b t) = came h s (on.PutAbs d b t) _ refl refl refl
+comes h s (on.PutApp d f rs) = came h s (on.PutApp d f rs) _ refl refl refl
+comes h s (on.GetType j t) = came h s (on.GetType j t) _ refl (took_type s _) refl
+comes h s (on.GetVar i d) = came h s (on.GetVar i d) (with_argument (put_term s d (whole (variable d h.number) (argument_at h s i))) (whole (variable d h.number) (argument_at h s i))) refl (took (put_term s d (whole (variable d h.number) (argument_at h s i))) (whole (variable d h.number) (argument_at h s i))) refl
+comes h s (on.Get i r) = came h s (on.Get i r) (with_argument s (term_in s.now r)) refl (took s (term_in s.now r)) refl
+comes h s (on.GetConst i c ts) = came h s (on.GetConst i c ts) (with_argument s (constant_of h.tables c (types_in s.now ts.items))) refl (took s (constant_of h.tables c (types_in s.now ts.items))) refl
+comes h s (on.GetInt i z) = came h s (on.GetInt i z) (with_argument s (whole (atom (integer z)) int_type)) refl (took s (whole (atom (integer z)) int_type)) refl
+comes h s (on.GetStr i b) = came h s (on.GetStr i b) (with_argument s (whole (atom (text b.items)) string_type)) refl (took s (whole (atom (text b.items)) string_type)) refl
+comes h s on.Neck = came h s on.Neck _ refl refl refl
+comes h s (on.Call c ts rs) = came h s (on.Call c ts rs) _ refl refl refl
+comes h s (on.CallTerm r) = came h s (on.CallTerm r) _ refl refl refl
+comes h s (on.Equal t l r) = came h s (on.Equal t l r) _ refl refl refl
+comes h s (on.Is t l r) = came h s (on.Is t l r) _ refl refl refl
+comes h s (on.Less l r) = came h s (on.Less l r) _ refl refl refl
+comes h s (on.Greater l r) = came h s (on.Greater l r) _ refl refl refl
+comes h s (on.AtMost l r) = came h s (on.AtMost l r) _ refl refl refl
+comes h s (on.AtLeast l r) = came h s (on.AtLeast l r) _ refl refl refl
+comes h s on.Cut = came h s on.Cut _ refl refl refl
+comes h s (on.Sigma d t) = came h s (on.Sigma d t) _ refl refl refl
+comes h s (on.All d t) = came h s (on.All d t) _ refl refl refl
+comes h s on.EndAll = came h s on.EndAll _ refl (left h.number s) (sides_behind h.number s)
+comes h s (on.Assume ns ts rs) = let cs = any_clauses (captured_by s ts.items rs.items) ns.items in came h s (on.Assume ns ts rs) (assuming h s ns.items ts.items rs.items cs.0) (ap (option_map (assuming h s ns.items ts.items rs.items)) cs.1) (assumed_named h s ns.items ts.items rs.items cs.0) refl
+comes h s on.EndAssume = came h s on.EndAssume _ refl (left h.number s) (sides_behind h.number s)
+comes h s (on.Either n) = came h s (on.Either n) _ refl refl refl
+comes h s (on.Jump n) = came h s (on.Jump n) _ refl (turned h.number s n) (sides_given h.number s n)
+comes h s on.Proceed = came h s on.Proceed _ refl refl (sides_ended h.number s.goals s.frames)
+comes h s on.Not = came h s on.Not _ refl refl refl
+comes h s on.EndNot = came h s on.EndNot _ refl (left h.number s) (sides_behind h.number s)
 
 abbrev pub behind : (h : Home) (s : State) (i : Instr) → State
 behind h s i = settled h.number (depth (comes h s i).to.frames) (passed i (comes h s i).to)
@@ -136,3 +139,10 @@ past i o = record o { place = o.place + length_of i; types_set = o.types_set ++ 
 
 pub outline_is : (h : Home) (s : State) (i : Instr) → outline (behind h s i) ≡ outline_behind i (outline s)
 outline_is h s i = settles h.number (depth (comes h s i).to.frames) (passed i (comes h s i).to) ∙ ap (past i) (comes h s i).outlined
+
+pub sides_are : (h : Home) (s : State) (i : Instr) → sides_of (behind h s i).frames ≡ sides_settled (s.place + length_of i) (sides_acted i s.place (sides_of s.frames))
+sides_are h s i =
+    let t = (comes h s i).to in
+    let deep = sides_deep t.frames in
+    sides_settle h.number (depth t.frames) (passed i t) (sides_of t.frames) refl (omega (arith, deep)) (λ home s. ap (λ (o : Outline). o.place) (left home s))
+    ∙ (λ j. sides_settled (ap (λ (o : Outline). o.place + length_of i) (comes h s i).outlined j) ((comes h s i).sided j))

@@ -1,6 +1,11 @@
 // The blocks of a record that are open, and where its instructions stand. The block of a SIGMA ends with the one around it and is not kept.
-ghost use Rattle.std.specs.List.{All};
+ghost use Rattle.std.specs.Prelude.{◌≡◌, ◌<◌, ◌^◌, ◌∷◌, [], ℕ, min, nat_le, length, reverse, is_some, unwrap_or, false, option_map, IfOk, OnOk};
+ghost use Rattle.std.specs.List.{All, list_any};
+ghost use Rattle.std.specs.Ordering.{nat_cmp};
+ghost use Rattle.std.specs.BTreeMap.{get};
 ghost use Rattle.lp_code.specs.Length.{Fits};
+ghost use Rattle.lp_code.specs.Rules.{has_none, nesting_limit};
+ghost use Rattle.lp_verify.specs.inner.Sides.{sides_in, innermost_frame, innermost_side, frames_around, end_of, first_end_of, ends_there, around, AreEnds, is_left_to, is_all, is_assumption, is_negation, is_turn, is_jump, HasPlaces};
 
 use lp_base::{MAX_TERM_DEPTH, Memory};
 use lp_code::{Instr, length};
@@ -35,7 +40,9 @@ pub(crate) struct Blocks {
 
 impl Block {
     // Where the side ends; other blocks end by an instruction of their own.
-    fn end(self) -> u64 {
+    fn end(self) -> u64
+        ensures { result ≡ end_of self }
+    {
         match self {
             Block::Left(end) | Block::Right(end) => end,
             _ => u64::MAX,
@@ -44,53 +51,168 @@ impl Block {
 }
 
 impl Blocks {
-    pub(crate) fn new(alloc: Global) -> Blocks {
+    pub(crate) fn new(alloc: Global) -> Blocks
+        ensures { result.frames.items ≡ [] }
+    {
         Blocks {
             frames: Vec::new(alloc),
         }
     }
 
-    pub(crate) fn innermost(&self) -> Option<Block> {
-        self.frames.last().map(|frame| frame.block)
+    fn last(&self) -> Option<Frame>
+        ensures { result ≡ innermost_frame (reverse self.now.frames.items) }
+    {
+        self.frames.last().copied()
     }
 
-    pub(crate) fn is_empty(&self) -> bool {
-        self.frames.is_empty()
-    }
-
-    pub(crate) fn depth(&self) -> usize {
-        self.frames.len()
-    }
-
-    pub(crate) fn is_full(&self) -> bool {
-        self.frames.len() >= MAX_TERM_DEPTH
-    }
-
-    // Whether a side should have ended and is still open.
-    pub(crate) fn has_passed(&self, place: u64) -> bool {
-        match self.frames.last() {
-            Some(frame) => frame.first_end <= place,
-            None => false,
+    pub(crate) fn innermost(&self) -> Option<Block>
+        ensures { result ≡ innermost_side (sides_in self.now.frames.items) }
+    {
+        match self.last() {
+            Some(frame) => Some(frame.block),
+            None => None,
         }
     }
 
-    pub(crate) fn open(&mut self, block: Block, types: usize, terms: usize) -> Result<(), Memory> {
-        let around = match self.frames.last() {
+    pub(crate) fn is_empty(&self) -> bool
+        ensures { result ≡ has_none (sides_in self.now.frames.items) }
+    {
+        self.last().is_none()
+    }
+
+    pub(crate) fn is_full(&self) -> bool
+        ensures { result ≡ nat_le nesting_limit (length (sides_in self.now.frames.items)) }
+    {
+        self.frames.len() >= MAX_TERM_DEPTH
+    }
+
+    // Where the first side ends, of all blocks.
+    fn first_end(&self) -> u64
+        ensures { result ≡ first_end_of (reverse self.now.frames.items) }
+    {
+        match self.last() {
             Some(frame) => frame.first_end,
             None => u64::MAX,
-        };
+        }
+    }
+
+    // Whether a side should have ended and is still open.
+    pub(crate) fn has_passed(&self, place: u64) -> bool
+        ensures { result ≡ nat_le (first_end_of (reverse self.now.frames.items)) place }
+    {
+        self.first_end() <= place
+    }
+
+    pub(crate) fn open(&mut self, block: Block, types: usize, terms: usize) -> Result<(), Memory>
+        ensures sides { OnOk result (sides_in self.new.frames.items ≡ block ∷ sides_in self.old.frames.items) }
+        ensures ends { OnOk result (AreEnds (reverse self.old.frames.items) → AreEnds (reverse self.new.frames.items)) }
+    {
+        let first_end = least(block.end(), self.first_end());
         self.frames.push(Frame {
             block,
             types,
             terms,
-            first_end: block.end().min(around),
+            first_end,
         })?;
         Ok(())
     }
 
-    pub(crate) fn close(&mut self) -> Option<Frame> {
+    pub(crate) fn close(&mut self) -> Option<Frame>
+        ensures sides { sides_in self.new.frames.items ≡ around (sides_in self.old.frames.items) }
+        ensures ends { AreEnds (reverse self.old.frames.items) → AreEnds (reverse self.new.frames.items) }
+    {
         self.frames.pop()
     }
+
+    // Whether the innermost block is a right side that ends here.
+    pub(crate) fn ends_right(&self, place: u64) -> bool
+        ensures { result ≡ ends_there place (innermost_side (sides_in self.now.frames.items)) }
+    {
+        is_right_to(self.innermost(), place)
+    }
+}
+
+// Whether it is a right side that ends here.
+fn is_right_to(block: Option<Block>, place: u64) -> bool
+    ensures { result ≡ ends_there place block }
+{
+    match block {
+        Some(Block::Right(end)) => end == place,
+        _ => false,
+    }
+}
+
+// Whether it is a left side that ends here.
+pub(crate) fn is_left_to(block: Option<Block>, place: u64) -> bool
+    ensures { result ≡ is_left_to place block }
+{
+    match block {
+        Some(Block::Left(end)) => end == place,
+        _ => false,
+    }
+}
+
+pub(crate) fn is_all(block: Option<Block>) -> bool
+    ensures { result ≡ is_all block }
+{
+    match block {
+        Some(Block::All) => true,
+        _ => false,
+    }
+}
+
+pub(crate) fn is_assumption(block: Option<Block>) -> bool
+    ensures { result ≡ is_assumption block }
+{
+    match block {
+        Some(Block::Assumption) => true,
+        _ => false,
+    }
+}
+
+pub(crate) fn is_negation(block: Option<Block>) -> bool
+    ensures { result ≡ is_negation block }
+{
+    match block {
+        Some(Block::Negation) => true,
+        _ => false,
+    }
+}
+
+fn is_jump(instr: &Instr) -> bool
+    ensures { result ≡ is_jump instr.now }
+{
+    match instr {
+        Instr::Jump(_) => true,
+        _ => false,
+    }
+}
+
+fn is_turn(instr: &Instr) -> bool
+    ensures { result ≡ is_turn instr.now }
+{
+    match instr {
+        Instr::Either(_) | Instr::Jump(_) => true,
+        _ => false,
+    }
+}
+
+// Whether the code has sides.
+fn has_turn(code: &[Instr]) -> bool
+    ensures { result ≡ list_any is_turn code.now }
+{
+    for instr in code {
+        if is_turn(instr) {
+            return true;
+        }
+    }
+    false
+}
+
+fn least(left: u64, right: u64) -> u64
+    ensures { result ≡ min left right }
+{
+    if left <= right { left } else { right }
 }
 
 // Where the instructions stand, by offset: whether the one there is a JUMP.
@@ -100,28 +222,36 @@ pub(crate) struct Places {
 }
 
 impl Places {
-    // Of code without an EITHER no places are wanted.
+    // Of code without an EITHER and without a JUMP no places are wanted.
     pub(crate) fn of(alloc: Global, code: &[Instr]) -> Result<Places, Memory>
         requires { All Fits code.now }
+        ensures { IfOk result (λ places. HasPlaces code.now places.jumps) }
     {
+        if !has_turn(code) {
+            return Ok(Places {
+                jumps: BTreeMap::new(alloc),
+            });
+        }
         let mut jumps = BTreeMap::new(alloc);
-        if code.iter().any(|instr| matches!(instr, Instr::Either(_))) {
-            let mut place: u64 = 0;
-            for instr in code {
-                jumps.insert(place, matches!(instr, Instr::Jump(_)))?;
-                place = place.saturating_add(u64::from(length(instr)));
-            }
+        let mut place: u64 = 0;
+        for instr in code {
+            jumps.insert(place, is_jump(instr))?;
+            place = place.saturating_add(u64::from(length(instr)));
         }
         Ok(Places { jumps })
     }
 
     // Whether an instruction begins at the offset.
-    pub(crate) fn begins(&self, place: u64) -> bool {
+    pub(crate) fn begins(&self, place: u64) -> bool
+        ensures { result ≡ is_some (get nat_cmp self.now.jumps place) }
+    {
         self.jumps.contains_key(&place)
     }
 
     // Whether a JUMP stands at the offset.
-    pub(crate) fn jumps(&self, place: u64) -> bool {
+    pub(crate) fn jumps(&self, place: u64) -> bool
+        ensures { result ≡ unwrap_or (get nat_cmp self.now.jumps place) false }
+    {
         match self.jumps.get(&place) {
             Some(is_jump) => *is_jump,
             None => false,

@@ -1,6 +1,7 @@
 // What an instruction that breaks no rule does.
 
-ghost use Rattle.std.specs.Prelude.{◌≡◌, ℕ, OnOk};
+ghost use Rattle.std.specs.Prelude.{◌≡◌, ◌<◌, ◌^◌, ◌∷◌, ℕ, reverse, OnOk};
+ghost use Rattle.lp_verify.specs.inner.Sides.{sides_in, sides_run, sides_settled, around, AreEnds};
 ghost use Rattle.lp_verify.specs.Held.{was_set};
 ghost use Rattle.lp_verify.specs.inner.Outline.{body_behind};
 ghost use Rattle.lp_verify.specs.inner.At.{IsActed};
@@ -21,12 +22,17 @@ fn open(
     block: Block,
     types: &Registers<TypeId>,
     terms: &Registers<Built<'_>>,
-) -> Result<(), Memory> {
+) -> Result<(), Memory>
+    ensures sides { OnOk result (sides_in blocks.new.frames.items ≡ block ∷ sides_in blocks.old.frames.items) }
+    ensures ends { OnOk result (AreEnds (reverse blocks.old.frames.items) → AreEnds (reverse blocks.new.frames.items)) }
+{
     blocks.open(block, types.height(), terms.height())
 }
 
 // Ends the innermost block: what it set is unset.
 fn close(blocks: &mut Blocks, types: &mut Registers<TypeId>, terms: &mut Registers<Built<'_>>)
+    ensures sides { sides_in blocks.new.frames.items ≡ around (sides_in blocks.old.frames.items) }
+    ensures ends { AreEnds (reverse blocks.old.frames.items) → AreEnds (reverse blocks.new.frames.items) }
     ensures types { (r : ℕ) → was_set types.new r ≡ was_set types.old r }
     ensures terms { (r : ℕ) → was_set terms.new r ≡ was_set terms.old r }
 {
@@ -43,13 +49,12 @@ pub(crate) fn settle(
     terms: &mut Registers<Built<'_>>,
     place: u64,
 )
+    ensures sides { sides_in blocks.new.frames.items ≡ sides_settled place (sides_in blocks.old.frames.items) }
+    ensures ends { AreEnds (reverse blocks.old.frames.items) → AreEnds (reverse blocks.new.frames.items) }
     ensures types { (r : ℕ) → was_set types.new r ≡ was_set types.old r }
     ensures terms { (r : ℕ) → was_set terms.new r ≡ was_set terms.old r }
 {
-    for _ in 0..blocks.depth() {
-        if blocks.innermost() != Some(Block::Right(place)) {
-            return;
-        }
+    while blocks.ends_right(place) {
         close(blocks, types, terms);
     }
 }
@@ -62,6 +67,8 @@ fn turn(
     place: u64,
     instr: &Instr,
 ) -> Result<(), Memory>
+    ensures sides { OnOk result (place < 2 ^ 63 → sides_in blocks.new.frames.items ≡ sides_run instr.now place (sides_in blocks.old.frames.items)) }
+    ensures ends { OnOk result (AreEnds (reverse blocks.old.frames.items) → AreEnds (reverse blocks.new.frames.items)) }
     ensures types { (r : ℕ) → was_set types.new r ≡ was_set types.old r }
     ensures terms { (r : ℕ) → was_set terms.new r ≡ was_set terms.old r }
 {

@@ -199,7 +199,7 @@ impl<'a> Work<'a> {
         instr: &'a Instr,
     ) -> Result<Option<Rule>, Memory>
         requires { Fits instr.now }
-        ensures { IfOk result (λ found. IsFirst (told self.old (was_named shared.old.named) whole instr.now) found × IsStepped instr.now shared.old.named shared.new.named self.old self.new found) }
+        ensures { IfOk result (λ found. (self.old.place < 2 ^ 63 → self.old.number < 2 ^ 63 → IsFirst (told self.old (was_named shared.old.named) whole instr.now) found) × IsStepped instr.now shared.old.named shared.new.named self.old self.new found) }
     {
         let typed = match self.judge(shared, whole, instr)? {
             Ok(typed) => typed,

@@ -1,6 +1,9 @@
 // The rules, each for the next instruction: whether it breaks it, or the record as a whole does where it is the first one.
 
-ghost use Rattle.std.specs.Prelude.{◌≡◌, ◌||◌, ◌∷◌, [], ◌++◌, IfOk, MatchOption, Some, None, true, false, length, nat_le, nat_lt, nat_eq, ◌&&◌, slice_get, ℕ, Bool};
+ghost use Rattle.std.specs.Ordering.{nat_cmp};
+ghost use Rattle.std.specs.BTreeMap.{get};
+ghost use Rattle.lp_verify.specs.inner.Sides.{sides_in, nests_badly};
+ghost use Rattle.std.specs.Prelude.{◌≡◌, ◌<◌, ◌^◌, ◌+◌, ◌||◌, ◌∷◌, [], ◌++◌, IfOk, MatchOption, Some, None, true, false, length, nat_le, nat_lt, nat_eq, ◌&&◌, slice_get, ℕ, Bool};
 ghost use Rattle.std.specs.List.{list_any};
 ghost use Rattle.lp_code.specs.Operands.{types_read, terms_read, type_set, term_set};
 ghost use Rattle.lp_code.specs.Rules.{breaks_term, is_count, is_no_term, starts_with_as_many, is_assumed_record, names_of};
@@ -8,9 +11,9 @@ ghost use Rattle.lp_verify.specs.Listed.{listed};
 ghost use Rattle.lp_verify.specs.Held.{was_set};
 ghost use Rattle.lp_verify.specs.Named.{was_named, HasNamed};
 ghost use Rattle.lp_verify.specs.Scheme.{tables_in};
-ghost use Rattle.lp_verify.specs.inner.Told.{reaches_past, sets_again, has_wrong_count, is_off, is_out_of_order, is_fine, are_fine, names_badly, told, ArePassed, IsFirst, rule_of};
+ghost use Rattle.lp_verify.specs.inner.Told.{reaches_past, sets_again, has_wrong_count, is_off, is_out_of_order, is_fine, are_fine, names_badly, breaks_blocks, told, ArePassed, IsFirst, rule_of};
 
-use crate::blocks::Block;
+use crate::blocks::{is_all, is_assumption, is_left_to, is_negation};
 use crate::built::Head;
 use crate::operands::{term_set, terms_read, type_set, types_read};
 use crate::record::{Shared, Work};
@@ -207,7 +210,9 @@ impl<'a> Work<'a> {
         }
     }
 
-    fn breaks_nesting(&self, instr: &Instr) -> bool {
+    fn breaks_nesting(&self, instr: &Instr) -> bool
+        ensures { self.now.place < 2 ^ 63 → self.now.number < 2 ^ 63 → result ≡ nests_badly self.now.place (get nat_cmp self.now.places.jumps) (nat_eq (self.now.number + 1) (length self.now.home.record.now.code.items)) (sides_in self.now.blocks.frames.items) instr.now }
+    {
         let behind = self.place.saturating_add(5);
         match instr {
             Instr::Either(bytes) => {
@@ -215,13 +220,13 @@ impl<'a> Work<'a> {
                 self.blocks.is_full() || !self.places.jumps(jump)
             }
             Instr::Jump(bytes) => {
-                self.blocks.innermost() != Some(Block::Left(behind))
+                !is_left_to(self.blocks.innermost(), behind)
                     || !self.places.begins(behind.saturating_add(u64::from(*bytes)))
             }
             Instr::All(_, _) | Instr::Assume(_, _, _) | Instr::Not => self.blocks.is_full(),
-            Instr::EndAll => self.blocks.innermost() != Some(Block::All),
-            Instr::EndAssume => self.blocks.innermost() != Some(Block::Assumption),
-            Instr::EndNot => self.blocks.innermost() != Some(Block::Negation),
+            Instr::EndAll => !is_all(self.blocks.innermost()),
+            Instr::EndAssume => !is_assumption(self.blocks.innermost()),
+            Instr::EndNot => !is_negation(self.blocks.innermost()),
             Instr::Proceed => {
                 let behind = self.number.saturating_add(1);
                 !self.blocks.is_empty() || behind != self.home.record.code.len()
@@ -230,8 +235,16 @@ impl<'a> Work<'a> {
         }
     }
 
-    fn breaks_block(&self, whole: Whole, instr: &Instr) -> bool {
-        whole.block || self.blocks.has_passed(self.place) || self.breaks_nesting(instr)
+    fn breaks_blocks(&self, instr: &Instr) -> bool
+        ensures { self.now.place < 2 ^ 63 → self.now.number < 2 ^ 63 → result ≡ breaks_blocks self.now instr.now }
+    {
+        self.blocks.has_passed(self.place) || self.breaks_nesting(instr)
+    }
+
+    fn breaks_block(&self, whole: Whole, instr: &Instr) -> bool
+        ensures { self.now.place < 2 ^ 63 → self.now.number < 2 ^ 63 → result ≡ (whole.block || breaks_blocks self.now instr.now) }
+    {
+        whole.block || self.breaks_blocks(instr)
     }
 
     // Whether the record of this number is a later one that an ASSUME with so many types and terms may name.
@@ -320,7 +333,7 @@ impl<'a> Work<'a> {
         instr: &Instr,
         terms: &[u16],
     ) -> Result<Option<Rule>, Memory>
-        ensures first { ArePassed (told self.now (was_named shared.old.named) whole instr.now) → IfOk result (λ found. IsFirst (told self.now (was_named shared.old.named) whole instr.now) found) }
+        ensures first { self.now.place < 2 ^ 63 → self.now.number < 2 ^ 63 → ArePassed (told self.now (was_named shared.old.named) whole instr.now) → IfOk result (λ found. IsFirst (told self.now (was_named shared.old.named) whole instr.now) found) }
         ensures named { IfOk result (λ found. found ≡ None → HasNamed (names_of instr.now) shared.old.named shared.new.named) }
     {
         if self.breaks_index(shared, instr, terms) {
@@ -387,7 +400,7 @@ impl<'a> Work<'a> {
         whole: Whole,
         instr: &'a Instr,
     ) -> Result<Result<Typed<'a>, Rule>, Memory>
-        ensures { IfOk result (λ found. IsFirst (told self.now (was_named shared.old.named) whole instr.now) (rule_of found) × (rule_of found ≡ None → HasNamed (names_of instr.now) shared.old.named shared.new.named)) }
+        ensures { IfOk result (λ found. (self.now.place < 2 ^ 63 → self.now.number < 2 ^ 63 → IsFirst (told self.now (was_named shared.old.named) whole instr.now) (rule_of found)) × (rule_of found ≡ None → HasNamed (names_of instr.now) shared.old.named shared.new.named)) }
     {
         let types = types_read(shared.alloc, instr)?;
         let terms = terms_read(shared.alloc, instr)?;

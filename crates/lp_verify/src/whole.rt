@@ -1,10 +1,11 @@
 // The rules of a record as a whole.
 
-ghost use Rattle.std.specs.Prelude.{◌≡◌, ◌||◌, IfOk, nat_lt, not};
+ghost use Rattle.std.specs.Prelude.{◌≡◌, ◌||◌, IfOk, Some, nat_lt, not};
 ghost use Rattle.lp_verify.specs.Named.{was_named};
-ghost use Rattle.lp_code.specs.Denote.{has_neck, head_passes, is_known_head};
+ghost use Rattle.lp_code.specs.Denote.{has_neck, ends_with_proceed, head_passes, is_known_head};
 ghost use Rattle.lp_verify.specs.inner.Told.{IsFirst, broken_whole};
 ghost use Rattle.lp_verify.specs.inner.At.{IsNoWhole, IsJudgedWhole, home_in, starts_badly};
+ghost use Rattle.lp_verify.specs.inner.Sides.{is_proceed};
 
 use crate::built::Head;
 use crate::record::{Shared, Work};
@@ -89,6 +90,25 @@ fn has_neck(code: &[Instr]) -> bool
     false
 }
 
+fn is_proceed(instr: &Instr) -> bool
+    ensures { result ≡ is_proceed (Some instr.now) }
+{
+    match instr {
+        Instr::Proceed => true,
+        _ => false,
+    }
+}
+
+// Whether the last instruction is PROCEED.
+fn ends_with_proceed(code: &[Instr]) -> bool
+    ensures { result ≡ ends_with_proceed code.now }
+{
+    match code.last() {
+        Some(instr) => is_proceed(instr),
+        None => false,
+    }
+}
+
 impl<'a> Work<'a> {
     fn has_known_head(&self) -> bool
         ensures { result ≡ head_passes (is_known_head (home_in self.now.home)) self.now.home.record.now.head }
@@ -118,10 +138,6 @@ impl<'a> Work<'a> {
         }
     }
 
-    fn ends_with_proceed(&self) -> bool {
-        matches!(self.home.record.code.last(), Some(Instr::Proceed))
-    }
-
     fn breaks_start(&self, shared: &Shared<'a>) -> bool
         ensures { result ≡ starts_badly (home_in self.now.home) (was_named shared.now.named) }
     {
@@ -143,7 +159,7 @@ impl<'a> Work<'a> {
             constant: !self.has_known_head(),
             order: !has_neck(record.code.as_slice()),
             head: !self.has_fine_head(shared),
-            block: !self.ends_with_proceed(),
+            block: !ends_with_proceed(record.code.as_slice()),
             clause: self.breaks_start(shared),
             key: !has_right_key,
         })

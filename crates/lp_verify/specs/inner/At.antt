@@ -1,5 +1,5 @@
 -- A record at work, and the state that its instructions have come to.
-use Rattle.std.specs.Prelude.{◌≡◌, ℕ, ◌+◌, ◌≤◌, ◌<◌, ◌^◌, nat_eq, ◌||◌, ◌&&◌, Bool, List, ◌++◌, map, length, Option, Some, None, true, false, nat_lt, not, if◌then◌else◌}
+use Rattle.std.specs.Prelude.{◌≡◌, ℕ, ◌+◌, ◌≤◌, ◌<◌, ◌^◌, nat_eq, ◌||◌, ◌&&◌, Bool, List, [], ◌++◌, map, reverse, length, Option, Some, None, true, false, nat_lt, not, if◌then◌else◌}
 use Rattle.std.specs.BTreeMap.{BTreeMap}
 use Rattle.lp_code.specs.declared.instruction.Instr.{Instr}
 use Rattle.lp_code.specs.declared.record.Record.{Record}
@@ -10,7 +10,7 @@ use Rattle.lp_code.specs.Operands.{type_set, term_set}
 use Rattle.lp_code.specs.Rules.{named_before, names_of, names_in}
 use Rattle.lp_code.specs.Symbolic.{Tables}
 use Rattle.lp_code.specs.States.{State, Home, Captured, member}
-use Rattle.lp_code.specs.Denote.{Ran, Done, Broken, broken_by_record, run_of, any_clause, first_state, fault_from, first_fault_of, head_passes, is_known_head, has_neck, has_right_key}
+use Rattle.lp_code.specs.Denote.{Ran, Done, Broken, broken_by_record, run_of, any_clause, first_state, fault_from, first_fault_of, head_passes, is_known_head, has_neck, ends_with_proceed, has_right_key}
 use Rattle.lp_verify.specs.declared.record.Work.{Work}
 use Rattle.lp_verify.specs.declared.record.Home as code_home
 use Rattle.lp_verify.specs.declared.whole.Whole.{Whole}
@@ -18,6 +18,7 @@ use Rattle.lp_verify.specs.Held.{was_set}
 use Rattle.lp_verify.specs.Named.{was_named, HasNamed}
 use Rattle.lp_verify.specs.Scheme.{tables_in}
 use Rattle.lp_verify.specs.Judged.{judged, is_judged, bytes_of}
+use Rattle.lp_verify.specs.inner.Sides.{sides_in, sides_of, sides_run, sides_settled, AreEnds, HasPlaces}
 use Rattle.lp_verify.specs.inner.Outline.{body_behind, types_behind, arguments_behind}
 
 abbrev pub home_in : code_home.Home → Home
@@ -31,11 +32,18 @@ pub record IsAt (w : Work) (s : State) : Type 0 where
   pub types_set : (r : ℕ) → was_set w.types r ≡ member r s.types_set
   pub terms_set : (r : ℕ) → was_set w.terms r ≡ member r s.terms_set
   pub few_arguments : length s.head_arguments ≤ s.place
+  pub few_instructions : w.number ≤ s.place
+  pub sides_are : sides_in w.blocks.frames.items ≡ sides_of s.frames
+  pub ends_are : AreEnds (reverse w.blocks.frames.items)
 
 -- an instruction was run
 pub record IsRun (i : Instr) (old new : Work) : Type 0 where
   pub home_stays : new.home ≡ old.home
+  pub places_stay : new.places ≡ old.places
   pub place_moves : old.place + length_of i < 2 ^ 64 → new.place ≡ old.place + length_of i
+  pub number_moves : old.number + 1 < 2 ^ 64 → new.number ≡ old.number + 1
+  pub sides_move : old.place + length_of i < 2 ^ 63 → sides_in new.blocks.frames.items ≡ sides_settled (old.place + length_of i) (sides_run i old.place (sides_in old.blocks.frames.items))
+  pub ends_stay : AreEnds (reverse old.blocks.frames.items) → AreEnds (reverse new.blocks.frames.items)
   pub body_is : new.in_body ≡ body_behind i old.in_body
   pub types_are : length new.head.types.items ≡ types_behind i (length old.head.types.items)
   pub arguments_are : old.head.arguments + 1 < 2 ^ 64 → new.head.arguments ≡ arguments_behind i old.head.arguments
@@ -45,7 +53,11 @@ pub record IsRun (i : Instr) (old new : Work) : Type 0 where
 -- the same, before the instruction is passed
 pub record IsActed (i : Instr) (old new : Work) : Type 0 where
   pub home_stays : new.home ≡ old.home
+  pub places_stay : new.places ≡ old.places
   pub place_stays : new.place ≡ old.place
+  pub number_stays : new.number ≡ old.number
+  pub sides_act : old.place < 2 ^ 63 → sides_in new.blocks.frames.items ≡ sides_run i old.place (sides_in old.blocks.frames.items)
+  pub ends_stay : AreEnds (reverse old.blocks.frames.items) → AreEnds (reverse new.blocks.frames.items)
   pub body_is : new.in_body ≡ body_behind i old.in_body
   pub types_are : length new.head.types.items ≡ types_behind i (length old.head.types.items)
   pub arguments_are : old.head.arguments + 1 < 2 ^ 64 → new.head.arguments ≡ arguments_behind i old.head.arguments
@@ -66,6 +78,7 @@ pub record IsJudgedWhole (h : Home) (f : ℕ → Bool) (x : Whole) : Type 0 wher
   pub register_is : x.register ≡ (nat_lt h.self.types h.self.captured_types || nat_lt h.self.registers h.self.captured)
   pub constant_is : x.constant ≡ not (head_passes (is_known_head h) h.self.head)
   pub order_is : x.order ≡ not (has_neck h.self.code.items)
+  pub block_is : x.block ≡ not (ends_with_proceed h.self.code.items)
   pub clause_is : x.clause ≡ starts_badly h f
   pub key_is : x.key ≡ not (has_right_key h)
 
@@ -74,12 +87,16 @@ pub record IsWhole (h : Home) (s : State) (x : Whole) : Type 0 where
   pub register_is : x.register ≡ (nat_eq s.place 0 && broken_by_record h s rule.Register)
   pub constant_is : x.constant ≡ (nat_eq s.place 0 && broken_by_record h s rule.Constant)
   pub order_is : x.order ≡ (nat_eq s.place 0 && broken_by_record h s rule.Order)
+  pub block_is : x.block ≡ (nat_eq s.place 0 && broken_by_record h s rule.Block)
   pub clause_is : x.clause ≡ (nat_eq s.place 0 && broken_by_record h s rule.Clause)
   pub key_is : x.key ≡ (nat_eq s.place 0 && broken_by_record h s rule.Key)
 
 -- the record before its first instruction
 pub record IsStarted (w : Work) : Type 0 where
   pub place_is : w.place ≡ 0
+  pub number_is : w.number ≡ 0
+  pub frames_are : w.blocks.frames.items ≡ []
+  pub places_are : HasPlaces w.home.record.now.code.items w.places.jumps
   pub body_is : w.in_body ≡ false
   pub types_are : length w.head.types.items ≡ 0
   pub arguments_are : w.head.arguments ≡ 0
@@ -88,7 +105,7 @@ pub record IsStarted (w : Work) : Type 0 where
 
 -- nothing is broken as a whole
 abbrev pub IsNoWhole : Whole → Type 0
-IsNoWhole x = (x.register ≡ false) × (x.constant ≡ false) × (x.order ≡ false) × (x.clause ≡ false) × (x.key ≡ false)
+IsNoWhole x = (x.register ≡ false) × (x.constant ≡ false) × (x.order ≡ false) × (x.block ≡ false) × (x.clause ≡ false) × (x.key ≡ false)
 
 -- what is told of a run
 abbrev pub IsRan : Ran → Option (ℕ × Rule) → Type 0
@@ -108,9 +125,18 @@ abbrev pub NamedAt : Home → State → BTreeMap ℕ ℕ → Type 0
 NamedAt h s m = (n : ℕ) → was_named m n ≡ member n (named_before h.number h.records ++ map (λ a. a.0) s.assumed)
 
 -- a record in the midst of its instructions, of which these are left: whatever it starts with, the run goes on from here
+-- the instructions that were run, and how many; the places of all are known where sides are opened
+pub record Past (all left : List Instr) (s : State) (w : Work) : Type 0 where
+  pub run : List Instr
+  pub parts : all ≡ run ++ left
+  pub length_is : bytes_of run ≡ s.place
+  pub all_is : all ≡ w.home.record.now.code.items
+  pub count_is : w.number + length left ≡ length all
+  pub places_are : HasPlaces all w.places.jumps
+
 abbrev pub GoesOn : Home → Captured → (all left : List Instr) → Work → BTreeMap ℕ ℕ → Whole → Type 0
 GoesOn h c all left w m x =
-    (s : State) × (run_of judged h any_clause (first_state h.self c) all ≡ run_of judged h any_clause s left) × IsAt w s × (s.place + bytes_of left ≡ bytes_of all) × IsWhole h s x × NamedAt h s m
+    (s : State) × (run_of judged h any_clause (first_state h.self c) all ≡ run_of judged h any_clause s left) × IsAt w s × (s.place + bytes_of left ≡ bytes_of all) × IsWhole h s x × NamedAt h s m × Past all left s w
 
 -- the records from a number on are left: the first fault is theirs, whatever was handed to them
 abbrev pub FaultsGoOn : Tables → (all : List Record) → (n : ℕ) → (left : List Record) → Type 0

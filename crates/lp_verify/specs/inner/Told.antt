@@ -1,5 +1,7 @@
 -- The rules as they are judged at work, before each instruction.
-use Rattle.std.specs.Prelude.{◌≡◌, ℕ, nat_eq, nat_le, nat_lt, Bool, true, false, not, ◌||◌, ◌&&◌, List, [], ◌∷◌, ◌++◌, length, slice_get, Option, Some, None, Result, Ok, Err}
+use Rattle.std.specs.Ordering.{nat_cmp}
+use Rattle.std.specs.BTreeMap.{get}
+use Rattle.std.specs.Prelude.{◌≡◌, ℕ, ◌+◌, reverse, nat_eq, nat_le, nat_lt, Bool, true, false, not, ◌||◌, ◌&&◌, List, [], ◌∷◌, ◌++◌, length, slice_get, Option, Some, None, Result, Ok, Err}
 use Rattle.std.specs.List.{list_any}
 use Rattle.lp_code.specs.declared.instruction.Instr.{Instr}
 use Rattle.lp_code.specs.declared.instruction.Instr.TheVariants as on
@@ -13,6 +15,7 @@ use Rattle.lp_verify.specs.declared.record.Work.{Work}
 use Rattle.lp_verify.specs.declared.whole.Whole.{Whole}
 use Rattle.lp_verify.specs.Held.{was_set}
 use Rattle.lp_verify.specs.Scheme.{tables_in, type_vars_of}
+use Rattle.lp_verify.specs.inner.Sides.{sides_in, first_end_of, nests_badly}
 
 -- the numbers of registers, where a record has so many
 abbrev pub reaches_past : (types registers : ℕ) → Instr → Bool
@@ -79,6 +82,7 @@ pub record Broken : Type 0 where
   pub constant : Bool
   pub term : Bool
   pub order : Bool
+  pub block : Bool
   pub clause : Bool
   pub key : Bool
 
@@ -88,6 +92,7 @@ breaks b rule.Set = b.set
 breaks b rule.Constant = b.constant
 breaks b rule.Term = b.term
 breaks b rule.Order = b.order
+breaks b rule.Block = b.block
 breaks b rule.Clause = b.clause
 breaks b rule.Key = b.key
 breaks b r = false
@@ -98,7 +103,7 @@ ArePassed b = (b.register ≡ false) × (b.set ≡ false) × (b.constant ≡ fal
 
 -- what is told where these are broken: a rule, before which none of them is broken, or none
 abbrev pub IsFirst : Broken → Option Rule → Type 0
-IsFirst b None = ArePassed b × (b.term ≡ false) × (b.order ≡ false) × (b.clause ≡ false) × (b.key ≡ false)
+IsFirst b None = ArePassed b × (b.term ≡ false) × (b.order ≡ false) × (b.block ≡ false) × (b.clause ≡ false) × (b.key ≡ false)
 IsFirst b (Some rule.Register) = b.register ≡ true
 IsFirst b (Some rule.Unset) = b.register ≡ false
 IsFirst b (Some rule.Set) = (b.register ≡ false) × (b.set ≡ true)
@@ -108,9 +113,9 @@ IsFirst b (Some rule.Index) = ArePassed b
 IsFirst b (Some rule.Term) = ArePassed b × (b.term ≡ true)
 IsFirst b (Some rule.Order) = ArePassed b × (b.term ≡ false) × (b.order ≡ true)
 IsFirst b (Some rule.Head) = ArePassed b × (b.term ≡ false) × (b.order ≡ false)
-IsFirst b (Some rule.Block) = ArePassed b × (b.term ≡ false) × (b.order ≡ false)
-IsFirst b (Some rule.Clause) = ArePassed b × (b.term ≡ false) × (b.order ≡ false) × (b.clause ≡ true)
-IsFirst b (Some rule.Key) = ArePassed b × (b.term ≡ false) × (b.order ≡ false) × (b.clause ≡ false) × (b.key ≡ true)
+IsFirst b (Some rule.Block) = ArePassed b × (b.term ≡ false) × (b.order ≡ false) × (b.block ≡ true)
+IsFirst b (Some rule.Clause) = ArePassed b × (b.term ≡ false) × (b.order ≡ false) × (b.block ≡ false) × (b.clause ≡ true)
+IsFirst b (Some rule.Key) = ArePassed b × (b.term ≡ false) × (b.order ≡ false) × (b.block ≡ false) × (b.clause ≡ false) × (b.key ≡ true)
 
 -- the rule that is told in place of what an instruction builds
 abbrev pub rule_of : {A : Type 0} → Result A Rule → Option Rule
@@ -119,7 +124,12 @@ rule_of (Err r) = Some r
 
 -- those that a record breaks as a whole
 abbrev pub broken_whole : Whole → Broken
-broken_whole w = record { register = w.register; set = false; constant = w.constant; term = false; order = w.order; clause = w.clause; key = w.key }
+broken_whole w = record { register = w.register; set = false; constant = w.constant; term = false; order = w.order; block = w.block; clause = w.clause; key = w.key }
+
+-- a side that should have ended is open, or blocks do not nest
+abbrev pub breaks_blocks : Work → Instr → Bool
+breaks_blocks w i =
+    nat_le (first_end_of (reverse w.blocks.frames.items)) w.place || nests_badly w.place (get nat_cmp w.places.jumps) (nat_eq (w.number + 1) (length w.home.record.now.code.items)) (sides_in w.blocks.frames.items) i
 
 -- those that are broken before an instruction, where these records were named
 abbrev pub told : Work → (named : ℕ → Bool) → Whole → Instr → Broken
@@ -129,6 +139,7 @@ told w f x i = record {
   constant = x.constant || has_wrong_count (tables_in w.home.tables.now) i;
   term = breaks_term i;
   order = x.order || is_out_of_order w.in_body (length w.head.types.items) w.head.arguments i;
+  block = x.block || breaks_blocks w i;
   clause = x.clause || names_badly w.home.number w.home.records.now w.home.record.now.program f i;
   key = x.key;
 }

@@ -1,4 +1,4 @@
-use Rattle.std.specs.Prelude.{◌||◌}
+use Rattle.std.specs.Prelude.{◌||◌, ◌^◌}
 use Rattle.std.proofs.Common.{◌≡◌, ◌<◌, ◌+◌, ◌∙◌, ◌∷◌, [], length, drop, get_or, Some, None, ap, sym, subst, arith}
 use Rattle.lp_lemmas.proofs.Lists.{drop_read}
 use Rattle.lp_code.specs.Denote.{run_of, any_clause, first_state}
@@ -8,7 +8,7 @@ use Rattle.lp_code.specs.States.{member}
 use Rattle.lp_code.specs.Rules.{names_of, names_in}
 use Rattle.lp_verify.specs.Named.{was_named, HasNamed}
 use Rattle.lp_verify.specs.inner.At.{home_in, AreNamedBefore, IsRan, IsRun, IsStepped, IsJudgedWhole, NamesLeft, GoesOn}
-use Rattle.lp_verify.proofs.Moved.{begun, goes_on, refused, ended}
+use Rattle.lp_verify.proofs.Moved.{begun, stands_low, goes_on, refused, ended}
 use Rattle.lp_verify.proofs.Names.{names_pass, names_end}
 use Rattle.lp_verify.proofs.Faults.{none_left}
 use Rattle.lp_verify.proofs.record.judge_record.Goals as goal
@@ -36,10 +36,13 @@ loop-instr-preserved c =
     let at : drop n code ≡ i ∷ drop (n + 1) code = drop_read code n i (subst (λ l. n < length l) c.deref-instr-items.ensures.value c.loop-instr-test.true) (c.instr-item.is ∙ ap (λ l. get_or l n i) c.deref-instr-items.ensures.value) in
     let m = c.loop-instr.shared.named in
     let k = c.step.new.shared.named in
-    let first : IsFirst (told w (was_named m) c.loop-instr.whole i) None = subst (IsFirst (told w (was_named m) c.loop-instr.whole i)) c.in_default.is c.in_ok-rule.ensures.0 in
+    let first : w.place < 2 ^ 63 → w.number < 2 ^ 63 → IsFirst (told w (was_named m) c.loop-instr.whole i) None = subst (λ o. w.place < 2 ^ 63 → w.number < 2 ^ 63 → IsFirst (told w (was_named m) c.loop-instr.whole i) o) c.in_default.is c.in_ok-rule.ensures.0 in
     let run : IsRun i w v × HasNamed (names_of i) m k = subst (IsStepped i m k w v) c.in_default.is c.in_ok-rule.ensures.1 in (
       ap home_in run.0.home_stays ∙ inv.0,
-      λ d names short. goes_on h d code i (drop (n + 1) code) w v m k c.loop-instr.whole c.none-whole.result inv.0 short (subst (λ l. GoesOn h d code l w m c.loop-instr.whole) at (inv.1 d names short)) first run.0 run.1 c.none-whole.ensures,
+      λ d names short.
+          let g = subst (λ l. GoesOn h d code l w m c.loop-instr.whole) at (inv.1 d names short) in
+          let small = stands_low h d code i (drop (n + 1) code) w m c.loop-instr.whole short g in
+          goes_on h d code i (drop (n + 1) code) w v m k c.loop-instr.whole c.none-whole.result inv.0 short g (first small.0 small.1) run.0 run.1 c.none-whole.ensures,
       names_pass i (drop (n + 1) code) code c.args.shared.now.named m k run.1 (subst (λ l. NamesLeft code l c.args.shared.now.named m) at inv.2),
     )
 
@@ -54,10 +57,12 @@ returns-in-Some c =
     let inv = c.loop-instr.invariant in
     let at : drop n code ≡ i ∷ drop (n + 1) code = drop_read code n i (subst (λ l. n < length l) c.deref-instr-items.ensures.value c.loop-instr-test.true) (c.instr-item.is ∙ ap (λ l. get_or l n i) c.deref-instr-items.ensures.value) in
     let m = c.loop-instr.shared.named in
-    let first : IsFirst (told w (was_named m) c.loop-instr.whole i) (Some r) = subst (IsFirst (told w (was_named m) c.loop-instr.whole i)) c.in-Some.is c.in_ok-rule.ensures.0 in
+    let first : w.place < 2 ^ 63 → w.number < 2 ^ 63 → IsFirst (told w (was_named m) c.loop-instr.whole i) (Some r) = subst (λ o. w.place < 2 ^ 63 → w.number < 2 ^ 63 → IsFirst (told w (was_named m) c.loop-instr.whole i) o) c.in-Some.is c.in_ok-rule.ensures.0 in
     let stays : c.step.new.self.place ≡ w.place = subst (IsStepped i m c.step.new.shared.named w c.step.new.self) c.in-Some.is c.in_ok-rule.ensures.1 in (
-      λ d names short. subst (λ p. IsRan (run_of judged h any_clause (first_state h.self d) code) (Some (p, r))) (sym stays)
-          (refused h d code i (drop (n + 1) code) w m c.loop-instr.whole r inv.0 short (subst (λ l. GoesOn h d code l w m c.loop-instr.whole) at (inv.1 d names short)) first),
+      λ d names short.
+          let g = subst (λ l. GoesOn h d code l w m c.loop-instr.whole) at (inv.1 d names short) in
+          let small = stands_low h d code i (drop (n + 1) code) w m c.loop-instr.whole short g in
+          subst (λ p. IsRan (run_of judged h any_clause (first_state h.self d) code) (Some (p, r))) (sym stays) (refused h d code i (drop (n + 1) code) w m c.loop-instr.whole r inv.0 short g (first small.0 small.1)),
       λ e. absurd (cc),
     )
 
