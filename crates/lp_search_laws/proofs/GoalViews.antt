@@ -7,7 +7,7 @@ use Rattle.lp_calculus.specs.Typing.{o_type, Typed}
 use Rattle.lp_calculus.proofs.Sigma.{instead}
 use Rattle.lp_model.specs.Pair.{Closing, closed}
 use Rattle.lp_standard.specs.Schemes.{IsStandard}
-use Rattle.lp_model.specs.Flat.{Written, Goal, Cut, Either, Forall, Assume, Goals, Clause, Clauses, goal_list, clause_list, instantiate_goals, formula_of_goal, formula_of_goals, formula_of_clause, formula_of_clauses, Exists}
+use Rattle.lp_model.specs.Flat.{Written, Goal, Cut, Either, Forall, Assume, Not, Goals, Clause, Clauses, goal_list, clause_list, instantiate_goals, formula_of_goal, formula_of_goals, formula_of_clause, formula_of_clauses, Exists}
 use Rattle.lp_model.specs.Branch.{both_written, Entry, Branch, Go, Stop, entries}
 use Rattle.lp_model.specs.declared.ending.Ending.TheVariants.{OpenNot}
 use Rattle.lp_model.specs.Answers.{Query, Variable, AnswerTyping, over, type_of, IsPrefix}
@@ -18,10 +18,10 @@ use Rattle.lp_unify_laws.proofs.Scopes.{prefix_more, prefix_none, more_none, eig
 use Rattle.lp_unify_laws.proofs.TypedInstances.{length_map, map_append}
 use Rattle.lp_search_laws.specs.Holds.{Holds, IsTyped}
 use Rattle.lp_search_laws.specs.Clauses.{clauses_at}
-use Rattle.lp_search_laws.specs.Branches.{IsGoal, EntryHolds, StandFor, AreTypedTasks, going, stopping}
+use Rattle.lp_search_laws.specs.Branches.{IsGoal, EntryHolds, StandFor, AreTypedTasks, DeniesTyped, BranchTyping, IsTypedBranch, no_query, going, stopping}
 use Rattle.lp_search_laws.proofs.Connectives.{either_holds, pi_holds, implied_holds, sigma_holds}
 use Rattle.lp_search_laws.proofs.Formed.{formula_at}
-use Rattle.lp_search_laws.proofs.TypedParts.{both_typed, function_typed, opened_typed, typed_wider, clauses_typed, clauses_each}
+use Rattle.lp_search_laws.proofs.TypedParts.{both_typed, function_typed, opened_typed, typed_wider, clauses_typed, clauses_each, argument_typed}
 use Rattle.lp_search_laws.proofs.Fronts.{each_at, Typings, Typed as IsTypedHere, branch_stays, stands_one, stands_two}
 use Rattle.lp_search_laws.proofs.NewVariable.{stands_new, clauses_more, unused_new}
 use Rattle.lp_search_laws.proofs.FlatViews.{IsPlaceOf, place_of, goals_stand, goals_proved, opened_stand, opened_proved, next_place, assumed_proved}
@@ -104,6 +104,33 @@ module _ (n : ℕ) (d : Declared) (std : IsStandard d) (P : List Clause) (q : Qu
   -- behind a negated goal
   pub rest_typed : AreTypedTasks n d P q (Go (with_goals b es) ∷ [])
   rest_typed = record { typed = going (Typings n d P q z b E Es e es Es) (with_goals b es) ∷ []; is = refl; ok = (branch_stays n d P q z b E Es e es h [] [] (record { typed = tt; plain = tt }), tt) }
+
+  -- the search of a negated goal begins with its goals alone
+  abbrev pub inner_branch : Goals → Branch
+  inner_branch gs = record { next = b.next; next_type = b.next_type; goals = entries (goal_list gs) e.assumed e.written e.level 0; types = []; values = []; pairs = [] }
+
+  abbrev pub inner_typing : Goals → BranchTyping
+  inner_typing gs = record { answer = record { variables = z.variables; pairs = [] }; eigens = each_at E (goal_list gs) }
+
+  pub inner_goals_typed : (ws : Written) (gs : Goals) → e.goal ≡ Not ws gs → IsTyped d E z.variables (formula_of_goals gs) o_type
+  inner_goals_typed ws gs i = argument_typed d std E z.variables (formula_of_goals gs) (typed_as (Not ws gs) i)
+
+  pub inner_typed : (ws : Written) (gs : Goals) → e.goal ≡ Not ws gs → IsTypedBranch n d no_query (inner_typing gs) (inner_branch gs)
+  inner_typed ws gs i =
+      let m = goals_stand d std z.variables b.next_type E e.assumed e.written e.level 0 place gs (inner_goals_typed ws gs i) (plain_as (Not ws gs) i) in
+      record {
+        answer = record { variables = h.answer.variables; types = refl; values = tt; pairs = tt };
+        entries = m.typed;
+        variables = h.variables;
+        types = tt;
+        values = tt;
+        pairs = tt;
+        goals = m.plain;
+        stuck = tt;
+      }
+
+  pub denied_stands : (ws : Written) (gs : Goals) → e.goal ≡ Not ws gs → DeniesTyped n d P q (Go (inner_branch gs)) (Go (with_goals b es) ∷ [])
+  denied_stands ws gs i = record { typing = inner_typing gs; branch = inner_branch gs; is = refl; begins = inner_typed ws gs i; after = rest_typed }
 
   -- one in which a variable stands stops the search
   pub open_stands : StandFor n d P q (going (Typings n d P q z b E Es e es (E ∷ Es)) (with_goals b (e ∷ es))) (Stop OpenNot ∷ [])

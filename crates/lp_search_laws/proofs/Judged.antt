@@ -1,47 +1,37 @@
 -- Negated goals without negation inside are judged rightly: where the search of one is refuted no closing makes its goals provable, and where it is held some does.
-use Rattle.std.proofs.Common.{◌≡◌, ℕ, List, [], ◌∷◌, map, length, Option, Some, None, true, refl, sym, ap, ◌∙◌, subst as transport, arith}
+use Rattle.std.proofs.Common.{◌≡◌, ℕ, List, [], ◌∷◌, map, length, Option, Some, None, true, refl, sym, ap, ◌∙◌, subst as transport}
 use Rattle.std.specs.Prelude.{nat_eq, slice_get}
 use Rattle.std.proofs.lemmas.Bool.{eqb-true}
 use Rattle.lp_calculus.specs.Types.{Ty, instance}
 use Rattle.lp_calculus.specs.Term.{Term, atom, param}
-use Rattle.lp_calculus.specs.Typing.{o_type, scheme_type, Typed}
+use Rattle.lp_calculus.specs.Typing.{o_type}
 use Rattle.lp_calculus.specs.Closed.{IsClosedType}
 use Rattle.lp_lemmas.specs.Each.{AnyOf, EachOf}
 use Rattle.lp_standard.specs.Schemes.{IsStandard}
-use Rattle.lp_standard.specs.Connectives.{truth, not_of}
+use Rattle.lp_standard.specs.Connectives.{truth}
 use Rattle.lp_model.specs.Unify.{unit_limit}
 use Rattle.lp_model.specs.Pair.{Closing, SolvesAll, closed}
 use Rattle.lp_model.specs.Skeleton.{Note, Refuted, Held, starts, inner, run}
-use Rattle.lp_model.specs.Flat.{Not, Written, Goals, Clause, goal_list, formula_of_goal, formula_of_goals}
-use Rattle.lp_model.specs.Branch.{Entry, Branch, Answer, Go, entries}
+use Rattle.lp_model.specs.Flat.{Not, Written, Goals, Clause, formula_of_goals}
+use Rattle.lp_model.specs.Branch.{Entry, Branch, Answer, Go}
 use Rattle.lp_model.specs.Search.{with_goals, look, has_no_pairs}
-use Rattle.lp_model.specs.Answers.{Query, Variable, AnswerTyping, Instance, Closes, AreTypedValues, ConvertEach, IsInstance, TypedAnswer, IsWellFormed, over}
+use Rattle.lp_model.specs.Answers.{Query, Variable, AnswerTyping, Instance, Closes, AreTypedValues, ConvertEach, IsInstance, TypedAnswer, IsWellFormed}
 use Rattle.lp_model.specs.Proofs.{Declared, IsWitness}
 use Rattle.lp_search_laws.specs.Holds.{Holds, IsTyped}
 use Rattle.lp_search_laws.specs.Clauses.{clauses_at}
 use Rattle.lp_search_laws.specs.Right.{IsRightOf}
 use Rattle.lp_search_laws.specs.Unnegated.{AreUnnegatedGoals, IsUnnegatedClause}
-use Rattle.lp_search_laws.specs.Branches.{BranchTyping, IsGoal, IsTypedBranch, IsProgramTyped, IsQueryInstance, SolvesBranch}
+use Rattle.lp_search_laws.specs.Branches.{no_query, BranchTyping, IsTypedBranch, IsProgramTyped, IsQueryInstance, SolvesBranch}
 use Rattle.lp_search_laws.proofs.ClosedTerms.{closed_type}
-use Rattle.lp_search_laws.proofs.Fronts.{each_at, MayStand}
-use Rattle.lp_search_laws.proofs.FlatViews.{place_of, goals_stand, goals_proved}
+use Rattle.lp_search_laws.proofs.FlatViews.{goals_proved}
+use Rattle.lp_search_laws.proofs.GoalViews.{inner_branch, inner_typing, inner_goals_typed, inner_typed}
 use Rattle.lp_search_laws.proofs.LooksRight.{each_run}
-use Rattle.lp_search_laws.proofs.TypedFlats.{denied_is}
 use Rattle.lp_search_laws.proofs.Unnegated.{goals_entries}
 use Rattle.lp_search_laws.proofs.Stack.InnerRuns.{refuted_fails, held_gives}
 
--- a query without variables
-abbrev nothing : Query
-nothing = record { type_vars = 0; vars = []; formula = truth }
-
+-- the instance of a query without variables
 abbrev pub no_values : Instance
 no_values = record { types = []; values = [] }
-
-argument_typed : (d : Declared) → IsStandard d → (E : List Ty) (V : List Variable) (g : Term) → IsTyped d E V (not_of g) o_type → IsTyped d E V g o_type
-argument_typed d std E V g h = record {
-  typed = transport (Typed (over d E V) [] g) (denied_is (scheme_type [] (d 24)) h.typed.0 (ap (scheme_type []) (std.at 24 (omega arith))) h.typed.1) h.typed.2;
-  scoped = h.scoped.1;
-}
 
 -- every variable has a closed value: a parameter of its type
 value_of : Option Variable → Term
@@ -75,54 +65,42 @@ no_typed_values d V (t ∷ ts) h = absurd h
 module _ (n : ℕ) (d : Declared) (std : IsStandard d) (P : List Clause) (program : EachOf (IsProgramTyped d) P) (pure : EachOf IsUnnegatedClause P) (q : Query) (z : AnswerTyping) (b : Branch) (E : List Ty) (Es : List (List Ty)) (e : Entry) (es : List Entry)
     (h : IsTypedBranch n d q (record { answer = z; eigens = E ∷ Es }) (with_goals b (e ∷ es))) (ws : Written) (gs : Goals) (is : e.goal ≡ Not ws gs) (unnegated : AreUnnegatedGoals gs) (assumed : EachOf IsUnnegatedClause e.assumed) where
   abbrev pub first : Branch
-  first = record { next = b.next; next_type = b.next_type; goals = entries (goal_list gs) e.assumed e.written e.level 0; types = []; values = []; pairs = [] }
+  first = inner_branch n d std P q z b E Es e es h gs
 
   abbrev pub typing : BranchTyping
-  typing = record { answer = record { variables = z.variables; pairs = [] }; eigens = each_at E (goal_list gs) }
+  typing = inner_typing n d std P q z b E Es e es h gs
 
   goals_typed : IsTyped d E z.variables (formula_of_goals gs) o_type
-  goals_typed = argument_typed d std E z.variables (formula_of_goals gs) (transport (λ x. IsTyped d E z.variables (formula_of_goal x) o_type) is h.entries.0.goal)
+  goals_typed = inner_goals_typed n d std P q z b E Es e es h ws gs is
 
-  stand : MayStand d z.variables b.next_type (each_at E (goal_list gs)) (entries (goal_list gs) e.assumed e.written e.level 0)
-  stand = goals_stand d std z.variables b.next_type E e.assumed e.written e.level 0 (place_of d z.variables b.next_type E e h.entries.0 h.goals.0) gs goals_typed (transport (IsGoal b.next_type []) is h.goals.0.goal)
+  first_typed : IsTypedBranch n d no_query typing first
+  first_typed = inner_typed n d std P q z b E Es e es h ws gs is
 
-  first_typed : IsTypedBranch n d nothing typing first
-  first_typed = record {
-    answer = record { variables = h.answer.variables; types = refl; values = tt; pairs = tt };
-    entries = stand.typed;
-    variables = h.variables;
-    types = tt;
-    values = tt;
-    pairs = tt;
-    goals = stand.plain;
-    stuck = tt;
-  }
-
-  right : (j m steps : ℕ) → IsRightOf d P nothing typing first (run (look unit_limit n P) j m (starts (Go first) steps 1))
-  right j m steps = each_run n d std P program nothing pure typing first first_typed (goals_entries gs e.assumed e.written e.level 0 unnegated assumed) j m steps 1
+  right : (j m steps : ℕ) → IsRightOf d P no_query typing first (run (look unit_limit n P) j m (starts (Go first) steps 1))
+  right j m steps = each_run n d std P program no_query pure typing first first_typed (goals_entries gs e.assumed e.written e.level 0 unnegated assumed) j m steps 1
 
   -- a closing with which the goals are provable
   abbrev pub HoldsHere : Closing → Type 0
   HoldsHere c = Holds d (map (instance c.types) E) (clauses_at P e.assumed c) c (formula_of_goals gs)
 
-  query : IsQueryInstance d nothing no_values
+  query : IsQueryInstance d no_query no_values
   query = record { types = refl; types_closed = tt; values = tt }
 
-  solved : (c : Closing) → Closes d z.variables c → HoldsHere c → SolvesBranch d P nothing no_values typing first
+  solved : (c : Closing) → Closes d z.variables c → HoldsHere c → SolvesBranch d P no_query no_values typing first
   solved c l p = record {
     query = query;
     answer = record { closing = c; closes = l; solves = tt; types = refl; values = tt };
     proved = (goals_proved d std P z.variables c l E e.assumed e.written e.level 0 gs goals_typed).0 p;
   }
 
-  holds : SolvesBranch d P nothing no_values typing first → (c : Closing) × Closes d z.variables c × HoldsHere c
+  holds : SolvesBranch d P no_query no_values typing first → (c : Closing) × Closes d z.variables c × HoldsHere c
   holds s = (s.answer.closing, s.answer.closes, (goals_proved d std P z.variables s.answer.closing s.answer.closes E e.assumed e.written e.level 0 gs goals_typed).1 s.proved)
 
   no_answers : (xs : List TypedAnswer) → map (λ a. a.answer) xs ≡ [] → AnyOf (λ a. IsInstance d a.typing a.answer no_values) xs → ⊥
   no_answers [] e h = h
   no_answers (x ∷ xs) e h = cc
 
-  an_instance : (x : TypedAnswer) → IsWellFormed d nothing x.typing x.answer → has_no_pairs x.answer ≡ true → IsInstance d x.typing x.answer no_values
+  an_instance : (x : TypedAnswer) → IsWellFormed d no_query x.typing x.answer → has_no_pairs x.answer ≡ true → IsInstance d x.typing x.answer no_values
   an_instance x w f =
       let c = some_closing x.typing.variables in
       let ps = none x.answer.pairs (no_pairs (length x.answer.pairs) f) in
@@ -136,8 +114,8 @@ module _ (n : ℕ) (d : Declared) (std : IsStandard d) (P : List Clause) (progra
         values = transport (λ us. ConvertEach (map (closed c) us) []) (sym vs) tt;
       }
 
-  first_sound : (a : Answer) (more : List Answer) (xs : List TypedAnswer) → map (λ x. x.answer) xs ≡ a ∷ more → has_no_pairs a ≡ true → EachOf (λ x. IsWellFormed d nothing x.typing x.answer) xs →
-      EachOf (λ x. (i : Instance) → IsQueryInstance d nothing i → IsInstance d x.typing x.answer i → SolvesBranch d P nothing i typing first) xs → SolvesBranch d P nothing no_values typing first
+  first_sound : (a : Answer) (more : List Answer) (xs : List TypedAnswer) → map (λ x. x.answer) xs ≡ a ∷ more → has_no_pairs a ≡ true → EachOf (λ x. IsWellFormed d no_query x.typing x.answer) xs →
+      EachOf (λ x. (i : Instance) → IsQueryInstance d no_query i → IsInstance d x.typing x.answer i → SolvesBranch d P no_query i typing first) xs → SolvesBranch d P no_query no_values typing first
   first_sound a more [] e f w s = absurd (cc)
   first_sound a more (x ∷ xs) e f w s = let q : x.answer ≡ a = cc in s.0 no_values query (an_instance x w.0 (ap has_no_pairs q ∙ f))
 

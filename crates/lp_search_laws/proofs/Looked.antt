@@ -8,7 +8,7 @@ use Rattle.lp_calculus.specs.Spine.{head_of}
 use Rattle.lp_standard.specs.Connectives.{connective_of}
 use Rattle.lp_standard.specs.Connectives as connective
 use Rattle.lp_standard.specs.Schemes.{IsStandard}
-use Rattle.lp_model.specs.Flat.{Goal, Atomic, Cut, Either, Exists, Forall, Assume, Not, Goals, Clause}
+use Rattle.lp_model.specs.Flat.{Goal, Atomic, Cut, Either, Exists, Forall, Assume, Not, Written, Goals, Clause}
 use Rattle.lp_model.specs.Branch.{Entry, Branch, Go, both_written}
 use Rattle.lp_model.specs.Answers.{Query, AnswerTyping}
 use Rattle.lp_model.specs.Proofs.{Declared}
@@ -16,7 +16,7 @@ use Rattle.lp_model.specs.Search.{with_goals, look, look_branch, look_goal, look
 use Rattle.lp_search_laws.specs.Branches.{BranchTyping, IsTypedBranch, IsRightView, IsAtAtom, going}
 use Rattle.lp_search_laws.proofs.Opened.{by_cases}
 use Rattle.lp_search_laws.proofs.Fronts.{Typings, Typed as IsTypedHere}
-use Rattle.lp_search_laws.proofs.GoalViews.{cut_stands, either_stands, forall_stands, rest_typed, open_stands, assume_stands, exists_stands}
+use Rattle.lp_search_laws.proofs.GoalViews.{cut_stands, either_stands, forall_stands, denied_stands, open_stands, assume_stands, exists_stands}
 use Rattle.lp_search_laws.proofs.FormViews.{form_view}
 use Rattle.lp_search_laws.proofs.Standing.{proved_branches_answer}
 
@@ -29,10 +29,10 @@ module _ (n height : ℕ) (d : Declared) (std : IsStandard d) (P : List Clause) 
     normal_view t i None x = tt
     normal_view t i (Some u) x = form_view n d std P q z b E Es e es h t u i x height (λ p. atoms t u i x p) (connective_of u) refl
 
-    denied_view : (gs : Goals) (o : Option Bool) → IsRightView n d P q (going (Typings n d P q z b E Es e es (E ∷ Es)) (with_goals b (e ∷ es))) (look_not e (with_goals b es) gs o)
-    denied_view gs None = tt
-    denied_view gs (Some true) = open_stands n d std P q z b E Es e es h
-    denied_view gs (Some false) = rest_typed n d std P q z b E Es e es h
+    denied_view : (ws : Written) (gs : Goals) → e.goal ≡ Not ws gs → (o : Option Bool) → IsRightView n d P q (going (Typings n d P q z b E Es e es (E ∷ Es)) (with_goals b (e ∷ es))) (look_not e (with_goals b es) gs o)
+    denied_view ws gs i None = tt
+    denied_view ws gs i (Some true) = open_stands n d std P q z b E Es e es h
+    denied_view ws gs i (Some false) = denied_stands n d std P q z b E Es e es h ws gs i
 
     goal_view : (g : Goal) → e.goal ≡ g → IsRightView n d P q (going (Typings n d P q z b E Es e es (E ∷ Es)) (with_goals b (e ∷ es))) (look_goal unit_limit n P height e (with_goals b es) g)
     goal_view (Atomic t) i = normal_view t i (head_normal n t) refl
@@ -40,7 +40,7 @@ module _ (n height : ℕ) (d : Declared) (std : IsStandard d) (P : List Clause) 
     goal_view (Either l r) i = either_stands n d std P q z b E Es e es h l r i
     goal_view (Exists T gs) i = exists_stands n d std P q z b E Es e es h T gs _ (by_cases (atom (logic b.next e.level)) _ refl (λ j. refl)) i
     goal_view (Forall T gs) i = forall_stands n d std P q z b E Es e es h T gs _ (by_cases (atom (eigen (suc e.level))) _ refl (λ j. refl)) i
-    goal_view (Not ws gs) i = denied_view gs (has_variables n (both_written ws e.written))
+    goal_view (Not ws gs) i = denied_view ws gs i (has_variables n (both_written ws e.written))
     goal_view (Assume ws cs gs) i = assume_stands n d std P q z b E Es e es h ws cs gs i
 
   pub branch_view : (Es : List (List Ty)) (gs : List Entry) → IsTypedBranch n d q (record { answer = z; eigens = Es }) (with_goals b gs) →

@@ -63,7 +63,7 @@ two_is o X Y e f =
 quantifier_is : (o : Option Ty) (T X : Ty) → o ≡ Some (arrow (arrow T o_type) o_type) → o ≡ Some (arrow X o_type) → X ≡ arrow T o_type
 quantifier_is o T X e f = let g : Some (arrow (arrow T o_type) o_type) ≡ Some (arrow X o_type) = sym e ∙ f in cc
 
-pub denied_is : (o : Option Ty) (X : Ty) → o ≡ Some (arrow o_type o_type) → o ≡ Some (arrow X o_type) → X ≡ o_type
+denied_is : (o : Option Ty) (X : Ty) → o ≡ Some (arrow o_type o_type) → o ≡ Some (arrow X o_type) → X ≡ o_type
 denied_is o X e f = let g : Some (arrow o_type o_type) ≡ Some (arrow X o_type) = sym e ∙ f in cc
 
 -- no goal without a connective at its top has the head of `=>`, `:-`, `not` or `!`

@@ -14,7 +14,7 @@ use Rattle.lp_calculus.proofs.Sigma.{rename}
 use Rattle.lp_lemmas.specs.Each.{EachOf}
 use Rattle.lp_model.specs.Index.{instantiate, lifted}
 use Rattle.lp_calculus.specs.Spine.{head_of}
-use Rattle.lp_standard.specs.Connectives.{two, body_of}
+use Rattle.lp_standard.specs.Connectives.{two, not_of, body_of}
 use Rattle.lp_standard.specs.Schemes.{IsStandard}
 use Rattle.lp_model.specs.Flat.{Goal, Atomic, Cut, Either, Exists, Forall, Assume, Not, Goals, no_goals, goals, Clause, clause, Clauses, no_clauses, clauses, goal_list, clause_list, under_all, map_goal, map_goals, map_clause, map_clauses, same_type, formula_of_goal, formula_of_goals, formula_of_clause, formula_of_clauses}
 use Rattle.lp_model.specs.Proofs.{Declared}
@@ -193,3 +193,13 @@ goals_each k B (goals g gs) h = (h.0, goals_each k B gs h.1)
 pub clauses_each : (k : ℕ) (cs : Clauses) → AreClauses k [] cs → EachOf (IsAssumable k) (clause_list cs)
 clauses_each k no_clauses h = tt
 clauses_each k (clauses c cs) h = ((h.0, h.1), clauses_each k cs h.2)
+
+-- what is denied
+denied_is : (o : Option Ty) (X : Ty) → o ≡ Some (arrow o_type o_type) → o ≡ Some (arrow X o_type) → X ≡ o_type
+denied_is o X e f = let g : Some (arrow o_type o_type) ≡ Some (arrow X o_type) = sym e ∙ f in cc
+
+pub argument_typed : (d : Declared) → IsStandard d → (E : List Ty) (V : List Variable) (g : Term) → IsTyped d E V (not_of g) o_type → IsTyped d E V g o_type
+argument_typed d std E V g h = record {
+  typed = transport (Typed (over d E V) [] g) (denied_is (scheme_type [] (d 24)) h.typed.0 (ap (scheme_type []) (std.at 24 (omega arith))) h.typed.1) h.typed.2;
+  scoped = h.scoped.1;
+}

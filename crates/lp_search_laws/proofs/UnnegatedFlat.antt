@@ -4,8 +4,6 @@ use Rattle.std.specs.Prelude.{◌&&◌, option_map}
 use Rattle.lp_calculus.specs.Types.{Ty}
 use Rattle.lp_calculus.specs.Term.{Term, index, atom, abs, app, shift}
 use Rattle.lp_calculus.specs.Closed.{AllAtoms}
-use Rattle.lp_calculus.proofs.Sigma.{rename}
-use Rattle.lp_calculus.proofs.Plain.{bump, shift-rename}
 use Rattle.lp_calculus.specs.Spine.{head_of, arguments}
 use Rattle.lp_lemmas.specs.Each.{EachOf}
 use Rattle.lp_lemmas.proofs.Each.{each_append}

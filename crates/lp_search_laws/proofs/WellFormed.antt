@@ -49,7 +49,7 @@ module _ (n : ℕ) (d : Declared) (std : IsStandard d) (P : List Clause) (progra
   view_fine T (Parts ts) r = all_kept r.typed r.ok ts r.is
   view_fine T (Takes name ts) r = all_kept r.typed r.ok ts r.is
   view_fine T (Cuts m ts) r = all_kept r.typed r.ok ts r.is
-  view_fine T (Denies t is_final ts) r = all_kept r.typed r.ok ts r.is
+  view_fine T (Denies t is_final ts) r = all_kept r.after.typed r.after.ok ts r.after.is
   view_fine T (Halts e) r = r
   view_fine T Lacks r = tt
 

@@ -13,7 +13,7 @@ use Rattle.lp_lemmas.specs.Each.{AnyOf, EachOf}
 use Rattle.lp_model.specs.Skeleton.{View, Gives, Opens, Parts, Takes, Cuts, Denies, Halts, Lacks}
 use Rattle.lp_calculus.specs.Spine.{head_of}
 use Rattle.lp_model.specs.Look.{head_normal}
-use Rattle.lp_standard.specs.Connectives.{connective_of}
+use Rattle.lp_standard.specs.Connectives.{connective_of, truth}
 use Rattle.lp_standard.specs.Connectives as connective
 use Rattle.lp_model.specs.Pair.{Pair, Closing, closed}
 use Rattle.lp_model.specs.Flat.{Goal, Atomic, Cut, Either, Exists, Forall, Assume, Not, Goals, no_goals, goals, Clause, clause, Clauses, no_clauses, clauses, formula_of_goal, formula_of_clause}
@@ -235,6 +235,18 @@ pub record AreTypedTasks (n : ℕ) (d : Declared) (P : List Clause) (q : Query) 
   pub is : map task_of typed ≡ ts
   pub ok : EachOf (IsOk n d P q) typed
 
+-- a query without variables
+abbrev pub no_query : Query
+no_query = record { type_vars = 0; vars = []; formula = truth }
+
+-- of a negated goal: its search begins with a typed branch, over the same variables and of no query; and what stands behind it is typed
+pub record DeniesTyped (n : ℕ) (d : Declared) (P : List Clause) (q : Query) (u : Task) (ts : List Task) : Type 0 where
+  pub typing : BranchTyping
+  pub branch : Branch
+  pub is : u ≡ Go branch
+  pub begins : IsTypedBranch n d no_query typing branch
+  pub after : AreTypedTasks n d P q ts
+
 -- an answer in its place
 pub record AnswersFor (d : Declared) (P : List Clause) (q : Query) (T : TypedTask) (a : Answer) : Type 0 where
   pub typing : AnswerTyping
@@ -242,14 +254,14 @@ pub record AnswersFor (d : Declared) (P : List Clause) (q : Query) (T : TypedTas
   pub keeps : (i : Instance) → Sol d P q i T → IsQueryInstance d q i × IsInstance d typing a i
   pub gives : (i : Instance) → IsQueryInstance d q i → IsInstance d typing a i → Sol d P q i T
 
--- what a typed task may turn out to be. Of a negated goal the rest of its branch is typed; what its search says is not said here
+-- what a typed task may turn out to be; what the search of a negated goal says is not said here
 abbrev pub IsRightView : (n : ℕ) → Declared → (P : List Clause) → Query → TypedTask → View Task Answer → Type 0
 IsRightView n d P q T (Gives a) = AnswersFor d P q T a
 IsRightView n d P q T (Opens ts) = StandFor n d P q T ts
 IsRightView n d P q T (Parts ts) = StandFor n d P q T ts
 IsRightView n d P q T (Takes name ts) = StandFor n d P q T ts
 IsRightView n d P q T (Cuts m ts) = StandFor n d P q T ts
-IsRightView n d P q T (Denies t is_final ts) = AreTypedTasks n d P q ts
+IsRightView n d P q T (Denies t is_final ts) = DeniesTyped n d P q t ts
 IsRightView n d P q T (Halts e) = e ≢ NoMore
 IsRightView n d P q T Lacks = Unit {0}
 

@@ -30,7 +30,8 @@ pub fn equalities_stand()
     ensures { (n : ℕ) (d : Declared) → IsStandard d → (P : List Clause) (q : Query) (y : BranchTyping) (b : Branch) (e : Entry) (es : List Entry) (t u : Term) (T : Ty) (l r : Term) → b.goals ≡ e ∷ es → e.goal ≡ Atomic t → head_normal n t ≡ Some u → u ≡ two 8 (T ∷ []) l r → IsTypedBranch n d q y b → StandFor n d P q (going y b) (equated unit_limit n e.level l r (with_goals b es)) }
 {}
 
-/// What a typed branch turns out to be: its answer, or typed tasks with its solutions.
+/// What a typed branch turns out to be: its answer, or typed tasks with its solutions. Of a negated goal the search begins with a typed branch, and what
+/// stands behind it is typed.
 pub fn each_branch_is_right()
     ensures { (n height : ℕ) (d : Declared) → IsStandard d → (P : List Clause) → EachOf (IsProgramTyped d) P → (q : Query) (y : BranchTyping) (b : Branch) → IsTypedBranch n d q y b → IsRightView n d P q (going y b) (look unit_limit n P height (Go b)) }
 {}
