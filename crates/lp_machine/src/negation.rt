@@ -10,12 +10,17 @@ use lp_code::Standing;
 use lp_impl::Cursor;
 use lp_model::Ending;
 use lp_standard::Constant;
-use lp_term::{Bank, TermId, TermNode};
+use lp_term::{Bank, TermId, TermNode, TypeId, TypeNode};
 use lp_watch::{Crowd, Watch};
 use std::alloc::Global;
 
-// Whether a variable stands among the terms of the bank.
+// Whether a logic variable stands among the terms of the bank, or a type variable among its types.
 fn has_variable(bank: &Bank) -> bool {
+    for number in 0..bank.type_count() {
+        if let TypeNode::Var(_) = bank.type_node(TypeId(number)) {
+            return true;
+        }
+    }
     for number in 0..bank.term_count() {
         if let TermNode::Logic { .. } = bank.term_node(TermId(number)) {
             return true;

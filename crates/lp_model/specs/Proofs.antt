@@ -1,6 +1,6 @@
 -- Uniform proofs (Miller, Nadathur, Pfenning and Scedrov 1991) of raw formulas, as a test on a pair of trees: a proof of a goal, and a
 -- focus on a clause for an atom. A negated goal is proved by a search of the goal that fails, which is a leaf (Clark 1978: negation as failure).
-use Rattle.std.specs.Prelude.{◌≡◌, ℕ, suc, ◌<◌, ◌≤◌, List, [], ◌∷◌, ◌++◌, length, take, drop, Option, Some, None, slice_get, Bool, true, false, ◌⊎◌, ℤ}
+use Rattle.std.specs.Prelude.{◌≡◌, ℕ, suc, ◌≤◌, List, [], ◌∷◌, ◌++◌, length, take, drop, Option, Some, None, slice_get, Bool, true, false, ◌⊎◌, ℤ}
 use Rattle.lp_calculus.specs.Types.{Ty}
 use Rattle.lp_calculus.specs.Term.{Term, index, atom, abs, app, constant, integer, text, eigen, logic, param}
 use Rattle.lp_calculus.specs.Convert.{Converts}
@@ -118,7 +118,7 @@ pub record Filling : Type 0 where
   pub heads : List Bool
 
 pub record IsFilling (f : Filling) : Type 0 where
-  pub positive : (i : ℕ) → i < length f.heads → IsPositive (f.terms i)
+  pub positive : (i : ℕ) → IsPositive (f.terms i)
   pub heads : (i : ℕ) → slice_get f.heads i ≡ Some true → (k : ℕ) × (f.terms i ≡ atom (eigen k))
 
 abbrev pub filled_formula : Filling → Term → Term

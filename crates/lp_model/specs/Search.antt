@@ -157,21 +157,7 @@ abbrev pub try_clause : (u n : ℕ) → Clause → (goal : Term) → Entry → B
 try_clause u n (clause k vs h body) t e b mark =
     typed_try u n k vs (instance_term (renewed k b.next_type) h) (type_goals (renewed k b.next_type) body) t e b mark
 
--- whether a variable stands in what a negated goal speaks of
-
-abbrev pub is_variable : Atom → Bool
-is_variable (logic x l) = true
-is_variable (constant c ts) = false
-is_variable (integer z) = false
-is_variable (text s) = false
-is_variable (eigen k) = false
-is_variable (param k t) = false
-
-abbrev pub has_variable : Term → Bool
-has_variable (index i) = false
-has_variable (atom a) = is_variable a
-has_variable (abs b) = has_variable b
-has_variable (app t u) = has_variable t || has_variable u
+-- whether a variable, or a type variable, stands in what a negated goal speaks of
 
 abbrev pub has_type_variable : Ty → Bool
 has_type_variable T = not (is_empty (type_variables T))
@@ -179,6 +165,20 @@ has_type_variable T = not (is_empty (type_variables T))
     is_empty : List ℕ → Bool
     is_empty [] = true
     is_empty (i ∷ is) = false
+
+abbrev pub is_variable : Atom → Bool
+is_variable (logic x l) = true
+is_variable (constant c ts) = list_any has_type_variable ts
+is_variable (integer z) = false
+is_variable (text s) = false
+is_variable (eigen k) = false
+is_variable (param k t) = has_type_variable t
+
+abbrev pub has_variable : Term → Bool
+has_variable (index i) = false
+has_variable (atom a) = is_variable a
+has_variable (abs b) = has_variable b
+has_variable (app t u) = has_variable t || has_variable u
 
 abbrev pub beta_normals : ℕ → List Term → Option (List Term)
 beta_normals n [] = Some []

@@ -1,5 +1,5 @@
-// Whether a negated goal is open: whether a variable stands in what the variables that are written in it, or in the clauses that are
-// assumed at it, stand for.
+// Whether a negated goal is open: whether a variable, or a type variable in a constant's types, stands in what the variables that are written
+// in it, or in the clauses that are assumed at it, stand for.
 
 use crate::free::Free;
 use crate::instance::Values;
@@ -28,36 +28,9 @@ pub(crate) enum Openness {
     Deep,
 }
 
-// Whether a logic variable stands in a term. Shared terms are looked at once.
-fn has_variable(alloc: Global, bank: &Bank, term: TermId) -> Result<bool, Memory> {
+// Whether a type variable stands in one of the types that are left. Shared types are looked at once.
+fn has_type_variable(alloc: Global, bank: &Bank, mut left: Vec<TypeId>) -> Result<bool, Memory> {
     let mut seen = IndexSet::new(alloc);
-    let mut left = Vec::new(alloc);
-    left.push(term)?;
-    for _ in 0..u64::MAX {
-        let Some(next) = left.pop() else {
-            return Ok(false);
-        };
-        if !seen.insert(next.0)? {
-            continue;
-        }
-        match bank.term_node(next) {
-            TermNode::Logic { .. } => return Ok(true),
-            TermNode::Abs(body) => left.push(body)?,
-            TermNode::App(head, args) => {
-                left.push(head)?;
-                left.extend_from_slice(args)?;
-            }
-            _ => {}
-        }
-    }
-    Err(Memory)
-}
-
-// Whether a type variable stands in a type. Shared types are looked at once.
-fn has_type_variable(alloc: Global, bank: &Bank, of: TypeId) -> Result<bool, Memory> {
-    let mut seen = IndexSet::new(alloc);
-    let mut left = Vec::new(alloc);
-    left.push(of)?;
     for _ in 0..u64::MAX {
         let Some(next) = left.pop() else {
             return Ok(false);
@@ -71,6 +44,33 @@ fn has_type_variable(alloc: Global, bank: &Bank, of: TypeId) -> Result<bool, Mem
             TypeNode::Arrow(from, to) => {
                 left.push(from)?;
                 left.push(to)?;
+            }
+            _ => {}
+        }
+    }
+    Err(Memory)
+}
+
+// Whether a logic variable stands in a term, or a type variable in the types of one of its constants. Shared terms are looked at once.
+fn has_variable(alloc: Global, bank: &Bank, term: TermId) -> Result<bool, Memory> {
+    let mut seen = IndexSet::new(alloc);
+    let mut types = Vec::new(alloc);
+    let mut left = Vec::new(alloc);
+    left.push(term)?;
+    for _ in 0..u64::MAX {
+        let Some(next) = left.pop() else {
+            return has_type_variable(alloc, bank, types);
+        };
+        if !seen.insert(next.0)? {
+            continue;
+        }
+        match bank.term_node(next) {
+            TermNode::Logic { .. } => return Ok(true),
+            TermNode::Const(_, of) => types.extend_from_slice(of)?,
+            TermNode::Abs(body) => left.push(body)?,
+            TermNode::App(head, args) => {
+                left.push(head)?;
+                left.extend_from_slice(args)?;
             }
             _ => {}
         }
@@ -105,7 +105,9 @@ fn openness_of_type(
     let alloc = machine.alloc;
     let written = put_type_variable(&mut machine.bank, values.types.of(variable))?;
     let full = filled_type(alloc, &mut machine.bank, &machine.bindings, written)?;
-    if has_type_variable(alloc, &machine.bank, full)? {
+    let mut left = Vec::new(alloc);
+    left.push(full)?;
+    if has_type_variable(alloc, &machine.bank, left)? {
         return Ok(Openness::Open);
     }
     Ok(Openness::Closed)
