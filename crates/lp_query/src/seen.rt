@@ -128,7 +128,7 @@ fn glossary_of(alloc: Global, image: &Image) -> Result<Glossary, Memory> {
         })?;
         number = number.saturating_add(1);
     }
-    Glossary::new(alloc, entries)
+    Ok(Glossary { entries })
 }
 
 impl Seen {

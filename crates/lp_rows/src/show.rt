@@ -8,7 +8,9 @@ use std::alloc::Global;
 // An abstraction that gives an eigenconstant.
 fn shown(alloc: Global) -> Result<Vec<u8>, TermRefusal> {
     let mut bank = Bank::new(alloc);
-    let glossary = Glossary::new(alloc, Vec::new(alloc))?;
+    let glossary = Glossary {
+        entries: Vec::new(alloc),
+    };
     let body = bank.put_term(TermNode::Eigen(2))?;
     let whole = bank.put_term(TermNode::Abs(body))?;
     if !bank.is_known_below(whole, 4_294_967_296) {

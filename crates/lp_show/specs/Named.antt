@@ -13,8 +13,8 @@ abbrev pub all : Names → List Entry
 all names = entries_of names.entries.now
 
 pub record IsReady (names : Names) : Type 0 where
-  pub places : (c : ℕ) → get nat_eq names.places.now c ≡ place_in 0 names.entries.now c
-  pub taken : (n : List ℕ) → contains_by (λ k. bytes_eq n k.items) names.taken.now ≡ has_name n (all names)
+  pub places : (c : ℕ) → get nat_eq names.places c ≡ place_in 0 names.entries.now c
+  pub taken : (n : List ℕ) → contains_by (λ k. bytes_eq n k.items) names.taken ≡ has_name n (all names)
 
 -- what is told of a constant is its entry
 pub record IsKnown (known : Known) (e : Entry) : Type 0 where

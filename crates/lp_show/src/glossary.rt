@@ -9,3 +9,9 @@ pub struct Entry {
     pub hidden: u16,
     pub fixity: Option<(Fixity, u8)>,
 }
+
+/// The constants of a program that are not standard, each once.
+#[derive(Drop)]
+pub struct Glossary {
+    pub entries: Vec<Entry>,
+}

@@ -7,7 +7,7 @@ mod binders;
 mod last;
 // The forms in which the values and sides of an answer are shown.
 mod forms;
-// The constants of a glossary.
+// The glossary, as the caller tells it.
 mod glossary;
 // What holds of the names of binders.
 mod laws;
@@ -23,8 +23,6 @@ mod operator;
 mod place;
 // A term taken apart into its head and arguments.
 mod spine;
-// The glossary, with the tables in which it is looked up.
-mod tables;
 // What is still to be written.
 mod task;
 // The variables of a term, by first place.
@@ -32,8 +30,7 @@ mod variables;
 // The text of a term.
 mod write;
 
-pub use glossary::Entry;
+pub use glossary::{Entry, Glossary};
 pub use last::ending;
 pub use laws::{binders_differ, binders_name_no_constant};
 pub use lines::{answer, term};
-pub use tables::Glossary;

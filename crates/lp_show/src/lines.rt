@@ -13,10 +13,10 @@ ghost use Rattle.lp_show.specs.Sides.{side_trees, IsSidesIn};
 ghost use Rattle.lp_show.specs.Written.{IsIdle};
 
 use crate::forms::{Sides, form_of, is_shown, pair_forms, value_forms};
+use crate::glossary::Glossary;
 use crate::leaves::push_number;
 use crate::names::Names;
 use crate::place::Place;
-use crate::tables::Glossary;
 use crate::variables::add_variables;
 use crate::write::{Context, Writer, write_term};
 use indexmap::IndexSet;
@@ -37,7 +37,7 @@ fn normal_text(
 {
     let mut seen = IndexSet::new(alloc);
     add_variables(alloc, bank, term, &mut seen)?;
-    let names = Names::new(alloc, glossary);
+    let names = Names::new(alloc, glossary.entries.as_slice())?;
     let context = Context {
         alloc,
         bank,
@@ -240,7 +240,7 @@ fn normal_lines(
     let mut seen = IndexSet::new(alloc);
     add_values(alloc, bank, names, forms, &mut seen)?;
     add_sides(alloc, bank, sides, &mut seen)?;
-    let known = Names::new(alloc, glossary);
+    let known = Names::new(alloc, glossary.entries.as_slice())?;
     let context = Context {
         alloc,
         bank,

@@ -49,7 +49,7 @@ fn glossary_of(alloc: Global, built: &Built) -> Result<Glossary, Memory> {
         })?;
         number = number.saturating_add(1);
     }
-    Glossary::new(alloc, entries)
+    Ok(Glossary { entries })
 }
 
 /// What the answers of a query are shown with.

@@ -2,7 +2,7 @@ use Rattle.std.proofs.Common.{◌≡◌, ◌≤◌, ℕ, drop, length}
 use Rattle.std.specs.Prelude.{nat_eq}
 use Rattle.std.specs.HashMap.{get}
 use Rattle.lp_show.specs.Glossary.{place_in}
-use Rattle.lp_show.proofs.tables.places_of.Given as goal
+use Rattle.lp_show.proofs.names.places_of.Given as goal
 
 abbrev pub invariant-entries : goal.invariant-entries
 invariant-entries l = record {

@@ -3,7 +3,7 @@ use Rattle.std.specs.Str.{bytes_eq}
 use Rattle.indexmap.specs.IndexSet.{contains_by}
 use Rattle.lp_model.specs.Shown.{has_name}
 use Rattle.lp_show.specs.Glossary.{entries_of}
-use Rattle.lp_show.proofs.tables.taken_of.Given as goal
+use Rattle.lp_show.proofs.names.taken_of.Given as goal
 
 abbrev pub invariant-entries : goal.invariant-entries
 invariant-entries l = record {
