@@ -107,8 +107,8 @@ def others(program, folder):
     if shutil.which('elpi') and program[0] != 'turn':
         language.write(folder, 'program.elpi', types + clauses + ['idle.', 'main :- %s.' % goal if program[0] != 'chain' else 'main :- %s.\nmain.' % goal])
         language.write(folder, 'nothing.elpi', types + clauses + ['idle.', 'main :- idle.'])
-        nothing, _, _ = best(['elpi', '-no-tc', '-exec', 'main', 'nothing.elpi'], folder)
-        line += '  elpi %s' % shown(best(['elpi', '-no-tc', '-exec', 'main', 'program.elpi'], folder)[0], nothing)
+        nothing, _, _ = best(['elpi', '-no-tc', '-test', 'nothing.elpi'], folder)
+        line += '  elpi %s' % shown(best(['elpi', '-no-tc', '-test', 'program.elpi'], folder)[0], nothing)
     if prolog and shutil.which('swipl'):
         language.write(folder, 'program.pl', prolog[0])
         nothing, _, _ = best(['swipl', '-q', '-g', 'true', '-t', 'halt', 'program.pl'], folder)

@@ -91,7 +91,7 @@ enum Plain {
     Kind(u32),
 }
 
-fn plain(store: &Store, cell: CellId) -> Option<Plain> {
+fn plain_of(store: &Store, cell: CellId) -> Option<Plain> {
     let (at, found) = followed(store, cell)?;
     match found {
         Cell::TypeVar => Some(Plain::Variable(at.0)),
@@ -108,7 +108,7 @@ fn plain(store: &Store, cell: CellId) -> Option<Plain> {
 
 // Whether two types are one kind without parts, or one variable.
 fn are_plain(store: &Store, left: CellId, right: CellId) -> bool {
-    match (plain(store, left), plain(store, right)) {
+    match (plain_of(store, left), plain_of(store, right)) {
         (Some(one), Some(other)) => one == other,
         _ => false,
     }
@@ -168,7 +168,7 @@ impl Heap {
 
     /// Whether a type is a kind without parts, or a variable.
     pub(crate) fn is_plain(&self, cell: CellId) -> bool {
-        plain(&self.store, cell).is_some()
+        plain_of(&self.store, cell).is_some()
     }
 
     /// Makes two types one, as `pair_types` does.
