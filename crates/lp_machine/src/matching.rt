@@ -139,8 +139,9 @@ impl<'i> Search<'i> {
         };
         match self.heap.look_at_argument(number, wanted)? {
             Looked::Same(head) => {
+                let argument = self.heap.argument(number);
                 self.set_term(*top, head);
-                self.set_term(*made, self.heap.argument(number));
+                self.set_term(*made, argument);
                 self.match_parts(types.as_slice(), registers.as_slice())
             }
             Looked::Differs => self.differ(),
