@@ -3,5 +3,6 @@ mod Closing
 mod Comparisons
 mod Fitting
 mod Marking
+mod Naming
 mod Verdicts
 mod Wider

@@ -1,5 +1,5 @@
 // What is still to be shown.
-ghost use Rattle.std.specs.Prelude.{◌≡◌, length, IfOk, OnOk, true};
+ghost use Rattle.std.specs.Prelude.{◌≡◌, [], length, IfOk, OnOk, true};
 ghost use Rattle.lp_term.specs.Nodes.{Extends, Nodes, tree};
 ghost use Rattle.lp_calculus.specs.Closed.{IsClosedAt};
 ghost use Rattle.lp_calculus.specs.Convert.{Converts};
@@ -61,13 +61,14 @@ impl<'a> Theory<'a> {
 
 impl<'a> Work<'a> {
     // Nothing is left to do.
-    pub(crate) fn new(alloc: Global, theory: Theory<'a>) -> Work<'a>
-        ensures known { (b : Nodes) → IsKnown b result.known }
+    pub(crate) fn new(alloc: Global, theory: Theory<'a>, known: Known) -> Work<'a>
+        ensures known { result.known ≡ known }
+        ensures eigens { result.eigens.items ≡ [] }
     {
         Work {
             alloc,
             theory,
-            known: Known::new(alloc),
+            known,
             eigens: Vec::new(alloc),
             assumed: Vec::new(alloc),
             tasks: Vec::new(alloc),
@@ -91,6 +92,7 @@ impl<'a> Work<'a> {
         requires known { IsKnown bank.old self.old.known }
         ensures kept { Extends bank.old bank.new }
         ensures known { OnOk result (IsKnown bank.new self.new.known) }
+        ensures eigens { OnOk result (self.new.eigens ≡ self.old.eigens) }
         ensures closed { IfOk result (λ yes. yes ≡ true → IsClosedAt (length self.old.eigens.items) (tree bank.old term.0)) }
     {
         let level = self.level();
@@ -121,6 +123,7 @@ impl<'a> Work<'a> {
         requires known { IsKnown bank.old self.old.known }
         ensures kept { Extends bank.old bank.new }
         ensures known { OnOk result (IsKnown bank.new self.new.known) }
+        ensures eigens { OnOk result (self.new.eigens ≡ self.old.eigens) }
         ensures closed { IfOk result (λ yes. yes ≡ true → IsClosedAt (length self.old.eigens.items) (tree bank.old term.0)) }
         ensures positive { IfOk result (λ yes. yes ≡ true → is_positive (tree bank.old term.0) ≡ true) }
     {
