@@ -6,3 +6,9 @@ mod Marking
 mod Naming
 mod Verdicts
 mod Wider
+mod Applying
+mod Deriving
+mod Filled
+mod Later
+mod Shaped
+mod Witnesses

@@ -1,9 +1,8 @@
 -- What a certificate says: an instance of a query, and a proof of it from a program.
-use Rattle.std.specs.Prelude.{◌≡◌, List, [], map, length, All}
+use Rattle.std.specs.Prelude.{◌≡◌, List, [], map, length}
 use Rattle.lp_calculus.specs.Types.{instance}
 use Rattle.lp_calculus.specs.Typing.{type_at}
-use Rattle.lp_calculus.specs.Closed.{AreClosed, IsClosedAt}
-use Rattle.lp_standard.specs.Positive.{IsPositive}
+use Rattle.lp_calculus.specs.Closed.{AreClosed}
 use Rattle.lp_term.specs.Nodes.{Nodes, tree, type_tree}
 use Rattle.lp_model.specs.Answers.{Query, Instance, AreWitnesses, filled}
 use Rattle.lp_model.specs.Flatten.{ClauseFormula}
@@ -27,13 +26,11 @@ certificate_of b c = record {
   nodes = map (node_of b) c.proof.items;
 }
 
--- as many closed types as the query has type variables, and as many values as it has variables, closed and positive
-pub record Names (q : Query) (c : Certificate) : Type 0 where
+-- as many closed types as the query has type variables, and values that may stand for its variables
+pub record Names (d : Declared) (q : Query) (c : Certificate) : Type 0 where
   pub types : length c.instance.types ≡ q.type_vars
   pub types_closed : AreClosed c.instance.types
-  pub values : length c.instance.values ≡ length q.vars
-  pub values_closed : All (IsClosedAt 0) c.instance.values
-  pub values_positive : All IsPositive c.instance.values
+  pub values : AreWitnesses d c.instance.values (map (instance (type_at c.instance.types)) q.vars)
 
 -- declared types of constants, and clauses
 pub record Ground : Type 0 where

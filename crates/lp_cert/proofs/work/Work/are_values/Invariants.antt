@@ -1,7 +1,7 @@
-use Rattle.std.proofs.Common.{◌≡◌, [], take}
+use Rattle.std.proofs.Common.{◌≡◌, [], length, take}
 use Rattle.lp_term.specs.Nodes.{Extends}
-use Rattle.lp_cert.specs.Facts.{IsKnown}
-use Rattle.lp_cert.specs.inner.Named.{AreValuesIn}
+use Rattle.lp_cert.specs.Facts.{AreInside, IsKnown}
+use Rattle.lp_cert.specs.inner.Named.{AreWitnessesIn, variable_types}
 use Rattle.lp_cert.proofs.work.Work.are_values.Given as goal
 
 abbrev pub invariant-loop-at : goal.invariant-loop-at
@@ -9,5 +9,6 @@ invariant-loop-at l = record {
   kept : Extends l.fn.bank l.bank;
   known : IsKnown l.bank l.self.known;
   eigens : l.self.eigens ≡ l.fn.self.eigens;
-  values : l.fn.self.eigens.items ≡ [] → AreValuesIn l.bank (take l.at l.fn.values.now);
+  theory : l.self.theory ≡ l.fn.self.theory;
+  values : l.fn.self.eigens.items ≡ [] → AreInside (length l.fn.bank.types) l.fn.types.now → AreWitnessesIn l.bank l.fn.self.theory.constants.now l.fn.types.now (take l.at l.fn.values.now) (take l.at (variable_types l.fn.query.now));
 }
