@@ -25,18 +25,20 @@ witnesses_push d (s ∷ ts) (S ∷ Ts) t T a w = (a.0, witnesses_push d ts Ts t 
 witnesses_push d [] (S ∷ Ts) t T a w = absurd a
 witnesses_push d (s ∷ ts) [] t T a w = absurd a
 
+taken_next : {A : Type 0} (xs : List A) (i n : ℕ) (x : A) → n ≡ suc i → i < length xs → x ≡ get_or xs i x → take n xs ≡ take i xs ++ x ∷ []
+taken_next xs i n x m l e = ap (λ j. take j xs) m ∙ take_suc xs i x (slice_get_read xs (length xs) i x refl l e)
+
+twice_mapped : (θ : ℕ → Ty) (d : Nodes) (os : List TypeId) → map (instance θ) (types_in d os) ≡ map (λ o. instance θ (type_tree d o.0)) os
+twice_mapped θ d [] = refl
+twice_mapped θ d (o ∷ os) = ap (λ l. instance θ (type_tree d o.0) ∷ l) (twice_mapped θ d os)
+
 -- one more value; of is the type of its variable
 pub witnesses_next : (b c : Nodes) (cs : List code.Declared) (types : List TypeId) (ts : List TermId) (ofs : List TypeId) (i n : ℕ) (t : TermId) (of : TypeId) → n ≡ suc i → Extends b c → i < length ts → i < length ofs → t ≡ get_or ts i t → of ≡ get_or ofs i of →
     AreWitnessesIn b cs types (take i ts) (take i ofs) → ((d : Nodes) → Extends c d → IsWitness (declared_by d cs) [] (tree d t.0) (instance (type_at (types_in d types)) (type_tree d of.0))) → AreWitnessesIn c cs types (take n ts) (take n ofs)
 witnesses_next b c cs types ts ofs i n t of m g l k et eo a w = λ d h.
     let f : TypeId → Ty = λ o. instance (type_at (types_in d types)) (type_tree d o.0) in
-    let more : {A : Type 0} (xs : List A) (x : A) → i < length xs → x ≡ get_or xs i x → take n xs ≡ take i xs ++ x ∷ [] = λ xs x p e. ap (λ j. take j xs) m ∙ take_suc xs i x (slice_get_read xs (length xs) i x refl p e) in
-    transport (λ j. AreWitnesses (declared_by d cs) (sym (map_pushed (λ x. tree d x.0) (take i ts) (take n ts) t (more ts t l et)) j) ((ap (λ Ts. Ts ++ f of ∷ []) (twice_mapped (type_at (types_in d types)) d (take i ofs)) ∙ sym (map_pushed f (take i ofs) (take n ofs) of (more ofs of k eo)) ∙ sym (twice_mapped (type_at (types_in d types)) d (take n ofs))) j))
+    transport (λ j. AreWitnesses (declared_by d cs) (sym (map_pushed (λ x. tree d x.0) (take i ts) (take n ts) t (taken_next ts i n t m l et)) j) ((ap (λ Ts. Ts ++ f of ∷ []) (twice_mapped (type_at (types_in d types)) d (take i ofs)) ∙ sym (map_pushed f (take i ofs) (take n ofs) of (taken_next ofs i n of m k eo)) ∙ sym (twice_mapped (type_at (types_in d types)) d (take n ofs))) j))
     (witnesses_push (declared_by d cs) (terms_in d (take i ts)) (map (instance (type_at (types_in d types))) (types_in d (take i ofs))) (tree d t.0) (f of) (a d (extends-trans b c d g h)) (w d h))
-  where
-    twice_mapped : (θ : ℕ → Ty) (d : Nodes) (os : List TypeId) → map (instance θ) (types_in d os) ≡ map (λ o. instance θ (type_tree d o.0)) os
-    twice_mapped θ d [] = refl
-    twice_mapped θ d (o ∷ os) = ap (λ l. instance θ (type_tree d o.0) ∷ l) (twice_mapped θ d os)
 
 pub witnesses_whole : (b : Nodes) (cs : List code.Declared) (types : List TypeId) (ts : List TermId) (ofs : List TypeId) (i : ℕ) → length ts ≤ i → length ofs ≤ i → AreWitnessesIn b cs types (take i ts) (take i ofs) → AreWitnessesIn b cs types ts ofs
 witnesses_whole b cs types ts ofs i l k a = subst (λ us. AreWitnessesIn b cs types us ofs) (take_whole ts i l) (subst (AreWitnessesIn b cs types (take i ts)) (take_whole ofs i k) a)

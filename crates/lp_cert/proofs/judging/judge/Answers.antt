@@ -13,9 +13,9 @@ loop-certificate-preserved c = record {
   kept = extends-trans _ _ _ c.loop-certificate.invariant.kept c.in_ok-turn.ensures.kept;
   known = c.in_ok-turn.ensures.known;
   named =
-      names_next c.loop-certificate.bank c.certifies.new.bank c.args.names.now.program.constants.items c.args.query.now c.args.certificates.now c.loop-certificate.certificate-index _ c.certificate-item.result.now (add-one c.loop-certificate.certificate-index) c.in_ok-turn.ensures.kept (omega (arith, c.loop-certificate-test.true)) c.certificate-item.is
+      names_next c.loop-certificate.bank c.certifies.new.bank c.args.names.now.program.constants.items c.args.query.now c.args.certificates.now c.loop-certificate.certificate-index _ c.certificate-item.result (add-one c.loop-certificate.certificate-index) c.in_ok-turn.ensures.kept (omega (arith, c.loop-certificate-test.true)) c.certificate-item.is
       c.loop-certificate.invariant.named
-      (subst (λ cs. NamesIn c.certifies.new.bank cs c.args.query.now c.certificate-item.result.now) (ap (λ t. t.constants.now) c.new-work.ensures.theory ∙ c.of-theory.ensures) (c.in_ok-turn.ensures.named c.in-On.is c.new-work.ensures.eigens));
+      (subst (λ cs. NamesIn c.certifies.new.bank cs c.args.query.now c.certificate-item.result) (ap (λ t. t.constants.now) c.new-work.ensures.theory ∙ c.of-theory.ensures) (c.in_ok-turn.ensures.named c.in-On.is c.new-work.ensures.eigens));
 }
 
 pub returns-clause-accepted : goal.returns-clause-accepted

@@ -9,5 +9,5 @@ abbrev pub invariant-loop-certificate : goal.invariant-loop-certificate
 invariant-loop-certificate l = record {
   kept : Extends l.fn.bank l.bank;
   known : IsKnown l.bank l.known;
-  named : All (NamesIn l.bank l.fn.names.now.program.constants.items l.fn.query.now) (take l.certificate-index l.fn.certificates.now);
+  named : All (NamesIn l.bank l.fn.names.program.constants.items l.fn.query) (take l.certificate-index l.fn.certificates);
 }

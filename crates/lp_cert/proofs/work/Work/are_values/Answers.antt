@@ -24,11 +24,11 @@ loop-at-preserved c = record {
   values = λ e a.
       let l = c.loop-at-test.true in
       let n = variables_long c.args.query.now in
-      witnesses_next c.loop-at.bank c.is_witness.new.bank c.args.self.now.theory.constants.now c.args.types.now c.args.values.now (variable_types c.args.query.now) c.loop-at.at _ (slice_index_or c.args.values.now c.loop-at.at (record { 0 = 0 })) c.index-of.result.now.1 (add-one c.loop-at.at)
-      (extends-trans _ _ _ c.in_ok-made.ensures.kept c.in_ok-is_witness.ensures.kept) (omega (arith, l)) (omega (arith, l, n, c.if-values-query.false, c.args.query.now.vars.ok)) (read_again c.args.values.now c.loop-at.at (record { 0 = 0 }) (omega (arith, l)))
-      (type_of_variable (λ v. v.1) c.args.query.now.vars.items c.loop-at.at c.index-of.result.now (omega (arith, l, c.if-values-query.false, c.args.query.now.vars.ok)) c.index-of.ensures)
+      witnesses_next c.loop-at.bank c.is_witness.new.bank c.args.self.now.theory.constants.now c.args.types.now c.args.values.now (variable_types c.args.query.now) c.loop-at.at _ (slice_index_or c.args.values.now c.loop-at.at (record { 0 = 0 })) c.index.result.now.1 (add-one c.loop-at.at)
+      (extends-trans _ _ _ c.in_ok-made.ensures.kept c.in_ok-is_witness.ensures.kept) (omega (arith, l)) (omega (arith, l, n, c.if-values-len.false, c.args.query.now.vars.ok)) (read_again c.args.values.now c.loop-at.at (record { 0 = 0 }) (omega (arith, l)))
+      (type_of_variable (λ v. v.1) c.args.query.now.vars.items c.loop-at.at c.index.result.now (omega (arith, l, c.if-values-len.false, c.args.query.now.vars.ok)) c.index.ensures)
       (c.loop-at.invariant.values e a)
-      (λ d g. witness_here d c.loop-at.self c.args.self.now (slice_index_or c.args.values.now c.loop-at.at (record { 0 = 0 })) c.in_ok-made.made (instance (type_at (types_in d c.args.types.now)) (type_tree d c.index-of.result.now.1.0)) c.loop-at.invariant.theory c.loop-at.invariant.eigens e
+      (λ d g. witness_here d c.loop-at.self c.args.self.now (slice_index_or c.args.values.now c.loop-at.at (record { 0 = 0 })) c.in_ok-made.made (instance (type_at (types_in d c.args.types.now)) (type_tree d c.index.result.now.1.0)) c.loop-at.invariant.theory c.loop-at.invariant.eigens e
       (c.in_ok-made.ensures.tree (inside_more c.args.bank.now c.loop-at.bank c.args.types.now c.loop-at.invariant.kept a) (c.is_type_inside.ensures c.if-not-is_type_inside.false) d (extends-trans _ _ _ c.in_ok-is_witness.ensures.kept g))
       (c.in_ok-is_witness.ensures.witness c.if-not-branch.false d g));
 }
@@ -36,4 +36,4 @@ loop-at-preserved c = record {
 pub returns-clause-values : goal.returns-clause-values
 returns-clause-values c = λ y e a.
     let n = variables_long c.args.query.now in
-    witnesses_whole c.loop-at.bank c.args.self.now.theory.constants.now c.args.types.now c.args.values.now (variable_types c.args.query.now) c.loop-at.at (omega (arith, c.loop-at-test.false)) (omega (arith, c.loop-at-test.false, n, c.if-values-query.false, c.args.query.now.vars.ok)) (c.loop-at.invariant.values e a)
+    witnesses_whole c.loop-at.bank c.args.self.now.theory.constants.now c.args.types.now c.args.values.now (variable_types c.args.query.now) c.loop-at.at (omega (arith, c.loop-at-test.false)) (omega (arith, c.loop-at-test.false, n, c.if-values-len.false, c.args.query.now.vars.ok)) (c.loop-at.invariant.values e a)

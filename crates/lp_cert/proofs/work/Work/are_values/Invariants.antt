@@ -10,5 +10,5 @@ invariant-loop-at l = record {
   known : IsKnown l.bank l.self.known;
   eigens : l.self.eigens ≡ l.fn.self.eigens;
   theory : l.self.theory ≡ l.fn.self.theory;
-  values : l.fn.self.eigens.items ≡ [] → AreInside (length l.fn.bank.types) l.fn.types.now → AreWitnessesIn l.bank l.fn.self.theory.constants.now l.fn.types.now (take l.at l.fn.values.now) (take l.at (variable_types l.fn.query.now));
+  values : l.fn.self.eigens.items ≡ [] → AreInside (length l.fn.bank.types) l.fn.types → AreWitnessesIn l.bank l.fn.self.theory.constants.now l.fn.types (take l.at l.fn.values) (take l.at (variable_types l.fn.query));
 }
