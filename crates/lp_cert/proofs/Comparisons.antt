@@ -57,7 +57,7 @@ hold_append : (θ : ℕ → Ty) (es fs : List Equation) → AllHold θ (es ++ fs
 hold_append θ [] fs h = (tt, h)
 hold_append θ (e ∷ es) fs h = let r = hold_append θ es fs h.1 in ((h.0, r.0), r.1)
 
-hold_reversed : (θ : ℕ → Ty) (es : List Equation) → AllHold θ (reverse es) → AllHold θ es
+pub hold_reversed : (θ : ℕ → Ty) (es : List Equation) → AllHold θ (reverse es) → AllHold θ es
 hold_reversed θ [] h = tt
 hold_reversed θ (e ∷ es) h = let r = hold_append θ (reverse es) (e ∷ []) (subst (AllHold θ) (reverse-append (e ∷ []) es) h) in (r.1.0, hold_reversed θ es r.0)
 

@@ -3,5 +3,12 @@ mod Closing
 mod Comparisons
 mod Fitting
 mod Marking
+mod Naming
 mod Verdicts
 mod Wider
+mod Applying
+mod Deriving
+mod Filled
+mod Later
+mod Shaped
+mod Witnesses

@@ -26,6 +26,12 @@ certificate_of b c = record {
   nodes = map (node_of b) c.proof.items;
 }
 
+-- as many closed types as the query has type variables, and values that may stand for its variables
+pub record Names (d : Declared) (q : Query) (c : Certificate) : Type 0 where
+  pub types : length c.instance.types ≡ q.type_vars
+  pub types_closed : AreClosed c.instance.types
+  pub values : AreWitnesses d c.instance.values (map (instance (type_at c.instance.types)) q.vars)
+
 -- declared types of constants, and clauses
 pub record Ground : Type 0 where
   pub declared : Declared

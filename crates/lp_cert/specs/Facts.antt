@@ -1,9 +1,10 @@
 -- What is known of each type and each term of a bank.
-use Rattle.std.specs.Prelude.{◌≡◌, ℕ, suc, ◌-◌, ◌<◌, ◌≤◌, max, List, [], ◌∷◌, length, get_or, Bool, true, false, ◌&&◌}
+use Rattle.std.specs.Prelude.{◌≡◌, ℕ, suc, ◌-◌, ◌<◌, ◌≤◌, max, List, [], ◌∷◌, length, get_or, All, Bool, true, false, ◌&&◌}
 use Rattle.lp_calculus.specs.Types.{Ty, Tys, var, param as type_param, con, arrow, no_types, types}
 use Rattle.lp_calculus.specs.Term.{Term, Atom, index, atom, abs, app, constant, integer, text, eigen, logic, param}
 use Rattle.lp_standard.specs.Positive.{is_positive}
 use Rattle.lp_term.specs.Nodes.{Nodes, tree, type_tree}
+use Rattle.lp_term.specs.declared.node.TypeId.{TypeId}
 use Rattle.lp_cert.specs.declared.known.Facts.{Facts}
 use Rattle.lp_cert.specs.declared.known.Known.{Known}
 
@@ -88,3 +89,7 @@ pub record IsKnown (b : Nodes) (k : Known) : Type 0 where
   pub few_terms : length k.terms.items ≤ length b.terms
   pub types : (i : ℕ) → i < length k.types.items → get_or k.types.items i false ≡ is_closed_type (type_tree b i)
   pub terms : (i : ℕ) → i < length k.terms.items → AreFacts (get_or k.terms.items i no_facts) (tree b i)
+
+-- these types are among the first so many
+abbrev pub AreInside : ℕ → List TypeId → Type 0
+AreInside n ids = All (λ t. t.0 < n) ids

@@ -4,3 +4,4 @@ pub mod Filling
 pub mod Same
 pub mod Written
 pub mod Shape
+pub mod inner

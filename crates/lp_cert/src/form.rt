@@ -49,7 +49,7 @@ pub(crate) fn form_of(alloc: Global, bank: &mut Bank, term: TermId) -> Result<Fo
     }
 }
 
-fn is_inside(bank: &Bank, term: TermId) -> bool
+pub(crate) fn is_inside(bank: &Bank, term: TermId) -> bool
     ensures { result ≡ true → term.0 < length bank.now.terms }
 {
     term.0 < bank.term_count()

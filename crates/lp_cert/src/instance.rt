@@ -1,5 +1,12 @@
 // Types put in for type variables, and values for the variables of a query.
-ghost use Rattle.lp_term.specs.Nodes.{Extends};
+ghost use Rattle.std.specs.Prelude.{◌≡◌, ◌<◌, length, IfOk};
+ghost use Rattle.lp_calculus.specs.Types.{instance};
+ghost use Rattle.lp_calculus.specs.Typing.{o_type};
+ghost use Rattle.lp_calculus.specs.Typing as typing;
+ghost use Rattle.lp_calculus.specs.Instance.{instance_term};
+ghost use Rattle.lp_term.specs.Nodes.{Extends, Nodes, tree, type_tree};
+ghost use Rattle.lp_cert.specs.Facts.{AreInside};
+ghost use Rattle.lp_cert.specs.Same.{types_in};
 
 use lp_base::Memory;
 use lp_standard::Kind;
@@ -42,7 +49,9 @@ impl Mapping for Filling<'_> {
 
 // `o`, which stands for the type variables that are too many.
 pub(crate) fn put_proposition(bank: &mut Bank) -> Result<TypeId, Memory>
-    ensures { Extends bank.old bank.new }
+    ensures kept { Extends bank.old bank.new }
+    ensures within { IfOk result (λ made. made.0 < length bank.new.types) }
+    ensures tree { IfOk result (λ made. type_tree bank.new made.0 ≡ o_type) }
 {
     put_constructor(bank, Kind::Proposition.number(), &[])
 }
@@ -54,7 +63,9 @@ pub(crate) fn term_at(
     types: &[TypeId],
     term: TermId,
 ) -> Result<TermId, Memory>
-    ensures { Extends bank.old bank.new }
+    ensures kept { Extends bank.old bank.new }
+    ensures within { IfOk result (λ made. made.0 < length bank.new.terms) }
+    ensures tree { IfOk result (λ made. AreInside (length bank.old.types) types.now → term.0 < length bank.old.terms → (b : Nodes) → Extends bank.new b → tree b made.0 ≡ instance_term (typing.type_at (types_in b types.now)) (tree b term.0)) }
 {
     let other = put_proposition(bank)?;
     let filling = Filling { types, other };
@@ -70,7 +81,9 @@ pub(crate) fn type_at(
     types: &[TypeId],
     of: TypeId,
 ) -> Result<TypeId, Memory>
-    ensures { Extends bank.old bank.new }
+    ensures kept { Extends bank.old bank.new }
+    ensures within { IfOk result (λ made. made.0 < length bank.new.types) }
+    ensures tree { IfOk result (λ made. AreInside (length bank.old.types) types.now → of.0 < length bank.old.types → (b : Nodes) → Extends bank.new b → type_tree b made.0 ≡ instance (typing.type_at (types_in b types.now)) (type_tree b of.0)) }
 {
     let other = put_proposition(bank)?;
     let filling = Filling { types, other };
@@ -86,7 +99,7 @@ fn put_value(
     term: TermId,
     value: TermId,
 ) -> Result<Option<TermId>, Memory>
-    ensures { Extends bank.old bank.new }
+    ensures kept { Extends bank.old bank.new }
 {
     if term.0 >= bank.term_count() || value.0 >= bank.term_count() {
         return Ok(None);
@@ -105,7 +118,7 @@ pub(crate) fn put_values(
     term: TermId,
     values: &[TermId],
 ) -> Result<Option<TermId>, Memory>
-    ensures { Extends bank.old bank.new }
+    ensures kept { Extends bank.old bank.new }
 {
     let mut made = term;
     for value in values.iter().rev() {

@@ -1,9 +1,14 @@
 // The judging of certificates.
-ghost use Rattle.std.specs.Prelude.{OnOk};
+ghost use Rattle.std.specs.Prelude.{◌≡◌, ◌≤◌, ◌-◌, [], All, IfOk, IfSome, OnOk, length, take, true};
 ghost use Rattle.lp_term.specs.Nodes.{Extends};
-ghost use Rattle.lp_cert.specs.Facts.{IsKnown};
+ghost use Rattle.lp_cert.specs.Certified.{Names, certificate_of, query_of};
+ghost use Rattle.lp_cert.specs.Facts.{AreInside, IsKnown};
+ghost use Rattle.lp_model.specs.Readings.{declared_by};
+ghost use Rattle.lp_cert.specs.inner.Named.{AreWitnessesIn, IsNamedIn, NamesIn, variable_types};
 
 use crate::instance::{put_values, term_at, type_at};
+use crate::known::Known;
+use crate::typing::is_type_inside;
 use crate::work::{Task, Theory, Turn, Work};
 use lp_base::Memory;
 use lp_model::{Certificate, ProofNode, Typed};
@@ -33,14 +38,19 @@ impl Work<'_> {
         requires known { IsKnown bank.old self.old.known }
         ensures kept { Extends bank.old bank.new }
         ensures known { OnOk result (IsKnown bank.new self.new.known) }
+        ensures values { IfOk result (λ yes. yes ≡ true → self.old.eigens.items ≡ [] → AreInside (length bank.old.types) types.now → AreWitnessesIn bank.new self.old.theory.constants.now types.now values.now (variable_types query.now)) }
     {
         if values.len() != query.vars.len() {
             return Ok(false);
         }
         for at in 0..values.len() {
-            let (_, of) = query.vars[at];
-            let of = type_at(self.alloc, bank, types, of)?;
-            if !self.is_witness(bank, values[at], of)? {
+            let of = query.vars[at].1;
+            if !is_type_inside(bank, of) {
+                return Ok(false);
+            }
+            let made = type_at(self.alloc, bank, types, of)?;
+            let value = values[at];
+            if !self.is_witness(bank, value, made)? {
                 return Ok(false);
             }
         }
@@ -58,6 +68,7 @@ impl Work<'_> {
         requires known { IsKnown bank.old self.old.known }
         ensures kept { Extends bank.old bank.new }
         ensures known { OnOk result (IsKnown bank.new self.new.known) }
+        ensures named { IfOk result (λ found. IfSome found (λ goal. self.old.eigens.items ≡ [] → IsNamedIn bank.new self.old.theory.constants.now query.now types.now values.now)) }
     {
         if types.len() as u64 != query.type_vars {
             return Ok(None);
@@ -112,10 +123,12 @@ impl Work<'_> {
         requires known { IsKnown bank.old self.old.known }
         ensures kept { Extends bank.old bank.new }
         ensures known { OnOk result (IsKnown bank.new self.new.known) }
+        ensures named { IfOk result (λ turn. turn ≡ Turn.On → self.old.eigens.items ≡ [] → NamesIn bank.new self.old.theory.constants.now query.now certificate.now) }
     {
         let types = certificate.types.as_slice();
         let values = certificate.values.as_slice();
-        match self.instance(bank, query, types, values)? {
+        let found = self.instance(bank, query, types, values)?;
+        match found {
             Some(goal) => self.proves(bank, goal, certificate.proof.as_slice()),
             None => Ok(Turn::No),
         }
@@ -130,13 +143,18 @@ fn judge(
     query: &Typed,
     certificates: &[Certificate],
 ) -> Result<CheckVerdict, Memory>
-    ensures { Extends bank.old bank.new }
+    ensures kept { Extends bank.old bank.new }
+    ensures accepted { IfOk result (λ v. v ≡ CheckVerdict.Accepted → All (NamesIn bank.new names.now.program.constants.items query.now) certificates.now) }
 {
-    let mut work = Work::new(alloc, Theory::of(names));
+    let theory = Theory::of(names);
+    let mut known = Known::new(alloc);
     let mut number = 0u32;
     for certificate in certificates {
         number = number.saturating_add(1);
-        match work.certifies(bank, query, certificate)? {
+        let mut work = Work::new(alloc, theory, known);
+        let turn = work.certifies(bank, query, certificate)?;
+        known = work.known;
+        match turn {
             Turn::On => {}
             Turn::No => return Ok(CheckVerdict::Rejected(number)),
             Turn::Deep => return Ok(CheckVerdict::Deep(number)),
@@ -154,6 +172,7 @@ pub fn check(
     certificates: &[Certificate],
 ) -> Result<CheckVerdict, Memory>
     ensures kept { Extends names.old.program.bank names.new.program.bank }
+    ensures accepted { IfOk result (λ v. v ≡ CheckVerdict.Accepted → All (λ c. Names (declared_by names.new.program.bank names.new.program.constants.items) (query_of names.new.program.bank query.now) (certificate_of names.new.program.bank c)) certificates.now) }
 {
     let mut bank = replace(&mut names.program.bank, Bank::new(alloc));
     let verdict = judge(alloc, &mut bank, names, query, certificates);

@@ -1,5 +1,13 @@
 // The declared types of constants, with types for their type variables.
-ghost use Rattle.lp_term.specs.Nodes.{Extends};
+ghost use Rattle.std.specs.Prelude.{◌≡◌, ◌<◌, Some, length, map, IfOk, IfSome};
+ghost use Rattle.lp_calculus.specs.Types.{arrow, con, instance, tys};
+ghost use Rattle.lp_calculus.specs.Typing as typing;
+ghost use Rattle.lp_standard.specs.Kinds as kinds;
+ghost use Rattle.lp_standard.specs.Schemes.{part_type, scheme, shape_type};
+ghost use Rattle.lp_term.specs.Nodes.{Extends, Nodes, type_tree};
+ghost use Rattle.lp_model.specs.Readings.{declared_by, scheme_of};
+ghost use Rattle.lp_cert.specs.Facts.{AreInside};
+ghost use Rattle.lp_cert.specs.Same.{types_in};
 
 use crate::instance::type_at;
 use lp_base::Memory;
@@ -9,14 +17,18 @@ use lp_term::{Bank, TypeId, put_arrow, put_constructor};
 use std::alloc::Global;
 
 fn put_kind(bank: &mut Bank, kind: Kind, parts: &[TypeId]) -> Result<TypeId, Memory>
-    ensures { Extends bank.old bank.new }
+    ensures kept { Extends bank.old bank.new }
+    ensures within { IfOk result (λ made. made.0 < length bank.new.types) }
+    ensures tree { IfOk result (λ made. type_tree bank.new made.0 ≡ con (kinds.number kind) (tys (map (λ t. type_tree bank.old t.0) parts.now))) }
 {
     put_constructor(bank, kind.number(), parts)
 }
 
 // The type for `A`, or `o` where there is none.
 fn only(bank: &mut Bank, types: &[TypeId]) -> Result<TypeId, Memory>
-    ensures { Extends bank.old bank.new }
+    ensures kept { Extends bank.old bank.new }
+    ensures within { IfOk result (λ made. AreInside (length bank.old.types) types.now → made.0 < length bank.new.types) }
+    ensures later { IfOk result (λ made. AreInside (length bank.old.types) types.now → (b : Nodes) → Extends bank.new b → type_tree b made.0 ≡ typing.type_at (types_in b types.now) 0) }
 {
     match types.first() {
         Some(of) => Ok(*of),
@@ -25,7 +37,9 @@ fn only(bank: &mut Bank, types: &[TypeId]) -> Result<TypeId, Memory>
 }
 
 fn put_part(bank: &mut Bank, part: Part, types: &[TypeId]) -> Result<TypeId, Memory>
-    ensures { Extends bank.old bank.new }
+    ensures kept { Extends bank.old bank.new }
+    ensures within { IfOk result (λ made. AreInside (length bank.old.types) types.now → made.0 < length bank.new.types) }
+    ensures later { IfOk result (λ made. AreInside (length bank.old.types) types.now → (b : Nodes) → Extends bank.new b → type_tree b made.0 ≡ instance (typing.type_at (types_in b types.now)) (part_type part)) }
 {
     match part {
         Part::Proposition => put_kind(bank, Kind::Proposition, &[]),
@@ -45,7 +59,9 @@ fn put_part(bank: &mut Bank, part: Part, types: &[TypeId]) -> Result<TypeId, Mem
 }
 
 fn put_function(bank: &mut Bank, from: Part, to: TypeId, types: &[TypeId]) -> Result<TypeId, Memory>
-    ensures { Extends bank.old bank.new }
+    ensures kept { Extends bank.old bank.new }
+    ensures within { IfOk result (λ made. made.0 < length bank.new.types) }
+    ensures later { IfOk result (λ made. AreInside (length bank.old.types) types.now → to.0 < length bank.old.types → (b : Nodes) → Extends bank.new b → type_tree b made.0 ≡ arrow (instance (typing.type_at (types_in b types.now)) (part_type from)) (type_tree b to.0)) }
 {
     let from = put_part(bank, from, types)?;
     put_arrow(bank, from, to)
@@ -53,7 +69,9 @@ fn put_function(bank: &mut Bank, from: Part, to: TypeId, types: &[TypeId]) -> Re
 
 // The type of a fixed constant.
 fn put_shape(bank: &mut Bank, shape: Shape, types: &[TypeId]) -> Result<TypeId, Memory>
-    ensures { Extends bank.old bank.new }
+    ensures kept { Extends bank.old bank.new }
+    ensures within { IfOk result (λ made. AreInside (length bank.old.types) types.now → made.0 < length bank.new.types) }
+    ensures later { IfOk result (λ made. AreInside (length bank.old.types) types.now → (b : Nodes) → Extends bank.new b → type_tree b made.0 ≡ instance (typing.type_at (types_in b types.now)) (shape_type shape)) }
 {
     match shape {
         Shape::Value(part) => put_part(bank, part, types),
@@ -74,7 +92,8 @@ fn standard_type(
     constant: Constant,
     types: &[TypeId],
 ) -> Result<Option<TypeId>, Memory>
-    ensures { Extends bank.old bank.new }
+    ensures kept { Extends bank.old bank.new }
+    ensures type_is { IfOk result (λ found. IfSome found (λ made. AreInside (length bank.old.types) types.now → (b : Nodes) → Extends bank.new b → typing.scheme_type (types_in b types.now) (scheme constant) ≡ Some (type_tree b made.0))) }
 {
     let Some(shape) = constant.shape() else {
         return Ok(None);
@@ -92,9 +111,13 @@ fn declared_type(
     declared: &Declared,
     types: &[TypeId],
 ) -> Result<Option<TypeId>, Memory>
-    ensures { Extends bank.old bank.new }
+    ensures kept { Extends bank.old bank.new }
+    ensures type_is { IfOk result (λ found. IfSome found (λ made. AreInside (length bank.old.types) types.now → (b : Nodes) → Extends bank.new b → typing.scheme_type (types_in b types.now) (Some (scheme_of b declared.now)) ≡ Some (type_tree b made.0))) }
 {
     if types.len() != usize::from(declared.type_vars) {
+        return Ok(None);
+    }
+    if declared.scheme.0 >= bank.type_count() {
         return Ok(None);
     }
     let made = type_at(alloc, bank, types, declared.scheme)?;
@@ -109,7 +132,8 @@ pub(crate) fn constant_type(
     constant: u32,
     types: &[TypeId],
 ) -> Result<Option<TypeId>, Memory>
-    ensures { Extends bank.old bank.new }
+    ensures kept { Extends bank.old bank.new }
+    ensures type_is { IfOk result (λ found. IfSome found (λ made. AreInside (length bank.old.types) types.now → (b : Nodes) → Extends bank.new b → typing.scheme_type (types_in b types.now) (declared_by b constants.now constant) ≡ Some (type_tree b made.0))) }
 {
     if constant < FIRST_CONSTANT {
         return match Constant::from_number(constant) {

@@ -1,11 +1,20 @@
 // Whether a closed term has a type: the equations of its nodes have a solution.
-ghost use Rattle.std.specs.Prelude.{◌≡◌, ℕ, length, All, IfOk, OnOk, true};
-ghost use Rattle.lp_calculus.specs.Types.{Ty, var};
+ghost use Rattle.std.specs.Prelude.{◌≡◌, ◌<◌, ℕ, List, [], ◌∷◌, length, map, All, IfOk, OnOk, true};
+ghost use Rattle.lp_calculus.specs.Types.{Ty, var, con, no_types};
+ghost use Rattle.lp_calculus.specs.Term.{apply, index, atom, abs, constant, eigen};
+ghost use Rattle.lp_calculus.specs.Closed.{IsClosedType};
+ghost use Rattle.lp_calculus.specs.Typing.{Typed};
+ghost use Rattle.lp_standard.specs.Kinds as kinds;
 ghost use Rattle.lp_type_laws.specs.Equations.{AllHold};
-ghost use Rattle.lp_term.specs.Nodes.{Extends, type_tree};
+ghost use Rattle.lp_term.specs.Nodes.{Extends, Nodes, tree, type_tree};
+ghost use Rattle.lp_model.specs.Proofs.{under};
+ghost use Rattle.lp_model.specs.Readings.{declared_by};
 ghost use Rattle.lp_type_unify.specs.Reading.{IsPair, read_pairs};
-ghost use Rattle.lp_cert.specs.Facts.{IsKnown};
+ghost use Rattle.lp_cert.specs.Facts.{AreInside, IsKnown};
+ghost use Rattle.lp_cert.specs.Same.{types_in};
+ghost use Rattle.lp_cert.specs.inner.Derives.{Applies, Derives, IsGrown, IsPushed, Moves, Pushes, Solves, Taken, applying, closing, filled_types, step_of, visiting};
 
+use crate::form::is_inside;
 use crate::known::Known;
 use crate::schemes::constant_type;
 use lp_base::Memory;
@@ -38,9 +47,18 @@ struct Typing<'a, 'b> {
     next: u64,
 }
 
+// Whether a type stands in the bank.
+pub(crate) fn is_type_inside(bank: &Bank, of: TypeId) -> bool
+    ensures { result ≡ true → of.0 < length bank.now.types }
+{
+    of.0 < bank.type_count()
+}
+
 impl Typing<'_, '_> {
     fn new_variable(&mut self, bank: &mut Bank) -> Result<TypeId, Memory>
-        ensures { Extends bank.old bank.new }
+        ensures kept { Extends bank.old bank.new }
+        ensures within { IfOk result (λ made. made.0 < length bank.new.types) }
+        ensures grown { OnOk result (IsGrown self.old self.new) }
     {
         let number = self.next;
         let Some(next) = number.checked_add(1) else {
@@ -55,6 +73,7 @@ impl Typing<'_, '_> {
     fn closed(&mut self, known: &mut Known, bank: &Bank, of: TypeId) -> Result<bool, Memory>
         requires known { IsKnown bank.now known.old }
         ensures known { OnOk result (IsKnown bank.now known.new) }
+        ensures pushes { IfOk result (λ yes. yes ≡ true → Pushes bank.now self.old self.new (λ b. type_tree b of.0)) }
     {
         if !known.is_closed_type(bank, of)? {
             return Ok(false);
@@ -63,12 +82,14 @@ impl Typing<'_, '_> {
         Ok(true)
     }
 
-    fn index(&mut self, index: u64) -> Result<bool, Memory> {
+    fn index(&mut self, at: u64) -> Result<bool, Memory>
+        ensures moves { IfOk result (λ yes. yes ≡ true → (now : Nodes) → Moves now self.old self.new (λ b. visiting (index at))) }
+    {
         let count = self.context.len() as u64;
-        if index >= count {
+        if at >= count {
             return Ok(false);
         }
-        let of = self.context[(count - 1 - index) as usize];
+        let of = self.context[(count - 1 - at) as usize];
         self.stack.push(of)?;
         Ok(true)
     }
@@ -77,14 +98,16 @@ impl Typing<'_, '_> {
         &mut self,
         known: &mut Known,
         bank: &mut Bank,
-        constant: u32,
+        number: u32,
         types: &[TypeId],
     ) -> Result<bool, Memory>
         requires known { IsKnown bank.old known.old }
         ensures kept { Extends bank.old bank.new }
         ensures known { OnOk result (IsKnown bank.new known.new) }
+        ensures moves { IfOk result (λ yes. yes ≡ true → AreInside (length bank.old.types) types.now → Moves bank.new self.old self.new (λ b. visiting (atom (constant number (types_in b types.now))))) }
     {
-        match constant_type(self.alloc, bank, self.constants, constant, types)? {
+        let found = constant_type(self.alloc, bank, self.constants, number, types)?;
+        match found {
             Some(of) => self.closed(known, bank, of),
             None => Ok(false),
         }
@@ -94,6 +117,7 @@ impl Typing<'_, '_> {
         requires known { IsKnown bank.old known.old }
         ensures kept { Extends bank.old bank.new }
         ensures known { OnOk result (IsKnown bank.new known.new) }
+        ensures pushes { IfOk result (λ yes. yes ≡ true → Pushes bank.new self.old self.new (λ b. con (kinds.number kind) no_types)) }
     {
         let of = put_constructor(bank, kind.number(), &[])?;
         self.closed(known, bank, of)
@@ -102,18 +126,20 @@ impl Typing<'_, '_> {
     fn eigen(&mut self, known: &mut Known, bank: &Bank, level: u64) -> Result<bool, Memory>
         requires known { IsKnown bank.now known.old }
         ensures known { OnOk result (IsKnown bank.now known.new) }
+        ensures moves { IfOk result (λ yes. yes ≡ true → Moves bank.now self.old self.new (λ b. visiting (atom (eigen level)))) }
     {
-        let Some(place) = level.checked_sub(1) else {
+        if level == 0 {
             return Ok(false);
-        };
-        match self.eigens.get(place as usize) {
+        }
+        match self.eigens.get((level - 1) as usize) {
             Some(of) => self.closed(known, bank, *of),
             None => Ok(false),
         }
     }
 
     fn abstraction(&mut self, bank: &mut Bank, body: TermId) -> Result<bool, Memory>
-        ensures { Extends bank.old bank.new }
+        ensures kept { Extends bank.old bank.new }
+        ensures moves { IfOk result (λ yes. yes ≡ true → Moves bank.new self.old self.new (λ b. visiting (abs (tree b body.0)))) }
     {
         let from = self.new_variable(bank)?;
         self.context.push(from)?;
@@ -122,10 +148,13 @@ impl Typing<'_, '_> {
         Ok(true)
     }
 
-    fn application(&mut self, head: TermId, arguments: &[TermId]) -> Result<bool, Memory> {
-        for argument in arguments.iter().rev() {
+    fn application(&mut self, head: TermId, arguments: &[TermId]) -> Result<bool, Memory>
+        ensures moves { IfOk result (λ yes. yes ≡ true → (now : Nodes) → Moves now self.old self.new (λ b. visiting (apply (tree b head.0) (map (λ t. tree b t.0) arguments.now)))) }
+    {
+        for at in 0..arguments.len() {
+            let argument = arguments[arguments.len() - 1 - at];
             self.tasks.push(Task::Apply)?;
-            self.tasks.push(Task::Visit(*argument))?;
+            self.tasks.push(Task::Visit(argument))?;
         }
         self.tasks.push(Task::Visit(head))?;
         Ok(true)
@@ -135,12 +164,16 @@ impl Typing<'_, '_> {
         requires known { IsKnown bank.old known.old }
         ensures kept { Extends bank.old bank.new }
         ensures known { OnOk result (IsKnown bank.new known.new) }
+        ensures moves { IfOk result (λ yes. yes ≡ true → Moves bank.new self.old self.new (λ b. visiting (tree b term.0))) }
     {
+        if !is_inside(bank, term) {
+            return Ok(false);
+        }
         match bank.term_node(term) {
-            TermNode::Index(index) => self.index(index),
-            TermNode::Const(constant, types) => {
-                let types = Vec::from_slice(self.alloc, types)?;
-                self.constant(known, bank, constant, types.as_slice())
+            TermNode::Index(at) => self.index(at),
+            TermNode::Const(number, types) => {
+                let copy = Vec::from_slice(self.alloc, types)?;
+                self.constant(known, bank, number, copy.as_slice())
             }
             TermNode::Int(_) => self.kind(known, bank, Kind::Integer),
             TermNode::Text(_) => self.kind(known, bank, Kind::String),
@@ -153,7 +186,8 @@ impl Typing<'_, '_> {
     }
 
     fn close(&mut self, bank: &mut Bank) -> Result<bool, Memory>
-        ensures { Extends bank.old bank.new }
+        ensures kept { Extends bank.old bank.new }
+        ensures moves { IfOk result (λ yes. yes ≡ true → Moves bank.new self.old self.new (λ b. closing)) }
     {
         let Some(to) = self.stack.pop() else {
             return Ok(false);
@@ -161,22 +195,33 @@ impl Typing<'_, '_> {
         let Some(from) = self.context.pop() else {
             return Ok(false);
         };
+        if !is_type_inside(bank, from) {
+            return Ok(false);
+        }
+        if !is_type_inside(bank, to) {
+            return Ok(false);
+        }
         let of = put_arrow(bank, from, to)?;
         self.stack.push(of)?;
         Ok(true)
     }
 
     // An equation; two types of one number are equal already.
-    fn equate(&mut self, left: TypeId, right: TypeId) -> Result<(), Memory> {
-        if left.0 != right.0 {
-            self.pairs.push(Pair { left, right })?;
+    fn equate(&mut self, left: TypeId, right: TypeId) -> Result<(), Memory>
+        ensures grown { OnOk result (Taken self.old self.new left right) }
+    {
+        if left.0 == right.0 {
+            return Ok(());
         }
+        self.pairs.push(Pair { left, right })?;
         Ok(())
     }
 
     // A head that may be a function of any type.
     fn apply_any(&mut self, bank: &mut Bank, head: TypeId, argument: TypeId) -> Result<bool, Memory>
-        ensures { Extends bank.old bank.new }
+        requires argument { argument.0 < length bank.old.types }
+        ensures kept { Extends bank.old bank.new }
+        ensures applies { IfOk result (λ yes. yes ≡ true → Applies bank.new self.old self.new head argument) }
     {
         let to = self.new_variable(bank)?;
         let of = put_arrow(bank, argument, to)?;
@@ -186,7 +231,8 @@ impl Typing<'_, '_> {
     }
 
     fn apply(&mut self, bank: &mut Bank) -> Result<bool, Memory>
-        ensures { Extends bank.old bank.new }
+        ensures kept { Extends bank.old bank.new }
+        ensures moves { IfOk result (λ yes. yes ≡ true → Moves bank.new self.old self.new (λ b. applying)) }
     {
         let Some(argument) = self.stack.pop() else {
             return Ok(false);
@@ -194,6 +240,9 @@ impl Typing<'_, '_> {
         let Some(head) = self.stack.pop() else {
             return Ok(false);
         };
+        if !is_type_inside(bank, argument) {
+            return Ok(false);
+        }
         match bank.type_node(head) {
             TypeNode::Arrow(from, to) => {
                 self.equate(from, argument)?;
@@ -208,6 +257,7 @@ impl Typing<'_, '_> {
         requires known { IsKnown bank.old known.old }
         ensures kept { Extends bank.old bank.new }
         ensures known { OnOk result (IsKnown bank.new known.new) }
+        ensures moves { IfOk result (λ yes. yes ≡ true → Moves bank.new self.old self.new (λ b. step_of b task)) }
     {
         match task {
             Task::Visit(term) => self.visit(known, bank, term),
@@ -221,6 +271,7 @@ impl Typing<'_, '_> {
         requires known { IsKnown bank.old known.old }
         ensures kept { Extends bank.old bank.new }
         ensures known { OnOk result (IsKnown bank.new known.new) }
+        ensures derives { IfOk result (λ yes. yes ≡ true → (b : Nodes) → Extends bank.new b → (θ : ℕ → Ty) → (T : Ty) → (R : List Ty) → Solves b θ self.new.pairs.items → filled_types b θ self.new.stack.items ≡ T ∷ R → Derives b θ self.old T) }
     {
         for _ in 0..u64::MAX {
             let Some(task) = self.tasks.pop() else {
@@ -251,7 +302,8 @@ fn are_pairs(bank: &Bank, pairs: &[Pair]) -> bool
 
 // Whether the pairs have a solution; they have none where a type is not in the bank.
 pub(crate) fn have_solution(alloc: Global, bank: &Bank, pairs: &[Pair]) -> Result<bool, Memory>
-    ensures { IfOk result (λ yes. yes ≡ true → (θ : ℕ → Ty) × AllHold θ (read_pairs (type_tree bank.now) var pairs.now)) }
+    ensures inside { IfOk result (λ yes. yes ≡ true → All (IsPair (length bank.now.types)) pairs.now) }
+    ensures solved { IfOk result (λ yes. yes ≡ true → (θ : ℕ → Ty) × AllHold θ (read_pairs (type_tree bank.now) var pairs.now)) }
 {
     if !are_pairs(bank, pairs) {
         return Ok(false);
@@ -275,6 +327,7 @@ pub(crate) fn has_type(
     requires known { IsKnown bank.old known.old }
     ensures kept { Extends bank.old bank.new }
     ensures known { OnOk result (IsKnown bank.new known.new) }
+    ensures typed { IfOk result (λ yes. yes ≡ true → IsClosedType (type_tree bank.old of.0) → (b : Nodes) → Extends bank.new b → Typed (under (declared_by b constants.now) (types_in b eigens.now)) [] (tree b term.0) (type_tree b of.0)) }
 {
     let mut typing = Typing {
         alloc,

@@ -1,10 +1,11 @@
 // What is still to be shown.
-ghost use Rattle.std.specs.Prelude.{◌≡◌, length, IfOk, OnOk, true};
+ghost use Rattle.std.specs.Prelude.{◌≡◌, [], length, IfOk, OnOk, true};
 ghost use Rattle.lp_term.specs.Nodes.{Extends, Nodes, tree};
 ghost use Rattle.lp_calculus.specs.Closed.{IsClosedAt};
 ghost use Rattle.lp_calculus.specs.Convert.{Converts};
 ghost use Rattle.lp_standard.specs.Positive.{is_positive};
 ghost use Rattle.lp_cert.specs.Facts.{IsKnown};
+ghost use Rattle.lp_cert.specs.inner.Named.{IsOf, IsWitnessIn};
 
 use crate::form::{Compared, compare};
 use crate::known::Known;
@@ -51,7 +52,9 @@ pub(crate) struct Work<'a> {
 }
 
 impl<'a> Theory<'a> {
-    pub(crate) fn of(names: &'a Assembled) -> Theory<'a> {
+    pub(crate) fn of(names: &'a Assembled) -> Theory<'a>
+        ensures { result.constants.now ≡ names.now.program.constants.items }
+    {
         Theory {
             constants: names.program.constants.as_slice(),
             clauses: names.program.clauses.as_slice(),
@@ -61,13 +64,15 @@ impl<'a> Theory<'a> {
 
 impl<'a> Work<'a> {
     // Nothing is left to do.
-    pub(crate) fn new(alloc: Global, theory: Theory<'a>) -> Work<'a>
-        ensures known { (b : Nodes) → IsKnown b result.known }
+    pub(crate) fn new(alloc: Global, theory: Theory<'a>, known: Known) -> Work<'a>
+        ensures theory { result.theory ≡ theory.entry }
+        ensures known { result.known ≡ known }
+        ensures eigens { result.eigens.items ≡ [] }
     {
         Work {
             alloc,
             theory,
-            known: Known::new(alloc),
+            known,
             eigens: Vec::new(alloc),
             assumed: Vec::new(alloc),
             tasks: Vec::new(alloc),
@@ -91,6 +96,9 @@ impl<'a> Work<'a> {
         requires known { IsKnown bank.old self.old.known }
         ensures kept { Extends bank.old bank.new }
         ensures known { OnOk result (IsKnown bank.new self.new.known) }
+        ensures eigens { OnOk result (self.new.eigens ≡ self.old.eigens) }
+        ensures theory { OnOk result (self.new.theory ≡ self.old.theory) }
+        ensures typed { IfOk result (λ yes. yes ≡ true → (b : Nodes) → Extends bank.new b → IsOf b self.old term of) }
         ensures closed { IfOk result (λ yes. yes ≡ true → IsClosedAt (length self.old.eigens.items) (tree bank.old term.0)) }
     {
         let level = self.level();
@@ -121,6 +129,9 @@ impl<'a> Work<'a> {
         requires known { IsKnown bank.old self.old.known }
         ensures kept { Extends bank.old bank.new }
         ensures known { OnOk result (IsKnown bank.new self.new.known) }
+        ensures eigens { OnOk result (self.new.eigens ≡ self.old.eigens) }
+        ensures theory { OnOk result (self.new.theory ≡ self.old.theory) }
+        ensures witness { IfOk result (λ yes. yes ≡ true → (b : Nodes) → Extends bank.new b → IsWitnessIn b self.old term of) }
         ensures closed { IfOk result (λ yes. yes ≡ true → IsClosedAt (length self.old.eigens.items) (tree bank.old term.0)) }
         ensures positive { IfOk result (λ yes. yes ≡ true → is_positive (tree bank.old term.0) ≡ true) }
     {

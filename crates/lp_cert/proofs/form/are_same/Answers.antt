@@ -14,4 +14,4 @@ loop-preserved c = record {
 pub returns-in_default-clause-same : goal.returns-in_default-clause-same
 returns-in_default-clause-same c =
     same_solved c.args.bank.now c.loop.comparing.types.items _ c.loop.comparing.terms.items _ _ c.have_solution.result c.as_slice.ensures.value
-    (nothing c.loop.comparing.terms.items (omega (arith, c.in_default.ensures.cases.0, c.loop.comparing.terms.ok))) c.loop.invariant.closed c.loop.invariant.leads c.have_solution.ensures
+    (nothing c.loop.comparing.terms.items (omega (arith, c.in_default.ensures.cases.0, c.loop.comparing.terms.ok))) c.loop.invariant.closed c.loop.invariant.leads c.have_solution.ensures.solved

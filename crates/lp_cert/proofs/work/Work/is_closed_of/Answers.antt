@@ -1,6 +1,8 @@
-use Rattle.std.proofs.Common.{◌≡◌, length, subst, true}
+use Rattle.std.proofs.Common.{◌≡◌, ◌∙◌, length, subst, sym, true}
 use Rattle.lp_calculus.specs.Closed.{IsClosedAt}
-use Rattle.lp_term.specs.Nodes.{tree}
+use Rattle.lp_term.specs.Nodes.{tree, type_tree}
+use Rattle.lp_cert.proofs.Closing.{type_is_closed}
+use Rattle.lp_cert.proofs.Naming.{of_closed}
 use Rattle.lp_cert.proofs.Verdicts.{if_ok_always}
 use Rattle.lp_cert.proofs.work.Work.is_closed_of.Goals as goal
 
@@ -8,3 +10,8 @@ pub returns-clause-closed : goal.returns-clause-closed
 returns-clause-closed c =
     if_ok_always c.has_type.result (λ yes. yes ≡ true → IsClosedAt (length c.args.self.now.eigens.items) (tree c.args.bank.now c.args.term.0))
     (λ yes e. subst (λ n. IsClosedAt n (tree c.args.bank.now c.args.term.0)) c.level-level.ensures (c.in_ok-is_closed_at.ensures.closed c.if-not-branch.false))
+
+pub returns-clause-typed : goal.returns-clause-typed
+returns-clause-typed c =
+    of_closed c.args.bank.now c.has_type.new.bank c.args.self.now c.as_slice.result.now c.level-level.result c.args.term c.args.of c.has_type.result c.as_slice.ensures.value c.level-level.ensures c.has_type.ensures.kept (c.in_ok-is_closed_at.ensures.closed c.if-not-branch.false)
+    (type_is_closed (type_tree c.args.bank.now c.args.of.0) (sym c.in_ok-is_closed_type.ensures.closed ∙ c.if-not-branch-2.false)) c.has_type.ensures.typed

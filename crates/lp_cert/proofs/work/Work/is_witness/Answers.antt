@@ -1,0 +1,7 @@
+use Rattle.std.proofs.Common.{◌∙◌, sym}
+use Rattle.lp_cert.proofs.Naming.{of_positive}
+use Rattle.lp_cert.proofs.work.Work.is_witness.Goals as goal
+
+pub returns-clause-witness : goal.returns-clause-witness
+returns-clause-witness c =
+    of_positive c.args.bank.now c.is_closed_of.new.bank _ _ c.args.term c.args.of c.is_closed_of.result c.is_closed_of.ensures.kept (sym c.in_ok-is_positive.ensures.positive ∙ c.if-not-branch.false) c.is_closed_of.ensures.closed c.is_closed_of.ensures.typed

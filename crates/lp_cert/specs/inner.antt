@@ -1,0 +1,3 @@
+-- What only loops keep.
+pub mod Derives
+pub mod Named
