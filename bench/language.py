@@ -104,7 +104,7 @@ def measure(program, command):
         line = '%-8s %9d steps %8.3f s %10.0f steps/s %7.0f MiB  (%s)' % (name, steps, seconds, steps / seconds, memory, ' '.join(last))
         if shutil.which('elpi'):
             write(folder, 'program.elpi', types + clauses + ['main :- %s.' % goal])
-            seconds, memory, output = run(['elpi', '-no-tc', '-exec', 'main', 'program.elpi'], folder)
+            seconds, memory, output = run(['elpi', '-no-tc', '-test', 'program.elpi'], folder)
             line += '  elpi %.3f s %.0f MiB' % (seconds, memory)
         if prolog and shutil.which('swipl'):
             write(folder, 'program.pl', prolog[0])

@@ -6,8 +6,8 @@ use lp_code::Instr;
 use lp_store::CellId;
 
 impl<'i> Search<'i> {
-    // A type is in its register.
-    fn set_type(&mut self, made: u16, cell: CellId) {
+    /// A type is in its register.
+    pub(crate) fn set_type(&mut self, made: u16, cell: CellId) {
         self.heap.set(self.work.from, made, cell);
     }
 

@@ -9,6 +9,7 @@ ghost use Rattle.lp_machine.specs.Held.{variables_of, ended, failed};
 use crate::answer::answer_of;
 use crate::machine::Machine;
 use crate::outcome::Turn;
+use crate::plan::Plan;
 use crate::search::Search;
 use crate::start::begin;
 use lp_base::Memory;
@@ -47,10 +48,11 @@ fn run<W: Watch>(
 
 impl<'i> Machine<'i> {
     #[tactic(auto, unfolding(crate::specs::Held::variables_of, crate::specs::Held::ended, crate::specs::Held::failed))]
-    /// The search of a query over an image, with these limits of steps and of answers. The query's first record makes its variables, in as many registers from 0.
+    /// The search of a query over an image, of which this is known, with these limits of steps and of answers. The query's first record makes its variables, in as many registers from 0.
     pub fn start(
         alloc: Global,
         image: &'i Verified,
+        plan: &'i Plan,
         query: &'i Code,
         variables: u32,
         steps: u64,
@@ -60,7 +62,7 @@ impl<'i> Machine<'i> {
         requires query { AllFit query.now.records.items }
         ensures variables { IfOk result (λ m. variables_of m ≡ variables) }
     {
-        let (state, made) = begin(alloc, image, query, variables, steps)?;
+        let (state, made) = begin(alloc, image, plan, query, variables, steps)?;
         Ok(Machine {
             state,
             variables: made,

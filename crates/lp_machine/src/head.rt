@@ -7,8 +7,8 @@ use lp_code::Instr;
 use lp_store::CellId;
 
 impl<'i> Search<'i> {
-    // An argument of the goal at hand against a term.
-    fn get(&mut self, number: u8, term: CellId) -> Result<Turn, Memory> {
+    /// An argument of the goal at hand against a term.
+    pub(crate) fn get(&mut self, number: u8, term: CellId) -> Result<Turn, Memory> {
         let argument = self.heap.argument(number);
         self.heap.pair(argument, term, self.work.level)
     }
@@ -19,20 +19,10 @@ impl<'i> Search<'i> {
         self.heap.pair_types(left, right)
     }
 
-    fn get_constant(&mut self, number: u8, constant: u32, types: &[u16]) -> Result<Turn, Memory> {
-        let term = self.heap.put_constant(constant, self.work.from, types)?;
-        self.get(number, term)
-    }
-
     fn get_variable(&mut self, number: u8, made: u16) -> Turn {
         let argument = self.heap.argument(number);
         self.set_term(made, argument);
         Turn::On
-    }
-
-    fn get_integer(&mut self, number: u8, integer: i64) -> Result<Turn, Memory> {
-        let term = self.heap.put_integer(integer)?;
-        self.get(number, term)
     }
 
     fn get_text(&mut self, number: u8, text: &[u8]) -> Result<Turn, Memory> {
@@ -50,9 +40,9 @@ impl<'i> Search<'i> {
                 self.get(*number, term)?
             }
             Instr::GetConst(number, constant, types) => {
-                self.get_constant(*number, *constant, types.as_slice())?
+                self.match_constant(*number, *constant, types.as_slice())?
             }
-            Instr::GetInt(number, integer) => self.get_integer(*number, *integer)?,
+            Instr::GetInt(number, integer) => self.match_integer(*number, *integer)?,
             Instr::GetStr(number, text) => self.get_text(*number, text.as_slice())?,
             Instr::Neck => self.heap.wake()?,
             _ => return Ok(None),

@@ -5,10 +5,14 @@
 mod build;
 // Choice points, and what they keep.
 mod choice;
+// Arguments that heads are matched against.
+mod matched;
 // Terms as goals, keys, values and answers.
 mod look;
 // Registers, and the goal at hand.
 mod registers;
+// How many nodes terms have.
+mod sizes;
 // Cells that stand in the store.
 mod tested;
 // Unification.
@@ -20,6 +24,10 @@ use lp_choice::Choices;
 use lp_impl::Assumptions;
 use lp_store::{CellId, Store};
 use lp_unify::{Delayed, Round};
+use matched::Matched;
+pub(crate) use matched::{Looked, Wanted};
+pub(crate) use sizes::Nodes;
+use sizes::Sizes;
 use std::alloc::Global;
 use std::marker::Model;
 
@@ -40,6 +48,9 @@ pub(crate) struct Heap {
     types: Vec<CellId>,
     arguments: Vec<CellId>,
     gathered: Vec<CellId>,
+    sizes: Sizes,
+    // The types and the arguments of the goal's argument that a head is matched against.
+    matched: Matched,
 }
 
 impl Model for Heap {
@@ -67,6 +78,8 @@ impl Heap {
             types: Vec::new(alloc),
             arguments: Vec::new(alloc),
             gathered: Vec::new(alloc),
+            sizes: Sizes::new(alloc),
+            matched: Matched::new(alloc),
         }
     }
 

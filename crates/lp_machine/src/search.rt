@@ -27,7 +27,7 @@ pub(crate) struct Protected {
 pub(crate) struct Search<'i> {
     pub(crate) alloc: Global,
     pub(crate) program: Program<'i>,
-    pub(crate) layout: Layout,
+    pub(crate) layout: Layout<'i>,
     pub(crate) heap: Heap,
     pub(crate) frames: Vec<Frame>,
     pub(crate) protected: Protected,
@@ -101,6 +101,7 @@ impl<'i> Search<'i> {
     /// Keeps a choice point of the branch as it stands; its goals are the newest frame.
     pub(crate) fn put_choice(&mut self, untried: Untried, goals: usize) -> Result<(), Memory> {
         self.heap.put_choice(self.work.level, goals, untried)?;
+        self.heap.mark_sizes()?;
         self.protect();
         Ok(())
     }
@@ -108,6 +109,7 @@ impl<'i> Search<'i> {
     /// Keeps the oldest choice points. Whether any was removed.
     pub(crate) fn cut(&mut self, height: usize) -> bool {
         let removed = self.heap.cut(height);
+        self.heap.cut_sizes(height);
         self.protect();
         removed
     }
@@ -115,6 +117,7 @@ impl<'i> Search<'i> {
     /// Takes off the newest choice point, and goes back to the store, the assumptions and the level that it keeps.
     pub(crate) fn take_choice(&mut self) -> Option<ChoicePoint> {
         let point = self.heap.take_choice()?;
+        self.heap.forget_sizes();
         self.work.level = point.level;
         self.protect();
         Some(point)

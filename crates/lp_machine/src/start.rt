@@ -6,6 +6,7 @@ use crate::frame::Work;
 use crate::heap::Heap;
 use crate::layout::{Layout, layout_of};
 use crate::outcome::Counts;
+use crate::plan::Plan;
 use crate::program::Program;
 use crate::search::{Protected, Search};
 use lp_base::Memory;
@@ -40,7 +41,12 @@ fn first_registers(state: &Search<'_>, count: u32) -> Result<Vec<CellId>, Memory
 }
 
 // A search before its query, which takes no memory.
-fn new_search<'i>(alloc: Global, program: Program<'i>, layout: Layout, steps: u64) -> Search<'i> {
+fn new_search<'i>(
+    alloc: Global,
+    program: Program<'i>,
+    layout: Layout<'i>,
+    steps: u64,
+) -> Search<'i> {
     Search {
         alloc,
         program,
@@ -67,6 +73,7 @@ fn new_search<'i>(alloc: Global, program: Program<'i>, layout: Layout, steps: u6
 pub(crate) fn begin<'i>(
     alloc: Global,
     image: &'i Verified,
+    plan: &'i Plan,
     query: &'i Code,
     variables: u32,
     steps: u64,
@@ -81,7 +88,7 @@ pub(crate) fn begin<'i>(
         clauses: of.code.records.as_slice(),
         query: query.records.as_slice(),
     };
-    let layout = layout_of(alloc, program, of, query)?;
+    let layout = layout_of(alloc, plan, of, program.clause_count(), query)?;
     let mut state = new_search(alloc, program, layout, steps);
     state.begin_query()?;
     make_variables(&mut state)?;

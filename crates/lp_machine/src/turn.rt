@@ -1,6 +1,7 @@
 // The next instruction of the branch at work.
 
 use crate::frame::{Todo, Work};
+use crate::matches::Act;
 use crate::outcome::Turn;
 use crate::search::Search;
 use lp_base::{Compare, Memory};
@@ -106,16 +107,6 @@ impl<'i> Search<'i> {
         Ok(Some(turn))
     }
 
-    // Whether the instruction at a place builds a type that is not read.
-    fn is_idle(&self, instr: &Instr, place: usize) -> bool {
-        match instr {
-            Instr::TyCon(_, _, _) | Instr::TyArr(_, _, _) => {
-                self.layout.is_idle(self.work.record, place)
-            }
-            _ => false,
-        }
-    }
-
     // Takes the instruction at a place, which is left behind.
     fn take_instruction<W: Watch>(
         &mut self,
@@ -123,7 +114,13 @@ impl<'i> Search<'i> {
         instr: &Instr,
         place: usize,
     ) -> Result<Turn, Memory> {
-        if self.is_idle(instr, place) || self.build(instr)? {
+        match self.layout.act(self.work.record, place) {
+            Act::Take => {}
+            Act::Skip => return Ok(Turn::On),
+            Act::Match(head, term) => return self.match_term(instr, head, term),
+            Act::Name => return self.name_type(instr),
+        }
+        if self.build(instr)? {
             return Ok(Turn::On);
         }
         if let Some(turn) = self.match_head(instr)? {

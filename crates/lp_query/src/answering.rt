@@ -12,7 +12,7 @@ use crate::fault::AskRefusal;
 use crate::running::Running;
 use lp_answers::{Shown, Written, write_answers};
 use lp_base::{Memory, Sink};
-use lp_machine::Machine;
+use lp_machine::{Machine, Plan};
 use lp_show::Glossary;
 use lp_verify::Verified;
 use lp_watch::{Crowd, Watch};
@@ -29,6 +29,7 @@ pub(crate) struct Limits {
 pub(crate) fn answer<K: Sink, W: Watch>(
     alloc: Global,
     image: &Verified,
+    plan: &Plan,
     glossary: &Glossary,
     asked: Asked,
     limits: Limits,
@@ -50,7 +51,15 @@ pub(crate) fn answer<K: Sink, W: Watch>(
         names,
     } = asked;
     let shown = Shown { names, glossary };
-    let machine = Machine::start(alloc, image, &code, variables, limits.steps, limits.answers)?;
+    let machine = Machine::start(
+        alloc,
+        image,
+        plan,
+        &code,
+        variables,
+        limits.steps,
+        limits.answers,
+    )?;
     let mut running = Running {
         alloc,
         machine,

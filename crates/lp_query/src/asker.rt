@@ -11,6 +11,7 @@ use crate::fault::AskRefusal;
 use crate::seen::Seen;
 use lp_answers::Written;
 use lp_base::{Memory, Sink};
+use lp_machine::Plan;
 use lp_verify::Verified;
 use lp_watch::{Counter, Crowd, Watch};
 use std::alloc::Global;
@@ -21,6 +22,7 @@ pub struct Asker<'i> {
     alloc: Global,
     image: &'i Verified,
     seen: Seen,
+    plan: Plan,
     ghost fit: { AllFit image.now.image.code.records.items } by { all_fit_once image.now.image.code.records.items },
 }
 
@@ -33,7 +35,13 @@ impl<'i> Asker<'i> {
         requires { AllFit image.now.image.code.records.items }
     {
         let seen = Seen::of(alloc, image.image())?;
-        Ok(Asker { alloc, image, seen })
+        let plan = Plan::of(alloc, image)?;
+        Ok(Asker {
+            alloc,
+            image,
+            seen,
+            plan,
+        })
     }
 
     fn compile(&mut self, query: &[u8]) -> Result<Compiled, AskRefusal>
@@ -74,6 +82,7 @@ impl<'i> Asker<'i> {
                 answer(
                     self.alloc,
                     self.image,
+                    &self.plan,
                     &self.seen.glossary,
                     asked,
                     limits,
@@ -88,6 +97,7 @@ impl<'i> Asker<'i> {
                 answer(
                     self.alloc,
                     self.image,
+                    &self.plan,
                     &self.seen.glossary,
                     asked,
                     limits,
@@ -126,6 +136,7 @@ impl<'i> Asker<'i> {
         answer(
             self.alloc,
             self.image,
+            &self.plan,
             &self.seen.glossary,
             asked,
             limits,

@@ -19,6 +19,28 @@ impl Round {
             is_bound: false,
         }
     }
+
+    /// Takes the unit of a pair that the caller takes apart.
+    ///
+    /// # Errors
+    /// `Deep` where no unit is left.
+    pub fn pair(&mut self) -> Result<(), PatternRefusal> {
+        spend(&mut self.units)
+    }
+
+    /// A variable that stands nowhere else becomes a value of so many nodes: what its pair and the scan of the value take.
+    ///
+    /// # Errors
+    /// `Deep` where the units do not suffice.
+    pub fn name(&mut self, nodes: u64) -> Result<(), PatternRefusal> {
+        spend(&mut self.units)?;
+        if nodes > self.units {
+            return Err(PatternRefusal::Deep);
+        }
+        self.units -= nodes;
+        self.is_bound = true;
+        Ok(())
+    }
 }
 
 // Takes a unit.

@@ -5,7 +5,7 @@ use lp_base::Memory;
 use lp_store::CellId;
 
 // The cell at a place, or none.
-fn at(cells: &Vec<CellId>, place: usize) -> CellId {
+pub(crate) fn at(cells: &Vec<CellId>, place: usize) -> CellId {
     match cells.get(place) {
         Some(cell) => *cell,
         None => UNSET,

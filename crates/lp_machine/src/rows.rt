@@ -1,0 +1,155 @@
+// What is known of the records of code before they run: where blocks go on, and what is done at each instruction.
+ghost use Rattle.std.specs.List.{All};
+ghost use Rattle.lp_code.specs.Length.{Fits, AllFit};
+
+use crate::idle::idle_in;
+use crate::matches::{Act, put_matches};
+use lp_base::Memory;
+use lp_code::{Instr, Record, length};
+use std::alloc::Global;
+
+#[derive(Drop)]
+pub(crate) struct Rows {
+    // Where the instructions of each record begin.
+    starts: Vec<usize>,
+    // For each instruction where a block goes on: behind the left side, behind the right side, or behind a negated block.
+    targets: Vec<usize>,
+    acts: Vec<Act>,
+}
+
+// An open block: the place of the instruction that opened it.
+fn place_at(offsets: &Vec<u64>, offset: u64) -> usize {
+    offsets.as_slice().partition_point(|at| *at < offset)
+}
+
+// Puts the offset of each instruction behind the others.
+fn put_offsets(code: &[Instr], offsets: &mut Vec<u64>) -> Result<(), Memory>
+    requires { All Fits code.now }
+{
+    let mut at: u64 = 0;
+    for instr in code {
+        offsets.push(at)?;
+        at = at.saturating_add(u64::from(length(instr)));
+    }
+    Ok(())
+}
+
+// Where the block of the instruction at a place goes on.
+fn target_of(instr: &Instr, offsets: &Vec<u64>, place: usize) -> usize
+    requires { Fits instr.now }
+{
+    let bytes = match instr {
+        Instr::Either(bytes) => *bytes,
+        Instr::Jump(bytes) => *bytes,
+        _ => return place.saturating_add(1),
+    };
+    let here = match offsets.get(place) {
+        Some(offset) => *offset,
+        None => 0,
+    };
+    let behind = here.saturating_add(u64::from(length(instr)));
+    place_at(offsets, behind.saturating_add(u64::from(bytes)))
+}
+
+// Where negated blocks go on.
+fn close_negations(
+    code: &[Instr],
+    start: usize,
+    open: &mut Vec<usize>,
+    targets: &mut Vec<usize>,
+) -> Result<(), Memory> {
+    for (place, instr) in code.iter().enumerate() {
+        match instr {
+            Instr::Not => open.push(place)?,
+            Instr::EndNot => {
+                if let Some(opened) = open.pop()
+                    && let Some(target) = targets.get_mut(start.saturating_add(opened))
+                {
+                    *target = place.saturating_add(1);
+                }
+            }
+            _ => {}
+        }
+    }
+    Ok(())
+}
+
+// What is done at the instructions of a record.
+fn acts_in(alloc: Global, record: &Record) -> Result<Vec<Act>, Memory> {
+    let mut acts = Vec::new(alloc);
+    for idle in idle_in(alloc, record)?.iter().copied() {
+        acts.push(if idle { Act::Skip } else { Act::Take })?;
+    }
+    if record.head.is_some() {
+        put_matches(alloc, record, &mut acts)?;
+    }
+    Ok(acts)
+}
+
+impl Rows {
+    // The targets of a record's instructions.
+    fn put_targets(&mut self, alloc: Global, code: &[Instr]) -> Result<(), Memory>
+        requires { All Fits code.now }
+    {
+        let start = self.targets.len();
+        self.starts.push(start)?;
+        let mut offsets = Vec::new(alloc);
+        put_offsets(code, &mut offsets)?;
+        for (place, instr) in code.iter().enumerate() {
+            self.targets.push(target_of(instr, &offsets, place))?;
+        }
+        let mut open = Vec::new(alloc);
+        close_negations(code, start, &mut open, &mut self.targets)
+    }
+
+    fn put_acts(&mut self, alloc: Global, record: &Record) -> Result<(), Memory> {
+        let acts = acts_in(alloc, record)?;
+        self.acts.extend_from_slice(acts.as_slice())?;
+        Ok(())
+    }
+
+    fn put_all(&mut self, alloc: Global, records: &[Record]) -> Result<(), Memory>
+        requires { AllFit records.now }
+    {
+        for record in records {
+            self.put_targets(alloc, record.code.as_slice())?;
+            self.put_acts(alloc, record)?;
+        }
+        Ok(())
+    }
+
+    /// What is known of these records.
+    pub(crate) fn of(alloc: Global, records: &[Record]) -> Result<Rows, Memory>
+        requires { AllFit records.now }
+    {
+        let mut rows = Rows {
+            starts: Vec::new(alloc),
+            targets: Vec::new(alloc),
+            acts: Vec::new(alloc),
+        };
+        rows.put_all(alloc, records)?;
+        Ok(rows)
+    }
+
+    /// Where the block of the instruction before a place goes on.
+    pub(crate) fn target(&self, record: u32, place: usize) -> usize {
+        let Some(start) = self.starts.get(record as usize) else {
+            return usize::MAX;
+        };
+        match self.targets.get(start.saturating_add(place)) {
+            Some(target) => *target,
+            None => usize::MAX,
+        }
+    }
+
+    /// What is done at the instruction at a place.
+    pub(crate) fn act(&self, record: u32, place: usize) -> Act {
+        let Some(start) = self.starts.get(record as usize) else {
+            return Act::Take;
+        };
+        match self.acts.get(start.saturating_add(place)) {
+            Some(act) => *act,
+            None => Act::Take,
+        }
+    }
+}
