@@ -1,10 +1,10 @@
 -- What is seen at a number of a bank is seen there in each bank that it grows to.
-use Rattle.std.proofs.Common.{◌≡◌, ℕ, zero, suc, ◌<◌, ◌≤◌, inl, inr, subst, List, [], ◌∷◌, map, length, refl, sym, ap, ◌∙◌, arith, Bool, true}
-use Rattle.std.specs.Prelude.{All, Option, Some, None, IfSome, Result, Ok, Err, IfOk, ◌⊎◌}
+use Rattle.std.proofs.Common.{◌≡◌, ℕ, zero, suc, ◌<◌, ◌≤◌, inl, inr, subst, List, [], ◌∷◌, length, sym, ◌∙◌, arith}
+use Rattle.std.specs.Prelude.{Option, Some, None, IfSome, ◌⊎◌}
 use Rattle.std.proofs.lemmas.List.Elements.{All-nil, All-cons, All-head, All-tail}
 use Rattle.lp_lemmas.proofs.Lists.{map_agree_on}
-use Rattle.lp_calculus.specs.Types.{Ty, var}
-use Rattle.lp_calculus.specs.Term.{Term, index, app}
+use Rattle.lp_calculus.specs.Types.{var}
+use Rattle.lp_calculus.specs.Term.{index, app}
 use Rattle.lp_calculus.specs.Closed.{IsClosedType, IsClosedAt, AreClosed}
 use Rattle.lp_term.specs.Node.{TypeShape, TermShape, TypeBelow, TermBelow, index_node, var_node}
 use Rattle.lp_term.specs.Nodes.{Nodes, Extends, tree, type_tree, node_tree, type_node_tree, term_at, type_at}
