@@ -1,5 +1,5 @@
 -- A head on an argument: its type is an arrow, or becomes one.
-use Rattle.std.proofs.Common.{◌≡◌, ℕ, ◌<◌, List, [], ◌∷◌, ◌++◌, length, refl, sym, ap, subst, ◌∙◌}
+use Rattle.std.proofs.Common.{◌≡◌, ℕ, ◌<◌, List, [], ◌∷◌, ◌++◌, length, sym, ap, subst, ◌∙◌}
 use Rattle.std.proofs.Math.Path.{transport}
 use Rattle.std.specs.Prelude.{Result, Ok, Err, IfOk, Bool, true}
 use Rattle.lp_base.specs.declared.memory.Memory.{Memory}
@@ -41,7 +41,8 @@ arrow_moves b θ y x stacks mid made head argument from to T es em t eh ed s d =
     )
 
 pub any_moves : (now : Nodes) (y x : Typing) (stacks mid : List TypeId) (head argument : TypeId) (r : Result Bool Memory) → stacks ≡ mid ++ argument ∷ [] → mid ≡ y.stack.items ++ head ∷ [] → IfOk r (λ yes. yes ≡ true → Applies now y x head argument) →
-    IfOk r (λ yes. yes ≡ true → (b : Nodes) → Extends now b → (θ : ℕ → Ty) → (T : Ty) → Solves b θ x.pairs.items → Comes (types_of b x) (filled_types b θ x.context.items) (filled_types b θ x.stack.items) (steps_of b x.tasks.items) T → Solves b θ y.pairs.items × Comes (types_of b y) (filled_types b θ y.context.items) (filled_types b θ stacks) (applying ∷ steps_of b y.tasks.items) T)
+    IfOk r (λ yes. yes ≡ true → (b : Nodes) → Extends now b → (θ : ℕ → Ty) → (T : Ty) → Solves b θ x.pairs.items → Comes (types_of b x) (filled_types b θ x.context.items) (filled_types b θ x.stack.items) (steps_of b x.tasks.items) T →
+    Solves b θ y.pairs.items × Comes (types_of b y) (filled_types b θ y.context.items) (filled_types b θ stacks) (applying ∷ steps_of b y.tasks.items) T)
 any_moves now y x stacks mid head argument (Err z) es em a = tt
 any_moves now y x stacks mid head argument (Ok z) es em a = λ e b g θ T s d.
     let t = a e in

@@ -5,9 +5,9 @@ use Rattle.std.specs.Prelude.{slice_get, drop, All, Result, Ok, Err, IfOk, IfSom
 use Rattle.std.proofs.lemmas.List.{get_or-reverse, get_or-map, length-map, length-reverse}
 use Rattle.std.proofs.lemmas.Option.{slice_get-get_or}
 use Rattle.lp_lemmas.proofs.Lists.{get_map, drop_read, map_pushed, reverse_pushed, cons_head, cons_tail}
-use Rattle.lp_lemmas.proofs.Elements.{All_push_parts, All_popped, All_unmap}
-use Rattle.lp_calculus.specs.Types.{Ty, var, arrow, con, no_types, instance}
-use Rattle.lp_calculus.specs.Term.{Term, Atom, index, atom, abs, app, apply, constant, integer, text, eigen}
+use Rattle.lp_lemmas.proofs.Elements.{All_unmap}
+use Rattle.lp_calculus.specs.Types.{Ty, var, arrow, instance}
+use Rattle.lp_calculus.specs.Term.{Term, Atom, index, atom, abs, app, apply, constant, eigen}
 use Rattle.lp_calculus.specs.Closed.{IsClosedType}
 use Rattle.lp_calculus.specs.Typing.{HasType, atom_type, scheme_type, eigen_type}
 use Rattle.lp_model.specs.Proofs.{under}
@@ -27,7 +27,7 @@ use Rattle.lp_term.proofs.Trees.{extends-trans}
 use Rattle.lp_cert.specs.Facts.{AreInside, is_closed_type}
 use Rattle.lp_cert.proofs.Later.{closed_type_inside, seen_inside}
 use Rattle.lp_cert.specs.Same.{types_in}
-use Rattle.lp_cert.specs.inner.Derives.{Step, visiting, closing, applying, Comes, argument_steps, step_of, steps_of, filled_types, types_of, Solves, IsGrown, Derives, DerivesBy, Moves, Pushes, IsPushed, Applies, Taken}
+use Rattle.lp_cert.specs.inner.Derives.{Step, visiting, closing, applying, Comes, argument_steps, step_of, steps_of, filled_types, types_of, Solves, IsGrown, Derives, DerivesBy, Moves, Pushes, IsPushed}
 use Rattle.lp_cert.specs.declared.typing.Task.{Task}
 use Rattle.lp_cert.specs.declared.typing.Task.TheVariants as task
 use Rattle.lp_cert.specs.declared.typing.Typing.{Typing}

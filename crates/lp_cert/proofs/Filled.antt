@@ -1,16 +1,15 @@
 -- Types put for type variables, and the declared types of constants.
-use Rattle.std.proofs.Common.{◌≡◌, ℕ, zero, suc, ◌<◌, ◌≤◌, ◌-◌, List, [], ◌∷◌, ◌++◌, map, length, refl, sym, ap, subst, ◌∙◌, arith, inl, inr, true, false, get_or}
-use Rattle.std.specs.Prelude.{Option, Some, None, slice_get, slice_index_or, nat_lt, if◌then◌else◌, Result, Ok, Err, IfOk, IfSome}
-use Rattle.std.proofs.lemmas.Option.{slice_get_past}
+use Rattle.std.proofs.Common.{◌≡◌, ℕ, zero, suc, ◌<◌, ◌≤◌, ◌-◌, List, [], ◌∷◌, ◌++◌, map, length, refl, sym, ap, ◌∙◌, arith, true, false}
+use Rattle.std.specs.Prelude.{Option, Some, None, slice_get, slice_index_or, nat_lt, Result, Ok, Err, IfOk, IfSome}
 use Rattle.std.proofs.lemmas.Bool.Decides.{nat_tests}
 use Rattle.std.proofs.lemmas.List.Elements.{All-head, All-tail}
 use Rattle.lp_base.specs.declared.memory.Memory.{Memory}
-use Rattle.lp_calculus.specs.Types.{Ty, instance}
-use Rattle.lp_calculus.specs.Term.{Term, atom, logic}
+use Rattle.lp_calculus.specs.Types.{instance}
+use Rattle.lp_calculus.specs.Term.{atom, logic}
 use Rattle.lp_calculus.specs.Typing.{Scheme, o_type, type_at, scheme_type}
 use Rattle.lp_calculus.specs.Instance.{instance_term}
 use Rattle.lp_term.specs.Nodes.{Nodes, Extends, tree, type_tree}
-use Rattle.lp_term.specs.Mapped.{Map, IsMap, TypeIs, mapped, mapped_type}
+use Rattle.lp_term.specs.Mapped.{Map, IsMap, mapped, mapped_type}
 use Rattle.lp_term.proofs.MapLaws.{putting, instance_put, type_put}
 use Rattle.lp_term.proofs.Trees.{extends-trans}
 use Rattle.lp_term.specs.declared.node.TypeId.{TypeId}

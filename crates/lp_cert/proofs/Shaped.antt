@@ -1,8 +1,8 @@
 -- The types of the parts of a fixed constant.
-use Rattle.std.proofs.Common.{◌≡◌, ℕ, ◌<◌, ◌∙◌, ap, sym, arith, length}
+use Rattle.std.proofs.Common.{◌≡◌, ◌<◌, ◌∙◌, ap, sym, arith, length}
 use Rattle.std.specs.Prelude.{List, Result, Ok, Err, IfOk}
 use Rattle.lp_base.specs.declared.memory.Memory.{Memory}
-use Rattle.lp_calculus.specs.Types.{Ty, arrow, instance}
+use Rattle.lp_calculus.specs.Types.{arrow, instance}
 use Rattle.lp_calculus.specs.Typing.{type_at}
 use Rattle.lp_standard.specs.Schemes.{part_type, shape_type}
 use Rattle.lp_standard.specs.declared.shape.Part.{Part}

@@ -1,4 +1,3 @@
-use Rattle.lp_term.specs.Nodes.{tree}
 use Rattle.lp_cert.specs.inner.Derives.{steps_of, types_of}
 use Rattle.lp_cert.proofs.Deriving.{close_moves}
 use Rattle.lp_cert.proofs.typing.Typing.close.Goals as goal

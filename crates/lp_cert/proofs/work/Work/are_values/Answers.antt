@@ -1,6 +1,5 @@
-use Rattle.std.proofs.Common.{refl, ◌∙◌, arith, length, map, add-one, slice_index_or}
+use Rattle.std.proofs.Common.{refl, ◌∙◌, arith, add-one, slice_index_or}
 use Rattle.lp_cert.proofs.Deriving.{read_again}
-use Rattle.std.proofs.lemmas.List.{length-map}
 use Rattle.lp_calculus.specs.Types.{instance}
 use Rattle.lp_calculus.specs.Typing.{type_at}
 use Rattle.lp_term.specs.Nodes.{type_tree}
