@@ -7,7 +7,7 @@ use Rattle.lp_model.specs.Answers.{Query, IsProvable}
 use Rattle.lp_model.specs.Proofs.{Declared, Leaves, Failure, IsFailure, no_leaf, proves_by, focuses_by, Proof, Focus, Conv, True, And, Left, Right, Witness, All, Assume, Equal, Arith, Back, Fails, FConv, FAll, FTake, FNeed, FHit}
 use Rattle.lp_cert.specs.Certified.{Ground, Certificate, Certifies}
 
-module _ (d : Declared) (L M : Leaves) (wider : (level : ℕ) (P : List ClauseFormula) (G : Term) (f : Failure) → L level P G f → M level P G f) where
+module _ (d : Declared) (L M : Leaves) (wider : (E : List Ty) (P : List ClauseFormula) (G : Term) (f : Failure) → L E P G f → M E P G f) where
   mutual
     pub proof_wider : (E : List Ty) (P : List ClauseFormula) (G : Term) (p : Proof) → proves_by L d E P G p → proves_by M d E P G p
     proof_wider E P G (Conv H p) h = (h.0, h.1, proof_wider E P H p h.2)
@@ -21,7 +21,7 @@ module _ (d : Declared) (L M : Leaves) (wider : (level : ℕ) (P : List ClauseFo
     proof_wider E P G Equal h = h
     proof_wider E P G Arith h = h
     proof_wider E P G (Back i ts f) h = (h.0, h.1, h.2, h.3, h.4, focus_wider E P _ G f h.5)
-    proof_wider E P G (Fails f) h = (h.0, h.1, wider (length E) P h.0 f h.2)
+    proof_wider E P G (Fails f) h = (h.0, h.1, wider E P h.0 f h.2)
 
     pub focus_wider : (E : List Ty) (P : List ClauseFormula) (D A : Term) (f : Focus) → focuses_by L d E P D A f → focuses_by M d E P D A f
     focus_wider E P D A (FConv H f) h = (h.0, h.1, focus_wider E P H A f h.2)
@@ -36,5 +36,5 @@ provable g q c h = record {
   types = h.types;
   types_closed = h.types_closed;
   values = h.values;
-  proved = record { proof = h.proof; holds = proof_wider g.declared no_leaf (IsFailure g.declared (length g.clauses)) (λ level P G f n. absurd n) [] g.clauses _ h.proof h.proved };
+  proved = record { proof = h.proof; holds = proof_wider g.declared no_leaf (IsFailure g.declared (length g.clauses)) (λ E P G f n. absurd n) [] g.clauses _ h.proof h.proved };
 }

@@ -15,6 +15,7 @@ use Rattle.lp_model.specs.Index.{instantiate, at}
 use Rattle.lp_model.specs.Pair.{Pair, Closing, closed, SolvesAll}
 use Rattle.lp_model.specs.Flatten.{ClauseFormula}
 use Rattle.lp_model.specs.Proofs.{Declared, IsWitness, Provable}
+pub use Rattle.lp_model.specs.Variables.{Variable, type_of, over, IsPrefix, IsScopedAtom}
 use Rattle.lp_model.specs.Branch.{Answer}
 
 -- a query: the types of its variables, over its type variables, and its formula, in which the first variable is the outermost index
@@ -22,11 +23,6 @@ pub record Query : Type 0 where
   pub type_vars : ℕ
   pub vars : List Ty
   pub formula : Term
-
--- of a logic variable its type, and its scope: the types of the eigenconstants up to its level
-pub record Variable : Type 0 where
-  pub type : Ty
-  pub scope : List Ty
 
 -- of a pair the types of its own eigenconstants, as many as its level, and the type of its sides
 pub record PairTyping : Type 0 where
@@ -36,27 +32,6 @@ pub record PairTyping : Type 0 where
 pub record AnswerTyping : Type 0 where
   pub variables : List Variable
   pub pairs : List PairTyping
-
--- a variable's level is the length of its scope
-abbrev pub type_of : Option Variable → ℕ → Option Ty
-type_of None l = None
-type_of (Some v) l = if nat_eq l (length v.scope) then Some v.type else None
-
-abbrev pub over : Declared → List Ty → List Variable → Context
-over d E V = record { declared = d; eigens = E; variables = λ x l. type_of (slice_get V x) l }
-
-pub record IsPrefix (E F : List Ty) : Type 0 where
-  pub rest : List Ty
-  pub is : F ≡ E ++ rest
-
--- the scope of each variable that stands in the term is a prefix of these types
-abbrev pub IsScopedAtom : List Variable → List Ty → Atom → Type 0
-IsScopedAtom V E (logic x l) = (v : Variable) → slice_get V x ≡ Some v → IsPrefix v.scope E
-IsScopedAtom V E (constant c ts) = Unit {0}
-IsScopedAtom V E (integer z) = Unit {0}
-IsScopedAtom V E (text s) = Unit {0}
-IsScopedAtom V E (eigen k) = k ≤ length E
-IsScopedAtom V E (param k t) = Unit {0}
 
 -- both sides of a pair have its type
 pub record IsTypedPair (d : Declared) (V : List Variable) (t : PairTyping) (p : Pair) : Type 0 where

@@ -24,6 +24,7 @@ pub mod Values
 pub mod Branch
 pub mod Search
 pub mod Proofs
+pub mod Variables
 pub mod Renaming
 pub mod Answers
 pub mod Readings

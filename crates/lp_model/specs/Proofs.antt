@@ -17,6 +17,7 @@ use Rattle.lp_model.specs.Index.{instantiate}
 use Rattle.lp_model.specs.Flat.{Goals, Clause, Clauses, Written, goal_list, clause_list, no_goals, instantiate_goals, instantiate_clauses, type_goals, type_clauses}
 use Rattle.lp_model.specs.Flatten.{ClauseFormula, flat_goal, flat_clause, flatten}
 use Rattle.lp_model.specs.Skeleton.{State, Told, starts_within, run}
+use Rattle.lp_model.specs.Variables.{Variable, IsVariableBelow, IsFormulaOver}
 use Rattle.lp_model.specs.Branch.{Answer, Task, Go, entries}
 use Rattle.lp_model.specs.Search.{look}
 use Rattle.lp_model.specs.Values.{Value, Number, HasValue, term_of, ordered}
@@ -45,12 +46,13 @@ pub record IsWitness (d : Declared) (E : List Ty) (t : Term) (T : Ty) : Type 0 w
   pub type_closed : IsClosedType T
 
 -- a search: its limit on steps, on the units of a unification and on goals taken apart in a row, steps that are enough for each look and for the run, the
--- numbers of the next variables, its goals, the clauses of each assumption in order with what is written in them, and its program
+-- logic variables and the number of type variables over which it is typed (they stand only where reduction takes them away), its goals, the clauses of each
+-- assumption in order with what is written in them, and its program
 pub record Failure : Type 0 where
   pub limit : ℕ
   pub looks : ℕ
   pub moves : ℕ
-  pub next : ℕ
+  pub variables : List Variable
   pub next_type : ℕ
   pub goals : Goals
   pub assumed : List Clauses
@@ -124,11 +126,12 @@ pub record IsFilling (f : Filling) : Type 0 where
 abbrev pub filled_formula : Filling → Term → Term
 filled_formula f t = instantiate f.terms (instance_term f.types t)
 
--- the goals stand for the formula G: they are those of some formula with variables, filled, which filled in the same way converts to G
-pub record StandsForGoal (d : Declared) (G : Term) (gs : Goals) : Type 0 where
+-- the goals stand for the formula G: they are those of some formula with variables, filled, which filled in the same way is typed and converts to G
+pub record StandsForGoal (d : Declared) (E : List Ty) (V : List Variable) (k : ℕ) (G : Term) (gs : Goals) : Type 0 where
   pub filling : Filling
   pub is_filling : IsFilling filling
   pub formula : Term
+  pub typed : IsFormulaOver d E V k (filled_formula filling formula)
   pub converts : Converts (filled_formula filling formula) G
   pub depth : ℕ
   pub flat : Goals
@@ -136,21 +139,22 @@ pub record StandsForGoal (d : Declared) (G : Term) (gs : Goals) : Type 0 where
   pub is : gs ≡ instantiate_goals filling.terms (type_goals filling.types flat)
 
 -- the same of clauses
-pub record StandsForClause (d : Declared) (D : Term) (cs : Clauses) : Type 0 where
+pub record StandsForClause (d : Declared) (E : List Ty) (V : List Variable) (k : ℕ) (D : Term) (cs : Clauses) : Type 0 where
   pub filling : Filling
   pub is_filling : IsFilling filling
   pub formula : Term
+  pub typed : IsFormulaOver d E V k (filled_formula filling formula)
   pub converts : Converts (filled_formula filling formula) D
   pub depth : ℕ
   pub flat : Clauses
   pub flattened : flat_clause depth d filling.heads formula [] [] ≡ Some flat
   pub is : cs ≡ instantiate_clauses filling.terms (type_clauses filling.types flat)
 
-abbrev pub StandForClauses : Declared → List ClauseFormula → List Clauses → Type 0
-StandForClauses d [] [] = Unit {0}
-StandForClauses d (D ∷ Ds) (cs ∷ css) = StandsForClause d D.formula cs × StandForClauses d Ds css
-StandForClauses d [] (cs ∷ css) = ⊥
-StandForClauses d (D ∷ Ds) [] = ⊥
+abbrev pub StandForClauses : Declared → (E : List Ty) → (V : List Variable) → (k : ℕ) → List ClauseFormula → List Clauses → Type 0
+StandForClauses d E V k [] [] = Unit {0}
+StandForClauses d E V k (D ∷ Ds) (cs ∷ css) = StandsForClause d E V k D.formula cs × StandForClauses d E V k Ds css
+StandForClauses d E V k [] (cs ∷ css) = ⊥
+StandForClauses d E V k (D ∷ Ds) [] = ⊥
 
 -- these clauses are those of the formulas, in order
 abbrev pub AreFlattened : Declared → List ClauseFormula → List Clause → Type 0
@@ -165,7 +169,7 @@ newest_first (cs ∷ css) = newest_first css ++ clause_list cs
 -- what the search of the goals at a level tells
 abbrev pub failure_state : (level : ℕ) → Failure → State Task
 failure_state level f = starts_within f.limit (Go (record {
-  next = f.next;
+  next = length f.variables;
   next_type = f.next_type;
   goals = entries (goal_list f.goals) (newest_first f.assumed) f.written level 0;
   types = [];
@@ -176,17 +180,18 @@ failure_state level f = starts_within f.limit (Go (record {
 abbrev pub failure_told : (level : ℕ) → Failure → Told Answer
 failure_told level f = run (look f.limit f.looks f.program) f.moves f.moves (failure_state level f)
 
--- a search that fails for the goal G at a level, where the first k formulas of P are the program and the others are assumed
-pub record IsFailure (d : Declared) (k level : ℕ) (P : List ClauseFormula) (G : Term) (f : Failure) : Type 0 where
-  pub goals : StandsForGoal d G f.goals
-  pub assumed : StandForClauses d (drop k P) f.assumed
+-- a search that fails for the goal G at eigenconstants of the types E, where the first k formulas of P are the program and the others are assumed
+pub record IsFailure (d : Declared) (k : ℕ) (E : List Ty) (P : List ClauseFormula) (G : Term) (f : Failure) : Type 0 where
+  pub variables : (x : ℕ) (v : Variable) → slice_get f.variables x ≡ Some v → IsVariableBelow f.next_type v
+  pub goals : StandsForGoal d E f.variables f.next_type G f.goals
+  pub assumed : StandForClauses d E f.variables f.next_type (drop k P) f.assumed
   pub program : AreFlattened d (take k P) f.program
-  pub ends : (failure_told level f).ending ≡ Some NoMore
-  pub gives_none : (failure_told level f).answers ≡ []
+  pub ends : (failure_told (length E) f).ending ≡ Some NoMore
+  pub gives_none : (failure_told (length E) f).answers ≡ []
 
--- which searches may stand as leaves, at a level, where these are the clauses, for this goal
+-- which searches may stand as leaves, at eigenconstants of these types, where these are the clauses, for this goal
 abbrev pub Leaves : Type 1
-Leaves = (level : ℕ) → List ClauseFormula → Term → Failure → Type 0
+Leaves = (E : List Ty) → List ClauseFormula → Term → Failure → Type 0
 
 -- E are the types of the eigenconstants, P the clauses
 abbrev mutual
@@ -202,7 +207,7 @@ abbrev mutual
   proves_by L d E P G Equal = (T : Ty) × (t : Term) × (u : Term) × (G ≡ two number.Equal (T ∷ []) t u) × Converts t u
   proves_by L d E P G Arith = IsArith G
   proves_by L d E P G (Back i ts f) = (D : ClauseFormula) × (slice_get P i ≡ Some D) × (length ts ≡ D.type_vars) × AreClosed ts × IsAtomHead (head_of G) × focuses_by L d E P (instance_term (type_at ts) D.formula) G f
-  proves_by L d E P G (Fails f) = (H : Term) × (G ≡ not_of H) × L (length E) P H f
+  proves_by L d E P G (Fails f) = (H : Term) × (G ≡ not_of H) × L E P H f
 
   -- on the clause D for the atom A
   pub focuses_by : (L : Leaves) → Declared → (E : List Ty) → (P : List ClauseFormula) → (D A : Term) → Focus → Type 0
@@ -230,7 +235,7 @@ Focusable d k E P D A = FocusableBy (IsFailure d k) d E P D A
 
 -- no search stands as a leaf
 abbrev pub no_leaf : Leaves
-no_leaf level P G f = ⊥
+no_leaf E P G f = ⊥
 
 -- by a proof without failing searches
 abbrev pub PlainlyProvable : Declared → (E : List Ty) → (P : List ClauseFormula) → (G : Term) → Type 0
@@ -255,7 +260,7 @@ pub data RootedBy (L : Leaves) (d : Declared) (E : List Ty) (P : List ClauseForm
   equally : (T : Ty) → (t u : Term) → G ≡ two number.Equal (T ∷ []) t u → Converts t u → RootedBy L d E P G
   by_arithmetic : IsArith G → RootedBy L d E P G
   by_clause : (i : ℕ) → (D : ClauseFormula) → (ts : List Ty) → slice_get P i ≡ Some D → length ts ≡ D.type_vars → AreClosed ts → IsAtomHead (head_of G) → FocusableBy L d E P (instance_term (type_at ts) D.formula) G → RootedBy L d E P G
-  by_failure : (H : Term) → G ≡ not_of H → (f : Failure) → L (length E) P H f → RootedBy L d E P G
+  by_failure : (H : Term) → G ≡ not_of H → (f : Failure) → L E P H f → RootedBy L d E P G
 
 abbrev pub Rooted : Declared → (k : ℕ) → (E : List Ty) → (P : List ClauseFormula) → (G : Term) → Type 0
 Rooted d k E P G = RootedBy (IsFailure d k) d E P G

@@ -1,6 +1,6 @@
 -- The search of a negated goal that is refuted stands as a leaf of a proof.
 use Rattle.std.proofs.Common.{◌≡◌, ℕ, ◌+◌, ◌≤◌, List, [], ◌∷◌, ◌++◌, length, Bool, Some, refl, sym, ap, subst, ◌∙◌, arith}
-use Rattle.std.specs.Prelude.{take, drop}
+use Rattle.std.specs.Prelude.{take, drop, slice_get}
 use Rattle.lp_calculus.specs.Types.{Ty}
 use Rattle.lp_calculus.specs.Term.{Term}
 use Rattle.lp_standard.specs.Connectives.{not_of}
@@ -8,6 +8,7 @@ use Rattle.lp_model.specs.declared.ending.Ending.TheVariants.{NoMore}
 use Rattle.lp_model.specs.Unify.{unit_limit}
 use Rattle.lp_model.specs.Flat.{Goals, Clause, Clauses, Written}
 use Rattle.lp_model.specs.Flatten.{ClauseFormula}
+use Rattle.lp_model.specs.Variables.{Variable, IsVariableBelow}
 use Rattle.lp_model.specs.Skeleton.{Note, Told, Refuted, starts_within, inner, run}
 use Rattle.lp_model.specs.Branch.{Answer, Task}
 use Rattle.lp_model.specs.Search.{look}
@@ -24,8 +25,8 @@ take_all : {A : Type 0} (xs ys : List A) → take (length xs) (xs ++ ys) ≡ xs
 take_all [] ys = refl
 take_all (x ∷ xs) ys = ap (λ zs. x ∷ zs) (take_all xs ys)
 
-module _ (d : Declared) (F : List ClauseFormula) (P : List Clause) (flat : AreFlattened d F P) (G : Term) (gs : Goals) (stands : StandsForGoal d G gs) (Ds : List ClauseFormula) (css : List Clauses) (assumed : StandForClauses d Ds css) where
-  module _ (w : Written) (next next_type level n looks j rows k p : ℕ) (ns : List Note) (is_final : Answer → Bool) (r : inner (look unit_limit looks P) j is_final (starts_within rows (denied_task next next_type gs (newest_first css) w level) n 1) ≡ Refuted k ns p) where
+module _ (d : Declared) (F : List ClauseFormula) (P : List Clause) (flat : AreFlattened d F P) (E : List Ty) (V : List Variable) (next_type : ℕ) (below : (x : ℕ) (v : Variable) → slice_get V x ≡ Some v → IsVariableBelow next_type v) (G : Term) (gs : Goals) (stands : StandsForGoal d E V next_type G gs) (Ds : List ClauseFormula) (css : List Clauses) (assumed : StandForClauses d E V next_type Ds css) where
+  module _ (w : Written) (n looks j rows k p : ℕ) (ns : List Note) (is_final : Answer → Bool) (r : inner (look unit_limit looks P) j is_final (starts_within rows (denied_task (length V) next_type gs (newest_first css) w (length E)) n 1) ≡ Refuted k ns p) where
     bound : ℕ
     bound = unit_limit + n + rows
 
@@ -51,10 +52,10 @@ module _ (d : Declared) (F : List ClauseFormula) (P : List Clause) (flat : AreFl
         go x = omega arith
 
     leaf : Failure
-    leaf = record { limit = bound; looks = looks; moves = j; next = next; next_type = next_type; goals = gs; assumed = css; written = w; program = P }
+    leaf = record { limit = bound; looks = looks; moves = j; variables = V; next_type = next_type; goals = gs; assumed = css; written = w; program = P }
 
     start : Task
-    start = denied_task next next_type gs (newest_first css) w level
+    start = denied_task (length V) next_type gs (newest_first css) w (length E)
 
     small : (run (look unit_limit looks P) j j (starts_within rows start n 1)).ending ≡ Some NoMore
     unfolding start
@@ -63,15 +64,16 @@ module _ (d : Declared) (F : List ClauseFormula) (P : List Clause) (flat : AreFl
     same : run (look bound looks P) j j (starts_within bound start bound 1) ≡ run (look unit_limit looks P) j j (starts_within rows start n 1)
     same = greater_limits unit_limit bound units_within looks P j j start rows bound n bound 1 rows_within steps_within small
 
-    fails : IsFailure d (length F) level (F ++ Ds) G leaf
+    fails : IsFailure d (length F) E (F ++ Ds) G leaf
     unfolding leaf start
     fails = record {
+      variables = below;
       goals = stands;
-      assumed = subst (λ Q. StandForClauses d Q css) (sym (drop_all F Ds)) assumed;
+      assumed = subst (λ Q. StandForClauses d E V next_type Q css) (sym (drop_all F Ds)) assumed;
       program = subst (λ Q. AreFlattened d Q P) (sym (take_all F Ds)) flat;
       ends = ap (λ (t : Told Answer). t.ending) same ∙ small;
       gives_none = ap (λ (t : Told Answer). t.answers) same ∙ (refuted_fails (look unit_limit looks P) is_final j (starts_within rows start n 1) k p ns r).1;
     }
 
-    pub negation_proved : (E : List Ty) → length E ≡ level → Provable d (length F) E (F ++ Ds) (not_of G)
-    negation_proved E e = record { proof = Fails leaf; holds = (G, refl, subst (λ l. IsFailure d (length F) l (F ++ Ds) G leaf) (sym e) fails) }
+    pub negation_proved : Provable d (length F) E (F ++ Ds) (not_of G)
+    negation_proved = record { proof = Fails leaf; holds = (G, refl, fails) }

@@ -1,6 +1,6 @@
 // Negated goals: what a search that is refuted proves.
 
-ghost use Rattle.std.specs.Prelude.{◌≡◌, ◌++◌, ◌∷◌, [], ℕ, Bool, List, Some, false, length, map};
+ghost use Rattle.std.specs.Prelude.{◌≡◌, ◌++◌, ◌∷◌, [], ℕ, Bool, List, Some, false, length, map, slice_get};
 ghost use Rattle.lp_calculus.specs.Convert.{Converts};
 ghost use Rattle.lp_calculus.specs.Term.{Term};
 ghost use Rattle.lp_calculus.specs.Types.{Ty, instance};
@@ -15,6 +15,7 @@ ghost use Rattle.lp_model.specs.Search.{has_no_pairs, has_variables, look, start
 ghost use Rattle.lp_model.specs.Skeleton.{Held, Note, Refuted, inner, run, starts, starts_within};
 ghost use Rattle.lp_model.specs.declared.ending.Ending.TheVariants.{NoMore};
 ghost use Rattle.lp_model.specs.Unify.{unit_limit};
+ghost use Rattle.lp_model.specs.Variables.{IsVariableBelow, Variable};
 ghost use Rattle.lp_search_laws.specs.Branches.{IsProgramTyped, IsTypedBranch};
 ghost use Rattle.lp_search_laws.specs.Clauses.{clauses_at};
 ghost use Rattle.lp_search_laws.specs.Denials.{denied_task};
@@ -33,8 +34,8 @@ pub fn tested_values_are_closed()
 /// Where the search of a negated goal is refuted, the negation of each formula for which its goals stand has a uniform proof, from the program and what is
 /// assumed: the search itself is its leaf.
 pub fn refuted_goals_have_proved_negations()
-    ensures { (d : Declared) (F : List ClauseFormula) (P : List Clause) → AreFlattened d F P → (G : Term) (gs : Goals) → StandsForGoal d G gs → (Ds : List ClauseFormula) (css : List Clauses) → StandForClauses d Ds css → (w : Written) (next next_type level steps looks j rows k p : ℕ) (ns : List Note) (is_final : Answer → Bool) →
-        inner (look unit_limit looks P) j is_final (starts_within rows (denied_task next next_type gs (newest_first css) w level) steps 1) ≡ Refuted k ns p → (E : List Ty) → length E ≡ level → Provable d (length F) E (F ++ Ds) (not_of G) }
+    ensures { (d : Declared) (F : List ClauseFormula) (P : List Clause) → AreFlattened d F P → (E : List Ty) (V : List Variable) (next_type : ℕ) → ((x : ℕ) (v : Variable) → slice_get V x ≡ Some v → IsVariableBelow next_type v) → (G : Term) (gs : Goals) → StandsForGoal d E V next_type G gs → (Ds : List ClauseFormula) (css : List Clauses) → StandForClauses d E V next_type Ds css → (w : Written) (steps looks j rows k p : ℕ) (ns : List Note) (is_final : Answer → Bool) →
+        inner (look unit_limit looks P) j is_final (starts_within rows (denied_task (length V) next_type gs (newest_first css) w (length E)) steps 1) ≡ Refuted k ns p → Provable d (length F) E (F ++ Ds) (not_of G) }
 {}
 
 /// What a negated goal's search says, where neither its goals nor the clauses have a negation: where it is refuted no closing of the variables of its branch makes

@@ -66,7 +66,7 @@ module _ (L : Leaves) where
 
   -- what stands as a leaf among these clauses, and more, stands so among those
   abbrev pub AreKept : (P R : List ClauseFormula) → Type 0
-  AreKept P R = (S : List ClauseFormula) (n : ℕ) (H : Term) (f : Failure) → L n (P ++ S) H f → L n (R ++ S) H f
+  AreKept P R = (S : List ClauseFormula) (n : List Ty) (H : Term) (f : Failure) → L n (P ++ S) H f → L n (R ++ S) H f
 
   kept_more : (P R : List ClauseFormula) (D : ClauseFormula) → AreKept P R → AreKept (P ++ D ∷ []) (R ++ D ∷ [])
   kept_more P R D k S n H f h = subst (λ Q. L n Q H f) (sym (append_assoc R (D ∷ []) S)) (k (D ∷ S) n H f (subst (λ Q. L n Q H f) (append_assoc P (D ∷ []) S) h))
@@ -114,7 +114,7 @@ module _ (L : Leaves) where
           | inr g ↦ let r = g ts h.2 h.3 E (extends_self E) R G h.4 a in record { proof = Back i ts r.focus; holds = (j.0, j.1, h.2 ∙ sym j.2.type_vars, h.3, h.4, r.holds) }
         ]
     proof_as d E P R G (Fails f) st h =
-        record { proof = Fails f; holds = (h.0, h.1, subst (λ Q. L (length E) Q h.0 f) (append-nil R) (st.kept [] (length E) h.0 f (subst (λ Q. L (length E) Q h.0 f) (sym (append-nil P)) h.2))) }
+        record { proof = Fails f; holds = (h.0, h.1, subst (λ Q. L E Q h.0 f) (append-nil R) (st.kept [] E h.0 f (subst (λ Q. L E Q h.0 f) (sym (append-nil P)) h.2))) }
 
     focus_as : (d : Declared) (E : List Ty) (P R : List ClauseFormula) (D A : Term) (f : Focus) → Stand d E P R → focuses_by L d E P D A f → FocusableBy L d E R D A
     focus_as d E P R D A (FConv H f) st h = let r = focus_as d E P R H A f st h.2 in record { focus = FConv H r.focus; holds = (h.0, h.1, r.holds) }

@@ -90,7 +90,7 @@ module _ (d : Declared) (std : IsStandard d) where
 
 -- leaves that stand where the goal or an assumption behind these clauses converts
 pub record Converting (L : Leaves) (P : List ClauseFormula) : Type 0 where
-  pub goals : (n : ℕ) (Q : List ClauseFormula) (H H' : Term) (f : Failure) → Converts H H' → L n Q H f → L n Q H' f
+  pub goals : (n : List Ty) (Q : List ClauseFormula) (H H' : Term) (f : Failure) → Converts H H' → L n Q H f → L n Q H' f
   pub assumptions : (D D' : Term) → Converts D D' → AreKept L (P ++ assumed D ∷ []) (P ++ assumed D' ∷ [])
 
 module _ (L : Leaves) (d : Declared) (std : IsStandard d) where
@@ -187,7 +187,7 @@ module _ (L : Leaves) (d : Declared) (std : IsStandard d) where
         equally T j.0 j.1 j.2 (converts_on (converts_sym j.3) (converts_on v j.4))
     moves H c f (by_arithmetic h) = by_arithmetic (arith_moves H c h)
     moves H c f (by_clause i D ts e l k h r) = by_clause i D ts e l k (atom_head H c h) (focus_converts d E P _ H G r.focus c r.holds)
-    moves H c f (by_failure K e x h) = let j = one_joint 24 [] K a us (subst (λ M. Converts M G) e c) in by_failure j.0 j.1 x (kept.goals (length E) P K j.0 x j.2 h)
+    moves H c f (by_failure K e x h) = let j = one_joint 24 [] K a us (subst (λ M. Converts M G) e c) in by_failure j.0 j.1 x (kept.goals E P K j.0 x j.2 h)
 
     pub rooted_by : ProvableBy L d E P (apply (atom a) us) → RootedBy L d E P (apply (atom a) us)
     unfolding Stripped

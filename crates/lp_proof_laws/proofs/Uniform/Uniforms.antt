@@ -64,7 +64,7 @@ by_conversion d E P G H f c h = record { proof = Conv H h.proof; holds = (f, c, 
 -- a proof with other leaves
 
 mutual
-  proof_by : (L M : Leaves) → ((n : ℕ) (P : List ClauseFormula) (G : Term) (f : Failure) → L n P G f → M n P G f) → (d : Declared) (E : List Ty) (P : List ClauseFormula) (G : Term) (p : Proof) → proves_by L d E P G p → proves_by M d E P G p
+  proof_by : (L M : Leaves) → ((n : List Ty) (P : List ClauseFormula) (G : Term) (f : Failure) → L n P G f → M n P G f) → (d : Declared) (E : List Ty) (P : List ClauseFormula) (G : Term) (p : Proof) → proves_by L d E P G p → proves_by M d E P G p
   proof_by L M m d E P G (Conv H p) h = (h.0, h.1, proof_by L M m d E P H p h.2)
   proof_by L M m d E P G True h = h
   proof_by L M m d E P G (And p q) h = (h.0, h.1, h.2, proof_by L M m d E P h.0 p h.3, proof_by L M m d E P h.1 q h.4)
@@ -76,9 +76,9 @@ mutual
   proof_by L M m d E P G Equal h = h
   proof_by L M m d E P G Arith h = h
   proof_by L M m d E P G (Back i ts f) h = (h.0, h.1, h.2, h.3, h.4, focus_by L M m d E P (instance_term (type_at ts) h.0.formula) G f h.5)
-  proof_by L M m d E P G (Fails f) h = (h.0, h.1, m (length E) P h.0 f h.2)
+  proof_by L M m d E P G (Fails f) h = (h.0, h.1, m E P h.0 f h.2)
 
-  focus_by : (L M : Leaves) → ((n : ℕ) (P : List ClauseFormula) (G : Term) (f : Failure) → L n P G f → M n P G f) → (d : Declared) (E : List Ty) (P : List ClauseFormula) (D A : Term) (f : Focus) → focuses_by L d E P D A f → focuses_by M d E P D A f
+  focus_by : (L M : Leaves) → ((n : List Ty) (P : List ClauseFormula) (G : Term) (f : Failure) → L n P G f → M n P G f) → (d : Declared) (E : List Ty) (P : List ClauseFormula) (D A : Term) (f : Focus) → focuses_by L d E P D A f → focuses_by M d E P D A f
   focus_by L M m d E P D A (FConv H f) h = (h.0, h.1, focus_by L M m d E P H A f h.2)
   focus_by L M m d E P D A (FAll t f) h = (h.0, h.1, h.2, h.3, focus_by L M m d E P (app h.1 t) A f h.4)
   focus_by L M m d E P D A (FTake true f) h = (h.0, h.1, h.2, focus_by L M m d E P h.1 A f h.3)
