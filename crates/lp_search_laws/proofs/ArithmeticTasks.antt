@@ -124,6 +124,7 @@ module _ (n : ℕ) (d : Declared) (std : IsStandard d) (P : List Clause) (q : Qu
       values = typed.values;
       pairs = typed.pairs;
       goals = (record { eigens = typed.goals.0.eigens; goal = equal_plain; assumed = typed.goals.0.assumed }, typed.goals.1);
+      written = (record { goal = tt; place = typed.written.0.place }, typed.written.1);
       stuck = typed.stuck;
     }
 
@@ -172,7 +173,7 @@ module _ (n : ℕ) (d : Declared) (std : IsStandard d) (P : List Clause) (q : Qu
     rest = going (record { answer = z; eigens = Es }) (with_goals b es)
 
     rest_typed : IsTypedBranch n d q (record { answer = z; eigens = Es }) (with_goals b es)
-    rest_typed = record { answer = typed.answer; entries = typed.entries.1; variables = typed.variables; types = typed.types; values = typed.values; pairs = typed.pairs; goals = typed.goals.1; stuck = typed.stuck }
+    rest_typed = record { answer = typed.answer; entries = typed.entries.1; variables = typed.variables; types = typed.types; values = typed.values; pairs = typed.pairs; goals = typed.goals.1; written = typed.written.1; stuck = typed.stuck }
 
     module _ (x y : ℤ) (left : evaluate n l ≡ Some (Is (Number x))) (right : evaluate n r ≡ Some (Is (Number y))) where
       decided : (c : Closing) → Closes d z.variables c → (Holds d (map (instance c.types) E) (clauses_at P e.assumed c) c (formula_of_goal e.goal) → ordered k x y ≡ true) × (ordered k x y ≡ true → Holds d (map (instance c.types) E) (clauses_at P e.assumed c) c (formula_of_goal e.goal))

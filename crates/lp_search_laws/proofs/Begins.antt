@@ -32,6 +32,9 @@ use Rattle.lp_search_laws.specs.Clauses.{sentence_of, clauses_at}
 use Rattle.lp_search_laws.specs.Branches.{IsPlainTerm, IsClause, IsProgramTyped, IsTypedBranch, IsPlainVariable, SolvesBranch}
 use Rattle.lp_search_laws.specs.Begun.{first_branch, first_typing}
 use Rattle.lp_search_laws.proofs.Opened.{goals_instantiate}
+use Rattle.lp_search_laws.specs.Written.{AreWrittenGoals, AreWrittenClauses}
+use Rattle.lp_search_laws.proofs.Written.{instantiated_goals}
+use Rattle.lp_search_laws.proofs.WrittenFlat.{goals_written, clauses_written}
 use Rattle.lp_search_laws.proofs.Fronts.{MayStand, each_at, entries_hold, hold_entries}
 use Rattle.lp_search_laws.proofs.FlatViews.{goals_stand}
 use Rattle.lp_search_laws.proofs.TypedParts.{goals_put, MayPut}
@@ -66,17 +69,18 @@ module _ (d : Declared) (std : IsStandard d) where
   same_count n k vs h no_goals = refl
   same_count n k vs h (goals g gs) = refl
 
-  program_clause : (n k : ℕ) (vs : List Ty) (h : Term) (b : Goals) → IsOver d k [] (formula_of_clause (clause n vs h b)) → IsClause k [] (clause n vs h b) → IsProgramTyped d (clause k vs h b)
-  program_clause n k vs h b o c = record {
+  program_clause : (n k : ℕ) (vs : List Ty) (h : Term) (b : Goals) → IsOver d k [] (formula_of_clause (clause n vs h b)) → IsClause k [] (clause n vs h b) → AreWrittenGoals b → IsProgramTyped d (clause k vs h b)
+  program_clause n k vs h b o c w = record {
     typed = transport (λ z. IsTyped d [] [] z o_type) (same_count n k vs h b) (record { typed = o.typed; scoped = within_more (IsQueryAtom k) (IsScopedAtom [] []) 0 0 (no_scope k []) (omega arith) (formula_of_clause (clause n vs h b)) o.within });
     form = c;
+    written = w;
   }
 
-  program_clauses : (k : ℕ) (cs : Clauses) → ClausesFine d k [] [] cs → EachOf (IsProgramTyped d) (clause_list (with_type_vars k cs))
-  program_clauses k no_clauses f = tt
-  program_clauses k (clauses (clause n vs h b) cs) f =
+  program_clauses : (k : ℕ) (cs : Clauses) → ClausesFine d k [] [] cs → AreWrittenClauses cs → EachOf (IsProgramTyped d) (clause_list (with_type_vars k cs))
+  program_clauses k no_clauses f w = tt
+  program_clauses k (clauses (clause n vs h b) cs) f w =
       let p = first_of d std k [] (clause n vs h b) cs f.over in
-      (program_clause n k vs h b p.0 f.form.1, program_clauses k cs (record { over = p.1; form = f.form.2 }))
+      (program_clause n k vs h b p.0 f.form.1 w.0, program_clauses k cs (record { over = p.1; form = f.form.2 }) w.1)
 
   each_append : {A : Type 0} (X : A → Type 0) (xs ys : List A) → EachOf X xs → EachOf X ys → EachOf X (xs ++ ys)
   each_append X [] ys h k = k
@@ -87,7 +91,7 @@ module _ (d : Declared) (std : IsStandard d) where
   program_typed (D ∷ F) P s x =
       let y = flattened x.0 d D x.1 x.3 in
       let o : IsOver d D.type_vars [] y.form = record { typed = typed_reduces (atom_type (under d [])) [] y.leads o_type s.0.typed; within = within_reduces (IsQueryAtom D.type_vars) 0 y.leads s.0.within } in
-      let here = transport (λ z. EachOf (IsProgramTyped d) (clause_list z)) y.is (program_clauses D.type_vars y.plain (clauses_fine d std D.type_vars x.0 y.form y.plain [] y.flat o)) in
+      let here = transport (λ z. EachOf (IsProgramTyped d) (clause_list z)) y.is (program_clauses D.type_vars y.plain (clauses_fine d std D.type_vars x.0 y.form y.plain [] y.flat o) (clauses_written d x.0 [] y.form y.plain y.flat)) in
       transport (EachOf (IsProgramTyped d)) (sym x.5) (each_append (IsProgramTyped d) (clause_list x.1) x.2 here (program_typed F x.2 s.1 x.4))
 
 -- the query's type variables and variables
@@ -177,7 +181,7 @@ module _ (d : Declared) (std : IsStandard d) (m : ℕ) (q : Query) (gs : Goals) 
   may_put = record { plain = λ i. tt; heads = λ i w. absurd (cc) }
 
   stand : MayStand d V q.type_vars (each_at [] (goal_list (instantiate_goals put_in gs))) (entries (goal_list (instantiate_goals put_in gs)) [] nothing_written 0 0)
-  stand = goals_stand d std V q.type_vars [] [] nothing_written 0 0 (record { is_level = refl; below = tt; typed = tt; plain = tt }) (instantiate_goals put_in gs) goals_typed_in (goals_put q.type_vars [] [] put_in may_put gs fine.form)
+  stand = goals_stand d std V q.type_vars [] [] nothing_written 0 0 (record { is_level = refl; below = tt; typed = tt; plain = tt }) (record { clauses = tt; terms = tt }) (instantiate_goals put_in gs) goals_typed_in (goals_put q.type_vars [] [] put_in may_put gs fine.form) (instantiated_goals put_in gs (let b = and_then_some (beta_normal m q.formula) (λ s. flat_goal m d [] s no_goals) gs e in goals_written d m [] b.0 gs b.2))
 
   vars_stay : map (instance (type_at (types_from q.type_vars 0))) q.vars ≡ q.vars
   vars_stay = list_stays (type_at (types_from q.type_vars 0)) q.type_vars (λ i l. let a : 0 + i ≡ i = omega arith in from_at q.type_vars 0 i l ∙ ap var a) q.vars t.vars
@@ -201,6 +205,7 @@ module _ (d : Declared) (std : IsStandard d) (m : ℕ) (q : Query) (gs : Goals) 
       values = plain_values q.type_vars (length q.vars) 0;
       pairs = tt;
       goals = stand.plain;
+      written = stand.written;
       stuck = tt;
     },
   )

@@ -1,4 +1,4 @@
--- The search of a typed query without negation comes to a value: typed tasks have enough steps, and so the run ends.
+-- The search of a typed query comes to a value: typed tasks have enough steps, and so the run ends.
 use Rattle.std.proofs.Common.{◌≡◌, ℕ, ◌+◌, ◌≤◌, List, [], ◌∷◌, map, length, Some, Bool, true, false, if◌then◌else◌, refl, sym, ap, ◌∙◌, subst as transport, arith}
 use Rattle.lp_model.specs.Unify.{unit_limit}
 use Rattle.lp_model.specs.Pair.{Pair}
@@ -15,11 +15,8 @@ use Rattle.lp_standard.specs.Schemes.{IsStandard}
 use Rattle.lp_unify_laws.specs.Solutions.{IsStuck, AreStuck}
 use Rattle.lp_unify_laws.proofs.MoreSteps.Rules.{rule_more}
 use Rattle.lp_search_laws.specs.Enough.{HasEnough}
-use Rattle.lp_search_laws.specs.Started.{IsPlainQuery, IsPlainSentence}
-use Rattle.lp_search_laws.specs.Unnegated.{IsUnnegatedClause, IsUnnegatedTask}
-use Rattle.lp_search_laws.proofs.Unnegated.{IsUnnegatedView, unnegated_look}
-use Rattle.lp_search_laws.proofs.UnnegatedStarts.{typed_sentences, program_unnegated, query_unnegated, start_unnegated}
-use Rattle.lp_search_laws.specs.Branches.{IsProgramTyped, IsTypedBranch, TypedTask, going, trying, stopping, lacking, task_of, IsOk, IsRightView}
+use Rattle.lp_search_laws.specs.Started.{IsTypedQuery, IsTypedSentence}
+use Rattle.lp_search_laws.specs.Branches.{IsProgramTyped, IsTypedBranch, no_query, TypedTask, going, trying, stopping, lacking, task_of, IsOk, IsRightView}
 use Rattle.lp_search_laws.proofs.Stack.MoreLooks.{Fewer, same_look, lacks, opens_dead, takes_dead, run_same}
 use Rattle.lp_search_laws.proofs.Stack.Ends.{ends}
 use Rattle.lp_search_laws.proofs.MoreSteps.{look_more, IsLacking, more_steps_same}
@@ -98,50 +95,50 @@ strict_lighter k (Denies t is_final ts) h = tt
 strict_lighter k (Halts e) h = tt
 strict_lighter k Lacks h = tt
 
-module _ (d : Declared) (std : IsStandard d) (P : List Clause) (program : EachOf (IsProgramTyped d) P) (pure : EachOf IsUnnegatedClause P) (q : Query) where
+module _ (d : Declared) (std : IsStandard d) (P : List Clause) (program : EachOf (IsProgramTyped d) P) where
   -- a typed task that does not lack steps itself
   pub record Kept (t : Task) : Type 0 where
+    pub query : Query
     pub steps : ℕ
     pub task : TypedTask
-    pub ok : IsOk steps d P q task
+    pub ok : IsOk steps d P query task
     pub is : task_of task ≡ t
     pub some : t ≡ Lack → ⊥
-    pub unnegated : IsUnnegatedTask t
 
-  ok_more : (n m : ℕ) → n ≤ m → (T : TypedTask) → IsOk n d P q T → IsOk m d P q T
-  ok_more n m l (going y b) h = branch_more h
+  ok_more : (q : Query) (n m : ℕ) → n ≤ m → (T : TypedTask) → IsOk n d P q T → IsOk m d P q T
+  ok_more q n m l (going y b) h = branch_more h
     where
       branch_more : IsTypedBranch n d q y b → IsTypedBranch m d q y b
-      branch_more h = record { answer = h.answer; entries = h.entries; variables = h.variables; types = h.types; values = h.values; pairs = h.pairs; goals = h.goals; stuck = pairs_stuck n m l b.pairs h.stuck }
-  ok_more n m l (trying y c t e b mark) h =
+      branch_more h = record { answer = h.answer; entries = h.entries; variables = h.variables; types = h.types; values = h.values; pairs = h.pairs; goals = h.goals; written = h.written; stuck = pairs_stuck n m l b.pairs h.stuck }
+  ok_more q n m l (trying y c t e b mark) h =
       let z = h.branch in
       record {
-        branch = record { answer = z.answer; entries = z.entries; variables = z.variables; types = z.types; values = z.values; pairs = z.pairs; goals = z.goals; stuck = pairs_stuck n m l b.pairs z.stuck };
+        branch = record { answer = z.answer; entries = z.entries; variables = z.variables; types = z.types; values = z.values; pairs = z.pairs; goals = z.goals; written = z.written; stuck = pairs_stuck n m l b.pairs z.stuck };
         atomic = h.atomic;
         named = h.named;
         stands = h.stands;
       }
-  ok_more n m l (stopping e T) h = h
-  ok_more n m l (lacking T) h = tt
+  ok_more q n m l (stopping e T) h = h
+  ok_more q n m l (lacking T) h = tt
 
   has_enough : (t : Task) → Kept t → (n : ℕ) × HasEnough n t
   has_enough t k = go k.task k.ok k.is
     where
-      go : (T : TypedTask) → IsOk k.steps d P q T → task_of T ≡ t → (n : ℕ) × HasEnough n t
-      go (going y b) o e = let r = branches_have_enough k.steps d std q y b o (transport IsUnnegatedTask (sym e) k.unnegated) in (r.0, transport (HasEnough r.0) e r.1)
-      go (trying y c u x b mark) o e = let r = tries_have_enough k.steps d std P program q y c u x b mark o in (r.0, transport (HasEnough r.0) e r.1)
+      go : (T : TypedTask) → IsOk k.steps d P k.query T → task_of T ≡ t → (n : ℕ) × HasEnough n t
+      go (going y b) o e = let r = branches_have_enough k.steps d std k.query y b o in (r.0, transport (HasEnough r.0) e r.1)
+      go (trying y c u x b mark) o e = let r = tries_have_enough k.steps d std P program k.query y c u x b mark o in (r.0, transport (HasEnough r.0) e r.1)
       go (stopping x T) o e = (0, transport (HasEnough 0) e tt)
       go (lacking T) o e = absurd (k.some (sym e))
 
   -- what is left of a typed task
-  all_kept : (n : ℕ) (Ts : List TypedTask) → EachOf (IsOk n d P q) Ts → (ts : List Task) → map task_of Ts ≡ ts → have_lack ts ≡ false → EachOf IsUnnegatedTask ts → EachOf Kept ts
-  all_kept n [] h [] e f u = tt
-  all_kept n [] h (t ∷ ts) e f u = absurd (cc)
-  all_kept n (T ∷ Ts) h [] e f u = absurd (cc)
-  all_kept n (T ∷ Ts) h (t ∷ ts) e f u =
+  all_kept : (q : Query) (n : ℕ) (Ts : List TypedTask) → EachOf (IsOk n d P q) Ts → (ts : List Task) → map task_of Ts ≡ ts → have_lack ts ≡ false → EachOf Kept ts
+  all_kept q n [] h [] e f = tt
+  all_kept q n [] h (t ∷ ts) e f = absurd (cc)
+  all_kept q n (T ∷ Ts) h [] e f = absurd (cc)
+  all_kept q n (T ∷ Ts) h (t ∷ ts) e f =
       let x : task_of T ≡ t = cc in
       let xs : map task_of Ts ≡ ts = cc in
-      (record { steps = n; task = T; ok = h.0; is = x; some = first t f; unnegated = u.0 }, all_kept n Ts h.1 ts xs (rest t f) u.1)
+      (record { query = q; steps = n; task = T; ok = h.0; is = x; some = first t f }, all_kept q n Ts h.1 ts xs (rest t f))
     where
       first : (t : Task) → have_lack (t ∷ ts) ≡ false → t ≡ Lack → ⊥
       first (Go b) f e = cc
@@ -155,31 +152,34 @@ module _ (d : Declared) (std : IsStandard d) (P : List Clause) (program : EachOf
       rest (Stop x) f = f
       rest Lack f = absurd (cc)
 
-  view_leaves : (n : ℕ) (T : TypedTask) (v : View Task Answer) → IsRightView n d P q T v → IsUnnegatedView v → Leaves Kept (strict v)
-  view_leaves n T (Gives a) r u = tt
-  view_leaves n T (Opens ts) r u = go (have_lack ts) refl
+  view_leaves : (q : Query) (n : ℕ) (T : TypedTask) (v : View Task Answer) → IsRightView n d P q T v → Leaves Kept (strict v)
+  view_leaves q n T (Gives a) r = tt
+  view_leaves q n T (Opens ts) r = go (have_lack ts) refl
     where
       go : (p : Bool) → have_lack ts ≡ p → Leaves {Task = Task} {Answer = Answer} Kept (if p then Lacks else Opens ts)
       go true e = tt
-      go false e = all_kept n r.typed r.ok ts r.is e u
-  view_leaves n T (Parts ts) r u = go (have_lack ts) refl
+      go false e = all_kept q n r.typed r.ok ts r.is e
+  view_leaves q n T (Parts ts) r = go (have_lack ts) refl
     where
       go : (p : Bool) → have_lack ts ≡ p → Leaves {Task = Task} {Answer = Answer} Kept (if p then Lacks else Parts ts)
       go true e = tt
-      go false e = all_kept n r.typed r.ok ts r.is e u
-  view_leaves n T (Takes name ts) r u = go (have_lack ts) refl
+      go false e = all_kept q n r.typed r.ok ts r.is e
+  view_leaves q n T (Takes name ts) r = go (have_lack ts) refl
     where
       go : (p : Bool) → have_lack ts ≡ p → Leaves {Task = Task} {Answer = Answer} Kept (if p then Lacks else Takes name ts)
       go true e = tt
-      go false e = all_kept n r.typed r.ok ts r.is e u
-  view_leaves n T (Cuts m ts) r u = go (have_lack ts) refl
+      go false e = all_kept q n r.typed r.ok ts r.is e
+  view_leaves q n T (Cuts m ts) r = go (have_lack ts) refl
     where
       go : (p : Bool) → have_lack ts ≡ p → Leaves {Task = Task} {Answer = Answer} Kept (if p then Lacks else Cuts m ts)
       go true e = tt
-      go false e = all_kept n r.typed r.ok ts r.is e u
-  view_leaves n T (Denies t is_final ts) r u = absurd u
-  view_leaves n T (Halts e) r u = tt
-  view_leaves n T Lacks r u = tt
+      go false e = all_kept q n r.typed r.ok ts r.is e
+  view_leaves q n T (Denies t is_final ts) r = (
+    transport Kept (sym r.is) (record { query = no_query; steps = n; task = going r.typing r.branch; ok = r.begins; is = refl; some = λ e. cc }),
+    transport (EachOf Kept) (sym r.goes_on) (record { query = q; steps = n; task = going r.rest_typing r.rest; ok = r.after; is = refl; some = λ e. cc }, tt),
+  )
+  view_leaves q n T (Halts e) r = tt
+  view_leaves q n T Lacks r = tt
 
   fewer_leaves : (v w : View Task Answer) → Fewer IsLacking v w → Leaves Kept (strict w) → Leaves Kept (strict v)
   fewer_leaves v w (same_look e) h = transport (λ z. Leaves Kept (strict z)) (sym e) h
@@ -192,8 +192,8 @@ module _ (d : Declared) (std : IsStandard d) (P : List Clause) (program : EachOf
       let m = n + k.steps in
       let a : n ≤ n + k.steps = omega arith in
       let b : k.steps ≤ n + k.steps = omega arith in
-      let r = each_look m d std P program q height k.task (ok_more k.steps m b k.task k.ok) in
-      let w = transport (λ z. Leaves Kept (strict (look unit_limit m P height z))) k.is (view_leaves m k.task (look unit_limit m P height (task_of k.task)) r (unnegated_look unit_limit m P pure height (task_of k.task) (transport IsUnnegatedTask (sym k.is) k.unnegated))) in
+      let r = each_look m d std P program k.query height k.task (ok_more k.query k.steps m b k.task k.ok) in
+      let w = transport (λ z. Leaves Kept (strict (look unit_limit m P height z))) k.is (view_leaves k.query m k.task (look unit_limit m P height (task_of k.task)) r) in
       fewer_leaves (look unit_limit n P height t) (look unit_limit m P height t) (look_more unit_limit n m a P height t) w
 
   suffices : Suffices (λ n height t. strict (look unit_limit n P height t)) Kept
@@ -211,11 +211,11 @@ module _ (d : Declared) (std : IsStandard d) (P : List Clause) (program : EachOf
       let same = run_same (λ height t. strict (look unit_limit r.0 P height t)) (look unit_limit r.0 P) (λ t. ⊥) (λ height t x. absurd x) (λ height t. strict_fewer (look unit_limit r.0 P height t)) r.0 r.0 s e.0 e.1 in
       (run (look unit_limit r.0 P) r.0 r.0 s, record { enough = r.0; tells = refl; ending = e.0; ends = ap (λ (t : Told Answer). t.ending) same ∙ e.1 })
 
-pub search_comes : (d : Declared) → IsStandard d → (l : ℕ) (F : List ClauseFormula) (P : List Clause) → EachOf (IsPlainSentence d) F → AreFlattened d F P → (q : Query) (gs : Goals) → IsPlainQuery d q → flatten_query l d q.formula ≡ Some gs →
+pub search_comes : (d : Declared) → IsStandard d → (l : ℕ) (F : List ClauseFormula) (P : List Clause) → EachOf (IsTypedSentence d) F → AreFlattened d F P → (q : Query) (gs : Goals) → IsTypedQuery d q → flatten_query l d q.formula ≡ Some gs →
     (steps answers : ℕ) → (t : Told Answer) × ComesTo P (start q.type_vars (length q.vars) gs steps answers) t
 search_comes d std l F P s x q gs t e steps answers =
-    let z = start_typed d std l q gs t.typed e 0 steps answers in
-    comes d std P (program_typed d std F P (typed_sentences d F s) x) (program_unnegated d F P s x) q (start q.type_vars (length q.vars) gs steps answers) (record { steps = 0; task = going _ _; ok = z.1; is = refl; some = λ y. cc; unnegated = start_unnegated q.type_vars (length q.vars) gs (query_unnegated d l q gs t e) }, tt)
+    let z = start_typed d std l q gs t e 0 steps answers in
+    comes d std P (program_typed d std F P s x) (start q.type_vars (length q.vars) gs steps answers) (record { query = q; steps = 0; task = going _ _; ok = z.1; is = refl; some = λ y. cc }, tt)
 
 -- it is one value
 pub one_value : (P : List Clause) (s : State Task) (t u : Told Answer) → ComesTo P s t → ComesTo P s u → t ≡ u

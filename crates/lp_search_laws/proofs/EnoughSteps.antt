@@ -1,8 +1,10 @@
 -- Typed branches have enough steps, with enough of them; and more are enough too.
 use Rattle.lp_lemmas.specs.Each.{EachOf}
-use Rattle.lp_search_laws.specs.Unnegated.{IsUnnegatedGoal, IsUnnegatedEntry, IsUnnegatedTask}
+use Rattle.lp_lemmas.proofs.Each.{each_append}
+use Rattle.lp_search_laws.specs.Written.{StandsIn, StandsInOne, IsWrittenGoal, IsWrittenEntry}
+use Rattle.lp_search_laws.proofs.Stands.{part_typed}
 use Rattle.std.proofs.Common.{◌≡◌, ℕ, ◌+◌, ◌≤◌, List, [], ◌∷◌, map, length, Option, Some, None, ◌∙◌, refl, sym, ap, subst as transport, arith, inl, inr}
-use Rattle.std.specs.Prelude.{option_map, ◌⊎◌}
+use Rattle.std.specs.Prelude.{option_map, ◌⊎◌, ◌||◌}
 use Rattle.lp_calculus.specs.Types.{Ty, arrow}
 use Rattle.lp_calculus.specs.Term.{Term, index, atom, abs, app, apply, constant, integer, text, eigen, logic, param}
 use Rattle.lp_calculus.specs.Typing.{HaveTypes, Typed, scheme_type, atom_type, o_type}
@@ -18,16 +20,18 @@ use Rattle.lp_standard.specs.Connectives as connective
 use Rattle.lp_standard.specs.Schemes.{IsStandard}
 use Rattle.lp_model.specs.Unify.{solve, unit_limit}
 use Rattle.lp_model.specs.Values.{Value, Number, Bytes, Outcome, Is, Faults, value, evaluate, term_of}
-use Rattle.lp_model.specs.Flat.{Goal, Atomic, Cut, Either, Exists, Forall, Assume, Not, clause, formula_of_goal, Written, Goals}
+use Rattle.lp_model.specs.Flat.{Goal, Atomic, Cut, Either, Exists, Forall, Assume, Not, clause, formula_of_goal, Written, Goals, Clause, formula_of_goals, formula_of_clause}
 use Rattle.lp_model.specs.Branch.{Entry, Branch, Task, Go, Try, Stop, Lack, both_written}
 use Rattle.lp_model.specs.Answers.{Query, Variable, over, IsScopedAtom, PairTyping, IsTypedPair}
 use Rattle.lp_model.specs.Proofs.{Declared}
-use Rattle.lp_model.specs.Search.{goal_key, key_of}
+use Rattle.lp_model.specs.Search.{beta_normals, has_variable, has_type_variable, has_variables, goal_key, key_of}
+use Rattle.std.specs.List.{list_any}
+use Rattle.lp_model.specs.Look.{◌>>=◌}
 use Rattle.lp_unify_laws.specs.Solutions.{instance_typing}
 use Rattle.lp_unify_laws.proofs.TypedInstances.{typings_have_instances, pairs_have_instances}
 use Rattle.lp_unify_laws.proofs.Looks.{head_reduces}
 use Rattle.lp_proof_laws.proofs.Uniform.Forms.{apply_arguments}
-use Rattle.lp_search_laws.proofs.MoreSteps.{variables_more}
+use Rattle.lp_search_laws.proofs.MoreSteps.{normals_more, variables_more}
 use Rattle.lp_unify_laws.proofs.MoreSteps.Scans.{Below, below_map, below_same, head_normal_more, beta_normal_more}
 use Rattle.lp_unify_laws.proofs.MoreSteps.Solving.{solve_more}
 use Rattle.lp_unify_laws.proofs.NormalForms.Typed.{typed_weighs}
@@ -35,9 +39,9 @@ use Rattle.lp_unify_laws.proofs.Termination.Looks.{head_comes, normal_comes}
 use Rattle.lp_unify_laws.proofs.Termination.Runs.{solve_comes}
 use Rattle.lp_unify_laws.proofs.Termination.Pruning.{prunes_typed}
 use Rattle.lp_search_laws.specs.Holds.{IsTyped, equation}
-use Rattle.lp_search_laws.specs.Branches.{BranchTyping, IsTypedBranch, AreTypedEntries}
+use Rattle.lp_search_laws.specs.Branches.{BranchTyping, IsTypedBranch, IsTypedEntry, AreTypedEntries}
 use Rattle.lp_search_laws.specs.Enough.{IsFound, CanEquate, CanAssign, CallHasEnough, HeadHasEnough, AtomHasEnough, TermHasEnough, HasEnough}
-use Rattle.lp_search_laws.proofs.TypedParts.{typed_reduced}
+use Rattle.lp_search_laws.proofs.TypedParts.{argument_typed, typed_reduced}
 use Rattle.lp_search_laws.proofs.AtomKinds.{AtomKind, declared, equality, assignment, order, atom_kind}
 use Rattle.lp_search_laws.proofs.Computed.{values_have_types}
 
@@ -261,12 +265,73 @@ module _ (n : ℕ) (d : Declared) (std : IsStandard d) (q : Query) (y : BranchTy
       let r = by_goal E e w.0.level e.goal refl w.0.goal in
       (r.0, λ x xs t j k. let s : e ∷ es ≡ x ∷ xs = sym i ∙ j in transport (Enough r.0) (let v : e ≡ x = cc in v) r.1 t k)
 
-  no_denial : (gs : List Entry) → EachOf IsUnnegatedEntry gs → (e : Entry) (es : List Entry) (w : Written) (hs : Goals) → gs ≡ e ∷ es → e.goal ≡ Not w hs → ⊥
-  no_denial [] p e es w hs i j = cc
-  no_denial (x ∷ xs) p e es w hs i j = let s : x.goal ≡ Not w hs = (let v : x ≡ e = cc in ap (λ z. z.goal) v ∙ j) in transport IsUnnegatedGoal s p.0.goal
+  -- what is written in a negated goal and in the assumptions of its place has normal forms
+  part_has_form : (E : List Ty) (t u : Term) (T : Ty) → StandsIn t u → IsTyped d E y.answer.variables u T → (m : ℕ) × IsFound (beta_normal m t)
+  part_has_form E t u T s w =
+      let p = part_typed (over d E y.answer.variables) [] t u T s w.typed in
+      let r = normal_comes (typed_weighs (atom_type (over d E y.answer.variables)) [] t p.0 p.1).1 in
+      (r.0, (r.1, r.2))
 
-  pub branch_has_enough : IsUnnegatedTask (Go b) → (m : ℕ) × HasEnough m (Go b)
-  branch_has_enough u = let r = by_goals y.eigens b.goals refl h.entries in (r.0, (r.1, λ e es w gs i j. absurd (no_denial b.goals u e es w gs i j)))
+  parts_have_forms : (E : List Ty) (u : Term) (T : Ty) → IsTyped d E y.answer.variables u T → (ts : List Term) → EachOf (λ t. StandsIn t u) ts → EachOf (λ t. (m : ℕ) × IsFound (beta_normal m t)) ts
+  parts_have_forms E u T w [] s = tt
+  parts_have_forms E u T w (t ∷ ts) s = (part_has_form E t u T s.0 w, parts_have_forms E u T w ts s.1)
 
-pub branches_have_enough : (n : ℕ) (d : Declared) → IsStandard d → (q : Query) (y : BranchTyping) (b : Branch) → IsTypedBranch n d q y b → IsUnnegatedTask (Go b) → (m : ℕ) × HasEnough m (Go b)
-branches_have_enough n d std q y b h u = branch_has_enough n d std q y b h u
+  one_has_form : (E : List Ty) (cs : List Clause) → EachOf (λ c. IsTyped d E y.answer.variables (formula_of_clause c) o_type) cs → (t : Term) → StandsInOne cs t → (m : ℕ) × IsFound (beta_normal m t)
+  one_has_form E [] w t s = absurd s
+  one_has_form E (c ∷ cs) w t s = elim s [ inl x ↦ part_has_form E t (formula_of_clause c) o_type x w.0 | inr x ↦ one_has_form E cs w.1 t x ]
+
+  ones_have_forms : (E : List Ty) (cs : List Clause) → EachOf (λ c. IsTyped d E y.answer.variables (formula_of_clause c) o_type) cs → (ts : List Term) → EachOf (StandsInOne cs) ts → EachOf (λ t. (m : ℕ) × IsFound (beta_normal m t)) ts
+  ones_have_forms E cs w [] s = tt
+  ones_have_forms E cs w (t ∷ ts) s = (one_has_form E cs w t s.0, ones_have_forms E cs w ts s.1)
+
+  forms_come : (ts : List Term) → EachOf (λ t. (m : ℕ) × IsFound (beta_normal m t)) ts → (m : ℕ) × IsFound (beta_normals m ts)
+  forms_come [] h = (0, ([], refl))
+  forms_come (t ∷ ts) h =
+      let r = forms_come ts h.1 in
+      let m = h.0.0 + r.0 in
+      let i : h.0.0 ≤ h.0.0 + r.0 = omega arith in
+      let j : r.0 ≤ h.0.0 + r.0 = omega arith in
+      let a = beta_normal_more h.0.0 m i t h.0.1.0 h.0.1.1 in
+      let b = normals_more r.0 m j ts r.1.0 r.1.1 in
+      (m, (h.0.1.0 ∷ r.1.0, ap (λ o. o >>= λ s. option_map (λ ss. s ∷ ss) (beta_normals m ts)) a ∙ ap (option_map (λ ss. h.0.1.0 ∷ ss)) b))
+
+  abbrev Denied : ℕ → Entry → Type 0
+  Denied m e = (w : Written) (gs : Goals) → e.goal ≡ Not w gs → IsFound (has_variables m (both_written w e.written))
+
+  written_found : (m : ℕ) (w : Written) → IsFound (beta_normals m w.terms) → IsFound (has_variables m w)
+  written_found m w f = (list_any has_variable f.0 || list_any has_type_variable w.types, ap (option_map (λ ts. list_any has_variable ts || list_any has_type_variable w.types)) f.1)
+
+  denial : (E : List Ty) (e : Entry) → IsTypedEntry d y.answer.variables E e → IsWrittenEntry e → (g : Goal) → e.goal ≡ g → (m : ℕ) × Denied m e
+  denial E e w x (Atomic t) i = (0, λ v gs j. let s : Atomic t ≡ Not v gs = sym i ∙ j in absurd (cc))
+  denial E e w x Cut i = (0, λ v gs j. let s : Cut ≡ Not v gs = sym i ∙ j in absurd (cc))
+  denial E e w x (Either l r) i = (0, λ v gs j. let s : Either l r ≡ Not v gs = sym i ∙ j in absurd (cc))
+  denial E e w x (Exists T hs) i = (0, λ v gs j. let s : Exists T hs ≡ Not v gs = sym i ∙ j in absurd (cc))
+  denial E e w x (Forall T hs) i = (0, λ v gs j. let s : Forall T hs ≡ Not v gs = sym i ∙ j in absurd (cc))
+  denial E e w x (Assume v cs hs) i = (0, λ u gs j. let s : Assume v cs hs ≡ Not u gs = sym i ∙ j in absurd (cc))
+  denial E e w x (Not v hs) i =
+      let t = argument_typed d std E y.answer.variables (formula_of_goals hs) (transport (λ g. IsTyped d E y.answer.variables (formula_of_goal g) o_type) i w.goal) in
+      let s = transport IsWrittenGoal i x.goal in
+      let r = forms_come (both_written v e.written).terms
+      (each_append (λ t. (m : ℕ) × IsFound (beta_normal m t)) v.terms e.written.terms (parts_have_forms E (formula_of_goals hs) o_type t v.terms s.0) (ones_have_forms E e.assumed w.assumed e.written.terms x.place.terms)) in
+      let f = written_found r.0 (both_written v e.written) r.1 in
+      (r.0, λ u gs j. let k : Not v hs ≡ Not u gs = sym i ∙ j in transport (λ z. IsFound (has_variables r.0 (both_written z e.written))) (let l : v ≡ u = cc in l) f)
+
+  by_denial : (Es : List (List Ty)) (gs : List Entry) → b.goals ≡ gs → AreTypedEntries d y.answer.variables Es gs → EachOf IsWrittenEntry gs → (m : ℕ) × ((e : Entry) (es : List Entry) (w : Written) (hs : Goals) → b.goals ≡ e ∷ es → e.goal ≡ Not w hs → IsFound (has_variables m (both_written w e.written)))
+  by_denial [] [] i t x = (0, λ e es w hs j k. absurd (let s = sym i ∙ j in cc))
+  by_denial [] (e ∷ es) i t x = absurd t
+  by_denial (E ∷ Es) [] i t x = absurd t
+  by_denial (E ∷ Es) (e ∷ es) i t x =
+      let r = denial E e t.0 x.0 e.goal refl in
+      (r.0, λ z zs w hs j k. let s : e ∷ es ≡ z ∷ zs = sym i ∙ j in transport (Denied r.0) (let v : e ≡ z = cc in v) r.1 w hs k)
+
+  pub branch_has_enough : (m : ℕ) × HasEnough m (Go b)
+  branch_has_enough =
+      let r = by_goals y.eigens b.goals refl h.entries in
+      let s = by_denial y.eigens b.goals refl h.entries h.written in
+      let m = r.0 + s.0 in
+      let i : r.0 ≤ r.0 + s.0 = omega arith in
+      let j : s.0 ≤ r.0 + s.0 = omega arith in
+      (m, (λ e es t k l. term_more r.0 m i e.level b t (r.1 e es t k l), λ e es w gs k l. found_more _ _ (variables_more s.0 m j (both_written w e.written)) (s.1 e es w gs k l)))
+
+pub branches_have_enough : (n : ℕ) (d : Declared) → IsStandard d → (q : Query) (y : BranchTyping) (b : Branch) → IsTypedBranch n d q y b → (m : ℕ) × HasEnough m (Go b)
+branches_have_enough n d std q y b h = branch_has_enough n d std q y b h

@@ -33,7 +33,7 @@ module _ (n : ℕ) (d : Declared) (std : IsStandard d) (P : List Clause) (q : Qu
   rest_typing = record { answer = z; eigens = Es }
 
   rest : IsTypedBranch n d q (record { answer = z; eigens = Es }) (with_goals b es)
-  rest = record { answer = h.answer; entries = h.entries.1; variables = h.variables; types = h.types; values = h.values; pairs = h.pairs; goals = h.goals.1; stuck = h.stuck }
+  rest = record { answer = h.answer; entries = h.entries.1; variables = h.variables; types = h.types; values = h.values; pairs = h.pairs; goals = h.goals.1; written = h.written.1; stuck = h.stuck }
 
   typed : IsTyped d E z.variables (two 8 (T ∷ []) l r) o_type
   typed = transport (λ w. IsTyped d E z.variables w o_type) shape (form_typed n d std P q z b E Es e es h t u i c)

@@ -68,10 +68,10 @@ module _ (n : ℕ) (d : Declared) (std : IsStandard d) (P : List Clause) (q : Qu
 
   -- goals of the same place
   one_in_place : (x : Term) → IsTyped d E z.variables x o_type → IsPlainTerm b.next_type x → MayStand d z.variables b.next_type (E ∷ []) (in_place e (x ∷ []))
-  one_in_place x w p = record { typed = (record { level = h.entries.0.level; goal = w; assumed = h.entries.0.assumed }, tt); plain = (record { eigens = h.goals.0.eigens; goal = p; assumed = h.goals.0.assumed }, tt) }
+  one_in_place x w p = record { typed = (record { level = h.entries.0.level; goal = w; assumed = h.entries.0.assumed }, tt); plain = (record { eigens = h.goals.0.eigens; goal = p; assumed = h.goals.0.assumed }, tt); written = (record { goal = tt; place = h.written.0.place }, tt) }
 
   truth_stands : connective_of u ≡ connective.True → StandFor n d P q (going (Typings n d P q z b E Es e es (E ∷ Es)) (with_goals b (e ∷ es))) (Go (with_goals b es) ∷ [])
-  truth_stands x = stands_one n d P q z b E Es e es h [] [] (record { typed = tt; plain = tt }) (λ c l. by_parts connective.True x tt c l)
+  truth_stands x = stands_one n d P q z b E Es e es h [] [] (record { typed = tt; plain = tt; written = tt }) (λ c l. by_parts connective.True x tt c l)
 
   both_stand : (a c : Term) → connective_of u ≡ connective.And a c → StandFor n d P q (going (Typings n d P q z b E Es e es (E ∷ Es)) (with_goals b (e ∷ es))) (Go (with_goals b (in_place e (a ∷ c ∷ []) ++ es)) ∷ [])
   both_stand a c x =
@@ -80,7 +80,7 @@ module _ (n : ℕ) (d : Declared) (std : IsStandard d) (P : List Clause) (q : Qu
       let p = transport (IsPlainTerm b.next_type) s form_plain in
       let l = one_in_place a w.0 p.0.1 in
       let m = one_in_place c w.1 p.1 in
-      stands_one n d P q z b E Es e es h (E ∷ E ∷ []) (in_place e (a ∷ c ∷ [])) (record { typed = (l.typed.0, (m.typed.0, tt)); plain = (l.plain.0, (m.plain.0, tt)) })
+      stands_one n d P q z b E Es e es h (E ∷ E ∷ []) (in_place e (a ∷ c ∷ [])) (record { typed = (l.typed.0, (m.typed.0, tt)); plain = (l.plain.0, (m.plain.0, tt)); written = (l.written.0, (m.written.0, tt)) })
       (λ v g. let y = by_parts (connective.And a c) x tt v g in ((λ o. let j = y.0 o in (j.0, (j.1, tt))), (λ o. y.1 (o.0, o.1.0))))
 
   either_stand : (a c : Term) → connective_of u ≡ connective.Or a c → StandFor n d P q (going (Typings n d P q z b E Es e es (E ∷ Es)) (with_goals b (e ∷ es))) (Go (with_goals b (in_place e (a ∷ []) ++ es)) ∷ Go (with_goals b (in_place e (c ∷ []) ++ es)) ∷ [])
@@ -108,7 +108,7 @@ module _ (n : ℕ) (d : Declared) (std : IsStandard d) (P : List Clause) (q : Qu
       let o = transport (λ y. IsTyped d F z.variables (substitute v y) o_type) (sym g.2) (opened_typed d F z.variables T g.0 v a' eig) in
       let pp = transport (λ y. IsPlainTerm b.next_type (substitute v y)) (sym g.2) (plain_opened (IsPlainAtom b.next_type) (IsScopedAtom z.variables F) g.0 v a'.scoped eig.scoped p.1 tt) in
       stands_one n d P q z b E Es e es h (F ∷ []) (at_next_level e (substitute v s) ∷ [])
-      (record { typed = (record { level = pl.is_level; goal = o; assumed = pl.typed }, tt); plain = (record { eigens = pl.below; goal = pp; assumed = pl.plain }, tt) })
+      (record { typed = (record { level = pl.is_level; goal = o; assumed = pl.typed }, tt); plain = (record { eigens = pl.below; goal = pp; assumed = pl.plain }, tt); written = (record { goal = tt; place = h.written.0.place }, tt) })
       (λ c l.
       let E' = map (instance c.types) E in
       let R = clauses_at P e.assumed c in
@@ -134,7 +134,7 @@ module _ (n : ℕ) (d : Declared) (std : IsStandard d) (P : List Clause) (q : Qu
       let o = transport (λ y. IsTyped d E X (substitute v y) o_type) (sym g.2) (opened_typed d E X T g.0 v a' nt) in
       let pp = transport (λ y. IsPlainTerm b.next_type (substitute v y)) (sym g.2) (plain_opened (IsPlainAtom b.next_type) (IsScopedAtom X E) g.0 v a'.scoped nt.scoped p.1 tt) in
       stands_new n d P q z b E Es e es h T p.0.1.0 (substitute v s) (E ∷ []) (in_place e (substitute v s ∷ []))
-      (record { typed = (record { level = np.is_level; goal = o; assumed = np.typed }, tt); plain = (record { eigens = np.below; goal = pp; assumed = np.plain }, tt) })
+      (record { typed = (record { level = np.is_level; goal = o; assumed = np.typed }, tt); plain = (record { eigens = np.below; goal = pp; assumed = np.plain }, tt); written = (record { goal = tt; place = h.written.0.place }, tt) })
       (λ c l. by_parts (connective.Exists T s) x tt c l)
       (λ c l. ((λ m. (m, tt)), (λ m. m.0)))
 

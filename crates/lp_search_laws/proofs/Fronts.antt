@@ -3,6 +3,7 @@ use Rattle.std.proofs.Common.{ℕ, List, [], ◌∷◌, ◌++◌, map, refl, inl
 use Rattle.std.specs.Prelude.{◌⊎◌}
 use Rattle.lp_calculus.specs.Types.{Ty}
 use Rattle.lp_lemmas.specs.Each.{EachOf}
+use Rattle.lp_lemmas.proofs.Each.{each_append}
 use Rattle.lp_model.specs.Pair.{Closing}
 use Rattle.lp_model.specs.Flat.{Written, Goal, Clause}
 use Rattle.lp_model.specs.Branch.{Entry, Branch, Go, entries}
@@ -10,6 +11,7 @@ use Rattle.lp_model.specs.Answers.{Query, Variable, Instance, AnswerTyping, Clos
 use Rattle.lp_model.specs.Proofs.{Declared}
 use Rattle.lp_model.specs.Search.{with_goals}
 use Rattle.lp_search_laws.specs.Branches.{IsTypedEntry, AreTypedEntries, IsPlainEntry, ArePlainEntries, EntryHolds, AreProved, BranchTyping, IsTypedBranch, SolvesBranch, StandFor, going}
+use Rattle.lp_search_laws.specs.Written.{IsWrittenGoal, IsWrittenPlace, IsWrittenEntry}
 
 pub typed_append : (d : Declared) (V : List Variable) (Fs Es : List (List Ty)) (fs es : List Entry) → AreTypedEntries d V Fs fs → AreTypedEntries d V Es es → AreTypedEntries d V (Fs ++ Es) (fs ++ es)
 typed_append d V [] Es [] es h k = k
@@ -39,6 +41,7 @@ proved_split d P c V (F ∷ Fs) Es (f ∷ fs) es t h = let r = proved_split d P 
 pub record MayStand (d : Declared) (V : List Variable) (k : ℕ) (Fs : List (List Ty)) (fs : List Entry) : Type 0 where
   pub typed : AreTypedEntries d V Fs fs
   pub plain : ArePlainEntries k Fs fs
+  pub written : EachOf IsWrittenEntry fs
 
 module _ (n : ℕ) (d : Declared) (P : List Clause) (q : Query) (z : AnswerTyping) (b : Branch) (E : List Ty) (Es : List (List Ty)) (e : Entry) (es : List Entry) where
   abbrev pub Typings : List (List Ty) → BranchTyping
@@ -59,6 +62,7 @@ module _ (n : ℕ) (d : Declared) (P : List Clause) (q : Query) (z : AnswerTypin
     values = h.values;
     pairs = h.pairs;
     goals = plain_append b.next_type Fs Es fs es m.plain h.goals.1;
+    written = each_append IsWrittenEntry fs es m.written h.written.1;
     stuck = h.stuck;
   }
 
@@ -111,6 +115,6 @@ hold_entries d P c E A W l m [] h = tt
 hold_entries d P c E A W l m (g ∷ gs) h = (h.0, hold_entries d P c E A W l m gs h.1)
 
 pub entries_stand : (d : Declared) (V : List Variable) (k : ℕ) (E : List Ty) (A : List Clause) (W : Written) (level mark : ℕ) (gs : List Goal) →
-    EachOf (λ g. IsTypedEntry d V E (record { goal = g; assumed = A; written = W; level = level; mark = mark })) gs → EachOf (λ g. IsPlainEntry k E (record { goal = g; assumed = A; written = W; level = level; mark = mark })) gs → MayStand d V k (each_at E gs) (entries gs A W level mark)
-entries_stand d V k E A W l m [] t p = record { typed = tt; plain = tt }
-entries_stand d V k E A W l m (g ∷ gs) t p = let r = entries_stand d V k E A W l m gs t.1 p.1 in record { typed = (t.0, r.typed); plain = (p.0, r.plain) }
+    EachOf (λ g. IsTypedEntry d V E (record { goal = g; assumed = A; written = W; level = level; mark = mark })) gs → EachOf (λ g. IsPlainEntry k E (record { goal = g; assumed = A; written = W; level = level; mark = mark })) gs → IsWrittenPlace A W → EachOf IsWrittenGoal gs → MayStand d V k (each_at E gs) (entries gs A W level mark)
+entries_stand d V k E A W l m [] t p a w = record { typed = tt; plain = tt; written = tt }
+entries_stand d V k E A W l m (g ∷ gs) t p a w = let r = entries_stand d V k E A W l m gs t.1 p.1 a w.1 in record { typed = (t.0, r.typed); plain = (p.0, r.plain); written = (record { goal = w.0; place = a }, r.written) }

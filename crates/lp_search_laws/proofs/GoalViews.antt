@@ -18,12 +18,14 @@ use Rattle.lp_unify_laws.proofs.Scopes.{prefix_more, prefix_none, more_none, eig
 use Rattle.lp_unify_laws.proofs.TypedInstances.{length_map, map_append}
 use Rattle.lp_search_laws.specs.Holds.{Holds, IsTyped}
 use Rattle.lp_search_laws.specs.Clauses.{clauses_at}
-use Rattle.lp_search_laws.specs.Branches.{IsGoal, EntryHolds, StandFor, AreTypedTasks, DeniesTyped, BranchTyping, IsTypedBranch, no_query, going, stopping}
+use Rattle.lp_search_laws.specs.Branches.{IsGoal, EntryHolds, StandFor, DeniesTyped, BranchTyping, IsTypedBranch, no_query, going, stopping}
 use Rattle.lp_search_laws.proofs.Connectives.{either_holds, pi_holds, implied_holds, sigma_holds}
 use Rattle.lp_search_laws.proofs.Formed.{formula_at}
 use Rattle.lp_search_laws.proofs.TypedParts.{both_typed, function_typed, opened_typed, typed_wider, clauses_typed, clauses_each, argument_typed}
 use Rattle.lp_search_laws.proofs.Fronts.{each_at, Typings, Typed as IsTypedHere, branch_stays, stands_one, stands_two}
 use Rattle.lp_search_laws.proofs.NewVariable.{stands_new, clauses_more, unused_new}
+use Rattle.lp_search_laws.specs.Written.{IsWrittenGoal, IsWrittenPlace}
+use Rattle.lp_search_laws.proofs.Written.{written_more}
 use Rattle.lp_search_laws.proofs.FlatViews.{IsPlaceOf, place_of, goals_stand, goals_proved, opened_stand, opened_proved, next_place, assumed_proved}
 use Rattle.lp_lemmas.proofs.Each.{each_append}
 use Rattle.lp_search_laws.specs.Branches.{IsAssumable}
@@ -35,6 +37,12 @@ module _ (n : ℕ) (d : Declared) (std : IsStandard d) (P : List Clause) (q : Qu
 
   abbrev pub k : ℕ
   k = b.next_type
+
+  pub written_place : IsWrittenPlace e.assumed e.written
+  written_place = h.written.0.place
+
+  pub written_as : (g : Goal) → e.goal ≡ g → IsWrittenGoal g
+  written_as g i = transport IsWrittenGoal i h.written.0.goal
 
   pub place : IsPlaceOf d z.variables b.next_type E e.assumed e.level
   place = place_of d z.variables b.next_type E e h.entries.0 h.goals.0
@@ -53,15 +61,16 @@ module _ (n : ℕ) (d : Declared) (std : IsStandard d) (P : List Clause) (q : Qu
   by_goal g i c A r = ((λ p. r.0 (transport (λ x. HoldsHere c (formula_of_goal x)) i p)), (λ a. transport (λ x. HoldsHere c (formula_of_goal x)) (sym i) (r.1 a)))
 
   pub cut_stands : e.goal ≡ Cut → StandFor n d P q (going (Typings n d P q z b E Es e es (E ∷ Es)) (with_goals b (e ∷ es))) (Go (with_goals b es) ∷ [])
-  cut_stands i = stands_one n d P q z b E Es e es h [] [] (record { typed = tt; plain = tt }) (λ c l. by_goal Cut i c _ ((λ p. tt), (λ p. record { proof = True; holds = inr refl })))
+  cut_stands i = stands_one n d P q z b E Es e es h [] [] (record { typed = tt; plain = tt; written = tt }) (λ c l. by_goal Cut i c _ ((λ p. tt), (λ p. record { proof = True; holds = inr refl })))
 
   pub either_stands : (l r : Goals) → e.goal ≡ Either l r → StandFor n d P q (going (Typings n d P q z b E Es e es (E ∷ Es)) (with_goals b (e ∷ es))) (Go (with_goals b (entries (goal_list l) e.assumed e.written e.level e.mark ++ es)) ∷ Go (with_goals b (entries (goal_list r) e.assumed e.written e.level e.mark ++ es)) ∷ [])
   either_stands l r i =
       let t = both_typed d E V 1 (formula_of_goals l) (formula_of_goals r) (connective d std 1 (omega arith)) (typed_as (Either l r) i) in
       let w = plain_as (Either l r) i in
+      let v = written_as (Either l r) i in
       stands_two n d P q z b E Es e es h (each_at E (goal_list l)) (each_at E (goal_list r)) (entries (goal_list l) e.assumed e.written e.level e.mark) (entries (goal_list r) e.assumed e.written e.level e.mark)
-      (goals_stand d std V k E e.assumed e.written e.level e.mark place l t.0 w.0)
-      (goals_stand d std V k E e.assumed e.written e.level e.mark place r t.1 w.1)
+      (goals_stand d std V k E e.assumed e.written e.level e.mark place written_place l t.0 w.0 v.0)
+      (goals_stand d std V k E e.assumed e.written e.level e.mark place written_place r t.1 w.1 v.1)
       (λ c s.
       let o = either_holds d std (map (instance c.types) E) (clauses_at P e.assumed c) c (formula_of_goals l) (formula_of_goals r) (formula_at d V c s E _ (typed_as (Either l r) i)) in
       let a = goals_proved d std P V c s E e.assumed e.written e.level e.mark l t.0 in
@@ -86,7 +95,7 @@ module _ (n : ℕ) (d : Declared) (std : IsStandard d) (P : List Clause) (q : Qu
       } in
       let t = opened_typed d F V T (abs (formula_of_goals gs)) u s' eig in
       stands_one n d P q z b E Es e es h (each_at F (goal_list (instantiate_goals f gs))) (entries (goal_list (instantiate_goals f gs)) e.assumed e.written (suc e.level) e.mark)
-      (opened_stand d std V k F e.assumed e.written (suc e.level) e.mark pl true u f a tt (λ x. tt) gs t w.1)
+      (opened_stand d std V k F e.assumed e.written (suc e.level) e.mark pl written_place true u f a tt (λ x. tt) gs t w.1 (written_as (Forall T gs) i))
       (λ c l.
       let E' = map (instance c.types) E in
       let R = clauses_at P e.assumed c in
@@ -102,8 +111,8 @@ module _ (n : ℕ) (d : Declared) (std : IsStandard d) (P : List Clause) (q : Qu
       ))
 
   -- behind a negated goal
-  pub rest_typed : AreTypedTasks n d P q (Go (with_goals b es) ∷ [])
-  rest_typed = record { typed = going (Typings n d P q z b E Es e es Es) (with_goals b es) ∷ []; is = refl; ok = (branch_stays n d P q z b E Es e es h [] [] (record { typed = tt; plain = tt }), tt) }
+  pub rest_typed : IsTypedBranch n d q (Typings n d P q z b E Es e es Es) (with_goals b es)
+  rest_typed = branch_stays n d P q z b E Es e es h [] [] (record { typed = tt; plain = tt; written = tt })
 
   -- the search of a negated goal begins with its goals alone
   abbrev pub inner_branch : Goals → Branch
@@ -117,7 +126,7 @@ module _ (n : ℕ) (d : Declared) (std : IsStandard d) (P : List Clause) (q : Qu
 
   pub inner_typed : (ws : Written) (gs : Goals) → e.goal ≡ Not ws gs → IsTypedBranch n d no_query (inner_typing gs) (inner_branch gs)
   inner_typed ws gs i =
-      let m = goals_stand d std z.variables b.next_type E e.assumed e.written e.level 0 place gs (inner_goals_typed ws gs i) (plain_as (Not ws gs) i) in
+      let m = goals_stand d std z.variables b.next_type E e.assumed e.written e.level 0 place written_place gs (inner_goals_typed ws gs i) (plain_as (Not ws gs) i) (written_as (Not ws gs) i).1 in
       record {
         answer = record { variables = h.answer.variables; types = refl; values = tt; pairs = tt };
         entries = m.typed;
@@ -126,11 +135,12 @@ module _ (n : ℕ) (d : Declared) (std : IsStandard d) (P : List Clause) (q : Qu
         values = tt;
         pairs = tt;
         goals = m.plain;
+        written = m.written;
         stuck = tt;
       }
 
-  pub denied_stands : (ws : Written) (gs : Goals) → e.goal ≡ Not ws gs → DeniesTyped n d P q (Go (inner_branch gs)) (Go (with_goals b es) ∷ [])
-  denied_stands ws gs i = record { typing = inner_typing gs; branch = inner_branch gs; is = refl; begins = inner_typed ws gs i; after = rest_typed }
+  pub denied_stands : (ws : Written) (gs : Goals) → e.goal ≡ Not ws gs → DeniesTyped n d q (Go (inner_branch gs)) (Go (with_goals b es) ∷ [])
+  denied_stands ws gs i = record { typing = inner_typing gs; branch = inner_branch gs; is = refl; begins = inner_typed ws gs i; rest_typing = Typings n d P q z b E Es e es Es; rest = with_goals b es; goes_on = refl; after = rest_typed }
 
   -- one in which a variable stands stops the search
   pub open_stands : StandFor n d P q (going (Typings n d P q z b E Es e es (E ∷ Es)) (with_goals b (e ∷ es))) (Stop OpenNot ∷ [])
@@ -146,6 +156,7 @@ module _ (n : ℕ) (d : Declared) (std : IsStandard d) (P : List Clause) (q : Qu
   assume_stands ws cs gs i =
       let t = both_typed d E V 2 (formula_of_clauses cs) (formula_of_goals gs) (connective d std 2 (omega arith)) (typed_as (Assume ws cs gs) i) in
       let w = plain_as (Assume ws cs gs) i in
+      let v = written_as (Assume ws cs gs) i in
       let A = clause_list cs ++ e.assumed in
       let pl : IsPlaceOf d z.variables b.next_type E (clause_list cs ++ e.assumed) e.level = record {
         is_level = place.is_level;
@@ -153,7 +164,7 @@ module _ (n : ℕ) (d : Declared) (std : IsStandard d) (P : List Clause) (q : Qu
         typed = each_append (λ c. IsTyped d E z.variables (formula_of_clause c) o_type) (clause_list cs) e.assumed (clauses_typed d std E z.variables cs t.0) place.typed;
         plain = each_append (IsAssumable b.next_type) (clause_list cs) e.assumed (clauses_each b.next_type cs w.0) place.plain;
       } in
-      stands_one n d P q z b E Es e es h (each_at E (goal_list gs)) (entries (goal_list gs) A (both_written ws e.written) e.level e.mark) (goals_stand d std V k E A (both_written ws e.written) e.level e.mark pl gs t.1 w.1)
+      stands_one n d P q z b E Es e es h (each_at E (goal_list gs)) (entries (goal_list gs) A (both_written ws e.written) e.level e.mark) (goals_stand d std V k E A (both_written ws e.written) e.level e.mark pl (written_more written_place ws cs v.0 v.1) gs t.1 w.1 v.2)
       (λ c l.
       let E' = map (instance c.types) E in
       let o = implied_holds d std E' (clauses_at P e.assumed c) c (formula_of_clauses cs) (formula_of_goals gs) (formula_at d V c l E _ (typed_as (Assume ws cs gs) i)) in
@@ -186,6 +197,6 @@ module _ (n : ℕ) (d : Declared) (std : IsStandard d) (P : List Clause) (q : Qu
       let s' = typed_wider d E E V X (prefix_none E) (record { more = record { type = T; scope = E } ∷ []; is = refl }) (abs (formula_of_goals gs)) _ s in
       let t = opened_typed d E X T (abs (formula_of_goals gs)) u s' (new_typed T) in
       stands_new n d P q z b E Es e es h T w.0 (substitute u (formula_of_goals gs)) (each_at E (goal_list (instantiate_goals f gs))) (entries (goal_list (instantiate_goals f gs)) e.assumed e.written e.level e.mark)
-      (opened_stand d std X k E e.assumed e.written e.level e.mark (new_place T) false u f a tt (λ x. absurd (cc)) gs t w.1)
+      (opened_stand d std X k E e.assumed e.written e.level e.mark (new_place T) written_place false u f a tt (λ x. absurd (cc)) gs t w.1 (written_as (Exists T gs) i))
       (λ c l. by_goal (Exists T gs) i c _ (sigma_holds d std (map (instance c.types) E) (clauses_at P e.assumed c) c b.next e.level T (abs (formula_of_goals gs)) (unused_new d E V b.next e.level (sym h.answer.variables) (abs (formula_of_goals gs)) _ s.typed) (formula_at d V c l E _ (typed_as (Exists T gs) i))))
       (λ c l. opened_proved d std P X c l E e.assumed e.written e.level e.mark u f a gs t)

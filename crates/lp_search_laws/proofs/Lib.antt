@@ -73,5 +73,9 @@ pub mod Limits
 pub mod Refuted
 pub mod Tested
 pub mod Unnegated
+pub mod Stands
+pub mod Written
+pub mod WrittenBehind
+pub mod WrittenFlat
 pub mod UnnegatedFlat
 pub mod UnnegatedStarts

@@ -46,7 +46,7 @@ IsLacking t = t ≡ Lack
 abbrev Looks : View Task Answer → View Task Answer → Type 0
 Looks v w = Fewer IsLacking v w
 
-normals_more : (n m : ℕ) → n ≤ m → (ts : List Term) → Below (beta_normals n ts) (beta_normals m ts)
+pub normals_more : (n m : ℕ) → n ≤ m → (ts : List Term) → Below (beta_normals n ts) (beta_normals m ts)
 normals_more n m l [] = below_same _
 normals_more n m l (t ∷ ts) = λ us e.
     let x = and_then_some (beta_normal n t) (λ s. option_map (λ ss. s ∷ ss) (beta_normals n ts)) us e in

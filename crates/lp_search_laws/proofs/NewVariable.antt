@@ -27,6 +27,7 @@ use Rattle.lp_search_laws.specs.Clauses.{clauses_at, assumed_as, sentence_of}
 use Rattle.lp_search_laws.specs.Branches.{AreTypedEntries, AreProved, EntryHolds, BranchTyping, IsTypedBranch, SolvesBranch, IsPlainVariable, StandFor, going}
 use Rattle.lp_search_laws.proofs.Closed.{unused_closed, value_at}
 use Rattle.lp_search_laws.proofs.TypedParts.{typed_wider}
+use Rattle.lp_search_laws.specs.Written.{IsWrittenEntry}
 use Rattle.lp_search_laws.proofs.Fronts.{MayStand, Typings, Typed as IsTypedHere, typed_append, plain_append, proved_append, proved_split}
 
 -- with more variables
@@ -186,6 +187,7 @@ module _ (n : ℕ) (d : Declared) (P : List Clause) (q : Query) (z : AnswerTypin
     values = h.values;
     pairs = h.pairs;
     goals = plain_append b.next_type Fs Es fs es m.plain h.goals.1;
+    written = each_append IsWrittenEntry fs es m.written h.written.1;
     stuck = h.stuck;
   }
 

@@ -44,7 +44,7 @@ mutual
   goals_instantiate f (goals g no_goals) = goal_instantiate f g
   goals_instantiate f (goals g (goals h gs)) = two_same 0 (goal_instantiate f g) (goals_instantiate f (goals h gs))
 
-  clause_instantiate : (f : ℕ → Term) (c : Clause) → formula_of_clause (map_clause lifted instantiate same_type f c) ≡ instantiate f (formula_of_clause c)
+  pub clause_instantiate : (f : ℕ → Term) (c : Clause) → formula_of_clause (map_clause lifted instantiate same_type f c) ≡ instantiate f (formula_of_clause c)
   clause_instantiate f (clause n vs h no_goals) = ap (λ z. all_of z (instantiate (under_all lifted vs f) h)) (map_same vs) ∙ all_instantiate vs f h
   clause_instantiate f (clause n vs h (goals g gs)) =
       ap (λ z. all_of z (two 2 [] (formula_of_goals (map_goals lifted instantiate same_type (under_all lifted vs f) (goals g gs))) (instantiate (under_all lifted vs f) h))) (map_same vs) ∙

@@ -386,6 +386,7 @@ with_typed n d q y b eqs h = record {
   values = h.values;
   pairs = h.pairs;
   goals = h.goals;
+  written = h.written;
   stuck = h.stuck;
 }
 

@@ -31,6 +31,7 @@ use Rattle.lp_search_laws.specs.Branches.{IsPlainTerm, IsGoal, IsAssumable, AreP
 use Rattle.lp_search_laws.specs.Behind.{IsBranchWith, behind, types_of, variables_of, eigens_of}
 use Rattle.lp_search_laws.proofs.TypesPut.{put_types_is, put_types_in_is, satisfied_instance}
 use Rattle.lp_search_laws.proofs.Entries.{put_in, put_one, type_one, behind_none, behind_each, are_shut, entries_behind}
+use Rattle.lp_search_laws.proofs.WrittenBehind.{written_behind}
 use Rattle.lp_standard.specs.Positive.{IsPositive}
 use Rattle.lp_search_laws.proofs.PlainTypes.{agree_type, agree_term, IsBelow, plain_below, goal_kept, assumable_kept, binding_keeps_plain, one_keeps_plain, list_below, type_below, types_of_below, put_all_plain, types_in_plain, ArePlainBindings, ArePlainTypes, cut_off, cut_agrees, plain_positive}
 
@@ -277,5 +278,6 @@ resumed_typed n d q y b s W eqs h u m pb pp st mo len tb r =
       values = terms_plain k bs ts pb m.plain b.values h.values;
       pairs = pp;
       goals = entries_plain k bs ts pb m.plain y.eigens b.goals h.goals;
+      written = written_behind bs ts (are_shut d X (types_of ts) bs tx) b.goals h.written;
       stuck = st;
     }

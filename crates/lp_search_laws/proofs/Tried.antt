@@ -128,6 +128,7 @@ module _ (n height : ℕ) (d : Declared) (std : IsStandard d) (P : List Clause) 
     values = typed.values;
     pairs = typed.pairs;
     goals = (record { eigens = typed.goals.0.eigens; goal = plain_reduct d E z.variables t u o_type b.next_type reduces goal_typed goal_plain; assumed = typed.goals.0.assumed }, typed.goals.1);
+    written = (record { goal = tt; place = typed.written.0.place }, typed.written.1);
     stuck = typed.stuck;
   }
 

@@ -1,5 +1,5 @@
 -- The branch that a try makes, before unification: its goals are typed once the types of the heads are one.
-use Rattle.std.proofs.Common.{◌≡◌, ℕ, ◌+◌, List, [], ◌∷◌, ◌++◌, map, length, refl, sym, subst as transport, arith}
+use Rattle.std.proofs.Common.{◌≡◌, ℕ, ◌+◌, List, [], ◌∷◌, ◌++◌, map, length, refl, sym, subst as transport, arith, inl, inr}
 use Rattle.lp_unify_laws.specs.TypesBelow.{AreTypesBelow}
 use Rattle.lp_calculus.specs.Types.{Ty, instance}
 use Rattle.lp_calculus.specs.Term.{Term}
@@ -22,6 +22,7 @@ use Rattle.lp_unify_laws.proofs.Scopes.{in_scope, typed_grows, scope_grows, pref
 use Rattle.lp_proof_laws.proofs.Uniform.Roots.{connective}
 use Rattle.lp_search_laws.specs.Holds.{IsTyped}
 use Rattle.lp_search_laws.specs.Branches.{AreTypedEntries, IsGoal, AreGoals, IsAssumable, ArePlainEntries, IsPlainVariable, IsProgramTyped, IsTypedTry, BranchTyping, with_atom, answer_of}
+use Rattle.lp_search_laws.specs.Written.{AreWrittenGoals, IsWrittenClause, IsWrittenEntry}
 use Rattle.lp_search_laws.specs.Behind.{types_of, IsTypedAt, AreEntriesAt, IsBranchWith}
 use Rattle.lp_search_laws.specs.Tries.{new_variables, tried_values, tried_typing, tried_branch_of}
 use Rattle.lp_search_laws.proofs.Opened.{goals_instantiate}
@@ -30,6 +31,8 @@ use Rattle.lp_search_laws.proofs.Fronts.{plain_append}
 use Rattle.lp_search_laws.proofs.Entries.{entries_at}
 use Rattle.lp_search_laws.proofs.MatchTyped.{body_typed}
 use Rattle.lp_search_laws.proofs.TryMatches as tries
+use Rattle.lp_search_laws.proofs.TryMatches.{any_each}
+use Rattle.lp_search_laws.proofs.Written.{goals_each as written_each, instantiated_goals, typed_goals, list_entries}
 use Rattle.lp_search_laws.proofs.MoreTypes.{types_more, assumable_more, entries_more, variables_more, pairs_more, values_more}
 
 -- over more variables
@@ -138,6 +141,12 @@ module _ (n : ℕ) (d : Declared) (std : IsStandard d) (P : List Clause) (progra
     pairs = pairs_wider d V (V ++ N) more y.answer.pairs b.pairs w.branch.answer.pairs;
   }
 
+  body_written : AreWrittenGoals g
+  body_written = elim w.stands [
+    | inl i ↦ (any_each (IsProgramTyped d) (clause k vs h g) P i program).written
+    | inr i ↦ any_each IsWrittenClause (clause k vs h g) e.assumed i w.branch.written.0.place.clauses
+  ]
+
   -- what is plain in the clause's own part is given
   pub tried_branch : AreGoals j [] body → EachOf (IsPlainVariable j) N → IsBranchWith n d q (type_pairs (head_of t) (head_of head)) (tried_typing y E Es k vs h g t e b) (tried_branch_of y.answer.variables k vs h g t e b mark)
   tried_branch goals_plain variables_plain =
@@ -152,5 +161,7 @@ module _ (n : ℕ) (d : Declared) (std : IsStandard d) (P : List Clause) (progra
         goals = plain_append j (map (λ x. E) (goal_list body)) Es (entries (goal_list body) e.assumed e.written e.level mark) b.goals
             (new_plain j E e.assumed e.written e.level mark (types_more b.next_type j (omega arith) E p.0.eigens) (assumable_more b.next_type j (omega arith) e.assumed p.0.assumed) (goal_list body) (goals_each j [] body goals_plain))
             (entries_more b.next_type j (omega arith) Es b.goals p.1);
+        written = each_append IsWrittenEntry (entries (goal_list body) e.assumed e.written e.level mark) b.goals
+            (list_entries (goal_list body) e.assumed e.written e.level mark (written_each body (instantiated_goals values (type_goals ρ g) (typed_goals ρ g body_written))) w.branch.written.0.place) w.branch.written.1;
         stuck = w.branch.stuck;
       }

@@ -1,5 +1,5 @@
 -- The answers of a search of the whole language are well formed: what a typed task turns out to be is typed, negated goals too.
-use Rattle.std.proofs.Common.{◌≡◌, ℕ, List, [], ◌∷◌, map, length, Some, refl, subst as transport, inl, inr}
+use Rattle.std.proofs.Common.{◌≡◌, ℕ, List, [], ◌∷◌, map, length, Some, refl, subst as transport, inl, inr, sym}
 use Rattle.lp_model.specs.Unify.{unit_limit}
 use Rattle.lp_lemmas.specs.Each.{AnyOf, EachOf}
 use Rattle.lp_standard.specs.Schemes.{IsStandard}
@@ -49,7 +49,7 @@ module _ (n : ℕ) (d : Declared) (std : IsStandard d) (P : List Clause) (progra
   view_fine T (Parts ts) r = all_kept r.typed r.ok ts r.is
   view_fine T (Takes name ts) r = all_kept r.typed r.ok ts r.is
   view_fine T (Cuts m ts) r = all_kept r.typed r.ok ts r.is
-  view_fine T (Denies t is_final ts) r = all_kept r.after.typed r.after.ok ts r.after.is
+  view_fine T (Denies t is_final ts) r = transport (EachOf Kept) (sym r.goes_on) (record { task = going r.rest_typing r.rest; ok = r.after; is = refl }, tt)
   view_fine T (Halts e) r = r
   view_fine T Lacks r = tt
 

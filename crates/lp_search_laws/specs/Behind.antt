@@ -17,6 +17,7 @@ use Rattle.lp_model.specs.Branch.{Entry, Branch, put_entries, type_entries}
 use Rattle.lp_unify_laws.specs.TypeSolutions.{Unifies, Satisfies}
 use Rattle.lp_unify_laws.specs.Solutions.{instance_variable, through_bindings, AreStuck}
 use Rattle.lp_search_laws.specs.Holds.{IsTyped}
+use Rattle.lp_search_laws.specs.Written.{IsWrittenEntry}
 use Rattle.lp_search_laws.specs.Branches.{IsPlainTerm, IsPlainVariable, IsPlainPair, ArePlainEntries, BranchTyping, SolvesBranch, answer_of}
 
 -- the closing c is, through bindings and types, the closing z: to the variables V they give the same
@@ -64,6 +65,7 @@ pub record IsBranchWith (n : ℕ) (d : Declared) (q : Query) (eqs : List TypePai
   pub values : EachOf (IsPlainTerm b.next_type) b.values
   pub pairs : EachOf (IsPlainPair b.next_type) b.pairs
   pub goals : ArePlainEntries b.next_type y.eigens b.goals
+  pub written : EachOf IsWrittenEntry b.goals
   pub stuck : AreStuck n b.pairs
 
 -- an instance of the branch by a closing that solves equations and pairs besides

@@ -24,6 +24,7 @@ use Rattle.lp_model.specs.Search.{with_goals, has_head}
 use Rattle.lp_unify_laws.specs.Solutions.{AreStuck}
 use Rattle.lp_search_laws.specs.Holds.{Holds, IsTyped}
 use Rattle.lp_search_laws.specs.Clauses.{Serves, clauses_at, own_types}
+use Rattle.lp_search_laws.specs.Written.{IsWrittenClause, IsWrittenEntry}
 
 -- goals and clauses: atoms are positive, type variables are below k
 
@@ -81,6 +82,7 @@ IsAssumable k c = (own_types c ≡ 0) × IsClause k [] c
 pub record IsProgramTyped (d : Declared) (c : Clause) : Type 0 where
   pub typed : IsTyped d [] [] (formula_of_clause c) o_type
   pub form : IsClause (own_types c) [] c
+  pub written : IsWrittenClause c
 
 -- entries, each with the types of the eigenconstants up to its level
 
@@ -145,6 +147,7 @@ pub record IsTypedBranch (n : ℕ) (d : Declared) (q : Query) (y : BranchTyping)
   pub values : EachOf (IsPlainTerm b.next_type) b.values
   pub pairs : EachOf (IsPlainPair b.next_type) b.pairs
   pub goals : ArePlainEntries b.next_type y.eigens b.goals
+  pub written : EachOf IsWrittenEntry b.goals
   pub stuck : AreStuck n b.pairs
 
 -- closed types and closed positive terms of the types of the query's variables
@@ -229,23 +232,20 @@ pub record StandFor (n : ℕ) (d : Declared) (P : List Clause) (q : Query) (T : 
   pub keeps : (i : Instance) → Sol d P q i T → AnyOf (Sol d P q i) typed
   pub gives : (i : Instance) → AnyOf (Sol d P q i) typed → Sol d P q i T
 
--- typed tasks, whatever their solutions
-pub record AreTypedTasks (n : ℕ) (d : Declared) (P : List Clause) (q : Query) (ts : List Task) : Type 0 where
-  pub typed : List TypedTask
-  pub is : map task_of typed ≡ ts
-  pub ok : EachOf (IsOk n d P q) typed
-
 -- a query without variables
 abbrev pub no_query : Query
 no_query = record { type_vars = 0; vars = []; formula = truth }
 
--- of a negated goal: its search begins with a typed branch, over the same variables and of no query; and what stands behind it is typed
-pub record DeniesTyped (n : ℕ) (d : Declared) (P : List Clause) (q : Query) (u : Task) (ts : List Task) : Type 0 where
+-- of a negated goal: its search begins with a typed branch, over the same variables and of no query; and what stands behind it is a typed branch
+pub record DeniesTyped (n : ℕ) (d : Declared) (q : Query) (u : Task) (ts : List Task) : Type 0 where
   pub typing : BranchTyping
   pub branch : Branch
   pub is : u ≡ Go branch
   pub begins : IsTypedBranch n d no_query typing branch
-  pub after : AreTypedTasks n d P q ts
+  pub rest_typing : BranchTyping
+  pub rest : Branch
+  pub goes_on : ts ≡ Go rest ∷ []
+  pub after : IsTypedBranch n d q rest_typing rest
 
 -- an answer in its place
 pub record AnswersFor (d : Declared) (P : List Clause) (q : Query) (T : TypedTask) (a : Answer) : Type 0 where
@@ -261,7 +261,7 @@ IsRightView n d P q T (Opens ts) = StandFor n d P q T ts
 IsRightView n d P q T (Parts ts) = StandFor n d P q T ts
 IsRightView n d P q T (Takes name ts) = StandFor n d P q T ts
 IsRightView n d P q T (Cuts m ts) = StandFor n d P q T ts
-IsRightView n d P q T (Denies t is_final ts) = DeniesTyped n d P q t ts
+IsRightView n d P q T (Denies t is_final ts) = DeniesTyped n d q t ts
 IsRightView n d P q T (Halts e) = e ≢ NoMore
 IsRightView n d P q T Lacks = Unit {0}
 

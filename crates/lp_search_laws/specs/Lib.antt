@@ -8,4 +8,5 @@ pub mod Right
 pub mod Started
 pub mod Tries
 pub mod Unnegated
+pub mod Written
 pub mod Begun

@@ -12,11 +12,10 @@ ghost use Rattle.lp_model.specs.Proofs.{Declared};
 ghost use Rattle.lp_standard.specs.Schemes.{IsStandard};
 ghost use Rattle.lp_search_laws.specs.Branches.{BranchTyping, IsTypedBranch, IsTypedTry, IsProgramTyped};
 ghost use Rattle.lp_search_laws.specs.Enough.{HasEnough};
-ghost use Rattle.lp_search_laws.specs.Unnegated.{IsUnnegatedTask};
 
-/// What is looked at in a typed branch without negation comes to something.
+/// What is looked at in a typed branch comes to something.
 pub fn branches_have_enough()
-    ensures { (n : ℕ) (d : Declared) → IsStandard d → (q : Query) (y : BranchTyping) (b : Branch) → IsTypedBranch n d q y b → IsUnnegatedTask (Go b) → (m : ℕ) × HasEnough m (Go b) }
+    ensures { (n : ℕ) (d : Declared) → IsStandard d → (q : Query) (y : BranchTyping) (b : Branch) → IsTypedBranch n d q y b → (m : ℕ) × HasEnough m (Go b) }
 {}
 
 /// So does what a typed try unifies.

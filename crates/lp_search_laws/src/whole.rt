@@ -27,7 +27,7 @@ pub fn plain_search_is_right()
     ensures { (d : Declared) → IsStandard d → (l : ℕ) (F : List ClauseFormula) (P : List Clause) → EachOf (IsPlainSentence d) F → AreFlattened d F P → (q : Query) (gs : Goals) → IsPlainQuery d q → flatten_query l d q.formula ≡ Some gs → (n j m steps answers : ℕ) → IsRight d F q (run (look unit_limit n P) j m (start q.type_vars (length q.vars) gs steps answers)) }
 {}
 
-/// The search comes to a value, for each limit on steps and answers.
-pub fn plain_search_comes_to_a_value()
-    ensures { (d : Declared) → IsStandard d → (l : ℕ) (F : List ClauseFormula) (P : List Clause) → EachOf (IsPlainSentence d) F → AreFlattened d F P → (q : Query) (gs : Goals) → IsPlainQuery d q → flatten_query l d q.formula ≡ Some gs → (steps answers : ℕ) → (t : Told Answer) × ComesTo P (start q.type_vars (length q.vars) gs steps answers) t }
+/// The search comes to a value, for each limit on steps and answers, of the whole language.
+pub fn search_comes_to_a_value()
+    ensures { (d : Declared) → IsStandard d → (l : ℕ) (F : List ClauseFormula) (P : List Clause) → EachOf (IsTypedSentence d) F → AreFlattened d F P → (q : Query) (gs : Goals) → IsTypedQuery d q → flatten_query l d q.formula ≡ Some gs → (steps answers : ℕ) → (t : Told Answer) × ComesTo P (start q.type_vars (length q.vars) gs steps answers) t }
 {}

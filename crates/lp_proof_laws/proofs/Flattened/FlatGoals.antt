@@ -34,7 +34,7 @@ two_same : (c : ℕ) {A B X Y : Term} → A ≡ X → B ≡ Y → two c [] A B �
 two_same c {A} {B} {X} {Y} e f = ap (λ z. two c [] z B) e ∙ ap (two c [] X) f
 
 mutual
-  goal_raise : (from : ℕ) (g : Goal) → formula_of_goal (map_goal suc (λ e t. shift e 1 t) same_type from g) ≡ shift from 1 (formula_of_goal g)
+  pub goal_raise : (from : ℕ) (g : Goal) → formula_of_goal (map_goal suc (λ e t. shift e 1 t) same_type from g) ≡ shift from 1 (formula_of_goal g)
   goal_raise from (Atomic t) = refl
   goal_raise from Cut = refl
   goal_raise from (Either gs hs) = two_same 1 (goals_raise from gs) (goals_raise from hs)
@@ -43,12 +43,12 @@ mutual
   goal_raise from (Assume w cs gs) = two_same 2 (clauses_raise from cs) (goals_raise from gs)
   goal_raise from (Not w gs) = ap not_of (goals_raise from gs)
 
-  goals_raise : (from : ℕ) (gs : Goals) → formula_of_goals (map_goals suc (λ e t. shift e 1 t) same_type from gs) ≡ shift from 1 (formula_of_goals gs)
+  pub goals_raise : (from : ℕ) (gs : Goals) → formula_of_goals (map_goals suc (λ e t. shift e 1 t) same_type from gs) ≡ shift from 1 (formula_of_goals gs)
   goals_raise from no_goals = refl
   goals_raise from (goals g no_goals) = goal_raise from g
   goals_raise from (goals g (goals h gs)) = two_same 0 (goal_raise from g) (goals_raise from (goals h gs))
 
-  clause_raise : (from : ℕ) (c : Clause) → formula_of_clause (map_clause suc (λ e t. shift e 1 t) same_type from c) ≡ shift from 1 (formula_of_clause c)
+  pub clause_raise : (from : ℕ) (c : Clause) → formula_of_clause (map_clause suc (λ e t. shift e 1 t) same_type from c) ≡ shift from 1 (formula_of_clause c)
   clause_raise from (clause n vs h no_goals) = ap (λ z. all_of z (shift (under_all suc vs from) 1 h)) (map_same vs) ∙ all_shift vs from h
   clause_raise from (clause n vs h (goals g gs)) =
       ap (λ z. all_of z (two 2 [] (formula_of_goals (map_goals suc (λ e t. shift e 1 t) same_type (under_all suc vs from) (goals g gs))) (shift (under_all suc vs from) 1 h))) (map_same vs) ∙ ap (λ z. all_of vs (two 2 [] z (shift (under_all suc vs from) 1 h))) (goals_raise (under_all suc vs from) (goals g gs)) ∙ all_shift vs from (two 2 [] (formula_of_goals (goals g gs)) h)

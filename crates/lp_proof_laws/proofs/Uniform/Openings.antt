@@ -24,7 +24,7 @@ abbrev pub cons : Term → (ℕ → Term) → ℕ → Term
 cons u θ zero = u
 cons u θ (suc i) = θ i
 
-lifted_up : (θ : ℕ → Term) (i : ℕ) → lifted θ i ≡ up θ i
+pub lifted_up : (θ : ℕ → Term) (i : ℕ) → lifted θ i ≡ up θ i
 lifted_up θ zero = refl
 lifted_up θ (suc i) = shift_one (θ i)
 
