@@ -7,3 +7,6 @@ pub mod Made
 pub mod TypedForms
 pub mod TypedFlat
 pub mod ReadsBack
+pub mod Instantiated
+pub mod Fused
+pub mod Filled

@@ -1,1 +1,3 @@
 pub mod Unnegated
+pub mod Terms
+pub mod Filled

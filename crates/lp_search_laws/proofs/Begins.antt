@@ -181,7 +181,8 @@ module _ (d : Declared) (std : IsStandard d) (m : ℕ) (q : Query) (gs : Goals) 
   may_put = record { plain = λ i. tt; heads = λ i w. absurd (cc) }
 
   stand : MayStand d V q.type_vars (each_at [] (goal_list (instantiate_goals put_in gs))) (entries (goal_list (instantiate_goals put_in gs)) [] nothing_written 0 0)
-  stand = goals_stand d std V q.type_vars [] [] nothing_written 0 0 (record { is_level = refl; below = tt; typed = tt; plain = tt }) (record { clauses = tt; terms = tt }) (instantiate_goals put_in gs) goals_typed_in (goals_put q.type_vars [] [] put_in may_put gs fine.form) (instantiated_goals put_in gs (let b = and_then_some (beta_normal m q.formula) (λ s. flat_goal m d [] s no_goals) gs e in goals_written d m [] b.0 gs b.2))
+  stand = goals_stand d std V q.type_vars [] [] nothing_written 0 0 (record { is_level = refl; below = tt; typed = tt; plain = tt }) (record { clauses = tt; terms = tt }) (instantiate_goals put_in gs) goals_typed_in (goals_put q.type_vars [] [] put_in may_put gs fine.form)
+      (instantiated_goals put_in gs (let b = and_then_some (beta_normal m q.formula) (λ s. flat_goal m d [] s no_goals) gs e in goals_written d m [] b.0 gs b.2))
 
   vars_stay : map (instance (type_at (types_from q.type_vars 0))) q.vars ≡ q.vars
   vars_stay = list_stays (type_at (types_from q.type_vars 0)) q.type_vars (λ i l. let a : 0 + i ≡ i = omega arith in from_at q.type_vars 0 i l ∙ ap var a) q.vars t.vars

@@ -1,15 +1,15 @@
 -- Entries behind a unification: bindings and types put into goals and clauses are put into their formulas, and under closings that lead
 -- through them terms convert, so each entry is provable exactly where it was.
-use Rattle.std.proofs.Common.{◌≡◌, ℕ, List, [], ◌∷◌, map, ◌∙◌, refl, sym, ap, nat_eq, Bool, true, false, if◌then◌else◌}
-use Rattle.std.specs.Prelude.{◌&&◌}
+use Rattle.std.proofs.Common.{◌≡◌, ℕ, List, [], ◌∷◌, map, ◌∙◌, refl, sym, ap}
 use mathlib.Core.Path.{fun_ext}
 use Rattle.lp_calculus.specs.Types.{Ty, instance}
-use Rattle.lp_calculus.specs.Term.{Term, Atom, atom, abs, app, shift, constant, integer, text, eigen, logic, param}
-use Rattle.lp_calculus.specs.Fill.{Binding, fill, raise, at_variables, one, put}
+use Rattle.lp_calculus.specs.Term.{Term, atom, abs, app, shift, constant}
+use Rattle.lp_calculus.specs.Fill.{Binding, fill, put}
 use Rattle.lp_calculus.specs.Instance.{instance_term}
 use Rattle.lp_standard.specs.Numbers as number
 use Rattle.lp_standard.specs.Connectives.{not_of, two, pi_of}
 use Rattle.lp_model.specs.Flat.{Goal, Atomic, Cut, Either, Exists, Forall, Assume, Not, Goals, no_goals, goals, Clause, clause, Clauses, no_clauses, clauses, under_all, map_goal, map_goals, map_clause, map_clauses, same_type, all_of, formula_of_goal, formula_of_goals, formula_of_clause, formula_of_clauses}
+use Rattle.lp_proof_laws.proofs.Flattened.Filled.{one_shut}
 use Rattle.lp_search_laws.proofs.Opened.{map_same}
 
 -- a change of terms that goes below applications and abstractions, and into the types of constants
@@ -63,18 +63,6 @@ pub types_inside : (θ : ℕ → Ty) → GoesInside (instance_term θ) (instance
 types_inside θ = record { apps = λ t u. refl; abss = λ t. refl; constants = λ c ts. refl }
 
 -- a binding whose value has no loose index
-
-if_shut : (x : Bool) (t u : Term) → shift 0 1 t ≡ t → shift 0 1 u ≡ u → shift 0 1 (if x then t else u) ≡ (if x then t else u)
-if_shut true t u e h = e
-if_shut false t u e h = h
-
-one_shut : (b : Binding) → shift 0 1 b.value ≡ b.value → (a : Atom) → raise (at_variables (one b)) a ≡ at_variables (one b) a
-one_shut b e (logic x l) = if_shut (nat_eq x b.id && nat_eq l b.level) b.value (atom (logic x l)) e refl
-one_shut b e (constant c ts) = refl
-one_shut b e (integer z) = refl
-one_shut b e (text s) = refl
-one_shut b e (eigen k) = refl
-one_shut b e (param k T) = refl
 
 pub put_inside : (b : Binding) → shift 0 1 b.value ≡ b.value → GoesInside (put b) same_type
 put_inside b e = record {

@@ -1,21 +1,15 @@
 -- Parts of a term: they stay parts under what is put into the term, and those of a typed term are typed.
-use Rattle.std.proofs.Common.{◌≡◌, ℕ, suc, List, ◌∷◌, ◌∙◌, refl, sym, ap, subst as transport, inl, inr, arith}
-use Rattle.std.proofs.lemmas.Bool.Decides.{nat_tests}
-use mathlib.Core.Path.{fun_ext}
+use Rattle.std.proofs.Common.{◌≡◌, ℕ, suc, List, ◌∷◌, refl, sym, subst as transport, inl, inr}
 use Rattle.lp_calculus.specs.Types.{Ty}
 use Rattle.lp_calculus.specs.Term.{Term, index, atom, abs, app, shift, Atom, param}
 use Rattle.lp_calculus.specs.Fill.{fill, raise}
 use Rattle.lp_calculus.specs.Typing.{Context, Typed, atom_type}
 use Rattle.lp_calculus.specs.Instance.{instance_term}
-use Rattle.lp_calculus.proofs.Sigma.{subst, up, rename, rename-rename}
-use Rattle.lp_calculus.proofs.Plain.{bump, shift-rename}
-use Rattle.lp_calculus.proofs.BetaEta.{shift_one}
-use Rattle.lp_calculus.proofs.Fills.{up_suc}
 use Rattle.lp_calculus.proofs.Commutations.{fill_shift, substitute_shift}
 use Rattle.lp_calculus.proofs.Typings.{typed_substitute}
 use Rattle.lp_model.specs.Index.{instantiate, lifted}
-use Rattle.lp_proof_laws.proofs.Uniform.Openings.{instantiate_subst, lifted_up}
 use Rattle.lp_proof_laws.proofs.Flattened.TypedForms.{shift_typed}
+use Rattle.lp_proof_laws.proofs.Flattened.Filled.{lifted_past, shift_past}
 use Rattle.lp_search_laws.specs.Written.{StandsIn}
 
 pub whole : (t : Term) → StandsIn t t
@@ -26,19 +20,6 @@ whole (app f a) = inl refl
 
 same_part : (f : Term → Term) (t u : Term) → t ≡ u → StandsIn (f t) (f u)
 same_part f t u e = transport (λ z. StandsIn (f t) (f z)) e (whole (f t))
-
--- below one more abstraction
-lifted_past : (σ : ℕ → Term) (t : Term) → instantiate (lifted σ) (shift 0 1 t) ≡ shift 0 1 (instantiate σ t)
-lifted_past σ t =
-    instantiate_subst (lifted σ) (shift 0 1 t) ∙ ap (λ f. subst f (shift 0 1 t)) (fun_ext (lifted_up σ)) ∙ ap (subst (up σ)) (shift_one t) ∙ sym (up_suc σ t) ∙ sym (shift_one (subst σ t)) ∙ ap (shift 0 1) (sym (instantiate_subst σ t))
-
-bumped : (from j : ℕ) → bump 1 (suc from) (suc j) ≡ suc (bump 1 from j)
-bumped from j = grind (arith, nat_tests)
-
-shift_past : (from : ℕ) (t : Term) → shift (suc from) 1 (shift 0 1 t) ≡ shift 0 1 (shift from 1 t)
-shift_past from t =
-    shift-rename (suc from) 1 (shift 0 1 t) ∙ ap (rename (bump 1 (suc from))) (shift_one t) ∙ rename-rename suc (bump 1 (suc from)) t ∙ ap (λ ρ. rename ρ t) (fun_ext (bumped from)) ∙
-    sym (shift_one (shift from 1 t) ∙ ap (rename suc) (shift-rename from 1 t) ∙ rename-rename (bump 1 from) suc t)
 
 -- terms put for indices
 pub part_instantiate : (σ : ℕ → Term) (t u : Term) → StandsIn t u → StandsIn (instantiate σ t) (instantiate σ u)

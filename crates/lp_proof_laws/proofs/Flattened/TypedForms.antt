@@ -168,22 +168,22 @@ pub under_stay : (vs : List Ty) (d : ℕ) → under_all stay vs d ≡ d
 under_stay [] d = refl
 under_stay (v ∷ vs) d = under_stay vs d
 
-clause_same : (n : ℕ) {vs ws : List Ty} {h k : Term} {b c : Goals} → vs ≡ ws → h ≡ k → b ≡ c → clause n vs h b ≡ clause n ws k c
+pub clause_same : (n : ℕ) {vs ws : List Ty} {h k : Term} {b c : Goals} → vs ≡ ws → h ≡ k → b ≡ c → clause n vs h b ≡ clause n ws k c
 clause_same n p q r = cc
 
-goals_same : {g h : Goal} {gs hs : Goals} → g ≡ h → gs ≡ hs → goals g gs ≡ goals h hs
+pub goals_same : {g h : Goal} {gs hs : Goals} → g ≡ h → gs ≡ hs → goals g gs ≡ goals h hs
 goals_same p q = cc
 
-clauses_same : {c d : Clause} {cs ds : Clauses} → c ≡ d → cs ≡ ds → clauses c cs ≡ clauses d ds
+pub clauses_same : {c d : Clause} {cs ds : Clauses} → c ≡ d → cs ≡ ds → clauses c cs ≡ clauses d ds
 clauses_same p q = cc
 
-either_same : {gs hs ks ls : Goals} → gs ≡ hs → ks ≡ ls → Either gs ks ≡ Either hs ls
+pub either_same : {gs hs ks ls : Goals} → gs ≡ hs → ks ≡ ls → Either gs ks ≡ Either hs ls
 either_same p q = cc
 
-assume_same : {v w : Written} {cs ds : Clauses} {gs hs : Goals} → v ≡ w → cs ≡ ds → gs ≡ hs → Assume v cs gs ≡ Assume w ds hs
+pub assume_same : {v w : Written} {cs ds : Clauses} {gs hs : Goals} → v ≡ w → cs ≡ ds → gs ≡ hs → Assume v cs gs ≡ Assume w ds hs
 assume_same o p q = cc
 
-denied_same : {v w : Written} {gs hs : Goals} → v ≡ w → gs ≡ hs → Not v gs ≡ Not w hs
+pub denied_same : {v w : Written} {gs hs : Goals} → v ≡ w → gs ≡ hs → Not v gs ≡ Not w hs
 denied_same o p = cc
 
 terms_raised : (θ : ℕ → Ty) (d : ℕ) (ts : List Term) → map (raise_term d) (map (instance_term θ) ts) ≡ map (instance_term θ) (map (raise_term d) ts)
@@ -193,7 +193,7 @@ terms_raised θ d (t ∷ ts) =
     let f = terms_raised θ d ts in
     cc
 
-written_same : {ts us : List Term} {Ts Us : List Ty} → ts ≡ us → Ts ≡ Us → written ts Ts ≡ written us Us
+pub written_same : {ts us : List Term} {Ts Us : List Ty} → ts ≡ us → Ts ≡ Us → written ts Ts ≡ written us Us
 written_same p q = cc
 
 written_raised : (θ : ℕ → Ty) (d : ℕ) (w : Written) → map_written (raise_term d) same_type (map_written (instance_term θ) (instance θ) w) ≡ map_written (instance_term θ) (instance θ) (map_written (raise_term d) same_type w)

@@ -7,7 +7,7 @@ use Rattle.lp_calculus.specs.Convert.{Converts}
 use Rattle.lp_calculus.specs.Typing.{type_at}
 use Rattle.lp_calculus.specs.Instance.{instance_term}
 use Rattle.lp_model.specs.Flatten.{ClauseFormula}
-use Rattle.lp_model.specs.Proofs.{Declared, IsFormula, Leaves, no_leaf, Failure, IsFailure, Provable, Proof, Conv, True, And, Left, Right, Witness, All, Assume, Equal, Arith, Back, Fails, Focus, FConv, FAll, FTake, FNeed, FHit, assumed, proves_by, focuses_by, ProvableBy, PlainlyProvable, PlainlyFocusable, Stands}
+use Rattle.lp_model.specs.Proofs.{Declared, IsFormula, Leaves, no_leaf, Failure, IsFailure, Provable, Proof, Conv, True, And, Left, Right, Witness, All, Assume, Equal, Arith, Back, Fails, Focus, FConv, FAll, FTake, FNeed, FHit, assumed, proves_by, focuses_by, ProvableBy, PlainlyProvable, FocusableBy, Stands}
 
 get_last : (P : List ClauseFormula) (D : ClauseFormula) (i : ℕ) (D' : ClauseFormula) → slice_get (P ++ D ∷ []) i ≡ Some D' → (slice_get P i ≡ Some D') ⊎ (D ≡ D')
 get_last [] D zero D' e = let f : D ≡ D' = cc in inr f
@@ -32,31 +32,37 @@ stands_more P R D h = record {
   ];
 }
 
-mutual
-  proof_wider : (d : Declared) (E : List Ty) (P R : List ClauseFormula) (G : Term) (p : Proof) → Stands P R → proves_by no_leaf d E P G p → PlainlyProvable d E R G
-  proof_wider d E P R G (Conv H p) st h = let r = proof_wider d E P R H p st h.2 in record { proof = Conv H r.proof; holds = (h.0, h.1, r.holds) }
-  proof_wider d E P R G True st h = record { proof = True; holds = h }
-  proof_wider d E P R G (And p q) st h = let a = proof_wider d E P R h.0 p st h.3 in let b = proof_wider d E P R h.1 q st h.4 in record { proof = And a.proof b.proof; holds = (h.0, h.1, h.2, a.holds, b.holds) }
-  proof_wider d E P R G (Left p) st h = let a = proof_wider d E P R h.0 p st h.3 in record { proof = Left a.proof; holds = (h.0, h.1, h.2, a.holds) }
-  proof_wider d E P R G (Right p) st h = let a = proof_wider d E P R h.1 p st h.3 in record { proof = Right a.proof; holds = (h.0, h.1, h.2, a.holds) }
-  proof_wider d E P R G (Witness t p) st h = let a = proof_wider d E P R (app h.1 t) p st h.4 in record { proof = Witness t a.proof; holds = (h.0, h.1, h.2, h.3, a.holds) }
-  proof_wider d E P R G (All p) st h = let a = proof_wider d (E ++ h.0 ∷ []) P R (app h.1 (atom (eigen (suc (length E))))) p st h.3 in record { proof = All a.proof; holds = (h.0, h.1, h.2, a.holds) }
-  proof_wider d E P R G (Assume p) st h = let a = proof_wider d E (P ++ assumed h.0 ∷ []) (R ++ assumed h.0 ∷ []) h.1 p (stands_more P R (assumed h.0) st) h.3 in record { proof = Assume a.proof; holds = (h.0, h.1, h.2, a.holds) }
-  proof_wider d E P R G Equal st h = record { proof = Equal; holds = h }
-  proof_wider d E P R G Arith st h = record { proof = Arith; holds = h }
-  proof_wider d E P R G (Back i ts f) st h = let j = st.at i h.0 h.1 in let a = focus_wider d E P R (instance_term (type_at ts) h.0.formula) G f st h.5 in record { proof = Back j.0 ts a.focus; holds = (h.0, j.1, h.2, h.3, h.4, a.holds) }
-  proof_wider d E P R G (Fails f) st h = absurd h.2
+-- clauses in the place of others: each of these stands among those, and so it is with one more, and what stands as a leaf among these stands so among those
+module _ (L : Leaves) (Rel : List ClauseFormula → List ClauseFormula → Type 0) (stands : (P R : List ClauseFormula) → Rel P R → Stands P R) (more : (P R : List ClauseFormula) (D : ClauseFormula) → Rel P R → Rel (P ++ D ∷ []) (R ++ D ∷ []))
+    (leaf : (E : List Ty) (P R : List ClauseFormula) (G : Term) (f : Failure) → Rel P R → L E P G f → L E R G f) where
+  mutual
+    proof_wider : (d : Declared) (E : List Ty) (P R : List ClauseFormula) (G : Term) (p : Proof) → Rel P R → proves_by L d E P G p → ProvableBy L d E R G
+    proof_wider d E P R G (Conv H p) st h = let r = proof_wider d E P R H p st h.2 in record { proof = Conv H r.proof; holds = (h.0, h.1, r.holds) }
+    proof_wider d E P R G True st h = record { proof = True; holds = h }
+    proof_wider d E P R G (And p q) st h = let a = proof_wider d E P R h.0 p st h.3 in let b = proof_wider d E P R h.1 q st h.4 in record { proof = And a.proof b.proof; holds = (h.0, h.1, h.2, a.holds, b.holds) }
+    proof_wider d E P R G (Left p) st h = let a = proof_wider d E P R h.0 p st h.3 in record { proof = Left a.proof; holds = (h.0, h.1, h.2, a.holds) }
+    proof_wider d E P R G (Right p) st h = let a = proof_wider d E P R h.1 p st h.3 in record { proof = Right a.proof; holds = (h.0, h.1, h.2, a.holds) }
+    proof_wider d E P R G (Witness t p) st h = let a = proof_wider d E P R (app h.1 t) p st h.4 in record { proof = Witness t a.proof; holds = (h.0, h.1, h.2, h.3, a.holds) }
+    proof_wider d E P R G (All p) st h = let a = proof_wider d (E ++ h.0 ∷ []) P R (app h.1 (atom (eigen (suc (length E))))) p st h.3 in record { proof = All a.proof; holds = (h.0, h.1, h.2, a.holds) }
+    proof_wider d E P R G (Assume p) st h = let a = proof_wider d E (P ++ assumed h.0 ∷ []) (R ++ assumed h.0 ∷ []) h.1 p (more P R (assumed h.0) st) h.3 in record { proof = Assume a.proof; holds = (h.0, h.1, h.2, a.holds) }
+    proof_wider d E P R G Equal st h = record { proof = Equal; holds = h }
+    proof_wider d E P R G Arith st h = record { proof = Arith; holds = h }
+    proof_wider d E P R G (Back i ts f) st h = let j = (stands P R st).at i h.0 h.1 in let a = focus_wider d E P R (instance_term (type_at ts) h.0.formula) G f st h.5 in record { proof = Back j.0 ts a.focus; holds = (h.0, j.1, h.2, h.3, h.4, a.holds) }
+    proof_wider d E P R G (Fails f) st h = record { proof = Fails f; holds = (h.0, h.1, leaf E P R h.0 f st h.2) }
 
-  focus_wider : (d : Declared) (E : List Ty) (P R : List ClauseFormula) (D A : Term) (f : Focus) → Stands P R → focuses_by no_leaf d E P D A f → PlainlyFocusable d E R D A
-  focus_wider d E P R D A (FConv H f) st h = let r = focus_wider d E P R H A f st h.2 in record { focus = FConv H r.focus; holds = (h.0, h.1, r.holds) }
-  focus_wider d E P R D A (FAll t f) st h = let r = focus_wider d E P R (app h.1 t) A f st h.4 in record { focus = FAll t r.focus; holds = (h.0, h.1, h.2, h.3, r.holds) }
-  focus_wider d E P R D A (FTake true f) st h = let r = focus_wider d E P R h.1 A f st h.3 in record { focus = FTake true r.focus; holds = (h.0, h.1, h.2, r.holds) }
-  focus_wider d E P R D A (FTake false f) st h = let r = focus_wider d E P R h.0 A f st h.3 in record { focus = FTake false r.focus; holds = (h.0, h.1, h.2, r.holds) }
-  focus_wider d E P R D A (FNeed p f) st h = let a = proof_wider d E P R h.0 p st h.3 in let r = focus_wider d E P R h.1 A f st h.4 in record { focus = FNeed a.proof r.focus; holds = (h.0, h.1, h.2, a.holds, r.holds) }
-  focus_wider d E P R D A FHit st h = record { focus = FHit; holds = h }
+    focus_wider : (d : Declared) (E : List Ty) (P R : List ClauseFormula) (D A : Term) (f : Focus) → Rel P R → focuses_by L d E P D A f → FocusableBy L d E R D A
+    focus_wider d E P R D A (FConv H f) st h = let r = focus_wider d E P R H A f st h.2 in record { focus = FConv H r.focus; holds = (h.0, h.1, r.holds) }
+    focus_wider d E P R D A (FAll t f) st h = let r = focus_wider d E P R (app h.1 t) A f st h.4 in record { focus = FAll t r.focus; holds = (h.0, h.1, h.2, h.3, r.holds) }
+    focus_wider d E P R D A (FTake true f) st h = let r = focus_wider d E P R h.1 A f st h.3 in record { focus = FTake true r.focus; holds = (h.0, h.1, h.2, r.holds) }
+    focus_wider d E P R D A (FTake false f) st h = let r = focus_wider d E P R h.0 A f st h.3 in record { focus = FTake false r.focus; holds = (h.0, h.1, h.2, r.holds) }
+    focus_wider d E P R D A (FNeed p f) st h = let a = proof_wider d E P R h.0 p st h.3 in let r = focus_wider d E P R h.1 A f st h.4 in record { focus = FNeed a.proof r.focus; holds = (h.0, h.1, h.2, a.holds, r.holds) }
+    focus_wider d E P R D A FHit st h = record { focus = FHit; holds = h }
+
+  pub other_clauses : (d : Declared) (E : List Ty) (P R : List ClauseFormula) (G : Term) → Rel P R → ProvableBy L d E P G → ProvableBy L d E R G
+  other_clauses d E P R G st h = proof_wider d E P R G h.proof st h.holds
 
 pub wider : (d : Declared) (E : List Ty) (P R : List ClauseFormula) (G : Term) → Stands P R → PlainlyProvable d E P G → PlainlyProvable d E R G
-wider d E P R G st h = proof_wider d E P R G h.proof st h.holds
+wider d E P R G st h = other_clauses no_leaf Stands (λ P R s. s) stands_more (λ E P R G f s l. absurd l) d E P R G st h
 
 pub by_conversion : {L : Leaves} (d : Declared) (E : List Ty) (P : List ClauseFormula) (G H : Term) → IsFormula d E H → Converts H G → ProvableBy L d E P H → ProvableBy L d E P G
 by_conversion d E P G H f c h = record { proof = Conv H h.proof; holds = (f, c, h.holds) }
