@@ -6,9 +6,10 @@ ghost use Rattle.lp_calculus.specs.Term.{Atom, Term, apply, atom};
 ghost use Rattle.lp_calculus.specs.Types.{Ty};
 ghost use Rattle.lp_lemmas.specs.Each.{EachOf};
 ghost use Rattle.lp_model.specs.Flatten.{ClauseFormula};
-ghost use Rattle.lp_model.specs.Proofs.{Declared, IsFormula, PlainlyProvable, Provable, Rooted, Stands, assumed};
+ghost use Rattle.lp_model.specs.Proofs.{Declared, Failure, IsFailure, IsFormula, PlainlyProvable, Provable, Rooted, Stands, assumed};
 ghost use Rattle.lp_model.specs.Renaming.{HasLevel, IsRenaming, renamed, renamed_clause};
 ghost use Rattle.lp_proof_laws.specs.Unnegated.{IsUnnegated};
+ghost use Rattle.lp_standard.specs.Connectives.{not_of};
 ghost use Rattle.lp_standard.specs.Schemes.{IsStandard};
 
 /// What is provable without a failing search stays so with more clauses, in any order. (With one it does not: `not p` is provable as long as no clause
@@ -40,6 +41,11 @@ pub fn assumptions_convert()
 /// Inversion: a provable formula with an atom of the calculus at its head, as each connective has, has a proof that begins with the rule of that head.
 pub fn proofs_begin_at_the_head()
     ensures { (d : Declared) → IsStandard d → (k : ℕ) → (E : List Ty) → (P : List ClauseFormula) → k ≤ length P → (a : Atom) → (us : List Term) → IsFormula d E (apply (atom a) us) → Provable d k E P (apply (atom a) us) → Rooted d k E P (apply (atom a) us) }
+{}
+
+/// So a proof of a negated formula is a search of the formula that fails, and nothing else.
+pub fn negations_are_proved_by_failures()
+    ensures { (d : Declared) → IsStandard d → (k : ℕ) → (E : List Ty) → (P : List ClauseFormula) → k ≤ length P → (H : Term) → IsFormula d E (not_of H) → Provable d k E P (not_of H) → (f : Failure) × IsFailure d k E P H f }
 {}
 
 /// Eigenconstants may be renamed in a proof without a failing search: with others of their types in their place, two of them maybe the same, it goes
