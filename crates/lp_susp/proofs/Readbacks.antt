@@ -1,13 +1,13 @@
 -- The steps of reading back: downwards to the parts of a cell, and upwards with what is built.
-use Rattle.std.proofs.Common.{◌≡◌, ℕ, zero, suc, ◌+◌, ◌-◌, ◌<◌, ◌≤◌, inl, List, [], ◌∷◌, ◌++◌, length, map, refl, sym, ap, ◌∙◌, subst, arith, Option, Some, None, slice_index_or}
+use Rattle.std.proofs.Common.{◌≡◌, ℕ, zero, suc, ◌+◌, ◌<◌, ◌≤◌, inl, List, [], ◌∷◌, ◌++◌, length, refl, sym, ap, ◌∙◌, subst, arith, Option, Some, None, slice_index_or}
 use Rattle.std.specs.Prelude.{All, IsSome}
 use Rattle.lp_calculus.specs.Term.{Term, abs, app, apply}
-use Rattle.lp_calculus.specs.Convert.{head_step, leftmost_step, option_term, steps}
+use Rattle.lp_calculus.specs.Convert.{head_step, leftmost_step, option_term}
 use Rattle.lp_store.specs.declared.cell.Cell.TheVariants.{Abs, App}
 use Rattle.lp_store.specs.declared.cell.CellId.{CellId}
 use Rattle.lp_store.specs.declared.cell.Span.{Span}
 use Rattle.lp_store.specs.Contents.{Contents, cell_at, span}
-use Rattle.lp_store.specs.Reading.{Reads, ReadAll, none, more}
+use Rattle.lp_store.specs.Reading.{Reads, ReadAll, none}
 use Rattle.lp_term.specs.declared.node.TermId.{TermId}
 use Rattle.lp_term.specs.declared.reduce.TermRefusal.{TermRefusal}
 use Rattle.lp_term.specs.declared.reduce.TermRefusal.TheVariants.{Deep, Memory}
@@ -16,8 +16,8 @@ use Rattle.lp_susp.specs.declared.reading.Frame.{Frame}
 use Rattle.lp_susp.specs.declared.reading.Frame.TheVariants.{Under, Head, Argument}
 use Rattle.lp_susp.specs.declared.reading.State.TheVariants.{Fresh, Known, Built}
 use Rattle.lp_susp.specs.Kept.{Reduced}
-use Rattle.lp_susp.specs.Counted.{Counts, Works, IsStopped, IsDeepBeta}
-use Rattle.lp_susp.specs.Frames.{IsNeutral, numbers, Framed, Plugged, FrameStands, StateOf}
+use Rattle.lp_susp.specs.Counted.{Counts, IsStopped, IsDeepBeta}
+use Rattle.lp_susp.specs.Frames.{IsNeutral, numbers, Plugged, FrameStands, StateOf}
 use Rattle.lp_susp.proofs.Chains.{abs_parts, app_parts}
 use Rattle.lp_susp.proofs.Redexes.{some_read, first_read, tail_read}
 use Rattle.lp_susp.proofs.Plugs.{none_head_neutral, neutral_none, under_none, head_leftmost, argument_normal, plug_push, plug_pop, plug_bank, plug_step, plug_works, counts_on, counts_longer, one_more_step}

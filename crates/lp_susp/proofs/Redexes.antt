@@ -1,23 +1,24 @@
 -- An application whose head is an abstraction, contracted in its own cell.
 use Rattle.std.proofs.Common.{◌≡◌, ℕ, zero, suc, ◌+◌, ◌<◌, ◌≤◌, inl, inr, List, [], ◌∷◌, length, map, take, drop, refl, sym, ap, ◌∙◌, subst, arith, Some, slice_index_or}
 use Rattle.lp_calculus.specs.Types.{Ty}
-use Rattle.lp_calculus.specs.Term.{Term, abs, app, apply, substitute}
+use Rattle.lp_calculus.specs.Term.{Term, abs, app, apply, replace, substitute}
 use Rattle.lp_calculus.specs.Convert.{head_step, Reduces, Converts}
 use Rattle.lp_store.specs.declared.cell.Cell.TheVariants.{Ref, App}
 use Rattle.lp_store.specs.declared.cell.CellId.{CellId}
 use Rattle.lp_store.specs.declared.cell.Span.{Span}
-use Rattle.lp_store.specs.Contents.{Contents, cell_at, span}
-use Rattle.lp_store.specs.Reading.{ReadsType, no_types, Reads, ReadAll, none, more, Leads, here, through, IsAmong, parts, Avoids, AvoidsAll}
+use Rattle.lp_store.specs.Contents.{Contents, cell_at, span, env_list}
+use Rattle.lp_store.specs.Reading.{ReadsType, no_types, Reads, ReadAll, none, more, Leads, through, IsAmong, parts, Avoids, AvoidsAll, carried}
 use Rattle.lp_store.specs.Sound.{IsSound, Stands}
 use Rattle.lp_store.specs.Change.{Extends, changed}
 use Rattle.lp_store.proofs.Readings.{leads_join, no_circle}
 use Rattle.lp_store.proofs.Changes.{reads_at, type_parts_read}
 use Rattle.lp_susp.specs.Kept.{Reduced}
-use Rattle.lp_susp.specs.Route.{IsRedex}
+use Rattle.lp_susp.specs.declared.exposing.Closure.{Closure}
+use Rattle.lp_susp.specs.Pending.{Carries}
+use Rattle.lp_susp.specs.Route.{IsRedex, closure_parts}
 use Rattle.lp_susp.specs.Counted.{IsApplication}
-use Rattle.lp_susp.proofs.Chains.{abs_parts, app_parts}
+use Rattle.lp_susp.proofs.Chains.{app_parts}
 use Rattle.lp_susp.proofs.Keeping.{grows_of, grows_on, grows_changed, changed_there}
-use Rattle.lp_susp.proofs.Routes.{refs_read, refs_lead}
 use Rattle.lp_susp.proofs.Heads.{redex_step, step_reduces, reduces_converts, application_apply}
 
 -- a list that is not empty, as its first and the others
@@ -77,57 +78,56 @@ pub some_length : {A : Type 0} (xs : List A) (from count : ℕ) → from + count
 some_length xs from zero h l = absurd (omega arith)
 some_length xs from (suc c) h l = let k = span_cons xs from (suc c) (suc from) c h (omega arith) (omega arith) in omega (arith, ap length k.1)
 
--- an application of an abstraction can be contracted
-pub redex_steps : (s : Contents) (p : ℕ) (body : CellId) (l : Span) → IsSound s → IsRedex s p body l → (t : Term) → Reads s p t → (r : Term) × (head_step t ≡ Some r) × IsApplication t
-redex_steps s p body l v q t o =
-    let st : Stands s (App q.0 l) = subst (Stands s) q.3 (v.stand p q.2) in
-    let k = app_parts s p q.0 l t q.3 o in
-    let b = abs_parts s q.1 body k.0 q.6 (refs_read q.4 k.2) in
+-- an application of a closure can be contracted
+pub redex_steps : (s : Contents) (p : ℕ) (x : Closure) (l : Span) → IsSound s → IsRedex s p x l → (t : Term) → Reads s p t → (r : Term) × (head_step t ≡ Some r) × IsApplication t
+redex_steps s p x l v q t o =
+    let st : Stands s (App q.0 l) = subst (Stands s) q.2 (v.stand p q.1) in
+    let k = app_parts s p q.0 l t q.2 o in
+    let b = q.3.reads k.0 k.2 in
+    let n = replace (carried x.pending.nl (env_list s.envs x.pending.env.0) b.2.terms) 1 b.0 in
     let w = some_read s s.items l.from l.count st.1 st.2 k.1 k.3 in
-    let g : t ≡ apply (abs b.0) (w.0 ∷ w.1) = k.4 ∙ (λ i. apply (b.2 i) (w.2 i)) in (
-      apply (substitute w.0 b.0) w.1,
-      ap head_step g ∙ redex_step b.0 w.0 w.1,
-      subst IsApplication (sym g) (application_apply (app (abs b.0) w.0) w.1 (abs b.0, w.0, refl)),
+    let g : t ≡ apply (abs n) (w.0 ∷ w.1) = k.4 ∙ (λ i. apply (b.2.is i) (w.2 i)) in (
+      apply (substitute w.0 n) w.1,
+      ap head_step g ∙ redex_step n w.0 w.1,
+      subst IsApplication (sym g) (application_apply (app (abs n) w.0) w.1 (abs n, w.0, refl)),
     )
 
-module _ (s y : Contents) (p : ℕ) (body result : CellId) (l : Span) (v : IsSound s) (e : Extends s y) (q : IsRedex s p body l)
-    (av : (c : ℕ) → c < length s.cells → Avoids s c body.0 → AvoidsAll s c (map (λ t. t.0) (span s.items l.from l.count)) → Avoids y c result.0)
-    (rd : (b u : Term) (us : List Term) → Reads s body.0 b → ReadAll s (map (λ t. t.0) (span s.items l.from l.count)) (u ∷ us) → Reads y result.0 (apply (substitute u b) us)) where
+module _ (s y : Contents) (p : ℕ) (x : Closure) (result : CellId) (l : Span) (v : IsSound s) (e : Extends s y) (q : IsRedex s p x l)
+    (av : (c : ℕ) → c < length s.cells → AvoidsAll s c (closure_parts s x) → AvoidsAll s c (map (λ t. t.0) (span s.items l.from l.count)) → Avoids y c result.0)
+    (rd : (m n u : Term) (us : List Term) → Reads s x.body.0 m → Carries s x.pending (abs m) (abs n) → ReadAll s (map (λ t. t.0) (span s.items l.from l.count)) (u ∷ us) → Reads y result.0 (apply (substitute u n) us)) where
   stands : Stands s (App q.0 l)
-  stands = subst (Stands s) q.3 (v.stand p q.2)
+  stands = subst (Stands s) q.2 (v.stand p q.1)
 
   head_among : IsAmong q.0.0 (parts s (cell_at s p))
-  head_among = subst (λ c. IsAmong q.0.0 (parts s c)) (sym q.3) (inl refl)
+  head_among = subst (λ c. IsAmong q.0.0 (parts s c)) (sym q.2) (inl refl)
 
   argument_among : (j : ℕ) → IsAmong j (map (λ t. t.0) (span s.items l.from l.count)) → IsAmong j (parts s (cell_at s p))
-  argument_among j m = subst (λ c. IsAmong j (parts s c)) (sym q.3) (inr m)
-
-  head_leads : Leads s q.0.0 body.0
-  head_leads = leads_join (refs_lead q.4) (through (subst (λ c. IsAmong body.0 (parts s c)) (sym q.6) (inl refl)) (here body.0))
+  argument_among j m = subst (λ c. IsAmong j (parts s c)) (sym q.2) (inr m)
 
   below : (c : ℕ) → c < length s.cells → ((j : ℕ) → IsAmong j (parts s (cell_at s p)) → Avoids s c j) → Avoids y c result.0
-  below c h n = av c h (λ k. n q.0.0 head_among (leads_join head_leads k)) (λ j m. n j (argument_among j m))
+  below c h n = av c h (λ j m k. n q.0.0 head_among (leads_join (q.3.leads j m) k)) (λ j m. n j (argument_among j m))
 
   pub contracted_no_circle : Leads y result.0 p → ⊥
-  contracted_no_circle = below p q.2 (λ j m. no_circle (v.ending p q.2) j m)
+  contracted_no_circle = below p q.1 (λ j m. no_circle (v.ending p q.1) j m)
 
   pub contracted_no_type : (T : Ty) → ReadsType y p T → ReadsType y result.0 T
-  contracted_no_type T r = absurd (type_parts_read y p (App q.0 l) (e.cells p q.2 ∙ q.3) r).3
+  contracted_no_type T r = absurd (type_parts_read y p (App q.0 l) (e.cells p q.1 ∙ q.2) r).3
 
   pub stepping : (t : Term) → Reads s p t → (r : Term) × (head_step t ≡ Some r) × IsApplication t × Reads y result.0 r
   stepping t o =
-      let k = app_parts s p q.0 l t q.3 o in
-      let b = abs_parts s q.1 body k.0 q.6 (refs_read q.4 k.2) in
+      let k = app_parts s p q.0 l t q.2 o in
+      let b = q.3.reads k.0 k.2 in
+      let n = replace (carried x.pending.nl (env_list s.envs x.pending.env.0) b.2.terms) 1 b.0 in
       let w = some_read s s.items l.from l.count stands.1 stands.2 k.1 k.3 in
-      let g : t ≡ apply (abs b.0) (w.0 ∷ w.1) = k.4 ∙ (λ i. apply (b.2 i) (w.2 i)) in (
-        apply (substitute w.0 b.0) w.1,
-        ap head_step g ∙ redex_step b.0 w.0 w.1,
-        subst IsApplication (sym g) (application_apply (app (abs b.0) w.0) w.1 (abs b.0, w.0, refl)),
-        rd b.0 w.0 w.1 b.1 (subst (ReadAll s (map (λ t. t.0) (span s.items l.from l.count))) w.2 k.3),
+      let g : t ≡ apply (abs n) (w.0 ∷ w.1) = k.4 ∙ (λ i. apply (b.2.is i) (w.2 i)) in (
+        apply (substitute w.0 n) w.1,
+        ap head_step g ∙ redex_step n w.0 w.1,
+        subst IsApplication (sym g) (application_apply (app (abs n) w.0) w.1 (abs n, w.0, refl)),
+        rd b.0 n w.0 w.1 b.1 (record { terms = b.2.terms; read = b.2.read; is = refl }) (subst (ReadAll s (map (λ t. t.0) (span s.items l.from l.count))) w.2 k.3),
       )
 
   pub reducing : (t : Term) → Reads y p t → (u : Term) × Reads y result.0 u × Reduces t u
-  reducing t o = let k = stepping t (e.reads_back p t q.2 o) in (k.0, k.3, step_reduces t k.0 k.1)
+  reducing t o = let k = stepping t (e.reads_back p t q.1 o) in (k.0, k.3, step_reduces t k.0 k.1)
 
   pub converting : (t : Term) → Reads y p t → (u : Term) × Reads y result.0 u × Converts t u
   converting t o = let k = reducing t o in (k.0, k.1, reduces_converts k.2)
@@ -138,12 +138,12 @@ module _ (s y : Contents) (p : ℕ) (body result : CellId) (l : Span) (v : IsSou
     grows = grows_on s y z (grows_of s y e) (grows_changed y z p result d);
     types = λ i T r. f i T (e.types i T r);
     terms = λ i t r. g i t (e.reads i t r);
-    avoids = λ c i hc hi n. a c (λ x. below c hc (λ j m k. x (e.leads_on p c q.2 (through m k)))) i (λ k. n (e.leads i c hi k));
+    avoids = λ c i hc hi n. a c (λ w. below c hc (λ j m k. w (e.leads_on p c q.1 (through m k)))) i (λ k. n (e.leads i c hi k));
   }
 
   pub contracted_steps : (z : Contents) → z ≡ changed y p result → ((t : Term) → Reads y result.0 t → Reads z result.0 t) → (t : Term) → Reads s p t →
       (r : Term) × (head_step t ≡ Some r) × IsApplication t × Reads z p r
   contracted_steps z d f t o =
       let k = stepping t o in
-      let h : p < length y.cells = omega (arith, q.2, e.more_cells) in
+      let h : p < length y.cells = omega (arith, q.1, e.more_cells) in
       (k.0, k.1, k.2, reads_at z p (Ref result) (omega (arith, h, (grows_changed y z p result d).more_cells)) (changed_there y z p result d h) tt no_types (more (f k.0 k.3) none))

@@ -1,5 +1,5 @@
 -- Head contractions that are counted, while parts of the term are reduced besides.
-use Rattle.std.specs.Prelude.{◌≡◌, ℕ, zero, suc, Option, Some, None, IsSome, ◌⊎◌, ◌<◌}
+use Rattle.std.specs.Prelude.{◌≡◌, ℕ, zero, suc, Option, Some, IsSome, ◌⊎◌, ◌<◌}
 use Rattle.lp_calculus.specs.Term.{Term, app}
 use Rattle.lp_calculus.specs.Convert.{head_step, leftmost_step, steps, Reduces}
 use Rattle.lp_calculus.specs.Normal.{nodes, IsBetaNormal}

@@ -4,10 +4,8 @@ use Rattle.lp_calculus.specs.Term.{Term, index, atom, abs, app, apply}
 use Rattle.lp_calculus.specs.Convert.{head_step, leftmost_step}
 use Rattle.lp_calculus.specs.Normal.{nodes}
 use Rattle.lp_store.specs.declared.cell.CellId.{CellId}
-use Rattle.lp_store.specs.declared.cell.Span.{Span}
 use Rattle.lp_store.specs.Contents.{Contents, span}
 use Rattle.lp_store.specs.Reading.{Reads, ReadAll}
-use Rattle.lp_term.specs.declared.node.TermId.{TermId}
 use Rattle.lp_term.specs.Nodes.{Nodes, tree}
 use Rattle.lp_susp.specs.declared.reading.Frame.{Frame}
 use Rattle.lp_susp.specs.declared.reading.Frame.TheVariants.{Under, Head, Argument}

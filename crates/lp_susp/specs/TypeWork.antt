@@ -1,5 +1,5 @@
 -- The work that is left on the way through types, and what it gives.
-use Rattle.std.specs.Prelude.{◌≡◌, ℕ, ◌<◌, List, [], ◌∷◌, ◌++◌, length, map}
+use Rattle.std.specs.Prelude.{◌≡◌, ◌<◌, List, [], ◌∷◌, ◌++◌, length, map}
 use Rattle.lp_calculus.specs.Types.{Ty, con, arrow, tys}
 use Rattle.lp_store.specs.declared.cell.CellId.{CellId}
 use Rattle.lp_store.specs.Contents.{Contents}

@@ -1,11 +1,12 @@
-ghost use Rattle.std.specs.Prelude.{◌≡◌, ℕ, ◌<◌, ◌≤◌, length, List, [], ◌∷◌, IfOk};
+ghost use Rattle.std.specs.Prelude.{◌≡◌, ℕ, ◌<◌, ◌≤◌, length, List, [], ◌∷◌, IfOk, IfSome};
 ghost use Rattle.lp_calculus.specs.Types.{Ty};
 ghost use Rattle.lp_calculus.specs.Term.{Term};
 ghost use Rattle.lp_store.specs.Contents.{Contents, cell_at};
 ghost use Rattle.lp_store.specs.Reading.{Reads, ReadsType};
+ghost use Rattle.lp_store.specs.Sound.{IsSound};
 ghost use Rattle.lp_store.specs.Change.{KeepsMarks};
 ghost use Rattle.lp_susp.specs.Kept.{IsExposed, Keeps};
-ghost use Rattle.lp_susp.specs.Route.{RefsTo, IsWaiting};
+ghost use Rattle.lp_susp.specs.Route.{RefsTo, IsWaiting, IsClosure};
 
 use crate::carrying::{Pending, carry};
 use lp_base::Memory;
@@ -16,6 +17,13 @@ use std::alloc::Global;
 #[derive(Clone, Copy)]
 pub(crate) struct Waiting {
     pub(crate) cell: CellId,
+    pub(crate) pending: Pending,
+}
+
+// An abstraction with this body, below a suspension.
+#[derive(Clone, Copy)]
+pub(crate) struct Closure {
+    pub(crate) body: CellId,
     pub(crate) pending: Pending,
 }
 
@@ -77,4 +85,70 @@ pub fn expose(alloc: Global, store: &mut Store, cell: CellId) -> Result<CellId, 
         }
     }
     Err(Memory)
+}
+
+// The cell that references lead to, which is no reference.
+fn referred(store: &Store, cell: CellId) -> Result<CellId, Memory>
+    requires { cell.0 < length store.now.cells }
+    ensures refers { IfOk result (λ id. RefsTo store.now cell.0 id.0) }
+    ensures within { IfOk result (λ id. id.0 < length store.now.cells) }
+{
+    let mut at = cell;
+    'references: for _ in 0..u64::MAX {
+        let Cell::Ref(to) = store.cell(at) else {
+            return Ok(at);
+        };
+        at = to;
+    }
+    Err(Memory)
+}
+
+// The abstraction below the suspension that the cell is, where its term is exposed.
+fn closure_at(store: &Store, cell: CellId) -> Result<Option<Closure>, Memory>
+    requires { cell.0 < length store.now.cells }
+    ensures { IfOk result (λ found. IfSome found (IsClosure store.now cell.0)) }
+{
+    let at = referred(store, cell)?;
+    let Cell::Susp(term, ol, nl, env) = store.cell(at) else {
+        return Ok(None);
+    };
+    let inside = referred(store, term)?;
+    let Cell::Abs(body) = store.cell(inside) else {
+        return Ok(None);
+    };
+    let pending = Pending { ol, nl, env };
+    Ok(Some(Closure { body, pending }))
+}
+
+// Exposes the term of the suspension that the cell is.
+fn expose_term(alloc: Global, store: &mut Store, cell: CellId) -> Result<(), Memory>
+    requires { cell.0 < length store.old.cells }
+    ensures kept { Keeps store.old store.new }
+    ensures marks { KeepsMarks store.old store.new }
+{
+    let _mark = store.mark();
+    let at = referred(store, cell)?;
+    let Cell::Susp(term, _, _, _) = store.cell(at) else {
+        return Ok(());
+    };
+    expose(alloc, store, term)?;
+    Ok(())
+}
+
+// The abstraction below the suspension that the cell is, which is not carried inwards.
+pub(crate) fn closure_of(
+    alloc: Global,
+    store: &mut Store,
+    cell: CellId,
+) -> Result<Option<Closure>, Memory>
+    requires { cell.0 < length store.old.cells }
+    ensures closure { IfOk result (λ found. IfSome found (IsClosure store.new cell.0)) }
+    ensures sound { IfOk result (λ found. IsSound store.new) }
+    ensures kept { Keeps store.old store.new }
+    ensures marks { KeepsMarks store.old store.new }
+{
+    expose_term(alloc, store, cell)?;
+    let _mark = store.mark();
+    let found = closure_at(store, cell)?;
+    Ok(found)
 }

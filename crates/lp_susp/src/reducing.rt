@@ -1,14 +1,16 @@
 ghost use Rattle.std.specs.Prelude.{◌≡◌, ℕ, suc, ◌+◌, ◌-◌, ◌<◌, ◌≤◌, length, List, [], ◌∷◌, ◌++◌, IfOk, OnOk, IfErr, map, Some, None};
-ghost use Rattle.lp_calculus.specs.Term.{Term, apply, substitute};
+ghost use Rattle.lp_calculus.specs.Term.{Term, abs, apply, substitute};
 ghost use Rattle.lp_calculus.specs.Convert.{head_step, Reduces};
 ghost use Rattle.lp_store.specs.Contents.{Contents, cell_at, span};
 ghost use Rattle.lp_store.specs.Reading.{Avoids, AvoidsAll, Reads, ReadAll};
 ghost use Rattle.lp_store.specs.Change.{Extends, KeepsMarks};
+ghost use Rattle.lp_susp.specs.Pending.{IsPending, Carries};
 ghost use Rattle.lp_susp.specs.Kept.{IsExposed, Reduced};
-ghost use Rattle.lp_susp.specs.Route.{IsRedex};
+ghost use Rattle.lp_susp.specs.Route.{IsRedex, closure_parts};
 ghost use Rattle.lp_susp.specs.Counted.{Works, IsApplication, IsStopped, IsDeepOnlyWhere};
 
-use crate::exposing::expose;
+use crate::carrying::Pending;
+use crate::exposing::{Closure, closure_of, expose};
 use lp_base::Memory;
 use lp_store::{Cell, CellId, Env, EnvEntry, Span, Store};
 use lp_term::TermRefusal;
@@ -21,18 +23,40 @@ pub(crate) struct Budget {
     pub(crate) left: u64,
 }
 
-// The body with the argument for its index 0, as a suspension.
-fn instantiate(store: &mut Store, body: CellId, arg: CellId) -> Result<CellId, Memory>
-    requires body { body.0 < length store.old.cells }
+// A body below no suspension.
+fn plain(body: CellId) -> Closure
+    ensures body { result.body ≡ body }
+    ensures ol { result.pending.ol ≡ 0 }
+    ensures nl { result.pending.nl ≡ 0 }
+    ensures env { result.pending.env.0 ≡ 0 }
+{
+    let pending = Pending {
+        ol: 0,
+        nl: 0,
+        env: Env::nil(),
+    };
+    Closure { body, pending }
+}
+
+// The body with the argument for its index 0, as one suspension: the argument stands in front of what the body's own
+// suspension gives.
+fn instantiate(store: &mut Store, closure: Closure, arg: CellId) -> Result<CellId, Memory>
+    requires body { closure.body.0 < length store.old.cells }
+    requires pending { IsPending store.old closure.pending }
     requires arg { arg.0 < length store.old.cells }
     ensures kept { Extends store.old store.new }
     ensures marks { KeepsMarks store.old store.new }
-    ensures avoids { IfOk result (λ id. (c : ℕ) → c < length store.old.cells → Avoids store.old c body.0 → Avoids store.old c arg.0 → Avoids store.new c id.0) }
+    ensures avoids { IfOk result (λ id. (c : ℕ) → c < length store.old.cells → AvoidsAll store.old c (closure_parts store.old closure) → Avoids store.old c arg.0 → Avoids store.new c id.0) }
     ensures within { IfOk result (λ id. id.0 < length store.new.cells) }
-    ensures reads { IfOk result (λ id. (b u : Term) → Reads store.old body.0 b → Reads store.old arg.0 u → Reads store.new id.0 (substitute u b)) }
+    ensures reads { IfOk result (λ id. (m n u : Term) → Reads store.old closure.body.0 m → Carries store.old closure.pending (abs m) (abs n) → Reads store.old arg.0 u → Reads store.new id.0 (substitute u n)) }
 {
-    let env = store.env(EnvEntry::Value(arg, 0), Env::nil())?;
-    let id = store.push(Cell::Susp(body, 1, 0, env))?;
+    let pending = closure.pending;
+    if pending.ol == u64::MAX {
+        return Err(Memory);
+    }
+    let _mark = store.mark();
+    let env = store.env(EnvEntry::Value(arg, pending.nl), pending.env)?;
+    let id = store.push(Cell::Susp(closure.body, pending.ol + 1, pending.nl, env))?;
     Ok(id)
 }
 
@@ -57,36 +81,55 @@ fn on_the_rest(store: &mut Store, head: CellId, arguments: Span) -> Result<CellI
     Ok(id)
 }
 
-// What an abstraction with this body and its arguments contract to.
-fn contractum(store: &mut Store, body: CellId, arguments: Span) -> Result<CellId, Memory>
-    requires body { body.0 < length store.old.cells }
+// What a closure and its arguments contract to.
+fn contractum(store: &mut Store, closure: Closure, arguments: Span) -> Result<CellId, Memory>
+    requires body { closure.body.0 < length store.old.cells }
+    requires pending { IsPending store.old closure.pending }
     requires arguments { arguments.from + arguments.count ≤ length store.old.items }
     requires some { 0 < arguments.count }
     ensures kept { Extends store.old store.new }
     ensures marks { KeepsMarks store.old store.new }
-    ensures avoids { IfOk result (λ id. (c : ℕ) → c < length store.old.cells → Avoids store.old c body.0 → AvoidsAll store.old c (map (λ t. t.0) (span store.old.items arguments.from arguments.count)) → Avoids store.new c id.0) }
+    ensures avoids { IfOk result (λ id. (c : ℕ) → c < length store.old.cells → AvoidsAll store.old c (closure_parts store.old closure) → AvoidsAll store.old c (map (λ t. t.0) (span store.old.items arguments.from arguments.count)) → Avoids store.new c id.0) }
     ensures within { IfOk result (λ id. id.0 < length store.new.cells) }
-    ensures reads { IfOk result (λ id. (b u : Term) (us : List Term) → Reads store.old body.0 b →
-        ReadAll store.old (map (λ t. t.0) (span store.old.items arguments.from arguments.count)) (u ∷ us) → Reads store.new id.0 (apply (substitute u b) us)) }
+    ensures reads { IfOk result (λ id. (m n u : Term) (us : List Term) → Reads store.old closure.body.0 m → Carries store.old closure.pending (abs m) (abs n) →
+        ReadAll store.old (map (λ t. t.0) (span store.old.items arguments.from arguments.count)) (u ∷ us) → Reads store.new id.0 (apply (substitute u n) us)) }
 {
     let _mark = store.mark();
     let arg = store.items(arguments)[0];
-    let inside = instantiate(store, body, arg)?;
+    let inside = instantiate(store, closure, arg)?;
     let result = on_the_rest(store, inside, arguments)?;
     Ok(result)
 }
 
-// Contracts an abstraction and its first argument. The cell of the application then refers to what came.
-fn contract(store: &mut Store, redex: CellId, body: CellId, arguments: Span) -> Result<(), Memory>
-    requires { IsRedex store.old redex.0 body arguments }
+// Contracts a closure and its first argument. The cell of the application then refers to what came.
+fn contract(
+    store: &mut Store,
+    redex: CellId,
+    closure: Closure,
+    arguments: Span,
+) -> Result<(), Memory>
+    requires { IsRedex store.old redex.0 closure arguments }
     ensures steps { OnOk result ((t : Term) → Reads store.old redex.0 t → (r : Term) × (head_step t ≡ Some r) × IsApplication t × Reads store.new redex.0 r) }
     ensures elsewhere { (i : ℕ) → i < length store.old.cells → (i ≡ redex.0 → ⊥) → cell_at store.new i ≡ cell_at store.old i }
     ensures reduced { Reduced store.old store.new }
     ensures marks { KeepsMarks store.old store.new }
 {
     let _mark = store.mark();
-    let result = contractum(store, body, arguments)?;
+    let result = contractum(store, closure, arguments)?;
     store.overwrite(redex, result)?;
+    Ok(())
+}
+
+// One contraction of those that are left.
+fn spend(budget: &mut Budget) -> Result<(), TermRefusal>
+    ensures spent { OnOk result (budget.old.left ≡ suc budget.new.left) }
+    ensures limit { budget.new.limit ≡ budget.old.limit }
+    ensures refused { IfErr result (λ e. (e ≡ TermRefusal.Deep budget.old.limit) × (budget.old.left ≡ 0) × (budget.new.left ≡ budget.old.left)) }
+{
+    if budget.left == 0 {
+        return Err(TermRefusal::Deep(budget.limit));
+    }
+    budget.left -= 1;
     Ok(())
 }
 
@@ -119,9 +162,15 @@ pub(crate) fn reduce(
     for _step in 0..u64::MAX {
         let exposed = expose(alloc, store, at)?;
         match store.cell(exposed) {
-            Cell::App(head, _) => {
-                put_on(&mut spine, exposed)?;
-                at = head;
+            Cell::App(head, arguments) => {
+                let Some(closure) = closure_of(alloc, store, head)? else {
+                    put_on(&mut spine, exposed)?;
+                    at = head;
+                    continue;
+                };
+                spend(budget)?;
+                contract(store, exposed, closure, arguments)?;
+                at = exposed;
                 continue;
             }
             Cell::Abs(body) => {
@@ -129,14 +178,11 @@ pub(crate) fn reduce(
                     at = body;
                     continue;
                 };
-                if budget.left == 0 {
-                    return Err(TermRefusal::Deep(budget.limit));
-                }
                 let Cell::App(_, arguments) = store.cell(redex) else {
                     unreachable!()
                 };
-                contract(store, redex, body, arguments)?;
-                budget.left -= 1;
+                spend(budget)?;
+                contract(store, redex, plain(body), arguments)?;
                 at = redex;
                 continue;
             }

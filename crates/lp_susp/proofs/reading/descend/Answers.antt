@@ -1,4 +1,4 @@
-use Rattle.std.proofs.Common.{◌≡◌, refl, sym, arith}
+use Rattle.std.proofs.Common.{refl, sym, arith}
 use Rattle.lp_susp.proofs.Keeping.{grows_same}
 use Rattle.lp_susp.proofs.Plugs.{plug_bank, all_stand_more}
 use Rattle.lp_susp.proofs.Sizes.{full, down_abs_counted, down_app_counted, down_leaf_counted}

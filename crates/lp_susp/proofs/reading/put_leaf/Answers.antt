@@ -1,4 +1,4 @@
-use Rattle.std.proofs.Common.{◌≡◌, ◌∙◌, ◌<◌, length, map, refl, sym, ap, subst}
+use Rattle.std.proofs.Common.{◌∙◌, ◌<◌, length, sym, ap, subst}
 use Rattle.std.specs.Prelude.{All}
 use Rattle.lp_calculus.specs.Term.{atom, constant}
 use Rattle.lp_calculus.specs.Convert.{leftmost_step}

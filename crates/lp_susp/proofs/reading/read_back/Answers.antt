@@ -1,8 +1,6 @@
-use Rattle.std.proofs.Common.{◌≡◌, ◌∙◌, ◌<◌, ◌+◌, ◌-◌, [], ℕ, length, refl, sym, ap, subst, arith, None}
+use Rattle.std.proofs.Common.{◌≡◌, ◌∙◌, ◌-◌, refl, sym, ap, subst, arith}
 use Rattle.std.specs.Prelude.{All}
-use Rattle.lp_calculus.specs.Term.{Term}
 use Rattle.lp_calculus.specs.Convert.{leftmost_step, Reduces, done}
-use Rattle.lp_store.specs.Reading.{Reads}
 use Rattle.lp_term.specs.Nodes.{tree}
 use Rattle.lp_susp.specs.Counted.{Counts, rests, elsewhere, StaysLarge}
 use Rattle.lp_susp.specs.Frames.{Plugged, FrameStands, StateOf, nodes_around}

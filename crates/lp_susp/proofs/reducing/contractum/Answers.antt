@@ -22,11 +22,11 @@ returns-clause-avoids c = λ x h a b.
     c.in_ok-result.ensures.avoids x (omega (arith, h, e.more_cells)) i (subst (λ l. AvoidsAll y x (map (λ t. t.0) l)) (sym (e.items g.from g.count c.requires.arguments)) all)
 
 pub returns-clause-reads : goal.returns-clause-reads
-returns-clause-reads c = λ b u us r p.
+returns-clause-reads c = λ m n u us r k p.
     let s = c.args.store.now in
     let y = c.instantiate.new.store in
     let g = c.args.arguments in
     let e = c.in_ok-inside.ensures.kept in
     let q = c.items.ensures.items in
-    let i = c.in_ok-inside.ensures.reads b u r (first_read s c.items.result.now _ u us (subst (λ l. ReadAll s (map (λ t. t.0) l) (u ∷ us)) (sym q) p)) in
+    let i = c.in_ok-inside.ensures.reads m n u r k (first_read s c.items.result.now _ u us (subst (λ l. ReadAll s (map (λ t. t.0) l) (u ∷ us)) (sym q) p)) in
     c.in_ok-result.ensures.reads _ u us i (subst (λ l. ReadAll y (map (λ t. t.0) l) (u ∷ us)) (sym (e.items g.from g.count c.requires.arguments)) (read_all_kept e p))

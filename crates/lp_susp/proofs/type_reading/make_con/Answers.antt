@@ -1,8 +1,7 @@
-use Rattle.std.proofs.Common.{◌≡◌, ◌∙◌, ◌<◌, ◌+◌, ◌-◌, length, map, take, drop, refl, sym, ap, subst, arith}
+use Rattle.std.proofs.Common.{◌≡◌, ◌<◌, ◌+◌, ◌-◌, length, take, drop, sym, subst, arith}
 use Rattle.std.specs.Prelude.{All}
 use Rattle.std.proofs.lemmas.Grind.{common_steps}
 use Rattle.std.proofs.lemmas.List.Elements.{All-drop}
-use Rattle.lp_term.specs.declared.node.TypeId.{TypeId}
 use Rattle.lp_susp.proofs.TypeWorks.{numbers_all, rest_of, con_made}
 use Rattle.lp_susp.proofs.type_reading.make_con.Goals.{In_ok-push}
 use Rattle.lp_susp.proofs.type_reading.make_con.Goals as goal
