@@ -18,7 +18,7 @@ use Rattle.lp_model.specs.Pair.{Closing}
 use Rattle.lp_model.specs.Flat.{Goal, Goals, no_goals, goals, Clause, clause, Clauses, no_clauses, clauses, clause_list, goal_list, instantiate_goals, formula_of_goal, formula_of_goals, formula_of_clause}
 use Rattle.lp_model.specs.Flatten.{ClauseFormula, with_type_vars, flat_goal, flatten_query}
 use Rattle.lp_standard.specs.Schemes.{IsStandard}
-use Rattle.lp_model.specs.Proofs.{AreFlattened, Declared, under, IsSentence, PlainlyProvable}
+use Rattle.lp_model.specs.Proofs.{AreFlattened, Declared, under, IsSentence, PlainlyProvable, no_leaf}
 use Rattle.lp_model.specs.Answers.{Query, Variable, type_of, over, IsPrefix, IsScopedAtom, AreTypedValues, IsWellFormed, Instance, filled}
 use Rattle.lp_model.specs.Branch.{nothing_written, Branch, Go, entries}
 use Rattle.lp_model.specs.Search.{vars_from, types_from, start}
@@ -232,21 +232,21 @@ module _ (d : Declared) (std : IsStandard d) (m : ℕ) (q : Query) (gs : Goals) 
     abbrev goals_in : List Goal
     goals_in = goal_list (instantiate_goals put_in gs)
 
-    at_program : (c : Closing) (R S : List ClauseFormula) → R ≡ S → (hs : List Goal) → EachOf (λ g. Holds d [] R c (formula_of_goal g)) hs → EachOf (λ g. Holds d [] S c (formula_of_goal g)) hs
-    at_program c R S w hs h = transport (λ z. EachOf (λ g. Holds d [] z c (formula_of_goal g)) hs) w h
+    at_program : (c : Closing) (R S : List ClauseFormula) → R ≡ S → (hs : List Goal) → EachOf (λ g. Holds no_leaf d [] R c (formula_of_goal g)) hs → EachOf (λ g. Holds no_leaf d [] S c (formula_of_goal g)) hs
+    at_program c R S w hs h = transport (λ z. EachOf (λ g. Holds no_leaf d [] z c (formula_of_goal g)) hs) w h
 
-    pub solves : IsPlainlyProvable d F q i → SolvesBranch d P q i (first_typing q gs) first
+    pub solves : IsPlainlyProvable d F q i → SolvesBranch no_leaf d P q i (first_typing q gs) first
     solves p =
         let h = (query_starts d std m q gs t e (map sentence_of P) i).0 (record { types = p.types; types_closed = p.types_closed; values = p.values; proved = to_program (filled q i) p.proved }) in
         record {
           query = record { types = p.types; types_closed = p.types_closed; values = p.values };
           answer = record { closing = h.closing; closes = h.closes; solves = tt; types = h.types; values = h.values };
-          proved = entries_hold d P h.closing [] [] nothing_written 0 0 goals_in (at_program h.closing (map sentence_of P) (clauses_at P [] h.closing) (program_at h.closing) goals_in h.holds);
+          proved = entries_hold _ d P h.closing [] [] nothing_written 0 0 goals_in (at_program h.closing (map sentence_of P) (clauses_at P [] h.closing) (program_at h.closing) goals_in h.holds);
         }
 
-    pub proves_it : SolvesBranch d P q i (first_typing q gs) first → IsPlainlyProvable d F q i
+    pub proves_it : SolvesBranch no_leaf d P q i (first_typing q gs) first → IsPlainlyProvable d F q i
     proves_it s =
         let c = s.answer.closing in
-        let h = at_program c (clauses_at P [] c) (map sentence_of P) (sym (program_at c)) goals_in (hold_entries d P c [] [] nothing_written 0 0 goals_in s.proved) in
+        let h = at_program c (clauses_at P [] c) (map sentence_of P) (sym (program_at c)) goals_in (hold_entries _ d P c [] [] nothing_written 0 0 goals_in s.proved) in
         let p = (query_starts d std m q gs t e (map sentence_of P) i).1 s.query.values (record { closing = c; closes = s.answer.closes; types = s.answer.types; values = s.answer.values; holds = h }) in
         record { types = p.types; types_closed = p.types_closed; values = p.values; proved = from_program (filled q i) p.proved }

@@ -24,6 +24,7 @@ pub mod EqualStands
 pub mod TriesRight
 pub mod Standing
 pub mod Serving
+pub mod Settings
 pub mod Apart
 pub mod Programs
 pub mod Expressions

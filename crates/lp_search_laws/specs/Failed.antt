@@ -1,0 +1,54 @@
+-- Failing searches as leaves of proofs, whatever stands in the place of the variables of the search.
+use Rattle.std.specs.Prelude.{◌≡◌, ℕ, List, [], ◌∷◌, ◌++◌, map, length, Some}
+use Rattle.lp_calculus.specs.Types.{Ty, instance}
+use Rattle.lp_calculus.specs.Term.{Term}
+use Rattle.lp_calculus.specs.Convert.{Converts}
+use Rattle.lp_standard.specs.Connectives.{truth, two}
+use Rattle.lp_standard.specs.Numbers as number
+use Rattle.lp_model.specs.declared.ending.Ending.TheVariants.{NoMore}
+use Rattle.lp_model.specs.Flat.{Clause, goal_list, formula_of_goals}
+use Rattle.lp_model.specs.Flatten.{ClauseFormula}
+use Rattle.lp_model.specs.Pair.{Closing, closed}
+use Rattle.lp_model.specs.Branch.{Branch, entries}
+use Rattle.lp_model.specs.Answers.{Closes}
+use Rattle.lp_model.specs.Proofs.{Declared, Failure, Stands, assumed, failure_told, newest_first}
+use Rattle.lp_search_laws.specs.Clauses.{clauses_at}
+use Rattle.lp_search_laws.specs.Branches.{BranchTyping, IsTypedBranch, no_query}
+
+-- the same clauses, but for their order and how often they stand there, for conversion of what is assumed, and for assumptions that are made together or each on its own
+pub data SameClauses : (P R : List ClauseFormula) → Type 0 where
+  in_some_order : {P R : List ClauseFormula} → Stands P R → Stands R P → SameClauses P R
+  converted : {P R : List ClauseFormula} (before behind : List ClauseFormula) (A B : Term) → P ≡ before ++ assumed A ∷ behind → R ≡ before ++ assumed B ∷ behind → Converts A B → SameClauses P R
+  both_apart : {P R : List ClauseFormula} (before behind : List ClauseFormula) (A B : Term) → P ≡ before ++ assumed (two number.And [] A B) ∷ behind → R ≡ before ++ assumed A ∷ assumed B ∷ behind → SameClauses P R
+  none_apart : {P R : List ClauseFormula} (before behind : List ClauseFormula) → P ≡ before ++ assumed truth ∷ behind → R ≡ before ++ behind → SameClauses P R
+  other_way : {P R : List ClauseFormula} → SameClauses P R → SameClauses R P
+  one_by_one : {P R : List ClauseFormula} (Q : List ClauseFormula) → SameClauses P Q → SameClauses Q R → SameClauses P R
+
+-- the branch that the search begins with, at a level
+abbrev pub failing_branch : (level : ℕ) → Failure → Branch
+failing_branch level f = record {
+  next = length f.variables;
+  next_type = f.next_type;
+  goals = entries (goal_list f.goals) (newest_first f.assumed) f.written level 0;
+  types = [];
+  values = [];
+  pairs = [];
+}
+
+-- its variables, and for each goal the types of its eigenconstants
+abbrev pub failing_typing : (E : List Ty) → Failure → BranchTyping
+failing_typing E f = record { answer = record { variables = f.variables; pairs = [] }; eigens = map (λ g. E) (goal_list f.goals) }
+
+-- a search of the program P that fails, and that begins with a typed branch: a closing of its variables makes its goals G, and what is assumed there the clauses R, of which the
+-- program's are its sentences
+pub record IsFailedSearch (d : Declared) (P : List Clause) (E : List Ty) (R : List ClauseFormula) (G : Term) (f : Failure) : Type 0 where
+  pub eigens : List Ty
+  pub begins : IsTypedBranch f.looks d no_query (failing_typing eigens f) (failing_branch (length eigens) f)
+  pub closing : Closing
+  pub closes : Closes d f.variables closing
+  pub is_closed : map (instance closing.types) eigens ≡ E
+  pub goal : Converts (closed closing (formula_of_goals f.goals)) G
+  pub clauses : SameClauses (clauses_at P (newest_first f.assumed) closing) R
+  pub program : f.program ≡ P
+  pub ends : (failure_told (length eigens) f).ending ≡ Some NoMore
+  pub gives_none : (failure_told (length eigens) f).answers ≡ []
