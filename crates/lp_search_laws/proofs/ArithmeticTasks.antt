@@ -1,5 +1,5 @@
 -- What the search leaves of an arithmetic goal: `is` is as good as an equality, and a comparison is gone or there is nothing left.
-use Rattle.lp_search_laws.proofs.Settings.{IsSetting}
+use Rattle.lp_proof_laws.proofs.Uniform.Settings.{IsSetting}
 use Rattle.std.proofs.Common.{◌≡◌, ℕ, zero, suc, ◌≤◌, List, [], ◌∷◌, map, refl, sym, ap, ◌∙◌, subst as transport, arith, inl, inr, Bool, true, false, Option, Some, None, if◌then◌else◌}
 use Rattle.std.specs.Prelude.{ℤ}
 use Rattle.lp_calculus.specs.Types.{Ty, instance, arrow}

@@ -1,5 +1,5 @@
 -- What an atom at the front of a branch leaves, by its head.
-use Rattle.lp_search_laws.proofs.Settings.{IsSetting}
+use Rattle.lp_proof_laws.proofs.Uniform.Settings.{IsSetting}
 use Rattle.std.proofs.Common.{◌≡◌, ℕ, zero, suc, ◌≤◌, List, [], ◌∷◌, map, Option, Some, None, ◌∙◌, refl, sym, ap, subst as transport, arith, inl, inr, Bool, true, false, nat_eq, if◌then◌else◌}
 use Rattle.std.specs.Prelude.{nat_le, ◌&&◌}
 use Rattle.std.proofs.lemmas.Bool.Decides.{nat_tests}

@@ -1,4 +1,6 @@
 -- The branch that a search starts with is typed, and its solutions are the instances for which the query is provable.
+use Rattle.lp_proof_laws.proofs.Uniform.Assumptions.{AreKept}
+use Rattle.lp_proof_laws.proofs.Uniform.Settings.{IsSetting}
 use Rattle.std.proofs.Common.{◌≡◌, ℕ, zero, suc, ◌+◌, ◌-◌, ◌≤◌, ◌<◌, List, [], ◌∷◌, ◌++◌, map, length, reverse, Some, refl, sym, ap, ◌∙◌, subst as transport, arith, append-nil}
 use Rattle.std.specs.Prelude.{slice_get, option_map}
 use Rattle.std.proofs.lemmas.List.{length-reverse, length-map}
@@ -18,7 +20,7 @@ use Rattle.lp_model.specs.Pair.{Closing}
 use Rattle.lp_model.specs.Flat.{Goal, Goals, no_goals, goals, Clause, clause, Clauses, no_clauses, clauses, clause_list, goal_list, instantiate_goals, formula_of_goal, formula_of_goals, formula_of_clause}
 use Rattle.lp_model.specs.Flatten.{ClauseFormula, with_type_vars, flat_goal, flatten_query}
 use Rattle.lp_standard.specs.Schemes.{IsStandard}
-use Rattle.lp_model.specs.Proofs.{AreFlattened, Declared, under, IsSentence, PlainlyProvable, no_leaf}
+use Rattle.lp_model.specs.Proofs.{AreFlattened, Declared, under, IsSentence, PlainlyProvable, no_leaf, Leaves, ProvableBy}
 use Rattle.lp_model.specs.Answers.{Query, Variable, type_of, over, IsPrefix, IsScopedAtom, AreTypedValues, IsWellFormed, Instance, filled}
 use Rattle.lp_model.specs.Branch.{nothing_written, Branch, Go, entries}
 use Rattle.lp_model.specs.Search.{vars_from, types_from, start}
@@ -27,7 +29,7 @@ use Rattle.lp_proof_laws.proofs.Uniform.Openings.{instantiate_subst}
 use Rattle.lp_unify_laws.proofs.Looks.{beta_reduces}
 use Rattle.lp_unify_laws.proofs.TypedInstances.{get_map}
 use Rattle.lp_search_laws.specs.Holds.{Holds, IsTyped}
-use Rattle.lp_search_laws.specs.Started.{IsQueryAtom, IsTypedQuery, IsTypedSentence, outermost, IsPlainlyProvable}
+use Rattle.lp_search_laws.specs.Started.{IsQueryAtom, IsTypedQuery, IsTypedSentence, outermost, IsPlainlyProvable, IsProvableBy}
 use Rattle.lp_search_laws.specs.Clauses.{sentence_of, clauses_at}
 use Rattle.lp_search_laws.specs.Branches.{IsPlainTerm, IsClause, IsProgramTyped, IsTypedBranch, IsPlainVariable, SolvesBranch}
 use Rattle.lp_search_laws.specs.Begun.{first_branch, first_typing}
@@ -211,8 +213,12 @@ module _ (d : Declared) (std : IsStandard d) (m : ℕ) (q : Query) (gs : Goals) 
     },
   )
 
+module _ {L : Leaves} (d : Declared) (std : IsSetting L d) (m : ℕ) (q : Query) (gs : Goals) (t : IsTypedQuery d q) (e : flatten_query m d q.formula ≡ Some gs) where
+  abbrev put_here : ℕ → Term
+  put_here k = atom (logic (length q.vars - suc k) 0)
+
   -- solutions
-  module _ (F : List ClauseFormula) (P : List Clause) (s : EachOf (IsTypedSentence d) F) (x : AreFlattened d F P) (i : Instance) where
+  module _ (F : List ClauseFormula) (P : List Clause) (s : EachOf (IsTypedSentence d) F) (x : AreFlattened d F P) (k : AreKept L F (map sentence_of P) × AreKept L (map sentence_of P) F) (i : Instance) where
     same_sentence : (P : List Clause) → map sentence_of P ≡ map sentence_of P
     same_sentence [] = refl
     same_sentence (clause k vs h b ∷ P) = ap (λ z. sentence_of (clause k vs h b) ∷ z) (same_sentence P)
@@ -220,22 +226,22 @@ module _ (d : Declared) (std : IsStandard d) (m : ℕ) (q : Query) (gs : Goals) 
     program_at : (c : Closing) → map sentence_of P ≡ clauses_at P [] c
     program_at c = same_sentence P ∙ sym (append-nil (map sentence_of P))
 
-    to_program : (G : Term) → PlainlyProvable d [] F G → PlainlyProvable d [] (map sentence_of P) G
-    to_program G p = transport (λ z. PlainlyProvable d [] z G) (append-nil (map sentence_of P)) ((program_reads_back d std F P (each_sentence d F s) x [] [] G).0 (transport (λ z. PlainlyProvable d [] z G) (sym (append-nil F)) p))
+    to_program : (G : Term) → ProvableBy L d [] F G → ProvableBy L d [] (map sentence_of P) G
+    to_program G p = transport (λ z. ProvableBy L d [] z G) (append-nil (map sentence_of P)) ((program_reads_back d std F P (each_sentence d F s) x k [] [] G).0 (transport (λ z. ProvableBy L d [] z G) (sym (append-nil F)) p))
 
-    from_program : (G : Term) → PlainlyProvable d [] (map sentence_of P) G → PlainlyProvable d [] F G
-    from_program G p = transport (λ z. PlainlyProvable d [] z G) (append-nil F) ((program_reads_back d std F P (each_sentence d F s) x [] [] G).1 (transport (λ z. PlainlyProvable d [] z G) (sym (append-nil (map sentence_of P))) p))
+    from_program : (G : Term) → ProvableBy L d [] (map sentence_of P) G → ProvableBy L d [] F G
+    from_program G p = transport (λ z. ProvableBy L d [] z G) (append-nil F) ((program_reads_back d std F P (each_sentence d F s) x k [] [] G).1 (transport (λ z. ProvableBy L d [] z G) (sym (append-nil (map sentence_of P))) p))
 
     abbrev first : Branch
     first = first_branch q.type_vars (length q.vars) gs
 
     abbrev goals_in : List Goal
-    goals_in = goal_list (instantiate_goals put_in gs)
+    goals_in = goal_list (instantiate_goals put_here gs)
 
-    at_program : (c : Closing) (R S : List ClauseFormula) → R ≡ S → (hs : List Goal) → EachOf (λ g. Holds no_leaf d [] R c (formula_of_goal g)) hs → EachOf (λ g. Holds no_leaf d [] S c (formula_of_goal g)) hs
-    at_program c R S w hs h = transport (λ z. EachOf (λ g. Holds no_leaf d [] z c (formula_of_goal g)) hs) w h
+    at_program : (c : Closing) (R S : List ClauseFormula) → R ≡ S → (hs : List Goal) → EachOf (λ g. Holds L d [] R c (formula_of_goal g)) hs → EachOf (λ g. Holds L d [] S c (formula_of_goal g)) hs
+    at_program c R S w hs h = transport (λ z. EachOf (λ g. Holds L d [] z c (formula_of_goal g)) hs) w h
 
-    pub solves : IsPlainlyProvable d F q i → SolvesBranch no_leaf d P q i (first_typing q gs) first
+    pub solves : IsProvableBy L d F q i → SolvesBranch L d P q i (first_typing q gs) first
     solves p =
         let h = (query_starts d std m q gs t e (map sentence_of P) i).0 (record { types = p.types; types_closed = p.types_closed; values = p.values; proved = to_program (filled q i) p.proved }) in
         record {
@@ -244,7 +250,7 @@ module _ (d : Declared) (std : IsStandard d) (m : ℕ) (q : Query) (gs : Goals) 
           proved = entries_hold _ d P h.closing [] [] nothing_written 0 0 goals_in (at_program h.closing (map sentence_of P) (clauses_at P [] h.closing) (program_at h.closing) goals_in h.holds);
         }
 
-    pub proves_it : SolvesBranch no_leaf d P q i (first_typing q gs) first → IsPlainlyProvable d F q i
+    pub proves_it : SolvesBranch L d P q i (first_typing q gs) first → IsProvableBy L d F q i
     proves_it s =
         let c = s.answer.closing in
         let h = at_program c (clauses_at P [] c) (map sentence_of P) (sym (program_at c)) goals_in (hold_entries _ d P c [] [] nothing_written 0 0 goals_in s.proved) in

@@ -1,6 +1,6 @@
 -- An atom is provable exactly by the candidates: its proof begins with a clause, a clause that serves for it passes their tests, and a candidate that
 -- serves begins a proof.
-use Rattle.lp_search_laws.proofs.Settings.{IsSetting}
+use Rattle.lp_proof_laws.proofs.Uniform.Settings.{IsSetting}
 use Rattle.std.proofs.Common.{◌≡◌, ℕ, zero, suc, ◌+◌, ◌≤◌, List, [], ◌∷◌, ◌++◌, map, length, ◌∙◌, refl, sym, ap, subst as transport, arith, inl, inr, Bool, true, false, Option, Some}
 use Rattle.std.specs.Prelude.{◌⊎◌, cond, filter, slice_get}
 use Rattle.lp_calculus.specs.Types.{Ty}

@@ -14,10 +14,11 @@ use Rattle.lp_model.specs.Answers.{Query}
 use Rattle.lp_standard.specs.Schemes.{IsStandard}
 use Rattle.lp_unify_laws.specs.Solutions.{IsStuck, AreStuck}
 use Rattle.lp_unify_laws.proofs.MoreSteps.Rules.{rule_more}
-use Rattle.lp_search_laws.proofs.Settings.{without_leaves}
+use Rattle.lp_proof_laws.proofs.Uniform.Settings.{without_leaves}
 use Rattle.lp_search_laws.specs.Enough.{HasEnough}
 use Rattle.lp_search_laws.specs.Started.{IsTypedQuery, IsTypedSentence}
-use Rattle.lp_search_laws.specs.Branches.{IsProgramTyped, IsTypedBranch, no_query, TypedTask, going, trying, stopping, lacking, task_of, IsOk, IsRightView}
+use Rattle.lp_search_laws.specs.Branches.{IsProgramTyped, IsTypedBranch, no_query, TypedTask, going, trying, stopping, lacking, task_of, IsOk, IsRightView, denied_typing}
+use Rattle.lp_search_laws.specs.Denials.{denied_branch}
 use Rattle.lp_search_laws.proofs.Stack.MoreLooks.{Fewer, same_look, lacks, opens_dead, takes_dead, run_same}
 use Rattle.lp_search_laws.proofs.Stack.Ends.{ends}
 use Rattle.lp_search_laws.proofs.MoreSteps.{look_more, IsLacking, more_steps_same}
@@ -176,7 +177,7 @@ module _ (d : Declared) (std : IsStandard d) (P : List Clause) (program : EachOf
       go true e = tt
       go false e = all_kept q n r.typed r.ok ts r.is e
   view_leaves q n T (Denies t is_final ts) r = (
-    transport Kept (sym r.is) (record { query = no_query; steps = n; task = going r.typing r.branch; ok = r.begins; is = refl; some = λ e. cc }),
+    transport Kept (sym r.is) (record { query = no_query; steps = n; task = going (denied_typing r.variables r.eigens r.goals) (denied_branch (length r.variables) r.next_type r.goals r.assumed r.written (length r.eigens)); ok = r.begins; is = refl; some = λ e. cc }),
     transport (EachOf Kept) (sym r.goes_on) (record { query = q; steps = n; task = going r.rest_typing r.rest; ok = r.after; is = refl; some = λ e. cc }, tt),
   )
   view_leaves q n T (Halts e) r = tt

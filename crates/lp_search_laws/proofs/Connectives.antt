@@ -1,5 +1,5 @@
 -- The connectives under a closing: a goal is provable exactly where what stands in its place is.
-use Rattle.lp_search_laws.proofs.Settings.{IsSetting}
+use Rattle.lp_proof_laws.proofs.Uniform.Settings.{IsSetting}
 use Rattle.std.proofs.Common.{◌≡◌, ℕ, List, [], ◌∷◌, ◌++◌, refl, subst as transport, arith, inl, inr}
 use Rattle.std.specs.Prelude.{◌⊎◌, ◌≤◌}
 use Rattle.lp_calculus.specs.Types.{Ty, instance}

@@ -1,5 +1,5 @@
 -- Flattened goals at the front of a branch, taken apart.
-use Rattle.lp_search_laws.proofs.Settings.{IsSetting}
+use Rattle.lp_proof_laws.proofs.Uniform.Settings.{IsSetting}
 use Rattle.std.proofs.Common.{◌≡◌, ℕ, zero, suc, List, [], ◌∷◌, ◌++◌, map, length, Some, ◌∙◌, refl, sym, ap, subst as transport, inl, inr, Bool, true, false, append_assoc, append-nil}
 use Rattle.std.specs.Prelude.{◌+◌, slice_get, slice_index_or}
 use Rattle.std.proofs.lemmas.List.{map-append}

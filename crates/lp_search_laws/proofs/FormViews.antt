@@ -1,5 +1,5 @@
 -- What a goal known at run time leaves, by the connective at its head.
-use Rattle.lp_search_laws.proofs.Settings.{IsSetting}
+use Rattle.lp_proof_laws.proofs.Uniform.Settings.{IsSetting}
 use Rattle.std.proofs.Common.{true≢false, ◌≡◌, ℕ, suc, List, [], ◌∷◌, ◌++◌, map, length, Some, ◌∙◌, refl, sym, ap, subst as transport, arith, inl, inr}
 use Rattle.std.specs.Prelude.{◌⊎◌}
 use Rattle.lp_calculus.specs.Types.{Ty, instance}

@@ -1,5 +1,5 @@
 -- What a flattened goal at the front of a branch leaves.
-use Rattle.lp_search_laws.proofs.Settings.{IsSetting}
+use Rattle.lp_proof_laws.proofs.Uniform.Settings.{IsSetting}
 use Rattle.std.proofs.Common.{◌≡◌, ℕ, suc, List, [], ◌∷◌, ◌++◌, map, length, Some, ◌∙◌, refl, sym, ap, subst as transport, arith, inl, inr, true, false}
 use Rattle.std.specs.Prelude.{slice_get}
 use Rattle.lp_calculus.specs.Types.{Ty, instance}
@@ -16,6 +16,7 @@ use Rattle.lp_model.specs.Search.{with_goals}
 use Rattle.lp_proof_laws.proofs.Uniform.Roots.{connective, pi_type, sigma_type}
 use Rattle.lp_unify_laws.proofs.Scopes.{prefix_more, prefix_none, more_none, eigen_last, get_last, of_variable}
 use Rattle.lp_unify_laws.proofs.TypedInstances.{length_map, map_append}
+use Rattle.lp_search_laws.specs.Denials.{denied_branch}
 use Rattle.lp_search_laws.specs.Holds.{Holds, IsTyped}
 use Rattle.lp_search_laws.specs.Clauses.{clauses_at}
 use Rattle.lp_search_laws.specs.Branches.{IsGoal, EntryHolds, StandFor, DeniesTyped, BranchTyping, IsTypedBranch, no_query, going, stopping}
@@ -29,7 +30,7 @@ use Rattle.lp_search_laws.proofs.Written.{written_more}
 use Rattle.lp_search_laws.proofs.FlatViews.{IsPlaceOf, place_of, goals_stand, goals_proved, opened_stand, opened_proved, next_place, assumed_proved}
 use Rattle.lp_lemmas.proofs.Each.{each_append}
 use Rattle.lp_search_laws.specs.Branches.{IsAssumable}
-use Rattle.lp_model.specs.Proofs.{True}
+use Rattle.lp_model.specs.Proofs.{True, Fails}
 
 module _ {L : Leaves} (n : ℕ) (d : Declared) (std : IsSetting L d) (P : List Clause) (q : Query) (z : AnswerTyping) (b : Branch) (E : List Ty) (Es : List (List Ty)) (e : Entry) (es : List Entry) (h : IsTypedHere n d P q z b E Es e es) where
   abbrev pub V : List Variable
@@ -139,8 +140,26 @@ module _ {L : Leaves} (n : ℕ) (d : Declared) (std : IsSetting L d) (P : List C
         stuck = tt;
       }
 
-  pub denied_stands : (ws : Written) (gs : Goals) → e.goal ≡ Not ws gs → DeniesTyped n d q (Go (inner_branch gs)) (Go (with_goals b es) ∷ [])
-  denied_stands ws gs i = record { typing = inner_typing gs; branch = inner_branch gs; is = refl; begins = inner_typed ws gs i; rest_typing = Typings n d P q z b E Es e es Es; rest = with_goals b es; goes_on = refl; after = rest_typed }
+  pub denied_stands : (ws : Written) (gs : Goals) → e.goal ≡ Not ws gs → DeniesTyped L n d P q (going (Typings n d P q z b E Es e es (E ∷ Es)) (with_goals b (e ∷ es))) (Go (inner_branch gs)) (Go (with_goals b es) ∷ [])
+  denied_stands ws gs i = record {
+    variables = z.variables;
+    eigens = E;
+    next_type = b.next_type;
+    goals = gs;
+    assumed = e.assumed;
+    written = e.written;
+    is = λ j. Go (denied_branch (sym h.answer.variables j) b.next_type gs e.assumed e.written (sym h.entries.0.level j));
+    begins = transport (λ m. IsTypedBranch n d no_query (inner_typing gs) (denied_branch m b.next_type gs e.assumed e.written (length E))) (sym h.answer.variables)
+        (transport (λ m. IsTypedBranch n d no_query (inner_typing gs) (denied_branch b.next b.next_type gs e.assumed e.written m)) (sym h.entries.0.level) (inner_typed ws gs i));
+    rest_typing = Typings n d P q z b E Es e es Es;
+    rest = with_goals b es;
+    goes_on = refl;
+    after = rest_typed;
+    gives = λ leaf j s.
+        let c = s.answer.closing in
+        let f = leaf c s.answer.closes in
+        record { query = s.query; answer = s.answer; proved = (transport (λ x. HoldsHere c (formula_of_goal x)) (sym i) (record { proof = Fails f.0; holds = (closed c (formula_of_goals gs), refl, f.1) }), s.proved) };
+  }
 
   -- one in which a variable stands stops the search
   pub open_stands : StandFor L n d P q (going (Typings n d P q z b E Es e es (E ∷ Es)) (with_goals b (e ∷ es))) (Stop OpenNot ∷ [])

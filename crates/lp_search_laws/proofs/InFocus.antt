@@ -1,5 +1,5 @@
 -- A focus on one clause for an atom: terms for its variables one by one, the outermost first, then its goals, then its head.
-use Rattle.lp_search_laws.proofs.Settings.{IsSetting}
+use Rattle.lp_proof_laws.proofs.Uniform.Settings.{IsSetting}
 use Rattle.std.proofs.Common.{◌≡◌, ℕ, zero, suc, List, [], ◌∷◌, map, length, ◌∙◌, refl, sym, ap, subst as transport, arith, inl, inr}
 use Rattle.std.specs.Prelude.{true, false}
 use mathlib.Core.Path.{fun_ext}

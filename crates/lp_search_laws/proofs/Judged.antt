@@ -17,7 +17,7 @@ use Rattle.lp_model.specs.Branch.{Entry, Branch, Answer, Go}
 use Rattle.lp_model.specs.Search.{with_goals, look, has_no_pairs}
 use Rattle.lp_model.specs.Answers.{Query, Variable, AnswerTyping, Instance, Closes, AreTypedValues, ConvertEach, IsInstance, TypedAnswer, IsWellFormed}
 use Rattle.lp_model.specs.Proofs.{Declared, IsWitness, no_leaf}
-use Rattle.lp_search_laws.proofs.Settings.{without_leaves}
+use Rattle.lp_proof_laws.proofs.Uniform.Settings.{without_leaves}
 use Rattle.lp_search_laws.specs.Holds.{Holds, IsTyped}
 use Rattle.lp_search_laws.specs.Clauses.{clauses_at}
 use Rattle.lp_search_laws.specs.Right.{IsRightOf}

@@ -24,7 +24,6 @@ pub mod EqualStands
 pub mod TriesRight
 pub mod Standing
 pub mod Serving
-pub mod Settings
 pub mod Apart
 pub mod Programs
 pub mod Expressions
@@ -72,6 +71,9 @@ pub mod FullViews
 pub mod Comes
 pub mod Limits
 pub mod Refuted
+pub mod FailedSearches
+pub mod SoundRuns
+pub mod Sound
 pub mod Tested
 pub mod Unnegated
 pub mod Stands

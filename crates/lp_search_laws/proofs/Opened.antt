@@ -1,5 +1,5 @@
 -- The goals that stand in the place of a quantified one: terms put for indices in goals are terms put in their formula.
-use Rattle.lp_search_laws.proofs.Settings.{IsSetting}
+use Rattle.lp_proof_laws.proofs.Uniform.Settings.{IsSetting}
 use Rattle.std.proofs.Common.{◌≡◌, ℕ, zero, suc, List, ◌∙◌, refl, sym, ap, subst as transport}
 use mathlib.Core.Path.{fun_ext}
 use Rattle.lp_calculus.specs.Types.{Ty}

@@ -39,7 +39,7 @@ use Rattle.lp_unify_laws.proofs.Stuck.{solve_stuck}
 use Rattle.lp_search_laws.specs.Holds.{IsTyped, IsVariableOf}
 use Rattle.lp_search_laws.specs.Clauses.{assumed_as, sentence_of, clauses_at}
 use Rattle.lp_search_laws.specs.Branches.{IsPlainTerm, IsAssumable, AreProved, ArePlainEntries, IsPlainVariable, IsPlainPair, BranchTyping, IsTypedBranch, SolvesBranch, TypedTask, going, Sol, StandFor}
-use Rattle.lp_search_laws.proofs.Settings.{IsSetting}
+use Rattle.lp_proof_laws.proofs.Uniform.Settings.{IsSetting}
 use Rattle.lp_search_laws.specs.Behind.{LeadsThrough, behind, types_of, variables_of, eigens_of, IsBranchWith, SolvesWith}
 use Rattle.lp_search_laws.proofs.TypesPut.{put_types_is, put_types_in_is, satisfied_types, satisfied_instance, satisfied_term, satisfied_all}
 use Rattle.lp_search_laws.proofs.ClosedTerms.{closed_type, closed_witness}

@@ -1,5 +1,5 @@
 -- The tries of an atom stand for its branch: a closing makes the atom provable exactly where it makes some candidate serve.
-use Rattle.lp_search_laws.proofs.Settings.{IsSetting}
+use Rattle.lp_proof_laws.proofs.Uniform.Settings.{IsSetting}
 use Rattle.std.proofs.Common.{◌≡◌, ℕ, List, [], ◌∷◌, ◌++◌, map, refl, sym, ap, subst as transport, inl, inr, Bool, true, false, Option, Some, None}
 use Rattle.std.specs.Prelude.{◌⊎◌, ◌&&◌, cond, filter}
 use Rattle.lp_calculus.specs.Types.{Ty, instance}

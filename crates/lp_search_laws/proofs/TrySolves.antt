@@ -1,6 +1,6 @@
 -- A try: a clause serves for its goal, and the goals behind it are provable, exactly where some closing of the try's branch solves the types of the
 -- heads and the pairs of the arguments, and each goal of the branch is provable.
-use Rattle.lp_search_laws.proofs.Settings.{IsSetting}
+use Rattle.lp_proof_laws.proofs.Uniform.Settings.{IsSetting}
 use Rattle.std.proofs.Common.{◌≡◌, ℕ, ◌+◌, ◌<◌, List, [], ◌∷◌, ◌++◌, map, length, ◌∙◌, refl, sym, ap, subst as transport, false, inl, inr}
 use Rattle.lp_calculus.specs.Types.{Ty, instance}
 use Rattle.lp_calculus.specs.Term.{Term}

@@ -11,7 +11,7 @@ use Rattle.lp_model.specs.Branch.{Branch, Answer, Task, Go}
 use Rattle.lp_model.specs.Answers.{Query, AnswerTyping, Instance, IsClosedInstance, IsWellFormed}
 use Rattle.lp_model.specs.Proofs.{Declared, AreFlattened, no_leaf}
 use Rattle.lp_model.specs.Search.{look, start}
-use Rattle.lp_search_laws.proofs.Settings.{without_leaves}
+use Rattle.lp_proof_laws.proofs.Uniform.Settings.{without_leaves}
 use Rattle.lp_search_laws.specs.Started.{IsTypedQuery, IsTypedSentence}
 use Rattle.lp_search_laws.specs.Branches.{BranchTyping, IsQueryInstance, IsTypedBranch, IsProgramTyped, TypedTask, going, task_of, IsOk, IsRightView}
 use Rattle.lp_search_laws.proofs.Stack.Faithful.{fine}

@@ -16,12 +16,13 @@ use Rattle.lp_model.specs.Look.{head_normal}
 use Rattle.lp_standard.specs.Connectives.{connective_of, truth}
 use Rattle.lp_standard.specs.Connectives as connective
 use Rattle.lp_model.specs.Pair.{Pair, Closing, closed}
-use Rattle.lp_model.specs.Flat.{Goal, Atomic, Cut, Either, Exists, Forall, Assume, Not, Goals, no_goals, goals, Clause, clause, Clauses, no_clauses, clauses, formula_of_goal, formula_of_clause}
-use Rattle.lp_model.specs.Proofs.{Declared, IsAtomHead, Leaves}
-use Rattle.lp_model.specs.Answers.{Query, Variable, AnswerTyping, Instance, AreWitnesses, IsInstance, IsWellFormed}
+use Rattle.lp_model.specs.Flat.{Goal, Atomic, Cut, Either, Exists, Forall, Assume, Not, Goals, no_goals, goals, Clause, clause, Clauses, no_clauses, clauses, formula_of_goal, formula_of_goals, formula_of_clause, goal_list, Written}
+use Rattle.lp_model.specs.Proofs.{Declared, IsAtomHead, Leaves, Failure}
+use Rattle.lp_model.specs.Answers.{Query, Variable, AnswerTyping, Instance, Closes, AreWitnesses, IsInstance, IsWellFormed}
 use Rattle.lp_model.specs.Branch.{Entry, Branch, Answer, Task, Go, Try, Stop, Lack}
 use Rattle.lp_model.specs.Search.{with_goals, has_head}
 use Rattle.lp_unify_laws.specs.Solutions.{AreStuck}
+use Rattle.lp_search_laws.specs.Denials.{denied_branch, denied_task}
 use Rattle.lp_search_laws.specs.Holds.{Holds, IsTyped}
 use Rattle.lp_search_laws.specs.Clauses.{Serves, clauses_at, own_types}
 use Rattle.lp_search_laws.specs.Written.{IsWrittenClause, IsWrittenEntry}
@@ -236,16 +237,26 @@ pub record StandFor (L : Leaves) (n : ℕ) (d : Declared) (P : List Clause) (q :
 abbrev pub no_query : Query
 no_query = record { type_vars = 0; vars = []; formula = truth }
 
--- of a negated goal: its search begins with a typed branch, over the same variables and of no query; and what stands behind it is a typed branch
-pub record DeniesTyped (n : ℕ) (d : Declared) (q : Query) (u : Task) (ts : List Task) : Type 0 where
-  pub typing : BranchTyping
-  pub branch : Branch
-  pub is : u ≡ Go branch
-  pub begins : IsTypedBranch n d no_query typing branch
+-- the variables of a branch and, for each of the goals, the types of its eigenconstants
+abbrev pub denied_typing : List Variable → (E : List Ty) → Goals → BranchTyping
+denied_typing V E gs = record { answer = record { variables = V; pairs = [] }; eigens = map (λ g. E) (goal_list gs) }
+
+-- of a negated goal: its search begins with a typed branch, over the same variables and of no query; what stands behind it is a typed branch; and where for each
+-- closing of the variables a leaf stands for its goals, what is behind has only solutions of the task
+pub record DeniesTyped (L : Leaves) (n : ℕ) (d : Declared) (P : List Clause) (q : Query) (T : TypedTask) (u : Task) (ts : List Task) : Type 0 where
+  pub variables : List Variable
+  pub eigens : List Ty
+  pub next_type : ℕ
+  pub goals : Goals
+  pub assumed : List Clause
+  pub written : Written
+  pub is : u ≡ denied_task (length variables) next_type goals assumed written (length eigens)
+  pub begins : IsTypedBranch n d no_query (denied_typing variables eigens goals) (denied_branch (length variables) next_type goals assumed written (length eigens))
   pub rest_typing : BranchTyping
   pub rest : Branch
   pub goes_on : ts ≡ Go rest ∷ []
   pub after : IsTypedBranch n d q rest_typing rest
+  pub gives : ((c : Closing) → Closes d variables c → (f : Failure) × L (map (instance c.types) eigens) (clauses_at P assumed c) (closed c (formula_of_goals goals)) f) → (i : Instance) → SolvesBranch L d P q i rest_typing rest → Sol L d P q i T
 
 -- an answer in its place
 pub record AnswersFor (L : Leaves) (d : Declared) (P : List Clause) (q : Query) (T : TypedTask) (a : Answer) : Type 0 where
@@ -261,7 +272,7 @@ IsRightView L n d P q T (Opens ts) = StandFor L n d P q T ts
 IsRightView L n d P q T (Parts ts) = StandFor L n d P q T ts
 IsRightView L n d P q T (Takes name ts) = StandFor L n d P q T ts
 IsRightView L n d P q T (Cuts m ts) = StandFor L n d P q T ts
-IsRightView L n d P q T (Denies t is_final ts) = DeniesTyped n d q t ts
+IsRightView L n d P q T (Denies t is_final ts) = DeniesTyped L n d P q T t ts
 IsRightView L n d P q T (Halts e) = e ≢ NoMore
 IsRightView L n d P q T Lacks = Unit {0}
 

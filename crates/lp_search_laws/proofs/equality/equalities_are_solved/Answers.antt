@@ -1,4 +1,4 @@
-use Rattle.lp_search_laws.proofs.Settings.{without_leaves}
+use Rattle.lp_proof_laws.proofs.Uniform.Settings.{without_leaves}
 use Rattle.lp_search_laws.proofs.Equated as lemmas
 use Rattle.lp_search_laws.proofs.equality.equalities_are_solved.Goals as goal
 

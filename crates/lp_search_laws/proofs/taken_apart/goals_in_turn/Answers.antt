@@ -1,4 +1,4 @@
-use Rattle.lp_search_laws.proofs.Settings.{without_leaves}
+use Rattle.lp_proof_laws.proofs.Uniform.Settings.{without_leaves}
 use Rattle.lp_search_laws.proofs.Goals as lemmas
 use Rattle.lp_search_laws.proofs.taken_apart.goals_in_turn.Goals as goal
 
