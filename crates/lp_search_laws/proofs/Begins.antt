@@ -20,7 +20,7 @@ use Rattle.lp_model.specs.Pair.{Closing}
 use Rattle.lp_model.specs.Flat.{Goal, Goals, no_goals, goals, Clause, clause, Clauses, no_clauses, clauses, clause_list, goal_list, instantiate_goals, formula_of_goal, formula_of_goals, formula_of_clause}
 use Rattle.lp_model.specs.Flatten.{ClauseFormula, with_type_vars, flat_goal, flatten_query}
 use Rattle.lp_standard.specs.Schemes.{IsStandard}
-use Rattle.lp_model.specs.Proofs.{AreFlattened, Declared, under, IsSentence, PlainlyProvable, no_leaf, Leaves, ProvableBy}
+use Rattle.lp_model.specs.Proofs.{AreFlattened, Declared, under, IsSentence, Leaves, ProvableBy}
 use Rattle.lp_model.specs.Answers.{Query, Variable, type_of, over, IsPrefix, IsScopedAtom, AreTypedValues, IsWellFormed, Instance, filled}
 use Rattle.lp_model.specs.Branch.{nothing_written, Branch, Go, entries}
 use Rattle.lp_model.specs.Search.{vars_from, types_from, start}
@@ -29,7 +29,7 @@ use Rattle.lp_proof_laws.proofs.Uniform.Openings.{instantiate_subst}
 use Rattle.lp_unify_laws.proofs.Looks.{beta_reduces}
 use Rattle.lp_unify_laws.proofs.TypedInstances.{get_map}
 use Rattle.lp_search_laws.specs.Holds.{Holds, IsTyped}
-use Rattle.lp_search_laws.specs.Started.{IsQueryAtom, IsTypedQuery, IsTypedSentence, outermost, IsPlainlyProvable, IsProvableBy}
+use Rattle.lp_search_laws.specs.Started.{IsQueryAtom, IsTypedQuery, IsTypedSentence, outermost, IsProvableBy}
 use Rattle.lp_search_laws.specs.Clauses.{sentence_of, clauses_at}
 use Rattle.lp_search_laws.specs.Branches.{IsPlainTerm, IsClause, IsProgramTyped, IsTypedBranch, IsPlainVariable, SolvesBranch}
 use Rattle.lp_search_laws.specs.Begun.{first_branch, first_typing}

@@ -1,14 +1,12 @@
 -- Failing searches as leaves: they stand where formulas convert and where clauses are the same, and a refuted search is one for each closing of its variables.
-use Rattle.std.proofs.Common.{◌≡◌, ℕ, ◌+◌, ◌≤◌, List, [], ◌∷◌, ◌++◌, map, length, Bool, Some, refl, sym, ap, ◌∙◌, subst as transport, inl, inr, append_assoc}
-use Rattle.std.specs.Prelude.{slice_get}
+use Rattle.std.proofs.Common.{◌≡◌, ℕ, ◌+◌, ◌≤◌, List, [], ◌∷◌, ◌++◌, map, length, Bool, Some, refl, sym, ap, ◌∙◌, subst as transport, inl, inr, append_assoc, arith}
 use Rattle.std.proofs.lemmas.List.{map-append}
 use Rattle.lp_calculus.specs.Types.{Ty, instance}
 use Rattle.lp_calculus.specs.Term.{Term}
-use Rattle.lp_calculus.specs.Convert.{Converts, same}
+use Rattle.lp_calculus.specs.Convert.{same}
 use Rattle.lp_standard.specs.Schemes.{IsStandard}
-use Rattle.lp_model.specs.declared.ending.Ending.TheVariants.{NoMore}
 use Rattle.lp_model.specs.Unify.{unit_limit}
-use Rattle.lp_model.specs.Flat.{Clause, Clauses, no_clauses, clauses, Goals, Written, goal_list, clause_list, formula_of_goals, formula_of_clause, formula_of_clauses}
+use Rattle.lp_model.specs.Flat.{Clause, Clauses, no_clauses, clauses, Goals, Written, clause_list, formula_of_goals, formula_of_clause, formula_of_clauses}
 use Rattle.lp_model.specs.Index.{instantiate}
 use Rattle.lp_model.specs.Flatten.{ClauseFormula, flat_clause}
 use Rattle.lp_model.specs.Pair.{Closing, closed}
@@ -24,7 +22,7 @@ use Rattle.lp_search_laws.specs.Clauses.{sentence_of, clauses_at}
 use Rattle.lp_search_laws.specs.Branches.{IsTypedBranch, no_query, denied_typing}
 use Rattle.lp_search_laws.specs.Failed.{SameGoal, goal_converts, goal_flat, goal_back, goal_then, SameClauses, in_some_order, converted, both_apart, none_apart, clause_flat, sentence_flat, other_way, one_by_one, IsFailedSearch}
 use Rattle.lp_proof_laws.proofs.Uniform.Settings.{IsSetting}
-use Rattle.lp_search_laws.proofs.Refuted.{bound, ends_within, none_within}
+use Rattle.lp_search_laws.proofs.Refuted.{ends_within, none_within}
 
 -- the same clauses
 all_stand : (P : List ClauseFormula) → Stands P P
@@ -107,24 +105,36 @@ program_kept d F P x = (
   (λ S E G f h. clauses_move d P E (map sentence_of P ++ S) (F ++ S) G f (other_way (program_apart d F P x [] S)) h),
 )
 
+itself : (x : ℕ) → x ≤ x
+itself x = omega arith
+
+longer : (n rows : ℕ) → n ≤ n + rows
+longer n rows = omega arith
+
+wider : (n rows : ℕ) → rows ≤ n + rows
+wider n rows = omega arith
+
 -- a refuted search
 module _ (n : ℕ) (d : Declared) (P : List Clause) (V : List Variable) (E : List Ty) (next_type : ℕ) (gs : Goals) (css : List Clauses) (w : Written)
     (begins : IsTypedBranch n d no_query (denied_typing V E gs) (denied_branch (length V) next_type gs (newest_first css) w (length E)))
     (steps j rows k p : ℕ) (ns : List Note) (is_final : Answer → Bool) (r : inner (look unit_limit n P) j is_final (starts_within rows (denied_task (length V) next_type gs (newest_first css) w (length E)) steps 1) ≡ Refuted k ns p) where
   leaf : Failure
-  leaf = record { limit = bound steps rows; looks = n; moves = j; variables = V; next_type = next_type; goals = gs; assumed = css; written = w; program = P }
+  leaf = record { limit = steps + rows; looks = n; moves = j; variables = V; next_type = next_type; goals = gs; assumed = css; written = w; program = P }
 
   pub refuted_fails_so : (c : Closing) → Closes d V c → (f : Failure) × IsFailedSearch d P (map (instance c.types) E) (clauses_at P (newest_first css) c) (closed c (formula_of_goals gs)) f
   unfolding leaf
-  refuted_fails_so c cl = (leaf, record {
-    eigens = E;
-    begins = begins;
-    closing = c;
-    closes = cl;
-    is_closed = refl;
-    goal = goal_converts (same (closed c (formula_of_goals gs)));
-    clauses = no_other d (clauses_at P (newest_first css) c);
-    program = refl;
-    ends = ends_within P (denied_task (length V) next_type gs (newest_first css) w (length E)) steps n j rows k p ns is_final r;
-    gives_none = none_within P (denied_task (length V) next_type gs (newest_first css) w (length E)) steps n j rows k p ns is_final r;
-  })
+  refuted_fails_so c cl = (
+    leaf,
+    record {
+      eigens = E;
+      begins = begins;
+      closing = c;
+      closes = cl;
+      is_closed = refl;
+      goal = goal_converts (same (closed c (formula_of_goals gs)));
+      clauses = no_other d (clauses_at P (newest_first css) c);
+      program = refl;
+      ends = ends_within P (denied_task (length V) next_type gs (newest_first css) w (length E)) steps n j rows k p ns is_final r unit_limit (steps + rows) (itself unit_limit) (longer steps rows) (wider steps rows);
+      gives_none = none_within P (denied_task (length V) next_type gs (newest_first css) w (length E)) steps n j rows k p ns is_final r unit_limit (steps + rows) (itself unit_limit) (longer steps rows) (wider steps rows);
+    },
+  )

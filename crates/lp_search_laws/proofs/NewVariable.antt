@@ -158,9 +158,6 @@ pub own_value : (c : Closing) (x l : ℕ) → with_value c x l (c.terms x l) ≡
 own_value c x l = λ i. record { types = c.types; terms = λ y m. same_at c x l y m (nat_eq y x && nat_eq m l) refl i }
 
 module _ (n : ℕ) (d : Declared) (P : List Clause) (q : Query) (z : AnswerTyping) (b : Branch) (E : List Ty) (Es : List (List Ty)) (e : Entry) (es : List Entry) (h : IsTypedHere n d P q z b E Es e es) (T : Ty) (below : IsTypeBelow b.next_type T) where
-  abbrev pub new_one : Variable
-  new_one = record { type = T; scope = E }
-
   abbrev pub W : List Variable
   W = z.variables ++ record { type = T; scope = E } ∷ []
 

@@ -18,7 +18,7 @@ use Rattle.lp_standard.specs.Connectives.{two}
 use Rattle.lp_model.specs.Flat.{Goals, no_goals, goals, Clause, clause, Clauses, no_clauses, clauses, clause_list, formula_of_clause, formula_of_clauses}
 use Rattle.lp_model.specs.Flatten.{ClauseFormula, with_type_vars, flatten, flat_clause}
 use Rattle.lp_standard.specs.Schemes.{IsStandard}
-use Rattle.lp_model.specs.Proofs.{AreFlattened, Declared, IsFormula, IsSentence, IsAtomHead, PlainlyProvable, PlainlyFocusable, assumed, Leaves, no_leaf, ProvableBy, FocusableBy}
+use Rattle.lp_model.specs.Proofs.{AreFlattened, Declared, IsFormula, IsSentence, IsAtomHead, assumed, Leaves, ProvableBy, FocusableBy}
 use Rattle.lp_proof_laws.proofs.Uniform.Formulas.{formula_eigens, closed_instance, parts}
 use Rattle.lp_proof_laws.proofs.Uniform.Roots.{connective}
 use Rattle.lp_proof_laws.proofs.Uniform.FocusRoots.{fconv}

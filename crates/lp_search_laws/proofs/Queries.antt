@@ -24,7 +24,6 @@ use Rattle.lp_model.specs.Eigens.{beta_normal}
 use Rattle.lp_model.specs.Pair.{Closing, closed}
 use Rattle.lp_model.specs.Flat.{Goals, no_goals, goal_list, instantiate_goals, formula_of_goal, formula_of_goals}
 use Rattle.lp_model.specs.Flatten.{ClauseFormula, flat_goal, flatten_query}
-use Rattle.lp_standard.specs.Schemes.{IsStandard}
 use Rattle.lp_model.specs.Proofs.{Declared, under, IsFormula, IsWitness, Leaves, ProvableBy}
 use Rattle.lp_model.specs.Answers.{Query, Instance, Closes, ConvertEach, AreWitnesses, filled}
 use Rattle.lp_model.specs.Search.{vars_from, types_from}

@@ -1,5 +1,5 @@
 -- Soundness of runs, with negation: what a typed task leaves has only its solutions, and behind a negated goal, where its search is refuted, the search is a leaf.
-use Rattle.std.proofs.Common.{◌≡◌, ℕ, zero, suc, ◌-◌, List, [], ◌∷◌, map, length, Some, refl, sym, ap, subst as transport, inl, inr}
+use Rattle.std.proofs.Common.{◌≡◌, ℕ, zero, suc, ◌-◌, List, [], ◌∷◌, map, length, refl, sym, ap, subst as transport, inl, inr}
 use Rattle.std.specs.Prelude.{Bool, true, false}
 use Rattle.lp_calculus.specs.Types.{Ty, instance}
 use Rattle.lp_lemmas.specs.Each.{AnyOf, EachOf}
@@ -7,13 +7,13 @@ use Rattle.lp_lemmas.proofs.Each.{each_append, each_drop}
 use Rattle.lp_standard.specs.Schemes.{IsStandard}
 use Rattle.lp_model.specs.Unify.{unit_limit}
 use Rattle.lp_model.specs.Skeleton.{View, Gives, Opens, Parts, Takes, Cuts, Denies, Halts, Lacks, State, Note, Told, Inner, Refuted, Held, Broke, Lasts, starts, starts_within, oldest, move_denied, move_view, move_at, inner, told_after, run}
-use Rattle.lp_model.specs.Flat.{Goals, Written, Clause, Clauses, clause_list, formula_of_goals}
+use Rattle.lp_model.specs.Flat.{Goals, Written, Clause, clause_list, formula_of_goals}
 use Rattle.lp_model.specs.Flattened.{clauses_in}
 use Rattle.lp_model.specs.Pair.{Closing, closed}
 use Rattle.lp_model.specs.Branch.{Branch, Answer, Task, Go}
 use Rattle.lp_model.specs.Search.{look}
 use Rattle.lp_model.specs.Answers.{Query, Variable, AnswerTyping, Instance, Closes, IsInstance, IsWellFormed}
-use Rattle.lp_model.specs.Proofs.{Declared, Failure, newest_first}
+use Rattle.lp_model.specs.Proofs.{Declared, Failure}
 use Rattle.lp_search_laws.specs.Denials.{denied_branch, denied_task}
 use Rattle.lp_search_laws.specs.Clauses.{clauses_at}
 use Rattle.lp_search_laws.specs.Failed.{IsFailedSearch}

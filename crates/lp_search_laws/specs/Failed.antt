@@ -10,9 +10,12 @@ use Rattle.lp_model.specs.Index.{instantiate}
 use Rattle.lp_model.specs.Flat.{Goals, no_goals, Clause, Clauses, goal_list, clause_list, formula_of_goals, formula_of_clauses}
 use Rattle.lp_model.specs.Flatten.{ClauseFormula, flat_goal, flat_clause, flatten}
 use Rattle.lp_model.specs.Pair.{Closing, closed}
-use Rattle.lp_model.specs.Branch.{Branch, entries}
+use Rattle.lp_model.specs.Branch.{Branch, Answer, Go, entries}
 use Rattle.lp_model.specs.Answers.{Closes}
-use Rattle.lp_model.specs.Proofs.{Declared, Failure, Stands, assumed, failure_told, newest_first}
+use Rattle.lp_model.specs.Skeleton.{Told, starts_within, run}
+use Rattle.lp_model.specs.Search.{look}
+use Rattle.lp_model.specs.Unify.{unit_limit}
+use Rattle.lp_model.specs.Proofs.{Declared, Failure, Stands, assumed, newest_first}
 use Rattle.lp_search_laws.specs.Clauses.{sentence_of, clauses_at}
 use Rattle.lp_search_laws.specs.Branches.{BranchTyping, IsTypedBranch, no_query}
 
@@ -50,6 +53,10 @@ failing_branch level f = record {
 abbrev pub failing_typing : (E : List Ty) → Failure → BranchTyping
 failing_typing E f = record { answer = record { variables = f.variables; pairs = [] }; eigens = map (λ g. E) (goal_list f.goals) }
 
+-- the plain search of it within the limit on steps and on goals that are taken apart in a row
+abbrev pub failed_run : (level : ℕ) → Failure → Told Answer
+failed_run level f = run (look unit_limit f.looks f.program) f.moves f.moves (starts_within f.limit (Go (failing_branch level f)) f.limit 1)
+
 -- a search of the program P that fails, and that begins with a typed branch: a closing of its variables makes its goals G, and the program with what is assumed there
 -- the clauses R
 pub record IsFailedSearch (d : Declared) (P : List Clause) (E : List Ty) (R : List ClauseFormula) (G : Term) (f : Failure) : Type 0 where
@@ -61,5 +68,5 @@ pub record IsFailedSearch (d : Declared) (P : List Clause) (E : List Ty) (R : Li
   pub goal : SameGoal d (closed closing (formula_of_goals f.goals)) G
   pub clauses : SameClauses d (clauses_at P (newest_first f.assumed) closing) R
   pub program : f.program ≡ P
-  pub ends : (failure_told (length eigens) f).ending ≡ Some NoMore
-  pub gives_none : (failure_told (length eigens) f).answers ≡ []
+  pub ends : (failed_run (length eigens) f).ending ≡ Some NoMore
+  pub gives_none : (failed_run (length eigens) f).answers ≡ []
