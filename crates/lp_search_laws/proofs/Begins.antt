@@ -1,4 +1,6 @@
 -- The branch that a search starts with is typed, and its solutions are the instances for which the query is provable.
+use Rattle.lp_proof_laws.specs.Filled.{IsSourceAtom}
+use Rattle.lp_calculus.specs.Closed.{AllAtoms}
 use Rattle.lp_proof_laws.proofs.Uniform.Assumptions.{AreKept}
 use Rattle.lp_proof_laws.proofs.Uniform.Settings.{IsSetting}
 use Rattle.std.proofs.Common.{◌≡◌, ℕ, zero, suc, ◌+◌, ◌-◌, ◌≤◌, ◌<◌, List, [], ◌∷◌, ◌++◌, map, length, reverse, Some, refl, sym, ap, ◌∙◌, subst as transport, arith, append-nil}
@@ -6,7 +8,7 @@ use Rattle.std.specs.Prelude.{slice_get, option_map}
 use Rattle.std.proofs.lemmas.List.{length-reverse, length-map}
 use Rattle.lp_unify_laws.specs.TypesBelow.{IsTypeBelow, AreTysBelow, AreTypesBelow}
 use Rattle.lp_calculus.specs.Types.{Ty, Tys, var, param as type_param, con, arrow, no_types, types, instance, instances}
-use Rattle.lp_calculus.specs.Term.{Term, Atom, atom, constant, integer, text, eigen, logic, param}
+use Rattle.lp_calculus.specs.Term.{Term, Atom, atom, constant, integer, text, eigen, logic, param, index, abs, app}
 use Rattle.lp_calculus.specs.Fill.{Within}
 use Rattle.lp_calculus.specs.Typing.{atom_type, o_type, type_at}
 use Rattle.lp_calculus.proofs.Sigma.{subst}
@@ -66,6 +68,21 @@ no_scope k V (eigen j) h = absurd h
 no_scope k V (logic x l) h = absurd h
 no_scope k V (param j T) h = tt
 
+-- it has no logic variable
+source_atom : (k : ℕ) (a : Atom) → IsQueryAtom k a → IsSourceAtom a
+source_atom k (constant c ts) h = tt
+source_atom k (integer z) h = tt
+source_atom k (text s) h = tt
+source_atom k (eigen j) h = tt
+source_atom k (logic x l) h = absurd h
+source_atom k (param j T) h = tt
+
+query_source : (k n : ℕ) (t : Term) → Within (IsQueryAtom k) n t → AllAtoms IsSourceAtom t
+query_source k n (index i) w = tt
+query_source k n (atom a) w = source_atom k a w
+query_source k n (abs b) w = query_source k (suc n) b w
+query_source k n (app t u) w = (query_source k n t w.0, query_source k n u w.1)
+
 module _ (d : Declared) (std : IsStandard d) where
   same_count : (n k : ℕ) (vs : List Ty) (h : Term) (b : Goals) → formula_of_clause (clause n vs h b) ≡ formula_of_clause (clause k vs h b)
   same_count n k vs h no_goals = refl
@@ -93,7 +110,7 @@ module _ (d : Declared) (std : IsStandard d) where
   program_typed (D ∷ F) P s x =
       let y = flattened x.0 d D x.1 x.3 in
       let o : IsOver d D.type_vars [] y.form = record { typed = typed_reduces (atom_type (under d [])) [] y.leads o_type s.0.typed; within = within_reduces (IsQueryAtom D.type_vars) 0 y.leads s.0.within } in
-      let here = transport (λ z. EachOf (IsProgramTyped d) (clause_list z)) y.is (program_clauses D.type_vars y.plain (clauses_fine d std D.type_vars x.0 y.form y.plain [] y.flat o) (clauses_written d x.0 [] y.form y.plain y.flat)) in
+      let here = transport (λ z. EachOf (IsProgramTyped d) (clause_list z)) y.is (program_clauses D.type_vars y.plain (clauses_fine d std D.type_vars x.0 y.form y.plain [] y.flat o) (clauses_written d x.0 [] y.form y.plain y.flat (query_source D.type_vars 0 y.form o.within))) in
       transport (EachOf (IsProgramTyped d)) (sym x.5) (each_append (IsProgramTyped d) (clause_list x.1) x.2 here (program_typed F x.2 s.1 x.4))
 
 -- the query's type variables and variables
@@ -183,8 +200,8 @@ module _ (d : Declared) (std : IsStandard d) (m : ℕ) (q : Query) (gs : Goals) 
   may_put = record { plain = λ i. tt; heads = λ i w. absurd (cc) }
 
   stand : MayStand d V q.type_vars (each_at [] (goal_list (instantiate_goals put_in gs))) (entries (goal_list (instantiate_goals put_in gs)) [] nothing_written 0 0)
-  stand = goals_stand d std V q.type_vars [] [] nothing_written 0 0 (record { is_level = refl; below = tt; typed = tt; plain = tt }) (record { clauses = tt; terms = tt }) (instantiate_goals put_in gs) goals_typed_in (goals_put q.type_vars [] [] put_in may_put gs fine.form)
-      (instantiated_goals put_in gs (let b = and_then_some (beta_normal m q.formula) (λ s. flat_goal m d [] s no_goals) gs e in goals_written d m [] b.0 gs b.2))
+  stand = goals_stand d std V q.type_vars [] [] nothing_written 0 0 (record { is_level = refl; below = tt; typed = tt; plain = tt }) (record { clauses = tt; terms = tt; origins = tt }) (instantiate_goals put_in gs) goals_typed_in (goals_put q.type_vars [] [] put_in may_put gs fine.form)
+      (instantiated_goals put_in gs (let b = and_then_some (beta_normal m q.formula) (λ s. flat_goal m d [] s no_goals) gs e in goals_written d m [] b.0 gs b.2 (query_source q.type_vars (length q.vars) b.0 (within_reduces (IsQueryAtom q.type_vars) (length q.vars) (beta_reduces m q.formula b.0 b.1) t.within))))
 
   vars_stay : map (instance (type_at (types_from q.type_vars 0))) q.vars ≡ q.vars
   vars_stay = list_stays (type_at (types_from q.type_vars 0)) q.type_vars (λ i l. let a : 0 + i ≡ i = omega arith in from_at q.type_vars 0 i l ∙ ap var a) q.vars t.vars

@@ -183,7 +183,7 @@ module _ {L : Leaves} (n : ℕ) (d : Declared) (std : IsSetting L d) (P : List C
         typed = each_append (λ c. IsTyped d E z.variables (formula_of_clause c) o_type) (clause_list cs) e.assumed (clauses_typed d std.standard E z.variables cs t.0) place.typed;
         plain = each_append (IsAssumable b.next_type) (clause_list cs) e.assumed (clauses_each b.next_type cs w.0) place.plain;
       } in
-      stands_one n d P q z b E Es e es h (each_at E (goal_list gs)) (entries (goal_list gs) A (both_written ws e.written) e.level e.mark) (goals_stand d std.standard V k E A (both_written ws e.written) e.level e.mark pl (written_more written_place ws cs v.0 v.1) gs t.1 w.1 v.2)
+      stands_one n d P q z b E Es e es h (each_at E (goal_list gs)) (entries (goal_list gs) A (both_written ws e.written) e.level e.mark) (goals_stand d std.standard V k E A (both_written ws e.written) e.level e.mark pl (written_more written_place ws cs v.0 v.1 v.3) gs t.1 w.1 v.2)
       (λ c l.
       let E' = map (instance c.types) E in
       let o = implied_holds d std E' (clauses_at P e.assumed c) c (formula_of_clauses cs) (formula_of_goals gs) (formula_at d V c l E _ (typed_as (Assume ws cs gs) i)) in

@@ -80,5 +80,6 @@ pub mod Stands
 pub mod Written
 pub mod WrittenBehind
 pub mod WrittenFlat
+pub mod Origins
 pub mod UnnegatedFlat
 pub mod UnnegatedStarts
