@@ -1,15 +1,14 @@
 -- Flattened goals and clauses of a source are filled with its own variables, and what is written in them are these.
-use Rattle.std.proofs.Common.{◌≡◌, ℕ, zero, suc, List, [], ◌∷◌, map, refl, sym, ap, ◌∙◌}
+use Rattle.std.proofs.Common.{◌≡◌, ℕ, zero, suc, List, [], ◌∷◌, refl, sym, ap, ◌∙◌}
 use Rattle.lp_calculus.specs.Types.{Ty, var, instance}
 use Rattle.lp_calculus.specs.Term.{Term, index, atom, abs, app, shift, Atom}
 use Rattle.lp_calculus.specs.Instance.{instance_term}
 use Rattle.lp_calculus.specs.Closed.{AllAtoms}
 use Rattle.lp_calculus.proofs.BetaEta.{shift_one}
-use Rattle.lp_lemmas.specs.Each.{EachOf}
 use Rattle.lp_model.specs.Index.{instantiate, lifted}
 use Rattle.lp_model.specs.Pair.{Pair}
 use Rattle.lp_model.specs.Flat.{Goal, Atomic, Cut, Either, Exists, Forall, Assume, Not, Goals, no_goals, goals, Clause, clause, Clauses, no_clauses, clauses, Written, map_written, map_goal, map_goals, map_clause, map_clauses, under_all, written_in_goals, written_in_clauses}
-use Rattle.lp_proof_laws.specs.Filled.{IsSourceAtom, filled_term, filled_goals, filled_clauses}
+use Rattle.lp_proof_laws.specs.Filled.{IsSourceAtom, filled_term}
 use Rattle.lp_proof_laws.specs.Terms.{AreTermsOf, AreClausesOf}
 use Rattle.lp_unify_laws.proofs.Identities.{instance_same, map_same, pair_same}
 use Rattle.lp_search_laws.specs.Written.{IsOrigin, IsClauseOrigin}
