@@ -4,6 +4,7 @@ pub mod Assumptions
 pub mod Forms
 pub mod Heads
 pub mod Roots
+pub mod Settings
 pub mod FocusRoots
 pub mod Openings
 pub mod Renamed

@@ -1,4 +1,5 @@
 -- What an atom at the front of a branch leaves, by its head.
+use Rattle.lp_proof_laws.proofs.Uniform.Settings.{IsSetting}
 use Rattle.std.proofs.Common.{◌≡◌, ℕ, zero, suc, ◌≤◌, List, [], ◌∷◌, map, Option, Some, None, ◌∙◌, refl, sym, ap, subst as transport, arith, inl, inr, Bool, true, false, nat_eq, if◌then◌else◌}
 use Rattle.std.specs.Prelude.{nat_le, ◌&&◌}
 use Rattle.std.proofs.lemmas.Bool.Decides.{nat_tests}
@@ -14,16 +15,15 @@ use Rattle.lp_calculus.specs.Spine.{head_of, arguments}
 use Rattle.lp_model.specs.Pair.{Closing, closed}
 use Rattle.lp_standard.specs.Connectives.{two, connective_of, connective_at, connective_of_constant}
 use Rattle.lp_standard.specs.Connectives as connective
-use Rattle.lp_standard.specs.Schemes.{IsStandard}
 use Rattle.lp_model.specs.Flat.{Atomic, Clause}
 use Rattle.lp_model.specs.Flatten.{ClauseFormula}
 use Rattle.lp_model.specs.Branch.{Entry, Branch, Task}
 use Rattle.lp_model.specs.Values.{evaluate}
 use Rattle.lp_model.specs.Answers.{Query, AnswerTyping, Closes, over}
-use Rattle.lp_model.specs.Proofs.{by_failure, no_leaf, Declared, IsFormula, IsAtomHead, PlainlyProvable, RootedBy, trivially, both_sides, left_side, right_side, at_witness, for_all, under_assumption, equally, by_arithmetic, by_clause}
+use Rattle.lp_model.specs.Proofs.{by_failure, Declared, IsFormula, IsAtomHead, RootedBy, trivially, both_sides, left_side, right_side, at_witness, for_all, under_assumption, equally, by_arithmetic, by_clause, Leaves, ProvableBy}
 use Rattle.lp_model.specs.Search.{with_goals, look_atom, look_constant, tries, goal_key, equated, assigned, compared}
 use Rattle.lp_proof_laws.proofs.Uniform.Forms.{apply_arguments}
-use Rattle.lp_proof_laws.proofs.Uniform.Roots.{rooted, head_apply}
+use Rattle.lp_proof_laws.proofs.Uniform.Roots.{rooted_by, head_apply}
 use Rattle.lp_search_laws.specs.Holds.{Holds}
 use Rattle.lp_search_laws.specs.Clauses.{clauses_at}
 use Rattle.lp_search_laws.specs.Branches.{StandFor, IsRightView, going}
@@ -75,26 +75,26 @@ no_atom_head (text s) n h = h
 no_atom_head (logic x l) n h = h
 no_atom_head (param k T) n h = h
 
-no_root : (d : Declared) (E : List Ty) (R : List ClauseFormula) (G : Term) (a : Atom) → head_of G ≡ atom a → IsNoHead a → RootedBy no_leaf d E R G → ⊥
-no_root d E R G a e n (trivially (inl x)) = no_constant a 6 [] n (sym e ∙ ap head_of x)
-no_root d E R G a e n (trivially (inr x)) = no_constant a 7 [] n (sym e ∙ ap head_of x)
-no_root d E R G a e n (both_sides A B x p r) = no_constant a 0 [] n (sym e ∙ ap head_of x)
-no_root d E R G a e n (left_side A B x p) = no_constant a 1 [] n (sym e ∙ ap head_of x)
-no_root d E R G a e n (right_side A B x p) = no_constant a 1 [] n (sym e ∙ ap head_of x)
-no_root d E R G a e n (at_witness T s t x w p) = no_constant a 5 (T ∷ []) n (sym e ∙ ap head_of x)
-no_root d E R G a e n (for_all T s x p) = no_constant a 4 (T ∷ []) n (sym e ∙ ap head_of x)
-no_root d E R G a e n (under_assumption D A (inl x) p) = no_constant a 2 [] n (sym e ∙ ap head_of x)
-no_root d E R G a e n (under_assumption D A (inr x) p) = no_constant a 3 [] n (sym e ∙ ap head_of x)
-no_root d E R G a e n (equally T t u x p) = no_constant a 8 (T ∷ []) n (sym e ∙ ap head_of x)
-no_root d E R G a e n (by_arithmetic (inl x)) = no_constant a 9 (x.0 ∷ []) n (sym e ∙ ap head_of x.4)
-no_root d E R G a e n (by_arithmetic (inr x)) = no_constant a x.0 [] n (sym e ∙ ap head_of x.7)
-no_root d E R G a e n (by_failure K x f h) = absurd h
-no_root d E R G a e n (by_clause i D ts x l k h r) = no_atom_head a n (transport IsAtomHead e h)
+no_root : {L : Leaves} (d : Declared) (E : List Ty) (R : List ClauseFormula) (G : Term) (a : Atom) → head_of G ≡ atom a → IsNoHead a → RootedBy L d E R G → ⊥
+no_root {L} d E R G a e n (trivially (inl x)) = no_constant a 6 [] n (sym e ∙ ap head_of x)
+no_root {L} d E R G a e n (trivially (inr x)) = no_constant a 7 [] n (sym e ∙ ap head_of x)
+no_root {L} d E R G a e n (both_sides A B x p r) = no_constant a 0 [] n (sym e ∙ ap head_of x)
+no_root {L} d E R G a e n (left_side A B x p) = no_constant a 1 [] n (sym e ∙ ap head_of x)
+no_root {L} d E R G a e n (right_side A B x p) = no_constant a 1 [] n (sym e ∙ ap head_of x)
+no_root {L} d E R G a e n (at_witness T s t x w p) = no_constant a 5 (T ∷ []) n (sym e ∙ ap head_of x)
+no_root {L} d E R G a e n (for_all T s x p) = no_constant a 4 (T ∷ []) n (sym e ∙ ap head_of x)
+no_root {L} d E R G a e n (under_assumption D A (inl x) p) = no_constant a 2 [] n (sym e ∙ ap head_of x)
+no_root {L} d E R G a e n (under_assumption D A (inr x) p) = no_constant a 3 [] n (sym e ∙ ap head_of x)
+no_root {L} d E R G a e n (equally T t u x p) = no_constant a 8 (T ∷ []) n (sym e ∙ ap head_of x)
+no_root {L} d E R G a e n (by_arithmetic (inl x)) = no_constant a 9 (x.0 ∷ []) n (sym e ∙ ap head_of x.4)
+no_root {L} d E R G a e n (by_arithmetic (inr x)) = no_constant a x.0 [] n (sym e ∙ ap head_of x.7)
+no_root {L} d E R G a e n (by_failure K x f h) = no_constant a 24 [] n (sym e ∙ ap head_of x)
+no_root {L} d E R G a e n (by_clause i D ts x l k h r) = no_atom_head a n (transport IsAtomHead e h)
 
-module _ (n : ℕ) (d : Declared) (std : IsStandard d) (P : List Clause) (q : Query) (z : AnswerTyping) (b : Branch) (E : List Ty) (Es : List (List Ty)) (e : Entry) (es : List Entry) (h : IsTypedHere n d P q z b E Es e es)
+module _ {L : Leaves} (n : ℕ) (d : Declared) (std : IsSetting L d) (P : List Clause) (q : Query) (z : AnswerTyping) (b : Branch) (E : List Ty) (Es : List (List Ty)) (e : Entry) (es : List Entry) (h : IsTypedHere n d P q z b E Es e es)
     (t u : Term) (i : e.goal ≡ Atomic t) (r : head_normal n t ≡ Some u) (plain : connective_of u ≡ connective.Atomic) where
   abbrev Stands : List Task → Type 0
-  Stands ts = StandFor n d P q (going (Typings n d P q z b E Es e es (E ∷ Es)) (with_goals b (e ∷ es))) ts
+  Stands ts = StandFor L n d P q (going (Typings n d P q z b E Es e es (E ∷ Es)) (with_goals b (e ∷ es))) ts
 
   -- the goal on the head and the arguments
   spine : apply (head_of u) (arguments u) ≡ u
@@ -107,7 +107,7 @@ module _ (n : ℕ) (d : Declared) (std : IsStandard d) (P : List Clause) (q : Qu
   parts t' x = typed_parts (atom_type (over d E z.variables)) [] t' (arguments u) o_type (transport (λ y. Typed (over d E z.variables) [] y o_type) (sym (on_head t' x)) (form_typed n d std P q z b E Es e es h t u i r).typed)
 
   -- nothing makes it provable
-  nothing_stands : ((c : Closing) → Closes d z.variables c → Holds d (map (instance c.types) E) (clauses_at P e.assumed c) c u → ⊥) → Stands []
+  nothing_stands : ((c : Closing) → Closes d z.variables c → Holds L d (map (instance c.types) E) (clauses_at P e.assumed c) c u → ⊥) → Stands []
   nothing_stands f = record {
     typed = [];
     is = refl;
@@ -127,15 +127,15 @@ module _ (n : ℕ) (d : Declared) (std : IsStandard d) (P : List Clause) (q : Qu
   head_closed c (atom (logic m l)) k T e' = absurd (cc)
   head_closed c (atom (param m U)) k T e' = let g : m ≡ k = cc in let g' : U ≡ T = cc in λ j. atom (param (g j) (instance c.types (g' j)))
 
-  parameter : (k : ℕ) (T : Ty) → head_of u ≡ atom (param k T) → (c : Closing) → Closes d z.variables c → Holds d (map (instance c.types) E) (clauses_at P e.assumed c) c u → ⊥
+  parameter : (k : ℕ) (T : Ty) → head_of u ≡ atom (param k T) → (c : Closing) → Closes d z.variables c → Holds L d (map (instance c.types) E) (clauses_at P e.assumed c) c u → ⊥
   parameter k T x c l p =
       let E' = map (instance c.types) E in
       let R = clauses_at P e.assumed c in
       let y = head_closed c u k T x in
       let s : apply (atom (param k (instance c.types T))) (arguments (closed c u)) ≡ closed c u = transport (λ w. apply w (arguments (closed c u)) ≡ closed c u) y (apply_arguments (closed c u) []) in
       let f = transport (IsFormula d E') (sym s) (formula_at d z.variables c l E u (form_typed n d std P q z b E Es e es h t u i r)) in
-      let p' = transport (PlainlyProvable d E' R) (sym s) p in
-      no_root d E' R _ (param k (instance c.types T)) (head_apply (atom (param k (instance c.types T))) (arguments (closed c u))) tt (rooted d std E' R (param k (instance c.types T)) (arguments (closed c u)) f p')
+      let p' = transport (ProvableBy L d E' R) (sym s) p in
+      no_root d E' R _ (param k (instance c.types T)) (head_apply (atom (param k (instance c.types T))) (arguments (closed c u))) tt (rooted_by L d std.standard E' R (param k (instance c.types T)) (arguments (closed c u)) f (std.converting R) p')
 
   -- a head of a basic type takes no argument and is no atom
   no_basic : (A : Ty) → ((B D : Ty) → A ≡ arrow B D → ⊥) → (A ≡ o_type → ⊥) → (us : List Term) → HaveTypes (atom_type (over d E z.variables)) [] A us o_type → ⊥
@@ -190,11 +190,11 @@ module _ (n : ℕ) (d : Declared) (std : IsStandard d) (P : List Clause) (q : Qu
             let e3 : (nat_le 10 c && nat_le c 13) ≡ true = grind (arith, nat_tests) in
             ifs _ _ _ _ _ _ _ e1 e2 e3
 
-    by_head : (t' : Term) → head_of u ≡ t' → IsRightView n d P q (going (Typings n d P q z b E Es e es (E ∷ Es)) (with_goals b (e ∷ es))) (look_atom unit_limit n P height e (with_goals b es) u t')
+    by_head : (t' : Term) → head_of u ≡ t' → IsRightView L n d P q (going (Typings n d P q z b E Es e es (E ∷ Es)) (with_goals b (e ∷ es))) (look_atom unit_limit n P height e (with_goals b es) u t')
     by_head (atom (constant c ts)) x =
         let p = parts (atom (constant c ts)) x in
         let f : connective_of_constant c ts (arguments u) ≡ connective.Atomic = transport (λ y. connective_at y (arguments u) ≡ connective.Atomic) x plain in
-        by_kind c ts x (atom_kind (atom_type (over d E z.variables)) d std c ts (arguments u) p.0 p.1 p.2 f)
+        by_kind c ts x (atom_kind (atom_type (over d E z.variables)) d std.standard c ts (arguments u) p.0 p.1 p.2 f)
     by_head (atom (eigen k)) x = tried (transport IsAtomHead (sym x) tt)
     by_head (atom (logic y l)) x = stopped n d P q _ Flexible (λ w. absurd (cc))
     by_head (atom (integer m)) x = nothing_stands (λ c l p. let w = parts (atom (integer m)) x in no_basic w.0 (λ B D y. let g = sym w.1 in absurd (cc)) (λ y. let g = w.1 in absurd (cc)) (arguments u) w.2)
@@ -204,5 +204,5 @@ module _ (n : ℕ) (d : Declared) (std : IsStandard d) (P : List Clause) (q : Qu
     by_head (abs y) x = nothing_stands (λ c l p. ended_abs y (arguments u) (transport (λ w. head_step w ≡ None) (sym (on_head (abs y) x)) (head_ended n t u r)) (transport (λ w. Typed (over d E z.variables) [] w o_type) (sym (on_head (abs y) x)) (form_typed n d std P q z b E Es e es h t u i r).typed))
     by_head (app f a) x = absurd (no_app u f a x)
 
-    pub atom_view : IsRightView n d P q (going (Typings n d P q z b E Es e es (E ∷ Es)) (with_goals b (e ∷ es))) (look_atom unit_limit n P height e (with_goals b es) u (head_of u))
+    pub atom_view : IsRightView L n d P q (going (Typings n d P q z b E Es e es (E ∷ Es)) (with_goals b (e ∷ es))) (look_atom unit_limit n P height e (with_goals b es) u (head_of u))
     atom_view = by_head (head_of u) refl

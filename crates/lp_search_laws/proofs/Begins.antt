@@ -1,10 +1,14 @@
 -- The branch that a search starts with is typed, and its solutions are the instances for which the query is provable.
+use Rattle.lp_proof_laws.specs.Filled.{IsSourceAtom}
+use Rattle.lp_calculus.specs.Closed.{AllAtoms}
+use Rattle.lp_proof_laws.proofs.Uniform.Assumptions.{AreKept}
+use Rattle.lp_proof_laws.proofs.Uniform.Settings.{IsSetting}
 use Rattle.std.proofs.Common.{◌≡◌, ℕ, zero, suc, ◌+◌, ◌-◌, ◌≤◌, ◌<◌, List, [], ◌∷◌, ◌++◌, map, length, reverse, Some, refl, sym, ap, ◌∙◌, subst as transport, arith, append-nil}
 use Rattle.std.specs.Prelude.{slice_get, option_map}
 use Rattle.std.proofs.lemmas.List.{length-reverse, length-map}
 use Rattle.lp_unify_laws.specs.TypesBelow.{IsTypeBelow, AreTysBelow, AreTypesBelow}
 use Rattle.lp_calculus.specs.Types.{Ty, Tys, var, param as type_param, con, arrow, no_types, types, instance, instances}
-use Rattle.lp_calculus.specs.Term.{Term, Atom, atom, constant, integer, text, eigen, logic, param}
+use Rattle.lp_calculus.specs.Term.{Term, Atom, atom, constant, integer, text, eigen, logic, param, index, abs, app}
 use Rattle.lp_calculus.specs.Fill.{Within}
 use Rattle.lp_calculus.specs.Typing.{atom_type, o_type, type_at}
 use Rattle.lp_calculus.proofs.Sigma.{subst}
@@ -18,7 +22,7 @@ use Rattle.lp_model.specs.Pair.{Closing}
 use Rattle.lp_model.specs.Flat.{Goal, Goals, no_goals, goals, Clause, clause, Clauses, no_clauses, clauses, clause_list, goal_list, instantiate_goals, formula_of_goal, formula_of_goals, formula_of_clause}
 use Rattle.lp_model.specs.Flatten.{ClauseFormula, with_type_vars, flat_goal, flatten_query}
 use Rattle.lp_standard.specs.Schemes.{IsStandard}
-use Rattle.lp_model.specs.Proofs.{AreFlattened, Declared, under, IsSentence, PlainlyProvable}
+use Rattle.lp_model.specs.Proofs.{AreFlattened, Declared, under, IsSentence, Leaves, ProvableBy}
 use Rattle.lp_model.specs.Answers.{Query, Variable, type_of, over, IsPrefix, IsScopedAtom, AreTypedValues, IsWellFormed, Instance, filled}
 use Rattle.lp_model.specs.Branch.{nothing_written, Branch, Go, entries}
 use Rattle.lp_model.specs.Search.{vars_from, types_from, start}
@@ -27,7 +31,7 @@ use Rattle.lp_proof_laws.proofs.Uniform.Openings.{instantiate_subst}
 use Rattle.lp_unify_laws.proofs.Looks.{beta_reduces}
 use Rattle.lp_unify_laws.proofs.TypedInstances.{get_map}
 use Rattle.lp_search_laws.specs.Holds.{Holds, IsTyped}
-use Rattle.lp_search_laws.specs.Started.{IsQueryAtom, IsTypedQuery, IsTypedSentence, outermost, IsPlainlyProvable}
+use Rattle.lp_search_laws.specs.Started.{IsQueryAtom, IsTypedQuery, IsTypedSentence, outermost, IsProvableBy}
 use Rattle.lp_search_laws.specs.Clauses.{sentence_of, clauses_at}
 use Rattle.lp_search_laws.specs.Branches.{IsPlainTerm, IsClause, IsProgramTyped, IsTypedBranch, IsPlainVariable, SolvesBranch}
 use Rattle.lp_search_laws.specs.Begun.{first_branch, first_typing}
@@ -64,6 +68,21 @@ no_scope k V (eigen j) h = absurd h
 no_scope k V (logic x l) h = absurd h
 no_scope k V (param j T) h = tt
 
+-- it has no logic variable
+source_atom : (k : ℕ) (a : Atom) → IsQueryAtom k a → IsSourceAtom a
+source_atom k (constant c ts) h = tt
+source_atom k (integer z) h = tt
+source_atom k (text s) h = tt
+source_atom k (eigen j) h = tt
+source_atom k (logic x l) h = absurd h
+source_atom k (param j T) h = tt
+
+query_source : (k n : ℕ) (t : Term) → Within (IsQueryAtom k) n t → AllAtoms IsSourceAtom t
+query_source k n (index i) w = tt
+query_source k n (atom a) w = source_atom k a w
+query_source k n (abs b) w = query_source k (suc n) b w
+query_source k n (app t u) w = (query_source k n t w.0, query_source k n u w.1)
+
 module _ (d : Declared) (std : IsStandard d) where
   same_count : (n k : ℕ) (vs : List Ty) (h : Term) (b : Goals) → formula_of_clause (clause n vs h b) ≡ formula_of_clause (clause k vs h b)
   same_count n k vs h no_goals = refl
@@ -91,7 +110,7 @@ module _ (d : Declared) (std : IsStandard d) where
   program_typed (D ∷ F) P s x =
       let y = flattened x.0 d D x.1 x.3 in
       let o : IsOver d D.type_vars [] y.form = record { typed = typed_reduces (atom_type (under d [])) [] y.leads o_type s.0.typed; within = within_reduces (IsQueryAtom D.type_vars) 0 y.leads s.0.within } in
-      let here = transport (λ z. EachOf (IsProgramTyped d) (clause_list z)) y.is (program_clauses D.type_vars y.plain (clauses_fine d std D.type_vars x.0 y.form y.plain [] y.flat o) (clauses_written d x.0 [] y.form y.plain y.flat)) in
+      let here = transport (λ z. EachOf (IsProgramTyped d) (clause_list z)) y.is (program_clauses D.type_vars y.plain (clauses_fine d std D.type_vars x.0 y.form y.plain [] y.flat o) (clauses_written d x.0 [] y.form y.plain y.flat (query_source D.type_vars 0 y.form o.within))) in
       transport (EachOf (IsProgramTyped d)) (sym x.5) (each_append (IsProgramTyped d) (clause_list x.1) x.2 here (program_typed F x.2 s.1 x.4))
 
 -- the query's type variables and variables
@@ -181,8 +200,8 @@ module _ (d : Declared) (std : IsStandard d) (m : ℕ) (q : Query) (gs : Goals) 
   may_put = record { plain = λ i. tt; heads = λ i w. absurd (cc) }
 
   stand : MayStand d V q.type_vars (each_at [] (goal_list (instantiate_goals put_in gs))) (entries (goal_list (instantiate_goals put_in gs)) [] nothing_written 0 0)
-  stand = goals_stand d std V q.type_vars [] [] nothing_written 0 0 (record { is_level = refl; below = tt; typed = tt; plain = tt }) (record { clauses = tt; terms = tt }) (instantiate_goals put_in gs) goals_typed_in (goals_put q.type_vars [] [] put_in may_put gs fine.form)
-      (instantiated_goals put_in gs (let b = and_then_some (beta_normal m q.formula) (λ s. flat_goal m d [] s no_goals) gs e in goals_written d m [] b.0 gs b.2))
+  stand = goals_stand d std V q.type_vars [] [] nothing_written 0 0 (record { is_level = refl; below = tt; typed = tt; plain = tt }) (record { clauses = tt; terms = tt; origins = tt }) (instantiate_goals put_in gs) goals_typed_in (goals_put q.type_vars [] [] put_in may_put gs fine.form)
+      (instantiated_goals put_in gs (let b = and_then_some (beta_normal m q.formula) (λ s. flat_goal m d [] s no_goals) gs e in goals_written d m [] b.0 gs b.2 (query_source q.type_vars (length q.vars) b.0 (within_reduces (IsQueryAtom q.type_vars) (length q.vars) (beta_reduces m q.formula b.0 b.1) t.within))))
 
   vars_stay : map (instance (type_at (types_from q.type_vars 0))) q.vars ≡ q.vars
   vars_stay = list_stays (type_at (types_from q.type_vars 0)) q.type_vars (λ i l. let a : 0 + i ≡ i = omega arith in from_at q.type_vars 0 i l ∙ ap var a) q.vars t.vars
@@ -211,8 +230,12 @@ module _ (d : Declared) (std : IsStandard d) (m : ℕ) (q : Query) (gs : Goals) 
     },
   )
 
+module _ {L : Leaves} (d : Declared) (std : IsSetting L d) (m : ℕ) (q : Query) (gs : Goals) (t : IsTypedQuery d q) (e : flatten_query m d q.formula ≡ Some gs) where
+  abbrev put_here : ℕ → Term
+  put_here k = atom (logic (length q.vars - suc k) 0)
+
   -- solutions
-  module _ (F : List ClauseFormula) (P : List Clause) (s : EachOf (IsTypedSentence d) F) (x : AreFlattened d F P) (i : Instance) where
+  module _ (F : List ClauseFormula) (P : List Clause) (s : EachOf (IsTypedSentence d) F) (x : AreFlattened d F P) (k : AreKept L F (map sentence_of P) × AreKept L (map sentence_of P) F) (i : Instance) where
     same_sentence : (P : List Clause) → map sentence_of P ≡ map sentence_of P
     same_sentence [] = refl
     same_sentence (clause k vs h b ∷ P) = ap (λ z. sentence_of (clause k vs h b) ∷ z) (same_sentence P)
@@ -220,33 +243,33 @@ module _ (d : Declared) (std : IsStandard d) (m : ℕ) (q : Query) (gs : Goals) 
     program_at : (c : Closing) → map sentence_of P ≡ clauses_at P [] c
     program_at c = same_sentence P ∙ sym (append-nil (map sentence_of P))
 
-    to_program : (G : Term) → PlainlyProvable d [] F G → PlainlyProvable d [] (map sentence_of P) G
-    to_program G p = transport (λ z. PlainlyProvable d [] z G) (append-nil (map sentence_of P)) ((program_reads_back d std F P (each_sentence d F s) x [] [] G).0 (transport (λ z. PlainlyProvable d [] z G) (sym (append-nil F)) p))
+    to_program : (G : Term) → ProvableBy L d [] F G → ProvableBy L d [] (map sentence_of P) G
+    to_program G p = transport (λ z. ProvableBy L d [] z G) (append-nil (map sentence_of P)) ((program_reads_back d std F P (each_sentence d F s) x k [] [] G).0 (transport (λ z. ProvableBy L d [] z G) (sym (append-nil F)) p))
 
-    from_program : (G : Term) → PlainlyProvable d [] (map sentence_of P) G → PlainlyProvable d [] F G
-    from_program G p = transport (λ z. PlainlyProvable d [] z G) (append-nil F) ((program_reads_back d std F P (each_sentence d F s) x [] [] G).1 (transport (λ z. PlainlyProvable d [] z G) (sym (append-nil (map sentence_of P))) p))
+    from_program : (G : Term) → ProvableBy L d [] (map sentence_of P) G → ProvableBy L d [] F G
+    from_program G p = transport (λ z. ProvableBy L d [] z G) (append-nil F) ((program_reads_back d std F P (each_sentence d F s) x k [] [] G).1 (transport (λ z. ProvableBy L d [] z G) (sym (append-nil (map sentence_of P))) p))
 
     abbrev first : Branch
     first = first_branch q.type_vars (length q.vars) gs
 
     abbrev goals_in : List Goal
-    goals_in = goal_list (instantiate_goals put_in gs)
+    goals_in = goal_list (instantiate_goals put_here gs)
 
-    at_program : (c : Closing) (R S : List ClauseFormula) → R ≡ S → (hs : List Goal) → EachOf (λ g. Holds d [] R c (formula_of_goal g)) hs → EachOf (λ g. Holds d [] S c (formula_of_goal g)) hs
-    at_program c R S w hs h = transport (λ z. EachOf (λ g. Holds d [] z c (formula_of_goal g)) hs) w h
+    at_program : (c : Closing) (R S : List ClauseFormula) → R ≡ S → (hs : List Goal) → EachOf (λ g. Holds L d [] R c (formula_of_goal g)) hs → EachOf (λ g. Holds L d [] S c (formula_of_goal g)) hs
+    at_program c R S w hs h = transport (λ z. EachOf (λ g. Holds L d [] z c (formula_of_goal g)) hs) w h
 
-    pub solves : IsPlainlyProvable d F q i → SolvesBranch d P q i (first_typing q gs) first
+    pub solves : IsProvableBy L d F q i → SolvesBranch L d P q i (first_typing q gs) first
     solves p =
         let h = (query_starts d std m q gs t e (map sentence_of P) i).0 (record { types = p.types; types_closed = p.types_closed; values = p.values; proved = to_program (filled q i) p.proved }) in
         record {
           query = record { types = p.types; types_closed = p.types_closed; values = p.values };
           answer = record { closing = h.closing; closes = h.closes; solves = tt; types = h.types; values = h.values };
-          proved = entries_hold d P h.closing [] [] nothing_written 0 0 goals_in (at_program h.closing (map sentence_of P) (clauses_at P [] h.closing) (program_at h.closing) goals_in h.holds);
+          proved = entries_hold _ d P h.closing [] [] nothing_written 0 0 goals_in (at_program h.closing (map sentence_of P) (clauses_at P [] h.closing) (program_at h.closing) goals_in h.holds);
         }
 
-    pub proves_it : SolvesBranch d P q i (first_typing q gs) first → IsPlainlyProvable d F q i
+    pub proves_it : SolvesBranch L d P q i (first_typing q gs) first → IsProvableBy L d F q i
     proves_it s =
         let c = s.answer.closing in
-        let h = at_program c (clauses_at P [] c) (map sentence_of P) (sym (program_at c)) goals_in (hold_entries d P c [] [] nothing_written 0 0 goals_in s.proved) in
+        let h = at_program c (clauses_at P [] c) (map sentence_of P) (sym (program_at c)) goals_in (hold_entries _ d P c [] [] nothing_written 0 0 goals_in s.proved) in
         let p = (query_starts d std m q gs t e (map sentence_of P) i).1 s.query.values (record { closing = c; closes = s.answer.closes; types = s.answer.types; values = s.answer.values; holds = h }) in
         record { types = p.types; types_closed = p.types_closed; values = p.values; proved = from_program (filled q i) p.proved }

@@ -1,5 +1,6 @@
 -- An atom is provable exactly by the candidates: its proof begins with a clause, a clause that serves for it passes their tests, and a candidate that
 -- serves begins a proof.
+use Rattle.lp_proof_laws.proofs.Uniform.Settings.{IsSetting}
 use Rattle.std.proofs.Common.{◌≡◌, ℕ, zero, suc, ◌+◌, ◌≤◌, List, [], ◌∷◌, ◌++◌, map, length, ◌∙◌, refl, sym, ap, subst as transport, arith, inl, inr, Bool, true, false, Option, Some}
 use Rattle.std.specs.Prelude.{◌⊎◌, cond, filter, slice_get}
 use Rattle.lp_calculus.specs.Types.{Ty}
@@ -8,13 +9,12 @@ use Rattle.lp_calculus.specs.Spine.{head_of, arguments}
 use Rattle.lp_lemmas.specs.Each.{AnyOf, EachOf}
 use Rattle.lp_model.specs.Pair.{Closing, closed}
 use Rattle.lp_model.specs.Search.{candidates, goal_key, has_head, passes}
-use Rattle.lp_standard.specs.Schemes.{IsStandard}
 use Rattle.lp_model.specs.Flat.{Clause, clause}
 use Rattle.lp_model.specs.Flatten.{ClauseFormula}
-use Rattle.lp_model.specs.Proofs.{by_failure, no_leaf, Declared, IsFormula, IsAtomHead, Back, PlainlyProvable, RootedBy, trivially, both_sides, left_side, right_side, at_witness, for_all, under_assumption, equally, by_arithmetic, by_clause}
+use Rattle.lp_model.specs.Proofs.{by_failure, Declared, IsFormula, IsAtomHead, Back, RootedBy, trivially, both_sides, left_side, right_side, at_witness, for_all, under_assumption, equally, by_arithmetic, by_clause, Leaves, ProvableBy}
 use Rattle.lp_proof_laws.proofs.Uniform.Contexts.{get_front, get_back, get_split}
 use Rattle.lp_proof_laws.proofs.Uniform.Forms.{apply_arguments}
-use Rattle.lp_proof_laws.proofs.Uniform.Roots.{rooted}
+use Rattle.lp_proof_laws.proofs.Uniform.Roots.{rooted_by}
 use Rattle.lp_search_laws.specs.Holds.{Holds}
 use Rattle.lp_search_laws.specs.Clauses.{with_own, Serves, IsInFocus, sentence_of, assumed_as, clauses_at, IsProgramClause, IsAssumedClause}
 use Rattle.lp_search_laws.proofs.ClosedClauses.{atom_closed}
@@ -88,82 +88,82 @@ got_map f (x ∷ xs) zero y g = let e : f x ≡ y = cc in record { place = 0; el
 got_map f (x ∷ xs) (suc i) y g = among_later (λ z. f z ≡ y) x xs (got_map f xs i y g)
 
 -- the clause that a proof of an atom begins with
-record Begins (d : Declared) (E : List Ty) (R : List ClauseFormula) (G : Term) : Type 0 where
+record Begins (L : Leaves) (d : Declared) (E : List Ty) (R : List ClauseFormula) (G : Term) : Type 0 where
   place : ℕ
   clause : ClauseFormula
   is : slice_get R place ≡ Some clause
-  focus : IsInFocus d E R clause G
+  focus : IsInFocus L d E R clause G
 
-begins : (d : Declared) (E : List Ty) (R : List ClauseFormula) (G : Term) → IsAtomHead (head_of G) → RootedBy no_leaf d E R G → Begins d E R G
-begins d E R G i (trivially (inl e)) = let m : 32 ≤ 6 = transport (λ z. IsAtomHead (head_of z)) e i in absurd (omega arith)
-begins d E R G i (trivially (inr e)) = let m : 32 ≤ 7 = transport (λ z. IsAtomHead (head_of z)) e i in absurd (omega arith)
-begins d E R G i (both_sides X Y e p q) = let m : 32 ≤ 0 = transport (λ z. IsAtomHead (head_of z)) e i in absurd (omega arith)
-begins d E R G i (left_side X Y e p) = let m : 32 ≤ 1 = transport (λ z. IsAtomHead (head_of z)) e i in absurd (omega arith)
-begins d E R G i (right_side X Y e p) = let m : 32 ≤ 1 = transport (λ z. IsAtomHead (head_of z)) e i in absurd (omega arith)
-begins d E R G i (at_witness U r t e w p) = let m : 32 ≤ 5 = transport (λ z. IsAtomHead (head_of z)) e i in absurd (omega arith)
-begins d E R G i (for_all U r e p) = let m : 32 ≤ 4 = transport (λ z. IsAtomHead (head_of z)) e i in absurd (omega arith)
-begins d E R G i (under_assumption X Y (inl e) p) = let m : 32 ≤ 2 = transport (λ z. IsAtomHead (head_of z)) e i in absurd (omega arith)
-begins d E R G i (under_assumption X Y (inr e) p) = let m : 32 ≤ 3 = transport (λ z. IsAtomHead (head_of z)) e i in absurd (omega arith)
-begins d E R G i (equally U x y e v) = let m : 32 ≤ 8 = transport (λ z. IsAtomHead (head_of z)) e i in absurd (omega arith)
-begins d E R G i (by_arithmetic (inl h)) = let m : 32 ≤ 9 = transport (λ z. IsAtomHead (head_of z)) h.4 i in absurd (omega arith)
-begins d E R G i (by_arithmetic (inr h)) = let m : 32 ≤ h.0 = transport (λ z. IsAtomHead (head_of z)) h.7 i in let n = h.6 in absurd (omega (arith, m, n))
-begins d E R G i (by_failure K e f h) = absurd h
-begins d E R G i (by_clause j D ts e l k h r) = record { place = j; clause = D; is = e; focus = record { types = ts; long = l; types_closed = k; focus = r } }
+begins : {L : Leaves} (d : Declared) (E : List Ty) (R : List ClauseFormula) (G : Term) → IsAtomHead (head_of G) → RootedBy L d E R G → Begins L d E R G
+begins {L} d E R G i (trivially (inl e)) = let m : 32 ≤ 6 = transport (λ z. IsAtomHead (head_of z)) e i in absurd (omega arith)
+begins {L} d E R G i (trivially (inr e)) = let m : 32 ≤ 7 = transport (λ z. IsAtomHead (head_of z)) e i in absurd (omega arith)
+begins {L} d E R G i (both_sides X Y e p q) = let m : 32 ≤ 0 = transport (λ z. IsAtomHead (head_of z)) e i in absurd (omega arith)
+begins {L} d E R G i (left_side X Y e p) = let m : 32 ≤ 1 = transport (λ z. IsAtomHead (head_of z)) e i in absurd (omega arith)
+begins {L} d E R G i (right_side X Y e p) = let m : 32 ≤ 1 = transport (λ z. IsAtomHead (head_of z)) e i in absurd (omega arith)
+begins {L} d E R G i (at_witness U r t e w p) = let m : 32 ≤ 5 = transport (λ z. IsAtomHead (head_of z)) e i in absurd (omega arith)
+begins {L} d E R G i (for_all U r e p) = let m : 32 ≤ 4 = transport (λ z. IsAtomHead (head_of z)) e i in absurd (omega arith)
+begins {L} d E R G i (under_assumption X Y (inl e) p) = let m : 32 ≤ 2 = transport (λ z. IsAtomHead (head_of z)) e i in absurd (omega arith)
+begins {L} d E R G i (under_assumption X Y (inr e) p) = let m : 32 ≤ 3 = transport (λ z. IsAtomHead (head_of z)) e i in absurd (omega arith)
+begins {L} d E R G i (equally U x y e v) = let m : 32 ≤ 8 = transport (λ z. IsAtomHead (head_of z)) e i in absurd (omega arith)
+begins {L} d E R G i (by_arithmetic (inl h)) = let m : 32 ≤ 9 = transport (λ z. IsAtomHead (head_of z)) h.4 i in absurd (omega arith)
+begins {L} d E R G i (by_arithmetic (inr h)) = let m : 32 ≤ h.0 = transport (λ z. IsAtomHead (head_of z)) h.7 i in let n = h.6 in absurd (omega (arith, m, n))
+begins {L} d E R G i (by_failure K e f h) = let m : 32 ≤ 24 = transport (λ z. IsAtomHead (head_of z)) e i in absurd (omega arith)
+begins {L} d E R G i (by_clause j D ts e l k h r) = record { place = j; clause = D; is = e; focus = record { types = ts; long = l; types_closed = k; focus = r } }
 
-atom_begins : (d : Declared) → IsStandard d → (E : List Ty) (R : List ClauseFormula) (G : Term) → IsAtomHead (head_of G) → IsFormula d E G → PlainlyProvable d E R G → Begins d E R G
-atom_begins d std E R G i f p = go (head_of G) refl i
+atom_begins : {L : Leaves} (d : Declared) → IsSetting L d → (E : List Ty) (R : List ClauseFormula) (G : Term) → IsAtomHead (head_of G) → IsFormula d E G → ProvableBy L d E R G → Begins L d E R G
+atom_begins {L} d std E R G i f p = go (head_of G) refl i
   where
-    go : (k : Term) → head_of G ≡ k → IsAtomHead k → Begins d E R G
+    go : (k : Term) → head_of G ≡ k → IsAtomHead k → Begins L d E R G
     go (atom a) e j =
         let q : G ≡ apply (atom a) (arguments G) = sym (apply_arguments G []) ∙ ap (λ k. apply k (arguments G)) e in
-        begins d E R G i (transport (RootedBy no_leaf d E R) (sym q) (rooted d std E R a (arguments G) (transport (IsFormula d E) q f) (transport (PlainlyProvable d E R) q p)))
+        begins d E R G i (transport (RootedBy L d E R) (sym q) (rooted_by L d std.standard E R a (arguments G) (transport (IsFormula d E) q f) (std.converting R) (transport (ProvableBy L d E R) q p)))
     go (index n) e j = absurd j
     go (abs b) e j = absurd j
     go (app u v) e j = absurd j
 
-focus_proves : (d : Declared) (E : List Ty) (R : List ClauseFormula) (G : Term) (i : ℕ) (D : ClauseFormula) → IsAtomHead (head_of G) → slice_get R i ≡ Some D → IsInFocus d E R D G → PlainlyProvable d E R G
-focus_proves d E R G i D h g r = record { proof = Back i r.types r.focus.focus; holds = (D, g, r.long, r.types_closed, h, r.focus.holds) }
+focus_proves : {L : Leaves} (d : Declared) (E : List Ty) (R : List ClauseFormula) (G : Term) (i : ℕ) (D : ClauseFormula) → IsAtomHead (head_of G) → slice_get R i ≡ Some D → IsInFocus L d E R D G → ProvableBy L d E R G
+focus_proves {L} d E R G i D h g r = record { proof = Back i r.types r.focus.focus; holds = (D, g, r.long, r.types_closed, h, r.focus.holds) }
 
 -- what serves passes
-serving_has_head : (d : Declared) (E : List Ty) (R : List ClauseFormula) (c : Closing) (t : Term) (x : Clause) → IsAssumedClause d E c x → IsAtomHead (head_of t) → Serves d E R c x (closed c t) → has_head t x ≡ true
-serving_has_head d E R c t (clause k vs h b) p i s = head_passes _ (with_own k s.types c) c h t p.head i s.applies.head
+serving_has_head : (L : Leaves) (d : Declared) (E : List Ty) (R : List ClauseFormula) (c : Closing) (t : Term) (x : Clause) → IsAssumedClause d E c x → IsAtomHead (head_of t) → Serves L d E R c x (closed c t) → has_head t x ≡ true
+serving_has_head L d E R c t (clause k vs h b) p i s = head_passes _ (with_own k s.types c) c h t p.head i s.applies.head
 
-serving_passes : (d : Declared) (E : List Ty) (R : List ClauseFormula) (c : Closing) (n : ℕ) (t : Term) (key : Option Atom) (x : Clause) → IsProgramClause d x → IsAtomHead (head_of t) → goal_key n (arguments t) ≡ Some key → Serves d E R c x (closed c t) → passes t key x ≡ true
-serving_passes d E R c n t key (clause k vs h b) p i e s =
+serving_passes : (L : Leaves) (d : Declared) (E : List Ty) (R : List ClauseFormula) (c : Closing) (n : ℕ) (t : Term) (key : Option Atom) (x : Clause) → IsProgramClause d x → IsAtomHead (head_of t) → goal_key n (arguments t) ≡ Some key → Serves L d E R c x (closed c t) → passes t key x ≡ true
+serving_passes L d E R c n t key (clause k vs h b) p i e s =
     and_true _ _ (head_passes _ (with_own k s.types c) c h t p.head i s.applies.head) (first_passes _ (with_own k s.types c) c n h t key p.head i e s.applies.head)
 
-module _ (d : Declared) (std : IsStandard d) (E : List Ty) (P A : List Clause) (c : Closing) (n : ℕ) (t : Term) (key : Option Atom) (ps : EachOf (IsProgramClause d) P) (as' : EachOf (IsAssumedClause d E c) A) (i : IsAtomHead (head_of t)) where
+module _ {L : Leaves} (d : Declared) (std : IsSetting L d) (E : List Ty) (P A : List Clause) (c : Closing) (n : ℕ) (t : Term) (key : Option Atom) (ps : EachOf (IsProgramClause d) P) (as' : EachOf (IsAssumedClause d E c) A) (i : IsAtomHead (head_of t)) where
   abbrev R : List ClauseFormula
   R = clauses_at P A c
 
   abbrev G : Term
   G = closed c t
 
-  pub some_candidate : IsFormula d E (closed c t) → goal_key n (arguments t) ≡ Some key → Holds d E (clauses_at P A c) c t → AnyOf (λ x. Serves d E (clauses_at P A c) c x (closed c t)) (candidates P A t key)
+  pub some_candidate : IsFormula d E (closed c t) → goal_key n (arguments t) ≡ Some key → Holds L d E (clauses_at P A c) c t → AnyOf (λ x. Serves L d E (clauses_at P A c) c x (closed c t)) (candidates P A t key)
   some_candidate f e p =
       let b = atom_begins d std E R G (atom_closed c t i) f p in
       elim (get_split (map sentence_of P) (map (assumed_as c) A) b.place b.clause b.is) [
         | inl g ↦
             let x = got_map sentence_of P b.place b.clause g in
             let q = each_at (IsProgramClause d) P x.place x.element ps x.is in
-            let s = sentence_serves d std E R c G (atom_closed c t i) x.element q (transport (λ D. IsInFocus d E R D G) (sym x.holds) b.focus) in
-            any_back (λ y. Serves d E R c y G) (filter (has_head t) A) (filter (passes t key) P) (into_filter (λ y. Serves d E R c y G) (passes t key) P x.place x.element x.is (serving_passes d E R c n t key x.element q i e s) s)
+            let s = sentence_serves d std E R c G (atom_closed c t i) x.element q (transport (λ D. IsInFocus L d E R D G) (sym x.holds) b.focus) in
+            any_back (λ y. Serves L d E R c y G) (filter (has_head t) A) (filter (passes t key) P) (into_filter (λ y. Serves L d E R c y G) (passes t key) P x.place x.element x.is (serving_passes _ d E R c n t key x.element q i e s) s)
         | inr g ↦
             let x = got_map (assumed_as c) A g.0 b.clause g.2 in
             let q = each_at (IsAssumedClause d E c) A x.place x.element as' x.is in
-            let s = assumed_serves d std E R c G (atom_closed c t i) x.element q (transport (λ D. IsInFocus d E R D G) (sym x.holds) b.focus) in
-            any_front (λ y. Serves d E R c y G) (filter (has_head t) A) (filter (passes t key) P) (into_filter (λ y. Serves d E R c y G) (has_head t) A x.place x.element x.is (serving_has_head d E R c t x.element q i s) s)
+            let s = assumed_serves d std E R c G (atom_closed c t i) x.element q (transport (λ D. IsInFocus L d E R D G) (sym x.holds) b.focus) in
+            any_front (λ y. Serves L d E R c y G) (filter (has_head t) A) (filter (passes t key) P) (into_filter (λ y. Serves L d E R c y G) (has_head t) A x.place x.element x.is (serving_has_head _ d E R c t x.element q i s) s)
       ]
 
-  pub candidate_proves : AnyOf (λ x. Serves d E (clauses_at P A c) c x (closed c t)) (candidates P A t key) → Holds d E (clauses_at P A c) c t
-  candidate_proves h = elim (any_split (λ x. Serves d E R c x G) (filter (has_head t) A) (filter (passes t key) P) h) [
+  pub candidate_proves : AnyOf (λ x. Serves L d E (clauses_at P A c) c x (closed c t)) (candidates P A t key) → Holds L d E (clauses_at P A c) c t
+  candidate_proves h = elim (any_split (λ x. Serves L d E R c x G) (filter (has_head t) A) (filter (passes t key) P) h) [
     | inl r ↦
-        let x = out_of_filter (λ y. Serves d E R c y G) (has_head t) A r in
+        let x = out_of_filter (λ y. Serves L d E R c y G) (has_head t) A r in
         let q = each_at (IsAssumedClause d E c) A x.place x.element as' x.is in
         let g = get_back (map sentence_of P) (map (assumed_as c) A) x.place ∙ get_map (assumed_as c) A x.place x.element x.is in
         focus_proves d E R G (length (map sentence_of P) + x.place) (assumed_as c x.element) (atom_closed c t i) g (serves_assumed d std E R c G (atom_closed c t i) x.element q x.holds)
     | inr r ↦
-        let x = out_of_filter (λ y. Serves d E R c y G) (passes t key) P r in
+        let x = out_of_filter (λ y. Serves L d E R c y G) (passes t key) P r in
         let q = each_at (IsProgramClause d) P x.place x.element ps x.is in
         let g = get_front (map sentence_of P) (map (assumed_as c) A) x.place (sentence_of x.element) (get_map sentence_of P x.place x.element x.is) in
         focus_proves d E R G x.place (sentence_of x.element) (atom_closed c t i) g (serves_sentence d std E R c G (atom_closed c t i) x.element q x.holds)

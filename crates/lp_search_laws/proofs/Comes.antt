@@ -9,14 +9,16 @@ use Rattle.lp_model.specs.Flat.{Goals, Clause}
 use Rattle.lp_model.specs.Flatten.{ClauseFormula, flatten_query}
 use Rattle.lp_model.specs.Branch.{Answer, Task, Go, Try, Stop, Lack}
 use Rattle.lp_model.specs.Search.{look, start, ComesTo}
-use Rattle.lp_model.specs.Proofs.{Declared, AreFlattened}
+use Rattle.lp_model.specs.Proofs.{Declared, AreFlattened, no_leaf}
 use Rattle.lp_model.specs.Answers.{Query}
 use Rattle.lp_standard.specs.Schemes.{IsStandard}
 use Rattle.lp_unify_laws.specs.Solutions.{IsStuck, AreStuck}
 use Rattle.lp_unify_laws.proofs.MoreSteps.Rules.{rule_more}
+use Rattle.lp_proof_laws.proofs.Uniform.Settings.{without_leaves}
 use Rattle.lp_search_laws.specs.Enough.{HasEnough}
 use Rattle.lp_search_laws.specs.Started.{IsTypedQuery, IsTypedSentence}
-use Rattle.lp_search_laws.specs.Branches.{IsProgramTyped, IsTypedBranch, no_query, TypedTask, going, trying, stopping, lacking, task_of, IsOk, IsRightView}
+use Rattle.lp_search_laws.specs.Branches.{IsProgramTyped, IsTypedBranch, no_query, TypedTask, going, trying, stopping, lacking, task_of, IsOk, IsRightView, denied_typing}
+use Rattle.lp_search_laws.specs.Denials.{denied_branch}
 use Rattle.lp_search_laws.proofs.Stack.MoreLooks.{Fewer, same_look, lacks, opens_dead, takes_dead, run_same}
 use Rattle.lp_search_laws.proofs.Stack.Ends.{ends}
 use Rattle.lp_search_laws.proofs.MoreSteps.{look_more, IsLacking, more_steps_same}
@@ -152,7 +154,7 @@ module _ (d : Declared) (std : IsStandard d) (P : List Clause) (program : EachOf
       rest (Stop x) f = f
       rest Lack f = absurd (cc)
 
-  view_leaves : (q : Query) (n : ℕ) (T : TypedTask) (v : View Task Answer) → IsRightView n d P q T v → Leaves Kept (strict v)
+  view_leaves : (q : Query) (n : ℕ) (T : TypedTask) (v : View Task Answer) → IsRightView no_leaf n d P q T v → Leaves Kept (strict v)
   view_leaves q n T (Gives a) r = tt
   view_leaves q n T (Opens ts) r = go (have_lack ts) refl
     where
@@ -175,7 +177,7 @@ module _ (d : Declared) (std : IsStandard d) (P : List Clause) (program : EachOf
       go true e = tt
       go false e = all_kept q n r.typed r.ok ts r.is e
   view_leaves q n T (Denies t is_final ts) r = (
-    transport Kept (sym r.is) (record { query = no_query; steps = n; task = going r.typing r.branch; ok = r.begins; is = refl; some = λ e. cc }),
+    transport Kept (sym r.is) (record { query = no_query; steps = n; task = going (denied_typing r.variables r.eigens r.goals) (denied_branch (length r.variables) r.next_type r.goals r.assumed r.written (length r.eigens)); ok = r.begins; is = refl; some = λ e. cc }),
     transport (EachOf Kept) (sym r.goes_on) (record { query = q; steps = n; task = going r.rest_typing r.rest; ok = r.after; is = refl; some = λ e. cc }, tt),
   )
   view_leaves q n T (Halts e) r = tt
@@ -192,7 +194,7 @@ module _ (d : Declared) (std : IsStandard d) (P : List Clause) (program : EachOf
       let m = n + k.steps in
       let a : n ≤ n + k.steps = omega arith in
       let b : k.steps ≤ n + k.steps = omega arith in
-      let r = each_look m d std P program k.query height k.task (ok_more k.query k.steps m b k.task k.ok) in
+      let r = each_look m d (without_leaves d std) P program k.query height k.task (ok_more k.query k.steps m b k.task k.ok) in
       let w = transport (λ z. Leaves Kept (strict (look unit_limit m P height z))) k.is (view_leaves k.query m k.task (look unit_limit m P height (task_of k.task)) r) in
       fewer_leaves (look unit_limit n P height t) (look unit_limit m P height t) (look_more unit_limit n m a P height t) w
 

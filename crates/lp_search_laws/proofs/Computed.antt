@@ -1,4 +1,5 @@
 -- Arithmetic goals: types of values, `is` as an equality, comparisons.
+use Rattle.lp_proof_laws.proofs.Uniform.Settings.{IsSetting}
 use Rattle.std.proofs.Common.{◌≡◌, ℕ, suc, ◌≤◌, List, [], ◌∷◌, ◌++◌, map, length, Some, None, refl, sym, ap, ◌∙◌, subst as transport, arith, Bool, true, false, nat_eq, nat_le, if◌then◌else◌, inl, inr}
 use Rattle.std.proofs.lemmas.Bool.Decides.{nat_tests}
 use Rattle.std.specs.Prelude.{◌⊎◌, ◌&&◌, ◌||◌, ◌<◌, ℤ, pos, ◌+ℤ◌, ◌-ℤ◌, ◌*ℤ◌, int_div, int_rem, neg_ℤ, int_le, int_lt}
@@ -14,8 +15,8 @@ use Rattle.lp_standard.specs.Connectives.{two}
 use Rattle.lp_standard.specs.Schemes.{IsStandard, plain, over_one, on_two, entry, standard_schemes}
 use Rattle.lp_model.specs.Flatten.{ClauseFormula}
 use Rattle.lp_model.specs.Values.{Value, Number, Bytes, Outcome, Is, Faults, bound, number, divided, remainder, is_zero, binary, unary, is_binary, is_two_place, is_one_place, evaluate, HasValue, term_of, ordered}
-use Rattle.lp_model.specs.Proofs.{by_failure, no_leaf, Declared, under, IsFormula, IsArith, PlainlyProvable, RootedBy, trivially, both_sides, left_side, right_side, at_witness, for_all, under_assumption, equally, by_arithmetic, by_clause, Arith}
-use Rattle.lp_proof_laws.proofs.Uniform.Roots.{rooted}
+use Rattle.lp_model.specs.Proofs.{by_failure, Declared, under, IsFormula, IsArith, RootedBy, trivially, both_sides, left_side, right_side, at_witness, for_all, under_assumption, equally, by_arithmetic, by_clause, Arith, Leaves, ProvableBy}
+use Rattle.lp_proof_laws.proofs.Uniform.Roots.{rooted_by}
 use Rattle.lp_search_laws.specs.Holds.{Holds, IsSameGoal}
 use Rattle.lp_search_laws.proofs.Connectives.{equal_holds}
 use Rattle.lp_search_laws.proofs.Expressions.{Expression, of_number, of_text, of_two, of_one, expression, evaluated, value_closed, one_value}
@@ -251,18 +252,18 @@ one_of_map f (T ∷ W ∷ ts) U e = absurd (cc)
 pub arrows_same : (A B U : Ty) → arrow A (arrow B o_type) ≡ on_two U o_type → (A ≡ U) × (B ≡ U)
 arrows_same A B U e = let p : A ≡ U = cc in let q : B ≡ U = cc in (p, q)
 
-module _ (d : Declared) (std : IsStandard d) (E : List Ty) (P : List ClauseFormula) where
+module _ {L : Leaves} (d : Declared) (std : IsSetting L d) (E : List Ty) (P : List ClauseFormula) where
   -- what `is` says
   is_parts : (us : List Ty) (a b : Term) → IsFormula d E (two 9 us a b) → (U : Ty) × (us ≡ U ∷ []) × Typed (under d E) [] a U × Typed (under d E) [] b U
   is_parts us a b f =
       let h = f.typed in
-      let q = over_type us (arrow h.1.0 (arrow h.0 o_type)) (sym (ap (scheme_type us) (std.at 9 (omega arith))) ∙ h.1.1) in
+      let q = over_type us (arrow h.1.0 (arrow h.0 o_type)) (sym (ap (scheme_type us) (std.standard.at 9 (omega arith))) ∙ h.1.1) in
       let w = arrows_same h.1.0 h.0 q.0 q.2 in
       (q.0, q.1, transport (Typed (under d E) [] a) w.0 h.1.2, transport (Typed (under d E) [] b) w.1 h.2)
 
   equal_fine : (U : Ty) (a b : Term) (v : Value) → IsFormula d E (two 9 (U ∷ []) a b) → Typed (under d E) [] a U → Typed (under d E) [] b U → HasValue b v → IsFormula d E (two 8 (U ∷ []) a (term_of v))
   equal_fine U a b v f ta tb h = record {
-    typed = (U, (U, ap (scheme_type (U ∷ [])) (std.at 8 (omega arith)), ta), value_typed (under d E) [] b v U std h tb);
+    typed = (U, (U, ap (scheme_type (U ∷ [])) (std.standard.at 8 (omega arith)), ta), value_typed (under d E) [] b v U std.standard h tb);
     closed = ((f.closed.0.0, f.closed.0.1), value_shut (length E) v);
   }
 
@@ -274,10 +275,10 @@ module _ (d : Declared) (std : IsStandard d) (E : List Ty) (P : List ClauseFormu
       transport (λ x. Converts a (term_of x)) w (transport (λ x. Converts x (term_of z.3)) p z.6)
   is_arith U a b v h (inr z) = let e = z.7 in absurd (cc)
 
-  is_root : (U : Ty) (a b : Term) (v : Value) → IsFormula d E (two 9 (U ∷ []) a b) → HasValue b v → PlainlyProvable d E P (two 9 (U ∷ []) a b) → Converts a (term_of v)
-  is_root U a b v f h p = go (rooted d std E P (constant 9 (U ∷ [])) (a ∷ b ∷ []) f p)
+  is_root : (U : Ty) (a b : Term) (v : Value) → IsFormula d E (two 9 (U ∷ []) a b) → HasValue b v → ProvableBy L d E P (two 9 (U ∷ []) a b) → Converts a (term_of v)
+  is_root U a b v f h p = go (rooted_by L d std.standard E P (constant 9 (U ∷ [])) (a ∷ b ∷ []) f (std.converting P) p)
     where
-      go : RootedBy no_leaf d E P (two 9 (U ∷ []) a b) → Converts a (term_of v)
+      go : RootedBy L d E P (two 9 (U ∷ []) a b) → Converts a (term_of v)
       go (trivially (inl e)) = cc
       go (trivially (inr e)) = cc
       go (both_sides X Y e p' q') = cc
@@ -289,11 +290,11 @@ module _ (d : Declared) (std : IsStandard d) (E : List Ty) (P : List ClauseFormu
       go (under_assumption X Y (inr e) p') = cc
       go (equally W x y e w) = cc
       go (by_arithmetic z) = is_arith U a b v h z
-      go (by_failure K e f m) = absurd m
+      go (by_failure K e f m) = cc
       go (by_clause i D' ts e l k m r) = let n : 32 ≤ 9 = m in absurd (omega arith)
 
   -- with the types known
-  pub assigned_at : (c : Closing) (T : Ty) (l r : Term) (v : Value) → HasValue r v → IsFormula d E (closed c (two 9 (T ∷ []) l r)) → IsSameGoal d E P c (two 9 (T ∷ []) l r) (two 8 (T ∷ []) l (term_of v))
+  pub assigned_at : (c : Closing) (T : Ty) (l r : Term) (v : Value) → HasValue r v → IsFormula d E (closed c (two 9 (T ∷ []) l r)) → IsSameGoal L d E P c (two 9 (T ∷ []) l r) (two 8 (T ∷ []) l (term_of v))
   assigned_at c T l r v h f =
       let hc = value_closed c r v h in
       let U = instance c.types T in
@@ -308,15 +309,15 @@ module _ (d : Declared) (std : IsStandard d) (E : List Ty) (P : List ClauseFormu
         from = λ p. record { proof = Arith; holds = inl (U, closed c l, closed c r, v, refl, hc, transport (Converts (closed c l)) (value_stays c v) (eq.0 p)) };
       }
 
-  pub assignments : (c : Closing) (ts : List Ty) (n : ℕ) (l r : Term) (v : Value) → evaluate n r ≡ Some (Is v) → IsFormula d E (closed c (two 9 ts l r)) → (T : Ty) × (ts ≡ T ∷ []) × IsSameGoal d E P c (two 9 ts l r) (two 8 (T ∷ []) l (term_of v))
+  pub assignments : (c : Closing) (ts : List Ty) (n : ℕ) (l r : Term) (v : Value) → evaluate n r ≡ Some (Is v) → IsFormula d E (closed c (two 9 ts l r)) → (T : Ty) × (ts ≡ T ∷ []) × IsSameGoal L d E P c (two 9 ts l r) (two 8 (T ∷ []) l (term_of v))
   assignments c ts n l r v e f =
       let x = is_parts (map (instance c.types) ts) (closed c l) (closed c r) f in
       let m = one_of_map (instance c.types) ts x.0 x.1 in
-      (m.0, m.1, transport (λ us. IsSameGoal d E P c (two 9 us l r) (two 8 (m.0 ∷ []) l (term_of v))) (sym m.1) (assigned_at c m.0 l r v (evaluated n r v e) (transport (λ us. IsFormula d E (closed c (two 9 us l r))) m.1 f)))
+      (m.0, m.1, transport (λ us. IsSameGoal L d E P c (two 9 us l r) (two 8 (m.0 ∷ []) l (term_of v))) (sym m.1) (assigned_at c m.0 l r v (evaluated n r v e) (transport (λ us. IsFormula d E (closed c (two 9 us l r))) m.1 f)))
 
   -- orders
   order_plain : (k : ℕ) → 10 ≤ k → k ≤ 13 → d k ≡ plain (on_two int_type o_type)
-  order_plain k l h = among_four (λ c. d c ≡ plain (on_two int_type o_type)) k l h (std.at 10 (omega arith)) (std.at 11 (omega arith)) (std.at 12 (omega arith)) (std.at 13 (omega arith))
+  order_plain k l h = among_four (λ c. d c ≡ plain (on_two int_type o_type)) k l h (std.standard.at 10 (omega arith)) (std.standard.at 11 (omega arith)) (std.standard.at 12 (omega arith)) (std.standard.at 13 (omega arith))
 
   order_none : (k : ℕ) → 10 ≤ k → k ≤ 13 → (us : List Ty) (a b : Term) → IsFormula d E (two k us a b) → us ≡ []
   order_none k l h us a b f = (plain_type us (on_two int_type o_type) (arrow f.typed.1.0 (arrow f.typed.0 o_type)) (sym (ap (scheme_type us) (order_plain k l h)) ∙ f.typed.1.1)).0
@@ -333,10 +334,10 @@ module _ (d : Declared) (std : IsStandard d) (E : List Ty) (P : List ClauseFormu
       let w' : z.4 ≡ y = cc in
       transport (λ t. ordered k x t ≡ true) w' (transport (λ t. ordered k t z.4 ≡ true) v' (transport (λ t. ordered t z.3 z.4 ≡ true) o z.10))
 
-  order_root : (k : ℕ) → 10 ≤ k → k ≤ 13 → (a b : Term) (x y : ℤ) → IsFormula d E (two k [] a b) → HasValue a (Number x) → HasValue b (Number y) → PlainlyProvable d E P (two k [] a b) → ordered k x y ≡ true
-  order_root k m h a b x y f ha hb p = go (rooted d std E P (constant k []) (a ∷ b ∷ []) f p)
+  order_root : (k : ℕ) → 10 ≤ k → k ≤ 13 → (a b : Term) (x y : ℤ) → IsFormula d E (two k [] a b) → HasValue a (Number x) → HasValue b (Number y) → ProvableBy L d E P (two k [] a b) → ordered k x y ≡ true
+  order_root k m h a b x y f ha hb p = go (rooted_by L d std.standard E P (constant k []) (a ∷ b ∷ []) f (std.converting P) p)
     where
-      go : RootedBy no_leaf d E P (two k [] a b) → ordered k x y ≡ true
+      go : RootedBy L d E P (two k [] a b) → ordered k x y ≡ true
       go (trivially (inl e)) = absurd (cc)
       go (trivially (inr e)) = absurd (cc)
       go (both_sides X Y e p' q') = let q : k ≡ 0 = cc in absurd (omega (q, m, arith))
@@ -348,14 +349,14 @@ module _ (d : Declared) (std : IsStandard d) (E : List Ty) (P : List ClauseFormu
       go (under_assumption X Y (inr e) p') = let q : k ≡ 3 = cc in absurd (omega (q, m, arith))
       go (equally W s t e w) = absurd (cc)
       go (by_arithmetic z) = order_arith k m a b x y ha hb z
-      go (by_failure K e f m) = absurd m
+      go (by_failure K e f m) = cc
       go (by_clause i D' ts e l n s r) = let q : 32 ≤ k = s in absurd (omega (q, h, arith))
 
-  pub comparisons : (c : Closing) (ts : List Ty) (k n : ℕ) (l r : Term) (x y : ℤ) → 10 ≤ k → k ≤ 13 → evaluate n l ≡ Some (Is (Number x)) → evaluate n r ≡ Some (Is (Number y)) → IsFormula d E (closed c (two k ts l r)) → (Holds d E P c (two k ts l r) → ordered k x y ≡ true) × (ordered k x y ≡ true → Holds d E P c (two k ts l r))
+  pub comparisons : (c : Closing) (ts : List Ty) (k n : ℕ) (l r : Term) (x y : ℤ) → 10 ≤ k → k ≤ 13 → evaluate n l ≡ Some (Is (Number x)) → evaluate n r ≡ Some (Is (Number y)) → IsFormula d E (closed c (two k ts l r)) → (Holds L d E P c (two k ts l r) → ordered k x y ≡ true) × (ordered k x y ≡ true → Holds L d E P c (two k ts l r))
   comparisons c ts k n l r x y m h el er f =
       let hl = value_closed c l (Number x) (evaluated n l (Number x) el) in
       let hr = value_closed c r (Number y) (evaluated n r (Number y) er) in
       let e = order_none k m h (map (instance c.types) ts) (closed c l) (closed c r) f in (
-        (λ p. order_root k m h (closed c l) (closed c r) x y (transport (λ us. IsFormula d E (two k us (closed c l) (closed c r))) e f) hl hr (transport (λ us. PlainlyProvable d E P (two k us (closed c l) (closed c r))) e p)),
-        (λ o. transport (λ us. PlainlyProvable d E P (two k us (closed c l) (closed c r))) (sym e) (record { proof = Arith; holds = inr (k, closed c l, closed c r, x, y, m, h, refl, hl, hr, o) })),
+        (λ p. order_root k m h (closed c l) (closed c r) x y (transport (λ us. IsFormula d E (two k us (closed c l) (closed c r))) e f) hl hr (transport (λ us. ProvableBy L d E P (two k us (closed c l) (closed c r))) e p)),
+        (λ o. transport (λ us. ProvableBy L d E P (two k us (closed c l) (closed c r))) (sym e) (record { proof = Arith; holds = inr (k, closed c l, closed c r, x, y, m, h, refl, hl, hr, o) })),
       )

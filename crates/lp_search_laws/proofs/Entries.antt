@@ -14,7 +14,7 @@ use Rattle.lp_model.specs.Pair.{Closing, closed, put_type_in, put_types_in}
 use Rattle.lp_model.specs.Flat.{Clause, put_clause, type_clause, formula_of_goal, formula_of_clause}
 use Rattle.lp_model.specs.Flatten.{ClauseFormula}
 use Rattle.lp_model.specs.Branch.{Entry, put_entry, put_entries, type_entry, type_entries}
-use Rattle.lp_model.specs.Proofs.{no_leaf, Declared, IsFormula, IsWitness, PlainlyProvable, assumed}
+use Rattle.lp_model.specs.Proofs.{Declared, IsFormula, IsWitness, assumed, Leaves, ProvableBy}
 use Rattle.lp_model.specs.Answers.{Variable, IsScopedAtom, Closes}
 use Rattle.lp_unify_laws.specs.TypeSolutions.{Satisfies}
 use Rattle.lp_unify_laws.specs.Solutions.{instance_variable, instance_binding, AreTypedBindings, IsMore, through_bindings}
@@ -29,6 +29,7 @@ use Rattle.lp_proof_laws.proofs.Uniform.FocusRoots.{fconv}
 use Rattle.lp_search_laws.specs.Holds.{IsTyped, IsVariableOf}
 use Rattle.lp_search_laws.specs.Clauses.{assumed_as, sentence_of, clauses_at}
 use Rattle.lp_search_laws.specs.Branches.{IsTypedEntry, AreTypedEntries, EntryHolds, AreProved}
+use Rattle.lp_proof_laws.proofs.Uniform.Roots.{Converting}
 use Rattle.lp_search_laws.specs.Behind.{LeadsThrough, behind, types_of, variables_of, eigens_of, IsTypedAt, IsEntryAt, AreEntriesAt}
 use Rattle.lp_search_laws.proofs.Matching.{get_mapped}
 use Rattle.lp_search_laws.proofs.Formulas.{goal_inside, clause_inside, types_inside, put_inside}
@@ -229,18 +230,18 @@ formula_at_types d E V c ts s cl t h =
     transport (λ X. IsFormula d X (closed c t)) (satisfied_all c.types ts s E) (transport (IsFormula d (map (instance c.types) (map (instance θ) E))) (ap (close c.terms) (satisfied_term c.types ts s t)) f)
 
 -- assumptions that convert, one by one
-converted_focus : (d : Declared) (E : List Ty) (D D' : Term) → IsFormula d E D → Converts D D' → Focuses no_leaf d E D D'
+converted_focus : (L : Leaves) (d : Declared) (E : List Ty) (D D' : Term) → IsFormula d E D → Converts D D' → Focuses L d E D D'
 unfolding Focuses
-converted_focus d E D D' f c F x R A i r = fconv d F R D D' A (transport (λ z. IsFormula d z D) (sym x.is) (formula_eigens d E x.rest D f)) c r
+converted_focus L d E D D' f c F x R A i r = fconv d F R D D' A (transport (λ z. IsFormula d z D) (sym x.is) (formula_eigens d E x.rest D f)) c r
 
-pub converted_all : (d : Declared) (E : List Ty) (f g : Term → Term) (G : Term) (us : List Term) → EachOf (λ t. IsFormula d E (f t) × IsFormula d E (g t) × Converts (f t) (g t)) us → (P : List ClauseFormula) → PlainlyProvable d E (P ++ map assumed (map f us)) G → PlainlyProvable d E (P ++ map assumed (map g us)) G
-converted_all d E f g G [] h P p = p
-converted_all d E f g G (u ∷ us) h P p =
-    let q = replaced_clause no_leaf d E P (map assumed (map f us)) (assumed (f u)) (assumed (g u)) G refl (λ S n H x y. y) (λ ts l k.
-    transport (λ z. Focuses no_leaf d E z (instance_term (type_at ts) (g u))) (sym (closed_instance (length E) (type_at ts) (f u) h.0.0.closed))
-    (transport (Focuses no_leaf d E (f u)) (sym (closed_instance (length E) (type_at ts) (g u) h.0.1.closed)) (converted_focus d E (f u) (g u) h.0.0 h.0.2))) p in
-    let r = converted_all d E f g G us h.1 (P ++ assumed (g u) ∷ []) (transport (λ Q. PlainlyProvable d E Q G) (sym (append_assoc P (assumed (g u) ∷ []) (map assumed (map f us)))) q) in
-    transport (λ Q. PlainlyProvable d E Q G) (append_assoc P (assumed (g u) ∷ []) (map assumed (map g us))) r
+pub converted_all : {L : Leaves} (d : Declared) → ((P : List ClauseFormula) → Converting L P) → (E : List Ty) (f g : Term → Term) (G : Term) (us : List Term) → EachOf (λ t. IsFormula d E (f t) × IsFormula d E (g t) × Converts (f t) (g t)) us → (P : List ClauseFormula) → ProvableBy L d E (P ++ map assumed (map f us)) G → ProvableBy L d E (P ++ map assumed (map g us)) G
+converted_all {L} d conv E f g G [] h P p = p
+converted_all {L} d conv E f g G (u ∷ us) h P p =
+    let q = replaced_clause L d E P (map assumed (map f us)) (assumed (f u)) (assumed (g u)) G refl ((conv P).assumptions (f u) (g u) h.0.2) (λ ts l k.
+    transport (λ z. Focuses L d E z (instance_term (type_at ts) (g u))) (sym (closed_instance (length E) (type_at ts) (f u) h.0.0.closed))
+    (transport (Focuses L d E (f u)) (sym (closed_instance (length E) (type_at ts) (g u) h.0.1.closed)) (converted_focus _ d E (f u) (g u) h.0.0 h.0.2))) p in
+    let r = converted_all d conv E f g G us h.1 (P ++ assumed (g u) ∷ []) (transport (λ Q. ProvableBy L d E Q G) (sym (append_assoc P (assumed (g u) ∷ []) (map assumed (map f us)))) q) in
+    transport (λ Q. ProvableBy L d E Q G) (append_assoc P (assumed (g u) ∷ []) (map assumed (map g us))) r
 
 assumed_formulas : (c : Closing) (A : List Clause) → map (assumed_as c) A ≡ map assumed (map (closed c) (formulas A))
 assumed_formulas c [] = refl
@@ -257,9 +258,9 @@ each_swap P Q R R' h [] w = tt
 each_swap P Q R R' h (u ∷ us) w = ((w.0.1, w.0.0, h u w.0.2), each_swap P Q R R' h us w.1)
 
 -- one entry holds where it held
-pub entry_leads : (d : Declared) (V W : List Variable) (P : List Clause) (c z : Closing) (bs : List Binding) (ts : List TypeBinding) → LeadsThrough V c z bs ts → AreShut bs → Closes d V c → Closes d W z → (E : List Ty) (e : Entry) → IsEntryAt d V ts E e → IsTypedEntry d W (map (instance (types_of ts)) E) (type_one ts (put_one bs e)) →
-    (EntryHolds d P c E e → EntryHolds d P z (map (instance (types_of ts)) E) (type_one ts (put_one bs e))) × (EntryHolds d P z (map (instance (types_of ts)) E) (type_one ts (put_one bs e)) → EntryHolds d P c E e)
-entry_leads d V W P c z bs ts k s cl zl E e h h' =
+pub entry_leads : {L : Leaves} (d : Declared) → ((P : List ClauseFormula) → Converting L P) → (V W : List Variable) (P : List Clause) (c z : Closing) (bs : List Binding) (ts : List TypeBinding) → LeadsThrough V c z bs ts → AreShut bs → Closes d V c → Closes d W z → (E : List Ty) (e : Entry) → IsEntryAt d V ts E e → IsTypedEntry d W (map (instance (types_of ts)) E) (type_one ts (put_one bs e)) →
+    (EntryHolds L d P c E e → EntryHolds L d P z (map (instance (types_of ts)) E) (type_one ts (put_one bs e))) × (EntryHolds L d P z (map (instance (types_of ts)) E) (type_one ts (put_one bs e)) → EntryHolds L d P c E e)
+entry_leads {L} d conv V W P c z bs ts k s cl zl E e h h' =
     let D = map (instance (types_of ts)) E in
     let F = map (instance c.types) E in
     let e' = type_one ts (put_one bs e) in
@@ -276,23 +277,23 @@ entry_leads d V W P c z bs ts k s cl zl E e h h' =
     let qs = each_swap (λ u. IsFormula d F (closed c u)) (λ u. IsFormula d F (closed z (put_in bs ts u))) (λ u. Converts (closed c u) (closed z (put_in bs ts u))) (λ u. Converts (closed z (put_in bs ts u)) (closed c u)) (λ u. converts_sym) us ps in
     let x : clauses_at P e.assumed c ≡ S ++ map assumed (map (closed c) us) = ap (λ X. S ++ X) (assumed_formulas c e.assumed) in
     let y : clauses_at P e'.assumed z ≡ S ++ map assumed (map (λ u. closed z (put_in bs ts u)) us) = ap (λ X. S ++ X) (assumed_formulas z e'.assumed) ∙ ap (λ X. S ++ map assumed (map (closed z) X)) (assumed_behind bs ts s e) ∙ ap (λ X. S ++ map assumed X) (map_both (closed z) (put_in bs ts) us) in (
-      (λ p. transport (λ X. PlainlyProvable d X (clauses_at P e'.assumed z) (closed z t')) (sym same_eigens) (transport (λ X. PlainlyProvable d F X (closed z t')) (sym y)
-          (converted_all d F (closed c) (λ u. closed z (put_in bs ts u)) (closed z t') us ps S (transport (λ X. PlainlyProvable d F X (closed z t')) x (by_conversion d F (clauses_at P e.assumed c) (closed z t') (closed c t) (before t h.goal) v p))))),
-      (λ p. by_conversion d F (clauses_at P e.assumed c) (closed c t) (closed z t') (after t' h'.goal) (converts_sym v) (transport (λ X. PlainlyProvable d F X (closed z t')) (sym x)
-          (converted_all d F (λ u. closed z (put_in bs ts u)) (closed c) (closed z t') us qs S (transport (λ X. PlainlyProvable d F X (closed z t')) y (transport (λ X. PlainlyProvable d X (clauses_at P e'.assumed z) (closed z t')) same_eigens p))))),
+      (λ p. transport (λ X. ProvableBy L d X (clauses_at P e'.assumed z) (closed z t')) (sym same_eigens) (transport (λ X. ProvableBy L d F X (closed z t')) (sym y)
+          (converted_all d conv F (closed c) (λ u. closed z (put_in bs ts u)) (closed z t') us ps S (transport (λ X. ProvableBy L d F X (closed z t')) x (by_conversion d F (clauses_at P e.assumed c) (closed z t') (closed c t) (before t h.goal) v p))))),
+      (λ p. by_conversion d F (clauses_at P e.assumed c) (closed c t) (closed z t') (after t' h'.goal) (converts_sym v) (transport (λ X. ProvableBy L d F X (closed z t')) (sym x)
+          (converted_all d conv F (λ u. closed z (put_in bs ts u)) (closed c) (closed z t') us qs S (transport (λ X. ProvableBy L d F X (closed z t')) y (transport (λ X. ProvableBy L d X (clauses_at P e'.assumed z) (closed z t')) same_eigens p))))),
     )
 
-pub entries_lead : (d : Declared) (V W : List Variable) (P : List Clause) (c z : Closing) (bs : List Binding) (ts : List TypeBinding) → LeadsThrough V c z bs ts → AreShut bs → IsMore (variables_of (types_of ts) V) W → AreTypedBindings d W (map (instance_binding (types_of ts)) bs) → Closes d V c → Closes d W z → (Es : List (List Ty)) (es : List Entry) → AreEntriesAt d V ts Es es →
-    (AreProved d P c Es es → AreProved d P z (eigens_of (types_of ts) Es) (behind bs ts es)) × (AreProved d P z (eigens_of (types_of ts) Es) (behind bs ts es) → AreProved d P c Es es)
-entries_lead d V W P c z bs ts k s m b cl zl [] [] h = ((λ p. transport (AreProved d P z []) (sym (behind_none bs ts)) tt), (λ p. tt))
-entries_lead d V W P c z bs ts k s m b cl zl [] (e ∷ es) h = absurd h
-entries_lead d V W P c z bs ts k s m b cl zl (E ∷ Es) [] h = absurd h
-entries_lead d V W P c z bs ts k s m b cl zl (E ∷ Es) (e ∷ es) h =
-    let o = entry_leads d V W P c z bs ts k s cl zl E e h.0 (entry_behind d V W E bs ts s m b e h.0) in
-    let r = entries_lead d V W P c z bs ts k s m b cl zl Es es h.1 in
+pub entries_lead : {L : Leaves} (d : Declared) → ((P : List ClauseFormula) → Converting L P) → (V W : List Variable) (P : List Clause) (c z : Closing) (bs : List Binding) (ts : List TypeBinding) → LeadsThrough V c z bs ts → AreShut bs → IsMore (variables_of (types_of ts) V) W → AreTypedBindings d W (map (instance_binding (types_of ts)) bs) → Closes d V c → Closes d W z → (Es : List (List Ty)) (es : List Entry) → AreEntriesAt d V ts Es es →
+    (AreProved L d P c Es es → AreProved L d P z (eigens_of (types_of ts) Es) (behind bs ts es)) × (AreProved L d P z (eigens_of (types_of ts) Es) (behind bs ts es) → AreProved L d P c Es es)
+entries_lead {L} d conv V W P c z bs ts k s m b cl zl [] [] h = ((λ p. transport (AreProved L d P z []) (sym (behind_none bs ts)) tt), (λ p. tt))
+entries_lead {L} d conv V W P c z bs ts k s m b cl zl [] (e ∷ es) h = absurd h
+entries_lead {L} d conv V W P c z bs ts k s m b cl zl (E ∷ Es) [] h = absurd h
+entries_lead {L} d conv V W P c z bs ts k s m b cl zl (E ∷ Es) (e ∷ es) h =
+    let o = entry_leads d conv V W P c z bs ts k s cl zl E e h.0 (entry_behind d V W E bs ts s m b e h.0) in
+    let r = entries_lead d conv V W P c z bs ts k s m b cl zl Es es h.1 in
     let q = behind_each bs ts e es in (
-      (λ p. transport (AreProved d P z (eigens_of (types_of ts) (E ∷ Es))) (sym q) (o.0 p.0, r.0 p.1)),
-      (λ p. let w = transport (AreProved d P z (eigens_of (types_of ts) (E ∷ Es))) q p in (o.1 w.0, r.1 w.1)),
+      (λ p. transport (AreProved L d P z (eigens_of (types_of ts) (E ∷ Es))) (sym q) (o.0 p.0, r.0 p.1)),
+      (λ p. let w = transport (AreProved L d P z (eigens_of (types_of ts) (E ∷ Es))) q p in (o.1 w.0, r.1 w.1)),
     )
 
 -- typed bindings have no loose index in their values

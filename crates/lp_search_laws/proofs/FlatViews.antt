@@ -1,5 +1,6 @@
 -- Flattened goals at the front of a branch, taken apart.
-use Rattle.std.proofs.Common.{◌≡◌, ℕ, zero, suc, List, [], ◌∷◌, ◌++◌, map, length, Some, ◌∙◌, refl, sym, ap, subst as transport, inl, inr, Bool, true, false, append_assoc}
+use Rattle.lp_proof_laws.proofs.Uniform.Settings.{IsSetting}
+use Rattle.std.proofs.Common.{◌≡◌, ℕ, zero, suc, List, [], ◌∷◌, ◌++◌, map, length, Some, ◌∙◌, refl, sym, ap, subst as transport, inl, inr, Bool, true, false, append_assoc, append-nil}
 use Rattle.std.specs.Prelude.{◌+◌, slice_get, slice_index_or}
 use Rattle.std.proofs.lemmas.List.{map-append}
 use Rattle.lp_unify_laws.specs.TypesBelow.{AreTypesBelow}
@@ -15,10 +16,10 @@ use Rattle.lp_model.specs.Flat.{Written, Goal, Goals, Clause, Clauses, goal_list
 use Rattle.lp_model.specs.Flatten.{ClauseFormula}
 use Rattle.lp_model.specs.Branch.{Entry, entries}
 use Rattle.lp_model.specs.Answers.{Variable, Closes}
-use Rattle.lp_model.specs.Proofs.{Declared, IsFormula, PlainlyProvable, Stands, assumed}
+use Rattle.lp_model.specs.Proofs.{Declared, IsFormula, Stands, assumed, Leaves, ProvableBy}
 use Rattle.lp_unify_laws.proofs.Scopes.{prefix_more, more_none}
 use Rattle.lp_proof_laws.proofs.Uniform.Contexts.{get_front, get_back, get_split}
-use Rattle.lp_proof_laws.proofs.Uniform.Uniforms.{wider}
+use Rattle.lp_proof_laws.proofs.Uniform.Uniforms.{other_clauses, stands_more}
 use Rattle.lp_search_laws.specs.Holds.{Holds, IsTyped}
 use Rattle.lp_search_laws.specs.Clauses.{assumed_as, sentence_of, clauses_at}
 use Rattle.lp_search_laws.specs.Branches.{IsPlainTerm, IsClauseHead, IsGoal, AreGoals, IsAssumable, IsTypedEntry, AreProved, IsPlainEntry}
@@ -55,11 +56,11 @@ list_stands d V k E A W l m p pw gs t h w = entries_stand d V k E A W l m gs
 pub goals_stand : (d : Declared) → IsStandard d → (V : List Variable) (k : ℕ) (E : List Ty) (A : List Clause) (W : Written) (level mark : ℕ) → IsPlaceOf d V k E A level → IsWrittenPlace A W → (gs : Goals) → IsTyped d E V (formula_of_goals gs) o_type → AreGoals k [] gs → AreWrittenGoals gs → MayStand d V k (each_at E (goal_list gs)) (entries (goal_list gs) A W level mark)
 goals_stand d std V k E A W l m p pw gs t h w = list_stands d V k E A W l m p pw (goal_list gs) (goals_typed d std E V gs t) (goals_each k [] gs h) (written_each gs w)
 
-pub goals_proved : (d : Declared) → IsStandard d → (P : List Clause) (V : List Variable) (c : Closing) → Closes d V c → (E : List Ty) (A : List Clause) (W : Written) (level mark : ℕ) (gs : Goals) → IsTyped d E V (formula_of_goals gs) o_type →
-    (Holds d (map (instance c.types) E) (clauses_at P A c) c (formula_of_goals gs) → AreProved d P c (each_at E (goal_list gs)) (entries (goal_list gs) A W level mark)) × (AreProved d P c (each_at E (goal_list gs)) (entries (goal_list gs) A W level mark) → Holds d (map (instance c.types) E) (clauses_at P A c) c (formula_of_goals gs))
-goals_proved d std P V c l E A W v m gs t =
+pub goals_proved : {L : Leaves} (d : Declared) → IsSetting L d → (P : List Clause) (V : List Variable) (c : Closing) → Closes d V c → (E : List Ty) (A : List Clause) (W : Written) (level mark : ℕ) (gs : Goals) → IsTyped d E V (formula_of_goals gs) o_type →
+    (Holds L d (map (instance c.types) E) (clauses_at P A c) c (formula_of_goals gs) → AreProved L d P c (each_at E (goal_list gs)) (entries (goal_list gs) A W level mark)) × (AreProved L d P c (each_at E (goal_list gs)) (entries (goal_list gs) A W level mark) → Holds L d (map (instance c.types) E) (clauses_at P A c) c (formula_of_goals gs))
+goals_proved {L} d std P V c l E A W v m gs t =
     let r = goals_in_turn d std (map (instance c.types) E) (clauses_at P A c) c gs (formula_at d V c l E (formula_of_goals gs) t) in
-    ((λ p. entries_hold d P c E A W v m (goal_list gs) (r.0 p)), (λ p. r.1 (hold_entries d P c E A W v m (goal_list gs) p)))
+    ((λ p. entries_hold _ d P c E A W v m (goal_list gs) (r.0 p)), (λ p. r.1 (hold_entries _ d P c E A W v m (goal_list gs) p)))
 
 -- goals opened with a term
 pub may_open : (k : ℕ) (x : Bool) (u : Term) (f : ℕ → Term) → IsPlainTerm k u → (x ≡ true → IsClauseHead [] (head_of u)) → ((i : ℕ) → f i ≡ instead u i) → MayPut k (x ∷ []) [] f
@@ -78,13 +79,13 @@ pub opened_stand : (d : Declared) → IsStandard d → (V : List Variable) (k : 
 opened_stand d std V k E A W l m p pw x u f e v h gs t a w =
     goals_stand d std V k E A W l m p pw (instantiate_goals f gs) (transport (λ z. IsTyped d E V z o_type) (sym (first_only u f e gs)) t) (goals_put k (x ∷ []) [] f (may_open k x u f v h e) gs a) (instantiated_goals f gs w)
 
-pub opened_proved : (d : Declared) → IsStandard d → (P : List Clause) (V : List Variable) (c : Closing) → Closes d V c → (E : List Ty) (A : List Clause) (W : Written) (level mark : ℕ) (u : Term) (f : ℕ → Term) → ((i : ℕ) → f i ≡ instead u i) → (gs : Goals) → IsTyped d E V (substitute u (formula_of_goals gs)) o_type →
-    (Holds d (map (instance c.types) E) (clauses_at P A c) c (substitute u (formula_of_goals gs)) → AreProved d P c (each_at E (goal_list (instantiate_goals f gs))) (entries (goal_list (instantiate_goals f gs)) A W level mark)) ×
-    (AreProved d P c (each_at E (goal_list (instantiate_goals f gs))) (entries (goal_list (instantiate_goals f gs)) A W level mark) → Holds d (map (instance c.types) E) (clauses_at P A c) c (substitute u (formula_of_goals gs)))
-opened_proved d std P V c l E A W v m u f e gs t =
+pub opened_proved : {L : Leaves} (d : Declared) → IsSetting L d → (P : List Clause) (V : List Variable) (c : Closing) → Closes d V c → (E : List Ty) (A : List Clause) (W : Written) (level mark : ℕ) (u : Term) (f : ℕ → Term) → ((i : ℕ) → f i ≡ instead u i) → (gs : Goals) → IsTyped d E V (substitute u (formula_of_goals gs)) o_type →
+    (Holds L d (map (instance c.types) E) (clauses_at P A c) c (substitute u (formula_of_goals gs)) → AreProved L d P c (each_at E (goal_list (instantiate_goals f gs))) (entries (goal_list (instantiate_goals f gs)) A W level mark)) ×
+    (AreProved L d P c (each_at E (goal_list (instantiate_goals f gs))) (entries (goal_list (instantiate_goals f gs)) A W level mark) → Holds L d (map (instance c.types) E) (clauses_at P A c) c (substitute u (formula_of_goals gs)))
+opened_proved {L} d std P V c l E A W v m u f e gs t =
     let q = first_only u f e gs in
     let r = goals_proved d std P V c l E A W v m (instantiate_goals f gs) (transport (λ z. IsTyped d E V z o_type) (sym q) t) in
-    ((λ p. r.0 (transport (Holds d (map (instance c.types) E) (clauses_at P A c) c) (sym q) p)), (λ p. transport (Holds d (map (instance c.types) E) (clauses_at P A c) c) q (r.1 p)))
+    ((λ p. r.0 (transport (Holds L d (map (instance c.types) E) (clauses_at P A c) c) (sym q) p)), (λ p. transport (Holds L d (map (instance c.types) E) (clauses_at P A c) c) q (r.1 p)))
 
 -- one more eigenconstant
 pub next_place : (d : Declared) (V : List Variable) (k : ℕ) (E : List Ty) (A : List Clause) (level : ℕ) (T : Ty) → AreTypesBelow k (T ∷ []) → IsPlaceOf d V k E A level → IsPlaceOf d V k (E ++ T ∷ []) A (suc level)
@@ -113,23 +114,33 @@ get_swap xs ys zs i x e = elim (get_split (xs ++ ys) zs i x e) [
   | inr a ↦ (length xs + a.0, get_back xs (zs ++ ys) a.0 ∙ get_front zs ys a.0 x a.2)
 ]
 
+abbrev Both : List ClauseFormula → List ClauseFormula → Type 0
+Both P R = Stands P R × Stands R P
+
+both_more : (P R : List ClauseFormula) (D : ClauseFormula) → Both P R → Both (P ++ D ∷ []) (R ++ D ∷ [])
+both_more P R D x = (stands_more P R D x.0, stands_more R P D x.1)
+
 swapped : (xs ys zs : List ClauseFormula) → Stands ((xs ++ ys) ++ zs) (xs ++ (zs ++ ys))
 swapped xs ys zs = record { at = λ i D e. get_swap xs ys zs i D e }
 
-pub assumed_proved : (d : Declared) → IsStandard d → (E : List Ty) (P A : List Clause) (c : Closing) (cs : Clauses) (G : Term) → IsFormula d E (closed c (formula_of_clauses cs)) →
-    (PlainlyProvable d E (clauses_at P A c ++ assumed (closed c (formula_of_clauses cs)) ∷ []) G → PlainlyProvable d E (clauses_at P (clause_list cs ++ A) c) G) ×
-    (PlainlyProvable d E (clauses_at P (clause_list cs ++ A) c) G → PlainlyProvable d E (clauses_at P A c ++ assumed (closed c (formula_of_clauses cs)) ∷ []) G)
-assumed_proved d std E P A c cs G f =
+swapped_back : (xs ys zs : List ClauseFormula) → Stands (xs ++ (zs ++ ys)) ((xs ++ ys) ++ zs)
+swapped_back xs ys zs = record {
+  at = λ i D e. let g = get_swap xs zs ys i D (transport (λ z. slice_get z i ≡ Some D) (sym (append_assoc xs zs ys)) e) in (g.0, transport (λ z. slice_get z g.0 ≡ Some D) (sym (append_assoc xs ys zs)) g.1);
+}
+
+-- the same clauses in another order prove the same
+reordered : {L : Leaves} (d : Declared) → IsSetting L d → (E : List Ty) (P R : List ClauseFormula) (G : Term) → Stands P R → Stands R P → ProvableBy L d E P G → ProvableBy L d E R G
+reordered {L} d std E P R G s r p = other_clauses L Both (λ P R x. x.0) both_more (λ E P R G f x l. transport (λ Q. L E Q G f) (append-nil R) (std.order P R x.0 x.1 [] E G f (transport (λ Q. L E Q G f) (sym (append-nil P)) l))) d E P R G (s, r) p
+
+pub assumed_proved : {L : Leaves} (d : Declared) → IsSetting L d → (E : List Ty) (P A : List Clause) (c : Closing) (cs : Clauses) (G : Term) → IsFormula d E (closed c (formula_of_clauses cs)) →
+    (ProvableBy L d E (clauses_at P A c ++ assumed (closed c (formula_of_clauses cs)) ∷ []) G → ProvableBy L d E (clauses_at P (clause_list cs ++ A) c) G) ×
+    (ProvableBy L d E (clauses_at P (clause_list cs ++ A) c) G → ProvableBy L d E (clauses_at P A c ++ assumed (closed c (formula_of_clauses cs)) ∷ []) G)
+assumed_proved {L} d std E P A c cs G f =
     let r = stand_apart d std E (clauses_at P A c) c cs f G in
     let xs = map sentence_of P in
     let ys = map (assumed_as c) A in
     let zs = map (assumed_as c) (clause_list cs) in
     let e : xs ++ (zs ++ ys) ≡ clauses_at P (clause_list cs ++ A) c = ap (λ z. map sentence_of P ++ z) (sym (map-append (assumed_as c) (clause_list cs) A)) in (
-      (λ p. transport (λ R. PlainlyProvable d E R G) e (wider d E ((xs ++ ys) ++ zs) (xs ++ (zs ++ ys)) G (swapped xs ys zs) (r.0 p))),
-      (λ p. r.1 (wider d E (xs ++ (zs ++ ys)) ((xs ++ ys) ++ zs) G (back xs ys zs) (transport (λ R. PlainlyProvable d E R G) (sym e) p))),
+      (λ p. transport (λ R. ProvableBy L d E R G) e (reordered d std E ((xs ++ ys) ++ zs) (xs ++ (zs ++ ys)) G (swapped xs ys zs) (swapped_back xs ys zs) (r.0 p))),
+      (λ p. r.1 (reordered d std E (xs ++ (zs ++ ys)) ((xs ++ ys) ++ zs) G (swapped_back xs ys zs) (swapped xs ys zs) (transport (λ R. ProvableBy L d E R G) (sym e) p))),
     )
-  where
-    back : (xs ys zs : List ClauseFormula) → Stands (xs ++ (zs ++ ys)) ((xs ++ ys) ++ zs)
-    back xs ys zs = record {
-      at = λ i D e. let g = get_swap xs zs ys i D (transport (λ z. slice_get z i ≡ Some D) (sym (append_assoc xs zs ys)) e) in (g.0, transport (λ z. slice_get z g.0 ≡ Some D) (sym (append_assoc xs ys zs)) g.1);
-    }

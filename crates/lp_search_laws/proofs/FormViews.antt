@@ -1,4 +1,5 @@
 -- What a goal known at run time leaves, by the connective at its head.
+use Rattle.lp_proof_laws.proofs.Uniform.Settings.{IsSetting}
 use Rattle.std.proofs.Common.{true≢false, ◌≡◌, ℕ, suc, List, [], ◌∷◌, ◌++◌, map, length, Some, ◌∙◌, refl, sym, ap, subst as transport, arith, inl, inr}
 use Rattle.std.specs.Prelude.{◌⊎◌}
 use Rattle.lp_calculus.specs.Types.{Ty, instance}
@@ -11,11 +12,10 @@ use Rattle.lp_calculus.specs.Spine.{head_of}
 use Rattle.lp_model.specs.Pair.{Closing}
 use Rattle.lp_standard.specs.Connectives.{two, Connective, connective_of}
 use Rattle.lp_standard.specs.Connectives as connective
-use Rattle.lp_standard.specs.Schemes.{IsStandard}
 use Rattle.lp_model.specs.Flat.{Atomic, Clause}
 use Rattle.lp_model.specs.Branch.{Entry, Branch, Go}
 use Rattle.lp_model.specs.Answers.{Query, AnswerTyping, Closes, over, IsScopedAtom}
-use Rattle.lp_model.specs.Proofs.{Declared}
+use Rattle.lp_model.specs.Proofs.{Declared, Leaves}
 use Rattle.lp_model.specs.Search.{with_goals, in_place, at_next_level, look_form, look_atom}
 use Rattle.lp_proof_laws.proofs.Uniform.Forms.{Shape, form_shape}
 use Rattle.lp_proof_laws.proofs.Uniform.Roots.{connective, pi_type, sigma_type}
@@ -35,7 +35,7 @@ use Rattle.lp_search_laws.proofs.FlatViews.{next_place}
 use Rattle.lp_search_laws.proofs.NewVariable.{stands_new, unused_new}
 use Rattle.lp_search_laws.proofs.GoalViews.{place, typed_as, plain_as, by_goal, new_typed, new_place}
 
-module _ (n : ℕ) (d : Declared) (std : IsStandard d) (P : List Clause) (q : Query) (z : AnswerTyping) (b : Branch) (E : List Ty) (Es : List (List Ty)) (e : Entry) (es : List Entry) (h : IsTypedHere n d P q z b E Es e es)
+module _ {L : Leaves} (n : ℕ) (d : Declared) (std : IsSetting L d) (P : List Clause) (q : Query) (z : AnswerTyping) (b : Branch) (E : List Ty) (Es : List (List Ty)) (e : Entry) (es : List Entry) (h : IsTypedHere n d P q z b E Es e es)
     (t u : Term) (i : e.goal ≡ Atomic t) (r : head_normal n t ≡ Some u) where
   reduces : ReducesTo t u
   reduces = head_reduces n t u r
@@ -53,52 +53,52 @@ module _ (n : ℕ) (d : Declared) (std : IsStandard d) (P : List Clause) (q : Qu
   form_plain = plain_reduced (IsPlainAtom b.next_type) (IsScopedAtom z.variables E) t u reduces goal_typed.scoped (plain_as n d std P q z b E Es e es h (Atomic t) i)
 
   -- the entry holds where its head-normal form does
-  pub by_form : (c : Closing) → Closes d z.variables c → (EntryHolds d P c E e → Holds d (map (instance c.types) E) (clauses_at P e.assumed c) c u) × (Holds d (map (instance c.types) E) (clauses_at P e.assumed c) c u → EntryHolds d P c E e)
+  pub by_form : (c : Closing) → Closes d z.variables c → (EntryHolds L d P c E e → Holds L d (map (instance c.types) E) (clauses_at P e.assumed c) c u) × (Holds L d (map (instance c.types) E) (clauses_at P e.assumed c) c u → EntryHolds L d P c E e)
   by_form c l =
       let f = formula_at d z.variables c l E t goal_typed in
       by_goal n d std P q z b E Es e es h (Atomic t) i c _ ((λ p. reduces_on d (map (instance c.types) E) (clauses_at P e.assumed c) f (closed_reduces c reduces) p), (λ p. reduces_back d (map (instance c.types) E) (clauses_at P e.assumed c) f (closed_reduces c reduces) p))
 
   -- and where the parts of the form do
-  by_parts : (f : Connective) → connective_of u ≡ f → IsTakenApart f → (c : Closing) → Closes d z.variables c → (EntryHolds d P c E e → FormHolds d (map (instance c.types) E) (clauses_at P e.assumed c) c b.next e.level f) × (FormHolds d (map (instance c.types) E) (clauses_at P e.assumed c) c b.next e.level f → EntryHolds d P c E e)
+  by_parts : (f : Connective) → connective_of u ≡ f → IsTakenApart f → (c : Closing) → Closes d z.variables c → (EntryHolds L d P c E e → FormHolds L d (map (instance c.types) E) (clauses_at P e.assumed c) c b.next e.level f) × (FormHolds L d (map (instance c.types) E) (clauses_at P e.assumed c) c b.next e.level f → EntryHolds L d P c E e)
   by_parts f x a c l =
       let E' = map (instance c.types) E in
       let R = clauses_at P e.assumed c in
       let m = run_time_goals d std E' R c b.next e.level n t u r (transport IsTakenApart (sym x) a) (unused_new d E z.variables b.next e.level (sym h.answer.variables) t o_type goal_typed.typed) (formula_at d z.variables c l E t goal_typed) in
-      by_goal n d std P q z b E Es e es h (Atomic t) i c _ ((λ p. transport (FormHolds d E' R c b.next e.level) x (m.0 p)), (λ p. m.1 (transport (FormHolds d E' R c b.next e.level) (sym x) p)))
+      by_goal n d std P q z b E Es e es h (Atomic t) i c _ ((λ p. transport (FormHolds L d E' R c b.next e.level) x (m.0 p)), (λ p. m.1 (transport (FormHolds L d E' R c b.next e.level) (sym x) p)))
 
   -- goals of the same place
   one_in_place : (x : Term) → IsTyped d E z.variables x o_type → IsPlainTerm b.next_type x → MayStand d z.variables b.next_type (E ∷ []) (in_place e (x ∷ []))
   one_in_place x w p = record { typed = (record { level = h.entries.0.level; goal = w; assumed = h.entries.0.assumed }, tt); plain = (record { eigens = h.goals.0.eigens; goal = p; assumed = h.goals.0.assumed }, tt); written = (record { goal = tt; place = h.written.0.place }, tt) }
 
-  truth_stands : connective_of u ≡ connective.True → StandFor n d P q (going (Typings n d P q z b E Es e es (E ∷ Es)) (with_goals b (e ∷ es))) (Go (with_goals b es) ∷ [])
+  truth_stands : connective_of u ≡ connective.True → StandFor L n d P q (going (Typings n d P q z b E Es e es (E ∷ Es)) (with_goals b (e ∷ es))) (Go (with_goals b es) ∷ [])
   truth_stands x = stands_one n d P q z b E Es e es h [] [] (record { typed = tt; plain = tt; written = tt }) (λ c l. by_parts connective.True x tt c l)
 
-  both_stand : (a c : Term) → connective_of u ≡ connective.And a c → StandFor n d P q (going (Typings n d P q z b E Es e es (E ∷ Es)) (with_goals b (e ∷ es))) (Go (with_goals b (in_place e (a ∷ c ∷ []) ++ es)) ∷ [])
+  both_stand : (a c : Term) → connective_of u ≡ connective.And a c → StandFor L n d P q (going (Typings n d P q z b E Es e es (E ∷ Es)) (with_goals b (e ∷ es))) (Go (with_goals b (in_place e (a ∷ c ∷ []) ++ es)) ∷ [])
   both_stand a c x =
       let s : u ≡ two 0 [] a c = transport (λ f. Shape f u) x (form_shape u) in
-      let w = both_typed d E z.variables 0 a c (connective d std 0 (omega arith)) (transport (λ y. IsTyped d E z.variables y o_type) s form_typed) in
+      let w = both_typed d E z.variables 0 a c (connective d std.standard 0 (omega arith)) (transport (λ y. IsTyped d E z.variables y o_type) s form_typed) in
       let p = transport (IsPlainTerm b.next_type) s form_plain in
       let l = one_in_place a w.0 p.0.1 in
       let m = one_in_place c w.1 p.1 in
       stands_one n d P q z b E Es e es h (E ∷ E ∷ []) (in_place e (a ∷ c ∷ [])) (record { typed = (l.typed.0, (m.typed.0, tt)); plain = (l.plain.0, (m.plain.0, tt)); written = (l.written.0, (m.written.0, tt)) })
       (λ v g. let y = by_parts (connective.And a c) x tt v g in ((λ o. let j = y.0 o in (j.0, (j.1, tt))), (λ o. y.1 (o.0, o.1.0))))
 
-  either_stand : (a c : Term) → connective_of u ≡ connective.Or a c → StandFor n d P q (going (Typings n d P q z b E Es e es (E ∷ Es)) (with_goals b (e ∷ es))) (Go (with_goals b (in_place e (a ∷ []) ++ es)) ∷ Go (with_goals b (in_place e (c ∷ []) ++ es)) ∷ [])
+  either_stand : (a c : Term) → connective_of u ≡ connective.Or a c → StandFor L n d P q (going (Typings n d P q z b E Es e es (E ∷ Es)) (with_goals b (e ∷ es))) (Go (with_goals b (in_place e (a ∷ []) ++ es)) ∷ Go (with_goals b (in_place e (c ∷ []) ++ es)) ∷ [])
   either_stand a c x =
       let s : u ≡ two 1 [] a c = transport (λ f. Shape f u) x (form_shape u) in
-      let w = both_typed d E z.variables 1 a c (connective d std 1 (omega arith)) (transport (λ y. IsTyped d E z.variables y o_type) s form_typed) in
+      let w = both_typed d E z.variables 1 a c (connective d std.standard 1 (omega arith)) (transport (λ y. IsTyped d E z.variables y o_type) s form_typed) in
       let p = transport (IsPlainTerm b.next_type) s form_plain in
       stands_two n d P q z b E Es e es h (E ∷ []) (E ∷ []) (in_place e (a ∷ [])) (in_place e (c ∷ [])) (one_in_place a w.0 p.0.1) (one_in_place c w.1 p.1)
       (λ v g. let y = by_parts (connective.Or a c) x tt v g in ((λ o. elim (y.0 o) [ inl j ↦ inl (j, tt) | inr j ↦ inr (j, tt) ]), (λ o. y.1 (elim o [ inl j ↦ inl j.0 | inr j ↦ inr j.0 ]))))
 
-  every_stands : (T : Ty) (s : Term) → connective_of u ≡ connective.ForAll T s → StandFor n d P q (going (Typings n d P q z b E Es e es (E ∷ Es)) (with_goals b (e ∷ es))) (Go (with_goals b (at_next_level e (substitute (atom (eigen (suc e.level))) s) ∷ es)) ∷ [])
+  every_stands : (T : Ty) (s : Term) → connective_of u ≡ connective.ForAll T s → StandFor L n d P q (going (Typings n d P q z b E Es e es (E ∷ Es)) (with_goals b (e ∷ es))) (Go (with_goals b (at_next_level e (substitute (atom (eigen (suc e.level))) s) ∷ es)) ∷ [])
   every_stands T s x =
       let g = transport (λ f. Shape f u) x (form_shape u) in
       let F = E ++ T ∷ [] in
       let v = atom (eigen (suc e.level)) in
       let w = transport (λ y. IsTyped d E z.variables y o_type) g.1 form_typed in
       let p = transport (IsPlainTerm b.next_type) g.1 form_plain in
-      let a = function_typed d E z.variables 4 T g.0 (pi_type d std T) w in
+      let a = function_typed d E z.variables 4 T g.0 (pi_type d std.standard T) w in
       let a' = typed_wider d E F z.variables z.variables (prefix_more E (T ∷ [])) (more_none z.variables) g.0 _ a in
       let pl = next_place d z.variables b.next_type E e.assumed e.level T p.0.1 (place n d std P q z b E Es e es h) in
       let eig : IsTyped d F z.variables v T = record {
@@ -115,11 +115,11 @@ module _ (n : ℕ) (d : Declared) (std : IsStandard d) (P : List Clause) (q : Qu
       let y = by_parts (connective.ForAll T s) x tt c l in
       let j : suc (length E') ≡ suc e.level = ap suc (length_map (instance c.types) E ∙ h.entries.0.level) in
       let k' : map (instance c.types) F ≡ E' ++ instance c.types T ∷ [] = map_append (instance c.types) E (T ∷ []) in (
-        (λ m. (transport (λ G. Holds d G R c (substitute v s)) (sym k') (transport (λ f. Holds d (E' ++ instance c.types T ∷ []) R c (substitute (atom (eigen f)) s)) j (y.0 m)), tt)),
-        (λ m. y.1 (transport (λ f. Holds d (E' ++ instance c.types T ∷ []) R c (substitute (atom (eigen f)) s)) (sym j) (transport (λ G. Holds d G R c (substitute v s)) k' m.0))),
+        (λ m. (transport (λ G. Holds L d G R c (substitute v s)) (sym k') (transport (λ f. Holds L d (E' ++ instance c.types T ∷ []) R c (substitute (atom (eigen f)) s)) j (y.0 m)), tt)),
+        (λ m. y.1 (transport (λ f. Holds L d (E' ++ instance c.types T ∷ []) R c (substitute (atom (eigen f)) s)) (sym j) (transport (λ G. Holds L d G R c (substitute v s)) k' m.0))),
       ))
 
-  exist_stands : (T : Ty) (s : Term) → connective_of u ≡ connective.Exists T s → StandFor n d P q (going (Typings n d P q z b E Es e es (E ∷ Es)) (with_goals b (e ∷ es)))
+  exist_stands : (T : Ty) (s : Term) → connective_of u ≡ connective.Exists T s → StandFor L n d P q (going (Typings n d P q z b E Es e es (E ∷ Es)) (with_goals b (e ∷ es)))
       (Go (record { next = suc b.next; next_type = b.next_type; goals = in_place e (substitute (atom (logic b.next e.level)) s ∷ []) ++ es; types = b.types; values = b.values; pairs = b.pairs }) ∷ [])
   exist_stands T s x =
       let g = transport (λ f. Shape f u) x (form_shape u) in
@@ -127,7 +127,7 @@ module _ (n : ℕ) (d : Declared) (std : IsStandard d) (P : List Clause) (q : Qu
       let v = atom (logic b.next e.level) in
       let w = transport (λ y. IsTyped d E z.variables y o_type) g.1 form_typed in
       let p = transport (IsPlainTerm b.next_type) g.1 form_plain in
-      let a = function_typed d E z.variables 5 T g.0 (sigma_type d std T) w in
+      let a = function_typed d E z.variables 5 T g.0 (sigma_type d std.standard T) w in
       let a' = typed_wider d E E z.variables X (prefix_none E) (record { more = record { type = T; scope = E } ∷ []; is = refl }) g.0 _ a in
       let nt = new_typed n d std P q z b E Es e es h T in
       let np = new_place n d std P q z b E Es e es h T in
@@ -143,8 +143,8 @@ module _ (n : ℕ) (d : Declared) (std : IsStandard d) (P : List Clause) (q : Qu
   no_implication a c (inr x) = let p = transport (IsPlainTerm b.next_type) x form_plain in true≢false (sym p.0.0.0)
 
   -- what each form leaves
-  pub form_view : (height : ℕ) → (connective_of u ≡ connective.Atomic → IsRightView n d P q (going (Typings n d P q z b E Es e es (E ∷ Es)) (with_goals b (e ∷ es))) (look_atom unit_limit n P height e (with_goals b es) u (head_of u))) →
-      (f : Connective) → connective_of u ≡ f → IsRightView n d P q (going (Typings n d P q z b E Es e es (E ∷ Es)) (with_goals b (e ∷ es))) (look_form unit_limit n P height e (with_goals b es) u f)
+  pub form_view : (height : ℕ) → (connective_of u ≡ connective.Atomic → IsRightView L n d P q (going (Typings n d P q z b E Es e es (E ∷ Es)) (with_goals b (e ∷ es))) (look_atom unit_limit n P height e (with_goals b es) u (head_of u))) →
+      (f : Connective) → connective_of u ≡ f → IsRightView L n d P q (going (Typings n d P q z b E Es e es (E ∷ Es)) (with_goals b (e ∷ es))) (look_form unit_limit n P height e (with_goals b es) u f)
   form_view height atomic connective.True x = truth_stands x
   form_view height atomic (connective.And a c) x = both_stand a c x
   form_view height atomic (connective.Or a c) x = either_stand a c x

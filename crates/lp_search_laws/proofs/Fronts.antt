@@ -8,7 +8,7 @@ use Rattle.lp_model.specs.Pair.{Closing}
 use Rattle.lp_model.specs.Flat.{Written, Goal, Clause}
 use Rattle.lp_model.specs.Branch.{Entry, Branch, Go, entries}
 use Rattle.lp_model.specs.Answers.{Query, Variable, Instance, AnswerTyping, Closes}
-use Rattle.lp_model.specs.Proofs.{Declared}
+use Rattle.lp_model.specs.Proofs.{Declared, Leaves}
 use Rattle.lp_model.specs.Search.{with_goals}
 use Rattle.lp_search_laws.specs.Branches.{IsTypedEntry, AreTypedEntries, IsPlainEntry, ArePlainEntries, EntryHolds, AreProved, BranchTyping, IsTypedBranch, SolvesBranch, StandFor, going}
 use Rattle.lp_search_laws.specs.Written.{IsWrittenGoal, IsWrittenPlace, IsWrittenEntry}
@@ -25,17 +25,17 @@ plain_append k [] Es (f ∷ fs) es h g = absurd h
 plain_append k (F ∷ Fs) Es [] es h g = absurd h
 plain_append k (F ∷ Fs) Es (f ∷ fs) es h g = (h.0, plain_append k Fs Es fs es h.1 g)
 
-pub proved_append : (d : Declared) (P : List Clause) (c : Closing) (Fs Es : List (List Ty)) (fs es : List Entry) → AreProved d P c Fs fs → AreProved d P c Es es → AreProved d P c (Fs ++ Es) (fs ++ es)
-proved_append d P c [] Es [] es h k = k
-proved_append d P c [] Es (f ∷ fs) es h k = absurd h
-proved_append d P c (F ∷ Fs) Es [] es h k = absurd h
-proved_append d P c (F ∷ Fs) Es (f ∷ fs) es h k = (h.0, proved_append d P c Fs Es fs es h.1 k)
+pub proved_append : (L : Leaves) (d : Declared) (P : List Clause) (c : Closing) (Fs Es : List (List Ty)) (fs es : List Entry) → AreProved L d P c Fs fs → AreProved L d P c Es es → AreProved L d P c (Fs ++ Es) (fs ++ es)
+proved_append L d P c [] Es [] es h k = k
+proved_append L d P c [] Es (f ∷ fs) es h k = absurd h
+proved_append L d P c (F ∷ Fs) Es [] es h k = absurd h
+proved_append L d P c (F ∷ Fs) Es (f ∷ fs) es h k = (h.0, proved_append _ d P c Fs Es fs es h.1 k)
 
-pub proved_split : (d : Declared) (P : List Clause) (c : Closing) (V : List Variable) (Fs Es : List (List Ty)) (fs es : List Entry) → AreTypedEntries d V Fs fs → AreProved d P c (Fs ++ Es) (fs ++ es) → AreProved d P c Fs fs × AreProved d P c Es es
-proved_split d P c V [] Es [] es t h = (tt, h)
-proved_split d P c V [] Es (f ∷ fs) es t h = absurd t
-proved_split d P c V (F ∷ Fs) Es [] es t h = absurd t
-proved_split d P c V (F ∷ Fs) Es (f ∷ fs) es t h = let r = proved_split d P c V Fs Es fs es t.1 h.1 in ((h.0, r.0), r.1)
+pub proved_split : (L : Leaves) (d : Declared) (P : List Clause) (c : Closing) (V : List Variable) (Fs Es : List (List Ty)) (fs es : List Entry) → AreTypedEntries d V Fs fs → AreProved L d P c (Fs ++ Es) (fs ++ es) → AreProved L d P c Fs fs × AreProved L d P c Es es
+proved_split L d P c V [] Es [] es t h = (tt, h)
+proved_split L d P c V [] Es (f ∷ fs) es t h = absurd t
+proved_split L d P c V (F ∷ Fs) Es [] es t h = absurd t
+proved_split L d P c V (F ∷ Fs) Es (f ∷ fs) es t h = let r = proved_split _ d P c V Fs Es fs es t.1 h.1 in ((h.0, r.0), r.1)
 
 -- entries that may stand in the place of one
 pub record MayStand (d : Declared) (V : List Variable) (k : ℕ) (Fs : List (List Ty)) (fs : List Entry) : Type 0 where
@@ -50,9 +50,6 @@ module _ (n : ℕ) (d : Declared) (P : List Clause) (q : Query) (z : AnswerTypin
   abbrev pub Typed : Type 0
   Typed = IsTypedBranch n d q (Typings (E ∷ Es)) (with_goals b (e ∷ es))
 
-  abbrev pub Solved : Instance → Type 0
-  Solved i = SolvesBranch d P q i (Typings (E ∷ Es)) (with_goals b (e ∷ es))
-
   pub branch_stays : Typed → (Fs : List (List Ty)) (fs : List Entry) → MayStand d z.variables b.next_type Fs fs → IsTypedBranch n d q (Typings (Fs ++ Es)) (with_goals b (fs ++ es))
   branch_stays h Fs fs m = record {
     answer = h.answer;
@@ -66,33 +63,37 @@ module _ (n : ℕ) (d : Declared) (P : List Clause) (q : Query) (z : AnswerTypin
     stuck = h.stuck;
   }
 
-  goes_on : (i : Instance) (Fs : List (List Ty)) (fs : List Entry) (s : Solved i) → AreProved d P s.answer.closing Fs fs → SolvesBranch d P q i (Typings (Fs ++ Es)) (with_goals b (fs ++ es))
-  goes_on i Fs fs s p = record { query = s.query; answer = s.answer; proved = proved_append d P s.answer.closing Fs Es fs es p s.proved.1 }
+module _ (n : ℕ) (d : Declared) (P : List Clause) (q : Query) (z : AnswerTyping) (b : Branch) (E : List Ty) (Es : List (List Ty)) (e : Entry) (es : List Entry) where
+  abbrev pub Solved : Leaves → Instance → Type 0
+  Solved L i = SolvesBranch L d P q i (Typings n d P q z b E Es e es (E ∷ Es)) (with_goals b (e ∷ es))
 
-  comes_back : (i : Instance) (Fs : List (List Ty)) (fs : List Entry) → AreTypedEntries d z.variables Fs fs → (s : SolvesBranch d P q i (Typings (Fs ++ Es)) (with_goals b (fs ++ es))) → ((c : Closing) → Closes d z.variables c → AreProved d P c Fs fs → EntryHolds d P c E e) → Solved i
-  comes_back i Fs fs t s f =
-      let r = proved_split d P s.answer.closing z.variables Fs Es fs es t s.proved in
+  goes_on : {L : Leaves} (i : Instance) (Fs : List (List Ty)) (fs : List Entry) (s : Solved L i) → AreProved L d P s.answer.closing Fs fs → SolvesBranch L d P q i (Typings n d P q z b E Es e es (Fs ++ Es)) (with_goals b (fs ++ es))
+  goes_on {L} i Fs fs s p = record { query = s.query; answer = s.answer; proved = proved_append _ d P s.answer.closing Fs Es fs es p s.proved.1 }
+
+  comes_back : {L : Leaves} (i : Instance) (Fs : List (List Ty)) (fs : List Entry) → AreTypedEntries d z.variables Fs fs → (s : SolvesBranch L d P q i (Typings n d P q z b E Es e es (Fs ++ Es)) (with_goals b (fs ++ es))) → ((c : Closing) → Closes d z.variables c → AreProved L d P c Fs fs → EntryHolds L d P c E e) → Solved L i
+  comes_back {L} i Fs fs t s f =
+      let r = proved_split _ d P s.answer.closing z.variables Fs Es fs es t s.proved in
       record { query = s.query; answer = s.answer; proved = (f s.answer.closing s.answer.closes r.0, r.1) }
 
   -- one alternative
-  pub stands_one : Typed → (Fs : List (List Ty)) (fs : List Entry) → MayStand d z.variables b.next_type Fs fs →
-      ((c : Closing) → Closes d z.variables c → (EntryHolds d P c E e → AreProved d P c Fs fs) × (AreProved d P c Fs fs → EntryHolds d P c E e)) → StandFor n d P q (going (Typings (E ∷ Es)) (with_goals b (e ∷ es))) (Go (with_goals b (fs ++ es)) ∷ [])
-  stands_one h Fs fs m f = record {
-    typed = going (Typings (Fs ++ Es)) (with_goals b (fs ++ es)) ∷ [];
+  pub stands_one : {L : Leaves} → Typed n d P q z b E Es e es → (Fs : List (List Ty)) (fs : List Entry) → MayStand d z.variables b.next_type Fs fs →
+      ((c : Closing) → Closes d z.variables c → (EntryHolds L d P c E e → AreProved L d P c Fs fs) × (AreProved L d P c Fs fs → EntryHolds L d P c E e)) → StandFor L n d P q (going (Typings n d P q z b E Es e es (E ∷ Es)) (with_goals b (e ∷ es))) (Go (with_goals b (fs ++ es)) ∷ [])
+  stands_one {L} h Fs fs m f = record {
+    typed = going (Typings n d P q z b E Es e es (Fs ++ Es)) (with_goals b (fs ++ es)) ∷ [];
     is = refl;
-    ok = (branch_stays h Fs fs m, tt);
+    ok = (branch_stays n d P q z b E Es e es h Fs fs m, tt);
     keeps = λ i s. inl (goes_on i Fs fs s ((f s.answer.closing s.answer.closes).0 s.proved.0));
     gives = λ i s. elim s [ inl x ↦ comes_back i Fs fs m.typed x (λ c l p. (f c l).1 p) | inr x ↦ absurd x ];
   }
 
   -- two of them
-  pub stands_two : Typed → (Fs Gs : List (List Ty)) (fs gs : List Entry) → MayStand d z.variables b.next_type Fs fs → MayStand d z.variables b.next_type Gs gs →
-      ((c : Closing) → Closes d z.variables c → (EntryHolds d P c E e → AreProved d P c Fs fs ⊎ AreProved d P c Gs gs) × (AreProved d P c Fs fs ⊎ AreProved d P c Gs gs → EntryHolds d P c E e)) →
-      StandFor n d P q (going (Typings (E ∷ Es)) (with_goals b (e ∷ es))) (Go (with_goals b (fs ++ es)) ∷ Go (with_goals b (gs ++ es)) ∷ [])
-  stands_two h Fs Gs fs gs m l f = record {
-    typed = going (Typings (Fs ++ Es)) (with_goals b (fs ++ es)) ∷ going (Typings (Gs ++ Es)) (with_goals b (gs ++ es)) ∷ [];
+  pub stands_two : {L : Leaves} → Typed n d P q z b E Es e es → (Fs Gs : List (List Ty)) (fs gs : List Entry) → MayStand d z.variables b.next_type Fs fs → MayStand d z.variables b.next_type Gs gs →
+      ((c : Closing) → Closes d z.variables c → (EntryHolds L d P c E e → AreProved L d P c Fs fs ⊎ AreProved L d P c Gs gs) × (AreProved L d P c Fs fs ⊎ AreProved L d P c Gs gs → EntryHolds L d P c E e)) →
+      StandFor L n d P q (going (Typings n d P q z b E Es e es (E ∷ Es)) (with_goals b (e ∷ es))) (Go (with_goals b (fs ++ es)) ∷ Go (with_goals b (gs ++ es)) ∷ [])
+  stands_two {L} h Fs Gs fs gs m l f = record {
+    typed = going (Typings n d P q z b E Es e es (Fs ++ Es)) (with_goals b (fs ++ es)) ∷ going (Typings n d P q z b E Es e es (Gs ++ Es)) (with_goals b (gs ++ es)) ∷ [];
     is = refl;
-    ok = (branch_stays h Fs fs m, (branch_stays h Gs gs l, tt));
+    ok = (branch_stays n d P q z b E Es e es h Fs fs m, (branch_stays n d P q z b E Es e es h Gs gs l, tt));
     keeps = λ i s. elim ((f s.answer.closing s.answer.closes).0 s.proved.0) [ inl p ↦ inl (goes_on i Fs fs s p) | inr p ↦ inr (inl (goes_on i Gs gs s p)) ];
     gives = λ i s. elim s [
       | inl x ↦ comes_back i Fs fs m.typed x (λ c r p. (f c r).1 (inl p))
@@ -104,15 +105,15 @@ module _ (n : ℕ) (d : Declared) (P : List Clause) (q : Query) (z : AnswerTypin
 abbrev pub each_at : List Ty → List Goal → List (List Ty)
 each_at E gs = map (λ g. E) gs
 
-pub entries_hold : (d : Declared) (P : List Clause) (c : Closing) (E : List Ty) (A : List Clause) (W : Written) (level mark : ℕ) (gs : List Goal) →
-    EachOf (λ g. EntryHolds d P c E (record { goal = g; assumed = A; written = W; level = level; mark = mark })) gs → AreProved d P c (each_at E gs) (entries gs A W level mark)
-entries_hold d P c E A W l m [] h = tt
-entries_hold d P c E A W l m (g ∷ gs) h = (h.0, entries_hold d P c E A W l m gs h.1)
+pub entries_hold : (L : Leaves) (d : Declared) (P : List Clause) (c : Closing) (E : List Ty) (A : List Clause) (W : Written) (level mark : ℕ) (gs : List Goal) →
+    EachOf (λ g. EntryHolds L d P c E (record { goal = g; assumed = A; written = W; level = level; mark = mark })) gs → AreProved L d P c (each_at E gs) (entries gs A W level mark)
+entries_hold L d P c E A W l m [] h = tt
+entries_hold L d P c E A W l m (g ∷ gs) h = (h.0, entries_hold _ d P c E A W l m gs h.1)
 
-pub hold_entries : (d : Declared) (P : List Clause) (c : Closing) (E : List Ty) (A : List Clause) (W : Written) (level mark : ℕ) (gs : List Goal) →
-    AreProved d P c (each_at E gs) (entries gs A W level mark) → EachOf (λ g. EntryHolds d P c E (record { goal = g; assumed = A; written = W; level = level; mark = mark })) gs
-hold_entries d P c E A W l m [] h = tt
-hold_entries d P c E A W l m (g ∷ gs) h = (h.0, hold_entries d P c E A W l m gs h.1)
+pub hold_entries : (L : Leaves) (d : Declared) (P : List Clause) (c : Closing) (E : List Ty) (A : List Clause) (W : Written) (level mark : ℕ) (gs : List Goal) →
+    AreProved L d P c (each_at E gs) (entries gs A W level mark) → EachOf (λ g. EntryHolds L d P c E (record { goal = g; assumed = A; written = W; level = level; mark = mark })) gs
+hold_entries L d P c E A W l m [] h = tt
+hold_entries L d P c E A W l m (g ∷ gs) h = (h.0, hold_entries _ d P c E A W l m gs h.1)
 
 pub entries_stand : (d : Declared) (V : List Variable) (k : ℕ) (E : List Ty) (A : List Clause) (W : Written) (level mark : ℕ) (gs : List Goal) →
     EachOf (λ g. IsTypedEntry d V E (record { goal = g; assumed = A; written = W; level = level; mark = mark })) gs → EachOf (λ g. IsPlainEntry k E (record { goal = g; assumed = A; written = W; level = level; mark = mark })) gs → IsWrittenPlace A W → EachOf IsWrittenGoal gs → MayStand d V k (each_at E gs) (entries gs A W level mark)

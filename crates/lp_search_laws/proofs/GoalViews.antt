@@ -1,4 +1,5 @@
 -- What a flattened goal at the front of a branch leaves.
+use Rattle.lp_proof_laws.proofs.Uniform.Settings.{IsSetting}
 use Rattle.std.proofs.Common.{◌≡◌, ℕ, suc, List, [], ◌∷◌, ◌++◌, map, length, Some, ◌∙◌, refl, sym, ap, subst as transport, arith, inl, inr, true, false}
 use Rattle.std.specs.Prelude.{slice_get}
 use Rattle.lp_calculus.specs.Types.{Ty, instance}
@@ -6,16 +7,16 @@ use Rattle.lp_calculus.specs.Term.{Term, abs, atom, substitute, eigen, logic}
 use Rattle.lp_calculus.specs.Typing.{o_type, Typed}
 use Rattle.lp_calculus.proofs.Sigma.{instead}
 use Rattle.lp_model.specs.Pair.{Closing, closed}
-use Rattle.lp_standard.specs.Schemes.{IsStandard}
 use Rattle.lp_model.specs.Flat.{Written, Goal, Cut, Either, Forall, Assume, Not, Goals, Clause, Clauses, goal_list, clause_list, instantiate_goals, formula_of_goal, formula_of_goals, formula_of_clause, formula_of_clauses, Exists}
 use Rattle.lp_model.specs.Branch.{both_written, Entry, Branch, Go, Stop, entries}
 use Rattle.lp_model.specs.declared.ending.Ending.TheVariants.{OpenNot}
 use Rattle.lp_model.specs.Answers.{Query, Variable, AnswerTyping, over, type_of, IsPrefix}
-use Rattle.lp_model.specs.Proofs.{Declared}
+use Rattle.lp_model.specs.Proofs.{Declared, Leaves}
 use Rattle.lp_model.specs.Search.{with_goals}
 use Rattle.lp_proof_laws.proofs.Uniform.Roots.{connective, pi_type, sigma_type}
 use Rattle.lp_unify_laws.proofs.Scopes.{prefix_more, prefix_none, more_none, eigen_last, get_last, of_variable}
 use Rattle.lp_unify_laws.proofs.TypedInstances.{length_map, map_append}
+use Rattle.lp_search_laws.specs.Denials.{denied_branch}
 use Rattle.lp_search_laws.specs.Holds.{Holds, IsTyped}
 use Rattle.lp_search_laws.specs.Clauses.{clauses_at}
 use Rattle.lp_search_laws.specs.Branches.{IsGoal, EntryHolds, StandFor, DeniesTyped, BranchTyping, IsTypedBranch, no_query, going, stopping}
@@ -29,9 +30,9 @@ use Rattle.lp_search_laws.proofs.Written.{written_more}
 use Rattle.lp_search_laws.proofs.FlatViews.{IsPlaceOf, place_of, goals_stand, goals_proved, opened_stand, opened_proved, next_place, assumed_proved}
 use Rattle.lp_lemmas.proofs.Each.{each_append}
 use Rattle.lp_search_laws.specs.Branches.{IsAssumable}
-use Rattle.lp_model.specs.Proofs.{True}
+use Rattle.lp_model.specs.Proofs.{True, Fails}
 
-module _ (n : ℕ) (d : Declared) (std : IsStandard d) (P : List Clause) (q : Query) (z : AnswerTyping) (b : Branch) (E : List Ty) (Es : List (List Ty)) (e : Entry) (es : List Entry) (h : IsTypedHere n d P q z b E Es e es) where
+module _ {L : Leaves} (n : ℕ) (d : Declared) (std : IsSetting L d) (P : List Clause) (q : Query) (z : AnswerTyping) (b : Branch) (E : List Ty) (Es : List (List Ty)) (e : Entry) (es : List Entry) (h : IsTypedHere n d P q z b E Es e es) where
   abbrev pub V : List Variable
   V = z.variables
 
@@ -54,23 +55,23 @@ module _ (n : ℕ) (d : Declared) (std : IsStandard d) (P : List Clause) (q : Qu
   plain_as g i = transport (IsGoal b.next_type []) i h.goals.0.goal
 
   abbrev pub HoldsHere : Closing → Term → Type 0
-  HoldsHere c t = Holds d (map (instance c.types) E) (clauses_at P e.assumed c) c t
+  HoldsHere c t = Holds L d (map (instance c.types) E) (clauses_at P e.assumed c) c t
 
   -- the entry holds where its goal, as it is known, does
-  pub by_goal : (g : Goal) → e.goal ≡ g → (c : Closing) (A : Type 0) → (HoldsHere c (formula_of_goal g) → A) × (A → HoldsHere c (formula_of_goal g)) → (EntryHolds d P c E e → A) × (A → EntryHolds d P c E e)
+  pub by_goal : (g : Goal) → e.goal ≡ g → (c : Closing) (A : Type 0) → (HoldsHere c (formula_of_goal g) → A) × (A → HoldsHere c (formula_of_goal g)) → (EntryHolds L d P c E e → A) × (A → EntryHolds L d P c E e)
   by_goal g i c A r = ((λ p. r.0 (transport (λ x. HoldsHere c (formula_of_goal x)) i p)), (λ a. transport (λ x. HoldsHere c (formula_of_goal x)) (sym i) (r.1 a)))
 
-  pub cut_stands : e.goal ≡ Cut → StandFor n d P q (going (Typings n d P q z b E Es e es (E ∷ Es)) (with_goals b (e ∷ es))) (Go (with_goals b es) ∷ [])
+  pub cut_stands : e.goal ≡ Cut → StandFor L n d P q (going (Typings n d P q z b E Es e es (E ∷ Es)) (with_goals b (e ∷ es))) (Go (with_goals b es) ∷ [])
   cut_stands i = stands_one n d P q z b E Es e es h [] [] (record { typed = tt; plain = tt; written = tt }) (λ c l. by_goal Cut i c _ ((λ p. tt), (λ p. record { proof = True; holds = inr refl })))
 
-  pub either_stands : (l r : Goals) → e.goal ≡ Either l r → StandFor n d P q (going (Typings n d P q z b E Es e es (E ∷ Es)) (with_goals b (e ∷ es))) (Go (with_goals b (entries (goal_list l) e.assumed e.written e.level e.mark ++ es)) ∷ Go (with_goals b (entries (goal_list r) e.assumed e.written e.level e.mark ++ es)) ∷ [])
+  pub either_stands : (l r : Goals) → e.goal ≡ Either l r → StandFor L n d P q (going (Typings n d P q z b E Es e es (E ∷ Es)) (with_goals b (e ∷ es))) (Go (with_goals b (entries (goal_list l) e.assumed e.written e.level e.mark ++ es)) ∷ Go (with_goals b (entries (goal_list r) e.assumed e.written e.level e.mark ++ es)) ∷ [])
   either_stands l r i =
-      let t = both_typed d E V 1 (formula_of_goals l) (formula_of_goals r) (connective d std 1 (omega arith)) (typed_as (Either l r) i) in
+      let t = both_typed d E V 1 (formula_of_goals l) (formula_of_goals r) (connective d std.standard 1 (omega arith)) (typed_as (Either l r) i) in
       let w = plain_as (Either l r) i in
       let v = written_as (Either l r) i in
       stands_two n d P q z b E Es e es h (each_at E (goal_list l)) (each_at E (goal_list r)) (entries (goal_list l) e.assumed e.written e.level e.mark) (entries (goal_list r) e.assumed e.written e.level e.mark)
-      (goals_stand d std V k E e.assumed e.written e.level e.mark place written_place l t.0 w.0 v.0)
-      (goals_stand d std V k E e.assumed e.written e.level e.mark place written_place r t.1 w.1 v.1)
+      (goals_stand d std.standard V k E e.assumed e.written e.level e.mark place written_place l t.0 w.0 v.0)
+      (goals_stand d std.standard V k E e.assumed e.written e.level e.mark place written_place r t.1 w.1 v.1)
       (λ c s.
       let o = either_holds d std (map (instance c.types) E) (clauses_at P e.assumed c) c (formula_of_goals l) (formula_of_goals r) (formula_at d V c s E _ (typed_as (Either l r) i)) in
       let a = goals_proved d std P V c s E e.assumed e.written e.level e.mark l t.0 in
@@ -81,12 +82,12 @@ module _ (n : ℕ) (d : Declared) (std : IsStandard d) (P : List Clause) (q : Qu
       ))
 
   pub forall_stands : (T : Ty) (gs : Goals) (f : ℕ → Term) → ((i : ℕ) → f i ≡ instead (atom (eigen (suc e.level))) i) → e.goal ≡ Forall T gs →
-      StandFor n d P q (going (Typings n d P q z b E Es e es (E ∷ Es)) (with_goals b (e ∷ es))) (Go (with_goals b (entries (goal_list (instantiate_goals f gs)) e.assumed e.written (suc e.level) e.mark ++ es)) ∷ [])
+      StandFor L n d P q (going (Typings n d P q z b E Es e es (E ∷ Es)) (with_goals b (e ∷ es))) (Go (with_goals b (entries (goal_list (instantiate_goals f gs)) e.assumed e.written (suc e.level) e.mark ++ es)) ∷ [])
   forall_stands T gs f a i =
       let F = E ++ T ∷ [] in
       let u = atom (eigen (suc e.level)) in
       let w = plain_as (Forall T gs) i in
-      let s = function_typed d E V 4 T (abs (formula_of_goals gs)) (pi_type d std T) (typed_as (Forall T gs) i) in
+      let s = function_typed d E V 4 T (abs (formula_of_goals gs)) (pi_type d std.standard T) (typed_as (Forall T gs) i) in
       let s' = typed_wider d E F V V (prefix_more E (T ∷ [])) (more_none V) (abs (formula_of_goals gs)) _ s in
       let pl = next_place d V k E e.assumed e.level T (w.0, tt) place in
       let eig : IsTyped d F V u T = record {
@@ -95,7 +96,7 @@ module _ (n : ℕ) (d : Declared) (std : IsStandard d) (P : List Clause) (q : Qu
       } in
       let t = opened_typed d F V T (abs (formula_of_goals gs)) u s' eig in
       stands_one n d P q z b E Es e es h (each_at F (goal_list (instantiate_goals f gs))) (entries (goal_list (instantiate_goals f gs)) e.assumed e.written (suc e.level) e.mark)
-      (opened_stand d std V k F e.assumed e.written (suc e.level) e.mark pl written_place true u f a tt (λ x. tt) gs t w.1 (written_as (Forall T gs) i))
+      (opened_stand d std.standard V k F e.assumed e.written (suc e.level) e.mark pl written_place true u f a tt (λ x. tt) gs t w.1 (written_as (Forall T gs) i))
       (λ c l.
       let E' = map (instance c.types) E in
       let R = clauses_at P e.assumed c in
@@ -103,11 +104,11 @@ module _ (n : ℕ) (d : Declared) (std : IsStandard d) (P : List Clause) (q : Qu
       let r = opened_proved d std P V c l F e.assumed e.written (suc e.level) e.mark u f a gs t in
       let x : suc (length E') ≡ suc e.level = ap suc (length_map (instance c.types) E ∙ h.entries.0.level) in
       let y : map (instance c.types) F ≡ E' ++ instance c.types T ∷ [] = map_append (instance c.types) E (T ∷ []) in
-      let m = transport (λ j. Holds d (E' ++ instance c.types T ∷ []) R c (substitute (atom (eigen j)) (formula_of_goals gs))) x in
-      let m' = transport (λ j. Holds d (E' ++ instance c.types T ∷ []) R c (substitute (atom (eigen j)) (formula_of_goals gs))) (sym x) in
+      let m = transport (λ j. Holds L d (E' ++ instance c.types T ∷ []) R c (substitute (atom (eigen j)) (formula_of_goals gs))) x in
+      let m' = transport (λ j. Holds L d (E' ++ instance c.types T ∷ []) R c (substitute (atom (eigen j)) (formula_of_goals gs))) (sym x) in
       by_goal (Forall T gs) i c _ (
-        (λ p. r.0 (transport (λ G. Holds d G R c (substitute u (formula_of_goals gs))) (sym y) (m (o.0 p)))),
-        (λ p. o.1 (m' (transport (λ G. Holds d G R c (substitute u (formula_of_goals gs))) y (r.1 p)))),
+        (λ p. r.0 (transport (λ G. Holds L d G R c (substitute u (formula_of_goals gs))) (sym y) (m (o.0 p)))),
+        (λ p. o.1 (m' (transport (λ G. Holds L d G R c (substitute u (formula_of_goals gs))) y (r.1 p)))),
       ))
 
   -- behind a negated goal
@@ -122,11 +123,11 @@ module _ (n : ℕ) (d : Declared) (std : IsStandard d) (P : List Clause) (q : Qu
   inner_typing gs = record { answer = record { variables = z.variables; pairs = [] }; eigens = each_at E (goal_list gs) }
 
   pub inner_goals_typed : (ws : Written) (gs : Goals) → e.goal ≡ Not ws gs → IsTyped d E z.variables (formula_of_goals gs) o_type
-  inner_goals_typed ws gs i = argument_typed d std E z.variables (formula_of_goals gs) (typed_as (Not ws gs) i)
+  inner_goals_typed ws gs i = argument_typed d std.standard E z.variables (formula_of_goals gs) (typed_as (Not ws gs) i)
 
   pub inner_typed : (ws : Written) (gs : Goals) → e.goal ≡ Not ws gs → IsTypedBranch n d no_query (inner_typing gs) (inner_branch gs)
   inner_typed ws gs i =
-      let m = goals_stand d std z.variables b.next_type E e.assumed e.written e.level 0 place written_place gs (inner_goals_typed ws gs i) (plain_as (Not ws gs) i) (written_as (Not ws gs) i).1 in
+      let m = goals_stand d std.standard z.variables b.next_type E e.assumed e.written e.level 0 place written_place gs (inner_goals_typed ws gs i) (plain_as (Not ws gs) i) (written_as (Not ws gs) i).1 in
       record {
         answer = record { variables = h.answer.variables; types = refl; values = tt; pairs = tt };
         entries = m.typed;
@@ -139,11 +140,29 @@ module _ (n : ℕ) (d : Declared) (std : IsStandard d) (P : List Clause) (q : Qu
         stuck = tt;
       }
 
-  pub denied_stands : (ws : Written) (gs : Goals) → e.goal ≡ Not ws gs → DeniesTyped n d q (Go (inner_branch gs)) (Go (with_goals b es) ∷ [])
-  denied_stands ws gs i = record { typing = inner_typing gs; branch = inner_branch gs; is = refl; begins = inner_typed ws gs i; rest_typing = Typings n d P q z b E Es e es Es; rest = with_goals b es; goes_on = refl; after = rest_typed }
+  pub denied_stands : (ws : Written) (gs : Goals) → e.goal ≡ Not ws gs → DeniesTyped L n d P q (going (Typings n d P q z b E Es e es (E ∷ Es)) (with_goals b (e ∷ es))) (Go (inner_branch gs)) (Go (with_goals b es) ∷ [])
+  denied_stands ws gs i = record {
+    variables = z.variables;
+    eigens = E;
+    next_type = b.next_type;
+    goals = gs;
+    assumed = e.assumed;
+    written = e.written;
+    is = λ j. Go (denied_branch (sym h.answer.variables j) b.next_type gs e.assumed e.written (sym h.entries.0.level j));
+    begins = transport (λ m. IsTypedBranch n d no_query (inner_typing gs) (denied_branch m b.next_type gs e.assumed e.written (length E))) (sym h.answer.variables)
+        (transport (λ m. IsTypedBranch n d no_query (inner_typing gs) (denied_branch b.next b.next_type gs e.assumed e.written m)) (sym h.entries.0.level) (inner_typed ws gs i));
+    rest_typing = Typings n d P q z b E Es e es Es;
+    rest = with_goals b es;
+    goes_on = refl;
+    after = rest_typed;
+    gives = λ leaf j s.
+        let c = s.answer.closing in
+        let f = leaf c s.answer.closes in
+        record { query = s.query; answer = s.answer; proved = (transport (λ x. HoldsHere c (formula_of_goal x)) (sym i) (record { proof = Fails f.0; holds = (closed c (formula_of_goals gs), refl, f.1) }), s.proved) };
+  }
 
   -- one in which a variable stands stops the search
-  pub open_stands : StandFor n d P q (going (Typings n d P q z b E Es e es (E ∷ Es)) (with_goals b (e ∷ es))) (Stop OpenNot ∷ [])
+  pub open_stands : StandFor L n d P q (going (Typings n d P q z b E Es e es (E ∷ Es)) (with_goals b (e ∷ es))) (Stop OpenNot ∷ [])
   open_stands = record {
     typed = stopping OpenNot (going (Typings n d P q z b E Es e es (E ∷ Es)) (with_goals b (e ∷ es))) ∷ [];
     is = refl;
@@ -152,19 +171,19 @@ module _ (n : ℕ) (d : Declared) (std : IsStandard d) (P : List Clause) (q : Qu
     gives = λ i s. elim s [ inl x ↦ x | inr x ↦ absurd x ];
   }
 
-  pub assume_stands : (ws : Written) (cs : Clauses) (gs : Goals) → e.goal ≡ Assume ws cs gs → StandFor n d P q (going (Typings n d P q z b E Es e es (E ∷ Es)) (with_goals b (e ∷ es))) (Go (with_goals b (entries (goal_list gs) (clause_list cs ++ e.assumed) (both_written ws e.written) e.level e.mark ++ es)) ∷ [])
+  pub assume_stands : (ws : Written) (cs : Clauses) (gs : Goals) → e.goal ≡ Assume ws cs gs → StandFor L n d P q (going (Typings n d P q z b E Es e es (E ∷ Es)) (with_goals b (e ∷ es))) (Go (with_goals b (entries (goal_list gs) (clause_list cs ++ e.assumed) (both_written ws e.written) e.level e.mark ++ es)) ∷ [])
   assume_stands ws cs gs i =
-      let t = both_typed d E V 2 (formula_of_clauses cs) (formula_of_goals gs) (connective d std 2 (omega arith)) (typed_as (Assume ws cs gs) i) in
+      let t = both_typed d E V 2 (formula_of_clauses cs) (formula_of_goals gs) (connective d std.standard 2 (omega arith)) (typed_as (Assume ws cs gs) i) in
       let w = plain_as (Assume ws cs gs) i in
       let v = written_as (Assume ws cs gs) i in
       let A = clause_list cs ++ e.assumed in
       let pl : IsPlaceOf d z.variables b.next_type E (clause_list cs ++ e.assumed) e.level = record {
         is_level = place.is_level;
         below = place.below;
-        typed = each_append (λ c. IsTyped d E z.variables (formula_of_clause c) o_type) (clause_list cs) e.assumed (clauses_typed d std E z.variables cs t.0) place.typed;
+        typed = each_append (λ c. IsTyped d E z.variables (formula_of_clause c) o_type) (clause_list cs) e.assumed (clauses_typed d std.standard E z.variables cs t.0) place.typed;
         plain = each_append (IsAssumable b.next_type) (clause_list cs) e.assumed (clauses_each b.next_type cs w.0) place.plain;
       } in
-      stands_one n d P q z b E Es e es h (each_at E (goal_list gs)) (entries (goal_list gs) A (both_written ws e.written) e.level e.mark) (goals_stand d std V k E A (both_written ws e.written) e.level e.mark pl (written_more written_place ws cs v.0 v.1) gs t.1 w.1 v.2)
+      stands_one n d P q z b E Es e es h (each_at E (goal_list gs)) (entries (goal_list gs) A (both_written ws e.written) e.level e.mark) (goals_stand d std.standard V k E A (both_written ws e.written) e.level e.mark pl (written_more written_place ws cs v.0 v.1 v.3) gs t.1 w.1 v.2)
       (λ c l.
       let E' = map (instance c.types) E in
       let o = implied_holds d std E' (clauses_at P e.assumed c) c (formula_of_clauses cs) (formula_of_goals gs) (formula_at d V c l E _ (typed_as (Assume ws cs gs) i)) in
@@ -188,15 +207,15 @@ module _ (n : ℕ) (d : Declared) (std : IsStandard d) (P : List Clause) (q : Qu
     new_place = record { is_level = place.is_level; below = place.below; typed = clauses_more d E z.variables (z.variables ++ record { type = T; scope = E } ∷ []) (record { more = record { type = T; scope = E } ∷ []; is = refl }) e.assumed place.typed; plain = place.plain }
 
   pub exists_stands : (T : Ty) (gs : Goals) (f : ℕ → Term) → ((i : ℕ) → f i ≡ instead (atom (logic b.next e.level)) i) → e.goal ≡ Exists T gs →
-      StandFor n d P q (going (Typings n d P q z b E Es e es (E ∷ Es)) (with_goals b (e ∷ es))) (Go (record { next = suc b.next; next_type = b.next_type; goals = entries (goal_list (instantiate_goals f gs)) e.assumed e.written e.level e.mark ++ es; types = b.types; values = b.values; pairs = b.pairs }) ∷ [])
+      StandFor L n d P q (going (Typings n d P q z b E Es e es (E ∷ Es)) (with_goals b (e ∷ es))) (Go (record { next = suc b.next; next_type = b.next_type; goals = entries (goal_list (instantiate_goals f gs)) e.assumed e.written e.level e.mark ++ es; types = b.types; values = b.values; pairs = b.pairs }) ∷ [])
   exists_stands T gs f a i =
       let u = atom (logic b.next e.level) in
       let X = z.variables ++ record { type = T; scope = E } ∷ [] in
       let w = plain_as (Exists T gs) i in
-      let s = function_typed d E V 5 T (abs (formula_of_goals gs)) (sigma_type d std T) (typed_as (Exists T gs) i) in
+      let s = function_typed d E V 5 T (abs (formula_of_goals gs)) (sigma_type d std.standard T) (typed_as (Exists T gs) i) in
       let s' = typed_wider d E E V X (prefix_none E) (record { more = record { type = T; scope = E } ∷ []; is = refl }) (abs (formula_of_goals gs)) _ s in
       let t = opened_typed d E X T (abs (formula_of_goals gs)) u s' (new_typed T) in
       stands_new n d P q z b E Es e es h T w.0 (substitute u (formula_of_goals gs)) (each_at E (goal_list (instantiate_goals f gs))) (entries (goal_list (instantiate_goals f gs)) e.assumed e.written e.level e.mark)
-      (opened_stand d std X k E e.assumed e.written e.level e.mark (new_place T) written_place false u f a tt (λ x. absurd (cc)) gs t w.1 (written_as (Exists T gs) i))
+      (opened_stand d std.standard X k E e.assumed e.written e.level e.mark (new_place T) written_place false u f a tt (λ x. absurd (cc)) gs t w.1 (written_as (Exists T gs) i))
       (λ c l. by_goal (Exists T gs) i c _ (sigma_holds d std (map (instance c.types) E) (clauses_at P e.assumed c) c b.next e.level T (abs (formula_of_goals gs)) (unused_new d E V b.next e.level (sym h.answer.variables) (abs (formula_of_goals gs)) _ s.typed) (formula_at d V c l E _ (typed_as (Exists T gs) i))))
       (λ c l. opened_proved d std P X c l E e.assumed e.written e.level e.mark u f a gs t)

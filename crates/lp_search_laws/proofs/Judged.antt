@@ -16,7 +16,8 @@ use Rattle.lp_model.specs.Flat.{Not, Written, Goals, Clause, formula_of_goals}
 use Rattle.lp_model.specs.Branch.{Entry, Branch, Answer, Go}
 use Rattle.lp_model.specs.Search.{with_goals, look, has_no_pairs}
 use Rattle.lp_model.specs.Answers.{Query, Variable, AnswerTyping, Instance, Closes, AreTypedValues, ConvertEach, IsInstance, TypedAnswer, IsWellFormed}
-use Rattle.lp_model.specs.Proofs.{Declared, IsWitness}
+use Rattle.lp_model.specs.Proofs.{Declared, IsWitness, no_leaf}
+use Rattle.lp_proof_laws.proofs.Uniform.Settings.{without_leaves}
 use Rattle.lp_search_laws.specs.Holds.{Holds, IsTyped}
 use Rattle.lp_search_laws.specs.Clauses.{clauses_at}
 use Rattle.lp_search_laws.specs.Right.{IsRightOf}
@@ -65,36 +66,36 @@ no_typed_values d V (t ∷ ts) h = absurd h
 module _ (n : ℕ) (d : Declared) (std : IsStandard d) (P : List Clause) (program : EachOf (IsProgramTyped d) P) (pure : EachOf IsUnnegatedClause P) (q : Query) (z : AnswerTyping) (b : Branch) (E : List Ty) (Es : List (List Ty)) (e : Entry) (es : List Entry)
     (h : IsTypedBranch n d q (record { answer = z; eigens = E ∷ Es }) (with_goals b (e ∷ es))) (ws : Written) (gs : Goals) (is : e.goal ≡ Not ws gs) (unnegated : AreUnnegatedGoals gs) (assumed : EachOf IsUnnegatedClause e.assumed) where
   abbrev pub first : Branch
-  first = inner_branch n d std P q z b E Es e es h gs
+  first = inner_branch n d (without_leaves d std) P q z b E Es e es h gs
 
   abbrev pub typing : BranchTyping
-  typing = inner_typing n d std P q z b E Es e es h gs
+  typing = inner_typing n d (without_leaves d std) P q z b E Es e es h gs
 
   goals_typed : IsTyped d E z.variables (formula_of_goals gs) o_type
-  goals_typed = inner_goals_typed n d std P q z b E Es e es h ws gs is
+  goals_typed = inner_goals_typed n d (without_leaves d std) P q z b E Es e es h ws gs is
 
   first_typed : IsTypedBranch n d no_query typing first
-  first_typed = inner_typed n d std P q z b E Es e es h ws gs is
+  first_typed = inner_typed n d (without_leaves d std) P q z b E Es e es h ws gs is
 
-  right : (j m steps : ℕ) → IsRightOf d P no_query typing first (run (look unit_limit n P) j m (starts (Go first) steps 1))
+  right : (j m steps : ℕ) → IsRightOf no_leaf d P no_query typing first (run (look unit_limit n P) j m (starts (Go first) steps 1))
   right j m steps = each_run n d std P program no_query pure typing first first_typed (goals_entries gs e.assumed e.written e.level 0 unnegated assumed) j m steps 1
 
   -- a closing with which the goals are provable
   abbrev pub HoldsHere : Closing → Type 0
-  HoldsHere c = Holds d (map (instance c.types) E) (clauses_at P e.assumed c) c (formula_of_goals gs)
+  HoldsHere c = Holds no_leaf d (map (instance c.types) E) (clauses_at P e.assumed c) c (formula_of_goals gs)
 
   query : IsQueryInstance d no_query no_values
   query = record { types = refl; types_closed = tt; values = tt }
 
-  solved : (c : Closing) → Closes d z.variables c → HoldsHere c → SolvesBranch d P no_query no_values typing first
+  solved : (c : Closing) → Closes d z.variables c → HoldsHere c → SolvesBranch no_leaf d P no_query no_values typing first
   solved c l p = record {
     query = query;
     answer = record { closing = c; closes = l; solves = tt; types = refl; values = tt };
-    proved = (goals_proved d std P z.variables c l E e.assumed e.written e.level 0 gs goals_typed).0 p;
+    proved = (goals_proved d (without_leaves d std) P z.variables c l E e.assumed e.written e.level 0 gs goals_typed).0 p;
   }
 
-  holds : SolvesBranch d P no_query no_values typing first → (c : Closing) × Closes d z.variables c × HoldsHere c
-  holds s = (s.answer.closing, s.answer.closes, (goals_proved d std P z.variables s.answer.closing s.answer.closes E e.assumed e.written e.level 0 gs goals_typed).1 s.proved)
+  holds : SolvesBranch no_leaf d P no_query no_values typing first → (c : Closing) × Closes d z.variables c × HoldsHere c
+  holds s = (s.answer.closing, s.answer.closes, (goals_proved d (without_leaves d std) P z.variables s.answer.closing s.answer.closes E e.assumed e.written e.level 0 gs goals_typed).1 s.proved)
 
   no_answers : (xs : List TypedAnswer) → map (λ a. a.answer) xs ≡ [] → AnyOf (λ a. IsInstance d a.typing a.answer no_values) xs → ⊥
   no_answers [] e h = h
@@ -115,7 +116,7 @@ module _ (n : ℕ) (d : Declared) (std : IsStandard d) (P : List Clause) (progra
       }
 
   first_sound : (a : Answer) (more : List Answer) (xs : List TypedAnswer) → map (λ x. x.answer) xs ≡ a ∷ more → has_no_pairs a ≡ true → EachOf (λ x. IsWellFormed d no_query x.typing x.answer) xs →
-      EachOf (λ x. (i : Instance) → IsQueryInstance d no_query i → IsInstance d x.typing x.answer i → SolvesBranch d P no_query i typing first) xs → SolvesBranch d P no_query no_values typing first
+      EachOf (λ x. (i : Instance) → IsQueryInstance d no_query i → IsInstance d x.typing x.answer i → SolvesBranch no_leaf d P no_query i typing first) xs → SolvesBranch no_leaf d P no_query no_values typing first
   first_sound a more [] e f w s = absurd (cc)
   first_sound a more (x ∷ xs) e f w s = let q : x.answer ≡ a = cc in s.0 no_values query (an_instance x w.0 (ap has_no_pairs q ∙ f))
 

@@ -10,7 +10,7 @@ use Rattle.lp_calculus.proofs.Fills.{within_more}
 use Rattle.lp_calculus.proofs.Steps.{converts_on, converts_is, converts_sym, converts_atoms}
 use Rattle.lp_model.specs.Pair.{Pair, Closing, closed}
 use Rattle.lp_model.specs.Flatten.{ClauseFormula}
-use Rattle.lp_model.specs.Proofs.{Declared, IsFormula}
+use Rattle.lp_model.specs.Proofs.{Declared, IsFormula, Leaves}
 use Rattle.lp_model.specs.Answers.{Variable}
 use Rattle.lp_unify_laws.specs.Solutions.{through_bindings, KeptClosing}
 use Rattle.lp_unify_laws.proofs.Scopes.{variable_of}
@@ -71,8 +71,8 @@ terms_go_through d E V W c bs ps k t T h = goes d V W c bs ps k t (variables t (
     variables : (t : Term) → Within (IsAtomOf d E V) 0 t → Within (IsVariableOf V) 0 t
     variables t w = within_more (IsAtomOf d E V) (IsVariableOf V) 0 0 (variable_atom d E V) (omega arith) t w
 
-pub goals_go_through : (d : Declared) (E F : List Ty) (P : List ClauseFormula) (V W : List Variable) (c : Closing) (bs : List Binding) (ps : List Pair) → (k : KeptClosing d V W c bs ps) → (t : Term) (T : Ty) → IsTyped d E V t T → IsFormula d F (closed c t) → IsFormula d F (closed k.closing (put_all bs t)) →
-    (Holds d F P c t → Holds d F P k.closing (put_all bs t)) × (Holds d F P k.closing (put_all bs t) → Holds d F P c t)
-goals_go_through d E F P V W c bs ps k t T h f g =
+pub goals_go_through : {L : Leaves} (d : Declared) (E F : List Ty) (P : List ClauseFormula) (V W : List Variable) (c : Closing) (bs : List Binding) (ps : List Pair) → (k : KeptClosing d V W c bs ps) → (t : Term) (T : Ty) → IsTyped d E V t T → IsFormula d F (closed c t) → IsFormula d F (closed k.closing (put_all bs t)) →
+    (Holds L d F P c t → Holds L d F P k.closing (put_all bs t)) × (Holds L d F P k.closing (put_all bs t) → Holds L d F P c t)
+goals_go_through {L} d E F P V W c bs ps k t T h f g =
     let e = terms_go_through d E V W c bs ps k t T h in
     ((λ p. by_conversion d F P (closed k.closing (put_all bs t)) (closed c t) f e p), (λ p. by_conversion d F P (closed c t) (closed k.closing (put_all bs t)) g (converts_sym e) p))

@@ -71,11 +71,15 @@ pub mod FullViews
 pub mod Comes
 pub mod Limits
 pub mod Refuted
+pub mod FailedSearches
+pub mod SoundRuns
+pub mod Sound
 pub mod Tested
 pub mod Unnegated
 pub mod Stands
 pub mod Written
 pub mod WrittenBehind
 pub mod WrittenFlat
+pub mod Origins
 pub mod UnnegatedFlat
 pub mod UnnegatedStarts

@@ -24,7 +24,7 @@ use Rattle.lp_model.specs.Index.{instantiate, at}
 use Rattle.lp_model.specs.Pair.{Closing, closed, SolvesAll}
 use Rattle.lp_model.specs.Search.{slots_of, pairs_of}
 use Rattle.lp_model.specs.Flatten.{ClauseFormula}
-use Rattle.lp_model.specs.Proofs.{Declared, under, IsFormula, IsWitness, PlainlyProvable}
+use Rattle.lp_model.specs.Proofs.{Declared, under, IsFormula, IsWitness, Leaves, ProvableBy}
 use Rattle.lp_model.specs.Answers.{Variable, Closes}
 use Rattle.lp_unify_laws.specs.TypeSolutions.{Unifies}
 use Rattle.lp_unify_laws.proofs.Scopes.{get_append, got_before}
@@ -244,10 +244,10 @@ closes_front d V K z h = record { types = h.types; terms = λ x v e. h.terms x v
 pub within_values : (d : Declared) (E : List Ty) (V : List Variable) (vs : List Ty) (z : Closing) → Closes d V z → (u : Term) → Within (IsAtomOf d E V) (length vs) u → Within (IsClosedAtom (length (map (instance z.types) E))) (length (map (instance z.types) vs)) (closed z u)
 within_values d E V vs z cl u w = transport (λ n. Within (IsClosedAtom (length (map (instance z.types) E))) n (closed z u)) (sym (length_map (instance z.types) vs)) (closed_within d E V z cl (length vs) u w)
 
-pub gives_values : (d : Declared) (E : List Ty) (V : List Variable) (level : ℕ) → length E ≡ level → (P : List ClauseFormula) (vs : List Ty) (h b t : Term) → IsMatch d E V vs h b t → (z : Closing) → Closes d (V ++ new_variables E vs) z → Unifies z.types (type_pairs (head_of t) (head_of h)) →
-    SolvesAll z (pairs_of (σ_of V level h t) level [] (arguments h) (arguments t)) → PlainlyProvable d (map (instance z.types) E) P (closed z (instantiate (σ_of V level h t) b)) →
-    (ws : List Term) × AreWitnessesAt d (map (instance z.types) E) ws (map (instance z.types) vs) × Converts (instantiate (at ws) (closed z h)) (closed z t) × PlainlyProvable d (map (instance z.types) E) P (instantiate (at ws) (closed z b))
-gives_values d E V level l P vs h b t m z cl' u s p =
+pub gives_values : {L : Leaves} (d : Declared) (E : List Ty) (V : List Variable) (level : ℕ) → length E ≡ level → (P : List ClauseFormula) (vs : List Ty) (h b t : Term) → IsMatch d E V vs h b t → (z : Closing) → Closes d (V ++ new_variables E vs) z → Unifies z.types (type_pairs (head_of t) (head_of h)) →
+    SolvesAll z (pairs_of (σ_of V level h t) level [] (arguments h) (arguments t)) → ProvableBy L d (map (instance z.types) E) P (closed z (instantiate (σ_of V level h t) b)) →
+    (ws : List Term) × AreWitnessesAt d (map (instance z.types) E) ws (map (instance z.types) vs) × Converts (instantiate (at ws) (closed z h)) (closed z t) × ProvableBy L d (map (instance z.types) E) P (instantiate (at ws) (closed z b))
+gives_values {L} d E V level l P vs h b t m z cl' u s p =
     let F = map (instance z.types) E in
     let Ts = map (instance z.types) vs in
     let cl = closes_front d V (new_variables E vs) z cl' in
@@ -270,13 +270,13 @@ gives_values d E V level l P vs h b t m z cl' u s p =
     let conv : Converts (instantiate φ (closed z h)) (closed z t) =
     converts_on (converts_is q) (converts_on (converts_spine (converts_each (λ x. closed z (instantiate σ x)) (closed z) (arguments h) (arguments t) g.0 w) (converts_is e)) (converts_is (sym (spelt z t)))) in
     let f = instantiated_formula d F Ts φ given (closed z b) (closed_typed d E V z cl vs b o_type m.body m.body_scoped) wb in
-    let r = transport (PlainlyProvable d F P) (closed_instantiate d E V z cl σ (length vs) b ab) p in
+    let r = transport (ProvableBy L d F P) (closed_instantiate d E V z cl σ (length vs) b ab) p in
     (ws, given_witnesses d F φ Ts given, converts_on (by_values (closed z h) wh) conv, by_conversion d F P (instantiate (at ws) (closed z b)) (instantiate φ (closed z b)) f (converts_sym (by_values (closed z b) wb)) r)
 
-pub keeps_values : (d : Declared) (E : List Ty) (V : List Variable) (level : ℕ) (P : List ClauseFormula) (vs : List Ty) (h b t : Term) → IsMatch d E V vs h b t → (z : Closing) → Closes d V z → (ws : List Term) → ((k : ℕ) → z.terms (length V + k) level ≡ at ws k) → AreWitnessesAt d (map (instance z.types) E) ws (map (instance z.types) vs) →
-    Converts (instantiate (at ws) (closed z h)) (closed z t) → PlainlyProvable d (map (instance z.types) E) P (instantiate (at ws) (closed z b)) →
-    Unifies z.types (type_pairs (head_of t) (head_of h)) × SolvesAll z (pairs_of (σ_of V level h t) level [] (arguments h) (arguments t)) × PlainlyProvable d (map (instance z.types) E) P (closed z (instantiate (σ_of V level h t) b))
-keeps_values d E V level P vs h b t m z cl ws new wit c p =
+pub keeps_values : {L : Leaves} (d : Declared) (E : List Ty) (V : List Variable) (level : ℕ) (P : List ClauseFormula) (vs : List Ty) (h b t : Term) → IsMatch d E V vs h b t → (z : Closing) → Closes d V z → (ws : List Term) → ((k : ℕ) → z.terms (length V + k) level ≡ at ws k) → AreWitnessesAt d (map (instance z.types) E) ws (map (instance z.types) vs) →
+    Converts (instantiate (at ws) (closed z h)) (closed z t) → ProvableBy L d (map (instance z.types) E) P (instantiate (at ws) (closed z b)) →
+    Unifies z.types (type_pairs (head_of t) (head_of h)) × SolvesAll z (pairs_of (σ_of V level h t) level [] (arguments h) (arguments t)) × ProvableBy L d (map (instance z.types) E) P (closed z (instantiate (σ_of V level h t) b))
+keeps_values {L} d E V level P vs h b t m z cl ws new wit c p =
     let F = map (instance z.types) E in
     let Ts = map (instance z.types) vs in
     let σ = σ_of V level h t in
@@ -329,8 +329,8 @@ extended_closes d V E vs ws c cl w = record { types = cl.types; terms = λ x v e
         (transport (λ (y : Variable). IsWitness d (map (instance c.types) y.scope) (at ws r.0) (instance c.types y.type)) (sym g.2) p)
 
 -- in the words of Applies
-pub match_solved : (d : Declared) (E : List Ty) (V : List Variable) (P : List ClauseFormula) (level : ℕ) (vs : List Ty) (h : Term) (body : Goals) (t : Term) (c : Closing) → IsMatch d E V vs h (formula_of_goals body) t → Closes d V c → Applies d (map (instance c.types) E) P c vs h body (closed c t) → (z : Closing) × GoesOn V c z × SolvesMatch d E V P level vs h body t z
-match_solved d E V P level vs h body t c m cl a =
+pub match_solved : {L : Leaves} (d : Declared) (E : List Ty) (V : List Variable) (P : List ClauseFormula) (level : ℕ) (vs : List Ty) (h : Term) (body : Goals) (t : Term) (c : Closing) → IsMatch d E V vs h (formula_of_goals body) t → Closes d V c → Applies L d (map (instance c.types) E) P c vs h body (closed c t) → (z : Closing) × GoesOn V c z × SolvesMatch L d E V P level vs h body t z
+match_solved {L} d E V P level vs h body t c m cl a =
     let ws = a.values in
     let b = formula_of_goals body in
     let z = extended V ws c in
@@ -340,12 +340,12 @@ match_solved d E V P level vs h body t c m cl a =
     let eb = same (length vs) b (atoms_of d E V vs b o_type m.body m.body_scoped) in
     let et = same 0 t (atoms_of d E V [] t o_type m.goal.typed m.goal.scoped) in
     let conv = transport (λ x. Converts (instantiate (at ws) x) (closed z t)) (sym eh) (transport (λ x. Converts (instantiate (at ws) (closed c h)) x) (sym et) a.head) in
-    let p = transport (λ x. PlainlyProvable d (map (instance c.types) E) P (instantiate (at ws) x)) (sym eb) a.goals in
+    let p = transport (λ x. ProvableBy L d (map (instance c.types) E) P (instantiate (at ws) x)) (sym eb) a.goals in
     let r = keeps_values d E V level P vs h b t m z (closes_front d V (new_variables E vs) z cl') ws (λ k. extended_new V ws c k level) a.witnesses conv p in
     (z, record { types = refl; terms = λ x l q. extended_old V ws c x l q }, record { closes = cl'; types = r.0; pairs = r.1; goals = r.2 })
 
-pub match_applies : (d : Declared) (E : List Ty) (V : List Variable) (P : List ClauseFormula) (level : ℕ) (vs : List Ty) (h : Term) (body : Goals) (t : Term) (z : Closing) → length E ≡ level → IsMatch d E V vs h (formula_of_goals body) t → SolvesMatch d E V P level vs h body t z → Applies d (map (instance z.types) E) P z vs h body (closed z t)
-match_applies d E V P level vs h body t z l m s =
+pub match_applies : {L : Leaves} (d : Declared) (E : List Ty) (V : List Variable) (P : List ClauseFormula) (level : ℕ) (vs : List Ty) (h : Term) (body : Goals) (t : Term) (z : Closing) → length E ≡ level → IsMatch d E V vs h (formula_of_goals body) t → SolvesMatch L d E V P level vs h body t z → Applies L d (map (instance z.types) E) P z vs h body (closed z t)
+match_applies {L} d E V P level vs h body t z l m s =
     let r = gives_values d E V level l P vs h (formula_of_goals body) t m z s.closes s.types s.pairs s.goals in
     record { values = r.0; witnesses = r.1; head = r.2; goals = r.3 }
 

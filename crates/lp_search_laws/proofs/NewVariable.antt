@@ -14,7 +14,7 @@ use Rattle.lp_model.specs.Pair.{Pair, Closing, closed, SolvesAll}
 use Rattle.lp_model.specs.Flat.{Clause, formula_of_clause, formula_of_goal}
 use Rattle.lp_model.specs.Branch.{Entry, Branch, Go}
 use Rattle.lp_model.specs.Answers.{Query, Variable, Instance, AnswerTyping, PairTyping, Closes, over, AreTypedValues, AreTypedPairs, IsTypedPair, ConvertEach}
-use Rattle.lp_model.specs.Proofs.{Declared, IsWitness, PlainlyProvable}
+use Rattle.lp_model.specs.Proofs.{Declared, IsWitness, Leaves, ProvableBy}
 use Rattle.lp_model.specs.Search.{with_goals}
 use Rattle.lp_calculus.specs.Typing.{o_type}
 use Rattle.lp_unify_laws.specs.Solutions.{IsMore}
@@ -109,14 +109,14 @@ module _ (d : Declared) (P : List Clause) (V : List Variable) (x l : ℕ) (ne : 
   same_values (t ∷ ts) [] h = absurd h
   same_values (t ∷ ts) (T ∷ Ts) h = let a = same_term [] t T h.0.typed in let r = same_values ts Ts h.1 in λ i. a i ∷ r i
 
-  same_proved : (Es : List (List Ty)) (es : List Entry) → AreTypedEntries d V Es es → AreProved d P c Es es → AreProved d P (with_value c x l w) Es es
-  same_proved [] [] h s = tt
-  same_proved [] (e ∷ es) h s = absurd h
-  same_proved (E ∷ Es) [] h s = absurd h
-  same_proved (E ∷ Es) (e ∷ es) h s =
+  same_proved : (L : Leaves) (Es : List (List Ty)) (es : List Entry) → AreTypedEntries d V Es es → AreProved L d P c Es es → AreProved L d P (with_value c x l w) Es es
+  same_proved L [] [] h s = tt
+  same_proved L [] (e ∷ es) h s = absurd h
+  same_proved L (E ∷ Es) [] h s = absurd h
+  same_proved L (E ∷ Es) (e ∷ es) h s =
       let a = same_term E (formula_of_goal e.goal) o_type h.0.goal.typed in
       let r = same_context E e.assumed h.0.assumed in
-      (transport (λ t. PlainlyProvable d (map (instance c.types) E) (clauses_at P e.assumed (with_value c x l w)) t) (sym a) (transport (λ R. PlainlyProvable d (map (instance c.types) E) R (closed c (formula_of_goal e.goal))) (sym r) s.0), same_proved Es es h.1 s.1)
+      (transport (λ t. ProvableBy L d (map (instance c.types) E) (clauses_at P e.assumed (with_value c x l w)) t) (sym a) (transport (λ R. ProvableBy L d (map (instance c.types) E) R (closed c (formula_of_goal e.goal))) (sym r) s.0), same_proved L Es es h.1 s.1)
 
 -- closings of the variables with the new one, and without it
 pub closes_front : (d : Declared) (V W : List Variable) (c : Closing) → Closes d (V ++ W) c → Closes d V c
@@ -158,9 +158,6 @@ pub own_value : (c : Closing) (x l : ℕ) → with_value c x l (c.terms x l) ≡
 own_value c x l = λ i. record { types = c.types; terms = λ y m. same_at c x l y m (nat_eq y x && nat_eq m l) refl i }
 
 module _ (n : ℕ) (d : Declared) (P : List Clause) (q : Query) (z : AnswerTyping) (b : Branch) (E : List Ty) (Es : List (List Ty)) (e : Entry) (es : List Entry) (h : IsTypedHere n d P q z b E Es e es) (T : Ty) (below : IsTypeBelow b.next_type T) where
-  abbrev pub new_one : Variable
-  new_one = record { type = T; scope = E }
-
   abbrev pub W : List Variable
   W = z.variables ++ record { type = T; scope = E } ∷ []
 
@@ -191,16 +188,16 @@ module _ (n : ℕ) (d : Declared) (P : List Clause) (q : Query) (z : AnswerTypin
     stuck = h.stuck;
   }
 
-  abbrev pub Says : Term → Type 0
-  Says B = (c : Closing) → Closes d z.variables c →
-      (EntryHolds d P c E e → (w : Term) × IsWitness d (map (instance c.types) E) w (instance c.types T) × Holds d (map (instance c.types) E) (clauses_at P e.assumed c) (with_value c b.next e.level w) B) ×
-      ((w : Term) × IsWitness d (map (instance c.types) E) w (instance c.types T) × Holds d (map (instance c.types) E) (clauses_at P e.assumed c) (with_value c b.next e.level w) B → EntryHolds d P c E e)
+  abbrev pub Says : Leaves → Term → Type 0
+  Says L B = (c : Closing) → Closes d z.variables c →
+      (EntryHolds L d P c E e → (w : Term) × IsWitness d (map (instance c.types) E) w (instance c.types T) × Holds L d (map (instance c.types) E) (clauses_at P e.assumed c) (with_value c b.next e.level w) B) ×
+      ((w : Term) × IsWitness d (map (instance c.types) E) w (instance c.types T) × Holds L d (map (instance c.types) E) (clauses_at P e.assumed c) (with_value c b.next e.level w) B → EntryHolds L d P c E e)
 
-  abbrev pub Splits : Term → List (List Ty) → List Entry → Type 0
-  Splits B Fs fs = (c : Closing) → Closes d (z.variables ++ record { type = T; scope = E } ∷ []) c → (Holds d (map (instance c.types) E) (clauses_at P e.assumed c) c B → AreProved d P c Fs fs) × (AreProved d P c Fs fs → Holds d (map (instance c.types) E) (clauses_at P e.assumed c) c B)
+  abbrev pub Splits : Leaves → Term → List (List Ty) → List Entry → Type 0
+  Splits L B Fs fs = (c : Closing) → Closes d (z.variables ++ record { type = T; scope = E } ∷ []) c → (Holds L d (map (instance c.types) E) (clauses_at P e.assumed c) c B → AreProved L d P c Fs fs) × (AreProved L d P c Fs fs → Holds L d (map (instance c.types) E) (clauses_at P e.assumed c) c B)
 
-  pub stands_new : (B : Term) (Fs : List (List Ty)) (fs : List Entry) → MayStand d (z.variables ++ record { type = T; scope = E } ∷ []) b.next_type Fs fs → Says B → Splits B Fs fs → StandFor n d P q (going (Typings n d P q z b E Es e es (E ∷ Es)) (with_goals b (e ∷ es))) (Go (wider_branch (fs ++ es)) ∷ [])
-  stands_new B Fs fs m says splits = record {
+  pub stands_new : {L : Leaves} (B : Term) (Fs : List (List Ty)) (fs : List Entry) → MayStand d (z.variables ++ record { type = T; scope = E } ∷ []) b.next_type Fs fs → Says L B → Splits L B Fs fs → StandFor L n d P q (going (Typings n d P q z b E Es e es (E ∷ Es)) (with_goals b (e ∷ es))) (Go (wider_branch (fs ++ es)) ∷ [])
+  stands_new {L} B Fs fs m says splits = record {
     typed = going (wider_typing (Fs ++ Es)) (wider_branch (fs ++ es)) ∷ [];
     is = refl;
     ok = (wider_stays Fs fs m, tt);
@@ -208,7 +205,7 @@ module _ (n : ℕ) (d : Declared) (P : List Clause) (q : Query) (z : AnswerTypin
     gives = λ i s. elim s [ inl x ↦ gives i x | inr x ↦ absurd x ];
   }
     where
-      keeps : (i : Instance) → SolvesBranch d P q i (Typings n d P q z b E Es e es (E ∷ Es)) (with_goals b (e ∷ es)) → SolvesBranch d P q i (wider_typing (Fs ++ Es)) (wider_branch (fs ++ es))
+      keeps : (i : Instance) → SolvesBranch L d P q i (Typings n d P q z b E Es e es (E ∷ Es)) (with_goals b (e ∷ es)) → SolvesBranch L d P q i (wider_typing (Fs ++ Es)) (wider_branch (fs ++ es))
       keeps i s =
           let c = s.answer.closing in
           let r = (says c s.answer.closes).0 s.proved.0 in
@@ -225,16 +222,16 @@ module _ (n : ℕ) (d : Declared) (P : List Clause) (q : Query) (z : AnswerTypin
               types = s.answer.types;
               values = transport (λ ts. ConvertEach ts i.values) (sym (same_values d P z.variables b.next e.level nx c w b.values _ h.answer.values)) s.answer.values;
             };
-            proved = proved_append d P v Fs Es fs es
-                ((splits v g).0 (transport (λ R. Holds d (map (instance c.types) E) R (with_value c b.next e.level w) B) (sym (same_context d P z.variables b.next e.level nx c w E e.assumed h.entries.0.assumed)) r.2))
-                (same_proved d P z.variables b.next e.level nx c w Es es h.entries.1 s.proved.1);
+            proved = proved_append _ d P v Fs Es fs es
+                ((splits v g).0 (transport (λ R. Holds L d (map (instance c.types) E) R (with_value c b.next e.level w) B) (sym (same_context d P z.variables b.next e.level nx c w E e.assumed h.entries.0.assumed)) r.2))
+                (same_proved d P z.variables b.next e.level nx c w _ Es es h.entries.1 s.proved.1);
           }
 
-      gives : (i : Instance) → SolvesBranch d P q i (wider_typing (Fs ++ Es)) (wider_branch (fs ++ es)) → SolvesBranch d P q i (Typings n d P q z b E Es e es (E ∷ Es)) (with_goals b (e ∷ es))
+      gives : (i : Instance) → SolvesBranch L d P q i (wider_typing (Fs ++ Es)) (wider_branch (fs ++ es)) → SolvesBranch L d P q i (Typings n d P q z b E Es e es (E ∷ Es)) (with_goals b (e ∷ es))
       gives i s =
           let c = s.answer.closing in
           let l = closes_front d z.variables (record { type = T; scope = E } ∷ []) c s.answer.closes in
-          let r = proved_split d P c W Fs Es fs es m.typed s.proved in
+          let r = proved_split _ d P c W Fs Es fs es m.typed s.proved in
           let g = s.answer.closes.terms (length z.variables) (record { type = T; scope = E }) (get_last z.variables (record { type = T; scope = E })) in
           let g' = transport (λ j. IsWitness d (map (instance c.types) E) (c.terms j (length E)) (instance c.types T)) h.answer.variables g in
           let g'' = transport (λ j. IsWitness d (map (instance c.types) E) (c.terms b.next j) (instance c.types T)) h.entries.0.level g' in
@@ -242,7 +239,7 @@ module _ (n : ℕ) (d : Declared) (P : List Clause) (q : Query) (z : AnswerTypin
             query = s.query;
             answer = record { closing = c; closes = l; solves = s.answer.solves; types = s.answer.types; values = s.answer.values };
             proved = (
-              (says c l).1 (c.terms b.next e.level, g'', transport (λ v. Holds d (map (instance c.types) E) (clauses_at P e.assumed c) v B) (sym (own_value c b.next e.level)) ((splits c s.answer.closes).1 r.0)),
+              (says c l).1 (c.terms b.next e.level, g'', transport (λ v. Holds L d (map (instance c.types) E) (clauses_at P e.assumed c) v B) (sym (own_value c b.next e.level)) ((splits c s.answer.closes).1 r.0)),
               r.1,
             );
           }

@@ -1,5 +1,5 @@
 -- The flattened clauses of a program in the place of its sentences: who focuses on a sentence focuses on one of its clauses, and the other way.
-use Rattle.std.proofs.Common.{◌≡◌, ℕ, zero, suc, List, [], ◌∷◌, ◌++◌, map, length, Some, refl, sym, ap, ◌∙◌, subst as transport, inl, inr, arith}
+use Rattle.std.proofs.Common.{◌≡◌, ℕ, zero, suc, List, [], ◌∷◌, ◌++◌, map, length, Some, refl, sym, ap, ◌∙◌, subst as transport, inl, inr, arith, append_assoc}
 use Rattle.std.proofs.lemmas.List.{map-append}
 use Rattle.std.specs.Prelude.{slice_get, option_map}
 use Rattle.lp_lemmas.proofs.Options.{and_then_some, option_map_some}
@@ -18,12 +18,12 @@ use Rattle.lp_standard.specs.Connectives.{two}
 use Rattle.lp_model.specs.Flat.{Goals, no_goals, goals, Clause, clause, Clauses, no_clauses, clauses, clause_list, formula_of_clause, formula_of_clauses}
 use Rattle.lp_model.specs.Flatten.{ClauseFormula, with_type_vars, flatten, flat_clause}
 use Rattle.lp_standard.specs.Schemes.{IsStandard}
-use Rattle.lp_model.specs.Proofs.{AreFlattened, Declared, IsFormula, IsSentence, IsAtomHead, PlainlyProvable, PlainlyFocusable, assumed}
+use Rattle.lp_model.specs.Proofs.{AreFlattened, Declared, IsFormula, IsSentence, IsAtomHead, assumed, Leaves, ProvableBy, FocusableBy}
 use Rattle.lp_proof_laws.proofs.Uniform.Formulas.{formula_eigens, closed_instance, parts}
 use Rattle.lp_proof_laws.proofs.Uniform.Roots.{connective}
 use Rattle.lp_proof_laws.proofs.Uniform.FocusRoots.{fconv}
 use Rattle.lp_proof_laws.proofs.Uniform.Contexts.{get_split}
-use Rattle.lp_proof_laws.proofs.Uniform.Assumptions.{Extends, Focuses}
+use Rattle.lp_proof_laws.proofs.Uniform.Assumptions.{Extends, Focuses, AreKept}
 use Rattle.lp_proof_laws.proofs.Flattened.TypedFlat.{instance_flat}
 use Rattle.lp_proof_laws.proofs.Flattened.Flattens.{flattened_clause}
 use Rattle.lp_proof_laws.proofs.Flattened.ReadsBack.{to_flat, from_flat}
@@ -32,6 +32,7 @@ use Rattle.lp_unify_laws.proofs.NewInstances.{reduces_instance}
 use Rattle.lp_unify_laws.proofs.TypedInstances.{get_map}
 use Rattle.lp_search_laws.specs.Clauses.{sentence_of}
 use Rattle.lp_search_laws.proofs.Closed.{formula_reduces}
+use Rattle.lp_proof_laws.proofs.Uniform.Settings.{IsSetting, without_leaves}
 use Rattle.lp_search_laws.proofs.Serving.{Served, Serves, served_in_front, served_behind, serves_more, serves_first, serves_eigens, served}
 use Rattle.lp_search_laws.proofs.Apart.{KeepsBoth, IsOneOf, split_focus, join_focus}
 
@@ -70,7 +71,7 @@ flattened n d D cs e =
     let m = option_map_some (flat_clause n d [] b.0 [] []) (with_type_vars D.type_vars) cs b.2 in
     record { form = b.0; plain = m.0; leads = beta_reduces n D.formula b.0 b.1; flat = m.1; is = m.2 }
 
-module _ (d : Declared) (std : IsStandard d) (n : ℕ) (D : ClauseFormula) (cs : Clauses) (x : IsFlattened n d D cs) (s : IsSentence d D) where
+module _ {L : Leaves} (d : Declared) (std : IsSetting L d) (n : ℕ) (D : ClauseFormula) (cs : Clauses) (x : IsFlattened n d D cs) (s : IsSentence d D) where
   -- with types for its type variables
   module _ (ts : List Ty) (l : length ts ≡ D.type_vars) (k : AreClosed ts) where
     form_flat : (ds : Clauses) × (flat_clause n d [] (instance_term (type_at ts) x.form) [] [] ≡ Some ds) × (formula_of_clauses ds ≡ instance_term (type_at ts) (formula_of_clauses x.plain))
@@ -89,27 +90,27 @@ module _ (d : Declared) (std : IsStandard d) (n : ℕ) (D : ClauseFormula) (cs :
         transport (IsFormula d []) read (record { typed = o.typed; closed = o.within })
 
     module _ (F : List Ty) (Q : List ClauseFormula) (A : Term) (at : IsAtomHead (head_of A)) where
-      to_clauses : PlainlyFocusable d F Q (instance_term (type_at ts) D.formula) A → IsOneOf d F Q (instance_term (type_at ts)) cs A
+      to_clauses : FocusableBy L d F Q (instance_term (type_at ts) D.formula) A → IsOneOf L d F Q (instance_term (type_at ts)) cs A
       unfolding Focuses
       to_clauses r =
           let θ = type_at ts in
           let v = fconv d F Q (instance_term θ D.formula) (instance_term θ x.form) A (formula_eigens d [] F (instance_term θ D.formula) (s.instances ts l k)) (converts_reduces (reduces_instance θ x.leads)) r in
           let w = to_flat d std n (instance_term θ x.form) form_flat.0 form_flat.1 form_fine [] F (record { rest = F; is = refl }) Q A at v in
-          split_focus d std F Q (instance_term θ) (types_keep θ) A at cs (formula_eigens d [] F (instance_term θ (formula_of_clauses cs)) clauses_fine) (transport (λ z. PlainlyFocusable d F Q z A) read w)
+          split_focus d std.standard F Q (instance_term θ) (types_keep θ) A at cs (formula_eigens d [] F (instance_term θ (formula_of_clauses cs)) clauses_fine) (transport (λ z. FocusableBy L d F Q z A) read w)
 
-      from_clause : (j : ℕ) (c : Clause) → slice_get (clause_list cs) j ≡ Some c → PlainlyFocusable d F Q (instance_term (type_at ts) (formula_of_clause c)) A → PlainlyFocusable d F Q (instance_term (type_at ts) D.formula) A
+      from_clause : (j : ℕ) (c : Clause) → slice_get (clause_list cs) j ≡ Some c → FocusableBy L d F Q (instance_term (type_at ts) (formula_of_clause c)) A → FocusableBy L d F Q (instance_term (type_at ts) D.formula) A
       unfolding Focuses
       from_clause j c e r =
           let θ = type_at ts in
           let v = join_focus d F Q (instance_term θ) (types_keep θ) A cs j c e r in
-          let w = from_flat d std n (instance_term θ x.form) form_flat.0 form_flat.1 form_fine [] F (record { rest = F; is = refl }) Q A at (transport (λ z. PlainlyFocusable d F Q z A) (sym read) v) in
+          let w = from_flat d std n (instance_term θ x.form) form_flat.0 form_flat.1 form_fine [] F (record { rest = F; is = refl }) Q A at (transport (λ z. FocusableBy L d F Q z A) (sym read) v) in
           fconv d F Q (instance_term θ x.form) (instance_term θ D.formula) A (formula_eigens d [] F (instance_term θ x.form) form_fine) (converts_sym (converts_reduces (reduces_instance θ x.leads))) w
 
   vars_of : (j : ℕ) (c : Clause) → slice_get (clause_list cs) j ≡ Some c → (sentence_of c).type_vars ≡ D.type_vars
   vars_of j c e = type_vars_of D.type_vars x.plain j c (transport (λ z. slice_get (clause_list z) j ≡ Some c) (sym x.is) e)
 
   -- one of the sentence's clauses serves
-  serving_clause : (ts : List Ty) → length ts ≡ D.type_vars → AreClosed ts → (F : List Ty) (Q : List ClauseFormula) (A : Term) → IsAtomHead (head_of A) → PlainlyFocusable d F Q (instance_term (type_at ts) D.formula) A → Served d F Q (map sentence_of (clause_list cs)) A
+  serving_clause : (ts : List Ty) → length ts ≡ D.type_vars → AreClosed ts → (F : List Ty) (Q : List ClauseFormula) (A : Term) → IsAtomHead (head_of A) → FocusableBy L d F Q (instance_term (type_at ts) D.formula) A → Served L d F Q (map sentence_of (clause_list cs)) A
   serving_clause ts l k F Q A h r =
       let o = to_clauses ts l k F Q A h r in
       record {
@@ -119,51 +120,55 @@ module _ (d : Declared) (std : IsStandard d) (n : ℕ) (D : ClauseFormula) (cs :
         types = ts;
         count = l ∙ sym (vars_of o.place o.clause o.is);
         closed = k;
-        focus = transport (λ z. PlainlyFocusable d F Q (instance_term (type_at ts) z) A) (sym (formula_is o.clause)) o.focus;
+        focus = transport (λ z. FocusableBy L d F Q (instance_term (type_at ts) z) A) (sym (formula_is o.clause)) o.focus;
       }
 
-  serving_sentence : (i : ℕ) (K : ClauseFormula) → slice_get (map sentence_of (clause_list cs)) i ≡ Some K → (ts : List Ty) → length ts ≡ K.type_vars → AreClosed ts → (F : List Ty) (Q : List ClauseFormula) (A : Term) → IsAtomHead (head_of A) → PlainlyFocusable d F Q (instance_term (type_at ts) K.formula) A → Served d F Q (D ∷ []) A
+  serving_sentence : (i : ℕ) (K : ClauseFormula) → slice_get (map sentence_of (clause_list cs)) i ≡ Some K → (ts : List Ty) → length ts ≡ K.type_vars → AreClosed ts → (F : List Ty) (Q : List ClauseFormula) (A : Term) → IsAtomHead (head_of A) → FocusableBy L d F Q (instance_term (type_at ts) K.formula) A → Served L d F Q (D ∷ []) A
   serving_sentence i K e ts l k F Q A h r =
       let m = option_map_some (slice_get (clause_list cs) i) sentence_of K (sym (get_map sentence_of (clause_list cs) i) ∙ e) in
       let c = l ∙ ap (λ z. z.type_vars) (sym m.2) ∙ vars_of i m.0 m.1 in
-      let q = transport (λ z. PlainlyFocusable d F Q (instance_term (type_at ts) z) A) (ap (λ z. z.formula) (sym m.2) ∙ formula_is m.0) r in
+      let q = transport (λ z. FocusableBy L d F Q (instance_term (type_at ts) z) A) (ap (λ z. z.formula) (sym m.2) ∙ formula_is m.0) r in
       record { place = 0; clause = D; is = refl; types = ts; count = c; closed = k; focus = from_clause ts c k F Q A h i m.0 m.1 q }
 
 -- the whole program
-module _ (d : Declared) (std : IsStandard d) where
-  program_serves : (F : List ClauseFormula) (P : List Clause) → EachOf (IsSentence d) F → AreFlattened d F P → Serves d [] F (map sentence_of P)
+module _ {L : Leaves} (d : Declared) (std : IsSetting L d) where
+  program_serves : (F : List ClauseFormula) (P : List Clause) → EachOf (IsSentence d) F → AreFlattened d F P → Serves L d [] F (map sentence_of P)
   program_serves [] P s x = record { at = λ i D e. absurd (cc) }
   program_serves (D ∷ F) P s x =
       let cs = x.1 in
       let R = x.2 in
       let rest = program_serves F R s.1 x.4 in
       let y = flattened x.0 d D cs x.3 in
-      transport (Serves d [] (D ∷ F)) (sym (ap (map sentence_of) x.5 ∙ map-append sentence_of (clause_list cs) R)) (record { at = go x.0 cs R y rest })
+      transport (Serves L d [] (D ∷ F)) (sym (ap (map sentence_of) x.5 ∙ map-append sentence_of (clause_list cs) R)) (record { at = go x.0 cs R y rest })
     where
-      go : (n : ℕ) (cs : Clauses) (R : List Clause) → IsFlattened n d D cs → Serves d [] F (map sentence_of R) → (i : ℕ) (K : ClauseFormula) → slice_get (D ∷ F) i ≡ Some K → (ts : List Ty) → length ts ≡ K.type_vars → AreClosed ts → (G : List Ty) → Extends [] G → (Q : List ClauseFormula) (A : Term) → IsAtomHead (head_of A) → PlainlyFocusable d G Q (instance_term (type_at ts) K.formula) A → Served d G Q (map sentence_of (clause_list cs) ++ map sentence_of R) A
+      go : (n : ℕ) (cs : Clauses) (R : List Clause) → IsFlattened n d D cs → Serves L d [] F (map sentence_of R) → (i : ℕ) (K : ClauseFormula) → slice_get (D ∷ F) i ≡ Some K → (ts : List Ty) → length ts ≡ K.type_vars → AreClosed ts → (G : List Ty) → Extends [] G → (Q : List ClauseFormula) (A : Term) → IsAtomHead (head_of A) → FocusableBy L d G Q (instance_term (type_at ts) K.formula) A → Served L d G Q (map sentence_of (clause_list cs) ++ map sentence_of R) A
       go n cs R y rest zero K e ts l k G g Q A h r =
           let q : K ≡ D = cc in
-          served_in_front d G Q (map sentence_of (clause_list cs)) (map sentence_of R) A (serving_clause d std n D cs y s.0 ts (l ∙ ap (λ w. w.type_vars) q) k G Q A h (transport (λ w. PlainlyFocusable d G Q (instance_term (type_at ts) w.formula) A) q r))
+          served_in_front d G Q (map sentence_of (clause_list cs)) (map sentence_of R) A (serving_clause d std n D cs y s.0 ts (l ∙ ap (λ w. w.type_vars) q) k G Q A h (transport (λ w. FocusableBy L d G Q (instance_term (type_at ts) w.formula) A) q r))
       go n cs R y rest (suc i) K e ts l k G g Q A h r = served_behind d G Q (map sentence_of (clause_list cs)) (map sentence_of R) A (rest.at i K e ts l k G g Q A h r)
 
-  sentences_serve : (F : List ClauseFormula) (P : List Clause) → EachOf (IsSentence d) F → AreFlattened d F P → Serves d [] (map sentence_of P) F
+  sentences_serve : (F : List ClauseFormula) (P : List Clause) → EachOf (IsSentence d) F → AreFlattened d F P → Serves L d [] (map sentence_of P) F
   sentences_serve [] P s x = record { at = λ i D e. let q : slice_get (map sentence_of []) i ≡ Some D = ap (λ z. slice_get (map sentence_of z) i) (sym x) ∙ e in absurd (cc) }
   sentences_serve (D ∷ F) P s x =
       let cs = x.1 in
       let R = x.2 in
       let rest = sentences_serve F R s.1 x.4 in
       let y = flattened x.0 d D cs x.3 in
-      transport (λ z. Serves d [] z (D ∷ F)) (sym (ap (map sentence_of) x.5 ∙ map-append sentence_of (clause_list cs) R)) (record {
+      transport (λ z. Serves L d [] z (D ∷ F)) (sym (ap (map sentence_of) x.5 ∙ map-append sentence_of (clause_list cs) R)) (record {
         at = λ i K e ts l k G g Q A h r. elim (get_split (map sentence_of (clause_list cs)) (map sentence_of R) i K e) [
           | inl a ↦ served_in_front d G Q (D ∷ []) F A (serving_sentence d std x.0 D cs y s.0 i K a ts l k G Q A h r)
           | inr b ↦ served_behind d G Q (D ∷ []) F A (rest.at b.0 K b.2 ts l k G g Q A h r)
         ];
       })
 
-  pub program_reads_back : (F : List ClauseFormula) (P : List Clause) → EachOf (IsSentence d) F → AreFlattened d F P → (E : List Ty) (Q : List ClauseFormula) (G : Term) → (PlainlyProvable d E (F ++ Q) G → PlainlyProvable d E (map sentence_of P ++ Q) G) × (PlainlyProvable d E (map sentence_of P ++ Q) G → PlainlyProvable d E (F ++ Q) G)
-  program_reads_back F P s x E Q G = (
-    λ p. served d E (F ++ Q) (map sentence_of P ++ Q) G (serves_more d E F (map sentence_of P) Q (serves_eigens d [] E F (map sentence_of P) (program_serves F P s x))) p,
-    λ p. served d E (map sentence_of P ++ Q) (F ++ Q) G (serves_more d E (map sentence_of P) F Q (serves_eigens d [] E (map sentence_of P) F (sentences_serve F P s x))) p,
+  -- what stands as a leaf among the sentences stands so among their flattened clauses, and the other way
+  kept_more : (P R Q : List ClauseFormula) → AreKept L P R → AreKept L (P ++ Q) (R ++ Q)
+  kept_more P R Q k S m H f h = transport (λ X. L m X H f) (sym (append_assoc R Q S)) (k (Q ++ S) m H f (transport (λ X. L m X H f) (append_assoc P Q S) h))
+
+  pub program_reads_back : (F : List ClauseFormula) (P : List Clause) → EachOf (IsSentence d) F → AreFlattened d F P → AreKept L F (map sentence_of P) × AreKept L (map sentence_of P) F → (E : List Ty) (Q : List ClauseFormula) (G : Term) → (ProvableBy L d E (F ++ Q) G → ProvableBy L d E (map sentence_of P ++ Q) G) × (ProvableBy L d E (map sentence_of P ++ Q) G → ProvableBy L d E (F ++ Q) G)
+  program_reads_back F P s x k E Q G = (
+    λ p. served d E (F ++ Q) (map sentence_of P ++ Q) G (serves_more d E F (map sentence_of P) Q (serves_eigens d [] E F (map sentence_of P) (program_serves F P s x))) (kept_more F (map sentence_of P) Q k.0) p,
+    λ p. served d E (map sentence_of P ++ Q) (F ++ Q) G (serves_more d E (map sentence_of P) F Q (serves_eigens d [] E (map sentence_of P) F (sentences_serve F P s x))) (kept_more (map sentence_of P) F Q k.1) p,
   )
 
 -- each flattened clause is a sentence
@@ -183,10 +188,11 @@ module _ (d : Declared) (std : IsStandard d) where
   clauses_are_sentences [] P s x = transport (EachOf (λ c. IsSentence d (sentence_of c))) (sym x) tt
   clauses_are_sentences (D ∷ F) P s x =
       let y = flattened x.0 d D x.1 x.3 in
-      let here = transport (λ z. EachOf (λ c. IsSentence d (sentence_of c)) (clause_list z)) y.is (each_fine D.type_vars y.plain (λ ts l k. transport (λ z. IsFormula d [] (instance_term (type_at ts) z)) (ap formula_of_clauses (sym y.is) ∙ formulas_of D.type_vars y.plain) (clauses_fine d std x.0 D x.1 y s.0 ts l k))) in
+      let here = transport (λ z. EachOf (λ c. IsSentence d (sentence_of c)) (clause_list z)) y.is (each_fine D.type_vars y.plain (λ ts l k. transport (λ z. IsFormula d [] (instance_term (type_at ts) z)) (ap formula_of_clauses (sym y.is) ∙ formulas_of D.type_vars y.plain) (clauses_fine d (without_leaves d std) x.0 D x.1 y s.0 ts l k))) in
       transport (EachOf (λ c. IsSentence d (sentence_of c))) (sym x.5) (each_append (λ c. IsSentence d (sentence_of c)) (clause_list x.1) x.2 here (clauses_are_sentences F x.2 s.1 x.4))
 
-  -- assumptions
+-- assumptions
+module _ {L : Leaves} (d : Declared) (std : IsSetting L d) where
   closing_keeps : (c : Closing) (θ : ℕ → Ty) → KeepsBoth (λ t. instance_term θ (closed c t))
   closing_keeps c θ = record { truth = refl; both = λ a b. refl }
 
@@ -200,26 +206,26 @@ module _ (d : Declared) (std : IsStandard d) where
     fine_at : (ts : List Ty) (F : List Ty) → Extends E F → IsFormula d F (instance_term (type_at ts) (closed c (formula_of_clauses cs)))
     fine_at ts F x = transport (λ z. IsFormula d z (instance_term (type_at ts) (closed c (formula_of_clauses cs)))) (sym x.is) (formula_eigens d E x.rest (instance_term (type_at ts) (closed c (formula_of_clauses cs))) (transport (IsFormula d E) (sym (closed_instance (length E) (type_at ts) (closed c (formula_of_clauses cs)) f.closed)) f))
 
-    parts_serve : Serves d E (whole ∷ []) (map as_assumed (clause_list cs))
+    parts_serve : Serves L d E (whole ∷ []) (map as_assumed (clause_list cs))
     parts_serve = record { at = go }
       where
-        go : (i : ℕ) (K : ClauseFormula) → slice_get (whole ∷ []) i ≡ Some K → (ts : List Ty) → length ts ≡ K.type_vars → AreClosed ts → (F : List Ty) → Extends E F → (Q : List ClauseFormula) (A : Term) → IsAtomHead (head_of A) → PlainlyFocusable d F Q (instance_term (type_at ts) K.formula) A → Served d F Q (map as_assumed (clause_list cs)) A
+        go : (i : ℕ) (K : ClauseFormula) → slice_get (whole ∷ []) i ≡ Some K → (ts : List Ty) → length ts ≡ K.type_vars → AreClosed ts → (F : List Ty) → Extends E F → (Q : List ClauseFormula) (A : Term) → IsAtomHead (head_of A) → FocusableBy L d F Q (instance_term (type_at ts) K.formula) A → Served L d F Q (map as_assumed (clause_list cs)) A
         go zero K e ts l k F x Q A h r =
             let q : K ≡ whole = cc in
-            let o = split_focus d std F Q (λ t. instance_term (type_at ts) (closed c t)) (closing_keeps c (type_at ts)) A h cs (fine_at ts F x) (transport (λ w. PlainlyFocusable d F Q (instance_term (type_at ts) w.formula) A) q r) in
+            let o = split_focus d std.standard F Q (λ t. instance_term (type_at ts) (closed c t)) (closing_keeps c (type_at ts)) A h cs (fine_at ts F x) (transport (λ w. FocusableBy L d F Q (instance_term (type_at ts) w.formula) A) q r) in
             record { place = o.place; clause = as_assumed o.clause; is = get_map as_assumed (clause_list cs) o.place ∙ ap (option_map as_assumed) o.is; types = ts; count = l ∙ ap (λ w. w.type_vars) q; closed = k; focus = o.focus }
         go (suc i) K e ts l k F x Q A h r = absurd (cc)
 
-    whole_serves : Serves d E (map as_assumed (clause_list cs)) (whole ∷ [])
+    whole_serves : Serves L d E (map as_assumed (clause_list cs)) (whole ∷ [])
     whole_serves = record {
       at = λ i K e ts l k F x Q A h r.
           let m = option_map_some (slice_get (clause_list cs) i) as_assumed K (sym (get_map as_assumed (clause_list cs) i) ∙ e) in
-          let q = transport (λ w. PlainlyFocusable d F Q (instance_term (type_at ts) w.formula) A) (sym m.2) r in
+          let q = transport (λ w. FocusableBy L d F Q (instance_term (type_at ts) w.formula) A) (sym m.2) r in
           record { place = 0; clause = whole; is = refl; types = ts; count = l ∙ ap (λ w. w.type_vars) (sym m.2); closed = k; focus = join_focus d F Q (λ t. instance_term (type_at ts) (closed c t)) (closing_keeps c (type_at ts)) A cs i m.0 m.1 q };
     }
 
-    pub stand_apart : (G : Term) → (PlainlyProvable d E (P ++ whole ∷ []) G → PlainlyProvable d E (P ++ map as_assumed (clause_list cs)) G) × (PlainlyProvable d E (P ++ map as_assumed (clause_list cs)) G → PlainlyProvable d E (P ++ whole ∷ []) G)
+    pub stand_apart : (G : Term) → (ProvableBy L d E (P ++ whole ∷ []) G → ProvableBy L d E (P ++ map as_assumed (clause_list cs)) G) × (ProvableBy L d E (P ++ map as_assumed (clause_list cs)) G → ProvableBy L d E (P ++ whole ∷ []) G)
     stand_apart G = (
-      λ p. served d E (P ++ whole ∷ []) (P ++ map as_assumed (clause_list cs)) G (serves_first d E P (whole ∷ []) (map as_assumed (clause_list cs)) parts_serve) p,
-      λ p. served d E (P ++ map as_assumed (clause_list cs)) (P ++ whole ∷ []) G (serves_first d E P (map as_assumed (clause_list cs)) (whole ∷ []) whole_serves) p,
+      λ p. served d E (P ++ whole ∷ []) (P ++ map as_assumed (clause_list cs)) G (serves_first d E P (whole ∷ []) (map as_assumed (clause_list cs)) parts_serve) (std.apart P c cs) p,
+      λ p. served d E (P ++ map as_assumed (clause_list cs)) (P ++ whole ∷ []) G (serves_first d E P (map as_assumed (clause_list cs)) (whole ∷ []) whole_serves) (std.together P c cs) p,
     )

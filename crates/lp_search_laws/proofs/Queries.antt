@@ -24,8 +24,7 @@ use Rattle.lp_model.specs.Eigens.{beta_normal}
 use Rattle.lp_model.specs.Pair.{Closing, closed}
 use Rattle.lp_model.specs.Flat.{Goals, no_goals, goal_list, instantiate_goals, formula_of_goal, formula_of_goals}
 use Rattle.lp_model.specs.Flatten.{ClauseFormula, flat_goal, flatten_query}
-use Rattle.lp_standard.specs.Schemes.{IsStandard}
-use Rattle.lp_model.specs.Proofs.{Declared, under, IsFormula, IsWitness, PlainlyProvable}
+use Rattle.lp_model.specs.Proofs.{Declared, under, IsFormula, IsWitness, Leaves, ProvableBy}
 use Rattle.lp_model.specs.Answers.{Query, Instance, Closes, ConvertEach, AreWitnesses, filled}
 use Rattle.lp_model.specs.Search.{vars_from, types_from}
 use Rattle.lp_proof_laws.proofs.Uniform.Contexts.{get_split}
@@ -38,8 +37,9 @@ use Rattle.lp_proof_laws.proofs.Uniform.Uniforms.{by_conversion}
 use Rattle.lp_unify_laws.proofs.Looks.{beta_reduces}
 use Rattle.lp_unify_laws.proofs.NewInstances.{reduces_instance}
 use Rattle.lp_unify_laws.proofs.TypedInstances.{get_map}
+use Rattle.lp_proof_laws.proofs.Uniform.Settings.{IsSetting}
 use Rattle.lp_search_laws.specs.Holds.{Holds}
-use Rattle.lp_search_laws.specs.Started.{IsPlainlyProvable, IsQueryAtom, IsTypedQuery, outermost, StartHolds}
+use Rattle.lp_search_laws.specs.Started.{IsProvableBy, IsQueryAtom, IsTypedQuery, outermost, StartHolds}
 use Rattle.lp_search_laws.proofs.ClosedTerms.{closed_type, all_closed, fill_instantiate, instantiate_converts}
 use Rattle.lp_search_laws.proofs.Goals.{goals_in_turn}
 use Rattle.lp_search_laws.proofs.Opened.{goals_instantiate}
@@ -199,7 +199,7 @@ witness_count d (t ∷ ts) [] h = absurd h
 witness_count d (t ∷ ts) (U ∷ Ts) h = ap suc (witness_count d ts Ts h.1)
 
 -- the goals under a closing of the first variables
-module _ (d : Declared) (std : IsStandard d) (n : ℕ) (q : Query) (gs : Goals) (t : IsTypedQuery d q) (e : flatten_query n d q.formula ≡ Some gs) (P : List ClauseFormula) where
+module _ {L : Leaves} (d : Declared) (std : IsSetting L d) (n : ℕ) (q : Query) (gs : Goals) (t : IsTypedQuery d q) (e : flatten_query n d q.formula ≡ Some gs) (P : List ClauseFormula) where
   abbrev count : ℕ
   count = length q.vars
 
@@ -266,22 +266,22 @@ module _ (d : Declared) (std : IsStandard d) (n : ℕ) (q : Query) (gs : Goals) 
       form_converts : Converts (instantiate values_at (instance_term c.types q.formula)) (instantiate values_at (instance_term c.types s))
       form_converts = converts_instantiate values_at (converts_reduces (reduces_instance c.types r))
 
-      to_goals : PlainlyProvable d [] P (instantiate values_at (instance_term c.types q.formula)) → EachOf (λ g. Holds d [] P c (formula_of_goal g)) (goal_list goals_opened)
+      to_goals : ProvableBy L d [] P (instantiate values_at (instance_term c.types q.formula)) → EachOf (λ g. Holds L d [] P c (formula_of_goal g)) (goal_list goals_opened)
       to_goals p =
           let a = by_conversion d [] P (instantiate values_at (instance_term c.types s)) (instantiate values_at (instance_term c.types q.formula)) formula_fine form_converts p in
           let b = law.together [] P values_at fits a (truth_proved d std [] P) in
-          (goals_in_turn d std [] P c goals_opened opened_fine).0 (transport (PlainlyProvable d [] P) (sym opened) b)
+          (goals_in_turn d std [] P c goals_opened opened_fine).0 (transport (ProvableBy L d [] P) (sym opened) b)
 
-      from_goals : EachOf (λ g. Holds d [] P c (formula_of_goal g)) (goal_list goals_opened) → PlainlyProvable d [] P (instantiate values_at (instance_term c.types q.formula))
+      from_goals : EachOf (λ g. Holds L d [] P c (formula_of_goal g)) (goal_list goals_opened) → ProvableBy L d [] P (instantiate values_at (instance_term c.types q.formula))
       from_goals p =
           let a = (goals_in_turn d std [] P c goals_opened opened_fine).1 p in
-          let b = (law.apart [] P values_at fits (transport (PlainlyProvable d [] P) opened a)).0 in
+          let b = (law.apart [] P values_at fits (transport (ProvableBy L d [] P) opened a)).0 in
           by_conversion d [] P (instantiate values_at (instance_term c.types q.formula)) (instantiate values_at (instance_term c.types s)) form_fine (converts_sym form_converts) b
 
-    pub goals_hold : PlainlyProvable d [] P (instantiate values_at (instance_term c.types q.formula)) → EachOf (λ g. Holds d [] P c (formula_of_goal g)) (goal_list goals_opened)
+    pub goals_hold : ProvableBy L d [] P (instantiate values_at (instance_term c.types q.formula)) → EachOf (λ g. Holds L d [] P c (formula_of_goal g)) (goal_list goals_opened)
     goals_hold p = let b = and_then_some (beta_normal n q.formula) (λ s. flat_goal n d [] s no_goals) gs e in to_goals b.0 (beta_reduces n q.formula b.0 b.1) b.2 p
 
-    pub goals_prove : EachOf (λ g. Holds d [] P c (formula_of_goal g)) (goal_list goals_opened) → PlainlyProvable d [] P (instantiate values_at (instance_term c.types q.formula))
+    pub goals_prove : EachOf (λ g. Holds L d [] P c (formula_of_goal g)) (goal_list goals_opened) → ProvableBy L d [] P (instantiate values_at (instance_term c.types q.formula))
     goals_prove p = let b = and_then_some (beta_normal n q.formula) (λ s. flat_goal n d [] s no_goals) gs e in from_goals b.0 (beta_reduces n q.formula b.0 b.1) b.2 p
 
   -- of a provable instance
@@ -300,7 +300,7 @@ module _ (d : Declared) (std : IsStandard d) (n : ℕ) (q : Query) (gs : Goals) 
     as_many : AreWitnesses d i.values (map (instance (type_at i.types)) q.vars) → length i.values ≡ count
     as_many w = witness_count d i.values (map (instance (type_at i.types)) q.vars) w ∙ length-map q.vars (instance (type_at i.types))
 
-    pub starts : IsPlainlyProvable d P q i → StartHolds d P q gs i
+    pub starts : IsProvableBy L d P q i → StartHolds L d P q gs i
     starts p =
         let l = as_many p.values in
         let z = instance_closes p.types_closed p.values in
@@ -309,10 +309,10 @@ module _ (d : Declared) (std : IsStandard d) (n : ℕ) (q : Query) (gs : Goals) 
           closes = z;
           types = transport (λ k. map (instance (type_at i.types)) (types_from k 0) ≡ i.types) p.types (types_back (type_at i.types) i.types 0 (λ j. let a : 0 + j ≡ j = omega arith in ap (type_at i.types) a));
           values = transport (λ k. ConvertEach (map (closed of_instance) (vars_from k 0)) i.values) l (values_back of_instance i.values 0 (λ j. let a : 0 + j ≡ j = omega arith in ap (at i.values) a));
-          holds = goals_hold of_instance z (transport (λ m. PlainlyProvable d [] P (instantiate (λ k. at i.values (m - suc k)) (instance_term (type_at i.types) q.formula))) l p.proved);
+          holds = goals_hold of_instance z (transport (λ m. ProvableBy L d [] P (instantiate (λ k. at i.values (m - suc k)) (instance_term (type_at i.types) q.formula))) l p.proved);
         }
 
-    pub ends : AreWitnesses d i.values (map (instance (type_at i.types)) q.vars) → StartHolds d P q gs i → IsPlainlyProvable d P q i
+    pub ends : AreWitnesses d i.values (map (instance (type_at i.types)) q.vars) → StartHolds L d P q gs i → IsProvableBy L d P q i
     ends w s = record {
       types = ap length (sym s.types) ∙ types_count s.closing.types q.type_vars 0;
       types_closed = transport AreClosed s.types (all_closed s.closing.types s.closes.types (types_from q.type_vars 0));
@@ -336,5 +336,5 @@ module _ (d : Declared) (std : IsStandard d) (n : ℕ) (q : Query) (gs : Goals) 
             converts_is (ap (instantiate (λ k. at i.values (length i.values - suc k))) (term_same s.closing.types (type_at i.types) q.type_vars same_types count q.formula t.within))
             )
 
-  pub query_starts : (i : Instance) → (IsPlainlyProvable d P q i → StartHolds d P q gs i) × (AreWitnesses d i.values (map (instance (type_at i.types)) q.vars) → StartHolds d P q gs i → IsPlainlyProvable d P q i)
+  pub query_starts : (i : Instance) → (IsProvableBy L d P q i → StartHolds L d P q gs i) × (AreWitnesses d i.values (map (instance (type_at i.types)) q.vars) → StartHolds L d P q gs i → IsProvableBy L d P q i)
   query_starts i = (starts i, ends i)

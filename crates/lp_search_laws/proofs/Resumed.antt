@@ -18,7 +18,7 @@ use Rattle.lp_lemmas.specs.Each.{EachOf}
 use Rattle.lp_model.specs.Types.{TypePair, TypeBinding, put_types}
 use Rattle.lp_model.specs.Pair.{Pair, Closing, closed, SolvesAll}
 use Rattle.lp_model.specs.Unify.{Unified, Fail, Solution, Spent, State, solve, unit_limit}
-use Rattle.lp_model.specs.Proofs.{Declared, IsWitness, PlainlyProvable}
+use Rattle.lp_model.specs.Proofs.{Declared, IsWitness, Leaves, ProvableBy}
 use Rattle.lp_model.specs.Flat.{Clause, formula_of_goal, formula_of_clause}
 use Rattle.lp_model.specs.Branch.{Entry, Branch, resume}
 use Rattle.lp_model.specs.Search.{follow}
@@ -39,6 +39,7 @@ use Rattle.lp_unify_laws.proofs.Stuck.{solve_stuck}
 use Rattle.lp_search_laws.specs.Holds.{IsTyped, IsVariableOf}
 use Rattle.lp_search_laws.specs.Clauses.{assumed_as, sentence_of, clauses_at}
 use Rattle.lp_search_laws.specs.Branches.{IsPlainTerm, IsAssumable, AreProved, ArePlainEntries, IsPlainVariable, IsPlainPair, BranchTyping, IsTypedBranch, SolvesBranch, TypedTask, going, Sol, StandFor}
+use Rattle.lp_proof_laws.proofs.Uniform.Settings.{IsSetting}
 use Rattle.lp_search_laws.specs.Behind.{LeadsThrough, behind, types_of, variables_of, eigens_of, IsBranchWith, SolvesWith}
 use Rattle.lp_search_laws.proofs.TypesPut.{put_types_is, put_types_in_is, satisfied_types, satisfied_instance, satisfied_term, satisfied_all}
 use Rattle.lp_search_laws.proofs.ClosedTerms.{closed_type, closed_witness}
@@ -63,15 +64,15 @@ pub same_assumed : (c z : Closing) (A : List Clause) → EachOf (IsSame c z) (fo
 same_assumed c z [] w = refl
 same_assumed c z (k ∷ A) w = λ i. record { type_vars = 0; formula = w.0 i } ∷ same_assumed c z A w.1 i
 
-pub same_proved : (d : Declared) (P : List Clause) (c z : Closing) (Es : List (List Ty)) (es : List Entry) → AreSame c z Es es → AreProved d P c Es es → AreProved d P z Es es
-same_proved d P c z [] [] w p = tt
-same_proved d P c z [] (e ∷ es) w p = p
-same_proved d P c z (E ∷ Es) [] w p = p
-same_proved d P c z (E ∷ Es) (e ∷ es) w p = (
-  transport (λ X. PlainlyProvable d X (clauses_at P e.assumed z) (closed z (formula_of_goal e.goal))) w.0.0
-      (transport (λ X. PlainlyProvable d (map (instance c.types) E) (map sentence_of P ++ X) (closed z (formula_of_goal e.goal))) (same_assumed c z e.assumed w.0.2)
-      (transport (λ X. PlainlyProvable d (map (instance c.types) E) (clauses_at P e.assumed c) X) w.0.1 p.0)),
-  same_proved d P c z Es es w.1 p.1,
+pub same_proved : (L : Leaves) (d : Declared) (P : List Clause) (c z : Closing) (Es : List (List Ty)) (es : List Entry) → AreSame c z Es es → AreProved L d P c Es es → AreProved L d P z Es es
+same_proved L d P c z [] [] w p = tt
+same_proved L d P c z [] (e ∷ es) w p = p
+same_proved L d P c z (E ∷ Es) [] w p = p
+same_proved L d P c z (E ∷ Es) (e ∷ es) w p = (
+  transport (λ X. ProvableBy L d X (clauses_at P e.assumed z) (closed z (formula_of_goal e.goal))) w.0.0
+      (transport (λ X. ProvableBy L d (map (instance c.types) E) (map sentence_of P ++ X) (closed z (formula_of_goal e.goal))) (same_assumed c z e.assumed w.0.2)
+      (transport (λ X. ProvableBy L d (map (instance c.types) E) (clauses_at P e.assumed c) X) w.0.1 p.0)),
+  same_proved _ d P c z Es es w.1 p.1,
 )
 
 -- closings with the same terms whose types agree below k
@@ -260,9 +261,9 @@ lead_of d V c z bs ts e s g = record {
       (transport (λ (w : Closing). Converts (c.terms x (length (map (instance (types_of ts)) v.scope))) (w.terms x (length (map (instance (types_of ts)) v.scope)))) (through_same z bs ts s) (g x (instance_variable (types_of ts) v) (get_at (types_of ts) V x v i)));
 }
 
-keeps : (n : ℕ) (d : Declared) (P : List Clause) (q : Query) (i : Instance) (y : BranchTyping) (b : Branch) (eqs : List TypePair) (ps : List Pair) (s : State) → (l : Left n d q y b eqs ps s) → (r : HaveTypings d (variables_of (χ b.next_type s.types) (W_of n d q y b eqs ps s l)) s.delayed) → SolvesWith d P q i y b eqs ps →
-    SolvesBranch d P q i (typing_behind b.next_type s.types y (W_of n d q y b eqs ps s l) r.0) (resume b s)
-keeps n d P q i y b eqs ps s l r w =
+keeps : {L : Leaves} (n : ℕ) (d : Declared) → IsSetting L d → (P : List Clause) (q : Query) (i : Instance) (y : BranchTyping) (b : Branch) (eqs : List TypePair) (ps : List Pair) (s : State) → (l : Left n d q y b eqs ps s) → (r : HaveTypings d (variables_of (χ b.next_type s.types) (W_of n d q y b eqs ps s l)) s.delayed) → SolvesWith L d P q i y b eqs ps →
+    SolvesBranch L d P q i (typing_behind b.next_type s.types y (W_of n d q y b eqs ps s l) r.0) (resume b s)
+keeps {L} n d std P q i y b eqs ps s l r w =
     let k = b.next_type in
     let ts = s.types in
     let bs = s.bindings in
@@ -289,7 +290,7 @@ keeps n d P q i y b eqs ps s l r w =
     let zx = closes_map d W (χ k ts) z fixes kc.closes in
     let more = more_behind k ts l.made V W l.branch.variables h.typings.more in
     let tx = bindings_behind k ts l.made d W bs l.bindings h.typings.bindings in
-    let proved = (entries_lead d V X P c' z bs ts lead (are_shut d X θ bs tx) more tx cl' zx y.eigens b.goals (l.branch.entries ts l.unified)).0 (same_proved d P c c' y.eigens b.goals (entries_agree k c c' agrees same y.eigens b.goals l.branch.goals) w.branch.proved) in
+    let proved = (entries_lead d std.converting V X P c' z bs ts lead (are_shut d X θ bs tx) more tx cl' zx y.eigens b.goals (l.branch.entries ts l.unified)).0 (same_proved _ d P c c' y.eigens b.goals (entries_agree k c c' agrees same y.eigens b.goals l.branch.goals) w.branch.proved) in
     record {
       query = w.branch.query;
       answer = record {
@@ -317,9 +318,9 @@ through_closes d k V W z bs ts s pb pt mo tb h = record {
       (transport (λ y. IsWitness d (map (instance z.types) (map (instance (types_of ts)) v.scope)) y (instance z.types (instance (types_of ts) v.type))) (ap (close z.terms) (put_types_satisfied z.types ts s (put_all bs u))) w));
 }
 
-gives : (n : ℕ) (d : Declared) (P : List Clause) (q : Query) (i : Instance) (y : BranchTyping) (b : Branch) (eqs : List TypePair) (ps : List Pair) (s : State) → (l : Left n d q y b eqs ps s) → (r : HaveTypings d (variables_of (χ b.next_type s.types) (W_of n d q y b eqs ps s l)) s.delayed) →
-    SolvesBranch d P q i (typing_behind b.next_type s.types y (W_of n d q y b eqs ps s l) r.0) (resume b s) → SolvesWith d P q i y b eqs ps
-gives n d P q i y b eqs ps s l r w =
+gives : {L : Leaves} (n : ℕ) (d : Declared) → IsSetting L d → (P : List Clause) (q : Query) (i : Instance) (y : BranchTyping) (b : Branch) (eqs : List TypePair) (ps : List Pair) (s : State) → (l : Left n d q y b eqs ps s) → (r : HaveTypings d (variables_of (χ b.next_type s.types) (W_of n d q y b eqs ps s l)) s.delayed) →
+    SolvesBranch L d P q i (typing_behind b.next_type s.types y (W_of n d q y b eqs ps s l) r.0) (resume b s) → SolvesWith L d P q i y b eqs ps
+gives {L} n d std P q i y b eqs ps s l r w =
     let k = b.next_type in
     let ts = s.types in
     let bs = s.bindings in
@@ -357,7 +358,7 @@ gives n d P q i y b eqs ps s l r w =
     let tx = bindings_behind k ts l.made d W bs l.bindings h.typings.bindings in
     let shut = are_shut d X θ bs tx in
     let eigens = λ (E : List Ty) (g : AreTypesBelow k E). ap (map (instance z.types)) (sym (map_list k ts l.made E g)) ∙ map_twice (instance (χ k ts)) (instance z.types) (instance z'.types) (λ T. sym (at T)) (map (instance θ) E) in
-    let proved = (entries_lead d V X P c z' bs ts lead shut more tx cl zx y.eigens b.goals (l.branch.entries ts l.unified)).1 (same_proved d P z z' (eigens_of θ y.eigens) (behind bs ts b.goals) (behind_agree k z z' bs ts shut eigens put_same y.eigens b.goals l.branch.goals) w.proved) in
+    let proved = (entries_lead d std.converting V X P c z' bs ts lead shut more tx cl zx y.eigens b.goals (l.branch.entries ts l.unified)).1 (same_proved _ d P z z' (eigens_of θ y.eigens) (behind bs ts b.goals) (behind_agree k z z' bs ts shut eigens put_same y.eigens b.goals l.branch.goals) w.proved) in
     record {
       branch = record {
         query = w.query;
@@ -393,11 +394,11 @@ with_typed n d q y b eqs h = record {
 not_done : Deep ≢ NoMore
 not_done e = absurd (cc)
 
-pub follows : (n : ℕ) (d : Declared) (P : List Clause) (q : Query) (y : BranchTyping) (b : Branch) (eqs : List TypePair) (ps : List Pair) → IsBranchWith n d q eqs y b → ((θ : ℕ → Ty) → Unifies θ eqs → HaveTypings d (variables_of θ y.answer.variables) (at_types θ ps)) → EachOf (λ x. IsTypeBelow b.next_type x.left × IsTypeBelow b.next_type x.right) eqs → EachOf (IsPlainPair b.next_type) ps →
-    (T : TypedTask) → ((i : Instance) → Sol d P q i T → SolvesWith d P q i y b eqs ps) → ((i : Instance) → SolvesWith d P q i y b eqs ps → Sol d P q i T) → StandFor n d P q T (follow b (solve n unit_limit eqs ps b.pairs b.next))
-follows n d P q y b eqs ps h input pe pp T on back = go (solve n unit_limit eqs ps b.pairs b.next) refl
+pub follows : {L : Leaves} (n : ℕ) (d : Declared) → IsSetting L d → (P : List Clause) (q : Query) (y : BranchTyping) (b : Branch) (eqs : List TypePair) (ps : List Pair) → IsBranchWith n d q eqs y b → ((θ : ℕ → Ty) → Unifies θ eqs → HaveTypings d (variables_of θ y.answer.variables) (at_types θ ps)) → EachOf (λ x. IsTypeBelow b.next_type x.left × IsTypeBelow b.next_type x.right) eqs → EachOf (IsPlainPair b.next_type) ps →
+    (T : TypedTask) → ((i : Instance) → Sol L d P q i T → SolvesWith L d P q i y b eqs ps) → ((i : Instance) → SolvesWith L d P q i y b eqs ps → Sol L d P q i T) → StandFor L n d P q T (follow b (solve n unit_limit eqs ps b.pairs b.next))
+follows {L} n d std P q y b eqs ps h input pe pp T on back = go (solve n unit_limit eqs ps b.pairs b.next) refl
   where
-    solution : (s : State) → solve n unit_limit eqs ps b.pairs b.next ≡ Some (Solution s) → StandFor n d P q T (follow b (Some (Solution s)))
+    solution : (s : State) → solve n unit_limit eqs ps b.pairs b.next ≡ Some (Solution s) → StandFor L n d P q T (follow b (Some (Solution s)))
     solution s e =
         let k = b.next_type in
         let kp = solve_keeps_plain k n unit_limit eqs ps b.pairs b.next s pe pp h.pairs e in
@@ -420,11 +421,11 @@ follows n d P q y b eqs ps h input pe pp T on back = go (solve n unit_limit eqs 
           typed = t ∷ [];
           is = refl;
           ok = (resumed_typed n d q y b s c.typings.after eqs h l.unified l.made l.bindings l.delayed (solve_stuck n unit_limit eqs ps b.pairs b.next (Solution s) h.stuck e).1 c.typings.more c.typings.count c.typings.bindings r, tt);
-          keeps = λ i w. inl (keeps n d P q i y b eqs ps s l r (on i w));
-          gives = λ i w. elim w [ inl a ↦ back i (gives n d P q i y b eqs ps s l r a) | inr x ↦ absurd x ];
+          keeps = λ i w. inl (keeps n d std P q i y b eqs ps s l r (on i w));
+          gives = λ i w. elim w [ inl a ↦ back i (gives n d std P q i y b eqs ps s l r a) | inr x ↦ absurd x ];
         }
 
-    go : (o : Option Unified) → solve n unit_limit eqs ps b.pairs b.next ≡ o → StandFor n d P q T (follow b o)
+    go : (o : Option Unified) → solve n unit_limit eqs ps b.pairs b.next ≡ o → StandFor L n d P q T (follow b o)
     go None e = lacked n d P q T
     go (Some Spent) e = stopped n d P q T Deep not_done
     go (Some Fail) e = record {

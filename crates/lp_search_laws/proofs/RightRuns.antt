@@ -6,7 +6,7 @@ use Rattle.lp_model.specs.Faithful.{Covers, AreFine, Denied, Faithful}
 use Rattle.lp_lemmas.specs.Each.{AnyOf, EachOf}
 use Rattle.lp_model.specs.Flat.{Clause}
 use Rattle.lp_model.specs.Branch.{Branch, Answer, Task, Go}
-use Rattle.lp_model.specs.Proofs.{Declared}
+use Rattle.lp_model.specs.Proofs.{Declared, no_leaf}
 use Rattle.lp_model.specs.Answers.{Query, Instance, IsInstance, IsWellFormed, TypedAnswer}
 use Rattle.lp_model.specs.Search.{look}
 use Rattle.lp_lemmas.proofs.Each.{each_from_any}
@@ -17,7 +17,7 @@ use Rattle.lp_search_laws.specs.Right.{IsRightOf}
 use Rattle.lp_search_laws.specs.Unnegated.{IsUnnegatedClause, IsUnnegatedTask}
 use Rattle.lp_search_laws.proofs.Unnegated.{IsUnnegatedView, unnegated_look}
 
-module _ (n : ℕ) (d : Declared) (P : List Clause) (program : EachOf IsUnnegatedClause P) (q : Query) (looks : (height : ℕ) (T : TypedTask) → IsOk n d P q T → IsRightView n d P q T (look unit_limit n P height (task_of T))) where
+module _ (n : ℕ) (d : Declared) (P : List Clause) (program : EachOf IsUnnegatedClause P) (q : Query) (looks : (height : ℕ) (T : TypedTask) → IsOk n d P q T → IsRightView no_leaf n d P q T (look unit_limit n P height (task_of T))) where
   -- a typed task that is as it should be
   record Marked : Type 0 where
     task : TypedTask
@@ -42,7 +42,7 @@ module _ (n : ℕ) (d : Declared) (P : List Clause) (program : EachOf IsUnnegate
   all_pure (T ∷ Ts) [] e h = absurd (cc)
   all_pure (T ∷ Ts) (t ∷ ts) e h = let x : task_of T ≡ t = cc in let y : map task_of Ts ≡ ts = cc in (transport IsUnnegatedTask (sym x) h.0, all_pure Ts ts y h.1)
 
-  marked : (T : TypedTask) (v : View Task Answer) → IsRightView n d P q T v → IsUnnegatedView v → View Marked TypedAnswer
+  marked : (T : TypedTask) (v : View Task Answer) → IsRightView no_leaf n d P q T v → IsUnnegatedView v → View Marked TypedAnswer
   marked T (Gives a) r u = Gives (record { answer = a; typing = r.typing })
   marked T (Opens ts) r u = Opens (marks r.typed r.ok (all_pure r.typed ts r.is u))
   marked T (Parts ts) r u = Parts (marks r.typed r.ok (all_pure r.typed ts r.is u))
@@ -64,7 +64,7 @@ module _ (n : ℕ) (d : Declared) (P : List Clause) (program : EachOf IsUnnegate
   unfolded [] h p = refl
   unfolded (T ∷ Ts) h p = ap (λ x. task_of T ∷ x) (unfolded Ts h.1 p.1)
 
-  same_view : (T : TypedTask) (v : View Task Answer) (r : IsRightView n d P q T v) (u : IsUnnegatedView v) → v ≡ view_map bare answer_only (marked T v r u)
+  same_view : (T : TypedTask) (v : View Task Answer) (r : IsRightView no_leaf n d P q T v) (u : IsUnnegatedView v) → v ≡ view_map bare answer_only (marked T v r u)
   unfolding bare marks answer_only marked
   same_view T (Gives a) r u = refl
   same_view T (Opens ts) r u = ap Opens (sym r.is ∙ unfolded r.typed r.ok (all_pure r.typed ts r.is u))
@@ -83,14 +83,14 @@ module _ (n : ℕ) (d : Declared) (P : List Clause) (program : EachOf IsUnnegate
   Is i a = IsQueryInstance d q i × IsInstance d a.typing a.answer i
 
   abbrev MarkedSol : Instance → Marked → Type 0
-  MarkedSol i M = Sol d P q i M.task
+  MarkedSol i M = Sol no_leaf d P q i M.task
 
-  any_marked : (i : Instance) (Ts : List TypedTask) (h : EachOf (IsOk n d P q) Ts) (p : ArePure Ts) → AnyOf (Sol d P q i) Ts → AnyOf (MarkedSol i) (marks Ts h p)
+  any_marked : (i : Instance) (Ts : List TypedTask) (h : EachOf (IsOk n d P q) Ts) (p : ArePure Ts) → AnyOf (Sol no_leaf d P q i) Ts → AnyOf (MarkedSol i) (marks Ts h p)
   unfolding marks
   any_marked i [] h p s = s
   any_marked i (T ∷ Ts) h p s = elim s [ inl x ↦ inl x | inr x ↦ inr (any_marked i Ts h.1 p.1 x) ]
 
-  marked_any : (i : Instance) (Ts : List TypedTask) (h : EachOf (IsOk n d P q) Ts) (p : ArePure Ts) → AnyOf (MarkedSol i) (marks Ts h p) → AnyOf (Sol d P q i) Ts
+  marked_any : (i : Instance) (Ts : List TypedTask) (h : EachOf (IsOk n d P q) Ts) (p : ArePure Ts) → AnyOf (MarkedSol i) (marks Ts h p) → AnyOf (Sol no_leaf d P q i) Ts
   unfolding marks
   marked_any i [] h p s = s
   marked_any i (T ∷ Ts) h p s = elim s [ inl x ↦ inl x | inr x ↦ inr (marked_any i Ts h.1 p.1 x) ]
@@ -99,7 +99,7 @@ module _ (n : ℕ) (d : Declared) (P : List Clause) (program : EachOf IsUnnegate
   all_fine [] = tt
   all_fine (M ∷ Ms) = (tt, all_fine Ms)
 
-  view_stays : (T : TypedTask) (v : View Task Answer) (r : IsRightView n d P q T v) (u : IsUnnegatedView v) → AreFine (λ M. Unit {0}) Fine (marked T v r u)
+  view_stays : (T : TypedTask) (v : View Task Answer) (r : IsRightView no_leaf n d P q T v) (u : IsUnnegatedView v) → AreFine (λ M. Unit {0}) Fine (marked T v r u)
   unfolding marked
   view_stays T (Gives a) r u = r.ok
   view_stays T (Opens ts) r u = all_fine (marks r.typed r.ok (all_pure r.typed ts r.is u))
@@ -110,7 +110,7 @@ module _ (n : ℕ) (d : Declared) (P : List Clause) (program : EachOf IsUnnegate
   view_stays T (Halts e) r u = r
   view_stays T Lacks r u = tt
 
-  view_keeps : (T : TypedTask) (v : View Task Answer) (r : IsRightView n d P q T v) (u : IsUnnegatedView v) (i : Instance) → Sol d P q i T → Covers (Unit {0}) MarkedSol Is i (marked T v r u)
+  view_keeps : (T : TypedTask) (v : View Task Answer) (r : IsRightView no_leaf n d P q T v) (u : IsUnnegatedView v) (i : Instance) → Sol no_leaf d P q i T → Covers (Unit {0}) MarkedSol Is i (marked T v r u)
   unfolding marked
   view_keeps T (Gives a) r u i s = r.keeps i s
   view_keeps T (Opens ts) r u i s = any_marked i r.typed r.ok (all_pure r.typed ts r.is u) (r.keeps i s)
@@ -121,7 +121,7 @@ module _ (n : ℕ) (d : Declared) (P : List Clause) (program : EachOf IsUnnegate
   view_keeps T (Halts e) r u i s = tt
   view_keeps T Lacks r u i s = tt
 
-  view_gives : (T : TypedTask) (v : View Task Answer) (r : IsRightView n d P q T v) (u : IsUnnegatedView v) (i : Instance) → Covers ⊥ MarkedSol Is i (marked T v r u) → Sol d P q i T
+  view_gives : (T : TypedTask) (v : View Task Answer) (r : IsRightView no_leaf n d P q T v) (u : IsUnnegatedView v) (i : Instance) → Covers ⊥ MarkedSol Is i (marked T v r u) → Sol no_leaf d P q i T
   unfolding marked
   view_gives T (Gives a) r u i s = r.gives i s.0 s.1
   view_gives T (Opens ts) r u i s = r.gives i (marked_any i r.typed r.ok (all_pure r.typed ts r.is u) s)
@@ -132,7 +132,7 @@ module _ (n : ℕ) (d : Declared) (P : List Clause) (program : EachOf IsUnnegate
   view_gives T (Halts e) r u i s = absurd s
   view_gives T Lacks r u i s = absurd s
 
-  none_denied : (T : TypedTask) (v : View Task Answer) (r : IsRightView n d P q T v) (u : IsUnnegatedView v) → HasNoDenial (marked T v r u)
+  none_denied : (T : TypedTask) (v : View Task Answer) (r : IsRightView no_leaf n d P q T v) (u : IsUnnegatedView v) → HasNoDenial (marked T v r u)
   unfolding marked
   none_denied T (Gives a) r u = tt
   none_denied T (Opens ts) r u = tt
@@ -167,28 +167,28 @@ module _ (n : ℕ) (d : Declared) (P : List Clause) (program : EachOf IsUnnegate
     any_instance i [] s = s
     any_instance i (a ∷ as') s = elim s [ inl x ↦ inl x.1 | inr x ↦ inr (any_instance i as' x) ]
 
-    each_instance : (as' : List TypedAnswer) → EachOf (λ a. (i : Instance) → Is i a → SolvesBranch d P q i y b) as' → EachOf (λ a. (i : Instance) → IsQueryInstance d q i → IsInstance d a.typing a.answer i → SolvesBranch d P q i y b) as'
+    each_instance : (as' : List TypedAnswer) → EachOf (λ a. (i : Instance) → Is i a → SolvesBranch no_leaf d P q i y b) as' → EachOf (λ a. (i : Instance) → IsQueryInstance d q i → IsInstance d a.typing a.answer i → SolvesBranch no_leaf d P q i y b) as'
     each_instance [] s = tt
     each_instance (a ∷ as') s = (λ i x z. s.0 i (x, z), each_instance as' s.1)
 
     here : steps ≤ steps
     here = omega arith
 
-    one_of : (i : Instance) → AnyOf (MarkedSol i) (first ∷ []) → SolvesBranch d P q i y b
+    one_of : (i : Instance) → AnyOf (MarkedSol i) (first ∷ []) → SolvesBranch no_leaf d P q i y b
     unfolding first
     one_of i s = elim s [ inl x ↦ x | inr x ↦ absurd x ]
 
-    the_one : (i : Instance) → SolvesBranch d P q i y b → AnyOf (MarkedSol i) (first ∷ [])
+    the_one : (i : Instance) → SolvesBranch no_leaf d P q i y b → AnyOf (MarkedSol i) (first ∷ [])
     unfolding first
     the_one i s = inl s
 
-    pub right_run : IsRightOf d P q y b (run (look unit_limit n P) j m (starts (Go b) steps answers))
+    pub right_run : IsRightOf no_leaf d P q y b (run (look unit_limit n P) j m (starts (Go b) steps answers))
     unfolding answer_only
-    right_run = transport (IsRightOf d P q y b) (sym in_both) (record {
+    right_run = transport (IsRightOf no_leaf d P q y b) (sym in_both) (record {
       typed = (run looked j m (starts first steps answers)).answers;
       is = refl;
       well_formed = fine looked steps (λ M. Unit {0}) Fine MarkedSol Is (faithful steps) j m (starts first steps answers) (tt, tt);
       sound = each_instance (run looked j m (starts first steps answers)).answers
-          (each_from_any Is (λ i. SolvesBranch d P q i y b) (run looked j m (starts first steps answers)).answers (λ i s. one_of i (sound looked steps (λ M. Unit {0}) Fine MarkedSol Is (faithful steps) j m (starts first steps answers) here (tt, tt) i s)));
+          (each_from_any Is (λ i. SolvesBranch no_leaf d P q i y b) (run looked j m (starts first steps answers)).answers (λ i s. one_of i (sound looked steps (λ M. Unit {0}) Fine MarkedSol Is (faithful steps) j m (starts first steps answers) here (tt, tt) i s)));
       exhausts = λ e i s. any_instance i (run looked j m (starts first steps answers)).answers (exhausts looked steps (λ M. Unit {0}) Fine MarkedSol Is (faithful steps) j m (starts first steps answers) here (tt, tt) e i (the_one i s));
     })

@@ -1,4 +1,5 @@
 -- The tries of an atom stand for its branch: a closing makes the atom provable exactly where it makes some candidate serve.
+use Rattle.lp_proof_laws.proofs.Uniform.Settings.{IsSetting}
 use Rattle.std.proofs.Common.{◌≡◌, ℕ, List, [], ◌∷◌, ◌++◌, map, refl, sym, ap, subst as transport, inl, inr, Bool, true, false, Option, Some, None}
 use Rattle.std.specs.Prelude.{◌⊎◌, ◌&&◌, cond, filter}
 use Rattle.lp_calculus.specs.Types.{Ty, instance}
@@ -14,9 +15,8 @@ use Rattle.lp_lemmas.specs.Each.{AnyOf, EachOf}
 use Rattle.lp_model.specs.Look.{head_normal}
 use Rattle.lp_model.specs.Same.{same_name}
 use Rattle.lp_model.specs.Pair.{Closing, closed}
-use Rattle.lp_standard.specs.Schemes.{IsStandard}
 use Rattle.lp_model.specs.Flat.{Atomic, Clause, clause, formula_of_goal}
-use Rattle.lp_model.specs.Proofs.{Declared, IsFormula, IsAtomHead}
+use Rattle.lp_model.specs.Proofs.{Declared, IsFormula, IsAtomHead, Leaves}
 use Rattle.lp_model.specs.Answers.{Query, Variable, over, IsScopedAtom, Instance, AnswerTyping, Closes}
 use Rattle.lp_model.specs.Branch.{Entry, Branch}
 use Rattle.lp_model.specs.Search.{with_goals, tries, candidates, goal_key, has_head, passes, may_meet, first_key}
@@ -104,7 +104,7 @@ map_tasks : {X : Type 0} (f : X → TypedTask) (xs : List X) → map task_of (ma
 map_tasks f [] = refl
 map_tasks f (x ∷ xs) = ap (λ ts. task_of (f x) ∷ ts) (map_tasks f xs)
 
-module _ (n height : ℕ) (d : Declared) (std : IsStandard d) (P : List Clause) (program : EachOf (IsProgramTyped d) P) (q : Query) (z : AnswerTyping) (b : Branch) (E : List Ty) (Es : List (List Ty)) (e : Entry) (es : List Entry) (t u : Term) (is : e.goal ≡ Atomic t) (normal : head_normal n t ≡ Some u) (at_atom : IsAtomHead (head_of u))
+module _ {L : Leaves} (n height : ℕ) (d : Declared) (std : IsSetting L d) (P : List Clause) (program : EachOf (IsProgramTyped d) P) (q : Query) (z : AnswerTyping) (b : Branch) (E : List Ty) (Es : List (List Ty)) (e : Entry) (es : List Entry) (t u : Term) (is : e.goal ≡ Atomic t) (normal : head_normal n t ≡ Some u) (at_atom : IsAtomHead (head_of u))
     (typed : IsTypedBranch n d q (record { answer = z; eigens = E ∷ Es }) (with_goals b (e ∷ es))) where
   abbrev typing : BranchTyping
   typing = record { answer = z; eigens = E ∷ Es }
@@ -143,12 +143,12 @@ module _ (n height : ℕ) (d : Declared) (std : IsStandard d) (P : List Clause) 
     normal_fine : IsFormula d F (closed c u)
     normal_fine = formula_at d z.variables c closes E u (typed_reduct d E z.variables t u o_type reduces goal_typed)
 
-    holds_some : Holds d F (clauses_at P e.assumed c) c t → AnyOf (λ x. Serves d F (clauses_at P e.assumed c) c x (closed c u)) (candidates P e.assumed u key)
+    holds_some : Holds L d F (clauses_at P e.assumed c) c t → AnyOf (λ x. Serves L d F (clauses_at P e.assumed c) c x (closed c u)) (candidates P e.assumed u key)
     holds_some p =
         some_candidate d std F P e.assumed c n u key (program_clauses d P program) (assumed_clauses d z.variables E c closes b.next_type e.assumed typed.entries.0.assumed typed.goals.0.assumed) at_atom normal_fine k
         (reduces_on d F (clauses_at P e.assumed c) fine (closed_reduces c reduces) p)
 
-    some_holds : AnyOf (λ x. Serves d F (clauses_at P e.assumed c) c x (closed c u)) (candidates P e.assumed u key) → Holds d F (clauses_at P e.assumed c) c t
+    some_holds : AnyOf (λ x. Serves L d F (clauses_at P e.assumed c) c x (closed c u)) (candidates P e.assumed u key) → Holds L d F (clauses_at P e.assumed c) c t
     some_holds h =
         reduces_back d F (clauses_at P e.assumed c) fine (closed_reduces c reduces)
         (candidate_proves d std F P e.assumed c n u key (program_clauses d P program) (assumed_clauses d z.variables E c closes b.next_type e.assumed typed.entries.0.assumed typed.goals.0.assumed) at_atom h)
@@ -156,20 +156,20 @@ module _ (n height : ℕ) (d : Declared) (std : IsStandard d) (P : List Clause) 
   abbrev try_of : Clause → TypedTask
   try_of c = trying typing c u e (with_goals b es) height
 
-  keeps_try : (key : Option Atom) → goal_key n (arguments u) ≡ Some key → (i : Instance) → SolvesBranch d P q i typing (with_goals b (e ∷ es)) → AnyOf (Sol d P q i) (map try_of (candidates P e.assumed u key))
+  keeps_try : (key : Option Atom) → goal_key n (arguments u) ≡ Some key → (i : Instance) → SolvesBranch L d P q i typing (with_goals b (e ∷ es)) → AnyOf (Sol L d P q i) (map try_of (candidates P e.assumed u key))
   keeps_try key k i s =
       let c = s.answer.closing in
-      let p = transport (λ g. Holds d (map (instance c.types) E) (clauses_at P e.assumed c) c (formula_of_goal g)) is s.proved.0 in
-      any_map (λ x. Serves d (map (instance c.types) E) (clauses_at P e.assumed c) c x (closed c u)) (Sol d P q i) try_of (λ x r. record { query = s.query; answer = s.answer; served = (r, s.proved.1) }) (candidates P e.assumed u key) (holds_some c s.answer.closes key k p)
+      let p = transport (λ g. Holds L d (map (instance c.types) E) (clauses_at P e.assumed c) c (formula_of_goal g)) is s.proved.0 in
+      any_map (λ x. Serves L d (map (instance c.types) E) (clauses_at P e.assumed c) c x (closed c u)) (Sol L d P q i) try_of (λ x r. record { query = s.query; answer = s.answer; served = (r, s.proved.1) }) (candidates P e.assumed u key) (holds_some c s.answer.closes key k p)
 
-  gives_try : (key : Option Atom) → goal_key n (arguments u) ≡ Some key → (i : Instance) → AnyOf (Sol d P q i) (map try_of (candidates P e.assumed u key)) → SolvesBranch d P q i typing (with_goals b (e ∷ es))
+  gives_try : (key : Option Atom) → goal_key n (arguments u) ≡ Some key → (i : Instance) → AnyOf (Sol L d P q i) (map try_of (candidates P e.assumed u key)) → SolvesBranch L d P q i typing (with_goals b (e ∷ es))
   gives_try key k i h =
-      any_back (Sol d P q i) try_of (SolvesBranch d P q i typing (with_goals b (e ∷ es))) (candidates P e.assumed u key) (λ x j s.
+      any_back (Sol L d P q i) try_of (SolvesBranch L d P q i typing (with_goals b (e ∷ es))) (candidates P e.assumed u key) (λ x j s.
       let c = s.answer.closing in
-      let p = some_holds c s.answer.closes key k (any_at (λ w. Serves d (map (instance c.types) E) (clauses_at P e.assumed c) c w (closed c u)) x (candidates P e.assumed u key) j s.served.0) in
-      record { query = s.query; answer = s.answer; proved = (transport (λ g. Holds d (map (instance c.types) E) (clauses_at P e.assumed c) c (formula_of_goal g)) (sym is) p, s.served.1) }) h
+      let p = some_holds c s.answer.closes key k (any_at (λ w. Serves L d (map (instance c.types) E) (clauses_at P e.assumed c) c w (closed c u)) x (candidates P e.assumed u key) j s.served.0) in
+      record { query = s.query; answer = s.answer; proved = (transport (λ g. Holds L d (map (instance c.types) E) (clauses_at P e.assumed c) c (formula_of_goal g)) (sym is) p, s.served.1) }) h
 
-  pub atom_tried : (o : Option (Option Atom)) → goal_key n (arguments u) ≡ o → StandFor n d P q (going typing (with_goals b (e ∷ es))) (tries P u e (with_goals b es) height o)
+  pub atom_tried : (o : Option (Option Atom)) → goal_key n (arguments u) ≡ o → StandFor L n d P q (going typing (with_goals b (e ∷ es))) (tries P u e (with_goals b es) height o)
   atom_tried None k = lacked n d P q (going typing (with_goals b (e ∷ es)))
   atom_tried (Some key) k = record {
     typed = map try_of (candidates P e.assumed u key);
@@ -180,19 +180,19 @@ module _ (n height : ℕ) (d : Declared) (std : IsStandard d) (P : List Clause) 
   }
 
 -- a branch by its first goal
-pub atoms_are_tried : (n height : ℕ) (d : Declared) → IsStandard d → (P : List Clause) → EachOf (IsProgramTyped d) P → (q : Query) (y : BranchTyping) (b : Branch) (e : Entry) (es : List Entry) (t u : Term) → b.goals ≡ e ∷ es → e.goal ≡ Atomic t → head_normal n t ≡ Some u → IsAtomHead (head_of u) → IsTypedBranch n d q y b → StandFor n d P q (going y b) (tries P u e (with_goals b es) height (goal_key n (arguments u)))
-atoms_are_tried n height d std P program q y b e es t u g is normal at_atom typed = go y.eigens refl
+pub atoms_are_tried : {L : Leaves} (n height : ℕ) (d : Declared) → IsSetting L d → (P : List Clause) → EachOf (IsProgramTyped d) P → (q : Query) (y : BranchTyping) (b : Branch) (e : Entry) (es : List Entry) (t u : Term) → b.goals ≡ e ∷ es → e.goal ≡ Atomic t → head_normal n t ≡ Some u → IsAtomHead (head_of u) → IsTypedBranch n d q y b → StandFor L n d P q (going y b) (tries P u e (with_goals b es) height (goal_key n (arguments u)))
+atoms_are_tried {L} n height d std P program q y b e es t u g is normal at_atom typed = go y.eigens refl
   where
     same_branch : b ≡ with_goals b (e ∷ es)
     same_branch = ap (with_goals b) g
 
-    go : (Fs : List (List Ty)) → y.eigens ≡ Fs → StandFor n d P q (going y b) (tries P u e (with_goals b es) height (goal_key n (arguments u)))
+    go : (Fs : List (List Ty)) → y.eigens ≡ Fs → StandFor L n d P q (going y b) (tries P u e (with_goals b es) height (goal_key n (arguments u)))
     go Fs f =
         let typings : y ≡ record { answer = y.answer; eigens = Fs } = ap (λ x. record { answer = y.answer; eigens = x }) f in
         let all : IsTypedBranch n d q (record { answer = y.answer; eigens = Fs }) (with_goals b (e ∷ es)) = transport (λ x. IsTypedBranch n d q x (with_goals b (e ∷ es))) typings (transport (IsTypedBranch n d q y) same_branch typed) in
-        transport (λ x. StandFor n d P q (going y x) (tries P u e (with_goals b es) height (goal_key n (arguments u)))) (sym same_branch)
-        (transport (λ x. StandFor n d P q (going x (with_goals b (e ∷ es))) (tries P u e (with_goals b es) height (goal_key n (arguments u)))) (sym typings) (first Fs all))
+        transport (λ x. StandFor L n d P q (going y x) (tries P u e (with_goals b es) height (goal_key n (arguments u)))) (sym same_branch)
+        (transport (λ x. StandFor L n d P q (going x (with_goals b (e ∷ es))) (tries P u e (with_goals b es) height (goal_key n (arguments u)))) (sym typings) (first Fs all))
       where
-        first : (Fs : List (List Ty)) → IsTypedBranch n d q (record { answer = y.answer; eigens = Fs }) (with_goals b (e ∷ es)) → StandFor n d P q (going (record { answer = y.answer; eigens = Fs }) (with_goals b (e ∷ es))) (tries P u e (with_goals b es) height (goal_key n (arguments u)))
+        first : (Fs : List (List Ty)) → IsTypedBranch n d q (record { answer = y.answer; eigens = Fs }) (with_goals b (e ∷ es)) → StandFor L n d P q (going (record { answer = y.answer; eigens = Fs }) (with_goals b (e ∷ es))) (tries P u e (with_goals b es) height (goal_key n (arguments u)))
         first [] h = absurd h.entries
         first (E ∷ Es) h = atom_tried n height d std P program q y.answer b E Es e es t u is normal at_atom h (goal_key n (arguments u)) refl

@@ -15,7 +15,7 @@ use Rattle.lp_model.specs.Index.{instantiate, at}
 use Rattle.lp_model.specs.Pair.{Closing, closed}
 use Rattle.lp_model.specs.Search.{renewed}
 use Rattle.lp_model.specs.Flatten.{ClauseFormula}
-use Rattle.lp_model.specs.Proofs.{Declared, PlainlyProvable}
+use Rattle.lp_model.specs.Proofs.{Declared, Leaves, ProvableBy}
 use Rattle.lp_model.specs.Flat.{Goals, type_goals, formula_of_goals}
 use Rattle.lp_unify_laws.proofs.Identities.{both_types, term_twice, map_twice}
 use Rattle.lp_search_laws.specs.Branches.{IsPlainTerm, AreGoals}
@@ -98,18 +98,18 @@ same_clause M a o ρ vs h g B e f v p q =
       goals = ap (closed a) (goals_inside (instance_term ρ) (instance ρ) (types_inside ρ) zero g) ∙ term (formula_of_goals g) (goals_below M B g q);
     }
 
-pub applies_on : (d : Declared) (F : List Ty) (R : List ClauseFormula) (a o : Closing) (ρ : ℕ → Ty) (vs : List Ty) (h : Term) (g : Goals) (A A' : Term) → SameClause a o ρ vs h g → A ≡ A' → Applies d F R o vs h g A → Applies d F R a (map (instance ρ) vs) (instance_term ρ h) (type_goals ρ g) A'
-applies_on d F R a o ρ vs h g A A' s e w = record {
+pub applies_on : {L : Leaves} (d : Declared) (F : List Ty) (R : List ClauseFormula) (a o : Closing) (ρ : ℕ → Ty) (vs : List Ty) (h : Term) (g : Goals) (A A' : Term) → SameClause a o ρ vs h g → A ≡ A' → Applies L d F R o vs h g A → Applies L d F R a (map (instance ρ) vs) (instance_term ρ h) (type_goals ρ g) A'
+applies_on {L} d F R a o ρ vs h g A A' s e w = record {
   values = w.values;
   witnesses = transport (AreWitnessesAt d F w.values) (sym s.vars) w.witnesses;
   head = transport (λ x. Converts (instantiate (at w.values) x) A') (sym s.head) (transport (λ x. Converts (instantiate (at w.values) (closed o h)) x) e w.head);
-  goals = transport (λ x. PlainlyProvable d F R (instantiate (at w.values) x)) (sym s.goals) w.goals;
+  goals = transport (λ x. ProvableBy L d F R (instantiate (at w.values) x)) (sym s.goals) w.goals;
 }
 
-pub applies_back : (d : Declared) (F : List Ty) (R : List ClauseFormula) (a o : Closing) (ρ : ℕ → Ty) (vs : List Ty) (h : Term) (g : Goals) (A : Term) → SameClause a o ρ vs h g → Applies d F R a (map (instance ρ) vs) (instance_term ρ h) (type_goals ρ g) A → Applies d F R o vs h g A
-applies_back d F R a o ρ vs h g A s w = record {
+pub applies_back : {L : Leaves} (d : Declared) (F : List Ty) (R : List ClauseFormula) (a o : Closing) (ρ : ℕ → Ty) (vs : List Ty) (h : Term) (g : Goals) (A : Term) → SameClause a o ρ vs h g → Applies L d F R a (map (instance ρ) vs) (instance_term ρ h) (type_goals ρ g) A → Applies L d F R o vs h g A
+applies_back {L} d F R a o ρ vs h g A s w = record {
   values = w.values;
   witnesses = transport (AreWitnessesAt d F w.values) s.vars w.witnesses;
   head = transport (λ x. Converts (instantiate (at w.values) x) A) s.head w.head;
-  goals = transport (λ x. PlainlyProvable d F R (instantiate (at w.values) x)) s.goals w.goals;
+  goals = transport (λ x. ProvableBy L d F R (instantiate (at w.values) x)) s.goals w.goals;
 }

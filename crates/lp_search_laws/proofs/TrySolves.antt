@@ -1,5 +1,6 @@
 -- A try: a clause serves for its goal, and the goals behind it are provable, exactly where some closing of the try's branch solves the types of the
 -- heads and the pairs of the arguments, and each goal of the branch is provable.
+use Rattle.lp_proof_laws.proofs.Uniform.Settings.{IsSetting}
 use Rattle.std.proofs.Common.{◌≡◌, ℕ, ◌+◌, ◌<◌, List, [], ◌∷◌, ◌++◌, map, length, ◌∙◌, refl, sym, ap, subst as transport, false, inl, inr}
 use Rattle.lp_calculus.specs.Types.{Ty, instance}
 use Rattle.lp_calculus.specs.Term.{Term}
@@ -14,9 +15,8 @@ use Rattle.lp_calculus.specs.Spine.{head_of, arguments}
 use Rattle.lp_model.specs.Index.{instantiate}
 use Rattle.lp_model.specs.Rule.{type_pairs}
 use Rattle.lp_model.specs.Pair.{Pair, Closing, closed, SolvesAll}
-use Rattle.lp_standard.specs.Schemes.{IsStandard}
 use Rattle.lp_model.specs.Search.{renewed, pairs_of}
-use Rattle.lp_model.specs.Proofs.{Declared, IsFormula, IsWitness, PlainlyProvable}
+use Rattle.lp_model.specs.Proofs.{Declared, IsFormula, IsWitness, Leaves, ProvableBy}
 use Rattle.lp_model.specs.Flat.{Written, Goal, Goals, Clause, clause, goal_list, instantiate_goals, type_goals, formula_of_goal, formula_of_goals, formula_of_clause}
 use Rattle.lp_model.specs.Branch.{Entry, Branch, entries}
 use Rattle.lp_model.specs.Answers.{Query, Instance, Variable, PairTyping, AreTypedPairs, AreTypedValues, Closes}
@@ -40,9 +40,9 @@ use Rattle.lp_search_laws.proofs.Resumed.{IsSame, AreSame, same_assumed, same_pr
 use Rattle.lp_search_laws.proofs.TryMatches.{any_each, try_matches}
 use Rattle.lp_search_laws.proofs.TrySolved.{with_types, with_old, with_new, with_closed, types_given, given_long, given_closed, given_type, MayHave, renewed_types, same_clause, applies_on, applies_back}
 
-split_entries : (d : Declared) (P : List Clause) (c : Closing) (E : List Ty) (Es : List (List Ty)) (A : List Clause) (W : Written) (level mark : ℕ) (gs : List Goal) (es : List Entry) → AreProved d P c (each_at E gs ++ Es) (entries gs A W level mark ++ es) → AreProved d P c (each_at E gs) (entries gs A W level mark) × AreProved d P c Es es
-split_entries d P c E Es A W l m [] es h = (tt, h)
-split_entries d P c E Es A W l m (g ∷ gs) es h = let r = split_entries d P c E Es A W l m gs es h.1 in ((h.0, r.0), r.1)
+split_entries : (L : Leaves) (d : Declared) (P : List Clause) (c : Closing) (E : List Ty) (Es : List (List Ty)) (A : List Clause) (W : Written) (level mark : ℕ) (gs : List Goal) (es : List Entry) → AreProved L d P c (each_at E gs ++ Es) (entries gs A W level mark ++ es) → AreProved L d P c (each_at E gs) (entries gs A W level mark) × AreProved L d P c Es es
+split_entries L d P c E Es A W l m [] es h = (tt, h)
+split_entries L d P c E Es A W l m (g ∷ gs) es h = let r = split_entries _ d P c E Es A W l m gs es h.1 in ((h.0, r.0), r.1)
 
 agree_closes : (d : Declared) (j : ℕ) (V : List Variable) (c z : Closing) → EachOf (IsPlainVariable j) V → z.terms ≡ c.terms → ((i : ℕ) → i < j → z.types i ≡ c.types i) → ((i : ℕ) → IsClosedType (z.types i)) → Closes d V c → Closes d V z
 agree_closes d j V c z p e a t h = record {
@@ -85,7 +85,7 @@ entries_same d j V c z a f (E ∷ Es) (e ∷ es) t p = (
   entries_same d j V c z a f Es es t.1 p.1,
 )
 
-module _ (n : ℕ) (d : Declared) (std : IsStandard d) (P : List Clause) (program : EachOf (IsProgramTyped d) P) (q : Query) (y : BranchTyping) (k : ℕ) (vs : List Ty) (h : Term) (g : Goals) (t : Term) (e : Entry) (b : Branch) (mark : ℕ) (w : IsTypedTry n d P q y (clause k vs h g) t e b) (E : List Ty) (Es : List (List Ty)) (is : y.eigens ≡ E ∷ Es) where
+module _ {L : Leaves} (n : ℕ) (d : Declared) (std : IsSetting L d) (P : List Clause) (program : EachOf (IsProgramTyped d) P) (q : Query) (y : BranchTyping) (k : ℕ) (vs : List Ty) (h : Term) (g : Goals) (t : Term) (e : Entry) (b : Branch) (mark : ℕ) (w : IsTypedTry n d P q y (clause k vs h g) t e b) (E : List Ty) (Es : List (List Ty)) (is : y.eigens ≡ E ∷ Es) where
   abbrev V : List Variable
   V = y.answer.variables
 
@@ -120,7 +120,7 @@ module _ (n : ℕ) (d : Declared) (std : IsStandard d) (P : List Clause) (progra
   plain = transport (λ Fs. ArePlainEntries b.next_type Fs (with_atom e t ∷ b.goals)) is w.branch.goals
 
   matches : IsMatch d E V vs' h' (formula_of_goals g') t
-  matches = try_matches n d std P program q y k vs h g t e b w E Es is
+  matches = try_matches n d std.standard P program q y k vs h g t e b w E Es is
 
   form : (M : ℕ) × ((i : ℕ) → i < M → MayHave k b.next_type i) × IsClause M [] c
   form = elim w.stands [
@@ -131,7 +131,7 @@ module _ (n : ℕ) (d : Declared) (std : IsStandard d) (P : List Clause) (progra
   formula : (z : Closing) → Closes d (V ++ new_variables E vs') z → Unifies z.types (type_pairs (head_of t) (head_of h')) → IsFormula d (map (instance z.types) E) (closed z (formula_of_goals (instantiate_goals σ g')))
   formula z cl u = transport (λ x. IsFormula d (map (instance z.types) E) (closed z x)) (sym (goals_instantiate σ g')) (body_formula d E V e.level typed.0.level vs' h' (formula_of_goals g') t matches z cl u)
 
-  pub try_gives : (i : Instance) → SolvesWith d P q i (tried_typing y E Es k vs h g t e b) (tried_branch_of y.answer.variables k vs h g t e b mark) (type_pairs (head_of t) (head_of h')) (pairs_of σ e.level [] (arguments h') (arguments t)) → SolvesTry d P q i y (clause k vs h g) t e b
+  pub try_gives : (i : Instance) → SolvesWith L d P q i (tried_typing y E Es k vs h g t e b) (tried_branch_of y.answer.variables k vs h g t e b mark) (type_pairs (head_of t) (head_of h')) (pairs_of σ e.level [] (arguments h') (arguments t)) → SolvesTry L d P q i y (clause k vs h g) t e b
   try_gives i s =
       let z = s.branch.answer.closing in
       let N = new_variables E vs' in
@@ -139,25 +139,25 @@ module _ (n : ℕ) (d : Declared) (std : IsStandard d) (P : List Clause) (progra
       let cl = closes_front d V N z cl' in
       let F = map (instance z.types) E in
       let R = clauses_at P e.assumed z in
-      let x = split_entries d P z E Es e.assumed e.written e.level mark gl b.goals s.branch.proved in
-      let each = hold_entries d P z E e.assumed e.written e.level mark gl x.0 in
-      let p = transport (λ u. PlainlyProvable d F R (closed z u)) (goals_instantiate σ g') ((goals_in_turn d std F R z (instantiate_goals σ g') (formula z cl' s.types)).1 each) in
+      let x = split_entries _ d P z E Es e.assumed e.written e.level mark gl b.goals s.branch.proved in
+      let each = hold_entries _ d P z E e.assumed e.written e.level mark gl x.0 in
+      let p = transport (λ u. ProvableBy L d F R (closed z u)) (goals_instantiate σ g') ((goals_in_turn d std F R z (instantiate_goals σ g') (formula z cl' s.types)).1 each) in
       let a = match_applies d E V R e.level vs' h' g' t z typed.0.level matches (record { closes = cl'; types = s.types; pairs = s.pairs; goals = p }) in
       let f = λ (l : ℕ). z.types (b.next_type + l) in
       let ts = types_given k f in
       let m = form.2 in
       let same = same_clause form.0 z (with_own k ts z) ρ vs h g (map (λ v. false) vs ++ []) refl (λ l r. renewed_types k b.next_type z.types ts z (λ l r. sym (given_type k f l r)) (λ l r. refl) l (form.1 l r)) m.0 m.2 m.3 in
-      let serving : IsServing d F R z k vs h g (closed z t) = record { types = ts; long = given_long k f; types_closed = given_closed k f (λ l. cl.types (b.next_type + l)); applies = applies_back d F R z (with_own k ts z) ρ vs h g (closed z t) same a } in
+      let serving : IsServing L d F R z k vs h g (closed z t) = record { types = ts; long = given_long k f; types_closed = given_closed k f (λ l. cl.types (b.next_type + l)); applies = applies_back d F R z (with_own k ts z) ρ vs h g (closed z t) same a } in
       record {
         query = s.branch.query;
         answer = record { closing = z; closes = cl; solves = s.branch.answer.solves; types = s.branch.answer.types; values = s.branch.answer.values };
-        served = transport (λ Fs. AreServed d P z Fs c t e b.goals) (sym is) (serving, x.1);
+        served = transport (λ Fs. AreServed L d P z Fs c t e b.goals) (sym is) (serving, x.1);
       }
 
-  pub try_keeps : (i : Instance) → SolvesTry d P q i y (clause k vs h g) t e b → SolvesWith d P q i (tried_typing y E Es k vs h g t e b) (tried_branch_of y.answer.variables k vs h g t e b mark) (type_pairs (head_of t) (head_of h')) (pairs_of σ e.level [] (arguments h') (arguments t))
+  pub try_keeps : (i : Instance) → SolvesTry L d P q i y (clause k vs h g) t e b → SolvesWith L d P q i (tried_typing y E Es k vs h g t e b) (tried_branch_of y.answer.variables k vs h g t e b mark) (type_pairs (head_of t) (head_of h')) (pairs_of σ e.level [] (arguments h') (arguments t))
   try_keeps i s =
       let c0 = s.answer.closing in
-      let sv = transport (λ Fs. AreServed d P c0 Fs c t e b.goals) is s.served in
+      let sv = transport (λ Fs. AreServed L d P c0 Fs c t e b.goals) is s.served in
       let ts = sv.0.types in
       let c1 = with_types b.next_type ts c0 in
       let F0 = map (instance c0.types) E in
@@ -168,7 +168,7 @@ module _ (n : ℕ) (d : Declared) (std : IsStandard d) (P : List Clause) (progra
       let m = form.2 in
       let same = same_clause form.0 c1 (with_own k ts c0) ρ vs h g (map (λ v. false) vs ++ []) refl (λ l r. renewed_types k b.next_type c1.types ts c0 (λ l r. with_new b.next_type ts c0 l) agrees l (form.1 l r)) m.0 m.2 m.3 in
       let a0 = applies_on d F0 R0 c1 (with_own k ts c0) ρ vs h g (closed c0 t) (closed c1 t) same (sym (below t (plain_below b.next_type t plain.0.goal))) sv.0.applies in
-      let a1 = transport (λ F. Applies d F R0 c1 vs' h' g' (closed c1 t)) (sym (agree_list b.next_type c1.types c0.types agrees E plain.0.eigens)) a0 in
+      let a1 = transport (λ F. Applies L d F R0 c1 vs' h' g' (closed c1 t)) (sym (agree_list b.next_type c1.types c0.types agrees E plain.0.eigens)) a0 in
       let r = match_solved d E V R0 e.level vs' h' g' t c1 matches cl1 a1 in
       let z = r.0 in
       let on = r.1 in
@@ -178,9 +178,9 @@ module _ (n : ℕ) (d : Declared) (std : IsStandard d) (P : List Clause) (progra
       let same_clauses : R0 ≡ clauses_at P e.assumed z = ap (λ X. map sentence_of P ++ X) (same_assumed c0 z e.assumed (clauses_same d b.next_type V c0 z gives E e.assumed typed.0.assumed plain.0.assumed)) in
       let F = map (instance z.types) E in
       let R = clauses_at P e.assumed z in
-      let p = transport (λ u. PlainlyProvable d F R (closed z u)) (sym (goals_instantiate σ g')) (transport (λ X. PlainlyProvable d F X (closed z (instantiate σ (formula_of_goals g')))) same_clauses sm.goals) in
+      let p = transport (λ u. ProvableBy L d F R (closed z u)) (sym (goals_instantiate σ g')) (transport (λ X. ProvableBy L d F X (closed z (instantiate σ (formula_of_goals g')))) same_clauses sm.goals) in
       let each = (goals_in_turn d std F R z (instantiate_goals σ g') (formula z sm.closes sm.types)).0 p in
-      let rest = same_proved d P c0 z Es b.goals (entries_same d b.next_type V c0 z types gives Es b.goals typed.1 plain.1) sv.1 in
+      let rest = same_proved _ d P c0 z Es b.goals (entries_same d b.next_type V c0 z types gives Es b.goals typed.1 plain.1) sv.1 in
       record {
         branch = record {
           query = s.query;
@@ -191,7 +191,7 @@ module _ (n : ℕ) (d : Declared) (std : IsStandard d) (P : List Clause) (progra
             types = sym (agree_list b.next_type c0.types z.types types b.types w.branch.types) ∙ s.answer.types;
             values = convert_first (closed c0) (closed z) b.values i.values (values_same d b.next_type V c0 z gives b.values _ w.branch.answer.values w.branch.values) s.answer.values;
           };
-          proved = proved_append d P z (each_at E gl) Es (entries gl e.assumed e.written e.level mark) b.goals (entries_hold d P z E e.assumed e.written e.level mark gl each) rest;
+          proved = proved_append _ d P z (each_at E gl) Es (entries gl e.assumed e.written e.level mark) b.goals (entries_hold _ d P z E e.assumed e.written e.level mark gl each) rest;
         };
         types = sm.types;
         pairs = sm.pairs;

@@ -9,8 +9,9 @@ use Rattle.lp_model.specs.Flat.{Goals, Clause}
 use Rattle.lp_model.specs.Flatten.{ClauseFormula, flatten_query}
 use Rattle.lp_model.specs.Branch.{Branch, Answer, Task, Go}
 use Rattle.lp_model.specs.Answers.{Query, AnswerTyping, Instance, IsClosedInstance, IsWellFormed}
-use Rattle.lp_model.specs.Proofs.{Declared, AreFlattened}
+use Rattle.lp_model.specs.Proofs.{Declared, AreFlattened, no_leaf}
 use Rattle.lp_model.specs.Search.{look, start}
+use Rattle.lp_proof_laws.proofs.Uniform.Settings.{without_leaves}
 use Rattle.lp_search_laws.specs.Started.{IsTypedQuery, IsTypedSentence}
 use Rattle.lp_search_laws.specs.Branches.{BranchTyping, IsQueryInstance, IsTypedBranch, IsProgramTyped, TypedTask, going, task_of, IsOk, IsRightView}
 use Rattle.lp_search_laws.proofs.Stack.Faithful.{fine}
@@ -43,7 +44,7 @@ module _ (n : ℕ) (d : Declared) (std : IsStandard d) (P : List Clause) (progra
   all_kept (T ∷ Ts) h [] e = absurd (cc)
   all_kept (T ∷ Ts) h (t ∷ ts) e = let x : task_of T ≡ t = cc in let y : map task_of Ts ≡ ts = cc in (record { task = T; ok = h.0; is = x }, all_kept Ts h.1 ts y)
 
-  view_fine : (T : TypedTask) (v : View Task Answer) → IsRightView n d P q T v → AreFine Kept Fine v
+  view_fine : (T : TypedTask) (v : View Task Answer) → IsRightView no_leaf n d P q T v → AreFine Kept Fine v
   view_fine T (Gives a) r = (r.typing, r.ok)
   view_fine T (Opens ts) r = all_kept r.typed r.ok ts r.is
   view_fine T (Parts ts) r = all_kept r.typed r.ok ts r.is
@@ -65,7 +66,7 @@ module _ (n : ℕ) (d : Declared) (std : IsStandard d) (P : List Clause) (progra
 
   faithful : (b : ℕ) → Faithful (look unit_limit n P) b Kept Fine Nothing NoAnswer
   faithful b = record {
-    stays = λ height t k. transport (λ z. AreFine Kept Fine (look unit_limit n P height z)) k.is (view_fine k.task (look unit_limit n P height (task_of k.task)) (each_look n d std P program q height k.task k.ok));
+    stays = λ height t k. transport (λ z. AreFine Kept Fine (look unit_limit n P height z)) k.is (view_fine k.task (look unit_limit n P height (task_of k.task)) (each_look n d (without_leaves d std) P program q height k.task k.ok));
     keeps = λ height t k i s. absurd s;
     gives = λ height t k i s. covers_none i (look unit_limit n P height t) s;
     denies = λ height t k u is_final ts e. record { refuted = λ j m rows c p ns l r i. (λ s. absurd s, λ s. none_of ts s); held = λ j m rows c p ns l r i s. s };

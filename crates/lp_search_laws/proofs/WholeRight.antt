@@ -68,7 +68,7 @@ query_instance d q y a i w x =
       values = transport (AreWitnesses d i.values) (types_twice c.types a.types q.vars ∙ ap (λ Ts. map (instance (type_at Ts)) q.vars) x.types) (transport (λ vs. AreWitnesses d vs (map (instance c.types) ts)) x.values (witnesses d y.variables c x.closes a.values ts w.values));
     }
 
-an_instance : (d : Declared) (y : AnswerTyping) (a : Answer) (i : Instance) → IsClosedInstance d y a i → IsInstance d y a i
+pub an_instance : (d : Declared) (y : AnswerTyping) (a : Answer) (i : Instance) → IsClosedInstance d y a i → IsInstance d y a i
 an_instance d y a i x = record { closing = x.closing; closes = x.closes; solves = x.solves; types = x.types; values = transport (ConvertEach (map (closed x.closing) a.values)) x.values (each_same (map (closed x.closing) a.values)) }
 
 -- proofs with and without failing searches

@@ -9,10 +9,17 @@ use Rattle.lp_calculus.proofs.BetaEta.{shift_one}
 use Rattle.lp_lemmas.specs.Each.{EachOf}
 use Rattle.lp_lemmas.proofs.Each.{each_append, each_map}
 use Rattle.lp_lemmas.proofs.Options.{and_then_some, option_map_some}
-use Rattle.lp_standard.specs.Connectives.{two, pi_of, Connective, connective_of}
+use Rattle.lp_standard.specs.Connectives.{two, pi_of, body_of, Connective, connective_of}
+use Rattle.lp_calculus.specs.Closed.{AllAtoms}
+use Rattle.lp_calculus.proofs.Plain.{shift-rename}
+use Rattle.lp_proof_laws.specs.Filled.{IsSourceAtom}
+use Rattle.lp_proof_laws.specs.Terms.{IsTermOf, AreTermsOf, AreClausesOf}
+use Rattle.lp_proof_laws.proofs.Uniform.Forms.{Shape, form_shape}
+use Rattle.lp_search_laws.proofs.AtomsKept.{atoms_shift}
+use Rattle.lp_search_laws.proofs.Origins.{source_origin, source_clause_origin}
 use Rattle.lp_standard.specs.Connectives as connective
 use Rattle.lp_standard.specs.Positive.{are_positive}
-use Rattle.lp_model.specs.Flat.{Goal, Atomic, Cut, Either, Exists, Forall, Assume, Not, assuming, denied, Goals, no_goals, goals, Clause, clause, Clauses, no_clauses, clauses, clause_list, add_clauses, raise_goals, under_all, all_of, loose_in, collect_goal, collect_goals, collect_clauses, formula_of_goal, formula_of_goals, formula_of_clause, formula_of_clauses}
+use Rattle.lp_model.specs.Flat.{Goal, Atomic, Cut, Either, Exists, Forall, Assume, Not, assuming, denied, Goals, no_goals, goals, Clause, clause, Clauses, no_clauses, clauses, clause_list, add_clauses, raise_goals, under_all, all_of, loose_in, collect_goal, collect_goals, collect_clauses, formula_of_goal, formula_of_goals, formula_of_clause, formula_of_clauses, map_goal, map_goals, map_clauses, same_type}
 use Rattle.lp_model.specs.Flatten.{only, is_goal_head, is_clause_head, flat_goal, flat_goal_form, flat_list, flat_clause, flat_clause_form, with_type_vars}
 use Rattle.lp_model.specs.Proofs.{Declared}
 use Rattle.lp_search_laws.specs.Written.{StandsIn, StandsInOne, AreWrittenGoals, AreWrittenClauses}
@@ -107,76 +114,157 @@ denied_terms gs = each_map (Here 0 (formula_of_goals gs)) (λ t. StandsIn t (for
 assumed_terms : (cs : Clauses) → EachOf (StandsInOne (clause_list cs)) (map index (collect_clauses loose_in 0 cs))
 assumed_terms cs = each_map (InOne 0 (clause_list cs)) (StandsInOne (clause_list cs)) index (λ i h. transport (λ z. StandsInOne (clause_list cs) (index z)) (none_more i) h) (collect_clauses loose_in 0 cs) (in_each 0 cs)
 
-added : (cs ds : Clauses) → AreWrittenClauses cs → AreWrittenClauses ds → AreWrittenClauses (add_clauses cs ds)
+-- a source: it has no logic variable
+abbrev S : Term → Type 0
+S t = AllAtoms IsSourceAtom t
+
+all_raised : (ts : List Term) → EachOf S ts → EachOf S (map (shift 0 1) ts)
+all_raised [] h = tt
+all_raised (t ∷ ts) h = (atoms_shift IsSourceAtom t h.0, all_raised ts h.1)
+
+body : (s : Term) → S s → S (body_of s)
+body (abs b) h = h
+body (index i) h = (atoms_shift IsSourceAtom (index i) h, tt)
+body (atom a) h = (h, tt)
+body (app t u) h = (atoms_shift IsSourceAtom (app t u) h, tt)
+
+indices : (is : List ℕ) → EachOf S (map index is)
+indices [] = tt
+indices (i ∷ is) = (tt, indices is)
+
+raised_index : (d i : ℕ) → S (shift d 1 (index i))
+raised_index d i = transport S (sym (shift-rename d 1 (index i))) tt
+
+raised_term : (d : ℕ) (t : Term) → S t → S (shift d 1 t)
+raised_term d (index i) h = raised_index d i
+raised_term d (atom a) h = h
+raised_term d (abs b) h = raised_term (suc d) b h
+raised_term d (app t u) h = (raised_term d t h.0, raised_term d u h.1)
+
+raised_each : (d : ℕ) (ts : List Term) → EachOf S ts → EachOf S (map (shift d 1) ts)
+raised_each d [] h = tt
+raised_each d (t ∷ ts) h = (raised_term d t h.0, raised_each d ts h.1)
+
+mutual
+  raised_goal : (d : ℕ) (g : Goal) → IsTermOf S g → IsTermOf S (map_goal suc (λ e t. shift e 1 t) same_type d g)
+  raised_goal d (Atomic t) h = raised_term d t h
+  raised_goal d Cut h = tt
+  raised_goal d (Either l r) h = (raised_all d l h.0, raised_all d r h.1)
+  raised_goal d (Exists T gs) h = raised_all (suc d) gs h
+  raised_goal d (Forall T gs) h = raised_all (suc d) gs h
+  raised_goal d (Assume w cs gs) h = (raised_each d w.terms h.0, raised_clauses d cs h.1, raised_all d gs h.2)
+  raised_goal d (Not w gs) h = (raised_each d w.terms h.0, raised_all d gs h.1)
+
+  raised_all : (d : ℕ) (gs : Goals) → AreTermsOf S gs → AreTermsOf S (map_goals suc (λ e t. shift e 1 t) same_type d gs)
+  raised_all d no_goals h = tt
+  raised_all d (goals g gs) h = (raised_goal d g h.0, raised_all d gs h.1)
+
+  raised_clauses : (d : ℕ) (cs : Clauses) → AreClausesOf S cs → AreClausesOf S (map_clauses suc (λ e t. shift e 1 t) same_type d cs)
+  raised_clauses d no_clauses h = tt
+  raised_clauses d (clauses (clause n vs x b) cs) h = ((raised_term (under_all suc vs d) x h.0.0, raised_all (under_all suc vs d) b h.0.1), raised_clauses d cs h.1)
+
+-- what is written stands there, and comes from a source
+abbrev Fine : Goals → Type 0
+Fine gs = AreWrittenGoals gs × AreTermsOf S gs
+
+abbrev FineClauses : Clauses → Type 0
+FineClauses cs = AreWrittenClauses cs × AreClausesOf S cs
+
+added : (cs ds : Clauses) → FineClauses cs → FineClauses ds → FineClauses (add_clauses cs ds)
 added no_clauses ds h k = k
-added (clauses c cs) ds h k = (h.0, added cs ds h.1 k)
+added (clauses c cs) ds h k = let r = added cs ds (h.0.1, h.1.1) k in ((h.0.0, r.0), (h.1.0, r.1))
 
 module _ (d : Declared) where
   mutual
-    goal_flat : (n : ℕ) (B : List Bool) (t : Term) (rest gs : Goals) → flat_goal n d B t rest ≡ Some gs → AreWrittenGoals rest → AreWrittenGoals gs
-    goal_flat zero B t rest gs e r = absurd (cc)
-    goal_flat (suc n) B t rest gs e r = form_flat n B t (connective_of t) rest gs e r
+    goal_flat : (n : ℕ) (B : List Bool) (t : Term) (rest gs : Goals) → flat_goal n d B t rest ≡ Some gs → S t → Fine rest → Fine gs
+    goal_flat zero B t rest gs e o r = absurd (cc)
+    goal_flat (suc n) B t rest gs e o r = form_flat n B t (connective_of t) (form_shape t) rest gs e o r
 
-    form_flat : (n : ℕ) (B : List Bool) (t : Term) (f : Connective) (rest gs : Goals) → flat_goal_form n d B t f rest ≡ Some gs → AreWrittenGoals rest → AreWrittenGoals gs
-    form_flat zero B t f rest gs e r = absurd (cc)
-    form_flat (suc n) B t connective.True rest gs e r = transport AreWrittenGoals (some_is rest gs e) r
-    form_flat (suc n) B t connective.Cut rest gs e r = transport AreWrittenGoals (some_is (goals Cut rest) gs e) (tt, r)
-    form_flat (suc n) B t (connective.And a b) rest gs e r =
+    form_flat : (n : ℕ) (B : List Bool) (t : Term) (f : Connective) → Shape f t → (rest gs : Goals) → flat_goal_form n d B t f rest ≡ Some gs → S t → Fine rest → Fine gs
+    form_flat zero B t f s rest gs e o r = absurd (cc)
+    form_flat (suc n) B t connective.True s rest gs e o r = transport Fine (some_is rest gs e) r
+    form_flat (suc n) B t connective.Cut s rest gs e o r = transport Fine (some_is (goals Cut rest) gs e) ((tt, r.0), (tt, r.1))
+    form_flat (suc n) B t (connective.And a b) s rest gs e o r =
+        let p = transport S s o in
         let q = and_then_some (flat_goal n d B b rest) (flat_goal n d B a) gs e in
-        goal_flat n B a q.0 gs q.2 (goal_flat n B b rest q.0 q.1 r)
-    form_flat (suc n) B t (connective.Or a b) rest gs e r =
+        goal_flat n B a q.0 gs q.2 p.0.1 (goal_flat n B b rest q.0 q.1 p.1 r)
+    form_flat (suc n) B t (connective.Or a b) s rest gs e o r =
+        let p = transport S s o in
         let q = and_then_some (flat_goal n d B a no_goals) (λ l. option_map (λ m. goals (Either l m) rest) (flat_goal n d B b no_goals)) gs e in
         let z = option_map_some (flat_goal n d B b no_goals) (λ m. goals (Either q.0 m) rest) gs q.2 in
-        transport AreWrittenGoals z.2 ((goal_flat n B a no_goals q.0 q.1 tt, goal_flat n B b no_goals z.0 z.1 tt), r)
-    form_flat (suc n) B t (connective.Implies c g) rest gs e r =
+        let x = goal_flat n B a no_goals q.0 q.1 p.0.1 (tt, tt) in
+        let y = goal_flat n B b no_goals z.0 z.1 p.1 (tt, tt) in
+        transport Fine z.2 (((x.0, y.0), r.0), ((x.1, y.1), r.1))
+    form_flat (suc n) B t (connective.Implies c g) (inl s) rest gs e o r =
+        let p = transport S s o in
         let q = and_then_some (flat_clause n d B c [] []) (λ cs. option_map (λ hs. goals (assuming cs hs) rest) (flat_goal n d B g no_goals)) gs e in
         let z = option_map_some (flat_goal n d B g no_goals) (λ hs. goals (assuming q.0 hs) rest) gs q.2 in
-        transport AreWrittenGoals z.2 ((assumed_terms q.0, clause_flat n B c [] [] q.0 q.1, goal_flat n B g no_goals z.0 z.1 tt), r)
-    form_flat (suc n) B t (connective.ForAll T b) rest gs e r =
+        let x = clause_flat n B c [] [] q.0 q.1 p.0.1 tt in
+        let y = goal_flat n B g no_goals z.0 z.1 p.1 (tt, tt) in
+        transport Fine z.2 (((assumed_terms q.0, x.0, y.0, source_clause_origin q.0 x.1), r.0), ((indices (collect_clauses loose_in 0 q.0), x.1, y.1), r.1))
+    form_flat (suc n) B t (connective.Implies c g) (inr s) rest gs e o r =
+        let p = transport S s o in
+        let q = and_then_some (flat_clause n d B c [] []) (λ cs. option_map (λ hs. goals (assuming cs hs) rest) (flat_goal n d B g no_goals)) gs e in
+        let z = option_map_some (flat_goal n d B g no_goals) (λ hs. goals (assuming q.0 hs) rest) gs q.2 in
+        let x = clause_flat n B c [] [] q.0 q.1 p.1 tt in
+        let y = goal_flat n B g no_goals z.0 z.1 p.0.1 (tt, tt) in
+        transport Fine z.2 (((assumed_terms q.0, x.0, y.0, source_clause_origin q.0 x.1), r.0), ((indices (collect_clauses loose_in 0 q.0), x.1, y.1), r.1))
+    form_flat (suc n) B t (connective.ForAll T b) s rest gs e o r =
+        let p = transport S s.1 o in
         let z = option_map_some (flat_goal n d (true ∷ B) b no_goals) (λ hs. goals (Forall T hs) rest) gs e in
-        transport AreWrittenGoals z.2 (goal_flat n (true ∷ B) b no_goals z.0 z.1 tt, r)
-    form_flat (suc n) B t (connective.Exists T b) rest gs e r =
+        let x = goal_flat n (true ∷ B) b no_goals z.0 z.1 (transport S (sym s.2) (body s.0 p.1)) (tt, tt) in
+        transport Fine z.2 ((x.0, r.0), (x.1, r.1))
+    form_flat (suc n) B t (connective.Exists T b) s rest gs e o r =
+        let p = transport S s.1 o in
         let z = option_map_some (flat_goal n d (false ∷ B) b (raise_goals 0 rest)) (λ hs. goals (Exists T hs) no_goals) gs e in
-        transport AreWrittenGoals z.2 (goal_flat n (false ∷ B) b (raise_goals 0 rest) z.0 z.1 (raised_goals rest r), tt)
-    form_flat (suc n) B t (connective.Not g) rest gs e r =
+        let x = goal_flat n (false ∷ B) b (raise_goals 0 rest) z.0 z.1 (transport S (sym s.2) (body s.0 p.1)) (raised_goals rest r.0, raised_all 0 rest r.1) in
+        transport Fine z.2 ((x.0, tt), (x.1, tt))
+    form_flat (suc n) B t (connective.Not g) s rest gs e o r =
+        let p = transport S s o in
         let z = option_map_some (flat_goal n d B g no_goals) (λ hs. goals (denied hs) rest) gs e in
-        transport AreWrittenGoals z.2 ((denied_terms z.0, goal_flat n B g no_goals z.0 z.1 tt), r)
-    form_flat (suc n) B t connective.Atomic rest gs e r = transport AreWrittenGoals (only_some (is_goal_head (head_of t) && are_positive (arguments t)) (goals (Atomic t) rest) gs e).1 (tt, r)
+        let x = goal_flat n B g no_goals z.0 z.1 p.1 (tt, tt) in
+        transport Fine z.2 (((denied_terms z.0, x.0, source_origin z.0 x.1), r.0), ((indices (collect_goals loose_in 0 z.0), x.1), r.1))
+    form_flat (suc n) B t connective.Atomic s rest gs e o r = transport Fine (only_some (is_goal_head (head_of t) && are_positive (arguments t)) (goals (Atomic t) rest) gs e).1 ((tt, r.0), (o, r.1))
 
-    list_flat : (n : ℕ) (B : List Bool) (ts : List Term) (gs : Goals) → flat_list n d B ts ≡ Some gs → AreWrittenGoals gs
-    list_flat zero B ts gs e = absurd (cc)
-    list_flat (suc n) B [] gs e = transport AreWrittenGoals (some_is no_goals gs e) tt
-    list_flat (suc n) B (t ∷ ts) gs e =
+    list_flat : (n : ℕ) (B : List Bool) (ts : List Term) (gs : Goals) → flat_list n d B ts ≡ Some gs → EachOf S ts → Fine gs
+    list_flat zero B ts gs e h = absurd (cc)
+    list_flat (suc n) B [] gs e h = transport Fine (some_is no_goals gs e) (tt, tt)
+    list_flat (suc n) B (t ∷ ts) gs e h =
         let q = and_then_some (flat_list n d B ts) (flat_goal n d B t) gs e in
-        goal_flat n B t q.0 gs q.2 (list_flat n B ts q.0 q.1)
+        goal_flat n B t q.0 gs q.2 h.0 (list_flat n B ts q.0 q.1 h.1)
 
-    clause_flat : (n : ℕ) (B : List Bool) (c : Term) (vs : List Ty) (ts : List Term) (cs : Clauses) → flat_clause n d B c vs ts ≡ Some cs → AreWrittenClauses cs
-    clause_flat zero B c vs ts cs e = absurd (cc)
-    clause_flat (suc n) B c vs ts cs e = clause_form_flat n B c (connective_of c) vs ts cs e
+    clause_flat : (n : ℕ) (B : List Bool) (c : Term) (vs : List Ty) (ts : List Term) (cs : Clauses) → flat_clause n d B c vs ts ≡ Some cs → S c → EachOf S ts → FineClauses cs
+    clause_flat zero B c vs ts cs e o h = absurd (cc)
+    clause_flat (suc n) B c vs ts cs e o h = clause_form_flat n B c (connective_of c) (form_shape c) vs ts cs e o h
 
-    clause_form_flat : (n : ℕ) (B : List Bool) (c : Term) (f : Connective) (vs : List Ty) (ts : List Term) (cs : Clauses) → flat_clause_form n d B c f vs ts ≡ Some cs → AreWrittenClauses cs
-    clause_form_flat zero B c f vs ts cs e = absurd (cc)
-    clause_form_flat (suc n) B c connective.True vs ts cs e = absurd (cc)
-    clause_form_flat (suc n) B c connective.Cut vs ts cs e = absurd (cc)
-    clause_form_flat (suc n) B c (connective.Or a b) vs ts cs e = absurd (cc)
-    clause_form_flat (suc n) B c (connective.Not g) vs ts cs e = absurd (cc)
-    clause_form_flat (suc n) B c (connective.Exists T b) vs ts cs e = absurd (cc)
-    clause_form_flat (suc n) B c (connective.And a b) vs ts cs e =
+    clause_form_flat : (n : ℕ) (B : List Bool) (c : Term) (f : Connective) → Shape f c → (vs : List Ty) (ts : List Term) (cs : Clauses) → flat_clause_form n d B c f vs ts ≡ Some cs → S c → EachOf S ts → FineClauses cs
+    clause_form_flat zero B c f s vs ts cs e o h = absurd (cc)
+    clause_form_flat (suc n) B c connective.True s vs ts cs e o h = absurd (cc)
+    clause_form_flat (suc n) B c connective.Cut s vs ts cs e o h = absurd (cc)
+    clause_form_flat (suc n) B c (connective.Or a b) s vs ts cs e o h = absurd (cc)
+    clause_form_flat (suc n) B c (connective.Not g) s vs ts cs e o h = absurd (cc)
+    clause_form_flat (suc n) B c (connective.Exists T b) s vs ts cs e o h = absurd (cc)
+    clause_form_flat (suc n) B c (connective.And a b) s vs ts cs e o h =
+        let p = transport S s o in
         let q = and_then_some (flat_clause n d B a vs ts) (λ l. option_map (add_clauses l) (flat_clause n d B b vs ts)) cs e in
         let z = option_map_some (flat_clause n d B b vs ts) (add_clauses q.0) cs q.2 in
-        transport AreWrittenClauses z.2 (added q.0 z.0 (clause_flat n B a vs ts q.0 q.1) (clause_flat n B b vs ts z.0 z.1))
-    clause_form_flat (suc n) B c (connective.Implies g b) vs ts cs e = clause_flat n B b vs (ts ++ g ∷ []) cs e
-    clause_form_flat (suc n) B c (connective.ForAll T b) vs ts cs e = clause_flat n (false ∷ B) b (T ∷ vs) (map (shift 0 1) ts) cs e
-    clause_form_flat (suc n) B c connective.Atomic vs ts cs e =
+        transport FineClauses z.2 (added q.0 z.0 (clause_flat n B a vs ts q.0 q.1 p.0.1 h) (clause_flat n B b vs ts z.0 z.1 p.1 h))
+    clause_form_flat (suc n) B c (connective.Implies g b) (inl s) vs ts cs e o h = let p = transport S s o in clause_flat n B b vs (ts ++ g ∷ []) cs e p.1 (each_append S ts (g ∷ []) h (p.0.1, tt))
+    clause_form_flat (suc n) B c (connective.Implies g b) (inr s) vs ts cs e o h = let p = transport S s o in clause_flat n B b vs (ts ++ g ∷ []) cs e p.0.1 (each_append S ts (g ∷ []) h (p.1, tt))
+    clause_form_flat (suc n) B c (connective.ForAll T b) s vs ts cs e o h =
+        let p = transport S s.1 o in
+        clause_flat n (false ∷ B) b (T ∷ vs) (map (shift 0 1) ts) cs e (transport S (sym s.2) (body s.0 p.1)) (all_raised ts h)
+    clause_form_flat (suc n) B c connective.Atomic s vs ts cs e o h =
         let q = and_then_some (only (is_clause_head d B (head_of c) && are_positive (arguments c)) c) (λ u. option_map (λ gs. clauses (clause 0 vs u gs) no_clauses) (flat_list n d B ts)) cs e in
         let z = option_map_some (flat_list n d B ts) (λ gs. clauses (clause 0 vs q.0 gs) no_clauses) cs q.2 in
-        transport AreWrittenClauses z.2 (list_flat n B ts z.0 z.1, tt)
+        let x = list_flat n B ts z.0 z.1 h in
+        transport FineClauses z.2 ((x.0, tt), ((transport S (only_some (is_clause_head d B (head_of c) && are_positive (arguments c)) c q.0 q.1).1 o, x.1), tt))
 
-  pub goals_written : (n : ℕ) (B : List Bool) (t : Term) (gs : Goals) → flat_goal n d B t no_goals ≡ Some gs → AreWrittenGoals gs
-  goals_written n B t gs e = goal_flat n B t no_goals gs e tt
+  pub goals_written : (n : ℕ) (B : List Bool) (t : Term) (gs : Goals) → flat_goal n d B t no_goals ≡ Some gs → AllAtoms IsSourceAtom t → AreWrittenGoals gs
+  goals_written n B t gs e o = (goal_flat n B t no_goals gs e o (tt, tt)).0
 
-  pub clauses_written : (n : ℕ) (B : List Bool) (c : Term) (cs : Clauses) → flat_clause n d B c [] [] ≡ Some cs → AreWrittenClauses cs
-  clauses_written n B c cs e = clause_flat n B c [] [] cs e
+  pub clauses_written : (n : ℕ) (B : List Bool) (c : Term) (cs : Clauses) → flat_clause n d B c [] [] ≡ Some cs → AllAtoms IsSourceAtom c → AreWrittenClauses cs
+  clauses_written n B c cs e o = (clause_flat n B c [] [] cs e o tt).0
 
 pub counted : (k : ℕ) (cs : Clauses) → AreWrittenClauses cs → AreWrittenClauses (with_type_vars k cs)
 counted k no_clauses h = tt

@@ -11,7 +11,7 @@ use Rattle.lp_lemmas.specs.Each.{EachOf}
 use Rattle.lp_model.specs.Flat.{Clause, formula_of_goal, formula_of_clause}
 use Rattle.lp_model.specs.Types.{TypeBinding, TypePair, put_types}
 use Rattle.lp_model.specs.Pair.{Pair, Closing, SolvesAll}
-use Rattle.lp_model.specs.Proofs.{Declared}
+use Rattle.lp_model.specs.Proofs.{Declared, Leaves}
 use Rattle.lp_model.specs.Answers.{Query, Instance, Variable, IsWellFormed}
 use Rattle.lp_model.specs.Branch.{Entry, Branch, put_entries, type_entries}
 use Rattle.lp_unify_laws.specs.TypeSolutions.{Unifies, Satisfies}
@@ -69,7 +69,7 @@ pub record IsBranchWith (n : ℕ) (d : Declared) (q : Query) (eqs : List TypePai
   pub stuck : AreStuck n b.pairs
 
 -- an instance of the branch by a closing that solves equations and pairs besides
-pub record SolvesWith (d : Declared) (P : List Clause) (q : Query) (i : Instance) (y : BranchTyping) (b : Branch) (eqs : List TypePair) (ps : List Pair) : Type 0 where
-  pub branch : SolvesBranch d P q i y b
+pub record SolvesWith (L : Leaves) (d : Declared) (P : List Clause) (q : Query) (i : Instance) (y : BranchTyping) (b : Branch) (eqs : List TypePair) (ps : List Pair) : Type 0 where
+  pub branch : SolvesBranch L d P q i y b
   pub types : Unifies branch.answer.closing.types eqs
   pub pairs : SolvesAll branch.answer.closing ps

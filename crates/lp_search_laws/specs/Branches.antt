@@ -16,12 +16,13 @@ use Rattle.lp_model.specs.Look.{head_normal}
 use Rattle.lp_standard.specs.Connectives.{connective_of, truth}
 use Rattle.lp_standard.specs.Connectives as connective
 use Rattle.lp_model.specs.Pair.{Pair, Closing, closed}
-use Rattle.lp_model.specs.Flat.{Goal, Atomic, Cut, Either, Exists, Forall, Assume, Not, Goals, no_goals, goals, Clause, clause, Clauses, no_clauses, clauses, formula_of_goal, formula_of_clause}
-use Rattle.lp_model.specs.Proofs.{Declared, IsAtomHead}
-use Rattle.lp_model.specs.Answers.{Query, Variable, AnswerTyping, Instance, AreWitnesses, IsInstance, IsWellFormed}
+use Rattle.lp_model.specs.Flat.{Goal, Atomic, Cut, Either, Exists, Forall, Assume, Not, Goals, no_goals, goals, Clause, clause, Clauses, no_clauses, clauses, formula_of_goal, formula_of_goals, formula_of_clause, goal_list, Written}
+use Rattle.lp_model.specs.Proofs.{Declared, IsAtomHead, Leaves, Failure}
+use Rattle.lp_model.specs.Answers.{Query, Variable, AnswerTyping, Instance, Closes, AreWitnesses, IsInstance, IsWellFormed}
 use Rattle.lp_model.specs.Branch.{Entry, Branch, Answer, Task, Go, Try, Stop, Lack}
 use Rattle.lp_model.specs.Search.{with_goals, has_head}
 use Rattle.lp_unify_laws.specs.Solutions.{AreStuck}
+use Rattle.lp_search_laws.specs.Denials.{denied_branch, denied_task}
 use Rattle.lp_search_laws.specs.Holds.{Holds, IsTyped}
 use Rattle.lp_search_laws.specs.Clauses.{Serves, clauses_at, own_types}
 use Rattle.lp_search_laws.specs.Written.{IsWrittenClause, IsWrittenEntry}
@@ -109,14 +110,14 @@ ArePlainEntries k [] (e ∷ es) = ⊥
 ArePlainEntries k (E ∷ Es) [] = ⊥
 
 -- the goal of the entry is provable from the program and what it assumes, as the closing makes them
-abbrev pub EntryHolds : Declared → (P : List Clause) → Closing → (E : List Ty) → Entry → Type 0
-EntryHolds d P c E e = Holds d (map (instance c.types) E) (clauses_at P e.assumed c) c (formula_of_goal e.goal)
+abbrev pub EntryHolds : Leaves → Declared → (P : List Clause) → Closing → (E : List Ty) → Entry → Type 0
+EntryHolds L d P c E e = Holds L d (map (instance c.types) E) (clauses_at P e.assumed c) c (formula_of_goal e.goal)
 
-abbrev pub AreProved : Declared → (P : List Clause) → Closing → List (List Ty) → List Entry → Type 0
-AreProved d P c [] [] = Unit {0}
-AreProved d P c (E ∷ Es) (e ∷ es) = EntryHolds d P c E e × AreProved d P c Es es
-AreProved d P c [] (e ∷ es) = ⊥
-AreProved d P c (E ∷ Es) [] = ⊥
+abbrev pub AreProved : Leaves → Declared → (P : List Clause) → Closing → List (List Ty) → List Entry → Type 0
+AreProved L d P c [] [] = Unit {0}
+AreProved L d P c (E ∷ Es) (e ∷ es) = EntryHolds L d P c E e × AreProved L d P c Es es
+AreProved L d P c [] (e ∷ es) = ⊥
+AreProved L d P c (E ∷ Es) [] = ⊥
 
 -- branches
 
@@ -157,16 +158,16 @@ pub record IsQueryInstance (d : Declared) (q : Query) (i : Instance) : Type 0 wh
   pub values : AreWitnesses d i.values (map (instance (type_at i.types)) q.vars)
 
 -- an instance of the query that is one of the branch, by a closing that makes each goal provable
-pub record SolvesBranch (d : Declared) (P : List Clause) (q : Query) (i : Instance) (y : BranchTyping) (b : Branch) : Type 0 where
+pub record SolvesBranch (L : Leaves) (d : Declared) (P : List Clause) (q : Query) (i : Instance) (y : BranchTyping) (b : Branch) : Type 0 where
   pub query : IsQueryInstance d q i
   pub answer : IsInstance d y.answer (answer_of b) i
-  pub proved : AreProved d P answer.closing y.eigens b.goals
+  pub proved : AreProved L d P answer.closing y.eigens b.goals
 
 -- a branch that is typed as another one, and has the same instances
-pub record SolvesAs (n : ℕ) (d : Declared) (P : List Clause) (q : Query) (y : BranchTyping) (b c : Branch) : Type 0 where
+pub record SolvesAs (L : Leaves) (n : ℕ) (d : Declared) (P : List Clause) (q : Query) (y : BranchTyping) (b c : Branch) : Type 0 where
   pub typed : IsTypedBranch n d q y c
-  pub keeps : (i : Instance) → SolvesBranch d P q i y b → SolvesBranch d P q i y c
-  pub gives : (i : Instance) → SolvesBranch d P q i y c → SolvesBranch d P q i y b
+  pub keeps : (i : Instance) → SolvesBranch L d P q i y b → SolvesBranch L d P q i y c
+  pub gives : (i : Instance) → SolvesBranch L d P q i y c → SolvesBranch L d P q i y b
 
 -- candidates
 
@@ -185,14 +186,14 @@ pub record IsTypedTry (n : ℕ) (d : Declared) (P : List Clause) (q : Query) (y 
   pub stands : IsAmong c P ⊎ IsAmong c e.assumed
 
 -- the atom is proved by the clause, and the goals behind it are proved
-abbrev pub AreServed : Declared → (P : List Clause) → Closing → List (List Ty) → Clause → Term → Entry → List Entry → Type 0
-AreServed d P z [] c t e es = ⊥
-AreServed d P z (E ∷ Es) c t e es = Serves d (map (instance z.types) E) (clauses_at P e.assumed z) z c (closed z t) × AreProved d P z Es es
+abbrev pub AreServed : Leaves → Declared → (P : List Clause) → Closing → List (List Ty) → Clause → Term → Entry → List Entry → Type 0
+AreServed L d P z [] c t e es = ⊥
+AreServed L d P z (E ∷ Es) c t e es = Serves L d (map (instance z.types) E) (clauses_at P e.assumed z) z c (closed z t) × AreProved L d P z Es es
 
-pub record SolvesTry (d : Declared) (P : List Clause) (q : Query) (i : Instance) (y : BranchTyping) (c : Clause) (t : Term) (e : Entry) (b : Branch) : Type 0 where
+pub record SolvesTry (L : Leaves) (d : Declared) (P : List Clause) (q : Query) (i : Instance) (y : BranchTyping) (c : Clause) (t : Term) (e : Entry) (b : Branch) : Type 0 where
   pub query : IsQueryInstance d q i
   pub answer : IsInstance d y.answer (answer_of b) i
-  pub served : AreServed d P answer.closing y.eigens c t e b.goals
+  pub served : AreServed L d P answer.closing y.eigens c t e b.goals
 
 -- tasks
 
@@ -216,54 +217,64 @@ IsOk n d P q (trying y c t e b mark) = IsTypedTry n d P q y c t e b
 IsOk n d P q (stopping e T) = e ≢ NoMore
 IsOk n d P q (lacking T) = Unit {0}
 
-abbrev pub Sol : Declared → (P : List Clause) → Query → Instance → TypedTask → Type 0
-Sol d P q i (going y b) = SolvesBranch d P q i y b
-Sol d P q i (trying y c t e b mark) = SolvesTry d P q i y c t e b
-Sol d P q i (stopping e T) = Sol d P q i T
-Sol d P q i (lacking T) = Sol d P q i T
+abbrev pub Sol : Leaves → Declared → (P : List Clause) → Query → Instance → TypedTask → Type 0
+Sol L d P q i (going y b) = SolvesBranch L d P q i y b
+Sol L d P q i (trying y c t e b mark) = SolvesTry L d P q i y c t e b
+Sol L d P q i (stopping e T) = Sol L d P q i T
+Sol L d P q i (lacking T) = Sol L d P q i T
 
 -- what is owed
 
 -- tasks in the place of a typed task: they have typings with the same instances among their solutions
-pub record StandFor (n : ℕ) (d : Declared) (P : List Clause) (q : Query) (T : TypedTask) (ts : List Task) : Type 0 where
+pub record StandFor (L : Leaves) (n : ℕ) (d : Declared) (P : List Clause) (q : Query) (T : TypedTask) (ts : List Task) : Type 0 where
   pub typed : List TypedTask
   pub is : map task_of typed ≡ ts
   pub ok : EachOf (IsOk n d P q) typed
-  pub keeps : (i : Instance) → Sol d P q i T → AnyOf (Sol d P q i) typed
-  pub gives : (i : Instance) → AnyOf (Sol d P q i) typed → Sol d P q i T
+  pub keeps : (i : Instance) → Sol L d P q i T → AnyOf (Sol L d P q i) typed
+  pub gives : (i : Instance) → AnyOf (Sol L d P q i) typed → Sol L d P q i T
 
 -- a query without variables
 abbrev pub no_query : Query
 no_query = record { type_vars = 0; vars = []; formula = truth }
 
--- of a negated goal: its search begins with a typed branch, over the same variables and of no query; and what stands behind it is a typed branch
-pub record DeniesTyped (n : ℕ) (d : Declared) (q : Query) (u : Task) (ts : List Task) : Type 0 where
-  pub typing : BranchTyping
-  pub branch : Branch
-  pub is : u ≡ Go branch
-  pub begins : IsTypedBranch n d no_query typing branch
+-- the variables of a branch and, for each of the goals, the types of its eigenconstants
+abbrev pub denied_typing : List Variable → (E : List Ty) → Goals → BranchTyping
+denied_typing V E gs = record { answer = record { variables = V; pairs = [] }; eigens = map (λ g. E) (goal_list gs) }
+
+-- of a negated goal: its search begins with a typed branch, over the same variables and of no query; what stands behind it is a typed branch; and where for each
+-- closing of the variables a leaf stands for its goals, what is behind has only solutions of the task
+pub record DeniesTyped (L : Leaves) (n : ℕ) (d : Declared) (P : List Clause) (q : Query) (T : TypedTask) (u : Task) (ts : List Task) : Type 0 where
+  pub variables : List Variable
+  pub eigens : List Ty
+  pub next_type : ℕ
+  pub goals : Goals
+  pub assumed : List Clause
+  pub written : Written
+  pub is : u ≡ denied_task (length variables) next_type goals assumed written (length eigens)
+  pub begins : IsTypedBranch n d no_query (denied_typing variables eigens goals) (denied_branch (length variables) next_type goals assumed written (length eigens))
   pub rest_typing : BranchTyping
   pub rest : Branch
   pub goes_on : ts ≡ Go rest ∷ []
   pub after : IsTypedBranch n d q rest_typing rest
+  pub gives : ((c : Closing) → Closes d variables c → (f : Failure) × L (map (instance c.types) eigens) (clauses_at P assumed c) (closed c (formula_of_goals goals)) f) → (i : Instance) → SolvesBranch L d P q i rest_typing rest → Sol L d P q i T
 
 -- an answer in its place
-pub record AnswersFor (d : Declared) (P : List Clause) (q : Query) (T : TypedTask) (a : Answer) : Type 0 where
+pub record AnswersFor (L : Leaves) (d : Declared) (P : List Clause) (q : Query) (T : TypedTask) (a : Answer) : Type 0 where
   pub typing : AnswerTyping
   pub ok : IsWellFormed d q typing a
-  pub keeps : (i : Instance) → Sol d P q i T → IsQueryInstance d q i × IsInstance d typing a i
-  pub gives : (i : Instance) → IsQueryInstance d q i → IsInstance d typing a i → Sol d P q i T
+  pub keeps : (i : Instance) → Sol L d P q i T → IsQueryInstance d q i × IsInstance d typing a i
+  pub gives : (i : Instance) → IsQueryInstance d q i → IsInstance d typing a i → Sol L d P q i T
 
 -- what a typed task may turn out to be; what the search of a negated goal says is not said here
-abbrev pub IsRightView : (n : ℕ) → Declared → (P : List Clause) → Query → TypedTask → View Task Answer → Type 0
-IsRightView n d P q T (Gives a) = AnswersFor d P q T a
-IsRightView n d P q T (Opens ts) = StandFor n d P q T ts
-IsRightView n d P q T (Parts ts) = StandFor n d P q T ts
-IsRightView n d P q T (Takes name ts) = StandFor n d P q T ts
-IsRightView n d P q T (Cuts m ts) = StandFor n d P q T ts
-IsRightView n d P q T (Denies t is_final ts) = DeniesTyped n d q t ts
-IsRightView n d P q T (Halts e) = e ≢ NoMore
-IsRightView n d P q T Lacks = Unit {0}
+abbrev pub IsRightView : Leaves → (n : ℕ) → Declared → (P : List Clause) → Query → TypedTask → View Task Answer → Type 0
+IsRightView L n d P q T (Gives a) = AnswersFor L d P q T a
+IsRightView L n d P q T (Opens ts) = StandFor L n d P q T ts
+IsRightView L n d P q T (Parts ts) = StandFor L n d P q T ts
+IsRightView L n d P q T (Takes name ts) = StandFor L n d P q T ts
+IsRightView L n d P q T (Cuts m ts) = StandFor L n d P q T ts
+IsRightView L n d P q T (Denies t is_final ts) = DeniesTyped L n d P q T t ts
+IsRightView L n d P q T (Halts e) = e ≢ NoMore
+IsRightView L n d P q T Lacks = Unit {0}
 
 -- the goal is known at run time, and no connective is at the head of its head-normal form
 pub record IsAtAtom (n : ℕ) (e : Entry) : Type 0 where

@@ -12,7 +12,7 @@ use Rattle.lp_calculus.specs.Spine.{head_of}
 use Rattle.lp_model.specs.Pair.{Closing, closed}
 use Rattle.lp_model.specs.Flat.{Clause, clause, Goals, formula_of_goals, formula_of_clause}
 use Rattle.lp_model.specs.Flatten.{ClauseFormula}
-use Rattle.lp_model.specs.Proofs.{Declared, IsFormula, IsSentence, IsWitness, IsAtomHead, PlainlyProvable, PlainlyFocusable, assumed}
+use Rattle.lp_model.specs.Proofs.{Declared, IsFormula, IsSentence, IsWitness, IsAtomHead, assumed, Leaves, ProvableBy, FocusableBy}
 
 -- terms for variables of these types, in the same order, at the eigenconstants E
 abbrev pub AreWitnessesAt : Declared → (E : List Ty) → List Term → List Ty → Type 0
@@ -26,28 +26,28 @@ abbrev pub with_own : (k : ℕ) → List Ty → Closing → Closing
 with_own k ts c = record { types = λ i. if nat_lt i k then type_at ts i else c.types i; terms = c.terms }
 
 -- terms for the variables of a clause, the innermost first, with which its head, under the closing, is the atom A and its goals are provable
-pub record Applies (d : Declared) (E : List Ty) (P : List ClauseFormula) (c : Closing) (vs : List Ty) (h : Term) (body : Goals) (A : Term) : Type 0 where
+pub record Applies (L : Leaves) (d : Declared) (E : List Ty) (P : List ClauseFormula) (c : Closing) (vs : List Ty) (h : Term) (body : Goals) (A : Term) : Type 0 where
   pub values : List Term
   pub witnesses : AreWitnessesAt d E values (map (instance c.types) vs)
   pub head : Converts (instantiate (at values) (closed c h)) A
-  pub goals : PlainlyProvable d E P (instantiate (at values) (closed c (formula_of_goals body)))
+  pub goals : ProvableBy L d E P (instantiate (at values) (closed c (formula_of_goals body)))
 
 -- with closed types for its k type variables
-pub record IsServing (d : Declared) (E : List Ty) (P : List ClauseFormula) (c : Closing) (k : ℕ) (vs : List Ty) (h : Term) (body : Goals) (A : Term) : Type 0 where
+pub record IsServing (L : Leaves) (d : Declared) (E : List Ty) (P : List ClauseFormula) (c : Closing) (k : ℕ) (vs : List Ty) (h : Term) (body : Goals) (A : Term) : Type 0 where
   pub types : List Ty
   pub long : length types ≡ k
   pub types_closed : AreClosed types
-  pub applies : Applies d E P (with_own k types c) vs h body A
+  pub applies : Applies L d E P (with_own k types c) vs h body A
 
-abbrev pub Serves : Declared → (E : List Ty) → (P : List ClauseFormula) → Closing → Clause → (A : Term) → Type 0
-Serves d E P c (clause k vs h body) A = IsServing d E P c k vs h body A
+abbrev pub Serves : Leaves → Declared → (E : List Ty) → (P : List ClauseFormula) → Closing → Clause → (A : Term) → Type 0
+Serves L d E P c (clause k vs h body) A = IsServing L d E P c k vs h body A
 
 -- with some closed types one can focus on the sentence, for the atom A
-pub record IsInFocus (d : Declared) (E : List Ty) (P : List ClauseFormula) (D : ClauseFormula) (A : Term) : Type 0 where
+pub record IsInFocus (L : Leaves) (d : Declared) (E : List Ty) (P : List ClauseFormula) (D : ClauseFormula) (A : Term) : Type 0 where
   pub types : List Ty
   pub long : length types ≡ D.type_vars
   pub types_closed : AreClosed types
-  pub focus : PlainlyFocusable d E P (instance_term (type_at types) D.formula) A
+  pub focus : FocusableBy L d E P (instance_term (type_at types) D.formula) A
 
 -- a flattened clause as a sentence
 abbrev pub sentence_of : Clause → ClauseFormula

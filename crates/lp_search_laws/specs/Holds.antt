@@ -11,13 +11,13 @@ use Rattle.lp_calculus.specs.Instance.{instance_term}
 use Rattle.lp_unify_laws.specs.Solutions.{at_types, instance_binding, through_bindings, KeepsTypings, KeptClosing}
 use Rattle.lp_model.specs.Flatten.{ClauseFormula}
 use Rattle.lp_model.specs.Flat.{Goal, Atomic, Cut, Either, Exists, Forall, Assume, Not, formula_of_goals, formula_of_clauses}
-use Rattle.lp_model.specs.Proofs.{Declared, IsWitness, IsFormula, PlainlyProvable, assumed}
+use Rattle.lp_model.specs.Proofs.{Declared, IsWitness, IsFormula, assumed, Leaves, ProvableBy}
 use Rattle.lp_standard.specs.Connectives.{two, not_of, Connective}
 use Rattle.lp_standard.specs.Connectives as connective
 
 -- the term is provable as the closing makes it; E are the types of the eigenconstants
-abbrev pub Holds : Declared → (E : List Ty) → (P : List ClauseFormula) → Closing → Term → Type 0
-Holds d E P c t = PlainlyProvable d E P (closed c t)
+abbrev pub Holds : Leaves → Declared → (E : List Ty) → (P : List ClauseFormula) → Closing → Term → Type 0
+Holds L d E P c t = ProvableBy L d E P (closed c t)
 
 -- the closing with another term for one variable
 abbrev pub with_value : Closing → (x l : ℕ) → Term → Closing
@@ -40,16 +40,16 @@ abbrev pub next_eigen : List Ty → Term
 next_eigen E = atom (eigen (suc (length E)))
 
 -- a form that the search takes apart, under a closing: x of level l is the variable that a `sigma` gets
-abbrev pub FormHolds : Declared → (E : List Ty) → (P : List ClauseFormula) → Closing → (x l : ℕ) → Connective → Type 0
-FormHolds d E P c x l connective.True = Unit {0}
-FormHolds d E P c x l (connective.And a b) = Holds d E P c a × Holds d E P c b
-FormHolds d E P c x l (connective.Or a b) = Holds d E P c a ⊎ Holds d E P c b
-FormHolds d E P c x l (connective.ForAll T s) = Holds d (E ++ instance c.types T ∷ []) P c (substitute (next_eigen E) s)
-FormHolds d E P c x l (connective.Exists T s) = (w : Term) × IsWitness d E w (instance c.types T) × Holds d E P (with_value c x l w) (substitute (atom (logic x l)) s)
-FormHolds d E P c x l connective.Cut = ⊥
-FormHolds d E P c x l (connective.Implies a b) = ⊥
-FormHolds d E P c x l (connective.Not g) = ⊥
-FormHolds d E P c x l connective.Atomic = ⊥
+abbrev pub FormHolds : Leaves → Declared → (E : List Ty) → (P : List ClauseFormula) → Closing → (x l : ℕ) → Connective → Type 0
+FormHolds L d E P c x l connective.True = Unit {0}
+FormHolds L d E P c x l (connective.And a b) = Holds L d E P c a × Holds L d E P c b
+FormHolds L d E P c x l (connective.Or a b) = Holds L d E P c a ⊎ Holds L d E P c b
+FormHolds L d E P c x l (connective.ForAll T s) = Holds L d (E ++ instance c.types T ∷ []) P c (substitute (next_eigen E) s)
+FormHolds L d E P c x l (connective.Exists T s) = (w : Term) × IsWitness d E w (instance c.types T) × Holds L d E P (with_value c x l w) (substitute (atom (logic x l)) s)
+FormHolds L d E P c x l connective.Cut = ⊥
+FormHolds L d E P c x l (connective.Implies a b) = ⊥
+FormHolds L d E P c x l (connective.Not g) = ⊥
+FormHolds L d E P c x l connective.Atomic = ⊥
 
 -- the forms that are taken apart
 abbrev pub IsTakenApart : Connective → Type 0
@@ -64,14 +64,14 @@ IsTakenApart (connective.Not g) = ⊥
 IsTakenApart connective.Atomic = ⊥
 
 -- a flattened goal that is taken apart, by the formulas of its parts
-abbrev pub GoalHolds : Declared → (E : List Ty) → (P : List ClauseFormula) → Closing → (x l : ℕ) → Goal → Type 0
-GoalHolds d E P c x l (Atomic t) = Holds d E P c t
-GoalHolds d E P c x l Cut = Unit {0}
-GoalHolds d E P c x l (Either gs hs) = Holds d E P c (formula_of_goals gs) ⊎ Holds d E P c (formula_of_goals hs)
-GoalHolds d E P c x l (Forall T gs) = Holds d (E ++ instance c.types T ∷ []) P c (substitute (next_eigen E) (formula_of_goals gs))
-GoalHolds d E P c x l (Exists T gs) = (w : Term) × IsWitness d E w (instance c.types T) × Holds d E P (with_value c x l w) (substitute (atom (logic x l)) (formula_of_goals gs))
-GoalHolds d E P c x l (Not ws gs) = Holds d E P c (not_of (formula_of_goals gs))
-GoalHolds d E P c x l (Assume ws cs gs) = Holds d E (P ++ assumed (closed c (formula_of_clauses cs)) ∷ []) c (formula_of_goals gs)
+abbrev pub GoalHolds : Leaves → Declared → (E : List Ty) → (P : List ClauseFormula) → Closing → (x l : ℕ) → Goal → Type 0
+GoalHolds L d E P c x l (Atomic t) = Holds L d E P c t
+GoalHolds L d E P c x l Cut = Unit {0}
+GoalHolds L d E P c x l (Either gs hs) = Holds L d E P c (formula_of_goals gs) ⊎ Holds L d E P c (formula_of_goals hs)
+GoalHolds L d E P c x l (Forall T gs) = Holds L d (E ++ instance c.types T ∷ []) P c (substitute (next_eigen E) (formula_of_goals gs))
+GoalHolds L d E P c x l (Exists T gs) = (w : Term) × IsWitness d E w (instance c.types T) × Holds L d E P (with_value c x l w) (substitute (atom (logic x l)) (formula_of_goals gs))
+GoalHolds L d E P c x l (Not ws gs) = Holds L d E P c (not_of (formula_of_goals gs))
+GoalHolds L d E P c x l (Assume ws cs gs) = Holds L d E (P ++ assumed (closed c (formula_of_clauses cs)) ∷ []) c (formula_of_goals gs)
 
 abbrev pub equation : (l r : Term) → (level : ℕ) → List Pair
 equation l r k = record { left = l; right = r; level = k } ∷ []
@@ -81,11 +81,11 @@ equality T l r = two 8 (T ∷ []) l r
 
 -- an equality through the unifier, with the types θ put in: what is left is typed over one list of variables, and its closings that solve the
 -- residual pairs are, through the bindings, those that solve the pairs of before and make the equality hold
-pub record EqualityHolds (θ : ℕ → Ty) (d : Declared) (V : List Variable) (E : List Ty) (P : List ClauseFormula) (T : Ty) (l r : Term) (ds : List Pair) (s : State) : Type 0 where
+pub record EqualityHolds (L : Leaves) (θ : ℕ → Ty) (d : Declared) (V : List Variable) (E : List Ty) (P : List ClauseFormula) (T : Ty) (l r : Term) (ds : List Pair) (s : State) : Type 0 where
   pub typings : KeepsTypings θ d V s
-  pub keeps : (c : Closing) → Closes d V c → SolvesAll c (at_types θ ds) → IsFormula d E (closed c (instance_term θ (equality T l r))) → Holds d E P c (instance_term θ (equality T l r)) → KeptClosing d V typings.after c (map (instance_binding θ) s.bindings) (at_types θ s.delayed)
+  pub keeps : (c : Closing) → Closes d V c → SolvesAll c (at_types θ ds) → IsFormula d E (closed c (instance_term θ (equality T l r))) → Holds L d E P c (instance_term θ (equality T l r)) → KeptClosing d V typings.after c (map (instance_binding θ) s.bindings) (at_types θ s.delayed)
   pub gives : (c : Closing) → Closes d typings.after c → SolvesAll c (at_types θ s.delayed) → IsFormula d E (closed (through_bindings (map (instance_binding θ) s.bindings) c) (instance_term θ (equality T l r))) →
-      Holds d E P (through_bindings (map (instance_binding θ) s.bindings) c) (instance_term θ (equality T l r)) × SolvesAll (through_bindings (map (instance_binding θ) s.bindings) c) (at_types θ ds)
+      Holds L d E P (through_bindings (map (instance_binding θ) s.bindings) c) (instance_term θ (equality T l r)) × SolvesAll (through_bindings (map (instance_binding θ) s.bindings) c) (at_types θ ds)
 
 -- a term of a type over the variables V, at the eigenconstants E
 pub record IsTyped (d : Declared) (E : List Ty) (V : List Variable) (t : Term) (T : Ty) : Type 0 where
@@ -102,7 +102,7 @@ IsVariableOf V (eigen k) = Unit {0}
 IsVariableOf V (param k T) = Unit {0}
 
 -- a goal that holds exactly where another one does
-pub record IsSameGoal (d : Declared) (E : List Ty) (P : List ClauseFormula) (c : Closing) (t u : Term) : Type 0 where
+pub record IsSameGoal (L : Leaves) (d : Declared) (E : List Ty) (P : List ClauseFormula) (c : Closing) (t u : Term) : Type 0 where
   pub fine : IsFormula d E (closed c u)
-  pub to : Holds d E P c t → Holds d E P c u
-  pub from : Holds d E P c u → Holds d E P c t
+  pub to : Holds L d E P c t → Holds L d E P c u
+  pub from : Holds L d E P c u → Holds L d E P c t

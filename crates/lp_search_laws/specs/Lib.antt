@@ -3,6 +3,7 @@ pub mod Branches
 pub mod Clauses
 pub mod Denials
 pub mod Enough
+pub mod Failed
 pub mod Holds
 pub mod Right
 pub mod Started

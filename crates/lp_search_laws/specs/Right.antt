@@ -6,7 +6,7 @@ use Rattle.lp_lemmas.specs.Each.{AnyOf, EachOf}
 use Rattle.lp_model.specs.Flat.{Clause}
 use Rattle.lp_model.specs.Flatten.{ClauseFormula}
 use Rattle.lp_model.specs.Branch.{Branch, Answer}
-use Rattle.lp_model.specs.Proofs.{Declared}
+use Rattle.lp_model.specs.Proofs.{Declared, Leaves}
 use Rattle.lp_model.specs.Answers.{Query, Instance, IsInstance, IsWellFormed, TypedAnswer}
 use Rattle.lp_search_laws.specs.Started.{IsPlainlyProvable}
 use Rattle.lp_search_laws.specs.Branches.{BranchTyping, IsQueryInstance, SolvesBranch}
@@ -21,9 +21,9 @@ pub record IsRightFor (d : Declared) (F : List ClauseFormula) (q : Query) (t : T
   pub exhausts : t.ending ≡ Some NoMore → (i : Instance) → IsPlainlyProvable d F q i → AnyOf (λ a. IsInstance d a.typing a.answer i) typed
 
 -- the same of a branch: its solutions in the place of provable instances
-pub record IsRightOf (d : Declared) (P : List Clause) (q : Query) (y : BranchTyping) (b : Branch) (t : Told Answer) : Type 0 where
+pub record IsRightOf (L : Leaves) (d : Declared) (P : List Clause) (q : Query) (y : BranchTyping) (b : Branch) (t : Told Answer) : Type 0 where
   pub typed : List TypedAnswer
   pub is : map (λ a. a.answer) typed ≡ t.answers
   pub well_formed : EachOf (λ a. IsWellFormed d q a.typing a.answer) typed
-  pub sound : EachOf (λ a. (i : Instance) → IsQueryInstance d q i → IsInstance d a.typing a.answer i → SolvesBranch d P q i y b) typed
-  pub exhausts : t.ending ≡ Some NoMore → (i : Instance) → SolvesBranch d P q i y b → AnyOf (λ a. IsInstance d a.typing a.answer i) typed
+  pub sound : EachOf (λ a. (i : Instance) → IsQueryInstance d q i → IsInstance d a.typing a.answer i → SolvesBranch L d P q i y b) typed
+  pub exhausts : t.ending ≡ Some NoMore → (i : Instance) → SolvesBranch L d P q i y b → AnyOf (λ a. IsInstance d a.typing a.answer i) typed

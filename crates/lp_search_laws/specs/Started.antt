@@ -11,7 +11,7 @@ use Rattle.lp_lemmas.specs.Each.{EachOf}
 use Rattle.lp_model.specs.Pair.{Closing, closed}
 use Rattle.lp_model.specs.Flat.{Goals, goal_list, instantiate_goals, formula_of_goal}
 use Rattle.lp_model.specs.Flatten.{ClauseFormula}
-use Rattle.lp_model.specs.Proofs.{Declared, under, PlainlyProvable}
+use Rattle.lp_model.specs.Proofs.{Declared, under, Leaves, ProvableBy, no_leaf}
 use Rattle.lp_model.specs.Answers.{Query, Variable, Instance, Closes, ConvertEach, AreWitnesses, filled}
 use Rattle.lp_model.specs.Search.{vars_from, types_from}
 use Rattle.lp_search_laws.specs.Holds.{Holds}
@@ -50,16 +50,20 @@ abbrev pub outermost : Ty → Variable
 outermost T = record { type = T; scope = [] }
 
 -- a closing of the variables that a query starts with gives the instance, and makes each of the goals provable
-pub record StartHolds (d : Declared) (P : List ClauseFormula) (q : Query) (gs : Goals) (i : Instance) : Type 0 where
+pub record StartHolds (L : Leaves) (d : Declared) (P : List ClauseFormula) (q : Query) (gs : Goals) (i : Instance) : Type 0 where
   pub closing : Closing
   pub closes : Closes d (map outermost q.vars) closing
   pub types : map (instance closing.types) (types_from q.type_vars 0) ≡ i.types
   pub values : ConvertEach (map (closed closing) (vars_from (length q.vars) 0)) i.values
-  pub holds : EachOf (λ g. Holds d [] P closing (formula_of_goal g)) (goal_list (instantiate_goals (λ k. atom (logic (length q.vars - suc k) 0)) gs))
+  pub holds : EachOf (λ g. Holds L d [] P closing (formula_of_goal g)) (goal_list (instantiate_goals (λ k. atom (logic (length q.vars - suc k) 0)) gs))
 
--- closed types, and closed positive terms of the variables' types, with which the query has a proof without failing searches
-pub record IsPlainlyProvable (d : Declared) (P : List ClauseFormula) (q : Query) (i : Instance) : Type 0 where
+-- closed types, and closed positive terms of the variables' types, with which the query has a proof with such leaves
+pub record IsProvableBy (L : Leaves) (d : Declared) (P : List ClauseFormula) (q : Query) (i : Instance) : Type 0 where
   pub types : length i.types ≡ q.type_vars
   pub types_closed : AreClosed i.types
   pub values : AreWitnesses d i.values (map (instance (type_at i.types)) q.vars)
-  pub proved : PlainlyProvable d [] P (filled q i)
+  pub proved : ProvableBy L d [] P (filled q i)
+
+-- without failing searches
+abbrev pub IsPlainlyProvable : Declared → (P : List ClauseFormula) → Query → Instance → Type 0
+IsPlainlyProvable d P q i = IsProvableBy no_leaf d P q i

@@ -15,7 +15,7 @@ use Rattle.lp_model.specs.Branch.{Entry, Branch, entries}
 use Rattle.lp_model.specs.Flatten.{ClauseFormula}
 use Rattle.lp_model.specs.Flat.{Goals, goal_list, instantiate_goals, type_goals, formula_of_goals}
 use Rattle.lp_unify_laws.specs.TypeSolutions.{Unifies}
-use Rattle.lp_model.specs.Proofs.{Declared, PlainlyProvable}
+use Rattle.lp_model.specs.Proofs.{Declared, Leaves, ProvableBy}
 use Rattle.lp_model.specs.Answers.{Variable, over, IsScopedAtom, Closes}
 use Rattle.lp_search_laws.specs.Holds.{IsTyped}
 use Rattle.lp_search_laws.specs.Branches.{BranchTyping}
@@ -45,11 +45,11 @@ abbrev pub tried_values : (V : List Variable) → (level : ℕ) → (h t : Term)
 tried_values V level h t = slotted (slots_of [] (arguments h) (arguments t)) (length V) level
 
 -- the closing of the variables and of those for the clause solves what the try asks for, and its goals are provable
-pub record SolvesMatch (d : Declared) (E : List Ty) (V : List Variable) (P : List ClauseFormula) (level : ℕ) (vs : List Ty) (h : Term) (body : Goals) (t : Term) (z : Closing) : Type 0 where
+pub record SolvesMatch (L : Leaves) (d : Declared) (E : List Ty) (V : List Variable) (P : List ClauseFormula) (level : ℕ) (vs : List Ty) (h : Term) (body : Goals) (t : Term) (z : Closing) : Type 0 where
   pub closes : Closes d (V ++ new_variables E vs) z
   pub types : Unifies z.types (type_pairs (head_of t) (head_of h))
   pub pairs : SolvesAll z (pairs_of (tried_values V level h t) level [] (arguments h) (arguments t))
-  pub goals : PlainlyProvable d (map (instance z.types) E) P (closed z (instantiate (tried_values V level h t) (formula_of_goals body)))
+  pub goals : ProvableBy L d (map (instance z.types) E) P (closed z (instantiate (tried_values V level h t) (formula_of_goals body)))
 
 -- the closing with more variables
 pub record GoesOn (V : List Variable) (c z : Closing) : Type 0 where

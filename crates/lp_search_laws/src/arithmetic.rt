@@ -6,7 +6,7 @@ ghost use Rattle.lp_calculus.specs.Term.{Term};
 ghost use Rattle.lp_calculus.specs.Convert.{Converts};
 ghost use Rattle.lp_calculus.specs.Typing.{Context, Typed};
 ghost use Rattle.lp_model.specs.Pair.{Closing, closed};
-ghost use Rattle.lp_model.specs.Proofs.{Declared, IsFormula};
+ghost use Rattle.lp_model.specs.Proofs.{Declared, IsFormula, no_leaf};
 ghost use Rattle.lp_standard.specs.Schemes.{IsStandard};
 ghost use Rattle.lp_standard.specs.Connectives.{two};
 ghost use Rattle.lp_model.specs.Flatten.{ClauseFormula};
@@ -36,20 +36,20 @@ pub fn values_have_types()
 
 /// `is` stands for the equality of its left side and the value of the right one.
 pub fn assignments()
-    ensures { (d : Declared) → IsStandard d → (E : List Ty) (P : List ClauseFormula) (c : Closing) (ts : List Ty) (n : ℕ) (l r : Term) (v : Value) → evaluate n r ≡ Some (Is v) → IsFormula d E (closed c (two 9 ts l r)) → (T : Ty) × (ts ≡ T ∷ []) × IsSameGoal d E P c (two 9 ts l r) (two 8 (T ∷ []) l (term_of v)) }
+    ensures { (d : Declared) → IsStandard d → (E : List Ty) (P : List ClauseFormula) (c : Closing) (ts : List Ty) (n : ℕ) (l r : Term) (v : Value) → evaluate n r ≡ Some (Is v) → IsFormula d E (closed c (two 9 ts l r)) → (T : Ty) × (ts ≡ T ∷ []) × IsSameGoal no_leaf d E P c (two 9 ts l r) (two 8 (T ∷ []) l (term_of v)) }
 {}
 
 /// A comparison holds exactly where the values of its sides are so ordered, under each closing.
 pub fn comparisons()
-    ensures { (d : Declared) → IsStandard d → (E : List Ty) (P : List ClauseFormula) (c : Closing) (ts : List Ty) (k n : ℕ) (l r : Term) (x y : ℤ) → 10 ≤ k → k ≤ 13 → evaluate n l ≡ Some (Is (Number x)) → evaluate n r ≡ Some (Is (Number y)) → IsFormula d E (closed c (two k ts l r)) → (Holds d E P c (two k ts l r) → ordered k x y ≡ true) × (ordered k x y ≡ true → Holds d E P c (two k ts l r)) }
+    ensures { (d : Declared) → IsStandard d → (E : List Ty) (P : List ClauseFormula) (c : Closing) (ts : List Ty) (k n : ℕ) (l r : Term) (x y : ℤ) → 10 ≤ k → k ≤ 13 → evaluate n l ≡ Some (Is (Number x)) → evaluate n r ≡ Some (Is (Number y)) → IsFormula d E (closed c (two k ts l r)) → (Holds no_leaf d E P c (two k ts l r) → ordered k x y ≡ true) × (ordered k x y ≡ true → Holds no_leaf d E P c (two k ts l r)) }
 {}
 
 /// A branch with `is` in front, where the expression has a value, has the instances of the branch with the equality in its place.
 pub fn assignments_are_equalities()
-    ensures { (n : ℕ) (d : Declared) → IsStandard d → (P : List Clause) (q : Query) (y : BranchTyping) (b : Branch) (e : Entry) (es : List Entry) (t u : Term) (ts : List Ty) (l r : Term) (v : Value) → b.goals ≡ e ∷ es → e.goal ≡ Atomic t → head_normal n t ≡ Some u → u ≡ two 9 ts l r → evaluate n r ≡ Some (Is v) → IsTypedBranch n d q y b → (T : Ty) × (ts ≡ T ∷ []) × SolvesAs n d P q y b (with_goals b (with_atom e (two 8 (T ∷ []) l (term_of v)) ∷ es)) }
+    ensures { (n : ℕ) (d : Declared) → IsStandard d → (P : List Clause) (q : Query) (y : BranchTyping) (b : Branch) (e : Entry) (es : List Entry) (t u : Term) (ts : List Ty) (l r : Term) (v : Value) → b.goals ≡ e ∷ es → e.goal ≡ Atomic t → head_normal n t ≡ Some u → u ≡ two 9 ts l r → evaluate n r ≡ Some (Is v) → IsTypedBranch n d q y b → (T : Ty) × (ts ≡ T ∷ []) × SolvesAs no_leaf n d P q y b (with_goals b (with_atom e (two 8 (T ∷ []) l (term_of v)) ∷ es)) }
 {}
 
 /// What the search leaves of a comparison stands for its branch.
 pub fn comparisons_stand()
-    ensures { (n : ℕ) (d : Declared) → IsStandard d → (P : List Clause) (q : Query) (y : BranchTyping) (b : Branch) (e : Entry) (es : List Entry) (t u : Term) (k : ℕ) (ts : List Ty) (l r : Term) → b.goals ≡ e ∷ es → e.goal ≡ Atomic t → head_normal n t ≡ Some u → u ≡ two k ts l r → 10 ≤ k → k ≤ 13 → IsTypedBranch n d q y b → StandFor n d P q (going y b) (compared k (with_goals b es) (evaluate n l) (evaluate n r)) }
+    ensures { (n : ℕ) (d : Declared) → IsStandard d → (P : List Clause) (q : Query) (y : BranchTyping) (b : Branch) (e : Entry) (es : List Entry) (t u : Term) (k : ℕ) (ts : List Ty) (l r : Term) → b.goals ≡ e ∷ es → e.goal ≡ Atomic t → head_normal n t ≡ Some u → u ≡ two k ts l r → 10 ≤ k → k ≤ 13 → IsTypedBranch n d q y b → StandFor no_leaf n d P q (going y b) (compared k (with_goals b es) (evaluate n l) (evaluate n r)) }
 {}

@@ -9,7 +9,7 @@ ghost use Rattle.lp_model.specs.Branch.{Answer, Branch, Entry};
 ghost use Rattle.lp_model.specs.Flat.{Clause, Clauses, Goals, Not, Written, denied, formula_of_goals, goals, no_goals};
 ghost use Rattle.lp_model.specs.Answers.{AnswerTyping, Closes, IsProvable, Query};
 ghost use Rattle.lp_model.specs.Flatten.{ClauseFormula, flatten_query};
-ghost use Rattle.lp_model.specs.Proofs.{AreFlattened, Declared, Provable, StandForClauses, StandsForGoal, newest_first};
+ghost use Rattle.lp_model.specs.Proofs.{AreFlattened, Declared, Provable, StandForClauses, StandsForGoal, newest_first, no_leaf};
 ghost use Rattle.lp_model.specs.Pair.{Closing, closed};
 ghost use Rattle.lp_model.specs.Search.{has_no_pairs, has_variables, look, start, with_goals};
 ghost use Rattle.lp_model.specs.Skeleton.{Held, Note, Refuted, inner, run, starts, starts_within};
@@ -43,8 +43,8 @@ pub fn refuted_goals_have_proved_negations()
 pub fn negations_are_judged_rightly()
     ensures { (n : ℕ) (d : Declared) → IsStandard d → (P : List Clause) → EachOf (IsProgramTyped d) P → EachOf IsUnnegatedClause P → (q : Query) (z : AnswerTyping) (b : Branch) (E : List Ty) (Es : List (List Ty)) (e : Entry) (es : List Entry) → IsTypedBranch n d q (record { answer = z; eigens = E ∷ Es }) (with_goals b (e ∷ es)) →
         (w : Written) (gs : Goals) → e.goal ≡ Not w gs → AreUnnegatedGoals gs → EachOf IsUnnegatedClause e.assumed → (j steps k p : ℕ) (ns : List Note) →
-        (inner (look unit_limit n P) j has_no_pairs (starts (denied_task b.next b.next_type gs e.assumed e.written e.level) steps 1) ≡ Refuted k ns p → (c : Closing) → Closes d z.variables c → Holds d (map (instance c.types) E) (clauses_at P e.assumed c) c (formula_of_goals gs) → ⊥) ×
-        (inner (look unit_limit n P) j has_no_pairs (starts (denied_task b.next b.next_type gs e.assumed e.written e.level) steps 1) ≡ Held k ns p → (c : Closing) × Closes d z.variables c × Holds d (map (instance c.types) E) (clauses_at P e.assumed c) c (formula_of_goals gs)) }
+        (inner (look unit_limit n P) j has_no_pairs (starts (denied_task b.next b.next_type gs e.assumed e.written e.level) steps 1) ≡ Refuted k ns p → (c : Closing) → Closes d z.variables c → Holds no_leaf d (map (instance c.types) E) (clauses_at P e.assumed c) c (formula_of_goals gs) → ⊥) ×
+        (inner (look unit_limit n P) j has_no_pairs (starts (denied_task b.next b.next_type gs e.assumed e.written e.level) steps 1) ≡ Held k ns p → (c : Closing) × Closes d z.variables c × Holds no_leaf d (map (instance c.types) E) (clauses_at P e.assumed c) c (formula_of_goals gs)) }
 {}
 
 /// What the query `not G` says, where G has no variables and neither G nor the program a negation: it is answered only where G has no proof, and it ends with no

@@ -6,7 +6,7 @@ ghost use Rattle.lp_calculus.specs.Term.{Term};
 ghost use Rattle.lp_calculus.specs.Typing.{type_at};
 ghost use Rattle.lp_lemmas.specs.Each.{EachOf};
 ghost use Rattle.lp_model.specs.Pair.{Closing, closed};
-ghost use Rattle.lp_model.specs.Proofs.{AreFlattened, Declared, IsFormula, IsSentence, PlainlyProvable, assumed};
+ghost use Rattle.lp_model.specs.Proofs.{AreFlattened, Declared, IsFormula, IsSentence, PlainlyProvable, assumed, no_leaf};
 ghost use Rattle.lp_standard.specs.Schemes.{IsStandard};
 ghost use Rattle.lp_model.specs.Flat.{Goals, Clause, Clauses, clause_list, formula_of_clause, formula_of_clauses};
 ghost use Rattle.lp_model.specs.Flatten.{ClauseFormula, flatten_query};
@@ -35,7 +35,7 @@ pub fn assumptions_stand_apart()
 
 /// A query has a provable instance exactly where the goals that the search starts with hold under a closing that gives the instance.
 pub fn a_query_starts()
-    ensures { (d : Declared) → IsStandard d → (n : ℕ) (q : Query) (gs : Goals) → IsTypedQuery d q → flatten_query n d q.formula ≡ Some gs → (P : List ClauseFormula) (i : Instance) → (IsPlainlyProvable d P q i → StartHolds d P q gs i) × (AreWitnesses d i.values (map (instance (type_at i.types)) q.vars) → StartHolds d P q gs i → IsPlainlyProvable d P q i) }
+    ensures { (d : Declared) → IsStandard d → (n : ℕ) (q : Query) (gs : Goals) → IsTypedQuery d q → flatten_query n d q.formula ≡ Some gs → (P : List ClauseFormula) (i : Instance) → (IsPlainlyProvable d P q i → StartHolds no_leaf d P q gs i) × (AreWitnesses d i.values (map (instance (type_at i.types)) q.vars) → StartHolds no_leaf d P q gs i → IsPlainlyProvable d P q i) }
 {}
 
 /// A sentence that is typed over its type variables is one, with each types for these.
@@ -55,5 +55,5 @@ pub fn typed_starts()
 
 /// And its instances are those for which the query is provable.
 pub fn starts_are_solved()
-    ensures { (m : ℕ) (d : Declared) → IsStandard d → (F : List ClauseFormula) (P : List Clause) → EachOf (IsTypedSentence d) F → AreFlattened d F P → (q : Query) (gs : Goals) → IsTypedQuery d q → flatten_query m d q.formula ≡ Some gs → (i : Instance) → (IsPlainlyProvable d F q i → SolvesBranch d P q i (first_typing q gs) (first_branch q.type_vars (length q.vars) gs)) × (SolvesBranch d P q i (first_typing q gs) (first_branch q.type_vars (length q.vars) gs) → IsPlainlyProvable d F q i) }
+    ensures { (m : ℕ) (d : Declared) → IsStandard d → (F : List ClauseFormula) (P : List Clause) → EachOf (IsTypedSentence d) F → AreFlattened d F P → (q : Query) (gs : Goals) → IsTypedQuery d q → flatten_query m d q.formula ≡ Some gs → (i : Instance) → (IsPlainlyProvable d F q i → SolvesBranch no_leaf d P q i (first_typing q gs) (first_branch q.type_vars (length q.vars) gs)) × (SolvesBranch no_leaf d P q i (first_typing q gs) (first_branch q.type_vars (length q.vars) gs) → IsPlainlyProvable d F q i) }
 {}

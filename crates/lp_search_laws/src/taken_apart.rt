@@ -8,7 +8,7 @@ ghost use Rattle.lp_model.specs.Search.{opened};
 ghost use Rattle.lp_model.specs.Look.{head_normal};
 ghost use Rattle.lp_lemmas.specs.Each.{EachOf};
 ghost use Rattle.lp_model.specs.Pair.{Closing, closed, Solves};
-ghost use Rattle.lp_model.specs.Proofs.{Declared, IsFormula};
+ghost use Rattle.lp_model.specs.Proofs.{Declared, IsFormula, no_leaf};
 ghost use Rattle.lp_standard.specs.Schemes.{IsStandard};
 ghost use Rattle.lp_standard.specs.Connectives.{two, connective_of};
 ghost use Rattle.lp_model.specs.Flat.{Goal, Goals, goal_list, formula_of_goal, formula_of_goals};
@@ -17,25 +17,25 @@ ghost use Rattle.lp_search_laws.specs.Holds.{Holds, FormHolds, GoalHolds, IsTake
 
 /// A goal known at run time, by the connective at the head of its head-normal form. The variable that `sigma` gets does not stand in it.
 pub fn run_time_goals()
-    ensures { (d : Declared) → IsStandard d → (E : List Ty) (P : List ClauseFormula) (c : Closing) (x l n : ℕ) (t u : Term) → head_normal n t ≡ Some u → IsTakenApart (connective_of u) → IsUnused x l t → IsFormula d E (closed c t) → (Holds d E P c t → FormHolds d E P c x l (connective_of u)) × (FormHolds d E P c x l (connective_of u) → Holds d E P c t) }
+    ensures { (d : Declared) → IsStandard d → (E : List Ty) (P : List ClauseFormula) (c : Closing) (x l n : ℕ) (t u : Term) → head_normal n t ≡ Some u → IsTakenApart (connective_of u) → IsUnused x l t → IsFormula d E (closed c t) → (Holds no_leaf d E P c t → FormHolds no_leaf d E P c x l (connective_of u)) × (FormHolds no_leaf d E P c x l (connective_of u) → Holds no_leaf d E P c t) }
 {}
 
 /// A flattened goal, by its parts.
 pub fn flat_goals()
-    ensures { (d : Declared) → IsStandard d → (E : List Ty) (P : List ClauseFormula) (c : Closing) (x l : ℕ) (g : Goal) → IsUnused x l (formula_of_goal g) → IsFormula d E (closed c (formula_of_goal g)) → (Holds d E P c (formula_of_goal g) → GoalHolds d E P c x l g) × (GoalHolds d E P c x l g → Holds d E P c (formula_of_goal g)) }
+    ensures { (d : Declared) → IsStandard d → (E : List Ty) (P : List ClauseFormula) (c : Closing) (x l : ℕ) (g : Goal) → IsUnused x l (formula_of_goal g) → IsFormula d E (closed c (formula_of_goal g)) → (Holds no_leaf d E P c (formula_of_goal g) → GoalHolds no_leaf d E P c x l g) × (GoalHolds no_leaf d E P c x l g → Holds no_leaf d E P c (formula_of_goal g)) }
 {}
 
 /// Flattened goals, one behind the other.
 pub fn goals_in_turn()
-    ensures { (d : Declared) → IsStandard d → (E : List Ty) (P : List ClauseFormula) (c : Closing) (gs : Goals) → IsFormula d E (closed c (formula_of_goals gs)) → (Holds d E P c (formula_of_goals gs) → EachOf (λ g. Holds d E P c (formula_of_goal g)) (goal_list gs)) × (EachOf (λ g. Holds d E P c (formula_of_goal g)) (goal_list gs) → Holds d E P c (formula_of_goals gs)) }
+    ensures { (d : Declared) → IsStandard d → (E : List Ty) (P : List ClauseFormula) (c : Closing) (gs : Goals) → IsFormula d E (closed c (formula_of_goals gs)) → (Holds no_leaf d E P c (formula_of_goals gs) → EachOf (λ g. Holds no_leaf d E P c (formula_of_goal g)) (goal_list gs)) × (EachOf (λ g. Holds no_leaf d E P c (formula_of_goal g)) (goal_list gs) → Holds no_leaf d E P c (formula_of_goals gs)) }
 {}
 
 /// An equality, by the pair of its sides.
 pub fn equalities()
-    ensures { (d : Declared) → IsStandard d → (E : List Ty) (P : List ClauseFormula) (c : Closing) (T : Ty) (a b : Term) (k : ℕ) → IsFormula d E (closed c (two 8 (T ∷ []) a b)) → (Holds d E P c (two 8 (T ∷ []) a b) → Solves c (record { left = a; right = b; level = k })) × (Solves c (record { left = a; right = b; level = k }) → Holds d E P c (two 8 (T ∷ []) a b)) }
+    ensures { (d : Declared) → IsStandard d → (E : List Ty) (P : List ClauseFormula) (c : Closing) (T : Ty) (a b : Term) (k : ℕ) → IsFormula d E (closed c (two 8 (T ∷ []) a b)) → (Holds no_leaf d E P c (two 8 (T ∷ []) a b) → Solves c (record { left = a; right = b; level = k })) × (Solves c (record { left = a; right = b; level = k }) → Holds no_leaf d E P c (two 8 (T ∷ []) a b)) }
 {}
 
 /// The goals that the search puts for a quantified one, opened with a term, are provable exactly where its body at the term is.
 pub fn opened_goals()
-    ensures { (d : Declared) → IsStandard d → (E : List Ty) (P : List ClauseFormula) (c : Closing) (u : Term) (gs : Goals) → IsFormula d E (closed c (substitute u (formula_of_goals gs))) → (Holds d E P c (substitute u (formula_of_goals gs)) → EachOf (λ g. Holds d E P c (formula_of_goal g)) (opened u gs)) × (EachOf (λ g. Holds d E P c (formula_of_goal g)) (opened u gs) → Holds d E P c (substitute u (formula_of_goals gs))) }
+    ensures { (d : Declared) → IsStandard d → (E : List Ty) (P : List ClauseFormula) (c : Closing) (u : Term) (gs : Goals) → IsFormula d E (closed c (substitute u (formula_of_goals gs))) → (Holds no_leaf d E P c (substitute u (formula_of_goals gs)) → EachOf (λ g. Holds no_leaf d E P c (formula_of_goal g)) (opened u gs)) × (EachOf (λ g. Holds no_leaf d E P c (formula_of_goal g)) (opened u gs) → Holds no_leaf d E P c (substitute u (formula_of_goals gs))) }
 {}

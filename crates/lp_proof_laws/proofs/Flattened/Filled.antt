@@ -91,13 +91,13 @@ module _ (b : Binding) (shut : shift 0 1 b.value ≡ b.value) where
   put_term θ σ τ h (abs t) w = ap (λ f. abs (fill f (filled_term θ (lifted σ) t))) (fun_ext (one_shut b shut)) ∙ ap abs (put_term θ (lifted σ) (lifted τ) (put_lifted σ τ h) t w)
   put_term θ σ τ h (app t u) w = app_is (put_term θ σ τ h t w.0) (put_term θ σ τ h u w.1)
 
-  pub put_filled_goals : (θ : ℕ → Ty) (σ : ℕ → Term) (gs : Goals) → AreTermsOf Source gs → map_goals (λ (u : ℕ). u) (λ u t. put b t) same_type zero (filled_goals θ σ gs) ≡ filled_goals θ (λ i. put b (σ i)) gs
-  put_filled_goals θ σ gs h =
-      goals_fused lifted (filled_term θ) (instance θ) (λ u. u) (λ u t. put b t) same_type lifted (filled_term θ) (instance θ) Source (λ σ u τ. Gives (put b) σ τ) (λ σ u τ h. put_lifted σ τ h) (λ σ u τ h t w. put_term θ σ τ h t w) (λ T. refl) σ zero (λ i. put b (σ i)) (λ i. refl) gs h
+  pub put_filled_goals : (u : ℕ) (θ : ℕ → Ty) (σ : ℕ → Term) (gs : Goals) → AreTermsOf Source gs → map_goals (λ (u : ℕ). u) (λ u t. put b t) same_type u (filled_goals θ σ gs) ≡ filled_goals θ (λ i. put b (σ i)) gs
+  put_filled_goals u θ σ gs h =
+      goals_fused lifted (filled_term θ) (instance θ) (λ u. u) (λ u t. put b t) same_type lifted (filled_term θ) (instance θ) Source (λ σ u τ. Gives (put b) σ τ) (λ σ u τ h. put_lifted σ τ h) (λ σ u τ h t w. put_term θ σ τ h t w) (λ T. refl) σ u (λ i. put b (σ i)) (λ i. refl) gs h
 
-  pub put_filled_clauses : (θ : ℕ → Ty) (σ : ℕ → Term) (cs : Clauses) → AreClausesOf Source cs → map_clauses (λ (u : ℕ). u) (λ u t. put b t) same_type zero (filled_clauses θ σ cs) ≡ filled_clauses θ (λ i. put b (σ i)) cs
-  put_filled_clauses θ σ cs h =
-      clauses_fused lifted (filled_term θ) (instance θ) (λ u. u) (λ u t. put b t) same_type lifted (filled_term θ) (instance θ) Source (λ σ u τ. Gives (put b) σ τ) (λ σ u τ h. put_lifted σ τ h) (λ σ u τ h t w. put_term θ σ τ h t w) (λ T. refl) σ zero (λ i. put b (σ i)) (λ i. refl) cs h
+  pub put_filled_clauses : (u : ℕ) (θ : ℕ → Ty) (σ : ℕ → Term) (cs : Clauses) → AreClausesOf Source cs → map_clauses (λ (u : ℕ). u) (λ u t. put b t) same_type u (filled_clauses θ σ cs) ≡ filled_clauses θ (λ i. put b (σ i)) cs
+  put_filled_clauses u θ σ cs h =
+      clauses_fused lifted (filled_term θ) (instance θ) (λ u. u) (λ u t. put b t) same_type lifted (filled_term θ) (instance θ) Source (λ σ u τ. Gives (put b) σ τ) (λ σ u τ h. put_lifted σ τ h) (λ σ u τ h t w. put_term θ σ τ h t w) (λ T. refl) σ u (λ i. put b (σ i)) (λ i. refl) cs h
 
 -- no condition on the terms
 abbrev Any : Term → Type 0
@@ -154,9 +154,13 @@ module _ (κ : ℕ → Ty) where
   type_term θ σ τ h (abs t) = ap abs (type_term θ (lifted σ) (lifted τ) (type_lifted σ τ h) t)
   type_term θ σ τ h (app t u) = app_is (type_term θ σ τ h t) (type_term θ σ τ h u)
 
-  pub type_filled_goals : (θ : ℕ → Ty) (σ : ℕ → Term) (gs : Goals) → type_goals κ (filled_goals θ σ gs) ≡ filled_goals (λ i. instance κ (θ i)) (λ i. instance_term κ (σ i)) gs
-  type_filled_goals θ σ gs =
-      goals_fused lifted (filled_term θ) (instance θ) (λ (u : ℕ). u) (λ u t. instance_term κ t) (instance κ) lifted (filled_term (λ i. instance κ (θ i))) (instance (λ i. instance κ (θ i))) Any (λ σ u τ. Gives (instance_term κ) σ τ) (λ σ u τ h. type_lifted σ τ h) (λ σ u τ h t w. type_term θ σ τ h t) (instance-instance θ κ) σ zero (λ i. instance_term κ (σ i)) (λ i. refl) gs (any_goals gs)
+  pub type_filled_goals : (u : ℕ) (θ : ℕ → Ty) (σ : ℕ → Term) (gs : Goals) → map_goals (λ (u : ℕ). u) (λ u t. instance_term κ t) (instance κ) u (filled_goals θ σ gs) ≡ filled_goals (λ i. instance κ (θ i)) (λ i. instance_term κ (σ i)) gs
+  type_filled_goals u θ σ gs =
+      goals_fused lifted (filled_term θ) (instance θ) (λ (u : ℕ). u) (λ u t. instance_term κ t) (instance κ) lifted (filled_term (λ i. instance κ (θ i))) (instance (λ i. instance κ (θ i))) Any (λ σ u τ. Gives (instance_term κ) σ τ) (λ σ u τ h. type_lifted σ τ h) (λ σ u τ h t w. type_term θ σ τ h t) (instance-instance θ κ) σ u (λ i. instance_term κ (σ i)) (λ i. refl) gs (any_goals gs)
+
+  pub type_filled_clauses : (u : ℕ) (θ : ℕ → Ty) (σ : ℕ → Term) (cs : Clauses) → map_clauses (λ (u : ℕ). u) (λ u t. instance_term κ t) (instance κ) u (filled_clauses θ σ cs) ≡ filled_clauses (λ i. instance κ (θ i)) (λ i. instance_term κ (σ i)) cs
+  type_filled_clauses u θ σ cs =
+      clauses_fused lifted (filled_term θ) (instance θ) (λ (u : ℕ). u) (λ u t. instance_term κ t) (instance κ) lifted (filled_term (λ i. instance κ (θ i))) (instance (λ i. instance κ (θ i))) Any (λ σ u τ. Gives (instance_term κ) σ τ) (λ σ u τ h. type_lifted σ τ h) (λ σ u τ h t w. type_term θ σ τ h t) (instance-instance θ κ) σ u (λ i. instance_term κ (σ i)) (λ i. refl) cs (any_clauses cs)
 
 -- terms for loose indices
 instantiate_lifted : (σ γ τ : ℕ → Term) → Gives (instantiate γ) σ τ → Gives (instantiate (lifted γ)) (lifted σ) (lifted τ)
@@ -171,6 +175,10 @@ instantiate_term θ σ γ τ h (app t u) = app_is (instantiate_term θ σ γ τ 
 pub instantiate_filled_goals : (γ : ℕ → Term) (θ : ℕ → Ty) (σ : ℕ → Term) (gs : Goals) → instantiate_goals γ (filled_goals θ σ gs) ≡ filled_goals θ (λ i. instantiate γ (σ i)) gs
 instantiate_filled_goals γ θ σ gs =
     goals_fused lifted (filled_term θ) (instance θ) lifted instantiate same_type lifted (filled_term θ) (instance θ) Any (λ σ γ τ. Gives (instantiate γ) σ τ) instantiate_lifted (λ σ γ τ h t w. instantiate_term θ σ γ τ h t) (λ T. refl) σ γ (λ i. instantiate γ (σ i)) (λ i. refl) gs (any_goals gs)
+
+pub instantiate_filled_clauses : (γ : ℕ → Term) (θ : ℕ → Ty) (σ : ℕ → Term) (cs : Clauses) → instantiate_clauses γ (filled_clauses θ σ cs) ≡ filled_clauses θ (λ i. instantiate γ (σ i)) cs
+instantiate_filled_clauses γ θ σ cs =
+    clauses_fused lifted (filled_term θ) (instance θ) lifted instantiate same_type lifted (filled_term θ) (instance θ) Any (λ σ γ τ. Gives (instantiate γ) σ τ) instantiate_lifted (λ σ γ τ h t w. instantiate_term θ σ γ τ h t) (λ T. refl) σ γ (λ i. instantiate γ (σ i)) (λ i. refl) cs (any_clauses cs)
 
 -- raised indices
 raised_first : (n : ℕ) → shift (suc n) 1 (index 0) ≡ index 0
@@ -189,6 +197,10 @@ pub raise_filled_goals : (n : ℕ) (θ : ℕ → Ty) (σ : ℕ → Term) (gs : G
 raise_filled_goals n θ σ gs =
     goals_fused lifted (filled_term θ) (instance θ) suc (λ d t. shift d 1 t) same_type lifted (filled_term θ) (instance θ) Any (λ σ n τ. Gives (shift n 1) σ τ) shift_lifted (λ σ n τ h t w. shift_term θ σ n τ h t) (λ T. refl) σ n (λ i. shift n 1 (σ i)) (λ i. refl) gs (any_goals gs)
 
+pub raise_filled_clauses : (n : ℕ) (θ : ℕ → Ty) (σ : ℕ → Term) (cs : Clauses) → map_clauses suc (λ d t. shift d 1 t) same_type n (filled_clauses θ σ cs) ≡ filled_clauses θ (λ i. shift n 1 (σ i)) cs
+raise_filled_clauses n θ σ cs =
+    clauses_fused lifted (filled_term θ) (instance θ) suc (λ d t. shift d 1 t) same_type lifted (filled_term θ) (instance θ) Any (λ σ n τ. Gives (shift n 1) σ τ) shift_lifted (λ σ n τ h t w. shift_term θ σ n τ h t) (λ T. refl) σ n (λ i. shift n 1 (σ i)) (λ i. refl) cs (any_clauses cs)
+
 -- and types and terms, one after the other, are a filling
 pub one_filling : (θ : ℕ → Ty) (σ : ℕ → Term) (gs : Goals) → instantiate_goals σ (type_goals θ gs) ≡ filled_goals θ σ gs
 one_filling θ σ gs =
@@ -201,7 +213,7 @@ one_filling_of_clauses θ σ cs =
 pub stay_filled : (θ : ℕ → Ty) (σ : ℕ → Term) (gs : Goals) →
     (AreTermsOf (λ t. AllAtoms IsSourceAtom t) gs → (b : Binding) → shift 0 1 b.value ≡ b.value → map_goals (λ (u : ℕ). u) (λ u t. put b t) same_type 0 (filled_goals θ σ gs) ≡ filled_goals θ (λ i. put b (σ i)) gs) ×
     ((κ : ℕ → Ty) → type_goals κ (filled_goals θ σ gs) ≡ filled_goals (λ i. instance κ (θ i)) (λ i. instance_term κ (σ i)) gs) × ((γ : ℕ → Term) → instantiate_goals γ (filled_goals θ σ gs) ≡ filled_goals θ (λ i. instantiate γ (σ i)) gs)
-stay_filled θ σ gs = (λ h b shut. put_filled_goals b shut θ σ gs h, λ κ. type_filled_goals κ θ σ gs, λ γ. instantiate_filled_goals γ θ σ gs)
+stay_filled θ σ gs = (λ h b shut. put_filled_goals b shut zero θ σ gs h, λ κ. type_filled_goals κ zero θ σ gs, λ γ. instantiate_filled_goals γ θ σ gs)
 
 -- flattened goals that are filled stand for the formula that they read as
 module _ (d : Declared) (E : List Ty) (V : List Variable) (k : ℕ) (f : Filling) (fine : IsFilling f) where

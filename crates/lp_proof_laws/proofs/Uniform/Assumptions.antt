@@ -68,7 +68,7 @@ module _ (L : Leaves) where
   abbrev pub AreKept : (P R : List ClauseFormula) → Type 0
   AreKept P R = (S : List ClauseFormula) (n : List Ty) (H : Term) (f : Failure) → L n (P ++ S) H f → L n (R ++ S) H f
 
-  kept_more : (P R : List ClauseFormula) (D : ClauseFormula) → AreKept P R → AreKept (P ++ D ∷ []) (R ++ D ∷ [])
+  pub kept_more : (P R : List ClauseFormula) (D : ClauseFormula) → AreKept P R → AreKept (P ++ D ∷ []) (R ++ D ∷ [])
   kept_more P R D k S n H f h = subst (λ Q. L n Q H f) (sym (append_assoc R (D ∷ []) S)) (k (D ∷ S) n H f (subst (λ Q. L n Q H f) (append_assoc P (D ∷ []) S) h))
 
   record Stand (d : Declared) (E : List Ty) (P R : List ClauseFormula) : Type 0 where

@@ -1,4 +1,4 @@
--- Inversion, connective by connective: with leaves that stand where formulas convert, and without leaves.
+-- Inversion, connective by connective, with leaves that stand where formulas convert.
 use Rattle.std.proofs.Common.{◌≡◌, ℕ, suc, ◌≤◌, List, [], ◌∷◌, ◌++◌, length, subst, arith, inl, inr}
 use Rattle.std.specs.Prelude.{◌⊎◌}
 use Rattle.lp_calculus.specs.Types.{Ty}
@@ -6,8 +6,8 @@ use Rattle.lp_calculus.specs.Term.{Term, atom, app, constant, eigen}
 use Rattle.lp_standard.specs.Connectives.{two, pi_of, sigma_of, not_of}
 use Rattle.lp_model.specs.Flatten.{ClauseFormula}
 use Rattle.lp_standard.specs.Schemes.{IsStandard}
-use Rattle.lp_model.specs.Proofs.{Declared, IsFormula, IsWitness, assumed, IsArith, Leaves, Failure, ProvableBy, PlainlyProvable, RootedBy, no_leaf, trivially, both_sides, left_side, right_side, at_witness, for_all, under_assumption, equally, by_arithmetic, by_clause, by_failure}
-use Rattle.lp_proof_laws.proofs.Uniform.Roots.{Converting, nothing_kept, rooted_by}
+use Rattle.lp_model.specs.Proofs.{Declared, IsFormula, IsWitness, assumed, IsArith, Leaves, Failure, ProvableBy, RootedBy, trivially, both_sides, left_side, right_side, at_witness, for_all, under_assumption, equally, by_arithmetic, by_clause, by_failure}
+use Rattle.lp_proof_laws.proofs.Uniform.Roots.{Converting, rooted_by}
 
 no_arith_both : (A B : Term) → IsArith (two 0 [] A B) → ⊥
 no_arith_both A B (inl h) = let e = h.4 in cc
@@ -176,25 +176,3 @@ module _ (L : Leaves) where
       go (by_arithmetic h) = absurd (no_arith_denial H h)
       go (by_clause i D' ts e l k h r) = let m : 32 ≤ 24 = h in absurd (omega arith)
       go (by_failure K e x h) = let g : K ≡ H = cc in (x, subst (λ z. L E P z x) g h)
-
-pub both_root : (d : Declared) → IsStandard d → (E : List Ty) (P : List ClauseFormula) (A B : Term) → IsFormula d E (two 0 [] A B) → PlainlyProvable d E P (two 0 [] A B) → PlainlyProvable d E P A × PlainlyProvable d E P B
-both_root d std E P A B f p = both_root_by no_leaf d std E P A B f (nothing_kept P) p
-
-pub either_root : (d : Declared) → IsStandard d → (E : List Ty) (P : List ClauseFormula) (A B : Term) → IsFormula d E (two 1 [] A B) → PlainlyProvable d E P (two 1 [] A B) → PlainlyProvable d E P A ⊎ PlainlyProvable d E P B
-either_root d std E P A B f p = either_root_by no_leaf d std E P A B f (nothing_kept P) p
-
-pub sigma_root : (d : Declared) → IsStandard d → (E : List Ty) (P : List ClauseFormula) (T : Ty) (s : Term) → IsFormula d E (sigma_of T s) → PlainlyProvable d E P (sigma_of T s) → (t : Term) × IsWitness d E t T × PlainlyProvable d E P (app s t)
-sigma_root d std E P T s f p = sigma_root_by no_leaf d std E P T s f (nothing_kept P) p
-
-pub pi_root : (d : Declared) → IsStandard d → (E : List Ty) (P : List ClauseFormula) (T : Ty) (s : Term) → IsFormula d E (pi_of T s) → PlainlyProvable d E P (pi_of T s) → PlainlyProvable d (E ++ T ∷ []) P (app s (atom (eigen (suc (length E)))))
-pi_root d std E P T s f p = pi_root_by no_leaf d std E P T s f (nothing_kept P) p
-
-pub implied_root : (d : Declared) → IsStandard d → (E : List Ty) (P : List ClauseFormula) (D A : Term) → IsFormula d E (two 2 [] D A) → PlainlyProvable d E P (two 2 [] D A) → PlainlyProvable d E (P ++ assumed D ∷ []) A
-implied_root d std E P D A f p = implied_root_by no_leaf d std E P D A f (nothing_kept P) p
-
-pub if_root : (d : Declared) → IsStandard d → (E : List Ty) (P : List ClauseFormula) (A D : Term) → IsFormula d E (two 3 [] A D) → PlainlyProvable d E P (two 3 [] A D) → PlainlyProvable d E (P ++ assumed D ∷ []) A
-if_root d std E P A D f p = if_root_by no_leaf d std E P A D f (nothing_kept P) p
-
--- so it has none without failing searches
-pub no_plain_denial : (d : Declared) → IsStandard d → (E : List Ty) (P : List ClauseFormula) (H : Term) → IsFormula d E (not_of H) → PlainlyProvable d E P (not_of H) → ⊥
-no_plain_denial d std E P H f p = (denial_root_by no_leaf d std E P H f (nothing_kept P) p).1

@@ -15,7 +15,7 @@ use Rattle.lp_standard.specs.Connectives.{two}
 use Rattle.lp_model.specs.Flatten.{ClauseFormula}
 use Rattle.lp_model.specs.Values.{Value, HasValue}
 use Rattle.lp_standard.specs.Schemes.{IsStandard}
-use Rattle.lp_model.specs.Proofs.{Declared, IsFormula, Leaves, Failure, no_leaf, Proof, Conv, True, And, Left, Right, Witness, All, Assume, Equal, Arith, Back, Fails, Focus, FConv, FAll, FTake, FNeed, FHit, IsAtomHead, IsArith, assumed, proves_by, focuses_by, ProvableBy, FocusableBy, RootedBy, trivially, both_sides, left_side, right_side, at_witness, for_all, under_assumption, equally, by_arithmetic, by_clause, by_failure, PlainlyProvable}
+use Rattle.lp_model.specs.Proofs.{Declared, IsFormula, Leaves, Failure, no_leaf, Proof, Conv, True, And, Left, Right, Witness, All, Assume, Equal, Arith, Back, Fails, Focus, FConv, FAll, FTake, FNeed, FHit, IsAtomHead, IsArith, assumed, proves_by, focuses_by, ProvableBy, FocusableBy, RootedBy, trivially, both_sides, left_side, right_side, at_witness, for_all, under_assumption, equally, by_arithmetic, by_clause, by_failure}
 use Rattle.lp_proof_laws.proofs.Uniform.Formulas.{parts, quantified, at_eigen}
 use Rattle.lp_proof_laws.proofs.Uniform.Formulas as formulas
 use Rattle.lp_proof_laws.proofs.Uniform.Forms.{apply_arguments}
@@ -195,6 +195,3 @@ module _ (L : Leaves) (d : Declared) (std : IsStandard d) where
 
 pub nothing_kept : (P : List ClauseFormula) → Converting no_leaf P
 nothing_kept P = record { goals = λ n Q H H' f c h. h; assumptions = λ D D' c S n H f h. h }
-
-pub rooted : (d : Declared) → IsStandard d → (E : List Ty) (P : List ClauseFormula) (a : Atom) (us : List Term) → IsFormula d E (apply (atom a) us) → PlainlyProvable d E P (apply (atom a) us) → RootedBy no_leaf d E P (apply (atom a) us)
-rooted d std E P a us fine p = rooted_by no_leaf d std E P a us fine (nothing_kept P) p

@@ -24,7 +24,7 @@ last_here : (R : List ClauseFormula) (D : ClauseFormula) → slice_get (R ++ D �
 last_here [] D = refl
 last_here (r ∷ R) D = last_here R D
 
-stands_more : (P R : List ClauseFormula) (D : ClauseFormula) → Stands P R → Stands (P ++ D ∷ []) (R ++ D ∷ [])
+pub stands_more : (P R : List ClauseFormula) (D : ClauseFormula) → Stands P R → Stands (P ++ D ∷ []) (R ++ D ∷ [])
 stands_more P R D h = record {
   at = λ i D' e. elim (get_last P D i D' e) [
     | inl a ↦ let j = h.at i D' a in (j.0, last_front R D j.0 D' j.1)

@@ -1,5 +1,6 @@
+use Rattle.lp_proof_laws.proofs.Uniform.Settings.{without_leaves}
 use Rattle.lp_search_laws.proofs.ArithmeticTasks as lemmas
 use Rattle.lp_search_laws.proofs.arithmetic.comparisons_stand.Goals as goal
 
 pub returns : goal.returns
-returns c = lemmas.comparisons_stand
+returns c = λ n d std. lemmas.comparisons_stand n d (without_leaves d std)

@@ -1,5 +1,6 @@
+use Rattle.lp_proof_laws.proofs.Uniform.Settings.{without_leaves}
 use Rattle.lp_search_laws.proofs.Equated as lemmas
 use Rattle.lp_search_laws.proofs.equality.refused_equalities.Goals as goal
 
 pub returns : goal.returns
-returns c = lemmas.refused_equalities
+returns c = λ d std. lemmas.refused_equalities d (without_leaves d std)

@@ -1,5 +1,6 @@
+use Rattle.lp_proof_laws.proofs.Uniform.Settings.{without_leaves}
 use Rattle.lp_search_laws.proofs.Goals as lemmas
 use Rattle.lp_search_laws.proofs.taken_apart.goals_in_turn.Goals as goal
 
 pub returns : goal.returns
-returns c = lemmas.goals_in_turn
+returns c = λ d std. lemmas.goals_in_turn d (without_leaves d std)

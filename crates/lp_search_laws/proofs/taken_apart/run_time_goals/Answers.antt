@@ -1,5 +1,6 @@
+use Rattle.lp_proof_laws.proofs.Uniform.Settings.{without_leaves}
 use Rattle.lp_search_laws.proofs.Goals as lemmas
 use Rattle.lp_search_laws.proofs.taken_apart.run_time_goals.Goals as goal
 
 pub returns : goal.returns
-returns c = lemmas.run_time_goals
+returns c = λ d std. lemmas.run_time_goals d (without_leaves d std)
