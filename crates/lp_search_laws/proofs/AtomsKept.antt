@@ -1,12 +1,13 @@
 -- What stays of the atoms of terms: reduction, what is put for variables, and what scans and settling build bring no others than variables and eigenconstants.
-use Rattle.std.proofs.Common.{◌≡◌, ℕ, zero, suc, List, [], ◌∷◌, ◌++◌, refl, sym, subst as transport, true, false, nat_eq, if◌then◌else◌, Option, Some, None}
+use Rattle.std.proofs.Common.{◌≡◌, ℕ, zero, suc, List, [], ◌∷◌, ◌++◌, refl, sym, subst as transport, true, false, nat_eq, if◌then◌else◌, Option, Some, None, map}
 use Rattle.std.specs.Prelude.{◌&&◌, nat_le, min, option_map, option_and_then}
 use Rattle.lp_calculus.specs.Term.{Term, Atom, index, atom, abs, app, apply, shift, substitute, constant, integer, text, eigen, logic, param}
 use Rattle.lp_calculus.specs.Convert.{here, in_abs, in_head, in_argument, by_beta, by_eta, ReducesTo, done, then_step}
 use Rattle.lp_calculus.specs.Fill.{raise, fill, Binding, one, put, at_variables, indexed, abstraction, abstracted}
 use Rattle.lp_calculus.specs.Closed.{AllAtoms}
 use Rattle.lp_calculus.proofs.Sigma.{lift, rename, up, subst, instead}
-use Rattle.lp_calculus.proofs.Plain.{substitute-subst}
+use Rattle.lp_calculus.proofs.Plain.{substitute-subst, bump, shift-rename}
+use Rattle.lp_standard.specs.Connectives.{body_of}
 use Rattle.lp_calculus.proofs.BetaEta.{shift_one}
 use Rattle.lp_calculus.proofs.Steps.{Step}
 use Rattle.lp_lemmas.specs.Each.{EachOf}
@@ -42,6 +43,19 @@ module _ (P : Atom → Type 0) where
 
   pub atoms_shift : (t : Term) → AllAtoms P t → AllAtoms P (shift 0 1 t)
   atoms_shift t h = transport (AllAtoms P) (sym (shift_one t)) (atoms_rename suc t h)
+
+  pub atoms_raise : (d : ℕ) (t : Term) → AllAtoms P t → AllAtoms P (shift d 1 t)
+  atoms_raise d t h = transport (AllAtoms P) (sym (shift-rename d 1 t)) (atoms_rename (bump 1 d) t h)
+
+  pub atoms_raise_each : (d : ℕ) (ts : List Term) → EachOf (AllAtoms P) ts → EachOf (AllAtoms P) (map (shift d 1) ts)
+  atoms_raise_each d [] h = tt
+  atoms_raise_each d (t ∷ ts) h = (atoms_raise d t h.0, atoms_raise_each d ts h.1)
+
+  pub atoms_body : (s : Term) → AllAtoms P s → AllAtoms P (body_of s)
+  atoms_body (abs b) h = h
+  atoms_body (index i) h = (atoms_shift (index i) h, tt)
+  atoms_body (atom a) h = (h, tt)
+  atoms_body (app t u) h = (atoms_shift (app t u) h, tt)
 
   atoms_up : (σ : ℕ → Term) → ((i : ℕ) → AllAtoms P (σ i)) → (i : ℕ) → AllAtoms P (up σ i)
   atoms_up σ f zero = tt

@@ -64,7 +64,6 @@ pub mod Stack
 pub mod SearchEnds
 pub mod MoreSteps
 pub mod WholeRight
-pub mod WellFormed
 pub mod Judged
 pub mod ClosedNegations
 pub mod FullViews

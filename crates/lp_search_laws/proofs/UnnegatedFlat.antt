@@ -2,7 +2,7 @@
 use Rattle.std.proofs.Common.{◌≡◌, ℕ, zero, suc, List, [], ◌∷◌, ◌++◌, map, Some, Bool, true, false, refl, sym, subst as transport, inl, inr}
 use Rattle.std.specs.Prelude.{◌&&◌, option_map}
 use Rattle.lp_calculus.specs.Types.{Ty}
-use Rattle.lp_calculus.specs.Term.{Term, index, atom, abs, app, shift}
+use Rattle.lp_calculus.specs.Term.{Term, shift}
 use Rattle.lp_calculus.specs.Closed.{AllAtoms}
 use Rattle.lp_calculus.specs.Spine.{head_of, arguments}
 use Rattle.lp_lemmas.specs.Each.{EachOf}
@@ -18,21 +18,11 @@ use Rattle.lp_proof_laws.specs.Unnegated.{IsUnnegatedAtom}
 use Rattle.lp_proof_laws.proofs.Uniform.Forms.{Shape, form_shape}
 use Rattle.lp_search_laws.specs.Unnegated.{AreUnnegatedGoals, AreUnnegatedClauses}
 use Rattle.lp_search_laws.proofs.Unnegated.{goals_mapped}
-use Rattle.lp_search_laws.proofs.AtomsKept.{atoms_shift}
+use Rattle.lp_search_laws.proofs.AtomsKept.{atoms_raise_each, atoms_body}
 use Rattle.lp_search_laws.proofs.TypedFlats.{only_some, some_is}
 
 abbrev U : Term → Type 0
 U t = AllAtoms IsUnnegatedAtom t
-
-all_raised : (ts : List Term) → EachOf U ts → EachOf U (map (shift 0 1) ts)
-all_raised [] h = tt
-all_raised (t ∷ ts) h = (atoms_shift IsUnnegatedAtom t h.0, all_raised ts h.1)
-
-body : (s : Term) → U s → U (body_of s)
-body (abs b) h = h
-body (index i) h = (atoms_shift IsUnnegatedAtom (index i) h, tt)
-body (atom a) h = (h, tt)
-body (app t u) h = (atoms_shift IsUnnegatedAtom (app t u) h, tt)
 
 added : (cs ds : Clauses) → AreUnnegatedClauses cs → AreUnnegatedClauses ds → AreUnnegatedClauses (add_clauses cs ds)
 added no_clauses ds h k = k
@@ -70,11 +60,11 @@ module _ (d : Declared) where
     form_flat (suc n) B t (connective.ForAll T b) s rest gs e o r =
         let p = transport U s.1 o in
         let z = option_map_some (flat_goal n d (true ∷ B) b no_goals) (λ hs. goals (Forall T hs) rest) gs e in
-        transport AreUnnegatedGoals z.2 (goal_flat n (true ∷ B) b no_goals z.0 z.1 (transport U (sym s.2) (body s.0 p.1)) tt, r)
+        transport AreUnnegatedGoals z.2 (goal_flat n (true ∷ B) b no_goals z.0 z.1 (transport U (sym s.2) (atoms_body IsUnnegatedAtom s.0 p.1)) tt, r)
     form_flat (suc n) B t (connective.Exists T b) s rest gs e o r =
         let p = transport U s.1 o in
         let z = option_map_some (flat_goal n d (false ∷ B) b (raise_goals 0 rest)) (λ hs. goals (Exists T hs) no_goals) gs e in
-        transport AreUnnegatedGoals z.2 (goal_flat n (false ∷ B) b (raise_goals 0 rest) z.0 z.1 (transport U (sym s.2) (body s.0 p.1)) (goals_mapped _ _ _ zero rest r), tt)
+        transport AreUnnegatedGoals z.2 (goal_flat n (false ∷ B) b (raise_goals 0 rest) z.0 z.1 (transport U (sym s.2) (atoms_body IsUnnegatedAtom s.0 p.1)) (goals_mapped _ _ _ zero rest r), tt)
     form_flat (suc n) B t (connective.Not g) s rest gs e o r = let p = transport U s o in absurd (p.0 refl)
     form_flat (suc n) B t connective.Atomic s rest gs e o r = transport AreUnnegatedGoals (only_some (is_goal_head (head_of t) && are_positive (arguments t)) (goals (Atomic t) rest) gs e).1 (tt, r)
 
@@ -105,7 +95,7 @@ module _ (d : Declared) where
     clause_form_flat (suc n) B c (connective.Implies g b) (inr s) vs ts cs e o h = let p = transport U s o in clause_flat n B b vs (ts ++ g ∷ []) cs e p.0.1 (each_append U ts (g ∷ []) h (p.1, tt))
     clause_form_flat (suc n) B c (connective.ForAll T b) s vs ts cs e o h =
         let p = transport U s.1 o in
-        clause_flat n (false ∷ B) b (T ∷ vs) (map (shift 0 1) ts) cs e (transport U (sym s.2) (body s.0 p.1)) (all_raised ts h)
+        clause_flat n (false ∷ B) b (T ∷ vs) (map (shift 0 1) ts) cs e (transport U (sym s.2) (atoms_body IsUnnegatedAtom s.0 p.1)) (atoms_raise_each IsUnnegatedAtom 0 ts h)
     clause_form_flat (suc n) B c connective.Atomic s vs ts cs e o h =
         let q = and_then_some (only (is_clause_head d B (head_of c) && are_positive (arguments c)) c) (λ u. option_map (λ gs. clauses (clause 0 vs u gs) no_clauses) (flat_list n d B ts)) cs e in
         let z = option_map_some (flat_list n d B ts) (λ gs. clauses (clause 0 vs q.0 gs) no_clauses) cs q.2 in

@@ -11,11 +11,10 @@ use Rattle.lp_lemmas.proofs.Each.{each_append, each_map}
 use Rattle.lp_lemmas.proofs.Options.{and_then_some, option_map_some}
 use Rattle.lp_standard.specs.Connectives.{two, pi_of, body_of, Connective, connective_of}
 use Rattle.lp_calculus.specs.Closed.{AllAtoms}
-use Rattle.lp_calculus.proofs.Plain.{shift-rename}
 use Rattle.lp_proof_laws.specs.Filled.{IsSourceAtom}
 use Rattle.lp_proof_laws.specs.Terms.{IsTermOf, AreTermsOf, AreClausesOf}
 use Rattle.lp_proof_laws.proofs.Uniform.Forms.{Shape, form_shape}
-use Rattle.lp_search_laws.proofs.AtomsKept.{atoms_shift}
+use Rattle.lp_search_laws.proofs.AtomsKept.{atoms_raise, atoms_raise_each, atoms_body}
 use Rattle.lp_search_laws.proofs.Origins.{source_origin, source_clause_origin}
 use Rattle.lp_standard.specs.Connectives as connective
 use Rattle.lp_standard.specs.Positive.{are_positive}
@@ -118,42 +117,19 @@ assumed_terms cs = each_map (InOne 0 (clause_list cs)) (StandsInOne (clause_list
 abbrev S : Term → Type 0
 S t = AllAtoms IsSourceAtom t
 
-all_raised : (ts : List Term) → EachOf S ts → EachOf S (map (shift 0 1) ts)
-all_raised [] h = tt
-all_raised (t ∷ ts) h = (atoms_shift IsSourceAtom t h.0, all_raised ts h.1)
-
-body : (s : Term) → S s → S (body_of s)
-body (abs b) h = h
-body (index i) h = (atoms_shift IsSourceAtom (index i) h, tt)
-body (atom a) h = (h, tt)
-body (app t u) h = (atoms_shift IsSourceAtom (app t u) h, tt)
-
 indices : (is : List ℕ) → EachOf S (map index is)
 indices [] = tt
 indices (i ∷ is) = (tt, indices is)
 
-raised_index : (d i : ℕ) → S (shift d 1 (index i))
-raised_index d i = transport S (sym (shift-rename d 1 (index i))) tt
-
-raised_term : (d : ℕ) (t : Term) → S t → S (shift d 1 t)
-raised_term d (index i) h = raised_index d i
-raised_term d (atom a) h = h
-raised_term d (abs b) h = raised_term (suc d) b h
-raised_term d (app t u) h = (raised_term d t h.0, raised_term d u h.1)
-
-raised_each : (d : ℕ) (ts : List Term) → EachOf S ts → EachOf S (map (shift d 1) ts)
-raised_each d [] h = tt
-raised_each d (t ∷ ts) h = (raised_term d t h.0, raised_each d ts h.1)
-
 mutual
   raised_goal : (d : ℕ) (g : Goal) → IsTermOf S g → IsTermOf S (map_goal suc (λ e t. shift e 1 t) same_type d g)
-  raised_goal d (Atomic t) h = raised_term d t h
+  raised_goal d (Atomic t) h = atoms_raise IsSourceAtom d t h
   raised_goal d Cut h = tt
   raised_goal d (Either l r) h = (raised_all d l h.0, raised_all d r h.1)
   raised_goal d (Exists T gs) h = raised_all (suc d) gs h
   raised_goal d (Forall T gs) h = raised_all (suc d) gs h
-  raised_goal d (Assume w cs gs) h = (raised_each d w.terms h.0, raised_clauses d cs h.1, raised_all d gs h.2)
-  raised_goal d (Not w gs) h = (raised_each d w.terms h.0, raised_all d gs h.1)
+  raised_goal d (Assume w cs gs) h = (atoms_raise_each IsSourceAtom d w.terms h.0, raised_clauses d cs h.1, raised_all d gs h.2)
+  raised_goal d (Not w gs) h = (atoms_raise_each IsSourceAtom d w.terms h.0, raised_all d gs h.1)
 
   raised_all : (d : ℕ) (gs : Goals) → AreTermsOf S gs → AreTermsOf S (map_goals suc (λ e t. shift e 1 t) same_type d gs)
   raised_all d no_goals h = tt
@@ -161,7 +137,7 @@ mutual
 
   raised_clauses : (d : ℕ) (cs : Clauses) → AreClausesOf S cs → AreClausesOf S (map_clauses suc (λ e t. shift e 1 t) same_type d cs)
   raised_clauses d no_clauses h = tt
-  raised_clauses d (clauses (clause n vs x b) cs) h = ((raised_term (under_all suc vs d) x h.0.0, raised_all (under_all suc vs d) b h.0.1), raised_clauses d cs h.1)
+  raised_clauses d (clauses (clause n vs x b) cs) h = ((atoms_raise IsSourceAtom (under_all suc vs d) x h.0.0, raised_all (under_all suc vs d) b h.0.1), raised_clauses d cs h.1)
 
 -- what is written stands there, and comes from a source
 abbrev Fine : Goals → Type 0
@@ -212,12 +188,12 @@ module _ (d : Declared) where
     form_flat (suc n) B t (connective.ForAll T b) s rest gs e o r =
         let p = transport S s.1 o in
         let z = option_map_some (flat_goal n d (true ∷ B) b no_goals) (λ hs. goals (Forall T hs) rest) gs e in
-        let x = goal_flat n (true ∷ B) b no_goals z.0 z.1 (transport S (sym s.2) (body s.0 p.1)) (tt, tt) in
+        let x = goal_flat n (true ∷ B) b no_goals z.0 z.1 (transport S (sym s.2) (atoms_body IsSourceAtom s.0 p.1)) (tt, tt) in
         transport Fine z.2 ((x.0, r.0), (x.1, r.1))
     form_flat (suc n) B t (connective.Exists T b) s rest gs e o r =
         let p = transport S s.1 o in
         let z = option_map_some (flat_goal n d (false ∷ B) b (raise_goals 0 rest)) (λ hs. goals (Exists T hs) no_goals) gs e in
-        let x = goal_flat n (false ∷ B) b (raise_goals 0 rest) z.0 z.1 (transport S (sym s.2) (body s.0 p.1)) (raised_goals rest r.0, raised_all 0 rest r.1) in
+        let x = goal_flat n (false ∷ B) b (raise_goals 0 rest) z.0 z.1 (transport S (sym s.2) (atoms_body IsSourceAtom s.0 p.1)) (raised_goals rest r.0, raised_all 0 rest r.1) in
         transport Fine z.2 ((x.0, tt), (x.1, tt))
     form_flat (suc n) B t (connective.Not g) s rest gs e o r =
         let p = transport S s o in
@@ -253,7 +229,7 @@ module _ (d : Declared) where
     clause_form_flat (suc n) B c (connective.Implies g b) (inr s) vs ts cs e o h = let p = transport S s o in clause_flat n B b vs (ts ++ g ∷ []) cs e p.0.1 (each_append S ts (g ∷ []) h (p.1, tt))
     clause_form_flat (suc n) B c (connective.ForAll T b) s vs ts cs e o h =
         let p = transport S s.1 o in
-        clause_flat n (false ∷ B) b (T ∷ vs) (map (shift 0 1) ts) cs e (transport S (sym s.2) (body s.0 p.1)) (all_raised ts h)
+        clause_flat n (false ∷ B) b (T ∷ vs) (map (shift 0 1) ts) cs e (transport S (sym s.2) (atoms_body IsSourceAtom s.0 p.1)) (atoms_raise_each IsSourceAtom 0 ts h)
     clause_form_flat (suc n) B c connective.Atomic s vs ts cs e o h =
         let q = and_then_some (only (is_clause_head d B (head_of c) && are_positive (arguments c)) c) (λ u. option_map (λ gs. clauses (clause 0 vs u gs) no_clauses) (flat_list n d B ts)) cs e in
         let z = option_map_some (flat_list n d B ts) (λ gs. clauses (clause 0 vs q.0 gs) no_clauses) cs q.2 in

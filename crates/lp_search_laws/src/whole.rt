@@ -11,15 +11,8 @@ ghost use Rattle.lp_model.specs.Flatten.{ClauseFormula, flatten_query};
 ghost use Rattle.lp_model.specs.Answers.{AnswerTyping, Instance, IsClosedInstance, Query, IsRight, IsWellFormed};
 ghost use Rattle.lp_model.specs.Proofs.{Declared, AreFlattened};
 ghost use Rattle.lp_model.specs.Search.{ComesTo, look, start};
-ghost use Rattle.lp_search_laws.specs.Branches.{IsQueryInstance};
 ghost use Rattle.lp_search_laws.specs.Failed.{IsFailedSearch};
 ghost use Rattle.lp_search_laws.specs.Started.{IsPlainQuery, IsPlainSentence, IsProvableBy, IsTypedQuery, IsTypedSentence};
-
-/// Of the whole language, negation too: each answer is well formed under a typing of the variables that are left, its values are positive, and each of its closed
-/// instances gives the query's variables closed positive terms of their types.
-pub fn answers_are_well_formed()
-    ensures { (d : Declared) → IsStandard d → (l : ℕ) (F : List ClauseFormula) (P : List Clause) → EachOf (IsTypedSentence d) F → AreFlattened d F P → (q : Query) (gs : Goals) → IsTypedQuery d q → flatten_query l d q.formula ≡ Some gs → (n j m steps answers : ℕ) → EachOf (λ a. (y : AnswerTyping) × IsWellFormed d q y a × ((i : Instance) → IsClosedInstance d y a i → IsQueryInstance d q i)) (run (look unit_limit n P) j m (start q.type_vars (length q.vars) gs steps answers)).answers }
-{}
 
 /// Soundness and exhaustion, of programs and queries without negation: each closed instance of an answer has a uniform proof, and where there is no more, each
 /// instance of the query that has one is, up to conversion, an instance of an answer. The steps n of each look, and the moves, are any: where they are too few
@@ -28,8 +21,8 @@ pub fn plain_search_is_right()
     ensures { (d : Declared) → IsStandard d → (l : ℕ) (F : List ClauseFormula) (P : List Clause) → EachOf (IsPlainSentence d) F → AreFlattened d F P → (q : Query) (gs : Goals) → IsPlainQuery d q → flatten_query l d q.formula ≡ Some gs → (n j m steps answers : ℕ) → IsRight d F q (run (look unit_limit n P) j m (start q.type_vars (length q.vars) gs steps answers)) }
 {}
 
-/// Soundness of the whole language, negation too: each answer is well formed under a typing, and each of its closed instances has a uniform proof from the source clauses, in which a
-/// negated goal is proved by a search that fails. The search stands for the goal as some closing of its variables makes its goals, and for the clauses that are assumed there, but for
+/// Soundness of the whole language, negation too: each answer is well formed under a typing of the variables that are left, its values are positive, and each of its closed instances gives
+/// the query's variables closed positive terms of their types, with which it has a uniform proof from the source clauses. In that a negated goal is proved by a search that fails. The search stands for the goal as some closing of its variables makes its goals, and for the clauses that are assumed there, but for
 /// conversion, flattening, and the order of what is assumed.
 pub fn answers_are_sound()
     ensures { (d : Declared) → IsStandard d → (l : ℕ) (F : List ClauseFormula) (P : List Clause) → EachOf (IsTypedSentence d) F → AreFlattened d F P → (q : Query) (gs : Goals) → IsTypedQuery d q → flatten_query l d q.formula ≡ Some gs → (n j m steps answers : ℕ) → EachOf (λ a. (y : AnswerTyping) × IsWellFormed d q y a × ((i : Instance) → IsClosedInstance d y a i → IsProvableBy (IsFailedSearch d P) d F q i)) (run (look unit_limit n P) j m (start q.type_vars (length q.vars) gs steps answers)).answers }
