@@ -12,3 +12,6 @@ pub mod Scoped
 pub mod Spines
 pub mod Workings
 pub mod WrittenTerms
+pub mod Looks
+pub mod OpenGoals
+pub mod OpenNodes

@@ -57,6 +57,8 @@ mod turn;
 mod types;
 // Unification in the branch at work.
 mod unified;
+// Whether a variable stands in a term.
+mod variables;
 
 pub use act::{Act, Try};
 pub use search::Search;

@@ -1,5 +1,7 @@
 // What a search works on: one bank and one list of bindings for all branches. An alternative holds what leads back to
 // its branch.
+ghost use Rattle.std.specs.Prelude.{◌≡◌, OnOk, IfSome, take, slice_get};
+ghost use Rattle.lp_plain.specs.Keeping.{HasOneMore, IsAround, KeepsCourse};
 
 use crate::act::Act;
 use crate::candidates::{Candidate, Index, candidate_after, first_candidate};
@@ -63,7 +65,9 @@ impl Machine {
         list: usize,
         place: Place,
         behind: Option<usize>,
-    ) -> Result<Option<usize>, Memory> {
+    ) -> Result<Option<usize>, Memory>
+        ensures { KeepsCourse self.old self.new }
+    {
         let span = self.table.list(list)?;
         if span.from >= span.to {
             return Ok(behind);
@@ -76,7 +80,9 @@ impl Machine {
         todo: Todo,
         place: Place,
         behind: Option<usize>,
-    ) -> Result<Option<usize>, Memory> {
+    ) -> Result<Option<usize>, Memory>
+        ensures { KeepsCourse self.old self.new }
+    {
         let number = self.frames.len();
         self.frames.push(Frame {
             todo,
@@ -144,7 +150,11 @@ impl Machine {
     }
 
     /// Keeps an alternative of the branch as it stands.
-    pub(crate) fn put_choice(&mut self, untried: Untried) -> Result<(), Memory> {
+    pub(crate) fn put_choice(&mut self, untried: Untried) -> Result<(), Memory>
+        ensures more { OnOk result (HasOneMore self.old.choices.items self.new.choices.items untried) }
+        ensures counts { self.new.counts ≡ self.old.counts }
+        ensures denied { self.new.denied ≡ self.old.denied }
+    {
         let pairs = Vec::from_slice(self.alloc, self.branch.pairs.as_slice())?;
         let lengths = self.lengths();
         self.choices.push(Choice {
@@ -183,7 +193,11 @@ impl Machine {
     }
 
     /// Drops the search of the negated goal of this alternative.
-    pub(crate) fn drop_denied(&mut self, number: usize) {
+    pub(crate) fn drop_denied(&mut self, number: usize)
+        ensures dropped { self.new.choices.items ≡ take number self.old.choices.items }
+        ensures steps { self.new.counts.steps ≡ self.old.counts.steps }
+        ensures around { IfSome (slice_get self.old.choices.items number) (λ c. IsAround c.untried self.new) }
+    {
         if let Some(
             Choice {
                 untried: Untried::Denied(Denial { around, lost, .. }),

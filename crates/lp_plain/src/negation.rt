@@ -1,9 +1,15 @@
 // Negated goals: the search of one stands on that of its branch.
+ghost use Rattle.std.specs.Prelude.{◌≡◌, ◌≢◌, ◌+◌, ◌≤◌, ℕ, [], length, take, true, false, None, Some, OnOk, IfOk};
+ghost use Rattle.lp_model.specs.declared.ending.Ending.{Ending};
+ghost use Rattle.lp_plain.specs.declared.choice.Untried.{Untried};
+ghost use Rattle.lp_plain.specs.declared.outcome.Turn.{Turn};
+ghost use Rattle.lp_plain.specs.Keeping.{HasOneMore};
+ghost use Rattle.lp_plain.specs.Negations.{denial, Takes};
 
 use crate::choice::{Denial, Untried};
 use crate::frame::Place;
 use crate::machine::Machine;
-use crate::openness::{Openness, openness_of_goal};
+use crate::openness::{Around, Openness, Standing, openness_of_goal};
 use crate::outcome::{Turn, take_step};
 use lp_base::Memory;
 use lp_model::Ending;
@@ -16,7 +22,13 @@ fn begin(
     goals: usize,
     place: Place,
     behind: Option<usize>,
-) -> Result<(), Memory> {
+) -> Result<(), Memory>
+    ensures more { OnOk result (HasOneMore machine.old.choices.items machine.new.choices.items (Untried.Denied (denial machine.old behind))) }
+    ensures inside { OnOk result (machine.new.denied ≡ Some (length machine.old.choices.items)) }
+    ensures lost { OnOk result (machine.new.counts.lost ≡ false) }
+    ensures steps { OnOk result (machine.new.counts.steps ≡ machine.old.counts.steps) }
+    ensures pairs { OnOk result (machine.new.branch.pairs.items ≡ []) }
+{
     let denial = Denial {
         behind,
         around: machine.denied,
@@ -32,6 +44,26 @@ fn begin(
     Ok(())
 }
 
+// Whether a negated goal is open in which this is written.
+fn openness_at(machine: &mut Machine, free: usize, place: Place) -> Result<Openness, Memory>
+    ensures counts { machine.new.counts ≡ machine.old.counts }
+    ensures choices { machine.new.choices ≡ machine.old.choices }
+    ensures denied { machine.new.denied ≡ machine.old.denied }
+{
+    let around = Around {
+        bindings: &machine.bindings,
+        scopes: &machine.scopes,
+        table: &machine.table,
+        standings: machine.standings.as_slice(),
+    };
+    let goals = Standing {
+        free,
+        values: place.values,
+        older: place.standing,
+    };
+    openness_of_goal(machine.alloc, &mut machine.bank, around, goals)
+}
+
 /// Takes a negated goal: one step. `free` is what is written in its goals.
 pub(crate) fn take_not<W: Watch>(
     machine: &mut Machine,
@@ -40,12 +72,14 @@ pub(crate) fn take_not<W: Watch>(
     free: usize,
     place: Place,
     behind: Option<usize>,
-) -> Result<Turn, Memory> {
+) -> Result<Turn, Memory>
+    ensures { IfOk result (λ turn. Takes turn machine.old machine.new behind) }
+{
     if !take_step(machine) {
         return Ok(Turn::Ended(Ending::Steps));
     }
     crowd.tell(Note::Goal(Constant::Not.name()))?;
-    match openness_of_goal(machine, free, place.values, place.standing)? {
+    match openness_at(machine, free, place)? {
         Openness::Deep => Ok(Turn::Ended(Ending::Deep)),
         Openness::Open => Ok(Turn::Ended(Ending::OpenNot)),
         Openness::Closed => {
@@ -56,7 +90,12 @@ pub(crate) fn take_not<W: Watch>(
 }
 
 /// The branch at work has no goals: an answer of the search, or of that of a negated goal, which fails by it.
-pub(crate) fn end_branch(machine: &mut Machine) -> Turn {
+pub(crate) fn end_branch(machine: &mut Machine) -> Turn
+    ensures answered { machine.old.denied ≡ None → result ≡ Turn.Answered }
+    ensures pairs { (number : ℕ) → machine.old.denied ≡ Some number → machine.old.branch.pairs.items ≢ [] → result ≡ Turn.Ended Ending.OpenNot }
+    ensures fails { (number : ℕ) → machine.old.denied ≡ Some number → machine.old.branch.pairs.items ≡ [] → (result ≡ Turn.Back) × (machine.new.choices.items ≡ take number machine.old.choices.items) }
+    ensures steps { machine.new.counts.steps ≡ machine.old.counts.steps }
+{
     let Some(number) = machine.denied else {
         return Turn::Answered;
     };
@@ -69,7 +108,14 @@ pub(crate) fn end_branch(machine: &mut Machine) -> Turn {
 
 /// No alternative of the search of a negated goal is left, and its branch, to which the search went back, goes on. A cut may have removed an
 /// answer of it.
-pub(crate) fn end_denial(machine: &mut Machine, denial: Denial) -> Turn {
+pub(crate) fn end_denial(machine: &mut Machine, denial: Denial) -> Turn
+    ensures cut { machine.old.counts.lost ≡ true → result ≡ Turn.Ended Ending.OpenNot }
+    ensures holds { machine.old.counts.lost ≡ false → result ≡ Turn.On }
+    ensures around { machine.new.denied ≡ denial.around }
+    ensures lost { machine.new.counts.lost ≡ denial.lost }
+    ensures behind { machine.new.branch.goals ≡ denial.behind }
+    ensures steps { machine.new.counts.steps ≡ machine.old.counts.steps }
+{
     let lost = machine.counts.lost;
     machine.denied = denial.around;
     machine.counts.lost = denial.lost;

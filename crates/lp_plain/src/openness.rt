@@ -1,18 +1,31 @@
 // Whether a negated goal is open: whether a variable, or a type variable in a constant's types, stands in what the variables that are written
 // in it, or in the clauses that are assumed at it, stand for.
+ghost use Rattle.std.specs.Prelude.{◌≡◌, true, false, ℕ, List, ◌<◌, length, IfOk};
+ghost use Rattle.lp_calculus.specs.Types.{Ty};
+ghost use Rattle.lp_term.specs.Nodes.{Extends, tree};
+ghost use Rattle.lp_term.specs.declared.node.TermId.{TermId};
+ghost use Rattle.lp_model.specs.Pair.{Closing, closed};
+ghost use Rattle.lp_pattern.specs.Stripping.{IsShut};
+ghost use Rattle.lp_pattern.specs.Under.{AreTypes, IsReading};
+ghost use Rattle.lp_plain.specs.declared.openness.Openness.{Openness};
+ghost use Rattle.lp_plain.specs.Standings.{openness_by, IsJudged, IsTypeJudged, OfAll, OfIndex, OfFree, OfStanding};
+ghost use Rattle.lp_plain.specs.Renewal.{new_number};
+ghost use Rattle.lp_plain.specs.Scopes.{IsScope};
 
 use crate::free::Free;
 use crate::instance::Values;
-use crate::machine::Machine;
+use crate::scope::Scopes;
+use crate::table::Table;
+use crate::types::Renewal;
+use crate::variables::{has_type_variable, has_variable};
 use indexmap::IndexSet;
 use lp_base::{Memory, RUN_LIMIT};
-use lp_pattern::{filled, filled_type};
-use lp_term::{
-    Bank, TermId, TermNode, TermRefusal, TypeId, TypeNode, beta_normal, put_type_variable,
-};
+use lp_pattern::{Bindings, filled, filled_type};
+use lp_term::{Bank, TermId, TermRefusal, beta_normal, put_type_variable};
 use std::alloc::Global;
 
-/// Clauses that are assumed: the number of what is written in them, what stands for it, and those that were assumed before.
+/// Goals that are negated, or clauses that are assumed: the number of what is written in them, what stands for it, and the clauses that were
+/// assumed before.
 #[derive(Clone, Copy)]
 pub(crate) struct Standing {
     pub(crate) free: usize,
@@ -21,124 +34,121 @@ pub(crate) struct Standing {
 }
 
 /// Whether variables are left, or a value is too large to be looked at.
-#[derive(Clone, Copy, PartialEq, Eq)]
+#[derive(Clone, Copy)]
 pub(crate) enum Openness {
     Closed,
     Open,
     Deep,
 }
 
-// Whether a type variable stands in one of the types that are left. Shared types are looked at once.
-fn has_type_variable(alloc: Global, bank: &Bank, mut left: Vec<TypeId>) -> Result<bool, Memory> {
-    let mut seen = IndexSet::new(alloc);
-    for _ in 0..u64::MAX {
-        let Some(next) = left.pop() else {
-            return Ok(false);
-        };
-        if !seen.insert(next.0)? {
-            continue;
-        }
-        match bank.type_node(next) {
-            TypeNode::Var(_) => return Ok(true),
-            TypeNode::Con(_, parts) => left.extend_from_slice(parts)?,
-            TypeNode::Arrow(from, to) => {
-                left.push(from)?;
-                left.push(to)?;
-            }
-            _ => {}
-        }
-    }
-    Err(Memory)
+/// What stands for what is written.
+#[derive(Clone, Copy)]
+pub(crate) struct Around<'a> {
+    pub(crate) bindings: &'a Bindings,
+    pub(crate) scopes: &'a Scopes,
+    pub(crate) table: &'a Table,
+    pub(crate) standings: &'a [Standing],
 }
 
-// Whether a logic variable stands in a term, or a type variable in the types of one of its constants. Shared terms are looked at once.
-fn has_variable(alloc: Global, bank: &Bank, term: TermId) -> Result<bool, Memory> {
-    let mut seen = IndexSet::new(alloc);
-    let mut types = Vec::new(alloc);
-    let mut left = Vec::new(alloc);
-    left.push(term)?;
-    for _ in 0..u64::MAX {
-        let Some(next) = left.pop() else {
-            return has_type_variable(alloc, bank, types);
-        };
-        if !seen.insert(next.0)? {
-            continue;
-        }
-        match bank.term_node(next) {
-            TermNode::Logic { .. } => return Ok(true),
-            TermNode::Const(_, of) => types.extend_from_slice(of)?,
-            TermNode::Abs(body) => left.push(body)?,
-            TermNode::App(head, args) => {
-                left.push(head)?;
-                left.extend_from_slice(args)?;
-            }
-            _ => {}
-        }
+fn is_closed(openness: Openness) -> bool
+    ensures closed { result ≡ true → openness ≡ Openness.Closed }
+    ensures left { result ≡ false → openness ≡ Openness.Closed → ⊥ }
+{
+    match openness {
+        Openness::Closed => true,
+        Openness::Open | Openness::Deep => false,
     }
-    Err(Memory)
+}
+
+fn judged(found: bool) -> Openness
+    ensures { result ≡ openness_by found }
+{
+    if found {
+        Openness::Open
+    } else {
+        Openness::Closed
+    }
 }
 
 // By the beta-normal form of the value with all bindings put in.
-fn openness_of_term(machine: &mut Machine, value: TermId) -> Result<Openness, Memory> {
-    let alloc = machine.alloc;
-    let full = filled(alloc, &mut machine.bank, &machine.bindings, value)?;
-    if !machine.bank.is_known_below(full, 4_294_967_296) {
+fn openness_of_term(
+    alloc: Global,
+    bank: &mut Bank,
+    bindings: &Bindings,
+    value: TermId,
+) -> Result<Openness, Memory>
+    ensures kept { Extends bank.old bank.new }
+    ensures judged { IfOk result (λ o. (c : Closing) → IsReading bank.old bindings.now c → IsShut c → IsJudged o (closed c (tree bank.old value.0))) }
+{
+    let full = filled(alloc, bank, bindings, value)?;
+    if !bank.is_known_below(full, 4_294_967_296) {
         return Ok(Openness::Deep);
     }
-    match beta_normal(alloc, &mut machine.bank, full, RUN_LIMIT, RUN_LIMIT) {
+    match beta_normal(alloc, bank, full, RUN_LIMIT, RUN_LIMIT) {
         Ok(normal) => {
-            if has_variable(alloc, &machine.bank, normal)? {
-                return Ok(Openness::Open);
-            }
-            Ok(Openness::Closed)
+            let found = has_variable(alloc, bank, normal)?;
+            Ok(judged(found))
         }
         Err(TermRefusal::Deep(_)) => Ok(Openness::Deep),
         Err(TermRefusal::Memory) => Err(Memory),
     }
 }
 
+// By what the type variable stands for, with all bindings put in.
 fn openness_of_type(
-    machine: &mut Machine,
-    values: Values,
-    variable: u64,
-) -> Result<Openness, Memory> {
-    let alloc = machine.alloc;
-    let written = put_type_variable(&mut machine.bank, values.types.of(variable))?;
-    let full = filled_type(alloc, &mut machine.bank, &machine.bindings, written)?;
-    let mut left = Vec::new(alloc);
-    left.push(full)?;
-    if has_type_variable(alloc, &machine.bank, left)? {
-        return Ok(Openness::Open);
-    }
-    Ok(Openness::Closed)
+    alloc: Global,
+    bank: &mut Bank,
+    bindings: &Bindings,
+    number: u64,
+) -> Result<Openness, Memory>
+    ensures kept { Extends bank.old bank.new }
+    ensures judged { IfOk result (λ o. (θ : ℕ → Ty) → AreTypes bank.old bindings.now θ → IsTypeJudged o (θ number)) }
+{
+    let written = put_type_variable(bank, number)?;
+    let full = filled_type(alloc, bank, bindings, written)?;
+    let mut seen = IndexSet::new(alloc);
+    let found = has_type_variable(alloc, bank, &mut seen, &[full])?;
+    Ok(judged(found))
 }
 
 // By what stands for the variables of these numbers.
 fn openness_of_values(
-    machine: &mut Machine,
+    alloc: Global,
+    bank: &mut Bank,
+    around: Around<'_>,
     variables: &[u64],
-    values: Values,
-) -> Result<Openness, Memory> {
-    for variable in variables.iter().copied() {
-        let Some(value) = machine.scopes.value(values.scope, variable) else {
+    scope: Option<usize>,
+) -> Result<Openness, Memory>
+    ensures kept { Extends bank.old bank.new }
+    ensures judged { IfOk result (λ o. (c : Closing) → IsReading bank.old around.entry.bindings.now c → IsShut c → (nb nv : ℕ) → (vs : List TermId) → IsScope around.entry.scopes.now nb nv scope vs →
+        OfAll (OfIndex bank.old c vs) o variables.now) }
+{
+    'values: for variable in variables {
+        let Some(value) = around.scopes.value(scope, *variable) else {
             return Err(Memory);
         };
-        let openness = openness_of_term(machine, value)?;
-        if openness != Openness::Closed {
+        let openness = openness_of_term(alloc, bank, around.bindings, value)?;
+        if !is_closed(openness) {
             return Ok(openness);
         }
     }
     Ok(Openness::Closed)
 }
 
+// By what stands for the type variables of these numbers.
 fn openness_of_types(
-    machine: &mut Machine,
+    alloc: Global,
+    bank: &mut Bank,
+    bindings: &Bindings,
     variables: &[u64],
-    values: Values,
-) -> Result<Openness, Memory> {
-    for variable in variables.iter().copied() {
-        let openness = openness_of_type(machine, values, variable)?;
-        if openness != Openness::Closed {
+    types: Renewal,
+) -> Result<Openness, Memory>
+    ensures kept { Extends bank.old bank.new }
+    ensures judged { IfOk result (λ o. (θ : ℕ → Ty) → AreTypes bank.old bindings.now θ → OfAll (λ o x. IsTypeJudged o (θ (new_number types x))) o variables.now) }
+{
+    'types: for variable in variables {
+        let openness = openness_of_type(alloc, bank, bindings, types.of(*variable))?;
+        if !is_closed(openness) {
             return Ok(openness);
         }
     }
@@ -147,42 +157,54 @@ fn openness_of_types(
 
 // By what stands for what is written in goals or clauses.
 fn openness_of_free(
-    machine: &mut Machine,
-    free: usize,
+    alloc: Global,
+    bank: &mut Bank,
+    around: Around<'_>,
+    free: &Free,
     values: Values,
-) -> Result<Openness, Memory> {
-    let alloc = machine.alloc;
-    let Free { variables, types } = machine.table.free(free)?;
-    let variables = Vec::from_slice(alloc, variables.as_slice())?;
-    let types = Vec::from_slice(alloc, types.as_slice())?;
-    let openness = openness_of_values(machine, variables.as_slice(), values)?;
-    if openness != Openness::Closed {
+) -> Result<Openness, Memory>
+    ensures kept { Extends bank.old bank.new }
+    ensures judged { IfOk result (λ o. (c : Closing) → IsReading bank.old around.entry.bindings.now c → IsShut c → OfFree bank.old c around.entry.scopes.now values free.now o) }
+{
+    let variables = free.variables.as_slice();
+    let openness = openness_of_values(alloc, bank, around, variables, values.scope)?;
+    if !is_closed(openness) {
         return Ok(openness);
     }
-    openness_of_types(machine, types.as_slice(), values)
+    let types = free.types.as_slice();
+    let other = openness_of_types(alloc, bank, around.bindings, types, values.types)?;
+    Ok(other)
 }
 
-/// Whether a goal is open in which this is written, at these assumptions.
+/// Whether goals are open at the clauses that are assumed around them.
 pub(crate) fn openness_of_goal(
-    machine: &mut Machine,
-    free: usize,
-    values: Values,
-    assumed: Option<usize>,
-) -> Result<Openness, Memory> {
-    let mut openness = openness_of_free(machine, free, values)?;
-    let mut at = assumed;
-    'outwards: for _ in 0..u64::MAX {
-        if openness != Openness::Closed {
+    alloc: Global,
+    bank: &mut Bank,
+    around: Around<'_>,
+    goals: Standing,
+) -> Result<Openness, Memory>
+    ensures kept { Extends bank.old bank.new }
+    ensures judged { IfOk result (λ o. (c : Closing) → IsReading bank.old around.entry.bindings.now c → IsShut c →
+        OfStanding around.entry.table.now.frees.items around.entry.standings.now (OfFree bank.old c around.entry.scopes.now) o goals) }
+{
+    let mut standing = goals;
+    let mut below = around.standings.len();
+    'outwards: loop {
+        let free = around.table.free(standing.free)?;
+        let openness = openness_of_free(alloc, bank, around, free, standing.values)?;
+        if !is_closed(openness) {
             return Ok(openness);
         }
-        let Some(number) = at else {
-            return Ok(openness);
+        let Some(number) = standing.older else {
+            return Ok(Openness::Closed);
         };
-        let Some(standing) = machine.standings.get(number).copied() else {
+        if number >= below {
+            return Err(Memory);
+        }
+        let Some(older) = around.standings.get(number) else {
             return Err(Memory);
         };
-        openness = openness_of_free(machine, standing.free, standing.values)?;
-        at = standing.older;
+        below = number;
+        standing = *older;
     }
-    Err(Memory)
 }

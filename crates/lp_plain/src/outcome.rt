@@ -1,4 +1,5 @@
 // How the search goes on, and what is counted on its way.
+ghost use Rattle.std.specs.Prelude.{◌≡◌, ◌+◌, ◌≤◌, true, false};
 
 use crate::machine::Machine;
 use crate::unified::Unified;
@@ -34,7 +35,13 @@ pub(crate) fn take_apart(machine: &mut Machine) -> bool {
 }
 
 /// Counts a step. Whether it may be taken.
-pub(crate) fn take_step(machine: &mut Machine) -> bool {
+pub(crate) fn take_step(machine: &mut Machine) -> bool
+    ensures taken { result ≡ true → machine.new.counts.steps ≡ machine.old.counts.steps + 1 }
+    ensures spent { result ≡ false → (machine.new ≡ machine.old) × (machine.old.counts.limit ≤ machine.old.counts.steps) }
+    ensures lost { machine.new.counts.lost ≡ machine.old.counts.lost }
+    ensures choices { machine.new.choices ≡ machine.old.choices }
+    ensures denied { machine.new.denied ≡ machine.old.denied }
+{
     if machine.counts.steps >= machine.counts.limit {
         return false;
     }

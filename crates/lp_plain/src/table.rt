@@ -97,8 +97,13 @@ impl Table {
     }
 
     /// What is written in goals or clauses, by its number.
-    pub(crate) fn free(&self, number: usize) -> Result<&Free, Memory> {
-        self.frees.get(number).ok_or(Memory)
+    pub(crate) fn free(&self, number: usize) -> Result<&Free, Memory>
+        ensures { IfOk result (λ free. slice_get self.now.frees.items number ≡ Some free.now) }
+    {
+        match self.frees.get(number) {
+            Some(free) => Ok(free),
+            None => Err(Memory),
+        }
     }
 
     fn put_free(&mut self, free: Free) -> Result<usize, Memory> {

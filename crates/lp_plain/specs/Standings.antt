@@ -1,0 +1,61 @@
+-- When a negated goal is open: a variable stands in the beta-normal form of what a variable that is written in it stands for, or a type variable in
+-- what such a type variable stands for; the same of the clauses that are assumed at it.
+use Rattle.std.specs.Prelude.{◌≡◌, ℕ, ◌<◌, ◌⊎◌, Bool, true, false, if◌then◌else◌, List, length, All, Some, None, slice_get}
+use Rattle.lp_lemmas.specs.Each.{AnyOf}
+use Rattle.lp_calculus.specs.Types.{Ty}
+use Rattle.lp_calculus.specs.Term.{Term}
+use Rattle.lp_term.specs.Nodes.{Nodes, tree}
+use Rattle.lp_term.specs.Frame.{IsBetaForm}
+use Rattle.lp_term.specs.declared.node.TermId.{TermId}
+use Rattle.lp_model.specs.Pair.{Closing, closed}
+use Rattle.lp_model.specs.Search.{has_type_variable, has_variable}
+use Rattle.lp_plain.specs.Renewal.{new_number}
+use Rattle.lp_plain.specs.Scopes.{IsScope}
+use Rattle.lp_plain.specs.declared.free.Free.{Free}
+use Rattle.lp_plain.specs.declared.instance.Values.{Values}
+use Rattle.lp_plain.specs.declared.openness.Openness.{Openness}
+use Rattle.lp_plain.specs.declared.openness.Openness.TheVariants.{Closed, Open, Deep}
+use Rattle.lp_plain.specs.declared.openness.Standing.{Standing}
+use Rattle.lp_plain.specs.declared.scope.Scopes.{Scopes}
+
+-- whether a variable was found
+abbrev pub openness_by : Bool → Openness
+openness_by found = if found then Open else Closed
+
+-- the term has a beta-normal form, within a million contractions, in which a variable stands or not
+abbrev pub IsJudged : Openness → Term → Type 0
+IsJudged Closed t = (s : Term) × IsBetaForm 1000000 t s × (has_variable s ≡ false)
+IsJudged Open t = (s : Term) × IsBetaForm 1000000 t s × (has_variable s ≡ true)
+IsJudged Deep t = Unit {0}
+
+abbrev pub IsTypeJudged : Openness → Ty → Type 0
+IsTypeJudged Closed T = has_type_variable T ≡ false
+IsTypeJudged Open T = has_type_variable T ≡ true
+IsTypeJudged Deep T = Unit {0}
+
+-- closed where all are, open where one is
+abbrev pub OfAll : {A : Type 0} → (Openness → A → Type 0) → Openness → List A → Type 0
+OfAll J Closed xs = All (J Closed) xs
+OfAll J Open xs = AnyOf (J Open) xs
+OfAll J Deep xs = Unit {0}
+
+-- closed where both are, open where one is
+abbrev pub OfBoth : (Openness → Type 0) → (Openness → Type 0) → Openness → Type 0
+OfBoth J K Closed = J Closed × K Closed
+OfBoth J K Open = J Open ⊎ K Open
+OfBoth J K Deep = Unit {0}
+
+-- what an index stands for
+abbrev pub OfIndex : Nodes → Closing → List TermId → Openness → ℕ → Type 0
+OfIndex b c vs o x = (v : TermId) × (slice_get vs x ≡ Some v) × (v.0 < length b.terms → IsJudged o (closed c (tree b v.0)))
+
+-- what is written in goals or clauses, at these values
+abbrev pub OfFree : Nodes → Closing → Scopes → Values → Free → Openness → Type 0
+OfFree b c s v f o = (nb nv : ℕ) → (vs : List TermId) → IsScope s nb nv v.scope vs →
+    OfBoth (λ o. OfAll (OfIndex b c vs) o f.variables.items) (λ o. OfAll (λ o x. IsTypeJudged o (c.types (new_number v.types x))) o f.types.items) o
+
+-- what is written in goals or clauses, and, where that is closed, in the clauses that are assumed around them
+pub data OfStanding (frees : List Free) (standings : List Standing) (J : Values → Free → Openness → Type 0) : Openness → Standing → Type 0 where
+  ends : {o : Openness} {s : Standing} (f : Free) → slice_get frees s.free ≡ Some f → J s.values f o → (s.older ≡ None) ⊎ (o ≡ Closed → ⊥) → OfStanding frees standings J o s
+  goes_on : {o : Openness} {s : Standing} (f : Free) (i : ℕ) (r : Standing) → slice_get frees s.free ≡ Some f → J s.values f Closed → s.older ≡ Some i → slice_get standings i ≡ Some r →
+      OfStanding frees standings J o r → OfStanding frees standings J o s
