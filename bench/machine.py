@@ -51,6 +51,16 @@ def turn():
     return 'turn', ['type r, q o.'], ['r :- r.', 'q.'], 'r', None
 
 
+def outward(count=200):
+    """A copy of a term of 200 binders, one in the other, each of whose bodies refers to one further out."""
+    term = 'x%d' % (count - 1)
+    for i in reversed(range(count)):
+        term = '(abs x%d\\ app %s x%d)' % (i, term, i // 2)
+    types = ['kind tm type.', 'type abs (tm -> tm) -> tm.', 'type app tm -> tm -> tm.', 'type copy tm -> tm -> o.']
+    clauses = ['copy (app M N) (app P Q) :- copy M P, copy N Q.', 'copy (abs M) (abs P) :- pi x\\ (copy x x => copy (M x) (P x)).']
+    return 'outward', types, clauses, 'copy %s T' % term, None
+
+
 def run(words, folder):
     """Processor seconds, peak memory in KiB and output of a command; no seconds where it was ended."""
     before = resource.getrusage(resource.RUSAGE_CHILDREN)
@@ -146,7 +156,7 @@ def main():
     parser.add_argument('names', nargs='*')
     words = parser.parse_args()
     command = os.path.abspath(words.cmd)
-    for program in (reverse(), language.copy(), language.queens(), language.church(), chain(), loop(), turn()):
+    for program in (reverse(), language.copy(), language.queens(), language.church(), outward(), chain(), loop(), turn()):
         if not words.names or program[0] in words.names:
             measure(program, command, not words.no_solve)
     if not words.names or 'session' in words.names:
