@@ -4,12 +4,12 @@ use Rattle.std.specs.Prelude.{◌⊎◌}
 use Rattle.std.proofs.lemmas.List.Elements.{All-nil, All-cons, All-head, All-tail}
 use Rattle.lp_lemmas.proofs.Lists.{map_agree_on}
 use Rattle.lp_calculus.specs.Types.{var}
-use Rattle.lp_calculus.specs.Term.{index}
+use Rattle.lp_calculus.specs.Term.{index, app}
 use Rattle.lp_calculus.specs.Closed.{IsClosedType, IsClosedAt, AreClosed}
-use Rattle.lp_term.specs.Node.{TypeShape, TermShape, TypeBelow, TermBelow, var_node}
-use Rattle.lp_term.specs.Nodes.{Nodes, Extends, tree, type_tree, node_tree, type_node_tree, type_at}
+use Rattle.lp_term.specs.Node.{TypeShape, TermShape, TypeBelow, TermBelow, index_node, var_node}
+use Rattle.lp_term.specs.Nodes.{Nodes, Extends, tree, type_tree, node_tree, type_node_tree, term_at, type_at}
 use Rattle.lp_term.specs.declared.node.TypeId.{TypeId}
-use Rattle.lp_term.proofs.Trees.{term_top_same, type_top_same, type_at-past, tree-past, type_tree-past}
+use Rattle.lp_term.proofs.Trees.{term_top_same, type_top_same, term_at-past, type_at-past, tree-past, type_tree-past, extends-trans}
 use Rattle.lp_cert.specs.Facts.{AreInside}
 use Rattle.lp_cert.specs.Same.{types_in}
 
@@ -41,6 +41,13 @@ type_node_inside b i s e differs = elim (below_or_not i (length b.types)) [ inl 
 pub seen_inside : (b c : Nodes) (i : ℕ) (s : TermShape) → Extends b c → i < length b.terms → TermBelow (length b.types) (length b.terms) s → node_tree b s ≡ tree b i → node_tree c s ≡ tree c i
 seen_inside b c i s g l w e = term_top_same (type_tree c) (type_tree b) (tree c) (tree b) (length b.types) (length b.terms) g.same_types g.same_terms s w ∙ e ∙ sym (g.same_terms i l)
 
+-- a node that is not what stands outside
+node_inside : (b : Nodes) (i : ℕ) (s : TermShape) → s ≡ term_at b i → (s ≡ index_node 0 → ⊥) → i < length b.terms
+node_inside b i s e differs = elim (below_or_not i (length b.terms)) [ inl l ↦ l | inr l ↦ absurd (differs (e ∙ term_at-past b i l)) ]
+
+pub seen_later : (b c : Nodes) (i : ℕ) (s : TermShape) → Extends b c → s ≡ term_at b i → (s ≡ index_node 0 → ⊥) → TermBelow (length b.types) (length b.terms) s → node_tree b s ≡ tree b i → node_tree c s ≡ tree c i
+seen_later b c i s g n differs w e = seen_inside b c i s g (node_inside b i s n differs) w e
+
 pub type_seen_later : (b c : Nodes) (i : ℕ) (s : TypeShape) → Extends b c → s ≡ type_at b i → (s ≡ var_node 0 → ⊥) → TypeBelow (length b.types) s → type_node_tree b s ≡ type_tree b i → type_node_tree c s ≡ type_tree c i
 type_seen_later b c i s g n differs w e = type_top_same (type_tree c) (type_tree b) (length b.types) g.same_types s w ∙ e ∙ sym (g.same_types i (type_node_inside b i s n differs))
 
@@ -55,3 +62,9 @@ inside_more b c (x ∷ xs) g a =
     let here = All-head P x xs a in
     let more = g.more_types in
     All-cons (λ (t : TypeId). t.0 < length c.types) x xs (omega (arith, here, more)) (inside_more b c xs g (All-tail P x xs a))
+
+-- an application that was put
+pub applied_later : (b a d : Nodes) (h u made : ℕ) → Extends b a → Extends a d → h < length b.terms → u < length b.terms → made < length a.terms → tree a made ≡ app (tree b h) (tree b u) → tree d made ≡ app (tree d h) (tree d u)
+applied_later b a d h u made g k l m n e =
+    let t = extends-trans b a d g k in
+    k.same_terms made n ∙ e ∙ (λ j. app (sym (t.same_terms h l) j) (sym (t.same_terms u m) j))

@@ -22,7 +22,9 @@ use Rattle.lp_model.specs.Readings.{declared_by}
 use Rattle.lp_model.specs.declared.certificate.Certificate.{Certificate}
 use Rattle.lp_model.specs.declared.program.Declared.{Declared}
 use Rattle.lp_model.specs.declared.program.Typed.{Typed}
-use Rattle.lp_cert.specs.Certified.{Names, certificate_of, query_of}
+use Rattle.lp_model.specs.declared.program.ClauseFormula as code
+use Rattle.lp_cert.specs.Certified.{Certifies, certificate_of, query_of}
+use Rattle.lp_cert.specs.inner.Left.{CertifiesIn, ground_over}
 use Rattle.lp_cert.specs.Facts.{are_closed, AreInside}
 use Rattle.lp_cert.specs.Same.{types_in, terms_in}
 use Rattle.lp_cert.specs.declared.work.Work.{Work}
@@ -63,7 +65,7 @@ of_positive a now w n term of (Ok x) g p c o = λ y b h.
 pub witness_here : (d : Nodes) (w v : Work) (t : TermId) (of : TypeId) (T : Ty) → w.theory ≡ v.theory → w.eigens ≡ v.eigens → v.eigens.items ≡ [] → type_tree d of.0 ≡ T → IsWitnessIn d w t of → IsWitness (declared_by d v.theory.constants.now) [] (tree d t.0) T
 witness_here d w v t of T et ee none e h = transport (λ j. IsWitness (declared_by d (et j).constants.now) (types_in d ((ap (λ x. x.items) ee ∙ none) j)) (tree d t.0) (e j)) h
 
-closed_types_later : (b c : Nodes) (ids : List TypeId) → Extends b c → AreClosed (types_in b ids) → AreClosed (types_in c ids)
+pub closed_types_later : (b c : Nodes) (ids : List TypeId) → Extends b c → AreClosed (types_in b ids) → AreClosed (types_in c ids)
 closed_types_later b c ids g h = subst AreClosed (sym (inside_later b c ids g (closed_types_inside b ids h))) h
 
 pub types_found : (a : Nodes) (ids : List TypeId) → are_closed (map (type_tree a) (map (λ t. t.0) ids)) ≡ true → AreClosed (types_in a ids)
@@ -97,25 +99,36 @@ names_in a b cs q c types terms g e f n = λ d h.
       values = subst (λ Ts. AreWitnesses (declared_by d cs) (terms_in d c.values.items) (map (instance (typing.type_at (types_in d c.types.items))) Ts)) (map_composed (λ v. v.1) (λ t. type_tree d t.0) (λ v. type_tree d v.1.0) (λ v. refl) q.vars.items) (now.witnesses d long);
     }
 
-names_on : (a b : Nodes) (cs : List Declared) (q : Typed) (xs : List Certificate) → Extends a b → All (NamesIn a cs q) xs → All (NamesIn b cs q) xs
-names_on a b cs q [] g h = All-nil (NamesIn b cs q)
-names_on a b cs q (c ∷ xs) g h = All-cons (NamesIn b cs q) c xs (λ d k. All-head (NamesIn a cs q) c xs h d (extends-trans a b d g k)) (names_on a b cs q xs g (All-tail (NamesIn a cs q) c xs h))
+certified_on : (a b : Nodes) (cs : List Declared) (ds : List code.ClauseFormula) (q : Typed) (xs : List Certificate) → Extends a b → All (CertifiesIn a cs ds q) xs → All (CertifiesIn b cs ds q) xs
+certified_on a b cs ds q [] g h = All-nil (CertifiesIn b cs ds q)
+certified_on a b cs ds q (c ∷ xs) g h =
+    All-cons (CertifiesIn b cs ds q) c xs (λ d k. All-head (CertifiesIn a cs ds q) c xs h d (extends-trans a b d g k)) (certified_on a b cs ds q xs g (All-tail (CertifiesIn a cs ds q) c xs h))
 
 -- one more certificate
-pub names_next : (a b : Nodes) (cs : List Declared) (q : Typed) (xs : List Certificate) (i n : ℕ) (c : Certificate) → n ≡ suc i → Extends a b → i < length xs → c ≡ get_or xs i c → All (NamesIn a cs q) (take i xs) → NamesIn b cs q c → All (NamesIn b cs q) (take n xs)
-names_next a b cs q xs i n c m g l e h k =
-    subst (λ j. All (NamesIn b cs q) (take j xs)) (sym m) (subst (All (NamesIn b cs q)) (sym (take_suc xs i c (slice_get_read xs (length xs) i c refl l e))) (All-push (NamesIn b cs q) (take i xs) c (names_on a b cs q (take i xs) g h) k))
+pub certified_next : (a b : Nodes) (cs : List Declared) (ds : List code.ClauseFormula) (q : Typed) (xs : List Certificate) (i n : ℕ) (c : Certificate) → n ≡ suc i → Extends a b → i < length xs → c ≡ get_or xs i c → All (CertifiesIn a cs ds q) (take i xs) → CertifiesIn b cs ds q c →
+    All (CertifiesIn b cs ds q) (take n xs)
+certified_next a b cs ds q xs i n c m g l e h k =
+    subst (λ j. All (CertifiesIn b cs ds q) (take j xs)) (sym m)
+    (subst (All (CertifiesIn b cs ds q)) (sym (take_suc xs i c (slice_get_read xs (length xs) i c refl l e))) (All-push (CertifiesIn b cs ds q) (take i xs) c (certified_on a b cs ds q (take i xs) g h) k))
 
-pub names_whole : (b : Nodes) (cs : List Declared) (q : Typed) (xs : List Certificate) (i : ℕ) → length xs ≤ i → All (NamesIn b cs q) (take i xs) → All (NamesIn b cs q) xs
-names_whole b cs q xs i l h = subst (All (NamesIn b cs q)) (take_whole xs i l) h
+pub certified_whole : (b : Nodes) (cs : List Declared) (ds : List code.ClauseFormula) (q : Typed) (xs : List Certificate) (i : ℕ) → length xs ≤ i → All (CertifiesIn b cs ds q) (take i xs) → All (CertifiesIn b cs ds q) xs
+certified_whole b cs ds q xs i l h = subst (All (CertifiesIn b cs ds q)) (take_whole xs i l) h
 
-pub names_now : (b : Nodes) (cs : List Declared) (q : Typed) (xs : List Certificate) → All (NamesIn b cs q) xs → All (λ c. Names (declared_by b cs) (query_of b q) (certificate_of b c)) xs
-names_now b cs q [] h = All-nil (λ (c : Certificate). Names (declared_by b cs) (query_of b q) (certificate_of b c))
-names_now b cs q (c ∷ xs) h = All-cons (λ (c : Certificate). Names (declared_by b cs) (query_of b q) (certificate_of b c)) c xs (All-head (NamesIn b cs q) c xs h b (extends_same b)) (names_now b cs q xs (All-tail (NamesIn b cs q) c xs h))
+certified_now : (b : Nodes) (cs : List Declared) (ds : List code.ClauseFormula) (q : Typed) (xs : List Certificate) → All (CertifiesIn b cs ds q) xs → All (λ c. Certifies (ground_over b cs ds) (query_of b q) (certificate_of b c)) xs
+certified_now b cs ds q [] h = All-nil (λ (c : Certificate). Certifies (ground_over b cs ds) (query_of b q) (certificate_of b c))
+certified_now b cs ds q (c ∷ xs) h =
+    All-cons (λ (c : Certificate). Certifies (ground_over b cs ds) (query_of b q) (certificate_of b c)) c xs (All-head (CertifiesIn b cs ds q) c xs h b (extends_same b)) (certified_now b cs ds q xs (All-tail (CertifiesIn b cs ds q) c xs h))
 
 pub variables_long : (q : Typed) → length (variable_types q) ≡ length q.vars.items
 variables_long q = length-map q.vars.items (λ v. v.1)
 
-pub verdict_names : (b : Nodes) (cs : List Declared) (q : Typed) (xs : List Certificate) (r : Result CheckVerdict Memory) → IfOk r (λ v. v ≡ Accepted → All (NamesIn b cs q) xs) → IfOk r (λ v. v ≡ Accepted → All (λ c. Names (declared_by b cs) (query_of b q) (certificate_of b c)) xs)
-verdict_names b cs q xs (Err x) h = tt
-verdict_names b cs q xs (Ok v) h = λ e. names_now b cs q xs (h e)
+pub verdict_certifies : (b : Nodes) (cs : List Declared) (ds : List code.ClauseFormula) (q : Typed) (xs : List Certificate) (r : Result CheckVerdict Memory) → IfOk r (λ v. v ≡ Accepted → All (CertifiesIn b cs ds q) xs) →
+    IfOk r (λ v. v ≡ Accepted → All (λ c. Certifies (ground_over b cs ds) (query_of b q) (certificate_of b c)) xs)
+verdict_certifies b cs ds q xs (Err x) h = tt
+verdict_certifies b cs ds q xs (Ok v) h = λ e. certified_now b cs ds q xs (h e)
+
+-- what is found of an option within a result
+pub found_where : {T : Type 0} (r : Result (Option T) Memory) (P Q : T → Type 0) → IfOk r (λ found. IfSome found P) → ((x : T) → P x → Q x) → IfOk r (λ found. IfSome found Q)
+found_where (Err x) P Q p f = tt
+found_where (Ok None) P Q p f = tt
+found_where (Ok (Some x)) P Q p f = f x p

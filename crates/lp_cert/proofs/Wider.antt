@@ -1,5 +1,5 @@
 -- A proof whose leaves are of one kind is one with leaves of a wider kind.
-use Rattle.std.proofs.Common.{ℕ, List, [], length, true, false}
+use Rattle.std.proofs.Common.{List, [], length, true, false}
 use Rattle.lp_calculus.specs.Types.{Ty}
 use Rattle.lp_calculus.specs.Term.{Term}
 use Rattle.lp_model.specs.Flatten.{ClauseFormula}
@@ -33,8 +33,8 @@ module _ (d : Declared) (L M : Leaves) (wider : (E : List Ty) (P : List ClauseFo
 
 pub provable : (g : Ground) (q : Query) (c : Certificate) → Certifies g q c → IsProvable g.declared g.clauses q c.instance
 provable g q c h = record {
-  types = h.types;
-  types_closed = h.types_closed;
-  values = h.values;
+  types = h.names.types;
+  types_closed = h.names.types_closed;
+  values = h.names.values;
   proved = record { proof = h.proof; holds = proof_wider g.declared no_leaf (IsFailure g.declared (length g.clauses)) (λ E P G f n. absurd n) [] g.clauses _ h.proof h.proved };
 }

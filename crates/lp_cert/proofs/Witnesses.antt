@@ -25,7 +25,7 @@ witnesses_push d (s ∷ ts) (S ∷ Ts) t T a w = (a.0, witnesses_push d ts Ts t 
 witnesses_push d [] (S ∷ Ts) t T a w = absurd a
 witnesses_push d (s ∷ ts) [] t T a w = absurd a
 
-taken_next : {A : Type 0} (xs : List A) (i n : ℕ) (x : A) → n ≡ suc i → i < length xs → x ≡ get_or xs i x → take n xs ≡ take i xs ++ x ∷ []
+pub taken_next : {A : Type 0} (xs : List A) (i n : ℕ) (x : A) → n ≡ suc i → i < length xs → x ≡ get_or xs i x → take n xs ≡ take i xs ++ x ∷ []
 taken_next xs i n x m l e = ap (λ j. take j xs) m ∙ take_suc xs i x (slice_get_read xs (length xs) i x refl l e)
 
 twice_mapped : (θ : ℕ → Ty) (d : Nodes) (os : List TypeId) → map (instance θ) (types_in d os) ≡ map (λ o. instance θ (type_tree d o.0)) os

@@ -40,11 +40,9 @@ pub record Ground : Type 0 where
 abbrev pub ground_of : code_program.Program → Ground
 ground_of p = record { declared = declared_by p.bank p.constants.items; clauses = map (formula_of p.bank) p.clauses.items }
 
--- as many closed types as the query has, values that may stand for its variables, and nodes that are a proof of the query so filled in
+-- it names an instance of the query, and its nodes are a proof of the query so filled in
 pub record Certifies (g : Ground) (q : Query) (c : Certificate) : Type 0 where
-  pub types : length c.instance.types ≡ q.type_vars
-  pub types_closed : AreClosed c.instance.types
-  pub values : AreWitnesses g.declared c.instance.values (map (instance (type_at c.instance.types)) q.vars)
+  pub names : Names g.declared q c
   pub proof : Proof
   pub written : IsWritten proof c.nodes []
   pub proved : proves_by no_leaf g.declared [] g.clauses (filled q c.instance) proof

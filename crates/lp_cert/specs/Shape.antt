@@ -1,5 +1,5 @@
 -- How a formula begins: a constant with types, on one or two terms.
-use Rattle.std.specs.Prelude.{◌≡◌, [], ◌∷◌}
+use Rattle.std.specs.Prelude.{◌≡◌, ℕ, ℤ, [], ◌∷◌, true}
 use Rattle.lp_calculus.specs.Types.{Ty}
 use Rattle.lp_calculus.specs.Convert.{Converts}
 use Rattle.lp_standard.specs.Connectives.{two}
@@ -7,6 +7,7 @@ use Rattle.lp_standard.specs.Numbers as number
 use Rattle.lp_calculus.specs.Term.{Term, atom, app, constant}
 use Rattle.lp_term.specs.Nodes.{Nodes, tree}
 use Rattle.lp_term.specs.declared.node.TermId.{TermId}
+use Rattle.lp_model.specs.Values.{Value, Number, HasValue, term_of, ordered}
 use Rattle.lp_cert.specs.Same.{types_in}
 use Rattle.lp_cert.specs.declared.shape.One.{One}
 use Rattle.lp_cert.specs.declared.shape.Two.{Two}
@@ -34,3 +35,11 @@ IsTwoWith b h right o = (h ≡ app (atom (constant o.constant (types_in b o.type
 -- an equation whose sides convert
 abbrev pub IsEquation : Term → Type 0
 IsEquation G = (of : Ty) × (t : Term) × (u : Term) × (G ≡ two number.Equal (of ∷ []) t u) × Converts t u
+
+-- the term converts to the value of the expression
+abbrev pub IsValued : (expression term : Term) → Type 0
+IsValued e t = (v : Value) × HasValue e v × Converts t (term_of v)
+
+-- the expressions have integer values in the order of the constant
+abbrev pub AreOrdered : ℕ → (left right : Term) → Type 0
+AreOrdered c e f = (a : ℤ) × (b : ℤ) × HasValue e (Number a) × HasValue f (Number b) × (ordered c a b ≡ true)

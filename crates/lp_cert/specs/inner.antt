@@ -1,3 +1,6 @@
 -- What only loops keep.
 pub mod Derives
+pub mod Evaluated
+pub mod Left
 pub mod Named
+pub mod Put

@@ -1,9 +1,12 @@
 // Nodes that focus on a clause for an atom.
-ghost use Rattle.std.specs.Prelude.{◌≡◌, ◌≤◌, IfOk, OnOk};
+ghost use Rattle.std.specs.Prelude.{◌≡◌, ◌≤◌, ◌⊎◌, List, IfOk, IfSome, OnOk};
 ghost use Rattle.lp_calculus.specs.Convert.{Converts};
-ghost use Rattle.lp_term.specs.Nodes.{Extends, tree};
+ghost use Rattle.lp_term.specs.Nodes.{Extends, Nodes, tree};
 ghost use Rattle.lp_cert.specs.Facts.{IsKnown};
+ghost use Rattle.lp_cert.specs.Written.{Node, focus_converted, focus_witness, hit, node_of, premise, side};
+ghost use Rattle.lp_cert.specs.inner.Left.{Goes, Left, LeftWith, Stays, focusing};
 
+use crate::form::Compared;
 use crate::goal::{conjunction, implication, universal};
 use crate::instance::put_proposition;
 use crate::work::{Task, Turn, Work};
@@ -11,9 +14,23 @@ use lp_base::Memory;
 use lp_model::ProofNode;
 use lp_term::{Bank, TermId, put_applied};
 
+// The left one by 0, the right one by 1.
+fn side_of(which: u8, left: TermId, right: TermId) -> Option<TermId>
+    ensures { IfSome result (λ part. ((which ≡ 0) × (part ≡ left)) ⊎ ((which ≡ 1) × (part ≡ right))) }
+{
+    if which == 0 {
+        return Some(left);
+    }
+    if which == 1 {
+        return Some(right);
+    }
+    None
+}
+
 impl Work<'_> {
     fn focus_on(&mut self, clause: TermId, atom: TermId) -> Result<Turn, Memory>
         ensures same { self.new.known ≡ self.old.known }
+        ensures left { OnOk result ((b : Nodes) → (ns : List Node) → Left b self.new ns → LeftWith b self.old (focusing (tree b clause.0) (tree b atom.0)) ns) }
     {
         self.tasks.push(Task::Focus(clause, atom))?;
         Ok(Turn::On)
@@ -29,16 +46,18 @@ impl Work<'_> {
         requires known { IsKnown bank.old self.old.known }
         ensures kept { Extends bank.old bank.new }
         ensures known { OnOk result (IsKnown bank.new self.new.known) }
+        ensures goes { IfOk result (λ turn. turn ≡ Turn.On → (b : Nodes) → Extends bank.new b → Goes b self.old self.new (focusing (tree b clause.0) (tree b atom.0)) (focus_converted (tree b other.0))) }
     {
         let of = put_proposition(bank)?;
         if !self.is_closed_of(bank, other, of)? {
             return Ok(Turn::No);
         }
-        let turn = Work::turn_of(self.converts(bank, other, clause)?);
-        if turn == Turn::On {
-            return self.focus_on(other, atom);
+        let compared = self.converts(bank, other, clause)?;
+        match compared {
+            Compared::Same => self.focus_on(other, atom),
+            Compared::Differ => Ok(Turn::No),
+            Compared::Deep => Ok(Turn::Deep),
         }
-        Ok(turn)
     }
 
     fn focus_all(
@@ -51,6 +70,7 @@ impl Work<'_> {
         requires known { IsKnown bank.old self.old.known }
         ensures kept { Extends bank.old bank.new }
         ensures known { OnOk result (IsKnown bank.new self.new.known) }
+        ensures goes { IfOk result (λ turn. turn ≡ Turn.On → (b : Nodes) → Extends bank.new b → Goes b self.old self.new (focusing (tree b clause.0) (tree b atom.0)) (focus_witness (tree b value.0))) }
     {
         let Some((of, body)) = universal(bank, clause) else {
             return Ok(Turn::No);
@@ -62,22 +82,23 @@ impl Work<'_> {
         self.focus_on(next, atom)
     }
 
-    fn take(&mut self, bank: &Bank, clause: TermId, atom: TermId, side: u8) -> Result<Turn, Memory>
+    fn take(&mut self, bank: &Bank, clause: TermId, atom: TermId, which: u8) -> Result<Turn, Memory>
         ensures same { self.new.known ≡ self.old.known }
-        ensures side { IfOk result (λ turn. turn ≡ Turn.On → side ≤ 1) }
+        ensures side { IfOk result (λ turn. turn ≡ Turn.On → which ≤ 1) }
+        ensures goes { IfOk result (λ turn. turn ≡ Turn.On → (b : Nodes) → Extends bank.now b → Goes b self.old self.new (focusing (tree b clause.0) (tree b atom.0)) (side which)) }
     {
         let Some((left, right)) = conjunction(bank, clause) else {
             return Ok(Turn::No);
         };
-        match side {
-            0 => self.focus_on(left, atom),
-            1 => self.focus_on(right, atom),
-            _ => Ok(Turn::No),
-        }
+        let Some(part) = side_of(which, left, right) else {
+            return Ok(Turn::No);
+        };
+        self.focus_on(part, atom)
     }
 
     fn need(&mut self, bank: &Bank, clause: TermId, atom: TermId) -> Result<Turn, Memory>
         ensures same { self.new.known ≡ self.old.known }
+        ensures goes { IfOk result (λ turn. turn ≡ Turn.On → (b : Nodes) → Extends bank.now b → Goes b self.old self.new (focusing (tree b clause.0) (tree b atom.0)) premise) }
     {
         let Some((goal, rest)) = implication(bank, clause) else {
             return Ok(Turn::No);
@@ -91,7 +112,8 @@ impl Work<'_> {
         requires known { IsKnown bank.old self.old.known }
         ensures kept { Extends bank.old bank.new }
         ensures known { OnOk result (IsKnown bank.new self.new.known) }
-        ensures converts { IfOk result (λ turn. turn ≡ Turn.On → Converts (tree bank.old clause.0) (tree bank.old atom.0)) }
+        ensures stays { OnOk result (Stays self.old self.new) }
+        ensures later { IfOk result (λ turn. turn ≡ Turn.On → (b : Nodes) → Extends bank.new b → Converts (tree b clause.0) (tree b atom.0)) }
     {
         let compared = self.converts(bank, clause, atom)?;
         let turn = Work::turn_of(compared);
@@ -109,6 +131,7 @@ impl Work<'_> {
         requires known { IsKnown bank.old self.old.known }
         ensures kept { Extends bank.old bank.new }
         ensures known { OnOk result (IsKnown bank.new self.new.known) }
+        ensures goes { IfOk result (λ turn. turn ≡ Turn.On → (b : Nodes) → Extends bank.new b → Goes b self.old self.new (focusing (tree b clause.0) (tree b atom.0)) (node_of b node.now)) }
     {
         match node {
             ProofNode::FocusConv(other) => self.focus_conv(bank, clause, atom, *other),

@@ -338,6 +338,7 @@ pub(crate) fn compare(
     ensures kept { Extends bank.old bank.new }
     ensures known { OnOk result (IsKnown bank.new known.new) }
     ensures same { IfOk result (λ c. c ≡ Compared.Same → Converts (tree bank.old left.0) (tree bank.old right.0)) }
+    ensures inside { IfOk result (λ c. c ≡ Compared.Same → (left.0 < length bank.old.terms) × (right.0 < length bank.old.terms)) }
 {
     if !is_inside(bank, left) {
         return Ok(Compared::Differ);

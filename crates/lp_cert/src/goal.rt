@@ -1,28 +1,36 @@
 // Nodes that prove a goal.
-ghost use Rattle.std.specs.Prelude.{◌≡◌, [], ◌∷◌, IfOk, IfSome, OnOk};
+ghost use Rattle.std.specs.Prelude.{◌≡◌, ◌<◌, ◌⊎◌, List, [], ◌∷◌, ◌++◌, length, map, slice_get, IfOk, IfSome, OnOk, Some, true};
 ghost use Rattle.lp_calculus.specs.Types.{Ty};
 ghost use Rattle.lp_calculus.specs.Term.{app, atom, constant};
-ghost use Rattle.lp_standard.specs.Connectives.{pi_of, two};
+ghost use Rattle.lp_calculus.specs.Spine.{head_of};
+ghost use Rattle.lp_calculus.specs.Instance.{instance_term};
+ghost use Rattle.lp_calculus.specs.Typing.{type_at};
+ghost use Rattle.lp_standard.specs.Connectives.{cut, pi_of, truth, two};
 ghost use Rattle.lp_standard.specs.Constants.{number};
-ghost use Rattle.lp_standard.specs.Numbers.{And, Equal};
-ghost use Rattle.lp_term.specs.Nodes.{Extends, tree, type_tree};
-ghost use Rattle.lp_model.specs.Proofs.{IsImplication};
+ghost use Rattle.lp_standard.specs.Numbers.{And, Cut, Equal, True};
+ghost use Rattle.lp_term.specs.Nodes.{Extends, Nodes, tree, type_tree};
+ghost use Rattle.lp_model.specs.Proofs.{IsAtomHead, IsImplication};
 ghost use Rattle.lp_cert.specs.Facts.{IsKnown};
+ghost use Rattle.lp_cert.specs.Same.{terms_in, types_in};
 ghost use Rattle.lp_cert.specs.Shape.{IsEquation};
+ghost use Rattle.lp_cert.specs.Written.{Node, assuming, back_to, converted, counted, equated, general, left_side, node_of, pair, right_side, witness};
+ghost use Rattle.lp_cert.specs.inner.Left.{Goes, IsClauseIn, IsDeclared, Left, LeftWith, Stays, proving};
+ghost use Rattle.lp_cert.specs.Facts.{AreInside};
 
-use crate::form::{Compared, Formed, form_of};
+use crate::arithmetic::computed;
+use crate::form::{Compared, is_inside};
 use crate::instance::{put_proposition, term_at};
-use crate::shape::{One, Two, one_of, two_of};
-use crate::value::{Texts, are_ordered, is_value, order_of, value_of};
+use crate::shape::{one_of, two_of};
 use crate::work::{Task, Turn, Work};
-use lp_base::{Compare, Memory};
-use lp_model::ProofNode;
+use lp_base::Memory;
+use lp_model::{ClauseFormula, ProofNode};
 use lp_standard::{Constant, FIRST_CONSTANT};
 use lp_term::{Bank, TermId, TermNode, TypeId, head_of, put_applied, put_eigen};
+use std::alloc::Global;
 
 // The two sides of a formula with this constant, which has no types, at its top.
 fn sides(bank: &Bank, formula: TermId, constant: Constant) -> Option<(TermId, TermId)>
-    ensures { IfSome result (λ p. tree bank.now formula.0 ≡ two (number constant) [] (tree bank.now p.0.0) (tree bank.now p.1.0)) }
+    ensures later { IfSome result (λ p. (b : Nodes) → Extends bank.now b → tree b formula.0 ≡ two (number constant) [] (tree b p.0.0) (tree b p.1.0)) }
 {
     let Some(found) = two_of(bank, formula) else {
         return None;
@@ -39,7 +47,8 @@ fn sides(bank: &Bank, formula: TermId, constant: Constant) -> Option<(TermId, Te
 
 // The type and the term of a formula with this quantifier at its top.
 fn quantified(bank: &Bank, formula: TermId, quantifier: Constant) -> Option<(TypeId, TermId)>
-    ensures { IfSome result (λ p. tree bank.now formula.0 ≡ app (atom (constant (number quantifier) (type_tree bank.now p.0.0 ∷ []))) (tree bank.now p.1.0)) }
+    ensures later { IfSome result (λ p. (b : Nodes) → Extends bank.now b → tree b formula.0 ≡ app (atom (constant (number quantifier) (type_tree b p.0.0 ∷ []))) (tree b p.1.0)) }
+    ensures inside { IfSome result (λ p. p.1.0 < length bank.now.terms) }
 {
     let Some(found) = one_of(bank, formula) else {
         return None;
@@ -54,14 +63,18 @@ fn quantified(bank: &Bank, formula: TermId, quantifier: Constant) -> Option<(Typ
     Some((found.types[0], found.on))
 }
 
-// The sides of an equation.
-fn equation(bank: &Bank, formula: TermId) -> Option<(TermId, TermId)>
-    ensures { IfSome result (λ p. (of : Ty) × (tree bank.now formula.0 ≡ two Equal (of ∷ []) (tree bank.now p.0.0) (tree bank.now p.1.0))) }
+// The two sides of a formula with this constant, which has one type, at its top.
+pub(crate) fn typed_sides(
+    bank: &Bank,
+    formula: TermId,
+    constant: Constant,
+) -> Option<(TermId, TermId)>
+    ensures later { IfSome result (λ p. (b : Nodes) → Extends bank.now b → (of : Ty) × (tree b formula.0 ≡ two (number constant) (of ∷ []) (tree b p.0.0) (tree b p.1.0))) }
 {
     let Some(found) = two_of(bank, formula) else {
         return None;
     };
-    let wanted = Constant::Equal.number();
+    let wanted = constant.number();
     if found.constant != wanted {
         return None;
     }
@@ -71,9 +84,16 @@ fn equation(bank: &Bank, formula: TermId) -> Option<(TermId, TermId)>
     Some((found.left, found.right))
 }
 
+// The sides of an equation.
+fn equation(bank: &Bank, formula: TermId) -> Option<(TermId, TermId)>
+    ensures later { IfSome result (λ p. (b : Nodes) → Extends bank.now b → (of : Ty) × (tree b formula.0 ≡ two Equal (of ∷ []) (tree b p.0.0) (tree b p.1.0))) }
+{
+    typed_sides(bank, formula, Constant::Equal)
+}
+
 // The clause and the goal of an implication: of `D => G`, or of `G :- D`.
 pub(crate) fn implication(bank: &Bank, formula: TermId) -> Option<(TermId, TermId)>
-    ensures { IfSome result (λ p. IsImplication (tree bank.now formula.0) (tree bank.now p.0.0) (tree bank.now p.1.0)) }
+    ensures later { IfSome result (λ p. (b : Nodes) → Extends bank.now b → IsImplication (tree b formula.0) (tree b p.0.0) (tree b p.1.0)) }
 {
     if let Some((clause, goal)) = sides(bank, formula, Constant::Implies) {
         return Some((clause, goal));
@@ -85,44 +105,114 @@ pub(crate) fn implication(bank: &Bank, formula: TermId) -> Option<(TermId, TermI
 }
 
 pub(crate) fn conjunction(bank: &Bank, formula: TermId) -> Option<(TermId, TermId)>
-    ensures { IfSome result (λ p. tree bank.now formula.0 ≡ two And [] (tree bank.now p.0.0) (tree bank.now p.1.0)) }
+    ensures later { IfSome result (λ p. (b : Nodes) → Extends bank.now b → tree b formula.0 ≡ two And [] (tree b p.0.0) (tree b p.1.0)) }
 {
     sides(bank, formula, Constant::And)
 }
 
 pub(crate) fn universal(bank: &Bank, formula: TermId) -> Option<(TypeId, TermId)>
-    ensures { IfSome result (λ p. tree bank.now formula.0 ≡ pi_of (type_tree bank.now p.0.0) (tree bank.now p.1.0)) }
+    ensures later { IfSome result (λ p. (b : Nodes) → Extends bank.now b → tree b formula.0 ≡ pi_of (type_tree b p.0.0) (tree b p.1.0)) }
+    ensures inside { IfSome result (λ p. p.1.0 < length bank.now.terms) }
 {
     quantified(bank, formula, Constant::ForAll)
 }
 
+fn is_true_or_cut(constant: u32) -> bool
+    ensures { result ≡ true → (constant ≡ True) ⊎ (constant ≡ Cut) }
+{
+    if constant == Constant::True.number() {
+        return true;
+    }
+    constant == Constant::Cut.number()
+}
+
 // Whether the goal is `true` or `!`.
-fn is_trivial(bank: &Bank, goal: TermId) -> bool {
+fn is_trivial(bank: &Bank, goal: TermId) -> bool
+    ensures { result ≡ true → (b : Nodes) → Extends bank.now b → (tree b goal.0 ≡ truth) ⊎ (tree b goal.0 ≡ cut) }
+{
     match bank.term_node(goal) {
         TermNode::Const(constant, types) => {
-            types.is_empty()
-                && (constant == Constant::True.number() || constant == Constant::Cut.number())
+            if types.len() != 0 {
+                return false;
+            }
+            is_true_or_cut(constant)
         }
         _ => false,
     }
 }
 
-// Whether the head of the goal is a declared constant or an eigenconstant.
-fn is_atom(bank: &Bank, goal: TermId) -> bool {
-    match bank.term_node(head_of(bank, goal)) {
+// Whether the head is a declared constant or an eigenconstant.
+fn is_atom_head(bank: &Bank, head: TermId) -> bool
+    ensures { result ≡ true → (b : Nodes) → Extends bank.now b → IsAtomHead (tree b head.0) }
+{
+    match bank.term_node(head) {
         TermNode::Const(constant, _) => constant >= FIRST_CONSTANT,
         TermNode::Eigen(_) => true,
         _ => false,
     }
 }
 
-fn turn_where(holds: bool) -> Turn {
+// Whether the head of the goal, which stands in the bank, is a declared constant or an eigenconstant.
+fn is_atom(bank: &Bank, goal: TermId) -> bool
+    ensures { result ≡ true → (b : Nodes) → Extends bank.now b → IsAtomHead (head_of (tree b goal.0)) }
+{
+    if !is_inside(bank, goal) {
+        return false;
+    }
+    is_atom_head(bank, head_of(bank, goal))
+}
+
+// The formula with the types for its type variables, if it stands in the bank and has as many.
+fn formula_at(
+    alloc: Global,
+    bank: &mut Bank,
+    formula: TermId,
+    count: u64,
+    types: &[TypeId],
+) -> Result<Option<TermId>, Memory>
+    ensures kept { Extends bank.old bank.new }
+    ensures formula { IfOk result (λ found. IfSome found (λ made. (length types.now ≡ count) × (AreInside (length bank.old.types) types.now → (b : Nodes) → Extends bank.new b → tree b made.0 ≡ instance_term (type_at (types_in b types.now)) (tree b formula.0)))) }
+{
+    if types.len() as u64 != count {
+        return Ok(None);
+    }
+    if !is_inside(bank, formula) {
+        return Ok(None);
+    }
+    let made = term_at(alloc, bank, types, formula)?;
+    Ok(Some(made))
+}
+
+// The clause at this place with the types for its type variables, if it has as many.
+fn declared_clause(
+    alloc: Global,
+    bank: &mut Bank,
+    clauses: &[ClauseFormula],
+    place: usize,
+    types: &[TypeId],
+) -> Result<Option<TermId>, Memory>
+    ensures kept { Extends bank.old bank.new }
+    ensures clause { IfOk result (λ found. IfSome found (λ made. AreInside (length bank.old.types) types.now → (b : Nodes) → Extends bank.new b → IsDeclared b clauses.now place types.now (tree b made.0))) }
+{
+    match clauses.get(place) {
+        Some(clause) => {
+            let count = clause.type_vars as u64;
+            formula_at(alloc, bank, clause.formula, count, types)
+        }
+        None => Ok(None),
+    }
+}
+
+pub(crate) fn turn_where(holds: bool) -> Turn
+    ensures { result ≡ Turn.On → holds ≡ true }
+{
     if holds { Turn::On } else { Turn::No }
 }
 
 impl Work<'_> {
     fn go_on(&mut self, goal: TermId) -> Result<Turn, Memory>
         ensures same { self.new.known ≡ self.old.known }
+        ensures left { OnOk result ((b : Nodes) → (ns : List Node) → Left b self.new ns → LeftWith b self.old (proving (tree b goal.0)) ns) }
     {
         self.tasks.push(Task::Prove(goal))?;
         Ok(Turn::On)
@@ -132,20 +222,23 @@ impl Work<'_> {
         requires known { IsKnown bank.old self.old.known }
         ensures kept { Extends bank.old bank.new }
         ensures known { OnOk result (IsKnown bank.new self.new.known) }
+        ensures goes { IfOk result (λ turn. turn ≡ Turn.On → (b : Nodes) → Extends bank.new b → Goes b self.old self.new (proving (tree b goal.0)) (converted (tree b other.0))) }
     {
         let of = put_proposition(bank)?;
         if !self.is_closed_of(bank, other, of)? {
             return Ok(Turn::No);
         }
-        let turn = Work::turn_of(self.converts(bank, other, goal)?);
-        if turn == Turn::On {
-            return self.go_on(other);
+        let compared = self.converts(bank, other, goal)?;
+        match compared {
+            Compared::Same => self.go_on(other),
+            Compared::Differ => Ok(Turn::No),
+            Compared::Deep => Ok(Turn::Deep),
         }
-        Ok(turn)
     }
 
     fn both(&mut self, bank: &Bank, goal: TermId) -> Result<Turn, Memory>
         ensures same { self.new.known ≡ self.old.known }
+        ensures goes { IfOk result (λ turn. turn ≡ Turn.On → (b : Nodes) → Extends bank.now b → Goes b self.old self.new (proving (tree b goal.0)) pair) }
     {
         let Some((left, right)) = sides(bank, goal, Constant::And) else {
             return Ok(Turn::No);
@@ -156,18 +249,20 @@ impl Work<'_> {
 
     fn left(&mut self, bank: &Bank, goal: TermId) -> Result<Turn, Memory>
         ensures same { self.new.known ≡ self.old.known }
+        ensures goes { IfOk result (λ turn. turn ≡ Turn.On → (b : Nodes) → Extends bank.now b → Goes b self.old self.new (proving (tree b goal.0)) left_side) }
     {
         match sides(bank, goal, Constant::Or) {
-            Some((left, _)) => self.go_on(left),
+            Some((left, _right)) => self.go_on(left),
             None => Ok(Turn::No),
         }
     }
 
     fn right(&mut self, bank: &Bank, goal: TermId) -> Result<Turn, Memory>
         ensures same { self.new.known ≡ self.old.known }
+        ensures goes { IfOk result (λ turn. turn ≡ Turn.On → (b : Nodes) → Extends bank.now b → Goes b self.old self.new (proving (tree b goal.0)) right_side) }
     {
         match sides(bank, goal, Constant::Or) {
-            Some((_, right)) => self.go_on(right),
+            Some((_left, right)) => self.go_on(right),
             None => Ok(Turn::No),
         }
     }
@@ -176,6 +271,7 @@ impl Work<'_> {
         requires known { IsKnown bank.old self.old.known }
         ensures kept { Extends bank.old bank.new }
         ensures known { OnOk result (IsKnown bank.new self.new.known) }
+        ensures goes { IfOk result (λ turn. turn ≡ Turn.On → (b : Nodes) → Extends bank.new b → Goes b self.old self.new (proving (tree b goal.0)) (witness (tree b value.0))) }
     {
         let Some((of, body)) = quantified(bank, goal, Constant::Exists) else {
             return Ok(Turn::No);
@@ -191,11 +287,15 @@ impl Work<'_> {
         requires known { IsKnown bank.old self.old.known }
         ensures kept { Extends bank.old bank.new }
         ensures known { OnOk result (IsKnown bank.new self.new.known) }
+        ensures goes { IfOk result (λ turn. turn ≡ Turn.On → (b : Nodes) → Extends bank.new b → Goes b self.old self.new (proving (tree b goal.0)) general) }
     {
         let Some((of, body)) = quantified(bank, goal, Constant::ForAll) else {
             return Ok(Turn::No);
         };
-        let eigen = put_eigen(bank, self.level().saturating_add(1))?;
+        let Some(level) = self.level().checked_add(1) else {
+            return Err(Memory);
+        };
+        let eigen = put_eigen(bank, level)?;
         let next = put_applied(bank, body, eigen)?;
         self.eigens.push(of)?;
         self.tasks.push(Task::LeaveEigen)?;
@@ -204,6 +304,7 @@ impl Work<'_> {
 
     fn assume(&mut self, bank: &Bank, goal: TermId) -> Result<Turn, Memory>
         ensures same { self.new.known ≡ self.old.known }
+        ensures goes { IfOk result (λ turn. turn ≡ Turn.On → (b : Nodes) → Extends bank.now b → Goes b self.old self.new (proving (tree b goal.0)) assuming) }
     {
         let Some((clause, rest)) = implication(bank, goal) else {
             return Ok(Turn::No);
@@ -217,7 +318,8 @@ impl Work<'_> {
         requires known { IsKnown bank.old self.old.known }
         ensures kept { Extends bank.old bank.new }
         ensures known { OnOk result (IsKnown bank.new self.new.known) }
-        ensures converts { IfOk result (λ turn. turn ≡ Turn.On → IsEquation (tree bank.old goal.0)) }
+        ensures stays { OnOk result (Stays self.old self.new) }
+        ensures equation { IfOk result (λ turn. turn ≡ Turn.On → (b : Nodes) → Extends bank.new b → IsEquation (tree b goal.0)) }
     {
         let Some((left, right)) = equation(bank, goal) else {
             return Ok(Turn::No);
@@ -225,85 +327,6 @@ impl Work<'_> {
         let compared = self.converts(bank, left, right)?;
         let turn = Work::turn_of(compared);
         Ok(turn)
-    }
-
-    // Whether a term converts to the value of an expression.
-    fn is(&mut self, bank: &mut Bank, term: TermId, expression: TermId) -> Result<Turn, Memory>
-        requires known { IsKnown bank.old self.old.known }
-        ensures kept { Extends bank.old bank.new }
-        ensures known { OnOk result (IsKnown bank.new self.new.known) }
-    {
-        match (
-            form_of(self.alloc, bank, term)?,
-            form_of(self.alloc, bank, expression)?,
-        ) {
-            (Formed::Is(one), Formed::Is(other)) => {
-                let mut texts = Texts::new(self.alloc);
-                match value_of(self.alloc, bank, &mut texts, other)? {
-                    Some(value) => Ok(turn_where(is_value(bank, &texts, one, value))),
-                    None => Ok(Turn::No),
-                }
-            }
-            (Formed::Deep, _) | (_, Formed::Deep) => Ok(Turn::Deep),
-            _ => Ok(Turn::No),
-        }
-    }
-
-    // Whether two expressions have integer values in that order.
-    fn ordered(
-        &mut self,
-        bank: &mut Bank,
-        order: Compare,
-        left: TermId,
-        right: TermId,
-    ) -> Result<Turn, Memory>
-        requires known { IsKnown bank.old self.old.known }
-        ensures kept { Extends bank.old bank.new }
-        ensures known { OnOk result (IsKnown bank.new self.new.known) }
-    {
-        match (
-            form_of(self.alloc, bank, left)?,
-            form_of(self.alloc, bank, right)?,
-        ) {
-            (Formed::Is(one), Formed::Is(other)) => {
-                let mut texts = Texts::new(self.alloc);
-                let Some(left) = value_of(self.alloc, bank, &mut texts, one)? else {
-                    return Ok(Turn::No);
-                };
-                let Some(right) = value_of(self.alloc, bank, &mut texts, other)? else {
-                    return Ok(Turn::No);
-                };
-                Ok(turn_where(are_ordered(order, left, right)))
-            }
-            (Formed::Deep, _) | (_, Formed::Deep) => Ok(Turn::Deep),
-            _ => Ok(Turn::No),
-        }
-    }
-
-    fn arith(&mut self, bank: &mut Bank, goal: TermId) -> Result<Turn, Memory>
-        requires known { IsKnown bank.old self.old.known }
-        ensures kept { Extends bank.old bank.new }
-        ensures known { OnOk result (IsKnown bank.new self.new.known) }
-    {
-        let Some(
-            Two {
-                constant,
-                types,
-                left,
-                right,
-            },
-        ) = two_of(bank, goal)
-        else {
-            return Ok(Turn::No);
-        };
-        let count = types.len();
-        if constant == Constant::Is.number() && count == 1 {
-            return self.is(bank, left, right);
-        }
-        match order_of(constant) {
-            Some(order) if count == 0 => self.ordered(bank, order, left, right),
-            _ => Ok(Turn::No),
-        }
     }
 
     // The clause of this number with the types for its type variables, if it has as many.
@@ -316,22 +339,17 @@ impl Work<'_> {
         requires known { IsKnown bank.old self.old.known }
         ensures kept { Extends bank.old bank.new }
         ensures known { OnOk result (IsKnown bank.new self.new.known) }
+        ensures stays { OnOk result (Stays self.old self.new) }
+        ensures clause { IfOk result (λ found. IfSome found (λ made. AreInside (length bank.old.types) types.now → (b : Nodes) → Extends bank.new b → IsClauseIn b self.old.theory self.old.assumed.items number (types_in b types.now) (tree b made.0))) }
     {
         let place = number as usize;
         let clauses = self.theory.clauses;
-        if let Some(clause) = clauses.get(place) {
-            if types.len() as u64 != u64::from(clause.type_vars) {
-                return Ok(None);
-            }
-            let made = term_at(self.alloc, bank, types, clause.formula)?;
-            return Ok(Some(made));
+        if place < clauses.len() {
+            return declared_clause(self.alloc, bank, clauses, place, types);
         }
-        match self.assumed.get(place.saturating_sub(clauses.len())) {
-            Some(clause) if types.is_empty() => {
-                let made = term_at(self.alloc, bank, types, *clause)?;
-                Ok(Some(made))
-            }
-            _ => Ok(None),
+        match self.assumed.get(place - clauses.len()) {
+            Some(formula) => formula_at(self.alloc, bank, *formula, 0, types),
+            None => Ok(None),
         }
     }
 
@@ -345,6 +363,7 @@ impl Work<'_> {
         requires known { IsKnown bank.old self.old.known }
         ensures kept { Extends bank.old bank.new }
         ensures known { OnOk result (IsKnown bank.new self.new.known) }
+        ensures goes { IfOk result (λ turn. turn ≡ Turn.On → (b : Nodes) → Extends bank.new b → Goes b self.old self.new (proving (tree b goal.0)) (back_to number (types_in b types.now))) }
     {
         if !is_atom(bank, goal) {
             return Ok(Turn::No);
@@ -352,7 +371,8 @@ impl Work<'_> {
         if !self.known.are_closed_types(bank, types)? {
             return Ok(Turn::No);
         }
-        let Some(clause) = self.clause(bank, number, types)? else {
+        let found = self.clause(bank, number, types)?;
+        let Some(clause) = found else {
             return Ok(Turn::No);
         };
         self.tasks.push(Task::Focus(clause, goal))?;
@@ -369,6 +389,7 @@ impl Work<'_> {
         requires known { IsKnown bank.old self.old.known }
         ensures kept { Extends bank.old bank.new }
         ensures known { OnOk result (IsKnown bank.new self.new.known) }
+        ensures goes { IfOk result (λ turn. turn ≡ Turn.On → (b : Nodes) → Extends bank.new b → Goes b self.old self.new (proving (tree b goal.0)) (node_of b node.now)) }
     {
         match node {
             ProofNode::Conv(other) => self.conv(bank, goal, *other),
@@ -380,7 +401,7 @@ impl Work<'_> {
             ProofNode::All => self.for_all(bank, goal),
             ProofNode::Assume => self.assume(bank, goal),
             ProofNode::Equal => self.equal(bank, goal),
-            ProofNode::Arith => self.arith(bank, goal),
+            ProofNode::Arith => computed(self.alloc, bank, goal),
             ProofNode::Back(number, types) => self.back(bank, goal, *number, types.as_slice()),
             _ => Ok(Turn::No),
         }

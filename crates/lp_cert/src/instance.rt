@@ -1,13 +1,17 @@
 // Types put in for type variables, and values for the variables of a query.
-ghost use Rattle.std.specs.Prelude.{◌≡◌, ◌<◌, length, IfOk};
+ghost use Rattle.std.specs.Prelude.{◌≡◌, ◌<◌, ◌-◌, suc, length, IfOk, IfSome};
 ghost use Rattle.lp_calculus.specs.Types.{instance};
 ghost use Rattle.lp_calculus.specs.Typing.{o_type};
 ghost use Rattle.lp_calculus.specs.Typing as typing;
 ghost use Rattle.lp_calculus.specs.Instance.{instance_term};
 ghost use Rattle.lp_term.specs.Nodes.{Extends, Nodes, tree, type_tree};
+ghost use Rattle.lp_term.specs.Spine.{LooseBelow};
+ghost use Rattle.lp_model.specs.Index.{at, instantiate};
 ghost use Rattle.lp_cert.specs.Facts.{AreInside};
-ghost use Rattle.lp_cert.specs.Same.{types_in};
+ghost use Rattle.lp_cert.specs.Same.{terms_in, types_in};
+ghost use Rattle.lp_cert.specs.inner.Put.{IsPut};
 
+use crate::form::is_inside;
 use lp_base::Memory;
 use lp_standard::Kind;
 use lp_term::{
@@ -100,8 +104,12 @@ fn put_value(
     value: TermId,
 ) -> Result<Option<TermId>, Memory>
     ensures kept { Extends bank.old bank.new }
+    ensures put { IfOk result (λ found. IfSome found (λ made. (b : Nodes) → Extends bank.new b → IsPut (tree b value.0) (tree b term.0) (tree b made.0))) }
 {
-    if term.0 >= bank.term_count() || value.0 >= bank.term_count() {
+    if !is_inside(bank, term) {
+        return Ok(None);
+    }
+    if !is_inside(bank, value) {
         return Ok(None);
     }
     if !bank.is_known_below(value, 0) {
@@ -119,10 +127,13 @@ pub(crate) fn put_values(
     values: &[TermId],
 ) -> Result<Option<TermId>, Memory>
     ensures kept { Extends bank.old bank.new }
+    ensures put { IfOk result (λ found. IfSome found (λ made. (b : Nodes) → Extends bank.new b → LooseBelow (length values.now) 0 (tree b term.0) →
+        tree b made.0 ≡ instantiate (λ k. at (terms_in b values.now) (length (terms_in b values.now) - suc k)) (tree b term.0))) }
 {
     let mut made = term;
-    for value in values.iter().rev() {
-        let Some(next) = put_value(alloc, bank, made, *value)? else {
+    for done in 0..values.len() {
+        let value = values[values.len() - 1 - done];
+        let Some(next) = put_value(alloc, bank, made, value)? else {
             return Ok(None);
         };
         made = next;

@@ -1,11 +1,13 @@
 // The judging of certificates.
-ghost use Rattle.std.specs.Prelude.{◌≡◌, ◌≤◌, ◌-◌, [], All, IfOk, IfSome, OnOk, length, take, true};
-ghost use Rattle.lp_term.specs.Nodes.{Extends};
-ghost use Rattle.lp_cert.specs.Certified.{Names, certificate_of, query_of};
+ghost use Rattle.std.specs.Prelude.{◌≡◌, List, [], ◌∷◌, All, IfOk, IfSome, OnOk, length, map, take, true};
+ghost use Rattle.lp_term.specs.Nodes.{Extends, Nodes, tree};
+ghost use Rattle.lp_cert.specs.Certified.{Certifies, certificate_of, ground_of, query_of};
 ghost use Rattle.lp_cert.specs.Facts.{AreInside, IsKnown};
-ghost use Rattle.lp_model.specs.Readings.{declared_by};
-ghost use Rattle.lp_cert.specs.inner.Named.{AreWitnessesIn, IsNamedIn, NamesIn, variable_types};
+ghost use Rattle.lp_cert.specs.Written.{Node, node_of};
+ghost use Rattle.lp_cert.specs.inner.Left.{CertifiesIn, IsFilledIn, IsIdle, Left, Proves, Stays, ground_in};
+ghost use Rattle.lp_cert.specs.inner.Named.{AreWitnessesIn, IsNamedIn, variable_types};
 
+use crate::form::is_inside;
 use crate::instance::{put_values, term_at, type_at};
 use crate::known::Known;
 use crate::typing::is_type_inside;
@@ -38,6 +40,7 @@ impl Work<'_> {
         requires known { IsKnown bank.old self.old.known }
         ensures kept { Extends bank.old bank.new }
         ensures known { OnOk result (IsKnown bank.new self.new.known) }
+        ensures stays { OnOk result (Stays self.old self.new) }
         ensures values { IfOk result (λ yes. yes ≡ true → self.old.eigens.items ≡ [] → AreInside (length bank.old.types) types.now → AreWitnessesIn bank.new self.old.theory.constants.now types.now values.now (variable_types query.now)) }
     {
         if values.len() != query.vars.len() {
@@ -68,7 +71,9 @@ impl Work<'_> {
         requires known { IsKnown bank.old self.old.known }
         ensures kept { Extends bank.old bank.new }
         ensures known { OnOk result (IsKnown bank.new self.new.known) }
+        ensures stays { OnOk result (Stays self.old self.new) }
         ensures named { IfOk result (λ found. IfSome found (λ goal. self.old.eigens.items ≡ [] → IsNamedIn bank.new self.old.theory.constants.now query.now types.now values.now)) }
+        ensures filled { IfOk result (λ found. IfSome found (λ goal. (b : Nodes) → Extends bank.new b → IsFilledIn b query.now types.now values.now goal)) }
     {
         if types.len() as u64 != query.type_vars {
             return Ok(None);
@@ -79,7 +84,13 @@ impl Work<'_> {
         if !self.are_values(bank, query, types, values)? {
             return Ok(None);
         }
+        if !is_inside(bank, query.formula) {
+            return Ok(None);
+        }
         let formula = term_at(self.alloc, bank, types, query.formula)?;
+        if !bank.is_known_below(formula, values.len() as u64) {
+            return Ok(None);
+        }
         put_values(self.alloc, bank, formula, values)
     }
 
@@ -87,11 +98,15 @@ impl Work<'_> {
         requires known { IsKnown bank.old self.old.known }
         ensures kept { Extends bank.old bank.new }
         ensures known { OnOk result (IsKnown bank.new self.new.known) }
+        ensures goes { IfOk result (λ turn. turn ≡ Turn.On → (b : Nodes) → Extends bank.new b → (ns : List Node) → Left b self.new ns → Left b self.old (node_of b node.now ∷ ns)) }
     {
-        match self.next() {
-            Some(Task::Prove(goal)) => self.prove(bank, goal, node),
-            Some(Task::Focus(clause, atom)) => self.focus(bank, clause, atom, node),
-            _ => Ok(Turn::No),
+        let Some(task) = self.next() else {
+            return Ok(Turn::No);
+        };
+        match task {
+            Task::Prove(goal) => self.prove(bank, goal, node),
+            Task::Focus(clause, atom) => self.focus(bank, clause, atom, node),
+            Task::LeaveEigen | Task::LeaveAssumed => Ok(Turn::No),
         }
     }
 
@@ -100,12 +115,15 @@ impl Work<'_> {
         requires known { IsKnown bank.old self.old.known }
         ensures kept { Extends bank.old bank.new }
         ensures known { OnOk result (IsKnown bank.new self.new.known) }
+        ensures proves { IfOk result (λ turn. turn ≡ Turn.On → IsIdle self.old → (b : Nodes) → Extends bank.new b → Proves (ground_in b self.old.theory) (tree b goal.0) (map (node_of b) nodes.now)) }
     {
         self.tasks.push(Task::Prove(goal))?;
         for node in nodes {
             let turn = self.step(bank, node)?;
-            if turn != Turn::On {
-                return Ok(turn);
+            match turn {
+                Turn::On => {}
+                Turn::No => return Ok(Turn::No),
+                Turn::Deep => return Ok(Turn::Deep),
             }
         }
         match self.next() {
@@ -123,7 +141,7 @@ impl Work<'_> {
         requires known { IsKnown bank.old self.old.known }
         ensures kept { Extends bank.old bank.new }
         ensures known { OnOk result (IsKnown bank.new self.new.known) }
-        ensures named { IfOk result (λ turn. turn ≡ Turn.On → self.old.eigens.items ≡ [] → NamesIn bank.new self.old.theory.constants.now query.now certificate.now) }
+        ensures certified { IfOk result (λ turn. turn ≡ Turn.On → IsIdle self.old → CertifiesIn bank.new self.old.theory.constants.now self.old.theory.clauses.now query.now certificate.now) }
     {
         let types = certificate.types.as_slice();
         let values = certificate.values.as_slice();
@@ -144,7 +162,7 @@ fn judge(
     certificates: &[Certificate],
 ) -> Result<CheckVerdict, Memory>
     ensures kept { Extends bank.old bank.new }
-    ensures accepted { IfOk result (λ v. v ≡ CheckVerdict.Accepted → All (NamesIn bank.new names.now.program.constants.items query.now) certificates.now) }
+    ensures accepted { IfOk result (λ v. v ≡ CheckVerdict.Accepted → All (CertifiesIn bank.new names.now.program.constants.items names.now.program.clauses.items query.now) certificates.now) }
 {
     let theory = Theory::of(names);
     let mut known = Known::new(alloc);
@@ -172,7 +190,7 @@ pub fn check(
     certificates: &[Certificate],
 ) -> Result<CheckVerdict, Memory>
     ensures kept { Extends names.old.program.bank names.new.program.bank }
-    ensures accepted { IfOk result (λ v. v ≡ CheckVerdict.Accepted → All (λ c. Names (declared_by names.new.program.bank names.new.program.constants.items) (query_of names.new.program.bank query.now) (certificate_of names.new.program.bank c)) certificates.now) }
+    ensures accepted { IfOk result (λ v. v ≡ CheckVerdict.Accepted → All (λ c. Certifies (ground_of names.new.program) (query_of names.new.program.bank query.now) (certificate_of names.new.program.bank c)) certificates.now) }
 {
     let mut bank = replace(&mut names.program.bank, Bank::new(alloc));
     let verdict = judge(alloc, &mut bank, names, query, certificates);

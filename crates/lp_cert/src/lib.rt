@@ -3,6 +3,8 @@
 
 // How many types the kinds and constants of a program take.
 mod arities;
+// Nodes that prove `t is e`, or an order of two expressions.
+mod arithmetic;
 // Why bytes are refused, and why certificates are.
 mod fault;
 // Files of certificates.

@@ -1,6 +1,6 @@
 // How a formula begins: a constant with types, on one or two terms.
-ghost use Rattle.std.specs.Prelude.{IfSome};
-ghost use Rattle.lp_term.specs.Nodes.{tree};
+ghost use Rattle.std.specs.Prelude.{◌<◌, IfSome, length};
+ghost use Rattle.lp_term.specs.Nodes.{Nodes, Extends, tree};
 ghost use Rattle.lp_cert.specs.Shape.{IsOne, IsOneOn, IsTwo, IsTwoOn, IsTwoWith};
 
 use lp_term::{Bank, TermId, TermNode, TypeId};
@@ -24,7 +24,8 @@ pub(crate) struct Two<'a> {
 
 // The head on the term as a constant on it, if it is one.
 fn one_applied<'a>(bank: &'a Bank, head: TermId, on: TermId) -> Option<One<'a>>
-    ensures { IfSome result (IsOneOn bank.now (tree bank.now head.0) on) }
+    ensures now { IfSome result (IsOneOn bank.now (tree bank.now head.0) on) }
+    ensures later { IfSome result (λ o. (b : Nodes) → Extends bank.now b → IsOneOn b (tree b head.0) on o) }
 {
     match bank.term_node(head) {
         TermNode::Const(constant, types) => Some(One {
@@ -38,7 +39,9 @@ fn one_applied<'a>(bank: &'a Bank, head: TermId, on: TermId) -> Option<One<'a>>
 
 // The term as a constant on one term, if it is one.
 pub(crate) fn one_of(bank: &Bank, term: TermId) -> Option<One<'_>>
-    ensures { IfSome result (IsOne bank.now (tree bank.now term.0)) }
+    ensures now { IfSome result (IsOne bank.now (tree bank.now term.0)) }
+    ensures later { IfSome result (λ o. (b : Nodes) → Extends bank.now b → IsOne b (tree b term.0) o) }
+    ensures inside { IfSome result (λ o. o.on.0 < length bank.now.terms) }
 {
     match bank.term_node(term) {
         TermNode::App(head, arguments) => {
@@ -53,7 +56,8 @@ pub(crate) fn one_of(bank: &Bank, term: TermId) -> Option<One<'_>>
 
 // The head on the two terms as a constant on them, if it is one.
 fn two_applied<'a>(bank: &'a Bank, head: TermId, left: TermId, right: TermId) -> Option<Two<'a>>
-    ensures { IfSome result (IsTwoOn bank.now (tree bank.now head.0) left right) }
+    ensures now { IfSome result (IsTwoOn bank.now (tree bank.now head.0) left right) }
+    ensures later { IfSome result (λ o. (b : Nodes) → Extends bank.now b → IsTwoOn b (tree b head.0) left right o) }
 {
     match bank.term_node(head) {
         TermNode::Const(constant, types) => Some(Two {
@@ -68,7 +72,8 @@ fn two_applied<'a>(bank: &'a Bank, head: TermId, left: TermId, right: TermId) ->
 
 // The head on one more term as a constant on two terms, if it is one.
 fn two_with<'a>(bank: &'a Bank, head: TermId, right: TermId) -> Option<Two<'a>>
-    ensures { IfSome result (IsTwoWith bank.now (tree bank.now head.0) right) }
+    ensures now { IfSome result (IsTwoWith bank.now (tree bank.now head.0) right) }
+    ensures later { IfSome result (λ o. (b : Nodes) → Extends bank.now b → IsTwoWith b (tree b head.0) right o) }
 {
     match one_of(bank, head) {
         Some(one) => Some(Two {
@@ -83,7 +88,8 @@ fn two_with<'a>(bank: &'a Bank, head: TermId, right: TermId) -> Option<Two<'a>>
 
 // The term as a constant on two terms, if it is one.
 pub(crate) fn two_of(bank: &Bank, term: TermId) -> Option<Two<'_>>
-    ensures { IfSome result (IsTwo bank.now (tree bank.now term.0)) }
+    ensures now { IfSome result (IsTwo bank.now (tree bank.now term.0)) }
+    ensures later { IfSome result (λ o. (b : Nodes) → Extends bank.now b → IsTwo b (tree b term.0) o) }
 {
     match bank.term_node(term) {
         TermNode::App(head, arguments) => {

@@ -1,7 +1,14 @@
 // The value of an expression in normal form.
+ghost use Rattle.std.specs.Prelude.{◌≡◌, ◌≤◌, ◌++◌, ◌∷◌, List, ℕ, reverse, IfOk, IfSome, true};
+ghost use Rattle.lp_calculus.specs.Term.{Term};
+ghost use Rattle.lp_standard.specs.Constants.{number as number_of};
+ghost use Rattle.lp_term.specs.Nodes.{Nodes, tree};
+ghost use Rattle.lp_model.specs.Values.{Bytes, Is, Number, Outcome, binary, is_one_place, is_two_place, ordered, term_of, unary, value as value_of_term};
+ghost use Rattle.lp_cert.specs.Shape.{IsOne, IsTwo};
+ghost use Rattle.lp_cert.specs.inner.Evaluated.{Begins, Gives, Leads, state_from, text_in, value_in, within};
 
 use crate::shape::{One, Two, one_of, two_of};
-use lp_base::{Compare, Memory};
+use lp_base::Memory;
 use lp_standard::Constant;
 use lp_term::{Bank, TermId, TermNode};
 use std::alloc::Global;
@@ -22,7 +29,7 @@ pub(crate) enum Value {
 // Strings one behind the other. One that is put behind another takes no new place where it stands there already.
 #[derive(Drop)]
 pub(crate) struct Texts {
-    bytes: Vec<u8>,
+    pub(crate) bytes: Vec<u8>,
 }
 
 // What stands around the part that is evaluated: an operation on it alone, one whose right operand follows, or one whose left value is known.
@@ -48,14 +55,17 @@ impl Texts {
         }
     }
 
-    pub(crate) fn of(&self, span: Span) -> &[u8] {
-        match self.bytes.as_slice().get(span.from..span.to) {
-            Some(bytes) => bytes,
-            None => &[],
-        }
+    // The bytes of a string, if they are there.
+    fn of(&self, span: Span) -> Option<&[u8]>
+        ensures { IfSome result (λ bytes. (end : List ℕ) → Begins self.now.bytes.items end → text_in end span ≡ bytes.now) }
+    {
+        self.bytes.as_slice().get(span.from..span.to)
     }
 
-    fn put(&mut self, bytes: &[u8]) -> Result<Span, Memory> {
+    fn put(&mut self, bytes: &[u8]) -> Result<Span, Memory>
+        ensures grows { (end : List ℕ) → Begins self.new.bytes.items end → Begins self.old.bytes.items end }
+        ensures put { IfOk result (λ s. (end : List ℕ) → Begins self.new.bytes.items end → text_in end s ≡ bytes.now) }
+    {
         let from = self.bytes.len();
         self.bytes.extend_from_slice(bytes)?;
         Ok(Span {
@@ -64,35 +74,110 @@ impl Texts {
         })
     }
 
-    // One string behind another.
-    fn joined(&mut self, alloc: Global, left: Span, right: Span) -> Result<Span, Memory> {
-        if left.from <= left.to && left.to == right.from && right.from <= right.to {
-            return Ok(Span {
+    // One string behind another, if they are there.
+    fn joined(&mut self, alloc: Global, left: Span, right: Span) -> Result<Option<Span>, Memory>
+        ensures grows { (end : List ℕ) → Begins self.new.bytes.items end → Begins self.old.bytes.items end }
+        ensures joined { IfOk result (λ found. IfSome found (λ s. (end : List ℕ) → Begins self.new.bytes.items end → text_in end s ≡ text_in end left ++ text_in end right)) }
+    {
+        if follows(left, right) {
+            return Ok(Some(Span {
                 from: left.from,
                 to: right.to,
-            });
+            }));
         }
-        let mut bytes = Vec::from_slice(alloc, self.of(left))?;
-        bytes.extend_from_slice(self.of(right))?;
-        self.put(bytes.as_slice())
+        let Some(first) = self.of(left) else {
+            return Ok(None);
+        };
+        let Some(second) = self.of(right) else {
+            return Ok(None);
+        };
+        let mut bytes = Vec::from_slice(alloc, first)?;
+        bytes.extend_from_slice(second)?;
+        let made = self.put(bytes.as_slice())?;
+        Ok(Some(made))
     }
 }
 
-fn number(value: Option<i64>) -> State {
+// Whether the second string stands behind the first.
+fn follows(left: Span, right: Span) -> bool
+    ensures { result ≡ true → (left.from ≤ left.to) × (left.to ≡ right.from) × (right.from ≤ right.to) }
+{
+    if left.from > left.to {
+        return false;
+    }
+    if left.to != right.from {
+        return false;
+    }
+    right.from <= right.to
+}
+
+fn state_of(value: Option<i64>) -> State
+    ensures { result ≡ state_from value }
+{
     match value {
         Some(value) => State::Known(Value::Number(value)),
         None => State::None,
     }
 }
 
-fn on_numbers(operation: Constant, left: i64, right: i64) -> State {
+fn on_numbers(operation: Constant, left: i64, right: i64) -> State
+    ensures { (end : List ℕ) → Gives end result (binary (number_of operation) (Number left) (Number right)) }
+{
     match operation {
-        Constant::Add => number(left.checked_add(right)),
-        Constant::Subtract => number(left.checked_sub(right)),
-        Constant::Multiply => number(left.checked_mul(right)),
-        Constant::Divide => number(left.checked_div(right)),
-        Constant::Remainder => number(left.checked_rem(right)),
+        Constant::Add => state_of(left.checked_add(right)),
+        Constant::Subtract => state_of(left.checked_sub(right)),
+        Constant::Multiply => state_of(left.checked_mul(right)),
+        Constant::Divide => state_of(left.checked_div(right)),
+        Constant::Remainder => state_of(left.checked_rem(right)),
         _ => State::None,
+    }
+}
+
+// One string behind another, where the operation does that.
+fn on_texts(
+    alloc: Global,
+    texts: &mut Texts,
+    operation: Constant,
+    left: Span,
+    right: Span,
+) -> Result<State, Memory>
+    ensures grows { (end : List ℕ) → Begins texts.new.bytes.items end → Begins texts.old.bytes.items end }
+    ensures gives { IfOk result (λ s. (end : List ℕ) → Begins texts.new.bytes.items end → Gives end s (binary (number_of operation) (Bytes (text_in end left)) (Bytes (text_in end right)))) }
+{
+    match operation {
+        Constant::Concatenate => {
+            let joined = texts.joined(alloc, left, right)?;
+            match joined {
+                Some(text) => Ok(State::Known(Value::Text(text))),
+                None => Ok(State::None),
+            }
+        }
+        _ => Ok(State::None),
+    }
+}
+
+fn on_number_with(operation: Constant, left: i64, right: Value) -> State
+    ensures { (end : List ℕ) → Gives end result (binary (number_of operation) (Number left) (value_in end right)) }
+{
+    match right {
+        Value::Number(other) => on_numbers(operation, left, other),
+        Value::Text(_) => State::None,
+    }
+}
+
+fn on_text_with(
+    alloc: Global,
+    texts: &mut Texts,
+    operation: Constant,
+    left: Span,
+    right: Value,
+) -> Result<State, Memory>
+    ensures grows { (end : List ℕ) → Begins texts.new.bytes.items end → Begins texts.old.bytes.items end }
+    ensures gives { IfOk result (λ s. (end : List ℕ) → Begins texts.new.bytes.items end → Gives end s (binary (number_of operation) (Bytes (text_in end left)) (value_in end right))) }
+{
+    match right {
+        Value::Number(_) => Ok(State::None),
+        Value::Text(other) => on_texts(alloc, texts, operation, left, other),
     }
 }
 
@@ -102,43 +187,53 @@ fn on_two(
     operation: Constant,
     left: Value,
     right: Value,
-) -> Result<State, Memory> {
+) -> Result<State, Memory>
+    ensures grows { (end : List ℕ) → Begins texts.new.bytes.items end → Begins texts.old.bytes.items end }
+    ensures gives { IfOk result (λ s. (end : List ℕ) → Begins texts.new.bytes.items end → Gives end s (binary (number_of operation) (value_in end left) (value_in end right))) }
+{
     match left {
-        Value::Number(one) => match right {
-            Value::Number(other) => Ok(on_numbers(operation, one, other)),
-            Value::Text(_) => Ok(State::None),
-        },
-        Value::Text(one) => match right {
-            Value::Number(_) => Ok(State::None),
-            Value::Text(other) => {
-                if operation != Constant::Concatenate {
-                    return Ok(State::None);
-                }
-                let text = texts.joined(alloc, one, other)?;
-                Ok(State::Known(Value::Text(text)))
-            }
-        },
+        Value::Number(one) => Ok(on_number_with(operation, one, right)),
+        Value::Text(one) => on_text_with(alloc, texts, operation, one, right),
     }
 }
 
-fn on_one(texts: &Texts, operation: Constant, operand: Value) -> State {
+fn on_number(operation: Constant, operand: i64) -> State
+    ensures { (end : List ℕ) → Gives end result (unary (number_of operation) (Number operand)) }
+{
+    match operation {
+        Constant::Negate => state_of(operand.checked_neg()),
+        _ => State::None,
+    }
+}
+
+// How many bytes there are, where the operation asks that.
+fn on_bytes(operation: Constant, bytes: &[u8]) -> State
+    ensures { (end : List ℕ) → Gives end result (unary (number_of operation) (Bytes bytes.now)) }
+{
+    match operation {
+        Constant::Size => match i64::try_from(bytes.len()) {
+            Ok(size) => State::Known(Value::Number(size)),
+            Err(_) => State::None,
+        },
+        _ => State::None,
+    }
+}
+
+fn on_one(texts: &Texts, operation: Constant, operand: Value) -> State
+    ensures { (end : List ℕ) → Begins texts.now.bytes.items end → Gives end result (unary (number_of operation) (value_in end operand)) }
+{
     match operand {
-        Value::Number(value) => {
-            if operation != Constant::Negate {
-                return State::None;
-            }
-            number(value.checked_neg())
-        }
-        Value::Text(text) => {
-            if operation != Constant::Size {
-                return State::None;
-            }
-            number(i64::try_from(texts.of(text).len()).ok())
-        }
+        Value::Number(value) => on_number(operation, value),
+        Value::Text(text) => match texts.of(text) {
+            Some(bytes) => on_bytes(operation, bytes),
+            None => State::None,
+        },
     }
 }
 
-fn is_on_two(operation: Constant) -> bool {
+fn is_on_two(operation: Constant) -> bool
+    ensures { result ≡ true → is_two_place (number_of operation) ≡ true }
+{
     match operation {
         Constant::Add
         | Constant::Subtract
@@ -150,14 +245,18 @@ fn is_on_two(operation: Constant) -> bool {
     }
 }
 
-fn is_on_one(operation: Constant) -> bool {
+fn is_on_one(operation: Constant) -> bool
+    ensures { result ≡ true → is_one_place (number_of operation) ≡ true }
+{
     match operation {
         Constant::Negate | Constant::Size => true,
         _ => false,
     }
 }
 
-fn enter_two(around: &mut Vec<Around>, two: Two<'_>) -> Result<State, Memory> {
+fn enter_two(around: &mut Vec<Around>, two: Two<'_>) -> Result<State, Memory>
+    ensures { IfOk result (λ s. (b : Nodes) (end : List ℕ) (t : Term) (o : Outcome) → IsTwo b t two.entry → o ≡ within b end (reverse around.old.items) (value_of_term t) → Leads b end s (reverse around.new.items) o) }
+{
     let Some(operation) = Constant::from_number(two.constant) else {
         return Ok(State::None);
     };
@@ -168,7 +267,9 @@ fn enter_two(around: &mut Vec<Around>, two: Two<'_>) -> Result<State, Memory> {
     Ok(State::Visit(two.left))
 }
 
-fn enter_one(around: &mut Vec<Around>, one: One<'_>) -> Result<State, Memory> {
+fn enter_one(around: &mut Vec<Around>, one: One<'_>) -> Result<State, Memory>
+    ensures { IfOk result (λ s. (b : Nodes) (end : List ℕ) (t : Term) (o : Outcome) → IsOne b t one.entry → o ≡ within b end (reverse around.old.items) (value_of_term t) → Leads b end s (reverse around.new.items) o) }
+{
     let Some(operation) = Constant::from_number(one.constant) else {
         return Ok(State::None);
     };
@@ -179,7 +280,9 @@ fn enter_one(around: &mut Vec<Around>, one: One<'_>) -> Result<State, Memory> {
     Ok(State::Visit(one.on))
 }
 
-fn enter_application(bank: &Bank, around: &mut Vec<Around>, term: TermId) -> Result<State, Memory> {
+fn enter_application(bank: &Bank, around: &mut Vec<Around>, term: TermId) -> Result<State, Memory>
+    ensures { IfOk result (λ s. (end : List ℕ) (o : Outcome) → o ≡ within bank.now end (reverse around.old.items) (value_of_term (tree bank.now term.0)) → Leads bank.now end s (reverse around.new.items) o) }
+{
     if let Some(two) = two_of(bank, term) {
         return enter_two(around, two);
     }
@@ -195,7 +298,10 @@ fn enter(
     texts: &mut Texts,
     around: &mut Vec<Around>,
     term: TermId,
-) -> Result<State, Memory> {
+) -> Result<State, Memory>
+    ensures grows { (end : List ℕ) → Begins texts.new.bytes.items end → Begins texts.old.bytes.items end }
+    ensures leads { IfOk result (λ s. (end : List ℕ) → Begins texts.new.bytes.items end → (o : Outcome) → o ≡ within bank.now end (reverse around.old.items) (value_of_term (tree bank.now term.0)) → Leads bank.now end s (reverse around.new.items) o) }
+{
     match bank.term_node(term) {
         TermNode::Int(value) => Ok(State::Known(Value::Number(value))),
         TermNode::Text(bytes) => {
@@ -214,7 +320,10 @@ fn leave(
     around: &mut Vec<Around>,
     innermost: Around,
     value: Value,
-) -> Result<State, Memory> {
+) -> Result<State, Memory>
+    ensures grows { (end : List ℕ) → Begins texts.new.bytes.items end → Begins texts.old.bytes.items end }
+    ensures leads { IfOk result (λ s. (b : Nodes) (end : List ℕ) → Begins texts.new.bytes.items end → (o : Outcome) → o ≡ within b end (innermost ∷ reverse around.old.items) (Is (value_in end value)) → Leads b end s (reverse around.new.items) o) }
+{
     match innermost {
         Around::One(operation) => Ok(on_one(texts, operation, value)),
         Around::Left(operation, right) => {
@@ -231,10 +340,12 @@ pub(crate) fn value_of(
     bank: &Bank,
     texts: &mut Texts,
     term: TermId,
-) -> Result<Option<Value>, Memory> {
+) -> Result<Option<Value>, Memory>
+    ensures { IfOk result (λ found. IfSome found (λ v. (end : List ℕ) → Begins texts.new.bytes.items end → value_of_term (tree bank.now term.0) ≡ Is (value_in end v))) }
+{
     let mut around = Vec::new(alloc);
     let mut state = State::Visit(term);
-    for _ in 0..u64::MAX {
+    'parts: for _ in 0..u64::MAX {
         match state {
             State::Visit(next) => {
                 state = enter(bank, texts, &mut around, next)?;
@@ -253,43 +364,66 @@ pub(crate) fn value_of(
     Err(Memory)
 }
 
+// The integer that an expression in normal form comes to, if it does.
+pub(crate) fn integer_of(alloc: Global, bank: &Bank, term: TermId) -> Result<Option<i64>, Memory>
+    ensures { IfOk result (λ found. IfSome found (λ z. value_of_term (tree bank.now term.0) ≡ Is (Number z))) }
+{
+    let mut texts = Texts::new(alloc);
+    let found = value_of(alloc, bank, &mut texts, term)?;
+    match found {
+        Some(value) => match value {
+            Value::Number(number) => Ok(Some(number)),
+            Value::Text(_) => Ok(None),
+        },
+        None => Ok(None),
+    }
+}
+
+// Whether a term in normal form is the string.
+fn is_text(bank: &Bank, term: TermId, text: &[u8]) -> bool
+    ensures { result ≡ true → tree bank.now term.0 ≡ term_of (Bytes text.now) }
+{
+    match bank.term_node(term) {
+        TermNode::Text(bytes) => text == bytes,
+        _ => false,
+    }
+}
+
+// Whether a term in normal form is the integer.
+fn is_integer(bank: &Bank, term: TermId, number: i64) -> bool
+    ensures { result ≡ true → tree bank.now term.0 ≡ term_of (Number number) }
+{
+    match bank.term_node(term) {
+        TermNode::Int(other) => number == other,
+        _ => false,
+    }
+}
+
 // Whether a term in normal form is the value.
-pub(crate) fn is_value(bank: &Bank, texts: &Texts, term: TermId, value: Value) -> bool {
+pub(crate) fn is_value(bank: &Bank, texts: &Texts, term: TermId, value: Value) -> bool
+    ensures { result ≡ true → (end : List ℕ) → Begins texts.now.bytes.items end → tree bank.now term.0 ≡ term_of (value_in end value) }
+{
     match value {
-        Value::Number(number) => match bank.term_node(term) {
-            TermNode::Int(other) => number == other,
-            _ => false,
-        },
-        Value::Text(span) => match bank.term_node(term) {
-            TermNode::Text(bytes) => texts.of(span) == bytes,
-            _ => false,
+        Value::Number(number) => is_integer(bank, term, number),
+        Value::Text(span) => match texts.of(span) {
+            Some(text) => is_text(bank, term, text),
+            None => false,
         },
     }
 }
 
-// The order that a constant names.
-pub(crate) fn order_of(constant: u32) -> Option<Compare> {
-    match Constant::from_number(constant) {
-        Some(Constant::Less) => Some(Compare::Less),
-        Some(Constant::Greater) => Some(Compare::Greater),
-        Some(Constant::AtMost) => Some(Compare::AtMost),
-        Some(Constant::AtLeast) => Some(Compare::AtLeast),
-        _ => None,
+// Whether the integers are in the order that a constant names.
+pub(crate) fn are_ordered(order: u32, left: i64, right: i64) -> bool
+    ensures { result ≡ ordered order left right }
+{
+    if order == Constant::Less.number() {
+        return left < right;
     }
-}
-
-// Whether both are integers, in that order.
-pub(crate) fn are_ordered(order: Compare, left: Value, right: Value) -> bool {
-    match left {
-        Value::Number(one) => match right {
-            Value::Number(other) => match order {
-                Compare::Less => one < other,
-                Compare::Greater => one > other,
-                Compare::AtMost => one <= other,
-                Compare::AtLeast => one >= other,
-            },
-            Value::Text(_) => false,
-        },
-        Value::Text(_) => false,
+    if order == Constant::Greater.number() {
+        return left > right;
     }
+    if order == Constant::AtMost.number() {
+        return left <= right;
+    }
+    left >= right
 }

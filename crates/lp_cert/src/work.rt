@@ -1,10 +1,12 @@
 // What is still to be shown.
-ghost use Rattle.std.specs.Prelude.{◌≡◌, [], length, IfOk, OnOk, true};
+ghost use Rattle.std.specs.Prelude.{◌≡◌, ◌<◌, List, [], None, length, IfOk, IfSome, OnOk, true};
 ghost use Rattle.lp_term.specs.Nodes.{Extends, Nodes, tree};
 ghost use Rattle.lp_calculus.specs.Closed.{IsClosedAt};
 ghost use Rattle.lp_calculus.specs.Convert.{Converts};
 ghost use Rattle.lp_standard.specs.Positive.{is_positive};
 ghost use Rattle.lp_cert.specs.Facts.{IsKnown};
+ghost use Rattle.lp_cert.specs.Written.{Node};
+ghost use Rattle.lp_cert.specs.inner.Left.{Left, LeftWith, Stays, job_of};
 ghost use Rattle.lp_cert.specs.inner.Named.{IsOf, IsWitnessIn};
 
 use crate::form::{Compared, compare};
@@ -53,7 +55,8 @@ pub(crate) struct Work<'a> {
 
 impl<'a> Theory<'a> {
     pub(crate) fn of(names: &'a Assembled) -> Theory<'a>
-        ensures { result.constants.now ≡ names.now.program.constants.items }
+        ensures constants { result.constants.now ≡ names.now.program.constants.items }
+        ensures clauses { result.clauses.now ≡ names.now.program.clauses.items }
     {
         Theory {
             constants: names.program.constants.as_slice(),
@@ -68,6 +71,8 @@ impl<'a> Work<'a> {
         ensures theory { result.theory ≡ theory.entry }
         ensures known { result.known ≡ known }
         ensures eigens { result.eigens.items ≡ [] }
+        ensures assumed { result.assumed.items ≡ [] }
+        ensures tasks { result.tasks.items ≡ [] }
     {
         Work {
             alloc,
@@ -96,8 +101,8 @@ impl<'a> Work<'a> {
         requires known { IsKnown bank.old self.old.known }
         ensures kept { Extends bank.old bank.new }
         ensures known { OnOk result (IsKnown bank.new self.new.known) }
-        ensures eigens { OnOk result (self.new.eigens ≡ self.old.eigens) }
-        ensures theory { OnOk result (self.new.theory ≡ self.old.theory) }
+        ensures stays { OnOk result (Stays self.old self.new) }
+        ensures inside { IfOk result (λ yes. yes ≡ true → term.0 < length bank.new.terms) }
         ensures typed { IfOk result (λ yes. yes ≡ true → (b : Nodes) → Extends bank.new b → IsOf b self.old term of) }
         ensures closed { IfOk result (λ yes. yes ≡ true → IsClosedAt (length self.old.eigens.items) (tree bank.old term.0)) }
     {
@@ -129,8 +134,8 @@ impl<'a> Work<'a> {
         requires known { IsKnown bank.old self.old.known }
         ensures kept { Extends bank.old bank.new }
         ensures known { OnOk result (IsKnown bank.new self.new.known) }
-        ensures eigens { OnOk result (self.new.eigens ≡ self.old.eigens) }
-        ensures theory { OnOk result (self.new.theory ≡ self.old.theory) }
+        ensures stays { OnOk result (Stays self.old self.new) }
+        ensures inside { IfOk result (λ yes. yes ≡ true → term.0 < length bank.new.terms) }
         ensures witness { IfOk result (λ yes. yes ≡ true → (b : Nodes) → Extends bank.new b → IsWitnessIn b self.old term of) }
         ensures closed { IfOk result (λ yes. yes ≡ true → IsClosedAt (length self.old.eigens.items) (tree bank.old term.0)) }
         ensures positive { IfOk result (λ yes. yes ≡ true → is_positive (tree bank.old term.0) ≡ true) }
@@ -150,7 +155,9 @@ impl<'a> Work<'a> {
         requires known { IsKnown bank.old self.old.known }
         ensures kept { Extends bank.old bank.new }
         ensures known { OnOk result (IsKnown bank.new self.new.known) }
+        ensures stays { OnOk result (Stays self.old self.new) }
         ensures same { IfOk result (λ c. c ≡ Compared.Same → Converts (tree bank.old left.0) (tree bank.old right.0)) }
+        ensures later { IfOk result (λ c. c ≡ Compared.Same → (b : Nodes) → Extends bank.new b → Converts (tree b left.0) (tree b right.0)) }
     {
         compare(self.alloc, &mut self.known, bank, left, right)
     }
@@ -169,17 +176,21 @@ impl<'a> Work<'a> {
     // The next goal or focus, behind what is to be left before it.
     pub(crate) fn next(&mut self) -> Option<Task>
         ensures same { self.new.known ≡ self.old.known }
+        ensures some { IfSome result (λ task. (b : Nodes) → (ns : List Node) → LeftWith b self.new (job_of b task) ns → Left b self.old ns) }
+        ensures none { result ≡ None → (b : Nodes) → Left b self.old [] }
     {
-        for _ in 0..=self.tasks.len() {
-            match self.tasks.pop() {
-                None => return None,
-                Some(Task::LeaveEigen) => {
+        'tasks: while let Some(task) = self.tasks.pop() {
+            match task {
+                Task::LeaveEigen => {
                     let _left = self.eigens.pop();
+                    continue;
                 }
-                Some(Task::LeaveAssumed) => {
+                Task::LeaveAssumed => {
                     let _left = self.assumed.pop();
+                    continue;
                 }
-                Some(task) => return Some(task),
+                Task::Prove(goal) => return Some(Task::Prove(goal)),
+                Task::Focus(clause, atom) => return Some(Task::Focus(clause, atom)),
             }
         }
         None

@@ -1,5 +1,11 @@
-use Rattle.lp_term.specs.Nodes.{Extends}
+use Rattle.std.proofs.Common.{reverse, take}
+use Rattle.lp_term.specs.Nodes.{Nodes, Extends, tree}
+use Rattle.lp_cert.specs.Same.{terms_in}
+use Rattle.lp_cert.specs.inner.Put.{ArePut}
 use Rattle.lp_cert.proofs.instance.put_values.Given as goal
 
-abbrev pub invariant-loop-value : goal.invariant-loop-value
-invariant-loop-value l = Extends l.fn.bank l.bank
+abbrev pub invariant-loop-done : goal.invariant-loop-done
+invariant-loop-done l = record {
+  kept : Extends l.fn.bank l.bank;
+  put : (b : Nodes) → Extends l.bank b → ArePut (take l.done (reverse (terms_in b l.fn.values))) (tree b l.fn.term.0) (tree b l.made.0);
+}

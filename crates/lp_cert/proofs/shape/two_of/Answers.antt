@@ -1,12 +1,23 @@
 use Rattle.std.proofs.Common.{arith}
 use Rattle.lp_term.specs.Nodes.{tree}
-use Rattle.lp_cert.proofs.Beginnings.{two_on, two_with_on}
+use Rattle.lp_cert.proofs.Beginnings.{two_on, two_with_on, two_on_later, two_with_on_later}
+use Rattle.lp_cert.proofs.Later.{seen_later}
 use Rattle.lp_cert.proofs.shape.two_of.Goals as goal
 
-pub returns-then-arguments-eq1 : goal.returns-then-arguments-eq1
-returns-then-arguments-eq1 c =
-    two_with_on c.args.bank.now (tree c.args.bank.now c.in-App.head.0) (tree c.args.bank.now c.args.term.0) c.in-App.arguments.now c.two_with.result (omega (arith, c.if-arguments-eq1.true)) c.in-App.ensures.tree c.two_with.ensures
+pub returns-then-arguments-eq1-clause-now : goal.returns-then-arguments-eq1-clause-now
+returns-then-arguments-eq1-clause-now c =
+    two_with_on c.args.bank.now (tree c.args.bank.now c.in-App.head.0) (tree c.args.bank.now c.args.term.0) c.in-App.arguments.now c.two_with.result (omega (arith, c.if-arguments-eq1.true)) c.in-App.ensures.tree c.two_with.ensures.now
 
-pub returns-else-arguments-ne2 : goal.returns-else-arguments-ne2
-returns-else-arguments-ne2 c =
-    two_on c.args.bank.now (tree c.args.bank.now c.in-App.head.0) (tree c.args.bank.now c.args.term.0) c.in-App.arguments.now c.two_applied.result (omega (arith, c.if-arguments-ne2.false)) c.in-App.ensures.tree c.two_applied.ensures
+pub returns-then-arguments-eq1-clause-later : goal.returns-then-arguments-eq1-clause-later
+returns-then-arguments-eq1-clause-later c =
+    two_with_on_later c.args.bank.now c.in-App.head.0 c.args.term.0 c.in-App.arguments.now c.two_with.result (omega (arith, c.if-arguments-eq1.true))
+    (λ b e. seen_later c.args.bank.now b c.args.term.0 _ e c.in-App.ensures.node (λ q. absurd (cc)) c.in-App.ensures.within c.in-App.ensures.tree) c.two_with.ensures.later
+
+pub returns-else-arguments-ne2-clause-now : goal.returns-else-arguments-ne2-clause-now
+returns-else-arguments-ne2-clause-now c =
+    two_on c.args.bank.now (tree c.args.bank.now c.in-App.head.0) (tree c.args.bank.now c.args.term.0) c.in-App.arguments.now c.two_applied.result (omega (arith, c.if-arguments-ne2.false)) c.in-App.ensures.tree c.two_applied.ensures.now
+
+pub returns-else-arguments-ne2-clause-later : goal.returns-else-arguments-ne2-clause-later
+returns-else-arguments-ne2-clause-later c =
+    two_on_later c.args.bank.now c.in-App.head.0 c.args.term.0 c.in-App.arguments.now c.two_applied.result (omega (arith, c.if-arguments-ne2.false))
+    (λ b e. seen_later c.args.bank.now b c.args.term.0 _ e c.in-App.ensures.node (λ q. absurd (cc)) c.in-App.ensures.within c.in-App.ensures.tree) c.two_applied.ensures.later

@@ -4,6 +4,9 @@ use Rattle.lp_term.specs.Nodes.{tree, type_tree}
 use Rattle.lp_cert.proofs.Closing.{type_is_closed}
 use Rattle.lp_cert.proofs.Naming.{of_closed}
 use Rattle.lp_cert.proofs.Verdicts.{if_ok_always}
+use Rattle.std.proofs.Common.{refl, arith}
+use Rattle.lp_cert.proofs.Later.{closed_inside}
+use Rattle.lp_cert.proofs.Going.{stays_where}
 use Rattle.lp_cert.proofs.work.Work.is_closed_of.Goals as goal
 
 pub returns-clause-closed : goal.returns-clause-closed
@@ -15,3 +18,12 @@ pub returns-clause-typed : goal.returns-clause-typed
 returns-clause-typed c =
     of_closed c.args.bank.now c.has_type.new.bank c.args.self.now c.as_slice.result.now c.level-level.result c.args.term c.args.of c.has_type.result c.as_slice.ensures.value c.level-level.ensures c.has_type.ensures.kept (c.in_ok-is_closed_at.ensures.closed c.if-not-branch.false)
     (type_is_closed (type_tree c.args.bank.now c.args.of.0) (sym c.in_ok-is_closed_type.ensures.closed ∙ c.if-not-branch-2.false)) c.has_type.ensures.typed
+
+pub returns-clause-stays : goal.returns-clause-stays
+returns-clause-stays c = stays_where c.has_type.result _ _ (record { theory = refl; eigens = refl; assumed = refl; tasks = refl })
+
+pub returns-clause-inside : goal.returns-clause-inside
+returns-clause-inside c = if_ok_always c.has_type.result _ (λ yes e.
+    let l = closed_inside c.args.bank.now _ c.args.term.0 (c.in_ok-is_closed_at.ensures.closed c.if-not-branch.false) in
+    let m = c.has_type.ensures.kept.more_terms in
+    omega (arith, l, m))

@@ -1,5 +1,15 @@
-use Rattle.std.proofs.Common.{◌≡◌}
+use Rattle.std.proofs.Common.{◌≡◌, length}
+use Rattle.std.specs.Prelude.{List}
+use Rattle.lp_term.specs.Nodes.{Nodes}
+use Rattle.lp_cert.specs.Written.{Node}
+use Rattle.lp_cert.specs.inner.Left.{Left}
 use Rattle.lp_cert.proofs.work.Work.next.Given as goal
 
-abbrev pub invariant-loop : goal.invariant-loop
-invariant-loop l = l.self.known ≡ l.fn.self.known
+abbrev pub invariant-tasks : goal.invariant-tasks
+invariant-tasks l = record {
+  known : l.self.known ≡ l.fn.self.known;
+  left : (b : Nodes) → (ns : List Node) → Left b l.self ns → Left b l.fn.self ns;
+}
+
+abbrev pub decreases-tasks : goal.decreases-tasks
+decreases-tasks l = length l.self.tasks.items

@@ -1,0 +1,9 @@
+use Rattle.lp_term.specs.Nodes.{tree}
+use Rattle.lp_cert.proofs.Stepping.{goes_on}
+use Rattle.lp_cert.proofs.Going.{both_goes}
+use Rattle.lp_cert.proofs.work.Work.both.Goals as goal
+
+pub returns-clause-goes : goal.returns-clause-goes
+returns-clause-goes c =
+    goes_on c.go_on.result _ _ c.go_on.ensures.left (λ p b g ns h.
+    both_goes b c.args.self.now ns c.push.new.self.items (tree b c.args.goal.0) (tree b c.in-Some.left.0) c.in-Some.right c.in_ok-push.ensures.items (c.in-Some.ensures.later b g) (p b ns h))

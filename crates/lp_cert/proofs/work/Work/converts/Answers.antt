@@ -1,0 +1,9 @@
+use Rattle.std.proofs.Common.{refl}
+use Rattle.lp_cert.proofs.Going.{converts_where, stays_where}
+use Rattle.lp_cert.proofs.work.Work.converts.Goals as goal
+
+pub returns-clause-stays : goal.returns-clause-stays
+returns-clause-stays c = stays_where c.compare.result _ _ (record { theory = refl; eigens = refl; assumed = refl; tasks = refl })
+
+pub returns-clause-later : goal.returns-clause-later
+returns-clause-later c = converts_where c.compare.result c.args.bank.now c.compare.new.bank c.args.left c.args.right c.compare.ensures.kept c.compare.ensures.same c.compare.ensures.inside
