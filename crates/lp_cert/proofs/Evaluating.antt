@@ -145,9 +145,6 @@ text_put bs xs all s f t e end g = ap (λ n. slice_range end n s.to) f ∙ put_t
 pub begins_more : (bs xs all end : List ℕ) → all ≡ bs ++ xs → Begins all end → Begins bs end
 begins_more bs xs all end e g = (xs ++ g.0, g.1 ∙ ap (λ ys. ys ++ g.0) e ∙ append_assoc bs xs g.0)
 
-pub begins_same : (bs all end : List ℕ) → all ≡ bs → Begins all end → Begins bs end
-begins_same bs all end e g = subst (λ ys. Begins ys end) e g
-
 pub begins_itself : (bs : List ℕ) → Begins bs bs
 begins_itself bs = ([], sym (append_nil bs))
   where

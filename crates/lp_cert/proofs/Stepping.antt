@@ -36,9 +36,6 @@ use Rattle.lp_base.specs.declared.memory.Memory.{Memory}
 pub without_pushed : {A : Type 0} (xs : List A) (x : A) → without_last (xs ++ x ∷ []) ≡ xs
 without_pushed xs x = ap (λ n. take n (xs ++ x ∷ [])) (let l = length_push_suc xs x in omega (arith, l)) ∙ take-append_seam xs (x ∷ [])
 
-pub without_popped : {A B : Type 0} (f : A → B) (all xs : List A) (x : A) → all ≡ xs ++ x ∷ [] → without_last (map f all) ≡ map f xs
-without_popped f all xs x e = ap without_last (map_pushed f xs all x e) ∙ without_pushed (map f xs) (f x)
-
 -- one more task is one more job before the others
 pub job_pushed : (b : Nodes) (all ts : List Task) (t : Task) → all ≡ ts ++ t ∷ [] → jobs_of b all ≡ job_of b t ∷ jobs_of b ts
 job_pushed b all ts t e = reverse_pushed (map (job_of b) all) (map (job_of b) ts) (job_of b t) (map_pushed (job_of b) ts all t e)

@@ -1,5 +1,5 @@
 // Nodes that prove a goal.
-ghost use Rattle.std.specs.Prelude.{◌≡◌, ◌<◌, ◌⊎◌, List, [], ◌∷◌, ◌++◌, length, map, slice_get, IfOk, IfSome, OnOk, Some, true};
+ghost use Rattle.std.specs.Prelude.{◌≡◌, ◌<◌, ◌⊎◌, List, [], ◌∷◌, length, IfOk, IfSome, OnOk, true};
 ghost use Rattle.lp_calculus.specs.Types.{Ty};
 ghost use Rattle.lp_calculus.specs.Term.{app, atom, constant};
 ghost use Rattle.lp_calculus.specs.Spine.{head_of};
@@ -10,12 +10,11 @@ ghost use Rattle.lp_standard.specs.Constants.{number};
 ghost use Rattle.lp_standard.specs.Numbers.{And, Cut, Equal, True};
 ghost use Rattle.lp_term.specs.Nodes.{Extends, Nodes, tree, type_tree};
 ghost use Rattle.lp_model.specs.Proofs.{IsAtomHead, IsImplication};
-ghost use Rattle.lp_cert.specs.Facts.{IsKnown};
-ghost use Rattle.lp_cert.specs.Same.{terms_in, types_in};
+ghost use Rattle.lp_cert.specs.Facts.{AreInside, IsKnown};
+ghost use Rattle.lp_cert.specs.Same.{types_in};
 ghost use Rattle.lp_cert.specs.Shape.{IsEquation};
-ghost use Rattle.lp_cert.specs.Written.{Node, assuming, back_to, converted, counted, equated, general, left_side, node_of, pair, right_side, witness};
+ghost use Rattle.lp_cert.specs.Written.{Node, assuming, back_to, converted, general, left_side, node_of, pair, right_side, witness};
 ghost use Rattle.lp_cert.specs.inner.Left.{Goes, IsClauseIn, IsDeclared, Left, LeftWith, Stays, proving};
-ghost use Rattle.lp_cert.specs.Facts.{AreInside};
 
 use crate::arithmetic::computed;
 use crate::form::{Compared, is_inside};

@@ -1,5 +1,5 @@
 // The judging of certificates.
-ghost use Rattle.std.specs.Prelude.{◌≡◌, List, [], ◌∷◌, All, IfOk, IfSome, OnOk, length, map, take, true};
+ghost use Rattle.std.specs.Prelude.{◌≡◌, List, [], ◌∷◌, All, IfOk, IfSome, OnOk, length, map, true};
 ghost use Rattle.lp_term.specs.Nodes.{Extends, Nodes, tree};
 ghost use Rattle.lp_cert.specs.Certified.{Certifies, certificate_of, ground_of, query_of};
 ghost use Rattle.lp_cert.specs.Facts.{AreInside, IsKnown};
