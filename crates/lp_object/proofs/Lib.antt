@@ -1,1 +1,3 @@
 mod Pushed
+mod Grouped
+mod Waiting

@@ -1,0 +1,6 @@
+pub mod Numbers
+pub mod Plain
+pub mod Spelling
+pub mod Tables
+pub mod Files
+pub mod inner

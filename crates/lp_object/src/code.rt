@@ -1,8 +1,10 @@
 // The code of a record: one field, of instructions.
 
-ghost use Rattle.std.specs.Prelude.{IfOk};
-ghost use Rattle.std.specs.List.{All};
+ghost use Rattle.std.specs.Prelude.{◌≡◌, ◌++◌, IfOk, OnOk, map};
+ghost use Rattle.std.specs.List.{All, flat_map};
 ghost use Rattle.lp_code.specs.Length.{Fits};
+ghost use Rattle.lp_object.specs.Plain.{plain_instr};
+ghost use Rattle.lp_object.specs.Spelling.{spelled_instr, spelled_code};
 
 use crate::fault::{FormatFault, WriteRefusal};
 use crate::reader::Reader;
@@ -63,12 +65,28 @@ impl Reader<'_> {
 }
 
 impl Writer {
-    pub(crate) fn code(&mut self, alloc: Global, code: &[Instr]) -> Result<(), WriteRefusal> {
-        let mut inside = Writer::new(alloc, self.width);
+    // Instructions, one behind the other.
+    fn instructions(&mut self, width: Width, code: &[Instr]) -> Result<(), WriteRefusal>
+        ensures { OnOk result (self.new.bytes.items ≡ self.old.bytes.items ++ flat_map (spelled_instr width) (map plain_instr code.now)) }
+    {
         for instr in code {
-            inside.instruction(instr)?;
+            self.instruction(width, instr)?;
         }
-        self.count_four(inside.bytes.len())?;
+        Ok(())
+    }
+
+    #[tactic(auto, unfolding(crate::specs::Spelling::spelled_code))]
+    pub(crate) fn code(
+        &mut self,
+        alloc: Global,
+        width: Width,
+        code: &[Instr],
+    ) -> Result<(), WriteRefusal>
+        ensures { OnOk result (self.new.bytes.items ≡ self.old.bytes.items ++ spelled_code width (map plain_instr code.now)) }
+    {
+        let mut inside = Writer::new(alloc);
+        inside.instructions(width, code)?;
+        self.low_four(inside.bytes.len() as u64)?;
         self.put(inside.bytes.as_slice())
     }
 }

@@ -1,7 +1,10 @@
 // Images.
 
-ghost use Rattle.std.specs.Prelude.{◌<◌, ◌^◌, IfOk, length};
+ghost use Rattle.std.specs.Prelude.{◌≡◌, ◌<◌, ◌^◌, ◌++◌, IfOk, OnOk, length, map};
 ghost use Rattle.lp_code.specs.Length.{AllFit};
+ghost use Rattle.lp_object.specs.declared.width.Width.TheVariants.{Four};
+ghost use Rattle.lp_object.specs.Plain.{plain_image_kind, plain_image_constant, plain_image};
+ghost use Rattle.lp_object.specs.Files.{spelled_image_kind, spelled_image_kinds, spelled_image_constant, spelled_image_constants, spelled_image};
 
 use crate::fault::{FormatFault, WriteRefusal};
 use crate::names::Names;
@@ -131,43 +134,71 @@ pub fn read_image(alloc: Global, bytes: &[u8]) -> Result<Image, FormatFault>
 }
 
 impl Writer {
-    fn image_kinds(&mut self, kinds: &[ImageKind]) -> Result<(), WriteRefusal> {
-        self.count(kinds.len())?;
+    #[tactic(auto, unfolding(crate::specs::Files::spelled_image_kind))]
+    fn image_kind(&mut self, kind: &ImageKind) -> Result<(), WriteRefusal>
+        ensures { OnOk result (self.new.bytes.items ≡ self.old.bytes.items ++ spelled_image_kind (plain_image_kind kind.now)) }
+    {
+        self.text(kind.name.as_slice())?;
+        self.two(kind.hidden)?;
+        self.byte(kind.arity)
+    }
+
+    #[tactic(auto, unfolding(crate::specs::Files::spelled_image_kinds))]
+    fn image_kinds(&mut self, kinds: &[ImageKind]) -> Result<(), WriteRefusal>
+        ensures { OnOk result (self.new.bytes.items ≡ self.old.bytes.items ++ spelled_image_kinds Four (map plain_image_kind kinds.now)) }
+    {
+        self.low_four(kinds.len() as u64)?;
         for kind in kinds {
-            self.text(kind.name.as_slice())?;
-            self.two(kind.hidden)?;
-            self.byte(kind.arity)?;
+            self.image_kind(kind)?;
         }
         Ok(())
     }
 
+    #[tactic(auto, unfolding(crate::specs::Files::spelled_image_constant))]
+    fn image_constant(
+        &mut self,
+        alloc: Global,
+        bank: &Bank,
+        constant: &ImageConstant,
+    ) -> Result<(), WriteRefusal>
+        ensures { OnOk result (self.new.bytes.items ≡ self.old.bytes.items ++ spelled_image_constant Four (plain_image_constant bank.now constant.now)) }
+    {
+        self.text(constant.name.as_slice())?;
+        self.two(constant.hidden)?;
+        self.byte(constant.type_vars)?;
+        self.scheme(alloc, Width::Four, bank, constant.scheme)?;
+        self.fixity(constant.fixity)
+    }
+
+    #[tactic(auto, unfolding(crate::specs::Files::spelled_image_constants))]
     fn image_constants(
         &mut self,
         alloc: Global,
         bank: &Bank,
         constants: &[ImageConstant],
-    ) -> Result<(), WriteRefusal> {
-        self.count(constants.len())?;
+    ) -> Result<(), WriteRefusal>
+        ensures { OnOk result (self.new.bytes.items ≡ self.old.bytes.items ++ spelled_image_constants Four (map (plain_image_constant bank.now) constants.now)) }
+    {
+        self.low_four(constants.len() as u64)?;
         for constant in constants {
-            self.text(constant.name.as_slice())?;
-            self.two(constant.hidden)?;
-            self.byte(constant.type_vars)?;
-            self.scheme(alloc, bank, constant.scheme)?;
-            self.fixity(constant.fixity)?;
+            self.image_constant(alloc, bank, constant)?;
         }
         Ok(())
     }
 }
 
 /// The bytes that spell the image in version 2.
-pub fn write_image(alloc: Global, image: &Image) -> Result<Vec<u8>, WriteRefusal> {
-    let mut writer = Writer::new(alloc, Width::Four);
+#[tactic(auto, unfolding(crate::specs::Files::spelled_image, crate::specs::Files::spelled_parts))]
+pub fn write_image(alloc: Global, image: &Image) -> Result<Vec<u8>, WriteRefusal>
+    ensures spelled { IfOk result (λ bytes. bytes.items ≡ spelled_image (plain_image image.now)) }
+{
+    let mut writer = Writer::new(alloc);
     writer.put(b"LPIM")?;
     writer.two(2)?;
     writer.text(image.name.as_slice())?;
     writer.image_kinds(image.kinds.as_slice())?;
     writer.image_constants(alloc, &image.bank, image.constants.as_slice())?;
-    writer.records(alloc, &image.code)?;
+    writer.records(alloc, Width::Four, image.code.records.as_slice())?;
     writer.tables(alloc, image)?;
     Ok(writer.bytes)
 }

@@ -1,7 +1,11 @@
 // Instructions: the number of each, and its operands in order.
 
-ghost use Rattle.std.specs.Prelude.{IfOk};
+ghost use Rattle.std.specs.Prelude.{◌≡◌, ◌++◌, ◌∷◌, IfOk, OnOk};
+ghost use Rattle.std.specs.List.{flat_map};
 ghost use Rattle.lp_code.specs.Length.{Fits};
+ghost use Rattle.lp_object.specs.Numbers.{spelled_two, spelled_integer, spelled_number, spelled_text, spelled_few, spelled_many, spelled_numbered};
+ghost use Rattle.lp_object.specs.Plain.{plain_instr};
+ghost use Rattle.lp_object.specs.Spelling.{spelled_operand, spelled_instr};
 
 use crate::fault::{FormatFault, WriteRefusal};
 use crate::reader::Reader;
@@ -116,126 +120,185 @@ impl Reader<'_> {
     }
 }
 
-impl Writer {
-    // The number of the instruction, and registers.
-    fn plain(&mut self, byte: u8, registers: &[u16]) -> Result<(), WriteRefusal> {
-        self.byte(byte)?;
-        for register in registers {
-            self.two(*register)?;
-        }
-        Ok(())
+fn number_of(instr: &Instr) -> u8
+    ensures { result ≡ (plain_instr instr.now).number }
+{
+    match instr {
+        Instr::TyCon(..) => 0x01,
+        Instr::TyArr(..) => 0x02,
+        Instr::TyNew(..) => 0x03,
+        Instr::New(..) => 0x04,
+        Instr::PutConst(..) => 0x05,
+        Instr::PutInt(..) => 0x06,
+        Instr::PutStr(..) => 0x07,
+        Instr::PutIndex(..) => 0x08,
+        Instr::PutAbs(..) => 0x09,
+        Instr::PutApp(..) => 0x0a,
+        Instr::GetType(..) => 0x0b,
+        Instr::GetVar(..) => 0x0c,
+        Instr::Get(..) => 0x0d,
+        Instr::GetConst(..) => 0x0e,
+        Instr::GetInt(..) => 0x0f,
+        Instr::GetStr(..) => 0x10,
+        Instr::Neck => 0x11,
+        Instr::Call(..) => 0x12,
+        Instr::CallTerm(..) => 0x13,
+        Instr::Equal(..) => 0x14,
+        Instr::Is(..) => 0x15,
+        Instr::Less(..) => 0x16,
+        Instr::Greater(..) => 0x17,
+        Instr::AtMost(..) => 0x18,
+        Instr::AtLeast(..) => 0x19,
+        Instr::Cut => 0x1a,
+        Instr::Sigma(..) => 0x1b,
+        Instr::All(..) => 0x1c,
+        Instr::EndAll => 0x1d,
+        Instr::Assume(..) => 0x1e,
+        Instr::EndAssume => 0x1f,
+        Instr::Either(..) => 0x20,
+        Instr::Jump(..) => 0x21,
+        Instr::Proceed => 0x22,
+        Instr::Not => 0x23,
+        Instr::EndNot => 0x24,
     }
+}
 
-    // The number of the instruction, that of an argument, and a register.
-    fn matched(&mut self, byte: u8, argument: u8, register: u16) -> Result<(), WriteRefusal> {
-        self.byte(byte)?;
+impl Writer {
+    // The number of an argument, and a register.
+    fn argument(&mut self, argument: u8, register: u16) -> Result<(), WriteRefusal>
+        ensures { OnOk result (self.new.bytes.items ≡ self.old.bytes.items ++ argument ∷ spelled_two register) }
+    {
         self.byte(argument)?;
         self.two(register)
     }
 
     // A constant or kind with types.
-    fn typed(&mut self, number: u32, types: &[u16]) -> Result<(), WriteRefusal> {
-        self.number(number)?;
+    fn typed(&mut self, width: Width, number: u32, types: &[u16]) -> Result<(), WriteRefusal>
+        ensures { OnOk result (self.new.bytes.items ≡ self.old.bytes.items ++ (spelled_number width number ++ spelled_few types.now)) }
+    {
+        self.number(width, u64::from(number))?;
         self.few(types)
     }
 
-    fn built(&mut self, instr: &Instr) -> Result<(), WriteRefusal> {
+    // What is built in a register: a constant or kind with types, an application, an integer, a text.
+    fn put_typed(
+        &mut self,
+        width: Width,
+        made: u16,
+        number: u32,
+        types: &[u16],
+    ) -> Result<(), WriteRefusal>
+        ensures { OnOk result (self.new.bytes.items ≡ self.old.bytes.items ++ (spelled_two made ++ spelled_number width number ++ spelled_few types.now)) }
+    {
+        self.two(made)?;
+        self.typed(width, number, types)
+    }
+
+    fn put_applied(&mut self, made: u16, head: u16, arguments: &[u16]) -> Result<(), WriteRefusal>
+        ensures { OnOk result (self.new.bytes.items ≡ self.old.bytes.items ++ (spelled_two made ++ spelled_two head ++ spelled_few arguments.now)) }
+    {
+        self.two(made)?;
+        self.two(head)?;
+        self.few(arguments)
+    }
+
+    fn put_integer(&mut self, made: u16, integer: i64) -> Result<(), WriteRefusal>
+        ensures { OnOk result (self.new.bytes.items ≡ self.old.bytes.items ++ (spelled_two made ++ spelled_integer integer)) }
+    {
+        self.two(made)?;
+        self.integer(integer)
+    }
+
+    fn put_text(&mut self, made: u16, text: &[u8]) -> Result<(), WriteRefusal>
+        ensures { OnOk result (self.new.bytes.items ≡ self.old.bytes.items ++ (spelled_two made ++ spelled_text text.now)) }
+    {
+        self.two(made)?;
+        self.text(text)
+    }
+
+    // What an argument of the head is: a constant with types, an integer, a text.
+    fn get_typed(
+        &mut self,
+        width: Width,
+        argument: u8,
+        number: u32,
+        types: &[u16],
+    ) -> Result<(), WriteRefusal>
+        ensures { OnOk result (self.new.bytes.items ≡ self.old.bytes.items ++ argument ∷ (spelled_number width number ++ spelled_few types.now)) }
+    {
+        self.byte(argument)?;
+        self.typed(width, number, types)
+    }
+
+    fn get_integer(&mut self, argument: u8, integer: i64) -> Result<(), WriteRefusal>
+        ensures { OnOk result (self.new.bytes.items ≡ self.old.bytes.items ++ argument ∷ spelled_integer integer) }
+    {
+        self.byte(argument)?;
+        self.integer(integer)
+    }
+
+    fn get_text(&mut self, argument: u8, text: &[u8]) -> Result<(), WriteRefusal>
+        ensures { OnOk result (self.new.bytes.items ≡ self.old.bytes.items ++ argument ∷ spelled_text text.now) }
+    {
+        self.byte(argument)?;
+        self.text(text)
+    }
+
+    fn called(
+        &mut self,
+        width: Width,
+        constant: u32,
+        types: &[u16],
+        terms: &[u16],
+    ) -> Result<(), WriteRefusal>
+        ensures { OnOk result (self.new.bytes.items ≡ self.old.bytes.items ++ (spelled_number width constant ++ spelled_few types.now ++ spelled_few terms.now)) }
+    {
+        self.typed(width, constant, types)?;
+        self.few(terms)
+    }
+
+    fn assumed(&mut self, records: &[u32], types: &[u16], terms: &[u16]) -> Result<(), WriteRefusal>
+        ensures { OnOk result (self.new.bytes.items ≡ self.old.bytes.items ++ (spelled_numbered records.now ++ spelled_many types.now ++ spelled_many terms.now)) }
+    {
+        self.numbered(records)?;
+        self.many(types)?;
+        self.many(terms)
+    }
+
+    fn operands(&mut self, width: Width, instr: &Instr) -> Result<(), WriteRefusal>
+        ensures { OnOk result (self.new.bytes.items ≡ self.old.bytes.items ++ flat_map (spelled_operand width) (plain_instr instr.now).operands) }
+    {
         match instr {
-            Instr::TyCon(made, kind, types) => {
-                self.plain(0x01, &[*made])?;
-                self.typed(*kind, types.as_slice())
+            Instr::Neck | Instr::Cut | Instr::EndAll | Instr::EndAssume => Ok(()),
+            Instr::Proceed | Instr::Not | Instr::EndNot => Ok(()),
+            Instr::TyNew(a) | Instr::CallTerm(a) => self.two(*a),
+            Instr::New(a, b) | Instr::Sigma(a, b) | Instr::All(a, b) => self.registers(&[*a, *b]),
+            Instr::Less(a, b) | Instr::Greater(a, b) => self.registers(&[*a, *b]),
+            Instr::AtMost(a, b) | Instr::AtLeast(a, b) => self.registers(&[*a, *b]),
+            Instr::TyArr(a, b, c) | Instr::PutIndex(a, b, c) => self.registers(&[*a, *b, *c]),
+            Instr::PutAbs(a, b, c) => self.registers(&[*a, *b, *c]),
+            Instr::Equal(a, b, c) | Instr::Is(a, b, c) => self.registers(&[*a, *b, *c]),
+            Instr::GetType(i, r) | Instr::GetVar(i, r) | Instr::Get(i, r) => self.argument(*i, *r),
+            Instr::Either(bytes) | Instr::Jump(bytes) => self.four(*bytes),
+            Instr::TyCon(a, k, ts) => self.put_typed(width, *a, *k, ts.as_slice()),
+            Instr::PutConst(a, c, ts) => self.put_typed(width, *a, *c, ts.as_slice()),
+            Instr::PutApp(a, b, rs) => self.put_applied(*a, *b, rs.as_slice()),
+            Instr::PutInt(a, z) => self.put_integer(*a, *z),
+            Instr::PutStr(a, s) => self.put_text(*a, s.as_slice()),
+            Instr::GetConst(i, c, ts) => self.get_typed(width, *i, *c, ts.as_slice()),
+            Instr::GetInt(i, z) => self.get_integer(*i, *z),
+            Instr::GetStr(i, s) => self.get_text(*i, s.as_slice()),
+            Instr::Call(c, ts, rs) => self.called(width, *c, ts.as_slice(), rs.as_slice()),
+            Instr::Assume(ns, ts, rs) => {
+                self.assumed(ns.as_slice(), ts.as_slice(), rs.as_slice())
             }
-            Instr::PutConst(made, constant, types) => {
-                self.plain(0x05, &[*made])?;
-                self.typed(*constant, types.as_slice())
-            }
-            Instr::PutInt(made, integer) => {
-                self.plain(0x06, &[*made])?;
-                self.integer(*integer)
-            }
-            Instr::PutStr(made, text) => {
-                self.plain(0x07, &[*made])?;
-                self.text(text.as_slice())
-            }
-            Instr::PutApp(made, head, arguments) => {
-                self.plain(0x0a, &[*made, *head])?;
-                self.few(arguments.as_slice())
-            }
-            _ => self.matched_or_called(instr),
         }
     }
 
-    fn matched_or_called(&mut self, instr: &Instr) -> Result<(), WriteRefusal> {
-        match instr {
-            Instr::GetConst(argument, constant, types) => {
-                self.put(&[0x0e, *argument])?;
-                self.typed(*constant, types.as_slice())
-            }
-            Instr::GetInt(argument, integer) => {
-                self.put(&[0x0f, *argument])?;
-                self.integer(*integer)
-            }
-            Instr::GetStr(argument, text) => {
-                self.put(&[0x10, *argument])?;
-                self.text(text.as_slice())
-            }
-            Instr::Call(constant, types, terms) => {
-                self.byte(0x12)?;
-                self.typed(*constant, types.as_slice())?;
-                self.few(terms.as_slice())
-            }
-            Instr::Assume(records, types, terms) => {
-                self.byte(0x1e)?;
-                self.count_two(records.len())?;
-                self.numbered(records.as_slice())?;
-                self.many(types.as_slice())?;
-                self.many(terms.as_slice())
-            }
-            _ => self.long_or_short(instr),
-        }
-    }
-
-    fn long_or_short(&mut self, instr: &Instr) -> Result<(), WriteRefusal> {
-        match instr {
-            Instr::GetType(number, register) => self.matched(0x0b, *number, *register),
-            Instr::GetVar(number, register) => self.matched(0x0c, *number, *register),
-            Instr::Get(number, register) => self.matched(0x0d, *number, *register),
-            Instr::Either(bytes) => {
-                self.byte(0x20)?;
-                self.four(*bytes)
-            }
-            Instr::Jump(bytes) => {
-                self.byte(0x21)?;
-                self.four(*bytes)
-            }
-            Instr::Neck => self.byte(0x11),
-            Instr::Cut => self.byte(0x1a),
-            Instr::EndAll => self.byte(0x1d),
-            Instr::EndAssume => self.byte(0x1f),
-            Instr::Proceed => self.byte(0x22),
-            Instr::Not => self.byte(0x23),
-            Instr::EndNot => self.byte(0x24),
-            _ => Ok(()),
-        }
-    }
-
-    pub(crate) fn instruction(&mut self, instr: &Instr) -> Result<(), WriteRefusal> {
-        match instr {
-            Instr::TyArr(made, from, to) => self.plain(0x02, &[*made, *from, *to]),
-            Instr::TyNew(made) => self.plain(0x03, &[*made]),
-            Instr::New(made, register) => self.plain(0x04, &[*made, *register]),
-            Instr::PutIndex(made, index, register) => self.plain(0x08, &[*made, *index, *register]),
-            Instr::PutAbs(made, body, register) => self.plain(0x09, &[*made, *body, *register]),
-            Instr::CallTerm(term) => self.plain(0x13, &[*term]),
-            Instr::Equal(register, left, right) => self.plain(0x14, &[*register, *left, *right]),
-            Instr::Is(register, left, right) => self.plain(0x15, &[*register, *left, *right]),
-            Instr::Less(left, right) => self.plain(0x16, &[*left, *right]),
-            Instr::Greater(left, right) => self.plain(0x17, &[*left, *right]),
-            Instr::AtMost(left, right) => self.plain(0x18, &[*left, *right]),
-            Instr::AtLeast(left, right) => self.plain(0x19, &[*left, *right]),
-            Instr::Sigma(made, register) => self.plain(0x1b, &[*made, *register]),
-            Instr::All(made, register) => self.plain(0x1c, &[*made, *register]),
-            _ => self.built(instr),
-        }
+    pub(crate) fn instruction(&mut self, width: Width, instr: &Instr) -> Result<(), WriteRefusal>
+        ensures { OnOk result (self.new.bytes.items ≡ self.old.bytes.items ++ spelled_instr width (plain_instr instr.now)) }
+    {
+        self.byte(number_of(instr))?;
+        self.operands(width, instr)
     }
 }

@@ -1,5 +1,8 @@
 // Names with what they name, each of which stands once: hidden numbers keep equal names apart.
 
+ghost use Rattle.std.specs.Prelude.{◌≡◌, ◌++◌, OnOk};
+ghost use Rattle.lp_object.specs.Spelling.{fixity_number, spelled_fixity};
+
 use crate::fault::{FormatFault, WriteRefusal};
 use crate::reader::Reader;
 use crate::writer::Writer;
@@ -76,7 +79,9 @@ impl<'a> Reader<'a> {
     }
 }
 
-fn byte_of(fixity: Fixity) -> u8 {
+fn byte_of(fixity: Fixity) -> u8
+    ensures { result ≡ fixity_number fixity }
+{
     match fixity {
         Fixity::Infix => 1,
         Fixity::Infixl => 2,
@@ -89,7 +94,9 @@ fn byte_of(fixity: Fixity) -> u8 {
 }
 
 impl Writer {
-    pub(crate) fn fixity(&mut self, fixity: Option<(Fixity, u8)>) -> Result<(), WriteRefusal> {
+    pub(crate) fn fixity(&mut self, fixity: Option<(Fixity, u8)>) -> Result<(), WriteRefusal>
+        ensures { OnOk result (self.new.bytes.items ≡ self.old.bytes.items ++ spelled_fixity fixity) }
+    {
         match fixity {
             None => self.put(&[0, 0]),
             Some((fixity, number)) => self.put(&[byte_of(fixity), number]),

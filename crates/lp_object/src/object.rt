@@ -1,7 +1,9 @@
 // Objects.
 
-ghost use Rattle.std.specs.Prelude.{◌<◌, ◌^◌, IfOk, length};
+ghost use Rattle.std.specs.Prelude.{◌≡◌, ◌<◌, ◌^◌, ◌++◌, IfOk, OnOk, length, map};
 ghost use Rattle.lp_code.specs.Length.{AllFit};
+ghost use Rattle.lp_object.specs.Plain.{plain_object_kind, plain_object_constant, plain_object};
+ghost use Rattle.lp_object.specs.Files.{spelled_class, spelled_object_kind, spelled_object_kinds, spelled_object_constant, spelled_object_constants, spelled_uses, spelled_object};
 
 use crate::fault::{FormatFault, WriteRefusal};
 use crate::names::Names;
@@ -154,39 +156,69 @@ pub fn read_object(alloc: Global, bytes: &[u8]) -> Result<Object, FormatFault>
 }
 
 impl Writer {
-    fn class(&mut self, exported: bool) -> Result<(), WriteRefusal> {
+    fn class(&mut self, exported: bool) -> Result<(), WriteRefusal>
+        ensures { OnOk result (self.new.bytes.items ≡ self.old.bytes.items ++ spelled_class exported) }
+    {
         self.byte(if exported { 1 } else { 2 })
     }
 
-    fn object_kinds(&mut self, kinds: &[ObjectKind]) -> Result<(), WriteRefusal> {
-        self.count_two(kinds.len())?;
+    #[tactic(auto, unfolding(crate::specs::Files::spelled_object_kind))]
+    fn object_kind(&mut self, kind: &ObjectKind) -> Result<(), WriteRefusal>
+        ensures { OnOk result (self.new.bytes.items ≡ self.old.bytes.items ++ spelled_object_kind (plain_object_kind kind.now)) }
+    {
+        self.class(kind.exported)?;
+        self.text(kind.name.as_slice())?;
+        self.byte(kind.arity)
+    }
+
+    #[tactic(auto, unfolding(crate::specs::Files::spelled_object_kinds))]
+    fn object_kinds(&mut self, kinds: &[ObjectKind]) -> Result<(), WriteRefusal>
+        ensures { OnOk result (self.new.bytes.items ≡ self.old.bytes.items ++ spelled_object_kinds (map plain_object_kind kinds.now)) }
+    {
+        self.low_two(kinds.len() as u64)?;
         for kind in kinds {
-            self.class(kind.exported)?;
-            self.text(kind.name.as_slice())?;
-            self.byte(kind.arity)?;
+            self.object_kind(kind)?;
         }
         Ok(())
     }
 
+    #[tactic(auto, unfolding(crate::specs::Files::spelled_object_constant))]
+    fn object_constant(
+        &mut self,
+        alloc: Global,
+        bank: &Bank,
+        constant: &ObjectConstant,
+    ) -> Result<(), WriteRefusal>
+        ensures { OnOk result (self.new.bytes.items ≡ self.old.bytes.items ++ spelled_object_constant (plain_object_constant bank.now constant.now)) }
+    {
+        self.class(constant.exported)?;
+        self.text(constant.name.as_slice())?;
+        self.byte(constant.type_vars)?;
+        self.scheme(alloc, Width::Two, bank, constant.scheme)?;
+        self.fixity(constant.fixity)
+    }
+
+    #[tactic(auto, unfolding(crate::specs::Files::spelled_object_constants))]
     fn object_constants(
         &mut self,
         alloc: Global,
         bank: &Bank,
         constants: &[ObjectConstant],
-    ) -> Result<(), WriteRefusal> {
-        self.count_two(constants.len())?;
+    ) -> Result<(), WriteRefusal>
+        ensures { OnOk result (self.new.bytes.items ≡ self.old.bytes.items ++ spelled_object_constants (map (plain_object_constant bank.now) constants.now)) }
+    {
+        self.low_two(constants.len() as u64)?;
         for constant in constants {
-            self.class(constant.exported)?;
-            self.text(constant.name.as_slice())?;
-            self.byte(constant.type_vars)?;
-            self.scheme(alloc, bank, constant.scheme)?;
-            self.fixity(constant.fixity)?;
+            self.object_constant(alloc, bank, constant)?;
         }
         Ok(())
     }
 
-    fn uses(&mut self, uses: &[Vec<u8>]) -> Result<(), WriteRefusal> {
-        self.count_two(uses.len())?;
+    #[tactic(auto, unfolding(crate::specs::Files::spelled_uses))]
+    fn uses(&mut self, uses: &[Vec<u8>]) -> Result<(), WriteRefusal>
+        ensures { OnOk result (self.new.bytes.items ≡ self.old.bytes.items ++ spelled_uses (map (λ u. u.items) uses.now)) }
+    {
+        self.low_two(uses.len() as u64)?;
         for name in uses {
             self.text(name.as_slice())?;
         }
@@ -195,14 +227,17 @@ impl Writer {
 }
 
 /// The bytes that spell the object.
-pub fn write_object(alloc: Global, object: &Object) -> Result<Vec<u8>, WriteRefusal> {
-    let mut writer = Writer::new(alloc, Width::Two);
+#[tactic(auto, unfolding(crate::specs::Files::spelled_object))]
+pub fn write_object(alloc: Global, object: &Object) -> Result<Vec<u8>, WriteRefusal>
+    ensures spelled { IfOk result (λ bytes. bytes.items ≡ spelled_object (plain_object object.now)) }
+{
+    let mut writer = Writer::new(alloc);
     writer.put(b"LPOB")?;
     writer.two(1)?;
     writer.text(object.name.as_slice())?;
     writer.object_kinds(object.kinds.as_slice())?;
     writer.object_constants(alloc, &object.bank, object.constants.as_slice())?;
     writer.uses(object.uses.as_slice())?;
-    writer.records(alloc, &object.code)?;
+    writer.records(alloc, Width::Two, object.code.records.as_slice())?;
     Ok(writer.bytes)
 }

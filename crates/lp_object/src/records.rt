@@ -1,7 +1,10 @@
 // Records, with their heads and keys.
-ghost use Rattle.std.specs.Prelude.{◌<◌, ◌^◌, IfOk, length};
+ghost use Rattle.std.specs.Prelude.{◌≡◌, ◌<◌, ◌^◌, ◌++◌, IfOk, OnOk, length, map};
 ghost use Rattle.std.specs.List.{All};
 ghost use Rattle.lp_code.specs.Length.{Fits, AllFit};
+ghost use Rattle.lp_code.specs.Groups.{looked_key};
+ghost use Rattle.lp_object.specs.Plain.{plain_record};
+ghost use Rattle.lp_object.specs.Spelling.{spelled_head, spelled_key, spelled_record, spelled_records};
 
 use crate::fault::{FormatFault, WriteRefusal};
 use crate::reader::Reader;
@@ -78,11 +81,13 @@ impl<'a> Reader<'a> {
 }
 
 impl Writer {
-    fn head(&mut self, head: Option<RecordHead>) -> Result<(), WriteRefusal> {
+    fn head(&mut self, width: Width, head: Option<RecordHead>) -> Result<(), WriteRefusal>
+        ensures { OnOk result (self.new.bytes.items ≡ self.old.bytes.items ++ spelled_head width head) }
+    {
         match head {
             Some(RecordHead::Const(constant)) => {
                 self.byte(0)?;
-                self.number(constant)
+                self.number(width, u64::from(constant))
             }
             Some(RecordHead::Register(register)) => {
                 self.byte(1)?;
@@ -92,12 +97,14 @@ impl Writer {
         }
     }
 
-    pub(crate) fn key(&mut self, key: KeyRef<'_>) -> Result<(), WriteRefusal> {
+    pub(crate) fn key(&mut self, width: Width, key: KeyRef<'_>) -> Result<(), WriteRefusal>
+        ensures { OnOk result (self.new.bytes.items ≡ self.old.bytes.items ++ spelled_key width (looked_key key.entry)) }
+    {
         match key {
             KeyRef::None => self.byte(0),
             KeyRef::Const(constant) => {
                 self.byte(1)?;
-                self.number(constant)
+                self.number(width, u64::from(constant))
             }
             KeyRef::Int(integer) => {
                 self.byte(2)?;
@@ -110,21 +117,32 @@ impl Writer {
         }
     }
 
-    fn record(&mut self, alloc: Global, of: &Record) -> Result<(), WriteRefusal> {
+    #[tactic(auto, unfolding(crate::specs::Spelling::spelled_record))]
+    fn record(&mut self, alloc: Global, width: Width, of: &Record) -> Result<(), WriteRefusal>
+        ensures { OnOk result (self.new.bytes.items ≡ self.old.bytes.items ++ spelled_record width (plain_record of.now)) }
+    {
         self.byte(u8::from(of.program))?;
-        self.head(of.head)?;
+        self.head(width, of.head)?;
         self.two(of.captured_types)?;
         self.two(of.captured)?;
         self.two(of.types)?;
         self.two(of.registers)?;
-        self.key(of.key.as_key_ref())?;
-        self.code(alloc, of.code.as_slice())
+        self.key(width, of.key.as_key_ref())?;
+        self.code(alloc, width, of.code.as_slice())
     }
 
-    pub(crate) fn records(&mut self, alloc: Global, code: &Code) -> Result<(), WriteRefusal> {
-        self.count_four(code.records.len())?;
-        for next in &code.records {
-            self.record(alloc, next)?;
+    #[tactic(auto, unfolding(crate::specs::Spelling::spelled_records))]
+    pub(crate) fn records(
+        &mut self,
+        alloc: Global,
+        width: Width,
+        records: &[Record],
+    ) -> Result<(), WriteRefusal>
+        ensures { OnOk result (self.new.bytes.items ≡ self.old.bytes.items ++ spelled_records width (map plain_record records.now)) }
+    {
+        self.low_four(records.len() as u64)?;
+        for next in records {
+            self.record(alloc, width, next)?;
         }
         Ok(())
     }

@@ -1,5 +1,10 @@
 // Declared types: a count of type variables and a type, each constructor before its arguments.
-ghost use Rattle.std.specs.Prelude.{◌≡◌, ◌<◌, true, map, length, All};
+ghost use Rattle.std.specs.Prelude.{◌≡◌, ◌<◌, ◌++◌, ◌∷◌, true, map, length, All, reverse, OnOk};
+ghost use Rattle.lp_term.specs.Nodes.{type_tree, type_node_tree};
+ghost use Rattle.lp_term.specs.Shapes.{type_shape};
+ghost use Rattle.lp_object.specs.Numbers.{spelled_one};
+ghost use Rattle.lp_object.specs.Spelling.{spelled_type};
+ghost use Rattle.lp_object.specs.inner.Waiting.{waiting};
 
 use crate::fault::{FormatFault, WriteRefusal};
 use crate::reader::Reader;
@@ -163,23 +168,36 @@ impl Reader<'_> {
     }
 }
 
+// The types are put on the stack, the first one last.
+fn push_last_first(alloc: Global, stack: &mut Vec<TypeId>, types: &[TypeId]) -> Result<(), Memory>
+    ensures { OnOk result (stack.new.items ≡ stack.old.items ++ reverse types.now) }
+{
+    let mut last_first = Vec::from_slice(alloc, types)?;
+    last_first.reverse();
+    stack.extend_from_slice(last_first.as_slice())?;
+    Ok(())
+}
+
 impl Writer {
     // The top of a type, whose arguments are left on the stack, the first one last.
+    #[tactic(auto, using(crate::proofs::Waiting::kind_waits, crate::proofs::Waiting::arrow_waits))]
     fn type_part(
         &mut self,
+        alloc: Global,
+        width: Width,
+        bank: &Bank,
         stack: &mut Vec<TypeId>,
         node: TypeNode<'_>,
-    ) -> Result<(), WriteRefusal> {
+    ) -> Result<(), WriteRefusal>
+        ensures { OnOk result (self.new.bytes.items ++ waiting width bank.now stack.new.items ≡ self.old.bytes.items ++ (spelled_type width (type_node_tree bank.now (type_shape node.entry)) ++ waiting width bank.now stack.old.items)) }
+    {
         match node {
-            TypeNode::Var(variable) | TypeNode::Param(variable) => {
-                self.put(&[0, u8::try_from(variable).unwrap_or(u8::MAX)])
-            }
+            TypeNode::Var(variable) => self.variable(variable),
+            TypeNode::Param(variable) => self.variable(variable),
             TypeNode::Con(kind, arguments) => {
                 self.byte(1)?;
-                self.number(kind)?;
-                for argument in arguments.iter().rev() {
-                    stack.push(*argument).map_err(Memory::from)?;
-                }
+                self.number(width, u64::from(kind))?;
+                push_last_first(alloc, stack, arguments)?;
                 Ok(())
             }
             TypeNode::Arrow(from, to) => {
@@ -191,21 +209,29 @@ impl Writer {
         }
     }
 
+    fn variable(&mut self, variable: u64) -> Result<(), WriteRefusal>
+        ensures { OnOk result (self.new.bytes.items ≡ self.old.bytes.items ++ 0 ∷ spelled_one variable) }
+    {
+        self.byte(0)?;
+        self.low_one(variable)
+    }
+
     pub(crate) fn scheme(
         &mut self,
         alloc: Global,
+        width: Width,
         bank: &Bank,
         scheme: TypeId,
-    ) -> Result<(), WriteRefusal> {
+    ) -> Result<(), WriteRefusal>
+        ensures { OnOk result (self.new.bytes.items ≡ self.old.bytes.items ++ spelled_type width (type_tree bank.now scheme.0)) }
+    {
         let mut stack = Vec::new(alloc);
         stack.push(scheme).map_err(Memory::from)?;
         for _ in 0..=MAX_IMAGE_BYTES {
             let Some(next) = stack.pop() else {
                 return Ok(());
             };
-            if next.0 < bank.type_count() {
-                self.type_part(&mut stack, bank.type_node(next))?;
-            }
+            self.type_part(alloc, width, bank, &mut stack, bank.type_node(next))?;
         }
         Err(WriteRefusal::Limit(Limit::Image))
     }

@@ -1,7 +1,14 @@
 // The tables of records by predicate and key, which are a function of the records.
 
+ghost use Rattle.std.specs.Prelude.{◌≡◌, ◌++◌, OnOk, map};
+ghost use Rattle.std.specs.List.{flat_map};
+ghost use Rattle.lp_code.specs.Groups.{looked_key};
+ghost use Rattle.lp_object.specs.Plain.{plain_record};
+ghost use Rattle.lp_object.specs.Tables.{group_of, spelled_group, spelled_groups, spelled_tables};
+
 use crate::fault::{FormatFault, WriteRefusal};
 use crate::reader::Reader;
+use crate::width::Width;
 use crate::writer::Writer;
 use lp_code::{Image, KeyRef};
 use std::alloc::Global;
@@ -96,23 +103,69 @@ impl Reader<'_> {
 }
 
 impl Writer {
-    fn group(&mut self, key: KeyRef<'_>, records: &[u32]) -> Result<(), WriteRefusal> {
-        self.key(key)?;
-        self.count_four(records.len())?;
-        self.numbered(records)
+    #[tactic(auto, unfolding(crate::specs::Tables::spelled_group))]
+    fn group(&mut self, key: KeyRef<'_>, records: &[u32]) -> Result<(), WriteRefusal>
+        ensures { OnOk result (self.new.bytes.items ≡ self.old.bytes.items ++ spelled_group records.now (looked_key key.entry)) }
+    {
+        self.key(Width::Four, key)?;
+        self.low_four(records.len() as u64)?;
+        self.numbers(records)
     }
 
-    pub(crate) fn tables(&mut self, alloc: Global, image: &Image) -> Result<(), WriteRefusal> {
-        let heads = image.heads(alloc)?;
-        self.count_four(heads.len())?;
-        for constant in &heads {
-            self.four(*constant)?;
-            let keys = image.keys(alloc, *constant)?;
-            self.count_four(keys.len())?;
-            for key in &keys {
-                self.group(*key, image.group(*constant, *key))?;
-            }
+    // The group of a constant and a key.
+    #[tactic(auto, using(crate::proofs::Grouped::group_is))]
+    fn keyed_group(
+        &mut self,
+        image: &Image,
+        constant: u32,
+        key: KeyRef<'_>,
+    ) -> Result<(), WriteRefusal>
+        ensures { OnOk result (self.new.bytes.items ≡ self.old.bytes.items ++ spelled_group (group_of (map plain_record image.now.code.records.items) constant (looked_key key.entry)) (looked_key key.entry)) }
+    {
+        self.group(key, image.group(constant, key))
+    }
+
+    // The groups of a constant, by their keys.
+    fn keyed(
+        &mut self,
+        image: &Image,
+        constant: u32,
+        keys: &[KeyRef<'_>],
+    ) -> Result<(), WriteRefusal>
+        ensures { OnOk result (self.new.bytes.items ≡ self.old.bytes.items ++ flat_map (λ k. spelled_group (group_of (map plain_record image.now.code.records.items) constant k) k) (map looked_key keys.now)) }
+    {
+        for key in keys {
+            self.keyed_group(image, constant, *key)?;
         }
+        Ok(())
+    }
+
+    fn groups(&mut self, alloc: Global, image: &Image, constant: u32) -> Result<(), WriteRefusal>
+        ensures { OnOk result (self.new.bytes.items ≡ self.old.bytes.items ++ spelled_groups (map plain_record image.now.code.records.items) constant) }
+    {
+        self.four(constant)?;
+        let keys = image.keys(alloc, constant)?;
+        self.low_four(keys.len() as u64)?;
+        self.keyed(image, constant, keys.as_slice())?;
+        Ok(())
+    }
+
+    // The groups of these constants.
+    fn grouped(&mut self, alloc: Global, image: &Image, heads: &[u32]) -> Result<(), WriteRefusal>
+        ensures { OnOk result (self.new.bytes.items ≡ self.old.bytes.items ++ flat_map (spelled_groups (map plain_record image.now.code.records.items)) heads.now) }
+    {
+        for constant in heads {
+            self.groups(alloc, image, *constant)?;
+        }
+        Ok(())
+    }
+
+    pub(crate) fn tables(&mut self, alloc: Global, image: &Image) -> Result<(), WriteRefusal>
+        ensures { OnOk result (self.new.bytes.items ≡ self.old.bytes.items ++ spelled_tables (map plain_record image.now.code.records.items)) }
+    {
+        let heads = image.heads(alloc)?;
+        self.low_four(heads.len() as u64)?;
+        self.grouped(alloc, image, heads.as_slice())?;
         Ok(())
     }
 }
