@@ -1,7 +1,8 @@
 // Texts of the first fragment, by the first path and by that of the whole language, which options take even where they change nothing.
 
-use super::check;
+use crate::asking::{check, within};
 use lp_base::{Memory, Status};
+use lp_given::FILES;
 
 #[test]
 fn both_paths_agree(rt: HostRuntime) -> Result<(), Memory> {
@@ -36,11 +37,12 @@ fn both_paths_agree(rt: HostRuntime) -> Result<(), Memory> {
         ("loop", "r", Status::Steps, "stopped: steps\n"),
         ("loop", "q, q.", Status::Done, "answer 1\nno more answers\n"),
     ] {
-        check(&rt, alloc, &["solve", module, query], status, written)?;
-        check(
+        check(&rt, alloc, module, query, status, written)?;
+        within(
             &rt,
             alloc,
-            &["solve", module, query, "--steps", "1000000"],
+            &FILES,
+            (module, query, 1_000_000),
             status,
             written,
         )?;

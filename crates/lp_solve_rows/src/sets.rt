@@ -1,6 +1,6 @@
 // What files of a set come to, in the order in which they are read.
 
-use super::with_files;
+use crate::asking::with_files;
 use lp_base::{Memory, Status};
 use std::alloc::Global;
 use std::process::Abort;
@@ -13,7 +13,7 @@ fn check_set(
     status: Status,
     written: &str,
 ) -> Result<(), Memory> {
-    with_files(rt, alloc, files, &["solve", "m", "true"], status, written)
+    with_files(rt, alloc, files, "m", "true", status, written)
 }
 
 #[test]
@@ -240,7 +240,7 @@ fn sets_are_read(rt: HostRuntime) -> Result<(), Memory> {
             "source: query:1:5: undeclared name e\n",
         ),
     ] {
-        with_files(&rt, alloc, &SET, &["solve", "m", query], status, written)?;
+        with_files(&rt, alloc, &SET, "m", query, status, written)?;
     }
     Ok(())
 }

@@ -1,6 +1,6 @@
 // Why texts are refused.
 
-use super::{check, with_files};
+use crate::asking::{check, with_files};
 use lp_base::{Memory, Status};
 use std::alloc::Global;
 use std::process::Abort;
@@ -78,13 +78,7 @@ fn queries_are_refused(rt: HostRuntime) -> Result<(), Memory> {
         ("loop", "q :- X", "source: query:1:1: not a clause\n"),
         ("loop", "(q ; q) => q", "source: query:1:1: not a clause\n"),
     ] {
-        check(
-            &rt,
-            alloc,
-            &["solve", module, query],
-            Status::Source,
-            written,
-        )?;
+        check(&rt, alloc, module, query, Status::Source, written)?;
     }
     Ok(())
 }
@@ -97,14 +91,7 @@ fn check_texts(
     module: &str,
     written: &str,
 ) -> Result<(), Memory> {
-    with_files(
-        rt,
-        alloc,
-        &texts,
-        &["solve", module, "true"],
-        Status::Source,
-        written,
-    )
+    with_files(rt, alloc, &texts, module, "true", Status::Source, written)
 }
 
 #[test]

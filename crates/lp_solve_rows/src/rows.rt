@@ -1,7 +1,8 @@
 // Queries and their answers.
 
-use super::check;
+use crate::asking::{check, within};
 use lp_base::{Memory, Status};
+use lp_given::FILES;
 
 #[test]
 fn queries_are_answered(rt: HostRuntime) -> Result<(), Memory> {
@@ -155,7 +156,7 @@ fn queries_are_answered(rt: HostRuntime) -> Result<(), Memory> {
             "stopped: term too deep\n",
         ),
     ] {
-        check(&rt, alloc, &["solve", module, query], status, written)?;
+        check(&rt, alloc, module, query, status, written)?;
     }
     Ok(())
 }
@@ -206,7 +207,7 @@ fn goals_of_all_forms_are_proved(rt: HostRuntime) -> Result<(), Memory> {
             "answer 1\n  X = 14\nno more answers\n",
         ),
     ] {
-        check(&rt, alloc, &["solve", module, query], Status::Done, written)?;
+        check(&rt, alloc, module, query, Status::Done, written)?;
     }
     Ok(())
 }
@@ -249,13 +250,7 @@ fn terms_are_unified_and_shown(rt: HostRuntime) -> Result<(), Memory> {
         let mut written = String::from_str(alloc, "answer 1\n")?;
         written.push_str(shown)?;
         written.push_str("no more answers\n")?;
-        check(
-            &rt,
-            alloc,
-            &["solve", module, query],
-            Status::Done,
-            written.as_str(),
-        )?;
+        check(&rt, alloc, module, query, Status::Done, written.as_str())?;
     }
     Ok(())
 }
@@ -265,16 +260,17 @@ fn a_reversal_takes_so_many_steps(rt: HostRuntime) -> Result<(), Memory> {
     let alloc = rt.alloc();
     for (steps, status, written) in [
         (
-            "--steps=15",
+            15,
             Status::Done,
             "answer 1\n  X = 4 :: 3 :: 2 :: 1 :: nil\nno more answers\n",
         ),
-        ("--steps=14", Status::Steps, "stopped: steps\n"),
+        (14, Status::Steps, "stopped: steps\n"),
     ] {
-        check(
+        within(
             &rt,
             alloc,
-            &["solve", "rev", "rev [1, 2, 3, 4] X", steps],
+            &FILES,
+            ("rev", "rev [1, 2, 3, 4] X", steps),
             status,
             written,
         )?;

@@ -3,7 +3,7 @@
 // The modules of the examples.
 mod texts;
 
-use super::with_files;
+use crate::asking::with_files;
 use lp_base::{Memory, Status};
 use texts::FILES;
 
@@ -210,14 +210,7 @@ fn examples_are_answered(rt: HostRuntime) -> Result<(), Memory> {
             "answer 1\n  N = abs (x1\\ x1)\nno more answers\n",
         ),
     ] {
-        with_files(
-            &rt,
-            alloc,
-            &FILES,
-            &["solve", module, query],
-            status,
-            written,
-        )?;
+        with_files(&rt, alloc, &FILES, module, query, status, written)?;
     }
     Ok(())
 }

@@ -1,6 +1,6 @@
 // Negated goals.
 
-use super::with_files;
+use crate::asking::within;
 use lp_base::{Memory, Status};
 
 const FILES: [(&str, &str); 2] = [
@@ -66,14 +66,7 @@ fn what_has_no_proof_is_denied(rt: HostRuntime) -> Result<(), Memory> {
         ("X = (not (q a))", Status::Source, IN_TERM),
         ("X = not", Status::Source, IN_TERM),
     ] {
-        with_files(
-            &rt,
-            alloc,
-            &FILES,
-            &["solve", "neg", query, "--steps=20"],
-            status,
-            written,
-        )?;
+        within(&rt, alloc, &FILES, ("neg", query, 20), status, written)?;
     }
     Ok(())
 }

@@ -1,10 +1,8 @@
 // Limits of texts and of sets, each at its number and one past it.
 
-use super::{folder, run_on};
+use crate::asking::{ask, with_files};
 use lp_base::{MemFolder, Memory, Status};
-use lp_watch::Watch;
 use std::alloc::Global;
-use std::process::Abort;
 
 fn push_times(text: &mut String, piece: &str, count: u64) -> Result<(), Memory> {
     for _ in 0..count {
@@ -22,26 +20,6 @@ fn repeated(alloc: Global, parts: [&str; 5], count: u64) -> Result<String, Memor
     push_times(&mut text, other, count)?;
     text.push_str(back)?;
     Ok(text)
-}
-
-fn check_folder(
-    rt: &impl Abort,
-    alloc: Global,
-    folder: &mut MemFolder,
-    query: &str,
-    status: Status,
-    written: &str,
-) -> Result<(), Memory> {
-    let mut nobody: Vec<Box<dyn Watch>> = Vec::new(alloc);
-    run_on(
-        rt,
-        alloc,
-        folder,
-        &["solve", "m", query],
-        &mut nobody,
-        status,
-        written,
-    )
 }
 
 const SIGNATURE: &str =
@@ -68,8 +46,7 @@ fn sentences_have_limits(rt: HostRuntime) -> Result<(), Memory> {
     ] {
         let text = repeated(alloc, parts, count)?;
         let files = [("m.sig", SIGNATURE), ("m.mod", text.as_str())];
-        let mut held = folder(alloc, &files, &[])?;
-        check_folder(&rt, alloc, &mut held, "true", status, written)?;
+        with_files(&rt, alloc, &files, "m", "true", status, written)?;
     }
     Ok(())
 }
@@ -125,14 +102,14 @@ fn sets_have_limits(rt: HostRuntime) -> Result<(), Memory> {
         ("l, a", Status::Limit, "limit: copies\n"),
     ] {
         let mut held = doubled_modules(alloc, root)?;
-        check_folder(&rt, alloc, &mut held, "true", status, written)?;
+        ask(&rt, alloc, &mut held, "m", "true", status, written)?;
     }
     for (count, status, written) in [
         (254, Status::Done, ONE),
         (255, Status::Limit, "limit: modules\n"),
     ] {
         let mut held = many_files(alloc, count)?;
-        check_folder(&rt, alloc, &mut held, "true", status, written)?;
+        ask(&rt, alloc, &mut held, "m", "true", status, written)?;
     }
     Ok(())
 }
@@ -154,11 +131,11 @@ fn types_are_shared(rt: HostRuntime) -> Result<(), Memory> {
         let goal = format!(in alloc; ", X{next} = p X{at} X{at}")?;
         query.push_str(goal.as_str())?;
     }
-    let mut held = folder(alloc, &files, &[])?;
-    check_folder(
+    with_files(
         &rt,
         alloc,
-        &mut held,
+        &files,
+        "m",
         query.as_str(),
         Status::Done,
         "no more answers\n",

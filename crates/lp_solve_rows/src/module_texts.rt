@@ -1,6 +1,6 @@
 // Why the texts of one module are refused: what they declare, and what their sentences say.
 
-use super::with_files;
+use crate::asking::with_files;
 use lp_base::{Memory, Status};
 use std::alloc::Global;
 use std::process::Abort;
@@ -14,14 +14,7 @@ fn check_texts(
     written: &str,
 ) -> Result<(), Memory> {
     let files = [("m.sig", signature), ("m.mod", module)];
-    with_files(
-        rt,
-        alloc,
-        &files,
-        &["solve", "m", "true"],
-        Status::Source,
-        written,
-    )
+    with_files(rt, alloc, &files, "m", "true", Status::Source, written)
 }
 
 #[test]
