@@ -168,6 +168,12 @@ module _ (d : Declared) (std : IsStandard d) (P : List Clause) (program : EachOf
       }
 
   -- what a refuted search proves
+  pub proves_monomorphic : (n j : ℕ) (q : Query) → (Fewer : ℕ → Type 0) → Proves n d P q (IsMonomorphicSearch d P) j IsMonomorphicTask (λ x. Unit {0}) Fewer
+  proves_monomorphic n j q Fewer T u g ts r m steps rows k p ns e l c cl =
+      let o : r.next_type ≡ 0 = transport IsMonomorphicTask r.is m in
+      let y = denied_leaf n d P q j T u g ts r steps rows k p ns e c cl in
+      (y.leaf, (y.fails, y.types ∙ o))
+
   proves_below : (b n j : ℕ) (q : Query) → (Fewer : ℕ → Type 0) → Proves n d P q (Below b) j IsMonomorphicTask (λ x. x ≤ b) Fewer
   proves_below b n j q Fewer T u g ts r m steps rows k p ns e l c cl =
       let o : r.next_type ≡ 0 = transport IsMonomorphicTask r.is m in
@@ -176,28 +182,27 @@ module _ (d : Declared) (std : IsStandard d) (P : List Clause) (program : EachOf
       (y.leaf, ((y.fails, y.types ∙ o), omega (arith, s, l)))
 
   -- a search that holds makes its goals provable under some closing, with leaves of fewer steps
-  module _ (n j : ℕ) (V : List Variable) (E : List Ty) (gs : Goals) (A : List Clause) (c : ℕ) (h : IsHeldAt d P n j V E gs A c) where
+  module _ (L : Leaves) (same : KeepsSame L d) (n j : ℕ) (Few : ℕ → Type 0) (few : (x y : ℕ) → x ≤ y → Few y → Few x) (proves : Proves n d P no_query L j IsMonomorphicTask Few (λ x. ⊥)) (V : List Variable) (E : List Ty) (gs : Goals) (A : List Clause) (c : ℕ) (h : IsHeldAt d P n j V E gs A c) (enough : Few c) where
     abbrev first : TypedTask
     first = going (denied_typing V E gs) (denied_branch (length V) 0 gs A h.written (length E))
 
-    held_solves : SolvesBranch (Below c) d P no_query no_values (denied_typing V E gs) (denied_branch (length V) 0 gs A h.written (length E))
+    held_solves : SolvesBranch L d P no_query no_values (denied_typing V E gs) (denied_branch (length V) 0 gs A h.written (length E))
     held_solves =
         let s = starts_within h.rows (denied_task (length V) 0 gs A h.written (length E)) h.steps 1 in
-        let r = typed_run (Below c) (below_same c) n j no_query (λ x. x ≤ c) (λ x. ⊥) (shorter c) (λ x y l f. f) (proves_below c n j no_query (λ x. ⊥)) (λ T u g ts r m st rows k p ns e x. absurd x) j h.rows h.steps 1 first h.begins refl in
+        let r = typed_run L same n j no_query Few (λ x. ⊥) few (λ x y l f. f) proves (λ T u g ts r m st rows k p ns e x. absurd x) j h.rows h.steps 1 first h.begins refl in
         let a = held_gives (look unit_limit n P) has_no_pairs j s c h.row h.notes h.holds in
         let e = held_steps (look unit_limit n P) has_no_pairs j s c h.row h.notes refl h.holds in
-        let l : (run (look unit_limit n P) j j s).steps ≤ c = omega (arith, e) in
-        elim (first_sound d (λ i. AnyOf (Sol (Below c) d P no_query i) (first ∷ [])) a.0 a.1 r.typed (r.is ∙ a.3) a.2 r.well_formed (r.sound l)) [ inl x ↦ x | inr x ↦ absurd x ]
+        elim (first_sound d (λ i. AnyOf (Sol L d P no_query i) (first ∷ [])) a.0 a.1 r.typed (r.is ∙ a.3) a.2 r.well_formed (r.sound (transport Few (sym e) enough))) [ inl x ↦ x | inr x ↦ absurd x ]
 
     -- and under each other closing
-    pub held_provable : (z : Closing) → Closes d V z → Holds (Below c) d (map (instance z.types) E) (clauses_at P A z) z (formula_of_goals gs)
+    pub held_provable : (z : Closing) → Closes d V z → Holds L d (map (instance z.types) E) (clauses_at P A z) z (formula_of_goals gs)
     held_provable z zl =
         let s = held_solves in
         let y = s.answer.closing in
         let x = retyped d V h.begins.variables y z in
         let xl = retyped_closes d V h.begins.variables y z s.answer.closes zl in
-        let set = setting_of d (below_same c) std in
-        let p = retyped_proved d V h.begins.variables y z (Below c) P (each_at E (goal_list gs)) (entries (goal_list gs) A h.written (length E) 0) h.begins.goals s.proved in
+        let set = setting_of d same std in
+        let p = retyped_proved d V h.begins.variables y z L P (each_at E (goal_list gs)) (entries (goal_list gs) A h.written (length E) 0) h.begins.goals s.proved in
         provable_under d P n j V E gs A c h x z refl set xl zl ((goals_proved d set P V x xl E A h.written (length E) 0 gs h.typed).1 p)
 
   -- the goals of a failing search are typed
@@ -238,7 +243,7 @@ module _ (d : Declared) (std : IsStandard d) (P : List Clause) (program : EachOf
   clash_within : (m c t : ℕ) → c + t < m → Clash c t
   clash_within zero c t l n j V E gs A h z zl f x e = absurd (omega (arith, l))
   clash_within (suc m) c t l n j V E gs A h z zl f x e =
-      failing_refutes c t (λ c' t' k k'. clash_within m c' t' (omega (arith, l, k, k'))) (map (instance z.types) E) (clauses_at P A z) (closed z (formula_of_goals gs)) f x e (held_provable n j V E gs A c h z zl)
+      failing_refutes c t (λ c' t' k k'. clash_within m c' t' (omega (arith, l, k, k'))) (map (instance z.types) E) (clauses_at P A z) (closed z (formula_of_goals gs)) f x e (held_provable (Below c) (below_same c) n j (λ x. x ≤ c) (shorter c) (proves_below c n j no_query (λ x. ⊥)) V E gs A c h (omega arith) z zl)
 
   pub consistent : (c t : ℕ) → Clash c t
   consistent c t = clash_within (suc (c + t)) c t (omega arith)

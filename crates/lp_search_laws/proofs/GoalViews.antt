@@ -141,7 +141,7 @@ module _ {L : Leaves} (n : ℕ) (d : Declared) (std : IsSetting L d) (P : List C
         stuck = tt;
       }
 
-  pub denied_stands : (ws : Written) (gs : Goals) → e.goal ≡ Not ws gs → has_variables n (both_written ws e.written) ≡ Some false → DeniesTyped L n d P q (going (Typings n d P q z b E Es e es (E ∷ Es)) (with_goals b (e ∷ es))) (Go (inner_branch gs)) has_no_pairs (Go (with_goals b es) ∷ [])
+  unfoldable pub denied_stands : (ws : Written) (gs : Goals) → e.goal ≡ Not ws gs → has_variables n (both_written ws e.written) ≡ Some false → DeniesTyped L n d P q (going (Typings n d P q z b E Es e es (E ∷ Es)) (with_goals b (e ∷ es))) (Go (inner_branch gs)) has_no_pairs (Go (with_goals b es) ∷ [])
   denied_stands ws gs i tested = record {
     variables = z.variables;
     eigens = E;

@@ -88,3 +88,4 @@ pub mod SameProofs
 pub mod Monomorphic
 pub mod Consistent
 pub mod Exhausted
+pub mod Decided
