@@ -40,7 +40,7 @@ use Rattle.lp_search_laws.proofs.Monomorphic.{IsOwnless, IsMonomorphicTask, mono
 use Rattle.lp_search_laws.proofs.PlainTypes.{agree_list, agree_type, agree_term, IsBelow}
 use Rattle.lp_search_laws.proofs.RefutedLeaves.{denied_leaf}
 use Rattle.lp_search_laws.proofs.Resumed.{IsSame, same_proved, entries_agree, plain_closes}
-use Rattle.lp_search_laws.proofs.Runs.{Proves, Excludes, RightRun, run_right}
+use Rattle.lp_search_laws.proofs.Runs.{all_stay, Proves, Excludes, RightRun, run_right}
 use Rattle.lp_search_laws.proofs.SameProofs.{same_provable}
 use Rattle.lp_search_laws.proofs.Stack.InnerRuns.{held_gives, held_steps}
 use Rattle.lp_search_laws.proofs.Tested.{tested_stays}
@@ -133,10 +133,10 @@ module _ (d : Declared) (std : IsStandard d) (P : List Clause) (program : EachOf
   below_same k = more_same d monomorphic_same (λ E f. (failed_run (length E) f).steps < k)
 
   -- a run of one typed task
-  module _ (L : Leaves) (same : KeepsSame L d) (n j : ℕ) (q : Query) (Few Fewer : ℕ → Type 0) (few : (x y : ℕ) → x ≤ y → Few y → Few x) (fewer : (x y : ℕ) → x ≤ y → Fewer y → Fewer x) (proves : Proves n d P q L j IsMonomorphicTask Few Fewer) (excludes : Excludes n d P q L j IsMonomorphicTask Few Fewer) where
-    pub typed_run : (m rows steps answers : ℕ) (T : TypedTask) → IsOk n d P q T → IsMonomorphicTask (task_of T) → RightRun n d P q L j IsMonomorphicTask Few Fewer false (T ∷ []) (run (look unit_limit n P) j m (starts_within rows (task_of T) steps answers))
+  module _ (L : Leaves) (same : KeepsSame L d) (n j : ℕ) (q : Query) (Few Fewer : ℕ → Type 0) (few : (x y : ℕ) → x ≤ y → Few y → Few x) (fewer : (x y : ℕ) → x ≤ y → Fewer y → Fewer x) (proves : Proves n d P q L j IsMonomorphicTask IsMonomorphicTask Few Fewer) (excludes : Excludes n d P q L j IsMonomorphicTask IsMonomorphicTask Few Fewer) where
+    pub typed_run : (m rows steps answers : ℕ) (T : TypedTask) → IsOk n d P q T → IsMonomorphicTask (task_of T) → RightRun n d P q L j IsMonomorphicTask IsMonomorphicTask Few Fewer false (T ∷ []) (run (look unit_limit n P) j m (starts_within rows (task_of T) steps answers))
     typed_run m rows steps answers T k o =
-        run_right n d P q L j IsMonomorphicTask Few Fewer (λ height U w. each_look n d (setting_of d same std) P program q height U w) (λ height U w v. monomorphic_look unit_limit n P ownless n height d q U w v) few fewer proves excludes m
+        run_right n d P q L j IsMonomorphicTask IsMonomorphicTask Few Fewer (λ height U w. each_look n d (setting_of d same std) P program q height U w) (λ height U w v. all_stay IsMonomorphicTask (look unit_limit n P height (task_of U)) (monomorphic_look unit_limit n P ownless n height d q U w v)) few fewer proves excludes m
         (starts_within rows (task_of T) steps answers) (T ∷ []) refl ((k, o), tt)
 
   shorter : (b x y : ℕ) → x ≤ y → y ≤ b → x ≤ b
@@ -168,13 +168,13 @@ module _ (d : Declared) (std : IsStandard d) (P : List Clause) (program : EachOf
       }
 
   -- what a refuted search proves
-  pub proves_monomorphic : (n j : ℕ) (q : Query) → (Fewer : ℕ → Type 0) → Proves n d P q (IsMonomorphicSearch d P) j IsMonomorphicTask (λ x. Unit {0}) Fewer
+  pub proves_monomorphic : (n j : ℕ) (q : Query) → (Fewer : ℕ → Type 0) → Proves n d P q (IsMonomorphicSearch d P) j IsMonomorphicTask IsMonomorphicTask (λ x. Unit {0}) Fewer
   proves_monomorphic n j q Fewer T u g ts r m steps rows k p ns e l c cl =
       let o : r.next_type ≡ 0 = transport IsMonomorphicTask r.is m in
       let y = denied_leaf n d P q j T u g ts r steps rows k p ns e c cl in
       (y.leaf, (y.fails, y.types ∙ o))
 
-  proves_below : (b n j : ℕ) (q : Query) → (Fewer : ℕ → Type 0) → Proves n d P q (Below b) j IsMonomorphicTask (λ x. x ≤ b) Fewer
+  proves_below : (b n j : ℕ) (q : Query) → (Fewer : ℕ → Type 0) → Proves n d P q (Below b) j IsMonomorphicTask IsMonomorphicTask (λ x. x ≤ b) Fewer
   proves_below b n j q Fewer T u g ts r m steps rows k p ns e l c cl =
       let o : r.next_type ≡ 0 = transport IsMonomorphicTask r.is m in
       let y = denied_leaf n d P q j T u g ts r steps rows k p ns e c cl in
@@ -182,7 +182,7 @@ module _ (d : Declared) (std : IsStandard d) (P : List Clause) (program : EachOf
       (y.leaf, ((y.fails, y.types ∙ o), omega (arith, s, l)))
 
   -- a search that holds makes its goals provable under some closing, with leaves of fewer steps
-  module _ (L : Leaves) (same : KeepsSame L d) (n j : ℕ) (Few : ℕ → Type 0) (few : (x y : ℕ) → x ≤ y → Few y → Few x) (proves : Proves n d P no_query L j IsMonomorphicTask Few (λ x. ⊥)) (V : List Variable) (E : List Ty) (gs : Goals) (A : List Clause) (c : ℕ) (h : IsHeldAt d P n j V E gs A c) (enough : Few c) where
+  module _ (L : Leaves) (same : KeepsSame L d) (n j : ℕ) (Few : ℕ → Type 0) (few : (x y : ℕ) → x ≤ y → Few y → Few x) (proves : Proves n d P no_query L j IsMonomorphicTask IsMonomorphicTask Few (λ x. ⊥)) (V : List Variable) (E : List Ty) (gs : Goals) (A : List Clause) (c : ℕ) (h : IsHeldAt d P n j V E gs A c) (enough : Few c) where
     abbrev first : TypedTask
     first = going (denied_typing V E gs) (denied_branch (length V) 0 gs A h.written (length E))
 
@@ -212,7 +212,7 @@ module _ (d : Declared) (std : IsStandard d) (P : List Clause) (program : EachOf
 
   -- a failing search refutes what has a proof with leaves of fewer steps, where such searches clash with none that holds in fewer steps than it
   module _ (b t : ℕ) (clash : (c' t' : ℕ) → suc c' ≤ t → t' < b → Clash c' t') where
-    excludes_below : (n j : ℕ) (q : Query) (Few : ℕ → Type 0) → Excludes n d P q (Below b) j IsMonomorphicTask Few (λ x. x ≤ t)
+    excludes_below : (n j : ℕ) (q : Query) (Few : ℕ → Type 0) → Excludes n d P q (Below b) j IsMonomorphicTask IsMonomorphicTask Few (λ x. x ≤ t)
     excludes_below n j q Few T u g ts r m steps rows k p ns e l c cl x =
         clash k (failed_run (length (map (instance c.types) r.eigens)) x.0).steps l x.1.1 n j r.variables r.eigens r.goals r.assumed (held_at n j q T u g ts r m steps rows k p ns e) c cl x.0 x.1.0 refl
 

@@ -21,14 +21,35 @@ use Rattle.lp_search_laws.proofs.Stack.InStep.{oldest_map}
 use Rattle.lp_search_laws.proofs.Stack.Faithful.{oldest_all}
 use Rattle.lp_search_laws.proofs.Stack.Inners.{BreaksRightly, inner_rightly}
 
-module _ (n : ℕ) (d : Declared) (P : List Clause) (q : Query) (L : Leaves) (j : ℕ) (Mono : Task → Type 0) (Few Fewer : ℕ → Type 0) where
+-- what holds of the tasks that a view leaves, and of that of a negated goal's search
+abbrev pub Stays : (Kept Denied : Task → Type 0) → View Task Answer → Type 0
+Stays Kept Denied (Gives a) = Unit {0}
+Stays Kept Denied (Opens ts) = EachOf Kept ts
+Stays Kept Denied (Parts ts) = EachOf Kept ts
+Stays Kept Denied (Takes name ts) = EachOf Kept ts
+Stays Kept Denied (Cuts m ts) = EachOf Kept ts
+Stays Kept Denied (Denies t f ts) = Denied t × EachOf Kept ts
+Stays Kept Denied (Halts e) = Unit {0}
+Stays Kept Denied Lacks = Unit {0}
+
+pub all_stay : (Kept : Task → Type 0) (v : View Task Answer) → AllLeft Kept v → Stays Kept Kept v
+all_stay Kept (Gives a) h = tt
+all_stay Kept (Opens ts) h = h
+all_stay Kept (Parts ts) h = h
+all_stay Kept (Takes name ts) h = h
+all_stay Kept (Cuts m ts) h = h
+all_stay Kept (Denies t f ts) h = h
+all_stay Kept (Halts e) h = tt
+all_stay Kept Lacks h = tt
+
+module _ (n : ℕ) (d : Declared) (P : List Clause) (q : Query) (L : Leaves) (j : ℕ) (Kept Denied : Task → Type 0) (Few Fewer : ℕ → Type 0) where
   -- a search of a negated goal that is refuted in few steps is a leaf for its goals
   abbrev pub Proves : Type 0
-  Proves = (T : TypedTask) (u : Task) (f : Answer → Bool) (ts : List Task) (r : DeniesTyped L n d P q T u f ts) → Mono u → (steps rows k p : ℕ) (ns : List Note) → inner (look unit_limit n P) j f (starts_within rows u steps 1) ≡ Refuted k ns p → Few (suc k) → (c : Closing) → Closes d r.variables c → HasLeaf L P c r.eigens r.assumed r.goals
+  Proves = (T : TypedTask) (u : Task) (f : Answer → Bool) (ts : List Task) (r : DeniesTyped L n d P q T u f ts) → Denied u → (steps rows k p : ℕ) (ns : List Note) → inner (look unit_limit n P) j f (starts_within rows u steps 1) ≡ Refuted k ns p → Few (suc k) → (c : Closing) → Closes d r.variables c → HasLeaf L P c r.eigens r.assumed r.goals
 
   -- for the goals of one that is held there is no leaf
   abbrev pub Excludes : Type 0
-  Excludes = (T : TypedTask) (u : Task) (f : Answer → Bool) (ts : List Task) (r : DeniesTyped L n d P q T u f ts) → Mono u → (steps rows k p : ℕ) (ns : List Note) → inner (look unit_limit n P) j f (starts_within rows u steps 1) ≡ Held k ns p → Fewer (suc k) → (c : Closing) → Closes d r.variables c → HasLeaf L P c r.eigens r.assumed r.goals → ⊥
+  Excludes = (T : TypedTask) (u : Task) (f : Answer → Bool) (ts : List Task) (r : DeniesTyped L n d P q T u f ts) → Denied u → (steps rows k p : ℕ) (ns : List Note) → inner (look unit_limit n P) j f (starts_within rows u steps 1) ≡ Held k ns p → Fewer (suc k) → (c : Closing) → Closes d r.variables c → HasLeaf L P c r.eigens r.assumed r.goals → ⊥
 
   abbrev Solved : Instance → List TypedTask → Type 0
   Solved i Ts = AnyOf (Sol L d P q i) Ts
@@ -55,14 +76,14 @@ module _ (n : ℕ) (d : Declared) (P : List Clause) (q : Query) (L : Leaves) (j 
 
   -- a typed task as it should be
   abbrev IsFine : TypedTask → Type 0
-  IsFine T = IsOk n d P q T × Mono (task_of T)
+  IsFine T = IsOk n d P q T × Kept (task_of T)
 
-  module _ (looks : (height : ℕ) (T : TypedTask) → IsOk n d P q T → IsRightView L n d P q T (look unit_limit n P height (task_of T))) (monos : (height : ℕ) (T : TypedTask) → IsOk n d P q T → Mono (task_of T) → AllLeft Mono (look unit_limit n P height (task_of T)))
+  module _ (looks : (height : ℕ) (T : TypedTask) → IsOk n d P q T → IsRightView L n d P q T (look unit_limit n P height (task_of T))) (monos : (height : ℕ) (T : TypedTask) → IsOk n d P q T → Kept (task_of T) → Stays Kept Denied (look unit_limit n P height (task_of T)))
       (few : (x y : ℕ) → x ≤ y → Few y → Few x) (fewer : (x y : ℕ) → x ≤ y → Fewer y → Fewer x) (proves : Proves) (excludes : Excludes) where
-    all_fine : (Us : List TypedTask) (ts : List Task) → map task_of Us ≡ ts → EachOf (IsOk n d P q) Us → EachOf Mono ts → EachOf IsFine Us
+    all_fine : (Us : List TypedTask) (ts : List Task) → map task_of Us ≡ ts → EachOf (IsOk n d P q) Us → EachOf Kept ts → EachOf IsFine Us
     all_fine [] ts e h m = tt
     all_fine (U ∷ Us) [] e h m = absurd (cc)
-    all_fine (U ∷ Us) (t ∷ ts) e h m = let x : task_of U ≡ t = cc in let y : map task_of Us ≡ ts = cc in ((h.0, transport Mono (sym x) m.0), all_fine Us ts y h.1 m.1)
+    all_fine (U ∷ Us) (t ∷ ts) e h m = let x : task_of U ≡ t = cc in let y : map task_of Us ≡ ts = cc in ((h.0, transport Kept (sym x) m.0), all_fine Us ts y h.1 m.1)
 
     both_tasks : (Us Rest : List TypedTask) (ts : List Task) → map task_of Us ≡ ts → ts ++ map task_of Rest ≡ map task_of (Us ++ Rest)
     both_tasks Us Rest ts e = ap (λ z. z ++ map task_of Rest) (sym e) ∙ sym (map-append task_of Us Rest)
@@ -97,7 +118,7 @@ module _ (n : ℕ) (d : Declared) (P : List Clause) (q : Query) (L : Leaves) (j 
         abbrev rest : List Task
         rest = map task_of Rest
 
-        denied_right : (u : Task) (f : Answer → Bool) (ts : List Task) (r : DeniesTyped L n d P q T u f ts) → Mono u → EachOf Mono ts → (m k g rows : ℕ) (x : Inner) → inner (look unit_limit n P) j f (starts_within rows u m 1) ≡ x → RightRun lost (T ∷ Rest) (told_after go (move_denied m k g rows lost ts rest x))
+        denied_right : (u : Task) (f : Answer → Bool) (ts : List Task) (r : DeniesTyped L n d P q T u f ts) → Denied u → EachOf Kept ts → (m k g rows : ℕ) (x : Inner) → inner (look unit_limit n P) j f (starts_within rows u m 1) ≡ x → RightRun lost (T ∷ Rest) (told_after go (move_denied m k g rows lost ts rest x))
         denied_right u f ts r a b m k g rows (Refuted c ns p) e =
             let Us = going r.rest_typing r.rest ∷ [] in
             let w : map task_of Us ≡ ts = sym r.goes_on in
@@ -112,7 +133,7 @@ module _ (n : ℕ) (d : Declared) (P : List Clause) (q : Query) (L : Leaves) (j 
         denied_right u f ts r a b m k g rows (Broke c ns x) e = none_ended lost (T ∷ Rest) _ refl (λ y. let z : x ≡ NoMore = cc in transport BreaksRightly e (inner_rightly (look unit_limit n P) j f (starts_within rows u m 1)) z)
         denied_right u f ts r a b m k g rows (Lasts c ns) e = none_ended lost (T ∷ Rest) _ refl (λ y. cc)
 
-        view_right : (m k g u p : ℕ) (v : View Task Answer) → IsRightView L n d P q T v → AllLeft Mono v → RightRun lost (T ∷ Rest) (told_after go (move_view (inner (look unit_limit n P) j) m k g u p lost rest v))
+        view_right : (m k g u p : ℕ) (v : View Task Answer) → IsRightView L n d P q T v → Stays Kept Denied v → RightRun lost (T ∷ Rest) (told_after go (move_view (inner (look unit_limit n P) j) m k g u p lost rest v))
         view_right m k g u p (Gives a) r w =
             let x = ih _ Rest refl oks in
             record {

@@ -19,7 +19,7 @@ use Rattle.lp_search_laws.proofs.LooksRight.{each_look}
 use Rattle.lp_search_laws.proofs.WholeRight.{query_instance, an_instance}
 use Rattle.lp_search_laws.proofs.FailedSearches.{KeepsSame, setting_of, failed_same, program_kept}
 use Rattle.lp_search_laws.proofs.RefutedLeaves.{denied_leaf}
-use Rattle.lp_search_laws.proofs.Runs.{run_right}
+use Rattle.lp_search_laws.proofs.Runs.{all_stay, run_right}
 use Rattle.lp_search_laws.proofs.Stack.Ends.{leaves_any}
 
 module _ {L : Leaves} (d : Declared) (std : IsStandard d) (same : KeepsSame L d) (l : ℕ) (F : List ClauseFormula) (P : List Clause) (s : EachOf (IsTypedSentence d) F) (x : AreFlattened d F P) (q : Query) (gs : Goals) (t : IsTypedQuery d q) (e : flatten_query l d q.formula ≡ Some gs) where
@@ -51,6 +51,6 @@ module _ (d : Declared) (std : IsStandard d) (l : ℕ) (F : List ClauseFormula) 
       let first = going (first_typing q gs) (first_branch q.type_vars (length q.vars) gs) in
       let same = failed_same d P in
       let setting = setting_of d same std in
-      let r = run_right n d P q (IsFailedSearch d P) j (λ u. Unit {0}) (λ k. Unit {0}) (λ k. ⊥) (λ height T k. each_look n d setting P (program_typed d std F P s x) q height T k) (λ height T k m. leaves_any (look unit_limit n P height (task_of T))) (λ y z k h. h) (λ y z k h. h)
+      let r = run_right n d P q (IsFailedSearch d P) j (λ u. Unit {0}) (λ u. Unit {0}) (λ k. Unit {0}) (λ k. ⊥) (λ height T k. each_look n d setting P (program_typed d std F P s x) q height T k) (λ height T k m. all_stay (λ u. Unit {0}) (look unit_limit n P height (task_of T)) (leaves_any (look unit_limit n P height (task_of T)))) (λ y z k h. h) (λ y z k h. h)
       (λ T u f ts r m st rows k p ns y o c cl. let z = denied_leaf n d P q j T u f ts r st rows k p ns y c cl in (z.leaf, z.fails)) (λ T u f ts r m st rows k p ns y o c cl z. o) m (start q.type_vars (length q.vars) gs steps answers) (first ∷ []) refl (((start_typed d std l q gs t e n steps answers).1, tt), tt) in
       transport (EachOf Fine) r.is (each_fine r.typed r.well_formed (each_proved d std same l F P s x q gs t e r.typed r.well_formed (r.sound tt)))
