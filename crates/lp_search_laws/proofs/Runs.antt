@@ -98,7 +98,8 @@ module _ (n : ℕ) (d : Declared) (P : List Clause) (q : Query) (L : Leaves) (j 
     none_ended lost Ts t a e = record { typed = []; is = sym a; well_formed = tt; sound = λ f. tt; exhausts = λ x f i s. absurd (e x); never = λ l x. e x }
 
     module _ (go : State Task → Told Answer) (ih : (s : State Task) (Ts : List TypedTask) → s.stack ≡ map task_of Ts → EachOf IsFine Ts → RightRun s.lost Ts (go s)) where
-      goes : (lost lost' : Bool) (Ts Us : List TypedTask) (c : ℕ) (ns : List Note) (s : State Task) → RightRun lost' Us (go s) → (lost ≡ true → lost' ≡ true) → (Few (c + (go s).steps) → (i : Instance) → Solved i Us → Solved i Ts) → ((go s).ending ≡ Some NoMore → Fewer (c + (go s).steps) → (i : Instance) → Solved i Ts → Solved i Us) → RightRun lost Ts (told_after go (Goes c ns s))
+      goes : (lost lost' : Bool) (Ts Us : List TypedTask) (c : ℕ) (ns : List Note) (s : State Task) → RightRun lost' Us (go s) → (lost ≡ true → lost' ≡ true) →
+          (Few (c + (go s).steps) → (i : Instance) → Solved i Us → Solved i Ts) → ((go s).ending ≡ Some NoMore → Fewer (c + (go s).steps) → (i : Instance) → Solved i Ts → Solved i Us) → RightRun lost Ts (told_after go (Goes c ns s))
       goes lost lost' Ts Us c ns s x l g k = record {
         typed = x.typed;
         is = x.is;
