@@ -1,0 +1,4 @@
+mod Again
+mod Lengthened
+mod Looping
+mod Taking
