@@ -3,7 +3,8 @@ use Rattle.std.proofs.Common.{◌≡◌, ℕ, ◌+◌, ◌≤◌, ◌<◌, Bool,
 use Rattle.std.specs.Prelude.{OnOk}
 use Rattle.std.proofs.lemmas.Bool.{le-ltb, lt-ltb, cases_lt}
 use Rattle.std.proofs.lemmas.List.{append-nil, length-append}
-use Rattle.lp_bytes.specs.Writing.{limited, more}
+use Rattle.lp_bytes.specs.declared.written.Writer.{Writer}
+use Rattle.lp_bytes.specs.Writing.{limited, more, text_of}
 
 too_long : (bytes : List ℕ) → 16777216 < length bytes → limited bytes ≡ None
 too_long bytes lt = ap (λ b. cond b None (Some bytes)) (lt-ltb 16777216 (length bytes) lt)
@@ -54,7 +55,37 @@ unfolding more
 room_left true b c t e h le = absurd cc
 room_left false b c t e h le = ap Some h ∙ sym (short (b ++ t) (omega (arith, le, length-append b t)))
 
-pub nothing_more : (f : Bool) (b : List ℕ) → length b ≤ 16777216 → more (state f b) [] ≡ state f b
+nothing_more : (f : Bool) (b : List ℕ) → length b ≤ 16777216 → more (state f b) [] ≡ state f b
 unfolding more
 nothing_more true b le = refl
 nothing_more false b le = ap limited (append-nil b) ∙ short b le
+
+pub more_nothing : (w : Writer) → more (text_of w) [] ≡ text_of w
+more_nothing w = nothing_more w.full w.bytes.items w.few
+
+-- ---- all of a file
+
+abbrev nothing : Option (List ℕ)
+nothing = None
+
+not_both : (bytes : List ℕ) → nothing ≡ Some bytes → ⊥
+not_both bytes e = absurd cc
+
+same_bytes : (x y : List ℕ) → ◌≡◌ {A = Option (List ℕ)} (Some x) (Some y) → x ≡ y
+same_bytes x y e = cc
+
+pub all_written : (t : Option (List ℕ)) (all bytes : List ℕ) → t ≡ more (Some []) all → t ≡ Some bytes → (bytes ≡ all) × (length bytes ≤ 16777216)
+unfolding more
+all_written t all bytes e f =
+    elim (cases_lt 16777216 (length all)) [
+      | inl lt ↦ absurd (not_both bytes (sym (e ∙ too_long all lt) ∙ f))
+      | inr le ↦ let same : bytes ≡ all = same_bytes bytes all (sym f ∙ e ∙ short all le) in (same, omega (arith, ap length same, le))
+    ]
+
+pub too_many : (t : Option (List ℕ)) (all : List ℕ) → t ≡ more (Some []) all → t ≡ None → 16777216 < length all
+unfolding more
+too_many t all e f =
+    elim (cases_lt 16777216 (length all)) [
+      | inl lt ↦ lt
+      | inr le ↦ absurd (not_both all (sym f ∙ e ∙ short all le))
+    ]

@@ -1,4 +1,5 @@
-mod Again
-mod Lengthened
-mod Looping
-mod Taking
+-- Text behind text, and what reading takes and gives back.
+pub mod Again
+pub mod Lengthened
+pub mod Looping
+pub mod Taking

@@ -1,5 +1,5 @@
 // Fields that are written.
-ghost use Rattle.std.specs.Prelude.{◌≡◌, ◌≤◌, ◌∷◌, [], Some, None, OnOk, IfOk, IfErr, length, true, false};
+ghost use Rattle.std.specs.Prelude.{◌≡◌, ◌∷◌, [], Some, None, OnOk, IfOk, IfErr, true};
 ghost use Rattle.lp_base.specs.declared.limit.Limit.TheVariants.{Image};
 ghost use Rattle.lp_bytes.specs.Numbers.{spelled_two, spelled_four, spelled_integer, spelled_long_text};
 ghost use Rattle.lp_bytes.specs.Writing.{text_of, more};
@@ -21,8 +21,7 @@ impl Writer {
 
     /// Whether there would be too many bytes: then nothing that follows changes the writer.
     pub fn is_full(&self) -> bool
-        ensures full { result ≡ true → text_of self.now ≡ None }
-        ensures open { result ≡ false → more (text_of self.now) [] ≡ text_of self.now }
+        ensures { result ≡ true → text_of self.now ≡ None }
     {
         self.full
     }

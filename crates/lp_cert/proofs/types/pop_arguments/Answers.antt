@@ -1,0 +1,12 @@
+use Rattle.std.proofs.Common.{ap, drop, reverse, ◌∙◌, arith}
+use Rattle.lp_cert.proofs.Stacked.{two_parts}
+use Rattle.lp_cert.proofs.types.pop_arguments.Goals as goal
+
+pub returns-clause-taken : goal.returns-clause-taken
+returns-clause-taken c =
+    c.reverse.ensures.items ∙ ap reverse (c.in_ok-arguments.ensures.items ∙ ap (drop c.saturating_sub-start.result) c.deref.ensures.value)
+    ∙ (two_parts c.args.stack.now.items c.args.count c.saturating_sub-start.result (omega (arith, c.saturating_sub-start.ensures, c.len.ensures, c.from.ensures, c.args.stack.now.ok))).0
+
+pub returns-clause-left : goal.returns-clause-left
+returns-clause-left c =
+    ap reverse c.truncate.ensures.items ∙ (two_parts c.args.stack.now.items c.args.count c.saturating_sub-start.result (omega (arith, c.saturating_sub-start.ensures, c.len.ensures, c.from.ensures, c.args.stack.now.ok))).1
