@@ -30,7 +30,7 @@ two_parts {A = A} xs n start e =
 
 -- ---- types
 
-abbrev Stand : Nodes → List TypeId → List Ty → Type 0
+abbrev pub Stand : Nodes → List TypeId → List Ty → Type 0
 Stand a stack ts = (b : Nodes) → Extends a b → types_stacked b stack ≡ ts
 
 -- one more on a stack
@@ -68,7 +68,7 @@ one_type_on a c old mid new from ts e f g stand b y =
 
 -- ---- terms
 
-abbrev Terms : Nodes → List TermId → List Term → Type 0
+abbrev pub Terms : Nodes → List TermId → List Term → Type 0
 Terms a stack ts = (b : Nodes) → Extends a b → terms_stacked b stack ≡ ts
 
 pub term_on : (a c : Nodes) → Extends a c → (mid new : List TermId) (made : TermId) (T : Term) (rest : List Term) → new ≡ mid ++ made ∷ [] → made.0 < length c.terms → tree c made.0 ≡ T → Terms a mid rest → Terms c new (T ∷ rest)

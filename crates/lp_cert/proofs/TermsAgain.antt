@@ -26,7 +26,7 @@ read_as g r x rest p = bind_runs r (λ z. Ok (g z.0, z.1)) x rest (g x) rest p (
 
 -- ---- leaves
 
-after_byte : Counts → ℕ → ℕ × Left → Read TermTop
+abbrev after_byte : Counts → ℕ → ℕ × Left → Read TermTop
 after_byte d at b = cond (eqb b.0 6) (Ok (an_abstraction, b.1)) (cond (eqb b.0 7) (Ok (an_application, b.1)) (as_read leaf (leaf_at d at b.0 b.1)))
 
 constant_again : (d : Counts) (c : ℕ) (ts : List Ty) (s : Left) (rest : List ℕ) → IsAtom d (constant c ts) → s.rest ≡ (spelled_four c ++ flat_map spelled_type ts) ++ rest → Runs (constant_at d s) (atom (constant c ts)) rest
@@ -44,7 +44,7 @@ parameter_again d k T s rest h e =
       (λ t i. read_as (λ t. atom (term.param k t)) (type_at d t) T rest (type_again d T t rest h.1 i))
 
 leaf_again : (d : Counts) (x : Term) (s : Left) (rest : List ℕ) → IsLeaf d x → s.rest ≡ spelled_term x ++ rest → Runs (term_top_at d s) (leaf x) rest
-unfolding term_top_at after_byte leaf_at
+unfolding term_top_at leaf_at
 leaf_again d (index i) s rest h e =
     bind_runs (byte_at s) (λ b. after_byte d s.at b) 0 (spelled_four i ++ rest) (leaf (index i)) rest (byte_again 0 s (spelled_four i ++ rest) e)
       (λ t j. read_as leaf (as_read index (four_at t)) (index i) rest (read_as index (four_at t) i rest (four_again i t rest h j)))
@@ -70,7 +70,7 @@ leaf_again d (abs t) s rest h e = absurd h
 leaf_again d (app t u) s rest h e = absurd h
 
 top_again : (d : Counts) (one : ⊤) (x : TermTop) (s : Left) (rest : List ℕ) → IsTermTop d one x → s.rest ≡ spelled_term_top x ++ rest → Runs (term_top_at d s) x rest
-unfolding term_top_at after_byte
+unfolding term_top_at
 top_again d one (leaf t) s rest h e = leaf_again d t s rest h e
 top_again d one an_abstraction s rest h e = bind_runs (byte_at s) (λ b. after_byte d s.at b) 6 rest an_abstraction rest (byte_again 6 s rest e) (λ t i. (t, refl, i))
 top_again d one an_application s rest h e = bind_runs (byte_at s) (λ b. after_byte d s.at b) 7 rest an_application rest (byte_again 7 s rest e) (λ t i. (t, refl, i))

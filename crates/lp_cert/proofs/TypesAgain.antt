@@ -20,12 +20,12 @@ use Rattle.lp_cert.proofs.TypesFound.{some_bytes}
 
 -- ---- one top
 
-after_byte : Counts → ℕ → ℕ × Left → Read TypeTop
+abbrev after_byte : Counts → ℕ → ℕ × Left → Read TypeTop
 after_byte d at b =
     cond (eqb b.0 0) (as_read parameter (four_at b.1)) (cond (eqb b.0 1) (four_at b.1 >>= λ k. kind_top_at b.1.at k.0 (count_of_kind d k.0) k.1) (cond (eqb b.0 2) (Ok (an_arrow, b.1)) (Err (BadField at))))
 
 top_again : (d : Counts) (one : ⊤) (x : TypeTop) (s : Left) (rest : List ℕ) → IsTypeTop d one x → s.rest ≡ spelled_type_top x ++ rest → Runs (type_top_at d s) x rest
-unfolding type_top_at after_byte
+unfolding type_top_at
 top_again d one (parameter v) s rest h e =
     bind_runs (byte_at s) (λ b. after_byte d s.at b) 0 (spelled_four v ++ rest) (parameter v) rest (byte_again 0 s (spelled_four v ++ rest) e)
       (λ t i. bind_runs (four_at t) (λ v. Ok (parameter v.0, v.1)) v rest (parameter v) rest (four_again v t rest h i) (λ u j. (u, refl, j)))

@@ -31,8 +31,8 @@ all_behind P (suc n) [] h = tt
 all_behind P (suc n) (x ∷ xs) h = all_behind P n xs h.1
 
 pub length_units : (n : ℕ) (more : List ⊤) → length (replicate n tt ++ more) ≡ n + length more
-length_units zero more = refl
-length_units (suc n) more = ap suc (length_units n more)
+length_units zero more = omega arith
+length_units (suc n) more = let h = length_units n more in omega (arith, h)
 
 -- a value that is made of the one that is read
 pub as_takes : {A B : Type 0} (g : A → B) (spell : A → List ℕ) (spelled : B → List ℕ) (P : A → Type 0) (Q : B → Type 0) → ((x : A) → spelled (g x) ≡ spell x) → ((x : A) → P x → Q (g x))
@@ -106,17 +106,17 @@ types_are_made d (kind k n ∷ tops) (one ∷ to_come) h =
       (record { count = p.count ∙ length_units n to_come; fit = p.fit; bytes_are = p.bytes_are })
 types_are_made d (an_arrow ∷ tops) (one ∷ to_come) h = arrow_made d (length to_come) (flat_map spelled_type_top tops) (types_made tops) (types_are_made d tops (tt ∷ tt ∷ to_come) h.1)
 
-kind_top_takes : (d : Counts) (s : Left) (x : TypeTop) (t : Left) → IsBytes s.rest → (four_at s >>= λ k. kind_top_at s.at k.0 (count_of_kind d k.0) k.1) ≡ Ok (x, t) → (text : List ℕ) × Takes s text t × (spelled_type_top x ≡ 1 ∷ text) × IsTypeTop d tt x
-kind_top_takes d s x t h e =
+kind_top_takes : (d : Counts) (one : ⊤) (s : Left) (x : TypeTop) (t : Left) → IsBytes s.rest → (four_at s >>= λ k. kind_top_at s.at k.0 (count_of_kind d k.0) k.1) ≡ Ok (x, t) → (text : List ℕ) × Takes s text t × (spelled_type_top x ≡ 1 ∷ text) × IsTypeTop d one x
+kind_top_takes d one s x t h e =
     let a = bind_ok (four_at s) (λ k. kind_top_at s.at k.0 (count_of_kind d k.0) k.1) (x, t) e in
     let p = four_takes s a.0.0 a.0.1 h a.1 in
-    kind_is d s a.0.0 a.0.1 x t p.0 p.1 (count_of_kind d a.0.0) refl a.2
+    kind_is d one s a.0.0 a.0.1 x t p.0 p.1 (count_of_kind d a.0.0) refl a.2
   where
-    kind_is : (d : Counts) (s : Left) (k : ℕ) (u : Left) (x : TypeTop) (t : Left) → Takes s (spelled_four k) u → k < 2 ^ 32 → (o : Option ℕ) → count_of_kind d k ≡ o → kind_top_at s.at k o u ≡ Ok (x, t)
-        → (text : List ℕ) × Takes s text t × (spelled_type_top x ≡ 1 ∷ text) × IsTypeTop d tt x
-    kind_is d s k u x t p lt None c e = absurd cc
-    kind_is d s k u x t p lt (Some n) c e =
-        subst (λ (z : TypeTop × Left). (text : List ℕ) × Takes s text z.1 × (spelled_type_top z.0 ≡ 1 ∷ text) × IsTypeTop d tt z.0) (ok_is (kind k n, u) (x, t) e) (spelled_four k, p, refl, (lt, c))
+    kind_is : (d : Counts) (one : ⊤) (s : Left) (k : ℕ) (u : Left) (x : TypeTop) (t : Left) → Takes s (spelled_four k) u → k < 2 ^ 32 → (o : Option ℕ) → count_of_kind d k ≡ o → kind_top_at s.at k o u ≡ Ok (x, t)
+        → (text : List ℕ) × Takes s text t × (spelled_type_top x ≡ 1 ∷ text) × IsTypeTop d one x
+    kind_is d one s k u x t p lt None c e = absurd cc
+    kind_is d one s k u x t p lt (Some n) c e =
+        subst (λ (z : TypeTop × Left). (text : List ℕ) × Takes s text z.1 × (spelled_type_top z.0 ≡ 1 ∷ text) × IsTypeTop d one z.0) (ok_is (kind k n, u) (x, t) e) (spelled_four k, p, refl, (lt, c))
 
 pub some_bytes : (x : TypeTop) → 0 < length (spelled_type_top x)
 some_bytes (parameter v) = omega arith
@@ -138,7 +138,7 @@ type_top_takes d one s x t h e =
           (q.0, some_bytes x, q.1)
       | inr n ↦ elim (chosen (eqb a.0.0 1) (four_at a.0.1 >>= λ k. kind_top_at a.0.1.at k.0 (count_of_kind d k.0) k.1) (last a.0) (Ok (x, t)) n.1) [
         | inl y ↦
-            let q = kind_top_takes d a.0.1 x t p.bytes y.1 in
+            let q = kind_top_takes d one a.0.1 x t p.bytes y.1 in
             (takes_as s (1 ∷ q.0) (spelled_type_top x) t (sym q.2) (takes_then s (1 ∷ []) a.0.1 q.0 t (at 1 y.0) q.1), some_bytes x, q.3)
         | inr n ↦
             let y = held (eqb a.0.0 2) (Ok (an_arrow, a.0.1)) (BadField s.at) (x, t) n.1 in

@@ -50,7 +50,7 @@ unfolding more
 full_is s a waits all e so_far = e ∙ sym (ap (λ r. more r waits) e) ∙ so_far
 
 pub none_waits : (s a : Option (List ℕ)) (waits all : List ℕ) → more s [] ≡ s → waits ≡ [] → more s waits ≡ more a all → s ≡ more a all
-none_waits s a waits all open e so_far = sym open ∙ sym (ap (more s) e) ∙ so_far
+none_waits s a waits all room e so_far = sym room ∙ sym (ap (more s) e) ∙ so_far
 
 pub all_too_much : (s a : Option (List ℕ)) (all : List ℕ) → s ≡ None → 16777216 < length all → s ≡ more a all
 all_too_much s a all e lt = e ∙ sym (too_much a all lt)
@@ -188,7 +188,7 @@ has_arguments types terms (eigen_node k) h = tt
 has_arguments types terms (logic_node v level) h = tt
 has_arguments types terms (typed_param_node k t) h = tt
 has_arguments types terms (abs_node b) h = tt
-has_arguments types terms (app_node f ids) h = h.2.1
+has_arguments types terms (app_node f ids) h = h.2
 
 pub some_sevens : {A : Type 0} (args : List A) (f : A → ℕ) → map f args ≢ [] → 0 < length (replicate (length args) 7)
 some_sevens [] f h = absurd (h refl)

@@ -8,7 +8,7 @@ units n = replicate n tt
 
 pub one_wanted : (n : ℕ) → 0 < n → units n ≡ tt ∷ units (n - 1)
 one_wanted zero lt = absurd (omega (arith, lt))
-one_wanted (suc n) lt = refl
+one_wanted (suc n) lt = let k : n ≡ suc n - 1 = omega arith in ap (λ m. tt ∷ units m) k
 
 -- a part is read, which asks for more
 pub more_wanted : (n m now : ℕ) (below : List ⊤) → below ≡ units m → now ≡ n - 1 + m → units now ≡ below ++ units (n - 1)

@@ -1,4 +1,4 @@
-use Rattle.std.proofs.Common.{◌-◌, ◌∷◌, [], map, replicate, reverse, ap, sym, refl, arith}
+use Rattle.std.proofs.Common.{◌≡◌, ◌-◌, ◌+◌, ◌∷◌, [], suc, length, map, replicate, reverse, ap, sym, refl, arith}
 use Rattle.std.proofs.lemmas.Result.{err_from_is_err_and}
 use Rattle.lp_lemmas.proofs.Lists.{map_pushed, reverse_pushed}
 use Rattle.lp_term.proofs.Trees.{extends_same, extends-trans}
@@ -12,7 +12,7 @@ use Rattle.lp_cert.proofs.nodes.read_proof.Goals as goal
 pub loop-init : goal.loop-init
 unfolding proof_at
 loop-init c =
-    let k = omega (arith, c.len.ensures) in
+    let k : c.len.result + 1 - 0 ≡ suc (length (left_of c.args.reader.now).rest) = omega (arith, c.len.ensures) in
     (extends_same _, λ b y. λ i. nested_at (node_at (counts_of c.args.arities.now)) nodes_below [] (k i) (ap reverse c.in_ok-push.ensures.items i) (left_of c.args.reader.now))
 
 pub loop-preserved : goal.loop-preserved

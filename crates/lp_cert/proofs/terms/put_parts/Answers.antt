@@ -1,4 +1,4 @@
-use Rattle.std.proofs.Common.{map, drop, refl, sym, ap, ◌∙◌, arith}
+use Rattle.std.proofs.Common.{◌≡◌, map, drop, refl, sym, ap, ◌∙◌, arith}
 use Rattle.lp_term.proofs.Trees.{extends_same, extends-trans}
 use Rattle.lp_cert.specs.Reading.{terms_made}
 use Rattle.lp_cert.proofs.Firsts.{term_part_before, none_behind}
@@ -15,4 +15,6 @@ loop-left-preserved c =
        c.in_ok-put_part.ensures.made s.0 (terms_made (drop c.loop-left.left tops)) (λ e z. (s.2 e (extends-trans _ _ e c.loop-left.invariant.1 z), c.loop-left.invariant.2 tops same e z)) b y ∙ ap terms_made (sym s.1))
 
 pub returns-clause-made : goal.returns-clause-made
-returns-clause-made c = λ tops same b y. c.loop-left.invariant.2 tops same b y ∙ ap (λ n. terms_made (drop n tops)) (omega (arith, c.loop-left-test.false))
+returns-clause-made c =
+    let none : c.loop-left.left ≡ 0 = omega (arith, c.loop-left-test.false) in
+    λ tops same b y. c.loop-left.invariant.2 tops same b y ∙ ap (λ n. terms_made (drop n tops)) none

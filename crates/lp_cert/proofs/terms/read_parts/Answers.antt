@@ -1,4 +1,4 @@
-use Rattle.std.proofs.Common.{◌-◌, ◌∷◌, [], map, replicate, reverse, ap, sym, refl, arith}
+use Rattle.std.proofs.Common.{◌≡◌, ◌-◌, ◌+◌, ◌∷◌, [], suc, length, map, replicate, reverse, ap, sym, refl, arith}
 use Rattle.std.proofs.lemmas.Result.{err_from_is_err_and}
 use Rattle.lp_lemmas.proofs.Lists.{map_pushed, reverse_pushed}
 use Rattle.lp_term.proofs.Trees.{extends_same, extends-trans}
@@ -12,7 +12,9 @@ use Rattle.lp_cert.proofs.terms.read_parts.Goals as goal
 
 pub loop-init : goal.loop-init
 unfolding term_tops_at
-loop-init c = (omega arith, extends_same _, λ b y. ap (λ m. nested_at (λ one. term_top_at (counts_of c.args.arities.now)) terms_below [] m (tt ∷ []) (left_of c.args.reader.now)) (omega (arith, c.len.ensures)))
+loop-init c =
+    let k : c.len.result + 1 - 0 ≡ suc (length (left_of c.args.reader.now).rest) = omega (arith, c.len.ensures) in
+    (omega arith, extends_same _, λ b y. ap (λ m. nested_at (λ one. term_top_at (counts_of c.args.arities.now)) terms_below [] m (tt ∷ []) (left_of c.args.reader.now)) k)
 
 pub loop-preserved : goal.loop-preserved
 loop-preserved c =

@@ -1,4 +1,4 @@
-use Rattle.std.proofs.Common.{[], ap, arith}
+use Rattle.std.proofs.Common.{◌≡◌, ◌-◌, [], ap, arith}
 use Rattle.std.proofs.lemmas.Result.{err_from_is_err_and}
 use Rattle.lp_lemmas.proofs.Lists.{map_pushed}
 use Rattle.lp_term.specs.Nodes.{tree, type_tree}
@@ -12,7 +12,9 @@ use Rattle.lp_cert.proofs.terms.read_terms.Goals as goal
 
 pub loop-init : goal.loop-init
 unfolding terms_at
-loop-init c = (extends_same _, λ b y. ap (λ n. each_at (λ before. term_at (counts_of c.args.arities.now)) [] n (left_of c.args.reader.now)) (omega arith))
+loop-init c =
+    let k : c.args.count - 0 ≡ c.args.count = omega arith in
+    (extends_same _, λ b y. ap (λ n. each_at (λ before. term_at (counts_of c.args.arities.now)) [] n (left_of c.args.reader.now)) k)
 
 pub loop-preserved : goal.loop-preserved
 loop-preserved c =

@@ -1,4 +1,4 @@
-use Rattle.std.proofs.Common.{◌+◌, replicate, refl, sym, ap, ◌∙◌, arith}
+use Rattle.std.proofs.Common.{◌≡◌, ◌+◌, replicate, refl, sym, ap, ◌∙◌, arith}
 use Rattle.lp_bytes.specs.Writing.{more}
 use Rattle.lp_bytes.proofs.Lengthened.{more_nothing, more_then}
 use Rattle.lp_cert.proofs.Waits.{one_seven}
@@ -11,4 +11,6 @@ pub loop-preserved : goal.loop-preserved
 loop-preserved c = (omega (arith, c.loop-test.true), more_then _ _ _ _ _ c.loop.invariant.1 c.in_ok-byte.ensures ∙ ap (more _) (sym (one_seven c.loop.counter)))
 
 pub returns : goal.returns
-returns c = c.loop.invariant.1 ∙ ap (λ n. more _ (replicate n 7)) (omega (arith, c.loop-test.false, c.loop.invariant.0))
+returns c =
+    let all : c.loop.counter ≡ c.args.count = omega (arith, c.loop-test.false, c.loop.invariant.0) in
+    c.loop.invariant.1 ∙ ap (λ n. more _ (replicate n 7)) all

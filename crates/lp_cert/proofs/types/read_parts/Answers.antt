@@ -10,10 +10,6 @@ use Rattle.lp_cert.specs.inner.Parts.{type_top_of}
 use Rattle.lp_cert.proofs.Wanted.{one_wanted, more_wanted, none_wanted}
 use Rattle.lp_cert.proofs.types.read_parts.Goals as goal
 
-pub loop-init : goal.loop-init
-unfolding type_tops_at
-loop-init c = (omega arith, ap (λ m. nested_at (λ one. type_top_at (counts_of c.args.arities.now)) types_below [] m (tt ∷ []) (left_of c.args.reader.now)) (omega (arith, c.len.ensures)))
-
 pub loop-preserved : goal.loop-preserved
 loop-preserved c =
     (omega (arith, c.loop.invariant.0, c.arguments.ensures.few, c.loop-test.true),
