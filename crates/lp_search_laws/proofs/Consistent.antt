@@ -21,6 +21,8 @@ use Rattle.lp_model.specs.Branch.{Answer, Task, Go, Entry, entries, both_written
 use Rattle.lp_model.specs.Search.{look, has_no_pairs, has_variables}
 use Rattle.lp_model.specs.Answers.{Query, Variable, Closes}
 use Rattle.lp_model.specs.Proofs.{Declared, Failure, IsFormula, IsWitness, Leaves, ProvableBy, assumed, newest_first}
+use Rattle.lp_standard.specs.Connectives.{not_of}
+use Rattle.lp_proof_laws.proofs.Uniform.Heads.{denial_root_by}
 use Rattle.lp_proof_laws.proofs.Uniform.Settings.{IsSetting}
 use Rattle.lp_proof_laws.proofs.Uniform.Uniforms.{by_conversion}
 use Rattle.lp_search_laws.specs.Holds.{Holds, IsTyped}
@@ -210,40 +212,49 @@ module _ (d : Declared) (std : IsStandard d) (P : List Clause) (program : EachOf
   typed_entries V E A w l m [] h = tt
   typed_entries V E A w l m (g ∷ gs) h = (h.0.goal, typed_entries V E A w l m gs h.1)
 
-  -- a failing search refutes what has a proof with leaves of fewer steps, where such searches clash with none that holds in fewer steps than it
-  module _ (b t : ℕ) (clash : (c' t' : ℕ) → suc c' ≤ t → t' < b → Clash c' t') where
-    excludes_below : (n j : ℕ) (q : Query) (Few : ℕ → Type 0) → Excludes n d P q (Below b) j IsMonomorphicTask IsMonomorphicTask Few (λ x. x ≤ t)
-    excludes_below n j q Few T u g ts r m steps rows k p ns e l c cl x =
-        clash k (failed_run (length (map (instance c.types) r.eigens)) x.0).steps l x.1.1 n j r.variables r.eigens r.goals r.assumed (held_at n j q T u g ts r m steps rows k p ns e) c cl x.0 x.1.0 refl
-
-    pub failing_refutes : (E : List Ty) (R : List ClauseFormula) (G : Term) (f : Failure) → IsMonomorphicSearch d P E R G f → (failed_run (length E) f).steps ≡ t → ProvableBy (Below b) d E R G → ⊥
-    failing_refutes E R G f x e p =
+  -- a failing search refutes what has a proof, where no leaf of the proof is for goals at which a search holds in few steps
+  module _ (L : Leaves) (same : KeepsSame L d) (Fewer : ℕ → Type 0) (fewer : (x y : ℕ) → x ≤ y → Fewer y → Fewer x) (excludes : (n j : ℕ) → Excludes n d P no_query L j IsMonomorphicTask IsMonomorphicTask (λ x. ⊥) Fewer) where
+    failing_refutes : (E : List Ty) (R : List ClauseFormula) (G : Term) (f : Failure) → IsMonomorphicSearch d P E R G f → Fewer (failed_run (length E) f).steps → ProvableBy L d E R G → ⊥
+    failing_refutes E R G f x few p =
         let h = x.0 in
         let F = h.eigens in
         let c = h.closing in
         let A = newest_first f.assumed in
-        let set = setting_of d (below_same b) std in
         let typed = goals_together d std F f.variables f.goals (typed_entries f.variables F A f.written (length F) 0 (goal_list f.goals) h.begins.entries) in
-        let p1 = same_provable d std (below_same b) E (clauses_at P A c) R (closed c (formula_of_goals f.goals)) G h.clauses h.goal p in
-        let p2 = transport (λ X. ProvableBy (Below b) d X (clauses_at P A c) (closed c (formula_of_goals f.goals))) (sym h.is_closed) p1 in
-        let y : SolvesBranch (Below b) d P no_query no_values (failing_typing F f) (failing_branch (length F) f) = record {
+        let p1 = same_provable d std same E (clauses_at P A c) R (closed c (formula_of_goals f.goals)) G h.clauses h.goal p in
+        let p2 = transport (λ X. ProvableBy L d X (clauses_at P A c) (closed c (formula_of_goals f.goals))) (sym h.is_closed) p1 in
+        let y : SolvesBranch L d P no_query no_values (failing_typing F f) (failing_branch (length F) f) = record {
           query = query d;
           answer = record { closing = c; closes = h.closes; solves = tt; types = refl; values = tt };
-          proved = (goals_proved d set P f.variables c h.closes F A f.written (length F) 0 f.goals typed).0 p2;
+          proved = (goals_proved d (setting_of d same std) P f.variables c h.closes F A f.written (length F) 0 f.goals typed).0 p2;
         } in
-        let same : failed_run (length F) f ≡ run (look unit_limit f.looks P) f.moves f.moves (starts_within f.limit (Go (failing_branch (length F) f)) f.limit 1) = ap (λ Q. run (look unit_limit f.looks Q) f.moves f.moves (starts_within f.limit (Go (failing_branch (length F) f)) f.limit 1)) h.program in
+        let told : failed_run (length F) f ≡ run (look unit_limit f.looks P) f.moves f.moves (starts_within f.limit (Go (failing_branch (length F) f)) f.limit 1) = ap (λ Q. run (look unit_limit f.looks Q) f.moves f.moves (starts_within f.limit (Go (failing_branch (length F) f)) f.limit 1)) h.program in
         let level : length E ≡ length F = ap length (sym h.is_closed) ∙ length-map F (instance c.types) in
-        let steps : (failed_run (length F) f).steps ≡ t = ap (λ l. (failed_run l f).steps) (sym level) ∙ e in
-        let r = typed_run (Below b) (below_same b) f.looks f.moves no_query (λ x. x ≤ b) (λ x. x ≤ t) (shorter b) (shorter t) (proves_below b f.looks f.moves no_query (λ x. x ≤ t)) (excludes_below f.looks f.moves no_query (λ x. x ≤ b)) f.moves f.limit f.limit 1 (going (failing_typing F f) (failing_branch (length F) f)) h.begins x.1 in
-        let ends = ap (λ (w : Told Answer). w.ending) (sym same) ∙ h.ends in
-        let none = ap (λ (w : Told Answer). w.answers) (sym same) ∙ h.gives_none in
-        let l : (run (look unit_limit f.looks P) f.moves f.moves (starts_within f.limit (Go (failing_branch (length F) f)) f.limit 1)).steps ≤ t = (let z = ap (λ (w : Told Answer). w.steps) (sym same) ∙ steps in omega (arith, z)) in
-        no_answers d r.typed (r.is ∙ none) (r.exhausts ends l no_values (inl y))
+        let r = typed_run L same f.looks f.moves no_query (λ x. ⊥) Fewer (λ x z l e. e) fewer (λ T u g ts r m st rows k q ns e w. absurd w) (excludes f.looks f.moves) f.moves f.limit f.limit 1 (going (failing_typing F f) (failing_branch (length F) f)) h.begins x.1 in
+        let ends = ap (λ (w : Told Answer). w.ending) (sym told) ∙ h.ends in
+        let none = ap (λ (w : Told Answer). w.answers) (sym told) ∙ h.gives_none in
+        no_answers d r.typed (r.is ∙ none) (r.exhausts ends (transport (λ (w : Told Answer). Fewer w.steps) told (transport (λ l. Fewer (failed_run l f).steps) level few)) no_values (inl y))
+
+  -- where failing searches of fewer than b steps clash with none that holds in fewer than t
+  excludes_below : (b t : ℕ) → ((c' t' : ℕ) → suc c' ≤ t → t' < b → Clash c' t') → (n j : ℕ) (q : Query) (Few : ℕ → Type 0) → Excludes n d P q (Below b) j IsMonomorphicTask IsMonomorphicTask Few (λ x. x ≤ t)
+  excludes_below b t clash n j q Few T u g ts r m steps rows k p ns e l c cl x =
+      clash k (failed_run (length (map (instance c.types) r.eigens)) x.0).steps l x.1.1 n j r.variables r.eigens r.goals r.assumed (held_at n j q T u g ts r m steps rows k p ns e) c cl x.0 x.1.0 refl
 
   clash_within : (m c t : ℕ) → c + t < m → Clash c t
   clash_within zero c t l n j V E gs A h z zl f x e = absurd (omega (arith, l))
   clash_within (suc m) c t l n j V E gs A h z zl f x e =
-      failing_refutes c t (λ c' t' k k'. clash_within m c' t' (omega (arith, l, k, k'))) (map (instance z.types) E) (clauses_at P A z) (closed z (formula_of_goals gs)) f x e (held_provable (Below c) (below_same c) n j (λ x. x ≤ c) (shorter c) (proves_below c n j no_query (λ x. ⊥)) V E gs A c h (omega arith) z zl)
+      failing_refutes (Below c) (below_same c) (λ y. y ≤ t) (shorter t) (λ n' j'. excludes_below c t (λ c' t' k k'. clash_within m c' t' (omega (arith, l, k, k'))) n' j' no_query (λ y. ⊥))
+      (map (instance z.types) E) (clauses_at P A z) (closed z (formula_of_goals gs)) f x (omega (arith, e)) (held_provable (Below c) (below_same c) n j (λ x. x ≤ c) (shorter c) (proves_below c n j no_query (λ x. ⊥)) V E gs A c h (omega arith) z zl)
 
   pub consistent : (c t : ℕ) → Clash c t
   consistent c t = clash_within (suc (c + t)) c t (omega arith)
+
+  pub excludes_monomorphic : (n j : ℕ) (q : Query) (Few : ℕ → Type 0) → Excludes n d P q (IsMonomorphicSearch d P) j IsMonomorphicTask IsMonomorphicTask Few (λ x. Unit {0})
+  excludes_monomorphic n j q Few T u g ts r m steps rows k p ns e l c cl x =
+      consistent k (failed_run (length (map (instance c.types) r.eigens)) x.0).steps n j r.variables r.eigens r.goals r.assumed (held_at n j q T u g ts r m steps rows k p ns e) c cl x.0 x.1 refl
+
+  -- no formula and its negation are provable
+  pub never_both : (E : List Ty) (R : List ClauseFormula) (G : Term) → IsFormula d E (not_of G) → ProvableBy (IsMonomorphicSearch d P) d E R G → ProvableBy (IsMonomorphicSearch d P) d E R (not_of G) → ⊥
+  never_both E R G f p p' =
+      let x = denial_root_by (IsMonomorphicSearch d P) d std E R G f ((setting_of d monomorphic_same std).converting R) p' in
+      failing_refutes (IsMonomorphicSearch d P) monomorphic_same (λ y. Unit {0}) (λ y z l e. e) (λ n j. excludes_monomorphic n j no_query (λ y. ⊥)) E R G x.0 x.1 tt p

@@ -1,6 +1,5 @@
 -- The search of a program and a query without type variables is right, with negation: its answers are sound, and after `NoMore` all.
-use Rattle.std.proofs.Common.{◌≡◌, ℕ, List, [], ◌∷◌, map, length, Some, refl, sym, subst as transport, inl}
-use Rattle.lp_calculus.specs.Types.{instance}
+use Rattle.std.proofs.Common.{◌≡◌, ℕ, List, [], ◌∷◌, length, Some, sym, subst as transport, inl}
 use Rattle.lp_lemmas.specs.Each.{EachOf}
 use Rattle.lp_lemmas.proofs.Each.{each_append}
 use Rattle.lp_standard.specs.Schemes.{IsStandard}
@@ -12,12 +11,12 @@ use Rattle.lp_model.specs.Search.{look, start}
 use Rattle.lp_model.specs.Proofs.{AreFlattened, Declared}
 use Rattle.lp_model.specs.Answers.{Query}
 use Rattle.lp_search_laws.specs.Begun.{first_branch, first_typing}
-use Rattle.lp_search_laws.specs.Failed.{failed_run, IsMonomorphicSearch}
+use Rattle.lp_search_laws.specs.Failed.{IsMonomorphicSearch}
 use Rattle.lp_search_laws.specs.Right.{IsRightBy}
 use Rattle.lp_search_laws.specs.Started.{IsTypedQuery, IsTypedSentence}
 use Rattle.lp_search_laws.specs.Branches.{going}
 use Rattle.lp_search_laws.proofs.Begins.{each_sentence, program_typed, solves, start_typed}
-use Rattle.lp_search_laws.proofs.Consistent.{consistent, held_at, monomorphic_same, proves_monomorphic, typed_run}
+use Rattle.lp_search_laws.proofs.Consistent.{excludes_monomorphic, monomorphic_same, proves_monomorphic, typed_run}
 use Rattle.lp_search_laws.proofs.FailedSearches.{program_kept, setting_of}
 use Rattle.lp_search_laws.proofs.Monomorphic.{IsOwnless}
 use Rattle.lp_search_laws.proofs.Programs.{flattened}
@@ -43,7 +42,7 @@ monomorphic_right d std l F P s o x q gs t v e n j m steps answers =
     let ownless = program_ownless d F P o x in
     let r = typed_run d std P typed ownless (IsMonomorphicSearch d P) same n j q (λ k. Unit {0}) (λ k. Unit {0}) (λ y z k h. h) (λ y z k h. h)
     (proves_monomorphic d std P typed ownless n j q (λ k. Unit {0}))
-    (λ T u f ts r a st rows k p ns y b c cl z. consistent d std P typed ownless k (failed_run (length (map (instance c.types) r.eigens)) z.0).steps n j r.variables r.eigens r.goals r.assumed (held_at d std P typed ownless n j q T u f ts r a st rows k p ns y) c cl z.0 z.1 refl)
+    (excludes_monomorphic d std P typed ownless n j q (λ k. Unit {0}))
     m row_limit steps answers (going (first_typing q gs) (first_branch q.type_vars (length q.vars) gs)) (start_typed d std l q gs t e n steps answers).1 v in
     record {
       typed = r.typed;

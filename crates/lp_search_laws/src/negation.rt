@@ -9,7 +9,7 @@ ghost use Rattle.lp_model.specs.Branch.{Answer, Branch, Entry, both_written};
 ghost use Rattle.lp_model.specs.Flat.{Clause, Clauses, Goals, Not, Written, denied, formula_of_goals, goals, no_goals};
 ghost use Rattle.lp_model.specs.Answers.{AnswerTyping, Closes, IsProvable, Query};
 ghost use Rattle.lp_model.specs.Flatten.{ClauseFormula, flatten_query};
-ghost use Rattle.lp_model.specs.Proofs.{AreFlattened, Declared, Provable, StandForClauses, StandsForGoal, newest_first, no_leaf};
+ghost use Rattle.lp_model.specs.Proofs.{AreFlattened, Declared, IsFormula, Provable, ProvableBy, StandForClauses, StandsForGoal, newest_first, no_leaf};
 ghost use Rattle.lp_model.specs.Pair.{Closing, closed};
 ghost use Rattle.lp_model.specs.Search.{has_no_pairs, has_variables, look, start, with_goals};
 ghost use Rattle.lp_model.specs.Skeleton.{Held, Note, Refuted, inner, run, starts, starts_within};
@@ -21,7 +21,7 @@ ghost use Rattle.lp_search_laws.specs.Clauses.{clauses_at, own_types};
 ghost use Rattle.lp_search_laws.specs.Failed.{IsMonomorphicSearch};
 ghost use Rattle.lp_search_laws.specs.Denials.{denied_task};
 ghost use Rattle.lp_search_laws.specs.Holds.{Holds};
-ghost use Rattle.lp_search_laws.specs.Started.{IsPlainQuery, IsPlainSentence};
+ghost use Rattle.lp_search_laws.specs.Started.{IsPlainQuery, IsPlainSentence, IsProvableBy, IsTypedQuery, IsTypedSentence};
 ghost use Rattle.lp_search_laws.specs.Unnegated.{AreUnnegatedGoals, IsUnnegatedClause};
 ghost use Rattle.lp_standard.specs.Schemes.{IsStandard};
 ghost use Rattle.lp_standard.specs.Connectives.{not_of};
@@ -63,4 +63,16 @@ pub fn closed_negations_are_right()
     ensures { (d : Declared) → IsStandard d → (l : ℕ) (F : List ClauseFormula) (P : List Clause) → EachOf (IsPlainSentence d) F → AreFlattened d F P → (G : Term) (gs : Goals) → IsPlainQuery d (record { type_vars = 0; vars = []; formula = G }) → flatten_query l d G ≡ Some gs → (n j m steps answers : ℕ) →
         ((a : Answer) (more : List Answer) → (run (look unit_limit n P) j m (start 0 0 (goals (denied gs) no_goals) steps answers)).answers ≡ a ∷ more → IsProvable d F (record { type_vars = 0; vars = []; formula = G }) (record { types = []; values = [] }) → ⊥) ×
         ((run (look unit_limit n P) j m (start 0 0 (goals (denied gs) no_goals) steps answers)).ending ≡ Some NoMore → (run (look unit_limit n P) j m (start 0 0 (goals (denied gs) no_goals) steps answers)).answers ≡ [] → IsProvable d F (record { type_vars = 0; vars = []; formula = G }) (record { types = []; values = [] })) }
+{}
+
+/// The same of programs and goals G without type variables, whatever negations stand in them: G has a proof or none, with failing searches for what is negated in it.
+pub fn closed_negations_are_decided()
+    ensures { (d : Declared) → IsStandard d → (l : ℕ) (F : List ClauseFormula) (P : List Clause) → EachOf (IsTypedSentence d) F → EachOf (λ D. D.type_vars ≡ 0) F → AreFlattened d F P → (G : Term) (gs : Goals) → IsTypedQuery d (record { type_vars = 0; vars = []; formula = G }) → flatten_query l d G ≡ Some gs → (n j m steps answers : ℕ) →
+        ((a : Answer) (more : List Answer) → (run (look unit_limit n P) j m (start 0 0 (goals (denied gs) no_goals) steps answers)).answers ≡ a ∷ more → IsProvableBy (IsMonomorphicSearch d P) d F (record { type_vars = 0; vars = []; formula = G }) (record { types = []; values = [] }) → ⊥) ×
+        ((run (look unit_limit n P) j m (start 0 0 (goals (denied gs) no_goals) steps answers)).ending ≡ Some NoMore → (run (look unit_limit n P) j m (start 0 0 (goals (denied gs) no_goals) steps answers)).answers ≡ [] → IsProvableBy (IsMonomorphicSearch d P) d F (record { type_vars = 0; vars = []; formula = G }) (record { types = []; values = [] })) }
+{}
+
+/// No formula and its negation are both provable, from whatever clauses: where the program that failing searches run has no type variables, and neither have they.
+pub fn negation_is_consistent()
+    ensures { (d : Declared) → IsStandard d → (P : List Clause) → EachOf (IsProgramTyped d) P → EachOf (λ c. own_types c ≡ 0) P → (E : List Ty) (R : List ClauseFormula) (G : Term) → IsFormula d E (not_of G) → ProvableBy (IsMonomorphicSearch d P) d E R G → ProvableBy (IsMonomorphicSearch d P) d E R (not_of G) → ⊥ }
 {}
