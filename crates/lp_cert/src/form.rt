@@ -1,5 +1,5 @@
 // Normal forms, and whether two terms convert.
-ghost use Rattle.std.specs.Prelude.{◌≡◌, ◌<◌, length, IfOk, OnOk, All, true};
+ghost use Rattle.std.specs.Prelude.{◌≡◌, ◌<◌, ◌≤◌, length, IfOk, OnOk, All, true, false};
 ghost use Rattle.lp_calculus.specs.Term.{index, atom, abs, constant, integer, text, eigen, param};
 ghost use Rattle.lp_calculus.specs.Convert.{Converts};
 ghost use Rattle.lp_term.specs.Nodes.{Extends, Nodes, tree, type_tree};
@@ -50,7 +50,8 @@ pub(crate) fn form_of(alloc: Global, bank: &mut Bank, term: TermId) -> Result<Fo
 }
 
 pub(crate) fn is_inside(bank: &Bank, term: TermId) -> bool
-    ensures { result ≡ true → term.0 < length bank.now.terms }
+    ensures inside { result ≡ true → term.0 < length bank.now.terms }
+    ensures outside { result ≡ false → length bank.now.terms ≤ term.0 }
 {
     term.0 < bank.term_count()
 }

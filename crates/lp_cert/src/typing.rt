@@ -1,5 +1,5 @@
 // Whether a closed term has a type: the equations of its nodes have a solution.
-ghost use Rattle.std.specs.Prelude.{◌≡◌, ◌<◌, ℕ, List, [], ◌∷◌, length, map, All, IfOk, OnOk, true};
+ghost use Rattle.std.specs.Prelude.{◌≡◌, ◌<◌, ◌≤◌, ℕ, suc, List, [], ◌∷◌, length, map, All, IfOk, OnOk, None, true, false};
 ghost use Rattle.lp_calculus.specs.Types.{Ty, var, con, no_types};
 ghost use Rattle.lp_calculus.specs.Term.{apply, index, atom, abs, constant, eigen};
 ghost use Rattle.lp_calculus.specs.Closed.{IsClosedType};
@@ -49,7 +49,8 @@ struct Typing<'a, 'b> {
 
 // Whether a type stands in the bank.
 pub(crate) fn is_type_inside(bank: &Bank, of: TypeId) -> bool
-    ensures { result ≡ true → of.0 < length bank.now.types }
+    ensures inside { result ≡ true → of.0 < length bank.now.types }
+    ensures outside { result ≡ false → length bank.now.types ≤ of.0 }
 {
     of.0 < bank.type_count()
 }

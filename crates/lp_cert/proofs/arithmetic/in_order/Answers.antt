@@ -12,8 +12,8 @@ pub returns-clause-ordered : goal.returns-clause-ordered
 returns-clause-ordered c = λ e b g.
     let same : to_z w64 (of_z w64 c.in-Some.less) ≡ c.in-Some.less = grind (arith, to_z-of_z) in
     let alike : to_z w64 (of_z w64 c.in-Some-later.more) ≡ c.in-Some-later.more = grind (arith, to_z-of_z) in
-    let l = c.is_inside.ensures c.if-not-is_inside.false in
-    let m = c.is_inside-2.ensures c.if-not-is_inside-2.false in
+    let l = c.is_inside.ensures.inside c.if-not-is_inside.false in
+    let m = c.is_inside-2.ensures.inside c.if-not-is_inside-2.false in
     let on = c.in_ok-first.ensures.kept in
     let off = c.in_ok-second.ensures.kept in (
       c.in-Some.less,

@@ -12,8 +12,8 @@ pub returns-clause-valued : goal.returns-clause-valued
 returns-clause-valued c = λ e b g.
     let end = c.value_of.new.texts.bytes.items in
     let v = value_in end c.in-Some.value in
-    let l = c.is_inside.ensures c.if-not-is_inside.false in
-    let m = c.is_inside-2.ensures c.if-not-is_inside-2.false in
+    let l = c.is_inside.ensures.inside c.if-not-is_inside.false in
+    let m = c.is_inside-2.ensures.inside c.if-not-is_inside-2.false in
     let on = c.in_ok-left.ensures.kept in
     let off = c.in_ok-right.ensures.kept in (
       v,

@@ -28,7 +28,7 @@ loop-at-preserved c = record {
       (type_of_variable (λ v. v.1) c.args.query.now.vars.items c.loop-at.at c.index.result.now (omega (arith, l, c.if-values-len.false, c.args.query.now.vars.ok)) c.index.ensures)
       (c.loop-at.invariant.values e a)
       (λ d g. witness_here d c.loop-at.self c.args.self.now (slice_index_or c.args.values.now c.loop-at.at (record { 0 = 0 })) c.in_ok-made.made (instance (type_at (types_in d c.args.types.now)) (type_tree d c.index.result.now.1.0)) c.loop-at.invariant.stays.theory c.loop-at.invariant.stays.eigens e
-      (c.in_ok-made.ensures.tree (inside_more c.args.bank.now c.loop-at.bank c.args.types.now c.loop-at.invariant.kept a) (c.is_type_inside.ensures c.if-not-is_type_inside.false) d (extends-trans _ _ _ c.in_ok-is_witness.ensures.kept g))
+      (c.in_ok-made.ensures.tree (inside_more c.args.bank.now c.loop-at.bank c.args.types.now c.loop-at.invariant.kept a) (c.is_type_inside.ensures.inside c.if-not-is_type_inside.false) d (extends-trans _ _ _ c.in_ok-is_witness.ensures.kept g))
       (c.in_ok-is_witness.ensures.witness c.if-not-branch.false d g));
 }
 

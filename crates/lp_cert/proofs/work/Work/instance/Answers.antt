@@ -30,4 +30,4 @@ returns-clause-filled c =
     let long = extends-trans _ _ _ c.put_values.ensures.kept g in
     let vs = terms_in b c.args.values.now in
     p b g (subst (LooseBelow (length c.args.values.now) 0) (sym (long.same_terms c.in_ok-formula.formula.0 c.in_ok-formula.ensures.within)) (c.is_known_below.ensures c.if-not-is_known_below.false)) ∙
-    ap (instantiate (λ k. at vs (length vs - suc k))) (c.in_ok-formula.ensures.tree (inside_more c.args.bank.now c.are_values.new.bank c.args.types.now c.in_ok-are_values.ensures.kept (types_inside c.args.bank.now c.args.types.now closed)) (c.is_inside.ensures c.if-not-is_inside.false) b long))
+    ap (instantiate (λ k. at vs (length vs - suc k))) (c.in_ok-formula.ensures.tree (inside_more c.args.bank.now c.are_values.new.bank c.args.types.now c.in_ok-are_values.ensures.kept (types_inside c.args.bank.now c.args.types.now closed)) (c.is_inside.ensures.inside c.if-not-is_inside.false) b long))
