@@ -13,6 +13,7 @@ mod Marking
 mod Naming
 mod Proving
 mod Putting
+mod Running
 mod Shaped
 mod Stepping
 mod Verdicts

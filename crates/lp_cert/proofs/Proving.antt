@@ -19,7 +19,8 @@ use Rattle.lp_model.specs.declared.program.Typed.{Typed}
 use Rattle.lp_cert.specs.Certified.{query_of}
 use Rattle.lp_cert.specs.Same.{terms_in, types_in}
 use Rattle.lp_cert.specs.Written.{Node, node_of, IsWritten}
-use Rattle.lp_cert.specs.inner.Left.{CertifiesIn, Ends, Goes, IsFilledIn, IsIdle, Left, LeftWith, Proves, Stays, ground_in, job_of, jobs_of, proving}
+use Rattle.lp_cert.specs.Run.{proving}
+use Rattle.lp_cert.specs.inner.Left.{CertifiesIn, Ends, Goes, IsFilledIn, IsIdle, Left, LeftWith, Proves, Stays, ground_in, job_of, jobs_of}
 use Rattle.lp_cert.specs.inner.Named.{IsNamedIn}
 use Rattle.lp_cert.specs.declared.work.Task.{Task}
 use Rattle.lp_cert.specs.declared.work.Turn.{Turn}

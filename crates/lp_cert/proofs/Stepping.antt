@@ -24,7 +24,8 @@ use Rattle.lp_cert.specs.Certified.{Ground}
 use Rattle.lp_cert.specs.Shape.{IsEquation}
 use Rattle.lp_cert.specs.Same.{terms_in, types_in}
 use Rattle.lp_cert.specs.Written.{Node, node_of, converted, trivial, pair, left_side, right_side, witness, general, assuming, equated, counted, back_to, focus_converted, focus_witness, side, premise, hit}
-use Rattle.lp_cert.specs.inner.Left.{Job, proving, focusing, leaving_eigen, leaving_assumed, Ends, Left, LeftWith, Goes, Stays, without_last, job_of, jobs_of, ground_in}
+use Rattle.lp_cert.specs.Run.{Job, proving, focusing, leaving_eigen, leaving_assumed, without_last}
+use Rattle.lp_cert.specs.inner.Left.{Ends, Left, LeftWith, Goes, Stays, job_of, jobs_of, ground_in}
 use Rattle.lp_cert.specs.declared.work.Task.{Task}
 use Rattle.lp_cert.specs.declared.work.Task.TheVariants as task
 use Rattle.lp_cert.specs.declared.work.Turn.{Turn}

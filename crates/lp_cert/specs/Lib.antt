@@ -2,7 +2,9 @@ pub mod Certified
 pub mod Facts
 pub mod Filling
 pub mod Inside
+pub mod Run
 pub mod Same
 pub mod Written
 pub mod Shape
+pub mod Standing
 pub mod inner

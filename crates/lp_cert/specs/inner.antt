@@ -4,3 +4,4 @@ pub mod Evaluated
 pub mod Left
 pub mod Named
 pub mod Put
+pub mod Turned

@@ -4,7 +4,8 @@ ghost use Rattle.lp_calculus.specs.Convert.{Converts};
 ghost use Rattle.lp_term.specs.Nodes.{Extends, Nodes, tree};
 ghost use Rattle.lp_cert.specs.Facts.{IsKnown};
 ghost use Rattle.lp_cert.specs.Written.{Node, focus_converted, focus_witness, hit, node_of, premise, side};
-ghost use Rattle.lp_cert.specs.inner.Left.{Goes, Left, LeftWith, Stays, focusing};
+ghost use Rattle.lp_cert.specs.Run.{focusing};
+ghost use Rattle.lp_cert.specs.inner.Left.{Goes, Left, LeftWith, Stays};
 
 use crate::form::Compared;
 use crate::goal::{conjunction, implication, universal};

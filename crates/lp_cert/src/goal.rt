@@ -14,7 +14,8 @@ ghost use Rattle.lp_cert.specs.Facts.{AreInside, IsKnown};
 ghost use Rattle.lp_cert.specs.Same.{types_in};
 ghost use Rattle.lp_cert.specs.Shape.{IsEquation};
 ghost use Rattle.lp_cert.specs.Written.{Node, assuming, back_to, converted, general, left_side, node_of, pair, right_side, witness};
-ghost use Rattle.lp_cert.specs.inner.Left.{Goes, IsClauseIn, IsDeclared, Left, LeftWith, Stays, proving};
+ghost use Rattle.lp_cert.specs.Run.{proving};
+ghost use Rattle.lp_cert.specs.inner.Left.{Goes, IsClauseIn, IsDeclared, Left, LeftWith, Stays};
 
 use crate::arithmetic::computed;
 use crate::form::{Compared, is_inside};

@@ -3,7 +3,7 @@ use Rattle.lp_term.proofs.Trees.{extends-trans}
 use Rattle.lp_term.specs.Nodes.{tree}
 use Rattle.lp_cert.specs.Same.{types_in}
 use Rattle.lp_cert.specs.declared.work.Task.TheVariants as task
-use Rattle.lp_cert.specs.inner.Left.{focusing}
+use Rattle.lp_cert.specs.Run.{focusing}
 use Rattle.lp_cert.proofs.Deriving.{some_is}
 use Rattle.lp_cert.proofs.Naming.{types_found, types_inside, closed_types_later}
 use Rattle.lp_cert.proofs.Stepping.{stays_trans, stays_with, task_pushed}

@@ -1,6 +1,6 @@
 use Rattle.lp_term.proofs.Trees.{extends-trans}
 use Rattle.lp_term.specs.Nodes.{tree}
-use Rattle.lp_cert.specs.inner.Left.{proving}
+use Rattle.lp_cert.specs.Run.{proving}
 use Rattle.lp_cert.proofs.Stepping.{goes_on, stays_with, stays_trans}
 use Rattle.lp_cert.proofs.Going.{conv_goes, formula_in, type_later}
 use Rattle.lp_cert.proofs.work.Work.conv.Goals as goal

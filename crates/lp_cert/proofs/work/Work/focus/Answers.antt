@@ -1,6 +1,6 @@
 use Rattle.lp_term.specs.Nodes.{tree}
 use Rattle.lp_model.specs.declared.certificate.ProofNode.TheVariants as node
-use Rattle.lp_cert.specs.inner.Left.{focusing}
+use Rattle.lp_cert.specs.Run.{focusing}
 use Rattle.lp_cert.proofs.Stepping.{goes_as, stays_left}
 use Rattle.lp_cert.proofs.Going.{goes_beside, hit_goes}
 use Rattle.lp_cert.proofs.work.Work.focus.Goals as goal

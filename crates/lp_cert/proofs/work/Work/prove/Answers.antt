@@ -4,7 +4,8 @@ use Rattle.lp_term.specs.Nodes.{Nodes, Extends, tree}
 use Rattle.lp_model.specs.declared.certificate.ProofNode.TheVariants as node
 use Rattle.lp_cert.specs.Same.{types_in}
 use Rattle.lp_cert.specs.Written.{back_to}
-use Rattle.lp_cert.specs.inner.Left.{Goes, proving}
+use Rattle.lp_cert.specs.Run.{proving}
+use Rattle.lp_cert.specs.inner.Left.{Goes}
 use Rattle.lp_cert.specs.declared.work.Turn.TheVariants.{On}
 use Rattle.lp_cert.proofs.Stepping.{goes_as, goes_where, stays_left}
 use Rattle.lp_cert.proofs.Going.{goes_beside, truth_goes, equated_goes, counted_goes}

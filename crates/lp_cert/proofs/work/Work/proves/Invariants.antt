@@ -3,7 +3,8 @@ use Rattle.std.specs.Prelude.{List}
 use Rattle.lp_term.specs.Nodes.{Nodes, Extends, tree}
 use Rattle.lp_cert.specs.Facts.{IsKnown}
 use Rattle.lp_cert.specs.Written.{Node, node_of}
-use Rattle.lp_cert.specs.inner.Left.{Left, LeftWith, proving}
+use Rattle.lp_cert.specs.Run.{proving}
+use Rattle.lp_cert.specs.inner.Left.{Left, LeftWith}
 use Rattle.lp_cert.proofs.work.Work.proves.Given as goal
 
 abbrev pub invariant-loop-node : goal.invariant-loop-node

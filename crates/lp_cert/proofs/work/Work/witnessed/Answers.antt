@@ -1,7 +1,7 @@
 use Rattle.std.proofs.Common.{arith}
 use Rattle.lp_term.proofs.Trees.{extends-trans}
 use Rattle.lp_term.specs.Nodes.{tree}
-use Rattle.lp_cert.specs.inner.Left.{proving}
+use Rattle.lp_cert.specs.Run.{proving}
 use Rattle.lp_cert.proofs.Later.{applied_later}
 use Rattle.lp_cert.proofs.Stepping.{goes_on, stays_with}
 use Rattle.lp_cert.proofs.Going.{witness_goes}

@@ -1,0 +1,60 @@
+-- What a node makes of the work, and what holds of all that is left.
+use Rattle.std.specs.Prelude.{◌≡◌, ℕ, ◌<◌, List, [], ◌∷◌, ◌++◌, length, All}
+use Rattle.lp_calculus.specs.Fill.{Within}
+use Rattle.lp_term.specs.Nodes.{Nodes, Extends, tree}
+use Rattle.lp_term.specs.declared.node.TermId.{TermId}
+use Rattle.lp_cert.specs.Run.{Claim, Job, Needs, StepsOn}
+use Rattle.lp_cert.specs.Same.{terms_in, types_in}
+use Rattle.lp_cert.specs.Standing.{IsClauseInside}
+use Rattle.lp_cert.specs.Written.{Node}
+use Rattle.lp_cert.specs.inner.Left.{ground_in, jobs_of}
+use Rattle.lp_cert.specs.inner.Named.{HasClosedTypes, IsSettled}
+use Rattle.lp_cert.specs.declared.work.Task.{Task}
+use Rattle.lp_cert.specs.declared.work.Task.TheVariants as task
+use Rattle.lp_cert.specs.declared.work.Turn.{Turn}
+use Rattle.lp_cert.specs.declared.work.Turn.TheVariants as turn
+use Rattle.lp_cert.specs.declared.work.Work.{Work}
+
+-- the term stands in the bank, and has neither a loose index nor a type variable
+abbrev pub IsTidy : Nodes → TermId → Type 0
+IsTidy b t = (t.0 < length b.terms) × Within HasClosedTypes 0 (tree b t.0)
+
+abbrev pub IsTaskTidy : Nodes → Task → Type 0
+IsTaskTidy b (task.Prove goal) = IsTidy b goal
+IsTaskTidy b (task.Focus clause goal) = IsTidy b clause × IsTidy b goal
+IsTaskTidy b task.LeaveEigen = Unit {0}
+IsTaskTidy b task.LeaveAssumed = Unit {0}
+
+pub record IsTidyWork (b : Nodes) (w : Work) : Type 0 where
+  pub settled : IsSettled b w
+  pub clauses : All (IsClauseInside b) w.theory.clauses.now
+  pub assumed : All (IsTidy b) w.assumed.items
+  pub tasks : All (IsTaskTidy b) w.tasks.items
+
+-- one more task
+pub record Pushes (old new : Work) (t : Task) : Type 0 where
+  pub theory : new.theory ≡ old.theory
+  pub eigens : new.eigens ≡ old.eigens
+  pub assumed : new.assumed ≡ old.assumed
+  pub tasks : new.tasks.items ≡ old.tasks.items ++ t ∷ []
+
+-- this is what is left, read in a bank
+abbrev pub At : Nodes → Work → Claim
+At b w E As js = (E ≡ types_in b w.eigens.items) × (As ≡ terms_in b w.assumed.items) × (js ≡ jobs_of b w.tasks.items)
+
+abbrev pub Always : Type 0 → Claim
+Always C E As js = C
+
+abbrev pub IsSteppedFrom : (now : Nodes) → (old new : Work) → (Nodes → List Job) → (Nodes → Node) → Turn → Type 0
+IsSteppedFrom now old new js n turn.On =
+    (new.theory ≡ old.theory) × IsTidyWork now new × ((b : Nodes) → Extends now b → StepsOn (ground_in b old.theory) (At b new) (types_in b old.eigens.items) (terms_in b old.assumed.items) (js b) (n b))
+IsSteppedFrom now old new js n turn.No = (b : Nodes) → Extends now b → StepsOn (ground_in b old.theory) (Always (Unit {0})) (types_in b old.eigens.items) (terms_in b old.assumed.items) (js b) (n b) → ⊥
+IsSteppedFrom now old new js n turn.Deep = (b : Nodes) → Extends now b → Needs (ground_in b old.theory) (n b) (types_in b old.eigens.items) (terms_in b old.assumed.items) (js b)
+
+-- a node that stands leaves what is left now; one that does not leaves nothing; or it needs a large normal form
+abbrev pub IsStepped : (now : Nodes) → (old new : Work) → (Nodes → Node) → Turn → Type 0
+IsStepped now old new n t = IsSteppedFrom now old new (λ b. jobs_of b old.tasks.items) n t
+
+-- the same where this job stands before the others
+abbrev pub IsTurned : (now : Nodes) → (old new : Work) → (Nodes → Job) → (Nodes → Node) → Turn → Type 0
+IsTurned now old new j n t = IsSteppedFrom now old new (λ b. j b ∷ jobs_of b old.tasks.items) n t
