@@ -16,20 +16,20 @@ use Rattle.lp_cert.specs.declared.work.Turn.TheVariants as turn
 use Rattle.lp_cert.specs.declared.work.Work.{Work}
 
 -- the term stands in the bank, and has neither a loose index nor a type variable
-abbrev pub IsTidy : Nodes → TermId → Type 0
-IsTidy b t = (t.0 < length b.terms) × Within HasClosedTypes 0 (tree b t.0)
+abbrev pub IsReady : Nodes → TermId → Type 0
+IsReady b t = (t.0 < length b.terms) × Within HasClosedTypes 0 (tree b t.0)
 
-abbrev pub IsTaskTidy : Nodes → Task → Type 0
-IsTaskTidy b (task.Prove goal) = IsTidy b goal
-IsTaskTidy b (task.Focus clause goal) = IsTidy b clause × IsTidy b goal
-IsTaskTidy b task.LeaveEigen = Unit {0}
-IsTaskTidy b task.LeaveAssumed = Unit {0}
+abbrev pub IsTaskReady : Nodes → Task → Type 0
+IsTaskReady b (task.Prove goal) = IsReady b goal
+IsTaskReady b (task.Focus clause goal) = IsReady b clause × IsReady b goal
+IsTaskReady b task.LeaveEigen = Unit {0}
+IsTaskReady b task.LeaveAssumed = Unit {0}
 
-pub record IsTidyWork (b : Nodes) (w : Work) : Type 0 where
+pub record IsReadyWork (b : Nodes) (w : Work) : Type 0 where
   pub settled : IsSettled b w
   pub clauses : All (IsClauseInside b) w.theory.clauses.now
-  pub assumed : All (IsTidy b) w.assumed.items
-  pub tasks : All (IsTaskTidy b) w.tasks.items
+  pub assumed : All (IsReady b) w.assumed.items
+  pub tasks : All (IsTaskReady b) w.tasks.items
 
 -- one more task
 pub record Pushes (old new : Work) (t : Task) : Type 0 where
@@ -47,7 +47,7 @@ Always C E As js = C
 
 abbrev pub IsSteppedFrom : (now : Nodes) → (old new : Work) → (Nodes → List Job) → (Nodes → Node) → Turn → Type 0
 IsSteppedFrom now old new js n turn.On =
-    (new.theory ≡ old.theory) × IsTidyWork now new × ((b : Nodes) → Extends now b → StepsOn (ground_in b old.theory) (At b new) (types_in b old.eigens.items) (terms_in b old.assumed.items) (js b) (n b))
+    (new.theory ≡ old.theory) × IsReadyWork now new × ((b : Nodes) → Extends now b → StepsOn (ground_in b old.theory) (At b new) (types_in b old.eigens.items) (terms_in b old.assumed.items) (js b) (n b))
 IsSteppedFrom now old new js n turn.No = (b : Nodes) → Extends now b → StepsOn (ground_in b old.theory) (Always (Unit {0})) (types_in b old.eigens.items) (terms_in b old.assumed.items) (js b) (n b) → ⊥
 IsSteppedFrom now old new js n turn.Deep = (b : Nodes) → Extends now b → Needs (ground_in b old.theory) (n b) (types_in b old.eigens.items) (terms_in b old.assumed.items) (js b)
 
