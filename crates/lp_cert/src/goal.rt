@@ -1,5 +1,5 @@
 // Nodes that prove a goal.
-ghost use Rattle.std.specs.Prelude.{◌≡◌, ◌<◌, ◌⊎◌, List, [], ◌∷◌, length, IfOk, IfSome, OnOk, true};
+ghost use Rattle.std.specs.Prelude.{◌≡◌, ◌<◌, ◌⊎◌, List, [], ◌∷◌, None, length, IfOk, IfSome, OnOk, true};
 ghost use Rattle.lp_calculus.specs.Types.{Ty};
 ghost use Rattle.lp_calculus.specs.Term.{app, atom, constant};
 ghost use Rattle.lp_calculus.specs.Spine.{head_of};
@@ -172,6 +172,8 @@ fn formula_at(
 ) -> Result<Option<TermId>, Memory>
     ensures kept { Extends bank.old bank.new }
     ensures formula { IfOk result (λ found. IfSome found (λ made. (length types.now ≡ count) × (AreInside (length bank.old.types) types.now → (b : Nodes) → Extends bank.new b → tree b made.0 ≡ instance_term (type_at (types_in b types.now)) (tree b formula.0)))) }
+    ensures within { IfOk result (λ found. IfSome found (λ made. made.0 < length bank.new.terms)) }
+    ensures none { IfOk result (λ found. found ≡ None → formula.0 < length bank.old.terms → length types.now ≡ count → ⊥) }
 {
     if types.len() as u64 != count {
         return Ok(None);

@@ -1,11 +1,13 @@
 // The judging of certificates.
-ghost use Rattle.std.specs.Prelude.{◌≡◌, List, [], ◌∷◌, All, IfOk, IfSome, OnOk, length, map, true};
+ghost use Rattle.std.specs.Prelude.{◌≡◌, ◌<◌, List, [], ◌∷◌, All, IfOk, IfSome, None, OnOk, length, map, true, false};
+ghost use Rattle.lp_calculus.specs.Closed.{AllAtoms};
 ghost use Rattle.lp_term.specs.Nodes.{Extends, Nodes, tree};
 ghost use Rattle.lp_cert.specs.Certified.{Certifies, certificate_of, ground_of, query_of};
 ghost use Rattle.lp_cert.specs.Facts.{AreInside, IsKnown};
+ghost use Rattle.lp_cert.specs.Inside.{AreTermsInside, IsQueryInside};
 ghost use Rattle.lp_cert.specs.Written.{Node, node_of};
 ghost use Rattle.lp_cert.specs.inner.Left.{CertifiesIn, IsFilledIn, IsIdle, Left, Proves, Stays, ground_in};
-ghost use Rattle.lp_cert.specs.inner.Named.{AreWitnessesIn, IsNamedIn, variable_types};
+ghost use Rattle.lp_cert.specs.inner.Named.{AreUnnamed, AreWitnessesIn, HasClosedTypes, HaveNoWitnesses, IsNamedIn, IsSettled, variable_types};
 
 use crate::form::is_inside;
 use crate::instance::{put_values, term_at, type_at};
@@ -42,6 +44,8 @@ impl Work<'_> {
         ensures known { OnOk result (IsKnown bank.new self.new.known) }
         ensures stays { OnOk result (Stays self.old self.new) }
         ensures values { IfOk result (λ yes. yes ≡ true → self.old.eigens.items ≡ [] → AreInside (length bank.old.types) types.now → AreWitnessesIn bank.new self.old.theory.constants.now types.now values.now (variable_types query.now)) }
+        ensures never { IfOk result (λ yes. yes ≡ false → IsSettled bank.old self.old → self.old.eigens.items ≡ [] → AreInside (length bank.old.types) types.now → AreInside (length bank.old.types) (variable_types query.now) → AreTermsInside (length bank.old.terms) values.now →
+            HaveNoWitnesses bank.new self.old.theory.constants.now types.now values.now (variable_types query.now)) }
     {
         if values.len() != query.vars.len() {
             return Ok(false);
@@ -74,6 +78,10 @@ impl Work<'_> {
         ensures stays { OnOk result (Stays self.old self.new) }
         ensures named { IfOk result (λ found. IfSome found (λ goal. self.old.eigens.items ≡ [] → IsNamedIn bank.new self.old.theory.constants.now query.now types.now values.now)) }
         ensures filled { IfOk result (λ found. IfSome found (λ goal. (b : Nodes) → Extends bank.new b → IsFilledIn b query.now types.now values.now goal)) }
+        ensures within { IfOk result (λ found. IfSome found (λ goal. goal.0 < length bank.new.terms)) }
+        ensures types { IfOk result (λ found. IfSome found (λ goal. self.old.eigens.items ≡ [] → AllAtoms HasClosedTypes (tree bank.new goal.0))) }
+        ensures unnamed { IfOk result (λ found. found ≡ None → IsSettled bank.old self.old → self.old.eigens.items ≡ [] → IsQueryInside bank.old query.now → AreInside (length bank.old.types) types.now → AreTermsInside (length bank.old.terms) values.now →
+            AreUnnamed bank.new self.old.theory.constants.now query.now types.now values.now) }
     {
         if types.len() as u64 != query.type_vars {
             return Ok(None);
@@ -88,10 +96,11 @@ impl Work<'_> {
             return Ok(None);
         }
         let formula = term_at(self.alloc, bank, types, query.formula)?;
-        if !bank.is_known_below(formula, values.len() as u64) {
+        let count = values.len() as u64;
+        if !self.known.is_loose_below(bank, count, formula)? {
             return Ok(None);
         }
-        put_values(self.alloc, bank, formula, values)
+        put_values(self.alloc, bank, &mut self.known, formula, values)
     }
 
     fn step(&mut self, bank: &mut Bank, node: &ProofNode) -> Result<Turn, Memory>

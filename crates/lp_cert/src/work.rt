@@ -1,5 +1,5 @@
 // What is still to be shown.
-ghost use Rattle.std.specs.Prelude.{◌≡◌, ◌<◌, List, [], None, length, IfOk, IfSome, OnOk, true};
+ghost use Rattle.std.specs.Prelude.{◌≡◌, ◌<◌, List, [], None, length, IfOk, IfSome, OnOk, true, false};
 ghost use Rattle.lp_term.specs.Nodes.{Extends, Nodes, tree};
 ghost use Rattle.lp_calculus.specs.Closed.{IsClosedAt};
 ghost use Rattle.lp_calculus.specs.Convert.{Converts};
@@ -7,7 +7,7 @@ ghost use Rattle.lp_standard.specs.Positive.{is_positive};
 ghost use Rattle.lp_cert.specs.Facts.{IsKnown};
 ghost use Rattle.lp_cert.specs.Written.{Node};
 ghost use Rattle.lp_cert.specs.inner.Left.{Left, LeftWith, Stays, job_of};
-ghost use Rattle.lp_cert.specs.inner.Named.{IsOf, IsWitnessIn};
+ghost use Rattle.lp_cert.specs.inner.Named.{IsOf, IsSettled, IsWitnessIn};
 
 use crate::form::{Compared, compare};
 use crate::known::Known;
@@ -104,6 +104,7 @@ impl<'a> Work<'a> {
         ensures stays { OnOk result (Stays self.old self.new) }
         ensures inside { IfOk result (λ yes. yes ≡ true → term.0 < length bank.new.terms) }
         ensures typed { IfOk result (λ yes. yes ≡ true → (b : Nodes) → Extends bank.new b → IsOf b self.old term of) }
+        ensures never { IfOk result (λ yes. yes ≡ false → IsSettled bank.old self.old → term.0 < length bank.old.terms → of.0 < length bank.old.types → (b : Nodes) → Extends bank.new b → IsOf b self.old term of → ⊥) }
         ensures closed { IfOk result (λ yes. yes ≡ true → IsClosedAt (length self.old.eigens.items) (tree bank.old term.0)) }
     {
         let level = self.level();
@@ -137,6 +138,7 @@ impl<'a> Work<'a> {
         ensures stays { OnOk result (Stays self.old self.new) }
         ensures inside { IfOk result (λ yes. yes ≡ true → term.0 < length bank.new.terms) }
         ensures witness { IfOk result (λ yes. yes ≡ true → (b : Nodes) → Extends bank.new b → IsWitnessIn b self.old term of) }
+        ensures never { IfOk result (λ yes. yes ≡ false → IsSettled bank.old self.old → term.0 < length bank.old.terms → of.0 < length bank.old.types → (b : Nodes) → Extends bank.new b → IsWitnessIn b self.old term of → ⊥) }
         ensures closed { IfOk result (λ yes. yes ≡ true → IsClosedAt (length self.old.eigens.items) (tree bank.old term.0)) }
         ensures positive { IfOk result (λ yes. yes ≡ true → is_positive (tree bank.old term.0) ≡ true) }
     {

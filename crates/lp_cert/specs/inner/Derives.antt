@@ -128,13 +128,25 @@ pub record Can (b : Nodes) (y : Typing) (js : List Step) (T : Ty) : Type 0 where
   pub solves : Solves b types y.pairs.items
   pub derives : DerivesBy b types y js T
 
--- where this step and what is left could come to a type, the step is done, and what is left now can come to it
-pub record Keeps (now : Nodes) (old new : Typing) (j : Nodes → Step) (done : Bool) : Type 0 where
+-- where these steps and what is left could come to a type, they are done, and what is left now can come to it
+pub record Keeps (now : Nodes) (old new : Typing) (js : Nodes → List Step) (done : Bool) : Type 0 where
   pub tidy : done ≡ true → IsTidy now new
-  pub can : (b : Nodes) → Extends now b → (T : Ty) → Can b old (j b ∷ []) T → (done ≡ true) × Can b new [] T
+  pub can : (b : Nodes) → Extends now b → (T : Ty) → Can b old (js b) T → (done ≡ true) × Can b new [] T
+
+-- a head of such a type is a function from the argument's type to one that stands on the stack now
+pub record KeepsApplied (now : Nodes) (old new : Typing) (head argument : TypeId) : Type 0 where
+  pub tidy : IsTidy now new
+  pub can : (b : Nodes) → Extends now b → (θ : ℕ → Ty) → (T B : Ty) → Solves b θ old.pairs.items → instance θ (type_tree b head.0) ≡ arrow (instance θ (type_tree b argument.0)) B →
+      Comes (types_of b old) (filled_types b θ old.context.items) (B ∷ filled_types b θ old.stack.items) (steps_of b old.tasks.items) T → Can b new [] T
 
 -- this type is put on the stack, and all else is as it was
 pub record IsHeld (old new : Typing) (of : TypeId) : Type 0 where
   pub rest : IsPushed old new
   pub next : new.next ≡ old.next
   pub stack : new.stack.items ≡ old.stack.items ++ of ∷ []
+
+-- whoever makes the two types one solves the equations, where he did before
+pub record IsEquated (old new : Typing) (left right : TypeId) : Type 0 where
+  pub next : new.next ≡ old.next
+  pub solved : (b : Nodes) → (θ : ℕ → Ty) → Solves b θ old.pairs.items → instance θ (type_tree b left.0) ≡ instance θ (type_tree b right.0) → Solves b θ new.pairs.items
+  pub below : (b : Nodes) → (n : ℕ) → All (IsPairBelow b n) old.pairs.items → IsTypeBelow b n left → IsTypeBelow b n right → All (IsPairBelow b n) new.pairs.items

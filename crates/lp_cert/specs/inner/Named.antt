@@ -17,6 +17,7 @@ use Rattle.lp_model.specs.declared.program.Typed.{Typed}
 use Rattle.lp_cert.specs.Certified.{Names, certificate_of, query_of}
 use Rattle.lp_cert.specs.Inside.{AreDeclaredInside}
 use Rattle.lp_cert.specs.Same.{terms_in, types_in}
+use Rattle.lp_cert.specs.Written.{Node}
 use Rattle.lp_cert.specs.declared.work.Work.{Work}
 
 -- the types that an atom names have no type variable
@@ -49,6 +50,14 @@ variable_types q = map (λ v. v.1) q.vars.items
 -- the terms may stand for variables of these types, with the types for their type variables
 abbrev pub AreWitnessesIn : Nodes → List Declared → (types : List TypeId) → List TermId → List TypeId → Type 0
 AreWitnessesIn now cs types ts ofs = (b : Nodes) → Extends now b → AreWitnesses (declared_by b cs) (terms_in b ts) (map (instance (type_at (types_in b types))) (types_in b ofs))
+
+-- the terms may not stand for them
+abbrev pub HaveNoWitnesses : Nodes → List Declared → (types : List TypeId) → List TermId → List TypeId → Type 0
+HaveNoWitnesses now cs types ts ofs = (b : Nodes) → Extends now b → AreWitnesses (declared_by b cs) (terms_in b ts) (map (instance (type_at (types_in b types))) (types_in b ofs)) → ⊥
+
+-- the types and terms are no instance of the query
+abbrev pub AreUnnamed : Nodes → List Declared → Typed → (types : List TypeId) → List TermId → Type 0
+AreUnnamed now cs q types ts = (b : Nodes) → Extends now b → (ns : List Node) → Names (declared_by b cs) (query_of b q) (record { instance = record { types = types_in b types; values = terms_in b ts }; nodes = ns }) → ⊥
 
 pub record IsNamedIn (now : Nodes) (cs : List Declared) (q : Typed) (types : List TypeId) (terms : List TermId) : Type 0 where
   pub count : length types ≡ q.type_vars
