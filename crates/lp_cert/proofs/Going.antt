@@ -163,7 +163,7 @@ assumed_clause b w i j types c t e h n q = record {
 
 -- heads
 
-heads_agree : (t : Term) → head t ≡ head_of t
+pub heads_agree : (t : Term) → head t ≡ head_of t
 heads_agree (index i) = refl
 heads_agree (atom a) = refl
 heads_agree (abs t) = refl

@@ -65,13 +65,13 @@ module _ (g : Ground) (K L : Claim) (f : (E : List Ty) → (As : List Term) → 
 
 -- what a node leaves is one thing
 
-two_once : (c : ℕ) (ts us : List Ty) (A B C D : Term) → two c ts A B ≡ two c us C D → (A ≡ C) × (B ≡ D)
+pub two_once : (c : ℕ) (ts us : List Ty) (A B C D : Term) → two c ts A B ≡ two c us C D → (A ≡ C) × (B ≡ D)
 two_once c ts us A B C D e = (cc, cc)
 
-binder_once : (c : ℕ) (T U : Ty) (s t : Term) → app (atom (constant c (T ∷ []))) s ≡ app (atom (constant c (U ∷ []))) t → (T ≡ U) × (s ≡ t)
+pub binder_once : (c : ℕ) (T U : Ty) (s t : Term) → app (atom (constant c (T ∷ []))) s ≡ app (atom (constant c (U ∷ []))) t → (T ≡ U) × (s ≡ t)
 binder_once c T U s t e = (cc, cc)
 
-implied_once : (G D A B C : Term) → IsImplication G D A → IsImplication G B C → (D ≡ B) × (A ≡ C)
+pub implied_once : (G D A B C : Term) → IsImplication G D A → IsImplication G B C → (D ≡ B) × (A ≡ C)
 implied_once G D A B C (inl e) (inl f) = two_once number.Implies [] [] D A B C (sym e ∙ f)
 implied_once G D A B C (inr e) (inr f) = let q = two_once number.If [] [] A D C B (sym e ∙ f) in (q.1, q.0)
 implied_once G D A B C (inl e) (inr f) = absurd (cc)

@@ -41,7 +41,7 @@ without_pushed xs x = ap (λ n. take n (xs ++ x ∷ [])) (let l = length_push_su
 pub job_pushed : (b : Nodes) (all ts : List Task) (t : Task) → all ≡ ts ++ t ∷ [] → jobs_of b all ≡ job_of b t ∷ jobs_of b ts
 job_pushed b all ts t e = reverse_pushed (map (job_of b) all) (map (job_of b) ts) (job_of b t) (map_pushed (job_of b) ts all t e)
 
-assumed_pushed : (P : List ClauseFormula) (As : List Term) (D : Term) → P ++ map assumed (As ++ D ∷ []) ≡ (P ++ map assumed As) ++ assumed D ∷ []
+pub assumed_pushed : (P : List ClauseFormula) (As : List Term) (D : Term) → P ++ map assumed (As ++ D ∷ []) ≡ (P ++ map assumed As) ++ assumed D ∷ []
 assumed_pushed P As D = ap (λ l. P ++ l) (map-append assumed As (D ∷ [])) ∙ sym (append_assoc P (map assumed As) (assumed D ∷ []))
 
 module _ (g : Ground) (E : List Ty) (As : List Term) (js : List Job) (ns : List Node) where
@@ -117,7 +117,7 @@ pub nothing_ends : (b : Nodes) (w : Work) → w.tasks.items ≡ [] → Left b w 
 nothing_ends b w e = subst (λ ts. Ends (ground_in b w.theory) (types_in b w.eigens.items) (terms_in b w.assumed.items) (jobs_of b ts) []) (sym e) refl
 
 -- without the newest one, where there is one
-popped_rest : {A B : Type 0} (f : A → B) (all rest : List A) (n : ℕ) → n ≡ length all → rest ≡ take (n - 1) all → map f rest ≡ without_last (map f all)
+pub popped_rest : {A B : Type 0} (f : A → B) (all rest : List A) (n : ℕ) → n ≡ length all → rest ≡ take (n - 1) all → map f rest ≡ without_last (map f all)
 popped_rest f all rest n l e = ap (map f) e ∙ sym (take-map f (n - 1) all) ∙ ap (λ k. take (k - 1) (map f all)) (l ∙ sym (length-map all f))
 
 pub eigen_left : (b : Nodes) (w : Work) (rest : List Task) (t : Task) (es : List TypeId) (n : ℕ) (ns : List Node) → t ≡ task.LeaveEigen → w.tasks.items ≡ rest ++ t ∷ [] → n ≡ length w.eigens.items → es ≡ take (n - 1) w.eigens.items →

@@ -1,5 +1,5 @@
 -- A proof as a run over its nodes, in order: what is left to be proved, and what each node makes of it.
-use Rattle.std.specs.Prelude.{◌≡◌, ℕ, suc, ◌-◌, ◌<◌, ◌≤◌, ◌⊎◌, List, [], ◌∷◌, ◌++◌, map, length, take, Some, slice_get, IsSome}
+use Rattle.std.specs.Prelude.{◌≡◌, ℕ, suc, ◌-◌, ◌<◌, ◌≤◌, ◌⊎◌, List, [], ◌∷◌, ◌++◌, map, length, take, min, All, Some, slice_get, IsSome}
 use Rattle.lp_base.specs.declared.limits.TheConstants.{RUN_LIMIT}
 use Rattle.lp_calculus.specs.Types.{Ty}
 use Rattle.lp_calculus.specs.Term.{Term, atom, app, eigen}
@@ -90,13 +90,17 @@ HasLargeForm t = IsSome (steps leftmost_step (suc RUN_LIMIT) t) ⊎ ((s : Term) 
 abbrev pub OneIsLarge : Term → Term → Type 0
 OneIsLarge t u = HasLargeForm t ⊎ HasLargeForm u
 
+-- of the normal forms of `t is e`, or of an order of two expressions, one is large
+abbrev pub ArithNeeds : (goal : Term) → Type 0
+ArithNeeds G =
+    ((T : Ty) × (t : Term) × (e : Term) × (G ≡ two number.Is (T ∷ []) t e) × OneIsLarge t e) ⊎
+    ((c : ℕ) × (e : Term) × (f : Term) × (number.Less ≤ c) × (c ≤ number.AtLeast) × (G ≡ two c [] e f) × OneIsLarge e f)
+
 -- of the normal forms by which the node is compared with the goal one is large; all else is right
 abbrev pub ProvingNeeds : Ground → List Ty → (goal : Term) → Node → Type 0
 ProvingNeeds g E G (converted H) = IsFormula g.declared E H × OneIsLarge H G
 ProvingNeeds g E G equated = (T : Ty) × (t : Term) × (u : Term) × (G ≡ two number.Equal (T ∷ []) t u) × OneIsLarge t u
-ProvingNeeds g E G counted =
-    ((T : Ty) × (t : Term) × (e : Term) × (G ≡ two number.Is (T ∷ []) t e) × OneIsLarge t e) ⊎
-    ((c : ℕ) × (e : Term) × (f : Term) × (number.Less ≤ c) × (c ≤ number.AtLeast) × (G ≡ two c [] e f) × OneIsLarge e f)
+ProvingNeeds g E G counted = ArithNeeds G
 ProvingNeeds g E G n = ⊥
 
 abbrev pub FocusingNeeds : Ground → List Ty → (clause goal : Term) → Node → Type 0
@@ -111,11 +115,24 @@ Needs g n E As (focusing D G ∷ js) = FocusingNeeds g E D G n
 Needs g n E As (leaving_eigen ∷ js) = Needs g n (without_last E) As js
 Needs g n E As (leaving_assumed ∷ js) = Needs g n E (without_last As) js
 
--- it names an instance, its nodes are right up to one, and this one needs a large normal form
-pub record NeedsLargeForm (g : Ground) (q : Query) (c : Certificate) : Type 0 where
-  pub names : Names g.declared q c
+-- the nodes are right for the goal up to one, and this one needs a large normal form
+pub record RunsIntoLarge (g : Ground) (goal : Term) (ns : List Node) : Type 0 where
   pub before : List Node
   pub node : Node
   pub behind : List Node
-  pub nodes : c.nodes ≡ before ++ node ∷ behind
-  pub needs : RunsTo g (Needs g node) [] [] (proving (filled q c.instance) ∷ []) before
+  pub nodes : ns ≡ before ++ node ∷ behind
+  pub needs : RunsTo g (Needs g node) [] [] (proving goal ∷ []) before
+
+-- it names an instance, and its nodes come to one that needs a large normal form
+pub record NeedsLargeForm (g : Ground) (q : Query) (c : Certificate) : Type 0 where
+  pub names : Names g.declared q c
+  pub runs : RunsIntoLarge g (filled q c.instance) c.nodes
+
+-- the number, from 1, is that of the first element without P, of which Q holds; numbers end at 2 ^ 32 - 1
+pub record StopsAt {A : Type 0} (P Q : A → Type 0) (xs : List A) (number : ℕ) : Type 0 where
+  pub place : ℕ
+  pub counted : number ≡ min (suc place) 4294967295
+  pub before : All P (take place xs)
+  pub element : A
+  pub at : slice_get xs place ≡ Some element
+  pub stops : Q element

@@ -19,10 +19,10 @@ returns-clause-ordered c = λ e b g.
       c.in-Some.less,
       c.in-Some-later.more,
       value_later c.args.bank.now c.form_of.new.bank c.form_of-2.new.bank b c.args.left c.in-Is.one (Number c.in-Some.less) on off g l
-          (subst (IsFormed (tree c.args.bank.now c.args.left.0) c.form_of.new.bank) c.in-Is.is c.in_ok-first.ensures.formed) (some_is _ c.in_ok-earlier.earlier c.in-Some.less c.in-Some.is c.in_ok-earlier.ensures),
+          (subst (IsFormed (tree c.args.bank.now c.args.left.0) c.form_of.new.bank) c.in-Is.is c.in_ok-first.ensures.formed) (some_is _ c.in_ok-earlier.earlier c.in-Some.less c.in-Some.is c.in_ok-earlier.ensures.some),
       value_later c.form_of.new.bank c.form_of-2.new.bank c.form_of-2.new.bank b c.args.right c.in-Is-second.other (Number c.in-Some-later.more) off (extends_same c.form_of-2.new.bank) g (inside_on c.args.bank.now c.form_of.new.bank c.args.right on m)
-          (subst (IsFormed (tree c.form_of.new.bank c.args.right.0) c.form_of-2.new.bank) c.in-Is-second.is c.in_ok-second.ensures.formed) (some_is _ c.in_ok-later.later c.in-Some-later.more c.in-Some-later.is c.in_ok-later.ensures),
-      (λ j. ordered c.args.order (sym same j) (sym alike j)) ∙ sym c.are_ordered.ensures ∙ c.turn_where.ensures e,
+          (subst (IsFormed (tree c.form_of.new.bank c.args.right.0) c.form_of-2.new.bank) c.in-Is-second.is c.in_ok-second.ensures.formed) (some_is _ c.in_ok-later.later c.in-Some-later.more c.in-Some-later.is c.in_ok-later.ensures.some),
+      (λ j. ordered c.args.order (sym same j) (sym alike j)) ∙ sym c.are_ordered.ensures ∙ c.turn_where.ensures.on e,
     )
 
 pub returns-clause-kept : goal.returns-clause-kept

@@ -18,7 +18,7 @@ returns-clause-valued c = λ e b g.
     let off = c.in_ok-right.ensures.kept in (
       v,
       value_later c.form_of.new.bank c.form_of-2.new.bank c.form_of-2.new.bank b c.args.expression c.in-Is-right.other v off (extends_same c.form_of-2.new.bank) g (inside_on c.args.bank.now c.form_of.new.bank c.args.expression on m)
-          (subst (IsFormed (tree c.form_of.new.bank c.args.expression.0) c.form_of-2.new.bank) c.in-Is-right.is c.in_ok-right.ensures.formed) (some_is _ c.in_ok-found.found c.in-Some.value c.in-Some.is c.in_ok-found.ensures end (begins_itself end)),
+          (subst (IsFormed (tree c.form_of.new.bank c.args.expression.0) c.form_of-2.new.bank) c.in-Is-right.is c.in_ok-right.ensures.formed) (some_is _ c.in_ok-found.found c.in-Some.value c.in-Some.is c.in_ok-found.ensures.some end (begins_itself end)),
       term_later c.args.bank.now c.form_of.new.bank c.form_of-2.new.bank b c.args.term c.in-Is.one v on off g l
-          (subst (IsFormed (tree c.args.bank.now c.args.term.0) c.form_of.new.bank) c.in-Is.is c.in_ok-left.ensures.formed) (c.is_value.ensures (c.turn_where.ensures e) end (begins_itself end)),
+          (subst (IsFormed (tree c.args.bank.now c.args.term.0) c.form_of.new.bank) c.in-Is.is c.in_ok-left.ensures.formed) (c.in_ok-holds.ensures.same (c.turn_where.ensures.on e) end (begins_itself end)),
     )

@@ -7,3 +7,9 @@ pub returns-in-Some-clause-clause : goal.returns-in-Some-clause-clause
 returns-in-Some-clause-clause c =
     found_where c.formula_at.result _ _ c.formula_at.ensures.formula (λ made p a b g.
     (c.in-Some.clause.now, slice_get-get_or c.args.clauses.now c.args.place _ c.in-Some.ensures.lookup.3.0 ∙ ap Some (sym c.in-Some.ensures.lookup.1), omega (arith, p.0), p.1 a b g))
+
+pub returns-in-Some-clause-none : goal.returns-in-Some-clause-none
+returns-in-Some-clause-none c = ?
+
+pub returns-in-None-clause-none : goal.returns-in-None-clause-none
+returns-in-None-clause-none c = ?
