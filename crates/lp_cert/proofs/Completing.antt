@@ -1,7 +1,8 @@
 -- The ends of abstractions and applications keep what can be typed, and so a term that has the type is found to have it.
 use Rattle.std.proofs.Common.{◌≡◌, ℕ, suc, ◌<◌, ◌≤◌, List, [], ◌∷◌, ◌++◌, map, reverse, length, refl, sym, ap, subst, ◌∙◌, arith, Bool, true, false}
 use Rattle.std.proofs.Math.Path.{transport}
-use Rattle.std.specs.Prelude.{All}
+use Rattle.std.specs.Prelude.{All, Result, Ok, Err, IfOk}
+use Rattle.lp_base.specs.declared.memory.Memory.{Memory}
 use Rattle.std.proofs.lemmas.List.{reverse-reverse}
 use Rattle.std.proofs.lemmas.List.Elements.{All-nil, All-cons, All-head, All-tail, All-weaker}
 use Rattle.lp_lemmas.proofs.Lists.{cons_head, cons_tail}
@@ -212,6 +213,18 @@ applied_keeps now old p new mid head argument done es em ec ee ex ep et h = reco
       );
 }
 
+pub any_kept : (a now : Nodes) (old p new : Typing) (mid : List TypeId) (head argument : TypeId) (r : Result Bool Memory) → old.stack.items ≡ mid ++ argument ∷ [] → mid ≡ p.stack.items ++ head ∷ [] → p.constants ≡ old.constants → p.eigens ≡ old.eigens → p.context ≡ old.context → p.pairs ≡ old.pairs → p.tasks ≡ old.tasks → p.next ≡ old.next →
+    IfOk r (λ done. IsTidy a p → IsTypeBelow a p.next head → IsTypeBelow a p.next argument → (done ≡ true) × KeepsApplied now p new head argument) → IfOk r (λ done. IsTidy a old → Keeps now old new (λ b. applying ∷ []) done)
+any_kept a now old p new mid head argument (Err x) es em ec ee ex ep et en h = tt
+any_kept a now old p new mid head argument (Ok done) es em ec ee ex ep et en h = λ y.
+    let g = extends_same a in
+    let more : old.next ≤ p.next = omega (arith, en) in
+    let two = All_popped (IsTypeBelow a old.next) old.stack.items mid argument es y.stack in
+    let one = All_popped (IsTypeBelow a old.next) mid p.stack.items head em two.0 in
+    let tidy = tidy_on a a old p g y ec ee (types_later a a old.next p.next p.context.items old.context.items g more (ap (λ z. z.items) ex) y.context) (types_later a a old.next p.next p.stack.items p.stack.items g more refl one.0)
+        (pairs_later a a old.next p.next p.pairs.items old.pairs.items g more (ap (λ z. z.items) ep) y.pairs) (tasks_later a a p.tasks.items old.tasks.items g (ap (λ z. z.items) et) y.tasks) in
+    applied_keeps now old p new mid head argument done es em ec ee ex ep et (h tidy (type_later a a old.next p.next head g more one.1) (type_later a a old.next p.next argument g more two.1))
+
 -- p is y without the task that was taken off
 pub task_taken : (b : Nodes) (y p : Typing) (t : Task) (T : Ty) → y.tasks.items ≡ p.tasks.items ++ t ∷ [] → p.constants ≡ y.constants → p.eigens ≡ y.eigens → p.context ≡ y.context → p.stack ≡ y.stack → p.pairs ≡ y.pairs → Can b y [] T → Can b p (step_of b t ∷ []) T
 task_taken b y p t T e ec ee ex es ep c = record {
@@ -285,3 +298,42 @@ nothing_found b x T et ex c =
     let at_end : Comes (types_of b x) (filled_types b θ x.context.items) [] [] T = transport (λ j. Comes (types_of b x) (filled_types b θ x.context.items) (filled_types b θ (ex j)) (steps_of b (et j)) T) c.derives in
     let e = at_end.1 in
     absurd (cc)
+
+-- x is the typing when nothing was left to do, new the same behind the look for one more task
+pub ended_keeps : (now : Nodes) (old x new : Typing) → x.tasks.items ≡ [] → new.tasks.items ≡ [] → new.constants ≡ x.constants → new.eigens ≡ x.eigens → new.context ≡ x.context → new.stack ≡ x.stack → new.pairs ≡ x.pairs → new.next ≡ x.next → IsTidy now x → ((b : Nodes) → Extends now b → (T : Ty) → Can b old [] T → Can b x [] T) →
+    Keeps now old new (λ b. []) true
+ended_keeps now old x new et en ec ee ex es ep nx y h =
+    let g = extends_same now in
+    let more : x.next ≤ new.next = omega (arith, nx) in
+    record {
+      tidy = λ q.
+          tidy_on now now x new g y ec ee (types_later now now x.next new.next new.context.items x.context.items g more (ap (λ z. z.items) ex) y.context) (types_later now now x.next new.next new.stack.items x.stack.items g more (ap (λ z. z.items) es) y.stack)
+          (pairs_later now now x.next new.next new.pairs.items x.pairs.items g more (ap (λ z. z.items) ep) y.pairs) (tasks_later now now new.tasks.items x.tasks.items g (en ∙ sym et) y.tasks);
+      can = λ b k T c.
+          let d = h b k T c in (
+            refl,
+            can_of b d.types x new (filled_types b d.types x.context.items) (filled_types b d.types x.stack.items) (steps_of b x.tasks.items) T ec ee (subst (λ z. Solves b d.types z.items) (sym ep) d.solves) (ap (λ z. filled_types b d.types z.items) ex)
+                (ap (λ z. filled_types b d.types z.items) es) (ap (steps_of b) (en ∙ sym et)) d.derives,
+          );
+    }
+
+-- the beginning of a typing: y has the term to visit and nothing else
+module _ (a now : Nodes) (y x : Typing) (term : TermId) (done : Bool) (g : Extends a now) (ex : y.context.items ≡ []) (es : y.stack.items ≡ []) (ep : y.pairs.items ≡ []) (et : y.tasks.items ≡ task.Visit term ∷ []) (keeps : IsTidy a y → Keeps now y x (λ b. []) done) (h : AllAtoms HasClosedTypes (tree a term.0)) (l : term.0 < length a.terms)
+  (eigens : AreClosed (types_in a y.eigens.now)) (constants : AreDeclaredInside (length a.types) y.constants.now) where
+  kept_on : Keeps now y x (λ b. []) done
+  kept_on = keeps (first_tidy a y term ex es ep et eigens constants h l)
+
+  pub reached : (b : Nodes) → Extends now b → (T : Ty) → HasType (types_of b y) [] (tree b term.0) T → (done ≡ true) × Can b x [] T
+  reached b k T d = kept_on.can b k T (typed_can b y term T ex es ep et d)
+
+  pub reached_tidy : done ≡ true → IsTidy now x
+  reached_tidy = kept_on.tidy
+
+pub untyped_result : (a now : Nodes) (y x last : Typing) (pairs : List Pair) (rest : List TypeId) (term : TermId) (found of : TypeId) (done : Bool) (r : Result Bool Memory) → Extends a now → y.context.items ≡ [] → y.stack.items ≡ [] → y.pairs.items ≡ [] → y.tasks.items ≡ task.Visit term ∷ [] →
+    (IsTidy a y → Keeps now y x (λ b. []) done) → done ≡ true → x.tasks.items ≡ [] → x.stack.items ≡ rest ++ found ∷ [] → pairs ≡ last.pairs.items → IsEquated x last found of →
+    IfOk r (λ ok. ok ≡ false → All (IsPair (length now.types)) pairs → HaveNoSolution (read_pairs (type_tree now) var pairs)) →
+    IfOk r (λ ok. ok ≡ false → AllAtoms HasClosedTypes (tree a term.0) → term.0 < length a.terms → IsClosedType (type_tree a of.0) → AreClosed (types_in a y.eigens.now) → AreDeclaredInside (length a.types) y.constants.now →
+    (b : Nodes) → Extends now b → HasType (types_of b y) [] (tree b term.0) (type_tree b of.0) → ⊥)
+untyped_result a now y x last pairs rest term found of done (Err z) g ex es ep et keeps e xt xs lp eq none = tt
+untyped_result a now y x last pairs rest term found of done (Ok z) g ex es ep et keeps e xt xs lp eq none = λ q h l closed eigens constants b k d.
+    untyped_at_end a now b x last pairs rest found of g k xt xs lp closed (reached_tidy a now y x term done g ex es ep et keeps h l eigens constants e) eq (none q) (reached a now y x term done g ex es ep et keeps h l eigens constants b k (type_tree b of.0) d).1

@@ -167,3 +167,18 @@ application_keeps now old new head ids y g ec ee ex es ep en ts h =
                 (applied_back (types_of b old) (filled_types b θ old.context.items) (filled_types b θ old.stack.items) (tree b head.0) (map (λ t. tree b t.0) ids) (steps_of b old.tasks.items) T c.derives),
           );
     }
+
+-- an equation: of types of one number, or a pair more
+pub equated_same : (old new : Typing) (left right : TypeId) → new.next ≡ old.next → new.pairs ≡ old.pairs → IsEquated old new left right
+equated_same old new left right en ep = record {
+  next = en;
+  solved = λ b θ s e. subst (λ z. Solves b θ z.items) (sym ep) s;
+  below = λ b n h l r. subst (λ z. All (IsPairBelow b n) z.items) (sym ep) h;
+}
+
+pub equated_push : (old new : Typing) (left right : TypeId) → new.next ≡ old.next → new.pairs.items ≡ old.pairs.items ++ record { left = left; right = right } ∷ [] → IsEquated old new left right
+equated_push old new left right en ep = record {
+  next = en;
+  solved = λ b θ s e. All_pushed (λ (p : Pair). instance θ (type_tree b p.left.0) ≡ instance θ (type_tree b p.right.0)) new.pairs.items old.pairs.items (record { left = left; right = right }) ep s e;
+  below = λ b n h l r. All_pushed (IsPairBelow b n) new.pairs.items old.pairs.items (record { left = left; right = right }) ep h (l, r);
+}

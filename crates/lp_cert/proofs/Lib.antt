@@ -10,6 +10,7 @@ mod Evaluating
 mod Filled
 mod Fitting
 mod Going
+mod Instances
 mod Keeping
 mod Later
 mod Marking
@@ -17,6 +18,7 @@ mod Missing
 mod Naming
 mod Proving
 mod Putting
+mod Refusing
 mod Settled
 mod Shaped
 mod Stepping

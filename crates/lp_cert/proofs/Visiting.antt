@@ -12,7 +12,7 @@ use Rattle.lp_calculus.specs.Term.{Term, Atom, index, atom, abs, app, apply, con
 use Rattle.lp_calculus.specs.Closed.{IsClosedType, AreClosed, AllAtoms}
 use Rattle.lp_calculus.specs.Typing.{HasType, int_type, string_type, scheme_type, eigen_type}
 use Rattle.lp_model.specs.Readings.{declared_by}
-use Rattle.lp_term.specs.Node.{TermShape, TermBelow}
+use Rattle.lp_term.specs.Node.{TermShape, TermBelow, const_node}
 use Rattle.lp_term.specs.Nodes.{Nodes, Extends, tree, type_tree, node_tree}
 use Rattle.lp_term.specs.declared.node.TypeId.{TypeId}
 use Rattle.lp_term.specs.declared.node.TermId.{TermId}
@@ -25,7 +25,7 @@ use Rattle.lp_cert.specs.declared.typing.Task.{Task}
 use Rattle.lp_cert.specs.declared.typing.Task.TheVariants as task
 use Rattle.lp_cert.specs.declared.typing.Typing.{Typing}
 use Rattle.lp_cert.proofs.ClosedTypes.{scheme_closed}
-use Rattle.lp_cert.proofs.Deriving.{twice_terms}
+use Rattle.lp_cert.proofs.Comparisons.{twice}
 use Rattle.lp_cert.proofs.Keeping.{some_same, refused, held_keeps, constant_keeps, eigen_keeps, keeps_as}
 use Rattle.lp_cert.proofs.Later.{closed_type_inside, closed_types_inside, inside_later, seen_inside}
 
@@ -124,6 +124,13 @@ visit_application a old new (Err x) term head ids l m e h = tt
 visit_application a old new (Ok done) term head ids l m e h = λ y k.
     let q = apply_atoms HasClosedTypes (tree a head.0) (map (λ t. tree a t.0) ids) (subst (AllAtoms HasClosedTypes) (sym (e a (extends_same a))) k.1) in
     keeps_as a old new done (λ b. apply (tree b head.0) (map (λ t. tree b t.0) ids)) (λ b. tree b term.0) e (h a y (l, q.0) (argument_tasks a ids m q.1))
+
+pub visit_constant : (a now : Nodes) (old new : Typing) (r : Result Bool Memory) (term : TermId) (n : ℕ) (ids copy : List TypeId) → copy ≡ ids → Extends a now → term.0 < length a.terms → All (λ i. i < length a.types) (map (λ t. t.0) ids) → atom (constant n (map (type_tree a) (map (λ t. t.0) ids))) ≡ tree a term.0 →
+    IfOk r (λ done. IsTidy a old → AreClosed (types_in a copy) → Keeps now old new (λ b. visiting (atom (constant n (types_in b copy))) ∷ []) done) → IfOk r (λ done. IsTidy a old → IsTaskIn a (task.Visit term) → Keeps now old new (λ b. visiting (tree b term.0) ∷ []) done)
+visit_constant a now old new r term n ids copy e g l i t h =
+    visit_as a now old new r term (λ b. atom (constant n (types_in b copy))) (AreClosed (types_in a copy))
+    (λ b k. ap (λ us. atom (constant n us)) (ap (types_in b) e ∙ sym (twice (type_tree b) ids)) ∙ seen_inside a b term.0 (const_node n (map (λ t. t.0) ids)) (extends-trans a now b g k) l i t)
+    (λ k. types_task a term n ids copy e (ap (λ us. atom (constant n us)) (sym (twice (type_tree a) ids)) ∙ t) k) h
 
 -- the tasks of an application
 pub tasks_next : (P : Task → Type 0) (all mid ts : List Task) (t : TermId) → mid ≡ ts ++ task.Apply ∷ [] → all ≡ mid ++ task.Visit t ∷ [] → All P ts → P task.Apply → P (task.Visit t) → All P all
