@@ -2,6 +2,7 @@
 ghost use Rattle.std.specs.Prelude.{◌≡◌, ◌<◌, ℕ, List, [], ◌∷◌, All, IfOk, IfSome, None, OnOk, length, map, true, false};
 ghost use Rattle.lp_calculus.specs.Closed.{AllAtoms};
 ghost use Rattle.lp_term.specs.Nodes.{Extends, Nodes, tree};
+ghost use Rattle.lp_term.specs.Spine.{LooseBelow};
 ghost use Rattle.lp_cert.specs.Certified.{Certifies, certificate_of, ground_of, query_of};
 ghost use Rattle.lp_cert.specs.Facts.{AreInside, IsKnown};
 ghost use Rattle.lp_cert.specs.Inside.{AreTermsInside, IsQueryInside};
@@ -84,6 +85,7 @@ impl Work<'_> {
         ensures filled { IfOk result (λ found. IfSome found (λ goal. (b : Nodes) → Extends bank.new b → IsFilledIn b query.now types.now values.now goal)) }
         ensures within { IfOk result (λ found. IfSome found (λ goal. goal.0 < length bank.new.terms)) }
         ensures types { IfOk result (λ found. IfSome found (λ goal. self.old.eigens.items ≡ [] → AllAtoms HasClosedTypes (tree bank.new goal.0))) }
+        ensures tight { IfOk result (λ found. IfSome found (λ goal. self.old.eigens.items ≡ [] → LooseBelow 0 0 (tree bank.new goal.0))) }
         ensures unnamed { IfOk result (λ found. found ≡ None → IsSettled bank.old self.old → self.old.eigens.items ≡ [] → IsQueryInside bank.old query.now → AreInside (length bank.old.types) types.now → AreTermsInside (length bank.old.terms) values.now →
             AreUnnamed bank.new self.old.theory.constants.now query.now types.now values.now) }
     {

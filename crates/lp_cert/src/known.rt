@@ -84,6 +84,13 @@ impl Facts {
         self.eigen <= level
     }
 
+    fn fits_below(self, depth: u64) -> bool
+        ensures always { result ≡ true → self.loose ≤ depth }
+        ensures never { result ≡ false → self.loose ≤ depth → ⊥ }
+    {
+        self.loose <= u128::from(depth)
+    }
+
     fn abstracted(self) -> Facts
         ensures { (t : Term) → AreFacts self t → AreFacts result (abs t) }
     {
@@ -286,7 +293,7 @@ impl Known {
     {
         self.find_terms(bank)?;
         let facts = self.term_fact(term);
-        Ok(facts.loose <= u128::from(depth))
+        Ok(facts.fits_below(depth))
     }
 
     // Whether a term has neither logic nor type variables, no loose index, and no eigenconstant above the level.

@@ -305,16 +305,24 @@ impl Typing<'_, '_> {
     }
 }
 
+// Whether both types are in the bank.
+fn is_pair(bank: &Bank, pair: Pair) -> bool
+    ensures inside { result ≡ true → IsPair (length bank.now.types) pair }
+    ensures outside { result ≡ false → IsPair (length bank.now.types) pair → ⊥ }
+{
+    if !is_type_inside(bank, pair.left) {
+        return false;
+    }
+    is_type_inside(bank, pair.right)
+}
+
 // Whether the types of all pairs are in the bank.
 fn are_pairs(bank: &Bank, pairs: &[Pair]) -> bool
     ensures inside { result ≡ true → All (IsPair (length bank.now.types)) pairs.now }
     ensures outside { result ≡ false → All (IsPair (length bank.now.types)) pairs.now → ⊥ }
 {
-    for pair in pairs.iter().copied() {
-        if pair.left.0 >= bank.type_count() {
-            return false;
-        }
-        if pair.right.0 >= bank.type_count() {
+    for at in 0..pairs.len() {
+        if !is_pair(bank, pairs[at]) {
             return false;
         }
     }
