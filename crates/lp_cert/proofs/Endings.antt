@@ -4,9 +4,12 @@ use Rattle.std.specs.Prelude.{IfSome, slice_index_or, All}
 use Rattle.std.proofs.lemmas.List.{length-map}
 use Rattle.std.proofs.lemmas.List.Elements.{All-head, All-tail}
 use Rattle.lp_calculus.specs.Types.{Ty}
-use Rattle.lp_calculus.specs.Term.{Term, Atom, atom, app, apply, constant}
+use Rattle.lp_calculus.specs.Term.{Term, Atom, index, atom, abs, app, apply, constant}
 use Rattle.lp_standard.specs.Connectives.{two}
 use Rattle.lp_term.specs.Nodes.{Nodes, tree, type_tree}
+use Rattle.lp_term.specs.Spine.{IsNoApplication}
+use Rattle.lp_model.specs.Proofs.{IsAtomHead}
+use Rattle.lp_cert.specs.inner.Evaluated.{IsApplication}
 use Rattle.lp_term.specs.declared.node.TermId.{TermId}
 use Rattle.lp_term.specs.declared.node.TypeId.{TypeId}
 use Rattle.lp_cert.specs.Same.{types_in}
@@ -70,3 +73,30 @@ one_parts t l A c d ts us e f = (cc, cc)
 
 pub count_of_types : (b : Nodes) (ids : List TypeId) (us : List Ty) → types_in b ids ≡ us → length ids ≡ length us
 count_of_types b ids us e = sym (length-map ids (λ t. type_tree b t.0)) ∙ ap length e
+
+-- what has arguments is an application
+applied_to : (h x : Term) (xs : List Term) → (f : Term) × (u : Term) × (apply h (x ∷ xs) ≡ app f u)
+applied_to h x [] = (h, x, refl)
+applied_to h x (y ∷ ys) = applied_to (app h x) y ys
+
+pub is_applied : (b : Nodes) (h t : Term) (ids : List TermId) → map (λ t. t.0) ids ≢ [] → apply h (map (tree b) (map (λ t. t.0) ids)) ≡ t → (f : Term) × (u : Term) × (t ≡ app f u)
+is_applied b h t [] ne e = absurd (ne refl)
+is_applied b h t (x ∷ xs) ne e = let q = applied_to h (tree b x.0) (map (tree b) (map (λ t. t.0) xs)) in (q.0, q.1, sym e ∙ q.2)
+
+pub no_atom : (b : Nodes) (h t : Term) (ids : List TermId) (a : Atom) → map (λ t. t.0) ids ≢ [] → apply h (map (tree b) (map (λ t. t.0) ids)) ≡ t → t ≡ atom a → ⊥
+no_atom b h t ids a ne e q = absurd (let p = (is_applied b h t ids ne e).2 in cc)
+
+pub no_index : (b : Nodes) (h t : Term) (ids : List TermId) (i : ℕ) → map (λ t. t.0) ids ≢ [] → apply h (map (tree b) (map (λ t. t.0) ids)) ≡ t → t ≡ index i → ⊥
+no_index b h t ids i ne e q = absurd (let p = (is_applied b h t ids ne e).2 in cc)
+
+pub no_abs : (b : Nodes) (h t u : Term) (ids : List TermId) → map (λ t. t.0) ids ≢ [] → apply h (map (tree b) (map (λ t. t.0) ids)) ≡ t → t ≡ abs u → ⊥
+no_abs b h t u ids ne e q = absurd (let p = (is_applied b h t ids ne e).2 in cc)
+
+pub application : (b : Nodes) (h t : Term) (ids : List TermId) → map (λ t. t.0) ids ≢ [] → apply h (map (tree b) (map (λ t. t.0) ids)) ≡ t → IsApplication t
+application b h t ids ne e = subst IsApplication (sym (is_applied b h t ids ne e).2) tt
+
+pub no_atom_head : (b : Nodes) (h t : Term) (ids : List TermId) → map (λ t. t.0) ids ≢ [] → apply h (map (tree b) (map (λ t. t.0) ids)) ≡ t → IsAtomHead t → ⊥
+no_atom_head b h t ids ne e k = subst IsAtomHead (is_applied b h t ids ne e).2 k
+
+pub no_head : (b : Nodes) (h t : Term) (ids : List TermId) → map (λ t. t.0) ids ≢ [] → apply h (map (tree b) (map (λ t. t.0) ids)) ≡ t → IsNoApplication t → ⊥
+no_head b h t ids ne e n = subst IsNoApplication (is_applied b h t ids ne e).2 n

@@ -17,7 +17,7 @@ use Rattle.lp_term.specs.Nodes.{Nodes, tree}
 use Rattle.lp_term.specs.declared.node.TermId.{TermId}
 use Rattle.lp_model.specs.declared.ending.Fault.{Fault}
 use Rattle.lp_model.specs.declared.ending.Fault.TheVariants.{Overflow, ZeroDivisor, NotClosed}
-use Rattle.lp_model.specs.Values.{Number, Bytes, Outcome, Is, Faults, number, bound, is_zero, divided, remainder, binary, unary, both, single, is_two_place, is_one_place, value}
+use Rattle.lp_model.specs.Values.{Value, Number, Bytes, Outcome, Is, Faults, number, bound, is_zero, divided, remainder, binary, unary, both, single, is_two_place, is_one_place, value}
 use Rattle.lp_cert.specs.Same.{types_in}
 use Rattle.lp_cert.specs.Shape.{IsOne, IsTwo}
 use Rattle.lp_cert.specs.declared.shape.One.{One}
@@ -285,7 +285,7 @@ pub number_is : (end : List ℕ) (v : code.Value) (x a : ℤ) → x ≡ a → v 
 number_is end v x a e f = ap Number e ∙ ap (value_in end) (sym f)
 
 -- the innermost of what stands around a part, and the part's value
-pub leaves_one : (b : Nodes) (end : List ℕ) (f : Around) (c : ℕ) (v : code.Value) (s : State) (fs : List Around) (o : Outcome) → f ≡ around.One c → Gives end s (unary c (value_in end v)) → o ≡ within b end (f ∷ fs) (Is (value_in end v)) → Leads b end s fs o
+leaves_one : (b : Nodes) (end : List ℕ) (f : Around) (c : ℕ) (v : code.Value) (s : State) (fs : List Around) (o : Outcome) → f ≡ around.One c → Gives end s (unary c (value_in end v)) → o ≡ within b end (f ∷ fs) (Is (value_in end v)) → Leads b end s fs o
 leaves_one b end f c v s fs o e g h = given_leads b end s fs o (unary c (value_in end v)) g (h ∙ ap (λ x. within b end (x ∷ fs) (Is (value_in end v))) e)
 
 pub leaves_left : (b : Nodes) (end : List ℕ) (f : Around) (c : ℕ) (t : TermId) (v : code.Value) (old new : List Around) (o : Outcome) → f ≡ around.Left c t → new ≡ old ++ around.Right c v ∷ [] →
@@ -329,3 +329,32 @@ one_around b end fs rest f o p e h = h ∙ ap (λ xs. within b end xs p) (revers
 -- the part at work
 pub at_work : (b : Nodes) (end : List ℕ) (s u : State) (fs : List Around) (o : Outcome) → s ≡ u → Leads b end s fs o → Leads b end u fs o
 at_work b end s u fs o e h = subst (λ x. Leads b end x fs o) e h
+
+-- values of different kinds
+pub number_not_text : (end : List ℕ) (c : ℕ) (a : ℤ) (v : code.Value) (s : Span) → v ≡ code_of.Text s → HasNone (binary c (Number a) (value_in end v))
+number_not_text end c a v s e = (NotClosed, ap (λ x. binary c (Number a) (value_in end x)) e)
+
+pub text_not_number : (end : List ℕ) (c : ℕ) (x : List ℕ) (v : code.Value) (z : ℤ) → v ≡ code_of.Number z → HasNone (binary c (Bytes x) (value_in end v))
+text_not_number end c x v z e = (NotClosed, ap (λ y. binary c (Bytes x) (value_in end y)) e)
+
+pub none_is : (o : Outcome) (v : Value) → HasNone o → o ≡ Is v → ⊥
+none_is o v n e = absurd (let q = n.1 in cc)
+
+pub text_no_number : (end : List ℕ) (v : code.Value) (s : Span) (o : Outcome) (z : ℤ) → o ≡ Is (value_in end v) → v ≡ code_of.Text s → o ≡ Is (Number z) → ⊥
+text_no_number end v s o z e t q = absurd (let p = e ∙ ap (λ x. Is (value_in end x)) t in cc)
+
+pub texts_once : (x y : List ℕ) → atom (text x) ≡ atom (text y) → x ≡ y
+texts_once x y e = cc
+
+pub given_that : (r : Result State Memory) (A : Type 0) (P : State → Type 0) → A → IfOk r (λ s. A → P s) → IfOk r P
+given_that (Err x) A P a h = tt
+given_that (Ok s) A P a h = h a
+
+pub whatever : (r : Result State Memory) (A : Type 0) (P : State → Type 0) → IfOk r P → IfOk r (λ s. A → P s)
+whatever (Err x) A P h = tt
+whatever (Ok s) A P h = λ a. h
+
+pub left_one : (new : List ℕ) (f : Around) (c : ℕ) (v : code.Value) (r : Result State Memory) (old : List Around) → f ≡ around.One c → IfOk r (λ s. (end : List ℕ) → Begins new end → Gives end s (unary c (value_in end v))) →
+    IfOk r (λ s. (b : Nodes) (end : List ℕ) → Begins new end → (o : Outcome) → o ≡ within b end (f ∷ reverse old) (Is (value_in end v)) → Leads b end s (reverse old) o)
+left_one new f c v (Err x) old e g = tt
+left_one new f c v (Ok s) old e g = λ b end h o q. leaves_one b end f c v s (reverse old) o e (g end h) q

@@ -3,8 +3,7 @@ use Rattle.std.proofs.Common.{◌≡◌, ℕ, zero, suc, ◌-◌, ◌<◌, ◌�
 use Rattle.std.specs.Prelude.{Result, Ok, Err, IfOk, All, Some, slice_get, min}
 use Rattle.std.proofs.Math.Path.{transport}
 use Rattle.std.proofs.lemmas.List.{append_assoc}
-use Rattle.std.proofs.lemmas.List.Elements.{All-nil, All-cons, All-head, All-tail}
-use Rattle.lp_lemmas.proofs.Elements.{All_popped}
+use Rattle.std.proofs.lemmas.List.Elements.{All-nil, All-cons, All-get_or, All-head, All-tail, All-weaker}
 use Rattle.lp_lemmas.proofs.Lists.{map_pushed}
 use Rattle.lp_base.specs.declared.memory.Memory.{Memory}
 use Rattle.lp_calculus.specs.Types.{Ty}
@@ -15,18 +14,24 @@ use Rattle.lp_term.specs.declared.node.TermId.{TermId}
 use Rattle.lp_term.specs.declared.node.TypeId.{TypeId}
 use Rattle.lp_model.specs.Proofs.{Proof, Focus, Conv, True, And, Left, Right, Witness, All as AllProof, Assume, Equal, Arith, Back, Fails, FConv, FAll, FTake, FNeed, FHit, proves_by, no_leaf}
 use Rattle.lp_model.specs.declared.certificate.ProofNode.{ProofNode}
+use Rattle.lp_model.specs.declared.certificate.ProofNode.TheVariants as code
 use Rattle.lp_cert.specs.Certified.{Ground}
 use Rattle.lp_cert.specs.Run.{Claim, Job, Needs, RunsIntoLarge, RunsTo, StepsOn, focusing, leaving_assumed, leaving_eigen, proving, without_last}
 use Rattle.lp_cert.specs.Same.{terms_in, types_in}
 use Rattle.lp_cert.specs.Standing.{IsNodeInside}
 use Rattle.lp_cert.specs.Written.{Node, node_of, IsWritten, IsFocusWritten}
 use Rattle.lp_cert.specs.inner.Left.{Ends, IsIdle, Proves, ground_in, job_of, jobs_of}
-use Rattle.lp_cert.specs.inner.Turned.{Always, At, IsReady, IsReadyWork, IsStepped, IsTaskReady, IsTurned, Rest, rest_in, rest_of, rest_with}
+use Rattle.lp_cert.specs.inner.Turned.{Always, At, IsReady, IsReadyWork, IsStepped, IsTaskReady, IsTurned, Pushes, Rest, rest_in, rest_of, rest_with}
 use Rattle.lp_cert.specs.declared.work.Task.{Task}
 use Rattle.lp_cert.specs.declared.work.Task.TheVariants as task
 use Rattle.lp_cert.specs.declared.work.Turn.{Turn}
 use Rattle.lp_cert.specs.declared.work.Turn.TheVariants as turn
+use Rattle.lp_cert.specs.declared.work.Theory.{Theory}
 use Rattle.lp_cert.specs.declared.work.Work.{Work}
+use Rattle.lp_term.proofs.Knowing.{take_whole}
+use Rattle.lp_cert.proofs.Later.{inside_more}
+use Rattle.lp_cert.proofs.Nodewise.{further}
+use Rattle.lp_cert.proofs.Witnesses.{taken_next}
 use Rattle.lp_cert.proofs.Running.{ends_step, run_ends, run_map, run_then, step_map}
 use Rattle.lp_cert.proofs.Stepping.{job_pushed, popped_rest}
 use Rattle.lp_cert.proofs.Turning.{skips_from, step_turned}
@@ -163,3 +168,82 @@ focused_by (Ok u) a now old mid new t clause atom n e s q k = λ w i.
     let r = q a w in
     let z = subst (IsTaskReady a) e r.1 in
     step_turned now old mid new (task.Focus clause atom) (λ b. node_of b n) s.0 (λ b. s.1 b ∙ ap (λ x. rest_with b mid (job_of b x ∷ [])) e) u (k r.0 z.0 z.1 i)
+
+-- what a step says, by its turn
+module _ (now : Nodes) (old new : Work) (n : Nodes → Node) (t : Turn) where
+  pub on_stepped : t ≡ turn.On → IsStepped now old new n t → IsStepped now old new n turn.On
+  on_stepped e h = subst (IsStepped now old new n) e h
+
+  pub no_stepped : t ≡ turn.No → IsStepped now old new n t → IsStepped now old new n turn.No
+  no_stepped e h = subst (IsStepped now old new n) e h
+
+  pub deep_stepped : t ≡ turn.Deep → IsStepped now old new n t → IsStepped now old new n turn.Deep
+  deep_stepped e h = subst (IsStepped now old new n) e h
+
+node_later : (a b : Nodes) (n : ProofNode) → Extends a b → IsNodeInside a n → IsNodeInside b n
+node_later a b (code.Conv t) g l = further a b t g l
+node_later a b code.True g l = tt
+node_later a b code.And g l = tt
+node_later a b code.Left g l = tt
+node_later a b code.Right g l = tt
+node_later a b (code.Some t) g l = further a b t g l
+node_later a b code.All g l = tt
+node_later a b code.Assume g l = tt
+node_later a b code.Equal g l = tt
+node_later a b code.Arith g l = tt
+node_later a b (code.Back i ts) g l = inside_more a b ts.items g l
+node_later a b (code.FocusConv t) g l = further a b t g l
+node_later a b (code.FocusAll t) g l = further a b t g l
+node_later a b (code.Take s) g l = tt
+node_later a b code.Need g l = tt
+node_later a b code.Hit g l = tt
+
+pub nodes_later : (a b : Nodes) (ns : List ProofNode) → Extends a b → All (IsNodeInside a) ns → All (IsNodeInside b) ns
+nodes_later a b ns g h = All-weaker (IsNodeInside a) (IsNodeInside b) (λ n l. node_later a b n g l) ns h
+
+-- the node at a place
+pub node_inside : (a b : Nodes) (nodes : List ProofNode) (i : ℕ) (x : ProofNode) → Extends a b → i < length nodes → x ≡ get_or nodes i x → All (IsNodeInside a) nodes → IsNodeInside b x
+node_inside a b nodes i x g l e h = node_later a b x g (subst (IsNodeInside a) (sym e) (All-get_or (IsNodeInside a) nodes i x l h))
+
+-- at the beginning
+pub idle_pushed : (b : Nodes) (old new : Work) (goal : TermId) → IsIdle old → Pushes old new (task.Prove goal) → At b new [] [] (proving (tree b goal.0) ∷ [])
+idle_pushed b old new goal i p = (
+  ap (types_in b) (sym (ap (λ v. v.items) p.eigens ∙ i.eigens)),
+  ap (terms_in b) (sym (ap (λ v. v.items) p.assumed ∙ i.assumed)),
+  ap (λ ts. proving (tree b goal.0) ∷ jobs_of b ts) (sym i.tasks) ∙ sym (job_pushed b new.tasks.items old.tasks.items (task.Prove goal) p.tasks),
+)
+
+-- the nodes up to one, the one, and those behind it
+split_at : (b : Nodes) (nodes : List ProofNode) (i : ℕ) (x : ProofNode) → i < length nodes → x ≡ get_or nodes i x → map (node_of b) nodes ≡ map (node_of b) (take i nodes) ++ node_of b x ∷ map (node_of b) (drop (suc i) nodes)
+split_at b [] i x l e = absurd (omega (arith, l))
+split_at b (y ∷ ys) zero x l e = λ j. node_of b (sym e j) ∷ map (node_of b) ys
+split_at b (y ∷ ys) (suc i) x l e = ap (λ ns. node_of b y ∷ ns) (split_at b ys i x (omega (arith, l)) e)
+
+module _ (b : Nodes) (w : Work) (theory : Theory) (G : Term) (nodes : List ProofNode) (i : ℕ) where
+  next_run : (v : Work) (n : ℕ) (x : ProofNode) → n ≡ suc i → i < length nodes → x ≡ get_or nodes i x → w.theory ≡ theory → RunsFrom (ground_in b theory) G (At b w) (map (node_of b) (take i nodes)) →
+      StepsOn (ground_in b w.theory) (At b v) (types_in b w.eigens.items) (terms_in b w.assumed.items) (jobs_of b w.tasks.items) (node_of b x) → RunsFrom (ground_in b theory) G (At b v) (map (node_of b) (take n nodes))
+  next_run v n x m l e q runs s =
+      subst (RunsFrom (ground_in b theory) G (At b v)) (sym (map_pushed (node_of b) (take i nodes) (take n nodes) x (taken_next nodes i n x m l e)))
+      (runs_next b w (ground_in b theory) G (map (node_of b) (take i nodes)) runs v (node_of b x) (subst (λ z. StepsOn (ground_in b z) (At b v) (types_in b w.eigens.items) (terms_in b w.assumed.items) (jobs_of b w.tasks.items) (node_of b x)) q s))
+
+  pub refuted_at : (x : ProofNode) → i < length nodes → x ≡ get_or nodes i x → w.theory ≡ theory → RunsFrom (ground_in b theory) G (At b w) (map (node_of b) (take i nodes)) →
+      (StepsOn (ground_in b w.theory) (Always (Unit {0})) (types_in b w.eigens.items) (terms_in b w.assumed.items) (jobs_of b w.tasks.items) (node_of b x) → ⊥) → Proves (ground_in b theory) G (map (node_of b) nodes) → ⊥
+  refuted_at x l e q runs s p =
+      node_refutes b w (ground_in b theory) G (map (node_of b) (take i nodes)) runs (node_of b x) (map (node_of b) (drop (suc i) nodes))
+      (λ k. s (subst (λ z. StepsOn (ground_in b z) (Always (Unit {0})) (types_in b w.eigens.items) (terms_in b w.assumed.items) (jobs_of b w.tasks.items) (node_of b x)) (sym q) k))
+      (subst (Proves (ground_in b theory) G) (split_at b nodes i x l e) p)
+
+  pub large_at : (x : ProofNode) → i < length nodes → x ≡ get_or nodes i x → w.theory ≡ theory → RunsFrom (ground_in b theory) G (At b w) (map (node_of b) (take i nodes)) →
+      Needs (ground_in b w.theory) (node_of b x) (types_in b w.eigens.items) (terms_in b w.assumed.items) (jobs_of b w.tasks.items) → RunsIntoLarge (ground_in b theory) G (map (node_of b) nodes)
+  large_at x l e q runs s =
+      runs_into b w (ground_in b theory) G (map (node_of b) (take i nodes)) runs (node_of b x) (map (node_of b) (drop (suc i) nodes)) (map (node_of b) nodes) (split_at b nodes i x l e)
+      (subst (λ z. Needs (ground_in b z) (node_of b x) (types_in b w.eigens.items) (terms_in b w.assumed.items) (jobs_of b w.tasks.items)) q s)
+
+  pub unfinished : (j : Job) (ks : List Job) → length nodes ≤ i → w.theory ≡ theory → RunsFrom (ground_in b theory) G (At b w) (map (node_of b) (take i nodes)) → (rest_in b w).jobs ≡ j ∷ ks → Proves (ground_in b theory) G (map (node_of b) nodes) → ⊥
+  unfinished j ks l q runs e p =
+      left_refutes b w (ground_in b theory) G (map (node_of b) (take i nodes)) runs j ks e
+      (subst (Proves (ground_in b theory) G) (sym (nothing_more (map (node_of b) (take i nodes)) ∙ ap (map (node_of b)) (take_whole nodes i l))) p)
+
+pub run_on : (b : Nodes) (w v : Work) (theory : Theory) (G : Term) (nodes : List ProofNode) (i n : ℕ) (x : ProofNode) → n ≡ suc i → i < length nodes → x ≡ get_or nodes i x → w.theory ≡ theory → RunsFrom (ground_in b theory) G (At b w) (map (node_of b) (take i nodes)) →
+    StepsOn (ground_in b w.theory) (At b v) (types_in b w.eigens.items) (terms_in b w.assumed.items) (jobs_of b w.tasks.items) (node_of b x) → RunsFrom (ground_in b theory) G (At b v) (map (node_of b) (take n nodes))
+run_on b w v theory G nodes i n x = next_run b w theory G nodes i v n x

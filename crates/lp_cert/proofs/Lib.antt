@@ -5,6 +5,7 @@ mod Closing
 mod Comparisons
 mod Completing
 mod Computing
+mod Deciding
 mod Deriving
 mod Endings
 mod Evaluating
@@ -24,6 +25,7 @@ mod Proving
 mod Putting
 mod Ready
 mod Refusing
+mod Refuted
 mod Running
 mod Settled
 mod Shaped

@@ -1,7 +1,7 @@
 -- What is compared is equal only where its parts are.
 use Rattle.std.proofs.Common.{◌≡◌, ℕ, suc, ◌<◌, ◌≤◌, List, [], ◌∷◌, ◌++◌, length, map, reverse, refl, sym, ap, subst, ◌∙◌, arith, Bool, true, false, inl, inr, ◌⊎◌}
 use Rattle.std.specs.Prelude.{Result, Ok, Err, IfOk, OnOk, All}
-use Rattle.std.proofs.lemmas.List.Elements.{All-nil, All-cons, All-tail, All-head, All-push}
+use Rattle.std.proofs.lemmas.List.Elements.{All-tail, All-head, All-push, All-weaker}
 use Rattle.std.proofs.lemmas.List.{reverse-append}
 use Rattle.lp_lemmas.proofs.Elements.{All_push_parts}
 use Rattle.lp_lemmas.proofs.Lists.{cons_tail, map_pushed}
@@ -23,7 +23,7 @@ use Rattle.lp_term.specs.declared.node.TermId.{TermId}
 use Rattle.lp_term.specs.declared.node.TypeId.{TypeId}
 use Rattle.lp_term.specs.declared.reduce.TermRefusal.TheVariants as refusal
 use Rattle.lp_type_laws.specs.Equations.{Equation, AllHold, Holds, HaveNoSolution}
-use Rattle.lp_type_unify.specs.Reading.{read_pair, read_pairs}
+use Rattle.lp_type_unify.specs.Reading.{IsPair, read_pair, read_pairs}
 use Rattle.lp_type_unify.specs.declared.bindings.Pair.{Pair}
 use Rattle.lp_cert.specs.Facts.{is_closed_type}
 use Rattle.lp_cert.specs.Run.{HasLargeForm, OneIsLarge}
@@ -32,9 +32,13 @@ use Rattle.lp_cert.specs.inner.Named.{HasClosedTypes}
 use Rattle.lp_cert.specs.inner.Turned.{ArePlain, IsReady}
 use Rattle.lp_cert.specs.declared.form.Comparing.{Comparing}
 use Rattle.lp_cert.specs.declared.form.Compared.{Compared}
-use Rattle.lp_cert.specs.declared.form.Compared.TheVariants.{Differ}
+use Rattle.lp_cert.specs.declared.form.Compared.TheVariants.{Deep, Differ}
+use Rattle.lp_cert.specs.declared.form.Formed.{Formed}
 use Rattle.lp_cert.specs.declared.form.Formed.TheVariants as formed
+use Rattle.std.proofs.Math.Path.{transport}
+use Rattle.lp_term.proofs.Trees.{extends-trans}
 use Rattle.lp_cert.proofs.Closing.{closed_is, type_is_closed}
+use Rattle.lp_cert.proofs.Later.{closed_type_inside}
 use Rattle.lp_cert.proofs.Ready.{apply_atoms, atoms_of, loose_of, ready_later}
 
 -- lists by their last elements
@@ -198,6 +202,9 @@ ones_hold b θ [] h = tt
 ones_hold b θ (p ∷ ps) h =
     (ap (λ T. instance θ (instance var T)) (All-head (λ (p : Pair). type_tree b p.left.0 ≡ type_tree b p.right.0) p ps h), ones_hold b θ ps (All-tail (λ (p : Pair). type_tree b p.left.0 ≡ type_tree b p.right.0) p ps h))
 
+pairs_inside : (b : Nodes) (ps : List Pair) → AreClosedPairs b ps → All (IsPair (length b.types)) ps
+pairs_inside b ps h = All-weaker (λ (p : Pair). (is_closed_type (type_tree b p.left.0) ≡ true) × (is_closed_type (type_tree b p.right.0) ≡ true)) (IsPair (length b.types)) (λ p k. (closed_type_inside b p.left.0 (type_is_closed (type_tree b p.left.0) k.0), closed_type_inside b p.right.0 (type_is_closed (type_tree b p.right.0) k.1))) ps h
+
 pub ones_solved : (b : Nodes) (ps : List Pair) → AreOne b ps → HaveNoSolution (read_pairs (type_tree b) var ps) → ⊥
 ones_solved b ps h n = n var (hold_reverse var (map (read_pair (type_tree b) var) ps) (ones_hold b var ps h))
 
@@ -230,3 +237,60 @@ loose_widens n m d (index i) l h = omega (arith, l, h)
 loose_widens n m d (atom a) l h = tt
 loose_widens n m d (abs b) l h = loose_widens n m (suc d) b l h
 loose_widens n m d (app t u) l h = (loose_widens n m d t l h.0, loose_widens n m d u l h.1)
+
+-- two terms of which one has no normal form
+pub no_form_is : (x y : Formed) → (x ≡ formed.Open → ⊥) → (y ≡ formed.Open → ⊥) → ((s q : TermId) → x ≡ formed.Is s → y ≡ formed.Is q → ⊥) → (x ≡ formed.Deep → ⊥) × (y ≡ formed.Deep → ⊥) → ⊥
+no_form_is formed.Deep y ox oy h d = d.0 refl
+no_form_is formed.Open y ox oy h d = ox refl
+no_form_is (formed.Is s) formed.Deep ox oy h d = d.1 refl
+no_form_is (formed.Is s) formed.Open ox oy h d = oy refl
+no_form_is (formed.Is s) (formed.Is q) ox oy h d = h s q refl refl
+
+pub one_is_large : (t u : Term) (m n : Nodes) (x y : Formed) → IsFormed t m x → IsFormed u n y → (x ≡ formed.Deep) ⊎ (y ≡ formed.Deep) → OneIsLarge t u
+one_is_large t u m n x y f g (inl e) = inl (deep_is_large t m (subst (IsFormed t m) e f))
+one_is_large t u m n x y f g (inr e) = inr (deep_is_large u n (subst (IsFormed u n) e g))
+
+-- a comparison of terms that are there, in a later bank
+pub differ_later : (r : Result Compared Memory) (a now : Nodes) (left right : TermId) → Extends a now → IfOk r (λ c. c ≡ Differ → IsReady a left → IsReady a right → Converts (tree a left.0) (tree a right.0) → ⊥) →
+    IfOk r (λ c. c ≡ Differ → IsReady a left → IsReady a right → (b : Nodes) → Extends now b → Converts (tree b left.0) (tree b right.0) → ⊥)
+differ_later (Err x) a now left right g k = tt
+differ_later (Ok c) a now left right g k = λ e r s b h q. let long = extends-trans a now b g h in k e r s (transport (λ j. Converts (long.same_terms left.0 r.0 j) (long.same_terms right.0 s.0 j)) q)
+
+pub deep_later : (r : Result Compared Memory) (a now : Nodes) (left right : TermId) → Extends a now → IfOk r (λ c. c ≡ Deep → left.0 < length a.terms → right.0 < length a.terms → OneIsLarge (tree a left.0) (tree a right.0)) →
+    IfOk r (λ c. c ≡ Deep → IsReady a left → IsReady a right → (b : Nodes) → Extends now b → OneIsLarge (tree b left.0) (tree b right.0))
+deep_later (Err x) a now left right g k = tt
+deep_later (Ok c) a now left right g k = λ e r s b h. let long = extends-trans a now b g h in transport (λ j. OneIsLarge (sym (long.same_terms left.0 r.0) j) (sym (long.same_terms right.0 s.0) j)) (k e r.0 s.0)
+
+pub never_deep : (r : Result Compared Memory) (P : Type 0) → IfOk r (λ c. c ≡ Deep → ⊥) → IfOk r (λ c. c ≡ Deep → P)
+never_deep (Err x) P h = tt
+never_deep (Ok c) P h = λ e. absurd (h e)
+
+-- a comparison that went to its end
+pub found_equal : (b : Nodes) (ps qs : List Pair) (n : ℕ) (r : Result Bool Memory) (A B : Type 0) → qs ≡ ps → AreClosedPairs b ps → (A → B → AreOne b ps) → IfOk r (λ y. y ≡ false → All (IsPair (length b.types)) qs → HaveNoSolution (read_pairs (type_tree b) var qs)) → IfOk r (λ y. y ≡ false → A → B → ⊥)
+found_equal b ps qs n (Err x) A B e c f h = tt
+found_equal b ps qs n (Ok y) A B e c f h = λ q a k. ones_solved b ps (f a k) (subst (λ xs. HaveNoSolution (read_pairs (type_tree b) var xs)) e (h q (subst (All (IsPair (length b.types))) (sym e) (pairs_inside b ps c))))
+
+pub differs_at : (b : Nodes) (w v : Comparing) (all ts : List (TermId × TermId)) (x y : TermId) (r : Bool) → all ≡ ts ++ (x, y) ∷ [] → r ≡ false → AreEqual b all → ArePlain b all → (AllAtoms HasClosedTypes (tree b x.0) → Follows b w v (tree b x.0) (tree b y.0) r) → ⊥
+differs_at b w v all ts x y r e n a p f =
+    let q = All_push_parts (λ (p : TermId × TermId). tree b p.0.0 ≡ tree b p.1.0) ts (x, y) (subst (AreEqual b) e a) in
+    let k = All_push_parts (λ (p : TermId × TermId). AllAtoms HasClosedTypes (tree b p.0.0)) ts (x, y) (subst (ArePlain b) e p) in
+    subst (Follows b w v (tree b x.0) (tree b y.0)) n (f k.1) q.1
+
+pub follows_at : (b : Nodes) (w v : Comparing) (all ts : List (TermId × TermId)) (x y : TermId) (r : Bool) → all ≡ ts ++ (x, y) ∷ [] → w.terms.items ≡ ts → r ≡ true → AreEqual b all → AreOne b w.types.items → ArePlain b all → (AllAtoms HasClosedTypes (tree b x.0) → Follows b w v (tree b x.0) (tree b y.0) r) → AreEqual b v.terms.items × AreOne b v.types.items
+follows_at b w v all ts x y r e s n a o p f =
+    let q = All_push_parts (λ (p : TermId × TermId). tree b p.0.0 ≡ tree b p.1.0) ts (x, y) (subst (AreEqual b) e a) in
+    let k = All_push_parts (λ (p : TermId × TermId). AllAtoms HasClosedTypes (tree b p.0.0)) ts (x, y) (subst (ArePlain b) e p) in
+    subst (Follows b w v (tree b x.0) (tree b y.0)) n (f k.1) (subst (AreEqual b) (sym s) q.0) o q.1
+
+pub plain_at : (b : Nodes) (all ts : List (TermId × TermId)) (x y : TermId) → all ≡ ts ++ (x, y) ∷ [] → ArePlain b all → ArePlain b ts × AllAtoms HasClosedTypes (tree b x.0)
+plain_at b all ts x y e p = All_push_parts (λ (p : TermId × TermId). AllAtoms HasClosedTypes (tree b p.0.0)) ts (x, y) (subst (ArePlain b) e p)
+
+pub without_application : (r : Result Bool Memory) (N : Type 0) (P : Bool → Type 0) → IfOk r P → IfOk r (λ y. N → P y)
+without_application (Err x) N P h = tt
+without_application (Ok y) N P h = λ n. h
+
+pub types_follow_at : (b : Nodes) (old new : Comparing) (ts us : List Ty) (y : Bool) → y ≡ true → TypesFollow b old new ts us y → AreOne b old.types.items → ts ≡ us → AreOne b new.types.items
+types_follow_at b old new ts us y e f = subst (TypesFollow b old new ts us) e f
+
+pub types_differ_at : (b : Nodes) (old new : Comparing) (ts us : List Ty) (y : Bool) → y ≡ false → TypesFollow b old new ts us y → ts ≡ us → ⊥
+types_differ_at b old new ts us y e f = subst (TypesFollow b old new ts us) e f

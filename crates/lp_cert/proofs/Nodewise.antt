@@ -178,3 +178,6 @@ side_steps b new E As js G left right part which (inr q) at = inr (q.0, subst (�
 pub side_none : (which : ℕ) (A B : Type 0) → ((which ≡ 0) × A) ⊎ ((which ≡ 1) × B) → (which ≡ 0) ⊎ (which ≡ 1)
 side_none which A B (inl q) = inl q.0
 side_none which A B (inr q) = inr q.0
+
+pub clause_found : (c d : code.ClauseFormula) (o : Option code.ClauseFormula) → o ≡ Some c → o ≡ Some d → c ≡ d
+clause_found c d o e f = cc

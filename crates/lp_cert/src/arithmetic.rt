@@ -10,12 +10,12 @@ ghost use Rattle.lp_cert.specs.Facts.{IsKnown};
 ghost use Rattle.lp_cert.specs.Shape.{AreOrdered, IsValued};
 ghost use Rattle.lp_cert.specs.inner.Turned.{Decides, IsComputed, IsReady};
 
-use crate::form::{Formed, form_of, is_inside};
+use crate::form::{Formed, form_of, is_inside, without_form};
 use crate::goal::{turn_where, typed_sides};
 use crate::known::Known;
 use crate::shape::two_of;
 use crate::value::{Texts, are_ordered, integer_of, is_value, value_of};
-use crate::work::Turn;
+use crate::work::{Turn, Work};
 use lp_base::Memory;
 use lp_standard::Constant;
 use lp_term::{Bank, TermId};
@@ -55,18 +55,13 @@ fn comparison(bank: &Bank, formula: TermId) -> Option<(u32, TermId, TermId)>
 }
 
 // What comes of two terms of which one has no normal form.
-fn without_form(left: Formed, right: Formed) -> Turn
+fn turn_without(left: Formed, right: Formed) -> Turn
     ensures on { result ≡ Turn.On → ⊥ }
     ensures no { result ≡ Turn.No → (left ≡ Formed.Deep → ⊥) × (right ≡ Formed.Deep → ⊥) }
     ensures deep { result ≡ Turn.Deep → (left ≡ Formed.Deep) ⊎ (right ≡ Formed.Deep) }
 {
-    match left {
-        Formed::Deep => Turn::Deep,
-        Formed::Is(_) | Formed::Open => match right {
-            Formed::Deep => Turn::Deep,
-            Formed::Is(_) | Formed::Open => Turn::No,
-        },
-    }
+    let compared = without_form(left, right);
+    Work::turn_of(compared)
 }
 
 // Whether a term converts to the value of an expression.
@@ -92,10 +87,10 @@ fn valued(
     let left = form_of(alloc, known, bank, term)?;
     let right = form_of(alloc, known, bank, expression)?;
     let Formed::Is(one) = left else {
-        return Ok(without_form(left, right));
+        return Ok(turn_without(left, right));
     };
     let Formed::Is(other) = right else {
-        return Ok(without_form(left, right));
+        return Ok(turn_without(left, right));
     };
     let mut texts = Texts::new(alloc);
     let found = value_of(alloc, bank, &mut texts, other)?;
@@ -130,10 +125,10 @@ fn in_order(
     let first = form_of(alloc, known, bank, left)?;
     let second = form_of(alloc, known, bank, right)?;
     let Formed::Is(one) = first else {
-        return Ok(without_form(first, second));
+        return Ok(turn_without(first, second));
     };
     let Formed::Is(other) = second else {
-        return Ok(without_form(first, second));
+        return Ok(turn_without(first, second));
     };
     let earlier = integer_of(alloc, bank, one)?;
     let Some(less) = earlier else {
@@ -143,7 +138,8 @@ fn in_order(
     let Some(more) = later else {
         return Ok(Turn::No);
     };
-    Ok(turn_where(are_ordered(order, less, more)))
+    let holds = are_ordered(order, less, more);
+    Ok(turn_where(holds))
 }
 
 // Whether the goal is `t is e`, or an order of two expressions, and holds.

@@ -1,5 +1,5 @@
 // Normal forms, and whether two terms convert.
-ghost use Rattle.std.specs.Prelude.{◌≡◌, ◌<◌, ◌≤◌, length, IfOk, OnOk, All, true, false};
+ghost use Rattle.std.specs.Prelude.{◌≡◌, ◌<◌, ◌⊎◌, ◌≤◌, length, IfOk, OnOk, All, true, false};
 ghost use Rattle.lp_calculus.specs.Closed.{AllAtoms, AreClosed, IsClosedType};
 ghost use Rattle.lp_term.specs.Spine.{IsNoApplication, LooseBelow};
 ghost use Rattle.lp_cert.specs.Run.{OneIsLarge};
@@ -215,7 +215,10 @@ impl Comparing {
                 return Ok(false);
             }
         }
-        Ok(others.is_empty())
+        match others.pop() {
+            None => Ok(true),
+            Some(_) => Ok(false),
+        }
     }
 
     fn push_terms(&mut self, ones: Vec<TermId>, others: Vec<TermId>) -> Result<bool, Memory>
@@ -428,6 +431,32 @@ fn same_forms(
     Ok(Compared::Differ)
 }
 
+fn is_deep(form: Formed) -> bool
+    ensures yes { result ≡ true → form ≡ Formed.Deep }
+    ensures no { result ≡ false → form ≡ Formed.Deep → ⊥ }
+{
+    match form {
+        Formed::Deep => true,
+        Formed::Is(_) => false,
+        Formed::Open => false,
+    }
+}
+
+// What comes of two terms of which one has no normal form.
+pub(crate) fn without_form(left: Formed, right: Formed) -> Compared
+    ensures same { result ≡ Compared.Same → ⊥ }
+    ensures differ { result ≡ Compared.Differ → (left ≡ Formed.Deep → ⊥) × (right ≡ Formed.Deep → ⊥) }
+    ensures deep { result ≡ Compared.Deep → (left ≡ Formed.Deep) ⊎ (right ≡ Formed.Deep) }
+{
+    if is_deep(left) {
+        return Compared::Deep;
+    }
+    if is_deep(right) {
+        return Compared::Deep;
+    }
+    Compared::Differ
+}
+
 // Whether two closed terms convert.
 pub(crate) fn compare(
     alloc: Global,
@@ -452,16 +481,11 @@ pub(crate) fn compare(
     }
     let first = form_of(alloc, known, bank, left)?;
     let second = form_of(alloc, known, bank, right)?;
-    match first {
-        Formed::Is(one) => match second {
-            Formed::Is(other) => same_forms(alloc, known, bank, one, other),
-            Formed::Deep => Ok(Compared::Deep),
-            Formed::Open => Ok(Compared::Differ),
-        },
-        Formed::Deep => Ok(Compared::Deep),
-        Formed::Open => match second {
-            Formed::Deep => Ok(Compared::Deep),
-            _ => Ok(Compared::Differ),
-        },
-    }
+    let Formed::Is(one) = first else {
+        return Ok(without_form(first, second));
+    };
+    let Formed::Is(other) = second else {
+        return Ok(without_form(first, second));
+    };
+    same_forms(alloc, known, bank, one, other)
 }

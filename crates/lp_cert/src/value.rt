@@ -92,7 +92,8 @@ impl Texts {
         };
         let mut bytes = Vec::from_slice(alloc, first)?;
         bytes.extend_from_slice(second)?;
-        self.put(bytes.as_slice())
+        let made = self.put(bytes.as_slice())?;
+        Ok(made)
     }
 }
 

@@ -1,8 +1,9 @@
-use Rattle.std.proofs.Common.{arith}
+use Rattle.std.proofs.Common.{arith, inl, inr}
 use Rattle.lp_term.specs.Nodes.{tree, type_tree}
 use Rattle.lp_cert.proofs.Later.{seen_later}
 use Rattle.lp_cert.proofs.Going.{trivial_seen}
 use Rattle.lp_cert.proofs.Nodewise.{trivial_number, trivial_typed}
+use Rattle.lp_cert.proofs.Endings.{no_atom}
 use Rattle.lp_cert.proofs.goal.is_trivial.Goals as goal
 
 pub returns-else-types-ne0-clause-yes : goal.returns-else-types-ne0-clause-yes
@@ -14,3 +15,6 @@ returns-then-types-ne0-clause-no c = λ e q. trivial_typed c.args.bank.now (tree
 
 pub returns-else-types-ne0-clause-no : goal.returns-else-types-ne0-clause-no
 returns-else-types-ne0-clause-no c = λ e q. c.is_true_or_cut.ensures.no e (trivial_number c.args.bank.now (tree c.args.bank.now c.args.goal.0) c.in-Const.constant c.in-Const.types.now c.in-Const.ensures.tree q)
+
+pub returns-in-App-clause-no : goal.returns-in-App-clause-no
+returns-in-App-clause-no c = λ e q. elim q [ inl k ↦ no_atom c.args.bank.now _ (tree c.args.bank.now c.args.goal.0) c.in-App.field-1.now _ c.in-App.ensures.within.2 c.in-App.ensures.tree k | inr k ↦ no_atom c.args.bank.now _ (tree c.args.bank.now c.args.goal.0) c.in-App.field-1.now _ c.in-App.ensures.within.2 c.in-App.ensures.tree k ]

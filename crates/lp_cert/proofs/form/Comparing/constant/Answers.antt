@@ -1,8 +1,9 @@
 use Rattle.std.proofs.Common.{◌∙◌, ap, sym, arith}
 use Rattle.lp_calculus.specs.Term.{atom, constant}
-use Rattle.lp_term.specs.Nodes.{type_tree}
+use Rattle.lp_term.specs.Nodes.{type_tree, tree}
 use Rattle.lp_cert.proofs.Comparisons.{constant_leads, twice}
 use Rattle.lp_cert.proofs.Matching.{constant_follows, constants_differ, plain_still}
+use Rattle.lp_cert.proofs.Endings.{no_atom}
 use Rattle.lp_cert.proofs.form.Comparing.constant.Goals as goal
 
 pub returns-else-number-other-clause-leads : goal.returns-else-number-other-clause-leads
@@ -20,3 +21,6 @@ returns-else-number-other-clause-follows c =
 
 pub returns-else-number-other-clause-plain : goal.returns-else-number-other-clause-plain
 returns-else-number-other-clause-plain c = plain_still c.args.bank.now _ _ _ c.push_types.result c.push_types.ensures.terms
+
+pub returns-in-App-clause-follows : goal.returns-in-App-clause-follows
+returns-in-App-clause-follows c = λ k q. no_atom c.args.bank.now _ (tree c.args.bank.now c.args.right.0) c.in-App.field-1.now _ c.in-App.ensures.within.2 c.in-App.ensures.tree (sym q)

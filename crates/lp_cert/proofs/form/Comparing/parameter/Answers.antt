@@ -1,5 +1,7 @@
-use Rattle.std.proofs.Common.{arith}
+use Rattle.std.proofs.Common.{arith, sym}
 use Rattle.lp_cert.proofs.Matching.{parameter_follows, parameters_differ, plain_still}
+use Rattle.lp_cert.proofs.Endings.{no_atom}
+use Rattle.lp_term.specs.Nodes.{tree}
 use Rattle.lp_cert.proofs.form.Comparing.parameter.Goals as goal
 
 pub returns-then-number-other-clause-follows : goal.returns-then-number-other-clause-follows
@@ -10,3 +12,6 @@ returns-else-number-other-clause-follows c = parameter_follows c.args.bank.now c
 
 pub returns-else-number-other-clause-plain : goal.returns-else-number-other-clause-plain
 returns-else-number-other-clause-plain c = plain_still c.args.bank.now _ _ _ c.push_type.result c.push_type.ensures.terms
+
+pub returns-in-App-clause-follows : goal.returns-in-App-clause-follows
+returns-in-App-clause-follows c = λ k q. no_atom c.args.bank.now _ (tree c.args.bank.now c.args.right.0) c.in-App.field-1.now _ c.in-App.ensures.within.2 c.in-App.ensures.tree (sym q)

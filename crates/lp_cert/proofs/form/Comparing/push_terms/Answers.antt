@@ -28,8 +28,8 @@ returns-in-None-clause-equal c = λ e b h.
     sym (ap (terms_in b) (nothing c.terms.right.items (omega (arith, c.in-None.ensures.cases.0, c.terms.right.ok))))
     )
 
-pub returns-in_default-in-Some-clause-follows : goal.returns-in_default-in-Some-clause-follows
-returns-in_default-in-Some-clause-follows c = λ b q. ?
+pub returns-in_default-pop-clause-follows : goal.returns-in_default-pop-clause-follows
+returns-in_default-pop-clause-follows c = λ b q. terms_none b c.terms.left.items c.pop.new.self.items c.terms.right.items c.in-Some.one c.in-Some.ensures.items (nothing c.terms.right.items (omega (arith, c.in_default-pop.ensures.cases.0, c.terms.right.ok))) (c.terms.invariant.same b q)
 
 pub returns-in-None-clause-follows : goal.returns-in-None-clause-follows
 returns-in-None-clause-follows c = λ b h q. (c.terms.invariant.follows b h q).0
@@ -38,4 +38,4 @@ pub returns-in-None-clause-plain : goal.returns-in-None-clause-plain
 returns-in-None-clause-plain c = λ b h a. (c.terms.invariant.plain b h a).0
 
 pub returns-in-Some-clause-follows : goal.returns-in-Some-clause-follows
-returns-in-Some-clause-follows c = λ b q. ?
+returns-in-Some-clause-follows c = λ b q. terms_none b c.terms.right.items _ c.terms.left.items _ c.in-Some-pop-2.ensures.items (nothing c.terms.left.items (omega (arith, c.in_default.ensures.cases.0, c.terms.left.ok))) (sym (c.terms.invariant.same b q))

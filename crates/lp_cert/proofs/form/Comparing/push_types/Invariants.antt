@@ -10,7 +10,8 @@ invariant-types l = record {
   closed : AreClosedPairs l.bank l.fn.self.types.items → AreClosedPairs l.bank l.self.types.items;
   one : AreOne l.bank l.self.types.items → types_in l.bank l.ones.items ≡ types_in l.bank l.others.items → AreOne l.bank l.fn.self.types.items × (types_in l.bank l.fn.left ≡ types_in l.bank l.fn.right);
   terms : l.self.terms.items ≡ l.fn.self.terms.items;
-  follows : AreClosed (types_in l.bank l.fn.left) → AreOne l.bank l.fn.self.types.items → types_in l.bank l.fn.left ≡ types_in l.bank l.fn.right → AreClosed (types_in l.bank l.ones.items) × AreOne l.bank l.self.types.items × (types_in l.bank l.ones.items ≡ types_in l.bank l.others.items);
+  same : AreClosed (types_in l.bank l.fn.left) → types_in l.bank l.fn.left ≡ types_in l.bank l.fn.right → AreClosed (types_in l.bank l.ones.items) × (types_in l.bank l.ones.items ≡ types_in l.bank l.others.items);
+  follows : AreClosed (types_in l.bank l.fn.left) → AreOne l.bank l.fn.self.types.items → types_in l.bank l.fn.left ≡ types_in l.bank l.fn.right → AreOne l.bank l.self.types.items;
 }
 
 abbrev pub decreases-types : goal.decreases-types

@@ -36,7 +36,7 @@ returns-then-not-branch-clause-turned c = λ w g i b h k. types_open c.args.bank
 
 pub returns-in_default-clause-turned : goal.returns-in_default-clause-turned
 returns-in_default-clause-turned c = λ w g i b h k.
-    c.in_ok-found.ensures.none ? (work_stays c.args.bank.now c.args.self.now _ (record { theory = refl; eigens = refl; assumed = refl; tasks = refl }) w) i b h
+    c.in_ok-found.ensures.none c.in_default.is (work_stays c.args.bank.now c.args.self.now _ (record { theory = refl; eigens = refl; assumed = refl; tasks = refl }) w) i b h
     (instance_term (type_at (types_in b c.args.types.now)) k.0.formula) (record { clause = k.0; at = k.1; count = k.2; is = refl })
 
 pub returns-clause-turned : goal.returns-clause-turned
