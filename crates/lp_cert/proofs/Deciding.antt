@@ -30,13 +30,13 @@ use Rattle.lp_cert.proofs.Running.{two_once}
 -- two terms of which one has no normal form
 pub without_decides : (P : Type 0) (t u : Term) (m n : Nodes) (x y : Formed) (r : Turn) → IsFormed t m x → IsFormed u n y → (x ≡ formed.Open → ⊥) → (y ≡ formed.Open → ⊥) → ((s q : TermId) → x ≡ formed.Is s → y ≡ formed.Is q → ⊥) → (r ≡ turn.On → ⊥) →
     (r ≡ turn.No → (x ≡ formed.Deep → ⊥) × (y ≡ formed.Deep → ⊥)) → (r ≡ turn.Deep → (x ≡ formed.Deep) ⊎ (y ≡ formed.Deep)) → Decides P t u r
-without_decides P t u m n x y turn.On f g ox oy h on no deep = absurd (on refl)
-without_decides P t u m n x y turn.Deep f g ox oy h on no deep = elim (deep refl) [ inl e ↦ inl (deep_is_large t m (subst (IsFormed t m) e f)) | inr e ↦ inr (deep_is_large u n (subst (IsFormed u n) e g)) ]
-without_decides P t u m n formed.Deep y turn.No f g ox oy h on no deep = absurd ((no refl).0 refl)
-without_decides P t u m n formed.Open y turn.No f g ox oy h on no deep = absurd (ox refl)
-without_decides P t u m n (formed.Is s) formed.Deep turn.No f g ox oy h on no deep = absurd ((no refl).1 refl)
-without_decides P t u m n (formed.Is s) formed.Open turn.No f g ox oy h on no deep = absurd (oy refl)
-without_decides P t u m n (formed.Is s) (formed.Is q) turn.No f g ox oy h on no deep = absurd (h s q refl refl)
+without_decides P t u m n x y turn.On f g ox oy h on neither deep = absurd (on refl)
+without_decides P t u m n x y turn.Deep f g ox oy h on neither deep = elim (deep refl) [ inl e ↦ inl (deep_is_large t m (subst (IsFormed t m) e f)) | inr e ↦ inr (deep_is_large u n (subst (IsFormed u n) e g)) ]
+without_decides P t u m n formed.Deep y turn.No f g ox oy h on neither deep = absurd ((neither refl).0 refl)
+without_decides P t u m n formed.Open y turn.No f g ox oy h on neither deep = absurd (ox refl)
+without_decides P t u m n (formed.Is s) formed.Deep turn.No f g ox oy h on neither deep = absurd ((neither refl).1 refl)
+without_decides P t u m n (formed.Is s) formed.Open turn.No f g ox oy h on neither deep = absurd (oy refl)
+without_decides P t u m n (formed.Is s) (formed.Is q) turn.No f g ox oy h on neither deep = absurd (h s q refl refl)
 
 -- an atom is a normal form
 atom_normal : (a : Atom) → IsNormal (atom a)

@@ -82,8 +82,8 @@ RunsFrom g G K ns = RunsTo g K [] [] (proving G ∷ []) ns
 module _ (b : Nodes) (w : Work) (g : Ground) (G : Term) (ms : List Node) (runs : RunsFrom g G (At b w) ms) where
   -- a node that leaves nothing
   pub node_refutes : (n : Node) (rest : List Node) → (StepsOn g (Always (Unit {0})) (types_in b w.eigens.items) (terms_in b w.assumed.items) (jobs_of b w.tasks.items) n → ⊥) → Proves g G (ms ++ n ∷ rest) → ⊥
-  node_refutes n rest no p = run_ends g (At b w) ⊥ (n ∷ rest) (λ F Bs ks at e.
-      no (transport (λ i. StepsOn g (Always (Unit {0})) (at.0 i) (at.1 i) (at.2 i) n) (step_map g (λ E As js. Ends g E As js rest) (Always (Unit {0})) (λ E As js h. tt) F Bs ks n (ends_step g F Bs ks n rest e))))
+  node_refutes n rest never p = run_ends g (At b w) ⊥ (n ∷ rest) (λ F Bs ks at e.
+      never (transport (λ i. StepsOn g (Always (Unit {0})) (at.0 i) (at.1 i) (at.2 i) n) (step_map g (λ E As js. Ends g E As js rest) (Always (Unit {0})) (λ E As js h. tt) F Bs ks n (ends_step g F Bs ks n rest e))))
       [] [] (proving G ∷ []) ms runs (proof_ends g G (ms ++ n ∷ rest) p)
 
   -- something that is left

@@ -29,7 +29,7 @@ use Rattle.lp_cert.specs.Standing.{AreNumbersInside, IsCertificateInside, IsClau
 use Rattle.lp_cert.specs.Written.{Node, node_of, IsWritten}
 use Rattle.lp_cert.specs.inner.Left.{CertifiesIn, IsFilledIn, IsIdle, Proves, Stays, ground_in, ground_over}
 use Rattle.lp_cert.specs.inner.Named.{AreUnnamed, HasClosedTypes, IsNamedIn, IsSettled}
-use Rattle.lp_cert.specs.inner.Turned.{IsReady, IsReadyWork}
+use Rattle.lp_cert.specs.inner.Turned.{IsReady, IsReadyWork, IsTaskReady}
 use Rattle.lp_model.specs.declared.program.Program.{Program}
 use Rattle.lp_cert.specs.declared.judging.CheckVerdict.{CheckVerdict}
 use Rattle.lp_cert.specs.declared.judging.CheckVerdict.TheVariants as verdict
@@ -37,6 +37,7 @@ use Rattle.lp_cert.specs.declared.work.Turn.{Turn}
 use Rattle.lp_cert.specs.declared.work.Work.{Work}
 use Rattle.lp_cert.proofs.Judged.{nodes_later}
 use Rattle.lp_cert.proofs.Naming.{certified_on, names_in}
+use Rattle.lp_cert.proofs.Nodewise.{at_element}
 use Rattle.lp_cert.proofs.Proving.{idle_on}
 use Rattle.lp_cert.proofs.Ready.{clause_later, within_of, work_later, work_stays}
 use Rattle.lp_cert.proofs.Later.{inside_more}
@@ -85,7 +86,7 @@ begins_ready a b w g i cs ds = record {
   settled = record { eigens = subst (λ es. AreClosed (types_in b es)) (sym i.eigens) tt; constants = declared_later a b w.theory.constants.now g cs };
   clauses = All-weaker (IsClauseInside a) (IsClauseInside b) (λ c h. clause_later a b c g h) w.theory.clauses.now ds;
   assumed = All_empty (IsReady b) w.assumed.items i.assumed;
-  tasks = All_empty _ w.tasks.items i.tasks;
+  tasks = All_empty (IsTaskReady b) w.tasks.items i.tasks;
 }
 
 -- the first certificate that does not pass
@@ -129,3 +130,11 @@ rejected_number m n e = cc
 
 pub deep_number : (m n : ℕ) → verdict.Deep m ≡ verdict.Deep n → m ≡ n
 deep_number m n e = cc
+
+-- where none needs a large normal form, all that are right are accepted
+pub exact_of : {A : Type 0} (P L : A → Type 0) (xs : List A) (N : Type 0) (r : Result CheckVerdict Memory) → IfOk r (λ v. (i : ℕ) → v ≡ verdict.Rejected i → N → StopsAt P (λ x. P x → ⊥) xs i) → IfOk r (λ v. (i : ℕ) → v ≡ verdict.Deep i → N → StopsAt P L xs i) →
+    IfOk r (λ v. N → All (λ x. L x → ⊥) xs → All P xs → v ≡ verdict.Accepted)
+exact_of P L xs N (Err x) f g = tt
+exact_of P L xs N (Ok verdict.Accepted) f g = λ n h k. refl
+exact_of P L xs N (Ok (verdict.Rejected i)) f g = λ n h k. let s = f i refl n in absurd (s.stops (at_element P xs s.place s.element s.at k))
+exact_of P L xs N (Ok (verdict.Deep i)) f g = λ n h k. let s = g i refl n in absurd (at_element (λ x. L x → ⊥) xs s.place s.element s.at h s.stops)

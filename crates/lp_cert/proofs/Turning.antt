@@ -185,7 +185,7 @@ skips_to g K n E As (focusing D G ∷ js) h = h
 skips_to g K n E As (leaving_eigen ∷ js) h = skips_to g K n (without_last E) As js h
 skips_to g K n E As (leaving_assumed ∷ js) h = skips_to g K n E (without_last As) js h
 
-skips_from : (g : Ground) (K : Claim) (n : Node) (E : List Ty) (As : List Term) (js : List Job) → StepsOn g K E As js n → StepsOn g K (rest_of E As js).eigens (rest_of E As js).assumed (rest_of E As js).jobs n
+pub skips_from : (g : Ground) (K : Claim) (n : Node) (E : List Ty) (As : List Term) (js : List Job) → StepsOn g K E As js n → StepsOn g K (rest_of E As js).eigens (rest_of E As js).assumed (rest_of E As js).jobs n
 skips_from g K n E As [] h = h
 skips_from g K n E As (proving G ∷ js) h = h
 skips_from g K n E As (focusing D G ∷ js) h = h

@@ -1,5 +1,5 @@
 use Rattle.lp_cert.proofs.Naming.{verdict_certifies}
-use Rattle.lp_cert.proofs.Refuted.{stops_now}
+use Rattle.lp_cert.proofs.Refuted.{stops_now, exact_of}
 use Rattle.std.proofs.Common.{refl}
 use Rattle.lp_term.proofs.Trees.{extends_same}
 use Rattle.lp_cert.specs.Certified.{Certifies, certificate_of, query_of}
@@ -20,3 +20,6 @@ pub returns-clause-deep : goal.returns-clause-deep
 returns-clause-deep c =
     stops_now c.args.names.now.program.bank c.judge-verdict.new.bank c.args.names.now.program.constants.items c.args.names.now.program.clauses.items c.args.query.now c.args.certificates.now _ (λ x h. h c.judge-verdict.new.bank (extends_same _)) c.judge-verdict.result verdict.Deep
     (λ d x. NeedsLargeForm (ground_over d c.args.names.now.program.constants.items c.args.names.now.program.clauses.items) (query_of d c.args.query.now) (certificate_of d x)) c.judge-verdict.ensures.deep c.args.names.now.program refl refl refl
+
+pub returns-clause-exact : goal.returns-clause-exact
+returns-clause-exact c = exact_of _ _ c.args.certificates.now _ c.judge-verdict.result (returns-clause-rejected c) (returns-clause-deep c)
