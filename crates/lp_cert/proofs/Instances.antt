@@ -35,6 +35,8 @@ use Rattle.lp_cert.proofs.Closing.{closed_are, loose_below, within_facts}
 use Rattle.lp_cert.proofs.ClosedTypes.{closed_has, instance_has, instantiate_has}
 use Rattle.lp_cert.proofs.Comparisons.{twice}
 use Rattle.lp_cert.proofs.Later.{inside_later}
+use Rattle.lp_cert.proofs.Settled.{terms_later}
+use Rattle.lp_cert.proofs.Witnesses.{type_of_variable}
 
 -- a closed value, found in a bank that grew
 pub value_ready : (a b : Nodes) (vs : List TermId) (j : ℕ) (d : TermId) → Extends a b → j < length vs → All (λ v. (v.0 < length a.terms) × LooseBelow 0 0 (tree a v.0)) vs → ((get_or vs j d).0 < length b.terms) × LooseBelow 0 0 (tree b (get_or vs j d).0)
@@ -89,6 +91,12 @@ variables_are b q = sym (map_composed (λ v. v.1) (λ t. type_tree b t.0) (λ v.
 pub query_variables : (b : Nodes) (q : Typed) → IsQueryInside b q → AreInside (length b.types) (variable_types q)
 query_variables b q h = All-map (λ (t : TypeId). t.0 < length b.types) (λ v. v.1) q.vars.items h.vars
 
+-- the type of a variable stands in the bank
+pub variable_inside : {A : Type 0} (f : A → TypeId) (n : ℕ) (xs : List A) (i : ℕ) (x : A) → i < length xs → x ≡ get_or xs i x → AreInside n (map f xs) → (f x).0 < n
+variable_inside f n xs i x l e h =
+    let m = length-map xs f in
+    subst (λ t. t.0 < n) (sym (type_of_variable f xs i x l e)) (All-get_or (λ (t : TypeId). t.0 < n) (map f xs) i (f x) (omega (arith, l, m)) h)
+
 -- not as many types
 pub count_unnamed : (now : Nodes) (cs : List code.Declared) (q : Typed) (types : List TypeId) (vs : List TermId) → (length types ≡ q.type_vars → ⊥) → AreUnnamed now cs q types vs
 count_unnamed now cs q types vs h = λ b g ns n. let l = length-map types (λ t. type_tree b t.0) in let m = n.types in h (omega (arith, l, m))
@@ -121,6 +129,11 @@ values_here a b (v ∷ vs) g i h =
 pub put_unnamed : (a now : Nodes) (cs : List code.Declared) (q : Typed) (types : List TypeId) (vs : List TermId) → Extends a now → AreTermsInside (length a.terms) vs → (All (λ v. (v.0 < length a.terms) × LooseBelow 0 0 (tree a v.0)) vs → ⊥) → AreUnnamed now cs q types vs
 put_unnamed a now cs q types vs g i h = λ b k ns n. h (values_here a b vs (extends-trans a now b g k) i (values_closed (declared_by b cs) (terms_in b vs) (map (instance (type_at (types_in b types))) (query_of b q).vars) n.values))
 
+pub put_result : (o a now : Nodes) (cs : List code.Declared) (q : Typed) (types : List TypeId) (vs : List TermId) (formula : TermId) (r : Result (Option TermId) Memory) (P Q R S : Type 0) → Extends o a → Extends a now → formula.0 < length a.terms →
+    IfOk r (λ found. found ≡ None → formula.0 < length a.terms → All (λ v. (v.0 < length a.terms) × LooseBelow 0 0 (tree a v.0)) vs → ⊥) → IfOk r (λ found. found ≡ None → P → Q → R → S → AreTermsInside (length o.terms) vs → AreUnnamed now cs q types vs)
+put_result o a now cs q types vs formula (Err x) P Q R S g k l h = tt
+put_result o a now cs q types vs formula (Ok found) P Q R S g k l h = λ e p u v w i. put_unnamed a now cs q types vs k (terms_later o a vs g i) (h e l)
+
 instance_loose : (n d : ℕ) (θ : ℕ → Ty) (t : Term) → LooseBelow n d t → LooseBelow n d (instance_term θ t)
 instance_loose n d θ (index i) h = h
 instance_loose n d θ (atom a) h = tt
@@ -128,10 +141,14 @@ instance_loose n d θ (abs b) h = instance_loose n (suc d) θ b h
 instance_loose n d θ (app t u) h = (instance_loose n d θ t h.0, instance_loose n d θ u h.1)
 
 -- a loose index past the variables; a is the bank where it was seen, made the formula with the types
-pub loose_unnamed : (o a now : Nodes) (cs : List code.Declared) (q : Typed) (types : List TypeId) (vs : List TermId) (made : TermId) → Extends o a → Extends a now → IsQueryInside o q → length vs ≡ length q.vars.items → tree a made.0 ≡ instance_term (type_at (types_in a types)) (tree a q.formula.0) →
-    (LooseBelow (length vs) 0 (tree a made.0) → ⊥) → AreUnnamed now cs q types vs
-loose_unnamed o a now cs q types vs made g k i l e h = λ b m ns n.
-    h (transport (λ j. LooseBelow (sym l j) 0 (sym e j)) (instance_loose (length q.vars.items) 0 (type_at (types_in a types)) (tree a q.formula.0) (subst (LooseBelow (length q.vars.items) 0) (sym (g.same_terms q.formula.0 i.formula)) i.indices)))
+pub loose_unnamed : (o a now : Nodes) (cs : List code.Declared) (q : Typed) (types : List TypeId) (vs : List TermId) (made : TermId) → Extends o a → IsQueryInside o q → tree a made.0 ≡ instance_term (type_at (types_in a types)) (tree a q.formula.0) → (LooseBelow (length vs) 0 (tree a made.0) → ⊥) → AreUnnamed now cs q types vs
+loose_unnamed o a now cs q types vs made g i e h = λ b m ns n.
+    let w = witnesses_long (declared_by b cs) (terms_in b vs) (map (instance (type_at (types_in b types))) (query_of b q).vars) n.values in
+    let x = length-map vs (λ t. tree b t.0) in
+    let y = length-map (query_of b q).vars (instance (type_at (types_in b types))) in
+    let z = length-map q.vars.items (λ v. type_tree b v.1.0) in
+    let l : length q.vars.items ≡ length vs = omega (arith, w, x, y, z) in
+    h (transport (λ j. LooseBelow (l j) 0 (sym e j)) (instance_loose (length q.vars.items) 0 (type_at (types_in a types)) (tree a q.formula.0) (subst (LooseBelow (length q.vars.items) 0) (sym (g.same_terms q.formula.0 i.formula)) i.indices)))
 
 raised_loose : (c d i : ℕ) → i < d + 0 → (t : Bool) → LooseBelow 0 (suc d) (if t then index i else index (i + 1))
 raised_loose c d i l true = omega (arith, l)

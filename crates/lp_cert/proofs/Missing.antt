@@ -55,12 +55,6 @@ count_differs b ids s h = go (nat_eq (length (types_in b ids)) s.count) refl
     go true q = absurd (h (let n = length-map ids (λ x. type_tree b x.0) in let z : length (types_in b ids) ≡ s.count = grind (arith, nat_tests, q) in omega (arith, n, z)))
     go false q = refl
 
-pub shape_missing : (b : Nodes) (ids : List TypeId) (o : Option Shape) (s : Option Scheme) → option_map shape_scheme o ≡ s → o ≡ None → scheme_type (types_in b ids) s ≡ None
-shape_missing b ids o s e n = none_type b ids s (sym e ∙ ap (option_map shape_scheme) n)
-
-pub shape_differs : (b : Nodes) (ids : List TypeId) (o : Option Shape) (shape : Shape) (s : Option Scheme) → option_map shape_scheme o ≡ s → o ≡ Some shape → (length ids ≡ shape_variables shape → ⊥) → scheme_type (types_in b ids) s ≡ None
-shape_differs b ids o shape s e f h = ap (scheme_type (types_in b ids)) (sym e ∙ ap (option_map shape_scheme) f) ∙ count_differs b ids (shape_scheme shape) h
-
 pub found_inside : (n : ℕ) (cs : List Declared) (i : ℕ) (x : Declared) → slice_get cs i ≡ Some x → AreDeclaredInside n cs → x.scheme.0 < n
 found_inside n [] i x e h = absurd (cc)
 found_inside n (y ∷ ys) zero x e h = let z : y ≡ x = cc in omega (arith, All-head (λ (c : Declared). c.scheme.0 < n) y ys h, ap (λ c. c.scheme.0) z)

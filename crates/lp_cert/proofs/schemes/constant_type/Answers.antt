@@ -20,7 +20,7 @@ returns-in-Some-get-clause-type_is c =
     (slice_get-get_or c.args.constants.now _ _ c.in-Some-get.ensures.lookup.3.0 ∙ ap Some (sym c.in-Some-get.ensures.lookup.1))) c.declared_type.ensures.type_is
 
 pub returns-in-None-clause-none : goal.returns-in-None-clause-none
-returns-in-None-clause-none c = λ e i b. none_type b c.args.types.now _ (number_missing b c.args.constants.now c.args.constant c.if-constant-lt-FIRST_CONSTANT.true (?))
+returns-in-None-clause-none c = λ e i b. none_type b c.args.types.now _ (number_missing b c.args.constants.now c.args.constant c.if-constant-lt-FIRST_CONSTANT.true (sym c.in-None.ensures))
 
 pub returns-in-Some-clause-none : goal.returns-in-Some-clause-none
 returns-in-Some-clause-none c =

@@ -80,7 +80,7 @@ returns-in-Eigen-clause-keeps c =
 
 pub returns-in-Logic-clause-keeps : goal.returns-in-Logic-clause-keeps
 returns-in-Logic-clause-keeps c = λ y h.
-    visit_logic c.args.bank.now c.args.self.now _ c.args.term _ _ (λ b g. seen_inside c.args.bank.now b c.args.term.0 _ g (c.is_inside.ensures.inside c.if-not-is_inside.false) c.in-Logic.ensures.within c.in-Logic.ensures.tree)
+    visit_logic c.args.bank.now c.args.self.now _ c.args.term c.in-Logic.id c.in-Logic.level (λ b g. seen_inside c.args.bank.now b c.args.term.0 (logic_node c.in-Logic.id c.in-Logic.level) g (c.is_inside.ensures.inside c.if-not-is_inside.false) c.in-Logic.ensures.within c.in-Logic.ensures.tree)
 
 pub returns-in-Param-clause-keeps : goal.returns-in-Param-clause-keeps
 returns-in-Param-clause-keeps c =
