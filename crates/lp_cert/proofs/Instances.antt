@@ -80,7 +80,7 @@ value_fails now w v types vs ofs i value of made l k ev eo et ee none is never =
     let here = witness_at (declared_by b v.theory.constants.now) (terms_in b vs) (map f (types_in b ofs)) i (tree b value.0) (f (type_tree b of.0)) h (omega (arith, l, n)) in
     let value_is : get_or (terms_in b vs) i (tree b value.0) ≡ tree b value.0 = get_or-map (λ t. tree b t.0) vs i value (tree b value.0) l ∙ ap (λ t. tree b t.0) (sym ev) in
     let type_is : get_or (map f (types_in b ofs)) i (f (type_tree b of.0)) ≡ f (type_tree b of.0) =
-        get_or-map f (types_in b ofs) i (type_tree b of.0) (f (type_tree b of.0)) (omega (arith, k, m)) ∙ ap f (get_or-map (λ t. type_tree b t.0) ofs i of (type_tree b of.0) k ∙ ap (λ t. type_tree b t.0) (sym eo)) in
+    get_or-map f (types_in b ofs) i (type_tree b of.0) (f (type_tree b of.0)) (omega (arith, k, m)) ∙ ap f (get_or-map (λ t. type_tree b t.0) ofs i of (type_tree b of.0) k ∙ ap (λ t. type_tree b t.0) (sym eo)) in
     never b g
     (transport (λ j. IsWitness (declared_by b (sym et j).constants.now) (types_in b (sym (ap (λ x. x.items) ee ∙ none) j)) (value_is j) ((type_is ∙ sym (is b g)) j)) here)
 
@@ -182,8 +182,8 @@ value_tight (t ∷ ts) h (suc i) l = value_tight ts (All-tail (IsClosedAt 0) t t
 
 -- the goal with the values: a is the bank where they were put, formula what they were put in
 module _ (a now : Nodes) (cs : List code.Declared) (types : List TypeId) (vs : List TermId) (ofs : List TypeId) (formula : TermId) (r : Result (Option TermId) Memory) (E : Type 0) (g : Extends a now) (same : Extends now now) (l : formula.0 < length a.terms) (tight : LooseBelow (length vs) 0 (tree a formula.0))
-  (named : E → (b : Nodes) → Extends now b → AreWitnesses (declared_by b cs) (terms_in b vs) (map (instance (type_at (types_in b types))) (types_in b ofs)))
-  (put : IfOk r (λ found. IfSome found (λ made. (b : Nodes) → Extends now b → LooseBelow (length vs) 0 (tree b formula.0) → tree b made.0 ≡ instantiate (λ k. at (terms_in b vs) (length (terms_in b vs) - suc k)) (tree b formula.0)))) where
+    (named : E → (b : Nodes) → Extends now b → AreWitnesses (declared_by b cs) (terms_in b vs) (map (instance (type_at (types_in b types))) (types_in b ofs)))
+    (put : IfOk r (λ found. IfSome found (λ made. (b : Nodes) → Extends now b → LooseBelow (length vs) 0 (tree b formula.0) → tree b made.0 ≡ instantiate (λ k. at (terms_in b vs) (length (terms_in b vs) - suc k)) (tree b formula.0)))) where
   closed : E → All (IsClosedAt 0) (terms_in now vs)
   closed e = values_closed (declared_by now cs) (terms_in now vs) (map (instance (type_at (types_in now types))) (types_in now ofs)) (named e now same)
 

@@ -107,7 +107,7 @@ keeps_as now old new done j k e h = record { tidy = h.tidy; can = λ b g T c. h.
 
 -- an abstraction: its variable has the type `from`
 module _ (a now : Nodes) (old new : Typing) (mid : List Task) (from : TypeId) (body : TermId) (g : Extends a now) (y : IsTidy a old) (ec : new.constants ≡ old.constants) (ee : new.eigens ≡ old.eigens) (es : new.stack ≡ old.stack) (ep : new.pairs ≡ old.pairs) (en : new.next ≡ suc old.next)
-  (ex : new.context.items ≡ old.context.items ++ from ∷ []) (em : mid ≡ old.tasks.items ++ task.Close ∷ []) (et : new.tasks.items ≡ mid ++ task.Visit body ∷ []) (l : from.0 < length now.types) (fresh : type_tree now from.0 ≡ var old.next) (h : IsTaskIn a (task.Visit body)) where
+    (ex : new.context.items ≡ old.context.items ++ from ∷ []) (em : mid ≡ old.tasks.items ++ task.Close ∷ []) (et : new.tasks.items ≡ mid ++ task.Visit body ∷ []) (l : from.0 < length now.types) (fresh : type_tree now from.0 ≡ var old.next) (h : IsTaskIn a (task.Visit body)) where
   more : old.next ≤ new.next
   more = omega (arith, en)
 
