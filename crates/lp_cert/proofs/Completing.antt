@@ -6,9 +6,8 @@ use Rattle.lp_base.specs.declared.memory.Memory.{Memory}
 use Rattle.std.proofs.lemmas.List.{reverse-reverse}
 use Rattle.std.proofs.lemmas.List.Elements.{All-nil, All-cons, All-head, All-tail, All-weaker}
 use Rattle.lp_lemmas.proofs.Lists.{cons_head, cons_tail}
-use Rattle.lp_lemmas.proofs.Elements.{All_popped, All_pushed}
+use Rattle.lp_lemmas.proofs.Elements.{All_popped}
 use Rattle.lp_calculus.specs.Types.{Ty, var, arrow, instance}
-use Rattle.lp_calculus.specs.Term.{Term}
 use Rattle.lp_calculus.specs.Closed.{IsClosedType, AreClosed, AllAtoms}
 use Rattle.lp_calculus.specs.Typing.{HasType, atom_type}
 use Rattle.lp_type_laws.specs.Equations.{Below, AllHold, HaveNoSolution}
@@ -23,7 +22,7 @@ use Rattle.lp_term.specs.declared.node.TermId.{TermId}
 use Rattle.lp_term.proofs.Trees.{extends-trans, extends_same}
 use Rattle.lp_cert.specs.Inside.{AreDeclaredInside}
 use Rattle.lp_cert.specs.Same.{types_in}
-use Rattle.lp_cert.specs.inner.Derives.{Step, visiting, closing, applying, Comes, step_of, steps_of, filled_types, types_of, Solves, Can, Keeps, KeepsApplied, IsTypeBelow, IsPairBelow, IsTaskIn, IsTidy, IsGrown, IsEquated}
+use Rattle.lp_cert.specs.inner.Derives.{closing, applying, Comes, step_of, steps_of, filled_types, types_of, Solves, Can, Keeps, KeepsApplied, IsTypeBelow, IsPairBelow, IsTaskIn, IsTidy, IsGrown, IsEquated}
 use Rattle.lp_cert.specs.inner.Named.{HasClosedTypes}
 use Rattle.lp_cert.specs.declared.typing.Task.{Task}
 use Rattle.lp_cert.specs.declared.typing.Task.TheVariants as task

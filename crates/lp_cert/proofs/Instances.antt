@@ -1,8 +1,7 @@
 -- What is refused as an instance of a query is none, and the goal of an instance is closed.
-use Rattle.std.proofs.Common.{◌≡◌, ℕ, zero, suc, ◌+◌, ◌-◌, ◌<◌, ◌≤◌, List, [], ◌∷◌, map, length, refl, sym, ap, subst, ◌∙◌, arith, Bool, true, false, get_or}
+use Rattle.std.proofs.Common.{◌≡◌, ℕ, zero, suc, ◌+◌, ◌-◌, ◌<◌, List, [], ◌∷◌, map, length, refl, sym, ap, subst, ◌∙◌, arith, Bool, true, false, get_or}
 use Rattle.std.proofs.Math.Path.{transport}
 use Rattle.std.specs.Prelude.{All, Option, Some, None, nat_lt, if◌then◌else◌, Result, Ok, Err, IfOk, IfSome}
-use Rattle.std.proofs.lemmas.Bool.Decides.{nat_tests}
 use Rattle.std.proofs.lemmas.List.{length-map, get_or-map}
 use Rattle.std.proofs.lemmas.List.Elements.{All-nil, All-cons, All-head, All-tail, All-get_or, All-map}
 use Rattle.lp_lemmas.proofs.Lists.{map_composed}
@@ -24,8 +23,7 @@ use Rattle.lp_model.specs.Proofs.{Declared, IsWitness}
 use Rattle.lp_model.specs.Readings.{declared_by}
 use Rattle.lp_model.specs.declared.program.Declared as code
 use Rattle.lp_model.specs.declared.program.Typed.{Typed}
-use Rattle.lp_cert.specs.Certified.{Names, query_of}
-use Rattle.lp_cert.specs.Written.{Node}
+use Rattle.lp_cert.specs.Certified.{query_of}
 use Rattle.lp_cert.specs.Facts.{AreInside, are_closed}
 use Rattle.lp_cert.specs.Inside.{AreTermsInside, IsQueryInside}
 use Rattle.lp_cert.specs.Same.{terms_in, types_in}

@@ -1,6 +1,6 @@
 -- Constants that have no type at these types.
-use Rattle.std.proofs.Common.{◌≡◌, ℕ, zero, suc, ◌<◌, ◌≤◌, ◌-◌, List, [], ◌∷◌, ◌++◌, map, length, refl, sym, ap, ◌∙◌, arith, Bool, true, false}
-use Rattle.std.specs.Prelude.{All, Option, Some, None, option_map, slice_get, nat_lt, nat_eq, if◌then◌else◌, Result, Ok, Err, IfOk}
+use Rattle.std.proofs.Common.{◌≡◌, ℕ, zero, suc, ◌<◌, ◌≤◌, ◌-◌, List, [], ◌∷◌, ◌++◌, map, length, refl, ap, ◌∙◌, arith, Bool, true, false}
+use Rattle.std.specs.Prelude.{Option, Some, None, slice_get, nat_lt, nat_eq, if◌then◌else◌, Result, Ok, Err, IfOk}
 use Rattle.std.proofs.lemmas.Bool.Decides.{nat_tests}
 use Rattle.std.proofs.lemmas.List.{length-map}
 use Rattle.std.proofs.lemmas.List.Elements.{All-head, All-tail}
@@ -8,9 +8,8 @@ use Rattle.lp_base.specs.declared.memory.Memory.{Memory}
 use Rattle.lp_calculus.specs.Types.{instance}
 use Rattle.lp_calculus.specs.Typing.{Scheme, type_at, scheme_type}
 use Rattle.lp_standard.specs.declared.constant.Constant.{Constant}
-use Rattle.lp_standard.specs.declared.shape.Shape.{Shape}
 use Rattle.lp_standard.specs.Constants.{numbered, language, reserved, first_declared}
-use Rattle.lp_standard.specs.Schemes.{scheme, entry, standard_schemes, shape_scheme, shape_variables}
+use Rattle.lp_standard.specs.Schemes.{scheme, entry}
 use Rattle.lp_model.specs.Readings.{declared_by, scheme_of}
 use Rattle.lp_model.specs.declared.program.Declared.{Declared}
 use Rattle.lp_term.specs.Nodes.{Nodes, type_tree}

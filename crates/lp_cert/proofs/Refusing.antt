@@ -1,5 +1,5 @@
 -- A term that is refused for a type or a variable does not fit it.
-use Rattle.std.proofs.Common.{◌≡◌, ℕ, ◌<◌, List, [], length, refl, sym, ap, subst, ◌∙◌, arith, Bool, true, false}
+use Rattle.std.proofs.Common.{◌≡◌, ℕ, ◌<◌, List, [], length, sym, subst, ◌∙◌, Bool, false}
 use Rattle.std.specs.Prelude.{Result, Ok, Err, IfOk}
 use Rattle.std.proofs.Math.Path.{transport}
 use Rattle.std.proofs.lemmas.List.{length-map}
@@ -10,7 +10,6 @@ use Rattle.lp_standard.specs.Positive.{IsPositive, is_positive}
 use Rattle.lp_term.specs.Nodes.{Nodes, Extends, tree, type_tree}
 use Rattle.lp_term.specs.declared.node.TypeId.{TypeId}
 use Rattle.lp_term.specs.declared.node.TermId.{TermId}
-use Rattle.lp_term.proofs.Trees.{extends-trans}
 use Rattle.lp_model.specs.Proofs.{IsFormula, under}
 use Rattle.lp_model.specs.Readings.{declared_by}
 use Rattle.lp_cert.specs.Facts.{is_closed_type}

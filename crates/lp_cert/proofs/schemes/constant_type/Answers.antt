@@ -5,7 +5,6 @@ use Rattle.lp_standard.specs.Schemes.{scheme}
 use Rattle.lp_model.specs.Readings.{declared_by, scheme_of}
 use Rattle.lp_cert.proofs.Filled.{standard_declared, program_declared, type_of_constant}
 use Rattle.lp_cert.proofs.Missing.{number_missing, past_missing, none_type, none_of_constant, none_always, found_inside}
-use Rattle.lp_cert.specs.Same.{types_in}
 use Rattle.lp_cert.proofs.schemes.constant_type.Goals as goal
 
 pub returns-in-Some-clause-type_is : goal.returns-in-Some-clause-type_is

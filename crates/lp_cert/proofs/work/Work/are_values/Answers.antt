@@ -1,4 +1,4 @@
-use Rattle.std.proofs.Common.{refl, arith, add-one, slice_index_or, subst, ◌<◌, length}
+use Rattle.std.proofs.Common.{refl, arith, add-one, slice_index_or, ◌<◌, length}
 use Rattle.lp_cert.proofs.Deriving.{read_again}
 use Rattle.lp_calculus.specs.Types.{instance}
 use Rattle.lp_calculus.specs.Typing.{type_at}
