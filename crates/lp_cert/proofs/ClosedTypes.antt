@@ -1,8 +1,8 @@
 -- Types without type variables: what a term names, and what is put for type variables.
-use Rattle.std.proofs.Common.{◌≡◌, ℕ, zero, suc, ◌<◌, ◌≤◌, ◌+◌, List, [], ◌∷◌, map, length, refl, sym, ap, subst, ◌∙◌, arith, Bool, true, false}
+use Rattle.std.proofs.Common.{◌≡◌, ℕ, zero, suc, ◌+◌, List, [], ◌∷◌, map, length, subst, Bool, true, false}
 use Rattle.std.specs.Prelude.{if◌then◌else◌, nat_lt, nat_eq, Option, Some, None}
 use Rattle.lp_calculus.specs.Types.{Ty, Tys, var, param as type_param, con, arrow, no_types, types, instance, instances}
-use Rattle.lp_calculus.specs.Term.{Term, Atom, index, atom, abs, app, constant, integer, text, eigen, logic, param, replace, raised, shift}
+use Rattle.lp_calculus.specs.Term.{Term, Atom, index, atom, abs, app, constant, integer, text, eigen, logic, param, replace, raised}
 use Rattle.lp_calculus.specs.Closed.{IsClosedType, AreClosedTypes, AreClosed, IsClosedAtom, IsClosedAt, AllAtoms}
 use Rattle.lp_calculus.specs.Fill.{Within}
 use Rattle.lp_calculus.specs.Instance.{instance_atom, instance_term}

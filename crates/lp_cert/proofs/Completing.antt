@@ -6,9 +6,8 @@ use Rattle.lp_base.specs.declared.memory.Memory.{Memory}
 use Rattle.std.proofs.lemmas.List.{reverse-reverse}
 use Rattle.std.proofs.lemmas.List.Elements.{All-nil, All-cons, All-head, All-tail, All-weaker}
 use Rattle.lp_lemmas.proofs.Lists.{cons_head, cons_tail}
-use Rattle.lp_lemmas.proofs.Elements.{All_popped, All_pushed}
+use Rattle.lp_lemmas.proofs.Elements.{All_popped}
 use Rattle.lp_calculus.specs.Types.{Ty, var, arrow, instance}
-use Rattle.lp_calculus.specs.Term.{Term}
 use Rattle.lp_calculus.specs.Closed.{IsClosedType, AreClosed, AllAtoms}
 use Rattle.lp_calculus.specs.Typing.{HasType, atom_type}
 use Rattle.lp_type_laws.specs.Equations.{Below, AllHold, HaveNoSolution}
@@ -23,7 +22,7 @@ use Rattle.lp_term.specs.declared.node.TermId.{TermId}
 use Rattle.lp_term.proofs.Trees.{extends-trans, extends_same}
 use Rattle.lp_cert.specs.Inside.{AreDeclaredInside}
 use Rattle.lp_cert.specs.Same.{types_in}
-use Rattle.lp_cert.specs.inner.Derives.{Step, visiting, closing, applying, Comes, step_of, steps_of, filled_types, types_of, Solves, Can, Keeps, KeepsApplied, IsTypeBelow, IsPairBelow, IsTaskIn, IsTidy, IsGrown, IsEquated}
+use Rattle.lp_cert.specs.inner.Derives.{closing, applying, Comes, step_of, steps_of, filled_types, types_of, Solves, Can, Keeps, KeepsApplied, IsTypeBelow, IsPairBelow, IsTaskIn, IsTidy, IsGrown, IsEquated}
 use Rattle.lp_cert.specs.inner.Named.{HasClosedTypes}
 use Rattle.lp_cert.specs.declared.typing.Task.{Task}
 use Rattle.lp_cert.specs.declared.typing.Task.TheVariants as task
@@ -43,7 +42,7 @@ arrow_below b n from to of l e f t = (l, subst (Below n) (sym e) (f.1, t.1))
 
 -- an abstraction ends
 module _ (a now : Nodes) (old new : Typing) (context stack : List TypeId) (from to of : TypeId) (g : Extends a now) (y : IsTidy a old) (ec : new.constants ≡ old.constants) (ee : new.eigens ≡ old.eigens) (ep : new.pairs ≡ old.pairs) (et : new.tasks ≡ old.tasks) (en : new.next ≡ old.next)
-  (px : old.context.items ≡ context ++ from ∷ []) (ps : old.stack.items ≡ stack ++ to ∷ []) (ex : new.context.items ≡ context) (es : new.stack.items ≡ stack ++ of ∷ []) (l : of.0 < length now.types) (e : type_tree now of.0 ≡ arrow (type_tree a from.0) (type_tree a to.0)) where
+    (px : old.context.items ≡ context ++ from ∷ []) (ps : old.stack.items ≡ stack ++ to ∷ []) (ex : new.context.items ≡ context) (es : new.stack.items ≡ stack ++ of ∷ []) (l : of.0 < length now.types) (e : type_tree now of.0 ≡ arrow (type_tree a from.0) (type_tree a to.0)) where
   closed_context : All (IsTypeBelow a old.next) context × IsTypeBelow a old.next from
   closed_context = All_popped (IsTypeBelow a old.next) old.context.items context from px y.context
 
@@ -108,9 +107,9 @@ arrow_parts A B C D e = (cc, cc)
 
 -- a head that is a function: x is the typing behind the equation
 module _ (now : Nodes) (old x new : Typing) (mid stack : List TypeId) (head argument from to : TypeId) (y : IsTidy now old) (g : Extends now now) (es : old.stack.items ≡ mid ++ argument ∷ []) (em : mid ≡ stack ++ head ∷ []) (ec : new.constants ≡ old.constants) (ee : new.eigens ≡ old.eigens) (ex : new.context ≡ old.context)
-  (et : new.tasks ≡ old.tasks) (en : new.next ≡ old.next) (ep : new.pairs ≡ x.pairs) (solved : (b : Nodes) (θ : ℕ → Ty) → Solves b θ old.pairs.items → instance θ (type_tree b from.0) ≡ instance θ (type_tree b argument.0) → Solves b θ x.pairs.items)
-  (below : (b : Nodes) (n : ℕ) → All (IsPairBelow b n) old.pairs.items → IsTypeBelow b n from → IsTypeBelow b n argument → All (IsPairBelow b n) x.pairs.items) (made : new.stack.items ≡ stack ++ to ∷ []) (lf : from.0 < length now.types) (lt : to.0 < length now.types)
-  (is : (b : Nodes) → Extends now b → type_tree b head.0 ≡ arrow (type_tree b from.0) (type_tree b to.0)) where
+    (et : new.tasks ≡ old.tasks) (en : new.next ≡ old.next) (ep : new.pairs ≡ x.pairs) (solved : (b : Nodes) (θ : ℕ → Ty) → Solves b θ old.pairs.items → instance θ (type_tree b from.0) ≡ instance θ (type_tree b argument.0) → Solves b θ x.pairs.items)
+    (below : (b : Nodes) (n : ℕ) → All (IsPairBelow b n) old.pairs.items → IsTypeBelow b n from → IsTypeBelow b n argument → All (IsPairBelow b n) x.pairs.items) (made : new.stack.items ≡ stack ++ to ∷ []) (lf : from.0 < length now.types) (lt : to.0 < length now.types)
+    (is : (b : Nodes) → Extends now b → type_tree b head.0 ≡ arrow (type_tree b from.0) (type_tree b to.0)) where
   two : All (IsTypeBelow now old.next) mid × IsTypeBelow now old.next argument
   two = All_popped (IsTypeBelow now old.next) old.stack.items mid argument es y.stack
 
@@ -148,8 +147,8 @@ applying_one now old new mid argument e f = refused now old new (λ b. applying 
 
 -- a head that may be a function of any type: x has one more variable, and z the equation; m is the bank with the variable
 module _ (a m now : Nodes) (old x z new : Typing) (head argument to of : TypeId) (g : Extends a m) (h : Extends m now) (y : IsTidy a old) (lh : IsTypeBelow a old.next head) (la : IsTypeBelow a old.next argument) (grown : IsGrown old x) (nx : x.next ≡ suc old.next) (eq : IsEquated x z head of)
-  (ec : new.constants ≡ x.constants) (ee : new.eigens ≡ x.eigens) (ex : new.context ≡ x.context) (et : new.tasks ≡ x.tasks) (es : new.stack.items ≡ old.stack.items ++ to ∷ []) (en : new.next ≡ z.next) (ep : new.pairs ≡ z.pairs) (lt : to.0 < length m.types) (fresh : type_tree m to.0 ≡ var old.next)
-  (lo : of.0 < length now.types) (is : type_tree now of.0 ≡ arrow (type_tree m argument.0) (type_tree m to.0)) where
+    (ec : new.constants ≡ x.constants) (ee : new.eigens ≡ x.eigens) (ex : new.context ≡ x.context) (et : new.tasks ≡ x.tasks) (es : new.stack.items ≡ old.stack.items ++ to ∷ []) (en : new.next ≡ z.next) (ep : new.pairs ≡ z.pairs) (lt : to.0 < length m.types) (fresh : type_tree m to.0 ≡ var old.next)
+    (lo : of.0 < length now.types) (is : type_tree now of.0 ≡ arrow (type_tree m argument.0) (type_tree m to.0)) where
   long : Extends a now
   long = extends-trans a m now g h
 
@@ -205,8 +204,7 @@ applied_keeps now old p new mid head argument done es em ec ee ex ep et h = reco
   tidy = λ q. h.1.tidy;
   can = λ b k T c.
       let θ = c.types in
-      let d = c.derives in
-      (
+      let d = c.derives in (
         h.0,
         h.1.can b k θ T d.1 (subst (λ z. Solves b θ z.items) (sym ep) c.solves) (head_is b old mid p.stack.items head argument es em T c ∙ ap (λ A. arrow A d.1) (sym (argument_is b old mid p.stack.items head argument es em T c)))
             (transport (λ j. Comes (atom_type (under (declared_by b (sym ec j).now) (types_in b (sym ee j).now))) (filled_types b θ (sym ex j).items) (d.1 ∷ sym (rest_is b old mid p.stack.items head argument es em T c) j) (steps_of b (sym et j).items) T) d.4),
@@ -222,7 +220,7 @@ any_kept a now old p new mid head argument (Ok done) es em ec ee ex ep et en h =
     let two = All_popped (IsTypeBelow a old.next) old.stack.items mid argument es y.stack in
     let one = All_popped (IsTypeBelow a old.next) mid p.stack.items head em two.0 in
     let tidy = tidy_on a a old p g y ec ee (types_later a a old.next p.next p.context.items old.context.items g more (ap (λ z. z.items) ex) y.context) (types_later a a old.next p.next p.stack.items p.stack.items g more refl one.0)
-        (pairs_later a a old.next p.next p.pairs.items old.pairs.items g more (ap (λ z. z.items) ep) y.pairs) (tasks_later a a p.tasks.items old.tasks.items g (ap (λ z. z.items) et) y.tasks) in
+    (pairs_later a a old.next p.next p.pairs.items old.pairs.items g more (ap (λ z. z.items) ep) y.pairs) (tasks_later a a p.tasks.items old.tasks.items g (ap (λ z. z.items) et) y.tasks) in
     applied_keeps now old p new mid head argument done es em ec ee ex ep et (h tidy (type_later a a old.next p.next head g more one.1) (type_later a a old.next p.next argument g more two.1))
 
 -- p is y without the task that was taken off
@@ -319,7 +317,7 @@ ended_keeps now old x new et en ec ee ex es ep nx y h =
 
 -- the beginning of a typing: y has the term to visit and nothing else
 module _ (a now : Nodes) (y x : Typing) (term : TermId) (done : Bool) (g : Extends a now) (ex : y.context.items ≡ []) (es : y.stack.items ≡ []) (ep : y.pairs.items ≡ []) (et : y.tasks.items ≡ task.Visit term ∷ []) (keeps : IsTidy a y → Keeps now y x (λ b. []) done) (h : AllAtoms HasClosedTypes (tree a term.0)) (l : term.0 < length a.terms)
-  (eigens : AreClosed (types_in a y.eigens.now)) (constants : AreDeclaredInside (length a.types) y.constants.now) where
+    (eigens : AreClosed (types_in a y.eigens.now)) (constants : AreDeclaredInside (length a.types) y.constants.now) where
   kept_on : Keeps now y x (λ b. []) done
   kept_on = keeps (first_tidy a y term ex es ep et eigens constants h l)
 

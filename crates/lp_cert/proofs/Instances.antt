@@ -1,8 +1,7 @@
 -- What is refused as an instance of a query is none, and the goal of an instance is closed.
-use Rattle.std.proofs.Common.{◌≡◌, ℕ, zero, suc, ◌+◌, ◌-◌, ◌<◌, ◌≤◌, List, [], ◌∷◌, map, length, refl, sym, ap, subst, ◌∙◌, arith, Bool, true, false, get_or}
+use Rattle.std.proofs.Common.{◌≡◌, ℕ, zero, suc, ◌+◌, ◌-◌, ◌<◌, List, [], ◌∷◌, map, length, refl, sym, ap, subst, ◌∙◌, arith, Bool, true, false, get_or}
 use Rattle.std.proofs.Math.Path.{transport}
 use Rattle.std.specs.Prelude.{All, Option, Some, None, nat_lt, if◌then◌else◌, Result, Ok, Err, IfOk, IfSome}
-use Rattle.std.proofs.lemmas.Bool.Decides.{nat_tests}
 use Rattle.std.proofs.lemmas.List.{length-map, get_or-map}
 use Rattle.std.proofs.lemmas.List.Elements.{All-nil, All-cons, All-head, All-tail, All-get_or, All-map}
 use Rattle.lp_lemmas.proofs.Lists.{map_composed}
@@ -24,8 +23,7 @@ use Rattle.lp_model.specs.Proofs.{Declared, IsWitness}
 use Rattle.lp_model.specs.Readings.{declared_by}
 use Rattle.lp_model.specs.declared.program.Declared as code
 use Rattle.lp_model.specs.declared.program.Typed.{Typed}
-use Rattle.lp_cert.specs.Certified.{Names, query_of}
-use Rattle.lp_cert.specs.Written.{Node}
+use Rattle.lp_cert.specs.Certified.{query_of}
 use Rattle.lp_cert.specs.Facts.{AreInside, are_closed}
 use Rattle.lp_cert.specs.Inside.{AreTermsInside, IsQueryInside}
 use Rattle.lp_cert.specs.Same.{terms_in, types_in}
@@ -35,6 +33,8 @@ use Rattle.lp_cert.proofs.Closing.{closed_are, loose_below, within_facts}
 use Rattle.lp_cert.proofs.ClosedTypes.{closed_has, instance_has, instantiate_has}
 use Rattle.lp_cert.proofs.Comparisons.{twice}
 use Rattle.lp_cert.proofs.Later.{inside_later}
+use Rattle.lp_cert.proofs.Settled.{terms_later}
+use Rattle.lp_cert.proofs.Witnesses.{type_of_variable}
 
 -- a closed value, found in a bank that grew
 pub value_ready : (a b : Nodes) (vs : List TermId) (j : ℕ) (d : TermId) → Extends a b → j < length vs → All (λ v. (v.0 < length a.terms) × LooseBelow 0 0 (tree a v.0)) vs → ((get_or vs j d).0 < length b.terms) × LooseBelow 0 0 (tree b (get_or vs j d).0)
@@ -78,7 +78,7 @@ value_fails now w v types vs ofs i value of made l k ev eo et ee none is never =
     let here = witness_at (declared_by b v.theory.constants.now) (terms_in b vs) (map f (types_in b ofs)) i (tree b value.0) (f (type_tree b of.0)) h (omega (arith, l, n)) in
     let value_is : get_or (terms_in b vs) i (tree b value.0) ≡ tree b value.0 = get_or-map (λ t. tree b t.0) vs i value (tree b value.0) l ∙ ap (λ t. tree b t.0) (sym ev) in
     let type_is : get_or (map f (types_in b ofs)) i (f (type_tree b of.0)) ≡ f (type_tree b of.0) =
-        get_or-map f (types_in b ofs) i (type_tree b of.0) (f (type_tree b of.0)) (omega (arith, k, m)) ∙ ap f (get_or-map (λ t. type_tree b t.0) ofs i of (type_tree b of.0) k ∙ ap (λ t. type_tree b t.0) (sym eo)) in
+    get_or-map f (types_in b ofs) i (type_tree b of.0) (f (type_tree b of.0)) (omega (arith, k, m)) ∙ ap f (get_or-map (λ t. type_tree b t.0) ofs i of (type_tree b of.0) k ∙ ap (λ t. type_tree b t.0) (sym eo)) in
     never b g
     (transport (λ j. IsWitness (declared_by b (sym et j).constants.now) (types_in b (sym (ap (λ x. x.items) ee ∙ none) j)) (value_is j) ((type_is ∙ sym (is b g)) j)) here)
 
@@ -88,6 +88,12 @@ variables_are b q = sym (map_composed (λ v. v.1) (λ t. type_tree b t.0) (λ v.
 
 pub query_variables : (b : Nodes) (q : Typed) → IsQueryInside b q → AreInside (length b.types) (variable_types q)
 query_variables b q h = All-map (λ (t : TypeId). t.0 < length b.types) (λ v. v.1) q.vars.items h.vars
+
+-- the type of a variable stands in the bank
+pub variable_inside : {A : Type 0} (f : A → TypeId) (n : ℕ) (xs : List A) (i : ℕ) (x : A) → i < length xs → x ≡ get_or xs i x → AreInside n (map f xs) → (f x).0 < n
+variable_inside f n xs i x l e h =
+    let m = length-map xs f in
+    subst (λ t. t.0 < n) (sym (type_of_variable f xs i x l e)) (All-get_or (λ (t : TypeId). t.0 < n) (map f xs) i (f x) (omega (arith, l, m)) h)
 
 -- not as many types
 pub count_unnamed : (now : Nodes) (cs : List code.Declared) (q : Typed) (types : List TypeId) (vs : List TermId) → (length types ≡ q.type_vars → ⊥) → AreUnnamed now cs q types vs
@@ -121,6 +127,11 @@ values_here a b (v ∷ vs) g i h =
 pub put_unnamed : (a now : Nodes) (cs : List code.Declared) (q : Typed) (types : List TypeId) (vs : List TermId) → Extends a now → AreTermsInside (length a.terms) vs → (All (λ v. (v.0 < length a.terms) × LooseBelow 0 0 (tree a v.0)) vs → ⊥) → AreUnnamed now cs q types vs
 put_unnamed a now cs q types vs g i h = λ b k ns n. h (values_here a b vs (extends-trans a now b g k) i (values_closed (declared_by b cs) (terms_in b vs) (map (instance (type_at (types_in b types))) (query_of b q).vars) n.values))
 
+pub put_result : (o a now : Nodes) (cs : List code.Declared) (q : Typed) (types : List TypeId) (vs : List TermId) (formula : TermId) (r : Result (Option TermId) Memory) (P Q R S : Type 0) → Extends o a → Extends a now → formula.0 < length a.terms →
+    IfOk r (λ found. found ≡ None → formula.0 < length a.terms → All (λ v. (v.0 < length a.terms) × LooseBelow 0 0 (tree a v.0)) vs → ⊥) → IfOk r (λ found. found ≡ None → P → Q → R → S → AreTermsInside (length o.terms) vs → AreUnnamed now cs q types vs)
+put_result o a now cs q types vs formula (Err x) P Q R S g k l h = tt
+put_result o a now cs q types vs formula (Ok found) P Q R S g k l h = λ e p u v w i. put_unnamed a now cs q types vs k (terms_later o a vs g i) (h e l)
+
 instance_loose : (n d : ℕ) (θ : ℕ → Ty) (t : Term) → LooseBelow n d t → LooseBelow n d (instance_term θ t)
 instance_loose n d θ (index i) h = h
 instance_loose n d θ (atom a) h = tt
@@ -128,10 +139,14 @@ instance_loose n d θ (abs b) h = instance_loose n (suc d) θ b h
 instance_loose n d θ (app t u) h = (instance_loose n d θ t h.0, instance_loose n d θ u h.1)
 
 -- a loose index past the variables; a is the bank where it was seen, made the formula with the types
-pub loose_unnamed : (o a now : Nodes) (cs : List code.Declared) (q : Typed) (types : List TypeId) (vs : List TermId) (made : TermId) → Extends o a → Extends a now → IsQueryInside o q → length vs ≡ length q.vars.items → tree a made.0 ≡ instance_term (type_at (types_in a types)) (tree a q.formula.0) →
-    (LooseBelow (length vs) 0 (tree a made.0) → ⊥) → AreUnnamed now cs q types vs
-loose_unnamed o a now cs q types vs made g k i l e h = λ b m ns n.
-    h (transport (λ j. LooseBelow (sym l j) 0 (sym e j)) (instance_loose (length q.vars.items) 0 (type_at (types_in a types)) (tree a q.formula.0) (subst (LooseBelow (length q.vars.items) 0) (sym (g.same_terms q.formula.0 i.formula)) i.indices)))
+pub loose_unnamed : (o a now : Nodes) (cs : List code.Declared) (q : Typed) (types : List TypeId) (vs : List TermId) (made : TermId) → Extends o a → IsQueryInside o q → tree a made.0 ≡ instance_term (type_at (types_in a types)) (tree a q.formula.0) → (LooseBelow (length vs) 0 (tree a made.0) → ⊥) → AreUnnamed now cs q types vs
+loose_unnamed o a now cs q types vs made g i e h = λ b m ns n.
+    let w = witnesses_long (declared_by b cs) (terms_in b vs) (map (instance (type_at (types_in b types))) (query_of b q).vars) n.values in
+    let x = length-map vs (λ t. tree b t.0) in
+    let y = length-map (query_of b q).vars (instance (type_at (types_in b types))) in
+    let z = length-map q.vars.items (λ v. type_tree b v.1.0) in
+    let l : length q.vars.items ≡ length vs = omega (arith, w, x, y, z) in
+    h (transport (λ j. LooseBelow (l j) 0 (sym e j)) (instance_loose (length q.vars.items) 0 (type_at (types_in a types)) (tree a q.formula.0) (subst (LooseBelow (length q.vars.items) 0) (sym (g.same_terms q.formula.0 i.formula)) i.indices)))
 
 raised_loose : (c d i : ℕ) → i < d + 0 → (t : Bool) → LooseBelow 0 (suc d) (if t then index i else index (i + 1))
 raised_loose c d i l true = omega (arith, l)
@@ -165,8 +180,8 @@ value_tight (t ∷ ts) h (suc i) l = value_tight ts (All-tail (IsClosedAt 0) t t
 
 -- the goal with the values: a is the bank where they were put, formula what they were put in
 module _ (a now : Nodes) (cs : List code.Declared) (types : List TypeId) (vs : List TermId) (ofs : List TypeId) (formula : TermId) (r : Result (Option TermId) Memory) (E : Type 0) (g : Extends a now) (same : Extends now now) (l : formula.0 < length a.terms) (tight : LooseBelow (length vs) 0 (tree a formula.0))
-  (named : E → (b : Nodes) → Extends now b → AreWitnesses (declared_by b cs) (terms_in b vs) (map (instance (type_at (types_in b types))) (types_in b ofs)))
-  (put : IfOk r (λ found. IfSome found (λ made. (b : Nodes) → Extends now b → LooseBelow (length vs) 0 (tree b formula.0) → tree b made.0 ≡ instantiate (λ k. at (terms_in b vs) (length (terms_in b vs) - suc k)) (tree b formula.0)))) where
+    (named : E → (b : Nodes) → Extends now b → AreWitnesses (declared_by b cs) (terms_in b vs) (map (instance (type_at (types_in b types))) (types_in b ofs)))
+    (put : IfOk r (λ found. IfSome found (λ made. (b : Nodes) → Extends now b → LooseBelow (length vs) 0 (tree b formula.0) → tree b made.0 ≡ instantiate (λ k. at (terms_in b vs) (length (terms_in b vs) - suc k)) (tree b formula.0)))) where
   closed : E → All (IsClosedAt 0) (terms_in now vs)
   closed e = values_closed (declared_by now cs) (terms_in now vs) (map (instance (type_at (types_in now types))) (types_in now ofs)) (named e now same)
 

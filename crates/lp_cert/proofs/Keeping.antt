@@ -1,19 +1,17 @@
 -- Each task of a typing that can be ended is taken, and then what is left can be ended.
-use Rattle.std.proofs.Common.{◌≡◌, ℕ, zero, suc, ◌-◌, ◌<◌, ◌≤◌, List, [], ◌∷◌, ◌++◌, map, length, refl, sym, ap, subst, ◌∙◌, arith, Option, Some, None, get_or, Bool, true, false}
+use Rattle.std.proofs.Common.{◌≡◌, ℕ, suc, ◌-◌, ◌<◌, ◌≤◌, List, [], ◌∷◌, ◌++◌, map, length, refl, sym, ap, subst, ◌∙◌, arith, Option, Some, None, get_or, Bool, true, false}
 use Rattle.std.proofs.Math.Path.{transport}
-use Rattle.std.specs.Prelude.{slice_get, All, Result, Ok, Err, IfOk}
+use Rattle.std.specs.Prelude.{slice_get, All}
 use Rattle.std.proofs.lemmas.List.{length-map, length-reverse}
-use Rattle.std.proofs.lemmas.List.Elements.{All-push, All-get_or}
+use Rattle.std.proofs.lemmas.List.Elements.{All-get_or}
 use Rattle.std.proofs.lemmas.Option.{slice_get_past}
-use Rattle.lp_lemmas.proofs.Lists.{cons_head, cons_tail}
-use Rattle.lp_lemmas.proofs.Elements.{All_popped, All_pushed}
-use Rattle.lp_base.specs.declared.memory.Memory.{Memory}
+use Rattle.lp_lemmas.proofs.Elements.{All_pushed}
+use Rattle.lp_lemmas.proofs.Options.{one_value}
 use Rattle.lp_calculus.specs.Types.{Ty, var, arrow, instance}
 use Rattle.lp_calculus.specs.Term.{Term, Atom, index, atom, abs, app, apply, constant, eigen}
-use Rattle.lp_calculus.specs.Closed.{IsClosedType, AreClosed}
+use Rattle.lp_calculus.specs.Closed.{IsClosedType}
 use Rattle.lp_calculus.specs.Typing.{HasType, atom_type, scheme_type, eigen_type}
 use Rattle.lp_type_laws.specs.Equations.{Below}
-use Rattle.lp_type_laws.proofs.Types.{Agree}
 use Rattle.lp_type_unify.specs.declared.bindings.Pair.{Pair}
 use Rattle.lp_model.specs.Proofs.{under}
 use Rattle.lp_model.specs.Readings.{declared_by}
@@ -22,7 +20,7 @@ use Rattle.lp_term.specs.declared.node.TypeId.{TypeId}
 use Rattle.lp_term.specs.declared.node.TermId.{TermId}
 use Rattle.lp_term.proofs.Trees.{extends-trans}
 use Rattle.lp_cert.specs.Same.{types_in}
-use Rattle.lp_cert.specs.inner.Derives.{Step, visiting, closing, applying, Comes, argument_steps, step_of, steps_of, filled_types, types_of, Solves, Can, Keeps, KeepsApplied, IsTypeBelow, IsPairBelow, IsTaskIn, IsTidy, IsHeld, IsPushed, IsEquated}
+use Rattle.lp_cert.specs.inner.Derives.{Step, visiting, closing, Comes, argument_steps, steps_of, filled_types, types_of, Solves, Can, Keeps, IsTypeBelow, IsPairBelow, IsTaskIn, IsTidy, IsHeld, IsEquated}
 use Rattle.lp_cert.specs.declared.typing.Task.{Task}
 use Rattle.lp_cert.specs.declared.typing.Task.TheVariants as task
 use Rattle.lp_cert.specs.declared.typing.Typing.{Typing}
@@ -31,9 +29,6 @@ use Rattle.lp_cert.proofs.ClosedTypes.{closed_below}
 use Rattle.lp_cert.proofs.Deriving.{step_pushed, type_pushed, context_get}
 use Rattle.lp_cert.proofs.Later.{closed_type_inside}
 use Rattle.lp_cert.proofs.Tidy.{also, also_here, also_agrees, filled_agree, solves_agree, types_later, pairs_later, task_later, tasks_later, types_more, tidy_on, held_tidy}
-
-pub some_same : {A : Type 0} (o : Option A) (x y : A) → o ≡ Some x → o ≡ Some y → x ≡ y
-some_same o x y e f = let z : Some x ≡ Some y = sym e ∙ f in cc
 
 -- what is left now, from its parts
 pub can_of : (b : Nodes) (θ : ℕ → Ty) (old new : Typing) (C S : List Ty) (js : List Step) (T : Ty) → new.constants ≡ old.constants → new.eigens ≡ old.eigens → Solves b θ new.pairs.items → filled_types b θ new.context.items ≡ C → filled_types b θ new.stack.items ≡ S →
@@ -73,7 +68,7 @@ held_keeps a now old new of t done g y c e h one =
 pub index_keeps : (now : Nodes) (old new : Typing) (at i : ℕ) (of : TypeId) → at < length old.context.items → i ≡ length old.context.items - 1 - at → of ≡ get_or old.context.items i of → IsHeld old new of → IsTidy now old → Extends now now → Keeps now old new (λ b. visiting (index at) ∷ []) true
 index_keeps now old new at i of l e p h y g = record {
   tidy = λ q. held_tidy now now old new of g y h (subst (λ n. IsTypeBelow now n of) (sym h.next) (subst (IsTypeBelow now old.next) (sym p) (All-get_or (IsTypeBelow now old.next) old.context.items i of (omega (arith, l, e)) y.context)));
-  can = λ b k T s. (refl, held_can b old new of (index at) T h s (some_same _ _ _ (context_get b s.types old.context.items at i of l e p) s.derives.1));
+  can = λ b k T s. (refl, held_can b old new of (index at) T h s (one_value _ _ _ (context_get b s.types old.context.items at i of l e p) s.derives.1));
 }
 
 pub index_past : (now : Nodes) (old new : Typing) (at : ℕ) → length old.context.items ≤ at → Keeps now old new (λ b. visiting (index at) ∷ []) false
@@ -88,7 +83,7 @@ index_past now old new at l = refused now old new (λ b. visiting (index at) ∷
 -- a constant
 pub constant_keeps : (a now : Nodes) (old new : Typing) (n : ℕ) (ids : List TypeId) (of : TypeId) (done : Bool) → Extends a now → IsTidy a old → IsClosedType (type_tree now of.0) → done ≡ true → IsHeld old new of →
     ((b : Nodes) → Extends now b → scheme_type (types_in b ids) (declared_by b old.constants.now n) ≡ Some (type_tree b of.0)) → Keeps now old new (λ b. visiting (atom (constant n (types_in b ids))) ∷ []) done
-constant_keeps a now old new n ids of done g y c e h s = held_keeps a now old new of (λ b. atom (constant n (types_in b ids))) done g y c e h (λ b k C A q. some_same _ _ _ q (s b k))
+constant_keeps a now old new n ids of done g y c e h s = held_keeps a now old new of (λ b. atom (constant n (types_in b ids))) done g y c e h (λ b k C A q. one_value _ _ _ q (s b k))
 
 pub constant_none : (now : Nodes) (old new : Typing) (n : ℕ) (ids : List TypeId) → ((b : Nodes) → scheme_type (types_in b ids) (declared_by b old.constants.now n) ≡ None) → Keeps now old new (λ b. visiting (atom (constant n (types_in b ids))) ∷ []) false
 constant_none now old new n ids s = refused now old new (λ b. visiting (atom (constant n (types_in b ids))) ∷ []) (λ b g T c. let none = s b in let some = c.derives.1 in absurd (cc))
@@ -96,7 +91,7 @@ constant_none now old new n ids s = refused now old new (λ b. visiting (atom (c
 -- an eigenconstant
 pub eigen_keeps : (now : Nodes) (old new : Typing) (level place : ℕ) (of : TypeId) (done : Bool) → Extends now now → IsTidy now old → level ≡ suc place → slice_get old.eigens.now place ≡ Some of → IsClosedType (type_tree now of.0) → done ≡ true → IsHeld old new of →
     ((b : Nodes) → eigen_type (types_in b old.eigens.now) level ≡ Some (type_tree b of.0)) → Keeps now old new (λ b. visiting (atom (eigen level)) ∷ []) done
-eigen_keeps now old new level place of done g y l p c e h s = held_keeps now now old new of (λ b. atom (eigen level)) done g y c e h (λ b k C A q. some_same _ _ _ q (s b))
+eigen_keeps now old new level place of done g y l p c e h s = held_keeps now now old new of (λ b. atom (eigen level)) done g y c e h (λ b k C A q. one_value _ _ _ q (s b))
 
 pub eigen_none : (now : Nodes) (old new : Typing) (level : ℕ) → ((b : Nodes) → eigen_type (types_in b old.eigens.now) level ≡ None) → Keeps now old new (λ b. visiting (atom (eigen level)) ∷ []) false
 eigen_none now old new level s = refused now old new (λ b. visiting (atom (eigen level)) ∷ []) (λ b g T c. let none = s b in let some = c.derives.1 in absurd (cc))
@@ -107,7 +102,7 @@ keeps_as now old new done j k e h = record { tidy = h.tidy; can = λ b g T c. h.
 
 -- an abstraction: its variable has the type `from`
 module _ (a now : Nodes) (old new : Typing) (mid : List Task) (from : TypeId) (body : TermId) (g : Extends a now) (y : IsTidy a old) (ec : new.constants ≡ old.constants) (ee : new.eigens ≡ old.eigens) (es : new.stack ≡ old.stack) (ep : new.pairs ≡ old.pairs) (en : new.next ≡ suc old.next)
-  (ex : new.context.items ≡ old.context.items ++ from ∷ []) (em : mid ≡ old.tasks.items ++ task.Close ∷ []) (et : new.tasks.items ≡ mid ++ task.Visit body ∷ []) (l : from.0 < length now.types) (fresh : type_tree now from.0 ≡ var old.next) (h : IsTaskIn a (task.Visit body)) where
+    (ex : new.context.items ≡ old.context.items ++ from ∷ []) (em : mid ≡ old.tasks.items ++ task.Close ∷ []) (et : new.tasks.items ≡ mid ++ task.Visit body ∷ []) (l : from.0 < length now.types) (fresh : type_tree now from.0 ≡ var old.next) (h : IsTaskIn a (task.Visit body)) where
   more : old.next ≤ new.next
   more = omega (arith, en)
 

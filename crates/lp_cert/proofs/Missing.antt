@@ -1,6 +1,6 @@
 -- Constants that have no type at these types.
-use Rattle.std.proofs.Common.{◌≡◌, ℕ, zero, suc, ◌<◌, ◌≤◌, ◌-◌, List, [], ◌∷◌, ◌++◌, map, length, refl, sym, ap, ◌∙◌, arith, Bool, true, false}
-use Rattle.std.specs.Prelude.{All, Option, Some, None, option_map, slice_get, nat_lt, nat_eq, if◌then◌else◌, Result, Ok, Err, IfOk}
+use Rattle.std.proofs.Common.{◌≡◌, ℕ, zero, suc, ◌<◌, ◌≤◌, ◌-◌, List, [], ◌∷◌, ◌++◌, map, length, refl, ap, ◌∙◌, arith, Bool, true, false}
+use Rattle.std.specs.Prelude.{Option, Some, None, slice_get, nat_lt, nat_eq, if◌then◌else◌, Result, Ok, Err, IfOk}
 use Rattle.std.proofs.lemmas.Bool.Decides.{nat_tests}
 use Rattle.std.proofs.lemmas.List.{length-map}
 use Rattle.std.proofs.lemmas.List.Elements.{All-head, All-tail}
@@ -8,9 +8,8 @@ use Rattle.lp_base.specs.declared.memory.Memory.{Memory}
 use Rattle.lp_calculus.specs.Types.{instance}
 use Rattle.lp_calculus.specs.Typing.{Scheme, type_at, scheme_type}
 use Rattle.lp_standard.specs.declared.constant.Constant.{Constant}
-use Rattle.lp_standard.specs.declared.shape.Shape.{Shape}
 use Rattle.lp_standard.specs.Constants.{numbered, language, reserved, first_declared}
-use Rattle.lp_standard.specs.Schemes.{scheme, entry, standard_schemes, shape_scheme, shape_variables}
+use Rattle.lp_standard.specs.Schemes.{scheme, entry}
 use Rattle.lp_model.specs.Readings.{declared_by, scheme_of}
 use Rattle.lp_model.specs.declared.program.Declared.{Declared}
 use Rattle.lp_term.specs.Nodes.{Nodes, type_tree}
@@ -54,12 +53,6 @@ count_differs b ids s h = go (nat_eq (length (types_in b ids)) s.count) refl
     go : (t : Bool) → nat_eq (length (types_in b ids)) s.count ≡ t → (if t then Some (instance (type_at (types_in b ids)) s.body) else None) ≡ None
     go true q = absurd (h (let n = length-map ids (λ x. type_tree b x.0) in let z : length (types_in b ids) ≡ s.count = grind (arith, nat_tests, q) in omega (arith, n, z)))
     go false q = refl
-
-pub shape_missing : (b : Nodes) (ids : List TypeId) (o : Option Shape) (s : Option Scheme) → option_map shape_scheme o ≡ s → o ≡ None → scheme_type (types_in b ids) s ≡ None
-shape_missing b ids o s e n = none_type b ids s (sym e ∙ ap (option_map shape_scheme) n)
-
-pub shape_differs : (b : Nodes) (ids : List TypeId) (o : Option Shape) (shape : Shape) (s : Option Scheme) → option_map shape_scheme o ≡ s → o ≡ Some shape → (length ids ≡ shape_variables shape → ⊥) → scheme_type (types_in b ids) s ≡ None
-shape_differs b ids o shape s e f h = ap (scheme_type (types_in b ids)) (sym e ∙ ap (option_map shape_scheme) f) ∙ count_differs b ids (shape_scheme shape) h
 
 pub found_inside : (n : ℕ) (cs : List Declared) (i : ℕ) (x : Declared) → slice_get cs i ≡ Some x → AreDeclaredInside n cs → x.scheme.0 < n
 found_inside n [] i x e h = absurd (cc)

@@ -1,5 +1,5 @@
 -- A term that is refused for a type or a variable does not fit it.
-use Rattle.std.proofs.Common.{◌≡◌, ℕ, ◌<◌, List, [], length, refl, sym, ap, subst, ◌∙◌, arith, Bool, true, false}
+use Rattle.std.proofs.Common.{◌≡◌, ℕ, ◌<◌, List, [], length, sym, subst, ◌∙◌, Bool, false}
 use Rattle.std.specs.Prelude.{Result, Ok, Err, IfOk}
 use Rattle.std.proofs.Math.Path.{transport}
 use Rattle.std.proofs.lemmas.List.{length-map}
@@ -10,8 +10,7 @@ use Rattle.lp_standard.specs.Positive.{IsPositive, is_positive}
 use Rattle.lp_term.specs.Nodes.{Nodes, Extends, tree, type_tree}
 use Rattle.lp_term.specs.declared.node.TypeId.{TypeId}
 use Rattle.lp_term.specs.declared.node.TermId.{TermId}
-use Rattle.lp_term.proofs.Trees.{extends-trans}
-use Rattle.lp_model.specs.Proofs.{under}
+use Rattle.lp_model.specs.Proofs.{IsFormula, under}
 use Rattle.lp_model.specs.Readings.{declared_by}
 use Rattle.lp_cert.specs.Facts.{is_closed_type}
 use Rattle.lp_cert.specs.Inside.{AreDeclaredInside}
@@ -55,3 +54,11 @@ witness_untyped a now w v term of (Ok done) et ee h = λ q s l m b g o.
       closed = transport (λ j. IsClosedAt (length (types_in b (sym ee j).items)) (tree b term.0)) o.closed;
       type_closed = o.type_closed;
     })
+
+-- a formula is a closed term of type `o`
+pub formula_is_of : (b : Nodes) (w : Work) (term : TermId) (of : TypeId) → type_tree b of.0 ≡ typing.o_type → IsFormula (declared_by b w.theory.constants.now) (types_in b w.eigens.items) (tree b term.0) → IsOf b w term of
+formula_is_of b w term of e f = record {
+  typed = subst (λ T. typing.Typed (under (declared_by b w.theory.constants.now) (types_in b w.eigens.items)) [] (tree b term.0) T) (sym e) f.typed;
+  closed = f.closed;
+  type_closed = subst IsClosedType (sym e) tt;
+}

@@ -1,6 +1,5 @@
 -- Conditions that hold of a bank hold of each bank that it grows to.
-use Rattle.std.proofs.Common.{◌≡◌, ℕ, ◌<◌, List, length, subst, sym, arith}
-use Rattle.std.specs.Prelude.{All}
+use Rattle.std.proofs.Common.{◌≡◌, ◌<◌, List, length, subst, sym, arith}
 use Rattle.std.proofs.lemmas.List.Elements.{All-weaker}
 use Rattle.lp_calculus.specs.Closed.{AreClosed}
 use Rattle.lp_term.specs.Nodes.{Nodes, Extends}
@@ -10,7 +9,6 @@ use Rattle.lp_cert.specs.Inside.{AreTermsInside, AreDeclaredInside}
 use Rattle.lp_cert.specs.Same.{types_in}
 use Rattle.lp_cert.specs.inner.Named.{IsSettled}
 use Rattle.lp_cert.specs.declared.work.Work.{Work}
-use Rattle.lp_cert.proofs.Later.{closed_types_inside, inside_later}
 use Rattle.lp_cert.proofs.Naming.{closed_types_later}
 
 pub declared_later : (b c : Nodes) (cs : List Declared) → Extends b c → AreDeclaredInside (length b.types) cs → AreDeclaredInside (length c.types) cs

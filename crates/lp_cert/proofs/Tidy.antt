@@ -1,16 +1,16 @@
 -- All that a typing names stands in the bank, with type variables below the next one; types for more variables agree on it.
-use Rattle.std.proofs.Common.{◌≡◌, ℕ, suc, ◌<◌, ◌≤◌, List, [], ◌∷◌, ◌++◌, map, reverse, length, refl, sym, ap, subst, ◌∙◌, arith, true, false}
+use Rattle.std.proofs.Common.{◌≡◌, ℕ, ◌<◌, ◌≤◌, List, [], ◌∷◌, ◌++◌, reverse, length, refl, sym, ap, subst, ◌∙◌, arith, true, false}
 use Rattle.std.specs.Prelude.{All, nat_eq, if◌then◌else◌}
 use Rattle.std.proofs.lemmas.Bool.Decides.{nat_tests}
-use Rattle.std.proofs.lemmas.List.Elements.{All-nil, All-cons, All-head, All-tail, All-push, All-weaker}
+use Rattle.std.proofs.lemmas.List.Elements.{All-nil, All-cons, All-head, All-tail, All-weaker}
 use Rattle.lp_lemmas.proofs.Lists.{map_agree_on}
-use Rattle.lp_lemmas.proofs.Elements.{All_popped, All_pushed}
+use Rattle.lp_lemmas.proofs.Elements.{All_pushed}
 use Rattle.lp_calculus.specs.Types.{Ty, instance}
-use Rattle.lp_calculus.specs.Closed.{AllAtoms, AreClosed, IsClosedType}
+use Rattle.lp_calculus.specs.Closed.{AllAtoms, AreClosed}
 use Rattle.lp_type_laws.specs.Equations.{Below}
 use Rattle.lp_type_laws.proofs.Types.{Agree, instance_agree, below_more}
 use Rattle.lp_type_unify.specs.declared.bindings.Pair.{Pair}
-use Rattle.lp_term.specs.Nodes.{Nodes, Extends, tree, type_tree}
+use Rattle.lp_term.specs.Nodes.{Nodes, Extends, type_tree}
 use Rattle.lp_term.specs.declared.node.TypeId.{TypeId}
 use Rattle.lp_cert.specs.Inside.{AreDeclaredInside}
 use Rattle.lp_cert.specs.Same.{types_in}

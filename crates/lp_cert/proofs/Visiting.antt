@@ -1,16 +1,16 @@
 -- A term that is visited keeps what can be typed: by its top, and by what the call for that top says.
-use Rattle.std.proofs.Common.{◌≡◌, ℕ, zero, suc, ◌<◌, ◌≤◌, List, [], ◌∷◌, ◌++◌, map, length, refl, sym, ap, subst, ◌∙◌, arith, Bool, true, false}
-use Rattle.std.specs.Prelude.{All, Option, Some, None, slice_get, Result, Ok, Err, IfOk}
+use Rattle.std.proofs.Common.{◌≡◌, ℕ, zero, suc, ◌<◌, ◌≤◌, List, [], ◌∷◌, ◌++◌, map, length, sym, ap, subst, ◌∙◌, arith, Bool, true, false}
+use Rattle.std.specs.Prelude.{All, Some, None, slice_get, Result, Ok, Err, IfOk}
 use Rattle.std.proofs.lemmas.List.{length-map}
 use Rattle.std.proofs.lemmas.List.Elements.{All-nil, All-cons, All-head, All-tail}
 use Rattle.std.proofs.lemmas.Option.{slice_get_past}
 use Rattle.lp_lemmas.proofs.Lists.{get_map}
-use Rattle.lp_lemmas.proofs.Elements.{All_pushed, All_unmap}
+use Rattle.lp_lemmas.proofs.Elements.{All_pushed}
 use Rattle.lp_base.specs.declared.memory.Memory.{Memory}
 use Rattle.lp_calculus.specs.Types.{Ty}
-use Rattle.lp_calculus.specs.Term.{Term, Atom, index, atom, abs, app, apply, constant, integer, text, eigen, logic, param}
+use Rattle.lp_calculus.specs.Term.{Term, Atom, atom, abs, app, apply, constant, eigen, logic, param}
 use Rattle.lp_calculus.specs.Closed.{IsClosedType, AreClosed, AllAtoms}
-use Rattle.lp_calculus.specs.Typing.{HasType, int_type, string_type, scheme_type, eigen_type}
+use Rattle.lp_calculus.specs.Typing.{HasType, scheme_type, eigen_type}
 use Rattle.lp_model.specs.Readings.{declared_by}
 use Rattle.lp_term.specs.Node.{TermShape, TermBelow, const_node}
 use Rattle.lp_term.specs.Nodes.{Nodes, Extends, tree, type_tree, node_tree}
@@ -19,14 +19,14 @@ use Rattle.lp_term.specs.declared.node.TermId.{TermId}
 use Rattle.lp_term.proofs.Trees.{extends-trans, extends_same}
 use Rattle.lp_cert.specs.Facts.{AreInside}
 use Rattle.lp_cert.specs.Same.{types_in}
-use Rattle.lp_cert.specs.inner.Derives.{Step, visiting, step_of, types_of, Keeps, IsTaskIn, IsTidy, IsHeld}
+use Rattle.lp_cert.specs.inner.Derives.{visiting, step_of, types_of, Keeps, IsTaskIn, IsTidy, IsHeld}
 use Rattle.lp_cert.specs.inner.Named.{HasClosedTypes}
 use Rattle.lp_cert.specs.declared.typing.Task.{Task}
 use Rattle.lp_cert.specs.declared.typing.Task.TheVariants as task
 use Rattle.lp_cert.specs.declared.typing.Typing.{Typing}
 use Rattle.lp_cert.proofs.ClosedTypes.{scheme_closed}
 use Rattle.lp_cert.proofs.Comparisons.{twice}
-use Rattle.lp_cert.proofs.Keeping.{some_same, refused, held_keeps, constant_keeps, eigen_keeps, keeps_as}
+use Rattle.lp_cert.proofs.Keeping.{refused, held_keeps, constant_keeps, eigen_keeps, keeps_as}
 use Rattle.lp_cert.proofs.Later.{closed_type_inside, closed_types_inside, inside_later, seen_inside}
 
 -- what a type put on the stack says

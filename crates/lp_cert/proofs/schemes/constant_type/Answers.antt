@@ -5,7 +5,6 @@ use Rattle.lp_standard.specs.Schemes.{scheme}
 use Rattle.lp_model.specs.Readings.{declared_by, scheme_of}
 use Rattle.lp_cert.proofs.Filled.{standard_declared, program_declared, type_of_constant}
 use Rattle.lp_cert.proofs.Missing.{number_missing, past_missing, none_type, none_of_constant, none_always, found_inside}
-use Rattle.lp_cert.specs.Same.{types_in}
 use Rattle.lp_cert.proofs.schemes.constant_type.Goals as goal
 
 pub returns-in-Some-clause-type_is : goal.returns-in-Some-clause-type_is
@@ -20,7 +19,7 @@ returns-in-Some-get-clause-type_is c =
     (slice_get-get_or c.args.constants.now _ _ c.in-Some-get.ensures.lookup.3.0 ∙ ap Some (sym c.in-Some-get.ensures.lookup.1))) c.declared_type.ensures.type_is
 
 pub returns-in-None-clause-none : goal.returns-in-None-clause-none
-returns-in-None-clause-none c = λ e i b. none_type b c.args.types.now _ (number_missing b c.args.constants.now c.args.constant c.if-constant-lt-FIRST_CONSTANT.true (?))
+returns-in-None-clause-none c = λ e i b. none_type b c.args.types.now _ (number_missing b c.args.constants.now c.args.constant c.if-constant-lt-FIRST_CONSTANT.true (sym c.in-None.ensures))
 
 pub returns-in-Some-clause-none : goal.returns-in-Some-clause-none
 returns-in-Some-clause-none c =

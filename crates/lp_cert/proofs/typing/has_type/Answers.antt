@@ -1,4 +1,4 @@
-use Rattle.std.proofs.Common.{ap, ◌∙◌, ◌++◌, ◌∷◌, [], arith, true}
+use Rattle.std.proofs.Common.{ap, ◌∙◌, ◌++◌, ◌∷◌, [], arith}
 use Rattle.lp_cert.specs.declared.typing.Task.TheVariants as task
 use Rattle.lp_cert.proofs.Deriving.{typed_at_end}
 use Rattle.lp_term.specs.Nodes.{type_tree}

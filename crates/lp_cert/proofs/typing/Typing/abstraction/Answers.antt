@@ -13,5 +13,3 @@ returns-clause-keeps c = λ y h.
     let g = c.in_ok-from.ensures.grown in
     abstraction_keeps c.args.bank.now c.new_variable.new.bank c.args.self.now _ c.push-2.new.self.items c.in_ok-from.from c.args.body c.in_ok-from.ensures.kept y g.rest.constants g.rest.eigens g.stack g.rest.pairs c.in_ok-from.ensures.next
     (c.in_ok-push.ensures.items ∙ ap (λ x. x.items ++ c.in_ok-from.from ∷ []) g.rest.context) (c.in_ok-push-2.ensures.items ∙ ap (λ x. x.items ++ task.Close ∷ []) g.rest.tasks) c.in_ok-push-3.ensures.items c.in_ok-from.ensures.within c.in_ok-from.ensures.fresh h
-
-

@@ -1,5 +1,5 @@
 use Rattle.lp_term.proofs.Trees.{extends_same, extends-trans}
-use Rattle.std.proofs.Common.{arith, refl, false, []}
+use Rattle.std.proofs.Common.{arith, refl, []}
 use Rattle.lp_cert.proofs.Comparisons.{nothing}
 use Rattle.lp_cert.proofs.Deriving.{task_back, nothing_left}
 use Rattle.lp_cert.proofs.Completing.{taken_tidy, task_taken, ended_keeps}

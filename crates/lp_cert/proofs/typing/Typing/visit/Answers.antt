@@ -1,14 +1,12 @@
-use Rattle.std.proofs.Common.{◌∙◌, refl, ap, map, sym, arith}
-use Rattle.lp_calculus.specs.Term.{index, atom, abs, apply, integer, text, eigen, param, logic, constant}
+use Rattle.std.proofs.Common.{◌∙◌, refl, ap, map, arith}
+use Rattle.lp_calculus.specs.Term.{index, atom, abs, apply, integer, text, eigen, param}
 use Rattle.lp_calculus.specs.Typing.{int_type, string_type}
 use Rattle.lp_term.specs.Node.{index_node, int_node, text_node, eigen_node, typed_param_node, abs_node, app_node, logic_node}
 use Rattle.lp_term.specs.Nodes.{tree, type_tree}
-use Rattle.lp_term.proofs.Trees.{extends-trans, extends_same}
+use Rattle.lp_term.proofs.Trees.{extends-trans}
 use Rattle.lp_cert.specs.inner.Derives.{visiting}
 use Rattle.lp_cert.proofs.Deriving.{step_as, step_any, step_pushes, constant_step, twice_terms}
 use Rattle.lp_cert.proofs.Later.{seen_inside}
-use Rattle.lp_cert.specs.Same.{types_in}
-use Rattle.lp_cert.specs.Facts.{AreInside}
 use Rattle.lp_cert.proofs.Visiting.{visit_any, visit_kind, visit_plain, visit_param, visit_logic, visit_as, visit_application, visit_constant, body_task, top_seen}
 use Rattle.lp_cert.proofs.typing.Typing.visit.Goals as goal
 
@@ -80,7 +78,7 @@ returns-in-Eigen-clause-keeps c =
 
 pub returns-in-Logic-clause-keeps : goal.returns-in-Logic-clause-keeps
 returns-in-Logic-clause-keeps c = λ y h.
-    visit_logic c.args.bank.now c.args.self.now _ c.args.term _ _ (λ b g. seen_inside c.args.bank.now b c.args.term.0 _ g (c.is_inside.ensures.inside c.if-not-is_inside.false) c.in-Logic.ensures.within c.in-Logic.ensures.tree)
+    visit_logic c.args.bank.now c.args.self.now _ c.args.term c.in-Logic.id c.in-Logic.level (λ b g. seen_inside c.args.bank.now b c.args.term.0 (logic_node c.in-Logic.id c.in-Logic.level) g (c.is_inside.ensures.inside c.if-not-is_inside.false) c.in-Logic.ensures.within c.in-Logic.ensures.tree)
 
 pub returns-in-Param-clause-keeps : goal.returns-in-Param-clause-keeps
 returns-in-Param-clause-keeps c =
