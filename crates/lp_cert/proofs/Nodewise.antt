@@ -39,14 +39,6 @@ use Rattle.lp_cert.proofs.Later.{closed_type_inside, closed_types_inside, inside
 use Rattle.lp_cert.proofs.Ready.{clause_later, closed_within, instance_within, loose_of, on_one, on_two, ready_later}
 use Rattle.lp_cert.proofs.Running.{binder_once}
 
--- a formula has the type of propositions
-pub of_formula : (b : Nodes) (w : Work) (t : TermId) (of : TypeId) → type_tree b of.0 ≡ o_type → IsFormula (declared_by b w.theory.constants.now) (types_in b w.eigens.items) (tree b t.0) → IsOf b w t of
-of_formula b w t of e f = record {
-  typed = subst (λ T. typing.Typed (under (declared_by b w.theory.constants.now) (types_in b w.eigens.items)) [] (tree b t.0) T) (sym e) f.typed;
-  closed = f.closed;
-  type_closed = subst IsClosedType (sym e) tt;
-}
-
 -- a closed term that was tested
 pub other_ready : (p q : Nodes) (t : TermId) (n : ℕ) → Extends p q → t.0 < length p.terms → IsClosedAt n (tree p t.0) → IsReady q t
 other_ready p q t n g l c = ready_later p q t g (l, closed_within n (tree p t.0) c)

@@ -1,5 +1,5 @@
 // Normal forms, and whether two terms convert.
-ghost use Rattle.std.specs.Prelude.{◌≡◌, ◌<◌, ◌⊎◌, ◌≤◌, length, IfOk, OnOk, All, true, false};
+ghost use Rattle.std.specs.Prelude.{◌≡◌, ◌∷◌, [], ◌<◌, ◌⊎◌, ◌≤◌, length, IfOk, OnOk, All, true, false};
 ghost use Rattle.lp_calculus.specs.Closed.{AllAtoms, AreClosed, IsClosedType};
 ghost use Rattle.lp_term.specs.Spine.{IsNoApplication, LooseBelow};
 ghost use Rattle.lp_cert.specs.Run.{OneIsLarge};

@@ -37,5 +37,5 @@ returns-in-None-clause-follows c = λ b h q. (c.terms.invariant.follows b h q).0
 pub returns-in-None-clause-plain : goal.returns-in-None-clause-plain
 returns-in-None-clause-plain c = λ b h a. (c.terms.invariant.plain b h a).0
 
-pub returns-in-Some-clause-follows : goal.returns-in-Some-clause-follows
-returns-in-Some-clause-follows c = λ b q. terms_none b c.terms.right.items _ c.terms.left.items _ c.in-Some-pop-2.ensures.items (nothing c.terms.left.items (omega (arith, c.in_default.ensures.cases.0, c.terms.left.ok))) (sym (c.terms.invariant.same b q))
+pub returns-clause-follows : goal.returns-clause-follows
+returns-clause-follows c = λ b q. terms_none b c.terms.right.items _ c.terms.left.items _ c.in-Some-pop-2.ensures.items (nothing c.terms.left.items (omega (arith, c.in_default.ensures.cases.0, c.terms.left.ok))) (sym (c.terms.invariant.same b q))

@@ -4,7 +4,8 @@ use Rattle.lp_cert.specs.Run.{proving}
 use Rattle.lp_cert.proofs.Stepping.{goes_on, stays_with, stays_trans}
 use Rattle.lp_cert.proofs.Going.{conv_goes, formula_in, type_later}
 use Rattle.lp_cert.proofs.Turning.{goes_to, pushed_turned}
-use Rattle.lp_cert.proofs.Nodewise.{further, of_formula, other_ready}
+use Rattle.lp_cert.proofs.Nodewise.{further, other_ready}
+use Rattle.lp_cert.proofs.Refusing.{formula_is_of}
 use Rattle.lp_cert.proofs.Ready.{ready_later, work_later}
 use Rattle.lp_cert.specs.declared.work.Task.TheVariants as task
 use Rattle.lp_cert.specs.Written.{converted}
@@ -23,7 +24,7 @@ pub returns-then-not-branch-clause-turned : goal.returns-then-not-branch-clause-
 returns-then-not-branch-clause-turned c = λ w g l b h k.
     let on = c.in_ok-of.ensures.kept in
     c.in_ok-is_closed_of.ensures.never c.if-not-branch.true (work_later _ _ c.args.self.now on w).settled (further _ _ c.args.other on l) c.in_ok-of.ensures.within b h
-    (of_formula b c.args.self.now c.args.other c.in_ok-of.of (type_later _ b c.in_ok-of.of _ (extends-trans _ _ _ c.in_ok-is_closed_of.ensures.kept h) c.in_ok-of.ensures.within c.in_ok-of.ensures.tree) k.0)
+    (formula_is_of b c.args.self.now c.args.other c.in_ok-of.of (type_later _ b c.in_ok-of.of _ (extends-trans _ _ _ c.in_ok-is_closed_of.ensures.kept h) c.in_ok-of.ensures.within c.in_ok-of.ensures.tree) k.0)
 
 pub returns-in-Same-clause-turned : goal.returns-in-Same-clause-turned
 returns-in-Same-clause-turned c = pushed_turned c.go_on.result _ _ c.go_on.ensures.pushes (λ p w g l.
