@@ -1,4 +1,4 @@
-use Rattle.std.proofs.Common.{◌∙◌, sym, arith, refl, ap, subst, length}
+use Rattle.std.proofs.Common.{◌∙◌, sym, arith, ap, subst, length}
 use Rattle.lp_term.proofs.Trees.{extends-trans, extends_same}
 use Rattle.lp_cert.proofs.Naming.{named_in, found_always, types_inside, found_where, closed_types_later, types_found}
 use Rattle.lp_term.specs.Spine.{LooseBelow}
@@ -6,7 +6,6 @@ use Rattle.lp_model.specs.Index.{at, instantiate}
 use Rattle.std.specs.Prelude.{suc, ◌-◌}
 use Rattle.lp_cert.specs.Same.{terms_in}
 use Rattle.lp_cert.proofs.Later.{inside_more}
-use Rattle.lp_cert.proofs.Stepping.{stays_trans}
 use Rattle.lp_cert.proofs.Going.{stays_where}
 use Rattle.lp_cert.specs.inner.Named.{variable_types}
 use Rattle.lp_cert.proofs.Witnesses.{witnesses_on}
@@ -22,7 +21,10 @@ returns-clause-named c =
     (c.in_ok-are_values.ensures.values c.if-not-branch-2.false e (types_inside c.args.bank.now c.args.types.now closed)))
 
 pub returns-clause-stays : goal.returns-clause-stays
-returns-clause-stays c = stays_where c.put_values.result _ _ (stays_trans _ _ _ (record { theory = refl; eigens = refl; assumed = refl; tasks = refl }) c.in_ok-are_values.ensures.stays)
+returns-clause-stays c =
+    let w = c.are_values.new.self in
+    let s = c.in_ok-are_values.ensures.stays in
+    stays_where c.put_values.result c.args.self.now (record { alloc = w.alloc; theory = w.theory; known = c.put_values.new.known; eigens = w.eigens; assumed = w.assumed; tasks = w.tasks }) (record { theory = s.theory; eigens = s.eigens; assumed = s.assumed; tasks = s.tasks })
 
 pub returns-clause-filled : goal.returns-clause-filled
 returns-clause-filled c =
