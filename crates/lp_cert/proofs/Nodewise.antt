@@ -173,3 +173,8 @@ side_none which A B (inr q) = inr q.0
 
 pub clause_found : (c d : code.ClauseFormula) (o : Option code.ClauseFormula) → o ≡ Some c → o ≡ Some d → c ≡ d
 clause_found c d o e f = cc
+
+pub get_inside : {A : Type 0} (xs : List A) (i : ℕ) (x : A) → slice_get xs i ≡ Some x → i < length xs
+get_inside [] i x e = absurd (cc)
+get_inside (y ∷ ys) zero x e = omega arith
+get_inside (y ∷ ys) (suc i) x e = let k = get_inside ys i x e in omega (arith, k)

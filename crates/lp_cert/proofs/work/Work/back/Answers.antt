@@ -1,4 +1,4 @@
-use Rattle.std.proofs.Common.{◌∙◌, refl, sym, subst, ◌∷◌}
+use Rattle.std.proofs.Common.{◌∙◌, refl, sym, subst, ◌∷◌, ap}
 use Rattle.lp_term.proofs.Trees.{extends-trans, extends_same}
 use Rattle.lp_term.specs.Nodes.{tree}
 use Rattle.lp_cert.specs.Same.{types_in, terms_in}
@@ -45,9 +45,9 @@ returns-clause-turned c = λ w g i.
     let closed = sym c.in_ok-are_closed_types.ensures.closed ∙ c.if-not-branch.false in
     let before = work_stays c.args.bank.now c.args.self.now _ (record { theory = refl; eigens = refl; assumed = refl; tasks = refl }) w in
     let types = types_found c.args.bank.now c.args.types.now closed in
-    goes_to c.args.bank.now _ c.args.self.now c.clause.new.self _ (λ b. proving (tree b c.args.goal.0)) (λ b. back_to c.args.number (types_in b c.args.types.now)) kept
+    goes_to c.args.bank.now c.clause.new.bank c.args.self.now c.clause.new.self _ (λ b. proving (tree b c.args.goal.0)) (λ b. back_to c.args.number (types_in b c.args.types.now)) kept
     (stays_trans _ _ _ (record { theory = refl; eigens = refl; assumed = refl; tasks = refl }) c.in_ok-found.ensures.stays) (task.Focus c.in-Some.clause c.args.goal) (record { theory = refl; eigens = refl; assumed = refl; tasks = c.in_ok-push.ensures.items }) w
     (some_is _ c.in_ok-found.found c.in-Some.clause c.in-Some.is c.in_ok-found.ensures.ready before types, ready_later _ _ c.args.goal kept g) (λ b h at.
     let it = some_is _ c.in_ok-found.found c.in-Some.clause c.in-Some.is c.in_ok-found.ensures.clause i b h in
     (it.clause, it.at, it.count, closed_types_later c.args.bank.now b c.args.types.now (extends-trans _ _ _ kept h) types, c.is_atom.ensures.yes c.if-not-is_atom.false b (extends-trans _ _ _ kept h),
-      subst (λ X. At b _ (types_in b c.args.self.now.eigens.items) (terms_in b c.args.self.now.assumed.items) (focusing X (tree b c.args.goal.0) ∷ jobs_of b c.args.self.now.tasks.items)) it.is at))
+      (at.0, at.1, ap (λ X. focusing X (tree b c.args.goal.0) ∷ jobs_of b c.args.self.now.tasks.items) (sym it.is) ∙ at.2)))

@@ -4,8 +4,11 @@ use Rattle.std.proofs.lemmas.Option.{slice_get-get_or}
 use Rattle.lp_term.specs.Nodes.{tree}
 use Rattle.lp_cert.proofs.Naming.{found_where}
 use Rattle.lp_cert.proofs.Going.{program_clause, assumed_clause}
-use Rattle.lp_cert.proofs.Nodewise.{assumed_back, assumed_ready, at_element, declared_ready, found_with, none_where, program_back}
+use Rattle.lp_cert.proofs.Nodewise.{assumed_back, assumed_ready, at_element, declared_ready, found_with, none_where, program_back, get_inside}
 use Rattle.lp_term.proofs.Trees.{extends_same}
+use Rattle.std.proofs.lemmas.Bool.Decides.{nat_tests}
+use Rattle.lp_cert.specs.Standing.{IsClauseInside}
+use Rattle.lp_cert.specs.inner.Turned.{IsReady}
 use Rattle.lp_cert.proofs.work.Work.clause.Goals as goal
 
 pub returns-then-place-clauses-clause-clause : goal.returns-then-place-clauses-clause-clause
@@ -28,7 +31,7 @@ pub returns-then-place-clauses-clause-none : goal.returns-then-place-clauses-cla
 returns-then-place-clauses-clause-none c =
     none_where c.declared_clause.result _ _ c.declared_clause.ensures.none (λ f w i b h t k.
     let q = program_back b c.args.self.now.theory c.args.self.now.assumed.items c.args.number c.args.types.now t (omega (arith, c.if-place-clauses.true)) k in
-    f q.0 q.1 (at_element _ c.args.self.now.theory.clauses.now c.args.number q.0 q.1 w.clauses).0 q.2)
+    f q.0 q.1 (at_element (IsClauseInside c.args.bank.now) c.args.self.now.theory.clauses.now c.args.number q.0 q.1 w.clauses).0 q.2)
 
 pub returns-in-Some-clause-ready : goal.returns-in-Some-clause-ready
 returns-in-Some-clause-ready c =
@@ -41,9 +44,12 @@ returns-in-Some-clause-none c =
     none_where c.formula_at.result _ _ c.formula_at.ensures.none (λ f w i b h t k.
     let q = assumed_back b c.args.self.now.theory c.args.self.now.assumed.items c.args.number (c.args.number - length c.args.self.now.theory.clauses.now) c.args.types.now t (omega (arith, c.if-place-clauses.false)) k in
     let e = subst (λ l. slice_get l (c.args.number - length c.args.self.now.theory.clauses.now) ≡ Some c.in-Some.formula.now) c.deref.ensures.value (slice_get-get_or c.deref.result.now _ _ c.in-Some.ensures.lookup.3.0 ∙ ap Some (sym c.in-Some.ensures.lookup.1)) in
-    f (at_element _ c.args.self.now.assumed.items _ c.in-Some.formula.now e w.assumed).0 (omega (arith, q.2)))
+    f (at_element (IsReady c.args.bank.now) c.args.self.now.assumed.items (c.args.number - length c.args.self.now.theory.clauses.now) c.in-Some.formula.now e w.assumed).0 (omega (arith, q.2)))
 
 pub returns-in-None-clause-none : goal.returns-in-None-clause-none
 returns-in-None-clause-none c = λ e w i b h t k.
     let q = assumed_back b c.args.self.now.theory c.args.self.now.assumed.items c.args.number (c.args.number - length c.args.self.now.theory.clauses.now) c.args.types.now t (omega (arith, c.if-place-clauses.false)) k in
-    ?
+    let k = get_inside c.args.self.now.assumed.items (c.args.number - length c.args.self.now.theory.clauses.now) q.0 q.1 in
+    let z = c.in-None.ensures.lookup.0 in
+    let v = ap length c.deref.ensures.value in
+    absurd (grind (arith, nat_tests, k, z, v))

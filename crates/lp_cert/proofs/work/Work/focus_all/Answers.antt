@@ -1,6 +1,6 @@
-use Rattle.std.proofs.Common.{arith, ◌∙◌, ◌∷◌, refl, subst, sym}
+use Rattle.std.proofs.Common.{arith, ◌∙◌, ◌∷◌, refl, subst, sym, ◌≡◌}
 use Rattle.lp_term.proofs.Trees.{extends-trans, extends_same}
-use Rattle.lp_term.specs.Nodes.{tree, type_tree}
+use Rattle.lp_term.specs.Nodes.{tree, type_tree, Extends, Nodes}
 use Rattle.lp_cert.specs.Run.{focusing}
 use Rattle.lp_cert.proofs.Later.{applied_later, closed_type_inside}
 use Rattle.lp_cert.proofs.Stepping.{goes_on, stays_with}
@@ -13,6 +13,7 @@ use Rattle.lp_cert.proofs.Ready.{applied_ready, ready_later}
 use Rattle.lp_cert.proofs.Nodewise.{binder_type, further, other_ready, witness_read}
 use Rattle.lp_cert.specs.Written.{focus_witness}
 use Rattle.lp_cert.specs.declared.work.Task.TheVariants as task
+use Rattle.lp_calculus.specs.Term.{app}
 use Rattle.lp_cert.proofs.work.Work.focus_all.Goals as goal
 
 pub returns-clause-goes : goal.returns-clause-goes
@@ -43,7 +44,7 @@ returns-clause-turned c = pushed_turned c.focus_on.result _ _ c.focus_on.ensures
     let s = extends_same c.args.bank.now in
     let t = binder_type c.args.bank.now c.args.clause c.in-Some.body c.in-Some.of _ (c.in-Some.ensures.later c.args.bank.now s) g c.in-Some.ensures.inside in
     let value = other_ready c.args.bank.now _ c.args.value _ long l (c.in_ok-is_witness.ensures.closed c.if-not-branch.false) in
-    let made = λ b h. applied_later _ _ b c.in-Some.body.0 c.args.value.0 c.in_ok-next.next.0 off h (further _ _ c.in-Some.body on c.in-Some.ensures.inside) (c.in_ok-is_witness.ensures.inside c.if-not-branch.false) c.in_ok-next.ensures.within c.in_ok-next.ensures.tree in
+    let made : (b : Nodes) → Extends c.put_applied.new.bank b → tree b c.in_ok-next.next.0 ≡ app (tree b c.in-Some.body.0) (tree b c.args.value.0) = λ b h. applied_later _ _ b c.in-Some.body.0 c.args.value.0 c.in_ok-next.next.0 off h (further _ _ c.in-Some.body on c.in-Some.ensures.inside) (c.in_ok-is_witness.ensures.inside c.if-not-branch.false) c.in_ok-next.ensures.within c.in_ok-next.ensures.tree in
     goes_to c.args.bank.now _ c.args.self.now c.is_witness.new.self c.focus_on.new.self (λ b. focusing (tree b c.args.clause.0) (tree b c.args.atom.0)) (λ b. focus_witness (tree b c.args.value.0)) long c.in_ok-is_witness.ensures.stays (task.Focus c.in_ok-next.next c.args.atom) p w
     (applied_ready _ c.in_ok-next.next c.in-Some.body c.args.value (made _ (extends_same _)) c.in_ok-next.ensures.within (ready_later _ _ c.in-Some.body long t.0) value, ready_later _ _ c.args.atom long d)
     (λ b h at. (type_tree b c.in-Some.of.0, tree b c.in-Some.body.0, c.in-Some.ensures.later b (extends-trans _ _ _ long h), c.in_ok-is_witness.ensures.witness c.if-not-branch.false b (extends-trans _ _ _ off h), subst (λ X. At b c.focus_on.new.self (types_in b c.args.self.now.eigens.items) (terms_in b c.args.self.now.assumed.items) (focusing X (tree b c.args.atom.0) ∷ jobs_of b c.args.self.now.tasks.items)) (made b h) at)))

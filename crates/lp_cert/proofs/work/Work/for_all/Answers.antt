@@ -1,7 +1,7 @@
-use Rattle.std.proofs.Common.{arith, ap, ◌∙◌, ◌∷◌, refl, subst, sym, suc, length, ◌++◌, []}
+use Rattle.std.proofs.Common.{arith, ap, ◌∙◌, ◌∷◌, refl, subst, sym, suc, length, ◌++◌, [], ◌≡◌}
 use Rattle.lp_term.proofs.Trees.{extends-trans, extends_same}
 use Rattle.lp_calculus.specs.Term.{app, atom, eigen}
-use Rattle.lp_term.specs.Nodes.{tree, type_tree, Nodes}
+use Rattle.lp_term.specs.Nodes.{tree, type_tree, Nodes, Extends}
 use Rattle.lp_cert.proofs.Later.{applied_later, closed_type_inside}
 use Rattle.lp_cert.proofs.Stepping.{goes_on}
 use Rattle.lp_cert.proofs.Going.{all_goes}
@@ -40,10 +40,10 @@ returns-clause-turned c = pushed_turned c.go_on.result _ _ c.go_on.ensures.pushe
     let long = extends-trans _ _ _ on off in
     let s = extends_same c.args.bank.now in
     let t = binder_type c.args.bank.now c.args.goal c.in-Some.body c.in-Some.of _ (c.in-Some.ensures.later c.args.bank.now s) g c.in-Some.ensures.inside in
-    let made = λ b h. applied_later _ _ b c.in-Some.body.0 c.in_ok-eigen.eigen.0 c.in_ok-next.next.0 off h (further _ _ c.in-Some.body on c.in-Some.ensures.inside) c.in_ok-eigen.ensures.within c.in_ok-next.ensures.within c.in_ok-next.ensures.tree in
-    let new_one = λ b h. (extends-trans _ _ _ off h).same_terms c.in_ok-eigen.eigen.0 c.in_ok-eigen.ensures.within ∙ c.in_ok-eigen.ensures.tree in
+    let made : (b : Nodes) → Extends c.put_applied.new.bank b → tree b c.in_ok-next.next.0 ≡ app (tree b c.in-Some.body.0) (tree b c.in_ok-eigen.eigen.0) = λ b h. applied_later _ _ b c.in-Some.body.0 c.in_ok-eigen.eigen.0 c.in_ok-next.next.0 off h (further _ _ c.in-Some.body on c.in-Some.ensures.inside) c.in_ok-eigen.ensures.within c.in_ok-next.ensures.within c.in_ok-next.ensures.tree in
+    let new_one : (b : Nodes) → Extends c.put_applied.new.bank b → tree b c.in_ok-eigen.eigen.0 ≡ atom (eigen c.in-Some-checked_add.level) = λ b h. (extends-trans _ _ _ off h).same_terms c.in_ok-eigen.eigen.0 c.in_ok-eigen.ensures.within ∙ c.in_ok-eigen.ensures.tree in
     let type_is = long.same_types c.in-Some.of.0 (closed_type_inside c.args.bank.now c.in-Some.of.0 t.1) in
-    let level_is = λ (b : Nodes). level_counted b c.args.self.now.eigens.items c.in-Some-checked_add.level (omega (arith, c.in-Some-checked_add.ensures.1, c.level.ensures)) in
+    let level_is : (b : Nodes) → c.in-Some-checked_add.level ≡ suc (length (types_in b c.args.self.now.eigens.items)) = λ b. level_counted b c.args.self.now.eigens.items c.in-Some-checked_add.level (omega (arith, c.in-Some-checked_add.ensures.1, c.level.ensures)) in
     goes_under_eigen c.args.bank.now _ c.args.self.now _ c.go_on.new.self (λ b. proving (tree b c.args.goal.0)) (λ b. general) c.in-Some.of (task.Prove c.in_ok-next.next) long
     (record { theory = refl; eigens = c.in_ok-push.ensures.items; assumed = refl; tasks = c.in_ok-push-2.ensures.items }) p w (subst IsClosedType (sym type_is) t.1)
     (applied_ready _ c.in_ok-next.next c.in-Some.body c.in_ok-eigen.eigen (made _ (extends_same _)) c.in_ok-next.ensures.within (ready_later _ _ c.in-Some.body long t.0) (eigen_ready _ c.in_ok-eigen.eigen _ (further _ _ c.in_ok-eigen.eigen off c.in_ok-eigen.ensures.within) (new_one _ (extends_same _))))

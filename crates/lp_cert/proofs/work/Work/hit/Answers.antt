@@ -12,6 +12,6 @@ returns-clause-later c = λ e. c.in_ok-compared.ensures.later (c.turn_of-turn.en
 pub returns-clause-turned : goal.returns-clause-turned
 returns-clause-turned c = λ w g d.
     compared_turned (IsTurned c.converts.new.bank c.args.self.now c.converts.new.self (λ b. focusing (tree b c.args.clause.0) (tree b c.args.atom.0)) (λ b. hit)) c.turn_of-turn.result c.in_ok-compared.compared c.turn_of-turn.ensures.on c.turn_of-turn.ensures.no c.turn_of-turn.ensures.deep
-    (λ e. is_done c.args.bank.now _ c.args.self.now c.converts.new.self c.converts.new.self _ _ c.in_ok-compared.ensures.kept c.in_ok-compared.ensures.stays refl w (λ b h at. (c.in_ok-compared.ensures.later e b h, at)))
+    (λ e. is_done c.args.bank.now _ c.args.self.now c.converts.new.self c.converts.new.self (λ b. focusing (tree b c.args.clause.0) (tree b c.args.atom.0)) (λ b. hit) c.in_ok-compared.ensures.kept c.in_ok-compared.ensures.stays refl w (λ b h at. (c.in_ok-compared.ensures.later e b h, at)))
     (λ e b h k. c.in_ok-compared.ensures.differ e g d b h k.0)
     (λ e b h. c.in_ok-compared.ensures.deep e g d b h)

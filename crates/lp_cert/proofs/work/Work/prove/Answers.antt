@@ -1,4 +1,4 @@
-use Rattle.std.proofs.Common.{◌≡◌, subst, refl, ◌⊎◌}
+use Rattle.std.proofs.Common.{◌≡◌, subst, refl, ◌⊎◌, length}
 use Rattle.std.specs.Prelude.{Ok, IfOk}
 use Rattle.lp_term.specs.Nodes.{Nodes, Extends, tree}
 use Rattle.lp_model.specs.declared.certificate.ProofNode.TheVariants as node
@@ -12,7 +12,8 @@ use Rattle.lp_cert.proofs.Going.{goes_beside, truth_goes, equated_goes, counted_
 use Rattle.lp_cert.proofs.Turning.{as_it_is, computed_turned, is_done, plainly, turned_as, where_turned}
 use Rattle.lp_term.proofs.Trees.{extends_same}
 use Rattle.lp_standard.specs.Connectives.{cut, truth}
-use Rattle.lp_cert.specs.inner.Turned.{IsTurned}
+use Rattle.lp_cert.specs.inner.Turned.{IsTurned, IsReady, IsReadyWork}
+use Rattle.lp_cert.specs.Facts.{AreInside}
 use Rattle.lp_cert.proofs.work.Work.prove.Goals as goal
 
 pub returns-in-Conv-clause-goes : goal.returns-in-Conv-clause-goes
@@ -61,7 +62,8 @@ pub returns-in-Some-clause-turned : goal.returns-in-Some-clause-turned
 returns-in-Some-clause-turned c = turned_as c.witnessed.result c.args.bank.now c.witnessed.new.bank c.args.self.now c.witnessed.new.self (λ b. proving (tree b c.args.goal.0)) c.args.node.now (node.Some c.in-Some.value) c.in-Some.is _ _ c.witnessed.ensures.turned
 
 pub returns-in-Back-clause-turned : goal.returns-in-Back-clause-turned
-returns-in-Back-clause-turned c = turned_as c.back.result c.args.bank.now c.back.new.bank c.args.self.now c.back.new.self (λ b. proving (tree b c.args.goal.0)) c.args.node.now (node.Back c.in-Back.number c.in-Back.types) c.in-Back.is _ _ ?
+returns-in-Back-clause-turned c = turned_as c.back.result c.args.bank.now c.back.new.bank c.args.self.now c.back.new.self (λ b. proving (tree b c.args.goal.0)) c.args.node.now (node.Back c.in-Back.number c.in-Back.types) c.in-Back.is _ _
+    (subst (λ ts. IfOk c.back.result (λ turn. IsReadyWork c.args.bank.now c.args.self.now → IsReady c.args.bank.now c.args.goal → AreInside (length c.args.bank.now.types) ts → IsTurned c.back.new.bank c.args.self.now c.back.new.self (λ b. proving (tree b c.args.goal.0)) (λ b. back_to c.in-Back.number (types_in b ts)) turn)) c.as_slice.ensures.value c.back.ensures.turned)
 
 pub returns-in-And-clause-turned : goal.returns-in-And-clause-turned
 returns-in-And-clause-turned c = turned_as c.both.result c.args.bank.now c.args.bank.now c.args.self.now c.both.new.self (λ b. proving (tree b c.args.goal.0)) c.args.node.now node.And c.in-And.is _ _ (plainly c.both.result _ _ _ c.both.ensures.turned)
@@ -84,7 +86,7 @@ returns-in-Equal-clause-turned c = turned_as c.equal.result c.args.bank.now c.eq
 pub returns-in-True-clause-turned : goal.returns-in-True-clause-turned
 returns-in-True-clause-turned c = turned_as (Ok c.turn_where.result) c.args.bank.now c.args.bank.now c.args.self.now c.args.self.now (λ b. proving (tree b c.args.goal.0)) c.args.node.now node.True c.in-True.is _ _ (λ w g u.
     where_turned (IsTurned c.args.bank.now c.args.self.now c.args.self.now (λ b. proving (tree b c.args.goal.0)) (λ b. trivial)) c.turn_where.result _ c.turn_where.ensures.on c.turn_where.ensures.no c.turn_where.ensures.deep
-    (λ e. is_done c.args.bank.now c.args.bank.now c.args.self.now c.args.self.now c.args.self.now _ _ (extends_same c.args.bank.now) (as_it_is c.args.self.now) refl w (λ b h at. (c.is_trivial.ensures.yes e b h, at)))
+    (λ e. is_done c.args.bank.now c.args.bank.now c.args.self.now c.args.self.now c.args.self.now (λ b. proving (tree b c.args.goal.0)) (λ b. trivial) (extends_same c.args.bank.now) (as_it_is c.args.self.now) refl w (λ b h at. (c.is_trivial.ensures.yes e b h, at)))
     (λ e b h k. c.is_trivial.ensures.no e (subst (λ t. (t ≡ truth) ⊎ (t ≡ cut)) (h.same_terms c.args.goal.0 g.0) k.0)))
 
 pub returns-in-Arith-clause-turned : goal.returns-in-Arith-clause-turned
