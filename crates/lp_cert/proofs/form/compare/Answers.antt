@@ -6,6 +6,7 @@ use Rattle.lp_cert.proofs.Verdicts.{if_ok_always}
 use Rattle.lp_term.proofs.Trees.{extends_same}
 use Rattle.lp_cert.proofs.Matching.{forms_differ, never_deep, no_form_is, one_is_large, ready_loose}
 use Rattle.lp_cert.proofs.Ready.{ready_later}
+use Rattle.lp_cert.specs.declared.form.Formed.TheVariants as formed
 use Rattle.lp_cert.proofs.form.compare.Goals as goal
 
 pub returns-clause-same : goal.returns-clause-same
@@ -34,11 +35,11 @@ returns-in_default-clause-deep c = λ e l m.
 pub returns-in_default-second-clause-differ : goal.returns-in_default-second-clause-differ
 returns-in_default-second-clause-differ c = λ e r s k.
     let on = c.in_ok-first.ensures.kept in
-    no_form_is c.in_ok-first.first c.in_ok-second.second (λ o. c.in_ok-first.ensures.open o r.0 (ready_loose _ _ c.args.left (extends_same _) r)) (λ o. c.in_ok-second.ensures.open o (ready_later _ _ c.args.right on s).0 (ready_loose _ _ c.args.right on s)) (λ x y f g. c.in_default-second.not-Is y g) (c.without_form-in_default-second.ensures.differ e)
+    no_form_is (formed.Is c.in-Is.one) c.in_ok-second.second (λ o. absurd (cc)) (λ o. c.in_ok-second.ensures.open o (ready_later _ _ c.args.right on s).0 (ready_loose _ _ c.args.right on s)) (λ x y f g. c.in_default-second.not-Is y g) (c.without_form-in_default-second.ensures.differ e)
 
 pub returns-in_default-second-clause-deep : goal.returns-in_default-second-clause-deep
 returns-in_default-second-clause-deep c = λ e l m.
-    one_is_large (tree c.args.bank.now c.args.left.0) (tree c.args.bank.now c.args.right.0) c.form_of.new.bank c.form_of-2.new.bank c.in_ok-first.first c.in_ok-second.second c.in_ok-first.ensures.formed (subst (λ x. IsFormed x c.form_of-2.new.bank c.in_ok-second.second) (c.in_ok-first.ensures.kept.same_terms c.args.right.0 m) c.in_ok-second.ensures.formed) (c.without_form-in_default-second.ensures.deep e)
+    one_is_large (tree c.args.bank.now c.args.left.0) (tree c.args.bank.now c.args.right.0) c.form_of.new.bank c.form_of-2.new.bank (formed.Is c.in-Is.one) c.in_ok-second.second (subst (IsFormed (tree c.args.bank.now c.args.left.0) c.form_of.new.bank) c.in-Is.is c.in_ok-first.ensures.formed) (subst (λ x. IsFormed x c.form_of-2.new.bank c.in_ok-second.second) (c.in_ok-first.ensures.kept.same_terms c.args.right.0 m) c.in_ok-second.ensures.formed) (c.without_form-in_default-second.ensures.deep e)
 
 pub returns-clause-differ : goal.returns-clause-differ
 returns-clause-differ c =
