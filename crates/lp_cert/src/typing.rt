@@ -1,5 +1,5 @@
 // Whether a closed term has a type: the equations of its nodes have a solution.
-ghost use Rattle.std.specs.Prelude.{◌≡◌, ◌<◌, ◌≤◌, ℕ, suc, List, [], ◌∷◌, length, map, All, IfOk, OnOk, None, true, false};
+ghost use Rattle.std.specs.Prelude.{◌≡◌, ◌<◌, ◌≤◌, ℕ, suc, List, [], ◌∷◌, length, map, All, IfOk, OnOk, true, false};
 ghost use Rattle.lp_calculus.specs.Types.{Ty, var, con, no_types};
 ghost use Rattle.lp_calculus.specs.Term.{apply, index, atom, abs, constant, eigen};
 ghost use Rattle.lp_calculus.specs.Closed.{AllAtoms, AreClosed, IsClosedType};

@@ -1,5 +1,5 @@
 -- What is left to do of a typing, and the types that it comes to.
-use Rattle.std.specs.Prelude.{◌≡◌, ℕ, suc, ◌<◌, List, [], ◌∷◌, ◌++◌, map, reverse, length, All, Option, Bool, true}
+use Rattle.std.specs.Prelude.{◌≡◌, ℕ, ◌<◌, List, [], ◌∷◌, ◌++◌, map, reverse, length, All, Option, Bool, true}
 use Rattle.lp_calculus.specs.Types.{Ty, arrow, instance}
 use Rattle.lp_calculus.specs.Term.{Term, Atom}
 use Rattle.lp_calculus.specs.Closed.{AllAtoms, AreClosed}
