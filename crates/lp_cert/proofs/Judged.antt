@@ -1,5 +1,6 @@
 -- What a run over the nodes of a certificate says of it.
 use Rattle.std.proofs.Common.{◌≡◌, ℕ, zero, suc, ◌-◌, ◌<◌, ◌≤◌, List, [], ◌∷◌, ◌++◌, map, length, take, drop, refl, sym, ap, subst, ◌∙◌, arith, true, false, get_or}
+use Rattle.std.proofs.Common.{Global, Vec}
 use Rattle.std.specs.Prelude.{Result, Ok, Err, IfOk, All, Some, slice_get, min}
 use Rattle.std.proofs.Math.Path.{transport}
 use Rattle.std.proofs.lemmas.List.{append_assoc}
@@ -204,6 +205,10 @@ nodes_later a b ns g h = All-weaker (IsNodeInside a) (IsNodeInside b) (λ n l. n
 -- the node at a place
 pub node_inside : (a b : Nodes) (nodes : List ProofNode) (i : ℕ) (x : ProofNode) → Extends a b → i < length nodes → x ≡ get_or nodes i x → All (IsNodeInside a) nodes → IsNodeInside b x
 node_inside a b nodes i x g l e h = node_later a b x g (subst (IsNodeInside a) (sym e) (All-get_or (IsNodeInside a) nodes i x l h))
+
+-- the work with other tasks
+abbrev pub pushed_to : Work → Vec Task Global → Work
+pushed_to w ts = record { alloc = w.alloc; theory = w.theory; known = w.known; eigens = w.eigens; assumed = w.assumed; tasks = ts }
 
 -- at the beginning
 pub idle_pushed : (b : Nodes) (old new : Work) (goal : TermId) → IsIdle old → Pushes old new (task.Prove goal) → At b new [] [] (proving (tree b goal.0) ∷ [])

@@ -2,7 +2,7 @@ use Rattle.std.proofs.Common.{◌∙◌, ap, arith, add-one, length, refl, subst
 use Rattle.std.proofs.Math.Path.{transport}
 use Rattle.std.proofs.lemmas.List.Elements.{All-nil}
 use Rattle.lp_term.proofs.Trees.{extends_same, extends-trans}
-use Rattle.lp_cert.specs.inner.Left.{CertifiesIn}
+use Rattle.lp_cert.specs.inner.Left.{CertifiesIn, IsIdle}
 use Rattle.lp_cert.proofs.Naming.{certified_next, certified_whole, certified_on}
 use Rattle.std.specs.Prelude.{All}
 use Rattle.lp_cert.specs.Inside.{AreDeclaredInside}
@@ -32,22 +32,22 @@ pub returns-in-No-clause-rejected : goal.returns-in-No-clause-rejected
 returns-in-No-clause-rejected c = λ n e cs ds q k.
     let of_new = c.new-work.ensures.theory in
     let kept = c.loop-certificate.invariant.kept in
-    let idle = record { eigens = c.new-work.ensures.eigens; assumed = c.new-work.ensures.assumed; tasks = c.new-work.ensures.tasks } in
+    let idle : IsIdle c.new-work.result = record { eigens = c.new-work.ensures.eigens; assumed = c.new-work.ensures.assumed; tasks = c.new-work.ensures.tasks } in
     let constants = ap (λ t. t.constants.now) of_new ∙ c.of-theory.ensures.constants in
     let clauses = ap (λ t. t.clauses.now) of_new ∙ c.of-theory.ensures.clauses in
     stops_at _ _ c.args.certificates.now c.loop-certificate.certificate-index n c.certificate-item.result (omega (arith, c.loop-certificate-test.true)) c.certificate-item.is (let q = rejected_number _ n e in omega (arith, q, c.saturating_add-number.ensures, c.loop-certificate.invariant.number))
     (certified_on c.loop-certificate.bank c.certifies.new.bank c.args.names.now.program.constants.items c.args.names.now.program.clauses.items c.args.query.now (take c.loop-certificate.certificate-index c.args.certificates.now) c.in_ok-turn.ensures.kept c.loop-certificate.invariant.certified)
-    (λ b h. refused_by b _ c.args.query.now c.certificate-item.result _ _ constants clauses (c.in_ok-turn.ensures.refused c.in-No.is idle (begins_ready c.args.bank.now c.loop-certificate.bank _ kept idle (subst (AreDeclaredInside (length c.args.bank.now.types)) (sym constants) cs) (subst (All (IsClauseInside c.args.bank.now)) (sym clauses) ds))
+    (λ b h. refused_by b c.new-work.result c.args.query.now c.certificate-item.result _ _ constants clauses (c.in_ok-turn.ensures.refused c.in-No.is idle (begins_ready c.args.bank.now c.loop-certificate.bank c.new-work.result kept idle (subst (AreDeclaredInside (length c.args.bank.now.types)) (sym constants) cs) (subst (All (IsClauseInside c.args.bank.now)) (sym clauses) ds))
         (query_later c.args.bank.now c.loop-certificate.bank c.args.query.now kept q) (certificate_inside c.args.bank.now c.loop-certificate.bank c.args.certificates.now c.loop-certificate.certificate-index c.certificate-item.result kept (omega (arith, c.loop-certificate-test.true)) c.certificate-item.is k) b h))
 
 pub returns-in-Deep-clause-deep : goal.returns-in-Deep-clause-deep
 returns-in-Deep-clause-deep c = λ n e cs ds q k.
     let of_new = c.new-work.ensures.theory in
     let kept = c.loop-certificate.invariant.kept in
-    let idle = record { eigens = c.new-work.ensures.eigens; assumed = c.new-work.ensures.assumed; tasks = c.new-work.ensures.tasks } in
+    let idle : IsIdle c.new-work.result = record { eigens = c.new-work.ensures.eigens; assumed = c.new-work.ensures.assumed; tasks = c.new-work.ensures.tasks } in
     let constants = ap (λ t. t.constants.now) of_new ∙ c.of-theory.ensures.constants in
     let clauses = ap (λ t. t.clauses.now) of_new ∙ c.of-theory.ensures.clauses in
     stops_at _ _ c.args.certificates.now c.loop-certificate.certificate-index n c.certificate-item.result (omega (arith, c.loop-certificate-test.true)) c.certificate-item.is (let q = deep_number _ n e in omega (arith, q, c.saturating_add-number.ensures, c.loop-certificate.invariant.number))
     (certified_on c.loop-certificate.bank c.certifies.new.bank c.args.names.now.program.constants.items c.args.names.now.program.clauses.items c.args.query.now (take c.loop-certificate.certificate-index c.args.certificates.now) c.in_ok-turn.ensures.kept c.loop-certificate.invariant.certified)
-    (λ b h. large_by b _ c.args.query.now c.certificate-item.result _ _ constants clauses (c.in_ok-turn.ensures.large c.in-Deep.is idle (begins_ready c.args.bank.now c.loop-certificate.bank _ kept idle (subst (AreDeclaredInside (length c.args.bank.now.types)) (sym constants) cs) (subst (All (IsClauseInside c.args.bank.now)) (sym clauses) ds))
+    (λ b h. large_by b c.new-work.result c.args.query.now c.certificate-item.result _ _ constants clauses (c.in_ok-turn.ensures.large c.in-Deep.is idle (begins_ready c.args.bank.now c.loop-certificate.bank c.new-work.result kept idle (subst (AreDeclaredInside (length c.args.bank.now.types)) (sym constants) cs) (subst (All (IsClauseInside c.args.bank.now)) (sym clauses) ds))
         (query_later c.args.bank.now c.loop-certificate.bank c.args.query.now kept q) (certificate_inside c.args.bank.now c.loop-certificate.bank c.args.certificates.now c.loop-certificate.certificate-index c.certificate-item.result kept (omega (arith, c.loop-certificate-test.true)) c.certificate-item.is k) b h))
