@@ -4,9 +4,12 @@ pub mod Facts
 pub mod Filling
 pub mod Reading
 pub mod Refusing
+pub mod Inside
+pub mod Run
 pub mod Same
 pub mod Spellable
 pub mod Spelling
 pub mod Written
 pub mod Shape
+pub mod Standing
 pub mod inner

@@ -7,3 +7,4 @@ pub mod Parts
 pub mod Put
 pub mod Tops
 pub mod Waiting
+pub mod Turned
