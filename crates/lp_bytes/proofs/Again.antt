@@ -1,6 +1,5 @@
 -- What is spelled is read again.
 use Rattle.std.proofs.Common.{◌≡◌, ℕ, zero, suc, ◌+◌, ◌^◌, ◌<◌, ◌≤◌, Bool, true, false, cond, ltb, eqb, ℤ, List, [], ◌∷◌, ◌++◌, length, get_or, take, drop, Result, Ok, Err, refl, sym, ap, subst, ◌∙◌, append_assoc, arith}
-
 use Rattle.std.specs.Str.{bytes_eq}
 use Rattle.std.specs.Int.{w16, w32, w64, to_le_bytes, from_le_bytes, cast_unsigned, cast_signed}
 use Rattle.std.specs.List.{flat_map, AllByRecursion}
@@ -73,7 +72,7 @@ each_again f spell P k [] before s rest h e = (s, ap (λ ys. Ok (ys, s)) (sym (a
 each_again {A = A} f spell P k (x ∷ xs) before s rest h e =
     let more = λ (y : A × Left). each_at f (before ++ y.0 ∷ []) (length xs) y.1 in
     bind_runs (f before s) more x (flat_map spell xs ++ rest) (before ++ x ∷ xs) rest (k before x s (flat_map spell xs ++ rest) h.0 (next s (spell x) (flat_map spell xs) rest e))
-      (λ t i. let r = each_again f spell P k xs (before ++ x ∷ []) t rest h.1 i in (r.0, r.1 ∙ ap (λ ys. Ok (ys, r.0)) (append_assoc before (x ∷ []) xs), r.2))
+    (λ t i. let r = each_again f spell P k xs (before ++ x ∷ []) t rest h.1 i in (r.0, r.1 ∙ ap (λ ys. Ok (ys, r.0)) (append_assoc before (x ∷ []) xs), r.2))
 
 pub nested_again : {S A : Type 0} (f : S → Left → Read A) (below : A → List S) (spell : A → List ℕ) (P : S → A → Type 0) → ((sort : S) (x : A) (s : Left) (rest : List ℕ) → P sort x → s.rest ≡ spell x ++ rest → Runs (f sort s) x rest)
     → (xs before : List A) (n : ℕ) (to_come : List S) (s : Left) (rest : List ℕ) → AreWhole below P to_come xs → length xs < n → s.rest ≡ flat_map spell xs ++ rest → Runs (nested_at f below before n to_come s) (before ++ xs) rest
@@ -85,7 +84,7 @@ nested_again f below spell P k [] before (suc n) (sort ∷ to_come) s rest h lt 
 nested_again {A = A} f below spell P k (x ∷ xs) before (suc n) (sort ∷ to_come) s rest h lt e =
     let more = λ (y : A × Left). nested_at f below (before ++ y.0 ∷ []) n (below y.0 ++ to_come) y.1 in
     bind_runs (f sort s) more x (flat_map spell xs ++ rest) (before ++ x ∷ xs) rest (k sort x s (flat_map spell xs ++ rest) h.0 (next s (spell x) (flat_map spell xs) rest e))
-      (λ t i. let r = nested_again f below spell P k xs (before ++ x ∷ []) n (below x ++ to_come) t rest h.1 (omega (arith, lt)) i in (r.0, r.1 ∙ ap (λ ys. Ok (ys, r.0)) (append_assoc before (x ∷ []) xs), r.2))
+    (λ t i. let r = nested_again f below spell P k xs (before ++ x ∷ []) n (below x ++ to_come) t rest h.1 (omega (arith, lt)) i in (r.0, r.1 ∙ ap (λ ys. Ok (ys, r.0)) (append_assoc before (x ∷ []) xs), r.2))
 
 pub magic_again : (m : List ℕ) (s : Left) (rest : List ℕ) → length m ≡ 4 → s.rest ≡ m ++ rest → (t : Left) × (magic_at m s ≡ Ok t) × (t.rest ≡ rest)
 unfolding magic_at

@@ -62,7 +62,7 @@ module _ {S A : Type 0} (f : S → Left → Read A) (below : A → List S) where
       let n = most - (i + 1) in
       let r = f sort s in
       fails_so e (r >>= λ y. nested_at f below (xs ++ y.0 ∷ []) n (below y.0 ++ to_come) y.1) total (sym so_far ∙ (λ j. nested_at f below xs (k j) (is j) s) ∙ step xs n sort to_come s)
-        (fails_then e r (λ y. nested_at f below (xs ++ y.0 ∷ []) n (below y.0 ++ to_come) y.1) h)
+      (fails_then e r (λ y. nested_at f below (xs ++ y.0 ∷ []) n (below y.0 ++ to_come) y.1) h)
 
   none_to_come : (xs : List A) (n : ℕ) (s : Left) → nested_at f below xs n [] s ≡ Ok (xs, s)
   unfolding nested_at

@@ -1,6 +1,5 @@
 -- What is read is spelled so.
 use Rattle.std.proofs.Common.{◌≡◌, ℕ, zero, suc, ◌+◌, ◌^◌, ◌<◌, ◌≤◌, Bool, true, false, cond, ltb, eqb, ℤ, List, [], ◌∷◌, ◌++◌, length, get_or, take, drop, Result, Ok, Err, refl, sym, ap, subst, ◌∙◌, append_assoc, arith, inl, inr, ◌⊎◌}
-
 use Rattle.std.specs.Str.{bytes_eq}
 use Rattle.lp_lemmas.proofs.Booleans.{bytes_eq_true}
 use Rattle.std.specs.Int.{w16, w32, w64, to_le_bytes, from_le_bytes, cast_unsigned, cast_signed}
@@ -78,7 +77,7 @@ field_takes n s x t h e =
     let long : n ≤ length s.rest = ltb-false _ _ g.0 in
     let same = ok_is (take n s.rest, left (s.at + n) (drop n s.rest)) (x, t) g.1 in
     subst (λ (p : List ℕ × Left). Takes s p.0 p.1 × (length p.0 ≡ n) × IsBytes p.0) same
-      (record { parts = sym (take-append-drop n s.rest); bytes = IsBytes-drop n s.rest h }, omega (arith, length-take n s.rest), IsBytes-take n s.rest h)
+    (record { parts = sym (take-append-drop n s.rest); bytes = IsBytes-drop n s.rest h }, omega (arith, length-take n s.rest), IsBytes-take n s.rest h)
 
 single : (x : List ℕ) → length x ≡ 1 → x ≡ get_or x 0 0 ∷ []
 single [] e = absurd (omega (arith, e))
@@ -98,7 +97,7 @@ two_takes s n t h e =
     let a = bind_ok (field 2 s) (λ x. Ok (from_le_bytes w16 x.0, x.1)) (n, t) e in
     let f = field_takes 2 s a.0.0 a.0.1 h a.1 in
     subst (λ (p : ℕ × Left). Takes s (spelled_two p.0) p.1 × (p.0 < 2 ^ 16)) (ok_is (from_le_bytes w16 a.0.0, a.0.1) (n, t) a.2)
-      (takes_as s a.0.0 (spelled_two (from_le_bytes w16 a.0.0)) a.0.1 (sym (le_bytes_2 a.0.0 (from_le_bytes w16 a.0.0) f.1 f.2 refl)) f.0, omega (arith, f.2 0, f.2 1))
+    (takes_as s a.0.0 (spelled_two (from_le_bytes w16 a.0.0)) a.0.1 (sym (le_bytes_2 a.0.0 (from_le_bytes w16 a.0.0) f.1 f.2 refl)) f.0, omega (arith, f.2 0, f.2 1))
 
 pub four_takes : (s : Left) (n : ℕ) (t : Left) → IsBytes s.rest → four_at s ≡ Ok (n, t) → Takes s (spelled_four n) t × (n < 2 ^ 32)
 unfolding four_at
@@ -106,7 +105,7 @@ four_takes s n t h e =
     let a = bind_ok (field 4 s) (λ x. Ok (from_le_bytes w32 x.0, x.1)) (n, t) e in
     let f = field_takes 4 s a.0.0 a.0.1 h a.1 in
     subst (λ (p : ℕ × Left). Takes s (spelled_four p.0) p.1 × (p.0 < 2 ^ 32)) (ok_is (from_le_bytes w32 a.0.0, a.0.1) (n, t) a.2)
-      (takes_as s a.0.0 (spelled_four (from_le_bytes w32 a.0.0)) a.0.1 (sym (le_bytes_4 a.0.0 (from_le_bytes w32 a.0.0) f.1 f.2 refl)) f.0, omega (arith, f.2 0, f.2 1, f.2 2, f.2 3))
+    (takes_as s a.0.0 (spelled_four (from_le_bytes w32 a.0.0)) a.0.1 (sym (le_bytes_4 a.0.0 (from_le_bytes w32 a.0.0) f.1 f.2 refl)) f.0, omega (arith, f.2 0, f.2 1, f.2 2, f.2 3))
 
 pub integer_takes : (s : Left) (z : ℤ) (t : Left) → IsBytes s.rest → integer_at s ≡ Ok (z, t) → Takes s (spelled_integer z) t × (cast_signed w64 (cast_unsigned w64 z) ≡ z) × (cast_unsigned w64 z < 2 ^ 64)
 unfolding integer_at
@@ -117,7 +116,7 @@ integer_takes s z t h e =
     let lt : n < 2 ^ 64 = omega (arith, f.2 0, f.2 1, f.2 2, f.2 3, f.2 4, f.2 5, f.2 6, f.2 7) in
     let same : cast_unsigned w64 (cast_signed w64 n) ≡ n = of_z-to_z w64 n lt in
     subst (λ (p : ℤ × Left). Takes s (spelled_integer p.0) p.1 × (cast_signed w64 (cast_unsigned w64 p.0) ≡ p.0) × (cast_unsigned w64 p.0 < 2 ^ 64)) (ok_is (cast_signed w64 n, a.0.1) (z, t) a.2)
-      (takes_as s a.0.0 (spelled_integer (cast_signed w64 n)) a.0.1 (sym (le_bytes_8 a.0.0 n f.1 f.2 refl) ∙ ap (λ m. to_le_bytes w64 m) (sym same)) f.0, ap (cast_signed w64) same, omega (arith, same, lt))
+    (takes_as s a.0.0 (spelled_integer (cast_signed w64 n)) a.0.1 (sym (le_bytes_8 a.0.0 n f.1 f.2 refl) ∙ ap (λ m. to_le_bytes w64 m) (sym same)) f.0, ap (cast_signed w64) same, omega (arith, same, lt))
 
 pub long_text_takes : (s : Left) (x : List ℕ) (t : Left) → IsBytes s.rest → long_text_at s ≡ Ok (x, t) → Takes s (spelled_long_text x) t × (length x < 2 ^ 32)
 unfolding long_text_at spelled_long_text
@@ -135,7 +134,7 @@ pub each_take : {A : Type 0} (f : List A → Left → Read A) (spell : A → Lis
 unfolding each_at
 each_take {A = A} f spell P k before zero s ys t h e =
     subst (λ (p : List A × Left). (xs : List A) × (p.0 ≡ before ++ xs) × Takes s (flat_map spell xs) p.1 × (length xs ≡ 0) × AllByRecursion P xs) (ok_is (before, s) (ys, t) e)
-      ([], sym (append-nil before), takes_none s h, refl, tt)
+    ([], sym (append-nil before), takes_none s h, refl, tt)
 each_take {A = A} f spell P k before (suc n) s ys t h e =
     let a = bind_ok (f before s) (λ x. each_at f (before ++ x.0 ∷ []) n x.1) (ys, t) e in
     let p = k before s a.0.0 a.0.1 h a.1 in
@@ -151,7 +150,7 @@ unfolding nested_at
 nested_take f below spell P k before zero to_come s ys t h lt e = absurd (omega (arith, lt))
 nested_take {A = A} f below spell P k before (suc n) [] s ys t h lt e =
     subst (λ (p : List A × Left). (xs : List A) × (p.0 ≡ before ++ xs) × Takes s (flat_map spell xs) p.1 × AreWhole below P [] xs) (ok_is (before, s) (ys, t) e)
-      ([], sym (append-nil before), takes_none s h, tt)
+    ([], sym (append-nil before), takes_none s h, tt)
 nested_take f below spell P k before (suc n) (sort ∷ to_come) s ys t h lt e =
     let a = bind_ok (f sort s) (λ x. nested_at f below (before ++ x.0 ∷ []) n (below x.0 ++ to_come) x.1) (ys, t) e in
     let p = k sort s a.0.0 a.0.1 h a.1 in

@@ -25,14 +25,14 @@ use Rattle.lp_cert.proofs.TermsAgain.{read_as, term_again, terms_again}
 
 -- ---- nodes
 
-back_again : (d : Counts) (c : ℕ) (ts : List Ty) (s : Left) (rest : List ℕ) → IsNode d sorts.Proof (back_to c ts) → s.rest ≡ (spelled_four c ++ spelled_two (length ts) ++ flat_map spelled_type ts) ++ rest → Runs (back_at d s) (back_to c ts) rest
+back_again : (d : Counts) (c : ℕ) (ts : List Ty) (s : Left) (rest : List ℕ) → IsNode d sorts.Proof (back_to c ts) → s.rest ≡ (spelled_four c ++ (spelled_two (length ts) ++ flat_map spelled_type ts)) ++ rest → Runs (back_at d s) (back_to c ts) rest
 unfolding back_at
 back_again d c ts s rest h e =
     let T = flat_map spelled_type ts in
     let R = spelled_two (length ts) ++ T in
     bind_runs (four_at s) (λ c. two_at c.1 >>= λ n. as_read (back_to c.0) (types_at d n.0 n.1)) c (R ++ rest) (back_to c ts) rest (four_again c s (R ++ rest) h.0 (next s (spelled_four c) R rest e))
-      (λ t i. bind_runs (two_at t) (λ n. as_read (back_to c) (types_at d n.0 n.1)) (length ts) (T ++ rest) (back_to c ts) rest (two_again (length ts) t (T ++ rest) h.1 (next t (spelled_two (length ts)) T rest i))
-        (λ u j. read_as (back_to c) (types_at d (length ts) u) ts rest (types_again d ts (length ts) u rest refl h.2 j)))
+    (λ t i. bind_runs (two_at t) (λ n. as_read (back_to c) (types_at d n.0 n.1)) (length ts) (T ++ rest) (back_to c ts) rest (two_again (length ts) t (T ++ rest) h.1 (next t (spelled_two (length ts)) T rest i))
+    (λ u j. read_as (back_to c) (types_at d (length ts) u) ts rest (types_again d ts (length ts) u rest refl h.2 j)))
 
 side_again : (b : ℕ) (s : Left) (rest : List ℕ) → b ≤ 1 → s.rest ≡ b ∷ rest → Runs (side_at s) b rest
 unfolding side_at
@@ -57,7 +57,7 @@ node_again d sorts.Proof assuming s rest h e = behind d sorts.Proof 7 assuming s
 node_again d sorts.Proof equated s rest h e = behind d sorts.Proof 8 equated s [] rest e (λ u i. (u, refl, i))
 node_again d sorts.Proof counted s rest h e = behind d sorts.Proof 9 counted s [] rest e (λ u i. (u, refl, i))
 node_again d sorts.Proof (back_to c ts) s rest h e =
-    behind d sorts.Proof 10 (back_to c ts) s (spelled_four c ++ spelled_two (length ts) ++ flat_map spelled_type ts) rest e (λ u i. back_again d c ts u rest h i)
+    behind d sorts.Proof 10 (back_to c ts) s (spelled_four c ++ (spelled_two (length ts) ++ flat_map spelled_type ts)) rest e (λ u i. back_again d c ts u rest h i)
 node_again d sorts.Proof (focus_converted t) s rest h e = absurd h
 node_again d sorts.Proof (focus_witness t) s rest h e = absurd h
 node_again d sorts.Proof (side b) s rest h e = absurd h
@@ -120,13 +120,13 @@ certificate_again d c s rest h e =
     let K = spelled_four (length vs) ++ V in
     let T = flat_map spelled_type ts ++ K in
     bind_runs (four_at s) (λ m. types_at d m.0 m.1 >>= λ ts. four_at ts.1 >>= λ n. terms_at d n.0 n.1 >>= λ vs. proof_at d vs.1 >>= λ ns. Ok (made ts.0 vs.0 ns.0, ns.1)) (length ts) (T ++ rest) c rest
-      (four_again (length ts) s (T ++ rest) h.few_types (next s (spelled_four (length ts)) T rest e))
+    (four_again (length ts) s (T ++ rest) h.few_types (next s (spelled_four (length ts)) T rest e))
     (λ a i. bind_runs (types_at d (length ts) a) (λ ts. four_at ts.1 >>= λ n. terms_at d n.0 n.1 >>= λ vs. proof_at d vs.1 >>= λ ns. Ok (made ts.0 vs.0 ns.0, ns.1)) ts (K ++ rest) c rest
-      (types_again d ts (length ts) a (K ++ rest) refl h.types_fit (next a (flat_map spelled_type ts) K rest i))
+    (types_again d ts (length ts) a (K ++ rest) refl h.types_fit (next a (flat_map spelled_type ts) K rest i))
     (λ b j. bind_runs (four_at b) (λ n. terms_at d n.0 n.1 >>= λ vs. proof_at d vs.1 >>= λ ns. Ok (made c.instance.types vs.0 ns.0, ns.1)) (length vs) (V ++ rest) c rest
-      (four_again (length vs) b (V ++ rest) h.few_values (next b (spelled_four (length vs)) V rest j))
+    (four_again (length vs) b (V ++ rest) h.few_values (next b (spelled_four (length vs)) V rest j))
     (λ f k. bind_runs (terms_at d (length vs) f) (λ vs. proof_at d vs.1 >>= λ ns. Ok (made c.instance.types vs.0 ns.0, ns.1)) vs (N ++ rest) c rest
-      (terms_again d vs (length vs) f (N ++ rest) refl h.values_fit (next f (flat_map spelled_term vs) N rest k))
+    (terms_again d vs (length vs) f (N ++ rest) refl h.values_fit (next f (flat_map spelled_term vs) N rest k))
     (λ g l. bind_runs (proof_at d g) (λ ns. Ok (made c.instance.types c.instance.values ns.0, ns.1)) c.nodes rest c rest (proof_again d c.nodes g rest h.nodes_fit l) (λ u m. (u, refl, m))))))
 
 version_again : (s : Left) (rest : List ℕ) → s.rest ≡ spelled_two 1 ++ rest → (t : Left) × (version_at s ≡ Ok t) × (t.rest ≡ rest)

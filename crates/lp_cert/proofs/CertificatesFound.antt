@@ -53,13 +53,15 @@ back_takes d s x t h e =
     let b = bind_ok (two_at a.0.1) (λ n. as_read (back_to a.0.0) (types_at d n.0 n.1)) (x, t) a.2 in
     let p = four_takes s a.0.0 a.0.1 h a.1 in
     let q = two_takes a.0.1 b.0.0 b.0.1 p.0.bytes b.1 in
-    behind_as d sorts.Proof 10 (back_to a.0.0) (λ ts. spelled_four a.0.0 ++ spelled_two (length ts) ++ flat_map spelled_type ts) (λ ts. (length ts ≡ b.0.0) × AllByRecursion (IsType d) ts) (λ ts. refl)
-      (λ ts k. (p.1, omega (arith, k.0, q.1), k.1)) s (types_at d b.0.0 b.0.1)
-      (λ ts v i.
-        let r = types_take d b.0.0 b.0.1 ts v q.0.bytes i in
-        (takes_then s (spelled_four a.0.0) a.0.1 (spelled_two (length ts) ++ flat_map spelled_type ts) v p.0
-          (takes_then a.0.1 (spelled_two (length ts)) b.0.1 (flat_map spelled_type ts) v (takes_as a.0.1 (spelled_two b.0.0) (spelled_two (length ts)) b.0.1 (ap (λ m. spelled_two m) (sym r.1)) q.0) r.0), r.1, r.2))
-      x t b.2
+    behind_as d sorts.Proof 10 (back_to a.0.0) (λ ts. spelled_four a.0.0 ++ (spelled_two (length ts) ++ flat_map spelled_type ts)) (λ ts. (length ts ≡ b.0.0) × AllByRecursion (IsType d) ts) (λ ts. refl)
+    (λ ts k. (p.1, omega (arith, k.0, q.1), k.1)) s (types_at d b.0.0 b.0.1)
+    (λ ts v i.
+    let r = types_take d b.0.0 b.0.1 ts v q.0.bytes i in (
+      takes_then s (spelled_four a.0.0) a.0.1 (spelled_two (length ts) ++ flat_map spelled_type ts) v p.0
+          (takes_then a.0.1 (spelled_two (length ts)) b.0.1 (flat_map spelled_type ts) v (takes_as a.0.1 (spelled_two b.0.0) (spelled_two (length ts)) b.0.1 (ap (λ m. spelled_two m) (sym r.1)) q.0) r.0),
+      (r.1, r.2),
+    ))
+    x t b.2
 
 side_takes : (s : Left) (b : ℕ) (t : Left) → IsBytes s.rest → side_at s ≡ Ok (b, t) → Takes s (b ∷ []) t × (b ≤ 1)
 unfolding side_at
@@ -84,43 +86,43 @@ goal_node_takes d at tag s x t h e =
     elim (chosen (eqb tag 0) (as_read converted (term_at d s)) from_1 (Ok (x, t)) e) [
       | inl y ↦ behind_tag d sorts.Proof tag 0 s x t (eqb-true _ _ y.0) (behind_term d sorts.Proof 0 converted (λ x. refl) (λ x i. i) s x t h y.1)
       | inr n ↦
-        elim (chosen (eqb tag 1) (done trivial s) from_2 (Ok (x, t)) n.1) [
-          | inl y ↦ behind_tag d sorts.Proof tag 1 s x t (eqb-true _ _ y.0) (behind_alone d sorts.Proof 1 trivial s x t h refl tt y.1)
-          | inr n ↦
-            elim (chosen (eqb tag 2) (done pair s) from_3 (Ok (x, t)) n.1) [
-              | inl y ↦ behind_tag d sorts.Proof tag 2 s x t (eqb-true _ _ y.0) (behind_alone d sorts.Proof 2 pair s x t h refl tt y.1)
-              | inr n ↦
-                elim (chosen (eqb tag 3) (done left_side s) from_4 (Ok (x, t)) n.1) [
-                  | inl y ↦ behind_tag d sorts.Proof tag 3 s x t (eqb-true _ _ y.0) (behind_alone d sorts.Proof 3 left_side s x t h refl tt y.1)
+          elim (chosen (eqb tag 1) (done trivial s) from_2 (Ok (x, t)) n.1) [
+            | inl y ↦ behind_tag d sorts.Proof tag 1 s x t (eqb-true _ _ y.0) (behind_alone d sorts.Proof 1 trivial s x t h refl tt y.1)
+            | inr n ↦
+                elim (chosen (eqb tag 2) (done pair s) from_3 (Ok (x, t)) n.1) [
+                  | inl y ↦ behind_tag d sorts.Proof tag 2 s x t (eqb-true _ _ y.0) (behind_alone d sorts.Proof 2 pair s x t h refl tt y.1)
                   | inr n ↦
-                    elim (chosen (eqb tag 4) (done right_side s) from_5 (Ok (x, t)) n.1) [
-                      | inl y ↦ behind_tag d sorts.Proof tag 4 s x t (eqb-true _ _ y.0) (behind_alone d sorts.Proof 4 right_side s x t h refl tt y.1)
-                      | inr n ↦
-                        elim (chosen (eqb tag 5) (as_read witness (term_at d s)) from_6 (Ok (x, t)) n.1) [
-                          | inl y ↦ behind_tag d sorts.Proof tag 5 s x t (eqb-true _ _ y.0) (behind_term d sorts.Proof 5 witness (λ x. refl) (λ x i. i) s x t h y.1)
-                          | inr n ↦
-                            elim (chosen (eqb tag 6) (done general s) from_7 (Ok (x, t)) n.1) [
-                              | inl y ↦ behind_tag d sorts.Proof tag 6 s x t (eqb-true _ _ y.0) (behind_alone d sorts.Proof 6 general s x t h refl tt y.1)
+                      elim (chosen (eqb tag 3) (done left_side s) from_4 (Ok (x, t)) n.1) [
+                        | inl y ↦ behind_tag d sorts.Proof tag 3 s x t (eqb-true _ _ y.0) (behind_alone d sorts.Proof 3 left_side s x t h refl tt y.1)
+                        | inr n ↦
+                            elim (chosen (eqb tag 4) (done right_side s) from_5 (Ok (x, t)) n.1) [
+                              | inl y ↦ behind_tag d sorts.Proof tag 4 s x t (eqb-true _ _ y.0) (behind_alone d sorts.Proof 4 right_side s x t h refl tt y.1)
                               | inr n ↦
-                                elim (chosen (eqb tag 7) (done assuming s) from_8 (Ok (x, t)) n.1) [
-                                  | inl y ↦ behind_tag d sorts.Proof tag 7 s x t (eqb-true _ _ y.0) (behind_alone d sorts.Proof 7 assuming s x t h refl tt y.1)
-                                  | inr n ↦
-                                    elim (chosen (eqb tag 8) (done equated s) from_9 (Ok (x, t)) n.1) [
-                                      | inl y ↦ behind_tag d sorts.Proof tag 8 s x t (eqb-true _ _ y.0) (behind_alone d sorts.Proof 8 equated s x t h refl tt y.1)
-                                      | inr n ↦
-                                        elim (chosen (eqb tag 9) (done counted s) from_10 (Ok (x, t)) n.1) [
-                                          | inl y ↦ behind_tag d sorts.Proof tag 9 s x t (eqb-true _ _ y.0) (behind_alone d sorts.Proof 9 counted s x t h refl tt y.1)
+                                  elim (chosen (eqb tag 5) (as_read witness (term_at d s)) from_6 (Ok (x, t)) n.1) [
+                                    | inl y ↦ behind_tag d sorts.Proof tag 5 s x t (eqb-true _ _ y.0) (behind_term d sorts.Proof 5 witness (λ x. refl) (λ x i. i) s x t h y.1)
+                                    | inr n ↦
+                                        elim (chosen (eqb tag 6) (done general s) from_7 (Ok (x, t)) n.1) [
+                                          | inl y ↦ behind_tag d sorts.Proof tag 6 s x t (eqb-true _ _ y.0) (behind_alone d sorts.Proof 6 general s x t h refl tt y.1)
                                           | inr n ↦
-                                            let y = held (eqb tag 10) (back_at d s) (BadField at) (x, t) n.1 in behind_tag d sorts.Proof tag 10 s x t (eqb-true _ _ y.0) (back_takes d s x t h y.1)
+                                              elim (chosen (eqb tag 7) (done assuming s) from_8 (Ok (x, t)) n.1) [
+                                                | inl y ↦ behind_tag d sorts.Proof tag 7 s x t (eqb-true _ _ y.0) (behind_alone d sorts.Proof 7 assuming s x t h refl tt y.1)
+                                                | inr n ↦
+                                                    elim (chosen (eqb tag 8) (done equated s) from_9 (Ok (x, t)) n.1) [
+                                                      | inl y ↦ behind_tag d sorts.Proof tag 8 s x t (eqb-true _ _ y.0) (behind_alone d sorts.Proof 8 equated s x t h refl tt y.1)
+                                                      | inr n ↦
+                                                          elim (chosen (eqb tag 9) (done counted s) from_10 (Ok (x, t)) n.1) [
+                                                            | inl y ↦ behind_tag d sorts.Proof tag 9 s x t (eqb-true _ _ y.0) (behind_alone d sorts.Proof 9 counted s x t h refl tt y.1)
+                                                            | inr n ↦
+                                                                let y = held (eqb tag 10) (back_at d s) (BadField at) (x, t) n.1 in behind_tag d sorts.Proof tag 10 s x t (eqb-true _ _ y.0) (back_takes d s x t h y.1)
+                                                          ]
+                                                    ]
+                                              ]
                                         ]
-                                    ]
-                                ]
+                                  ]
                             ]
-                        ]
-                    ]
+                      ]
                 ]
-            ]
-        ]
+          ]
     ]
 
 focus_node_takes : (d : Counts) (at tag : ℕ) (s : Left) (x : Node) (t : Left) → IsBytes s.rest → focus_node_at d at tag s ≡ Ok (x, t) → Behind d sorts.Focus tag s x t
@@ -133,19 +135,19 @@ focus_node_takes d at tag s x t h e =
     elim (chosen (eqb tag 16) (as_read focus_converted (term_at d s)) from_17 (Ok (x, t)) e) [
       | inl y ↦ behind_tag d sorts.Focus tag 16 s x t (eqb-true _ _ y.0) (behind_term d sorts.Focus 16 focus_converted (λ x. refl) (λ x i. i) s x t h y.1)
       | inr n ↦
-        elim (chosen (eqb tag 17) (as_read focus_witness (term_at d s)) from_18 (Ok (x, t)) n.1) [
-          | inl y ↦ behind_tag d sorts.Focus tag 17 s x t (eqb-true _ _ y.0) (behind_term d sorts.Focus 17 focus_witness (λ x. refl) (λ x i. i) s x t h y.1)
-          | inr n ↦
-            elim (chosen (eqb tag 18) (as_read side (side_at s)) from_19 (Ok (x, t)) n.1) [
-              | inl y ↦ behind_tag d sorts.Focus tag 18 s x t (eqb-true _ _ y.0) (behind_as d sorts.Focus 18 side (λ b. b ∷ []) (λ b. b ≤ 1) (λ b. refl) (λ b k. k) s (side_at s) (λ b u i. side_takes s b u h i) x t y.1)
-              | inr n ↦
-                elim (chosen (eqb tag 19) (done premise s) from_20 (Ok (x, t)) n.1) [
-                  | inl y ↦ behind_tag d sorts.Focus tag 19 s x t (eqb-true _ _ y.0) (behind_alone d sorts.Focus 19 premise s x t h refl tt y.1)
+          elim (chosen (eqb tag 17) (as_read focus_witness (term_at d s)) from_18 (Ok (x, t)) n.1) [
+            | inl y ↦ behind_tag d sorts.Focus tag 17 s x t (eqb-true _ _ y.0) (behind_term d sorts.Focus 17 focus_witness (λ x. refl) (λ x i. i) s x t h y.1)
+            | inr n ↦
+                elim (chosen (eqb tag 18) (as_read side (side_at s)) from_19 (Ok (x, t)) n.1) [
+                  | inl y ↦ behind_tag d sorts.Focus tag 18 s x t (eqb-true _ _ y.0) (behind_as d sorts.Focus 18 side (λ b. b ∷ []) (λ b. b ≤ 1) (λ b. refl) (λ b k. k) s (side_at s) (λ b u i. side_takes s b u h i) x t y.1)
                   | inr n ↦
-                    let y = held (eqb tag 20) (done hit s) (BadField at) (x, t) n.1 in behind_tag d sorts.Focus tag 20 s x t (eqb-true _ _ y.0) (behind_alone d sorts.Focus 20 hit s x t h refl tt y.1)
+                      elim (chosen (eqb tag 19) (done premise s) from_20 (Ok (x, t)) n.1) [
+                        | inl y ↦ behind_tag d sorts.Focus tag 19 s x t (eqb-true _ _ y.0) (behind_alone d sorts.Focus 19 premise s x t h refl tt y.1)
+                        | inr n ↦
+                            let y = held (eqb tag 20) (done hit s) (BadField at) (x, t) n.1 in behind_tag d sorts.Focus tag 20 s x t (eqb-true _ _ y.0) (behind_alone d sorts.Focus 20 hit s x t h refl tt y.1)
+                      ]
                 ]
-            ]
-        ]
+          ]
     ]
 
 sorted_takes : (d : Counts) (sort : Sort) (at tag : ℕ) (s : Left) (x : Node) (t : Left) → IsBytes s.rest → sorted_node_at d sort at tag s ≡ Ok (x, t) → Behind d sort tag s x t
@@ -194,10 +196,10 @@ certificate_takes d s c t h e =
     let n3 = takes_as k2.0.1 (spelled_four k3.0.0) (spelled_four (length k4.0.0)) k3.0.1 (ap (λ m. spelled_four m) (sym p4.1)) p3.0 in
     let q4 = takes_then k3.0.1 V k4.0.1 N k5.0.1 p4.0 p5.0 in
     let q3 = takes_then k2.0.1 (spelled_four (length k4.0.0)) k3.0.1 (V ++ N) k5.0.1 n3 q4 in
-    let q2 = takes_then k1.0.1 T k2.0.1 (spelled_four (length k4.0.0) ++ V ++ N) k5.0.1 p2.0 q3 in
-    let q1 = takes_then s (spelled_four (length k2.0.0)) k1.0.1 (T ++ spelled_four (length k4.0.0) ++ V ++ N) k5.0.1 n1 q2 in
+    let q2 = takes_then k1.0.1 T k2.0.1 (spelled_four (length k4.0.0) ++ (V ++ N)) k5.0.1 p2.0 q3 in
+    let q1 = takes_then s (spelled_four (length k2.0.0)) k1.0.1 (T ++ (spelled_four (length k4.0.0) ++ (V ++ N))) k5.0.1 n1 q2 in
     subst (λ (z : Certificate × Left). Takes s (spelled_certificate z.0) z.1 × IsCertificate d z.0) (ok_is (made k2.0.0 k4.0.0 k5.0.0, k5.0.1) (c, t) k5.2)
-      (q1, record { few_types = omega (arith, p2.1, p1.1); types_fit = p2.2; few_values = omega (arith, p4.1, p3.1); values_fit = p4.2; nodes_fit = p5.1 })
+    (q1, record { few_types = omega (arith, p2.1, p1.1); types_fit = p2.2; few_values = omega (arith, p4.1, p3.1); values_fit = p4.2; nodes_fit = p5.1 })
 
 version_takes : (s t : Left) → IsBytes s.rest → version_at s ≡ Ok t → Takes s (spelled_two 1) t
 unfolding version_at
@@ -218,7 +220,7 @@ certificates_found d bs cs h e =
     let k4 = bind_ok (each_at (λ before. certificate_at d) [] k3.0.0 k3.0.1) (λ xs. all_read xs.1 >>= λ over. Ok xs.0) cs k3.2 in
     let k5 = bind_ok (all_read k4.0.1) (λ over. Ok k4.0.0) cs k4.2 in
     let f = file_is bs k0.0 k0.1 in
-    let whole : k0.0.rest ≡ bs = ap (λ s. s.rest) f.0 in
+    let whole : k0.0.rest ≡ bs = ap (λ (s : Left). s.rest) f.0 in
     let p1 = magic_takes M k0.0 k1.0 (subst IsBytes (sym whole) h) k1.1 in
     let p2 = version_takes k1.0 k2.0 p1.bytes k2.1 in
     let p3 = four_takes k2.0 k3.0.0 k3.0.1 p2.bytes k3.1 in
@@ -228,8 +230,8 @@ certificates_found d bs cs h e =
     let n3 = takes_as k2.0 (spelled_four k3.0.0) (spelled_four (length xs)) k3.0.1 (ap (λ m. spelled_four m) (sym p4.3)) p3.0 in
     let q3 = takes_then k2.0 (spelled_four (length xs)) k3.0.1 C k4.0.1 n3 p4.2 in
     let q2 = takes_then k1.0 (spelled_two 1) k2.0 (spelled_four (length xs) ++ C) k4.0.1 p2 q3 in
-    let q1 = takes_then k0.0 M k1.0 (spelled_two 1 ++ spelled_four (length xs) ++ C) k4.0.1 p1 q2 in
-    let text = M ++ spelled_two 1 ++ spelled_four (length xs) ++ C in
+    let q1 = takes_then k0.0 M k1.0 (spelled_two 1 ++ (spelled_four (length xs) ++ C)) k4.0.1 p1 q2 in
+    let text = M ++ (spelled_two 1 ++ (spelled_four (length xs) ++ C)) in
     let all : bs ≡ text = sym whole ∙ q1.parts ∙ ap (λ r. text ++ r) (all_is_read k4.0.1 k5.1) ∙ append-nil text in
     let same : xs ≡ cs = sym p4.1 ∙ ok_is k4.0.0 cs k5.2 in
     subst (λ us. (length bs ≤ 16777216) × AreCertificates d us × (bs ≡ spelled_certificates us)) same (f.1, (omega (arith, p4.3, p3.1), p4.4), all)

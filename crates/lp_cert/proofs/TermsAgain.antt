@@ -34,38 +34,38 @@ unfolding constant_at
 constant_again d c ts s rest h e =
     let T = flat_map spelled_type ts in
     bind_runs (four_at s) (λ c. typed_constant_at d s.at c.0 (count_of_constant d c.0) c.1) c (T ++ rest) (atom (constant c ts)) rest (four_again c s (T ++ rest) h.0 (next s (spelled_four c) T rest e))
-      (λ t i. runs_as (typed_constant_at d s.at c (Some (length ts)) t) (typed_constant_at d s.at c (count_of_constant d c) t) (atom (constant c ts)) rest (ap (λ o. typed_constant_at d s.at c o t) h.1)
-        (read_as (λ ts. atom (constant c ts)) (types_at d (length ts) t) ts rest (types_again d ts (length ts) t rest refl h.2 i)))
+    (λ t i. runs_as (typed_constant_at d s.at c (Some (length ts)) t) (typed_constant_at d s.at c (count_of_constant d c) t) (atom (constant c ts)) rest (ap (λ o. typed_constant_at d s.at c o t) h.1)
+    (read_as (λ ts. atom (constant c ts)) (types_at d (length ts) t) ts rest (types_again d ts (length ts) t rest refl h.2 i)))
 
 parameter_again : (d : Counts) (k : ℕ) (T : Ty) (s : Left) (rest : List ℕ) → IsAtom d (term.param k T) → s.rest ≡ (spelled_four k ++ spelled_type T) ++ rest → Runs (parameter_at d s) (atom (term.param k T)) rest
 unfolding parameter_at
 parameter_again d k T s rest h e =
     bind_runs (four_at s) (λ k. as_read (λ t. atom (term.param k.0 t)) (type_at d k.1)) k (spelled_type T ++ rest) (atom (term.param k T)) rest (four_again k s (spelled_type T ++ rest) h.0 (next s (spelled_four k) (spelled_type T) rest e))
-      (λ t i. read_as (λ t. atom (term.param k t)) (type_at d t) T rest (type_again d T t rest h.1 i))
+    (λ t i. read_as (λ t. atom (term.param k t)) (type_at d t) T rest (type_again d T t rest h.1 i))
 
 leaf_again : (d : Counts) (x : Term) (s : Left) (rest : List ℕ) → IsLeaf d x → s.rest ≡ spelled_term x ++ rest → Runs (term_top_at d s) (leaf x) rest
 unfolding term_top_at leaf_at
 leaf_again d (index i) s rest h e =
     bind_runs (byte_at s) (λ b. after_byte d s.at b) 0 (spelled_four i ++ rest) (leaf (index i)) rest (byte_again 0 s (spelled_four i ++ rest) e)
-      (λ t j. read_as leaf (as_read index (four_at t)) (index i) rest (read_as index (four_at t) i rest (four_again i t rest h j)))
+    (λ t j. read_as leaf (as_read index (four_at t)) (index i) rest (read_as index (four_at t) i rest (four_again i t rest h j)))
 leaf_again d (atom (constant c ts)) s rest h e =
     let R = (spelled_four c ++ flat_map spelled_type ts) ++ rest in
     bind_runs (byte_at s) (λ b. after_byte d s.at b) 1 R (leaf (atom (constant c ts))) rest (byte_again 1 s R e)
-      (λ t j. read_as leaf (constant_at d t) (atom (constant c ts)) rest (constant_again d c ts t rest h j))
+    (λ t j. read_as leaf (constant_at d t) (atom (constant c ts)) rest (constant_again d c ts t rest h j))
 leaf_again d (atom (integer z)) s rest h e =
     bind_runs (byte_at s) (λ b. after_byte d s.at b) 2 (spelled_integer z ++ rest) (leaf (atom (integer z))) rest (byte_again 2 s (spelled_integer z ++ rest) e)
-      (λ t j. read_as leaf (as_read (λ z. atom (integer z)) (integer_at t)) (atom (integer z)) rest (read_as (λ z. atom (integer z)) (integer_at t) z rest (integer_again z t rest h j)))
+    (λ t j. read_as leaf (as_read (λ z. atom (integer z)) (integer_at t)) (atom (integer z)) rest (read_as (λ z. atom (integer z)) (integer_at t) z rest (integer_again z t rest h j)))
 leaf_again d (atom (text x)) s rest h e =
     bind_runs (byte_at s) (λ b. after_byte d s.at b) 3 (spelled_long_text x ++ rest) (leaf (atom (text x))) rest (byte_again 3 s (spelled_long_text x ++ rest) e)
-      (λ t j. read_as leaf (as_read (λ x. atom (text x)) (long_text_at t)) (atom (text x)) rest (read_as (λ x. atom (text x)) (long_text_at t) x rest (long_text_again x t rest h j)))
+    (λ t j. read_as leaf (as_read (λ x. atom (text x)) (long_text_at t)) (atom (text x)) rest (read_as (λ x. atom (text x)) (long_text_at t) x rest (long_text_again x t rest h j)))
 leaf_again d (atom (eigen k)) s rest h e =
     bind_runs (byte_at s) (λ b. after_byte d s.at b) 4 (spelled_four k ++ rest) (leaf (atom (eigen k))) rest (byte_again 4 s (spelled_four k ++ rest) e)
-      (λ t j. read_as leaf (as_read (λ k. atom (eigen k)) (four_at t)) (atom (eigen k)) rest (read_as (λ k. atom (eigen k)) (four_at t) k rest (four_again k t rest h j)))
+    (λ t j. read_as leaf (as_read (λ k. atom (eigen k)) (four_at t)) (atom (eigen k)) rest (read_as (λ k. atom (eigen k)) (four_at t) k rest (four_again k t rest h j)))
 leaf_again d (atom (logic v level)) s rest h e = absurd h
 leaf_again d (atom (term.param k T)) s rest h e =
     let R = (spelled_four k ++ spelled_type T) ++ rest in
     bind_runs (byte_at s) (λ b. after_byte d s.at b) 5 R (leaf (atom (term.param k T))) rest (byte_again 5 s R e)
-      (λ t j. read_as leaf (parameter_at d t) (atom (term.param k T)) rest (parameter_again d k T t rest h j))
+    (λ t j. read_as leaf (parameter_at d t) (atom (term.param k T)) rest (parameter_again d k T t rest h j))
 leaf_again d (abs t) s rest h e = absurd h
 leaf_again d (app t u) s rest h e = absurd h
 
@@ -114,8 +114,8 @@ term_again d T s rest h e =
     let total : length s.rest ≡ length (flat_map spelled_term_top us) + length rest = ap length text ∙ length-append (flat_map spelled_term_top us) rest in
     let made : terms_made us ≡ T ∷ [] = ap terms_made (sym alone) ∙ tops_make T [] in
     bind_runs (term_tops_at d s) (λ ts. first_of s.at (terms_made ts.0) ts.1) us rest T rest
-      (nested_again (λ one. term_top_at d) terms_below spelled_term_top (IsTermTop d) (λ one x u v i j. top_again d one x u v i j) us [] (suc (length s.rest)) (tt ∷ []) s rest whole (omega (arith, total, tops_long us)) text)
-      (λ t i. (t, ap (λ ts. first_of s.at ts t) made, i))
+    (nested_again (λ one. term_top_at d) terms_below spelled_term_top (IsTermTop d) (λ one x u v i j. top_again d one x u v i j) us [] (suc (length s.rest)) (tt ∷ []) s rest whole (omega (arith, total, tops_long us)) text)
+    (λ t i. (t, ap (λ ts. first_of s.at ts t) made, i))
 
 pub terms_again : (d : Counts) (ts : List Term) (n : ℕ) (s : Left) (rest : List ℕ) → length ts ≡ n → AllByRecursion (IsTerm d) ts → s.rest ≡ flat_map spelled_term ts ++ rest → Runs (terms_at d n s) ts rest
 unfolding terms_at

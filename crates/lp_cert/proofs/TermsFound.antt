@@ -37,8 +37,8 @@ typed_constant_takes : (d : Counts) (s : Left) (at c : ℕ) (u : Left) (x : Term
 typed_constant_takes d s at c u x t p lt None count e = absurd cc
 typed_constant_takes d s at c u x t p lt (Some n) count e =
     behind_as d 1 (λ ts. atom (constant c ts)) (λ ts. spelled_four c ++ flat_map spelled_type ts) (λ ts. (length ts ≡ n) × AllByRecursion (IsType d) ts) (λ ts. refl)
-      (λ ts h. (lt, count ∙ ap Some (sym h.0), h.1)) s (types_at d n u)
-      (λ ts v i. let q = types_take d n u ts v p.bytes i in (takes_then s (spelled_four c) u (flat_map spelled_type ts) v p q.0, q.1, q.2)) x t e
+    (λ ts h. (lt, count ∙ ap Some (sym h.0), h.1)) s (types_at d n u)
+    (λ ts v i. let q = types_take d n u ts v p.bytes i in (takes_then s (spelled_four c) u (flat_map spelled_type ts) v p q.0, (q.1, q.2))) x t e
 
 constant_takes : (d : Counts) (s : Left) (x : Term) (t : Left) → IsBytes s.rest → constant_at d s ≡ Ok (x, t) → Behind d 1 s x t
 unfolding constant_at
@@ -53,7 +53,7 @@ parameter_takes d s x t h e =
     let a = bind_ok (four_at s) (λ k. as_read (λ t. atom (term.param k.0 t)) (type_at d k.1)) (x, t) e in
     let p = four_takes s a.0.0 a.0.1 h a.1 in
     behind_as d 5 (λ T. atom (term.param a.0.0 T)) (λ T. spelled_four a.0.0 ++ spelled_type T) (IsType d) (λ T. refl) (λ T h. (p.1, h)) s (type_at d a.0.1)
-      (λ T v i. let q = type_takes d a.0.1 T v p.0.bytes i in (takes_then s (spelled_four a.0.0) a.0.1 (spelled_type T) v p.0 q.0, q.1)) x t a.2
+    (λ T v i. let q = type_takes d a.0.1 T v p.0.bytes i in (takes_then s (spelled_four a.0.0) a.0.1 (spelled_type T) v p.0 q.0, q.1)) x t a.2
 
 behind_tag : (d : Counts) (tag n : ℕ) (s : Left) (x : Term) (t : Left) → tag ≡ n → Behind d n s x t → Behind d tag s x t
 behind_tag d tag n s x t e b = subst (λ m. Behind d m s x t) (sym e) b
@@ -71,7 +71,7 @@ leaf_takes d at tag s x t h e =
       | inr n ↦ elim (chosen (eqb tag 1) (constant_at d s) two (Ok (x, t)) n.1) [
         | inl y ↦ behind_tag d tag 1 s x t (eqb-true _ _ y.0) (constant_takes d s x t h y.1)
         | inr n ↦ elim (chosen (eqb tag 2) (as_read (λ z. atom (integer z)) (integer_at s)) three (Ok (x, t)) n.1) [
-          | inl y ↦ behind_tag d tag 2 s x t (eqb-true _ _ y.0) (behind_as d 2 (λ z. atom (integer z)) spelled_integer IsInteger (λ z. refl) (λ z h. h) s (integer_at s) (λ z u j. integer_takes s z u h j) x t y.1)
+          | inl y ↦ behind_tag d tag 2 s x t (eqb-true _ _ y.0) (behind_as d 2 (λ z. atom (integer z)) spelled_integer IsInteger (λ z. refl) (λ z h. h) s (integer_at s) (λ z u j. let q = integer_takes s z u h j in (q.0, (q.1, q.2))) x t y.1)
           | inr n ↦ elim (chosen (eqb tag 3) (as_read (λ x. atom (text x)) (long_text_at s)) four (Ok (x, t)) n.1) [
             | inl y ↦ behind_tag d tag 3 s x t (eqb-true _ _ y.0) (behind_as d 3 (λ x. atom (text x)) spelled_long_text (λ x. length x < 2 ^ 32) (λ x. refl) (λ x h. h) s (long_text_at s) (λ z u j. long_text_takes s z u h j) x t y.1)
             | inr n ↦ elim (chosen (eqb tag 4) (as_read (λ k. atom (eigen k)) (four_at s)) five (Ok (x, t)) n.1) [

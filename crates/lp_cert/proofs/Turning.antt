@@ -67,19 +67,19 @@ at_done b old new s = (ap (λ x. types_in b x.items) (sym s.eigens), ap (λ x. t
 module _ (a now : Nodes) (old mid new : Work) (j : Nodes → Job) (n : Nodes → Node) (g : Extends a now) (s : Stays old mid) where
   pub goes_to : (t : Task) → Pushes mid new t → IsReadyWork a old → IsTaskReady now t →
       ((b : Nodes) → Extends now b → At b new (types_in b old.eigens.items) (terms_in b old.assumed.items) (job_of b t ∷ jobs_of b old.tasks.items) →
-          StepsOn (ground_in b old.theory) (At b new) (types_in b old.eigens.items) (terms_in b old.assumed.items) (j b ∷ jobs_of b old.tasks.items) (n b)) → IsTurned now old new j n turn.On
+      StepsOn (ground_in b old.theory) (At b new) (types_in b old.eigens.items) (terms_in b old.assumed.items) (j b ∷ jobs_of b old.tasks.items) (n b)) → IsTurned now old new j n turn.On
   goes_to t p w r f = (p.theory ∙ s.theory, work_pushed now mid new t p r (work_stays now old mid s (work_later a now old g w)), λ b h. f b h (at_pushed b old mid new t s p))
 
   pub is_done : new ≡ mid → IsReadyWork a old →
       ((b : Nodes) → Extends now b → At b new (types_in b old.eigens.items) (terms_in b old.assumed.items) (jobs_of b old.tasks.items) →
-          StepsOn (ground_in b old.theory) (At b new) (types_in b old.eigens.items) (terms_in b old.assumed.items) (j b ∷ jobs_of b old.tasks.items) (n b)) → IsTurned now old new j n turn.On
+      StepsOn (ground_in b old.theory) (At b new) (types_in b old.eigens.items) (terms_in b old.assumed.items) (j b ∷ jobs_of b old.tasks.items) (n b)) → IsTurned now old new j n turn.On
   is_done e w f =
       let q : Stays old new = subst (Stays old) (sym e) s in
       (q.theory, work_stays now old new q (work_later a now old g w), λ b h. f b h (at_done b old new q))
 
 pub goes_to_both : (a now : Nodes) (old mid new : Work) (j : Nodes → Job) (n : Nodes → Node) (s t : Task) → Extends a now → Pushes old mid s → Pushes mid new t → IsReadyWork a old → IsTaskReady now s → IsTaskReady now t →
     ((b : Nodes) → Extends now b → At b new (types_in b old.eigens.items) (terms_in b old.assumed.items) (job_of b t ∷ job_of b s ∷ jobs_of b old.tasks.items) →
-        StepsOn (ground_in b old.theory) (At b new) (types_in b old.eigens.items) (terms_in b old.assumed.items) (j b ∷ jobs_of b old.tasks.items) (n b)) → IsTurned now old new j n turn.On
+    StepsOn (ground_in b old.theory) (At b new) (types_in b old.eigens.items) (terms_in b old.assumed.items) (j b ∷ jobs_of b old.tasks.items) (n b)) → IsTurned now old new j n turn.On
 goes_to_both a now old mid new j n s t g p q w r k f = (q.theory ∙ p.theory, work_pushed now mid new t q k (work_pushed now old mid s p r (work_later a now old g w)), λ b h. f b h (at_pushed_twice b old mid new s t p q))
 
 -- one more eigenconstant, or assumption, to be left behind the goal
@@ -120,7 +120,7 @@ under_assumed b old new clause p c w = record {
 
 pub goes_under_eigen : (a now : Nodes) (old mid new : Work) (j : Nodes → Job) (n : Nodes → Node) (of : TypeId) (t : Task) → Extends a now → PushesEigen old mid of → Pushes mid new t → IsReadyWork a old → IsClosedType (type_tree now of.0) → IsTaskReady now t →
     ((b : Nodes) → Extends now b → At b new (types_in b old.eigens.items ++ type_tree b of.0 ∷ []) (terms_in b old.assumed.items) (job_of b t ∷ leaving_eigen ∷ jobs_of b old.tasks.items) →
-        StepsOn (ground_in b old.theory) (At b new) (types_in b old.eigens.items) (terms_in b old.assumed.items) (j b ∷ jobs_of b old.tasks.items) (n b)) → IsTurned now old new j n turn.On
+    StepsOn (ground_in b old.theory) (At b new) (types_in b old.eigens.items) (terms_in b old.assumed.items) (j b ∷ jobs_of b old.tasks.items) (n b)) → IsTurned now old new j n turn.On
 goes_under_eigen a now old mid new j n of t g p q w c k f = (
   q.theory ∙ p.theory,
   work_pushed now mid new t q k (under_eigen now old mid of p c (work_later a now old g w)),
@@ -133,7 +133,7 @@ goes_under_eigen a now old mid new j n of t g p q w c k f = (
 
 pub goes_under_assumed : (a now : Nodes) (old mid new : Work) (j : Nodes → Job) (n : Nodes → Node) (clause : TermId) (t : Task) → Extends a now → PushesAssumed old mid clause → Pushes mid new t → IsReadyWork a old → IsReady now clause → IsTaskReady now t →
     ((b : Nodes) → Extends now b → At b new (types_in b old.eigens.items) (terms_in b old.assumed.items ++ tree b clause.0 ∷ []) (job_of b t ∷ leaving_assumed ∷ jobs_of b old.tasks.items) →
-        StepsOn (ground_in b old.theory) (At b new) (types_in b old.eigens.items) (terms_in b old.assumed.items) (j b ∷ jobs_of b old.tasks.items) (n b)) → IsTurned now old new j n turn.On
+    StepsOn (ground_in b old.theory) (At b new) (types_in b old.eigens.items) (terms_in b old.assumed.items) (j b ∷ jobs_of b old.tasks.items) (n b)) → IsTurned now old new j n turn.On
 goes_under_assumed a now old mid new j n clause t g p q w c k f = (
   q.theory ∙ p.theory,
   work_pushed now mid new t q k (under_assumed now old mid clause p c (work_later a now old g w)),
@@ -201,9 +201,13 @@ needs_to g n E As (leaving_assumed ∷ js) h = needs_to g n E (without_last As) 
 
 -- a step of the next job is one of the work
 pub step_turned : (now : Nodes) (old mid new : Work) (t : Task) (n : Nodes → Node) → mid.theory ≡ old.theory → ((b : Nodes) → rest_in b old ≡ rest_with b mid (job_of b t ∷ [])) → (u : Turn) → IsTurned now mid new (λ b. job_of b t) n u → IsStepped now old new n u
-step_turned now old mid new t n e s turn.On h = (h.0 ∙ e, h.1, λ b g.
-    skips_to (ground_in b old.theory) (At b new) (n b) (types_in b old.eigens.items) (terms_in b old.assumed.items) (jobs_of b old.tasks.items)
-    (transport (λ i. StepsOn (ground_in b (e i)) (At b new) (sym (s b) i).eigens (sym (s b) i).assumed (sym (s b) i).jobs (n b)) (h.2 b g)))
+step_turned now old mid new t n e s turn.On h = (
+  h.0 ∙ e,
+  h.1,
+  λ b g.
+      skips_to (ground_in b old.theory) (At b new) (n b) (types_in b old.eigens.items) (terms_in b old.assumed.items) (jobs_of b old.tasks.items)
+      (transport (λ i. StepsOn (ground_in b (e i)) (At b new) (sym (s b) i).eigens (sym (s b) i).assumed (sym (s b) i).jobs (n b)) (h.2 b g)),
+)
 step_turned now old mid new t n e s turn.No h = λ b g k. h b g
     (transport (λ i. StepsOn (ground_in b (sym e i)) (Always (Unit {0})) (s b i).eigens (s b i).assumed (s b i).jobs (n b)) (skips_from (ground_in b old.theory) (Always (Unit {0})) (n b) (types_in b old.eigens.items) (terms_in b old.assumed.items) (jobs_of b old.tasks.items) k))
 step_turned now old mid new t n e s turn.Deep h = λ b g.

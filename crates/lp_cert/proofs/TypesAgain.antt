@@ -28,10 +28,10 @@ top_again : (d : Counts) (one : ⊤) (x : TypeTop) (s : Left) (rest : List ℕ) 
 unfolding type_top_at
 top_again d one (parameter v) s rest h e =
     bind_runs (byte_at s) (λ b. after_byte d s.at b) 0 (spelled_four v ++ rest) (parameter v) rest (byte_again 0 s (spelled_four v ++ rest) e)
-      (λ t i. bind_runs (four_at t) (λ v. Ok (parameter v.0, v.1)) v rest (parameter v) rest (four_again v t rest h i) (λ u j. (u, refl, j)))
+    (λ t i. bind_runs (four_at t) (λ v. Ok (parameter v.0, v.1)) v rest (parameter v) rest (four_again v t rest h i) (λ u j. (u, refl, j)))
 top_again d one (kind k n) s rest h e =
     bind_runs (byte_at s) (λ b. after_byte d s.at b) 1 (spelled_four k ++ rest) (kind k n) rest (byte_again 1 s (spelled_four k ++ rest) e)
-      (λ t i. bind_runs (four_at t) (λ k. kind_top_at t.at k.0 (count_of_kind d k.0) k.1) k rest (kind k n) rest (four_again k t rest h.0 i) (λ u j. (u, ap (λ o. kind_top_at t.at k o u) h.1, j)))
+    (λ t i. bind_runs (four_at t) (λ k. kind_top_at t.at k.0 (count_of_kind d k.0) k.1) k rest (kind k n) rest (four_again k t rest h.0 i) (λ u j. (u, ap (λ o. kind_top_at t.at k o u) h.1, j)))
 top_again d one an_arrow s rest h e = bind_runs (byte_at s) (λ b. after_byte d s.at b) 2 rest an_arrow rest (byte_again 2 s rest e) (λ t i. (t, refl, i))
 
 -- ---- the tops of a type
@@ -64,7 +64,7 @@ mutual
   each_whole d no_types to_come us h w = w
   each_whole d (types t ts) to_come us h w =
       subst (AreWhole types_below (IsTypeTop d) (tt ∷ (replicate (how_many ts) tt ++ to_come))) (sym (append_assoc (type_tops t) (tops_of_each ts) us))
-        (tops_whole d t (replicate (how_many ts) tt ++ to_come) (tops_of_each ts ++ us) h.0 (each_whole d ts to_come us h.1 w))
+      (tops_whole d t (replicate (how_many ts) tt ++ to_come) (tops_of_each ts ++ us) h.0 (each_whole d ts to_come us h.1 w))
 
 abbrev list_of : Tys → List Ty
 list_of no_types = []
@@ -113,8 +113,8 @@ type_again d T s rest h e =
     let total : length s.rest ≡ length (flat_map spelled_type_top us) + length rest = ap length text ∙ length-append (flat_map spelled_type_top us) rest in
     let made : types_made us ≡ T ∷ [] = ap types_made (sym alone) ∙ tops_make d T [] h in
     bind_runs (type_tops_at d s) (λ ts. first_of s.at (types_made ts.0) ts.1) us rest T rest
-      (nested_again (λ one. type_top_at d) types_below spelled_type_top (IsTypeTop d) (λ one x u v i j. top_again d one x u v i j) us [] (suc (length s.rest)) (tt ∷ []) s rest whole (omega (arith, total, tops_long us)) text)
-      (λ t i. (t, ap (λ ts. first_of s.at ts t) made, i))
+    (nested_again (λ one. type_top_at d) types_below spelled_type_top (IsTypeTop d) (λ one x u v i j. top_again d one x u v i j) us [] (suc (length s.rest)) (tt ∷ []) s rest whole (omega (arith, total, tops_long us)) text)
+    (λ t i. (t, ap (λ ts. first_of s.at ts t) made, i))
 
 pub types_again : (d : Counts) (ts : List Ty) (n : ℕ) (s : Left) (rest : List ℕ) → length ts ≡ n → AllByRecursion (IsType d) ts → s.rest ≡ flat_map spelled_type ts ++ rest → Runs (types_at d n s) ts rest
 unfolding types_at

@@ -44,9 +44,9 @@ as_takes {B = B} g spell spelled P Q same kept s r k y t e =
 
 -- the one of a list
 pub first_is : {A : Type 0} (at : ℕ) (xs : List A) (s : Left) (x : A) (t : Left) → length xs ≡ 1 → first_of at xs s ≡ Ok (x, t) → (xs ≡ x ∷ []) × (s ≡ t)
-first_is at [] s x t l e = absurd (omega (arith, l))
-first_is at (y ∷ []) s x t l e = let h = ok_is (y, s) (x, t) e in (ap (λ p. p.0 ∷ []) h, ap (λ p. p.1) h)
-first_is at (y ∷ z ∷ ys) s x t l e = absurd (omega (arith, l))
+first_is {A = A} at [] s x t l e = absurd (omega (arith, l))
+first_is {A = A} at (y ∷ []) s x t l e = let h = ok_is (y, s) (x, t) e in (ap (λ (p : A × Left). p.0 ∷ []) h, ap (λ (p : A × Left). p.1) h)
+first_is {A = A} at (y ∷ z ∷ ys) s x t l e = absurd (omega (arith, l))
 
 -- ---- tops
 
@@ -103,7 +103,7 @@ types_are_made d (parameter v ∷ tops) (one ∷ to_come) h =
 types_are_made d (kind k n ∷ tops) (one ∷ to_come) h =
     let p = types_are_made d tops (replicate n tt ++ to_come) h.1 in
     kind_made d k n (length to_come) (flat_map spelled_type_top tops) (types_made tops) h.0
-      (record { count = p.count ∙ length_units n to_come; fit = p.fit; bytes_are = p.bytes_are })
+    (record { count = p.count ∙ length_units n to_come; fit = p.fit; bytes_are = p.bytes_are })
 types_are_made d (an_arrow ∷ tops) (one ∷ to_come) h = arrow_made d (length to_come) (flat_map spelled_type_top tops) (types_made tops) (types_are_made d tops (tt ∷ tt ∷ to_come) h.1)
 
 kind_top_takes : (d : Counts) (one : ⊤) (s : Left) (x : TypeTop) (t : Left) → IsBytes s.rest → (four_at s >>= λ k. kind_top_at s.at k.0 (count_of_kind d k.0) k.1) ≡ Ok (x, t) → (text : List ℕ) × Takes s text t × (spelled_type_top x ≡ 1 ∷ text) × IsTypeTop d one x
@@ -134,7 +134,7 @@ type_top_takes d one s x t h e =
     elim (chosen (eqb a.0.0 0) (as_read parameter (four_at a.0.1)) (second a.0) (Ok (x, t)) a.2) [
       | inl y ↦
           let q = as_takes parameter (λ v. 0 ∷ spelled_four v) spelled_type_top (λ v. v < 2 ^ 32) (IsTypeTop d one) (λ v. refl) (λ v lt. lt) s (four_at a.0.1)
-            (λ v u i. let f = four_takes a.0.1 v u p.bytes i in (takes_then s (0 ∷ []) a.0.1 (spelled_four v) u (at 0 y.0) f.0, f.1)) x t y.1 in
+          (λ v u i. let f = four_takes a.0.1 v u p.bytes i in (takes_then s (0 ∷ []) a.0.1 (spelled_four v) u (at 0 y.0) f.0, f.1)) x t y.1 in
           (q.0, some_bytes x, q.1)
       | inr n ↦ elim (chosen (eqb a.0.0 1) (four_at a.0.1 >>= λ k. kind_top_at a.0.1.at k.0 (count_of_kind d k.0) k.1) (last a.0) (Ok (x, t)) n.1) [
         | inl y ↦

@@ -55,6 +55,34 @@ none_waits s a waits all room e so_far = sym room ∙ sym (ap (more s) e) ∙ so
 pub all_too_much : (s a : Option (List ℕ)) (all : List ℕ) → s ≡ None → 16777216 < length all → s ≡ more a all
 all_too_much s a all e lt = e ∙ sym (too_much a all lt)
 
+pub two_then_as : {T E : Type 0} (r : Result T E) (a b c : Option (List ℕ)) (t u v rest : List ℕ) → u ≡ v → b ≡ more a t → OnOk r (c ≡ more b u) → OnOk r (more c rest ≡ more a ((t ++ v) ++ rest))
+two_then_as (Ok x) a b c t u v rest same e f = with_rest a c (t ++ u) rest (more_then a b c t u e f) ∙ ap (λ w. more a ((t ++ w) ++ rest)) same
+two_then_as (Err x) a b c t u v rest same e f = tt
+
+-- what is written, told otherwise
+pub written_so : {A : Type 0} (f : A → List ℕ) (a c : Option (List ℕ)) (x y : A) → x ≡ y → c ≡ more a (f x) → c ≡ more a (f y)
+written_so f a c x y e h = h ∙ ap (λ z. more a (f z)) e
+
+pub written_last : {T E A : Type 0} (r : Result T E) (f : A → List ℕ) (a c : Option (List ℕ)) (x y : A) → x ≡ y → OnOk r (c ≡ more a (f x)) → OnOk r (c ≡ more a (f y))
+written_last (Ok z) f a c x y e h = written_so f a c x y e h
+written_last (Err z) f a c x y e h = tt
+
+-- a count, or what was written before it, told otherwise
+pub counted_so : (a c : Option (List ℕ)) (f : ℕ → List ℕ) (m n : ℕ) → m ≡ n → c ≡ more a (f m) → c ≡ more a (f n)
+counted_so a c f m n e h = h ∙ ap (λ k. more a (f k)) e
+
+pub behind_so : (a b c : Option (List ℕ)) (t : List ℕ) → a ≡ b → c ≡ more a t → c ≡ more b t
+behind_so a b c t e h = h ∙ ap (λ s. more s t) e
+
+-- less waits after each part
+pub less_waits : (front waits text rest : List ℕ) → front ++ waits ≡ text ++ rest → 0 < length front → length waits < length text + length rest
+less_waits front waits text rest e lt =
+    let total : length front + length waits ≡ length text + length rest = sym (length-append front waits) ∙ ap length e ∙ length-append text rest in
+    omega (arith, total, lt)
+
+pub less_than : (text rest : List ℕ) → 0 < length text → length rest < length text + length rest
+less_than text rest lt = omega (arith, lt)
+
 -- a loop over a stack: at first all waits, and each turn leaves less
 pub all_waits : (s : Option (List ℕ)) (waits all : List ℕ) → waits ≡ all → (more s waits ≡ more s all) × (0 + length waits ≤ length all)
 all_waits s waits all e = let l : length waits ≡ length all = ap length e in (ap (more s) e, omega (arith, l))
@@ -72,8 +100,8 @@ entry_written f spell xs i x s a b at e h =
     let k : i + 1 ≡ suc i = omega arith in
     let F = flat_map spell (map f (take i xs)) in
     let front : flat_map spell (map f (take (i + 1) xs)) ≡ F ++ spell (f x) =
-        ap (λ n. flat_map spell (map f (take n xs))) k ∙ ap (λ ys. flat_map spell (map f ys)) (take_suc xs i x at) ∙ ap (flat_map spell) (map-append f (take i xs) (x ∷ []))
-        ∙ flat_map-append spell (map f (take i xs)) (f x ∷ []) ∙ ap (λ y. F ++ y) (append-nil (spell (f x))) in
+    ap (λ n. flat_map spell (map f (take n xs))) k ∙ ap (λ ys. flat_map spell (map f ys)) (take_suc xs i x at) ∙ ap (flat_map spell) (map-append f (take i xs) (x ∷ []))
+    ∙ flat_map-append spell (map f (take i xs)) (f x ∷ []) ∙ ap (λ y. F ++ y) (append-nil (spell (f x))) in
     more_then s a b F (spell (f x)) e h ∙ ap (more s) (sym front)
 
 -- all entries are written
@@ -109,6 +137,11 @@ kind_waits b k args old new e =
     let W = types_waiting b old in
     ap (λ x. N ++ x) (types_reversed b old new args e) ∙ sym (append_assoc N F W) ∙ ap (λ x. (N ++ x) ++ W) (sym (ap (λ ts. spelled_types (tys ts)) (types_at b args) ∙ spelled_tys (types_in b args)))
 
+pub kind_less : (b : Nodes) (k : ℕ) (args old new : List TypeId) → new ≡ old ++ reverse args
+    → length (types_waiting b new) < length (1 ∷ spelled_four k ++ spelled_types (tys (map (type_tree b) (map (λ t. t.0) args)))) + length (types_waiting b old)
+kind_less b k args old new e =
+    less_waits (1 ∷ spelled_four k) (types_waiting b new) (1 ∷ spelled_four k ++ spelled_types (tys (map (type_tree b) (map (λ t. t.0) args)))) (types_waiting b old) (kind_waits b k args old new e) (omega arith)
+
 -- the two types of an arrow wait
 pub arrow_waits : (b : Nodes) (from to : TypeId) (old mid new : List TypeId) → mid ≡ old ++ to ∷ [] → new ≡ mid ++ from ∷ []
     → (2 ∷ []) ++ types_waiting b new ≡ (2 ∷ spelled_type (type_tree b from.0) ++ spelled_type (type_tree b to.0)) ++ types_waiting b old
@@ -117,15 +150,6 @@ arrow_waits b from to old mid new e f =
     let B = spelled_type (type_tree b to.0) in
     let W = types_waiting b old in
     ap (λ x. 2 ∷ x) (type_last b new mid from f ∙ ap (λ x. A ++ x) (type_last b mid old to e) ∙ sym (append_assoc A B W))
-
--- less waits after each part
-pub less_waits : (front waits text rest : List ℕ) → front ++ waits ≡ text ++ rest → 0 < length front → length waits < length text + length rest
-less_waits front waits text rest e lt =
-    let total : length front + length waits ≡ length text + length rest = sym (length-append front waits) ∙ ap length e ∙ length-append text rest in
-    omega (arith, total, lt)
-
-pub less_than : (text rest : List ℕ) → 0 < length text → length rest < length text + length rest
-less_than text rest lt = omega (arith, lt)
 
 -- ---- terms
 
@@ -151,15 +175,15 @@ terms_at b ts = map_composed (λ t. t.0) (tree b) (λ t. tree b t.0) (λ t. refl
 pub abstraction_waits : (b : Nodes) (body : TermId) (old new : List TermId) → new ≡ old ++ body ∷ [] → (6 ∷ []) ++ terms_waiting b new ≡ (6 ∷ spelled_term (tree b body.0)) ++ terms_waiting b old
 abstraction_waits b body old new e = ap (λ x. 6 ∷ x) (term_last b new old body e)
 
-one_more : (n : ℕ) → replicate (suc n) 7 ≡ replicate n 7 ++ 7 ∷ []
+one_more : (n : ℕ) → replicate {A = ℕ} (suc n) 7 ≡ replicate {A = ℕ} n 7 ++ 7 ∷ []
 one_more zero = refl
 one_more (suc n) = ap (λ x. 7 ∷ x) (one_more n)
 
-pub one_seven : (n : ℕ) → replicate (n + 1) 7 ≡ replicate n 7 ++ 7 ∷ []
-one_seven n = ap (λ m. replicate m 7) (omega arith) ∙ one_more n
+pub one_seven : (n : ℕ) → replicate {A = ℕ} (n + 1) 7 ≡ replicate {A = ℕ} n 7 ++ 7 ∷ []
+one_seven n = let k : n + 1 ≡ suc n = omega arith in ap (λ m. replicate {A = ℕ} m 7) k ∙ one_more n
 
 -- a head on arguments: a byte for each argument, the head, and the arguments
-pub spelled_apply : (f : Term) (ts : List Term) → spelled_term (apply f ts) ≡ replicate (length ts) 7 ++ spelled_term f ++ flat_map spelled_term ts
+pub spelled_apply : (f : Term) (ts : List Term) → spelled_term (apply f ts) ≡ replicate (length ts) 7 ++ (spelled_term f ++ flat_map spelled_term ts)
 spelled_apply f [] = sym (append-nil (spelled_term f))
 spelled_apply f (t ∷ ts) =
     let S = replicate (length ts) 7 in
@@ -176,7 +200,7 @@ application_waits b head args old mid new e f =
     let R = flat_map spelled_term (terms_in b args) in
     let W = terms_waiting b old in
     let all : spelled_term (apply (tree b head.0) (map (tree b) (map (λ t. t.0) args))) ≡ S ++ (F ++ R) =
-        ap (λ ts. spelled_term (apply (tree b head.0) ts)) (terms_at b args) ∙ spelled_apply (tree b head.0) (terms_in b args) ∙ ap (λ n. replicate n 7 ++ (F ++ R)) (length-map args (λ t. tree b t.0)) in
+    ap (λ ts. spelled_term (apply (tree b head.0) ts)) (terms_at b args) ∙ spelled_apply (tree b head.0) (terms_in b args) ∙ ap (λ n. replicate n 7 ++ (F ++ R)) (length-map args (λ t. tree b t.0)) in
     ap (λ x. S ++ x) (term_last b new mid head f ∙ ap (λ x. F ++ x) (terms_reversed b old mid args e) ∙ sym (append_assoc F R W)) ∙ sym (append_assoc S (F ++ R) W) ∙ ap (λ x. x ++ W) (sym all)
 
 pub has_arguments : (types terms : ℕ) (n : TermShape) → TermBelow types terms n → HasArguments n
@@ -190,6 +214,6 @@ has_arguments types terms (typed_param_node k t) h = tt
 has_arguments types terms (abs_node b) h = tt
 has_arguments types terms (app_node f ids) h = h.2
 
-pub some_sevens : {A : Type 0} (args : List A) (f : A → ℕ) → map f args ≢ [] → 0 < length (replicate (length args) 7)
+pub some_sevens : {A : Type 0} (args : List A) (f : A → ℕ) → map f args ≢ [] → 0 < length (replicate {A = ℕ} (length args) 7)
 some_sevens [] f h = absurd (h refl)
-some_sevens (a ∷ args) f h = omega (arith, length-replicate (length (a ∷ args)) 7)
+some_sevens (a ∷ args) f h = omega (arith, length-replicate {A = ℕ} (length (a ∷ args)) 7)

@@ -2,10 +2,10 @@ pub mod Arities
 pub mod Certified
 pub mod Facts
 pub mod Filling
-pub mod Reading
-pub mod Refusing
 pub mod Inside
 pub mod Run
+pub mod Reading
+pub mod Refusing
 pub mod Same
 pub mod Spellable
 pub mod Spelling

@@ -48,7 +48,7 @@ spelled_node general = 6 ∷ []
 spelled_node assuming = 7 ∷ []
 spelled_node equated = 8 ∷ []
 spelled_node counted = 9 ∷ []
-spelled_node (back_to c ts) = 10 ∷ spelled_four c ++ spelled_two (length ts) ++ flat_map spelled_type ts
+spelled_node (back_to c ts) = 10 ∷ spelled_four c ++ (spelled_two (length ts) ++ flat_map spelled_type ts)
 spelled_node (focus_converted t) = 16 ∷ spelled_term t
 spelled_node (focus_witness t) = 17 ∷ spelled_term t
 spelled_node (side s) = 18 ∷ s ∷ []
@@ -58,8 +58,8 @@ spelled_node hit = 20 ∷ []
 -- types and values behind their counts, and the nodes of the proof
 unfoldable pub spelled_certificate : Certificate → List ℕ
 spelled_certificate c =
-    spelled_four (length c.instance.types) ++ flat_map spelled_type c.instance.types ++ spelled_four (length c.instance.values) ++ flat_map spelled_term c.instance.values ++ flat_map spelled_node c.nodes
+    spelled_four (length c.instance.types) ++ (flat_map spelled_type c.instance.types ++ (spelled_four (length c.instance.values) ++ (flat_map spelled_term c.instance.values ++ flat_map spelled_node c.nodes)))
 
 -- LPCT, version 1, and the certificates behind their count
 unfoldable pub spelled_certificates : List Certificate → List ℕ
-spelled_certificates cs = (76 ∷ 80 ∷ 67 ∷ 84 ∷ []) ++ spelled_two 1 ++ spelled_four (length cs) ++ flat_map spelled_certificate cs
+spelled_certificates cs = (76 ∷ 80 ∷ 67 ∷ 84 ∷ []) ++ (spelled_two 1 ++ (spelled_four (length cs) ++ flat_map spelled_certificate cs))

@@ -6,5 +6,5 @@ pub mod Named
 pub mod Parts
 pub mod Put
 pub mod Tops
-pub mod Waiting
 pub mod Turned
+pub mod Waiting

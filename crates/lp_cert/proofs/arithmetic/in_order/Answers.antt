@@ -84,6 +84,6 @@ returns-clause-decides c = λ r s.
       (λ j. ordered c.args.order (sym same j) (sym alike j)) ∙ sym c.are_ordered-holds.ensures ∙ e,
     ))
     (λ e k.
-        let x = numbers_once (tree c.args.bank.now c.args.left.0) _ c.in-Some.less k.0 one.1 (ap value (sym (off.same_terms c.in-Is.one.0 one.0)) ∙ less) k.2 in
-        let y = numbers_once (tree c.form_of.new.bank c.args.right.0) _ c.in-Some-later.more k.1 other.1 more (subst (λ x. HasValue x (Number k.1)) (sym (on.same_terms c.args.right.0 s.0)) k.3) in
-        absurd (let p = sym k.4 ∙ (λ j. ordered c.args.order (sym x j) (sym y j)) ∙ (λ j. ordered c.args.order (sym same j) (sym alike j)) ∙ sym c.are_ordered-holds.ensures ∙ e in cc))
+    let x = numbers_once (tree c.args.bank.now c.args.left.0) _ c.in-Some.less k.0 one.1 (ap value (sym (off.same_terms c.in-Is.one.0 one.0)) ∙ less) k.2 in
+    let y = numbers_once (tree c.form_of.new.bank c.args.right.0) _ c.in-Some-later.more k.1 other.1 more (subst (λ x. HasValue x (Number k.1)) (sym (on.same_terms c.args.right.0 s.0)) k.3) in
+    absurd (let p = sym k.4 ∙ (λ j. ordered c.args.order (sym x j) (sym y j)) ∙ (λ j. ordered c.args.order (sym same j) (sym alike j)) ∙ sym c.are_ordered-holds.ensures ∙ e in cc))

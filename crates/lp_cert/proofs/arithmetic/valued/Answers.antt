@@ -71,5 +71,5 @@ returns-clause-decides c = λ r s.
       term_later c.args.bank.now c.form_of.new.bank c.form_of-2.new.bank c.form_of-2.new.bank c.args.term c.in-Is.one v on off (extends_same c.form_of-2.new.bank) r.0 one (c.in_ok-holds.ensures.same e end (begins_itself end)),
     ))
     (λ e k.
-        let same = values_once (tree c.form_of.new.bank c.args.expression.0) _ v k.0 other.1 found (subst (λ x. HasValue x k.0) (sym (on.same_terms c.args.expression.0 s.0)) k.1) in
-        c.in_ok-holds.ensures.differ e end (begins_itself end) (off.same_terms c.in-Is.one.0 one.0 ∙ form_is_value (tree c.args.bank.now c.args.term.0) _ k.0 one.1 k.2 ∙ ap term_of (sym same)))
+    let same = values_once (tree c.form_of.new.bank c.args.expression.0) _ v k.0 other.1 found (subst (λ x. HasValue x k.0) (sym (on.same_terms c.args.expression.0 s.0)) k.1) in
+    c.in_ok-holds.ensures.differ e end (begins_itself end) (off.same_terms c.in-Is.one.0 one.0 ∙ form_is_value (tree c.args.bank.now c.args.term.0) _ k.0 one.1 k.2 ∙ ap term_of (sym same)))

@@ -11,10 +11,11 @@ use Rattle.lp_cert.specs.Reading.{certificate_at}
 use Rattle.lp_cert.proofs.file.read_certificates.Goals as goal
 
 pub loop-preserved : goal.loop-preserved
-loop-preserved c =
-    (extends-trans _ _ _ c.loop.invariant.0 c.in_ok-certificate.ensures.kept,
-     λ b y. goes_on (λ before. certificate_at (counts_of c.args.arities.now)) (map (certificate_of b) c.loop.certificates.items) (map (certificate_of b) c.push.new.self.items) _ _ _ _ _ _ (map_pushed (certificate_of b) _ _ c.in_ok-certificate.certificate c.in_ok-push.ensures.items) c.loop-test.true
-       (c.in_ok-certificate.ensures.read b y) (c.loop.invariant.1 b (extends-trans _ _ b c.in_ok-certificate.ensures.kept y)))
+loop-preserved c = (
+  extends-trans _ _ _ c.loop.invariant.0 c.in_ok-certificate.ensures.kept,
+  λ b y. goes_on (λ before. certificate_at (counts_of c.args.arities.now)) (map (certificate_of b) c.loop.certificates.items) (map (certificate_of b) c.push.new.self.items) _ _ _ _ _ _ (map_pushed (certificate_of b) _ _ c.in_ok-certificate.certificate c.in_ok-push.ensures.items) c.loop-test.true
+      (c.in_ok-certificate.ensures.read b y) (c.loop.invariant.1 b (extends-trans _ _ b c.in_ok-certificate.ensures.kept y)),
+)
 
 pub returns-in_err-certificate-clause-read : goal.returns-in_err-certificate-clause-read
 returns-in_err-certificate-clause-read c = λ b y.

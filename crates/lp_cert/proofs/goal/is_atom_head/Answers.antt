@@ -12,7 +12,6 @@ returns-in-Const-clause-yes c = λ e b g. subst IsAtomHead (seen_later c.args.ba
 pub returns-in-Eigen-clause-yes : goal.returns-in-Eigen-clause-yes
 returns-in-Eigen-clause-yes c = λ e b g. subst IsAtomHead (seen_later c.args.bank.now b c.args.head.0 _ g c.in-Eigen.ensures.node (λ q. absurd (cc)) c.in-Eigen.ensures.within c.in-Eigen.ensures.tree) tt
 
-
 pub returns-in-Const-clause-no : goal.returns-in-Const-clause-no
 returns-in-Const-clause-no c = λ e k. let l = subst IsAtomHead (sym c.in-Const.ensures.tree) k in absurd (grind (arith, nat_tests, e, l))
 

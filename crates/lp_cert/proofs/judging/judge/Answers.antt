@@ -38,7 +38,7 @@ returns-in-No-clause-rejected c = λ n e cs ds q k.
     stops_at _ _ c.args.certificates.now c.loop-certificate.certificate-index n c.certificate-item.result (omega (arith, c.loop-certificate-test.true)) c.certificate-item.is (let q = rejected_number _ n e in omega (arith, q, c.saturating_add-number.ensures, c.loop-certificate.invariant.number))
     (certified_on c.loop-certificate.bank c.certifies.new.bank c.args.names.now.program.constants.items c.args.names.now.program.clauses.items c.args.query.now (take c.loop-certificate.certificate-index c.args.certificates.now) c.in_ok-turn.ensures.kept c.loop-certificate.invariant.certified)
     (λ b h. refused_by b c.new-work.result c.args.query.now c.certificate-item.result _ _ constants clauses (c.in_ok-turn.ensures.refused c.in-No.is idle (begins_ready c.args.bank.now c.loop-certificate.bank c.new-work.result kept idle (subst (AreDeclaredInside (length c.args.bank.now.types)) (sym constants) cs) (subst (All (IsClauseInside c.args.bank.now)) (sym clauses) ds))
-        (query_later c.args.bank.now c.loop-certificate.bank c.args.query.now kept q) (certificate_inside c.args.bank.now c.loop-certificate.bank c.args.certificates.now c.loop-certificate.certificate-index c.certificate-item.result kept (omega (arith, c.loop-certificate-test.true)) c.certificate-item.is k) b h))
+    (query_later c.args.bank.now c.loop-certificate.bank c.args.query.now kept q) (certificate_inside c.args.bank.now c.loop-certificate.bank c.args.certificates.now c.loop-certificate.certificate-index c.certificate-item.result kept (omega (arith, c.loop-certificate-test.true)) c.certificate-item.is k) b h))
 
 pub returns-in-Deep-clause-deep : goal.returns-in-Deep-clause-deep
 returns-in-Deep-clause-deep c = λ n e cs ds q k.
@@ -50,4 +50,4 @@ returns-in-Deep-clause-deep c = λ n e cs ds q k.
     stops_at _ _ c.args.certificates.now c.loop-certificate.certificate-index n c.certificate-item.result (omega (arith, c.loop-certificate-test.true)) c.certificate-item.is (let q = deep_number _ n e in omega (arith, q, c.saturating_add-number.ensures, c.loop-certificate.invariant.number))
     (certified_on c.loop-certificate.bank c.certifies.new.bank c.args.names.now.program.constants.items c.args.names.now.program.clauses.items c.args.query.now (take c.loop-certificate.certificate-index c.args.certificates.now) c.in_ok-turn.ensures.kept c.loop-certificate.invariant.certified)
     (λ b h. large_by b c.new-work.result c.args.query.now c.certificate-item.result _ _ constants clauses (c.in_ok-turn.ensures.large c.in-Deep.is idle (begins_ready c.args.bank.now c.loop-certificate.bank c.new-work.result kept idle (subst (AreDeclaredInside (length c.args.bank.now.types)) (sym constants) cs) (subst (All (IsClauseInside c.args.bank.now)) (sym clauses) ds))
-        (query_later c.args.bank.now c.loop-certificate.bank c.args.query.now kept q) (certificate_inside c.args.bank.now c.loop-certificate.bank c.args.certificates.now c.loop-certificate.certificate-index c.certificate-item.result kept (omega (arith, c.loop-certificate-test.true)) c.certificate-item.is k) b h))
+    (query_later c.args.bank.now c.loop-certificate.bank c.args.query.now kept q) (certificate_inside c.args.bank.now c.loop-certificate.bank c.args.certificates.now c.loop-certificate.certificate-index c.certificate-item.result kept (omega (arith, c.loop-certificate-test.true)) c.certificate-item.is k) b h))

@@ -13,7 +13,7 @@ loop-node-init c = sym (more_nothing c.args.writer.now)
 pub loop-node-preserved : goal.loop-node-preserved
 loop-node-preserved c =
     entry_written (node_of c.args.bank.now) spelled_node c.args.nodes.now c.loop-node.node-index _ _ _ _ (get_read c.args.nodes.now c.args.nodes.now c.loop-node.node-index _ _ refl (omega (arith, c.loop-node-test.true)) c.node-item.is)
-      c.loop-node.invariant c.in_ok-write_node.ensures
+    c.loop-node.invariant c.in_ok-write_node.ensures
 
 pub returns : goal.returns
 returns c = entries_written (node_of c.args.bank.now) spelled_node c.args.nodes.now c.loop-node.node-index _ _ (omega (arith, c.loop-node-test.false)) c.loop-node.invariant

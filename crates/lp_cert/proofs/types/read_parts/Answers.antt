@@ -11,10 +11,11 @@ use Rattle.lp_cert.proofs.Wanted.{one_wanted, more_wanted, none_wanted}
 use Rattle.lp_cert.proofs.types.read_parts.Goals as goal
 
 pub loop-preserved : goal.loop-preserved
-loop-preserved c =
-    (omega (arith, c.loop.invariant.0, c.arguments.ensures.few, c.loop-test.true),
-     part_read (λ one. type_top_at (counts_of c.args.arities.now)) types_below _ _ (type_top_of c.in_ok-part.part) _ _ _ tt (replicate (c.loop.wanted - 1) tt) _ _ _ _ (map_pushed type_top_of _ _ c.in_ok-part.part c.in_ok-push.ensures.items) c.loop-test.true
-       (one_wanted c.loop.wanted (omega (arith, c.if-wanted-eq0.false))) (more_wanted c.loop.wanted c.arguments.result _ _ c.arguments.ensures.arguments refl) c.in_ok-part.ensures c.loop.invariant.1)
+loop-preserved c = (
+  omega (arith, c.loop.invariant.0, c.arguments.ensures.few, c.loop-test.true),
+  part_read (λ one. type_top_at (counts_of c.args.arities.now)) types_below _ _ (type_top_of c.in_ok-part.part) _ _ _ tt (replicate (c.loop.wanted - 1) tt) _ _ _ _ (map_pushed type_top_of _ _ c.in_ok-part.part c.in_ok-push.ensures.items) c.loop-test.true
+      (one_wanted c.loop.wanted (omega (arith, c.if-wanted-eq0.false))) (more_wanted c.loop.wanted c.arguments.result _ _ c.arguments.ensures.arguments refl) c.in_ok-part.ensures c.loop.invariant.1,
+)
 
 pub returns-in_err-part : goal.returns-in_err-part
 returns-in_err-part c =

@@ -11,8 +11,8 @@ loop-of-init c = sym (more_nothing c.args.writer.now)
 
 pub loop-of-preserved : goal.loop-of-preserved
 loop-of-preserved c =
-    entry_written (λ t. type_tree c.args.bank.now t.0) spelled_type c.args.types.now c.loop-of.of-index _ _ _ _ (get_read c.args.types.now c.args.types.now c.loop-of.of-index _ _ refl (omega (arith, c.loop-of-test.true)) c.of-item.is)
-      c.loop-of.invariant c.in_ok-write_type.ensures
+    entry_written (λ t. type_tree c.args.bank.now t.0) spelled_type c.args.types.now c.loop-of.of-index _ _ _ _ (get_read c.args.types.now c.args.types.now c.loop-of.of-index _ _ refl (omega (arith, c.loop-of-test.true)) refl)
+    c.loop-of.invariant c.in_ok-write_type.ensures
 
 pub returns : goal.returns
 returns c = entries_written (λ t. type_tree c.args.bank.now t.0) spelled_type c.args.types.now c.loop-of.of-index _ _ (omega (arith, c.loop-of-test.false)) c.loop-of.invariant

@@ -48,6 +48,11 @@ returns-clause-turned c = λ w g i.
     goes_to c.args.bank.now c.clause.new.bank c.args.self.now c.clause.new.self _ (λ b. proving (tree b c.args.goal.0)) (λ b. back_to c.args.number (types_in b c.args.types.now)) kept
     (stays_trans _ _ _ (record { theory = refl; eigens = refl; assumed = refl; tasks = refl }) c.in_ok-found.ensures.stays) (task.Focus c.in-Some.clause c.args.goal) (record { theory = refl; eigens = refl; assumed = refl; tasks = c.in_ok-push.ensures.items }) w
     (some_is _ c.in_ok-found.found c.in-Some.clause c.in-Some.is c.in_ok-found.ensures.ready before types, ready_later _ _ c.args.goal kept g) (λ b h at.
-    let it = some_is _ c.in_ok-found.found c.in-Some.clause c.in-Some.is c.in_ok-found.ensures.clause i b h in
-    (it.clause, it.at, it.count, closed_types_later c.args.bank.now b c.args.types.now (extends-trans _ _ _ kept h) types, c.is_atom.ensures.yes c.if-not-is_atom.false b (extends-trans _ _ _ kept h),
-      (at.0, at.1, ap (λ X. focusing X (tree b c.args.goal.0) ∷ jobs_of b c.args.self.now.tasks.items) (sym it.is) ∙ at.2)))
+    let it = some_is _ c.in_ok-found.found c.in-Some.clause c.in-Some.is c.in_ok-found.ensures.clause i b h in (
+      it.clause,
+      it.at,
+      it.count,
+      closed_types_later c.args.bank.now b c.args.types.now (extends-trans _ _ _ kept h) types,
+      c.is_atom.ensures.yes c.if-not-is_atom.false b (extends-trans _ _ _ kept h),
+      (at.0, at.1, ap (λ X. focusing X (tree b c.args.goal.0) ∷ jobs_of b c.args.self.now.tasks.items) (sym it.is) ∙ at.2),
+    ))

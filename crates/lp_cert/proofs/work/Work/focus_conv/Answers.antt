@@ -51,6 +51,6 @@ returns-in-Deep-clause-turned c = λ w g d l b h.
     let off = c.in_ok-compared.ensures.kept in (
       formula_in b c.args.self.now c.args.other c.in_ok-of.of (type_later _ b c.in_ok-of.of _ (extends-trans _ _ _ c.in_ok-is_closed_of.ensures.kept (extends-trans _ _ _ off h)) c.in_ok-of.ensures.within c.in_ok-of.ensures.tree) (c.in_ok-is_closed_of.ensures.typed c.if-not-branch.false b (extends-trans _ _ _ off h)),
       c.in_ok-compared.ensures.deep c.in-Deep.is
-      (other_ready _ _ c.args.other _ c.in_ok-is_closed_of.ensures.kept (further _ _ c.args.other on l) (c.in_ok-is_closed_of.ensures.closed c.if-not-branch.false))
-      (ready_later _ _ c.args.clause (extends-trans _ _ _ on c.in_ok-is_closed_of.ensures.kept) g) b h,
+          (other_ready _ _ c.args.other _ c.in_ok-is_closed_of.ensures.kept (further _ _ c.args.other on l) (c.in_ok-is_closed_of.ensures.closed c.if-not-branch.false))
+          (ready_later _ _ c.args.clause (extends-trans _ _ _ on c.in_ok-is_closed_of.ensures.kept) g) b h,
     )

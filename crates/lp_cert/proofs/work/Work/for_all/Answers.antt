@@ -47,6 +47,10 @@ returns-clause-turned c = pushed_turned c.go_on.result _ _ c.go_on.ensures.pushe
     goes_under_eigen c.args.bank.now _ c.args.self.now _ c.go_on.new.self (λ b. proving (tree b c.args.goal.0)) (λ b. general) c.in-Some.of (task.Prove c.in_ok-next.next) long
     (record { theory = refl; eigens = c.in_ok-push.ensures.items; assumed = refl; tasks = c.in_ok-push-2.ensures.items }) p w (subst IsClosedType (sym type_is) t.1)
     (applied_ready _ c.in_ok-next.next c.in-Some.body c.in_ok-eigen.eigen (made _ (extends_same _)) c.in_ok-next.ensures.within (ready_later _ _ c.in-Some.body long t.0) (eigen_ready _ c.in_ok-eigen.eigen _ (further _ _ c.in_ok-eigen.eigen off c.in_ok-eigen.ensures.within) (new_one _ (extends_same _))))
-    (λ b h at. (type_tree b c.in-Some.of.0, tree b c.in-Some.body.0, c.in-Some.ensures.later b (extends-trans _ _ _ long h),
+    (λ b h at. (
+      type_tree b c.in-Some.of.0,
+      tree b c.in-Some.body.0,
+      c.in-Some.ensures.later b (extends-trans _ _ _ long h),
       subst (λ X. At b c.go_on.new.self (types_in b c.args.self.now.eigens.items ++ type_tree b c.in-Some.of.0 ∷ []) (terms_in b c.args.self.now.assumed.items) (proving X ∷ leaving_eigen ∷ jobs_of b c.args.self.now.tasks.items))
-      (made b h ∙ ap (app (tree b c.in-Some.body.0)) (new_one b h ∙ ap (λ k. atom (eigen k)) (level_is b))) at)))
+          (made b h ∙ ap (app (tree b c.in-Some.body.0)) (new_one b h ∙ ap (λ k. atom (eigen k)) (level_is b))) at,
+    )))
