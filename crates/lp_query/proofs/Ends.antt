@@ -146,9 +146,9 @@ pub for_ok : {P : Type 0} (r : Result Written AskRefusal) → P → IfOk r (λ w
 for_ok (Ok w) p = p
 for_ok (Err e) p = tt
 
-pub for_err : {P : Type 0} {Q : AskRefusal → Type 0} (r : Result Written AskRefusal) → P → IfErr r (λ e. P ⊎ Q e)
-for_err (Ok w) p = tt
-for_err (Err e) p = inl p
+pub for_err : {P : Type 0} (Q : AskRefusal → Type 0) (r : Result Written AskRefusal) → P → IfErr r (λ e. P ⊎ Q e)
+for_err Q (Ok w) p = tt
+for_err Q (Err e) p = inl p
 
 pub may_report : (watched : Bool) (reports : List ℕ) → MayReport watched (reports_in watched reports)
 may_report true reports = λ e. absurd (cc)

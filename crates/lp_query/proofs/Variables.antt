@@ -207,8 +207,8 @@ one_list r text ns ms a b =
     let read : IsQueryText (spot_at 0 text b.tokens) ops ls a.raw = subst (λ ts. IsQueryText (spot_at 0 text ts) ops (lexemes text ts) a.raw) e a.read in
     let t : read.tree ≡ b.read.tree = one_query ops ls read.tree b.read.tree read.is b.read.is in
     let places : a.places ≡ b.places = same_places r.signature text (spot_at 0 text b.tokens) ls a.raw.term.nodes.items b.raw.term.nodes.items a.typed.typing.notes b.typed.typing.notes (length a.places) (length b.places)
-        a.raw.term.root b.raw.term.root b.read.tree (subst (Shows (spot_at 0 text b.tokens) ls a.raw.term.nodes.items a.raw.term.root) t read.nodes) b.read.nodes [] [] a.typed.typing.looked_up b.typed.typing.looked_up a.places b.places
-        a.typed.typing.reads b.typed.typing.reads in
+    a.raw.term.root b.raw.term.root b.read.tree (subst (Shows (spot_at 0 text b.tokens) ls a.raw.term.nodes.items a.raw.term.root) t read.nodes) b.read.nodes [] [] a.typed.typing.looked_up b.typed.typing.looked_up a.places b.places
+    a.typed.typing.reads b.typed.typing.reads in
     a.are ∙ (ap (map (spelled text)) places ∙ sym b.are)
 
 -- the names of the variables so far, and one more

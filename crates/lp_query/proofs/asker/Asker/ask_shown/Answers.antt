@@ -60,4 +60,4 @@ pub returns-clause-there : goal.returns-clause-there
 returns-clause-there g c = for_ok c.answer.result (map bytes c.in_ok-compiled.compiled.names.items, (c.in_ok-compiled.ensures.variables, c.in_ok-asked.ensures.there))
 
 pub returns-clause-shows : goal.returns-clause-shows
-returns-clause-shows g c = for_err c.answer.result (map bytes c.in_ok-compiled.compiled.names.items, (c.in_ok-compiled.ensures.variables, c.in_ok-asked.ensures.there))
+returns-clause-shows g c = for_err _ c.answer.result (map bytes c.in_ok-compiled.compiled.names.items, (c.in_ok-compiled.ensures.variables, c.in_ok-asked.ensures.there))
