@@ -6,7 +6,7 @@
 sources_sum() {
     (
         cd "$1" || exit 1
-        find crates.txt crates -path crates/lp_rows -prune -o -path crates/lp_code_rows -prune -o -path 'crates/*/out' -prune -o -name tests -prune -o -name tests.rt -prune \
+        find crates.txt crates -path crates/lp_rows -prune -o -path crates/lp_code_rows -prune -o -path crates/lp_solve_rows -prune -o -path crates/lp_given -prune -o -path 'crates/*/out' -prune -o -name tests -prune -o -name tests.rt -prune \
             -o \( -path '*/src/*.rt' -o -name crates.txt \) -type f -print0 |
             LC_ALL=C sort -z | xargs -0 sha256sum | sha256sum | cut -d ' ' -f 1
     )

@@ -4,7 +4,7 @@
 A line `% ? QUERY` in a module's file asks a query; the comment lines behind it, up to an empty one, are its output. `solve` answers it on the texts;
 then the modules are compiled and linked in a copy of the folder, where `query` has to write the same bytes on the image, with the same status. A file
 `M.qry` is the lines of a `session` on `M`, and `M.replies` what it writes. Without arguments all examples are run; with arguments, these folders.
-`--cmd PROGRAM` names another program than the launcher at the top. `--write` runs nothing: it writes the examples as the test of the top crate, to
+`--cmd PROGRAM` names another program than the launcher at the top. `--write` runs nothing: it writes the examples as a test of lp_solve_rows, to
 be laid out by `rt fmt`.
 """
 import os
@@ -41,7 +41,7 @@ QUERIES = """// The examples, each with its queries. This file is written by `ex
 // The modules of the examples.
 mod texts;
 
-use super::with_files;
+use crate::asking::with_files;
 use lp_base::{Memory, Status};
 use texts::FILES;
 
@@ -50,7 +50,7 @@ fn examples_are_answered(rt: HostRuntime) -> Result<(), Memory> {
     let alloc = rt.alloc();
     for (module, query, status, written) in [
 %s    ] {
-        with_files(&rt, alloc, &FILES, &["solve", module, query], status, written)?;
+        with_files(&rt, alloc, &FILES, module, query, status, written)?;
     }
     Ok(())
 }
@@ -80,7 +80,7 @@ def status_of(lines):
 
 
 def write():
-    """Writes the examples as the test of the top crate."""
+    """Writes the examples as a test of lp_solve_rows."""
     files = []
     rows = []
     for name in sorted(name for name in os.listdir(HERE) if os.path.isdir(os.path.join(HERE, name))):
@@ -93,7 +93,7 @@ def write():
             for query, lines in queries(path):
                 written = literal("".join(line + "\n" for line in lines)).replace("\n", "\\n")
                 rows.append("        (%s, %s, Status::%s, %s),\n" % (literal(file[:-4]), literal(query), status_of(lines), written))
-    tests = os.path.join(HERE, "..", "crates", "lp_cli", "src", "tests")
+    tests = os.path.join(HERE, "..", "crates", "lp_solve_rows", "src")
     os.makedirs(os.path.join(tests, "examples"), exist_ok=True)
     with open(os.path.join(tests, "examples.rt"), "w", encoding="ascii") as file:
         file.write(QUERIES % "".join(rows))

@@ -1,2 +1,3 @@
+pub mod inner
 pub mod Meaning
 pub mod Stands

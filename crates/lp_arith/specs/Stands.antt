@@ -1,5 +1,4 @@
 -- Expressions and values whose cells stand in a store.
-use Rattle.std.specs.Prelude.{ℕ}
 use Rattle.lp_store.specs.Contents.{Contents}
 use Rattle.lp_goal.specs.Kinds.{IsCell}
 use Rattle.lp_arith.specs.declared.value.Value.{Value}

@@ -1,11 +1,18 @@
 // The evaluation of an expression, operands left to right before the operation.
-#![tactic(auto, using(lp_susp::proofs::Keeping::grows_on, lp_susp::proofs::Keeping::grows_same, lp_susp::proofs::Chains::marks_on))]
+#![tactic(auto, using(lp_susp::proofs::Keeping::grows_on, lp_susp::proofs::Keeping::grows_same, lp_susp::proofs::Keeping::keeps_on, lp_susp::proofs::Keeping::keeps_same, lp_susp::proofs::Keeping::keeps_of, lp_susp::proofs::Keeping::reduced_of, lp_susp::proofs::Keeping::reduced_on, lp_susp::proofs::Keeping::reduced_same, lp_susp::proofs::Chains::marks_on))]
 
-ghost use Rattle.std.specs.Prelude.{All, IfOk, OnOk};
+ghost use Rattle.std.specs.Prelude.{◌≡◌, ◌++◌, ◌∷◌, ◌+◌, ◌<◌, ◌≤◌, ℕ, List, length, reverse, suc, All, IfOk, IfErr, OnOk};
+ghost use Rattle.lp_calculus.specs.Term.{Term, atom, text};
+ghost use Rattle.lp_standard.specs.Constants.{number};
+ghost use Rattle.lp_model.specs.Values as model;
+ghost use Rattle.lp_model.specs.Values.{HasValue, binary, unary};
+ghost use Rattle.lp_store.specs.Reading.{Reads};
 ghost use Rattle.lp_store.specs.Change.{KeepsMarks};
-ghost use Rattle.lp_susp.specs.Kept.{Grows};
+ghost use Rattle.lp_susp.specs.Kept.{Grows, Keeps, Reduced};
 ghost use Rattle.lp_goal.specs.Kinds.{IsCell};
+ghost use Rattle.lp_arith.specs.Meaning.{IsValueIn, GivesValue, IsRefused};
 ghost use Rattle.lp_arith.specs.Stands.{StandsValue, StandsAround, StandsState};
+ghost use Rattle.lp_arith.specs.inner.Frames.{IsAt, weight, weights};
 
 use crate::expression::{Expression, expression_of};
 use crate::operation::{on_integer, on_integers, on_length};
@@ -13,6 +20,7 @@ use crate::value::{ArithRefusal, Value};
 use lp_base::{Memory, RUN_LIMIT};
 use lp_standard::Constant;
 use lp_store::{Cell, CellId, Store};
+use lp_susp::expose;
 use std::alloc::Global;
 
 // What stands around the part that is evaluated: an operation on it alone, one whose right operand follows, or one whose left value is known.
@@ -31,13 +39,17 @@ pub(crate) enum State {
 }
 
 // Puts the bytes of a string behind others.
-fn add_text(store: &Store, text: CellId, out: &mut Vec<u8>) -> Result<(), Memory>
-    requires { IsCell store.now text }
+fn add_text(alloc: Global, store: &mut Store, cell: CellId, out: &mut Vec<u8>) -> Result<(), Memory>
+    requires { IsCell store.old cell }
+    ensures added { OnOk result ((s : List ℕ) → Reads store.old cell.0 (atom (text s)) → out.new.items ≡ out.old.items ++ s) }
+    ensures kept { Keeps store.old store.new }
+    ensures marks { KeepsMarks store.old store.new }
 {
-    match store.cell(text) {
-        Cell::Text(bytes) => out.extend_from_slice(store.bytes(bytes))?,
-        _ => {}
-    }
+    let at = expose(alloc, store, cell)?;
+    let Cell::Text(bytes) = store.cell(at) else {
+        return Ok(());
+    };
+    out.extend_from_slice(store.bytes(bytes))?;
     Ok(())
 }
 
@@ -51,23 +63,53 @@ fn joined(
     requires left { IsCell store.old left }
     requires right { IsCell store.old right }
     ensures cell { IfOk result (IsCell store.new) }
-    ensures grows { Grows store.old store.new }
+    ensures reads { IfOk result (λ id. (s t : List ℕ) → Reads store.old left.0 (atom (text s)) → Reads store.old right.0 (atom (text t)) → Reads store.new id.0 (atom (text (s ++ t)))) }
+    ensures refused { IfErr result (λ e. e ≡ ArithRefusal.Memory) }
+    ensures kept { Keeps store.old store.new }
     ensures marks { KeepsMarks store.old store.new }
 {
     let mut bytes = Vec::new(alloc);
-    add_text(store, left, &mut bytes)?;
-    add_text(store, right, &mut bytes)?;
-    let text = store.text(bytes.as_slice())?;
-    let id = store.push(Cell::Text(text))?;
+    add_text(alloc, store, left, &mut bytes)?;
+    add_text(alloc, store, right, &mut bytes)?;
+    let span = store.text(bytes.as_slice())?;
+    let id = store.push(Cell::Text(span))?;
     Ok(id)
 }
 
-fn length_of(store: &Store, text: CellId) -> usize
-    requires { IsCell store.now text }
+// How many bytes a string has.
+fn length_of(alloc: Global, store: &mut Store, cell: CellId) -> Result<usize, Memory>
+    requires { IsCell store.old cell }
+    ensures count { IfOk result (λ count. (s : List ℕ) → Reads store.old cell.0 (atom (text s)) → length s ≡ count) }
+    ensures kept { Keeps store.old store.new }
+    ensures marks { KeepsMarks store.old store.new }
 {
-    match store.cell(text) {
-        Cell::Text(bytes) => store.bytes(bytes).len(),
-        _ => 0,
+    let at = expose(alloc, store, cell)?;
+    let Cell::Text(bytes) = store.cell(at) else {
+        return Ok(0);
+    };
+    Ok(store.bytes(bytes).len())
+}
+
+fn on_strings(
+    alloc: Global,
+    store: &mut Store,
+    operation: Constant,
+    left: CellId,
+    right: CellId,
+) -> Result<Value, ArithRefusal>
+    requires left { IsCell store.old left }
+    requires right { IsCell store.old right }
+    ensures value { IfOk result (StandsValue store.new) }
+    ensures gives { (s t : List ℕ) → Reads store.old left.0 (atom (text s)) → Reads store.old right.0 (atom (text t)) → GivesValue store.new result (binary (number operation) (model.Bytes s) (model.Bytes t)) }
+    ensures kept { Keeps store.old store.new }
+    ensures marks { KeepsMarks store.old store.new }
+{
+    match operation {
+        Constant::Concatenate => {
+            let span = joined(alloc, store, left, right)?;
+            Ok(Value::Text(span))
+        }
+        _ => Err(ArithRefusal::NotClosed),
     }
 }
 
@@ -81,39 +123,48 @@ fn on_two(
     requires left { StandsValue store.old left }
     requires right { StandsValue store.old right }
     ensures value { IfOk result (StandsValue store.new) }
-    ensures grows { Grows store.old store.new }
+    ensures gives { (m n : model.Value) → IsValueIn store.old left m → IsValueIn store.old right n → GivesValue store.new result (binary (number operation) m n) }
+    ensures kept { Keeps store.old store.new }
     ensures marks { KeepsMarks store.old store.new }
 {
     match left {
         Value::Int(one) => match right {
             Value::Int(other) => {
-                let number = on_integers(operation, one, other)?;
-                Ok(Value::Int(number))
+                let sum = on_integers(operation, one, other)?;
+                Ok(Value::Int(sum))
             }
             Value::Text(_) => Err(ArithRefusal::NotClosed),
         },
         Value::Text(one) => match right {
             Value::Int(_) => Err(ArithRefusal::NotClosed),
-            Value::Text(other) => {
-                if operation != Constant::Concatenate {
-                    return Err(ArithRefusal::NotClosed);
-                }
-                let text = joined(alloc, store, one, other)?;
-                Ok(Value::Text(text))
-            }
+            Value::Text(other) => on_strings(alloc, store, operation, one, other),
         },
     }
 }
 
-fn on_one(store: &Store, operation: Constant, operand: Value) -> Result<Value, ArithRefusal>
-    requires { StandsValue store.now operand }
-    ensures { IfOk result (StandsValue store.now) }
+fn on_one(
+    alloc: Global,
+    store: &mut Store,
+    operation: Constant,
+    operand: Value,
+) -> Result<Value, ArithRefusal>
+    requires { StandsValue store.old operand }
+    ensures value { IfOk result (StandsValue store.new) }
+    ensures gives { (m : model.Value) → IsValueIn store.old operand m → GivesValue store.new result (unary (number operation) m) }
+    ensures kept { Keeps store.old store.new }
+    ensures marks { KeepsMarks store.old store.new }
 {
-    let number = match operand {
-        Value::Int(number) => on_integer(operation, number)?,
-        Value::Text(text) => on_length(operation, length_of(store, text))?,
-    };
-    Ok(Value::Int(number))
+    match operand {
+        Value::Int(one) => {
+            let negative = on_integer(operation, one)?;
+            Ok(Value::Int(negative))
+        }
+        Value::Text(cell) => {
+            let count = length_of(alloc, store, cell)?;
+            let size = on_length(operation, count)?;
+            Ok(Value::Int(size))
+        }
+    }
 }
 
 // Looks at an expression: its value, or its first operand.
@@ -127,7 +178,10 @@ fn enter(
     requires around { All (StandsAround store.old) around.old.items }
     ensures state { IfOk result (StandsState store.new) }
     ensures around { OnOk result (All (StandsAround store.new) around.new.items) }
-    ensures grows { Grows store.old store.new }
+    ensures weight { OnOk result (weights (reverse around.new.items) ≤ 2 + weights (reverse around.old.items)) }
+    ensures at { IfOk result (λ state. (n : ℕ) (t : Term) → IsAt store.old (reverse around.old.items) (State.Visit term) n t → IsAt store.new (reverse around.new.items) state (suc n) t) }
+    ensures refused { IfErr result (λ e. (n : ℕ) (t : Term) → IsAt store.old (reverse around.old.items) (State.Visit term) n t → IsRefused t e) }
+    ensures reduced { Reduced store.old store.new }
     ensures marks { KeepsMarks store.old store.new }
 {
     match expression_of(alloc, store, term)? {
@@ -157,12 +211,15 @@ fn leave(
     requires around { All (StandsAround store.old) around.old.items }
     ensures state { IfOk result (StandsState store.new) }
     ensures around { OnOk result (All (StandsAround store.new) around.new.items) }
-    ensures grows { Grows store.old store.new }
+    ensures weight { OnOk result (weights (reverse around.new.items) < weight innermost + weights (reverse around.old.items)) }
+    ensures at { IfOk result (λ state. (n : ℕ) (t : Term) → IsAt store.old (innermost ∷ reverse around.old.items) (State.Known value) n t → IsAt store.new (reverse around.new.items) state n t) }
+    ensures refused { IfErr result (λ e. (n : ℕ) (t : Term) → IsAt store.old (innermost ∷ reverse around.old.items) (State.Known value) n t → IsRefused t e) }
+    ensures kept { Keeps store.old store.new }
     ensures marks { KeepsMarks store.old store.new }
 {
     match innermost {
         Around::One(operation) => {
-            let known = on_one(store, operation, value)?;
+            let known = on_one(alloc, store, operation, value)?;
             Ok(State::Known(known))
         }
         Around::Left(operation, right) => {
@@ -184,13 +241,16 @@ fn leave(
 pub fn evaluate(alloc: Global, store: &mut Store, cell: CellId) -> Result<Value, ArithRefusal>
     requires { IsCell store.old cell }
     ensures value { IfOk result (StandsValue store.new) }
+    ensures is { IfOk result (λ value. (t : Term) → Reads store.old cell.0 t → (m : model.Value) × IsValueIn store.new value m × HasValue t m) }
+    ensures refused { IfErr result (λ e. (t : Term) → Reads store.old cell.0 t → IsRefused t e) }
     ensures grows { Grows store.old store.new }
+    ensures reduced { Reduced store.old store.new }
     ensures marks { KeepsMarks store.old store.new }
 {
     let mut around = Vec::new(alloc);
     let mut state = State::Visit(cell);
     let mut left = RUN_LIMIT;
-    'parts: for _ in 0..u64::MAX {
+    'parts: loop {
         match state {
             State::Visit(term) => {
                 if left == 0 {
@@ -209,5 +269,4 @@ pub fn evaluate(alloc: Global, store: &mut Store, cell: CellId) -> Result<Value,
             }
         }
     }
-    Err(ArithRefusal::Deep)
 }

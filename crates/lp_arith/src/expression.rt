@@ -1,10 +1,16 @@
 // A head-normal expression, by its head.
-ghost use Rattle.std.specs.Prelude.{All, IfOk};
-ghost use Rattle.lp_store.specs.Contents.{Contents};
+ghost use Rattle.std.specs.Prelude.{◌≡◌, IfOk, IfErr};
+ghost use Rattle.lp_calculus.specs.Term.{Term};
+ghost use Rattle.lp_calculus.specs.Convert.{Reduces};
+ghost use Rattle.lp_standard.specs.Constants.{numbered};
+ghost use Rattle.lp_store.specs.Reading.{Reads};
 ghost use Rattle.lp_store.specs.Change.{KeepsMarks};
-ghost use Rattle.lp_susp.specs.Kept.{Grows};
+ghost use Rattle.lp_susp.specs.Kept.{Reduced};
 ghost use Rattle.lp_goal.specs.Kinds.{IsCell};
 ghost use Rattle.lp_arith.specs.Stands.{StandsExpression};
+ghost use Rattle.lp_arith.specs.inner.ByOperation.{one_by, two_by, operation_by, applied_by, expression_by};
+ghost use Rattle.lp_arith.specs.inner.Frames.{IsExpression};
+ghost use Rattle.lp_arith.specs.inner.Refusals.{IsUnseen};
 
 use crate::value::{ArithRefusal, Value};
 use lp_base::Memory;
@@ -22,7 +28,7 @@ pub(crate) enum Expression {
 }
 
 fn on_two(operation: Constant, left: CellId, right: CellId) -> Expression
-    ensures { (s : Contents) → IsCell s left → IsCell s right → StandsExpression s result }
+    ensures { result ≡ two_by operation left right }
 {
     match operation {
         Constant::Add | Constant::Subtract | Constant::Multiply => {
@@ -36,7 +42,7 @@ fn on_two(operation: Constant, left: CellId, right: CellId) -> Expression
 }
 
 fn on_one(operation: Constant, operand: CellId) -> Expression
-    ensures { (s : Contents) → IsCell s operand → StandsExpression s result }
+    ensures { result ≡ one_by operation operand }
 {
     match operation {
         Constant::Negate | Constant::Size => Expression::One(operation, operand),
@@ -44,16 +50,35 @@ fn on_one(operation: Constant, operand: CellId) -> Expression
     }
 }
 
-// The operation of a number on these operands.
-fn applied(number: u32, operands: &[CellId]) -> Expression
-    ensures { (s : Contents) → All (IsCell s) operands.now → StandsExpression s result }
+// An operation on these operands.
+fn operation_on(operation: Constant, operands: &[CellId]) -> Expression
+    ensures { result ≡ operation_by operation operands.now }
 {
-    let Some(operation) = Constant::from_number(number) else {
-        return Expression::Other;
-    };
     match operands {
         [operand] => on_one(operation, *operand),
         [left, right] => on_two(operation, *left, *right),
+        _ => Expression::Other,
+    }
+}
+
+// The operation of a number on these operands.
+fn applied(number: u32, operands: &[CellId]) -> Expression
+    ensures { result ≡ applied_by (numbered number) operands.now }
+{
+    match Constant::from_number(number) {
+        Some(operation) => operation_on(operation, operands),
+        None => Expression::Other,
+    }
+}
+
+// A head on these operands.
+fn told(head: CellId, cell: Cell, operands: &[CellId]) -> Expression
+    ensures { result ≡ expression_by head cell operands.now }
+{
+    match cell {
+        Cell::Int(integer) if operands.is_empty() => Expression::Leaf(Value::Int(integer)),
+        Cell::Text(_) if operands.is_empty() => Expression::Leaf(Value::Text(head)),
+        Cell::Const(number, _) => applied(number, operands),
         _ => Expression::Other,
     }
 }
@@ -66,15 +91,12 @@ pub(crate) fn expression_of(
 ) -> Result<Expression, ArithRefusal>
     requires { IsCell store.old term }
     ensures stands { IfOk result (StandsExpression store.new) }
-    ensures grows { Grows store.old store.new }
+    ensures is { IfOk result (λ seen. (t : Term) → Reads store.old term.0 t → (x : Term) × Reduces t x × IsExpression store.new seen x) }
+    ensures refused { IfErr result (λ e. (t : Term) → Reads store.old term.0 t → IsUnseen t e) }
+    ensures reduced { Reduced store.old store.new }
     ensures marks { KeepsMarks store.old store.new }
 {
     let spine = spine_of(alloc, store, term)?;
-    let operands = spine.arguments(store);
-    match store.cell(spine.head) {
-        Cell::Int(value) if operands.is_empty() => Ok(Expression::Leaf(Value::Int(value))),
-        Cell::Text(_) if operands.is_empty() => Ok(Expression::Leaf(Value::Text(spine.head))),
-        Cell::Const(number, _) => Ok(applied(number, operands)),
-        _ => Ok(Expression::Other),
-    }
+    let cell = store.cell(spine.head);
+    Ok(told(spine.head, cell, spine.arguments(store)))
 }

@@ -5,6 +5,8 @@
 mod evaluation;
 // An expression by its head.
 mod expression;
+/// What holds of faults.
+pub mod laws;
 // What the operations give.
 mod operation;
 // Values, and why there is none.

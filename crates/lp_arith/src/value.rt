@@ -60,6 +60,11 @@ impl<T: Drop> From<AllocFailed<T>> for ArithRefusal {
 
 // A term that takes too many contractions is too deep.
 impl From<TermRefusal> for ArithRefusal {
+    ghost use Rattle.std.specs.Prelude.{◌≡◌};
+    ghost use Rattle.lp_arith.specs.inner.Refusals.{refusal_of};
+
+    ghost from_gives = { λ r e. e ≡ refusal_of r };
+
     fn from(refusal: TermRefusal) -> ArithRefusal {
         match refusal {
             TermRefusal::Deep(_) => ArithRefusal::Deep,

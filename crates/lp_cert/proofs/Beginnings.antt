@@ -17,12 +17,12 @@ use Rattle.lp_cert.proofs.Comparisons.{twice}
 pub constant_tree : (b : Nodes) (n : ℕ) (ids : List TypeId) (h : Term) → atom (constant n (map (type_tree b) (map (λ t. t.0) ids))) ≡ h → h ≡ atom (constant n (types_in b ids))
 constant_tree b n ids h e = sym e ∙ ap (λ l. atom (constant n l)) (twice (type_tree b) ids)
 
-one_argument : (b : Nodes) (h t : Term) (ids : List TermId) → length ids ≡ 1 → apply h (map (tree b) (map (λ t. t.0) ids)) ≡ t → t ≡ app h (tree b (slice_index_or ids 0 (record { 0 = 0 })).0)
+pub one_argument : (b : Nodes) (h t : Term) (ids : List TermId) → length ids ≡ 1 → apply h (map (tree b) (map (λ t. t.0) ids)) ≡ t → t ≡ app h (tree b (slice_index_or ids 0 (record { 0 = 0 })).0)
 one_argument b h t [] l e = absurd (omega (arith, l))
 one_argument b h t (x ∷ []) l e = sym e
 one_argument b h t (x ∷ y ∷ zs) l e = absurd (omega (arith, l))
 
-two_arguments : (b : Nodes) (h t : Term) (ids : List TermId) → length ids ≡ 2 → apply h (map (tree b) (map (λ t. t.0) ids)) ≡ t →
+pub two_arguments : (b : Nodes) (h t : Term) (ids : List TermId) → length ids ≡ 2 → apply h (map (tree b) (map (λ t. t.0) ids)) ≡ t →
     t ≡ app (app h (tree b (slice_index_or ids 0 (record { 0 = 0 })).0)) (tree b (slice_index_or ids 1 (record { 0 = 0 })).0)
 two_arguments b h t [] l e = absurd (omega (arith, l))
 two_arguments b h t (x ∷ []) l e = absurd (omega (arith, l))

@@ -126,3 +126,9 @@ loose_below n d (index i) l = omega (arith, l)
 loose_below n d (atom a) l = tt
 loose_below n d (abs b) l = loose_below n (suc d) b (omega (arith, l))
 loose_below n d (app t u) l = (loose_below n d t (omega (arith, l)), loose_below n d u (omega (arith, l)))
+
+pub loose_within : (n d : ℕ) (t : Term) → LooseBelow n d t → loose t ≤ d + n
+loose_within n d (index i) l = omega (arith, l)
+loose_within n d (atom a) l = omega arith
+loose_within n d (abs b) l = let q = loose_within n (suc d) b l in omega (arith, q)
+loose_within n d (app t u) l = let p = loose_within n d t l.0 in let q = loose_within n d u l.1 in omega (arith, p, q)

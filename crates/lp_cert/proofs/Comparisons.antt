@@ -1,6 +1,6 @@
 -- Pairs that are left to compare, and forms that are equal.
 use Rattle.std.proofs.Common.{◌≡◌, ℕ, ◌<◌, List, [], ◌∷◌, ◌++◌, length, map, reverse, refl, sym, ap, subst, ◌∙◌, arith, Bool, true}
-use Rattle.std.specs.Prelude.{Result, Ok, Err, IfOk, OnOk, Option, Some, MatchOption}
+use Rattle.std.specs.Prelude.{Result, Ok, Err, IfOk, OnOk, Option, Some, None, MatchOption}
 use Rattle.lp_base.specs.declared.memory.Memory.{Memory}
 use Rattle.std.proofs.lemmas.List.Elements.{All-nil, All-cons, All-tail, All-head, All-push}
 use Rattle.std.proofs.lemmas.List.{reverse-append}
@@ -130,3 +130,7 @@ pub solved_is : (b : Nodes) (ps : List Pair) (o : Option Bindings) (x : Bindings
 solved_is b ps o x e h =
     let m : IsMostGeneral (read_pairs (type_tree b) var ps) (reads b x.made) = subst (λ z. MatchOption z (HaveNoSolution (read_pairs (type_tree b) var ps)) (λ y. IsMostGeneral (read_pairs (type_tree b) var ps) (reads b y.made))) e h in
     (reads b x.made, m.solves)
+
+-- none was found
+pub solved_none : (b : Nodes) (ps : List Pair) (o : Option Bindings) → o ≡ None → MatchOption o (HaveNoSolution (read_pairs (type_tree b) var ps)) (λ y. IsMostGeneral (read_pairs (type_tree b) var ps) (reads b y.made)) → HaveNoSolution (read_pairs (type_tree b) var ps)
+solved_none b ps o e h = subst (λ z. MatchOption z (HaveNoSolution (read_pairs (type_tree b) var ps)) (λ y. IsMostGeneral (read_pairs (type_tree b) var ps) (reads b y.made))) e h

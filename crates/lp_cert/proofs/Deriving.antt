@@ -67,7 +67,7 @@ pushed_moves now old new T t p typed = λ b e θ A s d.
     (subst (λ x. Solves b θ x.items) p.rest.pairs s, (T b, typed b e (filled_types b θ old.context.items), D))
 
 -- the type of an index
-context_get : (b : Nodes) (θ : ℕ → Ty) (ids : List TypeId) (at i : ℕ) (of : TypeId) → at < length ids → i ≡ length ids - 1 - at → of ≡ get_or ids i of → slice_get (filled_types b θ ids) at ≡ Some (instance θ (type_tree b of.0))
+pub context_get : (b : Nodes) (θ : ℕ → Ty) (ids : List TypeId) (at i : ℕ) (of : TypeId) → at < length ids → i ≡ length ids - 1 - at → of ≡ get_or ids i of → slice_get (filled_types b θ ids) at ≡ Some (instance θ (type_tree b of.0))
 context_get b θ ids at i of l e g =
     let f : TypeId → Ty = λ t. instance θ (type_tree b t.0) in
     let n = length-map ids f in

@@ -25,7 +25,8 @@ use Rattle.lp_model.specs.Readings.{declared_by, formula_of}
 use Rattle.lp_cert.specs.Shape.{IsEquation}
 use Rattle.lp_cert.specs.Same.{terms_in, types_in}
 use Rattle.lp_cert.specs.Written.{Node, converted, trivial, pair, left_side, right_side, witness, general, assuming, equated, counted, back_to, focus_converted, focus_witness, side, premise, hit}
-use Rattle.lp_cert.specs.inner.Left.{proving, focusing, leaving_eigen, leaving_assumed, Ends, Left, LeftWith, Stays, IsClauseIn, IsDeclared, jobs_of, ground_in}
+use Rattle.lp_cert.specs.Run.{proving, focusing, leaving_eigen, leaving_assumed}
+use Rattle.lp_cert.specs.inner.Left.{Ends, Left, LeftWith, Stays, IsClauseIn, IsDeclared, jobs_of, ground_in}
 use Rattle.lp_cert.specs.inner.Named.{IsOf, IsWitnessIn}
 use Rattle.lp_cert.specs.declared.form.Compared.{Compared}
 use Rattle.lp_cert.specs.declared.form.Compared.TheVariants.{Same}
@@ -162,7 +163,7 @@ assumed_clause b w i j types c t e h n q = record {
 
 -- heads
 
-heads_agree : (t : Term) → head t ≡ head_of t
+pub heads_agree : (t : Term) → head t ≡ head_of t
 heads_agree (index i) = refl
 heads_agree (atom a) = refl
 heads_agree (abs t) = refl

@@ -6,12 +6,13 @@ use Rattle.lp_calculus.specs.Types.{Ty, tys}
 use Rattle.lp_calculus.specs.Term.{Term}
 use Rattle.lp_calculus.specs.Closed.{IsClosedAt}
 use Rattle.lp_term.specs.Nodes.{Nodes, tree, type_tree, Extends}
+use Rattle.lp_term.specs.Spine.{LooseBelow}
 use Rattle.lp_term.specs.declared.node.TypeId.{TypeId}
 use Rattle.lp_term.proofs.Trees.{get_or-front, get_or-last, get_or-past, tree-past, type_tree-past}
 use Rattle.lp_cert.specs.Facts.{AreFacts, IsKnown, all_marked, no_facts, is_closed_type, are_closed_parts, are_closed}
 use Rattle.lp_cert.specs.declared.known.Facts.{Facts}
 use Rattle.lp_cert.specs.declared.known.Known.{Known}
-use Rattle.lp_cert.proofs.Closing.{term_is_closed, closed_facts}
+use Rattle.lp_cert.proofs.Closing.{term_is_closed, closed_facts, loose_below, loose_within}
 
 and_true : (b : Bool) → (b && true) ≡ b
 and_true true = refl
@@ -120,3 +121,10 @@ module _ (b : Nodes) (k : Known) (i n : ℕ) (f : Facts) (r : Bool) (h : IsKnown
 
   pub open_when : (r ≡ false → f.plain ≡ true → f.loose ≡ 0 → f.eigen ≤ n → ⊥) → r ≡ false → IsClosedAt n (tree b i) → ⊥
   open_when never e c = let a = facts_of_closed n f (tree b i) facts c in never e a.0 a.1 a.2
+
+  -- whether its loose indices are below n
+  pub below_when : (r ≡ true → f.loose ≤ n) → r ≡ true → LooseBelow n 0 (tree b i)
+  below_when always e = loose_below n 0 (tree b i) (let p = facts.loose_is in let q = always e in omega (arith, p, q))
+
+  pub above_when : (r ≡ false → f.loose ≤ n → ⊥) → r ≡ false → LooseBelow n 0 (tree b i) → ⊥
+  above_when never e l = never e (let p = facts.loose_is in let q = loose_within n 0 (tree b i) l in omega (arith, p, q))

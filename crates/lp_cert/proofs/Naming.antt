@@ -99,7 +99,7 @@ names_in a b cs q c types terms g e f n = λ d h.
       values = subst (λ Ts. AreWitnesses (declared_by d cs) (terms_in d c.values.items) (map (instance (typing.type_at (types_in d c.types.items))) Ts)) (map_composed (λ v. v.1) (λ t. type_tree d t.0) (λ v. type_tree d v.1.0) (λ v. refl) q.vars.items) (now.witnesses d long);
     }
 
-certified_on : (a b : Nodes) (cs : List Declared) (ds : List code.ClauseFormula) (q : Typed) (xs : List Certificate) → Extends a b → All (CertifiesIn a cs ds q) xs → All (CertifiesIn b cs ds q) xs
+pub certified_on : (a b : Nodes) (cs : List Declared) (ds : List code.ClauseFormula) (q : Typed) (xs : List Certificate) → Extends a b → All (CertifiesIn a cs ds q) xs → All (CertifiesIn b cs ds q) xs
 certified_on a b cs ds q [] g h = All-nil (CertifiesIn b cs ds q)
 certified_on a b cs ds q (c ∷ xs) g h =
     All-cons (CertifiesIn b cs ds q) c xs (λ d k. All-head (CertifiesIn a cs ds q) c xs h d (extends-trans a b d g k)) (certified_on a b cs ds q xs g (All-tail (CertifiesIn a cs ds q) c xs h))

@@ -19,7 +19,8 @@ use Rattle.lp_model.specs.declared.program.Typed.{Typed}
 use Rattle.lp_cert.specs.Certified.{query_of}
 use Rattle.lp_cert.specs.Same.{terms_in, types_in}
 use Rattle.lp_cert.specs.Written.{Node, node_of, IsWritten}
-use Rattle.lp_cert.specs.inner.Left.{CertifiesIn, Ends, Goes, IsFilledIn, IsIdle, Left, LeftWith, Proves, Stays, ground_in, job_of, jobs_of, proving}
+use Rattle.lp_cert.specs.Run.{proving}
+use Rattle.lp_cert.specs.inner.Left.{CertifiesIn, Ends, Goes, IsFilledIn, IsIdle, Left, LeftWith, Proves, Stays, ground_in, job_of, jobs_of}
 use Rattle.lp_cert.specs.inner.Named.{IsNamedIn}
 use Rattle.lp_cert.specs.declared.work.Task.{Task}
 use Rattle.lp_cert.specs.declared.work.Turn.{Turn}
@@ -50,7 +51,7 @@ nodes_prove b w G nodes i idle l h =
     let k = transport (λ j. Ends g (types_in b (idle.eigens j)) (terms_in b (idle.assumed j)) (proving G ∷ jobs_of b (idle.tasks j)) ((nothing_more (map (node_of b) (take i nodes)) ∙ ap (map (node_of b)) (take_whole nodes i l)) j)) h in
     (k.0, subst (IsWritten k.0 (map (node_of b) nodes)) k.4 k.2, subst (λ P. proves_by no_leaf g.declared [] P G k.0) (nothing_more g.clauses) k.3)
 
-idle_on : (old mid : Work) → Stays old mid → IsIdle old → IsIdle mid
+pub idle_on : (old mid : Work) → Stays old mid → IsIdle old → IsIdle mid
 idle_on old mid s i = record { eigens = ap (λ v. v.items) s.eigens ∙ i.eigens; assumed = ap (λ v. v.items) s.assumed ∙ i.assumed; tasks = ap (λ v. v.items) s.tasks ∙ i.tasks }
 
 -- an instance with its proof

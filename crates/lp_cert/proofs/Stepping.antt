@@ -24,7 +24,8 @@ use Rattle.lp_cert.specs.Certified.{Ground}
 use Rattle.lp_cert.specs.Shape.{IsEquation}
 use Rattle.lp_cert.specs.Same.{terms_in, types_in}
 use Rattle.lp_cert.specs.Written.{Node, node_of, converted, trivial, pair, left_side, right_side, witness, general, assuming, equated, counted, back_to, focus_converted, focus_witness, side, premise, hit}
-use Rattle.lp_cert.specs.inner.Left.{Job, proving, focusing, leaving_eigen, leaving_assumed, Ends, Left, LeftWith, Goes, Stays, without_last, job_of, jobs_of, ground_in}
+use Rattle.lp_cert.specs.Run.{Job, proving, focusing, leaving_eigen, leaving_assumed, without_last}
+use Rattle.lp_cert.specs.inner.Left.{Ends, Left, LeftWith, Goes, Stays, job_of, jobs_of, ground_in}
 use Rattle.lp_cert.specs.declared.work.Task.{Task}
 use Rattle.lp_cert.specs.declared.work.Task.TheVariants as task
 use Rattle.lp_cert.specs.declared.work.Turn.{Turn}
@@ -40,7 +41,7 @@ without_pushed xs x = ap (λ n. take n (xs ++ x ∷ [])) (let l = length_push_su
 pub job_pushed : (b : Nodes) (all ts : List Task) (t : Task) → all ≡ ts ++ t ∷ [] → jobs_of b all ≡ job_of b t ∷ jobs_of b ts
 job_pushed b all ts t e = reverse_pushed (map (job_of b) all) (map (job_of b) ts) (job_of b t) (map_pushed (job_of b) ts all t e)
 
-assumed_pushed : (P : List ClauseFormula) (As : List Term) (D : Term) → P ++ map assumed (As ++ D ∷ []) ≡ (P ++ map assumed As) ++ assumed D ∷ []
+pub assumed_pushed : (P : List ClauseFormula) (As : List Term) (D : Term) → P ++ map assumed (As ++ D ∷ []) ≡ (P ++ map assumed As) ++ assumed D ∷ []
 assumed_pushed P As D = ap (λ l. P ++ l) (map-append assumed As (D ∷ [])) ∙ sym (append_assoc P (map assumed As) (assumed D ∷ []))
 
 module _ (g : Ground) (E : List Ty) (As : List Term) (js : List Job) (ns : List Node) where
@@ -116,7 +117,7 @@ pub nothing_ends : (b : Nodes) (w : Work) → w.tasks.items ≡ [] → Left b w 
 nothing_ends b w e = subst (λ ts. Ends (ground_in b w.theory) (types_in b w.eigens.items) (terms_in b w.assumed.items) (jobs_of b ts) []) (sym e) refl
 
 -- without the newest one, where there is one
-popped_rest : {A B : Type 0} (f : A → B) (all rest : List A) (n : ℕ) → n ≡ length all → rest ≡ take (n - 1) all → map f rest ≡ without_last (map f all)
+pub popped_rest : {A B : Type 0} (f : A → B) (all rest : List A) (n : ℕ) → n ≡ length all → rest ≡ take (n - 1) all → map f rest ≡ without_last (map f all)
 popped_rest f all rest n l e = ap (map f) e ∙ sym (take-map f (n - 1) all) ∙ ap (λ k. take (k - 1) (map f all)) (l ∙ sym (length-map all f))
 
 pub eigen_left : (b : Nodes) (w : Work) (rest : List Task) (t : Task) (es : List TypeId) (n : ℕ) (ns : List Node) → t ≡ task.LeaveEigen → w.tasks.items ≡ rest ++ t ∷ [] → n ≡ length w.eigens.items → es ≡ take (n - 1) w.eigens.items →

@@ -1,7 +1,15 @@
+pub mod Arities
 pub mod Certified
 pub mod Facts
 pub mod Filling
+pub mod Inside
+pub mod Run
+pub mod Reading
+pub mod Refusing
 pub mod Same
+pub mod Spellable
+pub mod Spelling
 pub mod Written
 pub mod Shape
+pub mod Standing
 pub mod inner

@@ -1,5 +1,5 @@
 -- Two terms are compared up to pairs that are left to compare.
-use Rattle.std.specs.Prelude.{◌≡◌, ℕ, ◌<◌, List, length, map, All, true}
+use Rattle.std.specs.Prelude.{◌≡◌, ℕ, ◌<◌, List, length, map, All, Bool, true, false}
 use Rattle.lp_calculus.specs.Types.{Ty}
 use Rattle.lp_calculus.specs.Term.{Term}
 use Rattle.lp_calculus.specs.Normal.{IsFormOf}
@@ -37,6 +37,20 @@ AreClosedPairs b ps = All (λ p. (is_closed_type (type_tree b p.left.0) ≡ true
 -- where what is left now is equal, what was left before is equal, and so are the two terms
 abbrev pub Leads : Nodes → (old new : Comparing) → Term → Term → Type 0
 Leads b old new t u = AreEqual b new.terms.items → AreOne b new.types.items → AreEqual b old.terms.items × AreOne b old.types.items × (t ≡ u)
+
+-- where what was left before is equal, and so are the two terms, what is left now is equal; or they are not
+abbrev pub Follows : Nodes → (old new : Comparing) → Term → Term → Bool → Type 0
+Follows b old new t u true = AreEqual b old.terms.items → AreOne b old.types.items → t ≡ u → AreEqual b new.terms.items × AreOne b new.types.items
+Follows b old new t u false = t ≡ u → ⊥
+
+-- the same of lists of types, and of terms
+abbrev pub TypesFollow : Nodes → (old new : Comparing) → List Ty → List Ty → Bool → Type 0
+TypesFollow b old new ts us true = AreOne b old.types.items → ts ≡ us → AreOne b new.types.items
+TypesFollow b old new ts us false = ts ≡ us → ⊥
+
+abbrev pub TermsFollow : Nodes → (old new : Comparing) → List Term → List Term → Bool → Type 0
+TermsFollow b old new ts us true = AreEqual b old.terms.items → ts ≡ us → AreEqual b new.terms.items
+TermsFollow b old new ts us false = ts ≡ us → ⊥
 
 -- what the normal form of a term comes to
 abbrev pub IsFormed : Term → Nodes → Formed → Type 0

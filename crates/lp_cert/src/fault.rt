@@ -2,6 +2,7 @@
 ghost use Rattle.std.specs.Prelude.{◌≡◌};
 
 use lp_base::{Limit, Memory};
+use lp_bytes::{Fault, ReadError};
 use std::alloc::{AllocError, AllocFailed};
 use thiserror::Error;
 
@@ -60,5 +61,24 @@ impl From<AllocError> for CertFault {
 
     fn from(_: AllocError) -> CertFault {
         CertFault::Memory
+    }
+}
+
+impl From<ReadError> for CertFault {
+    ghost use Rattle.std.specs.Prelude.{◌≡◌};
+    ghost use Rattle.lp_cert.specs.Refusing.{refusal};
+
+    ghost from_gives = { λ error e. e ≡ refusal error };
+
+    fn from(error: ReadError) -> CertFault {
+        match error {
+            ReadError::Memory => CertFault::Memory,
+            ReadError::Fault(Fault::BadMagic) => CertFault::BadMagic,
+            ReadError::Fault(Fault::BadVersion(version)) => CertFault::BadVersion(version),
+            ReadError::Fault(Fault::Truncated(at)) => CertFault::Truncated(at),
+            ReadError::Fault(Fault::BadField(at)) => CertFault::BadField(at),
+            ReadError::Fault(Fault::Trailing(at)) => CertFault::Trailing(at),
+            ReadError::Fault(Fault::Limit(limit)) => CertFault::Limit(limit),
+        }
     }
 }

@@ -1,10 +1,13 @@
 // Nodes that focus on a clause for an atom.
-ghost use Rattle.std.specs.Prelude.{◌≡◌, ◌≤◌, ◌⊎◌, List, IfOk, IfSome, OnOk};
+ghost use Rattle.std.specs.Prelude.{◌≡◌, ◌<◌, ◌≤◌, ◌⊎◌, List, None, IfOk, IfSome, OnOk, length};
 ghost use Rattle.lp_calculus.specs.Convert.{Converts};
 ghost use Rattle.lp_term.specs.Nodes.{Extends, Nodes, tree};
 ghost use Rattle.lp_cert.specs.Facts.{IsKnown};
 ghost use Rattle.lp_cert.specs.Written.{Node, focus_converted, focus_witness, hit, node_of, premise, side};
-ghost use Rattle.lp_cert.specs.inner.Left.{Goes, Left, LeftWith, Stays, focusing};
+ghost use Rattle.lp_cert.specs.Run.{focusing};
+ghost use Rattle.lp_cert.specs.Standing.{IsNodeInside};
+ghost use Rattle.lp_cert.specs.inner.Turned.{IsReady, IsReadyWork, IsTurned, Pushes};
+ghost use Rattle.lp_cert.specs.inner.Left.{Goes, Left, LeftWith, Stays};
 
 use crate::form::Compared;
 use crate::goal::{conjunction, implication, universal};
@@ -16,7 +19,8 @@ use lp_term::{Bank, TermId, put_applied};
 
 // The left one by 0, the right one by 1.
 fn side_of(which: u8, left: TermId, right: TermId) -> Option<TermId>
-    ensures { IfSome result (λ part. ((which ≡ 0) × (part ≡ left)) ⊎ ((which ≡ 1) × (part ≡ right))) }
+    ensures some { IfSome result (λ part. ((which ≡ 0) × (part ≡ left)) ⊎ ((which ≡ 1) × (part ≡ right))) }
+    ensures none { result ≡ None → (which ≡ 0) ⊎ (which ≡ 1) → ⊥ }
 {
     if which == 0 {
         return Some(left);
@@ -31,6 +35,7 @@ impl Work<'_> {
     fn focus_on(&mut self, clause: TermId, atom: TermId) -> Result<Turn, Memory>
         ensures same { self.new.known ≡ self.old.known }
         ensures left { OnOk result ((b : Nodes) → (ns : List Node) → Left b self.new ns → LeftWith b self.old (focusing (tree b clause.0) (tree b atom.0)) ns) }
+        ensures pushes { IfOk result (λ turn. (turn ≡ Turn.On) × Pushes self.old self.new (Task.Focus clause atom)) }
     {
         self.tasks.push(Task::Focus(clause, atom))?;
         Ok(Turn::On)
@@ -47,6 +52,7 @@ impl Work<'_> {
         ensures kept { Extends bank.old bank.new }
         ensures known { OnOk result (IsKnown bank.new self.new.known) }
         ensures goes { IfOk result (λ turn. turn ≡ Turn.On → (b : Nodes) → Extends bank.new b → Goes b self.old self.new (focusing (tree b clause.0) (tree b atom.0)) (focus_converted (tree b other.0))) }
+        ensures turned { IfOk result (λ turn. IsReadyWork bank.old self.old → IsReady bank.old clause → IsReady bank.old atom → other.0 < length bank.old.terms → IsTurned bank.new self.old self.new (λ b. focusing (tree b clause.0) (tree b atom.0)) (λ b. focus_converted (tree b other.0)) turn) }
     {
         let of = put_proposition(bank)?;
         if !self.is_closed_of(bank, other, of)? {
@@ -71,6 +77,7 @@ impl Work<'_> {
         ensures kept { Extends bank.old bank.new }
         ensures known { OnOk result (IsKnown bank.new self.new.known) }
         ensures goes { IfOk result (λ turn. turn ≡ Turn.On → (b : Nodes) → Extends bank.new b → Goes b self.old self.new (focusing (tree b clause.0) (tree b atom.0)) (focus_witness (tree b value.0))) }
+        ensures turned { IfOk result (λ turn. IsReadyWork bank.old self.old → IsReady bank.old clause → IsReady bank.old atom → value.0 < length bank.old.terms → IsTurned bank.new self.old self.new (λ b. focusing (tree b clause.0) (tree b atom.0)) (λ b. focus_witness (tree b value.0)) turn) }
     {
         let Some((of, body)) = universal(bank, clause) else {
             return Ok(Turn::No);
@@ -86,6 +93,7 @@ impl Work<'_> {
         ensures same { self.new.known ≡ self.old.known }
         ensures side { IfOk result (λ turn. turn ≡ Turn.On → which ≤ 1) }
         ensures goes { IfOk result (λ turn. turn ≡ Turn.On → (b : Nodes) → Extends bank.now b → Goes b self.old self.new (focusing (tree b clause.0) (tree b atom.0)) (side which)) }
+        ensures turned { IfOk result (λ turn. IsReadyWork bank.now self.old → IsReady bank.now clause → IsReady bank.now atom → IsTurned bank.now self.old self.new (λ b. focusing (tree b clause.0) (tree b atom.0)) (λ b. side which) turn) }
     {
         let Some((left, right)) = conjunction(bank, clause) else {
             return Ok(Turn::No);
@@ -99,6 +107,7 @@ impl Work<'_> {
     fn need(&mut self, bank: &Bank, clause: TermId, atom: TermId) -> Result<Turn, Memory>
         ensures same { self.new.known ≡ self.old.known }
         ensures goes { IfOk result (λ turn. turn ≡ Turn.On → (b : Nodes) → Extends bank.now b → Goes b self.old self.new (focusing (tree b clause.0) (tree b atom.0)) premise) }
+        ensures turned { IfOk result (λ turn. IsReadyWork bank.now self.old → IsReady bank.now clause → IsReady bank.now atom → IsTurned bank.now self.old self.new (λ b. focusing (tree b clause.0) (tree b atom.0)) (λ b. premise) turn) }
     {
         let Some((goal, rest)) = implication(bank, clause) else {
             return Ok(Turn::No);
@@ -114,6 +123,7 @@ impl Work<'_> {
         ensures known { OnOk result (IsKnown bank.new self.new.known) }
         ensures stays { OnOk result (Stays self.old self.new) }
         ensures later { IfOk result (λ turn. turn ≡ Turn.On → (b : Nodes) → Extends bank.new b → Converts (tree b clause.0) (tree b atom.0)) }
+        ensures turned { IfOk result (λ turn. IsReadyWork bank.old self.old → IsReady bank.old clause → IsReady bank.old atom → IsTurned bank.new self.old self.new (λ b. focusing (tree b clause.0) (tree b atom.0)) (λ b. hit) turn) }
     {
         let compared = self.converts(bank, clause, atom)?;
         let turn = Work::turn_of(compared);
@@ -132,6 +142,7 @@ impl Work<'_> {
         ensures kept { Extends bank.old bank.new }
         ensures known { OnOk result (IsKnown bank.new self.new.known) }
         ensures goes { IfOk result (λ turn. turn ≡ Turn.On → (b : Nodes) → Extends bank.new b → Goes b self.old self.new (focusing (tree b clause.0) (tree b atom.0)) (node_of b node.now)) }
+        ensures turned { IfOk result (λ turn. IsReadyWork bank.old self.old → IsReady bank.old clause → IsReady bank.old atom → IsNodeInside bank.old node.now → IsTurned bank.new self.old self.new (λ b. focusing (tree b clause.0) (tree b atom.0)) (λ b. node_of b node.now) turn) }
     {
         match node {
             ProofNode::FocusConv(other) => self.focus_conv(bank, clause, atom, *other),
@@ -139,7 +150,17 @@ impl Work<'_> {
             ProofNode::Take(side) => self.take(bank, clause, atom, *side),
             ProofNode::Need => self.need(bank, clause, atom),
             ProofNode::Hit => self.hit(bank, clause, atom),
-            _ => Ok(Turn::No),
+            ProofNode::Conv(_) => Ok(Turn::No),
+            ProofNode::True => Ok(Turn::No),
+            ProofNode::And => Ok(Turn::No),
+            ProofNode::Left => Ok(Turn::No),
+            ProofNode::Right => Ok(Turn::No),
+            ProofNode::Some(_) => Ok(Turn::No),
+            ProofNode::All => Ok(Turn::No),
+            ProofNode::Assume => Ok(Turn::No),
+            ProofNode::Equal => Ok(Turn::No),
+            ProofNode::Arith => Ok(Turn::No),
+            ProofNode::Back(_, _) => Ok(Turn::No),
         }
     }
 }

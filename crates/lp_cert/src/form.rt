@@ -1,10 +1,15 @@
 // Normal forms, and whether two terms convert.
-ghost use Rattle.std.specs.Prelude.{◌≡◌, ◌<◌, length, IfOk, OnOk, All, true};
-ghost use Rattle.lp_calculus.specs.Term.{index, atom, abs, constant, integer, text, eigen, param};
+ghost use Rattle.std.specs.Prelude.{◌≡◌, ◌∷◌, [], ◌<◌, ◌⊎◌, ◌≤◌, length, IfOk, OnOk, All, true, false};
+ghost use Rattle.lp_calculus.specs.Closed.{AllAtoms, AreClosed, IsClosedType};
+ghost use Rattle.lp_term.specs.Spine.{IsNoApplication, LooseBelow};
+ghost use Rattle.lp_cert.specs.Run.{OneIsLarge};
+ghost use Rattle.lp_cert.specs.inner.Named.{HasClosedTypes};
+ghost use Rattle.lp_cert.specs.inner.Turned.{ArePlain, IsReady};
+ghost use Rattle.lp_calculus.specs.Term.{index, atom, abs, constant, integer, text, eigen, logic, param};
 ghost use Rattle.lp_calculus.specs.Convert.{Converts};
 ghost use Rattle.lp_term.specs.Nodes.{Extends, Nodes, tree, type_tree};
 ghost use Rattle.lp_cert.specs.Facts.{IsKnown};
-ghost use Rattle.lp_cert.specs.Same.{AreEqual, AreOne, AreClosedPairs, IsFormed, Leads, terms_in, types_in};
+ghost use Rattle.lp_cert.specs.Same.{AreEqual, AreOne, AreClosedPairs, Follows, IsFormed, Leads, TermsFollow, TypesFollow, terms_in, types_in};
 
 use crate::known::Known;
 use crate::typing::have_solution;
@@ -32,14 +37,22 @@ pub(crate) enum Compared {
     Deep,
 }
 
-pub(crate) fn form_of(alloc: Global, bank: &mut Bank, term: TermId) -> Result<Formed, Memory>
+pub(crate) fn form_of(
+    alloc: Global,
+    known: &mut Known,
+    bank: &mut Bank,
+    term: TermId,
+) -> Result<Formed, Memory>
+    requires known { IsKnown bank.old known.old }
     ensures kept { Extends bank.old bank.new }
+    ensures known { OnOk result (IsKnown bank.new known.new) }
     ensures formed { IfOk result (IsFormed (tree bank.old term.0) bank.new) }
+    ensures open { IfOk result (λ f. f ≡ Formed.Open → term.0 < length bank.old.terms → LooseBelow 0 0 (tree bank.old term.0) → ⊥) }
 {
     if term.0 >= bank.term_count() {
         return Ok(Formed::Open);
     }
-    if !bank.is_known_below(term, LOOSE) {
+    if !known.is_loose_below(bank, LOOSE, term)? {
         return Ok(Formed::Open);
     }
     match normal_form(alloc, bank, term, RUN_LIMIT, RUN_LIMIT) {
@@ -50,7 +63,8 @@ pub(crate) fn form_of(alloc: Global, bank: &mut Bank, term: TermId) -> Result<Fo
 }
 
 pub(crate) fn is_inside(bank: &Bank, term: TermId) -> bool
-    ensures { result ≡ true → term.0 < length bank.now.terms }
+    ensures inside { result ≡ true → term.0 < length bank.now.terms }
+    ensures outside { result ≡ false → length bank.now.terms ≤ term.0 }
 {
     term.0 < bank.term_count()
 }
@@ -64,38 +78,87 @@ pub(crate) struct Comparing {
 }
 
 fn is_index(bank: &Bank, term: TermId, at: u64) -> bool
-    ensures { result ≡ true → index at ≡ tree bank.now term.0 }
+    ensures same { result ≡ true → index at ≡ tree bank.now term.0 }
+    ensures differ { result ≡ false → index at ≡ tree bank.now term.0 → ⊥ }
 {
     match bank.term_node(term) {
         TermNode::Index(other) => at == other,
-        _ => false,
+        TermNode::Const(_, _) => false,
+        TermNode::Int(_) => false,
+        TermNode::Text(_) => false,
+        TermNode::Eigen(_) => false,
+        TermNode::Logic { .. } => false,
+        TermNode::Param(_, _) => false,
+        TermNode::Abs(_) => false,
+        TermNode::App(_, _) => false,
     }
 }
 
 fn is_integer(bank: &Bank, term: TermId, value: i64) -> bool
-    ensures { result ≡ true → atom (integer value) ≡ tree bank.now term.0 }
+    ensures same { result ≡ true → atom (integer value) ≡ tree bank.now term.0 }
+    ensures differ { result ≡ false → atom (integer value) ≡ tree bank.now term.0 → ⊥ }
 {
     match bank.term_node(term) {
         TermNode::Int(other) => value == other,
-        _ => false,
+        TermNode::Index(_) => false,
+        TermNode::Const(_, _) => false,
+        TermNode::Text(_) => false,
+        TermNode::Eigen(_) => false,
+        TermNode::Logic { .. } => false,
+        TermNode::Param(_, _) => false,
+        TermNode::Abs(_) => false,
+        TermNode::App(_, _) => false,
     }
 }
 
 fn is_text(bank: &Bank, term: TermId, bytes: &[u8]) -> bool
-    ensures { result ≡ true → atom (text bytes.now) ≡ tree bank.now term.0 }
+    ensures same { result ≡ true → atom (text bytes.now) ≡ tree bank.now term.0 }
+    ensures differ { result ≡ false → atom (text bytes.now) ≡ tree bank.now term.0 → ⊥ }
 {
     match bank.term_node(term) {
         TermNode::Text(other) => bytes == other,
-        _ => false,
+        TermNode::Index(_) => false,
+        TermNode::Const(_, _) => false,
+        TermNode::Int(_) => false,
+        TermNode::Eigen(_) => false,
+        TermNode::Logic { .. } => false,
+        TermNode::Param(_, _) => false,
+        TermNode::Abs(_) => false,
+        TermNode::App(_, _) => false,
     }
 }
 
 fn is_eigen(bank: &Bank, term: TermId, level: u64) -> bool
-    ensures { result ≡ true → atom (eigen level) ≡ tree bank.now term.0 }
+    ensures same { result ≡ true → atom (eigen level) ≡ tree bank.now term.0 }
+    ensures differ { result ≡ false → atom (eigen level) ≡ tree bank.now term.0 → ⊥ }
 {
     match bank.term_node(term) {
         TermNode::Eigen(other) => level == other,
-        _ => false,
+        TermNode::Index(_) => false,
+        TermNode::Const(_, _) => false,
+        TermNode::Int(_) => false,
+        TermNode::Text(_) => false,
+        TermNode::Logic { .. } => false,
+        TermNode::Param(_, _) => false,
+        TermNode::Abs(_) => false,
+        TermNode::App(_, _) => false,
+    }
+}
+
+fn is_logic(bank: &Bank, term: TermId, number: u64, at: u64) -> bool
+    ensures same { result ≡ true → atom (logic number at) ≡ tree bank.now term.0 }
+    ensures differ { result ≡ false → atom (logic number at) ≡ tree bank.now term.0 → ⊥ }
+{
+    match bank.term_node(term) {
+        TermNode::Logic { id, level } => number == id && at == level,
+        TermNode::Index(_) => false,
+        TermNode::Const(_, _) => false,
+        TermNode::Int(_) => false,
+        TermNode::Text(_) => false,
+        TermNode::Eigen(_) => false,
+        TermNode::Param(_, _) => false,
+        TermNode::Abs(_) => false,
+        TermNode::App(_, _) => false,
     }
 }
 
@@ -113,6 +176,7 @@ impl Comparing {
         ensures closed { OnOk result (AreClosedPairs bank.now self.old.types.items → AreClosedPairs bank.now self.new.types.items) }
         ensures one { IfOk result (λ yes. yes ≡ true → AreOne bank.now self.new.types.items → AreOne bank.now self.old.types.items × (type_tree bank.now left.0 ≡ type_tree bank.now right.0)) }
         ensures terms { OnOk result (self.new.terms.items ≡ self.old.terms.items) }
+        ensures follows { IfOk result (λ yes. IsClosedType (type_tree bank.now left.0) → TypesFollow bank.now self.old self.new (type_tree bank.now left.0 ∷ []) (type_tree bank.now right.0 ∷ []) yes) }
     {
         if !known.is_closed_type(bank, left)? {
             return Ok(false);
@@ -120,9 +184,10 @@ impl Comparing {
         if !known.is_closed_type(bank, right)? {
             return Ok(false);
         }
-        if left.0 != right.0 {
-            self.types.push(Pair { left, right })?;
+        if left.0 == right.0 {
+            return Ok(true);
         }
+        self.types.push(Pair { left, right })?;
         Ok(true)
     }
 
@@ -138,6 +203,7 @@ impl Comparing {
         ensures closed { OnOk result (AreClosedPairs bank.now self.old.types.items → AreClosedPairs bank.now self.new.types.items) }
         ensures one { IfOk result (λ yes. yes ≡ true → AreOne bank.now self.new.types.items → AreOne bank.now self.old.types.items × (types_in bank.now left.now ≡ types_in bank.now right.now)) }
         ensures terms { OnOk result (self.new.terms.items ≡ self.old.terms.items) }
+        ensures follows { IfOk result (λ yes. AreClosed (types_in bank.now left.now) → TypesFollow bank.now self.old self.new (types_in bank.now left.now) (types_in bank.now right.now) yes) }
     {
         let mut ones = Vec::from_slice(self.alloc, left)?;
         let mut others = Vec::from_slice(self.alloc, right)?;
@@ -149,12 +215,17 @@ impl Comparing {
                 return Ok(false);
             }
         }
-        Ok(others.is_empty())
+        match others.pop() {
+            None => Ok(true),
+            Some(_) => Ok(false),
+        }
     }
 
     fn push_terms(&mut self, ones: Vec<TermId>, others: Vec<TermId>) -> Result<bool, Memory>
         ensures equal { IfOk result (λ yes. yes ≡ true → (b : Nodes) → AreEqual b self.new.terms.items → AreEqual b self.old.terms.items × (terms_in b ones.items ≡ terms_in b others.items)) }
         ensures types { OnOk result (self.new.types.items ≡ self.old.types.items) }
+        ensures follows { IfOk result (λ yes. (b : Nodes) → TermsFollow b self.old self.new (terms_in b ones.items) (terms_in b others.items) yes) }
+        ensures plain { OnOk result ((b : Nodes) → ArePlain b self.old.terms.items → All (AllAtoms HasClosedTypes) (terms_in b ones.items) → ArePlain b self.new.terms.items) }
     {
         let mut left = ones;
         let mut right = others;
@@ -182,6 +253,8 @@ impl Comparing {
         ensures known { OnOk result (IsKnown bank.now known.new) }
         ensures closed { OnOk result (AreClosedPairs bank.now self.old.types.items → AreClosedPairs bank.now self.new.types.items) }
         ensures leads { IfOk result (λ yes. yes ≡ true → Leads bank.now self.old self.new (atom (constant number (types_in bank.now types.now))) (tree bank.now right.0)) }
+        ensures follows { IfOk result (λ yes. AllAtoms HasClosedTypes (atom (constant number (types_in bank.now types.now))) → Follows bank.now self.old self.new (atom (constant number (types_in bank.now types.now))) (tree bank.now right.0) yes) }
+        ensures plain { OnOk result (ArePlain bank.now self.old.terms.items → AllAtoms HasClosedTypes (atom (constant number (types_in bank.now types.now))) → ArePlain bank.now self.new.terms.items) }
     {
         match bank.term_node(right) {
             TermNode::Const(other, others) => {
@@ -190,7 +263,14 @@ impl Comparing {
                 }
                 self.push_types(known, bank, types, others)
             }
-            _ => Ok(false),
+            TermNode::Index(_) => Ok(false),
+            TermNode::Int(_) => Ok(false),
+            TermNode::Text(_) => Ok(false),
+            TermNode::Eigen(_) => Ok(false),
+            TermNode::Logic { .. } => Ok(false),
+            TermNode::Param(_, _) => Ok(false),
+            TermNode::Abs(_) => Ok(false),
+            TermNode::App(_, _) => Ok(false),
         }
     }
 
@@ -206,6 +286,8 @@ impl Comparing {
         ensures known { OnOk result (IsKnown bank.now known.new) }
         ensures closed { OnOk result (AreClosedPairs bank.now self.old.types.items → AreClosedPairs bank.now self.new.types.items) }
         ensures leads { IfOk result (λ yes. yes ≡ true → Leads bank.now self.old self.new (atom (param number (type_tree bank.now of.0))) (tree bank.now right.0)) }
+        ensures follows { IfOk result (λ yes. AllAtoms HasClosedTypes (atom (param number (type_tree bank.now of.0))) → Follows bank.now self.old self.new (atom (param number (type_tree bank.now of.0))) (tree bank.now right.0) yes) }
+        ensures plain { OnOk result (ArePlain bank.now self.old.terms.items → AllAtoms HasClosedTypes (atom (param number (type_tree bank.now of.0))) → ArePlain bank.now self.new.terms.items) }
     {
         match bank.term_node(right) {
             TermNode::Param(other, to) => {
@@ -214,20 +296,36 @@ impl Comparing {
                 }
                 self.push_type(known, bank, of, to)
             }
-            _ => Ok(false),
+            TermNode::Index(_) => Ok(false),
+            TermNode::Const(_, _) => Ok(false),
+            TermNode::Int(_) => Ok(false),
+            TermNode::Text(_) => Ok(false),
+            TermNode::Eigen(_) => Ok(false),
+            TermNode::Logic { .. } => Ok(false),
+            TermNode::Abs(_) => Ok(false),
+            TermNode::App(_, _) => Ok(false),
         }
     }
 
     fn abstraction(&mut self, bank: &Bank, body: TermId, right: TermId) -> Result<bool, Memory>
         ensures types { OnOk result (self.new.types.items ≡ self.old.types.items) }
         ensures leads { IfOk result (λ yes. yes ≡ true → Leads bank.now self.old self.new (abs (tree bank.now body.0)) (tree bank.now right.0)) }
+        ensures follows { IfOk result (λ yes. AllAtoms HasClosedTypes (abs (tree bank.now body.0)) → Follows bank.now self.old self.new (abs (tree bank.now body.0)) (tree bank.now right.0) yes) }
+        ensures plain { OnOk result (ArePlain bank.now self.old.terms.items → AllAtoms HasClosedTypes (abs (tree bank.now body.0)) → ArePlain bank.now self.new.terms.items) }
     {
         match bank.term_node(right) {
             TermNode::Abs(other) => {
                 self.terms.push((body, other))?;
                 Ok(true)
             }
-            _ => Ok(false),
+            TermNode::Index(_) => Ok(false),
+            TermNode::Const(_, _) => Ok(false),
+            TermNode::Int(_) => Ok(false),
+            TermNode::Text(_) => Ok(false),
+            TermNode::Eigen(_) => Ok(false),
+            TermNode::Logic { .. } => Ok(false),
+            TermNode::Param(_, _) => Ok(false),
+            TermNode::App(_, _) => Ok(false),
         }
     }
 
@@ -243,6 +341,8 @@ impl Comparing {
         ensures known { OnOk result (IsKnown bank.now known.new) }
         ensures closed { OnOk result (AreClosedPairs bank.now self.old.types.items → AreClosedPairs bank.now self.new.types.items) }
         ensures leads { IfOk result (λ yes. yes ≡ true → Leads bank.now self.old self.new (tree bank.now left.0) (tree bank.now right.0)) }
+        ensures follows { IfOk result (λ yes. IsNoApplication (tree bank.now left.0) → AllAtoms HasClosedTypes (tree bank.now left.0) → Follows bank.now self.old self.new (tree bank.now left.0) (tree bank.now right.0) yes) }
+        ensures plain { OnOk result (ArePlain bank.now self.old.terms.items → AllAtoms HasClosedTypes (tree bank.now left.0) → ArePlain bank.now self.new.terms.items) }
     {
         match bank.term_node(left) {
             TermNode::Index(at) => Ok(is_index(bank, right, at)),
@@ -250,7 +350,7 @@ impl Comparing {
             TermNode::Int(value) => Ok(is_integer(bank, right, value)),
             TermNode::Text(bytes) => Ok(is_text(bank, right, bytes)),
             TermNode::Eigen(level) => Ok(is_eigen(bank, right, level)),
-            TermNode::Logic { .. } => Ok(false),
+            TermNode::Logic { id, level } => Ok(is_logic(bank, right, id, level)),
             TermNode::Param(number, of) => self.parameter(known, bank, number, of, right),
             TermNode::Abs(body) => self.abstraction(bank, body, right),
             TermNode::App(_, _) => Ok(false),
@@ -269,6 +369,8 @@ impl Comparing {
         ensures known { OnOk result (IsKnown bank.now known.new) }
         ensures closed { OnOk result (AreClosedPairs bank.now self.old.types.items → AreClosedPairs bank.now self.new.types.items) }
         ensures leads { IfOk result (λ yes. yes ≡ true → Leads bank.now self.old self.new (tree bank.now left.0) (tree bank.now right.0)) }
+        ensures follows { IfOk result (λ yes. AllAtoms HasClosedTypes (tree bank.now left.0) → Follows bank.now self.old self.new (tree bank.now left.0) (tree bank.now right.0) yes) }
+        ensures plain { OnOk result (ArePlain bank.now self.old.terms.items → AllAtoms HasClosedTypes (tree bank.now left.0) → ArePlain bank.now self.new.terms.items) }
     {
         let one = spine_of(self.alloc, bank, left)?;
         let other = spine_of(self.alloc, bank, right)?;
@@ -290,6 +392,7 @@ fn are_same(
     requires known { IsKnown bank.now known.old }
     ensures known { OnOk result (IsKnown bank.now known.new) }
     ensures same { IfOk result (λ yes. yes ≡ true → tree bank.now left.0 ≡ tree bank.now right.0) }
+    ensures differ { IfOk result (λ yes. yes ≡ false → AllAtoms HasClosedTypes (tree bank.now left.0) → tree bank.now left.0 ≡ tree bank.now right.0 → ⊥) }
 {
     let mut comparing = Comparing {
         alloc,
@@ -319,11 +422,39 @@ fn same_forms(
     requires known { IsKnown bank.now known.old }
     ensures known { OnOk result (IsKnown bank.now known.new) }
     ensures same { IfOk result (λ c. c ≡ Compared.Same → tree bank.now one.0 ≡ tree bank.now other.0) }
+    ensures differ { IfOk result (λ c. c ≡ Compared.Differ → AllAtoms HasClosedTypes (tree bank.now one.0) → tree bank.now one.0 ≡ tree bank.now other.0 → ⊥) }
+    ensures known_forms { IfOk result (λ c. c ≡ Compared.Deep → ⊥) }
 {
     if are_same(alloc, known, bank, one, other)? {
         return Ok(Compared::Same);
     }
     Ok(Compared::Differ)
+}
+
+fn is_deep(form: Formed) -> bool
+    ensures yes { result ≡ true → form ≡ Formed.Deep }
+    ensures no { result ≡ false → form ≡ Formed.Deep → ⊥ }
+{
+    match form {
+        Formed::Deep => true,
+        Formed::Is(_) => false,
+        Formed::Open => false,
+    }
+}
+
+// What comes of two terms of which one has no normal form.
+pub(crate) fn without_form(left: Formed, right: Formed) -> Compared
+    ensures same { result ≡ Compared.Same → ⊥ }
+    ensures differ { result ≡ Compared.Differ → (left ≡ Formed.Deep → ⊥) × (right ≡ Formed.Deep → ⊥) }
+    ensures deep { result ≡ Compared.Deep → (left ≡ Formed.Deep) ⊎ (right ≡ Formed.Deep) }
+{
+    if is_deep(left) {
+        return Compared::Deep;
+    }
+    if is_deep(right) {
+        return Compared::Deep;
+    }
+    Compared::Differ
 }
 
 // Whether two closed terms convert.
@@ -339,6 +470,8 @@ pub(crate) fn compare(
     ensures known { OnOk result (IsKnown bank.new known.new) }
     ensures same { IfOk result (λ c. c ≡ Compared.Same → Converts (tree bank.old left.0) (tree bank.old right.0)) }
     ensures inside { IfOk result (λ c. c ≡ Compared.Same → (left.0 < length bank.old.terms) × (right.0 < length bank.old.terms)) }
+    ensures differ { IfOk result (λ c. c ≡ Compared.Differ → IsReady bank.old left → IsReady bank.old right → Converts (tree bank.old left.0) (tree bank.old right.0) → ⊥) }
+    ensures deep { IfOk result (λ c. c ≡ Compared.Deep → left.0 < length bank.old.terms → right.0 < length bank.old.terms → OneIsLarge (tree bank.old left.0) (tree bank.old right.0)) }
 {
     if !is_inside(bank, left) {
         return Ok(Compared::Differ);
@@ -346,18 +479,13 @@ pub(crate) fn compare(
     if !is_inside(bank, right) {
         return Ok(Compared::Differ);
     }
-    let first = form_of(alloc, bank, left)?;
-    let second = form_of(alloc, bank, right)?;
-    match first {
-        Formed::Is(one) => match second {
-            Formed::Is(other) => same_forms(alloc, known, bank, one, other),
-            Formed::Deep => Ok(Compared::Deep),
-            Formed::Open => Ok(Compared::Differ),
-        },
-        Formed::Deep => Ok(Compared::Deep),
-        Formed::Open => match second {
-            Formed::Deep => Ok(Compared::Deep),
-            _ => Ok(Compared::Differ),
-        },
-    }
+    let first = form_of(alloc, known, bank, left)?;
+    let second = form_of(alloc, known, bank, right)?;
+    let Formed::Is(one) = first else {
+        return Ok(without_form(first, second));
+    };
+    let Formed::Is(other) = second else {
+        return Ok(without_form(first, second));
+    };
+    same_forms(alloc, known, bank, one, other)
 }

@@ -1,7 +1,7 @@
 // Nodes that prove a goal.
-ghost use Rattle.std.specs.Prelude.{◌≡◌, ◌<◌, ◌⊎◌, List, [], ◌∷◌, length, IfOk, IfSome, OnOk, true};
+ghost use Rattle.std.specs.Prelude.{◌≡◌, ◌<◌, ◌⊎◌, Some, slice_get, List, [], ◌∷◌, None, length, IfOk, IfSome, OnOk, All, true, false};
 ghost use Rattle.lp_calculus.specs.Types.{Ty};
-ghost use Rattle.lp_calculus.specs.Term.{app, atom, constant};
+ghost use Rattle.lp_calculus.specs.Term.{Term, app, atom, constant};
 ghost use Rattle.lp_calculus.specs.Spine.{head_of};
 ghost use Rattle.lp_calculus.specs.Instance.{instance_term};
 ghost use Rattle.lp_calculus.specs.Typing.{type_at};
@@ -13,8 +13,13 @@ ghost use Rattle.lp_model.specs.Proofs.{IsAtomHead, IsImplication};
 ghost use Rattle.lp_cert.specs.Facts.{AreInside, IsKnown};
 ghost use Rattle.lp_cert.specs.Same.{types_in};
 ghost use Rattle.lp_cert.specs.Shape.{IsEquation};
-ghost use Rattle.lp_cert.specs.Written.{Node, assuming, back_to, converted, general, left_side, node_of, pair, right_side, witness};
-ghost use Rattle.lp_cert.specs.inner.Left.{Goes, IsClauseIn, IsDeclared, Left, LeftWith, Stays, proving};
+ghost use Rattle.lp_calculus.specs.Closed.{AreClosed};
+ghost use Rattle.lp_cert.specs.Written.{Node, assuming, back_to, converted, equated, general, left_side, node_of, pair, right_side, witness};
+ghost use Rattle.lp_cert.specs.Run.{proving};
+ghost use Rattle.lp_model.specs.declared.program.ClauseFormula.{ClauseFormula};
+ghost use Rattle.lp_cert.specs.inner.Turned.{IsReady, IsReadyWork, IsTurned, Pushes};
+ghost use Rattle.lp_cert.specs.Standing.{IsClauseInside, IsNodeInside};
+ghost use Rattle.lp_cert.specs.inner.Left.{Goes, IsClauseIn, IsDeclared, Left, LeftWith, Stays};
 
 use crate::arithmetic::computed;
 use crate::form::{Compared, is_inside};
@@ -30,6 +35,8 @@ use std::alloc::Global;
 // The two sides of a formula with this constant, which has no types, at its top.
 fn sides(bank: &Bank, formula: TermId, constant: Constant) -> Option<(TermId, TermId)>
     ensures later { IfSome result (λ p. (b : Nodes) → Extends bank.now b → tree b formula.0 ≡ two (number constant) [] (tree b p.0.0) (tree b p.1.0)) }
+    ensures inside { IfSome result (λ p. (p.0.0 < length bank.now.terms) × (p.1.0 < length bank.now.terms)) }
+    ensures none { result ≡ None → (A B : Term) → tree bank.now formula.0 ≡ two (number constant) [] A B → ⊥ }
 {
     let Some(found) = two_of(bank, formula) else {
         return None;
@@ -48,6 +55,7 @@ fn sides(bank: &Bank, formula: TermId, constant: Constant) -> Option<(TermId, Te
 fn quantified(bank: &Bank, formula: TermId, quantifier: Constant) -> Option<(TypeId, TermId)>
     ensures later { IfSome result (λ p. (b : Nodes) → Extends bank.now b → tree b formula.0 ≡ app (atom (constant (number quantifier) (type_tree b p.0.0 ∷ []))) (tree b p.1.0)) }
     ensures inside { IfSome result (λ p. p.1.0 < length bank.now.terms) }
+    ensures none { result ≡ None → (T : Ty) (s : Term) → tree bank.now formula.0 ≡ app (atom (constant (number quantifier) (T ∷ []))) s → ⊥ }
 {
     let Some(found) = one_of(bank, formula) else {
         return None;
@@ -69,6 +77,8 @@ pub(crate) fn typed_sides(
     constant: Constant,
 ) -> Option<(TermId, TermId)>
     ensures later { IfSome result (λ p. (b : Nodes) → Extends bank.now b → (of : Ty) × (tree b formula.0 ≡ two (number constant) (of ∷ []) (tree b p.0.0) (tree b p.1.0))) }
+    ensures inside { IfSome result (λ p. (p.0.0 < length bank.now.terms) × (p.1.0 < length bank.now.terms)) }
+    ensures none { result ≡ None → (T : Ty) (A B : Term) → tree bank.now formula.0 ≡ two (number constant) (T ∷ []) A B → ⊥ }
 {
     let Some(found) = two_of(bank, formula) else {
         return None;
@@ -86,6 +96,8 @@ pub(crate) fn typed_sides(
 // The sides of an equation.
 fn equation(bank: &Bank, formula: TermId) -> Option<(TermId, TermId)>
     ensures later { IfSome result (λ p. (b : Nodes) → Extends bank.now b → (of : Ty) × (tree b formula.0 ≡ two Equal (of ∷ []) (tree b p.0.0) (tree b p.1.0))) }
+    ensures inside { IfSome result (λ p. (p.0.0 < length bank.now.terms) × (p.1.0 < length bank.now.terms)) }
+    ensures none { result ≡ None → (T : Ty) (A B : Term) → tree bank.now formula.0 ≡ two Equal (T ∷ []) A B → ⊥ }
 {
     typed_sides(bank, formula, Constant::Equal)
 }
@@ -93,6 +105,8 @@ fn equation(bank: &Bank, formula: TermId) -> Option<(TermId, TermId)>
 // The clause and the goal of an implication: of `D => G`, or of `G :- D`.
 pub(crate) fn implication(bank: &Bank, formula: TermId) -> Option<(TermId, TermId)>
     ensures later { IfSome result (λ p. (b : Nodes) → Extends bank.now b → IsImplication (tree b formula.0) (tree b p.0.0) (tree b p.1.0)) }
+    ensures inside { IfSome result (λ p. (p.0.0 < length bank.now.terms) × (p.1.0 < length bank.now.terms)) }
+    ensures none { result ≡ None → (D A : Term) → IsImplication (tree bank.now formula.0) D A → ⊥ }
 {
     if let Some((clause, goal)) = sides(bank, formula, Constant::Implies) {
         return Some((clause, goal));
@@ -105,6 +119,8 @@ pub(crate) fn implication(bank: &Bank, formula: TermId) -> Option<(TermId, TermI
 
 pub(crate) fn conjunction(bank: &Bank, formula: TermId) -> Option<(TermId, TermId)>
     ensures later { IfSome result (λ p. (b : Nodes) → Extends bank.now b → tree b formula.0 ≡ two And [] (tree b p.0.0) (tree b p.1.0)) }
+    ensures inside { IfSome result (λ p. (p.0.0 < length bank.now.terms) × (p.1.0 < length bank.now.terms)) }
+    ensures none { result ≡ None → (A B : Term) → tree bank.now formula.0 ≡ two And [] A B → ⊥ }
 {
     sides(bank, formula, Constant::And)
 }
@@ -112,12 +128,14 @@ pub(crate) fn conjunction(bank: &Bank, formula: TermId) -> Option<(TermId, TermI
 pub(crate) fn universal(bank: &Bank, formula: TermId) -> Option<(TypeId, TermId)>
     ensures later { IfSome result (λ p. (b : Nodes) → Extends bank.now b → tree b formula.0 ≡ pi_of (type_tree b p.0.0) (tree b p.1.0)) }
     ensures inside { IfSome result (λ p. p.1.0 < length bank.now.terms) }
+    ensures none { result ≡ None → (T : Ty) (s : Term) → tree bank.now formula.0 ≡ pi_of T s → ⊥ }
 {
     quantified(bank, formula, Constant::ForAll)
 }
 
 fn is_true_or_cut(constant: u32) -> bool
-    ensures { result ≡ true → (constant ≡ True) ⊎ (constant ≡ Cut) }
+    ensures yes { result ≡ true → (constant ≡ True) ⊎ (constant ≡ Cut) }
+    ensures no { result ≡ false → (constant ≡ True) ⊎ (constant ≡ Cut) → ⊥ }
 {
     if constant == Constant::True.number() {
         return true;
@@ -127,7 +145,8 @@ fn is_true_or_cut(constant: u32) -> bool
 
 // Whether the goal is `true` or `!`.
 fn is_trivial(bank: &Bank, goal: TermId) -> bool
-    ensures { result ≡ true → (b : Nodes) → Extends bank.now b → (tree b goal.0 ≡ truth) ⊎ (tree b goal.0 ≡ cut) }
+    ensures yes { result ≡ true → (b : Nodes) → Extends bank.now b → (tree b goal.0 ≡ truth) ⊎ (tree b goal.0 ≡ cut) }
+    ensures no { result ≡ false → (tree bank.now goal.0 ≡ truth) ⊎ (tree bank.now goal.0 ≡ cut) → ⊥ }
 {
     match bank.term_node(goal) {
         TermNode::Const(constant, types) => {
@@ -136,24 +155,39 @@ fn is_trivial(bank: &Bank, goal: TermId) -> bool
             }
             is_true_or_cut(constant)
         }
-        _ => false,
+        TermNode::Index(_) => false,
+        TermNode::Int(_) => false,
+        TermNode::Text(_) => false,
+        TermNode::Eigen(_) => false,
+        TermNode::Logic { .. } => false,
+        TermNode::Param(_, _) => false,
+        TermNode::Abs(_) => false,
+        TermNode::App(_, _) => false,
     }
 }
 
 // Whether the head is a declared constant or an eigenconstant.
 fn is_atom_head(bank: &Bank, head: TermId) -> bool
-    ensures { result ≡ true → (b : Nodes) → Extends bank.now b → IsAtomHead (tree b head.0) }
+    ensures yes { result ≡ true → (b : Nodes) → Extends bank.now b → IsAtomHead (tree b head.0) }
+    ensures no { result ≡ false → IsAtomHead (tree bank.now head.0) → ⊥ }
 {
     match bank.term_node(head) {
         TermNode::Const(constant, _) => constant >= FIRST_CONSTANT,
         TermNode::Eigen(_) => true,
-        _ => false,
+        TermNode::Index(_) => false,
+        TermNode::Int(_) => false,
+        TermNode::Text(_) => false,
+        TermNode::Logic { .. } => false,
+        TermNode::Param(_, _) => false,
+        TermNode::Abs(_) => false,
+        TermNode::App(_, _) => false,
     }
 }
 
 // Whether the head of the goal, which stands in the bank, is a declared constant or an eigenconstant.
 fn is_atom(bank: &Bank, goal: TermId) -> bool
-    ensures { result ≡ true → (b : Nodes) → Extends bank.now b → IsAtomHead (head_of (tree b goal.0)) }
+    ensures yes { result ≡ true → (b : Nodes) → Extends bank.now b → IsAtomHead (head_of (tree b goal.0)) }
+    ensures no { result ≡ false → IsAtomHead (head_of (tree bank.now goal.0)) → ⊥ }
 {
     if !is_inside(bank, goal) {
         return false;
@@ -171,6 +205,8 @@ fn formula_at(
 ) -> Result<Option<TermId>, Memory>
     ensures kept { Extends bank.old bank.new }
     ensures formula { IfOk result (λ found. IfSome found (λ made. (length types.now ≡ count) × (AreInside (length bank.old.types) types.now → (b : Nodes) → Extends bank.new b → tree b made.0 ≡ instance_term (type_at (types_in b types.now)) (tree b formula.0)))) }
+    ensures within { IfOk result (λ found. IfSome found (λ made. made.0 < length bank.new.terms)) }
+    ensures none { IfOk result (λ found. found ≡ None → formula.0 < length bank.old.terms → length types.now ≡ count → ⊥) }
 {
     if types.len() as u64 != count {
         return Ok(None);
@@ -192,6 +228,8 @@ fn declared_clause(
 ) -> Result<Option<TermId>, Memory>
     ensures kept { Extends bank.old bank.new }
     ensures clause { IfOk result (λ found. IfSome found (λ made. AreInside (length bank.old.types) types.now → (b : Nodes) → Extends bank.new b → IsDeclared b clauses.now place types.now (tree b made.0))) }
+    ensures within { IfOk result (λ found. IfSome found (λ made. made.0 < length bank.new.terms)) }
+    ensures none { IfOk result (λ found. found ≡ None → (c : ClauseFormula) → slice_get clauses.now place ≡ Some c → c.formula.0 < length bank.old.terms → length types.now ≡ c.type_vars → ⊥) }
 {
     match clauses.get(place) {
         Some(clause) => {
@@ -203,7 +241,9 @@ fn declared_clause(
 }
 
 pub(crate) fn turn_where(holds: bool) -> Turn
-    ensures { result ≡ Turn.On → holds ≡ true }
+    ensures on { result ≡ Turn.On → holds ≡ true }
+    ensures no { result ≡ Turn.No → holds ≡ false }
+    ensures deep { result ≡ Turn.Deep → ⊥ }
 {
     if holds { Turn::On } else { Turn::No }
 }
@@ -212,6 +252,7 @@ impl Work<'_> {
     fn go_on(&mut self, goal: TermId) -> Result<Turn, Memory>
         ensures same { self.new.known ≡ self.old.known }
         ensures left { OnOk result ((b : Nodes) → (ns : List Node) → Left b self.new ns → LeftWith b self.old (proving (tree b goal.0)) ns) }
+        ensures pushes { IfOk result (λ turn. (turn ≡ Turn.On) × Pushes self.old self.new (Task.Prove goal)) }
     {
         self.tasks.push(Task::Prove(goal))?;
         Ok(Turn::On)
@@ -222,6 +263,7 @@ impl Work<'_> {
         ensures kept { Extends bank.old bank.new }
         ensures known { OnOk result (IsKnown bank.new self.new.known) }
         ensures goes { IfOk result (λ turn. turn ≡ Turn.On → (b : Nodes) → Extends bank.new b → Goes b self.old self.new (proving (tree b goal.0)) (converted (tree b other.0))) }
+        ensures turned { IfOk result (λ turn. IsReadyWork bank.old self.old → IsReady bank.old goal → other.0 < length bank.old.terms → IsTurned bank.new self.old self.new (λ b. proving (tree b goal.0)) (λ b. converted (tree b other.0)) turn) }
     {
         let of = put_proposition(bank)?;
         if !self.is_closed_of(bank, other, of)? {
@@ -238,6 +280,7 @@ impl Work<'_> {
     fn both(&mut self, bank: &Bank, goal: TermId) -> Result<Turn, Memory>
         ensures same { self.new.known ≡ self.old.known }
         ensures goes { IfOk result (λ turn. turn ≡ Turn.On → (b : Nodes) → Extends bank.now b → Goes b self.old self.new (proving (tree b goal.0)) pair) }
+        ensures turned { IfOk result (λ turn. IsReadyWork bank.now self.old → IsReady bank.now goal → IsTurned bank.now self.old self.new (λ b. proving (tree b goal.0)) (λ b. pair) turn) }
     {
         let Some((left, right)) = sides(bank, goal, Constant::And) else {
             return Ok(Turn::No);
@@ -249,6 +292,7 @@ impl Work<'_> {
     fn left(&mut self, bank: &Bank, goal: TermId) -> Result<Turn, Memory>
         ensures same { self.new.known ≡ self.old.known }
         ensures goes { IfOk result (λ turn. turn ≡ Turn.On → (b : Nodes) → Extends bank.now b → Goes b self.old self.new (proving (tree b goal.0)) left_side) }
+        ensures turned { IfOk result (λ turn. IsReadyWork bank.now self.old → IsReady bank.now goal → IsTurned bank.now self.old self.new (λ b. proving (tree b goal.0)) (λ b. left_side) turn) }
     {
         match sides(bank, goal, Constant::Or) {
             Some((left, _right)) => self.go_on(left),
@@ -259,6 +303,7 @@ impl Work<'_> {
     fn right(&mut self, bank: &Bank, goal: TermId) -> Result<Turn, Memory>
         ensures same { self.new.known ≡ self.old.known }
         ensures goes { IfOk result (λ turn. turn ≡ Turn.On → (b : Nodes) → Extends bank.now b → Goes b self.old self.new (proving (tree b goal.0)) right_side) }
+        ensures turned { IfOk result (λ turn. IsReadyWork bank.now self.old → IsReady bank.now goal → IsTurned bank.now self.old self.new (λ b. proving (tree b goal.0)) (λ b. right_side) turn) }
     {
         match sides(bank, goal, Constant::Or) {
             Some((_left, right)) => self.go_on(right),
@@ -271,6 +316,7 @@ impl Work<'_> {
         ensures kept { Extends bank.old bank.new }
         ensures known { OnOk result (IsKnown bank.new self.new.known) }
         ensures goes { IfOk result (λ turn. turn ≡ Turn.On → (b : Nodes) → Extends bank.new b → Goes b self.old self.new (proving (tree b goal.0)) (witness (tree b value.0))) }
+        ensures turned { IfOk result (λ turn. IsReadyWork bank.old self.old → IsReady bank.old goal → value.0 < length bank.old.terms → IsTurned bank.new self.old self.new (λ b. proving (tree b goal.0)) (λ b. witness (tree b value.0)) turn) }
     {
         let Some((of, body)) = quantified(bank, goal, Constant::Exists) else {
             return Ok(Turn::No);
@@ -287,6 +333,7 @@ impl Work<'_> {
         ensures kept { Extends bank.old bank.new }
         ensures known { OnOk result (IsKnown bank.new self.new.known) }
         ensures goes { IfOk result (λ turn. turn ≡ Turn.On → (b : Nodes) → Extends bank.new b → Goes b self.old self.new (proving (tree b goal.0)) general) }
+        ensures turned { IfOk result (λ turn. IsReadyWork bank.old self.old → IsReady bank.old goal → IsTurned bank.new self.old self.new (λ b. proving (tree b goal.0)) (λ b. general) turn) }
     {
         let Some((of, body)) = quantified(bank, goal, Constant::ForAll) else {
             return Ok(Turn::No);
@@ -304,6 +351,7 @@ impl Work<'_> {
     fn assume(&mut self, bank: &Bank, goal: TermId) -> Result<Turn, Memory>
         ensures same { self.new.known ≡ self.old.known }
         ensures goes { IfOk result (λ turn. turn ≡ Turn.On → (b : Nodes) → Extends bank.now b → Goes b self.old self.new (proving (tree b goal.0)) assuming) }
+        ensures turned { IfOk result (λ turn. IsReadyWork bank.now self.old → IsReady bank.now goal → IsTurned bank.now self.old self.new (λ b. proving (tree b goal.0)) (λ b. assuming) turn) }
     {
         let Some((clause, rest)) = implication(bank, goal) else {
             return Ok(Turn::No);
@@ -319,6 +367,7 @@ impl Work<'_> {
         ensures known { OnOk result (IsKnown bank.new self.new.known) }
         ensures stays { OnOk result (Stays self.old self.new) }
         ensures equation { IfOk result (λ turn. turn ≡ Turn.On → (b : Nodes) → Extends bank.new b → IsEquation (tree b goal.0)) }
+        ensures turned { IfOk result (λ turn. IsReadyWork bank.old self.old → IsReady bank.old goal → IsTurned bank.new self.old self.new (λ b. proving (tree b goal.0)) (λ b. equated) turn) }
     {
         let Some((left, right)) = equation(bank, goal) else {
             return Ok(Turn::No);
@@ -340,6 +389,8 @@ impl Work<'_> {
         ensures known { OnOk result (IsKnown bank.new self.new.known) }
         ensures stays { OnOk result (Stays self.old self.new) }
         ensures clause { IfOk result (λ found. IfSome found (λ made. AreInside (length bank.old.types) types.now → (b : Nodes) → Extends bank.new b → IsClauseIn b self.old.theory self.old.assumed.items number (types_in b types.now) (tree b made.0))) }
+        ensures ready { IfOk result (λ found. IfSome found (λ made. IsReadyWork bank.old self.old → AreClosed (types_in bank.old types.now) → IsReady bank.new made)) }
+        ensures none { IfOk result (λ found. found ≡ None → IsReadyWork bank.old self.old → AreInside (length bank.old.types) types.now → (b : Nodes) → Extends bank.new b → (t : Term) → IsClauseIn b self.old.theory self.old.assumed.items number (types_in b types.now) t → ⊥) }
     {
         let place = number as usize;
         let clauses = self.theory.clauses;
@@ -363,6 +414,7 @@ impl Work<'_> {
         ensures kept { Extends bank.old bank.new }
         ensures known { OnOk result (IsKnown bank.new self.new.known) }
         ensures goes { IfOk result (λ turn. turn ≡ Turn.On → (b : Nodes) → Extends bank.new b → Goes b self.old self.new (proving (tree b goal.0)) (back_to number (types_in b types.now))) }
+        ensures turned { IfOk result (λ turn. IsReadyWork bank.old self.old → IsReady bank.old goal → AreInside (length bank.old.types) types.now → IsTurned bank.new self.old self.new (λ b. proving (tree b goal.0)) (λ b. back_to number (types_in b types.now)) turn) }
     {
         if !is_atom(bank, goal) {
             return Ok(Turn::No);
@@ -389,6 +441,7 @@ impl Work<'_> {
         ensures kept { Extends bank.old bank.new }
         ensures known { OnOk result (IsKnown bank.new self.new.known) }
         ensures goes { IfOk result (λ turn. turn ≡ Turn.On → (b : Nodes) → Extends bank.new b → Goes b self.old self.new (proving (tree b goal.0)) (node_of b node.now)) }
+        ensures turned { IfOk result (λ turn. IsReadyWork bank.old self.old → IsReady bank.old goal → IsNodeInside bank.old node.now → IsTurned bank.new self.old self.new (λ b. proving (tree b goal.0)) (λ b. node_of b node.now) turn) }
     {
         match node {
             ProofNode::Conv(other) => self.conv(bank, goal, *other),
@@ -400,9 +453,13 @@ impl Work<'_> {
             ProofNode::All => self.for_all(bank, goal),
             ProofNode::Assume => self.assume(bank, goal),
             ProofNode::Equal => self.equal(bank, goal),
-            ProofNode::Arith => computed(self.alloc, bank, goal),
+            ProofNode::Arith => computed(self.alloc, &mut self.known, bank, goal),
             ProofNode::Back(number, types) => self.back(bank, goal, *number, types.as_slice()),
-            _ => Ok(Turn::No),
+            ProofNode::FocusConv(_) => Ok(Turn::No),
+            ProofNode::FocusAll(_) => Ok(Turn::No),
+            ProofNode::Take(_) => Ok(Turn::No),
+            ProofNode::Need => Ok(Turn::No),
+            ProofNode::Hit => Ok(Turn::No),
         }
     }
 }

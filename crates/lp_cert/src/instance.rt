@@ -1,5 +1,5 @@
 // Types put in for type variables, and values for the variables of a query.
-ghost use Rattle.std.specs.Prelude.{◌≡◌, ◌<◌, ◌-◌, suc, length, IfOk, IfSome};
+ghost use Rattle.std.specs.Prelude.{◌≡◌, ◌<◌, ◌-◌, suc, length, All, IfOk, IfSome, None, OnOk};
 ghost use Rattle.lp_calculus.specs.Types.{instance};
 ghost use Rattle.lp_calculus.specs.Typing.{o_type};
 ghost use Rattle.lp_calculus.specs.Typing as typing;
@@ -7,11 +7,12 @@ ghost use Rattle.lp_calculus.specs.Instance.{instance_term};
 ghost use Rattle.lp_term.specs.Nodes.{Extends, Nodes, tree, type_tree};
 ghost use Rattle.lp_term.specs.Spine.{LooseBelow};
 ghost use Rattle.lp_model.specs.Index.{at, instantiate};
-ghost use Rattle.lp_cert.specs.Facts.{AreInside};
+ghost use Rattle.lp_cert.specs.Facts.{AreInside, IsKnown};
 ghost use Rattle.lp_cert.specs.Same.{terms_in, types_in};
 ghost use Rattle.lp_cert.specs.inner.Put.{IsPut};
 
 use crate::form::is_inside;
+use crate::known::Known;
 use lp_base::Memory;
 use lp_standard::Kind;
 use lp_term::{
@@ -100,10 +101,15 @@ pub(crate) fn type_at(
 fn put_value(
     alloc: Global,
     bank: &mut Bank,
+    known: &mut Known,
     term: TermId,
     value: TermId,
 ) -> Result<Option<TermId>, Memory>
+    requires known { IsKnown bank.old known.old }
     ensures kept { Extends bank.old bank.new }
+    ensures known { OnOk result (IsKnown bank.new known.new) }
+    ensures within { IfOk result (λ found. IfSome found (λ made. made.0 < length bank.new.terms)) }
+    ensures none { IfOk result (λ found. found ≡ None → term.0 < length bank.old.terms → value.0 < length bank.old.terms → LooseBelow 0 0 (tree bank.old value.0) → ⊥) }
     ensures put { IfOk result (λ found. IfSome found (λ made. (b : Nodes) → Extends bank.new b → IsPut (tree b value.0) (tree b term.0) (tree b made.0))) }
 {
     if !is_inside(bank, term) {
@@ -112,7 +118,7 @@ fn put_value(
     if !is_inside(bank, value) {
         return Ok(None);
     }
-    if !bank.is_known_below(value, 0) {
+    if !known.is_loose_below(bank, 0, value)? {
         return Ok(None);
     }
     let made = substitute(alloc, bank, term, value)?;
@@ -123,17 +129,22 @@ fn put_value(
 pub(crate) fn put_values(
     alloc: Global,
     bank: &mut Bank,
+    known: &mut Known,
     term: TermId,
     values: &[TermId],
 ) -> Result<Option<TermId>, Memory>
+    requires known { IsKnown bank.old known.old }
     ensures kept { Extends bank.old bank.new }
+    ensures known { OnOk result (IsKnown bank.new known.new) }
+    ensures within { IfOk result (λ found. IfSome found (λ made. term.0 < length bank.old.terms → made.0 < length bank.new.terms)) }
+    ensures none { IfOk result (λ found. found ≡ None → term.0 < length bank.old.terms → All (λ v. (v.0 < length bank.old.terms) × LooseBelow 0 0 (tree bank.old v.0)) values.now → ⊥) }
     ensures put { IfOk result (λ found. IfSome found (λ made. (b : Nodes) → Extends bank.new b → LooseBelow (length values.now) 0 (tree b term.0) →
         tree b made.0 ≡ instantiate (λ k. at (terms_in b values.now) (length (terms_in b values.now) - suc k)) (tree b term.0))) }
 {
     let mut made = term;
     for done in 0..values.len() {
         let value = values[values.len() - 1 - done];
-        let Some(next) = put_value(alloc, bank, made, value)? else {
+        let Some(next) = put_value(alloc, bank, known, made, value)? else {
             return Ok(None);
         };
         made = next;

@@ -6,6 +6,7 @@ ghost use Rattle.lp_standard.specs.Positive.{is_positive, is_positive_constant};
 ghost use Rattle.lp_term.specs.Node.{TypeBelow, TermBelow};
 ghost use Rattle.lp_term.specs.Nodes.{Nodes, tree, type_tree, type_node_tree, node_tree};
 ghost use Rattle.lp_term.specs.Shapes.{type_shape, term_shape};
+ghost use Rattle.lp_term.specs.Spine.{LooseBelow};
 ghost use Rattle.lp_cert.specs.Facts.{AreFacts, IsKnown, all_marked, atom_facts, plain_facts, no_facts, is_closed_type, are_closed};
 
 use lp_base::Memory;
@@ -81,6 +82,13 @@ impl Facts {
             return false;
         }
         self.eigen <= level
+    }
+
+    fn fits_below(self, depth: u64) -> bool
+        ensures always { result ≡ true → self.loose ≤ depth }
+        ensures never { result ≡ false → self.loose ≤ depth → ⊥ }
+    {
+        self.loose <= u128::from(depth)
     }
 
     fn abstracted(self) -> Facts
@@ -269,6 +277,23 @@ impl Known {
     {
         self.find_terms(bank)?;
         Ok(self.term_fact(term).positive)
+    }
+
+    // Whether the loose indices of a term are below the depth.
+    pub(crate) fn is_loose_below(
+        &mut self,
+        bank: &Bank,
+        depth: u64,
+        term: TermId,
+    ) -> Result<bool, Memory>
+        requires known { IsKnown bank.now self.old }
+        ensures known { OnOk result (IsKnown bank.now self.new) }
+        ensures below { IfOk result (λ yes. yes ≡ true → LooseBelow depth 0 (tree bank.now term.0)) }
+        ensures above { IfOk result (λ yes. yes ≡ false → LooseBelow depth 0 (tree bank.now term.0) → ⊥) }
+    {
+        self.find_terms(bank)?;
+        let facts = self.term_fact(term);
+        Ok(facts.fits_below(depth))
     }
 
     // Whether a term has neither logic nor type variables, no loose index, and no eigenconstant above the level.

@@ -25,12 +25,12 @@ mod known;
 mod laws;
 // Proofs as bytes.
 mod nodes;
-// The bytes that are left to read, and fields of one number.
-mod reader;
 // The declared types of constants.
 mod schemes;
 // How a formula begins.
 mod shape;
+// Stacks, of which the last one comes first.
+mod stack;
 // Terms as bytes.
 mod terms;
 // Types as bytes.
@@ -41,8 +41,6 @@ mod typing;
 mod value;
 // What is still to be shown.
 mod work;
-// The bytes so far, and fields of one number.
-mod writer;
 
 pub use fault::CertFault;
 pub use file::{read_cert, write_cert};

@@ -1,5 +1,5 @@
 // The declared types of constants, with types for their type variables.
-ghost use Rattle.std.specs.Prelude.{◌≡◌, ◌<◌, Some, length, map, IfOk, IfSome};
+ghost use Rattle.std.specs.Prelude.{◌≡◌, ◌<◌, None, Some, length, map, IfOk, IfSome};
 ghost use Rattle.lp_calculus.specs.Types.{arrow, con, instance, tys};
 ghost use Rattle.lp_calculus.specs.Typing as typing;
 ghost use Rattle.lp_standard.specs.Kinds as kinds;
@@ -7,6 +7,7 @@ ghost use Rattle.lp_standard.specs.Schemes.{part_type, scheme, shape_type};
 ghost use Rattle.lp_term.specs.Nodes.{Extends, Nodes, type_tree};
 ghost use Rattle.lp_model.specs.Readings.{declared_by, scheme_of};
 ghost use Rattle.lp_cert.specs.Facts.{AreInside};
+ghost use Rattle.lp_cert.specs.Inside.{AreDeclaredInside};
 ghost use Rattle.lp_cert.specs.Same.{types_in};
 
 use crate::instance::type_at;
@@ -94,6 +95,7 @@ fn standard_type(
 ) -> Result<Option<TypeId>, Memory>
     ensures kept { Extends bank.old bank.new }
     ensures type_is { IfOk result (λ found. IfSome found (λ made. AreInside (length bank.old.types) types.now → (b : Nodes) → Extends bank.new b → typing.scheme_type (types_in b types.now) (scheme constant) ≡ Some (type_tree b made.0))) }
+    ensures none { IfOk result (λ found. found ≡ None → (b : Nodes) → typing.scheme_type (types_in b types.now) (scheme constant) ≡ None) }
 {
     let Some(shape) = constant.shape() else {
         return Ok(None);
@@ -113,6 +115,7 @@ fn declared_type(
 ) -> Result<Option<TypeId>, Memory>
     ensures kept { Extends bank.old bank.new }
     ensures type_is { IfOk result (λ found. IfSome found (λ made. AreInside (length bank.old.types) types.now → (b : Nodes) → Extends bank.new b → typing.scheme_type (types_in b types.now) (Some (scheme_of b declared.now)) ≡ Some (type_tree b made.0))) }
+    ensures none { IfOk result (λ found. found ≡ None → declared.now.scheme.0 < length bank.old.types → (b : Nodes) → typing.scheme_type (types_in b types.now) (Some (scheme_of b declared.now)) ≡ None) }
 {
     if types.len() != usize::from(declared.type_vars) {
         return Ok(None);
@@ -134,6 +137,7 @@ pub(crate) fn constant_type(
 ) -> Result<Option<TypeId>, Memory>
     ensures kept { Extends bank.old bank.new }
     ensures type_is { IfOk result (λ found. IfSome found (λ made. AreInside (length bank.old.types) types.now → (b : Nodes) → Extends bank.new b → typing.scheme_type (types_in b types.now) (declared_by b constants.now constant) ≡ Some (type_tree b made.0))) }
+    ensures none { IfOk result (λ found. found ≡ None → AreDeclaredInside (length bank.old.types) constants.now → (b : Nodes) → typing.scheme_type (types_in b types.now) (declared_by b constants.now constant) ≡ None) }
 {
     if constant < FIRST_CONSTANT {
         return match Constant::from_number(constant) {

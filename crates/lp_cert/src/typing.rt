@@ -1,18 +1,20 @@
 // Whether a closed term has a type: the equations of its nodes have a solution.
-ghost use Rattle.std.specs.Prelude.{◌≡◌, ◌<◌, ℕ, List, [], ◌∷◌, length, map, All, IfOk, OnOk, true};
+ghost use Rattle.std.specs.Prelude.{◌≡◌, ◌<◌, ◌≤◌, ℕ, suc, List, [], ◌∷◌, length, map, All, IfOk, OnOk, true, false};
 ghost use Rattle.lp_calculus.specs.Types.{Ty, var, con, no_types};
 ghost use Rattle.lp_calculus.specs.Term.{apply, index, atom, abs, constant, eigen};
-ghost use Rattle.lp_calculus.specs.Closed.{IsClosedType};
+ghost use Rattle.lp_calculus.specs.Closed.{AllAtoms, AreClosed, IsClosedType};
 ghost use Rattle.lp_calculus.specs.Typing.{Typed};
 ghost use Rattle.lp_standard.specs.Kinds as kinds;
-ghost use Rattle.lp_type_laws.specs.Equations.{AllHold};
+ghost use Rattle.lp_type_laws.specs.Equations.{AllHold, HaveNoSolution};
 ghost use Rattle.lp_term.specs.Nodes.{Extends, Nodes, tree, type_tree};
 ghost use Rattle.lp_model.specs.Proofs.{under};
 ghost use Rattle.lp_model.specs.Readings.{declared_by};
 ghost use Rattle.lp_type_unify.specs.Reading.{IsPair, read_pairs};
 ghost use Rattle.lp_cert.specs.Facts.{AreInside, IsKnown};
+ghost use Rattle.lp_cert.specs.Inside.{AreDeclaredInside};
 ghost use Rattle.lp_cert.specs.Same.{types_in};
-ghost use Rattle.lp_cert.specs.inner.Derives.{Applies, Derives, IsGrown, IsPushed, Moves, Pushes, Solves, Taken, applying, closing, filled_types, step_of, visiting};
+ghost use Rattle.lp_cert.specs.inner.Derives.{Applies, Derives, IsEquated, IsGrown, IsHeld, IsPushed, IsTaskIn, IsTidy, IsTypeBelow, Keeps, KeepsApplied, Moves, Pushes, Solves, Taken, applying, closing, filled_types, step_of, visiting};
+ghost use Rattle.lp_cert.specs.inner.Named.{HasClosedTypes};
 
 use crate::form::is_inside;
 use crate::known::Known;
@@ -49,7 +51,8 @@ struct Typing<'a, 'b> {
 
 // Whether a type stands in the bank.
 pub(crate) fn is_type_inside(bank: &Bank, of: TypeId) -> bool
-    ensures { result ≡ true → of.0 < length bank.now.types }
+    ensures inside { result ≡ true → of.0 < length bank.now.types }
+    ensures outside { result ≡ false → length bank.now.types ≤ of.0 }
 {
     of.0 < bank.type_count()
 }
@@ -59,6 +62,8 @@ impl Typing<'_, '_> {
         ensures kept { Extends bank.old bank.new }
         ensures within { IfOk result (λ made. made.0 < length bank.new.types) }
         ensures grown { OnOk result (IsGrown self.old self.new) }
+        ensures fresh { IfOk result (λ made. type_tree bank.new made.0 ≡ var self.old.next) }
+        ensures next { OnOk result (self.new.next ≡ suc self.old.next) }
     {
         let number = self.next;
         let Some(next) = number.checked_add(1) else {
@@ -74,6 +79,7 @@ impl Typing<'_, '_> {
         requires known { IsKnown bank.now known.old }
         ensures known { OnOk result (IsKnown bank.now known.new) }
         ensures pushes { IfOk result (λ yes. yes ≡ true → Pushes bank.now self.old self.new (λ b. type_tree b of.0)) }
+        ensures held { IfOk result (λ yes. IsClosedType (type_tree bank.now of.0) → (yes ≡ true) × IsHeld self.old self.new of) }
     {
         if !known.is_closed_type(bank, of)? {
             return Ok(false);
@@ -84,6 +90,7 @@ impl Typing<'_, '_> {
 
     fn index(&mut self, at: u64) -> Result<bool, Memory>
         ensures moves { IfOk result (λ yes. yes ≡ true → (now : Nodes) → Moves now self.old self.new (λ b. visiting (index at))) }
+        ensures keeps { IfOk result (λ yes. (now : Nodes) → IsTidy now self.old → Keeps now self.old self.new (λ b. visiting (index at) ∷ []) yes) }
     {
         let count = self.context.len() as u64;
         if at >= count {
@@ -105,6 +112,7 @@ impl Typing<'_, '_> {
         ensures kept { Extends bank.old bank.new }
         ensures known { OnOk result (IsKnown bank.new known.new) }
         ensures moves { IfOk result (λ yes. yes ≡ true → AreInside (length bank.old.types) types.now → Moves bank.new self.old self.new (λ b. visiting (atom (constant number (types_in b types.now))))) }
+        ensures keeps { IfOk result (λ yes. IsTidy bank.old self.old → AreClosed (types_in bank.old types.now) → Keeps bank.new self.old self.new (λ b. visiting (atom (constant number (types_in b types.now))) ∷ []) yes) }
     {
         let found = constant_type(self.alloc, bank, self.constants, number, types)?;
         match found {
@@ -118,6 +126,7 @@ impl Typing<'_, '_> {
         ensures kept { Extends bank.old bank.new }
         ensures known { OnOk result (IsKnown bank.new known.new) }
         ensures pushes { IfOk result (λ yes. yes ≡ true → Pushes bank.new self.old self.new (λ b. con (kinds.number kind) no_types)) }
+        ensures held { IfOk result (λ yes. (yes ≡ true) × ((of : TypeId) × IsHeld self.old self.new of × (type_tree bank.new of.0 ≡ con (kinds.number kind) no_types))) }
     {
         let of = put_constructor(bank, kind.number(), &[])?;
         self.closed(known, bank, of)
@@ -127,6 +136,7 @@ impl Typing<'_, '_> {
         requires known { IsKnown bank.now known.old }
         ensures known { OnOk result (IsKnown bank.now known.new) }
         ensures moves { IfOk result (λ yes. yes ≡ true → Moves bank.now self.old self.new (λ b. visiting (atom (eigen level)))) }
+        ensures keeps { IfOk result (λ yes. IsTidy bank.now self.old → Keeps bank.now self.old self.new (λ b. visiting (atom (eigen level)) ∷ []) yes) }
     {
         if level == 0 {
             return Ok(false);
@@ -140,6 +150,7 @@ impl Typing<'_, '_> {
     fn abstraction(&mut self, bank: &mut Bank, body: TermId) -> Result<bool, Memory>
         ensures kept { Extends bank.old bank.new }
         ensures moves { IfOk result (λ yes. yes ≡ true → Moves bank.new self.old self.new (λ b. visiting (abs (tree b body.0)))) }
+        ensures keeps { IfOk result (λ yes. IsTidy bank.old self.old → IsTaskIn bank.old (Task.Visit body) → Keeps bank.new self.old self.new (λ b. visiting (abs (tree b body.0)) ∷ []) yes) }
     {
         let from = self.new_variable(bank)?;
         self.context.push(from)?;
@@ -150,6 +161,7 @@ impl Typing<'_, '_> {
 
     fn application(&mut self, head: TermId, arguments: &[TermId]) -> Result<bool, Memory>
         ensures moves { IfOk result (λ yes. yes ≡ true → (now : Nodes) → Moves now self.old self.new (λ b. visiting (apply (tree b head.0) (map (λ t. tree b t.0) arguments.now)))) }
+        ensures keeps { IfOk result (λ yes. (now : Nodes) → IsTidy now self.old → IsTaskIn now (Task.Visit head) → All (λ t. IsTaskIn now (Task.Visit t)) arguments.now → Keeps now self.old self.new (λ b. visiting (apply (tree b head.0) (map (λ t. tree b t.0) arguments.now)) ∷ []) yes) }
     {
         for at in 0..arguments.len() {
             let argument = arguments[arguments.len() - 1 - at];
@@ -165,6 +177,7 @@ impl Typing<'_, '_> {
         ensures kept { Extends bank.old bank.new }
         ensures known { OnOk result (IsKnown bank.new known.new) }
         ensures moves { IfOk result (λ yes. yes ≡ true → Moves bank.new self.old self.new (λ b. visiting (tree b term.0))) }
+        ensures keeps { IfOk result (λ yes. IsTidy bank.old self.old → IsTaskIn bank.old (Task.Visit term) → Keeps bank.new self.old self.new (λ b. visiting (tree b term.0) ∷ []) yes) }
     {
         if !is_inside(bank, term) {
             return Ok(false);
@@ -188,6 +201,7 @@ impl Typing<'_, '_> {
     fn close(&mut self, bank: &mut Bank) -> Result<bool, Memory>
         ensures kept { Extends bank.old bank.new }
         ensures moves { IfOk result (λ yes. yes ≡ true → Moves bank.new self.old self.new (λ b. closing)) }
+        ensures keeps { IfOk result (λ yes. IsTidy bank.old self.old → Keeps bank.new self.old self.new (λ b. closing ∷ []) yes) }
     {
         let Some(to) = self.stack.pop() else {
             return Ok(false);
@@ -209,6 +223,7 @@ impl Typing<'_, '_> {
     // An equation; two types of one number are equal already.
     fn equate(&mut self, left: TypeId, right: TypeId) -> Result<(), Memory>
         ensures grown { OnOk result (Taken self.old self.new left right) }
+        ensures equated { OnOk result (IsEquated self.old self.new left right) }
     {
         if left.0 == right.0 {
             return Ok(());
@@ -222,6 +237,7 @@ impl Typing<'_, '_> {
         requires argument { argument.0 < length bank.old.types }
         ensures kept { Extends bank.old bank.new }
         ensures applies { IfOk result (λ yes. yes ≡ true → Applies bank.new self.old self.new head argument) }
+        ensures keeps { IfOk result (λ yes. IsTidy bank.old self.old → IsTypeBelow bank.old self.old.next head → IsTypeBelow bank.old self.old.next argument → (yes ≡ true) × KeepsApplied bank.new self.old self.new head argument) }
     {
         let to = self.new_variable(bank)?;
         let of = put_arrow(bank, argument, to)?;
@@ -233,6 +249,7 @@ impl Typing<'_, '_> {
     fn apply(&mut self, bank: &mut Bank) -> Result<bool, Memory>
         ensures kept { Extends bank.old bank.new }
         ensures moves { IfOk result (λ yes. yes ≡ true → Moves bank.new self.old self.new (λ b. applying)) }
+        ensures keeps { IfOk result (λ yes. IsTidy bank.old self.old → Keeps bank.new self.old self.new (λ b. applying ∷ []) yes) }
     {
         let Some(argument) = self.stack.pop() else {
             return Ok(false);
@@ -258,6 +275,7 @@ impl Typing<'_, '_> {
         ensures kept { Extends bank.old bank.new }
         ensures known { OnOk result (IsKnown bank.new known.new) }
         ensures moves { IfOk result (λ yes. yes ≡ true → Moves bank.new self.old self.new (λ b. step_of b task)) }
+        ensures keeps { IfOk result (λ yes. IsTidy bank.old self.old → IsTaskIn bank.old task → Keeps bank.new self.old self.new (λ b. step_of b task ∷ []) yes) }
     {
         match task {
             Task::Visit(term) => self.visit(known, bank, term),
@@ -272,6 +290,8 @@ impl Typing<'_, '_> {
         ensures kept { Extends bank.old bank.new }
         ensures known { OnOk result (IsKnown bank.new known.new) }
         ensures derives { IfOk result (λ yes. yes ≡ true → (b : Nodes) → Extends bank.new b → (θ : ℕ → Ty) → (T : Ty) → (R : List Ty) → Solves b θ self.new.pairs.items → filled_types b θ self.new.stack.items ≡ T ∷ R → Derives b θ self.old T) }
+        ensures keeps { IfOk result (λ yes. IsTidy bank.old self.old → Keeps bank.new self.old self.new (λ b. []) yes) }
+        ensures ended { IfOk result (λ yes. yes ≡ true → self.new.tasks.items ≡ []) }
     {
         for _ in 0..u64::MAX {
             let Some(task) = self.tasks.pop() else {
@@ -285,15 +305,24 @@ impl Typing<'_, '_> {
     }
 }
 
+// Whether both types are in the bank.
+fn is_pair(bank: &Bank, pair: Pair) -> bool
+    ensures inside { result ≡ true → IsPair (length bank.now.types) pair }
+    ensures outside { result ≡ false → IsPair (length bank.now.types) pair → ⊥ }
+{
+    if !is_type_inside(bank, pair.left) {
+        return false;
+    }
+    is_type_inside(bank, pair.right)
+}
+
 // Whether the types of all pairs are in the bank.
 fn are_pairs(bank: &Bank, pairs: &[Pair]) -> bool
-    ensures { result ≡ true → All (IsPair (length bank.now.types)) pairs.now }
+    ensures inside { result ≡ true → All (IsPair (length bank.now.types)) pairs.now }
+    ensures outside { result ≡ false → All (IsPair (length bank.now.types)) pairs.now → ⊥ }
 {
-    for pair in pairs.iter().copied() {
-        if pair.left.0 >= bank.type_count() {
-            return false;
-        }
-        if pair.right.0 >= bank.type_count() {
+    for at in 0..pairs.len() {
+        if !is_pair(bank, pairs[at]) {
             return false;
         }
     }
@@ -304,6 +333,7 @@ fn are_pairs(bank: &Bank, pairs: &[Pair]) -> bool
 pub(crate) fn have_solution(alloc: Global, bank: &Bank, pairs: &[Pair]) -> Result<bool, Memory>
     ensures inside { IfOk result (λ yes. yes ≡ true → All (IsPair (length bank.now.types)) pairs.now) }
     ensures solved { IfOk result (λ yes. yes ≡ true → (θ : ℕ → Ty) × AllHold θ (read_pairs (type_tree bank.now) var pairs.now)) }
+    ensures none { IfOk result (λ yes. yes ≡ false → All (IsPair (length bank.now.types)) pairs.now → HaveNoSolution (read_pairs (type_tree bank.now) var pairs.now)) }
 {
     if !are_pairs(bank, pairs) {
         return Ok(false);
@@ -328,6 +358,8 @@ pub(crate) fn has_type(
     ensures kept { Extends bank.old bank.new }
     ensures known { OnOk result (IsKnown bank.new known.new) }
     ensures typed { IfOk result (λ yes. yes ≡ true → IsClosedType (type_tree bank.old of.0) → (b : Nodes) → Extends bank.new b → Typed (under (declared_by b constants.now) (types_in b eigens.now)) [] (tree b term.0) (type_tree b of.0)) }
+    ensures untyped { IfOk result (λ yes. yes ≡ false → AllAtoms HasClosedTypes (tree bank.old term.0) → term.0 < length bank.old.terms → IsClosedType (type_tree bank.old of.0) → AreClosed (types_in bank.old eigens.now) → AreDeclaredInside (length bank.old.types) constants.now →
+        (b : Nodes) → Extends bank.new b → Typed (under (declared_by b constants.now) (types_in b eigens.now)) [] (tree b term.0) (type_tree b of.0) → ⊥) }
 {
     let mut typing = Typing {
         alloc,

@@ -1,11 +1,10 @@
 // The value of an expression in normal form.
-ghost use Rattle.std.specs.Prelude.{◌≡◌, ◌≤◌, ◌++◌, ◌∷◌, List, ℕ, reverse, IfOk, IfSome, true};
+ghost use Rattle.std.specs.Prelude.{◌≡◌, ◌≤◌, ◌++◌, ◌∷◌, List, ℕ, reverse, IfOk, IfSome, true, false, None, ℤ};
 ghost use Rattle.lp_calculus.specs.Term.{Term};
-ghost use Rattle.lp_standard.specs.Constants.{number as number_of};
 ghost use Rattle.lp_term.specs.Nodes.{Nodes, tree};
 ghost use Rattle.lp_model.specs.Values.{Bytes, Is, Number, Outcome, binary, is_one_place, is_two_place, ordered, term_of, unary, value as value_of_term};
 ghost use Rattle.lp_cert.specs.Shape.{IsOne, IsTwo};
-ghost use Rattle.lp_cert.specs.inner.Evaluated.{Begins, Gives, Leads, state_from, text_in, value_in, within};
+ghost use Rattle.lp_cert.specs.inner.Evaluated.{Begins, Gives, HasNone, IsApplication, Leads, state_from, text_in, value_in, within};
 
 use crate::shape::{One, Two, one_of, two_of};
 use lp_base::Memory;
@@ -32,12 +31,12 @@ pub(crate) struct Texts {
     pub(crate) bytes: Vec<u8>,
 }
 
-// What stands around the part that is evaluated: an operation on it alone, one whose right operand follows, or one whose left value is known.
+// What stands around the part that is evaluated, by the number of the operation: one on it alone, one whose right operand follows, or one whose left value is known.
 #[derive(Clone, Copy)]
 enum Around {
-    One(Constant),
-    Left(Constant, TermId),
-    Right(Constant, Value),
+    One(u32),
+    Left(u32, TermId),
+    Right(u32, Value),
 }
 
 // The part that is evaluated, its value, or that it has none.
@@ -74,27 +73,27 @@ impl Texts {
         })
     }
 
-    // One string behind another, if they are there.
-    fn joined(&mut self, alloc: Global, left: Span, right: Span) -> Result<Option<Span>, Memory>
+    // One string behind another.
+    fn joined(&mut self, alloc: Global, left: Span, right: Span) -> Result<Span, Memory>
         ensures grows { (end : List ℕ) → Begins self.new.bytes.items end → Begins self.old.bytes.items end }
-        ensures joined { IfOk result (λ found. IfSome found (λ s. (end : List ℕ) → Begins self.new.bytes.items end → text_in end s ≡ text_in end left ++ text_in end right)) }
+        ensures joined { IfOk result (λ s. (end : List ℕ) → Begins self.new.bytes.items end → text_in end s ≡ text_in end left ++ text_in end right) }
     {
         if follows(left, right) {
-            return Ok(Some(Span {
+            return Ok(Span {
                 from: left.from,
                 to: right.to,
-            }));
+            });
         }
         let Some(first) = self.of(left) else {
-            return Ok(None);
+            return Err(Memory);
         };
         let Some(second) = self.of(right) else {
-            return Ok(None);
+            return Err(Memory);
         };
         let mut bytes = Vec::from_slice(alloc, first)?;
         bytes.extend_from_slice(second)?;
         let made = self.put(bytes.as_slice())?;
-        Ok(Some(made))
+        Ok(made)
     }
 }
 
@@ -120,44 +119,53 @@ fn state_of(value: Option<i64>) -> State
     }
 }
 
-fn on_numbers(operation: Constant, left: i64, right: i64) -> State
-    ensures { (end : List ℕ) → Gives end result (binary (number_of operation) (Number left) (Number right)) }
+fn on_numbers(operation: u32, left: i64, right: i64) -> State
+    ensures { (end : List ℕ) → Gives end result (binary operation (Number left) (Number right)) }
 {
-    match operation {
-        Constant::Add => state_of(left.checked_add(right)),
-        Constant::Subtract => state_of(left.checked_sub(right)),
-        Constant::Multiply => state_of(left.checked_mul(right)),
-        Constant::Divide => state_of(left.checked_div(right)),
-        Constant::Remainder => state_of(left.checked_rem(right)),
-        _ => State::None,
+    let add = Constant::Add.number();
+    if operation == add {
+        return state_of(left.checked_add(right));
     }
+    let subtract = Constant::Subtract.number();
+    if operation == subtract {
+        return state_of(left.checked_sub(right));
+    }
+    let multiply = Constant::Multiply.number();
+    if operation == multiply {
+        return state_of(left.checked_mul(right));
+    }
+    let divide = Constant::Divide.number();
+    if operation == divide {
+        return state_of(left.checked_div(right));
+    }
+    let remainder = Constant::Remainder.number();
+    if operation == remainder {
+        return state_of(left.checked_rem(right));
+    }
+    State::None
 }
 
 // One string behind another, where the operation does that.
 fn on_texts(
     alloc: Global,
     texts: &mut Texts,
-    operation: Constant,
+    operation: u32,
     left: Span,
     right: Span,
 ) -> Result<State, Memory>
     ensures grows { (end : List ℕ) → Begins texts.new.bytes.items end → Begins texts.old.bytes.items end }
-    ensures gives { IfOk result (λ s. (end : List ℕ) → Begins texts.new.bytes.items end → Gives end s (binary (number_of operation) (Bytes (text_in end left)) (Bytes (text_in end right)))) }
+    ensures gives { IfOk result (λ s. (end : List ℕ) → Begins texts.new.bytes.items end → Gives end s (binary (operation) (Bytes (text_in end left)) (Bytes (text_in end right)))) }
 {
-    match operation {
-        Constant::Concatenate => {
-            let joined = texts.joined(alloc, left, right)?;
-            match joined {
-                Some(text) => Ok(State::Known(Value::Text(text))),
-                None => Ok(State::None),
-            }
-        }
-        _ => Ok(State::None),
+    let concatenate = Constant::Concatenate.number();
+    if operation != concatenate {
+        return Ok(State::None);
     }
+    let joined = texts.joined(alloc, left, right)?;
+    Ok(State::Known(Value::Text(joined)))
 }
 
-fn on_number_with(operation: Constant, left: i64, right: Value) -> State
-    ensures { (end : List ℕ) → Gives end result (binary (number_of operation) (Number left) (value_in end right)) }
+fn on_number_with(operation: u32, left: i64, right: Value) -> State
+    ensures { (end : List ℕ) → Gives end result (binary (operation) (Number left) (value_in end right)) }
 {
     match right {
         Value::Number(other) => on_numbers(operation, left, other),
@@ -168,12 +176,12 @@ fn on_number_with(operation: Constant, left: i64, right: Value) -> State
 fn on_text_with(
     alloc: Global,
     texts: &mut Texts,
-    operation: Constant,
+    operation: u32,
     left: Span,
     right: Value,
 ) -> Result<State, Memory>
     ensures grows { (end : List ℕ) → Begins texts.new.bytes.items end → Begins texts.old.bytes.items end }
-    ensures gives { IfOk result (λ s. (end : List ℕ) → Begins texts.new.bytes.items end → Gives end s (binary (number_of operation) (Bytes (text_in end left)) (value_in end right))) }
+    ensures gives { IfOk result (λ s. (end : List ℕ) → Begins texts.new.bytes.items end → Gives end s (binary (operation) (Bytes (text_in end left)) (value_in end right))) }
 {
     match right {
         Value::Number(_) => Ok(State::None),
@@ -184,12 +192,12 @@ fn on_text_with(
 fn on_two(
     alloc: Global,
     texts: &mut Texts,
-    operation: Constant,
+    operation: u32,
     left: Value,
     right: Value,
 ) -> Result<State, Memory>
     ensures grows { (end : List ℕ) → Begins texts.new.bytes.items end → Begins texts.old.bytes.items end }
-    ensures gives { IfOk result (λ s. (end : List ℕ) → Begins texts.new.bytes.items end → Gives end s (binary (number_of operation) (value_in end left) (value_in end right))) }
+    ensures gives { IfOk result (λ s. (end : List ℕ) → Begins texts.new.bytes.items end → Gives end s (binary (operation) (value_in end left) (value_in end right))) }
 {
     match left {
         Value::Number(one) => Ok(on_number_with(operation, one, right)),
@@ -197,91 +205,77 @@ fn on_two(
     }
 }
 
-fn on_number(operation: Constant, operand: i64) -> State
-    ensures { (end : List ℕ) → Gives end result (unary (number_of operation) (Number operand)) }
+fn on_number(operation: u32, operand: i64) -> State
+    ensures { (end : List ℕ) → Gives end result (unary (operation) (Number operand)) }
 {
-    match operation {
-        Constant::Negate => state_of(operand.checked_neg()),
-        _ => State::None,
+    let negate = Constant::Negate.number();
+    if operation != negate {
+        return State::None;
     }
+    state_of(operand.checked_neg())
 }
 
 // How many bytes there are, where the operation asks that.
-fn on_bytes(operation: Constant, bytes: &[u8]) -> State
-    ensures { (end : List ℕ) → Gives end result (unary (number_of operation) (Bytes bytes.now)) }
+fn on_bytes(operation: u32, bytes: &[u8]) -> State
+    ensures { (end : List ℕ) → Gives end result (unary (operation) (Bytes bytes.now)) }
 {
-    match operation {
-        Constant::Size => match i64::try_from(bytes.len()) {
-            Ok(size) => State::Known(Value::Number(size)),
-            Err(_) => State::None,
-        },
-        _ => State::None,
+    let size_of = Constant::Size.number();
+    if operation != size_of {
+        return State::None;
+    }
+    match i64::try_from(bytes.len()) {
+        Ok(size) => State::Known(Value::Number(size)),
+        Err(_) => State::None,
     }
 }
 
-fn on_one(texts: &Texts, operation: Constant, operand: Value) -> State
-    ensures { (end : List ℕ) → Begins texts.now.bytes.items end → Gives end result (unary (number_of operation) (value_in end operand)) }
+fn on_one(texts: &Texts, operation: u32, operand: Value) -> Result<State, Memory>
+    ensures { IfOk result (λ s. (end : List ℕ) → Begins texts.now.bytes.items end → Gives end s (unary operation (value_in end operand))) }
 {
     match operand {
-        Value::Number(value) => on_number(operation, value),
+        Value::Number(value) => Ok(on_number(operation, value)),
         Value::Text(text) => match texts.of(text) {
-            Some(bytes) => on_bytes(operation, bytes),
-            None => State::None,
+            Some(bytes) => Ok(on_bytes(operation, bytes)),
+            None => Err(Memory),
         },
     }
 }
 
-fn is_on_two(operation: Constant) -> bool
-    ensures { result ≡ true → is_two_place (number_of operation) ≡ true }
+fn is_on_two(operation: u32) -> bool
+    ensures { result ≡ is_two_place operation }
 {
-    match operation {
-        Constant::Add
-        | Constant::Subtract
-        | Constant::Multiply
-        | Constant::Divide
-        | Constant::Remainder
-        | Constant::Concatenate => true,
-        _ => false,
-    }
+    (operation >= Constant::Add.number() && operation <= Constant::Remainder.number())
+        || operation == Constant::Concatenate.number()
 }
 
-fn is_on_one(operation: Constant) -> bool
-    ensures { result ≡ true → is_one_place (number_of operation) ≡ true }
+fn is_on_one(operation: u32) -> bool
+    ensures { result ≡ is_one_place operation }
 {
-    match operation {
-        Constant::Negate | Constant::Size => true,
-        _ => false,
-    }
+    operation == Constant::Negate.number() || operation == Constant::Size.number()
 }
 
 fn enter_two(around: &mut Vec<Around>, two: Two<'_>) -> Result<State, Memory>
     ensures { IfOk result (λ s. (b : Nodes) (end : List ℕ) (t : Term) (o : Outcome) → IsTwo b t two.entry → o ≡ within b end (reverse around.old.items) (value_of_term t) → Leads b end s (reverse around.new.items) o) }
 {
-    let Some(operation) = Constant::from_number(two.constant) else {
-        return Ok(State::None);
-    };
-    if !is_on_two(operation) {
+    if !is_on_two(two.constant) {
         return Ok(State::None);
     }
-    around.push(Around::Left(operation, two.right))?;
+    around.push(Around::Left(two.constant, two.right))?;
     Ok(State::Visit(two.left))
 }
 
 fn enter_one(around: &mut Vec<Around>, one: One<'_>) -> Result<State, Memory>
     ensures { IfOk result (λ s. (b : Nodes) (end : List ℕ) (t : Term) (o : Outcome) → IsOne b t one.entry → o ≡ within b end (reverse around.old.items) (value_of_term t) → Leads b end s (reverse around.new.items) o) }
 {
-    let Some(operation) = Constant::from_number(one.constant) else {
-        return Ok(State::None);
-    };
-    if !is_on_one(operation) {
+    if !is_on_one(one.constant) {
         return Ok(State::None);
     }
-    around.push(Around::One(operation))?;
+    around.push(Around::One(one.constant))?;
     Ok(State::Visit(one.on))
 }
 
 fn enter_application(bank: &Bank, around: &mut Vec<Around>, term: TermId) -> Result<State, Memory>
-    ensures { IfOk result (λ s. (end : List ℕ) (o : Outcome) → o ≡ within bank.now end (reverse around.old.items) (value_of_term (tree bank.now term.0)) → Leads bank.now end s (reverse around.new.items) o) }
+    ensures { IfOk result (λ s. IsApplication (tree bank.now term.0) → (end : List ℕ) (o : Outcome) → o ≡ within bank.now end (reverse around.old.items) (value_of_term (tree bank.now term.0)) → Leads bank.now end s (reverse around.new.items) o) }
 {
     if let Some(two) = two_of(bank, term) {
         return enter_two(around, two);
@@ -309,7 +303,12 @@ fn enter(
             Ok(State::Known(Value::Text(text)))
         }
         TermNode::App(_, _) => enter_application(bank, around, term),
-        _ => Ok(State::None),
+        TermNode::Index(_) => Ok(State::None),
+        TermNode::Const(_, _) => Ok(State::None),
+        TermNode::Eigen(_) => Ok(State::None),
+        TermNode::Logic { .. } => Ok(State::None),
+        TermNode::Param(_, _) => Ok(State::None),
+        TermNode::Abs(_) => Ok(State::None),
     }
 }
 
@@ -325,7 +324,7 @@ fn leave(
     ensures leads { IfOk result (λ s. (b : Nodes) (end : List ℕ) → Begins texts.new.bytes.items end → (o : Outcome) → o ≡ within b end (innermost ∷ reverse around.old.items) (Is (value_in end value)) → Leads b end s (reverse around.new.items) o) }
 {
     match innermost {
-        Around::One(operation) => Ok(on_one(texts, operation, value)),
+        Around::One(operation) => on_one(texts, operation, value),
         Around::Left(operation, right) => {
             around.push(Around::Right(operation, value))?;
             Ok(State::Visit(right))
@@ -341,7 +340,8 @@ pub(crate) fn value_of(
     texts: &mut Texts,
     term: TermId,
 ) -> Result<Option<Value>, Memory>
-    ensures { IfOk result (λ found. IfSome found (λ v. (end : List ℕ) → Begins texts.new.bytes.items end → value_of_term (tree bank.now term.0) ≡ Is (value_in end v))) }
+    ensures some { IfOk result (λ found. IfSome found (λ v. (end : List ℕ) → Begins texts.new.bytes.items end → value_of_term (tree bank.now term.0) ≡ Is (value_in end v))) }
+    ensures none { IfOk result (λ found. found ≡ None → HasNone (value_of_term (tree bank.now term.0))) }
 {
     let mut around = Vec::new(alloc);
     let mut state = State::Visit(term);
@@ -366,7 +366,8 @@ pub(crate) fn value_of(
 
 // The integer that an expression in normal form comes to, if it does.
 pub(crate) fn integer_of(alloc: Global, bank: &Bank, term: TermId) -> Result<Option<i64>, Memory>
-    ensures { IfOk result (λ found. IfSome found (λ z. value_of_term (tree bank.now term.0) ≡ Is (Number z))) }
+    ensures some { IfOk result (λ found. IfSome found (λ z. value_of_term (tree bank.now term.0) ≡ Is (Number z))) }
+    ensures none { IfOk result (λ found. found ≡ None → (z : ℤ) → value_of_term (tree bank.now term.0) ≡ Is (Number z) → ⊥) }
 {
     let mut texts = Texts::new(alloc);
     let found = value_of(alloc, bank, &mut texts, term)?;
@@ -381,33 +382,55 @@ pub(crate) fn integer_of(alloc: Global, bank: &Bank, term: TermId) -> Result<Opt
 
 // Whether a term in normal form is the string.
 fn is_text(bank: &Bank, term: TermId, text: &[u8]) -> bool
-    ensures { result ≡ true → tree bank.now term.0 ≡ term_of (Bytes text.now) }
+    ensures same { result ≡ true → tree bank.now term.0 ≡ term_of (Bytes text.now) }
+    ensures differ { result ≡ false → tree bank.now term.0 ≡ term_of (Bytes text.now) → ⊥ }
 {
     match bank.term_node(term) {
         TermNode::Text(bytes) => text == bytes,
-        _ => false,
+        TermNode::Index(_) => false,
+        TermNode::Const(_, _) => false,
+        TermNode::Int(_) => false,
+        TermNode::Eigen(_) => false,
+        TermNode::Logic { .. } => false,
+        TermNode::Param(_, _) => false,
+        TermNode::Abs(_) => false,
+        TermNode::App(_, _) => false,
     }
 }
 
 // Whether a term in normal form is the integer.
 fn is_integer(bank: &Bank, term: TermId, number: i64) -> bool
-    ensures { result ≡ true → tree bank.now term.0 ≡ term_of (Number number) }
+    ensures same { result ≡ true → tree bank.now term.0 ≡ term_of (Number number) }
+    ensures differ { result ≡ false → tree bank.now term.0 ≡ term_of (Number number) → ⊥ }
 {
     match bank.term_node(term) {
         TermNode::Int(other) => number == other,
-        _ => false,
+        TermNode::Index(_) => false,
+        TermNode::Const(_, _) => false,
+        TermNode::Text(_) => false,
+        TermNode::Eigen(_) => false,
+        TermNode::Logic { .. } => false,
+        TermNode::Param(_, _) => false,
+        TermNode::Abs(_) => false,
+        TermNode::App(_, _) => false,
     }
 }
 
-// Whether a term in normal form is the value.
-pub(crate) fn is_value(bank: &Bank, texts: &Texts, term: TermId, value: Value) -> bool
-    ensures { result ≡ true → (end : List ℕ) → Begins texts.now.bytes.items end → tree bank.now term.0 ≡ term_of (value_in end value) }
+// Whether a term in normal form is the value, if its string is there.
+pub(crate) fn is_value(
+    bank: &Bank,
+    texts: &Texts,
+    term: TermId,
+    value: Value,
+) -> Result<bool, Memory>
+    ensures same { IfOk result (λ yes. yes ≡ true → (end : List ℕ) → Begins texts.now.bytes.items end → tree bank.now term.0 ≡ term_of (value_in end value)) }
+    ensures differ { IfOk result (λ yes. yes ≡ false → (end : List ℕ) → Begins texts.now.bytes.items end → tree bank.now term.0 ≡ term_of (value_in end value) → ⊥) }
 {
     match value {
-        Value::Number(number) => is_integer(bank, term, number),
+        Value::Number(number) => Ok(is_integer(bank, term, number)),
         Value::Text(span) => match texts.of(span) {
-            Some(text) => is_text(bank, term, text),
-            None => false,
+            Some(text) => Ok(is_text(bank, term, text)),
+            None => Err(Memory),
         },
     }
 }

@@ -1,13 +1,15 @@
 // What is still to be shown.
-ghost use Rattle.std.specs.Prelude.{◌≡◌, ◌<◌, List, [], None, length, IfOk, IfSome, OnOk, true};
+ghost use Rattle.std.specs.Prelude.{◌≡◌, ◌<◌, List, [], ◌∷◌, None, length, IfOk, IfSome, OnOk, true, false};
 ghost use Rattle.lp_term.specs.Nodes.{Extends, Nodes, tree};
 ghost use Rattle.lp_calculus.specs.Closed.{IsClosedAt};
 ghost use Rattle.lp_calculus.specs.Convert.{Converts};
 ghost use Rattle.lp_standard.specs.Positive.{is_positive};
 ghost use Rattle.lp_cert.specs.Facts.{IsKnown};
 ghost use Rattle.lp_cert.specs.Written.{Node};
+ghost use Rattle.lp_cert.specs.Run.{OneIsLarge};
+ghost use Rattle.lp_cert.specs.inner.Turned.{IsReady, IsReadyWork, IsTaskReady, rest_in, rest_with};
 ghost use Rattle.lp_cert.specs.inner.Left.{Left, LeftWith, Stays, job_of};
-ghost use Rattle.lp_cert.specs.inner.Named.{IsOf, IsWitnessIn};
+ghost use Rattle.lp_cert.specs.inner.Named.{IsOf, IsSettled, IsWitnessIn};
 
 use crate::form::{Compared, compare};
 use crate::known::Known;
@@ -104,6 +106,7 @@ impl<'a> Work<'a> {
         ensures stays { OnOk result (Stays self.old self.new) }
         ensures inside { IfOk result (λ yes. yes ≡ true → term.0 < length bank.new.terms) }
         ensures typed { IfOk result (λ yes. yes ≡ true → (b : Nodes) → Extends bank.new b → IsOf b self.old term of) }
+        ensures never { IfOk result (λ yes. yes ≡ false → IsSettled bank.old self.old → term.0 < length bank.old.terms → of.0 < length bank.old.types → (b : Nodes) → Extends bank.new b → IsOf b self.old term of → ⊥) }
         ensures closed { IfOk result (λ yes. yes ≡ true → IsClosedAt (length self.old.eigens.items) (tree bank.old term.0)) }
     {
         let level = self.level();
@@ -137,6 +140,7 @@ impl<'a> Work<'a> {
         ensures stays { OnOk result (Stays self.old self.new) }
         ensures inside { IfOk result (λ yes. yes ≡ true → term.0 < length bank.new.terms) }
         ensures witness { IfOk result (λ yes. yes ≡ true → (b : Nodes) → Extends bank.new b → IsWitnessIn b self.old term of) }
+        ensures never { IfOk result (λ yes. yes ≡ false → IsSettled bank.old self.old → term.0 < length bank.old.terms → of.0 < length bank.old.types → (b : Nodes) → Extends bank.new b → IsWitnessIn b self.old term of → ⊥) }
         ensures closed { IfOk result (λ yes. yes ≡ true → IsClosedAt (length self.old.eigens.items) (tree bank.old term.0)) }
         ensures positive { IfOk result (λ yes. yes ≡ true → is_positive (tree bank.old term.0) ≡ true) }
     {
@@ -158,13 +162,17 @@ impl<'a> Work<'a> {
         ensures stays { OnOk result (Stays self.old self.new) }
         ensures same { IfOk result (λ c. c ≡ Compared.Same → Converts (tree bank.old left.0) (tree bank.old right.0)) }
         ensures later { IfOk result (λ c. c ≡ Compared.Same → (b : Nodes) → Extends bank.new b → Converts (tree b left.0) (tree b right.0)) }
+        ensures differ { IfOk result (λ c. c ≡ Compared.Differ → IsReady bank.old left → IsReady bank.old right → (b : Nodes) → Extends bank.new b → Converts (tree b left.0) (tree b right.0) → ⊥) }
+        ensures deep { IfOk result (λ c. c ≡ Compared.Deep → IsReady bank.old left → IsReady bank.old right → (b : Nodes) → Extends bank.new b → OneIsLarge (tree b left.0) (tree b right.0)) }
     {
         compare(self.alloc, &mut self.known, bank, left, right)
     }
 
     // What comes of a node whose last condition is that two terms convert.
     pub(crate) fn turn_of(compared: Compared) -> Turn
-        ensures { result ≡ Turn.On → compared ≡ Compared.Same }
+        ensures on { result ≡ Turn.On → compared ≡ Compared.Same }
+        ensures no { result ≡ Turn.No → compared ≡ Compared.Differ }
+        ensures deep { result ≡ Turn.Deep → compared ≡ Compared.Deep }
     {
         match compared {
             Compared::Same => Turn::On,
@@ -178,6 +186,9 @@ impl<'a> Work<'a> {
         ensures same { self.new.known ≡ self.old.known }
         ensures some { IfSome result (λ task. (b : Nodes) → (ns : List Node) → LeftWith b self.new (job_of b task) ns → Left b self.old ns) }
         ensures none { result ≡ None → (b : Nodes) → Left b self.old [] }
+        ensures ready { IfSome result (λ task. (b : Nodes) → IsReadyWork b self.old → IsReadyWork b self.new × IsTaskReady b task) }
+        ensures rest { IfSome result (λ task. (self.new.theory ≡ self.old.theory) × ((b : Nodes) → rest_in b self.old ≡ rest_with b self.new (job_of b task ∷ []))) }
+        ensures over { result ≡ None → (b : Nodes) → (rest_in b self.old).jobs ≡ [] }
     {
         'tasks: while let Some(task) = self.tasks.pop() {
             match task {

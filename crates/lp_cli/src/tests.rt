@@ -1,21 +1,5 @@
-// What the top call writes and answers, over folders and sinks in memory.
+// What the top call writes and answers, over folders and sinks in memory. The rows of `solve` are those of lp_solve_rows.
 
-// The modules of the worked rows.
-mod modules;
-// Negated goals.
-mod negation;
-// The examples, each with its queries.
-mod examples;
-// Why texts are refused.
-mod refusals;
-// Queries and their answers.
-mod rows;
-// Sets of files.
-mod sets;
-// Limits of texts and of sets.
-mod limits;
-// Why the texts of one module are refused.
-mod module_texts;
 // Objects and images as files.
 mod files;
 // Queries on images, one by one and in sessions.
@@ -26,10 +10,6 @@ mod patterns;
 mod certificates;
 // Faults of the outside.
 mod outside;
-// The first path beside that of the whole language.
-mod paths;
-// Generated queries.
-mod trials;
 // Watchers.
 mod watched;
 // Words.
@@ -37,22 +17,10 @@ mod words;
 
 use crate::run::run;
 use lp_base::{MemFolder, MemSink, Memory, Status};
+use lp_given::{FILES, folder};
 use lp_watch::{Counter, Watch};
-use modules::FILES;
 use std::alloc::Global;
 use std::process::Abort;
-
-// A folder of these files, whose calls of these numbers fail.
-fn folder(alloc: Global, files: &[(&str, &str)], fail: &[u64]) -> Result<MemFolder, Memory> {
-    let mut held = Vec::new(alloc);
-    for (name, text) in files {
-        held.push((
-            String::from_str(alloc, name)?,
-            text.as_bytes().to_vec(alloc)?,
-        ))?;
-    }
-    Ok(MemFolder::new(held, fail.to_vec(alloc)?))
-}
 
 fn word_list(alloc: Global, given: &[&str]) -> Result<Vec<String>, Memory> {
     let mut all = Vec::new(alloc);

@@ -1,10 +1,17 @@
 // A head-normal term by its head and its arguments.
 #![tactic(auto, using(lp_susp::proofs::Keeping::grows_on, lp_susp::proofs::Keeping::grows_same, lp_susp::proofs::Keeping::grows_of, lp_susp::proofs::Chains::marks_on))]
 
-ghost use Rattle.std.specs.Prelude.{◌+◌, ◌<◌, ◌≤◌, ℕ, length, All, IfOk, OnOk, IfSome};
-ghost use Rattle.lp_store.specs.Change.{KeepsMarks};
-ghost use Rattle.lp_susp.specs.Kept.{Grows};
-ghost use Rattle.lp_goal.specs.Spines.{IsThere};
+ghost use Rattle.std.specs.Prelude.{◌≡◌, ◌+◌, ◌<◌, ◌≤◌, ◌++◌, ℕ, length, map, reverse, true, None, All, IfOk, IfErr, OnOk, IfSome};
+ghost use Rattle.lp_base.specs.declared.limits.TheConstants.{RUN_LIMIT};
+ghost use Rattle.lp_calculus.specs.Term.{Term};
+ghost use Rattle.lp_calculus.specs.Convert.{head_step};
+ghost use Rattle.lp_store.specs.Contents.{cell_at};
+ghost use Rattle.lp_store.specs.Reading.{Reads};
+ghost use Rattle.lp_store.specs.Change.{Extends, KeepsMarks};
+ghost use Rattle.lp_susp.specs.Kept.{Grows, Keeps, Reduced};
+ghost use Rattle.lp_susp.specs.Route.{RefsTo};
+ghost use Rattle.lp_susp.specs.Counted.{IsDeepOnlyWhere};
+ghost use Rattle.lp_goal.specs.Spines.{IsThere, IsTop, IsHeadCell, IsSpineOf, argument_cells};
 
 use lp_base::{Memory, RUN_LIMIT};
 use lp_store::{Cell, CellId, List, Store};
@@ -23,7 +30,8 @@ impl Spine {
     /// The arguments, in order.
     pub fn arguments<'s>(&self, store: &'s Store) -> &'s [CellId]
         requires { IsThere store.now self.now }
-        ensures { All (λ t. t.0 < length store.now.cells) result.now }
+        ensures within { All (λ t. t.0 < length store.now.cells) result.now }
+        ensures cells { map (λ t. t.0) result.now ≡ argument_cells store.now self.now.arguments }
     {
         match self.arguments {
             Some(list) => store.items(list),
@@ -35,7 +43,8 @@ impl Spine {
 // The cell that references lead to.
 fn referred(store: &Store, cell: CellId) -> CellId
     requires { cell.0 < length store.now.cells }
-    ensures { result.0 < length store.now.cells }
+    ensures within { result.0 < length store.now.cells }
+    ensures refers { RefsTo store.now cell.0 result.0 }
 {
     let mut at = cell;
     'references: for _ in 0..u64::MAX {
@@ -48,7 +57,9 @@ fn referred(store: &Store, cell: CellId) -> CellId
 }
 
 // Whether the cell is seen to be the head of a head-normal term.
-fn is_head(cell: Cell) -> bool {
+fn is_head(cell: Cell) -> bool
+    ensures { result ≡ true → IsHeadCell cell }
+{
     match cell {
         Cell::Const(_, _) | Cell::Int(_) | Cell::Text(_) | Cell::Eigen(_) | Cell::Logic(_) => true,
         _ => false,
@@ -58,7 +69,9 @@ fn is_head(cell: Cell) -> bool {
 // A term that needs no reduction to be seen: a head, or a head on one list of arguments.
 fn glance(store: &Store, term: CellId) -> Option<Spine>
     requires { term.0 < length store.now.cells }
-    ensures { IfSome result (IsThere store.now) }
+    ensures there { IfSome result (IsThere store.now) }
+    ensures top { IfSome result (λ spine. IsTop (cell_at store.now spine.head.0)) }
+    ensures spine { IfSome result (λ spine. (t : Term) → Reads store.now term.0 t → IsSpineOf store.now spine t) }
 {
     let at = referred(store, term);
     match store.cell(at) {
@@ -86,7 +99,7 @@ fn glance(store: &Store, term: CellId) -> Option<Spine>
 
 // Puts the cells behind the others, the last one first.
 fn push_reversed(cells: &[CellId], stack: &mut Vec<CellId>) -> Result<(), Memory>
-    ensures { (n : ℕ) → All (λ t. t.0 < n) cells.now → All (λ t. t.0 < n) stack.old.items → OnOk result (All (λ t. t.0 < n) stack.new.items) }
+    ensures { OnOk result (stack.new.items ≡ stack.old.items ++ reverse cells.now) }
 {
     let mut left = cells.len();
     while left > 0 {
@@ -100,7 +113,8 @@ fn push_reversed(cells: &[CellId], stack: &mut Vec<CellId>) -> Result<(), Memory
 fn listed(store: &mut Store, mut gathered: Vec<CellId>) -> Result<Option<List>, Memory>
     requires { All (λ t. t.0 < length store.old.cells) gathered.items }
     ensures list { IfOk result (λ list. IfSome list (λ l. l.from + l.count ≤ length store.new.items)) }
-    ensures grows { Grows store.old store.new }
+    ensures cells { IfOk result (λ list. argument_cells store.new list ≡ map (λ t. t.0) (reverse gathered.items)) }
+    ensures kept { Extends store.old store.new }
     ensures marks { KeepsMarks store.old store.new }
 {
     if gathered.is_empty() {
@@ -115,7 +129,9 @@ fn listed(store: &mut Store, mut gathered: Vec<CellId>) -> Result<Option<List>, 
 fn gathered(alloc: Global, store: &mut Store, normal: CellId) -> Result<Spine, Memory>
     requires { normal.0 < length store.old.cells }
     ensures there { IfOk result (IsThere store.new) }
-    ensures grows { Grows store.old store.new }
+    ensures top { IfOk result (λ spine. IsTop (cell_at store.new spine.head.0)) }
+    ensures spine { IfOk result (λ spine. (t : Term) → Reads store.old normal.0 t → head_step t ≡ None → IsSpineOf store.new spine t) }
+    ensures kept { Keeps store.old store.new }
     ensures marks { KeepsMarks store.old store.new }
 {
     let mut stack = Vec::new(alloc);
@@ -144,7 +160,11 @@ fn gathered(alloc: Global, store: &mut Store, normal: CellId) -> Result<Spine, M
 pub fn spine_of(alloc: Global, store: &mut Store, term: CellId) -> Result<Spine, TermRefusal>
     requires { term.0 < length store.old.cells }
     ensures there { IfOk result (IsThere store.new) }
+    ensures top { IfOk result (λ spine. IsTop (cell_at store.new spine.head.0)) }
+    ensures spine { IfOk result (λ spine. (t : Term) → Reads store.old term.0 t → IsSpineOf store.new spine t) }
+    ensures refused { IfErr result (λ e. (t : Term) → Reads store.old term.0 t → IsDeepOnlyWhere RUN_LIMIT t e) }
     ensures grows { Grows store.old store.new }
+    ensures reduced { Reduced store.old store.new }
     ensures marks { KeepsMarks store.old store.new }
 {
     if let Some(spine) = glance(store, term) {

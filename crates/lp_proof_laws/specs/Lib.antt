@@ -1,3 +1,4 @@
 pub mod Unnegated
 pub mod Terms
 pub mod Filled
+pub mod Open

@@ -56,7 +56,7 @@ typed_sentence d D s = record {
   };
 }
 
-each_sentence : (d : Declared) (F : List ClauseFormula) → EachOf (IsTypedSentence d) F → EachOf (IsSentence d) F
+pub each_sentence : (d : Declared) (F : List ClauseFormula) → EachOf (IsTypedSentence d) F → EachOf (IsSentence d) F
 each_sentence d [] h = tt
 each_sentence d (D ∷ F) h = (typed_sentence d D h.0, each_sentence d F h.1)
 
@@ -235,7 +235,7 @@ module _ {L : Leaves} (d : Declared) (std : IsSetting L d) (m : ℕ) (q : Query)
   put_here k = atom (logic (length q.vars - suc k) 0)
 
   -- solutions
-  module _ (F : List ClauseFormula) (P : List Clause) (s : EachOf (IsTypedSentence d) F) (x : AreFlattened d F P) (k : AreKept L F (map sentence_of P) × AreKept L (map sentence_of P) F) (i : Instance) where
+  module _ (F : List ClauseFormula) (P : List Clause) (s : EachOf (IsTypedSentence d) F) (x : AreFlattened d F P) (k : AreKept L [] F (map sentence_of P) × AreKept L [] (map sentence_of P) F) (i : Instance) where
     same_sentence : (P : List Clause) → map sentence_of P ≡ map sentence_of P
     same_sentence [] = refl
     same_sentence (clause k vs h b ∷ P) = ap (λ z. sentence_of (clause k vs h b) ∷ z) (same_sentence P)
@@ -244,10 +244,10 @@ module _ {L : Leaves} (d : Declared) (std : IsSetting L d) (m : ℕ) (q : Query)
     program_at c = same_sentence P ∙ sym (append-nil (map sentence_of P))
 
     to_program : (G : Term) → ProvableBy L d [] F G → ProvableBy L d [] (map sentence_of P) G
-    to_program G p = transport (λ z. ProvableBy L d [] z G) (append-nil (map sentence_of P)) ((program_reads_back d std F P (each_sentence d F s) x k [] [] G).0 (transport (λ z. ProvableBy L d [] z G) (sym (append-nil F)) p))
+    to_program G p = transport (λ z. ProvableBy L d [] z G) (append-nil (map sentence_of P)) ((program_reads_back d std F P (each_sentence d F s) x [] k [] G).0 (transport (λ z. ProvableBy L d [] z G) (sym (append-nil F)) p))
 
     from_program : (G : Term) → ProvableBy L d [] (map sentence_of P) G → ProvableBy L d [] F G
-    from_program G p = transport (λ z. ProvableBy L d [] z G) (append-nil F) ((program_reads_back d std F P (each_sentence d F s) x k [] [] G).1 (transport (λ z. ProvableBy L d [] z G) (sym (append-nil (map sentence_of P))) p))
+    from_program G p = transport (λ z. ProvableBy L d [] z G) (append-nil F) ((program_reads_back d std F P (each_sentence d F s) x [] k [] G).1 (transport (λ z. ProvableBy L d [] z G) (sym (append-nil (map sentence_of P))) p))
 
     abbrev first : Branch
     first = first_branch q.type_vars (length q.vars) gs

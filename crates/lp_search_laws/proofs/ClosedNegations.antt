@@ -1,5 +1,5 @@
--- The query `not G`, where G has no variables and neither it nor the program a negation: it is answered only where G has no proof, and it ends with no more and no
--- answer only where G has one.
+-- The query `not G`, where G has no variables, and the search of G is right: it is answered only where G has no proof, and it ends with no more and no answer only where
+-- G has one.
 use Rattle.std.proofs.Common.{◌≡◌, ℕ, zero, suc, ◌-◌, List, [], ◌∷◌, map, length, Option, Some, None, Bool, true, false, refl, sym, ap, ◌∙◌, subst as transport}
 use Rattle.lp_calculus.specs.Types.{instance}
 use Rattle.lp_calculus.specs.Term.{Term, atom, logic}
@@ -9,16 +9,18 @@ use Rattle.lp_standard.specs.Schemes.{IsStandard}
 use Rattle.lp_model.specs.declared.ending.Ending.TheVariants.{NoMore, OpenNot}
 use Rattle.lp_model.specs.Unify.{unit_limit}
 use Rattle.lp_model.specs.Pair.{SolvesAll, closed}
-use Rattle.lp_model.specs.Skeleton.{State, View, Note, Inner, Refuted, Held, Broke, Lasts, row_limit, starts, move_denied, move_view, inner, told_after, run}
+use Rattle.lp_model.specs.Skeleton.{State, Told, View, Note, Inner, Refuted, Held, Broke, Lasts, row_limit, starts, move_denied, move_view, inner, told_after, run}
 use Rattle.lp_model.specs.Flat.{Written, Not, map_written, same_type, written_in_goals, Goals, no_goals, goals, Clause, denied, goal_list, instantiate_goals}
 use Rattle.lp_model.specs.Index.{instantiate}
 use Rattle.lp_model.specs.Flatten.{ClauseFormula, flatten_query}
 use Rattle.lp_model.specs.Branch.{Entry, Branch, Answer, Task, Go, Stop, entries, nothing_written, both_written}
 use Rattle.lp_model.specs.Search.{look, look_not, look_branch, start, has_no_pairs, has_variables}
-use Rattle.lp_model.specs.Answers.{Query, Instance, AreTypedValues, IsClosedInstance, IsInstance, IsProvable, IsRight, IsWellFormed, TypedAnswer}
+use Rattle.lp_model.specs.Answers.{Query, Instance, AreTypedValues, IsClosedInstance, IsInstance, IsProvable, IsWellFormed, TypedAnswer}
 use Rattle.lp_model.specs.Proofs.{Declared, AreFlattened}
-use Rattle.lp_search_laws.specs.Started.{IsPlainQuery, IsPlainSentence}
-use Rattle.lp_search_laws.proofs.Judged.{no_values, some_closing, some_closes, none, no_pairs, no_typed_values}
+use Rattle.lp_search_laws.specs.Started.{IsPlainQuery, IsPlainSentence, IsProvableBy, IsTypedQuery, IsTypedSentence}
+use Rattle.lp_search_laws.specs.Failed.{IsMonomorphicSearch}
+use Rattle.lp_search_laws.proofs.Exhausted.{monomorphic_right}
+use Rattle.lp_search_laws.proofs.Judged.{no_answers, no_values, some_closing, some_closes, none, no_pairs, no_typed_values}
 use Rattle.lp_search_laws.proofs.Stack.InnerRuns.{refuted_fails, held_gives}
 use Rattle.lp_search_laws.proofs.Stack.Inners.{inner_rightly, BreaksRightly}
 use Rattle.lp_search_laws.proofs.WholeRight.{search_is_right}
@@ -100,57 +102,64 @@ closed_instance d q x v t w f =
       values = ap (map (closed c)) vs;
     }
 
-no_answers : (d : Declared) (xs : List TypedAnswer) → map (λ a. a.answer) xs ≡ [] → AnyOf (λ a. IsInstance d a.typing a.answer no_values) xs → ⊥
-no_answers d [] e h = h
-no_answers d (x ∷ xs) e h = cc
+-- what is told of a query is right of what is provable
+pub record IsRightOn (Pr : Instance → Type 0) (d : Declared) (q : Query) (t : Told Answer) : Type 0 where
+  pub typed : List TypedAnswer
+  pub is : map (λ a. a.answer) typed ≡ t.answers
+  pub well_formed : EachOf (λ a. IsWellFormed d q a.typing a.answer) typed
+  pub sound : EachOf (λ a. (i : Instance) → IsClosedInstance d a.typing a.answer i → Pr i) typed
+  pub exhausts : t.ending ≡ Some NoMore → (i : Instance) → Pr i → AnyOf (λ a. IsInstance d a.typing a.answer i) typed
 
-first_sound : (d : Declared) (F : List ClauseFormula) (q : Query) (a : Answer) (more : List Answer) (xs : List TypedAnswer) → q.vars ≡ [] → q.type_vars ≡ 0 → map (λ x. x.answer) xs ≡ a ∷ more → has_no_pairs a ≡ true → EachOf (λ x. IsWellFormed d q x.typing x.answer) xs → EachOf (λ x. (i : Instance) → IsClosedInstance d x.typing x.answer i → IsProvable d F q i) xs → IsProvable d F q no_values
-first_sound d F q a more [] v t e f w s = absurd (cc)
-first_sound d F q a more (x ∷ xs) v t e f w s = let r : x.answer ≡ a = cc in s.0 no_values (closed_instance d q x v t w.0 (ap has_no_pairs r ∙ f))
+module _ (d : Declared) (P : List Clause) (G : Term) (gs : Goals) (Pr : Instance → Type 0) (n j : ℕ) (right : (m steps : ℕ) → IsRightOn Pr d (record { type_vars = 0; vars = []; formula = G }) (run (look unit_limit n P) j m (start 0 0 gs steps 1))) where
+  first_sound : (a : Answer) (more : List Answer) (xs : List TypedAnswer) → map (λ x. x.answer) xs ≡ a ∷ more → has_no_pairs a ≡ true → EachOf (λ x. IsWellFormed d (record { type_vars = 0; vars = []; formula = G }) x.typing x.answer) xs → EachOf (λ x. (i : Instance) → IsClosedInstance d x.typing x.answer i → Pr i) xs → Pr no_values
+  first_sound a more [] e f w s = absurd (cc)
+  first_sound a more (x ∷ xs) e f w s = let r : x.answer ≡ a = cc in s.0 no_values (closed_instance d (record { type_vars = 0; vars = []; formula = G }) x refl refl w.0 (ap has_no_pairs r ∙ f))
 
-module _ (d : Declared) (std : IsStandard d) (l : ℕ) (F : List ClauseFormula) (P : List Clause) (s : EachOf (IsPlainSentence d) F) (x : AreFlattened d F P) (G : Term) (gs : Goals) where
-  abbrev pub query : Query
-  query = record { type_vars = 0; vars = []; formula = G }
+  refuted : (v c p : ℕ) (ns : List Note) → inner (look unit_limit n P) j has_no_pairs (start 0 0 gs v 1) ≡ Refuted c ns p → Pr no_values → ⊥
+  refuted v c p ns r h =
+      let f = refuted_fails (look unit_limit n P) has_no_pairs j (start 0 0 gs v 1) c p ns r in
+      let y = right j v in
+      no_answers d y.typed (y.is ∙ f.1) (y.exhausts f.0 no_values h)
 
-  module _ (t : IsPlainQuery d query) (flat : flatten_query l d G ≡ Some gs) (n j : ℕ) where
-    right : (m steps : ℕ) → IsRight d F query (run (look unit_limit n P) j m (start 0 0 gs steps 1))
-    right m steps = search_is_right d std l F P s x query gs t flat n j m steps 1
+  held : (v c p : ℕ) (ns : List Note) → inner (look unit_limit n P) j has_no_pairs (start 0 0 gs v 1) ≡ Held c ns p → Pr no_values
+  held v c p ns r =
+      let f = held_gives (look unit_limit n P) has_no_pairs j (start 0 0 gs v 1) c p ns r in
+      let y = right j v in
+      first_sound f.0 f.1 y.typed (y.is ∙ f.3) f.2 y.well_formed y.sound
 
-    refuted : (v c p : ℕ) (ns : List Note) → inner (look unit_limit n P) j has_no_pairs (start 0 0 gs v 1) ≡ Refuted c ns p → IsProvable d F query no_values → ⊥
-    refuted v c p ns r h =
-        let f = refuted_fails (look unit_limit n P) has_no_pairs j (start 0 0 gs v 1) c p ns r in
-        let y = right j v in
-        no_answers d y.typed (y.is ∙ f.1) (y.exhausts f.0 no_values h)
+  abbrev σ : ℕ → Term
+  σ i = atom (logic (0 - suc i) 0)
 
-    held : (v c p : ℕ) (ns : List Note) → inner (look unit_limit n P) j has_no_pairs (start 0 0 gs v 1) ≡ Held c ns p → IsProvable d F query no_values
-    held v c p ns r =
-        let f = held_gives (look unit_limit n P) has_no_pairs j (start 0 0 gs v 1) c p ns r in
-        let y = right j v in
-        first_sound d F query f.0 f.1 y.typed refl refl (y.is ∙ f.3) f.2 y.well_formed y.sound
+  abbrev w0 : Written
+  w0 = map_written (instantiate σ) same_type (written_in_goals gs)
 
-    abbrev σ : ℕ → Term
-    σ i = atom (logic (0 - suc i) 0)
+  abbrev e0 : Entry
+  e0 = record { goal = Not w0 (instantiate_goals σ gs); assumed = []; written = nothing_written; level = 0; mark = 0 }
 
-    abbrev w0 : Written
-    w0 = map_written (instantiate σ) same_type (written_in_goals gs)
+  abbrev b0 : Branch
+  b0 = record { next = 0; next_type = 0; goals = []; types = []; values = []; pairs = [] }
 
-    abbrev e0 : Entry
-    e0 = record { goal = Not w0 (instantiate_goals σ gs); assumed = []; written = nothing_written; level = 0; mark = 0 }
+  abbrev asked : (steps answers : ℕ) → State Task
+  asked steps answers = start 0 0 (goals (denied gs) no_goals) steps answers
 
-    abbrev b0 : Branch
-    b0 = record { next = 0; next_type = 0; goals = []; types = []; values = []; pairs = [] }
+  pub answered : (m steps answers : ℕ) (a : Answer) (more : List Answer) → (run (look unit_limit n P) j m (asked steps answers)).answers ≡ a ∷ more → Pr no_values → ⊥
+  unfolding L
+  answered zero steps answers a more e = absurd (cc)
+  answered (suc m) steps zero a more e = absurd (cc)
+  answered (suc m) steps (suc k) a more e = given_view n P j m k steps e0 b0 (instantiate_goals σ gs) refl (Pr no_values → ⊥) steps (has_variables n (both_written w0 nothing_written)) (λ v c p ns r. refuted v c p ns r) a more e
 
-    abbrev asked : (steps answers : ℕ) → State Task
-    asked steps answers = start 0 0 (goals (denied gs) no_goals) steps answers
+  pub ended : (m steps answers : ℕ) → (run (look unit_limit n P) j m (asked steps answers)).ending ≡ Some NoMore → (run (look unit_limit n P) j m (asked steps answers)).answers ≡ [] → Pr no_values
+  unfolding L
+  ended zero steps answers e f = absurd (cc)
+  ended (suc m) steps zero e f = absurd (cc)
+  ended (suc m) steps (suc k) e f = ended_view n P j m k steps e0 b0 (instantiate_goals σ gs) refl (Pr no_values) steps (has_variables n (both_written w0 nothing_written)) (λ v c p ns r. held v c p ns r) e f
 
-    pub answered : (m steps answers : ℕ) (a : Answer) (more : List Answer) → (run (look unit_limit n P) j m (asked steps answers)).answers ≡ a ∷ more → IsProvable d F query no_values → ⊥
-    unfolding L
-    answered zero steps answers a more e = absurd (cc)
-    answered (suc m) steps zero a more e = absurd (cc)
-    answered (suc m) steps (suc k) a more e = given_view n P j m k steps e0 b0 (instantiate_goals σ gs) refl (IsProvable d F query no_values → ⊥) steps (has_variables n (both_written w0 nothing_written)) (λ v c p ns r. refuted v c p ns r) a more e
+-- without negation in G and in the program
+module _ (d : Declared) (std : IsStandard d) (l : ℕ) (F : List ClauseFormula) (P : List Clause) (s : EachOf (IsPlainSentence d) F) (x : AreFlattened d F P) (G : Term) (gs : Goals) (t : IsPlainQuery d (record { type_vars = 0; vars = []; formula = G })) (flat : flatten_query l d G ≡ Some gs) (n j : ℕ) where
+  pub plainly : (m steps : ℕ) → IsRightOn (IsProvable d F (record { type_vars = 0; vars = []; formula = G })) d (record { type_vars = 0; vars = []; formula = G }) (run (look unit_limit n P) j m (start 0 0 gs steps 1))
+  plainly m steps = let r = search_is_right d std l F P s x (record { type_vars = 0; vars = []; formula = G }) gs t flat n j m steps 1 in record { typed = r.typed; is = r.is; well_formed = r.well_formed; sound = r.sound; exhausts = r.exhausts }
 
-    pub ended : (m steps answers : ℕ) → (run (look unit_limit n P) j m (asked steps answers)).ending ≡ Some NoMore → (run (look unit_limit n P) j m (asked steps answers)).answers ≡ [] → IsProvable d F query no_values
-    unfolding L
-    ended zero steps answers e f = absurd (cc)
-    ended (suc m) steps zero e f = absurd (cc)
-    ended (suc m) steps (suc k) e f = ended_view n P j m k steps e0 b0 (instantiate_goals σ gs) refl (IsProvable d F query no_values) steps (has_variables n (both_written w0 nothing_written)) (λ v c p ns r. held v c p ns r) e f
+-- without type variables in G and in the program
+module _ (d : Declared) (std : IsStandard d) (l : ℕ) (F : List ClauseFormula) (P : List Clause) (s : EachOf (IsTypedSentence d) F) (o : EachOf (λ D. D.type_vars ≡ 0) F) (x : AreFlattened d F P) (G : Term) (gs : Goals) (t : IsTypedQuery d (record { type_vars = 0; vars = []; formula = G })) (flat : flatten_query l d G ≡ Some gs) (n j : ℕ) where
+  pub with_leaves : (m steps : ℕ) → IsRightOn (IsProvableBy (IsMonomorphicSearch d P) d F (record { type_vars = 0; vars = []; formula = G })) d (record { type_vars = 0; vars = []; formula = G }) (run (look unit_limit n P) j m (start 0 0 gs steps 1))
+  with_leaves m steps = let r = monomorphic_right d std l F P s o x (record { type_vars = 0; vars = []; formula = G }) gs t refl flat n j m steps 1 in record { typed = r.typed; is = r.is; well_formed = r.well_formed; sound = r.sound; exhausts = r.exhausts }

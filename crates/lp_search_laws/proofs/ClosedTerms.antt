@@ -192,7 +192,7 @@ closed_witness d E V c h t T w p =
 shut_instantiate : (P : Atom → Type 0) (f : ℕ → Term) (t : Term) → Within P 0 t → instantiate f t ≡ t
 shut_instantiate P f t w = instantiate_subst f t ∙ subst_closed P f 0 (λ i h. absurd (omega (arith, h))) t w
 
-lifted_fill : (F : Atom → Term) (σ : ℕ → Term) (i : ℕ) → fill (raise F) (lifted σ i) ≡ lifted (λ j. fill F (σ j)) i
+pub lifted_fill : (F : Atom → Term) (σ : ℕ → Term) (i : ℕ) → fill (raise F) (lifted σ i) ≡ lifted (λ j. fill F (σ j)) i
 lifted_fill F σ zero = refl
 lifted_fill F σ (suc i) = fill_shift F 0 1 (σ i)
 

@@ -230,20 +230,20 @@ formula_at_types d E V c ts s cl t h =
     transport (λ X. IsFormula d X (closed c t)) (satisfied_all c.types ts s E) (transport (IsFormula d (map (instance c.types) (map (instance θ) E))) (ap (close c.terms) (satisfied_term c.types ts s t)) f)
 
 -- assumptions that convert, one by one
-converted_focus : (L : Leaves) (d : Declared) (E : List Ty) (D D' : Term) → IsFormula d E D → Converts D D' → Focuses L d E D D'
+pub converted_focus : (L : Leaves) (d : Declared) (E : List Ty) (D D' : Term) → IsFormula d E D → Converts D D' → Focuses L d E D D'
 unfolding Focuses
 converted_focus L d E D D' f c F x R A i r = fconv d F R D D' A (transport (λ z. IsFormula d z D) (sym x.is) (formula_eigens d E x.rest D f)) c r
 
-pub converted_all : {L : Leaves} (d : Declared) → ((P : List ClauseFormula) → Converting L P) → (E : List Ty) (f g : Term → Term) (G : Term) (us : List Term) → EachOf (λ t. IsFormula d E (f t) × IsFormula d E (g t) × Converts (f t) (g t)) us → (P : List ClauseFormula) → ProvableBy L d E (P ++ map assumed (map f us)) G → ProvableBy L d E (P ++ map assumed (map g us)) G
+pub converted_all : {L : Leaves} (d : Declared) → ((P : List ClauseFormula) → Converting L d P) → (E : List Ty) (f g : Term → Term) (G : Term) (us : List Term) → EachOf (λ t. IsFormula d E (f t) × IsFormula d E (g t) × Converts (f t) (g t)) us → (P : List ClauseFormula) → ProvableBy L d E (P ++ map assumed (map f us)) G → ProvableBy L d E (P ++ map assumed (map g us)) G
 converted_all {L} d conv E f g G [] h P p = p
 converted_all {L} d conv E f g G (u ∷ us) h P p =
-    let q = replaced_clause L d E P (map assumed (map f us)) (assumed (f u)) (assumed (g u)) G refl ((conv P).assumptions (f u) (g u) h.0.2) (λ ts l k.
+    let q = replaced_clause L d E P (map assumed (map f us)) (assumed (f u)) (assumed (g u)) G refl ((conv P).assumptions E (f u) (g u) h.0.0 h.0.1 h.0.2) (λ ts l k.
     transport (λ z. Focuses L d E z (instance_term (type_at ts) (g u))) (sym (closed_instance (length E) (type_at ts) (f u) h.0.0.closed))
     (transport (Focuses L d E (f u)) (sym (closed_instance (length E) (type_at ts) (g u) h.0.1.closed)) (converted_focus _ d E (f u) (g u) h.0.0 h.0.2))) p in
     let r = converted_all d conv E f g G us h.1 (P ++ assumed (g u) ∷ []) (transport (λ Q. ProvableBy L d E Q G) (sym (append_assoc P (assumed (g u) ∷ []) (map assumed (map f us)))) q) in
     transport (λ Q. ProvableBy L d E Q G) (append_assoc P (assumed (g u) ∷ []) (map assumed (map g us))) r
 
-assumed_formulas : (c : Closing) (A : List Clause) → map (assumed_as c) A ≡ map assumed (map (closed c) (formulas A))
+pub assumed_formulas : (c : Closing) (A : List Clause) → map (assumed_as c) A ≡ map assumed (map (closed c) (formulas A))
 assumed_formulas c [] = refl
 assumed_formulas c (k ∷ A) = ap (λ z. assumed_as c k ∷ z) (assumed_formulas c A)
 
@@ -258,7 +258,7 @@ each_swap P Q R R' h [] w = tt
 each_swap P Q R R' h (u ∷ us) w = ((w.0.1, w.0.0, h u w.0.2), each_swap P Q R R' h us w.1)
 
 -- one entry holds where it held
-pub entry_leads : {L : Leaves} (d : Declared) → ((P : List ClauseFormula) → Converting L P) → (V W : List Variable) (P : List Clause) (c z : Closing) (bs : List Binding) (ts : List TypeBinding) → LeadsThrough V c z bs ts → AreShut bs → Closes d V c → Closes d W z → (E : List Ty) (e : Entry) → IsEntryAt d V ts E e → IsTypedEntry d W (map (instance (types_of ts)) E) (type_one ts (put_one bs e)) →
+pub entry_leads : {L : Leaves} (d : Declared) → ((P : List ClauseFormula) → Converting L d P) → (V W : List Variable) (P : List Clause) (c z : Closing) (bs : List Binding) (ts : List TypeBinding) → LeadsThrough V c z bs ts → AreShut bs → Closes d V c → Closes d W z → (E : List Ty) (e : Entry) → IsEntryAt d V ts E e → IsTypedEntry d W (map (instance (types_of ts)) E) (type_one ts (put_one bs e)) →
     (EntryHolds L d P c E e → EntryHolds L d P z (map (instance (types_of ts)) E) (type_one ts (put_one bs e))) × (EntryHolds L d P z (map (instance (types_of ts)) E) (type_one ts (put_one bs e)) → EntryHolds L d P c E e)
 entry_leads {L} d conv V W P c z bs ts k s cl zl E e h h' =
     let D = map (instance (types_of ts)) E in
@@ -283,7 +283,7 @@ entry_leads {L} d conv V W P c z bs ts k s cl zl E e h h' =
           (converted_all d conv F (λ u. closed z (put_in bs ts u)) (closed c) (closed z t') us qs S (transport (λ X. ProvableBy L d F X (closed z t')) y (transport (λ X. ProvableBy L d X (clauses_at P e'.assumed z) (closed z t')) same_eigens p))))),
     )
 
-pub entries_lead : {L : Leaves} (d : Declared) → ((P : List ClauseFormula) → Converting L P) → (V W : List Variable) (P : List Clause) (c z : Closing) (bs : List Binding) (ts : List TypeBinding) → LeadsThrough V c z bs ts → AreShut bs → IsMore (variables_of (types_of ts) V) W → AreTypedBindings d W (map (instance_binding (types_of ts)) bs) → Closes d V c → Closes d W z → (Es : List (List Ty)) (es : List Entry) → AreEntriesAt d V ts Es es →
+pub entries_lead : {L : Leaves} (d : Declared) → ((P : List ClauseFormula) → Converting L d P) → (V W : List Variable) (P : List Clause) (c z : Closing) (bs : List Binding) (ts : List TypeBinding) → LeadsThrough V c z bs ts → AreShut bs → IsMore (variables_of (types_of ts) V) W → AreTypedBindings d W (map (instance_binding (types_of ts)) bs) → Closes d V c → Closes d W z → (Es : List (List Ty)) (es : List Entry) → AreEntriesAt d V ts Es es →
     (AreProved L d P c Es es → AreProved L d P z (eigens_of (types_of ts) Es) (behind bs ts es)) × (AreProved L d P z (eigens_of (types_of ts) Es) (behind bs ts es) → AreProved L d P c Es es)
 entries_lead {L} d conv V W P c z bs ts k s m b cl zl [] [] h = ((λ p. transport (AreProved L d P z []) (sym (behind_none bs ts)) tt), (λ p. tt))
 entries_lead {L} d conv V W P c z bs ts k s m b cl zl [] (e ∷ es) h = absurd h

@@ -1,35 +1,42 @@
 -- Failing searches as leaves: they stand where formulas convert and where clauses are the same, and a refuted search is one for each closing of its variables.
-use Rattle.std.proofs.Common.{◌≡◌, ℕ, ◌+◌, ◌≤◌, List, [], ◌∷◌, ◌++◌, map, length, Bool, Some, refl, sym, ap, ◌∙◌, subst as transport, inl, inr, append_assoc, arith}
+use Rattle.std.proofs.Common.{◌≡◌, ℕ, ◌+◌, ◌≤◌, List, [], ◌∷◌, ◌++◌, map, length, Bool, refl, sym, ap, ◌∙◌, subst as transport, inl, inr, append_assoc, append-nil, arith}
 use Rattle.std.proofs.lemmas.List.{map-append}
 use Rattle.lp_calculus.specs.Types.{Ty, instance}
 use Rattle.lp_calculus.specs.Term.{Term}
+use Rattle.lp_calculus.specs.Typing.{o_type}
 use Rattle.lp_calculus.specs.Convert.{same}
+use Rattle.lp_lemmas.specs.Each.{EachOf}
 use Rattle.lp_standard.specs.Schemes.{IsStandard}
 use Rattle.lp_model.specs.Unify.{unit_limit}
-use Rattle.lp_model.specs.Flat.{Clause, Clauses, no_clauses, clauses, Goals, Written, clause_list, formula_of_goals, formula_of_clause, formula_of_clauses}
+use Rattle.lp_model.specs.Flat.{Clause, Clauses, Goals, Written, clause_list, formula_of_goals, formula_of_clause, formula_of_clauses}
 use Rattle.lp_model.specs.Index.{instantiate}
-use Rattle.lp_model.specs.Flatten.{ClauseFormula, flat_clause}
+use Rattle.lp_model.specs.Flatten.{ClauseFormula}
 use Rattle.lp_model.specs.Pair.{Closing, closed}
 use Rattle.lp_model.specs.Skeleton.{Note, Refuted, starts_within, inner}
 use Rattle.lp_model.specs.Branch.{Answer}
 use Rattle.lp_model.specs.Search.{look}
 use Rattle.lp_model.specs.Answers.{Variable, Closes}
-use Rattle.lp_model.specs.Proofs.{AreFlattened, Declared, Failure, Stands, assumed, newest_first}
-use Rattle.lp_proof_laws.proofs.Uniform.Assumptions.{AreKept}
+use Rattle.lp_model.specs.Proofs.{AreFlattened, Declared, Failure, IsFormula, IsSentence, Leaves, Stands, assumed, newest_first}
+use Rattle.lp_proof_laws.specs.Open.{Fits}
+use Rattle.lp_proof_laws.proofs.Uniform.Assumptions.{AreKept, Extends}
 use Rattle.lp_proof_laws.proofs.Uniform.Contexts.{get_front, get_back, get_split}
+use Rattle.lp_proof_laws.proofs.Uniform.Formulas.{formula_eigens}
+use Rattle.lp_proof_laws.proofs.Uniform.Openings.{fits_more}
+use Rattle.lp_proof_laws.proofs.Uniform.Settings.{IsSetting}
+use Rattle.lp_search_laws.specs.Holds.{IsTyped}
 use Rattle.lp_search_laws.specs.Denials.{denied_branch, denied_task}
 use Rattle.lp_search_laws.specs.Clauses.{sentence_of, clauses_at}
 use Rattle.lp_search_laws.specs.Branches.{IsTypedBranch, no_query, denied_typing}
-use Rattle.lp_search_laws.specs.Failed.{SameGoal, goal_converts, goal_flat, goal_back, goal_then, SameClauses, in_some_order, converted, both_apart, none_apart, clause_flat, sentence_flat, other_way, one_by_one, IsFailedSearch}
-use Rattle.lp_proof_laws.proofs.Uniform.Settings.{IsSetting}
-use Rattle.lp_search_laws.proofs.Refuted.{ends_within, none_within}
+use Rattle.lp_search_laws.specs.Failed.{SameGoal, goal_converts, goal_flat, goal_back, goal_then, SameClauses, in_some_order, converted, each_apart, clause_flat, sentence_flat, other_way, one_by_one, failed_run, IsFailedSearch}
+use Rattle.lp_search_laws.proofs.Formed.{formula_at}
+use Rattle.lp_search_laws.proofs.Refuted.{ends_within, none_within, taken_within}
 
 -- the same clauses
 all_stand : (P : List ClauseFormula) → Stands P P
 all_stand P = record { at = λ i D e. (i, e) }
 
-pub no_other : (d : Declared) (P : List ClauseFormula) → SameClauses d P P
-no_other d P = in_some_order (all_stand P) (all_stand P)
+pub no_other : (d : Declared) (E : List Ty) (P : List ClauseFormula) → SameClauses d E P P
+no_other d E P = in_some_order (all_stand P) (all_stand P)
 
 more_stand : (P R S : List ClauseFormula) → Stands P R → Stands (P ++ S) (R ++ S)
 more_stand P R S h = record {
@@ -39,71 +46,89 @@ more_stand P R S h = record {
   ];
 }
 
--- clauses that are assumed together, and each on its own
-apart : (d : Declared) (c : Closing) (cs : Clauses) (P S : List ClauseFormula) → SameClauses d (P ++ assumed (closed c (formula_of_clauses cs)) ∷ S) (P ++ (map (λ k. assumed (closed c (formula_of_clause k))) (clause_list cs) ++ S))
-apart d c no_clauses P S = none_apart P S refl refl
-apart d c (clauses k no_clauses) P S = no_other d (P ++ assumed (closed c (formula_of_clause k)) ∷ S)
-apart d c (clauses k (clauses e cs)) P S =
-    let D = assumed (closed c (formula_of_clause k)) in
-    let W = assumed (closed c (formula_of_clauses (clauses e cs))) in
-    let first : SameClauses d (P ++ assumed (closed c (formula_of_clauses (clauses k (clauses e cs)))) ∷ S) (P ++ D ∷ W ∷ S) = both_apart P S (closed c (formula_of_clause k)) (closed c (formula_of_clauses (clauses e cs))) refl refl in
-    let rest = apart d c (clauses e cs) (P ++ D ∷ []) S in
-    one_by_one (P ++ D ∷ W ∷ S) first
-    (transport (λ X. SameClauses d X (P ++ D ∷ (map (λ k. assumed (closed c (formula_of_clause k))) (clause_list (clauses e cs)) ++ S))) (append_assoc P (D ∷ []) (W ∷ S))
-    (transport (SameClauses d ((P ++ D ∷ []) ++ W ∷ S)) (append_assoc P (D ∷ []) (map (λ k. assumed (closed c (formula_of_clause k))) (clause_list (clauses e cs)) ++ S)) rest))
+-- the same clauses with more behind them, at more eigenconstants
+pub formula_more : (d : Declared) (E F : List Ty) → Extends E F → (t : Term) → IsFormula d E t → IsFormula d F t
+formula_more d E F x t f = transport (λ z. IsFormula d z t) (sym x.is) (formula_eigens d E x.rest t f)
 
-module _ (d : Declared) (P : List Clause) where
-  goal_moves : (E : List Ty) (R : List ClauseFormula) (G H : Term) (f : Failure) → SameGoal d G H → IsFailedSearch d P E R G f → IsFailedSearch d P E R H f
-  goal_moves E R G H f v h = record { eigens = h.eigens; begins = h.begins; closing = h.closing; closes = h.closes; is_closed = h.is_closed; goal = goal_then G h.goal v; clauses = h.clauses; program = h.program; ends = h.ends; gives_none = h.gives_none }
+pub fits_wider : (d : Declared) (E F : List Ty) → Extends E F → (Γ : List Ty) (θ : ℕ → Term) → Fits d E Γ θ → Fits d F Γ θ
+fits_wider d E F x Γ θ f = transport (λ z. Fits d z Γ θ) (sym x.is) (fits_more d E x.rest Γ θ f)
 
-  clauses_move : (E : List Ty) (R S : List ClauseFormula) (G : Term) (f : Failure) → SameClauses d R S → IsFailedSearch d P E R G f → IsFailedSearch d P E S G f
-  clauses_move E R S G f s h = record { eigens = h.eigens; begins = h.begins; closing = h.closing; closes = h.closes; is_closed = h.is_closed; goal = h.goal; clauses = one_by_one R h.clauses s; program = h.program; ends = h.ends; gives_none = h.gives_none }
+behind_it : (P B A S : List ClauseFormula) → P ≡ B ++ A → P ++ S ≡ B ++ (A ++ S)
+behind_it P B A S e = ap (λ X. X ++ S) e ∙ append_assoc B A S
 
-  pub failed_setting : IsStandard d → IsSetting (IsFailedSearch d P) d
-  failed_setting std = record {
+behind_both : (P B M A S : List ClauseFormula) → P ≡ B ++ (M ++ A) → P ++ S ≡ B ++ (M ++ (A ++ S))
+behind_both P B M A S e = behind_it P B (M ++ A) S e ∙ ap (λ X. B ++ X) (append_assoc M A S)
+
+pub same_behind : (d : Declared) (E F : List Ty) → Extends E F → (P R S : List ClauseFormula) → SameClauses d E P R → SameClauses d F (P ++ S) (R ++ S)
+same_behind d E F x P R S (in_some_order s r) = in_some_order (more_stand P R S s) (more_stand R P S r)
+same_behind d E F x P R S (converted B A D K f g p q v) = converted B (A ++ S) D K (formula_more d E F x D f) (formula_more d E F x K g) (behind_it P B (assumed D ∷ A) S p) (behind_it R B (assumed K ∷ A) S q) v
+same_behind d E F x P R S (each_apart B A c cs f p q) =
+    each_apart B (A ++ S) c cs (formula_more d E F x (closed c (formula_of_clauses cs)) f) (behind_it P B (assumed (closed c (formula_of_clauses cs)) ∷ A) S p) (behind_both R B (map (λ k. assumed (closed c (formula_of_clause k))) (clause_list cs)) A S q)
+same_behind d E F x P R S (clause_flat B A n bs t cs Γ θ o w e p q) =
+    clause_flat B (A ++ S) n bs t cs Γ θ o (fits_wider d E F x Γ θ w) e (behind_it P B (assumed (instantiate θ t) ∷ A) S p) (behind_it R B (assumed (instantiate θ (formula_of_clauses cs)) ∷ A) S q)
+same_behind d E F x P R S (sentence_flat B A n D cs s e p q) = sentence_flat B (A ++ S) n D cs s e (behind_it P B (D ∷ A) S p) (behind_both R B (map sentence_of (clause_list cs)) A S q)
+same_behind d E F x P R S (other_way h) = other_way (same_behind d E F x R P S h)
+same_behind d E F x P R S (one_by_one Q h k) = one_by_one (Q ++ S) (same_behind d E F x P Q S h) (same_behind d E F x Q R S k)
+
+-- leaves that stand for what is the same
+pub record KeepsSame (L : Leaves) (d : Declared) : Type 0 where
+  pub goals : (E : List Ty) (R : List ClauseFormula) (G H : Term) (f : Failure) → SameGoal d E G H → L E R G f → L E R H f
+  pub clauses : (E : List Ty) (R S : List ClauseFormula) (G : Term) (f : Failure) → SameClauses d E R S → L E R G f → L E S G f
+
+module _ {L : Leaves} (d : Declared) (alike : KeepsSame L d) where
+  pub kept_so : (E : List Ty) (P R : List ClauseFormula) → SameClauses d E P R → AreKept L E P R
+  kept_so E P R s S F x G f h = alike.clauses F (P ++ S) (R ++ S) G f (same_behind d E F x P R S s) h
+
+  pub setting_of : IsStandard d → IsSetting L d
+  setting_of std = record {
     standard = std;
     converting = λ Q. record {
-      goals = λ E R G H f v h. goal_moves E R G H f (goal_converts v) h;
-      assumptions = λ A B v S E G f h. clauses_move E ((Q ++ assumed A ∷ []) ++ S) ((Q ++ assumed B ∷ []) ++ S) G f (converted Q S A B (append_assoc Q (assumed A ∷ []) S) (append_assoc Q (assumed B ∷ []) S) v) h;
+      goals = λ E R G H f g g' v h. alike.goals E R G H f (goal_converts g g' v) h;
+      assumptions = λ E A B f g v. kept_so E (Q ++ assumed A ∷ []) (Q ++ assumed B ∷ []) (converted Q [] A B f g refl refl v);
     };
-    order = λ Q R s r S E G f h. clauses_move E (Q ++ S) (R ++ S) G f (in_some_order (more_stand Q R S s) (more_stand R Q S r)) h;
-    apart = λ Q c cs S E G f h. clauses_move E ((Q ++ assumed (closed c (formula_of_clauses cs)) ∷ []) ++ S) ((Q ++ map (λ k. assumed (closed c (formula_of_clause k))) (clause_list cs)) ++ S) G f (apart_here Q c cs S) h;
-    together = λ Q c cs S E G f h. clauses_move E ((Q ++ map (λ k. assumed (closed c (formula_of_clause k))) (clause_list cs)) ++ S) ((Q ++ assumed (closed c (formula_of_clauses cs)) ∷ []) ++ S) G f (other_way (apart_here Q c cs S)) h;
-    flat_goals = λ n B t gs e θ E R f. (
-      (λ h. goal_moves E R (instantiate θ t) (instantiate θ (formula_of_goals gs)) f (goal_flat n B t gs θ e refl refl) h),
-      (λ h. goal_moves E R (instantiate θ (formula_of_goals gs)) (instantiate θ t) f (goal_back (goal_flat n B t gs θ e refl refl)) h),
+    order = λ E Q R s r. kept_so E Q R (in_some_order s r);
+    apart = λ E Q c cs f. kept_so E (Q ++ assumed (closed c (formula_of_clauses cs)) ∷ []) (Q ++ map (λ k. assumed (closed c (formula_of_clause k))) (clause_list cs)) (apart_here E Q c cs f);
+    together = λ E Q c cs f. kept_so E (Q ++ map (λ k. assumed (closed c (formula_of_clause k))) (clause_list cs)) (Q ++ assumed (closed c (formula_of_clauses cs)) ∷ []) (other_way (apart_here E Q c cs f));
+    flat_goals = λ n B t gs e E Γ θ o w R f. (
+      (λ h. alike.goals E R (instantiate θ t) (instantiate θ (formula_of_goals gs)) f (goal_flat n B t gs Γ θ o w e refl refl) h),
+      (λ h. alike.goals E R (instantiate θ (formula_of_goals gs)) (instantiate θ t) f (goal_back (goal_flat n B t gs Γ θ o w e refl refl)) h),
     );
-    flat_clauses = λ n B t cs e θ Q. (
-      (λ S E G f h. clauses_move E ((Q ++ assumed (instantiate θ t) ∷ []) ++ S) ((Q ++ assumed (instantiate θ (formula_of_clauses cs)) ∷ []) ++ S) G f (flat_here Q S n B t cs e θ) h),
-      (λ S E G f h. clauses_move E ((Q ++ assumed (instantiate θ (formula_of_clauses cs)) ∷ []) ++ S) ((Q ++ assumed (instantiate θ t) ∷ []) ++ S) G f (other_way (flat_here Q S n B t cs e θ)) h),
-    );
+    flat_clauses = λ n B t cs e E Γ θ o w Q.
+        let s : SameClauses d E (Q ++ assumed (instantiate θ t) ∷ []) (Q ++ assumed (instantiate θ (formula_of_clauses cs)) ∷ []) = clause_flat Q [] n B t cs Γ θ o w e refl refl in (
+          kept_so E (Q ++ assumed (instantiate θ t) ∷ []) (Q ++ assumed (instantiate θ (formula_of_clauses cs)) ∷ []) s,
+          kept_so E (Q ++ assumed (instantiate θ (formula_of_clauses cs)) ∷ []) (Q ++ assumed (instantiate θ t) ∷ []) (other_way s),
+        );
   }
     where
-      flat_here : (Q S : List ClauseFormula) (n : ℕ) (B : List Bool) (t : Term) (cs : Clauses) → flat_clause n d B t [] [] ≡ Some cs → (θ : ℕ → Term) → SameClauses d ((Q ++ assumed (instantiate θ t) ∷ []) ++ S) ((Q ++ assumed (instantiate θ (formula_of_clauses cs)) ∷ []) ++ S)
-      flat_here Q S n B t cs e θ = clause_flat Q S n B t cs θ e (append_assoc Q (assumed (instantiate θ t) ∷ []) S) (append_assoc Q (assumed (instantiate θ (formula_of_clauses cs)) ∷ []) S)
-
-      apart_here : (Q : List ClauseFormula) (c : Closing) (cs : Clauses) (S : List ClauseFormula) → SameClauses d ((Q ++ assumed (closed c (formula_of_clauses cs)) ∷ []) ++ S) ((Q ++ map (λ k. assumed (closed c (formula_of_clause k))) (clause_list cs)) ++ S)
-      apart_here Q c cs S =
-          transport (λ X. SameClauses d X ((Q ++ map (λ k. assumed (closed c (formula_of_clause k))) (clause_list cs)) ++ S)) (sym (append_assoc Q (assumed (closed c (formula_of_clauses cs)) ∷ []) S))
-          (transport (SameClauses d (Q ++ assumed (closed c (formula_of_clauses cs)) ∷ S)) (sym (append_assoc Q (map (λ k. assumed (closed c (formula_of_clause k))) (clause_list cs)) S)) (apart d c cs Q S))
+      apart_here : (E : List Ty) (Q : List ClauseFormula) (c : Closing) (cs : Clauses) → IsFormula d E (closed c (formula_of_clauses cs)) → SameClauses d E (Q ++ assumed (closed c (formula_of_clauses cs)) ∷ []) (Q ++ map (λ k. assumed (closed c (formula_of_clause k))) (clause_list cs))
+      apart_here E Q c cs f = each_apart Q [] c cs f refl (ap (λ X. Q ++ X) (sym (append-nil (map (λ k. assumed (closed c (formula_of_clause k))) (clause_list cs)))))
 
 -- sentences and their flattened clauses
-program_apart : (d : Declared) (F : List ClauseFormula) (P : List Clause) → AreFlattened d F P → (B S : List ClauseFormula) → SameClauses d (B ++ (F ++ S)) (B ++ (map sentence_of P ++ S))
-program_apart d [] P x B S = transport (λ X. SameClauses d (B ++ S) (B ++ (map sentence_of X ++ S))) (sym x) (no_other d (B ++ S))
-program_apart d (D ∷ F) P x B S =
+program_apart : (d : Declared) (E : List Ty) (F : List ClauseFormula) (P : List Clause) → EachOf (IsSentence d) F → AreFlattened d F P → (B : List ClauseFormula) → SameClauses d E (B ++ F) (B ++ map sentence_of P)
+program_apart d E [] P s x B = transport (λ X. SameClauses d E (B ++ []) (B ++ map sentence_of X)) (sym x) (no_other d E (B ++ []))
+program_apart d E (D ∷ F) P s x B =
     let cs = map sentence_of (clause_list x.1) in
     let R = map sentence_of x.2 in
-    let e : map sentence_of P ++ S ≡ cs ++ (R ++ S) = ap (λ X. map sentence_of X ++ S) x.5 ∙ ap (λ X. X ++ S) (map-append sentence_of (clause_list x.1) x.2) ∙ append_assoc cs R S in
-    let one : SameClauses d (B ++ D ∷ (F ++ S)) (B ++ (cs ++ (F ++ S))) = sentence_flat B (F ++ S) x.0 D x.1 x.3 refl refl in
-    let rest = program_apart d F x.2 x.4 (B ++ cs) S in
-    one_by_one (B ++ (cs ++ (F ++ S))) one
-    (transport (λ X. SameClauses d (B ++ (cs ++ (F ++ S))) (B ++ X)) (sym e) (transport (λ X. SameClauses d X (B ++ (cs ++ (R ++ S)))) (append_assoc B cs (F ++ S)) (transport (SameClauses d ((B ++ cs) ++ (F ++ S))) (append_assoc B cs (R ++ S)) rest)))
+    let e : map sentence_of P ≡ cs ++ R = ap (λ X. map sentence_of X) x.5 ∙ map-append sentence_of (clause_list x.1) x.2 in
+    let one : SameClauses d E (B ++ D ∷ F) (B ++ (cs ++ F)) = sentence_flat B F x.0 D x.1 s.0 x.3 refl refl in
+    let rest = program_apart d E F x.2 s.1 x.4 (B ++ cs) in
+    one_by_one (B ++ (cs ++ F)) one
+    (transport (λ X. SameClauses d E (B ++ (cs ++ F)) (B ++ X)) (sym e) (transport (λ X. SameClauses d E X (B ++ (cs ++ R))) (append_assoc B cs F) (transport (SameClauses d E ((B ++ cs) ++ F)) (append_assoc B cs R) rest)))
 
-pub program_kept : (d : Declared) (F : List ClauseFormula) (P : List Clause) → AreFlattened d F P → AreKept (IsFailedSearch d P) F (map sentence_of P) × AreKept (IsFailedSearch d P) (map sentence_of P) F
-program_kept d F P x = (
-  (λ S E G f h. clauses_move d P E (F ++ S) (map sentence_of P ++ S) G f (program_apart d F P x [] S) h),
-  (λ S E G f h. clauses_move d P E (map sentence_of P ++ S) (F ++ S) G f (other_way (program_apart d F P x [] S)) h),
-)
+pub program_kept : {L : Leaves} (d : Declared) → KeepsSame L d → (F : List ClauseFormula) (P : List Clause) → EachOf (IsSentence d) F → AreFlattened d F P → AreKept L [] F (map sentence_of P) × AreKept L [] (map sentence_of P) F
+program_kept d alike F P s x =
+    let a = program_apart d [] F P s x [] in
+    (kept_so d alike [] F (map sentence_of P) a, kept_so d alike [] (map sentence_of P) F (other_way a))
+
+-- failing searches, and those of which something holds that is said of the search and of the types of eigenconstants alone
+pub failed_same : (d : Declared) (P : List Clause) → KeepsSame (IsFailedSearch d P) d
+failed_same d P = record {
+  goals = λ E R G H f v h. record { eigens = h.eigens; begins = h.begins; closing = h.closing; closes = h.closes; is_closed = h.is_closed; goal = goal_then G h.goal v; clauses = h.clauses; program = h.program; ends = h.ends; gives_none = h.gives_none };
+  clauses = λ E R S G f s h. record { eigens = h.eigens; begins = h.begins; closing = h.closing; closes = h.closes; is_closed = h.is_closed; goal = h.goal; clauses = one_by_one R h.clauses s; program = h.program; ends = h.ends; gives_none = h.gives_none };
+}
+
+pub more_same : {L : Leaves} (d : Declared) → KeepsSame L d → (X : List Ty → Failure → Type 0) → KeepsSame (λ E R G f. L E R G f × X E f) d
+more_same d alike X = record { goals = λ E R G H f v h. (alike.goals E R G H f v h.0, h.1); clauses = λ E R S G f s h. (alike.clauses E R S G f s h.0, h.1) }
 
 itself : (x : ℕ) → x ≤ x
 itself x = omega arith
@@ -115,26 +140,34 @@ wider : (n rows : ℕ) → rows ≤ n + rows
 wider n rows = omega arith
 
 -- a refuted search
-module _ (n : ℕ) (d : Declared) (P : List Clause) (V : List Variable) (E : List Ty) (next_type : ℕ) (gs : Goals) (css : List Clauses) (w : Written)
+module _ (n : ℕ) (d : Declared) (P : List Clause) (V : List Variable) (E : List Ty) (next_type : ℕ) (gs : Goals) (css : List Clauses) (w : Written) (typed : IsTyped d E V (formula_of_goals gs) o_type)
     (begins : IsTypedBranch n d no_query (denied_typing V E gs) (denied_branch (length V) next_type gs (newest_first css) w (length E)))
     (steps j rows k p : ℕ) (ns : List Note) (is_final : Answer → Bool) (r : inner (look unit_limit n P) j is_final (starts_within rows (denied_task (length V) next_type gs (newest_first css) w (length E)) steps 1) ≡ Refuted k ns p) where
-  leaf : Failure
+  pub leaf : Failure
   leaf = record { limit = steps + rows; looks = n; moves = j; variables = V; next_type = next_type; goals = gs; assumed = css; written = w; program = P }
 
-  pub refuted_fails_so : (c : Closing) → Closes d V c → (f : Failure) × IsFailedSearch d P (map (instance c.types) E) (clauses_at P (newest_first css) c) (closed c (formula_of_goals gs)) f
+  pub refuted_fails_so : (c : Closing) → Closes d V c → IsFailedSearch d P (map (instance c.types) E) (clauses_at P (newest_first css) c) (closed c (formula_of_goals gs)) leaf
   unfolding leaf
-  refuted_fails_so c cl = (
-    leaf,
-    record {
-      eigens = E;
-      begins = begins;
-      closing = c;
-      closes = cl;
-      is_closed = refl;
-      goal = goal_converts (same (closed c (formula_of_goals gs)));
-      clauses = no_other d (clauses_at P (newest_first css) c);
-      program = refl;
-      ends = ends_within P (denied_task (length V) next_type gs (newest_first css) w (length E)) steps n j rows k p ns is_final r unit_limit (steps + rows) (itself unit_limit) (longer steps rows) (wider steps rows);
-      gives_none = none_within P (denied_task (length V) next_type gs (newest_first css) w (length E)) steps n j rows k p ns is_final r unit_limit (steps + rows) (itself unit_limit) (longer steps rows) (wider steps rows);
-    },
-  )
+  refuted_fails_so c cl =
+      let f = formula_at d V c cl E (formula_of_goals gs) typed in
+      record {
+        eigens = E;
+        begins = begins;
+        closing = c;
+        closes = cl;
+        is_closed = refl;
+        goal = goal_converts f f (same (closed c (formula_of_goals gs)));
+        clauses = no_other d (map (instance c.types) E) (clauses_at P (newest_first css) c);
+        program = refl;
+        ends = ends_within P (denied_task (length V) next_type gs (newest_first css) w (length E)) steps n j rows k p ns is_final r unit_limit (steps + rows) (itself unit_limit) (longer steps rows) (wider steps rows);
+        gives_none = none_within P (denied_task (length V) next_type gs (newest_first css) w (length E)) steps n j rows k p ns is_final r unit_limit (steps + rows) (itself unit_limit) (longer steps rows) (wider steps rows);
+      }
+
+  -- it takes as many steps as the search that was refuted
+  pub refuted_steps : (failed_run (length E) leaf).steps ≡ k
+  unfolding leaf
+  refuted_steps = taken_within P (denied_task (length V) next_type gs (newest_first css) w (length E)) steps n j rows k p ns is_final r unit_limit (steps + rows) (itself unit_limit) (longer steps rows) (wider steps rows)
+
+  pub refuted_types : leaf.next_type ≡ next_type
+  unfolding leaf
+  refuted_types = refl

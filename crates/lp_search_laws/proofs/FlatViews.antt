@@ -18,6 +18,7 @@ use Rattle.lp_model.specs.Branch.{Entry, entries}
 use Rattle.lp_model.specs.Answers.{Variable, Closes}
 use Rattle.lp_model.specs.Proofs.{Declared, IsFormula, Stands, assumed, Leaves, ProvableBy}
 use Rattle.lp_unify_laws.proofs.Scopes.{prefix_more, more_none}
+use Rattle.lp_proof_laws.proofs.Uniform.Assumptions.{extends_self}
 use Rattle.lp_proof_laws.proofs.Uniform.Contexts.{get_front, get_back, get_split}
 use Rattle.lp_proof_laws.proofs.Uniform.Uniforms.{other_clauses, stands_more}
 use Rattle.lp_search_laws.specs.Holds.{Holds, IsTyped}
@@ -129,8 +130,8 @@ swapped_back xs ys zs = record {
 }
 
 -- the same clauses in another order prove the same
-reordered : {L : Leaves} (d : Declared) → IsSetting L d → (E : List Ty) (P R : List ClauseFormula) (G : Term) → Stands P R → Stands R P → ProvableBy L d E P G → ProvableBy L d E R G
-reordered {L} d std E P R G s r p = other_clauses L Both (λ P R x. x.0) both_more (λ E P R G f x l. transport (λ Q. L E Q G f) (append-nil R) (std.order P R x.0 x.1 [] E G f (transport (λ Q. L E Q G f) (sym (append-nil P)) l))) d E P R G (s, r) p
+pub reordered : {L : Leaves} (d : Declared) → IsSetting L d → (E : List Ty) (P R : List ClauseFormula) (G : Term) → Stands P R → Stands R P → ProvableBy L d E P G → ProvableBy L d E R G
+reordered {L} d std E P R G s r p = other_clauses L Both (λ P R x. x.0) both_more (λ E P R G f x l. transport (λ Q. L E Q G f) (append-nil R) (std.order E P R x.0 x.1 [] E (extends_self E) G f (transport (λ Q. L E Q G f) (sym (append-nil P)) l))) d E P R G (s, r) p
 
 pub assumed_proved : {L : Leaves} (d : Declared) → IsSetting L d → (E : List Ty) (P A : List Clause) (c : Closing) (cs : Clauses) (G : Term) → IsFormula d E (closed c (formula_of_clauses cs)) →
     (ProvableBy L d E (clauses_at P A c ++ assumed (closed c (formula_of_clauses cs)) ∷ []) G → ProvableBy L d E (clauses_at P (clause_list cs ++ A) c) G) ×

@@ -12,7 +12,8 @@ use Rattle.lp_model.specs.Branch.{both_written, Entry, Branch, Go, Stop, entries
 use Rattle.lp_model.specs.declared.ending.Ending.TheVariants.{OpenNot}
 use Rattle.lp_model.specs.Answers.{Query, Variable, AnswerTyping, over, type_of, IsPrefix}
 use Rattle.lp_model.specs.Proofs.{Declared, Leaves}
-use Rattle.lp_model.specs.Search.{with_goals}
+use Rattle.lp_model.specs.Search.{has_no_pairs, has_variables, with_goals}
+use Rattle.lp_proof_laws.proofs.Uniform.Heads.{denial_root_by}
 use Rattle.lp_proof_laws.proofs.Uniform.Roots.{connective, pi_type, sigma_type}
 use Rattle.lp_unify_laws.proofs.Scopes.{prefix_more, prefix_none, more_none, eigen_last, get_last, of_variable}
 use Rattle.lp_unify_laws.proofs.TypedInstances.{length_map, map_append}
@@ -140,14 +141,21 @@ module _ {L : Leaves} (n : ℕ) (d : Declared) (std : IsSetting L d) (P : List C
         stuck = tt;
       }
 
-  pub denied_stands : (ws : Written) (gs : Goals) → e.goal ≡ Not ws gs → DeniesTyped L n d P q (going (Typings n d P q z b E Es e es (E ∷ Es)) (with_goals b (e ∷ es))) (Go (inner_branch gs)) (Go (with_goals b es) ∷ [])
-  denied_stands ws gs i = record {
+  unfoldable pub denied_stands : (ws : Written) (gs : Goals) → e.goal ≡ Not ws gs → has_variables n (both_written ws e.written) ≡ Some false → DeniesTyped L n d P q (going (Typings n d P q z b E Es e es (E ∷ Es)) (with_goals b (e ∷ es))) (Go (inner_branch gs)) has_no_pairs (Go (with_goals b es) ∷ [])
+  denied_stands ws gs i tested = record {
     variables = z.variables;
     eigens = E;
     next_type = b.next_type;
     goals = gs;
+    own = ws;
     assumed = e.assumed;
     written = e.written;
+    final = refl;
+    origin = (written_as (Not ws gs) i).2;
+    place = written_place;
+    tested = tested;
+    typed = inner_goals_typed ws gs i;
+    assumed_typed = place.typed;
     is = λ j. Go (denied_branch (sym h.answer.variables j) b.next_type gs e.assumed e.written (sym h.entries.0.level j));
     begins = transport (λ m. IsTypedBranch n d no_query (inner_typing gs) (denied_branch m b.next_type gs e.assumed e.written (length E))) (sym h.answer.variables)
         (transport (λ m. IsTypedBranch n d no_query (inner_typing gs) (denied_branch b.next b.next_type gs e.assumed e.written m)) (sym h.entries.0.level) (inner_typed ws gs i));
@@ -155,6 +163,13 @@ module _ {L : Leaves} (n : ℕ) (d : Declared) (std : IsSetting L d) (P : List C
     rest = with_goals b es;
     goes_on = refl;
     after = rest_typed;
+    keeps = λ j s.
+        let c = s.answer.closing in
+        let E' = map (instance c.types) E in
+        let R = clauses_at P e.assumed c in
+        let p = transport (λ x. HoldsHere c (formula_of_goal x)) i s.proved.0 in
+        let l = denial_root_by L d std.standard E' R (closed c (formula_of_goals gs)) (formula_at d z.variables c s.answer.closes E (formula_of_goal (Not ws gs)) (typed_as (Not ws gs) i)) (std.converting R) p in
+        record { closing = c; closes = s.answer.closes; leaf = l; rest = record { query = s.query; answer = s.answer; proved = s.proved.1 } };
     gives = λ leaf j s.
         let c = s.answer.closing in
         let f = leaf c s.answer.closes in

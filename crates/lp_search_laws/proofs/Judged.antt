@@ -63,6 +63,34 @@ pub no_typed_values : (d : Declared) (V : List Variable) (ts : List Term) → Ar
 no_typed_values d V [] h = refl
 no_typed_values d V (t ∷ ts) h = absurd h
 
+module _ (d : Declared) where
+  pub query : IsQueryInstance d no_query no_values
+  query = record { types = refl; types_closed = tt; values = tt }
+
+  pub no_answers : (xs : List TypedAnswer) → map (λ a. a.answer) xs ≡ [] → AnyOf (λ a. IsInstance d a.typing a.answer no_values) xs → ⊥
+  no_answers [] e h = h
+  no_answers (x ∷ xs) e h = cc
+
+  an_instance : (x : TypedAnswer) → IsWellFormed d no_query x.typing x.answer → has_no_pairs x.answer ≡ true → IsInstance d x.typing x.answer no_values
+  an_instance x w f =
+      let c = some_closing x.typing.variables in
+      let ps = none x.answer.pairs (no_pairs (length x.answer.pairs) f) in
+      let ts = none x.answer.types w.types in
+      let vs = no_typed_values d x.typing.variables x.answer.values w.values in
+      record {
+        closing = c;
+        closes = some_closes d x.typing.variables;
+        solves = transport (SolvesAll c) (sym ps) tt;
+        types = ap (map (instance c.types)) ts;
+        values = transport (λ us. ConvertEach (map (closed c) us) []) (sym vs) tt;
+      }
+
+  -- what holds of each instance of the first answer, where that leaves no pairs
+  pub first_sound : (S : Instance → Type 0) (a : Answer) (more : List Answer) (xs : List TypedAnswer) → map (λ x. x.answer) xs ≡ a ∷ more → has_no_pairs a ≡ true → EachOf (λ x. IsWellFormed d no_query x.typing x.answer) xs →
+      EachOf (λ x. (i : Instance) → IsQueryInstance d no_query i → IsInstance d x.typing x.answer i → S i) xs → S no_values
+  first_sound S a more [] e f w s = absurd (cc)
+  first_sound S a more (x ∷ xs) e f w s = let q : x.answer ≡ a = cc in s.0 no_values query (an_instance x w.0 (ap has_no_pairs q ∙ f))
+
 module _ (n : ℕ) (d : Declared) (std : IsStandard d) (P : List Clause) (program : EachOf (IsProgramTyped d) P) (pure : EachOf IsUnnegatedClause P) (q : Query) (z : AnswerTyping) (b : Branch) (E : List Ty) (Es : List (List Ty)) (e : Entry) (es : List Entry)
     (h : IsTypedBranch n d q (record { answer = z; eigens = E ∷ Es }) (with_goals b (e ∷ es))) (ws : Written) (gs : Goals) (is : e.goal ≡ Not ws gs) (unnegated : AreUnnegatedGoals gs) (assumed : EachOf IsUnnegatedClause e.assumed) where
   abbrev pub first : Branch
@@ -84,12 +112,9 @@ module _ (n : ℕ) (d : Declared) (std : IsStandard d) (P : List Clause) (progra
   abbrev pub HoldsHere : Closing → Type 0
   HoldsHere c = Holds no_leaf d (map (instance c.types) E) (clauses_at P e.assumed c) c (formula_of_goals gs)
 
-  query : IsQueryInstance d no_query no_values
-  query = record { types = refl; types_closed = tt; values = tt }
-
   solved : (c : Closing) → Closes d z.variables c → HoldsHere c → SolvesBranch no_leaf d P no_query no_values typing first
   solved c l p = record {
-    query = query;
+    query = query d;
     answer = record { closing = c; closes = l; solves = tt; types = refl; values = tt };
     proved = (goals_proved d (without_leaves d std) P z.variables c l E e.assumed e.written e.level 0 gs goals_typed).0 p;
   }
@@ -97,38 +122,15 @@ module _ (n : ℕ) (d : Declared) (std : IsStandard d) (P : List Clause) (progra
   holds : SolvesBranch no_leaf d P no_query no_values typing first → (c : Closing) × Closes d z.variables c × HoldsHere c
   holds s = (s.answer.closing, s.answer.closes, (goals_proved d (without_leaves d std) P z.variables s.answer.closing s.answer.closes E e.assumed e.written e.level 0 gs goals_typed).1 s.proved)
 
-  no_answers : (xs : List TypedAnswer) → map (λ a. a.answer) xs ≡ [] → AnyOf (λ a. IsInstance d a.typing a.answer no_values) xs → ⊥
-  no_answers [] e h = h
-  no_answers (x ∷ xs) e h = cc
-
-  an_instance : (x : TypedAnswer) → IsWellFormed d no_query x.typing x.answer → has_no_pairs x.answer ≡ true → IsInstance d x.typing x.answer no_values
-  an_instance x w f =
-      let c = some_closing x.typing.variables in
-      let ps = none x.answer.pairs (no_pairs (length x.answer.pairs) f) in
-      let ts = none x.answer.types w.types in
-      let vs = no_typed_values d x.typing.variables x.answer.values w.values in
-      record {
-        closing = c;
-        closes = some_closes d x.typing.variables;
-        solves = transport (SolvesAll c) (sym ps) tt;
-        types = ap (map (instance c.types)) ts;
-        values = transport (λ us. ConvertEach (map (closed c) us) []) (sym vs) tt;
-      }
-
-  first_sound : (a : Answer) (more : List Answer) (xs : List TypedAnswer) → map (λ x. x.answer) xs ≡ a ∷ more → has_no_pairs a ≡ true → EachOf (λ x. IsWellFormed d no_query x.typing x.answer) xs →
-      EachOf (λ x. (i : Instance) → IsQueryInstance d no_query i → IsInstance d x.typing x.answer i → SolvesBranch no_leaf d P no_query i typing first) xs → SolvesBranch no_leaf d P no_query no_values typing first
-  first_sound a more [] e f w s = absurd (cc)
-  first_sound a more (x ∷ xs) e f w s = let q : x.answer ≡ a = cc in s.0 no_values query (an_instance x w.0 (ap has_no_pairs q ∙ f))
-
   module _ (j steps k p : ℕ) (ns : List Note) where
     pub refuted : inner (look unit_limit n P) j has_no_pairs (starts (Go first) steps 1) ≡ Refuted k ns p → (c : Closing) → Closes d z.variables c → HoldsHere c → ⊥
     refuted r c l v =
         let f = refuted_fails (look unit_limit n P) has_no_pairs j (starts (Go first) steps 1) k p ns r in
         let x = right j j steps in
-        no_answers x.typed (x.is ∙ f.1) (x.exhausts f.0 no_values (solved c l v))
+        no_answers d x.typed (x.is ∙ f.1) (x.exhausts f.0 no_values (solved c l v))
 
     pub held : inner (look unit_limit n P) j has_no_pairs (starts (Go first) steps 1) ≡ Held k ns p → (c : Closing) × Closes d z.variables c × HoldsHere c
     held r =
         let f = held_gives (look unit_limit n P) has_no_pairs j (starts (Go first) steps 1) k p ns r in
         let x = right j j steps in
-        holds (first_sound f.0 f.1 x.typed (x.is ∙ f.3) f.2 x.well_formed x.sound)
+        holds (first_sound d (λ i. SolvesBranch no_leaf d P no_query i typing first) f.0 f.1 x.typed (x.is ∙ f.3) f.2 x.well_formed x.sound)

@@ -71,7 +71,8 @@ pub mod Comes
 pub mod Limits
 pub mod Refuted
 pub mod FailedSearches
-pub mod SoundRuns
+pub mod Runs
+pub mod RefutedLeaves
 pub mod Sound
 pub mod Tested
 pub mod Unnegated
@@ -82,3 +83,9 @@ pub mod WrittenFlat
 pub mod Origins
 pub mod UnnegatedFlat
 pub mod UnnegatedStarts
+pub mod WrittenAlone
+pub mod SameProofs
+pub mod Monomorphic
+pub mod Consistent
+pub mod Exhausted
+pub mod Decided

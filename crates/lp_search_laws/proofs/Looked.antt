@@ -29,10 +29,10 @@ module _ {L : Leaves} (n height : ℕ) (d : Declared) (std : IsSetting L d) (P :
     normal_view t i None x = tt
     normal_view t i (Some u) x = form_view n d std P q z b E Es e es h t u i x height (λ p. atoms t u i x p) (connective_of u) refl
 
-    denied_view : (ws : Written) (gs : Goals) → e.goal ≡ Not ws gs → (o : Option Bool) → IsRightView L n d P q (going (Typings n d P q z b E Es e es (E ∷ Es)) (with_goals b (e ∷ es))) (look_not e (with_goals b es) gs o)
-    denied_view ws gs i None = tt
-    denied_view ws gs i (Some true) = open_stands n d std P q z b E Es e es h
-    denied_view ws gs i (Some false) = denied_stands n d std P q z b E Es e es h ws gs i
+    denied_view : (ws : Written) (gs : Goals) → e.goal ≡ Not ws gs → (o : Option Bool) → has_variables n (both_written ws e.written) ≡ o → IsRightView L n d P q (going (Typings n d P q z b E Es e es (E ∷ Es)) (with_goals b (e ∷ es))) (look_not e (with_goals b es) gs o)
+    denied_view ws gs i None x = tt
+    denied_view ws gs i (Some true) x = open_stands n d std P q z b E Es e es h
+    denied_view ws gs i (Some false) x = denied_stands n d std P q z b E Es e es h ws gs i x
 
     goal_view : (g : Goal) → e.goal ≡ g → IsRightView L n d P q (going (Typings n d P q z b E Es e es (E ∷ Es)) (with_goals b (e ∷ es))) (look_goal unit_limit n P height e (with_goals b es) g)
     goal_view (Atomic t) i = normal_view t i (head_normal n t) refl
@@ -40,7 +40,7 @@ module _ {L : Leaves} (n height : ℕ) (d : Declared) (std : IsSetting L d) (P :
     goal_view (Either l r) i = either_stands n d std P q z b E Es e es h l r i
     goal_view (Exists T gs) i = exists_stands n d std P q z b E Es e es h T gs _ (by_cases (atom (logic b.next e.level)) _ refl (λ j. refl)) i
     goal_view (Forall T gs) i = forall_stands n d std P q z b E Es e es h T gs _ (by_cases (atom (eigen (suc e.level))) _ refl (λ j. refl)) i
-    goal_view (Not ws gs) i = denied_view ws gs i (has_variables n (both_written ws e.written))
+    goal_view (Not ws gs) i = denied_view ws gs i (has_variables n (both_written ws e.written)) refl
     goal_view (Assume ws cs gs) i = assume_stands n d std P q z b E Es e es h ws cs gs i
 
   pub branch_view : (Es : List (List Ty)) (gs : List Entry) → IsTypedBranch n d q (record { answer = z; eigens = Es }) (with_goals b gs) →

@@ -132,7 +132,7 @@ module _ {L : Leaves} (d : Declared) (std : IsSetting L d) (n : ℕ) (D : Clause
 
 -- the whole program
 module _ {L : Leaves} (d : Declared) (std : IsSetting L d) where
-  program_serves : (F : List ClauseFormula) (P : List Clause) → EachOf (IsSentence d) F → AreFlattened d F P → Serves L d [] F (map sentence_of P)
+  pub program_serves : (F : List ClauseFormula) (P : List Clause) → EachOf (IsSentence d) F → AreFlattened d F P → Serves L d [] F (map sentence_of P)
   program_serves [] P s x = record { at = λ i D e. absurd (cc) }
   program_serves (D ∷ F) P s x =
       let cs = x.1 in
@@ -147,7 +147,7 @@ module _ {L : Leaves} (d : Declared) (std : IsSetting L d) where
           served_in_front d G Q (map sentence_of (clause_list cs)) (map sentence_of R) A (serving_clause d std n D cs y s.0 ts (l ∙ ap (λ w. w.type_vars) q) k G Q A h (transport (λ w. FocusableBy L d G Q (instance_term (type_at ts) w.formula) A) q r))
       go n cs R y rest (suc i) K e ts l k G g Q A h r = served_behind d G Q (map sentence_of (clause_list cs)) (map sentence_of R) A (rest.at i K e ts l k G g Q A h r)
 
-  sentences_serve : (F : List ClauseFormula) (P : List Clause) → EachOf (IsSentence d) F → AreFlattened d F P → Serves L d [] (map sentence_of P) F
+  pub sentences_serve : (F : List ClauseFormula) (P : List Clause) → EachOf (IsSentence d) F → AreFlattened d F P → Serves L d [] (map sentence_of P) F
   sentences_serve [] P s x = record { at = λ i D e. let q : slice_get (map sentence_of []) i ≡ Some D = ap (λ z. slice_get (map sentence_of z) i) (sym x) ∙ e in absurd (cc) }
   sentences_serve (D ∷ F) P s x =
       let cs = x.1 in
@@ -162,13 +162,13 @@ module _ {L : Leaves} (d : Declared) (std : IsSetting L d) where
       })
 
   -- what stands as a leaf among the sentences stands so among their flattened clauses, and the other way
-  kept_more : (P R Q : List ClauseFormula) → AreKept L P R → AreKept L (P ++ Q) (R ++ Q)
-  kept_more P R Q k S m H f h = transport (λ X. L m X H f) (sym (append_assoc R Q S)) (k (Q ++ S) m H f (transport (λ X. L m X H f) (append_assoc P Q S) h))
+  pub kept_behind : (E : List Ty) (P R Q : List ClauseFormula) → AreKept L E P R → AreKept L E (P ++ Q) (R ++ Q)
+  kept_behind E P R Q k S m y H f h = transport (λ X. L m X H f) (sym (append_assoc R Q S)) (k (Q ++ S) m y H f (transport (λ X. L m X H f) (append_assoc P Q S) h))
 
-  pub program_reads_back : (F : List ClauseFormula) (P : List Clause) → EachOf (IsSentence d) F → AreFlattened d F P → AreKept L F (map sentence_of P) × AreKept L (map sentence_of P) F → (E : List Ty) (Q : List ClauseFormula) (G : Term) → (ProvableBy L d E (F ++ Q) G → ProvableBy L d E (map sentence_of P ++ Q) G) × (ProvableBy L d E (map sentence_of P ++ Q) G → ProvableBy L d E (F ++ Q) G)
-  program_reads_back F P s x k E Q G = (
-    λ p. served d E (F ++ Q) (map sentence_of P ++ Q) G (serves_more d E F (map sentence_of P) Q (serves_eigens d [] E F (map sentence_of P) (program_serves F P s x))) (kept_more F (map sentence_of P) Q k.0) p,
-    λ p. served d E (map sentence_of P ++ Q) (F ++ Q) G (serves_more d E (map sentence_of P) F Q (serves_eigens d [] E (map sentence_of P) F (sentences_serve F P s x))) (kept_more (map sentence_of P) F Q k.1) p,
+  pub program_reads_back : (F : List ClauseFormula) (P : List Clause) → EachOf (IsSentence d) F → AreFlattened d F P → (E : List Ty) → AreKept L E F (map sentence_of P) × AreKept L E (map sentence_of P) F → (Q : List ClauseFormula) (G : Term) → (ProvableBy L d E (F ++ Q) G → ProvableBy L d E (map sentence_of P ++ Q) G) × (ProvableBy L d E (map sentence_of P ++ Q) G → ProvableBy L d E (F ++ Q) G)
+  program_reads_back F P s x E k Q G = (
+    λ p. served d E (F ++ Q) (map sentence_of P ++ Q) G (serves_more d E F (map sentence_of P) Q (serves_eigens d [] E F (map sentence_of P) (program_serves F P s x))) (kept_behind E F (map sentence_of P) Q k.0) p,
+    λ p. served d E (map sentence_of P ++ Q) (F ++ Q) G (serves_more d E (map sentence_of P) F Q (serves_eigens d [] E (map sentence_of P) F (sentences_serve F P s x))) (kept_behind E (map sentence_of P) F Q k.1) p,
   )
 
 -- each flattened clause is a sentence
@@ -206,7 +206,7 @@ module _ {L : Leaves} (d : Declared) (std : IsSetting L d) where
     fine_at : (ts : List Ty) (F : List Ty) → Extends E F → IsFormula d F (instance_term (type_at ts) (closed c (formula_of_clauses cs)))
     fine_at ts F x = transport (λ z. IsFormula d z (instance_term (type_at ts) (closed c (formula_of_clauses cs)))) (sym x.is) (formula_eigens d E x.rest (instance_term (type_at ts) (closed c (formula_of_clauses cs))) (transport (IsFormula d E) (sym (closed_instance (length E) (type_at ts) (closed c (formula_of_clauses cs)) f.closed)) f))
 
-    parts_serve : Serves L d E (whole ∷ []) (map as_assumed (clause_list cs))
+    pub parts_serve : Serves L d E (whole ∷ []) (map as_assumed (clause_list cs))
     parts_serve = record { at = go }
       where
         go : (i : ℕ) (K : ClauseFormula) → slice_get (whole ∷ []) i ≡ Some K → (ts : List Ty) → length ts ≡ K.type_vars → AreClosed ts → (F : List Ty) → Extends E F → (Q : List ClauseFormula) (A : Term) → IsAtomHead (head_of A) → FocusableBy L d F Q (instance_term (type_at ts) K.formula) A → Served L d F Q (map as_assumed (clause_list cs)) A
@@ -216,7 +216,7 @@ module _ {L : Leaves} (d : Declared) (std : IsSetting L d) where
             record { place = o.place; clause = as_assumed o.clause; is = get_map as_assumed (clause_list cs) o.place ∙ ap (option_map as_assumed) o.is; types = ts; count = l ∙ ap (λ w. w.type_vars) q; closed = k; focus = o.focus }
         go (suc i) K e ts l k F x Q A h r = absurd (cc)
 
-    whole_serves : Serves L d E (map as_assumed (clause_list cs)) (whole ∷ [])
+    pub whole_serves : Serves L d E (map as_assumed (clause_list cs)) (whole ∷ [])
     whole_serves = record {
       at = λ i K e ts l k F x Q A h r.
           let m = option_map_some (slice_get (clause_list cs) i) as_assumed K (sym (get_map as_assumed (clause_list cs) i) ∙ e) in
@@ -226,6 +226,6 @@ module _ {L : Leaves} (d : Declared) (std : IsSetting L d) where
 
     pub stand_apart : (G : Term) → (ProvableBy L d E (P ++ whole ∷ []) G → ProvableBy L d E (P ++ map as_assumed (clause_list cs)) G) × (ProvableBy L d E (P ++ map as_assumed (clause_list cs)) G → ProvableBy L d E (P ++ whole ∷ []) G)
     stand_apart G = (
-      λ p. served d E (P ++ whole ∷ []) (P ++ map as_assumed (clause_list cs)) G (serves_first d E P (whole ∷ []) (map as_assumed (clause_list cs)) parts_serve) (std.apart P c cs) p,
-      λ p. served d E (P ++ map as_assumed (clause_list cs)) (P ++ whole ∷ []) G (serves_first d E P (map as_assumed (clause_list cs)) (whole ∷ []) whole_serves) (std.together P c cs) p,
+      λ p. served d E (P ++ whole ∷ []) (P ++ map as_assumed (clause_list cs)) G (serves_first d E P (whole ∷ []) (map as_assumed (clause_list cs)) parts_serve) (std.apart E P c cs f) p,
+      λ p. served d E (P ++ map as_assumed (clause_list cs)) (P ++ whole ∷ []) G (serves_first d E P (map as_assumed (clause_list cs)) (whole ∷ []) whole_serves) (std.together E P c cs f) p,
     )

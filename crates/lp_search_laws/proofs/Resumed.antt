@@ -80,7 +80,7 @@ pub assumed_agree : (k : ℕ) (c z : Closing) → ((t : Term) → IsBelow k t �
 assumed_agree k c z f [] w = tt
 assumed_agree k c z f (x ∷ A) w = (f (formula_of_clause x) (clause_below k [] x w.0.1), assumed_agree k c z f A w.1)
 
-entries_agree : (k : ℕ) (c z : Closing) → ((i : ℕ) → i < k → c.types i ≡ z.types i) → ((t : Term) → IsBelow k t → IsSame c z t) → (Es : List (List Ty)) (es : List Entry) → ArePlainEntries k Es es → AreSame c z Es es
+pub entries_agree : (k : ℕ) (c z : Closing) → ((i : ℕ) → i < k → c.types i ≡ z.types i) → ((t : Term) → IsBelow k t → IsSame c z t) → (Es : List (List Ty)) (es : List Entry) → ArePlainEntries k Es es → AreSame c z Es es
 entries_agree k c z a f [] [] w = tt
 entries_agree k c z a f [] (e ∷ es) w = tt
 entries_agree k c z a f (E ∷ Es) [] w = tt

@@ -10,7 +10,7 @@ use Rattle.lp_calculus.specs.Spine.{head_of}
 use Rattle.lp_model.specs.Flatten.{ClauseFormula}
 use Rattle.lp_model.specs.Proofs.{Fails, Leaves, Declared, Proof, Conv, True, And, Left, Right, Witness, All, Assume, Equal, Arith, Back, Focus, FConv, FAll, FTake, FNeed, FHit, IsAtomHead, assumed, proves_by, focuses_by, ProvableBy, FocusableBy}
 use Rattle.lp_proof_laws.proofs.Uniform.Contexts.{get_front, get_back, get_split}
-use Rattle.lp_proof_laws.proofs.Uniform.Assumptions.{Extends, extends_self, extends_then, AreKept, kept_more}
+use Rattle.lp_proof_laws.proofs.Uniform.Assumptions.{Extends, extends_self, extends_then, AreKept, kept_more, kept_eigens}
 
 -- some clause of R is focused on for the atom
 pub record Served (L : Leaves) (d : Declared) (E : List Ty) (Q R : List ClauseFormula) (A : Term) : Type 0 where
@@ -54,7 +54,7 @@ serves_first {L} d E P R S s = record {
 -- what stands as a leaf among the clauses P stands so among the clauses R
 module _ {L : Leaves} where
   mutual
-    proof_by : (d : Declared) (E : List Ty) (P R : List ClauseFormula) (G : Term) (p : Proof) → Serves L d E P R → AreKept L P R → proves_by L d E P G p → ProvableBy L d E R G
+    proof_by : (d : Declared) (E : List Ty) (P R : List ClauseFormula) (G : Term) (p : Proof) → Serves L d E P R → AreKept L E P R → proves_by L d E P G p → ProvableBy L d E R G
     proof_by d E P R G (Conv H p) s k h = let r = proof_by d E P R H p s k h.2 in record { proof = Conv H r.proof; holds = (h.0, h.1, r.holds) }
     proof_by d E P R G True s k h = record { proof = True; holds = h }
     proof_by d E P R G (And p q) s k h = let a = proof_by d E P R h.0 p s k h.3 in let b = proof_by d E P R h.1 q s k h.4 in record { proof = And a.proof b.proof; holds = (h.0, h.1, h.2, a.holds, b.holds) }
@@ -62,12 +62,12 @@ module _ {L : Leaves} where
     proof_by d E P R G (Right p) s k h = let a = proof_by d E P R h.1 p s k h.3 in record { proof = Right a.proof; holds = (h.0, h.1, h.2, a.holds) }
     proof_by d E P R G (Witness t p) s k h = let a = proof_by d E P R (app h.1 t) p s k h.4 in record { proof = Witness t a.proof; holds = (h.0, h.1, h.2, h.3, a.holds) }
     proof_by d E P R G (All p) s k h =
-        let a = proof_by d (E ++ h.0 ∷ []) P R (app h.1 (atom (eigen (suc (length E))))) p (serves_eigens d E (h.0 ∷ []) P R s) k h.3 in
+        let a = proof_by d (E ++ h.0 ∷ []) P R (app h.1 (atom (eigen (suc (length E))))) p (serves_eigens d E (h.0 ∷ []) P R s) (kept_eigens L E (h.0 ∷ []) P R k) h.3 in
         record { proof = All a.proof; holds = (h.0, h.1, h.2, a.holds) }
     proof_by d E P R G (Assume p) s k h =
-        let a = proof_by d E (P ++ assumed h.0 ∷ []) (R ++ assumed h.0 ∷ []) h.1 p (serves_more d E P R (assumed h.0 ∷ []) s) (kept_more L P R (assumed h.0) k) h.3 in
+        let a = proof_by d E (P ++ assumed h.0 ∷ []) (R ++ assumed h.0 ∷ []) h.1 p (serves_more d E P R (assumed h.0 ∷ []) s) (kept_more L E P R (assumed h.0) k) h.3 in
         record { proof = Assume a.proof; holds = (h.0, h.1, h.2, a.holds) }
-    proof_by d E P R G (Fails f) s k h = record { proof = Fails f; holds = (h.0, h.1, subst (λ Q. L E Q h.0 f) (append-nil R) (k [] E h.0 f (subst (λ Q. L E Q h.0 f) (sym (append-nil P)) h.2))) }
+    proof_by d E P R G (Fails f) s k h = record { proof = Fails f; holds = (h.0, h.1, subst (λ Q. L E Q h.0 f) (append-nil R) (k [] E (extends_self E) h.0 f (subst (λ Q. L E Q h.0 f) (sym (append-nil P)) h.2))) }
     proof_by d E P R G Equal s k h = record { proof = Equal; holds = h }
     proof_by d E P R G Arith s k h = record { proof = Arith; holds = h }
     proof_by d E P R G (Back i ts f) s k h =
@@ -75,7 +75,7 @@ module _ {L : Leaves} where
         let z = s.at i h.0 h.1 ts h.2 h.3 E (extends_self E) R G h.4 a in
         record { proof = Back z.place z.types z.focus.focus; holds = (z.clause, z.is, z.count, z.closed, h.4, z.focus.holds) }
 
-    focus_by : (d : Declared) (E : List Ty) (P R : List ClauseFormula) (D A : Term) (f : Focus) → Serves L d E P R → AreKept L P R → focuses_by L d E P D A f → FocusableBy L d E R D A
+    focus_by : (d : Declared) (E : List Ty) (P R : List ClauseFormula) (D A : Term) (f : Focus) → Serves L d E P R → AreKept L E P R → focuses_by L d E P D A f → FocusableBy L d E R D A
     focus_by d E P R D A (FConv H f) s k h = let r = focus_by d E P R H A f s k h.2 in record { focus = FConv H r.focus; holds = (h.0, h.1, r.holds) }
     focus_by d E P R D A (FAll t f) s k h = let r = focus_by d E P R (app h.1 t) A f s k h.4 in record { focus = FAll t r.focus; holds = (h.0, h.1, h.2, h.3, r.holds) }
     focus_by d E P R D A (FTake true f) s k h = let r = focus_by d E P R h.1 A f s k h.3 in record { focus = FTake true r.focus; holds = (h.0, h.1, h.2, r.holds) }
@@ -83,5 +83,5 @@ module _ {L : Leaves} where
     focus_by d E P R D A (FNeed p f) s k h = let a = proof_by d E P R h.0 p s k h.3 in let r = focus_by d E P R h.1 A f s k h.4 in record { focus = FNeed a.proof r.focus; holds = (h.0, h.1, h.2, a.holds, r.holds) }
     focus_by d E P R D A FHit s k h = record { focus = FHit; holds = h }
 
-  pub served : (d : Declared) (E : List Ty) (P R : List ClauseFormula) (G : Term) → Serves L d E P R → AreKept L P R → ProvableBy L d E P G → ProvableBy L d E R G
+  pub served : (d : Declared) (E : List Ty) (P R : List ClauseFormula) (G : Term) → Serves L d E P R → AreKept L E P R → ProvableBy L d E P G → ProvableBy L d E R G
   served d E P R G s k p = proof_by d E P R G p.proof s k p.holds

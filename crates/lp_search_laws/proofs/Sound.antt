@@ -1,6 +1,6 @@
 -- The search of the whole language is sound: each closed instance of an answer has a proof from the source clauses, with failing searches as leaves.
-use Rattle.std.proofs.Common.{◌≡◌, ℕ, List, [], ◌∷◌, length, Some}
-use Rattle.lp_lemmas.specs.Each.{EachOf}
+use Rattle.std.proofs.Common.{◌≡◌, ℕ, List, [], ◌∷◌, map, length, Some, refl, inl, inr, subst as transport}
+use Rattle.lp_lemmas.specs.Each.{AnyOf, EachOf}
 use Rattle.lp_standard.specs.Schemes.{IsStandard}
 use Rattle.lp_model.specs.Unify.{unit_limit}
 use Rattle.lp_model.specs.Flat.{Goals, Clause}
@@ -8,25 +8,49 @@ use Rattle.lp_model.specs.Flatten.{ClauseFormula, flatten_query}
 use Rattle.lp_model.specs.Skeleton.{run}
 use Rattle.lp_model.specs.Branch.{Answer}
 use Rattle.lp_model.specs.Search.{look, start}
-use Rattle.lp_model.specs.Proofs.{AreFlattened, Declared}
-use Rattle.lp_model.specs.Answers.{Query, AnswerTyping, Instance, IsClosedInstance, IsInstance, IsWellFormed}
+use Rattle.lp_model.specs.Proofs.{AreFlattened, Declared, Leaves}
+use Rattle.lp_model.specs.Answers.{Query, AnswerTyping, Instance, IsClosedInstance, IsInstance, IsWellFormed, TypedAnswer}
 use Rattle.lp_search_laws.specs.Begun.{first_branch, first_typing}
 use Rattle.lp_search_laws.specs.Started.{IsTypedQuery, IsTypedSentence, IsProvableBy}
 use Rattle.lp_search_laws.specs.Failed.{IsFailedSearch}
-use Rattle.lp_search_laws.specs.Branches.{IsQueryInstance, SolvesBranch}
-use Rattle.lp_search_laws.proofs.Begins.{start_typed, program_typed, proves_it}
+use Rattle.lp_search_laws.specs.Branches.{IsQueryInstance, Sol, TypedTask, going, task_of}
+use Rattle.lp_search_laws.proofs.Begins.{start_typed, program_typed, proves_it, each_sentence}
+use Rattle.lp_search_laws.proofs.LooksRight.{each_look}
 use Rattle.lp_search_laws.proofs.WholeRight.{query_instance, an_instance}
-use Rattle.lp_search_laws.proofs.FailedSearches.{failed_setting, program_kept}
-use Rattle.lp_search_laws.proofs.SoundRuns.{sound_run}
+use Rattle.lp_search_laws.proofs.FailedSearches.{KeepsSame, setting_of, failed_same, program_kept}
+use Rattle.lp_search_laws.proofs.RefutedLeaves.{denied_leaf}
+use Rattle.lp_search_laws.proofs.Runs.{all_stay, run_right}
+use Rattle.lp_search_laws.proofs.Stack.Ends.{leaves_any}
 
-module _ (d : Declared) (std : IsStandard d) (l : ℕ) (F : List ClauseFormula) (P : List Clause) (s : EachOf (IsTypedSentence d) F) (x : AreFlattened d F P) (q : Query) (gs : Goals) (t : IsTypedQuery d q) (e : flatten_query l d q.formula ≡ Some gs) where
-  each_proved : (as' : List Answer) → EachOf (λ a. (y : AnswerTyping) × IsWellFormed d q y a × ((i : Instance) → IsQueryInstance d q i → IsInstance d y a i → SolvesBranch (IsFailedSearch d P) d P q i (first_typing q gs) (first_branch q.type_vars (length q.vars) gs))) as' →
-      EachOf (λ a. (y : AnswerTyping) × IsWellFormed d q y a × ((i : Instance) → IsClosedInstance d y a i → IsProvableBy (IsFailedSearch d P) d F q i)) as'
-  each_proved [] h = tt
-  each_proved (a ∷ as') h = (
-    (h.0.0, h.0.1, λ i c. proves_it d (failed_setting d P std) l q gs t e F P s x (program_kept d F P x) i (h.0.2 i (query_instance d q h.0.0 a i h.0.1 c) (an_instance d h.0.0 a i c))),
-    each_proved as' h.1,
+module _ {L : Leaves} (d : Declared) (std : IsStandard d) (same : KeepsSame L d) (l : ℕ) (F : List ClauseFormula) (P : List Clause) (s : EachOf (IsTypedSentence d) F) (x : AreFlattened d F P) (q : Query) (gs : Goals) (t : IsTypedQuery d q) (e : flatten_query l d q.formula ≡ Some gs) where
+  abbrev pub first : TypedTask
+  first = going (first_typing q gs) (first_branch q.type_vars (length q.vars) gs)
+
+  -- closed instances of answers
+  pub each_proved : (as' : List TypedAnswer) → EachOf (λ a. IsWellFormed d q a.typing a.answer) as' → EachOf (λ a. (i : Instance) → IsQueryInstance d q i → IsInstance d a.typing a.answer i → AnyOf (Sol L d P q i) (first ∷ [])) as' →
+      EachOf (λ a. (i : Instance) → IsClosedInstance d a.typing a.answer i → IsProvableBy L d F q i) as'
+  each_proved [] w h = tt
+  each_proved (a ∷ as') w h = (
+    (λ i c. elim (h.0 i (query_instance d q a.typing a.answer i w.0 c) (an_instance d a.typing a.answer i c)) [
+      | inl y ↦ proves_it d (setting_of d same std) l q gs t e F P s x (program_kept d same F P (each_sentence d F s) x) i y
+      | inr y ↦ absurd y
+    ]),
+    each_proved as' w.1 h.1,
   )
 
-  pub answers_sound : (n j m steps answers : ℕ) → EachOf (λ a. (y : AnswerTyping) × IsWellFormed d q y a × ((i : Instance) → IsClosedInstance d y a i → IsProvableBy (IsFailedSearch d P) d F q i)) (run (look unit_limit n P) j m (start q.type_vars (length q.vars) gs steps answers)).answers
-  answers_sound n j m steps answers = each_proved _ (sound_run n d std P (program_typed d std F P s x) q _ _ (start_typed d std l q gs t e n steps answers).1 j m steps answers)
+module _ (d : Declared) (std : IsStandard d) (l : ℕ) (F : List ClauseFormula) (P : List Clause) (s : EachOf (IsTypedSentence d) F) (x : AreFlattened d F P) (q : Query) (gs : Goals) (t : IsTypedQuery d q) (e : flatten_query l d q.formula ≡ Some gs) where
+  abbrev Fine : Answer → Type 0
+  Fine a = (y : AnswerTyping) × IsWellFormed d q y a × ((i : Instance) → IsClosedInstance d y a i → IsProvableBy (IsFailedSearch d P) d F q i)
+
+  each_fine : (as' : List TypedAnswer) → EachOf (λ a. IsWellFormed d q a.typing a.answer) as' → EachOf (λ a. (i : Instance) → IsClosedInstance d a.typing a.answer i → IsProvableBy (IsFailedSearch d P) d F q i) as' → EachOf Fine (map (λ a. a.answer) as')
+  each_fine [] w h = tt
+  each_fine (a ∷ as') w h = ((a.typing, w.0, h.0), each_fine as' w.1 h.1)
+
+  pub answers_sound : (n j m steps answers : ℕ) → EachOf Fine (run (look unit_limit n P) j m (start q.type_vars (length q.vars) gs steps answers)).answers
+  answers_sound n j m steps answers =
+      let first = going (first_typing q gs) (first_branch q.type_vars (length q.vars) gs) in
+      let same = failed_same d P in
+      let setting = setting_of d same std in
+      let r = run_right n d P q (IsFailedSearch d P) j (λ u. Unit {0}) (λ u. Unit {0}) (λ k. Unit {0}) (λ k. ⊥) (λ height T k. each_look n d setting P (program_typed d std F P s x) q height T k) (λ height T k m. all_stay (λ u. Unit {0}) (look unit_limit n P height (task_of T)) (leaves_any (look unit_limit n P height (task_of T)))) (λ y z k h. h) (λ y z k h. h)
+      (λ T u f ts r m st rows k p ns y o c cl. let z = denied_leaf n d P q j T u f ts r st rows k p ns y c cl in (z.leaf, z.fails)) (λ T u f ts r m st rows k p ns y o c cl z. o) m (start q.type_vars (length q.vars) gs steps answers) (first ∷ []) refl (((start_typed d std l q gs t e n steps answers).1, tt), tt) in
+      transport (EachOf Fine) r.is (each_fine r.typed r.well_formed (each_proved d std same l F P s x q gs t e r.typed r.well_formed (r.sound tt)))

@@ -64,6 +64,13 @@ goals_typed d std E V no_goals h = tt
 goals_typed d std E V (goals g no_goals) h = (h, tt)
 goals_typed d std E V (goals g (goals h gs)) w = let r = both_typed d E V 0 (formula_of_goal g) (formula_of_goals (goals h gs)) (connective d std 0 (omega arith)) w in (r.0, goals_typed d std E V (goals h gs) r.1)
 
+pub goals_together : (d : Declared) → IsStandard d → (E : List Ty) (V : List Variable) (gs : Goals) → EachOf (λ g. IsTyped d E V (formula_of_goal g) o_type) (goal_list gs) → IsTyped d E V (formula_of_goals gs) o_type
+goals_together d std E V no_goals h = record { typed = ap (scheme_type []) (std.at 6 (omega arith)); scoped = tt }
+goals_together d std E V (goals g no_goals) h = h.0
+goals_together d std E V (goals g (goals k gs)) h =
+    let r = goals_together d std E V (goals k gs) h.1 in
+    record { typed = (o_type, (o_type, connective d std 0 (omega arith), h.0.typed), r.typed); scoped = ((tt, h.0.scoped), r.scoped) }
+
 pub clauses_typed : (d : Declared) → IsStandard d → (E : List Ty) (V : List Variable) (cs : Clauses) → IsTyped d E V (formula_of_clauses cs) o_type → EachOf (λ c. IsTyped d E V (formula_of_clause c) o_type) (clause_list cs)
 clauses_typed d std E V no_clauses h = tt
 clauses_typed d std E V (clauses c no_clauses) h = (h, tt)

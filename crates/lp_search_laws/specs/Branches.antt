@@ -19,13 +19,13 @@ use Rattle.lp_model.specs.Pair.{Pair, Closing, closed}
 use Rattle.lp_model.specs.Flat.{Goal, Atomic, Cut, Either, Exists, Forall, Assume, Not, Goals, no_goals, goals, Clause, clause, Clauses, no_clauses, clauses, formula_of_goal, formula_of_goals, formula_of_clause, goal_list, Written}
 use Rattle.lp_model.specs.Proofs.{Declared, IsAtomHead, Leaves, Failure}
 use Rattle.lp_model.specs.Answers.{Query, Variable, AnswerTyping, Instance, Closes, AreWitnesses, IsInstance, IsWellFormed}
-use Rattle.lp_model.specs.Branch.{Entry, Branch, Answer, Task, Go, Try, Stop, Lack}
-use Rattle.lp_model.specs.Search.{with_goals, has_head}
+use Rattle.lp_model.specs.Branch.{both_written, Entry, Branch, Answer, Task, Go, Try, Stop, Lack}
+use Rattle.lp_model.specs.Search.{has_no_pairs, has_variables, with_goals, has_head}
 use Rattle.lp_unify_laws.specs.Solutions.{AreStuck}
 use Rattle.lp_search_laws.specs.Denials.{denied_branch, denied_task}
 use Rattle.lp_search_laws.specs.Holds.{Holds, IsTyped}
 use Rattle.lp_search_laws.specs.Clauses.{Serves, clauses_at, own_types}
-use Rattle.lp_search_laws.specs.Written.{IsWrittenClause, IsWrittenEntry}
+use Rattle.lp_search_laws.specs.Written.{IsOrigin, IsWrittenClause, IsWrittenEntry, IsWrittenPlace}
 
 -- goals and clauses: atoms are positive, type variables are below k
 
@@ -241,22 +241,42 @@ no_query = record { type_vars = 0; vars = []; formula = truth }
 abbrev pub denied_typing : List Variable → (E : List Ty) → Goals → BranchTyping
 denied_typing V E gs = record { answer = record { variables = V; pairs = [] }; eigens = map (λ g. E) (goal_list gs) }
 
--- of a negated goal: its search begins with a typed branch, over the same variables and of no query; what stands behind it is a typed branch; and where for each
--- closing of the variables a leaf stands for its goals, what is behind has only solutions of the task
-pub record DeniesTyped (L : Leaves) (n : ℕ) (d : Declared) (P : List Clause) (q : Query) (T : TypedTask) (u : Task) (ts : List Task) : Type 0 where
+-- a leaf stands for the goals as the closing makes them
+abbrev pub HasLeaf : Leaves → (P : List Clause) → Closing → (E : List Ty) → (assumed : List Clause) → Goals → Type 0
+HasLeaf L P c E A gs = (f : Failure) × L (map (instance c.types) E) (clauses_at P A c) (closed c (formula_of_goals gs)) f
+
+-- a solution of a task in which a negated goal stands: a leaf stands for its goals, and it solves what is behind
+pub record SolvesDenied (L : Leaves) (d : Declared) (P : List Clause) (q : Query) (i : Instance) (V : List Variable) (E : List Ty) (A : List Clause) (gs : Goals) (y : BranchTyping) (b : Branch) : Type 0 where
+  pub closing : Closing
+  pub closes : Closes d V closing
+  pub leaf : HasLeaf L P closing E A gs
+  pub rest : SolvesBranch L d P q i y b
+
+-- of a negated goal: what is written in its goals and in what is assumed there is tested; its search begins with a typed branch, over the same variables and of no
+-- query; what stands behind it is a typed branch; each solution of the task is one of what is behind, with a leaf for the goals; and where for each closing of the
+-- variables a leaf stands for its goals, what is behind has only solutions of the task
+pub record DeniesTyped (L : Leaves) (n : ℕ) (d : Declared) (P : List Clause) (q : Query) (T : TypedTask) (u : Task) (is_final : Answer → Bool) (ts : List Task) : Type 0 where
   pub variables : List Variable
   pub eigens : List Ty
   pub next_type : ℕ
   pub goals : Goals
+  pub own : Written
   pub assumed : List Clause
   pub written : Written
   pub is : u ≡ denied_task (length variables) next_type goals assumed written (length eigens)
+  pub final : is_final ≡ has_no_pairs
+  pub origin : IsOrigin own goals
+  pub place : IsWrittenPlace assumed written
+  pub tested : has_variables n (both_written own written) ≡ Some false
   pub begins : IsTypedBranch n d no_query (denied_typing variables eigens goals) (denied_branch (length variables) next_type goals assumed written (length eigens))
+  pub typed : IsTyped d eigens variables (formula_of_goals goals) o_type
+  pub assumed_typed : EachOf (λ c. IsTyped d eigens variables (formula_of_clause c) o_type) assumed
   pub rest_typing : BranchTyping
   pub rest : Branch
   pub goes_on : ts ≡ Go rest ∷ []
   pub after : IsTypedBranch n d q rest_typing rest
-  pub gives : ((c : Closing) → Closes d variables c → (f : Failure) × L (map (instance c.types) eigens) (clauses_at P assumed c) (closed c (formula_of_goals goals)) f) → (i : Instance) → SolvesBranch L d P q i rest_typing rest → Sol L d P q i T
+  pub keeps : (i : Instance) → Sol L d P q i T → SolvesDenied L d P q i variables eigens assumed goals rest_typing rest
+  pub gives : ((c : Closing) → Closes d variables c → HasLeaf L P c eigens assumed goals) → (i : Instance) → SolvesBranch L d P q i rest_typing rest → Sol L d P q i T
 
 -- an answer in its place
 pub record AnswersFor (L : Leaves) (d : Declared) (P : List Clause) (q : Query) (T : TypedTask) (a : Answer) : Type 0 where
@@ -272,7 +292,7 @@ IsRightView L n d P q T (Opens ts) = StandFor L n d P q T ts
 IsRightView L n d P q T (Parts ts) = StandFor L n d P q T ts
 IsRightView L n d P q T (Takes name ts) = StandFor L n d P q T ts
 IsRightView L n d P q T (Cuts m ts) = StandFor L n d P q T ts
-IsRightView L n d P q T (Denies t is_final ts) = DeniesTyped L n d P q T t ts
+IsRightView L n d P q T (Denies t is_final ts) = DeniesTyped L n d P q T t is_final ts
 IsRightView L n d P q T (Halts e) = e ≢ NoMore
 IsRightView L n d P q T Lacks = Unit {0}
 

@@ -7,8 +7,8 @@ use Rattle.lp_model.specs.Flat.{Clause}
 use Rattle.lp_model.specs.Flatten.{ClauseFormula}
 use Rattle.lp_model.specs.Branch.{Branch, Answer}
 use Rattle.lp_model.specs.Proofs.{Declared, Leaves}
-use Rattle.lp_model.specs.Answers.{Query, Instance, IsInstance, IsWellFormed, TypedAnswer}
-use Rattle.lp_search_laws.specs.Started.{IsPlainlyProvable}
+use Rattle.lp_model.specs.Answers.{Query, Instance, IsClosedInstance, IsInstance, IsWellFormed, TypedAnswer}
+use Rattle.lp_search_laws.specs.Started.{IsPlainlyProvable, IsProvableBy}
 use Rattle.lp_search_laws.specs.Branches.{BranchTyping, IsQueryInstance, SolvesBranch}
 
 -- the answers have typings under which each is well formed, each instance of the query that is one of an answer is provable, and after
@@ -19,6 +19,14 @@ pub record IsRightFor (d : Declared) (F : List ClauseFormula) (q : Query) (t : T
   pub well_formed : EachOf (λ a. IsWellFormed d q a.typing a.answer) typed
   pub sound : EachOf (λ a. (i : Instance) → IsQueryInstance d q i → IsInstance d a.typing a.answer i → IsPlainlyProvable d F q i) typed
   pub exhausts : t.ending ≡ Some NoMore → (i : Instance) → IsPlainlyProvable d F q i → AnyOf (λ a. IsInstance d a.typing a.answer i) typed
+
+-- the same with such leaves, of closed instances of the answers
+pub record IsRightBy (L : Leaves) (d : Declared) (F : List ClauseFormula) (q : Query) (t : Told Answer) : Type 0 where
+  pub typed : List TypedAnswer
+  pub is : map (λ a. a.answer) typed ≡ t.answers
+  pub well_formed : EachOf (λ a. IsWellFormed d q a.typing a.answer) typed
+  pub sound : EachOf (λ a. (i : Instance) → IsClosedInstance d a.typing a.answer i → IsProvableBy L d F q i) typed
+  pub exhausts : t.ending ≡ Some NoMore → (i : Instance) → IsProvableBy L d F q i → AnyOf (λ a. IsInstance d a.typing a.answer i) typed
 
 -- the same of a branch: its solutions in the place of provable instances
 pub record IsRightOf (L : Leaves) (d : Declared) (P : List Clause) (q : Query) (y : BranchTyping) (b : Branch) (t : Told Answer) : Type 0 where

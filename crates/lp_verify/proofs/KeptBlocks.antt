@@ -46,7 +46,7 @@ end_is [] (Some f) e = absurd (cc)
 end_is (f ∷ fs) None e = absurd (cc)
 end_is (f ∷ fs) (Some g) e = let h : f ≡ g = cc in ap (λ (f : Frame). f.first_end) h
 
-pub none_is : (o : Option Frame) (b : Bool) → is_some o ≡ not b → b ≡ is_none o
+pub none_is : {A : Type 0} (o : Option A) (b : Bool) → is_some o ≡ not b → b ≡ is_none o
 none_is None true e = refl
 none_is None false e = absurd (cc)
 none_is (Some f) true e = absurd (cc)

@@ -3,6 +3,10 @@ mod Entries
 mod Sides
 mod KeptBlocks
 mod Places
+mod Members
+mod SavedRegisters
+mod KeptRegisters
+mod HandedOn
 mod Outlines
 mod Joined
 mod KeyLaws

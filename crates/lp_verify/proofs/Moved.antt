@@ -1,37 +1,46 @@
 -- A record at work moves as the state of the definition does.
-use Rattle.std.proofs.Common.{◌≡◌, ◌∙◌, ◌≤◌, ◌<◌, ℕ, zero, suc, ◌+◌, List, [], ◌∷◌, ◌++◌, map, length, reverse, append_assoc, zero-add, Bool, true, false, Option, Some, None, ap, refl, sym, subst, arith, inl, inr}
+use Rattle.std.proofs.Common.{◌≡◌, ◌∙◌, ◌≤◌, ◌<◌, ℕ, suc, ◌+◌, List, [], ◌∷◌, ◌++◌, map, length, reverse, append_assoc, zero-add, Bool, true, false, Option, Some, None, ap, refl, sym, subst, arith}
 use Rattle.std.specs.BTreeMap.{BTreeMap, get}
-use Rattle.std.specs.Prelude.{nat_eq, nat_lt, nat_le, not, ◌||◌, ◌&&◌, ◌^◌, if◌then◌else◌}
+use Rattle.std.specs.Prelude.{nat_eq, nat_le, not, ◌||◌, ◌&&◌, ◌^◌, if◌then◌else◌, slice_get}
+use Rattle.std.specs.Ordering.{nat_cmp}
+use Rattle.std.specs.List.{list_any}
+use Rattle.std.proofs.lemmas.Bool.{ne_eqb}
 use Rattle.lp_lemmas.proofs.Lists.{append_nil_sym}
-use Rattle.std.proofs.lemmas.Bool.{ne_eqb, lt-ltb, le-ltb, ltb-true, ltb-false, eqb-true, eqb-false}
-use Rattle.lp_lemmas.proofs.Numbers.{equal_or_above}
+use Rattle.lp_lemmas.proofs.Booleans.{or_false_left, or_false_right}
 use Rattle.lp_code.specs.declared.instruction.Instr.{Instr}
 use Rattle.lp_code.specs.declared.instruction.Instr.TheVariants as on
 use Rattle.lp_code.specs.declared.rule.Rule.{Rule}
 use Rattle.lp_code.specs.declared.rule.Rule.TheVariants as rule
-use Rattle.lp_code.specs.Length.{length_of}
-use Rattle.lp_code.specs.Operands.{type_set, term_set}
+use Rattle.lp_code.specs.Length.{length_of, Fits}
+use Rattle.lp_code.specs.Operands.{types_read, terms_read, type_set, term_set}
 use Rattle.lp_code.specs.States.{State, Home, Captured, member}
 use Rattle.lp_code.specs.Steps.{after}
-use Rattle.lp_code.specs.Rules.{breaks_set, breaks_register, breaks_term, breaks_nesting, has_none, is_passed, named_before, names_of}
-use Rattle.lp_code.specs.Denote.{Done, Broken, first_broken, broken_by_record, broken_by, broken_of, unless_broken, run_on, run_of, any_clause, first_state, from_zero}
+use Rattle.lp_code.specs.Rules.{breaks_set, breaks_unset, breaks_register, breaks_term, breaks_nesting, has_none, is_passed, named_before, names_of}
+use Rattle.lp_code.specs.Denote.{Done, Broken, first_broken, broken_by_record, broken_by, broken_of, unless_broken, run_on, run_of, any_clause, first_state, started, captured_of}
+use Rattle.lp_verify.specs.declared.record.Captured as kept_captured
 use Rattle.lp_verify.specs.declared.record.Work.{Work}
 use Rattle.lp_verify.specs.declared.whole.Whole.{Whole}
 use Rattle.lp_verify.specs.declared.head.HeadSoFar.{HeadSoFar}
-use Rattle.lp_verify.specs.Held.{was_set}
+use Rattle.lp_verify.specs.declared.registers.Registers.{Registers}
+use Rattle.lp_verify.specs.declared.blocks.Block as kept
+use Rattle.lp_verify.specs.Held.{was_set, is_lacking}
 use Rattle.lp_verify.specs.Named.{was_named, HasNamed}
 use Rattle.lp_verify.specs.Judged.{judged, bytes_of}
 use Rattle.lp_verify.specs.inner.Outline.{Outline, outline, arguments_behind, types_behind, body_behind, outline_behind}
-use Rattle.lp_verify.specs.inner.Told.{breaks, told, broken_whole, breaks_blocks, IsFirst, is_out_of_order}
-use Rattle.std.specs.Ordering.{nat_cmp}
-use Rattle.std.specs.List.{list_any}
+use Rattle.lp_verify.specs.inner.Told.{breaks, told, broken_whole, breaks_blocks, reaches_past, sets_again, names_badly, IsFirst, is_out_of_order}
+use Rattle.lp_verify.specs.inner.Made.{type_made, term_made}
+use Rattle.lp_verify.specs.inner.Stack.{type_heights, term_heights, saved_of, stack_of, types_in_stack, terms_in_stack, stack_settled, IsStack, IsStacked, IsSettled, IsStackRun}
+use Rattle.lp_verify.specs.inner.Handed.{SameType, SameTerm, captured_in, types_captured, terms_captured, IsNamed, assumption_of, IsHandedOn, handed_on, AreHanded}
 use Rattle.lp_verify.specs.inner.At.{home_in, IsAt, IsRun, IsActed, IsStarted, IsJudgedWhole, IsWhole, IsNoWhole, IsRan, AreNamedBefore, NamedAt, Past, GoesOn}
-use Rattle.lp_verify.specs.inner.Sides.{sides_in, sides_acted, sides_settled, is_past, is_turn, starts_from, nests_badly, first_end_of, AreEnds, HasPlaces}
-use Rattle.lp_verify.proofs.Outlines.{behind, comes_behind, outline_is, named_with_is, sides_are}
+use Rattle.lp_verify.specs.inner.Sides.{sides_in, sides_of, sides_run, sides_acted, sides_settled, is_past, is_turn, starts_from, nests_badly, first_end_of, AreEnds, HasPlaces}
+use Rattle.lp_verify.proofs.Members.{member_append, from_zero_has, started_length}
+use Rattle.lp_verify.proofs.Outlines.{behind, comes_behind, Nests, outline_is, with_more_is, sides_are, types_stack_is, terms_stack_is}
 use Rattle.lp_verify.proofs.Sides.{same_past}
 use Rattle.lp_verify.proofs.KeptBlocks.{past_is}
+use Rattle.lp_verify.proofs.KeptRegisters.{run_ever, stack_runs, same_lacking, same_values, stack_begins}
+use Rattle.lp_verify.proofs.HandedOn.{named_has, hands_on, few_captured}
 use Rattle.lp_verify.proofs.Places.{some_bytes, starts_behind, same_nesting, ran_acted, last_is, turn_there, bytes_more}
-use Rattle.lp_verify.proofs.Joined.{first_none, first_some, first_same, or_false, same_sets, same_counts, same_order, same_names}
+use Rattle.lp_verify.proofs.Joined.{first_none, first_some, first_same, or_false, same_reads, same_sets, same_counts, same_order, same_names}
 
 more_arguments : (i : Instr) (m : ℕ) → arguments_behind i m ≤ m + length_of i
 more_arguments (on.TyCon d k ts) m = omega arith
@@ -71,47 +80,85 @@ more_arguments on.Proceed m = omega arith
 more_arguments on.Not m = omega arith
 more_arguments on.EndNot m = omega arith
 
-pub member_append : (r : ℕ) (xs ys : List ℕ) → member r (xs ++ ys) ≡ (member r xs || member r ys)
-member_append r [] ys = refl
-member_append r (x ∷ xs) ys = also (nat_eq r x) (member_append r xs ys)
-  where
-    also : (b : Bool) → member r (xs ++ ys) ≡ (member r xs || member r ys) → (b || member r (xs ++ ys)) ≡ ((b || member r xs) || member r ys)
-    also true h = refl
-    also false h = h
-
 -- the records that were named behind an instruction
 named_on : (h : Home) (s : State) (i : Instr) (m n : BTreeMap ℕ ℕ) → NamedAt h s m → HasNamed (names_of i) m n → NamedAt h (behind h s i) n
 named_on h s i m n a r = λ k.
     let before = named_before h.number h.records in
     let now = map (λ (a : ℕ × Captured). a.0) s.assumed in
-    let o : map (λ a. a.0) (behind h s i).assumed ≡ now ++ names_of i = ap (λ (o : Outline). o.named) (outline_is h s i) ∙ named_with_is now (names_of i) in
+    let o : map (λ a. a.0) (behind h s i).assumed ≡ now ++ names_of i = ap (λ (o : Outline). o.named) (outline_is h s i) ∙ with_more_is now (names_of i) in
     r k ∙ ap (λ b. b || member k (names_of i)) (a k) ∙ sym (member_append k (before ++ now) (names_of i)) ∙ ap (member k) (append_assoc before now (names_of i) ∙ sym (ap (λ l. before ++ l) o))
 
 -- the state behind an instruction that was run
-or_first : (a b : Bool) → (a || b) ≡ false → a ≡ false
-or_first true b h = h
-or_first false b h = refl
+-- of a list put together, what holds of none holds of none behind
+none_behind : (f : ℕ → Bool) (xs ys : List ℕ) → list_any f (xs ++ ys) ≡ false → list_any f ys ≡ false
+none_behind f [] ys h = h
+none_behind f (x ∷ xs) ys h = none_behind f xs ys (or_false_right (f x) (list_any f (xs ++ ys)) h)
 
-or_second : (a b : Bool) → (a || b) ≡ false → b ≡ false
-or_second true b h = absurd (cc)
-or_second false b h = h
+types_low : (m n : ℕ) (i : Instr) → reaches_past m n i ≡ false → list_any (nat_le m) (type_set i) ≡ false
+types_low m n i h = none_behind (nat_le m) (types_read i) (type_set i) (or_false_left (list_any (nat_le m) (types_read i ++ type_set i)) (list_any (nat_le n) (terms_read i ++ term_set i)) h)
 
-pub moved : (h : Home) (s : State) (i : Instr) (w v : Work) → IsAt w s → breaks_blocks w i ≡ false → IsRun i w v → s.place + length_of i < 2 ^ 33 → IsAt v (behind h s i)
-moved h s i w v a fine r small =
-    let o : outline (behind h s i) ≡ outline_behind i (outline s) = outline_is h s i in
+terms_low : (m n : ℕ) (i : Instr) → reaches_past m n i ≡ false → list_any (nat_le n) (term_set i) ≡ false
+terms_low m n i h = none_behind (nat_le n) (terms_read i) (term_set i) (or_false_right (list_any (nat_le m) (types_read i ++ type_set i)) (list_any (nat_le n) (terms_read i ++ term_set i)) h)
+
+-- the rules that a record at work needs to go on
+pub record MayRun (w : Work) (i : Instr) : Type 0 where
+  pub low : reaches_past w.home.record.now.types w.home.record.now.registers i ≡ false
+  pub fresh : sets_again (was_set w.types) (was_set w.terms) i ≡ false
+  pub nested : breaks_blocks w i ≡ false
+
+nests : (s : State) (i : Instr) (w : Work) → IsAt w s → breaks_blocks w i ≡ false → Nests i s
+nests s i w a fine =
+    let code = w.home.record.now.code.items in
+    let kept = or_false_right (nat_le (first_end_of (reverse w.blocks.frames.items)) w.place) (nests_badly w.place (get nat_cmp w.places.jumps) (nat_eq (w.number + 1) (length code)) (sides_in w.blocks.frames.items) i) fine in
+    subst (λ ss. sides_run i s.place ss ≡ sides_acted i s.place ss) a.sides_are
+    (subst (λ p. sides_run i p (sides_in w.blocks.frames.items) ≡ sides_acted i p (sides_in w.blocks.frames.items)) a.place_is (ran_acted i w.place (get nat_cmp w.places.jumps) (nat_eq (w.number + 1) (length code)) (sides_in w.blocks.frames.items) kept))
+
+-- a stack at an offset and below sides that are equal to others
+stack_moved : {A : Type 0} (i : Instr) (p q : ℕ) (ss ts : List kept.Block) (xs : List A) → p ≡ q → ss ≡ ts → stack_settled (p + length_of i) (sides_run i p ss) xs ≡ stack_settled (q + length_of i) (sides_run i q ts) xs
+stack_moved i p q ss ts xs e f = λ j. stack_settled (e j + length_of i) (sides_run i (e j) (f j)) xs
+
+types_moved : (h : Home) (s : State) (i : Instr) (w v : Work) → IsAt w s → MayRun w i → IsRun i w v → w.place + length_of i < 2 ^ 63 → IsStack SameType v.home.record.now.types v.types (type_heights (reverse v.blocks.frames.items)) (types_in_stack (stack_of (behind h s i)))
+types_moved h s i w v a may r small =
+    let x = r.types_run small in
+    let n = w.home.record.now.types in
+    let ks = type_heights (reverse v.blocks.frames.items) in
+    let ran =
+    stack_runs SameType n i (type_set i) (w.place + length_of i) (sides_run i w.place (sides_in w.blocks.frames.items)) (type_heights (reverse w.blocks.frames.items)) ks w.types v.types (types_in_stack (stack_of s)) (type_made h s i) (types_low n w.home.record.now.registers i may.low)
+    (or_false_left (list_any (was_set w.types) (type_set i)) (list_any (was_set w.terms) (term_set i)) may.fresh) a.types_stand x tt in
+    subst (λ m. IsStack SameType m v.types ks (types_in_stack (stack_of (behind h s i)))) (sym (ap (λ h. h.record.now.types) r.home_stays))
+    (subst (IsStack SameType n v.types ks) (stack_moved i w.place s.place (sides_in w.blocks.frames.items) (sides_of s.frames) _ a.place_is a.sides_are ∙ sym (types_stack_is h s i (nests s i w a may.nested))) ran)
+
+terms_moved : (h : Home) (s : State) (i : Instr) (w v : Work) → IsAt w s → MayRun w i → IsRun i w v → w.place + length_of i < 2 ^ 63
+    → IsStack SameTerm v.home.record.now.registers v.terms (term_heights (reverse v.blocks.frames.items)) (terms_in_stack (stack_of (behind h s i)))
+terms_moved h s i w v a may r small =
+    let x = r.terms_run small in
+    let n = w.home.record.now.registers in
+    let ks = term_heights (reverse v.blocks.frames.items) in
+    let ran =
+    stack_runs SameTerm n i (term_set i) (w.place + length_of i) (sides_run i w.place (sides_in w.blocks.frames.items)) (term_heights (reverse w.blocks.frames.items)) ks w.terms v.terms (terms_in_stack (stack_of s)) (term_made h s i) (terms_low w.home.record.now.types n i may.low)
+    (or_false_right (list_any (was_set w.types) (type_set i)) (list_any (was_set w.terms) (term_set i)) may.fresh) a.terms_stand x tt in
+    subst (λ m. IsStack SameTerm m v.terms ks (terms_in_stack (stack_of (behind h s i)))) (sym (ap (λ h. h.record.now.registers) r.home_stays))
+    (subst (IsStack SameTerm n v.terms ks) (stack_moved i w.place s.place (sides_in w.blocks.frames.items) (sides_of s.frames) _ a.place_is a.sides_are ∙ sym (terms_stack_is h s i (nests s i w a may.nested))) ran)
+
+pub moved : (h : Home) (s : State) (i : Instr) (w v : Work) → IsAt w s → MayRun w i → IsRun i w v → s.place + length_of i < 2 ^ 33 → IsAt v (behind h s i)
+moved h s i w v a may r small =
+    let o : outline (behind h s i) ≡ outline_behind i (handed_on s (assumption_of i)) (outline s) = outline_is h s i in
     let p : w.place ≡ s.place = a.place_is in
     let few : length s.head_arguments ≤ s.place = a.few_arguments in
     let some = some_bytes i in
     let fewer = a.few_instructions in
-    let code = w.home.record.now.code.items in
-    let kept = or_second (nat_le (first_end_of (reverse w.blocks.frames.items)) w.place) (nests_badly w.place (get nat_cmp w.places.jumps) (nat_eq (w.number + 1) (length code)) (sides_in w.blocks.frames.items) i) fine in
+    let less : w.place + length_of i < 2 ^ 63 = omega (arith, small, p) in
+    let tr = r.types_run less in
+    let rr = r.terms_run less in
     record {
       place_is = r.place_moves (omega (arith, small, p)) ∙ ap (λ n. n + length_of i) p ∙ sym (ap (λ (o : Outline). o.place) o);
       body_is = r.body_is ∙ ap (body_behind i) a.body_is ∙ sym (ap (λ (o : Outline). o.in_body) o);
       types_are = r.types_are ∙ ap (types_behind i) a.types_are ∙ sym (ap (λ (o : Outline). o.types) o);
       arguments_are = r.arguments_are (omega (arith, small, few, a.arguments_are)) ∙ ap (arguments_behind i) a.arguments_are ∙ sym (ap (λ (o : Outline). o.arguments) o);
-      types_set = λ n. r.types_set n ∙ ap (λ b. b || member n (type_set i)) (a.types_set n) ∙ sym (member_append n s.types_set (type_set i)) ∙ sym (ap (λ (o : Outline). member n o.types_set) o);
-      terms_set = λ n. r.terms_set n ∙ ap (λ b. b || member n (term_set i)) (a.terms_set n) ∙ sym (member_append n s.terms_set (term_set i)) ∙ sym (ap (λ (o : Outline). member n o.terms_set) o);
+      types_set = λ n. run_ever i (type_set i) _ _ _ _ w.types v.types tr n ∙ ap (λ b. b || member n (type_set i)) (a.types_set n) ∙ sym (member_append n s.types_set (type_set i)) ∙ sym (ap (λ (o : Outline). member n o.types_set) o);
+      terms_set = λ n. run_ever i (term_set i) _ _ _ _ w.terms v.terms rr n ∙ ap (λ b. b || member n (term_set i)) (a.terms_set n) ∙ sym (member_append n s.terms_set (term_set i)) ∙ sym (ap (λ (o : Outline). member n o.terms_set) o);
+      types_stand = types_moved h s i w v a may r less;
+      terms_stand = terms_moved h s i w v a may r less;
       few_arguments =
           let m : arguments_behind i (length s.head_arguments) ≤ length s.head_arguments + length_of i = more_arguments i (length s.head_arguments) in
           let e : length (behind h s i).head_arguments ≡ arguments_behind i (length s.head_arguments) = ap (λ (o : Outline). o.arguments) o in
@@ -122,8 +169,8 @@ moved h s i w v a fine r small =
           let n = r.number_moves (omega (arith, fewer, small)) in
           omega (arith, n, q, fewer, some);
       sides_are =
-          r.sides_move (omega (arith, small, p)) ∙ ap (sides_settled (w.place + length_of i)) (ran_acted i w.place (get nat_cmp w.places.jumps) (nat_eq (w.number + 1) (length code)) (sides_in w.blocks.frames.items) kept)
-          ∙ (λ j. sides_settled (p j + length_of i) (sides_acted i (p j) (a.sides_are j))) ∙ sym (sides_are h s i);
+          let fit = nests s i w a may.nested in
+          r.sides_move (omega (arith, small, p)) ∙ (λ j. sides_settled (p j + length_of i) (sides_run i (p j) (a.sides_are j))) ∙ ap (sides_settled (s.place + length_of i)) fit ∙ sym (sides_are h s i);
       ends_are = r.ends_stay a.ends_are;
     }
 
@@ -145,25 +192,32 @@ run_on_past h all i is s w v b a r small =
     }
 
 -- an instruction that was acted on is passed, and right sides that end there are left
+settled_there : {T : Type 0} (i : Instr) (ds : List ℕ) (p q : ℕ) (ss ts : List kept.Block) (hs ks : List ℕ) (js : List ℕ) (old mid new : Registers T)
+    → q ≡ p + length_of i → ts ≡ sides_run i p ss → IsStacked i ds hs old js mid → IsSettled q ts js mid ks new → IsStackRun i ds (p + length_of i) (sides_run i p ss) hs old ks new
+settled_there i ds p q ss ts hs ks js old mid new e f x y = record { heights = js; made = mid; stacked = x; settled = subst (λ n. IsSettled n (sides_run i p ss) js mid ks new) e (subst (λ l. IsSettled q l js mid ks new) f y) }
+
 pub passed_on : (i : Instr) (old mid new : Work) → IsActed i old mid → new.home ≡ mid.home → new.places ≡ mid.places → (mid.place + length_of i < 2 ^ 64 → new.place ≡ mid.place + length_of i) → (mid.number + 1 < 2 ^ 64 → new.number ≡ mid.number + 1)
     → sides_in new.blocks.frames.items ≡ sides_settled new.place (sides_in mid.blocks.frames.items) → (AreEnds (reverse mid.blocks.frames.items) → AreEnds (reverse new.blocks.frames.items)) → new.in_body ≡ mid.in_body → new.head ≡ mid.head
-    → ((r : ℕ) → was_set new.types r ≡ was_set mid.types r) → ((r : ℕ) → was_set new.terms r ≡ was_set mid.terms r) → IsRun i old new
-passed_on i old mid new a home places place number sides ends body head types terms = record {
-  home_stays = home ∙ a.home_stays;
-  places_stay = places ∙ a.places_stay;
-  number_moves = λ h. number (subst (λ p. p + 1 < 2 ^ 64) (sym a.number_stays) h) ∙ ap (λ p. p + 1) a.number_stays;
-  sides_move = λ h.
-      let l = length_of i in
-      let p : new.place ≡ old.place + l = place (subst (λ p. p + l < 2 ^ 64) (sym a.place_stays) (omega (arith, h))) ∙ ap (λ p. p + l) a.place_stays in
-      sides ∙ (λ j. sides_settled (p j) (a.sides_act (omega (arith, h)) j));
-  ends_stay = λ h. ends (a.ends_stay h);
-  place_moves = λ h. place (subst (λ p. p + length_of i < 2 ^ 64) (sym a.place_stays) h) ∙ ap (λ p. p + length_of i) a.place_stays;
-  body_is = body ∙ a.body_is;
-  types_are = ap (λ (x : HeadSoFar). length x.types.items) head ∙ a.types_are;
-  arguments_are = λ h. ap (λ (x : HeadSoFar). x.arguments) head ∙ a.arguments_are h;
-  types_set = λ r. types r ∙ a.types_set r;
-  terms_set = λ r. terms r ∙ a.terms_set r;
-}
+    → IsSettled new.place (sides_in mid.blocks.frames.items) (type_heights (reverse mid.blocks.frames.items)) mid.types (type_heights (reverse new.blocks.frames.items)) new.types
+    → IsSettled new.place (sides_in mid.blocks.frames.items) (term_heights (reverse mid.blocks.frames.items)) mid.terms (term_heights (reverse new.blocks.frames.items)) new.terms → IsRun i old new
+passed_on i old mid new a home places place number sides ends body head types terms =
+    let l = length_of i in
+    let at : old.place + l < 2 ^ 63 → new.place ≡ old.place + l = λ h. place (subst (λ p. p + l < 2 ^ 64) (sym a.place_stays) (omega (arith, h))) ∙ ap (λ p. p + l) a.place_stays in
+    record {
+      home_stays = home ∙ a.home_stays;
+      places_stay = places ∙ a.places_stay;
+      number_moves = λ h. number (subst (λ p. p + 1 < 2 ^ 64) (sym a.number_stays) h) ∙ ap (λ p. p + 1) a.number_stays;
+      sides_move = λ h. let p = at h in sides ∙ (λ j. sides_settled (p j) (a.sides_act (omega (arith, h)) j));
+      ends_stay = λ h. ends (a.ends_stay h);
+      place_moves = λ h. place (subst (λ p. p + length_of i < 2 ^ 64) (sym a.place_stays) h) ∙ ap (λ p. p + length_of i) a.place_stays;
+      body_is = body ∙ a.body_is;
+      types_are = ap (λ (x : HeadSoFar). length x.types.items) head ∙ a.types_are;
+      arguments_are = λ h. ap (λ (x : HeadSoFar). x.arguments) head ∙ a.arguments_are h;
+      types_run = λ h.
+          settled_there i (type_set i) old.place new.place (sides_in old.blocks.frames.items) (sides_in mid.blocks.frames.items) (type_heights (reverse old.blocks.frames.items)) (type_heights (reverse new.blocks.frames.items)) (type_heights (reverse mid.blocks.frames.items)) old.types mid.types new.types (at h) (a.sides_act (omega (arith, h))) a.types_act types;
+      terms_run = λ h.
+          settled_there i (term_set i) old.place new.place (sides_in old.blocks.frames.items) (sides_in mid.blocks.frames.items) (term_heights (reverse old.blocks.frames.items)) (term_heights (reverse new.blocks.frames.items)) (term_heights (reverse mid.blocks.frames.items)) old.terms mid.terms new.terms (at h) (a.sides_act (omega (arith, h))) a.terms_act terms;
+    }
 
 -- the record is judged before its first instruction, and else only the instruction is
 both_false : (w b : Bool) → w ≡ false → b ≡ (w || b)
@@ -194,6 +248,8 @@ same_broken s w m x all i is a past short small names b =
     let t : Bool = nat_eq s.place 0 in
     broken_at t (broken_by_record h s) (broken_by h s is i) ∙ sym (first_same (breaks (told w (was_named m) x i)) (λ r. (t && broken_by_record h s r) || broken_by h s is i r)
     (ap (λ v. v || breaks_register h s i) b.register_is)
+    (same_reads (is_lacking w.types) (is_lacking w.terms) s i (same_lacking SameType w.home.record.now.types w.types (type_heights (reverse w.blocks.frames.items)) s.now.types (types_in_stack (saved_of s.frames)) a.types_stand)
+    (same_lacking SameTerm w.home.record.now.registers w.terms (term_heights (reverse w.blocks.frames.items)) s.now.terms (terms_in_stack (saved_of s.frames)) a.terms_stand) ∙ no_more t (breaks_unset s i))
     (same_sets (was_set w.types) (was_set w.terms) s i a.types_set a.terms_set ∙ no_more t (breaks_set s i))
     ((λ j. b.constant_is j || same_counts h i j))
     (no_more t (breaks_term i))
@@ -210,19 +266,45 @@ same_broken s w m x all i is a past short small names b =
 first_passes : (place n : ℕ) → 1 ≤ n → nat_eq (place + n) 0 ≡ false
 first_passes place n h = ne_eqb (place + n) 0 (λ e. omega (arith, h, e))
 
-one_more : (c : Captured) (all : List Instr) (i : Instr) (is : List Instr) (w v : Work) (m n : BTreeMap ℕ ℕ) (x y : Whole) → bytes_of all < 2 ^ 32
-    → GoesOn (home_in w.home) c all (i ∷ is) w m x → IsFirst (told w (was_named m) x i) None → IsRun i w v → HasNamed (names_of i) m n → IsNoWhole y → GoesOn (home_in w.home) c all is v n y
-one_more c all i is w v m n x y short g f r names clean =
+-- what a step tells: the rules are kept, the instruction was run, its records were named, and what they start with was handed on
+pub record Steps (i : Instr) (w v : Work) (hs ks : List kept_captured.Captured) (m n : BTreeMap ℕ ℕ) (x y : Whole) : Type 0 where
+  pub fits : Fits i
+  pub kept : IsFirst (told w (was_named m) x i) None
+  pub runs : IsRun i w v
+  pub names : IsNamed (names_of i) (length hs) m n
+  pub hands : IsHandedOn (assumption_of i) w.types w.terms hs ks
+  pub clean : IsNoWhole y
+
+handed_behind : (h : Home) (s : State) (i : Instr) (before : List (ℕ × Captured)) → before ++ (behind h s i).assumed ≡ (before ++ s.assumed) ++ handed_on s (assumption_of i)
+handed_behind h s i before =
+    ap (λ l. before ++ l) (ap (λ (o : Outline). o.assumed) (outline_is h s i) ∙ with_more_is s.assumed (handed_on s (assumption_of i))) ∙ sym (append_assoc before s.assumed (handed_on s (assumption_of i)))
+
+one_more : (before : List (ℕ × Captured)) (all : List Instr) (i : Instr) (is : List Instr) (w v : Work) (hs ks : List kept_captured.Captured) (m n : BTreeMap ℕ ℕ) (x y : Whole) → bytes_of all < 2 ^ 32
+    → GoesOn (home_in w.home) before all (i ∷ is) w hs m x → Steps i w v hs ks m n x y → GoesOn (home_in w.home) before all is v ks n y
+one_more before all i is w v hs ks m n x y short g t =
     let h = home_in w.home in
     let s = g.0 in
+    let r = t.runs in
+    let f = t.kept in
+    let clean = t.clean in
     let count : s.place + (length_of i + bytes_of is) ≡ bytes_of all = g.3 in
     let place : (behind h s i).place ≡ s.place + length_of i = ap (λ (o : Outline). o.place) (outline_is h s i) in
     let small : s.place + length_of i < 2 ^ 33 = omega (arith, short, count) in
     let fine = same_broken s w m x all i is g.2 g.6 short (omega (arith, small)) g.5 g.4 ∙ first_none (told w (was_named m) x i) f in
-    let past : nat_eq (behind h s i).place 0 ≡ false = ap (λ n. nat_eq n 0) place ∙ first_passes s.place (length_of i) (some_bytes i) in (
+    let past : nat_eq (behind h s i).place 0 ≡ false = ap (λ n. nat_eq n 0) place ∙ first_passes s.place (length_of i) (some_bytes i) in
+    let may : MayRun w i =
+    record {
+      low = or_false_right x.register (reaches_past w.home.record.now.types w.home.record.now.registers i) f.0.0;
+      fresh = f.0.2;
+      nested = or_false_right x.block (breaks_blocks w i) f.3;
+    } in
+    let a = g.2 in
+    let same_types = λ (k : ℕ). same_values SameType w.home.record.now.types w.types (type_heights (reverse w.blocks.frames.items)) s.now.types (types_in_stack (saved_of s.frames)) a.types_stand k in
+    let same_terms = λ (k : ℕ). same_values SameTerm w.home.record.now.registers w.terms (term_heights (reverse w.blocks.frames.items)) s.now.terms (terms_in_stack (saved_of s.frames)) a.terms_stand k in
+    let handed = hands_on h.records h.number h.self.program w.types w.terms s (before ++ s.assumed) hs ks m n same_types same_terms i g.7 t.fits (or_false_right x.clause (names_badly h.number h.records h.self.program (was_named m) i) f.4) f.0.1 t.names t.hands in (
       behind h s i,
       g.1 ∙ ap (λ o. unless_broken o s.place (run_on (λ t. run_of judged h any_clause t is) (after h any_clause s i))) fine ∙ ap (run_on (λ t. run_of judged h any_clause t is)) (comes_behind h s i),
-      moved h s i w v g.2 (or_second x.block (breaks_blocks w i) f.3) r small,
+      moved h s i w v a may r small,
       omega (arith, place, count),
       record {
         register_is = clean.0 ∙ sym (ap (λ t. t && broken_by_record h (behind h s i) rule.Register) past);
@@ -232,25 +314,27 @@ one_more c all i is w v m n x y short g f r names clean =
         clause_is = clean.4 ∙ sym (ap (λ t. t && broken_by_record h (behind h s i) rule.Clause) past);
         key_is = clean.5 ∙ sym (ap (λ t. t && broken_by_record h (behind h s i) rule.Key) past);
       },
-      named_on h s i m n g.5 names,
-      run_on_past h all i is s w v g.6 g.2 r small,
+      named_on h s i m n g.5 (named_has (names_of i) (length hs) m n t.names),
+      run_on_past h all i is s w v g.6 a r small,
+      subst (AreHanded h.records ks n) (sym (handed_behind h s i before)) handed,
     )
 
 -- the offset and the number of the next instruction are small
-pub stands_low : (h : Home) (c : Captured) (all : List Instr) (i : Instr) (is : List Instr) (w : Work) (m : BTreeMap ℕ ℕ) (x : Whole) → bytes_of all < 2 ^ 32 → GoesOn h c all (i ∷ is) w m x → (w.place < 2 ^ 63) × (w.number < 2 ^ 63)
-stands_low h c all i is w m x short g =
+pub stands_low : (h : Home) (before : List (ℕ × Captured)) (all : List Instr) (i : Instr) (is : List Instr) (w : Work) (hs : List kept_captured.Captured) (m : BTreeMap ℕ ℕ) (x : Whole) → bytes_of all < 2 ^ 32 → GoesOn h before all (i ∷ is) w hs m x → (w.place < 2 ^ 63) × (w.number < 2 ^ 63)
+stands_low h before all i is w hs m x short g =
     let p = g.2.place_is in
     let few = g.2.few_instructions in
     let count : g.0.place + (length_of i + bytes_of is) ≡ bytes_of all = g.3 in
     (omega (arith, short, count, p), omega (arith, short, count, few))
 
-pub goes_on : (h : Home) (c : Captured) (all : List Instr) (i : Instr) (is : List Instr) (w v : Work) (m n : BTreeMap ℕ ℕ) (x y : Whole) → home_in w.home ≡ h → bytes_of all < 2 ^ 32
-    → GoesOn h c all (i ∷ is) w m x → IsFirst (told w (was_named m) x i) None → IsRun i w v → HasNamed (names_of i) m n → IsNoWhole y → GoesOn h c all is v n y
-goes_on h c all i is w v m n x y e short = subst (λ h. GoesOn h c all (i ∷ is) w m x → IsFirst (told w (was_named m) x i) None → IsRun i w v → HasNamed (names_of i) m n → IsNoWhole y → GoesOn h c all is v n y) e (one_more c all i is w v m n x y short)
+pub goes_on : (h : Home) (before : List (ℕ × Captured)) (all : List Instr) (i : Instr) (is : List Instr) (w v : Work) (hs ks : List kept_captured.Captured) (m n : BTreeMap ℕ ℕ) (x y : Whole) → home_in w.home ≡ h → bytes_of all < 2 ^ 32
+    → GoesOn h before all (i ∷ is) w hs m x → Steps i w v hs ks m n x y → GoesOn h before all is v ks n y
+goes_on h before all i is w v hs ks m n x y e short = subst (λ h. GoesOn h before all (i ∷ is) w hs m x → Steps i w v hs ks m n x y → GoesOn h before all is v ks n y) e (one_more before all i is w v hs ks m n x y short)
 
-refused_at : (c : Captured) (all : List Instr) (i : Instr) (is : List Instr) (w : Work) (m : BTreeMap ℕ ℕ) (x : Whole) (r : Rule) → bytes_of all < 2 ^ 32
-    → GoesOn (home_in w.home) c all (i ∷ is) w m x → IsFirst (told w (was_named m) x i) (Some r) → IsRan (run_of judged (home_in w.home) any_clause (first_state (home_in w.home).self c) all) (Some (w.place, r))
-refused_at c all i is w m x r short g f j =
+refused_at : (before : List (ℕ × Captured)) (all : List Instr) (i : Instr) (is : List Instr) (w : Work) (hs ks : List kept_captured.Captured) (m n : BTreeMap ℕ ℕ) (x : Whole) (r : Rule) → bytes_of all < 2 ^ 32
+    → GoesOn (home_in w.home) before all (i ∷ is) w hs m x → IsFirst (told w (was_named m) x i) (Some r)
+    → IsRan (home_in w.home).records ks n before (run_of judged (home_in w.home) any_clause (first_state (home_in w.home).self (captured_of before (home_in w.home).number)) all) (Some (w.place, r))
+refused_at before all i is w hs ks m n x r short g f j =
     let h = home_in w.home in
     let s = g.0 in
     let count : s.place + (length_of i + bytes_of is) ≡ bytes_of all = g.3 in
@@ -258,9 +342,11 @@ refused_at c all i is w m x r short g f j =
     let found = same_broken s w m x all i is g.2 g.6 short (omega (arith, short, count)) g.5 g.4 ∙ first_some (told w (was_named m) x i) r f j in
     (g.1 ∙ ap (λ o. unless_broken o s.place (run_on (λ t. run_of judged h any_clause t is) (after h any_clause s i))) found ∙ ap (λ n. Broken n r) (sym p), omega (arith, short, count, p))
 
-pub refused : (h : Home) (c : Captured) (all : List Instr) (i : Instr) (is : List Instr) (w : Work) (m : BTreeMap ℕ ℕ) (x : Whole) (r : Rule) → home_in w.home ≡ h → bytes_of all < 2 ^ 32
-    → GoesOn h c all (i ∷ is) w m x → IsFirst (told w (was_named m) x i) (Some r) → IsRan (run_of judged h any_clause (first_state h.self c) all) (Some (w.place, r))
-refused h c all i is w m x r e short = subst (λ h. GoesOn h c all (i ∷ is) w m x → IsFirst (told w (was_named m) x i) (Some r) → IsRan (run_of judged h any_clause (first_state h.self c) all) (Some (w.place, r))) e (refused_at c all i is w m x r short)
+pub refused : (h : Home) (before : List (ℕ × Captured)) (all : List Instr) (i : Instr) (is : List Instr) (w : Work) (hs ks : List kept_captured.Captured) (m n : BTreeMap ℕ ℕ) (x : Whole) (r : Rule) → home_in w.home ≡ h → bytes_of all < 2 ^ 32
+    → GoesOn h before all (i ∷ is) w hs m x → IsFirst (told w (was_named m) x i) (Some r) → IsRan h.records ks n before (run_of judged h any_clause (first_state h.self (captured_of before h.number)) all) (Some (w.place, r))
+refused h before all i is w hs ks m n x r e short =
+    subst (λ h. GoesOn h before all (i ∷ is) w hs m x → IsFirst (told w (was_named m) x i) (Some r) → IsRan h.records ks n before (run_of judged h any_clause (first_state h.self (captured_of before h.number)) all) (Some (w.place, r))) e
+    (refused_at before all i is w hs ks m n x r short)
 
 -- the end of the instructions, where the record is judged as a whole if there was none
 abbrev pub at_end : Option Rule → ℕ → Option (ℕ × Rule)
@@ -278,26 +364,16 @@ none_there false = refl
 whole_broken : (h : Home) (s : State) (x : Whole) → IsWhole h s x → broken_of judged h s [] ≡ first_broken (breaks (broken_whole x)) judged
 whole_broken h s x b =
     let t : Bool = nat_eq s.place 0 in
-    whole_at t (broken_by_record h s) ∙ sym (first_same (breaks (broken_whole x)) (λ r. t && broken_by_record h s r) b.register_is (none_there t) b.constant_is (none_there t) b.order_is b.block_is b.clause_is b.key_is)
+    whole_at t (broken_by_record h s) ∙ sym (first_same (breaks (broken_whole x)) (λ r. t && broken_by_record h s r) b.register_is (none_there t) (none_there t) b.constant_is (none_there t) b.order_is b.block_is b.clause_is b.key_is)
 
-pub ended : (h : Home) (c : Captured) (all : List Instr) (w : Work) (m : BTreeMap ℕ ℕ) (x : Whole) (o : Option Rule) → bytes_of all < 2 ^ 32
-    → GoesOn h c all [] w m x → IsFirst (broken_whole x) o → IsRan (run_of judged h any_clause (first_state h.self c) all) (at_end o w.place)
-ended h c all w m x None short g f = (g.0, g.1 ∙ ap (λ o. unless_broken o g.0.place (Done g.0)) (whole_broken h g.0 x g.4 ∙ first_none (broken_whole x) f))
-ended h c all w m x (Some r) short g f = λ j.
+pub ended : (h : Home) (before : List (ℕ × Captured)) (all : List Instr) (w : Work) (hs : List kept_captured.Captured) (m : BTreeMap ℕ ℕ) (x : Whole) (o : Option Rule) → bytes_of all < 2 ^ 32
+    → GoesOn h before all [] w hs m x → IsFirst (broken_whole x) o → IsRan h.records hs m before (run_of judged h any_clause (first_state h.self (captured_of before h.number)) all) (at_end o w.place)
+ended h before all w hs m x None short g f = (g.0, g.1 ∙ ap (λ o. unless_broken o g.0.place (Done g.0)) (whole_broken h g.0 x g.4 ∙ first_none (broken_whole x) f), g.7)
+ended h before all w hs m x (Some r) short g f = λ j.
     let s = g.0 in
     let p : w.place ≡ s.place = g.2.place_is in
     let count : s.place + 0 ≡ bytes_of all = g.3 in
     (g.1 ∙ ap (λ o. unless_broken o s.place (Done s)) (whole_broken h s x g.4 ∙ first_some (broken_whole x) r f j) ∙ ap (λ n. Broken n r) (sym p), omega (arith, short, count, p))
-
-below_next : (r n : ℕ) (a b : Bool) → nat_lt r n ≡ a → nat_eq r n ≡ b → (a || (b || false)) ≡ nat_lt r (suc n)
-below_next r n true b h k = sym (lt-ltb r (suc n) (omega (arith, ltb-true r n h)))
-below_next r n false true h k = sym (lt-ltb r (suc n) (omega (arith, eqb-true r n k)))
-below_next r n false false h k = sym (le-ltb r (suc n) (elim (equal_or_above n r (ltb-false r n h)) [ inl e ↦ absurd (eqb-false r n k e) | inr l ↦ l ]))
-
--- the first registers of a record are set before its first instruction
-from_zero_has : (r n : ℕ) → member r (from_zero n) ≡ nat_lt r n
-from_zero_has r zero = sym (le-ltb r 0 (omega arith))
-from_zero_has r (suc n) = member_append r (from_zero n) (n ∷ []) ∙ ap (λ b. b || (nat_eq r n || false)) (from_zero_has r n) ∙ below_next r n (nat_lt r n) (nat_eq r n) refl refl
 
 started_badly : (program : Bool) (wrong : Bool) (a b : Bool) → a ≡ b → (if program then wrong else not a) ≡ (if program then wrong else not b)
 started_badly p w a b e = ap (λ a. if p then w else not a) e
@@ -312,9 +388,13 @@ judged_first h s m x e names j = record {
   key_is = j.key_is ∙ ap (λ p. nat_eq p 0 && broken_by_record h s rule.Key) (sym e);
 }
 
-begins : (c : Captured) (w : Work) (m : BTreeMap ℕ ℕ) (x : Whole) → IsStarted w → AreNamedBefore w.home.number w.home.records.now m → IsJudgedWhole (home_in w.home) (was_named m) x → GoesOn (home_in w.home) c w.home.record.now.code.items w.home.record.now.code.items w m x
-begins c w m x b names j =
-    let r = w.home.record.now in (
+begins : (before : List (ℕ × Captured)) (w : Work) (hs : List kept_captured.Captured) (m : BTreeMap ℕ ℕ) (x : Whole) → slice_get w.home.records.now w.home.number ≡ Some w.home.record.now → AreHanded w.home.records.now hs m before → IsStarted hs m w
+    → AreNamedBefore w.home.number w.home.records.now m → IsJudgedWhole (home_in w.home) (was_named m) x → GoesOn (home_in w.home) before w.home.record.now.code.items w.home.record.now.code.items w hs m x
+begins before w hs m x there given b names j =
+    let r = w.home.record.now in
+    let c = captured_of before w.home.number in
+    let k = captured_in hs m w.home.number in
+    let few = few_captured w.home.records.now hs m before w.home.number r given there in (
       first_state r c,
       refl,
       record {
@@ -324,6 +404,10 @@ begins c w m x b names j =
         arguments_are = b.arguments_are;
         types_set = λ n. b.types_set n ∙ sym (from_zero_has n r.captured_types);
         terms_set = λ n. b.terms_set n ∙ sym (from_zero_has n r.captured);
+        types_stand = subst (λ fs. IsStack SameType r.types w.types (type_heights (reverse fs)) (started c.types r.types ∷ [])) (sym b.frames_are)
+            (stack_begins SameType r.captured_types r.types w.types (types_captured k) c.types (b.types_filled few.few_types) b.types_set few.types (started_length c.types r.types) (given.types_alike w.home.number));
+        terms_stand = subst (λ fs. IsStack SameTerm r.registers w.terms (term_heights (reverse fs)) (started c.terms r.registers ∷ [])) (sym b.frames_are)
+            (stack_begins SameTerm r.captured r.registers w.terms (terms_captured k) c.terms (b.terms_filled few.few_terms) b.terms_set few.terms (started_length c.terms r.registers) (given.terms_alike w.home.number));
         few_arguments = omega arith;
         few_instructions = let n = b.number_is in omega (arith, n);
         sides_are = ap sides_in b.frames_are;
@@ -333,7 +417,11 @@ begins c w m x b names j =
       judged_first (home_in w.home) (first_state r c) m x refl names j,
       λ n. names n ∙ ap (member n) (append_nil_sym (named_before w.home.number w.home.records.now)),
       record { run = []; parts = refl; length_is = refl; all_is = refl; count_is = let n = b.number_is in omega (arith, n); places_are = b.places_are },
+      subst (AreHanded w.home.records.now hs m) (append_nil_sym before) given,
     )
 
-pub begun : (h : Home) (c : Captured) (w : Work) (m : BTreeMap ℕ ℕ) (x : Whole) → home_in w.home ≡ h → IsStarted w → AreNamedBefore h.number h.records m → IsJudgedWhole h (was_named m) x → GoesOn h c h.self.code.items h.self.code.items w m x
-begun h c w m x e b = subst (λ h. AreNamedBefore h.number h.records m → IsJudgedWhole h (was_named m) x → GoesOn h c h.self.code.items h.self.code.items w m x) e (begins c w m x b)
+pub begun : (h : Home) (before : List (ℕ × Captured)) (w : Work) (hs : List kept_captured.Captured) (m : BTreeMap ℕ ℕ) (x : Whole) → home_in w.home ≡ h → IsStarted hs m w → slice_get h.records h.number ≡ Some h.self → AreHanded h.records hs m before
+    → AreNamedBefore h.number h.records m → IsJudgedWhole h (was_named m) x → GoesOn h before h.self.code.items h.self.code.items w hs m x
+begun h before w hs m x e b =
+    subst (λ h. slice_get h.records h.number ≡ Some h.self → AreHanded h.records hs m before → AreNamedBefore h.number h.records m → IsJudgedWhole h (was_named m) x → GoesOn h before h.self.code.items h.self.code.items w hs m x) e
+    (λ there given. begins before w hs m x there given b)

@@ -1,7 +1,8 @@
 -- The records that are named, one record and one instruction behind the other.
-use Rattle.std.proofs.Common.{◌≡◌, ◌∙◌, ◌<◌, ◌+◌, ℕ, zero, suc, List, [], ◌∷◌, length, get_or, Some, Bool, true, false, ap, refl, sym, arith}
-use Rattle.std.specs.Prelude.{◌||◌, ◌&&◌, nat_eq, slice_get}
-use Rattle.std.specs.BTreeMap.{BTreeMap}
+use Rattle.std.proofs.Common.{◌≡◌, ◌∙◌, ◌<◌, ◌+◌, ℕ, zero, suc, List, [], ◌∷◌, length, get_or, Option, Some, Bool, true, false, ap, refl, sym, arith}
+use Rattle.std.specs.Prelude.{◌||◌, ◌&&◌, nat_eq, slice_get, if◌then◌else◌}
+use Rattle.std.specs.Ordering.{nat_cmp}
+use Rattle.std.specs.BTreeMap.{BTreeMap, get}
 use Rattle.lp_lemmas.proofs.Lists.{get_read}
 use Rattle.lp_code.specs.declared.instruction.Instr.{Instr}
 use Rattle.lp_code.specs.declared.record.Record.{Record}
@@ -9,9 +10,10 @@ use Rattle.lp_code.specs.States.{member}
 use Rattle.lp_code.specs.Rules.{names_of, names_in, named_before}
 use Rattle.lp_verify.specs.Named.{was_named, HasNamed}
 use Rattle.lp_verify.specs.inner.Told.{is_fine, are_fine}
+use Rattle.lp_verify.specs.inner.Handed.{IsNamed, IsNamedSoFar}
 use Rattle.lp_verify.specs.inner.At.{AreNamedBefore, NamesLeft}
 use Rattle.lp_verify.proofs.Joined.{or_false}
-use Rattle.lp_verify.proofs.Moved.{member_append}
+use Rattle.lp_verify.proofs.Members.{member_append}
 
 or_assoc : (a b c : Bool) → (a || (b || c)) ≡ ((a || b) || c)
 or_assoc true b c = refl
@@ -48,11 +50,6 @@ or_swapped true false = refl
 or_swapped false true = refl
 or_swapped false false = refl
 
-or_moved : (o e m : Bool) → ((o || (e || false)) || m) ≡ (o || (e || m))
-or_moved true e m = refl
-or_moved false true m = refl
-or_moved false false m = refl
-
 -- one name of an ASSUME
 pub fine_stops : (k : ℕ) (all : List Record) (f : ℕ → Bool) (ts rs n : ℕ) (ns : List ℕ) → is_fine k all f ts rs n ≡ false → are_fine k all f ts rs (n ∷ ns) ≡ false
 fine_stops k all f ts rs n ns h = ap (λ b. b && are_fine k all (λ m. nat_eq m n || f m) ts rs ns) h
@@ -60,8 +57,11 @@ fine_stops k all f ts rs n ns h = ap (λ b. b && are_fine k all (λ m. nat_eq m 
 pub fine_goes : (k : ℕ) (all : List Record) (f g : ℕ → Bool) (ts rs n : ℕ) (ns : List ℕ) → is_fine k all f ts rs n ≡ true → ((m : ℕ) → g m ≡ (f m || member m (n ∷ []))) → are_fine k all f ts rs (n ∷ ns) ≡ are_fine k all g ts rs ns
 fine_goes k all f g ts rs n ns h e = ap (λ b. b && are_fine k all (λ m. nat_eq m n || f m) ts rs ns) h ∙ (λ j. are_fine k all (λ m. (sym (or_swapped (nat_eq m n) (f m)) ∙ sym (e m)) j) ts rs ns)
 
-pub name_passes : (old new : BTreeMap ℕ ℕ) (x : ℕ) (left : List ℕ) → HasNamed (x ∷ []) old new → (n : ℕ) → (was_named new n || member n left) ≡ (was_named old n || member n (x ∷ left))
-name_passes old new x left e n = ap (λ b. b || member n left) (e n) ∙ or_moved (was_named old n) (nat_eq n x) (member n left)
-
-pub all_named : (old new : BTreeMap ℕ ℕ) (all left : List ℕ) → left ≡ [] → ((n : ℕ) → (was_named new n || member n left) ≡ (was_named old n || member n all)) → HasNamed all old new
-all_named old new all left e h = λ n. sym (or_false (was_named new n)) ∙ ap (λ l. was_named new n || member n l) (sym e) ∙ h n
+pub name_passes : (p : ℕ) (first old new : BTreeMap ℕ ℕ) (x : ℕ) (ns left : List ℕ) → IsNamed (x ∷ []) p old new → IsNamedSoFar ns (x ∷ left) p first old → IsNamedSoFar ns left p first new
+name_passes p first old new x ns left e h n = ap (λ o. if member n left then Some p else o) (e n) ∙ moved (nat_eq n x) (member n left) (get nat_cmp old n) ∙ h n
+  where
+    moved : (b m : Bool) (o : Option ℕ) → (if m then Some p else (if b || false then Some p else o)) ≡ (if b || m then Some p else o)
+    moved true true o = refl
+    moved true false o = refl
+    moved false true o = refl
+    moved false false o = refl

@@ -12,7 +12,7 @@ use Rattle.lp_verify.specs.declared.blocks.Block as kept
 use Rattle.lp_verify.specs.declared.blocks.Block.TheVariants as open_block
 use Rattle.lp_verify.specs.inner.Sides.{sides_of, with_side, innermost_side, ends_at, ends_there, is_past, sides_settled, sides_left, sides_turned, is_left_to, is_all, is_assumption, is_negation}
 
-abbrev framed : Block → ℕ → Goals → Registers → Frame
+abbrev pub framed : Block → ℕ → Goals → Registers → Frame
 framed b n gs rs = record { block = b; from = n; before = gs; registers = rs }
 
 -- the variables of a block end with it
@@ -209,7 +209,7 @@ same_past p [] = refl
 same_past p (f ∷ fs) = past_block p fs f.block f.from f.before f.registers (same_past p fs)
 
 -- right sides that end are left
-ended_is : (p : ℕ) (s : kept.Block) (ss : List kept.Block) → ends_at p s ≡ true → sides_left (s ∷ ss) ≡ ss
+pub ended_is : (p : ℕ) (s : kept.Block) (ss : List kept.Block) → ends_at p s ≡ true → sides_left (s ∷ ss) ≡ ss
 ended_is p open_block.All ss h = absurd (cc)
 ended_is p open_block.Assumption ss h = absurd (cc)
 ended_is p open_block.Negation ss h = absurd (cc)

@@ -5,6 +5,7 @@ ghost use Rattle.std.specs.Ordering.{nat_cmp};
 ghost use Rattle.std.specs.BTreeMap.{get};
 ghost use Rattle.lp_code.specs.Length.{Fits};
 ghost use Rattle.lp_code.specs.Rules.{has_none, nesting_limit};
+ghost use Rattle.lp_verify.specs.inner.Stack.{type_heights, term_heights};
 ghost use Rattle.lp_verify.specs.inner.Sides.{sides_in, innermost_frame, innermost_side, frames_around, end_of, first_end_of, ends_there, around, AreEnds, is_left_to, is_all, is_assumption, is_negation, is_turn, is_jump, HasPlaces};
 
 use lp_base::{MAX_TERM_DEPTH, Memory};
@@ -106,6 +107,8 @@ impl Blocks {
     pub(crate) fn open(&mut self, block: Block, types: usize, terms: usize) -> Result<(), Memory>
         ensures sides { OnOk result (sides_in self.new.frames.items ≡ block ∷ sides_in self.old.frames.items) }
         ensures ends { OnOk result (AreEnds (reverse self.old.frames.items) → AreEnds (reverse self.new.frames.items)) }
+        ensures types { OnOk result (type_heights (reverse self.new.frames.items) ≡ types ∷ type_heights (reverse self.old.frames.items)) }
+        ensures terms { OnOk result (term_heights (reverse self.new.frames.items) ≡ terms ∷ term_heights (reverse self.old.frames.items)) }
     {
         let first_end = least(block.end(), self.first_end());
         self.frames.push(Frame {
@@ -120,6 +123,8 @@ impl Blocks {
     pub(crate) fn close(&mut self) -> Option<Frame>
         ensures sides { sides_in self.new.frames.items ≡ around (sides_in self.old.frames.items) }
         ensures ends { AreEnds (reverse self.old.frames.items) → AreEnds (reverse self.new.frames.items) }
+        ensures innermost { result ≡ innermost_frame (reverse self.old.frames.items) }
+        ensures frames { reverse self.new.frames.items ≡ frames_around (reverse self.old.frames.items) }
     {
         self.frames.pop()
     }

@@ -1,4 +1,6 @@
 // What is looked at in a term that stands in a register.
+ghost use Rattle.std.specs.Prelude.{◌≡◌};
+ghost use Rattle.lp_verify.specs.inner.Handed.{handed_head, handed_built};
 
 use crate::loose::Loose;
 use lp_code::KeyRef;
@@ -25,6 +27,16 @@ pub(crate) struct Built<'a> {
     pub(crate) head: Head<'a>,
 }
 
+// The head of a term in the record that it is handed to.
+fn handed_head<'a>(head: Head<'a>) -> Head<'a>
+    ensures { result ≡ handed_head head.entry }
+{
+    match head {
+        Head::Own => Head::Other,
+        _ => head,
+    }
+}
+
 impl<'a> Built<'a> {
     // A term without loose indices.
     pub(crate) fn closed(of: TypeId, head: Head<'a>) -> Built<'a> {
@@ -36,13 +48,13 @@ impl<'a> Built<'a> {
     }
 
     // The term in the record that it is handed to, where it is no variable of its own.
-    pub(crate) fn handed(self) -> Built<'a> {
-        match self.head {
-            Head::Own => Built {
-                head: Head::Other,
-                ..self
-            },
-            _ => self,
+    pub(crate) fn handed(self) -> Built<'a>
+        ensures { result ≡ handed_built self.entry }
+    {
+        Built {
+            of: self.of,
+            loose: self.loose,
+            head: handed_head(self.head),
         }
     }
 

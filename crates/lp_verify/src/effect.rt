@@ -1,9 +1,10 @@
 // What an instruction that breaks no rule does.
 
-ghost use Rattle.std.specs.Prelude.{◌≡◌, ◌<◌, ◌^◌, ◌∷◌, ℕ, reverse, OnOk};
+ghost use Rattle.std.specs.Prelude.{◌≡◌, ◌<◌, ◌^◌, ◌∷◌, map, reverse, IfOk, OnOk};
 ghost use Rattle.lp_verify.specs.inner.Sides.{sides_in, sides_run, sides_settled, around, AreEnds};
-ghost use Rattle.lp_verify.specs.Held.{was_set};
+ghost use Rattle.lp_verify.specs.inner.Stack.{type_heights, term_heights, opens, leaves, turns_over, turning, IsTurned, IsSettled};
 ghost use Rattle.lp_verify.specs.inner.Outline.{body_behind};
+ghost use Rattle.lp_verify.specs.inner.Handed.{assumption_of, handed_built, IsHanded, IsHandedOn};
 ghost use Rattle.lp_verify.specs.inner.At.{IsActed};
 
 use crate::blocks::{Block, Blocks};
@@ -11,10 +12,12 @@ use crate::built::{Built, Head};
 use crate::operands::{term_set, type_set};
 use crate::record::{Captured, Shared, Work};
 use crate::registers::Registers;
+use crate::types::Types;
 use crate::typing::Typed;
 use lp_base::Memory;
 use lp_code::Instr;
 use lp_term::TypeId;
+use std::alloc::Global;
 
 // Opens a block.
 fn open(
@@ -25,6 +28,8 @@ fn open(
 ) -> Result<(), Memory>
     ensures sides { OnOk result (sides_in blocks.new.frames.items ≡ block ∷ sides_in blocks.old.frames.items) }
     ensures ends { OnOk result (AreEnds (reverse blocks.old.frames.items) → AreEnds (reverse blocks.new.frames.items)) }
+    ensures types { OnOk result (IsTurned opens (type_heights (reverse blocks.old.frames.items)) types.now (type_heights (reverse blocks.new.frames.items)) types.now) }
+    ensures terms { OnOk result (IsTurned opens (term_heights (reverse blocks.old.frames.items)) terms.now (term_heights (reverse blocks.new.frames.items)) terms.now) }
 {
     blocks.open(block, types.height(), terms.height())
 }
@@ -33,12 +38,15 @@ fn open(
 fn close(blocks: &mut Blocks, types: &mut Registers<TypeId>, terms: &mut Registers<Built<'_>>)
     ensures sides { sides_in blocks.new.frames.items ≡ around (sides_in blocks.old.frames.items) }
     ensures ends { AreEnds (reverse blocks.old.frames.items) → AreEnds (reverse blocks.new.frames.items) }
-    ensures types { (r : ℕ) → was_set types.new r ≡ was_set types.old r }
-    ensures terms { (r : ℕ) → was_set terms.new r ≡ was_set terms.old r }
+    ensures types { IsTurned leaves (type_heights (reverse blocks.old.frames.items)) types.old (type_heights (reverse blocks.new.frames.items)) types.new }
+    ensures terms { IsTurned leaves (term_heights (reverse blocks.old.frames.items)) terms.old (term_heights (reverse blocks.new.frames.items)) terms.new }
 {
-    if let Some(frame) = blocks.close() {
-        types.unset_to(frame.types);
-        terms.unset_to(frame.terms);
+    match blocks.close() {
+        Some(frame) => {
+            types.unset_to(frame.types);
+            terms.unset_to(frame.terms);
+        }
+        None => {}
     }
 }
 
@@ -51,12 +59,28 @@ pub(crate) fn settle(
 )
     ensures sides { sides_in blocks.new.frames.items ≡ sides_settled place (sides_in blocks.old.frames.items) }
     ensures ends { AreEnds (reverse blocks.old.frames.items) → AreEnds (reverse blocks.new.frames.items) }
-    ensures types { (r : ℕ) → was_set types.new r ≡ was_set types.old r }
-    ensures terms { (r : ℕ) → was_set terms.new r ≡ was_set terms.old r }
+    ensures types { IsSettled place (sides_in blocks.old.frames.items) (type_heights (reverse blocks.old.frames.items)) types.old (type_heights (reverse blocks.new.frames.items)) types.new }
+    ensures terms { IsSettled place (sides_in blocks.old.frames.items) (term_heights (reverse blocks.old.frames.items)) terms.old (term_heights (reverse blocks.new.frames.items)) terms.new }
 {
     while blocks.ends_right(place) {
         close(blocks, types, terms);
     }
+}
+
+// The innermost block gives way to another one.
+fn turn_over(
+    blocks: &mut Blocks,
+    block: Block,
+    types: &mut Registers<TypeId>,
+    terms: &mut Registers<Built<'_>>,
+) -> Result<(), Memory>
+    ensures sides { OnOk result (sides_in blocks.new.frames.items ≡ block ∷ around (sides_in blocks.old.frames.items)) }
+    ensures ends { OnOk result (AreEnds (reverse blocks.old.frames.items) → AreEnds (reverse blocks.new.frames.items)) }
+    ensures types { OnOk result (IsTurned turns_over (type_heights (reverse blocks.old.frames.items)) types.old (type_heights (reverse blocks.new.frames.items)) types.new) }
+    ensures terms { OnOk result (IsTurned turns_over (term_heights (reverse blocks.old.frames.items)) terms.old (term_heights (reverse blocks.new.frames.items)) terms.new) }
+{
+    close(blocks, types, terms);
+    open(blocks, block, types, terms)
 }
 
 // Opens or ends a block. The instruction stands at this place.
@@ -69,8 +93,8 @@ fn turn(
 ) -> Result<(), Memory>
     ensures sides { OnOk result (place < 2 ^ 63 → sides_in blocks.new.frames.items ≡ sides_run instr.now place (sides_in blocks.old.frames.items)) }
     ensures ends { OnOk result (AreEnds (reverse blocks.old.frames.items) → AreEnds (reverse blocks.new.frames.items)) }
-    ensures types { (r : ℕ) → was_set types.new r ≡ was_set types.old r }
-    ensures terms { (r : ℕ) → was_set terms.new r ≡ was_set terms.old r }
+    ensures types { OnOk result (IsTurned (turning instr.now) (type_heights (reverse blocks.old.frames.items)) types.old (type_heights (reverse blocks.new.frames.items)) types.new) }
+    ensures terms { OnOk result (IsTurned (turning instr.now) (term_heights (reverse blocks.old.frames.items)) terms.old (term_heights (reverse blocks.new.frames.items)) terms.new) }
 {
     let behind = place.saturating_add(5);
     match instr {
@@ -83,8 +107,7 @@ fn turn(
         }
         Instr::Jump(bytes) => {
             let end = behind.saturating_add(u64::from(*bytes));
-            close(blocks, types, terms);
-            open(blocks, Block::Right(end), types, terms)
+            turn_over(blocks, Block::Right(end), types, terms)
         }
         Instr::EndAll | Instr::EndAssume | Instr::EndNot => {
             close(blocks, types, terms);
@@ -104,49 +127,67 @@ fn is_behind_neck(in_body: bool, instr: &Instr) -> bool
     }
 }
 
+// The terms as they are in the record that they are handed to.
+fn all_handed<'a>(alloc: Global, terms: &[Built<'a>]) -> Result<Vec<Built<'a>>, Memory>
+    ensures { IfOk result (λ handed. handed.items ≡ map handed_built terms.now) }
+{
+    let mut handed = Vec::new(alloc);
+    for term in terms {
+        handed.push(term.handed())?;
+    }
+    Ok(handed)
+}
+
 impl<'a> Work<'a> {
     // What the instruction puts into a type register, or `o`.
-    fn built_type(&self, shared: &mut Shared<'a>, instr: &Instr) -> Result<TypeId, Memory>
-        ensures { shared.new.named ≡ shared.old.named }
-    {
+    fn built_type(&self, types: &mut Types, instr: &Instr) -> Result<TypeId, Memory> {
         match instr {
             Instr::TyCon(_, kind, parts) => {
-                let parts = self.types.all(shared.alloc, parts.as_slice())?;
-                shared.types.con(*kind, parts.as_slice())
+                let parts = self.types.all(types.alloc, parts.as_slice())?;
+                types.con(*kind, parts.as_slice())
             }
             Instr::TyArr(_, from, to) => {
-                let from = self.type_in(&shared.types, *from);
-                let to = self.type_in(&shared.types, *to);
-                shared.types.arrow(from, to)
+                let from = self.type_in(types, *from);
+                let to = self.type_in(types, *to);
+                types.arrow(from, to)
             }
             Instr::TyNew(made) => {
                 let number = self.own_types.get(made).copied().unwrap_or(0);
-                shared.types.var(number)
+                types.var(number)
             }
-            _ => Ok(shared.types.proposition),
+            _ => Ok(types.proposition),
         }
     }
 
     // Hands these registers to the records that an ASSUME names.
-    fn hand(&self, shared: &mut Shared<'a>, types: &[u16], terms: &[u16]) -> Result<(), Memory>
-        ensures { shared.new.named ≡ shared.old.named }
+    fn hand(
+        &self,
+        alloc: Global,
+        handed: &mut Vec<Captured<'a>>,
+        types: &[u16],
+        terms: &[u16],
+    ) -> Result<(), Memory>
+        ensures { OnOk result (IsHanded types.now terms.now self.now.types self.now.terms handed.old.items handed.new.items) }
     {
-        let mut handed = Vec::new(shared.alloc);
-        for register in terms {
-            handed.push(self.term_in(&shared.types, *register).handed())?;
-        }
-        shared.handed.push(Captured {
-            types: self.types.all(shared.alloc, types)?,
-            terms: handed,
-        })?;
+        let types = self.types.all(alloc, types)?;
+        let terms = self.terms.all(alloc, terms)?;
+        let terms = all_handed(alloc, terms.as_slice())?;
+        handed.push(Captured { types, terms })?;
         Ok(())
     }
 
-    fn hand_on(&self, shared: &mut Shared<'a>, instr: &Instr) -> Result<(), Memory>
-        ensures { shared.new.named ≡ shared.old.named }
+    fn hand_on(
+        &self,
+        alloc: Global,
+        handed: &mut Vec<Captured<'a>>,
+        instr: &Instr,
+    ) -> Result<(), Memory>
+        ensures { OnOk result (IsHandedOn (assumption_of instr.now) self.now.types self.now.terms handed.old.items handed.new.items) }
     {
         match instr {
-            Instr::Assume(_, types, terms) => self.hand(shared, types.as_slice(), terms.as_slice()),
+            Instr::Assume(_, types, terms) => {
+                self.hand(alloc, handed, types.as_slice(), terms.as_slice())
+            }
             _ => Ok(()),
         }
     }
@@ -159,11 +200,11 @@ impl<'a> Work<'a> {
         typed: Typed<'a>,
     ) -> Result<(), Memory>
         ensures acted { OnOk result (IsActed instr.now self.old self.new) }
+        ensures handed { OnOk result (IsHandedOn (assumption_of instr.now) self.old.types self.old.terms shared.old.handed.items shared.new.handed.items) }
         ensures named { shared.new.named ≡ shared.old.named }
     {
-        let of = self.built_type(shared, instr)?;
-        self.types.make(type_set(instr), of)?;
-        self.hand_on(shared, instr)?;
+        let of = self.built_type(&mut shared.types, instr)?;
+        self.hand_on(shared.alloc, &mut shared.handed, instr)?;
         turn(
             &mut self.blocks,
             &mut self.types,
@@ -175,6 +216,7 @@ impl<'a> Work<'a> {
         self.head
             .take(self.home.tables, &mut shared.types, instr, taken)?;
         self.in_body = is_behind_neck(self.in_body, instr);
+        self.types.make(type_set(instr), of)?;
         let built = typed.built(Built::closed(shared.types.proposition, Head::Other));
         self.terms.make(term_set(instr), built)
     }

@@ -1,12 +1,14 @@
 // One record at work: its instructions are run once each, in order.
-ghost use Rattle.std.specs.Prelude.{◌≡◌, ◌<◌, ◌^◌, ℕ, IfOk, None, false, if◌then◌else◌};
-ghost use Rattle.lp_verify.specs.Held.{was_set};
+ghost use Rattle.std.specs.Prelude.{◌≡◌, ◌<◌, ◌^◌, ℕ, List, IfOk, Some, None, false, if◌then◌else◌, slice_get, option_copied, nat_lt, length};
 ghost use Rattle.lp_verify.specs.Named.{was_named, HasNamed};
 ghost use Rattle.std.specs.List.{All};
 ghost use Rattle.lp_code.specs.Length.{Fits};
 ghost use Rattle.lp_code.specs.Rules.{names_in};
 ghost use Rattle.lp_code.specs.States.{Captured as Start};
-ghost use Rattle.lp_code.specs.Denote.{run_of, any_clause, first_state, first_key, key_is, has_right_key};
+ghost use Rattle.lp_verify.specs.Held.{was_set};
+ghost use Rattle.lp_verify.specs.inner.Stack.{IsFilled};
+ghost use Rattle.lp_verify.specs.inner.Handed.{captured_in, types_captured, terms_captured, AreHanded};
+ghost use Rattle.lp_code.specs.Denote.{run_of, any_clause, first_state, captured_of, first_key, key_is, has_right_key};
 ghost use Rattle.lp_code.specs.Groups.{looked_key};
 ghost use Rattle.lp_verify.specs.inner.Keys.{IsKeyOf};
 ghost use Rattle.lp_verify.specs.Judged.{judged, bytes_of};
@@ -89,9 +91,34 @@ impl<'a> Shared<'a> {
     }
 
     // What the record of this number starts with.
-    pub(crate) fn captured(&self, number: u32) -> Option<&Captured<'a>> {
-        let place = self.named.get(&number)?;
-        self.handed.get(*place)
+    fn captured(&self, number: u32) -> Option<&Captured<'a>>
+        ensures { option_copied result ≡ captured_in self.now.handed.items self.now.named number }
+    {
+        match self.named.get(&number) {
+            Some(place) => self.handed.as_slice().get(*place),
+            None => None,
+        }
+    }
+
+    // The registers of the record of this number before its first instruction, of which so many are set.
+    fn filled_types(&self, number: u32, started: u16) -> Result<Registers<TypeId>, Memory>
+        ensures ever { IfOk result (λ filled. (r : ℕ) → was_set filled r ≡ nat_lt r started) }
+        ensures filled { IfOk result (λ filled. length (types_captured (captured_in self.now.handed.items self.now.named number)) < 2 ^ 16 → IsFilled (types_captured (captured_in self.now.handed.items self.now.named number)) filled) }
+    {
+        match self.captured(number) {
+            Some(captured) => Registers::filled(self.alloc, started, captured.types.as_slice()),
+            None => Registers::filled(self.alloc, started, &[]),
+        }
+    }
+
+    fn filled_terms(&self, number: u32, started: u16) -> Result<Registers<Built<'a>>, Memory>
+        ensures ever { IfOk result (λ filled. (r : ℕ) → was_set filled r ≡ nat_lt r started) }
+        ensures filled { IfOk result (λ filled. length (terms_captured (captured_in self.now.handed.items self.now.named number)) < 2 ^ 16 → IsFilled (terms_captured (captured_in self.now.handed.items self.now.named number)) filled) }
+    {
+        match self.captured(number) {
+            Some(captured) => Registers::filled(self.alloc, started, captured.terms.as_slice()),
+            None => Registers::filled(self.alloc, started, &[]),
+        }
     }
 }
 
@@ -109,25 +136,6 @@ fn own_types_of(alloc: Global, code: &[Instr]) -> Result<BTreeMap<u16, u64>, Mem
         number = number.saturating_add(1);
     }
     Ok(own)
-}
-
-// Puts what was handed to the record of this number into its first registers.
-fn receive<'a>(
-    shared: &Shared<'a>,
-    number: u32,
-    types: &mut Registers<TypeId>,
-    terms: &mut Registers<Built<'a>>,
-) -> Result<(), Memory>
-    ensures types { (r : ℕ) → was_set types.new r ≡ was_set types.old r }
-    ensures terms { (r : ℕ) → was_set terms.new r ≡ was_set terms.old r }
-{
-    match shared.captured(number) {
-        Some(captured) => {
-            types.start_with(captured.types.as_slice())?;
-            terms.start_with(captured.terms.as_slice())
-        }
-        None => Ok(()),
-    }
 }
 
 impl<'a> Work<'a> {
@@ -163,14 +171,14 @@ impl<'a> Work<'a> {
         requires { All Fits home.record.now.code.items }
         ensures home { IfOk result (λ work. work.home ≡ home.entry) }
         ensures named { shared.new.named ≡ shared.old.named }
-        ensures started { IfOk result (λ work. IsStarted work) }
+        ensures handed { shared.new.handed ≡ shared.old.handed }
+        ensures started { IfOk result (λ work. IsStarted shared.old.handed.items shared.old.named work) }
     {
         let alloc = shared.alloc;
         let record = home.record;
         let code = record.code.as_slice();
-        let mut types = Registers::new(alloc, record.captured_types);
-        let mut terms: Registers<Built<'a>> = Registers::new(alloc, record.captured);
-        receive(shared, home.number, &mut types, &mut terms)?;
+        let types = shared.filled_types(home.number, record.captured_types)?;
+        let terms = shared.filled_terms(home.number, record.captured)?;
         let of = match record.head {
             Some(RecordHead::Register(register)) => terms.get(register).map(|built| built.of),
             _ => None,
@@ -199,7 +207,7 @@ impl<'a> Work<'a> {
         instr: &'a Instr,
     ) -> Result<Option<Rule>, Memory>
         requires { Fits instr.now }
-        ensures { IfOk result (λ found. (self.old.place < 2 ^ 63 → self.old.number < 2 ^ 63 → IsFirst (told self.old (was_named shared.old.named) whole instr.now) found) × IsStepped instr.now shared.old.named shared.new.named self.old self.new found) }
+        ensures { IfOk result (λ found. (self.old.place < 2 ^ 63 → self.old.number < 2 ^ 63 → IsFirst (told self.old (was_named shared.old.named) whole instr.now) found) × IsStepped instr.now shared.old.handed.items shared.new.handed.items shared.old.named shared.new.named self.old self.new found) }
     {
         let typed = match self.judge(shared, whole, instr)? {
             Ok(typed) => typed,
@@ -224,7 +232,8 @@ pub(crate) fn judge_record<'a>(
     home: Home<'a>,
 ) -> Result<Option<(u64, Rule)>, Memory>
     requires { All Fits home.record.now.code.items }
-    ensures { IfOk result (λ found. ((c : Start) → AreNamedBefore home.entry.number home.entry.records.now shared.old.named → bytes_of home.entry.record.now.code.items < 2 ^ 32 → IsRan (run_of judged (home_in home.entry) any_clause (first_state home.entry.record.now c) home.entry.record.now.code.items) found)
+    ensures { IfOk result (λ found. ((before : List (ℕ × Start)) → slice_get home.entry.records.now home.entry.number ≡ Some home.entry.record.now → AreHanded home.entry.records.now shared.old.handed.items shared.old.named before → AreNamedBefore home.entry.number home.entry.records.now shared.old.named → bytes_of home.entry.record.now.code.items < 2 ^ 32
+        → IsRan home.entry.records.now shared.new.handed.items shared.new.named before (run_of judged (home_in home.entry) any_clause (first_state home.entry.record.now (captured_of before home.entry.number)) home.entry.record.now.code.items) found)
         × (found ≡ None → HasNamed (names_in home.entry.record.now.code.items) shared.old.named shared.new.named)) }
 {
     let mut work = Work::start(shared, home)?;

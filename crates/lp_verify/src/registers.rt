@@ -1,10 +1,12 @@
 // Registers: what stands in them, and which were ever set. What a block sets is unset behind it.
 
-ghost use Rattle.std.specs.Prelude.{◌≡◌, ℕ, ◌||◌, OnOk, nat_lt, [], ◌∷◌};
+ghost use Rattle.std.specs.Prelude.{◌≡◌, ◌<◌, ◌^◌, ℕ, IfOk, OnOk, nat_lt, [], ◌∷◌, ◌++◌, length, filter_map, Some, None, if◌then◌else◌};
+ghost use Rattle.std.specs.Option.{option_to_list};
 ghost use Rattle.std.specs.List.{list_any};
 ghost use Rattle.lp_code.specs.States.{member};
 ghost use Rattle.lp_verify.specs.Listed.{listed};
-ghost use Rattle.lp_verify.specs.Held.{was_set};
+ghost use Rattle.lp_verify.specs.Held.{was_set, value_in, is_lacking};
+ghost use Rattle.lp_verify.specs.inner.Stack.{IsFilled, IsMade, IsCut};
 
 use lp_base::Memory;
 use std::alloc::Global;
@@ -22,10 +24,24 @@ pub(crate) struct Registers<T> {
     trail: Vec<u16>,
 }
 
+fn push_some<T: Drop>(values: &mut Vec<T>, value: Option<T>) -> Result<(), Memory>
+    ensures { OnOk result (values.new.items ≡ values.old.items ++ option_to_list value) }
+{
+    match value {
+        Some(value) => {
+            values.push(value)?;
+            Ok(())
+        }
+        None => Ok(()),
+    }
+}
+
 impl<T: Copy + Drop> Registers<T> {
     // Nothing is set.
-    pub(crate) fn new(alloc: Global, started: u16) -> Registers<T>
-        ensures { (r : ℕ) → was_set result r ≡ nat_lt r started }
+    fn new(alloc: Global, started: u16) -> Registers<T>
+        ensures ever { (r : ℕ) → was_set result r ≡ nat_lt r started }
+        ensures trail { result.trail.items ≡ [] }
+        ensures held { (r : ℕ) → value_in result r ≡ None }
     {
         Registers {
             started,
@@ -35,7 +51,19 @@ impl<T: Copy + Drop> Registers<T> {
         }
     }
 
-    pub(crate) fn get(&self, register: u16) -> Option<T> {
+    // The first registers hold these values.
+    pub(crate) fn filled(alloc: Global, started: u16, values: &[T]) -> Result<Registers<T>, Memory>
+        ensures ever { IfOk result (λ filled. (r : ℕ) → was_set filled r ≡ nat_lt r started) }
+        ensures filled { IfOk result (λ filled. length values.now < 2 ^ 16 → IsFilled values.now filled) }
+    {
+        let mut filled = Registers::new(alloc, started);
+        filled.start_with(values)?;
+        Ok(filled)
+    }
+
+    pub(crate) fn get(&self, register: u16) -> Option<T>
+        ensures { result ≡ value_in self.now register }
+    {
         self.held.get(&register).copied()
     }
 
@@ -57,7 +85,9 @@ impl<T: Copy + Drop> Registers<T> {
     }
 
     // Whether one of the registers is not set.
-    pub(crate) fn lacks(&self, registers: &[u16]) -> bool {
+    pub(crate) fn lacks(&self, registers: &[u16]) -> bool
+        ensures { result ≡ list_any (is_lacking self.now) registers.now }
+    {
         for register in registers {
             if self.get(*register).is_none() {
                 return true;
@@ -68,7 +98,9 @@ impl<T: Copy + Drop> Registers<T> {
 
     // Puts a value into a register.
     fn hold(&mut self, register: u16, value: T) -> Result<(), Memory>
-        ensures { (r : ℕ) → was_set self.new r ≡ was_set self.old r }
+        ensures trail { OnOk result (self.new.trail.items ≡ self.old.trail.items ++ register ∷ []) }
+        ensures held { OnOk result ((r : ℕ) → value_in self.new r ≡ (if member r (register ∷ []) then Some value else value_in self.old r)) }
+        ensures ever { (r : ℕ) → was_set self.new r ≡ was_set self.old r }
     {
         self.trail.push(register)?;
         self.held.insert(register, value)?;
@@ -76,7 +108,7 @@ impl<T: Copy + Drop> Registers<T> {
     }
 
     fn set(&mut self, register: u16, value: T) -> Result<(), Memory>
-        ensures { OnOk result ((r : ℕ) → was_set self.new r ≡ (was_set self.old r || member r (register ∷ []))) }
+        ensures { OnOk result (IsMade (register ∷ []) value self.old self.new) }
     {
         self.made.insert(register)?;
         self.hold(register, value)
@@ -84,7 +116,7 @@ impl<T: Copy + Drop> Registers<T> {
 
     // Sets the register that an instruction sets, if it sets one.
     pub(crate) fn make(&mut self, made: Option<u16>, value: T) -> Result<(), Memory>
-        ensures { OnOk result ((r : ℕ) → was_set self.new r ≡ (was_set self.old r || member r (listed made))) }
+        ensures { OnOk result (IsMade (listed made) value self.old self.new) }
     {
         match made {
             Some(register) => self.set(register, value),
@@ -93,8 +125,9 @@ impl<T: Copy + Drop> Registers<T> {
     }
 
     // What the record starts with, in order.
-    pub(crate) fn start_with(&mut self, values: &[T]) -> Result<(), Memory>
-        ensures { (r : ℕ) → was_set self.new r ≡ was_set self.old r }
+    fn start_with(&mut self, values: &[T]) -> Result<(), Memory>
+        ensures ever { (r : ℕ) → was_set self.new r ≡ was_set self.old r }
+        ensures filled { OnOk result (length values.now < 2 ^ 16 → self.old.trail.items ≡ [] → ((r : ℕ) → value_in self.old r ≡ None) → IsFilled values.now self.new) }
     {
         let mut register: u16 = 0;
         for value in values {
@@ -105,15 +138,17 @@ impl<T: Copy + Drop> Registers<T> {
     }
 
     // How many are set.
-    pub(crate) fn height(&self) -> usize {
+    pub(crate) fn height(&self) -> usize
+        ensures { result ≡ length self.now.trail.items }
+    {
         self.trail.len()
     }
 
     // Unsets all but the first ones.
     pub(crate) fn unset_to(&mut self, height: usize)
-        ensures { (r : ℕ) → was_set self.new r ≡ was_set self.old r }
+        ensures { IsCut height self.old self.new }
     {
-        for _ in height..self.trail.len() {
+        while self.trail.len() > height {
             let Some(register) = self.trail.pop() else {
                 return;
             };
@@ -122,12 +157,12 @@ impl<T: Copy + Drop> Registers<T> {
     }
 
     // What stands in these registers, where all are set.
-    pub(crate) fn all(&self, alloc: Global, registers: &[u16]) -> Result<Vec<T>, Memory> {
+    pub(crate) fn all(&self, alloc: Global, registers: &[u16]) -> Result<Vec<T>, Memory>
+        ensures { IfOk result (λ values. values.items ≡ filter_map (value_in self.now) registers.now) }
+    {
         let mut values = Vec::new(alloc);
         for register in registers {
-            if let Some(value) = self.get(*register) {
-                values.push(value)?;
-            }
+            push_some(&mut values, self.get(*register))?;
         }
         Ok(values)
     }

@@ -8,8 +8,9 @@ ghost use Rattle.std.specs.List.{list_any};
 ghost use Rattle.lp_code.specs.Operands.{types_read, terms_read, type_set, term_set};
 ghost use Rattle.lp_code.specs.Rules.{breaks_term, is_count, is_no_term, starts_with_as_many, is_assumed_record, names_of};
 ghost use Rattle.lp_verify.specs.Listed.{listed};
-ghost use Rattle.lp_verify.specs.Held.{was_set};
-ghost use Rattle.lp_verify.specs.Named.{was_named, HasNamed};
+ghost use Rattle.lp_verify.specs.Held.{was_set, is_lacking};
+ghost use Rattle.lp_verify.specs.Named.{was_named};
+ghost use Rattle.lp_verify.specs.inner.Handed.{IsNamed};
 ghost use Rattle.lp_verify.specs.Scheme.{tables_in};
 ghost use Rattle.lp_verify.specs.inner.Told.{reaches_past, sets_again, has_wrong_count, is_off, is_out_of_order, is_fine, are_fine, names_badly, breaks_blocks, told, ArePassed, IsFirst, rule_of};
 
@@ -22,6 +23,7 @@ use crate::whole::Whole;
 use lp_base::Memory;
 use lp_code::{Instr, Record, Rule};
 use lp_standard::Constant;
+use std::collections::BTreeMap;
 
 // Whether a constant stands for a connective that no term has.
 fn is_no_term(constant: u32) -> bool
@@ -101,7 +103,9 @@ impl<'a> Work<'a> {
         whole.register || self.reaches_past(instr, types, terms)
     }
 
-    fn breaks_unset(&self, types: &[u16], terms: &[u16]) -> bool {
+    fn breaks_unset(&self, types: &[u16], terms: &[u16]) -> bool
+        ensures { result ≡ (list_any (is_lacking self.now.types) types.now || list_any (is_lacking self.now.terms) terms.now) }
+    {
         self.types.lacks(types) || self.terms.lacks(terms)
     }
 
@@ -257,38 +261,39 @@ impl<'a> Work<'a> {
         }
     }
 
-    // Whether an ASSUME may name the record; it is named from here on.
+    // Whether an ASSUME may name the record; it is named from here on, by this place.
     fn name_one(
         &self,
-        shared: &mut Shared<'a>,
+        named: &mut BTreeMap<u32, usize>,
+        place: usize,
         number: u32,
         types: usize,
         terms: usize,
     ) -> Result<bool, Memory>
-        ensures fine { IfOk result (λ fine. fine ≡ is_fine self.now.home.number self.now.home.records.now (was_named shared.old.named) types terms number) }
-        ensures named { IfOk result (λ fine. fine ≡ true → HasNamed (number ∷ []) shared.old.named shared.new.named) }
+        ensures fine { IfOk result (λ fine. fine ≡ is_fine self.now.home.number self.now.home.records.now (was_named named.old) types terms number) }
+        ensures named { IfOk result (λ fine. fine ≡ true → IsNamed (number ∷ []) place named.old named.new) }
     {
         if !self.may_be_assumed(number, types, terms) {
             return Ok(false);
         }
-        let captured = shared.handed.len();
-        let before = shared.named.insert(number, captured)?;
+        let before = named.insert(number, place)?;
         Ok(before.is_none())
     }
 
-    // Whether an ASSUME may name the records; those that it may are named from here on.
+    // Whether an ASSUME may name the records; those that it may are named from here on, by this place.
     fn name(
         &self,
-        shared: &mut Shared<'a>,
+        named: &mut BTreeMap<u32, usize>,
+        place: usize,
         records: &[u32],
         types: usize,
         terms: usize,
     ) -> Result<bool, Memory>
-        ensures fine { IfOk result (λ fine. fine ≡ are_fine self.now.home.number self.now.home.records.now (was_named shared.old.named) types terms records.now) }
-        ensures named { IfOk result (λ fine. fine ≡ true → HasNamed records.now shared.old.named shared.new.named) }
+        ensures fine { IfOk result (λ fine. fine ≡ are_fine self.now.home.number self.now.home.records.now (was_named named.old) types terms records.now) }
+        ensures named { IfOk result (λ fine. fine ≡ true → IsNamed records.now place named.old named.new) }
     {
         for number in records {
-            let fine = self.name_one(shared, *number, types, terms)?;
+            let fine = self.name_one(named, place, *number, types, terms)?;
             if !fine {
                 return Ok(false);
             }
@@ -296,13 +301,18 @@ impl<'a> Work<'a> {
         Ok(true)
     }
 
-    fn names_badly(&self, shared: &mut Shared<'a>, instr: &Instr) -> Result<bool, Memory>
-        ensures clause { IfOk result (λ broken. broken ≡ names_badly self.now.home.number self.now.home.records.now self.now.home.record.now.program (was_named shared.old.named) instr.now) }
-        ensures named { IfOk result (λ broken. broken ≡ false → HasNamed (names_of instr.now) shared.old.named shared.new.named) }
+    fn names_badly(
+        &self,
+        named: &mut BTreeMap<u32, usize>,
+        place: usize,
+        instr: &Instr,
+    ) -> Result<bool, Memory>
+        ensures clause { IfOk result (λ broken. broken ≡ names_badly self.now.home.number self.now.home.records.now self.now.home.record.now.program (was_named named.old) instr.now) }
+        ensures named { IfOk result (λ broken. broken ≡ false → IsNamed (names_of instr.now) place named.old named.new) }
     {
         match instr {
             Instr::Assume(records, types, terms) => {
-                let fine = self.name(shared, records.as_slice(), types.len(), terms.len())?;
+                let fine = self.name(named, place, records.as_slice(), types.len(), terms.len())?;
                 Ok(!fine)
             }
             Instr::TyNew(_) => Ok(!self.home.record.program),
@@ -312,17 +322,18 @@ impl<'a> Work<'a> {
 
     fn breaks_clause(
         &self,
-        shared: &mut Shared<'a>,
+        named: &mut BTreeMap<u32, usize>,
+        place: usize,
         whole: Whole,
         instr: &Instr,
     ) -> Result<bool, Memory>
-        ensures clause { IfOk result (λ broken. broken ≡ (whole.clause || names_badly self.now.home.number self.now.home.records.now self.now.home.record.now.program (was_named shared.old.named) instr.now)) }
-        ensures named { IfOk result (λ broken. broken ≡ false → HasNamed (names_of instr.now) shared.old.named shared.new.named) }
+        ensures clause { IfOk result (λ broken. broken ≡ (whole.clause || names_badly self.now.home.number self.now.home.records.now self.now.home.record.now.program (was_named named.old) instr.now)) }
+        ensures named { IfOk result (λ broken. broken ≡ false → IsNamed (names_of instr.now) place named.old named.new) }
     {
         if whole.clause {
             return Ok(true);
         }
-        self.names_badly(shared, instr)
+        self.names_badly(named, place, instr)
     }
 
     // The rules behind those on types.
@@ -334,7 +345,8 @@ impl<'a> Work<'a> {
         terms: &[u16],
     ) -> Result<Option<Rule>, Memory>
         ensures first { self.now.place < 2 ^ 63 → self.now.number < 2 ^ 63 → ArePassed (told self.now (was_named shared.old.named) whole instr.now) → IfOk result (λ found. IsFirst (told self.now (was_named shared.old.named) whole instr.now) found) }
-        ensures named { IfOk result (λ found. found ≡ None → HasNamed (names_of instr.now) shared.old.named shared.new.named) }
+        ensures named { IfOk result (λ found. found ≡ None → IsNamed (names_of instr.now) (length shared.old.handed.items) shared.old.named shared.new.named) }
+        ensures handed { shared.new.handed ≡ shared.old.handed }
     {
         if self.breaks_index(shared, instr, terms) {
             return Ok(Some(Rule::Index));
@@ -354,7 +366,8 @@ impl<'a> Work<'a> {
         if block {
             return Ok(Some(Rule::Block));
         }
-        let clause = self.breaks_clause(shared, whole, instr)?;
+        let place = shared.handed.len();
+        let clause = self.breaks_clause(&mut shared.named, place, whole, instr)?;
         if clause {
             return Ok(Some(Rule::Clause));
         }
@@ -379,7 +392,8 @@ impl<'a> Work<'a> {
         if register {
             return Some(Rule::Register);
         }
-        if self.breaks_unset(types, terms) {
+        let unset = self.breaks_unset(types, terms);
+        if unset {
             return Some(Rule::Unset);
         }
         let set = self.breaks_set(instr);
@@ -400,7 +414,8 @@ impl<'a> Work<'a> {
         whole: Whole,
         instr: &'a Instr,
     ) -> Result<Result<Typed<'a>, Rule>, Memory>
-        ensures { IfOk result (λ found. (self.now.place < 2 ^ 63 → self.now.number < 2 ^ 63 → IsFirst (told self.now (was_named shared.old.named) whole instr.now) (rule_of found)) × (rule_of found ≡ None → HasNamed (names_of instr.now) shared.old.named shared.new.named)) }
+        ensures found { IfOk result (λ found. (self.now.place < 2 ^ 63 → self.now.number < 2 ^ 63 → IsFirst (told self.now (was_named shared.old.named) whole instr.now) (rule_of found)) × (rule_of found ≡ None → IsNamed (names_of instr.now) (length shared.old.handed.items) shared.old.named shared.new.named)) }
+        ensures handed { shared.new.handed ≡ shared.old.handed }
     {
         let types = types_read(shared.alloc, instr)?;
         let terms = terms_read(shared.alloc, instr)?;
@@ -408,7 +423,7 @@ impl<'a> Work<'a> {
         if let Some(rule) = before {
             return Ok(Err(rule));
         }
-        let typed = self.typed(shared, instr)?;
+        let typed = self.typed(&mut shared.types, &mut shared.lists, instr)?;
         if matches!(typed, Typed::Ill) {
             return Ok(Err(Rule::Typing));
         }

@@ -26,7 +26,7 @@ struct Use {
 
 #[derive(Drop)]
 pub(crate) struct Types {
-    alloc: Global,
+    pub(crate) alloc: Global,
     bank: Bank,
     // By number, the first number of an equal type.
     firsts: Vec<usize>,

@@ -1,10 +1,8 @@
 // What an instruction builds, where it is well typed.
 
-ghost use Rattle.std.specs.Prelude.{◌≡◌};
-
 use crate::built::{Built, Head};
 use crate::loose::{Lists, Loose};
-use crate::record::{Shared, Work};
+use crate::record::Work;
 use crate::types::Types;
 use lp_base::Memory;
 use lp_code::{Instr, KeyRef};
@@ -85,34 +83,34 @@ impl<'a> Work<'a> {
     // The type of a constant with the types of these registers; `o` where there is none.
     fn constant_type(
         &self,
-        shared: &mut Shared<'a>,
+        types: &mut Types,
         constant: u32,
         registers: &[u16],
-    ) -> Result<TypeId, Memory>
-        ensures { shared.new.named ≡ shared.old.named }
-    {
-        let types = self.types.all(shared.alloc, registers)?;
+    ) -> Result<TypeId, Memory> {
+        let arguments = self.types.all(types.alloc, registers)?;
         match self.home.tables.scheme(constant) {
-            Some((bank, scheme)) if usize::from(scheme.type_vars) == types.len() => {
-                shared
-                    .types
-                    .of_constant(constant, bank, scheme, types.as_slice())
+            Some((bank, scheme)) if usize::from(scheme.type_vars) == arguments.len() => {
+                types.of_constant(constant, bank, scheme, arguments.as_slice())
             }
-            _ => Ok(shared.types.proposition),
+            _ => Ok(types.proposition),
         }
     }
 
     // An abstraction over index 0 of the body, which is of this type.
-    fn abstraction(&self, shared: &mut Shared<'a>, body: u16, of: u16) -> Result<Typed<'a>, Memory>
-        ensures { shared.new.named ≡ shared.old.named }
-    {
-        let body = self.term_in(&shared.types, body);
-        let from = self.type_in(&shared.types, of);
-        match shared.lists.innermost(body.loose) {
+    fn abstraction(
+        &self,
+        types: &mut Types,
+        lists: &Lists,
+        body: u16,
+        of: u16,
+    ) -> Result<Typed<'a>, Memory> {
+        let body = self.term_in(types, body);
+        let from = self.type_in(types, of);
+        match lists.innermost(body.loose) {
             Some(found) if found != from => Ok(Typed::Ill),
             _ => Ok(Typed::Built(Built {
-                of: shared.types.arrow(from, body.of)?,
-                loose: shared.lists.outer(body.loose),
+                of: types.arrow(from, body.of)?,
+                loose: lists.outer(body.loose),
                 head: Head::Other,
             })),
         }
@@ -120,19 +118,17 @@ impl<'a> Work<'a> {
 
     fn application(
         &self,
-        shared: &mut Shared<'a>,
+        types: &Types,
+        lists: &mut Lists,
         function: u16,
         arguments: &[u16],
-    ) -> Result<Typed<'a>, Memory>
-        ensures { shared.new.named ≡ shared.old.named }
-    {
-        let function = self.term_in(&shared.types, function);
-        let arguments = self.terms.all(shared.alloc, arguments)?;
-        let Some(of) = applied_type(&shared.types, function.of, arguments.as_slice()) else {
+    ) -> Result<Typed<'a>, Memory> {
+        let function = self.term_in(types, function);
+        let arguments = self.terms.all(types.alloc, arguments)?;
+        let Some(of) = applied_type(types, function.of, arguments.as_slice()) else {
             return Ok(Typed::Ill);
         };
-        let Some(loose) = all_joined(&mut shared.lists, function.loose, arguments.as_slice())?
-        else {
+        let Some(loose) = all_joined(lists, function.loose, arguments.as_slice())? else {
             return Ok(Typed::Ill);
         };
         if arguments.is_empty() {
@@ -151,38 +147,41 @@ impl<'a> Work<'a> {
     }
 
     // What the instruction puts into a register.
-    fn put(&self, shared: &mut Shared<'a>, instr: &'a Instr) -> Result<Typed<'a>, Memory>
-        ensures { shared.new.named ≡ shared.old.named }
-    {
+    fn put(
+        &self,
+        types: &mut Types,
+        lists: &mut Lists,
+        instr: &'a Instr,
+    ) -> Result<Typed<'a>, Memory> {
         match instr {
-            Instr::New(_, of) => Ok(self.variable(&shared.types, *of, Head::Own)),
-            Instr::Sigma(_, of) => Ok(self.variable(&shared.types, *of, Head::Other)),
-            Instr::All(_, of) => Ok(self.variable(&shared.types, *of, Head::Bound)),
-            Instr::PutConst(_, constant, types) => {
-                let of = self.constant_type(shared, *constant, types.as_slice())?;
+            Instr::New(_, of) => Ok(self.variable(types, *of, Head::Own)),
+            Instr::Sigma(_, of) => Ok(self.variable(types, *of, Head::Other)),
+            Instr::All(_, of) => Ok(self.variable(types, *of, Head::Bound)),
+            Instr::PutConst(_, constant, arguments) => {
+                let of = self.constant_type(types, *constant, arguments.as_slice())?;
                 let head = Head::Key(KeyRef::Const(*constant));
                 Ok(Typed::Built(Built::closed(of, head)))
             }
             Instr::PutInt(_, integer) => {
                 let head = Head::Key(KeyRef::Int(*integer));
-                Ok(Typed::Built(Built::closed(shared.types.integer, head)))
+                Ok(Typed::Built(Built::closed(types.integer, head)))
             }
             Instr::PutStr(_, text) => {
                 let head = Head::Key(KeyRef::Text(text.as_slice()));
-                Ok(Typed::Built(Built::closed(shared.types.text, head)))
+                Ok(Typed::Built(Built::closed(types.text, head)))
             }
             Instr::PutIndex(_, index, of) => {
-                let of = self.type_in(&shared.types, *of);
-                let loose = shared.lists.one(*index, of)?;
+                let of = self.type_in(types, *of);
+                let loose = lists.one(*index, of)?;
                 Ok(Typed::Built(Built {
                     of,
                     loose,
                     head: Head::Other,
                 }))
             }
-            Instr::PutAbs(_, body, of) => self.abstraction(shared, *body, *of),
+            Instr::PutAbs(_, body, of) => self.abstraction(types, lists, *body, *of),
             Instr::PutApp(_, function, arguments) => {
-                self.application(shared, *function, arguments.as_slice())
+                self.application(types, lists, *function, arguments.as_slice())
             }
             _ => Ok(Typed::Fine),
         }
@@ -199,62 +198,57 @@ impl<'a> Work<'a> {
     }
 
     // What comes of the types of an argument of the head.
-    fn got(&self, shared: &mut Shared<'a>, instr: &'a Instr) -> Result<Typed<'a>, Memory>
-        ensures { shared.new.named ≡ shared.old.named }
-    {
+    fn got(
+        &self,
+        types: &mut Types,
+        lists: &mut Lists,
+        instr: &'a Instr,
+    ) -> Result<Typed<'a>, Memory> {
         match instr {
-            Instr::GetVar(number, _) => match self.head.argument_type(&shared.types, *number) {
+            Instr::GetVar(number, _) => match self.head.argument_type(types, *number) {
                 Some(of) => Ok(Typed::Built(Built::closed(of, Head::Own))),
                 None => Ok(Typed::Ill),
             },
             Instr::Get(number, register) => {
-                let of = self.term_in(&shared.types, *register).of;
-                Ok(self.is_argument(&shared.types, *number, of))
+                let of = self.term_in(types, *register).of;
+                Ok(self.is_argument(types, *number, of))
             }
-            Instr::GetConst(number, constant, types) => {
-                let of = self.constant_type(shared, *constant, types.as_slice())?;
-                Ok(self.is_argument(&shared.types, *number, of))
+            Instr::GetConst(number, constant, arguments) => {
+                let of = self.constant_type(types, *constant, arguments.as_slice())?;
+                Ok(self.is_argument(types, *number, of))
             }
-            Instr::GetInt(number, _) => {
-                Ok(self.is_argument(&shared.types, *number, shared.types.integer))
-            }
-            Instr::GetStr(number, _) => {
-                Ok(self.is_argument(&shared.types, *number, shared.types.text))
-            }
-            _ => self.put(shared, instr),
+            Instr::GetInt(number, _) => Ok(self.is_argument(types, *number, types.integer)),
+            Instr::GetStr(number, _) => Ok(self.is_argument(types, *number, types.text)),
+            _ => self.put(types, lists, instr),
         }
     }
 
     // What comes of the types of an instruction.
     pub(crate) fn typed(
         &self,
-        shared: &mut Shared<'a>,
+        types: &mut Types,
+        lists: &mut Lists,
         instr: &'a Instr,
-    ) -> Result<Typed<'a>, Memory>
-        ensures { shared.new.named ≡ shared.old.named }
-    {
+    ) -> Result<Typed<'a>, Memory> {
         match instr {
-            Instr::Call(constant, types, terms) => {
-                let of = self.constant_type(shared, *constant, types.as_slice())?;
-                let terms = self.terms.all(shared.alloc, terms.as_slice())?;
-                let goal = applied_type(&shared.types, of, terms.as_slice());
-                Ok(Typed::fine_where(goal == Some(shared.types.proposition)))
+            Instr::Call(constant, arguments, terms) => {
+                let of = self.constant_type(types, *constant, arguments.as_slice())?;
+                let terms = self.terms.all(types.alloc, terms.as_slice())?;
+                let goal = applied_type(types, of, terms.as_slice());
+                Ok(Typed::fine_where(goal == Some(types.proposition)))
             }
-            Instr::CallTerm(goal) => {
-                let of = shared.types.proposition;
-                Ok(self.have_type(&shared.types, *goal, *goal, of))
-            }
+            Instr::CallTerm(goal) => Ok(self.have_type(types, *goal, *goal, types.proposition)),
             Instr::Equal(of, left, right) | Instr::Is(of, left, right) => {
-                let of = self.type_in(&shared.types, *of);
-                Ok(self.have_type(&shared.types, *left, *right, of))
+                let of = self.type_in(types, *of);
+                Ok(self.have_type(types, *left, *right, of))
             }
             Instr::Less(left, right)
             | Instr::Greater(left, right)
             | Instr::AtMost(left, right)
             | Instr::AtLeast(left, right) => {
-                Ok(self.have_type(&shared.types, *left, *right, shared.types.integer))
+                Ok(self.have_type(types, *left, *right, types.integer))
             }
-            _ => self.got(shared, instr),
+            _ => self.got(types, lists, instr),
         }
     }
 }

@@ -1,14 +1,18 @@
 -- What is left to do of a typing, and the types that it comes to.
-use Rattle.std.specs.Prelude.{◌≡◌, ℕ, List, [], ◌∷◌, ◌++◌, map, reverse, All, Option}
+use Rattle.std.specs.Prelude.{◌≡◌, ℕ, ◌<◌, List, [], ◌∷◌, ◌++◌, map, reverse, length, All, Option, Bool, true}
 use Rattle.lp_calculus.specs.Types.{Ty, arrow, instance}
 use Rattle.lp_calculus.specs.Term.{Term, Atom}
+use Rattle.lp_calculus.specs.Closed.{AllAtoms, AreClosed}
 use Rattle.lp_calculus.specs.Typing.{HasType, atom_type}
+use Rattle.lp_type_laws.specs.Equations.{Below}
 use Rattle.lp_term.specs.Nodes.{Nodes, Extends, tree, type_tree}
 use Rattle.lp_term.specs.declared.node.TypeId.{TypeId}
 use Rattle.lp_type_unify.specs.declared.bindings.Pair.{Pair}
 use Rattle.lp_model.specs.Proofs.{under}
 use Rattle.lp_model.specs.Readings.{declared_by}
+use Rattle.lp_cert.specs.Inside.{AreDeclaredInside}
 use Rattle.lp_cert.specs.Same.{types_in}
+use Rattle.lp_cert.specs.inner.Named.{HasClosedTypes}
 use Rattle.lp_cert.specs.declared.typing.Task.{Task}
 use Rattle.lp_cert.specs.declared.typing.Task.TheVariants as task
 use Rattle.lp_cert.specs.declared.typing.Typing.{Typing}
@@ -95,3 +99,54 @@ pub record Applies (now : Nodes) (old new : Typing) (head argument : TypeId) : T
   pub tasks : new.tasks ≡ old.tasks
   pub solves : (b : Nodes) → Extends now b → (θ : ℕ → Ty) → Solves b θ new.pairs.items → Solves b θ old.pairs.items ×
       ((B : Ty) × (instance θ (type_tree b head.0) ≡ arrow (instance θ (type_tree b argument.0)) B) × (filled_types b θ new.stack.items ≡ B ∷ filled_types b θ old.stack.items))
+
+-- a type of the bank, whose type variables are below n
+abbrev pub IsTypeBelow : Nodes → ℕ → TypeId → Type 0
+IsTypeBelow b n t = (t.0 < length b.types) × Below n (type_tree b t.0)
+
+abbrev pub IsPairBelow : Nodes → ℕ → Pair → Type 0
+IsPairBelow b n p = IsTypeBelow b n p.left × IsTypeBelow b n p.right
+
+-- a term to visit stands in the bank, and the types that it names have no type variable
+abbrev pub IsTaskIn : Nodes → Task → Type 0
+IsTaskIn b (task.Visit t) = (t.0 < length b.terms) × AllAtoms HasClosedTypes (tree b t.0)
+IsTaskIn b task.Close = Unit {0}
+IsTaskIn b task.Apply = Unit {0}
+
+-- all that is left to do stands in the bank, and the type variables so far are below the next one
+pub record IsTidy (b : Nodes) (y : Typing) : Type 0 where
+  pub context : All (IsTypeBelow b y.next) y.context.items
+  pub stack : All (IsTypeBelow b y.next) y.stack.items
+  pub pairs : All (IsPairBelow b y.next) y.pairs.items
+  pub tasks : All (IsTaskIn b) y.tasks.items
+  pub eigens : AreClosed (types_in b y.eigens.now)
+  pub constants : AreDeclaredInside (length b.types) y.constants.now
+
+-- under types for the type variables that solve the equations these steps and then what is left come to T
+pub record Can (b : Nodes) (y : Typing) (js : List Step) (T : Ty) : Type 0 where
+  pub types : ℕ → Ty
+  pub solves : Solves b types y.pairs.items
+  pub derives : DerivesBy b types y js T
+
+-- where these steps and what is left could come to a type, they are done, and what is left now can come to it
+pub record Keeps (now : Nodes) (old new : Typing) (js : Nodes → List Step) (done : Bool) : Type 0 where
+  pub tidy : done ≡ true → IsTidy now new
+  pub can : (b : Nodes) → Extends now b → (T : Ty) → Can b old (js b) T → (done ≡ true) × Can b new [] T
+
+-- a head of such a type is a function from the argument's type to one that stands on the stack now
+pub record KeepsApplied (now : Nodes) (old new : Typing) (head argument : TypeId) : Type 0 where
+  pub tidy : IsTidy now new
+  pub can : (b : Nodes) → Extends now b → (θ : ℕ → Ty) → (T B : Ty) → Solves b θ old.pairs.items → instance θ (type_tree b head.0) ≡ arrow (instance θ (type_tree b argument.0)) B →
+      Comes (types_of b old) (filled_types b θ old.context.items) (B ∷ filled_types b θ old.stack.items) (steps_of b old.tasks.items) T → Can b new [] T
+
+-- this type is put on the stack, and all else is as it was
+pub record IsHeld (old new : Typing) (of : TypeId) : Type 0 where
+  pub rest : IsPushed old new
+  pub next : new.next ≡ old.next
+  pub stack : new.stack.items ≡ old.stack.items ++ of ∷ []
+
+-- whoever makes the two types one solves the equations, where he did before
+pub record IsEquated (old new : Typing) (left right : TypeId) : Type 0 where
+  pub next : new.next ≡ old.next
+  pub solved : (b : Nodes) → (θ : ℕ → Ty) → Solves b θ old.pairs.items → instance θ (type_tree b left.0) ≡ instance θ (type_tree b right.0) → Solves b θ new.pairs.items
+  pub below : (b : Nodes) → (n : ℕ) → All (IsPairBelow b n) old.pairs.items → IsTypeBelow b n left → IsTypeBelow b n right → All (IsPairBelow b n) new.pairs.items

@@ -17,20 +17,12 @@ use Rattle.lp_model.specs.declared.program.Declared.{Declared}
 use Rattle.lp_model.specs.declared.program.Typed.{Typed}
 use Rattle.lp_cert.specs.Certified.{Ground, Certifies, certificate_of, query_of}
 use Rattle.lp_cert.specs.Written.{Node, IsWritten, IsFocusWritten}
+use Rattle.lp_cert.specs.Run.{Job, proving, focusing, leaving_eigen, leaving_assumed, without_last}
 use Rattle.lp_cert.specs.Same.{terms_in, types_in}
 use Rattle.lp_cert.specs.declared.work.Task.{Task}
 use Rattle.lp_cert.specs.declared.work.Task.TheVariants as task
 use Rattle.lp_cert.specs.declared.work.Theory.{Theory}
 use Rattle.lp_cert.specs.declared.work.Work.{Work}
-
-pub data Job : Type 0 where
-  proving : Term → Job
-  focusing : (clause goal : Term) → Job
-  leaving_eigen : Job
-  leaving_assumed : Job
-
-abbrev pub without_last : {A : Type 0} → List A → List A
-without_last xs = take (length xs - 1) xs
 
 -- under these eigenconstants and assumptions the nodes prove all that is to be proved, in order
 abbrev pub Ends : Ground → (E : List Ty) → (As : List Term) → List Job → List Node → Type 0

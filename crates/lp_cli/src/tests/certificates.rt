@@ -1,8 +1,8 @@
 // Certificates of answers: what `prove` writes, and what `check` says of them and of others.
 
-use super::modules::FILES;
-use super::{folder, run_all, with_files};
+use super::{run_all, with_files};
 use lp_base::{Memory, Status};
+use lp_given::{FILES, folder};
 
 // The certificate of the answer to `q X` on module `u`.
 const ONE: &str =

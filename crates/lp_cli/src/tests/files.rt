@@ -1,8 +1,8 @@
 // Objects and images as files.
 
-use super::modules::FILES;
-use super::{folder, run_all, run_on};
+use super::{run_all, run_on};
 use lp_base::{Folder, MemFolder, Memory, Status};
+use lp_given::{FILES, folder};
 use lp_watch::Watch;
 use std::alloc::Global;
 use std::process::Abort;

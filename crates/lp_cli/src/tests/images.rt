@@ -1,7 +1,8 @@
 // Queries on images, one by one and in sessions.
 
-use super::{folder, run_all};
+use super::run_all;
 use lp_base::{Memory, Status};
+use lp_given::folder;
 
 const FILES: [(&str, &str); 8] = [
     (

@@ -1,9 +1,9 @@
 // Faults of the outside end a run.
 
-use super::modules::FILES;
-use super::{check, folder, word_list};
+use super::{check, word_list};
 use crate::run::run;
 use lp_base::{MemSink, Memory, Status};
+use lp_given::{FILES, folder};
 use lp_watch::Watch;
 use std::alloc::Global;
 use std::process::Abort;

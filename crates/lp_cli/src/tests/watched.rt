@@ -1,8 +1,8 @@
 // Watchers.
 
-use super::modules::FILES;
-use super::{folder, run_on};
+use super::run_on;
 use lp_base::{Memory, Status};
+use lp_given::{FILES, folder};
 use lp_watch::{Counter, Tracer, Watch};
 use std::alloc::Global;
 

@@ -53,8 +53,8 @@ clauses_read_back d std n c cs e f E P G =
     let l = flattened_clause d (without_leaves d std) n [] c cs [] e (open_closed d c f) in
     let kc = subst (λ z. IsClosedAt (length E) z) (itself c) (closed_open d E [] (λ i. index i) c o_type (nothing_to_fit d E) (open_closed d c f)).1 in
     let kf = subst (λ z. IsClosedAt (length E) z) (itself (formula_of_clauses cs)) (closed_open d E [] (λ i. index i) (formula_of_clauses cs) o_type (nothing_to_fit d E) l.opens).1 in (
-      λ p. replaced_assumption no_leaf d E P c (formula_of_clauses cs) G kc kf (λ S m H k h. h) (to_flat d (without_leaves d std) n c cs e f E) p,
-      λ p. replaced_assumption no_leaf d E P (formula_of_clauses cs) c G kf kc (λ S m H k h. h) (from_flat d (without_leaves d std) n c cs e f E) p,
+      λ p. replaced_assumption no_leaf d E P c (formula_of_clauses cs) G kc kf (λ S m y H k h. h) (to_flat d (without_leaves d std) n c cs e f E) p,
+      λ p. replaced_assumption no_leaf d E P (formula_of_clauses cs) c G kf kc (λ S m y H k h. h) (from_flat d (without_leaves d std) n c cs e f E) p,
     )
 
 -- the same of a sentence with type variables: with types for these, its flattened clauses are those of the instance
@@ -63,10 +63,10 @@ read_back D cs = record { type_vars = D.type_vars; formula = formula_of_clauses 
 
 pub sentence_reads_back : (d : Declared) → IsStandard d → (n : ℕ) (D : ClauseFormula) (cs : Clauses) → flat_clause n d [] D.formula [] [] ≡ Some cs → IsSentence d D → (E : List Ty) (P R : List ClauseFormula) (G : Term) → (PlainlyProvable d E (P ++ D ∷ R) G → PlainlyProvable d E (P ++ read_back D cs ∷ R) G) × (PlainlyProvable d E (P ++ read_back D cs ∷ R) G → PlainlyProvable d E (P ++ D ∷ R) G)
 sentence_reads_back d std n D cs e s E P R G = (
-  λ p. replaced_clause no_leaf d E P R D (read_back D cs) G refl (λ S m H k h. h) (λ ts l k.
+  λ p. replaced_clause no_leaf d E P R D (read_back D cs) G refl (λ S m y H k h. h) (λ ts l k.
       let i = instance_flat (type_at ts) d n D.formula cs e in
       subst (Focuses no_leaf d E (instance_term (type_at ts) D.formula)) i.2 (to_flat d (without_leaves d std) n (instance_term (type_at ts) D.formula) i.0 i.1 (s.instances ts l k) E)) p,
-  λ p. replaced_clause no_leaf d E P R (read_back D cs) D G refl (λ S m H k h. h) (λ ts l k.
+  λ p. replaced_clause no_leaf d E P R (read_back D cs) D G refl (λ S m y H k h. h) (λ ts l k.
       let i = instance_flat (type_at ts) d n D.formula cs e in
       subst (λ z. Focuses no_leaf d E z (instance_term (type_at ts) D.formula)) i.2 (from_flat d (without_leaves d std) n (instance_term (type_at ts) D.formula) i.0 i.1 (s.instances ts l k) E)) p,
 )

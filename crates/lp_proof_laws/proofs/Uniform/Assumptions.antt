@@ -64,17 +64,20 @@ module _ (L : Leaves) where
   same_clause : (d : Declared) (E : List Ty) (D : ClauseFormula) → Replaced d E D D
   same_clause d E D = record { type_vars = refl; stands = inl refl }
 
-  -- what stands as a leaf among these clauses, and more, stands so among those
-  abbrev pub AreKept : (P R : List ClauseFormula) → Type 0
-  AreKept P R = (S : List ClauseFormula) (n : List Ty) (H : Term) (f : Failure) → L n (P ++ S) H f → L n (R ++ S) H f
+  -- what stands as a leaf among these clauses, and more, stands so among those, at the eigenconstants E and more
+  abbrev pub AreKept : (E : List Ty) (P R : List ClauseFormula) → Type 0
+  AreKept E P R = (S : List ClauseFormula) (n : List Ty) → Extends E n → (H : Term) (f : Failure) → L n (P ++ S) H f → L n (R ++ S) H f
 
-  pub kept_more : (P R : List ClauseFormula) (D : ClauseFormula) → AreKept P R → AreKept (P ++ D ∷ []) (R ++ D ∷ [])
-  kept_more P R D k S n H f h = subst (λ Q. L n Q H f) (sym (append_assoc R (D ∷ []) S)) (k (D ∷ S) n H f (subst (λ Q. L n Q H f) (append_assoc P (D ∷ []) S) h))
+  pub kept_more : (E : List Ty) (P R : List ClauseFormula) (D : ClauseFormula) → AreKept E P R → AreKept E (P ++ D ∷ []) (R ++ D ∷ [])
+  kept_more E P R D k S n x H f h = subst (λ Q. L n Q H f) (sym (append_assoc R (D ∷ []) S)) (k (D ∷ S) n x H f (subst (λ Q. L n Q H f) (append_assoc P (D ∷ []) S) h))
+
+  pub kept_eigens : (E F : List Ty) (P R : List ClauseFormula) → AreKept E P R → AreKept (E ++ F) P R
+  kept_eigens E F P R k S n x H f h = k S n (extends_then E F n x) H f h
 
   record Stand (d : Declared) (E : List Ty) (P R : List ClauseFormula) : Type 0 where
     long : length P ≡ length R
     stand : StandAs d E P R
-    kept : AreKept P R
+    kept : AreKept E P R
 
   long_end : (P R : List ClauseFormula) (A B : ClauseFormula) → length P ≡ length R → length (P ++ A ∷ []) ≡ length (R ++ B ∷ [])
   long_end [] [] A B l = refl
@@ -82,11 +85,11 @@ module _ (L : Leaves) where
   long_end (p ∷ P) [] A B l = cc
   long_end (p ∷ P) (r ∷ R) A B l = let m : length P ≡ length R = cc in ap suc (long_end P R A B m)
 
-  one_more : (d : Declared) (E : List Ty) (P R : List ClauseFormula) (A B : ClauseFormula) → Stand d E P R → Replaced d E A B → AreKept (P ++ A ∷ []) (R ++ B ∷ []) → Stand d E (P ++ A ∷ []) (R ++ B ∷ [])
+  one_more : (d : Declared) (E : List Ty) (P R : List ClauseFormula) (A B : ClauseFormula) → Stand d E P R → Replaced d E A B → AreKept E (P ++ A ∷ []) (R ++ B ∷ []) → Stand d E (P ++ A ∷ []) (R ++ B ∷ [])
   one_more d E P R A B st h k = record { long = long_end P R A B st.long; stand = record { at = λ i D e. get_end d E P R st.long A B h (λ j D' e'. st.stand.at j D' e') i D e }; kept = k }
 
   same_more : (d : Declared) (E : List Ty) (P R : List ClauseFormula) (D : ClauseFormula) → Stand d E P R → Stand d E (P ++ D ∷ []) (R ++ D ∷ [])
-  same_more d E P R D st = one_more d E P R D D st (same_clause d E D) (kept_more P R D (λ S n H f h. st.kept S n H f h))
+  same_more d E P R D st = one_more d E P R D D st (same_clause d E D) (kept_more E P R D (λ S n x H f h. st.kept S n x H f h))
 
   mutual
     unfolding Focuses
@@ -99,7 +102,7 @@ module _ (L : Leaves) where
     proof_as d E P R G (Right p) st h = let a = proof_as d E P R h.1 p st h.3 in record { proof = Right a.proof; holds = (h.0, h.1, h.2, a.holds) }
     proof_as d E P R G (Witness t p) st h = let a = proof_as d E P R (app h.1 t) p st h.4 in record { proof = Witness t a.proof; holds = (h.0, h.1, h.2, h.3, a.holds) }
     proof_as d E P R G (All p) st h =
-        let a = proof_as d (E ++ h.0 ∷ []) P R (app h.1 (atom (eigen (suc (length E))))) p (record { long = st.long; stand = more_eigens d E (h.0 ∷ []) P R st.stand; kept = st.kept }) h.3 in
+        let a = proof_as d (E ++ h.0 ∷ []) P R (app h.1 (atom (eigen (suc (length E))))) p (record { long = st.long; stand = more_eigens d E (h.0 ∷ []) P R st.stand; kept = kept_eigens E (h.0 ∷ []) P R (λ S n x H f g. st.kept S n x H f g) }) h.3 in
         record { proof = All a.proof; holds = (h.0, h.1, h.2, a.holds) }
     proof_as d E P R G (Assume p) st h =
         let a = proof_as d E (P ++ assumed h.0 ∷ []) (R ++ assumed h.0 ∷ []) h.1 p (same_more d E P R (assumed h.0) st) h.3 in
@@ -114,7 +117,7 @@ module _ (L : Leaves) where
           | inr g ↦ let r = g ts h.2 h.3 E (extends_self E) R G h.4 a in record { proof = Back i ts r.focus; holds = (j.0, j.1, h.2 ∙ sym j.2.type_vars, h.3, h.4, r.holds) }
         ]
     proof_as d E P R G (Fails f) st h =
-        record { proof = Fails f; holds = (h.0, h.1, subst (λ Q. L E Q h.0 f) (append-nil R) (st.kept [] E h.0 f (subst (λ Q. L E Q h.0 f) (sym (append-nil P)) h.2))) }
+        record { proof = Fails f; holds = (h.0, h.1, subst (λ Q. L E Q h.0 f) (append-nil R) (st.kept [] E (extends_self E) h.0 f (subst (λ Q. L E Q h.0 f) (sym (append-nil P)) h.2))) }
 
     focus_as : (d : Declared) (E : List Ty) (P R : List ClauseFormula) (D A : Term) (f : Focus) → Stand d E P R → focuses_by L d E P D A f → FocusableBy L d E R D A
     focus_as d E P R D A (FConv H f) st h = let r = focus_as d E P R H A f st h.2 in record { focus = FConv H r.focus; holds = (h.0, h.1, r.holds) }
@@ -125,7 +128,7 @@ module _ (L : Leaves) where
     focus_as d E P R D A FHit st h = record { focus = FHit; holds = h }
 
   all_same : (d : Declared) (E : List Ty) (P : List ClauseFormula) → Stand d E P P
-  all_same d E P = record { long = refl; stand = record { at = λ i D e. (D, e, same_clause d E D) }; kept = λ S n H f h. h }
+  all_same d E P = record { long = refl; stand = record { at = λ i D e. (D, e, same_clause d E D) }; kept = λ S n x H f h. h }
 
   and_more : (d : Declared) (E : List Ty) (P R S : List ClauseFormula) → Stand d E P R → Stand d E (P ++ S) (R ++ S)
   and_more d E P R [] st = subst (λ Q. Stand d E Q (R ++ [])) (sym (append-nil P)) (subst (Stand d E P) (sym (append-nil R)) st)
@@ -133,14 +136,14 @@ module _ (L : Leaves) where
       subst (λ Q. Stand d E Q (R ++ D ∷ S)) (append_assoc P (D ∷ []) S) (subst (Stand d E ((P ++ D ∷ []) ++ S)) (append_assoc R (D ∷ []) S) (and_more d E (P ++ D ∷ []) (R ++ D ∷ []) S (same_more d E P R D st)))
 
   -- a clause among others in the place of another on which one can focus instead, with each types for their type variables
-  pub replaced_clause : (d : Declared) (E : List Ty) (P S : List ClauseFormula) (D D' : ClauseFormula) (G : Term) → D'.type_vars ≡ D.type_vars → AreKept (P ++ D ∷ []) (P ++ D' ∷ []) → ((ts : List Ty) → length ts ≡ D.type_vars → AreClosed ts → Focuses d E (instance_term (type_at ts) D.formula) (instance_term (type_at ts) D'.formula)) → ProvableBy L d E (P ++ D ∷ S) G → ProvableBy L d E (P ++ D' ∷ S) G
+  pub replaced_clause : (d : Declared) (E : List Ty) (P S : List ClauseFormula) (D D' : ClauseFormula) (G : Term) → D'.type_vars ≡ D.type_vars → AreKept E (P ++ D ∷ []) (P ++ D' ∷ []) → ((ts : List Ty) → length ts ≡ D.type_vars → AreClosed ts → Focuses d E (instance_term (type_at ts) D.formula) (instance_term (type_at ts) D'.formula)) → ProvableBy L d E (P ++ D ∷ S) G → ProvableBy L d E (P ++ D' ∷ S) G
   replaced_clause d E P S D D' G v k f h =
       let st = and_more d E (P ++ D ∷ []) (P ++ D' ∷ []) S (one_more d E P P D D' (all_same d E P) (record { type_vars = v; stands = inr f }) k) in
       let p = subst (λ Q. ProvableBy L d E Q G) (sym (append_assoc P (D ∷ []) S)) h in
       subst (λ Q. ProvableBy L d E Q G) (append_assoc P (D' ∷ []) S) (proof_as d E ((P ++ D ∷ []) ++ S) ((P ++ D' ∷ []) ++ S) G p.proof st p.holds)
 
   -- an assumption in the place of another on which one can focus instead
-  pub replaced_assumption : (d : Declared) (E : List Ty) (P : List ClauseFormula) (D D' G : Term) → IsClosedAt (length E) D → IsClosedAt (length E) D' → AreKept (P ++ assumed D ∷ []) (P ++ assumed D' ∷ []) → Focuses d E D D' → ProvableBy L d E (P ++ assumed D ∷ []) G → ProvableBy L d E (P ++ assumed D' ∷ []) G
+  pub replaced_assumption : (d : Declared) (E : List Ty) (P : List ClauseFormula) (D D' G : Term) → IsClosedAt (length E) D → IsClosedAt (length E) D' → AreKept E (P ++ assumed D ∷ []) (P ++ assumed D' ∷ []) → Focuses d E D D' → ProvableBy L d E (P ++ assumed D ∷ []) G → ProvableBy L d E (P ++ assumed D' ∷ []) G
   replaced_assumption d E P D D' G f f' q c h =
       proof_as d E (P ++ assumed D ∷ []) (P ++ assumed D' ∷ []) G h.proof (one_more d E P P (assumed D) (assumed D') (all_same d E P) (record {
         type_vars = refl;
@@ -151,7 +154,7 @@ module _ (L : Leaves) where
       }) q) h.holds
 
   -- an assumption in the place of another that converts to it
-  pub converted_assumption : (d : Declared) (E : List Ty) (P : List ClauseFormula) (D D' G : Term) → IsFormula d E D → IsFormula d E D' → AreKept (P ++ assumed D ∷ []) (P ++ assumed D' ∷ []) → Converts D D' → ProvableBy L d E (P ++ assumed D ∷ []) G → ProvableBy L d E (P ++ assumed D' ∷ []) G
+  pub converted_assumption : (d : Declared) (E : List Ty) (P : List ClauseFormula) (D D' G : Term) → IsFormula d E D → IsFormula d E D' → AreKept E (P ++ assumed D ∷ []) (P ++ assumed D' ∷ []) → Converts D D' → ProvableBy L d E (P ++ assumed D ∷ []) G → ProvableBy L d E (P ++ assumed D' ∷ []) G
   unfolding Focuses
   converted_assumption d E P D D' G f f' q c h =
       replaced_assumption d E P D D' G f.closed f'.closed q (λ F x R A i r. record { focus = FConv D r.focus; holds = (subst (λ z. IsFormula d z D) (sym x.is) (formula_eigens d E x.rest D f), c, r.holds) }) h

@@ -40,9 +40,9 @@ module _ (d : Declared) (k : ℕ) where
       gives_none = h.gives_none;
     }
 
-    assumption_fails : (D R : Term) → Converts D R → AreKept (IsFailure d k) (P ++ assumed D ∷ []) (P ++ assumed R ∷ [])
-    assumption_fails D R c S E G f h =
+    assumption_fails : (F : List Ty) (D R : Term) → Converts D R → AreKept (IsFailure d k) F (P ++ assumed D ∷ []) (P ++ assumed R ∷ [])
+    assumption_fails F D R c S E x G f h =
         subst (λ Q. IsFailure d k E Q G f) (sym (append_assoc P (assumed R ∷ []) S)) (kept S D R E G f c (subst (λ Q. IsFailure d k E Q G f) (append_assoc P (assumed D ∷ []) S) h))
 
-    pub failures_convert : Converting (IsFailure d k) P
-    failures_convert = record { goals = λ E Q G H f c h. goal_fails E Q G H f c h; assumptions = λ D R c. assumption_fails D R c }
+    pub failures_convert : Converting (IsFailure d k) d P
+    failures_convert = record { goals = λ E Q G H f g g' c h. goal_fails E Q G H f c h; assumptions = λ E D R g g' c. assumption_fails E D R c }

@@ -50,7 +50,7 @@ no_arith_denial H (inl h) = let e = h.4 in cc
 no_arith_denial H (inr h) = let e = h.7 in cc
 
 module _ (L : Leaves) where
-  pub both_root_by : (d : Declared) → IsStandard d → (E : List Ty) (P : List ClauseFormula) (A B : Term) → IsFormula d E (two 0 [] A B) → Converting L P → ProvableBy L d E P (two 0 [] A B) → ProvableBy L d E P A × ProvableBy L d E P B
+  pub both_root_by : (d : Declared) → IsStandard d → (E : List Ty) (P : List ClauseFormula) (A B : Term) → IsFormula d E (two 0 [] A B) → Converting L d P → ProvableBy L d E P (two 0 [] A B) → ProvableBy L d E P A × ProvableBy L d E P B
   both_root_by d std E P A B f kept p = go (rooted_by L d std E P (constant 0 []) (A ∷ B ∷ []) f kept p)
     where
       go : RootedBy L d E P (two 0 [] A B) → ProvableBy L d E P A × ProvableBy L d E P B
@@ -68,7 +68,7 @@ module _ (L : Leaves) where
       go (by_clause i D' ts e l k h r) = let m : 32 ≤ 0 = h in absurd (omega arith)
       go (by_failure K e f h) = cc
 
-  pub either_root_by : (d : Declared) → IsStandard d → (E : List Ty) (P : List ClauseFormula) (A B : Term) → IsFormula d E (two 1 [] A B) → Converting L P → ProvableBy L d E P (two 1 [] A B) → ProvableBy L d E P A ⊎ ProvableBy L d E P B
+  pub either_root_by : (d : Declared) → IsStandard d → (E : List Ty) (P : List ClauseFormula) (A B : Term) → IsFormula d E (two 1 [] A B) → Converting L d P → ProvableBy L d E P (two 1 [] A B) → ProvableBy L d E P A ⊎ ProvableBy L d E P B
   either_root_by d std E P A B f kept p = go (rooted_by L d std E P (constant 1 []) (A ∷ B ∷ []) f kept p)
     where
       go : RootedBy L d E P (two 1 [] A B) → ProvableBy L d E P A ⊎ ProvableBy L d E P B
@@ -86,7 +86,7 @@ module _ (L : Leaves) where
       go (by_clause i D' ts e l k h r) = let m : 32 ≤ 1 = h in absurd (omega arith)
       go (by_failure K e f h) = cc
 
-  pub sigma_root_by : (d : Declared) → IsStandard d → (E : List Ty) (P : List ClauseFormula) (T : Ty) (s : Term) → IsFormula d E (sigma_of T s) → Converting L P → ProvableBy L d E P (sigma_of T s) → (t : Term) × IsWitness d E t T × ProvableBy L d E P (app s t)
+  pub sigma_root_by : (d : Declared) → IsStandard d → (E : List Ty) (P : List ClauseFormula) (T : Ty) (s : Term) → IsFormula d E (sigma_of T s) → Converting L d P → ProvableBy L d E P (sigma_of T s) → (t : Term) × IsWitness d E t T × ProvableBy L d E P (app s t)
   sigma_root_by d std E P T s f kept p = go (rooted_by L d std E P (constant 5 (T ∷ [])) (s ∷ []) f kept p)
     where
       go : RootedBy L d E P (sigma_of T s) → (t : Term) × IsWitness d E t T × ProvableBy L d E P (app s t)
@@ -104,7 +104,7 @@ module _ (L : Leaves) where
       go (by_clause i D' ts e l k h r) = let m : 32 ≤ 5 = h in absurd (omega arith)
       go (by_failure K e f h) = cc
 
-  pub pi_root_by : (d : Declared) → IsStandard d → (E : List Ty) (P : List ClauseFormula) (T : Ty) (s : Term) → IsFormula d E (pi_of T s) → Converting L P → ProvableBy L d E P (pi_of T s) → ProvableBy L d (E ++ T ∷ []) P (app s (atom (eigen (suc (length E)))))
+  pub pi_root_by : (d : Declared) → IsStandard d → (E : List Ty) (P : List ClauseFormula) (T : Ty) (s : Term) → IsFormula d E (pi_of T s) → Converting L d P → ProvableBy L d E P (pi_of T s) → ProvableBy L d (E ++ T ∷ []) P (app s (atom (eigen (suc (length E)))))
   pi_root_by d std E P T s f kept p = go (rooted_by L d std E P (constant 4 (T ∷ [])) (s ∷ []) f kept p)
     where
       go : RootedBy L d E P (pi_of T s) → ProvableBy L d (E ++ T ∷ []) P (app s (atom (eigen (suc (length E)))))
@@ -122,7 +122,7 @@ module _ (L : Leaves) where
       go (by_clause i D' ts e l k h r) = let m : 32 ≤ 4 = h in absurd (omega arith)
       go (by_failure K e f h) = cc
 
-  pub implied_root_by : (d : Declared) → IsStandard d → (E : List Ty) (P : List ClauseFormula) (D A : Term) → IsFormula d E (two 2 [] D A) → Converting L P → ProvableBy L d E P (two 2 [] D A) → ProvableBy L d E (P ++ assumed D ∷ []) A
+  pub implied_root_by : (d : Declared) → IsStandard d → (E : List Ty) (P : List ClauseFormula) (D A : Term) → IsFormula d E (two 2 [] D A) → Converting L d P → ProvableBy L d E P (two 2 [] D A) → ProvableBy L d E (P ++ assumed D ∷ []) A
   implied_root_by d std E P D A f kept p = go (rooted_by L d std E P (constant 2 []) (D ∷ A ∷ []) f kept p)
     where
       go : RootedBy L d E P (two 2 [] D A) → ProvableBy L d E (P ++ assumed D ∷ []) A
@@ -140,7 +140,7 @@ module _ (L : Leaves) where
       go (by_clause i D' ts e l k h r) = let m : 32 ≤ 2 = h in absurd (omega arith)
       go (by_failure K e f h) = cc
 
-  pub if_root_by : (d : Declared) → IsStandard d → (E : List Ty) (P : List ClauseFormula) (A D : Term) → IsFormula d E (two 3 [] A D) → Converting L P → ProvableBy L d E P (two 3 [] A D) → ProvableBy L d E (P ++ assumed D ∷ []) A
+  pub if_root_by : (d : Declared) → IsStandard d → (E : List Ty) (P : List ClauseFormula) (A D : Term) → IsFormula d E (two 3 [] A D) → Converting L d P → ProvableBy L d E P (two 3 [] A D) → ProvableBy L d E (P ++ assumed D ∷ []) A
   if_root_by d std E P A D f kept p = go (rooted_by L d std E P (constant 3 []) (A ∷ D ∷ []) f kept p)
     where
       go : RootedBy L d E P (two 3 [] A D) → ProvableBy L d E (P ++ assumed D ∷ []) A
@@ -159,7 +159,7 @@ module _ (L : Leaves) where
       go (by_failure K e f h) = cc
 
   -- a negated formula has a proof by a leaf alone
-  pub denial_root_by : (d : Declared) → IsStandard d → (E : List Ty) (P : List ClauseFormula) (H : Term) → IsFormula d E (not_of H) → Converting L P → ProvableBy L d E P (not_of H) → (x : Failure) × L E P H x
+  pub denial_root_by : (d : Declared) → IsStandard d → (E : List Ty) (P : List ClauseFormula) (H : Term) → IsFormula d E (not_of H) → Converting L d P → ProvableBy L d E P (not_of H) → (x : Failure) × L E P H x
   denial_root_by d std E P H f kept p = go (rooted_by L d std E P (constant 24 []) (H ∷ []) f kept p)
     where
       go : RootedBy L d E P (not_of H) → (x : Failure) × L E P H x

@@ -4,7 +4,6 @@ use Rattle.std.specs.Prelude.{slice_get}
 use mathlib.Core.Path.{fun_ext}
 use Rattle.lp_calculus.specs.Types.{Ty, arrow}
 use Rattle.lp_calculus.specs.Term.{Term, index, atom, abs, app, shift, substitute, constant}
-use Rattle.lp_calculus.specs.Fill.{Within}
 use Rattle.lp_calculus.specs.Convert.{Converts, same, forth, here, by_beta}
 use Rattle.lp_calculus.specs.Typing.{Typed, atom_type, scheme_type, o_type}
 use Rattle.lp_calculus.specs.Closed.{IsClosedAtom, IsClosedAt, IsClosedType}
@@ -17,6 +16,7 @@ use Rattle.lp_calculus.proofs.Steps.{converts_is}
 use Rattle.lp_model.specs.Index.{lifted, instantiate}
 use Rattle.lp_standard.specs.Connectives.{two, body_of}
 use Rattle.lp_model.specs.Proofs.{Declared, under, IsFormula}
+pub use Rattle.lp_proof_laws.specs.Open.{IsOpen, Fits}
 use Rattle.lp_proof_laws.proofs.Uniform.Formulas.{typed_more, atom_more, closed_atom_more, typed_eigens, closed_eigens}
 
 -- one more term for an index
@@ -54,15 +54,6 @@ body_at (abs b) θ u = abs_at u θ b
 body_at (index i) θ u = converts_is (ap (λ z. app z u) (sym (past_shift u θ (index i))))
 body_at (atom a) θ u = same _
 body_at (app t v) θ u = converts_is (ap (λ z. app z u) (sym (past_shift u θ (app t v))))
-
--- a term over indices of these types
-pub record IsOpen (d : Declared) (Γ : List Ty) (t : Term) (T : Ty) : Type 0 where
-  pub typed : Typed (under d []) Γ t T
-  pub within : Within (IsClosedAtom 0) (length Γ) t
-
--- closed terms for the indices
-pub record Fits (d : Declared) (E Γ : List Ty) (θ : ℕ → Term) : Type 0 where
-  pub at : (i : ℕ) (T : Ty) → slice_get Γ i ≡ Some T → Typed (under d E) [] (θ i) T × IsClosedAt (length E) (θ i)
 
 get_at : (Γ : List Ty) (i : ℕ) → i < length Γ → (T : Ty) × (slice_get Γ i ≡ Some T)
 get_at [] i l = absurd (omega arith)

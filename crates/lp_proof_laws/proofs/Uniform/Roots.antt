@@ -1,21 +1,21 @@
 -- Inversion of the connectives: a provable formula that is an atom of the calculus on arguments has a proof that begins with the rule of its head. Conversions are
 -- stripped off, and what remains has the same head, since rigid heads are kept, and arguments that convert one by one.
-use Rattle.std.proofs.Common.{◌≡◌, ℕ, zero, suc, ◌<◌, List, [], ◌∷◌, ◌++◌, length, Some, refl, sym, ap, ◌∙◌, subst, arith, inl, inr}
+use Rattle.std.proofs.Common.{◌≡◌, ℕ, zero, suc, ◌<◌, List, [], ◌∷◌, ◌++◌, length, Option, Some, refl, sym, ap, ◌∙◌, subst, arith, inl, inr}
 use Rattle.std.specs.Prelude.{true, false}
 use Rattle.lp_calculus.specs.Types.{Ty, arrow}
 use Rattle.lp_calculus.specs.Term.{Term, index, atom, abs, app, apply, Atom, constant, eigen}
 use Rattle.lp_calculus.specs.Convert.{Converts, same, ReducesTo, done, then_step, ConvertAll, convert_none, convert_more}
 use Rattle.lp_calculus.specs.Normal.{IsNormal}
-use Rattle.lp_calculus.specs.Typing.{o_type, scheme_type}
+use Rattle.lp_calculus.specs.Typing.{Typed, o_type, scheme_type}
 use Rattle.lp_calculus.proofs.BetaEta.{conversion_meets}
 use Rattle.lp_calculus.proofs.Steps.{converts_on, converts_sym, converts_app, converts_reduces}
 use Rattle.lp_calculus.proofs.Rigid.{heads_joint}
 use Rattle.lp_calculus.specs.Spine.{head_of, arguments}
-use Rattle.lp_standard.specs.Connectives.{two}
+use Rattle.lp_standard.specs.Connectives.{two, not_of}
 use Rattle.lp_model.specs.Flatten.{ClauseFormula}
 use Rattle.lp_model.specs.Values.{Value, HasValue}
 use Rattle.lp_standard.specs.Schemes.{IsStandard}
-use Rattle.lp_model.specs.Proofs.{Declared, IsFormula, Leaves, Failure, no_leaf, Proof, Conv, True, And, Left, Right, Witness, All, Assume, Equal, Arith, Back, Fails, Focus, FConv, FAll, FTake, FNeed, FHit, IsAtomHead, IsArith, assumed, proves_by, focuses_by, ProvableBy, FocusableBy, RootedBy, trivially, both_sides, left_side, right_side, at_witness, for_all, under_assumption, equally, by_arithmetic, by_clause, by_failure}
+use Rattle.lp_model.specs.Proofs.{Declared, under, IsFormula, Leaves, Failure, no_leaf, Proof, Conv, True, And, Left, Right, Witness, All, Assume, Equal, Arith, Back, Fails, Focus, FConv, FAll, FTake, FNeed, FHit, IsAtomHead, IsArith, assumed, proves_by, focuses_by, ProvableBy, FocusableBy, RootedBy, trivially, both_sides, left_side, right_side, at_witness, for_all, under_assumption, equally, by_arithmetic, by_clause, by_failure}
 use Rattle.lp_proof_laws.proofs.Uniform.Formulas.{parts, quantified, at_eigen}
 use Rattle.lp_proof_laws.proofs.Uniform.Formulas as formulas
 use Rattle.lp_proof_laws.proofs.Uniform.Forms.{apply_arguments}
@@ -88,10 +88,20 @@ module _ (d : Declared) (std : IsStandard d) where
   pub pi_type : (T : Ty) → scheme_type (T ∷ []) (d 4) ≡ Some (arrow (arrow T o_type) o_type)
   pi_type T = ap (scheme_type (T ∷ [])) (std.at 4 (omega arith))
 
+denied_type : (o : Option Ty) (X : Ty) → o ≡ Some (arrow o_type o_type) → o ≡ Some (arrow X o_type) → X ≡ o_type
+denied_type o X e f = let g : Some (arrow o_type o_type) ≡ Some (arrow X o_type) = sym e ∙ f in cc
+
+-- what is negated in a formula is one
+pub denied_formula : (d : Declared) → IsStandard d → (E : List Ty) (K : Term) → IsFormula d E (not_of K) → IsFormula d E K
+denied_formula d std E K h = record {
+  typed = subst (Typed (under d E) [] K) (denied_type (scheme_type [] (d 24)) h.typed.0 (ap (scheme_type []) (std.at 24 (omega arith))) h.typed.1) h.typed.2;
+  closed = h.closed.1;
+}
+
 -- leaves that stand where the goal or an assumption behind these clauses converts
-pub record Converting (L : Leaves) (P : List ClauseFormula) : Type 0 where
-  pub goals : (n : List Ty) (Q : List ClauseFormula) (H H' : Term) (f : Failure) → Converts H H' → L n Q H f → L n Q H' f
-  pub assumptions : (D D' : Term) → Converts D D' → AreKept L (P ++ assumed D ∷ []) (P ++ assumed D' ∷ [])
+pub record Converting (L : Leaves) (d : Declared) (P : List ClauseFormula) : Type 0 where
+  pub goals : (n : List Ty) (Q : List ClauseFormula) (H H' : Term) (f : Failure) → IsFormula d n H → IsFormula d n H' → Converts H H' → L n Q H f → L n Q H' f
+  pub assumptions : (E : List Ty) (D D' : Term) → IsFormula d E D → IsFormula d E D' → Converts D D' → AreKept L E (P ++ assumed D ∷ []) (P ++ assumed D' ∷ [])
 
 module _ (L : Leaves) (d : Declared) (std : IsStandard d) where
   -- without the conversions at the root
@@ -120,12 +130,12 @@ module _ (L : Leaves) (d : Declared) (std : IsStandard d) where
   conv : (E : List Ty) (P : List ClauseFormula) (G H : Term) → IsFormula d E H → Converts H G → ProvableBy L d E P H → ProvableBy L d E P G
   conv E P G H f c h = record { proof = Conv H h.proof; holds = (f, c, h.holds) }
 
-  module _ (E : List Ty) (P : List ClauseFormula) (a : Atom) (us : List Term) (fine : IsFormula d E (apply (atom a) us)) (kept : Converting L P) where
+  module _ (E : List Ty) (P : List ClauseFormula) (a : Atom) (us : List Term) (fine : IsFormula d E (apply (atom a) us)) (kept : Converting L d P) where
     abbrev G : Term
     G = apply (atom a) us
 
     implied : (c : ℕ) → (D A D' A' : Term) → IsFormula d E D × IsFormula d E A → IsFormula d E D' → Converts D D' → Converts A A' → ProvableBy L d E (P ++ assumed D ∷ []) A → ProvableBy L d E (P ++ assumed D' ∷ []) A'
-    implied c D A D' A' f f' p q h = conv E (P ++ assumed D' ∷ []) A' A f.1 q (converted_assumption L d E P D D' A f.0 f' (kept.assumptions D D' p) p h)
+    implied c D A D' A' f f' p q h = conv E (P ++ assumed D' ∷ []) A' A f.1 q (converted_assumption L d E P D D' A f.0 f' (kept.assumptions E D D' f.0 f' p) p h)
 
     arith_moves : (H : Term) → Converts H G → IsArith H → IsArith G
     unfolding TwoJoint
@@ -187,11 +197,13 @@ module _ (L : Leaves) (d : Declared) (std : IsStandard d) where
         equally T j.0 j.1 j.2 (converts_on (converts_sym j.3) (converts_on v j.4))
     moves H c f (by_arithmetic h) = by_arithmetic (arith_moves H c h)
     moves H c f (by_clause i D ts e l k h r) = by_clause i D ts e l k (atom_head H c h) (focus_converts d E P _ H G r.focus c r.holds)
-    moves H c f (by_failure K e x h) = let j = one_joint 24 [] K a us (subst (λ M. Converts M G) e c) in by_failure j.0 j.1 x (kept.goals E P K j.0 x j.2 h)
+    moves H c f (by_failure K e x h) =
+        let j = one_joint 24 [] K a us (subst (λ M. Converts M G) e c) in
+        by_failure j.0 j.1 x (kept.goals E P K j.0 x (denied_formula d std E K (subst (IsFormula d E) e f)) (denied_formula d std E j.0 (subst (IsFormula d E) j.1 fine)) j.2 h)
 
     pub rooted_by : ProvableBy L d E P (apply (atom a) us) → RootedBy L d E P (apply (atom a) us)
     unfolding Stripped
     rooted_by p = let s = strip E P G p.proof fine p.holds in moves s.0 s.1 s.2 s.3
 
-pub nothing_kept : (P : List ClauseFormula) → Converting no_leaf P
-nothing_kept P = record { goals = λ n Q H H' f c h. h; assumptions = λ D D' c S n H f h. h }
+pub nothing_kept : (d : Declared) (P : List ClauseFormula) → Converting no_leaf d P
+nothing_kept d P = record { goals = λ n Q H H' f g g' c h. h; assumptions = λ E D D' g g' c S n x H f h. h }

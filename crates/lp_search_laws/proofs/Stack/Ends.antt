@@ -187,22 +187,22 @@ module _ {T A : Type 0} (looks : ℕ → ℕ → T → View T A) (w : T → ℕ)
   unfolding BothEnd Ends
   ends s oks = (ends_bound (suc (s.steps + s.answers)) s oks (let q : s.steps + s.answers < suc (s.steps + s.answers) = omega arith in q)).0
 
+each_any : {T : Type 0} (ts : List T) → EachOf (λ t. Unit {0}) ts
+each_any [] = tt
+each_any (t ∷ ts) = (tt, each_any ts)
+
+pub leaves_any : {T A : Type 0} (v : View T A) → Leaves (λ t. Unit {0}) v
+leaves_any (Gives a) = tt
+leaves_any (Opens ts) = each_any ts
+leaves_any (Parts ts) = each_any ts
+leaves_any (Takes name ts) = each_any ts
+leaves_any (Cuts m ts) = each_any ts
+leaves_any (Denies t f ts) = (tt, each_any ts)
+leaves_any (Halts e) = tt
+leaves_any Lacks = tt
+
 -- of a look that never lacks steps
 module _ {T A : Type 0} (look : ℕ → T → View T A) (w : T → ℕ) (falls : Falls look w) (full : (height : ℕ) (t : T) → IsLack (look height t) → ⊥) where
-  each_any : (ts : List T) → EachOf (λ t. Unit {0}) ts
-  each_any [] = tt
-  each_any (t ∷ ts) = (tt, each_any ts)
-
-  leaves_any : (v : View T A) → Leaves (λ t. Unit {0}) v
-  leaves_any (Gives a) = tt
-  leaves_any (Opens ts) = each_any ts
-  leaves_any (Parts ts) = each_any ts
-  leaves_any (Takes name ts) = each_any ts
-  leaves_any (Cuts m ts) = each_any ts
-  leaves_any (Denies t f ts) = (tt, each_any ts)
-  leaves_any (Halts e) = tt
-  leaves_any Lacks = tt
-
   pub ends_full : (s : State T) → (n : ℕ) × (e : Ending) × ((run look n n s).ending ≡ Some e)
   ends_full s =
       let x = ends (λ n. look) w (λ n. falls) (λ t. Unit {0}) (record { more = λ n m l h t z. refl; enough = λ h t o. (0, full h t); leaves = λ n h t o. leaves_any (look h t) }) s (each_any s.stack) in

@@ -10,7 +10,7 @@ use Rattle.lp_lemmas.specs.Each.{AnyOf, EachOf}
 use Rattle.lp_search_laws.proofs.Stack.Inners.{BreaksRightly, inner_rightly}
 use Rattle.lp_lemmas.proofs.Each.{any_append, any_front, any_back, any_drop, each_append, each_drop}
 
-oldest_all : {A : Type 0} (m : ℕ) (xs : List A) → length xs ≤ m → oldest m xs ≡ xs
+pub oldest_all : {A : Type 0} (m : ℕ) (xs : List A) → length xs ≤ m → oldest m xs ≡ xs
 oldest_all m xs h = let e : length xs - m ≡ 0 = omega arith in ap (λ n. drop n xs) e
 
 module _ {Task Answer Inst : Type 0} (look : ℕ → Task → View Task Answer) (b : ℕ) (Ok : Task → Type 0) (Fine : Answer → Type 0) (Sol : Inst → Task → Type 0) (Is : Inst → Answer → Type 0) (f : Faithful look b Ok Fine Sol Is) (j : ℕ) where

@@ -40,7 +40,7 @@ module _ {T A T0 A0 : Type 0} (f : T → T0) (g : A → A0) where
   drop_map (suc n) [] = refl
   drop_map (suc n) (x ∷ xs) = drop_map n xs
 
-  oldest_map : (m : ℕ) (xs : List T) → oldest m (map f xs) ≡ map f (oldest m xs)
+  pub oldest_map : (m : ℕ) (xs : List T) → oldest m (map f xs) ≡ map f (oldest m xs)
   oldest_map m xs = ap (λ k. drop (k - m) (map f xs)) (length-map xs f) ∙ drop_map (length xs - m) xs
 
   move_map : Move T A → Move T0 A0

@@ -1,10 +1,10 @@
 -- What comes of the search of a negated goal is what the run of that search tells: refuted, where the run has no more and gave nothing; held, where its first
 -- answer is final.
-use Rattle.std.proofs.Common.{◌≡◌, ℕ, zero, suc, ◌+◌, ◌≤◌, List, [], ◌∷◌, ◌++◌, Some, refl, sym, ap, subst, arith}
+use Rattle.std.proofs.Common.{◌≡◌, ℕ, zero, suc, ◌+◌, ◌≤◌, List, [], ◌∷◌, ◌++◌, length, Some, refl, sym, ap, ◌∙◌, subst, arith}
 use Rattle.std.specs.Prelude.{Bool, true, false, if◌then◌else◌}
 use Rattle.lp_model.specs.declared.ending.Ending.{Ending}
 use Rattle.lp_model.specs.declared.ending.Ending.TheVariants.{NoMore, NoMoreCut, Enough, Steps, Flexible, Arithmetic, OpenNot, Deep}
-use Rattle.lp_model.specs.Skeleton.{View, State, Note, Move, Goes, Tells, Stops, Breaks, Waits, Told, Inner, Refuted, Held, Broke, Lasts, move, later, inner_end, inner_after, inner, told_after, run}
+use Rattle.lp_model.specs.Skeleton.{View, Gives, Opens, Parts, Takes, Cuts, Denies, Halts, Lacks, State, starts_within, move_denied, move_view, move_at, Note, Move, Goes, Tells, Stops, Breaks, Waits, Told, Inner, Refuted, Held, Broke, Lasts, move, later, inner_end, inner_after, inner, told_after, run}
 use Rattle.lp_search_laws.proofs.Stack.Inners.{IsOver, StopsRightly, made_where_over, move_more, at_rightly, inner_rightly}
 use Rattle.lp_search_laws.proofs.Stack.Ends.{made_where_ended}
 
@@ -75,6 +75,33 @@ answer_final : (b : Bool) (p : ℕ) → IsHeld (if b then Held 0 [] p else Broke
 answer_final true p h = refl
 answer_final false p h = let e = h.3 in cc
 
+-- steps
+later_taken : (j : ℕ) (ms : List Note) (r : Inner) (k p : ℕ) (ns : List Note) → later j ms r ≡ Refuted k ns p → (k' : ℕ) × (p' : ℕ) × (ns' : List Note) × (r ≡ Refuted k' ns' p') × (k ≡ j + k')
+later_taken j ms (Refuted k' ns' p') k p ns h = let e : j + k' ≡ k = cc in (k', p', ns', refl, sym e)
+later_taken j ms (Held k' ns' p') k p ns h = cc
+later_taken j ms (Broke k' ns' x) k p ns h = cc
+later_taken j ms (Lasts k' ns') k p ns h = cc
+
+later_held_taken : (j : ℕ) (ms : List Note) (r : Inner) (k p : ℕ) (ns : List Note) → later j ms r ≡ Held k ns p → (k' : ℕ) × (p' : ℕ) × (ns' : List Note) × (r ≡ Held k' ns' p') × (k ≡ j + k')
+later_held_taken j ms (Refuted k' ns' p') k p ns h = cc
+later_held_taken j ms (Held k' ns' p') k p ns h = let e : j + k' ≡ k = cc in (k', p', ns', refl, sym e)
+later_held_taken j ms (Broke k' ns' x) k p ns h = cc
+later_held_taken j ms (Lasts k' ns') k p ns h = cc
+
+end_taken : (q : ℕ) (e : Ending) (k p : ℕ) (ns : List Note) → inner_end q e ≡ Refuted k ns p → k ≡ 0
+end_taken q NoMore k p ns h = let e : 0 ≡ k = cc in sym e
+end_taken q NoMoreCut k p ns h = cc
+end_taken q Enough k p ns h = cc
+end_taken q Steps k p ns h = cc
+end_taken q Flexible k p ns h = cc
+end_taken q (Arithmetic f) k p ns h = cc
+end_taken q OpenNot k p ns h = cc
+end_taken q Deep k p ns h = cc
+
+answer_taken : (b : Bool) (q k p : ℕ) (ns : List Note) → (if b then Held 0 [] q else Broke 0 [] OpenNot) ≡ Held k ns p → k ≡ 0
+answer_taken true q k p ns h = let e : 0 ≡ k = cc in sym e
+answer_taken false q k p ns h = cc
+
 module _ {T A : Type 0} (look : ℕ → T → View T A) where
   -- the run has no more and gave nothing
   abbrev pub Fails : Told A → Type 0
@@ -117,6 +144,91 @@ module _ {T A : Type 0} (look : ℕ → T → View T A) where
 
   pub held_gives : (f : A → Bool) (j : ℕ) (s : State T) (k p : ℕ) (ns : List Note) → inner look j f s ≡ Held k ns p → GivesFinal f (run look j j s)
   held_gives f j s k p ns e = held_at f j j (omega arith) s (k, ns, p, e)
+
+  -- in as many steps: of a refuted search
+  refuted_taken : (f : A → Bool) (j n : ℕ) → ((s : State T) (k p : ℕ) (ns : List Note) → inner look n f s ≡ Refuted k ns p → (run look j n s).steps ≡ k) → (q : ℕ) (v : Move T A) (k p : ℕ) (ns : List Note) → inner_after (inner look n f) f q v ≡ Refuted k ns p → (told_after (run look j n) v).steps ≡ k
+  refuted_taken f j n ih q (Goes i ms s) k p ns h =
+      let r = later_taken i ms (inner look n f s) k p ns h in
+      ap (λ x. i + x) (ih s r.0 r.1 r.2 r.3) ∙ sym r.4
+  refuted_taken f j n ih q (Tells a ms s) k p ns h = absurd (answer_not_refuted (f a) q (k, ns, p, h))
+  refuted_taken f j n ih q (Stops e) k p ns h = sym (end_taken q e k p ns h)
+  refuted_taken f j n ih q (Breaks i ms e) k p ns h = cc
+  refuted_taken f j n ih q (Waits i ms) k p ns h = cc
+
+  steps_at : (f : A → Bool) (j n : ℕ) → n ≤ j → (s : State T) (k p : ℕ) (ns : List Note) → inner look n f s ≡ Refuted k ns p → (run look j n s).steps ≡ k
+  steps_at f j zero l s k p ns h = cc
+  steps_at f j (suc n) l s k p ns h =
+      let made = made_where_over (inner look n f) f s.row (move (inner look n) look s) (refuted_over (inner look (suc n) f s) (k, ns, p, h)) in
+      let l' : n ≤ j = omega arith in
+      subst (λ v. (told_after (run look j n) v).steps ≡ k) (sym (move_more look n j l' s made)) (refuted_taken f j n (λ s' k' p' ns' h'. steps_at f j n l' s' k' p' ns' h') s.row (move (inner look n) look s) k p ns h)
+
+  pub refuted_steps : (f : A → Bool) (j : ℕ) (s : State T) (k p : ℕ) (ns : List Note) → inner look j f s ≡ Refuted k ns p → (run look j j s).steps ≡ k
+  refuted_steps f j s k p ns e = steps_at f j j (omega arith) s k p ns e
+
+  -- of a held one, where one answer is asked for
+  abbrev KeepsOne : Move T A → Type 0
+  KeepsOne (Goes i ns s) = s.answers ≡ 1
+  KeepsOne (Tells a ns s) = s.answers ≡ 0
+  KeepsOne (Stops e) = Unit {0}
+  KeepsOne (Breaks i ns e) = Unit {0}
+  KeepsOne (Waits i ns) = Unit {0}
+
+  one_denied : (n g u : ℕ) (lost : Bool) (ts rest : List T) (r : Inner) → KeepsOne (move_denied n 0 g u lost ts rest r)
+  one_denied n g u lost ts rest (Refuted k ns p) = refl
+  one_denied n g u lost ts rest (Held k ns p) = refl
+  one_denied n g u lost ts rest (Broke k ns e) = tt
+  one_denied n g u lost ts rest (Lasts k ns) = tt
+
+  module _ (go : (A → Bool) → State T → Inner) where
+    one_view : (n g u p : ℕ) (lost : Bool) (rest : List T) (v : View T A) → KeepsOne (move_view go n 0 g u p lost rest v)
+    one_view n g u p lost rest (Gives a) = refl
+    one_view n g u p lost rest (Opens ts) = refl
+    one_view n g u zero lost rest (Parts ts) = tt
+    one_view n g u (suc p) lost rest (Parts ts) = refl
+    one_view zero g u p lost rest (Takes name ts) = tt
+    one_view (suc n) g u p lost rest (Takes name ts) = refl
+    one_view zero g u p lost rest (Cuts m ts) = tt
+    one_view (suc n) g u p lost rest (Cuts m ts) = refl
+    one_view zero g u p lost rest (Denies t f ts) = tt
+    one_view (suc n) g u p lost rest (Denies t f ts) = one_denied n g u lost ts rest (go f (starts_within u t n 1))
+    one_view n g u p lost rest (Halts e) = tt
+    one_view n g u p lost rest Lacks = tt
+
+    one_at : (n k g u p : ℕ) (lost : Bool) (stack : List T) → k ≡ 1 → KeepsOne (move_at go look n k g u p lost stack)
+    one_at n zero g u p lost stack e = absurd (cc)
+    one_at n (suc (suc k)) g u p lost stack e = absurd (omega (arith, e))
+    one_at n (suc zero) g u p true [] e = tt
+    one_at n (suc zero) g u p false [] e = tt
+    one_at n (suc zero) g u p true (t ∷ rest) e = one_view n g u p true rest (look (length rest) t)
+    one_at n (suc zero) g u p false (t ∷ rest) e = one_view n g u p false rest (look (length rest) t)
+
+  none_at : (j m n k g u p : ℕ) (lost : Bool) (stack : List T) → k ≡ 0 → (told_after (run look j m) (move_at (inner look j) look n k g u p lost stack)).steps ≡ 0
+  none_at j m n zero g u p lost stack e = refl
+  none_at j m n (suc k) g u p lost stack e = absurd (cc)
+
+  none_taken : (j m : ℕ) (s : State T) → s.answers ≡ 0 → (run look j m s).steps ≡ 0
+  none_taken j zero s e = refl
+  none_taken j (suc m) s e = none_at j m s.steps s.answers s.given s.rows s.row s.lost s.stack e
+
+  held_taken : (f : A → Bool) (j n : ℕ) → ((s : State T) (k p : ℕ) (ns : List Note) → s.answers ≡ 1 → inner look n f s ≡ Held k ns p → (run look j n s).steps ≡ k) → (q : ℕ) (v : Move T A) (k p : ℕ) (ns : List Note) → KeepsOne v → inner_after (inner look n f) f q v ≡ Held k ns p → (told_after (run look j n) v).steps ≡ k
+  held_taken f j n ih q (Goes i ms s) k p ns o h =
+      let r = later_held_taken i ms (inner look n f s) k p ns h in
+      ap (λ x. i + x) (ih s r.0 r.1 r.2 o r.3) ∙ sym r.4
+  held_taken f j n ih q (Tells a ms s) k p ns o h = none_taken j n s o ∙ sym (answer_taken (f a) q k p ns h)
+  held_taken f j n ih q (Stops e) k p ns o h = absurd (end_not_held q e (k, ns, p, h))
+  held_taken f j n ih q (Breaks i ms e) k p ns o h = cc
+  held_taken f j n ih q (Waits i ms) k p ns o h = cc
+
+  held_steps_at : (f : A → Bool) (j n : ℕ) → n ≤ j → (s : State T) (k p : ℕ) (ns : List Note) → s.answers ≡ 1 → inner look n f s ≡ Held k ns p → (run look j n s).steps ≡ k
+  held_steps_at f j zero l s k p ns o h = cc
+  held_steps_at f j (suc n) l s k p ns o h =
+      let made = made_where_over (inner look n f) f s.row (move (inner look n) look s) (held_over (inner look (suc n) f s) (k, ns, p, h)) in
+      let l' : n ≤ j = omega arith in
+      subst (λ v. (told_after (run look j n) v).steps ≡ k) (sym (move_more look n j l' s made))
+      (held_taken f j n (λ s' k' p' ns' o' h'. held_steps_at f j n l' s' k' p' ns' o' h') s.row (move (inner look n) look s) k p ns (one_at (inner look n) s.steps s.answers s.given s.rows s.row s.lost s.stack o) h)
+
+  pub held_steps : (f : A → Bool) (j : ℕ) (s : State T) (k p : ℕ) (ns : List Note) → s.answers ≡ 1 → inner look j f s ≡ Held k ns p → (run look j j s).steps ≡ k
+  held_steps f j s k p ns o e = held_steps_at f j j (omega arith) s k p ns o e
 
   -- and back
   module _ (f : A → Bool) (j n m : ℕ) where

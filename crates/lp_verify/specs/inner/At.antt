@@ -10,15 +10,18 @@ use Rattle.lp_code.specs.Operands.{type_set, term_set}
 use Rattle.lp_code.specs.Rules.{named_before, names_of, names_in}
 use Rattle.lp_code.specs.Symbolic.{Tables}
 use Rattle.lp_code.specs.States.{State, Home, Captured, member}
-use Rattle.lp_code.specs.Denote.{Ran, Done, Broken, broken_by_record, run_of, any_clause, first_state, fault_from, first_fault_of, head_passes, is_known_head, has_neck, ends_with_proceed, has_right_key}
+use Rattle.lp_code.specs.Denote.{Ran, Done, Broken, broken_by_record, run_of, any_clause, first_state, captured_of, fault_from, first_fault_of, head_passes, is_known_head, has_neck, ends_with_proceed, has_right_key}
 use Rattle.lp_verify.specs.declared.record.Work.{Work}
 use Rattle.lp_verify.specs.declared.record.Home as code_home
 use Rattle.lp_verify.specs.declared.whole.Whole.{Whole}
 use Rattle.lp_verify.specs.Held.{was_set}
-use Rattle.lp_verify.specs.Named.{was_named, HasNamed}
+use Rattle.lp_verify.specs.Named.{was_named}
 use Rattle.lp_verify.specs.Scheme.{tables_in}
 use Rattle.lp_verify.specs.Judged.{judged, is_judged, bytes_of}
 use Rattle.lp_verify.specs.inner.Sides.{sides_in, sides_of, sides_run, sides_settled, AreEnds, HasPlaces}
+use Rattle.lp_verify.specs.declared.record.Captured as kept_captured
+use Rattle.lp_verify.specs.inner.Stack.{type_heights, term_heights, stack_of, types_in_stack, terms_in_stack, IsStack, IsFilled, IsStacked, IsStackRun}
+use Rattle.lp_verify.specs.inner.Handed.{SameType, SameTerm, captured_in, types_captured, terms_captured, IsNamed, assumption_of, IsHandedOn, AreHanded}
 use Rattle.lp_verify.specs.inner.Outline.{body_behind, types_behind, arguments_behind}
 
 abbrev pub home_in : code_home.Home → Home
@@ -31,6 +34,8 @@ pub record IsAt (w : Work) (s : State) : Type 0 where
   pub arguments_are : w.head.arguments ≡ length s.head_arguments
   pub types_set : (r : ℕ) → was_set w.types r ≡ member r s.types_set
   pub terms_set : (r : ℕ) → was_set w.terms r ≡ member r s.terms_set
+  pub types_stand : IsStack SameType w.home.record.now.types w.types (type_heights (reverse w.blocks.frames.items)) (types_in_stack (stack_of s))
+  pub terms_stand : IsStack SameTerm w.home.record.now.registers w.terms (term_heights (reverse w.blocks.frames.items)) (terms_in_stack (stack_of s))
   pub few_arguments : length s.head_arguments ≤ s.place
   pub few_instructions : w.number ≤ s.place
   pub sides_are : sides_in w.blocks.frames.items ≡ sides_of s.frames
@@ -47,8 +52,8 @@ pub record IsRun (i : Instr) (old new : Work) : Type 0 where
   pub body_is : new.in_body ≡ body_behind i old.in_body
   pub types_are : length new.head.types.items ≡ types_behind i (length old.head.types.items)
   pub arguments_are : old.head.arguments + 1 < 2 ^ 64 → new.head.arguments ≡ arguments_behind i old.head.arguments
-  pub types_set : (r : ℕ) → was_set new.types r ≡ (was_set old.types r || member r (type_set i))
-  pub terms_set : (r : ℕ) → was_set new.terms r ≡ (was_set old.terms r || member r (term_set i))
+  pub types_run : old.place + length_of i < 2 ^ 63 → IsStackRun i (type_set i) (old.place + length_of i) (sides_run i old.place (sides_in old.blocks.frames.items)) (type_heights (reverse old.blocks.frames.items)) old.types (type_heights (reverse new.blocks.frames.items)) new.types
+  pub terms_run : old.place + length_of i < 2 ^ 63 → IsStackRun i (term_set i) (old.place + length_of i) (sides_run i old.place (sides_in old.blocks.frames.items)) (term_heights (reverse old.blocks.frames.items)) old.terms (term_heights (reverse new.blocks.frames.items)) new.terms
 
 -- the same, before the instruction is passed
 pub record IsActed (i : Instr) (old new : Work) : Type 0 where
@@ -61,13 +66,13 @@ pub record IsActed (i : Instr) (old new : Work) : Type 0 where
   pub body_is : new.in_body ≡ body_behind i old.in_body
   pub types_are : length new.head.types.items ≡ types_behind i (length old.head.types.items)
   pub arguments_are : old.head.arguments + 1 < 2 ^ 64 → new.head.arguments ≡ arguments_behind i old.head.arguments
-  pub types_set : (r : ℕ) → was_set new.types r ≡ (was_set old.types r || member r (type_set i))
-  pub terms_set : (r : ℕ) → was_set new.terms r ≡ (was_set old.terms r || member r (term_set i))
+  pub types_act : IsStacked i (type_set i) (type_heights (reverse old.blocks.frames.items)) old.types (type_heights (reverse new.blocks.frames.items)) new.types
+  pub terms_act : IsStacked i (term_set i) (term_heights (reverse old.blocks.frames.items)) old.terms (term_heights (reverse new.blocks.frames.items)) new.terms
 
--- an instruction was run, and named its records, or a rule is told at it
-abbrev pub IsStepped : Instr → (named names : BTreeMap ℕ ℕ) → (old new : Work) → Option Rule → Type 0
-IsStepped i m n old new None = IsRun i old new × HasNamed (names_of i) m n
-IsStepped i m n old new (Some r) = new.place ≡ old.place
+-- an instruction was run, and named its records and handed on what they start with, or a rule is told at it
+abbrev pub IsStepped : Instr → (handed more : List kept_captured.Captured) → (named names : BTreeMap ℕ ℕ) → (old new : Work) → Option Rule → Type 0
+IsStepped i hs ks m n old new None = IsRun i old new × IsNamed (names_of i) (length hs) m n × IsHandedOn (assumption_of i) old.types old.terms hs ks
+IsStepped i hs ks m n old new (Some r) = new.place ≡ old.place
 
 -- a record of the program starts with something, or an assumed one was not named before
 abbrev pub starts_badly : Home → (named : ℕ → Bool) → Bool
@@ -92,7 +97,7 @@ pub record IsWhole (h : Home) (s : State) (x : Whole) : Type 0 where
   pub key_is : x.key ≡ (nat_eq s.place 0 && broken_by_record h s rule.Key)
 
 -- the record before its first instruction
-pub record IsStarted (w : Work) : Type 0 where
+pub record IsStarted (hs : List kept_captured.Captured) (m : BTreeMap ℕ ℕ) (w : Work) : Type 0 where
   pub place_is : w.place ≡ 0
   pub number_is : w.number ≡ 0
   pub frames_are : w.blocks.frames.items ≡ []
@@ -102,15 +107,17 @@ pub record IsStarted (w : Work) : Type 0 where
   pub arguments_are : w.head.arguments ≡ 0
   pub types_set : (r : ℕ) → was_set w.types r ≡ nat_lt r w.home.record.now.captured_types
   pub terms_set : (r : ℕ) → was_set w.terms r ≡ nat_lt r w.home.record.now.captured
+  pub types_filled : length (types_captured (captured_in hs m w.home.number)) < 2 ^ 16 → IsFilled (types_captured (captured_in hs m w.home.number)) w.types
+  pub terms_filled : length (terms_captured (captured_in hs m w.home.number)) < 2 ^ 16 → IsFilled (terms_captured (captured_in hs m w.home.number)) w.terms
 
 -- nothing is broken as a whole
 abbrev pub IsNoWhole : Whole → Type 0
 IsNoWhole x = (x.register ≡ false) × (x.constant ≡ false) × (x.order ≡ false) × (x.block ≡ false) × (x.clause ≡ false) × (x.key ≡ false)
 
--- what is told of a run
-abbrev pub IsRan : Ran → Option (ℕ × Rule) → Type 0
-IsRan ran None = (s : State) × (ran ≡ Done s)
-IsRan ran (Some (at, r)) = is_judged r ≡ true → (ran ≡ Broken at r) × (at < 2 ^ 32)
+-- what is told of a run, and what is handed on where it ends
+abbrev pub IsRan : List Record → List kept_captured.Captured → BTreeMap ℕ ℕ → (before : List (ℕ × Captured)) → Ran → Option (ℕ × Rule) → Type 0
+IsRan all hs m before ran None = (s : State) × (ran ≡ Done s) × AreHanded all hs m (before ++ s.assumed)
+IsRan all hs m before ran (Some (at, r)) = is_judged r ≡ true → (ran ≡ Broken at r) × (at < 2 ^ 32)
 
 -- those of the records before the one of a number
 abbrev pub AreNamedBefore : (number : ℕ) → List Record → BTreeMap ℕ ℕ → Type 0
@@ -134,10 +141,11 @@ pub record Past (all left : List Instr) (s : State) (w : Work) : Type 0 where
   pub count_is : w.number + length left ≡ length all
   pub places_are : HasPlaces all w.places.jumps
 
-abbrev pub GoesOn : Home → Captured → (all left : List Instr) → Work → BTreeMap ℕ ℕ → Whole → Type 0
-GoesOn h c all left w m x =
-    (s : State) × (run_of judged h any_clause (first_state h.self c) all ≡ run_of judged h any_clause s left) × IsAt w s × (s.place + bytes_of left ≡ bytes_of all) × IsWhole h s x × NamedAt h s m × Past all left s w
+abbrev pub GoesOn : Home → (before : List (ℕ × Captured)) → (all left : List Instr) → Work → List kept_captured.Captured → BTreeMap ℕ ℕ → Whole → Type 0
+GoesOn h before all left w hs m x =
+    (s : State) × (run_of judged h any_clause (first_state h.self (captured_of before h.number)) all ≡ run_of judged h any_clause s left) × IsAt w s × (s.place + bytes_of left ≡ bytes_of all) × IsWhole h s x × NamedAt h s m × Past all left s w
+    × AreHanded h.records hs m (before ++ s.assumed)
 
--- the records from a number on are left: the first fault is theirs, whatever was handed to them
-abbrev pub FaultsGoOn : Tables → (all : List Record) → (n : ℕ) → (left : List Record) → Type 0
-FaultsGoOn t all n left = (handed : List (ℕ × Captured)) × (first_fault_of judged t all ≡ fault_from judged t all handed n left)
+-- the records from a number on are left: the first fault is theirs, where this was handed to them
+abbrev pub FaultsGoOn : Tables → (all : List Record) → List kept_captured.Captured → BTreeMap ℕ ℕ → (n : ℕ) → (left : List Record) → Type 0
+FaultsGoOn t all hs m n left = (handed : List (ℕ × Captured)) × (first_fault_of judged t all ≡ fault_from judged t all handed n left) × AreHanded all hs m handed

@@ -4,7 +4,7 @@ use Rattle.lp_code.specs.declared.instruction.Instr.{Instr}
 use Rattle.lp_code.specs.declared.instruction.Instr.TheVariants as on
 use Rattle.lp_code.specs.Length.{length_of}
 use Rattle.lp_code.specs.Operands.{type_set, term_set}
-use Rattle.lp_code.specs.States.{State}
+use Rattle.lp_code.specs.States.{Captured, State}
 use Rattle.lp_code.specs.Rules.{names_of}
 
 pub record Outline : Type 0 where
@@ -15,6 +15,7 @@ pub record Outline : Type 0 where
   pub types : ℕ
   pub arguments : ℕ
   pub named : List ℕ
+  pub assumed : List (ℕ × Captured)
 
 abbrev pub outline : State → Outline
 outline s = record {
@@ -25,6 +26,7 @@ outline s = record {
   types = length s.head_types;
   arguments = length s.head_arguments;
   named = map (λ a. a.0) s.assumed;
+  assumed = s.assumed;
 }
 
 -- behind the head
@@ -45,18 +47,19 @@ arguments_behind (on.GetInt i z) n = suc n
 arguments_behind (on.GetStr i b) n = suc n
 arguments_behind i n = n
 
--- the records that were named
-abbrev pub named_with : List ℕ → (more : List ℕ) → List ℕ
-named_with ns [] = ns
-named_with ns (m ∷ ms) = ns ++ m ∷ ms
+-- the records that were named, and what was handed to them
+abbrev pub with_more : {A : Type 0} → List A → (more : List A) → List A
+with_more ns [] = ns
+with_more ns (m ∷ ms) = ns ++ m ∷ ms
 
-abbrev pub outline_behind : Instr → Outline → Outline
-outline_behind i o = record {
+abbrev pub outline_behind : Instr → (handed : List (ℕ × Captured)) → Outline → Outline
+outline_behind i cs o = record {
   place = o.place + length_of i;
   types_set = o.types_set ++ type_set i;
   terms_set = o.terms_set ++ term_set i;
   in_body = body_behind i o.in_body;
   types = types_behind i o.types;
   arguments = arguments_behind i o.arguments;
-  named = named_with o.named (names_of i);
+  named = with_more o.named (names_of i);
+  assumed = with_more o.assumed cs;
 }

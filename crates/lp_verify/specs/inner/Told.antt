@@ -13,13 +13,17 @@ use Rattle.lp_code.specs.Rules.{is_count, breaks_term, is_assumed_record}
 use Rattle.lp_code.specs.Symbolic.{Tables}
 use Rattle.lp_verify.specs.declared.record.Work.{Work}
 use Rattle.lp_verify.specs.declared.whole.Whole.{Whole}
-use Rattle.lp_verify.specs.Held.{was_set}
+use Rattle.lp_verify.specs.Held.{was_set, is_lacking}
 use Rattle.lp_verify.specs.Scheme.{tables_in, type_vars_of}
 use Rattle.lp_verify.specs.inner.Sides.{sides_in, first_end_of, nests_badly}
 
 -- the numbers of registers, where a record has so many
 abbrev pub reaches_past : (types registers : ℕ) → Instr → Bool
 reaches_past m n i = list_any (nat_le m) (types_read i ++ type_set i) || list_any (nat_le n) (terms_read i ++ term_set i)
+
+-- what holds nothing
+abbrev pub reads_unset : (types terms : ℕ → Bool) → Instr → Bool
+reads_unset f g i = list_any f (types_read i) || list_any g (terms_read i)
 
 -- what was set before
 abbrev pub sets_again : (types terms : ℕ → Bool) → Instr → Bool
@@ -78,6 +82,7 @@ names_badly k all p f i = false
 -- whether each of the judged rules is broken
 pub record Broken : Type 0 where
   pub register : Bool
+  pub unset : Bool
   pub set : Bool
   pub constant : Bool
   pub term : Bool
@@ -88,6 +93,7 @@ pub record Broken : Type 0 where
 
 abbrev pub breaks : Broken → Rule → Bool
 breaks b rule.Register = b.register
+breaks b rule.Unset = b.unset
 breaks b rule.Set = b.set
 breaks b rule.Constant = b.constant
 breaks b rule.Term = b.term
@@ -99,15 +105,15 @@ breaks b r = false
 
 -- the judged rules before those on types are kept
 abbrev pub ArePassed : Broken → Type 0
-ArePassed b = (b.register ≡ false) × (b.set ≡ false) × (b.constant ≡ false)
+ArePassed b = (b.register ≡ false) × (b.unset ≡ false) × (b.set ≡ false) × (b.constant ≡ false)
 
 -- what is told where these are broken: a rule, before which none of them is broken, or none
 abbrev pub IsFirst : Broken → Option Rule → Type 0
 IsFirst b None = ArePassed b × (b.term ≡ false) × (b.order ≡ false) × (b.block ≡ false) × (b.clause ≡ false) × (b.key ≡ false)
 IsFirst b (Some rule.Register) = b.register ≡ true
-IsFirst b (Some rule.Unset) = b.register ≡ false
-IsFirst b (Some rule.Set) = (b.register ≡ false) × (b.set ≡ true)
-IsFirst b (Some rule.Constant) = (b.register ≡ false) × (b.set ≡ false) × (b.constant ≡ true)
+IsFirst b (Some rule.Unset) = (b.register ≡ false) × (b.unset ≡ true)
+IsFirst b (Some rule.Set) = (b.register ≡ false) × (b.unset ≡ false) × (b.set ≡ true)
+IsFirst b (Some rule.Constant) = (b.register ≡ false) × (b.unset ≡ false) × (b.set ≡ false) × (b.constant ≡ true)
 IsFirst b (Some rule.Typing) = ArePassed b
 IsFirst b (Some rule.Index) = ArePassed b
 IsFirst b (Some rule.Term) = ArePassed b × (b.term ≡ true)
@@ -124,7 +130,7 @@ rule_of (Err r) = Some r
 
 -- those that a record breaks as a whole
 abbrev pub broken_whole : Whole → Broken
-broken_whole w = record { register = w.register; set = false; constant = w.constant; term = false; order = w.order; block = w.block; clause = w.clause; key = w.key }
+broken_whole w = record { register = w.register; unset = false; set = false; constant = w.constant; term = false; order = w.order; block = w.block; clause = w.clause; key = w.key }
 
 -- a side that should have ended is open, or blocks do not nest
 abbrev pub breaks_blocks : Work → Instr → Bool
@@ -135,6 +141,7 @@ breaks_blocks w i =
 abbrev pub told : Work → (named : ℕ → Bool) → Whole → Instr → Broken
 told w f x i = record {
   register = x.register || reaches_past w.home.record.now.types w.home.record.now.registers i;
+  unset = reads_unset (is_lacking w.types) (is_lacking w.terms) i;
   set = sets_again (was_set w.types) (was_set w.terms) i;
   constant = x.constant || has_wrong_count (tables_in w.home.tables.now) i;
   term = breaks_term i;

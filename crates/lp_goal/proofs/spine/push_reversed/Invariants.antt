@@ -1,10 +1,10 @@
-use Rattle.std.proofs.Common.{◌<◌, ◌≤◌, ℕ, length, All}
+use Rattle.std.proofs.Common.{◌≡◌, ◌≤◌, ◌++◌, reverse, drop, length}
 use Rattle.lp_goal.proofs.spine.push_reversed.Given as goal
 
 abbrev pub invariant-loop-left : goal.invariant-loop-left
 invariant-loop-left l = record {
   within : l.left ≤ length l.cells;
-  all : (n : ℕ) → All (λ t. t.0 < n) l.cells → All (λ t. t.0 < n) l.fn.stack.items → All (λ t. t.0 < n) l.stack.items;
+  items : l.stack.items ≡ l.fn.stack.items ++ reverse (drop l.left l.cells);
 }
 
 abbrev pub decreases-loop-left : goal.decreases-loop-left

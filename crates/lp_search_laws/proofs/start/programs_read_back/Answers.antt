@@ -3,4 +3,4 @@ use Rattle.lp_search_laws.proofs.Programs as lemmas
 use Rattle.lp_search_laws.proofs.start.programs_read_back.Goals as goal
 
 pub returns : goal.returns
-returns c = λ d std F P s x E Q G. lemmas.program_reads_back d (without_leaves d std) F P s x ((λ S n H f h. h), (λ S n H f h. h)) E Q G
+returns c = λ d std F P s x E Q G. lemmas.program_reads_back d (without_leaves d std) F P s x E ((λ S n y H f h. h), (λ S n y H f h. h)) Q G

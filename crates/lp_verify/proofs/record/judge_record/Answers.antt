@@ -1,15 +1,19 @@
 use Rattle.std.specs.Prelude.{◌||◌, ◌^◌}
 use Rattle.std.proofs.Common.{◌≡◌, ◌<◌, ◌+◌, ◌∙◌, ◌∷◌, [], length, drop, get_or, Some, None, ap, sym, subst, arith}
+use Rattle.std.proofs.lemmas.List.Elements.{All-get_or}
 use Rattle.lp_lemmas.proofs.Lists.{drop_read}
-use Rattle.lp_code.specs.Denote.{run_of, any_clause, first_state}
+use Rattle.lp_code.specs.Length.{Fits}
+use Rattle.lp_code.specs.Denote.{run_of, any_clause, first_state, captured_of}
 use Rattle.lp_verify.specs.Judged.{judged}
 use Rattle.lp_verify.specs.inner.Told.{told, IsFirst}
 use Rattle.lp_code.specs.States.{member}
 use Rattle.lp_code.specs.Rules.{names_of, names_in}
-use Rattle.lp_verify.specs.Named.{was_named, HasNamed}
-use Rattle.lp_verify.specs.inner.At.{home_in, AreNamedBefore, IsRan, IsRun, IsStepped, IsJudgedWhole, NamesLeft, GoesOn}
+use Rattle.lp_verify.specs.Named.{was_named}
+use Rattle.lp_verify.specs.inner.Handed.{AreHanded}
+use Rattle.lp_verify.specs.inner.At.{home_in, AreNamedBefore, IsRan, IsStepped, IsStarted, IsJudgedWhole, NamesLeft, GoesOn}
 use Rattle.lp_verify.proofs.Moved.{begun, stands_low, goes_on, refused, ended}
 use Rattle.lp_verify.proofs.Names.{names_pass, names_end}
+use Rattle.lp_verify.proofs.HandedOn.{named_has}
 use Rattle.lp_verify.proofs.Faults.{none_left}
 use Rattle.lp_verify.proofs.record.judge_record.Goals as goal
 
@@ -17,10 +21,15 @@ pub loop-instr-init : goal.loop-instr-init
 loop-instr-init c =
     let h = home_in c.args.home in
     let m = c.start.new.shared.named in
+    let hs = c.start.new.shared.handed.items in
     let same : m ≡ c.args.shared.now.named = c.start.ensures.named in
+    let kept : hs ≡ c.args.shared.now.handed.items = ap (λ v. v.items) c.start.ensures.handed in
     let home = ap home_in c.in_ok-work.ensures.home in (
       home,
-      λ d names short. begun h d c.in_ok-work.work m c.in_ok-whole.whole home c.in_ok-work.ensures.started (subst (AreNamedBefore h.number h.records) (sym same) names) (subst (λ h. IsJudgedWhole h (was_named m) c.in_ok-whole.whole) home c.in_ok-whole.ensures),
+      λ before there given names short.
+          begun h before c.in_ok-work.work hs m c.in_ok-whole.whole home (subst (λ l. IsStarted l m c.in_ok-work.work) (sym kept) (subst (λ l. IsStarted c.args.shared.now.handed.items l c.in_ok-work.work) (sym same) c.in_ok-work.ensures.started)) there
+          (subst (λ l. AreHanded h.records l m before) (sym kept) (subst (λ l. AreHanded h.records c.args.shared.now.handed.items l before) (sym same) given)) (subst (AreNamedBefore h.number h.records) (sym same) names)
+          (subst (λ h. IsJudgedWhole h (was_named m) c.in_ok-whole.whole) home c.in_ok-whole.ensures),
       λ n. ap (λ m. was_named m n || member n (names_in h.self.code.items)) same,
     )
 
@@ -33,17 +42,23 @@ loop-instr-preserved c =
     let w = c.loop-instr.work in
     let v = c.step.new.self in
     let inv = c.loop-instr.invariant in
-    let at : drop n code ≡ i ∷ drop (n + 1) code = drop_read code n i (subst (λ l. n < length l) c.deref-instr-items.ensures.value c.loop-instr-test.true) (c.instr-item.is ∙ ap (λ l. get_or l n i) c.deref-instr-items.ensures.value) in
+    let below : n < length code = subst (λ l. n < length l) c.deref-instr-items.ensures.value c.loop-instr-test.true in
+    let is : i ≡ get_or code n i = c.instr-item.is ∙ ap (λ l. get_or l n i) c.deref-instr-items.ensures.value in
+    let at : drop n code ≡ i ∷ drop (n + 1) code = drop_read code n i below is in
     let m = c.loop-instr.shared.named in
     let k = c.step.new.shared.named in
+    let hs = c.loop-instr.shared.handed.items in
+    let ks = c.step.new.shared.handed.items in
     let first : w.place < 2 ^ 63 → w.number < 2 ^ 63 → IsFirst (told w (was_named m) c.loop-instr.whole i) None = subst (λ o. w.place < 2 ^ 63 → w.number < 2 ^ 63 → IsFirst (told w (was_named m) c.loop-instr.whole i) o) c.in_default.is c.in_ok-rule.ensures.0 in
-    let run : IsRun i w v × HasNamed (names_of i) m k = subst (IsStepped i m k w v) c.in_default.is c.in_ok-rule.ensures.1 in (
+    let run : IsStepped i hs ks m k w v None = subst (IsStepped i hs ks m k w v) c.in_default.is c.in_ok-rule.ensures.1 in
+    let fit : Fits i = subst Fits (sym is) (All-get_or Fits code n i below c.requires) in (
       ap home_in run.0.home_stays ∙ inv.0,
-      λ d names short.
-          let g = subst (λ l. GoesOn h d code l w m c.loop-instr.whole) at (inv.1 d names short) in
-          let small = stands_low h d code i (drop (n + 1) code) w m c.loop-instr.whole short g in
-          goes_on h d code i (drop (n + 1) code) w v m k c.loop-instr.whole c.none-whole.result inv.0 short g (first small.0 small.1) run.0 run.1 c.none-whole.ensures,
-      names_pass i (drop (n + 1) code) code c.args.shared.now.named m k run.1 (subst (λ l. NamesLeft code l c.args.shared.now.named m) at inv.2),
+      λ before there given names short.
+          let g = subst (λ l. GoesOn h before code l w hs m c.loop-instr.whole) at (inv.1 before there given names short) in
+          let small = stands_low h before code i (drop (n + 1) code) w hs m c.loop-instr.whole short g in
+          goes_on h before code i (drop (n + 1) code) w v hs ks m k c.loop-instr.whole c.none-whole.result inv.0 short g
+          (record { fits = fit; kept = first small.0 small.1; runs = run.0; names = run.1; hands = run.2; clean = c.none-whole.ensures }),
+      names_pass i (drop (n + 1) code) code c.args.shared.now.named m k (named_has (names_of i) (length hs) m k run.1) (subst (λ l. NamesLeft code l c.args.shared.now.named m) at inv.2),
     )
 
 pub returns-in-Some : goal.returns-in-Some
@@ -57,12 +72,16 @@ returns-in-Some c =
     let inv = c.loop-instr.invariant in
     let at : drop n code ≡ i ∷ drop (n + 1) code = drop_read code n i (subst (λ l. n < length l) c.deref-instr-items.ensures.value c.loop-instr-test.true) (c.instr-item.is ∙ ap (λ l. get_or l n i) c.deref-instr-items.ensures.value) in
     let m = c.loop-instr.shared.named in
+    let k = c.step.new.shared.named in
+    let hs = c.loop-instr.shared.handed.items in
+    let ks = c.step.new.shared.handed.items in
     let first : w.place < 2 ^ 63 → w.number < 2 ^ 63 → IsFirst (told w (was_named m) c.loop-instr.whole i) (Some r) = subst (λ o. w.place < 2 ^ 63 → w.number < 2 ^ 63 → IsFirst (told w (was_named m) c.loop-instr.whole i) o) c.in-Some.is c.in_ok-rule.ensures.0 in
-    let stays : c.step.new.self.place ≡ w.place = subst (IsStepped i m c.step.new.shared.named w c.step.new.self) c.in-Some.is c.in_ok-rule.ensures.1 in (
-      λ d names short.
-          let g = subst (λ l. GoesOn h d code l w m c.loop-instr.whole) at (inv.1 d names short) in
-          let small = stands_low h d code i (drop (n + 1) code) w m c.loop-instr.whole short g in
-          subst (λ p. IsRan (run_of judged h any_clause (first_state h.self d) code) (Some (p, r))) (sym stays) (refused h d code i (drop (n + 1) code) w m c.loop-instr.whole r inv.0 short g (first small.0 small.1)),
+    let stays : c.step.new.self.place ≡ w.place = subst (IsStepped i hs ks m k w c.step.new.self) c.in-Some.is c.in_ok-rule.ensures.1 in (
+      λ before there given names short.
+          let g = subst (λ l. GoesOn h before code l w hs m c.loop-instr.whole) at (inv.1 before there given names short) in
+          let small = stands_low h before code i (drop (n + 1) code) w hs m c.loop-instr.whole short g in
+          subst (λ p. IsRan h.records ks k before (run_of judged h any_clause (first_state h.self (captured_of before h.number)) code) (Some (p, r))) (sym stays)
+          (refused h before code i (drop (n + 1) code) w hs ks m k c.loop-instr.whole r inv.0 short g (first small.0 small.1)),
       λ e. absurd (cc),
     )
 
@@ -71,8 +90,10 @@ returns-in-Some-first c =
     let h = home_in c.args.home in
     let code = c.args.home.record.now.code.items in
     let none : drop c.loop-instr.instr-index code ≡ [] = none_left code c.deref-instr-items.result.now c.loop-instr.instr-index c.deref-instr-items.ensures.value (omega (arith, c.loop-instr-test.false)) in
-    let m = c.loop-instr.shared.named in (
-      λ d names short. ended h d code c.loop-instr.work m c.loop-instr.whole (Some c.in-Some-first.rule) short (subst (λ l. GoesOn h d code l c.loop-instr.work m c.loop-instr.whole) none (c.loop-instr.invariant.1 d names short)) c.in-Some-first.ensures,
+    let m = c.loop-instr.shared.named in
+    let hs = c.loop-instr.shared.handed.items in (
+      λ before there given names short.
+          ended h before code c.loop-instr.work hs m c.loop-instr.whole (Some c.in-Some-first.rule) short (subst (λ l. GoesOn h before code l c.loop-instr.work hs m c.loop-instr.whole) none (c.loop-instr.invariant.1 before there given names short)) c.in-Some-first.ensures,
       λ e. absurd (cc),
     )
 
@@ -81,7 +102,9 @@ returns c =
     let h = home_in c.args.home in
     let code = c.args.home.record.now.code.items in
     let none : drop c.loop-instr.instr-index code ≡ [] = none_left code c.deref-instr-items.result.now c.loop-instr.instr-index c.deref-instr-items.ensures.value (omega (arith, c.loop-instr-test.false)) in
-    let m = c.loop-instr.shared.named in (
-      λ d names short. ended h d code c.loop-instr.work m c.loop-instr.whole None short (subst (λ l. GoesOn h d code l c.loop-instr.work m c.loop-instr.whole) none (c.loop-instr.invariant.1 d names short)) c.in-None.ensures,
+    let m = c.loop-instr.shared.named in
+    let hs = c.loop-instr.shared.handed.items in (
+      λ before there given names short.
+          ended h before code c.loop-instr.work hs m c.loop-instr.whole None short (subst (λ l. GoesOn h before code l c.loop-instr.work hs m c.loop-instr.whole) none (c.loop-instr.invariant.1 before there given names short)) c.in-None.ensures,
       λ e. names_end code c.args.shared.now.named m (subst (λ l. NamesLeft code l c.args.shared.now.named m) none c.loop-instr.invariant.2),
     )

@@ -10,4 +10,6 @@ returns c =
     let p = popped v.items w.items c.pop.result c.pop.ensures.items (λ e. sym v.ok.0 ∙ (subst (λ o. MatchOption o ((v.len ≡ 0) × (w.len ≡ 0)) (λ x. w.len + 1 ≡ v.len)) e c.pop.ensures.cases).0) in record {
       sides = sides_around v.items w.items p.1;
       ends = ends_around v.items w.items p.1;
+      innermost = p.0;
+      frames = p.1;
     }

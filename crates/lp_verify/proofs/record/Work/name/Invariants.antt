@@ -1,7 +1,6 @@
-use Rattle.std.proofs.Common.{◌≡◌, ℕ, drop}
-use Rattle.std.specs.Prelude.{◌||◌}
-use Rattle.lp_code.specs.States.{member}
+use Rattle.std.proofs.Common.{◌≡◌, drop}
 use Rattle.lp_verify.specs.Named.{was_named}
+use Rattle.lp_verify.specs.inner.Handed.{IsNamedSoFar}
 use Rattle.lp_verify.specs.inner.Told.{are_fine}
 use Rattle.lp_verify.proofs.record.Work.name.Given as goal
 
@@ -9,5 +8,5 @@ abbrev pub invariant-loop-number : goal.invariant-loop-number
 invariant-loop-number l =
     let left = drop l.number-index l.fn.records in
     let home = l.fn.self.home in
-    (are_fine home.number home.records.now (was_named l.shared.named) l.fn.types l.fn.terms left ≡ are_fine home.number home.records.now (was_named l.fn.shared.named) l.fn.types l.fn.terms l.fn.records)
-    × ((n : ℕ) → (was_named l.shared.named n || member n left) ≡ (was_named l.fn.shared.named n || member n l.fn.records))
+    (are_fine home.number home.records.now (was_named l.named) l.fn.types l.fn.terms left ≡ are_fine home.number home.records.now (was_named l.fn.named) l.fn.types l.fn.terms l.fn.records)
+    × IsNamedSoFar l.fn.records left l.fn.place l.fn.named l.named

@@ -1,0 +1,9 @@
+pub mod Trees
+pub mod Shapes
+pub mod Looks
+pub mod Wholes
+pub mod Turns
+pub mod Numbers
+pub mod Strings
+pub mod Etas
+pub mod Operations

@@ -1,0 +1,4 @@
+pub mod ByOperation
+pub mod Frames
+pub mod Numbers
+pub mod Refusals

@@ -1,5 +1,0 @@
-use Rattle.lp_term.specs.Nodes.{Extends}
-use Rattle.lp_cert.proofs.reader.Reader.read_types.Given as goal
-
-abbrev pub invariant-loop : goal.invariant-loop
-invariant-loop l = Extends l.fn.bank l.bank
