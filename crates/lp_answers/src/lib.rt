@@ -11,6 +11,6 @@ mod stopped;
 mod writing;
 
 pub use searching::Searching;
-pub use shown::{Shown, names_of};
+pub use shown::Shown;
 pub use stopped::{Stopped, Written};
 pub use writing::write_answers;

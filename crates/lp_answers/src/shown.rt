@@ -1,12 +1,11 @@
 // What answers are shown with.
-ghost use Rattle.std.specs.Prelude.{◌≡◌, length, IfOk};
+ghost use Rattle.std.specs.Prelude.{length, IfOk};
 ghost use Rattle.lp_show.specs.Forms.{CanBeShown, CanPairBeShown};
 ghost use Rattle.lp_show.specs.Glossary.{entries_of};
 ghost use Rattle.lp_answers.specs.Told.{IsWhole};
 ghost use Rattle.lp_answers.specs.Texts.{IsAnswer, names_in};
 
-use lp_base::Memory;
-use lp_model::{Answer, Typed};
+use lp_model::Answer;
 use lp_show::Glossary;
 use lp_term::TermRefusal;
 use std::alloc::Global;
@@ -16,18 +15,6 @@ use std::alloc::Global;
 pub struct Shown<'g> {
     pub names: Vec<Vec<u8>>,
     pub glossary: &'g Glossary,
-}
-
-/// The names of a query's variables, as its text writes them.
-pub fn names_of(alloc: Global, text: &[u8], typed: &Typed) -> Result<Vec<Vec<u8>>, Memory>
-    ensures { IfOk result (λ names. length names.items ≡ length typed.now.vars.items) }
-{
-    let mut names = Vec::new(alloc);
-    for (spot, _) in typed.vars.iter() {
-        let name = text.get(spot.from..spot.to).unwrap_or(&[]);
-        names.push(name.to_vec(alloc)?)?;
-    }
-    Ok(names)
 }
 
 impl<'g> Shown<'g> {

@@ -13,14 +13,14 @@ use Rattle.lp_session.specs.declared.serving.SessionRefusal.{SessionRefusal}
 use Rattle.lp_session.specs.declared.serving.SessionRefusal.TheVariants.{Write, Memory}
 use Rattle.lp_session.specs.declared.serving.Summary.{Summary}
 use Rattle.lp_session.specs.Said.{summary_line}
-use Rattle.lp_session.specs.Replies.{Allowed, Lacking}
+use Rattle.lp_session.specs.Replies.{Meaning}
 use Rattle.lp_session.specs.Served.{IsSession, IsBrokenOff}
 use Rattle.lp_ask.specs.Ended.{EndsSo}
 
-pub served_grows : (A : Allowed) (L : Lacking) (lines : List ℕ) (old new : Option (List ℕ)) (r : Result Summary SessionRefusal) → IfOk r (IsSession A L lines old new) → IfErr r (IsBrokenOff A L lines old new) → Grows old new
-served_grows A L lines old new (Ok s) h k = (h.text ++ summary_line s.queries s.answers, h.appended)
-served_grows A L lines old new (Err Write) h k = prefix_grows old new (k.before ++ k.text) k.appended
-served_grows A L lines old new (Err Memory) h k = (k.before ++ k.text, k.appended)
+pub served_grows : (M : Meaning) (lines : List ℕ) (old new : Option (List ℕ)) (r : Result Summary SessionRefusal) → IfOk r (IsSession M lines old new) → IfErr r (IsBrokenOff M lines old new) → Grows old new
+served_grows M lines old new (Ok s) h k = (h.text ++ summary_line s.queries s.answers, h.appended)
+served_grows M lines old new (Err Write) h k = prefix_grows old new (k.before ++ k.text) k.appended
+served_grows M lines old new (Err Memory) h k = (k.before ++ k.text, k.appended)
 
 pub ends_search : (r : Result Summary SessionRefusal) (before after : ℕ) (status : Status) → EndsSo r before after status → status ≢ variant.WriteFault → is_of_search status ≡ true
 ends_search (Ok s) before after status h n = done_of_search status (λ z. h.0) n

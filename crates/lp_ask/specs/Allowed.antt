@@ -14,30 +14,42 @@ use Rattle.lp_query.specs.declared.fault.AskRefusal.TheVariants as ask
 use Rattle.lp_query.specs.Faults.{IsFirstMissing}
 use Rattle.lp_ask.specs.declared.answering.Broken.{Broken}
 use Rattle.lp_ask.specs.declared.answering.Broken.TheVariants as kind
-use Rattle.lp_query.specs.Outcomes.{entries_in}
+use Rattle.lp_query.specs.Outcomes.{entries_in, reader, ShowsVariables}
+use Rattle.lp_query.specs.Variables.{Reader, AreVariables}
 use Rattle.lp_session.specs.declared.replies.Reply.{Reply}
 use Rattle.lp_session.specs.declared.replies.Reply.TheVariants.{Written, NotThere}
 use Rattle.lp_session.specs.declared.replies.ReplyRefusal.{ReplyRefusal}
 use Rattle.lp_session.specs.declared.replies.ReplyRefusal.TheVariants.{Write, Memory}
-use Rattle.lp_session.specs.Replies.{Allowed, Lacking, IsReplied, IsBroken}
+use Rattle.lp_session.specs.Replies.{Meaning, IsReplied, IsBroken}
 use Rattle.lp_ask.specs.declared.answering.Answering.{Answering}
 
--- the variables that are shown: these names, where some are named
-abbrev pub Shows : Option (List (List ℕ)) → List (List ℕ) → Type 0
-Shows None names = Unit {0}
-Shows (Some shown) names = names ≡ shown
+-- the variables that are shown: these names, each of which is that of a variable of the query, where some are named, else all its variables
+abbrev pub Shows : Reader → (query : List ℕ) → Option (List (List ℕ)) → List (List ℕ) → Type 0
+Shows r query None names = AreVariables r query names
+Shows r query (Some shown) names = (names ≡ shown) × ShowsVariables r query shown
+
+-- the line that says why a text is refused
+pub record IsRefusalOf (query reply : List ℕ) : Type 0 where
+  pub said : Status
+  pub line : Vec ℕ Global
+  pub refusal : IsTextRefusal (Line said line)
+  pub placed : IfSource (IsOfText (codes "query") query) (Line said line)
+  pub is : reply ≡ line.items
 
 -- the line of a refusal of the query's text, or its answers and how their search ended
-pub data IsReplyTo (es : List Entry) (query : List ℕ) (shown : Option (List (List ℕ))) (reply : List ℕ) (answers : ℕ) : Type 0 where
-  refused : (said : Status) (line : Vec ℕ Global) → IsTextRefusal (Line said line) → IfSource (IsOfText (codes "query") query) (Line said line) → reply ≡ line.items → answers ≡ 0 → IsReplyTo es query shown reply answers
-  answered : (names : List (List ℕ)) (text : List ℕ) (e : Ending) → Shows shown names → AreAnswers es names answers text → reply ≡ text ++ last_text e [] → IsReplyTo es query shown reply answers
+pub data IsReplyTo (es : List Entry) (r : Reader) (query : List ℕ) (shown : Option (List (List ℕ))) (reply : List ℕ) (answers : ℕ) : Type 0 where
+  refused : IsRefusalOf query reply → answers ≡ 0 → IsReplyTo es r query shown reply answers
+  answered : (names : List (List ℕ)) (text : List ℕ) (e : Ending) → Shows r query shown names → AreAnswers es names answers text → reply ≡ text ++ last_text e [] → IsReplyTo es r query shown reply answers
 
-abbrev pub allowed_by : Answering → List ℕ → Option (List (List ℕ)) → List ℕ → ℕ → Type 0
-allowed_by a query shown reply answers = IsReplyTo (entries_in a.asker) query shown reply answers
+-- of the names to be shown this is the first that is no variable of the query
+abbrev pub IsLacking : Reader → (query : List ℕ) → List (List ℕ) → ℕ → Type 0
+IsLacking r query shown number = (names : List (List ℕ)) × (AreVariables r query names × IsFirstMissing names shown number)
 
--- of the names to be shown this is the first that is none of the names of a query's variables
-abbrev pub lacking_by : Answering → List ℕ → List (List ℕ) → ℕ → Type 0
-lacking_by a query shown number = (names : List (List ℕ)) × IsFirstMissing names shown number
+abbrev pub meaning_with : List Entry → Reader → Meaning
+meaning_with es r = record { allowed = λ query shown reply answers. IsReplyTo es r query shown reply answers; refuses = λ query reply. IsRefusalOf query reply; lacking = λ query shown number. IsLacking r query shown number }
+
+abbrev pub meaning_of : Answering → Meaning
+meaning_of a = meaning_with (entries_in a.asker) (reader a.asker)
 
 -- the line of a refusal was written, or a prefix of it
 abbrev pub PutRefused : List ℕ → (old new : Option (List ℕ)) → Result Reply ReplyRefusal → Type 0
@@ -47,9 +59,9 @@ PutRefused query old new (Err Write) = (said : Status) × ((line : Vec ℕ Globa
 PutRefused query old new (Err Memory) = new ≡ old
 
 -- a reply, or how it broke off
-abbrev pub Comes : Allowed → Lacking → List ℕ → Option (List (List ℕ)) → (old new : Option (List ℕ)) → Result Reply ReplyRefusal → Type 0
-Comes allowed lacking query shown old new (Ok r) = IsReplied allowed lacking query shown old new r
-Comes allowed lacking query shown old new (Err e) = IsBroken allowed query shown old new e
+abbrev pub Comes : Meaning → List ℕ → Option (List (List ℕ)) → (old new : Option (List ℕ)) → Result Reply ReplyRefusal → Type 0
+Comes m query shown old new (Ok r) = IsReplied m query shown old new r
+Comes m query shown old new (Err e) = IsBroken m query shown old new e
 
 -- a line was written, or a prefix of it
 abbrev pub PutsLine : List ℕ → (old new : Option (List ℕ)) → Result Reply ReplyRefusal → Type 0

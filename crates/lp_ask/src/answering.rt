@@ -2,8 +2,8 @@
 ghost use Rattle.std.specs.Prelude.{◌≡◌, ℕ, List, map, None, Some, Err};
 ghost use Rattle.lp_base.specs.Counts.{Counts};
 ghost use Rattle.lp_query.specs.Faults.{IsAskRefusal};
-ghost use Rattle.lp_query.specs.Outcomes.{entries_in};
-ghost use Rattle.lp_ask.specs.Allowed.{allowed_by, lacking_by, IsKind, PutsLine, PutRefused, Comes};
+ghost use Rattle.lp_query.specs.Outcomes.{entries_in, reader};
+ghost use Rattle.lp_ask.specs.Allowed.{meaning_of, IsKind, PutsLine, PutRefused, Comes};
 
 use crate::causes::cause_of;
 use lp_base::Sink;
@@ -81,9 +81,10 @@ impl<'i> Answering<'i> {
         query: &[u8],
         out: &mut K,
     ) -> Result<Reply, ReplyRefusal>
-        ensures comes { Comes (allowed_by self.old) (lacking_by self.old) query.now None (K.written out.old) (K.written out.new) result }
+        ensures comes { Comes (meaning_of self.old) query.now None (K.written out.old) (K.written out.new) result }
         ensures faults { Counts (result ≡ Err ReplyRefusal.Write) (K.faults out.old) (K.faults out.new) }
         ensures entries { entries_in self.new.asker ≡ entries_in self.old.asker }
+        ensures reader { reader self.new.asker ≡ reader self.old.asker }
     {
         let nobody: Option<&mut Vec<Counter>> = None;
         match self.asker.ask(query, self.steps, self.answers, nobody, out) {
@@ -105,9 +106,10 @@ impl<'i> Answering<'i> {
         names: &[Vec<u8>],
         out: &mut K,
     ) -> Result<Reply, ReplyRefusal>
-        ensures comes { Comes (allowed_by self.old) (lacking_by self.old) query.now (Some (map (λ n. n.items) names.now)) (K.written out.old) (K.written out.new) result }
+        ensures comes { Comes (meaning_of self.old) query.now (Some (map (λ n. n.items) names.now)) (K.written out.old) (K.written out.new) result }
         ensures faults { Counts (result ≡ Err ReplyRefusal.Write) (K.faults out.old) (K.faults out.new) }
         ensures entries { entries_in self.new.asker ≡ entries_in self.old.asker }
+        ensures reader { reader self.new.asker ≡ reader self.old.asker }
     {
         match self
             .asker
@@ -125,9 +127,7 @@ impl<'i> Answering<'i> {
 }
 
 impl<'i> Replies for Answering<'i> {
-    ghost allowed = { allowed_by };
-
-    ghost lacking = { lacking_by };
+    ghost meaning = { meaning_of };
 
     fn reply<K: Sink>(
         &mut self,

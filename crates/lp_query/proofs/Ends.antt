@@ -1,5 +1,5 @@
 -- How a query ends, from how its search or its compiling did.
-use Rattle.std.proofs.Common.{◌≡◌, Bool, true, false, ℕ, List, [], Option, Result, Ok, Err, refl, sym, ap, subst, ◌∙◌, arith, inr}
+use Rattle.std.proofs.Common.{◌≡◌, Bool, true, false, ℕ, List, [], Option, Result, Ok, Err, refl, sym, ap, subst, ◌∙◌, arith, inl, inr}
 use Rattle.std.specs.Prelude.{◌⊎◌, IsErrAnd, IfOk, IfErr}
 use Rattle.lp_base.specs.Counts.{Counts}
 use Rattle.lp_model.specs.Shown.{Entry}
@@ -10,7 +10,7 @@ use Rattle.lp_answers.specs.Texts.{no_answer, Stopping, MayReport, reports_in}
 use Rattle.lp_answers.proofs.Appending.{appends_nothing}
 use Rattle.lp_query.specs.declared.fault.AskRefusal.{AskRefusal}
 use Rattle.lp_query.specs.declared.fault.AskRefusal.TheVariants.{Lex, Syntax, Infer, Form, Limit, Write, Memory, NotThere}
-use Rattle.lp_query.specs.Faults.{IsOfQuery, IsOfWriting, IsAskRefusal, IsShownRefusal}
+use Rattle.lp_query.specs.Faults.{IsOfQuery, IsOfWriting, IsAskRefusal, IsNotThere, IsUnwritten, IsShownRefusal}
 use Rattle.lp_query.specs.Refusals.{of_stop}
 use Rattle.lp_query.specs.Outcomes.{Answered, Broke}
 
@@ -78,14 +78,15 @@ stop_counts (Err e) stop.Write o n h c = counts_as (◌≡◌ {A = Result Writte
 stop_counts (Err e) stop.Memory o n h c =
     counts_as (◌≡◌ {A = Result Written Stopped} (Err stop.Memory) (Err stop.Write)) (◌≡◌ {A = Result Written AskRefusal} (Err e) (Err Write)) o n (λ z. absurd (cc)) (λ z. let y : ◌≡◌ {A = AskRefusal} Memory Write = cc in absurd (cc)) c
 
--- one that is said of some names
-pub of_some_names : (es : List Entry) (watched : Bool) (most : ℕ) (o n : Option (List ℕ)) (ns : List (List ℕ)) (r : Result Written AskRefusal) → IfOk r (Answered es ns watched most o n) → IfOk r (λ w. (names : List (List ℕ)) × Answered es names watched most o n w)
-of_some_names es watched most o n ns (Ok w) h = (ns, h)
-of_some_names es watched most o n ns (Err e) h = tt
+-- one that is said of some names, which are such
+module _ (V : List (List ℕ) → Type 0) (es : List Entry) (watched : Bool) (most : ℕ) (o n : Option (List ℕ)) (ns : List (List ℕ)) (v : V ns) where
+  pub of_some_names : (r : Result Written AskRefusal) → IfOk r (Answered es ns watched most o n) → IfOk r (λ w. (names : List (List ℕ)) × (V names × Answered es names watched most o n w))
+  of_some_names (Ok w) h = (ns, (v, h))
+  of_some_names (Err e) h = tt
 
-pub broke_some_names : (es : List Entry) (watched : Bool) (most : ℕ) (o n : Option (List ℕ)) (ns : List (List ℕ)) (r : Result Written AskRefusal) → IfErr r (Broke es ns watched most o n) → IfErr r (λ e. (names : List (List ℕ)) × Broke es names watched most o n e)
-broke_some_names es watched most o n ns (Ok w) h = tt
-broke_some_names es watched most o n ns (Err e) h = (ns, h)
+  pub broke_some_names : (r : Result Written AskRefusal) → IfErr r (Broke es ns watched most o n) → IfErr r (λ e. (names : List (List ℕ)) × ((V names ⊎ IsUnwritten o n e) × Broke es names watched most o n e))
+  broke_some_names (Ok w) h = tt
+  broke_some_names (Err e) h = (ns, (inl v, h))
 
 pub refused_writing : (text : List ℕ) (r : Result Written AskRefusal) → IfErr r IsOfWriting → IfErr r (IsAskRefusal text)
 refused_writing text (Ok w) h = tt
@@ -111,12 +112,43 @@ passed_counts {T} {U} (Err y) e o n h c =
 pub done_counts : {T U : Type 0} (t : T) (u : U) (o n : ℕ) → Counts (◌≡◌ {A = Result T AskRefusal} (Ok t) (Err Write)) o n → Counts (◌≡◌ {A = Result U AskRefusal} (Ok u) (Err Write)) o n
 done_counts {T} {U} t u o n c = counts_as (◌≡◌ {A = Result T AskRefusal} (Ok t) (Err Write)) (◌≡◌ {A = Result U AskRefusal} (Ok u) (Err Write)) o n (λ e. absurd (cc)) (λ e. absurd (cc)) c
 
-abbrev pub IsShownOrWriting : List ℕ → List (List ℕ) → AskRefusal → Type 0
-IsShownOrWriting text shown e = ((names : List (List ℕ)) × IsShownRefusal text names shown e) ⊎ IsOfWriting e
+-- a refusal of the query, or of the names to be shown
+abbrev pub IsShownFault : (List (List ℕ) → Type 0) → List ℕ → List (List ℕ) → AskRefusal → Type 0
+IsShownFault V text shown e = IsAskRefusal text e ⊎ ((names : List (List ℕ)) × (V names × IsNotThere names shown e))
 
-pub shown_writing : (text : List ℕ) (shown : List (List ℕ)) (r : Result Written AskRefusal) → IfErr r IsOfWriting → IfErr r (IsShownOrWriting text shown)
-shown_writing text shown (Ok w) h = tt
-shown_writing text shown (Err e) h = inr h
+module _ (V : List (List ℕ) → Type 0) (text : List ℕ) (shown : List (List ℕ)) where
+  pub shown_fault : (names : List (List ℕ)) (e : AskRefusal) → V names → IsShownRefusal text names shown e → IsShownFault V text shown e
+  shown_fault names (Lex f) v h = inl h
+  shown_fault names (Syntax f) v h = inl tt
+  shown_fault names (Infer f) v h = inl tt
+  shown_fault names (Form f) v h = inl tt
+  shown_fault names (Limit l) v h = inl tt
+  shown_fault names Write v h = inl tt
+  shown_fault names Memory v h = inl tt
+  shown_fault names (NotThere n) v h = inr (names, (v, h))
+
+  pub writing_fault : (r : Result Written AskRefusal) → IfErr r IsOfWriting → IfErr r (IsShownFault V text shown)
+  writing_fault (Ok w) h = tt
+  writing_fault (Err e) h = inl (ask_of_writing text e h)
+
+  pub any_fault : (e : AskRefusal) → IsShownFault V text shown e → IsAskRefusal text e ⊎ ((names : List (List ℕ)) × IsNotThere names shown e)
+  any_fault e (inl h) = inl h
+  any_fault e (inr h) = inr (h.0, h.1.1)
+
+-- a refusal before anything was written
+pub query_unwritten : (text : List ℕ) (o : Option (List ℕ)) (e : AskRefusal) → IsOfQuery text e → IsUnwritten o o e
+query_unwritten text o e h = (λ z. subst (IsOfQuery text) z h, refl)
+
+pub shown_unwritten : (text : List ℕ) (names shown : List (List ℕ)) (o : Option (List ℕ)) (e : AskRefusal) → IsShownRefusal text names shown e → IsUnwritten o o e
+shown_unwritten text names shown o e h = (λ z. subst (IsShownRefusal text names shown) z h, refl)
+
+pub for_ok : {P : Type 0} (r : Result Written AskRefusal) → P → IfOk r (λ w. P)
+for_ok (Ok w) p = p
+for_ok (Err e) p = tt
+
+pub for_err : {P : Type 0} (Q : AskRefusal → Type 0) (r : Result Written AskRefusal) → P → IfErr r (λ e. P ⊎ Q e)
+for_err Q (Ok w) p = tt
+for_err Q (Err e) p = inl p
 
 pub may_report : (watched : Bool) (reports : List ℕ) → MayReport watched (reports_in watched reports)
 may_report true reports = λ e. absurd (cc)

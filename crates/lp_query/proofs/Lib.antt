@@ -2,3 +2,4 @@ mod Names
 mod Refused
 mod Values
 mod Ends
+pub mod Variables

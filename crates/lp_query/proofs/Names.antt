@@ -8,6 +8,7 @@ use Rattle.std.proofs.lemmas.Option.{slice_get-get_or, slice_get-map}
 use Rattle.lp_lemmas.proofs.Booleans.{bytes_eq_self, bytes_eq_true}
 use Rattle.lp_lemmas.proofs.Lists.{take_suc, map_pushed, map_take}
 use Rattle.lp_lemmas.proofs.Elements.{All_pushed}
+use Rattle.lp_query.specs.Faults.{AreThere}
 
 abbrev pub Name : Type 0
 Name = Vec ℕ Global
@@ -33,17 +34,16 @@ other_name names k d now name h e t a =
 pub no_name : (names : List Name) (k : ℕ) (name : List ℕ) → length names ≤ k → All (λ n. n ≢ name) (map bytes (take k names)) → All (λ n. n ≢ name) (map bytes names)
 no_name names k name h a = subst (λ z. All (λ n. n ≢ name) (map bytes z)) (take_all k names h) a
 
--- names that were found
-abbrev pub AreFound : List (List ℕ) → List (List ℕ) → Type 0
-AreFound names shown = All (λ s. (at : ℕ) × (slice_get names at ≡ Some s)) shown
-
 pub found_more : (names : List (List ℕ)) (shown : List Name) (k : ℕ) (d : Name) (now : List ℕ) (place : ℕ) → k < length shown → now ≡ (get_or shown k d).items → slice_get names place ≡ Some now
-    → AreFound names (map bytes (take k shown)) → AreFound names (map bytes (take (k + 1) shown))
+    → AreThere names (map bytes (take k shown)) → AreThere names (map bytes (take (k + 1) shown))
 found_more names shown k d now place h e g a =
     All_pushed (λ s. (at : ℕ) × (slice_get names at ≡ Some s)) (map bytes (take (k + 1) shown)) (map bytes (take k shown)) (get_or shown k d).items (one_more shown k d h) a (place, g ∙ ap Some e)
 
-pub found_before : (names : List (List ℕ)) (shown : List Name) (k : ℕ) → AreFound names (map bytes (take k shown)) → AreFound names (take k (map bytes shown))
-found_before names shown k a = subst (AreFound names) (map_take bytes k shown) a
+pub found_before : (names : List (List ℕ)) (shown : List Name) (k : ℕ) → AreThere names (map bytes (take k shown)) → AreThere names (take k (map bytes shown))
+found_before names shown k a = subst (AreThere names) (map_take bytes k shown) a
+
+pub found_all : (names : List (List ℕ)) (shown : List Name) (k : ℕ) → length shown ≤ k → AreThere names (map bytes (take k shown)) → AreThere names (map bytes shown)
+found_all names shown k h a = subst (λ z. AreThere names (map bytes z)) (take_all k shown h) a
 
 -- all of a list of numbers, and one more
 pub all_pushed : (P : ℕ → Type 0) (all xs : List ℕ) (x : ℕ) → all ≡ xs ++ x ∷ [] → All P xs → P x → All P all

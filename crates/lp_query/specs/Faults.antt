@@ -1,5 +1,5 @@
 -- Refusals of a query before its search.
-use Rattle.std.specs.Prelude.{◌≡◌, ◌≢◌, ℕ, List, take, min, All, slice_get, Some}
+use Rattle.std.specs.Prelude.{◌≡◌, ◌≢◌, ℕ, List, take, min, All, slice_get, Option, Some}
 use Rattle.lp_lexer.specs.Lexis.{HasFault}
 use Rattle.lp_query.specs.declared.fault.AskRefusal.{AskRefusal}
 use Rattle.lp_query.specs.declared.fault.AskRefusal.TheVariants.{Lex, Syntax, Infer, Form, Limit, Write, Memory, NotThere}
@@ -35,10 +35,18 @@ pub record IsFirstMissing (names shown : List (List ℕ)) (number : ℕ) : Type 
   -- those in front of it are variables
   pub before : All (λ s. (at : ℕ) × (slice_get names at ≡ Some s)) (take place shown)
 
+-- nothing was written, and no piece failed
+abbrev pub IsUnwritten : (old new : Option (List ℕ)) → AskRefusal → Type 0
+IsUnwritten old new e = (e ≢ Write) × (new ≡ old)
+
 abbrev pub IsNotThere : (names shown : List (List ℕ)) → AskRefusal → Type 0
 IsNotThere names shown (NotThere n) = IsFirstMissing names shown n
 IsNotThere names shown Memory = Unit {0}
 IsNotThere names shown e = ⊥
+
+-- each of the names to be shown is one of these
+abbrev pub AreThere : (names shown : List (List ℕ)) → Type 0
+AreThere names shown = All (λ s. (at : ℕ) × (slice_get names at ≡ Some s)) shown
 
 abbrev pub IsShownRefusal : List ℕ → (names shown : List (List ℕ)) → AskRefusal → Type 0
 IsShownRefusal text names shown (NotThere n) = IsFirstMissing names shown n

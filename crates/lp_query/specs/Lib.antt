@@ -1,4 +1,5 @@
 pub mod Refusals
+pub mod Variables
 pub mod Faults
 pub mod Outcomes
 pub mod Fitting

@@ -1,7 +1,7 @@
 // Which variables of a query are shown.
 ghost use Rattle.std.specs.Prelude.{◌≡◌, ◌≢◌, ◌<◌, ℕ, List, length, map, All, None, Some, slice_get, IfOk, IfErr, IfSome};
 ghost use Rattle.std.specs.Str.{bytes_eq};
-ghost use Rattle.lp_query.specs.Faults.{IsOfQuery, IsNotThere, IsShownRefusal};
+ghost use Rattle.lp_query.specs.Faults.{IsOfQuery, IsNotThere, AreThere, IsShownRefusal};
 
 use crate::compiled::Compiled;
 use crate::fault::AskRefusal;
@@ -34,6 +34,7 @@ fn count_of(names: &[Vec<u8>]) -> Result<u32, AskRefusal>
 /// The query as it stands, whose variables are all shown.
 pub(crate) fn all_shown(alloc: Global, compiled: Compiled) -> Result<Asked, AskRefusal>
     ensures code { IfOk result (λ asked. asked.code ≡ compiled.code) }
+    ensures names { IfOk result (λ asked. asked.names ≡ compiled.names) }
     ensures refused { (text : List ℕ) → IfErr result (IsOfQuery text) }
 {
     let Compiled { code, names } = compiled;
@@ -74,6 +75,7 @@ fn place_of(names: &[Vec<u8>], name: &[u8]) -> Option<usize>
 fn places_of(alloc: Global, names: &[Vec<u8>], shown: &[Vec<u8>]) -> Result<Vec<usize>, AskRefusal>
     ensures count { IfOk result (λ places. length places.items ≡ length shown.now) }
     ensures within { IfOk result (λ places. All (λ p. p < length names.now) places.items) }
+    ensures there { IfOk result (λ _. AreThere (map (λ n. n.items) names.now) (map (λ n. n.items) shown.now)) }
     ensures refused { IfErr result (IsNotThere (map (λ n. n.items) names.now) (map (λ n. n.items) shown.now)) }
 {
     let mut places = Vec::new(alloc);
@@ -94,6 +96,7 @@ pub(crate) fn some_shown(
 ) -> Result<Asked, AskRefusal>
     ensures code { IfOk result (λ asked. asked.code ≡ compiled.code) }
     ensures names { IfOk result (λ asked. map (λ n. n.items) asked.names.items ≡ map (λ n. n.items) shown.now) }
+    ensures there { IfOk result (λ _. AreThere (map (λ n. n.items) compiled.names.items) (map (λ n. n.items) shown.now)) }
     ensures refused { (text : List ℕ) → IfErr result (IsShownRefusal text (map (λ n. n.items) compiled.names.items) (map (λ n. n.items) shown.now)) }
 {
     let Compiled { code, names } = compiled;

@@ -27,8 +27,9 @@ pub struct Asker<'i> {
 }
 
 impl<'i> Asker<'i> {
-    ghost use Rattle.lp_query.specs.Faults.{IsOfQuery, IsOfWriting, IsAskRefusal, IsShownRefusal};
-    ghost use Rattle.lp_query.specs.Outcomes.{entries_in, Answered, Broke};
+    ghost use Rattle.lp_query.specs.Variables.{AreVariables};
+    ghost use Rattle.lp_query.specs.Faults.{IsOfQuery, IsAskRefusal, IsNotThere, IsUnwritten};
+    ghost use Rattle.lp_query.specs.Outcomes.{entries_in, reader, ShowsVariables, Answered, Broke};
 
     /// What answers queries on this image.
     pub fn new(alloc: Global, image: &'i Verified) -> Result<Asker<'i>, Memory>
@@ -47,8 +48,10 @@ impl<'i> Asker<'i> {
     fn compile(&mut self, query: &[u8]) -> Result<Compiled, AskRefusal>
         ensures fit { IfOk result (λ c. AllFit c.code.records.items) }
         ensures refused { IfErr result (IsOfQuery query.now) }
+        ensures variables { IfOk result (λ c. AreVariables (reader self.old) query.now (map (λ n. n.items) c.names.items)) }
         ensures image { self.new.image ≡ self.old.image }
         ensures entries { entries_in self.new ≡ entries_in self.old }
+        ensures reader { reader self.new ≡ reader self.old }
     {
         self.seen.renew(self.alloc)?;
         Compiled::of(self.alloc, &mut self.seen, query)
@@ -69,8 +72,9 @@ impl<'i> Asker<'i> {
         ensures refused { IfErr result (IsAskRefusal query.now) }
         ensures image { self.new.image ≡ self.old.image }
         ensures entries { entries_in self.new ≡ entries_in self.old }
-        ensures written { IfOk result (λ w. (names : List (List ℕ)) × Answered (entries_in self.old) names (is_some watchers.entry) answers (K.written out.old) (K.written out.new) w) }
-        ensures broke { IfErr result (λ e. (names : List (List ℕ)) × Broke (entries_in self.old) names (is_some watchers.entry) answers (K.written out.old) (K.written out.new) e) }
+        ensures reader { reader self.new ≡ reader self.old }
+        ensures written { IfOk result (λ w. (names : List (List ℕ)) × (AreVariables (reader self.old) query.now names × Answered (entries_in self.old) names (is_some watchers.entry) answers (K.written out.old) (K.written out.new) w)) }
+        ensures broke { IfErr result (λ e. (names : List (List ℕ)) × ((AreVariables (reader self.old) query.now names ⊎ IsUnwritten (K.written out.old) (K.written out.new) e) × Broke (entries_in self.old) names (is_some watchers.entry) answers (K.written out.old) (K.written out.new) e)) }
         ensures faults { Counts (result ≡ Err AskRefusal.Write) (K.faults out.old) (K.faults out.new) }
     {
         let compiled = self.compile(query)?;
@@ -121,9 +125,12 @@ impl<'i> Asker<'i> {
         answers: u64,
         out: &mut K,
     ) -> Result<Written, AskRefusal>
-        ensures refused { IfErr result (λ e. ((names : List (List ℕ)) × IsShownRefusal query.now names (map (λ n. n.items) shown.now) e) ⊎ IsOfWriting e) }
+        ensures refused { IfErr result (λ e. IsAskRefusal query.now e ⊎ ((names : List (List ℕ)) × (AreVariables (reader self.old) query.now names × IsNotThere names (map (λ n. n.items) shown.now) e))) }
         ensures image { self.new.image ≡ self.old.image }
         ensures entries { entries_in self.new ≡ entries_in self.old }
+        ensures reader { reader self.new ≡ reader self.old }
+        ensures there { IfOk result (λ _. ShowsVariables (reader self.old) query.now (map (λ n. n.items) shown.now)) }
+        ensures shows { IfErr result (λ e. ShowsVariables (reader self.old) query.now (map (λ n. n.items) shown.now) ⊎ IsUnwritten (K.written out.old) (K.written out.new) e) }
         ensures written { IfOk result (Answered (entries_in self.old) (map (λ n. n.items) shown.now) false answers (K.written out.old) (K.written out.new)) }
         ensures broke { IfErr result (Broke (entries_in self.old) (map (λ n. n.items) shown.now) false answers (K.written out.old) (K.written out.new)) }
         ensures faults { Counts (result ≡ Err AskRefusal.Write) (K.faults out.old) (K.faults out.new) }

@@ -4,7 +4,7 @@ ghost use Rattle.lp_base.specs.Counts.{Counts};
 ghost use Rattle.lp_code.specs.Length.{AllFit};
 ghost use Rattle.lp_model.specs.Shown.{Entry};
 ghost use Rattle.lp_answers.specs.declared.stopped.Written.{Written};
-ghost use Rattle.lp_query.specs.Faults.{IsOfWriting, IsAskRefusal, IsShownRefusal};
+ghost use Rattle.lp_query.specs.Faults.{IsAskRefusal, IsNotThere};
 ghost use Rattle.lp_query.specs.Outcomes.{Answered, Broke};
 
 use crate::asker::Asker;
@@ -53,7 +53,7 @@ pub fn ask_shown<K: Sink>(
     out: &mut K,
 ) -> Result<Ending, AskRefusal>
     requires { AllFit image.now.image.code.records.items }
-    ensures refused { IfErr result (λ e. ((names : List (List ℕ)) × IsShownRefusal query.now names (map (λ n. n.items) shown.now) e) ⊎ IsOfWriting e) }
+    ensures refused { IfErr result (λ e. IsAskRefusal query.now e ⊎ ((names : List (List ℕ)) × IsNotThere names (map (λ n. n.items) shown.now) e)) }
     ensures written { IfOk result (λ _. (entries : List Entry) × ((w : Written) × Answered entries (map (λ n. n.items) shown.now) false answers (K.written out.old) (K.written out.new) w)) }
     ensures broke { IfErr result (λ e. (entries : List Entry) × Broke entries (map (λ n. n.items) shown.now) false answers (K.written out.old) (K.written out.new) e) }
     ensures faults { Counts (result ≡ Err AskRefusal.Write) (K.faults out.old) (K.faults out.new) }

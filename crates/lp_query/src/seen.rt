@@ -155,7 +155,9 @@ impl Seen {
 
     /// Forgets the terms of earlier queries, where there are many: what a query costs is not more than twice what the queries before it cost.
     pub(crate) fn renew(&mut self, alloc: Global) -> Result<(), Memory>
-        ensures { self.new.glossary ≡ self.old.glossary }
+        ensures glossary { self.new.glossary ≡ self.old.glossary }
+        ensures signature { self.new.signature ≡ self.old.signature }
+        ensures table { self.new.table ≡ self.old.table }
     {
         let types = self.signature.bank();
         let made = self

@@ -15,7 +15,7 @@ use Rattle.lp_session.specs.declared.serving.Summary.{Summary}
 use Rattle.lp_session.specs.Lines.{lines_of, is_blank, AreWholeLines}
 use Rattle.lp_session.specs.Form.{piece, form_of}
 use Rattle.lp_session.specs.Said.{query_line, unexpected_line, undeclared_line, summary_line}
-use Rattle.lp_session.specs.Replies.{Allowed, Lacking, IsGiven}
+use Rattle.lp_session.specs.Replies.{Meaning, IsGiven}
 
 -- the tokens of a line that has this form
 pub record HasForm (line : List ℕ) (f : Form) (tokens : List Token) : Type 0 where
@@ -42,28 +42,28 @@ abbrev pub column_at : List ℕ → ℕ → ℕ
 column_at line at = (place_at line at).column
 
 -- the reply to a line, with the number of its answers
-pub data IsReply (allowed : Allowed) (lacking : Lacking) (line : List ℕ) : List ℕ → ℕ → Type 0 where
-  plain : (reply : List ℕ) (n : ℕ) → IsPlain line → IsGiven allowed line None reply n → IsReply allowed lacking line reply n
+pub data IsReply (m : Meaning) (line : List ℕ) : List ℕ → ℕ → Type 0 where
+  plain : (reply : List ℕ) (n : ℕ) → IsPlain line → IsGiven m line None reply n → IsReply m line reply n
   printed : (dot to : ℕ) (tokens : List Token) (reply : List ℕ) (n : ℕ) → HasForm line (Printed dot to) tokens
-      → IsGiven allowed (behind_dot line to) (Some (names_in line (names_at dot tokens))) reply n → IsReply allowed lacking line reply n
+      → IsGiven m (behind_dot line to) (Some (names_in line (names_at dot tokens))) reply n → IsReply m line reply n
   undeclared : (dot to : ℕ) (tokens : List Token) (i : ℕ) (t : Token) (reply : List ℕ) → HasForm line (Printed dot to) tokens
-      → lacking (behind_dot line to) (names_in line (names_at dot tokens)) i → slice_get (names_at dot tokens) i ≡ Some t
-      → reply ≡ undeclared_line (column_at line t.from) (piece line t.from t.to) → IsReply allowed lacking line reply 0
-  unfit : (at : ℕ) (tokens : List Token) (reply : List ℕ) → HasForm line (Unfit at) tokens → reply ≡ unexpected_line (column_at line at) → IsReply allowed lacking line reply 0
+      → m.lacking (behind_dot line to) (names_in line (names_at dot tokens)) i → slice_get (names_at dot tokens) i ≡ Some t
+      → reply ≡ undeclared_line (column_at line t.from) (piece line t.from t.to) → IsReply m line reply 0
+  unfit : (at : ℕ) (tokens : List Token) (reply : List ℕ) → HasForm line (Unfit at) tokens → reply ≡ unexpected_line (column_at line at) → IsReply m line reply 0
 
 -- whole lines that begin a reply to a line; nothing may come of no reply
-abbrev pub BeginsReply : Allowed → Lacking → List ℕ → List ℕ → Type 0
-BeginsReply allowed lacking line begun = (begun ≡ []) ⊎ ((rest : List ℕ) × ((n : ℕ) × IsReply allowed lacking line (begun ++ rest) n))
+abbrev pub BeginsReply : Meaning → List ℕ → List ℕ → Type 0
+BeginsReply m line begun = (begun ≡ []) ⊎ ((rest : List ℕ) × ((n : ℕ) × IsReply m line (begun ++ rest) n))
 
 abbrev pub refused : ReplyRefusal → SessionRefusal
 refused reply.Write = Write
 refused reply.Memory = Memory
 
 -- what was written in reply to a line
-abbrev pub Replied : Allowed → Lacking → List ℕ → (old new : Option (List ℕ)) → Result ℕ SessionRefusal → Type 0
-Replied allowed lacking line old new (Ok n) = (reply : List ℕ) × (IsReply allowed lacking line reply n × Appends old new reply)
-Replied allowed lacking line old new (Err Write) = (reply : List ℕ) × ((n : ℕ) × (IsReply allowed lacking line reply n × AppendsPrefix old new reply))
-Replied allowed lacking line old new (Err Memory) = (begun : List ℕ) × (AreWholeLines begun × (BeginsReply allowed lacking line begun × Appends old new begun))
+abbrev pub Replied : Meaning → List ℕ → (old new : Option (List ℕ)) → Result ℕ SessionRefusal → Type 0
+Replied m line old new (Ok n) = (reply : List ℕ) × (IsReply m line reply n × Appends old new reply)
+Replied m line old new (Err Write) = (reply : List ℕ) × ((n : ℕ) × (IsReply m line reply n × AppendsPrefix old new reply))
+Replied m line old new (Err Memory) = (begun : List ℕ) × (AreWholeLines begun × (BeginsReply m line begun × Appends old new begun))
 
 -- a reply without answers was written, or a prefix of it
 abbrev pub Says : List ℕ → (old new : Option (List ℕ)) → Result ℕ SessionRefusal → Type 0
@@ -75,65 +75,65 @@ abbrev pub sum_of : ℕ → ℕ → ℕ
 sum_of a n = min (a + n) (2 ^ 64 - 1)
 
 -- what a session writes for a line that k queries go before, with the number of queries behind it and of the line's answers
-pub data Turn (allowed : Allowed) (lacking : Lacking) (line : List ℕ) (k : ℕ) : List ℕ → ℕ → ℕ → Type 0 where
-  skipped : (text : List ℕ) → is_blank line ≡ true → text ≡ [] → Turn allowed lacking line k text k 0
-  asked : (text reply : List ℕ) (k' n : ℕ) → is_blank line ≡ false → IsReply allowed lacking line reply n → text ≡ query_line (k + 1) ++ reply → k' ≡ k + 1 → Turn allowed lacking line k text k' n
+pub data Turn (m : Meaning) (line : List ℕ) (k : ℕ) : List ℕ → ℕ → ℕ → Type 0 where
+  skipped : (text : List ℕ) → is_blank line ≡ true → text ≡ [] → Turn m line k text k 0
+  asked : (text reply : List ℕ) (k' n : ℕ) → is_blank line ≡ false → IsReply m line reply n → text ≡ query_line (k + 1) ++ reply → k' ≡ k + 1 → Turn m line k text k' n
 
 -- what a session writes for lines, with the numbers of queries and answers
-pub data Served (allowed : Allowed) (lacking : Lacking) : List (List ℕ) → List ℕ → ℕ → ℕ → Type 0 where
-  nothing : Served allowed lacking [] [] 0 0
-  one_more : (lines : List (List ℕ)) (line : List ℕ) (all : List (List ℕ)) (before text both : List ℕ) (k k' a n a' : ℕ) → Served allowed lacking lines before k a → Turn allowed lacking line k text k' n
-      → all ≡ lines ++ line ∷ [] → both ≡ before ++ text → a' ≡ sum_of a n → Served allowed lacking all both k' a'
+pub data Served (m : Meaning) : List (List ℕ) → List ℕ → ℕ → ℕ → Type 0 where
+  nothing : Served m [] [] 0 0
+  one_more : (lines : List (List ℕ)) (line : List ℕ) (all : List (List ℕ)) (before text both : List ℕ) (k k' a n a' : ℕ) → Served m lines before k a → Turn m line k text k' n
+      → all ≡ lines ++ line ∷ [] → both ≡ before ++ text → a' ≡ sum_of a n → Served m all both k' a'
 
 -- a whole session: what it writes for its lines, and the summary
-pub record IsSession (allowed : Allowed) (lacking : Lacking) (lines : List ℕ) (old new : Option (List ℕ)) (summary : Summary) : Type 0 where
+pub record IsSession (m : Meaning) (lines : List ℕ) (old new : Option (List ℕ)) (summary : Summary) : Type 0 where
   pub text : List ℕ
-  pub served : Served allowed lacking (lines_of lines) text summary.queries summary.answers
+  pub served : Served m (lines_of lines) text summary.queries summary.answers
   pub appended : Appends old new (text ++ summary_line summary.queries summary.answers)
 
 -- what may be written next: behind the last line the summary, else what a line begins with
-abbrev pub IsNext : Allowed → Lacking → List (List ℕ) → (k a : ℕ) → List ℕ → Type 0
-IsNext allowed lacking [] k a text = text ≡ summary_line k a
-IsNext allowed lacking (line ∷ lines) k a text = (is_blank line ≡ false) × ((text ≡ query_line (k + 1)) ⊎ ((reply : List ℕ) × ((n : ℕ) × (IsReply allowed lacking line reply n × (text ≡ query_line (k + 1) ++ reply)))))
+abbrev pub IsNext : Meaning → List (List ℕ) → (k a : ℕ) → List ℕ → Type 0
+IsNext m [] k a text = text ≡ summary_line k a
+IsNext m (line ∷ lines) k a text = (is_blank line ≡ false) × ((text ≡ query_line (k + 1)) ⊎ ((reply : List ℕ) × ((n : ℕ) × (IsReply m line reply n × (text ≡ query_line (k + 1) ++ reply)))))
 
 -- the same where it broke off behind a whole line
-abbrev pub IsNextWhole : Allowed → Lacking → List (List ℕ) → (k : ℕ) → List ℕ → Type 0
-IsNextWhole allowed lacking [] k text = text ≡ []
-IsNextWhole allowed lacking (line ∷ lines) k text = (text ≡ []) ⊎ ((is_blank line ≡ false) × ((begun : List ℕ) × (AreWholeLines begun × (BeginsReply allowed lacking line begun × (text ≡ query_line (k + 1) ++ begun)))))
+abbrev pub IsNextWhole : Meaning → List (List ℕ) → (k : ℕ) → List ℕ → Type 0
+IsNextWhole m [] k text = text ≡ []
+IsNextWhole m (line ∷ lines) k text = (text ≡ []) ⊎ ((is_blank line ≡ false) × ((begun : List ℕ) × (AreWholeLines begun × (BeginsReply m line begun × (text ≡ query_line (k + 1) ++ begun)))))
 
 -- the session broke off: some lines are done, and of what is next a prefix was appended
-pub record IsCut (allowed : Allowed) (lacking : Lacking) (lines : List ℕ) (old new : Option (List ℕ)) : Type 0 where
+pub record IsCut (m : Meaning) (lines : List ℕ) (old new : Option (List ℕ)) : Type 0 where
   pub done : List (List ℕ)
   pub rest : List (List ℕ)
   pub all : lines_of lines ≡ done ++ rest
   pub before : List ℕ
   pub queries : ℕ
   pub answers : ℕ
-  pub served : Served allowed lacking done before queries answers
+  pub served : Served m done before queries answers
   pub text : List ℕ
-  pub next : IsNext allowed lacking rest queries answers text
+  pub next : IsNext m rest queries answers text
   pub appended : AppendsPrefix old new (before ++ text)
 
 -- the same behind a whole line
-pub record IsCutWhole (allowed : Allowed) (lacking : Lacking) (lines : List ℕ) (old new : Option (List ℕ)) : Type 0 where
+pub record IsCutWhole (m : Meaning) (lines : List ℕ) (old new : Option (List ℕ)) : Type 0 where
   pub done : List (List ℕ)
   pub rest : List (List ℕ)
   pub all : lines_of lines ≡ done ++ rest
   pub before : List ℕ
   pub queries : ℕ
   pub answers : ℕ
-  pub served : Served allowed lacking done before queries answers
+  pub served : Served m done before queries answers
   pub text : List ℕ
-  pub next : IsNextWhole allowed lacking rest queries text
+  pub next : IsNextWhole m rest queries text
   pub whole : AreWholeLines (before ++ text)
   pub appended : Appends old new (before ++ text)
 
-abbrev pub IsBrokenOff : Allowed → Lacking → List ℕ → (old new : Option (List ℕ)) → SessionRefusal → Type 0
-IsBrokenOff allowed lacking lines old new Write = IsCut allowed lacking lines old new
-IsBrokenOff allowed lacking lines old new Memory = IsCutWhole allowed lacking lines old new
+abbrev pub IsBrokenOff : Meaning → List ℕ → (old new : Option (List ℕ)) → SessionRefusal → Type 0
+IsBrokenOff m lines old new Write = IsCut m lines old new
+IsBrokenOff m lines old new Memory = IsCutWhole m lines old new
 
 -- what was written for a line that k queries with so many answers go before
-abbrev pub Turned : Allowed → Lacking → List ℕ → (before after : Summary) → (old new : Option (List ℕ)) → Result Unit SessionRefusal → Type 0
-Turned allowed lacking line s s' old new (Ok u) = (text : List ℕ) × ((n : ℕ) × (Turn allowed lacking line s.queries text s'.queries n × ((s'.answers ≡ sum_of s.answers n) × Appends old new text)))
-Turned allowed lacking line s s' old new (Err Write) = (text : List ℕ) × (IsNext allowed lacking (line ∷ []) s.queries s.answers text × AppendsPrefix old new text)
-Turned allowed lacking line s s' old new (Err Memory) = (text : List ℕ) × (AreWholeLines text × (IsNextWhole allowed lacking (line ∷ []) s.queries text × Appends old new text))
+abbrev pub Turned : Meaning → List ℕ → (before after : Summary) → (old new : Option (List ℕ)) → Result Unit SessionRefusal → Type 0
+Turned m line s s' old new (Ok u) = (text : List ℕ) × ((n : ℕ) × (Turn m line s.queries text s'.queries n × ((s'.answers ≡ sum_of s.answers n) × Appends old new text)))
+Turned m line s s' old new (Err Write) = (text : List ℕ) × (IsNext m (line ∷ []) s.queries s.answers text × AppendsPrefix old new text)
+Turned m line s s' old new (Err Memory) = (text : List ℕ) × (AreWholeLines text × (IsNextWhole m (line ∷ []) s.queries text × Appends old new text))

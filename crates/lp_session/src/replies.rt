@@ -1,7 +1,7 @@
 // What replies to a query.
-ghost use Rattle.std.specs.Prelude.{◌≡◌, ℕ, List, Option, map, option_map, Err, IfOk, IfErr};
+ghost use Rattle.std.specs.Prelude.{◌≡◌, map, option_map, Err, IfOk, IfErr};
 ghost use Rattle.lp_base.specs.Counts.{Counts};
-ghost use Rattle.lp_session.specs.Replies.{IsReplied, IsBroken, Same};
+ghost use Rattle.lp_session.specs.Replies.{Meaning, IsReplied, IsBroken, Same};
 
 use lp_base::Sink;
 use std::alloc::Global;
@@ -26,14 +26,12 @@ pub enum ReplyRefusal {
 
 /// What replies to queries, each by itself: no query changes the replies to others.
 pub trait Replies {
-    /// A query text and the names of the variables that are shown, all of them where there are no names, may have these bytes for its reply, with so many
-    /// answers.
-    ghost allowed: { Self → List ℕ → Option (List (List ℕ)) → List ℕ → ℕ → Type 0 };
+    /// Which replies a query text may have, with how many answers, where these names of its variables are shown, or all of them where there are no names;
+    /// which of them say why it is refused; and which of the names is no variable of it.
+    ghost meaning: { Self → Meaning };
 
-    /// Of these names the one of this number is no variable of the query text.
-    ghost lacking: { Self → List ℕ → List (List ℕ) → ℕ → Type 0 };
-
-    /// Writes the reply to a query. Of its variables these names alone are shown, where there are names.
+    /// Writes the reply to a query. Of its variables these names alone are shown, where there are names; `NotThere` comes exactly where one of them lacks, behind
+    /// what the query itself is refused for.
     fn reply<K: Sink>(
         &mut self,
         alloc: Global,
@@ -41,8 +39,8 @@ pub trait Replies {
         shown: Option<&[Vec<u8>]>,
         out: &mut K,
     ) -> Result<Reply, ReplyRefusal>
-        ensures replied { IfOk result (IsReplied (allowed self.old) (lacking self.old) query.now (option_map (λ names. map (λ n. n.items) names.now) shown.entry) (K.written out.old) (K.written out.new)) }
-        ensures broken { IfErr result (IsBroken (allowed self.old) query.now (option_map (λ names. map (λ n. n.items) names.now) shown.entry) (K.written out.old) (K.written out.new)) }
+        ensures replied { IfOk result (IsReplied (meaning self.old) query.now (option_map (λ names. map (λ n. n.items) names.now) shown.entry) (K.written out.old) (K.written out.new)) }
+        ensures broken { IfErr result (IsBroken (meaning self.old) query.now (option_map (λ names. map (λ n. n.items) names.now) shown.entry) (K.written out.old) (K.written out.new)) }
         ensures faults { Counts (result ≡ Err ReplyRefusal.Write) (K.faults out.old) (K.faults out.new) }
-        ensures same { Same (allowed self.old) (allowed self.new) (lacking self.old) (lacking self.new) };
+        ensures same { Same (meaning self.old) (meaning self.new) };
 }

@@ -90,9 +90,9 @@ fn reply_plain<R: Replies, K: Sink>(
     out: &mut K,
 ) -> Result<u64, SessionRefusal>
     requires { IsPlain line.now }
-    ensures replied { Replied (R.allowed replies.old) (R.lacking replies.old) line.now (K.written out.old) (K.written out.new) result }
+    ensures replied { Replied (R.meaning replies.old) line.now (K.written out.old) (K.written out.new) result }
     ensures faults { Counts (result ≡ Err SessionRefusal.Write) (K.faults out.old) (K.faults out.new) }
-    ensures same { Same (R.allowed replies.old) (R.allowed replies.new) (R.lacking replies.old) (R.lacking replies.new) }
+    ensures same { Same (R.meaning replies.old) (R.meaning replies.new) }
 {
     match replies.reply(alloc, line, None, out) {
         Ok(Reply::Written(answers)) => Ok(answers),
@@ -114,9 +114,9 @@ fn reply_printed<R: Replies, K: Sink>(
     requires form { HasForm line.now (Printed dot to) tokens.now }
     requires dot { 1 < dot }
     requires within { dot < length tokens.now }
-    ensures replied { Replied (R.allowed replies.old) (R.lacking replies.old) line.now (K.written out.old) (K.written out.new) result }
+    ensures replied { Replied (R.meaning replies.old) line.now (K.written out.old) (K.written out.new) result }
     ensures faults { Counts (result ≡ Err SessionRefusal.Write) (K.faults out.old) (K.faults out.new) }
-    ensures same { Same (R.allowed replies.old) (R.allowed replies.new) (R.lacking replies.old) (R.lacking replies.new) }
+    ensures same { Same (R.meaning replies.old) (R.meaning replies.new) }
 {
     let names = &tokens[1..dot];
     let shown = names_of(alloc, line, names)?;
@@ -143,9 +143,9 @@ fn reply<R: Replies, K: Sink>(
     line: &[u8],
     out: &mut K,
 ) -> Result<u64, SessionRefusal>
-    ensures replied { Replied (R.allowed replies.old) (R.lacking replies.old) line.now (K.written out.old) (K.written out.new) result }
+    ensures replied { Replied (R.meaning replies.old) line.now (K.written out.old) (K.written out.new) result }
     ensures faults { Counts (result ≡ Err SessionRefusal.Write) (K.faults out.old) (K.faults out.new) }
-    ensures same { Same (R.allowed replies.old) (R.allowed replies.new) (R.lacking replies.old) (R.lacking replies.new) }
+    ensures same { Same (R.meaning replies.old) (R.meaning replies.new) }
 {
     let tokens = match tokens(alloc, line) {
         Ok(tokens) => tokens,
@@ -180,11 +180,11 @@ fn turn<R: Replies, K: Sink>(
 ) -> Result<(), SessionRefusal>
     requires queries { summary.old.queries + 1 < 2 ^ 64 }
     requires answers { summary.old.answers < 2 ^ 64 }
-    ensures turned { Turned (R.allowed replies.old) (R.lacking replies.old) line.now summary.old summary.new (K.written out.old) (K.written out.new) result }
+    ensures turned { Turned (R.meaning replies.old) line.now summary.old summary.new (K.written out.old) (K.written out.new) result }
     ensures queries { summary.new.queries ≤ summary.old.queries + 1 }
     ensures answers { summary.new.answers < 2 ^ 64 }
     ensures faults { Counts (result ≡ Err SessionRefusal.Write) (K.faults out.old) (K.faults out.new) }
-    ensures same { Same (R.allowed replies.old) (R.allowed replies.new) (R.lacking replies.old) (R.lacking replies.new) }
+    ensures same { Same (R.meaning replies.old) (R.meaning replies.new) }
 {
     if is_blank(line) {
         return Ok(());
@@ -208,10 +208,10 @@ pub fn serve<R: Replies, K: Sink>(
     lines: &[u8],
     out: &mut K,
 ) -> Result<Summary, SessionRefusal>
-    ensures served { IfOk result (IsSession (R.allowed replies.old) (R.lacking replies.old) lines.now (K.written out.old) (K.written out.new)) }
-    ensures refused { IfErr result (IsBrokenOff (R.allowed replies.old) (R.lacking replies.old) lines.now (K.written out.old) (K.written out.new)) }
+    ensures served { IfOk result (IsSession (R.meaning replies.old) lines.now (K.written out.old) (K.written out.new)) }
+    ensures refused { IfErr result (IsBrokenOff (R.meaning replies.old) lines.now (K.written out.old) (K.written out.new)) }
     ensures faults { Counts (result ≡ Err SessionRefusal.Write) (K.faults out.old) (K.faults out.new) }
-    ensures same { Same (R.allowed replies.old) (R.allowed replies.new) (R.lacking replies.old) (R.lacking replies.new) }
+    ensures same { Same (R.meaning replies.old) (R.meaning replies.new) }
 {
     let mut summary = Summary {
         queries: 0,

@@ -1,7 +1,7 @@
 use Rattle.std.proofs.Common.{◌<◌, length, ap, is_ok, Some, sym, ◌∙◌, arith}
 use Rattle.std.proofs.ResultArms.{chosen}
 use Rattle.lp_lemmas.proofs.Lists.{length_push_suc}
-use Rattle.lp_query.proofs.Names.{bytes, read_at, found_more, found_before, all_pushed}
+use Rattle.lp_query.proofs.Names.{bytes, read_at, found_more, found_before, found_all, all_pushed}
 use Rattle.lp_query.proofs.asked.places_of.Goals as goal
 
 pub returns-clause-count : goal.returns-clause-count
@@ -31,3 +31,6 @@ returns-in-None-clause-refused c = record {
   missing = c.place_of.ensures.none c.in-None.is;
   before = found_before _ c.args.shown.now c.shown.at c.shown.invariant.1.1;
 }
+
+pub returns-clause-there : goal.returns-clause-there
+returns-clause-there c = found_all _ c.args.shown.now c.shown.at c.shown-test.false c.shown.invariant.1.1

@@ -4,7 +4,7 @@ use Rattle.lp_query.specs.declared.fault.AskRefusal.{AskRefusal}
 use Rattle.lp_query.specs.declared.fault.AskRefusal.TheVariants.{Write, Memory}
 use Rattle.lp_query.specs.Faults.{IsAskRefusal}
 use Rattle.lp_query.proofs.Names.{bytes}
-use Rattle.lp_query.proofs.Ends.{broke_before, still_counts, passed_counts, done_counts, IsShownOrWriting}
+use Rattle.lp_query.proofs.Ends.{broke_before, still_counts, passed_counts, done_counts}
 use Rattle.lp_query.proofs.asking.ask.Goals as goal
 
 pub returns-in_err-asker-clause-refused : goal.returns-in_err-asker-clause-refused
@@ -25,7 +25,7 @@ returns-in_err-written-clause-refused g c =
 
 pub returns-in_err-written-clause-broke : goal.returns-in_err-written-clause-broke
 returns-in_err-written-clause-broke g c =
-    passed_up c.from_residual-in_err-written.result c.in_err-written.field-0.0 _ c.from_residual-in_err-written.ensures.1 (_, c.in_err-written.ensures.broke)
+    passed_up c.from_residual-in_err-written.result c.in_err-written.field-0.0 _ c.from_residual-in_err-written.ensures.1 (_, (c.in_err-written.ensures.broke.0, c.in_err-written.ensures.broke.1.1))
 
 pub returns-in_err-written-clause-faults : goal.returns-in_err-written-clause-faults
 returns-in_err-written-clause-faults g c =
@@ -33,7 +33,7 @@ returns-in_err-written-clause-faults g c =
 
 pub returns-clause-written : goal.returns-clause-written
 returns-clause-written g c =
-    (_, (c.in_ok-written.ensures.written.0, (c.in_ok-written.written, c.in_ok-written.ensures.written.1)))
+    (_, (c.in_ok-written.ensures.written.0, (c.in_ok-written.written, c.in_ok-written.ensures.written.1.1)))
 
 pub returns-clause-faults : goal.returns-clause-faults
 returns-clause-faults g c =

@@ -4,12 +4,12 @@ use Rattle.lp_query.specs.declared.fault.AskRefusal.{AskRefusal}
 use Rattle.lp_query.specs.declared.fault.AskRefusal.TheVariants.{Write, Memory}
 use Rattle.lp_query.specs.Faults.{IsAskRefusal}
 use Rattle.lp_query.proofs.Names.{bytes}
-use Rattle.lp_query.proofs.Ends.{broke_before, still_counts, passed_counts, done_counts, IsShownOrWriting}
+use Rattle.lp_query.proofs.Ends.{broke_before, still_counts, passed_counts, done_counts, any_fault}
 use Rattle.lp_query.proofs.asking.ask_shown.Goals as goal
 
 pub returns-in_err-asker-clause-refused : goal.returns-in_err-asker-clause-refused
 returns-in_err-asker-clause-refused g c =
-    passed_up c.from_residual.result _ (IsShownOrWriting c.args.query.now (map bytes c.args.shown.now)) c.from_residual.ensures.1 (inl ([], tt))
+    passed_up c.from_residual.result _ _ c.from_residual.ensures.1 (inl tt)
 
 pub returns-in_err-asker-clause-broke : goal.returns-in_err-asker-clause-broke
 returns-in_err-asker-clause-broke g c =
@@ -21,7 +21,7 @@ returns-in_err-asker-clause-faults g c =
 
 pub returns-in_err-written-clause-refused : goal.returns-in_err-written-clause-refused
 returns-in_err-written-clause-refused g c =
-    passed_up c.from_residual-in_err-written.result c.in_err-written.field-0.0 _ c.from_residual-in_err-written.ensures.1 c.in_err-written.ensures.refused
+    passed_up c.from_residual-in_err-written.result c.in_err-written.field-0.0 _ c.from_residual-in_err-written.ensures.1 (any_fault _ c.args.query.now (map bytes c.args.shown.now) c.in_err-written.field-0.0 c.in_err-written.ensures.refused)
 
 pub returns-in_err-written-clause-broke : goal.returns-in_err-written-clause-broke
 returns-in_err-written-clause-broke g c =

@@ -5,13 +5,11 @@ use Rattle.lp_session.proofs.serving.reply_plain.Goals as goal
 
 pub returns-in-Ok-Written-clause-replied : goal.returns-in-Ok-Written-clause-replied
 returns-in-Ok-Written-clause-replied g c =
-    let A = g.R.Replies.allowed c.args.replies.now in
-    let L = g.R.Replies.lacking c.args.replies.now in
-    line_replied A L c.args.line.now c.args.line.now None (as_plain A L c.args.line.now c.requires) (g.K.Sink.written c.args.out.now) (g.K.Sink.written c.reply.new.out) c.in-Ok-Written.answers (rw c.in-Ok-Written.field-0-is at c.in-Ok-Written.ensures.replied)
+    let M = g.R.Replies.meaning c.args.replies.now in
+    line_replied M c.args.line.now c.args.line.now None (as_plain M c.args.line.now c.requires) (g.K.Sink.written c.args.out.now) (g.K.Sink.written c.reply.new.out) c.in-Ok-Written.answers (rw c.in-Ok-Written.field-0-is at c.in-Ok-Written.ensures.replied)
 
 pub returns-in-Err-clause-replied : goal.returns-in-Err-clause-replied
 returns-in-Err-clause-replied g c =
-    let A = g.R.Replies.allowed c.args.replies.now in
-    let L = g.R.Replies.lacking c.args.replies.now in
-    subst (λ e. Replied A L c.args.line.now (g.K.Sink.written c.args.out.now) (g.K.Sink.written c.reply.new.out) (Err e)) (sym c.refused.ensures)
-    (line_broken A L c.args.line.now c.args.line.now None (as_plain A L c.args.line.now c.requires) (g.K.Sink.written c.args.out.now) (g.K.Sink.written c.reply.new.out) c.in-Err.refusal c.in-Err.ensures.broken)
+    let M = g.R.Replies.meaning c.args.replies.now in
+    subst (λ e. Replied M c.args.line.now (g.K.Sink.written c.args.out.now) (g.K.Sink.written c.reply.new.out) (Err e)) (sym c.refused.ensures)
+    (line_broken M c.args.line.now c.args.line.now None (as_plain M c.args.line.now c.requires) (g.K.Sink.written c.args.out.now) (g.K.Sink.written c.reply.new.out) c.in-Err.refusal c.in-Err.ensures.broken)

@@ -1,27 +1,28 @@
-use Rattle.std.proofs.Common.{None, false, subst}
-use Rattle.lp_query.specs.Outcomes.{entries_in, Broke}
-use Rattle.lp_ask.specs.Allowed.{lacking_by}
-use Rattle.lp_ask.proofs.Coming.{all_answered, cut_off, memory_off, put_comes, refused_still, still_faults}
+use Rattle.std.proofs.Common.{None, false}
+use Rattle.lp_query.specs.Outcomes.{entries_in, reader}
+use Rattle.lp_ask.proofs.Coming.{all_answered, write_comes, memory_comes, put_comes, refused_still, still_faults}
 use Rattle.lp_ask.proofs.answering.Answering.reply_all.Goals as goal
 
 pub returns-in-Ok-clause-comes : goal.returns-in-Ok-clause-comes
 returns-in-Ok-clause-comes g c =
-    all_answered (entries_in c.args.self.now.asker) c.args.query.now None c.args.self.now.answers c.in-Ok.ensures.written.0 tt (g.K.Sink.written c.args.out.now) (g.K.Sink.written c.ask.new.out) c.in-Ok.written c.in-Ok.ensures.written.1
+    let w = c.in-Ok.ensures.written in
+    all_answered (entries_in c.args.self.now.asker) (reader c.args.self.now.asker) c.args.query.now None c.args.self.now.answers w.0 w.1.0 (g.K.Sink.written c.args.out.now) (g.K.Sink.written c.ask.new.out) c.in-Ok.written w.1.1
 
 pub returns-in-Write-clause-comes : goal.returns-in-Write-clause-comes
 returns-in-Write-clause-comes g c =
     let b = c.in-Err.ensures.broke in
-    cut_off (entries_in c.args.self.now.asker) c.args.query.now None c.args.self.now.answers b.0 tt (g.K.Sink.written c.args.out.now) (g.K.Sink.written c.ask.new.out) (subst (Broke (entries_in c.args.self.now.asker) b.0 false c.args.self.now.answers (g.K.Sink.written c.args.out.now) (g.K.Sink.written c.ask.new.out)) c.in-Write.ensures b.1)
+    write_comes (entries_in c.args.self.now.asker) (reader c.args.self.now.asker) c.args.query.now None c.args.self.now.answers b.0 (g.K.Sink.written c.args.out.now) (g.K.Sink.written c.ask.new.out) c.in-Err.refusal c.in-Write.ensures b.1.0 b.1.1
 
 pub returns-in-Memory-clause-comes : goal.returns-in-Memory-clause-comes
 returns-in-Memory-clause-comes g c =
     let b = c.in-Err.ensures.broke in
-    memory_off (entries_in c.args.self.now.asker) c.args.query.now None c.args.self.now.answers b.0 tt (g.K.Sink.written c.args.out.now) (g.K.Sink.written c.ask.new.out) (subst (Broke (entries_in c.args.self.now.asker) b.0 false c.args.self.now.answers (g.K.Sink.written c.args.out.now) (g.K.Sink.written c.ask.new.out)) c.in-Memory.ensures b.1)
+    memory_comes (entries_in c.args.self.now.asker) (reader c.args.self.now.asker) c.args.query.now None c.args.self.now.answers b.0 (g.K.Sink.written c.args.out.now) (g.K.Sink.written c.ask.new.out) c.in-Err.refusal c.in-Memory.ensures b.1.0 b.1.1
 
 pub returns-in-Text-clause-comes : goal.returns-in-Text-clause-comes
 returns-in-Text-clause-comes g c =
     let b = c.in-Err.ensures.broke in
-    put_comes (entries_in c.args.self.now.asker) c.args.query.now None c.args.self.now.answers (lacking_by c.args.self.now) (g.K.Sink.written c.args.out.now) (g.K.Sink.written c.ask.new.out) (g.K.Sink.written c.refuse.new.out) c.refuse.result (refused_still (entries_in c.args.self.now.asker) b.0 false c.args.self.now.answers (g.K.Sink.written c.args.out.now) (g.K.Sink.written c.ask.new.out) c.in-Err.refusal c.in-Text.ensures b.1) c.refuse.ensures.put
+    put_comes (entries_in c.args.self.now.asker) (reader c.args.self.now.asker) c.args.query.now None c.args.self.now.answers (g.K.Sink.written c.args.out.now) (g.K.Sink.written c.ask.new.out) (g.K.Sink.written c.refuse.new.out) c.refuse.result
+    (refused_still (entries_in c.args.self.now.asker) b.0 false c.args.self.now.answers (g.K.Sink.written c.args.out.now) (g.K.Sink.written c.ask.new.out) c.in-Err.refusal c.in-Text.ensures b.1.1) c.refuse.ensures.put
 
 pub returns-in-Text-clause-faults : goal.returns-in-Text-clause-faults
 returns-in-Text-clause-faults g c =
