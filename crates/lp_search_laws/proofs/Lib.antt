@@ -51,6 +51,13 @@ pub mod StartRows
 pub mod TypesOver
 pub mod AtomsKept
 pub mod RunsKeep
+pub mod Families
+pub mod TermsKept
+pub mod Reducts
+pub mod Pure
+pub mod KeptTasks
+pub mod KeptLooks
+pub mod Typeless
 pub mod MatchTyped
 pub mod TryMatches
 pub mod PlainTry

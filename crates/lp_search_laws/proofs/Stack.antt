@@ -1,5 +1,6 @@
 pub mod Ends
 pub mod InStep
+pub mod AllFine
 pub mod Moves
 pub mod Faithful
 pub mod Events
