@@ -8,6 +8,7 @@ use Rattle.lp_calculus.specs.Instance.{instance_term}
 use Rattle.lp_calculus.specs.Normal.{IsHead}
 use Rattle.lp_calculus.specs.Spine.{head_of, arguments}
 use Rattle.lp_lemmas.specs.Each.{EachOf}
+use Rattle.lp_lemmas.proofs.Booleans.{and_true_left}
 use Rattle.lp_lemmas.proofs.Each.{each_append, each_map}
 use Rattle.lp_model.specs.Types.{TypeBinding, TypePair, put_types}
 use Rattle.lp_model.specs.Look.{head_normal}
@@ -43,10 +44,6 @@ head_named (index i) a e = tt
 head_named (atom b) a e = tt
 head_named (abs b) a e = absurd (cc)
 head_named (app f u) a e = head_named f a e
-
-both_true : (x y : Bool) → (x && y) ≡ true → x ≡ true
-both_true true y e = refl
-both_true false y e = absurd (cc)
 
 module _ (K : (ℕ → Type 0) → Term → Type 0) (family : Family K) (Q : ℕ → Type 0) (Ts : List Ty → Type 0) (puts : (bs : List TypeBinding) → AreSolved Q bs → (ts : List Ty) → Ts ts → Ts (map (put_types bs) ts)) where
   abbrev pub Kept : Task → Type 0
@@ -148,7 +145,7 @@ module _ (K : (ℕ → Type 0) → Term → Type 0) (family : Family K) (Q : ℕ
     program_passes key (clause k vs x b ∷ cs) h = go (passes t key (clause k vs x b)) refl (program_passes key cs h.1)
       where
         go : (v : Bool) → passes t key (clause k vs x b) ≡ v → EachOf (IsKeptTried K family Q next) (filter (passes t key) cs) → EachOf (IsKeptTried K family Q next) (cond v (clause k vs x b ∷ filter (passes t key) cs) (filter (passes t key) cs))
-        go true e w = (tried_program next fresh k vs x b h.0 (named x (both_true (same_name (head_of x) (head_of t)) _ e)), w)
+        go true e w = (tried_program next fresh k vs x b h.0 (named x (and_true_left (same_name (head_of x) (head_of t)) _ e)), w)
         go false e w = w
 
     assumed_passes : (cs : List Clause) → EachOf (IsAssumedWith (K Q)) cs → EachOf (IsKeptTried K family Q next) (filter (has_head t) cs)

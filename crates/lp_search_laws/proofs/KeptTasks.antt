@@ -1,9 +1,9 @@
 -- Each look at a task keeps the terms of a family: what is put into goals and clauses, what unification leaves, and what a goal known at run time is taken apart into.
 -- So a run binds none but the type variables that stand in these terms.
-use Rattle.std.proofs.Common.{◌≡◌, ◌≤◌, ◌<◌, ℕ, zero, suc, ◌+◌, List, [], ◌∷◌, ◌++◌, map, length, Option, Some, None, Bool, true, false, refl, sym, ap, subst as transport, arith}
-use Rattle.std.specs.Prelude.{nat_eq, ◌&&◌, if◌then◌else◌}
+use Rattle.std.proofs.Common.{◌≡◌, ◌≤◌, ◌<◌, ℕ, zero, suc, ◌+◌, List, [], ◌∷◌, map, Bool, true, false, refl, sym, subst as transport}
+use Rattle.std.specs.Prelude.{nat_eq, if◌then◌else◌}
 use Rattle.lp_calculus.specs.Types.{Ty, var, instance}
-use Rattle.lp_calculus.specs.Term.{Term, index, atom, abs, app, apply, substitute, Atom, constant, integer, text, eigen, logic, param}
+use Rattle.lp_calculus.specs.Term.{Term, index, atom, abs, app, substitute, constant, integer, text, eigen, logic, param}
 use Rattle.lp_calculus.specs.Fill.{Binding, put}
 use Rattle.lp_calculus.specs.Instance.{instance_term}
 use Rattle.lp_calculus.specs.Normal.{IsHead}
@@ -12,7 +12,6 @@ use Rattle.lp_lemmas.specs.Each.{EachOf}
 use Rattle.lp_lemmas.proofs.Each.{each_map}
 use Rattle.lp_model.specs.Index.{instantiate, lifted}
 use Rattle.lp_model.specs.Types.{TypeBinding, one_type}
-use Rattle.lp_model.specs.Pair.{Pair}
 use Rattle.lp_standard.specs.Connectives.{Connective, connective_of, connective_at, connective_of_constant}
 use Rattle.lp_standard.specs.Connectives as connective
 use Rattle.lp_model.specs.Flat.{Goal, Atomic, Cut, Either, Exists, Forall, Assume, Not, Written, under_all, map_goal, map_goals, map_clause, map_clauses, Goals, no_goals, goals, goal_list, clause_list, Clause, clause, Clauses, no_clauses, clauses, instantiate_goals, type_goals}
@@ -21,7 +20,7 @@ use Rattle.lp_model.specs.Search.{Slot, is_new, slot_of, slots_of, slotted, pair
 use Rattle.lp_proof_laws.proofs.Uniform.Forms.{apply_arguments}
 use Rattle.lp_search_laws.specs.Clean.{IsGoalWith, AreGoalsWith, IsAssumedWith, AreClausesWith}
 use Rattle.lp_search_laws.proofs.Closed.{body_opens}
-use Rattle.lp_search_laws.proofs.Families.{Keeps, Family}
+use Rattle.lp_search_laws.proofs.Families.{Family}
 use Rattle.lp_search_laws.proofs.RunsKeep.{GoodPair}
 use Rattle.lp_search_laws.proofs.TypesOver.{Over, IsBoundOver}
 

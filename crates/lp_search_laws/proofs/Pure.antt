@@ -1,5 +1,5 @@
 -- Terms with type variables of Q alone, whose parameters have closed types: by their atoms, and up to reduction.
-use Rattle.std.proofs.Common.{◌≡◌, ℕ, List, [], ◌∷◌, map, subst as transport}
+use Rattle.std.proofs.Common.{ℕ, subst as transport}
 use Rattle.lp_calculus.specs.Types.{Ty, Tys, var, param as type_param, con, arrow, no_types, types, instance, instances}
 use Rattle.lp_calculus.specs.Term.{Term, Atom, index, atom, abs, app, constant, integer, text, eigen, logic, param}
 use Rattle.lp_calculus.specs.Closed.{AllAtoms, IsClosedType, AreClosedTypes}

@@ -1,17 +1,16 @@
 -- Terms that reduce to one all of whose atoms are so: they are kept like those themselves.
 use Rattle.std.proofs.Common.{◌≡◌, ℕ, zero, suc, List, [], ◌∷◌, ◌∙◌, refl, sym, ap, subst as transport, true, false, nat_eq, if◌then◌else◌}
 use Rattle.std.specs.Prelude.{◌&&◌}
-use Rattle.lp_calculus.specs.Types.{Ty}
-use Rattle.lp_calculus.specs.Term.{Term, Atom, index, atom, abs, app, apply, shift, substitute, constant, integer, text, eigen, logic, param}
+use Rattle.lp_calculus.specs.Term.{Term, Atom, index, atom, abs, app, apply, shift, constant, integer, text, eigen, logic, param}
 use Rattle.lp_calculus.specs.Convert.{here, in_abs, in_head, in_argument, by_beta, by_eta, ReducesTo, done, then_step}
 use Rattle.lp_calculus.specs.Closed.{AllAtoms}
-use Rattle.lp_calculus.specs.Fill.{raise, fill, Binding, one, put, at_variables, indexed, abstraction}
+use Rattle.lp_calculus.specs.Fill.{raise, fill, Binding, one, at_variables, indexed}
 use Rattle.lp_calculus.specs.Normal.{IsHead}
 use Rattle.lp_calculus.specs.Spine.{head_of}
 use Rattle.lp_calculus.proofs.BetaEta.{many_on, conversion_meets, shift_one}
 use Rattle.lp_calculus.proofs.Fills.{up_suc}
 use Rattle.lp_calculus.proofs.Plain.{substitute-subst, bump, shift-rename}
-use Rattle.lp_calculus.proofs.Sigma.{rename, up, subst, instead, subst-instead}
+use Rattle.lp_calculus.proofs.Sigma.{rename, up, subst, subst-instead}
 use Rattle.lp_calculus.proofs.Steps.{Step, step_fill, step_rename, converts_on, converts_sym, converts_reduces}
 use Rattle.lp_lemmas.specs.Each.{EachOf}
 use Rattle.lp_model.specs.Index.{instantiate}
@@ -86,12 +85,6 @@ app_reduces (then_step {s = r} p ps) t u e h =
     let x = app_step h (transport (λ z. Step z r) e p) in
     let y = app_reduces ps x.function x.argument x.is x.head in
     record { function = y.function; argument = y.argument; is = y.is; left = many_on x.left y.left; right = many_on x.right y.right; head = y.head }
-
-atoms_more : (P R : Atom → Type 0) → ((a : Atom) → P a → R a) → (t : Term) → AllAtoms P t → AllAtoms R t
-atoms_more P R f (index i) h = tt
-atoms_more P R f (atom a) h = f a h
-atoms_more P R f (abs b) h = atoms_more P R f b h
-atoms_more P R f (app t u) h = (atoms_more P R f t h.0, atoms_more P R f u h.1)
 
 module _ (P : Atom → Type 0) where
   abbrev pub Reduct : Term → Type 0

@@ -22,7 +22,6 @@ use Rattle.lp_model.specs.Rule.{type_pairs, Verdict, fails, gives, binds, delays
 use Rattle.lp_model.specs.Unify.{State, Turn, Goes, Fails, Solved, put_pairs, type_pairs_in, judged, turn_on, turn, Unified, Fail, Solution, Spent, limited, unify, begun, go_on, solve}
 use Rattle.lp_unify_laws.specs.TypeSolutions.{Satisfies}
 use Rattle.lp_unify_laws.specs.Solutions.{at_types}
-use Rattle.lp_unify_laws.proofs.Looks.{seen}
 use Rattle.lp_unify_laws.proofs.Identities.{term_twice}
 use Rattle.lp_search_laws.specs.Branches.{IsPlainAtom, IsPlainTerm, IsPlainPair}
 use Rattle.lp_search_laws.proofs.TypesOver.{itself, Over, AreOver, over_more, over_instance, over_fixed, types_put, Left, free_stays, each_more, left_append, IsBoundOver, AreSolved, solved_none, solved_append, ArePairsOver, solve_over, put_types_put}
@@ -127,7 +126,7 @@ module _ (K : (ℕ → Type 0) → Term → Type 0) (family : Family K) where
     pub left : K Q p.left
     pub right : K Q p.right
 
-  good_more : (Q R : ℕ → Type 0) → ((i : ℕ) → Q i → R i) → (t : Term) → K Q t → K R t
+  pub good_more : (Q R : ℕ → Type 0) → ((i : ℕ) → Q i → R i) → (t : Term) → K Q t → K R t
   good_more Q R f t h = transport (K R) (instance_itself t) (family.typed Q R var f t h)
 
   put_types_is : (bs : List TypeBinding) (t : Term) → put_types_in bs t ≡ instance_term (types_put bs) t
@@ -418,11 +417,11 @@ pairs_fixed C Q θ f [] h = refl
 pairs_fixed C Q θ f (p ∷ ps) h = let e = term_fixed C Q θ f p.left h.0.left in let g = term_fixed C Q θ f p.right h.0.right in let r = pairs_fixed C Q θ f ps h.1 in λ i. record { left = e i; right = g i; level = p.level } ∷ r i
 
 -- any atoms and type variables
-abbrev Any : ℕ → Type 0
+abbrev pub Any : ℕ → Type 0
 Any i = Unit {0}
 
 mutual
-  any_type : (T : Ty) → Over Any T
+  pub any_type : (T : Ty) → Over Any T
   any_type (var i) = tt
   any_type (type_param k) = tt
   any_type (con c ts) = any_types ts
@@ -432,7 +431,7 @@ mutual
   any_types no_types = tt
   any_types (types t ts) = (any_type t, any_types ts)
 
-each_any : {X : Type 0} (P : X → Type 0) → ((x : X) → P x) → (xs : List X) → EachOf P xs
+pub each_any : {X : Type 0} (P : X → Type 0) → ((x : X) → P x) → (xs : List X) → EachOf P xs
 each_any P f [] = tt
 each_any P f (x ∷ xs) = (f x, each_any P f xs)
 
@@ -483,7 +482,7 @@ mutual
   over_types k no_types h = tt
   over_types k (types t ts) h = (over_type k t h.0, over_types k ts h.1)
 
-list_over : (k : ℕ) (ts : List Ty) → AreTypesBelow k ts → EachOf (Over (Below k)) ts
+pub list_over : (k : ℕ) (ts : List Ty) → AreTypesBelow k ts → EachOf (Over (Below k)) ts
 list_over k [] h = tt
 list_over k (t ∷ ts) h = (type_over k t h.0, list_over k ts h.1)
 

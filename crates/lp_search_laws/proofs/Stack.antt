@@ -1,4 +1,5 @@
 pub mod Ends
+pub mod Alongside
 pub mod InStep
 pub mod AllFine
 pub mod Moves

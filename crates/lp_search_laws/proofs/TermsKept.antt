@@ -1,9 +1,9 @@
 -- What scans and settling build is kept: of each property of terms that reduction and building keep.
-use Rattle.std.proofs.Common.{◌≡◌, ℕ, zero, suc, List, [], ◌∷◌, ◌++◌, subst as transport, sym, true, false, Option, Some, None}
+use Rattle.std.proofs.Common.{◌≡◌, ℕ, zero, suc, List, [], ◌∷◌, ◌++◌, subst as transport, true, false, Option, Some, None}
 use Rattle.std.specs.Prelude.{nat_le, min, option_map, option_and_then}
-use Rattle.lp_calculus.specs.Term.{Term, index, atom, abs, app, apply, substitute, constant, integer, text, eigen, logic, param}
-use Rattle.lp_calculus.specs.Convert.{here, by_beta, done, then_step, head_step}
-use Rattle.lp_calculus.specs.Fill.{Binding, put, abstraction, abstracted}
+use Rattle.lp_calculus.specs.Term.{Term, atom, abs, app, apply, substitute, eigen, logic}
+use Rattle.lp_calculus.specs.Convert.{here, by_beta, done, then_step}
+use Rattle.lp_calculus.specs.Fill.{put, abstraction, abstracted}
 use Rattle.lp_calculus.proofs.Rigid.{rigid_head}
 use Rattle.lp_lemmas.specs.Each.{EachOf}
 use Rattle.lp_model.specs.Patterns.{eigens, chosen}

@@ -1,19 +1,20 @@
 -- The types of a query are carried along, and nothing else: a search without them is in step with it.
-use Rattle.std.proofs.Common.{◌≡◌, ℕ, zero, suc, ◌+◌, List, [], ◌∷◌, ◌++◌, map, length, Option, Some, None, Bool, true, false, refl, sym, ap, ◌∙◌}
+use Rattle.std.proofs.Common.{◌≡◌, ℕ, ◌+◌, List, [], ◌∷◌, ◌++◌, map, length, Option, Some, None, Bool, true, false, refl, ap}
 use Rattle.std.specs.Prelude.{nat_eq, nat_le, ◌&&◌, if◌then◌else◌}
-use Rattle.lp_calculus.specs.Types.{Ty}
 use Rattle.lp_calculus.specs.Term.{Term, index, atom, abs, app, Atom, constant, integer, text, eigen, logic, param}
 use Rattle.lp_calculus.specs.Spine.{head_of, arguments}
+use Rattle.lp_calculus.specs.Instance.{instance_term}
 use Rattle.lp_model.specs.Look.{head_normal}
+use Rattle.lp_model.specs.Rule.{type_pairs}
 use Rattle.lp_model.specs.Unify.{Unified, Fail, Solution, Spent, solve}
 use Rattle.lp_model.specs.Values.{Outcome, Is, Faults, Number, Bytes, evaluate, ordered}
-use Rattle.lp_model.specs.Skeleton.{View, Opens, Takes, State, Told, inner, run}
+use Rattle.lp_model.specs.Skeleton.{View, Gives, Opens, Parts, Takes, Cuts, Denies, Halts, Lacks, named, eigenconstant, State, Inner, inner, run}
 use Rattle.lp_standard.specs.Connectives.{Connective, connective_of}
 use Rattle.lp_standard.specs.Connectives as connective
-use Rattle.lp_model.specs.Flat.{Goal, Atomic, Cut, Either, Exists, Forall, Assume, Not, Goals, Clause, clause}
-use Rattle.lp_model.specs.Branch.{Entry, Branch, Answer, Task, Go, Try, Stop, Lack, both_written}
-use Rattle.lp_model.specs.Search.{with_goals, follow, equated, assigned, compared, candidates, goal_key, has_variables, tries, try_clause, look_constant, look_atom, look_form, look_normal, look_not, look_goal, look_branch, look}
-use Rattle.lp_search_laws.proofs.Stack.InStep.{view_map, state_map, told_map, in_step}
+use Rattle.lp_model.specs.Flat.{Goal, Atomic, Cut, Either, Exists, Forall, Assume, Not, Goals, goal_list, Clause, clause, instantiate_goals, type_goals}
+use Rattle.lp_model.specs.Branch.{Entry, Branch, Answer, Task, Go, Try, Stop, Lack, both_written, entries}
+use Rattle.lp_model.specs.Search.{with_goals, follow, assigned, compared, candidates, goal_key, has_variables, tries, slots_of, slotted, pairs_of, renewed, try_clause, look_constant, look_atom, look_form, look_normal, look_not, look_goal, look_branch, look}
+use Rattle.lp_search_laws.proofs.Stack.Alongside.{images, state_map, told_map, Agree, alongside}
 
 abbrev pub typeless : Branch → Branch
 typeless b = record { next = b.next; next_type = b.next_type; goals = b.goals; types = []; values = b.values; pairs = b.pairs }
@@ -29,7 +30,7 @@ typeless_task Lack = Lack
 
 -- the search of a negated goal has none
 abbrev typeless_view : View Task Answer → View Task Answer
-typeless_view v = view_map typeless_task typeless_answer (λ t. t) (λ f. f) v
+typeless_view v = images typeless_task typeless_answer (λ t. t) (λ f. f) v
 
 follow_same : (b : Branch) (o : Option Unified) → follow (typeless b) o ≡ map typeless_task (follow b o)
 follow_same b None = refl
@@ -75,8 +76,8 @@ module _ (u n : ℕ) (P : List Clause) where
         (if_same (nat_le 10 c && nat_le c 13) _ _ _ _ (compared_same c b (evaluate n l) (evaluate n r)) (tries_same t e b height (goal_key n (arguments t)))))
 
     atom_same : (t x : Term) → look_atom u n P height e (typeless b) t x ≡ typeless_view (look_atom u n P height e b t x)
-    atom_same t (atom (constant c ts)) = ap (Takes _) (constant_same t c (arguments t))
-    atom_same t (atom (eigen j)) = ap (Takes _) (tries_same t e b height (goal_key n (arguments t)))
+    atom_same t (atom (constant c ts)) = ap (λ ts. Takes (named c) ts) (constant_same t c (arguments t))
+    atom_same t (atom (eigen j)) = ap (λ ts. Takes (eigenconstant j) ts) (tries_same t e b height (goal_key n (arguments t)))
     atom_same t (atom (logic x l)) = refl
     atom_same t (atom (integer z)) = refl
     atom_same t (atom (text s)) = refl
@@ -119,7 +120,17 @@ module _ (u n : ℕ) (P : List Clause) where
   branch_same height b (e ∷ es) = goal_same height e (with_goals b es) e.goal
 
   try_same : (c : Clause) (t : Term) (e : Entry) (b : Branch) (mark : ℕ) → try_clause u n c t e (typeless b) mark ≡ map typeless_task (try_clause u n c t e b mark)
-  try_same (clause k vs h body) t e b mark = follow_same _ _
+  try_same (clause k vs h body) t e b mark =
+      let y = instance_term (renewed k b.next_type) h in
+      let σ = slotted (slots_of [] (arguments y) (arguments t)) b.next e.level in
+      follow_same (record {
+        next = b.next + length vs;
+        next_type = b.next_type + k;
+        goals = entries (goal_list (instantiate_goals σ (type_goals (renewed k b.next_type) body))) e.assumed e.written e.level mark ++ b.goals;
+        types = b.types;
+        values = b.values;
+        pairs = b.pairs;
+      }) (solve n u (type_pairs (head_of t) (head_of y)) (pairs_of σ e.level [] (arguments y) (arguments t)) b.pairs (b.next + length vs))
 
   look_same : (height : ℕ) (t : Task) → look u n P height (typeless_task t) ≡ typeless_view (look u n P height t)
   look_same height (Go b) = branch_same height b b.goals
@@ -127,5 +138,15 @@ module _ (u n : ℕ) (P : List Clause) where
   look_same height (Stop e) = refl
   look_same height Lack = refl
 
+  same_denials : (go : (Answer → Bool) → State Task → Inner) (w : View Task Answer) → Agree typeless_task typeless_answer (λ t. t) (λ f. f) go go w
+  same_denials go (Gives a) = tt
+  same_denials go (Opens ts) = tt
+  same_denials go (Parts ts) = tt
+  same_denials go (Takes name ts) = tt
+  same_denials go (Cuts m ts) = tt
+  same_denials go (Denies t f ts) = λ rows steps. refl
+  same_denials go (Halts e) = tt
+  same_denials go Lacks = tt
+
   pub run_same : (j m : ℕ) (s : State Task) → run (look u n P) j m (state_map typeless_task typeless_answer s) ≡ told_map typeless_task typeless_answer (run (look u n P) j m s)
-  run_same j m s = in_step typeless_task typeless_answer (λ t. t) (λ f. f) (look u n P) (look u n P) look_same (λ i f rows steps t. refl) j m s
+  run_same j m s = alongside typeless_task typeless_answer (λ t. t) (λ f. f) (look u n P) (look u n P) look_same (λ i height t. same_denials (inner (look u n P) i) (look u n P height t)) j m s

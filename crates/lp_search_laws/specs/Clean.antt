@@ -1,6 +1,6 @@
 -- Formulas and failing searches in which each parameter has a closed type. Programs and queries that are written have no parameters; the type variables in their types
 -- are not among what is written in a negated goal.
-use Rattle.std.specs.Prelude.{◌≡◌, List}
+use Rattle.std.specs.Prelude.{◌≡◌, List, length}
 use Rattle.lp_calculus.specs.Types.{Ty}
 use Rattle.lp_calculus.specs.Term.{Term, Atom, constant, integer, text, eigen, logic, param}
 use Rattle.lp_calculus.specs.Closed.{AllAtoms, IsClosedType}
@@ -8,7 +8,8 @@ use Rattle.lp_lemmas.specs.Each.{EachOf}
 use Rattle.lp_model.specs.Flat.{Goal, Atomic, Cut, Either, Exists, Forall, Assume, Not, Goals, no_goals, goals, Clause, clause, Clauses, no_clauses, clauses}
 use Rattle.lp_model.specs.Flatten.{ClauseFormula}
 use Rattle.lp_model.specs.Proofs.{Declared, Failure}
-use Rattle.lp_search_laws.specs.Failed.{IsFailedSearch}
+use Rattle.lp_model.specs.Branch.{Entry}
+use Rattle.lp_search_laws.specs.Failed.{IsFailedSearch, failing_branch}
 
 abbrev pub IsCleanAtom : Atom → Type 0
 IsCleanAtom (constant c ts) = Unit {0}
@@ -46,6 +47,11 @@ abbrev mutual
   AreClausesWith P no_clauses = Unit {0}
   AreClausesWith P (clauses c cs) = IsAssumedWith P c × AreClausesWith P cs
 
--- a failing search whose goals and assumptions are clean
+-- an entry whose goal and assumptions are clean
+pub record IsCleanEntry (e : Entry) : Type 0 where
+  pub goal : IsGoalWith IsClean e.goal
+  pub assumed : EachOf (IsAssumedWith IsClean) e.assumed
+
+-- a failing search that begins with such entries
 abbrev pub IsCleanSearch : Declared → (P : List Clause) → (E : List Ty) → (R : List ClauseFormula) → Term → Failure → Type 0
-IsCleanSearch d P E R G f = IsFailedSearch d P E R G f × AreGoalsWith IsClean f.goals × EachOf (AreClausesWith IsClean) f.assumed
+IsCleanSearch d P E R G f = IsFailedSearch d P E R G f × EachOf IsCleanEntry (failing_branch (length E) f).goals

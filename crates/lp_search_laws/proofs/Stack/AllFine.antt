@@ -1,5 +1,5 @@
 -- Each answer of a run is as it should be, where looks keep what the tasks should be.
-use Rattle.std.proofs.Common.{ℕ, zero, suc, List, [], ◌∷◌, ◌++◌, length}
+use Rattle.std.proofs.Common.{ℕ, zero, suc, List, [], ◌∷◌, length}
 use Rattle.std.specs.Prelude.{◌-◌, Bool, true, false}
 use Rattle.lp_model.specs.Skeleton.{View, Gives, Opens, Parts, Takes, Cuts, Denies, Halts, Lacks, State, Told, Inner, Refuted, Held, Broke, Lasts, starts_within, oldest, move_denied, move_view, move_at, inner, told_after, run}
 use Rattle.lp_lemmas.specs.Each.{EachOf}
