@@ -35,22 +35,30 @@ abbrev pub no_values : Instance
 no_values = record { types = []; values = [] }
 
 -- every variable has a closed value: a parameter of its type
-value_of : Option Variable → Term
-value_of None = truth
-value_of (Some v) = atom (param 0 (instance (λ i. o_type) v.type))
+pub value_of : (ℕ → Ty) → Option Variable → Term
+value_of θ None = truth
+value_of θ (Some v) = atom (param 0 (instance θ v.type))
+
+-- with any closed types
+abbrev pub closing_with : (ℕ → Ty) → List Variable → Closing
+closing_with θ V = record { types = θ; terms = λ x l. value_of θ (slice_get V x) }
+
+pub closing_closes : (θ : ℕ → Ty) → ((i : ℕ) → IsClosedType (θ i)) → (d : Declared) (V : List Variable) → Closes d V (closing_with θ V)
+unfolding value_of
+closing_closes θ h d V = record {
+  types = h;
+  terms = λ x v e.
+      let T = instance θ v.type in
+      let c : IsClosedType (instance θ v.type) = closed_type θ h v.type in
+      transport (λ o. IsWitness d (map (instance θ) v.scope) (value_of θ o) T) (sym e) (record { typed = refl; closed = c; positive = tt; type_closed = c });
+}
 
 pub some_closing : List Variable → Closing
-some_closing V = record { types = λ i. o_type; terms = λ x l. value_of (slice_get V x) }
+some_closing V = closing_with (λ i. o_type) V
 
 pub some_closes : (d : Declared) (V : List Variable) → Closes d V (some_closing V)
-unfolding some_closing value_of
-some_closes d V = record {
-  types = λ i. tt;
-  terms = λ x v e.
-      let T = instance (λ i. o_type) v.type in
-      let c : IsClosedType (instance (λ i. o_type) v.type) = closed_type (λ i. o_type) (λ i. tt) v.type in
-      transport (λ o. IsWitness d (map (instance (λ i. o_type)) v.scope) (value_of o) T) (sym e) (record { typed = refl; closed = c; positive = tt; type_closed = c });
-}
+unfolding some_closing
+some_closes d V = closing_closes (λ i. o_type) (λ i. tt) d V
 
 pub none : {A : Type 0} (xs : List A) → length xs ≡ 0 → xs ≡ []
 none [] e = refl

@@ -51,6 +51,17 @@ pub mod StartRows
 pub mod TypesOver
 pub mod AtomsKept
 pub mod RunsKeep
+pub mod Families
+pub mod TermsKept
+pub mod Reducts
+pub mod Pure
+pub mod KeptTasks
+pub mod KeptLooks
+pub mod Typeless
+pub mod TestedGoals
+pub mod CleanTasks
+pub mod HeldRuns
+pub mod CleanStarts
 pub mod MatchTyped
 pub mod TryMatches
 pub mod PlainTry
@@ -85,7 +96,6 @@ pub mod UnnegatedFlat
 pub mod UnnegatedStarts
 pub mod WrittenAlone
 pub mod SameProofs
-pub mod Monomorphic
 pub mod Consistent
 pub mod Exhausted
 pub mod Decided

@@ -109,7 +109,7 @@ module _ (k j : ℕ) (θ : ℕ → Ty) (f : (i : ℕ) → i < k → IsTypeBelow 
 
 -- more type variables
 pub term_more : (k j : ℕ) → ((i : ℕ) → i < k → i < j) → (t : Term) → IsPlainTerm k t → IsPlainTerm j t
-term_more k j f t w = transport (IsPlainTerm j) (instance_itself (λ i. Unit {0}) t) (term_at k j var f t w)
+term_more k j f t w = transport (IsPlainTerm j) (instance_itself t) (term_at k j var f t w)
 
 list_itself : (ts : List Ty) → map (instance var) ts ≡ ts
 list_itself [] = refl

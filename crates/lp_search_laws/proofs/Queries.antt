@@ -164,11 +164,11 @@ types_back f (t ∷ ts) m h =
     let b = types_back f ts (suc m) (λ i. let g : suc m + i ≡ m + suc i = omega arith in ap f g ∙ h (suc i)) in
     λ i. a i ∷ b i
 
-types_count : (f : ℕ → Ty) (k m : ℕ) → length (map (instance f) (types_from k m)) ≡ k
+pub types_count : (f : ℕ → Ty) (k m : ℕ) → length (map (instance f) (types_from k m)) ≡ k
 types_count f zero m = refl
 types_count f (suc k) m = ap suc (types_count f k (suc m))
 
-types_given : (f : ℕ → Ty) (k m i : ℕ) → i < k → type_at (map (instance f) (types_from k m)) i ≡ f (m + i)
+pub types_given : (f : ℕ → Ty) (k m i : ℕ) → i < k → type_at (map (instance f) (types_from k m)) i ≡ f (m + i)
 types_given f zero m i l = absurd (omega (l, arith))
 types_given f (suc k) m zero l = let e : m ≡ m + 0 = omega arith in ap f e
 types_given f (suc k) m (suc i) l = let g : suc m + i ≡ m + suc i = omega arith in types_given f k (suc m) i (omega (l, arith)) ∙ ap f g

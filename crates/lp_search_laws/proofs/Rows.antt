@@ -1,3 +1,4 @@
 pub mod Worked
 pub mod Searches
 pub mod Negations
+pub mod Parameters

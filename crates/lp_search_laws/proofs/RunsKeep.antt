@@ -1,4 +1,4 @@
--- Unification keeps what its input is made of: bindings and residual pairs have constants with the property of the input's, and only its type variables;
+-- Unification keeps what its input is made of: of each family of terms, bindings and residual pairs have only the type variables of the input;
 -- those that are bound are gone from what is left.
 use Rattle.std.proofs.Common.{◌≡◌, ℕ, zero, suc, ◌<◌, ◌+◌, List, [], ◌∷◌, ◌++◌, map, length, ◌∙◌, refl, sym, ap, subst as transport, inl, inr, Bool, true, false, nat_eq, Option, Some, None}
 use Rattle.std.specs.Prelude.{◌⊎◌, ◌&&◌, nat_lt, option_map, option_and_then}
@@ -22,11 +22,13 @@ use Rattle.lp_model.specs.Rule.{type_pairs, Verdict, fails, gives, binds, delays
 use Rattle.lp_model.specs.Unify.{State, Turn, Goes, Fails, Solved, put_pairs, type_pairs_in, judged, turn_on, turn, Unified, Fail, Solution, Spent, limited, unify, begun, go_on, solve}
 use Rattle.lp_unify_laws.specs.TypeSolutions.{Satisfies}
 use Rattle.lp_unify_laws.specs.Solutions.{at_types}
-use Rattle.lp_unify_laws.proofs.Looks.{seen}
 use Rattle.lp_unify_laws.proofs.Identities.{term_twice}
 use Rattle.lp_search_laws.specs.Branches.{IsPlainAtom, IsPlainTerm, IsPlainPair}
 use Rattle.lp_search_laws.proofs.TypesOver.{itself, Over, AreOver, over_more, over_instance, over_fixed, types_put, Left, free_stays, each_more, left_append, IsBoundOver, AreSolved, solved_none, solved_append, ArePairsOver, solve_over, put_types_put}
-use Rattle.lp_search_laws.proofs.AtomsKept.{bind_is, map_is, some_is, apply_atoms, atoms_put, atoms_abstracted, atoms_pattern, atoms_look, atoms_settle, atoms_prune}
+use Rattle.lp_search_laws.proofs.AtomsKept.{bind_is, map_is, some_is, atoms_keep}
+use Rattle.lp_search_laws.proofs.Families.{Family}
+use Rattle.lp_search_laws.proofs.TermsKept.{Parted, look_parted, kept_abstracted, kept_pattern, kept_settle, kept_prune}
+use Rattle.lp_model.specs.Values.{Value, Number, Bytes, term_of}
 
 -- constants with the property C, and type variables of Q
 abbrev pub Good : (C Q : ℕ → Type 0) → Atom → Type 0
@@ -62,31 +64,14 @@ either_way : {X : Type 0} (b : Bool) (x y z : X) → (elim b as (λ c. X) [ true
 either_way true x y z e = inl e
 either_way false x y z e = inr e
 
+-- types of bindings put in, one after the other
+pub instance_itself : (t : Term) → instance_term var t ≡ t
+instance_itself (index i) = refl
+instance_itself (atom a) = ap atom (atom_itself a)
+instance_itself (abs b) = ap abs (instance_itself b)
+instance_itself (app t u) = app_same (instance_itself t) (instance_itself u)
+
 module _ (C : ℕ → Type 0) where
-  pub record GoodPair (Q : ℕ → Type 0) (p : Pair) : Type 0 where
-    pub left : AllAtoms (Good C Q) p.left
-    pub right : AllAtoms (Good C Q) p.right
-
-  free : (Q : ℕ → Type 0) (x l : ℕ) → Good C Q (logic x l)
-  free Q x l = tt
-
-  local : (Q : ℕ → Type 0) (k : ℕ) → Good C Q (eigen k)
-  local Q k = tt
-
-  good_atom_more : (Q R : ℕ → Type 0) → ((i : ℕ) → Q i → R i) → (a : Atom) → Good C Q a → Good C R a
-  good_atom_more Q R f (constant c ts) h = (h.0, each_more (Over Q) (Over R) (λ T o. over_more Q R f T o) ts h.1)
-  good_atom_more Q R f (integer z) h = tt
-  good_atom_more Q R f (text s) h = tt
-  good_atom_more Q R f (eigen k) h = tt
-  good_atom_more Q R f (logic x l) h = tt
-  good_atom_more Q R f (param k T) h = over_more Q R f T h
-
-  good_more : (Q R : ℕ → Type 0) → ((i : ℕ) → Q i → R i) → (t : Term) → AllAtoms (Good C Q) t → AllAtoms (Good C R) t
-  good_more Q R f (index i) h = tt
-  good_more Q R f (atom a) h = good_atom_more Q R f a h
-  good_more Q R f (abs b) h = good_more Q R f b h
-  good_more Q R f (app t u) h = (good_more Q R f t h.0, good_more Q R f u h.1)
-
   -- types put in
   module _ (Q R : ℕ → Type 0) (θ : ℕ → Ty) (f : (i : ℕ) → Q i → Over R (θ i)) where
     good_atom_instance : (a : Atom) → Good C Q a → Good C R (instance_atom θ a)
@@ -123,23 +108,33 @@ module _ (C : ℕ → Type 0) where
     term_fixed (abs b) h = ap abs (term_fixed b h)
     term_fixed (app t u) h = app_same (term_fixed t h.0) (term_fixed u h.1)
 
-    pairs_fixed : (ps : List Pair) → EachOf (GoodPair Q) ps → at_types θ ps ≡ ps
-    pairs_fixed [] h = refl
-    pairs_fixed (p ∷ ps) h = let e = term_fixed p.left h.0.left in let g = term_fixed p.right h.0.right in let r = pairs_fixed ps h.1 in λ i. record { left = e i; right = g i; level = p.level } ∷ r i
+  -- terms all of whose atoms are so
+  good_values : (Q : ℕ → Type 0) (v : Value) → AllAtoms (Good C Q) (term_of v)
+  good_values Q (Number z) = tt
+  good_values Q (Bytes s) = tt
 
-  -- types of bindings put in, one after the other
-  pub instance_itself : (t : Term) → instance_term var t ≡ t
-  instance_itself (index i) = refl
-  instance_itself (atom a) = ap atom (atom_itself a)
-  instance_itself (abs b) = ap abs (instance_itself b)
-  instance_itself (app t u) = app_same (instance_itself t) (instance_itself u)
+  atoms_family : Family (λ Q t. AllAtoms (Good C Q) t)
+  atoms_family = record {
+    keeps = λ Q. atoms_keep (Good C Q) (λ x l. tt) (λ k. tt) (good_values Q);
+    typed = good_instance;
+    constants = λ Q c ts h. h.1;
+    parameters = λ Q n T h. h;
+  }
+
+module _ (K : (ℕ → Type 0) → Term → Type 0) (family : Family K) where
+  pub record GoodPair (Q : ℕ → Type 0) (p : Pair) : Type 0 where
+    pub left : K Q p.left
+    pub right : K Q p.right
+
+  pub good_more : (Q R : ℕ → Type 0) → ((i : ℕ) → Q i → R i) → (t : Term) → K Q t → K R t
+  good_more Q R f t h = transport (K R) (instance_itself t) (family.typed Q R var f t h)
 
   put_types_is : (bs : List TypeBinding) (t : Term) → put_types_in bs t ≡ instance_term (types_put bs) t
   put_types_is [] t = sym (instance_itself t)
   put_types_is (b ∷ bs) t = put_types_is bs (put_type_in b t) ∙ term_twice (types_put bs) (one_type b) t ∙ ap (λ f. instance_term f t) (fun_ext (λ i. sym (put_types_put bs (one_type b i))))
 
-  put_types_good : (Q : ℕ → Type 0) (bs : List TypeBinding) → AreSolved Q bs → (t : Term) → AllAtoms (Good C Q) t → AllAtoms (Good C (Left Q bs)) (put_types_in bs t)
-  put_types_good Q bs h t g = transport (AllAtoms (Good C (Left Q bs))) (sym (put_types_is bs t)) (good_instance Q (Left Q bs) (types_put bs) h.puts t g)
+  put_types_good : (Q : ℕ → Type 0) (bs : List TypeBinding) → AreSolved Q bs → (t : Term) → K Q t → K (Left Q bs) (put_types_in bs t)
+  put_types_good Q bs h t g = transport (K (Left Q bs)) (sym (put_types_is bs t)) (family.typed Q (Left Q bs) (types_put bs) h.puts t g)
 
   -- in lists of pairs
   abbrev put_types_pair : List TypeBinding → Pair → Pair
@@ -161,19 +156,19 @@ module _ (C : ℕ → Type 0) where
   typed_pairs Q bs h ps g =
       transport (EachOf (GoodPair (Left Q bs))) (sym (type_pairs_are bs ps)) (each_map (GoodPair Q) (GoodPair (Left Q bs)) (put_types_pair bs) (λ p k. record { left = put_types_good Q bs h p.left k.left; right = put_types_good Q bs h p.right k.right }) ps g)
 
-  bound_pairs : (Q : ℕ → Type 0) (bs : List Binding) → EachOf (λ b. AllAtoms (Good C Q) b.value) bs → (ps : List Pair) → EachOf (GoodPair Q) ps → EachOf (GoodPair Q) (put_pairs bs ps)
+  bound_pairs : (Q : ℕ → Type 0) (bs : List Binding) → EachOf (λ b. K Q b.value) bs → (ps : List Pair) → EachOf (GoodPair Q) ps → EachOf (GoodPair Q) (put_pairs bs ps)
   bound_pairs Q [] h ps g = g
   bound_pairs Q (b ∷ bs) h ps g =
       bound_pairs Q bs h.1 (map (put_pair b) ps) (each_map (GoodPair Q) (GoodPair Q) (put_pair b) (λ p k. record {
-        left = atoms_put (Good C Q) (free Q) (local Q) b h.0 p.left k.left;
-        right = atoms_put (Good C Q) (free Q) (local Q) b h.0 p.right k.right;
+        left = (family.keeps Q).puts b h.0 p.left k.left;
+        right = (family.keeps Q).puts b h.0 p.right k.right;
       }) ps g)
 
   -- what a rule comes to
   abbrev GoodVerdict : (Q : ℕ → Type 0) → Verdict → Type 0
   GoodVerdict Q fails = Unit {0}
   GoodVerdict Q (gives ts ps) = AreSolved Q ts × EachOf (GoodPair (Left Q ts)) ps
-  GoodVerdict Q (binds bs next) = EachOf (λ b. AllAtoms (Good C Q) b.value) bs
+  GoodVerdict Q (binds bs next) = EachOf (λ b. K Q b.value) bs
   GoodVerdict Q delays = Unit {0}
 
   abbrev GoodRuled : (Q : ℕ → Type 0) → Ruled → Type 0
@@ -192,9 +187,9 @@ module _ (C : ℕ → Type 0) where
     zipped_over (t ∷ ts) [] h k = tt
     zipped_over (t ∷ ts) (u ∷ us) h k = ((h.0, k.0), zipped_over ts us h.1 k.1)
 
-    atom_pairs : (a b : Atom) → Good C Q a → Good C Q b → ArePairsOver Q (type_pairs (atom a) (atom b))
-    atom_pairs (constant c ts) (constant d us) h k = zipped_over ts us h.1 k.1
-    atom_pairs (param n T) (param m U) h k = ((h, k), tt)
+    atom_pairs : (a b : Atom) → K Q (atom a) → K Q (atom b) → ArePairsOver Q (type_pairs (atom a) (atom b))
+    atom_pairs (constant c ts) (constant d us) h k = zipped_over ts us (family.constants Q c ts h) (family.constants Q d us k)
+    atom_pairs (param n T) (param m U) h k = ((family.parameters Q n T h, family.parameters Q m U k), tt)
     atom_pairs (constant c ts) (integer z) h k = tt
     atom_pairs (constant c ts) (text s) h k = tt
     atom_pairs (constant c ts) (eigen n) h k = tt
@@ -210,7 +205,7 @@ module _ (C : ℕ → Type 0) where
     atom_pairs (eigen n) b h k = tt
     atom_pairs (logic x l) b h k = tt
 
-    head_pairs : (h g : Term) → AllAtoms (Good C Q) h → AllAtoms (Good C Q) g → ArePairsOver Q (type_pairs h g)
+    pub head_pairs : (h g : Term) → K Q h → K Q g → ArePairsOver Q (type_pairs h g)
     head_pairs (atom a) (atom b) p q = atom_pairs a b p q
     head_pairs (atom (constant c ts)) (index i) p q = tt
     head_pairs (atom (constant c ts)) (abs b) p q = tt
@@ -226,12 +221,12 @@ module _ (C : ℕ → Type 0) where
     head_pairs (abs b) g p q = tt
     head_pairs (app t u) g p q = tt
 
-    pairs_of_arguments : (R : ℕ → Type 0) (level : ℕ) (ts us : List Term) → EachOf (AllAtoms (Good C R)) ts → EachOf (AllAtoms (Good C R)) us → EachOf (GoodPair R) (argument_pairs level ts us)
+    pairs_of_arguments : (R : ℕ → Type 0) (level : ℕ) (ts us : List Term) → EachOf (K R) ts → EachOf (K R) us → EachOf (GoodPair R) (argument_pairs level ts us)
     pairs_of_arguments R level [] us h k = tt
     pairs_of_arguments R level (t ∷ ts) [] h k = tt
     pairs_of_arguments R level (t ∷ ts) (u ∷ us) h k = (record { left = h.0; right = k.0 }, pairs_of_arguments R level ts us h.1 k.1)
 
-    decomposed : (n level : ℕ) (h : Term) (ts : List Term) (g : Term) (us : List Term) (r : Ruled) → AllAtoms (Good C Q) h → EachOf (AllAtoms (Good C Q)) ts → AllAtoms (Good C Q) g → EachOf (AllAtoms (Good C Q)) us → decompose n level h ts g us ≡ Some r → GoodRuled Q r
+    decomposed : (n level : ℕ) (h : Term) (ts : List Term) (g : Term) (us : List Term) (r : Ruled) → K Q h → EachOf (K Q) ts → K Q g → EachOf (K Q) us → decompose n level h ts g us ≡ Some r → GoodRuled Q r
     decomposed n level h ts g us r hh hts hg hus e = elim (either_way (same_name h g && nat_eq (length ts) (length us)) (option_map (with_types level ts us) (solve_types n (type_pairs h g) [] 0)) (Some (ruled 0 fails)) (Some r) e) [
       | inl q ↦ let m = map_is (solve_types n (type_pairs h g) [] 0) (with_types level ts us) r q in transport (GoodRuled Q) m.2 (outcome m.0 m.1)
       | inr q ↦ is_good (ruled 0 fails) r q tt
@@ -242,21 +237,21 @@ module _ (C : ℕ → Type 0) where
         outcome (solved bs u) p =
             let over : ArePairsOver (Left Q []) (type_pairs h g) = each_more (λ x. Over Q x.left × Over Q x.right) (λ x. Over (Left Q []) x.left × Over (Left Q []) x.right) (λ x o. (over_more Q (Left Q []) (λ i q. (q, tt)) x.left o.0, over_more Q (Left Q []) (λ i q. (q, tt)) x.right o.1)) (type_pairs h g) (head_pairs h g hh hg) in
             let s = solve_over Q n (type_pairs h g) [] 0 bs u p over (solved_none Q) in
-            let put_in = λ (xs : List Term) (k : EachOf (AllAtoms (Good C Q)) xs). each_map (AllAtoms (Good C Q)) (AllAtoms (Good C (Left Q bs))) (put_types_in bs) (λ t k. put_types_good Q bs s t k) xs k in
+            let put_in = λ (xs : List Term) (k : EachOf (K Q) xs). each_map (K Q) (K (Left Q bs)) (put_types_in bs) (λ t k. put_types_good Q bs s t k) xs k in
             (s, pairs_of_arguments (Left Q bs) level (map (put_types_in bs) ts) (map (put_types_in bs) us) (put_in ts hts) (put_in us hus))
 
-    each_bound : (xs ys : List Binding) → EachOf (λ b. AllAtoms (Good C Q) b.value) xs → EachOf (λ b. AllAtoms (Good C Q) b.value) ys → EachOf (λ b. AllAtoms (Good C Q) b.value) (xs ++ ys)
-    each_bound xs ys h k = each_append (λ b. AllAtoms (Good C Q) b.value) xs ys h k
+    each_bound : (xs ys : List Binding) → EachOf (λ b. K Q b.value) xs → EachOf (λ b. K Q b.value) ys → EachOf (λ b. K Q b.value) (xs ++ ys)
+    each_bound xs ys h k = each_append (λ b. K Q b.value) xs ys h k
 
-    solved_for : (n next : ℕ) (s : Side) (t : Term) (v : Look) (r : Ruled) → AllAtoms (Good C Q) t → solve_for n next s t v ≡ Some r → GoodRuled Q r
+    solved_for : (n next : ℕ) (s : Side) (t : Term) (v : Look) (r : Ruled) → K Q t → solve_for n next s t v ≡ Some r → GoodRuled Q r
     solved_for n next s t v r h e = go (has_head s v) e
       where
         pruned : (u : ℕ) (p : Pruned) → prune n s next t ≡ Some p → option_map (λ t'. ruled u (binds (bound s p.bindings t') p.next)) (settle n s.pair p.term) ≡ Some r → GoodRuled Q r
         pruned u p k q =
             let m = map_is (settle n s.pair p.term) (λ t'. ruled u (binds (bound s p.bindings t') p.next)) r q in
-            let z = atoms_prune (Good C Q) (free Q) (local Q) n s next t p k h in
-            let w = atoms_settle (Good C Q) (free Q) (local Q) n s.pair p.term m.0 m.1 z.term in
-            transport (GoodRuled Q) m.2 (each_bound p.bindings (record { id = s.id; level = s.level; value = abstracted s.arguments m.0 } ∷ []) z.bindings (atoms_abstracted (Good C Q) (free Q) (local Q) s.arguments m.0 w, tt))
+            let z = kept_prune (K Q) (family.keeps Q) n s next t p k h in
+            let w = kept_settle (K Q) (family.keeps Q) n s.pair p.term m.0 m.1 z.term in
+            transport (GoodRuled Q) m.2 (each_bound p.bindings (record { id = s.id; level = s.level; value = abstracted s.arguments m.0 } ∷ []) z.bindings (kept_abstracted (K Q) (family.keeps Q) s.arguments m.0 w, tt))
 
         scanned : (w : Scanned) → (elim w as (λ x. Option Ruled) [
           | broken u ↦ Some (ruled u fails)
@@ -304,19 +299,17 @@ module _ (C : ℕ → Type 0) where
         ]) ≡ Some r → GoodRuled Q r
         go None b q = ruled_5 n next p (flexible x l ts) (flexible x l us) r h q
         go (Some a) None q = ruled_5 n next p (flexible x l ts) (flexible x l us) r h q
-        go (Some a) (Some b) q = is_good (ruled 0 (joined next x l a b)) r q (atoms_abstracted (Good C Q) (free Q) (local Q) a (apply (atom (logic next l)) (eigens (agreeing a b))) (atoms_pattern (Good C Q) (free Q) (local Q) next l (agreeing a b)), tt)
+        go (Some a) (Some b) q = is_good (ruled 0 (joined next x l a b)) r q (kept_abstracted (K Q) (family.keeps Q) a (apply (atom (logic next l)) (eigens (agreeing a b))) (kept_pattern (K Q) (family.keeps Q) next l (agreeing a b)), tt)
 
     opened_pair : (p : Pair) → GoodPair Q p → GoodPair Q (opened p)
-    opened_pair p h = record { left = (h.left, tt); right = (h.right, tt) }
+    opened_pair p h = let c = (family.keeps Q).local (suc p.level) in record { left = (family.keeps Q).applies p.left (atom (eigen (suc p.level))) h.left c; right = (family.keeps Q).applies p.right (atom (eigen (suc p.level))) h.right c }
 
-    ruled_looks : (n next : ℕ) (p : Pair) (v w : Look) (r : Ruled) → GoodPair Q p → AllAtoms (Good C Q) (seen v) → AllAtoms (Good C Q) (seen w) → by_looks n next p v w ≡ Some r → GoodRuled Q r
+    ruled_looks : (n next : ℕ) (p : Pair) (v w : Look) (r : Ruled) → GoodPair Q p → Parted (K Q) (family.keeps Q) v → Parted (K Q) (family.keeps Q) w → by_looks n next p v w ≡ Some r → GoodRuled Q r
     ruled_looks n next p (an_abs b) w r h hv hw e = is_good (ruled 0 (gives [] (opened p ∷ []))) r e (no_types_given (opened p ∷ []) (opened_pair p h, tt))
     ruled_looks n next p (rigid g ts) (an_abs c) r h hv hw e = is_good (ruled 0 (gives [] (opened p ∷ []))) r e (no_types_given (opened p ∷ []) (opened_pair p h, tt))
     ruled_looks n next p (flexible x l ts) (an_abs c) r h hv hw e = is_good (ruled 0 (gives [] (opened p ∷ []))) r e (no_types_given (opened p ∷ []) (opened_pair p h, tt))
     ruled_looks n next p (rigid g ts) (rigid k us) r h hv hw e =
-        let a = apply_atoms (Good C Q) g ts hv in
-        let b = apply_atoms (Good C Q) k us hw in
-        decomposed n p.level g ts k us r a.0 a.1 b.0 b.1 e
+        decomposed n p.level g ts k us r hv.0 hv.1 hw.0 hw.1 e
     ruled_looks n next p (rigid g ts) (flexible y m us) r h hv hw e = ruled_5 n next p (rigid g ts) (flexible y m us) r h e
     ruled_looks n next p (flexible x l ts) (rigid g us) r h hv hw e = ruled_5 n next p (flexible x l ts) (rigid g us) r h e
     ruled_looks n next p (flexible x l ts) (flexible y m us) r h hv hw e = elim (either_way (nat_eq x y && nat_eq l m && nat_eq (length ts) (length us)) _ (by_rule_5 n next p (flexible x l ts) (flexible y m us)) (Some r) e) [
@@ -337,14 +330,14 @@ module _ (C : ℕ → Type 0) where
     rule_good n next p r h e =
         let v = bind_is (look n p.left) _ r e in
         let w = bind_is (look n p.right) _ r v.2 in
-        ruled_looks n next p v.0 w.0 r h (atoms_look (Good C Q) (free Q) (local Q) n p.left v.0 v.1 h.left) (atoms_look (Good C Q) (free Q) (local Q) n p.right w.0 w.1 h.right) w.2
+        ruled_looks n next p v.0 w.0 r h (look_parted (K Q) (family.keeps Q) n p.left v.0 v.1 h.left) (look_parted (K Q) (family.keeps Q) n p.right w.0 w.1 h.right) w.2
 
     -- whole runs
     pub record GoodState (s : State) : Type 0 where
       pub types : AreSolved Q s.types
       pub pairs : EachOf (GoodPair (Left Q s.types)) s.pairs
       pub delayed : EachOf (GoodPair (Left Q s.types)) s.delayed
-      pub bindings : EachOf (λ b. AllAtoms (Good C Q) b.value) s.bindings
+      pub bindings : EachOf (λ b. K Q b.value) s.bindings
 
     abbrev GoodTurn : Turn → Type 0
     GoodTurn (Goes s) = GoodState s
@@ -368,7 +361,7 @@ module _ (C : ℕ → Type 0) where
       types = st.types;
       pairs = bound_pairs (Left Q s.types) bs g rest hs;
       delayed = bound_pairs (Left Q s.types) bs g s.delayed st.delayed;
-      bindings = each_bound s.bindings bs st.bindings (each_more (λ b. AllAtoms (Good C (Left Q s.types)) b.value) (λ b. AllAtoms (Good C Q) b.value) (λ b k. good_more (Left Q s.types) Q (λ i l. l.0) b.value k) bs g);
+      bindings = each_bound s.bindings bs st.bindings (each_more (λ b. K (Left Q s.types) b.value) (λ b. K Q b.value) (λ b k. good_more (Left Q s.types) Q (λ i l. l.0) b.value k) bs g);
     }
     judged_good s p rest u delays st h hs g = record { types = st.types; pairs = hs; delayed = each_append (GoodPair (Left Q s.types)) s.delayed (p ∷ []) st.delayed (h, tt); bindings = st.bindings }
 
@@ -418,12 +411,17 @@ module _ (C : ℕ → Type 0) where
               unify_good n n limit (begun ps ds next (solved ts u)) f (record { types = s; pairs = typed_pairs Q ts s ps hp; delayed = typed_pairs Q ts s ds hd; bindings = tt }) k
         ]
 
+-- of pairs
+pairs_fixed : (C Q : ℕ → Type 0) (θ : ℕ → Ty) → ((i : ℕ) → Q i → θ i ≡ var i) → (ps : List Pair) → EachOf (GoodPair (λ R t. AllAtoms (Good C R) t) (atoms_family C) Q) ps → at_types θ ps ≡ ps
+pairs_fixed C Q θ f [] h = refl
+pairs_fixed C Q θ f (p ∷ ps) h = let e = term_fixed C Q θ f p.left h.0.left in let g = term_fixed C Q θ f p.right h.0.right in let r = pairs_fixed C Q θ f ps h.1 in λ i. record { left = e i; right = g i; level = p.level } ∷ r i
+
 -- any atoms and type variables
-abbrev Any : ℕ → Type 0
+abbrev pub Any : ℕ → Type 0
 Any i = Unit {0}
 
 mutual
-  any_type : (T : Ty) → Over Any T
+  pub any_type : (T : Ty) → Over Any T
   any_type (var i) = tt
   any_type (type_param k) = tt
   any_type (con c ts) = any_types ts
@@ -433,7 +431,7 @@ mutual
   any_types no_types = tt
   any_types (types t ts) = (any_type t, any_types ts)
 
-each_any : {X : Type 0} (P : X → Type 0) → ((x : X) → P x) → (xs : List X) → EachOf P xs
+pub each_any : {X : Type 0} (P : X → Type 0) → ((x : X) → P x) → (xs : List X) → EachOf P xs
 each_any P f [] = tt
 each_any P f (x ∷ xs) = (f x, each_any P f xs)
 
@@ -453,8 +451,9 @@ any_term (app t u) = (any_term t, any_term u)
 
 pub types_satisfy_themselves : (n limit : ℕ) (eqs : List TypePair) (ps ds : List Pair) (next : ℕ) (s : State) → solve n limit eqs ps ds next ≡ Some (Solution s) → Satisfies (λ i. put_types s.types (var i)) s.types × (at_types (λ i. put_types s.types (var i)) s.delayed ≡ s.delayed)
 types_satisfy_themselves n limit eqs ps ds next s e =
-    let all = λ (qs : List Pair). each_any (GoodPair Any Any) (λ p. record { left = any_term p.left; right = any_term p.right }) qs in
-    let g = solve_good Any Any n limit eqs ps ds next s (each_any (λ x. Over Any x.left × Over Any x.right) (λ x. (any_type x.left, any_type x.right)) eqs) (all ps) (all ds) e in
+    let A = λ (Q : ℕ → Type 0) (t : Term). AllAtoms (Good Any Q) t in
+    let all = λ (qs : List Pair). each_any (GoodPair A (atoms_family Any) Any) (λ p. record { left = any_term p.left; right = any_term p.right }) qs in
+    let g = solve_good A (atoms_family Any) Any n limit eqs ps ds next s (each_any (λ x. Over Any x.left × Over Any x.right) (λ x. (any_type x.left, any_type x.right)) eqs) (all ps) (all ds) e in
     (g.types.satisfied, pairs_fixed Any (Left Any s.types) (types_put s.types) (λ i l. free_stays s.types i l.1) s.delayed g.delayed)
 
 -- positive constants, and type variables below k
@@ -483,7 +482,7 @@ mutual
   over_types k no_types h = tt
   over_types k (types t ts) h = (over_type k t h.0, over_types k ts h.1)
 
-list_over : (k : ℕ) (ts : List Ty) → AreTypesBelow k ts → EachOf (Over (Below k)) ts
+pub list_over : (k : ℕ) (ts : List Ty) → AreTypesBelow k ts → EachOf (Over (Below k)) ts
 list_over k [] h = tt
 list_over k (t ∷ ts) h = (type_over k t h.0, list_over k ts h.1)
 
@@ -523,11 +522,13 @@ pub solve_keeps_plain : (k n limit : ℕ) (eqs : List TypePair) (ps ds : List Pa
     EachOf (IsPlainPair k) s.delayed × EachOf (λ b. IsPlainTerm k b.value) s.bindings × EachOf (λ b. (b.id < k) × IsTypeBelow k b.value) s.types
 solve_keeps_plain k n limit eqs ps ds next s he hp hd e =
     let Q = Below k in
-    let into = λ (qs : List Pair) (h : EachOf (IsPlainPair k) qs). each_more (IsPlainPair k) (GoodPair IsPositiveConstant Q) (λ p g. record { left = plain_term k p.left g.left; right = plain_term k p.right g.right }) qs h in
-    let g = solve_good IsPositiveConstant Q n limit eqs ps ds next s (each_more (λ x. IsTypeBelow k x.left × IsTypeBelow k x.right) (λ x. Over Q x.left × Over Q x.right) (λ x o. (type_over k x.left o.0, type_over k x.right o.1)) eqs he) (into ps hp) (into ds hd) e in (
-      each_more (GoodPair IsPositiveConstant (Left Q s.types)) (IsPlainPair k) (λ p h. record {
-        left = term_plain k p.left (good_more IsPositiveConstant (Left Q s.types) Q (λ i l. l.0) p.left h.left);
-        right = term_plain k p.right (good_more IsPositiveConstant (Left Q s.types) Q (λ i l. l.0) p.right h.right);
+    let A = λ (R : ℕ → Type 0) (t : Term). AllAtoms (Good IsPositiveConstant R) t in
+    let F = atoms_family IsPositiveConstant in
+    let into = λ (qs : List Pair) (h : EachOf (IsPlainPair k) qs). each_more (IsPlainPair k) (GoodPair A F Q) (λ p g. record { left = plain_term k p.left g.left; right = plain_term k p.right g.right }) qs h in
+    let g = solve_good A F Q n limit eqs ps ds next s (each_more (λ x. IsTypeBelow k x.left × IsTypeBelow k x.right) (λ x. Over Q x.left × Over Q x.right) (λ x o. (type_over k x.left o.0, type_over k x.right o.1)) eqs he) (into ps hp) (into ds hd) e in (
+      each_more (GoodPair A F (Left Q s.types)) (IsPlainPair k) (λ p h. record {
+        left = term_plain k p.left (good_more A F (Left Q s.types) Q (λ i l. l.0) p.left h.left);
+        right = term_plain k p.right (good_more A F (Left Q s.types) Q (λ i l. l.0) p.right h.right);
       }) s.delayed g.delayed,
       each_more (λ b. AllAtoms (Good IsPositiveConstant Q) b.value) (λ b. IsPlainTerm k b.value) (λ b h. term_plain k b.value h) s.bindings g.bindings,
       each_more (IsBoundOver Q) (λ b. (b.id < k) × IsTypeBelow k b.value) (λ b h. (h.0, over_type k b.value h.1)) s.types g.types.over,

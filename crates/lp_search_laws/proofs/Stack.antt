@@ -1,5 +1,7 @@
 pub mod Ends
+pub mod Alongside
 pub mod InStep
+pub mod AllFine
 pub mod Moves
 pub mod Faithful
 pub mod Events

@@ -172,7 +172,7 @@ module _ (n : ℕ) (d : Declared) (std : IsStandard d) (P : List Clause) (progra
     | inr i ↦
         let p = any_each (λ x. IsTyped d E V (formula_of_clause x) o_type) c e.assumed i entries.0.assumed in
         let o = any_each (IsAssumable b.next_type) c e.assumed i plain.0.assumed in
-        transport (λ z. IsTyped d E V z o_type) (sym (ap (λ f. instance_term f (formula_of_clause c)) (fun_ext (none_renewed k b.next_type o.0)) ∙ instance_itself (λ i. Unit {0}) (formula_of_clause c))) p
+        transport (λ z. IsTyped d E V z o_type) (sym (ap (λ f. instance_term f (formula_of_clause c)) (fun_ext (none_renewed k b.next_type o.0)) ∙ instance_itself (formula_of_clause c))) p
   ]
 
   pub try_matches : IsMatch d E y.answer.variables (map (instance (renewed k b.next_type)) vs) (instance_term (renewed k b.next_type) h) (formula_of_goals (type_goals (renewed k b.next_type) g)) t

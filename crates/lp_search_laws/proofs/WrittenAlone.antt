@@ -29,7 +29,7 @@ pub each_parts : {A : Type 0} (P : A → Type 0) (xs ys : List A) → EachOf P (
 each_parts P [] ys h = (tt, h)
 each_parts P (x ∷ xs) ys h = let r = each_parts P xs ys h.1 in ((h.0, r.0), r.1)
 
-each_before_map : {A B : Type 0} (P : B → Type 0) (f : A → B) (xs : List A) → EachOf P (map f xs) → EachOf (λ a. P (f a)) xs
+pub each_before_map : {A B : Type 0} (P : B → Type 0) (f : A → B) (xs : List A) → EachOf P (map f xs) → EachOf (λ a. P (f a)) xs
 each_before_map P f [] h = tt
 each_before_map P f (x ∷ xs) h = (h.0, each_before_map P f xs h.1)
 

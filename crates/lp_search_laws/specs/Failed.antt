@@ -70,7 +70,3 @@ pub record IsFailedSearch (d : Declared) (P : List Clause) (E : List Ty) (R : Li
   pub program : f.program ≡ P
   pub ends : (failed_run (length eigens) f).ending ≡ Some NoMore
   pub gives_none : (failed_run (length eigens) f).answers ≡ []
-
--- such a search without type variables
-abbrev pub IsMonomorphicSearch : Declared → (P : List Clause) → (E : List Ty) → (R : List ClauseFormula) → Term → Failure → Type 0
-IsMonomorphicSearch d P E R G f = IsFailedSearch d P E R G f × (f.next_type ≡ 0)

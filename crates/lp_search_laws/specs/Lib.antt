@@ -11,3 +11,4 @@ pub mod Tries
 pub mod Unnegated
 pub mod Written
 pub mod Begun
+pub mod Clean

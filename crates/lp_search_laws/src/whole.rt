@@ -11,7 +11,8 @@ ghost use Rattle.lp_model.specs.Flatten.{ClauseFormula, flatten_query};
 ghost use Rattle.lp_model.specs.Answers.{AnswerTyping, Instance, IsClosedInstance, Query, IsRight, IsWellFormed};
 ghost use Rattle.lp_model.specs.Proofs.{Declared, AreFlattened};
 ghost use Rattle.lp_model.specs.Search.{ComesTo, look, start};
-ghost use Rattle.lp_search_laws.specs.Failed.{IsFailedSearch, IsMonomorphicSearch};
+ghost use Rattle.lp_search_laws.specs.Clean.{IsClean, IsCleanSearch};
+ghost use Rattle.lp_search_laws.specs.Failed.{IsFailedSearch};
 ghost use Rattle.lp_search_laws.specs.Right.{IsRightBy};
 ghost use Rattle.lp_search_laws.specs.Started.{IsPlainQuery, IsPlainSentence, IsProvableBy, IsTypedQuery, IsTypedSentence};
 
@@ -29,11 +30,11 @@ pub fn answers_are_sound()
     ensures { (d : Declared) → IsStandard d → (l : ℕ) (F : List ClauseFormula) (P : List Clause) → EachOf (IsTypedSentence d) F → AreFlattened d F P → (q : Query) (gs : Goals) → IsTypedQuery d q → flatten_query l d q.formula ≡ Some gs → (n j m steps answers : ℕ) → EachOf (λ a. (y : AnswerTyping) × IsWellFormed d q y a × ((i : Instance) → IsClosedInstance d y a i → IsProvableBy (IsFailedSearch d P) d F q i)) (run (look unit_limit n P) j m (start q.type_vars (length q.vars) gs steps answers)).answers }
 {}
 
-/// Soundness and exhaustion of the whole language, negation too, of programs and queries without type variables: each closed instance of an answer has a uniform proof from the
-/// source clauses, and where there is no more, each instance of the query that has one is, up to conversion, an instance of an answer. In these proofs a negated goal is proved by
-/// a search that fails, and that has no type variables.
-pub fn monomorphic_search_is_right()
-    ensures { (d : Declared) → IsStandard d → (l : ℕ) (F : List ClauseFormula) (P : List Clause) → EachOf (IsTypedSentence d) F → EachOf (λ D. D.type_vars ≡ 0) F → AreFlattened d F P → (q : Query) (gs : Goals) → IsTypedQuery d q → q.type_vars ≡ 0 → flatten_query l d q.formula ≡ Some gs → (n j m steps answers : ℕ) → IsRightBy (IsMonomorphicSearch d P) d F q (run (look unit_limit n P) j m (start q.type_vars (length q.vars) gs steps answers)) }
+/// Soundness and exhaustion of the whole language, negation too: each closed instance of an answer has a uniform proof from the source clauses, and where there is no
+/// more, each instance of the query that has one is, up to conversion, an instance of an answer. In these proofs a negated goal is proved by a search that fails. Where
+/// parameters stand in the sentences, in the query or in such a search, they have closed types: what is written in a program has none.
+pub fn search_is_right()
+    ensures { (d : Declared) → IsStandard d → (l : ℕ) (F : List ClauseFormula) (P : List Clause) → EachOf (IsTypedSentence d) F → EachOf (λ D. IsClean D.formula) F → AreFlattened d F P → (q : Query) (gs : Goals) → IsTypedQuery d q → IsClean q.formula → flatten_query l d q.formula ≡ Some gs → (n j m steps answers : ℕ) → IsRightBy (IsCleanSearch d P) d F q (run (look unit_limit n P) j m (start q.type_vars (length q.vars) gs steps answers)) }
 {}
 
 /// The search comes to a value, for each limit on steps and answers, of the whole language.

@@ -7,6 +7,7 @@ use Rattle.lp_model.specs.declared.ending.Ending.TheVariants.{NoMore}
 use Rattle.lp_model.specs.Skeleton.{View, Gives, Opens, Parts, Takes, Cuts, Denies, Halts, Lacks, State, Note, Told, Inner, Refuted, Held, Broke, Lasts, starts_within, oldest, move_denied, move_view, move_at, inner, told_after, run}
 use Rattle.lp_model.specs.Faithful.{Covers, AreFine, Denied, Faithful}
 use Rattle.lp_lemmas.specs.Each.{AnyOf, EachOf}
+use Rattle.lp_search_laws.proofs.Stack.AllFine.{LeavesFine, all_fine}
 use Rattle.lp_search_laws.proofs.Stack.Inners.{BreaksRightly, inner_rightly}
 use Rattle.lp_lemmas.proofs.Each.{any_append, any_front, any_back, any_drop, each_append, each_drop}
 
@@ -147,34 +148,15 @@ module _ {Task Answer Inst : Type 0} (look : ℕ → Task → View Task Answer) 
   exhausts (suc n) s hn oks e i h = exhausts_at i n (λ s' hn' oks' e' h'. exhausts n s' hn' oks' e' i h') s.steps s.answers s.given s.rows s.row s.lost s.stack hn oks e h
 
   -- each answer is fine
-  module _ (go : State Task → Told Answer) (ih : (s : State Task) → EachOf Ok s.stack → EachOf Fine (go s).answers) where
-    fine_denied : (n k g u : ℕ) (lost' : Bool) (ts rest : List Task) (r : Inner) → EachOf Ok ts → EachOf Ok rest → EachOf Fine (told_after go (move_denied n k g u lost' ts rest r)).answers
-    fine_denied n k g u lost' ts rest (Refuted c ns p) ok oks = ih _ (each_append Ok ts rest ok oks)
-    fine_denied n k g u lost' ts rest (Held c ns p) ok oks = ih _ oks
-    fine_denied n k g u lost' ts rest (Broke c ns x) ok oks = tt
-    fine_denied n k g u lost' ts rest (Lasts c ns) ok oks = tt
-
-    fine_view : (n k g u p : ℕ) (lost' : Bool) (rest : List Task) (v : View Task Answer) → AreFine Ok Fine v → EachOf Ok rest → EachOf Fine (told_after go (move_view (inner look j) n k g u p lost' rest v)).answers
-    fine_view n k g u p lost' rest (Gives a) ok oks = (ok, ih _ oks)
-    fine_view n k g u p lost' rest (Opens ts) ok oks = ih _ (each_append Ok ts rest ok oks)
-    fine_view n k g u zero lost' rest (Parts ts) ok oks = tt
-    fine_view n k g u (suc p) lost' rest (Parts ts) ok oks = ih _ (each_append Ok ts rest ok oks)
-    fine_view zero k g u p lost' rest (Takes name ts) ok oks = tt
-    fine_view (suc n) k g u p lost' rest (Takes name ts) ok oks = ih _ (each_append Ok ts rest ok oks)
-    fine_view zero k g u p lost' rest (Cuts m ts) ok oks = tt
-    fine_view (suc n) k g u p lost' rest (Cuts m ts) ok oks = ih _ (each_append Ok ts (oldest m rest) ok (each_drop Ok (length rest - m) rest oks))
-    fine_view zero k g u p lost' rest (Denies w f ts) ok oks = tt
-    fine_view (suc n) k g u p lost' rest (Denies w f ts) ok oks = fine_denied n k g u lost' ts rest (inner look j f (starts_within u w n 1)) ok oks
-    fine_view n k g u p lost' rest (Halts e) ok oks = tt
-    fine_view n k g u p lost' rest Lacks ok oks = tt
-
-    fine_at : (n k g u p : ℕ) (lost' : Bool) (stack : List Task) → EachOf Ok stack → EachOf Fine (told_after go (move_at (inner look j) look n k g u p lost' stack)).answers
-    fine_at n zero g u p lost' stack oks = tt
-    fine_at n (suc k) g u p true [] oks = tt
-    fine_at n (suc k) g u p false [] oks = tt
-    fine_at n (suc k) g u p true (t ∷ rest) oks = fine_view n k g u p true rest (look (length rest) t) (f.stays (length rest) t oks.0) oks.1
-    fine_at n (suc k) g u p false (t ∷ rest) oks = fine_view n k g u p false rest (look (length rest) t) (f.stays (length rest) t oks.0) oks.1
+  leaves_fine : (v : View Task Answer) → AreFine Ok Fine v → LeavesFine Ok Fine v
+  leaves_fine (Gives a) h = h
+  leaves_fine (Opens ts) h = h
+  leaves_fine (Parts ts) h = h
+  leaves_fine (Takes name ts) h = h
+  leaves_fine (Cuts m ts) h = h
+  leaves_fine (Denies w x ts) h = h
+  leaves_fine (Halts e) h = tt
+  leaves_fine Lacks h = tt
 
   pub fine : (n : ℕ) (s : State Task) → EachOf Ok s.stack → EachOf Fine (run look j n s).answers
-  fine zero s oks = tt
-  fine (suc n) s oks = fine_at (run look j n) (λ s' oks'. fine n s' oks') s.steps s.answers s.given s.rows s.row s.lost s.stack oks
+  fine n s oks = all_fine look j Ok Fine (λ height t ok. leaves_fine (look height t) (f.stays height t ok)) n s oks

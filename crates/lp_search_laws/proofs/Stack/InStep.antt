@@ -1,8 +1,9 @@
 -- Two searches in step: where each look of the one is the image of the other's and none denies a goal, so is each run.
-use Rattle.std.proofs.Common.{◌≡◌, ℕ, zero, suc, List, [], ◌∷◌, ◌++◌, map, length, refl, sym, ap, ◌∙◌}
-use Rattle.std.specs.Prelude.{◌-◌, ◌||◌, nat_lt, drop, Bool, true, false}
-use Rattle.std.proofs.lemmas.List.{map-append, length-map}
-use Rattle.lp_model.specs.Skeleton.{View, Gives, Opens, Parts, Takes, Cuts, Denies, Halts, Lacks, State, Move, Goes, Tells, Stops, Breaks, Waits, Inner, Note, AnswerNote, GoalNote, CutNote, Told, oldest, back, back_for_more, move_view, move_at, move, inner, told_after, run}
+use Rattle.std.proofs.Common.{◌≡◌, ℕ, map, refl, ◌∙◌}
+use Rattle.std.specs.Prelude.{Bool, false}
+use Rattle.lp_model.specs.Skeleton.{View, Gives, Opens, Parts, Takes, Cuts, Denies, Halts, Lacks, State, Inner, inner, run}
+pub use Rattle.lp_search_laws.proofs.Stack.Alongside.{state_map, told_map, oldest_map}
+use Rattle.lp_search_laws.proofs.Stack.Alongside.{images, Agree, alongside}
 
 -- no goal is denied
 abbrev pub HasNoDenial : {T A : Type 0} → View T A → Type 0
@@ -20,73 +21,30 @@ module _ {T A T0 A0 : Type 0} (f : T → T0) (g : A → A0) where
   view_map (Halts e) = Halts e
   view_map Lacks = Lacks
 
-  abbrev pub state_map : State T → State T0
-  state_map s = record { steps = s.steps; answers = s.answers; given = s.given; rows = s.rows; row = s.row; lost = s.lost; stack = map f s.stack }
+  none_final : (A → Bool) → A0 → Bool
+  none_final p a = false
 
-  abbrev pub told_map : Told A → Told A0
-  told_map t = record { answers = map g t.answers; notes = t.notes; steps = t.steps; ending = t.ending }
+  same_image : (w : View T A) → HasNoDenial w → view_map w ≡ images f g f none_final w
+  same_image (Gives a) h = refl
+  same_image (Opens ts) h = refl
+  same_image (Parts ts) h = refl
+  same_image (Takes name ts) h = refl
+  same_image (Cuts m ts) h = refl
+  same_image (Denies t is_final ts) h = absurd h
+  same_image (Halts e) h = refl
+  same_image Lacks h = refl
 
-  back_map : (left rest : List T) → back (map f left) (map f rest) ≡ back left rest
-  back_map [] [] = refl
-  back_map [] (t ∷ rest) = refl
-  back_map (t ∷ left) rest = refl
-
-  back_for_more_map : (k : ℕ) (rest : List T) → back_for_more k (map f rest) ≡ back_for_more k rest
-  back_for_more_map zero rest = refl
-  back_for_more_map (suc k) rest = back_map [] rest
-
-  drop_map : (n : ℕ) (xs : List T) → drop n (map f xs) ≡ map f (drop n xs)
-  drop_map zero xs = refl
-  drop_map (suc n) [] = refl
-  drop_map (suc n) (x ∷ xs) = drop_map n xs
-
-  pub oldest_map : (m : ℕ) (xs : List T) → oldest m (map f xs) ≡ map f (oldest m xs)
-  oldest_map m xs = ap (λ k. drop (k - m) (map f xs)) (length-map xs f) ∙ drop_map (length xs - m) xs
-
-  move_map : Move T A → Move T0 A0
-  move_map (Goes k ns s) = Goes k ns (state_map s)
-  move_map (Tells a ns s) = Tells (g a) ns (state_map s)
-  move_map (Stops e) = Stops e
-  move_map (Breaks k ns e) = Breaks k ns e
-  move_map (Waits k ns) = Waits k ns
-
-  goes_stack : (k : ℕ) (ns ns' : List Note) (n a v u p : ℕ) (l : Bool) (xs ys : List T0) → ns ≡ ns' → xs ≡ ys → ◌≡◌ {A = Move T0 A0} (Goes k ns (record { steps = n; answers = a; given = v; rows = u; row = p; lost = l; stack = xs })) (Goes k ns' (record { steps = n; answers = a; given = v; rows = u; row = p; lost = l; stack = ys }))
-  goes_stack k ns ns' n a v u p l xs ys e h = ap (λ z. Goes k z (record { steps = n; answers = a; given = v; rows = u; row = p; lost = l; stack = xs })) e ∙ ap (λ z. Goes k ns' (record { steps = n; answers = a; given = v; rows = u; row = p; lost = l; stack = z })) h
-
-  view_step : (go : (A → Bool) → State T → Inner) (go0 : (A0 → Bool) → State T0 → Inner) (n k v u p : ℕ) (lost : Bool) (rest : List T) (w : View T A) → HasNoDenial w → move_view go0 n k v u p lost (map f rest) (view_map w) ≡ move_map (move_view go n k v u p lost rest w)
-  unfolding move_map
-  view_step go go0 n k v u p lost rest (Gives a) h = ap (λ (ns : List Note). Tells (g a) (AnswerNote (suc v) ∷ ns) (record { steps = n; answers = k; given = suc v; rows = u; row = u; lost = lost; stack = map f rest })) (back_for_more_map k rest)
-  view_step go go0 n k v u p lost rest (Opens ts) h = goes_stack 0 _ _ n (suc k) v u p lost _ _ (back_map ts rest) (sym (map-append f ts rest))
-  view_step go go0 n k v u zero lost rest (Parts ts) h = refl
-  view_step go go0 n k v u (suc p) lost rest (Parts ts) h = goes_stack 0 _ _ n (suc k) v u p lost _ _ (back_map ts rest) (sym (map-append f ts rest))
-  view_step go go0 zero k v u p lost rest (Takes name ts) h = refl
-  view_step go go0 (suc n) k v u p lost rest (Takes name ts) h = goes_stack 1 _ _ n (suc k) v u u lost _ _ (ap (λ ns. GoalNote name ∷ ns) (back_map ts rest)) (sym (map-append f ts rest))
-  view_step go go0 zero k v u p lost rest (Cuts m ts) h = refl
-  view_step go go0 (suc n) k v u p lost rest (Cuts m ts) h =
-      let e = oldest_map m rest in
-      ap (λ j. Goes 1 (CutNote ∷ back (map f ts) (oldest m (map f rest))) (record { steps = n; answers = suc k; given = v; rows = u; row = u; lost = lost || nat_lt m j; stack = map f ts ++ oldest m (map f rest) })) (length-map rest f) ∙ goes_stack 1 _ _ n (suc k) v u u (lost || nat_lt m (length rest)) _ _ (ap (λ ns. CutNote ∷ ns) (ap (back (map f ts)) e ∙ back_map ts (oldest m rest))) (ap (λ xs. map f ts ++ xs) e ∙ sym (map-append f ts (oldest m rest)))
-  view_step go go0 n k v u p lost rest (Denies t x ts) h = absurd h
-  view_step go go0 n k v u p lost rest (Halts e) h = refl
-  view_step go go0 n k v u p lost rest Lacks h = refl
+  none_denied : (go : (A → Bool) → State T → Inner) (go0 : (A0 → Bool) → State T0 → Inner) (w : View T A) → HasNoDenial w → Agree f g f none_final go go0 w
+  none_denied go go0 (Gives a) h = tt
+  none_denied go go0 (Opens ts) h = tt
+  none_denied go go0 (Parts ts) h = tt
+  none_denied go go0 (Takes name ts) h = tt
+  none_denied go go0 (Cuts m ts) h = tt
+  none_denied go go0 (Denies t is_final ts) h = absurd h
+  none_denied go go0 (Halts e) h = tt
+  none_denied go go0 Lacks h = tt
 
   module _ (look : ℕ → T → View T A) (look0 : ℕ → T0 → View T0 A0) (same : (height : ℕ) (t : T) → look0 height (f t) ≡ view_map (look height t)) (plain : (height : ℕ) (t : T) → HasNoDenial (look height t)) where
-    at_step : (go : (A → Bool) → State T → Inner) (go0 : (A0 → Bool) → State T0 → Inner) (n k v u p : ℕ) (lost : Bool) (ts : List T) → move_at go0 look0 n k v u p lost (map f ts) ≡ move_map (move_at go look n k v u p lost ts)
-    unfolding move_map
-    at_step go go0 n zero v u p lost ts = refl
-    at_step go go0 n (suc k) v u p true [] = refl
-    at_step go go0 n (suc k) v u p false [] = refl
-    at_step go go0 n (suc k) v u p true (t ∷ ts) = ap (λ h. move_view go0 n k v u p true (map f ts) (look0 h (f t))) (length-map ts f) ∙ ap (move_view go0 n k v u p true (map f ts)) (same (length ts) t) ∙ view_step go go0 n k v u p true ts (look (length ts) t) (plain (length ts) t)
-    at_step go go0 n (suc k) v u p false (t ∷ ts) = ap (λ h. move_view go0 n k v u p false (map f ts) (look0 h (f t))) (length-map ts f) ∙ ap (move_view go0 n k v u p false (map f ts)) (same (length ts) t) ∙ view_step go go0 n k v u p false ts (look (length ts) t) (plain (length ts) t)
-
-    told_step : (go : State T → Told A) (go0 : State T0 → Told A0) → ((s : State T) → go0 (state_map s) ≡ told_map (go s)) → (m : Move T A) → told_after go0 (move_map m) ≡ told_map (told_after go m)
-    unfolding move_map
-    told_step go go0 ih (Goes k ns s) = ap (λ (t : Told A0). told_after (λ x. t) (Goes k ns (state_map s))) (ih s)
-    told_step go go0 ih (Tells a ns s) = ap (λ (t : Told A0). told_after (λ x. t) (Tells (g a) ns (state_map s))) (ih s)
-    told_step go go0 ih (Stops e) = refl
-    told_step go go0 ih (Breaks k ns e) = refl
-    told_step go go0 ih (Waits k ns) = refl
-
-    pub in_step : (j n : ℕ) (s : State T) → run look0 j n (state_map s) ≡ told_map (run look j n s)
-    in_step j zero s = refl
-    in_step j (suc n) s =
-        ap (told_after (run look0 j n)) (at_step (inner look j) (inner look0 j) s.steps s.answers s.given s.rows s.row s.lost s.stack) ∙ told_step (run look j n) (run look0 j n) (λ x. in_step j n x) (move (inner look j) look s)
+    pub in_step : (j n : ℕ) (s : State T) → run look0 j n (state_map f g s) ≡ told_map f g (run look j n s)
+    in_step j n s =
+        alongside f g f none_final look look0 (λ height t. same height t ∙ same_image (look height t) (plain height t)) (λ i height t. none_denied (inner look i) (inner look0 i) (look height t) (plain height t)) j n s

@@ -1,5 +1,0 @@
-use Rattle.lp_search_laws.proofs.Exhausted as lemmas
-use Rattle.lp_search_laws.proofs.whole.monomorphic_search_is_right.Goals as goal
-
-pub returns : goal.returns
-returns c = λ d std l F P s o x q gs t v e n j m steps answers. lemmas.monomorphic_right d std l F P s o x q gs t v e n j m steps answers
