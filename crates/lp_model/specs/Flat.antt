@@ -171,7 +171,7 @@ abbrev pub of_each : {A : Type 0} → (A → List ℕ) → List A → List ℕ
 of_each f [] = []
 of_each f (x ∷ xs) = f x ++ of_each f xs
 
--- the type variables in the type arguments of constants
+-- the type variables in the type arguments of constants and in the types of parameters
 abbrev pub type_variables_in : Term → List ℕ
 type_variables_in (index i) = []
 type_variables_in (atom (constant c ts)) = of_each type_variables ts
@@ -179,7 +179,7 @@ type_variables_in (atom (integer z)) = []
 type_variables_in (atom (text s)) = []
 type_variables_in (atom (eigen k)) = []
 type_variables_in (atom (logic x l)) = []
-type_variables_in (atom (param k t)) = []
+type_variables_in (atom (param k t)) = type_variables t
 type_variables_in (abs b) = type_variables_in b
 type_variables_in (app t u) = type_variables_in t ++ type_variables_in u
 
