@@ -3,7 +3,7 @@ use Rattle.std.specs.Prelude.{◌≡◌, ℕ, length, All}
 use Rattle.lp_model.specs.declared.answer.Answer as code
 use Rattle.lp_model.specs.declared.answer.Event as event
 use Rattle.lp_model.specs.declared.answer.Event.TheVariants as told
-use Rattle.lp_show.specs.Forms.{CanBeShown, CanPairBeShown}
+use Rattle.lp_model.specs.Whole.{CanBeShown, CanPairBeShown}
 
 -- a value for each of the query's variables, and all terms stand in the answer's own bank
 pub record IsWhole (variables : ℕ) (a : code.Answer) : Type 0 where

@@ -1,6 +1,6 @@
 // What answers are shown with.
 ghost use Rattle.std.specs.Prelude.{length, IfOk};
-ghost use Rattle.lp_show.specs.Forms.{CanBeShown, CanPairBeShown};
+ghost use Rattle.lp_model.specs.Whole.{CanBeShown, CanPairBeShown};
 ghost use Rattle.lp_show.specs.Glossary.{entries_of};
 ghost use Rattle.lp_answers.specs.Told.{IsWhole};
 ghost use Rattle.lp_answers.specs.Texts.{IsAnswer, names_in};

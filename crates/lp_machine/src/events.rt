@@ -3,7 +3,7 @@ ghost use Rattle.std.specs.Prelude.{◌≡◌, true, false, Ok, None, Some, IfOk
 ghost use Rattle.lp_code.specs.Length.{AllFit};
 ghost use Rattle.lp_model.specs.declared.ending.Ending.{Ending};
 ghost use Rattle.lp_model.specs.declared.answer.Event.TheVariants as told;
-ghost use Rattle.lp_machine.specs.Answers.{IsTold, Keeps};
+ghost use Rattle.lp_model.specs.Whole.{IsTold, Keeps};
 ghost use Rattle.lp_machine.specs.Held.{variables_of, ended, failed};
 
 use crate::answer::answer_of;

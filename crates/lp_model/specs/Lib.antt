@@ -32,3 +32,4 @@ pub mod Flattened
 pub mod Shown
 pub mod Connected
 pub mod inner
+pub mod Whole

@@ -14,6 +14,8 @@ pub mod connective;
 pub mod ending;
 /// Programs and typed formulas.
 pub mod program;
+/// Answers that can be shown.
+mod whole;
 
 pub use answer::{Answer, Event, Pair};
 pub use certificate::{Certificate, ProofNode};
@@ -21,3 +23,4 @@ pub use clause::{Clause, Goal};
 pub use connective::{Connective, connective_of};
 pub use ending::{Ending, Fault};
 pub use program::{ClauseFormula, Declared, Program, Typed};
+pub use whole::whole_answer;

@@ -2,7 +2,7 @@
 ghost use Rattle.std.specs.Prelude.{◌≡◌, true, false, length, Ok, None, Some, IfOk, OnOk, OnErr, IsErr};
 ghost use Rattle.lp_model.specs.declared.ending.Ending.{Ending};
 ghost use Rattle.lp_model.specs.declared.answer.Event.TheVariants as told;
-ghost use Rattle.lp_plain.specs.Answers.{IsTold, Keeps};
+ghost use Rattle.lp_model.specs.Whole.{IsTold, Keeps};
 ghost use Rattle.lp_plain.specs.Held.{variables_of, query_of, ended, failed};
 
 use crate::answer::answer_of;

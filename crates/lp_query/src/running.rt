@@ -1,7 +1,7 @@
 // The search of a query.
 ghost use Rattle.std.specs.Prelude.{◌≡◌, ◌<◌, length, All, IfOk};
 ghost use Rattle.lp_term.specs.Nodes.{Nodes};
-ghost use Rattle.lp_show.specs.Forms.{CanBeShown};
+ghost use Rattle.lp_model.specs.Whole.{CanBeShown};
 ghost use Rattle.lp_machine.specs.Held.{variables_of};
 
 use lp_answers::Searching;

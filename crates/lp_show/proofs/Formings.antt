@@ -13,7 +13,8 @@ use Rattle.lp_term.proofs.Ways.{in_order_stay, in_order_last}
 use Rattle.lp_model.specs.declared.answer.Pair as code
 use Rattle.lp_model.specs.Shown.{is_shown}
 use Rattle.lp_show.specs.declared.forms.Sides.{Sides}
-use Rattle.lp_show.specs.Forms.{AreForms, AreSides, CanBeShown, CanPairBeShown, IsDeep, IsFirstDeep, IsShownForm, pair_trees, sides_of, values_of}
+use Rattle.lp_model.specs.Whole.{CanBeShown, CanPairBeShown}
+use Rattle.lp_show.specs.Forms.{AreForms, AreSides, IsDeep, IsFirstDeep, IsShownForm, pair_trees, sides_of, values_of}
 use Rattle.lp_show.specs.Sides.{IsDeepPair, IsDeepValue, IsSidesIn, side_trees}
 
 -- the elements from one on

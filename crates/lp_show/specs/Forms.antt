@@ -1,11 +1,9 @@
 -- The forms in which the values and the residual pairs of an answer are shown, and when one is too large.
-use Rattle.std.specs.Prelude.{◌≡◌, ◌≤◌, ◌<◌, ◌^◌, ℕ, true, if◌then◌else◌, List, [], ◌∷◌, ◌++◌, length, map, All, ◌⊎◌}
+use Rattle.std.specs.Prelude.{◌≡◌, ◌≤◌, ℕ, true, if◌then◌else◌, List, [], ◌∷◌, ◌++◌, map, ◌⊎◌}
 use Rattle.lp_calculus.specs.Term.{Term}
 use Rattle.lp_calculus.specs.Normal.{IsFormOf, nodes}
 use Rattle.lp_term.specs.Nodes.{Nodes, tree}
 use Rattle.lp_term.specs.Opened.{IsFormWithin, IsDeepForm}
-use Rattle.lp_term.specs.Spine.{LooseBelow}
-use Rattle.lp_term.specs.declared.node.TermId.{TermId}
 use Rattle.lp_term.specs.declared.reduce.TermRefusal.{TermRefusal}
 use Rattle.lp_term.specs.declared.reduce.TermRefusal.TheVariants.{Deep, Memory}
 use Rattle.lp_model.specs.declared.answer.Pair as code
@@ -49,11 +47,3 @@ IsFirstDeep (t ∷ ts) (Deep k) = IsDeep t (Deep k) ⊎ (((s : Term) × IsShownF
 
 abbrev pub pair_trees : Nodes → List code.Pair → List (Term × Term)
 pair_trees b ps = map (λ p. (tree b p.left.0, tree b p.right.0)) ps
-
--- the term stands in the bank, and its loose indices fit 32 bits
-abbrev pub CanBeShown : Nodes → TermId → Type 0
-CanBeShown b t = (t.0 < length b.terms) × LooseBelow (2 ^ 32) 0 (tree b t.0)
-
--- both sides
-abbrev pub CanPairBeShown : Nodes → code.Pair → Type 0
-CanPairBeShown b p = CanBeShown b p.left × CanBeShown b p.right

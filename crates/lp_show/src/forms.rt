@@ -4,7 +4,8 @@ ghost use Rattle.lp_term.specs.Frame.{in_order};
 ghost use Rattle.lp_term.specs.Nodes.{Extends, tree};
 ghost use Rattle.lp_term.specs.declared.reduce.TermRefusal.{TermRefusal};
 ghost use Rattle.lp_model.specs.Shown.{is_shown};
-ghost use Rattle.lp_show.specs.Forms.{AreForms, AreSides, CanBeShown, CanPairBeShown, IsDeep, IsFirstDeep, IsShownForm, pair_trees, sides_of, values_of};
+ghost use Rattle.lp_model.specs.Whole.{CanBeShown, CanPairBeShown};
+ghost use Rattle.lp_show.specs.Forms.{AreForms, AreSides, IsDeep, IsFirstDeep, IsShownForm, pair_trees, sides_of, values_of};
 ghost use Rattle.lp_show.specs.Sides.{IsDeepPair, IsDeepValue, side_trees, IsSidesIn};
 
 use lp_model::Pair;

@@ -1,6 +1,6 @@
 // What answers are shown with: the names of the query's variables, and the constants of the program.
 ghost use Rattle.std.specs.Prelude.{◌≡◌, length, IfOk};
-ghost use Rattle.lp_plain.specs.Answers.{IsWhole};
+ghost use Rattle.lp_model.specs.Whole.{IsWhole};
 
 use lp_base::Memory;
 use lp_build::Built;

@@ -1,7 +1,7 @@
 use Rattle.std.proofs.Common.{length, ap, is_ok, ◌∙◌, arith}
 use Rattle.std.proofs.ResultArms.{chosen}
 use Rattle.lp_lemmas.proofs.Lists.{length_push_suc}
-use Rattle.lp_show.specs.Forms.{CanBeShown}
+use Rattle.lp_model.specs.Whole.{CanBeShown}
 use Rattle.lp_query.proofs.Values.{value_more}
 use Rattle.lp_query.proofs.running.values_at.Goals as goal
 

@@ -3,7 +3,8 @@ use Rattle.std.specs.Prelude.{All}
 use Rattle.std.proofs.lemmas.List.Elements.{All-push, All-nil}
 use Rattle.lp_term.specs.Nodes.{tree}
 use Rattle.lp_term.proofs.Trees.{extends_same, extends-trans}
-use Rattle.lp_show.specs.Forms.{AreSides, CanPairBeShown, IsFirstDeep, IsShownForm, pair_trees, sides_of}
+use Rattle.lp_model.specs.Whole.{CanPairBeShown}
+use Rattle.lp_show.specs.Forms.{AreSides, IsFirstDeep, IsShownForm, pair_trees, sides_of}
 use Rattle.lp_show.specs.Sides.{IsDeepPair, IsSidesIn, side_trees}
 use Rattle.lp_show.proofs.Formings.{can_pair_later, from_here, later_deep, none_left, one_side, pair_deep, pairs_further, sides_later}
 use Rattle.lp_show.proofs.forms.pair_forms.Goals as goal

@@ -5,7 +5,8 @@ use Rattle.lp_term.specs.Frame.{in_order}
 use Rattle.lp_term.specs.Nodes.{tree}
 use Rattle.lp_term.proofs.Trees.{extends_same, extends-trans}
 use Rattle.lp_model.specs.Shown.{is_shown}
-use Rattle.lp_show.specs.Forms.{AreForms, CanBeShown, IsFirstDeep, IsShownForm, values_of}
+use Rattle.lp_model.specs.Whole.{CanBeShown}
+use Rattle.lp_show.specs.Forms.{AreForms, IsFirstDeep, IsShownForm, values_of}
 use Rattle.lp_show.specs.Sides.{IsDeepValue}
 use Rattle.lp_show.proofs.Formings.{can_later, from_here, ids_later, none_left, one_form, value_deep, value_passed, values_further}
 use Rattle.lp_show.proofs.forms.value_forms.Goals as goal

@@ -5,7 +5,8 @@ use Rattle.lp_term.specs.Frame.{in_order}
 use Rattle.lp_term.specs.Nodes.{tree}
 use Rattle.lp_term.proofs.Trees.{extends-trans}
 use Rattle.lp_term.proofs.Ways.{in_order_stay}
-use Rattle.lp_show.specs.Forms.{AreForms, AreSides, CanPairBeShown, IsFirstDeep, pair_trees, sides_of}
+use Rattle.lp_model.specs.Whole.{CanPairBeShown}
+use Rattle.lp_show.specs.Forms.{AreForms, AreSides, IsFirstDeep, pair_trees, sides_of}
 use Rattle.lp_show.specs.Sides.{side_trees}
 use Rattle.lp_show.proofs.Formings.{as_many, can_pair_later, length_of_map, pairs_stay}
 use Rattle.lp_show.proofs.lines.answer.Goals as goal

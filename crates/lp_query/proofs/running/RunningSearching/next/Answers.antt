@@ -1,8 +1,8 @@
 use Rattle.std.proofs.Common.{length, ap, sym, subst, ◌∙◌}
 use Rattle.std.specs.Prelude.{All}
-use Rattle.lp_show.specs.Forms.{CanBeShown}
+use Rattle.lp_model.specs.Whole.{CanBeShown}
 use Rattle.lp_machine.specs.Held.{variables_of}
-use Rattle.lp_machine.specs.Answers.{IsTold}
+use Rattle.lp_model.specs.Whole.{IsTold}
 use Rattle.lp_query.proofs.running.RunningSearching.next.Goals as goal
 
 pub returns-in_ok-values-in-Answer-clause-told : goal.returns-in_ok-values-in-Answer-clause-told

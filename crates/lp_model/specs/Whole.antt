@@ -1,4 +1,4 @@
--- What a caller knows of an answer.
+-- What a caller knows of an answer: that it is whole, so that it can be shown.
 use Rattle.std.specs.Prelude.{◌≡◌, ◌<◌, ◌^◌, ℕ, length, Option, Some, None, All}
 use Rattle.lp_term.specs.Nodes.{Nodes, tree}
 use Rattle.lp_term.specs.Spine.{LooseBelow}

@@ -1,6 +1,0 @@
-use Rattle.std.specs.Prelude.{All}
-use Rattle.lp_plain.specs.Answers.{CanPairBeShown}
-use Rattle.lp_plain.proofs.answer.can_pairs_be_shown.Given as goal
-
-abbrev pub invariant-loop-pair : goal.invariant-loop-pair
-invariant-loop-pair l = All (CanPairBeShown l.bank) l.yielded
