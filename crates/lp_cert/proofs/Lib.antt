@@ -46,4 +46,5 @@ mod Visiting
 mod Waits
 mod Wanted
 mod Wider
+mod Within
 mod Witnesses

@@ -1,5 +1,5 @@
 // Files of certificates.
-ghost use Rattle.std.specs.Prelude.{◌≡◌, ◌≤◌, ◌<◌, [], List, map, length, OnOk, IfOk, IfErr, Ok};
+ghost use Rattle.std.specs.Prelude.{◌≡◌, ◌≤◌, ◌<◌, [], All, List, map, length, OnOk, IfOk, IfErr, Ok};
 ghost use Rattle.std.specs.List.{flat_map};
 ghost use Rattle.lp_term.specs.Nodes.{Nodes, Extends};
 ghost use Rattle.lp_bytes.specs.Reading.{Gives, Comes, Passes, left_of, each_at};
@@ -10,6 +10,7 @@ ghost use Rattle.lp_cert.specs.Certified.{certificate_of};
 ghost use Rattle.lp_cert.specs.Reading.{version_at, certificate_at, certificates_of};
 ghost use Rattle.lp_cert.specs.Refusing.{Tells, IsLimit};
 ghost use Rattle.lp_cert.specs.Spellable.{AreCertificates};
+ghost use Rattle.lp_cert.specs.Standing.{IsCertificateInside};
 ghost use Rattle.lp_cert.specs.Spelling.{spelled_certificate, spelled_certificates};
 
 use crate::arities::Arities;
@@ -43,6 +44,7 @@ fn read_certificate(
     bank: &mut Bank,
 ) -> Result<Certificate, ReadError>
     ensures kept { Extends bank.old bank.new }
+    ensures inside { IfOk result (IsCertificateInside bank.new) }
     ensures read { (b : Nodes) → Extends bank.new b → Gives (certificate_of b) result (left_of reader.new) (certificate_at (counts_of arities.now) (left_of reader.old)) }
 {
     let count = reader.four()?;
@@ -66,6 +68,7 @@ fn read_certificates(
     count: u32,
 ) -> Result<Vec<Certificate>, ReadError>
     ensures kept { Extends bank.old bank.new }
+    ensures inside { IfOk result (λ cs. All (IsCertificateInside bank.new) cs.items) }
     ensures read { (b : Nodes) → Extends bank.new b → Gives (λ cs. map (certificate_of b) cs.items) result (left_of reader.new) (each_at (λ before. certificate_at (counts_of arities.now)) [] count (left_of reader.old)) }
 {
     let mut certificates = Vec::new(alloc);
@@ -84,6 +87,7 @@ fn read_file(
     bank: &mut Bank,
 ) -> Result<Vec<Certificate>, ReadError>
     ensures kept { Extends bank.old bank.new }
+    ensures inside { IfOk result (λ cs. All (IsCertificateInside bank.new) cs.items) }
     ensures read { Comes (λ cs. map (certificate_of bank.new) cs.items) result (certificates_of (counts_of arities.now) bytes.now) }
 {
     let mut reader = Reader::begin(bytes)?;
@@ -103,6 +107,7 @@ fn read_over(
     bank: &mut Bank,
 ) -> Result<Vec<Certificate>, CertFault>
     ensures kept { Extends bank.old bank.new }
+    ensures inside { IfOk result (λ cs. All (IsCertificateInside bank.new) cs.items) }
     ensures exact { Tells (λ read. map (certificate_of bank.new) read.items) result (certificates_of (counts_in names.now) bytes.now) }
 {
     let arities = Arities::of(names);
@@ -121,6 +126,8 @@ pub fn read_cert(
     bank: &mut Bank,
 ) -> Result<Vec<Certificate>, CertFault>
     ensures kept { Extends bank.old bank.new }
+    // What is read stands in the bank.
+    ensures inside { IfOk result (λ cs. All (IsCertificateInside bank.new) cs.items) }
     // What is read is spelled so, and over the kinds and constants of the program.
     ensures found { IfOk result (λ cs. (length bytes.now ≤ 16777216) × AreCertificates (counts_in names.now) (map (certificate_of bank.new) cs.items) × (bytes.now ≡ spelled_certificates (map (certificate_of bank.new) cs.items))) }
     // What is spelled so is read, unless memory runs out.

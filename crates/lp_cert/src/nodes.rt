@@ -1,5 +1,5 @@
 // Proofs as bytes: each node before those below it.
-ghost use Rattle.std.specs.Prelude.{◌≡◌, ◌++◌, ◌∷◌, map, reverse, OnOk};
+ghost use Rattle.std.specs.Prelude.{◌≡◌, ◌++◌, ◌∷◌, map, reverse, All, IfOk, OnOk};
 ghost use Rattle.std.specs.List.{flat_map};
 ghost use Rattle.lp_term.specs.Nodes.{Nodes, Extends, tree};
 ghost use Rattle.lp_bytes.specs.Reading.{Gives, left_of};
@@ -7,6 +7,7 @@ ghost use Rattle.lp_bytes.specs.Writing.{text_of, more};
 ghost use Rattle.lp_cert.specs.Arities.{counts_of};
 ghost use Rattle.lp_cert.specs.Reading.{nodes_below, back_at, goal_node_at, side_at, focus_node_at, node_at, proof_at};
 ghost use Rattle.lp_cert.specs.Same.{types_in};
+ghost use Rattle.lp_cert.specs.Standing.{IsNodeInside};
 ghost use Rattle.lp_cert.specs.Spelling.{spelled_term, spelled_node};
 ghost use Rattle.lp_cert.specs.Written.{back_to, node_of};
 
@@ -69,6 +70,7 @@ fn read_back(
     bank: &mut Bank,
 ) -> Result<ProofNode, ReadError>
     ensures kept { Extends bank.old bank.new }
+    ensures inside { IfOk result (IsNodeInside bank.new) }
     ensures read { (b : Nodes) → Extends bank.new b → Gives (node_of b) result (left_of reader.new) (back_at (counts_of arities.now) (left_of reader.old)) }
 {
     let clause = reader.four()?;
@@ -88,6 +90,7 @@ fn read_goal_node(
     tag: u8,
 ) -> Result<ProofNode, ReadError>
     ensures kept { Extends bank.old bank.new }
+    ensures inside { IfOk result (IsNodeInside bank.new) }
     ensures read { (b : Nodes) → Extends bank.new b → Gives (node_of b) result (left_of reader.new) (goal_node_at (counts_of arities.now) at tag (left_of reader.old)) }
 {
     match tag {
@@ -135,6 +138,7 @@ fn read_focus_node(
     tag: u8,
 ) -> Result<ProofNode, ReadError>
     ensures kept { Extends bank.old bank.new }
+    ensures inside { IfOk result (IsNodeInside bank.new) }
     ensures read { (b : Nodes) → Extends bank.new b → Gives (node_of b) result (left_of reader.new) (focus_node_at (counts_of arities.now) at tag (left_of reader.old)) }
 {
     match tag {
@@ -165,6 +169,7 @@ fn read_node(
     sort: Sort,
 ) -> Result<ProofNode, ReadError>
     ensures kept { Extends bank.old bank.new }
+    ensures inside { IfOk result (IsNodeInside bank.new) }
     ensures read { (b : Nodes) → Extends bank.new b → Gives (node_of b) result (left_of reader.new) (node_at (counts_of arities.now) sort (left_of reader.old)) }
 {
     let at = reader.at();
@@ -184,6 +189,7 @@ pub(crate) fn read_proof(
     bank: &mut Bank,
 ) -> Result<Vec<ProofNode>, ReadError>
     ensures kept { Extends bank.old bank.new }
+    ensures inside { IfOk result (λ nodes. All (IsNodeInside bank.new) nodes.items) }
     ensures read { (b : Nodes) → Extends bank.new b → Gives (λ nodes. map (node_of b) nodes.items) result (left_of reader.new) (proof_at (counts_of arities.now) (left_of reader.old)) }
 {
     let mut nodes = Vec::new(alloc);

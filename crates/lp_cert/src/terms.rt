@@ -1,5 +1,5 @@
 // Terms as bytes: an abstraction before its body, an application before its head and its argument.
-ghost use Rattle.std.specs.Prelude.{◌≡◌, ◌≤◌, ◌<◌, ◌+◌, ◌++◌, List, map, length, reverse, replicate, IfOk, OnOk};
+ghost use Rattle.std.specs.Prelude.{◌≡◌, ◌≤◌, ◌<◌, ◌+◌, ◌++◌, All, List, map, length, reverse, replicate, IfOk, OnOk};
 ghost use Rattle.std.specs.List.{flat_map};
 ghost use Rattle.lp_calculus.specs.Term.{Term};
 ghost use Rattle.lp_term.specs.Nodes.{Nodes, Extends, tree, node_tree};
@@ -7,10 +7,11 @@ ghost use Rattle.lp_term.specs.Shapes.{term_shape};
 ghost use Rattle.lp_bytes.specs.Reading.{Gives, left_of};
 ghost use Rattle.lp_bytes.specs.Writing.{text_of, more};
 ghost use Rattle.lp_cert.specs.Arities.{counts_of};
+ghost use Rattle.lp_cert.specs.Inside.{AreTermsInside};
 ghost use Rattle.lp_cert.specs.Reading.{terms_below, an_abstraction, an_application, TermTop, constant_at, parameter_at, leaf_at, term_top_at, term_tops_at, with_term_top, terms_made, term_at, terms_at};
 ghost use Rattle.lp_cert.specs.Same.{terms_in};
 ghost use Rattle.lp_cert.specs.Spelling.{spelled_term};
-ghost use Rattle.lp_cert.specs.inner.Parts.{term_top_of, term_tops_of, terms_stacked};
+ghost use Rattle.lp_cert.specs.inner.Parts.{IsPartInside, term_top_of, term_tops_of, terms_stacked};
 ghost use Rattle.lp_cert.specs.inner.Waiting.{HasArguments, terms_waiting};
 
 use crate::arities::Arities;
@@ -47,6 +48,7 @@ impl Part {
 
 fn push_abstraction(bank: &mut Bank, stack: &mut Vec<TermId>) -> Result<(), Memory>
     ensures kept { Extends bank.old bank.new }
+    ensures inside { OnOk result (AreTermsInside (length bank.old.terms) stack.old.items → AreTermsInside (length bank.new.terms) stack.new.items) }
     ensures made { OnOk result ((ts : List Term) → ((b : Nodes) → Extends bank.old b → terms_stacked b stack.old.items ≡ ts) → (b : Nodes) → Extends bank.new b → terms_stacked b stack.new.items ≡ with_term_top an_abstraction ts) }
 {
     let Some(body) = stack.pop() else {
@@ -59,6 +61,7 @@ fn push_abstraction(bank: &mut Bank, stack: &mut Vec<TermId>) -> Result<(), Memo
 
 fn push_application(bank: &mut Bank, stack: &mut Vec<TermId>) -> Result<(), Memory>
     ensures kept { Extends bank.old bank.new }
+    ensures inside { OnOk result (AreTermsInside (length bank.old.terms) stack.old.items → AreTermsInside (length bank.new.terms) stack.new.items) }
     ensures made { OnOk result ((ts : List Term) → ((b : Nodes) → Extends bank.old b → terms_stacked b stack.old.items ≡ ts) → (b : Nodes) → Extends bank.new b → terms_stacked b stack.new.items ≡ with_term_top an_application ts) }
 {
     let Some(head) = stack.pop() else {
@@ -75,6 +78,7 @@ fn push_application(bank: &mut Bank, stack: &mut Vec<TermId>) -> Result<(), Memo
 // The term with this top and the last terms of the stack as parts, of which the first is the last one.
 fn put_part(bank: &mut Bank, stack: &mut Vec<TermId>, part: Part) -> Result<(), Memory>
     ensures kept { Extends bank.old bank.new }
+    ensures inside { OnOk result (IsPartInside bank.old part → AreTermsInside (length bank.old.terms) stack.old.items → AreTermsInside (length bank.new.terms) stack.new.items) }
     ensures made { OnOk result ((top : TermTop) → (ts : List Term) → ((b : Nodes) → Extends bank.old b → (term_top_of b part ≡ top) × (terms_stacked b stack.old.items ≡ ts)) → (b : Nodes) → Extends bank.new b → terms_stacked b stack.new.items ≡ with_term_top top ts) }
 {
     match part {
@@ -90,6 +94,7 @@ fn put_part(bank: &mut Bank, stack: &mut Vec<TermId>, part: Part) -> Result<(), 
 // The terms that the parts make, the first one last.
 fn put_parts(alloc: Global, bank: &mut Bank, parts: &[Part]) -> Result<Vec<TermId>, Memory>
     ensures kept { Extends bank.old bank.new }
+    ensures inside { IfOk result (λ stack. All (IsPartInside bank.old) parts.now → AreTermsInside (length bank.new.terms) stack.items) }
     ensures made { IfOk result (λ stack. (tops : List TermTop) → ((b : Nodes) → Extends bank.old b → term_tops_of b parts.now ≡ tops) → (b : Nodes) → Extends bank.new b → terms_stacked b stack.items ≡ terms_made tops) }
 {
     let mut stack = Vec::new(alloc);
@@ -109,6 +114,7 @@ fn read_constant(
     bank: &mut Bank,
 ) -> Result<TermId, ReadError>
     ensures kept { Extends bank.old bank.new }
+    ensures inside { IfOk result (λ made. made.0 < length bank.new.terms) }
     ensures read { (b : Nodes) → Extends bank.new b → Gives (λ made. tree b made.0) result (left_of reader.new) (constant_at (counts_of arities.now) (left_of reader.old)) }
 {
     let at = reader.at();
@@ -129,6 +135,7 @@ fn read_parameter(
     bank: &mut Bank,
 ) -> Result<TermId, ReadError>
     ensures kept { Extends bank.old bank.new }
+    ensures inside { IfOk result (λ made. made.0 < length bank.new.terms) }
     ensures read { (b : Nodes) → Extends bank.new b → Gives (λ made. tree b made.0) result (left_of reader.new) (parameter_at (counts_of arities.now) (left_of reader.old)) }
 {
     let number = reader.four()?;
@@ -148,6 +155,7 @@ fn read_leaf(
     tag: u8,
 ) -> Result<TermId, ReadError>
     ensures kept { Extends bank.old bank.new }
+    ensures inside { IfOk result (λ made. made.0 < length bank.new.terms) }
     ensures read { (b : Nodes) → Extends bank.new b → Gives (λ made. tree b made.0) result (left_of reader.new) (leaf_at (counts_of arities.now) at tag (left_of reader.old)) }
 {
     match tag {
@@ -185,6 +193,7 @@ fn read_part(
     bank: &mut Bank,
 ) -> Result<Part, ReadError>
     ensures kept { Extends bank.old bank.new }
+    ensures inside { IfOk result (λ part. IsPartInside bank.new part) }
     ensures read { (b : Nodes) → Extends bank.new b → Gives (term_top_of b) result (left_of reader.new) (term_top_at (counts_of arities.now) (left_of reader.old)) }
 {
     let at = reader.at();
@@ -208,6 +217,7 @@ fn read_parts(
     bank: &mut Bank,
 ) -> Result<Vec<Part>, ReadError>
     ensures kept { Extends bank.old bank.new }
+    ensures inside { IfOk result (λ parts. All (IsPartInside bank.new) parts.items) }
     ensures read { (b : Nodes) → Extends bank.new b → Gives (λ parts. term_tops_of b parts.items) result (left_of reader.new) (term_tops_at (counts_of arities.now) (left_of reader.old)) }
 {
     let mut parts = Vec::new(alloc);
@@ -233,6 +243,7 @@ pub(crate) fn read_term(
     bank: &mut Bank,
 ) -> Result<TermId, ReadError>
     ensures kept { Extends bank.old bank.new }
+    ensures inside { IfOk result (λ made. made.0 < length bank.new.terms) }
     ensures read { (b : Nodes) → Extends bank.new b → Gives (λ made. tree b made.0) result (left_of reader.new) (term_at (counts_of arities.now) (left_of reader.old)) }
 {
     let at = reader.at();
@@ -254,6 +265,7 @@ pub(crate) fn read_terms(
     count: u32,
 ) -> Result<Vec<TermId>, ReadError>
     ensures kept { Extends bank.old bank.new }
+    ensures inside { IfOk result (λ made. AreTermsInside (length bank.new.terms) made.items) }
     ensures read { (b : Nodes) → Extends bank.new b → Gives (λ made. terms_in b made.items) result (left_of reader.new) (terms_at (counts_of arities.now) count (left_of reader.old)) }
 {
     let mut terms = Vec::new(alloc);

@@ -8,6 +8,7 @@ ghost use Rattle.lp_bytes.specs.Numbers.{spelled_four};
 ghost use Rattle.lp_bytes.specs.Reading.{Gives, left_of};
 ghost use Rattle.lp_bytes.specs.Writing.{text_of, more};
 ghost use Rattle.lp_cert.specs.Arities.{counts_of};
+ghost use Rattle.lp_cert.specs.Facts.{AreInside};
 ghost use Rattle.lp_cert.specs.Reading.{types_below, an_arrow, type_top_at, type_tops_at, with_type_top, types_made, type_at, types_at};
 ghost use Rattle.lp_cert.specs.Same.{types_in};
 ghost use Rattle.lp_cert.specs.Spelling.{spelled_type};
@@ -56,6 +57,7 @@ fn pop_arguments(alloc: Global, stack: &mut Vec<TypeId>, count: u8) -> Result<Ve
 
 fn push_arrow(bank: &mut Bank, stack: &mut Vec<TypeId>) -> Result<(), Memory>
     ensures kept { Extends bank.old bank.new }
+    ensures inside { OnOk result (AreInside (length bank.old.types) stack.old.items → AreInside (length bank.new.types) stack.new.items) }
     ensures made { OnOk result ((ts : List Ty) → ((b : Nodes) → Extends bank.old b → types_stacked b stack.old.items ≡ ts) → (b : Nodes) → Extends bank.new b → types_stacked b stack.new.items ≡ with_type_top an_arrow ts) }
 {
     let Some(from) = stack.pop() else {
@@ -77,6 +79,7 @@ fn put_part(
     part: Part,
 ) -> Result<(), Memory>
     ensures kept { Extends bank.old bank.new }
+    ensures inside { OnOk result (AreInside (length bank.old.types) stack.old.items → AreInside (length bank.new.types) stack.new.items) }
     ensures made { OnOk result ((ts : List Ty) → ((b : Nodes) → Extends bank.old b → types_stacked b stack.old.items ≡ ts) → (b : Nodes) → Extends bank.new b → types_stacked b stack.new.items ≡ with_type_top (type_top_of part) ts) }
 {
     match part {
@@ -145,6 +148,7 @@ fn read_parts(
 // The types that the parts make, the first one last.
 fn put_parts(alloc: Global, bank: &mut Bank, parts: &[Part]) -> Result<Vec<TypeId>, Memory>
     ensures kept { Extends bank.old bank.new }
+    ensures inside { IfOk result (λ stack. AreInside (length bank.new.types) stack.items) }
     ensures made { IfOk result (λ stack. (b : Nodes) → Extends bank.new b → types_stacked b stack.items ≡ types_made (map type_top_of parts.now)) }
 {
     let mut stack = Vec::new(alloc);
@@ -165,6 +169,7 @@ pub(crate) fn read_type(
     bank: &mut Bank,
 ) -> Result<TypeId, ReadError>
     ensures kept { Extends bank.old bank.new }
+    ensures inside { IfOk result (λ made. made.0 < length bank.new.types) }
     ensures read { (b : Nodes) → Extends bank.new b → Gives (λ made. type_tree b made.0) result (left_of reader.new) (type_at (counts_of arities.now) (left_of reader.old)) }
 {
     let at = reader.at();
@@ -186,6 +191,7 @@ pub(crate) fn read_types(
     count: u32,
 ) -> Result<Vec<TypeId>, ReadError>
     ensures kept { Extends bank.old bank.new }
+    ensures inside { IfOk result (λ made. AreInside (length bank.new.types) made.items) }
     ensures read { (b : Nodes) → Extends bank.new b → Gives (λ made. types_in b made.items) result (left_of reader.new) (types_at (counts_of arities.now) count (left_of reader.old)) }
 {
     let mut types = Vec::new(alloc);

@@ -1,5 +1,5 @@
 -- What the parts of types and terms are that a reader has, and those that wait on a stack, of which the last one comes first.
-use Rattle.std.specs.Prelude.{ℕ, List, map, reverse}
+use Rattle.std.specs.Prelude.{ℕ, ◌<◌, List, length, map, reverse}
 use Rattle.lp_calculus.specs.Types.{Ty}
 use Rattle.lp_calculus.specs.Term.{Term}
 use Rattle.lp_term.specs.declared.node.TypeId.{TypeId}
@@ -21,6 +21,12 @@ abbrev pub term_top_of : Nodes → term_part.Part → TermTop
 term_top_of b (term_parts.Leaf t) = leaf (tree b t.0)
 term_top_of b term_parts.Abs = an_abstraction
 term_top_of b term_parts.App = an_application
+
+-- the term that the part is stands in the bank
+abbrev pub IsPartInside : Nodes → term_part.Part → Type 0
+IsPartInside b (term_parts.Leaf t) = t.0 < length b.terms
+IsPartInside b term_parts.Abs = Unit {0}
+IsPartInside b term_parts.App = Unit {0}
 
 abbrev pub term_tops_of : Nodes → List term_part.Part → List TermTop
 term_tops_of b ps = map (term_top_of b) ps

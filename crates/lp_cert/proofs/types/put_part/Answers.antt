@@ -4,6 +4,7 @@ use Rattle.lp_cert.specs.Reading.{with_type_top}
 use Rattle.lp_cert.specs.Same.{types_in}
 use Rattle.lp_cert.specs.inner.Parts.{type_top_of}
 use Rattle.lp_cert.proofs.Stacked.{kind_on}
+use Rattle.lp_cert.proofs.Within.{kind_inside}
 use Rattle.lp_cert.proofs.types.put_part.Goals as goal
 
 pub returns-in_ok-push-in-Con-clause-made : goal.returns-in_ok-push-in-Con-clause-made
@@ -12,3 +13,7 @@ returns-in_ok-push-in-Con-clause-made c = λ ts stand b y.
     c.in_ok-arguments-in-Con.ensures.taken c.in_ok-arguments-in-Con.ensures.left c.in_ok-push-in-Con.ensures.items c.in_ok-made-in-Con.ensures.within
     (c.in_ok-made-in-Con.ensures.tree ∙ ap (λ ids. con c.in-Con.kind (tys (types_in c.args.bank.now ids))) c.as_slice.ensures.value) stand b y
     ∙ sym (ap (λ p. with_type_top (type_top_of p) ts) c.in-Con.is)
+
+pub returns-in_ok-push-in-Con-clause-inside : goal.returns-in_ok-push-in-Con-clause-inside
+returns-in_ok-push-in-Con-clause-inside c =
+    kind_inside _ _ c.in_ok-made-in-Con.ensures.kept c.args.stack.now.items c.pop_arguments.new.stack.items _ c.in_ok-made-in-Con.made c.in-Con.count c.in_ok-arguments-in-Con.ensures.left c.in_ok-push-in-Con.ensures.items c.in_ok-made-in-Con.ensures.within
