@@ -64,7 +64,7 @@ at_least uses left (f ∷ fs) all (below, b, r) =
     let k = length-append below (f.0 ∷ []) in
     omega (arith, h, n, k)
 
-next_entry : (uses : List (List ℕ)) (at next to : ℕ) → next < length (get_or uses at []) → to ≡ get_or (get_or uses at []) next to → drop next (get_or uses at []) ≡ to ∷ drop (next + 1) (get_or uses at [])
+pub next_entry : (uses : List (List ℕ)) (at next to : ℕ) → next < length (get_or uses at []) → to ≡ get_or (get_or uses at []) next to → drop next (get_or uses at []) ≡ to ∷ drop (next + 1) (get_or uses at [])
 next_entry uses at next to h is = drop_more (get_or uses at []) next to h ∙ ap (λ x. x ∷ drop (next + 1) (get_or uses at [])) (sym is)
 
 -- the root is entered
@@ -188,6 +188,14 @@ turn_ended uses root left left_then entered around at next past is none c = (
 
     ended : Copies uses (root ∷ []) left_then × (length left_then ≤ 4096)
     ended = copies_end uses root left left_then entered at next past is alone
+
+-- the open copies behind a turn
+pub opened_frames : (at next to at_then next_then : ℕ) (around around_then : List Frame) → at_then ≡ to → next_then ≡ 0 → around_then ≡ around ++ (at, next + 1) ∷ [] → (at_then, next_then) ∷ reverse around_then ≡ (to, 0) ∷ (at, next + 1) ∷ reverse around
+opened_frames at next to at_then next_then around around_then ea en eo =
+    ap (λ a. (a, next_then) ∷ reverse around_then) ea ∙ ap (λ n. (to, n) ∷ reverse around_then) en ∙ ap (λ r. (to, 0) ∷ r) (ap reverse eo ∙ reverse-append around ((at, next + 1) ∷ []))
+
+pub closed_frames : (at next : ℕ) (f : Frame) (around around_then : List Frame) → around ≡ around_then ++ f ∷ [] → (at, next) ∷ reverse around ≡ (at, next) ∷ (f.0, f.1) ∷ reverse around_then
+closed_frames at next f around around_then popped = ap (λ r. (at, next) ∷ r) (ap reverse popped ∙ reverse-append around_then (f ∷ []))
 
 pub rows_within : (outs : List (Vec ℕ Global)) → All (λ out. All (λ m. m < length outs) out) (lists_in outs) → All (λ out. All (λ m. m < length (lists_in outs)) out) (lists_in outs)
 rows_within outs all = subst (λ n. All (λ out. All (λ m. m < n) out) (lists_in outs)) (sym (rows_are outs)) all

@@ -21,6 +21,21 @@ pub record Copying (uses : List (List ℕ)) (root : ℕ) (left : List ℕ) (ente
   pub only : (all : List ℕ) → RestOfCopies uses left frames all → Copies uses (root ∷ []) all
   pub each : (all : List ℕ) → Copies uses (root ∷ []) all → RestOfCopies uses left frames all
 
+-- a copy of the next entry of the innermost open copy is opened
+pub record IsOpened (uses : List (List ℕ)) (old : List (ℕ × ℕ)) (m : ℕ) (new : List (ℕ × ℕ)) : Type 0 where
+  pub at : ℕ
+  pub next : ℕ
+  pub around : List (ℕ × ℕ)
+  pub before : old ≡ (at, next) ∷ around
+  pub entry : drop next (get_or uses at []) ≡ m ∷ drop (next + 1) (get_or uses at [])
+  pub after : new ≡ (m, 0) ∷ (at, next + 1) ∷ around
+
+-- the innermost open copy, whose list has no more entries, is left
+pub record IsClosed (uses : List (List ℕ)) (old : List (ℕ × ℕ)) (m : ℕ) (new : List (ℕ × ℕ)) : Type 0 where
+  pub next : ℕ
+  pub before : old ≡ (m, next) ∷ new
+  pub entry : drop next (get_or uses m []) ≡ []
+
 -- why there are not so many copies
 abbrev pub IsTooMany : List (List ℕ) → ℕ → TreeRefusal → Type 0
 IsTooMany uses root fault.TooMany = (all : List ℕ) → Copies uses (root ∷ []) all → 4096 < length all

@@ -1,7 +1,7 @@
 // The copies of the modules that the root accumulates, one behind the other.
 ghost use Rattle.std.specs.Prelude.{◌≡◌, ◌+◌, ◌<◌, ◌++◌, [], ◌∷◌, length, All, IfOk, IfErr, OnOk};
 ghost use Rattle.lp_copies.specs.Copies.{IsTooMany};
-ghost use Rattle.lp_copies.specs.Trees.{lists_in, frames_of, IsCopying, Turns};
+ghost use Rattle.lp_copies.specs.Trees.{lists_in, frames_of, IsCopying, Moves, Turns};
 
 use crate::fault::TreeRefusal;
 use lp_base::{MAX_COPIES, Memory};
@@ -63,6 +63,7 @@ impl Copying {
         requires within { All (λ out. All (λ m. m < length uses.now.items) out) (lists_in uses.now.items) }
         requires copying { IsCopying (lists_in uses.now.items) self.old }
         ensures turns { IfOk result (Turns (lists_in uses.now.items) self.old self.new) }
+        ensures moves { IfOk result (Moves (lists_in uses.now.items) (frames_of self.old) (frames_of self.new)) }
         ensures refused { IfErr result (IsTooMany (lists_in uses.now.items) self.old.root) }
     {
         let out = &uses[self.at];
