@@ -18,7 +18,7 @@ use Rattle.lp_model.specs.Skeleton.{Told, Note, Held, starts_within, inner, run}
 use Rattle.lp_model.specs.Flat.{Goal, Goals, Written, Clause, goal_list, formula_of_goal, formula_of_goals, formula_of_clause}
 use Rattle.lp_model.specs.Flatten.{ClauseFormula}
 use Rattle.lp_model.specs.Pair.{Closing, closed, SolvesAll}
-use Rattle.lp_model.specs.Branch.{Answer, Branch, Task, Go, Entry, entries, both_written}
+use Rattle.lp_model.specs.Branch.{Answer, Task, Go, Entry, entries, both_written}
 use Rattle.lp_model.specs.Search.{look, has_no_pairs, has_variables, types_from}
 use Rattle.lp_model.specs.Answers.{Query, Variable, Closes, Instance, IsInstance, IsWellFormed, TypedAnswer, ConvertEach}
 use Rattle.lp_model.specs.Proofs.{Declared, Failure, IsFormula, IsWitness, Leaves, ProvableBy, assumed, newest_first}
@@ -29,8 +29,7 @@ use Rattle.lp_proof_laws.proofs.Uniform.Uniforms.{by_conversion}
 use Rattle.lp_search_laws.specs.Holds.{Holds, IsTyped}
 use Rattle.lp_search_laws.specs.Denials.{denied_branch, denied_task}
 use Rattle.lp_search_laws.specs.Clauses.{sentence_of, clauses_at}
-use Rattle.lp_search_laws.specs.Clean.{IsClean, IsClauseWith, IsCleanEntry, IsCleanSearch}
-use Rattle.lp_search_laws.specs.Failed.{failed_run, failing_branch, failing_typing}
+use Rattle.lp_search_laws.specs.Failed.{IsFailedSearch, failed_run, failing_branch, failing_typing}
 use Rattle.lp_search_laws.specs.Written.{IsOrigin, IsWrittenPlace, HasOrigin}
 use Rattle.lp_search_laws.specs.Branches.{no_query, denied_typing, ArePlainEntries, AreTypedEntries, IsPlainVariable, AreProved, IsTypedBranch, IsProgramTyped, IsQueryInstance, SolvesBranch, TypedTask, going, task_of, Sol, IsOk, DeniesTyped}
 use Rattle.lp_search_laws.proofs.Entries.{formulas, assumed_formulas, converted_all}
@@ -41,18 +40,15 @@ use Rattle.lp_search_laws.proofs.Formed.{formula_at}
 use Rattle.lp_search_laws.proofs.Fronts.{each_at}
 use Rattle.lp_search_laws.proofs.HeldRuns.{typed_query, carrying, carrying_typed, held_run, held_types}
 use Rattle.lp_search_laws.proofs.Judged.{no_values, query, no_answers, closing_with, closing_closes, none, no_pairs, no_typed_values}
-use Rattle.lp_search_laws.proofs.KeptLooks.{kept_look, view_stays}
-use Rattle.lp_search_laws.proofs.KeptTasks.{IsKeptProgram, IsKeptTask}
+use Rattle.lp_search_laws.proofs.KeptStarts.{program_comes}
 use Rattle.lp_search_laws.proofs.LooksRight.{each_look}
-use Rattle.lp_search_laws.proofs.CleanTasks.{program_pure, program_comes, entries_pure, entries_clean, entries_level}
-use Rattle.lp_search_laws.proofs.Pure.{IsPureTerm, pure_family}
 use Rattle.lp_search_laws.proofs.Queries.{types_given, types_count}
-use Rattle.lp_search_laws.proofs.RunsKeep.{Any, GoodPair}
 use Rattle.lp_search_laws.proofs.PlainTypes.{agree_list, agree_type, agree_term, IsBelow}
 use Rattle.lp_search_laws.proofs.RefutedLeaves.{denied_leaf}
 use Rattle.lp_search_laws.proofs.Resumed.{IsSame, same_proved, entries_agree, plain_closes}
-use Rattle.lp_search_laws.proofs.Runs.{Proves, Excludes, RightRun, run_right}
+use Rattle.lp_search_laws.proofs.Runs.{AnyTask, Proves, Excludes, RightRun, all_stay, run_right}
 use Rattle.lp_search_laws.proofs.SameProofs.{same_provable}
+use Rattle.lp_search_laws.proofs.Stack.Ends.{leaves_any}
 use Rattle.lp_search_laws.proofs.Tested.{tested_stays}
 use Rattle.lp_search_laws.proofs.TypedParts.{goals_together}
 use Rattle.lp_search_laws.proofs.WrittenAlone.{each_parts, goals_alike, clause_alike}
@@ -112,7 +108,6 @@ pub record IsHeldAt (d : Declared) (P : List Clause) (n j : ℕ) (V : List Varia
   pub place : IsWrittenPlace A written
   pub tested : has_variables n (both_written own written) ≡ Some false
   pub begins : IsTypedBranch n d no_query (denied_typing V E gs) (denied_branch (length V) m gs A written (length E))
-  pub clean : EachOf IsCleanEntry (entries (goal_list gs) A written (length E) 0)
   pub typed : IsTyped d E V (formula_of_goals gs) o_type
   pub assumed_typed : EachOf (λ k. IsTyped d E V (formula_of_clause k) o_type) A
   pub steps : ℕ
@@ -156,53 +151,32 @@ module _ (d : Declared) (P : List Clause) (n j : ℕ) (V : List Variable) (m : �
       let p3 : ProvableBy L d F (clauses_at P A z) G = transport (λ X. ProvableBy L d F (S ++ X) G) (sym (assumed_formulas z A)) p2 in
       by_conversion d F (clauses_at P A z) (closed z (formula_of_goals gs)) G (transport (λ X. IsFormula d X G) e (formula_at d V c cl E (formula_of_goals gs) h.typed)) goals_same p3
 
--- the types of a query do not matter there
-abbrev pub AnyTypes : List Ty → Type 0
-AnyTypes ts = Unit {0}
-
--- a task in which each parameter has a closed type
-abbrev pub IsCleanTask : Task → Type 0
-IsCleanTask T = IsKeptTask IsPureTerm pure_family Any AnyTypes T
-
-pub clean_branch : (b : Branch) → EachOf IsCleanEntry b.goals → b.pairs ≡ [] → IsCleanTask (Go b)
-clean_branch b h e = record { entries = entries_pure b.goals h; pairs = transport (EachOf (GoodPair IsPureTerm pure_family Any)) (sym e) tt; fresh = λ i l. tt; types = tt }
-
-module _ (d : Declared) (std : IsStandard d) (P : List Clause) (program : EachOf (IsProgramTyped d) P) (clean : EachOf (IsClauseWith IsClean) P) where
-  pure : EachOf (IsKeptProgram IsPureTerm pure_family) P
-  pure = program_pure d P program clean
-
-  -- clean failing searches of fewer than k steps
+module _ (d : Declared) (std : IsStandard d) (P : List Clause) (program : EachOf (IsProgramTyped d) P) where
+  -- failing searches of fewer than k steps
   abbrev pub Below : ℕ → Leaves
-  Below k E R G f = IsCleanSearch d P E R G f × ((failed_run (length E) f).steps < k)
-
-  pub clean_same : KeepsSame (IsCleanSearch d P) d
-  clean_same = more_same d (failed_same d P) (λ E f. EachOf IsCleanEntry (failing_branch (length E) f).goals)
+  Below k E R G f = IsFailedSearch d P E R G f × ((failed_run (length E) f).steps < k)
 
   below_same : (k : ℕ) → KeepsSame (Below k) d
-  below_same k = more_same d clean_same (λ E f. (failed_run (length E) f).steps < k)
+  below_same k = more_same d (failed_same d P) (λ E f. (failed_run (length E) f).steps < k)
 
   -- a run of one typed task
-  module _ (L : Leaves) (same : KeepsSame L d) (n j : ℕ) (q : Query) (Few Fewer : ℕ → Type 0) (few : (x y : ℕ) → x ≤ y → Few y → Few x) (fewer : (x y : ℕ) → x ≤ y → Fewer y → Fewer x) (proves : Proves n d P q L j IsCleanTask IsCleanTask Few Fewer) (excludes : Excludes n d P q L j IsCleanTask IsCleanTask Few Fewer) where
-    pub typed_run : (m rows steps answers : ℕ) (T : TypedTask) → IsOk n d P q T → IsCleanTask (task_of T) → RightRun n d P q L j IsCleanTask IsCleanTask Few Fewer false (T ∷ []) (run (look unit_limit n P) j m (starts_within rows (task_of T) steps answers))
-    typed_run m rows steps answers T k o =
-        run_right n d P q L j IsCleanTask IsCleanTask Few Fewer (λ height U w. each_look n d (setting_of d same std) P program q height U w)
-        (λ height U w v. view_stays IsPureTerm pure_family Any AnyTypes (λ bs s ts h. tt) (look unit_limit n P height (task_of U)) (kept_look IsPureTerm pure_family Any AnyTypes (λ bs s ts h. tt) unit_limit n P pure height (task_of U) v)) few fewer proves excludes m
-        (starts_within rows (task_of T) steps answers) (T ∷ []) refl ((k, o), tt)
+  module _ (L : Leaves) (same : KeepsSame L d) (n j : ℕ) (q : Query) (Few Fewer : ℕ → Type 0) (few : (x y : ℕ) → x ≤ y → Few y → Few x) (fewer : (x y : ℕ) → x ≤ y → Fewer y → Fewer x) (proves : Proves n d P q L j AnyTask AnyTask Few Fewer) (excludes : Excludes n d P q L j AnyTask AnyTask Few Fewer) where
+    pub typed_run : (m rows steps answers : ℕ) (T : TypedTask) → IsOk n d P q T → RightRun n d P q L j AnyTask AnyTask Few Fewer false (T ∷ []) (run (look unit_limit n P) j m (starts_within rows (task_of T) steps answers))
+    typed_run m rows steps answers T k =
+        run_right n d P q L j AnyTask AnyTask Few Fewer (λ height U w. each_look n d (setting_of d same std) P program q height U w)
+        (λ height U w v. all_stay AnyTask (look unit_limit n P height (task_of U)) (leaves_any (look unit_limit n P height (task_of U)))) few fewer proves excludes m
+        (starts_within rows (task_of T) steps answers) (T ∷ []) refl ((k, tt), tt)
 
   shorter : (b x y : ℕ) → x ≤ y → y ≤ b → x ≤ b
   shorter b x y l h = omega (arith, l, h)
 
   -- the search of a negated goal that holds in c steps, and a failing search of t steps for its goals
   abbrev pub Clash : (c t : ℕ) → Type 0
-  Clash c t = (n j : ℕ) (V : List Variable) (m : ℕ) (E : List Ty) (gs : Goals) (A : List Clause) → IsHeldAt d P n j V m E gs A c → (z : Closing) → Closes d V z → (f : Failure) → IsCleanSearch d P (map (instance z.types) E) (clauses_at P A z) (closed z (formula_of_goals gs)) f → (failed_run (length (map (instance z.types) E)) f).steps ≡ t → ⊥
-
-  -- of a denied task
-  denied_clean : {L : Leaves} (n : ℕ) (q : Query) (T : TypedTask) (u : Task) (g : Answer → Bool) (ts : List Task) (r : DeniesTyped L n d P q T u g ts) → IsCleanTask u → EachOf IsCleanEntry (entries (goal_list r.goals) r.assumed r.written (length r.eigens) 0)
-  denied_clean n q T u g ts r m = entries_clean (entries (goal_list r.goals) r.assumed r.written (length r.eigens) 0) (transport IsCleanTask r.is m).entries
+  Clash c t = (n j : ℕ) (V : List Variable) (m : ℕ) (E : List Ty) (gs : Goals) (A : List Clause) → IsHeldAt d P n j V m E gs A c → (z : Closing) → Closes d V z → (f : Failure) → IsFailedSearch d P (map (instance z.types) E) (clauses_at P A z) (closed z (formula_of_goals gs)) f → (failed_run (length (map (instance z.types) E)) f).steps ≡ t → ⊥
 
   -- where its search is held
-  pub held_at : {L : Leaves} (n j : ℕ) (q : Query) (T : TypedTask) (u : Task) (g : Answer → Bool) (ts : List Task) (r : DeniesTyped L n d P q T u g ts) → IsCleanTask u → (steps rows k p : ℕ) (ns : List Note) → inner (look unit_limit n P) j g (starts_within rows u steps 1) ≡ Held k ns p → IsHeldAt d P n j r.variables r.next_type r.eigens r.goals r.assumed k
-  held_at n j q T u g ts r m steps rows k p ns e =
+  pub held_at : {L : Leaves} (n j : ℕ) (q : Query) (T : TypedTask) (u : Task) (g : Answer → Bool) (ts : List Task) (r : DeniesTyped L n d P q T u g ts) → (steps rows k p : ℕ) (ns : List Note) → inner (look unit_limit n P) j g (starts_within rows u steps 1) ≡ Held k ns p → IsHeldAt d P n j r.variables r.next_type r.eigens r.goals r.assumed k
+  held_at n j q T u g ts r steps rows k p ns e =
       record {
         own = r.own;
         written = r.written;
@@ -210,7 +184,6 @@ module _ (d : Declared) (std : IsStandard d) (P : List Clause) (program : EachOf
         place = r.place;
         tested = r.tested;
         begins = r.begins;
-        clean = denied_clean n q T u g ts r m;
         typed = r.typed;
         assumed_typed = r.assumed_typed;
         steps = steps;
@@ -221,33 +194,28 @@ module _ (d : Declared) (std : IsStandard d) (P : List Clause) (program : EachOf
       }
 
   -- what a refuted search proves
-  leaf_clean : {L : Leaves} (n : ℕ) (q : Query) (T : TypedTask) (u : Task) (g : Answer → Bool) (ts : List Task) (r : DeniesTyped L n d P q T u g ts) → IsCleanTask u → (l : ℕ) (es : List Entry) → es ≡ entries (goal_list r.goals) r.assumed r.written l 0 → EachOf IsCleanEntry es
-  leaf_clean n q T u g ts r m l es e = transport (EachOf IsCleanEntry) (sym e) (entries_level (goal_list r.goals) r.assumed r.written (length r.eigens) 0 l (denied_clean n q T u g ts r m))
-
-  pub proves_clean : (n j : ℕ) (q : Query) → (Fewer : ℕ → Type 0) → Proves n d P q (IsCleanSearch d P) j IsCleanTask IsCleanTask (λ x. Unit {0}) Fewer
-  proves_clean n j q Fewer T u g ts r m steps rows k p ns e l c cl =
+  pub proves_failing : (n j : ℕ) (q : Query) → (Fewer : ℕ → Type 0) → Proves n d P q (IsFailedSearch d P) j AnyTask AnyTask (λ x. Unit {0}) Fewer
+  proves_failing n j q Fewer T u g ts r m steps rows k p ns e l c cl =
       let y = denied_leaf n d P q j T u g ts r steps rows k p ns e c cl in
-      let i = length (map (instance c.types) r.eigens) in
-      (y.leaf, (y.fails, leaf_clean n q T u g ts r m i (failing_branch i y.leaf).goals (y.begins i)))
+      (y.leaf, y.fails)
 
-  proves_below : (b n j : ℕ) (q : Query) → (Fewer : ℕ → Type 0) → Proves n d P q (Below b) j IsCleanTask IsCleanTask (λ x. x ≤ b) Fewer
+  proves_below : (b n j : ℕ) (q : Query) → (Fewer : ℕ → Type 0) → Proves n d P q (Below b) j AnyTask AnyTask (λ x. x ≤ b) Fewer
   proves_below b n j q Fewer T u g ts r m steps rows k p ns e l c cl =
       let y = denied_leaf n d P q j T u g ts r steps rows k p ns e c cl in
-      let i = length (map (instance c.types) r.eigens) in
       let s : (failed_run (length (map (instance c.types) r.eigens)) y.leaf).steps ≡ k = ap (λ h. (failed_run h y.leaf).steps) (length-map r.eigens (instance c.types)) ∙ y.steps in
-      (y.leaf, ((y.fails, leaf_clean n q T u g ts r m i (failing_branch i y.leaf).goals (y.begins i)), omega (arith, s, l)))
+      (y.leaf, (y.fails, omega (arith, s, l)))
 
   -- a search that holds makes its goals provable under each closing, with leaves of fewer steps
-  module _ (L : Leaves) (same : KeepsSame L d) (n j : ℕ) (Few : ℕ → Type 0) (few : (x y : ℕ) → x ≤ y → Few y → Few x) (V : List Variable) (m : ℕ) (E : List Ty) (gs : Goals) (A : List Clause) (c : ℕ) (h : IsHeldAt d P n j V m E gs A c) (proves : Proves n d P (typed_query m) L j IsCleanTask IsCleanTask Few (λ x. ⊥)) (enough : Few c) where
+  module _ (L : Leaves) (same : KeepsSame L d) (n j : ℕ) (Few : ℕ → Type 0) (few : (x y : ℕ) → x ≤ y → Few y → Few x) (V : List Variable) (m : ℕ) (E : List Ty) (gs : Goals) (A : List Clause) (c : ℕ) (h : IsHeldAt d P n j V m E gs A c) (proves : Proves n d P (typed_query m) L j AnyTask AnyTask Few (λ x. ⊥)) (enough : Few c) where
     abbrev first : TypedTask
     first = going (denied_typing V E gs) (carrying (length V) m gs A h.written (length E))
 
     -- with any types for the type variables of the branch
     held_solves : (z : Closing) → Closes d V z → SolvesBranch L d P (typed_query m) (types_alone m z.types) (denied_typing V E gs) (carrying (length V) m gs A h.written (length E))
     held_solves z zl =
-        let r = typed_run L same n j (typed_query m) Few (λ x. ⊥) few (λ x y l f. f) proves (λ T u g ts r o st rows k p ns e x. absurd x) j h.rows h.steps 1 first (carrying_typed n d V m E gs A h.written h.begins) (clean_branch (carrying (length V) m gs A h.written (length E)) h.clean refl) in
+        let r = typed_run L same n j (typed_query m) Few (λ x. ⊥) few (λ x y l f. f) proves (λ T u g ts r o st rows k p ns e x. absurd x) j h.rows h.steps 1 first (carrying_typed n d V m E gs A h.written h.begins) in
         let a = held_run n j P (length V) m gs A h.written (length E) h.steps h.rows c h.row h.notes h.holds in
-        let t = held_types n j P (program_comes P pure) (length V) m gs A h.own h.written (length E) h.steps h.rows h.origin h.place h.tested h.clean in
+        let t = held_types n j P (program_comes d P program) (length V) m E gs A h.own h.written (length E) h.steps h.rows h.origin h.place h.tested h.begins.goals in
         let t1 = (transport (EachOf (λ b. b.types ≡ types_from m 0)) a.answers t).0 in
         elim (first_alone d m z.types zl.types (λ i. AnyOf (Sol L d P (typed_query m) i) (first ∷ [])) a.first a.more r.typed (r.is ∙ a.answers) a.final t1 r.well_formed (r.sound (transport Few (sym a.taken) enough))) [ inl x ↦ x | inr x ↦ absurd x ]
 
@@ -268,10 +236,9 @@ module _ (d : Declared) (std : IsStandard d) (P : List Clause) (program : EachOf
   typed_entries V E A w l m (g ∷ gs) h = (h.0.goal, typed_entries V E A w l m gs h.1)
 
   -- a failing search refutes what has a proof, where no leaf of the proof is for goals at which a search holds in few steps
-  module _ (L : Leaves) (same : KeepsSame L d) (Fewer : ℕ → Type 0) (fewer : (x y : ℕ) → x ≤ y → Fewer y → Fewer x) (excludes : (n j : ℕ) → Excludes n d P no_query L j IsCleanTask IsCleanTask (λ x. ⊥) Fewer) where
-    failing_refutes : (E : List Ty) (R : List ClauseFormula) (G : Term) (f : Failure) → IsCleanSearch d P E R G f → Fewer (failed_run (length E) f).steps → ProvableBy L d E R G → ⊥
-    failing_refutes E R G f x few p =
-        let h = x.0 in
+  module _ (L : Leaves) (same : KeepsSame L d) (Fewer : ℕ → Type 0) (fewer : (x y : ℕ) → x ≤ y → Fewer y → Fewer x) (excludes : (n j : ℕ) → Excludes n d P no_query L j AnyTask AnyTask (λ x. ⊥) Fewer) where
+    failing_refutes : (E : List Ty) (R : List ClauseFormula) (G : Term) (f : Failure) → IsFailedSearch d P E R G f → Fewer (failed_run (length E) f).steps → ProvableBy L d E R G → ⊥
+    failing_refutes E R G f h few p =
         let F = h.eigens in
         let c = h.closing in
         let A = newest_first f.assumed in
@@ -285,15 +252,15 @@ module _ (d : Declared) (std : IsStandard d) (P : List Clause) (program : EachOf
         } in
         let told : failed_run (length F) f ≡ run (look unit_limit f.looks P) f.moves f.moves (starts_within f.limit (Go (failing_branch (length F) f)) f.limit 1) = ap (λ Q. run (look unit_limit f.looks Q) f.moves f.moves (starts_within f.limit (Go (failing_branch (length F) f)) f.limit 1)) h.program in
         let level : length E ≡ length F = ap length (sym h.is_closed) ∙ length-map F (instance c.types) in
-        let r = typed_run L same f.looks f.moves no_query (λ x. ⊥) Fewer (λ x z l e. e) fewer (λ T u g ts r m st rows k q ns e w. absurd w) (excludes f.looks f.moves) f.moves f.limit f.limit 1 (going (failing_typing F f) (failing_branch (length F) f)) h.begins (clean_branch (failing_branch (length F) f) (transport (λ l. EachOf IsCleanEntry (failing_branch l f).goals) level x.1) refl) in
+        let r = typed_run L same f.looks f.moves no_query (λ x. ⊥) Fewer (λ x z l e. e) fewer (λ T u g ts r m st rows k q ns e w. absurd w) (excludes f.looks f.moves) f.moves f.limit f.limit 1 (going (failing_typing F f) (failing_branch (length F) f)) h.begins in
         let ends = ap (λ (w : Told Answer). w.ending) (sym told) ∙ h.ends in
         let none = ap (λ (w : Told Answer). w.answers) (sym told) ∙ h.gives_none in
         no_answers d r.typed (r.is ∙ none) (r.exhausts ends (transport (λ (w : Told Answer). Fewer w.steps) told (transport (λ l. Fewer (failed_run l f).steps) level few)) no_values (inl y))
 
   -- where failing searches of fewer than b steps clash with none that holds in fewer than t
-  excludes_below : (b t : ℕ) → ((c' t' : ℕ) → suc c' ≤ t → t' < b → Clash c' t') → (n j : ℕ) (q : Query) (Few : ℕ → Type 0) → Excludes n d P q (Below b) j IsCleanTask IsCleanTask Few (λ x. x ≤ t)
+  excludes_below : (b t : ℕ) → ((c' t' : ℕ) → suc c' ≤ t → t' < b → Clash c' t') → (n j : ℕ) (q : Query) (Few : ℕ → Type 0) → Excludes n d P q (Below b) j AnyTask AnyTask Few (λ x. x ≤ t)
   excludes_below b t clash n j q Few T u g ts r m steps rows k p ns e l c cl x =
-      clash k (failed_run (length (map (instance c.types) r.eigens)) x.0).steps l x.1.1 n j r.variables r.next_type r.eigens r.goals r.assumed (held_at n j q T u g ts r m steps rows k p ns e) c cl x.0 x.1.0 refl
+      clash k (failed_run (length (map (instance c.types) r.eigens)) x.0).steps l x.1.1 n j r.variables r.next_type r.eigens r.goals r.assumed (held_at n j q T u g ts r steps rows k p ns e) c cl x.0 x.1.0 refl
 
   clash_within : (k c t : ℕ) → c + t < k → Clash c t
   clash_within zero c t l n j V m E gs A h z zl f x e = absurd (omega (arith, l))
@@ -304,12 +271,12 @@ module _ (d : Declared) (std : IsStandard d) (P : List Clause) (program : EachOf
   pub consistent : (c t : ℕ) → Clash c t
   consistent c t = clash_within (suc (c + t)) c t (omega arith)
 
-  pub excludes_clean : (n j : ℕ) (q : Query) (Few : ℕ → Type 0) → Excludes n d P q (IsCleanSearch d P) j IsCleanTask IsCleanTask Few (λ x. Unit {0})
-  excludes_clean n j q Few T u g ts r m steps rows k p ns e l c cl x =
-      consistent k (failed_run (length (map (instance c.types) r.eigens)) x.0).steps n j r.variables r.next_type r.eigens r.goals r.assumed (held_at n j q T u g ts r m steps rows k p ns e) c cl x.0 x.1 refl
+  pub excludes_failing : (n j : ℕ) (q : Query) (Few : ℕ → Type 0) → Excludes n d P q (IsFailedSearch d P) j AnyTask AnyTask Few (λ x. Unit {0})
+  excludes_failing n j q Few T u g ts r m steps rows k p ns e l c cl x =
+      consistent k (failed_run (length (map (instance c.types) r.eigens)) x.0).steps n j r.variables r.next_type r.eigens r.goals r.assumed (held_at n j q T u g ts r steps rows k p ns e) c cl x.0 x.1 refl
 
   -- no formula and its negation are provable
-  pub never_both : (E : List Ty) (R : List ClauseFormula) (G : Term) → IsFormula d E (not_of G) → ProvableBy (IsCleanSearch d P) d E R G → ProvableBy (IsCleanSearch d P) d E R (not_of G) → ⊥
+  pub never_both : (E : List Ty) (R : List ClauseFormula) (G : Term) → IsFormula d E (not_of G) → ProvableBy (IsFailedSearch d P) d E R G → ProvableBy (IsFailedSearch d P) d E R (not_of G) → ⊥
   never_both E R G f p p' =
-      let x = denial_root_by (IsCleanSearch d P) d std E R G f ((setting_of d clean_same std).converting R) p' in
-      failing_refutes (IsCleanSearch d P) clean_same (λ y. Unit {0}) (λ y z l e. e) (λ n j. excludes_clean n j no_query (λ y. ⊥)) E R G x.0 x.1 tt p
+      let x = denial_root_by (IsFailedSearch d P) d std E R G f ((setting_of d (failed_same d P) std).converting R) p' in
+      failing_refutes (IsFailedSearch d P) (failed_same d P) (λ y. Unit {0}) (λ y z l e. e) (λ n j. excludes_failing n j no_query (λ y. ⊥)) E R G x.0 x.1 tt p

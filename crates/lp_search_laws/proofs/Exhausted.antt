@@ -1,4 +1,4 @@
--- The search is right, with negation: its answers are sound, and after `NoMore` all, where each parameter in the program and the query has a closed type.
+-- The search is right, with negation: its answers are sound, and after `NoMore` all.
 use Rattle.std.proofs.Common.{◌≡◌, ℕ, List, length, Some, inl}
 use Rattle.lp_lemmas.specs.Each.{EachOf}
 use Rattle.lp_standard.specs.Schemes.{IsStandard}
@@ -10,26 +10,24 @@ use Rattle.lp_model.specs.Search.{look, start}
 use Rattle.lp_model.specs.Proofs.{AreFlattened, Declared}
 use Rattle.lp_model.specs.Answers.{Query}
 use Rattle.lp_search_laws.specs.Begun.{first_branch, first_typing}
-use Rattle.lp_search_laws.specs.Clean.{IsClean, IsCleanSearch}
+use Rattle.lp_search_laws.specs.Failed.{IsFailedSearch}
 use Rattle.lp_search_laws.specs.Right.{IsRightBy}
 use Rattle.lp_search_laws.specs.Started.{IsTypedQuery, IsTypedSentence}
 use Rattle.lp_search_laws.specs.Branches.{going}
 use Rattle.lp_search_laws.proofs.Begins.{each_sentence, program_typed, solves, start_typed}
-use Rattle.lp_search_laws.proofs.CleanStarts.{program_clean, start_clean}
-use Rattle.lp_search_laws.proofs.Consistent.{excludes_clean, clean_same, proves_clean, typed_run}
-use Rattle.lp_search_laws.proofs.FailedSearches.{program_kept, setting_of}
+use Rattle.lp_search_laws.proofs.Consistent.{excludes_failing, proves_failing, typed_run}
+use Rattle.lp_search_laws.proofs.FailedSearches.{failed_same, program_kept, setting_of}
 use Rattle.lp_search_laws.proofs.Sound.{each_proved}
 
-pub clean_right : (d : Declared) → IsStandard d → (l : ℕ) (F : List ClauseFormula) (P : List Clause) → EachOf (IsTypedSentence d) F → EachOf (λ D. IsClean D.formula) F → AreFlattened d F P → (q : Query) (gs : Goals) → IsTypedQuery d q → IsClean q.formula → flatten_query l d q.formula ≡ Some gs →
-    (n j m steps answers : ℕ) → IsRightBy (IsCleanSearch d P) d F q (run (look unit_limit n P) j m (start q.type_vars (length q.vars) gs steps answers))
-clean_right d std l F P s o x q gs t v e n j m steps answers =
+pub right_by_failing : (d : Declared) → IsStandard d → (l : ℕ) (F : List ClauseFormula) (P : List Clause) → EachOf (IsTypedSentence d) F → AreFlattened d F P → (q : Query) (gs : Goals) → IsTypedQuery d q → flatten_query l d q.formula ≡ Some gs →
+    (n j m steps answers : ℕ) → IsRightBy (IsFailedSearch d P) d F q (run (look unit_limit n P) j m (start q.type_vars (length q.vars) gs steps answers))
+right_by_failing d std l F P s x q gs t e n j m steps answers =
     let typed = program_typed d std F P s x in
-    let clean = program_clean d std F P s o x in
-    let same = clean_same d std P typed clean in
-    let r = typed_run d std P typed clean (IsCleanSearch d P) same n j q (λ k. Unit {0}) (λ k. Unit {0}) (λ y z k h. h) (λ y z k h. h)
-    (proves_clean d std P typed clean n j q (λ k. Unit {0}))
-    (excludes_clean d std P typed clean n j q (λ k. Unit {0}))
-    m row_limit steps answers (going (first_typing q gs) (first_branch q.type_vars (length q.vars) gs)) (start_typed d std l q gs t e n steps answers).1 (start_clean d std l q gs t v e) in
+    let same = failed_same d P in
+    let r = typed_run d std P typed (IsFailedSearch d P) same n j q (λ k. Unit {0}) (λ k. Unit {0}) (λ y z k h. h) (λ y z k h. h)
+    (proves_failing d std P typed n j q (λ k. Unit {0}))
+    (excludes_failing d std P typed n j q (λ k. Unit {0}))
+    m row_limit steps answers (going (first_typing q gs) (first_branch q.type_vars (length q.vars) gs)) (start_typed d std l q gs t e n steps answers).1 in
     record {
       typed = r.typed;
       is = r.is;

@@ -8,12 +8,12 @@ use Rattle.lp_calculus.specs.Convert.{same}
 use Rattle.lp_lemmas.specs.Each.{EachOf}
 use Rattle.lp_standard.specs.Schemes.{IsStandard}
 use Rattle.lp_model.specs.Unify.{unit_limit}
-use Rattle.lp_model.specs.Flat.{Clause, Clauses, Goals, Written, goal_list, clause_list, formula_of_goals, formula_of_clause, formula_of_clauses}
+use Rattle.lp_model.specs.Flat.{Clause, Clauses, Goals, Written, clause_list, formula_of_goals, formula_of_clause, formula_of_clauses}
 use Rattle.lp_model.specs.Index.{instantiate}
 use Rattle.lp_model.specs.Flatten.{ClauseFormula}
 use Rattle.lp_model.specs.Pair.{Closing, closed}
 use Rattle.lp_model.specs.Skeleton.{Note, Refuted, starts_within, inner}
-use Rattle.lp_model.specs.Branch.{Answer, entries}
+use Rattle.lp_model.specs.Branch.{Answer}
 use Rattle.lp_model.specs.Search.{look}
 use Rattle.lp_model.specs.Answers.{Variable, Closes}
 use Rattle.lp_model.specs.Proofs.{AreFlattened, Declared, Failure, IsFormula, IsSentence, Leaves, Stands, assumed, newest_first}
@@ -27,7 +27,7 @@ use Rattle.lp_search_laws.specs.Holds.{IsTyped}
 use Rattle.lp_search_laws.specs.Denials.{denied_branch, denied_task}
 use Rattle.lp_search_laws.specs.Clauses.{sentence_of, clauses_at}
 use Rattle.lp_search_laws.specs.Branches.{IsTypedBranch, no_query, denied_typing}
-use Rattle.lp_search_laws.specs.Failed.{SameGoal, goal_converts, goal_flat, goal_back, goal_then, SameClauses, in_some_order, converted, each_apart, clause_flat, sentence_flat, other_way, one_by_one, failed_run, failing_branch, IsFailedSearch}
+use Rattle.lp_search_laws.specs.Failed.{SameGoal, goal_converts, goal_flat, goal_back, goal_then, SameClauses, in_some_order, converted, each_apart, clause_flat, sentence_flat, other_way, one_by_one, failed_run, IsFailedSearch}
 use Rattle.lp_search_laws.proofs.Formed.{formula_at}
 use Rattle.lp_search_laws.proofs.Refuted.{ends_within, none_within, taken_within}
 
@@ -167,11 +167,3 @@ module _ (n : ℕ) (d : Declared) (P : List Clause) (V : List Variable) (E : Lis
   pub refuted_steps : (failed_run (length E) leaf).steps ≡ k
   unfolding leaf
   refuted_steps = taken_within P (denied_task (length V) next_type gs (newest_first css) w (length E)) steps n j rows k p ns is_final r unit_limit (steps + rows) (itself unit_limit) (longer steps rows) (wider steps rows)
-
-  pub refuted_types : leaf.next_type ≡ next_type
-  unfolding leaf
-  refuted_types = refl
-
-  pub refuted_begins : (level : ℕ) → (failing_branch level leaf).goals ≡ entries (goal_list gs) (newest_first css) w level 0
-  unfolding leaf
-  refuted_begins level = refl

@@ -13,14 +13,13 @@ use Rattle.lp_model.specs.Search.{look, has_no_pairs, has_variables, types_from}
 use Rattle.lp_model.specs.Answers.{Query, Variable}
 use Rattle.lp_model.specs.Proofs.{Declared}
 use Rattle.lp_search_laws.specs.Denials.{denied_branch, denied_task}
-use Rattle.lp_search_laws.specs.Clean.{IsCleanEntry}
 use Rattle.lp_search_laws.specs.Written.{IsOrigin, IsWrittenPlace}
-use Rattle.lp_search_laws.specs.Branches.{no_query, denied_typing, IsTypedBranch}
+use Rattle.lp_search_laws.specs.Branches.{no_query, denied_typing, ArePlainEntries, IsTypedBranch}
 use Rattle.lp_search_laws.proofs.Begins.{from_count, from_below}
-use Rattle.lp_search_laws.proofs.CleanTasks.{entries_goals, entries_kept}
+use Rattle.lp_search_laws.proofs.ComesOver.{ComesOver, over_family}
 use Rattle.lp_search_laws.proofs.KeptLooks.{IsKeptView, kept_look}
+use Rattle.lp_search_laws.proofs.KeptStarts.{entries_kept}
 use Rattle.lp_search_laws.proofs.KeptTasks.{IsKeptProgram, IsKeptTask}
-use Rattle.lp_search_laws.proofs.Pure.{ComesPure, reduct_family}
 use Rattle.lp_search_laws.proofs.Stack.AllFine.{LeavesFine, all_fine}
 use Rattle.lp_search_laws.proofs.Stack.InnerRuns.{held_gives, held_steps}
 use Rattle.lp_search_laws.proofs.TestedGoals.{tested_goals, tested_clauses}
@@ -96,7 +95,7 @@ held_run n j P next m gs A w l steps rows c row ns e =
       taken = sym (ap (λ (z : Told Answer). z.steps) r) ∙ held_steps (look unit_limit n P) has_no_pairs j s c row ns refl e;
     }
 
-view_fine : (Q : ℕ → Type 0) (Ts : List Ty → Type 0) (puts : (bs : List TypeBinding) → AreSolved Q bs → (ts : List Ty) → Ts ts → Ts (map (put_types bs) ts)) (v : View Task Answer) → IsKeptView ComesPure reduct_family Q Ts puts v → LeavesFine (IsKeptTask ComesPure reduct_family Q Ts) (λ a. Ts a.types) v
+view_fine : (Q : ℕ → Type 0) (Ts : List Ty → Type 0) (puts : (bs : List TypeBinding) → AreSolved Q bs → (ts : List Ty) → Ts ts → Ts (map (put_types bs) ts)) (v : View Task Answer) → IsKeptView ComesOver over_family Q Ts puts v → LeavesFine (IsKeptTask ComesOver over_family Q Ts) (λ a. Ts a.types) v
 view_fine Q Ts puts (Gives a) h = h
 view_fine Q Ts puts (Opens ts) h = h
 view_fine Q Ts puts (Parts ts) h = h
@@ -107,16 +106,16 @@ view_fine Q Ts puts (Halts e) h = tt
 view_fine Q Ts puts Lacks h = tt
 
 -- its answers have the type variables still
-pub held_types : (n j : ℕ) (P : List Clause) → EachOf (IsKeptProgram ComesPure reduct_family) P → (next m : ℕ) (gs : Goals) (A : List Clause) (own w : Written) (l steps rows : ℕ) → IsOrigin own gs → IsWrittenPlace A w → has_variables n (both_written own w) ≡ Some false → EachOf IsCleanEntry (entries (goal_list gs) A w l 0) →
+pub held_types : (n j : ℕ) (P : List Clause) → EachOf (IsKeptProgram ComesOver over_family) P → (next m : ℕ) (E : List Ty) (gs : Goals) (A : List Clause) (own w : Written) (l steps rows : ℕ) → IsOrigin own gs → IsWrittenPlace A w → has_variables n (both_written own w) ≡ Some false → ArePlainEntries m (map (λ g. E) (goal_list gs)) (entries (goal_list gs) A w l 0) →
     EachOf (λ a. a.types ≡ types_from m 0) (run (look unit_limit n P) j j (starts_within rows (Go (carrying next m gs A w l)) steps 1)).answers
-held_types n j P program next m gs A own w l steps rows o place tested clean =
+held_types n j P program next m E gs A own w l steps rows o place tested plain =
     let Q = λ (i : ℕ). m ≤ i in
     let Ts = λ (ts : List Ty). ts ≡ types_from m 0 in
-    all_fine (look unit_limit n P) j (IsKeptTask ComesPure reduct_family Q Ts) (λ a. a.types ≡ types_from m 0)
-    (λ height T k. view_fine Q Ts (these_stay m) (look unit_limit n P height T) (kept_look ComesPure reduct_family Q Ts (these_stay m) unit_limit n P program height T k)) j
+    all_fine (look unit_limit n P) j (IsKeptTask ComesOver over_family Q Ts) (λ a. a.types ≡ types_from m 0)
+    (λ height T k. view_fine Q Ts (these_stay m) (look unit_limit n P height T) (kept_look ComesOver over_family Q Ts (these_stay m) unit_limit n P program height T k)) j
     (starts_within rows (Go (carrying next m gs A w l)) steps 1) (
       record {
-        entries = entries_kept Q gs A w l 0 clean (tested_goals Q n own w gs o tested (entries_goals gs A w l 0 clean)) (λ h. tested_clauses Q n own w A place.origins tested h);
+        entries = entries_kept Q m E A w l 0 (tested_clauses Q m n own w A place.origins tested) gs (tested_goals Q m n own w gs o tested) plain;
         pairs = tt;
         fresh = λ i k. k;
         types = refl;

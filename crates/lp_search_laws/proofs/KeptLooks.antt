@@ -24,11 +24,9 @@ use Rattle.lp_model.specs.Flat.{Goal, Atomic, Cut, Either, Exists, Forall, Assum
 use Rattle.lp_model.specs.Branch.{Entry, Branch, Answer, Task, Go, Try, Stop, Lack, entries, both_written, put_entries, resume}
 use Rattle.lp_model.specs.Search.{with_goals, follow, equated, assigned, compared, candidates, has_head, passes, goal_key, has_variables, tries, slots_of, slotted, pairs_of, renewed, try_clause, in_place, look_constant, look_atom, look_form, look_normal, look_not, look_goal, look_branch, look}
 use Rattle.lp_unify_laws.proofs.Looks.{head_reduces}
-use Rattle.lp_search_laws.specs.Clean.{IsGoalWith, AreGoalsWith, IsAssumedWith}
 use Rattle.lp_search_laws.proofs.Families.{Family}
-use Rattle.lp_search_laws.proofs.KeptTasks.{IsKeptProgram, IsKeptEntry, IsKeptTried, IsKeptBranch, IsKeptTry, IsKeptTask, IsKeptForm, goals_mapped, clauses_each, all_put, all_typed, goals_entries, instantiated, opened_kept, arguments_kept, form_kept, slotted_kept, slots_kept, pairs_kept}
+use Rattle.lp_search_laws.proofs.KeptTasks.{IsGoalWith, AreGoalsWith, IsAssumedWith, IsKeptProgram, IsKeptEntry, IsKeptTried, IsKeptBranch, IsKeptTry, IsKeptTask, IsKeptForm, goals_mapped, clauses_each, all_put, all_typed, goals_entries, instantiated, opened_kept, arguments_kept, form_kept, slotted_kept, slots_kept, pairs_kept}
 use Rattle.lp_search_laws.proofs.RunsKeep.{GoodPair, good_more, head_pairs, solve_good}
-use Rattle.lp_search_laws.proofs.Runs.{Stays}
 use Rattle.lp_search_laws.proofs.TryMatches.{none_renewed}
 use Rattle.lp_search_laws.proofs.TypesOver.{Over, Left, AreSolved, ArePairsOver, each_more}
 
@@ -62,16 +60,6 @@ module _ (K : (ℕ → Type 0) → Term → Type 0) (family : Family K) (Q : ℕ
   IsKeptView (Denies t f ts) = Inside t × EachOf Kept ts
   IsKeptView (Halts e) = Unit {0}
   IsKeptView Lacks = Unit {0}
-
-  pub view_stays : (v : View Task Answer) → IsKeptView v → Stays Kept Inside v
-  view_stays (Gives a) h = tt
-  view_stays (Opens ts) h = h
-  view_stays (Parts ts) h = h
-  view_stays (Takes name ts) h = h
-  view_stays (Cuts m ts) h = h
-  view_stays (Denies t f ts) h = h
-  view_stays (Halts e) h = tt
-  view_stays Lacks h = tt
 
   resumed : (b : Branch) (n limit : ℕ) (eqs : List TypePair) (ps : List Pair) (next : ℕ) (s : State) → IsKeptBranch K family Q Ts b → ArePairsOver Q eqs → EachOf (GoodPair K family Q) ps → solve n limit eqs ps b.pairs next ≡ Some (Solution s) → IsKeptBranch K family Q Ts (resume b s)
   resumed b n limit eqs ps next s h he hp e =

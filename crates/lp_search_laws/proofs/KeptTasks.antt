@@ -18,11 +18,32 @@ use Rattle.lp_model.specs.Flat.{Goal, Atomic, Cut, Either, Exists, Forall, Assum
 use Rattle.lp_model.specs.Branch.{Entry, Branch, Task, Go, Try, Stop, Lack, entries, put_entry, put_entries, type_entry, type_entries}
 use Rattle.lp_model.specs.Search.{Slot, is_new, slot_of, slots_of, slotted, pairs_of, renewed}
 use Rattle.lp_proof_laws.proofs.Uniform.Forms.{apply_arguments}
-use Rattle.lp_search_laws.specs.Clean.{IsGoalWith, AreGoalsWith, IsAssumedWith, AreClausesWith}
 use Rattle.lp_search_laws.proofs.Closed.{body_opens}
 use Rattle.lp_search_laws.proofs.Families.{Family}
 use Rattle.lp_search_laws.proofs.RunsKeep.{GoodPair}
 use Rattle.lp_search_laws.proofs.TypesOver.{Over, IsBoundOver}
+
+-- what holds of each atomic goal and each head; assumed clauses have no type variables of their own
+abbrev mutual
+  pub IsGoalWith : (Term → Type 0) → Goal → Type 0
+  IsGoalWith P (Atomic t) = P t
+  IsGoalWith P Cut = Unit {0}
+  IsGoalWith P (Either gs hs) = AreGoalsWith P gs × AreGoalsWith P hs
+  IsGoalWith P (Exists T gs) = AreGoalsWith P gs
+  IsGoalWith P (Forall T gs) = AreGoalsWith P gs
+  IsGoalWith P (Assume w cs gs) = AreClausesWith P cs × AreGoalsWith P gs
+  IsGoalWith P (Not w gs) = AreGoalsWith P gs
+
+  pub AreGoalsWith : (Term → Type 0) → Goals → Type 0
+  AreGoalsWith P no_goals = Unit {0}
+  AreGoalsWith P (goals g gs) = IsGoalWith P g × AreGoalsWith P gs
+
+  pub IsAssumedWith : (Term → Type 0) → Clause → Type 0
+  IsAssumedWith P (clause n vs h b) = (n ≡ 0) × P h × AreGoalsWith P b
+
+  pub AreClausesWith : (Term → Type 0) → Clauses → Type 0
+  AreClausesWith P no_clauses = Unit {0}
+  AreClausesWith P (clauses c cs) = IsAssumedWith P c × AreClausesWith P cs
 
 -- what is put into goals and clauses
 module _ {E : Type 0} (under : E → E) (term : E → Term → Term) (ty : Ty → Ty) (A B : Term → Type 0) (Env : E → Type 0) (below : (e : E) → Env e → Env (under e)) (each : (e : E) → Env e → (t : Term) → A t → B (term e t)) where

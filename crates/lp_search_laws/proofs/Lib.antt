@@ -54,14 +54,13 @@ pub mod RunsKeep
 pub mod Families
 pub mod TermsKept
 pub mod Reducts
-pub mod Pure
+pub mod ComesOver
 pub mod KeptTasks
 pub mod KeptLooks
 pub mod Typeless
 pub mod TestedGoals
-pub mod CleanTasks
+pub mod KeptStarts
 pub mod HeldRuns
-pub mod CleanStarts
 pub mod MatchTyped
 pub mod TryMatches
 pub mod PlainTry

@@ -32,6 +32,9 @@ Stays Kept Denied (Denies t f ts) = Denied t × EachOf Kept ts
 Stays Kept Denied (Halts e) = Unit {0}
 Stays Kept Denied Lacks = Unit {0}
 
+abbrev pub AnyTask : Task → Type 0
+AnyTask t = Unit {0}
+
 pub all_stay : (Kept : Task → Type 0) (v : View Task Answer) → AllLeft Kept v → Stays Kept Kept v
 all_stay Kept (Gives a) h = tt
 all_stay Kept (Opens ts) h = h

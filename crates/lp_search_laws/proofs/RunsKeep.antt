@@ -82,7 +82,7 @@ module _ (C : ℕ → Type 0) where
     good_atom_instance (logic x l) h = tt
     good_atom_instance (param k T) h = over_instance Q R θ f T h
 
-    good_instance : (t : Term) → AllAtoms (Good C Q) t → AllAtoms (Good C R) (instance_term θ t)
+    pub good_instance : (t : Term) → AllAtoms (Good C Q) t → AllAtoms (Good C R) (instance_term θ t)
     good_instance (index i) h = tt
     good_instance (atom a) h = good_atom_instance a h
     good_instance (abs b) h = good_instance b h
@@ -109,7 +109,7 @@ module _ (C : ℕ → Type 0) where
     term_fixed (app t u) h = app_same (term_fixed t h.0) (term_fixed u h.1)
 
   -- terms all of whose atoms are so
-  good_values : (Q : ℕ → Type 0) (v : Value) → AllAtoms (Good C Q) (term_of v)
+  pub good_values : (Q : ℕ → Type 0) (v : Value) → AllAtoms (Good C Q) (term_of v)
   good_values Q (Number z) = tt
   good_values Q (Bytes s) = tt
 
@@ -506,13 +506,13 @@ atom_plain k (eigen n) h = tt
 atom_plain k (logic x l) h = tt
 atom_plain k (param n T) h = over_type k T h
 
-all_more : (P R : Atom → Type 0) → ((a : Atom) → P a → R a) → (t : Term) → AllAtoms P t → AllAtoms R t
+pub all_more : (P R : Atom → Type 0) → ((a : Atom) → P a → R a) → (t : Term) → AllAtoms P t → AllAtoms R t
 all_more P R f (index i) h = tt
 all_more P R f (atom a) h = f a h
 all_more P R f (abs b) h = all_more P R f b h
 all_more P R f (app t u) h = (all_more P R f t h.0, all_more P R f u h.1)
 
-plain_term : (k : ℕ) (t : Term) → IsPlainTerm k t → AllAtoms (Good IsPositiveConstant (Below k)) t
+pub plain_term : (k : ℕ) (t : Term) → IsPlainTerm k t → AllAtoms (Good IsPositiveConstant (Below k)) t
 plain_term k t h = all_more (IsPlainAtom k) (Good IsPositiveConstant (Below k)) (plain_atom k) t h
 
 term_plain : (k : ℕ) (t : Term) → AllAtoms (Good IsPositiveConstant (Below k)) t → IsPlainTerm k t

@@ -16,8 +16,7 @@ use Rattle.lp_model.specs.Search.{is_variable, has_variable, has_type_variable, 
 use Rattle.lp_unify_laws.proofs.Looks.{beta_reduces}
 use Rattle.lp_calculus.specs.Closed.{AllAtoms}
 use Rattle.lp_search_laws.proofs.Closed.{closed_reduces}
-use Rattle.lp_search_laws.proofs.Pure.{IsOver}
-use Rattle.lp_search_laws.proofs.Reducts.{Reduct}
+use Rattle.lp_search_laws.proofs.ComesOver.{IsOver, ComesOver}
 use Rattle.lp_search_laws.proofs.TypesOver.{Over, AreOver}
 use Rattle.lp_search_laws.proofs.ClosedTerms.{closed_atom, closed_fill}
 
@@ -93,7 +92,7 @@ tested_stays n w e c =
     let q = none_left (list_any has_variable r.0) (list_any has_type_variable w.types) r.2 in
     (values_stay n c w.terms r.0 r.1 q.0, types_written c w.types q.1)
 
--- and the types of constants in its normal form have no variables
+-- and the types in its normal form have no variables
 module _ (Q : ℕ → Type 0) where
   mutual
     type_over : (T : Ty) → type_variables T ≡ [] → Over Q T
@@ -111,12 +110,12 @@ module _ (Q : ℕ → Type 0) where
   list_over (t ∷ ts) h = let q = none_left (has_type_variable t) (list_any has_type_variable ts) h in (type_over t (no_variables t q.0), list_over ts q.1)
 
   atom_over : (a : Atom) → is_variable a ≡ false → IsOver Q a
-  atom_over (constant k ts) e = list_over ts e
+  atom_over (constant k ts) e = (tt, list_over ts e)
   atom_over (integer z) e = tt
   atom_over (text s) e = tt
   atom_over (eigen k) e = tt
   atom_over (logic x l) e = tt
-  atom_over (param k T) e = tt
+  atom_over (param k T) e = type_over T (no_variables T e)
 
   term_over : (t : Term) → has_variable t ≡ false → AllAtoms (IsOver Q) t
   term_over (index i) e = tt
@@ -124,7 +123,7 @@ module _ (Q : ℕ → Type 0) where
   term_over (abs b) e = term_over b e
   term_over (app t u) e = let q = none_left (has_variable t) (has_variable u) e in (term_over t q.0, term_over u q.1)
 
-  values_over : (n : ℕ) (ts ss : List Term) → beta_normals n ts ≡ Some ss → list_any has_variable ss ≡ false → EachOf (Reduct (IsOver Q)) ts
+  values_over : (n : ℕ) (ts ss : List Term) → beta_normals n ts ≡ Some ss → list_any has_variable ss ≡ false → EachOf (ComesOver Q) ts
   values_over n [] ss e h = tt
   values_over n (t ∷ ts) ss e h =
       let x = and_then_some (beta_normal n t) (λ s. option_map (λ rs. s ∷ rs) (beta_normals n ts)) ss e in
@@ -132,7 +131,7 @@ module _ (Q : ℕ → Type 0) where
       let q = none_left (has_variable x.0) (list_any has_variable r.0) (subst (λ us. list_any has_variable us ≡ false) (sym r.2) h) in
       ((x.0, beta_reduces n t x.0 x.1, term_over x.0 q.0), values_over n ts r.0 r.1 q.1)
 
-  pub tested_over : (n : ℕ) (w : Written) → has_variables n w ≡ Some false → EachOf (Reduct (IsOver Q)) w.terms × EachOf (Over Q) w.types
+  pub tested_over : (n : ℕ) (w : Written) → has_variables n w ≡ Some false → EachOf (ComesOver Q) w.terms × EachOf (Over Q) w.types
   tested_over n w e =
       let r = option_map_some (beta_normals n w.terms) (λ ts. list_any has_variable ts || list_any has_type_variable w.types) false e in
       let q = none_left (list_any has_variable r.0) (list_any has_type_variable w.types) r.2 in

@@ -11,4 +11,3 @@ pub mod Tries
 pub mod Unnegated
 pub mod Written
 pub mod Begun
-pub mod Clean

@@ -18,8 +18,8 @@ ghost use Rattle.lp_model.specs.Unify.{unit_limit};
 ghost use Rattle.lp_model.specs.Variables.{IsVariableBelow, Variable};
 ghost use Rattle.lp_search_laws.specs.Branches.{HasLeaf, IsProgramTyped, IsTypedBranch};
 ghost use Rattle.lp_search_laws.specs.Clauses.{clauses_at};
-ghost use Rattle.lp_search_laws.specs.Clean.{IsClean, IsCleanEntry, IsCleanSearch, IsClauseWith};
 ghost use Rattle.lp_search_laws.specs.Denials.{denied_task};
+ghost use Rattle.lp_search_laws.specs.Failed.{IsFailedSearch};
 ghost use Rattle.lp_search_laws.specs.Holds.{Holds};
 ghost use Rattle.lp_search_laws.specs.Started.{IsPlainQuery, IsPlainSentence, IsProvableBy, IsTypedQuery, IsTypedSentence};
 ghost use Rattle.lp_search_laws.specs.Unnegated.{AreUnnegatedGoals, IsUnnegatedClause};
@@ -48,13 +48,13 @@ pub fn negations_are_judged_rightly()
         (inner (look unit_limit n P) j has_no_pairs (starts (denied_task b.next b.next_type gs e.assumed e.written e.level) steps 1) ≡ Held k ns p → (c : Closing) × Closes d z.variables c × Holds no_leaf d (map (instance c.types) E) (clauses_at P e.assumed c) c (formula_of_goals gs)) }
 {}
 
-/// The search of a negated goal decides it, whatever negations stand in the goals and in the clauses, where each parameter has a closed type: where it is refuted it is a failing search
+/// The search of a negated goal decides it, whatever negations stand in the goals and in the clauses: where it is refuted it is a failing search
 /// for the goals as each closing of the variables of its branch makes them, and where it is held the goals are provable under each closing, and for none is there a failing search.
 pub fn negated_goals_are_decided()
-    ensures { (n : ℕ) (d : Declared) → IsStandard d → (P : List Clause) → EachOf (IsProgramTyped d) P → EachOf (IsClauseWith IsClean) P → (q : Query) (z : AnswerTyping) (b : Branch) (E : List Ty) (Es : List (List Ty)) (e : Entry) (es : List Entry) → IsTypedBranch n d q (record { answer = z; eigens = E ∷ Es }) (with_goals b (e ∷ es)) → IsCleanEntry e →
+    ensures { (n : ℕ) (d : Declared) → IsStandard d → (P : List Clause) → EachOf (IsProgramTyped d) P → (q : Query) (z : AnswerTyping) (b : Branch) (E : List Ty) (Es : List (List Ty)) (e : Entry) (es : List Entry) → IsTypedBranch n d q (record { answer = z; eigens = E ∷ Es }) (with_goals b (e ∷ es)) →
         (w : Written) (gs : Goals) → e.goal ≡ Not w gs → has_variables n (both_written w e.written) ≡ Some false → (j steps k p : ℕ) (ns : List Note) →
-        (inner (look unit_limit n P) j has_no_pairs (starts (denied_task b.next b.next_type gs e.assumed e.written e.level) steps 1) ≡ Refuted k ns p → (c : Closing) → Closes d z.variables c → HasLeaf (IsCleanSearch d P) P c E e.assumed gs) ×
-        (inner (look unit_limit n P) j has_no_pairs (starts (denied_task b.next b.next_type gs e.assumed e.written e.level) steps 1) ≡ Held k ns p → (c : Closing) → Closes d z.variables c → Holds (IsCleanSearch d P) d (map (instance c.types) E) (clauses_at P e.assumed c) c (formula_of_goals gs) × (HasLeaf (IsCleanSearch d P) P c E e.assumed gs → ⊥)) }
+        (inner (look unit_limit n P) j has_no_pairs (starts (denied_task b.next b.next_type gs e.assumed e.written e.level) steps 1) ≡ Refuted k ns p → (c : Closing) → Closes d z.variables c → HasLeaf (IsFailedSearch d P) P c E e.assumed gs) ×
+        (inner (look unit_limit n P) j has_no_pairs (starts (denied_task b.next b.next_type gs e.assumed e.written e.level) steps 1) ≡ Held k ns p → (c : Closing) → Closes d z.variables c → Holds (IsFailedSearch d P) d (map (instance c.types) E) (clauses_at P e.assumed c) c (formula_of_goals gs) × (HasLeaf (IsFailedSearch d P) P c E e.assumed gs → ⊥)) }
 {}
 
 /// What the query `not G` says, where G has no variables and neither G nor the program a negation: it is answered only where G has no proof, and it ends with no
@@ -65,14 +65,14 @@ pub fn closed_negations_are_right()
         ((run (look unit_limit n P) j m (start 0 0 (goals (denied gs) no_goals) steps answers)).ending ≡ Some NoMore → (run (look unit_limit n P) j m (start 0 0 (goals (denied gs) no_goals) steps answers)).answers ≡ [] → IsProvable d F (record { type_vars = 0; vars = []; formula = G }) (record { types = []; values = [] })) }
 {}
 
-/// The same whatever negations stand in G and in the program, where each parameter has a closed type: G has a proof or none, with failing searches for what is negated in it.
+/// The same whatever negations stand in G and in the program: G has a proof or none, with failing searches for what is negated in it.
 pub fn closed_negations_are_decided()
-    ensures { (d : Declared) → IsStandard d → (l : ℕ) (F : List ClauseFormula) (P : List Clause) → EachOf (IsTypedSentence d) F → EachOf (λ D. IsClean D.formula) F → AreFlattened d F P → (G : Term) (gs : Goals) → IsTypedQuery d (record { type_vars = 0; vars = []; formula = G }) → IsClean G → flatten_query l d G ≡ Some gs → (n j m steps answers : ℕ) →
-        ((a : Answer) (more : List Answer) → (run (look unit_limit n P) j m (start 0 0 (goals (denied gs) no_goals) steps answers)).answers ≡ a ∷ more → IsProvableBy (IsCleanSearch d P) d F (record { type_vars = 0; vars = []; formula = G }) (record { types = []; values = [] }) → ⊥) ×
-        ((run (look unit_limit n P) j m (start 0 0 (goals (denied gs) no_goals) steps answers)).ending ≡ Some NoMore → (run (look unit_limit n P) j m (start 0 0 (goals (denied gs) no_goals) steps answers)).answers ≡ [] → IsProvableBy (IsCleanSearch d P) d F (record { type_vars = 0; vars = []; formula = G }) (record { types = []; values = [] })) }
+    ensures { (d : Declared) → IsStandard d → (l : ℕ) (F : List ClauseFormula) (P : List Clause) → EachOf (IsTypedSentence d) F → AreFlattened d F P → (G : Term) (gs : Goals) → IsTypedQuery d (record { type_vars = 0; vars = []; formula = G }) → flatten_query l d G ≡ Some gs → (n j m steps answers : ℕ) →
+        ((a : Answer) (more : List Answer) → (run (look unit_limit n P) j m (start 0 0 (goals (denied gs) no_goals) steps answers)).answers ≡ a ∷ more → IsProvableBy (IsFailedSearch d P) d F (record { type_vars = 0; vars = []; formula = G }) (record { types = []; values = [] }) → ⊥) ×
+        ((run (look unit_limit n P) j m (start 0 0 (goals (denied gs) no_goals) steps answers)).ending ≡ Some NoMore → (run (look unit_limit n P) j m (start 0 0 (goals (denied gs) no_goals) steps answers)).answers ≡ [] → IsProvableBy (IsFailedSearch d P) d F (record { type_vars = 0; vars = []; formula = G }) (record { types = []; values = [] })) }
 {}
 
-/// No formula and its negation are both provable, from whatever clauses, where the parameters in failing searches, and in the program that they run, have closed types.
+/// No formula and its negation are both provable, from whatever clauses, with failing searches of a typed program as leaves.
 pub fn negation_is_consistent()
-    ensures { (d : Declared) → IsStandard d → (P : List Clause) → EachOf (IsProgramTyped d) P → EachOf (IsClauseWith IsClean) P → (E : List Ty) (R : List ClauseFormula) (G : Term) → IsFormula d E (not_of G) → ProvableBy (IsCleanSearch d P) d E R G → ProvableBy (IsCleanSearch d P) d E R (not_of G) → ⊥ }
+    ensures { (d : Declared) → IsStandard d → (P : List Clause) → EachOf (IsProgramTyped d) P → (E : List Ty) (R : List ClauseFormula) (G : Term) → IsFormula d E (not_of G) → ProvableBy (IsFailedSearch d P) d E R G → ProvableBy (IsFailedSearch d P) d E R (not_of G) → ⊥ }
 {}

@@ -11,7 +11,6 @@ ghost use Rattle.lp_model.specs.Flatten.{ClauseFormula, flatten_query};
 ghost use Rattle.lp_model.specs.Answers.{AnswerTyping, Instance, IsClosedInstance, Query, IsRight, IsWellFormed};
 ghost use Rattle.lp_model.specs.Proofs.{Declared, AreFlattened};
 ghost use Rattle.lp_model.specs.Search.{ComesTo, look, start};
-ghost use Rattle.lp_search_laws.specs.Clean.{IsClean, IsCleanSearch};
 ghost use Rattle.lp_search_laws.specs.Failed.{IsFailedSearch};
 ghost use Rattle.lp_search_laws.specs.Right.{IsRightBy};
 ghost use Rattle.lp_search_laws.specs.Started.{IsPlainQuery, IsPlainSentence, IsProvableBy, IsTypedQuery, IsTypedSentence};
@@ -31,10 +30,9 @@ pub fn answers_are_sound()
 {}
 
 /// Soundness and exhaustion of the whole language, negation too: each closed instance of an answer has a uniform proof from the source clauses, and where there is no
-/// more, each instance of the query that has one is, up to conversion, an instance of an answer. In these proofs a negated goal is proved by a search that fails. Where
-/// parameters stand in the sentences, in the query or in such a search, they have closed types: what is written in a program has none.
+/// more, each instance of the query that has one is, up to conversion, an instance of an answer. In these proofs a negated goal is proved by a search that fails.
 pub fn search_is_right()
-    ensures { (d : Declared) → IsStandard d → (l : ℕ) (F : List ClauseFormula) (P : List Clause) → EachOf (IsTypedSentence d) F → EachOf (λ D. IsClean D.formula) F → AreFlattened d F P → (q : Query) (gs : Goals) → IsTypedQuery d q → IsClean q.formula → flatten_query l d q.formula ≡ Some gs → (n j m steps answers : ℕ) → IsRightBy (IsCleanSearch d P) d F q (run (look unit_limit n P) j m (start q.type_vars (length q.vars) gs steps answers)) }
+    ensures { (d : Declared) → IsStandard d → (l : ℕ) (F : List ClauseFormula) (P : List Clause) → EachOf (IsTypedSentence d) F → AreFlattened d F P → (q : Query) (gs : Goals) → IsTypedQuery d q → flatten_query l d q.formula ≡ Some gs → (n j m steps answers : ℕ) → IsRightBy (IsFailedSearch d P) d F q (run (look unit_limit n P) j m (start q.type_vars (length q.vars) gs steps answers)) }
 {}
 
 /// The search comes to a value, for each limit on steps and answers, of the whole language.

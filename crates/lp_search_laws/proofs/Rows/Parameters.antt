@@ -1,9 +1,9 @@
--- The type of a parameter is not among what is written in a negated goal: its search may bind a type variable of it. So the search is right where parameters have closed types.
+-- A type variable in the type of a parameter is among what is written in a negated goal: else its search could bind it, though the goal has no proof at other types.
 use Rattle.std.proofs.Common.{◌≡◌, ℕ, List, [], ◌∷◌, Option, Some, refl}
 use Rattle.lp_calculus.specs.Types.{Ty, var, arrow}
 use Rattle.lp_calculus.specs.Term.{Term, atom, app, param}
 use Rattle.lp_calculus.specs.Typing.{Scheme, o_type}
-use Rattle.lp_model.specs.declared.ending.Ending.TheVariants.{NoMore}
+use Rattle.lp_model.specs.declared.ending.Ending.TheVariants.{NoMore, OpenNot}
 use Rattle.lp_model.specs.Skeleton.{Told}
 use Rattle.lp_standard.specs.Connectives.{not_of}
 use Rattle.lp_model.specs.Branch.{Answer}
@@ -27,20 +27,19 @@ rules = fact (on 32 (by (kind 9))) ∷ []
 abbrev asked : (type_vars : ℕ) → Term → Told Answer
 asked j t = told declared rules j 0 t 1000 100
 
--- not (r ..), over a type variable: the search of r binds it, and holds
+-- not (r ..), over a type variable
 open_gives : values (asked 1 (not_of (on 32 (by (var 0))))) ≡ []
 open_gives = refl
 
-open_end : (asked 1 (not_of (on 32 (by (var 0))))).ending ≡ Some NoMore
+open_end : (asked 1 (not_of (on 32 (by (var 0))))).ending ≡ Some OpenNot
 open_end = refl
 
--- with another type for it, it is answered
-instance_gives : values (asked 0 (not_of (on 32 (by (kind 10))))) ≡ [] ∷ []
-instance_gives = refl
+-- a rule makes it hold of one type, and of no other
+this_gives : values (asked 0 (not_of (on 32 (by (kind 9))))) ≡ []
+this_gives = refl
 
--- so not (not (r ..)) has no answer there, though the first search is one that fails, and begins with its goal but for the type variable
-twice_gives : values (asked 0 (not_of (not_of (on 32 (by (kind 10)))))) ≡ []
-twice_gives = refl
+this_end : (asked 0 (not_of (on 32 (by (kind 9))))).ending ≡ Some NoMore
+this_end = refl
 
-twice_end : (asked 0 (not_of (not_of (on 32 (by (kind 10)))))).ending ≡ Some NoMore
-twice_end = refl
+other_gives : values (asked 0 (not_of (on 32 (by (kind 10))))) ≡ [] ∷ []
+other_gives = refl
