@@ -7,6 +7,6 @@ mod Inversions
 mod Comings
 mod Steps
 mod Scopes
-mod Meanings
+pub mod Meanings
 mod ClauseSteps
 mod Turnings
