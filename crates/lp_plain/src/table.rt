@@ -187,12 +187,12 @@ impl Table {
             Goal::Assume(clauses, goals) => {
                 let assumed = self.add_clauses(alloc, bank, clauses, waiting)?;
                 let list = self.wait(goals, waiting)?;
-                let free = self.put_free(free_in_clauses(alloc, bank, clauses)?)?;
+                let free = self.put_free(free_in_clauses(alloc, bank, clauses.as_slice())?)?;
                 Ok(Flat::Assume(assumed, list, free))
             }
             Goal::Not(goals) => {
                 let list = self.wait(goals, waiting)?;
-                let free = self.put_free(free_in_goals(alloc, bank, goals)?)?;
+                let free = self.put_free(free_in_goals(alloc, bank, goals.as_slice())?)?;
                 Ok(Flat::Not(list, free))
             }
         }
