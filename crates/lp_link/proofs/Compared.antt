@@ -37,4 +37,4 @@ module _ (K : ℕ → Option ℕ) (b a : Nodes) (x : Bool) (old rest : List Pair
 
     pub goes_on : (r : Bool) → Compares K b a (type_tree b t.0) (type_tree a u.0) rest new r → r ≡ true → x ≡ true → AreSamePairs K b a new
     goes_on false c n h = absurd (true≢false (sym n))
-    goes_on true c n h = c (types_same h) (rest_same h)
+    goes_on true c n h = c.0 (types_same h) (rest_same h)

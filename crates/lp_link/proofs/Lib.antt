@@ -1,6 +1,10 @@
 mod Works
 mod Comparing
 mod Compared
+mod Opened
+mod Firsts
+mod Sames
+mod Edges
 mod Uses
 mod Refusing
 mod Sums

@@ -1,5 +1,5 @@
 -- What a copy exports otherwise than the copy above it.
-use Rattle.std.specs.Prelude.{◌≡◌, ◌≢◌, ◌⊎◌, ℕ, ◌+◌, ◌-◌, nat_eq, nat_lt, Bool, true, false, ◌&&◌, if◌then◌else◌, List, Option, Some, None, min, slice_get, option_map, option_and_then}
+use Rattle.std.specs.Prelude.{◌≡◌, ◌≢◌, ◌⊎◌, ◌<◌, ℕ, ◌+◌, ◌-◌, nat_eq, nat_lt, Bool, true, false, ◌&&◌, if◌then◌else◌, List, Option, Some, None, min, slice_get, option_map, option_and_then}
 use Rattle.lp_calculus.specs.Types.{Ty, Tys, var, con, arrow, no_types, types}
 use Rattle.lp_term.specs.Nodes.{type_tree}
 use Rattle.lp_code.specs.declared.object.Object.{Object}
@@ -51,6 +51,9 @@ pub record IsOtherKind (below above : Object) (place : ℕ) : Type 0 where
   pub exported : kind.exported ≡ true
   pub other : arity_of above.kinds.items kind.name.items ≢ Some kind.arity
 
+abbrev pub HasKinds : (below above : Object) → Type 0
+HasKinds below above = (j : ℕ) → IsOtherKind below above j → ⊥
+
 -- another count of type variables, or another type
 abbrev pub HasOtherType : (below above : Object) → (one other : ObjectConstant) → Type 0
 HasOtherType below above c d = (d.type_vars ≢ c.type_vars) ⊎ (same_type (kind_above below.kinds.items above.kinds.items) (type_tree below.bank c.scheme.0) (type_tree above.bank d.scheme.0) ≡ false)
@@ -66,6 +69,12 @@ pub record IsOtherConstant (below above : Object) (place : ℕ) : Type 0 where
   pub exported : constant.exported ≡ true
   pub other : IsOtherAbove below above constant (constant_of above.constants.items constant.name.items)
 
+-- the first such part, kinds before constants
 abbrev pub IsOtherPart : (below above : Object) → Part → Type 0
-IsOtherPart below above (Kind n) = (i : ℕ) × ((n ≡ number_at 8 i) × IsOtherKind below above i)
-IsOtherPart below above (Constant n) = (i : ℕ) × ((n ≡ number_at 32 i) × IsOtherConstant below above i)
+IsOtherPart below above (Kind n) = (i : ℕ) × ((n ≡ number_at 8 i) × (IsOtherKind below above i × ((j : ℕ) → j < i → IsOtherKind below above j → ⊥)))
+IsOtherPart below above (Constant n) = (i : ℕ) × ((n ≡ number_at 32 i) × (HasKinds below above × (IsOtherConstant below above i × ((j : ℕ) → j < i → IsOtherConstant below above j → ⊥))))
+
+-- all that an object exports is so in the one of the copy above
+pub record IsSameAbove (below above : Object) : Type 0 where
+  pub kinds : HasKinds below above
+  pub constants : (j : ℕ) → IsOtherConstant below above j → ⊥

@@ -1,6 +1,7 @@
 pub mod Uses
 pub mod Ends
 pub mod Differences
+pub mod Edges
 pub mod Refusals
 pub mod Sizes
 pub mod Numbers

@@ -1,14 +1,16 @@
 // Names that the copy above has otherwise.
-ghost use Rattle.std.specs.Prelude.{◌≡◌, ◌≢◌, ◌<◌, ◌≤◌, ◌+◌, ◌-◌, ◌*◌, ℕ, nat_lt, false, Option, Some, None, if◌then◌else◌, length, map, option_map, IfOk, IfErr, IfSome, OnOk};
+ghost use Rattle.std.specs.Prelude.{◌≡◌, ◌≢◌, ◌<◌, ◌≤◌, ◌+◌, ◌-◌, ◌*◌, ℕ, nat_lt, false, true, List, Option, Some, None, if◌then◌else◌, length, map, option_map, IfOk, IfErr, IfSome, OnOk};
 ghost use Rattle.lp_calculus.specs.Types.{var, tys};
 ghost use Rattle.lp_term.specs.Nodes.{type_tree, type_node_tree};
 ghost use Rattle.lp_term.specs.Shapes.{type_shape};
 ghost use Rattle.lp_term.specs.Nodes.{Nodes};
 ghost use Rattle.lp_link.specs.declared.differ.Pair.TheVariants.{Parts};
-ghost use Rattle.lp_link.specs.Sizes.{type_size, types_size, pair_work};
-ghost use Rattle.lp_link.specs.Differences.{number_at, is_number, same_type, arity_of, constant_of, IsOtherAbove, IsOtherKind, IsOtherConstant, IsOtherPart};
-ghost use Rattle.lp_link.specs.inner.Pairs.{kinds_at, IsSides, IsParts, IsSamePair, AreSamePairs, Compares};
-ghost use Rattle.lp_link.specs.inner.Members.{IsOtherMember};
+ghost use Rattle.lp_link.specs.Sizes.{type_size, types_size, pair_weighs, pair_work};
+ghost use Rattle.lp_link.specs.Differences.{number_at, is_number, same_type, arity_of, constant_of, HasKinds, IsOtherAbove, IsOtherKind, IsOtherConstant, IsOtherPart, IsSameAbove};
+ghost use Rattle.lp_link.specs.inner.Pairs.{kinds_at, same_pair, pair_eq, IsSides, IsParts, IsSamePair, AreSamePairs, Leads, Compares};
+ghost use Rattle.lp_link.specs.inner.Members.{AreCompared, AreSameMembers, IsOtherMember};
+ghost use Rattle.lp_link.specs.declared.places.Member.{Member};
+ghost use Rattle.indexmap.specs.IndexSet.{contains};
 
 use crate::fault::{LinkRefusal, Part};
 use crate::places::Member;
@@ -86,8 +88,10 @@ fn push_parts<'b>(
     twos: &'b [TypeId],
     work: &mut Vec<Pair<'b>>,
 ) -> Result<(), Memory>
+    requires { length ones.now ≡ length twos.now }
     ensures work { OnOk result (pair_work bank.now work.new.items ≤ pair_work bank.now work.old.items + 3 * types_size (tys (map (λ t. type_tree bank.now t.0) ones.now))) }
     ensures same { OnOk result ((K : ℕ → Option ℕ) (a : Nodes) → IsSamePair K bank.now a (Parts ones.entry twos.entry) → AreSamePairs K bank.now a work.old.items → AreSamePairs K bank.now a work.new.items) }
+    ensures leads { OnOk result ((K : ℕ → Option ℕ) (a : Nodes) → Leads K bank.now a (pair_weighs bank.now (Parts ones.entry twos.entry)) (same_pair K bank.now a (Parts ones.entry twos.entry)) work.old.items work.new.items) }
 {
     if let Some((one, more)) = ones.split_first()
         && let Some((two, others)) = twos.split_first()
@@ -158,7 +162,7 @@ impl<'m, 'a> Edge<'m, 'a> {
 
     // Whether two types are one, kinds by their names. What is shared is compared once.
     fn is_type(&self, below: TypeId, above: TypeId) -> Result<bool, Memory>
-        ensures { IfOk result (λ same. same ≡ false → same_type (kinds_at self.now) (type_tree self.now.below.now.object.now.bank below.0) (type_tree self.now.above.now.object.now.bank above.0) ≡ false) }
+        ensures { IfOk result (λ same. same ≡ same_type (kinds_at self.now) (type_tree self.now.below.now.object.now.bank below.0) (type_tree self.now.above.now.object.now.bank above.0)) }
     {
         let bank = &self.below.object.bank;
         let other = &self.above.object.bank;
@@ -185,7 +189,8 @@ impl<'m, 'a> Edge<'m, 'a> {
 
     // Whether the copy above has an exported kind, with its count of arguments.
     fn has_kind(&self, kind: &ObjectKind) -> bool
-        ensures { result ≡ false → arity_of self.now.above.now.object.now.kinds.items kind.now.name.items ≢ Some kind.now.arity }
+        ensures other { result ≡ false → arity_of self.now.above.now.object.now.kinds.items kind.now.name.items ≢ Some kind.now.arity }
+        ensures same { result ≡ true → arity_of self.now.above.now.object.now.kinds.items kind.now.name.items ≡ Some kind.now.arity }
     {
         let Some(place) = self.above.kind(kind.name.as_slice()) else {
             return false;
@@ -198,7 +203,9 @@ impl<'m, 'a> Edge<'m, 'a> {
 
     // The place of the first exported kind that the copy above has not, or with another count of arguments.
     fn kind_that_differs(&self) -> Option<usize>
-        ensures { IfSome result (IsOtherKind self.now.below.now.object.now self.now.above.now.object.now) }
+        ensures other { IfSome result (IsOtherKind self.now.below.now.object.now self.now.above.now.object.now) }
+        ensures first { IfSome result (λ i. (j : ℕ) → j < i → IsOtherKind self.now.below.now.object.now self.now.above.now.object.now j → ⊥) }
+        ensures none { result ≡ None → HasKinds self.now.below.now.object.now self.now.above.now.object.now }
     {
         let kinds = self.below.object.kinds.as_slice();
         for at in 0..kinds.len() {
@@ -212,7 +219,8 @@ impl<'m, 'a> Edge<'m, 'a> {
 
     // Whether the copy above has an exported constant, with its type.
     fn has_constant(&self, constant: &ObjectConstant) -> Result<bool, Memory>
-        ensures { IfOk result (λ has. has ≡ false → IsOtherAbove self.now.below.now.object.now self.now.above.now.object.now constant.now (constant_of self.now.above.now.object.now.constants.items constant.now.name.items)) }
+        ensures other { IfOk result (λ has. has ≡ false → IsOtherAbove self.now.below.now.object.now self.now.above.now.object.now constant.now (constant_of self.now.above.now.object.now.constants.items constant.now.name.items)) }
+        ensures same { IfOk result (λ has. has ≡ true → IsOtherAbove self.now.below.now.object.now self.now.above.now.object.now constant.now (constant_of self.now.above.now.object.now.constants.items constant.now.name.items) → ⊥) }
     {
         let Some(place) = self.above.constant(constant.name.as_slice()) else {
             return Ok(false);
@@ -228,7 +236,9 @@ impl<'m, 'a> Edge<'m, 'a> {
 
     // The place of the first exported constant that the copy above has not, or with another type.
     fn constant_that_differs(&self) -> Result<Option<usize>, Memory>
-        ensures { IfOk result (λ place. IfSome place (IsOtherConstant self.now.below.now.object.now self.now.above.now.object.now)) }
+        ensures other { IfOk result (λ place. IfSome place (IsOtherConstant self.now.below.now.object.now self.now.above.now.object.now)) }
+        ensures first { IfOk result (λ place. IfSome place (λ i. (j : ℕ) → j < i → IsOtherConstant self.now.below.now.object.now self.now.above.now.object.now j → ⊥)) }
+        ensures none { IfOk result (λ place. place ≡ None → (j : ℕ) → IsOtherConstant self.now.below.now.object.now self.now.above.now.object.now j → ⊥) }
     {
         let constants = self.below.object.constants.as_slice();
         for at in 0..constants.len() {
@@ -247,7 +257,8 @@ pub(crate) fn first_that_differs(
     below: &Member<'_>,
     above: &Member<'_>,
 ) -> Result<Option<Part>, Memory>
-    ensures { IfOk result (λ part. IfSome part (IsOtherPart below.now.object.now above.now.object.now)) }
+    ensures other { IfOk result (λ part. IfSome part (IsOtherPart below.now.object.now above.now.object.now)) }
+    ensures same { IfOk result (λ part. part ≡ None → IsSameAbove below.now.object.now above.now.object.now) }
 {
     let edge = Edge {
         alloc,
@@ -271,7 +282,9 @@ pub(crate) struct Compared {
 }
 
 impl Compared {
-    pub(crate) fn new(alloc: Global) -> Compared {
+    pub(crate) fn new(alloc: Global) -> Compared
+        ensures { (members : List Member) → AreCompared members (contains pair_eq result.same) }
+    {
         Compared {
             alloc,
             same: IndexSet::new(alloc),
@@ -287,7 +300,10 @@ impl Compared {
     ) -> Result<(), LinkRefusal>
         requires below { below < length members.now }
         requires above { above < length members.now }
-        ensures { IfErr result (IsOtherMember members.now below above) }
+        requires compared { AreCompared members.now (contains pair_eq self.old.same) }
+        ensures same { OnOk result (AreSameMembers members.now (below, above)) }
+        ensures compared { OnOk result (AreCompared members.now (contains pair_eq self.new.same)) }
+        ensures refused { IfErr result (IsOtherMember members.now below above) }
     {
         let pair = (below, above);
         if self.same.contains(&pair) {

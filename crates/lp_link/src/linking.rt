@@ -5,8 +5,8 @@ ghost use Rattle.lp_copies.specs.Trees.{lists_in};
 ghost use Rattle.lp_link.specs.declared.fault.LinkRefusal.TheVariants as refusal;
 ghost use Rattle.lp_link.specs.Ends.{hidden_kinds, hidden_constants, kind_counts, constant_counts, total};
 ghost use Rattle.lp_link.specs.Uses.{uses_of};
-ghost use Rattle.lp_link.specs.Refusals.{HasManyCopies, HasManyRecords, IsLinkRefusal};
-ghost use Rattle.lp_link.specs.inner.Members.{IsCompareRefusal, IsCopiesRefusal};
+ghost use Rattle.lp_link.specs.Refusals.{CanBeLinked, HasFewCopies, HasManyCopies, HasManyRecords, IsLinkRefusal};
+ghost use Rattle.lp_link.specs.inner.Members.{AreAllCompared, IsCompareRefusal, IsCopiesRefusal};
 
 use crate::differ::Compared;
 use crate::fault::LinkRefusal;
@@ -139,7 +139,8 @@ fn compare(
     requires root { root < length uses.now.items }
     requires members { length members.now ≡ length uses.now.items }
     requires within { All (λ out. All (λ m. m < length uses.now.items) out) (lists_in uses.now.items) }
-    ensures { IfErr result (IsCompareRefusal members.now (lists_in uses.now.items) root) }
+    ensures same { OnOk result (AreAllCompared members.now (lists_in uses.now.items) root) }
+    ensures refused { IfErr result (IsCompareRefusal members.now (lists_in uses.now.items) root) }
 {
     let mut compared = Compared::new(alloc);
     let mut around = Vec::new(alloc);
@@ -150,9 +151,7 @@ fn compare(
             Turn::Entered(at) => around.push(at)?,
             Turn::Left(at) => {
                 let _copy = around.pop();
-                if let Some(above) = around.last().copied()
-                    && above < members.len()
-                {
+                if let Some(above) = around.last().copied() {
                     compared.compare(members, at, above)?;
                 }
             }
@@ -330,6 +329,7 @@ fn make(
 /// `Limit(Copies)` where there are more than 4,096 copies.
 pub fn check_copies(alloc: Global, objects: &[Object], root: u32) -> Result<(), LinkRefusal>
     requires root { root < length objects.now }
+    ensures few { OnOk result (HasFewCopies objects.now root) }
     ensures refused { IfErr result (λ e. (e ≡ refusal.Memory) ⊎ ((e ≡ refusal.Limit limit.Copies) × HasManyCopies objects.now root)) }
 {
     let uses = uses_of(alloc, objects)?;
@@ -352,6 +352,7 @@ fn plan_of<'a>(alloc: Global, objects: &'a [Object], root: usize) -> Result<Plan
     ensures uses { IfOk result (λ p. lists_in p.uses.items ≡ uses_of objects.now) }
     ensures within { IfOk result (λ p. All (λ out. All (λ m. m < length p.uses.items) out) (lists_in p.uses.items)) }
     ensures few { IfOk result (λ p. All (λ m. length m.object.now.code.records.items ≤ 65535) p.members.items) }
+    ensures linked { OnOk result (CanBeLinked objects.now root) }
     ensures refused { IfErr result (IsLinkRefusal objects.now root) }
 {
     let uses = uses_of(alloc, objects)?;
@@ -380,6 +381,7 @@ fn plan_of<'a>(alloc: Global, objects: &'a [Object], root: usize) -> Result<Plan
 pub fn link(alloc: Global, objects: &[Object], root: u32) -> Result<Image, LinkRefusal>
     requires root { root < length objects.now }
     ensures few { IfOk result (λ image. length image.code.records.items < 2 ^ 32) }
+    ensures linked { OnOk result (CanBeLinked objects.now root) }
     ensures refused { IfErr result (IsLinkRefusal objects.now root) }
 {
     let Plan {

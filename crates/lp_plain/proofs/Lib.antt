@@ -15,3 +15,7 @@ pub mod WrittenTerms
 pub mod Looks
 pub mod OpenGoals
 pub mod OpenNodes
+pub mod Collects
+pub mod Sightings
+pub mod Measuring
+pub mod FoundGoals

@@ -1,130 +1,131 @@
--- A look that marks nodes misses none: where a marked node passes, a smaller one that is left does.
+-- A look that marks nodes misses none: where a marked node passes, a lighter one that is left does.
 use Rattle.std.proofs.Common.{◌≡◌, ℕ, ◌+◌, ◌<◌, ◌≤◌, List, [], ◌∷◌, ◌++◌, map, inl, inr, refl, sym, ap, ◌∙◌, subst, arith, append_assoc, Bool, true, false, not, true≢false}
-use Rattle.std.specs.Prelude.{◌⊎◌, ◌||◌, All, nat_eq, if◌then◌else◌}
+use Rattle.std.specs.Prelude.{◌⊎◌, ◌||◌, nat_eq, if◌then◌else◌}
 use Rattle.std.specs.List.{list_any}
 use Rattle.std.proofs.lemmas.List.{map-append}
-use Rattle.std.proofs.lemmas.List.Elements.{All-head, All-tail}
 use Rattle.std.proofs.lemmas.Bool.{or_left, or_right, false_from_ne_true, cases_eq, ne_eqb}
 use Rattle.lp_lemmas.specs.Each.{AnyOf}
 use Rattle.lp_lemmas.proofs.Each.{any_append, any_front, any_back}
 use Rattle.lp_plain.specs.inner.Looking.{weight_of_all, AreParts, SomeOf, SomeBelow, IsClean, Leads}
 
-pub some_true : (P : ℕ → Bool) (is : List ℕ) → SomeOf P is → list_any P is ≡ true
+pub some_true : {N : Type 0} (P : N → Bool) (ns : List N) → SomeOf P ns → list_any P ns ≡ true
 some_true P [] h = absurd h
-some_true P (i ∷ is) (inl h) = or_left (P i) (list_any P is) h
-some_true P (i ∷ is) (inr h) = or_right (P i) (list_any P is) (some_true P is h)
+some_true P (n ∷ ns) (inl h) = or_left (P n) (list_any P ns) h
+some_true P (n ∷ ns) (inr h) = or_right (P n) (list_any P ns) (some_true P ns h)
 
-pub true_some : (P : ℕ → Bool) (is : List ℕ) → list_any P is ≡ true → SomeOf P is
+pub true_some : {N : Type 0} (P : N → Bool) (ns : List N) → list_any P ns ≡ true → SomeOf P ns
 true_some P [] e = absurd (true≢false (sym e))
-true_some P (i ∷ is) e = go (P i) refl e (true_some P is)
+true_some {N} P (n ∷ ns) e = go (P n) refl e (true_some P ns)
   where
-    go : (b : Bool) → P i ≡ b → (b || list_any P is) ≡ true → (list_any P is ≡ true → SomeOf P is) → SomeOf P (i ∷ is)
+    go : (b : Bool) → P n ≡ b → (b || list_any P ns) ≡ true → (list_any P ns ≡ true → SomeOf P ns) → SomeOf P (n ∷ ns)
     go true q e h = inl q
     go false q e h = inr (h e)
 
-pub none_false : (P : ℕ → Bool) (is : List ℕ) → (SomeOf P is → ⊥) → list_any P is ≡ false
-none_false P is h = false_from_ne_true (list_any P is) (λ e. h (true_some P is e))
+pub none_false : {N : Type 0} (P : N → Bool) (ns : List N) → (SomeOf P ns → ⊥) → list_any P ns ≡ false
+none_false P ns h = false_from_ne_true (list_any P ns) (λ e. h (true_some P ns e))
 
-more_below : (P : ℕ → Bool) (n m : ℕ) (is : List ℕ) → n ≤ m → SomeBelow P n is → SomeBelow P m is
-more_below P n m [] l h = h
-more_below P n m (i ∷ is) l (inl h) = inl (let s = h.0 in omega (arith, s, l), h.1)
-more_below P n m (i ∷ is) l (inr h) = inr (more_below P n m is l h)
+more_below : {N : Type 0} (P : N → Bool) (w : N → ℕ) (m k : ℕ) (ns : List N) → m ≤ k → SomeBelow P w m ns → SomeBelow P w k ns
+more_below P w m k [] l h = h
+more_below P w m k (n ∷ ns) l (inl h) = inl (let s = h.0 in omega (arith, s, l), h.1)
+more_below P w m k (n ∷ ns) l (inr h) = inr (more_below P w m k ns l h)
 
-without_bound : (P : ℕ → Bool) (n : ℕ) (is : List ℕ) → SomeBelow P n is → SomeOf P is
-without_bound P n [] h = h
-without_bound P n (i ∷ is) (inl h) = inl h.1
-without_bound P n (i ∷ is) (inr h) = inr (without_bound P n is h)
+without_bound : {N : Type 0} (P : N → Bool) (w : N → ℕ) (m : ℕ) (ns : List N) → SomeBelow P w m ns → SomeOf P ns
+without_bound P w m [] h = h
+without_bound P w m (n ∷ ns) (inl h) = inl h.1
+without_bound P w m (n ∷ ns) (inr h) = inr (without_bound P w m ns h)
 
-parts_below : (P : ℕ → Bool) (n : ℕ) (is : List ℕ) → All (λ i. i < n) is → SomeOf P is → SomeBelow P n is
-parts_below P n [] a h = h
-parts_below P n (i ∷ is) a (inl h) = inl (All-head (λ i. i < n) i is a, h)
-parts_below P n (i ∷ is) a (inr h) = inr (parts_below P n is (All-tail (λ i. i < n) i is a) h)
+parts_below : {N : Type 0} (P : N → Bool) (w : N → ℕ) (m : ℕ) (ns : List N) → weight_of_all w ns < m → SomeOf P ns → SomeBelow P w m ns
+parts_below P w m [] l h = h
+parts_below P w m (n ∷ ns) l (inl h) = inl (omega (arith, l), h)
+parts_below P w m (n ∷ ns) l (inr h) = inr (parts_below P w m ns (omega (arith, l)) h)
 
-weight_append : (w : ℕ → ℕ) (is js : List ℕ) → weight_of_all w (is ++ js) ≡ weight_of_all w is + weight_of_all w js
-weight_append w [] js = omega arith
-weight_append w (i ∷ is) js = let e = weight_append w is js in omega (arith, e)
+pub weight_append : {N : Type 0} (w : N → ℕ) (ns ms : List N) → weight_of_all w (ns ++ ms) ≡ weight_of_all w ns + weight_of_all w ms
+weight_append w [] ms = omega arith
+weight_append w (n ∷ ns) ms = let e = weight_append w ns ms in omega (arith, e)
 
-pub marked : (node i : ℕ) (seen now : ℕ → Bool) → ((i : ℕ) → now i ≡ (if nat_eq node i then true else seen i)) → now i ≡ true → (i ≡ node) ⊎ (seen i ≡ true)
-marked node i seen now e h = elim (cases_eq node i) [
+pub marked : (node : ℕ) (seen now : ℕ → Bool) → ((i : ℕ) → now i ≡ (if nat_eq node i then true else seen i)) → (i : ℕ) → now i ≡ true → (i ≡ node) ⊎ (seen i ≡ true)
+marked node seen now e i h = elim (cases_eq node i) [
   | inl q ↦ inl (sym q)
   | inr ne ↦ inr (sym (ap (λ b. if b then true else seen i) (ne_eqb node i ne)) ∙ sym (e i) ∙ h)
 ]
 
--- the numbers of a stack
-pub numbers_off : {T : Type 0} (f : T → ℕ) (all ts : List T) (t : T) → all ≡ ts ++ t ∷ [] → map f all ≡ map f ts ++ f t ∷ []
+-- the nodes of a stack
+pub numbers_off : {T N : Type 0} (f : T → N) (all ts : List T) (t : T) → all ≡ ts ++ t ∷ [] → map f all ≡ map f ts ++ f t ∷ []
 numbers_off f all ts t e = ap (map f) e ∙ map-append f ts (t ∷ [])
 
-pub lighter_off : {T : Type 0} (f : T → ℕ) (w : ℕ → ℕ) (all ts : List T) (t : T) → ((i : ℕ) → 0 < w i) → all ≡ ts ++ t ∷ [] → weight_of_all w (map f ts) < weight_of_all w (map f all)
+pub lighter_off : {T N : Type 0} (f : T → N) (w : N → ℕ) (all ts : List T) (t : T) → ((n : N) → 0 < w n) → all ≡ ts ++ t ∷ [] → weight_of_all w (map f ts) < weight_of_all w (map f all)
 lighter_off f w all ts t p e =
     let q = ap (weight_of_all w) (numbers_off f all ts t e) ∙ weight_append w (map f ts) (f t ∷ []) in
     let s = p (f t) in
     let z : weight_of_all w (f t ∷ []) ≡ w (f t) + 0 = refl in
     omega (arith, q, s, z)
 
-pub lighter_parts : {T : Type 0} (f : T → ℕ) (P : ℕ → Bool) (w : ℕ → ℕ) (all ts new ps : List T) (t : T) → all ≡ ts ++ t ∷ [] → new ≡ ts ++ ps → AreParts P w (f t) (map f ps) →
+pub lighter_parts : {T N : Type 0} (f : T → N) (w : N → ℕ) (all ts new ps : List T) (t : T) → all ≡ ts ++ t ∷ [] → new ≡ ts ++ ps → weight_of_all w (map f ps) < w (f t) →
     weight_of_all w (map f new) < weight_of_all w (map f all)
-lighter_parts f P w all ts new ps t e d k =
+lighter_parts f w all ts new ps t e d s =
     let q = ap (weight_of_all w) (numbers_off f all ts t e) ∙ weight_append w (map f ts) (f t ∷ []) in
     let r = ap (weight_of_all w) (ap (map f) d ∙ map-append f ts ps) ∙ weight_append w (map f ts) (map f ps) in
-    let s = k.lighter in
     let z : weight_of_all w (f t ∷ []) ≡ w (f t) + 0 = refl in
     omega (arith, q, r, s, z)
 
-pub begun : (P : ℕ → Bool) (given left : List ℕ) (seen : ℕ → Bool) → left ≡ given → IsClean P seen → Leads P given left seen
-begun P given left seen e c = record {
+pub begun : {N : Type 0} (P : N → Bool) (w : N → ℕ) (given left : List N) (seen : N → Bool) → left ≡ given → IsClean P seen → Leads P w given left seen
+begun P w given left seen e c = record {
   honest = λ h. subst (SomeOf P) e h;
   wanted = λ h. subst (SomeOf P) (sym e) h;
-  met = λ i s h. absurd (c i s h);
+  met = λ n s h. absurd (c n s h);
 }
 
-module _ (P : ℕ → Bool) (given all ts : List ℕ) (t : ℕ) (seen : ℕ → Bool) (off : all ≡ ts ++ t ∷ []) (leads : Leads P given all seen) where
-  off_of : (Q : ℕ → Type 0) → AnyOf Q all → AnyOf Q ts ⊎ Q t
+module _ {N : Type 0} (P : N → Bool) (w : N → ℕ) (given all ts : List N) (t : N) (seen : N → Bool) (off : all ≡ ts ++ t ∷ []) (leads : Leads P w given all seen) where
+  off_of : (Q : N → Type 0) → AnyOf Q all → AnyOf Q ts ⊎ Q t
   off_of Q h = elim (any_append Q ts (t ∷ []) (subst (AnyOf Q) off h)) [ inl a ↦ inl a | inr b ↦ elim b [ inl c ↦ inr c | inr n ↦ absurd n ] ]
 
-  back : (Q : ℕ → Type 0) → AnyOf Q ts → AnyOf Q all
+  back : (Q : N → Type 0) → AnyOf Q ts → AnyOf Q all
   back Q h = subst (AnyOf Q) (sym off) (any_front Q ts (t ∷ []) h)
 
-  last : (Q : ℕ → Type 0) → Q t → AnyOf Q all
+  last : (Q : N → Type 0) → Q t → AnyOf Q all
   last Q h = subst (AnyOf Q) (sym off) (any_back Q ts (t ∷ []) (inl h))
 
-  -- a marked node that passes lets a smaller one pass that is left
-  below_marked : seen t ≡ true → P t ≡ true → SomeBelow P t ts
-  below_marked s h = elim (off_of (λ j. (j < t) × (P j ≡ true)) (leads.met t s h)) [ inl a ↦ a | inr l ↦ (let q = l.0 in absurd (omega (arith, q))) ]
+  -- a marked node that passes lets a lighter one pass that is left
+  below_marked : seen t ≡ true → P t ≡ true → SomeBelow P w (w t) ts
+  below_marked s h = elim (off_of (λ n. (w n < w t) × (P n ≡ true)) (leads.met t s h)) [ inl a ↦ a | inr l ↦ (let q = l.0 in absurd (omega (arith, q))) ]
 
-  pub passed : (now : ℕ → Bool) → ((i : ℕ) → now i ≡ (if nat_eq t i then true else seen i)) → seen t ≡ true → Leads P given ts now
-  passed now m s = record {
-    honest = λ h. leads.honest (back (λ i. P i ≡ true) h);
-    wanted = λ h. elim (off_of (λ i. P i ≡ true) (leads.wanted h)) [ inl a ↦ a | inr p ↦ without_bound P t ts (below_marked s p) ];
-    met = λ i n h. elim (off_of (λ j. (j < i) × (P j ≡ true)) (leads.met i (again i n) h)) [ inl a ↦ a | inr p ↦ more_below P t i ts (let q = p.0 in omega (arith, q)) (below_marked s p.1) ];
+  pub passed : (now : N → Bool) → ((n : N) → now n ≡ true → (n ≡ t) ⊎ (seen n ≡ true)) → seen t ≡ true → Leads P w given ts now
+  passed now marks s = record {
+    honest = λ h. leads.honest (back (λ n. P n ≡ true) h);
+    wanted = λ h. elim (off_of (λ n. P n ≡ true) (leads.wanted h)) [ inl a ↦ a | inr p ↦ without_bound P w (w t) ts (below_marked s p) ];
+    met = λ n m h. elim (off_of (λ k. (w k < w n) × (P k ≡ true)) (leads.met n (again n m) h)) [ inl a ↦ a | inr p ↦ more_below P w (w t) (w n) ts (let q = p.0 in omega (arith, q)) (below_marked s p.1) ];
   }
     where
-      again : (i : ℕ) → now i ≡ true → seen i ≡ true
-      again i n = elim (marked t i seen now m n) [ inl q ↦ subst (λ j. seen j ≡ true) (sym q) s | inr r ↦ r ]
+      again : (n : N) → now n ≡ true → seen n ≡ true
+      again n m = elim (marks n m) [ inl q ↦ subst (λ k. seen k ≡ true) (sym q) s | inr r ↦ r ]
 
-  pub opened : (w : ℕ → ℕ) (ps new : List ℕ) (now : ℕ → Bool) → new ≡ ts ++ ps → AreParts P w t ps → ((i : ℕ) → now i ≡ (if nat_eq t i then true else seen i)) → Leads P given new now
-  opened w ps new now d k m = record {
-    honest = λ h. elim (any_append (λ i. P i ≡ true) ts ps (subst (SomeOf P) d h)) [ inl a ↦ leads.honest (back (λ i. P i ≡ true) a) | inr b ↦ leads.honest (last (λ i. P i ≡ true) (k.passes ∙ some_true P ps b)) ];
-    wanted = λ h. subst (SomeOf P) (sym d) (elim (off_of (λ i. P i ≡ true) (leads.wanted h)) [ inl a ↦ any_front (λ i. P i ≡ true) ts ps a | inr p ↦ any_back (λ i. P i ≡ true) ts ps (true_some P ps (sym k.passes ∙ p)) ]);
-    met = λ i n h. elim (marked t i seen now m n) [ inl q ↦ subst (λ j. SomeBelow P j new) (sym q) (of_it (subst (λ j. P j ≡ true) q h)) | inr s ↦ of_others i s h ];
+  pub opened : (ps new : List N) (now : N → Bool) → new ≡ ts ++ ps → AreParts P w t ps → ((n : N) → now n ≡ true → (n ≡ t) ⊎ (seen n ≡ true)) → Leads P w given new now
+  opened ps new now d k marks = record {
+    honest = λ h. elim (any_append (λ n. P n ≡ true) ts ps (subst (SomeOf P) d h)) [ inl a ↦ leads.honest (back (λ n. P n ≡ true) a) | inr b ↦ leads.honest (last (λ n. P n ≡ true) (k.passes ∙ some_true P ps b)) ];
+    wanted = λ h. subst (SomeOf P) (sym d) (elim (off_of (λ n. P n ≡ true) (leads.wanted h)) [ inl a ↦ any_front (λ n. P n ≡ true) ts ps a | inr p ↦ any_back (λ n. P n ≡ true) ts ps (true_some P ps (sym k.passes ∙ p)) ]);
+    met = λ n m h. elim (marks n m) [ inl q ↦ subst (λ j. SomeBelow P w (w j) new) (sym q) (of_it (subst (λ j. P j ≡ true) q h)) | inr s ↦ of_others n s h ];
   }
     where
-      of_it : P t ≡ true → SomeBelow P t new
-      of_it p = subst (SomeBelow P t) (sym d) (any_back (λ i. (i < t) × (P i ≡ true)) ts ps (parts_below P t ps k.smaller (true_some P ps (sym k.passes ∙ p))))
+      of_it : P t ≡ true → SomeBelow P w (w t) new
+      of_it p = subst (SomeBelow P w (w t)) (sym d) (any_back (λ n. (w n < w t) × (P n ≡ true)) ts ps (parts_below P w (w t) ps k.lighter (true_some P ps (sym k.passes ∙ p))))
 
-      of_others : (i : ℕ) → seen i ≡ true → P i ≡ true → SomeBelow P i new
-      of_others i s h = elim (off_of (λ j. (j < i) × (P j ≡ true)) (leads.met i s h)) [
-        | inl a ↦ subst (SomeBelow P i) (sym d) (any_front (λ j. (j < i) × (P j ≡ true)) ts ps a)
-        | inr p ↦ more_below P t i new (let q = p.0 in omega (arith, q)) (of_it p.1)
+      of_others : (n : N) → seen n ≡ true → P n ≡ true → SomeBelow P w (w n) new
+      of_others n s h = elim (off_of (λ j. (w j < w n) × (P j ≡ true)) (leads.met n s h)) [
+        | inl a ↦ subst (SomeBelow P w (w n)) (sym d) (any_front (λ j. (w j < w n) × (P j ≡ true)) ts ps a)
+        | inr p ↦ more_below P w (w t) (w n) new (let q = p.0 in omega (arith, q)) (of_it p.1)
       ]
 
+  pub given_passes : P t ≡ true → SomeOf P given
+  given_passes h = leads.honest (last (λ n. P n ≡ true) h)
+
   pub found : P t ≡ true → true ≡ list_any P given
-  found h = sym (some_true P given (leads.honest (last (λ i. P i ≡ true) h)))
+  found h = sym (some_true P given (given_passes h))
 
-pub ended : (P : ℕ → Bool) (given left : List ℕ) (seen : ℕ → Bool) → left ≡ [] → Leads P given left seen → false ≡ list_any P given
-ended P given left seen e k = sym (none_false P given (λ h. subst (SomeOf P) e (k.wanted h)))
+pub ended : {N : Type 0} (P : N → Bool) (w : N → ℕ) (given left : List N) (seen : N → Bool) → left ≡ [] → Leads P w given left seen → false ≡ list_any P given
+ended P w given left seen e k = sym (none_false P given (λ h. subst (SomeOf P) e (k.wanted h)))
 
-pub ended_clean : (P : ℕ → Bool) (given left : List ℕ) (seen : ℕ → Bool) → left ≡ [] → Leads P given left seen → IsClean P seen
-ended_clean P given left seen e k = λ i s h. subst (SomeBelow P i) e (k.met i s h)
+pub ended_clean : {N : Type 0} (P : N → Bool) (w : N → ℕ) (given left : List N) (seen : N → Bool) → left ≡ [] → Leads P w given left seen → IsClean P seen
+ended_clean P w given left seen e k = λ n s h. subst (SomeBelow P w (w n)) e (k.met n s h)
 
 pub was_marked : (seen added : Bool) → added ≡ not seen → added ≡ false → seen ≡ true
 was_marked true added e f = refl

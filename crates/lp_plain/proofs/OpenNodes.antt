@@ -1,14 +1,13 @@
 -- Whether a variable stands in a node, by its parts.
 use Rattle.std.proofs.Common.{◌≡◌, ℕ, ◌+◌, ◌<◌, ◌≤◌, List, [], ◌∷◌, map, refl, sym, ap, ◌∙◌, arith, Bool, true, false}
-use Rattle.std.specs.Prelude.{◌||◌, All, ◌≢◌}
+use Rattle.std.specs.Prelude.{◌||◌, ◌≢◌}
 use Rattle.std.specs.List.{list_any}
-use Rattle.std.proofs.lemmas.List.Elements.{All-nil, All-cons}
 use Rattle.lp_lemmas.proofs.Booleans.{or_assoc}
 use Rattle.lp_calculus.specs.Types.{Ty, Tys, var, param, con, arrow, types, tys}
 use Rattle.lp_calculus.specs.Term.{Term, index, atom, abs, app, apply, Atom, constant, integer, text, eigen, logic}
 use Rattle.lp_calculus.specs.Term as term
 use Rattle.lp_term.specs.Nodes.{Nodes, type_tree, tree}
-use Rattle.lp_term.specs.inner.Walking.{type_size, types_size, term_size}
+use Rattle.lp_term.specs.inner.Walking.{type_size, types_size, list_size, term_size}
 use Rattle.lp_model.specs.Flat.{type_variables}
 use Rattle.lp_model.specs.Search.{has_type_variable, has_variable}
 use Rattle.lp_plain.specs.inner.Looking.{weight_of_all, open_types, open_terms, type_weight, term_weight, AreParts}
@@ -79,38 +78,44 @@ weight_more τ h (i ∷ is) n = let l = weight_applied τ (app h (τ i)) is in o
 -- the parts of nodes
 
 pub leaf_type : (b : Nodes) (i : ℕ) (T : Ty) → T ≡ type_tree b i → has_type_variable T ≡ false → AreParts (open_types b) (type_weight b) i []
-leaf_type b i T e h = record { smaller = All-nil (λ j. j < i); lighter = type_weighs (type_tree b i); passes = ap has_type_variable (sym e) ∙ h }
+leaf_type b i T e h = record { lighter = type_weighs (type_tree b i); passes = ap has_type_variable (sym e) ∙ h }
 
-pub con_parts : (b : Nodes) (i c : ℕ) (is : List ℕ) → con c (tys (map (type_tree b) is)) ≡ type_tree b i → All (λ j. j < i) is → AreParts (open_types b) (type_weight b) i is
-con_parts b i c is e l = record {
-  smaller = l;
-  lighter = (let q = ap type_size (sym e) in let w = weight_types (type_tree b) is in omega (arith, q, w));
-  passes = ap has_type_variable (sym e) ∙ has_parts c (type_tree b) is;
-}
+pub con_lighter : (b : Nodes) (i c : ℕ) (is : List ℕ) → con c (tys (map (type_tree b) is)) ≡ type_tree b i → weight_of_all (type_weight b) is < type_weight b i
+con_lighter b i c is e = let q = ap type_size (sym e) in let w = weight_types (type_tree b) is in omega (arith, q, w)
 
-pub arrow_parts : (b : Nodes) (i f t : ℕ) → arrow (type_tree b f) (type_tree b t) ≡ type_tree b i → (f < i) × (t < i) → AreParts (open_types b) (type_weight b) i (f ∷ t ∷ [])
-arrow_parts b i f t e l = record {
-  smaller = All-cons (λ j. j < i) f (t ∷ []) l.0 (All-cons (λ j. j < i) t [] l.1 (All-nil (λ j. j < i)));
-  lighter = (let q = ap type_size (sym e) in omega (arith, q));
+pub con_parts : (b : Nodes) (i c : ℕ) (is : List ℕ) → con c (tys (map (type_tree b) is)) ≡ type_tree b i → AreParts (open_types b) (type_weight b) i is
+con_parts b i c is e = record { lighter = con_lighter b i c is e; passes = ap has_type_variable (sym e) ∙ has_parts c (type_tree b) is }
+
+pub arrow_lighter : (b : Nodes) (i f t : ℕ) → arrow (type_tree b f) (type_tree b t) ≡ type_tree b i → weight_of_all (type_weight b) (f ∷ t ∷ []) < type_weight b i
+arrow_lighter b i f t e = let q = ap type_size (sym e) in omega (arith, q)
+
+pub arrow_parts : (b : Nodes) (i f t : ℕ) → arrow (type_tree b f) (type_tree b t) ≡ type_tree b i → AreParts (open_types b) (type_weight b) i (f ∷ t ∷ [])
+arrow_parts b i f t e = record {
+  lighter = arrow_lighter b i f t e;
   passes = ap has_type_variable (sym e) ∙ has_sides (type_tree b f) (type_tree b t) ∙ ap (λ x. has_type_variable (type_tree b f) || x) (sym (or_none (has_type_variable (type_tree b t))));
 }
 
 pub leaf_term : (b : Nodes) (i : ℕ) (t : Term) → t ≡ tree b i → has_variable t ≡ false → AreParts (open_terms b) (term_weight b) i []
-leaf_term b i t e h = record { smaller = All-nil (λ j. j < i); lighter = term_weighs (tree b i); passes = ap has_variable (sym e) ∙ h }
+leaf_term b i t e h = record { lighter = term_weighs (tree b i); passes = ap has_variable (sym e) ∙ h }
 
 pub constant_open : (b : Nodes) (c : ℕ) (is : List ℕ) → has_variable (atom (constant c (map (type_tree b) is))) ≡ list_any (open_types b) is
 constant_open b c is = any_types (type_tree b) is
 
-pub abs_parts : (b : Nodes) (i n : ℕ) → abs (tree b n) ≡ tree b i → n < i → AreParts (open_terms b) (term_weight b) i (n ∷ [])
-abs_parts b i n e l = record {
-  smaller = All-cons (λ j. j < i) n [] l (All-nil (λ j. j < i));
-  lighter = (let q = ap term_size (sym e) in omega (arith, q));
-  passes = ap has_variable (sym e) ∙ sym (or_none (has_variable (tree b n)));
-}
+list_weighs : (θ : ℕ → Ty) (is : List ℕ) → list_size (map θ is) ≡ weight_of_all (λ i. type_size (θ i)) is
+list_weighs θ [] = refl
+list_weighs θ (i ∷ is) = ap (λ n. type_size (θ i) + n) (list_weighs θ is)
 
-pub app_parts : (b : Nodes) (i h : ℕ) (is : List ℕ) → apply (tree b h) (map (tree b) is) ≡ tree b i → (h < i) × All (λ j. j < i) is × (is ≢ []) → AreParts (open_terms b) (term_weight b) i (h ∷ is)
-app_parts b i h is e l = record {
-  smaller = All-cons (λ j. j < i) h is l.0 l.1;
-  lighter = (let q = ap term_size (sym e) in let w = weight_more (tree b) (tree b h) is l.2 in omega (arith, q, w));
-  passes = ap has_variable (sym e) ∙ has_applied (tree b) (tree b h) is;
-}
+pub constant_lighter : (b : Nodes) (i c : ℕ) (is : List ℕ) → atom (constant c (map (type_tree b) is)) ≡ tree b i → weight_of_all (type_weight b) is < term_weight b i
+constant_lighter b i c is e = let q = ap term_size (sym e) in let w = list_weighs (type_tree b) is in omega (arith, q, w)
+
+pub abs_lighter : (b : Nodes) (i n : ℕ) → abs (tree b n) ≡ tree b i → weight_of_all (term_weight b) (n ∷ []) < term_weight b i
+abs_lighter b i n e = let q = ap term_size (sym e) in omega (arith, q)
+
+pub abs_parts : (b : Nodes) (i n : ℕ) → abs (tree b n) ≡ tree b i → AreParts (open_terms b) (term_weight b) i (n ∷ [])
+abs_parts b i n e = record { lighter = abs_lighter b i n e; passes = ap has_variable (sym e) ∙ sym (or_none (has_variable (tree b n))) }
+
+pub app_lighter : (b : Nodes) (i h : ℕ) (is : List ℕ) → apply (tree b h) (map (tree b) is) ≡ tree b i → is ≢ [] → weight_of_all (term_weight b) (h ∷ is) < term_weight b i
+app_lighter b i h is e n = let q = ap term_size (sym e) in let w = weight_more (tree b) (tree b h) is n in omega (arith, q, w)
+
+pub app_parts : (b : Nodes) (i h : ℕ) (is : List ℕ) → apply (tree b h) (map (tree b) is) ≡ tree b i → is ≢ [] → AreParts (open_terms b) (term_weight b) i (h ∷ is)
+app_parts b i h is e n = record { lighter = app_lighter b i h is e n; passes = ap has_variable (sym e) ∙ has_applied (tree b) (tree b h) is }

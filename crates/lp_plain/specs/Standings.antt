@@ -1,11 +1,13 @@
 -- When a negated goal is open: a variable stands in the beta-normal form of what a variable that is written in it stands for, or a type variable in
--- what such a type variable stands for; the same of the clauses that are assumed at it.
-use Rattle.std.specs.Prelude.{◌≡◌, ℕ, ◌<◌, ◌⊎◌, Bool, true, false, if◌then◌else◌, List, length, All, Some, None, slice_get}
-use Rattle.lp_lemmas.specs.Each.{AnyOf}
+-- what such a type variable stands for; the same of the clauses that are assumed at it. Too deep is what has no such form within the limits.
+use Rattle.std.specs.Prelude.{◌≡◌, ℕ, suc, ◌<◌, ◌≤◌, ◌^◌, ◌⊎◌, nat_le, Bool, true, false, if◌then◌else◌, List, [], ◌∷◌, length, Some, None, IsSome, slice_get}
 use Rattle.lp_calculus.specs.Types.{Ty}
 use Rattle.lp_calculus.specs.Term.{Term}
+use Rattle.lp_calculus.specs.Convert.{leftmost_step, steps}
+use Rattle.lp_calculus.specs.Normal.{nodes}
 use Rattle.lp_term.specs.Nodes.{Nodes, tree}
 use Rattle.lp_term.specs.Frame.{IsBetaForm}
+use Rattle.lp_term.specs.Spine.{LooseBelow}
 use Rattle.lp_term.specs.declared.node.TermId.{TermId}
 use Rattle.lp_model.specs.Pair.{Closing, closed}
 use Rattle.lp_model.specs.Search.{has_type_variable, has_variable}
@@ -18,32 +20,41 @@ use Rattle.lp_plain.specs.declared.openness.Openness.TheVariants.{Closed, Open, 
 use Rattle.lp_plain.specs.declared.openness.Standing.{Standing}
 use Rattle.lp_plain.specs.declared.scope.Scopes.{Scopes}
 
+-- an index that is too large for a term that is to be reduced
+abbrev pub is_large : ℕ → Bool
+is_large n = nat_le (2 ^ 32) n
+
 -- whether a variable was found
 abbrev pub openness_by : Bool → Openness
 openness_by found = if found then Open else Closed
 
--- the term has a beta-normal form, within a million contractions, in which a variable stands or not
+-- the term has this beta-normal form, within a million contractions and a million nodes
+abbrev pub IsForm : Term → Term → Type 0
+IsForm t s = IsBetaForm 1000000 t s × (nodes s ≤ 1000000)
+
+-- leftmost reduction takes more than a million steps, or its end has more than a million nodes
+abbrev pub IsTooLarge : Term → Type 0
+IsTooLarge t = IsSome (steps leftmost_step (suc 1000000) t) ⊎ ((s : Term) × IsBetaForm 1000000 t s × (1000000 < nodes s))
+
+-- a variable stands in the beta-normal form or not; too deep where there is none within the limits, or where a loose index is 2^32 or more
 abbrev pub IsJudged : Openness → Term → Type 0
-IsJudged Closed t = (s : Term) × IsBetaForm 1000000 t s × (has_variable s ≡ false)
-IsJudged Open t = (s : Term) × IsBetaForm 1000000 t s × (has_variable s ≡ true)
-IsJudged Deep t = Unit {0}
+IsJudged Closed t = (s : Term) × IsForm t s × (has_variable s ≡ false)
+IsJudged Open t = (s : Term) × IsForm t s × (has_variable s ≡ true)
+IsJudged Deep t = IsTooLarge t ⊎ (LooseBelow (2 ^ 32) 0 t → ⊥)
 
 abbrev pub IsTypeJudged : Openness → Ty → Type 0
 IsTypeJudged Closed T = has_type_variable T ≡ false
 IsTypeJudged Open T = has_type_variable T ≡ true
-IsTypeJudged Deep T = Unit {0}
+IsTypeJudged Deep T = ⊥
 
--- closed where all are, open where one is
+-- the first one that is not closed decides
 abbrev pub OfAll : {A : Type 0} → (Openness → A → Type 0) → Openness → List A → Type 0
-OfAll J Closed xs = All (J Closed) xs
-OfAll J Open xs = AnyOf (J Open) xs
-OfAll J Deep xs = Unit {0}
+OfAll J o [] = o ≡ Closed
+OfAll J o (x ∷ xs) = ((o ≡ Closed → ⊥) × J o x) ⊎ (J Closed x × OfAll J o xs)
 
--- closed where both are, open where one is
+-- the first one does where it is not closed, else the second
 abbrev pub OfBoth : (Openness → Type 0) → (Openness → Type 0) → Openness → Type 0
-OfBoth J K Closed = J Closed × K Closed
-OfBoth J K Open = J Open ⊎ K Open
-OfBoth J K Deep = Unit {0}
+OfBoth J K o = ((o ≡ Closed → ⊥) × J o) ⊎ (J Closed × K o)
 
 -- what an index stands for
 abbrev pub OfIndex : Nodes → Closing → List TermId → Openness → ℕ → Type 0

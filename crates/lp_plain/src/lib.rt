@@ -13,6 +13,8 @@ mod attempt;
 mod atomic;
 // The clauses that may meet a goal.
 mod candidates;
+// Terms below binders.
+mod below;
 // What is left to try.
 mod choice;
 // A search, from one event to the next.

@@ -4,7 +4,7 @@ ghost use Rattle.lp_model.specs.declared.ending.Ending.{Ending};
 ghost use Rattle.lp_plain.specs.declared.choice.Untried.{Untried};
 ghost use Rattle.lp_plain.specs.declared.outcome.Turn.{Turn};
 ghost use Rattle.lp_plain.specs.Keeping.{HasOneMore};
-ghost use Rattle.lp_plain.specs.Negations.{denial, Takes};
+ghost use Rattle.lp_plain.specs.Negations.{denial, AreFound, Takes};
 
 use crate::choice::{Denial, Untried};
 use crate::frame::Place;
@@ -49,6 +49,7 @@ fn openness_at(machine: &mut Machine, free: usize, place: Place) -> Result<Openn
     ensures counts { machine.new.counts ≡ machine.old.counts }
     ensures choices { machine.new.choices ≡ machine.old.choices }
     ensures denied { machine.new.denied ≡ machine.old.denied }
+    ensures found { IfOk result (AreFound machine.old (record { free = free; values = place.values; older = place.standing })) }
 {
     let around = Around {
         bindings: &machine.bindings,
@@ -61,7 +62,8 @@ fn openness_at(machine: &mut Machine, free: usize, place: Place) -> Result<Openn
         values: place.values,
         older: place.standing,
     };
-    openness_of_goal(machine.alloc, &mut machine.bank, around, goals)
+    let openness = openness_of_goal(machine.alloc, &mut machine.bank, around, goals)?;
+    Ok(openness)
 }
 
 /// Takes a negated goal: one step. `free` is what is written in its goals.
@@ -73,7 +75,7 @@ pub(crate) fn take_not<W: Watch>(
     place: Place,
     behind: Option<usize>,
 ) -> Result<Turn, Memory>
-    ensures { IfOk result (λ turn. Takes turn machine.old machine.new behind) }
+    ensures { IfOk result (λ turn. Takes turn (record { free = free; values = place.values; older = place.standing }) machine.old machine.new behind) }
 {
     if !take_step(machine) {
         return Ok(Turn::Ended(Ending::Steps));

@@ -1,18 +1,22 @@
 // Whether a negated goal is open: whether a variable, or a type variable in a constant's types, stands in what the variables that are written
 // in it, or in the clauses that are assumed at it, stand for.
-ghost use Rattle.std.specs.Prelude.{◌≡◌, true, false, ℕ, List, ◌<◌, length, IfOk};
+ghost use Rattle.std.specs.Prelude.{◌≡◌, true, false, ℕ, List, ◌<◌, ◌^◌, length, IfOk};
+ghost use Rattle.std.specs.List.{list_any};
 ghost use Rattle.lp_calculus.specs.Types.{Ty};
+ghost use Rattle.lp_calculus.specs.Term.{Term};
 ghost use Rattle.lp_term.specs.Nodes.{Extends, tree};
+ghost use Rattle.lp_term.specs.Frame.{IsDeepBeta};
+ghost use Rattle.lp_term.specs.Spine.{LooseBelow};
 ghost use Rattle.lp_term.specs.declared.node.TermId.{TermId};
 ghost use Rattle.lp_model.specs.Pair.{Closing, closed};
 ghost use Rattle.lp_pattern.specs.Stripping.{IsShut};
 ghost use Rattle.lp_pattern.specs.Under.{AreTypes, IsReading};
 ghost use Rattle.lp_plain.specs.declared.openness.Openness.{Openness};
-ghost use Rattle.lp_plain.specs.Standings.{openness_by, IsJudged, IsTypeJudged, OfAll, OfIndex, OfFree, OfStanding};
+ghost use Rattle.lp_plain.specs.Standings.{is_large, openness_by, IsJudged, IsTypeJudged, OfAll, OfIndex, OfFree, OfStanding};
 ghost use Rattle.lp_plain.specs.Renewal.{new_number};
 ghost use Rattle.lp_plain.specs.Scopes.{IsScope};
 
-use crate::free::Free;
+use crate::free::{Free, free_in_term};
 use crate::instance::Values;
 use crate::scope::Scopes;
 use crate::table::Table;
@@ -23,6 +27,9 @@ use lp_base::{Memory, RUN_LIMIT};
 use lp_pattern::{Bindings, filled, filled_type};
 use lp_term::{Bank, TermId, TermRefusal, beta_normal, put_type_variable};
 use std::alloc::Global;
+
+// Reduction takes terms whose loose indices are below it.
+const MOST_LOOSE: u64 = 4_294_967_296;
 
 /// Goals that are negated, or clauses that are assumed: the number of what is written in them, what stands for it, and the clauses that were
 /// assumed before.
@@ -70,6 +77,40 @@ fn judged(found: bool) -> Openness
     }
 }
 
+fn has_large(numbers: &[u64]) -> bool
+    ensures { result ≡ list_any is_large numbers.now }
+{
+    'numbers: for number in numbers {
+        if *number >= MOST_LOOSE {
+            return true;
+        }
+    }
+    false
+}
+
+// Whether the term can be reduced: by what is known of its loose indices, else by a look at all of them.
+fn has_small_indices(alloc: Global, bank: &Bank, term: TermId) -> Result<bool, Memory>
+    ensures small { IfOk result (λ small. small ≡ true → LooseBelow (2 ^ 32) 0 (tree bank.now term.0)) }
+    ensures large { IfOk result (λ small. small ≡ false → LooseBelow (2 ^ 32) 0 (tree bank.now term.0) → ⊥) }
+{
+    if bank.is_known_below(term, MOST_LOOSE) {
+        return Ok(true);
+    }
+    let free = free_in_term(alloc, bank, term)?;
+    let large = has_large(free.variables.as_slice());
+    Ok(!large)
+}
+
+// A term that has no form within the limits.
+fn refused(refusal: TermRefusal) -> Result<Openness, Memory>
+    ensures { IfOk result (λ o. (t : Term) → IsDeepBeta 1000000 1000000 t refusal → IsJudged o t) }
+{
+    match refusal {
+        TermRefusal::Deep(_) => Ok(Openness::Deep),
+        TermRefusal::Memory => Err(Memory),
+    }
+}
+
 // By the beta-normal form of the value with all bindings put in.
 fn openness_of_term(
     alloc: Global,
@@ -81,7 +122,7 @@ fn openness_of_term(
     ensures judged { IfOk result (λ o. (c : Closing) → IsReading bank.old bindings.now c → IsShut c → IsJudged o (closed c (tree bank.old value.0))) }
 {
     let full = filled(alloc, bank, bindings, value)?;
-    if !bank.is_known_below(full, 4_294_967_296) {
+    if !has_small_indices(alloc, bank, full)? {
         return Ok(Openness::Deep);
     }
     match beta_normal(alloc, bank, full, RUN_LIMIT, RUN_LIMIT) {
@@ -89,8 +130,10 @@ fn openness_of_term(
             let found = has_variable(alloc, bank, normal)?;
             Ok(judged(found))
         }
-        Err(TermRefusal::Deep(_)) => Ok(Openness::Deep),
-        Err(TermRefusal::Memory) => Err(Memory),
+        Err(refusal) => {
+            let openness = refused(refusal)?;
+            Ok(openness)
+        }
     }
 }
 

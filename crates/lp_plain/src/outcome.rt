@@ -1,5 +1,6 @@
 // How the search goes on, and what is counted on its way.
 ghost use Rattle.std.specs.Prelude.{◌≡◌, ◌+◌, ◌≤◌, true, false};
+ghost use Rattle.lp_plain.specs.Keeping.{KeepsKnown};
 
 use crate::machine::Machine;
 use crate::unified::Unified;
@@ -41,6 +42,7 @@ pub(crate) fn take_step(machine: &mut Machine) -> bool
     ensures lost { machine.new.counts.lost ≡ machine.old.counts.lost }
     ensures choices { machine.new.choices ≡ machine.old.choices }
     ensures denied { machine.new.denied ≡ machine.old.denied }
+    ensures known { KeepsKnown machine.old machine.new }
 {
     if machine.counts.steps >= machine.counts.limit {
         return false;

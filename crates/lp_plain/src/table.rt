@@ -1,5 +1,7 @@
 // Flattened goals and clauses by number. A goal's parts are named by numbers of lists.
 ghost use Rattle.std.specs.Prelude.{◌≡◌, Some, slice_get, IfOk};
+ghost use Rattle.lp_model.specs.Flattened.{goal_of};
+ghost use Rattle.lp_plain.specs.Numbered.{IsNumbered};
 
 use crate::free::{Free, free_in_clauses, free_in_goals};
 use crate::head::{HeadPair, Key, first_key, head_args};
@@ -106,7 +108,9 @@ impl Table {
         }
     }
 
-    fn put_free(&mut self, free: Free) -> Result<usize, Memory> {
+    fn put_free(&mut self, free: Free) -> Result<usize, Memory>
+        ensures { IfOk result (λ number. slice_get self.new.frees.items number ≡ Some free) }
+    {
         let number = self.frees.len();
         self.frees.push(free)?;
         Ok(number)
@@ -173,7 +177,9 @@ impl Table {
         bank: &Bank,
         goal: &'a Goal,
         waiting: &mut Vec<Waiting<'a>>,
-    ) -> Result<Flat, Memory> {
+    ) -> Result<Flat, Memory>
+        ensures { IfOk result (λ flat. IsNumbered self.new.frees.items flat (goal_of bank.now goal.now)) }
+    {
         match goal {
             Goal::Atom(term) => Ok(Flat::Atom(*term)),
             Goal::Cut => Ok(Flat::Cut),
@@ -187,12 +193,14 @@ impl Table {
             Goal::Assume(clauses, goals) => {
                 let assumed = self.add_clauses(alloc, bank, clauses, waiting)?;
                 let list = self.wait(goals, waiting)?;
-                let free = self.put_free(free_in_clauses(alloc, bank, clauses)?)?;
+                let written = free_in_clauses(alloc, bank, clauses.as_slice())?;
+                let free = self.put_free(written)?;
                 Ok(Flat::Assume(assumed, list, free))
             }
             Goal::Not(goals) => {
                 let list = self.wait(goals, waiting)?;
-                let free = self.put_free(free_in_goals(alloc, bank, goals)?)?;
+                let written = free_in_goals(alloc, bank, goals.as_slice())?;
+                let free = self.put_free(written)?;
                 Ok(Flat::Not(list, free))
             }
         }

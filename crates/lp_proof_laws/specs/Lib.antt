@@ -2,3 +2,4 @@ pub mod Unnegated
 pub mod Terms
 pub mod Filled
 pub mod Open
+pub mod Assumed

@@ -16,7 +16,8 @@ use Rattle.lp_proof_laws.proofs.Uniform.Contexts.{get_front, get_back, get_split
 use Rattle.lp_proof_laws.proofs.Uniform.Forms.{apply_arguments}
 use Rattle.lp_proof_laws.proofs.Uniform.Roots.{rooted_by}
 use Rattle.lp_search_laws.specs.Holds.{Holds}
-use Rattle.lp_search_laws.specs.Clauses.{with_own, Serves, IsInFocus, sentence_of, assumed_as, clauses_at, IsProgramClause, IsAssumedClause}
+use Rattle.lp_search_laws.specs.Clauses.{with_own, Serves, IsInFocus, sentence_of, assumed_as, assumed_at, clauses_at, IsProgramClause, IsAssumedClause}
+use Rattle.lp_search_laws.proofs.AssumedLists.{got_assumed, get_assumed}
 use Rattle.lp_search_laws.proofs.ClosedClauses.{atom_closed}
 use Rattle.lp_search_laws.proofs.ClauseTypes.{sentence_serves, serves_sentence, assumed_serves, serves_assumed}
 use Rattle.lp_search_laws.proofs.Meeting.{head_passes, first_passes, and_true}
@@ -142,17 +143,17 @@ module _ {L : Leaves} (d : Declared) (std : IsSetting L d) (E : List Ty) (P A : 
   pub some_candidate : IsFormula d E (closed c t) → goal_key n (arguments t) ≡ Some key → Holds L d E (clauses_at P A c) c t → AnyOf (λ x. Serves L d E (clauses_at P A c) c x (closed c t)) (candidates P A t key)
   some_candidate f e p =
       let b = atom_begins d std E R G (atom_closed c t i) f p in
-      elim (get_split (map sentence_of P) (map (assumed_as c) A) b.place b.clause b.is) [
+      elim (get_split (map sentence_of P) (assumed_at c A) b.place b.clause b.is) [
         | inl g ↦
             let x = got_map sentence_of P b.place b.clause g in
             let q = each_at (IsProgramClause d) P x.place x.element ps x.is in
             let s = sentence_serves d std E R c G (atom_closed c t i) x.element q (transport (λ D. IsInFocus L d E R D G) (sym x.holds) b.focus) in
             any_back (λ y. Serves L d E R c y G) (filter (has_head t) A) (filter (passes t key) P) (into_filter (λ y. Serves L d E R c y G) (passes t key) P x.place x.element x.is (serving_passes _ d E R c n t key x.element q i e s) s)
         | inr g ↦
-            let x = got_map (assumed_as c) A g.0 b.clause g.2 in
-            let q = each_at (IsAssumedClause d E c) A x.place x.element as' x.is in
-            let s = assumed_serves d std E R c G (atom_closed c t i) x.element q (transport (λ D. IsInFocus L d E R D G) (sym x.holds) b.focus) in
-            any_front (λ y. Serves L d E R c y G) (filter (has_head t) A) (filter (passes t key) P) (into_filter (λ y. Serves L d E R c y G) (has_head t) A x.place x.element x.is (serving_has_head _ d E R c t x.element q i s) s)
+            let x = got_assumed c A g.0 b.clause g.2 in
+            let q = each_at (IsAssumedClause d E c) A x.place x.clause as' x.is in
+            let s = assumed_serves d std E R c G (atom_closed c t i) x.clause q (transport (λ D. IsInFocus L d E R D G) (sym x.made) b.focus) in
+            any_front (λ y. Serves L d E R c y G) (filter (has_head t) A) (filter (passes t key) P) (into_filter (λ y. Serves L d E R c y G) (has_head t) A x.place x.clause x.is (serving_has_head _ d E R c t x.clause q i s) s)
       ]
 
   pub candidate_proves : AnyOf (λ x. Serves L d E (clauses_at P A c) c x (closed c t)) (candidates P A t key) → Holds L d E (clauses_at P A c) c t
@@ -160,11 +161,12 @@ module _ {L : Leaves} (d : Declared) (std : IsSetting L d) (E : List Ty) (P A : 
     | inl r ↦
         let x = out_of_filter (λ y. Serves L d E R c y G) (has_head t) A r in
         let q = each_at (IsAssumedClause d E c) A x.place x.element as' x.is in
-        let g = get_back (map sentence_of P) (map (assumed_as c) A) x.place ∙ get_map (assumed_as c) A x.place x.element x.is in
-        focus_proves d E R G (length (map sentence_of P) + x.place) (assumed_as c x.element) (atom_closed c t i) g (serves_assumed d std E R c G (atom_closed c t i) x.element q x.holds)
+        let y = get_assumed c A x.place x.element x.is in
+        let g = get_back (map sentence_of P) (assumed_at c A) y.0 ∙ y.1 in
+        focus_proves d E R G (length (map sentence_of P) + y.0) (assumed_as c x.element) (atom_closed c t i) g (serves_assumed d std E R c G (atom_closed c t i) x.element q x.holds)
     | inr r ↦
         let x = out_of_filter (λ y. Serves L d E R c y G) (passes t key) P r in
         let q = each_at (IsProgramClause d) P x.place x.element ps x.is in
-        let g = get_front (map sentence_of P) (map (assumed_as c) A) x.place (sentence_of x.element) (get_map sentence_of P x.place x.element x.is) in
+        let g = get_front (map sentence_of P) (assumed_at c A) x.place (sentence_of x.element) (get_map sentence_of P x.place x.element x.is) in
         focus_proves d E R G x.place (sentence_of x.element) (atom_closed c t i) g (serves_sentence d std E R c G (atom_closed c t i) x.element q x.holds)
   ]

@@ -18,7 +18,7 @@ use Rattle.lp_model.specs.Search.{look, look_not, look_branch, start, has_no_pai
 use Rattle.lp_model.specs.Answers.{Query, Instance, AreTypedValues, IsClosedInstance, IsInstance, IsProvable, IsWellFormed, TypedAnswer}
 use Rattle.lp_model.specs.Proofs.{Declared, AreFlattened}
 use Rattle.lp_search_laws.specs.Started.{IsPlainQuery, IsPlainSentence, IsProvableBy, IsTypedQuery, IsTypedSentence}
-use Rattle.lp_search_laws.specs.Failed.{IsFailedSearch}
+use Rattle.lp_search_laws.specs.Failed.{InAny, IsFailedSearch}
 use Rattle.lp_search_laws.proofs.Exhausted.{right_by_failing}
 use Rattle.lp_search_laws.proofs.Judged.{no_answers, no_values, some_closing, some_closes, none, no_pairs, no_typed_values}
 use Rattle.lp_search_laws.proofs.Stack.InnerRuns.{refuted_fails, held_gives}
@@ -161,5 +161,5 @@ module _ (d : Declared) (std : IsStandard d) (l : ℕ) (F : List ClauseFormula) 
 
 -- with negations
 module _ (d : Declared) (std : IsStandard d) (l : ℕ) (F : List ClauseFormula) (P : List Clause) (s : EachOf (IsTypedSentence d) F) (x : AreFlattened d F P) (G : Term) (gs : Goals) (t : IsTypedQuery d (record { type_vars = 0; vars = []; formula = G })) (flat : flatten_query l d G ≡ Some gs) (n j : ℕ) where
-  pub with_leaves : (m steps : ℕ) → IsRightOn (IsProvableBy (IsFailedSearch d P) d F (record { type_vars = 0; vars = []; formula = G })) d (record { type_vars = 0; vars = []; formula = G }) (run (look unit_limit n P) j m (start 0 0 gs steps 1))
+  pub with_leaves : (m steps : ℕ) → IsRightOn (IsProvableBy (IsFailedSearch InAny d P) d F (record { type_vars = 0; vars = []; formula = G })) d (record { type_vars = 0; vars = []; formula = G }) (run (look unit_limit n P) j m (start 0 0 gs steps 1))
   with_leaves m steps = let r = right_by_failing d std l F P s x (record { type_vars = 0; vars = []; formula = G }) gs t flat n j m steps 1 in record { typed = r.typed; is = r.is; well_formed = r.well_formed; sound = r.sound; exhausts = r.exhausts }

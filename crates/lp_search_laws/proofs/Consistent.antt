@@ -21,7 +21,7 @@ use Rattle.lp_model.specs.Pair.{Closing, closed, SolvesAll}
 use Rattle.lp_model.specs.Branch.{Answer, Task, Go, Entry, entries, both_written}
 use Rattle.lp_model.specs.Search.{look, has_no_pairs, has_variables, types_from}
 use Rattle.lp_model.specs.Answers.{Query, Variable, Closes, Instance, IsInstance, IsWellFormed, TypedAnswer, ConvertEach}
-use Rattle.lp_model.specs.Proofs.{Declared, Failure, IsFormula, IsWitness, Leaves, ProvableBy, assumed, newest_first}
+use Rattle.lp_model.specs.Proofs.{Declared, Failure, IsFormula, IsWitness, Leaves, ProvableBy, newest_first}
 use Rattle.lp_standard.specs.Connectives.{not_of}
 use Rattle.lp_proof_laws.proofs.Uniform.Heads.{denial_root_by}
 use Rattle.lp_proof_laws.proofs.Uniform.Settings.{IsSetting}
@@ -29,10 +29,10 @@ use Rattle.lp_proof_laws.proofs.Uniform.Uniforms.{by_conversion}
 use Rattle.lp_search_laws.specs.Holds.{Holds, IsTyped}
 use Rattle.lp_search_laws.specs.Denials.{denied_branch, denied_task}
 use Rattle.lp_search_laws.specs.Clauses.{sentence_of, clauses_at}
-use Rattle.lp_search_laws.specs.Failed.{IsFailedSearch, failed_run, failing_branch, failing_typing}
+use Rattle.lp_search_laws.specs.Failed.{InAny, IsFailedSearch, failed_run, failing_branch, failing_typing}
 use Rattle.lp_search_laws.specs.Written.{IsOrigin, IsWrittenPlace, HasOrigin}
 use Rattle.lp_search_laws.specs.Branches.{no_query, denied_typing, ArePlainEntries, AreTypedEntries, IsPlainVariable, AreProved, IsTypedBranch, IsProgramTyped, IsQueryInstance, SolvesBranch, TypedTask, going, task_of, Sol, IsOk, DeniesTyped}
-use Rattle.lp_search_laws.proofs.Entries.{formulas, assumed_formulas, converted_all}
+use Rattle.lp_search_laws.proofs.Entries.{formulas, each_assumed, assumed_formulas, converted_all}
 use Rattle.lp_search_laws.proofs.FailedSearches.{KeepsSame, setting_of, failed_same, more_same}
 use Rattle.lp_search_laws.proofs.ClosedTerms.{all_closed}
 use Rattle.lp_search_laws.proofs.FlatViews.{goals_proved}
@@ -146,7 +146,7 @@ module _ (d : Declared) (P : List Clause) (n j : ℕ) (V : List Variable) (m : �
       let e : map (instance c.types) E ≡ F = ap (λ θ. map (instance θ) E) (sym types) in
       let S = map sentence_of P in
       let G = closed c (formula_of_goals gs) in
-      let p1 : ProvableBy L d F (S ++ map assumed (map (closed c) (formulas A))) G = transport (λ X. ProvableBy L d X (S ++ map assumed (map (closed c) (formulas A))) G) e (transport (λ X. ProvableBy L d (map (instance c.types) E) (S ++ X) G) (assumed_formulas c A) p) in
+      let p1 : ProvableBy L d F (S ++ each_assumed (closed c) (formulas A)) G = transport (λ X. ProvableBy L d X (S ++ each_assumed (closed c) (formulas A)) G) e (transport (λ X. ProvableBy L d (map (instance c.types) E) (S ++ X) G) (assumed_formulas c A) p) in
       let p2 = converted_all d std.converting F (closed c) (closed z) G (formulas A) (clauses_same A h.place.origins h.assumed_typed cl zl F e refl) S p1 in
       let p3 : ProvableBy L d F (clauses_at P A z) G = transport (λ X. ProvableBy L d F (S ++ X) G) (sym (assumed_formulas z A)) p2 in
       by_conversion d F (clauses_at P A z) (closed z (formula_of_goals gs)) G (transport (λ X. IsFormula d X G) e (formula_at d V c cl E (formula_of_goals gs) h.typed)) goals_same p3
@@ -154,13 +154,13 @@ module _ (d : Declared) (P : List Clause) (n j : ℕ) (V : List Variable) (m : �
 module _ (d : Declared) (std : IsStandard d) (P : List Clause) (program : EachOf (IsProgramTyped d) P) where
   -- failing searches of fewer than k steps
   abbrev pub Below : ℕ → Leaves
-  Below k E R G f = IsFailedSearch d P E R G f × ((failed_run (length E) f).steps < k)
+  Below k E R G f = IsFailedSearch InAny d P E R G f × ((failed_run (length E) f).steps < k)
 
-  below_same : (k : ℕ) → KeepsSame (Below k) d
-  below_same k = more_same d (failed_same d P) (λ E f. (failed_run (length E) f).steps < k)
+  below_same : (k : ℕ) → KeepsSame InAny P (Below k) d
+  below_same k = more_same d (failed_same InAny d P) (λ E f. (failed_run (length E) f).steps < k)
 
   -- a run of one typed task
-  module _ (L : Leaves) (same : KeepsSame L d) (n j : ℕ) (q : Query) (Few Fewer : ℕ → Type 0) (few : (x y : ℕ) → x ≤ y → Few y → Few x) (fewer : (x y : ℕ) → x ≤ y → Fewer y → Fewer x) (proves : Proves n d P q L j AnyTask AnyTask Few Fewer) (excludes : Excludes n d P q L j AnyTask AnyTask Few Fewer) where
+  module _ (L : Leaves) (same : KeepsSame InAny P L d) (n j : ℕ) (q : Query) (Few Fewer : ℕ → Type 0) (few : (x y : ℕ) → x ≤ y → Few y → Few x) (fewer : (x y : ℕ) → x ≤ y → Fewer y → Fewer x) (proves : Proves n d P q L j AnyTask AnyTask Few Fewer) (excludes : Excludes n d P q L j AnyTask AnyTask Few Fewer) where
     pub typed_run : (m rows steps answers : ℕ) (T : TypedTask) → IsOk n d P q T → RightRun n d P q L j AnyTask AnyTask Few Fewer false (T ∷ []) (run (look unit_limit n P) j m (starts_within rows (task_of T) steps answers))
     typed_run m rows steps answers T k =
         run_right n d P q L j AnyTask AnyTask Few Fewer (λ height U w. each_look n d (setting_of d same std) P program q height U w)
@@ -172,7 +172,7 @@ module _ (d : Declared) (std : IsStandard d) (P : List Clause) (program : EachOf
 
   -- the search of a negated goal that holds in c steps, and a failing search of t steps for its goals
   abbrev pub Clash : (c t : ℕ) → Type 0
-  Clash c t = (n j : ℕ) (V : List Variable) (m : ℕ) (E : List Ty) (gs : Goals) (A : List Clause) → IsHeldAt d P n j V m E gs A c → (z : Closing) → Closes d V z → (f : Failure) → IsFailedSearch d P (map (instance z.types) E) (clauses_at P A z) (closed z (formula_of_goals gs)) f → (failed_run (length (map (instance z.types) E)) f).steps ≡ t → ⊥
+  Clash c t = (n j : ℕ) (V : List Variable) (m : ℕ) (E : List Ty) (gs : Goals) (A : List Clause) → IsHeldAt d P n j V m E gs A c → (z : Closing) → Closes d V z → (f : Failure) → IsFailedSearch InAny d P (map (instance z.types) E) (clauses_at P A z) (closed z (formula_of_goals gs)) f → (failed_run (length (map (instance z.types) E)) f).steps ≡ t → ⊥
 
   -- where its search is held
   pub held_at : {L : Leaves} (n j : ℕ) (q : Query) (T : TypedTask) (u : Task) (g : Answer → Bool) (ts : List Task) (r : DeniesTyped L n d P q T u g ts) → (steps rows k p : ℕ) (ns : List Note) → inner (look unit_limit n P) j g (starts_within rows u steps 1) ≡ Held k ns p → IsHeldAt d P n j r.variables r.next_type r.eigens r.goals r.assumed k
@@ -194,19 +194,19 @@ module _ (d : Declared) (std : IsStandard d) (P : List Clause) (program : EachOf
       }
 
   -- what a refuted search proves
-  pub proves_failing : (n j : ℕ) (q : Query) → (Fewer : ℕ → Type 0) → Proves n d P q (IsFailedSearch d P) j AnyTask AnyTask (λ x. Unit {0}) Fewer
+  pub proves_failing : (n j : ℕ) (q : Query) → (Fewer : ℕ → Type 0) → Proves n d P q (IsFailedSearch InAny d P) j AnyTask AnyTask (λ x. Unit {0}) Fewer
   proves_failing n j q Fewer T u g ts r m steps rows k p ns e l c cl =
-      let y = denied_leaf n d P q j T u g ts r steps rows k p ns e c cl in
+      let y = denied_leaf InAny n d P q j T u g ts r steps rows k p ns e c cl in
       (y.leaf, y.fails)
 
   proves_below : (b n j : ℕ) (q : Query) → (Fewer : ℕ → Type 0) → Proves n d P q (Below b) j AnyTask AnyTask (λ x. x ≤ b) Fewer
   proves_below b n j q Fewer T u g ts r m steps rows k p ns e l c cl =
-      let y = denied_leaf n d P q j T u g ts r steps rows k p ns e c cl in
+      let y = denied_leaf InAny n d P q j T u g ts r steps rows k p ns e c cl in
       let s : (failed_run (length (map (instance c.types) r.eigens)) y.leaf).steps ≡ k = ap (λ h. (failed_run h y.leaf).steps) (length-map r.eigens (instance c.types)) ∙ y.steps in
       (y.leaf, (y.fails, omega (arith, s, l)))
 
   -- a search that holds makes its goals provable under each closing, with leaves of fewer steps
-  module _ (L : Leaves) (same : KeepsSame L d) (n j : ℕ) (Few : ℕ → Type 0) (few : (x y : ℕ) → x ≤ y → Few y → Few x) (V : List Variable) (m : ℕ) (E : List Ty) (gs : Goals) (A : List Clause) (c : ℕ) (h : IsHeldAt d P n j V m E gs A c) (proves : Proves n d P (typed_query m) L j AnyTask AnyTask Few (λ x. ⊥)) (enough : Few c) where
+  module _ (L : Leaves) (same : KeepsSame InAny P L d) (n j : ℕ) (Few : ℕ → Type 0) (few : (x y : ℕ) → x ≤ y → Few y → Few x) (V : List Variable) (m : ℕ) (E : List Ty) (gs : Goals) (A : List Clause) (c : ℕ) (h : IsHeldAt d P n j V m E gs A c) (proves : Proves n d P (typed_query m) L j AnyTask AnyTask Few (λ x. ⊥)) (enough : Few c) where
     abbrev first : TypedTask
     first = going (denied_typing V E gs) (carrying (length V) m gs A h.written (length E))
 
@@ -236,14 +236,14 @@ module _ (d : Declared) (std : IsStandard d) (P : List Clause) (program : EachOf
   typed_entries V E A w l m (g ∷ gs) h = (h.0.goal, typed_entries V E A w l m gs h.1)
 
   -- a failing search refutes what has a proof, where no leaf of the proof is for goals at which a search holds in few steps
-  module _ (L : Leaves) (same : KeepsSame L d) (Fewer : ℕ → Type 0) (fewer : (x y : ℕ) → x ≤ y → Fewer y → Fewer x) (excludes : (n j : ℕ) → Excludes n d P no_query L j AnyTask AnyTask (λ x. ⊥) Fewer) where
-    failing_refutes : (E : List Ty) (R : List ClauseFormula) (G : Term) (f : Failure) → IsFailedSearch d P E R G f → Fewer (failed_run (length E) f).steps → ProvableBy L d E R G → ⊥
+  module _ (L : Leaves) (same : KeepsSame InAny P L d) (Fewer : ℕ → Type 0) (fewer : (x y : ℕ) → x ≤ y → Fewer y → Fewer x) (excludes : (n j : ℕ) → Excludes n d P no_query L j AnyTask AnyTask (λ x. ⊥) Fewer) where
+    failing_refutes : (E : List Ty) (R : List ClauseFormula) (G : Term) (f : Failure) → IsFailedSearch InAny d P E R G f → Fewer (failed_run (length E) f).steps → ProvableBy L d E R G → ⊥
     failing_refutes E R G f h few p =
         let F = h.eigens in
         let c = h.closing in
         let A = newest_first f.assumed in
         let typed = goals_together d std F f.variables f.goals (typed_entries f.variables F A f.written (length F) 0 (goal_list f.goals) h.begins.entries) in
-        let p1 = same_provable d std same E (clauses_at P A c) R (closed c (formula_of_goals f.goals)) G h.clauses h.goal p in
+        let p1 = same_provable d std P same E (clauses_at P A c) R (closed c (formula_of_goals f.goals)) G h.clauses h.goal p in
         let p2 = transport (λ X. ProvableBy L d X (clauses_at P A c) (closed c (formula_of_goals f.goals))) (sym h.is_closed) p1 in
         let y : SolvesBranch L d P no_query no_values (failing_typing F f) (failing_branch (length F) f) = record {
           query = query d;
@@ -271,12 +271,12 @@ module _ (d : Declared) (std : IsStandard d) (P : List Clause) (program : EachOf
   pub consistent : (c t : ℕ) → Clash c t
   consistent c t = clash_within (suc (c + t)) c t (omega arith)
 
-  pub excludes_failing : (n j : ℕ) (q : Query) (Few : ℕ → Type 0) → Excludes n d P q (IsFailedSearch d P) j AnyTask AnyTask Few (λ x. Unit {0})
+  pub excludes_failing : (n j : ℕ) (q : Query) (Few : ℕ → Type 0) → Excludes n d P q (IsFailedSearch InAny d P) j AnyTask AnyTask Few (λ x. Unit {0})
   excludes_failing n j q Few T u g ts r m steps rows k p ns e l c cl x =
       consistent k (failed_run (length (map (instance c.types) r.eigens)) x.0).steps n j r.variables r.next_type r.eigens r.goals r.assumed (held_at n j q T u g ts r steps rows k p ns e) c cl x.0 x.1 refl
 
   -- no formula and its negation are provable
-  pub never_both : (E : List Ty) (R : List ClauseFormula) (G : Term) → IsFormula d E (not_of G) → ProvableBy (IsFailedSearch d P) d E R G → ProvableBy (IsFailedSearch d P) d E R (not_of G) → ⊥
+  pub never_both : (E : List Ty) (R : List ClauseFormula) (G : Term) → IsFormula d E (not_of G) → ProvableBy (IsFailedSearch InAny d P) d E R G → ProvableBy (IsFailedSearch InAny d P) d E R (not_of G) → ⊥
   never_both E R G f p p' =
-      let x = denial_root_by (IsFailedSearch d P) d std E R G f ((setting_of d (failed_same d P) std).converting R) p' in
-      failing_refutes (IsFailedSearch d P) (failed_same d P) (λ y. Unit {0}) (λ y z l e. e) (λ n j. excludes_failing n j no_query (λ y. ⊥)) E R G x.0 x.1 tt p
+      let x = denial_root_by (IsFailedSearch InAny d P) d std E R G f ((setting_of d (failed_same InAny d P) std).converting R) p' in
+      failing_refutes (IsFailedSearch InAny d P) (failed_same InAny d P) (λ y. Unit {0}) (λ y z l e. e) (λ n j. excludes_failing n j no_query (λ y. ⊥)) E R G x.0 x.1 tt p

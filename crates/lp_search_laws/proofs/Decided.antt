@@ -15,7 +15,7 @@ use Rattle.lp_model.specs.Proofs.{Declared}
 use Rattle.lp_search_laws.specs.Holds.{Holds}
 use Rattle.lp_search_laws.specs.Clauses.{clauses_at}
 use Rattle.lp_search_laws.specs.Denials.{denied_task}
-use Rattle.lp_search_laws.specs.Failed.{IsFailedSearch, failed_run}
+use Rattle.lp_search_laws.specs.Failed.{InAny, IsFailedSearch, failed_run}
 use Rattle.lp_search_laws.specs.Branches.{IsTypedBranch, IsProgramTyped, HasLeaf, TypedTask, going}
 use Rattle.lp_search_laws.proofs.Consistent.{consistent, held_at, held_provable, proves_failing}
 use Rattle.lp_search_laws.proofs.FailedSearches.{failed_same, setting_of}
@@ -27,19 +27,19 @@ module _ (n : ℕ) (d : Declared) (std : IsStandard d) (P : List Clause) (progra
   abbrev T : TypedTask
   T = going (record { answer = z; eigens = E ∷ Es }) (with_goals b (e ∷ es))
 
-  pub refuted : inner (look unit_limit n P) j has_no_pairs (starts (denied_task b.next b.next_type gs e.assumed e.written e.level) steps 1) ≡ Refuted k ns p → (c : Closing) → Closes d z.variables c → HasLeaf (IsFailedSearch d P) P c E e.assumed gs
+  pub refuted : inner (look unit_limit n P) j has_no_pairs (starts (denied_task b.next b.next_type gs e.assumed e.written e.level) steps 1) ≡ Refuted k ns p → (c : Closing) → Closes d z.variables c → HasLeaf (IsFailedSearch InAny d P) P c E e.assumed gs
   unfolding denied_stands
   refuted r c l =
-      let same = failed_same d P in
+      let same = failed_same InAny d P in
       let s = denied_stands n d (setting_of d same std) P q z b E Es e es h w gs is tested in
       proves_failing d std P program n j q (λ x. ⊥) T (denied_task b.next b.next_type gs e.assumed e.written e.level) has_no_pairs (Go (with_goals b es) ∷ []) s tt steps row_limit k p ns r tt c l
 
-  pub held : inner (look unit_limit n P) j has_no_pairs (starts (denied_task b.next b.next_type gs e.assumed e.written e.level) steps 1) ≡ Held k ns p → (c : Closing) → Closes d z.variables c → Holds (IsFailedSearch d P) d (map (instance c.types) E) (clauses_at P e.assumed c) c (formula_of_goals gs) × (HasLeaf (IsFailedSearch d P) P c E e.assumed gs → ⊥)
+  pub held : inner (look unit_limit n P) j has_no_pairs (starts (denied_task b.next b.next_type gs e.assumed e.written e.level) steps 1) ≡ Held k ns p → (c : Closing) → Closes d z.variables c → Holds (IsFailedSearch InAny d P) d (map (instance c.types) E) (clauses_at P e.assumed c) c (formula_of_goals gs) × (HasLeaf (IsFailedSearch InAny d P) P c E e.assumed gs → ⊥)
   unfolding denied_stands
   held r c l =
-      let same = failed_same d P in
+      let same = failed_same InAny d P in
       let s = denied_stands n d (setting_of d same std) P q z b E Es e es h w gs is tested in
       let x = held_at d std P program n j q T (denied_task b.next b.next_type gs e.assumed e.written e.level) has_no_pairs (Go (with_goals b es) ∷ []) s steps row_limit k p ns r in (
-        held_provable d std P program (IsFailedSearch d P) same n j (λ y. Unit {0}) (λ y y' i o. o) z.variables b.next_type E gs e.assumed k x (proves_failing d std P program n j (typed_query b.next_type) (λ y. ⊥)) tt c l,
+        held_provable d std P program (IsFailedSearch InAny d P) same n j (λ y. Unit {0}) (λ y y' i o. o) z.variables b.next_type E gs e.assumed k x (proves_failing d std P program n j (typed_query b.next_type) (λ y. ⊥)) tt c l,
         (λ y. consistent d std P program k (failed_run (length (map (instance c.types) E)) y.0).steps n j z.variables b.next_type E gs e.assumed x c l y.0 y.1 refl),
       )

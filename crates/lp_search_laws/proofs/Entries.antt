@@ -1,5 +1,5 @@
 -- Entries behind a unification are typed, and each is provable under a closing exactly where it was under the one that leads through it.
-use Rattle.std.proofs.Common.{◌≡◌, ℕ, zero, suc, List, [], ◌∷◌, ◌++◌, map, length, ◌∙◌, refl, sym, ap, subst as transport, append_assoc}
+use Rattle.std.proofs.Common.{◌≡◌, ℕ, zero, suc, List, [], ◌∷◌, ◌++◌, map, length, ◌∙◌, refl, sym, ap, subst as transport, append_assoc, append-nil}
 use Rattle.lp_calculus.specs.Types.{Ty, instance}
 use Rattle.lp_calculus.specs.Term.{Term, Atom, index, atom, abs, app, shift, constant, integer, text, eigen, logic, param}
 use Rattle.lp_calculus.specs.Convert.{Converts, same}
@@ -27,7 +27,7 @@ use Rattle.lp_proof_laws.proofs.Uniform.Formulas.{formula_eigens, closed_instanc
 use Rattle.lp_proof_laws.proofs.Uniform.Uniforms.{by_conversion}
 use Rattle.lp_proof_laws.proofs.Uniform.FocusRoots.{fconv}
 use Rattle.lp_search_laws.specs.Holds.{IsTyped, IsVariableOf}
-use Rattle.lp_search_laws.specs.Clauses.{assumed_as, sentence_of, clauses_at}
+use Rattle.lp_search_laws.specs.Clauses.{assumed_as, assumed_at, sentence_of, clauses_at}
 use Rattle.lp_search_laws.specs.Branches.{IsTypedEntry, AreTypedEntries, EntryHolds, AreProved}
 use Rattle.lp_proof_laws.proofs.Uniform.Roots.{Converting}
 use Rattle.lp_search_laws.specs.Behind.{LeadsThrough, behind, types_of, variables_of, eigens_of, IsTypedAt, IsEntryAt, AreEntriesAt}
@@ -234,18 +234,31 @@ pub converted_focus : (L : Leaves) (d : Declared) (E : List Ty) (D D' : Term) �
 unfolding Focuses
 converted_focus L d E D D' f c F x R A i r = fconv d F R D D' A (transport (λ z. IsFormula d z D) (sym x.is) (formula_eigens d E x.rest D f)) c r
 
-pub converted_all : {L : Leaves} (d : Declared) → ((P : List ClauseFormula) → Converting L d P) → (E : List Ty) (f g : Term → Term) (G : Term) (us : List Term) → EachOf (λ t. IsFormula d E (f t) × IsFormula d E (g t) × Converts (f t) (g t)) us → (P : List ClauseFormula) → ProvableBy L d E (P ++ map assumed (map f us)) G → ProvableBy L d E (P ++ map assumed (map g us)) G
-converted_all {L} d conv E f g G [] h P p = p
-converted_all {L} d conv E f g G (u ∷ us) h P p =
-    let q = replaced_clause L d E P (map assumed (map f us)) (assumed (f u)) (assumed (g u)) G refl ((conv P).assumptions E (f u) (g u) h.0.0 h.0.1 h.0.2) (λ ts l k.
-    transport (λ z. Focuses L d E z (instance_term (type_at ts) (g u))) (sym (closed_instance (length E) (type_at ts) (f u) h.0.0.closed))
-    (transport (Focuses L d E (f u)) (sym (closed_instance (length E) (type_at ts) (g u) h.0.1.closed)) (converted_focus _ d E (f u) (g u) h.0.0 h.0.2))) p in
-    let r = converted_all d conv E f g G us h.1 (P ++ assumed (g u) ∷ []) (transport (λ Q. ProvableBy L d E Q G) (sym (append_assoc P (assumed (g u) ∷ []) (map assumed (map f us)))) q) in
-    transport (λ Q. ProvableBy L d E Q G) (append_assoc P (assumed (g u) ∷ []) (map assumed (map g us))) r
+abbrev pub each_assumed : (Term → Term) → List Term → List ClauseFormula
+each_assumed f [] = []
+each_assumed f (u ∷ us) = each_assumed f us ++ assumed (f u) ∷ []
 
-pub assumed_formulas : (c : Closing) (A : List Clause) → map (assumed_as c) A ≡ map assumed (map (closed c) (formulas A))
+converted_before : {L : Leaves} (d : Declared) → ((P : List ClauseFormula) → Converting L d P) → (E : List Ty) (f g : Term → Term) (G : Term) (us : List Term) → EachOf (λ t. IsFormula d E (f t) × IsFormula d E (g t) × Converts (f t) (g t)) us → (P S : List ClauseFormula) → ProvableBy L d E (P ++ (each_assumed f us ++ S)) G → ProvableBy L d E (P ++ (each_assumed g us ++ S)) G
+converted_before {L} d conv E f g G [] h P S p = p
+converted_before {L} d conv E f g G (u ∷ us) h P S p =
+    let B = P ++ each_assumed g us in
+    let o = converted_before d conv E f g G us h.1 P (assumed (f u) ∷ S) (transport (λ X. ProvableBy L d E (P ++ X) G) (append_assoc (each_assumed f us) (assumed (f u) ∷ []) S) p) in
+    let q = replaced_clause L d E B S (assumed (f u)) (assumed (g u)) G refl ((conv B).assumptions E (f u) (g u) h.0.0 h.0.1 h.0.2) (λ ts l k.
+    transport (λ z. Focuses L d E z (instance_term (type_at ts) (g u))) (sym (closed_instance (length E) (type_at ts) (f u) h.0.0.closed))
+    (transport (Focuses L d E (f u)) (sym (closed_instance (length E) (type_at ts) (g u) h.0.1.closed)) (converted_focus _ d E (f u) (g u) h.0.0 h.0.2))) (transport (λ Q. ProvableBy L d E Q G) (sym (append_assoc P (each_assumed g us) (assumed (f u) ∷ S))) o) in
+    transport (λ X. ProvableBy L d E (P ++ X) G) (sym (append_assoc (each_assumed g us) (assumed (g u) ∷ []) S)) (transport (λ Q. ProvableBy L d E Q G) (append_assoc P (each_assumed g us) (assumed (g u) ∷ S)) q)
+
+pub converted_all : {L : Leaves} (d : Declared) → ((P : List ClauseFormula) → Converting L d P) → (E : List Ty) (f g : Term → Term) (G : Term) (us : List Term) → EachOf (λ t. IsFormula d E (f t) × IsFormula d E (g t) × Converts (f t) (g t)) us → (P : List ClauseFormula) → ProvableBy L d E (P ++ each_assumed f us) G → ProvableBy L d E (P ++ each_assumed g us) G
+converted_all {L} d conv E f g G us h P p =
+    transport (λ X. ProvableBy L d E (P ++ X) G) (append-nil (each_assumed g us)) (converted_before d conv E f g G us h P [] (transport (λ X. ProvableBy L d E (P ++ X) G) (sym (append-nil (each_assumed f us))) p))
+
+pub assumed_formulas : (c : Closing) (A : List Clause) → assumed_at c A ≡ each_assumed (closed c) (formulas A)
 assumed_formulas c [] = refl
-assumed_formulas c (k ∷ A) = ap (λ z. assumed_as c k ∷ z) (assumed_formulas c A)
+assumed_formulas c (k ∷ A) = ap (λ z. z ++ assumed_as c k ∷ []) (assumed_formulas c A)
+
+assumed_both : (g h : Term → Term) (us : List Term) → each_assumed g (map h us) ≡ each_assumed (λ t. g (h t)) us
+assumed_both g h [] = refl
+assumed_both g h (u ∷ us) = ap (λ z. z ++ assumed (g (h u)) ∷ []) (assumed_both g h us)
 
 -- the formulas of an entry, before and behind
 each_pair : (d : Declared) (V W : List Variable) (c z : Closing) (bs : List Binding) (ts : List TypeBinding) → LeadsThrough V c z bs ts → (E D F : List Ty) → ((t : Term) → IsTypedAt d E V ts t → IsFormula d F (closed c t)) → ((t : Term) → IsTyped d D W t o_type → IsFormula d F (closed z t)) → (us : List Term) → EachOf (λ t. IsTypedAt d E V ts t) us → EachOf (λ t. IsTyped d D W t o_type) (map (put_in bs ts) us) →
@@ -275,8 +288,8 @@ entry_leads {L} d conv V W P c z bs ts k s cl zl E e h h' =
     let v : Converts (closed c t) (closed z t') = converts_on (term_leads d E V c z bs ts k t h.goal) (converts_is (ap (closed z) (sym (goal_behind bs ts s e)))) in
     let ps = each_pair d V W c z bs ts k E D F before after us (each_map (λ u. IsTypedAt d E V ts u) e.assumed h.assumed) (transport (EachOf (λ u. IsTyped d D W u o_type)) (assumed_behind bs ts s e) (each_map (λ u. IsTyped d D W u o_type) e'.assumed h'.assumed)) in
     let qs = each_swap (λ u. IsFormula d F (closed c u)) (λ u. IsFormula d F (closed z (put_in bs ts u))) (λ u. Converts (closed c u) (closed z (put_in bs ts u))) (λ u. Converts (closed z (put_in bs ts u)) (closed c u)) (λ u. converts_sym) us ps in
-    let x : clauses_at P e.assumed c ≡ S ++ map assumed (map (closed c) us) = ap (λ X. S ++ X) (assumed_formulas c e.assumed) in
-    let y : clauses_at P e'.assumed z ≡ S ++ map assumed (map (λ u. closed z (put_in bs ts u)) us) = ap (λ X. S ++ X) (assumed_formulas z e'.assumed) ∙ ap (λ X. S ++ map assumed (map (closed z) X)) (assumed_behind bs ts s e) ∙ ap (λ X. S ++ map assumed X) (map_both (closed z) (put_in bs ts) us) in (
+    let x : clauses_at P e.assumed c ≡ S ++ each_assumed (closed c) us = ap (λ X. S ++ X) (assumed_formulas c e.assumed) in
+    let y : clauses_at P e'.assumed z ≡ S ++ each_assumed (λ u. closed z (put_in bs ts u)) us = ap (λ X. S ++ X) (assumed_formulas z e'.assumed) ∙ ap (λ X. S ++ each_assumed (closed z) X) (assumed_behind bs ts s e) ∙ ap (λ X. S ++ X) (assumed_both (closed z) (put_in bs ts) us) in (
       (λ p. transport (λ X. ProvableBy L d X (clauses_at P e'.assumed z) (closed z t')) (sym same_eigens) (transport (λ X. ProvableBy L d F X (closed z t')) (sym y)
           (converted_all d conv F (closed c) (λ u. closed z (put_in bs ts u)) (closed z t') us ps S (transport (λ X. ProvableBy L d F X (closed z t')) x (by_conversion d F (clauses_at P e.assumed c) (closed z t') (closed c t) (before t h.goal) v p))))),
       (λ p. by_conversion d F (clauses_at P e.assumed c) (closed c t) (closed z t') (after t' h'.goal) (converts_sym v) (transport (λ X. ProvableBy L d F X (closed z t')) (sym x)

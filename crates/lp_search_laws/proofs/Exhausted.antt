@@ -10,7 +10,7 @@ use Rattle.lp_model.specs.Search.{look, start}
 use Rattle.lp_model.specs.Proofs.{AreFlattened, Declared}
 use Rattle.lp_model.specs.Answers.{Query}
 use Rattle.lp_search_laws.specs.Begun.{first_branch, first_typing}
-use Rattle.lp_search_laws.specs.Failed.{IsFailedSearch}
+use Rattle.lp_search_laws.specs.Failed.{InAny, IsFailedSearch}
 use Rattle.lp_search_laws.specs.Right.{IsRightBy}
 use Rattle.lp_search_laws.specs.Started.{IsTypedQuery, IsTypedSentence}
 use Rattle.lp_search_laws.specs.Branches.{going}
@@ -20,11 +20,12 @@ use Rattle.lp_search_laws.proofs.FailedSearches.{failed_same, program_kept, sett
 use Rattle.lp_search_laws.proofs.Sound.{each_proved}
 
 pub right_by_failing : (d : Declared) → IsStandard d → (l : ℕ) (F : List ClauseFormula) (P : List Clause) → EachOf (IsTypedSentence d) F → AreFlattened d F P → (q : Query) (gs : Goals) → IsTypedQuery d q → flatten_query l d q.formula ≡ Some gs →
-    (n j m steps answers : ℕ) → IsRightBy (IsFailedSearch d P) d F q (run (look unit_limit n P) j m (start q.type_vars (length q.vars) gs steps answers))
+    (n j m steps answers : ℕ) → IsRightBy (IsFailedSearch InAny d P) d F q (run (look unit_limit n P) j m (start q.type_vars (length q.vars) gs steps answers))
 right_by_failing d std l F P s x q gs t e n j m steps answers =
     let typed = program_typed d std F P s x in
-    let same = failed_same d P in
-    let r = typed_run d std P typed (IsFailedSearch d P) same n j q (λ k. Unit {0}) (λ k. Unit {0}) (λ y z k h. h) (λ y z k h. h)
+    let same = failed_same InAny d P in
+    let kept = program_kept d F P same (each_sentence d F s) x in
+    let r = typed_run d std P typed (IsFailedSearch InAny d P) same n j q (λ k. Unit {0}) (λ k. Unit {0}) (λ y z k h. h) (λ y z k h. h)
     (proves_failing d std P typed n j q (λ k. Unit {0}))
     (excludes_failing d std P typed n j q (λ k. Unit {0}))
     m row_limit steps answers (going (first_typing q gs) (first_branch q.type_vars (length q.vars) gs)) (start_typed d std l q gs t e n steps answers).1 in
@@ -32,6 +33,6 @@ right_by_failing d std l F P s x q gs t e n j m steps answers =
       typed = r.typed;
       is = r.is;
       well_formed = r.well_formed;
-      sound = each_proved d std same l F P s x q gs t e r.typed r.well_formed (r.sound tt);
-      exhausts = λ y i p. r.exhausts y tt i (inl (solves d (setting_of d same std) l q gs t e F P s x (program_kept d same F P (each_sentence d F s) x) i p));
+      sound = each_proved d std F P same kept l s x q gs t e r.typed r.well_formed (r.sound tt);
+      exhausts = λ y i p. r.exhausts y tt i (inl (solves d (setting_of d same std) l q gs t e F P s x kept i p));
     }

@@ -8,7 +8,7 @@ use Rattle.lp_calculus.specs.Convert.{same}
 use Rattle.lp_lemmas.specs.Each.{EachOf}
 use Rattle.lp_standard.specs.Schemes.{IsStandard}
 use Rattle.lp_model.specs.Unify.{unit_limit}
-use Rattle.lp_model.specs.Flat.{Clause, Clauses, Goals, Written, clause_list, formula_of_goals, formula_of_clause, formula_of_clauses}
+use Rattle.lp_model.specs.Flat.{Clause, Clauses, Goals, Written, clause_list, formula_of_goals, formula_of_clauses}
 use Rattle.lp_model.specs.Index.{instantiate}
 use Rattle.lp_model.specs.Flatten.{ClauseFormula}
 use Rattle.lp_model.specs.Pair.{Closing, closed}
@@ -25,19 +25,13 @@ use Rattle.lp_proof_laws.proofs.Uniform.Openings.{fits_more}
 use Rattle.lp_proof_laws.proofs.Uniform.Settings.{IsSetting}
 use Rattle.lp_search_laws.specs.Holds.{IsTyped}
 use Rattle.lp_search_laws.specs.Denials.{denied_branch, denied_task}
-use Rattle.lp_search_laws.specs.Clauses.{sentence_of, clauses_at}
+use Rattle.lp_search_laws.specs.Clauses.{sentence_of, assumed_at, clauses_at}
 use Rattle.lp_search_laws.specs.Branches.{IsTypedBranch, no_query, denied_typing}
-use Rattle.lp_search_laws.specs.Failed.{SameGoal, goal_converts, goal_flat, goal_back, goal_then, SameClauses, in_some_order, converted, each_apart, clause_flat, sentence_flat, other_way, one_by_one, failed_run, IsFailedSearch}
+use Rattle.lp_search_laws.specs.Failed.{SameGoal, goal_converts, goal_flat, goal_back, goal_then, Order, InOrder, InAny, SameClauses, unchanged, in_some_order, converted, each_apart, clause_flat, program_flat, sentence_flat, other_way, one_by_one, failed_run, IsFailedSearch}
 use Rattle.lp_search_laws.proofs.Formed.{formula_at}
 use Rattle.lp_search_laws.proofs.Refuted.{ends_within, none_within, taken_within}
 
 -- the same clauses
-all_stand : (P : List ClauseFormula) → Stands P P
-all_stand P = record { at = λ i D e. (i, e) }
-
-pub no_other : (d : Declared) (E : List Ty) (P : List ClauseFormula) → SameClauses d E P P
-no_other d E P = in_some_order (all_stand P) (all_stand P)
-
 more_stand : (P R S : List ClauseFormula) → Stands P R → Stands (P ++ S) (R ++ S)
 more_stand P R S h = record {
   at = λ i D e. elim (get_split P S i D e) [
@@ -59,25 +53,27 @@ behind_it P B A S e = ap (λ X. X ++ S) e ∙ append_assoc B A S
 behind_both : (P B M A S : List ClauseFormula) → P ≡ B ++ (M ++ A) → P ++ S ≡ B ++ (M ++ (A ++ S))
 behind_both P B M A S e = behind_it P B (M ++ A) S e ∙ ap (λ X. B ++ X) (append_assoc M A S)
 
-pub same_behind : (d : Declared) (E F : List Ty) → Extends E F → (P R S : List ClauseFormula) → SameClauses d E P R → SameClauses d F (P ++ S) (R ++ S)
-same_behind d E F x P R S (in_some_order s r) = in_some_order (more_stand P R S s) (more_stand R P S r)
-same_behind d E F x P R S (converted B A D K f g p q v) = converted B (A ++ S) D K (formula_more d E F x D f) (formula_more d E F x K g) (behind_it P B (assumed D ∷ A) S p) (behind_it R B (assumed K ∷ A) S q) v
-same_behind d E F x P R S (each_apart B A c cs f p q) =
-    each_apart B (A ++ S) c cs (formula_more d E F x (closed c (formula_of_clauses cs)) f) (behind_it P B (assumed (closed c (formula_of_clauses cs)) ∷ A) S p) (behind_both R B (map (λ k. assumed (closed c (formula_of_clause k))) (clause_list cs)) A S q)
-same_behind d E F x P R S (clause_flat B A n bs t cs Γ θ o w e p q) =
-    clause_flat B (A ++ S) n bs t cs Γ θ o (fits_wider d E F x Γ θ w) e (behind_it P B (assumed (instantiate θ t) ∷ A) S p) (behind_it R B (assumed (instantiate θ (formula_of_clauses cs)) ∷ A) S q)
-same_behind d E F x P R S (sentence_flat B A n D cs s e p q) = sentence_flat B (A ++ S) n D cs s e (behind_it P B (D ∷ A) S p) (behind_both R B (map sentence_of (clause_list cs)) A S q)
-same_behind d E F x P R S (other_way h) = other_way (same_behind d E F x R P S h)
-same_behind d E F x P R S (one_by_one Q h k) = one_by_one (Q ++ S) (same_behind d E F x P Q S h) (same_behind d E F x Q R S k)
+pub same_behind : (o : Order) (d : Declared) (C : List Clause) (E F : List Ty) → Extends E F → (P R S : List ClauseFormula) → SameClauses o d C E P R → SameClauses o d C F (P ++ S) (R ++ S)
+same_behind o d C E F x P R S (unchanged e) = unchanged (ap (λ X. X ++ S) e)
+same_behind o d C E F x P R S (in_some_order a s r) = in_some_order a (more_stand P R S s) (more_stand R P S r)
+same_behind o d C E F x P R S (converted B A D K f g p q v) = converted B (A ++ S) D K (formula_more d E F x D f) (formula_more d E F x K g) (behind_it P B (assumed D ∷ A) S p) (behind_it R B (assumed K ∷ A) S q) v
+same_behind o d C E F x P R S (each_apart B A c cs f p q) =
+    each_apart B (A ++ S) c cs (formula_more d E F x (closed c (formula_of_clauses cs)) f) (behind_it P B (assumed (closed c (formula_of_clauses cs)) ∷ A) S p) (behind_both R B (assumed_at c (clause_list cs)) A S q)
+same_behind o d C E F x P R S (clause_flat B A n bs t cs Γ θ v w e p q) =
+    clause_flat B (A ++ S) n bs t cs Γ θ v (fits_wider d E F x Γ θ w) e (behind_it P B (assumed (instantiate θ t) ∷ A) S p) (behind_it R B (assumed (instantiate θ (formula_of_clauses cs)) ∷ A) S q)
+same_behind o d C E F x P R S (program_flat G A k e p q) = program_flat G (A ++ S) k e (behind_it P G A S p) (behind_it R (map sentence_of C) A S q)
+same_behind o d C E F x P R S (sentence_flat B A n D cs a s e p q) = sentence_flat B (A ++ S) n D cs a s e (behind_it P B (D ∷ A) S p) (behind_both R B (map sentence_of (clause_list cs)) A S q)
+same_behind o d C E F x P R S (other_way h) = other_way (same_behind o d C E F x R P S h)
+same_behind o d C E F x P R S (one_by_one Q h k) = one_by_one (Q ++ S) (same_behind o d C E F x P Q S h) (same_behind o d C E F x Q R S k)
 
 -- leaves that stand for what is the same
-pub record KeepsSame (L : Leaves) (d : Declared) : Type 0 where
+pub record KeepsSame (o : Order) (C : List Clause) (L : Leaves) (d : Declared) : Type 0 where
   pub goals : (E : List Ty) (R : List ClauseFormula) (G H : Term) (f : Failure) → SameGoal d E G H → L E R G f → L E R H f
-  pub clauses : (E : List Ty) (R S : List ClauseFormula) (G : Term) (f : Failure) → SameClauses d E R S → L E R G f → L E S G f
+  pub clauses : (E : List Ty) (R S : List ClauseFormula) (G : Term) (f : Failure) → SameClauses o d C E R S → L E R G f → L E S G f
 
-module _ {L : Leaves} (d : Declared) (alike : KeepsSame L d) where
-  pub kept_so : (E : List Ty) (P R : List ClauseFormula) → SameClauses d E P R → AreKept L E P R
-  kept_so E P R s S F x G f h = alike.clauses F (P ++ S) (R ++ S) G f (same_behind d E F x P R S s) h
+module _ {o : Order} {C : List Clause} {L : Leaves} (d : Declared) (alike : KeepsSame o C L d) where
+  pub kept_so : (E : List Ty) (P R : List ClauseFormula) → SameClauses o d C E P R → AreKept L E P R
+  kept_so E P R s S F x G f h = alike.clauses F (P ++ S) (R ++ S) G f (same_behind o d C E F x P R S s) h
 
   pub setting_of : IsStandard d → IsSetting L d
   setting_of std = record {
@@ -86,48 +82,53 @@ module _ {L : Leaves} (d : Declared) (alike : KeepsSame L d) where
       goals = λ E R G H f g g' v h. alike.goals E R G H f (goal_converts g g' v) h;
       assumptions = λ E A B f g v. kept_so E (Q ++ assumed A ∷ []) (Q ++ assumed B ∷ []) (converted Q [] A B f g refl refl v);
     };
-    order = λ E Q R s r. kept_so E Q R (in_some_order s r);
-    apart = λ E Q c cs f. kept_so E (Q ++ assumed (closed c (formula_of_clauses cs)) ∷ []) (Q ++ map (λ k. assumed (closed c (formula_of_clause k))) (clause_list cs)) (apart_here E Q c cs f);
-    together = λ E Q c cs f. kept_so E (Q ++ map (λ k. assumed (closed c (formula_of_clause k))) (clause_list cs)) (Q ++ assumed (closed c (formula_of_clauses cs)) ∷ []) (other_way (apart_here E Q c cs f));
-    flat_goals = λ n B t gs e E Γ θ o w R f. (
-      (λ h. alike.goals E R (instantiate θ t) (instantiate θ (formula_of_goals gs)) f (goal_flat n B t gs Γ θ o w e refl refl) h),
-      (λ h. alike.goals E R (instantiate θ (formula_of_goals gs)) (instantiate θ t) f (goal_back (goal_flat n B t gs Γ θ o w e refl refl)) h),
+    apart = λ E Q c cs f. kept_so E (Q ++ assumed (closed c (formula_of_clauses cs)) ∷ []) (Q ++ assumed_at c (clause_list cs)) (apart_here E Q c cs f);
+    together = λ E Q c cs f. kept_so E (Q ++ assumed_at c (clause_list cs)) (Q ++ assumed (closed c (formula_of_clauses cs)) ∷ []) (other_way (apart_here E Q c cs f));
+    flat_goals = λ n B t gs e E Γ θ v w R f. (
+      (λ h. alike.goals E R (instantiate θ t) (instantiate θ (formula_of_goals gs)) f (goal_flat n B t gs Γ θ v w e refl refl) h),
+      (λ h. alike.goals E R (instantiate θ (formula_of_goals gs)) (instantiate θ t) f (goal_back (goal_flat n B t gs Γ θ v w e refl refl)) h),
     );
-    flat_clauses = λ n B t cs e E Γ θ o w Q.
-        let s : SameClauses d E (Q ++ assumed (instantiate θ t) ∷ []) (Q ++ assumed (instantiate θ (formula_of_clauses cs)) ∷ []) = clause_flat Q [] n B t cs Γ θ o w e refl refl in (
+    flat_clauses = λ n B t cs e E Γ θ v w Q.
+        let s : SameClauses o d C E (Q ++ assumed (instantiate θ t) ∷ []) (Q ++ assumed (instantiate θ (formula_of_clauses cs)) ∷ []) = clause_flat Q [] n B t cs Γ θ v w e refl refl in (
           kept_so E (Q ++ assumed (instantiate θ t) ∷ []) (Q ++ assumed (instantiate θ (formula_of_clauses cs)) ∷ []) s,
           kept_so E (Q ++ assumed (instantiate θ (formula_of_clauses cs)) ∷ []) (Q ++ assumed (instantiate θ t) ∷ []) (other_way s),
         );
   }
     where
-      apart_here : (E : List Ty) (Q : List ClauseFormula) (c : Closing) (cs : Clauses) → IsFormula d E (closed c (formula_of_clauses cs)) → SameClauses d E (Q ++ assumed (closed c (formula_of_clauses cs)) ∷ []) (Q ++ map (λ k. assumed (closed c (formula_of_clause k))) (clause_list cs))
-      apart_here E Q c cs f = each_apart Q [] c cs f refl (ap (λ X. Q ++ X) (sym (append-nil (map (λ k. assumed (closed c (formula_of_clause k))) (clause_list cs)))))
+      apart_here : (E : List Ty) (Q : List ClauseFormula) (c : Closing) (cs : Clauses) → IsFormula d E (closed c (formula_of_clauses cs)) → SameClauses o d C E (Q ++ assumed (closed c (formula_of_clauses cs)) ∷ []) (Q ++ assumed_at c (clause_list cs))
+      apart_here E Q c cs f = each_apart Q [] c cs f refl (ap (λ X. Q ++ X) (sym (append-nil (assumed_at c (clause_list cs)))))
 
--- sentences and their flattened clauses
-program_apart : (d : Declared) (E : List Ty) (F : List ClauseFormula) (P : List Clause) → EachOf (IsSentence d) F → AreFlattened d F P → (B : List ClauseFormula) → SameClauses d E (B ++ F) (B ++ map sentence_of P)
-program_apart d E [] P s x B = transport (λ X. SameClauses d E (B ++ []) (B ++ map sentence_of X)) (sym x) (no_other d E (B ++ []))
-program_apart d E (D ∷ F) P s x B =
+-- sentences and their flattened clauses, in any order
+program_apart : (d : Declared) (C : List Clause) (E : List Ty) (F : List ClauseFormula) (P : List Clause) → EachOf (IsSentence d) F → AreFlattened d F P → (B : List ClauseFormula) → SameClauses InAny d C E (B ++ F) (B ++ map sentence_of P)
+program_apart d C E [] P s x B = transport (λ X. SameClauses InAny d C E (B ++ []) (B ++ map sentence_of X)) (sym x) (unchanged refl)
+program_apart d C E (D ∷ F) P s x B =
     let cs = map sentence_of (clause_list x.1) in
     let R = map sentence_of x.2 in
     let e : map sentence_of P ≡ cs ++ R = ap (λ X. map sentence_of X) x.5 ∙ map-append sentence_of (clause_list x.1) x.2 in
-    let one : SameClauses d E (B ++ D ∷ F) (B ++ (cs ++ F)) = sentence_flat B F x.0 D x.1 s.0 x.3 refl refl in
-    let rest = program_apart d E F x.2 s.1 x.4 (B ++ cs) in
+    let one : SameClauses InAny d C E (B ++ D ∷ F) (B ++ (cs ++ F)) = sentence_flat B F x.0 D x.1 refl s.0 x.3 refl refl in
+    let rest = program_apart d C E F x.2 s.1 x.4 (B ++ cs) in
     one_by_one (B ++ (cs ++ F)) one
-    (transport (λ X. SameClauses d E (B ++ (cs ++ F)) (B ++ X)) (sym e) (transport (λ X. SameClauses d E X (B ++ (cs ++ R))) (append_assoc B cs F) (transport (SameClauses d E ((B ++ cs) ++ F)) (append_assoc B cs R) rest)))
+    (transport (λ X. SameClauses InAny d C E (B ++ (cs ++ F)) (B ++ X)) (sym e) (transport (λ X. SameClauses InAny d C E X (B ++ (cs ++ R))) (append_assoc B cs F) (transport (SameClauses InAny d C E ((B ++ cs) ++ F)) (append_assoc B cs R) rest)))
 
-pub program_kept : {L : Leaves} (d : Declared) → KeepsSame L d → (F : List ClauseFormula) (P : List Clause) → EachOf (IsSentence d) F → AreFlattened d F P → AreKept L [] F (map sentence_of P) × AreKept L [] (map sentence_of P) F
-program_kept d alike F P s x =
-    let a = program_apart d [] F P s x [] in
+pub program_kept : {L : Leaves} (d : Declared) (F : List ClauseFormula) (P : List Clause) → KeepsSame InAny P L d → EachOf (IsSentence d) F → AreFlattened d F P → AreKept L [] F (map sentence_of P) × AreKept L [] (map sentence_of P) F
+program_kept d F P alike s x =
+    let a = program_apart d P [] F P s x [] in
+    (kept_so d alike [] F (map sentence_of P) a, kept_so d alike [] (map sentence_of P) F (other_way a))
+
+-- in their order
+pub program_in_order : {L : Leaves} (d : Declared) (F : List ClauseFormula) (P : List Clause) → KeepsSame (InOrder F) P L d → AreFlattened d F P → AreKept L [] F (map sentence_of P) × AreKept L [] (map sentence_of P) F
+program_in_order d F P alike x =
+    let a : SameClauses (InOrder F) d P [] F (map sentence_of P) = program_flat F [] refl x (sym (append-nil F)) (sym (append-nil (map sentence_of P))) in
     (kept_so d alike [] F (map sentence_of P) a, kept_so d alike [] (map sentence_of P) F (other_way a))
 
 -- failing searches, and those of which something holds that is said of the search and of the types of eigenconstants alone
-pub failed_same : (d : Declared) (P : List Clause) → KeepsSame (IsFailedSearch d P) d
-failed_same d P = record {
+pub failed_same : (o : Order) (d : Declared) (P : List Clause) → KeepsSame o P (IsFailedSearch o d P) d
+failed_same o d P = record {
   goals = λ E R G H f v h. record { eigens = h.eigens; begins = h.begins; closing = h.closing; closes = h.closes; is_closed = h.is_closed; goal = goal_then G h.goal v; clauses = h.clauses; program = h.program; ends = h.ends; gives_none = h.gives_none };
   clauses = λ E R S G f s h. record { eigens = h.eigens; begins = h.begins; closing = h.closing; closes = h.closes; is_closed = h.is_closed; goal = h.goal; clauses = one_by_one R h.clauses s; program = h.program; ends = h.ends; gives_none = h.gives_none };
 }
 
-pub more_same : {L : Leaves} (d : Declared) → KeepsSame L d → (X : List Ty → Failure → Type 0) → KeepsSame (λ E R G f. L E R G f × X E f) d
+pub more_same : {o : Order} {C : List Clause} {L : Leaves} (d : Declared) → KeepsSame o C L d → (X : List Ty → Failure → Type 0) → KeepsSame o C (λ E R G f. L E R G f × X E f) d
 more_same d alike X = record { goals = λ E R G H f v h. (alike.goals E R G H f v h.0, h.1); clauses = λ E R S G f s h. (alike.clauses E R S G f s h.0, h.1) }
 
 itself : (x : ℕ) → x ≤ x
@@ -140,13 +141,13 @@ wider : (n rows : ℕ) → rows ≤ n + rows
 wider n rows = omega arith
 
 -- a refuted search
-module _ (n : ℕ) (d : Declared) (P : List Clause) (V : List Variable) (E : List Ty) (next_type : ℕ) (gs : Goals) (css : List Clauses) (w : Written) (typed : IsTyped d E V (formula_of_goals gs) o_type)
+module _ (o : Order) (n : ℕ) (d : Declared) (P : List Clause) (V : List Variable) (E : List Ty) (next_type : ℕ) (gs : Goals) (css : List Clauses) (w : Written) (typed : IsTyped d E V (formula_of_goals gs) o_type)
     (begins : IsTypedBranch n d no_query (denied_typing V E gs) (denied_branch (length V) next_type gs (newest_first css) w (length E)))
     (steps j rows k p : ℕ) (ns : List Note) (is_final : Answer → Bool) (r : inner (look unit_limit n P) j is_final (starts_within rows (denied_task (length V) next_type gs (newest_first css) w (length E)) steps 1) ≡ Refuted k ns p) where
   pub leaf : Failure
   leaf = record { limit = steps + rows; looks = n; moves = j; variables = V; next_type = next_type; goals = gs; assumed = css; written = w; program = P }
 
-  pub refuted_fails_so : (c : Closing) → Closes d V c → IsFailedSearch d P (map (instance c.types) E) (clauses_at P (newest_first css) c) (closed c (formula_of_goals gs)) leaf
+  pub refuted_fails_so : (c : Closing) → Closes d V c → IsFailedSearch o d P (map (instance c.types) E) (clauses_at P (newest_first css) c) (closed c (formula_of_goals gs)) leaf
   unfolding leaf
   refuted_fails_so c cl =
       let f = formula_at d V c cl E (formula_of_goals gs) typed in
@@ -157,7 +158,7 @@ module _ (n : ℕ) (d : Declared) (P : List Clause) (V : List Variable) (E : Lis
         closes = cl;
         is_closed = refl;
         goal = goal_converts f f (same (closed c (formula_of_goals gs)));
-        clauses = no_other d (map (instance c.types) E) (clauses_at P (newest_first css) c);
+        clauses = unchanged refl;
         program = refl;
         ends = ends_within P (denied_task (length V) next_type gs (newest_first css) w (length E)) steps n j rows k p ns is_final r unit_limit (steps + rows) (itself unit_limit) (longer steps rows) (wider steps rows);
         gives_none = none_within P (denied_task (length V) next_type gs (newest_first css) w (length E)) steps n j rows k p ns is_final r unit_limit (steps + rows) (itself unit_limit) (longer steps rows) (wider steps rows);

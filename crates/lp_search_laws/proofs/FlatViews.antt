@@ -1,8 +1,7 @@
 -- Flattened goals at the front of a branch, taken apart.
 use Rattle.lp_proof_laws.proofs.Uniform.Settings.{IsSetting}
-use Rattle.std.proofs.Common.{◌≡◌, ℕ, zero, suc, List, [], ◌∷◌, ◌++◌, map, length, Some, ◌∙◌, refl, sym, ap, subst as transport, inl, inr, Bool, true, false, append_assoc, append-nil}
-use Rattle.std.specs.Prelude.{◌+◌, slice_get, slice_index_or}
-use Rattle.std.proofs.lemmas.List.{map-append}
+use Rattle.std.proofs.Common.{◌≡◌, ℕ, zero, suc, List, [], ◌∷◌, ◌++◌, map, length, ◌∙◌, refl, sym, ap, subst as transport, Bool, true, false, append_assoc}
+use Rattle.std.specs.Prelude.{slice_index_or}
 use Rattle.lp_unify_laws.specs.TypesBelow.{AreTypesBelow}
 use Rattle.lp_calculus.specs.Types.{Ty, instance}
 use Rattle.lp_calculus.specs.Term.{Term, substitute}
@@ -13,18 +12,15 @@ use Rattle.lp_model.specs.Pair.{Closing, closed}
 use Rattle.lp_calculus.specs.Spine.{head_of}
 use Rattle.lp_standard.specs.Schemes.{IsStandard}
 use Rattle.lp_model.specs.Flat.{Written, Goal, Goals, Clause, Clauses, goal_list, clause_list, instantiate_goals, formula_of_goal, formula_of_goals, formula_of_clause, formula_of_clauses}
-use Rattle.lp_model.specs.Flatten.{ClauseFormula}
 use Rattle.lp_model.specs.Branch.{Entry, entries}
 use Rattle.lp_model.specs.Answers.{Variable, Closes}
-use Rattle.lp_model.specs.Proofs.{Declared, IsFormula, Stands, assumed, Leaves, ProvableBy}
+use Rattle.lp_model.specs.Proofs.{Declared, IsFormula, assumed, Leaves, ProvableBy}
 use Rattle.lp_unify_laws.proofs.Scopes.{prefix_more, more_none}
-use Rattle.lp_proof_laws.proofs.Uniform.Assumptions.{extends_self}
-use Rattle.lp_proof_laws.proofs.Uniform.Contexts.{get_front, get_back, get_split}
-use Rattle.lp_proof_laws.proofs.Uniform.Uniforms.{other_clauses, stands_more}
 use Rattle.lp_search_laws.specs.Holds.{Holds, IsTyped}
-use Rattle.lp_search_laws.specs.Clauses.{assumed_as, sentence_of, clauses_at}
+use Rattle.lp_search_laws.specs.Clauses.{assumed_at, sentence_of, clauses_at}
 use Rattle.lp_search_laws.specs.Branches.{IsPlainTerm, IsClauseHead, IsGoal, AreGoals, IsAssumable, IsTypedEntry, AreProved, IsPlainEntry}
 use Rattle.lp_search_laws.specs.Written.{IsWrittenGoal, AreWrittenGoals, IsWrittenPlace}
+use Rattle.lp_search_laws.proofs.AssumedLists.{both_assumed}
 use Rattle.lp_search_laws.proofs.Goals.{goals_in_turn}
 use Rattle.lp_search_laws.proofs.Written.{goals_each as written_each, instantiated_goals}
 use Rattle.lp_search_laws.proofs.Opened.{first_only}
@@ -106,42 +102,10 @@ next_place d V k E A l T b p = record {
     below (U ∷ E) h = (h.0, below E h.1)
 
 -- assumptions: those that are new stand in front in the branch, and behind as they are assumed
-get_swap : {A : Type 0} (xs ys zs : List A) (i : ℕ) (x : A) → slice_get ((xs ++ ys) ++ zs) i ≡ Some x → (j : ℕ) × (slice_get (xs ++ (zs ++ ys)) j ≡ Some x)
-get_swap xs ys zs i x e = elim (get_split (xs ++ ys) zs i x e) [
-  | inl a ↦ elim (get_split xs ys i x a) [
-    | inl b ↦ (i, get_front xs (zs ++ ys) i x b)
-    | inr b ↦ (length xs + (length zs + b.0), get_back xs (zs ++ ys) _ ∙ get_back zs ys b.0 ∙ b.2)
-  ]
-  | inr a ↦ (length xs + a.0, get_back xs (zs ++ ys) a.0 ∙ get_front zs ys a.0 x a.2)
-]
-
-abbrev Both : List ClauseFormula → List ClauseFormula → Type 0
-Both P R = Stands P R × Stands R P
-
-both_more : (P R : List ClauseFormula) (D : ClauseFormula) → Both P R → Both (P ++ D ∷ []) (R ++ D ∷ [])
-both_more P R D x = (stands_more P R D x.0, stands_more R P D x.1)
-
-swapped : (xs ys zs : List ClauseFormula) → Stands ((xs ++ ys) ++ zs) (xs ++ (zs ++ ys))
-swapped xs ys zs = record { at = λ i D e. get_swap xs ys zs i D e }
-
-swapped_back : (xs ys zs : List ClauseFormula) → Stands (xs ++ (zs ++ ys)) ((xs ++ ys) ++ zs)
-swapped_back xs ys zs = record {
-  at = λ i D e. let g = get_swap xs zs ys i D (transport (λ z. slice_get z i ≡ Some D) (sym (append_assoc xs zs ys)) e) in (g.0, transport (λ z. slice_get z g.0 ≡ Some D) (sym (append_assoc xs ys zs)) g.1);
-}
-
--- the same clauses in another order prove the same
-pub reordered : {L : Leaves} (d : Declared) → IsSetting L d → (E : List Ty) (P R : List ClauseFormula) (G : Term) → Stands P R → Stands R P → ProvableBy L d E P G → ProvableBy L d E R G
-reordered {L} d std E P R G s r p = other_clauses L Both (λ P R x. x.0) both_more (λ E P R G f x l. transport (λ Q. L E Q G f) (append-nil R) (std.order E P R x.0 x.1 [] E (extends_self E) G f (transport (λ Q. L E Q G f) (sym (append-nil P)) l))) d E P R G (s, r) p
-
 pub assumed_proved : {L : Leaves} (d : Declared) → IsSetting L d → (E : List Ty) (P A : List Clause) (c : Closing) (cs : Clauses) (G : Term) → IsFormula d E (closed c (formula_of_clauses cs)) →
     (ProvableBy L d E (clauses_at P A c ++ assumed (closed c (formula_of_clauses cs)) ∷ []) G → ProvableBy L d E (clauses_at P (clause_list cs ++ A) c) G) ×
     (ProvableBy L d E (clauses_at P (clause_list cs ++ A) c) G → ProvableBy L d E (clauses_at P A c ++ assumed (closed c (formula_of_clauses cs)) ∷ []) G)
 assumed_proved {L} d std E P A c cs G f =
     let r = stand_apart d std E (clauses_at P A c) c cs f G in
-    let xs = map sentence_of P in
-    let ys = map (assumed_as c) A in
-    let zs = map (assumed_as c) (clause_list cs) in
-    let e : xs ++ (zs ++ ys) ≡ clauses_at P (clause_list cs ++ A) c = ap (λ z. map sentence_of P ++ z) (sym (map-append (assumed_as c) (clause_list cs) A)) in (
-      (λ p. transport (λ R. ProvableBy L d E R G) e (reordered d std E ((xs ++ ys) ++ zs) (xs ++ (zs ++ ys)) G (swapped xs ys zs) (swapped_back xs ys zs) (r.0 p))),
-      (λ p. r.1 (reordered d std E (xs ++ (zs ++ ys)) ((xs ++ ys) ++ zs) G (swapped_back xs ys zs) (swapped xs ys zs) (transport (λ R. ProvableBy L d E R G) (sym e) p))),
-    )
+    let e : clauses_at P A c ++ assumed_at c (clause_list cs) ≡ clauses_at P (clause_list cs ++ A) c = append_assoc (map sentence_of P) (assumed_at c A) (assumed_at c (clause_list cs)) ∙ ap (λ z. map sentence_of P ++ z) (sym (both_assumed c (clause_list cs) A)) in
+    ((λ p. transport (λ R. ProvableBy L d E R G) e (r.0 p)), (λ p. r.1 (transport (λ R. ProvableBy L d E R G) (sym e) p)))

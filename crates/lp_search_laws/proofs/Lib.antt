@@ -1,4 +1,5 @@
 pub mod ClosedTerms
+pub mod AssumedLists
 pub mod Closed
 pub mod Connectives
 pub mod Entries

@@ -23,7 +23,7 @@ use Rattle.lp_unify_laws.proofs.TypedBindings.{HasAtomType, typed_atoms}
 use Rattle.lp_proof_laws.proofs.Uniform.Contexts.{get_front, get_split}
 use Rattle.lp_lemmas.proofs.Each.{each_append}
 use Rattle.lp_search_laws.specs.Holds.{Holds, IsTyped, with_value, IsOther, IsUnused}
-use Rattle.lp_search_laws.specs.Clauses.{clauses_at, assumed_as, sentence_of}
+use Rattle.lp_search_laws.specs.Clauses.{clauses_at, assumed_at, sentence_of}
 use Rattle.lp_search_laws.specs.Branches.{AreTypedEntries, AreProved, EntryHolds, BranchTyping, IsTypedBranch, SolvesBranch, IsPlainVariable, StandFor, going}
 use Rattle.lp_search_laws.proofs.Closed.{unused_closed, value_at}
 use Rattle.lp_search_laws.proofs.TypedParts.{typed_wider}
@@ -88,9 +88,9 @@ module _ (d : Declared) (P : List Clause) (V : List Variable) (x l : ℕ) (ne : 
   same_term : (E : List Ty) (t : Term) (T : Ty) → Typed (over d E V) [] t T → closed (with_value c x l w) t ≡ closed c t
   same_term E t T h = unused_closed c x l w t (unused_new d E V x l ne t T h)
 
-  same_clauses : (E : List Ty) (A : List Clause) → EachOf (λ k. IsTyped d E V (formula_of_clause k) o_type) A → map (assumed_as (with_value c x l w)) A ≡ map (assumed_as c) A
+  same_clauses : (E : List Ty) (A : List Clause) → EachOf (λ k. IsTyped d E V (formula_of_clause k) o_type) A → assumed_at (with_value c x l w) A ≡ assumed_at c A
   same_clauses E [] h = refl
-  same_clauses E (k ∷ A) h = let a = same_term E (formula_of_clause k) o_type h.0.typed in let r = same_clauses E A h.1 in λ i. record { type_vars = 0; formula = a i } ∷ r i
+  same_clauses E (k ∷ A) h = let a = same_term E (formula_of_clause k) o_type h.0.typed in let r = same_clauses E A h.1 in λ i. r i ++ record { type_vars = 0; formula = a i } ∷ []
 
   pub same_context : (E : List Ty) (A : List Clause) → EachOf (λ k. IsTyped d E V (formula_of_clause k) o_type) A → clauses_at P A (with_value c x l w) ≡ clauses_at P A c
   same_context E A h = ap (λ r. map sentence_of P ++ r) (same_clauses E A h)

@@ -30,7 +30,8 @@ use Rattle.lp_proof_laws.proofs.Flattened.ReadsBack.{to_flat, from_flat}
 use Rattle.lp_unify_laws.proofs.Looks.{beta_reduces}
 use Rattle.lp_unify_laws.proofs.NewInstances.{reduces_instance}
 use Rattle.lp_unify_laws.proofs.TypedInstances.{get_map}
-use Rattle.lp_search_laws.specs.Clauses.{sentence_of}
+use Rattle.lp_search_laws.specs.Clauses.{sentence_of, assumed_as, assumed_at}
+use Rattle.lp_search_laws.proofs.AssumedLists.{got_assumed, get_assumed}
 use Rattle.lp_search_laws.proofs.Closed.{formula_reduces}
 use Rattle.lp_proof_laws.proofs.Uniform.Settings.{IsSetting, without_leaves}
 use Rattle.lp_search_laws.proofs.Serving.{Served, Serves, served_in_front, served_behind, serves_more, serves_first, serves_eigens, served}
@@ -197,35 +198,33 @@ module _ {L : Leaves} (d : Declared) (std : IsSetting L d) where
   closing_keeps c θ = record { truth = refl; both = λ a b. refl }
 
   module _ (E : List Ty) (P : List ClauseFormula) (c : Closing) (cs : Clauses) (f : IsFormula d E (closed c (formula_of_clauses cs))) where
-    abbrev as_assumed : Clause → ClauseFormula
-    as_assumed k = assumed (closed c (formula_of_clause k))
-
     abbrev whole : ClauseFormula
     whole = assumed (closed c (formula_of_clauses cs))
 
     fine_at : (ts : List Ty) (F : List Ty) → Extends E F → IsFormula d F (instance_term (type_at ts) (closed c (formula_of_clauses cs)))
     fine_at ts F x = transport (λ z. IsFormula d z (instance_term (type_at ts) (closed c (formula_of_clauses cs)))) (sym x.is) (formula_eigens d E x.rest (instance_term (type_at ts) (closed c (formula_of_clauses cs))) (transport (IsFormula d E) (sym (closed_instance (length E) (type_at ts) (closed c (formula_of_clauses cs)) f.closed)) f))
 
-    pub parts_serve : Serves L d E (whole ∷ []) (map as_assumed (clause_list cs))
+    pub parts_serve : Serves L d E (whole ∷ []) (assumed_at c (clause_list cs))
     parts_serve = record { at = go }
       where
-        go : (i : ℕ) (K : ClauseFormula) → slice_get (whole ∷ []) i ≡ Some K → (ts : List Ty) → length ts ≡ K.type_vars → AreClosed ts → (F : List Ty) → Extends E F → (Q : List ClauseFormula) (A : Term) → IsAtomHead (head_of A) → FocusableBy L d F Q (instance_term (type_at ts) K.formula) A → Served L d F Q (map as_assumed (clause_list cs)) A
+        go : (i : ℕ) (K : ClauseFormula) → slice_get (whole ∷ []) i ≡ Some K → (ts : List Ty) → length ts ≡ K.type_vars → AreClosed ts → (F : List Ty) → Extends E F → (Q : List ClauseFormula) (A : Term) → IsAtomHead (head_of A) → FocusableBy L d F Q (instance_term (type_at ts) K.formula) A → Served L d F Q (assumed_at c (clause_list cs)) A
         go zero K e ts l k F x Q A h r =
             let q : K ≡ whole = cc in
             let o = split_focus d std.standard F Q (λ t. instance_term (type_at ts) (closed c t)) (closing_keeps c (type_at ts)) A h cs (fine_at ts F x) (transport (λ w. FocusableBy L d F Q (instance_term (type_at ts) w.formula) A) q r) in
-            record { place = o.place; clause = as_assumed o.clause; is = get_map as_assumed (clause_list cs) o.place ∙ ap (option_map as_assumed) o.is; types = ts; count = l ∙ ap (λ w. w.type_vars) q; closed = k; focus = o.focus }
+            let g = get_assumed c (clause_list cs) o.place o.clause o.is in
+            record { place = g.0; clause = assumed_as c o.clause; is = g.1; types = ts; count = l ∙ ap (λ w. w.type_vars) q; closed = k; focus = o.focus }
         go (suc i) K e ts l k F x Q A h r = absurd (cc)
 
-    pub whole_serves : Serves L d E (map as_assumed (clause_list cs)) (whole ∷ [])
+    pub whole_serves : Serves L d E (assumed_at c (clause_list cs)) (whole ∷ [])
     whole_serves = record {
       at = λ i K e ts l k F x Q A h r.
-          let m = option_map_some (slice_get (clause_list cs) i) as_assumed K (sym (get_map as_assumed (clause_list cs) i) ∙ e) in
-          let q = transport (λ w. FocusableBy L d F Q (instance_term (type_at ts) w.formula) A) (sym m.2) r in
-          record { place = 0; clause = whole; is = refl; types = ts; count = l ∙ ap (λ w. w.type_vars) (sym m.2); closed = k; focus = join_focus d F Q (λ t. instance_term (type_at ts) (closed c t)) (closing_keeps c (type_at ts)) A cs i m.0 m.1 q };
+          let m = got_assumed c (clause_list cs) i K e in
+          let q = transport (λ w. FocusableBy L d F Q (instance_term (type_at ts) w.formula) A) (sym m.made) r in
+          record { place = 0; clause = whole; is = refl; types = ts; count = l ∙ ap (λ w. w.type_vars) (sym m.made); closed = k; focus = join_focus d F Q (λ t. instance_term (type_at ts) (closed c t)) (closing_keeps c (type_at ts)) A cs m.place m.clause m.is q };
     }
 
-    pub stand_apart : (G : Term) → (ProvableBy L d E (P ++ whole ∷ []) G → ProvableBy L d E (P ++ map as_assumed (clause_list cs)) G) × (ProvableBy L d E (P ++ map as_assumed (clause_list cs)) G → ProvableBy L d E (P ++ whole ∷ []) G)
+    pub stand_apart : (G : Term) → (ProvableBy L d E (P ++ whole ∷ []) G → ProvableBy L d E (P ++ assumed_at c (clause_list cs)) G) × (ProvableBy L d E (P ++ assumed_at c (clause_list cs)) G → ProvableBy L d E (P ++ whole ∷ []) G)
     stand_apart G = (
-      λ p. served d E (P ++ whole ∷ []) (P ++ map as_assumed (clause_list cs)) G (serves_first d E P (whole ∷ []) (map as_assumed (clause_list cs)) parts_serve) (std.apart E P c cs f) p,
-      λ p. served d E (P ++ map as_assumed (clause_list cs)) (P ++ whole ∷ []) G (serves_first d E P (map as_assumed (clause_list cs)) (whole ∷ []) whole_serves) (std.together E P c cs f) p,
+      λ p. served d E (P ++ whole ∷ []) (P ++ assumed_at c (clause_list cs)) G (serves_first d E P (whole ∷ []) (assumed_at c (clause_list cs)) parts_serve) (std.apart E P c cs f) p,
+      λ p. served d E (P ++ assumed_at c (clause_list cs)) (P ++ whole ∷ []) G (serves_first d E P (assumed_at c (clause_list cs)) (whole ∷ []) whole_serves) (std.together E P c cs f) p,
     )

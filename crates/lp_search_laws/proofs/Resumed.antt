@@ -37,7 +37,7 @@ use Rattle.lp_unify_laws.proofs.Trimmed.{closings_have_none, closings_are_kept}
 use Rattle.lp_unify_laws.proofs.Principal.{closings_are_the_same}
 use Rattle.lp_unify_laws.proofs.Stuck.{solve_stuck}
 use Rattle.lp_search_laws.specs.Holds.{IsTyped, IsVariableOf}
-use Rattle.lp_search_laws.specs.Clauses.{assumed_as, sentence_of, clauses_at}
+use Rattle.lp_search_laws.specs.Clauses.{assumed_at, sentence_of, clauses_at}
 use Rattle.lp_search_laws.specs.Branches.{IsPlainTerm, IsAssumable, AreProved, ArePlainEntries, IsPlainVariable, IsPlainPair, BranchTyping, IsTypedBranch, SolvesBranch, TypedTask, going, Sol, StandFor}
 use Rattle.lp_proof_laws.proofs.Uniform.Settings.{IsSetting}
 use Rattle.lp_search_laws.specs.Behind.{LeadsThrough, behind, types_of, variables_of, eigens_of, IsBranchWith, SolvesWith}
@@ -60,9 +60,9 @@ AreSame c z (E ∷ Es) (e ∷ es) = ((map (instance c.types) E ≡ map (instance
 AreSame c z [] (e ∷ es) = Unit {0}
 AreSame c z (E ∷ Es) [] = Unit {0}
 
-pub same_assumed : (c z : Closing) (A : List Clause) → EachOf (IsSame c z) (formulas A) → map (assumed_as c) A ≡ map (assumed_as z) A
+pub same_assumed : (c z : Closing) (A : List Clause) → EachOf (IsSame c z) (formulas A) → assumed_at c A ≡ assumed_at z A
 same_assumed c z [] w = refl
-same_assumed c z (k ∷ A) w = λ i. record { type_vars = 0; formula = w.0 i } ∷ same_assumed c z A w.1 i
+same_assumed c z (k ∷ A) w = let r = same_assumed c z A w.1 in λ i. r i ++ record { type_vars = 0; formula = w.0 i } ∷ []
 
 pub same_proved : (L : Leaves) (d : Declared) (P : List Clause) (c z : Closing) (Es : List (List Ty)) (es : List Entry) → AreSame c z Es es → AreProved L d P c Es es → AreProved L d P z Es es
 same_proved L d P c z [] [] w p = tt

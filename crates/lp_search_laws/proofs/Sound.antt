@@ -10,19 +10,21 @@ use Rattle.lp_model.specs.Branch.{Answer}
 use Rattle.lp_model.specs.Search.{look, start}
 use Rattle.lp_model.specs.Proofs.{AreFlattened, Declared, Leaves}
 use Rattle.lp_model.specs.Answers.{Query, AnswerTyping, Instance, IsClosedInstance, IsInstance, IsWellFormed, TypedAnswer}
+use Rattle.lp_proof_laws.proofs.Uniform.Assumptions.{AreKept}
+use Rattle.lp_search_laws.specs.Clauses.{sentence_of}
 use Rattle.lp_search_laws.specs.Begun.{first_branch, first_typing}
 use Rattle.lp_search_laws.specs.Started.{IsTypedQuery, IsTypedSentence, IsProvableBy}
-use Rattle.lp_search_laws.specs.Failed.{IsFailedSearch}
+use Rattle.lp_search_laws.specs.Failed.{Order, InOrder, IsFailedSearch}
 use Rattle.lp_search_laws.specs.Branches.{IsQueryInstance, Sol, TypedTask, going, task_of}
-use Rattle.lp_search_laws.proofs.Begins.{start_typed, program_typed, proves_it, each_sentence}
+use Rattle.lp_search_laws.proofs.Begins.{start_typed, program_typed, proves_it}
 use Rattle.lp_search_laws.proofs.LooksRight.{each_look}
 use Rattle.lp_search_laws.proofs.WholeRight.{query_instance, an_instance}
-use Rattle.lp_search_laws.proofs.FailedSearches.{KeepsSame, setting_of, failed_same, program_kept}
+use Rattle.lp_search_laws.proofs.FailedSearches.{KeepsSame, setting_of, failed_same, program_in_order}
 use Rattle.lp_search_laws.proofs.RefutedLeaves.{denied_leaf}
 use Rattle.lp_search_laws.proofs.Runs.{all_stay, run_right}
 use Rattle.lp_search_laws.proofs.Stack.Ends.{leaves_any}
 
-module _ {L : Leaves} (d : Declared) (std : IsStandard d) (same : KeepsSame L d) (l : ℕ) (F : List ClauseFormula) (P : List Clause) (s : EachOf (IsTypedSentence d) F) (x : AreFlattened d F P) (q : Query) (gs : Goals) (t : IsTypedQuery d q) (e : flatten_query l d q.formula ≡ Some gs) where
+module _ {o : Order} {L : Leaves} (d : Declared) (std : IsStandard d) (F : List ClauseFormula) (P : List Clause) (same : KeepsSame o P L d) (kept : AreKept L [] F (map sentence_of P) × AreKept L [] (map sentence_of P) F) (l : ℕ) (s : EachOf (IsTypedSentence d) F) (x : AreFlattened d F P) (q : Query) (gs : Goals) (t : IsTypedQuery d q) (e : flatten_query l d q.formula ≡ Some gs) where
   abbrev pub first : TypedTask
   first = going (first_typing q gs) (first_branch q.type_vars (length q.vars) gs)
 
@@ -32,7 +34,7 @@ module _ {L : Leaves} (d : Declared) (std : IsStandard d) (same : KeepsSame L d)
   each_proved [] w h = tt
   each_proved (a ∷ as') w h = (
     (λ i c. elim (h.0 i (query_instance d q a.typing a.answer i w.0 c) (an_instance d a.typing a.answer i c)) [
-      | inl y ↦ proves_it d (setting_of d same std) l q gs t e F P s x (program_kept d same F P (each_sentence d F s) x) i y
+      | inl y ↦ proves_it d (setting_of d same std) l q gs t e F P s x kept i y
       | inr y ↦ absurd y
     ]),
     each_proved as' w.1 h.1,
@@ -40,17 +42,17 @@ module _ {L : Leaves} (d : Declared) (std : IsStandard d) (same : KeepsSame L d)
 
 module _ (d : Declared) (std : IsStandard d) (l : ℕ) (F : List ClauseFormula) (P : List Clause) (s : EachOf (IsTypedSentence d) F) (x : AreFlattened d F P) (q : Query) (gs : Goals) (t : IsTypedQuery d q) (e : flatten_query l d q.formula ≡ Some gs) where
   abbrev Fine : Answer → Type 0
-  Fine a = (y : AnswerTyping) × IsWellFormed d q y a × ((i : Instance) → IsClosedInstance d y a i → IsProvableBy (IsFailedSearch d P) d F q i)
+  Fine a = (y : AnswerTyping) × IsWellFormed d q y a × ((i : Instance) → IsClosedInstance d y a i → IsProvableBy (IsFailedSearch (InOrder F) d P) d F q i)
 
-  each_fine : (as' : List TypedAnswer) → EachOf (λ a. IsWellFormed d q a.typing a.answer) as' → EachOf (λ a. (i : Instance) → IsClosedInstance d a.typing a.answer i → IsProvableBy (IsFailedSearch d P) d F q i) as' → EachOf Fine (map (λ a. a.answer) as')
+  each_fine : (as' : List TypedAnswer) → EachOf (λ a. IsWellFormed d q a.typing a.answer) as' → EachOf (λ a. (i : Instance) → IsClosedInstance d a.typing a.answer i → IsProvableBy (IsFailedSearch (InOrder F) d P) d F q i) as' → EachOf Fine (map (λ a. a.answer) as')
   each_fine [] w h = tt
   each_fine (a ∷ as') w h = ((a.typing, w.0, h.0), each_fine as' w.1 h.1)
 
   pub answers_sound : (n j m steps answers : ℕ) → EachOf Fine (run (look unit_limit n P) j m (start q.type_vars (length q.vars) gs steps answers)).answers
   answers_sound n j m steps answers =
       let first = going (first_typing q gs) (first_branch q.type_vars (length q.vars) gs) in
-      let same = failed_same d P in
+      let same = failed_same (InOrder F) d P in
       let setting = setting_of d same std in
-      let r = run_right n d P q (IsFailedSearch d P) j (λ u. Unit {0}) (λ u. Unit {0}) (λ k. Unit {0}) (λ k. ⊥) (λ height T k. each_look n d setting P (program_typed d std F P s x) q height T k) (λ height T k m. all_stay (λ u. Unit {0}) (look unit_limit n P height (task_of T)) (leaves_any (look unit_limit n P height (task_of T)))) (λ y z k h. h) (λ y z k h. h)
-      (λ T u f ts r m st rows k p ns y o c cl. let z = denied_leaf n d P q j T u f ts r st rows k p ns y c cl in (z.leaf, z.fails)) (λ T u f ts r m st rows k p ns y o c cl z. o) m (start q.type_vars (length q.vars) gs steps answers) (first ∷ []) refl (((start_typed d std l q gs t e n steps answers).1, tt), tt) in
-      transport (EachOf Fine) r.is (each_fine r.typed r.well_formed (each_proved d std same l F P s x q gs t e r.typed r.well_formed (r.sound tt)))
+      let r = run_right n d P q (IsFailedSearch (InOrder F) d P) j (λ u. Unit {0}) (λ u. Unit {0}) (λ k. Unit {0}) (λ k. ⊥) (λ height T k. each_look n d setting P (program_typed d std F P s x) q height T k) (λ height T k m. all_stay (λ u. Unit {0}) (look unit_limit n P height (task_of T)) (leaves_any (look unit_limit n P height (task_of T)))) (λ y z k h. h) (λ y z k h. h)
+      (λ T u f ts r m st rows k p ns y o c cl. let z = denied_leaf (InOrder F) n d P q j T u f ts r st rows k p ns y c cl in (z.leaf, z.fails)) (λ T u f ts r m st rows k p ns y o c cl z. o) m (start q.type_vars (length q.vars) gs steps answers) (first ∷ []) refl (((start_typed d std l q gs t e n steps answers).1, tt), tt) in
+      transport (EachOf Fine) r.is (each_fine r.typed r.well_formed (each_proved d std F P same (program_in_order d F P same x) l s x q gs t e r.typed r.well_formed (r.sound tt)))

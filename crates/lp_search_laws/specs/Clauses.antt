@@ -12,7 +12,8 @@ use Rattle.lp_calculus.specs.Spine.{head_of}
 use Rattle.lp_model.specs.Pair.{Closing, closed}
 use Rattle.lp_model.specs.Flat.{Clause, clause, Goals, formula_of_goals, formula_of_clause}
 use Rattle.lp_model.specs.Flatten.{ClauseFormula}
-use Rattle.lp_model.specs.Proofs.{Declared, IsFormula, IsSentence, IsWitness, IsAtomHead, assumed, Leaves, ProvableBy, FocusableBy}
+pub use Rattle.lp_proof_laws.specs.Assumed.{assumed_as, assumed_at}
+use Rattle.lp_model.specs.Proofs.{Declared, IsFormula, IsSentence, IsWitness, IsAtomHead, Leaves, ProvableBy, FocusableBy}
 
 -- terms for variables of these types, in the same order, at the eigenconstants E
 abbrev pub AreWitnessesAt : Declared → (E : List Ty) → List Term → List Ty → Type 0
@@ -53,13 +54,9 @@ pub record IsInFocus (L : Leaves) (d : Declared) (E : List Ty) (P : List ClauseF
 abbrev pub sentence_of : Clause → ClauseFormula
 sentence_of (clause k vs h body) = record { type_vars = k; formula = formula_of_clause (clause k vs h body) }
 
--- an assumed clause, as the closing makes it
-abbrev pub assumed_as : Closing → Clause → ClauseFormula
-assumed_as c x = assumed (closed c (formula_of_clause x))
-
 -- what the goals of a place are proved from
 abbrev pub clauses_at : (program assumed : List Clause) → Closing → List ClauseFormula
-clauses_at P A c = map sentence_of P ++ map (assumed_as c) A
+clauses_at P A c = map sentence_of P ++ assumed_at c A
 
 -- a declared constant or an eigenconstant is at its head
 abbrev pub HasAtomHead : Clause → Type 0

@@ -19,7 +19,7 @@ ghost use Rattle.lp_model.specs.Variables.{IsVariableBelow, Variable};
 ghost use Rattle.lp_search_laws.specs.Branches.{HasLeaf, IsProgramTyped, IsTypedBranch};
 ghost use Rattle.lp_search_laws.specs.Clauses.{clauses_at};
 ghost use Rattle.lp_search_laws.specs.Denials.{denied_task};
-ghost use Rattle.lp_search_laws.specs.Failed.{IsFailedSearch};
+ghost use Rattle.lp_search_laws.specs.Failed.{InAny, IsFailedSearch};
 ghost use Rattle.lp_search_laws.specs.Holds.{Holds};
 ghost use Rattle.lp_search_laws.specs.Started.{IsPlainQuery, IsPlainSentence, IsProvableBy, IsTypedQuery, IsTypedSentence};
 ghost use Rattle.lp_search_laws.specs.Unnegated.{AreUnnegatedGoals, IsUnnegatedClause};
@@ -53,8 +53,8 @@ pub fn negations_are_judged_rightly()
 pub fn negated_goals_are_decided()
     ensures { (n : ℕ) (d : Declared) → IsStandard d → (P : List Clause) → EachOf (IsProgramTyped d) P → (q : Query) (z : AnswerTyping) (b : Branch) (E : List Ty) (Es : List (List Ty)) (e : Entry) (es : List Entry) → IsTypedBranch n d q (record { answer = z; eigens = E ∷ Es }) (with_goals b (e ∷ es)) →
         (w : Written) (gs : Goals) → e.goal ≡ Not w gs → has_variables n (both_written w e.written) ≡ Some false → (j steps k p : ℕ) (ns : List Note) →
-        (inner (look unit_limit n P) j has_no_pairs (starts (denied_task b.next b.next_type gs e.assumed e.written e.level) steps 1) ≡ Refuted k ns p → (c : Closing) → Closes d z.variables c → HasLeaf (IsFailedSearch d P) P c E e.assumed gs) ×
-        (inner (look unit_limit n P) j has_no_pairs (starts (denied_task b.next b.next_type gs e.assumed e.written e.level) steps 1) ≡ Held k ns p → (c : Closing) → Closes d z.variables c → Holds (IsFailedSearch d P) d (map (instance c.types) E) (clauses_at P e.assumed c) c (formula_of_goals gs) × (HasLeaf (IsFailedSearch d P) P c E e.assumed gs → ⊥)) }
+        (inner (look unit_limit n P) j has_no_pairs (starts (denied_task b.next b.next_type gs e.assumed e.written e.level) steps 1) ≡ Refuted k ns p → (c : Closing) → Closes d z.variables c → HasLeaf (IsFailedSearch InAny d P) P c E e.assumed gs) ×
+        (inner (look unit_limit n P) j has_no_pairs (starts (denied_task b.next b.next_type gs e.assumed e.written e.level) steps 1) ≡ Held k ns p → (c : Closing) → Closes d z.variables c → Holds (IsFailedSearch InAny d P) d (map (instance c.types) E) (clauses_at P e.assumed c) c (formula_of_goals gs) × (HasLeaf (IsFailedSearch InAny d P) P c E e.assumed gs → ⊥)) }
 {}
 
 /// What the query `not G` says, where G has no variables and neither G nor the program a negation: it is answered only where G has no proof, and it ends with no
@@ -68,11 +68,11 @@ pub fn closed_negations_are_right()
 /// The same whatever negations stand in G and in the program: G has a proof or none, with failing searches for what is negated in it.
 pub fn closed_negations_are_decided()
     ensures { (d : Declared) → IsStandard d → (l : ℕ) (F : List ClauseFormula) (P : List Clause) → EachOf (IsTypedSentence d) F → AreFlattened d F P → (G : Term) (gs : Goals) → IsTypedQuery d (record { type_vars = 0; vars = []; formula = G }) → flatten_query l d G ≡ Some gs → (n j m steps answers : ℕ) →
-        ((a : Answer) (more : List Answer) → (run (look unit_limit n P) j m (start 0 0 (goals (denied gs) no_goals) steps answers)).answers ≡ a ∷ more → IsProvableBy (IsFailedSearch d P) d F (record { type_vars = 0; vars = []; formula = G }) (record { types = []; values = [] }) → ⊥) ×
-        ((run (look unit_limit n P) j m (start 0 0 (goals (denied gs) no_goals) steps answers)).ending ≡ Some NoMore → (run (look unit_limit n P) j m (start 0 0 (goals (denied gs) no_goals) steps answers)).answers ≡ [] → IsProvableBy (IsFailedSearch d P) d F (record { type_vars = 0; vars = []; formula = G }) (record { types = []; values = [] })) }
+        ((a : Answer) (more : List Answer) → (run (look unit_limit n P) j m (start 0 0 (goals (denied gs) no_goals) steps answers)).answers ≡ a ∷ more → IsProvableBy (IsFailedSearch InAny d P) d F (record { type_vars = 0; vars = []; formula = G }) (record { types = []; values = [] }) → ⊥) ×
+        ((run (look unit_limit n P) j m (start 0 0 (goals (denied gs) no_goals) steps answers)).ending ≡ Some NoMore → (run (look unit_limit n P) j m (start 0 0 (goals (denied gs) no_goals) steps answers)).answers ≡ [] → IsProvableBy (IsFailedSearch InAny d P) d F (record { type_vars = 0; vars = []; formula = G }) (record { types = []; values = [] })) }
 {}
 
 /// No formula and its negation are both provable, from whatever clauses, with failing searches of a typed program as leaves.
 pub fn negation_is_consistent()
-    ensures { (d : Declared) → IsStandard d → (P : List Clause) → EachOf (IsProgramTyped d) P → (E : List Ty) (R : List ClauseFormula) (G : Term) → IsFormula d E (not_of G) → ProvableBy (IsFailedSearch d P) d E R G → ProvableBy (IsFailedSearch d P) d E R (not_of G) → ⊥ }
+    ensures { (d : Declared) → IsStandard d → (P : List Clause) → EachOf (IsProgramTyped d) P → (E : List Ty) (R : List ClauseFormula) (G : Term) → IsFormula d E (not_of G) → ProvableBy (IsFailedSearch InAny d P) d E R G → ProvableBy (IsFailedSearch InAny d P) d E R (not_of G) → ⊥ }
 {}

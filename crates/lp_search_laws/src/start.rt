@@ -8,14 +8,14 @@ ghost use Rattle.lp_lemmas.specs.Each.{EachOf};
 ghost use Rattle.lp_model.specs.Pair.{Closing, closed};
 ghost use Rattle.lp_model.specs.Proofs.{AreFlattened, Declared, IsFormula, IsSentence, PlainlyProvable, assumed, no_leaf};
 ghost use Rattle.lp_standard.specs.Schemes.{IsStandard};
-ghost use Rattle.lp_model.specs.Flat.{Goals, Clause, Clauses, clause_list, formula_of_clause, formula_of_clauses};
+ghost use Rattle.lp_model.specs.Flat.{Goals, Clause, Clauses, clause_list, formula_of_clauses};
 ghost use Rattle.lp_model.specs.Flatten.{ClauseFormula, flatten_query};
 ghost use Rattle.lp_model.specs.Answers.{Query, Instance, AreWitnesses};
 ghost use Rattle.lp_model.specs.Branch.{Go};
 ghost use Rattle.lp_model.specs.Search.{start};
 ghost use Rattle.lp_search_laws.specs.Begun.{first_branch, first_typing};
 ghost use Rattle.lp_search_laws.specs.Branches.{IsProgramTyped, IsTypedBranch, SolvesBranch};
-ghost use Rattle.lp_search_laws.specs.Clauses.{sentence_of};
+ghost use Rattle.lp_search_laws.specs.Clauses.{assumed_at, sentence_of};
 ghost use Rattle.lp_search_laws.specs.Started.{IsTypedQuery, IsTypedSentence, StartHolds, IsPlainlyProvable};
 
 /// The flattened clauses of a program, each on its own, prove exactly what its sentences prove, with any clauses behind them.
@@ -28,9 +28,9 @@ pub fn flattened_clauses_are_sentences()
     ensures { (d : Declared) → IsStandard d → (F : List ClauseFormula) (P : List Clause) → EachOf (IsSentence d) F → AreFlattened d F P → EachOf (λ c. IsSentence d (sentence_of c)) P }
 {}
 
-/// Clauses that are assumed together may be assumed each on its own.
+/// Clauses that are assumed together may be assumed each on its own, the first one last.
 pub fn assumptions_stand_apart()
-    ensures { (d : Declared) → IsStandard d → (E : List Ty) (P : List ClauseFormula) (c : Closing) (cs : Clauses) (G : Term) → IsFormula d E (closed c (formula_of_clauses cs)) → (PlainlyProvable d E (P ++ assumed (closed c (formula_of_clauses cs)) ∷ []) G → PlainlyProvable d E (P ++ map (λ k. assumed (closed c (formula_of_clause k))) (clause_list cs)) G) × (PlainlyProvable d E (P ++ map (λ k. assumed (closed c (formula_of_clause k))) (clause_list cs)) G → PlainlyProvable d E (P ++ assumed (closed c (formula_of_clauses cs)) ∷ []) G) }
+    ensures { (d : Declared) → IsStandard d → (E : List Ty) (P : List ClauseFormula) (c : Closing) (cs : Clauses) (G : Term) → IsFormula d E (closed c (formula_of_clauses cs)) → (PlainlyProvable d E (P ++ assumed (closed c (formula_of_clauses cs)) ∷ []) G → PlainlyProvable d E (P ++ assumed_at c (clause_list cs)) G) × (PlainlyProvable d E (P ++ assumed_at c (clause_list cs)) G → PlainlyProvable d E (P ++ assumed (closed c (formula_of_clauses cs)) ∷ []) G) }
 {}
 
 /// A query has a provable instance exactly where the goals that the search starts with hold under a closing that gives the instance.

@@ -1,5 +1,5 @@
 -- A look through shared nodes for one that passes a test: marked nodes are not looked at again.
-use Rattle.std.specs.Prelude.{◌≡◌, ℕ, ◌+◌, ◌<◌, Bool, true, List, [], ◌∷◌, All}
+use Rattle.std.specs.Prelude.{◌≡◌, ℕ, ◌+◌, ◌<◌, Bool, true, List, [], ◌∷◌}
 use Rattle.std.specs.List.{list_any}
 use Rattle.lp_lemmas.specs.Each.{AnyOf}
 use Rattle.lp_term.specs.Nodes.{Nodes, type_tree, tree}
@@ -20,30 +20,29 @@ type_weight b i = type_size (type_tree b i)
 abbrev pub term_weight : Nodes → ℕ → ℕ
 term_weight b i = term_size (tree b i)
 
-abbrev pub weight_of_all : (ℕ → ℕ) → List ℕ → ℕ
+abbrev pub weight_of_all : {N : Type 0} → (N → ℕ) → List N → ℕ
 weight_of_all w [] = 0
-weight_of_all w (i ∷ is) = w i + weight_of_all w is
+weight_of_all w (n ∷ ns) = w n + weight_of_all w ns
 
--- the node passes exactly where one of these does, which have smaller numbers and are lighter in all
-pub record AreParts (P : ℕ → Bool) (w : ℕ → ℕ) (n : ℕ) (ps : List ℕ) : Type 0 where
-  pub smaller : All (λ i. i < n) ps
+-- the node passes exactly where one of these does, which are lighter in all
+pub record AreParts {N : Type 0} (P : N → Bool) (w : N → ℕ) (n : N) (ps : List N) : Type 0 where
   pub lighter : weight_of_all w ps < w n
   pub passes : P n ≡ list_any P ps
 
 -- one of the nodes passes
-abbrev pub SomeOf : (ℕ → Bool) → List ℕ → Type 0
-SomeOf P is = AnyOf (λ i. P i ≡ true) is
+abbrev pub SomeOf : {N : Type 0} → (N → Bool) → List N → Type 0
+SomeOf P ns = AnyOf (λ n. P n ≡ true) ns
 
--- one whose number is smaller
-abbrev pub SomeBelow : (ℕ → Bool) → ℕ → List ℕ → Type 0
-SomeBelow P n is = AnyOf (λ i. (i < n) × (P i ≡ true)) is
+-- one that weighs less does
+abbrev pub SomeBelow : {N : Type 0} → (N → Bool) → (N → ℕ) → ℕ → List N → Type 0
+SomeBelow P w m ns = AnyOf (λ n. (w n < m) × (P n ≡ true)) ns
 
 -- no marked node passes
-abbrev pub IsClean : (P marked : ℕ → Bool) → Type 0
-IsClean P marked = (i : ℕ) → marked i ≡ true → P i ≡ true → ⊥
+abbrev pub IsClean : {N : Type 0} → (P marked : N → Bool) → Type 0
+IsClean {N} P marked = (n : N) → marked n ≡ true → P n ≡ true → ⊥
 
--- one of the given nodes passes exactly where one that is left does, and where a marked node passes a smaller one that is left does
-pub record Leads (P : ℕ → Bool) (given left : List ℕ) (marked : ℕ → Bool) : Type 0 where
+-- one of the given nodes passes exactly where one that is left does, and where a marked node passes a lighter one that is left does
+pub record Leads {N : Type 0} (P : N → Bool) (w : N → ℕ) (given left : List N) (marked : N → Bool) : Type 0 where
   pub honest : SomeOf P left → SomeOf P given
   pub wanted : SomeOf P given → SomeOf P left
-  pub met : (i : ℕ) → marked i ≡ true → P i ≡ true → SomeBelow P i left
+  pub met : (n : N) → marked n ≡ true → P n ≡ true → SomeBelow P w (w n) left

@@ -21,5 +21,5 @@ pub returns-in_ok-extend_from_slice-in-App-clause-parts : goal.returns-in_ok-ext
 returns-in_ok-extend_from_slice-in-App-clause-parts c = λ e. (
   c.in-App.head ∷ c.in-App.args.now,
   put_all c.args.left.now.items c.push-in-App.new.self.items c.extend_from_slice.new.self.items c.in-App.head c.in-App.args.now c.in_ok-push-in-App.ensures.items c.in_ok-extend_from_slice-in-App.ensures.items,
-  app_parts c.args.bank.now c.args.term.0 c.in-App.head.0 _ c.in-App.ensures.tree c.in-App.ensures.older,
+  app_parts c.args.bank.now c.args.term.0 c.in-App.head.0 _ c.in-App.ensures.tree c.in-App.ensures.older.2,
 )

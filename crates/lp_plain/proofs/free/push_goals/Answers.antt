@@ -1,0 +1,11 @@
+use Rattle.std.proofs.Common.{arith}
+use Rattle.std.proofs.lemmas.List.{nil_from_length}
+use Rattle.lp_plain.proofs.Collects.{no_goals_split, goals_split}
+use Rattle.lp_plain.proofs.free.push_goals.Goals as goal
+
+pub returns-in_default : goal.returns-in_default
+returns-in_default c = λ b. no_goals_split b c.args.depth c.args.left.now.items c.args.goals.now (nil_from_length c.args.goals.now c.in_default.ensures.cases)
+
+pub returns : goal.returns
+returns c = λ b.
+    goals_split b c.args.depth c.args.left.now.items c.push_goal.new.left.items c.push.new.self.items c.args.goals.now c.in-Some.first.now c.in-Some.rest c.in-Some.ensures.cases.0 (c.in_ok-push_goal.ensures b) c.in_ok-push.ensures.items
