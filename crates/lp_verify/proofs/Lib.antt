@@ -4,9 +4,13 @@ mod Sides
 mod KeptBlocks
 mod Places
 mod Members
+mod LooseLists
+mod LooseSeen
+mod MergeSteps
 mod SavedRegisters
 mod KeptRegisters
 mod HandedOn
+mod TermsMade
 mod Outlines
 mod Joined
 mod KeyLaws

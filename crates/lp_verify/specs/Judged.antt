@@ -11,15 +11,16 @@ use Rattle.lp_code.specs.Denote.{first_fault_of}
 use Rattle.lp_verify.specs.declared.refusal.VerifyRefusal.{VerifyRefusal}
 use Rattle.lp_verify.specs.declared.refusal.VerifyRefusal.TheVariants as refusal
 
--- the rules on registers' numbers, on reading and setting them, on constants, on the order of instructions, on blocks, on assumed records and on the key
+-- the rules on registers' numbers, on reading and setting them, on constants, on loose indices, on the order of instructions, on blocks, on assumed records and on the key
 abbrev pub judged : List Rule
-judged = rule.Register ∷ rule.Unset ∷ rule.Set ∷ rule.Constant ∷ rule.Term ∷ rule.Order ∷ rule.Block ∷ rule.Clause ∷ rule.Key ∷ []
+judged = rule.Register ∷ rule.Unset ∷ rule.Set ∷ rule.Constant ∷ rule.Index ∷ rule.Term ∷ rule.Order ∷ rule.Block ∷ rule.Clause ∷ rule.Key ∷ []
 
 abbrev pub is_judged : Rule → Bool
 is_judged rule.Register = true
 is_judged rule.Unset = true
 is_judged rule.Set = true
 is_judged rule.Constant = true
+is_judged rule.Index = true
 is_judged rule.Term = true
 is_judged rule.Order = true
 is_judged rule.Block = true

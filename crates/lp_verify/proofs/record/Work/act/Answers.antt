@@ -18,7 +18,7 @@ returns-clause-acted c =
       body_is = c.is_behind_neck-self.ensures;
       types_are = c.in_ok-take.ensures.types;
       arguments_are = c.in_ok-take.ensures.arguments;
-      types_act = acted_on i c.type_set.result _ _ _ old.types c.turn.new.types c.make.new.self c.in_ok-of.of c.type_set.ensures c.in_ok-turn.ensures.types c.in_ok-make.ensures;
+      types_act = (c.in_ok-of.of, acted_on i c.type_set.result _ _ _ old.types c.turn.new.types c.make.new.self c.in_ok-of.of c.type_set.ensures c.in_ok-turn.ensures.types c.in_ok-make.ensures);
       terms_act = acted_on i c.term_set.result _ _ _ old.terms c.turn.new.terms c.make-2.new.self c.built-built.result c.term_set.ensures c.in_ok-turn.ensures.terms m;
     })
     c.make-2.ensures
