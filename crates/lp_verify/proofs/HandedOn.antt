@@ -100,7 +100,7 @@ count_read rs (d ∷ ds) e = one_counted (value_in rs d) (all_of rs ds) (length 
 
 -- what the definition hands to a record
 
-captured_new : (before more : List (ℕ × Captured)) (n : ℕ) → member n (map (λ (a : ℕ × Captured). a.0) before) ≡ false → captured_of (before ++ more) n ≡ captured_of more n
+pub captured_new : (before more : List (ℕ × Captured)) (n : ℕ) → member n (map (λ (a : ℕ × Captured). a.0) before) ≡ false → captured_of (before ++ more) n ≡ captured_of more n
 captured_new [] more n e = refl
 captured_new ((m, c) ∷ before) more n e =
     ap (λ b. if b then c else captured_of (before ++ more) n) (nat_eq_comm m n ∙ or_false_left (nat_eq n m) (member n (map (λ (a : ℕ × Captured). a.0) before)) e)
@@ -114,13 +114,22 @@ captured_here (m ∷ ns) c n e = by_first (nat_eq n m) refl e (captured_here ns 
     by_first true h e go = ap (λ b. if b then c else captured_of (handed ns c) n) (nat_eq_comm m n ∙ h)
     by_first false h e go = ap (λ b. if b then c else captured_of (handed ns c) n) (nat_eq_comm m n ∙ h) ∙ go e
 
-captured_none : (ns : List ℕ) (c : Captured) (n : ℕ) → member n ns ≡ false → captured_of (handed ns c) n ≡ nothing_captured
-captured_none [] c n e = refl
-captured_none (m ∷ ns) c n e = ap (λ b. if b then c else captured_of (handed ns c) n) (nat_eq_comm m n ∙ or_false_left (nat_eq n m) (member n ns) e) ∙ captured_none ns c n (or_false_right (nat_eq n m) (member n ns) e)
+pub captured_nothing : (xs : List (ℕ × Captured)) (n : ℕ) → member n (map (λ (a : ℕ × Captured). a.0) xs) ≡ false → captured_of xs n ≡ nothing_captured
+captured_nothing [] n e = refl
+captured_nothing ((m, c) ∷ xs) n e =
+    ap (λ b. if b then c else captured_of xs n) (nat_eq_comm m n ∙ or_false_left (nat_eq n m) (member n (map (λ (a : ℕ × Captured). a.0) xs)) e) ∙ captured_nothing xs n (or_false_right (nat_eq n m) (member n (map (λ (a : ℕ × Captured). a.0) xs)) e)
+
+-- what is handed on later changes nothing where the number is not among those
+pub captured_front : (before more : List (ℕ × Captured)) (n : ℕ) → member n (map (λ (a : ℕ × Captured). a.0) more) ≡ false → captured_of (before ++ more) n ≡ captured_of before n
+captured_front [] more n e = captured_nothing more n e
+captured_front ((m, d) ∷ before) more n e = ap (λ x. if nat_eq m n then d else x) (captured_front before more n e)
+
+pub names_handed : (ns : List ℕ) (c : Captured) → map (λ (a : ℕ × Captured). a.0) (handed ns c) ≡ ns
+names_handed [] c = refl
+names_handed (n ∷ ns) c = ap (λ ms. n ∷ ms) (names_handed ns c)
 
 captured_old : (before : List (ℕ × Captured)) (ns : List ℕ) (c : Captured) (n : ℕ) → member n ns ≡ false → captured_of (before ++ handed ns c) n ≡ captured_of before n
-captured_old [] ns c n e = captured_none ns c n e
-captured_old ((m, d) ∷ before) ns c n e = ap (λ x. if nat_eq m n then d else x) (captured_old before ns c n e)
+captured_old before ns c n e = captured_front before (handed ns c) n (ap (member n) (names_handed ns c) ∙ e)
 
 -- what is kept for a record
 kept_new : (hs : List kept_captured.Captured) (k : kept_captured.Captured) (m : BTreeMap ℕ ℕ) (n : ℕ) → get nat_cmp m n ≡ Some (length hs) → captured_in (hs ++ k ∷ []) m n ≡ Some k
@@ -137,10 +146,6 @@ kept_at hs k (Some p) h = same_front hs (k ∷ []) p (h p refl)
 
 some_equal : {A : Type 0} (x y : A) → Some x ≡ Some y → x ≡ y
 some_equal x y e = cc
-
-names_handed : (ns : List ℕ) (c : Captured) → map (λ (a : ℕ × Captured). a.0) (handed ns c) ≡ ns
-names_handed [] c = refl
-names_handed (n ∷ ns) c = ap (λ ms. n ∷ ms) (names_handed ns c)
 
 names_added : (xs : List (ℕ × Captured)) (ns : List ℕ) (c : Captured) → map (λ (a : ℕ × Captured). a.0) (xs ++ handed ns c) ≡ map (λ (a : ℕ × Captured). a.0) xs ++ ns
 names_added [] ns c = names_handed ns c

@@ -17,3 +17,6 @@ mod KeyLaws
 mod Moved
 mod Faults
 mod Names
+mod Goalless
+mod AlikeRuns
+mod Denoted

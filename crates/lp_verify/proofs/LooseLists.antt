@@ -1,6 +1,6 @@
 -- Loose indices as they are kept are those of the definition: merged, lowered and put.
 use Rattle.std.proofs.Common.{◌≡◌, ◌∙◌, ◌≤◌, ◌<◌, ℕ, zero, suc, ◌+◌, ◌-◌, List, [], ◌∷◌, ◌++◌, append_assoc, map, length, drop, replicate, Bool, true, false, Option, Some, None, ap, refl, sym, subst, arith}
-use Rattle.std.specs.Prelude.{◌^◌, ◌×◌, nat_eq, nat_lt, if◌then◌else◌, option_map, slice_get, Vec}
+use Rattle.std.specs.Prelude.{◌^◌, nat_eq, nat_lt, if◌then◌else◌, option_map, slice_get, Vec}
 use Rattle.std.specs.Global.{Global}
 use Rattle.std.proofs.lemmas.Bool.{ne_eqb, eq-eqb, eqb-true, eqb-false, lt-ltb, le-ltb}
 use Rattle.std.proofs.lemmas.List.{length-map}

@@ -98,7 +98,7 @@ put_there l m v x ts e at places low = λ n g.
     let there : entries_in n x ≡ v.items = (λ j. drop (at j).from (items_of (slice_get ((g.1 ∙ ap (λ xs. xs ++ g.0) e) j) (at j).list))) ∙ ap items_of (get_in l.lists.items v g.0) in
     (ap indices there ∙ places ∙ sym (map_zero (places_from 0 ts)) ∙ ap (λ (y : Loose). map (λ n. n + y.lowered) (places_from 0 ts)) (sym at), subst AreLow (sym there) low)
 
-one_place : (k i : ℕ) (T : Ty) → places_from k (replicate i None ++ Some T ∷ []) ≡ k + i ∷ []
+one_place : (k i : ℕ) (T : Ty) → places_from k (replicate i None ++ Some T ∷ []) ≡ (k + i) ∷ []
 one_place k zero T = let e : k ≡ k + 0 = omega arith in ap (λ n. n ∷ []) e
 one_place k (suc i) T = let e : suc k + i ≡ k + suc i = omega arith in one_place (suc k) i T ∙ ap (λ n. n ∷ []) e
 
@@ -130,6 +130,13 @@ few_entries l x =
     let a = fewer x.from (items_of (slice_get l.lists.items x.list)) in
     let b = few_items (slice_get l.lists.items x.list) in
     omega (arith, a, b)
+
+-- the merged entries, where there are some
+pub merged_is : (l : Lists) (x y : Loose) (es fs : List Entry) (o : Option (Vec Entry Global)) (v : Vec Entry Global) → es ≡ entries_in l x → fs ≡ entries_in l y
+    → option_map (λ (v : Vec Entry Global). v.items) o ≡ merge (min (length es + length fs) (2 ^ 64 - 1)) (map (lowered_by x.lowered) es) (map (lowered_by y.lowered) fs) → o ≡ Some v
+    → merge (min (length (entries_in l x) + length (entries_in l y)) (2 ^ 64 - 1)) (seen_in l x) (seen_in l y) ≡ Some v.items
+merged_is l x y es fs o v e f h is =
+    sym (λ j. merge (min (length (e j) + length (f j)) (2 ^ 64 - 1)) (map (lowered_by x.lowered) (e j)) (map (lowered_by y.lowered) (f j))) ∙ sym h ∙ ap (option_map (λ (v : Vec Entry Global). v.items)) is
 
 -- two lists are joined
 module _ (l : Lists) (left right : Loose) (ts us : List (Option Ty)) (a : StandFor l left ts) (b : StandFor l right us) where

@@ -1,10 +1,12 @@
 -- Two lists are merged, one entry behind the other.
 use Rattle.std.proofs.Common.{◌≡◌, ◌∙◌, ℕ, suc, List, [], ◌∷◌, ◌++◌, append_assoc, map, drop, Option, Some, None, ap, refl, sym, subst}
 use Rattle.std.specs.Prelude.{option_map, slice_get}
+use Rattle.std.proofs.lemmas.List.{drop-map}
 use Rattle.lp_lemmas.proofs.Lists.{append_nil_sym}
 use Rattle.lp_verify.specs.declared.loose.Entry.{Entry}
+use Rattle.lp_verify.specs.declared.loose.Next.{Next}
 use Rattle.lp_verify.specs.declared.loose.Next.TheVariants as next
-use Rattle.lp_verify.specs.inner.Indices.{next_of, with_entry, merge_on, merge}
+use Rattle.lp_verify.specs.inner.Indices.{lowered_by, next_of, with_entry, merge_on, merge}
 
 -- behind what is merged so far
 abbrev pub behind : List Entry → Option (List Entry) → Option (List Entry)
@@ -18,21 +20,39 @@ pub nothing_merged : (o : Option (List Entry)) → behind [] o ≡ o
 nothing_merged None = refl
 nothing_merged (Some zs) = refl
 
-module _ (steps n : ℕ) (done : List Entry) (left right : List Entry) (all : Option (List Entry)) (more : steps ≡ suc n) (inv : behind done (merge steps left right) ≡ all) where
-  next_step : (x : _) → next_of (slice_get left 0) (slice_get right 0) ≡ x → behind done (merge_on x (merge n (drop 1 left) right) (merge n left (drop 1 right)) (merge n (drop 1 left) (drop 1 right))) ≡ all
-  next_step x e = ap (λ y. behind done (merge_on y (merge n (drop 1 left) right) (merge n left (drop 1 right)) (merge n (drop 1 left) (drop 1 right)))) (sym e) ∙ ap (λ k. behind done (merge k left right)) (sym more) ∙ inv
+-- entries that are lowered, of which the next one is found
+module _ (a b steps n : ℕ) (done : List Entry) (left right : List Entry) (all : Option (List Entry)) (x : Next) (one other : Option Entry) (found : x ≡ next_of one other) (first : one ≡ slice_get (map (lowered_by a) left) 0)
+    (second : other ≡ slice_get (map (lowered_by b) right) 0) (inv : behind done (merge steps (map (lowered_by a) left) (map (lowered_by b) right)) ≡ all) (more : steps ≡ suc n) where
+  abbrev ls : List Entry
+  ls = map (lowered_by a) left
 
-  pub from_left : (e : Entry) (now : List Entry) → next_of (slice_get left 0) (slice_get right 0) ≡ next.Left e → now ≡ drop 1 left → behind (done ++ e ∷ []) (merge n now right) ≡ all
-  from_left e now h k = passes done e (merge n now right) ∙ ap (λ l. behind done (with_entry e (merge n l right))) k ∙ next_step (next.Left e) h
+  abbrev rs : List Entry
+  rs = map (lowered_by b) right
 
-  pub from_right : (e : Entry) (now : List Entry) → next_of (slice_get left 0) (slice_get right 0) ≡ next.Right e → now ≡ drop 1 right → behind (done ++ e ∷ []) (merge n left now) ≡ all
-  from_right e now h k = passes done e (merge n left now) ∙ ap (λ l. behind done (with_entry e (merge n left l))) k ∙ next_step (next.Right e) h
+  next_step : (y : Next) → x ≡ y → behind done (merge_on y (merge n (drop 1 ls) rs) (merge n ls (drop 1 rs)) (merge n (drop 1 ls) (drop 1 rs))) ≡ all
+  next_step y e =
+      ap (λ z. behind done (merge_on z (merge n (drop 1 ls) rs) (merge n ls (drop 1 rs)) (merge n (drop 1 ls) (drop 1 rs)))) (sym e ∙ found ∙ (λ j. next_of (first j) (second j)))
+      ∙ ap (λ k. behind done (merge k ls rs)) (sym more) ∙ inv
 
-  pub from_both : (e : Entry) (now then_right : List Entry) → next_of (slice_get left 0) (slice_get right 0) ≡ next.Both e → now ≡ drop 1 left → then_right ≡ drop 1 right → behind (done ++ e ∷ []) (merge n now then_right) ≡ all
-  from_both e now then_right h k l = passes done e (merge n now then_right) ∙ (λ j. behind done (with_entry e (merge n (k j) (l j)))) ∙ next_step (next.Both e) h
+  pub from_left : (e : Entry) (so_far now : List Entry) → x ≡ next.Left e → so_far ≡ done ++ e ∷ [] → now ≡ drop 1 left → behind so_far (merge n (map (lowered_by a) now) rs) ≡ all
+  from_left e so_far now h d k =
+      (λ j. behind (d j) (merge n (map (lowered_by a) (k j)) rs)) ∙ ap (λ l. behind (done ++ e ∷ []) (merge n l rs)) (sym (drop-map (lowered_by a) 1 left)) ∙ passes done e (merge n (drop 1 ls) rs) ∙ next_step (next.Left e) h
 
-  pub all_done : next_of (slice_get left 0) (slice_get right 0) ≡ next.Done → Some done ≡ all
+  pub from_right : (e : Entry) (so_far now : List Entry) → x ≡ next.Right e → so_far ≡ done ++ e ∷ [] → now ≡ drop 1 right → behind so_far (merge n ls (map (lowered_by b) now)) ≡ all
+  from_right e so_far now h d k =
+      (λ j. behind (d j) (merge n ls (map (lowered_by b) (k j)))) ∙ ap (λ l. behind (done ++ e ∷ []) (merge n ls l)) (sym (drop-map (lowered_by b) 1 right)) ∙ passes done e (merge n ls (drop 1 rs)) ∙ next_step (next.Right e) h
+
+  pub from_both : (e : Entry) (so_far now also : List Entry) → x ≡ next.Both e → so_far ≡ done ++ e ∷ [] → now ≡ drop 1 left → also ≡ drop 1 right → behind so_far (merge n (map (lowered_by a) now) (map (lowered_by b) also)) ≡ all
+  from_both e so_far now also h d k l =
+      (λ j. behind (d j) (merge n (map (lowered_by a) (k j)) (map (lowered_by b) (l j))))
+      ∙ (λ j. behind (done ++ e ∷ []) (merge n (sym (drop-map (lowered_by a) 1 left) j) (sym (drop-map (lowered_by b) 1 right) j))) ∙ passes done e (merge n (drop 1 ls) (drop 1 rs)) ∙ next_step (next.Both e) h
+
+  pub all_done : x ≡ next.Done → Some done ≡ all
   all_done h = ap (λ l. Some l) (append_nil_sym done) ∙ next_step next.Done h
 
-  pub has_clash : next_of (slice_get left 0) (slice_get right 0) ≡ next.Clash → None ≡ all
+  pub has_clash : x ≡ next.Clash → None ≡ all
   has_clash h = next_step next.Clash h
+
+-- no step is left
+pub no_steps : (steps : ℕ) (done ls rs : List Entry) (all : Option (List Entry)) → steps ≡ 0 → behind done (merge steps ls rs) ≡ all → Some done ≡ all
+no_steps steps done ls rs all e inv = ap (λ l. Some l) (append_nil_sym done) ∙ ap (λ k. behind done (merge k ls rs)) (sym e) ∙ inv

@@ -104,9 +104,9 @@ application_made old new rs s f ds T g t others e h join same set =
 
 -- what is put into the register
 put_term : (m : Lists) (t : Typed) (T : TypeId) (b : Built) → is_ill t ≡ false → IsTermMade m b t → SameTerm m (built_or t (closed_built T)) b
-put_term m typed.Ill T b no h = absurd (cc)
-put_term m typed.Fine T b no h = nothing_loose m no_loose b.loose h refl
-put_term m (typed.Built t) T b no h = h
+put_term m typed.Ill T b sound h = absurd (cc)
+put_term m typed.Fine T b sound h = nothing_loose m no_loose b.loose h refl
+put_term m (typed.Built t) T b sound h = h
 
 pub put_by : (l m : Lists) (rs : kept_registers.Registers kept_built.Built) (i : Instr) (t : Typed) (T : TypeId) → IsJudged l m rs i t → IsPutBy l m rs i (built_or t (closed_built T))
 put_by l m rs i t T j = λ h s same set. put_term m t T (term_made h s i) j.0 (j.1 h s same set)

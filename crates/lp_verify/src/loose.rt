@@ -1,5 +1,5 @@
 // The loose indices of terms with their types, as lists that several terms share.
-ghost use Rattle.std.specs.Prelude.{◌≡◌, ◌+◌, ◌-◌, ◌<◌, ◌^◌, List, Vec, IfOk, OnOk, IfSome, Option, Some, None, option_map, is_some, slice_get, length, map, drop, min, if◌then◌else◌};
+ghost use Rattle.std.specs.Prelude.{◌≡◌, ◌+◌, ◌-◌, ◌++◌, ◌∷◌, [], ◌<◌, ◌^◌, List, Vec, IfOk, OnOk, IfSome, Option, Some, None, option_map, is_some, slice_get, length, map, drop, min, if◌then◌else◌};
 ghost use Rattle.std.specs.Global.{Global};
 ghost use Rattle.lp_calculus.specs.Types.{Ty};
 ghost use Rattle.lp_code.specs.Rules.{has_none};

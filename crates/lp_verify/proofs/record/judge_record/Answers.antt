@@ -55,7 +55,7 @@ loop-instr-preserved c =
           let small = stands_low h before code i (drop (n + 1) code) w x c.loop-instr.whole short g in
           goes_on h before code i (drop (n + 1) code) w v x y c.loop-instr.whole c.none-whole.result inv.0 short g
           (record { fits = fit; kept = first small.0 small.1; passed = run; grow = c.in_ok-rule.ensures.1; clean = c.none-whole.ensures }),
-      names_pass i (drop (n + 1) code) code c.args.shared.now.named x.named y.named (named_has (names_of i) (length x.handed.items) x.named y.named run.names) (subst (λ l. NamesLeft code l c.args.shared.now.named m) at inv.2),
+      names_pass i (drop (n + 1) code) code c.args.shared.now.named x.named y.named (named_has (names_of i) (length x.handed.items) x.named y.named run.names) (subst (λ l. NamesLeft code l c.args.shared.now.named x.named) at inv.2),
     )
 
 pub returns-in-Some : goal.returns-in-Some
@@ -99,5 +99,5 @@ returns c =
     let x = c.loop-instr.shared in (
       λ before there given names short.
           ended h before code c.loop-instr.work x c.loop-instr.whole None short (subst (λ l. GoesOn h before code l c.loop-instr.work x c.loop-instr.whole) none (c.loop-instr.invariant.1 before there given names short)) c.in-None.ensures,
-      λ e. names_end code c.args.shared.now.named x.named (subst (λ l. NamesLeft code l c.args.shared.now.named m) none c.loop-instr.invariant.2),
+      λ e. names_end code c.args.shared.now.named x.named (subst (λ l. NamesLeft code l c.args.shared.now.named x.named) none c.loop-instr.invariant.2),
     )
