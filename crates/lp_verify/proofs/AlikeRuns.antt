@@ -289,11 +289,11 @@ steps h later u i =
 
 -- rules that are not broken
 
-abbrev NoneBroken : (Rule → Bool) → List Rule → Type 0
+abbrev pub NoneBroken : (Rule → Bool) → List Rule → Type 0
 NoneBroken f [] = Unit {0}
 NoneBroken f (r ∷ rs) = (f r ≡ false) × NoneBroken f rs
 
-none_broken : (f : Rule → Bool) (rs : List Rule) → first_broken f rs ≡ None → NoneBroken f rs
+pub none_broken : (f : Rule → Bool) (rs : List Rule) → first_broken f rs ≡ None → NoneBroken f rs
 none_broken f [] h = tt
 none_broken f (r ∷ rs) h = by_test (f r) refl (none_broken f rs) h
   where
@@ -311,7 +311,7 @@ clause_passed h u is i e = by_place (nat_eq u.place 0) e
     by_place true e = or_false_right (broken_by_record h u rule.Clause) (breaks_clause h u i) (clause_kept (λ r. broken_by_record h u r || broken_by h u is i r) e)
     by_place false e = clause_kept (broken_by h u is i) e
 
-not_broken : (o : Option Rule) (at : ℕ) (ran : Ran) (v : State) → unless_broken o at ran ≡ Done v → o ≡ None
+pub not_broken : (o : Option Rule) (at : ℕ) (ran : Ran) (v : State) → unless_broken o at ran ≡ Done v → o ≡ None
 not_broken None at ran v e = refl
 not_broken (Some r) at ran v e = absurd (cc)
 

@@ -47,8 +47,8 @@ each_found all k f before [] e h = tt
 each_found all k f before (a ∷ more) e h = (
   captured_new before (a ∷ more) a.0 (sym (e a.0) ∙ h.1) ∙ ap (λ b. if b then a.1 else captured_of more a.0) (nat_eq_self a.0),
   subst (λ l. AreThere l more) (append_assoc before (a ∷ []) more)
-  (each_found all k (λ m. nat_eq m a.0 || f m) (before ++ a ∷ []) more
-  (λ m. ap (λ b. nat_eq m a.0 || b) (e m) ∙ or_swapped (nat_eq m a.0) (member m (numbers before)) ∙ sym (ap (member m) (numbers_both before (a ∷ [])) ∙ member_append m (numbers before) (a.0 ∷ []))) h.3),
+      (each_found all k (λ m. nat_eq m a.0 || f m) (before ++ a ∷ []) more
+      (λ m. ap (λ b. nat_eq m a.0 || b) (e m) ∙ or_swapped (nat_eq m a.0) (member m (numbers before)) ∙ sym (ap (member m) (numbers_both before (a ∷ [])) ∙ member_append m (numbers before) (a.0 ∷ []))) h.3),
 )
 
 -- those that an instruction names come later, and are assumed ones
@@ -192,19 +192,17 @@ module _ (t : Tables) (all : List Record) where
     clauses_here true p =
         let none = nothing_handed n r before (rest_first all n r rs rest) p named in
         let more = behind.clauses in
-        let first : denoted (at n r) (later (suc n) rs) nothing_captured ≡ Some here.0 = ap (denoted (at n r) (later (suc n) rs)) (sym none) ∙ here.1 in
-        (
+        let first : denoted (at n r) (later (suc n) rs) nothing_captured ≡ Some here.0 = ap (denoted (at n r) (later (suc n) rs)) (sym none) ∙ here.1 in (
           here.0 ∷ more.0,
           ap (λ b. if b then option_and_then (λ c. option_map (λ cs. c ∷ cs) (denote_from t all (suc n) rs)) (denoted (at n r) (later (suc n) rs) nothing_captured) else (if is_named (at n r) then denote_from t all (suc n) rs else None)) p
-          ∙ (λ j. option_and_then (λ c. option_map (λ cs. c ∷ cs) (more.1 j)) (first j)),
+              ∙ (λ j. option_and_then (λ c. option_map (λ cs. c ∷ cs) (more.1 j)) (first j)),
         )
     clauses_here false p =
         let more = behind.clauses in
-        let is : is_named (at n r) ≡ true = not_false (is_named (at n r)) (sym (ap (λ b. if b then not (nat_eq (r.captured_types + r.captured) 0) else not (is_named (at n r))) p) ∙ record_kept (at n r) (captured_of before n) r.code.items v kept) in
-        (
+        let is : is_named (at n r) ≡ true = not_false (is_named (at n r)) (sym (ap (λ b. if b then not (nat_eq (r.captured_types + r.captured) 0) else not (is_named (at n r))) p) ∙ record_kept (at n r) (captured_of before n) r.code.items v kept) in (
           more.0,
           ap (λ b. if b then option_and_then (λ c. option_map (λ cs. c ∷ cs) (denote_from t all (suc n) rs)) (denoted (at n r) (later (suc n) rs) nothing_captured) else (if is_named (at n r) then denote_from t all (suc n) rs else None)) p
-          ∙ ap (λ b. if b then denote_from t all (suc n) rs else None) is ∙ more.1,
+              ∙ ap (λ b. if b then denote_from t all (suc n) rs else None) is ∙ more.1,
         )
       where
         not_false : (b : Bool) → not b ≡ false → b ≡ true

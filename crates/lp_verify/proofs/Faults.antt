@@ -8,12 +8,13 @@ use Rattle.lp_code.specs.declared.record.Record.{Record}
 use Rattle.lp_code.specs.declared.rule.Rule.{Rule}
 use Rattle.lp_code.specs.Symbolic.{Tables}
 use Rattle.lp_code.specs.States.{Captured}
-use Rattle.lp_code.specs.Denote.{home_of, run_of, any_clause, first_state, captured_of, fault_of_run, fault_from, first_fault_of}
+use Rattle.lp_code.specs.Denote.{home_of, run_of, any_clause, first_state, captured_of, fault_of_run, fault_from, first_fault_of, denote}
 use Rattle.lp_verify.specs.Judged.{judged, is_judged, bytes_of, AreShort}
 use Rattle.lp_verify.specs.declared.record.Shared.{Shared}
 use Rattle.lp_verify.specs.Named.{was_named}
 use Rattle.lp_verify.specs.inner.At.{HandedIn, IsRan, FaultsGoOn}
 use Rattle.lp_verify.proofs.HandedOn.{nothing_handed}
+use Rattle.lp_verify.proofs.FewerRules.{denotes_nothing}
 
 pub none_yet : (t : Tables) (all : List Record) (x : Shared) → ((n : ℕ) → was_named x.named n ≡ false) → FaultsGoOn t all x 0 all
 none_yet t all x none = ([], refl, nothing_handed x.lists all x.handed.items x.named none)
@@ -49,11 +50,11 @@ record_passed t all x y n p r e l is s f ran =
     (next_record t all x y n r (drop (n + 1) all) g (subst (λ q. IsRecordRan t all x y q r None) e ran g.0 (get_read all all n r r refl l is) g.2 (short_there all n r s l is)))
 
 pub record_refused : (t : Tables) (all : List Record) (x y : Shared) (n p : ℕ) (r : Record) (at told : ℕ) (rule : Rule) → p ≡ n → n < length all → r ≡ get_or all n r → AreShort all → FaultsGoOn t all x n (drop n all)
-    → IsRecordRan t all x y p r (Some (at, rule)) → (at < 2 ^ 32 → told ≡ at) → is_judged rule ≡ true → first_fault_of judged t all ≡ Some (record { record_number = p; at = told; rule = rule })
+    → IsRecordRan t all x y p r (Some (at, rule)) → (at < 2 ^ 32 → told ≡ at) → is_judged rule ≡ true → (first_fault_of judged t all ≡ Some (record { record_number = p; at = told; rule = rule })) × (denote t all ≡ None)
 record_refused t all x y n p r at told rule e l is s f ran same j =
     let g = subst (FaultsGoOn t all x n) (drop_read all n r l is) f in
     let q = told_record t all x y n r (drop (n + 1) all) at rule g (subst (λ q. IsRecordRan t all x y q r (Some (at, rule))) e ran g.0 (get_read all all n r r refl l is) g.2 (short_there all n r s l is)) j in
-    q.0 ∙ (λ i. Some (record { record_number = sym e i; at = sym (same q.1) i; rule = rule }))
+    (q.0 ∙ (λ i. Some (record { record_number = sym e i; at = sym (same q.1) i; rule = rule })), denotes_nothing judged t all (record { record_number = n; at = at; rule = rule }) q.0)
 
 -- behind the last one
 pub none_left : {A : Type 0} (xs ys : List A) (n : ℕ) → ys ≡ xs → length ys ≤ n → drop n xs ≡ []

@@ -20,3 +20,4 @@ mod Names
 mod Goalless
 mod AlikeRuns
 mod Denoted
+mod FewerRules

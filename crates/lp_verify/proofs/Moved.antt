@@ -220,8 +220,8 @@ passed_on i t old mid new a home places place number sides ends body head types 
       types_are = ap (λ (x : HeadSoFar). length x.types.items) head ∙ a.types_are;
       arguments_are = λ h. ap (λ (x : HeadSoFar). x.arguments) head ∙ a.arguments_are h;
       types_run = λ h. (
-          a.types_act.0,
-          settled_there i (type_set i) a.types_act.0 old.place new.place (sides_in old.blocks.frames.items) (sides_in mid.blocks.frames.items) (type_heights (reverse old.blocks.frames.items)) (type_heights (reverse new.blocks.frames.items)) (type_heights (reverse mid.blocks.frames.items)) old.types mid.types new.types (at h) (a.sides_act (omega (arith, h))) a.types_act.1 types,
+        a.types_act.0,
+        settled_there i (type_set i) a.types_act.0 old.place new.place (sides_in old.blocks.frames.items) (sides_in mid.blocks.frames.items) (type_heights (reverse old.blocks.frames.items)) (type_heights (reverse new.blocks.frames.items)) (type_heights (reverse mid.blocks.frames.items)) old.types mid.types new.types (at h) (a.sides_act (omega (arith, h))) a.types_act.1 types,
       );
       terms_run = λ h.
           settled_there i (term_set i) t old.place new.place (sides_in old.blocks.frames.items) (sides_in mid.blocks.frames.items) (term_heights (reverse old.blocks.frames.items)) (term_heights (reverse new.blocks.frames.items)) (term_heights (reverse mid.blocks.frames.items)) old.terms mid.terms new.terms (at h) (a.sides_act (omega (arith, h))) a.terms_act terms;

@@ -1,15 +1,17 @@
 -- What an instruction makes, as it is kept and in the definition: their loose indices are the same.
-use Rattle.std.proofs.Common.{◌≡◌, ◌∙◌, ◌+◌, ◌<◌, ℕ, suc, List, [], ◌∷◌, ◌++◌, drop, length, false, Option, Some, None, ap, refl, sym, subst, arith}
-use Rattle.std.specs.Prelude.{◌^◌, ◌-◌, unwrap_or, slice_get, filter_map, Vec}
+use Rattle.std.proofs.Common.{◌≡◌, ◌∙◌, ◌+◌, ◌<◌, ℕ, suc, List, [], ◌∷◌, ◌++◌, drop, length, Bool, true, false, Option, Some, None, ap, refl, sym, subst, arith}
+use Rattle.std.specs.Prelude.{◌^◌, ◌-◌, ◌||◌, unwrap_or, slice_get, filter_map, Vec, Result, IfOk, IfSome}
+use Rattle.std.proofs.lemmas.Result.{IfOk-weaker}
 use Rattle.std.specs.Global.{Global}
 use Rattle.std.specs.List.{list_any}
 use Rattle.lp_lemmas.proofs.Booleans.{or_false_right}
 use Rattle.lp_calculus.specs.Types.{Ty}
 use Rattle.lp_term.specs.declared.node.TypeId.{TypeId}
 use Rattle.lp_code.specs.declared.instruction.Instr.{Instr}
+use Rattle.lp_code.specs.declared.instruction.Instr.TheVariants as on
 use Rattle.lp_code.specs.Rules.{has_none}
-use Rattle.lp_code.specs.Symbolic.{Built, Registers, held, term_in, terms_in, outer, bound_index, abstraction_of, application_of, all_joined, joined}
-use Rattle.lp_code.specs.States.{State}
+use Rattle.lp_code.specs.Symbolic.{Built, Registers, held, type_in, term_in, terms_in, outer, bound_index, abstraction_of, application_of, all_joined, joined}
+use Rattle.lp_code.specs.States.{State, Home}
 use Rattle.lp_verify.specs.declared.built.Built as kept_built
 use Rattle.lp_verify.specs.declared.built.Head.{Head}
 use Rattle.lp_verify.specs.declared.loose.Entry.{Entry}
@@ -22,7 +24,7 @@ use Rattle.lp_verify.specs.Held.{value_in, is_lacking}
 use Rattle.lp_verify.specs.inner.Stack.{Agree}
 use Rattle.lp_verify.specs.inner.Indices.{entries_in, ListsGrow, StandFor}
 use Rattle.lp_verify.specs.inner.Handed.{SameTerm, IsSame, Alike, no_loose, bare_built, closed_built}
-use Rattle.lp_verify.specs.inner.Made.{nothing_built, term_made, IsTermMade, IsBare, is_ill, IsJudged, IsPutBy, built_or}
+use Rattle.lp_verify.specs.inner.Made.{nothing_built, term_made, IsTermMade, IsBare, is_ill, IsMadeBy, IsJudged, IsPutBy, built_or}
 use Rattle.lp_verify.specs.inner.Told.{loose_entries}
 use Rattle.lp_verify.proofs.HandedOn.{alike_read}
 use Rattle.lp_verify.proofs.LooseSeen.{grows_same, grows_then, stands_later, nothing_loose, no_entries, one_there, put_there}
@@ -51,6 +53,13 @@ term_same l rs s r T same = by_value (value_in rs r) (held s.now.terms r) (same 
 pub loose_is : (l : Lists) (o : Option kept_built.Built) (T : TypeId) → has_none (entries_in l (unwrap_or o (closed_built T)).loose) ≡ has_none (loose_entries l o)
 loose_is l None T = ap has_none (no_entries l no_loose refl)
 loose_is l (Some t) T = refl
+
+-- one of the registers that are left has it, or none so far
+pub loose_here : (f : ℕ → Bool) (d : ℕ) (ds all left : List ℕ) → left ≡ d ∷ ds → list_any f left ≡ list_any f all → f d ≡ true → true ≡ list_any f all
+loose_here f d ds all left e same h = ap (λ b. b || list_any f ds) (sym h) ∙ ap (list_any f) (sym e) ∙ same
+
+pub loose_behind : (f : ℕ → Bool) (d : ℕ) (ds all left : List ℕ) → left ≡ d ∷ ds → list_any f left ≡ list_any f all → f d ≡ false → list_any f ds ≡ list_any f all
+loose_behind f d ds all left e same h = ap (λ b. b || list_any f ds) (sym h) ∙ ap (list_any f) (sym e) ∙ same
 
 -- one index
 pub one_put : (l m : Lists) (v : Vec Entry Global) (x : Loose) (e : Entry) (i : ℕ) (T : Ty) → i < 2 ^ 16 → v.items ≡ e ∷ [] → e.index ≡ i → m.lists.items ≡ l.lists.items ++ v ∷ [] → x ≡ record { list = length l.lists.items; from = 0; lowered = 0 } → StandFor m x (bound_index i T).loose
@@ -110,3 +119,29 @@ put_term m (typed.Built t) T b sound h = h
 
 pub put_by : (l m : Lists) (rs : kept_registers.Registers kept_built.Built) (i : Instr) (t : Typed) (T : TypeId) → IsJudged l m rs i t → IsPutBy l m rs i (built_or t (closed_built T))
 put_by l m rs i t T j = λ h s same set. put_term m t T (term_made h s i) j.0 (j.1 h s same set)
+
+-- what comes of the arms of an instruction
+pub some_at : {A : Type 0} (P : A → Type 0) {o : Option A} {x : A} → o ≡ Some x → IfSome o P → P x
+some_at P e h = subst (λ o. IfSome o P) e h
+
+pub closed_bare : (T : TypeId) (h : Head) (t : kept_built.Built) → t ≡ bare_built T h → IsBare (typed.Built t)
+closed_bare T h t e = subst (λ t. IsBare (typed.Built t)) (sym e) (bare_is T h)
+
+pub bare_made : (l : Lists) (rs : kept_registers.Registers kept_built.Built) (i j : Instr) (t : Typed) → i ≡ j → IsBare t → ((h : Home) (s : State) → (term_made h s j).loose ≡ []) → IsMadeBy l l rs i t
+bare_made l rs i j t e bare none = subst (λ i. IsMadeBy l l rs i t) (sym e) (λ h s same set. bare l (term_made h s j) (none h s))
+
+pub index_made : (old new : Lists) (rs : kept_registers.Registers kept_built.Built) (i : Instr) (d n u : ℕ) (t : kept_built.Built) → i ≡ on.PutIndex d n u → ((T : Ty) → StandFor new t.loose (bound_index n T).loose) → IsMadeBy old new rs i (typed.Built t)
+index_made old new rs i d n u t e stands = subst (λ i. IsMadeBy old new rs i (typed.Built t)) (sym e) (λ h s same set. stands (type_in s.now u))
+
+pub abs_made : {E : Type 0} (l : Lists) (rs : kept_registers.Registers kept_built.Built) (i : Instr) (d b u : ℕ) (r : Result Typed E) → i ≡ on.PutAbs d b u → IfOk r (λ t. (s : State) (T : Ty) → IsSame (SameTerm l) rs s.now.terms → IsTermMade l (abstraction_of (term_in s.now b) T) t)
+    → IfOk r (IsMadeBy l l rs i)
+abs_made l rs i d b u r e k = subst (λ i. IfOk r (IsMadeBy l l rs i)) (sym e) (IfOk-weaker r _ _ (λ t k h s same set. k s (type_in s.now u) same) k)
+
+abbrev IsApplied : (old new : Lists) → kept_registers.Registers kept_built.Built → (f : ℕ) → List ℕ → Typed → Type 0
+IsApplied old new rs f ds t = (s : State) → IsSame (SameTerm old) rs s.now.terms → list_any (is_lacking rs) ds ≡ false → IsTermMade new (application_of (term_in s.now f) (terms_in s.now ds)) t
+
+pub app_made : {E : Type 0} (old new : Lists) (rs : kept_registers.Registers kept_built.Built) (i : Instr) (d f : ℕ) (v : Vec ℕ Global) (ds : List ℕ) (r : Result Typed E) → i ≡ on.PutApp d f v → ds ≡ v.items
+    → IfOk r (λ t. (s : State) → IsSame (SameTerm old) rs s.now.terms → list_any (is_lacking rs) ds ≡ false → IsTermMade new (application_of (term_in s.now f) (terms_in s.now ds)) t) → IfOk r (IsMadeBy old new rs i)
+app_made old new rs i d f v ds r e same k =
+    subst (λ i. IfOk r (IsMadeBy old new rs i)) (sym e)
+    (IfOk-weaker r _ _ (λ t k h s alike set. k s alike (or_false_right (is_lacking rs f) (list_any (is_lacking rs) v.items) set)) (subst (λ ds. IfOk r (IsApplied old new rs f ds)) same k))

@@ -265,7 +265,8 @@ impl Lists {
         }
         let on_left = self.entries(left);
         let on_right = self.entries(right);
-        let Some(merged) = merged(self.alloc, on_left, left.lowered, on_right, right.lowered)? else {
+        let Some(merged) = merged(self.alloc, on_left, left.lowered, on_right, right.lowered)?
+        else {
             return Ok(None);
         };
         let only_left = merged.len() == on_left.len();
