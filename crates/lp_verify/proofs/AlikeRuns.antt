@@ -7,9 +7,9 @@ use Rattle.std.proofs.lemmas.Bool.{ltb-true}
 use Rattle.lp_lemmas.proofs.Lists.{append_nil_sym}
 use Rattle.lp_lemmas.proofs.Booleans.{or_false_left, or_false_right}
 use Rattle.lp_calculus.specs.Types.{con, arrow, tys}
-use Rattle.lp_calculus.specs.Term.{index, atom, integer, text}
+use Rattle.lp_calculus.specs.Term.{atom, integer, text}
 use Rattle.lp_calculus.specs.Typing.{int_type, string_type}
-use Rattle.lp_model.specs.Flat.{Goal, Goals, no_goals, Clause, Clauses, no_clauses, clauses, clause}
+use Rattle.lp_model.specs.Flat.{Goal, Goals, Clause, Clauses, no_clauses, clauses}
 use Rattle.lp_code.specs.declared.instruction.Instr.{Instr}
 use Rattle.lp_code.specs.declared.instruction.Instr.TheVariants as on
 use Rattle.lp_code.specs.declared.record.Record.{Record}
@@ -19,12 +19,12 @@ use Rattle.lp_code.specs.Symbolic.{variable, type_in, types_in, term_in, terms_i
 use Rattle.lp_code.specs.States.{under_sigma, under_all, under_assumption, under_not, left_side, Frame, State, Home, Captured, depth, member, end_variables, innermost_block}
 use Rattle.lp_code.specs.Steps.{Later, own_type, constant_of, argument_at, put_type, put_term, with_argument, opens, clauses_of_records, captured_by, handed, effect, goal_of_block, leave_block, leave_from, leave, turn_from, is_right_end, settled, passed, after}
 use Rattle.lp_code.specs.Rules.{breaks_clause, are_fine_names, is_assumed_record, named_before, names_of, names_in}
-use Rattle.lp_code.specs.Denote.{rules, first_broken, broken_of, broken_by, broken_by_record, Ran, Done, Broken, Void, unless_broken, run_on, run_of, run, any_clause, first_state}
+use Rattle.lp_code.specs.Denote.{rules, first_broken, broken_of, broken_by, broken_by_record, Ran, Done, Broken, Void, unless_broken, run_on, run, any_clause, first_state}
 use Rattle.lp_verify.proofs.Members.{member_append}
 use Rattle.lp_verify.proofs.Joined.{or_false}
 use Rattle.lp_verify.proofs.HandedOn.{names_handed}
 use Rattle.lp_verify.proofs.Outlines.{any_clauses}
-use Rattle.lp_verify.proofs.Goalless.{goalless, depth_same, broken_same, ended, left_same_way, turned_same_way, ended_same_way, settled_same_way}
+use Rattle.lp_verify.proofs.Goalless.{goalless, depth_same, broken_same, left_same_way, turned_same_way, ended_same_way, settled_same_way}
 
 abbrev pub numbers : List (ℕ × Captured) → List ℕ
 numbers xs = map (λ (a : ℕ × Captured). a.0) xs

@@ -1,22 +1,20 @@
 -- Code denotes clauses exactly where no rule is broken.
-use Rattle.std.proofs.Common.{◌≡◌, ◌∙◌, ◌≤◌, ◌<◌, ℕ, zero, suc, ◌+◌, ◌-◌, List, [], ◌∷◌, ◌++◌, append_assoc, Bool, true, false, Option, Some, None, ap, refl, sym, subst, arith, inl, inr}
+use Rattle.std.proofs.Common.{◌≡◌, ◌∙◌, ◌≤◌, ◌<◌, ℕ, suc, ◌+◌, ◌-◌, List, [], ◌∷◌, ◌++◌, append_assoc, Bool, true, false, Option, Some, None, ap, refl, sym, subst, arith, inl, inr}
 use Rattle.std.specs.Prelude.{◌⊎◌, nat_eq, not, ◌||◌, if◌then◌else◌, option_map, option_and_then, slice_get, is_some, is_none}
 use Rattle.std.proofs.lemmas.Bool.{ne_eqb, eqb-true}
 use Rattle.lp_lemmas.proofs.Lists.{append_nil_sym}
 use Rattle.lp_lemmas.proofs.Numbers.{nat_eq_self, nat_eq_comm, equal_or_above}
-use Rattle.lp_lemmas.proofs.Booleans.{or_false_left, or_false_right}
 use Rattle.lp_model.specs.Flat.{Clause}
-use Rattle.lp_code.specs.declared.instruction.Instr.{Instr}
 use Rattle.lp_code.specs.declared.record.Record.{Record}
 use Rattle.lp_code.specs.Symbolic.{Tables}
 use Rattle.lp_code.specs.States.{State, Home, Captured, member}
 use Rattle.lp_code.specs.Steps.{Later}
-use Rattle.lp_code.specs.Rules.{names_in, named_before}
+use Rattle.lp_code.specs.Rules.{named_before}
 use Rattle.lp_code.specs.Denote.{rules, is_named, Ran, Done, Broken, Void, run, any_clause, first_state, home_of, denoted, clause_ran, later_from, nothing_captured, denote_from, denote, CodeFault, captured_of, fault_of_run, fault_from, first_fault}
 use Rattle.lp_verify.proofs.Members.{member_append}
 use Rattle.lp_verify.proofs.Names.{next_named}
 use Rattle.lp_verify.proofs.HandedOn.{captured_nothing, captured_front, captured_new}
-use Rattle.lp_verify.proofs.AlikeRuns.{numbers, numbers_both, AreDenoted, IsAssumed, AreFresh, named_at, RunsOn, Compared, compare, record_kept}
+use Rattle.lp_verify.proofs.AlikeRuns.{numbers, numbers_both, AreDenoted, IsAssumed, AreFresh, RunsOn, Compared, compare, record_kept}
 
 -- records that were handed something
 

@@ -2,7 +2,7 @@
 use Rattle.std.proofs.Common.{◌≡◌, ◌∙◌, ℕ, zero, suc, ◌+◌, List, [], ◌∷◌, Bool, true, false, Option, Some, None, ap, refl, sym}
 use Rattle.std.specs.Prelude.{nat_eq, nat_le, not, ◌||◌, if◌then◌else◌, option_map, is_some}
 use Rattle.std.specs.List.{list_any}
-use Rattle.lp_model.specs.Flat.{Goal, Goals, no_goals, no_clauses}
+use Rattle.lp_model.specs.Flat.{Goals, no_goals, no_clauses}
 use Rattle.lp_code.specs.declared.instruction.Instr.{Instr}
 use Rattle.lp_code.specs.declared.instruction.Instr.TheVariants as on
 use Rattle.lp_code.specs.declared.record.RecordHead.{RecordHead}
@@ -10,9 +10,9 @@ use Rattle.lp_code.specs.declared.record.RecordHead.TheVariants.{Const, Register
 use Rattle.lp_code.specs.declared.rule.Rule.{Rule}
 use Rattle.lp_code.specs.declared.rule.Rule.TheVariants as rule
 use Rattle.lp_code.specs.Symbolic.{Registers}
-use Rattle.lp_code.specs.States.{Block, under_sigma, under_all, under_assumption, under_not, left_side, right_side, Frame, State, Home, end_variables, is_sigma, innermost_block, depth, with_goal}
+use Rattle.lp_code.specs.States.{Block, under_sigma, under_all, under_assumption, under_not, left_side, right_side, Frame, State, Home, end_variables, is_sigma, innermost_block, depth}
 use Rattle.lp_code.specs.Steps.{leave_from, leave, turn_from, turn, settled, is_right_end}
-use Rattle.lp_code.specs.Rules.{nesting_limit, breaks_type, breaks_order, breaks_head, breaks_clause, breaks_nesting, breaks_block, has_none, is_passed, side_is_passed, is_left_end, ends_block, ends_with_jump, begins_behind, is_too_deep}
+use Rattle.lp_code.specs.Rules.{nesting_limit, breaks_type, breaks_order, breaks_head, breaks_clause, breaks_nesting, has_none, is_passed, side_is_passed, is_left_end, ends_block, ends_with_jump, begins_behind, is_too_deep}
 use Rattle.lp_code.specs.Denote.{broken_by_record, broken_by, broken_of, first_broken, rules, heads, head_passes}
 
 -- a state without its goals

@@ -1,18 +1,13 @@
 -- Loose indices as they are kept are those of the definition: merged, lowered and put.
-use Rattle.std.proofs.Common.{◌≡◌, ◌∙◌, ◌≤◌, ◌<◌, ℕ, zero, suc, ◌+◌, ◌-◌, List, [], ◌∷◌, ◌++◌, append_assoc, map, length, drop, replicate, Bool, true, false, Option, Some, None, ap, refl, sym, subst, arith}
-use Rattle.std.specs.Prelude.{◌^◌, nat_eq, nat_lt, if◌then◌else◌, option_map, slice_get, Vec}
-use Rattle.std.specs.Global.{Global}
-use Rattle.std.proofs.lemmas.Bool.{ne_eqb, eq-eqb, eqb-true, eqb-false, lt-ltb, le-ltb}
-use Rattle.std.proofs.lemmas.List.{length-map}
-use Rattle.std.proofs.lemmas.Option.{slice_get_past}
-use Rattle.lp_lemmas.proofs.Lists.{append_nil_sym, get_push, cons_head, cons_tail}
+use Rattle.std.proofs.Common.{◌≡◌, ◌∙◌, ◌≤◌, ◌<◌, ℕ, zero, suc, ◌+◌, List, [], ◌∷◌, map, length, Bool, true, false, Option, Some, None, ap, refl, sym, subst, arith}
+use Rattle.std.specs.Prelude.{◌^◌, nat_eq, nat_lt, if◌then◌else◌}
+use Rattle.std.proofs.lemmas.Bool.{ne_eqb, eq-eqb, lt-ltb, le-ltb}
+use Rattle.lp_lemmas.proofs.Lists.{cons_head, cons_tail}
 use Rattle.lp_calculus.specs.Types.{Ty}
-use Rattle.lp_code.specs.Symbolic.{joined, either_of, outer, innermost, is_closed}
+use Rattle.lp_code.specs.Symbolic.{joined}
 use Rattle.lp_verify.specs.declared.loose.Entry.{Entry}
-use Rattle.lp_verify.specs.declared.loose.Loose.{Loose}
-use Rattle.lp_verify.specs.declared.loose.Lists.{Lists}
 use Rattle.lp_verify.specs.declared.loose.Next.TheVariants as next
-use Rattle.lp_verify.specs.inner.Indices.{items_of, entries_in, lowered_by, seen_in, next_of, next_of_both, with_entry, merge_on, merge, places_from, indices, AreLow, IsSeen, ListsGrow, StandFor}
+use Rattle.lp_verify.specs.inner.Indices.{next_of_both, with_entry, merge_on, merge, places_from, indices, AreLow}
 
 -- places
 

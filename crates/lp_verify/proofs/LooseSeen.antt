@@ -1,6 +1,6 @@
 -- What kept entries stand for, when lists are put, joined and seen from outside.
-use Rattle.std.proofs.Common.{◌≡◌, ◌∙◌, ◌≤◌, ◌<◌, ℕ, zero, suc, ◌+◌, ◌-◌, List, [], ◌∷◌, ◌++◌, append_assoc, map, length, drop, replicate, Bool, true, false, Option, Some, None, ap, refl, sym, subst, arith}
-use Rattle.std.specs.Prelude.{◌^◌, nat_eq, min, if◌then◌else◌, option_map, is_some, is_none, slice_get, Vec, Result, Ok, Err, OnOk}
+use Rattle.std.proofs.Common.{◌≡◌, ◌∙◌, ◌≤◌, ◌<◌, ℕ, zero, suc, ◌+◌, ◌-◌, List, [], ◌∷◌, ◌++◌, append_assoc, map, length, drop, replicate, true, false, Option, Some, None, ap, refl, sym, subst, arith}
+use Rattle.std.specs.Prelude.{◌^◌, min, if◌then◌else◌, option_map, is_some, is_none, slice_get, Vec, Result, Ok, Err, OnOk}
 use Rattle.std.specs.Global.{Global}
 use Rattle.std.proofs.Math.Seq.{drop-nil}
 use Rattle.std.proofs.lemmas.Bool.{ne_eqb, eq-eqb}

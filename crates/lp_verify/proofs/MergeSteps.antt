@@ -1,5 +1,5 @@
 -- Two lists are merged, one entry behind the other.
-use Rattle.std.proofs.Common.{◌≡◌, ◌∙◌, ℕ, suc, List, [], ◌∷◌, ◌++◌, append_assoc, map, drop, Option, Some, None, ap, refl, sym, subst}
+use Rattle.std.proofs.Common.{◌≡◌, ◌∙◌, ℕ, suc, List, [], ◌∷◌, ◌++◌, append_assoc, map, drop, Option, Some, None, ap, refl, sym}
 use Rattle.std.specs.Prelude.{option_map, slice_get}
 use Rattle.std.proofs.lemmas.List.{drop-map}
 use Rattle.lp_lemmas.proofs.Lists.{append_nil_sym}

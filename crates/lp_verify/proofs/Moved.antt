@@ -34,7 +34,7 @@ use Rattle.lp_verify.specs.inner.Outline.{Outline, outline, arguments_behind, ty
 use Rattle.lp_verify.specs.inner.Told.{breaks, told, broken_whole, breaks_blocks, reaches_past, loose_entries, is_loose, sets_again, names_badly, IsFirst, is_out_of_order}
 use Rattle.lp_verify.specs.inner.Made.{nothing_built, type_made, term_made}
 use Rattle.lp_verify.specs.inner.Stack.{Agree, type_heights, term_heights, saved_of, stack_of, types_in_stack, terms_in_stack, stack_settled, IsStack, IsStacked, IsSettled, IsStackRun}
-use Rattle.lp_verify.specs.inner.Handed.{SameType, SameTerm, captured_in, types_captured, terms_captured, IsNamed, assumption_of, IsHandedOn, handed_on, AreHanded}
+use Rattle.lp_verify.specs.inner.Handed.{SameType, SameTerm, captured_in, types_captured, terms_captured, assumption_of, handed_on, AreHanded}
 use Rattle.lp_verify.specs.inner.At.{home_in, IsAt, IsRun, IsActed, IsPassed, IsStarted, IsJudgedWhole, IsWhole, IsNoWhole, HandedIn, IsRan, AreNamedBefore, NamedAt, Past, GoesOn}
 use Rattle.lp_verify.specs.inner.Sides.{sides_in, sides_of, sides_run, sides_acted, sides_settled, is_past, is_turn, starts_from, nests_badly, first_end_of, AreEnds, HasPlaces}
 use Rattle.lp_verify.proofs.Members.{member_append, from_zero_has, started_length}

@@ -1,6 +1,6 @@
 -- What an instruction makes, as it is kept and in the definition: their loose indices are the same.
 use Rattle.std.proofs.Common.{◌≡◌, ◌∙◌, ◌+◌, ◌<◌, ℕ, suc, List, [], ◌∷◌, ◌++◌, drop, length, Bool, true, false, Option, Some, None, ap, refl, sym, subst, arith}
-use Rattle.std.specs.Prelude.{◌^◌, ◌-◌, ◌||◌, unwrap_or, slice_get, filter_map, Vec, Result, IfOk, IfSome}
+use Rattle.std.specs.Prelude.{◌^◌, ◌||◌, unwrap_or, slice_get, filter_map, Vec, Result, IfOk, IfSome}
 use Rattle.std.proofs.lemmas.Result.{IfOk-weaker}
 use Rattle.std.specs.Global.{Global}
 use Rattle.std.specs.List.{list_any}
@@ -10,7 +10,7 @@ use Rattle.lp_term.specs.declared.node.TypeId.{TypeId}
 use Rattle.lp_code.specs.declared.instruction.Instr.{Instr}
 use Rattle.lp_code.specs.declared.instruction.Instr.TheVariants as on
 use Rattle.lp_code.specs.Rules.{has_none}
-use Rattle.lp_code.specs.Symbolic.{Built, Registers, held, type_in, term_in, terms_in, outer, bound_index, abstraction_of, application_of, all_joined, joined}
+use Rattle.lp_code.specs.Symbolic.{Built, held, type_in, term_in, terms_in, outer, bound_index, abstraction_of, application_of, all_joined, joined}
 use Rattle.lp_code.specs.States.{State, Home}
 use Rattle.lp_verify.specs.declared.built.Built as kept_built
 use Rattle.lp_verify.specs.declared.built.Head.{Head}
@@ -27,7 +27,7 @@ use Rattle.lp_verify.specs.inner.Handed.{SameTerm, IsSame, Alike, no_loose, bare
 use Rattle.lp_verify.specs.inner.Made.{nothing_built, term_made, IsTermMade, IsBare, is_ill, IsMadeBy, IsJudged, IsPutBy, built_or}
 use Rattle.lp_verify.specs.inner.Told.{loose_entries}
 use Rattle.lp_verify.proofs.HandedOn.{alike_read}
-use Rattle.lp_verify.proofs.LooseSeen.{grows_same, grows_then, stands_later, nothing_loose, no_entries, one_there, put_there}
+use Rattle.lp_verify.proofs.LooseSeen.{stands_later, nothing_loose, no_entries, one_there, put_there}
 
 -- a term without loose indices
 pub bare_is : (T : TypeId) (h : Head) → IsBare (typed.Built (bare_built T h))

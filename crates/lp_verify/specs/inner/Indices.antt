@@ -1,5 +1,5 @@
 -- Loose indices as they are kept: ascending lists that several terms share, each seen from an entry on and lowered by a number.
-use Rattle.std.specs.Prelude.{◌≡◌, ◌<◌, ◌+◌, ◌-◌, ◌^◌, ℕ, zero, suc, nat_eq, nat_lt, Bool, true, false, ◌&&◌, not, if◌then◌else◌, List, [], ◌∷◌, ◌++◌, map, drop, Option, Some, None, is_some, slice_get, option_map, Vec}
+use Rattle.std.specs.Prelude.{◌≡◌, ◌<◌, ◌+◌, ◌-◌, ◌^◌, ℕ, zero, suc, nat_eq, nat_lt, if◌then◌else◌, List, [], ◌∷◌, ◌++◌, map, drop, Option, Some, None, slice_get, option_map, Vec}
 use Rattle.std.specs.Global.{Global}
 use Rattle.lp_calculus.specs.Types.{Ty}
 use Rattle.lp_term.specs.declared.node.TypeId.{TypeId}

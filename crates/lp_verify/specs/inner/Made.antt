@@ -1,5 +1,5 @@
 -- What an instruction puts into the register that it sets.
-use Rattle.std.specs.Prelude.{◌≡◌, ℕ, Bool, true, false, []}
+use Rattle.std.specs.Prelude.{◌≡◌, Bool, true, false, []}
 use Rattle.std.specs.List.{list_any}
 use Rattle.lp_calculus.specs.Types.{Ty, con, arrow, tys}
 use Rattle.lp_calculus.specs.Term.{index, atom, integer, text}

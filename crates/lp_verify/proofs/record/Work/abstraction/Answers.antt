@@ -1,4 +1,3 @@
-use Rattle.std.proofs.Common.{refl}
 use Rattle.lp_verify.specs.declared.built.Built.{Built}
 use Rattle.lp_verify.specs.declared.built.Head.TheVariants as head
 use Rattle.lp_verify.proofs.TermsMade.{abstraction_made}
