@@ -13,7 +13,8 @@ use Rattle.lp_model.specs.declared.ending.Ending.TheVariants.{Arithmetic}
 use Rattle.lp_model.specs.declared.ending.Fault.TheVariants.{NotClosed}
 use Rattle.lp_model.specs.Look.{head_normal}
 use Rattle.lp_model.specs.Pair.{Closing, closed}
-use Rattle.lp_standard.specs.Connectives.{two}
+use Rattle.lp_standard.specs.Connectives.{two, connective_of}
+use Rattle.lp_standard.specs.Connectives as connective
 use Rattle.lp_model.specs.Flat.{Atomic, Clause, formula_of_goal}
 use Rattle.lp_model.specs.Flatten.{ClauseFormula}
 use Rattle.lp_model.specs.Values.{Value, Number, Bytes, Outcome, Is, Faults, evaluate, term_of, ordered}
@@ -24,9 +25,13 @@ use Rattle.lp_model.specs.Search.{with_goals, equated, assigned, compared}
 use Rattle.lp_unify_laws.proofs.Looks.{head_reduces}
 use Rattle.lp_search_laws.specs.Holds.{Holds, IsTyped}
 use Rattle.lp_search_laws.specs.Clauses.{clauses_at}
-use Rattle.lp_search_laws.specs.Branches.{IsPlainTerm, IsGoal, BranchTyping, IsTypedBranch, SolvesBranch, with_atom, SolvesAs, TypedTask, going, StandFor}
+use Rattle.lp_search_laws.specs.Branches.{IsPlainTerm, IsGoal, BranchTyping, IsTypedBranch, SolvesBranch, with_atom, SolvesAs, TypedTask, going}
+use Rattle.lp_search_laws.specs.Given.{bound_by, IsTypedFrom}
+use Rattle.lp_search_laws.proofs.Given.{form_bound, put_nothing, order_form, same_start}
+use Rattle.lp_search_laws.specs.Views.{StandFor}
 use Rattle.lp_search_laws.proofs.Closed.{closed_reduces}
 use Rattle.lp_search_laws.proofs.Connectives.{reduces_on, reduces_back}
+use Rattle.lp_search_laws.proofs.FlatViews.{each_so}
 use Rattle.lp_search_laws.proofs.Formed.{formula_at}
 use Rattle.lp_search_laws.proofs.Standing.{stopped, lacked}
 use Rattle.lp_search_laws.proofs.Tried.{typed_reduct, plain_reduct}
@@ -145,16 +150,20 @@ module _ {L : Leaves} (n : ℕ) (d : Declared) (std : IsSetting L d) (P : List C
         let p = (assigned_at d std (map (instance c.types) E) (clauses_at P e.assumed c) c T l r v (evaluated n r v value) (is_fine c k)).from s.proved.0 in
         record { query = s.query; answer = s.answer; proved = (from_normal c k (transport (λ w. Holds L d (map (instance c.types) E) (clauses_at P e.assumed c) c w) (sym shape) p), s.proved.1) }
 
-    -- what stands for the equality stands for `is`
-    equal_stands : (ts : List Task) → StandFor L n d P q (going typing branch_of) ts → StandFor L n d P q here ts
-    equal_stands ts s = record { typed = s.typed; is = s.is; ok = s.ok; keeps = λ i h. s.keeps i (to_equal i h); gives = λ i h. from_equal i (s.gives i h) }
-
     head_is : head_normal n equal ≡ Some equal
     head_is = go n normal
       where
         go : (m : ℕ) → head_normal m t ≡ Some u → head_normal m equal ≡ Some equal
         go zero w = absurd (cc)
         go (suc m) w = refl
+
+    -- neither binds anything
+    same_bound : bound_by n (Atomic equal) ≡ bound_by n e.goal
+    same_bound = form_bound n (Atomic equal) equal equal connective.Atomic refl head_is refl ∙ sym (form_bound n e.goal t u connective.Atomic is normal (ap connective_of shape))
+
+    -- what stands for the equality stands for `is`
+    equal_stands : (ts : List Task) → StandFor L n d P q (going typing branch_of) ts → StandFor L n d P q here ts
+    equal_stands ts s = record { typed = s.typed; is = s.is; ok = s.ok; given = each_so (IsTypedFrom n d (going typing branch_of)) (IsTypedFrom n d here) (same_start n d z E Es b (with_atom e equal) e es same_bound) s.typed s.given; keeps = λ i h. s.keeps i (to_equal i h); gives = λ i h. from_equal i (s.gives i h) }
 
   -- the equality's law, for each branch with it in front
   abbrev EqualitiesStand : Type 0
@@ -190,6 +199,7 @@ module _ {L : Leaves} (n : ℕ) (d : Declared) (std : IsSetting L d) (P : List C
         typed = rest ∷ [];
         is = refl;
         ok = (rest_typed, tt);
+        given = (inl (record { front = []; types = []; goals = refl; eigens = refl; put = put_nothing n e.goal E z.variables [] [] (form_bound n e.goal t u connective.Atomic is normal (ap connective_of shape ∙ order_form k low ts l r)) refl; pairs = refl }), tt);
         keeps = λ i s. inl (record { query = s.query; answer = s.answer; proved = s.proved.1 });
         gives = λ i s. elim s [ inl h ↦ record { query = h.query; answer = h.answer; proved = ((decided h.answer.closing h.answer.closes).1 w, h.proved) } | inr h ↦ absurd h ];
       }
@@ -197,6 +207,7 @@ module _ {L : Leaves} (n : ℕ) (d : Declared) (std : IsSetting L d) (P : List C
         typed = [];
         is = refl;
         ok = tt;
+        given = tt;
         keeps = λ i s. let f : ordered k x y ≡ true = (decided s.answer.closing s.answer.closes).0 s.proved.0 in absurd (cc);
         gives = λ i s. absurd s;
       }

@@ -26,7 +26,8 @@ use Rattle.lp_proof_laws.proofs.Uniform.Forms.{apply_arguments}
 use Rattle.lp_proof_laws.proofs.Uniform.Roots.{rooted_by, head_apply}
 use Rattle.lp_search_laws.specs.Holds.{Holds}
 use Rattle.lp_search_laws.specs.Clauses.{clauses_at}
-use Rattle.lp_search_laws.specs.Branches.{StandFor, IsRightView, going}
+use Rattle.lp_search_laws.specs.Branches.{going}
+use Rattle.lp_search_laws.specs.Views.{StandFor, IsRightView}
 use Rattle.lp_search_laws.proofs.Formed.{formula_at}
 use Rattle.lp_search_laws.proofs.Standing.{stopped}
 use Rattle.lp_search_laws.proofs.Fronts.{Typings, Typed as IsTypedHere}
@@ -112,6 +113,7 @@ module _ {L : Leaves} (n : ℕ) (d : Declared) (std : IsSetting L d) (P : List C
     typed = [];
     is = refl;
     ok = tt;
+    given = tt;
     keeps = λ j s. absurd (f s.answer.closing s.answer.closes ((by_form n d std P q z b E Es e es h t u i r s.answer.closing s.answer.closes).0 s.proved.0));
     gives = λ j s. absurd s;
   }

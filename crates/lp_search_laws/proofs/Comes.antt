@@ -17,7 +17,8 @@ use Rattle.lp_unify_laws.proofs.MoreSteps.Rules.{rule_more}
 use Rattle.lp_proof_laws.proofs.Uniform.Settings.{without_leaves}
 use Rattle.lp_search_laws.specs.Enough.{HasEnough}
 use Rattle.lp_search_laws.specs.Started.{IsTypedQuery, IsTypedSentence}
-use Rattle.lp_search_laws.specs.Branches.{IsProgramTyped, IsTypedBranch, no_query, TypedTask, going, trying, stopping, lacking, task_of, IsOk, IsRightView, denied_typing}
+use Rattle.lp_search_laws.specs.Branches.{IsProgramTyped, IsTypedBranch, no_query, TypedTask, going, trying, stopping, lacking, task_of, IsOk, denied_typing}
+use Rattle.lp_search_laws.specs.Views.{IsRightView}
 use Rattle.lp_search_laws.specs.Denials.{denied_branch}
 use Rattle.lp_search_laws.proofs.Stack.MoreLooks.{Fewer, same_look, lacks, opens_dead, takes_dead, run_same}
 use Rattle.lp_search_laws.proofs.Stack.Ends.{ends}

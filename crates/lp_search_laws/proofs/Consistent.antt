@@ -31,7 +31,8 @@ use Rattle.lp_search_laws.specs.Denials.{denied_branch, denied_task}
 use Rattle.lp_search_laws.specs.Clauses.{sentence_of, clauses_at}
 use Rattle.lp_search_laws.specs.Failed.{InAny, IsFailedSearch, failed_run, failing_branch, failing_typing}
 use Rattle.lp_search_laws.specs.Written.{IsOrigin, IsWrittenPlace, HasOrigin}
-use Rattle.lp_search_laws.specs.Branches.{no_query, denied_typing, ArePlainEntries, AreTypedEntries, IsPlainVariable, AreProved, IsTypedBranch, IsProgramTyped, IsQueryInstance, SolvesBranch, TypedTask, going, task_of, Sol, IsOk, DeniesTyped}
+use Rattle.lp_search_laws.specs.Branches.{no_query, denied_typing, ArePlainEntries, AreTypedEntries, IsPlainVariable, AreProved, IsTypedBranch, IsProgramTyped, IsQueryInstance, SolvesBranch, TypedTask, going, task_of, Sol, IsOk}
+use Rattle.lp_search_laws.specs.Views.{DeniesTyped}
 use Rattle.lp_search_laws.proofs.Entries.{formulas, each_assumed, assumed_formulas, converted_all}
 use Rattle.lp_search_laws.proofs.FailedSearches.{KeepsSame, setting_of, failed_same, more_same}
 use Rattle.lp_search_laws.proofs.ClosedTerms.{all_closed}

@@ -1,6 +1,6 @@
 -- What the unifier leaves of an equality stands for its branch.
 use Rattle.lp_proof_laws.proofs.Uniform.Settings.{IsSetting}
-use Rattle.std.proofs.Common.{◌≡◌, ℕ, List, [], ◌∷◌, map, Some, sym, ap, subst as transport, arith}
+use Rattle.std.proofs.Common.{◌≡◌, ℕ, List, [], ◌∷◌, map, Some, sym, ap, subst as transport, arith, inr}
 use Rattle.lp_calculus.specs.Types.{Ty, instance}
 use Rattle.lp_calculus.specs.Term.{Term}
 use Rattle.lp_calculus.specs.Typing.{Typed, scheme_type, o_type}
@@ -18,7 +18,8 @@ use Rattle.lp_unify_laws.proofs.TypedInstances.{typings_have_instances}
 use Rattle.lp_search_laws.specs.Holds.{Holds, IsTyped, equation}
 use Rattle.lp_search_laws.specs.Clauses.{clauses_at}
 use Rattle.lp_search_laws.specs.Behind.{SolvesWith}
-use Rattle.lp_search_laws.specs.Branches.{BranchTyping, IsTypedBranch, IsPlainTerm, SolvesBranch, StandFor, going}
+use Rattle.lp_search_laws.specs.Branches.{BranchTyping, IsTypedBranch, IsPlainTerm, SolvesBranch, going}
+use Rattle.lp_search_laws.specs.Views.{StandFor}
 use Rattle.lp_search_laws.proofs.Connectives.{equal_holds}
 use Rattle.lp_search_laws.proofs.Formed.{formula_at}
 use Rattle.lp_search_laws.proofs.Fronts.{Typings, Typed as IsTypedHere}
@@ -77,7 +78,7 @@ module _ {L : Leaves} (n : ℕ) (d : Declared) (std : IsSetting L d) (P : List C
   equal_here = follows n d std P q (record { answer = z; eigens = Es }) (with_goals b es) [] (equation l r e.level) (with_typed n d q (record { answer = z; eigens = Es }) (with_goals b es) [] rest)
       (λ θ w. (instance_typing θ pair_typing ∷ [], (typings_have_instances θ d z.variables pair_typing pair pair_typed, tt)))
       tt (record { left = plain.0.1; right = plain.1 }, tt)
-      (going (Typings n d P q z b E Es e es (E ∷ Es)) (with_goals b (e ∷ es))) to_pair from_pair
+      (going (Typings n d P q z b E Es e es (E ∷ Es)) (with_goals b (e ∷ es))) to_pair from_pair (λ y' b' x. inr x)
 
 pub equality_stands : {L : Leaves} (n : ℕ) (d : Declared) → IsSetting L d → (P : List Clause) (q : Query) (y : BranchTyping) (b : Branch) (e : Entry) (es : List Entry) (t u : Term) (T : Ty) (l r : Term) → b.goals ≡ e ∷ es → e.goal ≡ Atomic t → head_normal n t ≡ Some u → u ≡ two 8 (T ∷ []) l r → IsTypedBranch n d q y b →
     StandFor L n d P q (going y b) (equated unit_limit n e.level l r (with_goals b es))

@@ -24,7 +24,10 @@ use Rattle.lp_unify_laws.proofs.TypedInstances.{length_map, map_append}
 use Rattle.lp_unify_laws.proofs.Looks.{head_reduces}
 use Rattle.lp_search_laws.specs.Holds.{Holds, IsTyped, FormHolds, IsTakenApart}
 use Rattle.lp_search_laws.specs.Clauses.{clauses_at}
-use Rattle.lp_search_laws.specs.Branches.{IsPlainAtom, IsPlainTerm, EntryHolds, StandFor, IsRightView, going}
+use Rattle.lp_search_laws.specs.Branches.{IsPlainAtom, IsPlainTerm, EntryHolds, going}
+use Rattle.lp_search_laws.specs.Given.{bound_by, bound_by_form}
+use Rattle.lp_search_laws.proofs.Given.{form_bound, put_nothing, put_variable, put_eigenconstant}
+use Rattle.lp_search_laws.specs.Views.{StandFor, IsRightView}
 use Rattle.lp_search_laws.proofs.Connectives.{reduces_on, reduces_back}
 use Rattle.lp_search_laws.proofs.Closed.{closed_reduces}
 use Rattle.lp_search_laws.proofs.Goals.{run_time_goals}
@@ -70,8 +73,11 @@ module _ {L : Leaves} (n : ℕ) (d : Declared) (std : IsSetting L d) (P : List C
   one_in_place : (x : Term) → IsTyped d E z.variables x o_type → IsPlainTerm b.next_type x → MayStand d z.variables b.next_type (E ∷ []) (in_place e (x ∷ []))
   one_in_place x w p = record { typed = (record { level = h.entries.0.level; goal = w; assumed = h.entries.0.assumed }, tt); plain = (record { eigens = h.goals.0.eigens; goal = p; assumed = h.goals.0.assumed }, tt); written = (record { goal = tt; place = h.written.0.place }, tt) }
 
+  bound : (f : Connective) → connective_of u ≡ f → bound_by n e.goal ≡ bound_by_form f
+  bound f x = form_bound n e.goal t u f i r x
+
   truth_stands : connective_of u ≡ connective.True → StandFor L n d P q (going (Typings n d P q z b E Es e es (E ∷ Es)) (with_goals b (e ∷ es))) (Go (with_goals b es) ∷ [])
-  truth_stands x = stands_one n d P q z b E Es e es h [] [] (record { typed = tt; plain = tt; written = tt }) (λ c l. by_parts connective.True x tt c l)
+  truth_stands x = stands_one n d P q z b E Es e es h [] [] (record { typed = tt; plain = tt; written = tt }) (put_nothing n e.goal E z.variables [] [] (bound connective.True x) refl) (λ c l. by_parts connective.True x tt c l)
 
   both_stand : (a c : Term) → connective_of u ≡ connective.And a c → StandFor L n d P q (going (Typings n d P q z b E Es e es (E ∷ Es)) (with_goals b (e ∷ es))) (Go (with_goals b (in_place e (a ∷ c ∷ []) ++ es)) ∷ [])
   both_stand a c x =
@@ -81,6 +87,7 @@ module _ {L : Leaves} (n : ℕ) (d : Declared) (std : IsSetting L d) (P : List C
       let l = one_in_place a w.0 p.0.1 in
       let m = one_in_place c w.1 p.1 in
       stands_one n d P q z b E Es e es h (E ∷ E ∷ []) (in_place e (a ∷ c ∷ [])) (record { typed = (l.typed.0, (m.typed.0, tt)); plain = (l.plain.0, (m.plain.0, tt)); written = (l.written.0, (m.written.0, tt)) })
+      (put_nothing n e.goal E z.variables (in_place e (a ∷ c ∷ [])) (E ∷ E ∷ []) (bound (connective.And a c) x) refl)
       (λ v g. let y = by_parts (connective.And a c) x tt v g in ((λ o. let j = y.0 o in (j.0, (j.1, tt))), (λ o. y.1 (o.0, o.1.0))))
 
   either_stand : (a c : Term) → connective_of u ≡ connective.Or a c → StandFor L n d P q (going (Typings n d P q z b E Es e es (E ∷ Es)) (with_goals b (e ∷ es))) (Go (with_goals b (in_place e (a ∷ []) ++ es)) ∷ Go (with_goals b (in_place e (c ∷ []) ++ es)) ∷ [])
@@ -89,6 +96,7 @@ module _ {L : Leaves} (n : ℕ) (d : Declared) (std : IsSetting L d) (P : List C
       let w = both_typed d E z.variables 1 a c (connective d std.standard 1 (omega arith)) (transport (λ y. IsTyped d E z.variables y o_type) s form_typed) in
       let p = transport (IsPlainTerm b.next_type) s form_plain in
       stands_two n d P q z b E Es e es h (E ∷ []) (E ∷ []) (in_place e (a ∷ [])) (in_place e (c ∷ [])) (one_in_place a w.0 p.0.1) (one_in_place c w.1 p.1)
+      (put_nothing n e.goal E z.variables (in_place e (a ∷ [])) (E ∷ []) (bound (connective.Or a c) x) refl) (put_nothing n e.goal E z.variables (in_place e (c ∷ [])) (E ∷ []) (bound (connective.Or a c) x) refl)
       (λ v g. let y = by_parts (connective.Or a c) x tt v g in ((λ o. elim (y.0 o) [ inl j ↦ inl (j, tt) | inr j ↦ inr (j, tt) ]), (λ o. y.1 (elim o [ inl j ↦ inl j.0 | inr j ↦ inr j.0 ]))))
 
   every_stands : (T : Ty) (s : Term) → connective_of u ≡ connective.ForAll T s → StandFor L n d P q (going (Typings n d P q z b E Es e es (E ∷ Es)) (with_goals b (e ∷ es))) (Go (with_goals b (at_next_level e (substitute (atom (eigen (suc e.level))) s) ∷ es)) ∷ [])
@@ -109,6 +117,7 @@ module _ {L : Leaves} (n : ℕ) (d : Declared) (std : IsSetting L d) (P : List C
       let pp = transport (λ y. IsPlainTerm b.next_type (substitute v y)) (sym g.2) (plain_opened (IsPlainAtom b.next_type) (IsScopedAtom z.variables F) g.0 v a'.scoped eig.scoped p.1 tt) in
       stands_one n d P q z b E Es e es h (F ∷ []) (at_next_level e (substitute v s) ∷ [])
       (record { typed = (record { level = pl.is_level; goal = o; assumed = pl.typed }, tt); plain = (record { eigens = pl.below; goal = pp; assumed = pl.plain }, tt); written = (record { goal = tt; place = h.written.0.place }, tt) })
+      (put_eigenconstant n e.goal E z.variables (at_next_level e (substitute v s) ∷ []) (F ∷ []) T (bound (connective.ForAll T s) x) refl)
       (λ c l.
       let E' = map (instance c.types) E in
       let R = clauses_at P e.assumed c in
@@ -135,6 +144,7 @@ module _ {L : Leaves} (n : ℕ) (d : Declared) (std : IsSetting L d) (P : List C
       let pp = transport (λ y. IsPlainTerm b.next_type (substitute v y)) (sym g.2) (plain_opened (IsPlainAtom b.next_type) (IsScopedAtom X E) g.0 v a'.scoped nt.scoped p.1 tt) in
       stands_new n d P q z b E Es e es h T p.0.1.0 (substitute v s) (E ∷ []) (in_place e (substitute v s ∷ []))
       (record { typed = (record { level = np.is_level; goal = o; assumed = np.typed }, tt); plain = (record { eigens = np.below; goal = pp; assumed = np.plain }, tt); written = (record { goal = tt; place = h.written.0.place }, tt) })
+      (put_variable n e.goal E z.variables (in_place e (substitute v s ∷ [])) (E ∷ []) T (bound (connective.Exists T s) x) refl)
       (λ c l. by_parts (connective.Exists T s) x tt c l)
       (λ c l. ((λ m. (m, tt)), (λ m. m.0)))
 

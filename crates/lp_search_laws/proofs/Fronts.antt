@@ -10,7 +10,9 @@ use Rattle.lp_model.specs.Branch.{Entry, Branch, Go, entries}
 use Rattle.lp_model.specs.Answers.{Query, Variable, Instance, AnswerTyping, Closes}
 use Rattle.lp_model.specs.Proofs.{Declared, Leaves}
 use Rattle.lp_model.specs.Search.{with_goals}
-use Rattle.lp_search_laws.specs.Branches.{IsTypedEntry, AreTypedEntries, IsPlainEntry, ArePlainEntries, EntryHolds, AreProved, BranchTyping, IsTypedBranch, SolvesBranch, StandFor, going}
+use Rattle.lp_search_laws.specs.Branches.{IsTypedEntry, AreTypedEntries, IsPlainEntry, ArePlainEntries, EntryHolds, AreProved, BranchTyping, IsTypedBranch, SolvesBranch, going}
+use Rattle.lp_search_laws.specs.Given.{IsPut, IsInPlace}
+use Rattle.lp_search_laws.specs.Views.{StandFor}
 use Rattle.lp_search_laws.specs.Written.{IsWrittenGoal, IsWrittenPlace, IsWrittenEntry}
 
 pub typed_append : (d : Declared) (V : List Variable) (Fs Es : List (List Ty)) (fs es : List Entry) → AreTypedEntries d V Fs fs → AreTypedEntries d V Es es → AreTypedEntries d V (Fs ++ Es) (fs ++ es)
@@ -75,25 +77,30 @@ module _ (n : ℕ) (d : Declared) (P : List Clause) (q : Query) (z : AnswerTypin
       let r = proved_split _ d P s.answer.closing z.variables Fs Es fs es t s.proved in
       record { query = s.query; answer = s.answer; proved = (f s.answer.closing s.answer.closes r.0, r.1) }
 
+  in_front : (Fs : List (List Ty)) (fs : List Entry) → IsPut n e.goal E z.variables z.variables fs Fs → IsInPlace n e.goal z E Es es (Typings n d P q z b E Es e es (Fs ++ Es)) (with_goals b (fs ++ es))
+  in_front Fs fs x = record { front = fs; types = Fs; goals = refl; eigens = refl; put = x; pairs = refl }
+
   -- one alternative
-  pub stands_one : {L : Leaves} → Typed n d P q z b E Es e es → (Fs : List (List Ty)) (fs : List Entry) → MayStand d z.variables b.next_type Fs fs →
+  pub stands_one : {L : Leaves} → Typed n d P q z b E Es e es → (Fs : List (List Ty)) (fs : List Entry) → MayStand d z.variables b.next_type Fs fs → IsPut n e.goal E z.variables z.variables fs Fs →
       ((c : Closing) → Closes d z.variables c → (EntryHolds L d P c E e → AreProved L d P c Fs fs) × (AreProved L d P c Fs fs → EntryHolds L d P c E e)) → StandFor L n d P q (going (Typings n d P q z b E Es e es (E ∷ Es)) (with_goals b (e ∷ es))) (Go (with_goals b (fs ++ es)) ∷ [])
-  stands_one {L} h Fs fs m f = record {
+  stands_one {L} h Fs fs m x f = record {
     typed = going (Typings n d P q z b E Es e es (Fs ++ Es)) (with_goals b (fs ++ es)) ∷ [];
     is = refl;
     ok = (branch_stays n d P q z b E Es e es h Fs fs m, tt);
+    given = (inl (in_front Fs fs x), tt);
     keeps = λ i s. inl (goes_on i Fs fs s ((f s.answer.closing s.answer.closes).0 s.proved.0));
     gives = λ i s. elim s [ inl x ↦ comes_back i Fs fs m.typed x (λ c l p. (f c l).1 p) | inr x ↦ absurd x ];
   }
 
   -- two of them
-  pub stands_two : {L : Leaves} → Typed n d P q z b E Es e es → (Fs Gs : List (List Ty)) (fs gs : List Entry) → MayStand d z.variables b.next_type Fs fs → MayStand d z.variables b.next_type Gs gs →
+  pub stands_two : {L : Leaves} → Typed n d P q z b E Es e es → (Fs Gs : List (List Ty)) (fs gs : List Entry) → MayStand d z.variables b.next_type Fs fs → MayStand d z.variables b.next_type Gs gs → IsPut n e.goal E z.variables z.variables fs Fs → IsPut n e.goal E z.variables z.variables gs Gs →
       ((c : Closing) → Closes d z.variables c → (EntryHolds L d P c E e → AreProved L d P c Fs fs ⊎ AreProved L d P c Gs gs) × (AreProved L d P c Fs fs ⊎ AreProved L d P c Gs gs → EntryHolds L d P c E e)) →
       StandFor L n d P q (going (Typings n d P q z b E Es e es (E ∷ Es)) (with_goals b (e ∷ es))) (Go (with_goals b (fs ++ es)) ∷ Go (with_goals b (gs ++ es)) ∷ [])
-  stands_two {L} h Fs Gs fs gs m l f = record {
+  stands_two {L} h Fs Gs fs gs m l x y f = record {
     typed = going (Typings n d P q z b E Es e es (Fs ++ Es)) (with_goals b (fs ++ es)) ∷ going (Typings n d P q z b E Es e es (Gs ++ Es)) (with_goals b (gs ++ es)) ∷ [];
     is = refl;
     ok = (branch_stays n d P q z b E Es e es h Fs fs m, (branch_stays n d P q z b E Es e es h Gs gs l, tt));
+    given = (inl (in_front Fs fs x), (inl (in_front Gs gs y), tt));
     keeps = λ i s. elim ((f s.answer.closing s.answer.closes).0 s.proved.0) [ inl p ↦ inl (goes_on i Fs fs s p) | inr p ↦ inr (inl (goes_on i Gs gs s p)) ];
     gives = λ i s. elim s [
       | inl x ↦ comes_back i Fs fs m.typed x (λ c r p. (f c r).1 (inl p))

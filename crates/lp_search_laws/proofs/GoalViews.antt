@@ -20,7 +20,10 @@ use Rattle.lp_unify_laws.proofs.TypedInstances.{length_map, map_append}
 use Rattle.lp_search_laws.specs.Denials.{denied_branch}
 use Rattle.lp_search_laws.specs.Holds.{Holds, IsTyped}
 use Rattle.lp_search_laws.specs.Clauses.{clauses_at}
-use Rattle.lp_search_laws.specs.Branches.{IsGoal, EntryHolds, StandFor, DeniesTyped, BranchTyping, IsTypedBranch, no_query, going, stopping}
+use Rattle.lp_search_laws.specs.Branches.{IsGoal, EntryHolds, BranchTyping, IsTypedBranch, no_query, going, stopping}
+use Rattle.lp_search_laws.specs.Given.{bound_by}
+use Rattle.lp_search_laws.proofs.Given.{put_nothing, put_variable, put_eigenconstant, entries_at}
+use Rattle.lp_search_laws.specs.Views.{StandFor, DeniesTyped}
 use Rattle.lp_search_laws.proofs.Connectives.{either_holds, pi_holds, implied_holds, sigma_holds}
 use Rattle.lp_search_laws.proofs.Formed.{formula_at}
 use Rattle.lp_search_laws.proofs.TypedParts.{both_typed, function_typed, opened_typed, typed_wider, clauses_typed, clauses_each, argument_typed}
@@ -63,7 +66,7 @@ module _ {L : Leaves} (n : ℕ) (d : Declared) (std : IsSetting L d) (P : List C
   by_goal g i c A r = ((λ p. r.0 (transport (λ x. HoldsHere c (formula_of_goal x)) i p)), (λ a. transport (λ x. HoldsHere c (formula_of_goal x)) (sym i) (r.1 a)))
 
   pub cut_stands : e.goal ≡ Cut → StandFor L n d P q (going (Typings n d P q z b E Es e es (E ∷ Es)) (with_goals b (e ∷ es))) (Go (with_goals b es) ∷ [])
-  cut_stands i = stands_one n d P q z b E Es e es h [] [] (record { typed = tt; plain = tt; written = tt }) (λ c l. by_goal Cut i c _ ((λ p. tt), (λ p. record { proof = True; holds = inr refl })))
+  cut_stands i = stands_one n d P q z b E Es e es h [] [] (record { typed = tt; plain = tt; written = tt }) (put_nothing n e.goal E z.variables [] [] (ap (bound_by n) i) refl) (λ c l. by_goal Cut i c _ ((λ p. tt), (λ p. record { proof = True; holds = inr refl })))
 
   pub either_stands : (l r : Goals) → e.goal ≡ Either l r → StandFor L n d P q (going (Typings n d P q z b E Es e es (E ∷ Es)) (with_goals b (e ∷ es))) (Go (with_goals b (entries (goal_list l) e.assumed e.written e.level e.mark ++ es)) ∷ Go (with_goals b (entries (goal_list r) e.assumed e.written e.level e.mark ++ es)) ∷ [])
   either_stands l r i =
@@ -73,6 +76,8 @@ module _ {L : Leaves} (n : ℕ) (d : Declared) (std : IsSetting L d) (P : List C
       stands_two n d P q z b E Es e es h (each_at E (goal_list l)) (each_at E (goal_list r)) (entries (goal_list l) e.assumed e.written e.level e.mark) (entries (goal_list r) e.assumed e.written e.level e.mark)
       (goals_stand d std.standard V k E e.assumed e.written e.level e.mark place written_place l t.0 w.0 v.0)
       (goals_stand d std.standard V k E e.assumed e.written e.level e.mark place written_place r t.1 w.1 v.1)
+      (put_nothing n e.goal E z.variables (entries (goal_list l) e.assumed e.written e.level e.mark) (each_at E (goal_list l)) (ap (bound_by n) i) (entries_at E (goal_list l) e.assumed e.written e.level e.mark))
+      (put_nothing n e.goal E z.variables (entries (goal_list r) e.assumed e.written e.level e.mark) (each_at E (goal_list r)) (ap (bound_by n) i) (entries_at E (goal_list r) e.assumed e.written e.level e.mark))
       (λ c s.
       let o = either_holds d std (map (instance c.types) E) (clauses_at P e.assumed c) c (formula_of_goals l) (formula_of_goals r) (formula_at d V c s E _ (typed_as (Either l r) i)) in
       let a = goals_proved d std P V c s E e.assumed e.written e.level e.mark l t.0 in
@@ -98,6 +103,7 @@ module _ {L : Leaves} (n : ℕ) (d : Declared) (std : IsSetting L d) (P : List C
       let t = opened_typed d F V T (abs (formula_of_goals gs)) u s' eig in
       stands_one n d P q z b E Es e es h (each_at F (goal_list (instantiate_goals f gs))) (entries (goal_list (instantiate_goals f gs)) e.assumed e.written (suc e.level) e.mark)
       (opened_stand d std.standard V k F e.assumed e.written (suc e.level) e.mark pl written_place true u f a tt (λ x. tt) gs t w.1 (written_as (Forall T gs) i))
+      (put_eigenconstant n e.goal E z.variables (entries (goal_list (instantiate_goals f gs)) e.assumed e.written (suc e.level) e.mark) (each_at F (goal_list (instantiate_goals f gs))) T (ap (bound_by n) i) (entries_at F (goal_list (instantiate_goals f gs)) e.assumed e.written (suc e.level) e.mark))
       (λ c l.
       let E' = map (instance c.types) E in
       let R = clauses_at P e.assumed c in
@@ -163,6 +169,7 @@ module _ {L : Leaves} (n : ℕ) (d : Declared) (std : IsSetting L d) (P : List C
     rest = with_goals b es;
     goes_on = refl;
     after = rest_typed;
+    given = inl (record { front = []; types = []; goals = refl; eigens = refl; put = put_nothing n e.goal E z.variables [] [] (ap (bound_by n) i) refl; pairs = refl });
     keeps = λ j s.
         let c = s.answer.closing in
         let E' = map (instance c.types) E in
@@ -182,6 +189,7 @@ module _ {L : Leaves} (n : ℕ) (d : Declared) (std : IsSetting L d) (P : List C
     typed = stopping OpenNot (going (Typings n d P q z b E Es e es (E ∷ Es)) (with_goals b (e ∷ es))) ∷ [];
     is = refl;
     ok = ((λ x. cc), tt);
+    given = (tt, tt);
     keeps = λ i s. inl s;
     gives = λ i s. elim s [ inl x ↦ x | inr x ↦ absurd x ];
   }
@@ -199,6 +207,7 @@ module _ {L : Leaves} (n : ℕ) (d : Declared) (std : IsSetting L d) (P : List C
         plain = each_append (IsAssumable b.next_type) (clause_list cs) e.assumed (clauses_each b.next_type cs w.0) place.plain;
       } in
       stands_one n d P q z b E Es e es h (each_at E (goal_list gs)) (entries (goal_list gs) A (both_written ws e.written) e.level e.mark) (goals_stand d std.standard V k E A (both_written ws e.written) e.level e.mark pl (written_more written_place ws cs v.0 v.1 v.3) gs t.1 w.1 v.2)
+      (put_nothing n e.goal E z.variables (entries (goal_list gs) A (both_written ws e.written) e.level e.mark) (each_at E (goal_list gs)) (ap (bound_by n) i) (entries_at E (goal_list gs) A (both_written ws e.written) e.level e.mark))
       (λ c l.
       let E' = map (instance c.types) E in
       let o = implied_holds d std E' (clauses_at P e.assumed c) c (formula_of_clauses cs) (formula_of_goals gs) (formula_at d V c l E _ (typed_as (Assume ws cs gs) i)) in
@@ -232,5 +241,6 @@ module _ {L : Leaves} (n : ℕ) (d : Declared) (std : IsSetting L d) (P : List C
       let t = opened_typed d E X T (abs (formula_of_goals gs)) u s' (new_typed T) in
       stands_new n d P q z b E Es e es h T w.0 (substitute u (formula_of_goals gs)) (each_at E (goal_list (instantiate_goals f gs))) (entries (goal_list (instantiate_goals f gs)) e.assumed e.written e.level e.mark)
       (opened_stand d std.standard X k E e.assumed e.written e.level e.mark (new_place T) written_place false u f a tt (λ x. absurd (cc)) gs t w.1 (written_as (Exists T gs) i))
+      (put_variable n e.goal E z.variables (entries (goal_list (instantiate_goals f gs)) e.assumed e.written e.level e.mark) (each_at E (goal_list (instantiate_goals f gs))) T (ap (bound_by n) i) (entries_at E (goal_list (instantiate_goals f gs)) e.assumed e.written e.level e.mark))
       (λ c l. by_goal (Exists T gs) i c _ (sigma_holds d std (map (instance c.types) E) (clauses_at P e.assumed c) c b.next e.level T (abs (formula_of_goals gs)) (unused_new d E V b.next e.level (sym h.answer.variables) (abs (formula_of_goals gs)) _ s.typed) (formula_at d V c l E _ (typed_as (Exists T gs) i))))
       (λ c l. opened_proved d std P X c l E e.assumed e.written e.level e.mark u f a gs t)

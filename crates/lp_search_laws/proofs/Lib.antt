@@ -1,5 +1,6 @@
 pub mod ClosedTerms
 pub mod AssumedLists
+pub mod Given
 pub mod Closed
 pub mod Connectives
 pub mod Entries

@@ -13,7 +13,8 @@ use Rattle.lp_model.specs.Branch.{Entry, Branch, Go, both_written}
 use Rattle.lp_model.specs.Answers.{Query, AnswerTyping}
 use Rattle.lp_model.specs.Proofs.{Declared, Leaves}
 use Rattle.lp_model.specs.Search.{with_goals, look, look_branch, look_goal, look_normal, look_not, look_atom, has_variables}
-use Rattle.lp_search_laws.specs.Branches.{BranchTyping, IsTypedBranch, IsRightView, IsAtAtom, going}
+use Rattle.lp_search_laws.specs.Branches.{BranchTyping, IsTypedBranch, IsAtAtom, going}
+use Rattle.lp_search_laws.specs.Views.{IsRightView}
 use Rattle.lp_search_laws.proofs.Opened.{by_cases}
 use Rattle.lp_search_laws.proofs.Fronts.{Typings, Typed as IsTypedHere}
 use Rattle.lp_search_laws.proofs.GoalViews.{cut_stands, either_stands, forall_stands, denied_stands, open_stands, assume_stands, exists_stands}

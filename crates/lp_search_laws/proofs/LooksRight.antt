@@ -19,7 +19,8 @@ use Rattle.lp_search_laws.specs.Unnegated.{IsUnnegatedClause, IsUnnegatedTask, A
 use Rattle.lp_search_laws.proofs.UnnegatedStarts.{typed_sentences, program_unnegated, query_unnegated, start_unnegated}
 use Rattle.lp_search_laws.specs.Begun.{first_branch, first_typing}
 use Rattle.lp_search_laws.specs.Right.{IsRightFor, IsRightOf}
-use Rattle.lp_search_laws.specs.Branches.{BranchTyping, IsTypedBranch, IsProgramTyped, IsQueryInstance, SolvesBranch, TypedTask, going, trying, stopping, lacking, task_of, IsOk, IsRightView}
+use Rattle.lp_search_laws.specs.Branches.{BranchTyping, IsTypedBranch, IsProgramTyped, IsQueryInstance, SolvesBranch, TypedTask, going, trying, stopping, lacking, task_of, IsOk}
+use Rattle.lp_search_laws.specs.Views.{IsRightView}
 use Rattle.lp_search_laws.proofs.Fronts.{Typings, Typed as IsTypedHere}
 use Rattle.lp_search_laws.proofs.AtomViews.{atom_view}
 use Rattle.lp_search_laws.proofs.ArithmeticTasks.{assigned_stands, comparisons_stand}

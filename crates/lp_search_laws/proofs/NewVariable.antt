@@ -24,7 +24,9 @@ use Rattle.lp_proof_laws.proofs.Uniform.Contexts.{get_front, get_split}
 use Rattle.lp_lemmas.proofs.Each.{each_append}
 use Rattle.lp_search_laws.specs.Holds.{Holds, IsTyped, with_value, IsOther, IsUnused}
 use Rattle.lp_search_laws.specs.Clauses.{clauses_at, assumed_at, sentence_of}
-use Rattle.lp_search_laws.specs.Branches.{AreTypedEntries, AreProved, EntryHolds, BranchTyping, IsTypedBranch, SolvesBranch, IsPlainVariable, StandFor, going}
+use Rattle.lp_search_laws.specs.Branches.{AreTypedEntries, AreProved, EntryHolds, BranchTyping, IsTypedBranch, SolvesBranch, IsPlainVariable, going}
+use Rattle.lp_search_laws.specs.Given.{IsPut}
+use Rattle.lp_search_laws.specs.Views.{StandFor}
 use Rattle.lp_search_laws.proofs.Closed.{unused_closed, value_at}
 use Rattle.lp_search_laws.proofs.TypedParts.{typed_wider}
 use Rattle.lp_search_laws.specs.Written.{IsWrittenEntry}
@@ -196,11 +198,12 @@ module _ (n : ℕ) (d : Declared) (P : List Clause) (q : Query) (z : AnswerTypin
   abbrev pub Splits : Leaves → Term → List (List Ty) → List Entry → Type 0
   Splits L B Fs fs = (c : Closing) → Closes d (z.variables ++ record { type = T; scope = E } ∷ []) c → (Holds L d (map (instance c.types) E) (clauses_at P e.assumed c) c B → AreProved L d P c Fs fs) × (AreProved L d P c Fs fs → Holds L d (map (instance c.types) E) (clauses_at P e.assumed c) c B)
 
-  pub stands_new : {L : Leaves} (B : Term) (Fs : List (List Ty)) (fs : List Entry) → MayStand d (z.variables ++ record { type = T; scope = E } ∷ []) b.next_type Fs fs → Says L B → Splits L B Fs fs → StandFor L n d P q (going (Typings n d P q z b E Es e es (E ∷ Es)) (with_goals b (e ∷ es))) (Go (wider_branch (fs ++ es)) ∷ [])
-  stands_new {L} B Fs fs m says splits = record {
+  pub stands_new : {L : Leaves} (B : Term) (Fs : List (List Ty)) (fs : List Entry) → MayStand d (z.variables ++ record { type = T; scope = E } ∷ []) b.next_type Fs fs → IsPut n e.goal E z.variables (z.variables ++ record { type = T; scope = E } ∷ []) fs Fs → Says L B → Splits L B Fs fs → StandFor L n d P q (going (Typings n d P q z b E Es e es (E ∷ Es)) (with_goals b (e ∷ es))) (Go (wider_branch (fs ++ es)) ∷ [])
+  stands_new {L} B Fs fs m x says splits = record {
     typed = going (wider_typing (Fs ++ Es)) (wider_branch (fs ++ es)) ∷ [];
     is = refl;
     ok = (wider_stays Fs fs m, tt);
+    given = (inl (record { front = fs; types = Fs; goals = refl; eigens = refl; put = x; pairs = refl }), tt);
     keeps = λ i s. inl (keeps i s);
     gives = λ i s. elim s [ inl x ↦ gives i x | inr x ↦ absurd x ];
   }

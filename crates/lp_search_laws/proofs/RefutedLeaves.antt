@@ -16,7 +16,8 @@ use Rattle.lp_search_laws.specs.Holds.{IsTyped}
 use Rattle.lp_search_laws.specs.Denials.{denied_branch, denied_task}
 use Rattle.lp_search_laws.specs.Clauses.{clauses_at}
 use Rattle.lp_search_laws.specs.Failed.{Order, IsFailedSearch, failed_run}
-use Rattle.lp_search_laws.specs.Branches.{no_query, IsTypedBranch, TypedTask, DeniesTyped, denied_typing}
+use Rattle.lp_search_laws.specs.Branches.{no_query, IsTypedBranch, TypedTask, denied_typing}
+use Rattle.lp_search_laws.specs.Views.{DeniesTyped}
 use Rattle.lp_search_laws.proofs.FailedSearches.{leaf, refuted_fails_so, refuted_steps}
 
 listed : (A : List Clause) → clause_list (clauses_in A) ≡ A

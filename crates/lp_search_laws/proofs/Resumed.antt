@@ -38,7 +38,9 @@ use Rattle.lp_unify_laws.proofs.Principal.{closings_are_the_same}
 use Rattle.lp_unify_laws.proofs.Stuck.{solve_stuck}
 use Rattle.lp_search_laws.specs.Holds.{IsTyped, IsVariableOf}
 use Rattle.lp_search_laws.specs.Clauses.{assumed_at, sentence_of, clauses_at}
-use Rattle.lp_search_laws.specs.Branches.{IsPlainTerm, IsAssumable, AreProved, ArePlainEntries, IsPlainVariable, IsPlainPair, BranchTyping, IsTypedBranch, SolvesBranch, TypedTask, going, Sol, StandFor}
+use Rattle.lp_search_laws.specs.Branches.{IsPlainTerm, IsAssumable, AreProved, ArePlainEntries, IsPlainVariable, IsPlainPair, BranchTyping, IsTypedBranch, SolvesBranch, TypedTask, going, Sol}
+use Rattle.lp_search_laws.specs.Given.{IsLeftBehind, IsTypedFrom}
+use Rattle.lp_search_laws.specs.Views.{StandFor}
 use Rattle.lp_proof_laws.proofs.Uniform.Settings.{IsSetting}
 use Rattle.lp_search_laws.specs.Behind.{LeadsThrough, behind, types_of, variables_of, eigens_of, IsBranchWith, SolvesWith}
 use Rattle.lp_search_laws.proofs.TypesPut.{put_types_is, put_types_in_is, satisfied_types, satisfied_instance, satisfied_term, satisfied_all}
@@ -395,8 +397,8 @@ not_done : Deep ≢ NoMore
 not_done e = absurd (cc)
 
 pub follows : {L : Leaves} (n : ℕ) (d : Declared) → IsSetting L d → (P : List Clause) (q : Query) (y : BranchTyping) (b : Branch) (eqs : List TypePair) (ps : List Pair) → IsBranchWith n d q eqs y b → ((θ : ℕ → Ty) → Unifies θ eqs → HaveTypings d (variables_of θ y.answer.variables) (at_types θ ps)) → EachOf (λ x. IsTypeBelow b.next_type x.left × IsTypeBelow b.next_type x.right) eqs → EachOf (IsPlainPair b.next_type) ps →
-    (T : TypedTask) → ((i : Instance) → Sol L d P q i T → SolvesWith L d P q i y b eqs ps) → ((i : Instance) → SolvesWith L d P q i y b eqs ps → Sol L d P q i T) → StandFor L n d P q T (follow b (solve n unit_limit eqs ps b.pairs b.next))
-follows {L} n d std P q y b eqs ps h input pe pp T on back = go (solve n unit_limit eqs ps b.pairs b.next) refl
+    (T : TypedTask) → ((i : Instance) → Sol L d P q i T → SolvesWith L d P q i y b eqs ps) → ((i : Instance) → SolvesWith L d P q i y b eqs ps → Sol L d P q i T) → ((y' : BranchTyping) (b' : Branch) → IsLeftBehind n d y b y' b' → IsTypedFrom n d T (going y' b')) → StandFor L n d P q T (follow b (solve n unit_limit eqs ps b.pairs b.next))
+follows {L} n d std P q y b eqs ps h input pe pp T on back tell = go (solve n unit_limit eqs ps b.pairs b.next) refl
   where
     solution : (s : State) → solve n unit_limit eqs ps b.pairs b.next ≡ Some (Solution s) → StandFor L n d P q T (follow b (Some (Solution s)))
     solution s e =
@@ -421,6 +423,19 @@ follows {L} n d std P q y b eqs ps h input pe pp T on back = go (solve n unit_li
           typed = t ∷ [];
           is = refl;
           ok = (resumed_typed n d q y b s c.typings.after eqs h l.unified l.made l.bindings l.delayed (solve_stuck n unit_limit eqs ps b.pairs b.next (Solution s) h.stuck e).1 c.typings.more c.typings.count c.typings.bindings r, tt);
+          given = (
+            tell (typing_behind k s.types y c.typings.after r.0) (resume b s) (record {
+              equations = eqs;
+              pairs = ps;
+              state = s;
+              solved = e;
+              is = refl;
+              more = more_behind k s.types l.made y.answer.variables c.typings.after h.variables c.typings.more;
+              bindings = bindings_behind k s.types l.made d c.typings.after s.bindings l.bindings c.typings.bindings;
+              eigens = refl;
+            }),
+            tt,
+          );
           keeps = λ i w. inl (keeps n d std P q i y b eqs ps s l r (on i w));
           gives = λ i w. elim w [ inl a ↦ back i (gives n d std P q i y b eqs ps s l r a) | inr x ↦ absurd x ];
         }
@@ -432,6 +447,7 @@ follows {L} n d std P q y b eqs ps h input pe pp T on back = go (solve n unit_li
       typed = [];
       is = refl;
       ok = tt;
+      given = tt;
       keeps = λ i w.
           let v = on i w in
           let c = v.branch.answer.closing in

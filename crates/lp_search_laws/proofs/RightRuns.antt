@@ -9,7 +9,8 @@ use Rattle.lp_model.specs.Branch.{Branch, Answer, Task, Go}
 use Rattle.lp_model.specs.Proofs.{Declared, no_leaf}
 use Rattle.lp_model.specs.Answers.{Query, Instance, IsInstance, TypedAnswer}
 use Rattle.lp_model.specs.Search.{look}
-use Rattle.lp_search_laws.specs.Branches.{TypedTask, going, task_of, IsOk, Sol, BranchTyping, IsTypedBranch, IsQueryInstance, SolvesBranch, IsRightView}
+use Rattle.lp_search_laws.specs.Branches.{TypedTask, going, task_of, IsOk, Sol, BranchTyping, IsTypedBranch, IsQueryInstance, SolvesBranch}
+use Rattle.lp_search_laws.specs.Views.{IsRightView}
 use Rattle.lp_search_laws.specs.Right.{IsRightOf}
 use Rattle.lp_search_laws.specs.Unnegated.{IsUnnegatedClause, IsUnnegatedTask}
 use Rattle.lp_search_laws.proofs.Runs.{Stays, RightRun, run_right}

@@ -11,7 +11,8 @@ use Rattle.lp_model.specs.Branch.{Entry, Branch, Go, Stop, Lack}
 use Rattle.lp_model.specs.Answers.{Query, Variable}
 use Rattle.lp_model.specs.Proofs.{Declared, Leaves}
 use Rattle.lp_model.specs.Search.{look, look_branch}
-use Rattle.lp_search_laws.specs.Branches.{AreTypedEntries, AreProved, BranchTyping, IsTypedBranch, IsRightView, AnswersFor, StandFor, TypedTask, going, stopping, lacking, answer_of}
+use Rattle.lp_search_laws.specs.Branches.{AreTypedEntries, AreProved, BranchTyping, IsTypedBranch, TypedTask, going, stopping, lacking, answer_of}
+use Rattle.lp_search_laws.specs.Views.{IsRightView, AnswersFor, StandFor}
 
 none_proved : (L : Leaves) (d : Declared) (P : List Clause) (c : Closing) (V : List Variable) (Es : List (List Ty)) (es : List Entry) → es ≡ [] → AreTypedEntries d V Es es → AreProved L d P c Es es
 none_proved L d P c V [] [] e h = tt
@@ -25,6 +26,7 @@ proved_branches_answer L n height d P q y b e h = transport (λ gs. IsRightView 
     answers : AnswersFor L d P q (going y b) (answer_of b)
     answers = record {
       typing = y.answer;
+      given = (e, refl, refl);
       ok = h.answer;
       keeps = λ i s. (s.query, s.answer);
       gives = λ i s a. record { query = s; answer = a; proved = none_proved _ d P a.closing y.answer.variables y.eigens b.goals e h.entries };
@@ -36,6 +38,7 @@ stopped {L} n d P q T e h = record {
   typed = stopping e T ∷ [];
   is = refl;
   ok = (h, tt);
+  given = (tt, tt);
   keeps = λ i s. inl s;
   gives = λ i s. elim s [ inl x ↦ x | inr x ↦ absurd x ];
 }
@@ -46,6 +49,7 @@ lacked {L} n d P q T = record {
   typed = lacking T ∷ [];
   is = refl;
   ok = (tt, tt);
+  given = (tt, tt);
   keeps = λ i s. inl s;
   gives = λ i s. elim s [ inl x ↦ x | inr x ↦ absurd x ];
 }

@@ -23,7 +23,9 @@ use Rattle.lp_model.specs.Search.{with_goals, tries, candidates, goal_key, has_h
 use Rattle.lp_unify_laws.proofs.Looks.{head_reduces}
 use Rattle.lp_search_laws.specs.Holds.{Holds, IsTyped}
 use Rattle.lp_search_laws.specs.Clauses.{Serves, clauses_at}
-use Rattle.lp_search_laws.specs.Branches.{IsPlainAtom, IsPlainTerm, IsGoal, IsProgramTyped, BranchTyping, IsTypedBranch, SolvesBranch, with_atom, IsAmong, TypedTask, going, trying, task_of, IsOk, Sol, StandFor}
+use Rattle.lp_search_laws.specs.Branches.{IsPlainAtom, IsPlainTerm, IsGoal, IsProgramTyped, BranchTyping, IsTypedBranch, SolvesBranch, with_atom, IsAmong, TypedTask, going, trying, task_of, IsOk, Sol}
+use Rattle.lp_search_laws.specs.Given.{IsTypedFrom}
+use Rattle.lp_search_laws.specs.Views.{StandFor}
 use Rattle.lp_search_laws.proofs.Closed.{closed_reduces}
 use Rattle.lp_search_laws.proofs.Connectives.{reduces_on, reduces_back}
 use Rattle.lp_search_laws.proofs.Formed.{formula_at}
@@ -169,12 +171,17 @@ module _ {L : Leaves} (n height : ℕ) (d : Declared) (std : IsSetting L d) (P :
       let p = some_holds c s.answer.closes key k (any_at (λ w. Serves L d (map (instance c.types) E) (clauses_at P e.assumed c) c w (closed c u)) x (candidates P e.assumed u key) j s.served.0) in
       record { query = s.query; answer = s.answer; proved = (transport (λ g. Holds L d (map (instance c.types) E) (clauses_at P e.assumed c) c (formula_of_goal g)) (sym is) p, s.served.1) }) h
 
+  each_try : (cs : List Clause) → EachOf (IsTypedFrom n d (going typing (with_goals b (e ∷ es)))) (map try_of cs)
+  each_try [] = tt
+  each_try (c ∷ cs) = (refl, each_try cs)
+
   pub atom_tried : (o : Option (Option Atom)) → goal_key n (arguments u) ≡ o → StandFor L n d P q (going typing (with_goals b (e ∷ es))) (tries P u e (with_goals b es) height o)
   atom_tried None k = lacked n d P q (going typing (with_goals b (e ∷ es)))
   atom_tried (Some key) k = record {
     typed = map try_of (candidates P e.assumed u key);
     is = map_tasks try_of (candidates P e.assumed u key);
     ok = each_map (IsCandidate P e.assumed u) (IsOk n d P q) try_of (λ c h. record { branch = branch_at; atomic = at_atom; named = h.named; stands = h.stands }) (candidates P e.assumed u key) (each_candidate P e.assumed u key);
+    given = each_try (candidates P e.assumed u key);
     keeps = keeps_try key k;
     gives = gives_try key k;
   }

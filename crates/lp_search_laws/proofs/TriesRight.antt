@@ -10,7 +10,8 @@ use Rattle.lp_model.specs.Branch.{Entry, Branch}
 use Rattle.lp_model.specs.Answers.{Query}
 use Rattle.lp_model.specs.Proofs.{Declared, Leaves}
 use Rattle.lp_model.specs.Search.{try_clause}
-use Rattle.lp_search_laws.specs.Branches.{BranchTyping, IsTypedTry, IsProgramTyped, AreTypedEntries, StandFor, trying, with_atom}
+use Rattle.lp_search_laws.specs.Branches.{BranchTyping, IsTypedTry, IsProgramTyped, AreTypedEntries, trying, with_atom}
+use Rattle.lp_search_laws.specs.Views.{StandFor}
 use Rattle.lp_search_laws.proofs.TrySolves.{try_keeps, try_gives}
 use Rattle.lp_search_laws.proofs.TryStands.{stands}
 

@@ -1,6 +1,6 @@
 -- What the search leaves of a try stands for it.
 use Rattle.lp_proof_laws.proofs.Uniform.Settings.{IsSetting}
-use Rattle.std.proofs.Common.{◌≡◌, ℕ, List, [], ◌∷◌, map, subst as transport}
+use Rattle.std.proofs.Common.{◌≡◌, ℕ, List, [], ◌∷◌, map, subst as transport, sym}
 use Rattle.lp_calculus.specs.Types.{Ty, instance}
 use Rattle.lp_calculus.specs.Term.{Term}
 use Rattle.lp_calculus.specs.Instance.{instance_term}
@@ -15,7 +15,9 @@ use Rattle.lp_model.specs.Branch.{Entry, Branch}
 use Rattle.lp_model.specs.Search.{renewed, slots_of, slotted, pairs_of, tried, try_clause}
 use Rattle.lp_model.specs.Proofs.{Declared, Leaves}
 use Rattle.lp_model.specs.Answers.{Query, Instance, Variable}
-use Rattle.lp_search_laws.specs.Branches.{IsProgramTyped, IsTypedTry, BranchTyping, TypedTask, trying, Sol, StandFor}
+use Rattle.lp_search_laws.specs.Branches.{IsProgramTyped, IsTypedTry, BranchTyping, TypedTask, trying, Sol}
+use Rattle.lp_search_laws.specs.Given.{IsTypedFromTry}
+use Rattle.lp_search_laws.specs.Views.{StandFor}
 use Rattle.lp_search_laws.specs.Behind.{SolvesWith}
 use Rattle.lp_search_laws.specs.Tries.{tried_values, tried_typing, tried_branch_of}
 use Rattle.lp_search_laws.proofs.MatchTyped.{match_typed}
@@ -57,5 +59,5 @@ module _ {L : Leaves} (n : ℕ) (d : Declared) (std : IsSetting L d) (P : List C
       follows n d std P q (tried_typing y E Es k vs h g t e b) (tried_branch_of V k vs h g t e b mark) equations pairs
       (tried_branch n d std.standard P program q y k vs h g t e b mark w E Es is (new_goals_plain n d std.standard P program q y k vs h g t e b w E Es is) (new_variables_plain n d std.standard P program q y k vs h g t e b w E Es is))
       (λ θ u. match_typed d E V e.level f.0.level (map (instance ρ) vs) head (formula_of_goals (type_goals ρ g)) t m θ u)
-      (eqs_plain n d std.standard P program q y k vs h g t e b w E Es is) (pairs_plain n d std.standard P program q y k vs h g t e b w E Es is) here to from
+      (eqs_plain n d std.standard P program q y k vs h g t e b w E Es is) (pairs_plain n d std.standard P program q y k vs h g t e b w E Es is) here to from (λ y' b' x. transport (λ Fs. IsTypedFromTry n d y Fs (clause k vs h g) t e b mark y' b') (sym is) x)
       )

@@ -10,22 +10,20 @@ use Rattle.lp_standard.specs.Positive.{IsPositiveAtom}
 use Rattle.lp_model.specs.declared.ending.Ending.{Ending}
 use Rattle.lp_model.specs.declared.ending.Ending.TheVariants.{NoMore}
 use Rattle.lp_lemmas.specs.Each.{AnyOf, EachOf}
-use Rattle.lp_model.specs.Skeleton.{View, Gives, Opens, Parts, Takes, Cuts, Denies, Halts, Lacks}
 use Rattle.lp_calculus.specs.Spine.{head_of}
 use Rattle.lp_model.specs.Look.{head_normal}
 use Rattle.lp_standard.specs.Connectives.{connective_of, truth}
 use Rattle.lp_standard.specs.Connectives as connective
 use Rattle.lp_model.specs.Pair.{Pair, Closing, closed}
-use Rattle.lp_model.specs.Flat.{Goal, Atomic, Cut, Either, Exists, Forall, Assume, Not, Goals, no_goals, goals, Clause, clause, Clauses, no_clauses, clauses, formula_of_goal, formula_of_goals, formula_of_clause, goal_list, Written}
+use Rattle.lp_model.specs.Flat.{Goal, Atomic, Cut, Either, Exists, Forall, Assume, Not, Goals, no_goals, goals, Clause, clause, Clauses, no_clauses, clauses, formula_of_goal, formula_of_goals, formula_of_clause, goal_list}
 use Rattle.lp_model.specs.Proofs.{Declared, IsAtomHead, Leaves, Failure}
-use Rattle.lp_model.specs.Answers.{Query, Variable, AnswerTyping, Instance, Closes, AreWitnesses, IsInstance, IsWellFormed}
-use Rattle.lp_model.specs.Branch.{both_written, Entry, Branch, Answer, Task, Go, Try, Stop, Lack}
-use Rattle.lp_model.specs.Search.{has_no_pairs, has_variables, with_goals, has_head}
+use Rattle.lp_model.specs.Answers.{Query, Variable, AnswerTyping, Instance, AreWitnesses, IsInstance, IsWellFormed}
+use Rattle.lp_model.specs.Branch.{Entry, Branch, Answer, Task, Go, Try, Stop, Lack}
+use Rattle.lp_model.specs.Search.{with_goals, has_head}
 use Rattle.lp_unify_laws.specs.Solutions.{AreStuck}
-use Rattle.lp_search_laws.specs.Denials.{denied_branch, denied_task}
 use Rattle.lp_search_laws.specs.Holds.{Holds, IsTyped}
 use Rattle.lp_search_laws.specs.Clauses.{Serves, clauses_at, own_types}
-use Rattle.lp_search_laws.specs.Written.{IsOrigin, IsWrittenClause, IsWrittenEntry, IsWrittenPlace}
+use Rattle.lp_search_laws.specs.Written.{IsWrittenClause, IsWrittenEntry}
 
 -- goals and clauses: atoms are positive, type variables are below k
 
@@ -223,16 +221,6 @@ Sol L d P q i (trying y c t e b mark) = SolvesTry L d P q i y c t e b
 Sol L d P q i (stopping e T) = Sol L d P q i T
 Sol L d P q i (lacking T) = Sol L d P q i T
 
--- what is owed
-
--- tasks in the place of a typed task: they have typings with the same instances among their solutions
-pub record StandFor (L : Leaves) (n : ℕ) (d : Declared) (P : List Clause) (q : Query) (T : TypedTask) (ts : List Task) : Type 0 where
-  pub typed : List TypedTask
-  pub is : map task_of typed ≡ ts
-  pub ok : EachOf (IsOk n d P q) typed
-  pub keeps : (i : Instance) → Sol L d P q i T → AnyOf (Sol L d P q i) typed
-  pub gives : (i : Instance) → AnyOf (Sol L d P q i) typed → Sol L d P q i T
-
 -- a query without variables
 abbrev pub no_query : Query
 no_query = record { type_vars = 0; vars = []; formula = truth }
@@ -244,57 +232,6 @@ denied_typing V E gs = record { answer = record { variables = V; pairs = [] }; e
 -- a leaf stands for the goals as the closing makes them
 abbrev pub HasLeaf : Leaves → (P : List Clause) → Closing → (E : List Ty) → (assumed : List Clause) → Goals → Type 0
 HasLeaf L P c E A gs = (f : Failure) × L (map (instance c.types) E) (clauses_at P A c) (closed c (formula_of_goals gs)) f
-
--- a solution of a task in which a negated goal stands: a leaf stands for its goals, and it solves what is behind
-pub record SolvesDenied (L : Leaves) (d : Declared) (P : List Clause) (q : Query) (i : Instance) (V : List Variable) (E : List Ty) (A : List Clause) (gs : Goals) (y : BranchTyping) (b : Branch) : Type 0 where
-  pub closing : Closing
-  pub closes : Closes d V closing
-  pub leaf : HasLeaf L P closing E A gs
-  pub rest : SolvesBranch L d P q i y b
-
--- of a negated goal: what is written in its goals and in what is assumed there is tested; its search begins with a typed branch, over the same variables and of no
--- query; what stands behind it is a typed branch; each solution of the task is one of what is behind, with a leaf for the goals; and where for each closing of the
--- variables a leaf stands for its goals, what is behind has only solutions of the task
-pub record DeniesTyped (L : Leaves) (n : ℕ) (d : Declared) (P : List Clause) (q : Query) (T : TypedTask) (u : Task) (is_final : Answer → Bool) (ts : List Task) : Type 0 where
-  pub variables : List Variable
-  pub eigens : List Ty
-  pub next_type : ℕ
-  pub goals : Goals
-  pub own : Written
-  pub assumed : List Clause
-  pub written : Written
-  pub is : u ≡ denied_task (length variables) next_type goals assumed written (length eigens)
-  pub final : is_final ≡ has_no_pairs
-  pub origin : IsOrigin own goals
-  pub place : IsWrittenPlace assumed written
-  pub tested : has_variables n (both_written own written) ≡ Some false
-  pub begins : IsTypedBranch n d no_query (denied_typing variables eigens goals) (denied_branch (length variables) next_type goals assumed written (length eigens))
-  pub typed : IsTyped d eigens variables (formula_of_goals goals) o_type
-  pub assumed_typed : EachOf (λ c. IsTyped d eigens variables (formula_of_clause c) o_type) assumed
-  pub rest_typing : BranchTyping
-  pub rest : Branch
-  pub goes_on : ts ≡ Go rest ∷ []
-  pub after : IsTypedBranch n d q rest_typing rest
-  pub keeps : (i : Instance) → Sol L d P q i T → SolvesDenied L d P q i variables eigens assumed goals rest_typing rest
-  pub gives : ((c : Closing) → Closes d variables c → HasLeaf L P c eigens assumed goals) → (i : Instance) → SolvesBranch L d P q i rest_typing rest → Sol L d P q i T
-
--- an answer in its place
-pub record AnswersFor (L : Leaves) (d : Declared) (P : List Clause) (q : Query) (T : TypedTask) (a : Answer) : Type 0 where
-  pub typing : AnswerTyping
-  pub ok : IsWellFormed d q typing a
-  pub keeps : (i : Instance) → Sol L d P q i T → IsQueryInstance d q i × IsInstance d typing a i
-  pub gives : (i : Instance) → IsQueryInstance d q i → IsInstance d typing a i → Sol L d P q i T
-
--- what a typed task may turn out to be; what the search of a negated goal says is not said here
-abbrev pub IsRightView : Leaves → (n : ℕ) → Declared → (P : List Clause) → Query → TypedTask → View Task Answer → Type 0
-IsRightView L n d P q T (Gives a) = AnswersFor L d P q T a
-IsRightView L n d P q T (Opens ts) = StandFor L n d P q T ts
-IsRightView L n d P q T (Parts ts) = StandFor L n d P q T ts
-IsRightView L n d P q T (Takes name ts) = StandFor L n d P q T ts
-IsRightView L n d P q T (Cuts m ts) = StandFor L n d P q T ts
-IsRightView L n d P q T (Denies t is_final ts) = DeniesTyped L n d P q T t is_final ts
-IsRightView L n d P q T (Halts e) = e ≢ NoMore
-IsRightView L n d P q T Lacks = Unit {0}
 
 -- the goal is known at run time, and no connective is at the head of its head-normal form
 pub record IsAtAtom (n : ℕ) (e : Entry) : Type 0 where

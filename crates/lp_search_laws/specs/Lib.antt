@@ -11,3 +11,5 @@ pub mod Tries
 pub mod Unnegated
 pub mod Written
 pub mod Begun
+pub mod Given
+pub mod Views

@@ -20,11 +20,12 @@ pub record IsRightFor (d : Declared) (F : List ClauseFormula) (q : Query) (t : T
   pub sound : EachOf (λ a. (i : Instance) → IsQueryInstance d q i → IsInstance d a.typing a.answer i → IsPlainlyProvable d F q i) typed
   pub exhausts : t.ending ≡ Some NoMore → (i : Instance) → IsPlainlyProvable d F q i → AnyOf (λ a. IsInstance d a.typing a.answer i) typed
 
--- the same with such leaves, of closed instances of the answers
-pub record IsRightBy (L : Leaves) (d : Declared) (F : List ClauseFormula) (q : Query) (t : Told Answer) : Type 0 where
+-- the same with such leaves, of closed instances of the answers; of each answer with its typing something holds besides
+pub record IsRightBy (L : Leaves) (G : TypedAnswer → Type 0) (d : Declared) (F : List ClauseFormula) (q : Query) (t : Told Answer) : Type 0 where
   pub typed : List TypedAnswer
   pub is : map (λ a. a.answer) typed ≡ t.answers
   pub well_formed : EachOf (λ a. IsWellFormed d q a.typing a.answer) typed
+  pub given : EachOf G typed
   pub sound : EachOf (λ a. (i : Instance) → IsClosedInstance d a.typing a.answer i → IsProvableBy L d F q i) typed
   pub exhausts : t.ending ≡ Some NoMore → (i : Instance) → IsProvableBy L d F q i → AnyOf (λ a. IsInstance d a.typing a.answer i) typed
 

@@ -17,7 +17,8 @@ ghost use Rattle.lp_model.specs.Branch.{Entry, Branch};
 ghost use Rattle.lp_model.specs.Search.{with_goals, compared};
 ghost use Rattle.lp_model.specs.Answers.{Query};
 ghost use Rattle.lp_search_laws.specs.Holds.{Holds, IsSameGoal};
-ghost use Rattle.lp_search_laws.specs.Branches.{BranchTyping, IsTypedBranch, SolvesAs, StandFor, going, with_atom};
+ghost use Rattle.lp_search_laws.specs.Branches.{BranchTyping, IsTypedBranch, SolvesAs, going, with_atom};
+ghost use Rattle.lp_search_laws.specs.Views.{StandFor};
 
 /// An expression has at most one value, up to conversion.
 pub fn values_are_unique()

@@ -15,7 +15,8 @@ ghost use Rattle.lp_model.specs.Look.{head_normal};
 ghost use Rattle.lp_model.specs.Branch.{Entry, Branch};
 ghost use Rattle.lp_model.specs.Answers.{Query};
 ghost use Rattle.lp_search_laws.specs.Holds.{Holds};
-ghost use Rattle.lp_search_laws.specs.Branches.{IsProgramTyped, BranchTyping, IsTypedBranch, StandFor, going};
+ghost use Rattle.lp_search_laws.specs.Branches.{IsProgramTyped, BranchTyping, IsTypedBranch, going};
+ghost use Rattle.lp_search_laws.specs.Views.{StandFor};
 ghost use Rattle.lp_search_laws.specs.Clauses.{Applies, Serves, IsInFocus, IsProgramClause, IsAssumedClause, sentence_of, clauses_at};
 
 /// One can focus on a clause that a closing makes closed, for an atom, exactly where there are terms for its variables with which its head is the

@@ -13,7 +13,8 @@ ghost use Rattle.lp_model.specs.Proofs.{Declared, no_leaf};
 ghost use Rattle.lp_standard.specs.Schemes.{IsStandard};
 ghost use Rattle.lp_lemmas.specs.Each.{EachOf};
 ghost use Rattle.lp_model.specs.Search.{look, with_goals, equated, try_clause};
-ghost use Rattle.lp_search_laws.specs.Branches.{BranchTyping, IsTypedBranch, IsProgramTyped, IsTypedTry, IsRightView, IsAtAtom, StandFor, TypedTask, IsOk, task_of, going, trying};
+ghost use Rattle.lp_search_laws.specs.Branches.{BranchTyping, IsTypedBranch, IsProgramTyped, IsTypedTry, IsAtAtom, TypedTask, IsOk, task_of, going, trying};
+ghost use Rattle.lp_search_laws.specs.Views.{IsRightView, StandFor};
 
 /// Where no goal is left the branch gives its answer.
 pub fn proved_branches_answer()

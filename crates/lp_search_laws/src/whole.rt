@@ -12,6 +12,7 @@ ghost use Rattle.lp_model.specs.Answers.{AnswerTyping, Instance, IsClosedInstanc
 ghost use Rattle.lp_model.specs.Proofs.{Declared, AreFlattened};
 ghost use Rattle.lp_model.specs.Search.{ComesTo, look, start};
 ghost use Rattle.lp_search_laws.specs.Failed.{InAny, InOrder, IsFailedSearch};
+ghost use Rattle.lp_search_laws.specs.Given.{IsGiven};
 ghost use Rattle.lp_search_laws.specs.Right.{IsRightBy};
 ghost use Rattle.lp_search_laws.specs.Started.{IsPlainQuery, IsPlainSentence, IsProvableBy, IsTypedQuery, IsTypedSentence};
 
@@ -22,18 +23,18 @@ pub fn plain_search_is_right()
     ensures { (d : Declared) → IsStandard d → (l : ℕ) (F : List ClauseFormula) (P : List Clause) → EachOf (IsPlainSentence d) F → AreFlattened d F P → (q : Query) (gs : Goals) → IsPlainQuery d q → flatten_query l d q.formula ≡ Some gs → (n j m steps answers : ℕ) → IsRight d F q (run (look unit_limit n P) j m (start q.type_vars (length q.vars) gs steps answers)) }
 {}
 
-/// Soundness of the whole language, negation too: each answer is well formed under a typing of the variables that are left, its values are positive, and each of its closed instances gives
+/// Soundness of the whole language, negation too: each answer is well formed under the typing that the search gives the variables that are left, its values are positive, and each of its closed instances gives
 /// the query's variables closed positive terms of their types, with which it has a uniform proof from the source clauses. In that a negated goal is proved by a search that fails. The search stands for the goal as some closing of its variables makes its goals, and for the clauses that are assumed there, in
 /// their order, but for conversion and flattening.
 pub fn answers_are_sound()
-    ensures { (d : Declared) → IsStandard d → (l : ℕ) (F : List ClauseFormula) (P : List Clause) → EachOf (IsTypedSentence d) F → AreFlattened d F P → (q : Query) (gs : Goals) → IsTypedQuery d q → flatten_query l d q.formula ≡ Some gs → (n j m steps answers : ℕ) → EachOf (λ a. (y : AnswerTyping) × IsWellFormed d q y a × ((i : Instance) → IsClosedInstance d y a i → IsProvableBy (IsFailedSearch (InOrder F) d P) d F q i)) (run (look unit_limit n P) j m (start q.type_vars (length q.vars) gs steps answers)).answers }
+    ensures { (d : Declared) → IsStandard d → (l : ℕ) (F : List ClauseFormula) (P : List Clause) → EachOf (IsTypedSentence d) F → AreFlattened d F P → (q : Query) (gs : Goals) → IsTypedQuery d q → flatten_query l d q.formula ≡ Some gs → (n j m steps answers : ℕ) → EachOf (λ a. (y : AnswerTyping) × IsGiven n d P q gs (record { answer = a; typing = y }) × IsWellFormed d q y a × ((i : Instance) → IsClosedInstance d y a i → IsProvableBy (IsFailedSearch (InOrder F) d P) d F q i)) (run (look unit_limit n P) j m (start q.type_vars (length q.vars) gs steps answers)).answers }
 {}
 
-/// Soundness and exhaustion of the whole language, negation too: each closed instance of an answer has a uniform proof from the source clauses, and where there is no
+/// Soundness and exhaustion of the whole language, negation too, under the typings that the search gives: each closed instance of an answer has a uniform proof from the source clauses, and where there is no
 /// more, each instance of the query that has one is, up to conversion, an instance of an answer. In these proofs a negated goal is proved by a search that fails,
 /// with the clauses in any order.
 pub fn search_is_right()
-    ensures { (d : Declared) → IsStandard d → (l : ℕ) (F : List ClauseFormula) (P : List Clause) → EachOf (IsTypedSentence d) F → AreFlattened d F P → (q : Query) (gs : Goals) → IsTypedQuery d q → flatten_query l d q.formula ≡ Some gs → (n j m steps answers : ℕ) → IsRightBy (IsFailedSearch InAny d P) d F q (run (look unit_limit n P) j m (start q.type_vars (length q.vars) gs steps answers)) }
+    ensures { (d : Declared) → IsStandard d → (l : ℕ) (F : List ClauseFormula) (P : List Clause) → EachOf (IsTypedSentence d) F → AreFlattened d F P → (q : Query) (gs : Goals) → IsTypedQuery d q → flatten_query l d q.formula ≡ Some gs → (n j m steps answers : ℕ) → IsRightBy (IsFailedSearch InAny d P) (IsGiven n d P q gs) d F q (run (look unit_limit n P) j m (start q.type_vars (length q.vars) gs steps answers)) }
 {}
 
 /// The search comes to a value, for each limit on steps and answers, of the whole language.

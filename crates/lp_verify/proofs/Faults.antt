@@ -4,58 +4,57 @@ use Rattle.std.proofs.lemmas.List.{drop_all}
 use Rattle.std.proofs.lemmas.List.Elements.{All-get_or}
 use Rattle.lp_lemmas.proofs.Lists.{drop_read, get_read}
 use Rattle.std.specs.Prelude.{◌^◌, slice_get}
-use Rattle.std.specs.BTreeMap.{BTreeMap}
 use Rattle.lp_code.specs.declared.record.Record.{Record}
 use Rattle.lp_code.specs.declared.rule.Rule.{Rule}
 use Rattle.lp_code.specs.Symbolic.{Tables}
 use Rattle.lp_code.specs.States.{Captured}
-use Rattle.lp_code.specs.Denote.{home_of, run_of, any_clause, first_state, captured_of, fault_of_run, fault_from, first_fault_of}
+use Rattle.lp_code.specs.Denote.{home_of, run_of, any_clause, first_state, captured_of, fault_of_run, fault_from, first_fault_of, denote}
 use Rattle.lp_verify.specs.Judged.{judged, is_judged, bytes_of, AreShort}
-use Rattle.lp_verify.specs.declared.record.Captured as kept_captured
+use Rattle.lp_verify.specs.declared.record.Shared.{Shared}
 use Rattle.lp_verify.specs.Named.{was_named}
-use Rattle.lp_verify.specs.inner.Handed.{AreHanded}
-use Rattle.lp_verify.specs.inner.At.{IsRan, FaultsGoOn}
+use Rattle.lp_verify.specs.inner.At.{HandedIn, IsRan, FaultsGoOn}
 use Rattle.lp_verify.proofs.HandedOn.{nothing_handed}
+use Rattle.lp_verify.proofs.FewerRules.{denotes_nothing}
 
-pub none_yet : (t : Tables) (all : List Record) (hs : List kept_captured.Captured) (m : BTreeMap ℕ ℕ) → ((n : ℕ) → was_named m n ≡ false) → FaultsGoOn t all hs m 0 all
-none_yet t all hs m none = ([], refl, nothing_handed all hs m none)
+pub none_yet : (t : Tables) (all : List Record) (x : Shared) → ((n : ℕ) → was_named x.named n ≡ false) → FaultsGoOn t all x 0 all
+none_yet t all x none = ([], refl, nothing_handed x.lists all x.handed.items x.named none)
 
-pub next_record : (t : Tables) (all : List Record) (hs ks : List kept_captured.Captured) (m k : BTreeMap ℕ ℕ) (n : ℕ) (r : Record) (rs : List Record) (f : FaultsGoOn t all hs m n (r ∷ rs))
-    → IsRan all ks k f.0 (run_of judged (home_of t all n r) any_clause (first_state r (captured_of f.0 n)) r.code.items) None → FaultsGoOn t all ks k (suc n) rs
-next_record t all hs ks m k n r rs f s = (f.0 ++ s.0.assumed, f.1 ∙ ap (fault_of_run n (λ s. fault_from judged t all (f.0 ++ s.assumed) (suc n) rs)) s.1, s.2)
+pub next_record : (t : Tables) (all : List Record) (x y : Shared) (n : ℕ) (r : Record) (rs : List Record) (f : FaultsGoOn t all x n (r ∷ rs))
+    → IsRan all y f.0 (run_of judged (home_of t all n r) any_clause (first_state r (captured_of f.0 n)) r.code.items) None → FaultsGoOn t all y (suc n) rs
+next_record t all x y n r rs f s = (f.0 ++ s.0.assumed, f.1 ∙ ap (fault_of_run n (λ s. fault_from judged t all (f.0 ++ s.assumed) (suc n) rs)) s.1, s.2)
 
-pub told_record : (t : Tables) (all : List Record) (hs ks : List kept_captured.Captured) (m k : BTreeMap ℕ ℕ) (n : ℕ) (r : Record) (rs : List Record) (at : ℕ) (rule : Rule) (f : FaultsGoOn t all hs m n (r ∷ rs))
-    → IsRan all ks k f.0 (run_of judged (home_of t all n r) any_clause (first_state r (captured_of f.0 n)) r.code.items) (Some (at, rule)) → is_judged rule ≡ true
+pub told_record : (t : Tables) (all : List Record) (x y : Shared) (n : ℕ) (r : Record) (rs : List Record) (at : ℕ) (rule : Rule) (f : FaultsGoOn t all x n (r ∷ rs))
+    → IsRan all y f.0 (run_of judged (home_of t all n r) any_clause (first_state r (captured_of f.0 n)) r.code.items) (Some (at, rule)) → is_judged rule ≡ true
     → (first_fault_of judged t all ≡ Some (record { record_number = n; at = at; rule = rule })) × (at < 2 ^ 32)
-told_record t all hs ks m k n r rs at rule f ran j =
+told_record t all x y n r rs at rule f ran j =
     let s = ran j in
     (f.1 ∙ ap (fault_of_run n (λ s. fault_from judged t all (f.0 ++ s.assumed) (suc n) rs)) s.0, s.1)
 
-pub no_more_records : (t : Tables) (all : List Record) (hs : List kept_captured.Captured) (m : BTreeMap ℕ ℕ) (n : ℕ) → FaultsGoOn t all hs m n [] → first_fault_of judged t all ≡ None
-no_more_records t all hs m n f = f.1
+pub no_more_records : (t : Tables) (all : List Record) (x : Shared) (n : ℕ) → FaultsGoOn t all x n [] → first_fault_of judged t all ≡ None
+no_more_records t all x n f = f.1
 
 -- what is told of the record of a number, where this was handed to it
-abbrev pub IsRecordRan : Tables → (all : List Record) → (hs ks : List kept_captured.Captured) → (m k : BTreeMap ℕ ℕ) → (n : ℕ) → Record → Option (ℕ × Rule) → Type 0
-IsRecordRan t all hs ks m k n r o = (before : List (ℕ × Captured)) → slice_get all n ≡ Some r → AreHanded all hs m before → bytes_of r.code.items < 2 ^ 32
-    → IsRan all ks k before (run_of judged (home_of t all n r) any_clause (first_state r (captured_of before n)) r.code.items) o
+abbrev pub IsRecordRan : Tables → (all : List Record) → (x y : Shared) → (n : ℕ) → Record → Option (ℕ × Rule) → Type 0
+IsRecordRan t all x y n r o = (before : List (ℕ × Captured)) → slice_get all n ≡ Some r → HandedIn x all before → bytes_of r.code.items < 2 ^ 32
+    → IsRan all y before (run_of judged (home_of t all n r) any_clause (first_state r (captured_of before n)) r.code.items) o
 
 short_there : (all : List Record) (n : ℕ) (r : Record) → AreShort all → n < length all → r ≡ get_or all n r → bytes_of r.code.items < 2 ^ 32
 short_there all n r s l e = subst (λ (q : Record). bytes_of q.code.items < 2 ^ 32) (sym e) (All-get_or (λ (q : Record). bytes_of q.code.items < 2 ^ 32) all n r l s)
 
-pub record_passed : (t : Tables) (all : List Record) (hs ks : List kept_captured.Captured) (m k : BTreeMap ℕ ℕ) (n p : ℕ) (r : Record) → p ≡ n → n < length all → r ≡ get_or all n r → AreShort all → FaultsGoOn t all hs m n (drop n all) → IsRecordRan t all hs ks m k p r None
-    → FaultsGoOn t all ks k (n + 1) (drop (n + 1) all)
-record_passed t all hs ks m k n p r e l is s f ran =
+pub record_passed : (t : Tables) (all : List Record) (x y : Shared) (n p : ℕ) (r : Record) → p ≡ n → n < length all → r ≡ get_or all n r → AreShort all → FaultsGoOn t all x n (drop n all) → IsRecordRan t all x y p r None
+    → FaultsGoOn t all y (n + 1) (drop (n + 1) all)
+record_passed t all x y n p r e l is s f ran =
     let next : suc n ≡ n + 1 = omega arith in
-    let g = subst (FaultsGoOn t all hs m n) (drop_read all n r l is) f in
-    subst (λ q. FaultsGoOn t all ks k q (drop (n + 1) all)) next
-    (next_record t all hs ks m k n r (drop (n + 1) all) g (subst (λ q. IsRecordRan t all hs ks m k q r None) e ran g.0 (get_read all all n r r refl l is) g.2 (short_there all n r s l is)))
+    let g = subst (FaultsGoOn t all x n) (drop_read all n r l is) f in
+    subst (λ q. FaultsGoOn t all y q (drop (n + 1) all)) next
+    (next_record t all x y n r (drop (n + 1) all) g (subst (λ q. IsRecordRan t all x y q r None) e ran g.0 (get_read all all n r r refl l is) g.2 (short_there all n r s l is)))
 
-pub record_refused : (t : Tables) (all : List Record) (hs ks : List kept_captured.Captured) (m k : BTreeMap ℕ ℕ) (n p : ℕ) (r : Record) (at told : ℕ) (rule : Rule) → p ≡ n → n < length all → r ≡ get_or all n r → AreShort all → FaultsGoOn t all hs m n (drop n all)
-    → IsRecordRan t all hs ks m k p r (Some (at, rule)) → (at < 2 ^ 32 → told ≡ at) → is_judged rule ≡ true → first_fault_of judged t all ≡ Some (record { record_number = p; at = told; rule = rule })
-record_refused t all hs ks m k n p r at told rule e l is s f ran same j =
-    let g = subst (FaultsGoOn t all hs m n) (drop_read all n r l is) f in
-    let q = told_record t all hs ks m k n r (drop (n + 1) all) at rule g (subst (λ q. IsRecordRan t all hs ks m k q r (Some (at, rule))) e ran g.0 (get_read all all n r r refl l is) g.2 (short_there all n r s l is)) j in
-    q.0 ∙ (λ i. Some (record { record_number = sym e i; at = sym (same q.1) i; rule = rule }))
+pub record_refused : (t : Tables) (all : List Record) (x y : Shared) (n p : ℕ) (r : Record) (at told : ℕ) (rule : Rule) → p ≡ n → n < length all → r ≡ get_or all n r → AreShort all → FaultsGoOn t all x n (drop n all)
+    → IsRecordRan t all x y p r (Some (at, rule)) → (at < 2 ^ 32 → told ≡ at) → is_judged rule ≡ true → (first_fault_of judged t all ≡ Some (record { record_number = p; at = told; rule = rule })) × (denote t all ≡ None)
+record_refused t all x y n p r at told rule e l is s f ran same j =
+    let g = subst (FaultsGoOn t all x n) (drop_read all n r l is) f in
+    let q = told_record t all x y n r (drop (n + 1) all) at rule g (subst (λ q. IsRecordRan t all x y q r (Some (at, rule))) e ran g.0 (get_read all all n r r refl l is) g.2 (short_there all n r s l is)) j in
+    (q.0 ∙ (λ i. Some (record { record_number = sym e i; at = sym (same q.1) i; rule = rule })), denotes_nothing judged t all (record { record_number = n; at = at; rule = rule }) q.0)
 
 -- behind the last one
 pub none_left : {A : Type 0} (xs ys : List A) (n : ℕ) → ys ≡ xs → length ys ≤ n → drop n xs ≡ []

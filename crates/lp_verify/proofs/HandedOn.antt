@@ -29,12 +29,15 @@ use Rattle.lp_code.specs.Denote.{nothing_captured, captured_of}
 use Rattle.lp_verify.specs.declared.record.Captured as kept_captured
 use Rattle.lp_verify.specs.declared.built.Built as kept_built
 use Rattle.lp_verify.specs.declared.registers.Registers as kept_registers
+use Rattle.lp_verify.specs.declared.loose.Lists.{Lists}
 use Rattle.lp_verify.specs.Held.{value_in, is_lacking}
 use Rattle.lp_verify.specs.Named.{was_named, HasNamed}
 use Rattle.lp_verify.specs.inner.Made.{nothing_built}
 use Rattle.lp_verify.specs.inner.Stack.{Agree}
 use Rattle.lp_verify.specs.inner.Told.{is_fine, are_fine, names_badly, reads_unset}
-use Rattle.lp_verify.specs.inner.Handed.{SameType, SameTerm, captured_in, types_captured, terms_captured, IsNamed, handed_built, assumption_of, IsHandedOn, handed_on, Alike, AreHanded}
+use Rattle.lp_verify.specs.inner.Handed.{SameType, SameTerm, IsSame, captured_in, types_captured, terms_captured, IsNamed, handed_built, assumption_of, IsHandedOn, handed_on, Alike, AreHanded}
+use Rattle.lp_verify.specs.inner.Indices.{ListsGrow}
+use Rattle.lp_verify.proofs.LooseSeen.{stands_later}
 use Rattle.lp_verify.proofs.Members.{member_append}
 
 -- the names that were told
@@ -54,9 +57,6 @@ copied_at xs i None h = sym (slice_get_past xs i h.3)
 copied_at xs i (Some x) h = sym (slice_get-get_or xs i x.now h.3.0 ∙ ap (λ y. Some y) (sym h.1))
 
 -- values that agree
-
-abbrev pub IsSame : {T B : Type 0} → (T → B → Type 0) → kept_registers.Registers T → List (Option B) → Type 0
-IsSame R rs xs = (r : ℕ) → Agree R (value_in rs r) (held xs r)
 
 one_more : {T B : Type 0} (R : T → B → Type 0) (t : T) (b : B) (ts : List T) (bs : List B) → R t b → Alike R ts bs → Alike R (t ∷ ts) (b ∷ bs)
 one_more R t b ts bs h a zero = h
@@ -100,7 +100,7 @@ count_read rs (d ∷ ds) e = one_counted (value_in rs d) (all_of rs ds) (length 
 
 -- what the definition hands to a record
 
-captured_new : (before more : List (ℕ × Captured)) (n : ℕ) → member n (map (λ (a : ℕ × Captured). a.0) before) ≡ false → captured_of (before ++ more) n ≡ captured_of more n
+pub captured_new : (before more : List (ℕ × Captured)) (n : ℕ) → member n (map (λ (a : ℕ × Captured). a.0) before) ≡ false → captured_of (before ++ more) n ≡ captured_of more n
 captured_new [] more n e = refl
 captured_new ((m, c) ∷ before) more n e =
     ap (λ b. if b then c else captured_of (before ++ more) n) (nat_eq_comm m n ∙ or_false_left (nat_eq n m) (member n (map (λ (a : ℕ × Captured). a.0) before)) e)
@@ -114,13 +114,22 @@ captured_here (m ∷ ns) c n e = by_first (nat_eq n m) refl e (captured_here ns 
     by_first true h e go = ap (λ b. if b then c else captured_of (handed ns c) n) (nat_eq_comm m n ∙ h)
     by_first false h e go = ap (λ b. if b then c else captured_of (handed ns c) n) (nat_eq_comm m n ∙ h) ∙ go e
 
-captured_none : (ns : List ℕ) (c : Captured) (n : ℕ) → member n ns ≡ false → captured_of (handed ns c) n ≡ nothing_captured
-captured_none [] c n e = refl
-captured_none (m ∷ ns) c n e = ap (λ b. if b then c else captured_of (handed ns c) n) (nat_eq_comm m n ∙ or_false_left (nat_eq n m) (member n ns) e) ∙ captured_none ns c n (or_false_right (nat_eq n m) (member n ns) e)
+pub captured_nothing : (xs : List (ℕ × Captured)) (n : ℕ) → member n (map (λ (a : ℕ × Captured). a.0) xs) ≡ false → captured_of xs n ≡ nothing_captured
+captured_nothing [] n e = refl
+captured_nothing ((m, c) ∷ xs) n e =
+    ap (λ b. if b then c else captured_of xs n) (nat_eq_comm m n ∙ or_false_left (nat_eq n m) (member n (map (λ (a : ℕ × Captured). a.0) xs)) e) ∙ captured_nothing xs n (or_false_right (nat_eq n m) (member n (map (λ (a : ℕ × Captured). a.0) xs)) e)
+
+-- what is handed on later changes nothing where the number is not among those
+pub captured_front : (before more : List (ℕ × Captured)) (n : ℕ) → member n (map (λ (a : ℕ × Captured). a.0) more) ≡ false → captured_of (before ++ more) n ≡ captured_of before n
+captured_front [] more n e = captured_nothing more n e
+captured_front ((m, d) ∷ before) more n e = ap (λ x. if nat_eq m n then d else x) (captured_front before more n e)
+
+pub names_handed : (ns : List ℕ) (c : Captured) → map (λ (a : ℕ × Captured). a.0) (handed ns c) ≡ ns
+names_handed [] c = refl
+names_handed (n ∷ ns) c = ap (λ ms. n ∷ ms) (names_handed ns c)
 
 captured_old : (before : List (ℕ × Captured)) (ns : List ℕ) (c : Captured) (n : ℕ) → member n ns ≡ false → captured_of (before ++ handed ns c) n ≡ captured_of before n
-captured_old [] ns c n e = captured_none ns c n e
-captured_old ((m, d) ∷ before) ns c n e = ap (λ x. if nat_eq m n then d else x) (captured_old before ns c n e)
+captured_old before ns c n e = captured_front before (handed ns c) n (ap (member n) (names_handed ns c) ∙ e)
 
 -- what is kept for a record
 kept_new : (hs : List kept_captured.Captured) (k : kept_captured.Captured) (m : BTreeMap ℕ ℕ) (n : ℕ) → get nat_cmp m n ≡ Some (length hs) → captured_in (hs ++ k ∷ []) m n ≡ Some k
@@ -138,16 +147,12 @@ kept_at hs k (Some p) h = same_front hs (k ∷ []) p (h p refl)
 some_equal : {A : Type 0} (x y : A) → Some x ≡ Some y → x ≡ y
 some_equal x y e = cc
 
-names_handed : (ns : List ℕ) (c : Captured) → map (λ (a : ℕ × Captured). a.0) (handed ns c) ≡ ns
-names_handed [] c = refl
-names_handed (n ∷ ns) c = ap (λ ms. n ∷ ms) (names_handed ns c)
-
 names_added : (xs : List (ℕ × Captured)) (ns : List ℕ) (c : Captured) → map (λ (a : ℕ × Captured). a.0) (xs ++ handed ns c) ≡ map (λ (a : ℕ × Captured). a.0) xs ++ ns
 names_added [] ns c = names_handed ns c
 names_added (x ∷ xs) ns c = ap (λ ms. x.0 ∷ ms) (names_added xs ns c)
 
 -- records are named that never were
-module _ (all : List Record) (hs : List kept_captured.Captured) (k : kept_captured.Captured) (old new : BTreeMap ℕ ℕ) (before : List (ℕ × Captured)) (ns : List ℕ) (c : Captured) (a : AreHanded all hs old before)
+module _ (l : Lists) (all : List Record) (hs : List kept_captured.Captured) (k : kept_captured.Captured) (old new : BTreeMap ℕ ℕ) (before : List (ℕ × Captured)) (ns : List ℕ) (c : Captured) (a : AreHanded l all hs old before)
     (named : IsNamed ns (length hs) old new) (fresh : (n : ℕ) → member n ns ≡ true → was_named old n ≡ false) where
   there : (n : ℕ) → member n ns ≡ true → captured_in (hs ++ k ∷ []) new n ≡ Some k
   there n e = kept_new hs k new n (named n ∙ ap (λ b. if b then Some (length hs) else get nat_cmp old n) e)
@@ -172,11 +177,11 @@ module _ (all : List Record) (hs : List kept_captured.Captured) (k : kept_captur
       go true e = subst (P n) (some_equal k x (sym (there n e) ∙ f)) (h n e)
       go false e = o n x (sym (elsewhere n e) ∙ f)
 
-  pub handed_more : Alike SameType k.types.items c.types → Alike SameTerm k.terms.items c.terms → ((n : ℕ) → member n ns ≡ true → is_assumed_record (slice_get all n) (length k.types.items) (length k.terms.items) ≡ true)
-      → (length k.types.items < 2 ^ 16) × (length k.terms.items < 2 ^ 16) → AreHanded all (hs ++ k ∷ []) new (before ++ handed ns c)
+  pub handed_more : Alike SameType k.types.items c.types → Alike (SameTerm l) k.terms.items c.terms → ((n : ℕ) → member n ns ≡ true → is_assumed_record (slice_get all n) (length k.types.items) (length k.terms.items) ≡ true)
+      → (length k.types.items < 2 ^ 16) × (length k.terms.items < 2 ^ 16) → AreHanded l all (hs ++ k ∷ []) new (before ++ handed ns c)
   handed_more types terms fine few = record {
     types_alike = by_name (λ x d. Alike SameType (types_captured x) d.types) types a.types_alike;
-    terms_alike = by_name (λ x d. Alike SameTerm (terms_captured x) d.terms) terms a.terms_alike;
+    terms_alike = by_name (λ x d. Alike (SameTerm l) (terms_captured x) d.terms) terms a.terms_alike;
     are_named = λ n. named_has ns (length hs) old new named n ∙ ap (λ b. b || member n ns) (a.are_named n) ∙ sym (ap (member n) (names_added before ns c) ∙ member_append n (map (λ (a : ℕ × Captured). a.0) before) ns);
     are_kept = λ n p e. at_end n p (member n ns) refl e;
     are_assumed = by_kept (λ n x. is_assumed_record (slice_get all n) (length x.types.items) (length x.terms.items) ≡ true) fine a.are_assumed;
@@ -192,6 +197,26 @@ module _ (all : List Record) (hs : List kept_captured.Captured) (k : kept_captur
           let low = a.are_kept n p (sym (named n ∙ ap (λ b. if b then Some (length hs) else get nat_cmp old n) e) ∙ f) in
           let l = length-append hs (k ∷ []) in
           omega (arith, l, low)
+
+-- when lists are put
+alike_weaker : {T B : Type 0} (R S : T → B → Type 0) → ((t : T) (b : B) → R t b → S t b) → (ts : List T) (bs : List B) → Alike R ts bs → Alike S ts bs
+alike_weaker R S f ts bs a r = by_value (slice_get ts r) (slice_get bs r) (a r)
+  where
+    by_value : (o : Option _) (p : Option _) → Agree R o p → Agree S o p
+    by_value None None a = tt
+    by_value (Some t) None a = absurd a
+    by_value None (Some b) a = absurd a
+    by_value (Some t) (Some b) a = f t b a
+
+pub handed_later : (l k : Lists) (all : List Record) (hs : List kept_captured.Captured) (m : BTreeMap ℕ ℕ) (before : List (ℕ × Captured)) → ListsGrow l k → AreHanded l all hs m before → AreHanded k all hs m before
+handed_later l k all hs m before g a = record {
+  types_alike = a.types_alike;
+  terms_alike = λ n. alike_weaker (SameTerm l) (SameTerm k) (λ t b. stands_later l k t.loose b.loose g) (terms_captured (captured_in hs m n)) (captured_of before n).terms (a.terms_alike n);
+  are_named = a.are_named;
+  are_kept = a.are_kept;
+  are_assumed = a.are_assumed;
+  are_few = a.are_few;
+}
 
 -- the names of an ASSUME that is fine
 not_other : (n m : ℕ) (f : ℕ → Bool) → (nat_eq n m || f n) ≡ false → f n ≡ false
@@ -269,32 +294,32 @@ assume_or_not on.Not = inr (refl, refl)
 assume_or_not on.EndNot = inr (refl, refl)
 
 -- what an instruction hands on, where it may and reads nothing that is unset
-abbrev pub HandsOn : (all : List Record) (number : ℕ) (program : Bool) → (t : kept_registers.Registers TypeId) (r : kept_registers.Registers kept_built.Built) → State → (before : List (ℕ × Captured)) → (hs ks : List kept_captured.Captured) → (old new : BTreeMap ℕ ℕ) → Instr → Type 0
-HandsOn all k p t r s before hs ks old new i =
-    AreHanded all hs old before → Fits i → names_badly k all p (was_named old) i ≡ false → reads_unset (is_lacking t) (is_lacking r) i ≡ false → IsNamed (names_of i) (length hs) old new → IsHandedOn (assumption_of i) t r hs ks
-    → AreHanded all ks new (before ++ handed_on s (assumption_of i))
+abbrev pub HandsOn : Lists → (all : List Record) (number : ℕ) (program : Bool) → (t : kept_registers.Registers TypeId) (r : kept_registers.Registers kept_built.Built) → State → (before : List (ℕ × Captured)) → (hs ks : List kept_captured.Captured) → (old new : BTreeMap ℕ ℕ) → Instr → Type 0
+HandsOn l all k p t r s before hs ks old new i =
+    AreHanded l all hs old before → Fits i → names_badly k all p (was_named old) i ≡ false → reads_unset (is_lacking t) (is_lacking r) i ≡ false → IsNamed (names_of i) (length hs) old new → IsHandedOn (assumption_of i) t r hs ks
+    → AreHanded l all ks new (before ++ handed_on s (assumption_of i))
 
-module _ (all : List Record) (k : ℕ) (p : Bool) (t : kept_registers.Registers TypeId) (r : kept_registers.Registers kept_built.Built) (s : State) (before : List (ℕ × Captured)) (hs ks : List kept_captured.Captured) (old new : BTreeMap ℕ ℕ)
-    (types : IsSame SameType t s.now.types) (terms : IsSame SameTerm r s.now.terms) where
+module _ (l : Lists) (all : List Record) (k : ℕ) (p : Bool) (t : kept_registers.Registers TypeId) (r : kept_registers.Registers kept_built.Built) (s : State) (before : List (ℕ × Captured)) (hs ks : List kept_captured.Captured) (old new : BTreeMap ℕ ℕ)
+    (types : IsSame SameType t s.now.types) (terms : IsSame (SameTerm l) r s.now.terms) where
   nothing_named : (ns : List ℕ) → ns ≡ [] → IsNamed ns (length hs) old new → (n : ℕ) → get nat_cmp new n ≡ get nat_cmp old n
   nothing_named ns e named n = named n ∙ ap (λ l. if member n l then Some (length hs) else get nat_cmp old n) e
 
-  same_handed : AreHanded all hs old before → ((n : ℕ) → get nat_cmp new n ≡ get nat_cmp old n) → AreHanded all hs new before
+  same_handed : AreHanded l all hs old before → ((n : ℕ) → get nat_cmp new n ≡ get nat_cmp old n) → AreHanded l all hs new before
   same_handed a e = record {
     types_alike = λ n. subst (λ o. Alike SameType (types_captured (option_and_then (slice_get hs) o)) (captured_of before n).types) (sym (e n)) (a.types_alike n);
-    terms_alike = λ n. subst (λ o. Alike SameTerm (terms_captured (option_and_then (slice_get hs) o)) (captured_of before n).terms) (sym (e n)) (a.terms_alike n);
+    terms_alike = λ n. subst (λ o. Alike (SameTerm l) (terms_captured (option_and_then (slice_get hs) o)) (captured_of before n).terms) (sym (e n)) (a.terms_alike n);
     are_named = λ n. ap is_some (e n) ∙ a.are_named n;
     are_kept = λ n p f. a.are_kept n p (sym (e n) ∙ f);
     are_assumed = λ n x f. a.are_assumed n x (sym (ap (option_and_then (slice_get hs)) (e n)) ∙ f);
     are_few = λ n x f. a.are_few n x (sym (ap (option_and_then (slice_get hs)) (e n)) ∙ f);
   }
 
-  silent : (i : Instr) → IsSilent i → HandsOn all k p t r s before hs ks old new i
+  silent : (i : Instr) → IsSilent i → HandsOn l all k p t r s before hs ks old new i
   silent i q a fits fine set named more =
       let none : ks ≡ hs = subst (λ o. IsHandedOn o t r hs ks) q.0 more in
-      subst (λ o. AreHanded all ks new (before ++ handed_on s o)) (sym q.0) (subst (AreHanded all ks new) (append_nil_sym before) (subst (λ l. AreHanded all l new before) (sym none) (same_handed a (nothing_named (names_of i) q.1 named))))
+      subst (λ o. AreHanded l all ks new (before ++ handed_on s o)) (sym q.0) (subst (AreHanded l all ks new) (append_nil_sym before) (subst (λ y. AreHanded l all y new before) (sym none) (same_handed a (nothing_named (names_of i) q.1 named))))
 
-  assuming : (ns ts rs : Vec ℕ Global) → HandsOn all k p t r s before hs ks old new (on.Assume ns ts rs)
+  assuming : (ns ts rs : Vec ℕ Global) → HandsOn l all k p t r s before hs ks old new (on.Assume ns ts rs)
   assuming ns ts rs a fits fine set named more =
       let x = more.0 in
       let c = captured_by s ts.items rs.items in
@@ -303,10 +328,10 @@ module _ (all : List Record) (k : ℕ) (p : Bool) (t : kept_registers.Registers 
       let built = or_false_right (list_any (is_lacking t) ts.items) (list_any (is_lacking r) rs.items) set in
       let types_count : length x.types.items ≡ length ts.items = ap length more.2 ∙ count_read t ts.items read in
       let terms_count : length x.terms.items ≡ length rs.items = ap length more.3 ∙ length-map (all_of r rs.items) handed_built ∙ count_read r rs.items built in
-      subst (λ l. AreHanded all l new (before ++ handed ns.items c)) (sym more.1)
-      (handed_more all hs x old new before ns.items c a named (λ n m. (f n m).0)
+      subst (λ y. AreHanded l all y new (before ++ handed ns.items c)) (sym more.1)
+      (handed_more l all hs x old new before ns.items c a named (λ n m. (f n m).0)
       (subst (λ l. Alike SameType l c.types) (sym more.2) (alike_read SameType t s.now.types o_type types ts.items read))
-      (subst (λ l. Alike SameTerm l c.terms) (sym more.3) (alike_map SameTerm SameTerm handed_built (λ x b h. h) (all_of r rs.items) c.terms (alike_read SameTerm r s.now.terms nothing_built terms rs.items built)))
+      (subst (λ y. Alike (SameTerm l) y c.terms) (sym more.3) (alike_map (SameTerm l) (SameTerm l) handed_built (λ x b h. h) (all_of r rs.items) c.terms (alike_read (SameTerm l) r s.now.terms nothing_built terms rs.items built)))
       (λ n m. (λ j. is_assumed_record (slice_get all n) (types_count j) (terms_count j)) ∙ (f n m).1)
       (let b = fits.1 in let d = fits.2 in (omega (arith, b, types_count), omega (arith, d, terms_count))))
     where
@@ -314,8 +339,8 @@ module _ (all : List Record) (k : ℕ) (p : Bool) (t : kept_registers.Registers 
       not_false true e = refl
       not_false false e = absurd (cc)
 
-  pub hands_on : (i : Instr) → HandsOn all k p t r s before hs ks old new i
-  hands_on i = elim (assume_or_not i) [ inl (ns, ts, rs, e) ↦ subst (HandsOn all k p t r s before hs ks old new) (sym e) (assuming ns ts rs) | inr q ↦ silent i q ]
+  pub hands_on : (i : Instr) → HandsOn l all k p t r s before hs ks old new i
+  hands_on i = elim (assume_or_not i) [ inl (ns, ts, rs, e) ↦ subst (HandsOn l all k p t r s before hs ks old new) (sym e) (assuming ns ts rs) | inr q ↦ silent i q ]
 
 -- what a record starts with
 counts : (o : Option Record) (r : Record) (ts rs : ℕ) → o ≡ Some r → is_assumed_record o ts rs ≡ true → (r.captured_types ≡ ts) × (r.captured ≡ rs)
@@ -329,8 +354,8 @@ pub record FewCaptured (r : Record) (o : Option kept_captured.Captured) : Type 0
   pub few_types : length (types_captured o) < 2 ^ 16
   pub few_terms : length (terms_captured o) < 2 ^ 16
 
-pub few_captured : (all : List Record) (hs : List kept_captured.Captured) (m : BTreeMap ℕ ℕ) (before : List (ℕ × Captured)) (n : ℕ) (r : Record) → AreHanded all hs m before → slice_get all n ≡ Some r → FewCaptured r (captured_in hs m n)
-few_captured all hs m before n r a e = go (captured_in hs m n) refl
+pub few_captured : (l : Lists) (all : List Record) (hs : List kept_captured.Captured) (m : BTreeMap ℕ ℕ) (before : List (ℕ × Captured)) (n : ℕ) (r : Record) → AreHanded l all hs m before → slice_get all n ≡ Some r → FewCaptured r (captured_in hs m n)
+few_captured l all hs m before n r a e = go (captured_in hs m n) refl
   where
     go : (o : Option kept_captured.Captured) → captured_in hs m n ≡ o → FewCaptured r o
     go None f = record { types = omega arith; terms = omega arith; few_types = omega arith; few_terms = omega arith }
@@ -341,13 +366,13 @@ few_captured all hs m before n r a e = go (captured_in hs m n) refl
         let y = c.1 in record { types = omega (arith, x); terms = omega (arith, y); few_types = l.0; few_terms = l.1 }
 
 -- before the first record nothing was handed on
-pub nothing_handed : (all : List Record) (hs : List kept_captured.Captured) (m : BTreeMap ℕ ℕ) → ((n : ℕ) → was_named m n ≡ false) → AreHanded all hs m []
-nothing_handed all hs m none =
+pub nothing_handed : (l : Lists) (all : List Record) (hs : List kept_captured.Captured) (m : BTreeMap ℕ ℕ) → ((n : ℕ) → was_named m n ≡ false) → AreHanded l all hs m []
+nothing_handed l all hs m none =
     let no : (n : ℕ) → get nat_cmp m n ≡ None = λ n. none_from_is_some (get nat_cmp m n) (none n) in
     let nothing : (n : ℕ) → captured_in hs m n ≡ None = λ n. ap (option_and_then (slice_get hs)) (no n) in
     record {
       types_alike = λ n. subst (λ o. Alike SameType (types_captured o) []) (sym (nothing n)) (nothing_alike SameType);
-      terms_alike = λ n. subst (λ o. Alike SameTerm (terms_captured o) []) (sym (nothing n)) (nothing_alike SameTerm);
+      terms_alike = λ n. subst (λ o. Alike (SameTerm l) (terms_captured o) []) (sym (nothing n)) (nothing_alike (SameTerm l));
       are_named = none;
       are_kept = λ n p e. absurd (let z : None ≡ Some p = sym (no n) ∙ e in cc);
       are_assumed = λ n k e. absurd (let z : None ≡ Some k = sym (nothing n) ∙ e in cc);

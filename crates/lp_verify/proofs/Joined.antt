@@ -9,9 +9,9 @@ use Rattle.lp_code.specs.declared.instruction.Instr.TheVariants as on
 use Rattle.lp_code.specs.declared.rule.Rule.{Rule}
 use Rattle.lp_code.specs.declared.rule.Rule.TheVariants as rule
 use Rattle.lp_code.specs.Operands.{types_read, terms_read, type_set, term_set}
-use Rattle.lp_code.specs.Symbolic.{held}
+use Rattle.lp_code.specs.Symbolic.{held, term_in, is_closed}
 use Rattle.lp_code.specs.States.{State, Home, member}
-use Rattle.lp_code.specs.Rules.{has_count, is_count, has_none, is_assumed_record, are_fine_names, named_before, breaks_unset, breaks_set, breaks_constant, breaks_order, breaks_clause}
+use Rattle.lp_code.specs.Rules.{has_count, is_count, has_none, is_assumed_record, are_fine_names, named_before, breaks_unset, breaks_set, breaks_index, stands_alone, breaks_constant, breaks_order, breaks_clause}
 use Rattle.lp_code.specs.Denote.{first_broken}
 use Rattle.lp_verify.specs.Judged.{judged, is_judged}
 use Rattle.lp_verify.specs.inner.Told.{is_out_of_order, has_wrong_count, reads_unset, sets_again, are_fine, names_badly, Broken, breaks, ArePassed, IsFirst}
@@ -26,8 +26,11 @@ stop o next b h = ap (λ t. if t then o else next) h
 abbrev from_term : Broken → Option Rule
 from_term b = if b.term then Some rule.Term else (if b.order then Some rule.Order else (if b.block then Some rule.Block else (if b.clause then Some rule.Clause else (if b.key then Some rule.Key else None))))
 
+abbrev from_index : Broken → Option Rule
+from_index b = if b.index then Some rule.Index else from_term b
+
 abbrev from_constant : Broken → Option Rule
-from_constant b = if b.constant then Some rule.Constant else from_term b
+from_constant b = if b.constant then Some rule.Constant else from_index b
 
 abbrev from_set : Broken → Option Rule
 from_set b = if b.set then Some rule.Set else from_constant b
@@ -35,8 +38,8 @@ from_set b = if b.set then Some rule.Set else from_constant b
 abbrev from_unset : Broken → Option Rule
 from_unset b = if b.unset then Some rule.Unset else from_set b
 
-passed : (b : Broken) → ArePassed b → first_broken (breaks b) judged ≡ from_term b
-passed b h = skip (Some rule.Register) (from_unset b) b.register h.0 ∙ skip (Some rule.Unset) (from_set b) b.unset h.1 ∙ skip (Some rule.Set) (from_constant b) b.set h.2 ∙ skip (Some rule.Constant) (from_term b) b.constant h.3
+passed : (b : Broken) → ArePassed b → first_broken (breaks b) judged ≡ from_index b
+passed b h = skip (Some rule.Register) (from_unset b) b.register h.0 ∙ skip (Some rule.Unset) (from_set b) b.unset h.1 ∙ skip (Some rule.Set) (from_constant b) b.set h.2 ∙ skip (Some rule.Constant) (from_index b) b.constant h.3
 
 abbrev from_order : Broken → Option Rule
 from_order b = if b.order then Some rule.Order else (if b.block then Some rule.Block else (if b.clause then Some rule.Clause else (if b.key then Some rule.Key else None)))
@@ -50,26 +53,30 @@ from_clause b = if b.clause then Some rule.Clause else (if b.key then Some rule.
 abbrev from_key : Broken → Option Rule
 from_key b = if b.key then Some rule.Key else None
 
+-- no index is loose
+closed : (b : Broken) → ArePassed b → b.index ≡ false → first_broken (breaks b) judged ≡ from_term b
+closed b h i = passed b h ∙ skip (Some rule.Index) (from_term b) b.index i
+
 pub first_none : (b : Broken) → IsFirst b None → first_broken (breaks b) judged ≡ None
-first_none b h = passed b h.0 ∙ skip (Some rule.Term) (from_order b) b.term h.1 ∙ skip (Some rule.Order) (from_block b) b.order h.2 ∙ skip (Some rule.Block) (from_clause b) b.block h.3 ∙ skip (Some rule.Clause) (from_key b) b.clause h.4 ∙ skip (Some rule.Key) None b.key h.5
+first_none b h = closed b h.0 h.1 ∙ skip (Some rule.Term) (from_order b) b.term h.2 ∙ skip (Some rule.Order) (from_block b) b.order h.3 ∙ skip (Some rule.Block) (from_clause b) b.block h.4 ∙ skip (Some rule.Clause) (from_key b) b.clause h.5 ∙ skip (Some rule.Key) None b.key h.6
 
 pub first_some : (b : Broken) (r : Rule) → IsFirst b (Some r) → is_judged r ≡ true → first_broken (breaks b) judged ≡ Some r
 first_some b rule.Register h j = stop (Some rule.Register) (from_unset b) b.register h
 first_some b rule.Unset h j = skip (Some rule.Register) (from_unset b) b.register h.0 ∙ stop (Some rule.Unset) (from_set b) b.unset h.1
 first_some b rule.Set h j = skip (Some rule.Register) (from_unset b) b.register h.0 ∙ skip (Some rule.Unset) (from_set b) b.unset h.1 ∙ stop (Some rule.Set) (from_constant b) b.set h.2
-first_some b rule.Constant h j = skip (Some rule.Register) (from_unset b) b.register h.0 ∙ skip (Some rule.Unset) (from_set b) b.unset h.1 ∙ skip (Some rule.Set) (from_constant b) b.set h.2 ∙ stop (Some rule.Constant) (from_term b) b.constant h.3
+first_some b rule.Constant h j = skip (Some rule.Register) (from_unset b) b.register h.0 ∙ skip (Some rule.Unset) (from_set b) b.unset h.1 ∙ skip (Some rule.Set) (from_constant b) b.set h.2 ∙ stop (Some rule.Constant) (from_index b) b.constant h.3
 first_some b rule.Typing h j = absurd (cc)
-first_some b rule.Index h j = absurd (cc)
-first_some b rule.Term h j = passed b h.0 ∙ stop (Some rule.Term) (from_order b) b.term h.1
-first_some b rule.Order h j = passed b h.0 ∙ skip (Some rule.Term) (from_order b) b.term h.1 ∙ stop (Some rule.Order) (from_block b) b.order h.2
+first_some b rule.Index h j = passed b h.0 ∙ stop (Some rule.Index) (from_term b) b.index h.1
+first_some b rule.Term h j = closed b h.0 h.1 ∙ stop (Some rule.Term) (from_order b) b.term h.2
+first_some b rule.Order h j = closed b h.0 h.1 ∙ skip (Some rule.Term) (from_order b) b.term h.2 ∙ stop (Some rule.Order) (from_block b) b.order h.3
 first_some b rule.Head h j = absurd (cc)
-first_some b rule.Block h j = passed b h.0 ∙ skip (Some rule.Term) (from_order b) b.term h.1 ∙ skip (Some rule.Order) (from_block b) b.order h.2 ∙ stop (Some rule.Block) (from_clause b) b.block h.3
-first_some b rule.Clause h j = passed b h.0 ∙ skip (Some rule.Term) (from_order b) b.term h.1 ∙ skip (Some rule.Order) (from_block b) b.order h.2 ∙ skip (Some rule.Block) (from_clause b) b.block h.3 ∙ stop (Some rule.Clause) (from_key b) b.clause h.4
-first_some b rule.Key h j = passed b h.0 ∙ skip (Some rule.Term) (from_order b) b.term h.1 ∙ skip (Some rule.Order) (from_block b) b.order h.2 ∙ skip (Some rule.Block) (from_clause b) b.block h.3 ∙ skip (Some rule.Clause) (from_key b) b.clause h.4 ∙ stop (Some rule.Key) None b.key h.5
+first_some b rule.Block h j = closed b h.0 h.1 ∙ skip (Some rule.Term) (from_order b) b.term h.2 ∙ skip (Some rule.Order) (from_block b) b.order h.3 ∙ stop (Some rule.Block) (from_clause b) b.block h.4
+first_some b rule.Clause h j = closed b h.0 h.1 ∙ skip (Some rule.Term) (from_order b) b.term h.2 ∙ skip (Some rule.Order) (from_block b) b.order h.3 ∙ skip (Some rule.Block) (from_clause b) b.block h.4 ∙ stop (Some rule.Clause) (from_key b) b.clause h.5
+first_some b rule.Key h j = closed b h.0 h.1 ∙ skip (Some rule.Term) (from_order b) b.term h.2 ∙ skip (Some rule.Order) (from_block b) b.order h.3 ∙ skip (Some rule.Block) (from_clause b) b.block h.4 ∙ skip (Some rule.Clause) (from_key b) b.clause h.5 ∙ stop (Some rule.Key) None b.key h.6
 
 -- tests that agree on the judged rules find the same one
-pub first_same : (f g : Rule → Bool) → f rule.Register ≡ g rule.Register → f rule.Unset ≡ g rule.Unset → f rule.Set ≡ g rule.Set → f rule.Constant ≡ g rule.Constant → f rule.Term ≡ g rule.Term → f rule.Order ≡ g rule.Order → f rule.Block ≡ g rule.Block → f rule.Clause ≡ g rule.Clause → f rule.Key ≡ g rule.Key → first_broken f judged ≡ first_broken g judged
-first_same f g a u b c d e o l k = λ i. if a i then Some rule.Register else (if u i then Some rule.Unset else (if b i then Some rule.Set else (if c i then Some rule.Constant else (if d i then Some rule.Term else (if e i then Some rule.Order else (if o i then Some rule.Block else (if l i then Some rule.Clause else (if k i then Some rule.Key else None))))))))
+pub first_same : (f g : Rule → Bool) → f rule.Register ≡ g rule.Register → f rule.Unset ≡ g rule.Unset → f rule.Set ≡ g rule.Set → f rule.Constant ≡ g rule.Constant → f rule.Index ≡ g rule.Index → f rule.Term ≡ g rule.Term → f rule.Order ≡ g rule.Order → f rule.Block ≡ g rule.Block → f rule.Clause ≡ g rule.Clause → f rule.Key ≡ g rule.Key → first_broken f judged ≡ first_broken g judged
+first_same f g a u b c x d e o l k = λ i. if a i then Some rule.Register else (if u i then Some rule.Unset else (if b i then Some rule.Set else (if c i then Some rule.Constant else (if x i then Some rule.Index else (if d i then Some rule.Term else (if e i then Some rule.Order else (if o i then Some rule.Block else (if l i then Some rule.Clause else (if k i then Some rule.Key else None)))))))))
 
 pub or_false : (b : Bool) → (b || false) ≡ b
 or_false true = refl
@@ -89,6 +96,10 @@ same_reads f g s i e k = λ j. list_any (λ r. e r j) (types_read i) || list_any
 -- where the registers that are looked at are those that the instruction reads
 pub reads_told : (f g : ℕ → Bool) (ts rs : List ℕ) (i : Instr) (b : Bool) → b ≡ (list_any f ts || list_any g rs) → ts ≡ types_read i → rs ≡ terms_read i → reads_unset f g i ≡ b
 reads_told f g ts rs i b e t r = sym (e ∙ (λ j. list_any f (t j) || list_any g (r j)))
+
+-- the terms that stand alone, where each is closed that is kept so
+pub same_closed : (f : ℕ → Bool) (s : State) (i : Instr) → ((r : ℕ) → f r ≡ not (is_closed (term_in s.now r).loose)) → list_any f (stands_alone i) ≡ breaks_index s i
+same_closed f s i e = λ j. list_any (λ r. e r j) (stands_alone i)
 
 pub same_sets : (f g : ℕ → Bool) (s : State) (i : Instr) → ((r : ℕ) → f r ≡ member r s.types_set) → ((r : ℕ) → g r ≡ member r s.terms_set) → sets_again f g i ≡ breaks_set s i
 same_sets f g s i e k = λ j. list_any (λ r. e r j) (type_set i) || list_any (λ r. k r j) (term_set i)

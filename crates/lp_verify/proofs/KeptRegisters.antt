@@ -147,8 +147,8 @@ settled_ever p (s ∷ ss) hs ks old new t r = by_end (ends_at p s) refl (λ mid 
     by_end true e go = let l = t.0 e in go l.0 l.2 ∙ left_ever hs old l.0 l.1 r
     by_end false e go = ap (λ (o : Registers _). was_set o r) (t.1 e).1
 
-pub run_ever : {T : Type 0} (i : Instr) (ds : List ℕ) (p : ℕ) (ss : List kept.Block) (hs ks : List ℕ) (old new : Registers T) → IsStackRun i ds p ss hs old ks new → (r : ℕ) → was_set new r ≡ (was_set old r || member r ds)
-run_ever i ds p ss hs ks old new x r =
+pub run_ever : {T : Type 0} (i : Instr) (ds : List ℕ) (v : T) (p : ℕ) (ss : List kept.Block) (hs ks : List ℕ) (old new : Registers T) → IsStackRun i ds v p ss hs old ks new → (r : ℕ) → was_set new r ≡ (was_set old r || member r ds)
+run_ever i ds v p ss hs ks old new x r =
     settled_ever p ss x.heights ks x.made new x.settled r ∙ x.stacked.makes.2 r ∙ ap (λ b. b || member r ds) (turned_ever (turning i) hs x.heights old x.stacked.turned x.stacked.turns r)
 
 -- a register is set that never was
@@ -255,14 +255,30 @@ stack_settles R n p (x ∷ ss) hs ks old new xss s t = by_end (ends_at p x) refl
     by_end false e go = let q = t.1 e in subst (λ k. IsStack R n new k xss) (sym q.0) (subst (λ o. IsStack R n o hs xss) (sym q.1) s)
 
 -- an instruction was run, which sets one register or none, below the count, that never was set
-pub stack_runs : {T B : Type 0} (R : T → B → Type 0) (n : ℕ) (i : Instr) (ds : List ℕ) (p : ℕ) (ss : List kept.Block) (hs ks : List ℕ) (old new : Registers T) (xss : List (List (Option B))) (b : B)
-    → list_any (nat_le n) ds ≡ false → list_any (was_set old) ds ≡ false → IsStack R n old hs xss → (x : IsStackRun i ds p ss hs old ks new) → R x.stacked.value b → IsStack R n new ks (stack_settled p ss (with_first ds b (stack_turned (turning i) xss)))
-stack_runs R n i ds p ss hs ks old new xss b low fresh s x h =
+pub stack_runs : {T B : Type 0} (R : T → B → Type 0) (n : ℕ) (i : Instr) (ds : List ℕ) (v : T) (p : ℕ) (ss : List kept.Block) (hs ks : List ℕ) (old new : Registers T) (xss : List (List (Option B))) (b : B)
+    → list_any (nat_le n) ds ≡ false → list_any (was_set old) ds ≡ false → IsStack R n old hs xss → IsStackRun i ds v p ss hs old ks new → R v b → IsStack R n new ks (stack_settled p ss (with_first ds b (stack_turned (turning i) xss)))
+stack_runs R n i ds v p ss hs ks old new xss b low fresh s x h =
     let y = x.stacked in
     let turned = stack_turns R n old y.turned (turning i) hs x.heights xss s y.turns in
     let same : list_any (was_set y.turned) ds ≡ list_any (was_set old) ds = λ j. list_any (λ r. turned_ever (turning i) hs x.heights old y.turned y.turns r j) ds in
-    let made = stack_made R n y.turned x.made x.heights (stack_turned (turning i) xss) ds y.value b y.one turned low (same ∙ fresh) h y.makes in
+    let made = stack_made R n y.turned x.made x.heights (stack_turned (turning i) xss) ds v b y.one turned low (same ∙ fresh) h y.makes in
     stack_settles R n p ss x.heights ks x.made new (with_first ds b (stack_turned (turning i) xss)) made x.settled
+
+-- values that agree go on to agree
+agree_weaker : {T B : Type 0} (R S : T → B → Type 0) → ((t : T) (b : B) → R t b → S t b) → (o : Option T) (p : Option B) → Agree R o p → Agree S o p
+agree_weaker R S f None None a = tt
+agree_weaker R S f (Some t) None a = absurd a
+agree_weaker R S f None (Some b) a = absurd a
+agree_weaker R S f (Some t) (Some b) a = f t b a
+
+held_weaker : {T B : Type 0} (R S : T → B → Type 0) → ((t : T) (b : B) → R t b → S t b) → (n : ℕ) (rs : Registers T) (top : ℕ) (hs : List ℕ) (xss : List (List (Option B))) → AreHeld R n rs top hs xss → AreHeld S n rs top hs xss
+held_weaker R S f n rs top [] [] a = tt
+held_weaker R S f n rs top [] (xs ∷ xss) a = absurd a
+held_weaker R S f n rs top (h ∷ hs) [] a = absurd a
+held_weaker R S f n rs top (h ∷ hs) (xs ∷ xss) a = (a.0, a.1, λ r. agree_weaker R S f (value_at h rs r) (held xs r) (a.2 r), held_weaker R S f n rs h hs xss a.3)
+
+pub stack_weaker : {T B : Type 0} (R S : T → B → Type 0) → ((t : T) (b : B) → R t b → S t b) → (n : ℕ) (rs : Registers T) (hs : List ℕ) (xss : List (List (Option B))) → IsStack R n rs hs xss → IsStack S n rs hs xss
+stack_weaker R S f n rs hs xss s = (s.0, held_weaker R S f n rs (length rs.trail.items) (length rs.trail.items ∷ hs) xss s.1)
 
 -- what is told of registers that are read
 pub same_values : {T B : Type 0} (R : T → B → Type 0) (n : ℕ) (rs : Registers T) (hs : List ℕ) (xs : List (Option B)) (xss : List (List (Option B))) → IsStack R n rs hs (xs ∷ xss) → (r : ℕ) → Agree R (value_in rs r) (held xs r)
@@ -432,8 +448,8 @@ pub opened : {T : Type 0} (hs ks : List ℕ) (rs : Registers T) (n : ℕ) → n 
 opened hs ks rs n e h = (h ∙ ap (λ n. n ∷ hs) e, refl)
 
 -- the register that an instruction sets
-pub acted_on : {T : Type 0} (i : Instr) (o : Option ℕ) (ds hs ks : List ℕ) (old mid new : Registers T) (v : T) → listed o ≡ ds → IsTurned (turning i) hs old ks mid → IsMade (listed o) v mid new → IsStacked i ds hs old ks new
-acted_on i o ds hs ks old mid new v e t m = record { one = subst IsOne e (one_listed o); value = v; turned = mid; turns = t; makes = subst (λ ds. IsMade ds v mid new) e m }
+pub acted_on : {T : Type 0} (i : Instr) (o : Option ℕ) (ds hs ks : List ℕ) (old mid new : Registers T) (v : T) → listed o ≡ ds → IsTurned (turning i) hs old ks mid → IsMade (listed o) v mid new → IsStacked i ds v hs old ks new
+acted_on i o ds hs ks old mid new v e t m = record { one = subst IsOne e (one_listed o); turned = mid; turns = t; makes = subst (λ ds. IsMade ds v mid new) e m }
   where
     one_listed : (o : Option ℕ) → IsOne (listed o)
     one_listed None = tt

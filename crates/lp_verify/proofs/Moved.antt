@@ -1,7 +1,7 @@
 -- A record at work moves as the state of the definition does.
 use Rattle.std.proofs.Common.{◌≡◌, ◌∙◌, ◌≤◌, ◌<◌, ℕ, suc, ◌+◌, List, [], ◌∷◌, ◌++◌, map, length, reverse, append_assoc, zero-add, Bool, true, false, Option, Some, None, ap, refl, sym, subst, arith}
 use Rattle.std.specs.BTreeMap.{BTreeMap, get}
-use Rattle.std.specs.Prelude.{nat_eq, nat_le, not, ◌||◌, ◌&&◌, ◌^◌, if◌then◌else◌, slice_get}
+use Rattle.std.specs.Prelude.{nat_eq, nat_le, not, ◌||◌, ◌&&◌, ◌^◌, if◌then◌else◌, unwrap_or, slice_get}
 use Rattle.std.specs.Ordering.{nat_cmp}
 use Rattle.std.specs.List.{list_any}
 use Rattle.std.proofs.lemmas.Bool.{ne_eqb}
@@ -9,38 +9,44 @@ use Rattle.lp_lemmas.proofs.Lists.{append_nil_sym}
 use Rattle.lp_lemmas.proofs.Booleans.{or_false_left, or_false_right}
 use Rattle.lp_code.specs.declared.instruction.Instr.{Instr}
 use Rattle.lp_code.specs.declared.instruction.Instr.TheVariants as on
+use Rattle.lp_code.specs.declared.record.Record.{Record}
 use Rattle.lp_code.specs.declared.rule.Rule.{Rule}
 use Rattle.lp_code.specs.declared.rule.Rule.TheVariants as rule
 use Rattle.lp_code.specs.Length.{length_of, Fits}
 use Rattle.lp_code.specs.Operands.{types_read, terms_read, type_set, term_set}
 use Rattle.lp_code.specs.States.{State, Home, Captured, member}
+use Rattle.lp_code.specs.Symbolic.{Built, held, term_in, is_closed}
 use Rattle.lp_code.specs.Steps.{after}
-use Rattle.lp_code.specs.Rules.{breaks_set, breaks_unset, breaks_register, breaks_term, breaks_nesting, has_none, is_passed, named_before, names_of}
+use Rattle.lp_code.specs.Rules.{breaks_set, breaks_unset, breaks_index, breaks_register, breaks_term, breaks_nesting, has_none, is_passed, named_before, names_of}
 use Rattle.lp_code.specs.Denote.{Done, Broken, first_broken, broken_by_record, broken_by, broken_of, unless_broken, run_on, run_of, any_clause, first_state, started, captured_of}
-use Rattle.lp_verify.specs.declared.record.Captured as kept_captured
+use Rattle.lp_verify.specs.declared.built.Built as kept_built
+use Rattle.lp_verify.specs.declared.loose.Lists.{Lists}
+use Rattle.lp_verify.specs.declared.record.Shared.{Shared}
 use Rattle.lp_verify.specs.declared.record.Work.{Work}
 use Rattle.lp_verify.specs.declared.whole.Whole.{Whole}
 use Rattle.lp_verify.specs.declared.head.HeadSoFar.{HeadSoFar}
 use Rattle.lp_verify.specs.declared.registers.Registers.{Registers}
 use Rattle.lp_verify.specs.declared.blocks.Block as kept
-use Rattle.lp_verify.specs.Held.{was_set, is_lacking}
+use Rattle.lp_verify.specs.Held.{was_set, value_in, is_lacking}
 use Rattle.lp_verify.specs.Named.{was_named, HasNamed}
 use Rattle.lp_verify.specs.Judged.{judged, bytes_of}
 use Rattle.lp_verify.specs.inner.Outline.{Outline, outline, arguments_behind, types_behind, body_behind, outline_behind}
-use Rattle.lp_verify.specs.inner.Told.{breaks, told, broken_whole, breaks_blocks, reaches_past, sets_again, names_badly, IsFirst, is_out_of_order}
-use Rattle.lp_verify.specs.inner.Made.{type_made, term_made}
-use Rattle.lp_verify.specs.inner.Stack.{type_heights, term_heights, saved_of, stack_of, types_in_stack, terms_in_stack, stack_settled, IsStack, IsStacked, IsSettled, IsStackRun}
-use Rattle.lp_verify.specs.inner.Handed.{SameType, SameTerm, captured_in, types_captured, terms_captured, IsNamed, assumption_of, IsHandedOn, handed_on, AreHanded}
-use Rattle.lp_verify.specs.inner.At.{home_in, IsAt, IsRun, IsActed, IsStarted, IsJudgedWhole, IsWhole, IsNoWhole, IsRan, AreNamedBefore, NamedAt, Past, GoesOn}
+use Rattle.lp_verify.specs.inner.Told.{breaks, told, broken_whole, breaks_blocks, reaches_past, loose_entries, is_loose, sets_again, names_badly, IsFirst, is_out_of_order}
+use Rattle.lp_verify.specs.inner.Made.{nothing_built, type_made, term_made}
+use Rattle.lp_verify.specs.inner.Stack.{Agree, type_heights, term_heights, saved_of, stack_of, types_in_stack, terms_in_stack, stack_settled, IsStack, IsStacked, IsSettled, IsStackRun}
+use Rattle.lp_verify.specs.inner.Handed.{SameType, SameTerm, captured_in, types_captured, terms_captured, assumption_of, handed_on, AreHanded}
+use Rattle.lp_verify.specs.inner.At.{home_in, IsAt, IsRun, IsActed, IsPassed, IsStarted, IsJudgedWhole, IsWhole, IsNoWhole, HandedIn, IsRan, AreNamedBefore, NamedAt, Past, GoesOn}
 use Rattle.lp_verify.specs.inner.Sides.{sides_in, sides_of, sides_run, sides_acted, sides_settled, is_past, is_turn, starts_from, nests_badly, first_end_of, AreEnds, HasPlaces}
 use Rattle.lp_verify.proofs.Members.{member_append, from_zero_has, started_length}
 use Rattle.lp_verify.proofs.Outlines.{behind, comes_behind, Nests, outline_is, with_more_is, sides_are, types_stack_is, terms_stack_is}
 use Rattle.lp_verify.proofs.Sides.{same_past}
 use Rattle.lp_verify.proofs.KeptBlocks.{past_is}
-use Rattle.lp_verify.proofs.KeptRegisters.{run_ever, stack_runs, same_lacking, same_values, stack_begins}
-use Rattle.lp_verify.proofs.HandedOn.{named_has, hands_on, few_captured}
+use Rattle.lp_verify.proofs.KeptRegisters.{run_ever, stack_runs, stack_weaker, same_lacking, same_values, stack_begins}
+use Rattle.lp_verify.proofs.HandedOn.{named_has, hands_on, handed_later, few_captured}
+use Rattle.lp_verify.specs.inner.Indices.{ListsGrow}
+use Rattle.lp_verify.proofs.LooseSeen.{stands_later, closed_is}
 use Rattle.lp_verify.proofs.Places.{some_bytes, starts_behind, same_nesting, ran_acted, last_is, turn_there, bytes_more}
-use Rattle.lp_verify.proofs.Joined.{first_none, first_some, first_same, or_false, same_reads, same_sets, same_counts, same_order, same_names}
+use Rattle.lp_verify.proofs.Joined.{first_none, first_some, first_same, or_false, same_reads, same_sets, same_counts, same_closed, same_order, same_names}
 
 more_arguments : (i : Instr) (m : ℕ) → arguments_behind i m ≤ m + length_of i
 more_arguments (on.TyCon d k ts) m = omega arith
@@ -106,8 +112,8 @@ pub record MayRun (w : Work) (i : Instr) : Type 0 where
   pub fresh : sets_again (was_set w.types) (was_set w.terms) i ≡ false
   pub nested : breaks_blocks w i ≡ false
 
-nests : (s : State) (i : Instr) (w : Work) → IsAt w s → breaks_blocks w i ≡ false → Nests i s
-nests s i w a fine =
+nests : (l : Lists) (s : State) (i : Instr) (w : Work) → IsAt l w s → breaks_blocks w i ≡ false → Nests i s
+nests l s i w a fine =
     let code = w.home.record.now.code.items in
     let kept = or_false_right (nat_le (first_end_of (reverse w.blocks.frames.items)) w.place) (nests_badly w.place (get nat_cmp w.places.jumps) (nat_eq (w.number + 1) (length code)) (sides_in w.blocks.frames.items) i) fine in
     subst (λ ss. sides_run i s.place ss ≡ sides_acted i s.place ss) a.sides_are
@@ -117,31 +123,31 @@ nests s i w a fine =
 stack_moved : {A : Type 0} (i : Instr) (p q : ℕ) (ss ts : List kept.Block) (xs : List A) → p ≡ q → ss ≡ ts → stack_settled (p + length_of i) (sides_run i p ss) xs ≡ stack_settled (q + length_of i) (sides_run i q ts) xs
 stack_moved i p q ss ts xs e f = λ j. stack_settled (e j + length_of i) (sides_run i (e j) (f j)) xs
 
-types_moved : (h : Home) (s : State) (i : Instr) (w v : Work) → IsAt w s → MayRun w i → IsRun i w v → w.place + length_of i < 2 ^ 63 → IsStack SameType v.home.record.now.types v.types (type_heights (reverse v.blocks.frames.items)) (types_in_stack (stack_of (behind h s i)))
-types_moved h s i w v a may r small =
+types_moved : (l : Lists) (h : Home) (s : State) (i : Instr) (t : kept_built.Built) (w v : Work) → IsAt l w s → MayRun w i → IsRun i t w v → w.place + length_of i < 2 ^ 63 → IsStack SameType v.home.record.now.types v.types (type_heights (reverse v.blocks.frames.items)) (types_in_stack (stack_of (behind h s i)))
+types_moved l h s i t w v a may r small =
     let x = r.types_run small in
     let n = w.home.record.now.types in
     let ks = type_heights (reverse v.blocks.frames.items) in
     let ran =
-    stack_runs SameType n i (type_set i) (w.place + length_of i) (sides_run i w.place (sides_in w.blocks.frames.items)) (type_heights (reverse w.blocks.frames.items)) ks w.types v.types (types_in_stack (stack_of s)) (type_made h s i) (types_low n w.home.record.now.registers i may.low)
-    (or_false_left (list_any (was_set w.types) (type_set i)) (list_any (was_set w.terms) (term_set i)) may.fresh) a.types_stand x tt in
+    stack_runs SameType n i (type_set i) x.0 (w.place + length_of i) (sides_run i w.place (sides_in w.blocks.frames.items)) (type_heights (reverse w.blocks.frames.items)) ks w.types v.types (types_in_stack (stack_of s)) (type_made h s i) (types_low n w.home.record.now.registers i may.low)
+    (or_false_left (list_any (was_set w.types) (type_set i)) (list_any (was_set w.terms) (term_set i)) may.fresh) a.types_stand x.1 tt in
     subst (λ m. IsStack SameType m v.types ks (types_in_stack (stack_of (behind h s i)))) (sym (ap (λ h. h.record.now.types) r.home_stays))
-    (subst (IsStack SameType n v.types ks) (stack_moved i w.place s.place (sides_in w.blocks.frames.items) (sides_of s.frames) _ a.place_is a.sides_are ∙ sym (types_stack_is h s i (nests s i w a may.nested))) ran)
+    (subst (IsStack SameType n v.types ks) (stack_moved i w.place s.place (sides_in w.blocks.frames.items) (sides_of s.frames) _ a.place_is a.sides_are ∙ sym (types_stack_is h s i (nests l s i w a may.nested))) ran)
 
-terms_moved : (h : Home) (s : State) (i : Instr) (w v : Work) → IsAt w s → MayRun w i → IsRun i w v → w.place + length_of i < 2 ^ 63
-    → IsStack SameTerm v.home.record.now.registers v.terms (term_heights (reverse v.blocks.frames.items)) (terms_in_stack (stack_of (behind h s i)))
-terms_moved h s i w v a may r small =
+terms_moved : (l m : Lists) (h : Home) (s : State) (i : Instr) (t : kept_built.Built) (w v : Work) → IsAt l w s → MayRun w i → IsRun i t w v → ListsGrow l m → SameTerm m t (term_made h s i) → w.place + length_of i < 2 ^ 63
+    → IsStack (SameTerm m) v.home.record.now.registers v.terms (term_heights (reverse v.blocks.frames.items)) (terms_in_stack (stack_of (behind h s i)))
+terms_moved l m h s i t w v a may r grow same small =
     let x = r.terms_run small in
     let n = w.home.record.now.registers in
     let ks = term_heights (reverse v.blocks.frames.items) in
     let ran =
-    stack_runs SameTerm n i (term_set i) (w.place + length_of i) (sides_run i w.place (sides_in w.blocks.frames.items)) (term_heights (reverse w.blocks.frames.items)) ks w.terms v.terms (terms_in_stack (stack_of s)) (term_made h s i) (terms_low w.home.record.now.types n i may.low)
-    (or_false_right (list_any (was_set w.types) (type_set i)) (list_any (was_set w.terms) (term_set i)) may.fresh) a.terms_stand x tt in
-    subst (λ m. IsStack SameTerm m v.terms ks (terms_in_stack (stack_of (behind h s i)))) (sym (ap (λ h. h.record.now.registers) r.home_stays))
-    (subst (IsStack SameTerm n v.terms ks) (stack_moved i w.place s.place (sides_in w.blocks.frames.items) (sides_of s.frames) _ a.place_is a.sides_are ∙ sym (terms_stack_is h s i (nests s i w a may.nested))) ran)
+    stack_runs (SameTerm m) n i (term_set i) t (w.place + length_of i) (sides_run i w.place (sides_in w.blocks.frames.items)) (term_heights (reverse w.blocks.frames.items)) ks w.terms v.terms (terms_in_stack (stack_of s)) (term_made h s i) (terms_low w.home.record.now.types n i may.low)
+    (or_false_right (list_any (was_set w.types) (type_set i)) (list_any (was_set w.terms) (term_set i)) may.fresh) (stack_weaker (SameTerm l) (SameTerm m) (λ x b. stands_later l m x.loose b.loose grow) n w.terms (term_heights (reverse w.blocks.frames.items)) (terms_in_stack (stack_of s)) a.terms_stand) x same in
+    subst (λ n. IsStack (SameTerm m) n v.terms ks (terms_in_stack (stack_of (behind h s i)))) (sym (ap (λ h. h.record.now.registers) r.home_stays))
+    (subst (IsStack (SameTerm m) n v.terms ks) (stack_moved i w.place s.place (sides_in w.blocks.frames.items) (sides_of s.frames) _ a.place_is a.sides_are ∙ sym (terms_stack_is h s i (nests l s i w a may.nested))) ran)
 
-pub moved : (h : Home) (s : State) (i : Instr) (w v : Work) → IsAt w s → MayRun w i → IsRun i w v → s.place + length_of i < 2 ^ 33 → IsAt v (behind h s i)
-moved h s i w v a may r small =
+pub moved : (l m : Lists) (h : Home) (s : State) (i : Instr) (t : kept_built.Built) (w v : Work) → IsAt l w s → MayRun w i → IsRun i t w v → ListsGrow l m → SameTerm m t (term_made h s i) → s.place + length_of i < 2 ^ 33 → IsAt m v (behind h s i)
+moved l m h s i t w v a may r grow same small =
     let o : outline (behind h s i) ≡ outline_behind i (handed_on s (assumption_of i)) (outline s) = outline_is h s i in
     let p : w.place ≡ s.place = a.place_is in
     let few : length s.head_arguments ≤ s.place = a.few_arguments in
@@ -155,10 +161,10 @@ moved h s i w v a may r small =
       body_is = r.body_is ∙ ap (body_behind i) a.body_is ∙ sym (ap (λ (o : Outline). o.in_body) o);
       types_are = r.types_are ∙ ap (types_behind i) a.types_are ∙ sym (ap (λ (o : Outline). o.types) o);
       arguments_are = r.arguments_are (omega (arith, small, few, a.arguments_are)) ∙ ap (arguments_behind i) a.arguments_are ∙ sym (ap (λ (o : Outline). o.arguments) o);
-      types_set = λ n. run_ever i (type_set i) _ _ _ _ w.types v.types tr n ∙ ap (λ b. b || member n (type_set i)) (a.types_set n) ∙ sym (member_append n s.types_set (type_set i)) ∙ sym (ap (λ (o : Outline). member n o.types_set) o);
-      terms_set = λ n. run_ever i (term_set i) _ _ _ _ w.terms v.terms rr n ∙ ap (λ b. b || member n (term_set i)) (a.terms_set n) ∙ sym (member_append n s.terms_set (term_set i)) ∙ sym (ap (λ (o : Outline). member n o.terms_set) o);
-      types_stand = types_moved h s i w v a may r less;
-      terms_stand = terms_moved h s i w v a may r less;
+      types_set = λ n. run_ever i (type_set i) tr.0 _ _ _ _ w.types v.types tr.1 n ∙ ap (λ b. b || member n (type_set i)) (a.types_set n) ∙ sym (member_append n s.types_set (type_set i)) ∙ sym (ap (λ (o : Outline). member n o.types_set) o);
+      terms_set = λ n. run_ever i (term_set i) t _ _ _ _ w.terms v.terms rr n ∙ ap (λ b. b || member n (term_set i)) (a.terms_set n) ∙ sym (member_append n s.terms_set (term_set i)) ∙ sym (ap (λ (o : Outline). member n o.terms_set) o);
+      types_stand = types_moved l h s i t w v a may r less;
+      terms_stand = terms_moved l m h s i t w v a may r grow same less;
       few_arguments =
           let m : arguments_behind i (length s.head_arguments) ≤ length s.head_arguments + length_of i = more_arguments i (length s.head_arguments) in
           let e : length (behind h s i).head_arguments ≡ arguments_behind i (length s.head_arguments) = ap (λ (o : Outline). o.arguments) o in
@@ -169,14 +175,14 @@ moved h s i w v a may r small =
           let n = r.number_moves (omega (arith, fewer, small)) in
           omega (arith, n, q, fewer, some);
       sides_are =
-          let fit = nests s i w a may.nested in
+          let fit = nests l s i w a may.nested in
           r.sides_move (omega (arith, small, p)) ∙ (λ j. sides_settled (p j + length_of i) (sides_run i (p j) (a.sides_are j))) ∙ ap (sides_settled (s.place + length_of i)) fit ∙ sym (sides_are h s i);
       ends_are = r.ends_stay a.ends_are;
     }
 
 -- one instruction more was run
-pub run_on_past : (h : Home) (all : List Instr) (i : Instr) (is : List Instr) (s : State) (w v : Work) → Past all (i ∷ is) s w → IsAt w s → IsRun i w v → s.place + length_of i < 2 ^ 33 → Past all is (behind h s i) v
-run_on_past h all i is s w v b a r small =
+pub run_on_past : (l : Lists) (h : Home) (all : List Instr) (i : Instr) (is : List Instr) (s : State) (t : kept_built.Built) (w v : Work) → Past all (i ∷ is) s w → IsAt l w s → IsRun i t w v → s.place + length_of i < 2 ^ 33 → Past all is (behind h s i) v
+run_on_past l h all i is s t w v b a r small =
     let o = outline_is h s i in
     let q : (behind h s i).place ≡ s.place + length_of i = ap (λ (o : Outline). o.place) o in
     let fewer = a.few_instructions in
@@ -192,15 +198,15 @@ run_on_past h all i is s w v b a r small =
     }
 
 -- an instruction that was acted on is passed, and right sides that end there are left
-settled_there : {T : Type 0} (i : Instr) (ds : List ℕ) (p q : ℕ) (ss ts : List kept.Block) (hs ks : List ℕ) (js : List ℕ) (old mid new : Registers T)
-    → q ≡ p + length_of i → ts ≡ sides_run i p ss → IsStacked i ds hs old js mid → IsSettled q ts js mid ks new → IsStackRun i ds (p + length_of i) (sides_run i p ss) hs old ks new
-settled_there i ds p q ss ts hs ks js old mid new e f x y = record { heights = js; made = mid; stacked = x; settled = subst (λ n. IsSettled n (sides_run i p ss) js mid ks new) e (subst (λ l. IsSettled q l js mid ks new) f y) }
+settled_there : {T : Type 0} (i : Instr) (ds : List ℕ) (t : T) (p q : ℕ) (ss ts : List kept.Block) (hs ks : List ℕ) (js : List ℕ) (old mid new : Registers T)
+    → q ≡ p + length_of i → ts ≡ sides_run i p ss → IsStacked i ds t hs old js mid → IsSettled q ts js mid ks new → IsStackRun i ds t (p + length_of i) (sides_run i p ss) hs old ks new
+settled_there i ds t p q ss ts hs ks js old mid new e f x y = record { heights = js; made = mid; stacked = x; settled = subst (λ n. IsSettled n (sides_run i p ss) js mid ks new) e (subst (λ l. IsSettled q l js mid ks new) f y) }
 
-pub passed_on : (i : Instr) (old mid new : Work) → IsActed i old mid → new.home ≡ mid.home → new.places ≡ mid.places → (mid.place + length_of i < 2 ^ 64 → new.place ≡ mid.place + length_of i) → (mid.number + 1 < 2 ^ 64 → new.number ≡ mid.number + 1)
+pub passed_on : (i : Instr) (t : kept_built.Built) (old mid new : Work) → IsActed i t old mid → new.home ≡ mid.home → new.places ≡ mid.places → (mid.place + length_of i < 2 ^ 64 → new.place ≡ mid.place + length_of i) → (mid.number + 1 < 2 ^ 64 → new.number ≡ mid.number + 1)
     → sides_in new.blocks.frames.items ≡ sides_settled new.place (sides_in mid.blocks.frames.items) → (AreEnds (reverse mid.blocks.frames.items) → AreEnds (reverse new.blocks.frames.items)) → new.in_body ≡ mid.in_body → new.head ≡ mid.head
     → IsSettled new.place (sides_in mid.blocks.frames.items) (type_heights (reverse mid.blocks.frames.items)) mid.types (type_heights (reverse new.blocks.frames.items)) new.types
-    → IsSettled new.place (sides_in mid.blocks.frames.items) (term_heights (reverse mid.blocks.frames.items)) mid.terms (term_heights (reverse new.blocks.frames.items)) new.terms → IsRun i old new
-passed_on i old mid new a home places place number sides ends body head types terms =
+    → IsSettled new.place (sides_in mid.blocks.frames.items) (term_heights (reverse mid.blocks.frames.items)) mid.terms (term_heights (reverse new.blocks.frames.items)) new.terms → IsRun i t old new
+passed_on i t old mid new a home places place number sides ends body head types terms =
     let l = length_of i in
     let at : old.place + l < 2 ^ 63 → new.place ≡ old.place + l = λ h. place (subst (λ p. p + l < 2 ^ 64) (sym a.place_stays) (omega (arith, h))) ∙ ap (λ p. p + l) a.place_stays in
     record {
@@ -213,10 +219,12 @@ passed_on i old mid new a home places place number sides ends body head types te
       body_is = body ∙ a.body_is;
       types_are = ap (λ (x : HeadSoFar). length x.types.items) head ∙ a.types_are;
       arguments_are = λ h. ap (λ (x : HeadSoFar). x.arguments) head ∙ a.arguments_are h;
-      types_run = λ h.
-          settled_there i (type_set i) old.place new.place (sides_in old.blocks.frames.items) (sides_in mid.blocks.frames.items) (type_heights (reverse old.blocks.frames.items)) (type_heights (reverse new.blocks.frames.items)) (type_heights (reverse mid.blocks.frames.items)) old.types mid.types new.types (at h) (a.sides_act (omega (arith, h))) a.types_act types;
+      types_run = λ h. (
+        a.types_act.0,
+        settled_there i (type_set i) a.types_act.0 old.place new.place (sides_in old.blocks.frames.items) (sides_in mid.blocks.frames.items) (type_heights (reverse old.blocks.frames.items)) (type_heights (reverse new.blocks.frames.items)) (type_heights (reverse mid.blocks.frames.items)) old.types mid.types new.types (at h) (a.sides_act (omega (arith, h))) a.types_act.1 types,
+      );
       terms_run = λ h.
-          settled_there i (term_set i) old.place new.place (sides_in old.blocks.frames.items) (sides_in mid.blocks.frames.items) (term_heights (reverse old.blocks.frames.items)) (term_heights (reverse new.blocks.frames.items)) (term_heights (reverse mid.blocks.frames.items)) old.terms mid.terms new.terms (at h) (a.sides_act (omega (arith, h))) a.terms_act terms;
+          settled_there i (term_set i) t old.place new.place (sides_in old.blocks.frames.items) (sides_in mid.blocks.frames.items) (term_heights (reverse old.blocks.frames.items)) (term_heights (reverse new.blocks.frames.items)) (term_heights (reverse mid.blocks.frames.items)) old.terms mid.terms new.terms (at h) (a.sides_act (omega (arith, h))) a.terms_act terms;
     }
 
 -- the record is judged before its first instruction, and else only the instruction is
@@ -228,8 +236,8 @@ broken_at true f g = refl
 broken_at false f g = refl
 
 -- the blocks that are told are those of the state
-same_blocks : (s : State) (w : Work) (all : List Instr) (i : Instr) (is : List Instr) → IsAt w s → Past all (i ∷ is) s w → bytes_of all < 2 ^ 32 → s.place < 2 ^ 33 → breaks_blocks w i ≡ (list_any (is_passed s.place) s.frames || breaks_nesting s is i)
-same_blocks s w all i is a b short small =
+same_blocks : (l : Lists) (s : State) (w : Work) (all : List Instr) (i : Instr) (is : List Instr) → IsAt l w s → Past all (i ∷ is) s w → bytes_of all < 2 ^ 32 → s.place < 2 ^ 33 → breaks_blocks w i ≡ (list_any (is_passed s.place) s.frames || breaks_nesting s is i)
+same_blocks l s w all i is a b short small =
     let p : w.place ≡ s.place = a.place_is in
     let starts = get nat_cmp w.places.jumps in
     let last = nat_eq (w.number + 1) (length w.home.record.now.code.items) in
@@ -240,21 +248,33 @@ same_blocks s w all i is a b short small =
     λ t q l. b.places_are short (ap (list_any is_turn) b.parts ∙ turn_there b.run i is t) q ∙ ap (λ l. starts_from 0 l q) b.parts ∙ starts_behind 0 q s.place b.run (i ∷ is) (zero-add (bytes_of b.run) ∙ b.length_is) l in
     (λ j. past j || nests_badly (p j) starts last (a.sides_are j) i) ∙ ap (λ c. list_any (is_passed s.place) s.frames || c) (same_nesting s is i starts last ends at)
 
+-- the terms that are told to have a loose index
+loose_there : (l k : Lists) (o : Option kept_built.Built) (p : Option Built) → ListsGrow l k → Agree (SameTerm l) o p → not (has_none (loose_entries k o)) ≡ not (is_closed (unwrap_or p nothing_built).loose)
+loose_there l k None None grow a = refl
+loose_there l k (Some t) None grow a = absurd a
+loose_there l k None (Some b) grow a = absurd a
+loose_there l k (Some t) (Some b) grow a = ap not (sym (closed_is k t.loose b.loose (stands_later l k t.loose b.loose grow a)))
+
+same_loose : (l k : Lists) (w : Work) (s : State) → ListsGrow l k → IsAt l w s → (r : ℕ) → is_loose k w.terms r ≡ not (is_closed (term_in s.now r).loose)
+same_loose l k w s grow a r =
+    loose_there l k (value_in w.terms r) (held s.now.terms r) grow (same_values (SameTerm l) w.home.record.now.registers w.terms (term_heights (reverse w.blocks.frames.items)) s.now.terms (terms_in_stack (saved_of s.frames)) a.terms_stand r)
+
 -- what is told before an instruction is what the definition finds there
-pub same_broken : (s : State) (w : Work) (m : BTreeMap ℕ ℕ) (x : Whole) (all : List Instr) (i : Instr) (is : List Instr) → IsAt w s → Past all (i ∷ is) s w → bytes_of all < 2 ^ 32 → s.place < 2 ^ 33 → NamedAt (home_in w.home) s m → IsWhole (home_in w.home) s x
-    → broken_of judged (home_in w.home) s (i ∷ is) ≡ first_broken (breaks (told w (was_named m) x i)) judged
-same_broken s w m x all i is a past short small names b =
+pub same_broken : (l k : Lists) (s : State) (w : Work) (m : BTreeMap ℕ ℕ) (x : Whole) (all : List Instr) (i : Instr) (is : List Instr) → ListsGrow l k → IsAt l w s → Past all (i ∷ is) s w → bytes_of all < 2 ^ 32 → s.place < 2 ^ 33 → NamedAt (home_in w.home) s m → IsWhole (home_in w.home) s x
+    → broken_of judged (home_in w.home) s (i ∷ is) ≡ first_broken (breaks (told w k (was_named m) x i)) judged
+same_broken l k s w m x all i is grow a past short small names b =
     let h = home_in w.home in
     let t : Bool = nat_eq s.place 0 in
-    broken_at t (broken_by_record h s) (broken_by h s is i) ∙ sym (first_same (breaks (told w (was_named m) x i)) (λ r. (t && broken_by_record h s r) || broken_by h s is i r)
+    broken_at t (broken_by_record h s) (broken_by h s is i) ∙ sym (first_same (breaks (told w k (was_named m) x i)) (λ r. (t && broken_by_record h s r) || broken_by h s is i r)
     (ap (λ v. v || breaks_register h s i) b.register_is)
     (same_reads (is_lacking w.types) (is_lacking w.terms) s i (same_lacking SameType w.home.record.now.types w.types (type_heights (reverse w.blocks.frames.items)) s.now.types (types_in_stack (saved_of s.frames)) a.types_stand)
-    (same_lacking SameTerm w.home.record.now.registers w.terms (term_heights (reverse w.blocks.frames.items)) s.now.terms (terms_in_stack (saved_of s.frames)) a.terms_stand) ∙ no_more t (breaks_unset s i))
+    (same_lacking (SameTerm l) w.home.record.now.registers w.terms (term_heights (reverse w.blocks.frames.items)) s.now.terms (terms_in_stack (saved_of s.frames)) a.terms_stand) ∙ no_more t (breaks_unset s i))
     (same_sets (was_set w.types) (was_set w.terms) s i a.types_set a.terms_set ∙ no_more t (breaks_set s i))
     ((λ j. b.constant_is j || same_counts h i j))
+    (same_closed (is_loose k w.terms) s i (same_loose l k w s grow a) ∙ no_more t (breaks_index s i))
     (no_more t (breaks_term i))
     ((λ j. b.order_is j || is_out_of_order (a.body_is j) (a.types_are j) (a.arguments_are j) i) ∙ ap (λ v. (t && broken_by_record h s rule.Order) || v) (same_order s i))
-    ((λ j. b.block_is j || same_blocks s w all i is a past short small j))
+    ((λ j. b.block_is j || same_blocks l s w all i is a past short small j))
     ((λ j. b.clause_is j || same_names h s (was_named m) i names j))
     (b.key_is ∙ sym (or_false (t && broken_by_record h s rule.Key))))
   where
@@ -267,44 +287,49 @@ first_passes : (place n : ℕ) → 1 ≤ n → nat_eq (place + n) 0 ≡ false
 first_passes place n h = ne_eqb (place + n) 0 (λ e. omega (arith, h, e))
 
 -- what a step tells: the rules are kept, the instruction was run, its records were named, and what they start with was handed on
-pub record Steps (i : Instr) (w v : Work) (hs ks : List kept_captured.Captured) (m n : BTreeMap ℕ ℕ) (x y : Whole) : Type 0 where
+pub record Steps (i : Instr) (w v : Work) (x y : Shared) (p q : Whole) : Type 0 where
   pub fits : Fits i
-  pub kept : IsFirst (told w (was_named m) x i) None
-  pub runs : IsRun i w v
-  pub names : IsNamed (names_of i) (length hs) m n
-  pub hands : IsHandedOn (assumption_of i) w.types w.terms hs ks
-  pub clean : IsNoWhole y
+  pub kept : IsFirst (told w y.lists (was_named x.named) p i) None
+  pub passed : IsPassed i x y w v
+  pub grow : ListsGrow x.lists y.lists
+  pub clean : IsNoWhole q
 
 handed_behind : (h : Home) (s : State) (i : Instr) (before : List (ℕ × Captured)) → before ++ (behind h s i).assumed ≡ (before ++ s.assumed) ++ handed_on s (assumption_of i)
 handed_behind h s i before =
     ap (λ l. before ++ l) (ap (λ (o : Outline). o.assumed) (outline_is h s i) ∙ with_more_is s.assumed (handed_on s (assumption_of i))) ∙ sym (append_assoc before s.assumed (handed_on s (assumption_of i)))
 
-one_more : (before : List (ℕ × Captured)) (all : List Instr) (i : Instr) (is : List Instr) (w v : Work) (hs ks : List kept_captured.Captured) (m n : BTreeMap ℕ ℕ) (x y : Whole) → bytes_of all < 2 ^ 32
-    → GoesOn (home_in w.home) before all (i ∷ is) w hs m x → Steps i w v hs ks m n x y → GoesOn (home_in w.home) before all is v ks n y
-one_more before all i is w v hs ks m n x y short g t =
+one_more : (before : List (ℕ × Captured)) (all : List Instr) (i : Instr) (is : List Instr) (w v : Work) (x y : Shared) (p q : Whole) → bytes_of all < 2 ^ 32
+    → GoesOn (home_in w.home) before all (i ∷ is) w x p → Steps i w v x y p q → GoesOn (home_in w.home) before all is v y q
+one_more before all i is w v x y p q short g t =
     let h = home_in w.home in
     let s = g.0 in
-    let r = t.runs in
+    let l = x.lists in
+    let k = y.lists in
+    let r = t.passed.runs in
+    let b = t.passed.value in
     let f = t.kept in
     let clean = t.clean in
+    let a = g.2 in
     let count : s.place + (length_of i + bytes_of is) ≡ bytes_of all = g.3 in
     let place : (behind h s i).place ≡ s.place + length_of i = ap (λ (o : Outline). o.place) (outline_is h s i) in
     let small : s.place + length_of i < 2 ^ 33 = omega (arith, short, count) in
-    let fine = same_broken s w m x all i is g.2 g.6 short (omega (arith, small)) g.5 g.4 ∙ first_none (told w (was_named m) x i) f in
+    let fine = same_broken l k s w x.named p all i is t.grow a g.6 short (omega (arith, small)) g.5 g.4 ∙ first_none (told w k (was_named x.named) p i) f in
     let past : nat_eq (behind h s i).place 0 ≡ false = ap (λ n. nat_eq n 0) place ∙ first_passes s.place (length_of i) (some_bytes i) in
     let may : MayRun w i =
     record {
-      low = or_false_right x.register (reaches_past w.home.record.now.types w.home.record.now.registers i) f.0.0;
+      low = or_false_right p.register (reaches_past w.home.record.now.types w.home.record.now.registers i) f.0.0;
       fresh = f.0.2;
-      nested = or_false_right x.block (breaks_blocks w i) f.3;
+      nested = or_false_right p.block (breaks_blocks w i) f.4;
     } in
-    let a = g.2 in
-    let same_types = λ (k : ℕ). same_values SameType w.home.record.now.types w.types (type_heights (reverse w.blocks.frames.items)) s.now.types (types_in_stack (saved_of s.frames)) a.types_stand k in
-    let same_terms = λ (k : ℕ). same_values SameTerm w.home.record.now.registers w.terms (term_heights (reverse w.blocks.frames.items)) s.now.terms (terms_in_stack (saved_of s.frames)) a.terms_stand k in
-    let handed = hands_on h.records h.number h.self.program w.types w.terms s (before ++ s.assumed) hs ks m n same_types same_terms i g.7 t.fits (or_false_right x.clause (names_badly h.number h.records h.self.program (was_named m) i) f.4) f.0.1 t.names t.hands in (
+    let same_types = λ (n : ℕ). same_values SameType w.home.record.now.types w.types (type_heights (reverse w.blocks.frames.items)) s.now.types (types_in_stack (saved_of s.frames)) a.types_stand n in
+    let same_terms = λ (n : ℕ). same_values (SameTerm l) w.home.record.now.registers w.terms (term_heights (reverse w.blocks.frames.items)) s.now.terms (terms_in_stack (saved_of s.frames)) a.terms_stand n in
+    let set : list_any (is_lacking w.terms) (terms_read i) ≡ false = or_false_right (list_any (is_lacking w.types) (types_read i)) (list_any (is_lacking w.terms) (terms_read i)) f.0.1 in
+    let made : SameTerm k b (term_made h s i) = t.passed.puts h s same_terms set in
+    let named = or_false_right p.clause (names_badly h.number h.records h.self.program (was_named x.named) i) f.5 in
+    let handed = hands_on l h.records h.number h.self.program w.types w.terms s (before ++ s.assumed) x.handed.items y.handed.items x.named y.named same_types same_terms i g.7 t.fits named f.0.1 t.passed.names t.passed.hands in (
       behind h s i,
       g.1 ∙ ap (λ o. unless_broken o s.place (run_on (λ t. run_of judged h any_clause t is) (after h any_clause s i))) fine ∙ ap (run_on (λ t. run_of judged h any_clause t is)) (comes_behind h s i),
-      moved h s i w v a may r small,
+      moved l k h s i b w v a may r t.grow made small,
       omega (arith, place, count),
       record {
         register_is = clean.0 ∙ sym (ap (λ t. t && broken_by_record h (behind h s i) rule.Register) past);
@@ -314,39 +339,37 @@ one_more before all i is w v hs ks m n x y short g t =
         clause_is = clean.4 ∙ sym (ap (λ t. t && broken_by_record h (behind h s i) rule.Clause) past);
         key_is = clean.5 ∙ sym (ap (λ t. t && broken_by_record h (behind h s i) rule.Key) past);
       },
-      named_on h s i m n g.5 (named_has (names_of i) (length hs) m n t.names),
-      run_on_past h all i is s w v g.6 a r small,
-      subst (AreHanded h.records ks n) (sym (handed_behind h s i before)) handed,
+      named_on h s i x.named y.named g.5 (named_has (names_of i) (length x.handed.items) x.named y.named t.passed.names),
+      run_on_past l h all i is s b w v g.6 a r small,
+      handed_later l k h.records y.handed.items y.named (before ++ (behind h s i).assumed) t.grow (subst (AreHanded l h.records y.handed.items y.named) (sym (handed_behind h s i before)) handed),
     )
 
 -- the offset and the number of the next instruction are small
-pub stands_low : (h : Home) (before : List (ℕ × Captured)) (all : List Instr) (i : Instr) (is : List Instr) (w : Work) (hs : List kept_captured.Captured) (m : BTreeMap ℕ ℕ) (x : Whole) → bytes_of all < 2 ^ 32 → GoesOn h before all (i ∷ is) w hs m x → (w.place < 2 ^ 63) × (w.number < 2 ^ 63)
-stands_low h before all i is w hs m x short g =
-    let p = g.2.place_is in
+pub stands_low : (h : Home) (before : List (ℕ × Captured)) (all : List Instr) (i : Instr) (is : List Instr) (w : Work) (x : Shared) (p : Whole) → bytes_of all < 2 ^ 32 → GoesOn h before all (i ∷ is) w x p → (w.place < 2 ^ 63) × (w.number < 2 ^ 63)
+stands_low h before all i is w x p short g =
+    let at = g.2.place_is in
     let few = g.2.few_instructions in
     let count : g.0.place + (length_of i + bytes_of is) ≡ bytes_of all = g.3 in
-    (omega (arith, short, count, p), omega (arith, short, count, few))
+    (omega (arith, short, count, at), omega (arith, short, count, few))
 
-pub goes_on : (h : Home) (before : List (ℕ × Captured)) (all : List Instr) (i : Instr) (is : List Instr) (w v : Work) (hs ks : List kept_captured.Captured) (m n : BTreeMap ℕ ℕ) (x y : Whole) → home_in w.home ≡ h → bytes_of all < 2 ^ 32
-    → GoesOn h before all (i ∷ is) w hs m x → Steps i w v hs ks m n x y → GoesOn h before all is v ks n y
-goes_on h before all i is w v hs ks m n x y e short = subst (λ h. GoesOn h before all (i ∷ is) w hs m x → Steps i w v hs ks m n x y → GoesOn h before all is v ks n y) e (one_more before all i is w v hs ks m n x y short)
+pub goes_on : (h : Home) (before : List (ℕ × Captured)) (all : List Instr) (i : Instr) (is : List Instr) (w v : Work) (x y : Shared) (p q : Whole) → home_in w.home ≡ h → bytes_of all < 2 ^ 32 → GoesOn h before all (i ∷ is) w x p → Steps i w v x y p q → GoesOn h before all is v y q
+goes_on h before all i is w v x y p q e short = subst (λ h. GoesOn h before all (i ∷ is) w x p → Steps i w v x y p q → GoesOn h before all is v y q) e (one_more before all i is w v x y p q short)
 
-refused_at : (before : List (ℕ × Captured)) (all : List Instr) (i : Instr) (is : List Instr) (w : Work) (hs ks : List kept_captured.Captured) (m n : BTreeMap ℕ ℕ) (x : Whole) (r : Rule) → bytes_of all < 2 ^ 32
-    → GoesOn (home_in w.home) before all (i ∷ is) w hs m x → IsFirst (told w (was_named m) x i) (Some r)
-    → IsRan (home_in w.home).records ks n before (run_of judged (home_in w.home) any_clause (first_state (home_in w.home).self (captured_of before (home_in w.home).number)) all) (Some (w.place, r))
-refused_at before all i is w hs ks m n x r short g f j =
+refused_at : (before : List (ℕ × Captured)) (all : List Instr) (i : Instr) (is : List Instr) (w : Work) (x y : Shared) (p : Whole) (r : Rule) → bytes_of all < 2 ^ 32 → GoesOn (home_in w.home) before all (i ∷ is) w x p → ListsGrow x.lists y.lists
+    → IsFirst (told w y.lists (was_named x.named) p i) (Some r) → IsRan (home_in w.home).records y before (run_of judged (home_in w.home) any_clause (first_state (home_in w.home).self (captured_of before (home_in w.home).number)) all) (Some (w.place, r))
+refused_at before all i is w x y p r short g grow f j =
     let h = home_in w.home in
     let s = g.0 in
     let count : s.place + (length_of i + bytes_of is) ≡ bytes_of all = g.3 in
-    let p : w.place ≡ s.place = g.2.place_is in
-    let found = same_broken s w m x all i is g.2 g.6 short (omega (arith, short, count)) g.5 g.4 ∙ first_some (told w (was_named m) x i) r f j in
-    (g.1 ∙ ap (λ o. unless_broken o s.place (run_on (λ t. run_of judged h any_clause t is) (after h any_clause s i))) found ∙ ap (λ n. Broken n r) (sym p), omega (arith, short, count, p))
+    let at : w.place ≡ s.place = g.2.place_is in
+    let found = same_broken x.lists y.lists s w x.named p all i is grow g.2 g.6 short (omega (arith, short, count)) g.5 g.4 ∙ first_some (told w y.lists (was_named x.named) p i) r f j in
+    (g.1 ∙ ap (λ o. unless_broken o s.place (run_on (λ t. run_of judged h any_clause t is) (after h any_clause s i))) found ∙ ap (λ n. Broken n r) (sym at), omega (arith, short, count, at))
 
-pub refused : (h : Home) (before : List (ℕ × Captured)) (all : List Instr) (i : Instr) (is : List Instr) (w : Work) (hs ks : List kept_captured.Captured) (m n : BTreeMap ℕ ℕ) (x : Whole) (r : Rule) → home_in w.home ≡ h → bytes_of all < 2 ^ 32
-    → GoesOn h before all (i ∷ is) w hs m x → IsFirst (told w (was_named m) x i) (Some r) → IsRan h.records ks n before (run_of judged h any_clause (first_state h.self (captured_of before h.number)) all) (Some (w.place, r))
-refused h before all i is w hs ks m n x r e short =
-    subst (λ h. GoesOn h before all (i ∷ is) w hs m x → IsFirst (told w (was_named m) x i) (Some r) → IsRan h.records ks n before (run_of judged h any_clause (first_state h.self (captured_of before h.number)) all) (Some (w.place, r))) e
-    (refused_at before all i is w hs ks m n x r short)
+pub refused : (h : Home) (before : List (ℕ × Captured)) (all : List Instr) (i : Instr) (is : List Instr) (w : Work) (x y : Shared) (p : Whole) (r : Rule) → home_in w.home ≡ h → bytes_of all < 2 ^ 32 → GoesOn h before all (i ∷ is) w x p → ListsGrow x.lists y.lists
+    → IsFirst (told w y.lists (was_named x.named) p i) (Some r) → IsRan h.records y before (run_of judged h any_clause (first_state h.self (captured_of before h.number)) all) (Some (w.place, r))
+refused h before all i is w x y p r e short =
+    subst (λ h. GoesOn h before all (i ∷ is) w x p → ListsGrow x.lists y.lists → IsFirst (told w y.lists (was_named x.named) p i) (Some r) → IsRan h.records y before (run_of judged h any_clause (first_state h.self (captured_of before h.number)) all) (Some (w.place, r))) e
+    (refused_at before all i is w x y p r short)
 
 -- the end of the instructions, where the record is judged as a whole if there was none
 abbrev pub at_end : Option Rule → ℕ → Option (ℕ × Rule)
@@ -364,16 +387,20 @@ none_there false = refl
 whole_broken : (h : Home) (s : State) (x : Whole) → IsWhole h s x → broken_of judged h s [] ≡ first_broken (breaks (broken_whole x)) judged
 whole_broken h s x b =
     let t : Bool = nat_eq s.place 0 in
-    whole_at t (broken_by_record h s) ∙ sym (first_same (breaks (broken_whole x)) (λ r. t && broken_by_record h s r) b.register_is (none_there t) (none_there t) b.constant_is (none_there t) b.order_is b.block_is b.clause_is b.key_is)
+    whole_at t (broken_by_record h s) ∙ sym (first_same (breaks (broken_whole x)) (λ r. t && broken_by_record h s r) b.register_is (none_there t) (none_there t) b.constant_is (none_there t) (none_there t) b.order_is b.block_is b.clause_is b.key_is)
 
-pub ended : (h : Home) (before : List (ℕ × Captured)) (all : List Instr) (w : Work) (hs : List kept_captured.Captured) (m : BTreeMap ℕ ℕ) (x : Whole) (o : Option Rule) → bytes_of all < 2 ^ 32
-    → GoesOn h before all [] w hs m x → IsFirst (broken_whole x) o → IsRan h.records hs m before (run_of judged h any_clause (first_state h.self (captured_of before h.number)) all) (at_end o w.place)
-ended h before all w hs m x None short g f = (g.0, g.1 ∙ ap (λ o. unless_broken o g.0.place (Done g.0)) (whole_broken h g.0 x g.4 ∙ first_none (broken_whole x) f), g.7)
-ended h before all w hs m x (Some r) short g f = λ j.
+pub ended : (h : Home) (before : List (ℕ × Captured)) (all : List Instr) (w : Work) (x : Shared) (p : Whole) (o : Option Rule) → bytes_of all < 2 ^ 32
+    → GoesOn h before all [] w x p → IsFirst (broken_whole p) o → IsRan h.records x before (run_of judged h any_clause (first_state h.self (captured_of before h.number)) all) (at_end o w.place)
+ended h before all w x p None short g f = (g.0, g.1 ∙ ap (λ o. unless_broken o g.0.place (Done g.0)) (whole_broken h g.0 p g.4 ∙ first_none (broken_whole p) f), g.7)
+ended h before all w x p (Some r) short g f = λ j.
     let s = g.0 in
-    let p : w.place ≡ s.place = g.2.place_is in
+    let at : w.place ≡ s.place = g.2.place_is in
     let count : s.place + 0 ≡ bytes_of all = g.3 in
-    (g.1 ∙ ap (λ o. unless_broken o s.place (Done s)) (whole_broken h s x g.4 ∙ first_some (broken_whole x) r f j) ∙ ap (λ n. Broken n r) (sym p), omega (arith, short, count, p))
+    (g.1 ∙ ap (λ o. unless_broken o s.place (Done s)) (whole_broken h s p g.4 ∙ first_some (broken_whole p) r f j) ∙ ap (λ n. Broken n r) (sym at), omega (arith, short, count, at))
+
+pub handed_kept : (x y : Shared) (all : List Record) (before : List (ℕ × Captured)) → y.lists ≡ x.lists → y.handed ≡ x.handed → y.named ≡ x.named → HandedIn x all before → HandedIn y all before
+handed_kept x y all before a b c h =
+    subst (λ l. AreHanded l all y.handed.items y.named before) (sym a) (subst (λ v. AreHanded x.lists all v.items y.named before) (sym b) (subst (λ m. AreHanded x.lists all x.handed.items m before) (sym c) h))
 
 started_badly : (program : Bool) (wrong : Bool) (a b : Bool) → a ≡ b → (if program then wrong else not a) ≡ (if program then wrong else not b)
 started_badly p w a b e = ap (λ a. if p then w else not a) e
@@ -388,13 +415,15 @@ judged_first h s m x e names j = record {
   key_is = j.key_is ∙ ap (λ p. nat_eq p 0 && broken_by_record h s rule.Key) (sym e);
 }
 
-begins : (before : List (ℕ × Captured)) (w : Work) (hs : List kept_captured.Captured) (m : BTreeMap ℕ ℕ) (x : Whole) → slice_get w.home.records.now w.home.number ≡ Some w.home.record.now → AreHanded w.home.records.now hs m before → IsStarted hs m w
-    → AreNamedBefore w.home.number w.home.records.now m → IsJudgedWhole (home_in w.home) (was_named m) x → GoesOn (home_in w.home) before w.home.record.now.code.items w.home.record.now.code.items w hs m x
-begins before w hs m x there given b names j =
+begins : (before : List (ℕ × Captured)) (w : Work) (x : Shared) (p : Whole) → slice_get w.home.records.now w.home.number ≡ Some w.home.record.now → HandedIn x w.home.records.now before → IsStarted x.handed.items x.named w
+    → AreNamedBefore w.home.number w.home.records.now x.named → IsJudgedWhole (home_in w.home) (was_named x.named) p → GoesOn (home_in w.home) before w.home.record.now.code.items w.home.record.now.code.items w x p
+begins before w x p there given b names j =
+    let hs = x.handed.items in
+    let m = x.named in
     let r = w.home.record.now in
     let c = captured_of before w.home.number in
     let k = captured_in hs m w.home.number in
-    let few = few_captured w.home.records.now hs m before w.home.number r given there in (
+    let few = few_captured x.lists w.home.records.now hs m before w.home.number r given there in (
       first_state r c,
       refl,
       record {
@@ -406,22 +435,22 @@ begins before w hs m x there given b names j =
         terms_set = λ n. b.terms_set n ∙ sym (from_zero_has n r.captured);
         types_stand = subst (λ fs. IsStack SameType r.types w.types (type_heights (reverse fs)) (started c.types r.types ∷ [])) (sym b.frames_are)
             (stack_begins SameType r.captured_types r.types w.types (types_captured k) c.types (b.types_filled few.few_types) b.types_set few.types (started_length c.types r.types) (given.types_alike w.home.number));
-        terms_stand = subst (λ fs. IsStack SameTerm r.registers w.terms (term_heights (reverse fs)) (started c.terms r.registers ∷ [])) (sym b.frames_are)
-            (stack_begins SameTerm r.captured r.registers w.terms (terms_captured k) c.terms (b.terms_filled few.few_terms) b.terms_set few.terms (started_length c.terms r.registers) (given.terms_alike w.home.number));
+        terms_stand = subst (λ fs. IsStack (SameTerm x.lists) r.registers w.terms (term_heights (reverse fs)) (started c.terms r.registers ∷ [])) (sym b.frames_are)
+            (stack_begins (SameTerm x.lists) r.captured r.registers w.terms (terms_captured k) c.terms (b.terms_filled few.few_terms) b.terms_set few.terms (started_length c.terms r.registers) (given.terms_alike w.home.number));
         few_arguments = omega arith;
         few_instructions = let n = b.number_is in omega (arith, n);
         sides_are = ap sides_in b.frames_are;
         ends_are = subst (λ fs. AreEnds (reverse fs)) (sym b.frames_are) tt;
       },
       omega arith,
-      judged_first (home_in w.home) (first_state r c) m x refl names j,
+      judged_first (home_in w.home) (first_state r c) m p refl names j,
       λ n. names n ∙ ap (member n) (append_nil_sym (named_before w.home.number w.home.records.now)),
       record { run = []; parts = refl; length_is = refl; all_is = refl; count_is = let n = b.number_is in omega (arith, n); places_are = b.places_are },
-      subst (AreHanded w.home.records.now hs m) (append_nil_sym before) given,
+      subst (HandedIn x w.home.records.now) (append_nil_sym before) given,
     )
 
-pub begun : (h : Home) (before : List (ℕ × Captured)) (w : Work) (hs : List kept_captured.Captured) (m : BTreeMap ℕ ℕ) (x : Whole) → home_in w.home ≡ h → IsStarted hs m w → slice_get h.records h.number ≡ Some h.self → AreHanded h.records hs m before
-    → AreNamedBefore h.number h.records m → IsJudgedWhole h (was_named m) x → GoesOn h before h.self.code.items h.self.code.items w hs m x
-begun h before w hs m x e b =
-    subst (λ h. slice_get h.records h.number ≡ Some h.self → AreHanded h.records hs m before → AreNamedBefore h.number h.records m → IsJudgedWhole h (was_named m) x → GoesOn h before h.self.code.items h.self.code.items w hs m x) e
-    (λ there given. begins before w hs m x there given b)
+pub begun : (h : Home) (before : List (ℕ × Captured)) (w : Work) (x : Shared) (p : Whole) → home_in w.home ≡ h → IsStarted x.handed.items x.named w → slice_get h.records h.number ≡ Some h.self → HandedIn x h.records before
+    → AreNamedBefore h.number h.records x.named → IsJudgedWhole h (was_named x.named) p → GoesOn h before h.self.code.items h.self.code.items w x p
+begun h before w x p e b =
+    subst (λ h. slice_get h.records h.number ≡ Some h.self → HandedIn x h.records before → AreNamedBefore h.number h.records x.named → IsJudgedWhole h (was_named x.named) p → GoesOn h before h.self.code.items h.self.code.items w x p) e
+    (λ there given. begins before w x p there given b)

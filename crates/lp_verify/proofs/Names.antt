@@ -22,7 +22,7 @@ or_assoc false b c = refl
 some_same : {A : Type 0} (x y : A) → Some x ≡ Some y → x ≡ y
 some_same x y e = cc
 
-next_named : (all : List Record) (n : ℕ) (r : Record) (k : ℕ) → slice_get all n ≡ Some r → member k (named_before (suc n) all) ≡ (member k (named_before n all) || member k (names_in r.code.items))
+pub next_named : (all : List Record) (n : ℕ) (r : Record) (k : ℕ) → slice_get all n ≡ Some r → member k (named_before (suc n) all) ≡ (member k (named_before n all) || member k (names_in r.code.items))
 next_named [] n r k h = absurd (cc)
 next_named (q ∷ rs) zero r k h = member_append k (names_in q.code.items) [] ∙ or_false (member k (names_in q.code.items)) ∙ ap (λ (r : Record). member k (names_in r.code.items)) (some_same q r h)
 next_named (q ∷ rs) (suc n) r k h =

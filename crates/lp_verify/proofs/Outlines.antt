@@ -77,7 +77,7 @@ pub record Comes (h : Home) (s : State) (i : Instr) : Type 0 where
   pub sided : sides_of to.frames ≡ sides_acted i s.place (sides_of s.frames)
   pub stacked : Nests i s → stack_of to ≡ stack_made h s i
 
-any_clauses : (c : Captured) (ns : List ℕ) → (cs : Clauses) × (clauses_of_records any_clause ns c ≡ Some cs)
+pub any_clauses : (c : Captured) (ns : List ℕ) → (cs : Clauses) × (clauses_of_records any_clause ns c ≡ Some cs)
 any_clauses c [] = (no_clauses, refl)
 any_clauses c (n ∷ ns) =
     let more = any_clauses c ns in

@@ -7,19 +7,20 @@ use Rattle.lp_code.specs.declared.rule.Rule.{Rule}
 use Rattle.lp_code.specs.declared.rule.Rule.TheVariants as rule
 use Rattle.lp_code.specs.Length.{length_of}
 use Rattle.lp_code.specs.Symbolic.{Tables}
-use Rattle.lp_code.specs.Denote.{first_fault_of}
+use Rattle.lp_code.specs.Denote.{denote, first_fault_of}
 use Rattle.lp_verify.specs.declared.refusal.VerifyRefusal.{VerifyRefusal}
 use Rattle.lp_verify.specs.declared.refusal.VerifyRefusal.TheVariants as refusal
 
--- the rules on registers' numbers, on reading and setting them, on constants, on the order of instructions, on blocks, on assumed records and on the key
+-- the rules on registers' numbers, on reading and setting them, on constants, on loose indices, on the order of instructions, on blocks, on assumed records and on the key
 abbrev pub judged : List Rule
-judged = rule.Register ∷ rule.Unset ∷ rule.Set ∷ rule.Constant ∷ rule.Term ∷ rule.Order ∷ rule.Block ∷ rule.Clause ∷ rule.Key ∷ []
+judged = rule.Register ∷ rule.Unset ∷ rule.Set ∷ rule.Constant ∷ rule.Index ∷ rule.Term ∷ rule.Order ∷ rule.Block ∷ rule.Clause ∷ rule.Key ∷ []
 
 abbrev pub is_judged : Rule → Bool
 is_judged rule.Register = true
 is_judged rule.Unset = true
 is_judged rule.Set = true
 is_judged rule.Constant = true
+is_judged rule.Index = true
 is_judged rule.Term = true
 is_judged rule.Order = true
 is_judged rule.Block = true
@@ -36,8 +37,8 @@ bytes_of (i ∷ is) = length_of i + bytes_of is
 abbrev pub AreShort : List Record → Type 0
 AreShort rs = Each (λ (r : Record). bytes_of r.code.items < 2 ^ 32) rs
 
--- none of these rules is broken where code is accepted, and one that is told is the first one; want of memory says nothing
+-- none of these rules is broken where code is accepted; one that is told is the first one, and the code denotes nothing; want of memory says nothing
 abbrev pub IsTold : {A : Type 0} → Tables → List Record → Result A VerifyRefusal → Type 0
 IsTold t rs (Ok v) = first_fault_of judged t rs ≡ None
-IsTold t rs (Err (refusal.Invalid c at r)) = is_judged r ≡ true → first_fault_of judged t rs ≡ Some (record { record_number = c; at = at; rule = r })
+IsTold t rs (Err (refusal.Invalid c at r)) = is_judged r ≡ true → (first_fault_of judged t rs ≡ Some (record { record_number = c; at = at; rule = r })) × (denote t rs ≡ None)
 IsTold t rs (Err refusal.Memory) = Unit {0}

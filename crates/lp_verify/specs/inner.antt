@@ -2,7 +2,8 @@ pub mod Outline
 pub mod Keys
 pub mod Sides
 pub mod Stack
-pub mod Made
+pub mod Indices
 pub mod Handed
+pub mod Made
 pub mod Told
 pub mod At

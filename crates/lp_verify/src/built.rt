@@ -1,6 +1,6 @@
 // What is looked at in a term that stands in a register.
 ghost use Rattle.std.specs.Prelude.{◌≡◌};
-ghost use Rattle.lp_verify.specs.inner.Handed.{handed_head, handed_built};
+ghost use Rattle.lp_verify.specs.inner.Handed.{handed_head, handed_built, bare_built};
 
 use crate::loose::Loose;
 use lp_code::KeyRef;
@@ -39,7 +39,9 @@ fn handed_head<'a>(head: Head<'a>) -> Head<'a>
 
 impl<'a> Built<'a> {
     // A term without loose indices.
-    pub(crate) fn closed(of: TypeId, head: Head<'a>) -> Built<'a> {
+    pub(crate) fn closed(of: TypeId, head: Head<'a>) -> Built<'a>
+        ensures { result ≡ bare_built of head.entry }
+    {
         Built {
             of,
             loose: Loose::NONE,

@@ -4,7 +4,8 @@ ghost use Rattle.std.specs.Prelude.{◌≡◌, ◌<◌, ◌^◌, ◌∷◌, map,
 ghost use Rattle.lp_verify.specs.inner.Sides.{sides_in, sides_run, sides_settled, around, AreEnds};
 ghost use Rattle.lp_verify.specs.inner.Stack.{type_heights, term_heights, opens, leaves, turns_over, turning, IsTurned, IsSettled};
 ghost use Rattle.lp_verify.specs.inner.Outline.{body_behind};
-ghost use Rattle.lp_verify.specs.inner.Handed.{assumption_of, handed_built, IsHanded, IsHandedOn};
+ghost use Rattle.lp_verify.specs.inner.Handed.{assumption_of, handed_built, closed_built, IsHanded, IsHandedOn};
+ghost use Rattle.lp_verify.specs.inner.Made.{built_or};
 ghost use Rattle.lp_verify.specs.inner.At.{IsActed};
 
 use crate::blocks::{Block, Blocks};
@@ -199,9 +200,10 @@ impl<'a> Work<'a> {
         instr: &Instr,
         typed: Typed<'a>,
     ) -> Result<(), Memory>
-        ensures acted { OnOk result (IsActed instr.now self.old self.new) }
+        ensures acted { OnOk result (IsActed instr.now (built_or typed.entry (closed_built shared.new.types.proposition)) self.old self.new) }
         ensures handed { OnOk result (IsHandedOn (assumption_of instr.now) self.old.types self.old.terms shared.old.handed.items shared.new.handed.items) }
         ensures named { shared.new.named ≡ shared.old.named }
+        ensures lists { shared.new.lists ≡ shared.old.lists }
     {
         let of = self.built_type(&mut shared.types, instr)?;
         self.hand_on(shared.alloc, &mut shared.handed, instr)?;

@@ -15,6 +15,8 @@ mod head;
 mod arguments;
 // The key of the head's first argument.
 mod keys;
+// Where code denotes clauses.
+mod laws;
 // Loose indices with their types.
 mod loose;
 // The registers that an instruction reads and sets.
@@ -39,5 +41,6 @@ mod judging;
 mod whole;
 
 pub use judging::{Verified, verify, verify_object};
+pub use laws::denotes_exactly;
 pub use lp_code::Rule;
 pub use refusal::VerifyRefusal;

@@ -7,13 +7,14 @@ ghost use Rattle.lp_code.specs.Rules.{names_in};
 ghost use Rattle.lp_code.specs.States.{Captured as Start};
 ghost use Rattle.lp_verify.specs.Held.{was_set};
 ghost use Rattle.lp_verify.specs.inner.Stack.{IsFilled};
-ghost use Rattle.lp_verify.specs.inner.Handed.{captured_in, types_captured, terms_captured, AreHanded};
+ghost use Rattle.lp_verify.specs.inner.Indices.{ListsGrow};
+ghost use Rattle.lp_verify.specs.inner.Handed.{captured_in, types_captured, terms_captured};
 ghost use Rattle.lp_code.specs.Denote.{run_of, any_clause, first_state, captured_of, first_key, key_is, has_right_key};
 ghost use Rattle.lp_code.specs.Groups.{looked_key};
 ghost use Rattle.lp_verify.specs.inner.Keys.{IsKeyOf};
 ghost use Rattle.lp_verify.specs.Judged.{judged, bytes_of};
 ghost use Rattle.lp_verify.specs.inner.Told.{told, IsFirst};
-ghost use Rattle.lp_verify.specs.inner.At.{home_in, IsStarted, AreNamedBefore, IsRan, IsStepped};
+ghost use Rattle.lp_verify.specs.inner.At.{home_in, IsStarted, AreNamedBefore, HandedIn, IsRan, IsStepped};
 
 use crate::arguments::Takings;
 use crate::blocks::{Blocks, Places};
@@ -172,6 +173,7 @@ impl<'a> Work<'a> {
         ensures home { IfOk result (λ work. work.home ≡ home.entry) }
         ensures named { shared.new.named ≡ shared.old.named }
         ensures handed { shared.new.handed ≡ shared.old.handed }
+        ensures lists { shared.new.lists ≡ shared.old.lists }
         ensures started { IfOk result (λ work. IsStarted shared.old.handed.items shared.old.named work) }
     {
         let alloc = shared.alloc;
@@ -207,7 +209,7 @@ impl<'a> Work<'a> {
         instr: &'a Instr,
     ) -> Result<Option<Rule>, Memory>
         requires { Fits instr.now }
-        ensures { IfOk result (λ found. (self.old.place < 2 ^ 63 → self.old.number < 2 ^ 63 → IsFirst (told self.old (was_named shared.old.named) whole instr.now) found) × IsStepped instr.now shared.old.handed.items shared.new.handed.items shared.old.named shared.new.named self.old self.new found) }
+        ensures { IfOk result (λ found. (self.old.place < 2 ^ 63 → self.old.number < 2 ^ 63 → IsFirst (told self.old shared.new.lists (was_named shared.old.named) whole instr.now) found) × ListsGrow shared.old.lists shared.new.lists × IsStepped instr.now shared.old shared.new self.old self.new found) }
     {
         let typed = match self.judge(shared, whole, instr)? {
             Ok(typed) => typed,
@@ -232,8 +234,8 @@ pub(crate) fn judge_record<'a>(
     home: Home<'a>,
 ) -> Result<Option<(u64, Rule)>, Memory>
     requires { All Fits home.record.now.code.items }
-    ensures { IfOk result (λ found. ((before : List (ℕ × Start)) → slice_get home.entry.records.now home.entry.number ≡ Some home.entry.record.now → AreHanded home.entry.records.now shared.old.handed.items shared.old.named before → AreNamedBefore home.entry.number home.entry.records.now shared.old.named → bytes_of home.entry.record.now.code.items < 2 ^ 32
-        → IsRan home.entry.records.now shared.new.handed.items shared.new.named before (run_of judged (home_in home.entry) any_clause (first_state home.entry.record.now (captured_of before home.entry.number)) home.entry.record.now.code.items) found)
+    ensures { IfOk result (λ found. ((before : List (ℕ × Start)) → slice_get home.entry.records.now home.entry.number ≡ Some home.entry.record.now → HandedIn shared.old home.entry.records.now before → AreNamedBefore home.entry.number home.entry.records.now shared.old.named → bytes_of home.entry.record.now.code.items < 2 ^ 32
+        → IsRan home.entry.records.now shared.new before (run_of judged (home_in home.entry) any_clause (first_state home.entry.record.now (captured_of before home.entry.number)) home.entry.record.now.code.items) found)
         × (found ≡ None → HasNamed (names_in home.entry.record.now.code.items) shared.old.named shared.new.named)) }
 {
     let mut work = Work::start(shared, home)?;

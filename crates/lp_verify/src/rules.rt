@@ -3,7 +3,7 @@
 ghost use Rattle.std.specs.Ordering.{nat_cmp};
 ghost use Rattle.std.specs.BTreeMap.{get};
 ghost use Rattle.lp_verify.specs.inner.Sides.{sides_in, nests_badly};
-ghost use Rattle.std.specs.Prelude.{◌≡◌, ◌<◌, ◌^◌, ◌+◌, ◌||◌, ◌∷◌, [], ◌++◌, IfOk, MatchOption, Some, None, true, false, length, nat_le, nat_lt, nat_eq, ◌&&◌, slice_get, ℕ, Bool};
+ghost use Rattle.std.specs.Prelude.{◌≡◌, ◌<◌, ◌^◌, ◌+◌, ◌||◌, ◌∷◌, [], ◌++◌, IfOk, OnOk, MatchOption, Some, None, true, false, length, nat_le, nat_lt, nat_eq, ◌&&◌, slice_get, ℕ, Bool};
 ghost use Rattle.std.specs.List.{list_any};
 ghost use Rattle.lp_code.specs.Operands.{types_read, terms_read, type_set, term_set};
 ghost use Rattle.lp_code.specs.Rules.{breaks_term, is_count, is_no_term, starts_with_as_many, is_assumed_record, names_of};
@@ -11,8 +11,10 @@ ghost use Rattle.lp_verify.specs.Listed.{listed};
 ghost use Rattle.lp_verify.specs.Held.{was_set, is_lacking};
 ghost use Rattle.lp_verify.specs.Named.{was_named};
 ghost use Rattle.lp_verify.specs.inner.Handed.{IsNamed};
+ghost use Rattle.lp_verify.specs.inner.Indices.{ListsGrow};
+ghost use Rattle.lp_verify.specs.inner.Made.{IsJudged};
 ghost use Rattle.lp_verify.specs.Scheme.{tables_in};
-ghost use Rattle.lp_verify.specs.inner.Told.{reaches_past, sets_again, has_wrong_count, is_off, is_out_of_order, is_fine, are_fine, names_badly, breaks_blocks, told, ArePassed, IsFirst, rule_of};
+ghost use Rattle.lp_verify.specs.inner.Told.{reaches_past, is_loose, reads_loose, sets_again, has_wrong_count, is_off, is_out_of_order, is_fine, are_fine, names_badly, breaks_blocks, told, ArePassed, IsFirst, rule_of};
 
 use crate::blocks::{is_all, is_assumption, is_left_to, is_negation};
 use crate::built::Head;
@@ -138,14 +140,31 @@ impl<'a> Work<'a> {
         whole.constant || self.has_wrong_count(instr)
     }
 
-    fn breaks_index(&self, shared: &Shared<'a>, instr: &Instr, terms: &[u16]) -> bool {
+    fn is_loose(&self, shared: &Shared<'a>, register: u16) -> bool
+        ensures { result ≡ is_loose shared.now.lists self.now.terms register }
+    {
+        let term = self.term_in(&shared.types, register);
+        !shared.lists.is_closed(term.loose)
+    }
+
+    // Whether an index is loose in one of the registers.
+    fn are_loose(&self, shared: &Shared<'a>, registers: &[u16]) -> bool
+        ensures { result ≡ list_any (is_loose shared.now.lists self.now.terms) registers.now }
+    {
+        for register in registers {
+            if self.is_loose(shared, *register) {
+                return true;
+            }
+        }
+        false
+    }
+
+    fn breaks_index(&self, shared: &Shared<'a>, instr: &Instr, terms: &[u16]) -> bool
+        ensures { terms.now ≡ terms_read instr.now → result ≡ reads_loose shared.now.lists self.now.terms instr.now }
+    {
         match instr {
             Instr::PutAbs(_, _, _) | Instr::PutApp(_, _, _) | Instr::Assume(_, _, _) => false,
-            _ => terms.iter().any(|register| {
-                !shared
-                    .lists
-                    .is_closed(self.term_in(&shared.types, *register).loose)
-            }),
+            _ => self.are_loose(shared, terms),
         }
     }
 
@@ -344,11 +363,13 @@ impl<'a> Work<'a> {
         instr: &Instr,
         terms: &[u16],
     ) -> Result<Option<Rule>, Memory>
-        ensures first { self.now.place < 2 ^ 63 → self.now.number < 2 ^ 63 → ArePassed (told self.now (was_named shared.old.named) whole instr.now) → IfOk result (λ found. IsFirst (told self.now (was_named shared.old.named) whole instr.now) found) }
+        ensures first { self.now.place < 2 ^ 63 → self.now.number < 2 ^ 63 → terms.now ≡ terms_read instr.now → ArePassed (told self.now shared.old.lists (was_named shared.old.named) whole instr.now) → IfOk result (λ found. IsFirst (told self.now shared.old.lists (was_named shared.old.named) whole instr.now) found) }
         ensures named { IfOk result (λ found. found ≡ None → IsNamed (names_of instr.now) (length shared.old.handed.items) shared.old.named shared.new.named) }
         ensures handed { shared.new.handed ≡ shared.old.handed }
+        ensures lists { shared.new.lists ≡ shared.old.lists }
     {
-        if self.breaks_index(shared, instr, terms) {
+        let index = self.breaks_index(shared, instr, terms);
+        if index {
             return Ok(Some(Rule::Index));
         }
         let term = breaks_term(instr);
@@ -386,7 +407,7 @@ impl<'a> Work<'a> {
         types: &[u16],
         terms: &[u16],
     ) -> Option<Rule>
-        ensures { types.now ≡ types_read instr.now → terms.now ≡ terms_read instr.now → MatchOption result (ArePassed (told self.now (was_named shared.now.named) whole instr.now)) (λ rule. IsFirst (told self.now (was_named shared.now.named) whole instr.now) (Some rule)) }
+        ensures { types.now ≡ types_read instr.now → terms.now ≡ terms_read instr.now → MatchOption result (ArePassed (told self.now shared.now.lists (was_named shared.now.named) whole instr.now)) (λ rule. IsFirst (told self.now shared.now.lists (was_named shared.now.named) whole instr.now) (Some rule)) }
     {
         let register = self.breaks_register(whole, instr, types, terms);
         if register {
@@ -414,8 +435,10 @@ impl<'a> Work<'a> {
         whole: Whole,
         instr: &'a Instr,
     ) -> Result<Result<Typed<'a>, Rule>, Memory>
-        ensures found { IfOk result (λ found. (self.now.place < 2 ^ 63 → self.now.number < 2 ^ 63 → IsFirst (told self.now (was_named shared.old.named) whole instr.now) (rule_of found)) × (rule_of found ≡ None → IsNamed (names_of instr.now) (length shared.old.handed.items) shared.old.named shared.new.named)) }
+        ensures found { IfOk result (λ found. (self.now.place < 2 ^ 63 → self.now.number < 2 ^ 63 → IsFirst (told self.now shared.new.lists (was_named shared.old.named) whole instr.now) (rule_of found)) × (rule_of found ≡ None → IsNamed (names_of instr.now) (length shared.old.handed.items) shared.old.named shared.new.named)) }
         ensures handed { shared.new.handed ≡ shared.old.handed }
+        ensures made { IfOk result (λ found. IfOk found (IsJudged shared.old.lists shared.new.lists self.now.terms instr.now)) }
+        ensures grow { OnOk result (ListsGrow shared.old.lists shared.new.lists) }
     {
         let types = types_read(shared.alloc, instr)?;
         let terms = terms_read(shared.alloc, instr)?;
@@ -424,7 +447,7 @@ impl<'a> Work<'a> {
             return Ok(Err(rule));
         }
         let typed = self.typed(&mut shared.types, &mut shared.lists, instr)?;
-        if matches!(typed, Typed::Ill) {
+        if typed.is_ill() {
             return Ok(Err(Rule::Typing));
         }
         match self.broken_behind(shared, whole, instr, terms.as_slice())? {

@@ -1,5 +1,15 @@
 // What an instruction builds, where it is well typed.
 
+ghost use Rattle.std.specs.Prelude.{◌≡◌, List, IfOk, OnOk, IfSome, Option, false, unwrap_or};
+ghost use Rattle.std.specs.List.{list_any};
+ghost use Rattle.lp_calculus.specs.Types.{Ty};
+ghost use Rattle.lp_code.specs.Symbolic.{Built as Put, term_in, terms_in, abstraction_of, application_of, all_joined};
+ghost use Rattle.lp_code.specs.States.{State};
+ghost use Rattle.lp_verify.specs.Held.{value_in, is_lacking};
+ghost use Rattle.lp_verify.specs.inner.Indices.{ListsGrow, StandFor};
+ghost use Rattle.lp_verify.specs.inner.Handed.{SameTerm, Alike, IsSame, closed_built};
+ghost use Rattle.lp_verify.specs.inner.Made.{IsBare, IsTermMade, IsMadeBy, is_ill, built_or};
+
 use crate::built::{Built, Head};
 use crate::loose::{Lists, Loose};
 use crate::record::Work;
@@ -18,12 +28,25 @@ pub(crate) enum Typed<'a> {
 }
 
 impl<'a> Typed<'a> {
-    fn fine_where(holds: bool) -> Typed<'a> {
+    pub(crate) fn is_ill(self) -> bool
+        ensures { result ≡ is_ill self.entry }
+    {
+        match self {
+            Typed::Ill => true,
+            _ => false,
+        }
+    }
+
+    fn fine_where(holds: bool) -> Typed<'a>
+        ensures { IsBare result }
+    {
         if holds { Typed::Fine } else { Typed::Ill }
     }
 
     // The term, or another one where there is none.
-    pub(crate) fn built(self, other: Built<'a>) -> Built<'a> {
+    pub(crate) fn built(self, other: Built<'a>) -> Built<'a>
+        ensures { result ≡ built_or self.entry other.entry }
+    {
         match self {
             Typed::Built(built) => built,
             _ => other,
@@ -49,7 +72,10 @@ fn all_joined(
     lists: &mut Lists,
     first: Loose,
     others: &[Built<'_>],
-) -> Result<Option<Loose>, Memory> {
+) -> Result<Option<Loose>, Memory>
+    ensures grow { OnOk result (ListsGrow lists.old lists.new) }
+    ensures joined { IfOk result (λ found. IfSome found (λ loose. (ts : List (Option Ty)) (bs : List Put) → StandFor lists.old first ts → Alike (SameTerm lists.old) others.now bs → StandFor lists.new loose (all_joined ts bs))) }
+{
     let mut loose = first;
     for other in others {
         match lists.joined(loose, other.loose)? {
@@ -58,6 +84,14 @@ fn all_joined(
         }
     }
     Ok(Some(loose))
+}
+
+// Whether there is a type, and it is another one.
+fn is_other(found: Option<TypeId>, of: TypeId) -> bool {
+    match found {
+        Some(found) => found != of,
+        None => false,
+    }
 }
 
 impl<'a> Work<'a> {
@@ -73,7 +107,9 @@ impl<'a> Work<'a> {
         }
     }
 
-    pub(crate) fn term_in(&self, types: &Types, register: u16) -> Built<'a> {
+    pub(crate) fn term_in(&self, types: &Types, register: u16) -> Built<'a>
+        ensures { result ≡ unwrap_or (value_in self.now.terms register) (closed_built types.now.proposition) }
+    {
         match self.terms.get(register) {
             Some(built) => built,
             None => Built::closed(types.proposition, Head::Other),
@@ -103,17 +139,21 @@ impl<'a> Work<'a> {
         lists: &Lists,
         body: u16,
         of: u16,
-    ) -> Result<Typed<'a>, Memory> {
+    ) -> Result<Typed<'a>, Memory>
+        ensures { IfOk result (λ typed. (s : State) (T : Ty) → IsSame (SameTerm lists.now) self.now.terms s.now.terms → IsTermMade lists.now (abstraction_of (term_in s.now body) T) typed) }
+    {
         let body = self.term_in(types, body);
         let from = self.type_in(types, of);
-        match lists.innermost(body.loose) {
-            Some(found) if found != from => Ok(Typed::Ill),
-            _ => Ok(Typed::Built(Built {
-                of: types.arrow(from, body.of)?,
-                loose: lists.outer(body.loose),
-                head: Head::Other,
-            })),
+        if is_other(lists.innermost(body.loose), from) {
+            return Ok(Typed::Ill);
         }
+        let of = types.arrow(from, body.of)?;
+        let loose = lists.outer(body.loose);
+        Ok(Typed::Built(Built {
+            of,
+            loose,
+            head: Head::Other,
+        }))
     }
 
     fn application(
@@ -122,7 +162,10 @@ impl<'a> Work<'a> {
         lists: &mut Lists,
         function: u16,
         arguments: &[u16],
-    ) -> Result<Typed<'a>, Memory> {
+    ) -> Result<Typed<'a>, Memory>
+        ensures grow { OnOk result (ListsGrow lists.old lists.new) }
+        ensures made { IfOk result (λ typed. (s : State) → IsSame (SameTerm lists.old) self.now.terms s.now.terms → list_any (is_lacking self.now.terms) arguments.now ≡ false → IsTermMade lists.new (application_of (term_in s.now function) (terms_in s.now arguments.now)) typed) }
+    {
         let function = self.term_in(types, function);
         let arguments = self.terms.all(types.alloc, arguments)?;
         let Some(of) = applied_type(types, function.of, arguments.as_slice()) else {
@@ -142,7 +185,9 @@ impl<'a> Work<'a> {
     }
 
     // A variable of the type in a register.
-    fn variable(&self, types: &Types, of: u16, head: Head<'a>) -> Typed<'a> {
+    fn variable(&self, types: &Types, of: u16, head: Head<'a>) -> Typed<'a>
+        ensures { IsBare result }
+    {
         Typed::Built(Built::closed(self.type_in(types, of), head))
     }
 
@@ -152,7 +197,10 @@ impl<'a> Work<'a> {
         types: &mut Types,
         lists: &mut Lists,
         instr: &'a Instr,
-    ) -> Result<Typed<'a>, Memory> {
+    ) -> Result<Typed<'a>, Memory>
+        ensures grow { OnOk result (ListsGrow lists.old lists.new) }
+        ensures made { IfOk result (IsMadeBy lists.old lists.new self.now.terms instr.now) }
+    {
         match instr {
             Instr::New(_, of) => Ok(self.variable(types, *of, Head::Own)),
             Instr::Sigma(_, of) => Ok(self.variable(types, *of, Head::Other)),
@@ -188,12 +236,16 @@ impl<'a> Work<'a> {
     }
 
     // Whether the head's argument of this number has the type.
-    fn is_argument(&self, types: &Types, number: u8, of: TypeId) -> Typed<'a> {
+    fn is_argument(&self, types: &Types, number: u8, of: TypeId) -> Typed<'a>
+        ensures { IsBare result }
+    {
         Typed::fine_where(self.head.argument_type(types, number) == Some(of))
     }
 
     // Whether both registers have the type.
-    fn have_type(&self, types: &Types, left: u16, right: u16, of: TypeId) -> Typed<'a> {
+    fn have_type(&self, types: &Types, left: u16, right: u16, of: TypeId) -> Typed<'a>
+        ensures { IsBare result }
+    {
         Typed::fine_where(self.term_in(types, left).of == of && self.term_in(types, right).of == of)
     }
 
@@ -203,7 +255,10 @@ impl<'a> Work<'a> {
         types: &mut Types,
         lists: &mut Lists,
         instr: &'a Instr,
-    ) -> Result<Typed<'a>, Memory> {
+    ) -> Result<Typed<'a>, Memory>
+        ensures grow { OnOk result (ListsGrow lists.old lists.new) }
+        ensures made { IfOk result (IsMadeBy lists.old lists.new self.now.terms instr.now) }
+    {
         match instr {
             Instr::GetVar(number, _) => match self.head.argument_type(types, *number) {
                 Some(of) => Ok(Typed::Built(Built::closed(of, Head::Own))),
@@ -229,7 +284,10 @@ impl<'a> Work<'a> {
         types: &mut Types,
         lists: &mut Lists,
         instr: &'a Instr,
-    ) -> Result<Typed<'a>, Memory> {
+    ) -> Result<Typed<'a>, Memory>
+        ensures grow { OnOk result (ListsGrow lists.old lists.new) }
+        ensures made { IfOk result (IsMadeBy lists.old lists.new self.now.terms instr.now) }
+    {
         match instr {
             Instr::Call(constant, arguments, terms) => {
                 let of = self.constant_type(types, *constant, arguments.as_slice())?;

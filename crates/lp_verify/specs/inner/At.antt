@@ -11,7 +11,11 @@ use Rattle.lp_code.specs.Rules.{named_before, names_of, names_in}
 use Rattle.lp_code.specs.Symbolic.{Tables}
 use Rattle.lp_code.specs.States.{State, Home, Captured, member}
 use Rattle.lp_code.specs.Denote.{Ran, Done, Broken, broken_by_record, run_of, any_clause, first_state, captured_of, fault_from, first_fault_of, head_passes, is_known_head, has_neck, ends_with_proceed, has_right_key}
+use Rattle.lp_term.specs.declared.node.TypeId.{TypeId}
+use Rattle.lp_verify.specs.declared.built.Built as kept_built
+use Rattle.lp_verify.specs.declared.loose.Lists.{Lists}
 use Rattle.lp_verify.specs.declared.record.Work.{Work}
+use Rattle.lp_verify.specs.declared.record.Shared.{Shared}
 use Rattle.lp_verify.specs.declared.record.Home as code_home
 use Rattle.lp_verify.specs.declared.whole.Whole.{Whole}
 use Rattle.lp_verify.specs.Held.{was_set}
@@ -22,12 +26,13 @@ use Rattle.lp_verify.specs.inner.Sides.{sides_in, sides_of, sides_run, sides_set
 use Rattle.lp_verify.specs.declared.record.Captured as kept_captured
 use Rattle.lp_verify.specs.inner.Stack.{type_heights, term_heights, stack_of, types_in_stack, terms_in_stack, IsStack, IsFilled, IsStacked, IsStackRun}
 use Rattle.lp_verify.specs.inner.Handed.{SameType, SameTerm, captured_in, types_captured, terms_captured, IsNamed, assumption_of, IsHandedOn, AreHanded}
+use Rattle.lp_verify.specs.inner.Made.{IsPutBy}
 use Rattle.lp_verify.specs.inner.Outline.{body_behind, types_behind, arguments_behind}
 
 abbrev pub home_in : code_home.Home → Home
 home_in h = record { tables = tables_in h.tables.now; records = h.records.now; number = h.number; self = h.record.now }
 
-pub record IsAt (w : Work) (s : State) : Type 0 where
+pub record IsAt (l : Lists) (w : Work) (s : State) : Type 0 where
   pub place_is : w.place ≡ s.place
   pub body_is : w.in_body ≡ s.in_body
   pub types_are : length w.head.types.items ≡ length s.head_types
@@ -35,14 +40,14 @@ pub record IsAt (w : Work) (s : State) : Type 0 where
   pub types_set : (r : ℕ) → was_set w.types r ≡ member r s.types_set
   pub terms_set : (r : ℕ) → was_set w.terms r ≡ member r s.terms_set
   pub types_stand : IsStack SameType w.home.record.now.types w.types (type_heights (reverse w.blocks.frames.items)) (types_in_stack (stack_of s))
-  pub terms_stand : IsStack SameTerm w.home.record.now.registers w.terms (term_heights (reverse w.blocks.frames.items)) (terms_in_stack (stack_of s))
+  pub terms_stand : IsStack (SameTerm l) w.home.record.now.registers w.terms (term_heights (reverse w.blocks.frames.items)) (terms_in_stack (stack_of s))
   pub few_arguments : length s.head_arguments ≤ s.place
   pub few_instructions : w.number ≤ s.place
   pub sides_are : sides_in w.blocks.frames.items ≡ sides_of s.frames
   pub ends_are : AreEnds (reverse w.blocks.frames.items)
 
--- an instruction was run
-pub record IsRun (i : Instr) (old new : Work) : Type 0 where
+-- an instruction was run, which puts this term into its register
+pub record IsRun (i : Instr) (v : kept_built.Built) (old new : Work) : Type 0 where
   pub home_stays : new.home ≡ old.home
   pub places_stay : new.places ≡ old.places
   pub place_moves : old.place + length_of i < 2 ^ 64 → new.place ≡ old.place + length_of i
@@ -52,11 +57,11 @@ pub record IsRun (i : Instr) (old new : Work) : Type 0 where
   pub body_is : new.in_body ≡ body_behind i old.in_body
   pub types_are : length new.head.types.items ≡ types_behind i (length old.head.types.items)
   pub arguments_are : old.head.arguments + 1 < 2 ^ 64 → new.head.arguments ≡ arguments_behind i old.head.arguments
-  pub types_run : old.place + length_of i < 2 ^ 63 → IsStackRun i (type_set i) (old.place + length_of i) (sides_run i old.place (sides_in old.blocks.frames.items)) (type_heights (reverse old.blocks.frames.items)) old.types (type_heights (reverse new.blocks.frames.items)) new.types
-  pub terms_run : old.place + length_of i < 2 ^ 63 → IsStackRun i (term_set i) (old.place + length_of i) (sides_run i old.place (sides_in old.blocks.frames.items)) (term_heights (reverse old.blocks.frames.items)) old.terms (term_heights (reverse new.blocks.frames.items)) new.terms
+  pub types_run : old.place + length_of i < 2 ^ 63 → (T : TypeId) × IsStackRun i (type_set i) T (old.place + length_of i) (sides_run i old.place (sides_in old.blocks.frames.items)) (type_heights (reverse old.blocks.frames.items)) old.types (type_heights (reverse new.blocks.frames.items)) new.types
+  pub terms_run : old.place + length_of i < 2 ^ 63 → IsStackRun i (term_set i) v (old.place + length_of i) (sides_run i old.place (sides_in old.blocks.frames.items)) (term_heights (reverse old.blocks.frames.items)) old.terms (term_heights (reverse new.blocks.frames.items)) new.terms
 
 -- the same, before the instruction is passed
-pub record IsActed (i : Instr) (old new : Work) : Type 0 where
+pub record IsActed (i : Instr) (v : kept_built.Built) (old new : Work) : Type 0 where
   pub home_stays : new.home ≡ old.home
   pub places_stay : new.places ≡ old.places
   pub place_stays : new.place ≡ old.place
@@ -66,13 +71,24 @@ pub record IsActed (i : Instr) (old new : Work) : Type 0 where
   pub body_is : new.in_body ≡ body_behind i old.in_body
   pub types_are : length new.head.types.items ≡ types_behind i (length old.head.types.items)
   pub arguments_are : old.head.arguments + 1 < 2 ^ 64 → new.head.arguments ≡ arguments_behind i old.head.arguments
-  pub types_act : IsStacked i (type_set i) (type_heights (reverse old.blocks.frames.items)) old.types (type_heights (reverse new.blocks.frames.items)) new.types
-  pub terms_act : IsStacked i (term_set i) (term_heights (reverse old.blocks.frames.items)) old.terms (term_heights (reverse new.blocks.frames.items)) new.terms
+  pub types_act : (T : TypeId) × IsStacked i (type_set i) T (type_heights (reverse old.blocks.frames.items)) old.types (type_heights (reverse new.blocks.frames.items)) new.types
+  pub terms_act : IsStacked i (term_set i) v (term_heights (reverse old.blocks.frames.items)) old.terms (term_heights (reverse new.blocks.frames.items)) new.terms
 
 -- an instruction was run, and named its records and handed on what they start with, or a rule is told at it
-abbrev pub IsStepped : Instr → (handed more : List kept_captured.Captured) → (named names : BTreeMap ℕ ℕ) → (old new : Work) → Option Rule → Type 0
-IsStepped i hs ks m n old new None = IsRun i old new × IsNamed (names_of i) (length hs) m n × IsHandedOn (assumption_of i) old.types old.terms hs ks
-IsStepped i hs ks m n old new (Some r) = new.place ≡ old.place
+pub record IsPassed (i : Instr) (x y : Shared) (old new : Work) : Type 0 where
+  pub value : kept_built.Built
+  pub runs : IsRun i value old new
+  pub puts : IsPutBy x.lists y.lists old.terms i value
+  pub names : IsNamed (names_of i) (length x.handed.items) x.named y.named
+  pub hands : IsHandedOn (assumption_of i) old.types old.terms x.handed.items y.handed.items
+
+abbrev pub IsStepped : Instr → (x y : Shared) → (old new : Work) → Option Rule → Type 0
+IsStepped i x y old new None = IsPassed i x y old new
+IsStepped i x y old new (Some r) = new.place ≡ old.place
+
+-- what is kept for the records is what was handed to them
+abbrev pub HandedIn : Shared → List Record → List (ℕ × Captured) → Type 0
+HandedIn x all handed = AreHanded x.lists all x.handed.items x.named handed
 
 -- a record of the program starts with something, or an assumed one was not named before
 abbrev pub starts_badly : Home → (named : ℕ → Bool) → Bool
@@ -115,9 +131,9 @@ abbrev pub IsNoWhole : Whole → Type 0
 IsNoWhole x = (x.register ≡ false) × (x.constant ≡ false) × (x.order ≡ false) × (x.block ≡ false) × (x.clause ≡ false) × (x.key ≡ false)
 
 -- what is told of a run, and what is handed on where it ends
-abbrev pub IsRan : List Record → List kept_captured.Captured → BTreeMap ℕ ℕ → (before : List (ℕ × Captured)) → Ran → Option (ℕ × Rule) → Type 0
-IsRan all hs m before ran None = (s : State) × (ran ≡ Done s) × AreHanded all hs m (before ++ s.assumed)
-IsRan all hs m before ran (Some (at, r)) = is_judged r ≡ true → (ran ≡ Broken at r) × (at < 2 ^ 32)
+abbrev pub IsRan : List Record → Shared → (before : List (ℕ × Captured)) → Ran → Option (ℕ × Rule) → Type 0
+IsRan all x before ran None = (s : State) × (ran ≡ Done s) × HandedIn x all (before ++ s.assumed)
+IsRan all x before ran (Some (at, r)) = is_judged r ≡ true → (ran ≡ Broken at r) × (at < 2 ^ 32)
 
 -- those of the records before the one of a number
 abbrev pub AreNamedBefore : (number : ℕ) → List Record → BTreeMap ℕ ℕ → Type 0
@@ -141,11 +157,11 @@ pub record Past (all left : List Instr) (s : State) (w : Work) : Type 0 where
   pub count_is : w.number + length left ≡ length all
   pub places_are : HasPlaces all w.places.jumps
 
-abbrev pub GoesOn : Home → (before : List (ℕ × Captured)) → (all left : List Instr) → Work → List kept_captured.Captured → BTreeMap ℕ ℕ → Whole → Type 0
-GoesOn h before all left w hs m x =
-    (s : State) × (run_of judged h any_clause (first_state h.self (captured_of before h.number)) all ≡ run_of judged h any_clause s left) × IsAt w s × (s.place + bytes_of left ≡ bytes_of all) × IsWhole h s x × NamedAt h s m × Past all left s w
-    × AreHanded h.records hs m (before ++ s.assumed)
+abbrev pub GoesOn : Home → (before : List (ℕ × Captured)) → (all left : List Instr) → Work → Shared → Whole → Type 0
+GoesOn h before all left w x whole =
+    (s : State) × (run_of judged h any_clause (first_state h.self (captured_of before h.number)) all ≡ run_of judged h any_clause s left) × IsAt x.lists w s × (s.place + bytes_of left ≡ bytes_of all) × IsWhole h s whole × NamedAt h s x.named × Past all left s w
+    × HandedIn x h.records (before ++ s.assumed)
 
 -- the records from a number on are left: the first fault is theirs, where this was handed to them
-abbrev pub FaultsGoOn : Tables → (all : List Record) → List kept_captured.Captured → BTreeMap ℕ ℕ → (n : ℕ) → (left : List Record) → Type 0
-FaultsGoOn t all hs m n left = (handed : List (ℕ × Captured)) × (first_fault_of judged t all ≡ fault_from judged t all handed n left) × AreHanded all hs m handed
+abbrev pub FaultsGoOn : Tables → (all : List Record) → Shared → (n : ℕ) → (left : List Record) → Type 0
+FaultsGoOn t all x n left = (handed : List (ℕ × Captured)) × (first_fault_of judged t all ≡ fault_from judged t all handed n left) × HandedIn x all handed

@@ -1,5 +1,5 @@
 -- What earlier records hand to those that they assume: as it is kept, by the number under which the record was named, and in the definition.
-use Rattle.std.specs.Prelude.{◌≡◌, ◌<◌, ◌^◌, ℕ, true, if◌then◌else◌, List, [], ◌∷◌, ◌++◌, map, filter_map, length, Option, Some, None, slice_get, option_and_then}
+use Rattle.std.specs.Prelude.{◌≡◌, ◌<◌, ◌-◌, ◌^◌, ℕ, true, if◌then◌else◌, List, [], ◌∷◌, ◌++◌, map, filter_map, length, Option, Some, None, slice_get, option_and_then}
 use Rattle.std.specs.Ordering.{nat_cmp}
 use Rattle.std.specs.BTreeMap.{BTreeMap, get}
 use Rattle.lp_term.specs.declared.node.TypeId.{TypeId}
@@ -8,7 +8,7 @@ use Rattle.lp_code.specs.declared.instruction.Instr.{Instr}
 use Rattle.lp_code.specs.declared.instruction.Instr.TheVariants as on
 use Rattle.lp_code.specs.declared.record.Record.{Record}
 use Rattle.lp_code.specs.Rules.{is_assumed_record}
-use Rattle.lp_code.specs.Symbolic.{Built}
+use Rattle.lp_code.specs.Symbolic.{Built, held}
 use Rattle.lp_code.specs.States.{Captured, State, member}
 use Rattle.lp_code.specs.Steps.{captured_by, handed}
 use Rattle.lp_code.specs.Denote.{captured_of}
@@ -19,14 +19,31 @@ use Rattle.lp_verify.specs.declared.built.Head.TheVariants as head
 use Rattle.lp_verify.specs.declared.registers.Registers.{Registers}
 use Rattle.lp_verify.specs.Held.{value_in}
 use Rattle.lp_verify.specs.Named.{was_named}
+use Rattle.lp_verify.specs.declared.loose.Loose.{Loose}
+use Rattle.lp_verify.specs.declared.loose.Lists.{Lists}
 use Rattle.lp_verify.specs.inner.Stack.{Agree}
+use Rattle.lp_verify.specs.inner.Indices.{StandFor}
 
--- what is kept agrees with what stands there
+-- what is kept agrees with what stands there: of a type nothing is looked at, of a term its loose indices
 abbrev pub SameType : TypeId → Ty → Type 0
 SameType t T = Unit {0}
 
-abbrev pub SameTerm : kept_built.Built → Built → Type 0
-SameTerm t b = Unit {0}
+abbrev pub SameTerm : Lists → kept_built.Built → Built → Type 0
+SameTerm l t b = StandFor l t.loose b.loose
+
+-- registers hold what agrees
+abbrev pub IsSame : {T B : Type 0} → (T → B → Type 0) → Registers T → List (Option B) → Type 0
+IsSame R rs xs = (r : ℕ) → Agree R (value_in rs r) (held xs r)
+
+-- a term of this type without loose indices
+abbrev pub no_loose : Loose
+no_loose = record { list = 2 ^ 64 - 1; from = 0; lowered = 0 }
+
+abbrev pub bare_built : TypeId → Head → kept_built.Built
+bare_built T h = record { of = T; loose = no_loose; head = h }
+
+abbrev pub closed_built : TypeId → kept_built.Built
+closed_built T = bare_built T head.Other
 
 -- what the record of a number starts with, as it is kept
 abbrev pub captured_in : List kept_captured.Captured → BTreeMap ℕ ℕ → ℕ → Option kept_captured.Captured
@@ -84,9 +101,9 @@ abbrev pub Alike : {T B : Type 0} → (T → B → Type 0) → List T → List B
 Alike R ts bs = (r : ℕ) → Agree R (slice_get ts r) (slice_get bs r)
 
 -- what is kept for each record is what the definition hands to it: it was named, is an assumed record that starts with as many, and its lists are short
-pub record AreHanded (all : List Record) (hs : List kept_captured.Captured) (m : BTreeMap ℕ ℕ) (handed : List (ℕ × Captured)) : Type 0 where
+pub record AreHanded (l : Lists) (all : List Record) (hs : List kept_captured.Captured) (m : BTreeMap ℕ ℕ) (handed : List (ℕ × Captured)) : Type 0 where
   pub types_alike : (n : ℕ) → Alike SameType (types_captured (captured_in hs m n)) (captured_of handed n).types
-  pub terms_alike : (n : ℕ) → Alike SameTerm (terms_captured (captured_in hs m n)) (captured_of handed n).terms
+  pub terms_alike : (n : ℕ) → Alike (SameTerm l) (terms_captured (captured_in hs m n)) (captured_of handed n).terms
   pub are_named : (n : ℕ) → was_named m n ≡ member n (map (λ (a : ℕ × Captured). a.0) handed)
   pub are_kept : (n p : ℕ) → get nat_cmp m n ≡ Some p → p < length hs
   pub are_assumed : (n : ℕ) (k : kept_captured.Captured) → captured_in hs m n ≡ Some k → is_assumed_record (slice_get all n) (length k.types.items) (length k.terms.items) ≡ true

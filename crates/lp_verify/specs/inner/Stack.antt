@@ -112,10 +112,9 @@ IsOne [] = Unit {0}
 IsOne (d ∷ []) = Unit {0}
 IsOne (d ∷ e ∷ ds) = ⊥
 
--- an instruction was acted on, which sets these registers
-pub record IsStacked {T : Type 0} (i : Instr) (ds : List ℕ) (before : List ℕ) (old : kept_registers.Registers T) (behind : List ℕ) (new : kept_registers.Registers T) : Type 0 where
+-- an instruction was acted on, which puts this value into these registers
+pub record IsStacked {T : Type 0} (i : Instr) (ds : List ℕ) (value : T) (before : List ℕ) (old : kept_registers.Registers T) (behind : List ℕ) (new : kept_registers.Registers T) : Type 0 where
   pub one : IsOne ds
-  pub value : T
   pub turned : kept_registers.Registers T
   pub turns : IsTurned (turning i) before old behind turned
   pub makes : IsMade ds value turned new
@@ -128,10 +127,10 @@ IsSettled {T} p (s ∷ ss) hs old ks new =
     × (ends_at p s ≡ false → (ks ≡ hs) × (new ≡ old))
 
 -- the same behind the right sides that end there
-pub record IsStackRun {T : Type 0} (i : Instr) (ds : List ℕ) (place : ℕ) (sides : List kept.Block) (before : List ℕ) (old : kept_registers.Registers T) (behind : List ℕ) (new : kept_registers.Registers T) : Type 0 where
+pub record IsStackRun {T : Type 0} (i : Instr) (ds : List ℕ) (value : T) (place : ℕ) (sides : List kept.Block) (before : List ℕ) (old : kept_registers.Registers T) (behind : List ℕ) (new : kept_registers.Registers T) : Type 0 where
   pub heights : List ℕ
   pub made : kept_registers.Registers T
-  pub stacked : IsStacked i ds before old heights made
+  pub stacked : IsStacked i ds value before old heights made
   pub settled : IsSettled place sides heights made behind new
 
 -- registers of the definition

@@ -9,11 +9,16 @@ use Rattle.lp_code.specs.declared.record.Record.{Record}
 use Rattle.lp_code.specs.declared.rule.Rule.{Rule}
 use Rattle.lp_code.specs.declared.rule.Rule.TheVariants as rule
 use Rattle.lp_code.specs.Operands.{types_read, terms_read, type_set, term_set}
-use Rattle.lp_code.specs.Rules.{is_count, breaks_term, is_assumed_record}
+use Rattle.lp_code.specs.Rules.{is_count, breaks_term, is_assumed_record, stands_alone, has_none}
 use Rattle.lp_code.specs.Symbolic.{Tables}
 use Rattle.lp_verify.specs.declared.record.Work.{Work}
 use Rattle.lp_verify.specs.declared.whole.Whole.{Whole}
-use Rattle.lp_verify.specs.Held.{was_set, is_lacking}
+use Rattle.lp_verify.specs.declared.built.Built as kept_built
+use Rattle.lp_verify.specs.declared.loose.Entry.{Entry}
+use Rattle.lp_verify.specs.declared.loose.Lists.{Lists}
+use Rattle.lp_verify.specs.declared.registers.Registers.{Registers}
+use Rattle.lp_verify.specs.Held.{was_set, is_lacking, value_in}
+use Rattle.lp_verify.specs.inner.Indices.{entries_in}
 use Rattle.lp_verify.specs.Scheme.{tables_in, type_vars_of}
 use Rattle.lp_verify.specs.inner.Sides.{sides_in, first_end_of, nests_badly}
 
@@ -24,6 +29,17 @@ reaches_past m n i = list_any (nat_le m) (types_read i ++ type_set i) || list_an
 -- what holds nothing
 abbrev pub reads_unset : (types terms : ℕ → Bool) → Instr → Bool
 reads_unset f g i = list_any f (types_read i) || list_any g (terms_read i)
+
+-- a term with a loose index, where it stands alone
+abbrev pub loose_entries : Lists → Option kept_built.Built → List Entry
+loose_entries l None = []
+loose_entries l (Some t) = entries_in l t.loose
+
+abbrev pub is_loose : Lists → Registers kept_built.Built → ℕ → Bool
+is_loose l rs r = not (has_none (loose_entries l (value_in rs r)))
+
+abbrev pub reads_loose : Lists → Registers kept_built.Built → Instr → Bool
+reads_loose l rs i = list_any (is_loose l rs) (stands_alone i)
 
 -- what was set before
 abbrev pub sets_again : (types terms : ℕ → Bool) → Instr → Bool
@@ -85,6 +101,7 @@ pub record Broken : Type 0 where
   pub unset : Bool
   pub set : Bool
   pub constant : Bool
+  pub index : Bool
   pub term : Bool
   pub order : Bool
   pub block : Bool
@@ -96,6 +113,7 @@ breaks b rule.Register = b.register
 breaks b rule.Unset = b.unset
 breaks b rule.Set = b.set
 breaks b rule.Constant = b.constant
+breaks b rule.Index = b.index
 breaks b rule.Term = b.term
 breaks b rule.Order = b.order
 breaks b rule.Block = b.block
@@ -109,19 +127,19 @@ ArePassed b = (b.register ≡ false) × (b.unset ≡ false) × (b.set ≡ false)
 
 -- what is told where these are broken: a rule, before which none of them is broken, or none
 abbrev pub IsFirst : Broken → Option Rule → Type 0
-IsFirst b None = ArePassed b × (b.term ≡ false) × (b.order ≡ false) × (b.block ≡ false) × (b.clause ≡ false) × (b.key ≡ false)
+IsFirst b None = ArePassed b × (b.index ≡ false) × (b.term ≡ false) × (b.order ≡ false) × (b.block ≡ false) × (b.clause ≡ false) × (b.key ≡ false)
 IsFirst b (Some rule.Register) = b.register ≡ true
 IsFirst b (Some rule.Unset) = (b.register ≡ false) × (b.unset ≡ true)
 IsFirst b (Some rule.Set) = (b.register ≡ false) × (b.unset ≡ false) × (b.set ≡ true)
 IsFirst b (Some rule.Constant) = (b.register ≡ false) × (b.unset ≡ false) × (b.set ≡ false) × (b.constant ≡ true)
 IsFirst b (Some rule.Typing) = ArePassed b
-IsFirst b (Some rule.Index) = ArePassed b
-IsFirst b (Some rule.Term) = ArePassed b × (b.term ≡ true)
-IsFirst b (Some rule.Order) = ArePassed b × (b.term ≡ false) × (b.order ≡ true)
-IsFirst b (Some rule.Head) = ArePassed b × (b.term ≡ false) × (b.order ≡ false)
-IsFirst b (Some rule.Block) = ArePassed b × (b.term ≡ false) × (b.order ≡ false) × (b.block ≡ true)
-IsFirst b (Some rule.Clause) = ArePassed b × (b.term ≡ false) × (b.order ≡ false) × (b.block ≡ false) × (b.clause ≡ true)
-IsFirst b (Some rule.Key) = ArePassed b × (b.term ≡ false) × (b.order ≡ false) × (b.block ≡ false) × (b.clause ≡ false) × (b.key ≡ true)
+IsFirst b (Some rule.Index) = ArePassed b × (b.index ≡ true)
+IsFirst b (Some rule.Term) = ArePassed b × (b.index ≡ false) × (b.term ≡ true)
+IsFirst b (Some rule.Order) = ArePassed b × (b.index ≡ false) × (b.term ≡ false) × (b.order ≡ true)
+IsFirst b (Some rule.Head) = ArePassed b × (b.index ≡ false) × (b.term ≡ false) × (b.order ≡ false)
+IsFirst b (Some rule.Block) = ArePassed b × (b.index ≡ false) × (b.term ≡ false) × (b.order ≡ false) × (b.block ≡ true)
+IsFirst b (Some rule.Clause) = ArePassed b × (b.index ≡ false) × (b.term ≡ false) × (b.order ≡ false) × (b.block ≡ false) × (b.clause ≡ true)
+IsFirst b (Some rule.Key) = ArePassed b × (b.index ≡ false) × (b.term ≡ false) × (b.order ≡ false) × (b.block ≡ false) × (b.clause ≡ false) × (b.key ≡ true)
 
 -- the rule that is told in place of what an instruction builds
 abbrev pub rule_of : {A : Type 0} → Result A Rule → Option Rule
@@ -130,20 +148,21 @@ rule_of (Err r) = Some r
 
 -- those that a record breaks as a whole
 abbrev pub broken_whole : Whole → Broken
-broken_whole w = record { register = w.register; unset = false; set = false; constant = w.constant; term = false; order = w.order; block = w.block; clause = w.clause; key = w.key }
+broken_whole w = record { register = w.register; unset = false; set = false; constant = w.constant; index = false; term = false; order = w.order; block = w.block; clause = w.clause; key = w.key }
 
 -- a side that should have ended is open, or blocks do not nest
 abbrev pub breaks_blocks : Work → Instr → Bool
 breaks_blocks w i =
     nat_le (first_end_of (reverse w.blocks.frames.items)) w.place || nests_badly w.place (get nat_cmp w.places.jumps) (nat_eq (w.number + 1) (length w.home.record.now.code.items)) (sides_in w.blocks.frames.items) i
 
--- those that are broken before an instruction, where these records were named
-abbrev pub told : Work → (named : ℕ → Bool) → Whole → Instr → Broken
-told w f x i = record {
+-- those that are broken before an instruction, where these lists were put and these records named
+abbrev pub told : Work → Lists → (named : ℕ → Bool) → Whole → Instr → Broken
+told w l f x i = record {
   register = x.register || reaches_past w.home.record.now.types w.home.record.now.registers i;
   unset = reads_unset (is_lacking w.types) (is_lacking w.terms) i;
   set = sets_again (was_set w.types) (was_set w.terms) i;
   constant = x.constant || has_wrong_count (tables_in w.home.tables.now) i;
+  index = reads_loose l w.terms i;
   term = breaks_term i;
   order = x.order || is_out_of_order w.in_body (length w.head.types.items) w.head.arguments i;
   block = x.block || breaks_blocks w i;

@@ -6,7 +6,7 @@ use Rattle.lp_verify.proofs.Names.{record_named}
 use Rattle.lp_verify.proofs.judging.judge.Goals as goal
 
 pub loop-record-init : goal.loop-record-init
-loop-record-init c = (refl, λ short. none_yet (tables_in c.args.tables.now) c.args.records.now c.in_ok-shared.shared.handed.items c.in_ok-shared.shared.named c.in_ok-shared.ensures, λ n. c.in_ok-shared.ensures n)
+loop-record-init c = (refl, λ short. none_yet (tables_in c.args.tables.now) c.args.records.now c.in_ok-shared.shared c.in_ok-shared.ensures, λ n. c.in_ok-shared.ensures n)
 
 pub loop-record-preserved : goal.loop-record-preserved
 loop-record-preserved c =
@@ -14,16 +14,15 @@ loop-record-preserved c =
     let all = c.args.records.now in
     let n = c.loop-record.record-index in
     let inv = c.loop-record.invariant in
-    let m = c.loop-record.shared.named in
-    let k = c.judge_record.new.shared.named in
-    let hs = c.loop-record.shared.handed.items in
-    let ks = c.judge_record.new.shared.handed.items in
+    let x = c.loop-record.shared in
+    let y = c.judge_record.new.shared in
+    let m = x.named in
     let named : AreNamedBefore c.loop-record.number all m = subst (λ k. AreNamedBefore k all m) (sym inv.0) inv.2 in (
       grind arith,
       λ short.
-          record_passed t all hs ks m k n c.loop-record.number c.record-item.result inv.0 c.loop-record-test.true c.record-item.is short (inv.1 short)
-          (subst (IsRecordRan t all hs ks m k c.loop-record.number c.record-item.result) c.in_default.is (λ before there given s. c.in_ok-at.ensures.0 before there given named s)),
-      record_named all n c.record-item.result m k c.loop-record-test.true c.record-item.is inv.2 (c.in_ok-at.ensures.1 c.in_default.is),
+          record_passed t all x y n c.loop-record.number c.record-item.result inv.0 c.loop-record-test.true c.record-item.is short (inv.1 short)
+          (subst (IsRecordRan t all x y c.loop-record.number c.record-item.result) c.in_default.is (λ before there given s. c.in_ok-at.ensures.0 before there given named s)),
+      record_named all n c.record-item.result m y.named c.loop-record-test.true c.record-item.is inv.2 (c.in_ok-at.ensures.1 c.in_default.is),
     )
 
 pub returns-in-Some : goal.returns-in-Some
@@ -32,20 +31,18 @@ returns-in-Some c =
     let all = c.args.records.now in
     let n = c.loop-record.record-index in
     let inv = c.loop-record.invariant in
-    let m = c.loop-record.shared.named in
-    let k = c.judge_record.new.shared.named in
-    let hs = c.loop-record.shared.handed.items in
-    let ks = c.judge_record.new.shared.handed.items in
+    let x = c.loop-record.shared in
+    let y = c.judge_record.new.shared in
+    let m = x.named in
     let named : AreNamedBefore c.loop-record.number all m = subst (λ k. AreNamedBefore k all m) (sym inv.0) inv.2 in
     λ short.
-    record_refused t all hs ks m k n c.loop-record.number c.record-item.result c.in-Some.at c.as_offset.result c.in-Some.rule inv.0 c.loop-record-test.true c.record-item.is short (inv.1 short)
-    (subst (IsRecordRan t all hs ks m k c.loop-record.number c.record-item.result) c.in-Some.is (λ before there given s. c.in_ok-at.ensures.0 before there given named s)) c.as_offset.ensures
+    record_refused t all x y n c.loop-record.number c.record-item.result c.in-Some.at c.as_offset.result c.in-Some.rule inv.0 c.loop-record-test.true c.record-item.is short (inv.1 short)
+    (subst (IsRecordRan t all x y c.loop-record.number c.record-item.result) c.in-Some.is (λ before there given s. c.in_ok-at.ensures.0 before there given named s)) c.as_offset.ensures
 
 pub returns : goal.returns
 returns c =
     let t = tables_in c.args.tables.now in
     let all = c.args.records.now in
-    let m = c.loop-record.shared.named in
-    let hs = c.loop-record.shared.handed.items in
+    let x = c.loop-record.shared in
     let n = c.loop-record.record-index in
-    λ short. no_more_records t all hs m n (subst (FaultsGoOn t all hs m n) (none_left all all n refl (omega (arith, c.loop-record-test.false))) (c.loop-record.invariant.1 short))
+    λ short. no_more_records t all x n (subst (FaultsGoOn t all x n) (none_left all all n refl (omega (arith, c.loop-record-test.false))) (c.loop-record.invariant.1 short))

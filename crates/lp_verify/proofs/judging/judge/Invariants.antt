@@ -7,5 +7,5 @@ use Rattle.lp_verify.proofs.judging.judge.Given as goal
 abbrev pub invariant-loop-record : goal.invariant-loop-record
 invariant-loop-record l =
     (l.number ≡ l.record-index)
-    × (AreShort l.fn.records → FaultsGoOn (tables_in l.fn.tables) l.fn.records l.shared.handed.items l.shared.named l.record-index (drop l.record-index l.fn.records))
+    × (AreShort l.fn.records → FaultsGoOn (tables_in l.fn.tables) l.fn.records l.shared l.record-index (drop l.record-index l.fn.records))
     × AreNamedBefore l.record-index l.fn.records l.shared.named

@@ -9,9 +9,8 @@ use Rattle.lp_verify.specs.inner.Told.{told, IsFirst}
 use Rattle.lp_code.specs.States.{member}
 use Rattle.lp_code.specs.Rules.{names_of, names_in}
 use Rattle.lp_verify.specs.Named.{was_named}
-use Rattle.lp_verify.specs.inner.Handed.{AreHanded}
 use Rattle.lp_verify.specs.inner.At.{home_in, AreNamedBefore, IsRan, IsStepped, IsStarted, IsJudgedWhole, NamesLeft, GoesOn}
-use Rattle.lp_verify.proofs.Moved.{begun, stands_low, goes_on, refused, ended}
+use Rattle.lp_verify.proofs.Moved.{handed_kept, begun, stands_low, goes_on, refused, ended}
 use Rattle.lp_verify.proofs.Names.{names_pass, names_end}
 use Rattle.lp_verify.proofs.HandedOn.{named_has}
 use Rattle.lp_verify.proofs.Faults.{none_left}
@@ -20,16 +19,16 @@ use Rattle.lp_verify.proofs.record.judge_record.Goals as goal
 pub loop-instr-init : goal.loop-instr-init
 loop-instr-init c =
     let h = home_in c.args.home in
-    let m = c.start.new.shared.named in
-    let hs = c.start.new.shared.handed.items in
-    let same : m ≡ c.args.shared.now.named = c.start.ensures.named in
-    let kept : hs ≡ c.args.shared.now.handed.items = ap (λ v. v.items) c.start.ensures.handed in
+    let old = c.args.shared.now in
+    let new = c.start.new.shared in
+    let m = new.named in
+    let same : m ≡ old.named = c.start.ensures.named in
+    let kept : new.handed.items ≡ old.handed.items = ap (λ v. v.items) c.start.ensures.handed in
     let home = ap home_in c.in_ok-work.ensures.home in (
       home,
       λ before there given names short.
-          begun h before c.in_ok-work.work hs m c.in_ok-whole.whole home (subst (λ l. IsStarted l m c.in_ok-work.work) (sym kept) (subst (λ l. IsStarted c.args.shared.now.handed.items l c.in_ok-work.work) (sym same) c.in_ok-work.ensures.started)) there
-          (subst (λ l. AreHanded h.records l m before) (sym kept) (subst (λ l. AreHanded h.records c.args.shared.now.handed.items l before) (sym same) given)) (subst (AreNamedBefore h.number h.records) (sym same) names)
-          (subst (λ h. IsJudgedWhole h (was_named m) c.in_ok-whole.whole) home c.in_ok-whole.ensures),
+          begun h before c.in_ok-work.work new c.in_ok-whole.whole home (subst (λ l. IsStarted l m c.in_ok-work.work) (sym kept) (subst (λ l. IsStarted old.handed.items l c.in_ok-work.work) (sym same) c.in_ok-work.ensures.started)) there
+          (handed_kept old new h.records before c.start.ensures.lists c.start.ensures.handed c.start.ensures.named given) (subst (AreNamedBefore h.number h.records) (sym same) names) (subst (λ h. IsJudgedWhole h (was_named m) c.in_ok-whole.whole) home c.in_ok-whole.ensures),
       λ n. ap (λ m. was_named m n || member n (names_in h.self.code.items)) same,
     )
 
@@ -45,20 +44,18 @@ loop-instr-preserved c =
     let below : n < length code = subst (λ l. n < length l) c.deref-instr-items.ensures.value c.loop-instr-test.true in
     let is : i ≡ get_or code n i = c.instr-item.is ∙ ap (λ l. get_or l n i) c.deref-instr-items.ensures.value in
     let at : drop n code ≡ i ∷ drop (n + 1) code = drop_read code n i below is in
-    let m = c.loop-instr.shared.named in
-    let k = c.step.new.shared.named in
-    let hs = c.loop-instr.shared.handed.items in
-    let ks = c.step.new.shared.handed.items in
-    let first : w.place < 2 ^ 63 → w.number < 2 ^ 63 → IsFirst (told w (was_named m) c.loop-instr.whole i) None = subst (λ o. w.place < 2 ^ 63 → w.number < 2 ^ 63 → IsFirst (told w (was_named m) c.loop-instr.whole i) o) c.in_default.is c.in_ok-rule.ensures.0 in
-    let run : IsStepped i hs ks m k w v None = subst (IsStepped i hs ks m k w v) c.in_default.is c.in_ok-rule.ensures.1 in
+    let x = c.loop-instr.shared in
+    let y = c.step.new.shared in
+    let first : w.place < 2 ^ 63 → w.number < 2 ^ 63 → IsFirst (told w y.lists (was_named x.named) c.loop-instr.whole i) None = subst (λ o. w.place < 2 ^ 63 → w.number < 2 ^ 63 → IsFirst (told w y.lists (was_named x.named) c.loop-instr.whole i) o) c.in_default.is c.in_ok-rule.ensures.0 in
+    let run : IsStepped i x y w v None = subst (IsStepped i x y w v) c.in_default.is c.in_ok-rule.ensures.2 in
     let fit : Fits i = subst Fits (sym is) (All-get_or Fits code n i below c.requires) in (
-      ap home_in run.0.home_stays ∙ inv.0,
+      ap home_in run.runs.home_stays ∙ inv.0,
       λ before there given names short.
-          let g = subst (λ l. GoesOn h before code l w hs m c.loop-instr.whole) at (inv.1 before there given names short) in
-          let small = stands_low h before code i (drop (n + 1) code) w hs m c.loop-instr.whole short g in
-          goes_on h before code i (drop (n + 1) code) w v hs ks m k c.loop-instr.whole c.none-whole.result inv.0 short g
-          (record { fits = fit; kept = first small.0 small.1; runs = run.0; names = run.1; hands = run.2; clean = c.none-whole.ensures }),
-      names_pass i (drop (n + 1) code) code c.args.shared.now.named m k (named_has (names_of i) (length hs) m k run.1) (subst (λ l. NamesLeft code l c.args.shared.now.named m) at inv.2),
+          let g = subst (λ l. GoesOn h before code l w x c.loop-instr.whole) at (inv.1 before there given names short) in
+          let small = stands_low h before code i (drop (n + 1) code) w x c.loop-instr.whole short g in
+          goes_on h before code i (drop (n + 1) code) w v x y c.loop-instr.whole c.none-whole.result inv.0 short g
+          (record { fits = fit; kept = first small.0 small.1; passed = run; grow = c.in_ok-rule.ensures.1; clean = c.none-whole.ensures }),
+      names_pass i (drop (n + 1) code) code c.args.shared.now.named x.named y.named (named_has (names_of i) (length x.handed.items) x.named y.named run.names) (subst (λ l. NamesLeft code l c.args.shared.now.named x.named) at inv.2),
     )
 
 pub returns-in-Some : goal.returns-in-Some
@@ -71,17 +68,15 @@ returns-in-Some c =
     let r = c.in-Some.rule in
     let inv = c.loop-instr.invariant in
     let at : drop n code ≡ i ∷ drop (n + 1) code = drop_read code n i (subst (λ l. n < length l) c.deref-instr-items.ensures.value c.loop-instr-test.true) (c.instr-item.is ∙ ap (λ l. get_or l n i) c.deref-instr-items.ensures.value) in
-    let m = c.loop-instr.shared.named in
-    let k = c.step.new.shared.named in
-    let hs = c.loop-instr.shared.handed.items in
-    let ks = c.step.new.shared.handed.items in
-    let first : w.place < 2 ^ 63 → w.number < 2 ^ 63 → IsFirst (told w (was_named m) c.loop-instr.whole i) (Some r) = subst (λ o. w.place < 2 ^ 63 → w.number < 2 ^ 63 → IsFirst (told w (was_named m) c.loop-instr.whole i) o) c.in-Some.is c.in_ok-rule.ensures.0 in
-    let stays : c.step.new.self.place ≡ w.place = subst (IsStepped i hs ks m k w c.step.new.self) c.in-Some.is c.in_ok-rule.ensures.1 in (
+    let x = c.loop-instr.shared in
+    let y = c.step.new.shared in
+    let first : w.place < 2 ^ 63 → w.number < 2 ^ 63 → IsFirst (told w y.lists (was_named x.named) c.loop-instr.whole i) (Some r) = subst (λ o. w.place < 2 ^ 63 → w.number < 2 ^ 63 → IsFirst (told w y.lists (was_named x.named) c.loop-instr.whole i) o) c.in-Some.is c.in_ok-rule.ensures.0 in
+    let stays : c.step.new.self.place ≡ w.place = subst (IsStepped i x y w c.step.new.self) c.in-Some.is c.in_ok-rule.ensures.2 in (
       λ before there given names short.
-          let g = subst (λ l. GoesOn h before code l w hs m c.loop-instr.whole) at (inv.1 before there given names short) in
-          let small = stands_low h before code i (drop (n + 1) code) w hs m c.loop-instr.whole short g in
-          subst (λ p. IsRan h.records ks k before (run_of judged h any_clause (first_state h.self (captured_of before h.number)) code) (Some (p, r))) (sym stays)
-          (refused h before code i (drop (n + 1) code) w hs ks m k c.loop-instr.whole r inv.0 short g (first small.0 small.1)),
+          let g = subst (λ l. GoesOn h before code l w x c.loop-instr.whole) at (inv.1 before there given names short) in
+          let small = stands_low h before code i (drop (n + 1) code) w x c.loop-instr.whole short g in
+          subst (λ p. IsRan h.records y before (run_of judged h any_clause (first_state h.self (captured_of before h.number)) code) (Some (p, r))) (sym stays)
+          (refused h before code i (drop (n + 1) code) w x y c.loop-instr.whole r inv.0 short g c.in_ok-rule.ensures.1 (first small.0 small.1)),
       λ e. absurd (cc),
     )
 
@@ -90,10 +85,9 @@ returns-in-Some-first c =
     let h = home_in c.args.home in
     let code = c.args.home.record.now.code.items in
     let none : drop c.loop-instr.instr-index code ≡ [] = none_left code c.deref-instr-items.result.now c.loop-instr.instr-index c.deref-instr-items.ensures.value (omega (arith, c.loop-instr-test.false)) in
-    let m = c.loop-instr.shared.named in
-    let hs = c.loop-instr.shared.handed.items in (
+    let x = c.loop-instr.shared in (
       λ before there given names short.
-          ended h before code c.loop-instr.work hs m c.loop-instr.whole (Some c.in-Some-first.rule) short (subst (λ l. GoesOn h before code l c.loop-instr.work hs m c.loop-instr.whole) none (c.loop-instr.invariant.1 before there given names short)) c.in-Some-first.ensures,
+          ended h before code c.loop-instr.work x c.loop-instr.whole (Some c.in-Some-first.rule) short (subst (λ l. GoesOn h before code l c.loop-instr.work x c.loop-instr.whole) none (c.loop-instr.invariant.1 before there given names short)) c.in-Some-first.ensures,
       λ e. absurd (cc),
     )
 
@@ -102,9 +96,8 @@ returns c =
     let h = home_in c.args.home in
     let code = c.args.home.record.now.code.items in
     let none : drop c.loop-instr.instr-index code ≡ [] = none_left code c.deref-instr-items.result.now c.loop-instr.instr-index c.deref-instr-items.ensures.value (omega (arith, c.loop-instr-test.false)) in
-    let m = c.loop-instr.shared.named in
-    let hs = c.loop-instr.shared.handed.items in (
+    let x = c.loop-instr.shared in (
       λ before there given names short.
-          ended h before code c.loop-instr.work hs m c.loop-instr.whole None short (subst (λ l. GoesOn h before code l c.loop-instr.work hs m c.loop-instr.whole) none (c.loop-instr.invariant.1 before there given names short)) c.in-None.ensures,
-      λ e. names_end code c.args.shared.now.named m (subst (λ l. NamesLeft code l c.args.shared.now.named m) none c.loop-instr.invariant.2),
+          ended h before code c.loop-instr.work x c.loop-instr.whole None short (subst (λ l. GoesOn h before code l c.loop-instr.work x c.loop-instr.whole) none (c.loop-instr.invariant.1 before there given names short)) c.in-None.ensures,
+      λ e. names_end code c.args.shared.now.named x.named (subst (λ l. NamesLeft code l c.args.shared.now.named x.named) none c.loop-instr.invariant.2),
     )
