@@ -1,6 +1,6 @@
 -- What the numbers of a table mean they mean in a table that has grown, and when lists that were to come have their goals.
 use Rattle.std.proofs.Common.{◌≡◌, ℕ, zero, suc, ◌+◌, ◌-◌, ◌<◌, ◌≤◌, List, [], ◌∷◌, ◌++◌, map, length, take, drop, inl, inr, refl, sym, ap, ◌∙◌, subst, arith, append-nil, append_assoc, Some, None, Bor, Vec, Global, add-one, get_or}
-use Rattle.std.specs.Prelude.{◌⊎◌, slice_get, set}
+use Rattle.std.specs.Prelude.{slice_get, set}
 use Rattle.std.proofs.Math.Seq.{take-append_seam}
 use Rattle.std.proofs.lemmas.List.{length-append, length-take-le, length-drop, length-set, take_all, drop_all, drop-append-le}
 use Rattle.lp_lemmas.proofs.Lists.{get_append, get_push}
@@ -13,7 +13,7 @@ use Rattle.lp_model.specs.declared.clause.Goal.{Goal as CodeGoal}
 use Rattle.lp_model.specs.declared.clause.Clause.{Clause as CodeClause}
 use Rattle.lp_model.specs.Flat.{Goal, Atomic, Cut, Either, Exists, Forall, Assume, Not, Goals, no_goals, goals, Clause, clause, Clauses, no_clauses, clauses, assuming, denied, collect_goals, collect_clauses}
 use Rattle.lp_model.specs.Search.{first_key}
-use Rattle.lp_model.specs.Flattened.{goal_of, goals_of, clause_of, clauses_of, goals_in, clauses_in}
+use Rattle.lp_model.specs.Flattened.{goal_of, goals_of, clause_of, clauses_of}
 use Rattle.lp_pattern.specs.Growing.{GoesOn}
 use Rattle.lp_pattern.proofs.Keeps.{goes_on_same, goes_on_then}
 use Rattle.lp_plain.specs.declared.free.Free.{Free}

@@ -1,4 +1,4 @@
-use Rattle.std.proofs.Common.{◌≡◌, ◌<◌, ◌≤◌, length, refl, arith}
+use Rattle.std.proofs.Common.{◌<◌, ◌≤◌, length, refl, arith}
 use Rattle.lp_lemmas.proofs.Lists.{drop_read}
 use Rattle.lp_plain.proofs.Tabled.{filled_begins, filled_lighter, filled_more, filled_ends}
 use Rattle.lp_plain.proofs.table.Table.fill.Goals as goal
