@@ -1,27 +1,26 @@
 -- What is collected of goals, clauses and nodes is what is collected of their parts.
-use Rattle.std.proofs.Common.{◌≡◌, ℕ, ℤ, suc, ◌+◌, ◌-◌, ◌<◌, ◌≤◌, List, [], ◌∷◌, ◌++◌, map, length, inl, inr, refl, sym, ap, ◌∙◌, subst, arith, add-one, append-nil, append_assoc, Bool, true, false, true≢false, Bor}
-use Rattle.std.specs.Prelude.{◌⊎◌, ◌||◌, ◌≢◌, nat_eq, nat_lt, if◌then◌else◌}
+use Rattle.std.proofs.Common.{◌≡◌, ℕ, ℤ, suc, ◌+◌, ◌<◌, List, [], ◌∷◌, ◌++◌, map, length, refl, sym, ap, ◌∙◌, subst, arith, add-one, append-nil, append_assoc, Bool, false, Bor}
+use Rattle.std.specs.Prelude.{◌||◌, ◌≢◌, nat_eq}
 use Rattle.std.specs.List.{list_any}
-use Rattle.std.proofs.lemmas.List.{map-append, length-map}
+use Rattle.std.proofs.lemmas.List.{map-append}
 use Rattle.std.proofs.lemmas.List.Folds.{list_any-append}
-use Rattle.std.proofs.lemmas.Bool.{cases_eq, ne_eqb, eq-eqb, lt-ltb, le-ltb}
 use Rattle.lp_lemmas.proofs.Booleans.{or_assoc}
 use Rattle.lp_calculus.specs.Types.{Ty, var, con, arrow, tys}
 use Rattle.lp_calculus.specs.Types as type
 use Rattle.lp_calculus.specs.Term.{Term, atom, abs, app, apply, constant, integer, text, eigen, logic}
 use Rattle.lp_calculus.specs.Term as term
 use Rattle.lp_term.specs.Nodes.{Nodes, type_tree, tree}
-use Rattle.lp_term.specs.inner.Walking.{type_size, term_size}
+use Rattle.lp_term.specs.inner.Walking.{term_size}
 use Rattle.lp_term.specs.declared.node.TypeId.{TypeId}
 use Rattle.lp_term.specs.declared.node.TermId.{TermId}
 use Rattle.lp_model.specs.declared.clause.Goal.{Goal as CodeGoal}
 use Rattle.lp_model.specs.declared.clause.Clause.{Clause as CodeClause}
-use Rattle.lp_model.specs.Flat.{Goal, Atomic, Cut, Either, Exists, Forall, Assume, Not, Written, Goals, no_goals, goals, Clause, clause, Clauses, clauses, under_all, of_each, loose_in, type_variables, types_variables, collect_goal, collect_goals, collect_clauses}
+use Rattle.lp_model.specs.Flat.{Goal, Atomic, Cut, Either, Exists, Forall, Assume, Not, Written, Clause, clause, Clauses, clauses, under_all, of_each, loose_in, type_variables, types_variables, collect_goal, collect_goals, collect_clauses}
 use Rattle.lp_model.specs.Flattened.{goal_of, goals_of, clause_of, clauses_of}
 use Rattle.lp_plain.specs.Collected.{is_in}
 use Rattle.lp_plain.specs.declared.free.Part.{Part}
 use Rattle.lp_plain.specs.inner.Looking.{weight_of_all, type_weight, term_weight}
-use Rattle.lp_plain.specs.inner.Collecting.{Sought, Variable, TypeVariable, Piece, in_goals, in_clauses, in_term, in_type, piece, number_of, told_of, told_in, collect_clause, stands, goal_passes, clause_passes, goal_weight, goals_weight, clause_weight, clauses_weight, piece_weight, IsSplit, IsPutFor}
+use Rattle.lp_plain.specs.inner.Collecting.{Sought, Variable, TypeVariable, in_goals, in_clauses, in_term, in_type, piece, number_of, told_of, told_in, collect_clause, stands, goal_passes, clause_passes, goal_weight, clause_weight, piece_weight, IsSplit, IsPutFor}
 use Rattle.lp_plain.proofs.Looks.{weight_append, put_all}
 use Rattle.lp_plain.proofs.OpenNodes.{or_none, type_weighs, term_weighs, con_lighter, arrow_lighter, constant_lighter, abs_lighter, app_lighter}
 

@@ -19,3 +19,4 @@ pub mod Collects
 pub mod Sightings
 pub mod Measuring
 pub mod FoundGoals
+pub mod Tabled

@@ -1,13 +1,12 @@
 -- That no index is loose in a term that is too large is told by the loose indices that are collected of it.
-use Rattle.std.proofs.Common.{◌≡◌, ℕ, suc, ◌+◌, ◌-◌, ◌<◌, ◌≤◌, ◌^◌, List, [], ◌∷◌, ◌++◌, inl, inr, refl, sym, ap, ◌∙◌, subst, arith, Bool, true, false, true≢false}
-use Rattle.std.specs.Prelude.{◌⊎◌, ◌||◌, nat_eq, nat_lt, nat_le, if◌then◌else◌}
+use Rattle.std.proofs.Common.{◌≡◌, ℕ, suc, ◌+◌, ◌-◌, ◌<◌, ◌≤◌, ◌^◌, List, [], ◌∷◌, ◌++◌, inl, inr, refl, sym, ap, ◌∙◌, arith, Bool, true, false, true≢false}
+use Rattle.std.specs.Prelude.{◌||◌, nat_eq, nat_le, if◌then◌else◌}
 use Rattle.std.specs.List.{list_any}
 use Rattle.std.proofs.lemmas.List.Folds.{list_any-append}
 use Rattle.std.proofs.lemmas.Bool.{cases_lt, lt-ltb, le-ltb, le-leb, leb-true, eq-eqb, eqb-true, or_left, or_right, false_from_ne_true}
 use Rattle.lp_calculus.specs.Term.{Term, index, atom, abs, app}
 use Rattle.lp_term.specs.Spine.{LooseBelow}
 use Rattle.lp_model.specs.Flat.{loose_in}
-use Rattle.lp_lemmas.specs.Each.{AnyOf}
 use Rattle.lp_plain.specs.Collected.{is_in, AreThose}
 use Rattle.lp_plain.specs.Standings.{is_large}
 use Rattle.lp_plain.specs.inner.Looking.{SomeOf}

@@ -1,8 +1,7 @@
 -- A look that finds numbers on its way finds exactly those that stand in what is given.
-use Rattle.std.proofs.Common.{◌≡◌, ℕ, ◌-◌, ◌<◌, ◌≤◌, List, [], ◌∷◌, ◌++◌, map, inl, inr, refl, sym, ap, ◌∙◌, subst, arith, append-nil, Bool, true, false, true≢false}
-use Rattle.std.specs.Prelude.{◌⊎◌, ◌&&◌, ◌||◌, ◌≢◌, nat_eq, nat_lt, if◌then◌else◌}
+use Rattle.std.proofs.Common.{◌≡◌, ℕ, ◌-◌, ◌<◌, ◌≤◌, List, [], ◌∷◌, ◌++◌, inl, inr, refl, sym, ap, ◌∙◌, arith, append-nil, Bool, true, false, true≢false}
+use Rattle.std.specs.Prelude.{◌⊎◌, ◌≢◌, nat_eq, if◌then◌else◌}
 use Rattle.std.specs.List.{list_any, IsDistinct}
-use Rattle.std.specs.Bool.{Decides}
 use Rattle.std.proofs.lemmas.Bool.{cases_eq, ne_eqb, eq-eqb, lt-ltb, le-ltb}
 use Rattle.std.proofs.lemmas.Bool.Decides.{Decides-eqb, Decides-and}
 use Rattle.indexmap.specs.IndexSet.{contains}
@@ -12,11 +11,10 @@ use Rattle.lp_term.specs.Nodes.{Nodes, type_tree, tree}
 use Rattle.lp_plain.specs.Collected.{is_in}
 use Rattle.lp_plain.specs.declared.below.Below.{Below}
 use Rattle.lp_plain.specs.declared.free.Free.{Free}
-use Rattle.lp_plain.specs.declared.free.Part.{Part}
 use Rattle.lp_plain.specs.declared.free.Walk.{Walk}
 use Rattle.lp_plain.specs.contracts.below.BelowPartialEq.TheImpl as compared
-use Rattle.lp_plain.specs.inner.Looking.{weight_of_all, SomeOf, AreParts, IsClean, Leads}
-use Rattle.lp_plain.specs.inner.Collecting.{Sought, Variable, TypeVariable, Piece, in_goals, in_clauses, in_term, in_type, piece, number_of, told_of, told_in, stands, goal_weight, goals_weight, clauses_weight, clause_weight, piece_weight, IsPutFor, has, found_of, place, is_marked, IsSeen, IsOpened, IsSought}
+use Rattle.lp_plain.specs.inner.Looking.{weight_of_all}
+use Rattle.lp_plain.specs.inner.Collecting.{Sought, Variable, TypeVariable, Piece, in_goals, in_clauses, in_term, in_type, number_of, told_of, told_in, stands, goal_weight, piece_weight, IsPutFor, has, found_of, place, is_marked, IsSeen, IsOpened, IsSought}
 use Rattle.lp_model.specs.Flat.{Goal, Atomic, Cut, Either, Exists, Forall, Assume, Not, no_goals, goals, clause, no_clauses, clauses}
 use Rattle.lp_plain.proofs.Looks.{some_true, begun, passed, opened, given_passes, ended}
 use Rattle.lp_plain.proofs.OpenNodes.{or_none, type_weighs, term_weighs}

@@ -1,13 +1,17 @@
 // Flattened goals and clauses by number. A goal's parts are named by numbers of lists.
-ghost use Rattle.std.specs.Prelude.{◌≡◌, Some, slice_get, IfOk};
-ghost use Rattle.lp_model.specs.Flattened.{goal_of};
-ghost use Rattle.lp_plain.specs.Numbered.{IsNumbered};
+ghost use Rattle.std.specs.Prelude.{◌≡◌, ℕ, suc, ◌+◌, List, ◌++◌, ◌∷◌, [], length, Some, slice_get, IfOk, OnOk};
+ghost use Rattle.lp_term.specs.Nodes.{Nodes};
+ghost use Rattle.lp_model.specs.Flat.{Either, assuming, denied};
+ghost use Rattle.lp_model.specs.Flattened.{goal_of, goals_of, clause_of, clauses_of};
+ghost use Rattle.lp_plain.specs.Tables.{IsGoal, IsList, AreGoals, IsRule, AreRules, IsListOf, AreClausesOf, Never, shown};
+ghost use Rattle.lp_plain.specs.inner.Collecting.{goal_weight, goals_weight, clause_weight, clauses_weight};
+ghost use Rattle.lp_plain.specs.inner.Tabling.{Coming, LeadsTo, IsPut, up_to};
 
 use crate::free::{Free, free_in_clauses, free_in_goals};
 use crate::head::{HeadPair, Key, first_key, head_args};
 use lp_base::Memory;
 use lp_model::{Clause, Goal};
-use lp_term::{Bank, Spine, TermId, spine_of};
+use lp_term::{Bank, TermId, spine_of};
 use std::alloc::Global;
 
 /// Numbers from one to before another.
@@ -57,13 +61,6 @@ pub(crate) struct Table {
     frees: Vec<Free>,
 }
 
-// A list of goals that has a number already.
-#[derive(Clone, Copy)]
-struct Waiting<'a> {
-    goals: &'a Vec<Goal>,
-    list: usize,
-}
-
 impl Table {
     pub(crate) fn new(alloc: Global) -> Table {
         Table {
@@ -109,28 +106,31 @@ impl Table {
     }
 
     fn put_free(&mut self, free: Free) -> Result<usize, Memory>
-        ensures { IfOk result (λ number. slice_get self.new.frees.items number ≡ Some free) }
+        ensures number { IfOk result (λ number. slice_get self.new.frees.items number ≡ Some free) }
+        ensures frees { OnOk result (self.new.frees.items ≡ self.old.frees.items ++ free ∷ []) }
+        ensures goals { self.new.goals ≡ self.old.goals }
+        ensures lists { self.new.lists ≡ self.old.lists }
+        ensures rules { self.new.rules ≡ self.old.rules }
     {
         let number = self.frees.len();
         self.frees.push(free)?;
         Ok(number)
     }
 
-    // The number of a list that is still to come.
-    fn reserve(&mut self) -> Result<usize, Memory> {
-        let number = self.lists.len();
-        self.lists.push(Span { from: 0, to: 0 })?;
-        Ok(number)
-    }
-
+    // The number of a list whose goals are still to come.
     fn wait<'a>(
         &mut self,
-        goals: &'a Vec<Goal>,
-        waiting: &mut Vec<Waiting<'a>>,
-    ) -> Result<usize, Memory> {
-        let list = self.reserve()?;
-        waiting.push(Waiting { goals, list })?;
-        Ok(list)
+        goals: &'a [Goal],
+        waiting: &mut Vec<&'a [Goal]>,
+    ) -> Result<usize, Memory>
+        ensures goals { self.new.goals ≡ self.old.goals }
+        ensures rules { self.new.rules ≡ self.old.rules }
+        ensures put { IfOk result (λ list. (b : Nodes) → IsPut b self.old self.new waiting.old.items waiting.new.items (suc (goals_weight (goals_of b goals.now))) (λ c t. IsList b c t list (goals_of b goals.now))) }
+    {
+        let number = self.lists.len();
+        self.lists.push(Span { from: 0, to: 0 })?;
+        waiting.push(goals)?;
+        Ok(number)
     }
 
     fn add_clause<'a>(
@@ -138,15 +138,19 @@ impl Table {
         alloc: Global,
         bank: &Bank,
         clause: &'a Clause,
-        waiting: &mut Vec<Waiting<'a>>,
-    ) -> Result<(), Memory> {
-        let Spine { head, args } = spine_of(alloc, bank, clause.head)?;
-        let found = head_args(alloc, bank, clause.vars.len(), args.as_slice())?;
-        let key = first_key(bank, args.as_slice());
-        let body = self.wait(&clause.body, waiting)?;
+        waiting: &mut Vec<&'a [Goal]>,
+    ) -> Result<(), Memory>
+        ensures goals { self.new.goals ≡ self.old.goals }
+        ensures one { OnOk result (length self.new.rules.items ≡ suc (length self.old.rules.items)) }
+        ensures put { OnOk result (IsPut bank.now self.old self.new waiting.old.items waiting.new.items (clause_weight (clause_of bank.now clause.now)) (λ c t. IsRule bank.now c t (length self.old.rules.items) (clause_of bank.now clause.now))) }
+    {
+        let spine = spine_of(alloc, bank, clause.head)?;
+        let found = head_args(alloc, bank, clause.vars.len(), spine.args.as_slice())?;
+        let key = first_key(bank, spine.args.as_slice());
+        let body = self.wait(clause.body.as_slice(), waiting)?;
         self.rules.push(Rule {
             type_vars: clause.type_vars,
-            head,
+            head: spine.head,
             slots: found.slots,
             pairs: found.pairs,
             key,
@@ -160,15 +164,70 @@ impl Table {
         &mut self,
         alloc: Global,
         bank: &Bank,
-        clauses: &'a Vec<Clause>,
-        waiting: &mut Vec<Waiting<'a>>,
-    ) -> Result<Span, Memory> {
+        clauses: &'a [Clause],
+        waiting: &mut Vec<&'a [Goal]>,
+    ) -> Result<Span, Memory>
+        ensures goals { self.new.goals ≡ self.old.goals }
+        ensures put { IfOk result (λ s. IsPut bank.now self.old self.new waiting.old.items waiting.new.items (clauses_weight (clauses_of bank.now clauses.now)) (λ c t. AreRules bank.now c t s.from s.to (clauses_of bank.now clauses.now))) }
+    {
         let from = self.rules.len();
-        for clause in clauses {
+        let mut rest = clauses;
+        'clauses: while let Some((clause, others)) = rest.split_first() {
             self.add_clause(alloc, bank, clause, waiting)?;
+            rest = others;
         }
         let to = self.rules.len();
         Ok(Span { from, to })
+    }
+
+    // Assumed clauses in front of goals, with what is written in the clauses.
+    fn put_assume<'a>(
+        &mut self,
+        alloc: Global,
+        bank: &Bank,
+        clauses: &'a [Clause],
+        goals: &'a [Goal],
+        waiting: &mut Vec<&'a [Goal]>,
+    ) -> Result<Flat, Memory>
+        ensures goals { self.new.goals ≡ self.old.goals }
+        ensures put { IfOk result (λ flat. IsPut bank.now self.old self.new waiting.old.items waiting.new.items (goal_weight (assuming (clauses_of bank.now clauses.now) (goals_of bank.now goals.now))) (λ c t. IsGoal bank.now c t flat (assuming (clauses_of bank.now clauses.now) (goals_of bank.now goals.now)))) }
+    {
+        let written = free_in_clauses(alloc, bank, clauses)?;
+        let assumed = self.add_clauses(alloc, bank, clauses, waiting)?;
+        let list = self.wait(goals, waiting)?;
+        let free = self.put_free(written)?;
+        Ok(Flat::Assume(assumed, list, free))
+    }
+
+    // Goals that are denied, with what is written in them.
+    fn put_not<'a>(
+        &mut self,
+        alloc: Global,
+        bank: &Bank,
+        goals: &'a [Goal],
+        waiting: &mut Vec<&'a [Goal]>,
+    ) -> Result<Flat, Memory>
+        ensures goals { self.new.goals ≡ self.old.goals }
+        ensures put { IfOk result (λ flat. IsPut bank.now self.old self.new waiting.old.items waiting.new.items (goal_weight (denied (goals_of bank.now goals.now))) (λ c t. IsGoal bank.now c t flat (denied (goals_of bank.now goals.now)))) }
+    {
+        let written = free_in_goals(alloc, bank, goals)?;
+        let list = self.wait(goals, waiting)?;
+        let free = self.put_free(written)?;
+        Ok(Flat::Not(list, free))
+    }
+
+    fn put_either<'a>(
+        &mut self,
+        left: &'a [Goal],
+        right: &'a [Goal],
+        waiting: &mut Vec<&'a [Goal]>,
+    ) -> Result<Flat, Memory>
+        ensures goals { self.new.goals ≡ self.old.goals }
+        ensures put { IfOk result (λ flat. (b : Nodes) → IsPut b self.old self.new waiting.old.items waiting.new.items (goal_weight (Either (goals_of b left.now) (goals_of b right.now))) (λ c t. IsGoal b c t flat (Either (goals_of b left.now) (goals_of b right.now)))) }
+    {
+        let one = self.wait(left, waiting)?;
+        let other = self.wait(right, waiting)?;
+        Ok(Flat::Either(one, other))
     }
 
     fn flattened<'a>(
@@ -176,68 +235,83 @@ impl Table {
         alloc: Global,
         bank: &Bank,
         goal: &'a Goal,
-        waiting: &mut Vec<Waiting<'a>>,
+        waiting: &mut Vec<&'a [Goal]>,
     ) -> Result<Flat, Memory>
-        ensures { IfOk result (λ flat. IsNumbered self.new.frees.items flat (goal_of bank.now goal.now)) }
+        ensures goals { self.new.goals ≡ self.old.goals }
+        ensures put { IfOk result (λ flat. IsPut bank.now self.old self.new waiting.old.items waiting.new.items (goal_weight (goal_of bank.now goal.now)) (λ c t. IsGoal bank.now c t flat (goal_of bank.now goal.now))) }
     {
         match goal {
             Goal::Atom(term) => Ok(Flat::Atom(*term)),
             Goal::Cut => Ok(Flat::Cut),
             Goal::Either(left, right) => {
-                let one = self.wait(left, waiting)?;
-                let other = self.wait(right, waiting)?;
-                Ok(Flat::Either(one, other))
+                let flat = self.put_either(left.as_slice(), right.as_slice(), waiting)?;
+                Ok(flat)
             }
-            Goal::Some(_, goals) => Ok(Flat::Some(self.wait(goals, waiting)?)),
-            Goal::All(_, goals) => Ok(Flat::All(self.wait(goals, waiting)?)),
+            Goal::Some(_, goals) => {
+                let list = self.wait(goals.as_slice(), waiting)?;
+                Ok(Flat::Some(list))
+            }
+            Goal::All(_, goals) => {
+                let list = self.wait(goals.as_slice(), waiting)?;
+                Ok(Flat::All(list))
+            }
             Goal::Assume(clauses, goals) => {
-                let assumed = self.add_clauses(alloc, bank, clauses, waiting)?;
-                let list = self.wait(goals, waiting)?;
-                let written = free_in_clauses(alloc, bank, clauses.as_slice())?;
-                let free = self.put_free(written)?;
-                Ok(Flat::Assume(assumed, list, free))
+                let flat = self.put_assume(
+                    alloc,
+                    bank,
+                    clauses.as_slice(),
+                    goals.as_slice(),
+                    waiting,
+                )?;
+                Ok(flat)
             }
             Goal::Not(goals) => {
-                let list = self.wait(goals, waiting)?;
-                let written = free_in_goals(alloc, bank, goals.as_slice())?;
-                let free = self.put_free(written)?;
-                Ok(Flat::Not(list, free))
+                let flat = self.put_not(alloc, bank, goals.as_slice(), waiting)?;
+                Ok(flat)
             }
         }
     }
 
+    // Adds the goals of a list. Their numbers.
     fn add_list<'a>(
         &mut self,
         alloc: Global,
         bank: &Bank,
-        next: Waiting<'a>,
-        waiting: &mut Vec<Waiting<'a>>,
-    ) -> Result<(), Memory> {
+        goals: &'a [Goal],
+        waiting: &mut Vec<&'a [Goal]>,
+    ) -> Result<Span, Memory>
+        ensures put { IfOk result (λ s. IsPut bank.now self.old self.new waiting.old.items waiting.new.items (goals_weight (goals_of bank.now goals.now)) (λ c t. AreGoals bank.now c t s.from s.to (goals_of bank.now goals.now))) }
+    {
         let from = self.goals.len();
-        for goal in next.goals {
+        let mut rest = goals;
+        'goals: while let Some((goal, others)) = rest.split_first() {
             let flat = self.flattened(alloc, bank, goal, waiting)?;
             self.goals.push(flat)?;
+            rest = others;
         }
         let to = self.goals.len();
-        if let Some(span) = self.lists.get_mut(next.list) {
-            *span = Span { from, to };
-        }
-        Ok(())
+        Ok(Span { from, to })
     }
 
-    fn add_waiting<'a>(
+    // Adds the goals of the lists that are to come, the first of which has this number, and of those that come with them.
+    fn fill<'a>(
         &mut self,
         alloc: Global,
         bank: &Bank,
-        mut waiting: Vec<Waiting<'a>>,
-    ) -> Result<(), Memory> {
-        for _ in 0..u64::MAX {
-            let Some(next) = waiting.pop() else {
-                return Ok(());
-            };
-            self.add_list(alloc, bank, next, &mut waiting)?;
+        first: usize,
+        waiting: &mut Vec<&'a [Goal]>,
+    ) -> Result<(), Memory>
+        requires { length self.old.lists.items ≡ first + length waiting.old.items }
+        ensures { OnOk result (LeadsTo bank.now (Coming bank.now first waiting.old.items) Never (up_to first self.old) (shown self.new)) }
+    {
+        let mut done = 0usize;
+        'lists: while done < waiting.len() {
+            let goals = waiting[done];
+            let span = self.add_list(alloc, bank, goals, waiting)?;
+            self.lists[first + done] = span;
+            done += 1;
         }
-        Err(Memory)
+        Ok(())
     }
 
     /// Adds the goals, and gives the number of their list.
@@ -246,10 +320,14 @@ impl Table {
         alloc: Global,
         bank: &Bank,
         goals: &Vec<Goal>,
-    ) -> Result<usize, Memory> {
+    ) -> Result<usize, Memory>
+        ensures means { IfOk result (λ list. IsListOf bank.now self.new list (goals_of bank.now goals.now.items)) }
+        ensures kept { OnOk result (LeadsTo bank.now Never Never (shown self.old) (shown self.new)) }
+    {
+        let first = self.lists.len();
         let mut waiting = Vec::new(alloc);
-        let list = self.wait(goals, &mut waiting)?;
-        self.add_waiting(alloc, bank, waiting)?;
+        let list = self.wait(goals.as_slice(), &mut waiting)?;
+        self.fill(alloc, bank, first, &mut waiting)?;
         Ok(list)
     }
 
@@ -259,10 +337,14 @@ impl Table {
         alloc: Global,
         bank: &Bank,
         clauses: &Vec<Clause>,
-    ) -> Result<Span, Memory> {
+    ) -> Result<Span, Memory>
+        ensures means { IfOk result (λ span. AreClausesOf bank.now self.new span (clauses_of bank.now clauses.now.items)) }
+        ensures kept { OnOk result (LeadsTo bank.now Never Never (shown self.old) (shown self.new)) }
+    {
+        let first = self.lists.len();
         let mut waiting = Vec::new(alloc);
-        let span = self.add_clauses(alloc, bank, clauses, &mut waiting)?;
-        self.add_waiting(alloc, bank, waiting)?;
+        let span = self.add_clauses(alloc, bank, clauses.as_slice(), &mut waiting)?;
+        self.fill(alloc, bank, first, &mut waiting)?;
         Ok(span)
     }
 }

@@ -272,7 +272,7 @@ step_back : (h : Home) (later : Later) (u : State) (i : Instr) (a : Acts h later
 step_back h later u i a s e t None k f = absurd (cc)
 step_back h later u i a s e t (Some v) k f = a.back s e v k
 
-steps : (h : Home) (later : Later) (u : State) (i : Instr) → Steps h later u i
+pub steps : (h : Home) (later : Later) (u : State) (i : Instr) → Steps h later u i
 steps h later u i =
     let a = step h later u i in record {
       to = settles h i a.to;

@@ -3,18 +3,18 @@ use Rattle.std.proofs.Common.{◌≡◌, ◌∙◌, ◌<◌, ◌≤◌, ◌+◌,
 use Rattle.std.proofs.lemmas.List.{drop_all}
 use Rattle.std.proofs.lemmas.List.Elements.{All-get_or}
 use Rattle.lp_lemmas.proofs.Lists.{drop_read, get_read}
-use Rattle.std.specs.Prelude.{◌^◌, slice_get}
+use Rattle.std.specs.Prelude.{◌^◌, slice_get, is_some, is_none}
 use Rattle.lp_code.specs.declared.record.Record.{Record}
 use Rattle.lp_code.specs.declared.rule.Rule.{Rule}
 use Rattle.lp_code.specs.Symbolic.{Tables}
 use Rattle.lp_code.specs.States.{Captured}
 use Rattle.lp_code.specs.Denote.{home_of, run_of, any_clause, first_state, captured_of, fault_of_run, fault_from, first_fault_of, denote}
-use Rattle.lp_verify.specs.Judged.{judged, is_judged, bytes_of, AreShort}
+use Rattle.lp_verify.specs.Judged.{judged, unjudged, is_judged, bytes_of, AreShort}
 use Rattle.lp_verify.specs.declared.record.Shared.{Shared}
 use Rattle.lp_verify.specs.Named.{was_named}
 use Rattle.lp_verify.specs.inner.At.{HandedIn, IsRan, FaultsGoOn}
 use Rattle.lp_verify.proofs.HandedOn.{nothing_handed}
-use Rattle.lp_verify.proofs.FewerRules.{denotes_nothing}
+use Rattle.lp_verify.proofs.FewerRules.{denotes_nothing, denotes_where}
 
 pub none_yet : (t : Tables) (all : List Record) (x : Shared) → ((n : ℕ) → was_named x.named n ≡ false) → FaultsGoOn t all x 0 all
 none_yet t all x none = ([], refl, nothing_handed x.lists all x.handed.items x.named none)
@@ -30,8 +30,8 @@ told_record t all x y n r rs at rule f ran j =
     let s = ran j in
     (f.1 ∙ ap (fault_of_run n (λ s. fault_from judged t all (f.0 ++ s.assumed) (suc n) rs)) s.0, s.1)
 
-pub no_more_records : (t : Tables) (all : List Record) (x : Shared) (n : ℕ) → FaultsGoOn t all x n [] → first_fault_of judged t all ≡ None
-no_more_records t all x n f = f.1
+pub no_more_records : (t : Tables) (all : List Record) (x : Shared) (n : ℕ) → FaultsGoOn t all x n [] → (first_fault_of judged t all ≡ None) × (is_some (denote t all) ≡ is_none (first_fault_of unjudged t all))
+no_more_records t all x n f = (f.1, denotes_where t all f.1)
 
 -- what is told of the record of a number, where this was handed to it
 abbrev pub IsRecordRan : Tables → (all : List Record) → (x y : Shared) → (n : ℕ) → Record → Option (ℕ × Rule) → Type 0

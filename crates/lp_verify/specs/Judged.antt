@@ -1,5 +1,5 @@
 -- What a verdict says: the rules whose first fault is told, and where.
-use Rattle.std.specs.Prelude.{◌≡◌, ℕ, ◌+◌, ◌<◌, ◌^◌, List, [], ◌∷◌, Some, None, Bool, true, false, Result, Ok, Err}
+use Rattle.std.specs.Prelude.{◌≡◌, is_some, is_none, ℕ, ◌+◌, ◌<◌, ◌^◌, List, [], ◌∷◌, Some, None, Bool, true, false, Result, Ok, Err}
 use Rattle.std.specs.List.{All as Each}
 use Rattle.lp_code.specs.declared.instruction.Instr.{Instr}
 use Rattle.lp_code.specs.declared.record.Record.{Record}
@@ -14,6 +14,10 @@ use Rattle.lp_verify.specs.declared.refusal.VerifyRefusal.TheVariants as refusal
 -- the rules on registers' numbers, on reading and setting them, on constants, on loose indices, on the order of instructions, on blocks, on assumed records and on the key
 abbrev pub judged : List Rule
 judged = rule.Register ∷ rule.Unset ∷ rule.Set ∷ rule.Constant ∷ rule.Index ∷ rule.Term ∷ rule.Order ∷ rule.Block ∷ rule.Clause ∷ rule.Key ∷ []
+
+-- the rules that are left
+abbrev pub unjudged : List Rule
+unjudged = rule.Typing ∷ rule.Head ∷ []
 
 abbrev pub is_judged : Rule → Bool
 is_judged rule.Register = true
@@ -37,8 +41,9 @@ bytes_of (i ∷ is) = length_of i + bytes_of is
 abbrev pub AreShort : List Record → Type 0
 AreShort rs = Each (λ (r : Record). bytes_of r.code.items < 2 ^ 32) rs
 
--- none of these rules is broken where code is accepted; one that is told is the first one, and the code denotes nothing; want of memory says nothing
+-- where code is accepted, none of these rules is broken, and it denotes clauses exactly where none of the others is; one that is told is the first one, and the code denotes nothing;
+-- want of memory says nothing
 abbrev pub IsTold : {A : Type 0} → Tables → List Record → Result A VerifyRefusal → Type 0
-IsTold t rs (Ok v) = first_fault_of judged t rs ≡ None
+IsTold t rs (Ok v) = (first_fault_of judged t rs ≡ None) × (is_some (denote t rs) ≡ is_none (first_fault_of unjudged t rs))
 IsTold t rs (Err (refusal.Invalid c at r)) = is_judged r ≡ true → (first_fault_of judged t rs ≡ Some (record { record_number = c; at = at; rule = r })) × (denote t rs ≡ None)
 IsTold t rs (Err refusal.Memory) = Unit {0}

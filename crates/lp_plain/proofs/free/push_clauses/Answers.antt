@@ -1,4 +1,3 @@
-use Rattle.std.proofs.Common.{arith}
 use Rattle.std.proofs.lemmas.List.{nil_from_length}
 use Rattle.lp_plain.proofs.Collects.{no_clauses_split, clauses_split}
 use Rattle.lp_plain.proofs.free.push_clauses.Goals as goal

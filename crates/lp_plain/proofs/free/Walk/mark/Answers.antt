@@ -1,8 +1,8 @@
-use Rattle.std.proofs.Common.{subst, sym, ap, ◌∙◌, ◌≡◌, nat_eq, true, refl, inr}
+use Rattle.std.proofs.Common.{subst, sym, ◌≡◌, nat_eq, true, refl}
 use Rattle.std.specs.Prelude.{◌⊎◌}
 use Rattle.indexmap.specs.IndexSet.{contains}
 use Rattle.lp_plain.specs.contracts.below.BelowPartialEq.TheImpl as compared
-use Rattle.lp_plain.specs.inner.Collecting.{piece, place, is_marked, in_term, in_type}
+use Rattle.lp_plain.specs.inner.Collecting.{piece, place, is_marked}
 use Rattle.lp_plain.proofs.Looks.{was_marked}
 use Rattle.lp_plain.proofs.Sightings.{same_found, term_marked, type_marked}
 use Rattle.lp_plain.proofs.free.Walk.mark.Goals as goal

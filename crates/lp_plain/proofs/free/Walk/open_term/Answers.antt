@@ -1,6 +1,6 @@
 use Rattle.std.proofs.Common.{refl, sym}
 use Rattle.lp_term.proofs.Walking.{on_ok}
-use Rattle.lp_plain.proofs.Collects.{constant_split, abs_split, app_split, integer_split, text_split, eigen_split, logic_split, typed_param_split}
+use Rattle.lp_plain.proofs.Collects.{constant_split, abs_split, app_split, typed_param_split}
 use Rattle.lp_plain.proofs.Sightings.{put_opens}
 use Rattle.lp_plain.proofs.free.Walk.open_term.Goals as goal
 

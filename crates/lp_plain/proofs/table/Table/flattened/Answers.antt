@@ -1,29 +1,53 @@
-use Rattle.std.proofs.Common.{ap, sym, ◌∙◌, subst}
-use Rattle.lp_model.specs.Flat.{collect_goals, collect_clauses}
+use Rattle.std.proofs.Common.{refl, sym, ap, ◌∙◌, arith}
+use Rattle.lp_term.specs.Nodes.{type_tree}
+use Rattle.lp_model.specs.Flat.{Either, Exists, Forall, assuming, denied}
 use Rattle.lp_model.specs.Flattened.{goal_of, goals_of, clauses_of}
-use Rattle.lp_plain.specs.Collected.{AreCollected}
-use Rattle.lp_normal.proofs.Meanings.{assume_is, not_is}
+use Rattle.lp_normal.proofs.Meanings.{atom_is, cut_is, either_is, some_is, all_is, assume_is, not_is}
+use Rattle.lp_plain.proofs.Tabled.{put_nothing, put_as, goal_put}
 use Rattle.lp_plain.proofs.table.Table.flattened.Goals as goal
 
-pub returns-in_ok-free-in-Assume : goal.returns-in_ok-free-in-Assume
-returns-in_ok-free-in-Assume c =
+pub returns-in-Atom-clause-put : goal.returns-in-Atom-clause-put
+returns-in-Atom-clause-put c =
     let b = c.args.bank.now in
-    let w = c.in_ok-written-in-Assume in (
-      clauses_of b c.in-Assume.clauses.items,
-      goals_of b c.in-Assume.goals.items,
-      w.written,
-      ap (goal_of b) c.in-Assume.is ∙ assume_is b c.in-Assume.clauses c.in-Assume.goals,
-      c.in_ok-free-in-Assume.ensures,
-      subst (λ l. AreCollected w.written (λ f. collect_clauses f 0 (clauses_of b l))) c.as_slice.ensures.value w.ensures,
-    )
+    goal_put b _ _ _ _ _ _ _ (ap (goal_of b) c.in-Atom.is ∙ atom_is b c.in-Atom.term) (put_nothing b _ _ _ _ (omega arith) (c.in-Atom.term, refl, refl))
 
-pub returns-in_ok-free-in-Not : goal.returns-in_ok-free-in-Not
-returns-in_ok-free-in-Not c =
+pub returns-in-Cut-clause-put : goal.returns-in-Cut-clause-put
+returns-in-Cut-clause-put c =
     let b = c.args.bank.now in
-    let w = c.in_ok-written-in-Not in (
-      goals_of b c.in-Not.goals.items,
-      w.written,
-      ap (goal_of b) c.in-Not.is ∙ not_is b c.in-Not.goals,
-      c.in_ok-free-in-Not.ensures,
-      subst (λ l. AreCollected w.written (λ f. collect_goals f 0 (goals_of b l))) c.as_slice-in-Not.ensures.value w.ensures,
-    )
+    goal_put b _ _ _ _ _ _ _ (ap (goal_of b) c.in-Cut.is ∙ cut_is b) (put_nothing b _ _ _ _ (omega arith) refl)
+
+pub returns-in_ok-flat-in-Either-clause-put : goal.returns-in_ok-flat-in-Either-clause-put
+returns-in_ok-flat-in-Either-clause-put c =
+    let b = c.args.bank.now in
+    let l = c.in-Either.left in
+    let r = c.in-Either.right in
+    let e = ap (λ x. Either (goals_of b x) (goals_of b r.items)) (sym c.as_slice.ensures.value) ∙ ap (λ x. Either (goals_of b c.as_slice.result.now) (goals_of b x)) (sym c.as_slice-in-Either.ensures.value) in
+    goal_put b _ _ _ _ _ _ _ (ap (goal_of b) c.in-Either.is ∙ either_is b l r ∙ e) (c.in_ok-flat-in-Either.ensures.put b)
+
+pub returns-in_ok-list-in-Some-clause-put : goal.returns-in_ok-list-in-Some-clause-put
+returns-in_ok-list-in-Some-clause-put c =
+    let b = c.args.bank.now in
+    let T = c.in-Some.field-0 in
+    goal_put b _ _ _ _ _ _ _ (ap (goal_of b) c.in-Some.is ∙ some_is b T c.in-Some.goals ∙ ap (λ x. Exists (type_tree b T.0) (goals_of b x)) (sym c.as_slice-in-Some.ensures.value))
+    (put_as b _ _ _ _ _ _ _ _ (c.in_ok-list-in-Some.ensures.put b) (omega arith) (λ c' t h. (c.in_ok-list-in-Some.list, refl, h)))
+
+pub returns-in_ok-list-in-All-clause-put : goal.returns-in_ok-list-in-All-clause-put
+returns-in_ok-list-in-All-clause-put c =
+    let b = c.args.bank.now in
+    let T = c.in-All.field-0 in
+    goal_put b _ _ _ _ _ _ _ (ap (goal_of b) c.in-All.is ∙ all_is b T c.in-All.goals ∙ ap (λ x. Forall (type_tree b T.0) (goals_of b x)) (sym c.as_slice-in-All.ensures.value))
+    (put_as b _ _ _ _ _ _ _ _ (c.in_ok-list-in-All.ensures.put b) (omega arith) (λ c' t h. (c.in_ok-list-in-All.list, refl, h)))
+
+pub returns-in_ok-flat-in-Assume-clause-put : goal.returns-in_ok-flat-in-Assume-clause-put
+returns-in_ok-flat-in-Assume-clause-put c =
+    let b = c.args.bank.now in
+    let cs = c.in-Assume.clauses in
+    let gs = c.in-Assume.goals in
+    let e =
+    ap (λ x. assuming (clauses_of b x) (goals_of b gs.items)) (sym c.as_slice-in-Assume.ensures.value) ∙ ap (λ x. assuming (clauses_of b c.as_slice-in-Assume.result.now) (goals_of b x)) (sym c.as_slice-in-Assume-2.ensures.value) in
+    goal_put b _ _ _ _ _ _ _ (ap (goal_of b) c.in-Assume.is ∙ assume_is b cs gs ∙ e) c.in_ok-flat-in-Assume.ensures.put
+
+pub returns-in_ok-flat-in-Not-clause-put : goal.returns-in_ok-flat-in-Not-clause-put
+returns-in_ok-flat-in-Not-clause-put c =
+    let b = c.args.bank.now in
+    goal_put b _ _ _ _ _ _ _ (ap (goal_of b) c.in-Not.is ∙ not_is b c.in-Not.goals ∙ ap (λ x. denied (goals_of b x)) (sym c.as_slice-in-Not.ensures.value)) c.in_ok-flat-in-Not.ensures.put

@@ -1,0 +1,10 @@
+use Rattle.lp_model.specs.Flattened.{goals_of, clauses_of}
+use Rattle.lp_plain.proofs.Tabled.{assume_put}
+use Rattle.lp_plain.proofs.table.Table.put_assume.Goals as goal
+
+pub returns-clause-put : goal.returns-clause-put
+returns-clause-put c =
+    let b = c.args.bank.now in
+    let f = c.in_ok-free.ensures in
+    assume_put b _ _ _ _ _ _ _ (clauses_of b c.args.clauses.now) (goals_of b c.args.goals.now) c.in_ok-assumed.assumed c.in_ok-list.list c.in_ok-free.free c.in_ok-written.written c.in_ok-assumed.ensures.put (c.in_ok-list.ensures.put b)
+    f.goals f.lists f.rules f.frees f.number c.in_ok-written.ensures
