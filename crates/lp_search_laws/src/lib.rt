@@ -30,3 +30,7 @@ pub mod tries;
 pub mod negation;
 /// The search as a whole.
 pub mod whole;
+/// Worked searches.
+pub mod search_rows;
+/// Worked searches with negated goals.
+pub mod negation_rows;
