@@ -28,6 +28,8 @@ pub mod residual;
 pub mod tries;
 /// Negated goals.
 pub mod negation;
+/// Proofs whose leaves are failing searches.
+pub mod leaves;
 /// The search as a whole.
 pub mod whole;
 /// Worked searches.
