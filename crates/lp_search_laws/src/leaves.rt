@@ -15,7 +15,8 @@ pub fn same_goals_are_provable()
     ensures { (o : Order) (d : Declared) → IsStandard d → (P : List Clause) (E : List Ty) (Q R : List ClauseFormula) (G H : Term) → SameClauses o d P E Q R → SameGoal d E G H → (ProvableBy (IsFailedSearch o d P) d E Q G → ProvableBy (IsFailedSearch o d P) d E R H) × (ProvableBy (IsFailedSearch o d P) d E R H → ProvableBy (IsFailedSearch o d P) d E Q G) }
 {}
 
-/// A failing search with the assumptions in their order is one with the clauses in any.
+/// A failing search with the assumptions in their order is one with the clauses in any; so is a proof with such leaves one with the others.
 pub fn leaves_in_order_are_leaves()
-    ensures { (o : Order) (d : Declared) (P : List Clause) (E : List Ty) (R : List ClauseFormula) (G : Term) (f : Failure) → IsFailedSearch o d P E R G f → IsFailedSearch InAny d P E R G f }
+    ensures proofs { (o : Order) (d : Declared) (P : List Clause) (E : List Ty) (R : List ClauseFormula) (G : Term) → ProvableBy (IsFailedSearch o d P) d E R G → ProvableBy (IsFailedSearch InAny d P) d E R G }
+    ensures leaves { (o : Order) (d : Declared) (P : List Clause) (E : List Ty) (R : List ClauseFormula) (G : Term) (f : Failure) → IsFailedSearch o d P E R G f → IsFailedSearch InAny d P E R G f }
 {}
