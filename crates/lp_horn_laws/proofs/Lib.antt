@@ -4,4 +4,3 @@ pub mod Ends
 pub mod Terms
 pub mod Typed
 pub mod Unifies
-pub mod Rows

@@ -3,3 +3,4 @@ pub mod Terms
 pub mod Filled
 pub mod Open
 pub mod Assumed
+pub mod Worked

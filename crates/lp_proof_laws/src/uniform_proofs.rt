@@ -2,14 +2,15 @@
 
 ghost use Rattle.std.specs.Prelude.{◌++◌, ◌∷◌, ◌≤◌, [], length, map, ℕ, List};
 ghost use Rattle.lp_calculus.specs.Convert.{Converts};
-ghost use Rattle.lp_calculus.specs.Term.{Atom, Term, apply, atom};
+ghost use Rattle.lp_calculus.specs.Term.{Atom, Term, abs, apply, atom, index};
 ghost use Rattle.lp_calculus.specs.Types.{Ty};
 ghost use Rattle.lp_lemmas.specs.Each.{EachOf};
 ghost use Rattle.lp_model.specs.Flatten.{ClauseFormula};
 ghost use Rattle.lp_model.specs.Proofs.{Declared, Failure, IsFailure, IsFormula, PlainlyProvable, Provable, Rooted, Stands, assumed};
 ghost use Rattle.lp_model.specs.Renaming.{HasLevel, IsRenaming, renamed, renamed_clause};
 ghost use Rattle.lp_proof_laws.specs.Unnegated.{IsUnnegated};
-ghost use Rattle.lp_standard.specs.Connectives.{not_of};
+ghost use Rattle.lp_proof_laws.specs.Worked.{impl, kind, on, one_predicate};
+ghost use Rattle.lp_standard.specs.Connectives.{not_of, pi_of};
 ghost use Rattle.lp_standard.specs.Schemes.{IsStandard};
 
 /// What is provable without a failing search stays so with more clauses, in any order. (With one it does not: `not p` is provable as long as no clause
@@ -52,4 +53,9 @@ pub fn negations_are_proved_by_failures()
 /// through, whatever stands beside them. So which fresh one a `pi` is opened with does not matter.
 pub fn eigenconstants_may_be_renamed()
     ensures { (d : Declared) → (E F : List Ty) → (ρ : ℕ → ℕ) → IsRenaming E F ρ → (P : List ClauseFormula) → (G : Term) → EachOf (λ D. HasLevel (length E) D.formula) P → HasLevel (length E) G → PlainlyProvable d E P G → PlainlyProvable d F (map (renamed_clause ρ) P) (renamed ρ G) }
+{}
+
+/// A uniform proof, written out: of `pi x\ (q x => q x)`, from no clauses.
+pub fn a_proof_written_out()
+    ensures { PlainlyProvable one_predicate [] [] (pi_of (kind 8) (abs (impl (on 32 (index 0)) (on 32 (index 0))))) }
 {}

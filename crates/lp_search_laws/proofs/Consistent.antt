@@ -244,7 +244,7 @@ module _ (d : Declared) (std : IsStandard d) (P : List Clause) (program : EachOf
         let c = h.closing in
         let A = newest_first f.assumed in
         let typed = goals_together d std F f.variables f.goals (typed_entries f.variables F A f.written (length F) 0 (goal_list f.goals) h.begins.entries) in
-        let p1 = same_provable d std P same E (clauses_at P A c) R (closed c (formula_of_goals f.goals)) G h.clauses h.goal p in
+        let p1 = (same_provable d std InAny P same E (clauses_at P A c) R (closed c (formula_of_goals f.goals)) G h.clauses h.goal).1 p in
         let p2 = transport (λ X. ProvableBy L d X (clauses_at P A c) (closed c (formula_of_goals f.goals))) (sym h.is_closed) p1 in
         let y : SolvesBranch L d P no_query no_values (failing_typing F f) (failing_branch (length F) f) = record {
           query = query d;

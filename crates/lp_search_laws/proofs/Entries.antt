@@ -26,7 +26,8 @@ use Rattle.lp_proof_laws.proofs.Uniform.Assumptions.{Focuses, replaced_clause}
 use Rattle.lp_proof_laws.proofs.Uniform.Formulas.{formula_eigens, closed_instance}
 use Rattle.lp_proof_laws.proofs.Uniform.Uniforms.{by_conversion}
 use Rattle.lp_proof_laws.proofs.Uniform.FocusRoots.{fconv}
-use Rattle.lp_search_laws.specs.Holds.{IsTyped, IsVariableOf}
+use Rattle.lp_search_laws.specs.Holds.{IsTyped}
+use Rattle.lp_search_laws.proofs.Kept.{IsVariableOf}
 use Rattle.lp_search_laws.specs.Clauses.{assumed_as, assumed_at, sentence_of, clauses_at}
 use Rattle.lp_search_laws.specs.Branches.{IsTypedEntry, AreTypedEntries, EntryHolds, AreProved}
 use Rattle.lp_proof_laws.proofs.Uniform.Roots.{Converting}

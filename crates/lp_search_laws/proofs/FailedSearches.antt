@@ -18,7 +18,7 @@ use Rattle.lp_model.specs.Search.{look}
 use Rattle.lp_model.specs.Answers.{Variable, Closes}
 use Rattle.lp_model.specs.Proofs.{AreFlattened, Declared, Failure, IsFormula, IsSentence, Leaves, Stands, assumed, newest_first}
 use Rattle.lp_proof_laws.specs.Open.{Fits}
-use Rattle.lp_proof_laws.proofs.Uniform.Assumptions.{AreKept, Extends}
+use Rattle.lp_proof_laws.proofs.Uniform.Assumptions.{AreKept, Extends, extends_self}
 use Rattle.lp_proof_laws.proofs.Uniform.Contexts.{get_front, get_back, get_split}
 use Rattle.lp_proof_laws.proofs.Uniform.Formulas.{formula_eigens}
 use Rattle.lp_proof_laws.proofs.Uniform.Openings.{fits_more}
@@ -61,7 +61,7 @@ same_behind o d C E F x P R S (each_apart B A c cs f p q) =
     each_apart B (A ++ S) c cs (formula_more d E F x (closed c (formula_of_clauses cs)) f) (behind_it P B (assumed (closed c (formula_of_clauses cs)) ∷ A) S p) (behind_both R B (assumed_at c (clause_list cs)) A S q)
 same_behind o d C E F x P R S (clause_flat B A n bs t cs Γ θ v w e p q) =
     clause_flat B (A ++ S) n bs t cs Γ θ v (fits_wider d E F x Γ θ w) e (behind_it P B (assumed (instantiate θ t) ∷ A) S p) (behind_it R B (assumed (instantiate θ (formula_of_clauses cs)) ∷ A) S q)
-same_behind o d C E F x P R S (program_flat G A k e p q) = program_flat G (A ++ S) k e (behind_it P G A S p) (behind_it R (map sentence_of C) A S q)
+same_behind o d C E F x P R S (program_flat G A k s e p q) = program_flat G (A ++ S) k s e (behind_it P G A S p) (behind_it R (map sentence_of C) A S q)
 same_behind o d C E F x P R S (sentence_flat B A n D cs a s e p q) = sentence_flat B (A ++ S) n D cs a s e (behind_it P B (D ∷ A) S p) (behind_both R B (map sentence_of (clause_list cs)) A S q)
 same_behind o d C E F x P R S (other_way h) = other_way (same_behind o d C E F x R P S h)
 same_behind o d C E F x P R S (one_by_one Q h k) = one_by_one (Q ++ S) (same_behind o d C E F x P Q S h) (same_behind o d C E F x Q R S k)
@@ -116,10 +116,26 @@ program_kept d F P alike s x =
     (kept_so d alike [] F (map sentence_of P) a, kept_so d alike [] (map sentence_of P) F (other_way a))
 
 -- in their order
-pub program_in_order : {L : Leaves} (d : Declared) (F : List ClauseFormula) (P : List Clause) → KeepsSame (InOrder F) P L d → AreFlattened d F P → AreKept L [] F (map sentence_of P) × AreKept L [] (map sentence_of P) F
-program_in_order d F P alike x =
-    let a : SameClauses (InOrder F) d P [] F (map sentence_of P) = program_flat F [] refl x (sym (append-nil F)) (sym (append-nil (map sentence_of P))) in
+pub program_in_order : {L : Leaves} (d : Declared) (F : List ClauseFormula) (P : List Clause) → KeepsSame (InOrder F) P L d → EachOf (IsSentence d) F → AreFlattened d F P → AreKept L [] F (map sentence_of P) × AreKept L [] (map sentence_of P) F
+program_in_order d F P alike s x =
+    let a : SameClauses (InOrder F) d P [] F (map sentence_of P) = program_flat F [] refl s x (sym (append-nil F)) (sym (append-nil (map sentence_of P))) in
     (kept_so d alike [] F (map sentence_of P) a, kept_so d alike [] (map sentence_of P) F (other_way a))
+
+-- what is the same in that order is so in any
+any_clauses : (o : Order) (d : Declared) (P : List Clause) (E : List Ty) (Q R : List ClauseFormula) → SameClauses o d P E Q R → SameClauses InAny d P E Q R
+any_clauses o d P E Q R (unchanged e) = unchanged e
+any_clauses o d P E Q R (in_some_order a s r) = in_some_order refl s r
+any_clauses o d P E Q R (converted B A D K f g p q v) = converted B A D K f g p q v
+any_clauses o d P E Q R (each_apart B A c cs f p q) = each_apart B A c cs f p q
+any_clauses o d P E Q R (clause_flat B A n bs t cs Γ θ v w e p q) = clause_flat B A n bs t cs Γ θ v w e p q
+any_clauses o d P E Q R (program_flat F A k s e p q) =
+    transport (λ X. SameClauses InAny d P E X R) (sym p) (transport (SameClauses InAny d P E (F ++ A)) (sym q) (same_behind InAny d P E E (extends_self E) F (map sentence_of P) A (program_apart d P E F P s e [])))
+any_clauses o d P E Q R (sentence_flat B A n D cs a s e p q) = sentence_flat B A n D cs refl s e p q
+any_clauses o d P E Q R (other_way h) = other_way (any_clauses o d P E R Q h)
+any_clauses o d P E Q R (one_by_one S h k) = one_by_one S (any_clauses o d P E Q S h) (any_clauses o d P E S R k)
+
+pub any_order : (o : Order) (d : Declared) (P : List Clause) (E : List Ty) (R : List ClauseFormula) (G : Term) (f : Failure) → IsFailedSearch o d P E R G f → IsFailedSearch InAny d P E R G f
+any_order o d P E R G f h = record { eigens = h.eigens; begins = h.begins; closing = h.closing; closes = h.closes; is_closed = h.is_closed; goal = h.goal; clauses = any_clauses o d P E _ R h.clauses; program = h.program; ends = h.ends; gives_none = h.gives_none }
 
 -- failing searches, and those of which something holds that is said of the search and of the types of eigenconstants alone
 pub failed_same : (o : Order) (d : Declared) (P : List Clause) → KeepsSame o P (IsFailedSearch o d P) d

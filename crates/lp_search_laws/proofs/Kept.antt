@@ -1,5 +1,5 @@
 -- A term under a closing converts to the term with the bindings under the closing that was kept.
-use Rattle.std.proofs.Common.{◌≡◌, ℕ, suc, List, ◌∙◌, sym, ap, subst as transport, arith}
+use Rattle.std.proofs.Common.{◌≡◌, ℕ, suc, List, length, Some, slice_get, ◌∙◌, sym, ap, subst as transport, arith}
 use mathlib.Core.Path.{fun_ext}
 use Rattle.lp_calculus.specs.Types.{Ty}
 use Rattle.lp_calculus.specs.Term.{Term, Atom, index, atom, abs, app, constant, integer, text, eigen, logic, param}
@@ -20,7 +20,16 @@ use Rattle.lp_unify_laws.proofs.PairLists.{put_all_instance}
 use Rattle.lp_unify_laws.proofs.Runs.{bindings_at}
 use Rattle.lp_unify_laws.proofs.Laws.{gives_through}
 use Rattle.lp_proof_laws.proofs.Uniform.Uniforms.{by_conversion}
-use Rattle.lp_search_laws.specs.Holds.{Holds, IsTyped, IsVariableOf}
+use Rattle.lp_search_laws.specs.Holds.{Holds, IsTyped}
+
+-- a variable that stands there is one of V, at its own level
+abbrev pub IsVariableOf : List Variable → Atom → Type 0
+IsVariableOf V (logic x l) = (v : Variable) × (slice_get V x ≡ Some v) × (l ≡ length v.scope)
+IsVariableOf V (constant c ts) = Unit {0}
+IsVariableOf V (integer z) = Unit {0}
+IsVariableOf V (text s) = Unit {0}
+IsVariableOf V (eigen k) = Unit {0}
+IsVariableOf V (param k T) = Unit {0}
 
 -- a variable of V at its own level
 pub variable_atom : (d : Declared) (E : List Ty) (V : List Variable) (a : Atom) → IsAtomOf d E V a → IsVariableOf V a

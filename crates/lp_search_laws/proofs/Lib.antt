@@ -49,7 +49,6 @@ pub mod ArithmeticTasks
 pub mod PlainFlat
 pub mod TypedFlats
 pub mod Begins
-pub mod StartRows
 pub mod TypesOver
 pub mod AtomsKept
 pub mod RunsKeep
@@ -71,7 +70,6 @@ pub mod MoreTypes
 pub mod TriedBranch
 pub mod TrySolves
 pub mod TryStands
-pub mod Rows
 pub mod Stack
 pub mod SearchEnds
 pub mod MoreSteps

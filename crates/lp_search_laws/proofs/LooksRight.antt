@@ -15,7 +15,8 @@ use Rattle.lp_model.specs.Answers.{Query, AnswerTyping, Instance, IsInstance, Ty
 use Rattle.lp_model.specs.Proofs.{Declared, AreFlattened, Leaves, no_leaf}
 use Rattle.lp_model.specs.Search.{with_goals, look, start}
 use Rattle.lp_search_laws.specs.Started.{IsPlainQuery, IsPlainSentence, IsPlainlyProvable}
-use Rattle.lp_search_laws.specs.Unnegated.{IsUnnegatedClause, IsUnnegatedTask, AreUnnegatedGoals}
+use Rattle.lp_search_laws.specs.Unnegated.{IsUnnegatedClause, AreUnnegatedGoals}
+use Rattle.lp_search_laws.proofs.Unnegated.{IsUnnegatedTask}
 use Rattle.lp_search_laws.proofs.UnnegatedStarts.{typed_sentences, program_unnegated, query_unnegated, start_unnegated}
 use Rattle.lp_search_laws.specs.Begun.{first_branch, first_typing}
 use Rattle.lp_search_laws.specs.Right.{IsRightFor, IsRightOf}

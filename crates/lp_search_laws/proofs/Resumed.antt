@@ -36,7 +36,8 @@ use Rattle.lp_unify_laws.proofs.Laws.{comes}
 use Rattle.lp_unify_laws.proofs.Trimmed.{closings_have_none, closings_are_kept}
 use Rattle.lp_unify_laws.proofs.Principal.{closings_are_the_same}
 use Rattle.lp_unify_laws.proofs.Stuck.{solve_stuck}
-use Rattle.lp_search_laws.specs.Holds.{IsTyped, IsVariableOf}
+use Rattle.lp_search_laws.specs.Holds.{IsTyped}
+use Rattle.lp_search_laws.proofs.Kept.{IsVariableOf}
 use Rattle.lp_search_laws.specs.Clauses.{assumed_at, sentence_of, clauses_at}
 use Rattle.lp_search_laws.specs.Branches.{IsPlainTerm, IsAssumable, AreProved, ArePlainEntries, IsPlainVariable, IsPlainPair, BranchTyping, IsTypedBranch, SolvesBranch, TypedTask, going, Sol}
 use Rattle.lp_search_laws.specs.Given.{IsLeftBehind, IsTypedFrom}

@@ -12,7 +12,8 @@ use Rattle.lp_model.specs.Search.{look}
 use Rattle.lp_search_laws.specs.Branches.{TypedTask, going, task_of, IsOk, Sol, BranchTyping, IsTypedBranch, IsQueryInstance, SolvesBranch}
 use Rattle.lp_search_laws.specs.Views.{IsRightView}
 use Rattle.lp_search_laws.specs.Right.{IsRightOf}
-use Rattle.lp_search_laws.specs.Unnegated.{IsUnnegatedClause, IsUnnegatedTask}
+use Rattle.lp_search_laws.specs.Unnegated.{IsUnnegatedClause}
+use Rattle.lp_search_laws.proofs.Unnegated.{IsUnnegatedTask}
 use Rattle.lp_search_laws.proofs.Runs.{Stays, RightRun, run_right}
 use Rattle.lp_search_laws.proofs.Unnegated.{IsUnnegatedView, unnegated_look}
 

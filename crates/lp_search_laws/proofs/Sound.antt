@@ -17,7 +17,7 @@ use Rattle.lp_search_laws.specs.Given.{IsGiven, IsGivenFrom}
 use Rattle.lp_search_laws.specs.Started.{IsTypedQuery, IsTypedSentence, IsProvableBy}
 use Rattle.lp_search_laws.specs.Failed.{Order, InOrder, IsFailedSearch}
 use Rattle.lp_search_laws.specs.Branches.{IsQueryInstance, Sol, TypedTask, going, task_of}
-use Rattle.lp_search_laws.proofs.Begins.{start_typed, program_typed, proves_it}
+use Rattle.lp_search_laws.proofs.Begins.{each_sentence, start_typed, program_typed, proves_it}
 use Rattle.lp_search_laws.proofs.LooksRight.{each_look}
 use Rattle.lp_search_laws.proofs.WholeRight.{query_instance, an_instance}
 use Rattle.lp_search_laws.proofs.FailedSearches.{KeepsSame, setting_of, failed_same, program_in_order}
@@ -63,4 +63,4 @@ module _ (d : Declared) (std : IsStandard d) (l : ℕ) (F : List ClauseFormula) 
       let setting = setting_of d same std in
       let r = run_right n d P q (IsFailedSearch (InOrder F) d P) j (λ u. Unit {0}) (λ u. Unit {0}) (λ k. Unit {0}) (λ k. ⊥) (λ height T k. each_look n d setting P (program_typed d std F P s x) q height T k) (λ height T k m. all_stay (λ u. Unit {0}) (look unit_limit n P height (task_of T)) (leaves_any (look unit_limit n P height (task_of T)))) (λ y z k h. h) (λ y z k h. h)
       (λ T u f ts r m st rows k p ns y o c cl. let z = denied_leaf (InOrder F) n d P q j T u f ts r st rows k p ns y c cl in (z.leaf, z.fails)) (λ T u f ts r m st rows k p ns y o c cl z. o) m (start q.type_vars (length q.vars) gs steps answers) (first ∷ []) refl (((start_typed d std l q gs t e n steps answers).1, tt), tt) in
-      transport (EachOf (Fine n)) r.is (each_fine n r.typed (each_given n d P q gs r.typed r.given) r.well_formed (each_proved d std F P same (program_in_order d F P same x) l s x q gs t e r.typed r.well_formed (r.sound tt)))
+      transport (EachOf (Fine n)) r.is (each_fine n r.typed (each_given n d P q gs r.typed r.given) r.well_formed (each_proved d std F P same (program_in_order d F P same (each_sentence d F s) x) l s x q gs t e r.typed r.well_formed (r.sound tt)))

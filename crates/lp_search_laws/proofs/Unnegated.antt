@@ -19,7 +19,19 @@ use Rattle.lp_standard.specs.Connectives as connective
 use Rattle.lp_model.specs.Flat.{Goal, Atomic, Cut, Either, Exists, Forall, Assume, Not, Written, under_all, map_goal, map_goals, map_clause, map_clauses, Goals, no_goals, goals, goal_list, clause_list, Clause, clause, Clauses, no_clauses, clauses, instantiate_goals, type_goals}
 use Rattle.lp_model.specs.Branch.{Entry, Branch, Answer, Task, Go, Try, Stop, Lack, entries, put_entry, put_entries, type_entry, type_entries, both_written}
 use Rattle.lp_model.specs.Search.{with_goals, follow, assigned, compared, candidates, goal_key, tries, slots_of, slotted, pairs_of, renewed, try_clause, in_place, look_constant, look_atom, look_form, look_normal, look_goal, look_branch, look}
-use Rattle.lp_search_laws.specs.Unnegated.{IsUnnegatedGoal, AreUnnegatedGoals, IsUnnegatedClause, AreUnnegatedClauses, IsUnnegatedEntry, IsUnnegatedTask}
+use Rattle.lp_search_laws.specs.Unnegated.{IsUnnegatedGoal, AreUnnegatedGoals, IsUnnegatedClause, AreUnnegatedClauses}
+
+-- tasks without negated goals
+pub record IsUnnegatedEntry (e : Entry) : Type 0 where
+  pub goal : IsUnnegatedGoal e.goal
+  pub assumed : EachOf IsUnnegatedClause e.assumed
+
+-- of a candidate, the clause, what is assumed in its place, and the goals behind
+abbrev pub IsUnnegatedTask : Task → Type 0
+IsUnnegatedTask (Go b) = EachOf IsUnnegatedEntry b.goals
+IsUnnegatedTask (Try c t e b mark) = IsUnnegatedClause c × EachOf IsUnnegatedClause e.assumed × EachOf IsUnnegatedEntry b.goals
+IsUnnegatedTask (Stop x) = Unit {0}
+IsUnnegatedTask Lack = Unit {0}
 
 -- what a view leaves
 abbrev pub IsUnnegatedView : View Task Answer → Type 0

@@ -14,7 +14,8 @@ use Rattle.lp_proof_laws.specs.Unnegated.{IsUnnegatedAtom}
 use Rattle.lp_unify_laws.proofs.Looks.{beta_reduces}
 use Rattle.lp_search_laws.specs.Started.{IsTypedSentence, IsPlainSentence, IsPlainQuery}
 use Rattle.lp_search_laws.specs.Begun.{first_branch}
-use Rattle.lp_search_laws.specs.Unnegated.{AreUnnegatedGoals, IsUnnegatedClause, AreUnnegatedClauses, IsUnnegatedTask}
+use Rattle.lp_search_laws.specs.Unnegated.{AreUnnegatedGoals, IsUnnegatedClause, AreUnnegatedClauses}
+use Rattle.lp_search_laws.proofs.Unnegated.{IsUnnegatedTask}
 use Rattle.lp_search_laws.proofs.Programs.{flattened}
 use Rattle.lp_search_laws.proofs.AtomsKept.{atoms_reduces}
 use Rattle.lp_search_laws.proofs.Unnegated.{goals_mapped, goals_entries, clauses_each}

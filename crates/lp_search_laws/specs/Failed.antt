@@ -4,6 +4,7 @@ use Rattle.lp_calculus.specs.Types.{Ty, instance}
 use Rattle.lp_calculus.specs.Term.{Term}
 use Rattle.lp_calculus.specs.Convert.{Converts}
 use Rattle.lp_calculus.specs.Typing.{o_type}
+use Rattle.lp_lemmas.specs.Each.{EachOf}
 use Rattle.lp_model.specs.declared.ending.Ending.TheVariants.{NoMore}
 use Rattle.lp_model.specs.Index.{instantiate}
 use Rattle.lp_model.specs.Flat.{Goals, no_goals, Clause, Clauses, goal_list, clause_list, formula_of_goals, formula_of_clauses}
@@ -42,7 +43,7 @@ pub data SameClauses (o : Order) (d : Declared) (P : List Clause) (E : List Ty) 
       Q ≡ before ++ assumed (closed c (formula_of_clauses cs)) ∷ behind → R ≡ before ++ (assumed_at c (clause_list cs) ++ behind) → SameClauses o d P E Q R
   clause_flat : {Q R : List ClauseFormula} (before behind : List ClauseFormula) (n : ℕ) (binders : List Bool) (t : Term) (cs : Clauses) (Γ : List Ty) (θ : ℕ → Term) → IsOpen d Γ t o_type → Fits d E Γ θ → flat_clause n d binders t [] [] ≡ Some cs →
       Q ≡ before ++ assumed (instantiate θ t) ∷ behind → R ≡ before ++ assumed (instantiate θ (formula_of_clauses cs)) ∷ behind → SameClauses o d P E Q R
-  program_flat : {Q R : List ClauseFormula} (F behind : List ClauseFormula) → o ≡ InOrder F → AreFlattened d F P → Q ≡ F ++ behind → R ≡ map sentence_of P ++ behind → SameClauses o d P E Q R
+  program_flat : {Q R : List ClauseFormula} (F behind : List ClauseFormula) → o ≡ InOrder F → EachOf (IsSentence d) F → AreFlattened d F P → Q ≡ F ++ behind → R ≡ map sentence_of P ++ behind → SameClauses o d P E Q R
   sentence_flat : {Q R : List ClauseFormula} (before behind : List ClauseFormula) (n : ℕ) (D : ClauseFormula) (cs : Clauses) → o ≡ InAny → IsSentence d D → flatten n d D ≡ Some cs → Q ≡ before ++ D ∷ behind → R ≡ before ++ (map sentence_of (clause_list cs) ++ behind) → SameClauses o d P E Q R
   other_way : {Q R : List ClauseFormula} → SameClauses o d P E Q R → SameClauses o d P E R Q
   one_by_one : {Q R : List ClauseFormula} (S : List ClauseFormula) → SameClauses o d P E Q S → SameClauses o d P E S R → SameClauses o d P E Q R

@@ -1,5 +1,5 @@
 -- What a goal says under a closing, and what stands in its place where it is taken apart.
-use Rattle.std.specs.Prelude.{ℕ, suc, nat_eq, false, ◌&&◌, if◌then◌else◌, ◌⊎◌, ◌≡◌, List, [], ◌∷◌, ◌++◌, length, map, Some, slice_get}
+use Rattle.std.specs.Prelude.{ℕ, suc, nat_eq, false, ◌&&◌, if◌then◌else◌, ◌⊎◌, ◌≡◌, List, [], ◌∷◌, ◌++◌, length, map}
 use Rattle.lp_calculus.specs.Types.{Ty, instance}
 use Rattle.lp_calculus.specs.Term.{Term, Atom, atom, substitute, constant, integer, text, eigen, logic, param}
 use Rattle.lp_calculus.specs.Fill.{Within}
@@ -91,15 +91,6 @@ pub record EqualityHolds (L : Leaves) (θ : ℕ → Ty) (d : Declared) (V : List
 pub record IsTyped (d : Declared) (E : List Ty) (V : List Variable) (t : Term) (T : Ty) : Type 0 where
   pub typed : Typed (over d E V) [] t T
   pub scoped : Within (IsScopedAtom V E) 0 t
-
--- a variable that stands there is one of V, at its own level
-abbrev pub IsVariableOf : List Variable → Atom → Type 0
-IsVariableOf V (logic x l) = (v : Variable) × (slice_get V x ≡ Some v) × (l ≡ length v.scope)
-IsVariableOf V (constant c ts) = Unit {0}
-IsVariableOf V (integer z) = Unit {0}
-IsVariableOf V (text s) = Unit {0}
-IsVariableOf V (eigen k) = Unit {0}
-IsVariableOf V (param k T) = Unit {0}
 
 -- a goal that holds exactly where another one does
 pub record IsSameGoal (L : Leaves) (d : Declared) (E : List Ty) (P : List ClauseFormula) (c : Closing) (t u : Term) : Type 0 where

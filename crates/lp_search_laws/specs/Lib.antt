@@ -13,3 +13,8 @@ pub mod Written
 pub mod Begun
 pub mod Given
 pub mod Views
+pub mod Worked
+pub mod SearchRows
+pub mod NegationRows
+pub mod ParameterRows
+pub mod StartRow

@@ -1,7 +1,5 @@
--- Goals, clauses and tasks without negated goals.
-use Rattle.lp_lemmas.specs.Each.{EachOf}
+-- Goals and clauses without negated goals.
 use Rattle.lp_model.specs.Flat.{Goal, Atomic, Cut, Either, Exists, Forall, Assume, Not, Goals, no_goals, goals, Clause, clause, Clauses, no_clauses, clauses}
-use Rattle.lp_model.specs.Branch.{Entry, Task, Go, Try, Stop, Lack}
 
 abbrev mutual
   pub IsUnnegatedGoal : Goal → Type 0
@@ -23,14 +21,3 @@ abbrev mutual
   pub AreUnnegatedClauses : Clauses → Type 0
   AreUnnegatedClauses no_clauses = Unit {0}
   AreUnnegatedClauses (clauses c cs) = IsUnnegatedClause c × AreUnnegatedClauses cs
-
-pub record IsUnnegatedEntry (e : Entry) : Type 0 where
-  pub goal : IsUnnegatedGoal e.goal
-  pub assumed : EachOf IsUnnegatedClause e.assumed
-
--- of a candidate, the clause, what is assumed in its place, and the goals behind
-abbrev pub IsUnnegatedTask : Task → Type 0
-IsUnnegatedTask (Go b) = EachOf IsUnnegatedEntry b.goals
-IsUnnegatedTask (Try c t e b mark) = IsUnnegatedClause c × EachOf IsUnnegatedClause e.assumed × EachOf IsUnnegatedEntry b.goals
-IsUnnegatedTask (Stop x) = Unit {0}
-IsUnnegatedTask Lack = Unit {0}

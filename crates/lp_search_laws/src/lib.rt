@@ -28,5 +28,11 @@ pub mod residual;
 pub mod tries;
 /// Negated goals.
 pub mod negation;
+/// Proofs whose leaves are failing searches.
+pub mod leaves;
 /// The search as a whole.
 pub mod whole;
+/// Worked searches.
+pub mod search_rows;
+/// Worked searches with negated goals.
+pub mod negation_rows;

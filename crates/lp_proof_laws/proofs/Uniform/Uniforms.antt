@@ -7,7 +7,7 @@ use Rattle.lp_calculus.specs.Convert.{Converts}
 use Rattle.lp_calculus.specs.Typing.{type_at}
 use Rattle.lp_calculus.specs.Instance.{instance_term}
 use Rattle.lp_model.specs.Flatten.{ClauseFormula}
-use Rattle.lp_model.specs.Proofs.{Declared, IsFormula, Leaves, no_leaf, Failure, IsFailure, Provable, Proof, Conv, True, And, Left, Right, Witness, All, Assume, Equal, Arith, Back, Fails, Focus, FConv, FAll, FTake, FNeed, FHit, assumed, proves_by, focuses_by, ProvableBy, PlainlyProvable, FocusableBy, Stands}
+use Rattle.lp_model.specs.Proofs.{Declared, IsFormula, Leaves, no_leaf, Failure, Provable, Proof, Conv, True, And, Left, Right, Witness, All, Assume, Equal, Arith, Back, Fails, Focus, FConv, FAll, FTake, FNeed, FHit, assumed, proves_by, focuses_by, ProvableBy, PlainlyProvable, FocusableBy, Stands}
 
 get_last : (P : List ClauseFormula) (D : ClauseFormula) (i : ℕ) (D' : ClauseFormula) → slice_get (P ++ D ∷ []) i ≡ Some D' → (slice_get P i ≡ Some D') ⊎ (D ≡ D')
 get_last [] D zero D' e = let f : D ≡ D' = cc in inr f
@@ -92,5 +92,8 @@ mutual
   focus_by L M m d E P D A (FNeed p f) h = (h.0, h.1, h.2, proof_by L M m d E P h.0 p h.3, focus_by L M m d E P h.1 A f h.4)
   focus_by L M m d E P D A FHit h = h
 
+pub by_leaves : {L M : Leaves} → ((n : List Ty) (P : List ClauseFormula) (G : Term) (f : Failure) → L n P G f → M n P G f) → (d : Declared) (E : List Ty) (P : List ClauseFormula) (G : Term) → ProvableBy L d E P G → ProvableBy M d E P G
+by_leaves {L} {M} m d E P G h = record { proof = h.proof; holds = proof_by L M m d E P G h.proof h.holds }
+
 pub plain_proof : (d : Declared) (k : ℕ) (E : List Ty) (P : List ClauseFormula) (G : Term) → PlainlyProvable d E P G → Provable d k E P G
-plain_proof d k E P G h = record { proof = h.proof; holds = proof_by no_leaf (IsFailure d k) (λ n Q H f x. absurd x) d E P G h.proof h.holds }
+plain_proof d k E P G h = by_leaves (λ n Q H f x. absurd x) d E P G h

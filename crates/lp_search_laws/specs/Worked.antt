@@ -1,6 +1,5 @@
--- Worked runs of the plain search, computed from formulas: what each row needs to be written down.
-use Rattle.std.proofs.Common.{ℕ, zero, suc, List, [], ◌∷◌, ◌++◌, map, Option, Some, None}
-use Rattle.std.specs.Prelude.{◌-◌}
+-- What worked searches need to be written down.
+use Rattle.std.specs.Prelude.{ℕ, zero, suc, ◌-◌, List, [], ◌∷◌, ◌++◌, map, Option, Some, None}
 use Rattle.lp_calculus.specs.Term.{Term, app}
 use Rattle.lp_calculus.specs.Typing.{Scheme}
 use Rattle.lp_model.specs.Skeleton.{Told, run}
@@ -11,7 +10,7 @@ use Rattle.lp_model.specs.Pair.{Pair}
 use Rattle.lp_model.specs.Unify.{unit_limit}
 use Rattle.lp_model.specs.Branch.{Answer}
 use Rattle.lp_model.specs.Search.{look, start}
-pub use Rattle.lp_proof_laws.proofs.Uniform.Rows.{known, kind, on, impl, plain_type}
+pub use Rattle.lp_proof_laws.specs.Worked.{known, kind, on, impl, plain_type}
 
 abbrev pub on2 : ℕ → Term → Term → Term
 on2 c a b = app (on c a) b

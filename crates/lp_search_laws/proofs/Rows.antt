@@ -1,4 +1,0 @@
-pub mod Worked
-pub mod Searches
-pub mod Negations
-pub mod Parameters
