@@ -98,3 +98,4 @@ pub mod SameProofs
 pub mod Consistent
 pub mod Exhausted
 pub mod Decided
+pub mod Moved

@@ -1,3 +1,7 @@
+use Rattle.lp_search_laws.proofs.Moved.Solves as solves
+use Rattle.lp_search_laws.proofs.Moved.Rules as rules
+use Rattle.lp_search_laws.proofs.Moved.Scans as scans
+use Rattle.lp_search_laws.proofs.Moved.Terms as terms
 use Rattle.lp_search_laws.proofs.Stack.Ends as lemmas
 use Rattle.lp_search_laws.proofs.skeleton.ended_run_stays.Goals as goal
 
