@@ -3,3 +3,7 @@ pub mod Scans
 pub mod Heads
 pub mod Rules
 pub mod Solves
+pub mod Goals
+pub mod Runs
+pub mod Candidates
+pub mod Looks

@@ -1,3 +1,7 @@
+use Rattle.lp_search_laws.proofs.Moved.Looks as moved_looks
+use Rattle.lp_search_laws.proofs.Moved.Candidates as moved_candidates
+use Rattle.lp_search_laws.proofs.Moved.Runs as moved_runs
+use Rattle.lp_search_laws.proofs.Moved.Goals as moved_goals
 use Rattle.lp_search_laws.proofs.Moved.Solves as solves
 use Rattle.lp_search_laws.proofs.Moved.Rules as rules
 use Rattle.lp_search_laws.proofs.Moved.Scans as scans
