@@ -7,3 +7,4 @@ pub mod Goals
 pub mod Runs
 pub mod Candidates
 pub mod Looks
+pub mod Places

@@ -18,3 +18,4 @@ pub mod SearchRows
 pub mod NegationRows
 pub mod ParameterRows
 pub mod StartRow
+pub mod Widened
