@@ -128,7 +128,7 @@ from_at (suc k) m zero l = let e : m ≡ m + 0 = omega arith in ap var e
 from_at (suc k) m (suc i) l = let e : suc m + i ≡ m + suc i = omega arith in from_at k (suc m) i (omega (l, arith)) ∙ ap var e
 
 mutual
-  type_stays : (f : ℕ → Ty) (k : ℕ) → ((i : ℕ) → i < k → f i ≡ var i) → (T : Ty) → IsTypeBelow k T → instance f T ≡ T
+  pub type_stays : (f : ℕ → Ty) (k : ℕ) → ((i : ℕ) → i < k → f i ≡ var i) → (T : Ty) → IsTypeBelow k T → instance f T ≡ T
   type_stays f k h (var i) w = h i w
   type_stays f k h (type_param n) w = refl
   type_stays f k h (con c ts) w = ap (con c) (types_stay f k h ts w)

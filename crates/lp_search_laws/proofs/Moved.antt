@@ -8,3 +8,5 @@ pub mod Runs
 pub mod Candidates
 pub mod Looks
 pub mod Places
+pub mod Typed
+pub mod Origins

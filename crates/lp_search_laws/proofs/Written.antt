@@ -21,7 +21,7 @@ use Rattle.lp_search_laws.proofs.Opened.{goals_instantiate, clause_instantiate}
 use Rattle.lp_search_laws.proofs.Stands.{part_instantiate, part_fill, part_instance, part_shift}
 
 -- lists
-both_mapped : {A B C : Type 0} (f : B → C) (g : A → B) (xs : List A) → map f (map g xs) ≡ map (λ x. f (g x)) xs
+pub both_mapped : {A B C : Type 0} (f : B → C) (g : A → B) (xs : List A) → map f (map g xs) ≡ map (λ x. f (g x)) xs
 both_mapped f g [] = refl
 both_mapped f g (x ∷ xs) = ap (λ z. f (g x) ∷ z) (both_mapped f g xs)
 
@@ -45,8 +45,32 @@ pub record Goes {E : Type 0} (under : E → E) (term : E → Term → Term) (ty 
   pub parts : (e : E) (t u : Term) → StandsIn t u → StandsIn (term e t) (term e u)
   pub in_goals : (e : E) (gs : Goals) → formula_of_goals (map_goals under term ty e gs) ≡ term e (formula_of_goals gs)
   pub in_clause : (e : E) (c : Clause) → formula_of_clause (map_clause under term ty e c) ≡ term e (formula_of_clause c)
-  pub in_filled : (e : E) (θ : ℕ → Ty) (σ : ℕ → Term) (gs : Goals) → AreTermsOf (λ t. AllAtoms IsSourceAtom t) gs → map_goals under term ty e (filled_goals θ σ gs) ≡ filled_goals (λ i. ty (θ i)) (λ i. term e (σ i)) gs
-  pub in_filled_clauses : (e : E) (θ : ℕ → Ty) (σ : ℕ → Term) (cs : Clauses) → AreClausesOf (λ t. AllAtoms IsSourceAtom t) cs → map_clauses under term ty e (filled_clauses θ σ cs) ≡ filled_clauses (λ i. ty (θ i)) (λ i. term e (σ i)) cs
+  pub origin : (e : E) (w : Written) (gs : Goals) → IsOrigin w gs → IsOrigin (map_written (term e) ty w) (map_goals under term ty e gs)
+  pub clause_origin : (e : E) (w : Written) (cs : Clauses) → IsClauseOrigin w cs → IsClauseOrigin (map_written (term e) ty w) (map_clauses under term ty e cs)
+
+-- what goes into filled goals and leaves their source as it is
+module _ {E : Type 0} (under : E → E) (term : E → Term → Term) (ty : Ty → Ty) (e : E) where
+  origin_filled : ((θ : ℕ → Ty) (σ : ℕ → Term) (gs : Goals) → AreTermsOf (λ t. AllAtoms IsSourceAtom t) gs → map_goals under term ty e (filled_goals θ σ gs) ≡ filled_goals (λ i. ty (θ i)) (λ i. term e (σ i)) gs) → (w : Written) (gs : Goals) → IsOrigin w gs → IsOrigin (map_written (term e) ty w) (map_goals under term ty e gs)
+  origin_filled filled w gs o = record {
+    types = λ i. ty (o.types i);
+    terms = λ i. term e (o.terms i);
+    flat = o.flat;
+    source = o.source;
+    is = ap (map_goals under term ty e) o.is ∙ filled o.types o.terms o.flat o.source;
+    terms_written = ap (map (term e)) o.terms_written ∙ both_mapped (term e) o.terms (collect_goals loose_in 0 o.flat);
+    types_written = ap (map ty) o.types_written ∙ both_mapped ty o.types (collect_goals (λ d t. type_variables_in t) 0 o.flat);
+  }
+
+  clause_origin_filled : ((θ : ℕ → Ty) (σ : ℕ → Term) (cs : Clauses) → AreClausesOf (λ t. AllAtoms IsSourceAtom t) cs → map_clauses under term ty e (filled_clauses θ σ cs) ≡ filled_clauses (λ i. ty (θ i)) (λ i. term e (σ i)) cs) → (w : Written) (cs : Clauses) → IsClauseOrigin w cs → IsClauseOrigin (map_written (term e) ty w) (map_clauses under term ty e cs)
+  clause_origin_filled filled w cs o = record {
+    types = λ i. ty (o.types i);
+    terms = λ i. term e (o.terms i);
+    flat = o.flat;
+    source = o.source;
+    is = ap (map_clauses under term ty e) o.is ∙ filled o.types o.terms o.flat o.source;
+    terms_written = ap (map (term e)) o.terms_written ∙ both_mapped (term e) o.terms (collect_clauses loose_in 0 o.flat);
+    types_written = ap (map ty) o.types_written ∙ both_mapped ty o.types (collect_clauses (λ d t. type_variables_in t) 0 o.flat);
+  }
 
 module _ {E : Type 0} (under : E → E) (term : E → Term → Term) (ty : Ty → Ty) (go : Goes under term ty) where
   one_mapped : (e : E) (t : Term) (cs : List Clause) → StandsInOne cs t → StandsInOne (map (map_clause under term ty e) cs) (term e t)
@@ -63,33 +87,11 @@ module _ {E : Type 0} (under : E → E) (term : E → Term → Term) (ty : Ty �
   ones_mapped : (e : E) (cs : List Clause) (ts : List Term) → EachOf (StandsInOne cs) ts → EachOf (StandsInOne (map (map_clause under term ty e) cs)) (map (term e) ts)
   ones_mapped e cs ts h = each_map (StandsInOne cs) (StandsInOne (map (map_clause under term ty e) cs)) (term e) (λ t s. one_mapped e t cs s) ts h
 
-  origin_mapped : (e : E) (w : Written) (gs : Goals) → IsOrigin w gs → IsOrigin (map_written (term e) ty w) (map_goals under term ty e gs)
-  origin_mapped e w gs o = record {
-    types = λ i. ty (o.types i);
-    terms = λ i. term e (o.terms i);
-    flat = o.flat;
-    source = o.source;
-    is = ap (map_goals under term ty e) o.is ∙ go.in_filled e o.types o.terms o.flat o.source;
-    terms_written = ap (map (term e)) o.terms_written ∙ both_mapped (term e) o.terms (collect_goals loose_in 0 o.flat);
-    types_written = ap (map ty) o.types_written ∙ both_mapped ty o.types (collect_goals (λ d t. type_variables_in t) 0 o.flat);
-  }
-
-  clause_origin_mapped : (e : E) (w : Written) (cs : Clauses) → IsClauseOrigin w cs → IsClauseOrigin (map_written (term e) ty w) (map_clauses under term ty e cs)
-  clause_origin_mapped e w cs o = record {
-    types = λ i. ty (o.types i);
-    terms = λ i. term e (o.terms i);
-    flat = o.flat;
-    source = o.source;
-    is = ap (map_clauses under term ty e) o.is ∙ go.in_filled_clauses e o.types o.terms o.flat o.source;
-    terms_written = ap (map (term e)) o.terms_written ∙ both_mapped (term e) o.terms (collect_clauses loose_in 0 o.flat);
-    types_written = ap (map ty) o.types_written ∙ both_mapped ty o.types (collect_clauses (λ d t. type_variables_in t) 0 o.flat);
-  }
-
   has_origin_mapped : (e : E) (w : Written) (c : Clause) → HasOrigin c w → HasOrigin (map_clause under term ty e c) (map_written (term e) ty w)
   has_origin_mapped e w c o = record {
     group = map_clauses under term ty e o.group;
     written = map_written (term e) ty o.written;
-    origin = clause_origin_mapped e o.written o.group o.origin;
+    origin = go.clause_origin e o.written o.group o.origin;
     among = transport (AnyOf (λ x. x ≡ map_clause under term ty e c)) (listed e o.group) (any_image (map_clause under term ty e) c (clause_list o.group) o.among);
     terms_before = map (term e) o.terms_before;
     terms_behind = map (term e) o.terms_behind;
@@ -106,8 +108,8 @@ module _ {E : Type 0} (under : E → E) (term : E → Term → Term) (ty : Ty �
     goal_mapped e (Either l r) h = (goals_mapped e l h.0, goals_mapped e r h.1)
     goal_mapped e (Exists T gs) h = goals_mapped (under e) gs h
     goal_mapped e (Forall T gs) h = goals_mapped (under e) gs h
-    goal_mapped e (Assume w cs gs) h = (transport (λ z. EachOf (StandsInOne z) (map (term e) w.terms)) (listed e cs) (ones_mapped e (clause_list cs) w.terms h.0), clauses_mapped e cs h.1, goals_mapped e gs h.2, clause_origin_mapped e w cs h.3)
-    goal_mapped e (Not w gs) h = (terms_mapped e gs w.terms h.0, goals_mapped e gs h.1, origin_mapped e w gs h.2)
+    goal_mapped e (Assume w cs gs) h = (transport (λ z. EachOf (StandsInOne z) (map (term e) w.terms)) (listed e cs) (ones_mapped e (clause_list cs) w.terms h.0), clauses_mapped e cs h.1, goals_mapped e gs h.2, go.clause_origin e w cs h.3)
+    goal_mapped e (Not w gs) h = (terms_mapped e gs w.terms h.0, goals_mapped e gs h.1, go.origin e w gs h.2)
 
     goals_mapped : (e : E) (gs : Goals) → AreWrittenGoals gs → AreWrittenGoals (map_goals under term ty e gs)
     goals_mapped e no_goals h = tt
@@ -125,16 +127,16 @@ module _ {E : Type 0} (under : E → E) (term : E → Term → Term) (ty : Ty �
 
 -- a binding whose value has no loose index
 pub put_goes : (b : Binding) → shift 0 1 b.value ≡ b.value → Goes (λ (u : ℕ). u) (λ u t. put b t) same_type
-put_goes b shut = record { parts = λ e t u s. part_fill (at_variables (one b)) t u s; in_goals = λ e gs. goals_inside (put b) same_type (put_inside b shut) e gs; in_clause = λ e c. clause_inside (put b) same_type (put_inside b shut) e c; in_filled = λ e θ σ gs h. put_filled_goals b shut e θ σ gs h; in_filled_clauses = λ e θ σ cs h. put_filled_clauses b shut e θ σ cs h }
+put_goes b shut = record { parts = λ e t u s. part_fill (at_variables (one b)) t u s; in_goals = λ e gs. goals_inside (put b) same_type (put_inside b shut) e gs; in_clause = λ e c. clause_inside (put b) same_type (put_inside b shut) e c; origin = λ e. origin_filled (λ (u : ℕ). u) (λ u t. put b t) same_type e (put_filled_goals b shut e); clause_origin = λ e. clause_origin_filled (λ (u : ℕ). u) (λ u t. put b t) same_type e (put_filled_clauses b shut e) }
 
 pub type_goes : (θ : ℕ → Ty) → Goes (λ (u : ℕ). u) (λ u t. instance_term θ t) (instance θ)
-type_goes θ = record { parts = λ e t u s. part_instance θ t u s; in_goals = λ e gs. goals_inside (instance_term θ) (instance θ) (types_inside θ) e gs; in_clause = λ e c. clause_inside (instance_term θ) (instance θ) (types_inside θ) e c; in_filled = λ e κ σ gs h. type_filled_goals θ e κ σ gs; in_filled_clauses = λ e κ σ cs h. type_filled_clauses θ e κ σ cs }
+type_goes θ = record { parts = λ e t u s. part_instance θ t u s; in_goals = λ e gs. goals_inside (instance_term θ) (instance θ) (types_inside θ) e gs; in_clause = λ e c. clause_inside (instance_term θ) (instance θ) (types_inside θ) e c; origin = λ e. origin_filled (λ (u : ℕ). u) (λ u t. instance_term θ t) (instance θ) e (λ κ σ gs h. type_filled_goals θ e κ σ gs); clause_origin = λ e. clause_origin_filled (λ (u : ℕ). u) (λ u t. instance_term θ t) (instance θ) e (λ κ σ cs h. type_filled_clauses θ e κ σ cs) }
 
 instantiate_goes : Goes lifted instantiate same_type
-instantiate_goes = record { parts = λ σ t u s. part_instantiate σ t u s; in_goals = λ σ gs. goals_instantiate σ gs; in_clause = λ σ c. clause_instantiate σ c; in_filled = λ γ θ σ gs h. instantiate_filled_goals γ θ σ gs; in_filled_clauses = λ γ θ σ cs h. instantiate_filled_clauses γ θ σ cs }
+instantiate_goes = record { parts = λ σ t u s. part_instantiate σ t u s; in_goals = λ σ gs. goals_instantiate σ gs; in_clause = λ σ c. clause_instantiate σ c; origin = λ γ. origin_filled lifted instantiate same_type γ (λ θ σ gs h. instantiate_filled_goals γ θ σ gs); clause_origin = λ γ. clause_origin_filled lifted instantiate same_type γ (λ θ σ cs h. instantiate_filled_clauses γ θ σ cs) }
 
 raise_goes : Goes suc (λ d t. shift d 1 t) same_type
-raise_goes = record { parts = λ d t u s. part_shift d t u s; in_goals = λ d gs. goals_raise d gs; in_clause = λ d c. clause_raise d c; in_filled = λ d θ σ gs h. raise_filled_goals d θ σ gs; in_filled_clauses = λ d θ σ cs h. raise_filled_clauses d θ σ cs }
+raise_goes = record { parts = λ d t u s. part_shift d t u s; in_goals = λ d gs. goals_raise d gs; in_clause = λ d c. clause_raise d c; origin = λ d. origin_filled suc (λ d t. shift d 1 t) same_type d (λ θ σ gs h. raise_filled_goals d θ σ gs); clause_origin = λ d. clause_origin_filled suc (λ d t. shift d 1 t) same_type d (λ θ σ cs h. raise_filled_clauses d θ σ cs) }
 
 pub typed_goals : (θ : ℕ → Ty) (gs : Goals) → AreWrittenGoals gs → AreWrittenGoals (type_goals θ gs)
 typed_goals θ gs h = goals_mapped _ _ _ (type_goes θ) zero gs h

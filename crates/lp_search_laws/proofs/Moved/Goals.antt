@@ -35,7 +35,7 @@ moved_shift m from by t = moved_shift_at m by from t
 abbrev pub AreMoved : Moving → (ℕ → Term) → (ℕ → Term) → Type 0
 AreMoved m σ τ = (i : ℕ) → τ i ≡ moved m (σ i)
 
-lifted_moved : (m : Moving) (σ τ : ℕ → Term) → AreMoved m σ τ → AreMoved m (lifted σ) (lifted τ)
+pub lifted_moved : (m : Moving) (σ τ : ℕ → Term) → AreMoved m σ τ → AreMoved m (lifted σ) (lifted τ)
 lifted_moved m σ τ h zero = refl
 lifted_moved m σ τ h (suc i) = ap (shift 0 1) (h i) ∙ sym (moved_shift m 0 1 (σ i))
 

@@ -17,7 +17,7 @@ wider_less (None ∷ ads) (suc i) zero h = absurd (omega (arith, h))
 wider_less (None ∷ ads) (suc i) (suc j) h = let r = wider_less ads i j (omega (arith, h)) in let q : suc (wider ads i) < suc (wider ads j) = omega (arith, r) in q
 
 -- two numbers and two others in the same order
-data Alike (i j a b : ℕ) : Type 0 where
+pub data Alike (i j a b : ℕ) : Type 0 where
   less : i < j → a < b → Alike i j a b
   equal : i ≡ j → a ≡ b → Alike i j a b
   more : j < i → b < a → Alike i j a b
@@ -28,26 +28,26 @@ trichotomy zero (suc j) = inl (omega arith)
 trichotomy (suc i) zero = inr (inr (omega arith))
 trichotomy (suc i) (suc j) = elim (trichotomy i j) [ inl h ↦ inl (omega (arith, h)) | inr (inl e) ↦ inr (inl (ap suc e)) | inr (inr h) ↦ inr (inr (omega (arith, h))) ]
 
-alike : (ads : Additions) (i j : ℕ) → Alike i j (wider ads i) (wider ads j)
+pub alike : (ads : Additions) (i j : ℕ) → Alike i j (wider ads i) (wider ads j)
 alike ads i j = elim (trichotomy i j) [ inl h ↦ less h (wider_less ads i j h) | inr (inl e) ↦ equal e (ap (wider ads) e) | inr (inr h) ↦ more h (wider_less ads j i h) ]
 
-same_lt : (i j a b : ℕ) → Alike i j a b → nat_lt a b ≡ nat_lt i j
+pub same_lt : (i j a b : ℕ) → Alike i j a b → nat_lt a b ≡ nat_lt i j
 same_lt i j a b (less h g) = grind (arith, nat_tests, h, g)
 same_lt i j a b (equal h g) = grind (arith, nat_tests, h, g)
 same_lt i j a b (more h g) = grind (arith, nat_tests, h, g)
 
-same_eq : (i j a b : ℕ) → Alike i j a b → nat_eq a b ≡ nat_eq i j
+pub same_eq : (i j a b : ℕ) → Alike i j a b → nat_eq a b ≡ nat_eq i j
 same_eq i j a b (less h g) = grind (arith, nat_tests, h, g)
 same_eq i j a b (equal h g) = grind (arith, nat_tests, h, g)
 same_eq i j a b (more h g) = grind (arith, nat_tests, h, g)
 
-same_le : (i j a b : ℕ) → Alike i j a b → nat_le a b ≡ nat_le i j
+pub same_le : (i j a b : ℕ) → Alike i j a b → nat_le a b ≡ nat_le i j
 same_le i j a b (less h g) = grind (arith, nat_tests, h, g)
 same_le i j a b (equal h g) = grind (arith, nat_tests, h, g)
 same_le i j a b (more h g) = grind (arith, nat_tests, h, g)
 
 -- an old one and a level
-alike_eigens : (ads : Additions) (j k : ℕ) → Alike j k (moved_to ads j) (moved_to ads k)
+pub alike_eigens : (ads : Additions) (j k : ℕ) → Alike j k (moved_to ads j) (moved_to ads k)
 alike_eigens ads zero zero = equal refl refl
 alike_eigens ads zero (suc k) = less (omega arith) (omega arith)
 alike_eigens ads (suc j) zero = more (omega arith) (omega arith)
@@ -58,7 +58,7 @@ alike_eigens ads (suc j) (suc k) = go (alike ads j k)
     go (equal h g) = equal (ap suc h) (ap suc g)
     go (more h g) = more (omega (arith, h)) (omega (arith, g))
 
-above_same : (ads : Additions) (l k : ℕ) → nat_lt (wider ads l) (moved_to ads k) ≡ nat_lt l k
+pub above_same : (ads : Additions) (l k : ℕ) → nat_lt (wider ads l) (moved_to ads k) ≡ nat_lt l k
 above_same ads l zero = let q : nat_lt (wider ads l) 0 ≡ nat_lt l 0 = grind (arith, nat_tests) in q
 above_same ads l (suc k) = go (alike ads l k)
   where
@@ -67,7 +67,7 @@ above_same ads l (suc k) = go (alike ads l k)
     go (equal h g) = grind (arith, nat_tests, h, g)
     go (more h g) = grind (arith, nat_tests, h, g)
 
-up_to_same : (ads : Additions) (k l : ℕ) → nat_le (moved_to ads k) (wider ads l) ≡ nat_le k l
+pub up_to_same : (ads : Additions) (k l : ℕ) → nat_le (moved_to ads k) (wider ads l) ≡ nat_le k l
 up_to_same ads zero l = let q : nat_le 0 (wider ads l) ≡ nat_le 0 l = grind (arith, nat_tests) in q
 up_to_same ads (suc k) l = go (alike ads k l)
   where
@@ -76,7 +76,7 @@ up_to_same ads (suc k) l = go (alike ads k l)
     go (equal h g) = grind (arith, nat_tests, h, g)
     go (more h g) = grind (arith, nat_tests, h, g)
 
-least_same : (ads : Additions) (i j : ℕ) → min (wider ads i) (wider ads j) ≡ wider ads (min i j)
+pub least_same : (ads : Additions) (i j : ℕ) → min (wider ads i) (wider ads j) ≡ wider ads (min i j)
 least_same ads i j = go (alike ads i j)
   where
     go : Alike i j (wider ads i) (wider ads j) → min (wider ads i) (wider ads j) ≡ wider ads (min i j)
@@ -85,13 +85,13 @@ least_same ads i j = go (alike ads i j)
     go (more h g) = let a : min (wider ads i) (wider ads j) ≡ wider ads j = omega (arith, g) in let b : j ≡ min i j = omega (arith, h) in a ∙ ap (wider ads) b
 
 -- behind the old ones that are told of, what comes next stays what comes next
-wider_next : (ads : Additions) (l : ℕ) → olds ads ≤ l → wider ads (suc l) ≡ suc (wider ads l)
+pub wider_next : (ads : Additions) (l : ℕ) → olds ads ≤ l → wider ads (suc l) ≡ suc (wider ads l)
 wider_next [] l h = refl
 wider_next (Some T ∷ ads) l h = ap suc (wider_next ads l h)
 wider_next (None ∷ ads) zero h = absurd (omega (arith, h))
 wider_next (None ∷ ads) (suc l) h = ap suc (wider_next ads l (omega (arith, h)))
 
-pub moving : Additions → Moving
+abbrev pub moving : Additions → Moving
 moving ads = record {
   level = wider ads;
   eigen = moved_to ads;

@@ -1,3 +1,4 @@
+use Rattle.lp_search_laws.proofs.Moved.Origins as moved_origins
 use Rattle.lp_search_laws.proofs.Moved.Places as moved_places
 use Rattle.lp_search_laws.proofs.Moved.Looks as moved_looks
 use Rattle.lp_search_laws.proofs.Moved.Candidates as moved_candidates
