@@ -123,7 +123,7 @@ typed_atom d E F ρ h (eigen k) T e = h.typed k T e
 typed_atom d E F ρ h (logic x l) T e = cc
 typed_atom d E F ρ h (param k U) T e = e
 
-renamed_typed : (d : Declared) (E F : List Ty) (ρ : ℕ → ℕ) → IsRenaming E F ρ → (t : Term) (T : Ty) → Typed (under d E) [] t T → Typed (under d F) [] (renamed ρ t) T
+pub renamed_typed : (d : Declared) (E F : List Ty) (ρ : ℕ → ℕ) → IsRenaming E F ρ → (t : Term) (T : Ty) → Typed (under d E) [] t T → Typed (under d F) [] (renamed ρ t) T
 renamed_typed d E F ρ h t T w = typed_fill (atom_type (under d E)) (atom_type (under d F)) [] (λ a. atom (renamed_atom ρ a)) (λ a A e. typed_atom d E F ρ h a A e) t T w
 
 closed_atom : (E F : List Ty) (ρ : ℕ → ℕ) → IsRenaming E F ρ → (a : Atom) → IsClosedAtom (length E) a → IsClosedAtom (length F) (renamed_atom ρ a)
@@ -134,7 +134,7 @@ closed_atom E F ρ h (eigen k) w = h.level k w
 closed_atom E F ρ h (logic x l) w = absurd w
 closed_atom E F ρ h (param k T) w = w
 
-renamed_closed : (E F : List Ty) (ρ : ℕ → ℕ) → IsRenaming E F ρ → (t : Term) → IsClosedAt (length E) t → IsClosedAt (length F) (renamed ρ t)
+pub renamed_closed : (E F : List Ty) (ρ : ℕ → ℕ) → IsRenaming E F ρ → (t : Term) → IsClosedAt (length E) t → IsClosedAt (length F) (renamed ρ t)
 renamed_closed E F ρ h t w = within_fill (IsClosedAtom (length E)) (IsClosedAtom (length F)) (λ a. atom (renamed_atom ρ a)) 0 (closed_atom E F ρ h) t w
 
 positive_atom : (ρ : ℕ → ℕ) (a : Atom) → IsPositiveAtom a → IsPositiveAtom (renamed_atom ρ a)
