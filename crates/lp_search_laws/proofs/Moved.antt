@@ -10,3 +10,6 @@ pub mod Looks
 pub mod Places
 pub mod Typed
 pub mod Origins
+pub mod Roots
+pub mod Leaves
+pub mod Proofs

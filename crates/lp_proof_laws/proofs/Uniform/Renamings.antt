@@ -37,7 +37,7 @@ get_renamed ρ [] i D e = cc
 get_renamed ρ (C ∷ P) zero D e = let f : C ≡ D = cc in ap (λ X. Some (renamed_clause ρ X)) f
 get_renamed ρ (C ∷ P) (suc i) D e = get_renamed ρ P i D e
 
-clauses_same : (ρ τ : ℕ → ℕ) (n : ℕ) → ((k : ℕ) → k ≤ n → ρ k ≡ τ k) → (P : List ClauseFormula) → HaveLevel n P → map (renamed_clause ρ) P ≡ map (renamed_clause τ) P
+pub clauses_same : (ρ τ : ℕ → ℕ) (n : ℕ) → ((k : ℕ) → k ≤ n → ρ k ≡ τ k) → (P : List ClauseFormula) → HaveLevel n P → map (renamed_clause ρ) P ≡ map (renamed_clause τ) P
 clauses_same ρ τ n h [] w = refl
 clauses_same ρ τ n h (D ∷ P) w =
     let e : renamed_clause ρ D ≡ renamed_clause τ D = ap (λ t. record { type_vars = D.type_vars; formula = t }) (renamed_same ρ τ n h D.formula w.0) in
@@ -49,12 +49,12 @@ renamed_end ρ [] D = refl
 renamed_end ρ (C ∷ P) D = ap (λ Q. renamed_clause ρ C ∷ Q) (renamed_end ρ P D)
 
 -- the renaming goes on under one eigenconstant more
-below_end : {A : Type 0} (E : List A) (k : ℕ) (T : A) → slice_get E k ≡ Some T → k < length E
+pub below_end : {A : Type 0} (E : List A) (k : ℕ) (T : A) → slice_get E k ≡ Some T → k < length E
 below_end [] k T e = cc
 below_end (x ∷ E) zero T e = omega arith
 below_end (x ∷ E) (suc k) T e = let r = below_end E k T e in let q : suc k < suc (length E) = omega arith in q
 
-length_end : (E : List Ty) (T : Ty) → length (E ++ T ∷ []) ≡ suc (length E)
+pub length_end : (E : List Ty) (T : Ty) → length (E ++ T ∷ []) ≡ suc (length E)
 length_end [] T = refl
 length_end (x ∷ E) T = ap suc (length_end E T)
 
@@ -81,7 +81,7 @@ wider_typed E F ρ T h (suc k) A e =
         subst (λ j. eigen_type (F ++ T ∷ []) (wider ρ (length E) (length F) j) ≡ Some A) s (subst (λ j. eigen_type (F ++ T ∷ []) j ≡ Some A) (sym (wider_new ρ (length E) (length F))) (last_here F T ∙ ap Some f))
     at_end (suc y) q g = cc
 
-up_to_or_next : (k n : ℕ) → k ≤ suc n → (k ≤ n) ⊎ (k ≡ suc n)
+pub up_to_or_next : (k n : ℕ) → k ≤ suc n → (k ≤ n) ⊎ (k ≡ suc n)
 up_to_or_next zero n l = inl (omega arith)
 up_to_or_next (suc k) zero l = inr (omega (arith, l))
 up_to_or_next (suc k) (suc n) l =

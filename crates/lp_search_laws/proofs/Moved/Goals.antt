@@ -2,8 +2,8 @@
 use Rattle.std.proofs.Common.{◌≡◌, ℕ, zero, suc, ◌+◌, ◌≤◌, List, [], ◌∷◌, ◌++◌, map, ◌∙◌, refl, sym, ap, Bool, true, false, nat_eq, if◌then◌else◌}
 use Rattle.std.specs.Prelude.{nat_lt}
 use Rattle.lp_calculus.specs.Types.{Ty, instance}
-use Rattle.lp_calculus.specs.Term.{Term, index, atom, abs, app, raised, replace, shift}
-use Rattle.lp_calculus.specs.Fill.{Binding, put, put_all}
+use Rattle.lp_calculus.specs.Term.{Term, Atom, index, atom, abs, app, raised, replace, shift}
+use Rattle.lp_calculus.specs.Fill.{Binding, fill, put, put_all}
 use Rattle.lp_calculus.specs.Instance.{instance_term}
 use Rattle.lp_calculus.proofs.Eta.{app_same}
 use Rattle.lp_model.specs.Types.{TypeBinding, one_type}
@@ -12,38 +12,50 @@ use Rattle.lp_model.specs.Flat.{Goal, Atomic, Cut, Either, Exists, Forall, Assum
 use Rattle.lp_model.specs.Branch.{Entry, Branch, Answer, Task, Go, Try, Stop, Lack, put_entry, put_entries, type_entry, type_entries, entries, both_written}
 use Rattle.lp_proof_laws.proofs.Flattened.TypedForms.{goals_same, clauses_same, clause_same, either_same, assume_same, denied_same, written_same}
 use Rattle.std.proofs.lemmas.List.{map-append}
-use Rattle.lp_search_laws.proofs.Moved.Terms.{Moving, moved, moved_all, moved_binding, put_moved, instance_moved}
+use Rattle.lp_search_laws.proofs.Moved.Terms.{Moving, moved, moved_atom, moved_all, moved_binding, put_moved, instance_moved}
 use Rattle.lp_search_laws.proofs.Moved.Rules.{moved_pair}
 
--- shifts and terms for indices
-moved_raised : (m : Moving) (by d i : ℕ) → moved m (raised by d i) ≡ raised by d i
-moved_raised m by d i = go (nat_lt i d)
+-- shifts and terms for indices go past a change of atoms
+abbrev pub mapped : (Atom → Atom) → Term → Term
+mapped g t = fill (λ a. atom (g a)) t
+
+mapped_raised : (g : Atom → Atom) (by d i : ℕ) → mapped g (raised by d i) ≡ raised by d i
+mapped_raised g by d i = go (nat_lt i d)
   where
-    go : (b : Bool) → moved m (if b then index i else index (i + by)) ≡ (if b then index i else index (i + by))
+    go : (b : Bool) → mapped g (if b then index i else index (i + by)) ≡ (if b then index i else index (i + by))
     go true = refl
     go false = refl
 
-moved_shift_at : (m : Moving) (by d : ℕ) (t : Term) → moved m (replace (raised by) d t) ≡ replace (raised by) d (moved m t)
-moved_shift_at m by d (index i) = moved_raised m by d i
-moved_shift_at m by d (atom a) = refl
-moved_shift_at m by d (abs b) = ap abs (moved_shift_at m by (suc d) b)
-moved_shift_at m by d (app t u) = app_same (moved_shift_at m by d t) (moved_shift_at m by d u)
+mapped_shift : (g : Atom → Atom) (by d : ℕ) (t : Term) → mapped g (replace (raised by) d t) ≡ replace (raised by) d (mapped g t)
+mapped_shift g by d (index i) = mapped_raised g by d i
+mapped_shift g by d (atom a) = refl
+mapped_shift g by d (abs b) = ap abs (mapped_shift g by (suc d) b)
+mapped_shift g by d (app t u) = app_same (mapped_shift g by d t) (mapped_shift g by d u)
+
+abbrev pub AreMapped : (Atom → Atom) → (ℕ → Term) → (ℕ → Term) → Type 0
+AreMapped g σ τ = (i : ℕ) → τ i ≡ mapped g (σ i)
+
+pub lifted_mapped : (g : Atom → Atom) (σ τ : ℕ → Term) → AreMapped g σ τ → AreMapped g (lifted σ) (lifted τ)
+lifted_mapped g σ τ h zero = refl
+lifted_mapped g σ τ h (suc i) = ap (shift 0 1) (h i) ∙ sym (mapped_shift g 1 0 (σ i))
+
+pub instantiate_mapped : (g : Atom → Atom) (σ τ : ℕ → Term) → AreMapped g σ τ → (t : Term) → instantiate τ (mapped g t) ≡ mapped g (instantiate σ t)
+instantiate_mapped g σ τ h (index i) = h i
+instantiate_mapped g σ τ h (atom a) = refl
+instantiate_mapped g σ τ h (abs b) = ap abs (instantiate_mapped g (lifted σ) (lifted τ) (lifted_mapped g σ τ h) b)
+instantiate_mapped g σ τ h (app t u) = app_same (instantiate_mapped g σ τ h t) (instantiate_mapped g σ τ h u)
 
 pub moved_shift : (m : Moving) (from by : ℕ) (t : Term) → moved m (shift from by t) ≡ shift from by (moved m t)
-moved_shift m from by t = moved_shift_at m by from t
+moved_shift m from by t = mapped_shift (moved_atom m) by from t
 
 abbrev pub AreMoved : Moving → (ℕ → Term) → (ℕ → Term) → Type 0
 AreMoved m σ τ = (i : ℕ) → τ i ≡ moved m (σ i)
 
 pub lifted_moved : (m : Moving) (σ τ : ℕ → Term) → AreMoved m σ τ → AreMoved m (lifted σ) (lifted τ)
-lifted_moved m σ τ h zero = refl
-lifted_moved m σ τ h (suc i) = ap (shift 0 1) (h i) ∙ sym (moved_shift m 0 1 (σ i))
+lifted_moved m σ τ h = lifted_mapped (moved_atom m) σ τ h
 
 pub instantiate_moved : (m : Moving) (σ τ : ℕ → Term) → AreMoved m σ τ → (t : Term) → instantiate τ (moved m t) ≡ moved m (instantiate σ t)
-instantiate_moved m σ τ h (index i) = h i
-instantiate_moved m σ τ h (atom a) = refl
-instantiate_moved m σ τ h (abs b) = ap abs (instantiate_moved m (lifted σ) (lifted τ) (lifted_moved m σ τ h) b)
-instantiate_moved m σ τ h (app t u) = app_same (instantiate_moved m σ τ h t) (instantiate_moved m σ τ h u)
+instantiate_moved m σ τ h t = instantiate_mapped (moved_atom m) σ τ h t
 
 -- goals and clauses
 abbrev pub moved_goal_at : Moving → ℕ → Goal → Goal

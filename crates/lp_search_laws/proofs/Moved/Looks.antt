@@ -174,7 +174,7 @@ pairs_above n σ l h earlier (g ∷ hs) (t ∷ ts) = go (is_new g earlier) (pair
     go true w = w
     go false w = (h, w)
 
-high_entries : (n k : ℕ) → n ≤ k → (gs : List Goal) (A : List Clause) (w : Written) (mark : ℕ) → AreHigh n (entries gs A w k mark)
+pub high_entries : (n k : ℕ) → n ≤ k → (gs : List Goal) (A : List Clause) (w : Written) (mark : ℕ) → AreHigh n (entries gs A w k mark)
 high_entries n k q [] A w mark = tt
 high_entries n k q (g ∷ gs) A w mark = (q, high_entries n k q gs A w mark)
 
