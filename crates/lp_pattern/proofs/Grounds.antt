@@ -1,11 +1,10 @@
 -- Ground terms of first order stay as they are under closings and openings; a look sees their heads at once, a scan counts their nodes, and they are settled.
-use Rattle.std.proofs.Common.{◌≡◌, ℕ, zero, suc, ◌+◌, ◌<◌, ◌≤◌, List, [], ◌∷◌, ◌++◌, map, reverse, length, refl, sym, ap, ◌∙◌, subst as transport, arith, Bool, true, false, Option, Some, None, ◌||◌}
-use Rattle.std.specs.Prelude.{All, option_map, option_and_then, not}
+use Rattle.std.proofs.Common.{◌≡◌, ℕ, zero, suc, ◌+◌, ◌<◌, List, [], ◌∷◌, ◌++◌, map, reverse, length, refl, sym, ap, ◌∙◌, subst as transport, arith, Bool, true, false, Option, Some, None, ◌||◌}
+use Rattle.std.specs.Prelude.{All, option_map, not}
 use Rattle.std.proofs.lemmas.List.{reverse-append}
 use Rattle.std.proofs.lemmas.List.Elements.{All-push}
 use Rattle.lp_lemmas.specs.Each.{EachOf}
-use Rattle.lp_calculus.specs.Types.{Ty}
-use Rattle.lp_calculus.specs.Term.{Term, Atom, index, atom, abs, app, apply, constant, integer, text, eigen, logic, param, substitute}
+use Rattle.lp_calculus.specs.Term.{Term, Atom, index, atom, abs, app, apply, constant, integer, text, eigen, logic, param}
 use Rattle.lp_calculus.specs.Convert.{option_term}
 use Rattle.lp_calculus.specs.Fill.{fill, at_eigens}
 use Rattle.lp_calculus.specs.Normal.{nodes}
@@ -17,18 +16,16 @@ use Rattle.lp_model.specs.Look.{Look, an_abs, rigid, flexible, looked}
 use Rattle.lp_model.specs.Pair.{Closing, closed}
 use Rattle.lp_model.specs.Scan.{Side, allows_head, Scanned, broken, whole, above, beside}
 use Rattle.lp_pattern.specs.declared.bindings.Bindings.{Bindings}
-use Rattle.lp_pattern.specs.declared.fault.PatternRefusal.{PatternRefusal}
 use Rattle.lp_pattern.specs.declared.fault.PatternRefusal.TheVariants.{Deep}
 use Rattle.lp_pattern.specs.declared.patterns.Opened.{Opened}
 use Rattle.lp_pattern.specs.declared.scan.Scanned.{Scanned as Noted}
-use Rattle.lp_pattern.specs.declared.scan.Visit.{Visit}
 use Rattle.lp_pattern.specs.declared.settle.Task.{Task}
 use Rattle.lp_pattern.specs.Seen.{weak_step}
-use Rattle.lp_pattern.specs.Settling.{Settles, settles_abs, settles_rigid, settles_pattern, settles_open, SettleAll, settle_none, settle_more, indexed_in, Ends, IsLeft, Moves}
+use Rattle.lp_pattern.specs.Settling.{Settles, settles_abs, settles_rigid, settles_pattern, settles_open, SettleAll, settle_none, settle_more, indexed_in, Ends, Moves}
 use Rattle.lp_pattern.specs.Stripping.{opens, read_at}
 use Rattle.lp_pattern.specs.TopLooks.{top_normal, top_look, scan_top, scan_tops, scan_seen}
 use Rattle.lp_pattern.specs.Under.{under}
-use Rattle.lp_pattern.specs.Visiting.{Part, part_of, parts_of, scan_parts, Merged, IsRestOf, IsStopped, Exceeds}
+use Rattle.lp_pattern.specs.Visiting.{Part, scan_parts, Merged, IsRestOf, IsStopped, Exceeds}
 use Rattle.lp_pattern.proofs.Compares.{from_bind, from_map}
 
 fixed_closed : (c : Closing) (a : Atom) → IsFixed a → IsGround (closed c (atom a)) × (nodes (closed c (atom a)) ≡ 1)
@@ -60,6 +57,12 @@ ground_opened σ (atom a) g = refl
 ground_opened σ (abs b) g = absurd g
 ground_opened σ (app t u) g = both_parts (subst σ t) t (subst σ u) u (ground_opened σ t g.0) (ground_opened σ u g.1)
 
+pub ground_read : (b : Nodes) (c : Closing) (l d : ℕ) (t : TermId) → IsGround (tree b t.0) → IsGround (read_at b c l d t) × (nodes (read_at b c l d t) ≡ nodes (tree b t.0))
+ground_read b c l d t g =
+    let u = ground_closed c (tree b t.0) g in
+    let e = ground_opened (opens l d) (under b c t) u in
+    (transport IsGround (sym e) u, ap nodes e ∙ nodes_closed c (tree b t.0) g)
+
 fixed_indexed : (ε : ℕ → Term) (a : Atom) → IsFixed a → at_eigens ε a ≡ atom a
 fixed_indexed ε (constant k ts) g = refl
 fixed_indexed ε (integer z) g = refl
@@ -84,7 +87,7 @@ ground_weak (app (atom a) u) g = refl
 ground_weak (app (abs b) u) g = absurd g.0
 ground_weak (app (app t v) u) g = ap (option_term (λ s. app s u)) (ground_weak (app t v) g.0)
 
-nodes_all : List Term → ℕ
+abbrev nodes_all : List Term → ℕ
 nodes_all [] = 0
 nodes_all (t ∷ ts) = nodes t + nodes_all ts
 
@@ -112,11 +115,11 @@ headed (atom a) ts g e = by_fixed a ts g e
 headed (abs b) ts g e = absurd g
 headed (app t u) ts g e =
     let h = headed t (u ∷ ts) g.0 (g.1, e) in
-    record { head = h.head; arguments = h.arguments; seen = h.seen; same = h.same; ground = h.ground; count = let n = h.count in omega (arith, n); allowed = h.allowed }
+    record { head = h.head; arguments = h.arguments; seen = h.seen; same = h.same; ground = h.ground; count = let n : suc (nodes_all h.arguments) ≡ nodes t + (nodes u + nodes_all ts) = h.count in omega (arith, n); allowed = h.allowed }
 
 look_is : (m : ℕ) (t : Term) (v : Look) → IsGround t → top_look m t ≡ Some v → v ≡ looked t []
 look_is zero t v g e = absurd (cc)
-look_is (suc m) t v g e = (cc : looked t [] ≡ v → v ≡ looked t []) (first (looked t []) v (sym (ap (λ o. option_map (λ s. looked s []) (elim o as (λ z. Option Term) [ None ↦ Some t | Some s ↦ top_normal m s ])) (ground_weak t g)) ∙ e))
+look_is (suc m) t v g e = sym (first (looked t []) v (sym (ap (λ o. option_map (λ s. looked s []) (elim o as (λ z. Option Term) [ None ↦ Some t | Some s ↦ top_normal m s ])) (ground_weak t g)) ∙ e))
   where
     first : (x y : Look) → Some x ≡ Some y → x ≡ y
     first x y q = cc
@@ -124,21 +127,22 @@ look_is (suc m) t v g e = (cc : looked t [] ≡ v → v ≡ looked t []) (first 
 seen_as : (m : ℕ) (t : Term) (v : Look) (h : Headed t []) → IsGround t → top_look m t ≡ Some v → v ≡ rigid h.head h.arguments
 seen_as m t v h g e = look_is m t v g e ∙ h.seen
 
+looked_on : (m n : ℕ) (s : Side) (inside : Bool) (k : ℕ) (v : Look) (h : Term) (us : List Term) (r : Scanned) → v ≡ rigid h us → scan_seen m n s inside k v ≡ Some r → scan_seen m n s inside k (rigid h us) ≡ Some r
+looked_on m n s inside k v h us r q e = transport (λ w. scan_seen m n s inside k w ≡ Some r) q e
+
+behind : (m n : ℕ) (s : Side) (inside : Bool) (k : ℕ) (h : Term) (us : List Term) (r : Scanned) → ((x : Scanned) → scan_tops m n s inside k us ≡ Some x → x ≡ whole (nodes_all us) false []) → allows_head s h ≡ true →
+    scan_seen m n s inside k (rigid h us) ≡ Some r → r ≡ whole (suc (nodes_all us)) false []
+behind m n s inside k h us r all a e =
+    let w = from_map (above false) (scan_tops m n s inside k us) r (transport (λ x. (elim (x || inside) as (λ z. Option Scanned) [ true ↦ option_map (above (not x)) (scan_tops m n s inside k us) | false ↦ Some (broken 1) ]) ≡ Some r) a e) in
+    w.2 ∙ ap (above false) (all w.0 w.1)
+
 mutual
   pub scan_ground : (m n : ℕ) (s : Side) (inside : Bool) (k : ℕ) (t : Term) (r : Scanned) → IsGround t → scan_top m n s inside k t ≡ Some r → r ≡ whole (nodes t) false []
   scan_ground m zero s inside k t r g e = absurd (cc)
   scan_ground m (suc n) s inside k t r g e =
       let h = headed t [] g tt in
       let v = from_bind _ (top_look m t) r e in
-      behind m n s inside k h.head h.arguments r h.ground (h.allowed s) (looked_on m n s inside k v.0 h.head h.arguments r (seen_as m t v.0 h g v.1) v.2) ∙ ap (λ c. whole c false []) (let c = h.count in omega (arith, c))
-
-  looked_on : (m n : ℕ) (s : Side) (inside : Bool) (k : ℕ) (v : Look) (h : Term) (us : List Term) (r : Scanned) → v ≡ rigid h us → scan_seen m n s inside k v ≡ Some r → scan_seen m n s inside k (rigid h us) ≡ Some r
-  looked_on m n s inside k v h us r q e = transport (λ w. scan_seen m n s inside k w ≡ Some r) q e
-
-  behind : (m n : ℕ) (s : Side) (inside : Bool) (k : ℕ) (h : Term) (us : List Term) (r : Scanned) → EachOf IsGround us → allows_head s h ≡ true → scan_seen m n s inside k (rigid h us) ≡ Some r → r ≡ whole (suc (nodes_all us)) false []
-  behind m n s inside k h us r g a e =
-      let w = from_map (above false) (scan_tops m n s inside k us) r (transport (λ x. (elim (x || inside) [ true ↦ option_map (above (not x)) (scan_tops m n s inside k us) | false ↦ Some (broken 1) ]) ≡ Some r) a e) in
-      w.2 ∙ ap (above false) (scans_ground m n s inside k us w.0 g w.1)
+      behind m n s inside k h.head h.arguments r (λ x q. scans_ground m n s inside k h.arguments x h.ground q) (h.allowed s) (looked_on m n s inside k v.0 h.head h.arguments r (seen_as m t v.0 h g v.1) v.2) ∙ ap (λ c. whole c false []) (let c = h.count in omega (arith, c))
 
   pub scans_ground : (m n : ℕ) (s : Side) (inside : Bool) (k : ℕ) (ts : List Term) (r : Scanned) → EachOf IsGround ts → scan_tops m n s inside k ts ≡ Some r → r ≡ whole (nodes_all ts) false []
   scans_ground m zero s inside k ts r g e = absurd (cc)
@@ -146,7 +150,7 @@ mutual
   scans_ground m (suc n) s inside k (t ∷ ts) r g e =
       let w = from_bind _ (scan_top m n s inside k t) r e in
       let x = scan_ground m n s inside k t w.0 g.0 w.1 in
-      let y = from_map (beside (nodes t) false []) (scan_tops m n s inside k ts) r (transport (λ q. (elim q [ broken u ↦ Some (broken u) | whole u d ps ↦ option_map (beside u d ps) (scan_tops m n s inside k ts) ]) ≡ Some r) x w.2) in
+      let y = from_map (beside (nodes t) false []) (scan_tops m n s inside k ts) r (transport (λ q. (elim q as (λ z. Option Scanned) [ broken u ↦ Some (broken u) | whole u d ps ↦ option_map (beside u d ps) (scan_tops m n s inside k ts) ]) ≡ Some r) x w.2) in
       y.2 ∙ ap (beside (nodes t) false []) (scans_ground m n s inside k ts y.0 g.1 y.1)
 
 -- a ground part in front of others
@@ -155,7 +159,7 @@ module _ (m n : ℕ) (s : Side) (p : Part) (ps : List Part) (g : IsGround p.term
   split r e =
       let w = from_bind _ (scan_top m n s p.inside p.last p.term) r e in
       let x = scan_ground m n s p.inside p.last p.term w.0 g w.1 in
-      from_map (beside (nodes p.term) false []) (scan_parts m n s ps) r (transport (λ q. (elim q [ broken u ↦ Some (broken u) | whole u d qs ↦ option_map (beside u d qs) (scan_parts m n s ps) ]) ≡ Some r) x w.2)
+      from_map (beside (nodes p.term) false []) (scan_parts m n s ps) r (transport (λ q. (elim q as (λ z. Option Scanned) [ broken u ↦ Some (broken u) | whole u d qs ↦ option_map (beside u d qs) (scan_parts m n s ps) ]) ≡ Some r) x w.2)
 
   pub ground_rest : (f : Noted) (u v : ℕ) → u ≡ v + nodes p.term → IsRestOf s u v f f (scan_parts m n s (p ∷ ps)) (scan_parts m n s ps)
   ground_rest f u v e = λ r h. let w = split r h in (w.0, w.1, transport (λ x. Merged s u v f f x w.0) (sym w.2) (merged w.0))
@@ -172,12 +176,12 @@ module _ (m n : ℕ) (s : Side) (p : Part) (ps : List Part) (g : IsGround p.term
       exceeds (whole k d qs) = omega (arith, l)
 
 -- settling
-head_of : Look → Term
+abbrev head_of : Look → Term
 head_of (an_abs b) = b
 head_of (rigid h ts) = h
 head_of (flexible x l ts) = index 0
 
-arguments_of : Look → List Term
+abbrev arguments_of : Look → List Term
 arguments_of (an_abs b) = []
 arguments_of (rigid h ts) = ts
 arguments_of (flexible x l ts) = ts

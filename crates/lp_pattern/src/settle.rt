@@ -348,7 +348,7 @@ fn visit(
     ensures refused { IfErr result (λ e. StopsSettling e bank.old bindings.now side.now.eigens.items (work.old.tasks.items ++ Visit term opened ∷ []) work.old.made.items) }
 {
     // A ground term is settled as it stands.
-    if bank.ground_nodes(term).is_some() {
+    if let Some(_nodes) = bank.ground_nodes(term) {
         work.made.push(term)?;
         return Ok(());
     }
