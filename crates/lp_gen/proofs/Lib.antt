@@ -1,4 +1,7 @@
 mod Works
+mod TypeWorks
+mod TypePut
+mod Denoting
 mod Goals
 mod Arguments
 pub mod Fitting

@@ -23,6 +23,8 @@ mod standard;
 mod terms;
 // Types as they are read.
 mod types;
+// Types in registers.
+mod written_types;
 
 pub use codes::{generate, generate_query};
 pub use fault::GenRefusal;

@@ -1,0 +1,2 @@
+use Rattle.lp_gen.proofs.TypeWorks.{done_push}
+use Rattle.lp_gen.proofs.Denoting.{type_leads}
