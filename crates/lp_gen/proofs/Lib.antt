@@ -1,6 +1,7 @@
 mod Works
 mod TypeWorks
 mod TypePut
+mod TermPut
 mod Denoting
 mod Goals
 mod Arguments

@@ -11,11 +11,13 @@ use Rattle.lp_gen.specs.inner.Running.{Hold, Leads, IsTypePut}
 use Rattle.lp_gen.specs.inner.Works.{Work, with_type, work_now, IsGrown, Comes, with_constructor, with_arrow, last_of, first_of}
 use Rattle.lp_gen.proofs.Denoting.{type_leads, type_grows}
 
-pub type_put : (old new : Emitter) (T : Ty) (made : List ℕ) (r : ℕ) → IsGrown old new → work_now new made ≡ with_type (work_now old []) (type_made old.types T) → r ≡ slice_index_or made 0 0 → IsTypePut old new r T
+pub type_put : (old new : Emitter) (T : Ty) (made : List ℕ) (r : ℕ) → IsGrown old new → work_now new made ≡ with_type (work_now old []) (type_made old.types T) →
+    r ≡ slice_index_or made 0 0 → IsTypePut old new r T
 type_put old new T made r g e at =
     let m = type_made old.types T in
     let code : pieces new.code.items ≡ pieces old.code.items ++ m.code = ap (λ (w : Work). w.code) e in
-    let rest : pieces g.more ≡ m.code = (append_injective (pieces old.code.items) (pieces old.code.items) (pieces g.more) m.code refl (sym (map-append piece old.code.items g.more) ∙ sym (ap pieces g.code_is) ∙ code)).1 in
+    let rest : pieces g.more ≡ m.code = (append_injective (pieces old.code.items) (pieces old.code.items) (pieces g.more) m.code refl (sym (map-append piece old.code.items g.more)
+    ∙ sym (ap pieces g.code_is) ∙ code)).1 in
     let next : new.types ≡ m.next = ap (λ (w : Work). w.next) e in
     let register : r ≡ m.register = at ∙ ap (λ (w : Work). slice_index_or w.made 0 0) e in
     record {
@@ -33,4 +35,9 @@ pub not_grown : (e : Emitter) → IsGrown e e
 not_grown e = record { more = []; code_is = append_nil_sym e.code.items; registers_stay = refl }
 
 pub grown_on : (old mid new : Emitter) → IsGrown old mid → IsGrown mid new → IsGrown old new
-grown_on old mid new a b = record { more = a.more ++ b.more; code_is = b.code_is ∙ ap (λ l. l ++ b.more) a.code_is ∙ append_assoc old.code.items a.more b.more; registers_stay = b.registers_stay ∙ a.registers_stay }
+grown_on old mid new a b = record {
+  more = a.more ++ b.more;
+  code_is = b.code_is ∙ ap (λ l. l ++ b.more) a.code_is
+      ∙ append_assoc old.code.items a.more b.more;
+  registers_stay = b.registers_stay ∙ a.registers_stay;
+}

@@ -64,10 +64,12 @@ constructed : (b : Nodes) (k n : ℕ) (ts : Tys) (w : Work) → count ts ≡ n �
 constructed b k n ts w c =
     let m = types_made w.next ts in
     let l = last_append w.made m.registers n (registers_count w.next ts ∙ c) in
-    work_same ((w.code ++ m.code) ++ type_con m.next k (last_of n (w.made ++ m.registers)) ∷ []) (w.code ++ (m.code ++ type_con m.next k m.registers ∷ [])) (first_of n (w.made ++ m.registers) ++ m.next ∷ []) (w.made ++ m.next ∷ []) (m.next + 1) (m.next + 1)
+    work_same ((w.code ++ m.code) ++ type_con m.next k (last_of n (w.made ++ m.registers)) ∷ []) (w.code ++ (m.code ++ type_con m.next k m.registers ∷ [])) (first_of n
+    (w.made ++ m.registers) ++ m.next ∷ []) (w.made ++ m.next ∷ []) (m.next + 1) (m.next + 1)
     (ap (λ rs. (w.code ++ m.code) ++ type_con m.next k rs ∷ []) l.0 ∙ append_assoc w.code m.code (type_con m.next k m.registers ∷ [])) (ap (λ rs. rs ++ m.next ∷ []) l.1) refl
 
-pub visits_constructor : (b : Nodes) (old mid new : List TypeTask) (rs : List ℕ) (of : TypeView) (k n : ℕ) (ids : Bor (List TypeId)) (at : Option TermId) → mid ≡ old ++ on.Constructor k n ∷ [] → new ≡ mid ++ on.Parts ids at ∷ [] → n ≡ length ids.now →
+pub visits_constructor : (b : Nodes) (old mid new : List TypeTask) (rs : List ℕ) (of : TypeView) (k n : ℕ) (ids : Bor (List TypeId)) (at : Option TermId) →
+    mid ≡ old ++ on.Constructor k n ∷ [] → new ≡ mid ++ on.Parts ids at ∷ [] → n ≡ length ids.now →
     con k (tys (map (λ p. read_at b at (type_tree b p.0)) ids.now)) ≡ read b of → GivesWay b (on.Visit of) old new rs rs
 visits_constructor b old mid new rs of k n ids at m e l r code next =
     let w : Work = record { code = code; made = rs; next = next } in
@@ -87,10 +89,12 @@ arrow_done a c w =
     let x = ap (last_of 2) all ∙ l.0 in
     let y = ap (first_of 2) all ∙ l.1 in
     work_same _ _ _ _ (n.next + 1) (n.next + 1)
-    (ap (λ rs. ((w.code ++ m.code) ++ n.code) ++ type_arrow n.next (slice_index_or rs 0 0) (slice_index_or rs 1 0) ∷ []) x ∙ append_assoc (w.code ++ m.code) n.code (type_arrow n.next m.register n.register ∷ []) ∙ append_assoc w.code m.code (n.code ++ type_arrow n.next m.register n.register ∷ []))
+    (ap (λ rs. ((w.code ++ m.code) ++ n.code) ++ type_arrow n.next (slice_index_or rs 0 0) (slice_index_or rs 1 0) ∷ []) x
+    ∙ append_assoc (w.code ++ m.code) n.code (type_arrow n.next m.register n.register ∷ []) ∙ append_assoc w.code m.code (n.code ++ type_arrow n.next m.register n.register ∷ []))
     (ap (λ rs. rs ++ n.next ∷ []) y) refl
 
-pub visits_arrow : (b : Nodes) (old mid third new : List TypeTask) (rs : List ℕ) (of from to : TypeView) → mid ≡ old ++ on.Arrow ∷ [] → third ≡ mid ++ on.Visit to ∷ [] → new ≡ third ++ on.Visit from ∷ [] →
+pub visits_arrow : (b : Nodes) (old mid third new : List TypeTask) (rs : List ℕ) (of from to : TypeView) → mid ≡ old ++ on.Arrow ∷ [] → third ≡ mid ++ on.Visit to ∷ [] →
+    new ≡ third ++ on.Visit from ∷ [] →
     arrow (read b from) (read b to) ≡ read b of → GivesWay b (on.Visit of) old new rs rs
 visits_arrow b old mid third new rs of from to m t e r code next =
     let w : Work = record { code = code; made = rs; next = next } in
@@ -99,13 +103,15 @@ visits_arrow b old mid third new rs of from to m t e r code next =
     ∙ ap (done b old) (arrow_done (read b from) (read b to) w ∙ ap (λ T. with_type w (type_made next T)) r)
 
 -- a register that is known already
-pub visits_known : (b : Nodes) (work : List TypeTask) (old new : List ℕ) (of : TypeView) (r : ℕ) → new ≡ old ++ r ∷ [] → ((n : ℕ) → type_made n (read b of) ≡ record { code = []; register = r; next = n }) → GivesWay b (on.Visit of) work work old new
+pub visits_known : (b : Nodes) (work : List TypeTask) (old new : List ℕ) (of : TypeView) (r : ℕ) → new ≡ old ++ r ∷ [] → ((n : ℕ) →
+    type_made n (read b of) ≡ record { code = []; register = r; next = n }) → GivesWay b (on.Visit of) work work old new
 visits_known b work old new of r e k code next =
     ap (done b work) (work_same code (code ++ []) new (old ++ r ∷ []) next next (append_nil_sym code) e refl ∙ ap (with_type (record { code = code; made = old; next = next })) (sym (k next)))
 
 pub parts_none : (b : Nodes) (work : List TypeTask) (at : Option TermId) (ids : Bor (List TypeId)) → ids.now ≡ [] → (made : List ℕ) → GivesWay b (on.Parts ids at) work work made made
 parts_none b work at ids e made code next =
-    ap (done b work) (work_same code (code ++ []) made (made ++ []) next next (append_nil_sym code) (append_nil_sym made) refl ∙ ap (λ l. with_types (record { code = code; made = made; next = next }) (types_made next (tys (map (λ p. read_at b at (type_tree b p.0)) l)))) (sym e))
+    ap (done b work) (work_same code (code ++ []) made (made ++ []) next next (append_nil_sym code) (append_nil_sym made) refl
+    ∙ ap (λ l. with_types (record { code = code; made = made; next = next }) (types_made next (tys (map (λ p. read_at b at (type_tree b p.0)) l)))) (sym e))
 
 part_done : (b : Nodes) (T : Ty) (Ts : Tys) (w : Work) → with_types (with_type w (type_made w.next T)) (types_made (type_made w.next T).next Ts) ≡ with_types w (types_made w.next (types T Ts))
 part_done b T Ts w =
@@ -114,13 +120,17 @@ part_done b T Ts w =
     work_same ((w.code ++ m.code) ++ n.code) (w.code ++ (m.code ++ n.code)) ((w.made ++ m.register ∷ []) ++ n.registers) (w.made ++ m.register ∷ n.registers) n.next n.next
     (append_assoc w.code m.code n.code) (append_assoc w.made (m.register ∷ []) n.registers) refl
 
-pub parts_first : (b : Nodes) (old mid new : List TypeTask) (at : Option TermId) (ids rest : Bor (List TypeId)) (first : TypeId) (of : TypeView) → ids.now ≡ first ∷ rest.now → mid ≡ old ++ on.Parts rest at ∷ [] → new ≡ mid ++ on.Visit of ∷ [] →
+pub parts_first : (b : Nodes) (old mid new : List TypeTask) (at : Option TermId) (ids rest : Bor (List TypeId)) (first : TypeId) (of : TypeView) → ids.now ≡ first ∷ rest.now →
+    mid ≡ old ++ on.Parts rest at ∷ [] → new ≡ mid ++ on.Visit of ∷ [] →
     read b of ≡ read_at b at (type_tree b first.0) → (made : List ℕ) → GivesWay b (on.Parts ids at) old new made made
 parts_first b old mid new at ids rest first of i m e r made code next =
     let w : Work = record { code = code; made = made; next = next } in
     last_two b old mid new (on.Parts rest at) (on.Visit of) w m e
     ∙ ap (λ T. done b old (act b (on.Parts rest at) (with_type w (type_made next T)))) r
-    ∙ ap (done b old) (part_done b (read_at b at (type_tree b first.0)) (tys (map (λ p. read_at b at (type_tree b p.0)) rest.now)) w ∙ ap (λ l. with_types w (types_made next (tys (map (λ p. read_at b at (type_tree b p.0)) l)))) (sym i))
+    ∙ ap (done b old) (part_done b (read_at b at (type_tree b first.0)) (tys (map (λ p. read_at b at (type_tree b p.0)) rest.now)) w
+    ∙ ap (λ l. with_types w (types_made next (tys (map (λ p. read_at b at (type_tree b p.0)) l)))) (sym i))
 
-pub type_begins : (b : Nodes) (e : Emitter) (of : TypeView) (none work : List TypeTask) (made : List ℕ) → work ≡ none ++ on.Visit of ∷ [] → none ≡ [] → made ≡ [] → done b work (work_now e made) ≡ act b (on.Visit of) (work_now e [])
-type_begins b e of none work made w n m = done_popped b work none (on.Visit of) (work_now e made) w ∙ ap (λ l. done b l (act b (on.Visit of) (work_now e made))) n ∙ ap (λ l. act b (on.Visit of) (work_now e l)) m
+pub type_begins : (b : Nodes) (e : Emitter) (of : TypeView) (none work : List TypeTask) (made : List ℕ) → work ≡ none ++ on.Visit of ∷ [] → none ≡ [] → made ≡ [] →
+    done b work (work_now e made) ≡ act b (on.Visit of) (work_now e [])
+type_begins b e of none work made w n m = done_popped b work none (on.Visit of) (work_now e made) w ∙ ap (λ l. done b l (act b (on.Visit of) (work_now e made))) n
+    ∙ ap (λ l. act b (on.Visit of) (work_now e l)) m

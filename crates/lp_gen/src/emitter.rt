@@ -88,7 +88,12 @@ impl Emitter {
     }
 
     /// The next register.
-    pub(crate) fn new_register(&mut self) -> Result<u16, GenRefusal> {
+    pub(crate) fn new_register(&mut self) -> Result<u16, GenRefusal>
+        ensures register { IfOk result (λ register. register ≡ self.old.registers) }
+        ensures code { OnOk result (self.new.code.items ≡ self.old.code.items) }
+        ensures types { OnOk result (self.new.types ≡ self.old.types) }
+        ensures registers { OnOk result (self.new.registers ≡ self.old.registers + 1) }
+    {
         let register = self.registers;
         self.registers = next(register)?;
         Ok(register)

@@ -11,6 +11,8 @@ mod environment;
 mod codes;
 // Why clauses have no code.
 mod fault;
+// Terms in registers, by their forms.
+mod forms;
 // The head of a record.
 mod head;
 // A clause with those that it assumes, each as a list of steps.

@@ -7,11 +7,13 @@ ghost use Rattle.lp_gen.specs.inner.Sizes.{term_work};
 use crate::emitter::Emitter;
 use crate::environment::{Environment, Variable};
 use crate::fault::GenRefusal;
+use crate::forms::{
+    put_abstraction, put_application, put_constant, put_index, put_integer, put_text,
+};
 use crate::record::{Starts, Tables};
 use crate::standard::{Function, constant_type};
 use crate::types::TypeView;
-use crate::written_types::{put_type, take};
-use lp_base::Limit;
+use crate::written_types::{put_type, put_types, take};
 use lp_code::Instr;
 use lp_term::{Bank, Spine, TermId, TermNode, TypeId, spine_of};
 use std::alloc::Global;
@@ -62,12 +64,7 @@ impl<'a> Writer<'a> {
 
     /// Types of the clause in registers.
     pub(crate) fn put_types(&mut self, types: &[TypeId]) -> Result<Vec<u16>, GenRefusal> {
-        let mut registers = Vec::new(self.alloc);
-        for of in types.iter().copied() {
-            let register = self.put_type(TypeView::Of(of, None))?;
-            registers.push(register)?;
-        }
-        Ok(registers)
+        put_types(self.alloc, self.tables.bank, &mut self.emitter, types)
     }
 
     /// Makes a variable of the clause.
@@ -92,17 +89,6 @@ impl<'a> Writer<'a> {
         Ok(variable.register)
     }
 
-    // An index that is bound in the term.
-    fn bound_index(&mut self, index: u64, of: TypeView) -> Result<u16, GenRefusal> {
-        let Ok(number) = u16::try_from(index) else {
-            return Err(GenRefusal::Limit(Limit::Nesting));
-        };
-        let register = self.put_type(of)?;
-        let made = self.emitter.new_register()?;
-        self.emitter.emit(Instr::PutIndex(made, number, register))?;
-        Ok(made)
-    }
-
     // The type of a bound index, the innermost first.
     fn bound_type(&self, index: u64) -> Option<TypeView> {
         let depth = self.bound.len() as u64;
@@ -113,36 +99,15 @@ impl<'a> Writer<'a> {
     fn index(&mut self, index: u64) -> Result<u16, GenRefusal> {
         let depth = self.bound.len() as u64;
         match self.bound_type(index) {
-            Some(of) => self.bound_index(index, of),
+            Some(of) => put_index(self.alloc, self.tables.bank, &mut self.emitter, index, of),
             None => self.variable(index.saturating_sub(depth)),
         }
-    }
-
-    fn constant(&mut self, number: u32, types: &[TypeId]) -> Result<u16, GenRefusal> {
-        let registers = self.put_types(types)?;
-        let made = self.emitter.new_register()?;
-        self.emitter.emit(Instr::PutConst(made, number, registers))?;
-        Ok(made)
-    }
-
-    fn integer(&mut self, value: i64) -> Result<u16, GenRefusal> {
-        let made = self.emitter.new_register()?;
-        self.emitter.emit(Instr::PutInt(made, value))?;
-        Ok(made)
-    }
-
-    fn text(&mut self, bytes: &[u8]) -> Result<u16, GenRefusal> {
-        let text = Vec::from_slice(self.alloc, bytes)?;
-        let made = self.emitter.new_register()?;
-        self.emitter.emit(Instr::PutStr(made, text))?;
-        Ok(made)
     }
 
     fn apply(&mut self, count: usize, made: &mut Vec<u16>) -> Result<(), GenRefusal> {
         let args = take(made, count)?;
         let head = made.pop().unwrap_or(0);
-        let register = self.emitter.new_register()?;
-        self.emitter.emit(Instr::PutApp(register, head, args))?;
+        let register = put_application(&mut self.emitter, head, args)?;
         made.push(register)?;
         Ok(())
     }
@@ -150,11 +115,8 @@ impl<'a> Writer<'a> {
     fn abstraction(&mut self, of: TypeView, made: &mut Vec<u16>) -> Result<(), GenRefusal> {
         let _bound = self.bound.pop();
         let body = made.pop().unwrap_or(0);
-        let register = self.put_type(of)?;
-        let abstraction = self.emitter.new_register()?;
-        self.emitter
-            .emit(Instr::PutAbs(abstraction, body, register))?;
-        made.push(abstraction)?;
+        let register = put_abstraction(self.alloc, self.tables.bank, &mut self.emitter, body, of)?;
+        made.push(register)?;
         Ok(())
     }
 
@@ -185,9 +147,15 @@ impl<'a> Writer<'a> {
     fn leaf(&mut self, node: TermNode<'_>) -> Result<u16, GenRefusal> {
         match node {
             TermNode::Index(index) => self.index(index),
-            TermNode::Const(number, types) => self.constant(number, types),
-            TermNode::Int(value) => self.integer(value),
-            TermNode::Text(bytes) => self.text(bytes),
+            TermNode::Const(number, types) => put_constant(
+                self.alloc,
+                self.tables.bank,
+                &mut self.emitter,
+                number,
+                types,
+            ),
+            TermNode::Int(value) => put_integer(&mut self.emitter, value),
+            TermNode::Text(bytes) => put_text(self.alloc, &mut self.emitter, bytes),
             _ => self.index(0),
         }
     }

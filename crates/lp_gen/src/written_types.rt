@@ -3,7 +3,7 @@ ghost use Rattle.std.specs.Prelude.{◌≡◌, ℕ, List, ◌≤◌, ◌+◌, �
 ghost use Rattle.lp_calculus.specs.Types.{tys};
 ghost use Rattle.lp_term.specs.Nodes.{type_tree};
 ghost use Rattle.lp_gen.specs.inner.Reading.{read, read_at};
-ghost use Rattle.lp_gen.specs.inner.Running.{IsTypePut};
+ghost use Rattle.lp_gen.specs.inner.Running.{IsTypePut, AreTypesPut};
 ghost use Rattle.lp_gen.specs.inner.Sizes.{type_size, types_size, type_task, type_work};
 ghost use Rattle.lp_gen.specs.inner.Works.{Comes, GivesWay, IsGrown, act, done, work_now, with_constructor, with_arrow, first_of, last_of};
 ghost use Rattle.lp_gen.specs.declared.written_types.TypeTask.TheVariants as on;
@@ -102,6 +102,7 @@ fn visit_parts<'b>(
     Ok(())
 }
 
+// A kind on the last types that were made.
 fn put_constructor(
     emitter: &mut Emitter,
     kind: u32,
@@ -117,6 +118,7 @@ fn put_constructor(
     Ok(())
 }
 
+// An arrow between the last two.
 fn put_arrow(emitter: &mut Emitter, made: &mut Vec<u16>) -> Result<(), GenRefusal>
     ensures { OnOk result (Comes emitter.old emitter.new with_arrow made.old.items made.new.items) }
 {
@@ -129,6 +131,7 @@ fn put_arrow(emitter: &mut Emitter, made: &mut Vec<u16>) -> Result<(), GenRefusa
     Ok(())
 }
 
+// Does one task.
 fn take_up<'b>(
     bank: &'b Bank,
     emitter: &mut Emitter,
@@ -176,4 +179,21 @@ pub(crate) fn put_type(
         take_up(bank, emitter, task, &mut work, &mut made)?;
     }
     Ok(register_at(made.as_slice(), 0))
+}
+
+/// Types of the clause in registers.
+pub(crate) fn put_types(
+    alloc: Global,
+    bank: &Bank,
+    emitter: &mut Emitter,
+    types: &[TypeId],
+) -> Result<Vec<u16>, GenRefusal>
+    ensures { IfOk result (λ registers. AreTypesPut emitter.old emitter.new registers.items (map (λ t. type_tree bank.now t.0) types.now)) }
+{
+    let mut registers = Vec::new(alloc);
+    for of in types.iter().copied() {
+        let register = put_type(alloc, bank, emitter, TypeView::Of(of, None))?;
+        registers.push(register)?;
+    }
+    Ok(registers)
 }

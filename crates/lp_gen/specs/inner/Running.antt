@@ -1,5 +1,5 @@
 -- What the code of types and terms does where it is run: from a state in which no rule is broken to one in which the type or term stands in its register.
-use Rattle.std.specs.Prelude.{◌≡◌, ℕ, ℤ, All, ◌+◌, ◌≤◌, ◌<◌, nat_eq, Bool, true, false, List, [], ◌∷◌, ◌++◌, length, sum_by, Option, Some}
+use Rattle.std.specs.Prelude.{◌≡◌, ℕ, ℤ, All, ◌+◌, ◌≤◌, ◌<◌, nat_eq, Bool, true, false, List, [], ◌∷◌, ◌++◌, length, map, sum_by, is_none, Option, Some}
 use Rattle.std.specs.List.{list_any}
 use Rattle.lp_calculus.specs.Types.{Ty, Tys, var, no_types, types, tys}
 use Rattle.lp_calculus.specs.Term.{atom, integer, text}
@@ -7,10 +7,10 @@ use Rattle.lp_calculus.specs.Typing.{int_type, string_type}
 use Rattle.lp_code.specs.declared.instruction.Instr.{Instr}
 use Rattle.lp_code.specs.declared.rule.Rule.{Rule}
 use Rattle.lp_code.specs.Length.{length_of}
-use Rattle.lp_code.specs.Symbolic.{held, Built, whole, bound_index}
+use Rattle.lp_code.specs.Symbolic.{held, Built, whole, bound_index, term_in, application_of, abstraction_of, agree_at, innermost}
 use Rattle.lp_code.specs.States.{State, Home, member}
 use Rattle.lp_code.specs.Steps.{Later, constant_of}
-use Rattle.lp_code.specs.Rules.{is_passed, has_count, is_no_term}
+use Rattle.lp_code.specs.Rules.{is_passed, has_count, is_no_term, applies}
 use Rattle.lp_code.specs.Denote.{run, broken_by_record}
 use Rattle.lp_gen.specs.declared.emitter.Emitter.{Emitter}
 use Rattle.lp_gen.specs.Sources.{IsKnownType}
@@ -62,7 +62,8 @@ pub record IsTypePut (old new : Emitter) (register : ℕ) (T : Ty) : Type 0 wher
   pub code_is : new.code.items ≡ old.code.items ++ more
   pub registers_stay : new.registers ≡ old.registers
   pub types_grow : old.types ≤ new.types
-  pub denotes : (h : Home) (later : Later) (vars : ℕ) (s : State) → TypesStand h vars old.types s → new.types ≤ h.self.types → IsKnownType h.tables.kinds vars T → HasRoom s (s.place + sum_by length_of more) → (t : State) × Leads h later vars old.types new.types s more t × Hold t register T × (register < new.types)
+  pub denotes : (h : Home) (later : Later) (vars : ℕ) (s : State) → TypesStand h vars old.types s → new.types ≤ h.self.types → IsKnownType h.tables.kinds vars T →
+      HasRoom s (s.place + sum_by length_of more) → (t : State) × Leads h later vars old.types new.types s more t × Hold t register T × (register < new.types)
 
 -- the same for types in registers
 pub record AreTypesPut (old new : Emitter) (rs : List ℕ) (Ts : List Ty) : Type 0 where
@@ -70,7 +71,8 @@ pub record AreTypesPut (old new : Emitter) (rs : List ℕ) (Ts : List Ty) : Type
   pub code_is : new.code.items ≡ old.code.items ++ more
   pub registers_stay : new.registers ≡ old.registers
   pub types_grow : old.types ≤ new.types
-  pub denotes : (h : Home) (later : Later) (vars : ℕ) (s : State) → TypesStand h vars old.types s → new.types ≤ h.self.types → All (IsKnownType h.tables.kinds vars) Ts → HasRoom s (s.place + sum_by length_of more) →
+  pub denotes : (h : Home) (later : Later) (vars : ℕ) (s : State) → TypesStand h vars old.types s → new.types ≤ h.self.types → All (IsKnownType h.tables.kinds vars) Ts →
+      HasRoom s (s.place + sum_by length_of more) →
       (t : State) × Leads h later vars old.types new.types s more t × HoldAll t rs (tys Ts) × All (λ r. r < new.types) rs
 
 -- the registers of terms from one on were never set
@@ -99,14 +101,15 @@ pub record Moves (h : Home) (later : Later) (vars types types' terms terms' : �
 abbrev pub HoldTerm : State → (register : ℕ) → Built → Type 0
 HoldTerm s r b = held s.now.terms r ≡ Some b
 
--- more code, which makes a term in a register wherever it is run and what it asks for is so
-pub record IsTermPut (old new : Emitter) (register : ℕ) (asks : Home → (vars : ℕ) → Type 0) (built : Home → Built) : Type 0 where
+-- more code, which makes a term in a register wherever it is run, and what it asks of the terms that are set is so
+pub record IsTermPut (old new : Emitter) (register : ℕ) (asks : Home → (vars : ℕ) → List (Option Built) → Type 0) (built : Home → List (Option Built) → Built) : Type 0 where
   pub more : List Instr
   pub code_is : new.code.items ≡ old.code.items ++ more
   pub types_grow : old.types ≤ new.types
   pub terms_grow : old.registers ≤ new.registers
-  pub denotes : (h : Home) (later : Later) (vars : ℕ) (s : State) → TypesStand h vars old.types s → TermsStand h old.registers s → new.types ≤ h.self.types → new.registers ≤ h.self.registers → asks h vars → HasRoom s (s.place + sum_by length_of more) →
-      (t : State) × Moves h later vars old.types new.types old.registers new.registers s more t × HoldTerm t register (built h) × (register < new.registers)
+  pub denotes : (h : Home) (later : Later) (vars : ℕ) (s : State) → TypesStand h vars old.types s → TermsStand h old.registers s → new.types ≤ h.self.types →
+      new.registers ≤ h.self.registers → asks h vars s.now.terms → HasRoom s (s.place + sum_by length_of more) →
+      (t : State) × Moves h later vars old.types new.types old.registers new.registers s more t × HoldTerm t register (built h s.now.terms) × (register < new.registers)
 
 -- a constant that may stand in terms, with as many known types as it has type variables
 pub record IsKnownConstant (h : Home) (vars c : ℕ) (Ts : List Ty) : Type 0 where
@@ -114,15 +117,36 @@ pub record IsKnownConstant (h : Home) (vars c : ℕ) (Ts : List Ty) : Type 0 whe
   pub declared : has_count (h.tables.constants c) (length Ts) ≡ true
   pub in_terms : is_no_term c ≡ false
 
--- terms without parts
 abbrev pub ConstantPut : (old new : Emitter) → (register c : ℕ) → List Ty → Type 0
-ConstantPut old new r c Ts = IsTermPut old new r (λ h vars. IsKnownConstant h vars c Ts) (λ h. constant_of h.tables c Ts)
+ConstantPut old new r c Ts = IsTermPut old new r (λ h vars xs. IsKnownConstant h vars c Ts) (λ h xs. constant_of h.tables c Ts)
 
 abbrev pub IntegerPut : (old new : Emitter) → (register : ℕ) → ℤ → Type 0
-IntegerPut old new r z = IsTermPut old new r (λ h vars. Unit {0}) (λ h. whole (atom (integer z)) int_type)
+IntegerPut old new r z = IsTermPut old new r (λ h vars xs. Unit {0}) (λ h xs. whole (atom (integer z)) int_type)
 
 abbrev pub TextPut : (old new : Emitter) → (register : ℕ) → List ℕ → Type 0
-TextPut old new r s = IsTermPut old new r (λ h vars. Unit {0}) (λ h. whole (atom (text s)) string_type)
+TextPut old new r s = IsTermPut old new r (λ h vars xs. Unit {0}) (λ h xs. whole (atom (text s)) string_type)
 
 abbrev pub IndexPut : (old new : Emitter) → (register i : ℕ) → Ty → Type 0
-IndexPut old new r i T = IsTermPut old new r (λ h vars. IsKnownType h.tables.kinds vars T) (λ h. bound_index i T)
+IndexPut old new r i T = IsTermPut old new r (λ h vars xs. IsKnownType h.tables.kinds vars T) (λ h xs. bound_index i T)
+
+-- what stands in a register of a term
+abbrev pub built_at : List (Option Built) → ℕ → Built
+built_at xs r = term_in (record { types = []; terms = xs }) r
+
+-- a head and its arguments, which are set and fit together
+pub record AreParts (xs : List (Option Built)) (head : ℕ) (args : List ℕ) : Type 0 where
+  pub head_set : is_none (held xs head) ≡ false
+  pub args_set : list_any (λ r. is_none (held xs r)) args ≡ false
+  pub fit : applies (built_at xs head) (map (built_at xs) args) ≡ true
+
+abbrev pub ApplicationPut : (old new : Emitter) → (register head : ℕ) → (args : List ℕ) → Type 0
+ApplicationPut old new r head args = IsTermPut old new r (λ h vars xs. AreParts xs head args) (λ h xs. application_of (built_at xs head) (map (built_at xs) args))
+
+-- the body of an abstraction, which is set and has no index 0 of another type
+pub record IsBody (h : Home) (vars : ℕ) (xs : List (Option Built)) (body : ℕ) (T : Ty) : Type 0 where
+  pub known : IsKnownType h.tables.kinds vars T
+  pub body_set : is_none (held xs body) ≡ false
+  pub fits : agree_at (innermost (built_at xs body).loose) (Some T) ≡ true
+
+abbrev pub AbstractionPut : (old new : Emitter) → (register body : ℕ) → Ty → Type 0
+AbstractionPut old new r body T = IsTermPut old new r (λ h vars xs. IsBody h vars xs body T) (λ h xs. abstraction_of (built_at xs body) T)

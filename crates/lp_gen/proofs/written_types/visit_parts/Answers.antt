@@ -9,4 +9,5 @@ returns-in_default-clause-gives c = parts_none c.args.bank.now c.args.work.now.i
 
 pub returns-clause-gives : goal.returns-clause-gives
 returns-clause-gives c =
-    parts_first c.args.bank.now c.args.work.now.items c.push.new.self.items c.push-2.new.self.items c.args.constant c.args.parts c.in-Some.rest c.in-Some.first.now (Of c.in-Some.first.now c.args.constant) c.in-Some.ensures.cases.0 c.in_ok-push.ensures.items c.in_ok-push-2.ensures.items refl
+    parts_first c.args.bank.now c.args.work.now.items c.push.new.self.items c.push-2.new.self.items c.args.constant c.args.parts c.in-Some.rest c.in-Some.first.now
+    (Of c.in-Some.first.now c.args.constant) c.in-Some.ensures.cases.0 c.in_ok-push.ensures.items c.in_ok-push-2.ensures.items refl
