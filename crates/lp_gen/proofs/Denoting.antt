@@ -1,7 +1,7 @@
 -- What the code of a type does where it is run.
-use Rattle.std.proofs.Common.{◌≡◌, ◌∙◌, ◌≤◌, ◌<◌, ℕ, zero, suc, ◌+◌, List, [], ◌∷◌, ◌++◌, append_assoc, map, length}
-use Rattle.std.proofs.Common.{Bool, true, false, Option, Some, None, Vec, Global, ap, refl, sym, subst, arith, ltb-true, eq-eqb}
-use Rattle.std.specs.Prelude.{nat_eq, nat_le, not, min, ◌||◌, if◌then◌else◌, is_none, slice_set, slice_get, sum_by, unwrap_or, option_map}
+use Rattle.std.proofs.Common.{◌≡◌, ◌∙◌, ◌≤◌, ◌<◌, ℕ, zero, suc, ◌+◌, List, [], ◌∷◌, ◌++◌, append_assoc, length}
+use Rattle.std.proofs.Common.{Bool, true, false, Option, Some, None, Vec, Global, ap, refl, sym, subst, arith, eq-eqb}
+use Rattle.std.specs.Prelude.{nat_eq, nat_le, not, min, ◌||◌, if◌then◌else◌, is_none, slice_set, sum_by, unwrap_or, option_map}
 use Rattle.std.specs.List.{list_any}
 use Rattle.std.proofs.lemmas.List.{append-nil, length-set}
 use Rattle.std.proofs.lemmas.List.Sums.{sum_by-append}
@@ -10,7 +10,6 @@ use Rattle.lp_lemmas.proofs.Booleans.{or_false_left, or_false_right}
 use Rattle.lp_lemmas.proofs.Lists.{cons_head, cons_tail}
 use Rattle.lp_calculus.specs.Types.{Ty, Tys, var, param as type_param, con, arrow, no_types, types, tys}
 use Rattle.lp_calculus.specs.Typing.{o_type}
-use Rattle.lp_model.specs.Flat.{Goals, Clauses}
 use Rattle.lp_code.specs.declared.instruction.Instr.{Instr}
 use Rattle.lp_code.specs.declared.instruction.Instr.TheVariants as on
 use Rattle.lp_code.specs.declared.rule.Rule.{Rule}
@@ -23,8 +22,8 @@ use Rattle.lp_code.specs.Steps.{Later, put_type, leave, is_right_end, settled, p
 use Rattle.lp_code.specs.Rules.{is_count, side_is_passed, is_passed}
 use Rattle.lp_code.specs.Denote.{rules, first_broken, broken_by_record, broken_by, unless_broken, run_on, run}
 use Rattle.lp_gen.specs.Sources.{IsKnownType, AreKnownTypes}
-use Rattle.lp_gen.specs.inner.Pieces.{Piece, type_con, type_arrow, another, piece, pieces, Made, AllMade, type_made, types_made}
-use Rattle.lp_gen.specs.inner.Running.{TypesStand, HasRoom, SameButTypes, Leads, Hold, HoldAll}
+use Rattle.lp_gen.specs.inner.Pieces.{Piece, type_con, type_arrow, piece, pieces, type_made, types_made}
+use Rattle.lp_gen.specs.inner.Running.{TypesStand, HasRoom, Leads, Hold, HoldAll}
 
 pub or_none : (a b : Bool) → a ≡ false → b ≡ false → (a || b) ≡ false
 or_none true b e f = absurd (cc)

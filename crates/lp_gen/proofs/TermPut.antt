@@ -1,7 +1,7 @@
 -- The code of a term that was put, of each form: from a state in which its parts stand to one in which the whole does.
 use Rattle.std.proofs.Common.{◌≡◌, ◌∙◌, ◌≤◌, ◌<◌, ℕ, ℤ, suc, ◌+◌, List, [], ◌∷◌, ◌++◌, append_assoc, map}
-use Rattle.std.proofs.Common.{length, Bool, true, false, Option, Some, None, Vec, Global, ap, refl, sym, subst, arith, true≢false}
-use Rattle.std.specs.Prelude.{All, nat_eq, nat_le, not, ◌||◌, is_none, slice_get, sum_by, unwrap_or, option_map}
+use Rattle.std.proofs.Common.{length, false, Option, Some, None, Vec, Global, ap, refl, sym, subst, arith, true≢false}
+use Rattle.std.specs.Prelude.{All, nat_le, not, ◌||◌, is_none, sum_by, unwrap_or, option_map}
 use Rattle.std.specs.List.{list_any}
 use Rattle.std.proofs.lemmas.List.{append-nil, length-set, map-append}
 use Rattle.std.proofs.lemmas.List.Sums.{sum_by-append}
@@ -21,12 +21,12 @@ use Rattle.lp_code.specs.Length.{length_of}
 use Rattle.lp_code.specs.Operands.{type_set, term_set}
 use Rattle.lp_code.specs.Symbolic.{held, types_in, Built, whole, bound_index, application_of, abstraction_of, agree_at, innermost}
 use Rattle.lp_code.specs.States.{State, Home, member, depth}
-use Rattle.lp_code.specs.Steps.{Later, constant_of, put_term, settled, passed, effect, after}
-use Rattle.lp_code.specs.Rules.{has_count, is_no_term, is_passed}
+use Rattle.lp_code.specs.Steps.{Later, constant_of, put_term, settled, passed, effect}
+use Rattle.lp_code.specs.Rules.{has_count, is_passed}
 use Rattle.lp_code.specs.Denote.{broken_by, run}
 use Rattle.lp_gen.specs.declared.emitter.Emitter.{Emitter}
 use Rattle.lp_gen.specs.Sources.{IsKnownType}
-use Rattle.lp_gen.specs.inner.Running.{TypesStand, HasRoom, Leads, Hold, HoldAll, IsTypePut, AreTypesPut, TermsStand, SameButRegisters, Moves, HoldTerm}
+use Rattle.lp_gen.specs.inner.Running.{TypesStand, HasRoom, Leads, Hold, HoldAll, IsTypePut, AreTypesPut, TermsStand, Moves, HoldTerm}
 use Rattle.lp_gen.specs.inner.Running.{IsTermPut, IsKnownConstant, ConstantPut, IntegerPut, TextPut, IndexPut, built_at, AreParts, ApplicationPut, IsBody, AbstractionPut}
 use Rattle.lp_gen.proofs.Denoting.{or_none, steps, settled_same, room_less, held_within, held_set, held_below, member_more, none_unset, then_leads, nothing_leads, room_front, room_behind}
 

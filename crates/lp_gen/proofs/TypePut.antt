@@ -1,14 +1,13 @@
 -- The code of a type that was put.
-use Rattle.std.proofs.Common.{◌≡◌, ◌∙◌, ◌≤◌, ℕ, List, [], ◌∷◌, ◌++◌, append_assoc, map, Vec, Global, ap, refl, sym, subst, arith}
+use Rattle.std.proofs.Common.{◌≡◌, ◌∙◌, ◌≤◌, ℕ, List, [], ◌++◌, append_assoc, ap, refl, sym, subst, arith}
 use Rattle.std.specs.Prelude.{slice_index_or}
 use Rattle.std.proofs.lemmas.List.{map-append}
 use Rattle.lp_lemmas.proofs.Lists.{append_injective, append_nil_sym}
 use Rattle.lp_calculus.specs.Types.{Ty}
-use Rattle.lp_code.specs.declared.instruction.Instr.{Instr}
 use Rattle.lp_gen.specs.declared.emitter.Emitter.{Emitter}
-use Rattle.lp_gen.specs.inner.Pieces.{Piece, piece, pieces, type_made}
+use Rattle.lp_gen.specs.inner.Pieces.{piece, pieces, type_made}
 use Rattle.lp_gen.specs.inner.Running.{Hold, Leads, IsTypePut}
-use Rattle.lp_gen.specs.inner.Works.{Work, with_type, work_now, IsGrown, Comes, with_constructor, with_arrow, last_of, first_of}
+use Rattle.lp_gen.specs.inner.Works.{Work, with_type, work_now, IsGrown}
 use Rattle.lp_gen.proofs.Denoting.{type_leads, type_grows}
 
 pub type_put : (old new : Emitter) (T : Ty) (made : List ℕ) (r : ℕ) → IsGrown old new → work_now new made ≡ with_type (work_now old []) (type_made old.types T) →

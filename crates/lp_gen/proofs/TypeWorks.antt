@@ -1,9 +1,8 @@
 -- A task for a type gives way to the tasks for its parts.
-use Rattle.std.proofs.Common.{◌≡◌, ◌∙◌, ℕ, ◌+◌, ◌-◌, List, [], ◌∷◌, ◌++◌, append_assoc, Bor, Option, map, length, take, drop, ap, refl, sym, subst, arith}
-use Rattle.std.proofs.lemmas.List.{append-nil, length-append}
-use Rattle.std.proofs.lemmas.List.Sums.{sum_by_push}
-use Rattle.lp_lemmas.proofs.Lists.{append_nil_sym, length_push_suc}
-use Rattle.lp_calculus.specs.Types.{Ty, Tys, var, param as type_param, con, arrow, no_types, types, tys}
+use Rattle.std.proofs.Common.{◌≡◌, ◌∙◌, ℕ, ◌+◌, ◌-◌, List, [], ◌∷◌, ◌++◌, append_assoc, Bor, Option, map, length, take, drop, ap, refl, sym, arith}
+use Rattle.std.proofs.lemmas.List.{length-append}
+use Rattle.lp_lemmas.proofs.Lists.{append_nil_sym}
+use Rattle.lp_calculus.specs.Types.{Ty, Tys, con, arrow, no_types, types, tys}
 use Rattle.lp_term.specs.Nodes.{Nodes, type_tree}
 use Rattle.lp_term.specs.declared.node.TermId.{TermId}
 use Rattle.lp_term.specs.declared.node.TypeId.{TypeId}
@@ -13,7 +12,7 @@ use Rattle.lp_gen.specs.declared.written_types.TypeTask.TheVariants as on
 use Rattle.lp_gen.specs.inner.Reading.{read, read_at}
 use Rattle.std.specs.Prelude.{slice_index_or}
 use Rattle.lp_gen.specs.declared.emitter.Emitter.{Emitter}
-use Rattle.lp_gen.specs.inner.Pieces.{Piece, type_con, type_arrow, Made, AllMade, type_made, types_made}
+use Rattle.lp_gen.specs.inner.Pieces.{Piece, type_con, type_arrow, type_made, types_made}
 use Rattle.lp_gen.specs.inner.Works.{Work, with_type, with_types, last_of, first_of, with_constructor, with_arrow, act, done, work_now, GivesWay}
 
 pub done_push : (b : Nodes) (ts : List TypeTask) (t : TypeTask) (w : Work) → done b (ts ++ t ∷ []) w ≡ done b ts (act b t w)

@@ -1,5 +1,5 @@
 -- What the code of types and terms does where it is run: from a state in which no rule is broken to one in which the type or term stands in its register.
-use Rattle.std.specs.Prelude.{◌≡◌, ℕ, ℤ, All, ◌+◌, ◌≤◌, ◌<◌, nat_eq, Bool, true, false, List, [], ◌∷◌, ◌++◌, length, map, sum_by, is_none, Option, Some}
+use Rattle.std.specs.Prelude.{◌≡◌, ℕ, ℤ, All, ◌+◌, ◌≤◌, ◌<◌, nat_eq, true, false, List, [], ◌∷◌, ◌++◌, length, map, sum_by, is_none, Option, Some}
 use Rattle.std.specs.List.{list_any}
 use Rattle.lp_calculus.specs.Types.{Ty, Tys, var, no_types, types, tys}
 use Rattle.lp_calculus.specs.Term.{atom, integer, text}

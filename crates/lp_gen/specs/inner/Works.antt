@@ -1,6 +1,6 @@
 -- What is left to do for a type, and what comes of it: the code, the registers made so far, and the next register.
 use Rattle.std.specs.Prelude.{◌≡◌, ℕ, ◌+◌, ◌-◌, List, [], ◌∷◌, ◌++◌, map, length, take, drop, slice_index_or}
-use Rattle.lp_calculus.specs.Types.{Tys, tys}
+use Rattle.lp_calculus.specs.Types.{tys}
 use Rattle.lp_code.specs.declared.instruction.Instr.{Instr}
 use Rattle.lp_term.specs.Nodes.{Nodes, type_tree}
 use Rattle.lp_gen.specs.declared.emitter.Emitter.{Emitter}

@@ -1,11 +1,11 @@
-use Rattle.std.proofs.Common.{◌≡◌, map, [], ◌∷◌, ◌++◌, ◌∙◌, ap, sym, subst}
+use Rattle.std.proofs.Common.{◌≡◌, map, [], ◌∙◌, sym, subst}
 use Rattle.std.proofs.lemmas.List.{map-id}
 use Rattle.std.proofs.lemmas.Iterator.{YieldsList-from_slice}
 use Rattle.std.proofs.lemmas.Iterator.Consumers.{YieldsList-end, YieldsList-from_copied}
 use Rattle.lp_term.specs.Nodes.{type_tree}
 use Rattle.lp_term.specs.declared.node.TypeId.{TypeId}
 use Rattle.lp_gen.specs.inner.Running.{AreTypesPut}
-use Rattle.lp_gen.proofs.TermPut.{types_put_none, types_put_more, types_put_next}
+use Rattle.lp_gen.proofs.TermPut.{types_put_none, types_put_next}
 use Rattle.lp_gen.proofs.written_types.put_types.Goals as goal
 
 pub loop-of-init : goal.loop-of-init
