@@ -1,4 +1,8 @@
 mod Works
+mod TypeWorks
+mod TypePut
+mod TermPut
+mod Denoting
 mod Goals
 mod Arguments
 pub mod Fitting

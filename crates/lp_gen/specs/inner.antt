@@ -1,3 +1,6 @@
 pub mod Fitting
+pub mod Pieces
 pub mod Reading
+pub mod Running
 pub mod Sizes
+pub mod Works

@@ -11,6 +11,8 @@ mod environment;
 mod codes;
 // Why clauses have no code.
 mod fault;
+// Terms in registers, by their forms.
+mod forms;
 // The head of a record.
 mod head;
 // A clause with those that it assumes, each as a list of steps.
@@ -23,6 +25,8 @@ mod standard;
 mod terms;
 // Types as they are read.
 mod types;
+// Types in registers.
+mod written_types;
 
 pub use codes::{generate, generate_query};
 pub use fault::GenRefusal;
