@@ -5,6 +5,8 @@
 mod code;
 // Why bytes are refused, and why a value is.
 mod fault;
+// Fields of one number or text that are read.
+mod fields;
 // Images.
 mod image;
 // Instructions.
@@ -13,8 +15,6 @@ mod instructions;
 mod names;
 // Objects.
 mod object;
-// The bytes that are left to read, and fields of one number or text.
-mod reader;
 // Records.
 mod records;
 // Declared types.

@@ -2,7 +2,8 @@
 
 ghost use Rattle.std.specs.Prelude.{◌≡◌, ◌++◌, ◌∷◌, [], OnOk};
 ghost use Rattle.std.specs.List.{flat_map};
-ghost use Rattle.lp_object.specs.Numbers.{spelled_one, spelled_two, spelled_four, spelled_integer, spelled_number, spelled_text, spelled_few, spelled_many, spelled_numbered};
+ghost use Rattle.lp_bytes.specs.Numbers.{spelled_one, spelled_two, spelled_four, spelled_integer};
+ghost use Rattle.lp_object.specs.Numbers.{spelled_number, spelled_text, spelled_few, spelled_many, spelled_numbered};
 
 use crate::fault::WriteRefusal;
 use crate::width::Width;

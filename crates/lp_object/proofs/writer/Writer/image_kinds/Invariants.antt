@@ -1,6 +1,6 @@
 use Rattle.std.proofs.Common.{◌≡◌, ◌++◌, take, map, length}
 use Rattle.std.specs.List.{flat_map}
-use Rattle.lp_object.specs.Numbers.{spelled_four}
+use Rattle.lp_bytes.specs.Numbers.{spelled_four}
 use Rattle.lp_object.specs.Plain.{plain_image_kind}
 use Rattle.lp_object.specs.Files.{spelled_image_kind}
 use Rattle.lp_object.proofs.writer.Writer.image_kinds.Given as goal

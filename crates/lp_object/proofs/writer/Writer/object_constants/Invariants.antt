@@ -1,6 +1,6 @@
 use Rattle.std.proofs.Common.{◌≡◌, ◌++◌, take, map, length}
 use Rattle.std.specs.List.{flat_map}
-use Rattle.lp_object.specs.Numbers.{spelled_two}
+use Rattle.lp_bytes.specs.Numbers.{spelled_two}
 use Rattle.lp_object.specs.Plain.{plain_object_constant}
 use Rattle.lp_object.specs.Files.{spelled_object_constant}
 use Rattle.lp_object.proofs.writer.Writer.object_constants.Given as goal

@@ -1,6 +1,6 @@
 use Rattle.std.proofs.Common.{◌≡◌, ◌++◌, take, map, length}
 use Rattle.std.specs.List.{flat_map}
-use Rattle.lp_object.specs.Numbers.{spelled_four}
+use Rattle.lp_bytes.specs.Numbers.{spelled_four}
 use Rattle.lp_object.specs.Plain.{plain_record}
 use Rattle.lp_object.specs.Spelling.{spelled_record}
 use Rattle.lp_object.proofs.writer.Writer.records.Given as goal

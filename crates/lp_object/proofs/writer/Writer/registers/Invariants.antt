@@ -1,6 +1,6 @@
 use Rattle.std.proofs.Common.{◌≡◌, ◌++◌, take}
 use Rattle.std.specs.List.{flat_map}
-use Rattle.lp_object.specs.Numbers.{spelled_two}
+use Rattle.lp_bytes.specs.Numbers.{spelled_two}
 use Rattle.lp_object.proofs.writer.Writer.registers.Given as goal
 
 abbrev pub invariant-loop-register : goal.invariant-loop-register

@@ -1,6 +1,7 @@
 use Rattle.std.proofs.Common.{◌≡◌, ◌++◌, take, map, length}
 use Rattle.std.specs.List.{flat_map}
-use Rattle.lp_object.specs.Numbers.{spelled_two, spelled_text}
+use Rattle.lp_bytes.specs.Numbers.{spelled_two}
+use Rattle.lp_object.specs.Numbers.{spelled_text}
 use Rattle.lp_object.proofs.writer.Writer.uses.Given as goal
 
 abbrev pub invariant-loop-name : goal.invariant-loop-name
