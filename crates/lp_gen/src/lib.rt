@@ -3,6 +3,8 @@
 
 // The clauses and goals of a record.
 mod body;
+// Goals whose parts stand in registers.
+mod calls;
 // The code of a record in the making.
 mod emitter;
 // Variables by index.
