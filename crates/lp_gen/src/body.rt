@@ -1,6 +1,6 @@
 // The goals of a record.
 
-use crate::calls::put_call;
+use crate::calls::{put_call, put_term_call};
 use crate::environment::Variable;
 use crate::fault::GenRefusal;
 use crate::plan::Step;
@@ -31,7 +31,7 @@ impl<'a> Writer<'a> {
             }
             _ => {
                 let register = self.put_term(atom, TypeView::Proposition)?;
-                self.emitter.emit(Instr::CallTerm(register))
+                put_term_call(&mut self.emitter, register)
             }
         }
     }

@@ -1,7 +1,7 @@
 // Goals whose parts stand in registers. Equations and orders have instructions of their own.
 ghost use Rattle.std.specs.Prelude.{◌≡◌, OnOk};
 ghost use Rattle.lp_standard.specs.Constants.{numbered};
-ghost use Rattle.lp_gen.specs.inner.Saying.{equation_by, order_by, on_two_by, own_by, own_numbered, IsGoalPut};
+ghost use Rattle.lp_gen.specs.inner.Saying.{equation_by, order_by, on_two_by, own_by, own_numbered, CallPut, TermCallPut};
 
 use crate::emitter::Emitter;
 use crate::fault::GenRefusal;
@@ -66,7 +66,7 @@ pub(crate) fn put_call(
     types: Vec<u16>,
     terms: Vec<u16>,
 ) -> Result<(), GenRefusal>
-    ensures { OnOk result (IsGoalPut emitter.old emitter.new number types.items terms.items) }
+    ensures { OnOk result (CallPut emitter.old emitter.new number types.items terms.items) }
 {
     match own_instruction(number, types.as_slice(), terms.as_slice()) {
         Some(instr) => {
@@ -78,4 +78,12 @@ pub(crate) fn put_call(
             Ok(())
         }
     }
+}
+
+/// A goal that stands in a register as a term.
+pub(crate) fn put_term_call(emitter: &mut Emitter, register: u16) -> Result<(), GenRefusal>
+    ensures { OnOk result (TermCallPut emitter.old emitter.new register) }
+{
+    emitter.emit(Instr::CallTerm(register))?;
+    Ok(())
 }

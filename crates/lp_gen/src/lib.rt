@@ -15,6 +15,8 @@ mod codes;
 mod fault;
 // Terms in registers, by their forms.
 mod forms;
+// The parts of a head as they are matched.
+mod got;
 // The head of a record.
 mod head;
 // A clause with those that it assumes, each as a list of steps.
