@@ -1,12 +1,12 @@
 -- The code of a goal, and of a part of the head, that was put: its instruction breaks no rule, and does what it should.
-use Rattle.std.proofs.Common.{◌≡◌, ◌∙◌, ◌≤◌, ◌<◌, ℕ, ◌+◌, ℤ, List, [], ◌∷◌, ◌++◌, length, Bool, true, false, Option, Some, None, Vec, Global, ap, refl, sym, subst, arith, eq-eqb}
+use Rattle.std.proofs.Common.{◌≡◌, ◌∙◌, ◌<◌, ℕ, ◌+◌, ℤ, List, [], ◌∷◌, ◌++◌, length, Bool, true, false, Option, Some, None, Vec, Global, ap, refl, sym, subst, arith, eq-eqb}
 use Rattle.std.specs.Prelude.{nat_eq, nat_le, not, ◌||◌, ◌&&◌, if◌then◌else◌, is_none, sum_by, unwrap_or, option_map}
 use Rattle.std.specs.List.{list_any}
 use Rattle.std.proofs.lemmas.List.{append-nil}
 use Rattle.std.proofs.lemmas.Bool.{and_from, eqb-true, lt-leb}
 use Rattle.lp_lemmas.proofs.Booleans.{or_false_left, or_false_right, and_true_left, and_true_right}
 use Rattle.lp_calculus.specs.Types.{Ty, Tys, var, param as type_param, con, arrow, no_types, types}
-use Rattle.lp_calculus.specs.Term.{Term, atom, apply, constant, integer, text}
+use Rattle.lp_calculus.specs.Term.{atom, apply, constant, integer, text}
 use Rattle.lp_calculus.specs.Typing.{o_type, int_type, string_type, scheme_type}
 use Rattle.lp_standard.specs.declared.constant.Constant.{Constant}
 use Rattle.lp_standard.specs.declared.constant.Constant.TheVariants as standard
@@ -22,12 +22,12 @@ use Rattle.lp_code.specs.Length.{length_of}
 use Rattle.lp_code.specs.Operands.{types_read, terms_read, type_set, term_set}
 use Rattle.lp_code.specs.Symbolic.{Built, held, whole, equal_types, equal_lists, applied_type, type_in, types_in, term_in, terms_in, plain_terms}
 use Rattle.lp_code.specs.States.{State, Home, member, with_goal, depth}
-use Rattle.lp_code.specs.Steps.{Later, constant_of, settled, passed, effect, after}
+use Rattle.lp_code.specs.Steps.{Later, constant_of, settled, passed, effect}
 use Rattle.lp_code.specs.Rules.{has_type, have_type, is_passed, breaks_constant, breaks_type, breaks_index, breaks_term, breaks_order, breaks_head, breaks_nesting, breaks_clause}
 use Rattle.lp_code.specs.Denote.{broken_by}
 use Rattle.lp_gen.specs.declared.emitter.Emitter.{Emitter}
 use Rattle.lp_gen.specs.inner.Running.{TypesStand, TermsStand, HasRoom}
-use Rattle.lp_gen.specs.inner.Saying.{own_numbered, own_by, on_two_by, equation_by, order_by, turned, Turns, IsPartPut, AreGoalParts, CallPut}
+use Rattle.lp_gen.specs.inner.Saying.{own_numbered, own_by, equation_by, order_by, turned, Turns, IsPartPut, AreGoalParts, CallPut}
 use Rattle.lp_gen.specs.inner.Saying.{IsGoalTerm, TermCallPut, IsNext, IsNextConstant, ConstantGot, IntegerGot, TextGot, IsNextTerm, TermGot, IsNextType, TypeGot}
 use Rattle.lp_gen.proofs.Denoting.{or_none, steps, settled_same, room_less}
 use Rattle.lp_gen.proofs.TermPut.{set_within, no_sides}

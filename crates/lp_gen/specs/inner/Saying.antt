@@ -1,5 +1,5 @@
 -- The code of a goal, and of a part of the head, where the parts stand in registers. Equations and orders have instructions of their own.
-use Rattle.std.specs.Prelude.{◌≡◌, ℕ, ℤ, ◌+◌, nat_eq, nat_le, not, ◌&&◌, ◌||◌, Bool, true, false, List, [], ◌∷◌, ◌++◌, length, sum_by, is_none, is_some, Option, Some, None}
+use Rattle.std.specs.Prelude.{◌≡◌, ℕ, ℤ, ◌+◌, nat_eq, nat_le, not, ◌&&◌, ◌||◌, true, false, List, [], ◌∷◌, ◌++◌, length, sum_by, is_none, is_some, Option, Some, None}
 use Rattle.std.specs.List.{list_any}
 use Rattle.lp_calculus.specs.Types.{Ty}
 use Rattle.lp_calculus.specs.Term.{Term, atom, apply, constant, integer, text}
