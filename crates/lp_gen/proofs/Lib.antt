@@ -2,6 +2,7 @@ mod Works
 mod TypeWorks
 mod TypePut
 mod TermPut
+mod GoalPut
 mod Denoting
 mod Goals
 mod Arguments

@@ -162,7 +162,7 @@ one_within n d l = or_none (nat_le n d) false (lt-leb n d l) refl
 one_unset : (h : Home) (d : ℕ) (s : State) → TermsStand h d s → list_any (λ r. member r s.terms_set) (d ∷ []) ≡ false
 one_unset h d s te = or_none (member d s.terms_set) false (te.unset d (omega arith)) refl
 
-no_sides : (s : State) → HasRoom s s.place → (list_any (is_passed s.place) s.frames || false) ≡ false
+pub no_sides : (s : State) → HasRoom s s.place → (list_any (is_passed s.place) s.frames || false) ≡ false
 no_sides s room = or_none (list_any (is_passed s.place) s.frames) false room refl
 
 const_fine : (h : Home) (vars n : ℕ) (s : State) (d c : ℕ) (v : Vec ℕ Global) (Ts : List Ty) → TypesStand h vars n s → TermsStand h d s → d < h.self.registers → HoldAll s v.items (tys Ts) →
@@ -230,7 +230,7 @@ index_fine h vars n s d i q T st te low a room rest rule.Clause = refl
 index_fine h vars n s d i q T st te low a room rest rule.Key = refl
 
 -- terms that are read
-set_within : {A : Type 0} (xs : List (Option A)) (r : ℕ) → is_none (held xs r) ≡ false → r < length xs
+pub set_within : {A : Type 0} (xs : List (Option A)) (r : ℕ) → is_none (held xs r) ≡ false → r < length xs
 set_within {A} xs r e = by_case (held xs r) refl
   where
     by_case : (o : Option A) → held xs r ≡ o → r < length xs

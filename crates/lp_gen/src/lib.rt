@@ -3,6 +3,8 @@
 
 // The clauses and goals of a record.
 mod body;
+// Goals whose parts stand in registers.
+mod calls;
 // The code of a record in the making.
 mod emitter;
 // Variables by index.
@@ -13,6 +15,8 @@ mod codes;
 mod fault;
 // Terms in registers, by their forms.
 mod forms;
+// The parts of a head as they are matched.
+mod got;
 // The head of a record.
 mod head;
 // A clause with those that it assumes, each as a list of steps.
