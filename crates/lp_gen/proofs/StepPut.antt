@@ -1,8 +1,8 @@
 -- The steps of a term that were put: the stack that they make stands in the registers.
-use Rattle.std.proofs.Common.{◌≡◌, ◌∙◌, ◌≤◌, ◌<◌, ℕ, zero, suc, ◌+◌, ◌-◌, List, [], ◌∷◌, ◌++◌, append_assoc, map, length, take, drop, Bool, true, false, Option, Some, None, ap, refl, sym, subst, arith, true≢false}
-use Rattle.std.specs.Prelude.{All, min, nat_le, not, ◌||◌, is_none, slice_get, slice_index_or, sum_by, unwrap_or}
+use Rattle.std.proofs.Common.{◌≡◌, ◌∙◌, ◌<◌, ℕ, zero, suc, ◌+◌, ◌-◌, List, [], ◌∷◌, ◌++◌, append_assoc, map, length, take, drop, false, Option, Some, None, ap, refl, sym, subst, arith, true≢false}
+use Rattle.std.specs.Prelude.{All, is_none, slice_index_or, sum_by, unwrap_or}
 use Rattle.std.specs.List.{list_any}
-use Rattle.std.proofs.lemmas.List.{append-nil, length-take}
+use Rattle.std.proofs.lemmas.List.{length-take}
 use Rattle.std.proofs.lemmas.List.Sums.{sum_by-append}
 use Rattle.std.proofs.lemmas.List.Elements.{All-nil, All-head, All-tail, All-cons, All-push}
 use Rattle.lp_lemmas.proofs.Lists.{append_nil_sym}
@@ -24,8 +24,8 @@ use Rattle.lp_gen.specs.declared.term_steps.TermStep.{TermStep}
 use Rattle.lp_gen.specs.declared.term_steps.TermStep.TheVariants as on
 use Rattle.lp_gen.specs.inner.Reading.{read}
 use Rattle.lp_gen.specs.inner.Works.{last_of, first_of}
-use Rattle.lp_gen.specs.inner.Running.{TypesStand, TermsStand, HasRoom, Moves, IsTermPut, IsTypePut, built_at, AreParts, ApplicationPut, IsBody, AbstractionPut}
-use Rattle.lp_gen.specs.inner.TermSteps.{last_built, before_last, head_and, step_built, IsFine, steps_built, AreFine, StandIn, StepsPut, AreOfTerm, TermOfSteps}
+use Rattle.lp_gen.specs.inner.Running.{HasRoom, Moves, IsTermPut, IsTypePut, built_at, AreParts, ApplicationPut, IsBody, AbstractionPut}
+use Rattle.lp_gen.specs.inner.TermSteps.{last_built, before_last, step_built, IsFine, steps_built, AreFine, StandIn, StepsPut, TermOfSteps}
 use Rattle.lp_gen.proofs.Denoting.{or_none, room_less, room_front}
 use Rattle.lp_gen.proofs.TermPut.{then_moves}
 

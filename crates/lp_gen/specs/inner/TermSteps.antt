@@ -1,5 +1,5 @@
 -- What the steps of a term make: a stack of terms, the last one last, and the code that makes them in registers.
-use Rattle.std.specs.Prelude.{◌≡◌, ℕ, ◌+◌, ◌-◌, ◌≤◌, ◌<◌, All, true, false, List, [], ◌∷◌, ◌++◌, length, map, take, drop, sum_by, is_none, Option, Some, slice_get, slice_index_or, unwrap_or}
+use Rattle.std.specs.Prelude.{◌≡◌, ℕ, ◌+◌, ◌-◌, ◌≤◌, ◌<◌, All, true, false, List, [], ◌∷◌, ◌++◌, length, map, take, drop, sum_by, is_none, Option, Some, slice_index_or}
 use Rattle.lp_calculus.specs.Term.{index, atom, integer, text}
 use Rattle.lp_calculus.specs.Typing.{o_type, int_type, string_type}
 use Rattle.lp_term.specs.Nodes.{Nodes, type_tree}
