@@ -3,6 +3,7 @@ mod TypeWorks
 mod TypePut
 mod TermPut
 mod GoalPut
+mod StepPut
 mod Denoting
 mod Goals
 mod Arguments

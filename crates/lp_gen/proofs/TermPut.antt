@@ -94,7 +94,7 @@ moved h later vars n m k s t is l ts = record {
   terms_stand = record { as_many = ap length l.same.terms ∙ ts.as_many; unset = λ r q. ap (member r) l.same.terms_set ∙ ts.unset r q };
 }
 
-then_moves : (h : Home) (later : Later) (vars n m k a b c : ℕ) (s t u : State) (is js : List Instr) → Moves h later vars n m a b s is t → Moves h later vars m k b c t js u → n ≤ m → a ≤ b →
+pub then_moves : (h : Home) (later : Later) (vars n m k a b c : ℕ) (s t u : State) (is js : List Instr) → Moves h later vars n m a b s is t → Moves h later vars m k b c t js u → n ≤ m → a ≤ b →
     Moves h later vars n k a c s (is ++ js) u
 then_moves h later vars n m k a b c s t u is js x y l o = record {
   runs = λ rest. ap (run h later s) (append_assoc is js rest) ∙ x.runs (js ++ rest) ∙ y.runs rest;

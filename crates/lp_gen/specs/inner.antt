@@ -4,4 +4,5 @@ pub mod Reading
 pub mod Running
 pub mod Saying
 pub mod Sizes
+pub mod TermSteps
 pub mod Works

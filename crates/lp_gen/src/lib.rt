@@ -25,6 +25,8 @@ mod plan;
 mod record;
 // The types of the arguments of standard constants.
 mod standard;
+// Terms in registers, by steps.
+mod term_steps;
 // Terms in registers.
 mod terms;
 // Types as they are read.

@@ -183,6 +183,7 @@ pub(crate) fn record_of<'x>(
         emitter: Emitter::new(alloc, captured_types, registers),
         environment: Environment::new(alloc, captured, part.base),
         bound: Vec::new(alloc),
+        steps: Vec::new(alloc),
         starts: Vec::new(alloc),
     };
     if program {

@@ -7,19 +7,17 @@ ghost use Rattle.lp_gen.specs.inner.Sizes.{term_work};
 use crate::emitter::Emitter;
 use crate::environment::{Environment, Variable};
 use crate::fault::GenRefusal;
-use crate::forms::{
-    put_abstraction, put_application, put_constant, put_index, put_integer, put_text,
-};
 use crate::record::{Starts, Tables};
 use crate::standard::{Function, constant_type};
+use crate::term_steps::{TermStep, put_steps};
 use crate::types::TypeView;
-use crate::written_types::{put_type, put_types, take};
+use crate::written_types::{put_type, put_types};
 use lp_code::Instr;
 use lp_term::{Bank, Spine, TermId, TermNode, TypeId, spine_of};
 use std::alloc::Global;
 
-/// A record in the making: its code, its variables, the types of the indices that are bound in the term at work, the outermost first, and what the records
-/// start with that are assumed so far.
+/// A record in the making: its code, its variables, the types of the indices that are bound in the term at work, the outermost first, the steps of that term,
+/// and what the records start with that are assumed so far.
 #[derive(Drop)]
 pub(crate) struct Writer<'a> {
     pub alloc: Global,
@@ -27,6 +25,7 @@ pub(crate) struct Writer<'a> {
     pub emitter: Emitter,
     pub environment: Environment<'a>,
     pub bound: Vec<TypeView>,
+    pub steps: Vec<TermStep<'a>>,
     pub starts: Vec<Starts>,
 }
 
@@ -76,17 +75,19 @@ impl<'a> Writer<'a> {
     }
 
     // A variable around the term, which is made if it is not yet.
-    fn variable(&mut self, index: u64) -> Result<u16, GenRefusal> {
+    fn variable(&mut self, index: u64) -> Result<TermStep<'a>, GenRefusal> {
         let Some(level) = self.environment.level(index) else {
-            return Ok(0);
+            return Ok(TermStep::Register(0));
         };
         let Some(variable) = self.environment.at(level) else {
-            return Ok(0);
+            return Ok(TermStep::Register(0));
         };
         if !variable.is_set {
-            self.put_variable(level, variable)?;
+            self.steps
+                .push(TermStep::New(variable.register, variable.of))?;
+            self.environment.set(level);
         }
-        Ok(variable.register)
+        Ok(TermStep::Register(variable.register))
     }
 
     // The type of a bound index, the innermost first.
@@ -96,28 +97,12 @@ impl<'a> Writer<'a> {
         self.bound.get(place as usize).copied()
     }
 
-    fn index(&mut self, index: u64) -> Result<u16, GenRefusal> {
+    fn index(&mut self, index: u64) -> Result<TermStep<'a>, GenRefusal> {
         let depth = self.bound.len() as u64;
         match self.bound_type(index) {
-            Some(of) => put_index(self.alloc, self.tables.bank, &mut self.emitter, index, of),
+            Some(of) => Ok(TermStep::Index(index, of)),
             None => self.variable(index.saturating_sub(depth)),
         }
-    }
-
-    fn apply(&mut self, count: usize, made: &mut Vec<u16>) -> Result<(), GenRefusal> {
-        let args = take(made, count)?;
-        let head = made.pop().unwrap_or(0);
-        let register = put_application(&mut self.emitter, head, args)?;
-        made.push(register)?;
-        Ok(())
-    }
-
-    fn abstraction(&mut self, of: TypeView, made: &mut Vec<u16>) -> Result<(), GenRefusal> {
-        let _bound = self.bound.pop();
-        let body = made.pop().unwrap_or(0);
-        let register = put_abstraction(self.alloc, self.tables.bank, &mut self.emitter, body, of)?;
-        made.push(register)?;
-        Ok(())
     }
 
     /// What is known of the type of a head.
@@ -144,18 +129,12 @@ impl<'a> Writer<'a> {
     }
 
     // A term without parts.
-    fn leaf(&mut self, node: TermNode<'_>) -> Result<u16, GenRefusal> {
+    fn leaf(&mut self, node: TermNode<'a>) -> Result<TermStep<'a>, GenRefusal> {
         match node {
             TermNode::Index(index) => self.index(index),
-            TermNode::Const(number, types) => put_constant(
-                self.alloc,
-                self.tables.bank,
-                &mut self.emitter,
-                number,
-                types,
-            ),
-            TermNode::Int(value) => put_integer(&mut self.emitter, value),
-            TermNode::Text(bytes) => put_text(self.alloc, &mut self.emitter, bytes),
+            TermNode::Const(number, types) => Ok(TermStep::Constant(number, types)),
+            TermNode::Int(value) => Ok(TermStep::Integer(value)),
+            TermNode::Text(bytes) => Ok(TermStep::Text(bytes)),
             _ => self.index(0),
         }
     }
@@ -163,11 +142,10 @@ impl<'a> Writer<'a> {
     // Looks at a term, whose parts come first: of an application its head and its arguments in order.
     fn visit(
         &mut self,
-        bank: &Bank,
+        bank: &'a Bank,
         term: TermId,
         of: TypeView,
         work: &mut Vec<Task>,
-        made: &mut Vec<u16>,
     ) -> Result<(), GenRefusal>
         ensures { OnOk result (term_work bank.now work.new.items + 1 ≤ term_work bank.now work.old.items + 4 * size (tree bank.now term.0)) }
     {
@@ -186,8 +164,27 @@ impl<'a> Writer<'a> {
                 work.push(Task::Visit(head, TypeView::Proposition))?;
             }
             leaf => {
-                let register = self.leaf(leaf)?;
-                made.push(register)?;
+                let step = self.leaf(leaf)?;
+                self.steps.push(step)?;
+            }
+        }
+        Ok(())
+    }
+
+    // The steps of a term of this type.
+    fn list_steps(&mut self, term: TermId, of: TypeView) -> Result<(), GenRefusal> {
+        let bank = self.tables.bank;
+        let mut work = Vec::new(self.alloc);
+        work.push(Task::Visit(term, of))?;
+        'terms: while let Some(task) = work.pop() {
+            match task {
+                Task::Visit(part, expected) => self.visit(bank, part, expected, &mut work)?,
+                Task::Args(args, function) => visit_args(bank, args, function, &mut work)?,
+                Task::Apply(count) => self.steps.push(TermStep::Apply(count))?,
+                Task::Abstract(bound) => {
+                    let _bound = self.bound.pop();
+                    self.steps.push(TermStep::Abstract(bound))?;
+                }
             }
         }
         Ok(())
@@ -195,21 +192,14 @@ impl<'a> Writer<'a> {
 
     /// The term of this type in a register.
     pub(crate) fn put_term(&mut self, term: TermId, of: TypeView) -> Result<u16, GenRefusal> {
-        let bank = self.tables.bank;
-        let mut work = Vec::new(self.alloc);
-        let mut made = Vec::new(self.alloc);
-        work.push(Task::Visit(term, of))?;
-        'terms: while let Some(task) = work.pop() {
-            match task {
-                Task::Visit(part, expected) => {
-                    self.visit(bank, part, expected, &mut work, &mut made)?
-                }
-                Task::Args(args, function) => visit_args(bank, args, function, &mut work)?,
-                Task::Apply(count) => self.apply(count, &mut made)?,
-                Task::Abstract(bound) => self.abstraction(bound, &mut made)?,
-            }
-        }
-        Ok(made.pop().unwrap_or(0))
+        self.steps.clear();
+        self.list_steps(term, of)?;
+        put_steps(
+            self.alloc,
+            self.tables.bank,
+            &mut self.emitter,
+            self.steps.as_slice(),
+        )
     }
 
     /// The arguments of a head in registers.
