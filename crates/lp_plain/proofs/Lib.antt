@@ -20,3 +20,5 @@ pub mod Sightings
 pub mod Measuring
 pub mod FoundGoals
 pub mod Tabled
+pub mod Frames
+pub mod Placed

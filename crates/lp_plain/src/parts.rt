@@ -1,4 +1,10 @@
 // Goals that are taken apart.
+ghost use Rattle.std.specs.Prelude.{◌≡◌, ◌∷◌, [], ◌++◌, List, IfOk, OnOk};
+ghost use Rattle.lp_term.specs.Nodes.{tree};
+ghost use Rattle.lp_model.specs.Branch.{Entry};
+ghost use Rattle.lp_model.specs.Flat.{Goal, Atomic};
+ghost use Rattle.lp_plain.specs.Apart.{IsApart};
+ghost use Rattle.lp_plain.specs.Entries.{Around, IsListAt, Reads, Splits, placed};
 
 use crate::act::Act;
 use crate::choice::Untried;
@@ -15,7 +21,9 @@ use lp_model::{Connective, Ending};
 use lp_term::{TermId, TermNode, put_applied, put_eigen};
 
 // The place inside the scope of one more variable.
-fn bound(machine: &mut Machine, place: Place, value: TermId) -> Result<Place, Memory> {
+fn bound(machine: &mut Machine, place: Place, value: TermId) -> Result<Place, Memory>
+    ensures { machine.new.counts ≡ machine.old.counts }
+{
     let one = [value];
     let scope = machine.scopes.open(place.values.scope, &one)?;
     Ok(Place {
@@ -28,7 +36,9 @@ fn bound(machine: &mut Machine, place: Place, value: TermId) -> Result<Place, Me
 }
 
 // The place one level up, and the eigenconstant of that level.
-fn raised(machine: &mut Machine, place: Place) -> Result<(Place, TermId), Memory> {
+fn raised(machine: &mut Machine, place: Place) -> Result<(Place, TermId), Memory>
+    ensures { machine.new.counts ≡ machine.old.counts }
+{
     let Some(level) = place.level.checked_add(1) else {
         return Err(Memory);
     };
@@ -42,16 +52,22 @@ fn put_either(
     right: usize,
     place: Place,
     behind: Option<usize>,
-) -> Result<(), Memory> {
+) -> Result<(), Memory>
+    ensures counts { machine.new.counts ≡ machine.old.counts }
+    ensures reads { OnOk result ((a : Around) (gs hs : List Goal) (es : List Entry) → IsListAt machine.old place left gs → IsListAt machine.old place right hs → Reads machine.old a behind es → Splits machine.old machine.new a (placed a place gs ++ es) (placed a place hs ++ es)) }
+{
     let other = machine.put_list(right, place, behind)?;
     machine.put_choice(Untried::Goals(other))?;
     machine.note(Act::Left)?;
-    machine.branch.goals = machine.put_list(left, place, behind)?;
+    let one = machine.put_list(left, place, behind)?;
+    machine.branch.goals = one;
     Ok(())
 }
 
 // The new variable at which a `sigma` is opened.
-fn opened(machine: &mut Machine, level: u64) -> Result<TermId, Memory> {
+fn opened(machine: &mut Machine, level: u64) -> Result<TermId, Memory>
+    ensures { machine.new.counts ≡ machine.old.counts }
+{
     let variable = machine.new_variable(level)?;
     machine.note(Act::Opened(variable))?;
     Ok(variable)
@@ -62,7 +78,9 @@ fn put_some(
     goals: usize,
     place: Place,
     behind: Option<usize>,
-) -> Result<(), Memory> {
+) -> Result<(), Memory>
+    ensures { machine.new.counts ≡ machine.old.counts }
+{
     let variable = opened(machine, place.level)?;
     let inner = bound(machine, place, variable)?;
     machine.branch.goals = machine.put_list(goals, inner, behind)?;
@@ -74,7 +92,9 @@ fn put_all(
     goals: usize,
     place: Place,
     behind: Option<usize>,
-) -> Result<(), Memory> {
+) -> Result<(), Memory>
+    ensures { machine.new.counts ≡ machine.old.counts }
+{
     let (above, eigen) = raised(machine, place)?;
     let inner = bound(machine, above, eigen)?;
     machine.branch.goals = machine.put_list(goals, inner, behind)?;
@@ -114,7 +134,9 @@ fn assume_one(
     place: Place,
     tree: Option<usize>,
     head: Head,
-) -> Result<usize, Memory> {
+) -> Result<usize, Memory>
+    ensures { machine.new.counts ≡ machine.old.counts }
+{
     let older = newest_of(&machine.newest, tree, head)?;
     let number = machine.assumptions.len();
     machine.assumptions.push(Assumption {
@@ -126,7 +148,9 @@ fn assume_one(
 }
 
 // Assumes clauses, the first of them to be tried first. The tree of the newest assumptions then.
-fn assume(machine: &mut Machine, rules: Span, place: Place) -> Result<Option<usize>, Memory> {
+fn assume(machine: &mut Machine, rules: Span, place: Place) -> Result<Option<usize>, Memory>
+    ensures { machine.new.counts ≡ machine.old.counts }
+{
     let mut tree = place.assumed;
     'rules: for rule in (rules.from..rules.to).rev() {
         let head = assumed_head(machine, rule, place)?;
@@ -143,7 +167,9 @@ fn put_assume(
     free: usize,
     place: Place,
     behind: Option<usize>,
-) -> Result<(), Memory> {
+) -> Result<(), Memory>
+    ensures { machine.new.counts ≡ machine.old.counts }
+{
     let first = machine.assumptions.len();
     let assumed = assume(machine, rules, place)?;
     let count = machine.assumptions.len().saturating_sub(first);
@@ -169,7 +195,9 @@ pub(crate) fn put_parts(
     goal: Flat,
     place: Place,
     behind: Option<usize>,
-) -> Result<Turn, Memory> {
+) -> Result<Turn, Memory>
+    ensures { IfOk result (λ turn. IsApart turn machine.old.counts machine.new.counts) }
+{
     if !take_apart(machine) {
         return Ok(Turn::Ended(Ending::Deep));
     }
@@ -194,9 +222,13 @@ fn put_and(
     right: TermId,
     place: Place,
     behind: Option<usize>,
-) -> Result<(), Memory> {
+) -> Result<(), Memory>
+    ensures counts { machine.new.counts ≡ machine.old.counts }
+    ensures reads { OnOk result ((a : Around) (es : List Entry) → Reads machine.old a behind es → Reads machine.new a machine.new.branch.goals (placed a place (Atomic (tree machine.old.bank left.0) ∷ Atomic (tree machine.old.bank right.0) ∷ []) ++ es)) }
+{
     let second = machine.put_frame(Todo::Term(right), place, behind)?;
-    machine.branch.goals = machine.put_frame(Todo::Term(left), place, second)?;
+    let first = machine.put_frame(Todo::Term(left), place, second)?;
+    machine.branch.goals = first;
     Ok(())
 }
 
@@ -206,11 +238,15 @@ fn put_or(
     right: TermId,
     place: Place,
     behind: Option<usize>,
-) -> Result<(), Memory> {
+) -> Result<(), Memory>
+    ensures counts { machine.new.counts ≡ machine.old.counts }
+    ensures reads { OnOk result ((a : Around) (es : List Entry) → Reads machine.old a behind es → Splits machine.old machine.new a (placed a place (Atomic (tree machine.old.bank left.0) ∷ []) ++ es) (placed a place (Atomic (tree machine.old.bank right.0) ∷ []) ++ es)) }
+{
     let other = machine.put_frame(Todo::Term(right), place, behind)?;
     machine.put_choice(Untried::Goals(other))?;
     machine.note(Act::Left)?;
-    machine.branch.goals = machine.put_frame(Todo::Term(left), place, behind)?;
+    let one = machine.put_frame(Todo::Term(left), place, behind)?;
+    machine.branch.goals = one;
     Ok(())
 }
 
@@ -221,7 +257,9 @@ fn put_goal_of(
     value: TermId,
     place: Place,
     behind: Option<usize>,
-) -> Result<(), Memory> {
+) -> Result<(), Memory>
+    ensures { machine.new.counts ≡ machine.old.counts }
+{
     let goal = put_applied(&mut machine.bank, term, value)?;
     machine.branch.goals = machine.put_frame(Todo::Term(goal), place, behind)?;
     Ok(())
@@ -233,7 +271,9 @@ pub(crate) fn put_connective(
     connective: Connective,
     place: Place,
     behind: Option<usize>,
-) -> Result<Turn, Memory> {
+) -> Result<Turn, Memory>
+    ensures { IfOk result (λ turn. IsApart turn machine.old.counts machine.new.counts) }
+{
     if !take_apart(machine) {
         return Ok(Turn::Ended(Ending::Deep));
     }

@@ -1,0 +1,69 @@
+-- How the goals of a branch read: the entries of the definition for which its frames stand.
+use Rattle.std.specs.Prelude.{◌≡◌, ℕ, List, [], ◌∷◌, ◌++◌, take, length, Option, None, Some, slice_get}
+use Rattle.lp_term.specs.Nodes.{Nodes, tree}
+use Rattle.lp_term.specs.declared.node.TermId.{TermId}
+use Rattle.lp_model.specs.Branch.{Entry, entries}
+use Rattle.lp_model.specs.Flat.{Goal, Atomic, Goals, Clause, Written, goal_list, instantiate_goals, type_goals}
+use Rattle.lp_pattern.specs.Growing.{GoesOn}
+use Rattle.lp_plain.specs.declared.choice.Untried.{Untried}
+use Rattle.lp_plain.specs.declared.frame.Frame.{Frame}
+use Rattle.lp_plain.specs.declared.frame.Place.{Place}
+use Rattle.lp_plain.specs.declared.frame.Todo.{Todo}
+use Rattle.lp_plain.specs.declared.machine.Machine.{Machine}
+use Rattle.lp_plain.specs.declared.scope.Scopes.{Scopes}
+use Rattle.lp_plain.specs.declared.table.Span.{Span}
+use Rattle.lp_plain.specs.declared.types.Renewal.{Renewal}
+use Rattle.lp_plain.specs.Instances.{values_of}
+use Rattle.lp_plain.specs.Renewal.{renewing}
+use Rattle.lp_plain.specs.Scopes.{IsScope, block_count, value_count}
+use Rattle.lp_plain.specs.Keeping.{HasOneMore, KeepsKnown}
+use Rattle.lp_plain.specs.Tables.{Shown, shown, AreGoals, IsListOf, Never}
+
+-- what the numbers of a place stand for: the clauses assumed by a tree of assumptions, what is written in them, the definition's mark
+pub record Around : Type 0 where
+  pub assumed : Option ℕ → List Clause
+  pub written : Option ℕ → Written
+  pub mark : ℕ → ℕ
+
+-- goals of a clause with these values for its variables and new numbers for its type variables
+abbrev pub in_scope : Nodes → List TermId → Renewal → Goals → Goals
+in_scope b vs r gs = instantiate_goals (values_of b vs) (type_goals (renewing r) gs)
+
+-- goals in a place
+abbrev pub placed : Around → Place → List Goal → List Entry
+placed a p gs = entries gs (a.assumed p.assumed) (a.written p.standing) p.level (a.mark p.mark)
+
+-- the values of a place are these
+abbrev pub IsAt : Scopes → Place → List TermId → Type 0
+IsAt s p vs = IsScope s (block_count s) (value_count s) p.values.scope vs
+
+-- the goals of a frame
+abbrev pub AreTodo : Nodes → Shown → Scopes → Place → Todo → List Goal → Type 0
+AreTodo b t s p (Todo.Goals span) gs = (hs : Goals) × (vs : List TermId) × AreGoals b Never t span.from span.to hs × IsAt s p vs × (gs ≡ goal_list (in_scope b vs p.values.types hs))
+AreTodo b t s p (Todo.Term u) gs = gs ≡ Atomic (tree b u.0) ∷ []
+
+-- the goals from a frame on. Behind each frame is an older one
+pub data AreEntries (b : Nodes) (t : Shown) (s : Scopes) (a : Around) : List Frame → Option ℕ → List Entry → Type 0 where
+  no_frame : {fs : List Frame} {o : Option ℕ} {es : List Entry} → o ≡ None → es ≡ [] → AreEntries b t s a fs o es
+  a_frame : {fs : List Frame} {o : Option ℕ} {es : List Entry} (i : ℕ) (f : Frame) (gs : List Goal) (rest : List Entry) → o ≡ Some i → slice_get fs i ≡ Some f → AreTodo b t s f.place f.todo gs →
+      AreEntries b t s a (take i fs) f.behind rest → es ≡ placed a f.place gs ++ rest → AreEntries b t s a fs o es
+
+-- so in a search
+abbrev pub Reads : Machine → Around → Option ℕ → List Entry → Type 0
+Reads m a o es = AreEntries m.bank (shown m.table) m.scopes a m.frames.items o es
+
+-- the goals of a list of the table, in a place of the search
+abbrev pub IsListAt : Machine → Place → (list : ℕ) → List Goal → Type 0
+IsListAt m p list gs = (hs : Goals) × (vs : List TermId) × IsListOf m.bank m.table list hs × IsAt m.scopes p vs × (gs ≡ goal_list (in_scope m.bank vs p.values.types hs))
+
+-- what is known of terms stays, and frames only come
+pub record KeepsGoals (old new : Machine) : Type 0 where
+  pub known : KeepsKnown old new
+  pub frames : GoesOn old.frames.items new.frames.items
+
+-- the branch goes on with the first of these goals, and in one alternative more with the others
+pub record Splits (old new : Machine) (a : Around) (one other : List Entry) : Type 0 where
+  pub first : Reads new a new.branch.goals one
+  pub goals : Option ℕ
+  pub choice : HasOneMore old.choices.items new.choices.items (Untried.Goals goals)
+  pub second : Reads new a goals other
