@@ -7,7 +7,8 @@ use Rattle.std.proofs.lemmas.Option.{slice_get_within}
 use Rattle.lp_lemmas.proofs.Lists.{get_append, get_push}
 use Rattle.lp_term.specs.Nodes.{Nodes}
 use Rattle.lp_term.specs.declared.node.TermId.{TermId}
-use Rattle.lp_model.specs.Branch.{Entry}
+use Rattle.lp_model.specs.Branch.{Entry, Branch, Go}
+use Rattle.lp_model.specs.Search.{with_goals}
 use Rattle.lp_model.specs.Flat.{Goal, Goals, no_goals, goals, goal_list}
 use Rattle.lp_pattern.specs.Growing.{GoesOn}
 use Rattle.lp_pattern.proofs.Keeps.{goes_on_then}
@@ -18,8 +19,8 @@ use Rattle.lp_plain.specs.declared.frame.Todo.{Todo}
 use Rattle.lp_plain.specs.declared.machine.Machine.{Machine}
 use Rattle.lp_plain.specs.declared.scope.Scopes.{Scopes}
 use Rattle.lp_plain.specs.declared.table.Span.{Span}
-use Rattle.lp_plain.specs.Entries.{Around, AreEntries, no_frame, a_frame, AreTodo, IsAt, IsListAt, KeepsGoals, Reads, Splits, in_scope, placed}
-use Rattle.lp_plain.specs.Keeping.{HasOneMore, KeepsKnown}
+use Rattle.lp_plain.specs.Entries.{Around, AreEntries, no_frame, a_frame, AreTodo, IsAt, IsListAt, IsOf, AreTasks, HasAlternative, KeepsGoals, Reads, in_scope, placed}
+use Rattle.lp_plain.specs.Keeping.{KeepsKnown}
 use Rattle.lp_plain.specs.Tables.{Shown, shown, AreGoals, IsListOf, Never}
 
 module _ (b : Nodes) (t : Shown) (s : Scopes) (a : Around) where
@@ -92,12 +93,26 @@ keeps_same m n n' k b d s t g f = record {
   frames = subst (λ x. GoesOn m.frames.items x.items) (sym f) k.frames;
 }
 
--- the first goals put in front, where the others are an alternative
-pub split : (m n p q r : Machine) (a : Around) (one other : List Entry) (o : Option ℕ) → KeepsGoals n p → KeepsGoals p q → KeepsGoals q r → n.choices.items ≡ m.choices.items → HasOneMore n.choices.items p.choices.items (Untried.Goals o) →
-    q.choices.items ≡ p.choices.items → r.choices.items ≡ q.choices.items → Reads r a r.branch.goals one → Reads n a o other → Splits m r a one other
-split m n p q r a one other o k l j c h d e x y = record {
-  first = x;
-  goals = o;
-  choice = record { choice = h.choice; more = e ∙ d ∙ h.more ∙ ap (λ z. z ++ h.choice ∷ []) c; left = h.left };
-  second = reads_on n r a o other (keeps_then n q r (keeps_then n p q k l) j) y;
-}
+-- a list of the table in a place
+pub list_of : (m : Machine) (p : Place) (list : ℕ) (hs : Goals) (vs : List TermId) → IsOf m p list hs vs → IsListAt m p list (goal_list (in_scope m.bank vs p.values.types hs))
+list_of m p list hs vs h = (hs, vs, h.0, h.1, refl)
+
+-- goals are put in front, and others are an alternative
+module _ (m n p q r : Machine) (a : Around) (b : Branch) (one other : List Entry) (o : Option ℕ) (k : KeepsGoals n p) (l : KeepsGoals p q) (j : KeepsGoals q r) (nb : n.branch ≡ m.branch) (pb : p.branch ≡ n.branch) (qb : q.branch ≡ p.branch)
+    (rn : r.branch.next ≡ q.branch.next) (rt : r.branch.next_type ≡ q.branch.next_type) (c : n.choices.items ≡ m.choices.items) (h : HasAlternative n p (Untried.Goals o)) (d : q.choices.items ≡ p.choices.items) (e : r.choices.items ≡ q.choices.items)
+    (bn : m.branch.next ≡ b.next) (bt : m.branch.next_type ≡ b.next_type) (x : Reads r a r.branch.goals one) (y : Reads n a o other) where
+  pub split : AreTasks m r a (Go (with_goals b one) ∷ Go (with_goals b other) ∷ [])
+  split = (
+    record { goals = x; next = rn ∙ ap (λ z. z.next) (qb ∙ pb ∙ nb) ∙ bn; next_type = rt ∙ ap (λ z. z.next_type) (qb ∙ pb ∙ nb) ∙ bt },
+    (
+      h.choice,
+      e ∙ d ∙ h.more ∙ ap (λ z. z ++ h.choice ∷ []) c,
+      record {
+        from = o;
+        left = h.left;
+        goals = reads_on n r a o other (keeps_then n q r (keeps_then n p q k l) j) y;
+        next = h.next ∙ ap (λ z. z.next) nb ∙ bn;
+        next_type = h.next_type ∙ ap (λ z. z.next_type) nb ∙ bt;
+      },
+    ),
+  )

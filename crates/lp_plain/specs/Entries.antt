@@ -2,9 +2,11 @@
 use Rattle.std.specs.Prelude.{◌≡◌, ℕ, List, [], ◌∷◌, ◌++◌, take, length, Option, None, Some, slice_get}
 use Rattle.lp_term.specs.Nodes.{Nodes, tree}
 use Rattle.lp_term.specs.declared.node.TermId.{TermId}
-use Rattle.lp_model.specs.Branch.{Entry, entries}
+use Rattle.lp_model.specs.Branch.{Entry, Branch, Answer, Task, Go, entries}
+use Rattle.lp_model.specs.Skeleton.{View, Parts}
 use Rattle.lp_model.specs.Flat.{Goal, Atomic, Goals, Clause, Written, goal_list, instantiate_goals, type_goals}
 use Rattle.lp_pattern.specs.Growing.{GoesOn}
+use Rattle.lp_plain.specs.declared.choice.Choice.{Choice}
 use Rattle.lp_plain.specs.declared.choice.Untried.{Untried}
 use Rattle.lp_plain.specs.declared.frame.Frame.{Frame}
 use Rattle.lp_plain.specs.declared.frame.Place.{Place}
@@ -16,7 +18,7 @@ use Rattle.lp_plain.specs.declared.types.Renewal.{Renewal}
 use Rattle.lp_plain.specs.Instances.{values_of}
 use Rattle.lp_plain.specs.Renewal.{renewing}
 use Rattle.lp_plain.specs.Scopes.{IsScope, block_count, value_count}
-use Rattle.lp_plain.specs.Keeping.{HasOneMore, KeepsKnown}
+use Rattle.lp_plain.specs.Keeping.{KeepsKnown}
 use Rattle.lp_plain.specs.Tables.{Shown, shown, AreGoals, IsListOf, Never}
 
 -- what the numbers of a place stand for: the clauses assumed by a tree of assumptions, what is written in them, the definition's mark
@@ -56,14 +58,54 @@ Reads m a o es = AreEntries m.bank (shown m.table) m.scopes a m.frames.items o e
 abbrev pub IsListAt : Machine → Place → (list : ℕ) → List Goal → Type 0
 IsListAt m p list gs = (hs : Goals) × (vs : List TermId) × IsListOf m.bank m.table list hs × IsAt m.scopes p vs × (gs ≡ goal_list (in_scope m.bank vs p.values.types hs))
 
+-- a list of the table has these goals, and the place has these values
+abbrev pub IsOf : Machine → Place → (list : ℕ) → Goals → List TermId → Type 0
+IsOf m p list hs vs = IsListOf m.bank m.table list hs × IsAt m.scopes p vs
+
 -- what is known of terms stays, and frames only come
 pub record KeepsGoals (old new : Machine) : Type 0 where
   pub known : KeepsKnown old new
   pub frames : GoesOn old.frames.items new.frames.items
 
--- the branch goes on with the first of these goals, and in one alternative more with the others
-pub record Splits (old new : Machine) (a : Around) (one other : List Entry) : Type 0 where
-  pub first : Reads new a new.branch.goals one
-  pub goals : Option ℕ
-  pub choice : HasOneMore old.choices.items new.choices.items (Untried.Goals goals)
-  pub second : Reads new a goals other
+-- the branch at work reads as one of the definition, by its goals and its next numbers
+pub record IsBranchAt (m : Machine) (a : Around) (b : Branch) : Type 0 where
+  pub goals : Reads m a m.branch.goals b.goals
+  pub next : m.branch.next ≡ b.next
+  pub next_type : m.branch.next_type ≡ b.next_type
+
+-- the branch with these goals in front of those from a frame on
+pub record IsBehind (m : Machine) (a : Around) (behind : Option ℕ) (b : Branch) : Type 0 where
+  pub goals : Reads m a behind b.goals
+  pub next : m.branch.next ≡ b.next
+  pub next_type : m.branch.next_type ≡ b.next_type
+
+-- an alternative of this branch, with these goals left to try
+pub record HasAlternative (old new : Machine) (untried : Untried) : Type 0 where
+  pub choice : Choice
+  pub more : new.choices.items ≡ old.choices.items ++ choice ∷ []
+  pub left : choice.untried ≡ untried
+  pub next : choice.next ≡ old.branch.next
+  pub next_type : choice.next_type ≡ old.branch.next_type
+
+-- an alternative goes on with a branch that reads so
+pub record IsChoiceAt (m : Machine) (a : Around) (c : Choice) (b : Branch) : Type 0 where
+  pub from : Option ℕ
+  pub left : c.untried ≡ Untried.Goals from
+  pub goals : Reads m a from b.goals
+  pub next : c.next ≡ b.next
+  pub next_type : c.next_type ≡ b.next_type
+
+-- the branch at work has become these tasks: the first one is at work, a second one is the newest alternative
+abbrev pub AreTasks : (old new : Machine) → Around → List Task → Type 0
+AreTasks old new a (Go b ∷ []) = IsBranchAt new a b × (new.choices.items ≡ old.choices.items)
+AreTasks old new a (Go b ∷ Go d ∷ []) = IsBranchAt new a b × ((c : Choice) × (new.choices.items ≡ old.choices.items ++ c ∷ []) × IsChoiceAt new a c d)
+AreTasks old new a ts = ⊥
+
+-- so are those of a goal that is taken apart
+abbrev pub ArePartsOf : (old new : Machine) → Around → View Task Answer → Type 0
+ArePartsOf old new a (Parts ts) = AreTasks old new a ts
+ArePartsOf old new a v = ⊥
+
+-- a goal in a place
+abbrev pub entry_at : Around → Place → Goal → Entry
+entry_at a p g = record { goal = g; assumed = a.assumed p.assumed; written = a.written p.standing; level = p.level; mark = a.mark p.mark }

@@ -3,7 +3,7 @@
 ghost use Rattle.std.specs.Prelude.{◌≡◌, ◌++◌, List, OnOk, IfOk, IfSome, take, slice_get};
 ghost use Rattle.lp_model.specs.Branch.{Entry};
 ghost use Rattle.lp_model.specs.Flat.{Goal};
-ghost use Rattle.lp_plain.specs.Entries.{Around, AreTodo, IsListAt, KeepsGoals, Reads, placed};
+ghost use Rattle.lp_plain.specs.Entries.{Around, AreTodo, IsListAt, HasAlternative, KeepsGoals, Reads, placed};
 ghost use Rattle.lp_plain.specs.Keeping.{HasOneMore, IsAround, KeepsCourse};
 ghost use Rattle.lp_plain.specs.Tables.{shown};
 
@@ -170,6 +170,7 @@ impl Machine {
         ensures denied { self.new.denied ≡ self.old.denied }
         ensures branch { self.new.branch ≡ self.old.branch }
         ensures goals { KeepsGoals self.old self.new }
+        ensures alternative { OnOk result (HasAlternative self.old self.new untried) }
     {
         let pairs = Vec::from_slice(self.alloc, self.branch.pairs.as_slice())?;
         let lengths = self.lengths();

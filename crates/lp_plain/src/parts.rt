@@ -1,10 +1,14 @@
 // Goals that are taken apart.
-ghost use Rattle.std.specs.Prelude.{◌≡◌, ◌∷◌, [], ◌++◌, List, IfOk, OnOk};
+ghost use Rattle.std.specs.Prelude.{◌≡◌, ℕ, List, IfOk, OnOk};
+ghost use Rattle.lp_calculus.specs.Term.{Term};
+ghost use Rattle.lp_standard.specs.Connectives as connective;
 ghost use Rattle.lp_term.specs.Nodes.{tree};
-ghost use Rattle.lp_model.specs.Branch.{Entry};
-ghost use Rattle.lp_model.specs.Flat.{Goal, Atomic};
+ghost use Rattle.lp_term.specs.declared.node.TermId.{TermId};
+ghost use Rattle.lp_model.specs.Branch.{Branch};
+ghost use Rattle.lp_model.specs.Flat.{Goal, Goals, Clause, Either};
+ghost use Rattle.lp_model.specs.Search.{look_goal, look_form};
 ghost use Rattle.lp_plain.specs.Apart.{IsApart};
-ghost use Rattle.lp_plain.specs.Entries.{Around, IsListAt, Reads, Splits, placed};
+ghost use Rattle.lp_plain.specs.Entries.{Around, ArePartsOf, IsBehind, IsOf, entry_at, in_scope};
 
 use crate::act::Act;
 use crate::choice::Untried;
@@ -54,7 +58,8 @@ fn put_either(
     behind: Option<usize>,
 ) -> Result<(), Memory>
     ensures counts { machine.new.counts ≡ machine.old.counts }
-    ensures reads { OnOk result ((a : Around) (gs hs : List Goal) (es : List Entry) → IsListAt machine.old place left gs → IsListAt machine.old place right hs → Reads machine.old a behind es → Splits machine.old machine.new a (placed a place gs ++ es) (placed a place hs ++ es)) }
+    ensures parts { OnOk result ((a : Around) (hs ks : Goals) (vs : List TermId) (b : Branch) → IsOf machine.old place left hs vs → IsOf machine.old place right ks vs → IsBehind machine.old a behind b →
+        (u n height : ℕ) (P : List Clause) → let g : Goal = Either (in_scope machine.old.bank vs place.values.types hs) (in_scope machine.old.bank vs place.values.types ks) in ArePartsOf machine.old machine.new a (look_goal u n P height (entry_at a place g) b g)) }
 {
     let other = machine.put_list(right, place, behind)?;
     machine.put_choice(Untried::Goals(other))?;
@@ -224,7 +229,8 @@ fn put_and(
     behind: Option<usize>,
 ) -> Result<(), Memory>
     ensures counts { machine.new.counts ≡ machine.old.counts }
-    ensures reads { OnOk result ((a : Around) (es : List Entry) → Reads machine.old a behind es → Reads machine.new a machine.new.branch.goals (placed a place (Atomic (tree machine.old.bank left.0) ∷ Atomic (tree machine.old.bank right.0) ∷ []) ++ es)) }
+    ensures parts { OnOk result ((a : Around) (b : Branch) → IsBehind machine.old a behind b → (u n height : ℕ) (P : List Clause) (t : Term) (g : Goal) →
+        ArePartsOf machine.old machine.new a (look_form u n P height (entry_at a place g) b t (connective.And (tree machine.old.bank left.0) (tree machine.old.bank right.0)))) }
 {
     let second = machine.put_frame(Todo::Term(right), place, behind)?;
     let first = machine.put_frame(Todo::Term(left), place, second)?;
@@ -240,7 +246,8 @@ fn put_or(
     behind: Option<usize>,
 ) -> Result<(), Memory>
     ensures counts { machine.new.counts ≡ machine.old.counts }
-    ensures reads { OnOk result ((a : Around) (es : List Entry) → Reads machine.old a behind es → Splits machine.old machine.new a (placed a place (Atomic (tree machine.old.bank left.0) ∷ []) ++ es) (placed a place (Atomic (tree machine.old.bank right.0) ∷ []) ++ es)) }
+    ensures parts { OnOk result ((a : Around) (b : Branch) → IsBehind machine.old a behind b → (u n height : ℕ) (P : List Clause) (t : Term) (g : Goal) →
+        ArePartsOf machine.old machine.new a (look_form u n P height (entry_at a place g) b t (connective.Or (tree machine.old.bank left.0) (tree machine.old.bank right.0)))) }
 {
     let other = machine.put_frame(Todo::Term(right), place, behind)?;
     machine.put_choice(Untried::Goals(other))?;
