@@ -22,3 +22,4 @@ pub mod FoundGoals
 pub mod Tabled
 pub mod Frames
 pub mod Placed
+pub mod Taken

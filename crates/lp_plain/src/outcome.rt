@@ -1,7 +1,6 @@
 // How the search goes on, and what is counted on its way.
 ghost use Rattle.std.specs.Prelude.{◌≡◌, ◌+◌, ◌<◌, ◌≤◌, true, false};
-ghost use Rattle.lp_plain.specs.Apart.{one_apart};
-ghost use Rattle.lp_plain.specs.Entries.{KeepsGoals};
+ghost use Rattle.lp_plain.specs.Apart.{apart, one_apart};
 ghost use Rattle.lp_plain.specs.Keeping.{KeepsKnown};
 
 use crate::machine::Machine;
@@ -31,9 +30,8 @@ pub(crate) fn turn_of(unified: Unified) -> Turn {
 /// Counts a goal that is taken apart. Whether it may be.
 pub(crate) fn take_apart(machine: &mut Machine) -> bool
     ensures taken { result ≡ true → (machine.old.counts.row < 1000000) × (machine.new.counts ≡ one_apart machine.old.counts) }
+    ensures apart { result ≡ true → machine.new ≡ apart machine.old }
     ensures spent { result ≡ false → (machine.new ≡ machine.old) × (1000000 ≤ machine.old.counts.row) }
-    ensures goals { KeepsGoals machine.old machine.new }
-    ensures choices { machine.new.choices ≡ machine.old.choices }
 {
     if machine.counts.row >= RUN_LIMIT {
         return false;

@@ -1,12 +1,16 @@
 // Goals that are taken apart.
 ghost use Rattle.std.specs.Prelude.{◌≡◌, ℕ, List, IfOk, OnOk};
 ghost use Rattle.lp_calculus.specs.Term.{Term};
-ghost use Rattle.lp_standard.specs.Connectives as connective;
+ghost use Rattle.lp_standard.specs.Connectives as two_sided;
 ghost use Rattle.lp_term.specs.Nodes.{tree};
 ghost use Rattle.lp_term.specs.declared.node.TermId.{TermId};
+ghost use Rattle.lp_model.specs.declared.connective.Connective.TheVariants as known;
 ghost use Rattle.lp_model.specs.Branch.{Branch};
+ghost use Rattle.lp_model.specs.Connected.{connective_in};
 ghost use Rattle.lp_model.specs.Flat.{Goal, Goals, Clause, Either};
 ghost use Rattle.lp_model.specs.Search.{look_goal, look_form};
+ghost use Rattle.lp_plain.specs.declared.outcome.Turn.{Turn};
+ghost use Rattle.lp_plain.specs.declared.table.Flat.{Flat};
 ghost use Rattle.lp_plain.specs.Apart.{IsApart};
 ghost use Rattle.lp_plain.specs.Entries.{Around, ArePartsOf, IsBehind, IsOf, entry_at, in_scope};
 
@@ -201,23 +205,34 @@ pub(crate) fn put_parts(
     place: Place,
     behind: Option<usize>,
 ) -> Result<Turn, Memory>
-    ensures { IfOk result (λ turn. IsApart turn machine.old.counts machine.new.counts) }
+    ensures counted { IfOk result (λ turn. IsApart turn machine.old.counts machine.new.counts) }
+    ensures either { IfOk result (λ turn. turn ≡ Turn.On → (l r : ℕ) → goal ≡ Flat.Either l r → (a : Around) (hs ks : Goals) (vs : List TermId) (b : Branch) → IsOf machine.old place l hs vs → IsOf machine.old place r ks vs → IsBehind machine.old a behind b →
+        (u n height : ℕ) (P : List Clause) → let g : Goal = Either (in_scope machine.old.bank vs place.values.types hs) (in_scope machine.old.bank vs place.values.types ks) in ArePartsOf machine.old machine.new a (look_goal u n P height (entry_at a place g) b g)) }
 {
     if !take_apart(machine) {
         return Ok(Turn::Ended(Ending::Deep));
     }
     match goal {
-        Flat::Either(left, right) => put_either(machine, left, right, place, behind)?,
-        Flat::Some(goals) => put_some(machine, goals, place, behind)?,
-        Flat::All(goals) => put_all(machine, goals, place, behind)?,
+        Flat::Either(left, right) => {
+            put_either(machine, left, right, place, behind)?;
+            Ok(Turn::On)
+        }
+        Flat::Some(goals) => {
+            put_some(machine, goals, place, behind)?;
+            Ok(Turn::On)
+        }
+        Flat::All(goals) => {
+            put_all(machine, goals, place, behind)?;
+            Ok(Turn::On)
+        }
         Flat::Assume(rules, goals, free) => {
             put_assume(machine, rules, goals, free, place, behind)?;
+            Ok(Turn::On)
         }
-        Flat::Atom(_) => {}
-        Flat::Cut => {}
-        Flat::Not(_, _) => {}
+        Flat::Atom(_) => Ok(Turn::On),
+        Flat::Cut => Ok(Turn::On),
+        Flat::Not(_, _) => Ok(Turn::On),
     }
-    Ok(Turn::On)
 }
 
 // Terms as goals of a place, in front of others.
@@ -230,7 +245,7 @@ fn put_and(
 ) -> Result<(), Memory>
     ensures counts { machine.new.counts ≡ machine.old.counts }
     ensures parts { OnOk result ((a : Around) (b : Branch) → IsBehind machine.old a behind b → (u n height : ℕ) (P : List Clause) (t : Term) (g : Goal) →
-        ArePartsOf machine.old machine.new a (look_form u n P height (entry_at a place g) b t (connective.And (tree machine.old.bank left.0) (tree machine.old.bank right.0)))) }
+        ArePartsOf machine.old machine.new a (look_form u n P height (entry_at a place g) b t (two_sided.And (tree machine.old.bank left.0) (tree machine.old.bank right.0)))) }
 {
     let second = machine.put_frame(Todo::Term(right), place, behind)?;
     let first = machine.put_frame(Todo::Term(left), place, second)?;
@@ -247,7 +262,7 @@ fn put_or(
 ) -> Result<(), Memory>
     ensures counts { machine.new.counts ≡ machine.old.counts }
     ensures parts { OnOk result ((a : Around) (b : Branch) → IsBehind machine.old a behind b → (u n height : ℕ) (P : List Clause) (t : Term) (g : Goal) →
-        ArePartsOf machine.old machine.new a (look_form u n P height (entry_at a place g) b t (connective.Or (tree machine.old.bank left.0) (tree machine.old.bank right.0)))) }
+        ArePartsOf machine.old machine.new a (look_form u n P height (entry_at a place g) b t (two_sided.Or (tree machine.old.bank left.0) (tree machine.old.bank right.0)))) }
 {
     let other = machine.put_frame(Todo::Term(right), place, behind)?;
     machine.put_choice(Untried::Goals(other))?;
@@ -279,23 +294,37 @@ pub(crate) fn put_connective(
     place: Place,
     behind: Option<usize>,
 ) -> Result<Turn, Memory>
-    ensures { IfOk result (λ turn. IsApart turn machine.old.counts machine.new.counts) }
+    ensures counted { IfOk result (λ turn. IsApart turn machine.old.counts machine.new.counts) }
+    ensures and { IfOk result (λ turn. turn ≡ Turn.On → (l r : TermId) → connective ≡ known.And l r → (a : Around) (b : Branch) → IsBehind machine.old a behind b → (u n height : ℕ) (P : List Clause) (t : Term) (g : Goal) →
+        ArePartsOf machine.old machine.new a (look_form u n P height (entry_at a place g) b t (connective_in machine.old.bank connective))) }
+    ensures or { IfOk result (λ turn. turn ≡ Turn.On → (l r : TermId) → connective ≡ known.Or l r → (a : Around) (b : Branch) → IsBehind machine.old a behind b → (u n height : ℕ) (P : List Clause) (t : Term) (g : Goal) →
+        ArePartsOf machine.old machine.new a (look_form u n P height (entry_at a place g) b t (connective_in machine.old.bank connective))) }
 {
     if !take_apart(machine) {
         return Ok(Turn::Ended(Ending::Deep));
     }
     match connective {
-        Connective::And(left, right) => put_and(machine, left, right, place, behind)?,
-        Connective::Or(left, right) => put_or(machine, left, right, place, behind)?,
+        Connective::And(left, right) => {
+            put_and(machine, left, right, place, behind)?;
+            Ok(Turn::On)
+        }
+        Connective::Or(left, right) => {
+            put_or(machine, left, right, place, behind)?;
+            Ok(Turn::On)
+        }
         Connective::ForAll(_, term) => {
             let (above, eigen) = raised(machine, place)?;
             put_goal_of(machine, term, eigen, above, behind)?;
+            Ok(Turn::On)
         }
         Connective::Exists(_, term) => {
             let variable = opened(machine, place.level)?;
             put_goal_of(machine, term, variable, place, behind)?;
+            Ok(Turn::On)
         }
-        _ => machine.branch.goals = behind,
+        _ => {
+            machine.branch.goals = behind;
+            Ok(Turn::On)
+        }
     }
-    Ok(Turn::On)
 }
