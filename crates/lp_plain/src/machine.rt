@@ -1,8 +1,9 @@
 // What a search works on: one bank and one list of bindings for all branches. An alternative holds what leads back to
 // its branch.
-ghost use Rattle.std.specs.Prelude.{◌≡◌, ◌++◌, List, OnOk, IfOk, IfSome, take, slice_get};
+ghost use Rattle.std.specs.Prelude.{◌≡◌, ◌++◌, List, OnOk, IfOk, IfSome, length, nat_lt, take, slice_get};
 ghost use Rattle.lp_model.specs.Branch.{Entry};
 ghost use Rattle.lp_model.specs.Flat.{Goal};
+ghost use Rattle.lp_plain.specs.Cuts.{cut_off};
 ghost use Rattle.lp_plain.specs.Entries.{Around, AreTodo, IsListAt, HasAlternative, KeepsGoals, Reads, placed};
 ghost use Rattle.lp_plain.specs.Keeping.{HasOneMore, IsAround, KeepsCourse};
 ghost use Rattle.lp_plain.specs.Tables.{shown};
@@ -237,7 +238,12 @@ impl Machine {
     }
 
     /// Keeps only the oldest alternatives.
-    pub(crate) fn cut(&mut self, mark: usize) {
+    pub(crate) fn cut(&mut self, mark: usize)
+        ensures choices { self.new.choices.items ≡ take mark self.old.choices.items }
+        ensures counts { self.new.counts ≡ cut_off self.old.counts (nat_lt mark (length self.old.choices.items)) }
+        ensures branch { self.new.branch ≡ self.old.branch }
+        ensures goals { KeepsGoals self.old self.new }
+    {
         if self.choices.len() > mark {
             self.counts.lost = true;
         }

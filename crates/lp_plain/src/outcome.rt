@@ -1,6 +1,8 @@
 // How the search goes on, and what is counted on its way.
 ghost use Rattle.std.specs.Prelude.{◌≡◌, ◌+◌, ◌<◌, ◌≤◌, true, false};
 ghost use Rattle.lp_plain.specs.Apart.{apart, one_apart};
+ghost use Rattle.lp_plain.specs.Cuts.{one_step};
+ghost use Rattle.lp_plain.specs.Entries.{KeepsGoals};
 ghost use Rattle.lp_plain.specs.Keeping.{KeepsKnown};
 
 use crate::machine::Machine;
@@ -48,6 +50,9 @@ pub(crate) fn take_step(machine: &mut Machine) -> bool
     ensures choices { machine.new.choices ≡ machine.old.choices }
     ensures denied { machine.new.denied ≡ machine.old.denied }
     ensures known { KeepsKnown machine.old machine.new }
+    ensures counts { result ≡ true → machine.new.counts ≡ one_step machine.old.counts }
+    ensures branch { machine.new.branch ≡ machine.old.branch }
+    ensures goals { KeepsGoals machine.old machine.new }
 {
     if machine.counts.steps >= machine.counts.limit {
         return false;
