@@ -1,5 +1,5 @@
 -- Goals that are put in front of others, as entries of the definition.
-use Rattle.std.proofs.Common.{◌≡◌, ℕ, suc, ◌<◌, ◌≤◌, List, [], ◌∷◌, ◌++◌, length, take, inl, inr, refl, sym, ap, ◌∙◌, subst, arith, Option, Some}
+use Rattle.std.proofs.Common.{◌≡◌, ℕ, suc, ◌≤◌, List, [], ◌∷◌, ◌++◌, length, inl, inr, refl, sym, ap, ◌∙◌, subst, arith, Option, Some}
 use Rattle.std.specs.Prelude.{slice_get}
 use Rattle.std.proofs.Math.Seq.{take-append_seam}
 use Rattle.std.proofs.lemmas.List.{take-append-le}
@@ -20,7 +20,6 @@ use Rattle.lp_plain.specs.declared.machine.Machine.{Machine}
 use Rattle.lp_plain.specs.declared.scope.Scopes.{Scopes}
 use Rattle.lp_plain.specs.declared.table.Span.{Span}
 use Rattle.lp_plain.specs.Entries.{Around, AreEntries, no_frame, a_frame, AreTodo, IsAt, IsListAt, IsOf, AreTasks, HasAlternative, KeepsGoals, Reads, in_scope, placed}
-use Rattle.lp_plain.specs.Keeping.{KeepsKnown}
 use Rattle.lp_plain.specs.Tables.{Shown, shown, AreGoals, IsListOf, Never}
 
 module _ (b : Nodes) (t : Shown) (s : Scopes) (a : Around) where

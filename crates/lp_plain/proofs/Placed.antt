@@ -1,5 +1,5 @@
 -- Places that give way to those of a node's parts are lighter.
-use Rattle.std.proofs.Common.{◌≡◌, ℕ, ◌+◌, ◌<◌, List, [], ◌∷◌, ◌++◌, map, refl, sym, ap, ◌∙◌, subst}
+use Rattle.std.proofs.Common.{◌≡◌, ℕ, ◌<◌, List, [], ◌∷◌, ◌++◌, map, refl, sym, ap, subst}
 use Rattle.std.specs.Prelude.{◌≢◌}
 use Rattle.lp_calculus.specs.Term.{abs, apply}
 use Rattle.lp_term.specs.Nodes.{Nodes, tree}

@@ -1,5 +1,5 @@
 -- How the goals of a branch read: the entries of the definition for which its frames stand.
-use Rattle.std.specs.Prelude.{◌≡◌, ℕ, List, [], ◌∷◌, ◌++◌, take, length, Option, None, Some, slice_get}
+use Rattle.std.specs.Prelude.{◌≡◌, ℕ, List, [], ◌∷◌, ◌++◌, take, Option, None, Some, slice_get}
 use Rattle.lp_term.specs.Nodes.{Nodes, tree}
 use Rattle.lp_term.specs.declared.node.TermId.{TermId}
 use Rattle.lp_model.specs.Branch.{Entry, Branch, Answer, Task, Go, entries}
@@ -13,7 +13,6 @@ use Rattle.lp_plain.specs.declared.frame.Place.{Place}
 use Rattle.lp_plain.specs.declared.frame.Todo.{Todo}
 use Rattle.lp_plain.specs.declared.machine.Machine.{Machine}
 use Rattle.lp_plain.specs.declared.scope.Scopes.{Scopes}
-use Rattle.lp_plain.specs.declared.table.Span.{Span}
 use Rattle.lp_plain.specs.declared.types.Renewal.{Renewal}
 use Rattle.lp_plain.specs.Instances.{values_of}
 use Rattle.lp_plain.specs.Renewal.{renewing}
