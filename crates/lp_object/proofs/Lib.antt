@@ -20,3 +20,4 @@ mod ObjectsAgain
 mod ImagesFound
 mod ImagesAgain
 mod Answered
+mod Writes

@@ -4,6 +4,9 @@ use Rattle.lp_bytes.specs.declared.fault.Fault.{Fault}
 use Rattle.lp_bytes.specs.declared.fault.Fault.TheVariants as bytes
 use Rattle.lp_bytes.specs.declared.fault.ReadError.{ReadError}
 use Rattle.lp_bytes.specs.declared.fault.ReadError.TheVariants as errors
+use Rattle.lp_base.specs.declared.limit.Limit.TheVariants.{Image}
+use Rattle.lp_object.specs.declared.fault.WriteRefusal.{WriteRefusal}
+use Rattle.lp_object.specs.declared.fault.WriteRefusal.TheVariants as refused
 use Rattle.lp_object.specs.declared.fault.FormatFault.{FormatFault}
 use Rattle.lp_object.specs.declared.fault.FormatFault.TheVariants.{BadMagic, BadVersion, Truncated, BadField, Trailing, Limit, Memory}
 
@@ -30,3 +33,9 @@ Tells view (Err (BadField at)) read = read ≡ Err (bytes.BadField at)
 Tells view (Err (Trailing at)) read = read ≡ Err (bytes.Trailing at)
 Tells view (Err (Limit l)) read = read ≡ Err (bytes.Limit l)
 Tells view (Err Memory) read = Unit {0}
+
+-- the refusal is want of memory, or the limit of a file, with its cause
+abbrev pub IsLimit : WriteRefusal → (cause : Type 0) → Type 0
+IsLimit (refused.Limit Image) cause = cause
+IsLimit refused.Memory cause = Unit {0}
+IsLimit _ cause = ⊥

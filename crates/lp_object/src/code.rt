@@ -1,5 +1,6 @@
 // The code of a record: one field, of instructions.
 
+ghost use Rattle.lp_bytes.specs.Writing.{text_of, more};
 ghost use Rattle.std.specs.Prelude.{◌≡◌, ◌++◌, [], IfOk, OnOk, map};
 ghost use Rattle.std.specs.List.{All, flat_map};
 ghost use Rattle.lp_bytes.specs.Reading.{Gives, left_of};
@@ -8,11 +9,10 @@ ghost use Rattle.lp_object.specs.Plain.{plain_instr};
 ghost use Rattle.lp_object.specs.Reading.{located_at, instrs_at, code_at};
 ghost use Rattle.lp_object.specs.Spelling.{spelled_instr, spelled_code};
 
-use crate::fault::WriteRefusal;
-use crate::instructions::read_instruction;
+use crate::instructions::{read_instruction, write_instruction};
 use crate::width::Width;
-use crate::writer::Writer;
-use lp_bytes::{ReadError, Reader};
+use lp_base::Memory;
+use lp_bytes::{ReadError, Reader, Writer};
 use lp_code::Instr;
 use std::alloc::Global;
 
@@ -78,29 +78,35 @@ pub(crate) fn read_code(
     read_instructions(alloc, reader, width, end.len(), length)
 }
 
-impl Writer {
-    // Instructions, one behind the other.
-    fn instructions(&mut self, width: Width, code: &[Instr]) -> Result<(), WriteRefusal>
-        ensures { OnOk result (self.new.bytes.items ≡ self.old.bytes.items ++ flat_map (spelled_instr width) (map plain_instr code.now)) }
-    {
-        for instr in code {
-            self.instruction(width, instr)?;
-        }
-        Ok(())
+// Instructions, one behind the other.
+fn write_instructions(writer: &mut Writer, width: Width, code: &[Instr]) -> Result<(), Memory>
+    ensures { OnOk result (text_of writer.new ≡ more (text_of writer.old) (flat_map (spelled_instr width) (map plain_instr code.now))) }
+{
+    for instr in code {
+        write_instruction(writer, width, instr)?;
     }
+    Ok(())
+}
 
-    #[tactic(auto, unfolding(crate::specs::Spelling::spelled_code))]
-    pub(crate) fn code(
-        &mut self,
-        alloc: Global,
-        width: Width,
-        code: &[Instr],
-    ) -> Result<(), WriteRefusal>
-        ensures { OnOk result (self.new.bytes.items ≡ self.old.bytes.items ++ spelled_code width (map plain_instr code.now)) }
-    {
-        let mut inside = Writer::new(alloc);
-        inside.instructions(width, code)?;
-        self.low_four(inside.bytes.len() as u64)?;
-        self.put(inside.bytes.as_slice())
+#[tactic(auto, unfolding(crate::specs::Spelling::spelled_code))]
+pub(crate) fn write_code(
+    writer: &mut Writer,
+    alloc: Global,
+    width: Width,
+    code: &[Instr],
+) -> Result<(), Memory>
+    ensures { OnOk result (text_of writer.new ≡ more (text_of writer.old) (spelled_code width (map plain_instr code.now))) }
+{
+    let mut inside = Writer::new(alloc);
+    write_instructions(&mut inside, width, code)?;
+    match inside.finish() {
+        Ok(bytes) => {
+            writer.low_four(bytes.len() as u64)?;
+            writer.put(bytes.as_slice())
+        }
+        Err(_) => {
+            writer.fill();
+            Ok(())
+        }
     }
 }

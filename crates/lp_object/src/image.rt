@@ -1,5 +1,9 @@
 // Images.
 
+ghost use Rattle.lp_bytes.specs.Writing.{text_of, more};
+ghost use Rattle.std.specs.List.{flat_map};
+ghost use Rattle.std.specs.Prelude.{IfErr};
+ghost use Rattle.lp_object.specs.Refusing.{IsLimit};
 ghost use Rattle.std.specs.Prelude.{◌≡◌, ◌⊎◌, ◌<◌, ◌≤◌, ◌^◌, ◌++◌, ◌∷◌, [], List, ℕ, IfOk, OnOk, Ok, length, map};
 ghost use Rattle.lp_term.specs.Nodes.{Nodes, Extends};
 ghost use Rattle.lp_bytes.specs.Reading.{Gives, Comes, left_of, each_at};
@@ -14,14 +18,14 @@ ghost use Rattle.lp_object.specs.inner.Known.{Knows};
 
 use crate::fault::{FormatFault, WriteRefusal};
 use crate::fields::{read_count, read_owned_name};
-use crate::names::{Names, read_fixity, read_new_global};
-use crate::records::read_records;
-use crate::schemes::read_scheme;
-use crate::tables::expect_tables;
+use crate::names::{Names, read_fixity, read_new_global, write_fixity};
+use crate::records::{read_records, write_records};
+use crate::schemes::{read_scheme, write_scheme};
+use crate::tables::{expect_tables, write_tables};
 use crate::width::Width;
-use crate::writer::Writer;
+use crate::written::write_text;
 use lp_base::Memory;
-use lp_bytes::{Fault, ReadError, Reader};
+use lp_bytes::{Fault, ReadError, Reader, Writer};
 use lp_code::{Image, ImageConstant, ImageKind};
 use lp_term::Bank;
 use std::alloc::Global;
@@ -234,72 +238,101 @@ pub fn read_image(alloc: Global, bytes: &[u8]) -> Result<Image, FormatFault>
     read_told(alloc, bytes)
 }
 
-impl Writer {
-    #[tactic(auto, unfolding(crate::specs::Files::spelled_image_kind))]
-    fn image_kind(&mut self, kind: &ImageKind) -> Result<(), WriteRefusal>
-        ensures { OnOk result (self.new.bytes.items ≡ self.old.bytes.items ++ spelled_image_kind (plain_image_kind kind.now)) }
-    {
-        self.text(kind.name.as_slice())?;
-        self.two(kind.hidden)?;
-        self.byte(kind.arity)
-    }
-
-    #[tactic(auto, unfolding(crate::specs::Files::spelled_image_kinds))]
-    fn image_kinds(&mut self, kinds: &[ImageKind]) -> Result<(), WriteRefusal>
-        ensures { OnOk result (self.new.bytes.items ≡ self.old.bytes.items ++ spelled_image_kinds Four (map plain_image_kind kinds.now)) }
-    {
-        self.low_four(kinds.len() as u64)?;
-        for kind in kinds {
-            self.image_kind(kind)?;
-        }
-        Ok(())
-    }
-
-    #[tactic(auto, unfolding(crate::specs::Files::spelled_image_constant))]
-    fn image_constant(
-        &mut self,
-        alloc: Global,
-        bank: &Bank,
-        constant: &ImageConstant,
-    ) -> Result<(), WriteRefusal>
-        ensures { OnOk result (self.new.bytes.items ≡ self.old.bytes.items ++ spelled_image_constant Four (plain_image_constant bank.now constant.now)) }
-    {
-        self.text(constant.name.as_slice())?;
-        self.two(constant.hidden)?;
-        self.byte(constant.type_vars)?;
-        self.scheme(alloc, Width::Four, bank, constant.scheme)?;
-        self.fixity(constant.fixity)
-    }
-
-    #[tactic(auto, unfolding(crate::specs::Files::spelled_image_constants))]
-    fn image_constants(
-        &mut self,
-        alloc: Global,
-        bank: &Bank,
-        constants: &[ImageConstant],
-    ) -> Result<(), WriteRefusal>
-        ensures { OnOk result (self.new.bytes.items ≡ self.old.bytes.items ++ spelled_image_constants Four (map (plain_image_constant bank.now) constants.now)) }
-    {
-        self.low_four(constants.len() as u64)?;
-        for constant in constants {
-            self.image_constant(alloc, bank, constant)?;
-        }
-        Ok(())
-    }
+#[tactic(auto, unfolding(crate::specs::Files::spelled_image_kind))]
+fn write_kind(writer: &mut Writer, kind: &ImageKind) -> Result<(), Memory>
+    ensures { OnOk result (text_of writer.new ≡ more (text_of writer.old) (spelled_image_kind (plain_image_kind kind.now))) }
+{
+    write_text(writer, kind.name.as_slice())?;
+    writer.two(kind.hidden)?;
+    writer.byte(kind.arity)
 }
 
-/// The bytes that spell the image in version 2.
-#[tactic(auto, unfolding(crate::specs::Files::spelled_image, crate::specs::Files::spelled_parts))]
-pub fn write_image(alloc: Global, image: &Image) -> Result<Vec<u8>, WriteRefusal>
-    ensures spelled { IfOk result (λ bytes. bytes.items ≡ spelled_image (plain_image image.now)) }
+// Each of them.
+fn write_each_kind(writer: &mut Writer, kinds: &[ImageKind]) -> Result<(), Memory>
+    ensures { OnOk result (text_of writer.new ≡ more (text_of writer.old) (flat_map spelled_image_kind (map plain_image_kind kinds.now))) }
 {
-    let mut writer = Writer::new(alloc);
+    for kind in kinds {
+        write_kind(writer, kind)?;
+    }
+    Ok(())
+}
+
+#[tactic(auto, unfolding(crate::specs::Files::spelled_image_kinds))]
+fn write_kinds(writer: &mut Writer, kinds: &[ImageKind]) -> Result<(), Memory>
+    ensures { OnOk result (text_of writer.new ≡ more (text_of writer.old) (spelled_image_kinds Four (map plain_image_kind kinds.now))) }
+{
+    writer.low_four(kinds.len() as u64)?;
+    write_each_kind(writer, kinds)
+}
+
+#[tactic(auto, unfolding(crate::specs::Files::spelled_image_constant))]
+fn write_constant(
+    writer: &mut Writer,
+    alloc: Global,
+    bank: &Bank,
+    constant: &ImageConstant,
+) -> Result<(), Memory>
+    ensures { OnOk result (text_of writer.new ≡ more (text_of writer.old) (spelled_image_constant Four (plain_image_constant bank.now constant.now))) }
+{
+    write_text(writer, constant.name.as_slice())?;
+    writer.two(constant.hidden)?;
+    writer.byte(constant.type_vars)?;
+    write_scheme(writer, alloc, Width::Four, bank, constant.scheme)?;
+    write_fixity(writer, constant.fixity)
+}
+
+// Each of them.
+fn write_each_constant(
+    writer: &mut Writer,
+    alloc: Global,
+    bank: &Bank,
+    constants: &[ImageConstant],
+) -> Result<(), Memory>
+    ensures { OnOk result (text_of writer.new ≡ more (text_of writer.old) (flat_map (spelled_image_constant Four) (map (plain_image_constant bank.now) constants.now))) }
+{
+    for constant in constants {
+        write_constant(writer, alloc, bank, constant)?;
+    }
+    Ok(())
+}
+
+#[tactic(auto, unfolding(crate::specs::Files::spelled_image_constants))]
+fn write_constants(
+    writer: &mut Writer,
+    alloc: Global,
+    bank: &Bank,
+    constants: &[ImageConstant],
+) -> Result<(), Memory>
+    ensures { OnOk result (text_of writer.new ≡ more (text_of writer.old) (spelled_image_constants Four (map (plain_image_constant bank.now) constants.now))) }
+{
+    writer.low_four(constants.len() as u64)?;
+    write_each_constant(writer, alloc, bank, constants)
+}
+
+// All of an image, in version 2.
+fn write_all(writer: &mut Writer, alloc: Global, image: &Image) -> Result<(), Memory>
+    ensures { OnOk result (text_of writer.new ≡ more (text_of writer.old) (spelled_image (plain_image image.now))) }
+{
     writer.put(b"LPIM")?;
     writer.two(2)?;
-    writer.text(image.name.as_slice())?;
-    writer.image_kinds(image.kinds.as_slice())?;
-    writer.image_constants(alloc, &image.bank, image.constants.as_slice())?;
-    writer.records(alloc, Width::Four, image.code.records.as_slice())?;
-    writer.tables(alloc, image)?;
-    Ok(writer.bytes)
+    write_text(writer, image.name.as_slice())?;
+    write_kinds(writer, image.kinds.as_slice())?;
+    write_constants(writer, alloc, &image.bank, image.constants.as_slice())?;
+    write_records(writer, alloc, Width::Four, image.code.records.as_slice())?;
+    write_tables(writer, alloc, image)
+}
+
+/// The bytes that spell the image in version 2. `Limit` where these are more than a file may have.
+pub fn write_image(alloc: Global, image: &Image) -> Result<Vec<u8>, WriteRefusal>
+    // The one spelling, of which a number that does not fit its field gives its lowest bytes.
+    ensures spelled { IfOk result (λ bytes. (bytes.items ≡ spelled_image (plain_image image.now)) × (length bytes.items ≤ 16777216)) }
+    // There are too many bytes, unless memory ran out.
+    ensures many { IfErr result (λ refusal. IsLimit refusal (16777216 < length (spelled_image (plain_image image.now)))) }
+{
+    let mut writer = Writer::new(alloc);
+    write_all(&mut writer, alloc, image)?;
+    match writer.finish() {
+        Ok(bytes) => Ok(bytes),
+        Err(limit) => Err(WriteRefusal::Limit(limit)),
+    }
 }

@@ -1,5 +1,6 @@
 // Instructions: the number of each, and its operands in order.
 
+ghost use Rattle.lp_bytes.specs.Writing.{text_of, more};
 ghost use Rattle.std.specs.Prelude.{◌≡◌, ◌++◌, ◌∷◌, ℕ, None, slice_index_or, IfOk, OnOk};
 ghost use Rattle.std.specs.List.{flat_map};
 ghost use Rattle.std.specs.Int.{IsInRange};
@@ -12,13 +13,15 @@ ghost use Rattle.lp_object.specs.Plain.{plain_instr};
 ghost use Rattle.lp_object.specs.Reading.{layouts, laid_out_at, instr_at};
 ghost use Rattle.lp_object.specs.Spelling.{spelled_operand, spelled_instr};
 
-use crate::fault::WriteRefusal;
 use crate::fields::{
     read_few, read_many, read_number, read_numbered, read_one_or_more, read_string,
 };
 use crate::width::Width;
-use crate::writer::Writer;
-use lp_bytes::{ReadError, Reader};
+use crate::written::{
+    write_few, write_many, write_number, write_numbered, write_registers, write_text,
+};
+use lp_base::Memory;
+use lp_bytes::{ReadError, Reader, Writer};
 use lp_code::Instr;
 use std::alloc::Global;
 
@@ -190,142 +193,159 @@ fn number_of(instr: &Instr) -> u8
     }
 }
 
-impl Writer {
-    // The number of an argument, and a register.
-    fn argument(&mut self, argument: u8, register: u16) -> Result<(), WriteRefusal>
-        ensures { OnOk result (self.new.bytes.items ≡ self.old.bytes.items ++ argument ∷ spelled_two register) }
-    {
-        self.byte(argument)?;
-        self.two(register)
-    }
+// The number of an argument, and a register.
+fn write_argument(writer: &mut Writer, argument: u8, register: u16) -> Result<(), Memory>
+    ensures { OnOk result (text_of writer.new ≡ more (text_of writer.old) (argument ∷ spelled_two register)) }
+{
+    writer.byte(argument)?;
+    writer.two(register)
+}
 
-    // A constant or kind with types.
-    fn typed(&mut self, width: Width, number: u32, types: &[u16]) -> Result<(), WriteRefusal>
-        ensures { OnOk result (self.new.bytes.items ≡ self.old.bytes.items ++ (spelled_number width number ++ spelled_few types.now)) }
-    {
-        self.number(width, u64::from(number))?;
-        self.few(types)
-    }
+// A constant or kind with types.
+fn write_typed(writer: &mut Writer, width: Width, number: u32, types: &[u16]) -> Result<(), Memory>
+    ensures { OnOk result (text_of writer.new ≡ more (text_of writer.old) ((spelled_number width number ++ spelled_few types.now))) }
+{
+    write_number(writer, width, u64::from(number))?;
+    write_few(writer, types)
+}
 
-    // What is built in a register: a constant or kind with types, an application, an integer, a text.
-    fn put_typed(
-        &mut self,
-        width: Width,
-        made: u16,
-        number: u32,
-        types: &[u16],
-    ) -> Result<(), WriteRefusal>
-        ensures { OnOk result (self.new.bytes.items ≡ self.old.bytes.items ++ (spelled_two made ++ spelled_number width number ++ spelled_few types.now)) }
-    {
-        self.two(made)?;
-        self.typed(width, number, types)
-    }
+// What is built in a register: a constant or kind with types, an application, an integer, a text.
+fn write_put_typed(
+    writer: &mut Writer,
+    width: Width,
+    made: u16,
+    number: u32,
+    types: &[u16],
+) -> Result<(), Memory>
+    ensures { OnOk result (text_of writer.new ≡ more (text_of writer.old) ((spelled_two made ++ spelled_number width number ++ spelled_few types.now))) }
+{
+    writer.two(made)?;
+    write_typed(writer, width, number, types)
+}
 
-    fn put_applied(&mut self, made: u16, head: u16, arguments: &[u16]) -> Result<(), WriteRefusal>
-        ensures { OnOk result (self.new.bytes.items ≡ self.old.bytes.items ++ (spelled_two made ++ spelled_two head ++ spelled_few arguments.now)) }
-    {
-        self.two(made)?;
-        self.two(head)?;
-        self.few(arguments)
-    }
+fn write_put_applied(
+    writer: &mut Writer,
+    made: u16,
+    head: u16,
+    arguments: &[u16],
+) -> Result<(), Memory>
+    ensures { OnOk result (text_of writer.new ≡ more (text_of writer.old) ((spelled_two made ++ spelled_two head ++ spelled_few arguments.now))) }
+{
+    writer.two(made)?;
+    writer.two(head)?;
+    write_few(writer, arguments)
+}
 
-    fn put_integer(&mut self, made: u16, integer: i64) -> Result<(), WriteRefusal>
-        ensures { OnOk result (self.new.bytes.items ≡ self.old.bytes.items ++ (spelled_two made ++ spelled_integer integer)) }
-    {
-        self.two(made)?;
-        self.integer(integer)
-    }
+fn write_put_integer(writer: &mut Writer, made: u16, integer: i64) -> Result<(), Memory>
+    ensures { OnOk result (text_of writer.new ≡ more (text_of writer.old) ((spelled_two made ++ spelled_integer integer))) }
+{
+    writer.two(made)?;
+    writer.integer(integer)
+}
 
-    fn put_text(&mut self, made: u16, text: &[u8]) -> Result<(), WriteRefusal>
-        ensures { OnOk result (self.new.bytes.items ≡ self.old.bytes.items ++ (spelled_two made ++ spelled_text text.now)) }
-    {
-        self.two(made)?;
-        self.text(text)
-    }
+fn write_put_text(writer: &mut Writer, made: u16, text: &[u8]) -> Result<(), Memory>
+    ensures { OnOk result (text_of writer.new ≡ more (text_of writer.old) ((spelled_two made ++ spelled_text text.now))) }
+{
+    writer.two(made)?;
+    write_text(writer, text)
+}
 
-    // What an argument of the head is: a constant with types, an integer, a text.
-    fn get_typed(
-        &mut self,
-        width: Width,
-        argument: u8,
-        number: u32,
-        types: &[u16],
-    ) -> Result<(), WriteRefusal>
-        ensures { OnOk result (self.new.bytes.items ≡ self.old.bytes.items ++ argument ∷ (spelled_number width number ++ spelled_few types.now)) }
-    {
-        self.byte(argument)?;
-        self.typed(width, number, types)
-    }
+// What an argument of the head is: a constant with types, an integer, a text.
+fn write_get_typed(
+    writer: &mut Writer,
+    width: Width,
+    argument: u8,
+    number: u32,
+    types: &[u16],
+) -> Result<(), Memory>
+    ensures { OnOk result (text_of writer.new ≡ more (text_of writer.old) (argument ∷ (spelled_number width number ++ spelled_few types.now))) }
+{
+    writer.byte(argument)?;
+    write_typed(writer, width, number, types)
+}
 
-    fn get_integer(&mut self, argument: u8, integer: i64) -> Result<(), WriteRefusal>
-        ensures { OnOk result (self.new.bytes.items ≡ self.old.bytes.items ++ argument ∷ spelled_integer integer) }
-    {
-        self.byte(argument)?;
-        self.integer(integer)
-    }
+fn write_get_integer(writer: &mut Writer, argument: u8, integer: i64) -> Result<(), Memory>
+    ensures { OnOk result (text_of writer.new ≡ more (text_of writer.old) (argument ∷ spelled_integer integer)) }
+{
+    writer.byte(argument)?;
+    writer.integer(integer)
+}
 
-    fn get_text(&mut self, argument: u8, text: &[u8]) -> Result<(), WriteRefusal>
-        ensures { OnOk result (self.new.bytes.items ≡ self.old.bytes.items ++ argument ∷ spelled_text text.now) }
-    {
-        self.byte(argument)?;
-        self.text(text)
-    }
+fn write_get_text(writer: &mut Writer, argument: u8, text: &[u8]) -> Result<(), Memory>
+    ensures { OnOk result (text_of writer.new ≡ more (text_of writer.old) (argument ∷ spelled_text text.now)) }
+{
+    writer.byte(argument)?;
+    write_text(writer, text)
+}
 
-    fn called(
-        &mut self,
-        width: Width,
-        constant: u32,
-        types: &[u16],
-        terms: &[u16],
-    ) -> Result<(), WriteRefusal>
-        ensures { OnOk result (self.new.bytes.items ≡ self.old.bytes.items ++ (spelled_number width constant ++ spelled_few types.now ++ spelled_few terms.now)) }
-    {
-        self.typed(width, constant, types)?;
-        self.few(terms)
-    }
+fn write_called(
+    writer: &mut Writer,
+    width: Width,
+    constant: u32,
+    types: &[u16],
+    terms: &[u16],
+) -> Result<(), Memory>
+    ensures { OnOk result (text_of writer.new ≡ more (text_of writer.old) ((spelled_number width constant ++ spelled_few types.now ++ spelled_few terms.now))) }
+{
+    write_typed(writer, width, constant, types)?;
+    write_few(writer, terms)
+}
 
-    fn assumed(&mut self, records: &[u32], types: &[u16], terms: &[u16]) -> Result<(), WriteRefusal>
-        ensures { OnOk result (self.new.bytes.items ≡ self.old.bytes.items ++ (spelled_numbered records.now ++ spelled_many types.now ++ spelled_many terms.now)) }
-    {
-        self.numbered(records)?;
-        self.many(types)?;
-        self.many(terms)
-    }
+fn write_assumed(
+    writer: &mut Writer,
+    records: &[u32],
+    types: &[u16],
+    terms: &[u16],
+) -> Result<(), Memory>
+    ensures { OnOk result (text_of writer.new ≡ more (text_of writer.old) ((spelled_numbered records.now ++ spelled_many types.now ++ spelled_many terms.now))) }
+{
+    write_numbered(writer, records)?;
+    write_many(writer, types)?;
+    write_many(writer, terms)
+}
 
-    fn operands(&mut self, width: Width, instr: &Instr) -> Result<(), WriteRefusal>
-        ensures { OnOk result (self.new.bytes.items ≡ self.old.bytes.items ++ flat_map (spelled_operand width) (plain_instr instr.now).operands) }
-    {
-        match instr {
-            Instr::Neck | Instr::Cut | Instr::EndAll | Instr::EndAssume => Ok(()),
-            Instr::Proceed | Instr::Not | Instr::EndNot => Ok(()),
-            Instr::TyNew(a) | Instr::CallTerm(a) => self.two(*a),
-            Instr::New(a, b) | Instr::Sigma(a, b) | Instr::All(a, b) => self.registers(&[*a, *b]),
-            Instr::Less(a, b) | Instr::Greater(a, b) => self.registers(&[*a, *b]),
-            Instr::AtMost(a, b) | Instr::AtLeast(a, b) => self.registers(&[*a, *b]),
-            Instr::TyArr(a, b, c) | Instr::PutIndex(a, b, c) => self.registers(&[*a, *b, *c]),
-            Instr::PutAbs(a, b, c) => self.registers(&[*a, *b, *c]),
-            Instr::Equal(a, b, c) | Instr::Is(a, b, c) => self.registers(&[*a, *b, *c]),
-            Instr::GetType(i, r) | Instr::GetVar(i, r) | Instr::Get(i, r) => self.argument(*i, *r),
-            Instr::Either(bytes) | Instr::Jump(bytes) => self.four(*bytes),
-            Instr::TyCon(a, k, ts) => self.put_typed(width, *a, *k, ts.as_slice()),
-            Instr::PutConst(a, c, ts) => self.put_typed(width, *a, *c, ts.as_slice()),
-            Instr::PutApp(a, b, rs) => self.put_applied(*a, *b, rs.as_slice()),
-            Instr::PutInt(a, z) => self.put_integer(*a, *z),
-            Instr::PutStr(a, s) => self.put_text(*a, s.as_slice()),
-            Instr::GetConst(i, c, ts) => self.get_typed(width, *i, *c, ts.as_slice()),
-            Instr::GetInt(i, z) => self.get_integer(*i, *z),
-            Instr::GetStr(i, s) => self.get_text(*i, s.as_slice()),
-            Instr::Call(c, ts, rs) => self.called(width, *c, ts.as_slice(), rs.as_slice()),
-            Instr::Assume(ns, ts, rs) => {
-                self.assumed(ns.as_slice(), ts.as_slice(), rs.as_slice())
-            }
+fn write_operands(writer: &mut Writer, width: Width, instr: &Instr) -> Result<(), Memory>
+    ensures { OnOk result (text_of writer.new ≡ more (text_of writer.old) (flat_map (spelled_operand width) (plain_instr instr.now).operands)) }
+{
+    match instr {
+        Instr::Neck | Instr::Cut | Instr::EndAll | Instr::EndAssume => writer.put(&[]),
+        Instr::Proceed | Instr::Not | Instr::EndNot => writer.put(&[]),
+        Instr::TyNew(a) | Instr::CallTerm(a) => writer.two(*a),
+        Instr::New(a, b) | Instr::Sigma(a, b) | Instr::All(a, b) => write_registers(
+            writer,
+            &[*a, *b],
+        ),
+        Instr::Less(a, b) | Instr::Greater(a, b) => write_registers(writer, &[*a, *b]),
+        Instr::AtMost(a, b) | Instr::AtLeast(a, b) => write_registers(writer, &[*a, *b]),
+        Instr::TyArr(a, b, c) | Instr::PutIndex(a, b, c) => write_registers(writer, &[*a, *b, *c]),
+        Instr::PutAbs(a, b, c) => write_registers(writer, &[*a, *b, *c]),
+        Instr::Equal(a, b, c) | Instr::Is(a, b, c) => write_registers(writer, &[*a, *b, *c]),
+        Instr::GetType(i, r) | Instr::GetVar(i, r) | Instr::Get(i, r) => write_argument(
+            writer, *i, *r,
+        ),
+        Instr::Either(bytes) | Instr::Jump(bytes) => writer.four(*bytes),
+        Instr::TyCon(a, k, ts) => write_put_typed(writer, width, *a, *k, ts.as_slice()),
+        Instr::PutConst(a, c, ts) => write_put_typed(writer, width, *a, *c, ts.as_slice()),
+        Instr::PutApp(a, b, rs) => write_put_applied(writer, *a, *b, rs.as_slice()),
+        Instr::PutInt(a, z) => write_put_integer(writer, *a, *z),
+        Instr::PutStr(a, s) => write_put_text(writer, *a, s.as_slice()),
+        Instr::GetConst(i, c, ts) => write_get_typed(writer, width, *i, *c, ts.as_slice()),
+        Instr::GetInt(i, z) => write_get_integer(writer, *i, *z),
+        Instr::GetStr(i, s) => write_get_text(writer, *i, s.as_slice()),
+        Instr::Call(c, ts, rs) => write_called(writer, width, *c, ts.as_slice(), rs.as_slice()),
+        Instr::Assume(ns, ts, rs) => {
+            write_assumed(writer, ns.as_slice(), ts.as_slice(), rs.as_slice())
         }
     }
+}
 
-    pub(crate) fn instruction(&mut self, width: Width, instr: &Instr) -> Result<(), WriteRefusal>
-        ensures { OnOk result (self.new.bytes.items ≡ self.old.bytes.items ++ spelled_instr width (plain_instr instr.now)) }
-    {
-        self.byte(number_of(instr))?;
-        self.operands(width, instr)
-    }
+pub(crate) fn write_instruction(
+    writer: &mut Writer,
+    width: Width,
+    instr: &Instr,
+) -> Result<(), Memory>
+    ensures { OnOk result (text_of writer.new ≡ more (text_of writer.old) (spelled_instr width (plain_instr instr.now))) }
+{
+    writer.byte(number_of(instr))?;
+    write_operands(writer, width, instr)
 }

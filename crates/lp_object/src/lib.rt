@@ -23,8 +23,8 @@ mod schemes;
 mod tables;
 // How wide numbers of constants and kinds are.
 mod width;
-// The bytes so far, and fields of one number or text.
-mod writer;
+// Fields of one number or text that are written.
+mod written;
 
 pub use fault::{FormatFault, WriteRefusal};
 pub use image::{read_image, write_image};

@@ -1,16 +1,15 @@
 // Names with what they name, each of which stands once: hidden numbers keep equal names apart.
 
+ghost use Rattle.lp_bytes.specs.Writing.{text_of, more};
 ghost use Rattle.std.specs.Prelude.{◌≡◌, ◌<◌, ◌-◌, ◌++◌, ◌∷◌, [], ◌||◌, ℕ, List, not, slice_get, IfOk, OnOk};
 ghost use Rattle.lp_bytes.specs.Reading.{Gives, left_of};
 ghost use Rattle.lp_object.specs.Reading.{new_name_at, new_global_at, same_global, fixities, zero_at, fixity_at};
 ghost use Rattle.lp_object.specs.Spelling.{fixity_number, spelled_fixity};
 ghost use Rattle.lp_object.specs.inner.Known.{knows, Knows};
 
-use crate::fault::WriteRefusal;
 use crate::fields::{read_name, read_name_length};
-use crate::writer::Writer;
 use lp_base::Memory;
-use lp_bytes::{ReadError, Reader};
+use lp_bytes::{ReadError, Reader, Writer};
 use lp_fixity::Fixity;
 use std::alloc::Global;
 use std::collections::BTreeSet;
@@ -140,13 +139,11 @@ fn byte_of(fixity: Fixity) -> u8
     }
 }
 
-impl Writer {
-    pub(crate) fn fixity(&mut self, fixity: Option<(Fixity, u8)>) -> Result<(), WriteRefusal>
-        ensures { OnOk result (self.new.bytes.items ≡ self.old.bytes.items ++ spelled_fixity fixity) }
-    {
-        match fixity {
-            None => self.put(&[0, 0]),
-            Some((fixity, number)) => self.put(&[byte_of(fixity), number]),
-        }
+pub(crate) fn write_fixity(writer: &mut Writer, fixity: Option<(Fixity, u8)>) -> Result<(), Memory>
+    ensures { OnOk result (text_of writer.new ≡ more (text_of writer.old) (spelled_fixity fixity)) }
+{
+    match fixity {
+        None => writer.put(&[0, 0]),
+        Some((fixity, number)) => writer.put(&[byte_of(fixity), number]),
     }
 }

@@ -1,5 +1,10 @@
 // Objects.
 
+ghost use Rattle.lp_bytes.specs.Writing.{text_of, more};
+ghost use Rattle.std.specs.List.{flat_map};
+ghost use Rattle.std.specs.Prelude.{IfErr};
+ghost use Rattle.lp_object.specs.Numbers.{spelled_text};
+ghost use Rattle.lp_object.specs.Refusing.{IsLimit};
 ghost use Rattle.std.specs.Prelude.{◌≡◌, ◌<◌, ◌≤◌, ◌^◌, ◌++◌, ◌∷◌, [], List, ℕ, IfOk, OnOk, Ok, length, map};
 ghost use Rattle.lp_term.specs.Nodes.{Nodes, Extends};
 ghost use Rattle.lp_bytes.specs.Reading.{Gives, Comes, left_of, each_at};
@@ -13,13 +18,13 @@ ghost use Rattle.lp_object.specs.inner.Known.{Knows};
 
 use crate::fault::{FormatFault, WriteRefusal};
 use crate::fields::{read_choice, read_count, read_owned_name};
-use crate::names::{Names, read_fixity, read_new_name};
-use crate::records::read_records;
-use crate::schemes::read_scheme;
+use crate::names::{Names, read_fixity, read_new_name, write_fixity};
+use crate::records::{read_records, write_records};
+use crate::schemes::{read_scheme, write_scheme};
 use crate::width::Width;
-use crate::writer::Writer;
+use crate::written::write_text;
 use lp_base::Memory;
-use lp_bytes::{Fault, ReadError, Reader};
+use lp_bytes::{Fault, ReadError, Reader, Writer};
 use lp_code::{Object, ObjectConstant, ObjectKind};
 use lp_term::Bank;
 use std::alloc::Global;
@@ -234,89 +239,124 @@ pub fn read_object(alloc: Global, bytes: &[u8]) -> Result<Object, FormatFault>
     read_told(alloc, bytes)
 }
 
-impl Writer {
-    fn class(&mut self, exported: bool) -> Result<(), WriteRefusal>
-        ensures { OnOk result (self.new.bytes.items ≡ self.old.bytes.items ++ spelled_class exported) }
-    {
-        self.byte(if exported { 1 } else { 2 })
-    }
-
-    #[tactic(auto, unfolding(crate::specs::Files::spelled_object_kind))]
-    fn object_kind(&mut self, kind: &ObjectKind) -> Result<(), WriteRefusal>
-        ensures { OnOk result (self.new.bytes.items ≡ self.old.bytes.items ++ spelled_object_kind (plain_object_kind kind.now)) }
-    {
-        self.class(kind.exported)?;
-        self.text(kind.name.as_slice())?;
-        self.byte(kind.arity)
-    }
-
-    #[tactic(auto, unfolding(crate::specs::Files::spelled_object_kinds))]
-    fn object_kinds(&mut self, kinds: &[ObjectKind]) -> Result<(), WriteRefusal>
-        ensures { OnOk result (self.new.bytes.items ≡ self.old.bytes.items ++ spelled_object_kinds (map plain_object_kind kinds.now)) }
-    {
-        self.low_two(kinds.len() as u64)?;
-        for kind in kinds {
-            self.object_kind(kind)?;
-        }
-        Ok(())
-    }
-
-    #[tactic(auto, unfolding(crate::specs::Files::spelled_object_constant))]
-    fn object_constant(
-        &mut self,
-        alloc: Global,
-        bank: &Bank,
-        constant: &ObjectConstant,
-    ) -> Result<(), WriteRefusal>
-        ensures { OnOk result (self.new.bytes.items ≡ self.old.bytes.items ++ spelled_object_constant (plain_object_constant bank.now constant.now)) }
-    {
-        self.class(constant.exported)?;
-        self.text(constant.name.as_slice())?;
-        self.byte(constant.type_vars)?;
-        self.scheme(alloc, Width::Two, bank, constant.scheme)?;
-        self.fixity(constant.fixity)
-    }
-
-    #[tactic(auto, unfolding(crate::specs::Files::spelled_object_constants))]
-    fn object_constants(
-        &mut self,
-        alloc: Global,
-        bank: &Bank,
-        constants: &[ObjectConstant],
-    ) -> Result<(), WriteRefusal>
-        ensures { OnOk result (self.new.bytes.items ≡ self.old.bytes.items ++ spelled_object_constants (map (plain_object_constant bank.now) constants.now)) }
-    {
-        self.low_two(constants.len() as u64)?;
-        for constant in constants {
-            self.object_constant(alloc, bank, constant)?;
-        }
-        Ok(())
-    }
-
-    #[tactic(auto, unfolding(crate::specs::Files::spelled_uses))]
-    fn uses(&mut self, uses: &[Vec<u8>]) -> Result<(), WriteRefusal>
-        ensures { OnOk result (self.new.bytes.items ≡ self.old.bytes.items ++ spelled_uses (map (λ u. u.items) uses.now)) }
-    {
-        self.low_two(uses.len() as u64)?;
-        for name in uses {
-            self.text(name.as_slice())?;
-        }
-        Ok(())
-    }
+fn write_class(writer: &mut Writer, exported: bool) -> Result<(), Memory>
+    ensures { OnOk result (text_of writer.new ≡ more (text_of writer.old) (spelled_class exported)) }
+{
+    writer.byte(if exported { 1 } else { 2 })
 }
 
-/// The bytes that spell the object.
-#[tactic(auto, unfolding(crate::specs::Files::spelled_object))]
-pub fn write_object(alloc: Global, object: &Object) -> Result<Vec<u8>, WriteRefusal>
-    ensures spelled { IfOk result (λ bytes. bytes.items ≡ spelled_object (plain_object object.now)) }
+#[tactic(auto, unfolding(crate::specs::Files::spelled_object_kind))]
+fn write_kind(writer: &mut Writer, kind: &ObjectKind) -> Result<(), Memory>
+    ensures { OnOk result (text_of writer.new ≡ more (text_of writer.old) (spelled_object_kind (plain_object_kind kind.now))) }
 {
-    let mut writer = Writer::new(alloc);
+    write_class(writer, kind.exported)?;
+    write_text(writer, kind.name.as_slice())?;
+    writer.byte(kind.arity)
+}
+
+// Each of them.
+fn write_each_kind(writer: &mut Writer, kinds: &[ObjectKind]) -> Result<(), Memory>
+    ensures { OnOk result (text_of writer.new ≡ more (text_of writer.old) (flat_map spelled_object_kind (map plain_object_kind kinds.now))) }
+{
+    for kind in kinds {
+        write_kind(writer, kind)?;
+    }
+    Ok(())
+}
+
+#[tactic(auto, unfolding(crate::specs::Files::spelled_object_kinds))]
+fn write_kinds(writer: &mut Writer, kinds: &[ObjectKind]) -> Result<(), Memory>
+    ensures { OnOk result (text_of writer.new ≡ more (text_of writer.old) (spelled_object_kinds (map plain_object_kind kinds.now))) }
+{
+    writer.low_two(kinds.len() as u64)?;
+    write_each_kind(writer, kinds)
+}
+
+#[tactic(auto, unfolding(crate::specs::Files::spelled_object_constant))]
+fn write_constant(
+    writer: &mut Writer,
+    alloc: Global,
+    bank: &Bank,
+    constant: &ObjectConstant,
+) -> Result<(), Memory>
+    ensures { OnOk result (text_of writer.new ≡ more (text_of writer.old) (spelled_object_constant (plain_object_constant bank.now constant.now))) }
+{
+    write_class(writer, constant.exported)?;
+    write_text(writer, constant.name.as_slice())?;
+    writer.byte(constant.type_vars)?;
+    write_scheme(writer, alloc, Width::Two, bank, constant.scheme)?;
+    write_fixity(writer, constant.fixity)
+}
+
+// Each of them.
+fn write_each_constant(
+    writer: &mut Writer,
+    alloc: Global,
+    bank: &Bank,
+    constants: &[ObjectConstant],
+) -> Result<(), Memory>
+    ensures { OnOk result (text_of writer.new ≡ more (text_of writer.old) (flat_map spelled_object_constant (map (plain_object_constant bank.now) constants.now))) }
+{
+    for constant in constants {
+        write_constant(writer, alloc, bank, constant)?;
+    }
+    Ok(())
+}
+
+#[tactic(auto, unfolding(crate::specs::Files::spelled_object_constants))]
+fn write_constants(
+    writer: &mut Writer,
+    alloc: Global,
+    bank: &Bank,
+    constants: &[ObjectConstant],
+) -> Result<(), Memory>
+    ensures { OnOk result (text_of writer.new ≡ more (text_of writer.old) (spelled_object_constants (map (plain_object_constant bank.now) constants.now))) }
+{
+    writer.low_two(constants.len() as u64)?;
+    write_each_constant(writer, alloc, bank, constants)
+}
+
+fn write_each_use(writer: &mut Writer, uses: &[Vec<u8>]) -> Result<(), Memory>
+    ensures { OnOk result (text_of writer.new ≡ more (text_of writer.old) (flat_map spelled_text (map (λ u. u.items) uses.now))) }
+{
+    for name in uses {
+        write_text(writer, name.as_slice())?;
+    }
+    Ok(())
+}
+
+#[tactic(auto, unfolding(crate::specs::Files::spelled_uses))]
+fn write_uses(writer: &mut Writer, uses: &[Vec<u8>]) -> Result<(), Memory>
+    ensures { OnOk result (text_of writer.new ≡ more (text_of writer.old) (spelled_uses (map (λ u. u.items) uses.now))) }
+{
+    writer.low_two(uses.len() as u64)?;
+    write_each_use(writer, uses)
+}
+
+// All of an object.
+fn write_all(writer: &mut Writer, alloc: Global, object: &Object) -> Result<(), Memory>
+    ensures { OnOk result (text_of writer.new ≡ more (text_of writer.old) (spelled_object (plain_object object.now))) }
+{
     writer.put(b"LPOB")?;
     writer.two(1)?;
-    writer.text(object.name.as_slice())?;
-    writer.object_kinds(object.kinds.as_slice())?;
-    writer.object_constants(alloc, &object.bank, object.constants.as_slice())?;
-    writer.uses(object.uses.as_slice())?;
-    writer.records(alloc, Width::Two, object.code.records.as_slice())?;
-    Ok(writer.bytes)
+    write_text(writer, object.name.as_slice())?;
+    write_kinds(writer, object.kinds.as_slice())?;
+    write_constants(writer, alloc, &object.bank, object.constants.as_slice())?;
+    write_uses(writer, object.uses.as_slice())?;
+    write_records(writer, alloc, Width::Two, object.code.records.as_slice())
+}
+
+/// The bytes that spell the object. `Limit` where these are more than a file may have.
+pub fn write_object(alloc: Global, object: &Object) -> Result<Vec<u8>, WriteRefusal>
+    // The one spelling, of which a number that does not fit its field gives its lowest bytes.
+    ensures spelled { IfOk result (λ bytes. (bytes.items ≡ spelled_object (plain_object object.now)) × (length bytes.items ≤ 16777216)) }
+    // There are too many bytes, unless memory ran out.
+    ensures many { IfErr result (λ refusal. IsLimit refusal (16777216 < length (spelled_object (plain_object object.now)))) }
+{
+    let mut writer = Writer::new(alloc);
+    write_all(&mut writer, alloc, object)?;
+    match writer.finish() {
+        Ok(bytes) => Ok(bytes),
+        Err(limit) => Err(WriteRefusal::Limit(limit)),
+    }
 }

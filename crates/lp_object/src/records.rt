@@ -1,5 +1,7 @@
 // Records, with their heads and keys.
-ghost use Rattle.std.specs.Prelude.{◌≡◌, ◌<◌, ◌^◌, ◌++◌, [], Some, IfOk, OnOk, length, map};
+ghost use Rattle.lp_bytes.specs.Writing.{text_of, more};
+ghost use Rattle.std.specs.List.{flat_map};
+ghost use Rattle.std.specs.Prelude.{◌≡◌, ◌<◌, ◌^◌, ◌∷◌, [], if◌then◌else◌, Some, IfOk, OnOk, length, map};
 ghost use Rattle.std.specs.List.{All};
 ghost use Rattle.lp_bytes.specs.Reading.{Gives, left_of, each_at};
 ghost use Rattle.lp_code.specs.Length.{Fits, AllFit};
@@ -8,12 +10,12 @@ ghost use Rattle.lp_object.specs.Plain.{plain_record};
 ghost use Rattle.lp_object.specs.Reading.{head_at, key_at, record_at, records_at};
 ghost use Rattle.lp_object.specs.Spelling.{spelled_head, spelled_key, spelled_record, spelled_records};
 
-use crate::code::read_code;
-use crate::fault::WriteRefusal;
+use crate::code::{read_code, write_code};
 use crate::fields::{read_choice, read_number, read_string};
 use crate::width::Width;
-use crate::writer::Writer;
-use lp_bytes::{ReadError, Reader};
+use crate::written::{write_number, write_text};
+use lp_base::Memory;
+use lp_bytes::{ReadError, Reader, Writer};
 use lp_code::{Code, Key, KeyRef, Record, RecordHead};
 use std::alloc::Global;
 
@@ -110,70 +112,96 @@ pub(crate) fn read_records(
     Ok(Code { records })
 }
 
-impl Writer {
-    fn head(&mut self, width: Width, head: Option<RecordHead>) -> Result<(), WriteRefusal>
-        ensures { OnOk result (self.new.bytes.items ≡ self.old.bytes.items ++ spelled_head width head) }
-    {
-        match head {
-            Some(RecordHead::Const(constant)) => {
-                self.byte(0)?;
-                self.number(width, u64::from(constant))
-            }
-            Some(RecordHead::Register(register)) => {
-                self.byte(1)?;
-                self.two(register)
-            }
-            None => Ok(()),
+// 1 for a clause of the program, 0 for an assumed one.
+fn write_form(writer: &mut Writer, program: bool) -> Result<(), Memory>
+    ensures { OnOk result (text_of writer.new ≡ more (text_of writer.old) ((if program then 1 else 0) ∷ [])) }
+{
+    writer.byte(if program { 1 } else { 0 })
+}
+
+// A head that is there.
+fn write_some_head(writer: &mut Writer, width: Width, head: RecordHead) -> Result<(), Memory>
+    ensures { OnOk result (text_of writer.new ≡ more (text_of writer.old) (spelled_head width (Some head))) }
+{
+    match head {
+        RecordHead::Const(constant) => {
+            writer.byte(0)?;
+            write_number(writer, width, u64::from(constant))
+        }
+        RecordHead::Register(register) => {
+            writer.byte(1)?;
+            writer.two(register)
         }
     }
+}
 
-    pub(crate) fn key(&mut self, width: Width, key: KeyRef<'_>) -> Result<(), WriteRefusal>
-        ensures { OnOk result (self.new.bytes.items ≡ self.old.bytes.items ++ spelled_key width (looked_key key.entry)) }
-    {
-        match key {
-            KeyRef::None => self.byte(0),
-            KeyRef::Const(constant) => {
-                self.byte(1)?;
-                self.number(width, u64::from(constant))
-            }
-            KeyRef::Int(integer) => {
-                self.byte(2)?;
-                self.integer(integer)
-            }
-            KeyRef::Text(text) => {
-                self.byte(3)?;
-                self.text(text)
-            }
+fn write_head(writer: &mut Writer, width: Width, head: Option<RecordHead>) -> Result<(), Memory>
+    ensures { OnOk result (text_of writer.new ≡ more (text_of writer.old) (spelled_head width head)) }
+{
+    match head {
+        None => writer.put(&[]),
+        Some(head) => write_some_head(writer, width, head),
+    }
+}
+
+pub(crate) fn write_key(writer: &mut Writer, width: Width, key: KeyRef<'_>) -> Result<(), Memory>
+    ensures { OnOk result (text_of writer.new ≡ more (text_of writer.old) (spelled_key width (looked_key key.entry))) }
+{
+    match key {
+        KeyRef::None => writer.byte(0),
+        KeyRef::Const(constant) => {
+            writer.byte(1)?;
+            write_number(writer, width, u64::from(constant))
+        }
+        KeyRef::Int(integer) => {
+            writer.byte(2)?;
+            writer.integer(integer)
+        }
+        KeyRef::Text(text) => {
+            writer.byte(3)?;
+            write_text(writer, text)
         }
     }
+}
 
-    #[tactic(auto, unfolding(crate::specs::Spelling::spelled_record))]
-    fn record(&mut self, alloc: Global, width: Width, of: &Record) -> Result<(), WriteRefusal>
-        ensures { OnOk result (self.new.bytes.items ≡ self.old.bytes.items ++ spelled_record width (plain_record of.now)) }
-    {
-        self.byte(u8::from(of.program))?;
-        self.head(width, of.head)?;
-        self.two(of.captured_types)?;
-        self.two(of.captured)?;
-        self.two(of.types)?;
-        self.two(of.registers)?;
-        self.key(width, of.key.as_key_ref())?;
-        self.code(alloc, width, of.code.as_slice())
-    }
+#[tactic(auto, unfolding(crate::specs::Spelling::spelled_record))]
+fn write_record(writer: &mut Writer, alloc: Global, width: Width, of: &Record) -> Result<(), Memory>
+    ensures { OnOk result (text_of writer.new ≡ more (text_of writer.old) (spelled_record width (plain_record of.now))) }
+{
+    write_form(writer, of.program)?;
+    write_head(writer, width, of.head)?;
+    writer.two(of.captured_types)?;
+    writer.two(of.captured)?;
+    writer.two(of.types)?;
+    writer.two(of.registers)?;
+    write_key(writer, width, of.key.as_key_ref())?;
+    write_code(writer, alloc, width, of.code.as_slice())
+}
 
-    #[tactic(auto, unfolding(crate::specs::Spelling::spelled_records))]
-    pub(crate) fn records(
-        &mut self,
-        alloc: Global,
-        width: Width,
-        records: &[Record],
-    ) -> Result<(), WriteRefusal>
-        ensures { OnOk result (self.new.bytes.items ≡ self.old.bytes.items ++ spelled_records width (map plain_record records.now)) }
-    {
-        self.low_four(records.len() as u64)?;
-        for next in records {
-            self.record(alloc, width, next)?;
-        }
-        Ok(())
+// Each of them.
+fn write_each_record(
+    writer: &mut Writer,
+    alloc: Global,
+    width: Width,
+    records: &[Record],
+) -> Result<(), Memory>
+    ensures { OnOk result (text_of writer.new ≡ more (text_of writer.old) (flat_map (spelled_record width) (map plain_record records.now))) }
+{
+    for next in records {
+        write_record(writer, alloc, width, next)?;
     }
+    Ok(())
+}
+
+#[tactic(auto, unfolding(crate::specs::Spelling::spelled_records))]
+pub(crate) fn write_records(
+    writer: &mut Writer,
+    alloc: Global,
+    width: Width,
+    records: &[Record],
+) -> Result<(), Memory>
+    ensures { OnOk result (text_of writer.new ≡ more (text_of writer.old) (spelled_records width (map plain_record records.now))) }
+{
+    writer.low_four(records.len() as u64)?;
+    write_each_record(writer, alloc, width, records)
 }

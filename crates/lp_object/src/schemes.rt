@@ -1,4 +1,6 @@
 // Declared types: a count of type variables and a type, each constructor before its arguments.
+ghost use Rattle.lp_bytes.specs.Writing.{text_of, more};
+ghost use Rattle.std.specs.Prelude.{◌<◌, ◌+◌, length};
 ghost use Rattle.std.specs.Prelude.{◌≡◌, ◌≤◌, ◌++◌, ◌∷◌, List, map, take, drop, reverse, replicate, IfOk, OnOk};
 ghost use Rattle.lp_calculus.specs.Types.{Ty};
 ghost use Rattle.lp_term.specs.Nodes.{Nodes, Extends, type_tree, type_node_tree};
@@ -10,12 +12,11 @@ ghost use Rattle.lp_object.specs.Spelling.{spelled_type};
 ghost use Rattle.lp_object.specs.inner.Parts.{type_top_of, types_stacked};
 ghost use Rattle.lp_object.specs.inner.Waiting.{waiting};
 
-use crate::fault::WriteRefusal;
 use crate::fields::read_number;
 use crate::width::Width;
-use crate::writer::Writer;
-use lp_base::{Limit, MAX_IMAGE_BYTES, Memory};
-use lp_bytes::{ReadError, Reader};
+use crate::written::{write_low_one, write_number};
+use lp_base::{MAX_IMAGE_BYTES, Memory};
+use lp_bytes::{ReadError, Reader, Writer};
 use lp_term::{Bank, TypeId, TypeNode, put_arrow, put_constructor};
 use std::alloc::Global;
 
@@ -215,61 +216,62 @@ fn push_last_first(alloc: Global, stack: &mut Vec<TypeId>, types: &[TypeId]) -> 
     Ok(())
 }
 
-impl Writer {
-    // The top of a type, whose arguments are left on the stack, the first one last.
-    #[tactic(auto, using(crate::proofs::Waiting::kind_waits, crate::proofs::Waiting::arrow_waits))]
-    fn type_part(
-        &mut self,
-        alloc: Global,
-        width: Width,
-        bank: &Bank,
-        stack: &mut Vec<TypeId>,
-        node: TypeNode<'_>,
-    ) -> Result<(), WriteRefusal>
-        ensures { OnOk result (self.new.bytes.items ++ waiting width bank.now stack.new.items ≡ self.old.bytes.items ++ (spelled_type width (type_node_tree bank.now (type_shape node.entry)) ++ waiting width bank.now stack.old.items)) }
-    {
-        match node {
-            TypeNode::Var(variable) => self.variable(variable),
-            TypeNode::Param(variable) => self.variable(variable),
-            TypeNode::Con(kind, arguments) => {
-                self.byte(1)?;
-                self.number(width, u64::from(kind))?;
-                push_last_first(alloc, stack, arguments)?;
-                Ok(())
-            }
-            TypeNode::Arrow(from, to) => {
-                self.byte(2)?;
-                stack.push(to).map_err(Memory::from)?;
-                stack.push(from).map_err(Memory::from)?;
-                Ok(())
-            }
+fn write_variable(writer: &mut Writer, variable: u64) -> Result<(), Memory>
+    ensures { OnOk result (text_of writer.new ≡ more (text_of writer.old) (0 ∷ spelled_one variable)) }
+{
+    writer.byte(0)?;
+    write_low_one(writer, variable)
+}
+
+// The top of a type, whose arguments are left on the stack, the first one last.
+fn write_part(
+    writer: &mut Writer,
+    alloc: Global,
+    width: Width,
+    bank: &Bank,
+    stack: &mut Vec<TypeId>,
+    node: TypeNode<'_>,
+) -> Result<(), Memory>
+    ensures text { OnOk result (more (text_of writer.new) (waiting width bank.now stack.new.items) ≡ more (text_of writer.old) (spelled_type width (type_node_tree bank.now (type_shape node.entry)) ++ waiting width bank.now stack.old.items)) }
+    ensures less { OnOk result (length (waiting width bank.now stack.new.items) < length (spelled_type width (type_node_tree bank.now (type_shape node.entry))) + length (waiting width bank.now stack.old.items)) }
+{
+    match node {
+        TypeNode::Var(variable) => write_variable(writer, variable),
+        TypeNode::Param(variable) => write_variable(writer, variable),
+        TypeNode::Con(kind, arguments) => {
+            writer.byte(1)?;
+            write_number(writer, width, u64::from(kind))?;
+            push_last_first(alloc, stack, arguments)
+        }
+        TypeNode::Arrow(from, to) => {
+            writer.byte(2)?;
+            stack.push(to)?;
+            stack.push(from)?;
+            Ok(())
         }
     }
+}
 
-    fn variable(&mut self, variable: u64) -> Result<(), WriteRefusal>
-        ensures { OnOk result (self.new.bytes.items ≡ self.old.bytes.items ++ 0 ∷ spelled_one variable) }
-    {
-        self.byte(0)?;
-        self.low_one(variable)
-    }
-
-    pub(crate) fn scheme(
-        &mut self,
-        alloc: Global,
-        width: Width,
-        bank: &Bank,
-        scheme: TypeId,
-    ) -> Result<(), WriteRefusal>
-        ensures { OnOk result (self.new.bytes.items ≡ self.old.bytes.items ++ spelled_type width (type_tree bank.now scheme.0)) }
-    {
-        let mut stack = Vec::new(alloc);
-        stack.push(scheme).map_err(Memory::from)?;
-        for _ in 0..=MAX_IMAGE_BYTES {
-            let Some(next) = stack.pop() else {
-                return Ok(());
-            };
-            self.type_part(alloc, width, bank, &mut stack, bank.type_node(next))?;
+pub(crate) fn write_scheme(
+    writer: &mut Writer,
+    alloc: Global,
+    width: Width,
+    bank: &Bank,
+    scheme: TypeId,
+) -> Result<(), Memory>
+    ensures { OnOk result (text_of writer.new ≡ more (text_of writer.old) (spelled_type width (type_tree bank.now scheme.0))) }
+{
+    let mut stack = Vec::new(alloc);
+    stack.push(scheme)?;
+    for _ in 0..MAX_IMAGE_BYTES + 1 {
+        if writer.is_full() {
+            return Ok(());
         }
-        Err(WriteRefusal::Limit(Limit::Image))
+        let Some(next) = stack.pop() else {
+            return Ok(());
+        };
+        write_part(writer, alloc, width, bank, &mut stack, bank.type_node(next))?;
     }
+    writer.fill();
+    Ok(())
 }

@@ -1,5 +1,6 @@
 // The tables of records by predicate and key, which are a function of the records.
 
+ghost use Rattle.lp_bytes.specs.Writing.{text_of, more};
 ghost use Rattle.std.specs.Prelude.{◌≡◌, ◌++◌, ◌∷◌, [], OnOk, map, length};
 ghost use Rattle.std.specs.List.{flat_map};
 ghost use Rattle.lp_bytes.specs.Numbers.{spelled_two, spelled_four, spelled_integer};
@@ -9,11 +10,12 @@ ghost use Rattle.lp_object.specs.Plain.{plain_record};
 ghost use Rattle.lp_object.specs.Reading.{expected_at, all_expected_at};
 ghost use Rattle.lp_object.specs.Tables.{key_fields, group_fields, groups_fields, table_fields, group_of, spelled_group, spelled_groups, spelled_tables};
 
-use crate::fault::WriteRefusal;
+use crate::records::write_key;
 use crate::width::Width;
-use crate::writer::Writer;
+use crate::written::write_numbers;
 use byteorder::{ByteOrder, LittleEndian};
-use lp_bytes::{ReadError, Reader};
+use lp_base::Memory;
+use lp_bytes::{ReadError, Reader, Writer};
 use lp_code::{Image, KeyRef};
 use std::alloc::Global;
 
@@ -174,70 +176,78 @@ pub(crate) fn expect_tables(
     expect_heads(alloc, reader, image, heads.as_slice())
 }
 
-impl Writer {
-    #[tactic(auto, unfolding(crate::specs::Tables::spelled_group))]
-    fn group(&mut self, key: KeyRef<'_>, records: &[u32]) -> Result<(), WriteRefusal>
-        ensures { OnOk result (self.new.bytes.items ≡ self.old.bytes.items ++ spelled_group records.now (looked_key key.entry)) }
-    {
-        self.key(Width::Four, key)?;
-        self.low_four(records.len() as u64)?;
-        self.numbers(records)
-    }
+#[tactic(auto, unfolding(crate::specs::Tables::spelled_group))]
+fn write_group(writer: &mut Writer, key: KeyRef<'_>, records: &[u32]) -> Result<(), Memory>
+    ensures { OnOk result (text_of writer.new ≡ more (text_of writer.old) (spelled_group records.now (looked_key key.entry))) }
+{
+    write_key(writer, Width::Four, key)?;
+    writer.low_four(records.len() as u64)?;
+    write_numbers(writer, records)
+}
 
-    // The group of a constant and a key.
-    #[tactic(auto, using(crate::proofs::Grouped::group_is))]
-    fn keyed_group(
-        &mut self,
-        image: &Image,
-        constant: u32,
-        key: KeyRef<'_>,
-    ) -> Result<(), WriteRefusal>
-        ensures { OnOk result (self.new.bytes.items ≡ self.old.bytes.items ++ spelled_group (group_of (map plain_record image.now.code.records.items) constant (looked_key key.entry)) (looked_key key.entry)) }
-    {
-        self.group(key, image.group(constant, key))
-    }
+// The group of a constant and a key.
+#[tactic(auto, using(crate::proofs::Grouped::group_is))]
+fn write_keyed_group(
+    writer: &mut Writer,
+    image: &Image,
+    constant: u32,
+    key: KeyRef<'_>,
+) -> Result<(), Memory>
+    ensures { OnOk result (text_of writer.new ≡ more (text_of writer.old) (spelled_group (group_of (map plain_record image.now.code.records.items) constant (looked_key key.entry)) (looked_key key.entry))) }
+{
+    write_group(writer, key, image.group(constant, key))
+}
 
-    // The groups of a constant, by their keys.
-    fn keyed(
-        &mut self,
-        image: &Image,
-        constant: u32,
-        keys: &[KeyRef<'_>],
-    ) -> Result<(), WriteRefusal>
-        ensures { OnOk result (self.new.bytes.items ≡ self.old.bytes.items ++ flat_map (λ k. spelled_group (group_of (map plain_record image.now.code.records.items) constant k) k) (map looked_key keys.now)) }
-    {
-        for key in keys {
-            self.keyed_group(image, constant, *key)?;
-        }
-        Ok(())
+// The groups of a constant, by their keys.
+fn write_keyed(
+    writer: &mut Writer,
+    image: &Image,
+    constant: u32,
+    keys: &[KeyRef<'_>],
+) -> Result<(), Memory>
+    ensures { OnOk result (text_of writer.new ≡ more (text_of writer.old) (flat_map (λ k. spelled_group (group_of (map plain_record image.now.code.records.items) constant k) k) (map looked_key keys.now))) }
+{
+    for key in keys {
+        write_keyed_group(writer, image, constant, *key)?;
     }
+    Ok(())
+}
 
-    fn groups(&mut self, alloc: Global, image: &Image, constant: u32) -> Result<(), WriteRefusal>
-        ensures { OnOk result (self.new.bytes.items ≡ self.old.bytes.items ++ spelled_groups (map plain_record image.now.code.records.items) constant) }
-    {
-        self.four(constant)?;
-        let keys = image.keys(alloc, constant)?;
-        self.low_four(keys.len() as u64)?;
-        self.keyed(image, constant, keys.as_slice())?;
-        Ok(())
-    }
+fn write_groups(
+    writer: &mut Writer,
+    alloc: Global,
+    image: &Image,
+    constant: u32,
+) -> Result<(), Memory>
+    ensures { OnOk result (text_of writer.new ≡ more (text_of writer.old) (spelled_groups (map plain_record image.now.code.records.items) constant)) }
+{
+    writer.four(constant)?;
+    let keys = image.keys(alloc, constant)?;
+    writer.low_four(keys.len() as u64)?;
+    write_keyed(writer, image, constant, keys.as_slice())?;
+    Ok(())
+}
 
-    // The groups of these constants.
-    fn grouped(&mut self, alloc: Global, image: &Image, heads: &[u32]) -> Result<(), WriteRefusal>
-        ensures { OnOk result (self.new.bytes.items ≡ self.old.bytes.items ++ flat_map (spelled_groups (map plain_record image.now.code.records.items)) heads.now) }
-    {
-        for constant in heads {
-            self.groups(alloc, image, *constant)?;
-        }
-        Ok(())
+// The groups of these constants.
+fn write_grouped(
+    writer: &mut Writer,
+    alloc: Global,
+    image: &Image,
+    heads: &[u32],
+) -> Result<(), Memory>
+    ensures { OnOk result (text_of writer.new ≡ more (text_of writer.old) (flat_map (spelled_groups (map plain_record image.now.code.records.items)) heads.now)) }
+{
+    for constant in heads {
+        write_groups(writer, alloc, image, *constant)?;
     }
+    Ok(())
+}
 
-    pub(crate) fn tables(&mut self, alloc: Global, image: &Image) -> Result<(), WriteRefusal>
-        ensures { OnOk result (self.new.bytes.items ≡ self.old.bytes.items ++ spelled_tables (map plain_record image.now.code.records.items)) }
-    {
-        let heads = image.heads(alloc)?;
-        self.low_four(heads.len() as u64)?;
-        self.grouped(alloc, image, heads.as_slice())?;
-        Ok(())
-    }
+pub(crate) fn write_tables(writer: &mut Writer, alloc: Global, image: &Image) -> Result<(), Memory>
+    ensures { OnOk result (text_of writer.new ≡ more (text_of writer.old) (spelled_tables (map plain_record image.now.code.records.items))) }
+{
+    let heads = image.heads(alloc)?;
+    writer.low_four(heads.len() as u64)?;
+    write_grouped(writer, alloc, image, heads.as_slice())?;
+    Ok(())
 }
