@@ -105,7 +105,7 @@ fn of_format(fault: FormatFault) -> Option<Told> {
     }
 }
 
-fn told(alloc: Global, bytes: &[u8]) -> Option<Told> {
+fn seen_of(alloc: Global, bytes: &[u8]) -> Option<Told> {
     let image = match read_image(alloc, bytes) {
         Ok(image) => image,
         Err(fault) => return of_format(fault),
@@ -118,10 +118,10 @@ fn told(alloc: Global, bytes: &[u8]) -> Option<Told> {
 }
 
 // FACT with another byte at a place.
-fn told_with(alloc: Global, place: usize, byte: u8) -> Option<Told> {
+fn seen_with(alloc: Global, place: usize, byte: u8) -> Option<Told> {
     let mut bytes = Vec::from_slice(alloc, FACT).ok()?;
     *bytes.get_mut(place)? = byte;
-    told(alloc, bytes.as_slice())
+    seen_of(alloc, bytes.as_slice())
 }
 
 #[test]
@@ -130,9 +130,9 @@ fn each_byte_changed(rt: HostRuntime) {
     assert_eq!(rt; FIRST_TOLD.len(), FACT.len());
     for (place, (ones, more)) in FIRST_TOLD.iter().copied().enumerate() {
         let byte = FACT.get(place).copied().unwrap_or(0);
-        assert_eq!(rt; told_with(alloc, place, 255), Some(ones), "byte {place}");
+        assert_eq!(rt; seen_with(alloc, place, 255), Some(ones), "byte {place}");
         assert_eq!(rt;
-            told_with(alloc, place, byte.wrapping_add(1)),
+            seen_with(alloc, place, byte.wrapping_add(1)),
             Some(more),
             "byte {place}, one more"
         );
