@@ -132,6 +132,7 @@ judged_on bytes text before between after q d cs count verdict asked e f inside 
 
 -- the same of what a call gave
 pub checks_of : (told : Option Held) (name text file slice bytes : List ℕ) (r : Result Checked Refusal) → file ≡ cert_file name → slice ≡ bytes → IsTold told file bytes
-    → IfOk r (λ x. (count : ℕ) × (verdict : CheckVerdict) × IsJudgedOn slice text count verdict × IsChecked count verdict x.line.items x.status) → IfOk r (λ x. IsCheckOf told name text x.line.items x.status)
+    → IfOk r (λ x. (count : ℕ) × (verdict : CheckVerdict) × IsJudgedOn slice text count verdict × IsChecked count verdict x.line.items x.status)
+    → IfOk r (λ x. IsCheckOf told name text x.line.items x.status)
 checks_of told name text file slice bytes (Ok x) e s there h = check_of told name text file slice x.line.items x.status e (subst (IsTold told file) (sym s) there) h
 checks_of told name text file slice bytes (Err r) e s there h = tt

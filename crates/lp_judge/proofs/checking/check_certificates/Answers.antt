@@ -29,7 +29,9 @@ returns-in-Err-clause-placed g c = placed_told (g.F.Folder.held c.args.folder.no
 
 pub returns-in-Ok-clause-checks : goal.returns-in-Ok-clause-checks
 returns-in-Ok-clause-checks g c =
-    subst (λ held. Checks held c.args.name.now c.args.query.now (g.K.Sink.written c.args.out.now) (g.K.Sink.written c.check_asked.new.out) c.check_asked.result) c.in-Ok.ensures.looked.same (c.check_asked.ensures.checks c.args.query.now c.in-Ok.ensures.asked)
+    subst (λ held. Checks held c.args.name.now c.args.query.now (g.K.Sink.written c.args.out.now) (g.K.Sink.written c.check_asked.new.out) c.check_asked.result)
+    c.in-Ok.ensures.looked.same (c.check_asked.ensures.checks c.args.query.now c.in-Ok.ensures.asked)
 
 pub returns-in-Err-clause-checks : goal.returns-in-Err-clause-checks
-returns-in-Err-clause-checks g c = checks_refused (g.F.Folder.held c.args.folder.now) c.args.name.now c.args.query.now _ _ c.tell.result c.in-Err.refusal c.in-Err.ensures.looked.kind c.tell.ensures.said
+returns-in-Err-clause-checks g c =
+    checks_refused (g.F.Folder.held c.args.folder.now) c.args.name.now c.args.query.now _ _ c.tell.result c.in-Err.refusal c.in-Err.ensures.looked.kind c.tell.ensures.said

@@ -15,6 +15,7 @@ returns-in-Ok-said_of_verdict-clause-right c text = λ asked. (
       c.read.ensures.kept c.verdict_on.ensures.kept c.in-Ok.ensures.inside c.in-Ok.ensures.found.0 c.in-Ok.ensures.found.1 (omega (arith, c.len.ensures, c.in-Ok.certificates.ok))
       (let after = c.verdict_on.new.names.program in
       subst (λ cs. IsQueryInside c.read.new.names.program.bank c.args.asked.query → All (IsCertificateInside c.read.new.names.program.bank) cs
-      → IsVerdictOn (ground_of after) (query_of after.bank c.args.asked.query) (map (certificate_of after.bank) cs) c.in-Ok-verdict_on.verdict) c.as_slice.ensures.value c.in-Ok-verdict_on.ensures.right),
+      → IsVerdictOn (ground_of after) (query_of after.bank c.args.asked.query) (map (certificate_of after.bank) cs) c.in-Ok-verdict_on.verdict)
+      c.as_slice.ensures.value c.in-Ok-verdict_on.ensures.right),
   c.in-Ok-said_of_verdict.ensures,
 )

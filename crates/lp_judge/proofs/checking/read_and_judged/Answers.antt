@@ -10,4 +10,5 @@ pub returns-in-Ok-bytes_of-clause-looked : goal.returns-in-Ok-bytes_of-clause-lo
 returns-in-Ok-bytes_of-clause-looked g c = looked_judged c.judged.result c.in-Ok-bytes_of.ensures.looked c.judged.ensures.judged
 
 pub returns-in-Ok-bytes_of-clause-right : goal.returns-in-Ok-bytes_of-clause-right
-returns-in-Ok-bytes_of-clause-right g c text = λ asked. checks_of _ _ text _ _ _ c.judged.result (c.as_str.ensures.value ∙ c.in-Ok.ensures) c.as_slice.ensures.value c.in-Ok-bytes_of.ensures.there (c.judged.ensures.right text asked)
+returns-in-Ok-bytes_of-clause-right g c text = λ asked.
+    checks_of _ _ text _ _ _ c.judged.result (c.as_str.ensures.value ∙ c.in-Ok.ensures) c.as_slice.ensures.value c.in-Ok-bytes_of.ensures.there (c.judged.ensures.right text asked)

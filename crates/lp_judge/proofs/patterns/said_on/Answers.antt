@@ -8,11 +8,13 @@ returns-in_ok-line-in-Yes c = line_of_yes _ _ _ _ _ c.in_ok-survey.field-0 refl 
 
 pub clause_line-requires : goal.clause_line-requires
 clause_line-requires c =
-    subst (λ z. c.in-Clause.place < length z) (sym c.in_ok-survey.ensures.modules) (place_there c.args.modules.now (tree c.args.bank.now c.args.query.now.formula.0) c.in-Clause.place c.in-Clause.number (rw c.in-Clause.is at c.in_ok-survey.ensures.verdict))
+    subst (λ z. c.in-Clause.place < length z) (sym c.in_ok-survey.ensures.modules)
+    (place_there c.args.modules.now (tree c.args.bank.now c.args.query.now.formula.0) c.in-Clause.place c.in-Clause.number (rw c.in-Clause.is at c.in_ok-survey.ensures.verdict))
 
 pub returns-in_ok-line-in-Clause : goal.returns-in_ok-line-in-Clause
 returns-in_ok-line-in-Clause c =
-    line_of_clause _ _ _ _ _ _ c.in_ok-survey.field-0 c.in-Clause.place c.in-Clause.number refl c.in_ok-survey.ensures.modules refl c.in-Clause.is c.in_ok-survey.ensures.verdict c.in_ok-line-in-Clause.ensures
+    line_of_clause _ _ _ _ _ _ c.in_ok-survey.field-0 c.in-Clause.place c.in-Clause.number refl c.in_ok-survey.ensures.modules refl
+    c.in-Clause.is c.in_ok-survey.ensures.verdict c.in_ok-line-in-Clause.ensures
 
 pub returns-in_ok-line-in-Query : goal.returns-in_ok-line-in-Query
 returns-in_ok-line-in-Query c = line_of_query _ _ _ _ _ c.in_ok-survey.field-0 refl refl c.in-Query.is c.in_ok-survey.ensures.verdict (c.in_ok-line-in-Query.ensures.items_if_clones_equal (λ x y h. h))
