@@ -4,6 +4,9 @@
 // The order in which files are loaded.
 #[cfg(test)]
 mod build;
+// Each byte of a small image, changed.
+#[cfg(test)]
+mod changed;
 // Objects and images.
 #[cfg(test)]
 mod files;

@@ -1,12 +1,12 @@
 // The goals of a record.
 
+use crate::calls::{put_call, put_term_call};
 use crate::environment::Variable;
 use crate::fault::GenRefusal;
 use crate::plan::Step;
 use crate::terms::Writer;
 use crate::types::TypeView;
 use lp_code::Instr;
-use lp_standard::Constant;
 use lp_term::{TermId, TermNode, TypeId, spine_of};
 
 // An open block: how many variables the record had before it, and where its instruction stands.
@@ -21,34 +21,17 @@ struct Block {
 const JUMP_BYTES: u64 = 5;
 
 impl<'a> Writer<'a> {
-    // A goal whose head is a constant. The orders and equations have instructions of their own.
-    fn call(&mut self, number: u32, types: Vec<u16>, terms: Vec<u16>) -> Result<(), GenRefusal> {
-        let standard = Constant::from_number(number);
-        let instr = match (standard, types.as_slice(), terms.as_slice()) {
-            (Some(Constant::Equal), [of], [left, right]) => Instr::Equal(*of, *left, *right),
-            (Some(Constant::Is), [of], [left, right]) => Instr::Is(*of, *left, *right),
-            (Some(Constant::Less), [], [left, right]) => Instr::Less(*left, *right),
-            (Some(Constant::Greater), [], [left, right]) => Instr::Greater(*left, *right),
-            (Some(Constant::AtMost), [], [left, right]) => Instr::AtMost(*left, *right),
-            (Some(Constant::AtLeast), [], [left, right]) => Instr::AtLeast(*left, *right),
-            _ => {
-                return self.emitter.emit(Instr::Call(number, types, terms));
-            }
-        };
-        self.emitter.emit(instr)
-    }
-
     fn atom(&mut self, atom: TermId) -> Result<(), GenRefusal> {
         let spine = spine_of(self.alloc, self.tables.bank, atom)?;
         match self.tables.bank.term_node(spine.head) {
             TermNode::Const(number, types) => {
                 let types = self.put_types(types)?;
                 let terms = self.put_arguments(spine.head, spine.args.as_slice())?;
-                self.call(number, types, terms)
+                put_call(&mut self.emitter, number, types, terms)
             }
             _ => {
                 let register = self.put_term(atom, TypeView::Proposition)?;
-                self.emitter.emit(Instr::CallTerm(register))
+                put_term_call(&mut self.emitter, register)
             }
         }
     }

@@ -1,5 +1,5 @@
 // The code of a record in the making.
-ghost use Rattle.std.specs.Prelude.{◌≡◌, ◌≤◌, true, All, sum_by, OnOk};
+ghost use Rattle.std.specs.Prelude.{◌≡◌, ◌≤◌, ◌+◌, [], ◌∷◌, ◌++◌, true, All, sum_by, OnOk, IfOk};
 ghost use Rattle.lp_code.specs.Length.{length_of};
 ghost use Rattle.lp_gen.specs.inner.Fitting.{is_fitting};
 
@@ -55,7 +55,9 @@ fn fits(instr: &Instr) -> Result<(), GenRefusal>
 }
 
 // One register more of a kind.
-fn next(count: u16) -> Result<u16, GenRefusal> {
+fn next(count: u16) -> Result<u16, GenRefusal>
+    ensures { IfOk result (λ more. more ≡ count + 1) }
+{
     match count.checked_add(1) {
         Some(more) => Ok(more),
         None => Err(GenRefusal::Limit(Limit::Registers)),
@@ -74,21 +76,35 @@ impl Emitter {
     }
 
     /// The next type register.
-    pub(crate) fn new_type(&mut self) -> Result<u16, GenRefusal> {
+    pub(crate) fn new_type(&mut self) -> Result<u16, GenRefusal>
+        ensures register { IfOk result (λ register. register ≡ self.old.types) }
+        ensures code { OnOk result (self.new.code.items ≡ self.old.code.items) }
+        ensures types { OnOk result (self.new.types ≡ self.old.types + 1) }
+        ensures registers { OnOk result (self.new.registers ≡ self.old.registers) }
+    {
         let register = self.types;
         self.types = next(register)?;
         Ok(register)
     }
 
     /// The next register.
-    pub(crate) fn new_register(&mut self) -> Result<u16, GenRefusal> {
+    pub(crate) fn new_register(&mut self) -> Result<u16, GenRefusal>
+        ensures register { IfOk result (λ register. register ≡ self.old.registers) }
+        ensures code { OnOk result (self.new.code.items ≡ self.old.code.items) }
+        ensures types { OnOk result (self.new.types ≡ self.old.types) }
+        ensures registers { OnOk result (self.new.registers ≡ self.old.registers + 1) }
+    {
         let register = self.registers;
         self.registers = next(register)?;
         Ok(register)
     }
 
     /// One instruction more.
-    pub(crate) fn emit(&mut self, instr: Instr) -> Result<(), GenRefusal> {
+    pub(crate) fn emit(&mut self, instr: Instr) -> Result<(), GenRefusal>
+        ensures code { OnOk result (self.new.code.items ≡ self.old.code.items ++ instr ∷ []) }
+        ensures types { OnOk result (self.new.types ≡ self.old.types) }
+        ensures registers { OnOk result (self.new.registers ≡ self.old.registers) }
+    {
         fits(&instr)?;
         let place = self.place.saturating_add(length(&instr) as u64);
         if place > MAX_CODE_BYTES {

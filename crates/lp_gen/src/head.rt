@@ -1,6 +1,7 @@
 // The head of a record.
 
 use crate::fault::GenRefusal;
+use crate::got::{get_constant, get_integer, get_term, get_text, get_type};
 use crate::terms::Writer;
 use crate::types::TypeView;
 use lp_base::Limit;
@@ -34,7 +35,7 @@ impl<'a> Writer<'a> {
     fn get_types(&mut self, types: &[TypeId]) -> Result<(), GenRefusal> {
         for (at, of) in types.iter().copied().enumerate() {
             let register = self.put_type(TypeView::Of(of, None))?;
-            self.emitter.emit(Instr::GetType(number_of(at)?, register))?;
+            get_type(&mut self.emitter, number_of(at)?, register)?;
         }
         Ok(())
     }
@@ -62,16 +63,16 @@ impl<'a> Writer<'a> {
         match self.tables.bank.term_node(argument) {
             TermNode::Const(number, types) => {
                 let registers = self.put_types(types)?;
-                self.emitter.emit(Instr::GetConst(at, number, registers))
+                get_constant(&mut self.emitter, at, number, registers)
             }
-            TermNode::Int(value) => self.emitter.emit(Instr::GetInt(at, value)),
+            TermNode::Int(value) => get_integer(&mut self.emitter, at, value),
             TermNode::Text(bytes) => {
                 let text = Vec::from_slice(self.alloc, bytes)?;
-                self.emitter.emit(Instr::GetStr(at, text))
+                get_text(&mut self.emitter, at, text)
             }
             _ => {
                 let register = self.put_term(argument, of)?;
-                self.emitter.emit(Instr::Get(at, register))
+                get_term(&mut self.emitter, at, register)
             }
         }
     }

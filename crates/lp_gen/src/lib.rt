@@ -3,6 +3,8 @@
 
 // The clauses and goals of a record.
 mod body;
+// Goals whose parts stand in registers.
+mod calls;
 // The code of a record in the making.
 mod emitter;
 // Variables by index.
@@ -11,6 +13,10 @@ mod environment;
 mod codes;
 // Why clauses have no code.
 mod fault;
+// Terms in registers, by their forms.
+mod forms;
+// The parts of a head as they are matched.
+mod got;
 // The head of a record.
 mod head;
 // A clause with those that it assumes, each as a list of steps.
@@ -19,10 +25,14 @@ mod plan;
 mod record;
 // The types of the arguments of standard constants.
 mod standard;
+// Terms in registers, by steps.
+mod term_steps;
 // Terms in registers.
 mod terms;
 // Types as they are read.
 mod types;
+// Types in registers.
+mod written_types;
 
 pub use codes::{generate, generate_query};
 pub use fault::GenRefusal;

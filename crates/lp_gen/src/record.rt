@@ -7,7 +7,8 @@ use crate::environment::{Environment, Variable};
 use crate::fault::GenRefusal;
 use crate::head::key_of;
 use crate::plan::{Assumption, Origin, Part};
-use crate::terms::{Writer, register_of_type};
+use crate::terms::Writer;
+use crate::written_types::register_of_type;
 use indexmap::IndexMap;
 use lp_base::{Limit, Memory};
 use lp_code::{Instr, Key, Record, RecordHead};
@@ -182,6 +183,7 @@ pub(crate) fn record_of<'x>(
         emitter: Emitter::new(alloc, captured_types, registers),
         environment: Environment::new(alloc, captured, part.base),
         bound: Vec::new(alloc),
+        steps: Vec::new(alloc),
         starts: Vec::new(alloc),
     };
     if program {

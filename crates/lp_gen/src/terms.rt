@@ -1,24 +1,23 @@
-// Terms and types in registers.
-ghost use Rattle.std.specs.Prelude.{◌≤◌, ◌+◌, ◌*◌, map, sum_by, OnOk};
-ghost use Rattle.lp_calculus.specs.Types.{tys};
-ghost use Rattle.lp_term.specs.Nodes.{tree, type_tree};
+// Terms in registers.
+ghost use Rattle.std.specs.Prelude.{◌≤◌, ◌+◌, ◌*◌, sum_by, OnOk};
+ghost use Rattle.lp_term.specs.Nodes.{tree};
 ghost use Rattle.lp_term.specs.Walk.{size};
-ghost use Rattle.lp_gen.specs.inner.Reading.{read, read_at};
-ghost use Rattle.lp_gen.specs.inner.Sizes.{type_size, types_size, type_work, term_work};
+ghost use Rattle.lp_gen.specs.inner.Sizes.{term_work};
 
 use crate::emitter::Emitter;
 use crate::environment::{Environment, Variable};
 use crate::fault::GenRefusal;
 use crate::record::{Starts, Tables};
 use crate::standard::{Function, constant_type};
-use crate::types::{Top, TypeView};
-use lp_base::Limit;
+use crate::term_steps::{TermStep, put_steps};
+use crate::types::TypeView;
+use crate::written_types::{put_type, put_types};
 use lp_code::Instr;
 use lp_term::{Bank, Spine, TermId, TermNode, TypeId, spine_of};
 use std::alloc::Global;
 
-/// A record in the making: its code, its variables, the types of the indices that are bound in the term at work, the outermost first, and what the records
-/// start with that are assumed so far.
+/// A record in the making: its code, its variables, the types of the indices that are bound in the term at work, the outermost first, the steps of that term,
+/// and what the records start with that are assumed so far.
 #[derive(Drop)]
 pub(crate) struct Writer<'a> {
     pub alloc: Global,
@@ -26,85 +25,17 @@ pub(crate) struct Writer<'a> {
     pub emitter: Emitter,
     pub environment: Environment<'a>,
     pub bound: Vec<TypeView>,
+    pub steps: Vec<TermStep<'a>>,
     pub starts: Vec<Starts>,
 }
 
-// What is still to be done for a type, the next one last.
-#[derive(Clone, Copy)]
-enum TypeTask<'b> {
-    Visit(TypeView),
-    /// The parts of a type, read as it is.
-    Parts(&'b [TypeId], Option<TermId>),
-    Constructor(u32, usize),
-    Arrow,
-}
-
-// The same for a term. The arguments of a function wait, the last one first; an `Abstract` names the type of its index.
+// What is still to be done for a term, the next one last. The arguments of a function wait, the last one first; an `Abstract` names the type of its index.
 #[derive(Drop)]
 enum Task {
     Visit(TermId, TypeView),
     Args(Vec<TermId>, Function),
     Apply(usize),
     Abstract(TypeView),
-}
-
-/// The register of a type variable of the clause.
-pub(crate) fn register_of_type(number: u64) -> u16 {
-    number.min(65_535) as u16
-}
-
-// The last registers of so many, taken off.
-fn take(alloc: Global, registers: &mut Vec<u16>, count: usize) -> Result<Vec<u16>, GenRefusal> {
-    let kept = registers.len().saturating_sub(count);
-    let mut taken = Vec::new(alloc);
-    for at in kept..registers.len() {
-        if let Some(register) = registers.get(at).copied() {
-            taken.push(register)?;
-        }
-    }
-    registers.truncate(kept);
-    Ok(taken)
-}
-
-// Looks at a type, whose parts come first.
-fn visit_type<'b>(
-    bank: &'b Bank,
-    of: TypeView,
-    work: &mut Vec<TypeTask<'b>>,
-    made: &mut Vec<u16>,
-) -> Result<(), GenRefusal>
-    ensures { OnOk result (type_work bank.now work.new.items + 1 ≤ type_work bank.now work.old.items + 3 * type_size (read bank.now of)) }
-{
-    match of.top(bank) {
-        Top::Variable(number) => made.push(register_of_type(number))?,
-        Top::Parameter(_) => made.push(0)?,
-        Top::Constructor(kind, parts, constant) => {
-            work.push(TypeTask::Constructor(kind, parts.len()))?;
-            work.push(TypeTask::Parts(parts, constant))?;
-        }
-        Top::Arrow(from, to) => {
-            work.push(TypeTask::Arrow)?;
-            work.push(TypeTask::Visit(to))?;
-            work.push(TypeTask::Visit(from))?;
-        }
-    }
-    Ok(())
-}
-
-// The parts of a type one by one.
-fn visit_parts<'b>(
-    bank: &'b Bank,
-    parts: &'b [TypeId],
-    constant: Option<TermId>,
-    work: &mut Vec<TypeTask<'b>>,
-) -> Result<(), GenRefusal>
-    ensures { OnOk result (type_work bank.now work.new.items ≤ type_work bank.now work.old.items + 3 * types_size (tys (map (λ p. read_at bank.now constant (type_tree bank.now p.0)) parts.now))) }
-{
-    if let Some((first, rest)) = parts.split_first() {
-        work.push(TypeTask::Parts(rest, constant))?;
-        work.push(TypeTask::Visit(TypeView::Of(*first, constant)))?;
-    }
-    Ok(())
 }
 
 // The arguments of a function one by one.
@@ -125,57 +56,14 @@ fn visit_args(
 }
 
 impl<'a> Writer<'a> {
-    fn put_constructor(
-        &mut self,
-        kind: u32,
-        parts: usize,
-        made: &mut Vec<u16>,
-    ) -> Result<(), GenRefusal> {
-        let types = take(self.alloc, made, parts)?;
-        let register = self.emitter.new_type()?;
-        self.emitter.emit(Instr::TyCon(register, kind, types))?;
-        made.push(register)?;
-        Ok(())
-    }
-
-    fn put_arrow(&mut self, made: &mut Vec<u16>) -> Result<(), GenRefusal> {
-        let to = made.pop().unwrap_or(0);
-        let from = made.pop().unwrap_or(0);
-        let register = self.emitter.new_type()?;
-        self.emitter.emit(Instr::TyArr(register, from, to))?;
-        made.push(register)?;
-        Ok(())
-    }
-
     /// The type in a register.
     pub(crate) fn put_type(&mut self, of: TypeView) -> Result<u16, GenRefusal> {
-        let bank = self.tables.bank;
-        let mut work = Vec::new(self.alloc);
-        let mut made = Vec::new(self.alloc);
-        work.push(TypeTask::Visit(of))?;
-        'types: while let Some(task) = work.pop() {
-            match task {
-                TypeTask::Visit(part) => visit_type(bank, part, &mut work, &mut made)?,
-                TypeTask::Parts(parts, constant) => {
-                    visit_parts(bank, parts, constant, &mut work)?
-                },
-                TypeTask::Constructor(kind, parts) => {
-                    self.put_constructor(kind, parts, &mut made)?
-                }
-                TypeTask::Arrow => self.put_arrow(&mut made)?,
-            }
-        }
-        Ok(made.pop().unwrap_or(0))
+        put_type(self.alloc, self.tables.bank, &mut self.emitter, of)
     }
 
     /// Types of the clause in registers.
     pub(crate) fn put_types(&mut self, types: &[TypeId]) -> Result<Vec<u16>, GenRefusal> {
-        let mut registers = Vec::new(self.alloc);
-        for of in types.iter().copied() {
-            let register = self.put_type(TypeView::Of(of, None))?;
-            registers.push(register)?;
-        }
-        Ok(registers)
+        put_types(self.alloc, self.tables.bank, &mut self.emitter, types)
     }
 
     /// Makes a variable of the clause.
@@ -187,28 +75,19 @@ impl<'a> Writer<'a> {
     }
 
     // A variable around the term, which is made if it is not yet.
-    fn variable(&mut self, index: u64) -> Result<u16, GenRefusal> {
+    fn variable(&mut self, index: u64) -> Result<TermStep<'a>, GenRefusal> {
         let Some(level) = self.environment.level(index) else {
-            return Ok(0);
+            return Ok(TermStep::Register(0));
         };
         let Some(variable) = self.environment.at(level) else {
-            return Ok(0);
+            return Ok(TermStep::Register(0));
         };
         if !variable.is_set {
-            self.put_variable(level, variable)?;
+            self.steps
+                .push(TermStep::New(variable.register, variable.of))?;
+            self.environment.set(level);
         }
-        Ok(variable.register)
-    }
-
-    // An index that is bound in the term.
-    fn bound_index(&mut self, index: u64, of: TypeView) -> Result<u16, GenRefusal> {
-        let Ok(number) = u16::try_from(index) else {
-            return Err(GenRefusal::Limit(Limit::Nesting));
-        };
-        let register = self.put_type(of)?;
-        let made = self.emitter.new_register()?;
-        self.emitter.emit(Instr::PutIndex(made, number, register))?;
-        Ok(made)
+        Ok(TermStep::Register(variable.register))
     }
 
     // The type of a bound index, the innermost first.
@@ -218,52 +97,12 @@ impl<'a> Writer<'a> {
         self.bound.get(place as usize).copied()
     }
 
-    fn index(&mut self, index: u64) -> Result<u16, GenRefusal> {
+    fn index(&mut self, index: u64) -> Result<TermStep<'a>, GenRefusal> {
         let depth = self.bound.len() as u64;
         match self.bound_type(index) {
-            Some(of) => self.bound_index(index, of),
+            Some(of) => Ok(TermStep::Index(index, of)),
             None => self.variable(index.saturating_sub(depth)),
         }
-    }
-
-    fn constant(&mut self, number: u32, types: &[TypeId]) -> Result<u16, GenRefusal> {
-        let registers = self.put_types(types)?;
-        let made = self.emitter.new_register()?;
-        self.emitter.emit(Instr::PutConst(made, number, registers))?;
-        Ok(made)
-    }
-
-    fn integer(&mut self, value: i64) -> Result<u16, GenRefusal> {
-        let made = self.emitter.new_register()?;
-        self.emitter.emit(Instr::PutInt(made, value))?;
-        Ok(made)
-    }
-
-    fn text(&mut self, bytes: &[u8]) -> Result<u16, GenRefusal> {
-        let text = Vec::from_slice(self.alloc, bytes)?;
-        let made = self.emitter.new_register()?;
-        self.emitter.emit(Instr::PutStr(made, text))?;
-        Ok(made)
-    }
-
-    fn apply(&mut self, count: usize, made: &mut Vec<u16>) -> Result<(), GenRefusal> {
-        let args = take(self.alloc, made, count)?;
-        let head = made.pop().unwrap_or(0);
-        let register = self.emitter.new_register()?;
-        self.emitter.emit(Instr::PutApp(register, head, args))?;
-        made.push(register)?;
-        Ok(())
-    }
-
-    fn abstraction(&mut self, of: TypeView, made: &mut Vec<u16>) -> Result<(), GenRefusal> {
-        let _bound = self.bound.pop();
-        let body = made.pop().unwrap_or(0);
-        let register = self.put_type(of)?;
-        let abstraction = self.emitter.new_register()?;
-        self.emitter
-            .emit(Instr::PutAbs(abstraction, body, register))?;
-        made.push(abstraction)?;
-        Ok(())
     }
 
     /// What is known of the type of a head.
@@ -290,12 +129,12 @@ impl<'a> Writer<'a> {
     }
 
     // A term without parts.
-    fn leaf(&mut self, node: TermNode<'_>) -> Result<u16, GenRefusal> {
+    fn leaf(&mut self, node: TermNode<'a>) -> Result<TermStep<'a>, GenRefusal> {
         match node {
             TermNode::Index(index) => self.index(index),
-            TermNode::Const(number, types) => self.constant(number, types),
-            TermNode::Int(value) => self.integer(value),
-            TermNode::Text(bytes) => self.text(bytes),
+            TermNode::Const(number, types) => Ok(TermStep::Constant(number, types)),
+            TermNode::Int(value) => Ok(TermStep::Integer(value)),
+            TermNode::Text(bytes) => Ok(TermStep::Text(bytes)),
             _ => self.index(0),
         }
     }
@@ -303,11 +142,10 @@ impl<'a> Writer<'a> {
     // Looks at a term, whose parts come first: of an application its head and its arguments in order.
     fn visit(
         &mut self,
-        bank: &Bank,
+        bank: &'a Bank,
         term: TermId,
         of: TypeView,
         work: &mut Vec<Task>,
-        made: &mut Vec<u16>,
     ) -> Result<(), GenRefusal>
         ensures { OnOk result (term_work bank.now work.new.items + 1 ≤ term_work bank.now work.old.items + 4 * size (tree bank.now term.0)) }
     {
@@ -326,8 +164,27 @@ impl<'a> Writer<'a> {
                 work.push(Task::Visit(head, TypeView::Proposition))?;
             }
             leaf => {
-                let register = self.leaf(leaf)?;
-                made.push(register)?;
+                let step = self.leaf(leaf)?;
+                self.steps.push(step)?;
+            }
+        }
+        Ok(())
+    }
+
+    // The steps of a term of this type.
+    fn list_steps(&mut self, term: TermId, of: TypeView) -> Result<(), GenRefusal> {
+        let bank = self.tables.bank;
+        let mut work = Vec::new(self.alloc);
+        work.push(Task::Visit(term, of))?;
+        'terms: while let Some(task) = work.pop() {
+            match task {
+                Task::Visit(part, expected) => self.visit(bank, part, expected, &mut work)?,
+                Task::Args(args, function) => visit_args(bank, args, function, &mut work)?,
+                Task::Apply(count) => self.steps.push(TermStep::Apply(count))?,
+                Task::Abstract(bound) => {
+                    let _bound = self.bound.pop();
+                    self.steps.push(TermStep::Abstract(bound))?;
+                }
             }
         }
         Ok(())
@@ -335,21 +192,14 @@ impl<'a> Writer<'a> {
 
     /// The term of this type in a register.
     pub(crate) fn put_term(&mut self, term: TermId, of: TypeView) -> Result<u16, GenRefusal> {
-        let bank = self.tables.bank;
-        let mut work = Vec::new(self.alloc);
-        let mut made = Vec::new(self.alloc);
-        work.push(Task::Visit(term, of))?;
-        'terms: while let Some(task) = work.pop() {
-            match task {
-                Task::Visit(part, expected) => {
-                    self.visit(bank, part, expected, &mut work, &mut made)?
-                }
-                Task::Args(args, function) => visit_args(bank, args, function, &mut work)?,
-                Task::Apply(count) => self.apply(count, &mut made)?,
-                Task::Abstract(bound) => self.abstraction(bound, &mut made)?,
-            }
-        }
-        Ok(made.pop().unwrap_or(0))
+        self.steps.clear();
+        self.list_steps(term, of)?;
+        put_steps(
+            self.alloc,
+            self.tables.bank,
+            &mut self.emitter,
+            self.steps.as_slice(),
+        )
     }
 
     /// The arguments of a head in registers.

@@ -1,21 +1,41 @@
 -- The status with which certificates are judged, and refusals that are none of sources.
-use Rattle.std.proofs.Common.{◌≡◌, ◌≢◌, ℕ, List, Option, refl, sym, ap, ◌∙◌, inl, inr, true}
+use Rattle.std.proofs.Common.{◌≡◌, ◌≢◌, ℕ, List, length, map, Option, refl, sym, subst, ap, ◌∙◌, inl, inr, true}
 use Rattle.std.specs.Global.{Global}
-use Rattle.std.specs.Prelude.{Vec, Result, Ok, Err, IfErr}
+use Rattle.std.specs.Prelude.{Vec, All, Result, Ok, Err, IfOk, IfErr}
+use Rattle.std.proofs.lemmas.List.{length-map}
 use Rattle.lp_base.specs.Held.{Held}
 use Rattle.lp_base.specs.declared.limit.Limit.{Limit}
 use Rattle.lp_base.specs.declared.status.Status.{Status}
 use Rattle.lp_base.specs.declared.status.Status.TheVariants as variant
+use Rattle.lp_base.specs.Written.{Appends}
+use Rattle.lp_term.specs.Nodes.{Nodes, Extends}
+use Rattle.lp_model.specs.declared.certificate.Certificate as code
+use Rattle.lp_model.specs.declared.program.Program.{Program}
+use Rattle.lp_model.specs.declared.program.Typed.{Typed}
+use Rattle.lp_cert.specs.Arities.{Counts}
+use Rattle.lp_cert.specs.Certified.{certificate_of, ground_of, query_of}
+use Rattle.lp_cert.specs.Inside.{IsQueryInside}
+use Rattle.lp_cert.specs.Spellable.{AreCertificates}
+use Rattle.lp_cert.specs.Spelling.{spelled_certificates}
+use Rattle.lp_cert.specs.Standing.{IsCertificateInside}
+use Rattle.lp_build.specs.Told.{IsTold}
 use Rattle.lp_cert.specs.declared.judging.CheckVerdict.{CheckVerdict}
 use Rattle.lp_cert.specs.declared.judging.CheckVerdict.TheVariants.{Accepted, Rejected, Deep}
 use Rattle.lp_lines.specs.Lines.{is_of_search}
 use Rattle.lp_lines.specs.Looked.{Found}
 use Rattle.lp_lines.specs.Placed.{IfSource}
-use Rattle.lp_lines.specs.Refusals.{status_of}
+use Rattle.lp_lines.specs.Refusals.{IsRefusal, IsSourceRefusal, line_of, status_of}
 use Rattle.lp_lines.specs.declared.refusal.Refusal.{Refusal}
 use Rattle.lp_lines.specs.declared.refusal.Refusal.TheVariants.{Line, Memory}
-use Rattle.lp_lines.proofs.Statuses.{said_of_search}
-use Rattle.lp_judge.specs.Checked.{IsChecked, checked_status}
+use Rattle.lp_lines.proofs.Refusing.{never_done}
+use Rattle.lp_lines.proofs.Statuses.{not_otherwise, said_of_search}
+use Rattle.lp_judge.specs.Asked.{IsQueryOf}
+use Rattle.lp_judge.specs.Checked.{Checks, IsCheckOf, IsChecked, IsJudgedOn, IsVerdictOn, WritesCheck, checked_status}
+use Rattle.lp_judge.specs.Proved.{cert_file}
+use Rattle.lp_judge.specs.declared.checking.Checked.{Checked}
+use Rattle.lp_judge.proofs.Insides.{certificates_stay}
+use Rattle.lp_judge.proofs.Questions.{query_inside, query_stays}
+use Rattle.lp_judge.proofs.Telling.{never_no}
 
 checked_is_of_search : (v : CheckVerdict) → is_of_search (checked_status v) ≡ true
 unfolding is_of_search
@@ -46,3 +66,73 @@ source_no_fault result e f = cc
 pub told_nowhere : {X : Type 0} (r : Refusal) (result : Status) → IfSource (λ line. ⊥) r → (result ≢ variant.WriteFault → (result ≡ status_of r) × X) → result ≢ variant.Source
 told_nowhere (Line said line) result h kept e = h (sym (kept (source_no_fault result e)).0 ∙ e)
 told_nowhere Memory result h kept e = let k = (kept (source_no_fault result e)).0 in cc
+
+-- no refusal has the status of a verdict
+source_not_deep : (said : Status) (line : Vec ℕ Global) → IsSourceRefusal (Line said line) → said ≢ variant.Deep
+source_not_deep said line h e = elim h [ inl a ↦ cc | inr x ↦ elim x [ inl a ↦ cc | inr y ↦ elim y [ inl a ↦ cc | inr z ↦ let b = z.0 in cc ] ] ]
+
+never_deep : (r : Refusal) → IsRefusal r → status_of r ≢ variant.Deep
+never_deep (Line said line) h = λ e. elim h [ inl a ↦ cc | inr x ↦ source_not_deep said line x e ]
+never_deep Memory h = λ e. cc
+
+module _ (told : Option Held) (name text : List ℕ) (a b : Option (List ℕ)) (result : Status) where
+  pub checks_refused : (r : Refusal) → IsRefusal r → (result ≢ variant.WriteFault → (result ≡ status_of r) × Appends a b (line_of r)) → Checks told name text a b result
+  checks_refused r h kept = record {
+    accepted = λ e. absurd (other variant.Done (λ f. cc) (never_done r h) e);
+    rejected = λ e. absurd (other variant.No (λ f. cc) (never_no r h) e);
+    deep = λ e. absurd (other variant.Deep (λ f. cc) (never_deep r h) e);
+  }
+    where
+      other : (wanted : Status) → wanted ≢ variant.WriteFault → status_of r ≢ wanted → result ≡ wanted → ⊥
+      other wanted n m e = not_otherwise result (status_of r) wanted (λ f. (kept f).0) n m e
+
+  -- a verdict that was told
+  pub checks_told : (line : List ℕ) (said : Status) → IsCheckOf told name text line said → (result ≢ variant.WriteFault → (result ≡ said) × Appends a b line) → Checks told name text a b result
+  checks_told line said h kept = record { accepted = λ e. written (λ f. cc); rejected = λ e. written (λ f. cc); deep = λ e. written (λ f. cc) }
+    where
+      written : result ≢ variant.WriteFault → WritesCheck told name text a b result
+      written n = (line, subst (IsCheckOf told name text line) (sym (kept n).0) h, (kept n).1)
+
+-- the bytes that stand under a name
+pub found_there : (file : List ℕ) (most : ℕ) (l : Limit) (told : Option Held) (r : Result (Vec ℕ Global) Refusal) → Found file most l told r → IfOk r (λ bytes. IsTold told file bytes.items)
+found_there file most l told (Ok bytes) h = h.1
+found_there file most l told (Err e) h = tt
+
+pub check_of : (told : Option Held) (name text file bytes line : List ℕ) (said : Status) → file ≡ cert_file name → IsTold told file bytes
+    → ((count : ℕ) × (verdict : CheckVerdict) × IsJudgedOn bytes text count verdict × IsChecked count verdict line said) → IsCheckOf told name text line said
+check_of told name text file bytes line said e there h = record {
+  bytes = bytes;
+  there = subst (λ f. IsTold told f bytes) e there;
+  count = h.0;
+  verdict = h.1;
+  judged = h.2;
+  checked = h.3;
+}
+
+-- what was judged of bytes that were read in one bank, in a later one
+pub judged_on : (bytes text : List ℕ) (before : Nodes) (between : Nodes) (after : Program) (q : Typed) (d : Counts) (cs : List code.Certificate) (count : ℕ) (verdict : CheckVerdict)
+    → IsQueryOf text before q → Extends before between → Extends between after.bank → All (IsCertificateInside between) cs
+    → AreCertificates d (map (certificate_of between) cs) → bytes ≡ spelled_certificates (map (certificate_of between) cs) → count ≡ length cs
+    → (IsQueryInside between q → All (IsCertificateInside between) cs → IsVerdictOn (ground_of after) (query_of after.bank q) (map (certificate_of after.bank) cs) verdict)
+    → IsJudgedOn bytes text count verdict
+judged_on bytes text before between after q d cs count verdict asked e f inside known spelled counted right =
+    let later = query_stays text before between q e asked in
+    let same = certificates_stay between after.bank f cs inside in
+    record {
+      program = after;
+      query = q;
+      asked = query_stays text between after.bank q f later;
+      arities = d;
+      certificates = map (certificate_of after.bank) cs;
+      known = subst (AreCertificates d) (sym same) known;
+      spelled = subst (λ z. bytes ≡ spelled_certificates z) (sym same) spelled;
+      counted = counted ∙ sym (length-map cs (certificate_of after.bank));
+      right = right (query_inside text between q later) inside;
+    }
+
+-- the same of what a call gave
+pub checks_of : (told : Option Held) (name text file slice bytes : List ℕ) (r : Result Checked Refusal) → file ≡ cert_file name → slice ≡ bytes → IsTold told file bytes
+    → IfOk r (λ x. (count : ℕ) × (verdict : CheckVerdict) × IsJudgedOn slice text count verdict × IsChecked count verdict x.line.items x.status)
+    → IfOk r (λ x. IsCheckOf told name text x.line.items x.status)
+checks_of told name text file slice bytes (Ok x) e s there h = check_of told name text file slice x.line.items x.status e (subst (IsTold told file) (sym s) there) h
+checks_of told name text file slice bytes (Err r) e s there h = tt

@@ -1,3 +1,5 @@
 mod Telling
+mod Questions
+mod Insides
 mod Checkings
 mod Provings

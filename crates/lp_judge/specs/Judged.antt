@@ -5,10 +5,13 @@ use Rattle.lp_base.specs.Written.{Appends}
 use Rattle.lp_base.specs.declared.status.Status.{Status}
 use Rattle.lp_base.specs.declared.status.Status.TheVariants as status
 use Rattle.lp_calculus.specs.Term.{Term}
+use Rattle.lp_term.specs.Nodes.{Nodes, tree}
+use Rattle.lp_model.specs.declared.program.Typed.{Typed}
 use Rattle.lp_module.specs.declared.module.Module.{Module}
 use Rattle.lp_lambda.specs.First.{formulas_of, IsVerdict}
 use Rattle.lp_lambda.specs.declared.first.Verdict.{Verdict}
 use Rattle.lp_lambda.specs.declared.first.Verdict.TheVariants.{Yes, Clause, Query}
+use Rattle.lp_judge.specs.Asked.{IsQueryOf}
 
 abbrev pub names_of : List Module → List (List ℕ)
 names_of ms = map (λ m. m.name.items) ms
@@ -24,20 +27,26 @@ verdict_status Yes = status.Done
 verdict_status (Clause m n) = status.No
 verdict_status Query = status.No
 
--- the line and the status are those of the verdict on some modules and a query
-pub record IsJudgement (line : List ℕ) (said : Status) : Type 0 where
-  pub modules : List Module
-  pub query : Term
+-- the line and the status are those of the verdict on modules and a query
+pub record IsVerdictLine (modules : List Module) (query : Term) (line : List ℕ) (said : Status) : Type 0 where
   pub verdict : Verdict
   pub right : IsVerdict (map formulas_of modules) query verdict
   pub says : line ≡ verdict_line (names_of modules) verdict
   pub ends : said ≡ verdict_status verdict
 
+-- they are those of the verdict on some modules and the query of this text
+pub record IsJudgement (text line : List ℕ) (said : Status) : Type 0 where
+  pub modules : List Module
+  pub bank : Nodes
+  pub query : Typed
+  pub asked : IsQueryOf text bank query
+  pub told : IsVerdictLine modules (tree bank query.formula.0) line said
+
 -- such a line is all that is written
-abbrev pub WritesJudgement : (old new : Option (List ℕ)) → Status → Type 0
-WritesJudgement old new said = (line : List ℕ) × IsJudgement line said × Appends old new line
+abbrev pub WritesJudgement : (text : List ℕ) (old new : Option (List ℕ)) → Status → Type 0
+WritesJudgement text old new said = (line : List ℕ) × IsJudgement text line said × Appends old new line
 
 -- so ends a run that is not refused, where memory lasts and the output does not fail: all done, or not so
-pub record Judges (old new : Option (List ℕ)) (said : Status) : Type 0 where
-  pub yes : said ≡ status.Done → WritesJudgement old new said
-  pub no : said ≡ status.No → WritesJudgement old new said
+pub record Judges (text : List ℕ) (old new : Option (List ℕ)) (said : Status) : Type 0 where
+  pub yes : said ≡ status.Done → WritesJudgement text old new said
+  pub no : said ≡ status.No → WritesJudgement text old new said

@@ -1,5 +1,5 @@
 // Whether certificates of a query's answers are proofs.
-ghost use Rattle.std.specs.Prelude.{◌≡◌, ◌≢◌, ◌++◌, ℕ, IfOk, IfErr, OnOk, codes, true};
+ghost use Rattle.std.specs.Prelude.{◌≡◌, ◌≢◌, ◌++◌, ℕ, List, map, All, IfOk, IfErr, OnOk, codes, true};
 ghost use Rattle.std.specs.Fmt.{decimal};
 ghost use Rattle.lp_base.specs.Counts.{Counts};
 ghost use Rattle.lp_lines.specs.Ends.{Grows, KeepsFiles, Ran};
@@ -8,13 +8,26 @@ ghost use Rattle.lp_lines.specs.Looked.{Found, Looked, refusal_of};
 ghost use Rattle.lp_lines.specs.Placed.{IfSource};
 ghost use Rattle.lp_lines.specs.Refusals.{IsJudged};
 ghost use Rattle.lp_load.specs.Placed.{IsPlaced, WritesPlaced};
-ghost use Rattle.lp_judge.specs.Checked.{IsChecked};
+ghost use Rattle.lp_base.specs.Written.{Appends};
+ghost use Rattle.lp_term.specs.Nodes.{Extends};
+ghost use Rattle.lp_cert.specs.Arities.{counts_in};
+ghost use Rattle.lp_cert.specs.Certified.{certificate_of, ground_of, query_of};
+ghost use Rattle.lp_cert.specs.Inside.{IsQueryInside};
+ghost use Rattle.lp_cert.specs.Spellable.{AreCertificates};
+ghost use Rattle.lp_cert.specs.Spelling.{spelled_certificates};
+ghost use Rattle.lp_cert.specs.Standing.{IsCertificateInside};
+ghost use Rattle.lp_build.specs.Told.{IsTold};
+ghost use Rattle.lp_judge.specs.Asked.{IsQueryOf};
+ghost use Rattle.lp_judge.specs.Checked.{Checks, IsCheckOf, IsChecked, IsJudgedOn, IsVerdictOn};
 
 use crate::asking::{Asked, prepare_asked};
+use crate::standing::standing;
 use itoa::Buffer;
 use lp_base::{Folder, Limit, MAX_IMAGE_BYTES, Memory, Sink, Status};
 use lp_cert::{CertFault, CheckVerdict, check, read_cert};
 use lp_lines::{Refusal, file_name, limited, read_file, refuse, said_of, said_with, tell};
+use lp_model::{Certificate, Typed};
+use lp_module::Assembled;
 use lp_term::Bank;
 use std::alloc::Global;
 use std::mem::replace;
@@ -95,20 +108,45 @@ fn said_of_verdict(alloc: Global, count: u64, verdict: CheckVerdict) -> Result<C
     }
 }
 
+// The certificates that the bytes spell, in the program's bank.
+fn read(alloc: Global, bytes: &[u8], names: &mut Assembled) -> Result<Vec<Certificate>, CertFault>
+    ensures kept { Extends names.old.program.bank names.new.program.bank }
+    ensures inside { IfOk result (λ cs. All (IsCertificateInside names.new.program.bank) cs.items) }
+    ensures found { IfOk result (λ cs. AreCertificates (counts_in names.old) (map (certificate_of names.new.program.bank) cs.items) × (bytes.now ≡ spelled_certificates (map (certificate_of names.new.program.bank) cs.items))) }
+{
+    let mut bank = replace(&mut names.program.bank, Bank::new(alloc));
+    let found = read_cert(alloc, bytes, names, &mut bank);
+    names.program.bank = bank;
+    found
+}
+
+// The verdict on certificates that stand in the program's bank.
+fn verdict_on(
+    alloc: Global,
+    names: &mut Assembled,
+    query: &Typed,
+    certificates: &[Certificate],
+) -> Result<CheckVerdict, Memory>
+    ensures kept { Extends names.old.program.bank names.new.program.bank }
+    ensures right { IsQueryInside names.old.program.bank query.now → All (IsCertificateInside names.old.program.bank) certificates.now → IfOk result (IsVerdictOn (ground_of names.new.program) (query_of names.new.program.bank query.now) (map (certificate_of names.new.program.bank) certificates.now)) }
+{
+    standing(&names.program)?;
+    check(alloc, names, query, certificates)
+}
+
 // Judges the certificates that the bytes of the file spell.
 fn judged(alloc: Global, file: &str, bytes: &[u8], asked: Asked) -> Result<Checked, Refusal>
     ensures judged { IfErr result IsJudged }
     ensures nowhere { IfErr result (IfSource (λ line. ⊥)) }
     ensures checked { IfOk result (λ told. (count : ℕ) × (verdict : CheckVerdict) × IsChecked count verdict told.line.items told.status) }
+    ensures right { (text : List ℕ) → IsQueryOf text asked.names.program.bank asked.query → IfOk result (λ told. (count : ℕ) × (verdict : CheckVerdict) × IsJudgedOn bytes.now text count verdict × IsChecked count verdict told.line.items told.status) }
 {
     let Asked { mut names, query } = asked;
-    let mut bank = replace(&mut names.program.bank, Bank::new(alloc));
-    let certificates = match read_cert(alloc, bytes, &names, &mut bank) {
+    let certificates = match read(alloc, bytes, &mut names) {
         Ok(certificates) => certificates,
         Err(fault) => return Err(misread(alloc, file.as_bytes(), fault)),
     };
-    names.program.bank = bank;
-    let verdict = match check(alloc, &mut names, &query, certificates.as_slice()) {
+    let verdict = match verdict_on(alloc, &mut names, &query, certificates.as_slice()) {
         Ok(verdict) => verdict,
         Err(Memory) => return Err(Refusal::Memory),
     };
@@ -122,6 +160,7 @@ fn judged(alloc: Global, file: &str, bytes: &[u8], asked: Asked) -> Result<Check
 fn bytes_of<F: Folder>(alloc: Global, file: &str, folder: &mut F) -> Result<Vec<u8>, Refusal>
     ensures looked { Looked F.read_faults F.misses F.overs F.write_faults F.held folder.old folder.new (refusal_of result) }
     ensures nowhere { IfErr result (IfSource (λ line. ⊥)) }
+    ensures there { IfOk result (λ bytes. IsTold (F.held folder.old) file.now bytes.items) }
 {
     read_file(alloc, folder, file, MAX_IMAGE_BYTES, Limit::Image)
 }
@@ -136,6 +175,7 @@ fn read_and_judged<F: Folder>(
     ensures looked { Looked F.read_faults F.misses F.overs F.write_faults F.held folder.old folder.new (refusal_of result) }
     ensures nowhere { IfErr result (IfSource (λ line. ⊥)) }
     ensures checked { IfOk result (λ told. (count : ℕ) × (verdict : CheckVerdict) × IsChecked count verdict told.line.items told.status) }
+    ensures right { (text : List ℕ) → IsQueryOf text asked.names.program.bank asked.query → IfOk result (λ told. IsCheckOf (F.held folder.old) name.now text told.line.items told.status) }
 {
     let file = match file_name(alloc, name, ".cert") {
         Ok(file) => file,
@@ -153,6 +193,7 @@ fn say_checked<K: Sink>(out: &mut K, told: Checked) -> Status
     ensures grows { Grows (K.written out.old) (K.written out.new) }
     ensures of_search { result ≢ Status.WriteFault → is_of_search result ≡ true }
     ensures write_faults { Counts (result ≡ Status.WriteFault) (K.faults out.old) (K.faults out.new) }
+    ensures said { result ≢ Status.WriteFault → (result ≡ told.status) × Appends (K.written out.old) (K.written out.new) told.line.items }
 {
     refuse(out, told.line, told.status)
 }
@@ -168,6 +209,7 @@ fn check_asked<F: Folder, K: Sink>(
     ensures ran { Ran F.read_faults F.misses F.overs K.written folder.old folder.new out.old out.new result }
     ensures keeps { KeepsFiles F.write_faults F.held K.faults folder.old folder.new out.old out.new result }
     ensures nowhere { result ≢ Status.Source }
+    ensures checks { (text : List ℕ) → IsQueryOf text asked.names.program.bank asked.query → Checks (F.held folder.old) name.now text (K.written out.old) (K.written out.new) result }
 {
     match read_and_judged(alloc, name, asked, folder) {
         Ok(told) => say_checked(out, told),
@@ -187,6 +229,7 @@ pub fn check_certificates<F: Folder, K: Sink>(
     ensures ran { Ran F.read_faults F.misses F.overs K.written folder.old folder.new out.old out.new result }
     ensures keeps { KeepsFiles F.write_faults F.held K.faults folder.old folder.new out.old out.new result }
     ensures placed { result ≡ Status.Source → WritesPlaced (F.held folder.old) query.now (K.written out.old) (K.written out.new) }
+    ensures checks { Checks (F.held folder.old) name.now query.now (K.written out.old) (K.written out.new) result }
 {
     match prepare_asked(alloc, name, query, folder) {
         Ok(asked) => check_asked(alloc, name, asked, folder, out),

@@ -1,18 +1,22 @@
 // Whether a program and a query are pattern text.
-ghost use Rattle.std.specs.Prelude.{◌≡◌, ◌≢◌, ◌<◌, ◌++◌, IfOk, OnOk, length, get_or, codes, [], true};
+ghost use Rattle.std.specs.Prelude.{◌≡◌, ◌≢◌, ◌<◌, ◌++◌, ℕ, List, IfOk, OnOk, length, get_or, codes, [], true};
 ghost use Rattle.std.specs.Fmt.{decimal};
 ghost use Rattle.lp_base.specs.Counts.{Counts};
 ghost use Rattle.lp_lines.specs.Ends.{Grows, KeepsFiles, Ran};
 ghost use Rattle.lp_lines.specs.Lines.{is_of_search};
 ghost use Rattle.lp_load.specs.Placed.{WritesPlaced};
-ghost use Rattle.lp_judge.specs.Judged.{names_of, IsJudgement, Judges};
+ghost use Rattle.lp_term.specs.Nodes.{tree};
+ghost use Rattle.lp_judge.specs.Asked.{IsQueryOf};
+ghost use Rattle.lp_judge.specs.Judged.{names_of, IsVerdictLine, Judges};
 
 use crate::texts::{Texts, prepare};
 use itoa::Buffer;
 use lp_base::{Folder, Memory, Sink, Status};
 use lp_lambda::{Verdict, survey};
 use lp_lines::{refuse, say_memory, tell};
+use lp_model::Typed;
 use lp_module::Module;
+use lp_term::Bank;
 use std::alloc::Global;
 
 /// The line of a verdict, with the status of its run.
@@ -48,16 +52,16 @@ fn clause_line(
     Ok(line)
 }
 
-// The verdict on texts, as it is told.
-fn verdict_on(alloc: Global, texts: Texts) -> Result<Judgement, Memory>
-    ensures { IfOk result (λ told. IsJudgement told.line.items told.status) }
+// The verdict on modules and a query, as it is told.
+fn said_on(
+    alloc: Global,
+    modules: &mut [Module],
+    bank: &mut Bank,
+    query: &Typed,
+) -> Result<Judgement, Memory>
+    ensures { IfOk result (λ told. IsVerdictLine modules.old (tree bank.old query.now.formula.0) told.line.items told.status) }
 {
-    let Texts {
-        mut modules,
-        mut bank,
-        query,
-    } = texts;
-    match survey(alloc, modules.as_mut_slice(), &mut bank, &query)? {
+    match survey(alloc, modules, bank, query)? {
         Verdict::Yes => {
             let line = b"yes\n".to_vec(alloc)?;
             Ok(Judgement {
@@ -66,7 +70,7 @@ fn verdict_on(alloc: Global, texts: Texts) -> Result<Judgement, Memory>
             })
         }
         Verdict::Clause(place, number) => {
-            let line = clause_line(alloc, modules.as_slice(), place, number)?;
+            let line = clause_line(alloc, modules, place, number)?;
             Ok(Judgement {
                 line,
                 status: Status::No,
@@ -82,12 +86,24 @@ fn verdict_on(alloc: Global, texts: Texts) -> Result<Judgement, Memory>
     }
 }
 
+// The verdict on texts, as it is told.
+fn verdict_on(alloc: Global, texts: Texts) -> Result<Judgement, Memory>
+    ensures { IfOk result (λ told. IsVerdictLine texts.modules.items (tree texts.bank texts.query.formula.0) told.line.items told.status) }
+{
+    let Texts {
+        mut modules,
+        mut bank,
+        query,
+    } = texts;
+    said_on(alloc, modules.as_mut_slice(), &mut bank, &query)
+}
+
 // Writes the verdict on texts.
 fn judge<K: Sink>(alloc: Global, texts: Texts, out: &mut K) -> Status
     ensures grows { Grows (K.written out.old) (K.written out.new) }
     ensures of_search { result ≢ Status.WriteFault → is_of_search result ≡ true }
     ensures write_faults { Counts (result ≡ Status.WriteFault) (K.faults out.old) (K.faults out.new) }
-    ensures judges { Judges (K.written out.old) (K.written out.new) result }
+    ensures judges { (text : List ℕ) → IsQueryOf text texts.bank texts.query → Judges text (K.written out.old) (K.written out.new) result }
 {
     match verdict_on(alloc, texts) {
         Ok(told) => refuse(out, told.line, told.status),
@@ -107,7 +123,7 @@ pub fn lambda<F: Folder, K: Sink>(
     ensures ran { Ran F.read_faults F.misses F.overs K.written folder.old folder.new out.old out.new result }
     ensures keeps { KeepsFiles F.write_faults F.held K.faults folder.old folder.new out.old out.new result }
     ensures placed { result ≡ Status.Source → WritesPlaced (F.held folder.old) query.now (K.written out.old) (K.written out.new) }
-    ensures judges { Judges (K.written out.old) (K.written out.new) result }
+    ensures judges { Judges query.now (K.written out.old) (K.written out.new) result }
 {
     match prepare(alloc, name, query, folder) {
         Ok(texts) => judge(alloc, texts, out),

@@ -1,11 +1,12 @@
 // The texts that are judged: the modules of a program, and a query on it.
-ghost use Rattle.std.specs.Prelude.{◌≡◌, Option, IfErr};
+ghost use Rattle.std.specs.Prelude.{◌≡◌, Option, IfOk, IfErr};
 ghost use Rattle.lp_base.specs.Held.{Held};
 ghost use Rattle.lp_build.specs.Told.{AreLoaded};
 ghost use Rattle.lp_lines.specs.Looked.{Looked, refusal_of};
 ghost use Rattle.lp_lines.specs.Placed.{IfSource};
 ghost use Rattle.lp_lines.specs.Refusals.{IsTextRefusal};
 ghost use Rattle.lp_load.specs.Placed.{IsOfFile, IsPlaced};
+ghost use Rattle.lp_judge.specs.Asked.{IsQueryOf};
 
 use lp_base::Folder;
 use lp_build::{Sources, gather_with, modules};
@@ -39,6 +40,7 @@ fn modules_of(alloc: Global, sources: &Sources) -> Result<Vec<Module>, Refusal>
 fn texts_of(alloc: Global, sources: &Sources, query: &str) -> Result<Texts, Refusal>
     ensures refused { IfErr result IsTextRefusal }
     ensures placed { (told : Option Held) → AreLoaded told sources.now → IfErr result (IfSource (IsPlaced told query.now)) }
+    ensures asked { IfOk result (λ texts. IsQueryOf query.now texts.bank texts.query) }
 {
     let mut built = match build(alloc, sources) {
         Ok(built) => built,
@@ -70,6 +72,7 @@ pub(crate) fn prepare<F: Folder>(
 ) -> Result<Texts, Refusal>
     ensures looked { Looked F.read_faults F.misses F.overs F.write_faults F.held folder.old folder.new (refusal_of result) }
     ensures placed { IfErr result (IfSource (IsPlaced (F.held folder.old) query.now)) }
+    ensures asked { IfOk result (λ texts. IsQueryOf query.now texts.bank texts.query) }
 {
     let known = Vec::new(alloc);
     match gather_with(alloc, folder, name, true, known) {

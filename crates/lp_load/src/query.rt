@@ -1,9 +1,14 @@
 // A query, from its text to its typed formula.
-ghost use Rattle.std.specs.Prelude.{◌≡◌, ◌≢◌, ◌⊎◌, ℕ, List, IfErr, codes};
+ghost use Rattle.std.specs.Prelude.{◌≡◌, ◌≢◌, ◌≤◌, ◌⊎◌, ℕ, List, IfOk, IfErr, OnOk, codes};
+ghost use Rattle.lp_base.specs.declared.limits.TheConstants.{MAX_ARGUMENTS};
+ghost use Rattle.lp_term.specs.Nodes.{Extends, tree};
+ghost use Rattle.lp_module.specs.Arguments.{HasManyArguments};
+ghost use Rattle.lp_module.specs.Refusals.{IsShort};
+ghost use Rattle.lp_load.specs.Asked.{IsAsked, IsRead};
 ghost use Rattle.lp_lines.specs.Placed.{IsCauseOf, IsOfText, IfSource};
 ghost use Rattle.lp_lines.specs.Refusals.{IsTextRefusal};
 
-use lp_base::{Limit, Memory};
+use lp_base::{Limit, Memory, Spot};
 use lp_build::Built;
 use lp_infer::type_query;
 use lp_lexer::tokens;
@@ -17,7 +22,8 @@ use std::alloc::Global;
 
 // The query as it is written.
 fn read(alloc: Global, text: &[u8], built: &Built) -> Result<RawQuery, Cause>
-    ensures { IfErr result (IsCauseOf text.now) }
+    ensures refused { IfErr result (IsCauseOf text.now) }
+    ensures read { IfOk result (IsRead built.now.table text.now) }
 {
     let tokens = match tokens(alloc, text) {
         Ok(tokens) => tokens,
@@ -30,7 +36,8 @@ fn read(alloc: Global, text: &[u8], built: &Built) -> Result<RawQuery, Cause>
 }
 
 fn within_arguments(alloc: Global, raw: &RawQuery) -> Result<(), Cause>
-    ensures { (text : List ℕ) → IfErr result (IsCauseOf text) }
+    ensures refused { (text : List ℕ) → IfErr result (IsCauseOf text) }
+    ensures few { OnOk result (HasManyArguments raw.now.term → ⊥) }
 {
     match has_many_arguments(alloc, &raw.term) {
         Ok(false) => Ok(()),
@@ -39,8 +46,21 @@ fn within_arguments(alloc: Global, raw: &RawQuery) -> Result<(), Cause>
     }
 }
 
+fn within_form(alloc: Global, bank: &mut Bank, typed: &Typed, first: Spot) -> Result<(), Cause>
+    ensures refused { (text : List ℕ) → IfErr result (IsCauseOf text) }
+    ensures kept { Extends bank.old bank.new }
+    ensures short { OnOk result (IsShort (tree bank.old typed.now.formula.0)) }
+    ensures variables { OnOk result (typed.now.type_vars ≤ MAX_ARGUMENTS) }
+{
+    match query_form(alloc, bank, typed, first) {
+        Ok(()) => Ok(()),
+        Err(fault) => Err(of_module(fault)),
+    }
+}
+
 fn within_clauses(alloc: Global, bank: &mut Bank, typed: &Typed) -> Result<(), Cause>
-    ensures { (text : List ℕ) → IfErr result (IsCauseOf text) }
+    ensures refused { (text : List ℕ) → IfErr result (IsCauseOf text) }
+    ensures kept { Extends bank.old bank.new }
 {
     match query_body(alloc, bank, typed) {
         Ok(_) => Ok(()),
@@ -51,7 +71,13 @@ fn within_clauses(alloc: Global, bank: &mut Bank, typed: &Typed) -> Result<(), C
 
 // The typed query, in the program's bank.
 fn type_of(alloc: Global, text: &[u8], built: &mut Built) -> Result<Typed, Cause>
-    ensures { IfErr result (IsCauseOf text.now) }
+    ensures refused { IfErr result (IsCauseOf text.now) }
+    ensures asked { IfOk result (IsAsked built.old.table built.old.signature text.now built.new.assembled.program.bank) }
+    ensures kept { Extends built.old.assembled.program.bank built.new.assembled.program.bank }
+    ensures table { built.new.table ≡ built.old.table }
+    ensures signature { built.new.signature ≡ built.old.signature }
+    ensures constants { built.new.assembled.program.constants ≡ built.old.assembled.program.constants }
+    ensures clauses { built.new.assembled.program.clauses ≡ built.old.assembled.program.clauses }
 {
     let raw = read(alloc, text, built)?;
     within_arguments(alloc, &raw)?;
@@ -60,18 +86,23 @@ fn type_of(alloc: Global, text: &[u8], built: &mut Built) -> Result<Typed, Cause
         Ok(typed) => typed,
         Err(fault) => return Err(of_typing(fault)),
     };
-    if let Err(fault) = query_form(alloc, bank, &typed, raw.term.first) {
-        return Err(of_module(fault));
-    }
+    within_form(alloc, bank, &typed, raw.term.first)?;
     within_clauses(alloc, bank, &typed)?;
     Ok(typed)
 }
 
-/// The typed query of a text on a program. Its terms stand in the program's bank. The refusal is the first one of the text, in the order of tokens,
+/// The typed query of a text on a program: the principal typing of what the text is read as. Its terms stand in the program's bank, behind those that
+/// stood there; nothing else of the program changes. The refusal is the first one of the text, in the order of tokens,
 /// syntax, limits, typing and form, as the line that tells of it.
 pub fn ask(alloc: Global, text: &[u8], built: &mut Built) -> Result<Typed, Refusal>
     ensures refused { IfErr result IsTextRefusal }
     ensures placed { IfErr result (IfSource (IsOfText (codes "query") text.now)) }
+    ensures asked { IfOk result (IsAsked built.old.table built.old.signature text.now built.new.assembled.program.bank) }
+    ensures kept { Extends built.old.assembled.program.bank built.new.assembled.program.bank }
+    ensures table { built.new.table ≡ built.old.table }
+    ensures signature { built.new.signature ≡ built.old.signature }
+    ensures constants { built.new.assembled.program.constants ≡ built.old.assembled.program.constants }
+    ensures clauses { built.new.assembled.program.clauses ≡ built.old.assembled.program.clauses }
 {
     match type_of(alloc, text, built) {
         Ok(typed) => Ok(typed),

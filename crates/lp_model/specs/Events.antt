@@ -1,7 +1,7 @@
 -- A run, event by event: what a search tells next, and how events in a row make up a run.
 use Rattle.std.specs.Prelude.{◌≡◌, ℕ, zero, suc, ◌≤◌, List, [], ◌++◌, Option, Some, None}
 use Rattle.lp_model.specs.declared.ending.Ending.{Ending}
-use Rattle.lp_model.specs.Skeleton.{View, State, Move, Goes, Tells, Stops, Breaks, Waits, Note, move, inner, run}
+use Rattle.lp_model.specs.Skeleton.{View, State, Move, Goes, Tells, Stops, Breaks, Waits, move, inner, run}
 
 -- what a search tells next
 pub data Event (Answer : Type 0) : Type 0 where
@@ -19,18 +19,6 @@ first_after s go (Waits k ns) = None
 abbrev pub first : {Task Answer : Type 0} → (ℕ → Task → View Task Answer) → (j n : ℕ) → State Task → Option (Event Answer × State Task)
 first look j zero s = None
 first look j (suc n) s = first_after s (first look j n) (move (inner look j) look s)
-
-abbrev pub notes_after : {Task Answer : Type 0} → (State Task → List Note) → Move Task Answer → List Note
-notes_after go (Goes k ns t) = ns ++ go t
-notes_after go (Tells a ns t) = ns
-notes_after go (Stops e) = []
-notes_after go (Breaks k ns e) = ns
-notes_after go (Waits k ns) = ns
-
--- the notes up to the next event
-abbrev pub notes_until : {Task Answer : Type 0} → (ℕ → Task → View Task Answer) → (j n : ℕ) → State Task → List Note
-notes_until look j zero s = []
-notes_until look j (suc n) s = notes_after (notes_until look j n) (move (inner look j) look s)
 
 -- the event comes next, and leaves the new state
 pub record Advances {Task Answer : Type 0} (look : ℕ → Task → View Task Answer) (old : State Task) (event : Event Answer) (new : State Task) : Type 0 where

@@ -230,9 +230,6 @@ pub record FocusableBy (L : Leaves) (d : Declared) (E : List Ty) (P : List Claus
 abbrev pub Provable : Declared → (k : ℕ) → (E : List Ty) → (P : List ClauseFormula) → (G : Term) → Type 0
 Provable d k E P G = ProvableBy (IsFailure d k) d E P G
 
-abbrev pub Focusable : Declared → (k : ℕ) → (E : List Ty) → (P : List ClauseFormula) → (D A : Term) → Type 0
-Focusable d k E P D A = FocusableBy (IsFailure d k) d E P D A
-
 -- no search stands as a leaf
 abbrev pub no_leaf : Leaves
 no_leaf E P G f = ⊥

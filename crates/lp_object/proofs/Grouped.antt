@@ -6,7 +6,7 @@ use Rattle.std.specs.BTreeSet.{insert_key}
 use Rattle.lp_code.specs.declared.record.Record.{Record}
 use Rattle.lp_code.specs.Groups.{PlainKey, plain_key, key_cmp, same_key, is_of, with_head}
 use Rattle.lp_code.specs.Groups as code
-use Rattle.lp_object.specs.Numbers.{spelled_four}
+use Rattle.lp_bytes.specs.Numbers.{spelled_four}
 use Rattle.lp_object.specs.Plain.{PlainRecord, plain_record}
 use Rattle.lp_object.specs.Tables.{group_from, group_of, heads_onto, heads_of, keys_onto, keys_of, spelled_group, spelled_groups, spelled_tables}
 

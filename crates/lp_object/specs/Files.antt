@@ -3,7 +3,8 @@ use Rattle.std.specs.Prelude.{ℕ, Bool, if◌then◌else◌, List, [], ◌∷�
 use Rattle.std.specs.List.{flat_map}
 use Rattle.lp_object.specs.declared.width.Width.{Width}
 use Rattle.lp_object.specs.declared.width.Width.TheVariants.{Two, Four}
-use Rattle.lp_object.specs.Numbers.{spelled_two, spelled_number, spelled_text}
+use Rattle.lp_bytes.specs.Numbers.{spelled_two}
+use Rattle.lp_object.specs.Numbers.{spelled_number, spelled_text}
 use Rattle.lp_object.specs.Plain.{PlainObjectKind, PlainObjectConstant, PlainObject, PlainImageKind, PlainImageConstant, PlainImage}
 use Rattle.lp_object.specs.Spelling.{spelled_type, spelled_fixity, spelled_records}
 use Rattle.lp_object.specs.Tables.{spelled_tables}

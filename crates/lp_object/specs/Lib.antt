@@ -3,4 +3,7 @@ pub mod Plain
 pub mod Spelling
 pub mod Tables
 pub mod Files
+pub mod Reading
+pub mod Spellable
+pub mod Refusing
 pub mod inner

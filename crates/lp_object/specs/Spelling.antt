@@ -9,7 +9,8 @@ use Rattle.lp_code.specs.declared.record.RecordHead.TheVariants as head
 use Rattle.lp_code.specs.Groups.{PlainKey, no_key, constant}
 use Rattle.lp_code.specs.Groups as key
 use Rattle.lp_object.specs.declared.width.Width.{Width}
-use Rattle.lp_object.specs.Numbers.{spelled_one, spelled_two, spelled_four, spelled_integer, spelled_number, spelled_text, spelled_few, spelled_many, spelled_numbered}
+use Rattle.lp_bytes.specs.Numbers.{spelled_one, spelled_two, spelled_four, spelled_integer}
+use Rattle.lp_object.specs.Numbers.{spelled_number, spelled_text, spelled_few, spelled_many, spelled_numbered}
 use Rattle.lp_object.specs.Plain.{Operand, argument, register, symbol, integer, bytes, text, few, many, numbered, PlainInstr, PlainRecord}
 
 -- 0 and a type variable; 1, a kind and its arguments; 2 and the two types of an arrow

@@ -1,10 +1,11 @@
 -- The tables of records by the constant that heads them and by their key, which stand in images of version 2 and are a function of the records.
-use Rattle.std.specs.Prelude.{ℕ, suc, Bool, ◌&&◌, if◌then◌else◌, List, [], ◌∷◌, ◌++◌, length}
+use Rattle.std.specs.Prelude.{ℕ, suc, Bool, ◌&&◌, if◌then◌else◌, List, [], ◌∷◌, ◌++◌, length, map}
 use Rattle.std.specs.List.{flat_map}
 use Rattle.std.specs.BTreeSet.{insert_key}
-use Rattle.lp_code.specs.Groups.{PlainKey, key_cmp, same_key, is_headed_by, with_head}
+use Rattle.lp_code.specs.Groups.{PlainKey, no_key, constant, key_cmp, same_key, is_headed_by, with_head}
+use Rattle.lp_code.specs.Groups as key
 use Rattle.lp_object.specs.declared.width.Width.TheVariants.{Four}
-use Rattle.lp_object.specs.Numbers.{spelled_four}
+use Rattle.lp_bytes.specs.Numbers.{spelled_two, spelled_four, spelled_integer}
 use Rattle.lp_object.specs.Plain.{PlainRecord}
 use Rattle.lp_object.specs.Spelling.{spelled_key}
 
@@ -35,6 +36,23 @@ keys_onto ks (r ∷ rs) c = keys_onto (if heads_it c r then insert_key key_cmp k
 
 abbrev pub keys_of : List PlainRecord → (constant : ℕ) → List PlainKey
 keys_of rs c = keys_onto [] rs c
+
+-- the fields of the tables, one behind the other: those of a key
+abbrev pub key_fields : PlainKey → List (List ℕ)
+key_fields no_key = (0 ∷ []) ∷ []
+key_fields (constant c) = (1 ∷ []) ∷ spelled_four c ∷ []
+key_fields (key.integer z) = (2 ∷ []) ∷ spelled_integer z ∷ []
+key_fields (key.text s) = (3 ∷ []) ∷ spelled_two (length s) ∷ s ∷ []
+
+-- of a group, of the groups of a constant, and of all
+abbrev pub group_fields : List ℕ → PlainKey → List (List ℕ)
+group_fields ns k = key_fields k ++ spelled_four (length ns) ∷ map spelled_four ns
+
+abbrev pub groups_fields : List PlainRecord → ℕ → List (List ℕ)
+groups_fields rs c = spelled_four c ∷ spelled_four (length (keys_of rs c)) ∷ flat_map (λ k. group_fields (group_of rs c k) k) (keys_of rs c)
+
+abbrev pub table_fields : List PlainRecord → List (List ℕ)
+table_fields rs = spelled_four (length (heads_of rs)) ∷ flat_map (groups_fields rs) (heads_of rs)
 
 -- a key, and the records that have it, behind their count
 unfoldable pub spelled_group : List ℕ → PlainKey → List ℕ

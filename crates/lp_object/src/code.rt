@@ -1,92 +1,112 @@
 // The code of a record: one field, of instructions.
 
-ghost use Rattle.std.specs.Prelude.{◌≡◌, ◌++◌, IfOk, OnOk, map};
+ghost use Rattle.lp_bytes.specs.Writing.{text_of, more};
+ghost use Rattle.std.specs.Prelude.{◌≡◌, ◌++◌, [], IfOk, OnOk, map};
 ghost use Rattle.std.specs.List.{All, flat_map};
+ghost use Rattle.lp_bytes.specs.Reading.{Gives, left_of};
 ghost use Rattle.lp_code.specs.Length.{Fits};
 ghost use Rattle.lp_object.specs.Plain.{plain_instr};
+ghost use Rattle.lp_object.specs.Reading.{located_at, instrs_at, code_at};
 ghost use Rattle.lp_object.specs.Spelling.{spelled_instr, spelled_code};
 
-use crate::fault::{FormatFault, WriteRefusal};
-use crate::reader::Reader;
+use crate::instructions::{read_instruction, write_instruction};
 use crate::width::Width;
-use crate::writer::Writer;
 use lp_base::Memory;
+use lp_bytes::{ReadError, Reader, Writer};
 use lp_code::Instr;
 use std::alloc::Global;
 
-// An instruction that is not one, told at its first byte.
-fn fault_at(fault: FormatFault, at: usize) -> FormatFault {
-    match fault {
-        FormatFault::Memory => FormatFault::Memory,
-        _ => Reader::bad(at),
-    }
-}
-
-impl Reader<'_> {
-    // The next instruction, whose faults are told at its first byte.
-    fn located(&mut self, alloc: Global, width: Width) -> Result<Instr, FormatFault>
-        ensures { IfOk result (λ instr. Fits instr) }
-    {
-        let at = self.at;
-        match self.instruction(alloc, width) {
-            Ok(instr) => Ok(instr),
-            Err(fault) => Err(fault_at(fault, at)),
-        }
-    }
-
-    // Instructions up to the end of the code, which is that of the bytes.
-    fn instructions(&mut self, alloc: Global, width: Width) -> Result<Vec<Instr>, FormatFault>
-        ensures { IfOk result (λ code. All Fits code.items) }
-    {
-        let mut code = Vec::new(alloc);
-        for _ in 0..self.bytes.len() {
-            if self.at >= self.bytes.len() {
-                return Ok(code);
+// The next instruction, whose faults are told at its first byte. So many bytes stand behind the code.
+#[tactic(auto, unfolding(crate::specs::Reading::located_at))]
+fn read_located(
+    alloc: Global,
+    reader: &mut Reader<'_>,
+    width: Width,
+    behind: usize,
+) -> Result<Instr, ReadError>
+    ensures fits { IfOk result (λ instr. Fits instr) }
+    ensures read { Gives plain_instr result (left_of reader.new) (located_at width behind (left_of reader.old)) }
+{
+    let at = reader.at();
+    match read_instruction(alloc, reader, width) {
+        Ok(instr) => {
+            if reader.len() < behind {
+                return Err(Reader::bad(at));
             }
-            let instr = self.located(alloc, width)?;
-            code.push(instr).map_err(Memory::from)?;
+            Ok(instr)
         }
-        Ok(code)
-    }
-
-    // The length of the code, and the code.
-    pub(crate) fn code(&mut self, alloc: Global, width: Width) -> Result<Vec<Instr>, FormatFault>
-        ensures { IfOk result (λ code. All Fits code.items) }
-    {
-        let length = self.four()?;
-        let from = self.at;
-        self.take(length as usize)?;
-        let Some(bytes) = self.bytes.get(..self.at) else {
-            return Err(Reader::bad(from));
-        };
-        let mut inside = Reader { bytes, at: from };
-        inside.instructions(alloc, width)
+        Err(ReadError::Memory) => Err(ReadError::Memory),
+        Err(ReadError::Fault(_)) => Err(Reader::bad(at)),
     }
 }
 
-impl Writer {
-    // Instructions, one behind the other.
-    fn instructions(&mut self, width: Width, code: &[Instr]) -> Result<(), WriteRefusal>
-        ensures { OnOk result (self.new.bytes.items ≡ self.old.bytes.items ++ flat_map (spelled_instr width) (map plain_instr code.now)) }
-    {
-        for instr in code {
-            self.instruction(width, instr)?;
+// Instructions up to the end of the code, behind which so many bytes stand.
+fn read_instructions(
+    alloc: Global,
+    reader: &mut Reader<'_>,
+    width: Width,
+    behind: usize,
+    most: u32,
+) -> Result<Vec<Instr>, ReadError>
+    ensures fits { IfOk result (λ code. All Fits code.items) }
+    ensures read { Gives (λ code. map plain_instr code.items) result (left_of reader.new) (instrs_at width behind [] most (left_of reader.old)) }
+{
+    let mut code = Vec::new(alloc);
+    for _ in 0..most {
+        if reader.len() <= behind {
+            return Ok(code);
         }
-        Ok(())
+        let instr = read_located(alloc, reader, width, behind)?;
+        code.push(instr)?;
     }
+    Ok(code)
+}
 
-    #[tactic(auto, unfolding(crate::specs::Spelling::spelled_code))]
-    pub(crate) fn code(
-        &mut self,
-        alloc: Global,
-        width: Width,
-        code: &[Instr],
-    ) -> Result<(), WriteRefusal>
-        ensures { OnOk result (self.new.bytes.items ≡ self.old.bytes.items ++ spelled_code width (map plain_instr code.now)) }
-    {
-        let mut inside = Writer::new(alloc);
-        inside.instructions(width, code)?;
-        self.low_four(inside.bytes.len() as u64)?;
-        self.put(inside.bytes.as_slice())
+// The length of the code, and the code.
+#[tactic(auto, unfolding(crate::specs::Reading::code_at))]
+pub(crate) fn read_code(
+    alloc: Global,
+    reader: &mut Reader<'_>,
+    width: Width,
+) -> Result<Vec<Instr>, ReadError>
+    ensures fits { IfOk result (λ code. All Fits code.items) }
+    ensures read { Gives (λ code. map plain_instr code.items) result (left_of reader.new) (code_at width (left_of reader.old)) }
+{
+    let length = reader.four()?;
+    let mut end = *reader;
+    end.take(length as usize)?;
+    read_instructions(alloc, reader, width, end.len(), length)
+}
+
+// Instructions, one behind the other.
+fn write_instructions(writer: &mut Writer, width: Width, code: &[Instr]) -> Result<(), Memory>
+    ensures { OnOk result (text_of writer.new ≡ more (text_of writer.old) (flat_map (spelled_instr width) (map plain_instr code.now))) }
+{
+    for instr in code {
+        write_instruction(writer, width, instr)?;
+    }
+    Ok(())
+}
+
+#[tactic(auto, unfolding(crate::specs::Spelling::spelled_code))]
+pub(crate) fn write_code(
+    writer: &mut Writer,
+    alloc: Global,
+    width: Width,
+    code: &[Instr],
+) -> Result<(), Memory>
+    ensures { OnOk result (text_of writer.new ≡ more (text_of writer.old) (spelled_code width (map plain_instr code.now))) }
+{
+    let mut inside = Writer::new(alloc);
+    write_instructions(&mut inside, width, code)?;
+    match inside.finish() {
+        Ok(bytes) => {
+            writer.low_four(bytes.len() as u64)?;
+            writer.put(bytes.as_slice())
+        }
+        Err(_) => {
+            writer.fill();
+            Ok(())
+        }
     }
 }

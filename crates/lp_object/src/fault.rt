@@ -2,6 +2,7 @@
 ghost use Rattle.std.specs.Prelude.{◌≡◌};
 
 use lp_base::{Limit, Memory};
+use lp_bytes::{Fault, ReadError};
 use thiserror::Error;
 
 /// Why bytes are no object or no image. Offsets count from the first byte. Where several apply, `Limit` is told, and else the first one in the order of the bytes.
@@ -36,14 +37,22 @@ pub enum WriteRefusal {
     Memory,
 }
 
-impl From<Memory> for FormatFault {
+impl From<ReadError> for FormatFault {
     ghost use Rattle.std.specs.Prelude.{◌≡◌};
-    ghost use Rattle.lp_object.specs.declared.fault.FormatFault.TheVariants as fault;
+    ghost use Rattle.lp_object.specs.Refusing.{refusal};
 
-    ghost from_gives = { λ _ e. e ≡ fault.Memory };
+    ghost from_gives = { λ error e. e ≡ refusal error };
 
-    fn from(_: Memory) -> FormatFault {
-        FormatFault::Memory
+    fn from(error: ReadError) -> FormatFault {
+        match error {
+            ReadError::Memory => FormatFault::Memory,
+            ReadError::Fault(Fault::BadMagic) => FormatFault::BadMagic,
+            ReadError::Fault(Fault::BadVersion(version)) => FormatFault::BadVersion(version),
+            ReadError::Fault(Fault::Truncated(at)) => FormatFault::Truncated(at),
+            ReadError::Fault(Fault::BadField(at)) => FormatFault::BadField(at),
+            ReadError::Fault(Fault::Trailing(at)) => FormatFault::Trailing(at),
+            ReadError::Fault(Fault::Limit(limit)) => FormatFault::Limit(limit),
+        }
     }
 }
 

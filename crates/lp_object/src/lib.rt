@@ -5,6 +5,8 @@
 mod code;
 // Why bytes are refused, and why a value is.
 mod fault;
+// Fields of one number or text that are read.
+mod fields;
 // Images.
 mod image;
 // Instructions.
@@ -13,8 +15,6 @@ mod instructions;
 mod names;
 // Objects.
 mod object;
-// The bytes that are left to read, and fields of one number or text.
-mod reader;
 // Records.
 mod records;
 // Declared types.
@@ -23,8 +23,8 @@ mod schemes;
 mod tables;
 // How wide numbers of constants and kinds are.
 mod width;
-// The bytes so far, and fields of one number or text.
-mod writer;
+// Fields of one number or text that are written.
+mod written;
 
 pub use fault::{FormatFault, WriteRefusal};
 pub use image::{read_image, write_image};

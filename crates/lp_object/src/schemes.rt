@@ -1,32 +1,41 @@
 // Declared types: a count of type variables and a type, each constructor before its arguments.
-ghost use Rattle.std.specs.Prelude.{◌≡◌, ◌<◌, ◌++◌, ◌∷◌, true, map, length, All, reverse, OnOk};
-ghost use Rattle.lp_term.specs.Nodes.{type_tree, type_node_tree};
+ghost use Rattle.lp_bytes.specs.Writing.{text_of, more};
+ghost use Rattle.std.specs.Prelude.{◌<◌, ◌+◌, length};
+ghost use Rattle.std.specs.Prelude.{◌≡◌, ◌≤◌, ◌++◌, ◌∷◌, List, map, take, drop, reverse, replicate, IfOk, OnOk};
+ghost use Rattle.lp_calculus.specs.Types.{Ty};
+ghost use Rattle.lp_term.specs.Nodes.{Nodes, Extends, type_tree, type_node_tree};
 ghost use Rattle.lp_term.specs.Shapes.{type_shape};
-ghost use Rattle.lp_object.specs.Numbers.{spelled_one};
+ghost use Rattle.lp_bytes.specs.Numbers.{spelled_one};
+ghost use Rattle.lp_bytes.specs.Reading.{Gives, left_of};
+ghost use Rattle.lp_object.specs.Reading.{scope, arity_of, types_below, an_arrow, type_top_at, type_tops_at, with_type_top, types_made, type_at};
 ghost use Rattle.lp_object.specs.Spelling.{spelled_type};
+ghost use Rattle.lp_object.specs.inner.Parts.{type_top_of, types_stacked};
 ghost use Rattle.lp_object.specs.inner.Waiting.{waiting};
 
-use crate::fault::{FormatFault, WriteRefusal};
-use crate::reader::Reader;
+use crate::fields::read_number;
 use crate::width::Width;
-use crate::writer::Writer;
-use lp_base::{Limit, MAX_IMAGE_BYTES, Memory};
-use lp_term::{Bank, TypeId, TypeNode};
+use crate::written::{write_low_one, write_number};
+use lp_base::{MAX_IMAGE_BYTES, Memory};
+use lp_bytes::{ReadError, Reader, Writer};
+use lp_term::{Bank, TypeId, TypeNode, put_arrow, put_constructor};
 use std::alloc::Global;
 
 // The top of a type: a type variable, a kind on so many arguments, or an arrow.
 #[derive(Clone, Copy)]
-enum Part {
+pub(crate) enum Part {
     Var(u8),
     Con(u32, u8),
     Arrow,
 }
 
 impl Part {
-    fn arguments(self) -> u64 {
+    fn arguments(self) -> u128
+        ensures few { result ≤ 255 }
+        ensures arguments { types_below (type_top_of self) ≡ replicate result tt }
+    {
         match self {
             Part::Var(_) => 0,
-            Part::Con(_, arguments) => u64::from(arguments),
+            Part::Con(_, arguments) => u128::from(arguments),
             Part::Arrow => 2,
         }
     }
@@ -36,135 +45,164 @@ impl Part {
 const FIRST_KIND: u32 = 8;
 
 // The count of arguments of a kind.
-fn arity_of(arities: &[u8], kind: u32) -> Option<u8> {
-    match kind {
-        0..=2 => Some(0),
-        3 => Some(1),
-        _ => {
-            let place = kind.checked_sub(FIRST_KIND)?;
-            arities.get(place as usize).copied()
-        }
-    }
-}
-
-// Whether all types are in the bank.
-fn are_types(bank: &Bank, ids: &[TypeId]) -> bool
-    ensures { result ≡ true → All (λ i. i < length bank.now.types) (map (λ t. t.0) ids.now) }
+fn arity_of(arities: &[u8], kind: u32) -> Option<u8>
+    ensures { result ≡ arity_of arities.now kind }
 {
-    for id in ids.iter().copied() {
-        if id.0 >= bank.type_count() {
-            return false;
-        }
+    if kind < 3 {
+        return Some(0);
     }
-    true
+    if kind == 3 {
+        return Some(1);
+    }
+    if kind < FIRST_KIND {
+        return None;
+    }
+    arities.get((kind - FIRST_KIND) as usize).copied()
 }
 
 // The last ones of the stack, of which the first argument is the last one.
-fn pop_arguments(alloc: Global, stack: &mut Vec<TypeId>, count: u8) -> Result<Vec<TypeId>, Memory> {
-    let mut arguments = Vec::new(alloc);
-    for _ in 0..count {
-        if let Some(argument) = stack.pop() {
-            arguments.push(argument)?;
-        }
-    }
+fn pop_arguments(alloc: Global, stack: &mut Vec<TypeId>, count: u8) -> Result<Vec<TypeId>, Memory>
+    ensures taken { IfOk result (λ taken. taken.items ≡ take count (reverse stack.old.items)) }
+    ensures left { OnOk result (reverse stack.new.items ≡ drop count (reverse stack.old.items)) }
+{
+    let start = stack.len().saturating_sub(usize::from(count));
+    let mut arguments = Vec::from_slice(alloc, &stack[start..])?;
+    arguments.reverse();
+    stack.truncate(start);
     Ok(arguments)
 }
 
-// The type with this top and the last types of the stack as arguments. One that is not in the bank is left as it is.
+fn push_arrow(bank: &mut Bank, stack: &mut Vec<TypeId>) -> Result<(), Memory>
+    ensures kept { Extends bank.old bank.new }
+    ensures made { OnOk result ((ts : List Ty) → ((b : Nodes) → Extends bank.old b → types_stacked b stack.old.items ≡ ts) → (b : Nodes) → Extends bank.new b → types_stacked b stack.new.items ≡ with_type_top an_arrow ts) }
+{
+    let Some(from) = stack.pop() else {
+        return Ok(());
+    };
+    let Some(to) = stack.pop() else {
+        return Ok(());
+    };
+    let made = put_arrow(bank, from, to)?;
+    stack.push(made)?;
+    Ok(())
+}
+
+// The type with this top and the last types of the stack as arguments.
 fn put_part(
     alloc: Global,
     bank: &mut Bank,
     stack: &mut Vec<TypeId>,
     part: Part,
-) -> Result<(), Memory> {
-    let made = match part {
-        Part::Var(variable) => bank.put_type(TypeNode::Var(u64::from(variable)))?,
+) -> Result<(), Memory>
+    ensures kept { Extends bank.old bank.new }
+    ensures made { OnOk result ((ts : List Ty) → ((b : Nodes) → Extends bank.old b → types_stacked b stack.old.items ≡ ts) → (b : Nodes) → Extends bank.new b → types_stacked b stack.new.items ≡ with_type_top (type_top_of part) ts) }
+{
+    match part {
+        Part::Var(number) => {
+            let made = bank.put_type(TypeNode::Var(u64::from(number)))?;
+            stack.push(made)?;
+            Ok(())
+        }
         Part::Con(kind, count) => {
             let arguments = pop_arguments(alloc, stack, count)?;
-            if !are_types(bank, arguments.as_slice()) {
-                return Ok(());
-            }
-            bank.put_type(TypeNode::Con(kind, arguments.as_slice()))?
+            let made = put_constructor(bank, kind, arguments.as_slice())?;
+            stack.push(made)?;
+            Ok(())
         }
-        Part::Arrow => {
-            let (Some(from), Some(to)) = (stack.pop(), stack.pop()) else {
-                return Ok(());
-            };
-            if from.0 >= bank.type_count() || to.0 >= bank.type_count() {
-                return Ok(());
-            }
-            bank.put_type(TypeNode::Arrow(from, to))?
-        }
-    };
-    stack.push(made)?;
-    Ok(())
+        Part::Arrow => push_arrow(bank, stack),
+    }
 }
 
-impl Reader<'_> {
-    fn part(&mut self, width: Width, arities: &[u8], variables: u8) -> Result<Part, FormatFault> {
-        let at = self.at;
-        let tag = self.byte()?;
-        let field = self.at;
-        match tag {
-            0 => {
-                let variable = self.byte()?;
-                if variable >= variables {
-                    return Err(Reader::bad(field));
-                }
-                Ok(Part::Var(variable))
+#[tactic(auto, unfolding(crate::specs::Reading::type_top_at))]
+fn read_part(
+    reader: &mut Reader<'_>,
+    width: Width,
+    arities: &[u8],
+    variables: u8,
+) -> Result<Part, ReadError>
+    ensures { Gives type_top_of result (left_of reader.new) (type_top_at (scope width arities.now variables) (left_of reader.old)) }
+{
+    let at = reader.at();
+    let tag = reader.byte()?;
+    let field = reader.at();
+    match tag {
+        0 => {
+            let variable = reader.byte()?;
+            if variable < variables {
+                return Ok(Part::Var(variable));
             }
-            1 => {
-                let kind = self.number(width)?;
-                match arity_of(arities, kind) {
-                    Some(arity) => Ok(Part::Con(kind, arity)),
-                    None => Err(Reader::bad(field)),
-                }
-            }
-            2 => Ok(Part::Arrow),
-            _ => Err(Reader::bad(at)),
+            Err(Reader::bad(field))
         }
+        1 => {
+            let kind = read_number(reader, width)?;
+            match arity_of(arities, kind) {
+                Some(arity) => Ok(Part::Con(kind, arity)),
+                None => Err(Reader::bad(field)),
+            }
+        }
+        2 => Ok(Part::Arrow),
+        _ => Err(Reader::bad(at)),
     }
+}
 
-    // The parts of a type, each before its arguments.
-    fn parts(
-        &mut self,
-        alloc: Global,
-        width: Width,
-        arities: &[u8],
-        variables: u8,
-    ) -> Result<Vec<Part>, FormatFault> {
-        let mut parts = Vec::new(alloc);
-        let mut wanted: u64 = 1;
-        for _ in 0..=self.bytes.len() as u64 {
-            if wanted == 0 {
-                return Ok(parts);
-            }
-            let part = self.part(width, arities, variables)?;
-            wanted = (wanted - 1).saturating_add(part.arguments());
-            parts.push(part).map_err(Memory::from)?;
+// The parts of a type, each before its arguments.
+#[tactic(auto, unfolding(crate::specs::Reading::type_tops_at))]
+fn read_parts(
+    alloc: Global,
+    reader: &mut Reader<'_>,
+    width: Width,
+    arities: &[u8],
+    variables: u8,
+) -> Result<Vec<Part>, ReadError>
+    ensures { Gives (λ parts. map type_top_of parts.items) result (left_of reader.new) (type_tops_at (scope width arities.now variables) (left_of reader.old)) }
+{
+    let mut parts = Vec::new(alloc);
+    let mut wanted: u128 = 1;
+    let most = reader.len() as u64 + 1;
+    for _ in 0..most {
+        if wanted == 0 {
+            return Ok(parts);
         }
-        Ok(parts)
+        let part = read_part(reader, width, arities, variables)?;
+        wanted = wanted - 1 + part.arguments();
+        parts.push(part)?;
     }
+    Ok(parts)
+}
 
-    // The type, over this many type variables, put into the bank.
-    pub(crate) fn scheme(
-        &mut self,
-        alloc: Global,
-        width: Width,
-        bank: &mut Bank,
-        arities: &[u8],
-        variables: u8,
-    ) -> Result<TypeId, FormatFault> {
-        let at = self.at;
-        let parts = self.parts(alloc, width, arities, variables)?;
-        let mut stack = Vec::new(alloc);
-        for part in parts.iter().rev() {
-            put_part(alloc, bank, &mut stack, *part)?;
-        }
-        match stack.pop() {
-            Some(made) => Ok(made),
-            None => Err(Reader::bad(at)),
-        }
+// The types that the parts make, the first one last.
+fn put_parts(alloc: Global, bank: &mut Bank, parts: &[Part]) -> Result<Vec<TypeId>, Memory>
+    ensures kept { Extends bank.old bank.new }
+    ensures made { IfOk result (λ stack. (b : Nodes) → Extends bank.new b → types_stacked b stack.items ≡ types_made (map type_top_of parts.now)) }
+{
+    let mut stack = Vec::new(alloc);
+    let mut left = parts.len();
+    while left > 0 {
+        left -= 1;
+        put_part(alloc, bank, &mut stack, parts[left])?;
+    }
+    Ok(stack)
+}
+
+// The type, over this many type variables, put into the bank.
+#[tactic(auto, unfolding(crate::specs::Reading::type_at))]
+pub(crate) fn read_scheme(
+    alloc: Global,
+    reader: &mut Reader<'_>,
+    width: Width,
+    bank: &mut Bank,
+    arities: &[u8],
+    variables: u8,
+) -> Result<TypeId, ReadError>
+    ensures kept { Extends bank.old bank.new }
+    ensures read { (b : Nodes) → Extends bank.new b → Gives (λ made. type_tree b made.0) result (left_of reader.new) (type_at (scope width arities.now variables) (left_of reader.old)) }
+{
+    let at = reader.at();
+    let parts = read_parts(alloc, reader, width, arities, variables)?;
+    let mut stack = put_parts(alloc, bank, parts.as_slice())?;
+    match stack.pop() {
+        Some(made) => Ok(made),
+        None => Err(Reader::bad(at)),
     }
 }
 
@@ -178,61 +216,62 @@ fn push_last_first(alloc: Global, stack: &mut Vec<TypeId>, types: &[TypeId]) -> 
     Ok(())
 }
 
-impl Writer {
-    // The top of a type, whose arguments are left on the stack, the first one last.
-    #[tactic(auto, using(crate::proofs::Waiting::kind_waits, crate::proofs::Waiting::arrow_waits))]
-    fn type_part(
-        &mut self,
-        alloc: Global,
-        width: Width,
-        bank: &Bank,
-        stack: &mut Vec<TypeId>,
-        node: TypeNode<'_>,
-    ) -> Result<(), WriteRefusal>
-        ensures { OnOk result (self.new.bytes.items ++ waiting width bank.now stack.new.items ≡ self.old.bytes.items ++ (spelled_type width (type_node_tree bank.now (type_shape node.entry)) ++ waiting width bank.now stack.old.items)) }
-    {
-        match node {
-            TypeNode::Var(variable) => self.variable(variable),
-            TypeNode::Param(variable) => self.variable(variable),
-            TypeNode::Con(kind, arguments) => {
-                self.byte(1)?;
-                self.number(width, u64::from(kind))?;
-                push_last_first(alloc, stack, arguments)?;
-                Ok(())
-            }
-            TypeNode::Arrow(from, to) => {
-                self.byte(2)?;
-                stack.push(to).map_err(Memory::from)?;
-                stack.push(from).map_err(Memory::from)?;
-                Ok(())
-            }
+fn write_variable(writer: &mut Writer, variable: u64) -> Result<(), Memory>
+    ensures { OnOk result (text_of writer.new ≡ more (text_of writer.old) (0 ∷ spelled_one variable)) }
+{
+    writer.byte(0)?;
+    write_low_one(writer, variable)
+}
+
+// The top of a type, whose arguments are left on the stack, the first one last.
+fn write_part(
+    writer: &mut Writer,
+    alloc: Global,
+    width: Width,
+    bank: &Bank,
+    stack: &mut Vec<TypeId>,
+    node: TypeNode<'_>,
+) -> Result<(), Memory>
+    ensures text { OnOk result (more (text_of writer.new) (waiting width bank.now stack.new.items) ≡ more (text_of writer.old) (spelled_type width (type_node_tree bank.now (type_shape node.entry)) ++ waiting width bank.now stack.old.items)) }
+    ensures less { OnOk result (length (waiting width bank.now stack.new.items) < length (spelled_type width (type_node_tree bank.now (type_shape node.entry))) + length (waiting width bank.now stack.old.items)) }
+{
+    match node {
+        TypeNode::Var(variable) => write_variable(writer, variable),
+        TypeNode::Param(variable) => write_variable(writer, variable),
+        TypeNode::Con(kind, arguments) => {
+            writer.byte(1)?;
+            write_number(writer, width, u64::from(kind))?;
+            push_last_first(alloc, stack, arguments)
+        }
+        TypeNode::Arrow(from, to) => {
+            writer.byte(2)?;
+            stack.push(to)?;
+            stack.push(from)?;
+            Ok(())
         }
     }
+}
 
-    fn variable(&mut self, variable: u64) -> Result<(), WriteRefusal>
-        ensures { OnOk result (self.new.bytes.items ≡ self.old.bytes.items ++ 0 ∷ spelled_one variable) }
-    {
-        self.byte(0)?;
-        self.low_one(variable)
-    }
-
-    pub(crate) fn scheme(
-        &mut self,
-        alloc: Global,
-        width: Width,
-        bank: &Bank,
-        scheme: TypeId,
-    ) -> Result<(), WriteRefusal>
-        ensures { OnOk result (self.new.bytes.items ≡ self.old.bytes.items ++ spelled_type width (type_tree bank.now scheme.0)) }
-    {
-        let mut stack = Vec::new(alloc);
-        stack.push(scheme).map_err(Memory::from)?;
-        for _ in 0..=MAX_IMAGE_BYTES {
-            let Some(next) = stack.pop() else {
-                return Ok(());
-            };
-            self.type_part(alloc, width, bank, &mut stack, bank.type_node(next))?;
+pub(crate) fn write_scheme(
+    writer: &mut Writer,
+    alloc: Global,
+    width: Width,
+    bank: &Bank,
+    scheme: TypeId,
+) -> Result<(), Memory>
+    ensures { OnOk result (text_of writer.new ≡ more (text_of writer.old) (spelled_type width (type_tree bank.now scheme.0))) }
+{
+    let mut stack = Vec::new(alloc);
+    stack.push(scheme)?;
+    for _ in 0..MAX_IMAGE_BYTES + 1 {
+        if writer.is_full() {
+            return Ok(());
         }
-        Err(WriteRefusal::Limit(Limit::Image))
+        let Some(next) = stack.pop() else {
+            return Ok(());
+        };
+        write_part(writer, alloc, width, bank, &mut stack, bank.type_node(next))?;
     }
+    writer.fill();
+    Ok(())
 }

@@ -62,3 +62,4 @@ pub mod Unbound
 pub mod GivenUp
 pub mod RuledOut
 pub mod SolutionsFound
+mod Grounds

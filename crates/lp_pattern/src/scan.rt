@@ -19,7 +19,7 @@ use crate::fault::PatternRefusal;
 use crate::look::{CONTRACTIONS, Head, Looked, look};
 use crate::patterns::{Arguments, Opened, pattern_of};
 use crate::side::Side;
-use crate::units::spend;
+use crate::units::{spend, spend_many};
 use lp_base::Memory;
 use lp_term::{Bank, TermId, TermNode};
 use std::alloc::Global;
@@ -305,6 +305,10 @@ fn visit_part(
     ensures stopped { IfErr result (λ r. (c : Closing) → IsReading bank.old bindings.now c → IsShut c → (m n : ℕ) → IsStopped m r units.old
         (scan_parts m n (side_of side.now) (part_of bank.old c visit ∷ parts_of bank.old c left.old.items))) }
 {
+    // Each node of a ground term is a unit, and nothing else is found in it.
+    if let Some(count) = bank.ground_nodes(visit.term) {
+        return spend_many(units, count);
+    }
     let looked = look(alloc, bank, bindings, visit.term, CONTRACTIONS)?;
     visit_seen(
         alloc, bank, bindings, side, visit, &looked, left, found, units,

@@ -347,6 +347,11 @@ fn visit(
     ensures unfailing { IfErr result IsNoFailure }
     ensures refused { IfErr result (λ e. StopsSettling e bank.old bindings.now side.now.eigens.items (work.old.tasks.items ++ Visit term opened ∷ []) work.old.made.items) }
 {
+    // A ground term is settled as it stands.
+    if let Some(_nodes) = bank.ground_nodes(term) {
+        work.made.push(term)?;
+        return Ok(());
+    }
     let looked = look(alloc, bank, bindings, term, CONTRACTIONS)?;
     visit_seen(alloc, bank, bindings, side, work, opened, &looked)
 }

@@ -20,3 +20,6 @@ pub mod Sightings
 pub mod Measuring
 pub mod FoundGoals
 pub mod Tabled
+pub mod Frames
+pub mod Placed
+pub mod Taken

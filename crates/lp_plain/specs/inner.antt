@@ -1,3 +1,4 @@
 pub mod Looking
 pub mod Collecting
 pub mod Tabling
+pub mod Placing

@@ -1,4 +1,6 @@
 // Atomic goals: a step each.
+ghost use Rattle.std.specs.Prelude.{IfOk};
+ghost use Rattle.lp_plain.specs.Cuts.{CutsOff};
 
 use crate::arithmetic::{Outcome, Value, evaluate, holds, term_of};
 use crate::attempt::attempt;
@@ -163,7 +165,9 @@ pub(crate) fn take_cut<W: Watch>(
     crowd: &mut Crowd<'_, W>,
     place: Place,
     behind: Option<usize>,
-) -> Result<Turn, Memory> {
+) -> Result<Turn, Memory>
+    ensures { IfOk result (λ turn. CutsOff turn machine.old machine.new place.mark behind) }
+{
     if !take_step(machine) {
         return Ok(Turn::Ended(Ending::Steps));
     }

@@ -8,6 +8,7 @@ ghost use Rattle.lp_model.specs.Search.{key_of, may_meet, first_key, slotted, sl
 ghost use Rattle.lp_plain.specs.Candidates.{same_texts, same_keys, meets};
 ghost use Rattle.lp_plain.specs.declared.head.Key.TheVariants as kept;
 ghost use Rattle.lp_plain.specs.Heads.{IsKey, IsTextKey, trees_of, slot_place, pair_places, pair_in, new_among, with_slot, with_pair, places_of, stands, MarksMore, HaveBecome, slot_term, pairs_at};
+ghost use Rattle.lp_plain.specs.inner.Placing.{places_weight};
 
 use lp_base::Memory;
 use lp_term::{Bank, TermId, TermNode, head_of};
@@ -104,6 +105,7 @@ fn mark_node(
 ) -> Result<(), Memory>
     ensures count { length seen.new.items ≡ length seen.old.items }
     ensures marks { OnOk result ((k : ℕ) → (get_or seen.new.items k true || stands bank.now k places.new.items) ≡ (get_or seen.old.items k true || stands bank.now k (places.old.items ++ place ∷ []))) }
+    ensures lighter { OnOk result (places_weight bank.now places.new.items < places_weight bank.now (places.old.items ++ place ∷ [])) }
 {
     let depth = place.depth;
     if bank.is_known_below(place.term, depth) {
@@ -136,13 +138,10 @@ fn mark_variables(
 {
     let mut places = Vec::new(alloc);
     places.push(Place { term, depth: 0 })?;
-    'places: for _ in 0..u64::MAX {
-        let Some(place) = places.pop() else {
-            return Ok(());
-        };
+    'places: while let Some(place) = places.pop() {
         mark_node(bank, place, seen, &mut places)?;
     }
-    Err(Memory)
+    Ok(())
 }
 
 // The variable, if it has no mark.

@@ -1,7 +1,12 @@
 // What a search works on: one bank and one list of bindings for all branches. An alternative holds what leads back to
 // its branch.
-ghost use Rattle.std.specs.Prelude.{◌≡◌, OnOk, IfSome, take, slice_get};
+ghost use Rattle.std.specs.Prelude.{◌≡◌, ◌++◌, List, OnOk, IfOk, IfSome, length, nat_lt, take, slice_get};
+ghost use Rattle.lp_model.specs.Branch.{Entry};
+ghost use Rattle.lp_model.specs.Flat.{Goal};
+ghost use Rattle.lp_plain.specs.Cuts.{cut_off};
+ghost use Rattle.lp_plain.specs.Entries.{Around, AreTodo, IsListAt, HasAlternative, KeepsGoals, Reads, placed};
 ghost use Rattle.lp_plain.specs.Keeping.{HasOneMore, IsAround, KeepsCourse};
+ghost use Rattle.lp_plain.specs.Tables.{shown};
 
 use crate::act::Act;
 use crate::candidates::{Candidate, Index, candidate_after, first_candidate};
@@ -66,13 +71,16 @@ impl Machine {
         place: Place,
         behind: Option<usize>,
     ) -> Result<Option<usize>, Memory>
-        ensures { KeepsCourse self.old self.new }
+        ensures course { KeepsCourse self.old self.new }
+        ensures goals { OnOk result (KeepsGoals self.old self.new) }
+        ensures reads { IfOk result (λ o. (a : Around) (gs : List Goal) (es : List Entry) → IsListAt self.old place list gs → Reads self.old a behind es → Reads self.new a o (placed a place gs ++ es)) }
     {
         let span = self.table.list(list)?;
         if span.from >= span.to {
             return Ok(behind);
         }
-        self.put_frame(Todo::Goals(span), place, behind)
+        let goals = self.put_frame(Todo::Goals(span), place, behind)?;
+        Ok(goals)
     }
 
     pub(crate) fn put_frame(
@@ -81,7 +89,9 @@ impl Machine {
         place: Place,
         behind: Option<usize>,
     ) -> Result<Option<usize>, Memory>
-        ensures { KeepsCourse self.old self.new }
+        ensures course { KeepsCourse self.old self.new }
+        ensures goals { OnOk result (KeepsGoals self.old self.new) }
+        ensures reads { IfOk result (λ o. (a : Around) (gs : List Goal) (es : List Entry) → AreTodo self.old.bank (shown self.old.table) self.old.scopes place todo gs → Reads self.old a behind es → Reads self.new a o (placed a place gs ++ es)) }
     {
         let number = self.frames.len();
         self.frames.push(Frame {
@@ -93,7 +103,9 @@ impl Machine {
     }
 
     /// A new logic variable of a level.
-    pub(crate) fn new_variable(&mut self, level: u64) -> Result<TermId, Memory> {
+    pub(crate) fn new_variable(&mut self, level: u64) -> Result<TermId, Memory>
+        ensures { self.new.counts ≡ self.old.counts }
+    {
         let id = self.branch.next;
         let Some(next) = id.checked_add(1) else {
             return Err(Memory);
@@ -144,7 +156,10 @@ impl Machine {
     }
 
     /// Keeps what is done in the branch at work.
-    pub(crate) fn note(&mut self, act: Act) -> Result<(), Memory> {
+    pub(crate) fn note(&mut self, act: Act) -> Result<(), Memory>
+        ensures course { KeepsCourse self.old self.new }
+        ensures goals { KeepsGoals self.old self.new }
+    {
         self.acts.push(act)?;
         Ok(())
     }
@@ -154,6 +169,9 @@ impl Machine {
         ensures more { OnOk result (HasOneMore self.old.choices.items self.new.choices.items untried) }
         ensures counts { self.new.counts ≡ self.old.counts }
         ensures denied { self.new.denied ≡ self.old.denied }
+        ensures branch { self.new.branch ≡ self.old.branch }
+        ensures goals { KeepsGoals self.old self.new }
+        ensures alternative { OnOk result (HasAlternative self.old self.new untried) }
     {
         let pairs = Vec::from_slice(self.alloc, self.branch.pairs.as_slice())?;
         let lengths = self.lengths();
@@ -220,7 +238,12 @@ impl Machine {
     }
 
     /// Keeps only the oldest alternatives.
-    pub(crate) fn cut(&mut self, mark: usize) {
+    pub(crate) fn cut(&mut self, mark: usize)
+        ensures choices { self.new.choices.items ≡ take mark self.old.choices.items }
+        ensures counts { self.new.counts ≡ cut_off self.old.counts (nat_lt mark (length self.old.choices.items)) }
+        ensures branch { self.new.branch ≡ self.old.branch }
+        ensures goals { KeepsGoals self.old self.new }
+    {
         if self.choices.len() > mark {
             self.counts.lost = true;
         }

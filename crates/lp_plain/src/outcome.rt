@@ -1,5 +1,8 @@
 // How the search goes on, and what is counted on its way.
-ghost use Rattle.std.specs.Prelude.{◌≡◌, ◌+◌, ◌≤◌, true, false};
+ghost use Rattle.std.specs.Prelude.{◌≡◌, ◌+◌, ◌<◌, ◌≤◌, true, false};
+ghost use Rattle.lp_plain.specs.Apart.{apart, one_apart};
+ghost use Rattle.lp_plain.specs.Cuts.{one_step};
+ghost use Rattle.lp_plain.specs.Entries.{KeepsGoals};
 ghost use Rattle.lp_plain.specs.Keeping.{KeepsKnown};
 
 use crate::machine::Machine;
@@ -27,7 +30,11 @@ pub(crate) fn turn_of(unified: Unified) -> Turn {
 }
 
 /// Counts a goal that is taken apart. Whether it may be.
-pub(crate) fn take_apart(machine: &mut Machine) -> bool {
+pub(crate) fn take_apart(machine: &mut Machine) -> bool
+    ensures taken { result ≡ true → (machine.old.counts.row < 1000000) × (machine.new.counts ≡ one_apart machine.old.counts) }
+    ensures apart { result ≡ true → machine.new ≡ apart machine.old }
+    ensures spent { result ≡ false → (machine.new ≡ machine.old) × (1000000 ≤ machine.old.counts.row) }
+{
     if machine.counts.row >= RUN_LIMIT {
         return false;
     }
@@ -43,6 +50,9 @@ pub(crate) fn take_step(machine: &mut Machine) -> bool
     ensures choices { machine.new.choices ≡ machine.old.choices }
     ensures denied { machine.new.denied ≡ machine.old.denied }
     ensures known { KeepsKnown machine.old machine.new }
+    ensures counts { result ≡ true → machine.new.counts ≡ one_step machine.old.counts }
+    ensures branch { machine.new.branch ≡ machine.old.branch }
+    ensures goals { KeepsGoals machine.old machine.new }
 {
     if machine.counts.steps >= machine.counts.limit {
         return false;

@@ -1,4 +1,18 @@
 // Goals that are taken apart.
+ghost use Rattle.std.specs.Prelude.{◌≡◌, ℕ, List, IfOk, OnOk};
+ghost use Rattle.lp_calculus.specs.Term.{Term};
+ghost use Rattle.lp_standard.specs.Connectives as two_sided;
+ghost use Rattle.lp_term.specs.Nodes.{tree};
+ghost use Rattle.lp_term.specs.declared.node.TermId.{TermId};
+ghost use Rattle.lp_model.specs.declared.connective.Connective.TheVariants as known;
+ghost use Rattle.lp_model.specs.Branch.{Branch};
+ghost use Rattle.lp_model.specs.Connected.{connective_in};
+ghost use Rattle.lp_model.specs.Flat.{Goal, Goals, Clause, Either};
+ghost use Rattle.lp_model.specs.Search.{look_goal, look_form};
+ghost use Rattle.lp_plain.specs.declared.outcome.Turn.{Turn};
+ghost use Rattle.lp_plain.specs.declared.table.Flat.{Flat};
+ghost use Rattle.lp_plain.specs.Apart.{IsApart};
+ghost use Rattle.lp_plain.specs.Entries.{Around, ArePartsOf, IsBehind, IsOf, entry_at, in_scope};
 
 use crate::act::Act;
 use crate::choice::Untried;
@@ -15,7 +29,9 @@ use lp_model::{Connective, Ending};
 use lp_term::{TermId, TermNode, put_applied, put_eigen};
 
 // The place inside the scope of one more variable.
-fn bound(machine: &mut Machine, place: Place, value: TermId) -> Result<Place, Memory> {
+fn bound(machine: &mut Machine, place: Place, value: TermId) -> Result<Place, Memory>
+    ensures { machine.new.counts ≡ machine.old.counts }
+{
     let one = [value];
     let scope = machine.scopes.open(place.values.scope, &one)?;
     Ok(Place {
@@ -28,7 +44,9 @@ fn bound(machine: &mut Machine, place: Place, value: TermId) -> Result<Place, Me
 }
 
 // The place one level up, and the eigenconstant of that level.
-fn raised(machine: &mut Machine, place: Place) -> Result<(Place, TermId), Memory> {
+fn raised(machine: &mut Machine, place: Place) -> Result<(Place, TermId), Memory>
+    ensures { machine.new.counts ≡ machine.old.counts }
+{
     let Some(level) = place.level.checked_add(1) else {
         return Err(Memory);
     };
@@ -42,16 +60,23 @@ fn put_either(
     right: usize,
     place: Place,
     behind: Option<usize>,
-) -> Result<(), Memory> {
+) -> Result<(), Memory>
+    ensures counts { machine.new.counts ≡ machine.old.counts }
+    ensures parts { OnOk result ((a : Around) (hs ks : Goals) (vs : List TermId) (b : Branch) → IsOf machine.old place left hs vs → IsOf machine.old place right ks vs → IsBehind machine.old a behind b →
+        (u n height : ℕ) (P : List Clause) → let g : Goal = Either (in_scope machine.old.bank vs place.values.types hs) (in_scope machine.old.bank vs place.values.types ks) in ArePartsOf machine.old machine.new a (look_goal u n P height (entry_at a place g) b g)) }
+{
     let other = machine.put_list(right, place, behind)?;
     machine.put_choice(Untried::Goals(other))?;
     machine.note(Act::Left)?;
-    machine.branch.goals = machine.put_list(left, place, behind)?;
+    let one = machine.put_list(left, place, behind)?;
+    machine.branch.goals = one;
     Ok(())
 }
 
 // The new variable at which a `sigma` is opened.
-fn opened(machine: &mut Machine, level: u64) -> Result<TermId, Memory> {
+fn opened(machine: &mut Machine, level: u64) -> Result<TermId, Memory>
+    ensures { machine.new.counts ≡ machine.old.counts }
+{
     let variable = machine.new_variable(level)?;
     machine.note(Act::Opened(variable))?;
     Ok(variable)
@@ -62,7 +87,9 @@ fn put_some(
     goals: usize,
     place: Place,
     behind: Option<usize>,
-) -> Result<(), Memory> {
+) -> Result<(), Memory>
+    ensures { machine.new.counts ≡ machine.old.counts }
+{
     let variable = opened(machine, place.level)?;
     let inner = bound(machine, place, variable)?;
     machine.branch.goals = machine.put_list(goals, inner, behind)?;
@@ -74,7 +101,9 @@ fn put_all(
     goals: usize,
     place: Place,
     behind: Option<usize>,
-) -> Result<(), Memory> {
+) -> Result<(), Memory>
+    ensures { machine.new.counts ≡ machine.old.counts }
+{
     let (above, eigen) = raised(machine, place)?;
     let inner = bound(machine, above, eigen)?;
     machine.branch.goals = machine.put_list(goals, inner, behind)?;
@@ -114,7 +143,9 @@ fn assume_one(
     place: Place,
     tree: Option<usize>,
     head: Head,
-) -> Result<usize, Memory> {
+) -> Result<usize, Memory>
+    ensures { machine.new.counts ≡ machine.old.counts }
+{
     let older = newest_of(&machine.newest, tree, head)?;
     let number = machine.assumptions.len();
     machine.assumptions.push(Assumption {
@@ -126,7 +157,9 @@ fn assume_one(
 }
 
 // Assumes clauses, the first of them to be tried first. The tree of the newest assumptions then.
-fn assume(machine: &mut Machine, rules: Span, place: Place) -> Result<Option<usize>, Memory> {
+fn assume(machine: &mut Machine, rules: Span, place: Place) -> Result<Option<usize>, Memory>
+    ensures { machine.new.counts ≡ machine.old.counts }
+{
     let mut tree = place.assumed;
     'rules: for rule in (rules.from..rules.to).rev() {
         let head = assumed_head(machine, rule, place)?;
@@ -143,7 +176,9 @@ fn put_assume(
     free: usize,
     place: Place,
     behind: Option<usize>,
-) -> Result<(), Memory> {
+) -> Result<(), Memory>
+    ensures { machine.new.counts ≡ machine.old.counts }
+{
     let first = machine.assumptions.len();
     let assumed = assume(machine, rules, place)?;
     let count = machine.assumptions.len().saturating_sub(first);
@@ -169,22 +204,35 @@ pub(crate) fn put_parts(
     goal: Flat,
     place: Place,
     behind: Option<usize>,
-) -> Result<Turn, Memory> {
+) -> Result<Turn, Memory>
+    ensures counted { IfOk result (λ turn. IsApart turn machine.old.counts machine.new.counts) }
+    ensures either { IfOk result (λ turn. turn ≡ Turn.On → (l r : ℕ) → goal ≡ Flat.Either l r → (a : Around) (hs ks : Goals) (vs : List TermId) (b : Branch) → IsOf machine.old place l hs vs → IsOf machine.old place r ks vs → IsBehind machine.old a behind b →
+        (u n height : ℕ) (P : List Clause) → let g : Goal = Either (in_scope machine.old.bank vs place.values.types hs) (in_scope machine.old.bank vs place.values.types ks) in ArePartsOf machine.old machine.new a (look_goal u n P height (entry_at a place g) b g)) }
+{
     if !take_apart(machine) {
         return Ok(Turn::Ended(Ending::Deep));
     }
     match goal {
-        Flat::Either(left, right) => put_either(machine, left, right, place, behind)?,
-        Flat::Some(goals) => put_some(machine, goals, place, behind)?,
-        Flat::All(goals) => put_all(machine, goals, place, behind)?,
+        Flat::Either(left, right) => {
+            put_either(machine, left, right, place, behind)?;
+            Ok(Turn::On)
+        }
+        Flat::Some(goals) => {
+            put_some(machine, goals, place, behind)?;
+            Ok(Turn::On)
+        }
+        Flat::All(goals) => {
+            put_all(machine, goals, place, behind)?;
+            Ok(Turn::On)
+        }
         Flat::Assume(rules, goals, free) => {
             put_assume(machine, rules, goals, free, place, behind)?;
+            Ok(Turn::On)
         }
-        Flat::Atom(_) => {}
-        Flat::Cut => {}
-        Flat::Not(_, _) => {}
+        Flat::Atom(_) => Ok(Turn::On),
+        Flat::Cut => Ok(Turn::On),
+        Flat::Not(_, _) => Ok(Turn::On),
     }
-    Ok(Turn::On)
 }
 
 // Terms as goals of a place, in front of others.
@@ -194,9 +242,14 @@ fn put_and(
     right: TermId,
     place: Place,
     behind: Option<usize>,
-) -> Result<(), Memory> {
+) -> Result<(), Memory>
+    ensures counts { machine.new.counts ≡ machine.old.counts }
+    ensures parts { OnOk result ((a : Around) (b : Branch) → IsBehind machine.old a behind b → (u n height : ℕ) (P : List Clause) (t : Term) (g : Goal) →
+        ArePartsOf machine.old machine.new a (look_form u n P height (entry_at a place g) b t (two_sided.And (tree machine.old.bank left.0) (tree machine.old.bank right.0)))) }
+{
     let second = machine.put_frame(Todo::Term(right), place, behind)?;
-    machine.branch.goals = machine.put_frame(Todo::Term(left), place, second)?;
+    let first = machine.put_frame(Todo::Term(left), place, second)?;
+    machine.branch.goals = first;
     Ok(())
 }
 
@@ -206,11 +259,16 @@ fn put_or(
     right: TermId,
     place: Place,
     behind: Option<usize>,
-) -> Result<(), Memory> {
+) -> Result<(), Memory>
+    ensures counts { machine.new.counts ≡ machine.old.counts }
+    ensures parts { OnOk result ((a : Around) (b : Branch) → IsBehind machine.old a behind b → (u n height : ℕ) (P : List Clause) (t : Term) (g : Goal) →
+        ArePartsOf machine.old machine.new a (look_form u n P height (entry_at a place g) b t (two_sided.Or (tree machine.old.bank left.0) (tree machine.old.bank right.0)))) }
+{
     let other = machine.put_frame(Todo::Term(right), place, behind)?;
     machine.put_choice(Untried::Goals(other))?;
     machine.note(Act::Left)?;
-    machine.branch.goals = machine.put_frame(Todo::Term(left), place, behind)?;
+    let one = machine.put_frame(Todo::Term(left), place, behind)?;
+    machine.branch.goals = one;
     Ok(())
 }
 
@@ -221,7 +279,9 @@ fn put_goal_of(
     value: TermId,
     place: Place,
     behind: Option<usize>,
-) -> Result<(), Memory> {
+) -> Result<(), Memory>
+    ensures { machine.new.counts ≡ machine.old.counts }
+{
     let goal = put_applied(&mut machine.bank, term, value)?;
     machine.branch.goals = machine.put_frame(Todo::Term(goal), place, behind)?;
     Ok(())
@@ -233,22 +293,38 @@ pub(crate) fn put_connective(
     connective: Connective,
     place: Place,
     behind: Option<usize>,
-) -> Result<Turn, Memory> {
+) -> Result<Turn, Memory>
+    ensures counted { IfOk result (λ turn. IsApart turn machine.old.counts machine.new.counts) }
+    ensures and { IfOk result (λ turn. turn ≡ Turn.On → (l r : TermId) → connective ≡ known.And l r → (a : Around) (b : Branch) → IsBehind machine.old a behind b → (u n height : ℕ) (P : List Clause) (t : Term) (g : Goal) →
+        ArePartsOf machine.old machine.new a (look_form u n P height (entry_at a place g) b t (connective_in machine.old.bank connective))) }
+    ensures or { IfOk result (λ turn. turn ≡ Turn.On → (l r : TermId) → connective ≡ known.Or l r → (a : Around) (b : Branch) → IsBehind machine.old a behind b → (u n height : ℕ) (P : List Clause) (t : Term) (g : Goal) →
+        ArePartsOf machine.old machine.new a (look_form u n P height (entry_at a place g) b t (connective_in machine.old.bank connective))) }
+{
     if !take_apart(machine) {
         return Ok(Turn::Ended(Ending::Deep));
     }
     match connective {
-        Connective::And(left, right) => put_and(machine, left, right, place, behind)?,
-        Connective::Or(left, right) => put_or(machine, left, right, place, behind)?,
+        Connective::And(left, right) => {
+            put_and(machine, left, right, place, behind)?;
+            Ok(Turn::On)
+        }
+        Connective::Or(left, right) => {
+            put_or(machine, left, right, place, behind)?;
+            Ok(Turn::On)
+        }
         Connective::ForAll(_, term) => {
             let (above, eigen) = raised(machine, place)?;
             put_goal_of(machine, term, eigen, above, behind)?;
+            Ok(Turn::On)
         }
         Connective::Exists(_, term) => {
             let variable = opened(machine, place.level)?;
             put_goal_of(machine, term, variable, place, behind)?;
+            Ok(Turn::On)
         }
-        _ => machine.branch.goals = behind,
+        _ => {
+            machine.branch.goals = behind;
+            Ok(Turn::On)
+        }
     }
-    Ok(Turn::On)
 }

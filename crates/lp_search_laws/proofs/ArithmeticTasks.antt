@@ -199,7 +199,7 @@ module _ {L : Leaves} (n : ℕ) (d : Declared) (std : IsSetting L d) (P : List C
         typed = rest ∷ [];
         is = refl;
         ok = (rest_typed, tt);
-        given = (inl (record { front = []; types = []; goals = refl; eigens = refl; put = put_nothing n e.goal E z.variables [] [] (form_bound n e.goal t u connective.Atomic is normal (ap connective_of shape ∙ order_form k low ts l r)) refl; pairs = refl }), tt);
+        given = (inl (record { front = []; types = []; goals = refl; eigens = refl; put = put_nothing n e.goal E z.variables [] [] (form_bound n e.goal t u connective.Atomic is normal (ap connective_of shape ∙ order_form k low ts l r)) refl; pairs = refl; found = (refl, refl, refl) }), tt);
         keeps = λ i s. inl (record { query = s.query; answer = s.answer; proved = s.proved.1 });
         gives = λ i s. elim s [ inl h ↦ record { query = h.query; answer = h.answer; proved = ((decided h.answer.closing h.answer.closes).1 w, h.proved) } | inr h ↦ absurd h ];
       }

@@ -77,8 +77,8 @@ module _ (n : ℕ) (d : Declared) (P : List Clause) (q : Query) (z : AnswerTypin
       let r = proved_split _ d P s.answer.closing z.variables Fs Es fs es t s.proved in
       record { query = s.query; answer = s.answer; proved = (f s.answer.closing s.answer.closes r.0, r.1) }
 
-  in_front : (Fs : List (List Ty)) (fs : List Entry) → IsPut n e.goal E z.variables z.variables fs Fs → IsInPlace n e.goal z E Es es (Typings n d P q z b E Es e es (Fs ++ Es)) (with_goals b (fs ++ es))
-  in_front Fs fs x = record { front = fs; types = Fs; goals = refl; eigens = refl; put = x; pairs = refl }
+  in_front : (Fs : List (List Ty)) (fs : List Entry) → IsPut n e.goal E z.variables z.variables fs Fs → IsInPlace n e.goal z E Es es (with_goals b (e ∷ es)) (Typings n d P q z b E Es e es (Fs ++ Es)) (with_goals b (fs ++ es))
+  in_front Fs fs x = record { front = fs; types = Fs; goals = refl; eigens = refl; put = x; pairs = refl; found = (refl, refl, refl) }
 
   -- one alternative
   pub stands_one : {L : Leaves} → Typed n d P q z b E Es e es → (Fs : List (List Ty)) (fs : List Entry) → MayStand d z.variables b.next_type Fs fs → IsPut n e.goal E z.variables z.variables fs Fs →

@@ -44,6 +44,7 @@ other_first n d z E Es b x e es i y c (inl h) = inl (record {
     eigens = h.put.eigens ∙ ap (λ v. map (λ f. eigens_with v E) h.front) i;
   };
   pairs = h.pairs;
+  found = h.found;
 })
 other_first n d z E Es b x e es i y c (inr h) = inr h
 

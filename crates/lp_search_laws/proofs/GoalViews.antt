@@ -169,7 +169,7 @@ module _ {L : Leaves} (n : ℕ) (d : Declared) (std : IsSetting L d) (P : List C
     rest = with_goals b es;
     goes_on = refl;
     after = rest_typed;
-    given = inl (record { front = []; types = []; goals = refl; eigens = refl; put = put_nothing n e.goal E z.variables [] [] (ap (bound_by n) i) refl; pairs = refl });
+    given = inl (record { front = []; types = []; goals = refl; eigens = refl; put = put_nothing n e.goal E z.variables [] [] (ap (bound_by n) i) refl; pairs = refl; found = (refl, refl, refl) });
     keeps = λ j s.
         let c = s.answer.closing in
         let E' = map (instance c.types) E in

@@ -203,7 +203,7 @@ module _ (n : ℕ) (d : Declared) (P : List Clause) (q : Query) (z : AnswerTypin
     typed = going (wider_typing (Fs ++ Es)) (wider_branch (fs ++ es)) ∷ [];
     is = refl;
     ok = (wider_stays Fs fs m, tt);
-    given = (inl (record { front = fs; types = Fs; goals = refl; eigens = refl; put = x; pairs = refl }), tt);
+    given = (inl (record { front = fs; types = Fs; goals = refl; eigens = refl; put = x; pairs = refl; found = (refl, refl, refl) }), tt);
     keeps = λ i s. inl (keeps i s);
     gives = λ i s. elim s [ inl x ↦ gives i x | inr x ↦ absurd x ];
   }

@@ -68,14 +68,15 @@ pub record IsPut (n : ℕ) (g : Goal) (E : List Ty) (V W : List Variable) (fs : 
   pub variables : W ≡ variables_with (bound_by n g) E V
   pub eigens : Fs ≡ map (λ f. eigens_with (bound_by n g) E) fs
 
--- the branch b with entries in the place of the goal g, in front of es
-pub record IsInPlace (n : ℕ) (g : Goal) (z : AnswerTyping) (E : List Ty) (Es : List (List Ty)) (es : List Entry) (y : BranchTyping) (b : Branch) : Type 0 where
+-- the branch c is the branch b with entries in the place of the goal g, in front of es; types, values and pairs are those of before
+pub record IsInPlace (n : ℕ) (g : Goal) (z : AnswerTyping) (E : List Ty) (Es : List (List Ty)) (es : List Entry) (b : Branch) (y : BranchTyping) (c : Branch) : Type 0 where
   pub front : List Entry
   pub types : List (List Ty)
-  pub goals : b.goals ≡ front ++ es
+  pub goals : c.goals ≡ front ++ es
   pub eigens : y.eigens ≡ types ++ Es
   pub put : IsPut n g E z.variables y.answer.variables front types
   pub pairs : y.answer.pairs ≡ z.pairs
+  pub found : (c.types ≡ b.types) × (c.values ≡ b.values) × (c.pairs ≡ b.pairs)
 
 -- the branch c that unification leaves of b
 pub record IsLeftBehind (n : ℕ) (d : Declared) (x : BranchTyping) (b : Branch) (y : BranchTyping) (c : Branch) : Type 0 where
@@ -89,7 +90,7 @@ pub record IsLeftBehind (n : ℕ) (d : Declared) (x : BranchTyping) (b : Branch)
   pub eigens : y.eigens ≡ eigens_of (types_of state.types) x.eigens
 
 abbrev pub IsTypedFromFirst : (n : ℕ) → Declared → AnswerTyping → List (List Ty) → Branch → List Entry → BranchTyping → Branch → Type 0
-IsTypedFromFirst n d z (E ∷ Es) b (e ∷ es) y c = IsInPlace n e.goal z E Es es y c ⊎ IsLeftBehind n d (record { answer = z; eigens = Es }) (with_goals b es) y c
+IsTypedFromFirst n d z (E ∷ Es) b (e ∷ es) y c = IsInPlace n e.goal z E Es es b y c ⊎ IsLeftBehind n d (record { answer = z; eigens = Es }) (with_goals b es) y c
 IsTypedFromFirst n d z [] b es y c = ⊥
 IsTypedFromFirst n d z (E ∷ Es) b [] y c = ⊥
 

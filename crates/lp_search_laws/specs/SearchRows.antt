@@ -4,7 +4,7 @@ use Rattle.lp_calculus.specs.Types.{Ty, arrow, var}
 use Rattle.lp_calculus.specs.Typing.{Scheme, int_type, list_type, o_type, string_type}
 use Rattle.lp_model.specs.Flatten.{ClauseFormula}
 use Rattle.lp_search_laws.specs.Worked.{conj, declares, fact, impl, kind, known, on, on2, plain_type}
-use Rattle.lp_standard.specs.Connectives.{pi_of, two}
+use Rattle.lp_standard.specs.Connectives.{pi_of, sigma_of, two}
 use Rattle.std.specs.Prelude.{List, Option, Some, [], pos, ℕ, ◌∷◌}
 
 abbrev pub x : ℕ → Term
@@ -30,6 +30,10 @@ i = kind 8
 
 abbrev pub eq : Term → Term → Term
 eq t u = two 8 (i ∷ []) t u
+
+-- sigma F\ sigma Z\ sigma W\ (X = F Z W, Y = F W Z), where Z and W are of the type T
+abbrev pub both_ways : Ty → Term
+both_ways T = sigma_of (arrow T (arrow T i)) (abs (sigma_of T (abs (sigma_of T (abs (conj (eq (x 4) (app (app (x 2) (x 1)) (x 0))) (eq (x 3) (app (app (x 2) (x 0)) (x 1)))))))))
 
 -- module stlc: abs 32, app 33, arr 34, of 35; tm 8, ty 9
 abbrev pub stlc : ℕ → Option Scheme

@@ -10,7 +10,7 @@ ghost use Rattle.lp_model.specs.Flatten.{flatten_query};
 ghost use Rattle.lp_model.specs.Proofs.{AreFlattened};
 ghost use Rattle.lp_search_laws.specs.StartRow.{declared, flat_query, flat_rule, query, rule};
 ghost use Rattle.lp_search_laws.specs.Started.{IsTypedQuery, IsTypedSentence};
-ghost use Rattle.lp_search_laws.specs.SearchRows.{append, appends, calculation, cons, empty, eq, free, fun, hyp, i, int, ints_text, is, lists, local, local_rules, loop, loop_rules, nil, of_rules, once, once_rules, poly, stlc, tag, tags, ten, x};
+ghost use Rattle.lp_search_laws.specs.SearchRows.{append, appends, both_ways, calculation, cons, empty, eq, free, fun, hyp, i, int, ints_text, is, lists, local, local_rules, loop, loop_rules, nil, of_rules, once, once_rules, poly, stlc, tag, tags, ten, x};
 ghost use Rattle.lp_search_laws.specs.Worked.{conj, impl, kind, known, on, on2, residues, told, values};
 ghost use Rattle.lp_standard.specs.Connectives.{pi_of, sigma_of, two};
 ghost use Rattle.std.specs.Prelude.{Some, [], neg_ℤ, pos, ◌∷◌, ◌≡◌};
@@ -101,4 +101,11 @@ pub fn a_typed_program()
     ensures program { AreFlattened declared (rule ∷ []) (flat_rule ∷ []) }
     ensures asked { IsTypedQuery declared query }
     ensures goals { flatten_query 9 declared query.formula ≡ Some flat_query }
+{}
+
+/// An answer does not say the types of its variables: a query over variables of one type and the same query over those of another have the same. So answers are judged
+/// by the typing that the search gives: only where Z and W have the type of X and Y may these be any two terms.
+pub fn answers_without_types()
+    ensures of_the_same_type { values (told fun [] 0 2 (both_ways i) 1000 100) ≡ (app (app (free 2) (free 3)) (free 4) ∷ app (app (free 2) (free 4)) (free 3) ∷ []) ∷ [] }
+    ensures of_another_type { values (told fun [] 0 2 (both_ways (kind 9)) 1000 100) ≡ (app (app (free 2) (free 3)) (free 4) ∷ app (app (free 2) (free 4)) (free 3) ∷ []) ∷ [] }
 {}

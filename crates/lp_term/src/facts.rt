@@ -1,6 +1,6 @@
 ghost use Rattle.std.specs.Prelude.{◌≡◌, ℕ, true};
 ghost use Rattle.lp_calculus.specs.Term.{Term, Atom, index, atom, abs, app};
-ghost use Rattle.lp_term.specs.Facts.{AreFacts, IsNoAbstraction, IsReach, AreNodes};
+ghost use Rattle.lp_term.specs.Facts.{AreFacts, IsFixed, IsNoAbstraction, IsReach, AreNodes};
 
 /// What is known of a term without a look at its parts.
 #[derive(Clone, Copy)]
@@ -11,6 +11,8 @@ pub(crate) struct Facts {
     pub(crate) normal: bool,
     /// How many heads and abstractions the term has, where that fits.
     pub(crate) nodes: Option<u64>,
+    /// Only where the term is ground and of first order.
+    pub(crate) ground: bool,
 }
 
 impl Facts {
@@ -21,16 +23,19 @@ impl Facts {
             reach: i.checked_add(1),
             normal: true,
             nodes: Some(1),
+            ground: false,
         }
     }
 
-    pub(crate) fn of_atom() -> Facts
-        ensures { (a : Atom) → AreFacts result (atom a) }
+    /// Of an atom; `ground` only where it is neither an eigenconstant nor a variable.
+    pub(crate) fn of_atom(ground: bool) -> Facts
+        ensures { (a : Atom) → (ground ≡ true → IsFixed a) → AreFacts result (atom a) }
     {
         Facts {
             reach: Some(0),
             normal: true,
             nodes: Some(1),
+            ground,
         }
     }
 
@@ -41,6 +46,7 @@ impl Facts {
             reach: lowered(self.reach),
             normal: self.normal,
             nodes: total(self.nodes, Some(1)),
+            ground: false,
         }
     }
 
@@ -52,6 +58,7 @@ impl Facts {
             reach: higher(self.reach, argument.reach),
             normal: both(self.normal, argument.normal),
             nodes: total(self.nodes, argument.nodes),
+            ground: both(self.ground, argument.ground),
         }
     }
 }

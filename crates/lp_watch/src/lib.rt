@@ -7,8 +7,12 @@ mod counter;
 mod crowd;
 // What many notes do.
 mod laws;
+// The watcher for tests that leaves.
+mod leaver;
 // The notes, and what is answered to one.
 mod note;
+// The watcher for tests that has no memory.
+mod refuser;
 // How many notes of each kind.
 mod tally;
 // The watcher that keeps its notes.
@@ -19,6 +23,8 @@ mod watch;
 pub use counter::Counter;
 pub use crowd::{Crowd, Lent};
 pub use laws::{each_has_the_notes, notes_add_up, places_add_up, who_stays};
+pub use leaver::Leaver;
 pub use note::{Go, Note};
+pub use refuser::Refuser;
 pub use tracer::Tracer;
 pub use watch::Watch;

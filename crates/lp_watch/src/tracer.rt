@@ -20,7 +20,7 @@ pub enum Kept {
     Cut,
 }
 
-fn keep(alloc: Global, note: Note<'_>) -> Result<Kept, Memory>
+pub(crate) fn keep(alloc: Global, note: Note<'_>) -> Result<Kept, Memory>
     ensures { IfOk result (λ kept. kept_event kept ≡ event_of note.entry) }
 {
     Ok(match note {
@@ -48,6 +48,17 @@ fn add_line(out: &mut Vec<u8>, kept: &Kept) -> Result<(), Memory>
         Kept::Cut => out.extend_from_slice(b"cut\n")?,
     }
     Ok(())
+}
+
+// A line for each note.
+pub(crate) fn lines(alloc: Global, notes: &[Kept]) -> Result<Vec<u8>, Memory>
+    ensures { IfOk result (λ out. out.items ≡ flat_map line_of (map kept_event notes.now)) }
+{
+    let mut out = Vec::new(alloc);
+    for kept in notes {
+        add_line(&mut out, kept)?;
+    }
+    Ok(out)
 }
 
 /// Keeps its notes, and takes a given number of them. Its report has a line for each note:
@@ -89,10 +100,6 @@ impl Watch for Tracer {
     }
 
     fn text(&self, alloc: Global) -> Result<Vec<u8>, Memory> {
-        let mut out = Vec::new(alloc);
-        for kept in &self.notes {
-            add_line(&mut out, kept)?;
-        }
-        Ok(out)
+        lines(alloc, self.notes.as_slice())
     }
 }

@@ -4,8 +4,8 @@ use Rattle.lp_calculus.specs.Types.{Ty, Tys, var, param as type_param, con, arro
 use Rattle.lp_term.specs.Nodes.{Nodes, tree, type_tree}
 use Rattle.lp_term.specs.Walk.{size}
 use Rattle.lp_gen.specs.inner.Reading.{read, read_at}
-use Rattle.lp_gen.specs.declared.terms.TypeTask.{TypeTask}
-use Rattle.lp_gen.specs.declared.terms.TypeTask.TheVariants as on_type
+use Rattle.lp_gen.specs.declared.written_types.TypeTask.{TypeTask}
+use Rattle.lp_gen.specs.declared.written_types.TypeTask.TheVariants as on_type
 use Rattle.lp_gen.specs.declared.terms.Task.{Task}
 use Rattle.lp_gen.specs.declared.terms.Task.TheVariants as on_term
 use Rattle.lp_model.specs.declared.clause.Goal as code

@@ -1,7 +1,7 @@
 use Rattle.lp_lines.proofs.Refusing.{never_write_fault}
 use Rattle.lp_lines.proofs.Running.{keeps_behind, keeps_told, ran_searched, ran_told}
 use Rattle.lp_lines.proofs.Statuses.{not_source}
-use Rattle.lp_judge.proofs.Checkings.{told_nowhere}
+use Rattle.lp_judge.proofs.Checkings.{checks_refused, checks_told, told_nowhere}
 use Rattle.lp_judge.proofs.checking.check_asked.Goals as goal
 
 pub returns-in-Ok-clause-ran : goal.returns-in-Ok-clause-ran
@@ -24,3 +24,9 @@ returns-in-Err-clause-keeps g c = keeps_told c.in-Err.refusal c.tell.result c.in
 
 pub returns-in-Err-clause-nowhere : goal.returns-in-Err-clause-nowhere
 returns-in-Err-clause-nowhere g c = told_nowhere c.in-Err.refusal c.tell.result c.in-Err.ensures.nowhere c.tell.ensures.said
+
+pub returns-in-Ok-clause-checks : goal.returns-in-Ok-clause-checks
+returns-in-Ok-clause-checks g c text = λ asked. checks_told _ _ text _ _ c.say_checked.result c.in-Ok.told.line.items c.in-Ok.told.status (c.in-Ok.ensures.right text asked) c.say_checked.ensures.said
+
+pub returns-in-Err-clause-checks : goal.returns-in-Err-clause-checks
+returns-in-Err-clause-checks g c text = λ asked. checks_refused _ _ text _ _ c.tell.result c.in-Err.refusal c.in-Err.ensures.looked.kind c.tell.ensures.said

@@ -1,11 +1,33 @@
-use Rattle.std.proofs.Common.{arith, refl}
+use Rattle.std.proofs.Common.{◌+◌, ◌∷◌, ◌∙◌, sym, ap, subst as transport, arith, refl}
 use Rattle.lp_term.proofs.Walking.{on_ok}
 use Rattle.lp_pattern.specs.Reading.{side_of}
 use Rattle.lp_pattern.specs.Refusing.{IsOfTerm}
 use Rattle.lp_pattern.proofs.Results.{err_and, if_err}
 use Rattle.lp_pattern.proofs.Walking.{reading_kept}
 use Rattle.lp_pattern.proofs.Scannings.{visit_goes, visit_stops, visit_far, visits_kept}
+use Rattle.lp_pattern.specs.Visiting.{IsStopped, part_of, parts_of, scan_parts}
+use Rattle.lp_pattern.proofs.Grounds.{ground_read, ground_rest, ground_stopped}
 use Rattle.lp_pattern.proofs.scan.visit_part.Goals as goal
+
+pub returns-in-Some-clause-scanned : goal.returns-in-Some-clause-scanned
+returns-in-Some-clause-scanned c =
+    on_ok c.spend_many.result _ _
+    (λ e r i h m n.
+    let g = ground_read c.args.bank.now r c.args.visit.opened.level c.args.visit.opened.depth c.args.visit.term c.in-Some.ensures.0 in
+    ground_rest m n (side_of c.args.side.now) (part_of c.args.bank.now r c.args.visit) (parts_of c.args.bank.now r c.args.left.now.items) g.0 c.args.found.now c.args.units.now c.spend_many.new.units
+    (e ∙ ap (λ k. c.spend_many.new.units + k) (sym (g.1 ∙ c.in-Some.ensures.1))))
+    c.spend_many.ensures.spent
+
+pub returns-in-Some-clause-stopped : goal.returns-in-Some-clause-stopped
+returns-in-Some-clause-stopped c =
+    if_err c.spend_many.result _ _
+    (λ e f r i h m n.
+    let g = ground_read c.args.bank.now r c.args.visit.opened.level c.args.visit.opened.depth c.args.visit.term c.in-Some.ensures.0 in
+    let few = f.1 in
+    let count = g.1 ∙ c.in-Some.ensures.1 in
+    transport (λ x. IsStopped m x c.args.units.now (scan_parts m n (side_of c.args.side.now) (part_of c.args.bank.now r c.args.visit ∷ parts_of c.args.bank.now r c.args.left.now.items))) (sym f.0)
+    (ground_stopped m n (side_of c.args.side.now) (part_of c.args.bank.now r c.args.visit) (parts_of c.args.bank.now r c.args.left.now.items) g.0 c.args.units.now (omega (arith, few, count))))
+    c.spend_many.ensures.refused
 
 pub returns-in_err-looked-clause-stopped : goal.returns-in_err-looked-clause-stopped
 returns-in_err-looked-clause-stopped c =

@@ -3,7 +3,12 @@ use Rattle.lp_term.proofs.Walking.{on_ok}
 use Rattle.lp_pattern.specs.Refusing.{IsOfTerm}
 use Rattle.lp_pattern.proofs.GivenUp.{settle_far, settle_seen}
 use Rattle.lp_pattern.proofs.Results.{err_and, if_err}
+use Rattle.lp_pattern.proofs.Grounds.{ground_moves}
 use Rattle.lp_pattern.proofs.settle.visit.Goals as goal
+
+pub returns-in-Some-clause-moves : goal.returns-in-Some-clause-moves
+returns-in-Some-clause-moves c =
+    ground_moves c.args.bank.now c.args.bindings.now c.args.side.now.eigens.items c.args.term c.args.opened c.args.work.now.tasks.items c.args.work.now.made.items c.push.new.self.items c.in-Some.ensures.0 c.in_ok-push.ensures.items
 
 pub returns-clause-moves : goal.returns-clause-moves
 returns-clause-moves c =
@@ -15,7 +20,7 @@ returns-clause-moves c =
 
 pub returns-in_err-looked-clause-refused : goal.returns-in_err-looked-clause-refused
 returns-in_err-looked-clause-refused c =
-    err_and c.from_residual.result (λ e. IsOfTerm c.in_err-looked.field-0.0 e) _ c.from_residual.ensures.1
+    err_and c.from_residual-in_err-looked.result (λ e. IsOfTerm c.in_err-looked.field-0.0 e) _ c.from_residual-in_err-looked.ensures.1
     (λ y o r i h m x. settle_far c.args.bank.now r c.args.side.now.eigens.items c.args.term c.args.opened c.args.work.now.tasks.items c.args.work.now.made.items m x c.in_err-looked.field-0.0 y o (c.in_err-looked.ensures.refused r i))
 
 pub returns-clause-refused : goal.returns-clause-refused

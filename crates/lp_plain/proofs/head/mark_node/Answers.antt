@@ -1,5 +1,6 @@
 use Rattle.std.proofs.Common.{refl}
 use Rattle.lp_plain.proofs.HeadPlaces.{leaf_marked, below_marked, index_stands, body_stands, parts_stand, on_ok}
+use Rattle.lp_plain.proofs.Placed.{place_off, body_placed, parts_placed}
 use Rattle.lp_plain.proofs.head.mark_node.Goals as goal
 
 pub returns-then-is_known_below-clause-marks : goal.returns-then-is_known_below-clause-marks
@@ -34,3 +35,34 @@ returns-in-Logic-clause-marks c = λ k. leaf_marked c.args.bank.now c.args.seen.
 
 pub returns-in-Param-clause-marks : goal.returns-in-Param-clause-marks
 returns-in-Param-clause-marks c = λ k. leaf_marked c.args.bank.now c.args.seen.now.items k c.args.places.now.items c.args.place _ c.in-Param.ensures.tree refl
+
+pub returns-then-is_known_below-clause-lighter : goal.returns-then-is_known_below-clause-lighter
+returns-then-is_known_below-clause-lighter c = place_off c.args.bank.now _ c.args.places.now.items c.args.place refl
+
+pub returns-in-Index-clause-lighter : goal.returns-in-Index-clause-lighter
+returns-in-Index-clause-lighter c = place_off c.args.bank.now _ c.args.places.now.items c.args.place refl
+
+pub returns-in-Const-clause-lighter : goal.returns-in-Const-clause-lighter
+returns-in-Const-clause-lighter c = place_off c.args.bank.now _ c.args.places.now.items c.args.place refl
+
+pub returns-in-Int-clause-lighter : goal.returns-in-Int-clause-lighter
+returns-in-Int-clause-lighter c = place_off c.args.bank.now _ c.args.places.now.items c.args.place refl
+
+pub returns-in-Text-clause-lighter : goal.returns-in-Text-clause-lighter
+returns-in-Text-clause-lighter c = place_off c.args.bank.now _ c.args.places.now.items c.args.place refl
+
+pub returns-in-Eigen-clause-lighter : goal.returns-in-Eigen-clause-lighter
+returns-in-Eigen-clause-lighter c = place_off c.args.bank.now _ c.args.places.now.items c.args.place refl
+
+pub returns-in-Logic-clause-lighter : goal.returns-in-Logic-clause-lighter
+returns-in-Logic-clause-lighter c = place_off c.args.bank.now _ c.args.places.now.items c.args.place refl
+
+pub returns-in-Param-clause-lighter : goal.returns-in-Param-clause-lighter
+returns-in-Param-clause-lighter c = place_off c.args.bank.now _ c.args.places.now.items c.args.place refl
+
+pub returns-in-Abs-clause-lighter : goal.returns-in-Abs-clause-lighter
+returns-in-Abs-clause-lighter c = on_ok c.push_body.result _ _ (body_placed c.args.bank.now c.args.places.now.items c.push_body.new.places.items c.args.place c.in-Abs.body _ c.in-Abs.ensures.tree) c.push_body.ensures
+
+pub returns-in-App-clause-lighter : goal.returns-in-App-clause-lighter
+returns-in-App-clause-lighter c =
+    on_ok c.push_parts.result _ _ (parts_placed c.args.bank.now c.args.places.now.items c.push_parts.new.places.items c.args.place c.in-App.head c.in-App.args.now _ c.in-App.ensures.tree c.in-App.ensures.older.2) c.push_parts.ensures

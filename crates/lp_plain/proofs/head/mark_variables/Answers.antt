@@ -1,6 +1,7 @@
-use Rattle.std.proofs.Common.{◌∙◌, refl, arith}
+use Rattle.std.proofs.Common.{◌∙◌, refl, ap, arith}
 use Rattle.lp_term.specs.Nodes.{tree}
 use Rattle.lp_plain.proofs.HeadPlaces.{walk_begins, walk_goes_on, walk_ends, empty}
+use Rattle.lp_plain.specs.inner.Placing.{places_weight}
 use Rattle.lp_plain.proofs.head.mark_variables.Goals as goal
 
 pub places-init : goal.places-init
@@ -17,7 +18,14 @@ places-preserved c = record {
       (c.places.invariant.marks k);
 }
 
-pub returns-in_default : goal.returns-in_default
-returns-in_default c =
+pub returns : goal.returns
+returns c =
     walk_ends c.args.bank.now c.args.seen.now.items c.places.seen.items c.places.places.items (tree c.args.bank.now c.args.term.0) c.places.invariant.count
     (empty c.places.places.items (omega (arith, c.in_default.ensures.cases.0, c.places.places.ok))) c.places.invariant.marks
+
+pub places-smaller : goal.places-smaller
+places-smaller c =
+    let b = c.args.bank.now in
+    let l = c.in_ok-mark_node.ensures.lighter in
+    let e = ap (places_weight b) c.in-Some.ensures.items in
+    omega (arith, l, e)

@@ -3,6 +3,7 @@ use Rattle.std.specs.Prelude.{◌||◌, not}
 use Rattle.lp_calculus.specs.Normal.{is_absent}
 use Rattle.lp_term.specs.Nodes.{tree}
 use Rattle.lp_plain.specs.Heads.{stands}
+use Rattle.lp_plain.specs.inner.Placing.{places_weight}
 use Rattle.lp_plain.proofs.head.mark_variables.Given as goal
 
 abbrev pub invariant-places : goal.invariant-places
@@ -10,3 +11,6 @@ invariant-places l = record {
   count : length l.seen.items ≡ length l.fn.seen.items;
   marks : (k : ℕ) → (get_or l.seen.items k true || stands l.bank k l.places.items) ≡ (get_or l.fn.seen.items k true || not (is_absent k (tree l.bank l.fn.term.0)));
 }
+
+abbrev pub decreases-places : goal.decreases-places
+decreases-places l = places_weight l.bank l.places.items

@@ -1,0 +1,7 @@
+use Rattle.std.proofs.Common.{map}
+use Rattle.lp_term.specs.Nodes.{type_tree}
+use Rattle.lp_gen.specs.inner.Running.{AreTypesPut}
+use Rattle.lp_gen.proofs.written_types.put_types.Given as goal
+
+abbrev pub invariant-loop-of : goal.invariant-loop-of
+invariant-loop-of l = AreTypesPut l.fn.emitter l.emitter l.registers.items (map (λ t. type_tree l.bank t.0) l.yielded)

@@ -1,0 +1,33 @@
+-- A query as its text says it.
+use Rattle.std.specs.Prelude.{◌≤◌, ℕ, List}
+use Rattle.lp_base.specs.declared.limits.TheConstants.{MAX_ARGUMENTS}
+use Rattle.lp_lexer.specs.declared.token.Token.{Token}
+use Rattle.lp_lexer.specs.Lexis.{HasTokens}
+use Rattle.lp_fixity.specs.declared.table.Table.{Table}
+use Rattle.lp_fixity.specs.Table.{entry_of}
+use Rattle.lp_syntax.specs.declared.text.RawQuery.{RawQuery}
+use Rattle.lp_syntax.specs.Tokens.{lexemes, spot_at}
+use Rattle.lp_syntax.specs.Queries.{IsQueryText}
+use Rattle.lp_term.specs.Nodes.{Nodes, tree}
+use Rattle.lp_model.specs.declared.program.Typed.{Typed}
+use Rattle.lp_sig.specs.declared.signature.Signature.{Signature}
+use Rattle.lp_infer.specs.Numbering.{IsTyped}
+use Rattle.lp_infer.specs.Refusals.{Stands}
+use Rattle.lp_module.specs.Arguments.{HasManyArguments}
+use Rattle.lp_module.specs.Refusals.{IsShort}
+
+-- the text has tokens, and these are one query tree under the operators
+pub record IsRead (operators : Table) (text : List ℕ) (raw : RawQuery) : Type 0 where
+  pub tokens : List Token
+  pub lexed : HasTokens text tokens
+  pub tree : IsQueryText (spot_at 0 text tokens) (entry_of operators) (lexemes text tokens) raw
+
+-- the query is the principal typing of what is read in the text, in this bank, and within the limits on arguments and on the nodes of its normal form
+pub record IsAsked (operators : Table) (names : Signature) (text : List ℕ) (b : Nodes) (query : Typed) : Type 0 where
+  pub raw : RawQuery
+  pub read : IsRead operators text raw
+  pub few : HasManyArguments raw.term → ⊥
+  pub stands : Stands b query
+  pub typed : IsTyped names text raw.term b query
+  pub short : IsShort (tree b query.formula.0)
+  pub variables : query.type_vars ≤ MAX_ARGUMENTS

@@ -1,0 +1,6 @@
+use Rattle.std.proofs.Common.{◌≡◌, map, take}
+use Rattle.lp_object.specs.Plain.{plain_image_kind}
+use Rattle.lp_object.proofs.image.arities_of.Given as goal
+
+abbrev pub invariant-loop-kind : goal.invariant-loop-kind
+invariant-loop-kind l = l.arities.items ≡ map (λ k. k.arity) (map plain_image_kind (take l.kind-index l.kinds))

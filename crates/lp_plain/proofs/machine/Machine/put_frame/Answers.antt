@@ -1,0 +1,13 @@
+use Rattle.std.proofs.Common.{◌≡◌, ◌++◌, length, Some, sym, subst, arith}
+use Rattle.lp_plain.specs.Entries.{AreEntries, placed}
+use Rattle.lp_plain.specs.Tables.{shown}
+use Rattle.lp_plain.proofs.Frames.{frame_put}
+use Rattle.lp_plain.proofs.machine.Machine.put_frame.Goals as goal
+
+pub returns-clause-reads : goal.returns-clause-reads
+returns-clause-reads c = λ a gs es h r.
+    let m = c.args.self.now in
+    let p = c.args.place in
+    let n : c.len-number.result ≡ length m.frames.items = omega (arith, c.len-number.ensures, m.frames.ok) in
+    subst (λ k. AreEntries m.bank (shown m.table) m.scopes a c.push.new.self.items (Some k) (placed a p gs ++ es)) (sym n)
+    (frame_put m.bank (shown m.table) m.scopes a m.frames.items c.push.new.self.items (record { todo = c.args.todo; place = p; behind = c.args.behind }) gs es c.in_ok-push.ensures.items h r)

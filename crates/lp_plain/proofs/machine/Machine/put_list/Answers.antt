@@ -1,0 +1,8 @@
+use Rattle.lp_plain.proofs.Frames.{list_todo, list_empty}
+use Rattle.lp_plain.proofs.machine.Machine.put_list.Goals as goal
+
+pub returns-then-span-clause-reads : goal.returns-then-span-clause-reads
+returns-then-span-clause-reads c = λ a gs es h r. list_empty c.args.self.now a c.args.place c.args.list c.in_ok-span.span gs c.args.behind es c.in_ok-span.ensures c.if-span.true h r
+
+pub returns-clause-reads : goal.returns-clause-reads
+returns-clause-reads c = λ a gs es h r. c.in_ok-goals.ensures.reads a gs es (list_todo c.args.self.now c.args.place c.args.list c.in_ok-span.span gs c.in_ok-span.ensures h) r

@@ -1,0 +1,110 @@
+-- How the goals of a branch read: the entries of the definition for which its frames stand.
+use Rattle.std.specs.Prelude.{◌≡◌, ℕ, List, [], ◌∷◌, ◌++◌, take, Option, None, Some, slice_get}
+use Rattle.lp_term.specs.Nodes.{Nodes, tree}
+use Rattle.lp_term.specs.declared.node.TermId.{TermId}
+use Rattle.lp_model.specs.Branch.{Entry, Branch, Answer, Task, Go, entries}
+use Rattle.lp_model.specs.Skeleton.{View, Parts}
+use Rattle.lp_model.specs.Flat.{Goal, Atomic, Goals, Clause, Written, goal_list, instantiate_goals, type_goals}
+use Rattle.lp_pattern.specs.Growing.{GoesOn}
+use Rattle.lp_plain.specs.declared.choice.Choice.{Choice}
+use Rattle.lp_plain.specs.declared.choice.Untried.{Untried}
+use Rattle.lp_plain.specs.declared.frame.Frame.{Frame}
+use Rattle.lp_plain.specs.declared.frame.Place.{Place}
+use Rattle.lp_plain.specs.declared.frame.Todo.{Todo}
+use Rattle.lp_plain.specs.declared.machine.Machine.{Machine}
+use Rattle.lp_plain.specs.declared.scope.Scopes.{Scopes}
+use Rattle.lp_plain.specs.declared.types.Renewal.{Renewal}
+use Rattle.lp_plain.specs.Instances.{values_of}
+use Rattle.lp_plain.specs.Renewal.{renewing}
+use Rattle.lp_plain.specs.Scopes.{IsScope, block_count, value_count}
+use Rattle.lp_plain.specs.Keeping.{KeepsKnown}
+use Rattle.lp_plain.specs.Tables.{Shown, shown, AreGoals, IsListOf, Never}
+
+-- what the numbers of a place stand for: the clauses assumed by a tree of assumptions, what is written in them, the definition's mark
+pub record Around : Type 0 where
+  pub assumed : Option ℕ → List Clause
+  pub written : Option ℕ → Written
+  pub mark : ℕ → ℕ
+
+-- goals of a clause with these values for its variables and new numbers for its type variables
+abbrev pub in_scope : Nodes → List TermId → Renewal → Goals → Goals
+in_scope b vs r gs = instantiate_goals (values_of b vs) (type_goals (renewing r) gs)
+
+-- goals in a place
+abbrev pub placed : Around → Place → List Goal → List Entry
+placed a p gs = entries gs (a.assumed p.assumed) (a.written p.standing) p.level (a.mark p.mark)
+
+-- the values of a place are these
+abbrev pub IsAt : Scopes → Place → List TermId → Type 0
+IsAt s p vs = IsScope s (block_count s) (value_count s) p.values.scope vs
+
+-- the goals of a frame
+abbrev pub AreTodo : Nodes → Shown → Scopes → Place → Todo → List Goal → Type 0
+AreTodo b t s p (Todo.Goals span) gs = (hs : Goals) × (vs : List TermId) × AreGoals b Never t span.from span.to hs × IsAt s p vs × (gs ≡ goal_list (in_scope b vs p.values.types hs))
+AreTodo b t s p (Todo.Term u) gs = gs ≡ Atomic (tree b u.0) ∷ []
+
+-- the goals from a frame on. Behind each frame is an older one
+pub data AreEntries (b : Nodes) (t : Shown) (s : Scopes) (a : Around) : List Frame → Option ℕ → List Entry → Type 0 where
+  no_frame : {fs : List Frame} {o : Option ℕ} {es : List Entry} → o ≡ None → es ≡ [] → AreEntries b t s a fs o es
+  a_frame : {fs : List Frame} {o : Option ℕ} {es : List Entry} (i : ℕ) (f : Frame) (gs : List Goal) (rest : List Entry) → o ≡ Some i → slice_get fs i ≡ Some f → AreTodo b t s f.place f.todo gs →
+      AreEntries b t s a (take i fs) f.behind rest → es ≡ placed a f.place gs ++ rest → AreEntries b t s a fs o es
+
+-- so in a search
+abbrev pub Reads : Machine → Around → Option ℕ → List Entry → Type 0
+Reads m a o es = AreEntries m.bank (shown m.table) m.scopes a m.frames.items o es
+
+-- the goals of a list of the table, in a place of the search
+abbrev pub IsListAt : Machine → Place → (list : ℕ) → List Goal → Type 0
+IsListAt m p list gs = (hs : Goals) × (vs : List TermId) × IsListOf m.bank m.table list hs × IsAt m.scopes p vs × (gs ≡ goal_list (in_scope m.bank vs p.values.types hs))
+
+-- a list of the table has these goals, and the place has these values
+abbrev pub IsOf : Machine → Place → (list : ℕ) → Goals → List TermId → Type 0
+IsOf m p list hs vs = IsListOf m.bank m.table list hs × IsAt m.scopes p vs
+
+-- what is known of terms stays, and frames only come
+pub record KeepsGoals (old new : Machine) : Type 0 where
+  pub known : KeepsKnown old new
+  pub frames : GoesOn old.frames.items new.frames.items
+
+-- the branch at work reads as one of the definition, by its goals and its next numbers
+pub record IsBranchAt (m : Machine) (a : Around) (b : Branch) : Type 0 where
+  pub goals : Reads m a m.branch.goals b.goals
+  pub next : m.branch.next ≡ b.next
+  pub next_type : m.branch.next_type ≡ b.next_type
+
+-- the branch with these goals in front of those from a frame on
+pub record IsBehind (m : Machine) (a : Around) (behind : Option ℕ) (b : Branch) : Type 0 where
+  pub goals : Reads m a behind b.goals
+  pub next : m.branch.next ≡ b.next
+  pub next_type : m.branch.next_type ≡ b.next_type
+
+-- an alternative of this branch, with these goals left to try
+pub record HasAlternative (old new : Machine) (untried : Untried) : Type 0 where
+  pub choice : Choice
+  pub more : new.choices.items ≡ old.choices.items ++ choice ∷ []
+  pub left : choice.untried ≡ untried
+  pub next : choice.next ≡ old.branch.next
+  pub next_type : choice.next_type ≡ old.branch.next_type
+
+-- an alternative goes on with a branch that reads so
+pub record IsChoiceAt (m : Machine) (a : Around) (c : Choice) (b : Branch) : Type 0 where
+  pub from : Option ℕ
+  pub left : c.untried ≡ Untried.Goals from
+  pub goals : Reads m a from b.goals
+  pub next : c.next ≡ b.next
+  pub next_type : c.next_type ≡ b.next_type
+
+-- the branch at work has become these tasks: the first one is at work, a second one is the newest alternative
+abbrev pub AreTasks : (old new : Machine) → Around → List Task → Type 0
+AreTasks old new a (Go b ∷ []) = IsBranchAt new a b × (new.choices.items ≡ old.choices.items)
+AreTasks old new a (Go b ∷ Go d ∷ []) = IsBranchAt new a b × ((c : Choice) × (new.choices.items ≡ old.choices.items ++ c ∷ []) × IsChoiceAt new a c d)
+AreTasks old new a ts = ⊥
+
+-- so are those of a goal that is taken apart
+abbrev pub ArePartsOf : (old new : Machine) → Around → View Task Answer → Type 0
+ArePartsOf old new a (Parts ts) = AreTasks old new a ts
+ArePartsOf old new a v = ⊥
+
+-- a goal in a place
+abbrev pub entry_at : Around → Place → Goal → Entry
+entry_at a p g = record { goal = g; assumed = a.assumed p.assumed; written = a.written p.standing; level = p.level; mark = a.mark p.mark }
