@@ -217,6 +217,3 @@ moved_task m Lack = Lack
 pub put_all_moved : (m : Moving) (bs : List Binding) (t : Term) → put_all (map (moved_binding m) bs) (moved m t) ≡ moved m (put_all bs t)
 put_all_moved m [] t = refl
 put_all_moved m (b ∷ bs) t = ap (put_all (map (moved_binding m) bs)) (put_moved m b t) ∙ put_all_moved m bs (put b t)
-
-
-

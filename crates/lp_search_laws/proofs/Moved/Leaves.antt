@@ -212,7 +212,7 @@ module _ (ρ : ℕ → ℕ) (o : Order) (d : Declared) (P : List Clause) (typed 
       let z = renamed_closing ρ c in
       let ks = map_clauses (λ (u : ℕ). u) (λ u t. renamed ρ t) same_type zero cs in
       let x : all_renamed ρ (assumed_at c (clause_list cs)) ≡ assumed_at z (clause_list ks) =
-          sym (assumed_cross ρ (renamed ρ) (renamed_inside ρ) c z (closing_renamed ρ c) (clause_list cs)) ∙ ap (assumed_at z) (sym (listed_crosses ρ (renamed ρ) (renamed_inside ρ) c z (closing_renamed ρ c) cs)) in
+      sym (assumed_cross ρ (renamed ρ) (renamed_inside ρ) c z (closing_renamed ρ c) (clause_list cs)) ∙ ap (assumed_at z) (sym (listed_crosses ρ (renamed ρ) (renamed_inside ρ) c z (closing_renamed ρ c) cs)) in
       each_apart (all_renamed ρ B) (all_renamed ρ A) z ks (transport (IsFormula d F) (sym e) (renamed_formula d E F ρ r (closed c (formula_of_clauses cs)) f))
       (around ρ Q B A (assumed (closed c (formula_of_clauses cs))) p ∙ ap (λ y. all_renamed ρ B ++ assumed y ∷ all_renamed ρ A) (sym e))
       (between ρ R B (assumed_at c (clause_list cs)) A q ∙ ap (λ y. all_renamed ρ B ++ (y ++ all_renamed ρ A)) x)
@@ -332,7 +332,7 @@ failed_widened o d P w ads k E l R G f h =
     let e = run_widened d P w ads h.eigens f h.program (transport (λ j. olds ads ≤ j) (sym n) l) in
     let a : assumed_at z (newest_first (widened_failure ads f).assumed) ≡ all_renamed ρ (assumed_at c (newest_first f.assumed)) = ap (assumed_at z) (newest_moved m f.assumed) ∙ assumed_cross ρ (moved m) (moves_inside m) c z (closing_widened ads c) (newest_first f.assumed) in
     let x : all_renamed ρ (clauses_at P (newest_first f.assumed) c) ≡ clauses_at P (newest_first (widened_failure ads f).assumed) z =
-        map-append (renamed_clause ρ) (map sentence_of P) (assumed_at c (newest_first f.assumed)) ∙ (λ i. program_renamed ρ o d P w E (widened ads E) (renaming ads E) i ++ sym a i) in
+    map-append (renamed_clause ρ) (map sentence_of P) (assumed_at c (newest_first f.assumed)) ∙ (λ i. program_renamed ρ o d P w E (widened ads E) (renaming ads E) i ++ sym a i) in
     record {
       eigens = widened ads h.eigens;
       begins = begins_widened f.looks d ads k h.eigens f h.begins;
