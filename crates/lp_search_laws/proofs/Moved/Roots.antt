@@ -1,16 +1,15 @@
 -- What is written in a program has no eigenconstant and no logic variable: it stays as it is with other ones.
-use Rattle.std.proofs.Common.{◌≡◌, ℕ, zero, suc, List, [], ◌∷◌, map, ◌∙◌, refl, sym, ap, subst, inl, inr, nat_eq, if◌then◌else◌, Bool, true, false, Option, Some, None}
-use Rattle.std.specs.Prelude.{nat_lt, slice_get, ◌+◌}
-use Rattle.lp_lemmas.specs.Each.{EachOf, AnyOf}
+use Rattle.std.proofs.Common.{◌≡◌, ℕ, zero, suc, List, [], ◌∷◌, map, refl, sym, ap, subst, inl, inr, Option, Some}
+use Rattle.lp_lemmas.specs.Each.{EachOf}
 use Rattle.lp_calculus.specs.Types.{Ty}
 use Rattle.lp_calculus.specs.Term.{Term, Atom, index, atom, abs, app, constant, integer, text, eigen, logic, param, shift, replace, raised}
-use Rattle.lp_calculus.specs.Typing.{HasType, Typed, atom_type, type_at}
+use Rattle.lp_calculus.specs.Typing.{HasType, Typed, atom_type}
 use Rattle.lp_calculus.specs.Closed.{AllAtoms}
 use Rattle.lp_calculus.specs.Fill.{fill}
 use Rattle.lp_calculus.specs.Instance.{instance_term, instance_atom}
 use Rattle.lp_calculus.proofs.Eta.{app_same}
 use Rattle.lp_standard.specs.Connectives.{pi_of, two}
-use Rattle.lp_model.specs.Flat.{Goal, Atomic, Cut, Either, Exists, Forall, Assume, Not, Goals, no_goals, goals, Clause, clause, Clauses, no_clauses, clauses, clause_list, all_of, under_all, same_type, formula_of_goal, formula_of_goals, formula_of_clause, formula_of_clauses, map_written}
+use Rattle.lp_model.specs.Flat.{Goal, Atomic, Cut, Either, Exists, Forall, Assume, Not, Goals, no_goals, goals, Clause, clause, Clauses, no_clauses, clauses, clause_list, all_of, under_all, formula_of_goal, formula_of_goals, formula_of_clause, formula_of_clauses}
 use Rattle.lp_model.specs.Variables.{over}
 use Rattle.lp_model.specs.Proofs.{Declared, under}
 use Rattle.lp_proof_laws.specs.Terms.{IsTermOf, AreTermsOf, IsClauseOf, AreClausesOf}
