@@ -73,9 +73,6 @@ at_test n s inside k a ts b = elim b [ true ↦ option_map (above (not a)) (scan
 abbrev at_rigid : ℕ → Side → Bool → ℕ → Bool → List Term → Option Scanned
 at_rigid n s inside k a ts = at_test n s inside k a ts (a || inside)
 
-abbrev at_wide : ℕ → Side → Bool → ℕ → List Term → Bool → Option Scanned
-at_wide n s inside k ts b = option_map (above b) (scan_all n s true k ts)
-
 abbrev at_flexible : ℕ → Side → Bool → ℕ → (y m : ℕ) → List Term → Option (List ℕ) → Option Scanned
 at_flexible n s inside k y m ts o = elim o [
   | Some b ↦ Some (scanned_pattern s inside y m b)

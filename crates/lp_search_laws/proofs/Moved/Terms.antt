@@ -194,9 +194,6 @@ pattern_moved m n l ts =
     map_map (option_map (map m.eigen)) (only_if (λ ks. are_distinct ks && are_above (m.level l) ks)) (only_if (λ ks. are_distinct ks && are_above l ks)) (option_map (map m.eigen)) (as_eigens n ts) (as_eigens n (moved_all m ts)) (as_eigens_moved m n ts) (only_moved m l)
 
 -- terms put together
-pub moved_apply : (m : Moving) (ts : List Term) (h : Term) → moved m (apply h ts) ≡ apply (moved m h) (moved_all m ts)
-moved_apply m [] h = refl
-moved_apply m (t ∷ ts) h = moved_apply m ts (app h t)
 
 pub moved_pattern : (m : Moving) (ks : List ℕ) (h : Term) → moved m (apply h (eigens ks)) ≡ apply (moved m h) (eigens (map m.eigen ks))
 moved_pattern m [] h = refl
