@@ -99,3 +99,4 @@ pub mod Consistent
 pub mod Exhausted
 pub mod Decided
 pub mod Moved
+pub mod FormulaAtoms

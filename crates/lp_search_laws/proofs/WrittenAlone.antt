@@ -17,11 +17,12 @@ use Rattle.lp_model.specs.Pair.{Closing, closed}
 use Rattle.lp_model.specs.Flat.{Goal, Atomic, Cut, Either, Exists, Forall, Assume, Not, Goals, no_goals, goals, Clause, clause, Clauses, no_clauses, clauses, Written, clause_list, under_all, all_of, loose_in, collect_goal, collect_goals, collect_clauses, formula_of_goal, formula_of_goals, formula_of_clause, formula_of_clauses, type_goals, type_clauses}
 use Rattle.lp_standard.specs.Connectives.{pi_of, two}
 use Rattle.lp_proof_laws.specs.Filled.{IsSourceAtom, filled_goals, filled_clauses, filled_term}
-use Rattle.lp_proof_laws.specs.Terms.{IsTermOf, AreTermsOf, IsClauseOf, AreClausesOf}
+use Rattle.lp_proof_laws.specs.Terms.{AreClausesOf}
 use Rattle.lp_proof_laws.proofs.Flattened.Filled.{one_filling, one_filling_of_clauses}
 use Rattle.lp_proof_laws.proofs.Flattened.Instantiated.{goals_instantiate, clauses_instantiate}
 use Rattle.lp_proof_laws.proofs.Flattened.TypedFlat.{goals_formula, clauses_formula}
 use Rattle.lp_search_laws.specs.Written.{IsOrigin, HasOrigin}
+use Rattle.lp_search_laws.proofs.FormulaAtoms.{goals_atoms, clauses_atoms}
 use Rattle.lp_search_laws.proofs.ClosedTerms.{closed_atom, closed_fill, lifted_fill}
 use Rattle.lp_search_laws.proofs.Written.{each_same}
 
@@ -185,36 +186,6 @@ module _ (P : ℕ → Type 0) where
         let s = each_parts P (loose_in (under_all suc vs d) x ++ collect_goals loose_in (under_all suc vs d) b) (collect_clauses loose_in d (clauses k cs)) h in
         each_append P (loose_in d (formula_of_clause (clause n vs x b))) (loose_in d (formula_of_clauses (clauses k cs))) (loose_clause d n vs x b (loose_goals (under_all suc vs d) b) s.0) (loose_clauses d (clauses k cs) s.1)
 
--- formulas of a source are so
-
-all_source : (vs : List Ty) (t : Term) → Source t → Source (all_of vs t)
-all_source [] t w = w
-all_source (v ∷ vs) t w = all_source vs (pi_of v (abs t)) (tt, w)
-
-mutual
-  goal_source : (g : Goal) → IsTermOf Source g → Source (formula_of_goal g)
-  goal_source (Atomic t) h = h
-  goal_source Cut h = tt
-  goal_source (Either l r) h = ((tt, goals_source l h.0), goals_source r h.1)
-  goal_source (Exists T gs) h = (tt, goals_source gs h)
-  goal_source (Forall T gs) h = (tt, goals_source gs h)
-  goal_source (Assume w cs gs) h = ((tt, clauses_source cs h.1), goals_source gs h.2)
-  goal_source (Not w gs) h = (tt, goals_source gs h.1)
-
-  goals_source : (gs : Goals) → AreTermsOf Source gs → Source (formula_of_goals gs)
-  goals_source no_goals h = tt
-  goals_source (goals g no_goals) h = goal_source g h.0
-  goals_source (goals g (goals k gs)) h = ((tt, goal_source g h.0), goals_source (goals k gs) h.1)
-
-  clause_source : (c : Clause) → IsClauseOf Source c → Source (formula_of_clause c)
-  clause_source (clause n vs x no_goals) h = all_source vs x h.0
-  clause_source (clause n vs x (goals g gs)) h = all_source vs (two 2 [] (formula_of_goals (goals g gs)) x) ((tt, goals_source (goals g gs) h.1), h.0)
-
-  clauses_source : (cs : Clauses) → AreClausesOf Source cs → Source (formula_of_clauses cs)
-  clauses_source no_clauses h = tt
-  clauses_source (clauses c no_clauses) h = clause_source c h.0
-  clauses_source (clauses c (clauses e cs)) h = ((tt, clause_source c h.0), clauses_source (clauses e cs) h.1)
-
 -- filled goals and clauses, as formulas
 filled_formula : (θ : ℕ → Ty) (σ : ℕ → Term) (gs : Goals) → formula_of_goals (filled_goals θ σ gs) ≡ filled_term θ σ (formula_of_goals gs)
 filled_formula θ σ gs = ap formula_of_goals (sym (one_filling θ σ gs)) ∙ goals_instantiate σ (type_goals θ gs) ∙ ap (instantiate σ) (goals_formula θ gs)
@@ -230,7 +201,7 @@ module _ (c z : Closing) (types : z.types ≡ c.types) where
   goals_alike w gs o h =
       let x = formula_of_goals o.flat in
       let each = each_before_map Same o.terms (collect_goals loose_in 0 o.flat) (transport (EachOf Same) o.terms_written h) in
-      let r = filled_alike c z types o.types o.terms x (goals_source o.flat o.source) (loose_goals (λ i. Same (o.terms i)) 0 o.flat each) in
+      let r = filled_alike c z types o.types o.terms x (goals_atoms IsSourceAtom (λ c ts. tt) o.flat o.source) (loose_goals (λ i. Same (o.terms i)) 0 o.flat each) in
       transport Same (sym (ap formula_of_goals o.is ∙ filled_formula o.types o.terms o.flat)) r
 
   -- one of the clauses
@@ -242,7 +213,7 @@ module _ (c z : Closing) (types : z.types ≡ c.types) where
         elim a [
           | inl e ↦
               let one = clauses (clause n vs x b) no_clauses in
-              let r = filled_alike c z types θ σ (formula_of_clauses one) (clauses_source one (w.0, tt)) (loose_clauses (λ i. Same (σ i)) 0 one (each_append (λ i. Same (σ i)) (loose_in (under_all suc vs 0) x ++ collect_goals loose_in (under_all suc vs 0) b) [] s.0 tt)) in
+              let r = filled_alike c z types θ σ (formula_of_clauses one) (clauses_atoms IsSourceAtom (λ c ts. tt) one (w.0, tt)) (loose_clauses (λ i. Same (σ i)) 0 one (each_append (λ i. Same (σ i)) (loose_in (under_all suc vs 0) x ++ collect_goals loose_in (under_all suc vs 0) b) [] s.0 tt)) in
               transport Same (sym (filled_clause_formula θ σ one) ∙ ap formula_of_clause e) r
           | inr e ↦ among_alike k cs w.1 s.1 e
         ]

@@ -10,7 +10,7 @@ use Rattle.lp_calculus.specs.Instance.{instance_term}
 use Rattle.lp_lemmas.specs.Each.{EachOf}
 use Rattle.lp_model.specs.Flatten.{ClauseFormula}
 use Rattle.lp_model.specs.Values.{Value, Number, Bytes, term_of}
-use Rattle.lp_model.specs.Proofs.{Declared, Failure, Leaves, ProvableBy, FocusableBy, IsArith, IsImplication, Proof, Conv, True, And, Left, Right, Witness, All, Assume, Equal, Arith, Back, Fails, Focus, FConv, FAll, FTake, FNeed, FHit, assumed, proves_by, no_leaf, focuses_by, PlainlyProvable, PlainlyFocusable}
+use Rattle.lp_model.specs.Proofs.{Declared, Failure, Leaves, ProvableBy, FocusableBy, IsArith, IsImplication, Proof, Conv, True, And, Left, Right, Witness, All, Assume, Equal, Arith, Back, Fails, Focus, FConv, FAll, FTake, FNeed, FHit, assumed, proves_by, no_leaf, focuses_by, PlainlyProvable}
 use Rattle.lp_model.specs.Renaming.{renamed, renamed_clause, HasLevel, IsRenaming}
 use Rattle.lp_lemmas.proofs.Each.{each_append}
 use Rattle.lp_proof_laws.proofs.Uniform.Contexts.{get_front, get_split}

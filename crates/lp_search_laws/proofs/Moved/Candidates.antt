@@ -1,13 +1,12 @@
 -- Formulas, values, tests and candidates with other eigenconstants and other levels.
-use Rattle.std.proofs.Common.{◌≡◌, ℕ, zero, suc, ◌+◌, List, [], ◌∷◌, ◌++◌, map, length, ◌∙◌, refl, sym, ap, Bool, true, false, nat_eq, not, if◌then◌else◌, ◌||◌, Option, Some, None}
-use Rattle.std.specs.Prelude.{◌&&◌, filter, option_map, option_and_then}
+use Rattle.std.proofs.Common.{◌≡◌, ℕ, List, [], ◌∷◌, ◌++◌, map, ◌∙◌, refl, sym, ap, Bool, true, false, nat_eq, if◌then◌else◌, ◌||◌, Option, Some, None}
+use Rattle.std.specs.Prelude.{◌&&◌, filter, option_map}
 use Rattle.std.specs.List.{list_any}
 use Rattle.std.proofs.lemmas.List.{map-append}
 use Rattle.lp_calculus.specs.Types.{Ty}
-use Rattle.lp_calculus.specs.Term.{Term, Atom, index, atom, abs, app, constant, integer, text, eigen, logic, param, shift}
-use Rattle.lp_calculus.specs.Normal.{eta_normal, is_absent}
+use Rattle.lp_calculus.specs.Term.{Term, Atom, index, atom, abs, app, constant, integer, text, eigen, logic, param}
+use Rattle.lp_calculus.specs.Normal.{eta_normal}
 use Rattle.lp_calculus.specs.Spine.{head_of, arguments, arguments_and}
-use Rattle.lp_calculus.proofs.Eta.{app_same}
 use Rattle.lp_standard.specs.Numbers as number
 use Rattle.lp_standard.specs.Connectives.{Connective, connective_of, connective_at, connective_of_constant, body_of}
 use Rattle.lp_standard.specs.Connectives as connective
@@ -17,8 +16,8 @@ use Rattle.lp_model.specs.Eigens.{beta_normal}
 use Rattle.lp_model.specs.Same.{same_name}
 use Rattle.lp_model.specs.Index.{instantiate}
 use Rattle.lp_model.specs.Pair.{Pair}
-use Rattle.lp_model.specs.Flat.{Goals, Clause, clause, Written, under_all, same_type}
-use Rattle.lp_model.specs.Values.{Value, Number, Bytes, Outcome, Is, Faults, both, single, is_two_place, is_one_place, value, evaluate, term_of}
+use Rattle.lp_model.specs.Flat.{Clause, clause, Written, same_type}
+use Rattle.lp_model.specs.Values.{Value, Number, Bytes, Faults, both, single, is_two_place, is_one_place, value, evaluate, term_of}
 use Rattle.lp_model.specs.Search.{key_of, may_meet, first_key, has_head, passes, candidates, goal_key, are_absent, is_new, Slot, slot_of, slots_of, slotted, pairs_of, has_type_variable, is_variable, has_variable, beta_normals, has_variables}
 use Rattle.lp_unify_laws.proofs.Instances.{map_map, map_same_as, bind_map}
 use Rattle.lp_search_laws.proofs.Moved.Terms.{Moving, moved, moved_atom, moved_all, moved_head_normal, moved_beta_normal, eta_moved, absent_moved}

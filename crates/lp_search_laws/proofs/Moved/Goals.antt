@@ -1,5 +1,5 @@
 -- Other eigenconstants and other levels in goals and clauses, entries and branches; what is put into goals goes past them.
-use Rattle.std.proofs.Common.{◌≡◌, ℕ, zero, suc, ◌+◌, ◌≤◌, List, [], ◌∷◌, ◌++◌, map, ◌∙◌, refl, sym, ap, Bool, true, false, nat_eq, if◌then◌else◌}
+use Rattle.std.proofs.Common.{◌≡◌, ℕ, zero, suc, ◌+◌, List, [], ◌∷◌, map, ◌∙◌, refl, sym, ap, Bool, true, false, if◌then◌else◌}
 use Rattle.std.specs.Prelude.{nat_lt}
 use Rattle.lp_calculus.specs.Types.{Ty, instance}
 use Rattle.lp_calculus.specs.Term.{Term, Atom, index, atom, abs, app, raised, replace, shift}

@@ -1,5 +1,5 @@
 -- Heads with other eigenconstants and other levels are the same where they were, with the same types.
-use Rattle.std.proofs.Common.{◌≡◌, ℕ, refl}
+use Rattle.std.proofs.Common.{◌≡◌, refl}
 use Rattle.std.specs.Prelude.{◌&&◌, nat_eq}
 use Rattle.lp_calculus.specs.Term.{Term, index, atom, abs, app, Atom, constant, integer, text, eigen, logic, param}
 use Rattle.lp_model.specs.Same.{same_atom, same_name}

@@ -1,6 +1,6 @@
 -- A failing search stays one with further eigenconstants among those that are there.
-use Rattle.std.proofs.Common.{◌≡◌, ℕ, zero, suc, ◌≤◌, List, [], ◌∷◌, ◌++◌, map, length, ◌∙◌, refl, sym, ap, subst as transport, Option, Some, None}
-use Rattle.std.specs.Prelude.{slice_get, option_map, Bool}
+use Rattle.std.proofs.Common.{◌≡◌, ℕ, zero, suc, ◌≤◌, List, [], ◌∷◌, ◌++◌, map, length, ◌∙◌, refl, sym, ap, subst as transport, Some}
+use Rattle.std.specs.Prelude.{option_map, Bool}
 use Rattle.lp_calculus.specs.Closed.{AreClosed}
 use Rattle.lp_model.specs.Eigens.{beta_normal}
 use Rattle.lp_proof_laws.specs.Filled.{IsSourceAtom}
@@ -10,23 +10,22 @@ use Rattle.std.proofs.lemmas.List.{map-append, length-map}
 use Rattle.lp_lemmas.specs.Each.{EachOf}
 use Rattle.lp_lemmas.proofs.Lists.{get_map, get_from_map}
 use Rattle.lp_calculus.specs.Types.{Ty, instance}
-use Rattle.lp_calculus.specs.Term.{Term, Atom, index, atom, abs, app, constant, integer, text, eigen, logic, param}
+use Rattle.lp_calculus.specs.Term.{Term, Atom, atom, constant, integer, text, eigen, logic, param}
 use Rattle.lp_calculus.specs.Typing.{type_at, o_type}
-use Rattle.lp_calculus.specs.Fill.{fill, at_variables, close}
+use Rattle.lp_calculus.specs.Fill.{at_variables, close}
 use Rattle.lp_calculus.specs.Instance.{instance_term}
 use Rattle.lp_calculus.proofs.Fills.{fill-fill}
-use Rattle.lp_model.specs.declared.ending.Ending.TheVariants.{NoMore}
 use Rattle.lp_model.specs.Index.{instantiate}
 use Rattle.lp_model.specs.Flat.{Goal, Goals, no_goals, Clause, clause, Clauses, no_clauses, clauses, goal_list, clause_list, map_goals, map_clauses, map_clause, same_type, formula_of_goals, formula_of_clause, formula_of_clauses}
 use Rattle.lp_model.specs.Flatten.{ClauseFormula, flat_goal, flat_clause, flatten, with_type_vars}
 use Rattle.lp_model.specs.Pair.{Closing, closed}
-use Rattle.lp_model.specs.Branch.{Branch, Go, entries}
+use Rattle.lp_model.specs.Branch.{Go, entries}
 use Rattle.lp_model.specs.Answers.{Closes}
 use Rattle.lp_model.specs.Variables.{Variable}
 use Rattle.lp_model.specs.Search.{look}
 use Rattle.lp_model.specs.Unify.{unit_limit}
 use Rattle.lp_model.specs.Skeleton.{run, starts_within}
-use Rattle.lp_model.specs.Proofs.{Declared, Failure, IsFormula, IsSentence, IsWitness, Stands, assumed, newest_first, AreFlattened}
+use Rattle.lp_model.specs.Proofs.{Declared, Failure, IsFormula, IsSentence, IsWitness, Stands, assumed, newest_first}
 use Rattle.lp_model.specs.Renaming.{renamed_atom, renamed, renamed_clause, IsRenaming}
 use Rattle.lp_proof_laws.specs.Open.{IsOpen, Fits}
 use Rattle.lp_proof_laws.specs.Assumed.{assumed_at}
@@ -34,9 +33,9 @@ use Rattle.lp_proof_laws.proofs.Uniform.Renamed.{instance_renamed, renamed_conve
 use Rattle.lp_unify_laws.proofs.Looks.{beta_reduces}
 use Rattle.lp_search_laws.specs.Clauses.{sentence_of, clauses_at}
 use Rattle.lp_search_laws.specs.Branches.{IsProgramTyped, IsTypedBranch, AreTypedEntries, ArePlainEntries, no_query}
-use Rattle.lp_search_laws.specs.Failed.{SameGoal, goal_converts, goal_flat, goal_back, goal_then, Order, InOrder, InAny, SameClauses, unchanged, in_some_order, converted, each_apart, clause_flat, program_flat, sentence_flat, other_way, one_by_one, failing_branch, failing_typing, failed_run, IsFailedSearch}
+use Rattle.lp_search_laws.specs.Failed.{SameGoal, goal_converts, goal_flat, goal_back, goal_then, Order, SameClauses, unchanged, in_some_order, converted, each_apart, clause_flat, program_flat, sentence_flat, other_way, one_by_one, failing_branch, failing_typing, failed_run, IsFailedSearch}
 use Rattle.lp_search_laws.specs.Written.{IsWrittenEntry}
-use Rattle.lp_search_laws.specs.Widened.{Additions, widened, wider, moved_to, olds, HaveClosedTypes}
+use Rattle.lp_search_laws.specs.Widened.{Additions, widened, moved_to, olds, HaveClosedTypes}
 use Rattle.lp_search_laws.proofs.Formulas.{GoesInside, goals_inside, clause_inside, clauses_inside}
 use Rattle.lp_search_laws.proofs.WrittenFlat.{goals_of, clauses_of}
 use Rattle.lp_search_laws.proofs.Moved.Terms.{Moving, moved, moved_atom, moved_by, instance_moved}

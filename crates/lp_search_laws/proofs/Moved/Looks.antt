@@ -4,32 +4,31 @@ use Rattle.std.specs.Prelude.{option_map}
 use Rattle.std.proofs.lemmas.List.{map-append, length-map}
 use Rattle.lp_lemmas.specs.Each.{EachOf}
 use Rattle.lp_lemmas.proofs.Each.{each_append, each_map}
-use Rattle.lp_calculus.specs.Types.{Ty, instance}
+use Rattle.lp_calculus.specs.Types.{Ty}
 use Rattle.lp_calculus.specs.Term.{Term, Atom, index, atom, abs, app, substitute, constant, integer, text, eigen, logic, param}
-use Rattle.lp_calculus.specs.Fill.{Binding, put, put_all}
+use Rattle.lp_calculus.specs.Fill.{Binding, put_all}
 use Rattle.lp_calculus.specs.Instance.{instance_term}
 use Rattle.lp_calculus.specs.Spine.{head_of, arguments}
 use Rattle.lp_standard.specs.Numbers as number
 use Rattle.lp_standard.specs.Constants.{is_order}
 use Rattle.lp_standard.specs.Connectives.{Connective, connective_of}
 use Rattle.lp_standard.specs.Connectives as connective
-use Rattle.lp_model.specs.declared.ending.Ending.TheVariants.{Flexible, Arithmetic, OpenNot, Deep}
 use Rattle.lp_model.specs.Skeleton.{View, Opens, Parts, Takes, Denies, named, eigenconstant}
 use Rattle.lp_model.specs.Look.{head_normal}
 use Rattle.lp_model.specs.Index.{instantiate}
 use Rattle.lp_model.specs.Types.{TypeBinding}
 use Rattle.lp_model.specs.Pair.{Pair, put_types_in}
 use Rattle.lp_model.specs.Rule.{type_pairs}
-use Rattle.lp_model.specs.Unify.{Unified, Fail, Solution, Spent, State, solve, unit_limit}
-use Rattle.lp_model.specs.Flat.{Goal, Atomic, Cut, Either, Exists, Forall, Assume, Not, Written, Goals, Clause, clause, Clauses, goal_list, clause_list, under_all, same_type, type_goals, instantiate_goals}
-use Rattle.lp_model.specs.Values.{Value, Outcome, Is, Faults, Number, Bytes, evaluate, term_of, ordered}
+use Rattle.lp_model.specs.Unify.{Unified, Fail, Solution, Spent, State, solve}
+use Rattle.lp_model.specs.Flat.{Goal, Atomic, Cut, Either, Exists, Forall, Assume, Not, Written, Goals, Clause, clause, Clauses, goal_list, clause_list, under_all, type_goals, instantiate_goals}
+use Rattle.lp_model.specs.Values.{Outcome, Is, Faults, Number, Bytes, evaluate, term_of, ordered}
 use Rattle.lp_model.specs.Branch.{Entry, Branch, Answer, Task, Go, Try, Stop, Lack, put_entry, put_entries, type_entry, type_entries, resume, entries, both_written}
 use Rattle.lp_model.specs.Search.{with_goals, follow, equated, assigned, compared, candidates, goal_key, renewed, slots_of, slotted, pairs_of, is_new, typed_try, try_clause, has_variables, has_no_pairs, tries, in_place, at_next_level, look_constant, look_atom, look_form, look_normal, opened, look_not, look_goal, look_branch, look}
 use Rattle.lp_search_laws.proofs.Moved.Terms.{Moving, moved, moved_atom, moved_all, moved_binding, moved_substitute, moved_head_normal, instance_moved}
 use Rattle.lp_search_laws.proofs.Moved.Heads.{types_moved}
 use Rattle.lp_search_laws.proofs.Moved.Scans.{up_one}
 use Rattle.lp_search_laws.proofs.Moved.Rules.{moved_pair, put_types_moved}
-use Rattle.lp_search_laws.proofs.Moved.Solves.{AreAbove, moved_unified, IsAbove, IsAboveSolved, solve_moved, solve_above}
+use Rattle.lp_search_laws.proofs.Moved.Solves.{AreAbove, moved_unified, IsAboveSolved, solve_moved, solve_above}
 use Rattle.lp_search_laws.proofs.Moved.Goals.{AreMoved, moved_goal, moved_goals, moved_clause, moved_written, moved_entry, moved_entries, moved_branch, moved_answer, moved_task, over_list, put_all_moved, entries_put, entries_typed, entries_moved, both_written_moved, clauses_listed, goals_listed, entries_listed, moved_clauses, goals_instantiated, goals_typed}
 use Rattle.lp_search_laws.proofs.Moved.Candidates.{head_of_moved, arguments_moved, moved_connective, connective_moved, evaluate_moved, moved_value, variables_moved, same_types, candidates_moved, goal_key_moved, terms_for, pairs_moved}
 use Rattle.lp_search_laws.proofs.Moved.Runs.{image, Leaves}

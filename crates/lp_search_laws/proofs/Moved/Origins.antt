@@ -1,5 +1,5 @@
 -- What is written in goals and clauses keeps standing in them with other eigenconstants and other levels, which their source has too.
-use Rattle.std.proofs.Common.{◌≡◌, ℕ, zero, suc, List, [], ◌∷◌, ◌++◌, map, ◌∙◌, refl, sym, ap}
+use Rattle.std.proofs.Common.{◌≡◌, ℕ, zero, suc, List, ◌++◌, map, ◌∙◌, refl, sym, ap}
 use Rattle.lp_lemmas.specs.Each.{EachOf}
 use Rattle.lp_lemmas.proofs.Each.{each_map}
 use Rattle.lp_calculus.specs.Types.{Ty, instance}
@@ -7,9 +7,9 @@ use Rattle.lp_calculus.specs.Term.{Term, Atom, index, atom, abs, app, constant, 
 use Rattle.lp_calculus.specs.Closed.{AllAtoms}
 use Rattle.lp_calculus.specs.Instance.{instance_term}
 use Rattle.lp_model.specs.Index.{instantiate, lifted}
-use Rattle.lp_model.specs.Flat.{Goal, Atomic, Cut, Either, Exists, Forall, Assume, Not, Written, Goals, no_goals, goals, Clause, clause, Clauses, no_clauses, clauses, under_all, same_type, loose_in, type_variables_in, collect_goal, collect_goals, collect_clauses}
+use Rattle.lp_model.specs.Flat.{Goal, Atomic, Cut, Either, Exists, Forall, Assume, Not, Written, Goals, no_goals, goals, clause, Clauses, no_clauses, clauses, under_all, same_type, loose_in, type_variables_in, collect_goal, collect_goals, collect_clauses}
 use Rattle.lp_proof_laws.specs.Terms.{IsTermOf, AreTermsOf, AreClausesOf}
-use Rattle.lp_proof_laws.specs.Filled.{IsSourceAtom, filled_term, filled_goals, filled_clauses}
+use Rattle.lp_proof_laws.specs.Filled.{IsSourceAtom, filled_term}
 use Rattle.lp_search_laws.specs.Written.{IsOrigin, IsClauseOrigin, IsWrittenEntry}
 use Rattle.lp_search_laws.proofs.Formulas.{goals_inside, clause_inside}
 use Rattle.lp_search_laws.proofs.PlainTypes.{fill_plain}

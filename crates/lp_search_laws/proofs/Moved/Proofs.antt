@@ -6,7 +6,7 @@ use Rattle.lp_calculus.specs.Term.{Term}
 use Rattle.lp_calculus.specs.Typing.{eigen_type}
 use Rattle.lp_model.specs.Flat.{Clause}
 use Rattle.lp_model.specs.Flatten.{ClauseFormula}
-use Rattle.lp_model.specs.Proofs.{Declared, Failure, ProvableBy}
+use Rattle.lp_model.specs.Proofs.{Declared, ProvableBy}
 use Rattle.lp_model.specs.Renaming.{renamed, renamed_clause, HasLevel, IsRenaming}
 use Rattle.lp_proof_laws.proofs.Uniform.Renamed.{renamed_same, wider, wider_new, wider_old}
 use Rattle.lp_proof_laws.proofs.Uniform.Renamings.{HaveLevel, MovesLeaves, clauses_same, below_end, length_end, up_to_or_next, proof_moved}

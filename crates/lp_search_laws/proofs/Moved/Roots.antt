@@ -1,22 +1,22 @@
 -- What is written in a program has no eigenconstant and no logic variable: it stays as it is with other ones.
-use Rattle.std.proofs.Common.{◌≡◌, ℕ, zero, suc, List, [], ◌∷◌, map, ◌∙◌, refl, sym, ap, subst, inl, inr, nat_eq, if◌then◌else◌, Bool, true, false, Option, Some, None}
-use Rattle.std.specs.Prelude.{nat_lt, slice_get, ◌+◌}
-use Rattle.lp_lemmas.specs.Each.{EachOf, AnyOf}
+use Rattle.std.proofs.Common.{◌≡◌, ℕ, zero, suc, List, [], ◌∷◌, map, refl, sym, ap, subst, inl, inr, Option, Some}
+use Rattle.lp_lemmas.specs.Each.{EachOf}
 use Rattle.lp_calculus.specs.Types.{Ty}
 use Rattle.lp_calculus.specs.Term.{Term, Atom, index, atom, abs, app, constant, integer, text, eigen, logic, param, shift, replace, raised}
-use Rattle.lp_calculus.specs.Typing.{HasType, Typed, atom_type, type_at}
+use Rattle.lp_calculus.specs.Typing.{HasType, Typed, atom_type}
 use Rattle.lp_calculus.specs.Closed.{AllAtoms}
 use Rattle.lp_calculus.specs.Fill.{fill}
 use Rattle.lp_calculus.specs.Instance.{instance_term, instance_atom}
 use Rattle.lp_calculus.proofs.Eta.{app_same}
 use Rattle.lp_standard.specs.Connectives.{pi_of, two}
-use Rattle.lp_model.specs.Flat.{Goal, Atomic, Cut, Either, Exists, Forall, Assume, Not, Goals, no_goals, goals, Clause, clause, Clauses, no_clauses, clauses, clause_list, all_of, under_all, same_type, formula_of_goal, formula_of_goals, formula_of_clause, formula_of_clauses, map_written}
+use Rattle.lp_model.specs.Flat.{Goal, Atomic, Cut, Either, Exists, Forall, Assume, Not, Goals, no_goals, goals, Clause, clause, Clauses, no_clauses, clauses, clause_list, all_of, under_all, formula_of_goal, formula_of_goals, formula_of_clause, formula_of_clauses}
 use Rattle.lp_model.specs.Variables.{over}
 use Rattle.lp_model.specs.Proofs.{Declared, under}
-use Rattle.lp_proof_laws.specs.Terms.{IsTermOf, AreTermsOf, IsClauseOf, AreClausesOf}
+use Rattle.lp_proof_laws.specs.Terms.{AreTermsOf, IsClauseOf, AreClausesOf}
 use Rattle.lp_proof_laws.proofs.Flattened.TypedForms.{goals_same, clauses_same, clause_same, either_same, assume_same, denied_same, written_same}
 use Rattle.lp_search_laws.specs.Branches.{IsProgramTyped}
 use Rattle.lp_search_laws.specs.Written.{StandsIn, StandsInOne, IsWrittenGoal, AreWrittenGoals, IsWrittenClause, AreWrittenClauses}
+use Rattle.lp_search_laws.proofs.FormulaAtoms.{goals_atoms, clause_atoms, clauses_atoms}
 use Rattle.lp_search_laws.proofs.Moved.Terms.{Moving, moved, moved_atom}
 use Rattle.lp_search_laws.proofs.Moved.Goals.{moved_goal_at, moved_goals_at, moved_clause_at, moved_clauses_at, moved_clause}
 use Rattle.lp_search_laws.proofs.Moved.Candidates.{same_types}
@@ -96,33 +96,14 @@ stays : (m : Moving) (t : Term) → IsRoot t → moved m t ≡ t
 stays m t w = root_stays (moved_atom m) (moved_root m) t w
 
 -- formulas of goals have no other atoms
-root_all : (vs : List Ty) (t : Term) → IsRoot t → IsRoot (all_of vs t)
-root_all [] t w = w
-root_all (v ∷ vs) t w = root_all vs (pi_of v (abs t)) (tt, w)
+pub goals_root : (gs : Goals) → AreTermsOf IsRoot gs → IsRoot (formula_of_goals gs)
+goals_root gs h = goals_atoms IsRootAtom (λ c ts. tt) gs h
 
-mutual
-  goal_root : (g : Goal) → IsTermOf IsRoot g → IsRoot (formula_of_goal g)
-  goal_root (Atomic t) h = h
-  goal_root Cut h = tt
-  goal_root (Either l r) h = ((tt, goals_root l h.0), goals_root r h.1)
-  goal_root (Exists T gs) h = (tt, goals_root gs h)
-  goal_root (Forall T gs) h = (tt, goals_root gs h)
-  goal_root (Assume w cs gs) h = ((tt, clauses_root cs h.1), goals_root gs h.2)
-  goal_root (Not w gs) h = (tt, goals_root gs h.1)
+pub clause_root : (c : Clause) → IsClauseOf IsRoot c → IsRoot (formula_of_clause c)
+clause_root c h = clause_atoms IsRootAtom (λ c ts. tt) c h
 
-  pub goals_root : (gs : Goals) → AreTermsOf IsRoot gs → IsRoot (formula_of_goals gs)
-  goals_root no_goals h = tt
-  goals_root (goals g no_goals) h = goal_root g h.0
-  goals_root (goals g (goals k gs)) h = ((tt, goal_root g h.0), goals_root (goals k gs) h.1)
-
-  pub clause_root : (c : Clause) → IsClauseOf IsRoot c → IsRoot (formula_of_clause c)
-  clause_root (clause n vs x no_goals) h = root_all vs x h.0
-  clause_root (clause n vs x (goals g gs)) h = root_all vs (two 2 [] (formula_of_goals (goals g gs)) x) ((tt, goals_root (goals g gs) h.1), h.0)
-
-  pub clauses_root : (cs : Clauses) → AreClausesOf IsRoot cs → IsRoot (formula_of_clauses cs)
-  clauses_root no_clauses h = tt
-  clauses_root (clauses c no_clauses) h = clause_root c h.0
-  clauses_root (clauses c (clauses e cs)) h = ((tt, clause_root c h.0), clauses_root (clauses e cs) h.1)
+pub clauses_root : (cs : Clauses) → AreClausesOf IsRoot cs → IsRoot (formula_of_clauses cs)
+clauses_root cs h = clauses_atoms IsRootAtom (λ c ts. tt) cs h
 
 -- and back
 root_inside : (vs : List Ty) (t : Term) → IsRoot (all_of vs t) → IsRoot t

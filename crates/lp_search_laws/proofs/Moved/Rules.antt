@@ -2,7 +2,7 @@
 use Rattle.std.proofs.Common.{◌≡◌, ℕ, zero, suc, ◌≤◌, List, [], ◌∷◌, ◌++◌, map, length, ◌∙◌, refl, sym, ap, Bool, true, false, nat_eq, if◌then◌else◌, Option, Some, None}
 use Rattle.std.specs.Prelude.{◌&&◌, option_map, option_and_then}
 use Rattle.std.proofs.lemmas.List.{map-append}
-use Rattle.lp_calculus.specs.Term.{Term, atom, app, apply, eigen, logic}
+use Rattle.lp_calculus.specs.Term.{Term, atom, apply, logic}
 use Rattle.lp_calculus.specs.Fill.{Binding, abstracted}
 use Rattle.lp_model.specs.Patterns.{agreeing, eigens}
 use Rattle.lp_model.specs.Same.{same_name}
@@ -10,7 +10,7 @@ use Rattle.lp_model.specs.Types.{TypeBinding, TypePair, TypeOutcome, none, solve
 use Rattle.lp_model.specs.Look.{Look, an_abs, rigid, flexible, look, pattern_of}
 use Rattle.lp_model.specs.Pair.{Pair, put_type_in, put_types_in, type_pair}
 use Rattle.lp_model.specs.Scan.{Side, Scanned, broken, whole, scan, Pruned, prune, settle}
-use Rattle.lp_model.specs.Rule.{Compared, dearer, open_with, type_pairs, compare_types, compare, compare_looks, compare_all, Verdict, fails, gives, binds, delays, Ruled, ruled, argument_pairs, opened, with_types, decompose, joined, bound, has_head, solve_for, side, by_pattern, pattern_side, by_rule_5, by_rule_4, dear, by_looks, rule}
+use Rattle.lp_model.specs.Rule.{Compared, dearer, open_with, type_pairs, compare_types, compare, compare_looks, compare_all, Verdict, fails, gives, binds, delays, Ruled, ruled, argument_pairs, opened, with_types, decompose, joined, bound, has_head, solve_for, by_pattern, pattern_side, by_rule_5, by_rule_4, dear, by_looks, rule}
 use Rattle.lp_unify_laws.proofs.Instances.{map_map, bind_map, bind_same_as}
 use Rattle.lp_search_laws.proofs.Moved.Terms.{Moving, moved, moved_all, moved_look, look_moved, pattern_moved, moved_binding, abstracted_moved, length_moved, instance_moved}
 use Rattle.lp_search_laws.proofs.Moved.Heads.{name_moved, types_moved}

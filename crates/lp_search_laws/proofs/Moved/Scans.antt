@@ -1,14 +1,14 @@
 -- Scans, pruning, settling and comparing go through with other eigenconstants and other levels.
-use Rattle.std.proofs.Common.{◌≡◌, ℕ, zero, suc, ◌+◌, ◌≤◌, min, List, [], ◌∷◌, ◌++◌, map, length, ◌∙◌, refl, sym, ap, arith, Bool, true, false, nat_eq, not, if◌then◌else◌, ◌||◌, Option, Some, None}
+use Rattle.std.proofs.Common.{◌≡◌, ℕ, zero, suc, ◌+◌, ◌≤◌, min, List, [], ◌∷◌, ◌++◌, map, ◌∙◌, refl, sym, ap, arith, Bool, true, false, nat_eq, not, if◌then◌else◌, ◌||◌, Option, Some, None}
 use Rattle.std.specs.Prelude.{◌&&◌, nat_lt, nat_le, option_map, option_and_then}
 use Rattle.std.proofs.lemmas.List.{map-append}
-use Rattle.lp_calculus.specs.Term.{Term, index, atom, abs, app, apply, Atom, substitute, constant, integer, text, eigen, logic, param}
-use Rattle.lp_calculus.specs.Fill.{Binding, put, abstraction, abstracted}
+use Rattle.lp_calculus.specs.Term.{Term, index, atom, abs, app, apply, substitute, constant, integer, text, eigen, logic, param}
+use Rattle.lp_calculus.specs.Fill.{put, abstraction, abstracted}
 use Rattle.lp_model.specs.Patterns.{eigens, chosen}
 use Rattle.lp_model.specs.Look.{Look, an_abs, rigid, flexible, look, pattern_of}
 use Rattle.lp_model.specs.Scan.{Side, is_side, allows, allow, allows_head, Scanned, broken, whole, above, beside, scanned_pattern, scan, scan_all, Pattern, pattern, pattern_term, fits, first_misfit, renewed, renewal, Pruned, led_by, prune, settle, settle_all}
 use Rattle.lp_unify_laws.proofs.Instances.{map_map, bind_map}
-use Rattle.lp_search_laws.proofs.Moved.Terms.{Moving, moved, moved_by, moved_all, moved_substitute, moved_look, look_moved, pattern_moved, member_moved, moved_pattern, moved_binding, put_moved, abstraction_moved, abstracted_moved}
+use Rattle.lp_search_laws.proofs.Moved.Terms.{Moving, moved, moved_all, moved_substitute, moved_look, look_moved, pattern_moved, member_moved, moved_pattern, moved_binding, put_moved, abstraction_moved, abstracted_moved}
 
 pub up_one : (a b : ℕ) → a ≤ b → a ≤ suc b
 up_one a b l = omega (arith, l)
@@ -72,9 +72,6 @@ at_test n s inside k a ts b = elim b [ true ↦ option_map (above (not a)) (scan
 
 abbrev at_rigid : ℕ → Side → Bool → ℕ → Bool → List Term → Option Scanned
 at_rigid n s inside k a ts = at_test n s inside k a ts (a || inside)
-
-abbrev at_wide : ℕ → Side → Bool → ℕ → List Term → Bool → Option Scanned
-at_wide n s inside k ts b = option_map (above b) (scan_all n s true k ts)
 
 abbrev at_flexible : ℕ → Side → Bool → ℕ → (y m : ℕ) → List Term → Option (List ℕ) → Option Scanned
 at_flexible n s inside k y m ts o = elim o [

@@ -1,5 +1,5 @@
 -- Unification goes through with other eigenconstants and other levels, where the pairs stand at levels from which what comes next stays what comes next.
-use Rattle.std.proofs.Common.{◌≡◌, ℕ, zero, suc, ◌+◌, ◌≤◌, List, [], ◌∷◌, ◌++◌, map, length, ◌∙◌, refl, sym, ap, arith, Bool, true, false, nat_eq, ◌||◌, Option, Some, None}
+use Rattle.std.proofs.Common.{◌≡◌, ℕ, zero, suc, ◌+◌, ◌≤◌, List, [], ◌∷◌, ◌++◌, map, length, ◌∙◌, refl, sym, ap, Bool, true, false, nat_eq, ◌||◌, Option, Some, None}
 use Rattle.std.specs.Prelude.{◌&&◌, nat_lt, option_map, option_and_then}
 use Rattle.std.proofs.lemmas.List.{map-append}
 use Rattle.lp_lemmas.specs.Each.{EachOf}
@@ -10,13 +10,13 @@ use Rattle.lp_model.specs.Same.{same_name}
 use Rattle.lp_model.specs.Types.{TypeBinding, TypePair, TypeOutcome, none, solved, solve_types}
 use Rattle.lp_model.specs.Look.{Look, an_abs, rigid, flexible, look, pattern_of}
 use Rattle.lp_model.specs.Pair.{Pair, put_types_in, put_pair, type_pair}
-use Rattle.lp_model.specs.Scan.{Side, Scanned, broken, whole, scan, Pruned, prune, settle}
-use Rattle.lp_model.specs.Rule.{Compared, type_pairs, compare_all, Verdict, fails, gives, binds, delays, Ruled, argument_pairs, with_types, decompose, has_head, solve_for, by_pattern, pattern_side, by_rule_5, by_rule_4, dear, by_looks, rule}
+use Rattle.lp_model.specs.Scan.{Side, Scanned, broken, whole, scan, prune, settle}
+use Rattle.lp_model.specs.Rule.{Compared, type_pairs, compare_all, Verdict, fails, gives, binds, delays, Ruled, argument_pairs, with_types, has_head, by_pattern, pattern_side, by_rule_5, by_rule_4, dear, by_looks, rule}
 use Rattle.lp_model.specs.Unify.{State, Turn, Goes, Fails, Solved, put_pairs, type_pairs_in, is_some_bound, judged, turn_on, turn, Unified, Fail, Solution, Spent, limited, unify, begun, go_on, solve}
 use Rattle.lp_unify_laws.proofs.Instances.{map_map}
 use Rattle.lp_search_laws.proofs.Moved.Terms.{Moving, moved_binding, put_moved}
 use Rattle.lp_search_laws.proofs.Moved.Scans.{up_one}
-use Rattle.lp_search_laws.proofs.Moved.Rules.{moved_pair, moved_verdict, moved_ruled, type_pair_moved, rule_moved, settled, scanned, by_head, both_patterns, at_names, at_compared, at_variables}
+use Rattle.lp_search_laws.proofs.Moved.Rules.{moved_pair, moved_verdict, moved_ruled, type_pair_moved, rule_moved, settled, scanned, by_head, both_patterns, at_names, at_variables}
 
 -- pairs at a level or above
 abbrev pub AreAbove : ℕ → List Pair → Type 0

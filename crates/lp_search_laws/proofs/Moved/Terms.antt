@@ -1,17 +1,17 @@
 -- Other eigenconstants and other levels in terms, one to one and in their order: every step of reduction and each look goes through.
 use Rattle.std.proofs.Common.{◌≡◌, ℕ, zero, suc, ◌≤◌, min, List, [], ◌∷◌, map, length, ◌∙◌, refl, sym, ap, Bool, true, false, nat_eq, not, if◌then◌else◌, ◌||◌, Option, Some, None}
-use Rattle.std.specs.Prelude.{◌&&◌, nat_lt, nat_le, option_map, option_and_then}
+use Rattle.std.specs.Prelude.{◌&&◌, nat_lt, nat_le, option_map}
 use Rattle.lp_calculus.specs.Types.{Ty}
 use Rattle.lp_calculus.specs.Term.{Term, index, atom, abs, app, apply, Atom, substitute, constant, integer, text, eigen, logic, param}
-use Rattle.lp_calculus.specs.Convert.{head_step, leftmost_step, option_term, or_else}
+use Rattle.lp_calculus.specs.Convert.{head_step, leftmost_step, option_term}
 use Rattle.lp_calculus.specs.Fill.{fill, at_variables, one, Binding, put, indexed, abstraction, abstracted}
 use Rattle.lp_calculus.specs.Instance.{instance_term, instance_atom}
 use Rattle.lp_calculus.specs.Normal.{is_absent, contracted, eta_normal}
 use Rattle.lp_calculus.proofs.Fills.{fill-fill, fill-substitute}
 use Rattle.lp_calculus.proofs.Eta.{app_same}
 use Rattle.lp_unify_laws.proofs.TypeInstances.{term_map, or_map}
-use Rattle.lp_unify_laws.proofs.Instances.{map_map, map_same_as, bind_map}
-use Rattle.lp_model.specs.Patterns.{eigens, chosen, member, agreeing}
+use Rattle.lp_unify_laws.proofs.Instances.{map_map, bind_map}
+use Rattle.lp_model.specs.Patterns.{eigens, member}
 use Rattle.lp_model.specs.Eigens.{beta_normal, eigen_of, as_eigen}
 use Rattle.lp_model.specs.Look.{Look, an_abs, rigid, flexible, looked, head_normal, look, as_eigens, only_if, pattern_of, are_distinct, are_above}
 
@@ -194,9 +194,6 @@ pattern_moved m n l ts =
     map_map (option_map (map m.eigen)) (only_if (λ ks. are_distinct ks && are_above (m.level l) ks)) (only_if (λ ks. are_distinct ks && are_above l ks)) (option_map (map m.eigen)) (as_eigens n ts) (as_eigens n (moved_all m ts)) (as_eigens_moved m n ts) (only_moved m l)
 
 -- terms put together
-pub moved_apply : (m : Moving) (ts : List Term) (h : Term) → moved m (apply h ts) ≡ apply (moved m h) (moved_all m ts)
-moved_apply m [] h = refl
-moved_apply m (t ∷ ts) h = moved_apply m ts (app h t)
 
 pub moved_pattern : (m : Moving) (ks : List ℕ) (h : Term) → moved m (apply h (eigens ks)) ≡ apply (moved m h) (eigens (map m.eigen ks))
 moved_pattern m [] h = refl

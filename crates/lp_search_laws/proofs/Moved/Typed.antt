@@ -1,26 +1,25 @@
 -- A typed branch stays one with further eigenconstants among those that are there.
-use Rattle.std.proofs.Common.{◌≡◌, ℕ, zero, suc, ◌<◌, ◌≤◌, List, [], ◌∷◌, ◌++◌, map, length, ◌∙◌, refl, sym, ap, subst as transport, arith, Bool, nat_eq, if◌then◌else◌, Option, Some, None}
+use Rattle.std.proofs.Common.{◌≡◌, ℕ, zero, List, [], ◌∷◌, map, length, ◌∙◌, refl, sym, ap, subst as transport, arith, Bool, nat_eq, if◌then◌else◌, Option, Some, None}
 use Rattle.std.specs.Prelude.{slice_get, option_map}
-use Rattle.std.proofs.lemmas.List.{length-map}
 use Rattle.lp_lemmas.specs.Each.{EachOf}
 use Rattle.lp_lemmas.proofs.Each.{each_map}
 use Rattle.lp_lemmas.proofs.Lists.{get_from_map}
 use Rattle.lp_calculus.specs.Types.{Ty, Tys, var, param as type_param, con, arrow, no_types, types, instance}
 use Rattle.lp_calculus.specs.Term.{Term, Atom, index, atom, abs, app, constant, integer, text, eigen, logic, param}
-use Rattle.lp_calculus.specs.Typing.{Typed, atom_type, o_type}
-use Rattle.lp_calculus.specs.Closed.{IsClosedType, AreClosedTypes, AllAtoms}
+use Rattle.lp_calculus.specs.Typing.{atom_type, o_type}
+use Rattle.lp_calculus.specs.Closed.{IsClosedType, AreClosedTypes}
 use Rattle.lp_calculus.specs.Spine.{head_of}
 use Rattle.lp_calculus.proofs.Fills.{within_fill}
 use Rattle.lp_calculus.proofs.Subject.{typed_fill}
 use Rattle.lp_unify_laws.specs.TypesBelow.{IsTypeBelow, AreTypesBelow, AreTysBelow}
 use Rattle.lp_unify_laws.proofs.TypedInstances.{get_map}
-use Rattle.lp_model.specs.Flat.{Goal, Goals, Clause, formula_of_goal, formula_of_clause, same_type}
+use Rattle.lp_model.specs.Flat.{Goal, Clause, formula_of_goal, formula_of_clause, same_type}
 use Rattle.lp_model.specs.Variables.{Variable, type_of, over, IsPrefix, IsScopedAtom}
 use Rattle.lp_model.specs.Branch.{Entry}
 use Rattle.lp_model.specs.Proofs.{Declared}
 use Rattle.lp_search_laws.specs.Holds.{IsTyped}
-use Rattle.lp_search_laws.specs.Branches.{IsPlainAtom, IsPlainTerm, IsClauseHead, IsAssumable, IsTypedEntry, AreTypedEntries, IsPlainEntry, ArePlainEntries, IsPlainVariable}
-use Rattle.lp_search_laws.specs.Widened.{Additions, widened, wider, moved_to, HaveClosedTypes}
+use Rattle.lp_search_laws.specs.Branches.{IsPlainAtom, IsClauseHead, IsAssumable, IsTypedEntry, AreTypedEntries, ArePlainEntries, IsPlainVariable}
+use Rattle.lp_search_laws.specs.Widened.{Additions, widened, wider, HaveClosedTypes}
 use Rattle.lp_search_laws.proofs.Begins.{type_stays}
 use Rattle.lp_search_laws.proofs.Formulas.{GoesInside, goal_inside, clause_inside}
 use Rattle.lp_search_laws.proofs.PlainTypes.{KeepsPlain, goal_kept, assumable_kept, fill_plain}
