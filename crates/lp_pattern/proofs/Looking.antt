@@ -49,16 +49,7 @@ closed_redex c b u ts =
 pub closed_value : (c : Closing) (x l : ℕ) (v : Term) (ts : List Term) → c.terms x l ≡ closed c v → closed c (apply (atom (logic x l)) ts) ≡ closed c (apply v ts)
 closed_value c x l v ts e = closed_apply c ts (atom (logic x l)) ∙ ap (λ h. apply h (map (closed c) ts)) e ∙ sym (closed_apply c ts v)
 
--- steps behind steps
-pub steps_then : (f : Term → Option Term) (j k m : ℕ) (t s r : Term) → m ≡ j + k → steps f j t ≡ Some s → steps f k s ≡ Some r → steps f m t ≡ Some r
-steps_then f zero k m t s r q e g = (let z : k ≡ m = omega arith in let i : t ≡ s = cc in ap (λ n. steps f n t) (sym z) ∙ ap (steps f k) i ∙ g)
-steps_then f (suc j) k zero t s r q e g = absurd (omega arith)
-steps_then f (suc j) k (suc m) t s r q e g =
-    elim (f t) as (λ o. (elim o [ None ↦ None | Some u ↦ steps f j u ]) ≡ Some s → (elim o [ None ↦ None | Some u ↦ steps f m u ]) ≡ Some r) [
-      | None ↦ λ p. absurd (cc)
-      | Some u ↦ λ p. steps_then f j k m u s r (omega arith) p g
-    ] e
-
+-- one step
 pub one_step : (f : Term → Option Term) (t s : Term) → f t ≡ Some s → steps f 1 t ≡ Some s
 one_step f t s e = ap (λ (o : Option Term). elim o as (λ z. Option Term) [ None ↦ None | Some u ↦ steps f 0 u ]) e
 

@@ -27,7 +27,8 @@ use Rattle.lp_pattern.specs.Seen.{weak_step, IsLooked, IsDeepWhere}
 use Rattle.lp_pattern.specs.Turning.{IsOpenReading, IsKnownPair, AreKnownPairs, IsPairFor, ArePairsFor, IsFirm, IsKeptBehind, IsTypedBehind, IsDoneAs, IsGivenAs, IsTakenAs}
 use Rattle.lp_pattern.specs.Under.{under}
 use Rattle.lp_pattern.proofs.Judging.{pair_kept}
-use Rattle.lp_pattern.proofs.Looking.{steps_on, steps_then}
+use Rattle.lp_pattern.proofs.Looking.{steps_on}
+use Rattle.lp_term.proofs.Several.{steps_then}
 use Rattle.lp_pattern.proofs.PairsThrough.{within_typed, within_reached}
 use Rattle.lp_pattern.proofs.Stacks.{under_kept}
 use Rattle.lp_pattern.proofs.Walking.{open_kept}

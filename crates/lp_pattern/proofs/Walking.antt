@@ -3,7 +3,7 @@ use Rattle.std.proofs.Common.{◌≡◌, ℕ, suc, ◌+◌, ◌-◌, ◌<◌, �
 use Rattle.std.specs.Prelude.{All, IsSome, IfSome}
 use Rattle.indexmap.specs.IndexMap.{get}
 use Rattle.lp_calculus.specs.Types.{Ty, instance}
-use Rattle.lp_calculus.specs.Term.{Term, index, atom, abs, app, apply, substitute, constant, integer, text, eigen, logic, param}
+use Rattle.lp_calculus.specs.Term.{Term, index, atom, abs, app, apply, constant, integer, text, eigen, logic, param}
 use Rattle.lp_calculus.specs.Convert.{steps}
 use Rattle.lp_term.specs.Nodes.{Nodes, Extends, tree}
 use Rattle.lp_term.specs.Walk.{trees}
@@ -15,7 +15,9 @@ use Rattle.lp_term.proofs.Frames.{some_of}
 use Rattle.lp_term.proofs.Openings.{all_reverse}
 use Rattle.std.proofs.lemmas.List.Elements.{All-nil, All-weaker, All-head, All-tail}
 use Rattle.lp_term.proofs.Spines.{unwound_application}
-use Rattle.lp_term.proofs.Walks.{trees-push, trees_stay, All-front, map_map}
+use Rattle.lp_term.proofs.Several.{steps_then}
+use Rattle.lp_term.proofs.Contract.{last_of}
+use Rattle.lp_term.proofs.Walks.{trees-push, trees_stay, map_map}
 use Rattle.lp_model.specs.Pair.{Closing, closed}
 use Rattle.lp_model.specs.Look.{rigid, look}
 use Rattle.lp_lemmas.proofs.Options.{IsSome_from}
@@ -27,7 +29,7 @@ use Rattle.lp_pattern.specs.declared.look.Spine.{Spine}
 use Rattle.lp_pattern.specs.Under.{ValueIs, TypeIs, AreTypes, IsReading, under, below}
 use Rattle.lp_pattern.specs.Seen.{IsRigid, IsHead, IsLooked, Stands, IsReachedWithin, IsDeepWhere, IsEndedHead, IsEnded, seen, Sees, weak_step, at_hand, Follows}
 use Rattle.lp_pattern.specs.Turning.{IsOpenReading}
-use Rattle.lp_pattern.proofs.Looking.{closed_apply, closed_redex, closed_value, steps_then, one_step, look_later, look_abs, look_ended}
+use Rattle.lp_pattern.proofs.Looking.{closed_apply, closed_redex, closed_value, one_step, look_later, look_abs, look_ended}
 
 -- a reading in a bank that has grown
 value_kept : (b d : Nodes) (c : Closing) (x : ℕ) (o : Option TermId) → Extends b d → ValueIs b c x o → ValueIs d c x o
@@ -51,35 +53,21 @@ pub open_kept : (b d : Nodes) (s : Bindings) (next : ℕ) (c : Closing) → Exte
 open_kept b d s next c e i = record { reading = reading_kept b d s c e i.reading; shut = i.shut; still = i.still; unbound = i.unbound }
 
 -- a contraction
-pub redex_shape : (b : Nodes) (top body arg : TermId) (args rest : List TermId) → tree b top.0 ≡ abs (tree b body.0) → args ≡ rest ++ arg ∷ [] →
+redex_shape : (b : Nodes) (top body arg : TermId) (args rest : List TermId) → tree b top.0 ≡ abs (tree b body.0) → args ≡ rest ++ arg ∷ [] →
     apply (tree b top.0) (trees b args) ≡ apply (abs (tree b body.0)) (tree b arg.0 ∷ trees b rest)
 redex_shape b top body arg args rest q p =
     ap (λ h. apply h (trees b args)) q ∙ ap (apply (abs (tree b body.0))) (ap (trees b) p ∙ trees-push b rest arg)
 
-pub contraction_follows : (c : Closing) (b d : Nodes) (top body arg next : TermId) (args rest : List TermId) → tree b top.0 ≡ abs (tree b body.0) → args ≡ rest ++ arg ∷ [] →
-    Extends b d → All (λ t. t.0 < length b.terms) args → tree d next.0 ≡ substitute (tree b arg.0) (tree b body.0) →
-    weak_step (closed c (apply (tree b top.0) (trees b args))) ≡ Some (closed c (apply (tree d next.0) (trees d rest)))
-contraction_follows c b d top body arg next args rest q p e a h =
-    ap (λ t. weak_step (closed c t)) (redex_shape b top body arg args rest q p) ∙ closed_redex c (tree b body.0) (tree b arg.0) (trees b rest) ∙
-    ap (λ t. Some (closed c t)) (sym
-    (ap (λ t. apply t (trees d rest)) h ∙
-    ap (apply (substitute (tree b arg.0) (tree b body.0))) (trees_stay b d rest e (All-front (λ t. t.0 < length b.terms) rest (arg ∷ []) (transport (All (λ t. t.0 < length b.terms)) p a)))))
-
-pub contraction_one : (c : Closing) (b d : Nodes) (top body arg next : TermId) (args rest : List TermId) → tree b top.0 ≡ abs (tree b body.0) → args ≡ rest ++ arg ∷ [] →
-    Extends b d → All (λ t. t.0 < length b.terms) args → tree d next.0 ≡ substitute (tree b arg.0) (tree b body.0) →
-    steps weak_step 1 (closed c (apply (tree b top.0) (trees b args))) ≡ Some (closed c (apply (tree d next.0) (trees d rest)))
-contraction_one c b d top body arg next args rest q p e a h =
-    one_step weak_step (closed c (apply (tree b top.0) (trees b args))) (closed c (apply (tree d next.0) (trees d rest))) (contraction_follows c b d top body arg next args rest q p e a h)
-
 -- a contraction where none is left
-pub too_deep : (c : Closing) (b : Nodes) (top body arg : TermId) (args rest : List TermId) (n : ℕ) → n ≡ 0 → tree b top.0 ≡ abs (tree b body.0) → args ≡ rest ++ arg ∷ [] →
+pub too_deep : (c : Closing) (b : Nodes) (top body : TermId) (args : List TermId) (n : ℕ) → n ≡ 0 → tree b top.0 ≡ abs (tree b body.0) → 0 < length args →
     IsSome (steps weak_step (suc n) (closed c (apply (tree b top.0) (trees b args))))
-too_deep c b top body arg args rest n z q p =
-    let e = ap (λ t. weak_step (closed c t)) (redex_shape b top body arg args rest q p) ∙ closed_redex c (tree b body.0) (tree b arg.0) (trees b rest) in
+too_deep c b top body args n z q l =
+    let k = last_of args l in
+    let e = ap (λ t. weak_step (closed c t)) (redex_shape b top body k.1 args k.0 q k.2) ∙ closed_redex c (tree b body.0) (tree b k.1.0) (trees b k.0) in
     let s = one_step weak_step (closed c (apply (tree b top.0) (trees b args))) _ e in
     IsSome_from (steps weak_step (suc n) (closed c (apply (tree b top.0) (trees b args)))) _ (ap (λ m. steps weak_step (suc m) (closed c (apply (tree b top.0) (trees b args)))) z ∙ s)
 
-whole_alone : (d : Nodes) (top : TermId) (args : List TermId) (o : Option TermId) → top.0 < length d.terms → IfSome o (λ id. (id ≡ top) × (args ≡ [])) →
+pub whole_alone : (d : Nodes) (top : TermId) (args : List TermId) (o : Option TermId) → top.0 < length d.terms → IfSome o (λ id. (id ≡ top) × (args ≡ [])) →
     IfSome o (λ id. (id.0 < length d.terms) × (tree d id.0 ≡ apply (tree d top.0) (trees d args)))
 whole_alone d top args None l h = tt
 whole_alone d top args (Some id) l h =

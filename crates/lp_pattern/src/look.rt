@@ -1,14 +1,17 @@
 // A term when it is looked at: head-normal, with its head and its arguments.
-ghost use Rattle.std.specs.Prelude.{◌≡◌, ◌<◌, ◌≤◌, length, [], ◌++◌, map, reverse, All, IfOk, OnOk, IfErr, IfSome};
-ghost use Rattle.lp_calculus.specs.Term.{abs, atom, logic, apply, substitute};
+ghost use Rattle.std.specs.Prelude.{◌≡◌, ◌<◌, ◌≤◌, ◌^◌, true, length, [], ◌++◌, map, reverse, All, IfOk, OnOk, IfErr, IfSome};
+ghost use Rattle.lp_calculus.specs.Term.{abs, atom, logic, apply};
 ghost use Rattle.lp_term.specs.Nodes.{Extends, tree};
+ghost use Rattle.lp_term.specs.Spine.{LooseBelow};
+ghost use Rattle.lp_term.specs.Frame.{in_order};
+ghost use Rattle.lp_term.specs.Several.{substitute_each};
 ghost use Rattle.lp_model.specs.Pair.{Closing, closed};
 ghost use Rattle.lp_pattern.specs.Under.{IsReading, under};
 ghost use Rattle.lp_pattern.specs.Seen.{IsHead, IsLooked, IsReachedWithin, IsDeepWhere, Sees, at_hand, Stands, Follows};
 
 use crate::bindings::Bindings;
 use lp_base::{Memory, RUN_LIMIT};
-use lp_term::{Bank, TermId, TermNode, TermRefusal, put_application, substitute};
+use lp_term::{Bank, TermId, TermNode, TermRefusal, body_under, put_application, substitute_all};
 use std::alloc::Global;
 
 // As many contractions may lead to the head of one term.
@@ -57,24 +60,36 @@ pub(crate) fn push_reversed(ids: &[TermId], stack: &mut Vec<TermId>) -> Result<(
     Ok(())
 }
 
-// The body with the argument for its index 0.
+// Whether the loose indices of all these terms are below the bound.
+fn are_below(bank: &Bank, terms: &[TermId]) -> bool
+    ensures { result ≡ true → All (λ t. LooseBelow (2 ^ 32) 0 (tree bank.now t.0)) terms.now }
+{
+    for term in terms.iter().copied() {
+        if !bank.is_known_below(term, INDICES) {
+            return false;
+        }
+    }
+    true
+}
+
+// The body with the arguments for its first indices, all at once.
 fn contracted(
     alloc: Global,
     bank: &mut Bank,
     body: TermId,
-    argument: TermId,
+    arguments: &[TermId],
 ) -> Result<TermId, Memory>
     requires body { body.0 < length bank.old.terms }
-    requires argument { argument.0 < length bank.old.terms }
+    requires arguments { All (λ t. t.0 < length bank.old.terms) arguments.now }
     ensures kept { Extends bank.old bank.new }
     ensures within { IfOk result (λ id. id.0 < length bank.new.terms) }
-    ensures tree { IfOk result (λ id. tree bank.new id.0 ≡ substitute (tree bank.old argument.0) (tree bank.old body.0)) }
+    ensures tree { IfOk result (λ id. tree bank.new id.0 ≡ substitute_each (in_order bank.old arguments.now) (tree bank.old body.0)) }
 {
     let _count = bank.term_count();
-    if !bank.is_known_below(argument, INDICES) {
+    if !are_below(bank, arguments) {
         return Err(Memory);
     }
-    substitute(alloc, bank, body, argument)
+    substitute_all(alloc, bank, body, arguments)
 }
 
 // The number of the head on the arguments, where there are none.
@@ -87,7 +102,7 @@ fn alone(top: TermId, arguments: &Vec<TermId>) -> Option<TermId>
     None
 }
 
-// An abstraction on an argument is contracted. One without arguments is left as it is.
+// An abstraction is contracted on as many of its arguments as there are abstractions for them. One without arguments is left as it is.
 fn contract(
     alloc: Global,
     bank: &mut Bank,
@@ -105,15 +120,21 @@ fn contract(
     ensures head { IfOk result (λ found. IfSome found (λ head. IsHead bank.new bindings.now head (tree bank.new spine.new.top.0) spine.new.arguments.items)) }
     ensures refused { IfErr result (λ e. (c : Closing) → IsDeepWhere spine.old.left (closed c (at_hand bank.old spine.old)) e) }
 {
-    let Some(argument) = spine.arguments.pop() else {
+    if spine.arguments.is_empty() {
         return Ok(Some(Head::Abstraction(body)));
-    };
+    }
     if spine.left == 0 {
         return Err(TermRefusal::Deep(0));
     }
-    spine.left -= 1;
-    spine.top = contracted(alloc, bank, body, argument)?;
-    spine.whole = alone(spine.top, &spine.arguments);
+    let count = spine.arguments.len();
+    let most = spine.left.min(count as u64) - 1;
+    let (inner, more) = body_under(bank, body, most);
+    let kept = count - 1 - more as usize;
+    let top = contracted(alloc, bank, inner, &spine.arguments[kept..])?;
+    spine.arguments.truncate(kept);
+    spine.top = top;
+    spine.whole = alone(top, &spine.arguments);
+    spine.left -= more + 1;
     Ok(None)
 }
 

@@ -1,6 +1,6 @@
 -- Loose indices stay below their limit, so that raised ones fit.
 use Rattle.std.proofs.Common.{◌≡◌, ℕ, zero, suc, ◌+◌, ◌-◌, ◌<◌, ◌≤◌, ◌^◌, refl, ap, subst, arith, Bool, true, false, List, [], ◌∷◌, length, map}
-use Rattle.std.specs.Prelude.{All}
+use Rattle.std.specs.Prelude.{All, get_or}
 use Rattle.std.proofs.lemmas.List.Elements.{All-nil, All-head, All-tail, All-cons}
 use Rattle.std.specs.Prelude.{nat_lt, nat_eq}
 use Rattle.std.proofs.lemmas.Bool.Decides.{nat_tests}
@@ -10,7 +10,7 @@ use Rattle.lp_term.specs.Walk.{Everywhere}
 use Rattle.lp_term.specs.Nodes.{Nodes, IsSound, tree, node_tree, term_at}
 use Rattle.lp_term.specs.Node.{TermShape, index_node, const_node, int_node, text_node, eigen_node, logic_node, typed_param_node, abs_node, app_node, TermBelow}
 use Rattle.lp_term.proofs.Trees.{tree-node, term_below}
-use Rattle.lp_term.specs.Raise.{FitsRaised, FitsPut}
+use Rattle.lp_term.specs.Raise.{FitsRaised, FitsPut, FitsEach}
 use Rattle.lp_term.specs.Spine.{LooseBelow, IsLoose, height, abstractions}
 
 pub everywhere_both : (P Q R : ℕ → ℕ → Type 0) → ((d i : ℕ) → P d i → Q d i → R d i) → (d : ℕ) (t : Term) → Everywhere P d t → Everywhere Q d t → Everywhere R d t
@@ -30,6 +30,16 @@ pub fits : (limit : ℕ) (v b : Term) → LooseBelow limit 0 v → limit + heigh
 fits limit v b l h =
     everywhere_both (λ e i. e ≤ height b) (λ e i. e ≤ height b) (FitsPut v)
     (λ d i p _ q. everywhere_both (IsLoose limit) (λ e j. e ≤ height v) (FitsRaised d) (λ e j a c g. omega arith) 0 v l (below_height (height v) 0 v (omega arith)))
+    0 b (below_height (height b) 0 b (omega arith)) (below_height (height b) 0 b (omega arith))
+
+pub fits_each : (limit : ℕ) (us : List Term) (b : Term) → All (LooseBelow limit 0) us → All (λ u. limit + height u + height b < 2 ^ 64) us → Everywhere (FitsEach us) 0 b
+fits_each limit us b l h =
+    everywhere_both (λ e i. e ≤ height b) (λ e i. e ≤ height b) (FitsEach us)
+    (λ d i p _ low high.
+    let k : i - d < length us = omega arith in
+    let u = get_or us (i - d) (index 0) in
+    let m : limit + height u + height b < 2 ^ 64 = h (i - d) (index 0) k in
+    everywhere_both (IsLoose limit) (λ e j. e ≤ height u) (FitsRaised d) (λ e j a c g. omega arith) 0 u (l (i - d) (index 0) k) (below_height (height u) 0 u (omega arith)))
     0 b (below_height (height b) 0 b (omega arith)) (below_height (height b) 0 b (omega arith))
 
 loose_index : (limit d k i : ℕ) → i < k + limit → LooseBelow limit (d + k) (raised d k i)
@@ -92,17 +102,6 @@ abstractions_loose limit (suc d) e t h = abstractions_loose limit d e (abs t) (l
 loose_apply : (limit e : ℕ) (t s : Term) (xs : List Term) → (LooseBelow limit e t → LooseBelow limit e s) → LooseBelow limit e (apply t xs) → LooseBelow limit e (apply s xs)
 loose_apply limit e t s [] f h = f h
 loose_apply limit e t s (x ∷ xs) f h = loose_apply limit e (app t x) (app s x) xs (λ k. (f k.0, k.1)) h
-
-loose_head : (limit e : ℕ) (t : Term) (xs : List Term) → LooseBelow limit e (apply t xs) → LooseBelow limit e t
-loose_head limit e t [] h = h
-loose_head limit e t (x ∷ xs) h = (loose_head limit e (app t x) xs h).0
-
--- what the redex below d abstractions has
-pub loose_redex : (limit d : ℕ) (b u : Term) (xs : List Term) → LooseBelow limit 0 (abstractions d (apply (abs b) (u ∷ xs))) →
-    LooseBelow (limit + d) 1 b × LooseBelow (limit + d) 0 u
-loose_redex limit d b u xs h =
-    let k : LooseBelow (limit + d) 0 (app (abs b) u) = loose_in limit d 0 (app (abs b) u) (loose_head limit (0 + d) (app (abs b) u) xs (loose_abstractions limit d 0 (apply (app (abs b) u) xs) h)) in
-    k
 
 -- a head step leaves it
 pub loose_step : (limit d : ℕ) (b u : Term) (xs : List Term) → LooseBelow limit 0 (abstractions d (apply (abs b) (u ∷ xs))) →

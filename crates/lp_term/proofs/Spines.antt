@@ -1,8 +1,7 @@
 -- Head steps of a term that is given as its abstractions, head and arguments.
 use Rattle.std.proofs.Common.{◌≡◌, ℕ, zero, suc, ◌+◌, ◌<◌, ◌≤◌, ◌≢◌, length, List, [], ◌∷◌, ◌++◌, refl, sym, ap, ◌∙◌, arith, Some, None, map, reverse, add-one}
 use Rattle.lp_calculus.specs.Term.{Term, index, atom, abs, app, apply, substitute}
-use Rattle.lp_calculus.specs.Convert.{head_step, option_term, steps}
-use Rattle.lp_calculus.proofs.Leftmost.{first_of_steps, one_more, head_strategy}
+use Rattle.lp_calculus.specs.Convert.{head_step, option_term}
 use Rattle.lp_term.specs.Nodes.{Nodes, tree}
 use Rattle.std.specs.Prelude.{All}
 use Rattle.std.proofs.lemmas.List.{reverse-append}
@@ -46,12 +45,6 @@ none-abstractions (suc d) t e = none-abstractions d (abs t) (ap (option_term abs
 
 pub normal_head : (d : ℕ) (t : Term) (xs : List Term) → IsNoRedexHead t → head_step (abstractions d (apply t xs)) ≡ None
 normal_head d t xs h = none-abstractions d (apply t xs) (none-head t xs h)
-
-pub steps-more : (n : ℕ) (t s r : Term) → steps head_step n t ≡ Some s → head_step s ≡ Some r → steps head_step (suc n) t ≡ Some r
-steps-more zero t s r e h = (let q : t ≡ s = cc in one_more head_step head_strategy 0 t r r (ap head_step q ∙ h) refl)
-steps-more (suc n) t s r e h =
-    let k = first_of_steps head_step head_strategy n s (head_step t) e in
-    one_more head_step head_strategy (suc n) t k.0 r k.1 (steps-more n k.0 s r k.2 h)
 
 apply-append : (h : Term) (xs ys : List Term) → apply h (xs ++ ys) ≡ apply (apply h xs) ys
 apply-append h [] ys = refl

@@ -14,47 +14,47 @@ use Rattle.lp_term.specs.declared.started.Move.{Move}
 use Rattle.lp_term.specs.declared.started.Move.TheVariants.{On, Done}
 
 -- what becomes of the term as a part of the place
-abbrev pub part : Nodes → Started → TermId → Term
-part b w t = replace (changed b w.change) w.depth (tree b t.0)
+abbrev pub part : (given : List TermId) → Nodes → Started → TermId → Term
+part vs b w t = replace (changed vs b w.change) w.depth (tree b t.0)
 
 -- what was made of the first parts, and what becomes of these, which are left and of which the last comes first, make up what becomes of the place
-pub record HasPlaces (b : Nodes) (w : Started) (rest : List TermId) : Type 0 where
-  pub place : IsPlace b w.place
+pub record HasPlaces (vs : List TermId) (b : Nodes) (w : Started) (rest : List TermId) : Type 0 where
+  pub place : IsPlace vs b w.place
   pub done : All (λ t. t.0 < length b.terms) w.done.items
-  pub left : ArePlaces b w.change w.depth rest
+  pub left : ArePlaces vs b w.change w.depth rest
   pub some : 0 < length w.done.items + length rest
-  pub value : value b w.place ≡ joined w.abstraction (in_order b w.done.items ++ map (replace (changed b w.change) w.depth) (trees b rest))
+  pub value : value vs b w.place ≡ joined w.abstraction (in_order b w.done.items ++ map (replace (changed vs b w.change) w.depth) (trees b rest))
 
-abbrev pub IsStarted : Nodes → Started → Type 0
-IsStarted b w = HasPlaces b w w.left.items
+abbrev pub IsStarted : (given : List TermId) → Nodes → Started → Type 0
+IsStarted vs b w = HasPlaces vs b w w.left.items
 
 -- one of its parts, which is left, is not among those that are left
-abbrev pub IsHalted : Nodes → Started → TermId → Type 0
-IsHalted b w t = HasPlaces b w (w.left.items ++ t ∷ [])
+abbrev pub IsHalted : (given : List TermId) → Nodes → Started → TermId → Type 0
+IsHalted vs b w t = HasPlaces vs b w (w.left.items ++ t ∷ [])
 
 -- the outermost place is to become the first term and waits for the next one; the innermost waits for the second term
-abbrev pub AwaitsValue : Nodes → Term → List Started → Term → Type 0
-AwaitsValue b v [] u = v ≡ u
-AwaitsValue b v (w ∷ ws) u = (value b w.place ≡ v) × (t : TermId) × IsHalted b w t × AwaitsValue b (part b w t) ws u
+abbrev pub AwaitsValue : (given : List TermId) → Nodes → Term → List Started → Term → Type 0
+AwaitsValue vs b v [] u = v ≡ u
+AwaitsValue vs b v (w ∷ ws) u = (value vs b w.place ≡ v) × (t : TermId) × IsHalted vs b w t × AwaitsValue vs b (part vs b w t) ws u
 
--- where a value is put it has to be raised besides
+-- where values are put they have to be raised besides
 abbrev pub factor : Change → ℕ
 factor (Raise by) = 2
-factor (Put v) = 4
+factor Put = 4
 
-abbrev pub part_sizes : Nodes → Started → List TermId → ℕ
-part_sizes b w [] = 0
-part_sizes b w (t ∷ ts) = size (part b w t) + part_sizes b w ts
+abbrev pub part_sizes : (given : List TermId) → Nodes → Started → List TermId → ℕ
+part_sizes vs b w [] = 0
+part_sizes vs b w (t ∷ ts) = size (part vs b w t) + part_sizes vs b w ts
 
 -- how much is left to be done
-abbrev pub toil : Nodes → Started → ℕ
-toil b w = 1 + factor w.change * part_sizes b w w.left.items
+abbrev pub toil : (given : List TermId) → Nodes → Started → ℕ
+toil vs b w = 1 + factor w.change * part_sizes vs b w w.left.items
 
-abbrev pub all_toil : Nodes → List Started → ℕ
-all_toil b [] = 0
-all_toil b (w ∷ ws) = toil b w + all_toil b ws
+abbrev pub all_toil : (given : List TermId) → Nodes → List Started → ℕ
+all_toil vs b [] = 0
+all_toil vs b (w ∷ ws) = toil vs b w + all_toil vs b ws
 
 -- where a move leads: to a place that the others wait for, with less left to be done; or to what the outermost place becomes
-abbrev pub IsAhead : Nodes → (whole : Term) → (before : ℕ) → List Started → Move → Type 0
-IsAhead b v n ws (On w) = IsStarted b w × AwaitsValue b v ws (value b w.place) × (all_toil b ws + toil b w < n)
-IsAhead b v n ws (Done made) = (made.0 < length b.terms) × (tree b made.0 ≡ v)
+abbrev pub IsAhead : (given : List TermId) → Nodes → (whole : Term) → (before : ℕ) → List Started → Move → Type 0
+IsAhead vs b v n ws (On w) = IsStarted vs b w × AwaitsValue vs b v ws (value vs b w.place) × (all_toil vs b ws + toil vs b w < n)
+IsAhead vs b v n ws (Done made) = (made.0 < length b.terms) × (tree b made.0 ≡ v)

@@ -1,11 +1,13 @@
 //! Shift and substitution, by one way through a term. What a place has become is kept: a term that is shared is gone through once, and
 //! the results are shared as well.
-ghost use Rattle.std.specs.Prelude.{◌≡◌, ◌≢◌, ℕ, ◌+◌, ◌<◌, ◌^◌, length, All, IfOk, IfSome};
+ghost use Rattle.std.specs.Prelude.{◌≡◌, ℕ, ◌+◌, ◌-◌, ◌<◌, ◌≤◌, ◌^◌, ◌⊎◌, length, List, get_or, All, IfOk, IfSome, None};
 ghost use Rattle.std.specs.HashMap.{values};
-ghost use Rattle.lp_calculus.specs.Term.{Term, index, raised, put_for, shift, substitute};
-ghost use Rattle.lp_term.specs.Nodes.{Nodes, tree, Extends};
+ghost use Rattle.lp_calculus.specs.Term.{index, raised, shift, substitute};
+ghost use Rattle.lp_term.specs.Nodes.{tree, Extends};
 ghost use Rattle.lp_term.specs.Walk.{Everywhere};
-ghost use Rattle.lp_term.specs.Raise.{FitsRaised, FitsPut};
+ghost use Rattle.lp_term.specs.Raise.{FitsRaised, FitsPut, FitsEach};
+ghost use Rattle.lp_term.specs.Several.{put_each, substitute_each};
+ghost use Rattle.lp_term.specs.Frame.{in_order};
 ghost use Rattle.lp_term.specs.Change.{value, IsPlace, IsKnown};
 
 use crate::bank::Bank;
@@ -46,7 +48,7 @@ fn raised_value(
 ) -> Result<Option<TermId>, Memory>
     requires value { value.0 < length bank.old.terms }
     requires fits { Everywhere (FitsRaised depth) 0 (tree bank.old value.0) }
-    requires known { All (IsKnown bank.old) (values memo.now) }
+    requires known { (vs : List TermId) × All (IsKnown vs bank.old) (values memo.now) }
     ensures kept { Extends bank.old bank.new }
     ensures made { IfOk result (λ found. IfSome found (λ made. (made.0 < length bank.new.terms) × (tree bank.new made.0 ≡ shift 0 depth (tree bank.old value.0)))) }
 {
@@ -68,28 +70,55 @@ fn raised_value(
     Ok(Some(made))
 }
 
-// The index of the node, or the index one lower.
-pub(crate) fn lower(bank: &mut Bank, id: TermId, depth: u64, at: u64) -> Result<TermId, Memory>
+// The value that stands for the index, where one does.
+pub(crate) fn value_at(given: &[TermId], depth: u64, at: u64) -> Option<TermId>
+    ensures here { IfSome result (λ v. (depth ≤ at) × (at - depth < length given.now) × (v ≡ get_or given.now (at - depth) v)) }
+    ensures other { result ≡ None → at < depth ⊎ depth + length given.now ≤ at }
+{
+    if at < depth {
+        return None;
+    }
+    let place = (at - depth) as usize;
+    if place >= given.len() {
+        return None;
+    }
+    Some(given[place])
+}
+
+// The index of the node, or the index as many lower as values are given.
+pub(crate) fn lower(
+    bank: &mut Bank,
+    given: &[TermId],
+    id: TermId,
+    depth: u64,
+    at: u64,
+) -> Result<TermId, Memory>
     requires id { id.0 < length bank.old.terms }
     requires index { tree bank.old id.0 ≡ index at }
-    requires other { at ≢ depth }
+    requires other { at < depth ⊎ depth + length given.now ≤ at }
     ensures kept { Extends bank.old bank.new }
     ensures within { IfOk result (λ made. made.0 < length bank.new.terms) }
-    ensures tree { IfOk result (λ made. (u : Term) → tree bank.new made.0 ≡ put_for u depth at) }
+    ensures tree { IfOk result (λ made. tree bank.new made.0 ≡ put_each (in_order bank.old given.now) depth at) }
 {
     if at < depth {
         return Ok(id);
     }
-    let made = bank.put_term(TermNode::Index(at - 1))?;
+    let count = given.len() as u64;
+    let made = bank.put_term(TermNode::Index(at - count))?;
     Ok(made)
 }
 
 // What becomes of the place, if that can be told at once.
-pub(crate) fn find(bank: &mut Bank, memo: &Memo, place: Place) -> Result<Option<TermId>, Memory>
-    requires place { IsPlace bank.old place }
-    requires known { All (IsKnown bank.old) (values memo.now) }
+pub(crate) fn find(
+    bank: &mut Bank,
+    memo: &Memo,
+    given: &[TermId],
+    place: Place,
+) -> Result<Option<TermId>, Memory>
+    requires place { IsPlace given.now bank.old place }
+    requires known { All (IsKnown given.now bank.old) (values memo.now) }
     ensures kept { Extends bank.old bank.new }
-    ensures found { IfOk result (λ found. IfSome found (λ made. (made.0 < length bank.new.terms) × (tree bank.new made.0 ≡ value bank.old place))) }
+    ensures found { IfOk result (λ found. IfSome found (λ made. (made.0 < length bank.new.terms) × (tree bank.new made.0 ≡ value given.now bank.old place))) }
 {
     if bank.is_known_below(place.id, place.depth) {
         return Ok(Some(place.id));
@@ -102,12 +131,13 @@ pub(crate) fn find(bank: &mut Bank, memo: &Memo, place: Place) -> Result<Option<
             let made = raise(bank, place.id, place.depth, at, by)?;
             Ok(Some(made))
         }
-        Change::Put(value) => {
-            if at == place.depth {
-                return raised_value(bank, memo, value, place.depth);
-            }
-            let made = lower(bank, place.id, place.depth, at)?;
-            Ok(Some(made))
+        Change::Put => {
+            let Some(value) = value_at(given, place.depth, at) else {
+                let made = lower(bank, given, place.id, place.depth, at)?;
+                return Ok(Some(made));
+            };
+            let found = raised_value(bank, memo, value, place.depth)?;
+            Ok(found)
         }
     }
 }
@@ -132,7 +162,7 @@ pub fn shift(
         depth: from,
         change: Change::Raise(by),
     };
-    carry(alloc, bank, place)
+    carry(alloc, bank, &[], place)
 }
 
 /// The body with the value for its index 0, and each other free index one lower.
@@ -149,11 +179,30 @@ pub fn substitute(
     ensures within { IfOk result (λ id. id.0 < length bank.new.terms) }
     ensures tree { IfOk result (λ id. tree bank.new id.0 ≡ substitute (tree bank.old value.0) (tree bank.old body.0)) }
 {
+    substitute_all(alloc, bank, body, &[value])
+}
+
+/// The body with the values for its indices from 0 on, and each other free index as many lower: what it becomes where the last value is put
+/// for the outermost of as many abstractions, and so on inwards. One way through the body puts them all.
+pub fn substitute_all(
+    alloc: Global,
+    bank: &mut Bank,
+    body: TermId,
+    given: &[TermId],
+) -> Result<TermId, Memory>
+    requires body { body.0 < length bank.old.terms }
+    requires given { All (λ v. v.0 < length bank.old.terms) given.now }
+    requires fits { Everywhere (FitsEach (in_order bank.old given.now)) 0 (tree bank.old body.0) }
+    ensures kept { Extends bank.old bank.new }
+    ensures within { IfOk result (λ id. id.0 < length bank.new.terms) }
+    ensures tree { IfOk result (λ id. tree bank.new id.0 ≡ substitute_each (in_order bank.old given.now) (tree bank.old body.0)) }
+{
     let _count = bank.term_count();
     let place = Place {
         id: body,
         depth: 0,
-        change: Change::Put(value),
+        change: Change::Put,
     };
-    carry(alloc, bank, place)
+    let made = carry(alloc, bank, given, place)?;
+    Ok(made)
 }

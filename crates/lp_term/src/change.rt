@@ -1,5 +1,5 @@
 //! What becomes of the indices of a term on the way through it, and what has been made so far.
-ghost use Rattle.std.specs.Prelude.{◌≡◌, ℕ, ◌<◌, length, All, IfOk, IfSome, OnOk, true};
+ghost use Rattle.std.specs.Prelude.{◌≡◌, ℕ, ◌<◌, length, List, All, IfOk, IfSome, OnOk, true};
 ghost use Rattle.std.specs.List.{IsAmong};
 ghost use Rattle.std.specs.HashMap.{values};
 ghost use Rattle.lp_term.specs.Nodes.{Nodes};
@@ -13,8 +13,8 @@ use std::collections::HashMap;
 pub(crate) enum Change {
     /// The free indices are raised by so much.
     Raise(u64),
-    /// The value stands for the first free index, and the other ones are one lower.
-    Put(TermId),
+    /// The values that are given stand for the first free indices, and the other ones are lower by as many.
+    Put,
 }
 
 /// A term below so many abstractions of the way, and what becomes of its free indices.
@@ -40,7 +40,7 @@ fn same_change(a: Change, b: Change) -> bool
 {
     match (a, b) {
         (Change::Raise(x), Change::Raise(y)) => x == y,
-        (Change::Put(v), Change::Put(w)) => v.0 == w.0,
+        (Change::Put, Change::Put) => true,
         _ => false,
     }
 }
@@ -63,7 +63,7 @@ pub(crate) fn recall(memo: &Memo, place: Place) -> Option<TermId>
 
 /// Keeps what the place has become.
 pub(crate) fn remember(memo: &mut Memo, place: Place, made: TermId) -> Result<(), Memory>
-    ensures { OnOk result ((b : Nodes) → All (IsKnown b) (values memo.old) → IsKnown b (record { place = place; made = made }) → All (IsKnown b) (values memo.new)) }
+    ensures { OnOk result ((vs : List TermId) (b : Nodes) → All (IsKnown vs b) (values memo.old) → IsKnown vs b (record { place = place; made = made }) → All (IsKnown vs b) (values memo.new)) }
 {
     memo.insert(place, Known { place, made })?;
     Ok(())

@@ -7,10 +7,10 @@ ghost use Rattle.lp_term.specs.Walk.{trees};
 ghost use Rattle.lp_term.specs.Answer.{IsDeepOnlyWhere, IsDeepAfter, IsReducedWithin, IsSpine};
 
 use crate::bank::Bank;
-use crate::carry::substitute;
+use crate::carry::substitute_all;
 use crate::node::{TermId, TermNode};
 use crate::put::put_abstractions;
-use crate::unwind::{DEEPEST, unwind};
+use crate::unwind::{DEEPEST, body_under, unwind};
 use lp_base::Memory;
 use std::alloc::{AllocFailed, Global};
 
@@ -112,12 +112,13 @@ pub(crate) fn reduce_spine(
         if left == 0 {
             return Err(TermRefusal::Deep(limit));
         }
-        left -= 1;
-        let Some(arg) = args.pop() else {
-            unreachable!()
-        };
+        let most = left.min(args.len() as u64) - 1;
+        let (inner, more) = body_under(bank, body, most);
+        let kept = args.len() - 1 - more as usize;
         let _count = bank.term_count();
-        head = substitute(alloc, bank, body, arg)?;
+        head = substitute_all(alloc, bank, inner, &args[kept..])?;
+        args.truncate(kept);
+        left -= more + 1;
     }
     Ok(Spine {
         depth,

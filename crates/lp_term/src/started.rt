@@ -4,11 +4,13 @@ ghost use Rattle.std.specs.HashMap.{values};
 ghost use Rattle.lp_calculus.specs.Term.{Term, index};
 ghost use Rattle.lp_term.specs.Nodes.{Nodes, tree, Extends};
 ghost use Rattle.lp_term.specs.Walk.{size};
+ghost use Rattle.lp_term.specs.Frame.{in_order};
+ghost use Rattle.lp_term.specs.Opened.{joined};
 ghost use Rattle.lp_term.specs.Change.{value, IsPlace, IsKnown};
 ghost use Rattle.lp_term.specs.Started.{IsStarted, IsHalted, AwaitsValue, IsAhead, part, factor, toil, all_toil};
 
 use crate::bank::Bank;
-use crate::carry::{find, lower, raise};
+use crate::carry::{find, lower, raise, value_at};
 use crate::change::{Change, Memo, Place, remember};
 use crate::node::{TermId, TermNode};
 use crate::normal::apply_done;
@@ -39,7 +41,8 @@ pub(crate) enum Move {
 // A place of which it is told what it becomes.
 fn told(alloc: Global, place: Place, made: TermId) -> Result<Started, Memory>
     ensures place { IfOk result (λ w. w.place ≡ place) }
-    ensures started { IfOk result (λ w. (b : Nodes) → IsPlace b place → made.0 < length b.terms → tree b made.0 ≡ value b place → IsStarted b w × (toil b w < factor place.change * size (value b place))) }
+    ensures started { IfOk result (λ w. (vs : List TermId) (b : Nodes) → IsPlace vs b place → made.0 < length b.terms → tree b made.0 ≡ value vs b place →
+        IsStarted vs b w × (toil vs b w < factor place.change * size (value vs b place))) }
 {
     let mut done = Vec::new(alloc);
     done.push(made)?;
@@ -54,12 +57,18 @@ fn told(alloc: Global, place: Place, made: TermId) -> Result<Started, Memory>
 }
 
 // The place of an index.
-fn start_index(alloc: Global, bank: &mut Bank, place: Place, at: u64) -> Result<Started, Memory>
-    requires place { IsPlace bank.old place }
+fn start_index(
+    alloc: Global,
+    bank: &mut Bank,
+    given: &[TermId],
+    place: Place,
+    at: u64,
+) -> Result<Started, Memory>
+    requires place { IsPlace given.now bank.old place }
     requires index { tree bank.old place.id.0 ≡ index at }
     ensures kept { Extends bank.old bank.new }
     ensures place { IfOk result (λ w. w.place ≡ place) }
-    ensures started { IfOk result (λ w. IsStarted bank.new w × (toil bank.new w < factor place.change * size (value bank.old place))) }
+    ensures started { IfOk result (λ w. IsStarted given.now bank.new w × (toil given.now bank.new w < factor place.change * size (value given.now bank.old place))) }
 {
     let _count = bank.term_count();
     match place.change {
@@ -68,12 +77,12 @@ fn start_index(alloc: Global, bank: &mut Bank, place: Place, at: u64) -> Result<
             let started = told(alloc, place, made)?;
             Ok(started)
         }
-        Change::Put(value) => {
-            if at != place.depth {
-                let made = lower(bank, place.id, place.depth, at)?;
+        Change::Put => {
+            let Some(value) = value_at(given, place.depth, at) else {
+                let made = lower(bank, given, place.id, place.depth, at)?;
                 let started = told(alloc, place, made)?;
                 return Ok(started);
-            }
+            };
             let mut left = Vec::new(alloc);
             left.push(value)?;
             Ok(Started {
@@ -89,11 +98,11 @@ fn start_index(alloc: Global, bank: &mut Bank, place: Place, at: u64) -> Result<
 }
 
 // The place with its parts left.
-fn start(alloc: Global, bank: &mut Bank, place: Place) -> Result<Started, Memory>
-    requires { IsPlace bank.old place }
+fn start(alloc: Global, bank: &mut Bank, given: &[TermId], place: Place) -> Result<Started, Memory>
+    requires { IsPlace given.now bank.old place }
     ensures kept { Extends bank.old bank.new }
     ensures place { IfOk result (λ w. w.place ≡ place) }
-    ensures started { IfOk result (λ w. IsStarted bank.new w × (toil bank.new w < factor place.change * size (value bank.old place))) }
+    ensures started { IfOk result (λ w. IsStarted given.now bank.new w × (toil given.now bank.new w < factor place.change * size (value given.now bank.old place))) }
 {
     let _count = bank.term_count();
     match bank.term_node(place.id) {
@@ -123,7 +132,7 @@ fn start(alloc: Global, bank: &mut Bank, place: Place) -> Result<Started, Memory
             })
         }
         TermNode::Index(at) => {
-            let started = start_index(alloc, bank, place, at)?;
+            let started = start_index(alloc, bank, given, place, at)?;
             Ok(started)
         }
         _ => {
@@ -136,7 +145,8 @@ fn start(alloc: Global, bank: &mut Bank, place: Place) -> Result<Started, Memory
 // What was made of the part that the place waits for.
 fn take(mut started: Started, made: TermId) -> Result<Started, Memory>
     ensures place { IfOk result (λ w. w.place ≡ started.place) }
-    ensures started { IfOk result (λ w. (b : Nodes) (t : TermId) → IsHalted b started t → made.0 < length b.terms → tree b made.0 ≡ part b started t → IsStarted b w × (toil b w ≡ toil b started)) }
+    ensures started { IfOk result (λ w. (vs : List TermId) (b : Nodes) (t : TermId) → IsHalted vs b started t → made.0 < length b.terms → tree b made.0 ≡ part vs b started t →
+        IsStarted vs b w × (toil vs b w ≡ toil vs b started)) }
 {
     started.done.push(made)?;
     Ok(started)
@@ -144,11 +154,11 @@ fn take(mut started: Started, made: TermId) -> Result<Started, Memory>
 
 // What the place becomes, once its parts are made.
 fn close(bank: &mut Bank, started: &Started) -> Result<TermId, Memory>
-    requires started { IsStarted bank.old started.now }
-    requires left { started.now.left.items ≡ [] }
+    requires done { All (λ t. t.0 < length bank.old.terms) started.now.done.items }
+    requires some { 0 < length started.now.done.items }
     ensures kept { Extends bank.old bank.new }
     ensures within { IfOk result (λ made. made.0 < length bank.new.terms) }
-    ensures tree { IfOk result (λ made. tree bank.new made.0 ≡ value bank.old started.now.place) }
+    ensures tree { IfOk result (λ made. tree bank.new made.0 ≡ joined started.now.abstraction (in_order bank.old started.now.done.items)) }
 {
     let Some((first, others)) = started.done.split_first() else {
         unreachable!()
@@ -167,12 +177,13 @@ fn go_out(
     waiting: &mut Vec<Started>,
     top: &Started,
 ) -> Result<Move, Memory>
-    requires top { IsStarted bank.old top.now }
+    requires done { All (λ t. t.0 < length bank.old.terms) top.now.done.items }
+    requires some { 0 < length top.now.done.items }
     requires left { top.now.left.items ≡ [] }
-    requires known { All (IsKnown bank.old) (values memo.old) }
     ensures kept { Extends bank.old bank.new }
-    ensures known { OnOk result (All (IsKnown bank.new) (values memo.new)) }
-    ensures next { IfOk result (λ m. (v : Term) → AwaitsValue bank.old v waiting.old.items (value bank.old top.now.place) → IsAhead bank.new v (all_toil bank.old waiting.old.items + toil bank.old top.now) waiting.new.items m) }
+    ensures known { OnOk result ((vs : List TermId) → IsStarted vs bank.old top.now → All (IsKnown vs bank.old) (values memo.old) → All (IsKnown vs bank.new) (values memo.new)) }
+    ensures next { IfOk result (λ m. (vs : List TermId) (v : Term) → IsStarted vs bank.old top.now → AwaitsValue vs bank.old v waiting.old.items (value vs bank.old top.now.place) →
+        IsAhead vs bank.new v (all_toil vs bank.old waiting.old.items + toil vs bank.old top.now) waiting.new.items m) }
 {
     let made = close(bank, top)?;
     remember(memo, top.place, made)?;
@@ -188,47 +199,55 @@ fn step(
     alloc: Global,
     bank: &mut Bank,
     memo: &mut Memo,
+    given: &[TermId],
     waiting: &mut Vec<Started>,
     mut top: Started,
 ) -> Result<Move, Memory>
-    requires top { IsStarted bank.old top }
-    requires known { All (IsKnown bank.old) (values memo.old) }
+    requires top { IsStarted given.now bank.old top }
+    requires known { All (IsKnown given.now bank.old) (values memo.old) }
     ensures kept { Extends bank.old bank.new }
-    ensures known { OnOk result (All (IsKnown bank.new) (values memo.new)) }
-    ensures next { IfOk result (λ m. (v : Term) → AwaitsValue bank.old v waiting.old.items (value bank.old top.place) → IsAhead bank.new v (all_toil bank.old waiting.old.items + toil bank.old top) waiting.new.items m) }
+    ensures known { OnOk result (All (IsKnown given.now bank.new) (values memo.new)) }
+    ensures next { IfOk result (λ m. (v : Term) → AwaitsValue given.now bank.old v waiting.old.items (value given.now bank.old top.place) →
+        IsAhead given.now bank.new v (all_toil given.now bank.old waiting.old.items + toil given.now bank.old top) waiting.new.items m) }
 {
     let Some(id) = top.left.pop() else {
-        return go_out(bank, memo, waiting, &top);
+        let next = go_out(bank, memo, waiting, &top)?;
+        return Ok(next);
     };
     let place = Place {
         id,
         depth: top.depth,
         change: top.change,
     };
-    if let Some(made) = find(bank, memo, place)? {
+    if let Some(made) = find(bank, memo, given, place)? {
         let next = take(top, made)?;
         return Ok(Move::On(next));
     }
     waiting.push(top)?;
-    let inner = start(alloc, bank, place)?;
+    let inner = start(alloc, bank, given, place)?;
     Ok(Move::On(inner))
 }
 
-/// What becomes of the place.
-pub(crate) fn carry(alloc: Global, bank: &mut Bank, place: Place) -> Result<TermId, Memory>
-    requires { IsPlace bank.old place }
+/// What becomes of the place, where these values are given.
+pub(crate) fn carry(
+    alloc: Global,
+    bank: &mut Bank,
+    given: &[TermId],
+    place: Place,
+) -> Result<TermId, Memory>
+    requires { IsPlace given.now bank.old place }
     ensures kept { Extends bank.old bank.new }
     ensures within { IfOk result (λ made. made.0 < length bank.new.terms) }
-    ensures tree { IfOk result (λ made. tree bank.new made.0 ≡ value bank.old place) }
+    ensures tree { IfOk result (λ made. tree bank.new made.0 ≡ value given.now bank.old place) }
 {
     let mut memo: Memo = HashMap::new(alloc);
-    if let Some(made) = find(bank, &memo, place)? {
+    if let Some(made) = find(bank, &memo, given, place)? {
         return Ok(made);
     }
     let mut waiting = Vec::new(alloc);
-    let mut top = start(alloc, bank, place)?;
+    let mut top = start(alloc, bank, given, place)?;
     'moves: loop {
-        match step(alloc, bank, &mut memo, &mut waiting, top)? {
+        match step(alloc, bank, &mut memo, given, &mut waiting, top)? {
             Move::On(next) => top = next,
             Move::Done(made) => return Ok(made),
         }

@@ -1,7 +1,7 @@
 ghost use Rattle.std.specs.Prelude.{◌≡◌, ℕ, ◌+◌, ◌<◌, ◌≤◌, ◌^◌, length, List, [], ◌∷◌, ◌++◌, IfOk, OnOk, All, vec_len, MatchOption, IfSome, reverse};
 ghost use Rattle.lp_calculus.specs.Term.{Term, abs};
 ghost use Rattle.lp_term.specs.Nodes.{Nodes, tree};
-ghost use Rattle.lp_term.specs.Spine.{whole, IsNoRedexHead};
+ghost use Rattle.lp_term.specs.Spine.{whole, abstractions, IsNoRedexHead};
 
 use crate::bank::Bank;
 use crate::node::{TermId, TermNode};
@@ -47,6 +47,25 @@ pub(crate) fn unwind(
             _ => return Ok(None),
         }
     }
+}
+
+/// The body below the first abstractions of the term, of which there may be so many at most, and how many these are.
+pub fn body_under(bank: &Bank, term: TermId, most: u64) -> (TermId, u64)
+    requires { term.0 < length bank.now.terms }
+    ensures count { result.1 ≤ most }
+    ensures within { result.0.0 < length bank.now.terms }
+    ensures tree { abstractions result.1 (tree bank.now result.0.0) ≡ tree bank.now term.0 }
+{
+    let mut body = term;
+    let mut count = 0;
+    'down: while count < most {
+        let TermNode::Abs(next) = bank.term_node(body) else {
+            break;
+        };
+        body = next;
+        count += 1;
+    }
+    (body, count)
 }
 
 // Puts the terms behind the others, the last one first.

@@ -95,14 +95,14 @@ kept_both f h k rule.Register = (none_broken f judged h).0
 kept_both f h k rule.Unset = (none_broken f judged h).1.0
 kept_both f h k rule.Set = (none_broken f judged h).1.1.0
 kept_both f h k rule.Constant = (none_broken f judged h).1.1.1.0
-kept_both f h k rule.Typing = (none_broken f unjudged k).0
-kept_both f h k rule.Index = (none_broken f judged h).1.1.1.1.0
-kept_both f h k rule.Term = (none_broken f judged h).1.1.1.1.1.0
-kept_both f h k rule.Order = (none_broken f judged h).1.1.1.1.1.1.0
-kept_both f h k rule.Head = (none_broken f unjudged k).1.0
-kept_both f h k rule.Block = (none_broken f judged h).1.1.1.1.1.1.1.0
-kept_both f h k rule.Clause = (none_broken f judged h).1.1.1.1.1.1.1.1.0
-kept_both f h k rule.Key = (none_broken f judged h).1.1.1.1.1.1.1.1.1.0
+kept_both f h k rule.Typing = (none_broken f judged h).1.1.1.1.0
+kept_both f h k rule.Index = (none_broken f judged h).1.1.1.1.1.0
+kept_both f h k rule.Term = (none_broken f judged h).1.1.1.1.1.1.0
+kept_both f h k rule.Order = (none_broken f judged h).1.1.1.1.1.1.1.0
+kept_both f h k rule.Head = (none_broken f unjudged k).0
+kept_both f h k rule.Block = (none_broken f judged h).1.1.1.1.1.1.1.1.0
+kept_both f h k rule.Clause = (none_broken f judged h).1.1.1.1.1.1.1.1.1.0
+kept_both f h k rule.Key = (none_broken f judged h).1.1.1.1.1.1.1.1.1.1.0
 
 all_kept : (f : Rule → Bool) → first_broken f judged ≡ None → first_broken f unjudged ≡ None → first_broken f rules ≡ None
 all_kept f h k = none_first f rules (kept_both f h k)

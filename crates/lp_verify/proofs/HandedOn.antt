@@ -1,16 +1,13 @@
 -- What is handed to assumed records: as it is kept, it is what the definition hands to them.
-use Rattle.std.proofs.Common.{◌≡◌, ◌∙◌, ◌≤◌, ◌<◌, ℕ, zero, suc, List, [], ◌∷◌, ◌++◌, map, length, Bool, true, false, Option, Some, None, Bor, ap, refl, sym, subst, arith, inl, inr}
+use Rattle.std.proofs.Common.{◌≡◌, ◌∙◌, ◌≤◌, ◌<◌, ℕ, zero, suc, List, [], ◌∷◌, ◌++◌, map, length, Bool, true, false, Option, Some, None, ap, refl, sym, subst, arith, inl, inr}
 use Rattle.std.specs.Prelude.{◌^◌, ◌⊎◌, nat_eq, nat_lt, not, ◌||◌, ◌&&◌, if◌then◌else◌, is_some, is_none, slice_get, filter_map, option_and_then, unwrap_or, Vec}
 use Rattle.std.specs.Global.{Global}
-use Rattle.std.specs.Option.{option_copied}
-use Rattle.std.specs.Slice.{IsItemAt}
 use Rattle.std.specs.List.{cons_option}
 use Rattle.std.specs.List.{list_any}
 use Rattle.std.specs.Ordering.{nat_cmp}
 use Rattle.std.specs.BTreeMap.{BTreeMap, get}
 use Rattle.std.proofs.lemmas.List.{length-append, length-map}
 use Rattle.std.proofs.lemmas.Bool.{eqb-true}
-use Rattle.std.proofs.lemmas.Option.{slice_get-get_or, slice_get_past}
 use Rattle.lp_lemmas.proofs.Lists.{append_nil_sym, get_push}
 use Rattle.lp_lemmas.proofs.Options.{none_from_is_some}
 use Rattle.lp_lemmas.proofs.Numbers.{nat_eq_comm}
@@ -22,21 +19,21 @@ use Rattle.lp_code.specs.declared.instruction.Instr.TheVariants as on
 use Rattle.lp_code.specs.declared.record.Record.{Record}
 use Rattle.lp_code.specs.Length.{Fits}
 use Rattle.lp_code.specs.Rules.{is_assumed_record, names_of}
-use Rattle.lp_code.specs.Symbolic.{held}
+use Rattle.lp_code.specs.Symbolic.{Built, held}
 use Rattle.lp_code.specs.States.{Captured, State, member}
 use Rattle.lp_code.specs.Steps.{handed, captured_by}
 use Rattle.lp_code.specs.Denote.{nothing_captured, captured_of}
 use Rattle.lp_verify.specs.declared.record.Captured as kept_captured
 use Rattle.lp_verify.specs.declared.built.Built as kept_built
 use Rattle.lp_verify.specs.declared.registers.Registers as kept_registers
-use Rattle.lp_verify.specs.declared.loose.Lists.{Lists}
 use Rattle.lp_verify.specs.Held.{value_in, is_lacking}
 use Rattle.lp_verify.specs.Named.{was_named, HasNamed}
 use Rattle.lp_verify.specs.inner.Made.{nothing_built}
 use Rattle.lp_verify.specs.inner.Stack.{Agree}
-use Rattle.lp_verify.specs.inner.Told.{is_fine, are_fine, names_badly, reads_unset}
+use Rattle.lp_verify.specs.inner.Told.{is_fine, are_fine, names_badly}
+use Rattle.lp_verify.specs.inner.Reads.{reads_unset}
 use Rattle.lp_verify.specs.inner.Handed.{SameType, SameTerm, IsSame, captured_in, types_captured, terms_captured, IsNamed, handed_built, assumption_of, IsHandedOn, handed_on, Alike, AreHanded}
-use Rattle.lp_verify.specs.inner.Indices.{ListsGrow}
+use Rattle.lp_verify.specs.inner.Indices.{Store, StoreGrows}
 use Rattle.lp_verify.proofs.LooseSeen.{stands_later}
 use Rattle.lp_verify.proofs.Members.{member_append}
 
@@ -50,11 +47,6 @@ named_or false p (Some q) = refl
 
 pub named_has : (ns : List ℕ) (p : ℕ) (old new : BTreeMap ℕ ℕ) → IsNamed ns p old new → HasNamed ns old new
 named_has ns p old new h n = ap is_some (h n) ∙ named_or (member n ns) p (get nat_cmp old n)
-
--- what a look at a list gives
-pub copied_at : {X : Type 0} (xs : List X) (i : ℕ) (r : Option (Bor X)) → IsItemAt xs i r → option_copied r ≡ slice_get xs i
-copied_at xs i None h = sym (slice_get_past xs i h.3)
-copied_at xs i (Some x) h = sym (slice_get-get_or xs i x.now h.3.0 ∙ ap (λ y. Some y) (sym h.1))
 
 -- values that agree
 
@@ -152,7 +144,7 @@ names_added [] ns c = names_handed ns c
 names_added (x ∷ xs) ns c = ap (λ ms. x.0 ∷ ms) (names_added xs ns c)
 
 -- records are named that never were
-module _ (l : Lists) (all : List Record) (hs : List kept_captured.Captured) (k : kept_captured.Captured) (old new : BTreeMap ℕ ℕ) (before : List (ℕ × Captured)) (ns : List ℕ) (c : Captured) (a : AreHanded l all hs old before)
+module _ (l : Store) (all : List Record) (hs : List kept_captured.Captured) (k : kept_captured.Captured) (old new : BTreeMap ℕ ℕ) (before : List (ℕ × Captured)) (ns : List ℕ) (c : Captured) (a : AreHanded l all hs old before)
     (named : IsNamed ns (length hs) old new) (fresh : (n : ℕ) → member n ns ≡ true → was_named old n ≡ false) where
   there : (n : ℕ) → member n ns ≡ true → captured_in (hs ++ k ∷ []) new n ≡ Some k
   there n e = kept_new hs k new n (named n ∙ ap (λ b. if b then Some (length hs) else get nat_cmp old n) e)
@@ -177,10 +169,10 @@ module _ (l : Lists) (all : List Record) (hs : List kept_captured.Captured) (k :
       go true e = subst (P n) (some_equal k x (sym (there n e) ∙ f)) (h n e)
       go false e = o n x (sym (elsewhere n e) ∙ f)
 
-  pub handed_more : Alike SameType k.types.items c.types → Alike (SameTerm l) k.terms.items c.terms → ((n : ℕ) → member n ns ≡ true → is_assumed_record (slice_get all n) (length k.types.items) (length k.terms.items) ≡ true)
+  pub handed_more : Alike (SameType l) k.types.items c.types → Alike (SameTerm l) k.terms.items c.terms → ((n : ℕ) → member n ns ≡ true → is_assumed_record (slice_get all n) (length k.types.items) (length k.terms.items) ≡ true)
       → (length k.types.items < 2 ^ 16) × (length k.terms.items < 2 ^ 16) → AreHanded l all (hs ++ k ∷ []) new (before ++ handed ns c)
   handed_more types terms fine few = record {
-    types_alike = by_name (λ x d. Alike SameType (types_captured x) d.types) types a.types_alike;
+    types_alike = by_name (λ x d. Alike (SameType l) (types_captured x) d.types) types a.types_alike;
     terms_alike = by_name (λ x d. Alike (SameTerm l) (terms_captured x) d.terms) terms a.terms_alike;
     are_named = λ n. named_has ns (length hs) old new named n ∙ ap (λ b. b || member n ns) (a.are_named n) ∙ sym (ap (member n) (names_added before ns c) ∙ member_append n (map (λ (a : ℕ × Captured). a.0) before) ns);
     are_kept = λ n p e. at_end n p (member n ns) refl e;
@@ -198,7 +190,10 @@ module _ (l : Lists) (all : List Record) (hs : List kept_captured.Captured) (k :
           let l = length-append hs (k ∷ []) in
           omega (arith, l, low)
 
--- when lists are put
+-- when types and lists are put
+pub same_later : (l k : Store) (t : kept_built.Built) (b : Built) → StoreGrows l k → SameTerm l t b → SameTerm k t b
+same_later l k t b g h = (stands_later l k t.loose b.loose g h.0, g.1.stay t.of b.type h.1)
+
 alike_weaker : {T B : Type 0} (R S : T → B → Type 0) → ((t : T) (b : B) → R t b → S t b) → (ts : List T) (bs : List B) → Alike R ts bs → Alike S ts bs
 alike_weaker R S f ts bs a r = by_value (slice_get ts r) (slice_get bs r) (a r)
   where
@@ -208,10 +203,10 @@ alike_weaker R S f ts bs a r = by_value (slice_get ts r) (slice_get bs r) (a r)
     by_value None (Some b) a = absurd a
     by_value (Some t) (Some b) a = f t b a
 
-pub handed_later : (l k : Lists) (all : List Record) (hs : List kept_captured.Captured) (m : BTreeMap ℕ ℕ) (before : List (ℕ × Captured)) → ListsGrow l k → AreHanded l all hs m before → AreHanded k all hs m before
+pub handed_later : (l k : Store) (all : List Record) (hs : List kept_captured.Captured) (m : BTreeMap ℕ ℕ) (before : List (ℕ × Captured)) → StoreGrows l k → AreHanded l all hs m before → AreHanded k all hs m before
 handed_later l k all hs m before g a = record {
-  types_alike = a.types_alike;
-  terms_alike = λ n. alike_weaker (SameTerm l) (SameTerm k) (λ t b. stands_later l k t.loose b.loose g) (terms_captured (captured_in hs m n)) (captured_of before n).terms (a.terms_alike n);
+  types_alike = λ n. alike_weaker (SameType l) (SameType k) (λ t T. g.1.stay t T) (types_captured (captured_in hs m n)) (captured_of before n).types (a.types_alike n);
+  terms_alike = λ n. alike_weaker (SameTerm l) (SameTerm k) (λ t b. same_later l k t b g) (terms_captured (captured_in hs m n)) (captured_of before n).terms (a.terms_alike n);
   are_named = a.are_named;
   are_kept = a.are_kept;
   are_assumed = a.are_assumed;
@@ -294,19 +289,19 @@ assume_or_not on.Not = inr (refl, refl)
 assume_or_not on.EndNot = inr (refl, refl)
 
 -- what an instruction hands on, where it may and reads nothing that is unset
-abbrev pub HandsOn : Lists → (all : List Record) (number : ℕ) (program : Bool) → (t : kept_registers.Registers TypeId) (r : kept_registers.Registers kept_built.Built) → State → (before : List (ℕ × Captured)) → (hs ks : List kept_captured.Captured) → (old new : BTreeMap ℕ ℕ) → Instr → Type 0
+abbrev pub HandsOn : Store → (all : List Record) (number : ℕ) (program : Bool) → (t : kept_registers.Registers TypeId) (r : kept_registers.Registers kept_built.Built) → State → (before : List (ℕ × Captured)) → (hs ks : List kept_captured.Captured) → (old new : BTreeMap ℕ ℕ) → Instr → Type 0
 HandsOn l all k p t r s before hs ks old new i =
     AreHanded l all hs old before → Fits i → names_badly k all p (was_named old) i ≡ false → reads_unset (is_lacking t) (is_lacking r) i ≡ false → IsNamed (names_of i) (length hs) old new → IsHandedOn (assumption_of i) t r hs ks
     → AreHanded l all ks new (before ++ handed_on s (assumption_of i))
 
-module _ (l : Lists) (all : List Record) (k : ℕ) (p : Bool) (t : kept_registers.Registers TypeId) (r : kept_registers.Registers kept_built.Built) (s : State) (before : List (ℕ × Captured)) (hs ks : List kept_captured.Captured) (old new : BTreeMap ℕ ℕ)
-    (types : IsSame SameType t s.now.types) (terms : IsSame (SameTerm l) r s.now.terms) where
+module _ (l : Store) (all : List Record) (k : ℕ) (p : Bool) (t : kept_registers.Registers TypeId) (r : kept_registers.Registers kept_built.Built) (s : State) (before : List (ℕ × Captured)) (hs ks : List kept_captured.Captured) (old new : BTreeMap ℕ ℕ)
+    (types : IsSame (SameType l) t s.now.types) (terms : IsSame (SameTerm l) r s.now.terms) where
   nothing_named : (ns : List ℕ) → ns ≡ [] → IsNamed ns (length hs) old new → (n : ℕ) → get nat_cmp new n ≡ get nat_cmp old n
   nothing_named ns e named n = named n ∙ ap (λ l. if member n l then Some (length hs) else get nat_cmp old n) e
 
   same_handed : AreHanded l all hs old before → ((n : ℕ) → get nat_cmp new n ≡ get nat_cmp old n) → AreHanded l all hs new before
   same_handed a e = record {
-    types_alike = λ n. subst (λ o. Alike SameType (types_captured (option_and_then (slice_get hs) o)) (captured_of before n).types) (sym (e n)) (a.types_alike n);
+    types_alike = λ n. subst (λ o. Alike (SameType l) (types_captured (option_and_then (slice_get hs) o)) (captured_of before n).types) (sym (e n)) (a.types_alike n);
     terms_alike = λ n. subst (λ o. Alike (SameTerm l) (terms_captured (option_and_then (slice_get hs) o)) (captured_of before n).terms) (sym (e n)) (a.terms_alike n);
     are_named = λ n. ap is_some (e n) ∙ a.are_named n;
     are_kept = λ n p f. a.are_kept n p (sym (e n) ∙ f);
@@ -330,7 +325,7 @@ module _ (l : Lists) (all : List Record) (k : ℕ) (p : Bool) (t : kept_register
       let terms_count : length x.terms.items ≡ length rs.items = ap length more.3 ∙ length-map (all_of r rs.items) handed_built ∙ count_read r rs.items built in
       subst (λ y. AreHanded l all y new (before ++ handed ns.items c)) (sym more.1)
       (handed_more l all hs x old new before ns.items c a named (λ n m. (f n m).0)
-      (subst (λ l. Alike SameType l c.types) (sym more.2) (alike_read SameType t s.now.types o_type types ts.items read))
+      (subst (λ y. Alike (SameType l) y c.types) (sym more.2) (alike_read (SameType l) t s.now.types o_type types ts.items read))
       (subst (λ y. Alike (SameTerm l) y c.terms) (sym more.3) (alike_map (SameTerm l) (SameTerm l) handed_built (λ x b h. h) (all_of r rs.items) c.terms (alike_read (SameTerm l) r s.now.terms nothing_built terms rs.items built)))
       (λ n m. (λ j. is_assumed_record (slice_get all n) (types_count j) (terms_count j)) ∙ (f n m).1)
       (let b = fits.1 in let d = fits.2 in (omega (arith, b, types_count), omega (arith, d, terms_count))))
@@ -354,7 +349,7 @@ pub record FewCaptured (r : Record) (o : Option kept_captured.Captured) : Type 0
   pub few_types : length (types_captured o) < 2 ^ 16
   pub few_terms : length (terms_captured o) < 2 ^ 16
 
-pub few_captured : (l : Lists) (all : List Record) (hs : List kept_captured.Captured) (m : BTreeMap ℕ ℕ) (before : List (ℕ × Captured)) (n : ℕ) (r : Record) → AreHanded l all hs m before → slice_get all n ≡ Some r → FewCaptured r (captured_in hs m n)
+pub few_captured : (l : Store) (all : List Record) (hs : List kept_captured.Captured) (m : BTreeMap ℕ ℕ) (before : List (ℕ × Captured)) (n : ℕ) (r : Record) → AreHanded l all hs m before → slice_get all n ≡ Some r → FewCaptured r (captured_in hs m n)
 few_captured l all hs m before n r a e = go (captured_in hs m n) refl
   where
     go : (o : Option kept_captured.Captured) → captured_in hs m n ≡ o → FewCaptured r o
@@ -366,12 +361,12 @@ few_captured l all hs m before n r a e = go (captured_in hs m n) refl
         let y = c.1 in record { types = omega (arith, x); terms = omega (arith, y); few_types = l.0; few_terms = l.1 }
 
 -- before the first record nothing was handed on
-pub nothing_handed : (l : Lists) (all : List Record) (hs : List kept_captured.Captured) (m : BTreeMap ℕ ℕ) → ((n : ℕ) → was_named m n ≡ false) → AreHanded l all hs m []
+pub nothing_handed : (l : Store) (all : List Record) (hs : List kept_captured.Captured) (m : BTreeMap ℕ ℕ) → ((n : ℕ) → was_named m n ≡ false) → AreHanded l all hs m []
 nothing_handed l all hs m none =
     let no : (n : ℕ) → get nat_cmp m n ≡ None = λ n. none_from_is_some (get nat_cmp m n) (none n) in
     let nothing : (n : ℕ) → captured_in hs m n ≡ None = λ n. ap (option_and_then (slice_get hs)) (no n) in
     record {
-      types_alike = λ n. subst (λ o. Alike SameType (types_captured o) []) (sym (nothing n)) (nothing_alike SameType);
+      types_alike = λ n. subst (λ o. Alike (SameType l) (types_captured o) []) (sym (nothing n)) (nothing_alike (SameType l));
       terms_alike = λ n. subst (λ o. Alike (SameTerm l) (terms_captured o) []) (sym (nothing n)) (nothing_alike (SameTerm l));
       are_named = none;
       are_kept = λ n p e. absurd (let z : None ≡ Some p = sym (no n) ∙ e in cc);

@@ -14,7 +14,8 @@ use Rattle.lp_code.specs.States.{State, Home, member}
 use Rattle.lp_code.specs.Rules.{has_count, is_count, has_none, is_assumed_record, are_fine_names, named_before, breaks_unset, breaks_set, breaks_index, stands_alone, breaks_constant, breaks_order, breaks_clause}
 use Rattle.lp_code.specs.Denote.{first_broken}
 use Rattle.lp_verify.specs.Judged.{judged, is_judged}
-use Rattle.lp_verify.specs.inner.Told.{is_out_of_order, has_wrong_count, reads_unset, sets_again, are_fine, names_badly, Broken, breaks, ArePassed, IsFirst}
+use Rattle.lp_verify.specs.inner.Told.{is_out_of_order, has_wrong_count, sets_again, are_fine, names_badly, Broken, breaks, AreKept, ArePassed, IsFirst}
+use Rattle.lp_verify.specs.inner.Reads.{reads_unset}
 
 skip : (o next : Option Rule) (b : Bool) → b ≡ false → (if b then o else next) ≡ next
 skip o next b h = ap (λ t. if t then o else next) h
@@ -29,8 +30,11 @@ from_term b = if b.term then Some rule.Term else (if b.order then Some rule.Orde
 abbrev from_index : Broken → Option Rule
 from_index b = if b.index then Some rule.Index else from_term b
 
+abbrev from_typing : Broken → Option Rule
+from_typing b = if b.typing then Some rule.Typing else from_index b
+
 abbrev from_constant : Broken → Option Rule
-from_constant b = if b.constant then Some rule.Constant else from_index b
+from_constant b = if b.constant then Some rule.Constant else from_typing b
 
 abbrev from_set : Broken → Option Rule
 from_set b = if b.set then Some rule.Set else from_constant b
@@ -38,8 +42,11 @@ from_set b = if b.set then Some rule.Set else from_constant b
 abbrev from_unset : Broken → Option Rule
 from_unset b = if b.unset then Some rule.Unset else from_set b
 
+kept : (b : Broken) → AreKept b → first_broken (breaks b) judged ≡ from_typing b
+kept b h = skip (Some rule.Register) (from_unset b) b.register h.0 ∙ skip (Some rule.Unset) (from_set b) b.unset h.1 ∙ skip (Some rule.Set) (from_constant b) b.set h.2 ∙ skip (Some rule.Constant) (from_typing b) b.constant h.3
+
 passed : (b : Broken) → ArePassed b → first_broken (breaks b) judged ≡ from_index b
-passed b h = skip (Some rule.Register) (from_unset b) b.register h.0 ∙ skip (Some rule.Unset) (from_set b) b.unset h.1 ∙ skip (Some rule.Set) (from_constant b) b.set h.2 ∙ skip (Some rule.Constant) (from_index b) b.constant h.3
+passed b h = kept b h.0 ∙ skip (Some rule.Typing) (from_index b) b.typing h.1
 
 abbrev from_order : Broken → Option Rule
 from_order b = if b.order then Some rule.Order else (if b.block then Some rule.Block else (if b.clause then Some rule.Clause else (if b.key then Some rule.Key else None)))
@@ -64,8 +71,8 @@ pub first_some : (b : Broken) (r : Rule) → IsFirst b (Some r) → is_judged r 
 first_some b rule.Register h j = stop (Some rule.Register) (from_unset b) b.register h
 first_some b rule.Unset h j = skip (Some rule.Register) (from_unset b) b.register h.0 ∙ stop (Some rule.Unset) (from_set b) b.unset h.1
 first_some b rule.Set h j = skip (Some rule.Register) (from_unset b) b.register h.0 ∙ skip (Some rule.Unset) (from_set b) b.unset h.1 ∙ stop (Some rule.Set) (from_constant b) b.set h.2
-first_some b rule.Constant h j = skip (Some rule.Register) (from_unset b) b.register h.0 ∙ skip (Some rule.Unset) (from_set b) b.unset h.1 ∙ skip (Some rule.Set) (from_constant b) b.set h.2 ∙ stop (Some rule.Constant) (from_index b) b.constant h.3
-first_some b rule.Typing h j = absurd (cc)
+first_some b rule.Constant h j = skip (Some rule.Register) (from_unset b) b.register h.0 ∙ skip (Some rule.Unset) (from_set b) b.unset h.1 ∙ skip (Some rule.Set) (from_constant b) b.set h.2 ∙ stop (Some rule.Constant) (from_typing b) b.constant h.3
+first_some b rule.Typing h j = kept b h.0 ∙ stop (Some rule.Typing) (from_index b) b.typing h.1
 first_some b rule.Index h j = passed b h.0 ∙ stop (Some rule.Index) (from_term b) b.index h.1
 first_some b rule.Term h j = closed b h.0 h.1 ∙ stop (Some rule.Term) (from_order b) b.term h.2
 first_some b rule.Order h j = closed b h.0 h.1 ∙ skip (Some rule.Term) (from_order b) b.term h.2 ∙ stop (Some rule.Order) (from_block b) b.order h.3
@@ -75,8 +82,8 @@ first_some b rule.Clause h j = closed b h.0 h.1 ∙ skip (Some rule.Term) (from_
 first_some b rule.Key h j = closed b h.0 h.1 ∙ skip (Some rule.Term) (from_order b) b.term h.2 ∙ skip (Some rule.Order) (from_block b) b.order h.3 ∙ skip (Some rule.Block) (from_clause b) b.block h.4 ∙ skip (Some rule.Clause) (from_key b) b.clause h.5 ∙ stop (Some rule.Key) None b.key h.6
 
 -- tests that agree on the judged rules find the same one
-pub first_same : (f g : Rule → Bool) → f rule.Register ≡ g rule.Register → f rule.Unset ≡ g rule.Unset → f rule.Set ≡ g rule.Set → f rule.Constant ≡ g rule.Constant → f rule.Index ≡ g rule.Index → f rule.Term ≡ g rule.Term → f rule.Order ≡ g rule.Order → f rule.Block ≡ g rule.Block → f rule.Clause ≡ g rule.Clause → f rule.Key ≡ g rule.Key → first_broken f judged ≡ first_broken g judged
-first_same f g a u b c x d e o l k = λ i. if a i then Some rule.Register else (if u i then Some rule.Unset else (if b i then Some rule.Set else (if c i then Some rule.Constant else (if x i then Some rule.Index else (if d i then Some rule.Term else (if e i then Some rule.Order else (if o i then Some rule.Block else (if l i then Some rule.Clause else (if k i then Some rule.Key else None)))))))))
+pub first_same : (f g : Rule → Bool) → f rule.Register ≡ g rule.Register → f rule.Unset ≡ g rule.Unset → f rule.Set ≡ g rule.Set → f rule.Constant ≡ g rule.Constant → f rule.Typing ≡ g rule.Typing → f rule.Index ≡ g rule.Index → f rule.Term ≡ g rule.Term → f rule.Order ≡ g rule.Order → f rule.Block ≡ g rule.Block → f rule.Clause ≡ g rule.Clause → f rule.Key ≡ g rule.Key → first_broken f judged ≡ first_broken g judged
+first_same f g a u b c t x d e o l k = λ i. if a i then Some rule.Register else (if u i then Some rule.Unset else (if b i then Some rule.Set else (if c i then Some rule.Constant else (if t i then Some rule.Typing else (if x i then Some rule.Index else (if d i then Some rule.Term else (if e i then Some rule.Order else (if o i then Some rule.Block else (if l i then Some rule.Clause else (if k i then Some rule.Key else None))))))))))
 
 pub or_false : (b : Bool) → (b || false) ≡ b
 or_false true = refl

@@ -21,3 +21,12 @@ mod Goalless
 mod AlikeRuns
 mod Denoted
 mod FewerRules
+mod FirstTypes
+mod UsedConstants
+mod LanguageTypes
+mod Looked
+mod LooseTypes
+mod HeadTypes
+mod StillHead
+mod OwnTypes
+mod Instructions

@@ -17,7 +17,7 @@ shifted k (None ∷ xs) = shifted (suc k) xs
 shifted k (Some x ∷ xs) = ap (λ l. suc k ∷ l) (shifted (suc k) xs)
 
 -- the first entry of places from a number on is not below it
-from_on : (k : ℕ) (ts : List (Option Ty)) (e : Entry) (es : List Entry) → indices (e ∷ es) ≡ places_from k ts → k ≤ e.index
+pub from_on : (k : ℕ) (ts : List (Option Ty)) (e : Entry) (es : List Entry) → indices (e ∷ es) ≡ places_from k ts → k ≤ e.index
 from_on k [] e es h = absurd (cc)
 from_on k (None ∷ ts) e es h = let l = from_on (suc k) ts e es h in omega (arith, l)
 from_on k (Some T ∷ ts) e es h = let q = cons_head e.index k (indices es) (places_from (suc k) ts) h in omega (arith, q)
@@ -31,13 +31,13 @@ with_entry_is e (Some ws) zs h = (ws, refl, some_is (e ∷ ws) zs h)
     some_is : (x y : List Entry) → Some x ≡ Some y → y ≡ x
     some_is x y h = cc
 
-all_left : (n : ℕ) (es : List Entry) → length es ≤ n → merge n es [] ≡ Some es
+pub all_left : (n : ℕ) (es : List Entry) → length es ≤ n → merge n es [] ≡ Some es
 all_left zero [] l = refl
 all_left zero (e ∷ es) l = absurd (omega (arith, l))
 all_left (suc n) [] l = refl
 all_left (suc n) (e ∷ es) l = ap (with_entry e) (all_left n es (omega (arith, l)))
 
-all_right : (n : ℕ) (es : List Entry) → length es ≤ n → merge n [] es ≡ Some es
+pub all_right : (n : ℕ) (es : List Entry) → length es ≤ n → merge n [] es ≡ Some es
 all_right zero [] l = refl
 all_right zero (e ∷ es) l = absurd (omega (arith, l))
 all_right (suc n) [] l = refl
@@ -54,12 +54,12 @@ both_equal x y l r b e zs h = by_types (nat_eq x.of.0 y.of.0) (sym (ap (λ t. me
     by_types true h = h
     by_types false h = absurd (cc)
 
-both_left : (x y : Entry) (l r b : Option (List Entry)) → x.index < y.index → merge_on (next_of_both x y) l r b ≡ with_entry x l
+pub both_left : (x y : Entry) (l r b : Option (List Entry)) → x.index < y.index → merge_on (next_of_both x y) l r b ≡ with_entry x l
 both_left x y l r b h =
     ap (λ t. merge_on (if t then (if nat_eq x.of.0 y.of.0 then next.Both x else next.Clash) else (if nat_lt x.index y.index then next.Left x else next.Right y)) l r b) (ne_eqb x.index y.index (λ e. omega (arith, e, h)))
     ∙ ap (λ t. merge_on (if t then next.Left x else next.Right y) l r b) (lt-ltb x.index y.index h)
 
-both_right : (x y : Entry) (l r b : Option (List Entry)) → y.index < x.index → merge_on (next_of_both x y) l r b ≡ with_entry y r
+pub both_right : (x y : Entry) (l r b : Option (List Entry)) → y.index < x.index → merge_on (next_of_both x y) l r b ≡ with_entry y r
 both_right x y l r b h =
     ap (λ t. merge_on (if t then (if nat_eq x.of.0 y.of.0 then next.Both x else next.Clash) else (if nat_lt x.index y.index then next.Left x else next.Right y)) l r b) (ne_eqb x.index y.index (λ e. omega (arith, e, h)))
     ∙ ap (λ t. merge_on (if t then next.Left x else next.Right y) l r b) (le-ltb x.index y.index (omega (arith, h)))

@@ -17,10 +17,10 @@ use Rattle.lp_code.specs.Operands.{types_read, terms_read, type_set, term_set}
 use Rattle.lp_code.specs.States.{State, Home, Captured, member}
 use Rattle.lp_code.specs.Symbolic.{Built, held, term_in, is_closed}
 use Rattle.lp_code.specs.Steps.{after}
-use Rattle.lp_code.specs.Rules.{breaks_set, breaks_unset, breaks_index, breaks_register, breaks_term, breaks_nesting, has_none, is_passed, named_before, names_of}
+use Rattle.lp_code.specs.Rules.{breaks_type, breaks_order, breaks_set, breaks_unset, breaks_index, breaks_register, breaks_term, breaks_nesting, has_none, is_passed, named_before, names_of}
 use Rattle.lp_code.specs.Denote.{Done, Broken, first_broken, broken_by_record, broken_by, broken_of, unless_broken, run_on, run_of, any_clause, first_state, started, captured_of}
 use Rattle.lp_verify.specs.declared.built.Built as kept_built
-use Rattle.lp_verify.specs.declared.loose.Lists.{Lists}
+use Rattle.lp_term.specs.declared.node.TypeId.{TypeId}
 use Rattle.lp_verify.specs.declared.record.Shared.{Shared}
 use Rattle.lp_verify.specs.declared.record.Work.{Work}
 use Rattle.lp_verify.specs.declared.whole.Whole.{Whole}
@@ -30,20 +30,25 @@ use Rattle.lp_verify.specs.declared.blocks.Block as kept
 use Rattle.lp_verify.specs.Held.{was_set, value_in, is_lacking}
 use Rattle.lp_verify.specs.Named.{was_named, HasNamed}
 use Rattle.lp_verify.specs.Judged.{judged, bytes_of}
-use Rattle.lp_verify.specs.inner.Outline.{Outline, outline, arguments_behind, types_behind, body_behind, outline_behind}
+use Rattle.lp_verify.specs.inner.Outline.{Outline, outline, arguments_behind, types_behind, body_behind, taken_by, outline_behind}
 use Rattle.lp_verify.specs.inner.Told.{breaks, told, broken_whole, breaks_blocks, reaches_past, loose_entries, is_loose, sets_again, names_badly, IsFirst, is_out_of_order}
 use Rattle.lp_verify.specs.inner.Made.{nothing_built, type_made, term_made}
 use Rattle.lp_verify.specs.inner.Stack.{Agree, type_heights, term_heights, saved_of, stack_of, types_in_stack, terms_in_stack, stack_settled, IsStack, IsStacked, IsSettled, IsStackRun}
-use Rattle.lp_verify.specs.inner.Handed.{SameType, SameTerm, captured_in, types_captured, terms_captured, assumption_of, handed_on, AreHanded}
-use Rattle.lp_verify.specs.inner.At.{home_in, IsAt, IsRun, IsActed, IsPassed, IsStarted, IsJudgedWhole, IsWhole, IsNoWhole, HandedIn, IsRan, AreNamedBefore, NamedAt, Past, GoesOn}
+use Rattle.lp_verify.specs.inner.Handed.{SameType, SameTerm, IsSame, captured_in, types_captured, terms_captured, assumption_of, handed_on, AreHanded}
+use Rattle.lp_verify.specs.inner.At.{kept_in, home_in, IsAt, IsRun, IsActed, IsPassed, IsStarted, IsJudgedWhole, IsWhole, IsNoWhole, HandedIn, IsRan, AreNamedBefore, NamedAt, Past, GoesOn}
 use Rattle.lp_verify.specs.inner.Sides.{sides_in, sides_of, sides_run, sides_acted, sides_settled, is_past, is_turn, starts_from, nests_badly, first_end_of, AreEnds, HasPlaces}
 use Rattle.lp_verify.proofs.Members.{member_append, from_zero_has, started_length}
 use Rattle.lp_verify.proofs.Outlines.{behind, comes_behind, Nests, outline_is, with_more_is, sides_are, types_stack_is, terms_stack_is}
 use Rattle.lp_verify.proofs.Sides.{same_past}
 use Rattle.lp_verify.proofs.KeptBlocks.{past_is}
 use Rattle.lp_verify.proofs.KeptRegisters.{run_ever, stack_runs, stack_weaker, same_lacking, same_values, stack_begins}
-use Rattle.lp_verify.proofs.HandedOn.{named_has, hands_on, handed_later, few_captured}
-use Rattle.lp_verify.specs.inner.Indices.{ListsGrow}
+use Rattle.lp_verify.proofs.HandedOn.{named_has, hands_on, handed_later, same_later, few_captured}
+use Rattle.lp_verify.specs.Scheme.{tables_in}
+use Rattle.lp_verify.specs.inner.Language.{HasLanguage}
+use Rattle.lp_verify.specs.inner.Known.{HasOwnTypes, FollowsHead, IsStill, KnowsHead, Knows}
+use Rattle.lp_verify.specs.inner.Indices.{Store, StoreGrows}
+use Rattle.lp_verify.proofs.UsedConstants.{basics_stay}
+use Rattle.lp_verify.proofs.StillHead.{held_still, stays_still, not_set, own_there}
 use Rattle.lp_verify.proofs.LooseSeen.{stands_later, closed_is}
 use Rattle.lp_verify.proofs.Places.{some_bytes, starts_behind, same_nesting, ran_acted, last_is, turn_there, bytes_more}
 use Rattle.lp_verify.proofs.Joined.{first_none, first_some, first_same, or_false, same_reads, same_sets, same_counts, same_closed, same_order, same_names}
@@ -112,7 +117,7 @@ pub record MayRun (w : Work) (i : Instr) : Type 0 where
   pub fresh : sets_again (was_set w.types) (was_set w.terms) i ≡ false
   pub nested : breaks_blocks w i ≡ false
 
-nests : (l : Lists) (s : State) (i : Instr) (w : Work) → IsAt l w s → breaks_blocks w i ≡ false → Nests i s
+nests : (l : Store) (s : State) (i : Instr) (w : Work) → IsAt l w s → breaks_blocks w i ≡ false → Nests i s
 nests l s i w a fine =
     let code = w.home.record.now.code.items in
     let kept = or_false_right (nat_le (first_end_of (reverse w.blocks.frames.items)) w.place) (nests_badly w.place (get nat_cmp w.places.jumps) (nat_eq (w.number + 1) (length code)) (sides_in w.blocks.frames.items) i) fine in
@@ -123,32 +128,33 @@ nests l s i w a fine =
 stack_moved : {A : Type 0} (i : Instr) (p q : ℕ) (ss ts : List kept.Block) (xs : List A) → p ≡ q → ss ≡ ts → stack_settled (p + length_of i) (sides_run i p ss) xs ≡ stack_settled (q + length_of i) (sides_run i q ts) xs
 stack_moved i p q ss ts xs e f = λ j. stack_settled (e j + length_of i) (sides_run i (e j) (f j)) xs
 
-types_moved : (l : Lists) (h : Home) (s : State) (i : Instr) (t : kept_built.Built) (w v : Work) → IsAt l w s → MayRun w i → IsRun i t w v → w.place + length_of i < 2 ^ 63 → IsStack SameType v.home.record.now.types v.types (type_heights (reverse v.blocks.frames.items)) (types_in_stack (stack_of (behind h s i)))
-types_moved l h s i t w v a may r small =
+types_moved : (l m : Store) (h : Home) (s : State) (i : Instr) (u : TypeId) (t : kept_built.Built) (w v : Work) → IsAt l w s → MayRun w i → IsRun i u t w v → StoreGrows l m → SameType m u (type_made h s i) → w.place + length_of i < 2 ^ 63
+    → IsStack (SameType m) v.home.record.now.types v.types (type_heights (reverse v.blocks.frames.items)) (types_in_stack (stack_of (behind h s i)))
+types_moved l m h s i u t w v a may r grow same small =
     let x = r.types_run small in
     let n = w.home.record.now.types in
     let ks = type_heights (reverse v.blocks.frames.items) in
     let ran =
-    stack_runs SameType n i (type_set i) x.0 (w.place + length_of i) (sides_run i w.place (sides_in w.blocks.frames.items)) (type_heights (reverse w.blocks.frames.items)) ks w.types v.types (types_in_stack (stack_of s)) (type_made h s i) (types_low n w.home.record.now.registers i may.low)
-    (or_false_left (list_any (was_set w.types) (type_set i)) (list_any (was_set w.terms) (term_set i)) may.fresh) a.types_stand x.1 tt in
-    subst (λ m. IsStack SameType m v.types ks (types_in_stack (stack_of (behind h s i)))) (sym (ap (λ h. h.record.now.types) r.home_stays))
-    (subst (IsStack SameType n v.types ks) (stack_moved i w.place s.place (sides_in w.blocks.frames.items) (sides_of s.frames) _ a.place_is a.sides_are ∙ sym (types_stack_is h s i (nests l s i w a may.nested))) ran)
+    stack_runs (SameType m) n i (type_set i) u (w.place + length_of i) (sides_run i w.place (sides_in w.blocks.frames.items)) (type_heights (reverse w.blocks.frames.items)) ks w.types v.types (types_in_stack (stack_of s)) (type_made h s i) (types_low n w.home.record.now.registers i may.low)
+    (or_false_left (list_any (was_set w.types) (type_set i)) (list_any (was_set w.terms) (term_set i)) may.fresh) (stack_weaker (SameType l) (SameType m) (λ x T. grow.1.stay x T) n w.types (type_heights (reverse w.blocks.frames.items)) (types_in_stack (stack_of s)) a.types_stand) x same in
+    subst (λ n. IsStack (SameType m) n v.types ks (types_in_stack (stack_of (behind h s i)))) (sym (ap (λ h. h.record.now.types) r.home_stays))
+    (subst (IsStack (SameType m) n v.types ks) (stack_moved i w.place s.place (sides_in w.blocks.frames.items) (sides_of s.frames) _ a.place_is a.sides_are ∙ sym (types_stack_is h s i (nests l s i w a may.nested))) ran)
 
-terms_moved : (l m : Lists) (h : Home) (s : State) (i : Instr) (t : kept_built.Built) (w v : Work) → IsAt l w s → MayRun w i → IsRun i t w v → ListsGrow l m → SameTerm m t (term_made h s i) → w.place + length_of i < 2 ^ 63
+terms_moved : (l m : Store) (h : Home) (s : State) (i : Instr) (u : TypeId) (t : kept_built.Built) (w v : Work) → IsAt l w s → MayRun w i → IsRun i u t w v → StoreGrows l m → SameTerm m t (term_made h s i) → w.place + length_of i < 2 ^ 63
     → IsStack (SameTerm m) v.home.record.now.registers v.terms (term_heights (reverse v.blocks.frames.items)) (terms_in_stack (stack_of (behind h s i)))
-terms_moved l m h s i t w v a may r grow same small =
+terms_moved l m h s i u t w v a may r grow same small =
     let x = r.terms_run small in
     let n = w.home.record.now.registers in
     let ks = term_heights (reverse v.blocks.frames.items) in
     let ran =
     stack_runs (SameTerm m) n i (term_set i) t (w.place + length_of i) (sides_run i w.place (sides_in w.blocks.frames.items)) (term_heights (reverse w.blocks.frames.items)) ks w.terms v.terms (terms_in_stack (stack_of s)) (term_made h s i) (terms_low w.home.record.now.types n i may.low)
-    (or_false_right (list_any (was_set w.types) (type_set i)) (list_any (was_set w.terms) (term_set i)) may.fresh) (stack_weaker (SameTerm l) (SameTerm m) (λ x b. stands_later l m x.loose b.loose grow) n w.terms (term_heights (reverse w.blocks.frames.items)) (terms_in_stack (stack_of s)) a.terms_stand) x same in
+    (or_false_right (list_any (was_set w.types) (type_set i)) (list_any (was_set w.terms) (term_set i)) may.fresh) (stack_weaker (SameTerm l) (SameTerm m) (λ x b. same_later l m x b grow) n w.terms (term_heights (reverse w.blocks.frames.items)) (terms_in_stack (stack_of s)) a.terms_stand) x same in
     subst (λ n. IsStack (SameTerm m) n v.terms ks (terms_in_stack (stack_of (behind h s i)))) (sym (ap (λ h. h.record.now.registers) r.home_stays))
     (subst (IsStack (SameTerm m) n v.terms ks) (stack_moved i w.place s.place (sides_in w.blocks.frames.items) (sides_of s.frames) _ a.place_is a.sides_are ∙ sym (terms_stack_is h s i (nests l s i w a may.nested))) ran)
 
-pub moved : (l m : Lists) (h : Home) (s : State) (i : Instr) (t : kept_built.Built) (w v : Work) → IsAt l w s → MayRun w i → IsRun i t w v → ListsGrow l m → SameTerm m t (term_made h s i) → s.place + length_of i < 2 ^ 33 → IsAt m v (behind h s i)
-moved l m h s i t w v a may r grow same small =
-    let o : outline (behind h s i) ≡ outline_behind i (handed_on s (assumption_of i)) (outline s) = outline_is h s i in
+pub moved : (l m : Store) (h : Home) (s : State) (i : Instr) (u : TypeId) (t : kept_built.Built) (w v : Work) → IsAt l w s → MayRun w i → IsRun i u t w v → StoreGrows l m → SameType m u (type_made h s i) → SameTerm m t (term_made h s i) → s.place + length_of i < 2 ^ 33 → IsAt m v (behind h s i)
+moved l m h s i u t w v a may r grow same_type same small =
+    let o : outline (behind h s i) ≡ outline_behind i (handed_on s (assumption_of i)) (taken_by s i) (outline s) = outline_is h s i in
     let p : w.place ≡ s.place = a.place_is in
     let few : length s.head_arguments ≤ s.place = a.few_arguments in
     let some = some_bytes i in
@@ -161,10 +167,10 @@ moved l m h s i t w v a may r grow same small =
       body_is = r.body_is ∙ ap (body_behind i) a.body_is ∙ sym (ap (λ (o : Outline). o.in_body) o);
       types_are = r.types_are ∙ ap (types_behind i) a.types_are ∙ sym (ap (λ (o : Outline). o.types) o);
       arguments_are = r.arguments_are (omega (arith, small, few, a.arguments_are)) ∙ ap (arguments_behind i) a.arguments_are ∙ sym (ap (λ (o : Outline). o.arguments) o);
-      types_set = λ n. run_ever i (type_set i) tr.0 _ _ _ _ w.types v.types tr.1 n ∙ ap (λ b. b || member n (type_set i)) (a.types_set n) ∙ sym (member_append n s.types_set (type_set i)) ∙ sym (ap (λ (o : Outline). member n o.types_set) o);
+      types_set = λ n. run_ever i (type_set i) u _ _ _ _ w.types v.types tr n ∙ ap (λ b. b || member n (type_set i)) (a.types_set n) ∙ sym (member_append n s.types_set (type_set i)) ∙ sym (ap (λ (o : Outline). member n o.types_set) o);
       terms_set = λ n. run_ever i (term_set i) t _ _ _ _ w.terms v.terms rr n ∙ ap (λ b. b || member n (term_set i)) (a.terms_set n) ∙ sym (member_append n s.terms_set (term_set i)) ∙ sym (ap (λ (o : Outline). member n o.terms_set) o);
-      types_stand = types_moved l h s i t w v a may r less;
-      terms_stand = terms_moved l m h s i t w v a may r grow same less;
+      types_stand = types_moved l m h s i u t w v a may r grow same_type less;
+      terms_stand = terms_moved l m h s i u t w v a may r grow same less;
       few_arguments =
           let m : arguments_behind i (length s.head_arguments) ≤ length s.head_arguments + length_of i = more_arguments i (length s.head_arguments) in
           let e : length (behind h s i).head_arguments ≡ arguments_behind i (length s.head_arguments) = ap (λ (o : Outline). o.arguments) o in
@@ -181,8 +187,8 @@ moved l m h s i t w v a may r grow same small =
     }
 
 -- one instruction more was run
-pub run_on_past : (l : Lists) (h : Home) (all : List Instr) (i : Instr) (is : List Instr) (s : State) (t : kept_built.Built) (w v : Work) → Past all (i ∷ is) s w → IsAt l w s → IsRun i t w v → s.place + length_of i < 2 ^ 33 → Past all is (behind h s i) v
-run_on_past l h all i is s t w v b a r small =
+pub run_on_past : (l : Store) (h : Home) (all : List Instr) (i : Instr) (is : List Instr) (s : State) (u : TypeId) (t : kept_built.Built) (w v : Work) → Past all (i ∷ is) s w → IsAt l w s → IsRun i u t w v → s.place + length_of i < 2 ^ 33 → Past all is (behind h s i) v
+run_on_past l h all i is s u t w v b a r small =
     let o = outline_is h s i in
     let q : (behind h s i).place ≡ s.place + length_of i = ap (λ (o : Outline). o.place) o in
     let fewer = a.few_instructions in
@@ -202,16 +208,17 @@ settled_there : {T : Type 0} (i : Instr) (ds : List ℕ) (t : T) (p q : ℕ) (ss
     → q ≡ p + length_of i → ts ≡ sides_run i p ss → IsStacked i ds t hs old js mid → IsSettled q ts js mid ks new → IsStackRun i ds t (p + length_of i) (sides_run i p ss) hs old ks new
 settled_there i ds t p q ss ts hs ks js old mid new e f x y = record { heights = js; made = mid; stacked = x; settled = subst (λ n. IsSettled n (sides_run i p ss) js mid ks new) e (subst (λ l. IsSettled q l js mid ks new) f y) }
 
-pub passed_on : (i : Instr) (t : kept_built.Built) (old mid new : Work) → IsActed i t old mid → new.home ≡ mid.home → new.places ≡ mid.places → (mid.place + length_of i < 2 ^ 64 → new.place ≡ mid.place + length_of i) → (mid.number + 1 < 2 ^ 64 → new.number ≡ mid.number + 1)
+pub passed_on : (i : Instr) (u : TypeId) (t : kept_built.Built) (old mid new : Work) → IsActed i u t old mid → new.home ≡ mid.home → new.places ≡ mid.places → new.own_types ≡ mid.own_types → (mid.place + length_of i < 2 ^ 64 → new.place ≡ mid.place + length_of i) → (mid.number + 1 < 2 ^ 64 → new.number ≡ mid.number + 1)
     → sides_in new.blocks.frames.items ≡ sides_settled new.place (sides_in mid.blocks.frames.items) → (AreEnds (reverse mid.blocks.frames.items) → AreEnds (reverse new.blocks.frames.items)) → new.in_body ≡ mid.in_body → new.head ≡ mid.head
     → IsSettled new.place (sides_in mid.blocks.frames.items) (type_heights (reverse mid.blocks.frames.items)) mid.types (type_heights (reverse new.blocks.frames.items)) new.types
-    → IsSettled new.place (sides_in mid.blocks.frames.items) (term_heights (reverse mid.blocks.frames.items)) mid.terms (term_heights (reverse new.blocks.frames.items)) new.terms → IsRun i t old new
-passed_on i t old mid new a home places place number sides ends body head types terms =
+    → IsSettled new.place (sides_in mid.blocks.frames.items) (term_heights (reverse mid.blocks.frames.items)) mid.terms (term_heights (reverse new.blocks.frames.items)) new.terms → IsRun i u t old new
+passed_on i u t old mid new a home places own place number sides ends body head types terms =
     let l = length_of i in
     let at : old.place + l < 2 ^ 63 → new.place ≡ old.place + l = λ h. place (subst (λ p. p + l < 2 ^ 64) (sym a.place_stays) (omega (arith, h))) ∙ ap (λ p. p + l) a.place_stays in
     record {
       home_stays = home ∙ a.home_stays;
       places_stay = places ∙ a.places_stay;
+      own_stay = own ∙ a.own_stay;
       number_moves = λ h. number (subst (λ p. p + 1 < 2 ^ 64) (sym a.number_stays) h) ∙ ap (λ p. p + 1) a.number_stays;
       sides_move = λ h. let p = at h in sides ∙ (λ j. sides_settled (p j) (a.sides_act (omega (arith, h)) j));
       ends_stay = λ h. ends (a.ends_stay h);
@@ -219,10 +226,8 @@ passed_on i t old mid new a home places place number sides ends body head types 
       body_is = body ∙ a.body_is;
       types_are = ap (λ (x : HeadSoFar). length x.types.items) head ∙ a.types_are;
       arguments_are = λ h. ap (λ (x : HeadSoFar). x.arguments) head ∙ a.arguments_are h;
-      types_run = λ h. (
-        a.types_act.0,
-        settled_there i (type_set i) a.types_act.0 old.place new.place (sides_in old.blocks.frames.items) (sides_in mid.blocks.frames.items) (type_heights (reverse old.blocks.frames.items)) (type_heights (reverse new.blocks.frames.items)) (type_heights (reverse mid.blocks.frames.items)) old.types mid.types new.types (at h) (a.sides_act (omega (arith, h))) a.types_act.1 types,
-      );
+      types_run = λ h.
+          settled_there i (type_set i) u old.place new.place (sides_in old.blocks.frames.items) (sides_in mid.blocks.frames.items) (type_heights (reverse old.blocks.frames.items)) (type_heights (reverse new.blocks.frames.items)) (type_heights (reverse mid.blocks.frames.items)) old.types mid.types new.types (at h) (a.sides_act (omega (arith, h))) a.types_act types;
       terms_run = λ h.
           settled_there i (term_set i) t old.place new.place (sides_in old.blocks.frames.items) (sides_in mid.blocks.frames.items) (term_heights (reverse old.blocks.frames.items)) (term_heights (reverse new.blocks.frames.items)) (term_heights (reverse mid.blocks.frames.items)) old.terms mid.terms new.terms (at h) (a.sides_act (omega (arith, h))) a.terms_act terms;
     }
@@ -236,7 +241,7 @@ broken_at true f g = refl
 broken_at false f g = refl
 
 -- the blocks that are told are those of the state
-same_blocks : (l : Lists) (s : State) (w : Work) (all : List Instr) (i : Instr) (is : List Instr) → IsAt l w s → Past all (i ∷ is) s w → bytes_of all < 2 ^ 32 → s.place < 2 ^ 33 → breaks_blocks w i ≡ (list_any (is_passed s.place) s.frames || breaks_nesting s is i)
+same_blocks : (l : Store) (s : State) (w : Work) (all : List Instr) (i : Instr) (is : List Instr) → IsAt l w s → Past all (i ∷ is) s w → bytes_of all < 2 ^ 32 → s.place < 2 ^ 33 → breaks_blocks w i ≡ (list_any (is_passed s.place) s.frames || breaks_nesting s is i)
 same_blocks l s w all i is a b short small =
     let p : w.place ≡ s.place = a.place_is in
     let starts = get nat_cmp w.places.jumps in
@@ -249,29 +254,30 @@ same_blocks l s w all i is a b short small =
     (λ j. past j || nests_badly (p j) starts last (a.sides_are j) i) ∙ ap (λ c. list_any (is_passed s.place) s.frames || c) (same_nesting s is i starts last ends at)
 
 -- the terms that are told to have a loose index
-loose_there : (l k : Lists) (o : Option kept_built.Built) (p : Option Built) → ListsGrow l k → Agree (SameTerm l) o p → not (has_none (loose_entries k o)) ≡ not (is_closed (unwrap_or p nothing_built).loose)
+loose_there : (l k : Store) (o : Option kept_built.Built) (p : Option Built) → StoreGrows l k → Agree (SameTerm l) o p → not (has_none (loose_entries k.lists o)) ≡ not (is_closed (unwrap_or p nothing_built).loose)
 loose_there l k None None grow a = refl
 loose_there l k (Some t) None grow a = absurd a
 loose_there l k None (Some b) grow a = absurd a
-loose_there l k (Some t) (Some b) grow a = ap not (sym (closed_is k t.loose b.loose (stands_later l k t.loose b.loose grow a)))
+loose_there l k (Some t) (Some b) grow a = ap not (sym (closed_is k t.loose b.loose (stands_later l k t.loose b.loose grow a.0)))
 
-same_loose : (l k : Lists) (w : Work) (s : State) → ListsGrow l k → IsAt l w s → (r : ℕ) → is_loose k w.terms r ≡ not (is_closed (term_in s.now r).loose)
+same_loose : (l k : Store) (w : Work) (s : State) → StoreGrows l k → IsAt l w s → (r : ℕ) → is_loose k.lists w.terms r ≡ not (is_closed (term_in s.now r).loose)
 same_loose l k w s grow a r =
     loose_there l k (value_in w.terms r) (held s.now.terms r) grow (same_values (SameTerm l) w.home.record.now.registers w.terms (term_heights (reverse w.blocks.frames.items)) s.now.terms (terms_in_stack (saved_of s.frames)) a.terms_stand r)
 
 -- what is told before an instruction is what the definition finds there
-pub same_broken : (l k : Lists) (s : State) (w : Work) (m : BTreeMap ℕ ℕ) (x : Whole) (all : List Instr) (i : Instr) (is : List Instr) → ListsGrow l k → IsAt l w s → Past all (i ∷ is) s w → bytes_of all < 2 ^ 32 → s.place < 2 ^ 33 → NamedAt (home_in w.home) s m → IsWhole (home_in w.home) s x
-    → broken_of judged (home_in w.home) s (i ∷ is) ≡ first_broken (breaks (told w k (was_named m) x i)) judged
+pub same_broken : (l k : Store) (s : State) (w : Work) (m : BTreeMap ℕ ℕ) (x : Whole) (all : List Instr) (i : Instr) (is : List Instr) → StoreGrows l k → IsAt l w s → Past all (i ∷ is) s w → bytes_of all < 2 ^ 32 → s.place < 2 ^ 33 → NamedAt (home_in w.home) s m → IsWhole (home_in w.home) s x
+    → broken_of judged (home_in w.home) s (i ∷ is) ≡ first_broken (breaks (told w k.lists (was_named m) x (breaks_type (home_in w.home) s i) i)) judged
 same_broken l k s w m x all i is grow a past short small names b =
     let h = home_in w.home in
     let t : Bool = nat_eq s.place 0 in
-    broken_at t (broken_by_record h s) (broken_by h s is i) ∙ sym (first_same (breaks (told w k (was_named m) x i)) (λ r. (t && broken_by_record h s r) || broken_by h s is i r)
+    broken_at t (broken_by_record h s) (broken_by h s is i) ∙ sym (first_same (breaks (told w k.lists (was_named m) x (breaks_type (home_in w.home) s i) i)) (λ r. (t && broken_by_record h s r) || broken_by h s is i r)
     (ap (λ v. v || breaks_register h s i) b.register_is)
-    (same_reads (is_lacking w.types) (is_lacking w.terms) s i (same_lacking SameType w.home.record.now.types w.types (type_heights (reverse w.blocks.frames.items)) s.now.types (types_in_stack (saved_of s.frames)) a.types_stand)
+    (same_reads (is_lacking w.types) (is_lacking w.terms) s i (same_lacking (SameType l) w.home.record.now.types w.types (type_heights (reverse w.blocks.frames.items)) s.now.types (types_in_stack (saved_of s.frames)) a.types_stand)
     (same_lacking (SameTerm l) w.home.record.now.registers w.terms (term_heights (reverse w.blocks.frames.items)) s.now.terms (terms_in_stack (saved_of s.frames)) a.terms_stand) ∙ no_more t (breaks_unset s i))
     (same_sets (was_set w.types) (was_set w.terms) s i a.types_set a.terms_set ∙ no_more t (breaks_set s i))
     ((λ j. b.constant_is j || same_counts h i j))
-    (same_closed (is_loose k w.terms) s i (same_loose l k w s grow a) ∙ no_more t (breaks_index s i))
+    (no_more t (breaks_type h s i))
+    (same_closed (is_loose k.lists w.terms) s i (same_loose l k w s grow a) ∙ no_more t (breaks_index s i))
     (no_more t (breaks_term i))
     ((λ j. b.order_is j || is_out_of_order (a.body_is j) (a.types_are j) (a.arguments_are j) i) ∙ ap (λ v. (t && broken_by_record h s rule.Order) || v) (same_order s i))
     ((λ j. b.block_is j || same_blocks l s w all i is a past short small j))
@@ -287,12 +293,23 @@ first_passes : (place n : ℕ) → 1 ≤ n → nat_eq (place + n) 0 ≡ false
 first_passes place n h = ne_eqb (place + n) 0 (λ e. omega (arith, h, e))
 
 -- what a step tells: the rules are kept, the instruction was run, its records were named, and what they start with was handed on
+abbrev pub TellsFirst : Instr → Work → (x y : Shared) → Whole → Option Rule → Type 0
+TellsFirst i w x y p r = (h : Home) (s : State) → Knows (kept_in x) w h s → IsFirst (told w y.lists (was_named x.named) p (breaks_type h s i) i) r
+
 pub record Steps (i : Instr) (w v : Work) (x y : Shared) (p q : Whole) : Type 0 where
   pub fits : Fits i
-  pub kept : IsFirst (told w y.lists (was_named x.named) p i) None
+  pub kept : TellsFirst i w x y p None
   pub passed : IsPassed i x y w v
-  pub grow : ListsGrow x.lists y.lists
+  pub grow : StoreGrows (kept_in x) (kept_in y)
   pub clean : IsNoWhole q
+
+-- what is known of the registers now
+knows_now : (l : Store) (w : Work) (h : Home) (s : State) → IsAt l w s → KnowsHead l w h s → Knows l w h s
+knows_now l w h s a k = record {
+  of_head = k;
+  types = λ n. same_values (SameType l) w.home.record.now.types w.types (type_heights (reverse w.blocks.frames.items)) s.now.types (types_in_stack (saved_of s.frames)) a.types_stand n;
+  terms = λ n. same_values (SameTerm l) w.home.record.now.registers w.terms (term_heights (reverse w.blocks.frames.items)) s.now.terms (terms_in_stack (saved_of s.frames)) a.terms_stand n;
+}
 
 handed_behind : (h : Home) (s : State) (i : Instr) (before : List (ℕ × Captured)) → before ++ (behind h s i).assumed ≡ (before ++ s.assumed) ++ handed_on s (assumption_of i)
 handed_behind h s i before =
@@ -303,45 +320,73 @@ one_more : (before : List (ℕ × Captured)) (all : List Instr) (i : Instr) (is 
 one_more before all i is w v x y p q short g t =
     let h = home_in w.home in
     let s = g.0 in
-    let l = x.lists in
-    let k = y.lists in
+    let l = kept_in x in
+    let k = kept_in y in
     let r = t.passed.runs in
+    let u = t.passed.type in
     let b = t.passed.value in
-    let f = t.kept in
-    let clean = t.clean in
     let a = g.2 in
+    let known : Knows l w h s = knows_now l w h s a g.8 in
+    let f = t.kept h s known in
+    let clean = t.clean in
     let count : s.place + (length_of i + bytes_of is) ≡ bytes_of all = g.3 in
     let place : (behind h s i).place ≡ s.place + length_of i = ap (λ (o : Outline). o.place) (outline_is h s i) in
     let small : s.place + length_of i < 2 ^ 33 = omega (arith, short, count) in
-    let fine = same_broken l k s w x.named p all i is t.grow a g.6 short (omega (arith, small)) g.5 g.4 ∙ first_none (told w k (was_named x.named) p i) f in
+    let fine = same_broken l k s w x.named p all i is t.grow a g.6 short (omega (arith, small)) g.5 g.4 ∙ first_none (told w k.lists (was_named x.named) p (breaks_type h s i) i) f in
     let past : nat_eq (behind h s i).place 0 ≡ false = ap (λ n. nat_eq n 0) place ∙ first_passes s.place (length_of i) (some_bytes i) in
+    let unset = f.0.0.1 in
     let may : MayRun w i =
     record {
-      low = or_false_right p.register (reaches_past w.home.record.now.types w.home.record.now.registers i) f.0.0;
-      fresh = f.0.2;
+      low = or_false_right p.register (reaches_past w.home.record.now.types w.home.record.now.registers i) f.0.0.0;
+      fresh = f.0.0.2;
       nested = or_false_right p.block (breaks_blocks w i) f.4;
     } in
-    let same_types = λ (n : ℕ). same_values SameType w.home.record.now.types w.types (type_heights (reverse w.blocks.frames.items)) s.now.types (types_in_stack (saved_of s.frames)) a.types_stand n in
-    let same_terms = λ (n : ℕ). same_values (SameTerm l) w.home.record.now.registers w.terms (term_heights (reverse w.blocks.frames.items)) s.now.terms (terms_in_stack (saved_of s.frames)) a.terms_stand n in
-    let set : list_any (is_lacking w.terms) (terms_read i) ≡ false = or_false_right (list_any (is_lacking w.types) (types_read i)) (list_any (is_lacking w.terms) (terms_read i)) f.0.1 in
-    let made : SameTerm k b (term_made h s i) = t.passed.puts h s same_terms set in
+    let nest = nests l s i w a may.nested in
+    let order : breaks_order s i ≡ false = sym (same_order s i) ∙ sym (λ j. is_out_of_order (a.body_is j) (a.types_are j) (a.arguments_are j) i) ∙ or_false_right p.order (is_out_of_order w.in_body (length w.head.types.items) w.head.arguments i) f.3 in
+    let own = own_there h.self g.6.run i is (sym g.6.all_is ∙ g.6.parts) in
+    let few = a.few_arguments in
+    let few_now : w.head.arguments + 1 < 2 ^ 64 = omega (arith, few, a.arguments_are, small) in
+    let low = g.4.head_low f.7 in
+    let not_again = or_false_right (list_any (was_set w.types) (type_set i)) (list_any (was_set w.terms) (term_set i)) f.0.0.2 in
+    let again : (n : ℕ) → IsStill n s → member n (term_set i) ≡ false = λ n z. not_set (was_set w.terms) (term_set i) n not_again (a.terms_set n ∙ z.0) in
+    let follows : FollowsHead h s i (behind h s i) =
+    record {
+      types = ap (λ (o : Outline). o.taken) (outline_is h s i);
+      arguments = ap (λ (o : Outline). o.arguments) (outline_is h s i);
+      register = λ n e. let z = g.9 n e (low n e) in held_still h s i n nest z (again n z);
+    } in
+    let typed = t.passed.typed h s few_now known unset order own in
+    let head = typed.head (behind h s i) follows in
+    let made : SameTerm k b (term_made h s i) = t.passed.puts h s known unset in
     let named = or_false_right p.clause (names_badly h.number h.records h.self.program (was_named x.named) i) f.5 in
-    let handed = hands_on l h.records h.number h.self.program w.types w.terms s (before ++ s.assumed) x.handed.items y.handed.items x.named y.named same_types same_terms i g.7 t.fits named f.0.1 t.passed.names t.passed.hands in (
+    let handed = hands_on l h.records h.number h.self.program w.types w.terms s (before ++ s.assumed) x.handed.items y.handed.items x.named y.named known.types known.terms i g.7 t.fits named unset t.passed.names t.passed.hands in (
       behind h s i,
       g.1 ∙ ap (λ o. unless_broken o s.place (run_on (λ t. run_of judged h any_clause t is) (after h any_clause s i))) fine ∙ ap (run_on (λ t. run_of judged h any_clause t is)) (comes_behind h s i),
-      moved l k h s i b w v a may r t.grow made small,
+      moved l k h s i u b w v a may r t.grow typed.type made small,
       omega (arith, place, count),
       record {
         register_is = clean.0 ∙ sym (ap (λ t. t && broken_by_record h (behind h s i) rule.Register) past);
         constant_is = clean.1 ∙ sym (ap (λ t. t && broken_by_record h (behind h s i) rule.Constant) past);
         order_is = clean.2 ∙ sym (ap (λ t. t && broken_by_record h (behind h s i) rule.Order) past);
+        head_low = λ e. low;
         block_is = clean.3 ∙ sym (ap (λ t. t && broken_by_record h (behind h s i) rule.Block) past);
         clause_is = clean.4 ∙ sym (ap (λ t. t && broken_by_record h (behind h s i) rule.Clause) past);
         key_is = clean.5 ∙ sym (ap (λ t. t && broken_by_record h (behind h s i) rule.Key) past);
       },
       named_on h s i x.named y.named g.5 (named_has (names_of i) (length x.handed.items) x.named y.named t.passed.names),
-      run_on_past l h all i is s b w v g.6 a r small,
+      run_on_past l h all i is s u b w v g.6 a r small,
       handed_later l k h.records y.handed.items y.named (before ++ (behind h s i).assumed) t.grow (subst (AreHanded l h.records y.handed.items y.named) (sym (handed_behind h s i before)) handed),
+      record {
+        constants = record {
+          tables = g.8.constants.tables ∙ ap (λ z. tables_in z.tables.now) (sym r.home_stays);
+          language = subst (λ z. HasLanguage z.tables.now) (sym r.home_stays) g.8.constants.language;
+          basics = basics_stay x.types y.types t.grow.1 g.8.constants.basics;
+          uses = head.0;
+        };
+        own = subst (HasOwnTypes h.self) (sym r.own_stay) g.8.own;
+        head = head.1;
+      },
+      λ n e z. let still = g.9 n e z in stays_still h s i n nest still (again n still),
     )
 
 -- the offset and the number of the next instruction are small
@@ -355,20 +400,21 @@ stands_low h before all i is w x p short g =
 pub goes_on : (h : Home) (before : List (ℕ × Captured)) (all : List Instr) (i : Instr) (is : List Instr) (w v : Work) (x y : Shared) (p q : Whole) → home_in w.home ≡ h → bytes_of all < 2 ^ 32 → GoesOn h before all (i ∷ is) w x p → Steps i w v x y p q → GoesOn h before all is v y q
 goes_on h before all i is w v x y p q e short = subst (λ h. GoesOn h before all (i ∷ is) w x p → Steps i w v x y p q → GoesOn h before all is v y q) e (one_more before all i is w v x y p q short)
 
-refused_at : (before : List (ℕ × Captured)) (all : List Instr) (i : Instr) (is : List Instr) (w : Work) (x y : Shared) (p : Whole) (r : Rule) → bytes_of all < 2 ^ 32 → GoesOn (home_in w.home) before all (i ∷ is) w x p → ListsGrow x.lists y.lists
-    → IsFirst (told w y.lists (was_named x.named) p i) (Some r) → IsRan (home_in w.home).records y before (run_of judged (home_in w.home) any_clause (first_state (home_in w.home).self (captured_of before (home_in w.home).number)) all) (Some (w.place, r))
-refused_at before all i is w x y p r short g grow f j =
+refused_at : (before : List (ℕ × Captured)) (all : List Instr) (i : Instr) (is : List Instr) (w : Work) (x y : Shared) (p : Whole) (r : Rule) → bytes_of all < 2 ^ 32 → GoesOn (home_in w.home) before all (i ∷ is) w x p → StoreGrows (kept_in x) (kept_in y)
+    → TellsFirst i w x y p (Some r) → IsRan (home_in w.home).tables (home_in w.home).records y before (run_of judged (home_in w.home) any_clause (first_state (home_in w.home).self (captured_of before (home_in w.home).number)) all) (Some (w.place, r))
+refused_at before all i is w x y p r short g grow first j =
     let h = home_in w.home in
     let s = g.0 in
+    let f = first h s (knows_now (kept_in x) w h s g.2 g.8) in
     let count : s.place + (length_of i + bytes_of is) ≡ bytes_of all = g.3 in
     let at : w.place ≡ s.place = g.2.place_is in
-    let found = same_broken x.lists y.lists s w x.named p all i is grow g.2 g.6 short (omega (arith, short, count)) g.5 g.4 ∙ first_some (told w y.lists (was_named x.named) p i) r f j in
+    let found = same_broken (kept_in x) (kept_in y) s w x.named p all i is grow g.2 g.6 short (omega (arith, short, count)) g.5 g.4 ∙ first_some (told w y.lists (was_named x.named) p (breaks_type h s i) i) r f j in
     (g.1 ∙ ap (λ o. unless_broken o s.place (run_on (λ t. run_of judged h any_clause t is) (after h any_clause s i))) found ∙ ap (λ n. Broken n r) (sym at), omega (arith, short, count, at))
 
-pub refused : (h : Home) (before : List (ℕ × Captured)) (all : List Instr) (i : Instr) (is : List Instr) (w : Work) (x y : Shared) (p : Whole) (r : Rule) → home_in w.home ≡ h → bytes_of all < 2 ^ 32 → GoesOn h before all (i ∷ is) w x p → ListsGrow x.lists y.lists
-    → IsFirst (told w y.lists (was_named x.named) p i) (Some r) → IsRan h.records y before (run_of judged h any_clause (first_state h.self (captured_of before h.number)) all) (Some (w.place, r))
+pub refused : (h : Home) (before : List (ℕ × Captured)) (all : List Instr) (i : Instr) (is : List Instr) (w : Work) (x y : Shared) (p : Whole) (r : Rule) → home_in w.home ≡ h → bytes_of all < 2 ^ 32 → GoesOn h before all (i ∷ is) w x p → StoreGrows (kept_in x) (kept_in y)
+    → TellsFirst i w x y p (Some r) → IsRan h.tables h.records y before (run_of judged h any_clause (first_state h.self (captured_of before h.number)) all) (Some (w.place, r))
 refused h before all i is w x y p r e short =
-    subst (λ h. GoesOn h before all (i ∷ is) w x p → ListsGrow x.lists y.lists → IsFirst (told w y.lists (was_named x.named) p i) (Some r) → IsRan h.records y before (run_of judged h any_clause (first_state h.self (captured_of before h.number)) all) (Some (w.place, r))) e
+    subst (λ h. GoesOn h before all (i ∷ is) w x p → StoreGrows (kept_in x) (kept_in y) → TellsFirst i w x y p (Some r) → IsRan h.tables h.records y before (run_of judged h any_clause (first_state h.self (captured_of before h.number)) all) (Some (w.place, r))) e
     (refused_at before all i is w x y p r short)
 
 -- the end of the instructions, where the record is judged as a whole if there was none
@@ -387,20 +433,19 @@ none_there false = refl
 whole_broken : (h : Home) (s : State) (x : Whole) → IsWhole h s x → broken_of judged h s [] ≡ first_broken (breaks (broken_whole x)) judged
 whole_broken h s x b =
     let t : Bool = nat_eq s.place 0 in
-    whole_at t (broken_by_record h s) ∙ sym (first_same (breaks (broken_whole x)) (λ r. t && broken_by_record h s r) b.register_is (none_there t) (none_there t) b.constant_is (none_there t) (none_there t) b.order_is b.block_is b.clause_is b.key_is)
+    whole_at t (broken_by_record h s) ∙ sym (first_same (breaks (broken_whole x)) (λ r. t && broken_by_record h s r) b.register_is (none_there t) (none_there t) b.constant_is (none_there t) (none_there t) (none_there t) b.order_is b.block_is b.clause_is b.key_is)
 
 pub ended : (h : Home) (before : List (ℕ × Captured)) (all : List Instr) (w : Work) (x : Shared) (p : Whole) (o : Option Rule) → bytes_of all < 2 ^ 32
-    → GoesOn h before all [] w x p → IsFirst (broken_whole p) o → IsRan h.records x before (run_of judged h any_clause (first_state h.self (captured_of before h.number)) all) (at_end o w.place)
-ended h before all w x p None short g f = (g.0, g.1 ∙ ap (λ o. unless_broken o g.0.place (Done g.0)) (whole_broken h g.0 p g.4 ∙ first_none (broken_whole p) f), g.7)
+    → GoesOn h before all [] w x p → IsFirst (broken_whole p) o → IsRan h.tables h.records x before (run_of judged h any_clause (first_state h.self (captured_of before h.number)) all) (at_end o w.place)
+ended h before all w x p None short g f = (g.0, g.1 ∙ ap (λ o. unless_broken o g.0.place (Done g.0)) (whole_broken h g.0 p g.4 ∙ first_none (broken_whole p) f), g.7, (g.8.constants.basics, g.8.constants.uses))
 ended h before all w x p (Some r) short g f = λ j.
     let s = g.0 in
     let at : w.place ≡ s.place = g.2.place_is in
     let count : s.place + 0 ≡ bytes_of all = g.3 in
     (g.1 ∙ ap (λ o. unless_broken o s.place (Done s)) (whole_broken h s p g.4 ∙ first_some (broken_whole p) r f j) ∙ ap (λ n. Broken n r) (sym at), omega (arith, short, count, at))
 
-pub handed_kept : (x y : Shared) (all : List Record) (before : List (ℕ × Captured)) → y.lists ≡ x.lists → y.handed ≡ x.handed → y.named ≡ x.named → HandedIn x all before → HandedIn y all before
-handed_kept x y all before a b c h =
-    subst (λ l. AreHanded l all y.handed.items y.named before) (sym a) (subst (λ v. AreHanded x.lists all v.items y.named before) (sym b) (subst (λ m. AreHanded x.lists all x.handed.items m before) (sym c) h))
+pub handed_kept : (l : Store) (x y : Shared) (all : List Record) (before : List (ℕ × Captured)) → y.handed ≡ x.handed → y.named ≡ x.named → AreHanded l all x.handed.items x.named before → AreHanded l all y.handed.items y.named before
+handed_kept l x y all before b c h = subst (λ v. AreHanded l all v.items y.named before) (sym b) (subst (λ m. AreHanded l all x.handed.items m before) (sym c) h)
 
 started_badly : (program : Bool) (wrong : Bool) (a b : Bool) → a ≡ b → (if program then wrong else not a) ≡ (if program then wrong else not b)
 started_badly p w a b e = ap (λ a. if p then w else not a) e
@@ -413,17 +458,27 @@ judged_first h s m x e names j = record {
   block_is = j.block_is ∙ ap (λ p. nat_eq p 0 && broken_by_record h s rule.Block) (sym e);
   clause_is = j.clause_is ∙ started_badly h.self.program (not (nat_eq (h.self.captured_types + h.self.captured) 0)) (was_named m h.number) (member h.number (named_before h.number h.records)) (names h.number) ∙ ap (λ p. nat_eq p 0 && broken_by_record h s rule.Clause) (sym e);
   key_is = j.key_is ∙ ap (λ p. nat_eq p 0 && broken_by_record h s rule.Key) (sym e);
+  head_low = j.head_low;
 }
 
-begins : (before : List (ℕ × Captured)) (w : Work) (x : Shared) (p : Whole) → slice_get w.home.records.now w.home.number ≡ Some w.home.record.now → HandedIn x w.home.records.now before → IsStarted x.handed.items x.named w
-    → AreNamedBefore w.home.number w.home.records.now x.named → IsJudgedWhole (home_in w.home) (was_named x.named) p → GoesOn (home_in w.home) before w.home.record.now.code.items w.home.record.now.code.items w x p
-begins before w x p there given b names j =
+-- what is told of a record before its first instruction, of the registers as they were kept before it
+abbrev pub KnowsFirst : Store → (x : Shared) → Work → Home → Type 0
+KnowsFirst l x w h = (s : State) → s.head_types ≡ [] → s.head_arguments ≡ [] → IsSame (SameTerm l) w.terms s.now.terms → KnowsHead (kept_in x) w h s
+
+begins : (l : Store) (before : List (ℕ × Captured)) (w : Work) (x : Shared) (p : Whole) → StoreGrows l (kept_in x) → slice_get w.home.records.now w.home.number ≡ Some w.home.record.now → AreHanded l w.home.records.now x.handed.items x.named before → IsStarted x.handed.items x.named w
+    → KnowsFirst l x w (home_in w.home) → AreNamedBefore w.home.number w.home.records.now x.named → IsJudgedWhole (home_in w.home) (was_named x.named) p → GoesOn (home_in w.home) before w.home.record.now.code.items w.home.record.now.code.items w x p
+begins l before w x p grow there first b knows names j =
     let hs = x.handed.items in
     let m = x.named in
     let r = w.home.record.now in
     let c = captured_of before w.home.number in
     let k = captured_in hs m w.home.number in
-    let few = few_captured x.lists w.home.records.now hs m before w.home.number r given there in (
+    let n = kept_in x in
+    let given : HandedIn x w.home.records.now before = handed_later l n w.home.records.now hs m before grow first in
+    let few = few_captured n w.home.records.now hs m before w.home.number r given there in
+    let types = stack_begins (SameType n) r.captured_types r.types w.types (types_captured k) c.types (b.types_filled few.few_types) b.types_set few.types (started_length c.types r.types) (given.types_alike w.home.number) in
+    let terms = stack_begins (SameTerm n) r.captured r.registers w.terms (terms_captured k) c.terms (b.terms_filled few.few_terms) b.terms_set few.terms (started_length c.terms r.registers) (given.terms_alike w.home.number) in
+    let terms_first = stack_begins (SameTerm l) r.captured r.registers w.terms (terms_captured k) c.terms (b.terms_filled few.few_terms) b.terms_set few.terms (started_length c.terms r.registers) (first.terms_alike w.home.number) in (
       first_state r c,
       refl,
       record {
@@ -433,10 +488,8 @@ begins before w x p there given b names j =
         arguments_are = b.arguments_are;
         types_set = λ n. b.types_set n ∙ sym (from_zero_has n r.captured_types);
         terms_set = λ n. b.terms_set n ∙ sym (from_zero_has n r.captured);
-        types_stand = subst (λ fs. IsStack SameType r.types w.types (type_heights (reverse fs)) (started c.types r.types ∷ [])) (sym b.frames_are)
-            (stack_begins SameType r.captured_types r.types w.types (types_captured k) c.types (b.types_filled few.few_types) b.types_set few.types (started_length c.types r.types) (given.types_alike w.home.number));
-        terms_stand = subst (λ fs. IsStack (SameTerm x.lists) r.registers w.terms (term_heights (reverse fs)) (started c.terms r.registers ∷ [])) (sym b.frames_are)
-            (stack_begins (SameTerm x.lists) r.captured r.registers w.terms (terms_captured k) c.terms (b.terms_filled few.few_terms) b.terms_set few.terms (started_length c.terms r.registers) (given.terms_alike w.home.number));
+        types_stand = subst (λ fs. IsStack (SameType n) r.types w.types (type_heights (reverse fs)) (started c.types r.types ∷ [])) (sym b.frames_are) types;
+        terms_stand = subst (λ fs. IsStack (SameTerm n) r.registers w.terms (term_heights (reverse fs)) (started c.terms r.registers ∷ [])) (sym b.frames_are) terms;
         few_arguments = omega arith;
         few_instructions = let n = b.number_is in omega (arith, n);
         sides_are = ap sides_in b.frames_are;
@@ -447,10 +500,12 @@ begins before w x p there given b names j =
       λ n. names n ∙ ap (member n) (append_nil_sym (named_before w.home.number w.home.records.now)),
       record { run = []; parts = refl; length_is = refl; all_is = refl; count_is = let n = b.number_is in omega (arith, n); places_are = b.places_are },
       subst (HandedIn x w.home.records.now) (append_nil_sym before) given,
+      knows (first_state r c) refl refl (λ n. same_values (SameTerm l) r.registers w.terms [] (started c.terms r.registers) [] terms_first n),
+      λ n e low. (from_zero_has n r.captured ∙ low, (refl, tt)),
     )
 
-pub begun : (h : Home) (before : List (ℕ × Captured)) (w : Work) (x : Shared) (p : Whole) → home_in w.home ≡ h → IsStarted x.handed.items x.named w → slice_get h.records h.number ≡ Some h.self → HandedIn x h.records before
-    → AreNamedBefore h.number h.records x.named → IsJudgedWhole h (was_named x.named) p → GoesOn h before h.self.code.items h.self.code.items w x p
-begun h before w x p e b =
-    subst (λ h. slice_get h.records h.number ≡ Some h.self → HandedIn x h.records before → AreNamedBefore h.number h.records x.named → IsJudgedWhole h (was_named x.named) p → GoesOn h before h.self.code.items h.self.code.items w x p) e
-    (λ there given. begins before w x p there given b)
+pub begun : (h : Home) (l : Store) (before : List (ℕ × Captured)) (w : Work) (x : Shared) (p : Whole) → home_in w.home ≡ h → StoreGrows l (kept_in x) → IsStarted x.handed.items x.named w → slice_get h.records h.number ≡ Some h.self → AreHanded l h.records x.handed.items x.named before
+    → KnowsFirst l x w h → AreNamedBefore h.number h.records x.named → IsJudgedWhole h (was_named x.named) p → GoesOn h before h.self.code.items h.self.code.items w x p
+begun h l before w x p e grow b =
+    subst (λ h. slice_get h.records h.number ≡ Some h.self → AreHanded l h.records x.handed.items x.named before → KnowsFirst l x w h → AreNamedBefore h.number h.records x.named → IsJudgedWhole h (was_named x.named) p → GoesOn h before h.self.code.items h.self.code.items w x p) e
+    (λ there given knows names j. begins l before w x p grow there given b knows names j)

@@ -20,7 +20,7 @@ use Rattle.lp_verify.specs.inner.Made.{nothing_built, type_made, term_made}
 use Rattle.lp_verify.specs.inner.Handed.{assumption_of, handed_on}
 use Rattle.lp_verify.proofs.SavedRegisters.{saved_ended, stack_leaves, over_there, stack_turns_over, stack_settle, types_made, terms_made, map_turned, map_settled}
 use Rattle.lp_verify.proofs.Sides.{sides_ended, sides_behind, sides_given, sides_deep, sides_settle}
-use Rattle.lp_verify.specs.inner.Outline.{Outline, outline, body_behind, types_behind, arguments_behind, with_more, outline_behind}
+use Rattle.lp_verify.specs.inner.Outline.{Outline, outline, body_behind, types_behind, arguments_behind, with_more, taken_by, outline_behind}
 use Rattle.lp_code.specs.Rules.{names_of}
 
 block_left : (s : State) (f : Frame) (fs : List Frame) (o : Option Goal) → outline (leave_block s f fs o) ≡ outline s
@@ -50,13 +50,14 @@ settles home zero s = refl
 settles home (suc n) s = settled_if home n s (is_right_end s.place (innermost_block s.frames)) (settles home n (leave home s))
 
 -- what an instruction does before it is passed
-abbrev pub acted : Instr → (handed : List (ℕ × Captured)) → Outline → Outline
-acted i cs o = record {
+abbrev pub acted : Instr → (handed : List (ℕ × Captured)) → (taken : List Ty) → Outline → Outline
+acted i cs us o = record {
   place = o.place;
   types_set = o.types_set;
   terms_set = o.terms_set;
   in_body = body_behind i o.in_body;
   types = types_behind i o.types;
+  taken = with_more o.taken us;
   arguments = arguments_behind i o.arguments;
   named = with_more o.named (names_of i);
   assumed = with_more o.assumed cs;
@@ -73,7 +74,7 @@ Nests i s = sides_run i s.place (sides_of s.frames) ≡ sides_acted i s.place (s
 pub record Comes (h : Home) (s : State) (i : Instr) : Type 0 where
   pub to : State
   pub comes : effect h any_clause s i ≡ Some to
-  pub outlined : outline to ≡ acted i (handed_on s (assumption_of i)) (outline s)
+  pub outlined : outline to ≡ acted i (handed_on s (assumption_of i)) (taken_by s i) (outline s)
   pub sided : sides_of to.frames ≡ sides_acted i s.place (sides_of s.frames)
   pub stacked : Nests i s → stack_of to ≡ stack_made h s i
 
@@ -83,15 +84,15 @@ any_clauses c (n ∷ ns) =
     let more = any_clauses c ns in
     (clauses (clause 0 [] (index 0) no_goals) more.0, ap (option_map (clauses (clause 0 [] (index 0) no_goals))) more.1)
 
-came : (h : Home) (s : State) (i : Instr) (t : State) → effect h any_clause s i ≡ Some t → outline t ≡ acted i (handed_on s (assumption_of i)) (outline s) → sides_of t.frames ≡ sides_acted i s.place (sides_of s.frames) → (Nests i s → stack_of t ≡ stack_made h s i)
+came : (h : Home) (s : State) (i : Instr) (t : State) → effect h any_clause s i ≡ Some t → outline t ≡ acted i (handed_on s (assumption_of i)) (taken_by s i) (outline s) → sides_of t.frames ≡ sides_acted i s.place (sides_of s.frames) → (Nests i s → stack_of t ≡ stack_made h s i)
     → Comes h s i
 came h s i t e o b st = record { to = t; comes = e; outlined = o; sided = b; stacked = st }
 
 took : (s : State) (b : Built) → outline (with_argument s b) ≡ record (outline s) { arguments = suc (length s.head_arguments) }
 took s b = ap (λ n. record (outline s) { arguments = n }) (length_push_suc s.head_arguments b)
 
-took_type : (s : State) (T : Ty) → outline (record s { head_types = s.head_types ++ T ∷ [] }) ≡ record (outline s) { types = suc (length s.head_types) }
-took_type s T = ap (λ n. record (outline s) { types = n }) (length_push_suc s.head_types T)
+took_type : (s : State) (T : Ty) → outline (record s { head_types = s.head_types ++ T ∷ [] }) ≡ record (outline s) { types = suc (length s.head_types); taken = s.head_types ++ T ∷ [] }
+took_type s T = ap (λ n. record (outline s) { types = n; taken = s.head_types ++ T ∷ [] }) (length_push_suc s.head_types T)
 
 abbrev assuming : Home → State → (ns ts rs : List ℕ) → Clauses → State
 assuming h s ns ts rs cs = record (opens s (under_assumption cs)) { assumed = s.assumed ++ handed ns (captured_by s ts rs) }
@@ -162,7 +163,7 @@ comes_behind h s i = ap (option_map (λ t. settled h.number (depth t.frames) (pa
 abbrev pub past : Instr → Outline → Outline
 past i o = record o { place = o.place + length_of i; types_set = o.types_set ++ type_set i; terms_set = o.terms_set ++ term_set i }
 
-pub outline_is : (h : Home) (s : State) (i : Instr) → outline (behind h s i) ≡ outline_behind i (handed_on s (assumption_of i)) (outline s)
+pub outline_is : (h : Home) (s : State) (i : Instr) → outline (behind h s i) ≡ outline_behind i (handed_on s (assumption_of i)) (taken_by s i) (outline s)
 outline_is h s i = settles h.number (depth (comes h s i).to.frames) (passed i (comes h s i).to) ∙ ap (past i) (comes h s i).outlined
 
 pub sides_are : (h : Home) (s : State) (i : Instr) → sides_of (behind h s i).frames ≡ sides_settled (s.place + length_of i) (sides_acted i s.place (sides_of s.frames))

@@ -11,19 +11,20 @@ use Rattle.lp_code.specs.Denote.{denote, first_fault_of}
 use Rattle.lp_verify.specs.declared.refusal.VerifyRefusal.{VerifyRefusal}
 use Rattle.lp_verify.specs.declared.refusal.VerifyRefusal.TheVariants as refusal
 
--- the rules on registers' numbers, on reading and setting them, on constants, on loose indices, on the order of instructions, on blocks, on assumed records and on the key
+-- the rules on registers' numbers, on reading and setting them, on constants, on types, on loose indices, on the order of instructions, on blocks, on assumed records and on the key
 abbrev pub judged : List Rule
-judged = rule.Register ∷ rule.Unset ∷ rule.Set ∷ rule.Constant ∷ rule.Index ∷ rule.Term ∷ rule.Order ∷ rule.Block ∷ rule.Clause ∷ rule.Key ∷ []
+judged = rule.Register ∷ rule.Unset ∷ rule.Set ∷ rule.Constant ∷ rule.Typing ∷ rule.Index ∷ rule.Term ∷ rule.Order ∷ rule.Block ∷ rule.Clause ∷ rule.Key ∷ []
 
--- the rules that are left
+-- the rule that is left
 abbrev pub unjudged : List Rule
-unjudged = rule.Typing ∷ rule.Head ∷ []
+unjudged = rule.Head ∷ []
 
 abbrev pub is_judged : Rule → Bool
 is_judged rule.Register = true
 is_judged rule.Unset = true
 is_judged rule.Set = true
 is_judged rule.Constant = true
+is_judged rule.Typing = true
 is_judged rule.Index = true
 is_judged rule.Term = true
 is_judged rule.Order = true
@@ -41,7 +42,7 @@ bytes_of (i ∷ is) = length_of i + bytes_of is
 abbrev pub AreShort : List Record → Type 0
 AreShort rs = Each (λ (r : Record). bytes_of r.code.items < 2 ^ 32) rs
 
--- where code is accepted, none of these rules is broken, and it denotes clauses exactly where none of the others is; one that is told is the first one, and the code denotes nothing;
+-- where code is accepted, none of these rules is broken, and it denotes clauses exactly where the other one is not; one that is told is the first one, and the code denotes nothing;
 -- want of memory says nothing
 abbrev pub IsTold : {A : Type 0} → Tables → List Record → Result A VerifyRefusal → Type 0
 IsTold t rs (Ok v) = (first_fault_of judged t rs ≡ None) × (is_some (denote t rs) ≡ is_none (first_fault_of unjudged t rs))

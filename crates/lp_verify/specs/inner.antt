@@ -7,3 +7,7 @@ pub mod Handed
 pub mod Made
 pub mod Told
 pub mod At
+pub mod FirstNumbers
+pub mod Language
+pub mod Known
+pub mod Reads

@@ -5,8 +5,18 @@ ghost use Rattle.lp_verify.specs.inner.Sides.{sides_in, sides_run, sides_settled
 ghost use Rattle.lp_verify.specs.inner.Stack.{type_heights, term_heights, opens, leaves, turns_over, turning, IsTurned, IsSettled};
 ghost use Rattle.lp_verify.specs.inner.Outline.{body_behind};
 ghost use Rattle.lp_verify.specs.inner.Handed.{assumption_of, handed_built, closed_built, IsHanded, IsHandedOn};
-ghost use Rattle.lp_verify.specs.inner.Made.{built_or};
-ghost use Rattle.lp_verify.specs.inner.At.{IsActed};
+ghost use Rattle.lp_verify.specs.inner.Made.{type_made, built_or};
+ghost use Rattle.lp_verify.specs.inner.At.{IsActed, IsTypedBy, kept_in};
+ghost use Rattle.std.specs.Prelude.{true, false};
+ghost use Rattle.std.specs.List.{list_any};
+ghost use Rattle.lp_code.specs.Operands.{types_read};
+ghost use Rattle.lp_code.specs.States.{State, Home};
+ghost use Rattle.lp_term.specs.declared.node.TypeId.{TypeId};
+ghost use Rattle.lp_verify.specs.Held.{is_lacking};
+ghost use Rattle.lp_verify.specs.declared.loose.Lists.{Lists};
+ghost use Rattle.lp_verify.specs.inner.FirstNumbers.{IsType, TypesGrow, UsesStay};
+ghost use Rattle.lp_verify.specs.inner.Indices.{store};
+ghost use Rattle.lp_verify.specs.inner.Known.{makes_own_type, Knows};
 
 use crate::blocks::{Block, Blocks};
 use crate::built::{Built, Head};
@@ -141,20 +151,26 @@ fn all_handed<'a>(alloc: Global, terms: &[Built<'a>]) -> Result<Vec<Built<'a>>, 
 
 impl<'a> Work<'a> {
     // What the instruction puts into a type register, or `o`.
-    fn built_type(&self, types: &mut Types, instr: &Instr) -> Result<TypeId, Memory> {
+    fn built_type(&self, types: &mut Types, instr: &Instr) -> Result<TypeId, Memory>
+        ensures grow { OnOk result (TypesGrow types.old types.new × UsesStay types.old types.new) }
+        ensures made { IfOk result (λ t. (l : Lists) (h : Home) (s : State) → Knows (store types.old l) self.now h s → list_any (is_lacking self.now.types) (types_read instr.now) ≡ false → makes_own_type h.self instr.now ≡ true → IsType types.new t (type_made h s instr.now)) }
+    {
         match instr {
             Instr::TyCon(_, kind, parts) => {
                 let parts = self.types.all(types.alloc, parts.as_slice())?;
-                types.con(*kind, parts.as_slice())
+                let of = types.con(*kind, parts.as_slice())?;
+                Ok(of)
             }
             Instr::TyArr(_, from, to) => {
                 let from = self.type_in(types, *from);
                 let to = self.type_in(types, *to);
-                types.arrow(from, to)
+                let of = types.arrow(from, to)?;
+                Ok(of)
             }
             Instr::TyNew(made) => {
                 let number = self.own_types.get(made).copied().unwrap_or(0);
-                types.var(number)
+                let of = types.var(number)?;
+                Ok(of)
             }
             _ => Ok(types.proposition),
         }
@@ -200,12 +216,14 @@ impl<'a> Work<'a> {
         instr: &Instr,
         typed: Typed<'a>,
     ) -> Result<(), Memory>
-        ensures acted { OnOk result (IsActed instr.now (built_or typed.entry (closed_built shared.new.types.proposition)) self.old self.new) }
+        ensures acted { OnOk result ((u : TypeId) × IsActed instr.now u (built_or typed.entry (closed_built shared.new.types.proposition)) self.old self.new × IsTypedBy instr.now (kept_in shared.old) (kept_in shared.new) self.old self.new u) }
+        ensures grow { OnOk result (TypesGrow shared.old.types shared.new.types) }
         ensures handed { OnOk result (IsHandedOn (assumption_of instr.now) self.old.types self.old.terms shared.old.handed.items shared.new.handed.items) }
         ensures named { shared.new.named ≡ shared.old.named }
         ensures lists { shared.new.lists ≡ shared.old.lists }
     {
         let of = self.built_type(&mut shared.types, instr)?;
+        let taken = self.taken_type(&shared.types, instr);
         self.hand_on(shared.alloc, &mut shared.handed, instr)?;
         turn(
             &mut self.blocks,
@@ -214,7 +232,6 @@ impl<'a> Work<'a> {
             self.place,
             instr,
         )?;
-        let taken = self.taken_type(&shared.types, instr);
         self.head
             .take(self.home.tables, &mut shared.types, instr, taken)?;
         self.in_body = is_behind_neck(self.in_body, instr);

@@ -1,7 +1,15 @@
 // The head of a record at work: its type arguments, and what type is left behind the arguments so far.
 
-ghost use Rattle.std.specs.Prelude.{◌≡◌, ◌+◌, ◌<◌, ◌^◌, ◌∷◌, [], ◌++◌, IfOk, OnOk, length};
-ghost use Rattle.lp_verify.specs.inner.Outline.{types_behind, arguments_behind};
+ghost use Rattle.std.specs.Prelude.{◌≡◌, ◌+◌, ◌<◌, ◌^◌, ◌∷◌, [], ◌++◌, ℕ, suc, List, false, unwrap_or, IfOk, OnOk, length};
+ghost use Rattle.lp_code.specs.States.{State, Home};
+ghost use Rattle.lp_code.specs.Steps.{constant_type, head_built};
+ghost use Rattle.lp_code.specs.Rules.{breaks_order};
+ghost use Rattle.lp_verify.specs.inner.Outline.{taken_by, types_behind, arguments_behind};
+ghost use Rattle.lp_verify.specs.inner.Known.{constant_in, IsNoConstant, KnowsTables, IsHead, TakesType, TakesArgument, FollowsHead};
+ghost use Rattle.lp_calculus.specs.Types.{Ty};
+ghost use Rattle.lp_code.specs.Symbolic.{argument_type, result_type};
+ghost use Rattle.lp_verify.specs.inner.Stack.{Agree};
+ghost use Rattle.lp_verify.specs.inner.FirstNumbers.{IsType, AreTypes, TypesGrow, UsesAre, IsLeftAt};
 
 use crate::tables::Tables;
 use crate::types::Types;
@@ -22,6 +30,57 @@ pub(crate) struct HeadSoFar {
     left: TypeId,
 }
 
+// What a function of this type takes.
+fn argument_of(types: &Types, of: TypeId) -> Option<TypeId>
+    ensures { (T : Ty) → IsType types.now of T → Agree (IsType types.now) result (argument_type T 0) }
+{
+    match types.as_arrow(of) {
+        Some((from, _)) => Some(from),
+        None => None,
+    }
+}
+
+// The constant that the predicate is, where it is one.
+fn constant_of(predicate: Option<RecordHead>) -> Option<u32>
+    ensures { result ≡ constant_in predicate }
+{
+    match predicate {
+        Some(RecordHead::Const(constant)) => Some(constant),
+        Some(RecordHead::Register(_)) => None,
+        None => None,
+    }
+}
+
+// How many type arguments the predicate has.
+fn count_of(tables: &Tables<'_>, predicate: Option<RecordHead>) -> usize {
+    match constant_of(predicate) {
+        Some(constant) => match tables.type_vars(constant) {
+            Some(count) => usize::from(count),
+            None => 0,
+        },
+        None => 0,
+    }
+}
+
+// The type of a constant on types; `o` where there is none.
+fn constant_on(
+    tables: &Tables<'_>,
+    types: &mut Types,
+    constant: u32,
+    arguments: &[TypeId],
+) -> Result<TypeId, Memory>
+    ensures grow { OnOk result (TypesGrow types.old types.new) }
+    ensures made { IfOk result (λ t. (h : Home) (Ts : List Ty) → KnowsTables tables.now types.old h → AreTypes types.old arguments.now Ts → IsType types.new t (constant_type h.tables constant Ts) × UsesAre h.tables types.new) }
+{
+    match tables.scheme(constant) {
+        Some((bank, scheme)) => {
+            let of = types.of_counted(constant, bank, scheme, arguments)?;
+            Ok(of)
+        }
+        None => Ok(types.proposition),
+    }
+}
+
 impl HeadSoFar {
     // Of a head that is a register the type is given.
     pub(crate) fn new(
@@ -33,14 +92,10 @@ impl HeadSoFar {
     ) -> Result<HeadSoFar, Memory>
         ensures types { IfOk result (λ head. length head.types.items ≡ 0) }
         ensures arguments { IfOk result (λ head. head.arguments ≡ 0) }
+        ensures grow { OnOk result (TypesGrow types.old types.new) }
+        ensures head { IfOk result (λ head. (h : Home) (s : State) → KnowsTables tables.now types.old h → predicate ≡ h.self.head → s.head_types ≡ [] → s.head_arguments ≡ [] → (IsNoConstant predicate → IsType types.old (unwrap_or of types.old.proposition) (head_built h s).type) → UsesAre h.tables types.new × IsHead types.new head h s) }
     {
-        let count = match predicate {
-            Some(RecordHead::Const(constant)) => match tables.type_vars(constant) {
-                Some(count) => usize::from(count),
-                None => 0,
-            },
-            _ => 0,
-        };
+        let count = count_of(tables, predicate);
         let whole = of.unwrap_or(types.proposition);
         let mut head = HeadSoFar {
             predicate,
@@ -50,21 +105,23 @@ impl HeadSoFar {
             whole,
             left: whole,
         };
-        head.whole = head.type_so_far(tables, types)?;
-        head.left = head.whole;
+        let whole = head.type_so_far(tables, types)?;
+        head.whole = whole;
+        head.left = whole;
         Ok(head)
     }
 
     // The type of the predicate on the type arguments so far; of a register it is the one that was given.
-    fn type_so_far(&self, tables: &Tables<'_>, types: &mut Types) -> Result<TypeId, Memory> {
-        let Some(RecordHead::Const(constant)) = self.predicate else {
-            return Ok(self.whole);
-        };
-        match tables.scheme(constant) {
-            Some((bank, scheme)) if self.types.len() == self.count => {
-                types.of_constant(constant, bank, scheme, self.types.as_slice())
+    fn type_so_far(&self, tables: &Tables<'_>, types: &mut Types) -> Result<TypeId, Memory>
+        ensures grow { OnOk result (TypesGrow types.old types.new) }
+        ensures made { IfOk result (λ t. (h : Home) (s : State) → KnowsTables tables.now types.old h → self.now.predicate ≡ h.self.head → AreTypes types.old self.now.types.items s.head_types → (IsNoConstant self.now.predicate → IsType types.old self.now.whole (head_built h s).type) → UsesAre h.tables types.new × IsType types.new t (head_built h s).type) }
+    {
+        match constant_of(self.predicate) {
+            Some(constant) => {
+                let of = constant_on(tables, types, constant, self.types.as_slice())?;
+                Ok(of)
             }
-            _ => Ok(types.proposition),
+            None => Ok(self.whole),
         }
     }
 
@@ -89,18 +146,32 @@ impl HeadSoFar {
         number < self.count
     }
 
-    // The type of an argument by its number.
-    pub(crate) fn argument_type(&self, types: &Types, number: u8) -> Option<TypeId> {
-        let number = usize::from(number);
-        if number == self.arguments {
-            return types.as_arrow(self.left).map(|(from, _)| from);
-        }
+    // What is left of the predicate's type behind so many arguments, where it takes as many.
+    fn left_at(&self, types: &Types, number: usize) -> Option<TypeId>
+        ensures { (T : Ty) → IsType types.now self.now.whole T → IsLeftAt types.now T number result }
+    {
         let mut rest = self.whole;
         for _ in 0..number {
-            let (_, to) = types.as_arrow(rest)?;
-            rest = to;
+            match types.as_arrow(rest) {
+                Some((_, to)) => rest = to,
+                None => return None,
+            }
         }
-        types.as_arrow(rest).map(|(from, _)| from)
+        Some(rest)
+    }
+
+    // The type of an argument by its number.
+    pub(crate) fn argument_type(&self, types: &Types, number: u8) -> Option<TypeId>
+        ensures { (T : Ty) → IsType types.now self.now.whole T → IsType types.now self.now.left (result_type T self.now.arguments) → Agree (IsType types.now) result (argument_type T number) }
+    {
+        let number = usize::from(number);
+        if number == self.arguments {
+            return argument_of(types, self.left);
+        }
+        match self.left_at(types, number) {
+            Some(left) => argument_of(types, left),
+            None => None,
+        }
     }
 
     // Whether all type arguments and all arguments are there.
@@ -111,15 +182,20 @@ impl HeadSoFar {
     fn add_type(&mut self, tables: &Tables<'_>, types: &mut Types, of: TypeId) -> Result<(), Memory>
         ensures types { OnOk result (length self.new.types.items ≡ length self.old.types.items + 1) }
         ensures arguments { self.new.arguments ≡ self.old.arguments }
+        ensures grow { OnOk result (TypesGrow types.old types.new) }
+        ensures head { OnOk result ((h : Home) (s t : State) (T : Ty) → KnowsTables tables.now types.old h → IsHead types.old self.old h s → IsType types.old of T → TakesType h s T t → UsesAre h.tables types.new × IsHead types.new self.new h t) }
     {
         self.types.push(of)?;
-        self.whole = self.type_so_far(tables, types)?;
-        self.left = self.whole;
+        let whole = self.type_so_far(tables, types)?;
+        self.whole = whole;
+        self.left = whole;
         Ok(())
     }
 
     // What the type becomes behind one argument more.
-    fn left_behind(&self, types: &Types) -> TypeId {
+    fn left_behind(&self, types: &Types) -> TypeId
+        ensures { (T : Ty) (n : ℕ) → IsType types.now self.now.left (result_type T n) → IsType types.now result (result_type T (suc n)) }
+    {
         match types.as_arrow(self.left) {
             Some((_, to)) => to,
             None => self.left,
@@ -129,6 +205,7 @@ impl HeadSoFar {
     fn add_argument(&mut self, types: &Types)
         ensures types { self.new.types ≡ self.old.types }
         ensures arguments { self.old.arguments + 1 < 2 ^ 64 → self.new.arguments ≡ self.old.arguments + 1 }
+        ensures head { (h : Home) (s t : State) → self.old.arguments + 1 < 2 ^ 64 → IsHead types.now self.old h s → TakesArgument h s t → IsHead types.now self.new h t }
     {
         self.left = self.left_behind(types);
         self.arguments = self.arguments.saturating_add(1);
@@ -144,6 +221,8 @@ impl HeadSoFar {
     ) -> Result<(), Memory>
         ensures types { OnOk result (length self.new.types.items ≡ types_behind instr.now (length self.old.types.items)) }
         ensures arguments { OnOk result (self.old.arguments + 1 < 2 ^ 64 → self.new.arguments ≡ arguments_behind instr.now self.old.arguments) }
+        ensures grow { OnOk result (TypesGrow types.old types.new) }
+        ensures head { OnOk result ((h : Home) (s t : State) → self.old.arguments + 1 < 2 ^ 64 → KnowsTables tables.now types.old h → IsHead types.old self.old h s → ((T : Ty) → taken_by s instr.now ≡ T ∷ [] → IsType types.old of T) → breaks_order s instr.now ≡ false → FollowsHead h s instr.now t → UsesAre h.tables types.new × IsHead types.new self.new h t) }
     {
         match instr {
             Instr::GetType(_, _) => self.add_type(tables, types, of),

@@ -2,6 +2,7 @@
 ghost use Rattle.std.specs.Prelude.{◌≡◌, ◌<◌, ◌^◌, length, IfOk};
 ghost use Rattle.lp_code.specs.Length.{AllFit};
 ghost use Rattle.lp_verify.specs.Scheme.{tables_in, image_tables, object_tables};
+ghost use Rattle.lp_verify.specs.inner.Language.{HasLanguage};
 ghost use Rattle.lp_verify.specs.Judged.{AreShort, IsTold};
 
 use crate::record::{Home, Shared, judge_record};
@@ -43,6 +44,7 @@ fn judge<'a>(
 ) -> Result<(), VerifyRefusal>
     requires fit { AllFit records.now }
     requires few { length records.now < 2 ^ 32 }
+    requires language { HasLanguage tables.now }
     ensures { AreShort records.now → IsTold (tables_in tables.now) records.now result }
 {
     let mut shared = Shared::new(alloc)?;

@@ -1,10 +1,12 @@
 // The loose indices of terms with their types, as lists that several terms share.
-ghost use Rattle.std.specs.Prelude.{◌≡◌, ◌+◌, ◌-◌, ◌++◌, ◌∷◌, [], ◌<◌, ◌^◌, List, Vec, IfOk, OnOk, IfSome, Option, Some, None, option_map, is_some, slice_get, length, map, drop, min, if◌then◌else◌};
+ghost use Rattle.std.specs.Prelude.{◌≡◌, ◌+◌, ◌-◌, ◌++◌, ◌∷◌, [], ◌<◌, ◌^◌, List, Vec, IfOk, OnOk, Option, Some, None, option_map, is_some, slice_get, length, map, drop, min, if◌then◌else◌};
 ghost use Rattle.std.specs.Global.{Global};
 ghost use Rattle.lp_calculus.specs.Types.{Ty};
 ghost use Rattle.lp_code.specs.Rules.{has_none};
-ghost use Rattle.lp_code.specs.Symbolic.{joined, outer, bound_index};
-ghost use Rattle.lp_verify.specs.inner.Indices.{entries_in, lowered_by, seen_in, innermost_of, innermost_in, next_of_both, next_of, merge, ListsGrow, StandFor};
+ghost use Rattle.lp_code.specs.Symbolic.{outer, bound_index};
+ghost use Rattle.lp_verify.specs.declared.types.Types.{Types};
+ghost use Rattle.lp_verify.specs.inner.FirstNumbers.{IsType};
+ghost use Rattle.lp_verify.specs.inner.Indices.{entries_in, lowered_by, seen_in, innermost_of, innermost_in, next_of_both, next_of, merge, ListsGrow, store, StandFor, AreJoined};
 
 use lp_base::Memory;
 use lp_term::TypeId;
@@ -213,7 +215,7 @@ impl Lists {
 
     pub(crate) fn one(&mut self, index: u16, of: TypeId) -> Result<Loose, Memory>
         ensures grow { OnOk result (ListsGrow self.old self.new) }
-        ensures one { IfOk result (λ loose. (T : Ty) → StandFor self.new loose (bound_index index T).loose) }
+        ensures one { IfOk result (λ loose. (x : Types) (T : Ty) → IsType x of T → StandFor (store x self.new) loose (bound_index index T).loose) }
     {
         let mut entries = Vec::new(self.alloc);
         entries.push(Entry {
@@ -239,7 +241,7 @@ impl Lists {
 
     // What is loose under an abstraction, seen from outside.
     pub(crate) fn outer(&self, loose: Loose) -> Loose
-        ensures { (ts : List (Option Ty)) → StandFor self.now loose ts → StandFor self.now result (outer ts) }
+        ensures { (x : Types) (ts : List (Option Ty)) → StandFor (store x self.now) loose ts → StandFor (store x self.now) result (outer ts) }
     {
         let from = behind(loose.from, self.innermost(loose));
         let lowered = loose.lowered.saturating_add(1);
@@ -253,7 +255,7 @@ impl Lists {
     // What is loose in one of two terms; None where an index has two types.
     pub(crate) fn joined(&mut self, left: Loose, right: Loose) -> Result<Option<Loose>, Memory>
         ensures grow { OnOk result (ListsGrow self.old self.new) }
-        ensures joined { IfOk result (λ found. IfSome found (λ loose. (ts us : List (Option Ty)) → StandFor self.old left ts → StandFor self.old right us → StandFor self.new loose (joined ts us))) }
+        ensures joined { IfOk result (λ found. (x : Types) (ts us : List (Option Ty)) → StandFor (store x self.old) left ts → StandFor (store x self.old) right us → AreJoined (store x self.new) ts us found) }
     {
         let closed_right = self.is_closed(right);
         if closed_right {

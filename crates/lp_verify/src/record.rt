@@ -1,5 +1,5 @@
 // One record at work: its instructions are run once each, in order.
-ghost use Rattle.std.specs.Prelude.{◌≡◌, ◌<◌, ◌^◌, ℕ, List, IfOk, Some, None, false, if◌then◌else◌, slice_get, option_copied, nat_lt, length};
+ghost use Rattle.std.specs.Prelude.{◌≡◌, ◌<◌, ◌^◌, ℕ, List, IfOk, OnOk, Some, None, false, if◌then◌else◌, slice_get, option_copied, nat_lt, length};
 ghost use Rattle.lp_verify.specs.Named.{was_named, HasNamed};
 ghost use Rattle.std.specs.List.{All};
 ghost use Rattle.lp_code.specs.Length.{Fits};
@@ -7,14 +7,27 @@ ghost use Rattle.lp_code.specs.Rules.{names_in};
 ghost use Rattle.lp_code.specs.States.{Captured as Start};
 ghost use Rattle.lp_verify.specs.Held.{was_set};
 ghost use Rattle.lp_verify.specs.inner.Stack.{IsFilled};
-ghost use Rattle.lp_verify.specs.inner.Indices.{ListsGrow};
-ghost use Rattle.lp_verify.specs.inner.Handed.{captured_in, types_captured, terms_captured};
+ghost use Rattle.std.specs.Prelude.{[], ◌||◌, is_some};
+ghost use Rattle.std.specs.Ordering.{nat_cmp, eq_by_cmp};
+ghost use Rattle.std.specs.List.{list_any};
+ghost use Rattle.std.specs.BTreeMap.{get, keys};
+ghost use Rattle.lp_code.specs.Steps.{is_made};
+ghost use Rattle.lp_code.specs.Symbolic.{Tables as Codes};
+ghost use Rattle.lp_code.specs.States.{State, member};
+ghost use Rattle.lp_code.specs.States as States;
+ghost use Rattle.lp_code.specs.Rules.{breaks_type};
+ghost use Rattle.lp_verify.specs.Scheme.{tables_in};
+ghost use Rattle.lp_verify.specs.inner.FirstNumbers.{TypesGrow};
+ghost use Rattle.lp_verify.specs.inner.Language.{HasLanguage};
+ghost use Rattle.lp_verify.specs.inner.Known.{type_made_in, AreAbove, AreNumbered, given_in, HasOwnTypes, KnowsHead, Knows};
+ghost use Rattle.lp_verify.specs.inner.Indices.{StoreGrows};
+ghost use Rattle.lp_verify.specs.inner.Handed.{SameTerm, IsSame, captured_in, types_captured, terms_captured};
 ghost use Rattle.lp_code.specs.Denote.{run_of, any_clause, first_state, captured_of, first_key, key_is, has_right_key};
 ghost use Rattle.lp_code.specs.Groups.{looked_key};
 ghost use Rattle.lp_verify.specs.inner.Keys.{IsKeyOf};
 ghost use Rattle.lp_verify.specs.Judged.{judged, bytes_of};
 ghost use Rattle.lp_verify.specs.inner.Told.{told, IsFirst};
-ghost use Rattle.lp_verify.specs.inner.At.{home_in, IsStarted, AreNamedBefore, HandedIn, IsRan, IsStepped};
+ghost use Rattle.lp_verify.specs.inner.At.{home_in, IsStarted, AreNamedBefore, HandedIn, KeepsTypes, kept_in, IsRan, IsStepped};
 
 use crate::arguments::Takings;
 use crate::blocks::{Blocks, Places};
@@ -80,7 +93,7 @@ pub(crate) struct Work<'a> {
 
 impl<'a> Shared<'a> {
     pub(crate) fn new(alloc: Global) -> Result<Shared<'a>, Memory>
-        ensures { IfOk result (λ shared. (n : ℕ) → was_named shared.named n ≡ false) }
+        ensures { IfOk result (λ shared. ((n : ℕ) → was_named shared.named n ≡ false) × ((t : Codes) → KeepsTypes t shared)) }
     {
         Ok(Shared {
             alloc,
@@ -123,20 +136,87 @@ impl<'a> Shared<'a> {
     }
 }
 
-// The numbers of the type variables that the code makes, ascending by register.
-fn own_types_of(alloc: Global, code: &[Instr]) -> Result<BTreeMap<u16, u64>, Memory> {
-    let mut own = BTreeMap::new(alloc);
-    for instr in code {
-        if let Instr::TyNew(made) = instr {
-            own.insert(*made, 0)?;
+// Notes the register of a type variable that the instruction makes.
+fn note_type(made: &mut BTreeMap<u16, u64>, instr: &Instr) -> Result<(), Memory>
+    ensures { OnOk result ((d : ℕ) → is_some (get nat_cmp made.new d) ≡ (member d (type_made_in instr.now) || is_some (get nat_cmp made.old d))) }
+{
+    match instr {
+        Instr::TyNew(register) => {
+            made.insert(*register, 0)?;
+            Ok(())
         }
+        _ => Ok(()),
     }
+}
+
+// The registers of the type variables that the code makes.
+fn types_made(alloc: Global, code: &[Instr]) -> Result<BTreeMap<u16, u64>, Memory>
+    ensures { IfOk result (λ made. (d : ℕ) → is_some (get nat_cmp made d) ≡ is_made type_made_in code.now d) }
+{
+    let mut made = BTreeMap::new(alloc);
+    for instr in code {
+        note_type(&mut made, instr)?;
+    }
+    Ok(made)
+}
+
+// The same as a list, which has so many.
+fn listed(alloc: Global, made: &BTreeMap<u16, u64>, count: usize) -> Result<Vec<u16>, Memory>
+    ensures list { IfOk result (λ list. list.items ≡ keys made.now) }
+    ensures has { IfOk result (λ list. (q : ℕ) → is_some (get nat_cmp made.now q) ≡ list_any (eq_by_cmp nat_cmp q) (keys made.now)) }
+{
+    let mut list = Vec::with_capacity(alloc, count)?;
+    for register in made.keys() {
+        list.push(*register)?;
+    }
+    Ok(list)
+}
+
+// The same, ascending.
+fn ascending(alloc: Global, made: &BTreeMap<u16, u64>) -> Result<Vec<u16>, Memory>
+    ensures above { IfOk result (λ list. AreAbove 0 list.items) }
+    ensures has { IfOk result (λ list. (q : ℕ) → is_some (get nat_cmp made.now q) ≡ member q list.items) }
+{
+    let count = made.len();
+    let list = listed(alloc, made, count)?;
+    Ok(list)
+}
+
+// Each register with its place.
+fn numbered(alloc: Global, registers: &[u16]) -> Result<BTreeMap<u16, u64>, Memory>
+    ensures { IfOk result (λ numbers. AreAbove 0 registers.now → AreNumbered registers.now (length registers.now) numbers) }
+{
+    let mut numbers = BTreeMap::new(alloc);
     let mut number: u64 = 0;
-    for place in own.values_mut() {
-        *place = number;
+    for register in registers {
+        numbers.insert(*register, number)?;
         number = number.saturating_add(1);
     }
-    Ok(own)
+    Ok(numbers)
+}
+
+// The numbers of the type variables that the record makes, ascending by register.
+fn own_types_of(alloc: Global, of: &Record) -> Result<BTreeMap<u16, u64>, Memory>
+    ensures { IfOk result (HasOwnTypes of.now) }
+{
+    let made = types_made(alloc, of.code.as_slice())?;
+    let registers = ascending(alloc, &made)?;
+    let numbers = numbered(alloc, registers.as_slice())?;
+    Ok(numbers)
+}
+
+// The type of a head that is a register.
+fn given_type(terms: &Registers<Built<'_>>, head: Option<RecordHead>) -> Option<TypeId>
+    ensures { result ≡ given_in terms.now head }
+{
+    match head {
+        Some(RecordHead::Register(register)) => match terms.get(register) {
+            Some(built) => Some(built.of),
+            None => None,
+        },
+        Some(RecordHead::Const(_)) => None,
+        None => None,
+    }
 }
 
 impl<'a> Work<'a> {
@@ -175,22 +255,21 @@ impl<'a> Work<'a> {
         ensures handed { shared.new.handed ≡ shared.old.handed }
         ensures lists { shared.new.lists ≡ shared.old.lists }
         ensures started { IfOk result (λ work. IsStarted shared.old.handed.items shared.old.named work) }
+        ensures grow { OnOk result (TypesGrow shared.old.types shared.new.types) }
+        ensures head { IfOk result (λ work. HasLanguage home.entry.tables.now → KeepsTypes (tables_in home.entry.tables.now) shared.old → (s : State) → s.head_types ≡ [] → s.head_arguments ≡ [] → IsSame (SameTerm (kept_in shared.old)) work.terms s.now.terms → KnowsHead (kept_in shared.new) work (home_in home.entry) s) }
     {
         let alloc = shared.alloc;
         let record = home.record;
         let code = record.code.as_slice();
         let types = shared.filled_types(home.number, record.captured_types)?;
         let terms = shared.filled_terms(home.number, record.captured)?;
-        let of = match record.head {
-            Some(RecordHead::Register(register)) => terms.get(register).map(|built| built.of),
-            _ => None,
-        };
+        let of = given_type(&terms, record.head);
         let head = HeadSoFar::new(alloc, home.tables, &mut shared.types, record.head, of)?;
         Ok(Work {
             home,
             places: Places::of(alloc, code)?,
             takings: Takings::of(alloc, code)?,
-            own_types: own_types_of(alloc, code)?,
+            own_types: own_types_of(alloc, record)?,
             place: 0,
             number: 0,
             types,
@@ -209,7 +288,7 @@ impl<'a> Work<'a> {
         instr: &'a Instr,
     ) -> Result<Option<Rule>, Memory>
         requires { Fits instr.now }
-        ensures { IfOk result (λ found. (self.old.place < 2 ^ 63 → self.old.number < 2 ^ 63 → IsFirst (told self.old shared.new.lists (was_named shared.old.named) whole instr.now) found) × ListsGrow shared.old.lists shared.new.lists × IsStepped instr.now shared.old shared.new self.old self.new found) }
+        ensures { IfOk result (λ found. (self.old.place < 2 ^ 63 → self.old.number < 2 ^ 63 → (h : States.Home) (s : State) → Knows (kept_in shared.old) self.old h s → IsFirst (told self.old shared.new.lists (was_named shared.old.named) whole (breaks_type h s instr.now) instr.now) found) × StoreGrows (kept_in shared.old) (kept_in shared.new) × IsStepped instr.now shared.old shared.new self.old self.new found) }
     {
         let typed = match self.judge(shared, whole, instr)? {
             Ok(typed) => typed,
@@ -233,9 +312,10 @@ pub(crate) fn judge_record<'a>(
     shared: &mut Shared<'a>,
     home: Home<'a>,
 ) -> Result<Option<(u64, Rule)>, Memory>
-    requires { All Fits home.record.now.code.items }
-    ensures { IfOk result (λ found. ((before : List (ℕ × Start)) → slice_get home.entry.records.now home.entry.number ≡ Some home.entry.record.now → HandedIn shared.old home.entry.records.now before → AreNamedBefore home.entry.number home.entry.records.now shared.old.named → bytes_of home.entry.record.now.code.items < 2 ^ 32
-        → IsRan home.entry.records.now shared.new before (run_of judged (home_in home.entry) any_clause (first_state home.entry.record.now (captured_of before home.entry.number)) home.entry.record.now.code.items) found)
+    requires fit { All Fits home.record.now.code.items }
+    requires language { HasLanguage home.tables.now }
+    ensures { IfOk result (λ found. ((before : List (ℕ × Start)) → slice_get home.entry.records.now home.entry.number ≡ Some home.entry.record.now → HandedIn shared.old home.entry.records.now before → KeepsTypes (tables_in home.entry.tables.now) shared.old → AreNamedBefore home.entry.number home.entry.records.now shared.old.named → bytes_of home.entry.record.now.code.items < 2 ^ 32
+        → IsRan (tables_in home.entry.tables.now) home.entry.records.now shared.new before (run_of judged (home_in home.entry) any_clause (first_state home.entry.record.now (captured_of before home.entry.number)) home.entry.record.now.code.items) found)
         × (found ≡ None → HasNamed (names_in home.entry.record.now.code.items) shared.old.named shared.new.named)) }
 {
     let mut work = Work::start(shared, home)?;

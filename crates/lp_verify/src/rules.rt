@@ -11,10 +11,14 @@ ghost use Rattle.lp_verify.specs.Listed.{listed};
 ghost use Rattle.lp_verify.specs.Held.{was_set, is_lacking};
 ghost use Rattle.lp_verify.specs.Named.{was_named};
 ghost use Rattle.lp_verify.specs.inner.Handed.{IsNamed};
-ghost use Rattle.lp_verify.specs.inner.Indices.{ListsGrow};
+ghost use Rattle.lp_verify.specs.inner.Indices.{StoreGrows};
 ghost use Rattle.lp_verify.specs.inner.Made.{IsJudged};
 ghost use Rattle.lp_verify.specs.Scheme.{tables_in};
-ghost use Rattle.lp_verify.specs.inner.Told.{reaches_past, is_loose, reads_loose, sets_again, has_wrong_count, is_off, is_out_of_order, is_fine, are_fine, names_badly, breaks_blocks, told, ArePassed, IsFirst, rule_of};
+ghost use Rattle.lp_verify.specs.inner.Told.{reaches_past, is_loose, reads_loose, sets_again, has_wrong_count, is_off, is_out_of_order, is_fine, are_fine, names_badly, breaks_blocks, told, AreKept, ArePassed, IsFirst, rule_of};
+ghost use Rattle.lp_code.specs.Rules.{breaks_type};
+ghost use Rattle.lp_code.specs.States.{State, Home};
+ghost use Rattle.lp_verify.specs.inner.Known.{Knows};
+ghost use Rattle.lp_verify.specs.inner.At.{kept_in};
 
 use crate::blocks::{is_all, is_assumption, is_left_to, is_negation};
 use crate::built::Head;
@@ -363,10 +367,11 @@ impl<'a> Work<'a> {
         instr: &Instr,
         terms: &[u16],
     ) -> Result<Option<Rule>, Memory>
-        ensures first { self.now.place < 2 ^ 63 → self.now.number < 2 ^ 63 → terms.now ≡ terms_read instr.now → ArePassed (told self.now shared.old.lists (was_named shared.old.named) whole instr.now) → IfOk result (λ found. IsFirst (told self.now shared.old.lists (was_named shared.old.named) whole instr.now) found) }
+        ensures first { self.now.place < 2 ^ 63 → self.now.number < 2 ^ 63 → terms.now ≡ terms_read instr.now → (t : Bool) → ArePassed (told self.now shared.old.lists (was_named shared.old.named) whole t instr.now) → IfOk result (λ found. IsFirst (told self.now shared.old.lists (was_named shared.old.named) whole t instr.now) found) }
         ensures named { IfOk result (λ found. found ≡ None → IsNamed (names_of instr.now) (length shared.old.handed.items) shared.old.named shared.new.named) }
         ensures handed { shared.new.handed ≡ shared.old.handed }
         ensures lists { shared.new.lists ≡ shared.old.lists }
+        ensures types { shared.new.types ≡ shared.old.types }
     {
         let index = self.breaks_index(shared, instr, terms);
         if index {
@@ -380,7 +385,11 @@ impl<'a> Work<'a> {
         if order {
             return Ok(Some(Rule::Order));
         }
-        if whole.head || self.breaks_head(shared, instr) {
+        if whole.head {
+            return Ok(Some(Rule::Head));
+        }
+        let head = self.breaks_head(shared, instr);
+        if head {
             return Ok(Some(Rule::Head));
         }
         let block = self.breaks_block(whole, instr);
@@ -407,7 +416,7 @@ impl<'a> Work<'a> {
         types: &[u16],
         terms: &[u16],
     ) -> Option<Rule>
-        ensures { types.now ≡ types_read instr.now → terms.now ≡ terms_read instr.now → MatchOption result (ArePassed (told self.now shared.now.lists (was_named shared.now.named) whole instr.now)) (λ rule. IsFirst (told self.now shared.now.lists (was_named shared.now.named) whole instr.now) (Some rule)) }
+        ensures { types.now ≡ types_read instr.now → terms.now ≡ terms_read instr.now → (t : Bool) → MatchOption result (AreKept (told self.now shared.now.lists (was_named shared.now.named) whole t instr.now)) (λ rule. IsFirst (told self.now shared.now.lists (was_named shared.now.named) whole t instr.now) (Some rule)) }
     {
         let register = self.breaks_register(whole, instr, types, terms);
         if register {
@@ -435,10 +444,11 @@ impl<'a> Work<'a> {
         whole: Whole,
         instr: &'a Instr,
     ) -> Result<Result<Typed<'a>, Rule>, Memory>
-        ensures found { IfOk result (λ found. (self.now.place < 2 ^ 63 → self.now.number < 2 ^ 63 → IsFirst (told self.now shared.new.lists (was_named shared.old.named) whole instr.now) (rule_of found)) × (rule_of found ≡ None → IsNamed (names_of instr.now) (length shared.old.handed.items) shared.old.named shared.new.named)) }
+        ensures first { IfOk result (λ found. self.now.place < 2 ^ 63 → self.now.number < 2 ^ 63 → (h : Home) (s : State) → Knows (kept_in shared.old) self.now h s → IsFirst (told self.now shared.new.lists (was_named shared.old.named) whole (breaks_type h s instr.now) instr.now) (rule_of found)) }
+        ensures named { IfOk result (λ found. rule_of found ≡ None → IsNamed (names_of instr.now) (length shared.old.handed.items) shared.old.named shared.new.named) }
         ensures handed { shared.new.handed ≡ shared.old.handed }
-        ensures made { IfOk result (λ found. IfOk found (IsJudged shared.old.lists shared.new.lists self.now.terms instr.now)) }
-        ensures grow { OnOk result (ListsGrow shared.old.lists shared.new.lists) }
+        ensures made { IfOk result (λ found. IfOk found (IsJudged (kept_in shared.old) (kept_in shared.new) self.now instr.now)) }
+        ensures grow { OnOk result (StoreGrows (kept_in shared.old) (kept_in shared.new)) }
     {
         let types = types_read(shared.alloc, instr)?;
         let terms = terms_read(shared.alloc, instr)?;
@@ -447,7 +457,8 @@ impl<'a> Work<'a> {
             return Ok(Err(rule));
         }
         let typed = self.typed(&mut shared.types, &mut shared.lists, instr)?;
-        if typed.is_ill() {
+        let ill = typed.is_ill();
+        if ill {
             return Ok(Err(Rule::Typing));
         }
         match self.broken_behind(shared, whole, instr, terms.as_slice())? {

@@ -1,8 +1,12 @@
 // The kinds and constants that code may name: those of the language, and those of an image or object.
 
-ghost use Rattle.std.specs.Prelude.{◌≡◌, IfOk, map, option_map};
-ghost use Rattle.lp_standard.specs.Schemes.{standard_schemes, entry, shape_scheme};
-ghost use Rattle.lp_verify.specs.Scheme.{tables_of, tables_in, schemes_in, image_tables, object_tables, image_arity, image_scheme, object_arity, object_scheme, type_vars_in, type_vars_of};
+ghost use Rattle.std.specs.Prelude.{◌≡◌, ◌<◌, [], IfOk, map, option_map};
+ghost use Rattle.lp_calculus.specs.Types.{con, tys};
+ghost use Rattle.lp_standard.specs.Kinds.{number};
+ghost use Rattle.lp_standard.specs.Schemes.{standard_schemes, entry, part_type, shape_type, shape_scheme};
+ghost use Rattle.lp_standard.specs.declared.shape.Shape.TheVariants.{Function};
+ghost use Rattle.lp_verify.specs.inner.Language.{IsPutIn, IsSchemePut, HasLanguage};
+ghost use Rattle.lp_verify.specs.Scheme.{scheme_in, tables_of, tables_in, schemes_in, image_tables, object_tables, image_arity, image_scheme, object_arity, object_scheme, type_vars_in, type_vars_of};
 
 use lp_base::Memory;
 use lp_code::{Image, ImageConstant, ImageKind, Object, ObjectConstant, ObjectKind};
@@ -28,55 +32,90 @@ pub(crate) struct Tables<'a> {
     language: Vec<Option<Scheme>>,
 }
 
-fn put_part(bank: &mut Bank, part: Part) -> Result<TypeId, Memory> {
+// A kind without arguments.
+fn put_plain(bank: &mut Bank, kind: Kind) -> Result<TypeId, Memory>
+    ensures { IfOk result (IsPutIn bank.old bank.new (con (number kind) (tys []))) }
+{
+    let made = put_constructor(bank, kind.number(), &[])?;
+    Ok(made)
+}
+
+fn put_part(bank: &mut Bank, part: Part) -> Result<TypeId, Memory>
+    ensures { IfOk result (IsPutIn bank.old bank.new (part_type part)) }
+{
     match part {
-        Part::Proposition => put_constructor(bank, Kind::Proposition.number(), &[]),
-        Part::Integer => put_constructor(bank, Kind::Integer.number(), &[]),
-        Part::String => put_constructor(bank, Kind::String.number(), &[]),
-        Part::Any => put_type_variable(bank, 0),
+        Part::Proposition => put_plain(bank, Kind::Proposition),
+        Part::Integer => put_plain(bank, Kind::Integer),
+        Part::String => put_plain(bank, Kind::String),
+        Part::Any => {
+            let made = put_type_variable(bank, 0)?;
+            Ok(made)
+        }
         Part::ListOfAny => {
             let item = put_type_variable(bank, 0)?;
-            put_constructor(bank, Kind::List.number(), &[item])
+            let list = put_constructor(bank, Kind::List.number(), &[item])?;
+            Ok(list)
         }
         Part::Predicate => {
             let from = put_type_variable(bank, 0)?;
             let to = put_constructor(bank, Kind::Proposition.number(), &[])?;
-            put_arrow(bank, from, to)
+            let made = put_arrow(bank, from, to)?;
+            Ok(made)
         }
     }
 }
 
-fn put_shape(bank: &mut Bank, shape: Shape) -> Result<TypeId, Memory> {
+fn put_between(bank: &mut Bank, from: Part, to: Part) -> Result<TypeId, Memory>
+    ensures { IfOk result (IsPutIn bank.old bank.new (shape_type (Function from to))) }
+{
+    let from = put_part(bank, from)?;
+    let to = put_part(bank, to)?;
+    let made = put_arrow(bank, from, to)?;
+    Ok(made)
+}
+
+fn put_shape(bank: &mut Bank, shape: Shape) -> Result<TypeId, Memory>
+    ensures { IfOk result (IsPutIn bank.old bank.new (shape_type shape)) }
+{
     match shape {
         Shape::Value(part) => put_part(bank, part),
-        Shape::Function(from, to) => {
-            let from = put_part(bank, from)?;
-            let to = put_part(bank, to)?;
-            put_arrow(bank, from, to)
-        }
+        Shape::Function(from, to) => put_between(bank, from, to),
         Shape::Operation(left, right, to) => {
             let left = put_part(bank, left)?;
-            let right = put_part(bank, right)?;
-            let to = put_part(bank, to)?;
-            let to = put_arrow(bank, right, to)?;
-            put_arrow(bank, left, to)
+            let to = put_between(bank, right, to)?;
+            let made = put_arrow(bank, left, to)?;
+            Ok(made)
         }
+    }
+}
+
+// The scheme of this type.
+fn put_scheme(bank: &mut Bank, shape: Option<Shape>) -> Result<Option<Scheme>, Memory>
+    ensures { IfOk result (IsSchemePut bank.old bank.new (option_map shape_scheme shape)) }
+{
+    match shape {
+        Some(shape) => {
+            let body = put_shape(bank, shape)?;
+            Ok(Some(Scheme {
+                type_vars: shape.type_vars(),
+                body,
+            }))
+        }
+        None => Ok(None),
     }
 }
 
 // The scheme of the language's constant of this number.
-fn put_language(bank: &mut Bank, number: u32) -> Result<Option<Scheme>, Memory> {
-    let Some(constant) = Constant::from_number(number) else {
-        return Ok(None);
-    };
-    let Some(shape) = constant.shape() else {
-        return Ok(None);
-    };
-    let body = put_shape(bank, shape)?;
-    Ok(Some(Scheme {
-        type_vars: shape.type_vars(),
-        body,
-    }))
+fn put_language(bank: &mut Bank, number: u32) -> Result<Option<Scheme>, Memory>
+    ensures { IfOk result (IsSchemePut bank.old bank.new (entry standard_schemes number)) }
+{
+    match Constant::from_number(number) {
+        Some(constant) => {
+            let put = put_scheme(bank, constant.shape())?;
+            Ok(put)
+        }
+        None => Ok(None),
+    }
 }
 
 // How many type variables a type has, where there is one.
@@ -146,7 +185,8 @@ impl<'a> Tables<'a> {
         arities: Vec<u8>,
         declared: Vec<Scheme>,
     ) -> Result<Tables<'a>, Memory>
-        ensures { IfOk result (λ tables. tables_in tables ≡ tables_of arities.items (schemes_in bank.now declared.items)) }
+        ensures tables { IfOk result (λ tables. tables_in tables ≡ tables_of arities.items (schemes_in bank.now declared.items)) }
+        ensures language { IfOk result HasLanguage }
     {
         let mut language_bank = Bank::new(alloc);
         let mut language = Vec::new(alloc);
@@ -164,7 +204,8 @@ impl<'a> Tables<'a> {
     }
 
     pub(crate) fn of_image(alloc: Global, image: &'a Image) -> Result<Tables<'a>, Memory>
-        ensures { IfOk result (λ tables. tables_in tables ≡ image_tables image.now) }
+        ensures tables { IfOk result (λ tables. tables_in tables ≡ image_tables image.now) }
+        ensures language { IfOk result HasLanguage }
     {
         let arities = image_arities(alloc, &image.kinds)?;
         let declared = image_schemes(alloc, &image.constants)?;
@@ -172,7 +213,8 @@ impl<'a> Tables<'a> {
     }
 
     pub(crate) fn of_object(alloc: Global, object: &'a Object) -> Result<Tables<'a>, Memory>
-        ensures { IfOk result (λ tables. tables_in tables ≡ object_tables object.now) }
+        ensures tables { IfOk result (λ tables. tables_in tables ≡ object_tables object.now) }
+        ensures language { IfOk result HasLanguage }
     {
         let arities = object_arities(alloc, &object.kinds)?;
         let declared = object_schemes(alloc, &object.constants)?;
@@ -205,17 +247,27 @@ impl<'a> Tables<'a> {
         }
     }
 
+    // The type of the language's constant of this number, where there is one, and the bank in which it stands.
+    fn language_scheme(&self, constant: u32) -> Option<(&Bank, Scheme)>
+        ensures { HasLanguage self.now → constant < 32 → option_map (λ p. scheme_in p.0.now p.1.type_vars p.1.body.0) result ≡ entry standard_schemes constant }
+    {
+        match self.language.get(constant as usize).copied() {
+            Some(Some(scheme)) => Some((&self.language_bank, scheme)),
+            Some(None) => None,
+            None => None,
+        }
+    }
+
     // The declared type of the constant of this number, where there is one, and the bank in which it stands.
-    pub(crate) fn scheme(&self, constant: u32) -> Option<(&Bank, Scheme)> {
-        match constant.checked_sub(FIRST_CONSTANT) {
-            Some(entry) => {
-                let scheme = self.declared.get(entry as usize)?;
-                Some((self.bank, *scheme))
-            }
-            None => {
-                let scheme = (*self.language.get(constant as usize)?)?;
-                Some((&self.language_bank, scheme))
-            }
+    pub(crate) fn scheme(&self, constant: u32) -> Option<(&Bank, Scheme)>
+        ensures { HasLanguage self.now → option_map (λ p. scheme_in p.0.now p.1.type_vars p.1.body.0) result ≡ (tables_in self.now).constants constant }
+    {
+        if constant < FIRST_CONSTANT {
+            return self.language_scheme(constant);
+        }
+        match self.declared.get((constant - FIRST_CONSTANT) as usize) {
+            Some(scheme) => Some((self.bank, *scheme)),
+            None => None,
         }
     }
 }

@@ -1,14 +1,23 @@
 // What an instruction builds, where it is well typed.
 
-ghost use Rattle.std.specs.Prelude.{◌≡◌, List, IfOk, OnOk, IfSome, Option, false, unwrap_or};
+ghost use Rattle.std.specs.Prelude.{◌≡◌, ◌∷◌, [], ◌&&◌, List, map, IfOk, OnOk, Option, Some, false, not, is_none, unwrap_or};
 ghost use Rattle.std.specs.List.{list_any};
 ghost use Rattle.lp_calculus.specs.Types.{Ty};
-ghost use Rattle.lp_code.specs.Symbolic.{Built as Put, term_in, terms_in, abstraction_of, application_of, all_joined};
-ghost use Rattle.lp_code.specs.States.{State};
+ghost use Rattle.lp_calculus.specs.Term.{Term};
+ghost use Rattle.lp_calculus.specs.Typing.{o_type};
+ghost use Rattle.lp_code.specs.Symbolic.{Built as Put, whole, type_in, types_in, term_in, terms_in, applied_type, argument_type, agree_at, innermost, abstraction_of, application_of};
+ghost use Rattle.lp_code.specs.States.{State, Home};
+ghost use Rattle.lp_code.specs.Steps.{constant_type, head_built, argument_at};
+ghost use Rattle.lp_code.specs.Rules.{has_type, built_types, applies, is_argument, have_type};
+ghost use Rattle.lp_verify.specs.declared.types.Types.{Types};
+ghost use Rattle.lp_verify.specs.declared.loose.Lists.{Lists};
 ghost use Rattle.lp_verify.specs.Held.{value_in, is_lacking};
-ghost use Rattle.lp_verify.specs.inner.Indices.{ListsGrow, StandFor};
+ghost use Rattle.lp_verify.specs.inner.FirstNumbers.{IsType, AreTypes, TypesGrow, UsesAre, UsesStay, HasBasics};
+ghost use Rattle.lp_verify.specs.inner.Stack.{Agree};
+ghost use Rattle.lp_verify.specs.inner.Indices.{ListsGrow, Store, store, StandFor};
 ghost use Rattle.lp_verify.specs.inner.Handed.{SameTerm, Alike, IsSame, closed_built};
-ghost use Rattle.lp_verify.specs.inner.Made.{IsBare, IsTermMade, IsMadeBy, is_ill, built_or};
+ghost use Rattle.lp_verify.specs.inner.Known.{IsHead, Knows};
+ghost use Rattle.lp_verify.specs.inner.Made.{AreAllJoined, type_taken, MakesTerm, IsMadeBy, is_goal_typed, is_argument_typed, is_ill, built_or};
 
 use crate::built::{Built, Head};
 use crate::loose::{Lists, Loose};
@@ -38,7 +47,7 @@ impl<'a> Typed<'a> {
     }
 
     fn fine_where(holds: bool) -> Typed<'a>
-        ensures { IsBare result }
+        ensures { (m : Store) (b : Put) → b.loose ≡ [] → b.type ≡ o_type → MakesTerm m (not holds) b result }
     {
         if holds { Typed::Fine } else { Typed::Ill }
     }
@@ -55,14 +64,20 @@ impl<'a> Typed<'a> {
 }
 
 // What a function of this type gives on terms.
-fn applied_type(types: &Types, function: TypeId, arguments: &[Built<'_>]) -> Option<TypeId> {
+fn applied_type(types: &Types, function: TypeId, arguments: &[Built<'_>]) -> Option<TypeId>
+    ensures { (T : Ty) (Us : List Ty) → IsType types.now function T → AreTypes types.now (map (λ b. b.of) arguments.now) Us → Agree (IsType types.now) result (applied_type T Us) }
+{
     let mut rest = function;
     for argument in arguments {
-        let (from, to) = types.as_arrow(rest)?;
-        if from != argument.of {
-            return None;
+        match types.as_arrow(rest) {
+            Some((from, to)) => {
+                if from.0 != argument.of.0 {
+                    return None;
+                }
+                rest = to;
+            }
+            None => return None,
         }
-        rest = to;
     }
     Some(rest)
 }
@@ -74,7 +89,7 @@ fn all_joined(
     others: &[Built<'_>],
 ) -> Result<Option<Loose>, Memory>
     ensures grow { OnOk result (ListsGrow lists.old lists.new) }
-    ensures joined { IfOk result (λ found. IfSome found (λ loose. (ts : List (Option Ty)) (bs : List Put) → StandFor lists.old first ts → Alike (SameTerm lists.old) others.now bs → StandFor lists.new loose (all_joined ts bs))) }
+    ensures joined { IfOk result (λ found. (x : Types) (ts : List (Option Ty)) (bs : List Put) → StandFor (store x lists.old) first ts → Alike (SameTerm (store x lists.old)) others.now bs → AreAllJoined (store x lists.new) ts bs found) }
 {
     let mut loose = first;
     for other in others {
@@ -87,20 +102,42 @@ fn all_joined(
 }
 
 // Whether there is a type, and it is another one.
-fn is_other(found: Option<TypeId>, of: TypeId) -> bool {
+fn is_other(found: Option<TypeId>, of: TypeId) -> bool
+    ensures { (x : Types) (o : Option Ty) (T : Ty) → Agree (IsType x) found o → IsType x of T → result ≡ not (agree_at o (Some T)) }
+{
     match found {
-        Some(found) => found != of,
+        Some(found) => found.0 != of.0,
         None => false,
     }
 }
 
+// Whether there is a type, and it is this one.
+fn has_type(found: Option<TypeId>, of: TypeId) -> bool
+    ensures { (x : Types) (o : Option Ty) (T : Ty) → Agree (IsType x) found o → IsType x of T → result ≡ has_type o T }
+{
+    match found {
+        Some(found) => found.0 == of.0,
+        None => false,
+    }
+}
+
+fn both(one: bool, other: bool) -> bool
+    ensures { result ≡ (one && other) }
+{
+    one && other
+}
+
 impl<'a> Work<'a> {
-    pub(crate) fn type_in(&self, types: &Types, register: u16) -> TypeId {
+    pub(crate) fn type_in(&self, types: &Types, register: u16) -> TypeId
+        ensures { result ≡ unwrap_or (value_in self.now.types register) types.now.proposition }
+    {
         self.types.get(register).unwrap_or(types.proposition)
     }
 
     // The type that a GET_TYPE takes, or `o`.
-    pub(crate) fn taken_type(&self, types: &Types, instr: &Instr) -> TypeId {
+    pub(crate) fn taken_type(&self, types: &Types, instr: &Instr) -> TypeId
+        ensures { result ≡ type_taken instr.now self.now.types types.now.proposition }
+    {
         match instr {
             Instr::GetType(_, of) => self.type_in(types, *of),
             _ => types.proposition,
@@ -122,13 +159,17 @@ impl<'a> Work<'a> {
         types: &mut Types,
         constant: u32,
         registers: &[u16],
-    ) -> Result<TypeId, Memory> {
+    ) -> Result<TypeId, Memory>
+        ensures grow { OnOk result (TypesGrow types.old types.new) }
+        ensures made { IfOk result (λ t. (l : Lists) (h : Home) (s : State) → Knows (store types.old l) self.now h s → list_any (is_lacking self.now.types) registers.now ≡ false → IsType types.new t (constant_type h.tables constant (types_in s.now registers.now)) × UsesAre h.tables types.new) }
+    {
         let arguments = self.types.all(types.alloc, registers)?;
         match self.home.tables.scheme(constant) {
-            Some((bank, scheme)) if usize::from(scheme.type_vars) == arguments.len() => {
-                types.of_constant(constant, bank, scheme, arguments.as_slice())
+            Some((bank, scheme)) => {
+                let of = types.of_counted(constant, bank, scheme, arguments.as_slice())?;
+                Ok(of)
             }
-            _ => Ok(types.proposition),
+            None => Ok(types.proposition),
         }
     }
 
@@ -140,11 +181,13 @@ impl<'a> Work<'a> {
         body: u16,
         of: u16,
     ) -> Result<Typed<'a>, Memory>
-        ensures { IfOk result (λ typed. (s : State) (T : Ty) → IsSame (SameTerm lists.now) self.now.terms s.now.terms → IsTermMade lists.now (abstraction_of (term_in s.now body) T) typed) }
+        ensures grow { OnOk result (TypesGrow types.old types.new × UsesStay types.old types.new) }
+        ensures made { IfOk result (λ typed. (h : Home) (s : State) → Knows (store types.old lists.now) self.now h s → MakesTerm (store types.new lists.now) (not (agree_at (innermost (term_in s.now body).loose) (Some (type_in s.now of)))) (abstraction_of (term_in s.now body) (type_in s.now of)) typed) }
     {
         let body = self.term_in(types, body);
         let from = self.type_in(types, of);
-        if is_other(lists.innermost(body.loose), from) {
+        let other = is_other(lists.innermost(body.loose), from);
+        if other {
             return Ok(Typed::Ill);
         }
         let of = types.arrow(from, body.of)?;
@@ -164,7 +207,7 @@ impl<'a> Work<'a> {
         arguments: &[u16],
     ) -> Result<Typed<'a>, Memory>
         ensures grow { OnOk result (ListsGrow lists.old lists.new) }
-        ensures made { IfOk result (λ typed. (s : State) → IsSame (SameTerm lists.old) self.now.terms s.now.terms → list_any (is_lacking self.now.terms) arguments.now ≡ false → IsTermMade lists.new (application_of (term_in s.now function) (terms_in s.now arguments.now)) typed) }
+        ensures made { IfOk result (λ typed. (h : Home) (s : State) → Knows (store types.now lists.old) self.now h s → list_any (is_lacking self.now.terms) arguments.now ≡ false → MakesTerm (store types.now lists.new) (not (applies (term_in s.now function) (terms_in s.now arguments.now))) (application_of (term_in s.now function) (terms_in s.now arguments.now)) typed) }
     {
         let function = self.term_in(types, function);
         let arguments = self.terms.all(types.alloc, arguments)?;
@@ -174,7 +217,8 @@ impl<'a> Work<'a> {
         let Some(loose) = all_joined(lists, function.loose, arguments.as_slice())? else {
             return Ok(Typed::Ill);
         };
-        if arguments.is_empty() {
+        let empty = arguments.is_empty();
+        if empty {
             return Ok(Typed::Ill);
         }
         Ok(Typed::Built(Built {
@@ -186,7 +230,7 @@ impl<'a> Work<'a> {
 
     // A variable of the type in a register.
     fn variable(&self, types: &Types, of: u16, head: Head<'a>) -> Typed<'a>
-        ensures { IsBare result }
+        ensures { (l : Lists) (h : Home) (s : State) → Knows (store types.now l) self.now h s → (t : Term) → MakesTerm (store types.now l) false (whole t (type_in s.now of)) result }
     {
         Typed::Built(Built::closed(self.type_in(types, of), head))
     }
@@ -199,7 +243,8 @@ impl<'a> Work<'a> {
         instr: &'a Instr,
     ) -> Result<Typed<'a>, Memory>
         ensures grow { OnOk result (ListsGrow lists.old lists.new) }
-        ensures made { IfOk result (IsMadeBy lists.old lists.new self.now.terms instr.now) }
+        ensures types { OnOk result (TypesGrow types.old types.new) }
+        ensures made { IfOk result (λ typed. is_goal_typed instr.now ≡ false → is_argument_typed instr.now ≡ false → IsMadeBy (store types.old lists.old) (store types.new lists.new) self.now instr.now typed) }
     {
         match instr {
             Instr::New(_, of) => Ok(self.variable(types, *of, Head::Own)),
@@ -235,18 +280,51 @@ impl<'a> Work<'a> {
         }
     }
 
+    // A variable of the head's argument of this number.
+    fn own_argument(&self, types: &Types, number: u8) -> Typed<'a>
+        ensures { (l : Lists) (h : Home) (s : State) (t : Term) → IsHead types.now self.now.head h s → MakesTerm (store types.now l) (is_none (argument_type (head_built h s).type number)) (whole t (argument_at h s number)) result }
+    {
+        match self.head.argument_type(types, number) {
+            Some(of) => Typed::Built(Built::closed(of, Head::Own)),
+            None => Typed::Ill,
+        }
+    }
+
     // Whether the head's argument of this number has the type.
     fn is_argument(&self, types: &Types, number: u8, of: TypeId) -> Typed<'a>
-        ensures { IsBare result }
+        ensures { (l : Lists) (h : Home) (s : State) (T : Ty) (b : Put) → IsHead types.now self.now.head h s → IsType types.now of T → b.loose ≡ [] → b.type ≡ o_type → MakesTerm (store types.now l) (not (is_argument h s number T)) b result }
     {
-        Typed::fine_where(self.head.argument_type(types, number) == Some(of))
+        let found = self.head.argument_type(types, number);
+        let holds = has_type(found, of);
+        Typed::fine_where(holds)
     }
 
     // Whether both registers have the type.
     fn have_type(&self, types: &Types, left: u16, right: u16, of: TypeId) -> Typed<'a>
-        ensures { IsBare result }
+        ensures { (l : Lists) (h : Home) (s : State) (T : Ty) (b : Put) → Knows (store types.now l) self.now h s → IsType types.now of T → b.loose ≡ [] → b.type ≡ o_type → MakesTerm (store types.now l) (not (have_type s (left ∷ right ∷ []) T)) b result }
     {
-        Typed::fine_where(self.term_in(types, left).of == of && self.term_in(types, right).of == of)
+        let one = self.term_in(types, left).of.0 == of.0;
+        let other = self.term_in(types, right).of.0 == of.0;
+        Typed::fine_where(both(one, other))
+    }
+
+    // Whether the goal has type `o`.
+    fn is_goal(&self, types: &Types, goal: u16) -> Typed<'a>
+        ensures { (l : Lists) (h : Home) (s : State) (b : Put) → Knows (store types.now l) self.now h s → b.loose ≡ [] → b.type ≡ o_type → MakesTerm (store types.now l) (not (have_type s (goal ∷ []) o_type)) b result }
+    {
+        let holds = self.term_in(types, goal).of.0 == types.proposition.0;
+        Typed::fine_where(holds)
+    }
+
+    // Whether a constant of this type on terms is of type `o`.
+    fn is_call(&self, types: &Types, of: TypeId, terms: &[u16]) -> Result<Typed<'a>, Memory>
+        ensures { IfOk result (λ typed. (l : Lists) (h : Home) (s : State) (T : Ty) (b : Put) → IsSame (SameTerm (store types.now l)) self.now.terms s.now.terms → HasBasics types.now → list_any (is_lacking self.now.terms) terms.now ≡ false → IsType types.now of T → b.loose ≡ [] → b.type ≡ o_type
+            → MakesTerm (store types.now l) (not (has_type (applied_type T (built_types (terms_in s.now terms.now))) o_type)) b typed) }
+    {
+        let terms = self.terms.all(types.alloc, terms)?;
+        let goal = applied_type(types, of, terms.as_slice());
+        let holds = has_type(goal, types.proposition);
+        Ok(Typed::fine_where(holds))
     }
 
     // What comes of the types of an argument of the head.
@@ -257,13 +335,11 @@ impl<'a> Work<'a> {
         instr: &'a Instr,
     ) -> Result<Typed<'a>, Memory>
         ensures grow { OnOk result (ListsGrow lists.old lists.new) }
-        ensures made { IfOk result (IsMadeBy lists.old lists.new self.now.terms instr.now) }
+        ensures types { OnOk result (TypesGrow types.old types.new) }
+        ensures made { IfOk result (λ typed. is_goal_typed instr.now ≡ false → IsMadeBy (store types.old lists.old) (store types.new lists.new) self.now instr.now typed) }
     {
         match instr {
-            Instr::GetVar(number, _) => match self.head.argument_type(types, *number) {
-                Some(of) => Ok(Typed::Built(Built::closed(of, Head::Own))),
-                None => Ok(Typed::Ill),
-            },
+            Instr::GetVar(number, _) => Ok(self.own_argument(types, *number)),
             Instr::Get(number, register) => {
                 let of = self.term_in(types, *register).of;
                 Ok(self.is_argument(types, *number, of))
@@ -286,16 +362,16 @@ impl<'a> Work<'a> {
         instr: &'a Instr,
     ) -> Result<Typed<'a>, Memory>
         ensures grow { OnOk result (ListsGrow lists.old lists.new) }
-        ensures made { IfOk result (IsMadeBy lists.old lists.new self.now.terms instr.now) }
+        ensures types { OnOk result (TypesGrow types.old types.new) }
+        ensures made { IfOk result (IsMadeBy (store types.old lists.old) (store types.new lists.new) self.now instr.now) }
     {
         match instr {
             Instr::Call(constant, arguments, terms) => {
                 let of = self.constant_type(types, *constant, arguments.as_slice())?;
-                let terms = self.terms.all(types.alloc, terms.as_slice())?;
-                let goal = applied_type(types, of, terms.as_slice());
-                Ok(Typed::fine_where(goal == Some(types.proposition)))
+                let call = self.is_call(types, of, terms.as_slice())?;
+                Ok(call)
             }
-            Instr::CallTerm(goal) => Ok(self.have_type(types, *goal, *goal, types.proposition)),
+            Instr::CallTerm(goal) => Ok(self.is_goal(types, *goal)),
             Instr::Equal(of, left, right) | Instr::Is(of, left, right) => {
                 let of = self.type_in(types, *of);
                 Ok(self.have_type(types, *left, *right, of))

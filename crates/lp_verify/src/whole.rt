@@ -1,10 +1,11 @@
 // The rules of a record as a whole.
 
-ghost use Rattle.std.specs.Prelude.{◌≡◌, ◌||◌, IfOk, Some, nat_lt, not};
+ghost use Rattle.std.specs.Prelude.{◌≡◌, ◌||◌, IfOk, Some, true, nat_lt, not};
 ghost use Rattle.lp_verify.specs.Named.{was_named};
 ghost use Rattle.lp_code.specs.Denote.{has_neck, ends_with_proceed, head_passes, is_known_head};
 ghost use Rattle.lp_verify.specs.inner.Told.{IsFirst, broken_whole};
 ghost use Rattle.lp_verify.specs.inner.At.{IsNoWhole, IsJudgedWhole, home_in, starts_badly};
+ghost use Rattle.lp_verify.specs.inner.Known.{HeadIsLow};
 ghost use Rattle.lp_verify.specs.inner.Sides.{is_proceed};
 
 use crate::built::Head;
@@ -120,7 +121,9 @@ impl<'a> Work<'a> {
     }
 
     // Whether the head is a predicate that clauses may have.
-    fn has_fine_head(&self, shared: &Shared<'a>) -> bool {
+    fn has_fine_head(&self, shared: &Shared<'a>) -> bool
+        ensures { result ≡ true → HeadIsLow (home_in self.now.home) }
+    {
         match self.home.record.head {
             None => true,
             Some(RecordHead::Const(constant)) => match self.home.tables.scheme(constant) {
@@ -130,10 +133,11 @@ impl<'a> Work<'a> {
                 None => false,
             },
             Some(RecordHead::Register(register)) => {
+                if register >= self.home.record.captured {
+                    return false;
+                }
                 let built = self.term_in(&shared.types, register);
-                register < self.home.record.captured
-                    && matches!(built.head, Head::Bound)
-                    && shared.types.ends_in_o(built.of)
+                matches!(built.head, Head::Bound) && shared.types.ends_in_o(built.of)
             }
         }
     }
@@ -154,11 +158,12 @@ impl<'a> Work<'a> {
     {
         let record = self.home.record;
         let has_right_key = self.has_right_key(shared.alloc)?;
+        let fine = self.has_fine_head(shared);
         Ok(Whole {
             register: starts_with_too_many(record),
             constant: !self.has_known_head(),
             order: !has_neck(record.code.as_slice()),
-            head: !self.has_fine_head(shared),
+            head: !fine,
             block: !ends_with_proceed(record.code.as_slice()),
             clause: self.breaks_start(shared),
             key: !has_right_key,

@@ -20,16 +20,16 @@ use Rattle.lp_verify.specs.declared.registers.Registers.{Registers}
 use Rattle.lp_verify.specs.Held.{value_in}
 use Rattle.lp_verify.specs.Named.{was_named}
 use Rattle.lp_verify.specs.declared.loose.Loose.{Loose}
-use Rattle.lp_verify.specs.declared.loose.Lists.{Lists}
 use Rattle.lp_verify.specs.inner.Stack.{Agree}
-use Rattle.lp_verify.specs.inner.Indices.{StandFor}
+use Rattle.lp_verify.specs.inner.FirstNumbers.{IsType}
+use Rattle.lp_verify.specs.inner.Indices.{Store, StandFor}
 
--- what is kept agrees with what stands there: of a type nothing is looked at, of a term its loose indices
-abbrev pub SameType : TypeId → Ty → Type 0
-SameType t T = Unit {0}
+-- what is kept agrees with what stands there: types, and of a term its type and its loose indices
+abbrev pub SameType : Store → TypeId → Ty → Type 0
+SameType l t T = IsType l.types t T
 
-abbrev pub SameTerm : Lists → kept_built.Built → Built → Type 0
-SameTerm l t b = StandFor l t.loose b.loose
+abbrev pub SameTerm : Store → kept_built.Built → Built → Type 0
+SameTerm l t b = StandFor l t.loose b.loose × IsType l.types t.of b.type
 
 -- registers hold what agrees
 abbrev pub IsSame : {T B : Type 0} → (T → B → Type 0) → Registers T → List (Option B) → Type 0
@@ -101,8 +101,8 @@ abbrev pub Alike : {T B : Type 0} → (T → B → Type 0) → List T → List B
 Alike R ts bs = (r : ℕ) → Agree R (slice_get ts r) (slice_get bs r)
 
 -- what is kept for each record is what the definition hands to it: it was named, is an assumed record that starts with as many, and its lists are short
-pub record AreHanded (l : Lists) (all : List Record) (hs : List kept_captured.Captured) (m : BTreeMap ℕ ℕ) (handed : List (ℕ × Captured)) : Type 0 where
-  pub types_alike : (n : ℕ) → Alike SameType (types_captured (captured_in hs m n)) (captured_of handed n).types
+pub record AreHanded (l : Store) (all : List Record) (hs : List kept_captured.Captured) (m : BTreeMap ℕ ℕ) (handed : List (ℕ × Captured)) : Type 0 where
+  pub types_alike : (n : ℕ) → Alike (SameType l) (types_captured (captured_in hs m n)) (captured_of handed n).types
   pub terms_alike : (n : ℕ) → Alike (SameTerm l) (terms_captured (captured_in hs m n)) (captured_of handed n).terms
   pub are_named : (n : ℕ) → was_named m n ≡ member n (map (λ (a : ℕ × Captured). a.0) handed)
   pub are_kept : (n p : ℕ) → get nat_cmp m n ≡ Some p → p < length hs

@@ -1,7 +1,10 @@
 -- Loose indices as they are kept: ascending lists that several terms share, each seen from an entry on and lowered by a number.
-use Rattle.std.specs.Prelude.{◌≡◌, ◌<◌, ◌+◌, ◌-◌, ◌^◌, ℕ, zero, suc, nat_eq, nat_lt, if◌then◌else◌, List, [], ◌∷◌, ◌++◌, map, drop, Option, Some, None, slice_get, option_map, Vec}
+use Rattle.std.specs.Prelude.{◌≡◌, ◌<◌, ◌+◌, ◌-◌, ◌^◌, ℕ, zero, suc, nat_eq, nat_lt, true, false, if◌then◌else◌, List, [], ◌∷◌, ◌++◌, map, drop, Option, Some, None, slice_get, option_map, Vec}
 use Rattle.std.specs.Global.{Global}
 use Rattle.lp_calculus.specs.Types.{Ty}
+use Rattle.lp_code.specs.Symbolic.{agree, joined}
+use Rattle.lp_verify.specs.declared.types.Types.{Types}
+use Rattle.lp_verify.specs.inner.FirstNumbers.{AreTypes, TypesGrow}
 use Rattle.lp_term.specs.declared.node.TypeId.{TypeId}
 use Rattle.lp_verify.specs.declared.loose.Entry.{Entry}
 use Rattle.lp_verify.specs.declared.loose.Loose.{Loose}
@@ -69,14 +72,40 @@ abbrev pub AreLow : List Entry → Type 0
 AreLow [] = Unit {0}
 AreLow (e ∷ es) = (e.index < 2 ^ 16) × AreLow es
 
--- entries stand for loose indices: each entry for one, raised by what it is lowered by
-abbrev pub IsSeen : Lists → Loose → List (Option Ty) → Type 0
-IsSeen l x ts = (indices (entries_in l x) ≡ map (λ n. n + x.lowered) (places_from 0 ts)) × AreLow (entries_in l x)
+-- types and lists as they are kept
+pub record Store : Type 0 where
+  pub types : Types
+  pub lists : Lists
+
+abbrev pub store : Types → Lists → Store
+store x l = record { types = x; lists = l }
+
+-- the types of entries, and those of a list with a place for each index
+abbrev pub types_of : List Entry → List TypeId
+types_of es = map (λ (e : Entry). e.of) es
+
+abbrev pub types_there : {A : Type 0} → List (Option A) → List A
+types_there [] = []
+types_there (None ∷ xs) = types_there xs
+types_there (Some x ∷ xs) = x ∷ types_there xs
+
+-- entries stand for loose indices: each entry for one, raised by what it is lowered by, with its type
+abbrev pub IsSeen : Store → Loose → List (Option Ty) → Type 0
+IsSeen m x ts =
+    (indices (entries_in m.lists x) ≡ map (λ n. n + x.lowered) (places_from 0 ts)) × AreLow (entries_in m.lists x) × AreTypes m.types (types_of (entries_in m.lists x)) (types_there ts)
 
 -- lists were put
 abbrev pub ListsGrow : (old new : Lists) → Type 0
 ListsGrow old new = (more : List (Vec Entry Global)) × (new.lists.items ≡ old.lists.items ++ more)
 
--- the same, however many lists are put
-abbrev pub StandFor : Lists → Loose → List (Option Ty) → Type 0
-StandFor l x ts = (m : Lists) → ListsGrow l m → IsSeen m x ts
+abbrev pub StoreGrows : (old new : Store) → Type 0
+StoreGrows old new = ListsGrow old.lists new.lists × TypesGrow old.types new.types
+
+-- the same, however many types and lists are put
+abbrev pub StandFor : Store → Loose → List (Option Ty) → Type 0
+StandFor l x ts = (m : Store) → StoreGrows l m → IsSeen m x ts
+
+-- what comes of two that are joined: nothing where an index has two types
+abbrev pub AreJoined : Store → (left right : List (Option Ty)) → Option Loose → Type 0
+AreJoined m ts us None = agree ts us ≡ false
+AreJoined m ts us (Some x) = (agree ts us ≡ true) × StandFor m x (joined ts us)

@@ -4,6 +4,8 @@ use Rattle.lp_code.specs.declared.instruction.Instr.{Instr}
 use Rattle.lp_code.specs.declared.instruction.Instr.TheVariants as on
 use Rattle.lp_code.specs.Length.{length_of}
 use Rattle.lp_code.specs.Operands.{type_set, term_set}
+use Rattle.lp_calculus.specs.Types.{Ty}
+use Rattle.lp_code.specs.Symbolic.{type_in}
 use Rattle.lp_code.specs.States.{Captured, State}
 use Rattle.lp_code.specs.Rules.{names_of}
 
@@ -13,6 +15,7 @@ pub record Outline : Type 0 where
   pub terms_set : List ℕ
   pub in_body : Bool
   pub types : ℕ
+  pub taken : List Ty
   pub arguments : ℕ
   pub named : List ℕ
   pub assumed : List (ℕ × Captured)
@@ -24,6 +27,7 @@ outline s = record {
   terms_set = s.terms_set;
   in_body = s.in_body;
   types = length s.head_types;
+  taken = s.head_types;
   arguments = length s.head_arguments;
   named = map (λ a. a.0) s.assumed;
   assumed = s.assumed;
@@ -52,13 +56,19 @@ abbrev pub with_more : {A : Type 0} → List A → (more : List A) → List A
 with_more ns [] = ns
 with_more ns (m ∷ ms) = ns ++ m ∷ ms
 
-abbrev pub outline_behind : Instr → (handed : List (ℕ × Captured)) → Outline → Outline
-outline_behind i cs o = record {
+-- the type that an instruction takes for the head
+abbrev pub taken_by : State → Instr → List Ty
+taken_by s (on.GetType j t) = type_in s.now t ∷ []
+taken_by s i = []
+
+abbrev pub outline_behind : Instr → (handed : List (ℕ × Captured)) → (taken : List Ty) → Outline → Outline
+outline_behind i cs us o = record {
   place = o.place + length_of i;
   types_set = o.types_set ++ type_set i;
   terms_set = o.terms_set ++ term_set i;
   in_body = body_behind i o.in_body;
   types = types_behind i o.types;
+  taken = with_more o.taken us;
   arguments = arguments_behind i o.arguments;
   named = with_more o.named (names_of i);
   assumed = with_more o.assumed cs;

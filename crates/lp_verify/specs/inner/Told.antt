@@ -18,6 +18,7 @@ use Rattle.lp_verify.specs.declared.loose.Entry.{Entry}
 use Rattle.lp_verify.specs.declared.loose.Lists.{Lists}
 use Rattle.lp_verify.specs.declared.registers.Registers.{Registers}
 use Rattle.lp_verify.specs.Held.{was_set, is_lacking, value_in}
+use Rattle.lp_verify.specs.inner.Reads.{reads_unset}
 use Rattle.lp_verify.specs.inner.Indices.{entries_in}
 use Rattle.lp_verify.specs.Scheme.{tables_in, type_vars_of}
 use Rattle.lp_verify.specs.inner.Sides.{sides_in, first_end_of, nests_badly}
@@ -25,10 +26,6 @@ use Rattle.lp_verify.specs.inner.Sides.{sides_in, first_end_of, nests_badly}
 -- the numbers of registers, where a record has so many
 abbrev pub reaches_past : (types registers : ℕ) → Instr → Bool
 reaches_past m n i = list_any (nat_le m) (types_read i ++ type_set i) || list_any (nat_le n) (terms_read i ++ term_set i)
-
--- what holds nothing
-abbrev pub reads_unset : (types terms : ℕ → Bool) → Instr → Bool
-reads_unset f g i = list_any f (types_read i) || list_any g (terms_read i)
 
 -- a term with a loose index, where it stands alone
 abbrev pub loose_entries : Lists → Option kept_built.Built → List Entry
@@ -101,9 +98,12 @@ pub record Broken : Type 0 where
   pub unset : Bool
   pub set : Bool
   pub constant : Bool
+  pub typing : Bool
   pub index : Bool
   pub term : Bool
   pub order : Bool
+  -- of the record as a whole
+  pub head : Bool
   pub block : Bool
   pub clause : Bool
   pub key : Bool
@@ -113,6 +113,7 @@ breaks b rule.Register = b.register
 breaks b rule.Unset = b.unset
 breaks b rule.Set = b.set
 breaks b rule.Constant = b.constant
+breaks b rule.Typing = b.typing
 breaks b rule.Index = b.index
 breaks b rule.Term = b.term
 breaks b rule.Order = b.order
@@ -121,18 +122,21 @@ breaks b rule.Clause = b.clause
 breaks b rule.Key = b.key
 breaks b r = false
 
--- the judged rules before those on types are kept
+-- the judged rules before the one on types are kept, and this one
+abbrev pub AreKept : Broken → Type 0
+AreKept b = (b.register ≡ false) × (b.unset ≡ false) × (b.set ≡ false) × (b.constant ≡ false)
+
 abbrev pub ArePassed : Broken → Type 0
-ArePassed b = (b.register ≡ false) × (b.unset ≡ false) × (b.set ≡ false) × (b.constant ≡ false)
+ArePassed b = AreKept b × (b.typing ≡ false)
 
 -- what is told where these are broken: a rule, before which none of them is broken, or none
 abbrev pub IsFirst : Broken → Option Rule → Type 0
-IsFirst b None = ArePassed b × (b.index ≡ false) × (b.term ≡ false) × (b.order ≡ false) × (b.block ≡ false) × (b.clause ≡ false) × (b.key ≡ false)
+IsFirst b None = ArePassed b × (b.index ≡ false) × (b.term ≡ false) × (b.order ≡ false) × (b.block ≡ false) × (b.clause ≡ false) × (b.key ≡ false) × (b.head ≡ false)
 IsFirst b (Some rule.Register) = b.register ≡ true
 IsFirst b (Some rule.Unset) = (b.register ≡ false) × (b.unset ≡ true)
 IsFirst b (Some rule.Set) = (b.register ≡ false) × (b.unset ≡ false) × (b.set ≡ true)
 IsFirst b (Some rule.Constant) = (b.register ≡ false) × (b.unset ≡ false) × (b.set ≡ false) × (b.constant ≡ true)
-IsFirst b (Some rule.Typing) = ArePassed b
+IsFirst b (Some rule.Typing) = AreKept b × (b.typing ≡ true)
 IsFirst b (Some rule.Index) = ArePassed b × (b.index ≡ true)
 IsFirst b (Some rule.Term) = ArePassed b × (b.index ≡ false) × (b.term ≡ true)
 IsFirst b (Some rule.Order) = ArePassed b × (b.index ≡ false) × (b.term ≡ false) × (b.order ≡ true)
@@ -148,23 +152,25 @@ rule_of (Err r) = Some r
 
 -- those that a record breaks as a whole
 abbrev pub broken_whole : Whole → Broken
-broken_whole w = record { register = w.register; unset = false; set = false; constant = w.constant; index = false; term = false; order = w.order; block = w.block; clause = w.clause; key = w.key }
+broken_whole w = record { register = w.register; unset = false; set = false; constant = w.constant; typing = false; index = false; term = false; order = w.order; head = w.head; block = w.block; clause = w.clause; key = w.key }
 
 -- a side that should have ended is open, or blocks do not nest
 abbrev pub breaks_blocks : Work → Instr → Bool
 breaks_blocks w i =
     nat_le (first_end_of (reverse w.blocks.frames.items)) w.place || nests_badly w.place (get nat_cmp w.places.jumps) (nat_eq (w.number + 1) (length w.home.record.now.code.items)) (sides_in w.blocks.frames.items) i
 
--- those that are broken before an instruction, where these lists were put and these records named
-abbrev pub told : Work → Lists → (named : ℕ → Bool) → Whole → Instr → Broken
-told w l f x i = record {
+-- those that are broken before an instruction, where these lists were put and these records named, and the rule on types is broken or not
+abbrev pub told : Work → Lists → (named : ℕ → Bool) → Whole → (typing : Bool) → Instr → Broken
+told w l f x t i = record {
   register = x.register || reaches_past w.home.record.now.types w.home.record.now.registers i;
   unset = reads_unset (is_lacking w.types) (is_lacking w.terms) i;
   set = sets_again (was_set w.types) (was_set w.terms) i;
   constant = x.constant || has_wrong_count (tables_in w.home.tables.now) i;
+  typing = t;
   index = reads_loose l w.terms i;
   term = breaks_term i;
   order = x.order || is_out_of_order w.in_body (length w.head.types.items) w.head.arguments i;
+  head = x.head;
   block = x.block || breaks_blocks w i;
   clause = x.clause || names_badly w.home.number w.home.records.now w.home.record.now.program f i;
   key = x.key;

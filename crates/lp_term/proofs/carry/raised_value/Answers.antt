@@ -16,7 +16,7 @@ returns-then-is_known_below-clause-made c = (c.requires.value, shift_unchanged c
 
 pub returns-in_default-clause-made : goal.returns-in_default-clause-made
 returns-in_default-clause-made c =
-    recalled c.args.bank.now (values c.args.memo.now) c.requires.known (record { id = c.args.value; depth = 0; change = Raise c.args.depth }) c.recall.result c.recall.ensures
+    recalled c.requires.known.0 c.args.bank.now (values c.args.memo.now) c.requires.known.1 (record { id = c.args.value; depth = 0; change = Raise c.args.depth }) c.recall.result c.recall.ensures
 
 pub raise-requires-clause-fits : goal.raise-requires-clause-fits
 raise-requires-clause-fits c = transport (Everywhere (FitsRaised c.args.depth) 0) (sym c.in-Index.ensures.tree) c.requires.fits

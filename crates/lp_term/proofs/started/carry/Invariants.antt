@@ -9,10 +9,10 @@ use Rattle.lp_term.proofs.started.carry.Given as goal
 abbrev pub invariant-moves : goal.invariant-moves
 invariant-moves l = record {
   kept : Extends l.fn.bank l.bank;
-  known : All (IsKnown l.bank) (values l.memo);
-  top : IsStarted l.bank l.top;
-  waits : AwaitsValue l.bank (value l.fn.bank l.fn.place) l.waiting.items (value l.bank l.top.place);
+  known : All (IsKnown l.given l.bank) (values l.memo);
+  top : IsStarted l.given l.bank l.top;
+  waits : AwaitsValue l.given l.bank (value l.given l.fn.bank l.fn.place) l.waiting.items (value l.given l.bank l.top.place);
 }
 
 abbrev pub decreases-moves : goal.decreases-moves
-decreases-moves l = all_toil l.bank l.waiting.items + toil l.bank l.top
+decreases-moves l = all_toil l.given l.bank l.waiting.items + toil l.given l.bank l.top

@@ -6,7 +6,7 @@ use Rattle.lp_verify.proofs.Names.{record_named}
 use Rattle.lp_verify.proofs.judging.judge.Goals as goal
 
 pub loop-record-init : goal.loop-record-init
-loop-record-init c = (refl, λ short. none_yet (tables_in c.args.tables.now) c.args.records.now c.in_ok-shared.shared c.in_ok-shared.ensures, λ n. c.in_ok-shared.ensures n)
+loop-record-init c = (refl, λ short. none_yet (tables_in c.args.tables.now) c.args.records.now c.in_ok-shared.shared c.in_ok-shared.ensures.0 (c.in_ok-shared.ensures.1 (tables_in c.args.tables.now)), λ n. c.in_ok-shared.ensures.0 n)
 
 pub loop-record-preserved : goal.loop-record-preserved
 loop-record-preserved c =
@@ -21,7 +21,7 @@ loop-record-preserved c =
       grind arith,
       λ short.
           record_passed t all x y n c.loop-record.number c.record-item.result inv.0 c.loop-record-test.true c.record-item.is short (inv.1 short)
-          (subst (IsRecordRan t all x y c.loop-record.number c.record-item.result) c.in_default.is (λ before there given s. c.in_ok-at.ensures.0 before there given named s)),
+          (subst (IsRecordRan t all x y c.loop-record.number c.record-item.result) c.in_default.is (λ before there given keeps s. c.in_ok-at.ensures.0 before there given keeps named s)),
       record_named all n c.record-item.result m y.named c.loop-record-test.true c.record-item.is inv.2 (c.in_ok-at.ensures.1 c.in_default.is),
     )
 
@@ -37,7 +37,7 @@ returns-in-Some c =
     let named : AreNamedBefore c.loop-record.number all m = subst (λ k. AreNamedBefore k all m) (sym inv.0) inv.2 in
     λ short.
     record_refused t all x y n c.loop-record.number c.record-item.result c.in-Some.at c.as_offset.result c.in-Some.rule inv.0 c.loop-record-test.true c.record-item.is short (inv.1 short)
-    (subst (IsRecordRan t all x y c.loop-record.number c.record-item.result) c.in-Some.is (λ before there given s. c.in_ok-at.ensures.0 before there given named s)) c.as_offset.ensures
+    (subst (IsRecordRan t all x y c.loop-record.number c.record-item.result) c.in-Some.is (λ before there given keeps s. c.in_ok-at.ensures.0 before there given keeps named s)) c.as_offset.ensures
 
 pub returns : goal.returns
 returns c =

@@ -2,7 +2,7 @@ use Rattle.std.proofs.Common.{◌∙◌, drop, ap, sym}
 use Rattle.std.specs.Prelude.{option_copied, slice_get}
 use Rattle.std.proofs.Math.Seq.{drop-nil}
 use Rattle.lp_verify.specs.inner.Indices.{items_of}
-use Rattle.lp_verify.proofs.HandedOn.{copied_at}
+use Rattle.lp_verify.proofs.Looked.{copied_at}
 use Rattle.lp_verify.proofs.loose.Lists.entries.Goals as goal
 
 pub returns-in-Some : goal.returns-in-Some

@@ -1,6 +1,6 @@
 use Rattle.std.proofs.Common.{◌∙◌, ap, sym}
 use Rattle.std.specs.Prelude.{option_and_then, option_copied, slice_get}
-use Rattle.lp_verify.proofs.HandedOn.{copied_at}
+use Rattle.lp_verify.proofs.Looked.{copied_at}
 use Rattle.lp_verify.proofs.record.Shared.captured.Goals as goal
 
 pub returns-in-Some : goal.returns-in-Some
