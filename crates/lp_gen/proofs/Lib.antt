@@ -4,6 +4,13 @@ mod TypePut
 mod TermPut
 mod GoalPut
 mod StepPut
+mod VariablePut
+mod Registers
+mod Courses
+mod LooseOf
+mod AroundSet
+mod TermListed
+mod ConstantTypes
 mod Denoting
 mod Goals
 mod Arguments

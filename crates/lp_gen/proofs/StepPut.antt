@@ -1,5 +1,5 @@
 -- The steps of a term that were put: the stack that they make stands in the registers.
-use Rattle.std.proofs.Common.{◌≡◌, ◌∙◌, ◌<◌, ℕ, zero, suc, ◌+◌, ◌-◌, List, [], ◌∷◌, ◌++◌, append_assoc, map, length, take, drop, false, Option, Some, None, ap, refl, sym, subst, arith, true≢false}
+use Rattle.std.proofs.Common.{◌≡◌, ◌∙◌, ◌<◌, ℕ, zero, suc, ◌+◌, ◌-◌, List, [], ◌∷◌, ◌++◌, append_assoc, map, length, take, drop, Bool, false, Option, Some, None, ap, refl, sym, subst, arith, true≢false}
 use Rattle.std.specs.Prelude.{All, is_none, slice_index_or, sum_by, unwrap_or}
 use Rattle.std.specs.List.{list_any}
 use Rattle.std.proofs.lemmas.List.{length-take}
@@ -25,7 +25,8 @@ use Rattle.lp_gen.specs.declared.term_steps.TermStep.TheVariants as on
 use Rattle.lp_gen.specs.inner.Reading.{read}
 use Rattle.lp_gen.specs.inner.Works.{last_of, first_of}
 use Rattle.lp_gen.specs.inner.Running.{HasRoom, Moves, IsTermPut, IsTypePut, built_at, AreParts, ApplicationPut, IsBody, AbstractionPut}
-use Rattle.lp_gen.specs.inner.TermSteps.{last_built, before_last, step_built, IsFine, steps_built, AreFine, StandIn, StepsPut, TermOfSteps}
+use Rattle.lp_gen.specs.inner.Listing.{plain_step}
+use Rattle.lp_gen.specs.inner.TermSteps.{Stack, stack, last_built, before_last, step_built, IsFine, steps_built, AreFine, StandIn, StepsPut, TermOfSteps}
 use Rattle.lp_gen.proofs.Denoting.{or_none, room_less, room_front}
 use Rattle.lp_gen.proofs.TermPut.{then_moves}
 
@@ -109,19 +110,19 @@ all_first n (suc k) [] a = a
 all_first n (suc k) (r ∷ rs) a = All-cons (λ r. r < n) r (take k rs) (All-head (λ r. r < n) r rs a) (all_first n k rs (All-tail (λ r. r < n) r rs a))
 
 -- one step more
-built_more : (b : Nodes) (h : Home) (xs : List (Option Built)) (os : List TermStep) (o : TermStep) (bs : List Built) →
-    steps_built b h xs (os ++ o ∷ []) bs ≡ step_built b h xs o (steps_built b h xs os bs)
-built_more b h xs [] o bs = refl
-built_more b h xs (p ∷ os) o bs = built_more b h xs os o (step_built b h xs p bs)
+pub built_more : (b : Nodes) (h : Home) (os : List TermStep) (o : TermStep) (z : Stack) →
+    steps_built h (map (plain_step b) (os ++ o ∷ [])) z ≡ step_built h (plain_step b o) (steps_built h (map (plain_step b) os) z)
+built_more b h [] o z = refl
+built_more b h (p ∷ os) o z = built_more b h os o (step_built h (plain_step b p) z)
 
-fine_parts : (b : Nodes) (h : Home) (v n : ℕ) (xs : List (Option Built)) (os : List TermStep) (o : TermStep) (bs : List Built) → AreFine b h v n xs (os ++ o ∷ []) bs →
-    AreFine b h v n xs os bs × IsFine b h v n xs o (steps_built b h xs os bs)
-fine_parts b h v n xs [] o bs a = (tt, a.0)
-fine_parts b h v n xs (p ∷ os) o bs a = let w = fine_parts b h v n xs os o (step_built b h xs p bs) a.1 in ((a.0, w.0), w.1)
+pub fine_parts : (b : Nodes) (h : Home) (v n : ℕ) (i : Bool) (os : List TermStep) (o : TermStep) (z : Stack) → AreFine h v n i (map (plain_step b) (os ++ o ∷ [])) z →
+    AreFine h v n i (map (plain_step b) os) z × IsFine h v n i (plain_step b o) (steps_built h (map (plain_step b) os) z)
+fine_parts b h v n i [] o z a = (tt, a.0)
+fine_parts b h v n i (p ∷ os) o z a = let w = fine_parts b h v n i os o (step_built h (plain_step b p) z) a.1 in ((a.0, w.0), w.1)
 
-room_on : (h : Home) (later : Later) (v n m k l : ℕ) (s t : State) (is xs ys : List Instr) → Moves h later v n m k l s xs t → is ≡ xs ++ ys → HasRoom s (s.place + sum_by length_of is) →
+pub room_on : (h : Home) (later : Later) (v n m k l : ℕ) (os : List (Option Built)) (s t : State) (is xs ys : List Instr) → Moves h later v n m k l os s xs t → is ≡ xs ++ ys → HasRoom s (s.place + sum_by length_of is) →
     HasRoom t (t.place + sum_by length_of ys)
-room_on h later v n m k l s t is xs ys x e room =
+room_on h later v n m k l os s t is xs ys x e room =
     subst (λ fs. list_any (is_passed (t.place + sum_by length_of ys)) fs ≡ false) (sym x.same.frames)
     (room_less (t.place + sum_by length_of ys) (s.place + sum_by length_of is) s.frames (let p = ap
     (sum_by length_of) e in let q = sum_by-append length_of xs ys in let r = x.place_is in omega (arith, p, q, r)) room)
@@ -151,8 +152,8 @@ no_steps b e made none = subst (StepsPut b e e []) (sym none) (record {
 -- what a form asks for and gives, where the stack stands before it
 abbrev Fits : (b : Nodes) → (n : ℕ) → TermStep → (asks : Home → ℕ → List (Option Built) → Type 0) → (built : Home → List (Option Built) → Built) → (made front : List ℕ) → Type 0
 Fits b n o asks built made front =
-    (h : Home) (v : ℕ) (xs ys : List (Option Built)) (bs : List Built) → IsFine b h v n xs o bs → StandIn ys made bs →
-    asks h v ys × (fs : List Built) × (step_built b h xs o bs ≡ fs ++ built h ys ∷ []) × StandIn ys front fs
+    (h : Home) (v : ℕ) (i : Bool) (z : Stack) (ys : List (Option Built)) → IsFine h v n i (plain_step b o) z → StandIn ys made z.made →
+    asks h v ys × (fs : List Built) × (step_built h (plain_step b o) z ≡ stack z.registers (fs ++ built h ys ∷ [])) × StandIn ys front fs
 
 step_then : (b : Nodes) (old mid new : Emitter) (os : List TermStep) (o : TermStep) (made front after : List ℕ) (r : ℕ) (asks : Home → ℕ → List (Option Built) → Type 0) (built : Home →
     List (Option Built) → Built) →
@@ -164,20 +165,23 @@ step_then b old mid new os o made front after r asks built x p e low_front fits 
   types_grow = let i = x.types_grow in let j = p.types_grow in omega (arith, i, j);
   terms_grow = let i = x.terms_grow in let j = p.terms_grow in omega (arith, i, j);
   denotes = λ h later vars s st te low few fine room.
-      let xs = s.now.terms in
       let i = p.types_grow in
       let j = p.terms_grow in
-      let parts = fine_parts b h vars old.registers xs os o [] fine in
+      let start = stack s.now.terms [] in
+      let parts = fine_parts b h vars old.registers s.in_body os o start fine in
       let w = x.denotes h later vars s st te (omega (arith, low, i)) (omega (arith, few, j)) parts.0 (room_front s (x.more ++ p.more) x.more p.more refl room) in
-      let bs = steps_built b h xs os [] in
-      let f = fits h vars xs w.0.now.terms bs parts.1 w.2 in
-      let v = p.denotes h later vars w.0 w.1.types_stand w.1.terms_stand low few f.0 (room_on h later vars old.types mid.types old.registers mid.registers s w.0
+      let z = steps_built h (map (plain_step b) os) start in
+      let f = fits h vars s.in_body z w.0.now.terms parts.1 w.2 in
+      let v = p.denotes h later vars w.0 w.1.types_stand w.1.terms_stand low few f.0 (room_on h later vars old.types mid.types old.registers mid.registers z.registers s w.0
       (x.more ++ p.more) x.more p.more w.1 refl room) in
       let front_low = low_front mid.registers w.3 in
-      let stands = stand_push v.0.now.terms front f.1 r (built h w.0.now.terms) (stand_on mid.registers w.0.now.terms v.0.now.terms front f.1 v.1.terms_kept front_low f.3) v.2 in (
+      let stands = stand_push v.0.now.terms front f.1 r (built h w.0.now.terms) (stand_on mid.registers w.0.now.terms v.0.now.terms front f.1 v.1.terms_kept front_low f.3) v.2 in
+      let is : steps_built h (map (plain_step b) (os ++ o ∷ [])) start ≡ stack z.registers (f.1 ++ built h w.0.now.terms ∷ []) = built_more b h os o start ∙ f.2 in (
         v.0,
-        then_moves h later vars old.types mid.types new.types old.registers mid.registers new.registers s w.0 v.0 x.more p.more w.1 v.1 x.types_grow x.terms_grow,
-        subst (λ rs. StandIn v.0.now.terms rs (steps_built b h xs (os ++ o ∷ []) [])) (sym e) (subst (StandIn v.0.now.terms (front ++ r ∷ [])) (sym (built_more b h xs os o [] ∙ f.2)) stands),
+        subst (λ (y : Stack). Moves h later vars old.types new.types old.registers new.registers y.registers s (x.more ++ p.more) v.0) (sym is) (then_moves h later vars old.types mid.types new.types
+            old.registers mid.registers new.registers z.registers w.0.now.terms z.registers s w.0 v.0 x.more p.more w.1 v.1 x.types_grow x.terms_grow w.1.terms_kept),
+        subst (λ rs. StandIn v.0.now.terms rs (steps_built h (map (plain_step b) (os ++ o ∷ [])) start).made) (sym e) (subst (λ (y : Stack). StandIn v.0.now.terms (front ++ r ∷ []) y.made) (sym is)
+            stands),
         subst (All (λ r. r < new.registers)) (sym e) (All-push (λ r. r < new.registers) front r (λ k d l. let q = front_low k d l in omega (arith, q, j)) v.3),
       );
 }
@@ -186,10 +190,11 @@ step_then b old mid new os o made front after r asks built x p e low_front fits 
 pub leaf_then : (b : Nodes) (old mid new : Emitter) (os : List TermStep) (o : TermStep) (made after : List ℕ) (r : ℕ) (asks : Home → ℕ → List (Option Built) → Type 0) (built : Home →
     List (Option Built) → Built) →
     StepsPut b old mid os made → IsTermPut mid new r asks built → after ≡ made ++ r ∷ [] →
-    ((h : Home) (v : ℕ) (xs ys : List (Option Built)) (bs : List Built) → IsFine b h v old.registers xs o bs → asks h v ys × (step_built b h xs o bs ≡ bs ++ built h ys ∷ [])) →
+    ((h : Home) (v : ℕ) (i : Bool) (z : Stack) (ys : List (Option Built)) → IsFine h v old.registers i (plain_step b o) z →
+    asks h v ys × (step_built h (plain_step b o) z ≡ stack z.registers (z.made ++ built h ys ∷ []))) →
     StepsPut b old new (os ++ o ∷ []) after
 leaf_then b old mid new os o made after r asks built x p e fits =
-    step_then b old mid new os o made made after r asks built x p e (λ n a. a) (λ h v xs ys bs fine stand. let w = fits h v xs ys bs fine in (w.0, bs, w.1, stand))
+    step_then b old mid new os o made made after r asks built x p e (λ n a. a) (λ h v i z ys fine stand. let w = fits h v i z ys fine in (w.0, z.made, w.1, stand))
 
 some_at : (o : Option Built) (d : Built) → is_none o ≡ false → o ≡ Some (unwrap_or o d)
 some_at None d e = absurd (true≢false e)
@@ -203,31 +208,21 @@ register_then b old mid os made after r x e = record {
   types_grow = x.types_grow;
   terms_grow = x.terms_grow;
   denotes = λ h later vars s st te low few fine room.
-      let xs = s.now.terms in
+      let start = stack s.now.terms [] in
+      let z = steps_built h (map (plain_step b) os) start in
       let grow = x.terms_grow in
-      let parts = fine_parts b h vars old.registers xs os (on.Register r) [] fine in
+      let parts = fine_parts b h vars old.registers s.in_body os (on.Register r) start fine in
       let below = parts.1.0 in
       let w = x.denotes h later vars s st te low few parts.0 room in
-      let here : held w.0.now.terms r ≡ Some (built_at xs r) = w.1.terms_kept r below ∙ some_at (held xs r) (whole (index 0) o_type) parts.1.1 in
-      let stands = stand_push w.0.now.terms made (steps_built b h xs os []) r (built_at xs r) w.2 here in (
+      let here : held w.0.now.terms r ≡ Some (built_at z.registers r) = w.1.terms_kept r below ∙ some_at (held z.registers r) (whole (index 0) o_type) parts.1.1 in
+      let stands = stand_push w.0.now.terms made z.made r (built_at z.registers r) w.2 here in
+      let is = built_more b h os (on.Register r) start in (
         w.0,
-        w.1,
-        subst (λ rs. StandIn w.0.now.terms rs (steps_built b h xs (os ++ on.Register r ∷ []) [])) (sym e) (subst (StandIn w.0.now.terms (made ++ r ∷ [])) (sym (built_more b h xs os
-            (on.Register r) [])) stands),
+        subst (λ (y : Stack). Moves h later vars old.types mid.types old.registers mid.registers y.registers s x.more w.0) (sym is) w.1,
+        subst (λ rs. StandIn w.0.now.terms rs (steps_built h (map (plain_step b) (os ++ on.Register r ∷ [])) start).made) (sym e) (subst (λ (y : Stack). StandIn w.0.now.terms (made ++ r ∷ []) y.made)
+            (sym is) stands),
         subst (All (λ r. r < mid.registers)) (sym e) (All-push (λ r. r < mid.registers) made r w.3 (omega (arith, below, grow))),
       );
-}
-
-pub new_then : (b : Nodes) (old mid kind new : Emitter) (os : List TermStep) (made : List ℕ) (r t : ℕ) (of : TypeId) (T : Ty) → StepsPut b old mid os made → IsTypePut mid kind t T →
-    new.code.items ≡ kind.code.items ++ New r t ∷ [] → new.types ≡ kind.types → new.registers ≡ kind.registers →
-    StepsPut b old new (os ++ on.New r of ∷ []) made
-new_then b old mid kind new os made r t of T x q code same_types same_registers = record {
-  more = x.more ++ (q.more ++ New r t ∷ []);
-  code_is = code ∙ ap (λ l. l ++ New r t ∷ []) (q.code_is ∙ ap (λ l. l ++ q.more) x.code_is) ∙ append_assoc (old.code.items ++ x.more) q.more (New r t ∷ [])
-      ∙ append_assoc old.code.items x.more (q.more ++ New r t ∷ []);
-  types_grow = let i = x.types_grow in let j = q.types_grow in omega (arith, i, j, same_types);
-  terms_grow = let i = x.terms_grow in let j = q.registers_stay in omega (arith, i, j, same_registers);
-  denotes = λ h later vars s st te low few fine room. absurd (fine_parts b h vars old.registers s.now.terms os (on.New r of) [] fine).1;
 }
 
 pub apply_then : (b : Nodes) (old mid new : Emitter) (os : List TermStep) (n : ℕ) (made rest heads front args after : List ℕ) (head r : ℕ) → StepsPut b old mid os made →
@@ -238,7 +233,8 @@ apply_then b old mid new os n made rest heads front args after head r x ea er eh
     let head_is : head ≡ slice_index_or (last_of 1 (first_of n made)) 0 0 = ed ∙ ap (λ l. slice_index_or l 0 0) (eh ∙ ap (last_of 1) er) in
     step_then b old mid new os (on.Apply n) made front after r (λ h v ys. AreParts ys head args) (λ h ys. application_of (built_at ys head) (map (built_at ys) args)) x p e
     (λ k a. subst (All (λ r. r < k)) (sym front_is) (all_first k (length (first_of n made) - 1) (first_of n made) (all_first k (length made - n) made a)))
-    (λ h v xs ys bs fine stand.
+    (λ h v i z ys fine stand.
+    let bs = z.made in
     let rest_built = take (length bs - n) bs in
     let args_built = drop (length bs - n) bs in
     let below = fine.0 in
@@ -250,7 +246,7 @@ apply_then b old mid new os n made rest heads front args after head r x ea er eh
     let args_at : map (built_at ys) args ≡ args_built = all_at ys args args_built args_stand in (
       record { head_set = ap is_none top; args_set = all_set ys args args_built args_stand; fit = (λ i. applies (head_at i) (args_at i)) ∙ fine.1 },
       before_last rest_built,
-      (λ i. before_last rest_built ++ application_of (sym head_at i) (sym args_at i) ∷ []),
+      (λ i. stack z.registers (before_last rest_built ++ application_of (sym head_at i) (sym args_at i) ∷ [])),
       subst (λ l. StandIn ys l (before_last rest_built)) (sym front_is) (stand_first ys 1 (first_of n made) rest_built rest_stand),
     ))
 
@@ -262,12 +258,13 @@ abstract_then b old mid new os of made bodies front after body r x eb ef ed p e 
     let body_is : body ≡ slice_index_or (last_of 1 made) 0 0 = ed ∙ ap (λ l. slice_index_or l 0 0) eb in
     step_then b old mid new os (on.Abstract of) made front after r (λ h v ys. IsBody h v ys body T) (λ h ys. abstraction_of (built_at ys body) T) x p e
     (λ k a. subst (All (λ r. r < k)) (sym ef) (all_first k (length made - 1) made a))
-    (λ h v xs ys bs fine stand.
+    (λ h v i z ys fine stand.
+    let bs = z.made in
     let top : held ys body ≡ Some (last_built bs) = ap (held ys) body_is ∙ stand_top ys made bs stand fine.0 in
     let at : built_at ys body ≡ last_built bs = at_held ys body (last_built bs) top in (
       record { known = fine.1; body_set = ap is_none top; fits = ap (λ (u : Built). agree_at (innermost u.loose) (Some T)) at ∙ fine.2 },
       before_last bs,
-      (λ i. before_last bs ++ abstraction_of (sym at i) T ∷ []),
+      (λ i. stack z.registers (before_last bs ++ abstraction_of (sym at i) T ∷ [])),
       subst (λ l. StandIn ys l (before_last bs)) (sym ef) (stand_first ys 1 made bs stand),
     ))
 
@@ -278,14 +275,13 @@ term_of_steps b old new os made r x e = record {
   code_is = x.code_is;
   types_grow = x.types_grow;
   terms_grow = x.terms_grow;
-  denotes = λ h later vars s st te low few asks room.
-      let w = x.denotes h later vars s st te low few asks.fine room in
-      let bs = steps_built b h s.now.terms os [] in
-      let one = asks.one in
-      let some : 0 < length bs = omega (arith, one) in
-      let last : length bs - 1 ≡ 0 = omega (arith, one) in
-      let count = stand_length w.0.now.terms made bs w.2 in
-      let here : held w.0.now.terms r ≡ Some (last_built bs) = ap (held w.0.now.terms) e ∙ stand_at w.0.now.terms 0 made bs (whole (index 0) o_type) w.2 some
-      ∙ ap (λ k. Some (slice_index_or bs k (whole (index 0) o_type))) (sym last) in
-      (w.0, w.1, here, subst (λ q. q < new.registers) (sym e) (w.3 0 0 (omega (arith, some, count))));
+  denotes = λ h later vars s xs built st te low few fine is room.
+      let w = x.denotes h later vars s st te low few fine room in
+      let stands : StandIn w.0.now.terms made (built ∷ []) = subst (λ (y : Stack). StandIn w.0.now.terms made y.made) is w.2 in
+      let count = stand_length w.0.now.terms made (built ∷ []) stands in (
+        w.0,
+        subst (λ (y : Stack). Moves h later vars old.types new.types old.registers new.registers y.registers s x.more w.0) is w.1,
+        ap (held w.0.now.terms) e ∙ stand_at w.0.now.terms 0 made (built ∷ []) (whole (index 0) o_type) stands (omega arith),
+        subst (λ q. q < new.registers) (sym e) (w.3 0 0 (omega (arith, count))),
+      );
 }

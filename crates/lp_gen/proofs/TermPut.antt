@@ -1,7 +1,7 @@
 -- The code of a term that was put, of each form: from a state in which its parts stand to one in which the whole does.
 use Rattle.std.proofs.Common.{◌≡◌, ◌∙◌, ◌≤◌, ◌<◌, ℕ, ℤ, suc, ◌+◌, List, [], ◌∷◌, ◌++◌, append_assoc, map}
 use Rattle.std.proofs.Common.{length, false, Option, Some, None, Vec, Global, ap, refl, sym, subst, arith, true≢false}
-use Rattle.std.specs.Prelude.{All, nat_le, not, ◌||◌, is_none, sum_by, unwrap_or, option_map}
+use Rattle.std.specs.Prelude.{All, nat_le, not, ◌||◌, is_none, sum_by, unwrap_or, option_map, slice_set}
 use Rattle.std.specs.List.{list_any}
 use Rattle.std.proofs.lemmas.List.{append-nil, length-set, map-append}
 use Rattle.std.proofs.lemmas.List.Sums.{sum_by-append}
@@ -28,6 +28,7 @@ use Rattle.lp_gen.specs.declared.emitter.Emitter.{Emitter}
 use Rattle.lp_gen.specs.Sources.{IsKnownType}
 use Rattle.lp_gen.specs.inner.Running.{TypesStand, HasRoom, Leads, Hold, HoldAll, IsTypePut, AreTypesPut, TermsStand, Moves, HoldTerm}
 use Rattle.lp_gen.specs.inner.Running.{IsTermPut, IsKnownConstant, ConstantPut, IntegerPut, TextPut, IndexPut, built_at, AreParts, ApplicationPut, IsBody, AbstractionPut}
+use Rattle.lp_gen.proofs.Registers.{fresh_set}
 use Rattle.lp_gen.proofs.Denoting.{or_none, steps, settled_same, room_less, held_within, held_set, held_below, member_more, none_unset, then_leads, nothing_leads, room_front, room_behind}
 
 -- types one after the other
@@ -83,7 +84,7 @@ one_type a b r T x = types_put_more a a b [] [] r T (types_put_none a) x
 
 -- types and terms
 
-moved : (h : Home) (later : Later) (vars n m k : ℕ) (s t : State) (is : List Instr) → Leads h later vars n m s is t → TermsStand h k s → Moves h later vars n m k k s is t
+pub moved : (h : Home) (later : Later) (vars n m k : ℕ) (s t : State) (is : List Instr) → Leads h later vars n m s is t → TermsStand h k s → Moves h later vars n m k k s.now.terms s is t
 moved h later vars n m k s t is l ts = record {
   runs = l.runs;
   place_is = l.place_is;
@@ -91,12 +92,16 @@ moved h later vars n m k s t is l ts = record {
   types_kept = l.kept;
   terms_kept = λ r q. ap (λ xs. held xs r) l.same.terms;
   types_stand = l.stands;
-  terms_stand = record { as_many = ap length l.same.terms ∙ ts.as_many; unset = λ r q. ap (member r) l.same.terms_set ∙ ts.unset r q };
+  terms_stand = record {
+    as_many = ap length l.same.terms ∙ ts.as_many;
+    unset = λ r q. ap (member r) l.same.terms_set ∙ ts.unset r q;
+    fresh = λ e r q. ap (member r) l.same.terms_set ∙ ts.fresh (sym l.same.in_body ∙ e) r (sym (ap (λ xs. held xs r) l.same.terms) ∙ q);
+  };
 }
 
-pub then_moves : (h : Home) (later : Later) (vars n m k a b c : ℕ) (s t u : State) (is js : List Instr) → Moves h later vars n m a b s is t → Moves h later vars m k b c t js u → n ≤ m → a ≤ b →
-    Moves h later vars n k a c s (is ++ js) u
-then_moves h later vars n m k a b c s t u is js x y l o = record {
+pub then_moves : (h : Home) (later : Later) (vars n m k a b c : ℕ) (xs ys zs : List (Option Built)) (s t u : State) (is js : List Instr) → Moves h later vars n m a b xs s is t →
+    Moves h later vars m k b c ys t js u → n ≤ m → a ≤ b → ((r : ℕ) → r < a → held ys r ≡ held zs r) → Moves h later vars n k a c zs s (is ++ js) u
+then_moves h later vars n m k a b c xs ys zs s t u is js x y l o same = record {
   runs = λ rest. ap (run h later s) (append_assoc is js rest) ∙ x.runs (js ++ rest) ∙ y.runs rest;
   place_is = let p = x.place_is in let q = y.place_is in let r = sum_by-append length_of is js in omega (arith, p, q, r);
   same = record {
@@ -108,55 +113,80 @@ then_moves h later vars n m k a b c s t u is js x y l o = record {
     assumed = y.same.assumed ∙ x.same.assumed;
   };
   types_kept = λ r q. y.types_kept r (omega (arith, q, l)) ∙ x.types_kept r q;
-  terms_kept = λ r q. y.terms_kept r (omega (arith, q, o)) ∙ x.terms_kept r q;
+  terms_kept = λ r q. y.terms_kept r (omega (arith, q, o)) ∙ same r q;
   types_stand = y.types_stand;
   terms_stand = y.terms_stand;
 }
 
 abbrev Puts : Home → Later → (vars types : ℕ) → State → Instr → (register : ℕ) → Built → Type 0
-Puts h later vars n s i d b = (t : State) × Moves h later vars n n d (d + 1) s (i ∷ []) t × HoldTerm t d b
+Puts h later vars n s i d b = (t : State) × Moves h later vars n n d (d + 1) s.now.terms s (i ∷ []) t × HoldTerm t d b
 
--- an instruction that makes a term
-put_moves : (h : Home) (later : Later) (vars n : ℕ) (s : State) (i : Instr) (d : ℕ) (b : Built) → effect h later s i ≡ Some (put_term s d b) → type_set i ≡ [] → term_set i ≡ d ∷ [] →
-    0 < length_of i → TypesStand h vars n s → TermsStand h d s → d < h.self.registers →
-    HasRoom s (s.place + length_of i) → ((rest : List Instr) (r : Rule) → broken_by h s rest i r ≡ false) → Puts h later vars n s i d b
-put_moves h later vars n s i d b eff ts rs long st te low room fine = (
+-- an instruction that sets a register that was never set, where registers from k on were not
+pub put_at : (h : Home) (later : Later) (vars n k l : ℕ) (s : State) (i : Instr) (d : ℕ) (b : Built) → effect h later s i ≡ Some (put_term s d b) → type_set i ≡ [] → term_set i ≡ d ∷ [] →
+    0 < length_of i → TypesStand h vars n s → TermsStand h k s → k ≤ l → d < l → d < h.self.registers →
+    HasRoom s (s.place + length_of i) → ((rest : List Instr) (r : Rule) → broken_by h s rest i r ≡ false) →
+    (t : State) × Moves h later vars n n k l (slice_set s.now.terms d (Some b)) s (i ∷ []) t × HoldTerm t d b
+put_at h later vars n k l s i d b eff ts rs long st te more less low room fine = (
   t,
   record {
     runs = λ rest. steps h later s t i rest st.sound (fine rest) (ap (option_map (λ (u : State). settled h.number (depth u.frames) (passed i u))) eff
         ∙ ap (λ (u : State). Some u) (settled_same h.number (depth s.frames) t room));
     place_is = let one : sum_by length_of (i ∷ []) ≡ 0 + length_of i = refl in omega (arith, one);
     same = record { in_body = refl; head_types = refl; head_arguments = refl; goals = refl; frames = refl; assumed = refl };
-    types_kept = λ r l. refl;
-    terms_kept = λ r l. held_below s.now.terms d r (Some b) l;
+    types_kept = λ r q. refl;
+    terms_kept = λ r q. refl;
     types_stand = record {
       few = st.few;
       own = st.own;
       as_many = st.as_many;
       stand = st.stand;
-      unset = λ r l. ap (λ ds. member r (s.types_set ++ ds)) ts ∙ ap (member r) (append-nil s.types_set) ∙ st.unset r l;
+      unset = λ r q. ap (λ ds. member r (s.types_set ++ ds)) ts ∙ ap (member r) (append-nil s.types_set) ∙ st.unset r q;
       sound = λ e r. let q = eqb-true (s.place + length_of i) 0 e in absurd (omega (arith, q, long));
     };
     terms_stand = record {
       as_many = length-set s.now.terms d (Some b) ∙ te.as_many;
-      unset = λ r l. ap (λ ds. member r (s.terms_set ++ ds)) rs ∙ member_more r d s.terms_set (te.unset r (omega (arith, l))) (omega (arith, l));
+      unset = λ r q. ap (λ ds. member r (s.terms_set ++ ds)) rs ∙ member_more r d s.terms_set (te.unset r (omega (arith, q, more))) (omega (arith, q, less));
+      fresh = λ e r q. ap (λ ds. member r (s.terms_set ++ ds)) rs ∙ fresh_set s.now.terms s.terms_set d r b within (te.fresh e) q;
     };
   },
-  held_set s.now.terms d b (subst (λ m. d < m) (sym te.as_many) low),
+  held_set s.now.terms d b within,
 )
   where
     t : State
     t = passed i (put_term s d b)
 
+    within : d < length s.now.terms
+    within = subst (λ m. d < m) (sym te.as_many) low
+
+moves_same : (h : Home) (later : Later) (vars n m a b : ℕ) (xs ys : List (Option Built)) (s t : State) (is : List Instr) → Moves h later vars n m a b xs s is t →
+    ((r : ℕ) → r < a → held xs r ≡ held ys r) → Moves h later vars n m a b ys s is t
+moves_same h later vars n m a b xs ys s t is x same = record {
+  runs = x.runs;
+  place_is = x.place_is;
+  same = x.same;
+  types_kept = x.types_kept;
+  terms_kept = λ r q. x.terms_kept r q ∙ same r q;
+  types_stand = x.types_stand;
+  terms_stand = x.terms_stand;
+}
+
+-- an instruction that makes a term in the next register
+put_moves : (h : Home) (later : Later) (vars n : ℕ) (s : State) (i : Instr) (d : ℕ) (b : Built) → effect h later s i ≡ Some (put_term s d b) → type_set i ≡ [] → term_set i ≡ d ∷ [] →
+    0 < length_of i → TypesStand h vars n s → TermsStand h d s → d < h.self.registers →
+    HasRoom s (s.place + length_of i) → ((rest : List Instr) (r : Rule) → broken_by h s rest i r ≡ false) → Puts h later vars n s i d b
+put_moves h later vars n s i d b eff ts rs long st te low room fine =
+    let w = put_at h later vars n d (d + 1) s i d b eff ts rs long st te (omega arith) (omega arith) low room fine in
+    (w.0, moves_same h later vars n n d (d + 1) (slice_set s.now.terms d (Some b)) s.now.terms s w.0 (i ∷ []) w.1 (λ r q. held_below s.now.terms d r (Some b) q), w.2)
+
 -- what is read and set
-types_within : (s : State) (n : ℕ) (rs : List ℕ) (Ts : Tys) → length s.now.types ≡ n → HoldAll s rs Ts → list_any (λ t. nat_le n t) (rs ++ []) ≡ false
+pub types_within : (s : State) (n : ℕ) (rs : List ℕ) (Ts : Tys) → length s.now.types ≡ n → HoldAll s rs Ts → list_any (λ t. nat_le n t) (rs ++ []) ≡ false
 types_within s n [] no_types e a = refl
 types_within s n [] (types T Ts) e a = absurd a
 types_within s n (r ∷ rs) no_types e a = absurd a
 types_within s n (r ∷ rs) (types T Ts) e a = or_none (nat_le n r) (list_any (λ t. nat_le n t) (rs ++ [])) (lt-leb n r (subst (λ m. r < m) e (held_within s.now.types r T a.0)))
     (types_within s n rs Ts e a.1)
 
-one_within : (n d : ℕ) → d < n → list_any (λ r. nat_le n r) (d ∷ []) ≡ false
+pub one_within : (n d : ℕ) → d < n → list_any (λ r. nat_le n r) (d ∷ []) ≡ false
 one_within n d l = or_none (nat_le n d) false (lt-leb n d l) refl
 
 one_unset : (h : Home) (d : ℕ) (s : State) → TermsStand h d s → list_any (λ r. member r s.terms_set) (d ∷ []) ≡ false
@@ -305,13 +335,14 @@ last_put old mid new i rs Ts asks built x p known does = record {
       let all = room_behind h later vars old.types mid.types s w.0 (x.more ++ i ∷ []) x.more (i ∷ []) w.1 refl room in
       let wide : HasRoom w.0 (w.0.place + length_of i) = room_less (w.0.place + length_of i) (w.0.place + sum_by length_of (i ∷ [])) w.0.frames (omega (arith, one)) all in
       let here : HasRoom w.0 w.0.place = room_less w.0.place (w.0.place + length_of i) w.0.frames (omega arith) wide in
-      let front : Moves h later vars old.types mid.types mid.registers mid.registers s x.more w.0 = subst (λ k. Moves h later vars old.types mid.types k k s x.more w.0) (sym stay)
+      let front : Moves h later vars old.types mid.types mid.registers mid.registers s.now.terms s x.more w.0 = subst (λ k. Moves h later vars old.types mid.types k k s.now.terms s x.more w.0) (sym stay)
       (moved h later vars old.types mid.types old.registers s w.0 x.more w.1 te) in
       let v = does h later vars w.0 w.1.stands front.terms_stand (omega (arith, few, registers)) w.2 (subst (λ xs. asks h vars xs) (sym w.1.same.terms) k) wide here in
-      let both = then_moves h later vars old.types mid.types mid.types mid.registers mid.registers (mid.registers + 1) s w.0 v.0 x.more (i ∷ []) front v.1 x.types_grow (omega arith) in (
+      let both = then_moves h later vars old.types mid.types mid.types mid.registers mid.registers (mid.registers + 1) s.now.terms w.0.now.terms s.now.terms s w.0 v.0 x.more (i ∷ []) front v.1
+      x.types_grow (omega arith) front.terms_kept in (
         v.0,
-        subst (λ k. Moves h later vars old.types new.types k new.registers s (x.more ++ i ∷ []) v.0) stay (subst (λ n. Moves h later vars old.types n mid.registers new.registers s
-            (x.more ++ i ∷ []) v.0) (sym types) (subst (λ n. Moves h later vars old.types mid.types mid.registers n s (x.more ++ i ∷ []) v.0) (sym registers) both)),
+        subst (λ k. Moves h later vars old.types new.types k new.registers s.now.terms s (x.more ++ i ∷ []) v.0) stay (subst (λ n. Moves h later vars old.types n mid.registers
+            new.registers s.now.terms s (x.more ++ i ∷ []) v.0) (sym types) (subst (λ n. Moves h later vars old.types mid.types mid.registers n s.now.terms s (x.more ++ i ∷ []) v.0) (sym registers) both)),
         subst
             (λ xs. HoldTerm v.0 mid.registers (built h xs)) w.1.same.terms v.2,
         omega (arith, registers),

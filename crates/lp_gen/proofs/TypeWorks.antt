@@ -39,7 +39,7 @@ registers_count : (n : ℕ) (ts : Tys) → length (types_made n ts).registers �
 registers_count n no_types = refl
 registers_count n (types t ts) = omega (arith, registers_count (type_made n t).next ts)
 
-map_length : {A B : Type 0} (f : A → B) (xs : List A) → length (map f xs) ≡ length xs
+pub map_length : {A B : Type 0} (f : A → B) (xs : List A) → length (map f xs) ≡ length xs
 map_length f [] = refl
 map_length f (x ∷ xs) = omega (arith, map_length f xs)
 

@@ -4,8 +4,8 @@ use Rattle.std.specs.Prelude.{sum_by, Some}
 use Rattle.std.proofs.lemmas.List.Sums.{sum_by_push, sum_by-append}
 use Rattle.std.proofs.lemmas.List.{reverse-append}
 use Rattle.lp_term.specs.Spine.{IsNoApplication}
-use Rattle.lp_gen.specs.declared.terms.Task.{Task}
-use Rattle.lp_gen.specs.declared.terms.Task.TheVariants as on_term
+use Rattle.lp_gen.specs.declared.listing.Task.{Task}
+use Rattle.lp_gen.specs.declared.listing.Task.TheVariants as on_term
 use Rattle.lp_gen.specs.declared.standard.Function.{Function}
 use Rattle.lp_gen.specs.declared.types.TypeView.{TypeView}
 use Rattle.lp_calculus.specs.Types.{Ty, var, param as type_param, con, arrow, types, tys, instance, instances}

@@ -1,8 +1,11 @@
 pub mod Fitting
+pub mod Listing
 pub mod Pieces
 pub mod Reading
 pub mod Running
 pub mod Saying
 pub mod Sizes
+pub mod Tasks
+pub mod TermLaw
 pub mod TermSteps
 pub mod Works

@@ -1,4 +1,7 @@
 // The variables of a record, by their levels: that of a variable is the number of variables around it.
+ghost use Rattle.std.specs.Prelude.{◌≡◌, ◌+◌, ◌-◌, ◌^◌, min, length, option_map};
+ghost use Rattle.lp_term.specs.Nodes.{Nodes};
+ghost use Rattle.lp_gen.specs.inner.Listing.{seen, around_of, level_in, level_below, at_level, set_level};
 
 use indexmap::IndexMap;
 use lp_base::Memory;
@@ -40,26 +43,39 @@ impl<'a> Environment<'a> {
     }
 
     /// The level of an index.
-    pub(crate) fn level(&self, index: u64) -> Option<u64> {
+    pub(crate) fn level(&self, index: u64) -> Option<u64>
+        ensures { result ≡ level_below (min (self.now.base + length self.now.own.items) (2 ^ 64 - 1)) index }
+    {
         let all = self.base.saturating_add(self.own.len() as u64);
-        all.checked_sub(index)?.checked_sub(1)
+        if index >= all {
+            return None;
+        }
+        Some(all - index - 1)
     }
 
     /// The variable of a level.
-    pub(crate) fn at(&self, level: u64) -> Option<Variable> {
-        match level.checked_sub(self.base) {
-            Some(place) => self.own.get(place as usize).copied(),
-            None => self.captured.get(&level).copied(),
+    pub(crate) fn at(&self, level: u64) -> Option<Variable>
+        ensures { (b : Nodes) → option_map (seen b) result ≡ at_level (around_of b self.now) level }
+    {
+        if level >= self.base {
+            return self.own.get((level - self.base) as usize).copied();
         }
+        self.captured.get(&level).copied()
     }
 
     /// The register of the variable of a level is set.
-    pub(crate) fn set(&mut self, level: u64) {
-        let Some(place) = level.checked_sub(self.base) else {
+    pub(crate) fn set(&mut self, level: u64)
+        ensures { (b : Nodes) → around_of b self.new ≡ set_level (around_of b self.old) level }
+    {
+        if level < self.base {
             return;
-        };
-        if let Some(variable) = self.own.get_mut(place as usize) {
-            variable.is_set = true;
         }
+        let place = (level - self.base) as usize;
+        if place >= self.own.len() {
+            return;
+        }
+        let mut variable = self.own[place];
+        variable.is_set = true;
+        self.own[place] = variable;
     }
 }

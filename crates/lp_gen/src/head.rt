@@ -2,6 +2,7 @@
 
 use crate::fault::GenRefusal;
 use crate::got::{get_constant, get_integer, get_term, get_text, get_type};
+use crate::listing::type_of_head;
 use crate::terms::Writer;
 use crate::types::TypeView;
 use lp_base::Limit;
@@ -98,7 +99,7 @@ impl<'a> Writer<'a> {
         if let TermNode::Const(_, types) = self.tables.bank.term_node(spine.head) {
             self.get_types(types)?;
         }
-        let mut function = self.function(spine.head);
+        let mut function = type_of_head(self.tables, &self.environment, &[], spine.head);
         for (at, argument) in spine.args.iter().copied().enumerate() {
             let (of, left) = function.next(self.tables.bank);
             self.get_argument(number_of(at)?, argument, of)?;

@@ -19,6 +19,8 @@ mod forms;
 mod got;
 // The head of a record.
 mod head;
+// The steps of a term.
+mod listing;
 // A clause with those that it assumes, each as a list of steps.
 mod plan;
 // A record.

@@ -182,8 +182,6 @@ pub(crate) fn record_of<'x>(
         tables,
         emitter: Emitter::new(alloc, captured_types, registers),
         environment: Environment::new(alloc, captured, part.base),
-        bound: Vec::new(alloc),
-        steps: Vec::new(alloc),
         starts: Vec::new(alloc),
     };
     if program {

@@ -1,5 +1,5 @@
 -- What the code of types and terms does where it is run: from a state in which no rule is broken to one in which the type or term stands in its register.
-use Rattle.std.specs.Prelude.{◌≡◌, ℕ, ℤ, All, ◌+◌, ◌≤◌, ◌<◌, nat_eq, true, false, List, [], ◌∷◌, ◌++◌, length, map, sum_by, is_none, Option, Some}
+use Rattle.std.specs.Prelude.{◌≡◌, ℕ, ℤ, All, ◌+◌, ◌≤◌, ◌<◌, nat_eq, true, false, List, [], ◌∷◌, ◌++◌, length, map, sum_by, is_none, Option, Some, None}
 use Rattle.std.specs.List.{list_any}
 use Rattle.lp_calculus.specs.Types.{Ty, Tys, var, no_types, types, tys}
 use Rattle.lp_calculus.specs.Term.{atom, integer, text}
@@ -75,10 +75,12 @@ pub record AreTypesPut (old new : Emitter) (rs : List ℕ) (Ts : List Ty) : Type
       HasRoom s (s.place + sum_by length_of more) →
       (t : State) × Leads h later vars old.types new.types s more t × HoldAll t rs (tys Ts) × All (λ r. r < new.types) rs
 
--- the registers of terms from one on were never set
+-- the registers of terms from one on were never set, nor before NECK any that does not hold a term
 pub record TermsStand (h : Home) (next : ℕ) (s : State) : Type 0 where
   pub as_many : length s.now.terms ≡ h.self.registers
   pub unset : (r : ℕ) → next ≤ r → member r s.terms_set ≡ false
+  -- before NECK nothing that was set is unset
+  pub fresh : s.in_body ≡ false → (r : ℕ) → held s.now.terms r ≡ None → member r s.terms_set ≡ false
 
 pub record SameButRegisters (s t : State) : Type 0 where
   pub in_body : t.in_body ≡ s.in_body
@@ -88,13 +90,13 @@ pub record SameButRegisters (s t : State) : Type 0 where
   pub frames : t.frames ≡ s.frames
   pub assumed : t.assumed ≡ s.assumed
 
--- instructions that make types and terms lead from one state to another
-pub record Moves (h : Home) (later : Later) (vars types types' terms terms' : ℕ) (s : State) (is : List Instr) (t : State) : Type 0 where
+-- instructions that make types and terms lead from one state to another, in which these terms stand below the first register that was new
+pub record Moves (h : Home) (later : Later) (vars types types' terms terms' : ℕ) (xs : List (Option Built)) (s : State) (is : List Instr) (t : State) : Type 0 where
   pub runs : (rest : List Instr) → run h later s (is ++ rest) ≡ run h later t rest
   pub place_is : t.place ≡ s.place + sum_by length_of is
   pub same : SameButRegisters s t
   pub types_kept : (r : ℕ) → r < types → held t.now.types r ≡ held s.now.types r
-  pub terms_kept : (r : ℕ) → r < terms → held t.now.terms r ≡ held s.now.terms r
+  pub terms_kept : (r : ℕ) → r < terms → held t.now.terms r ≡ held xs r
   pub types_stand : TypesStand h vars types' t
   pub terms_stand : TermsStand h terms' t
 
@@ -109,7 +111,7 @@ pub record IsTermPut (old new : Emitter) (register : ℕ) (asks : Home → (vars
   pub terms_grow : old.registers ≤ new.registers
   pub denotes : (h : Home) (later : Later) (vars : ℕ) (s : State) → TypesStand h vars old.types s → TermsStand h old.registers s → new.types ≤ h.self.types →
       new.registers ≤ h.self.registers → asks h vars s.now.terms → HasRoom s (s.place + sum_by length_of more) →
-      (t : State) × Moves h later vars old.types new.types old.registers new.registers s more t × HoldTerm t register (built h s.now.terms) × (register < new.registers)
+      (t : State) × Moves h later vars old.types new.types old.registers new.registers s.now.terms s more t × HoldTerm t register (built h s.now.terms) × (register < new.registers)
 
 -- a constant that may stand in terms, with as many known types as it has type variables
 pub record IsKnownConstant (h : Home) (vars c : ℕ) (Ts : List Ty) : Type 0 where

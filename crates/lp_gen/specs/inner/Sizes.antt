@@ -6,8 +6,8 @@ use Rattle.lp_term.specs.Walk.{size}
 use Rattle.lp_gen.specs.inner.Reading.{read, read_at}
 use Rattle.lp_gen.specs.declared.written_types.TypeTask.{TypeTask}
 use Rattle.lp_gen.specs.declared.written_types.TypeTask.TheVariants as on_type
-use Rattle.lp_gen.specs.declared.terms.Task.{Task}
-use Rattle.lp_gen.specs.declared.terms.Task.TheVariants as on_term
+use Rattle.lp_gen.specs.declared.listing.Task.{Task}
+use Rattle.lp_gen.specs.declared.listing.Task.TheVariants as on_term
 use Rattle.lp_model.specs.declared.clause.Goal as code
 use Rattle.lp_model.specs.declared.clause.Goal.TheOpen.{Goal-F}
 use Rattle.lp_model.specs.declared.clause.Clause as code_clause

@@ -1,20 +1,28 @@
 -- What the steps of a term make: a stack of terms, the last one last, and the code that makes them in registers.
-use Rattle.std.specs.Prelude.{◌≡◌, ℕ, ◌+◌, ◌-◌, ◌≤◌, ◌<◌, All, true, false, List, [], ◌∷◌, ◌++◌, length, map, take, drop, sum_by, is_none, Option, Some, slice_index_or}
+use Rattle.std.specs.Prelude.{◌≡◌, ℕ, ◌+◌, ◌-◌, ◌≤◌, ◌<◌, All, Bool, true, false, List, [], ◌∷◌, ◌++◌, length, map, take, drop, sum_by, is_none, Option, Some, None, slice_index_or, slice_set}
+use Rattle.lp_calculus.specs.Types.{Ty}
 use Rattle.lp_calculus.specs.Term.{index, atom, integer, text}
 use Rattle.lp_calculus.specs.Typing.{o_type, int_type, string_type}
-use Rattle.lp_term.specs.Nodes.{Nodes, type_tree}
+use Rattle.lp_term.specs.Nodes.{Nodes}
 use Rattle.lp_code.specs.declared.instruction.Instr.{Instr}
 use Rattle.lp_code.specs.Length.{length_of}
-use Rattle.lp_code.specs.Symbolic.{Built, held, whole, bound_index, application_of, abstraction_of, agree_at, innermost}
+use Rattle.lp_code.specs.Symbolic.{Built, variable, held, whole, bound_index, application_of, abstraction_of, agree_at, innermost}
 use Rattle.lp_code.specs.States.{State, Home}
 use Rattle.lp_code.specs.Steps.{Later, constant_of}
 use Rattle.lp_code.specs.Rules.{applies}
 use Rattle.lp_gen.specs.declared.emitter.Emitter.{Emitter}
 use Rattle.lp_gen.specs.declared.term_steps.TermStep.{TermStep}
-use Rattle.lp_gen.specs.declared.term_steps.TermStep.TheVariants as on
 use Rattle.lp_gen.specs.Sources.{IsKnownType}
-use Rattle.lp_gen.specs.inner.Reading.{read}
-use Rattle.lp_gen.specs.inner.Running.{TypesStand, TermsStand, HasRoom, Moves, IsTermPut, IsKnownConstant, built_at}
+use Rattle.lp_gen.specs.inner.Listing.{Step, make_constant, make_integer, make_text, make_index, make_variable, from_register, apply_last, abstract_last, plain_step}
+use Rattle.lp_gen.specs.inner.Running.{TypesStand, TermsStand, HasRoom, Moves, IsKnownConstant, built_at}
+
+-- what stands in registers, and a stack of terms
+pub record Stack : Type 0 where
+  pub registers : List (Option Built)
+  pub made : List Built
+
+abbrev pub stack : List (Option Built) → List Built → Stack
+stack xs bs = record { registers = xs; made = bs }
 
 -- the last term of a stack, and those before it
 abbrev pub last_built : List Built → Built
@@ -27,36 +35,39 @@ before_last bs = take (length bs - 1) bs
 abbrev pub head_and : (rest args : List Built) → List Built
 head_and rest args = before_last rest ++ application_of (last_built rest) args ∷ []
 
--- what a step does to the stack, where these terms stood in the registers at first
-abbrev pub step_built : Nodes → Home → List (Option Built) → TermStep → List Built → List Built
-step_built b h xs (on.Constant c ids) bs = bs ++ constant_of h.tables c (map (λ t. type_tree b t.0) ids.now) ∷ []
-step_built b h xs (on.Integer z) bs = bs ++ whole (atom (integer z)) int_type ∷ []
-step_built b h xs (on.Text s) bs = bs ++ whole (atom (text s.now)) string_type ∷ []
-step_built b h xs (on.Index i T) bs = bs ++ bound_index i (read b T) ∷ []
-step_built b h xs (on.New r T) bs = bs
-step_built b h xs (on.Register r) bs = bs ++ built_at xs r ∷ []
-step_built b h xs (on.Apply n) bs = head_and (take (length bs - n) bs) (drop (length bs - n) bs)
-step_built b h xs (on.Abstract T) bs = before_last bs ++ abstraction_of (last_built bs) (read b T) ∷ []
+abbrev pub made_variable : Home → (register : ℕ) → Ty → List (Option Built) → List (Option Built)
+made_variable h r T xs = slice_set xs r (Some (whole (variable r h.number) T))
 
--- and where it may be made: a register below one holds something, an application fits, and an abstraction has no index 0 of another type. Variables at their first
--- place are left out
-abbrev pub IsFine : Nodes → Home → (vars next : ℕ) → List (Option Built) → TermStep → List Built → Type 0
-IsFine b h v n xs (on.Constant c ids) bs = IsKnownConstant h v c (map (λ t. type_tree b t.0) ids.now)
-IsFine b h v n xs (on.Integer z) bs = Unit {0}
-IsFine b h v n xs (on.Text s) bs = Unit {0}
-IsFine b h v n xs (on.Index i T) bs = IsKnownType h.tables.kinds v (read b T)
-IsFine b h v n xs (on.New r T) bs = ⊥
-IsFine b h v n xs (on.Register r) bs = (r < n) × (is_none (held xs r) ≡ false)
-IsFine b h v n xs (on.Apply m) bs = (m < length bs) × (applies (last_built (take (length bs - m) bs)) (drop (length bs - m) bs) ≡ true)
-IsFine b h v n xs (on.Abstract T) bs = (0 < length bs) × IsKnownType h.tables.kinds v (read b T) × (agree_at (innermost (last_built bs).loose) (Some (read b T)) ≡ true)
+-- what a step makes of the registers and the stack
+abbrev pub step_built : Home → Step → Stack → Stack
+step_built h (make_constant c Ts) s = stack s.registers (s.made ++ constant_of h.tables c Ts ∷ [])
+step_built h (make_integer z) s = stack s.registers (s.made ++ whole (atom (integer z)) int_type ∷ [])
+step_built h (make_text b) s = stack s.registers (s.made ++ whole (atom (text b)) string_type ∷ [])
+step_built h (make_index i T) s = stack s.registers (s.made ++ bound_index i T ∷ [])
+step_built h (make_variable r T) s = stack (made_variable h r T s.registers) s.made
+step_built h (from_register r) s = stack s.registers (s.made ++ built_at s.registers r ∷ [])
+step_built h (apply_last n) s = stack s.registers (head_and (take (length s.made - n) s.made) (drop (length s.made - n) s.made))
+step_built h (abstract_last T) s = stack s.registers (before_last s.made ++ abstraction_of (last_built s.made) T ∷ [])
 
-abbrev pub steps_built : Nodes → Home → List (Option Built) → List TermStep → List Built → List Built
-steps_built b h xs [] bs = bs
-steps_built b h xs (o ∷ os) bs = steps_built b h xs os (step_built b h xs o bs)
+-- and where it may be made: a variable before NECK in a register that is not set, a register below one holds something, an application fits, and an abstraction has no
+-- index 0 of another type
+abbrev pub IsFine : Home → (vars next : ℕ) → (in_body : Bool) → Step → Stack → Type 0
+IsFine h v n i (make_constant c Ts) s = IsKnownConstant h v c Ts
+IsFine h v n i (make_integer z) s = Unit {0}
+IsFine h v n i (make_text b) s = Unit {0}
+IsFine h v n i (make_index k T) s = IsKnownType h.tables.kinds v T
+IsFine h v n i (make_variable r T) s = (r < n) × (i ≡ false) × (held s.registers r ≡ None) × IsKnownType h.tables.kinds v T
+IsFine h v n i (from_register r) s = (r < n) × (is_none (held s.registers r) ≡ false)
+IsFine h v n i (apply_last m) s = (m < length s.made) × (applies (last_built (take (length s.made - m) s.made)) (drop (length s.made - m) s.made) ≡ true)
+IsFine h v n i (abstract_last T) s = (0 < length s.made) × IsKnownType h.tables.kinds v T × (agree_at (innermost (last_built s.made).loose) (Some T) ≡ true)
 
-abbrev pub AreFine : Nodes → Home → (vars next : ℕ) → List (Option Built) → List TermStep → List Built → Type 0
-AreFine b h v n xs [] bs = Unit {0}
-AreFine b h v n xs (o ∷ os) bs = IsFine b h v n xs o bs × AreFine b h v n xs os (step_built b h xs o bs)
+abbrev pub steps_built : Home → List Step → Stack → Stack
+steps_built h [] s = s
+steps_built h (o ∷ os) s = steps_built h os (step_built h o s)
+
+abbrev pub AreFine : Home → (vars next : ℕ) → (in_body : Bool) → List Step → Stack → Type 0
+AreFine h v n i [] s = Unit {0}
+AreFine h v n i (o ∷ os) s = IsFine h v n i o s × AreFine h v n i os (step_built h o s)
 
 -- these terms stand in these registers
 abbrev pub StandIn : List (Option Built) → (registers : List ℕ) → List Built → Type 0
@@ -72,14 +83,17 @@ pub record StepsPut (b : Nodes) (old new : Emitter) (steps : List TermStep) (mad
   pub types_grow : old.types ≤ new.types
   pub terms_grow : old.registers ≤ new.registers
   pub denotes : (h : Home) (later : Later) (vars : ℕ) (s : State) → TypesStand h vars old.types s → TermsStand h old.registers s → new.types ≤ h.self.types → new.registers ≤ h.self.registers →
-      AreFine b h vars old.registers s.now.terms steps [] → HasRoom s (s.place + sum_by length_of more) →
-      (t : State) × Moves h later vars old.types new.types old.registers new.registers s more t × StandIn t.now.terms made (steps_built b h s.now.terms steps []) × All
-      (λ r. r < new.registers) made
+      AreFine h vars old.registers s.in_body (map (plain_step b) steps) (stack s.now.terms []) → HasRoom s (s.place + sum_by length_of more) →
+      (t : State) × Moves h later vars old.types new.types old.registers new.registers (steps_built h (map (plain_step b) steps) (stack s.now.terms [])).registers s more t
+      × StandIn t.now.terms made (steps_built h (map (plain_step b) steps) (stack s.now.terms [])).made × All (λ r. r < new.registers) made
 
--- the steps are fine and come to one term
-pub record AreOfTerm (b : Nodes) (h : Home) (vars next : ℕ) (xs : List (Option Built)) (steps : List TermStep) : Type 0 where
-  pub fine : AreFine b h vars next xs steps []
-  pub one : length (steps_built b h xs steps []) ≡ 1
-
-abbrev pub TermOfSteps : Nodes → (old new : Emitter) → (register : ℕ) → List TermStep → Type 0
-TermOfSteps b old new r steps = IsTermPut old new r (λ h vars xs. AreOfTerm b h vars old.registers xs steps) (λ h xs. last_built (steps_built b h xs steps []))
+-- more code, which makes the term of these steps in a register wherever it is run, each step is fine, and they come to one term
+pub record TermOfSteps (b : Nodes) (old new : Emitter) (register : ℕ) (steps : List TermStep) : Type 0 where
+  pub more : List Instr
+  pub code_is : new.code.items ≡ old.code.items ++ more
+  pub types_grow : old.types ≤ new.types
+  pub terms_grow : old.registers ≤ new.registers
+  pub denotes : (h : Home) (later : Later) (vars : ℕ) (s : State) (xs : List (Option Built)) (built : Built) → TypesStand h vars old.types s → TermsStand h old.registers s → new.types ≤ h.self.types →
+      new.registers ≤ h.self.registers → AreFine h vars old.registers s.in_body (map (plain_step b) steps) (stack s.now.terms []) →
+      steps_built h (map (plain_step b) steps) (stack s.now.terms []) ≡ stack xs (built ∷ []) → HasRoom s (s.place + sum_by length_of more) →
+      (t : State) × Moves h later vars old.types new.types old.registers new.registers xs s more t × (held t.now.terms register ≡ Some built) × (register < new.registers)

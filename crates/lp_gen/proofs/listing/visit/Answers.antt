@@ -1,7 +1,7 @@
 use Rattle.std.proofs.Common.{map}
 use Rattle.lp_gen.specs.declared.types.TypeView.TheVariants.{Proposition}
 use Rattle.lp_gen.proofs.Works.{visits_spine}
-use Rattle.lp_gen.proofs.terms.Writer.visit.Goals as goal
+use Rattle.lp_gen.proofs.listing.visit.Goals as goal
 
 pub returns-in_ok-push-in-App-3 : goal.returns-in_ok-push-in-App-3
 returns-in_ok-push-in-App-3 c =
