@@ -58,7 +58,11 @@ turns_one h later vars n k s i gs Ts bs eff ts rs long st te room fine = (
       unset = λ r l. ap (λ ds. member r (s.types_set ++ ds)) ts ∙ ap (member r) (append-nil s.types_set) ∙ st.unset r l;
       sound = λ e r. let q = eqb-true (s.place + length_of i) 0 e in absurd (omega (arith, q, long));
     };
-    terms_stand = record { as_many = te.as_many; unset = λ r l. ap (λ ds. member r (s.terms_set ++ ds)) rs ∙ ap (member r) (append-nil s.terms_set) ∙ te.unset r l };
+    terms_stand = record {
+      as_many = te.as_many;
+      unset = λ r l. ap (λ ds. member r (s.terms_set ++ ds)) rs ∙ ap (member r) (append-nil s.terms_set) ∙ te.unset r l;
+      fresh = λ e r q. ap (λ ds. member r (s.terms_set ++ ds)) rs ∙ ap (member r) (append-nil s.terms_set) ∙ te.fresh e r q;
+    };
   },
 )
   where

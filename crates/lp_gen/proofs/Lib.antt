@@ -11,6 +11,8 @@ mod LooseOf
 mod AroundSet
 mod TermListed
 mod ConstantTypes
+mod TermWritten
+mod AtomWritten
 mod Denoting
 mod Goals
 mod Arguments

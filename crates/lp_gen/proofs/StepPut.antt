@@ -38,7 +38,7 @@ stand_length xs [] (b ∷ bs) a = absurd a
 stand_length xs (r ∷ rs) [] a = absurd a
 stand_length xs (r ∷ rs) (b ∷ bs) a = ap suc (stand_length xs rs bs a.1)
 
-stand_push : (xs : List (Option Built)) (rs : List ℕ) (bs : List Built) (r : ℕ) (b : Built) → StandIn xs rs bs → held xs r ≡ Some b → StandIn xs (rs ++ r ∷ []) (bs ++ b ∷ [])
+pub stand_push : (xs : List (Option Built)) (rs : List ℕ) (bs : List Built) (r : ℕ) (b : Built) → StandIn xs rs bs → held xs r ≡ Some b → StandIn xs (rs ++ r ∷ []) (bs ++ b ∷ [])
 stand_push xs [] [] r b a e = (e, tt)
 stand_push xs [] (c ∷ bs) r b a e = absurd a
 stand_push xs (q ∷ rs) [] r b a e = absurd a
@@ -89,16 +89,16 @@ stand_top xs rs bs a l =
     ap (held xs) (first_dropped (length rs - 1) rs) ∙ ap (λ k. held xs (slice_index_or rs (k - 1) 0)) (stand_length xs rs bs a)
     ∙ stand_at xs (length bs - 1) rs bs (whole (index 0) o_type) a (omega (arith, l))
 
-all_set : (xs : List (Option Built)) (rs : List ℕ) (bs : List Built) → StandIn xs rs bs → list_any (λ r. is_none (held xs r)) rs ≡ false
+pub all_set : (xs : List (Option Built)) (rs : List ℕ) (bs : List Built) → StandIn xs rs bs → list_any (λ r. is_none (held xs r)) rs ≡ false
 all_set xs [] [] a = refl
 all_set xs [] (c ∷ bs) a = absurd a
 all_set xs (q ∷ rs) [] a = absurd a
 all_set xs (q ∷ rs) (c ∷ bs) a = or_none (is_none (held xs q)) (list_any (λ r. is_none (held xs r)) rs) (ap is_none a.0) (all_set xs rs bs a.1)
 
-at_held : (xs : List (Option Built)) (r : ℕ) (b : Built) → held xs r ≡ Some b → built_at xs r ≡ b
+pub at_held : (xs : List (Option Built)) (r : ℕ) (b : Built) → held xs r ≡ Some b → built_at xs r ≡ b
 at_held xs r b e = ap (λ o. unwrap_or o (whole (index 0) o_type)) e
 
-all_at : (xs : List (Option Built)) (rs : List ℕ) (bs : List Built) → StandIn xs rs bs → map (built_at xs) rs ≡ bs
+pub all_at : (xs : List (Option Built)) (rs : List ℕ) (bs : List Built) → StandIn xs rs bs → map (built_at xs) rs ≡ bs
 all_at xs [] [] a = refl
 all_at xs [] (c ∷ bs) a = absurd a
 all_at xs (q ∷ rs) [] a = absurd a

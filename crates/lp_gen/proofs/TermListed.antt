@@ -20,7 +20,7 @@ use Rattle.lp_gen.specs.inner.Running.{built_at}
 use Rattle.lp_gen.specs.inner.Listing.{Step, make_constant, make_integer, make_text, make_index, make_variable, from_register, apply_last, abstract_last, Seen, Around, at_level, level_in, seen_in, set_level}
 use Rattle.lp_gen.specs.inner.Listing.{Listed, one_step, seen_listed, found_listed, level_listed, bound_listed, index_listed, atom_listed, type_or, bound_or, index_type, atom_function, Headed, as_head, with_argument, applied, abstracted, listed, headed}
 use Rattle.lp_gen.specs.inner.TermSteps.{Stack, stack, made_variable, last_built, before_last, step_built, IsFine, steps_built, AreFine}
-use Rattle.lp_gen.specs.inner.TermLaw.{SameSides, Asks, AsksConstants, Standing, AllLoose, IsSeen, level_term, index_term, with_variables, AreOf, AllOf, IsBuilt, SameAround, Comes, ComesWith}
+use Rattle.lp_gen.specs.inner.TermLaw.{SameSides, Asks, AsksConstants, Standing, KnownAtoms, AllLoose, IsSeen, level_term, index_term, with_variables, AreOf, AllOf, IsBuilt, SameAround, Comes, ComesWith}
 use Rattle.lp_gen.proofs.Denoting.{held_set}
 use Rattle.lp_gen.proofs.LooseOf.{both_true, none_some, some_same, all_agree_of, all_joined_of, all_of_push, bound_of, outer_of, innermost_of, apply_push, applied_more}
 use Rattle.lp_gen.proofs.AroundSet.{around_same, around_then, around_set, all_seen, variables_same, standing_set}
@@ -72,25 +72,19 @@ else_none : (o p : Option Term) → or_else o p ≡ None → (o ≡ None) × (p 
 else_none None p e = (refl, e)
 else_none (Some t) p e = absurd (no_step t e)
 
-abbrev IsNoAbstraction : Term → Type 0
+abbrev pub IsNoAbstraction : Term → Type 0
 IsNoAbstraction (index i) = Unit {0}
 IsNoAbstraction (atom s) = Unit {0}
 IsNoAbstraction (abs b) = ⊥
 IsNoAbstraction (app t u) = Unit {0}
 
-normal_parts : (t u : Term) → leftmost_step (app t u) ≡ None → (leftmost_step t ≡ None) × (leftmost_step u ≡ None) × IsNoAbstraction t
+pub normal_parts : (t u : Term) → leftmost_step (app t u) ≡ None → (leftmost_step t ≡ None) × (leftmost_step u ≡ None) × IsNoAbstraction t
 normal_parts (index i) u e = (refl, option_none (app (index i)) (leftmost_step u) e, tt)
 normal_parts (atom s) u e = (refl, option_none (app (atom s)) (leftmost_step u) e, tt)
 normal_parts (abs b) u e = absurd (no_step _ e)
 normal_parts (app t v) u e =
     let w = else_none (option_term (λ s. app s u) (leftmost_step (app t v))) (option_term (app (app t v)) (leftmost_step u)) e in
     (option_none (λ s. app s u) (leftmost_step (app t v)) w.0, option_none (app (app t v)) (leftmost_step u) w.1, tt)
-
-abbrev pub KnownAtoms : (kinds : ℕ → Option ℕ) → (vars : ℕ) → Term → Type 0
-KnownAtoms κ n (index i) = Unit {0}
-KnownAtoms κ n (atom s) = IsKnownAtom κ n s
-KnownAtoms κ n (abs b) = KnownAtoms κ n b
-KnownAtoms κ n (app t u) = KnownAtoms κ n t × KnownAtoms κ n u
 
 pub known_atoms : (κ : ℕ → Option ℕ) (n d m : ℕ) (t : Term) → IsKnownTerm κ n d m t → KnownAtoms κ n t
 known_atoms κ n d m (index i) k = tt
@@ -120,13 +114,13 @@ asks_same (type_param k) = tt
 asks_same (con k ts) = tt
 asks_same (arrow a b) = ((refl, refl), asks_same b)
 
-abbrev KnownSides : (kinds : ℕ → Option ℕ) → (vars : ℕ) → Ty → Type 0
+abbrev pub KnownSides : (kinds : ℕ → Option ℕ) → (vars : ℕ) → Ty → Type 0
 KnownSides κ n (var i) = Unit {0}
 KnownSides κ n (type_param k) = Unit {0}
 KnownSides κ n (con k ts) = Unit {0}
 KnownSides κ n (arrow a b) = IsKnownType κ n a × IsKnownType κ n b
 
-known_sides : (κ : ℕ → Option ℕ) (n : ℕ) (T : Ty) → IsKnownType κ n T → KnownSides κ n T
+pub known_sides : (κ : ℕ → Option ℕ) (n : ℕ) (T : Ty) → IsKnownType κ n T → KnownSides κ n T
 known_sides κ n (var i) k = tt
 known_sides κ n (type_param j) k = tt
 known_sides κ n (con c ts) k = tt
@@ -142,7 +136,7 @@ is_term c e = go (nat_eq c 2) (nat_eq c 3) (nat_eq c 7) (nat_eq c 24) e
     go false false false true e = absurd (true≢false (sym e))
     go false false false false e = refl
 
-has_scheme : (Ts : List Ty) (s : Option Scheme) (T : Ty) → scheme_type Ts s ≡ Some T → has_count s (length Ts) ≡ true
+pub has_scheme : (Ts : List Ty) (s : Option Scheme) (T : Ty) → scheme_type Ts s ≡ Some T → has_count s (length Ts) ≡ true
 has_scheme Ts None T e = absurd (none_some T e)
 has_scheme Ts (Some s) T e = go (nat_eq (length Ts) s.count) refl e
   where

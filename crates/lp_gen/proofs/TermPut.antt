@@ -39,14 +39,14 @@ hold_all_more s [] (U ∷ Us) r T a b = absurd a
 hold_all_more s (q ∷ rs) [] r T a b = absurd a
 hold_all_more s (q ∷ rs) (U ∷ Us) r T a b = (a.0, hold_all_more s rs Us r T a.1 b)
 
-hold_all_on : (n : ℕ) (s t : State) (rs : List ℕ) (Ts : List Ty) → ((r : ℕ) → r < n → held t.now.types r ≡ held s.now.types r) → All (λ r. r < n) rs → HoldAll s rs (tys Ts) →
+pub hold_all_on : (n : ℕ) (s t : State) (rs : List ℕ) (Ts : List Ty) → ((r : ℕ) → r < n → held t.now.types r ≡ held s.now.types r) → All (λ r. r < n) rs → HoldAll s rs (tys Ts) →
     HoldAll t rs (tys Ts)
 hold_all_on n s t [] [] k l a = tt
 hold_all_on n s t [] (U ∷ Us) k l a = absurd a
 hold_all_on n s t (q ∷ rs) [] k l a = absurd a
 hold_all_on n s t (q ∷ rs) (U ∷ Us) k l a = (k q (All-head (λ r. r < n) q rs l) ∙ a.0, hold_all_on n s t rs Us k (All-tail (λ r. r < n) q rs l) a.1)
 
-types_held : (s : State) (rs : List ℕ) (Ts : List Ty) → HoldAll s rs (tys Ts) → (types_in s.now rs ≡ Ts) × (length rs ≡ length Ts)
+pub types_held : (s : State) (rs : List ℕ) (Ts : List Ty) → HoldAll s rs (tys Ts) → (types_in s.now rs ≡ Ts) × (length rs ≡ length Ts)
 types_held s [] [] a = (refl, refl)
 types_held s [] (U ∷ Us) a = absurd a
 types_held s (r ∷ rs) [] a = absurd a

@@ -61,7 +61,7 @@ pub steps_length : (h : Home) (os : List Step) (z : Stack) → length (steps_bui
 steps_length h [] z = refl
 steps_length h (o ∷ os) z = steps_length h os (step_built h o z) ∙ step_length h o z
 
-stand_past : (n : ℕ) (xs ys : List (Option Built)) (rs : List ℕ) (bs : List Built) → ((r : ℕ) (b : Built) → r < n → held xs r ≡ Some b → held ys r ≡ Some b) → All (λ r. r < n) rs → StandIn xs rs bs →
+pub stand_past : (n : ℕ) (xs ys : List (Option Built)) (rs : List ℕ) (bs : List Built) → ((r : ℕ) (b : Built) → r < n → held xs r ≡ Some b → held ys r ≡ Some b) → All (λ r. r < n) rs → StandIn xs rs bs →
     StandIn ys rs bs
 stand_past n xs ys [] [] k l a = tt
 stand_past n xs ys [] (c ∷ bs) k l a = absurd a

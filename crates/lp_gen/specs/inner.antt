@@ -1,3 +1,4 @@
+pub mod Doing
 pub mod Fitting
 pub mod Listing
 pub mod Pieces
@@ -9,3 +10,4 @@ pub mod Tasks
 pub mod TermLaw
 pub mod TermSteps
 pub mod Works
+pub mod Written

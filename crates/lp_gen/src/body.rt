@@ -4,7 +4,7 @@ use crate::calls::{put_call, put_term_call};
 use crate::environment::Variable;
 use crate::fault::GenRefusal;
 use crate::plan::Step;
-use crate::terms::Writer;
+use crate::terms::{Writer, put_arguments, put_term};
 use crate::types::TypeView;
 use lp_code::Instr;
 use lp_term::{TermId, TermNode, TypeId, spine_of};
@@ -26,11 +26,25 @@ impl<'a> Writer<'a> {
         match self.tables.bank.term_node(spine.head) {
             TermNode::Const(number, types) => {
                 let types = self.put_types(types)?;
-                let terms = self.put_arguments(spine.head, spine.args.as_slice())?;
+                let terms = put_arguments(
+                    self.alloc,
+                    self.tables,
+                    &mut self.emitter,
+                    &mut self.environment,
+                    spine.head,
+                    spine.args.as_slice(),
+                )?;
                 put_call(&mut self.emitter, number, types, terms)
             }
             _ => {
-                let register = self.put_term(atom, TypeView::Proposition)?;
+                let register = put_term(
+                    self.alloc,
+                    self.tables,
+                    &mut self.emitter,
+                    &mut self.environment,
+                    atom,
+                    TypeView::Proposition,
+                )?;
                 put_term_call(&mut self.emitter, register)
             }
         }

@@ -3,7 +3,7 @@
 use crate::fault::GenRefusal;
 use crate::got::{get_constant, get_integer, get_term, get_text, get_type};
 use crate::listing::type_of_head;
-use crate::terms::Writer;
+use crate::terms::{Writer, put_term};
 use crate::types::TypeView;
 use lp_base::Limit;
 use lp_code::{Instr, Key, RecordHead};
@@ -72,7 +72,14 @@ impl<'a> Writer<'a> {
                 get_text(&mut self.emitter, at, text)
             }
             _ => {
-                let register = self.put_term(argument, of)?;
+                let register = put_term(
+                    self.alloc,
+                    self.tables,
+                    &mut self.emitter,
+                    &mut self.environment,
+                    argument,
+                    of,
+                )?;
                 get_term(&mut self.emitter, at, register)
             }
         }

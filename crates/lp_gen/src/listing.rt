@@ -1,12 +1,11 @@
 // The steps of a term, those of its parts before its own.
 ghost use Rattle.std.specs.Prelude.{◌≡◌, ℕ, List, [], ◌≤◌, ◌-◌, ◌+◌, ◌*◌, length, map, reverse, slice_get, sum_by, take, OnOk, IfOk};
 ghost use Rattle.lp_calculus.specs.Types.{Ty};
-ghost use Rattle.lp_term.specs.Nodes.{Nodes, tree, node_tree};
-ghost use Rattle.lp_term.specs.Shapes.{term_shape};
+ghost use Rattle.lp_term.specs.Nodes.{Nodes, tree};
 ghost use Rattle.lp_term.specs.Walk.{size};
 ghost use Rattle.lp_gen.specs.inner.Reading.{read};
 ghost use Rattle.lp_gen.specs.inner.Sizes.{term_task, term_work};
-ghost use Rattle.lp_gen.specs.inner.Listing.{plain_step, around_of, level_listed, level_in, index_listed, leaf_listed, index_type, read_function, constant_function, head_type, listed};
+ghost use Rattle.lp_gen.specs.inner.Listing.{plain_step, around_of, level_listed, level_in, index_listed, node_listed, index_type, read_function, constant_function, head_type, listed};
 ghost use Rattle.lp_gen.specs.inner.Tasks.{Adds, Course, course, act, done};
 ghost use Rattle.lp_gen.specs.declared.listing.Task.TheVariants as on;
 
@@ -130,7 +129,7 @@ fn leaf<'a>(
     node: TermNode<'a>,
 ) -> Result<(), GenRefusal>
     ensures bound { OnOk result (lists.new.bound.items ≡ lists.old.bound.items) }
-    ensures adds { OnOk result ((b : Nodes) → Adds b environment.old environment.new lists.old.steps.items lists.new.steps.items (leaf_listed (map (read b) (reverse lists.old.bound.items)) (around_of b environment.old) (node_tree b (term_shape node.entry)))) }
+    ensures adds { OnOk result ((b : Nodes) → Adds b environment.old environment.new lists.old.steps.items lists.new.steps.items (node_listed b (map (read b) (reverse lists.old.bound.items)) (around_of b environment.old) node.entry)) }
 {
     match node {
         TermNode::Index(index) => {
@@ -228,8 +227,8 @@ fn take_up<'a>(
     task: Task,
     work: &mut Vec<Task>,
 ) -> Result<(), GenRefusal>
-    ensures less { OnOk result (term_work tables.entry.bank.now work.new.items + 1 ≤ term_work tables.entry.bank.now work.old.items + term_task tables.entry.bank.now task.entry) }
-    ensures acts { OnOk result (done (constant_function tables.entry.bank.now tables.entry.constants.now) tables.entry.bank.now work.new.items (course tables.entry.bank.now environment.new lists.new) ≡ done (constant_function tables.entry.bank.now tables.entry.constants.now) tables.entry.bank.now work.old.items (act (constant_function tables.entry.bank.now tables.entry.constants.now) tables.entry.bank.now task.entry (course tables.entry.bank.now environment.old lists.old))) }
+    ensures less { OnOk result (term_work tables.entry.bank.now work.new.items + 1 ≤ term_work tables.entry.bank.now work.old.items + term_task tables.entry.bank.now task) }
+    ensures acts { OnOk result (done (constant_function tables.entry.bank.now tables.entry.constants.now) tables.entry.bank.now work.new.items (course tables.entry.bank.now environment.new lists.new) ≡ done (constant_function tables.entry.bank.now tables.entry.constants.now) tables.entry.bank.now work.old.items (act (constant_function tables.entry.bank.now tables.entry.constants.now) tables.entry.bank.now task (course tables.entry.bank.now environment.old lists.old))) }
 {
     match task {
         Task::Visit(part, of) => {

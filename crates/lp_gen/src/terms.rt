@@ -1,4 +1,10 @@
 // Terms in registers.
+ghost use Rattle.std.specs.Prelude.{[], map, IfOk};
+ghost use Rattle.lp_term.specs.Nodes.{tree};
+ghost use Rattle.lp_gen.specs.inner.Reading.{read};
+ghost use Rattle.lp_gen.specs.inner.Listing.{around_of, constant_function, head_type};
+ghost use Rattle.lp_gen.specs.inner.Written.{TermWritten, ArgumentsWritten};
+
 use crate::emitter::Emitter;
 use crate::environment::{Environment, Variable};
 use crate::fault::GenRefusal;
@@ -21,6 +27,44 @@ pub(crate) struct Writer<'a> {
     pub starts: Vec<Starts>,
 }
 
+/// The term of this type in a register.
+pub(crate) fn put_term(
+    alloc: Global,
+    tables: Tables<'_>,
+    emitter: &mut Emitter,
+    environment: &mut Environment<'_>,
+    term: TermId,
+    of: TypeView,
+) -> Result<u16, GenRefusal>
+    ensures { IfOk result (λ register. TermWritten (constant_function tables.entry.bank.now tables.entry.constants.now) emitter.old emitter.new (around_of tables.entry.bank.now environment.old) (around_of tables.entry.bank.now environment.new) register (read tables.entry.bank.now of) (tree tables.entry.bank.now term.0)) }
+{
+    let steps = list_steps(alloc, tables, environment, term, of)?;
+    let register = put_steps(alloc, tables.bank, emitter, steps.as_slice())?;
+    Ok(register)
+}
+
+/// The arguments of a head in registers.
+pub(crate) fn put_arguments(
+    alloc: Global,
+    tables: Tables<'_>,
+    emitter: &mut Emitter,
+    environment: &mut Environment<'_>,
+    head: TermId,
+    args: &[TermId],
+) -> Result<Vec<u16>, GenRefusal>
+    ensures { IfOk result (λ registers. ArgumentsWritten (constant_function tables.entry.bank.now tables.entry.constants.now) emitter.old emitter.new (around_of tables.entry.bank.now environment.old) (around_of tables.entry.bank.now environment.new) registers.items (head_type (constant_function tables.entry.bank.now tables.entry.constants.now) [] (around_of tables.entry.bank.now environment.old) (tree tables.entry.bank.now head.0)) (map (λ t. tree tables.entry.bank.now t.0) args.now)) }
+{
+    let mut function = type_of_head(tables, environment, &[], head);
+    let mut registers = Vec::new(alloc);
+    for arg in args.iter().copied() {
+        let (of, left) = function.next(tables.bank);
+        let register = put_term(alloc, tables, emitter, environment, arg, of)?;
+        registers.push(register)?;
+        function = left;
+    }
+    Ok(registers)
+}
+
 impl<'a> Writer<'a> {
     /// The type in a register.
     pub(crate) fn put_type(&mut self, of: TypeView) -> Result<u16, GenRefusal> {
@@ -38,28 +82,5 @@ impl<'a> Writer<'a> {
         self.emitter.emit(Instr::New(of.register, register))?;
         self.environment.set(level);
         Ok(())
-    }
-
-    /// The term of this type in a register.
-    pub(crate) fn put_term(&mut self, term: TermId, of: TypeView) -> Result<u16, GenRefusal> {
-        let steps = list_steps(self.alloc, self.tables, &mut self.environment, term, of)?;
-        put_steps(self.alloc, self.tables.bank, &mut self.emitter, steps.as_slice())
-    }
-
-    /// The arguments of a head in registers.
-    pub(crate) fn put_arguments(
-        &mut self,
-        head: TermId,
-        args: &[TermId],
-    ) -> Result<Vec<u16>, GenRefusal> {
-        let mut function = type_of_head(self.tables, &self.environment, &[], head);
-        let mut registers = Vec::new(self.alloc);
-        for arg in args.iter().copied() {
-            let (of, left) = function.next(self.tables.bank);
-            let register = self.put_term(arg, of)?;
-            registers.push(register)?;
-            function = left;
-        }
-        Ok(registers)
     }
 }

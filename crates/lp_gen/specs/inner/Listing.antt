@@ -9,6 +9,8 @@ use Rattle.lp_standard.specs.Constants.{numbered, first_declared}
 use Rattle.lp_standard.specs.Schemes.{scheme}
 use Rattle.lp_model.specs.declared.program.Declared.{Declared}
 use Rattle.lp_term.specs.Nodes.{Nodes, type_tree}
+use Rattle.lp_term.specs.declared.node.TermNode.{TermNode}
+use Rattle.lp_term.specs.declared.node.TermNode.TheVariants as node
 use Rattle.lp_gen.specs.declared.environment.Variable.{Variable}
 use Rattle.lp_gen.specs.declared.environment.Environment.{Environment}
 use Rattle.lp_gen.specs.declared.standard.Function.{Function}
@@ -118,11 +120,17 @@ atom_listed C a (eigen k) = index_listed C a 0
 atom_listed C a (logic x l) = index_listed C a 0
 atom_listed C a (param k T) = index_listed C a 0
 
-abbrev pub leaf_listed : List Ty → Around → Term → Listed
-leaf_listed C a (index i) = index_listed C a i
-leaf_listed C a (atom s) = atom_listed C a s
-leaf_listed C a (abs b) = index_listed C a 0
-leaf_listed C a (app t u) = index_listed C a 0
+-- the same by a node: one that is neither an index nor has steps of its own counts as index 0
+abbrev pub node_listed : Nodes → List Ty → Around → TermNode → Listed
+node_listed b C a (node.Index i) = index_listed C a i
+node_listed b C a (node.Const c ids) = one_step a (make_constant c (map (λ t. type_tree b t.0) ids.now))
+node_listed b C a (node.Int z) = one_step a (make_integer z)
+node_listed b C a (node.Text s) = one_step a (make_text s.now)
+node_listed b C a (node.Eigen k) = index_listed C a 0
+node_listed b C a (node.Logic x l) = index_listed C a 0
+node_listed b C a (node.Param k t) = index_listed C a 0
+node_listed b C a (node.Abs body) = index_listed C a 0
+node_listed b C a (node.App f ids) = index_listed C a 0
 
 -- the type of a head
 

@@ -6,7 +6,7 @@ use Rattle.lp_calculus.specs.Typing.{Scheme, scheme_type}
 use Rattle.lp_code.specs.Symbolic.{Tables, Built, variable, held, whole, applied_type, plain_terms}
 use Rattle.lp_code.specs.States.{Home}
 use Rattle.lp_code.specs.Rules.{built_types}
-use Rattle.lp_gen.specs.Sources.{IsKnownType}
+use Rattle.lp_gen.specs.Sources.{IsKnownType, IsKnownAtom}
 use Rattle.lp_gen.specs.inner.Reading.{from_of, to_of}
 use Rattle.lp_gen.specs.inner.Listing.{Seen, Around, at_level, level_in, seen_in, Listed, Headed}
 use Rattle.lp_gen.specs.inner.TermSteps.{stack, steps_built, AreFine}
@@ -38,6 +38,13 @@ pub record Standing (h : Home) (vars next : ℕ) (in_body : Bool) (σ : ℕ → 
   pub apart : (l m : ℕ) (v w : Seen) → at_level a l ≡ Some v → at_level a m ≡ Some w → v.is_set ≡ false → w.is_set ≡ false → v.register ≡ w.register → l ≡ m
   pub known : (l : ℕ) (v : Seen) → at_level a l ≡ Some v → IsKnownType h.tables.kinds vars v.of
   pub long : next ≤ length xs
+
+-- the constants of a term are known
+abbrev pub KnownAtoms : (kinds : ℕ → Option ℕ) → (vars : ℕ) → Term → Type 0
+KnownAtoms κ n (index i) = Unit {0}
+KnownAtoms κ n (atom s) = IsKnownAtom κ n s
+KnownAtoms κ n (abs b) = KnownAtoms κ n b
+KnownAtoms κ n (app t u) = KnownAtoms κ n t × KnownAtoms κ n u
 
 -- a predicate on the loose indices of a term, which stands under d abstractions
 abbrev pub AllLoose : (ℕ → Type 0) → ℕ → Term → Type 0
