@@ -1,14 +1,14 @@
 -- The code of an atom as a goal.
-use Rattle.std.proofs.Common.{◌≡◌, ◌∙◌, ◌≤◌, ◌<◌, ℕ, zero, suc, ◌+◌, List, [], ◌∷◌, ◌++◌, append_assoc, map, length, Bool, true, false, Option, Some, None, ap, refl, sym, subst, arith, true≢false}
-use Rattle.std.specs.Prelude.{All, nat_eq, not, ◌&&◌, ◌||◌, if◌then◌else◌, is_none, sum_by, slice_get, unwrap_or}
-use Rattle.std.specs.List.{list_any, list_all}
+use Rattle.std.proofs.Common.{◌≡◌, ◌≢◌, Bor, ◌∙◌, ◌≤◌, ◌<◌, ℕ, List, [], ◌∷◌, ◌++◌, append_assoc, map, length, Bool, true, false, Option, Some, None, ap, refl, sym, subst, arith, true≢false}
+use Rattle.std.specs.Prelude.{nat_eq, not, ◌&&◌, ◌||◌, if◌then◌else◌, is_none, slice_get, unwrap_or}
+use Rattle.std.specs.List.{list_any}
 use Rattle.std.proofs.lemmas.Bool.{eqb-true, ne_eqb}
 use Rattle.std.proofs.lemmas.List.{append-nil}
 use Rattle.std.proofs.lemmas.List.Sums.{sum_by-append}
 use Rattle.lp_lemmas.proofs.Booleans.{and_true_left, and_true_right}
 use Rattle.lp_calculus.specs.Types.{Ty, arrow, tys, instance}
-use Rattle.lp_calculus.specs.Term.{Term, index, atom, abs, app, apply, constant}
-use Rattle.lp_calculus.specs.Typing.{Scheme, o_type, scheme_type, type_at, HasType}
+use Rattle.lp_calculus.specs.Term.{Term, index, atom, abs, app, apply, constant, integer, text, eigen, logic, param}
+use Rattle.lp_calculus.specs.Typing.{o_type, scheme_type, type_at, HasType}
 use Rattle.lp_calculus.specs.Convert.{leftmost_step}
 use Rattle.lp_calculus.specs.Spine.{head_of, arguments, arguments_and}
 use Rattle.lp_standard.specs.Connectives.{connective_of, connective_at, connective_of_constant}
@@ -16,31 +16,39 @@ use Rattle.lp_standard.specs.Connectives as connective
 use Rattle.lp_standard.specs.Positive.{are_positive, is_positive}
 use Rattle.lp_standard.specs.Schemes.{IsStandard, plain, on_two, entry, standard_schemes}
 use Rattle.lp_model.specs.Flat.{Goals, Atomic}
+use Rattle.lp_model.specs.Flatten.{is_goal_head}
+use Rattle.lp_term.specs.Nodes.{Nodes, tree, type_tree, node_tree}
+use Rattle.lp_term.specs.Node.{TermBelow}
+use Rattle.lp_term.specs.Shapes.{term_shape}
+use Rattle.lp_term.specs.declared.node.TypeId.{TypeId}
+use Rattle.lp_term.specs.declared.node.TermNode.{TermNode}
+use Rattle.lp_term.specs.declared.node.TermNode.TheVariants as node
 use Rattle.lp_term.specs.Spine.{IsNoApplication}
 use Rattle.lp_code.specs.declared.instruction.Instr.{Instr}
 use Rattle.lp_code.specs.Length.{length_of}
 use Rattle.lp_code.specs.Symbolic.{Built, Registers, held, whole, applied_type, is_closed, equal_types, types_in, term_in, terms_in, plain_terms}
 use Rattle.lp_code.specs.States.{State, Home, with_goal}
 use Rattle.lp_code.specs.Steps.{Later, constant_of}
-use Rattle.lp_code.specs.Rules.{built_types, has_count, has_type, is_no_term, is_passed}
+use Rattle.lp_code.specs.Rules.{built_types, has_count, has_type, is_no_term}
 use Rattle.lp_code.specs.Denote.{run}
 use Rattle.lp_gen.specs.declared.emitter.Emitter.{Emitter}
 use Rattle.lp_gen.specs.Sources.{types_by, IsKnownType}
 use Rattle.lp_gen.specs.inner.Reading.{from_of, to_of}
-use Rattle.lp_gen.specs.inner.Running.{HasRoom, TypesStand, TermsStand, Leads, HoldAll, AreTypesPut}
+use Rattle.lp_gen.specs.inner.Running.{TypesStand, TermsStand, Leads, AreTypesPut}
 use Rattle.lp_gen.specs.inner.Saying.{AreGoalParts, CallPut, IsGoalTerm, TermCallPut, Turns}
-use Rattle.lp_gen.specs.inner.Listing.{Around}
+use Rattle.lp_gen.specs.inner.Listing.{Around, head_type}
 use Rattle.lp_gen.specs.inner.TermSteps.{StandIn}
-use Rattle.lp_gen.specs.inner.TermLaw.{Asks, Standing, KnownAtoms, AllLoose, IsSeen, with_variables, SameAround}
+use Rattle.lp_gen.specs.inner.TermLaw.{Standing, KnownAtoms, AllLoose, IsSeen, with_variables}
 use Rattle.lp_gen.specs.inner.Written.{Goes, AreAsked, IsWell, TermWritten, AreWell, wholes, ArgumentsWritten}
-use Rattle.lp_gen.specs.inner.Doing.{Does, IsGoalAtom, AtomWritten}
-use Rattle.lp_gen.proofs.Denoting.{or_none, room_less, room_front, room_behind, none_unset}
+use Rattle.lp_gen.specs.inner.Doing.{Does, AtomWritten}
+use Rattle.lp_gen.proofs.Denoting.{or_none, room_front, room_behind, none_unset}
 use Rattle.lp_gen.proofs.TermPut.{hold_all_on, types_held, moved}
 use Rattle.lp_gen.proofs.StepPut.{all_set, all_at}
-use Rattle.lp_gen.proofs.LooseOf.{equal_self, none_some, some_same}
+use Rattle.lp_gen.proofs.LooseOf.{both_true, equal_self, none_some, some_same}
 use Rattle.lp_gen.proofs.TermListed.{KnownSides, known_sides, normal_parts, has_scheme}
 use Rattle.lp_gen.proofs.ConstantTypes.{known_constant}
-use Rattle.lp_gen.proofs.TermWritten.{then_goes, room_goes, standing_on}
+use Rattle.lp_gen.proofs.Courses.{mapped_types}
+use Rattle.lp_gen.proofs.TermWritten.{then_goes, room_goes}
 
 -- an applied head, and its arguments
 
@@ -277,8 +285,8 @@ call_written K start types args new a b c Ts ts qs rs x y z = record {
       let w = x.denotes h later vars s st (omega (arith, low, i, k)) sp.3 (room_front s front x.more y.more refl room_f) in
       let te_w : TermsStand h start.registers w.0 = (moved h later vars start.types types.types start.registers s w.0 x.more w.1 te).terms_stand in
       let stands_w : Standing h vars types.registers w.0.in_body σ a w.0.now.terms =
-          subst (λ n. Standing h vars n w.0.in_body σ a w.0.now.terms) (sym stay) (subst (λ z. Standing h vars start.registers z σ a w.0.now.terms) (sym w.1.same.in_body)
-          (subst (λ xs. Standing h vars start.registers s.in_body σ a xs) (sym w.1.same.terms) stands)) in
+      subst (λ n. Standing h vars n w.0.in_body σ a w.0.now.terms) (sym stay) (subst (λ z. Standing h vars start.registers z σ a w.0.now.terms) (sym w.1.same.in_body)
+      (subst (λ xs. Standing h vars start.registers s.in_body σ a xs) (sym w.1.same.terms) stands)) in
       let v = y.denotes h later vars w.0 σ Γ A o_type asked w.1.stands (subst (λ n. TermsStand h n w.0) (sym stay) te_w) (omega (arith, low, k)) (omega (arith, few, l)) stands_w well (asked.asks c Ts A sp.1)
       (room_behind h later vars start.types types.types s w.0 front x.more y.more w.1 refl room_f) in
       let bs = wholes A (map f ts) in
@@ -286,9 +294,9 @@ call_written K start types args new a b c Ts ts qs rs x y z = record {
       let types_are = types_held v.0 qs Ts held_types in
       let terms_are : terms_in v.0.now rs ≡ bs = all_at v.0.now.terms rs bs v.2 in
       let typed : has_type (applied_type (constant_of h.tables c (types_in v.0.now qs)).type (built_types (terms_in v.0.now rs))) o_type ≡ true =
-          (λ i. has_type (applied_type (constant_of h.tables c (types_are.0 i)).type (built_types (terms_are i))) o_type)
-          ∙ ap (λ o. has_type (applied_type (unwrap_or o o_type) (built_types bs)) o_type) sp.1
-          ∙ ap (λ o. has_type o o_type) (applied_wholes h vars Γ a f A ts o_type well) in
+      (λ i. has_type (applied_type (constant_of h.tables c (types_are.0 i)).type (built_types (terms_are i))) o_type)
+      ∙ ap (λ o. has_type (applied_type (unwrap_or o o_type) (built_types bs)) o_type) sp.1
+      ∙ ap (λ o. has_type o o_type) (applied_wholes h vars Γ a f A ts o_type well) in
       let parts : AreGoalParts h v.0 c qs rs = record {
         behind_head = v.1.same.in_body ∙ w.1.same.in_body ∙ body;
         types_set = none_unset v.0 qs (tys Ts) held_types;
@@ -306,7 +314,7 @@ call_written K start types args new a b c Ts ts qs rs x y z = record {
       (goes_does h later vars start.types args.types start.registers args.registers s v.0 front first) (turns_does h later vars args.types args.registers v.0 u.0 z.more _ _ _ u.1)
       (omega (arith, i, x.types_grow)) (omega (arith, j, stay)) in
       let said : apply (atom (constant c (types_in v.0.now qs))) (plain_terms (terms_in v.0.now rs)) ≡ f (apply head ts) =
-          (λ i. apply (atom (constant c (types_are.0 i))) (plain_terms (terms_are i))) ∙ ap (apply head) (plain_wholes A (map f ts)) ∙ sym (with_apply σ a 0 head ts) in (
+      (λ i. apply (atom (constant c (types_are.0 i))) (plain_terms (terms_are i))) ∙ ap (apply head) (plain_wholes A (map f ts)) ∙ sym (with_apply σ a 0 head ts) in (
         u.0,
         does_same h later vars start.types args.types new.types start.registers args.registers new.registers s u.0 (front ++ z.more) _ _ _ (with_goal s.goals (Atomic (f (apply head ts)))) s.head_types
             s.head_arguments (sym k) (sym l) (λ i. with_goal (first.same.goals i) (Atomic (said i))) first.same.head_types first.same.head_arguments last,
@@ -314,3 +322,122 @@ call_written K start types args new a b c Ts ts qs rs x y z = record {
         v.5,
       );
 }
+
+-- a goal whose head is no constant
+
+later_positive : (t : Term) (more : List Term) → are_positive (arguments_and t more) ≡ true → are_positive more ≡ true
+later_positive (index i) more p = p
+later_positive (atom s) more p = p
+later_positive (abs b) more p = p
+later_positive (app f a) more p = and_true_right (is_positive a) (are_positive more) (later_positive f (a ∷ more) p)
+
+positive_term : (t : Term) (more : List Term) → are_positive (arguments_and t more) ≡ true → is_positive (head_of t) ≡ true → is_positive t ≡ true
+positive_term (index i) more p q = q
+positive_term (atom s) more p q = q
+positive_term (abs b) more p q = q
+positive_term (app f a) more p q =
+    both_true (is_positive f) (is_positive a) (positive_term f (a ∷ more) p q) (and_true_left (is_positive a) (are_positive more) (later_positive f (a ∷ more) p))
+
+known_head : (κ : ℕ → Option ℕ) (n : ℕ) (t : Term) → KnownAtoms κ n t → KnownAtoms κ n (head_of t)
+known_head κ n (index i) k = tt
+known_head κ n (atom s) k = k
+known_head κ n (abs b) k = k
+known_head κ n (app f a) k = known_head κ n f k.0
+
+positive_head : (κ : ℕ → Option ℕ) (n : ℕ) (t : Term) → KnownAtoms κ n t → is_goal_head t ≡ true → ((c : ℕ) (Ts : List Ty) → t ≡ atom (constant c Ts) → ⊥) → is_positive t ≡ true
+positive_head κ n (index i) k g x = refl
+positive_head κ n (atom (constant c Ts)) k g x = absurd (x c Ts refl)
+positive_head κ n (atom (integer z)) k g x = absurd (true≢false (sym g))
+positive_head κ n (atom (text s)) k g x = absurd (true≢false (sym g))
+positive_head κ n (atom (eigen j)) k g x = absurd k
+positive_head κ n (atom (logic i l)) k g x = absurd k
+positive_head κ n (atom (param j T)) k g x = absurd k
+positive_head κ n (abs b) k g x = absurd (true≢false (sym g))
+positive_head κ n (app t u) k g x = absurd (true≢false (sym g))
+
+pub o_known : (h : Home) (v : ℕ) (K : ℕ → List Ty → Ty) → IsStandard h.tables.constants → AreAsked h K → IsKnownType h.tables.kinds v o_type
+o_known h v K std asked = asked.known 6 (record { count = 0; body = o_type }) (std.at 6 (omega arith))
+
+pub term_call_written : (K : ℕ → List Ty → Ty) (start term new : Emitter) (a b : Around) (r : ℕ) (t : Term) → TermWritten K start term a b r o_type t → TermCallPut term new r →
+    ((c : ℕ) (Ts : List Ty) → head_of t ≡ atom (constant c Ts) → ⊥) → AtomWritten K start new a b t
+term_call_written K start term new a b r t y z other = record {
+  more = y.more ++ z.more;
+  code_is = z.code_is ∙ ap (λ l. l ++ z.more) y.code_is ∙ append_assoc start.code.items y.more z.more;
+  types_grow = let j = y.types_grow in let k = z.types_stay in omega (arith, j, k);
+  terms_grow = let j = y.terms_grow in let k = z.registers_stay in omega (arith, j, k);
+  denotes = λ h later vars s σ Γ std asked st te low few body stands good room.
+      let f = with_variables σ a 0 in
+      let k = z.types_stay in
+      let l = z.registers_stay in
+      let head = positive_head h.tables.kinds vars (head_of t) (known_head h.tables.kinds vars t good.known) good.headed other in
+      let well : IsWell h vars Γ a t o_type = record {
+        typed = good.typed;
+        normal = good.normal;
+        known = good.known;
+        positive = positive_term t [] good.positive head;
+        of = o_known h vars K std asked;
+        indices = good.indices;
+        seen = good.seen;
+      } in
+      let w = y.denotes h later vars s σ Γ o_type asked st te (omega (arith, low, k)) (omega (arith, few, l)) stands well (refl, refl) (room_front s (y.more ++ z.more) y.more z.more refl room) in
+      let at : term_in w.0.now r ≡ whole (f t) o_type = ap (λ o. unwrap_or o (record { term = index 0; type = o_type; loose = [] })) w.2 in
+      let parts : IsGoalTerm w.0 r = record {
+        behind_head = w.1.same.in_body ∙ body;
+        terms_set = or_none (is_none (held w.0.now.terms r)) false (ap is_none w.2) refl;
+        closed = or_none (not (is_closed (term_in w.0.now r).loose)) false (ap (λ (d : Built). not (is_closed d.loose)) at) refl;
+        typed = ap (λ (d : Built). equal_types d.type o_type && true) at;
+      } in
+      let u = z.denotes h later vars w.0 std w.1.types_stand w.1.terms_stand parts
+      (room_goes h later vars start.types term.types start.registers term.registers s w.0 (y.more ++ z.more) y.more z.more w.1 refl room) in
+      let last = then_does h later vars start.types term.types term.types start.registers term.registers term.registers s w.0 u.0 y.more z.more s.goals _ s.head_types _ s.head_arguments _
+      (goes_does h later vars start.types term.types start.registers term.registers s w.0 y.more w.1) (turns_does h later vars term.types term.registers w.0 u.0 z.more _ _ _ u.1)
+      y.types_grow y.terms_grow in (
+        u.0,
+        does_same h later vars start.types term.types new.types start.registers term.registers new.registers s u.0 (y.more ++ z.more) _ _ _ (with_goal s.goals (Atomic (f t))) s.head_types
+            s.head_arguments (sym k) (sym l) (λ i. with_goal (w.1.same.goals i) (Atomic (at i).term)) w.1.same.head_types w.1.same.head_arguments last,
+        standing_after h vars term.registers new.registers s.in_body s.in_body σ b w.0 u.0 (sym l) refl u.1.now_stays w.4,
+        w.5,
+      );
+}
+
+-- the head's node
+
+no_app_constant : (t u : Term) (ts : List Term) (c : ℕ) (Ts : List Ty) → apply (app t u) ts ≡ atom (constant c Ts) → ⊥
+no_app_constant t u [] c Ts e = cc
+no_app_constant t u (v ∷ vs) c Ts e = no_app_constant (app t u) v vs c Ts e
+
+no_list_constant : (b : Nodes) (f : ℕ) (is : List ℕ) (c : ℕ) (Ts : List Ty) → is ≢ [] → apply (tree b f) (map (tree b) is) ≡ atom (constant c Ts) → ⊥
+no_list_constant b f [] c Ts some e = absurd (some refl)
+no_list_constant b f (i ∷ is) c Ts some e = no_app_constant (tree b f) (tree b i) (map (tree b) is) c Ts e
+
+no_constant_node : (b : Nodes) (m k : ℕ) (n : TermNode) → ((c : ℕ) (ids : Bor (List TypeId)) → n ≡ node.Const c ids → ⊥) → TermBelow m k (term_shape n) → (c : ℕ) (Ts : List Ty) →
+    node_tree b (term_shape n) ≡ atom (constant c Ts) → ⊥
+no_constant_node b m k (node.Index i) x low c Ts e = cc
+no_constant_node b m k (node.Const d ids) x low c Ts e = absurd (x d ids refl)
+no_constant_node b m k (node.Int z) x low c Ts e = cc
+no_constant_node b m k (node.Text s) x low c Ts e = cc
+no_constant_node b m k (node.Eigen j) x low c Ts e = cc
+no_constant_node b m k (node.Logic i l) x low c Ts e = cc
+no_constant_node b m k (node.Param j t) x low c Ts e = cc
+no_constant_node b m k (node.Abs body) x low c Ts e = cc
+no_constant_node b m k (node.App f ids) x low c Ts e = no_list_constant b f.0 (map (λ t. t.0) ids.now) c Ts low.2 e
+
+head_itself : (t : Term) → IsNoApplication t → head_of t ≡ t
+head_itself (index i) n = refl
+head_itself (atom s) n = refl
+head_itself (abs b) n = refl
+head_itself (app t u) n = absurd n
+
+pub other_goal : (b : Nodes) (m k : ℕ) (n : TermNode) (head : Term) (ts : List Term) (t : Term) → ((c : ℕ) (ids : Bor (List TypeId)) → n ≡ node.Const c ids → ⊥) → TermBelow m k (term_shape n) →
+    node_tree b (term_shape n) ≡ head → IsNoApplication head → apply head ts ≡ t → (c : ℕ) (Ts : List Ty) → head_of t ≡ atom (constant c Ts) → ⊥
+other_goal b m k n head ts t x low is none e c Ts f = no_constant_node b m k n x low c Ts (is ∙ sym (head_itself head none) ∙ sym (head_apply head ts) ∙ ap head_of e ∙ f)
+
+-- a goal by the nodes of its spine
+pub constant_goal : (K : ℕ → List Ty → Ty) (b : Nodes) (start types args new : Emitter) (a d : Around) (c : ℕ) (ids : List TypeId) (head : Term) (ts : List Term) (t : Term) (qs rs : List ℕ) →
+    AreTypesPut start types qs (map (λ i. type_tree b i.0) ids) → ArgumentsWritten K types args a d rs (head_type K [] a head) ts → CallPut args new c qs rs →
+    atom (constant c (map (type_tree b) (map (λ i. i.0) ids))) ≡ head → apply head ts ≡ t → AtomWritten K start new a d t
+constant_goal K b start types args new a d c ids head ts t qs rs x y z is e =
+    let Ts = map (λ i. type_tree b i.0) ids in
+    let same : atom (constant c Ts) ≡ head = ap (λ l. atom (constant c l)) (sym (mapped_types b ids)) ∙ is in
+    subst (AtomWritten K start new a d) (ap (λ u. apply u ts) same ∙ e) (call_written K start types args new a d c Ts ts qs rs x
+    (subst (λ u. ArgumentsWritten K types args a d rs (head_type K [] a u) ts) (sym same) y) z)

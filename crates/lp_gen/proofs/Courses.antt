@@ -1,5 +1,5 @@
 -- A task for a term gives way to the tasks for its parts.
-use Rattle.std.proofs.Common.{◌≡◌, ◌∙◌, ◌≢◌, ℕ, suc, ◌+◌, ◌-◌, ◌^◌, List, [], ◌∷◌, ◌++◌, append_assoc, map, length, reverse, take, Bor, ℤ, zero, ◌<◌, ◌≤◌, get_or, set, Bool, true, false, Option, Some, None, Vec, Global, ap, refl, sym, subst, arith, true≢false}
+use Rattle.std.proofs.Common.{◌≡◌, ◌∙◌, ◌≢◌, ℕ, suc, ◌+◌, ◌-◌, ◌^◌, List, [], ◌∷◌, ◌++◌, append_assoc, map, length, reverse, take, Bor, ℤ, zero, ◌<◌, ◌≤◌, get_or, set, true, Option, Some, None, Vec, Global, ap, refl, sym, subst, arith}
 use Rattle.std.specs.Prelude.{min, nat_eq, if◌then◌else◌, option_map, slice_get}
 use Rattle.indexmap.specs.IndexMap.{get}
 use Rattle.std.proofs.lemmas.Bool.{le-leb}
@@ -27,8 +27,8 @@ use Rattle.lp_gen.specs.declared.listing.Lists.{Lists}
 use Rattle.lp_gen.specs.declared.listing.Task.{Task}
 use Rattle.lp_gen.specs.declared.listing.Task.TheVariants as on
 use Rattle.lp_gen.specs.inner.Reading.{read, from_of, to_of}
-use Rattle.lp_gen.specs.inner.Listing.{Step, plain_step, make_constant, make_index, make_variable, from_register, apply_last, abstract_last, Seen, seen, Around, around_of, level_below, level_in, at_level, marked, set_level}
-use Rattle.lp_gen.specs.inner.Listing.{Listed, one_step, seen_listed, found_listed, level_listed, bound_listed, index_listed, node_listed, term_function, head_type, read_function, Headed, as_head, with_argument, applied, abstracted, listed, headed, with_arguments}
+use Rattle.lp_gen.specs.inner.Listing.{Step, plain_step, make_constant, make_index, apply_last, abstract_last, Seen, seen, Around, around_of, level_below, level_in, marked, set_level}
+use Rattle.lp_gen.specs.inner.Listing.{Listed, one_step, level_listed, bound_listed, index_listed, node_listed, term_function, head_type, read_function, Headed, as_head, with_argument, applied, listed, headed, with_arguments}
 use Rattle.lp_gen.specs.inner.Tasks.{Course, course, behind, with_step, all_but_first, without_arguments, of_head, act, done, Adds}
 use Rattle.lp_gen.proofs.TypeWorks.{map_length}
 
@@ -114,7 +114,7 @@ spine_listed K w V h u us none =
     let count : all.count ≡ length (u ∷ us) = with_count K C (begins l.around T) (u ∷ us) ∙ (let z : 0 + length (u ∷ us) ≡ length (u ∷ us) = omega arith in z) in
     let zero_count : all.count ≡ 0 + all.count = omega arith in
     let same : headed K C w.around (apply h (u ∷ us)) ≡ front l.steps 0 all =
-        headed_apply K C w.around h (u ∷ us) ∙ ap (λ g. with_arguments K C g (u ∷ us)) (headed_base K C w.around h none ∙ head_front T l) ∙ with_front K C l.steps 0 (begins l.around T) (u ∷ us) in
+    headed_apply K C w.around h (u ∷ us) ∙ ap (λ g. with_arguments K C g (u ∷ us)) (headed_base K C w.around h none ∙ head_front T l) ∙ with_front K C l.steps 0 (begins l.around T) (u ∷ us) in
     (λ i. record { bound = C; steps = ((w.steps ++ l.steps) ++ all.steps) ++ apply_last (sym count i) ∷ []; around = all.around })
     ∙ (λ i. record { bound = C; steps = append_assoc (w.steps ++ l.steps) all.steps (apply_last all.count ∷ []) i; around = all.around })
     ∙ (λ i. record { bound = C; steps = append_assoc w.steps l.steps (all.steps ++ apply_last all.count ∷ []) i; around = all.around })
@@ -163,7 +163,7 @@ next_argument K b old mid new ids rest first f g of w e m n p q =
 
 -- a term without parts
 
-mapped_types : (b : Nodes) (ids : List TypeId) → map (type_tree b) (map (λ t. t.0) ids) ≡ map (λ t. type_tree b t.0) ids
+pub mapped_types : (b : Nodes) (ids : List TypeId) → map (type_tree b) (map (λ t. t.0) ids) ≡ map (λ t. type_tree b t.0) ids
 mapped_types b [] = refl
 mapped_types b (t ∷ ts) = ap (λ l. type_tree b t.0 ∷ l) (mapped_types b ts)
 

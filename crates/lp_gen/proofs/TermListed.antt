@@ -1,10 +1,10 @@
 -- The law of terms: the steps of a term that is typed, known and in normal form are fine, and make the term.
-use Rattle.std.proofs.Common.{◌≡◌, ◌∙◌, ◌<◌, ◌≤◌, ℕ, zero, suc, ◌+◌, ◌-◌, List, [], ◌∷◌, ◌++◌, append_assoc, map, length, take, drop, Bool, true, false, Option, Some, None, ap, refl, sym, subst, arith, true≢false}
-use Rattle.std.specs.Prelude.{All, nat_eq, nat_lt, not, ◌&&◌, ◌||◌, if◌then◌else◌, is_none, is_some, slice_get, slice_index_or, unwrap_or, option_and_then}
-use Rattle.std.proofs.lemmas.Bool.{eqb-true, eq-eqb, lt-ltb, ltb-false, le-ltb}
-use Rattle.std.proofs.lemmas.List.{append-nil, map-append, length-append}
+use Rattle.std.proofs.Common.{◌≡◌, ◌∙◌, ◌<◌, ◌≤◌, ℕ, zero, suc, ◌+◌, ◌-◌, List, [], ◌∷◌, ◌++◌, append_assoc, length, take, drop, Bool, true, false, Option, Some, None, ap, refl, sym, subst, arith, true≢false}
+use Rattle.std.specs.Prelude.{All, nat_eq, nat_lt, not, ◌||◌, if◌then◌else◌, is_none, is_some, slice_get, slice_index_or, unwrap_or, option_and_then}
+use Rattle.std.proofs.lemmas.Bool.{eqb-true, eq-eqb, lt-ltb, le-ltb}
+use Rattle.std.proofs.lemmas.List.{map-append, length-append}
 use Rattle.std.proofs.lemmas.Option.{slice_get_within, slice_get_past}
-use Rattle.lp_lemmas.proofs.Booleans.{and_true_left, and_true_right, or_false_left, or_false_right, or_assoc}
+use Rattle.lp_lemmas.proofs.Booleans.{and_true_left, and_true_right}
 use Rattle.lp_calculus.specs.Types.{Ty, var, param as type_param, con, arrow, instance}
 use Rattle.lp_calculus.specs.Term.{Term, Atom, index, atom, abs, app, apply, constant, integer, text, eigen, logic, param}
 use Rattle.lp_calculus.specs.Typing.{Scheme, o_type, int_type, string_type, scheme_type, type_at, HasType}
@@ -17,8 +17,8 @@ use Rattle.lp_code.specs.Rules.{applies, built_types, has_count, is_no_term}
 use Rattle.lp_gen.specs.Sources.{types_by, IsKnownType, IsKnownAtom, IsKnownTerm}
 use Rattle.lp_gen.specs.inner.Reading.{from_of, to_of}
 use Rattle.lp_gen.specs.inner.Running.{built_at}
-use Rattle.lp_gen.specs.inner.Listing.{Step, make_constant, make_integer, make_text, make_index, make_variable, from_register, apply_last, abstract_last, Seen, Around, at_level, level_in, seen_in, set_level}
-use Rattle.lp_gen.specs.inner.Listing.{Listed, one_step, seen_listed, found_listed, level_listed, bound_listed, index_listed, atom_listed, type_or, bound_or, index_type, atom_function, Headed, as_head, with_argument, applied, abstracted, listed, headed}
+use Rattle.lp_gen.specs.inner.Listing.{Step, make_constant, make_integer, make_text, make_index, make_variable, from_register, apply_last, abstract_last, Seen, Around, at_level, level_in, set_level}
+use Rattle.lp_gen.specs.inner.Listing.{Listed, one_step, found_listed, level_listed, bound_listed, index_listed, atom_listed, type_or, bound_or, index_type, atom_function, Headed, as_head, with_argument, applied, abstracted, listed, headed}
 use Rattle.lp_gen.specs.inner.TermSteps.{Stack, stack, made_variable, last_built, before_last, step_built, IsFine, steps_built, AreFine}
 use Rattle.lp_gen.specs.inner.TermLaw.{SameSides, Asks, AsksConstants, Standing, KnownAtoms, AllLoose, IsSeen, level_term, index_term, with_variables, AreOf, AllOf, IsBuilt, SameAround, Comes, ComesWith}
 use Rattle.lp_gen.proofs.Denoting.{held_set}
@@ -146,7 +146,6 @@ has_scheme Ts (Some s) T e = go (nat_eq (length Ts) s.count) refl e
 
 module _ (h : Home) (v n : ℕ) (i : Bool) (σ : ℕ → Term) (Γ : List Ty) (K : ℕ → List Ty → Ty) (asks : AsksConstants h.tables K)
     (known : (c : ℕ) (Ts : List Ty) (T : Ty) → scheme_type Ts (h.tables.constants c) ≡ Some T → All (IsKnownType h.tables.kinds v) Ts → IsKnownType h.tables.kinds v T) where
-
   abbrev AllKnown : List Ty → Type 0
   AllKnown C = (k : ℕ) (T : Ty) → slice_get C k ≡ Some T → IsKnownType h.tables.kinds v T
 
@@ -312,8 +311,13 @@ module _ (h : Home) (v n : ℕ) (i : Bool) (σ : ℕ → Term) (Γ : List Ty) (K
       let bottom : before_last (take (length all - g.count) all) ≡ bs = ap before_last taken ∙ before_push bs r.head in (
         w.0.2,
         record {
-          fine = fine_both h v n i g.steps (apply_last g.count ∷ []) (stack xs bs) r.fine (subst (AreFine h v n i (apply_last g.count ∷ [])) (sym r.is) ((omega (arith, size, more, count),
-              (λ k. applies (top k) (dropped k)) ∙ applies_of C r.head r.args T (omega (arith, some, count)) r.type r.loose r.all_loose), tt));
+          fine = fine_both h v n i g.steps (apply_last g.count ∷ []) (stack xs bs) r.fine (subst (AreFine h v n i (apply_last g.count ∷ [])) (sym r.is) (
+            (
+              omega (arith, size, more, count),
+              (λ k. applies (top k) (dropped k)) ∙ applies_of C r.head r.args T (omega (arith, some, count)) r.type r.loose r.all_loose,
+            ),
+            tt,
+          ));
           registers = r.registers;
           built = application_of r.head r.args;
           is = built_both h g.steps (apply_last g.count ∷ []) (stack xs bs) ∙ ap (step_built h (apply_last g.count)) r.is
@@ -332,8 +336,14 @@ module _ (h : Home) (v n : ℕ) (i : Bool) (σ : ℕ → Term) (Γ : List Ty) (K
       let top : last_built (bs ++ r.built ∷ []) ≡ r.built = last_push bs r.built in (
         w.0,
         record {
-          fine = fine_both h v n i l.steps (abstract_last A ∷ []) (stack xs bs) r.fine (subst (AreFine h v n i (abstract_last A ∷ [])) (sym r.is) ((omega (arith, size), k,
-              ap (λ (b : Built). agree_at (innermost b.loose) (Some A)) top ∙ innermost_of A C r.built.loose r.good.loose), tt));
+          fine = fine_both h v n i l.steps (abstract_last A ∷ []) (stack xs bs) r.fine (subst (AreFine h v n i (abstract_last A ∷ [])) (sym r.is) (
+            (
+              omega (arith, size),
+              k,
+              ap (λ (b : Built). agree_at (innermost b.loose) (Some A)) top ∙ innermost_of A C r.built.loose r.good.loose,
+            ),
+            tt,
+          ));
           registers = r.registers;
           built = abstraction_of r.built A;
           is = built_both h l.steps (abstract_last A ∷ []) (stack xs bs) ∙ ap (step_built h (abstract_last A)) r.is

@@ -1,10 +1,10 @@
 -- The code of a term, and of arguments one after the other.
 use Rattle.std.proofs.Common.{◌≡◌, ◌∙◌, ◌≤◌, ◌<◌, ℕ, zero, suc, ◌+◌, List, [], ◌∷◌, ◌++◌, append_assoc, map, length, Bool, false, Option, Some, None, ap, refl, sym, subst, arith}
-use Rattle.std.specs.Prelude.{All, sum_by, slice_get}
+use Rattle.std.specs.Prelude.{All, sum_by}
 use Rattle.std.specs.List.{list_any}
-use Rattle.std.proofs.lemmas.List.{map-append, length-append}
+use Rattle.std.proofs.lemmas.List.{map-append}
 use Rattle.std.proofs.lemmas.List.Sums.{sum_by-append}
-use Rattle.std.proofs.lemmas.List.Elements.{All-nil, All-head, All-tail, All-push}
+use Rattle.std.proofs.lemmas.List.Elements.{All-nil, All-push}
 use Rattle.lp_lemmas.proofs.Lists.{append_nil_sym, length_push_suc}
 use Rattle.lp_calculus.specs.Types.{Ty, arrow}
 use Rattle.lp_calculus.specs.Term.{Term}
@@ -20,12 +20,12 @@ use Rattle.lp_gen.specs.declared.emitter.Emitter.{Emitter}
 use Rattle.lp_gen.specs.declared.environment.Environment.{Environment}
 use Rattle.lp_gen.specs.declared.term_steps.TermStep.{TermStep}
 use Rattle.lp_gen.specs.inner.Reading.{from_of, to_of}
-use Rattle.lp_gen.specs.inner.Running.{HasRoom, SameButRegisters, Moves}
-use Rattle.lp_gen.specs.inner.Listing.{Step, make_constant, make_integer, make_text, make_index, make_variable, from_register, apply_last, abstract_last, Seen, Around, around_of, at_level, listed, plain_step}
+use Rattle.lp_gen.specs.inner.Running.{HasRoom}
+use Rattle.lp_gen.specs.inner.Listing.{Step, make_constant, make_integer, make_text, make_index, make_variable, from_register, apply_last, abstract_last, Around, around_of, listed, plain_step}
 use Rattle.lp_gen.specs.inner.Tasks.{Adds}
 use Rattle.lp_gen.specs.inner.TermSteps.{Stack, stack, step_built, IsFine, steps_built, AreFine, StandIn, TermOfSteps}
 use Rattle.lp_gen.specs.inner.TermLaw.{SameSides, Asks, Standing, AreOf, IsBuilt, with_variables, SameAround}
-use Rattle.lp_gen.specs.inner.Written.{Goes, AreAsked, IsWell, TermWritten, AreWell, left_by, wholes, ArgumentsWritten}
+use Rattle.lp_gen.specs.inner.Written.{Goes, IsWell, TermWritten, AreWell, left_by, wholes, ArgumentsWritten}
 use Rattle.lp_gen.proofs.Denoting.{room_less, room_front}
 use Rattle.lp_gen.proofs.TypeWorks.{map_length}
 use Rattle.lp_gen.proofs.Registers.{held_elsewhere}
@@ -212,8 +212,8 @@ argument_then K old mid new a b c rs after r F G ts t x p left e = record {
       let holds : held v.0.now.terms r ≡ Some (whole (f t) parts.1) = v.2 ∙ ap (λ u. Some (whole u parts.1)) (variables_same σ a b 0 t w.5) in
       let earlier : StandIn v.0.now.terms rs (wholes A (map f ts)) = stand_past mid.registers w.0.now.terms v.0.now.terms rs (wholes A (map f ts)) (λ k d l g. v.1.terms_keep k d l g) w.3 w.2 in
       let all : StandIn v.0.now.terms (rs ++ r ∷ []) (wholes A (map f (ts ++ t ∷ []))) =
-          subst (StandIn v.0.now.terms (rs ++ r ∷ [])) (sym (wholes_last h vars Γ a f A ts t parts.0 parts.1 R parts.2 parts.3))
-          (stand_push v.0.now.terms rs (wholes A (map f ts)) r (whole (f t) parts.1) earlier holds) in (
+      subst (StandIn v.0.now.terms (rs ++ r ∷ [])) (sym (wholes_last h vars Γ a f A ts t parts.0 parts.1 R parts.2 parts.3))
+      (stand_push v.0.now.terms rs (wholes A (map f ts)) r (whole (f t) parts.1) earlier holds) in (
         v.0,
         then_goes h later vars old.types mid.types new.types old.registers mid.registers new.registers s w.0 v.0 x.more p.more w.1 v.1 x.types_grow x.terms_grow,
         subst (λ l. StandIn v.0.now.terms l (wholes A (map f (ts ++ t ∷ [])))) (sym e) all,

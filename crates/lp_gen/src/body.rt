@@ -1,13 +1,13 @@
 // The goals of a record.
 
-use crate::calls::{put_call, put_term_call};
+use crate::atoms::put_atom;
 use crate::environment::Variable;
 use crate::fault::GenRefusal;
 use crate::plan::Step;
-use crate::terms::{Writer, put_arguments, put_term};
+use crate::terms::Writer;
 use crate::types::TypeView;
 use lp_code::Instr;
-use lp_term::{TermId, TermNode, TypeId, spine_of};
+use lp_term::TypeId;
 
 // An open block: how many variables the record had before it, and where its instruction stands.
 #[derive(Clone, Copy)]
@@ -21,35 +21,6 @@ struct Block {
 const JUMP_BYTES: u64 = 5;
 
 impl<'a> Writer<'a> {
-    fn atom(&mut self, atom: TermId) -> Result<(), GenRefusal> {
-        let spine = spine_of(self.alloc, self.tables.bank, atom)?;
-        match self.tables.bank.term_node(spine.head) {
-            TermNode::Const(number, types) => {
-                let types = self.put_types(types)?;
-                let terms = put_arguments(
-                    self.alloc,
-                    self.tables,
-                    &mut self.emitter,
-                    &mut self.environment,
-                    spine.head,
-                    spine.args.as_slice(),
-                )?;
-                put_call(&mut self.emitter, number, types, terms)
-            }
-            _ => {
-                let register = put_term(
-                    self.alloc,
-                    self.tables,
-                    &mut self.emitter,
-                    &mut self.environment,
-                    atom,
-                    TypeView::Proposition,
-                )?;
-                put_term_call(&mut self.emitter, register)
-            }
-        }
-    }
-
     // A new variable, in the next register; says the register of its type.
     fn open_variable(&mut self, of: TypeId) -> Result<(u16, u16), GenRefusal> {
         let kind = self.put_type(TypeView::Of(of, None))?;
@@ -111,7 +82,13 @@ impl<'a> Writer<'a> {
 
     fn step(&mut self, blocks: &mut Vec<Block>, step: Step) -> Result<(), GenRefusal> {
         match step {
-            Step::Atom(term) => self.atom(term),
+            Step::Atom(term) => put_atom(
+                self.alloc,
+                self.tables,
+                &mut self.emitter,
+                &mut self.environment,
+                term,
+            ),
             Step::Cut => self.emitter.emit(Instr::Cut),
             Step::Either => self.open(blocks, Instr::Either(0)),
             Step::Turn => self.turn(blocks),

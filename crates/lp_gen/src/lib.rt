@@ -1,6 +1,8 @@
 //! The code of clauses and queries: for each flattened clause a record, and one for each clause that it assumes.
 #![tactic(auto)]
 
+// Atoms as goals.
+mod atoms;
 // The clauses and goals of a record.
 mod body;
 // Goals whose parts stand in registers.

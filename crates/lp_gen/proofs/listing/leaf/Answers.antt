@@ -1,4 +1,4 @@
-use Rattle.std.proofs.Common.{◌∙◌, map, reverse, refl, sym, subst}
+use Rattle.std.proofs.Common.{map, reverse, refl, sym, subst}
 use Rattle.lp_gen.specs.inner.Reading.{read}
 use Rattle.lp_gen.specs.inner.Listing.{around_of, index_listed, node_listed}
 use Rattle.lp_gen.specs.inner.Tasks.{Adds}

@@ -1,4 +1,4 @@
-use Rattle.std.proofs.Common.{◌∙◌, ◌≡◌, ◌<◌, map, reverse, length, ap, refl, subst, arith}
+use Rattle.std.proofs.Common.{◌∙◌, ◌<◌, map, reverse, length, ap, arith}
 use Rattle.lp_term.specs.Nodes.{tree}
 use Rattle.lp_gen.specs.declared.types.TypeView.TheVariants.{Proposition}
 use Rattle.lp_gen.specs.inner.Reading.{read}

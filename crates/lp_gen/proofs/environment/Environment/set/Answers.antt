@@ -1,4 +1,4 @@
-use Rattle.std.proofs.Common.{◌≤◌, ◌<◌, ◌-◌, ◌∙◌, map, length, sym, arith}
+use Rattle.std.proofs.Common.{◌≤◌, ◌<◌, ◌-◌, map, length, sym, arith}
 use Rattle.lp_gen.specs.inner.Listing.{seen}
 use Rattle.lp_gen.proofs.TypeWorks.{map_length}
 use Rattle.lp_gen.proofs.Courses.{marked_past, marked_set, set_own}
