@@ -11,3 +11,5 @@ pub mod Numbering
 pub mod Arguments
 pub mod Renumbering
 pub mod Trees
+pub mod Meaning
+pub mod Program

@@ -3,6 +3,7 @@ ghost use Rattle.std.specs.Prelude.{◌≡◌, ◌≢◌, ◌+◌, ◌-◌, ◌�
 ghost use Rattle.std.specs.List.{range_with_len};
 ghost use Rattle.lp_syntax.specs.declared.text.Sentence.{Sentence};
 ghost use Rattle.lp_sig.specs.Pieces.{spelled};
+ghost use Rattle.lp_module.specs.Meaning.{IsMeaning};
 ghost use Rattle.lp_module.specs.Refusals.{IsRefusal, IsUnformed, declaration_fault};
 ghost use Rattle.lp_module.specs.Sentences.{said, AreSaid, AreWithin};
 ghost use Rattle.lp_module.specs.Words.{accumulate_words};
@@ -135,6 +136,7 @@ pub fn elaborate(
     own: &Signature,
     used: &[Signature],
 ) -> Result<Module, ModuleFault>
+    ensures meaning { IfOk result (IsMeaning source.now text.now expected.now own.now used.now) }
     ensures header { OnOk result (spelled source.now text.now.header ≡ expected.now) }
     ensures name { IfOk result (λ m. m.name.items ≡ expected.now) }
     ensures uses { IfOk result (λ m. map (λ name. name.items) m.uses.items ≡ map (spelled source.now) (accumulate_words text.now.lines.items)) }
