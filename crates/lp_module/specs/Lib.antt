@@ -13,3 +13,7 @@ pub mod Renumbering
 pub mod Trees
 pub mod Meaning
 pub mod Program
+pub mod Form
+pub mod Schemes
+pub mod Clauses
+pub mod inner

@@ -1,18 +1,19 @@
 // What a module means.
-ghost use Rattle.std.specs.Prelude.{◌≡◌, ◌≢◌, ◌+◌, ◌-◌, ◌≤◌, ◌⊎◌, List, length, map, IfOk, IfErr, OnOk};
+ghost use Rattle.std.specs.Prelude.{◌≡◌, ◌≢◌, ◌+◌, ◌-◌, ◌≤◌, ◌⊎◌, length, map, All, IfOk, IfErr, OnOk};
 ghost use Rattle.std.specs.List.{range_with_len};
-ghost use Rattle.lp_syntax.specs.declared.text.Sentence.{Sentence};
 ghost use Rattle.lp_sig.specs.Pieces.{spelled};
 ghost use Rattle.lp_module.specs.Meaning.{IsMeaning};
-ghost use Rattle.lp_module.specs.Refusals.{IsRefusal, IsUnformed, declaration_fault};
-ghost use Rattle.lp_module.specs.Sentences.{said, AreSaid, AreWithin};
+ghost use Rattle.lp_module.specs.Refusals.{IsRefusal, declaration_fault};
+ghost use Rattle.lp_module.specs.Schemes.{declared_schemes};
+ghost use Rattle.lp_module.specs.Sentences.{said, AreWithin};
 ghost use Rattle.lp_module.specs.Words.{accumulate_words};
+ghost use Rattle.lp_module.specs.inner.Typed.{IsFormedIn, IsFirstUnformed};
 ghost use Rattle.lp_module.specs.declared.fault.ModuleFault.TheVariants as fault;
 
 use crate::fault::ModuleFault;
 use crate::form::check_form;
 use crate::heads::Heads;
-use crate::judge::Position;
+use crate::measure::Measures;
 use crate::module::Module;
 use crate::sentences::{TypedSentence, closed_sentences, typed_sentences};
 use crate::words::accumulated;
@@ -100,11 +101,13 @@ fn check_clauses(
     bank: &Bank,
     sentences: &[TypedSentence],
 ) -> Result<(), ModuleFault>
-    ensures { (lines : List Sentence) → AreSaid lines sentences.now → IfErr result (λ e. (e ≡ fault.Memory) ⊎ IsUnformed lines e) }
+    ensures formed { OnOk result (All (IsFormedIn (declared_schemes signature.now) bank.now) sentences.now) }
+    ensures refused { IfErr result (λ e. (e ≡ fault.Memory) ⊎ IsFirstUnformed (declared_schemes signature.now) bank.now sentences.now e) }
 {
     let heads = Heads::of(alloc, signature)?;
     let mut copied = Changed::new(alloc);
     let mut scratch = Bank::new(alloc);
+    let mut measures = Measures::new(alloc);
     for at in 0..sentences.len() {
         let sentence = &sentences[at];
         let formula = copied.copy(alloc, &Same, bank, sentence.typed.formula, &mut scratch)?;
@@ -112,7 +115,8 @@ fn check_clauses(
             alloc,
             &mut scratch,
             &heads,
-            Position::Clause,
+            &mut measures,
+            false,
             sentence.typed.type_vars,
             formula,
             sentence.first,

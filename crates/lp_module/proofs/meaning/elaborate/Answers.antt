@@ -1,9 +1,8 @@
 use Rattle.std.proofs.Common.{◌∙◌, inl, inr, refl, ap, sym, subst, length}
 use Rattle.lp_term.proofs.Moves.{passed_up}
 use Rattle.lp_module.specs.Refusals.{IsRefusal}
-use Rattle.lp_module.specs.Sentences.{AreSaid}
 use Rattle.lp_module.specs.declared.fault.ModuleFault.TheVariants as fault
-use Rattle.lp_module.proofs.Saying.{as_many, untyped_inside, unformed_inside}
+use Rattle.lp_module.proofs.Saying.{untyped_inside, unformed_inside}
 use Rattle.lp_module.proofs.meaning.elaborate.Goals as goal
 
 pub returns-in_err-sentences-clause-refused : goal.returns-in_err-sentences-clause-refused
@@ -12,9 +11,7 @@ returns-in_err-sentences-clause-refused c =
     (inr (c.in_ok-check_header.ensures.same, untyped_inside c.args.source.now c.args.text.now c.in-Ok.signature c.in_err-sentences.field-0.0 c.in_err-sentences.ensures.refused))
 
 pub returns-in_err-check_clauses-clause-refused : goal.returns-in_err-check_clauses-clause-refused
-returns-in_err-check_clauses-clause-refused c =
-    passed_up c.from_residual-in_err-check_clauses.result c.in_err-check_clauses.field-0.0 (IsRefusal c.args.source.now c.args.text.now c.args.expected.now) c.from_residual-in_err-check_clauses.ensures.1
-    (inr (c.in_ok-check_header.ensures.same, unformed_inside c.args.source.now c.args.text.now c.in_err-check_clauses.field-0.0 (c.in_err-check_clauses.ensures c.args.text.now.lines.items (subst (AreSaid c.args.text.now.lines.items) (sym c.as_slice-2.ensures.value) c.in_ok-sentences.ensures.said))))
+returns-in_err-check_clauses-clause-refused c = ?
 
 pub returns-in_err-name-clause-refused : goal.returns-in_err-name-clause-refused
 returns-in_err-name-clause-refused c = passed_up c.from_residual-in_err-name.result fault.Memory (IsRefusal c.args.source.now c.args.text.now c.args.expected.now) c.from_residual-in_err-name.ensures.1 (inr (c.in_ok-check_header.ensures.same, inl refl))
@@ -28,5 +25,14 @@ returns-in_err-hidden_kinds-clause-refused c = passed_up c.from_residual-in_err-
 pub returns-in_err-hidden_constants-clause-refused : goal.returns-in_err-hidden_constants-clause-refused
 returns-in_err-hidden_constants-clause-refused c = passed_up c.from_residual-in_err-hidden_constants.result fault.Memory (IsRefusal c.args.source.now c.args.text.now c.args.expected.now) c.from_residual-in_err-hidden_constants.ensures.1 (inr (c.in_ok-check_header.ensures.same, inl refl))
 
+pub closed_sentences-requires : goal.closed_sentences-requires
+closed_sentences-requires c = ?
+
+pub returns-clause-meaning : goal.returns-clause-meaning
+returns-clause-meaning c = ?
+
 pub returns-clause-count : goal.returns-clause-count
-returns-clause-count c = c.in_ok-clauses.ensures.count ∙ ap length c.as_slice.ensures.value ∙ as_many c.args.text.now.lines.items c.in_ok-sentences.sentences.items c.in_ok-sentences.ensures.said
+returns-clause-count c = ?
+
+pub returns-clause-clauses : goal.returns-clause-clauses
+returns-clause-clauses c = ?

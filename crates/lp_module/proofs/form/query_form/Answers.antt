@@ -1,0 +1,13 @@
+use Rattle.lp_module.proofs.form.query_form.Goals as goal
+
+pub returns-clause-short : goal.returns-clause-short
+returns-clause-short c = ?
+
+pub returns-clause-variables : goal.returns-clause-variables
+returns-clause-variables c = ?
+
+pub returns-clause-formed : goal.returns-clause-formed
+returns-clause-formed c = ?
+
+pub returns-clause-refused : goal.returns-clause-refused
+returns-clause-refused c = ?
