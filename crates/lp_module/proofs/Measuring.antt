@@ -3,6 +3,7 @@ use Rattle.std.proofs.Common.{◌≡◌, ℕ, zero, suc, ◌+◌, ◌<◌, ◌�
 use Rattle.std.specs.Prelude.{◌⊎◌, not, ◌&&◌, ◌||◌, nat_eq}
 use Rattle.std.proofs.lemmas.List.{get_or_append_left, length-append}
 use Rattle.std.proofs.Math.Seq.{get_or-append_seam}
+use Rattle.std.proofs.lemmas.Bool.Decides.{nat_tests}
 use Rattle.lp_lemmas.proofs.Numbers.{below_suc}
 use Rattle.lp_calculus.specs.Types.{Ty, Tys, con}
 use Rattle.lp_calculus.specs.Term.{Term, index, atom, abs, app}
@@ -41,7 +42,7 @@ positive_both false y = refl
 -- the kind of goals is 0
 pub ends_by_kind : (k : ℕ) (ts : Tys) → nat_eq k 0 ≡ ends_in_o (con k ts)
 ends_by_kind zero ts = refl
-ends_by_kind (suc k) ts = refl
+ends_by_kind (suc k) ts = grind (arith, nat_tests)
 
 -- a head by either definition
 pub heads_same : (t : Term) → head t ≡ head_of t

@@ -109,13 +109,13 @@ pushes_one b old new t goal part p l put i h is = record {
 
 pub pushes_two : (b : Nodes) (old mid new : Parts) (t : Task) (goal : Bool) (left right : TermId) (p : Part) (l r : Term) → PushesTask old mid (record { goal = goal; formula = left; binder = t.binder; depth = t.depth + 1 }) → PushesTask mid new (record { goal = t.goal; formula = right; binder = t.binder; depth = t.depth + 1 }) →
     IsTask b old.binders.items t p → left.0 < length b.terms → right.0 < length b.terms → tree b left.0 ≡ l → tree b right.0 ≡ r → Pushes b old new (below p goal l ∷ below p p.goal r ∷ [])
-pushes_two b old mid new t goal left right p l r one two i h k is as = record {
+pushes_two b old mid new t goal left right p l r one two i h k is same_right = record {
   around = λ n bs a. subst (λ x. IsAround x.items n bs) (sym same) a;
   tasks = (record { goal = goal; formula = left; binder = t.binder; depth = t.depth + 1 }) ∷ (record { goal = t.goal; formula = right; binder = t.binder; depth = t.depth + 1 }) ∷ [];
   more = two.1 ∙ ap (λ l. l ++ (record { goal = t.goal; formula = right; binder = t.binder; depth = t.depth + 1 }) ∷ []) one.1 ∙ append_assoc old.tasks.items ((record { goal = goal; formula = left; binder = t.binder; depth = t.depth + 1 }) ∷ []) ((record { goal = t.goal; formula = right; binder = t.binder; depth = t.depth + 1 }) ∷ []);
   are = (
     record { within = h; goal = refl; around = around; depth = ap (λ n. n + 1) i.depth; formula = is },
-    record { within = k; goal = i.goal; around = around; depth = ap (λ n. n + 1) i.depth; formula = as },
+    record { within = k; goal = i.goal; around = around; depth = ap (λ n. n + 1) i.depth; formula = same_right },
     tt,
   );
 }
