@@ -1,8 +1,9 @@
 -- What is found of a formula, part by part.
 use Rattle.std.proofs.Common.{◌≡◌, ℕ, zero, suc, ◌+◌, ◌<◌, ◌≤◌, List, [], ◌∷◌, ◌++◌, length, get_or, Bool, true, false, true≢false, Option, Some, None, refl, sym, ap, subst, ◌∙◌, arith, inl, inr}
 use Rattle.std.specs.Prelude.{◌⊎◌, ◌||◌, ◌&&◌, not, nat_lt, Contains, slice_get}
-use Rattle.std.proofs.lemmas.List.{append-nil, append_snoc_same}
+use Rattle.std.proofs.lemmas.List.{append-nil}
 use Rattle.std.proofs.lemmas.List.Elements.{Contains-append_left, Contains-append_right, Contains-append_cases}
+use Rattle.std.proofs.lemmas.Bool.{cases_lt}
 use Rattle.lp_lemmas.proofs.Booleans.{or_false_left, or_false_right}
 use Rattle.lp_lemmas.proofs.Elements.{Contains_head, Contains_tail, Contains_single}
 use Rattle.lp_calculus.specs.Term.{Term}
@@ -18,6 +19,7 @@ use Rattle.lp_module.specs.declared.judge.Binder.{Binder}
 use Rattle.lp_module.specs.declared.judge.Parts.{Parts}
 use Rattle.lp_module.specs.declared.judge.Task.{Task}
 use Rattle.lp_module.specs.declared.judge.Verdict.{Verdict}
+use Rattle.lp_module.proofs.Owning.{is_below}
 use Rattle.lp_module.specs.inner.Judging.{AreHeads, IsAround, none_around, one_around, IsTask, AreTasks, Pushes, IsOwn, AreJoined, IsCovered, IsFound, IsVerdict, Judges, Judging}
 
 -- parts of parts
@@ -131,7 +133,11 @@ parts_deeper p q connective.Atomic (k, l, e) = absurd (omega (arith, l))
 
 -- a part that is not too deep
 shallow : (p : Part) → is_deep p ≡ false → p.depth ≤ 2000
-shallow p e = let h : nat_lt 2000 p.depth ≡ false = or_false_left (nat_lt 2000 p.depth) _ e in omega (arith, h)
+shallow p e = by (cases_lt 2000 p.depth)
+  where
+    by : (2000 < p.depth) ⊎ (p.depth ≤ 2000) → p.depth ≤ 2000
+    by (inl h) = absurd (true≢false (sym (is_below 2000 p.depth h) ∙ or_false_left (nat_lt 2000 p.depth) _ e))
+    by (inr h) = h
 
 -- the start: the whole formula is left to be judged
 pub judging_begun : (b : Nodes) (heads : Heads) (w : Part) (parts : Parts) (t : Task) (v : Verdict) → parts.tasks.items ≡ t ∷ [] → IsTask b parts.binders.items t w → w.depth ≤ 2002 → v ≡ record { deep = false; wide = false; in_term = false; other = false } → Judging b heads w parts v
@@ -170,7 +176,7 @@ pub judging_deep : (b : Nodes) (heads : Heads) (w : Part) (parts : Parts) (v : V
 judging_deep b heads w parts v j deep d h = record { found = (j.each d h).found; all = λ e. absurd (true≢false (sym deep ∙ e)) }
 
 -- the part of a task that was taken
-pub part_taken : (b : Nodes) (heads : Heads) (w : Part) (old : Parts) (ts : List Task) (t : Task) (v : Verdict) → Judging b heads w old v → old.tasks.items ≡ ts ++ t ∷ [] → Popped b old.binders.items ts t j.left
+pub part_taken : (b : Nodes) (heads : Heads) (w : Part) (old : Parts) (ts : List Task) (t : Task) (v : Verdict) → (j : Judging b heads w old v) → old.tasks.items ≡ ts ++ t ∷ [] → Popped b old.binders.items ts t j.left
 part_taken b heads w old ts t v j is = popped b old.binders.items ts t j.left (subst (λ l. AreTasks b old.binders.items l j.left) is j.tasks)
 
 -- one part was judged, and its own parts are left in its place

@@ -11,8 +11,8 @@ use Rattle.lp_module.specs.declared.judge.Verdict.{Verdict}
 use Rattle.lp_module.specs.declared.measure.Measure.{Measure}
 use Rattle.lp_module.specs.inner.Judging.{AreHeads, IsMeasure, IsOwn}
 
-below : (a b : ℕ) → a < b → nat_lt a b ≡ true
-below a b h = grind (arith, nat_tests)
+pub is_below : (a b : ℕ) → a < b → nat_lt a b ≡ true
+is_below a b h = grind (arith, nat_tests)
 
 -- a count that 32 bits may not hold is past each limit
 deep_counted : (k d m : ℕ) → m ≡ min d 4294967295 → nat_lt 2001 (k + m) ≡ nat_lt 2001 (k + d)
@@ -20,14 +20,14 @@ deep_counted k d m e = by (cases_lt d 4294967295)
   where
     by : (d < 4294967295) ⊎ (4294967295 ≤ d) → nat_lt 2001 (k + m) ≡ nat_lt 2001 (k + d)
     by (inl h) = let z : m ≡ d = omega (arith, e, h) in ap (λ n. nat_lt 2001 (k + n)) z
-    by (inr h) = below 2001 (k + m) (omega (arith, e, h)) ∙ sym (below 2001 (k + d) (omega (arith, h)))
+    by (inr h) = is_below 2001 (k + m) (omega (arith, e, h)) ∙ sym (is_below 2001 (k + d) (omega (arith, h)))
 
 wide_counted : (d m : ℕ) → m ≡ min d 4294967295 → nat_lt 255 m ≡ nat_lt 255 d
 wide_counted d m e = by (cases_lt d 4294967295)
   where
     by : (d < 4294967295) ⊎ (4294967295 ≤ d) → nat_lt 255 m ≡ nat_lt 255 d
     by (inl h) = let z : m ≡ d = omega (arith, e, h) in ap (nat_lt 255) z
-    by (inr h) = below 255 m (omega (arith, e, h)) ∙ sym (below 255 d (omega (arith, h)))
+    by (inr h) = is_below 255 m (omega (arith, e, h)) ∙ sym (is_below 255 d (omega (arith, h)))
 
 no_more : (x y : Bool) → (x || (false && y)) ≡ x
 no_more true y = refl

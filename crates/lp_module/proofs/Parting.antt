@@ -43,7 +43,7 @@ at_drop xs k y ys e = by (cases_lt k (length xs))
   where
     by : (k < length xs) ⊎ (length xs ≤ k) → (get_or xs k false ≡ y) × (drop (k + 1) xs ≡ ys)
     by (inl h) = let q : get_or xs k false ∷ drop (k + 1) xs ≡ y ∷ ys = sym (drop_more xs k false h) ∙ e in (cc, cc)
-    by (inr h) = let q : [] ≡ y ∷ ys = sym (drop_all xs k h) ∙ e in absurd (cc)
+    by (inr h) = let q : [] ≡ y ∷ ys = sym (drop_all k xs h) ∙ e in absurd (cc)
 
 pub none_at_drop : (xs : List Bool) (k n : ℕ) → drop k xs ≡ [] → k ≤ n → get_or xs n false ≡ false
 none_at_drop xs k n e l = by (cases_lt k (length xs))
@@ -62,7 +62,7 @@ Outer bs n around = (b : Binder) × (outer : List Bool) × (slice_get bs (n - 1)
 
 outer_of : (bs : List Binder) (n : ℕ) (around : List Bool) → IsAround bs n around → (n ≡ 0 → ⊥) → Outer bs n around
 outer_of bs zero around none_around some = absurd (some refl)
-outer_of bs (suc n) around (one_around m b rest is r) some = (b, rest, is, refl, r)
+outer_of bs (suc n) around (one_around m b rest is r) some = let z : suc m - 1 ≡ m = omega arith in (b, rest, ap (slice_get bs) z ∙ is, refl, r)
 
 pub none_past : (bs xs : List Binder) (n : ℕ) (around : List Bool) → (n ≡ 0 → ⊥) → xs ≡ bs → length xs ≤ n - 1 → IsAround bs n around → around ≡ []
 none_past bs xs n around some same past a =
@@ -115,8 +115,7 @@ pushes_two b old mid new t goal left right p l r one two i h k is same_right = r
   more = two.1 ∙ ap (λ l. l ++ (record { goal = t.goal; formula = right; binder = t.binder; depth = t.depth + 1 }) ∷ []) one.1 ∙ append_assoc old.tasks.items ((record { goal = goal; formula = left; binder = t.binder; depth = t.depth + 1 }) ∷ []) ((record { goal = t.goal; formula = right; binder = t.binder; depth = t.depth + 1 }) ∷ []);
   are = (
     record { within = h; goal = refl; around = around; depth = ap (λ n. n + 1) i.depth; formula = is },
-    record { within = k; goal = i.goal; around = around; depth = ap (λ n. n + 1) i.depth; formula = same_right },
-    tt,
+    (record { within = k; goal = i.goal; around = around; depth = ap (λ n. n + 1) i.depth; formula = same_right }, tt),
   );
 }
   where

@@ -9,4 +9,4 @@ pub returns-in-None-clause-none : goal.returns-in-None-clause-none
 returns-in-None-clause-none c = λ e around a. none_past c.args.self.now.binders.items c.deref.result.now c.args.number around c.if-number-eq0.false c.deref.ensures.value c.in-None.ensures.lookup.3 a
 
 pub returns-in-Some-clause-some : goal.returns-in-Some-clause-some
-returns-in-Some-clause-some c = λ around a. outer_at c.args.self.now.binders.items c.deref.result.now c.args.number c.in-Some.binder.now around c.if-number-eq0.false c.deref.ensures.value c.in-Some.ensures.lookup.2 c.in-Some.ensures.lookup.1 a
+returns-in-Some-clause-some c = λ around a. outer_at c.args.self.now.binders.items c.deref.result.now c.args.number c.in-Some.binder.now around c.if-number-eq0.false c.deref.ensures.value c.in-Some.ensures.lookup.3.0 c.in-Some.ensures.lookup.1 a
