@@ -14,3 +14,4 @@ pub mod Measuring
 pub mod Judging
 pub mod Parting
 pub mod Owning
+pub mod Forming

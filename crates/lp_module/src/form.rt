@@ -81,7 +81,8 @@ pub(crate) fn check_form(
 {
     let normal = normal_of(alloc, bank, formula)?;
     let verdict = judge(alloc, bank, heads, measures, goal, normal)?;
-    first_fault(verdict, type_vars, first)
+    first_fault(verdict, type_vars, first)?;
+    Ok(())
 }
 
 /// Whether a query is within the limits and is a goal. `first` is the spot of its first token.
@@ -108,5 +109,6 @@ pub fn query_form(
         query.type_vars,
         query.formula,
         first,
-    )
+    )?;
+    Ok(())
 }

@@ -9,5 +9,5 @@ returns-clause-variables c = ?
 pub returns-clause-formed : goal.returns-clause-formed
 returns-clause-formed c = ?
 
-pub returns-clause-refused : goal.returns-clause-refused
-returns-clause-refused c = ?
+pub returns-in_err-check_form-clause-refused : goal.returns-in_err-check_form-clause-refused
+returns-in_err-check_form-clause-refused c = ?
