@@ -1,8 +1,9 @@
 -- Sentences on the way to clauses: typed, closed and judged.
-use Rattle.std.proofs.Common.{◌≡◌, ℕ, zero, suc, ◌+◌, ◌-◌, ◌<◌, ◌≤◌, List, [], ◌∷◌, ◌++◌, length, map, take, drop, reverse, get_or, refl, sym, ap, subst, ◌∙◌, arith, append_assoc}
-use Rattle.std.specs.Prelude.{min, false, Option, All}
-use Rattle.std.proofs.lemmas.List.{drop_more, drop_all, take_more, take_all, append-nil, length-map, get_or-map, reverse-append, map-append}
-use Rattle.std.proofs.lemmas.List.Elements.{All-nil, All-head, All-tail, All-cons}
+use Rattle.std.proofs.Common.{◌≡◌, ℕ, zero, suc, ◌+◌, ◌-◌, ◌<◌, ◌≤◌, List, [], ◌∷◌, ◌++◌, length, map, take, drop, reverse, get_or, Result, Ok, Err, refl, sym, ap, subst, ◌∙◌, arith, append_assoc}
+use Rattle.std.specs.Prelude.{min, false, Option, All, OnOk}
+use Rattle.std.specs.Result.{IsErrAnd}
+use Rattle.std.proofs.lemmas.List.{drop_more, drop_all, take_more, take_all, append-nil, length-map, get_or-map, reverse-append, map-append, take-append-drop}
+use Rattle.std.proofs.lemmas.List.Elements.{All-nil, All-head, All-tail, All-cons, All-push}
 use Rattle.lp_lemmas.proofs.Elements.{All_front, All_back}
 use Rattle.lp_base.specs.declared.place.Spot.{Spot}
 use Rattle.lp_calculus.specs.Types.{Ty}
@@ -226,4 +227,29 @@ unformed names text b lines ss e a (before, s, behind, whole, formed, f) =
         have_form names text b front before fine formed,
         (typing_of b s.typed, s.typed.type_vars, record { few = at.few; places = map (λ v. v.0) s.typed.vars.items; principal = at.typed.principal; numbered = at.typed.numbered }, subst (λ p. IsFormFault (declared_schemes names) false s.typed.type_vars (tree b s.typed.formula.0) p e) at.first f),
       ),
+    )
+
+-- one more of the first elements
+pub all_more : {A : Type 0} (P : A → Type 0) (xs : List A) (i : ℕ) (x : A) → i < length xs → x ≡ get_or xs i x → All P (take i xs) → P x → All P (take (i + 1) xs)
+all_more P xs i x h at a p = subst (All P) (sym (take_more xs i x h ∙ ap (λ y. take i xs ++ y ∷ []) (sym at))) (All-push P (take i xs) x a p)
+
+-- the sentence that is judged is the first without the form
+pub first_unformed : (d : ℕ → Option Scheme) (b : Nodes) (ss : List TypedSentence) (i : ℕ) (s : TypedSentence) (e : ModuleFault) → i < length ss → s ≡ get_or ss i s → All (IsFormedIn d b) (take i ss) → IsFormFault d false s.typed.type_vars (tree b s.typed.formula.0) s.first e → IsFirstUnformed d b ss e
+first_unformed d b ss i s e h at a f = (take i ss, s, drop (i + 1) ss, whole, a, f)
+  where
+    whole : ss ≡ take i ss ++ s ∷ drop (i + 1) ss
+    whole = sym (take-append-drop i ss) ∙ ap (λ l. take i ss ++ l) (drop_more ss i s h ∙ ap (λ x. x ∷ drop (i + 1) ss) (sym at))
+
+-- a refusal gives nothing
+pub none_given : {T E : Type 0} (r : Result T E) (P : Type 0) (Q : E → Type 0) → IsErrAnd r Q → OnOk r P
+none_given (Ok x) P Q e = absurd e
+none_given (Err y) P Q e = tt
+
+-- the type of the variable that is closed next
+pub type_next : (b c : Nodes) (t : Typed) → Extends b c → Stands b t → (j : ℕ) (v : Spot × TypeId) → j < length t.vars.items → v ≡ get_or t.vars.items j v → (v.1.0 < length b.types) × (type_tree c v.1.0 ≡ type_tree b v.1.0) × (type_tree b v.1.0 ≡ get_or (map (λ v. type_tree b v.1.0) t.vars.items) j (type_tree b v.1.0))
+type_next b c t e s j v h at =
+    let q : v.1.0 < length b.types = subst (λ x. x.1.0 < length b.types) (sym at) (s.types j v h) in (
+      q,
+      e.same_types v.1.0 q,
+      sym (get_or-map (λ v. type_tree b v.1.0) t.vars.items j v (type_tree b v.1.0) h ∙ ap (λ v. type_tree b v.1.0) (sym at)),
     )

@@ -131,7 +131,8 @@ fn put_pi(bank: &mut Bank, at: TypeId, body: TermId) -> Result<TermId, Memory>
 {
     let inner = put_abstraction(bank, body)?;
     let head = put_constant(bank, PI, &[at])?;
-    put_applied(bank, head, inner)
+    let made = put_applied(bank, head, inner)?;
+    Ok(made)
 }
 
 // The formula of a sentence, its variables closed by `pi`, the first outermost.
