@@ -1,12 +1,14 @@
 // What a module means.
-ghost use Rattle.std.specs.Prelude.{◌≡◌, ◌≢◌, ◌+◌, ◌-◌, ◌≤◌, ◌⊎◌, length, map, All, IfOk, IfErr, OnOk};
+ghost use Rattle.std.specs.Prelude.{◌≡◌, ◌≢◌, ◌+◌, ◌-◌, ◌≤◌, ◌⊎◌, ℕ, Option, length, map, All, IfOk, IfErr, OnOk};
 ghost use Rattle.std.specs.List.{range_with_len};
+ghost use Rattle.lp_calculus.specs.Typing.{Scheme};
 ghost use Rattle.lp_sig.specs.Pieces.{spelled};
 ghost use Rattle.lp_module.specs.Meaning.{IsMeaning};
 ghost use Rattle.lp_module.specs.Refusals.{IsRefusal, declaration_fault};
 ghost use Rattle.lp_module.specs.Schemes.{declared_schemes};
 ghost use Rattle.lp_module.specs.Sentences.{said, AreWithin};
 ghost use Rattle.lp_module.specs.Words.{accumulate_words};
+ghost use Rattle.lp_module.specs.inner.Judging.{AreHeads};
 ghost use Rattle.lp_module.specs.inner.Typed.{IsFormedIn, IsFirstUnformed};
 ghost use Rattle.lp_module.specs.declared.fault.ModuleFault.TheVariants as fault;
 
@@ -95,6 +97,35 @@ fn uses_of(alloc: Global, source: &[u8], text: &ModuleText) -> Result<Vec<Vec<u8
 }
 
 // The limits and the form of each sentence. They are judged in a bank that is left behind, so that the module keeps no normal forms.
+fn check_each(
+    alloc: Global,
+    heads: &Heads,
+    bank: &Bank,
+    sentences: &[TypedSentence],
+) -> Result<(), ModuleFault>
+    ensures formed { OnOk result ((d : ℕ → Option Scheme) → AreHeads d heads.now → All (IsFormedIn d bank.now) sentences.now) }
+    ensures refused { IfErr result (λ e. (d : ℕ → Option Scheme) → AreHeads d heads.now → (e ≡ fault.Memory) ⊎ IsFirstUnformed d bank.now sentences.now e) }
+{
+    let mut copied = Changed::new(alloc);
+    let mut scratch = Bank::new(alloc);
+    let mut measures = Measures::new(alloc);
+    for at in 0..sentences.len() {
+        let sentence = &sentences[at];
+        let formula = copied.copy(alloc, &Same, bank, sentence.typed.formula, &mut scratch)?;
+        check_form(
+            alloc,
+            &mut scratch,
+            heads,
+            &mut measures,
+            false,
+            sentence.typed.type_vars,
+            formula,
+            sentence.first,
+        )?;
+    }
+    Ok(())
+}
+
 fn check_clauses(
     alloc: Global,
     signature: &Signature,
@@ -105,23 +136,7 @@ fn check_clauses(
     ensures refused { IfErr result (λ e. (e ≡ fault.Memory) ⊎ IsFirstUnformed (declared_schemes signature.now) bank.now sentences.now e) }
 {
     let heads = Heads::of(alloc, signature)?;
-    let mut copied = Changed::new(alloc);
-    let mut scratch = Bank::new(alloc);
-    let mut measures = Measures::new(alloc);
-    for at in 0..sentences.len() {
-        let sentence = &sentences[at];
-        let formula = copied.copy(alloc, &Same, bank, sentence.typed.formula, &mut scratch)?;
-        check_form(
-            alloc,
-            &mut scratch,
-            &heads,
-            &mut measures,
-            false,
-            sentence.typed.type_vars,
-            formula,
-            sentence.first,
-        )?;
-    }
+    check_each(alloc, &heads, bank, sentences)?;
     Ok(())
 }
 

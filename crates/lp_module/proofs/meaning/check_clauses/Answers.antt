@@ -1,46 +1,18 @@
-use Rattle.std.proofs.Common.{◌≡◌, ◌∙◌, false, inl, inr, sym, subst, arith}
-use Rattle.std.specs.Prelude.{◌⊎◌, All}
-use Rattle.std.proofs.lemmas.List.{take_all}
-use Rattle.lp_term.specs.Nodes.{tree}
-use Rattle.lp_term.specs.Same.{same_map}
-use Rattle.lp_term.proofs.MapLaws.{same_is_map, same_term}
-use Rattle.lp_term.proofs.Memos.{made_later}
+use Rattle.std.proofs.Common.{◌≡◌}
+use Rattle.std.specs.Prelude.{◌⊎◌}
 use Rattle.lp_term.proofs.Moves.{passed_up}
-use Rattle.lp_module.specs.Clauses.{IsFormed}
-use Rattle.lp_module.specs.Refusals.{IsFormFault}
 use Rattle.lp_module.specs.Schemes.{declared_schemes}
 use Rattle.lp_module.specs.declared.fault.ModuleFault.TheVariants as fault
-use Rattle.lp_module.specs.inner.Typed.{IsFormedIn, IsFirstUnformed}
-use Rattle.lp_module.proofs.Typed.{all_more, first_unformed, none_given}
+use Rattle.lp_module.specs.inner.Typed.{IsFirstUnformed}
+use Rattle.lp_module.proofs.Typed.{none_given}
 use Rattle.lp_module.proofs.meaning.check_clauses.Goals as goal
 
-pub loop-at-init : goal.loop-at-init
-loop-at-init c = (c.new-measures.ensures c.new-scratch.result, c.new-copied.ensures same_map c.args.bank.now c.new-scratch.result, λ k d h. absurd (omega (arith, h)))
-
-pub loop-at-preserved : goal.loop-at-preserved
-loop-at-preserved c =
-    let d = declared_schemes c.args.signature.now in
-    let s = c.index-sentences-at.result in
-    let i = same_is_map c.args.bank.now c.loop-at.scratch in
-    let same = c.in_ok-formula.ensures.made same_map i c.loop-at.invariant.1 ∙ same_term (tree c.args.bank.now s.typed.formula.0) in (
-      c.in_ok-check_form.ensures.measured,
-      made_later same_map c.args.bank.now c.copy.new.to c.check_form.new.bank c.copy.new.self c.in_ok-check_form.ensures.kept (c.in_ok-formula.ensures.memo same_map i c.loop-at.invariant.1),
-      all_more (IsFormedIn d c.args.bank.now) c.args.sentences.now c.loop-at.at s c.loop-at-test.true c.index-sentences-at.is c.loop-at.invariant.2 (subst (IsFormed d false s.typed.type_vars) same (c.in_ok-check_form.ensures.formed d c.in_ok-heads.ensures)),
-    )
-
 pub returns-clause-formed : goal.returns-clause-formed
-returns-clause-formed c = subst (All (IsFormedIn (declared_schemes c.args.signature.now) c.args.bank.now)) (take_all c.loop-at.at c.args.sentences.now c.loop-at-test.false) c.loop-at.invariant.2
+returns-clause-formed c = c.in_ok-check_each.ensures.formed (declared_schemes c.args.signature.now) c.in_ok-heads.ensures
 
-pub returns-in_err-check_form : goal.returns-in_err-check_form
-returns-in_err-check_form c =
-    let d = declared_schemes c.args.signature.now in
-    let s = c.index-sentences-at.result in
-    let e = c.in_err-check_form.field-0.0 in
-    let i = same_is_map c.args.bank.now c.loop-at.scratch in
-    let same = c.in_ok-formula.ensures.made same_map i c.loop-at.invariant.1 ∙ same_term (tree c.args.bank.now s.typed.formula.0) in
-    record {
-      formed = none_given c.from_residual-in_err-check_form.result _ _ c.from_residual-in_err-check_form.ensures.1;
-      refused = passed_up c.from_residual-in_err-check_form.result e (λ e. (e ≡ fault.Memory) ⊎ IsFirstUnformed d c.args.bank.now c.args.sentences.now e) c.from_residual-in_err-check_form.ensures.1
-          (inr (first_unformed d c.args.bank.now c.args.sentences.now c.loop-at.at s e c.loop-at-test.true c.index-sentences-at.is c.loop-at.invariant.2
-          (subst (λ t. IsFormFault d false s.typed.type_vars t s.first e) same (c.in_err-check_form.ensures.refused d c.in_ok-heads.ensures))));
-    }
+pub returns-in_err-check_each : goal.returns-in_err-check_each
+returns-in_err-check_each c = record {
+  formed = none_given c.from_residual-in_err-check_each.result _ _ c.from_residual-in_err-check_each.ensures.1;
+  refused = passed_up c.from_residual-in_err-check_each.result c.in_err-check_each.field-0.0 (λ e. (e ≡ fault.Memory) ⊎ IsFirstUnformed (declared_schemes c.args.signature.now) c.args.bank.now c.args.sentences.now e) c.from_residual-in_err-check_each.ensures.1
+      (c.in_err-check_each.ensures.refused (declared_schemes c.args.signature.now) c.in_ok-heads.ensures);
+}
