@@ -4,8 +4,14 @@ pub mod Reaching
 pub mod Visiting
 pub mod Lines
 pub mod Naming
+pub mod Typed
 pub mod Saying
 pub mod Ordering
 pub mod Uses
 pub mod Numbered
 pub mod Counting
+pub mod Measuring
+pub mod Judging
+pub mod Parting
+pub mod Owning
+pub mod Forming

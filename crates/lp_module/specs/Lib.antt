@@ -11,3 +11,9 @@ pub mod Numbering
 pub mod Arguments
 pub mod Renumbering
 pub mod Trees
+pub mod Meaning
+pub mod Program
+pub mod Form
+pub mod Schemes
+pub mod Clauses
+pub mod inner

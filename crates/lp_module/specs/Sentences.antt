@@ -1,26 +1,16 @@
 -- The sentences of a module that are clauses.
-use Rattle.std.specs.Prelude.{◌≡◌, ◌<◌, List, [], ◌∷◌, map, length, All}
-use Rattle.lp_base.specs.declared.place.Spot.{Spot}
+use Rattle.std.specs.Prelude.{◌<◌, List, [], ◌∷◌, length, All}
 use Rattle.lp_syntax.specs.declared.text.RawTerm.{RawTerm}
 use Rattle.lp_syntax.specs.declared.text.Sentence.{Sentence}
 use Rattle.lp_syntax.specs.declared.text.Sentence.TheVariants.{Declares, Says}
 use Rattle.lp_term.specs.Nodes.{Nodes}
 use Rattle.lp_model.specs.declared.program.ClauseFormula.{ClauseFormula}
-use Rattle.lp_module.specs.declared.sentences.TypedSentence.{TypedSentence}
 
 -- what the sentences say that are no declarations, in text order
 abbrev pub said : List Sentence → List RawTerm
 said [] = []
 said (Declares d ∷ ls) = said ls
 said (Says raw ∷ ls) = raw ∷ said ls
-
--- the first tokens of these sentences
-abbrev pub firsts : List Sentence → List Spot
-firsts lines = map (λ raw. raw.first) (said lines)
-
--- typed sentences are these, in order
-abbrev pub AreSaid : List Sentence → List TypedSentence → Type 0
-AreSaid lines typed = map (λ t. t.first) typed ≡ firsts lines
 
 -- the formulas stand in the bank
 abbrev pub AreWithin : Nodes → List ClauseFormula → Type 0

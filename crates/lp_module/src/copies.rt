@@ -8,6 +8,7 @@ ghost use Rattle.lp_copies.specs.Trees.{lists_in};
 ghost use Rattle.lp_module.specs.Copies.{IsOrder, IsTooMany, IsProgramRefusal, counts_of, total, kinds_end, constants_end};
 ghost use Rattle.lp_module.specs.Making.{IsSoFar, IsMade, MakesNames, clauses_of};
 ghost use Rattle.lp_module.specs.Numbering.{AreNumbered, count_in, following};
+ghost use Rattle.lp_module.specs.Program.{IsProgram};
 ghost use Rattle.lp_module.specs.Sentences.{AreWithin};
 
 use crate::fault::ModuleFault;
@@ -390,6 +391,7 @@ fn make(
 /// `Limit(Copies)` where there are more than 4,096 copies, else `Limit(Names)` where a kind's or a constant's number would not be below
 /// 65,535.
 pub fn assemble(alloc: Global, modules: &[Module], root: u32) -> Result<Assembled, ModuleFault>
+    ensures program { IfOk result (IsProgram modules.now root) }
     ensures clauses { IfOk result (λ a. AreWithin a.program.bank a.program.clauses.items) }
     ensures constants { IfOk result (λ a. length a.program.constants.items ≡ length a.constants.items) }
     ensures hidden_kinds { IfOk result (λ a. AreNumbered a.kinds.items) }

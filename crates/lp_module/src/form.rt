@@ -1,13 +1,20 @@
 // The form of clauses and queries, and the limits on their normal forms.
-ghost use Rattle.std.specs.Prelude.{◌<◌, ◌≤◌, length, IfOk, IfErr, OnOk};
+ghost use Rattle.std.specs.Prelude.{◌<◌, ◌≤◌, ℕ, Bool, Option, true, length, IfOk, IfErr, OnOk};
 ghost use Rattle.lp_base.specs.declared.place.Spot.{Spot};
 ghost use Rattle.lp_base.specs.declared.limits.TheConstants.{MAX_ARGUMENTS};
+ghost use Rattle.lp_calculus.specs.Term.{Term};
+ghost use Rattle.lp_calculus.specs.Typing.{Scheme};
 ghost use Rattle.lp_term.specs.Nodes.{Extends, tree};
+ghost use Rattle.lp_module.specs.Clauses.{IsShortForm, IsFormed};
+ghost use Rattle.lp_module.specs.Form.{whole};
 ghost use Rattle.lp_module.specs.Refusals.{IsFormFault, IsShort};
+ghost use Rattle.lp_module.specs.Schemes.{any_schemes};
+ghost use Rattle.lp_module.specs.inner.Judging.{AreHeads, AreMeasured, IsVerdict};
 
 use crate::fault::ModuleFault;
 use crate::heads::Heads;
-use crate::judge::{Judge, Position};
+use crate::judge::{Verdict, judge};
+use crate::measure::Measures;
 use crate::quantified::LOOSE;
 use lp_base::{Limit, MAX_ARGUMENTS, MAX_CONTRACTIONS, MAX_NODES, Spot};
 use lp_model::Typed;
@@ -18,8 +25,8 @@ use std::alloc::Global;
 fn normal_of(alloc: Global, bank: &mut Bank, formula: TermId) -> Result<TermId, ModuleFault>
     ensures kept { Extends bank.old bank.new }
     ensures within { IfOk result (λ id. id.0 < length bank.new.terms) }
-    ensures short { OnOk result (IsShort (tree bank.old formula.0)) }
-    ensures refused { (first : Spot) → IfErr result (IsFormFault (tree bank.old formula.0) first) }
+    ensures form { IfOk result (λ id. IsShortForm (tree bank.old formula.0) (tree bank.new id.0)) }
+    ensures refused { (d : ℕ → Option Scheme) (goal : Bool) (n : ℕ) (first : Spot) → IfErr result (IsFormFault d goal n (tree bank.old formula.0) first) }
 {
     let formula = bank.inside(formula)?;
     if !bank.is_known_below(formula, LOOSE) {
@@ -32,24 +39,11 @@ fn normal_of(alloc: Global, bank: &mut Bank, formula: TermId) -> Result<TermId, 
     }
 }
 
-/// Whether a sentence or query is within the limits and has the form of its position. `first` is the spot of its first token.
-pub(crate) fn check_form(
-    alloc: Global,
-    bank: &mut Bank,
-    heads: &Heads,
-    position: Position,
-    type_vars: u64,
-    formula: TermId,
-    first: Spot,
-) -> Result<(), ModuleFault>
-    ensures kept { Extends bank.old bank.new }
-    ensures short { OnOk result (IsShort (tree bank.old formula.0)) }
-    ensures variables { OnOk result (type_vars ≤ MAX_ARGUMENTS) }
-    ensures refused { IfErr result (IsFormFault (tree bank.old formula.0) first) }
+// The first fault of a formula of which is known what is wrong with it.
+fn first_fault(verdict: Verdict, type_vars: u64, first: Spot) -> Result<(), ModuleFault>
+    ensures formed { OnOk result ((d : ℕ → Option Scheme) (goal : Bool) (formula form : Term) → IsVerdict d (whole goal form) verdict → IsShortForm formula form → IsFormed d goal type_vars formula) }
+    ensures refused { IfErr result (λ e. (d : ℕ → Option Scheme) (goal : Bool) (formula form : Term) → IsVerdict d (whole goal form) verdict → IsShortForm formula form → IsFormFault d goal type_vars formula first e) }
 {
-    let normal = normal_of(alloc, bank, formula)?;
-    let mut judge = Judge::new(alloc, heads);
-    let verdict = judge.judge(bank, position, normal)?;
     if verdict.deep {
         return Err(ModuleFault::Limit(Limit::Nesting));
     }
@@ -68,6 +62,29 @@ pub(crate) fn check_form(
     Ok(())
 }
 
+/// Whether a sentence or query is within the limits and has the form of its position. `first` is the spot of its first token.
+pub(crate) fn check_form(
+    alloc: Global,
+    bank: &mut Bank,
+    heads: &Heads,
+    measures: &mut Measures,
+    goal: bool,
+    type_vars: u64,
+    formula: TermId,
+    first: Spot,
+) -> Result<(), ModuleFault>
+    requires measured { AreMeasured bank.old measures.old }
+    ensures kept { Extends bank.old bank.new }
+    ensures measured { OnOk result (AreMeasured bank.new measures.new) }
+    ensures formed { OnOk result ((d : ℕ → Option Scheme) → AreHeads d heads.now → IsFormed d goal type_vars (tree bank.old formula.0)) }
+    ensures refused { IfErr result (λ e. (d : ℕ → Option Scheme) → AreHeads d heads.now → IsFormFault d goal type_vars (tree bank.old formula.0) first e) }
+{
+    let normal = normal_of(alloc, bank, formula)?;
+    let verdict = judge(alloc, bank, heads, measures, goal, normal)?;
+    first_fault(verdict, type_vars, first)?;
+    Ok(())
+}
+
 /// Whether a query is within the limits and is a goal. `first` is the spot of its first token.
 pub fn query_form(
     alloc: Global,
@@ -78,15 +95,20 @@ pub fn query_form(
     ensures kept { Extends bank.old bank.new }
     ensures short { OnOk result (IsShort (tree bank.old query.now.formula.0)) }
     ensures variables { OnOk result (query.now.type_vars ≤ MAX_ARGUMENTS) }
-    ensures refused { IfErr result (IsFormFault (tree bank.old query.now.formula.0) first) }
+    ensures formed { OnOk result (IsFormed any_schemes true query.now.type_vars (tree bank.old query.now.formula.0)) }
+    ensures refused { IfErr result (IsFormFault any_schemes true query.now.type_vars (tree bank.old query.now.formula.0) first) }
 {
+    let heads = Heads::Any;
+    let mut measures = Measures::new(alloc);
     check_form(
         alloc,
         bank,
-        &Heads::Any,
-        Position::Goal,
+        &heads,
+        &mut measures,
+        true,
         query.type_vars,
         query.formula,
         first,
-    )
+    )?;
+    Ok(())
 }

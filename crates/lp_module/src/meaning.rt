@@ -1,17 +1,21 @@
 // What a module means.
-ghost use Rattle.std.specs.Prelude.{◌≡◌, ◌≢◌, ◌+◌, ◌-◌, ◌≤◌, ◌⊎◌, List, length, map, IfOk, IfErr, OnOk};
+ghost use Rattle.std.specs.Prelude.{◌≡◌, ◌≢◌, ◌+◌, ◌-◌, ◌≤◌, ◌⊎◌, ℕ, Option, length, map, All, IfOk, IfErr, OnOk};
 ghost use Rattle.std.specs.List.{range_with_len};
-ghost use Rattle.lp_syntax.specs.declared.text.Sentence.{Sentence};
+ghost use Rattle.lp_calculus.specs.Typing.{Scheme};
 ghost use Rattle.lp_sig.specs.Pieces.{spelled};
-ghost use Rattle.lp_module.specs.Refusals.{IsRefusal, IsUnformed, declaration_fault};
-ghost use Rattle.lp_module.specs.Sentences.{said, AreSaid, AreWithin};
+ghost use Rattle.lp_module.specs.Meaning.{IsMeaning};
+ghost use Rattle.lp_module.specs.Refusals.{IsRefusal, declaration_fault};
+ghost use Rattle.lp_module.specs.Schemes.{declared_schemes};
+ghost use Rattle.lp_module.specs.Sentences.{said, AreWithin};
 ghost use Rattle.lp_module.specs.Words.{accumulate_words};
+ghost use Rattle.lp_module.specs.inner.Judging.{AreHeads};
+ghost use Rattle.lp_module.specs.inner.Typed.{IsFormedIn, IsFirstUnformed};
 ghost use Rattle.lp_module.specs.declared.fault.ModuleFault.TheVariants as fault;
 
 use crate::fault::ModuleFault;
 use crate::form::check_form;
 use crate::heads::Heads;
-use crate::judge::Position;
+use crate::measure::Measures;
 use crate::module::Module;
 use crate::sentences::{TypedSentence, closed_sentences, typed_sentences};
 use crate::words::accumulated;
@@ -93,30 +97,46 @@ fn uses_of(alloc: Global, source: &[u8], text: &ModuleText) -> Result<Vec<Vec<u8
 }
 
 // The limits and the form of each sentence. They are judged in a bank that is left behind, so that the module keeps no normal forms.
-fn check_clauses(
+fn check_each(
     alloc: Global,
-    signature: &Signature,
+    heads: &Heads,
     bank: &Bank,
     sentences: &[TypedSentence],
 ) -> Result<(), ModuleFault>
-    ensures { (lines : List Sentence) → AreSaid lines sentences.now → IfErr result (λ e. (e ≡ fault.Memory) ⊎ IsUnformed lines e) }
+    ensures formed { OnOk result ((d : ℕ → Option Scheme) → AreHeads d heads.now → All (IsFormedIn d bank.now) sentences.now) }
+    ensures refused { IfErr result (λ e. (d : ℕ → Option Scheme) → AreHeads d heads.now → (e ≡ fault.Memory) ⊎ IsFirstUnformed d bank.now sentences.now e) }
 {
-    let heads = Heads::of(alloc, signature)?;
     let mut copied = Changed::new(alloc);
     let mut scratch = Bank::new(alloc);
+    let mut measures = Measures::new(alloc);
     for at in 0..sentences.len() {
         let sentence = &sentences[at];
         let formula = copied.copy(alloc, &Same, bank, sentence.typed.formula, &mut scratch)?;
         check_form(
             alloc,
             &mut scratch,
-            &heads,
-            Position::Clause,
+            heads,
+            &mut measures,
+            false,
             sentence.typed.type_vars,
             formula,
             sentence.first,
         )?;
     }
+    Ok(())
+}
+
+fn check_clauses(
+    alloc: Global,
+    signature: &Signature,
+    bank: &Bank,
+    sentences: &[TypedSentence],
+) -> Result<(), ModuleFault>
+    ensures formed { OnOk result (All (IsFormedIn (declared_schemes signature.now) bank.now) sentences.now) }
+    ensures refused { IfErr result (λ e. (e ≡ fault.Memory) ⊎ IsFirstUnformed (declared_schemes signature.now) bank.now sentences.now e) }
+{
+    let heads = Heads::of(alloc, signature)?;
+    check_each(alloc, &heads, bank, sentences)?;
     Ok(())
 }
 
@@ -135,6 +155,7 @@ pub fn elaborate(
     own: &Signature,
     used: &[Signature],
 ) -> Result<Module, ModuleFault>
+    ensures meaning { IfOk result (IsMeaning source.now text.now expected.now own.now used.now) }
     ensures header { OnOk result (spelled source.now text.now.header ≡ expected.now) }
     ensures name { IfOk result (λ m. m.name.items ≡ expected.now) }
     ensures uses { IfOk result (λ m. map (λ name. name.items) m.uses.items ≡ map (spelled source.now) (accumulate_words text.now.lines.items)) }

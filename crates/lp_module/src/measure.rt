@@ -1,29 +1,30 @@
-// What the terms of a formula are like. A term that is shared is looked at once.
+// What the terms of a bank are like. Each is looked at once, behind those before it.
+ghost use Rattle.std.specs.Prelude.{◌≡◌, ◌<◌, ℕ, Bool, ◌||◌, length, map, not, false, All, IfOk, OnOk};
+ghost use Rattle.lp_calculus.specs.Term.{Term, Atom, index, atom, abs, app, apply};
+ghost use Rattle.lp_standard.specs.Positive.{is_positive, is_positive_constant};
+ghost use Rattle.lp_term.specs.Nodes.{Nodes, tree};
+ghost use Rattle.lp_module.specs.inner.Judging.{IsMeasure, AreMeasured};
 
-use indexmap::IndexMap;
 use lp_base::Memory;
 use lp_standard::Constant;
 use lp_term::{Bank, TermId, TermNode};
 use std::alloc::Global;
 
 /// How deep a term is, a head with its arguments on one level; how many arguments its head has; the greatest number of arguments on
-/// one head in it; and whether `=>`, `:-`, `!` or `not` stands in it.
+/// one head in it; and whether `=>`, `:-`, `!` or `not` stands in it. A number past 32 bits stands as the greatest.
 #[derive(Clone, Copy)]
 pub(crate) struct Measure {
-    pub depth: u64,
-    pub arguments: u64,
-    pub widest: u64,
+    pub depth: u32,
+    pub arguments: u32,
+    pub widest: u32,
     pub connective: bool,
 }
 
-#[derive(Clone, Copy)]
-enum Task {
-    Visit(TermId),
-    Build(TermId),
-}
-
 impl Measure {
-    fn leaf(connective: bool) -> Measure {
+    fn leaf(connective: bool) -> Measure
+        ensures index { (i : ℕ) → connective ≡ false → IsMeasure result (index i) }
+        ensures atom { (a : Atom) → connective ≡ not (is_positive (atom a)) → IsMeasure result (atom a) }
+    {
         Measure {
             depth: 1,
             arguments: 0,
@@ -32,123 +33,125 @@ impl Measure {
         }
     }
 
-    fn abstracted(self) -> Measure {
+    fn abstracted(self) -> Measure
+        ensures { (t : Term) → IsMeasure self t → IsMeasure result (abs t) }
+    {
+        let depth = self.depth.saturating_add(1);
         Measure {
-            depth: self.depth.saturating_add(1),
+            depth,
             arguments: 0,
-            ..self
+            widest: self.widest,
+            connective: self.connective,
         }
     }
 
     // The head with one more argument.
-    fn applied(self, argument: Measure) -> Measure {
+    fn applied(self, argument: Measure) -> Measure
+        ensures { (t u : Term) → IsMeasure self t → IsMeasure argument u → IsMeasure result (app t u) }
+    {
         let arguments = self.arguments.saturating_add(1);
+        let below = argument.depth.saturating_add(1);
+        let inside = self.widest.max(argument.widest);
+        let depth = self.depth.max(below);
+        let widest = inside.max(arguments);
+        let connective = either(self.connective, argument.connective);
         Measure {
-            depth: self.depth.max(argument.depth.saturating_add(1)),
+            depth,
             arguments,
-            widest: self.widest.max(argument.widest).max(arguments),
-            connective: self.connective || argument.connective,
+            widest,
+            connective,
         }
     }
+}
+
+/// Whether one of the two holds.
+pub(crate) fn either(left: bool, right: bool) -> bool
+    ensures { result ≡ (left || right) }
+{
+    if left {
+        return true;
+    }
+    right
 }
 
 // Whether a constant is `=>`, `:-`, `!` or `not`.
-fn is_connective(constant: u32) -> bool {
-    constant == Constant::Implies.number()
-        || constant == Constant::If.number()
-        || constant == Constant::Cut.number()
-        || constant == Constant::Not.number()
+fn is_connective(constant: u32) -> bool
+    ensures { result ≡ not (is_positive_constant constant) }
+{
+    let implies = constant == Constant::Implies.number();
+    let turned = constant == Constant::If.number();
+    let cut = constant == Constant::Cut.number();
+    let negation = constant == Constant::Not.number();
+    either(either(implies, turned), either(cut, negation))
 }
 
+/// The measures of the first terms of a bank.
 #[derive(Drop)]
 pub(crate) struct Measures {
-    alloc: Global,
-    known: IndexMap<usize, Measure>,
+    measured: Vec<Measure>,
 }
 
 impl Measures {
-    pub(crate) fn new(alloc: Global) -> Measures {
+    pub(crate) fn new(alloc: Global) -> Measures
+        ensures { (b : Nodes) → AreMeasured b result }
+    {
         Measures {
-            alloc,
-            known: IndexMap::new(alloc),
+            measured: Vec::new(alloc),
         }
     }
 
-    // One that is not known is as a leaf.
-    fn known(&self, id: TermId) -> Measure {
-        match self.known.get(&id.0) {
-            Some(measure) => *measure,
+    fn known(&self, id: TermId) -> Measure
+        ensures { (b : Nodes) → AreMeasured b self.now → id.0 < length self.now.measured.items → IsMeasure result (tree b id.0) }
+    {
+        match self.measured.get(id.0) {
             None => Measure::leaf(false),
+            Some(measure) => *measure,
         }
     }
 
-    // Looks at a term that has no measure yet; its parts come first.
-    fn visit(&mut self, bank: &Bank, id: TermId, work: &mut Vec<Task>) -> Result<(), Memory> {
-        if self.known.contains_key(&id.0) {
-            return Ok(());
-        }
-        match bank.term_node(id) {
-            TermNode::Abs(body) => {
-                work.push(Task::Build(id))?;
-                work.push(Task::Visit(body))?;
-            }
-            TermNode::App(head, arguments) => {
-                work.push(Task::Build(id))?;
-                work.push(Task::Visit(head))?;
-                push_visits(arguments, work)?;
-            }
-            TermNode::Const(constant, _) => {
-                self.known
-                    .insert(id.0, Measure::leaf(is_connective(constant)))?;
-            }
-            _ => {
-                self.known.insert(id.0, Measure::leaf(false))?;
-            }
-        }
-        Ok(())
-    }
-
-    // Measures an abstraction or an application, whose parts are measured.
-    fn build(&mut self, bank: &Bank, id: TermId) -> Result<(), Memory> {
-        match bank.term_node(id) {
-            TermNode::Abs(body) => {
-                let measure = self.known(body).abstracted();
-                self.known.insert(id.0, measure)?;
-            }
-            TermNode::App(head, arguments) => {
-                let measure = self.application(head, arguments);
-                self.known.insert(id.0, measure)?;
-            }
-            _ => {}
-        }
-        Ok(())
-    }
-
-    fn application(&self, head: TermId, arguments: &[TermId]) -> Measure {
+    fn application(&self, bank: &Bank, head: TermId, arguments: &[TermId]) -> Measure
+        requires measured { AreMeasured bank.now self.now }
+        requires head { head.0 < length self.now.measured.items }
+        requires arguments { All (λ i. i < length self.now.measured.items) (map (λ t. t.0) arguments.now) }
+        ensures { IsMeasure result (apply (tree bank.now head.0) (map (tree bank.now) (map (λ t. t.0) arguments.now))) }
+    {
         let mut measure = self.known(head);
-        for argument in arguments.iter().copied() {
-            measure = measure.applied(self.known(argument));
+        for argument in arguments {
+            measure = measure.applied(self.known(*argument));
         }
         measure
     }
 
-    pub(crate) fn of(&mut self, bank: &Bank, id: TermId) -> Result<Measure, Memory> {
-        let mut work = Vec::new(self.alloc);
-        work.push(Task::Visit(id))?;
-        for _ in 0..u64::MAX {
-            match work.pop() {
-                None => return Ok(self.known(id)),
-                Some(Task::Visit(next)) => self.visit(bank, next, &mut work)?,
-                Some(Task::Build(next)) => self.build(bank, next)?,
-            }
+    // What the term behind those that are measured is like.
+    fn next(&self, bank: &Bank, id: TermId) -> Measure
+        requires measured { AreMeasured bank.now self.now }
+        requires next { id.0 ≡ length self.now.measured.items }
+        ensures { IsMeasure result (tree bank.now id.0) }
+    {
+        match bank.term_node(id) {
+            TermNode::Index(_) => Measure::leaf(false),
+            TermNode::Const(constant, _) => Measure::leaf(is_connective(constant)),
+            TermNode::Int(_) => Measure::leaf(false),
+            TermNode::Text(_) => Measure::leaf(false),
+            TermNode::Eigen(_) => Measure::leaf(false),
+            TermNode::Logic { .. } => Measure::leaf(false),
+            TermNode::Param(_, _) => Measure::leaf(false),
+            TermNode::Abs(body) => self.known(body).abstracted(),
+            TermNode::App(head, arguments) => self.application(bank, head, arguments),
         }
-        Err(Memory)
     }
-}
 
-fn push_visits(ids: &[TermId], work: &mut Vec<Task>) -> Result<(), Memory> {
-    for id in ids.iter().copied() {
-        work.push(Task::Visit(id))?;
+    pub(crate) fn of(&mut self, bank: &Bank, id: TermId) -> Result<Measure, Memory>
+        requires measured { AreMeasured bank.now self.old }
+        requires within { id.0 < length bank.now.terms }
+        ensures measured { OnOk result (AreMeasured bank.now self.new) }
+        ensures measure { IfOk result (λ m. IsMeasure m (tree bank.now id.0)) }
+    {
+        let count = bank.term_count();
+        for at in self.measured.len()..count {
+            let measure = self.next(bank, TermId(at));
+            self.measured.push(measure)?;
+        }
+        Ok(self.known(id))
     }
-    Ok(())
 }

@@ -1,10 +1,14 @@
 // The sentences of a module: their typing, and the closed formulas.
-ghost use Rattle.std.specs.Prelude.{◌≡◌, ◌≤◌, ◌<◌, ◌⊎◌, length, get_or, All, true, false, IfOk, IfErr};
+ghost use Rattle.std.specs.Prelude.{◌≡◌, ◌≤◌, ◌<◌, ◌⊎◌, [], ◌∷◌, length, get_or, All, true, false, IfOk, IfErr};
 ghost use Rattle.lp_base.specs.declared.limits.TheConstants.{MAX_ARGUMENTS};
-ghost use Rattle.lp_term.specs.Nodes.{Extends};
+ghost use Rattle.lp_calculus.specs.Term.{abs};
+ghost use Rattle.lp_standard.specs.Connectives.{pi_of};
+ghost use Rattle.lp_infer.specs.Refusals.{Stands};
+ghost use Rattle.lp_term.specs.Nodes.{Extends, tree, type_tree};
 ghost use Rattle.lp_module.specs.Arguments.{own_count, HasManyArguments};
 ghost use Rattle.lp_module.specs.Refusals.{IsTypingFault, IsUntyped};
-ghost use Rattle.lp_module.specs.Sentences.{AreSaid, AreWithin};
+ghost use Rattle.lp_module.specs.Sentences.{said};
+ghost use Rattle.lp_module.specs.inner.Typed.{IsSentence, AreSentences, IsClosed, AreClosed, AreStanding};
 ghost use Rattle.lp_module.specs.declared.fault.ModuleFault.TheVariants as fault;
 
 use crate::fault::ModuleFault;
@@ -74,7 +78,8 @@ fn typed_sentence(
     raw: &RawTerm,
     bank: &mut Bank,
 ) -> Result<TypedSentence, ModuleFault>
-    ensures first { IfOk result (λ sentence. sentence.first ≡ raw.now.first) }
+    ensures kept { Extends bank.old bank.new }
+    ensures sentence { IfOk result (IsSentence signature.now source.now raw.now bank.new) }
     ensures refused { IfErr result (IsTypingFault signature.now source.now raw.now) }
 {
     if has_many_arguments(alloc, raw)? {
@@ -99,7 +104,8 @@ pub(crate) fn typed_sentences(
     text: &ModuleText,
     bank: &mut Bank,
 ) -> Result<Vec<TypedSentence>, ModuleFault>
-    ensures said { IfOk result (λ sentences. AreSaid text.now.lines.items sentences.items) }
+    ensures kept { Extends bank.old bank.new }
+    ensures sentences { IfOk result (λ sentences. AreSentences signature.now source.now bank.new (said text.now.lines.items) sentences.items) }
     ensures refused { IfErr result (λ e. (e ≡ fault.Memory) ⊎ IsUntyped signature.now source.now text.now.lines.items e) }
 {
     let mut sentences = Vec::new(alloc);
@@ -118,21 +124,27 @@ pub(crate) fn typed_sentences(
 
 // `pi x\ body` at a type.
 fn put_pi(bank: &mut Bank, at: TypeId, body: TermId) -> Result<TermId, Memory>
+    requires at { at.0 < length bank.old.types }
     ensures kept { Extends bank.old bank.new }
     ensures within { IfOk result (λ id. id.0 < length bank.new.terms) }
+    ensures tree { IfOk result (λ id. tree bank.new id.0 ≡ pi_of (type_tree bank.old at.0) (abs (tree bank.old body.0))) }
 {
     let inner = put_abstraction(bank, body)?;
     let head = put_constant(bank, PI, &[at])?;
-    put_applied(bank, head, inner)
+    let made = put_applied(bank, head, inner)?;
+    Ok(made)
 }
 
 // The formula of a sentence, its variables closed by `pi`, the first outermost.
 fn closed(bank: &mut Bank, typed: &Typed) -> Result<ClauseFormula, Memory>
+    requires { Stands bank.old typed.now }
     ensures kept { Extends bank.old bank.new }
-    ensures within { IfOk result (λ clause. clause.formula.0 < length bank.new.terms) }
+    ensures closed { IfOk result (IsClosed bank.new typed.now) }
 {
-    let mut formula = bank.inside(typed.formula)?;
-    for variable in typed.vars.iter().rev() {
+    let count = typed.vars.len();
+    let mut formula = typed.formula;
+    for at in 0..count {
+        let variable = typed.vars[count - 1 - at];
         formula = put_pi(bank, variable.1, formula)?;
     }
     Ok(ClauseFormula {
@@ -147,9 +159,9 @@ pub(crate) fn closed_sentences(
     bank: &mut Bank,
     sentences: &[TypedSentence],
 ) -> Result<Vec<ClauseFormula>, Memory>
+    requires { AreStanding bank.old sentences.now }
     ensures kept { Extends bank.old bank.new }
-    ensures count { IfOk result (λ clauses. length clauses.items ≡ length sentences.now) }
-    ensures within { IfOk result (λ clauses. AreWithin bank.new clauses.items) }
+    ensures closed { IfOk result (λ clauses. AreClosed bank.new sentences.now clauses.items) }
 {
     let mut clauses = Vec::new(alloc);
     for at in 0..sentences.len() {

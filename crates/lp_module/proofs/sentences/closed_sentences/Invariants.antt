@@ -1,7 +1,7 @@
-use Rattle.std.proofs.Common.{◌≡◌, length}
+use Rattle.std.proofs.Common.{take}
 use Rattle.lp_term.specs.Nodes.{Extends}
-use Rattle.lp_module.specs.Sentences.{AreWithin}
+use Rattle.lp_module.specs.inner.Typed.{AreClosed}
 use Rattle.lp_module.proofs.sentences.closed_sentences.Given as goal
 
 abbrev pub invariant-loop-at : goal.invariant-loop-at
-invariant-loop-at l = Extends l.fn.bank l.bank × (length l.clauses.items ≡ l.at) × AreWithin l.bank l.clauses.items
+invariant-loop-at l = Extends l.fn.bank l.bank × AreClosed l.bank (take l.at l.sentences) l.clauses.items
