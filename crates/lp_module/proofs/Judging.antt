@@ -195,9 +195,9 @@ judged b c heads w old mid new ts t f v own x j is binders tasks shallow_yet at 
       few = λ e q k. elim (Contains-append_cases front (parts_of p) q k) [
         | inl i ↦ j.few shallow_yet q (subst (λ l. Contains l q) (sym whole) (Contains-append_left front (p ∷ []) q i))
         | inr i ↦
-          let h = parts_deeper p q (connective_of p.formula) i in
-          let l = shallow p (sym (owns p task).deep ∙ or_false_right v.deep own.deep (sym joined.deep ∙ e)) in
-          omega (arith, h, l)
+            let h = parts_deeper p q (connective_of p.formula) i in
+            let l = shallow p (sym (owns p task).deep ∙ or_false_right v.deep own.deep (sym joined.deep ∙ e)) in
+            omega (arith, h, l)
       ];
       inside = λ q k. elim (Contains-append_cases front (parts_of p) q k) [
         | inl i ↦ j.inside q (subst (λ l. Contains l q) (sym whole) (Contains-append_left front (p ∷ []) q i))

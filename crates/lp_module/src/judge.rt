@@ -266,13 +266,7 @@ fn is_clause_head(bank: &Bank, heads: &Heads, parts: &Parts, task: Task) -> bool
 }
 
 // Whether a part has its form, but for what stands below it.
-fn has_form(
-    bank: &Bank,
-    heads: &Heads,
-    parts: &Parts,
-    task: Task,
-    connective: Connective,
-) -> bool
+fn has_form(bank: &Bank, heads: &Heads, parts: &Parts, task: Task, connective: Connective) -> bool
     ensures { (d : ℕ → Option Scheme) (p : Part) → AreHeads d heads.now → IsTask bank.now parts.now.binders.items task p → result ≡ has_form_by d p (connective_in bank.now connective) }
 {
     match connective {

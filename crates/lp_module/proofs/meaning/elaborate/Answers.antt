@@ -23,9 +23,12 @@ returns-in_err-check_clauses-clause-refused c =
     let ss = c.in_ok-sentences.sentences.items in
     let e = c.in_err-check_clauses.field-0.0 in
     passed_up c.from_residual-in_err-check_clauses.result e (IsRefusal c.args.source.now c.args.text.now c.args.expected.now) c.from_residual-in_err-check_clauses.ensures.1
-    (inr (c.in_ok-check_header.ensures.same, unformed_inside c.args.source.now c.args.text.now names b ss e
-    (sentences_later c.typed_sentences.new.bank b c.in_ok-clauses.ensures.kept names c.args.source.now (said c.args.text.now.lines.items) ss c.in_ok-sentences.ensures.sentences)
-    (subst (λ l. (e ≡ fault.Memory) ⊎ IsFirstUnformed (declared_schemes names) b l e) c.as_slice-2.ensures.value c.in_err-check_clauses.ensures.refused)))
+    (inr (
+      c.in_ok-check_header.ensures.same,
+      unformed_inside c.args.source.now c.args.text.now names b ss e
+          (sentences_later c.typed_sentences.new.bank b c.in_ok-clauses.ensures.kept names c.args.source.now (said c.args.text.now.lines.items) ss c.in_ok-sentences.ensures.sentences)
+          (subst (λ l. (e ≡ fault.Memory) ⊎ IsFirstUnformed (declared_schemes names) b l e) c.as_slice-2.ensures.value c.in_err-check_clauses.ensures.refused),
+    ))
 
 pub returns-in_err-name-clause-refused : goal.returns-in_err-name-clause-refused
 returns-in_err-name-clause-refused c = passed_up c.from_residual-in_err-name.result fault.Memory (IsRefusal c.args.source.now c.args.text.now c.args.expected.now) c.from_residual-in_err-name.ensures.1 (inr (c.in_ok-check_header.ensures.same, inl refl))
