@@ -41,7 +41,8 @@ compared (suc k) (suc n) = elim (compared k n) [
   | inr (inr l) ↦ inr (inr (omega (arith, l)))
 ]
 
-pub alls_more : (all : List Record) (n : ℕ) (r : Record) (old new : List (BTreeSet ℕ)) → AllsAre all n old → n < length all → r ≡ get_or all n r → (set : BTreeSet ℕ) × (new ≡ old ++ set ∷ []) × ((q : ℕ) → contains nat_cmp set q ≡ is_set_by_all r.code.items q) → AllsAre all (n + 1) new
+pub alls_more : (all : List Record) (n : ℕ) (r : Record) (old new : List (BTreeSet ℕ)) → AllsAre all n old → n < length all → r ≡ get_or all n r
+    → (set : BTreeSet ℕ) × (new ≡ old ++ set ∷ []) × ((q : ℕ) → contains nat_cmp set q ≡ is_set_by_all r.code.items q) → AllsAre all (n + 1) new
 alls_more all n r old new a l is s =
     let count : length new ≡ suc (length old) = ap length s.1 ∙ length_push_suc old s.0 in
     let before = a.0 in
@@ -50,9 +51,11 @@ alls_more all n r old new a l is s =
     by_place : (k q : ℕ) → (k < n) ⊎ ((k ≡ n) ⊎ (n < k)) → has_all (old ++ s.0 ∷ []) k q ≡ (nat_lt k (n + 1) && sets_by_all (slice_get all k) q)
     by_place k q (inl m) =
         let before = a.0 in
-        ap (λ o. has_in o q) (same_front old (s.0 ∷ []) k (omega (arith, m, before))) ∙ a.1 k q ∙ (λ j. lt-ltb k n m j && sets_by_all (slice_get all k) q) ∙ sym (λ j. lt-ltb k (n + 1) (omega (arith, m)) j && sets_by_all (slice_get all k) q)
+        ap (λ o. has_in o q) (same_front old (s.0 ∷ []) k (omega (arith, m, before))) ∙ a.1 k q ∙ (λ j. lt-ltb k n m j && sets_by_all (slice_get all k) q)
+        ∙ sym (λ j. lt-ltb k (n + 1) (omega (arith, m)) j && sets_by_all (slice_get all k) q)
     by_place k q (inr (inl e)) =
-        ap (λ k. has_in (slice_get (old ++ s.0 ∷ []) k) q) (e ∙ sym a.0) ∙ ap (λ o. has_in o q) (get_push old s.0) ∙ s.2 q ∙ sym (ap (λ o. sets_by_all o q) (ap (slice_get all) e ∙ get_read all all n r r refl l is)) ∙ sym (λ j. lt-ltb k (n + 1) (omega (arith, e)) j && sets_by_all (slice_get all k) q)
+        ap (λ k. has_in (slice_get (old ++ s.0 ∷ []) k) q) (e ∙ sym a.0) ∙ ap (λ o. has_in o q) (get_push old s.0) ∙ s.2 q
+        ∙ sym (ap (λ o. sets_by_all o q) (ap (slice_get all) e ∙ get_read all all n r r refl l is)) ∙ sym (λ j. lt-ltb k (n + 1) (omega (arith, e)) j && sets_by_all (slice_get all k) q)
     by_place k q (inr (inr m)) =
         let before = a.0 in
         let longer = length_push_suc old s.0 in

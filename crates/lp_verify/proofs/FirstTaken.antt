@@ -43,7 +43,8 @@ only_number b n = either (nat_lt b n)
     either false = refl
 
 -- one register is noted
-pub one_noted : (old new : BTreeMap ℕ ℕ) (d number first : ℕ) → ((x : ℕ) → get nat_cmp new x ≡ cond (is_at (nat_cmp d) x) (Some first) (get nat_cmp old x)) → ((n : ℕ) → nat_lt first n ≡ (nat_lt number n || is_before n (get nat_cmp old d)))
+pub one_noted : (old new : BTreeMap ℕ ℕ) (d number first : ℕ) → ((x : ℕ) → get nat_cmp new x ≡ cond (is_at (nat_cmp d) x) (Some first) (get nat_cmp old x))
+    → ((n : ℕ) → nat_lt first n ≡ (nat_lt number n || is_before n (get nat_cmp old d)))
     → (x n : ℕ) → is_before n (get nat_cmp new x) ≡ ((nat_eq x d && nat_lt number n) || is_before n (get nat_cmp old x))
 one_noted old new d number first put earlier x n = ap (is_before n) (put x ∙ ap (λ t. cond t (Some first) (get nat_cmp old x)) (at_same d x)) ∙ by (nat_eq x d) refl
   where
@@ -55,7 +56,8 @@ one_noted old new d number first put earlier x n = ap (is_before n) (put x ∙ a
 abbrev pub AreNotedSoFar : (old now : BTreeMap ℕ ℕ) → (number : ℕ) → (all left : List ℕ) → Type 0
 AreNotedSoFar old now k all left = (x n : ℕ) → ((member x left && nat_lt k n) || is_before n (get nat_cmp now x)) ≡ ((member x all && nat_lt k n) || is_before n (get nat_cmp old x))
 
-pub noted_more : (old now next : BTreeMap ℕ ℕ) (k d : ℕ) (all left : List ℕ) → ((x n : ℕ) → is_before n (get nat_cmp next x) ≡ ((nat_eq x d && nat_lt k n) || is_before n (get nat_cmp now x))) → AreNotedSoFar old now k all (d ∷ left) → AreNotedSoFar old next k all left
+pub noted_more : (old now next : BTreeMap ℕ ℕ) (k d : ℕ) (all left : List ℕ) → ((x n : ℕ) → is_before n (get nat_cmp next x) ≡ ((nat_eq x d && nat_lt k n) || is_before n (get nat_cmp now x)))
+    → AreNotedSoFar old now k all (d ∷ left) → AreNotedSoFar old next k all left
 noted_more old now next k d all left step h x n = ap (λ t. (member x left && nat_lt k n) || t) (step x n) ∙ moved (member x left) (nat_eq x d) (nat_lt k n) (is_before n (get nat_cmp now x)) ∙ h x n
   where
     moved : (a b l o : Bool) → ((a && l) || ((b && l) || o)) ≡ (((b || a) && l) || o)
@@ -82,7 +84,8 @@ one_taken false l o = refl
 pub get_passes : (i r k : ℕ) (old new : BTreeMap ℕ ℕ) → ((x n : ℕ) → is_before n (get nat_cmp new x) ≡ ((nat_eq x r && nat_lt k n) || is_before n (get nat_cmp old x))) → Passes (on.Get i r) k old new
 get_passes i r k old new step f h x n = step x n ∙ ap (λ o. (nat_eq x r && nat_lt k n) || o) (h x n) ∙ one_taken (nat_eq x r) (nat_lt k n) (f n x)
 
-pub get_var_passes : (i d k : ℕ) (old new : BTreeMap ℕ ℕ) → ((x n : ℕ) → is_before n (get nat_cmp new x) ≡ ((nat_eq x d && nat_lt k n) || is_before n (get nat_cmp old x))) → Passes (on.GetVar i d) k old new
+pub get_var_passes : (i d k : ℕ) (old new : BTreeMap ℕ ℕ) → ((x n : ℕ) → is_before n (get nat_cmp new x) ≡ ((nat_eq x d && nat_lt k n) || is_before n (get nat_cmp old x)))
+    → Passes (on.GetVar i d) k old new
 get_var_passes i d k old new step f h x n = step x n ∙ ap (λ o. (nat_eq x d && nat_lt k n) || o) (h x n) ∙ taken_made (nat_eq x d) (nat_lt k n) (f n x)
   where
     taken_made : (a l o : Bool) → ((a && l) || o) ≡ (((a || false) && l) || (false || o))
@@ -98,7 +101,8 @@ one_part true true o = refl
 one_part true false o = refl
 one_part false m o = refl
 
-pub abs_passes : (d b t k first : ℕ) (o : Option ℕ) (old new : BTreeMap ℕ ℕ) → o ≡ get nat_cmp old d → o ≡ Some first → ((x n : ℕ) → is_before n (get nat_cmp new x) ≡ ((nat_eq x b && nat_lt first n) || is_before n (get nat_cmp old x))) → Passes (on.PutAbs d b t) k old new
+pub abs_passes : (d b t k first : ℕ) (o : Option ℕ) (old new : BTreeMap ℕ ℕ) → o ≡ get nat_cmp old d → o ≡ Some first
+    → ((x n : ℕ) → is_before n (get nat_cmp new x) ≡ ((nat_eq x b && nat_lt first n) || is_before n (get nat_cmp old x))) → Passes (on.PutAbs d b t) k old new
 abs_passes d b t k first o old new e is step f h x n =
     step x n ∙ (λ j. (nat_eq x b && (ap (is_before n) (sym is) ∙ made_first d old f o e h n) j) || h x n j) ∙ one_part (nat_eq x b) (f n d) (f n x)
 
@@ -108,14 +112,16 @@ nothing_passes false o = refl
 
 pub abs_nothing : (d b t k : ℕ) (o : Option ℕ) (old : BTreeMap ℕ ℕ) → o ≡ get nat_cmp old d → o ≡ None → Passes (on.PutAbs d b t) k old old
 abs_nothing d b t k o old e is f h x n =
-    h x n ∙ nothing_passes (member x (b ∷ [])) (f n x) ∙ sym (λ j. (member x (b ∷ []) && (sym (made_first d old f o e h n) ∙ ap (is_before n) is) j) || f n x) ∙ widen (member x (b ∷ [])) (f n d) (f n x)
+    h x n ∙ nothing_passes (member x (b ∷ [])) (f n x) ∙ sym (λ j. (member x (b ∷ []) && (sym (made_first d old f o e h n) ∙ ap (is_before n) is) j) || f n x)
+    ∙ widen (member x (b ∷ [])) (f n d) (f n x)
   where
     widen : (a m o : Bool) → ((a && m) || o) ≡ ((a && (m || false)) || o)
     widen true true o = refl
     widen true false o = refl
     widen false m o = refl
 
-pub app_passes : (d g k first : ℕ) (v : Vec ℕ Global) (rs : List ℕ) (o : Option ℕ) (old mid new : BTreeMap ℕ ℕ) → rs ≡ v.items → o ≡ get nat_cmp old d → o ≡ Some first → ((x n : ℕ) → is_before n (get nat_cmp mid x) ≡ ((member x rs && nat_lt first n) || is_before n (get nat_cmp old x)))
+pub app_passes : (d g k first : ℕ) (v : Vec ℕ Global) (rs : List ℕ) (o : Option ℕ) (old mid new : BTreeMap ℕ ℕ) → rs ≡ v.items → o ≡ get nat_cmp old d → o ≡ Some first
+    → ((x n : ℕ) → is_before n (get nat_cmp mid x) ≡ ((member x rs && nat_lt first n) || is_before n (get nat_cmp old x)))
     → ((x n : ℕ) → is_before n (get nat_cmp new x) ≡ ((nat_eq x g && nat_lt first n) || is_before n (get nat_cmp mid x))) → Passes (on.PutApp d g v) k old new
 app_passes d g k first v rs o old mid new items e is all one f h x n =
     let m : nat_lt first n ≡ f n d = ap (is_before n) (sym is) ∙ made_first d old f o e h n in
@@ -132,14 +138,16 @@ app_passes d g k first v rs o old mid new items e is all one f h x n =
 
 pub app_nothing : (d g k : ℕ) (v : Vec ℕ Global) (o : Option ℕ) (old : BTreeMap ℕ ℕ) → o ≡ get nat_cmp old d → o ≡ None → Passes (on.PutApp d g v) k old old
 app_nothing d g k v o old e is f h x n =
-    h x n ∙ nothing_passes (member x (g ∷ v.items)) (f n x) ∙ sym (λ j. (member x (g ∷ v.items) && (sym (made_first d old f o e h n) ∙ ap (is_before n) is) j) || f n x) ∙ widen (member x (g ∷ v.items)) (f n d) (f n x)
+    h x n ∙ nothing_passes (member x (g ∷ v.items)) (f n x) ∙ sym (λ j. (member x (g ∷ v.items) && (sym (made_first d old f o e h n) ∙ ap (is_before n) is) j) || f n x)
+    ∙ widen (member x (g ∷ v.items)) (f n d) (f n x)
   where
     widen : (a m o : Bool) → ((a && m) || o) ≡ ((a && (m || false)) || o)
     widen true true o = refl
     widen true false o = refl
     widen false m o = refl
 
-pub other_passes : (i : Instr) (k : ℕ) (old : BTreeMap ℕ ℕ) → ((x r : ℕ) → i ≡ on.Get x r → ⊥) → ((x d : ℕ) → i ≡ on.GetVar x d → ⊥) → ((d b t : ℕ) → i ≡ on.PutAbs d b t → ⊥) → ((d g : ℕ) (v : Vec ℕ Global) → i ≡ on.PutApp d g v → ⊥) → Passes i k old old
+pub other_passes : (i : Instr) (k : ℕ) (old : BTreeMap ℕ ℕ) → ((x r : ℕ) → i ≡ on.Get x r → ⊥) → ((x d : ℕ) → i ≡ on.GetVar x d → ⊥) → ((d b t : ℕ) → i ≡ on.PutAbs d b t → ⊥)
+    → ((d g : ℕ) (v : Vec ℕ Global) → i ≡ on.PutApp d g v → ⊥) → Passes i k old old
 other_passes (on.TyCon d0 d1 ts) k old n0 n1 n2 n3 f h x n = h x n
 other_passes (on.TyArr d0 d1 d2) k old n0 n1 n2 n3 f h x n = h x n
 other_passes (on.TyNew d0) k old n0 n1 n2 n3 f h x n = h x n
@@ -192,7 +200,8 @@ taken_more (c ∷ code) (suc n) i e = let k : suc n + 1 ≡ suc (n + 1) = omega 
 
 pub neck_passed : (code : List Instr) (n : ℕ) (i : Instr) → drop n code ≡ i ∷ drop (n + 1) code → body_behind i false ≡ false → IsBeforeNeck code n → IsBeforeNeck code (n + 1)
 neck_passed code n i e f h =
-    h ∙ ap (λ l. take n code ++ before_neck l) e ∙ ap (λ b. take n code ++ (if b then [] else i ∷ before_neck (drop (n + 1) code))) f ∙ sym (append_assoc (take n code) (i ∷ []) (before_neck (drop (n + 1) code)))
+    h ∙ ap (λ l. take n code ++ before_neck l) e ∙ ap (λ b. take n code ++ (if b then [] else i ∷ before_neck (drop (n + 1) code))) f
+    ∙ sym (append_assoc (take n code) (i ∷ []) (before_neck (drop (n + 1) code)))
     ∙ ap (λ l. l ++ before_neck (drop (n + 1) code)) (sym (taken_more code n i e))
 
 pub neck_found : (code : List Instr) (n : ℕ) (i : Instr) → drop n code ≡ i ∷ drop (n + 1) code → body_behind i false ≡ true → IsBeforeNeck code n → take n code ≡ before_neck code
@@ -202,7 +211,8 @@ pub no_neck : (code : List Instr) (n : ℕ) → drop n code ≡ [] → IsBeforeN
 no_neck code n e h = append_nil_sym (take n code) ∙ sym (h ∙ ap (λ l. take n code ++ before_neck l) e)
 
 -- the head, from its end on
-pub one_passed : (is : List Instr) (k : ℕ) (i : Instr) (old new : BTreeMap ℕ ℕ) → drop k is ≡ i ∷ drop (k + 1) is → AreFirstTaken (k + 1) (drop (k + 1) is) old → Passes i k old new → AreFirstTaken k (drop k is) new
+pub one_passed : (is : List Instr) (k : ℕ) (i : Instr) (old new : BTreeMap ℕ ℕ) → drop k is ≡ i ∷ drop (k + 1) is → AreFirstTaken (k + 1) (drop (k + 1) is) old → Passes i k old new
+    → AreFirstTaken k (drop k is) new
 one_passed is k i old new e h p x n =
     let next : k + 1 ≡ suc k = omega arith in
     p (λ n x. taken_from (suc k) n (drop (k + 1) is) x) (subst (λ q. AreFirstTaken q (drop (k + 1) is) old) next h) x n ∙ sym (ap (λ l. taken_from k n l x) e)
@@ -224,6 +234,7 @@ end_taken (x ∷ xs) (suc n) = end_taken xs n
 pub none_first : (code : List Instr) (n : ℕ) (m : BTreeMap ℕ ℕ) → take n code ≡ before_neck code → m.entries ≡ [] → AreFirstTaken n (drop n (before_neck code)) m
 none_first code n m e none x q = ap (λ es. is_before q (lookup (is_at (nat_cmp x)) es)) none ∙ ap (λ l. taken_from n q l x) (sym (end_taken code n) ∙ ap (drop n) e)
 
-pub one_first : (code : List Instr) (n k next : ℕ) (i : Instr) (old new : BTreeMap ℕ ℕ) → take n code ≡ before_neck code → k < n → next ≡ k + 1 → slice_get code k ≡ Some i → Passes i k old new → AreFirstTaken next (drop next (before_neck code)) old → AreFirstTaken k (drop k (before_neck code)) new
+pub one_first : (code : List Instr) (n k next : ℕ) (i : Instr) (old new : BTreeMap ℕ ℕ) → take n code ≡ before_neck code → k < n → next ≡ k + 1 → slice_get code k ≡ Some i → Passes i k old new
+    → AreFirstTaken next (drop next (before_neck code)) old → AreFirstTaken k (drop k (before_neck code)) new
 one_first code n k next i old new e l f at p h =
     one_passed (before_neck code) k i old new (subst (λ is. drop k is ≡ i ∷ drop (k + 1) is) e (at_front code n k i l at)) (subst (λ q. AreFirstTaken q (drop q (before_neck code)) old) f h) p

@@ -7,6 +7,10 @@ use Rattle.std.specs.Ordering.{nat_cmp}
 use Rattle.std.specs.BTreeMap.{get}
 use Rattle.std.proofs.lemmas.Bool.{eqb-true, eqb-false, ne_eqb, ltb-true, ltb-false, le-leb, lt-leb}
 use Rattle.lp_lemmas.proofs.Numbers.{nat_eq_self}
+use Rattle.lp_lemmas.proofs.Booleans.{and_true_left}
+use Rattle.lp_lemmas.proofs.Options.{one_value}
+use Rattle.lp_code.specs.declared.record.RecordHead.{RecordHead}
+use Rattle.lp_code.specs.declared.record.RecordHead.TheVariants.{Register}
 use Rattle.lp_calculus.specs.Term.{Term, index, atom, abs, app, logic, constant, integer, text, eigen, param}
 use Rattle.lp_calculus.specs.Typing.{Scheme}
 use Rattle.lp_model.specs.Flatten.{ends_in_o, heads_clauses}
@@ -59,7 +63,8 @@ any_none f g (x ∷ xs) h = λ j. (h x j && g x) || any_none f g xs h j
 -- a variable of the clause that is new
 module _ (w : Work) (h : Home) (s : State) (r : ℕ) (taken : KnowsTaken w h s) (number : w.home.number ≡ h.number) (body : w.in_body ≡ false) where
   there : (q k : ℕ) → (term_in s.now r).term ≡ atom (logic q k) → (nat_eq k w.home.number && not (is_before w.number (get nat_cmp w.takings.first q))) ≡ is_new_variable h s r
-  there q k e = ap (λ n. nat_eq k n && not (is_before w.number (get nat_cmp w.takings.first q))) number ∙ by (nat_eq k h.number) refl ∙ sym (ap (λ t. list_any (λ v. is_variable_of t v h.number && not (stands_in_some v h.number s.head_arguments)) (own_variables h.self)) e)
+  there q k e = ap (λ n. nat_eq k n && not (is_before w.number (get nat_cmp w.takings.first q))) number ∙ by (nat_eq k h.number) refl
+      ∙ sym (ap (λ t. list_any (λ v. is_variable_of t v h.number && not (stands_in_some v h.number s.head_arguments)) (own_variables h.self)) e)
     where
       other : (b : Bool) → (b && false) ≡ false
       other true = refl
@@ -68,10 +73,12 @@ module _ (w : Work) (h : Home) (s : State) (r : ℕ) (taken : KnowsTaken w h s) 
       by : (b : Bool) → nat_eq k h.number ≡ b → (nat_eq k h.number && not (is_before w.number (get nat_cmp w.takings.first q))) ≡ list_any (λ v. (nat_eq q v && nat_eq k h.number) && not (stands_in_some v h.number s.head_arguments)) (own_variables h.self)
       by true f =
           let own = taken q r body (e ∙ ap (variable q) (eqb-true k h.number f)) in
-          ap (λ b. b && not (is_before w.number (get nat_cmp w.takings.first q))) f ∙ ap not own.1 ∙ sym (any_one q (nat_eq k h.number) (λ v. not (stands_in_some v h.number s.head_arguments)) (own_variables h.self) f own.0)
+          ap (λ b. b && not (is_before w.number (get nat_cmp w.takings.first q))) f ∙ ap not own.1
+          ∙ sym (any_one q (nat_eq k h.number) (λ v. not (stands_in_some v h.number s.head_arguments)) (own_variables h.self) f own.0)
       by false f = ap (λ b. b && not (is_before w.number (get nat_cmp w.takings.first q))) f ∙ sym (any_none (λ v. nat_eq q v && nat_eq k h.number) (λ v. not (stands_in_some v h.number s.head_arguments)) (own_variables h.self) (λ v. ap (λ b. nat_eq q v && b) f ∙ other (nat_eq q v)))
 
-  pub new_is : (q k : ℕ) (t : Head) → t ≡ head.Variable q k → variable_in t ≡ variable_of (term_in s.now r).term → (nat_eq k w.home.number && not (is_before w.number (get nat_cmp w.takings.first q))) ≡ is_new_variable h s r
+  pub new_is : (q k : ℕ) (t : Head) → t ≡ head.Variable q k → variable_in t ≡ variable_of (term_in s.now r).term
+      → (nat_eq k w.home.number && not (is_before w.number (get nat_cmp w.takings.first q))) ≡ is_new_variable h s r
   new_is q k t is same = by (term_in s.now r).term refl (sym (ap variable_in is) ∙ same)
     where
       same_pair : (x y : ℕ × ℕ) → Some x ≡ Some y → x ≡ y
@@ -175,3 +182,17 @@ scheme_heads c o T b e is declared ends = (λ j. declared j && ends j) ∙ ap (�
 
 pub none_heads : (c : ℕ) (o : Option Scheme) → None ≡ o → false ≡ (is_declared c && heads_clauses o)
 none_heads c o is = sym (none_of (is_declared c)) ∙ ap (λ o. is_declared c && heads_clauses o) is
+
+pub all_three : (a b c : Bool) → (a && (b && c)) ≡ (a && b && c)
+all_three true b c = refl
+all_three false b c = refl
+
+-- a head that is a register
+pub low_register : (q r n : ℕ) (b : Bool) → Register q ≡ Register r → (nat_lt q n && b) ≡ true → nat_lt r n ≡ true
+low_register q r n b e f = ap (λ r. nat_lt r n) (sym (same q r e)) ∙ and_true_left (nat_lt q n) b f
+  where
+    same : (q r : ℕ) → Register q ≡ Register r → q ≡ r
+    same q r e = cc
+
+pub no_head : {P : Type 0} (o : Option RecordHead) (r : ℕ) → o ≡ None → o ≡ Some (Register r) → P
+no_head o r e f = absurd (let z : None ≡ Some (Register r) = sym e ∙ f in cc)

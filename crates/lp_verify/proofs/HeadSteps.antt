@@ -21,11 +21,13 @@ no_goal false e f = let z : true ≡ false = f in cc
 
 -- which variables stand in a term that an instruction makes, and in an argument that it takes
 pub record Spreads (h : Home) (s : State) (i : Instr) : Type 0 where
-  pub made_from : (v : ℕ) → stands_in v h.number (term_made h s i).term ≡ true → (member v (own_set i) ≡ true) ⊎ ((x : ℕ) × (member x (parts i) ≡ true) × (stands_in v h.number (term_in s.now x).term ≡ true))
+  pub made_from : (v : ℕ) → stands_in v h.number (term_made h s i).term ≡ true
+      → (member v (own_set i) ≡ true) ⊎ ((x : ℕ) × (member x (parts i) ≡ true) × (stands_in v h.number (term_in s.now x).term ≡ true))
   pub made_with : (v x : ℕ) → member x (parts i) ≡ true → stands_in v h.number (term_in s.now x).term ≡ true → stands_in v h.number (term_made h s i).term ≡ true
   pub argument_from : (v : ℕ) → stands_in_some v h.number (argument_made h s i) ≡ true
       → ((x : ℕ) × (member x (takes i) ≡ true) × (member x (term_set i) ≡ false) × (stands_in v h.number (term_in s.now x).term ≡ true)) ⊎ ((member v (own_set i) ≡ true) × (member v (takes i) ≡ true))
-  pub argument_with : (v x : ℕ) → member x (takes i) ≡ true → member x (term_set i) ≡ false → stands_in v h.number (term_in s.now x).term ≡ true → stands_in_some v h.number (argument_made h s i) ≡ true
+  pub argument_with : (v x : ℕ) → member x (takes i) ≡ true → member x (term_set i) ≡ false → stands_in v h.number (term_in s.now x).term ≡ true
+      → stands_in_some v h.number (argument_made h s i) ≡ true
   pub argument_own : (v : ℕ) → member v (term_set i) ≡ true → member v (takes i) ≡ true → stands_in_some v h.number (argument_made h s i) ≡ true
   pub own_made : (v : ℕ) → member v (own_set i) ≡ true → (member v (term_set i) ≡ true) × ((term_made h s i).term ≡ variable v h.number)
   pub parts_read : (x : ℕ) → member x (parts i) ≡ true → member x (terms_read i) ≡ true
@@ -35,7 +37,8 @@ nothing_there : {P : Type 0} (v : ℕ) (xs : List ℕ) → xs ≡ [] → member 
 nothing_there v xs e m = absurd (let z : false ≡ true = sym (ap (member v) e) ∙ m in cc)
 
 -- an instruction that makes no variable and takes no register
-silent : (h : Home) (s : State) (i : Instr) → parts i ≡ [] → takes i ≡ [] → own_set i ≡ [] → ((v : ℕ) → stands_in v h.number (term_made h s i).term ≡ false) → ((v : ℕ) → stands_in_some v h.number (argument_made h s i) ≡ false) → Spreads h s i
+silent : (h : Home) (s : State) (i : Instr) → parts i ≡ [] → takes i ≡ [] → own_set i ≡ [] → ((v : ℕ) → stands_in v h.number (term_made h s i).term ≡ false)
+    → ((v : ℕ) → stands_in_some v h.number (argument_made h s i) ≡ false) → Spreads h s i
 silent h s i p t o made argued = record {
   made_from = λ v e. absurd (let z : false ≡ true = sym (made v) ∙ e in cc);
   made_with = λ v x m e. nothing_there x (parts i) p m;
@@ -154,7 +157,8 @@ spreads h s (on.PutApp d f rs) b o = record {
   takes_read = λ x m k. absurd (let z : false ≡ true = m in cc);
 }
   where
-    made : (v : ℕ) → stands_in v h.number (apply (term_in s.now f).term (plain_terms (terms_in s.now rs.items))) ≡ true → (x : ℕ) × (member x (f ∷ rs.items) ≡ true) × (stands_in v h.number (term_in s.now x).term ≡ true)
+    made : (v : ℕ) → stands_in v h.number (apply (term_in s.now f).term (plain_terms (terms_in s.now rs.items))) ≡ true
+        → (x : ℕ) × (member x (f ∷ rs.items) ≡ true) × (stands_in v h.number (term_in s.now x).term ≡ true)
     made v e = elim (applied_from v h.number (term_in s.now f).term (plain_terms (terms_in s.now rs.items)) e) [
       | inl g ↦ (f, or_left (nat_eq f f) (member f rs.items) (nat_eq_self f), g)
       | inr g ↦ (let q = read_from s v h.number rs.items g in (q.0, or_right (nat_eq q.0 f) (member q.0 rs.items) q.1, q.2))

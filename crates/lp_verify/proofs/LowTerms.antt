@@ -160,7 +160,8 @@ later_names k all f ts rs (x ∷ ns) n e m =
     first false true c e = absurd (let z : false ≡ true = e in cc)
     first false false c e = absurd (let z : false ≡ true = e in cc)
 
-low_assumed : (h : Home) (s : State) (f : ℕ → Bool) (ns ts rs : List ℕ) → HoldsLow (suc h.number) s.now.terms → are_fine h.number h.records f (length ts) (length rs) ns ≡ true → HandedLow (handed ns (captured_by s ts rs))
+low_assumed : (h : Home) (s : State) (f : ℕ → Bool) (ns ts rs : List ℕ) → HoldsLow (suc h.number) s.now.terms → are_fine h.number h.records f (length ts) (length rs) ns ≡ true
+    → HandedLow (handed ns (captured_by s ts rs))
 low_assumed h s f ns ts rs low fine n = by_name (member n ns) refl
   where
     by_name : (b : Bool) → member n ns ≡ b → AreLowTerms n (captured_of (handed ns (captured_by s ts rs)) n).terms
@@ -173,7 +174,8 @@ not_broken : (b : Bool) → not b ≡ false → b ≡ true
 not_broken true e = refl
 not_broken false e = absurd (let z : true ≡ false = e in cc)
 
-low_handed_on : (h : Home) (s : State) (f : ℕ → Bool) (i : Instr) → HoldsLow (suc h.number) s.now.terms → names_badly h.number h.records h.self.program f i ≡ false → HandedLow (handed_on s (assumption_of i))
+low_handed_on : (h : Home) (s : State) (f : ℕ → Bool) (i : Instr) → HoldsLow (suc h.number) s.now.terms → names_badly h.number h.records h.self.program f i ≡ false
+    → HandedLow (handed_on s (assumption_of i))
 low_handed_on h s f (on.TyCon d k ts) low e = nothing_low
 low_handed_on h s f (on.TyArr d x y) low e = nothing_low
 low_handed_on h s f (on.TyNew d) low e = nothing_low
@@ -216,9 +218,11 @@ low_both : (n : ℕ) (xs ys : List (ℕ × Captured)) → AreLowTerms n (capture
 low_both n [] ys a b = b
 low_both n ((m, c) ∷ xs) ys a b = by (nat_eq m n) a (λ a. low_both n xs ys a b)
   where
-    by : (t : Bool) → AreLowTerms n (if t then c else captured_of xs n).terms → (AreLowTerms n (captured_of xs n).terms → AreLowTerms n (captured_of (xs ++ ys) n).terms) → AreLowTerms n (if t then c else captured_of (xs ++ ys) n).terms
+    by : (t : Bool) → AreLowTerms n (if t then c else captured_of xs n).terms → (AreLowTerms n (captured_of xs n).terms → AreLowTerms n (captured_of (xs ++ ys) n).terms)
+        → AreLowTerms n (if t then c else captured_of (xs ++ ys) n).terms
     by true a go = a
     by false a go = go a
 
-pub low_handed : (h : Home) (s : State) (f : ℕ → Bool) (i : Instr) (before : List (ℕ × Captured)) → HandedLow before → HoldsLow (suc h.number) s.now.terms → names_badly h.number h.records h.self.program f i ≡ false → HandedLow (before ++ handed_on s (assumption_of i))
+pub low_handed : (h : Home) (s : State) (f : ℕ → Bool) (i : Instr) (before : List (ℕ × Captured)) → HandedLow before → HoldsLow (suc h.number) s.now.terms
+    → names_badly h.number h.records h.self.program f i ≡ false → HandedLow (before ++ handed_on s (assumption_of i))
 low_handed h s f i before a low e n = low_both n before (handed_on s (assumption_of i)) (a n) (low_handed_on h s f i low e n)

@@ -215,7 +215,8 @@ module _ (h : Home) (s : State) (i : Instr) (is all : List Instr) (k : ℕ) (a :
   old_variable v e = ap (λ (b : Built). b.term) (elsewhere v (old_there v v (is_variable v h.number (term_in s.now v).term e))) ∙ e
 
   argued_is : (v : ℕ) → stands_in_some v h.number t.head_arguments ≡ (stands_in_some v h.number s.head_arguments || stands_in_some v h.number (argument_made h s i))
-  argued_is v = ap (stands_in_some v h.number) (step.arguments ∙ with_more_is s.head_arguments (argument_made h s i)) ∙ list_any-append (λ (b : Built). stands_in v h.number b.term) s.head_arguments (argument_made h s i)
+  argued_is v = ap (stands_in_some v h.number) (step.arguments ∙ with_more_is s.head_arguments (argument_made h s i))
+      ∙ list_any-append (λ (b : Built). stands_in v h.number b.term) s.head_arguments (argument_made h s i)
 
   argued_old : (v : ℕ) → stands_in_some v h.number s.head_arguments ≡ true → stands_in_some v h.number t.head_arguments ≡ true
   argued_old v e = argued_is v ∙ or_left (stands_in_some v h.number s.head_arguments) (stands_in_some v h.number (argument_made h s i)) e
@@ -341,10 +342,12 @@ taken_first h r c all low = record {
     none v x e = let z : false ≡ true = sym (low_stands v h.number (term_in (first_state r c).now x).term (low x)) ∙ e in cc
 
 -- an own variable stands in an argument so far where an instruction so far took it
-pub taken_is : (h : Home) (all left : List Instr) (k : ℕ) (s : State) (v : ℕ) → TakenIn h all left k s → (term_in s.now v).term ≡ variable v h.number → taken_from 0 k (before_neck all) v ≡ stands_in_some v h.number s.head_arguments
+pub taken_is : (h : Home) (all left : List Instr) (k : ℕ) (s : State) (v : ℕ) → TakenIn h all left k s → (term_in s.now v).term ≡ variable v h.number
+    → taken_from 0 k (before_neck all) v ≡ stands_in_some v h.number s.head_arguments
 taken_is h all left k s v a e = by (taken_from 0 k (before_neck all) v) (stands_in_some v h.number s.head_arguments) (λ f. taken (a.flows v k e (omega arith) f)) (a.argument_flows v k (omega arith))
   where
-    taken : (stands_in_some v h.number s.head_arguments ≡ true) ⊎ ((x : ℕ) × (stands_in v h.number (term_in s.now x).term ≡ true) × (taken_from k k (before_neck left) x ≡ true)) → stands_in_some v h.number s.head_arguments ≡ true
+    taken : (stands_in_some v h.number s.head_arguments ≡ true) ⊎ ((x : ℕ) × (stands_in v h.number (term_in s.now x).term ≡ true) × (taken_from k k (before_neck left) x ≡ true))
+        → stands_in_some v h.number s.head_arguments ≡ true
     taken (inl f) = f
     taken (inr q) = absurd (let z : false ≡ true = sym (not_yet k k (before_neck left) q.0 (omega arith)) ∙ q.2 in cc)
 
@@ -404,7 +407,8 @@ passing_has (suc n) f v l e = member_append v (passing n f) (if f n then n ∷ [
   | inr k ↦ or_right (member v (passing n f)) (member v (if f n then n ∷ [] else [])) (ap (λ b. member v (if b then n ∷ [] else [])) (ap f (sym k) ∙ e) ∙ ap (λ b. b || false) (ap (nat_eq v) (sym k) ∙ nat_eq_self v))
 ]
 
-pub own_has : (h : Home) (s : State) (i : Instr) (run is : List Instr) (v : ℕ) → s.in_body ≡ false → breaks_order s i ≡ false → h.self.code.items ≡ run ++ i ∷ is → list_any (nat_le h.self.registers) (term_set i) ≡ false → member v (own_set i) ≡ true → member v (own_variables h.self) ≡ true
+pub own_has : (h : Home) (s : State) (i : Instr) (run is : List Instr) (v : ℕ) → s.in_body ≡ false → breaks_order s i ≡ false → h.self.code.items ≡ run ++ i ∷ is
+    → list_any (nat_le h.self.registers) (term_set i) ≡ false → member v (own_set i) ≡ true → member v (own_variables h.self) ≡ true
 own_has h s i run is v body order parts low m =
     let l : v < h.self.registers = leb-false h.self.registers v (any_false (nat_le h.self.registers) (term_set i) v low ((spreads h s i body order).own_made v m).0) in
     passing_has h.self.registers (is_made own_set h.self.code.items) v l (rw parts (made_there own_set run i is v m))

@@ -10,10 +10,12 @@ use Rattle.lp_term.specs.Nodes.{Nodes, type_tree, type_node_tree}
 use Rattle.lp_verify.specs.inner.FirstNumbers.{IsEndOf}
 
 -- the type that a function gives is older, and ends alike
-pub ends_on : (b : Nodes) (i : ℕ) (n : TypeShape) (r : Result TypeId Bool) (to : TypeId) → r ≡ Ok to → IsEndOf n r → TypeBelow i n → TypeBelow (length b.types) n → type_node_tree b n ≡ type_tree b i → (ends_in_o (type_tree b to.0) ≡ ends_in_o (type_tree b i)) × (to.0 < i) × (to.0 < length b.types)
+pub ends_on : (b : Nodes) (i : ℕ) (n : TypeShape) (r : Result TypeId Bool) (to : TypeId) → r ≡ Ok to → IsEndOf n r → TypeBelow i n → TypeBelow (length b.types) n
+    → type_node_tree b n ≡ type_tree b i → (ends_in_o (type_tree b to.0) ≡ ends_in_o (type_tree b i)) × (to.0 < i) × (to.0 < length b.types)
 ends_on b i n r to e h = by n (subst (IsEndOf n) e h)
   where
-    by : (n : TypeShape) → IsEndOf n (Ok to) → TypeBelow i n → TypeBelow (length b.types) n → type_node_tree b n ≡ type_tree b i → (ends_in_o (type_tree b to.0) ≡ ends_in_o (type_tree b i)) × (to.0 < i) × (to.0 < length b.types)
+    by : (n : TypeShape) → IsEndOf n (Ok to) → TypeBelow i n → TypeBelow (length b.types) n → type_node_tree b n ≡ type_tree b i
+        → (ends_in_o (type_tree b to.0) ≡ ends_in_o (type_tree b i)) × (to.0 < i) × (to.0 < length b.types)
     by (arrow_node x y) f older within tree =
         let p = older.1 in
         let q = within.1 in

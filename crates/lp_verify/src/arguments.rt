@@ -113,7 +113,7 @@ impl Takings {
     }
 
     fn pass_one(&mut self, instr: Option<&Instr>, number: usize) -> Result<(), Memory>
-        ensures { OnOk result ((i : On) (f : ℕ → ℕ → Bool) → option_copied instr ≡ Some i → ((x n : ℕ) → is_before n (get nat_cmp self.old.first x) ≡ f n x) → (x n : ℕ) → is_before n (get nat_cmp self.new.first x) ≡ passed_by i number n (f n) x) }
+        ensures { OnOk result ((i : On) (f : ℕ → ℕ → Bool) → option_copied instr.entry ≡ Some i → ((x n : ℕ) → is_before n (get nat_cmp self.old.first x) ≡ f n x) → (x n : ℕ) → is_before n (get nat_cmp self.new.first x) ≡ passed_by i number n (f n) x) }
     {
         match instr {
             Some(instr) => self.pass(instr, number),

@@ -25,7 +25,7 @@ pub(crate) struct Built {
 impl Built {
     // A term without loose indices.
     pub(crate) fn closed(of: TypeId, head: Head) -> Built
-        ensures { result ≡ bare_built of head.entry }
+        ensures { result ≡ bare_built of head }
     {
         Built {
             of,

@@ -204,7 +204,7 @@ impl<'a> Work<'a> {
         instr: &Instr,
         typed: Typed,
     ) -> Result<(), Memory>
-        ensures acted { OnOk result ((u : TypeId) × IsActed instr.now u (built_or typed.entry (closed_built shared.new.types.proposition)) self.old self.new × IsTypedBy instr.now (kept_in shared.old) (kept_in shared.new) self.old self.new u) }
+        ensures acted { OnOk result ((u : TypeId) × IsActed instr.now u (built_or typed (closed_built shared.new.types.proposition)) self.old self.new × IsTypedBy instr.now (kept_in shared.old) (kept_in shared.new) self.old self.new u) }
         ensures grow { OnOk result (TypesGrow shared.old.types shared.new.types) }
         ensures handed { OnOk result (IsHandedOn (assumption_of instr.now) self.old.types self.old.terms shared.old.handed.items shared.new.handed.items) }
         ensures named { shared.new.named ≡ shared.old.named }

@@ -6,7 +6,7 @@ ghost use Rattle.lp_calculus.specs.Typing.{type_at};
 ghost use Rattle.lp_term.specs.Nodes.{IsSound, type_tree};
 ghost use Rattle.lp_code.specs.Symbolic.{Tables};
 ghost use Rattle.lp_model.specs.Flatten.{ends_in_o};
-ghost use Rattle.lp_term.specs.Node.{type_shape};
+ghost use Rattle.lp_term.specs.Shapes.{type_shape};
 ghost use Rattle.lp_verify.specs.Scheme.{scheme_in};
 ghost use Rattle.lp_verify.specs.inner.FirstNumbers.{first_of, shape_of, key_at, AreFound, AreFirsts, SameBank, FirstsStay, IsType, AreTypes, TypesGrow, UsesAre, UsesStay, IsArrowAs, IsEndOf, HasBasics, IsTypeOfConstant, IsTypeOfDeclared};
 
@@ -267,14 +267,14 @@ fn end_of(node: TypeNode<'_>) -> Result<TypeId, bool>
 pub(crate) fn ends_in_o(bank: &Bank, id: TypeId) -> bool
     ensures { result ≡ ends_in_o (type_tree bank.now id.0) }
 {
-    let mut end = id;
+    let mut last = id;
     for _ in 0..bank.type_count() {
-        match end_of(bank.type_node(end)) {
-            Ok(to) => end = to,
+        match end_of(bank.type_node(last)) {
+            Ok(to) => last = to,
             Err(ends) => return ends,
         }
     }
-    match end_of(bank.type_node(end)) {
+    match end_of(bank.type_node(last)) {
         Ok(_) => false,
         Err(ends) => ends,
     }

@@ -37,7 +37,7 @@ pub(crate) enum Typed {
 
 impl Typed {
     pub(crate) fn is_ill(self) -> bool
-        ensures { result ≡ is_ill self.entry }
+        ensures { result ≡ is_ill self }
     {
         match self {
             Typed::Ill => true,
@@ -53,7 +53,7 @@ impl Typed {
 
     // The term, or another one where there is none.
     pub(crate) fn built(self, other: Built) -> Built
-        ensures { result ≡ built_or self.entry other.entry }
+        ensures { result ≡ built_or self other }
     {
         match self {
             Typed::Built(built) => built,
@@ -82,11 +82,7 @@ fn applied_type(types: &Types, function: TypeId, arguments: &[Built]) -> Option<
 }
 
 // What is loose in a term and in others; None where an index has two types.
-fn all_joined(
-    lists: &mut Lists,
-    first: Loose,
-    others: &[Built],
-) -> Result<Option<Loose>, Memory>
+fn all_joined(lists: &mut Lists, first: Loose, others: &[Built]) -> Result<Option<Loose>, Memory>
     ensures grow { OnOk result (ListsGrow lists.old lists.new) }
     ensures joined { IfOk result (λ found. (x : Types) (ts : List (Option Ty)) (bs : List Put) → StandFor (store x lists.old) first ts → Alike (SameTerm (store x lists.old)) others.now bs → AreAllJoined (store x lists.new) ts bs found) }
 {
@@ -236,12 +232,7 @@ impl<'a> Work<'a> {
     }
 
     // What the instruction puts into a register.
-    fn put(
-        &self,
-        types: &mut Types,
-        lists: &mut Lists,
-        instr: &Instr,
-    ) -> Result<Typed, Memory>
+    fn put(&self, types: &mut Types, lists: &mut Lists, instr: &Instr) -> Result<Typed, Memory>
         ensures grow { OnOk result (ListsGrow lists.old lists.new) }
         ensures types { OnOk result (TypesGrow types.old types.new) }
         ensures made { IfOk result (λ typed. is_goal_typed instr.now ≡ false → is_argument_typed instr.now ≡ false → IsMadeBy (store types.old lists.old) (store types.new lists.new) self.now instr.now typed) }
@@ -312,7 +303,7 @@ impl<'a> Work<'a> {
 
     // Whether a constant of this type on terms is of type `o`.
     fn is_call(&self, types: &Types, of: TypeId, terms: &[u16]) -> Result<Typed, Memory>
-        ensures { IfOk result (λ typed. (l : Lists) (h : Home) (s : State) (T : Ty) (b : Put) → IsSame (SameTerm (store types.now l)) self.now.terms s.now.terms → HasBasics types.now → list_any (is_lacking self.now.terms) terms.now ≡ false → IsType types.now of T → b.loose ≡ [] → b.type ≡ o_type
+        ensures { IfOk result (λ typed. (l : Lists) (h : Home) (s : State) (T : Ty) (b : Put) → IsSame (SameTerm (store types.now l)) self.now.terms s.now.terms → HasBasics types.now → list_any (is_lacking self.now.terms) terms.now ≡ false → IsType types.now of T → b.loose ≡ [] → b.type ≡ o_type → variable_of b.term ≡ None
             → MakesTerm (store types.now l) (not (has_type (applied_type T (built_types (terms_in s.now terms.now))) o_type)) b typed) }
     {
         let terms = self.terms.all(types.alloc, terms)?;
@@ -322,12 +313,7 @@ impl<'a> Work<'a> {
     }
 
     // What comes of the types of an argument of the head.
-    fn got(
-        &self,
-        types: &mut Types,
-        lists: &mut Lists,
-        instr: &Instr,
-    ) -> Result<Typed, Memory>
+    fn got(&self, types: &mut Types, lists: &mut Lists, instr: &Instr) -> Result<Typed, Memory>
         ensures grow { OnOk result (ListsGrow lists.old lists.new) }
         ensures types { OnOk result (TypesGrow types.old types.new) }
         ensures made { IfOk result (λ typed. is_goal_typed instr.now ≡ false → IsMadeBy (store types.old lists.old) (store types.new lists.new) self.now instr.now typed) }

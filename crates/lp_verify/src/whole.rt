@@ -6,6 +6,7 @@ ghost use Rattle.lp_calculus.specs.Term.{Term};
 ghost use Rattle.lp_model.specs.Flatten.{ends_in_o, heads_clauses};
 ghost use Rattle.lp_standard.specs.Constants.{is_declared};
 ghost use Rattle.lp_code.specs.declared.record.Record.{Record as Coded};
+ghost use Rattle.lp_code.specs.declared.record.RecordHead.TheVariants.{Register};
 ghost use Rattle.lp_code.specs.declared.rule.Rule.TheVariants as rule;
 ghost use Rattle.lp_code.specs.Symbolic.{term_in};
 ghost use Rattle.lp_code.specs.States.{State};
@@ -129,7 +130,7 @@ fn ends_with_proceed(code: &[Instr]) -> bool
 
 // Whether the term is the variable of an ALL.
 fn is_all(alls: &Alls, head: Head) -> bool
-    ensures { (rs : List Coded) (n : ℕ) (t : Term) → AllsAre rs n alls.now.records.items → variable_in head.entry ≡ variable_of t → IsLow n t → result ≡ is_all_variable rs t }
+    ensures { (rs : List Coded) (n : ℕ) (t : Term) → AllsAre rs n alls.now.records.items → variable_in head ≡ variable_of t → IsLow n t → result ≡ is_all_variable rs t }
 {
     match head {
         Head::Variable(register, home) => alls.has(home, register),
@@ -165,18 +166,30 @@ impl<'a> Work<'a> {
         both(is_all(alls, built.head), types.ends_in_o(built.of))
     }
 
-    // Whether the head is a predicate that clauses may have.
-    fn has_fine_head(&self, types: &Types, alls: &Alls) -> bool
-        ensures low { result ≡ true → HeadIsLow (home_in self.now.home) }
-        ensures fine { (l : Lists) (s : State) → HasLanguage self.now.home.tables.now → HasBasics types.now → IsSame (SameTerm (store types.now l)) self.now.terms s.now.terms → HoldsLow self.now.home.number s.now.terms → AllsAre self.now.home.records.now self.now.home.number alls.now.records.items → result ≡ head_passes (heads (home_in self.now.home) s) self.now.home.record.now.head }
+    // Whether a head is a predicate that clauses may have.
+    fn is_fine_head(&self, types: &Types, alls: &Alls, of: RecordHead) -> bool
+        ensures low { result ≡ true → (r : ℕ) → of ≡ Register r → nat_lt r self.now.home.record.now.captured ≡ true }
+        ensures fine { (l : Lists) (s : State) → HasLanguage self.now.home.tables.now → HasBasics types.now → IsSame (SameTerm (store types.now l)) self.now.terms s.now.terms → HoldsLow self.now.home.number s.now.terms → AllsAre self.now.home.records.now self.now.home.number alls.now.records.items
+            → result ≡ heads (home_in self.now.home) s of }
     {
-        match self.home.record.head {
-            None => true,
-            Some(RecordHead::Const(constant)) => self.heads_clauses(constant),
-            Some(RecordHead::Register(register)) => both(
+        match of {
+            RecordHead::Const(constant) => self.heads_clauses(constant),
+            RecordHead::Register(register) => both(
                 register < self.home.record.captured,
                 self.is_predicate(types, alls, register),
             ),
+        }
+    }
+
+    // Whether the record has such a head, or none.
+    fn has_fine_head(&self, types: &Types, alls: &Alls) -> bool
+        ensures low { result ≡ true → HeadIsLow (home_in self.now.home) }
+        ensures fine { (l : Lists) (s : State) → HasLanguage self.now.home.tables.now → HasBasics types.now → IsSame (SameTerm (store types.now l)) self.now.terms s.now.terms → HoldsLow self.now.home.number s.now.terms → AllsAre self.now.home.records.now self.now.home.number alls.now.records.items
+            → result ≡ head_passes (heads (home_in self.now.home) s) self.now.home.record.now.head }
+    {
+        match self.home.record.head {
+            None => true,
+            Some(of) => self.is_fine_head(types, alls, of),
         }
     }
 

@@ -5,4 +5,4 @@ use Rattle.lp_verify.proofs.TypeEnds.{IsOnWay}
 use Rattle.lp_verify.proofs.types.ends_in_o.Given as goal
 
 abbrev pub invariant-loop : goal.invariant-loop
-invariant-loop l = (ends_in_o (type_tree l.fn.bank l.end.0) ≡ ends_in_o (type_tree l.fn.bank l.fn.id.0)) × IsOnWay l.fn.bank l.end.0 l.counter
+invariant-loop l = (ends_in_o (type_tree l.fn.bank l.last.0) ≡ ends_in_o (type_tree l.fn.bank l.fn.id.0)) × IsOnWay l.fn.bank l.last.0 l.counter

@@ -1,6 +1,6 @@
 use Rattle.std.proofs.lemmas.Result.{on_ok_weaker}
 use Rattle.lp_code.specs.declared.instruction.Instr.TheVariants as on
-use Rattle.lp_verify.proofs.FirstTaken.{passes_same, get_passes, get_var_passes, abs_passes, abs_nothing, app_passes, app_nothing, other_passes}
+use Rattle.lp_verify.proofs.FirstTaken.{passes_same, get_passes, get_var_passes, other_passes}
 use Rattle.lp_verify.proofs.arguments.Takings.pass.Goals as goal
 
 pub returns-in-Get : goal.returns-in-Get
