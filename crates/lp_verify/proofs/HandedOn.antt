@@ -6,7 +6,7 @@ use Rattle.std.specs.List.{cons_option}
 use Rattle.std.specs.List.{list_any}
 use Rattle.std.specs.Ordering.{nat_cmp}
 use Rattle.std.specs.BTreeMap.{BTreeMap, get}
-use Rattle.std.proofs.lemmas.List.{length-append, length-map}
+use Rattle.std.proofs.lemmas.List.{length-append}
 use Rattle.std.proofs.lemmas.Bool.{eqb-true}
 use Rattle.lp_lemmas.proofs.Lists.{append_nil_sym, get_push}
 use Rattle.lp_lemmas.proofs.Options.{none_from_is_some}
@@ -32,7 +32,7 @@ use Rattle.lp_verify.specs.inner.Made.{nothing_built}
 use Rattle.lp_verify.specs.inner.Stack.{Agree}
 use Rattle.lp_verify.specs.inner.Told.{is_fine, are_fine, names_badly}
 use Rattle.lp_verify.specs.inner.Reads.{reads_unset}
-use Rattle.lp_verify.specs.inner.Handed.{SameType, SameTerm, IsSame, captured_in, types_captured, terms_captured, IsNamed, handed_built, assumption_of, IsHandedOn, handed_on, Alike, AreHanded}
+use Rattle.lp_verify.specs.inner.Handed.{SameType, SameTerm, IsSame, captured_in, types_captured, terms_captured, IsNamed, assumption_of, IsHandedOn, handed_on, Alike, AreHanded}
 use Rattle.lp_verify.specs.inner.Indices.{Store, StoreGrows}
 use Rattle.lp_verify.proofs.LooseSeen.{stands_later}
 use Rattle.lp_verify.proofs.Members.{member_append}
@@ -59,14 +59,6 @@ nothing_alike R r = tt
 
 abbrev all_of : {T : Type 0} → kept_registers.Registers T → List ℕ → List T
 all_of rs ds = filter_map (value_in rs) ds
-
--- values that are mapped
-pub alike_map : {T B : Type 0} (R S : T → B → Type 0) (f : T → T) → ((t : T) (b : B) → R t b → S (f t) b) → (ts : List T) (bs : List B) → Alike R ts bs → Alike S (map f ts) bs
-alike_map R S f h [] [] a r = tt
-alike_map R S f h [] (b ∷ bs) a r = absurd (a 0)
-alike_map R S f h (t ∷ ts) [] a r = absurd (a 0)
-alike_map R S f h (t ∷ ts) (b ∷ bs) a zero = h t b (a 0)
-alike_map R S f h (t ∷ ts) (b ∷ bs) a (suc r) = alike_map R S f h ts bs (λ k. a (suc k)) r
 
 -- what stands in registers, where each holds something
 module _ {T B : Type 0} (R : T → B → Type 0) (rs : kept_registers.Registers T) (xs : List (Option B)) (other : B) (same : IsSame R rs xs) where
@@ -98,7 +90,7 @@ captured_new ((m, c) ∷ before) more n e =
     ap (λ b. if b then c else captured_of (before ++ more) n) (nat_eq_comm m n ∙ or_false_left (nat_eq n m) (member n (map (λ (a : ℕ × Captured). a.0) before)) e)
     ∙ captured_new before more n (or_false_right (nat_eq n m) (member n (map (λ (a : ℕ × Captured). a.0) before)) e)
 
-captured_here : (ns : List ℕ) (c : Captured) (n : ℕ) → member n ns ≡ true → captured_of (handed ns c) n ≡ c
+pub captured_here : (ns : List ℕ) (c : Captured) (n : ℕ) → member n ns ≡ true → captured_of (handed ns c) n ≡ c
 captured_here [] c n e = absurd (cc)
 captured_here (m ∷ ns) c n e = by_first (nat_eq n m) refl e (captured_here ns c n)
   where
@@ -192,7 +184,7 @@ module _ (l : Store) (all : List Record) (hs : List kept_captured.Captured) (k :
 
 -- when types and lists are put
 pub same_later : (l k : Store) (t : kept_built.Built) (b : Built) → StoreGrows l k → SameTerm l t b → SameTerm k t b
-same_later l k t b g h = (stands_later l k t.loose b.loose g h.0, g.1.stay t.of b.type h.1)
+same_later l k t b g h = (stands_later l k t.loose b.loose g h.0, g.1.stay t.of b.type h.1, h.2)
 
 alike_weaker : {T B : Type 0} (R S : T → B → Type 0) → ((t : T) (b : B) → R t b → S t b) → (ts : List T) (bs : List B) → Alike R ts bs → Alike S ts bs
 alike_weaker R S f ts bs a r = by_value (slice_get ts r) (slice_get bs r) (a r)
@@ -322,11 +314,11 @@ module _ (l : Store) (all : List Record) (k : ℕ) (p : Bool) (t : kept_register
       let read = or_false_left (list_any (is_lacking t) ts.items) (list_any (is_lacking r) rs.items) set in
       let built = or_false_right (list_any (is_lacking t) ts.items) (list_any (is_lacking r) rs.items) set in
       let types_count : length x.types.items ≡ length ts.items = ap length more.2 ∙ count_read t ts.items read in
-      let terms_count : length x.terms.items ≡ length rs.items = ap length more.3 ∙ length-map (all_of r rs.items) handed_built ∙ count_read r rs.items built in
+      let terms_count : length x.terms.items ≡ length rs.items = ap length more.3 ∙ count_read r rs.items built in
       subst (λ y. AreHanded l all y new (before ++ handed ns.items c)) (sym more.1)
       (handed_more l all hs x old new before ns.items c a named (λ n m. (f n m).0)
       (subst (λ y. Alike (SameType l) y c.types) (sym more.2) (alike_read (SameType l) t s.now.types o_type types ts.items read))
-      (subst (λ y. Alike (SameTerm l) y c.terms) (sym more.3) (alike_map (SameTerm l) (SameTerm l) handed_built (λ x b h. h) (all_of r rs.items) c.terms (alike_read (SameTerm l) r s.now.terms nothing_built terms rs.items built)))
+      (subst (λ y. Alike (SameTerm l) y c.terms) (sym more.3) (alike_read (SameTerm l) r s.now.terms nothing_built terms rs.items built))
       (λ n m. (λ j. is_assumed_record (slice_get all n) (types_count j) (terms_count j)) ∙ (f n m).1)
       (let b = fits.1 in let d = fits.2 in (omega (arith, b, types_count), omega (arith, d, terms_count))))
     where

@@ -1,14 +1,16 @@
 -- The type of the head so far, behind type arguments and arguments.
 use Rattle.std.proofs.Common.{◌≡◌, ◌∙◌, ◌+◌, ◌<◌, ℕ, zero, suc, List, [], ◌∷◌, ◌++◌, length, true, false, Option, Some, None, ap, refl, sym, subst, arith}
 use Rattle.std.specs.Global.{Global}
-use Rattle.std.specs.Prelude.{ℤ, Vec, ◌-◌, ◌||◌, Bool, not, nat_eq}
+use Rattle.std.specs.Prelude.{ℤ, Vec, ◌-◌, ◌||◌, Bool, not, nat_eq, option_map, unwrap_or}
 use Rattle.lp_calculus.specs.Types.{Ty, var, param, con, arrow}
 use Rattle.lp_term.specs.declared.node.TypeId.{TypeId}
 use Rattle.lp_code.specs.declared.instruction.Instr.{Instr}
 use Rattle.lp_code.specs.declared.record.RecordHead.{RecordHead}
 use Rattle.lp_code.specs.declared.record.RecordHead.TheVariants.{Const, Register}
 use Rattle.lp_code.specs.declared.instruction.Instr.TheVariants as on
-use Rattle.lp_code.specs.Rules.{has_none, breaks_order}
+use Rattle.lp_code.specs.Rules.{has_none, scheme_count, count_of, head_count, breaks_order}
+use Rattle.lp_verify.specs.Scheme.{type_vars_of}
+use Rattle.lp_calculus.specs.Typing.{Scheme}
 use Rattle.lp_code.specs.Symbolic.{Built, type_in, argument_type, result_type}
 use Rattle.lp_code.specs.States.{State, Home}
 use Rattle.lp_code.specs.Steps.{constant_of, built_of, head_built}
@@ -131,12 +133,13 @@ no_constant_stays h s t p e n keeps = ap (built_of h t) (sym e) ∙ by_head p e 
     by_head (Some (Register r)) e n = keeps r (sym e)
 
 -- an argument more was taken
-pub argument_taken : (x : Types) (h : Home) (s t : State) (p q : HeadSoFar) → q.predicate ≡ p.predicate → q.types ≡ p.types → q.whole ≡ p.whole → q.arguments ≡ p.arguments + 1 → ((T : Ty) (n : ℕ) → IsType x p.left (result_type T n) → IsType x q.left (result_type T (suc n))) → IsHead x p h s → TakesArgument h s t → IsHead x q h t
-argument_taken x h s t p q predicate types whole arguments left k f =
+pub argument_taken : (x : Types) (h : Home) (s t : State) (p q : HeadSoFar) → q.predicate ≡ p.predicate → q.count ≡ p.count → q.types ≡ p.types → q.whole ≡ p.whole → q.arguments ≡ p.arguments + 1 → ((T : Ty) (n : ℕ) → IsType x p.left (result_type T n) → IsType x q.left (result_type T (suc n))) → IsHead x p h s → TakesArgument h s t → IsHead x q h t
+argument_taken x h s t p q predicate count types whole arguments left k f =
     let same = head_stays h s t f.0 f.2 in
     let old = k.arguments in
     let more = f.1 in record {
       predicate = predicate ∙ k.predicate;
+      count = count ∙ k.count;
       types = subst (AreTypes x q.types.items) (sym f.0) (subst (λ v. AreTypes x v.items s.head_types) (sym types) k.types);
       arguments = omega (arith, arguments, old, more);
       whole = subst (λ w. IsType x w (head_built h t).type) (sym whole) (subst (λ (b : Built). IsType x p.whole b.type) (sym same) k.whole);
@@ -148,6 +151,7 @@ pub nothing_taken : (x : Types) (h : Home) (s t : State) (p : HeadSoFar) → t.h
 nothing_taken x h s t p types arguments keeps k =
     let same = head_stays h s t types keeps in record {
       predicate = k.predicate;
+      count = k.count;
       types = subst (AreTypes x p.types.items) (sym types) k.types;
       arguments = k.arguments ∙ sym arguments;
       whole = subst (λ (b : Built). IsType x p.whole b.type) (sym same) k.whole;
@@ -162,9 +166,10 @@ types_more x (u ∷ ts) t [] T a h = absurd a
 types_more x (u ∷ ts) t (U ∷ Ts) T a h = (a.0, types_more x ts t Ts T a.1 h)
 
 -- the head behind type arguments, before the first argument
-pub head_put : (x y : Types) (h : Home) (t : State) (p : HeadSoFar) (ts : List TypeId) → TypesGrow x y → p.predicate ≡ h.self.head → p.types.items ≡ ts → AreTypes x ts t.head_types → p.arguments ≡ 0 → length t.head_arguments ≡ 0 → IsType y p.whole (head_built h t).type → p.left ≡ p.whole → IsHead y p h t
-head_put x y h t p ts g predicate items types none first whole left = record {
+pub head_put : (x y : Types) (h : Home) (t : State) (p : HeadSoFar) (ts : List TypeId) → TypesGrow x y → p.predicate ≡ h.self.head → p.count ≡ head_count h → p.types.items ≡ ts → AreTypes x ts t.head_types → p.arguments ≡ 0 → length t.head_arguments ≡ 0 → IsType y p.whole (head_built h t).type → p.left ≡ p.whole → IsHead y p h t
+head_put x y h t p ts g predicate count items types none first whole left = record {
   predicate = predicate;
+  count = count;
   types = subst (λ l. AreTypes y l t.head_types) (sym items) (types_stay x y ts t.head_types g types);
   arguments = none ∙ sym first;
   whole = whole;
@@ -252,3 +257,25 @@ takes_none_of (on.Jump n) a b1 c1 d1 e1 f1 = (λ s. refl, λ n. refl)
 takes_none_of on.Proceed a b1 c1 d1 e1 f1 = (λ s. refl, λ n. refl)
 takes_none_of on.Not a b1 c1 d1 e1 f1 = (λ s. refl, λ n. refl)
 takes_none_of on.EndNot a b1 c1 d1 e1 f1 = (λ s. refl, λ n. refl)
+
+-- how many type arguments there are
+pub as_many : (x : Types) (ts : List TypeId) (Ts : List Ty) → AreTypes x ts Ts → length ts ≡ length Ts
+as_many x [] [] a = refl
+as_many x [] (T ∷ Ts) a = absurd a
+as_many x (t ∷ ts) [] a = absurd a
+as_many x (t ∷ ts) (T ∷ Ts) a = ap (λ n. suc n) (as_many x ts Ts a.1)
+
+some_count : (o : Option Scheme) → unwrap_or (option_map (λ (s : Scheme). s.count) o) 0 ≡ scheme_count o
+some_count None = refl
+some_count (Some s) = refl
+
+pub count_there : (h : Home) (p : Option RecordHead) (c : ℕ) → p ≡ h.self.head → constant_in p ≡ Some c → unwrap_or (type_vars_of h.tables c) 0 ≡ head_count h
+count_there h p c e f = some_count (h.tables.constants c) ∙ ap (count_of h) (sym (constant_there p c f) ∙ e)
+
+pub no_count : (h : Home) (p : Option RecordHead) → p ≡ h.self.head → constant_in p ≡ None → 0 ≡ head_count h
+no_count h p e f = by p (no_constant_there p f) ∙ ap (count_of h) e
+  where
+    by : (p : Option RecordHead) → IsNoConstant p → 0 ≡ count_of h p
+    by None n = refl
+    by (Some (Const c)) n = absurd n
+    by (Some (Register r)) n = refl

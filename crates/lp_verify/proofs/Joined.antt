@@ -12,8 +12,7 @@ use Rattle.lp_code.specs.Operands.{types_read, terms_read, type_set, term_set}
 use Rattle.lp_code.specs.Symbolic.{held, term_in, is_closed}
 use Rattle.lp_code.specs.States.{State, Home, member}
 use Rattle.lp_code.specs.Rules.{has_count, is_count, has_none, is_assumed_record, are_fine_names, named_before, breaks_unset, breaks_set, breaks_index, stands_alone, breaks_constant, breaks_order, breaks_clause}
-use Rattle.lp_code.specs.Denote.{first_broken}
-use Rattle.lp_verify.specs.Judged.{judged, is_judged}
+use Rattle.lp_code.specs.Denote.{rules, first_broken}
 use Rattle.lp_verify.specs.inner.Told.{is_out_of_order, has_wrong_count, sets_again, are_fine, names_badly, Broken, breaks, AreKept, ArePassed, IsFirst}
 use Rattle.lp_verify.specs.inner.Reads.{reads_unset}
 
@@ -23,9 +22,24 @@ skip o next b h = ap (λ t. if t then o else next) h
 stop : (o next : Option Rule) (b : Bool) → b ≡ true → (if b then o else next) ≡ o
 stop o next b h = ap (λ t. if t then o else next) h
 
--- the judged rules from one on
+-- the rules from one on
+abbrev from_key : Broken → Option Rule
+from_key b = if b.key then Some rule.Key else None
+
+abbrev from_clause : Broken → Option Rule
+from_clause b = if b.clause then Some rule.Clause else from_key b
+
+abbrev from_block : Broken → Option Rule
+from_block b = if b.block then Some rule.Block else from_clause b
+
+abbrev from_head : Broken → Option Rule
+from_head b = if b.head then Some rule.Head else from_block b
+
+abbrev from_order : Broken → Option Rule
+from_order b = if b.order then Some rule.Order else from_head b
+
 abbrev from_term : Broken → Option Rule
-from_term b = if b.term then Some rule.Term else (if b.order then Some rule.Order else (if b.block then Some rule.Block else (if b.clause then Some rule.Clause else (if b.key then Some rule.Key else None))))
+from_term b = if b.term then Some rule.Term else from_order b
 
 abbrev from_index : Broken → Option Rule
 from_index b = if b.index then Some rule.Index else from_term b
@@ -42,48 +56,50 @@ from_set b = if b.set then Some rule.Set else from_constant b
 abbrev from_unset : Broken → Option Rule
 from_unset b = if b.unset then Some rule.Unset else from_set b
 
-kept : (b : Broken) → AreKept b → first_broken (breaks b) judged ≡ from_typing b
+kept : (b : Broken) → AreKept b → first_broken (breaks b) rules ≡ from_typing b
 kept b h = skip (Some rule.Register) (from_unset b) b.register h.0 ∙ skip (Some rule.Unset) (from_set b) b.unset h.1 ∙ skip (Some rule.Set) (from_constant b) b.set h.2 ∙ skip (Some rule.Constant) (from_typing b) b.constant h.3
 
-passed : (b : Broken) → ArePassed b → first_broken (breaks b) judged ≡ from_index b
+passed : (b : Broken) → ArePassed b → first_broken (breaks b) rules ≡ from_index b
 passed b h = kept b h.0 ∙ skip (Some rule.Typing) (from_index b) b.typing h.1
 
-abbrev from_order : Broken → Option Rule
-from_order b = if b.order then Some rule.Order else (if b.block then Some rule.Block else (if b.clause then Some rule.Clause else (if b.key then Some rule.Key else None)))
-
-abbrev from_block : Broken → Option Rule
-from_block b = if b.block then Some rule.Block else (if b.clause then Some rule.Clause else (if b.key then Some rule.Key else None))
-
-abbrev from_clause : Broken → Option Rule
-from_clause b = if b.clause then Some rule.Clause else (if b.key then Some rule.Key else None)
-
-abbrev from_key : Broken → Option Rule
-from_key b = if b.key then Some rule.Key else None
-
 -- no index is loose
-closed : (b : Broken) → ArePassed b → b.index ≡ false → first_broken (breaks b) judged ≡ from_term b
+closed : (b : Broken) → ArePassed b → b.index ≡ false → first_broken (breaks b) rules ≡ from_term b
 closed b h i = passed b h ∙ skip (Some rule.Index) (from_term b) b.index i
 
-pub first_none : (b : Broken) → IsFirst b None → first_broken (breaks b) judged ≡ None
-first_none b h = closed b h.0 h.1 ∙ skip (Some rule.Term) (from_order b) b.term h.2 ∙ skip (Some rule.Order) (from_block b) b.order h.3 ∙ skip (Some rule.Block) (from_clause b) b.block h.4 ∙ skip (Some rule.Clause) (from_key b) b.clause h.5 ∙ skip (Some rule.Key) None b.key h.6
+in_order : (b : Broken) → ArePassed b → b.index ≡ false → b.term ≡ false → b.order ≡ false → first_broken (breaks b) rules ≡ from_head b
+in_order b h i t o = closed b h i ∙ skip (Some rule.Term) (from_order b) b.term t ∙ skip (Some rule.Order) (from_head b) b.order o
 
-pub first_some : (b : Broken) (r : Rule) → IsFirst b (Some r) → is_judged r ≡ true → first_broken (breaks b) judged ≡ Some r
-first_some b rule.Register h j = stop (Some rule.Register) (from_unset b) b.register h
-first_some b rule.Unset h j = skip (Some rule.Register) (from_unset b) b.register h.0 ∙ stop (Some rule.Unset) (from_set b) b.unset h.1
-first_some b rule.Set h j = skip (Some rule.Register) (from_unset b) b.register h.0 ∙ skip (Some rule.Unset) (from_set b) b.unset h.1 ∙ stop (Some rule.Set) (from_constant b) b.set h.2
-first_some b rule.Constant h j = skip (Some rule.Register) (from_unset b) b.register h.0 ∙ skip (Some rule.Unset) (from_set b) b.unset h.1 ∙ skip (Some rule.Set) (from_constant b) b.set h.2 ∙ stop (Some rule.Constant) (from_typing b) b.constant h.3
-first_some b rule.Typing h j = kept b h.0 ∙ stop (Some rule.Typing) (from_index b) b.typing h.1
-first_some b rule.Index h j = passed b h.0 ∙ stop (Some rule.Index) (from_term b) b.index h.1
-first_some b rule.Term h j = closed b h.0 h.1 ∙ stop (Some rule.Term) (from_order b) b.term h.2
-first_some b rule.Order h j = closed b h.0 h.1 ∙ skip (Some rule.Term) (from_order b) b.term h.2 ∙ stop (Some rule.Order) (from_block b) b.order h.3
-first_some b rule.Head h j = absurd (cc)
-first_some b rule.Block h j = closed b h.0 h.1 ∙ skip (Some rule.Term) (from_order b) b.term h.2 ∙ skip (Some rule.Order) (from_block b) b.order h.3 ∙ stop (Some rule.Block) (from_clause b) b.block h.4
-first_some b rule.Clause h j = closed b h.0 h.1 ∙ skip (Some rule.Term) (from_order b) b.term h.2 ∙ skip (Some rule.Order) (from_block b) b.order h.3 ∙ skip (Some rule.Block) (from_clause b) b.block h.4 ∙ stop (Some rule.Clause) (from_key b) b.clause h.5
-first_some b rule.Key h j = closed b h.0 h.1 ∙ skip (Some rule.Term) (from_order b) b.term h.2 ∙ skip (Some rule.Order) (from_block b) b.order h.3 ∙ skip (Some rule.Block) (from_clause b) b.block h.4 ∙ skip (Some rule.Clause) (from_key b) b.clause h.5 ∙ stop (Some rule.Key) None b.key h.6
+with_head : (b : Broken) → ArePassed b → b.index ≡ false → b.term ≡ false → b.order ≡ false → b.head ≡ false → first_broken (breaks b) rules ≡ from_block b
+with_head b h i t o e = in_order b h i t o ∙ skip (Some rule.Head) (from_block b) b.head e
 
--- tests that agree on the judged rules find the same one
-pub first_same : (f g : Rule → Bool) → f rule.Register ≡ g rule.Register → f rule.Unset ≡ g rule.Unset → f rule.Set ≡ g rule.Set → f rule.Constant ≡ g rule.Constant → f rule.Typing ≡ g rule.Typing → f rule.Index ≡ g rule.Index → f rule.Term ≡ g rule.Term → f rule.Order ≡ g rule.Order → f rule.Block ≡ g rule.Block → f rule.Clause ≡ g rule.Clause → f rule.Key ≡ g rule.Key → first_broken f judged ≡ first_broken g judged
-first_same f g a u b c t x d e o l k = λ i. if a i then Some rule.Register else (if u i then Some rule.Unset else (if b i then Some rule.Set else (if c i then Some rule.Constant else (if t i then Some rule.Typing else (if x i then Some rule.Index else (if d i then Some rule.Term else (if e i then Some rule.Order else (if o i then Some rule.Block else (if l i then Some rule.Clause else (if k i then Some rule.Key else None))))))))))
+pub first_none : (b : Broken) → IsFirst b None → first_broken (breaks b) rules ≡ None
+first_none b h = with_head b h.0 h.1 h.2 h.3 h.4 ∙ skip (Some rule.Block) (from_clause b) b.block h.5 ∙ skip (Some rule.Clause) (from_key b) b.clause h.6 ∙ skip (Some rule.Key) None b.key h.7
+
+pub first_some : (b : Broken) (r : Rule) → IsFirst b (Some r) → first_broken (breaks b) rules ≡ Some r
+first_some b rule.Register h = stop (Some rule.Register) (from_unset b) b.register h
+first_some b rule.Unset h = skip (Some rule.Register) (from_unset b) b.register h.0 ∙ stop (Some rule.Unset) (from_set b) b.unset h.1
+first_some b rule.Set h = skip (Some rule.Register) (from_unset b) b.register h.0 ∙ skip (Some rule.Unset) (from_set b) b.unset h.1 ∙ stop (Some rule.Set) (from_constant b) b.set h.2
+first_some b rule.Constant h = skip (Some rule.Register) (from_unset b) b.register h.0 ∙ skip (Some rule.Unset) (from_set b) b.unset h.1 ∙ skip (Some rule.Set) (from_constant b) b.set h.2 ∙ stop (Some rule.Constant) (from_typing b) b.constant h.3
+first_some b rule.Typing h = kept b h.0 ∙ stop (Some rule.Typing) (from_index b) b.typing h.1
+first_some b rule.Index h = passed b h.0 ∙ stop (Some rule.Index) (from_term b) b.index h.1
+first_some b rule.Term h = closed b h.0 h.1 ∙ stop (Some rule.Term) (from_order b) b.term h.2
+first_some b rule.Order h = closed b h.0 h.1 ∙ skip (Some rule.Term) (from_order b) b.term h.2 ∙ stop (Some rule.Order) (from_head b) b.order h.3
+first_some b rule.Head h = in_order b h.0 h.1 h.2 h.3 ∙ stop (Some rule.Head) (from_block b) b.head h.4
+first_some b rule.Block h = with_head b h.0 h.1 h.2 h.3 h.4 ∙ stop (Some rule.Block) (from_clause b) b.block h.5
+first_some b rule.Clause h = with_head b h.0 h.1 h.2 h.3 h.4 ∙ skip (Some rule.Block) (from_clause b) b.block h.5 ∙ stop (Some rule.Clause) (from_key b) b.clause h.6
+first_some b rule.Key h = with_head b h.0 h.1 h.2 h.3 h.4 ∙ skip (Some rule.Block) (from_clause b) b.block h.5 ∙ skip (Some rule.Clause) (from_key b) b.clause h.6 ∙ stop (Some rule.Key) None b.key h.7
+
+-- tests that agree on the rules find the same one
+pub first_same : (f g : Rule → Bool) → f rule.Register ≡ g rule.Register → f rule.Unset ≡ g rule.Unset → f rule.Set ≡ g rule.Set → f rule.Constant ≡ g rule.Constant → f rule.Typing ≡ g rule.Typing → f rule.Index ≡ g rule.Index → f rule.Term ≡ g rule.Term → f rule.Order ≡ g rule.Order → f rule.Head ≡ g rule.Head → f rule.Block ≡ g rule.Block → f rule.Clause ≡ g rule.Clause → f rule.Key ≡ g rule.Key → first_broken f rules ≡ first_broken g rules
+first_same f g a u b c t x d e h o l k = λ i. if a i then Some rule.Register else (if u i then Some rule.Unset else (if b i then Some rule.Set else (if c i then Some rule.Constant else (if t i then Some rule.Typing else (if x i then Some rule.Index else (if d i then Some rule.Term else (if e i then Some rule.Order else (if h i then Some rule.Head else (if o i then Some rule.Block else (if l i then Some rule.Clause else (if k i then Some rule.Key else None)))))))))))
+
+-- the rule on the head, of the record as a whole or of an instruction
+pub headed : (a b : Bool) → b ≡ true → (a || b) ≡ true
+headed true b e = refl
+headed false b e = e
+
+pub not_headed : (a b : Bool) → a ≡ false → b ≡ false → (a || b) ≡ false
+not_headed a b e f = λ j. e j || f j
 
 pub or_false : (b : Bool) → (b || false) ≡ b
 or_false true = refl

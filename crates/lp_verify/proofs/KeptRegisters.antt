@@ -170,7 +170,7 @@ next_same : (r d : ℕ) (t : Bool) → nat_eq r d ≡ t → nat_eq r d ≡ nat_e
 next_same r d true e = let z = eqb-true r d e in e ∙ sym (eq-eqb (suc r) (suc d) (omega (arith, z)))
 next_same r d false e = e ∙ sym (ne_eqb (suc r) (suc d) (λ z. eqb-false r d e (omega (arith, z))))
 
-set_value : {B : Type 0} (xs : List (Option B)) (d : ℕ) (b : B) → d < length xs → (r : ℕ) → held (slice_set xs d (Some b)) r ≡ (if nat_eq r d then Some b else held xs r)
+pub set_value : {B : Type 0} (xs : List (Option B)) (d : ℕ) (b : B) → d < length xs → (r : ℕ) → held (slice_set xs d (Some b)) r ≡ (if nat_eq r d then Some b else held xs r)
 set_value [] d b l r = absurd (omega (arith, l))
 set_value (x ∷ xs) zero b l zero = refl
 set_value (x ∷ xs) zero b l (suc r) = sym (ap (λ t. if t then Some b else held xs r) (ne_eqb (suc r) 0 (λ e. omega (arith, e))))

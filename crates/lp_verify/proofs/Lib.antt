@@ -20,7 +20,6 @@ mod Names
 mod Goalless
 mod AlikeRuns
 mod Denoted
-mod FewerRules
 mod FirstTypes
 mod UsedConstants
 mod LanguageTypes
@@ -30,3 +29,10 @@ mod HeadTypes
 mod StillHead
 mod OwnTypes
 mod Instructions
+mod HeadSteps
+mod TakenOn
+mod LowTerms
+mod AllsKept
+mod FirstTaken
+mod HeadRules
+mod TypeEnds

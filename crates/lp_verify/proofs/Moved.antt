@@ -1,10 +1,10 @@
 -- A record at work moves as the state of the definition does.
 use Rattle.std.proofs.Common.{◌≡◌, ◌∙◌, ◌≤◌, ◌<◌, ℕ, suc, ◌+◌, List, [], ◌∷◌, ◌++◌, map, length, reverse, append_assoc, zero-add, Bool, true, false, Option, Some, None, ap, refl, sym, subst, arith}
 use Rattle.std.specs.BTreeMap.{BTreeMap, get}
-use Rattle.std.specs.Prelude.{nat_eq, nat_le, not, ◌||◌, ◌&&◌, ◌^◌, if◌then◌else◌, unwrap_or, slice_get}
+use Rattle.std.specs.Prelude.{nat_eq, nat_le, is_some, not, ◌||◌, ◌&&◌, ◌^◌, if◌then◌else◌, unwrap_or, slice_get}
 use Rattle.std.specs.Ordering.{nat_cmp}
 use Rattle.std.specs.List.{list_any}
-use Rattle.std.proofs.lemmas.Bool.{ne_eqb}
+use Rattle.std.proofs.lemmas.Bool.{ne_eqb, leb-false, lt-leb}
 use Rattle.lp_lemmas.proofs.Lists.{append_nil_sym}
 use Rattle.lp_lemmas.proofs.Booleans.{or_false_left, or_false_right}
 use Rattle.lp_code.specs.declared.instruction.Instr.{Instr}
@@ -17,8 +17,12 @@ use Rattle.lp_code.specs.Operands.{types_read, terms_read, type_set, term_set}
 use Rattle.lp_code.specs.States.{State, Home, Captured, member}
 use Rattle.lp_code.specs.Symbolic.{Built, held, term_in, is_closed}
 use Rattle.lp_code.specs.Steps.{after}
-use Rattle.lp_code.specs.Rules.{breaks_type, breaks_order, breaks_set, breaks_unset, breaks_index, breaks_register, breaks_term, breaks_nesting, has_none, is_passed, named_before, names_of}
-use Rattle.lp_code.specs.Denote.{Done, Broken, first_broken, broken_by_record, broken_by, broken_of, unless_broken, run_on, run_of, any_clause, first_state, started, captured_of}
+use Rattle.lp_code.specs.Rules.{breaks_type, breaks_head, breaks_order, breaks_set, breaks_unset, breaks_index, breaks_register, breaks_term, breaks_nesting, has_none, is_passed, named_before, names_of}
+use Rattle.lp_code.specs.Denote.{Done, Broken, rules, first_broken, broken_by_record, broken_by, broken_of, unless_broken, run_on, run, any_clause, first_state, started, captured_of}
+use Rattle.lp_verify.specs.inner.Taken.{before_neck, AreFirstTaken, TakenIn}
+use Rattle.lp_verify.specs.inner.Low.{HoldsLow, HandedLow}
+use Rattle.lp_verify.proofs.TakenOn.{taken_on, taken_first, taken_is, is_variable, body_from, own_has}
+use Rattle.lp_verify.proofs.LowTerms.{low_behind, low_start, held_later, low_handed}
 use Rattle.lp_verify.specs.declared.built.Built as kept_built
 use Rattle.lp_term.specs.declared.node.TypeId.{TypeId}
 use Rattle.lp_verify.specs.declared.record.Shared.{Shared}
@@ -29,13 +33,13 @@ use Rattle.lp_verify.specs.declared.registers.Registers.{Registers}
 use Rattle.lp_verify.specs.declared.blocks.Block as kept
 use Rattle.lp_verify.specs.Held.{was_set, value_in, is_lacking}
 use Rattle.lp_verify.specs.Named.{was_named, HasNamed}
-use Rattle.lp_verify.specs.Judged.{judged, bytes_of}
+use Rattle.lp_verify.specs.Judged.{bytes_of}
 use Rattle.lp_verify.specs.inner.Outline.{Outline, outline, arguments_behind, types_behind, body_behind, taken_by, outline_behind}
 use Rattle.lp_verify.specs.inner.Told.{breaks, told, broken_whole, breaks_blocks, reaches_past, loose_entries, is_loose, sets_again, names_badly, IsFirst, is_out_of_order}
 use Rattle.lp_verify.specs.inner.Made.{nothing_built, type_made, term_made}
-use Rattle.lp_verify.specs.inner.Stack.{Agree, type_heights, term_heights, saved_of, stack_of, types_in_stack, terms_in_stack, stack_settled, IsStack, IsStacked, IsSettled, IsStackRun}
+use Rattle.lp_verify.specs.inner.Stack.{Agree, type_heights, term_heights, saved_of, stack_of, types_in_stack, terms_in_stack, stack_settled, IsKept, IsStack, IsStacked, IsSettled, IsStackRun}
 use Rattle.lp_verify.specs.inner.Handed.{SameType, SameTerm, IsSame, captured_in, types_captured, terms_captured, assumption_of, handed_on, AreHanded}
-use Rattle.lp_verify.specs.inner.At.{kept_in, home_in, IsAt, IsRun, IsActed, IsPassed, IsStarted, IsJudgedWhole, IsWhole, IsNoWhole, HandedIn, IsRan, AreNamedBefore, NamedAt, Past, GoesOn}
+use Rattle.lp_verify.specs.inner.At.{kept_in, home_in, IsAt, IsRun, IsActed, IsPassed, IsStarted, IsJudgedWhole, IsWhole, IsNoWhole, HandedIn, IsRan, AreNamedBefore, NamedAt, Past, TakesAre, GoesOn}
 use Rattle.lp_verify.specs.inner.Sides.{sides_in, sides_of, sides_run, sides_acted, sides_settled, is_past, is_turn, starts_from, nests_badly, first_end_of, AreEnds, HasPlaces}
 use Rattle.lp_verify.proofs.Members.{member_append, from_zero_has, started_length}
 use Rattle.lp_verify.proofs.Outlines.{behind, comes_behind, Nests, outline_is, with_more_is, sides_are, types_stack_is, terms_stack_is}
@@ -45,8 +49,9 @@ use Rattle.lp_verify.proofs.KeptRegisters.{run_ever, stack_runs, stack_weaker, s
 use Rattle.lp_verify.proofs.HandedOn.{named_has, hands_on, handed_later, same_later, few_captured}
 use Rattle.lp_verify.specs.Scheme.{tables_in}
 use Rattle.lp_verify.specs.inner.Language.{HasLanguage}
-use Rattle.lp_verify.specs.inner.Known.{HasOwnTypes, FollowsHead, IsStill, KnowsHead, Knows}
+use Rattle.lp_verify.specs.inner.Known.{HasOwnTypes, FollowsHead, IsStill, KnowsHead, KnowsTaken, Knows}
 use Rattle.lp_verify.specs.inner.Indices.{Store, StoreGrows}
+use Rattle.lp_verify.specs.inner.Reads.{reads_unset}
 use Rattle.lp_verify.proofs.UsedConstants.{basics_stay}
 use Rattle.lp_verify.proofs.StillHead.{held_still, stays_still, not_set, own_there}
 use Rattle.lp_verify.proofs.LooseSeen.{stands_later, closed_is}
@@ -208,16 +213,17 @@ settled_there : {T : Type 0} (i : Instr) (ds : List ℕ) (t : T) (p q : ℕ) (ss
     → q ≡ p + length_of i → ts ≡ sides_run i p ss → IsStacked i ds t hs old js mid → IsSettled q ts js mid ks new → IsStackRun i ds t (p + length_of i) (sides_run i p ss) hs old ks new
 settled_there i ds t p q ss ts hs ks js old mid new e f x y = record { heights = js; made = mid; stacked = x; settled = subst (λ n. IsSettled n (sides_run i p ss) js mid ks new) e (subst (λ l. IsSettled q l js mid ks new) f y) }
 
-pub passed_on : (i : Instr) (u : TypeId) (t : kept_built.Built) (old mid new : Work) → IsActed i u t old mid → new.home ≡ mid.home → new.places ≡ mid.places → new.own_types ≡ mid.own_types → (mid.place + length_of i < 2 ^ 64 → new.place ≡ mid.place + length_of i) → (mid.number + 1 < 2 ^ 64 → new.number ≡ mid.number + 1)
+pub passed_on : (i : Instr) (u : TypeId) (t : kept_built.Built) (old mid new : Work) → IsActed i u t old mid → new.home ≡ mid.home → new.places ≡ mid.places → new.takings ≡ mid.takings → new.own_types ≡ mid.own_types → (mid.place + length_of i < 2 ^ 64 → new.place ≡ mid.place + length_of i) → (mid.number + 1 < 2 ^ 64 → new.number ≡ mid.number + 1)
     → sides_in new.blocks.frames.items ≡ sides_settled new.place (sides_in mid.blocks.frames.items) → (AreEnds (reverse mid.blocks.frames.items) → AreEnds (reverse new.blocks.frames.items)) → new.in_body ≡ mid.in_body → new.head ≡ mid.head
     → IsSettled new.place (sides_in mid.blocks.frames.items) (type_heights (reverse mid.blocks.frames.items)) mid.types (type_heights (reverse new.blocks.frames.items)) new.types
     → IsSettled new.place (sides_in mid.blocks.frames.items) (term_heights (reverse mid.blocks.frames.items)) mid.terms (term_heights (reverse new.blocks.frames.items)) new.terms → IsRun i u t old new
-passed_on i u t old mid new a home places own place number sides ends body head types terms =
+passed_on i u t old mid new a home places takings own place number sides ends body head types terms =
     let l = length_of i in
     let at : old.place + l < 2 ^ 63 → new.place ≡ old.place + l = λ h. place (subst (λ p. p + l < 2 ^ 64) (sym a.place_stays) (omega (arith, h))) ∙ ap (λ p. p + l) a.place_stays in
     record {
       home_stays = home ∙ a.home_stays;
       places_stay = places ∙ a.places_stay;
+      takings_stay = takings ∙ a.takings_stay;
       own_stay = own ∙ a.own_stay;
       number_moves = λ h. number (subst (λ p. p + 1 < 2 ^ 64) (sym a.number_stays) h) ∙ ap (λ p. p + 1) a.number_stays;
       sides_move = λ h. let p = at h in sides ∙ (λ j. sides_settled (p j) (a.sides_act (omega (arith, h)) j));
@@ -236,7 +242,7 @@ passed_on i u t old mid new a home places own place number sides ends body head 
 both_false : (w b : Bool) → w ≡ false → b ≡ (w || b)
 both_false w b h = sym (ap (λ v. v || b) h)
 
-broken_at : (z : Bool) (f g : Rule → Bool) → (if z then first_broken (λ r. f r || g r) judged else first_broken g judged) ≡ first_broken (λ r. (z && f r) || g r) judged
+broken_at : (z : Bool) (f g : Rule → Bool) → (if z then first_broken (λ r. f r || g r) rules else first_broken g rules) ≡ first_broken (λ r. (z && f r) || g r) rules
 broken_at true f g = refl
 broken_at false f g = refl
 
@@ -266,11 +272,11 @@ same_loose l k w s grow a r =
 
 -- what is told before an instruction is what the definition finds there
 pub same_broken : (l k : Store) (s : State) (w : Work) (m : BTreeMap ℕ ℕ) (x : Whole) (all : List Instr) (i : Instr) (is : List Instr) → StoreGrows l k → IsAt l w s → Past all (i ∷ is) s w → bytes_of all < 2 ^ 32 → s.place < 2 ^ 33 → NamedAt (home_in w.home) s m → IsWhole (home_in w.home) s x
-    → broken_of judged (home_in w.home) s (i ∷ is) ≡ first_broken (breaks (told w k.lists (was_named m) x (breaks_type (home_in w.home) s i) i)) judged
+    → broken_of rules (home_in w.home) s (i ∷ is) ≡ first_broken (breaks (told w k.lists (was_named m) x (breaks_type (home_in w.home) s i) (breaks_head (home_in w.home) s i) i)) rules
 same_broken l k s w m x all i is grow a past short small names b =
     let h = home_in w.home in
     let t : Bool = nat_eq s.place 0 in
-    broken_at t (broken_by_record h s) (broken_by h s is i) ∙ sym (first_same (breaks (told w k.lists (was_named m) x (breaks_type (home_in w.home) s i) i)) (λ r. (t && broken_by_record h s r) || broken_by h s is i r)
+    broken_at t (broken_by_record h s) (broken_by h s is i) ∙ sym (first_same (breaks (told w k.lists (was_named m) x (breaks_type (home_in w.home) s i) (breaks_head (home_in w.home) s i) i)) (λ r. (t && broken_by_record h s r) || broken_by h s is i r)
     (ap (λ v. v || breaks_register h s i) b.register_is)
     (same_reads (is_lacking w.types) (is_lacking w.terms) s i (same_lacking (SameType l) w.home.record.now.types w.types (type_heights (reverse w.blocks.frames.items)) s.now.types (types_in_stack (saved_of s.frames)) a.types_stand)
     (same_lacking (SameTerm l) w.home.record.now.registers w.terms (term_heights (reverse w.blocks.frames.items)) s.now.terms (terms_in_stack (saved_of s.frames)) a.terms_stand) ∙ no_more t (breaks_unset s i))
@@ -280,6 +286,7 @@ same_broken l k s w m x all i is grow a past short small names b =
     (same_closed (is_loose k.lists w.terms) s i (same_loose l k w s grow a) ∙ no_more t (breaks_index s i))
     (no_more t (breaks_term i))
     ((λ j. b.order_is j || is_out_of_order (a.body_is j) (a.types_are j) (a.arguments_are j) i) ∙ ap (λ v. (t && broken_by_record h s rule.Order) || v) (same_order s i))
+    (ap (λ v. v || breaks_head h s i) b.head_is)
     ((λ j. b.block_is j || same_blocks l s w all i is a past short small j))
     ((λ j. b.clause_is j || same_names h s (was_named m) i names j))
     (b.key_is ∙ sym (or_false (t && broken_by_record h s rule.Key))))
@@ -294,7 +301,7 @@ first_passes place n h = ne_eqb (place + n) 0 (λ e. omega (arith, h, e))
 
 -- what a step tells: the rules are kept, the instruction was run, its records were named, and what they start with was handed on
 abbrev pub TellsFirst : Instr → Work → (x y : Shared) → Whole → Option Rule → Type 0
-TellsFirst i w x y p r = (h : Home) (s : State) → Knows (kept_in x) w h s → IsFirst (told w y.lists (was_named x.named) p (breaks_type h s i) i) r
+TellsFirst i w x y p r = (h : Home) (s : State) → Knows (kept_in x) w h s → IsFirst (told w y.lists (was_named x.named) p (breaks_type h s i) (breaks_head h s i) i) r
 
 pub record Steps (i : Instr) (w v : Work) (x y : Shared) (p q : Whole) : Type 0 where
   pub fits : Fits i
@@ -303,10 +310,53 @@ pub record Steps (i : Instr) (w v : Work) (x y : Shared) (p q : Whole) : Type 0 
   pub grow : StoreGrows (kept_in x) (kept_in y)
   pub clean : IsNoWhole q
 
+-- a register that was never set holds nothing
+nothing_held : (l : Store) (w : Work) (s : State) (x : ℕ) → IsAt l w s → member x s.terms_set ≡ false → held s.now.terms x ≡ None
+nothing_held l w s x a e = by_value (value_in w.terms x) (held s.now.terms x) refl (same_values (SameTerm l) w.home.record.now.registers w.terms (term_heights (reverse w.blocks.frames.items)) s.now.terms (terms_in_stack (saved_of s.frames)) a.terms_stand x)
+  where
+    kept : IsKept w.terms
+    kept = a.terms_stand.0
+
+    by_value : (o : Option kept_built.Built) (p : Option Built) → value_in w.terms x ≡ o → Agree (SameTerm l) o p → p ≡ None
+    by_value None None f h = refl
+    by_value None (Some b) f h = absurd h
+    by_value (Some t) None f h = absurd h
+    by_value (Some t) (Some b) f h = absurd (let z : true ≡ false = sym (kept.ever x (sym (kept.trail_is x) ∙ ap is_some f)) ∙ a.terms_set x ∙ e in cc)
+
+low_past : (m n : ℕ) (ds : List ℕ) → m ≤ n → list_any (nat_le m) ds ≡ false → list_any (nat_le n) ds ≡ false
+low_past m n [] l e = refl
+low_past m n (d ∷ ds) l e =
+    let here : d < m = leb-false m d (or_false_left (nat_le m d) (list_any (nat_le m) ds) e) in
+    (λ j. lt-leb n d (omega (arith, here, l)) j || low_past m n ds l (or_false_right (nat_le m d) (list_any (nat_le m) ds) e) j)
+
+-- one instruction more of a head
+takes_on : (l : Store) (s : State) (i : Instr) (is all : List Instr) (w v : Work) → IsAt l w s → Past all (i ∷ is) s w → MayRun w i → bytes_of all < 2 ^ 32 → s.place < 2 ^ 33 → reads_unset (is_lacking w.types) (is_lacking w.terms) i ≡ false → breaks_order s i ≡ false
+    → (s.in_body ≡ false → TakenIn (home_in w.home) all (i ∷ is) w.number s) → v.number ≡ w.number + 1 → (behind (home_in w.home) s i).in_body ≡ false → TakenIn (home_in w.home) all is v.number (behind (home_in w.home) s i)
+takes_on l s i is all w v a b may short small unset order taken number body =
+    let h = home_in w.home in
+    let n = w.home.record.now.registers in
+    let from = body_from i s.in_body (sym (ap (λ (o : Outline). o.in_body) (outline_is h s i)) ∙ body) in
+    let nest = or_false_right (list_any (is_passed s.place) s.frames) (breaks_nesting s is i) (sym (same_blocks l s w all i is a b short small) ∙ may.nested) in
+    let read =
+    sym (same_reads (is_lacking w.types) (is_lacking w.terms) s i (same_lacking (SameType l) w.home.record.now.types w.types (type_heights (reverse w.blocks.frames.items)) s.now.types (types_in_stack (saved_of s.frames)) a.types_stand)
+    (same_lacking (SameTerm l) n w.terms (term_heights (reverse w.blocks.frames.items)) s.now.terms (terms_in_stack (saved_of s.frames)) a.terms_stand)) ∙ unset in
+    let once = sym (same_sets (was_set w.types) (was_set w.terms) s i a.types_set a.terms_set) ∙ may.fresh in
+    let low = terms_low w.home.record.now.types n i may.low in
+    let next : suc w.number ≡ v.number = omega (arith, number) in
+    subst (λ q. TakenIn h all is q (behind h s i)) next
+    (taken_on h s i is all w.number (taken from.0) from.0 order nest read once (low_past n (length s.now.terms) (term_set i) a.terms_stand.1.1 low) (λ x e. nothing_held l w s x a e) (λ q m. own_has h s i b.run is q from.0 order (sym b.all_is ∙ b.parts) low m) from.1)
+
+takes_known : (h : Home) (all left : List Instr) (w : Work) (s : State) → w.in_body ≡ s.in_body → TakesAre h all left w s → KnowsTaken w h s
+takes_known h all left w s same t v r body e =
+    let taken = t.1 (sym same ∙ body) in
+    let q = taken.own v r (is_variable v h.number (term_in s.now r).term e) in
+    (q.1, t.0 v w.number ∙ taken_is h all left w.number s v taken q.0)
+
 -- what is known of the registers now
-knows_now : (l : Store) (w : Work) (h : Home) (s : State) → IsAt l w s → KnowsHead l w h s → Knows l w h s
-knows_now l w h s a k = record {
+knows_now : (l : Store) (w : Work) (h : Home) (s : State) (all left : List Instr) → IsAt l w s → KnowsHead l w h s → TakesAre h all left w s → Knows l w h s
+knows_now l w h s all left a k t = record {
   of_head = k;
+  taken = takes_known h all left w s a.body_is t;
   types = λ n. same_values (SameType l) w.home.record.now.types w.types (type_heights (reverse w.blocks.frames.items)) s.now.types (types_in_stack (saved_of s.frames)) a.types_stand n;
   terms = λ n. same_values (SameTerm l) w.home.record.now.registers w.terms (term_heights (reverse w.blocks.frames.items)) s.now.terms (terms_in_stack (saved_of s.frames)) a.terms_stand n;
 }
@@ -326,27 +376,28 @@ one_more before all i is w v x y p q short g t =
     let u = t.passed.type in
     let b = t.passed.value in
     let a = g.2 in
-    let known : Knows l w h s = knows_now l w h s a g.8 in
+    let known : Knows l w h s = knows_now l w h s all (i ∷ is) a g.8 g.10 in
     let f = t.kept h s known in
     let clean = t.clean in
     let count : s.place + (length_of i + bytes_of is) ≡ bytes_of all = g.3 in
     let place : (behind h s i).place ≡ s.place + length_of i = ap (λ (o : Outline). o.place) (outline_is h s i) in
     let small : s.place + length_of i < 2 ^ 33 = omega (arith, short, count) in
-    let fine = same_broken l k s w x.named p all i is t.grow a g.6 short (omega (arith, small)) g.5 g.4 ∙ first_none (told w k.lists (was_named x.named) p (breaks_type h s i) i) f in
+    let fine = same_broken l k s w x.named p all i is t.grow a g.6 short (omega (arith, small)) g.5 g.4 ∙ first_none (told w k.lists (was_named x.named) p (breaks_type h s i) (breaks_head h s i) i) f in
     let past : nat_eq (behind h s i).place 0 ≡ false = ap (λ n. nat_eq n 0) place ∙ first_passes s.place (length_of i) (some_bytes i) in
     let unset = f.0.0.1 in
     let may : MayRun w i =
     record {
       low = or_false_right p.register (reaches_past w.home.record.now.types w.home.record.now.registers i) f.0.0.0;
       fresh = f.0.0.2;
-      nested = or_false_right p.block (breaks_blocks w i) f.4;
+      nested = or_false_right p.block (breaks_blocks w i) f.5;
     } in
     let nest = nests l s i w a may.nested in
     let order : breaks_order s i ≡ false = sym (same_order s i) ∙ sym (λ j. is_out_of_order (a.body_is j) (a.types_are j) (a.arguments_are j) i) ∙ or_false_right p.order (is_out_of_order w.in_body (length w.head.types.items) w.head.arguments i) f.3 in
     let own = own_there h.self g.6.run i is (sym g.6.all_is ∙ g.6.parts) in
     let few = a.few_arguments in
+    let few_instructions = a.few_instructions in
     let few_now : w.head.arguments + 1 < 2 ^ 64 = omega (arith, few, a.arguments_are, small) in
-    let low = g.4.head_low f.7 in
+    let low = g.4.head_low (or_false_left p.head (breaks_head h s i) f.4) in
     let not_again = or_false_right (list_any (was_set w.types) (type_set i)) (list_any (was_set w.terms) (term_set i)) f.0.0.2 in
     let again : (n : ℕ) → IsStill n s → member n (term_set i) ≡ false = λ n z. not_set (was_set w.terms) (term_set i) n not_again (a.terms_set n ∙ z.0) in
     let follows : FollowsHead h s i (behind h s i) =
@@ -358,10 +409,10 @@ one_more before all i is w v x y p q short g t =
     let typed = t.passed.typed h s few_now known unset order own in
     let head = typed.head (behind h s i) follows in
     let made : SameTerm k b (term_made h s i) = t.passed.puts h s known unset in
-    let named = or_false_right p.clause (names_badly h.number h.records h.self.program (was_named x.named) i) f.5 in
+    let named = or_false_right p.clause (names_badly h.number h.records h.self.program (was_named x.named) i) f.6 in
     let handed = hands_on l h.records h.number h.self.program w.types w.terms s (before ++ s.assumed) x.handed.items y.handed.items x.named y.named known.types known.terms i g.7 t.fits named unset t.passed.names t.passed.hands in (
       behind h s i,
-      g.1 ∙ ap (λ o. unless_broken o s.place (run_on (λ t. run_of judged h any_clause t is) (after h any_clause s i))) fine ∙ ap (run_on (λ t. run_of judged h any_clause t is)) (comes_behind h s i),
+      g.1 ∙ ap (λ o. unless_broken o s.place (run_on (λ t. run h any_clause t is) (after h any_clause s i))) fine ∙ ap (run_on (λ t. run h any_clause t is)) (comes_behind h s i),
       moved l k h s i u b w v a may r t.grow typed.type made small,
       omega (arith, place, count),
       record {
@@ -369,6 +420,7 @@ one_more before all i is w v x y p q short g t =
         constant_is = clean.1 ∙ sym (ap (λ t. t && broken_by_record h (behind h s i) rule.Constant) past);
         order_is = clean.2 ∙ sym (ap (λ t. t && broken_by_record h (behind h s i) rule.Order) past);
         head_low = λ e. low;
+        head_is = clean.6 ∙ sym (ap (λ t. t && broken_by_record h (behind h s i) rule.Head) past);
         block_is = clean.3 ∙ sym (ap (λ t. t && broken_by_record h (behind h s i) rule.Block) past);
         clause_is = clean.4 ∙ sym (ap (λ t. t && broken_by_record h (behind h s i) rule.Clause) past);
         key_is = clean.5 ∙ sym (ap (λ t. t && broken_by_record h (behind h s i) rule.Key) past);
@@ -377,6 +429,7 @@ one_more before all i is w v x y p q short g t =
       run_on_past l h all i is s u b w v g.6 a r small,
       handed_later l k h.records y.handed.items y.named (before ++ (behind h s i).assumed) t.grow (subst (AreHanded l h.records y.handed.items y.named) (sym (handed_behind h s i before)) handed),
       record {
+        number = ap (λ z. z.number) r.home_stays;
         constants = record {
           tables = g.8.constants.tables ∙ ap (λ z. tables_in z.tables.now) (sym r.home_stays);
           language = subst (λ z. HasLanguage z.tables.now) (sym r.home_stays) g.8.constants.language;
@@ -387,6 +440,12 @@ one_more before all i is w v x y p q short g t =
         head = head.1;
       },
       λ n e z. let still = g.9 n e z in stays_still h s i n nest still (again n still),
+      (
+        subst (λ m. AreFirstTaken 0 (before_neck all) m.first) (sym r.takings_stay) g.10.0,
+        λ body. takes_on l s i is all w v a g.6 may short (omega (arith, short, count)) unset order g.10.1 (r.number_moves (omega (arith, few_instructions, small))) body,
+      ),
+      low_behind h s i nest g.11,
+      subst HandedLow (sym (handed_behind h s i before)) (low_handed h s (was_named x.named) i (before ++ s.assumed) g.12 g.11.0 named),
     )
 
 -- the offset and the number of the next instruction are small
@@ -401,20 +460,20 @@ pub goes_on : (h : Home) (before : List (ℕ × Captured)) (all : List Instr) (i
 goes_on h before all i is w v x y p q e short = subst (λ h. GoesOn h before all (i ∷ is) w x p → Steps i w v x y p q → GoesOn h before all is v y q) e (one_more before all i is w v x y p q short)
 
 refused_at : (before : List (ℕ × Captured)) (all : List Instr) (i : Instr) (is : List Instr) (w : Work) (x y : Shared) (p : Whole) (r : Rule) → bytes_of all < 2 ^ 32 → GoesOn (home_in w.home) before all (i ∷ is) w x p → StoreGrows (kept_in x) (kept_in y)
-    → TellsFirst i w x y p (Some r) → IsRan (home_in w.home).tables (home_in w.home).records y before (run_of judged (home_in w.home) any_clause (first_state (home_in w.home).self (captured_of before (home_in w.home).number)) all) (Some (w.place, r))
-refused_at before all i is w x y p r short g grow first j =
+    → TellsFirst i w x y p (Some r) → IsRan (home_in w.home).tables (home_in w.home).records y before (run (home_in w.home) any_clause (first_state (home_in w.home).self (captured_of before (home_in w.home).number)) all) (Some (w.place, r))
+refused_at before all i is w x y p r short g grow first =
     let h = home_in w.home in
     let s = g.0 in
-    let f = first h s (knows_now (kept_in x) w h s g.2 g.8) in
+    let f = first h s (knows_now (kept_in x) w h s all (i ∷ is) g.2 g.8 g.10) in
     let count : s.place + (length_of i + bytes_of is) ≡ bytes_of all = g.3 in
     let at : w.place ≡ s.place = g.2.place_is in
-    let found = same_broken (kept_in x) (kept_in y) s w x.named p all i is grow g.2 g.6 short (omega (arith, short, count)) g.5 g.4 ∙ first_some (told w y.lists (was_named x.named) p (breaks_type h s i) i) r f j in
-    (g.1 ∙ ap (λ o. unless_broken o s.place (run_on (λ t. run_of judged h any_clause t is) (after h any_clause s i))) found ∙ ap (λ n. Broken n r) (sym at), omega (arith, short, count, at))
+    let found = same_broken (kept_in x) (kept_in y) s w x.named p all i is grow g.2 g.6 short (omega (arith, short, count)) g.5 g.4 ∙ first_some (told w y.lists (was_named x.named) p (breaks_type h s i) (breaks_head h s i) i) r f in
+    (g.1 ∙ ap (λ o. unless_broken o s.place (run_on (λ t. run h any_clause t is) (after h any_clause s i))) found ∙ ap (λ n. Broken n r) (sym at), omega (arith, short, count, at))
 
 pub refused : (h : Home) (before : List (ℕ × Captured)) (all : List Instr) (i : Instr) (is : List Instr) (w : Work) (x y : Shared) (p : Whole) (r : Rule) → home_in w.home ≡ h → bytes_of all < 2 ^ 32 → GoesOn h before all (i ∷ is) w x p → StoreGrows (kept_in x) (kept_in y)
-    → TellsFirst i w x y p (Some r) → IsRan h.tables h.records y before (run_of judged h any_clause (first_state h.self (captured_of before h.number)) all) (Some (w.place, r))
+    → TellsFirst i w x y p (Some r) → IsRan h.tables h.records y before (run h any_clause (first_state h.self (captured_of before h.number)) all) (Some (w.place, r))
 refused h before all i is w x y p r e short =
-    subst (λ h. GoesOn h before all (i ∷ is) w x p → StoreGrows (kept_in x) (kept_in y) → TellsFirst i w x y p (Some r) → IsRan h.tables h.records y before (run_of judged h any_clause (first_state h.self (captured_of before h.number)) all) (Some (w.place, r))) e
+    subst (λ h. GoesOn h before all (i ∷ is) w x p → StoreGrows (kept_in x) (kept_in y) → TellsFirst i w x y p (Some r) → IsRan h.tables h.records y before (run h any_clause (first_state h.self (captured_of before h.number)) all) (Some (w.place, r))) e
     (refused_at before all i is w x y p r short)
 
 -- the end of the instructions, where the record is judged as a whole if there was none
@@ -422,7 +481,7 @@ abbrev pub at_end : Option Rule → ℕ → Option (ℕ × Rule)
 at_end None n = None
 at_end (Some r) n = Some (n, r)
 
-whole_at : (z : Bool) (f : Rule → Bool) → (if z then first_broken f judged else None) ≡ first_broken (λ r. z && f r) judged
+whole_at : (z : Bool) (f : Rule → Bool) → (if z then first_broken f rules else None) ≡ first_broken (λ r. z && f r) rules
 whole_at true f = refl
 whole_at false f = refl
 
@@ -430,19 +489,19 @@ none_there : (z : Bool) → false ≡ (z && false)
 none_there true = refl
 none_there false = refl
 
-whole_broken : (h : Home) (s : State) (x : Whole) → IsWhole h s x → broken_of judged h s [] ≡ first_broken (breaks (broken_whole x)) judged
+whole_broken : (h : Home) (s : State) (x : Whole) → IsWhole h s x → broken_of rules h s [] ≡ first_broken (breaks (broken_whole x)) rules
 whole_broken h s x b =
     let t : Bool = nat_eq s.place 0 in
-    whole_at t (broken_by_record h s) ∙ sym (first_same (breaks (broken_whole x)) (λ r. t && broken_by_record h s r) b.register_is (none_there t) (none_there t) b.constant_is (none_there t) (none_there t) (none_there t) b.order_is b.block_is b.clause_is b.key_is)
+    whole_at t (broken_by_record h s) ∙ sym (first_same (breaks (broken_whole x)) (λ r. t && broken_by_record h s r) b.register_is (none_there t) (none_there t) b.constant_is (none_there t) (none_there t) (none_there t) b.order_is b.head_is b.block_is b.clause_is b.key_is)
 
 pub ended : (h : Home) (before : List (ℕ × Captured)) (all : List Instr) (w : Work) (x : Shared) (p : Whole) (o : Option Rule) → bytes_of all < 2 ^ 32
-    → GoesOn h before all [] w x p → IsFirst (broken_whole p) o → IsRan h.tables h.records x before (run_of judged h any_clause (first_state h.self (captured_of before h.number)) all) (at_end o w.place)
-ended h before all w x p None short g f = (g.0, g.1 ∙ ap (λ o. unless_broken o g.0.place (Done g.0)) (whole_broken h g.0 p g.4 ∙ first_none (broken_whole p) f), g.7, (g.8.constants.basics, g.8.constants.uses))
-ended h before all w x p (Some r) short g f = λ j.
+    → GoesOn h before all [] w x p → IsFirst (broken_whole p) o → IsRan h.tables h.records x before (run h any_clause (first_state h.self (captured_of before h.number)) all) (at_end o w.place)
+ended h before all w x p None short g f = (g.0, g.1 ∙ ap (λ o. unless_broken o g.0.place (Done g.0)) (whole_broken h g.0 p g.4 ∙ first_none (broken_whole p) f), g.7, (g.8.constants.basics, g.8.constants.uses), g.12)
+ended h before all w x p (Some r) short g f =
     let s = g.0 in
     let at : w.place ≡ s.place = g.2.place_is in
     let count : s.place + 0 ≡ bytes_of all = g.3 in
-    (g.1 ∙ ap (λ o. unless_broken o s.place (Done s)) (whole_broken h s p g.4 ∙ first_some (broken_whole p) r f j) ∙ ap (λ n. Broken n r) (sym at), omega (arith, short, count, at))
+    (g.1 ∙ ap (λ o. unless_broken o s.place (Done s)) (whole_broken h s p g.4 ∙ first_some (broken_whole p) r f) ∙ ap (λ n. Broken n r) (sym at), omega (arith, short, count, at))
 
 pub handed_kept : (l : Store) (x y : Shared) (all : List Record) (before : List (ℕ × Captured)) → y.handed ≡ x.handed → y.named ≡ x.named → AreHanded l all x.handed.items x.named before → AreHanded l all y.handed.items y.named before
 handed_kept l x y all before b c h = subst (λ v. AreHanded l all v.items y.named before) (sym b) (subst (λ m. AreHanded l all x.handed.items m before) (sym c) h)
@@ -450,8 +509,9 @@ handed_kept l x y all before b c h = subst (λ v. AreHanded l all v.items y.name
 started_badly : (program : Bool) (wrong : Bool) (a b : Bool) → a ≡ b → (if program then wrong else not a) ≡ (if program then wrong else not b)
 started_badly p w a b e = ap (λ a. if p then w else not a) e
 
-judged_first : (h : Home) (s : State) (m : BTreeMap ℕ ℕ) (x : Whole) → s.place ≡ 0 → AreNamedBefore h.number h.records m → IsJudgedWhole h (was_named m) x → IsWhole h s x
-judged_first h s m x e names j = record {
+judged_first : (h : Home) (s : State) (m : BTreeMap ℕ ℕ) (x : Whole) → s.place ≡ 0 → AreNamedBefore h.number h.records m → IsJudgedWhole h (was_named m) x → x.head ≡ broken_by_record h s rule.Head → IsWhole h s x
+judged_first h s m x e names j head = record {
+  head_is = head ∙ ap (λ p. nat_eq p 0 && broken_by_record h s rule.Head) (sym e);
   register_is = j.register_is ∙ ap (λ p. nat_eq p 0 && broken_by_record h s rule.Register) (sym e);
   constant_is = j.constant_is ∙ ap (λ p. nat_eq p 0 && broken_by_record h s rule.Constant) (sym e);
   order_is = j.order_is ∙ ap (λ p. nat_eq p 0 && broken_by_record h s rule.Order) (sym e);
@@ -465,15 +525,20 @@ judged_first h s m x e names j = record {
 abbrev pub KnowsFirst : Store → (x : Shared) → Work → Home → Type 0
 KnowsFirst l x w h = (s : State) → s.head_types ≡ [] → s.head_arguments ≡ [] → IsSame (SameTerm l) w.terms s.now.terms → KnowsHead (kept_in x) w h s
 
+-- whether the head is a predicate that clauses may have
+abbrev pub JudgesHead : Shared → Work → Whole → Type 0
+JudgesHead x w p = (s : State) → IsSame (SameTerm (kept_in x)) w.terms s.now.terms → HoldsLow w.home.number s.now.terms → p.head ≡ broken_by_record (home_in w.home) s rule.Head
+
 begins : (l : Store) (before : List (ℕ × Captured)) (w : Work) (x : Shared) (p : Whole) → StoreGrows l (kept_in x) → slice_get w.home.records.now w.home.number ≡ Some w.home.record.now → AreHanded l w.home.records.now x.handed.items x.named before → IsStarted x.handed.items x.named w
-    → KnowsFirst l x w (home_in w.home) → AreNamedBefore w.home.number w.home.records.now x.named → IsJudgedWhole (home_in w.home) (was_named x.named) p → GoesOn (home_in w.home) before w.home.record.now.code.items w.home.record.now.code.items w x p
-begins l before w x p grow there first b knows names j =
+    → KnowsFirst l x w (home_in w.home) → AreNamedBefore w.home.number w.home.records.now x.named → IsJudgedWhole (home_in w.home) (was_named x.named) p → JudgesHead x w p → HandedLow before → GoesOn (home_in w.home) before w.home.record.now.code.items w.home.record.now.code.items w x p
+begins l before w x p grow there first b knows names j judges low =
     let hs = x.handed.items in
     let m = x.named in
     let r = w.home.record.now in
     let c = captured_of before w.home.number in
     let k = captured_in hs m w.home.number in
     let n = kept_in x in
+    let starts : HoldsLow w.home.number (first_state r c).now.terms = low_start w.home.number r c (low w.home.number) in
     let given : HandedIn x w.home.records.now before = handed_later l n w.home.records.now hs m before grow first in
     let few = few_captured n w.home.records.now hs m before w.home.number r given there in
     let types = stack_begins (SameType n) r.captured_types r.types w.types (types_captured k) c.types (b.types_filled few.few_types) b.types_set few.types (started_length c.types r.types) (given.types_alike w.home.number) in
@@ -496,16 +561,19 @@ begins l before w x p grow there first b knows names j =
         ends_are = subst (λ fs. AreEnds (reverse fs)) (sym b.frames_are) tt;
       },
       omega arith,
-      judged_first (home_in w.home) (first_state r c) m p refl names j,
+      judged_first (home_in w.home) (first_state r c) m p refl names j (judges (first_state r c) (λ q. same_values (SameTerm n) r.registers w.terms [] (started c.terms r.registers) [] terms q) starts),
       λ n. names n ∙ ap (member n) (append_nil_sym (named_before w.home.number w.home.records.now)),
       record { run = []; parts = refl; length_is = refl; all_is = refl; count_is = let n = b.number_is in omega (arith, n); places_are = b.places_are },
       subst (HandedIn x w.home.records.now) (append_nil_sym before) given,
       knows (first_state r c) refl refl (λ n. same_values (SameTerm l) r.registers w.terms [] (started c.terms r.registers) [] terms_first n),
       λ n e low. (from_zero_has n r.captured ∙ low, (refl, tt)),
+      (b.takings_are, λ body. subst (λ q. TakenIn (home_in w.home) r.code.items r.code.items q (first_state r c)) (sym b.number_is) (taken_first (home_in w.home) r c r.code.items starts)),
+      (held_later w.home.number (suc w.home.number) (first_state r c).now.terms (omega arith) starts, tt),
+      subst HandedLow (append_nil_sym before) low,
     )
 
 pub begun : (h : Home) (l : Store) (before : List (ℕ × Captured)) (w : Work) (x : Shared) (p : Whole) → home_in w.home ≡ h → StoreGrows l (kept_in x) → IsStarted x.handed.items x.named w → slice_get h.records h.number ≡ Some h.self → AreHanded l h.records x.handed.items x.named before
-    → KnowsFirst l x w h → AreNamedBefore h.number h.records x.named → IsJudgedWhole h (was_named x.named) p → GoesOn h before h.self.code.items h.self.code.items w x p
+    → KnowsFirst l x w h → AreNamedBefore h.number h.records x.named → IsJudgedWhole h (was_named x.named) p → JudgesHead x w p → HandedLow before → GoesOn h before h.self.code.items h.self.code.items w x p
 begun h l before w x p e grow b =
-    subst (λ h. slice_get h.records h.number ≡ Some h.self → AreHanded l h.records x.handed.items x.named before → KnowsFirst l x w h → AreNamedBefore h.number h.records x.named → IsJudgedWhole h (was_named x.named) p → GoesOn h before h.self.code.items h.self.code.items w x p) e
-    (λ there given knows names j. begins l before w x p grow there given b knows names j)
+    subst (λ h. slice_get h.records h.number ≡ Some h.self → AreHanded l h.records x.handed.items x.named before → KnowsFirst l x w h → AreNamedBefore h.number h.records x.named → IsJudgedWhole h (was_named x.named) p → JudgesHead x w p → HandedLow before → GoesOn h before h.self.code.items h.self.code.items w x p) e
+    (λ there given knows names j judges low. begins l before w x p grow there given b knows names j judges low)

@@ -1,6 +1,7 @@
 -- What an instruction does to the outline of a state.
-use Rattle.std.proofs.Common.{◌≡◌, ◌∙◌, ℕ, zero, suc, ◌+◌, List, [], ◌∷◌, ◌++◌, map, length, Bool, true, false, Option, Some, None, ap, refl, sym, arith}
-use Rattle.std.specs.Prelude.{option_map, if◌then◌else◌}
+use Rattle.std.proofs.Common.{◌≡◌, ◌∙◌, ℕ, zero, suc, ◌+◌, List, [], ◌∷◌, ◌++◌, map, length, Bool, true, false, Option, Some, None, ap, refl, sym, subst, arith}
+use Rattle.std.specs.Prelude.{option_map, not, ◌||◌, if◌then◌else◌}
+use Rattle.lp_lemmas.proofs.Booleans.{or_false_left}
 use Rattle.lp_lemmas.proofs.Lists.{length_push_suc, append_nil_sym}
 use Rattle.lp_model.specs.Flat.{Goal, Goals, no_goals, Clauses, no_clauses, clauses, clause}
 use Rattle.lp_calculus.specs.Term.{index, atom, integer, text}
@@ -15,13 +16,14 @@ use Rattle.lp_code.specs.States.{Frame, Captured, State, Home, end_variables, in
 use Rattle.lp_code.specs.Steps.{put_term, argument_at, constant_of, with_argument, opens, leave_block, leave_from, leave, turn_from, turn, goal_of_block, effect, clauses_of_records, captured_by, handed, is_right_end, settled, passed, after}
 use Rattle.lp_code.specs.Denote.{any_clause}
 use Rattle.lp_verify.specs.inner.Sides.{sides_of, sides_run, sides_acted, sides_settled}
-use Rattle.lp_verify.specs.inner.Stack.{stack_of, types_in_stack, terms_in_stack, turning, stack_turned, stack_settled, with_first, with_made}
+use Rattle.lp_verify.specs.inner.Stack.{stack_of, types_in_stack, terms_in_stack, turning, stack_turned, stack_settled, set_all, with_first, with_made}
 use Rattle.lp_verify.specs.inner.Made.{nothing_built, type_made, term_made}
 use Rattle.lp_verify.specs.inner.Handed.{assumption_of, handed_on}
 use Rattle.lp_verify.proofs.SavedRegisters.{saved_ended, stack_leaves, over_there, stack_turns_over, stack_settle, types_made, terms_made, map_turned, map_settled}
 use Rattle.lp_verify.proofs.Sides.{sides_ended, sides_behind, sides_given, sides_deep, sides_settle}
 use Rattle.lp_verify.specs.inner.Outline.{Outline, outline, body_behind, types_behind, arguments_behind, with_more, taken_by, outline_behind}
-use Rattle.lp_code.specs.Rules.{names_of}
+use Rattle.lp_code.specs.Rules.{names_of, breaks_order, breaks_nesting, ends_block, is_left_end, begins_behind}
+use Rattle.lp_verify.specs.inner.Taken.{argument_made}
 
 block_left : (s : State) (f : Frame) (fs : List Frame) (o : Option Goal) → outline (leave_block s f fs o) ≡ outline s
 block_left s f fs None = refl
@@ -196,3 +198,65 @@ terms_stack_is h s i e =
     let ss = sides_run i s.place (sides_of s.frames) in
     ap terms_in_stack (stack_is h s i e) ∙ map_settled (λ (g : Registers). g.terms) p ss (stack_made h s i)
     ∙ ap (stack_settled p ss) (terms_made (type_set i) (type_made h s i) (term_set i) (term_made h s i) (stack_turned (turning i) (stack_of s)) ∙ ap (with_first (term_set i) (term_made h s i)) (map_turned (λ (g : Registers). g.terms) (turning i) (stack_of s)))
+
+-- what stands behind an instruction where no block is open
+pub record HeadStep (h : Home) (s : State) (i : Instr) : Type 0 where
+  pub terms : (behind h s i).now.terms ≡ set_all s.now.terms (term_set i) (term_made h s i)
+  pub arguments : (behind h s i).head_arguments ≡ with_more s.head_arguments (argument_made h s i)
+  pub frames : (behind h s i).frames ≡ []
+
+no_goal : (b : Bool) → b ≡ false → not b ≡ false → ⊥
+no_goal true e f = let z : true ≡ false = e in cc
+no_goal false e f = let z : true ≡ false = f in cc
+
+abbrev without_frames : State → State
+without_frames s = record s { frames = [] }
+
+no_end : (s : State) (is : List Instr) (i : Instr) → s.frames ≡ [] → not (ends_block i (innermost_block [])) ≡ true → not (ends_block i (innermost_block s.frames)) ≡ false → ⊥
+no_end s is i e f g = let z : true ≡ false = sym f ∙ sym (ap (λ fs. not (ends_block i (innermost_block fs))) e) ∙ g in cc
+
+flat : (h : Home) (s : State) (i : Instr) (is : List Instr) → s.frames ≡ [] → s.in_body ≡ false → breaks_order s i ≡ false → breaks_nesting s is i ≡ false → HeadStep h (without_frames s) i
+unfolding comes came
+flat h s (on.TyCon d k ts) is e b o n = record { terms = refl; arguments = refl; frames = refl }
+flat h s (on.TyArr d x y) is e b o n = record { terms = refl; arguments = refl; frames = refl }
+flat h s (on.TyNew d) is e b o n = record { terms = refl; arguments = refl; frames = refl }
+flat h s (on.New d t) is e b o n = record { terms = refl; arguments = refl; frames = refl }
+flat h s (on.PutConst d c ts) is e b o n = record { terms = refl; arguments = refl; frames = refl }
+flat h s (on.PutInt d z) is e b o n = record { terms = refl; arguments = refl; frames = refl }
+flat h s (on.PutStr d z) is e b o n = record { terms = refl; arguments = refl; frames = refl }
+flat h s (on.PutIndex d x t) is e b o n = record { terms = refl; arguments = refl; frames = refl }
+flat h s (on.PutAbs d x t) is e b o n = record { terms = refl; arguments = refl; frames = refl }
+flat h s (on.PutApp d f rs) is e b o n = record { terms = refl; arguments = refl; frames = refl }
+flat h s (on.GetType j t) is e b o n = record { terms = refl; arguments = refl; frames = refl }
+flat h s (on.GetVar x d) is e b o n = record { terms = refl; arguments = refl; frames = refl }
+flat h s (on.Get x r) is e b o n = record { terms = refl; arguments = refl; frames = refl }
+flat h s (on.GetConst x c ts) is e b o n = record { terms = refl; arguments = refl; frames = refl }
+flat h s (on.GetInt x z) is e b o n = record { terms = refl; arguments = refl; frames = refl }
+flat h s (on.GetStr x z) is e b o n = record { terms = refl; arguments = refl; frames = refl }
+flat h s on.Neck is e b o n = record { terms = refl; arguments = refl; frames = refl }
+flat h s (on.Call c ts rs) is e b o n = absurd (no_goal s.in_body b o)
+flat h s (on.CallTerm r) is e b o n = absurd (no_goal s.in_body b o)
+flat h s (on.Equal t l r) is e b o n = absurd (no_goal s.in_body b o)
+flat h s (on.Is t l r) is e b o n = absurd (no_goal s.in_body b o)
+flat h s (on.Less l r) is e b o n = absurd (no_goal s.in_body b o)
+flat h s (on.Greater l r) is e b o n = absurd (no_goal s.in_body b o)
+flat h s (on.AtMost l r) is e b o n = absurd (no_goal s.in_body b o)
+flat h s (on.AtLeast l r) is e b o n = absurd (no_goal s.in_body b o)
+flat h s on.Cut is e b o n = absurd (no_goal s.in_body b o)
+flat h s (on.Sigma d t) is e b o n = absurd (no_goal s.in_body b o)
+flat h s (on.All d t) is e b o n = absurd (no_goal s.in_body b o)
+flat h s on.EndAll is e b o n = absurd (no_end s is on.EndAll e refl n)
+flat h s (on.Assume ns ts rs) is e b o n = absurd (no_goal s.in_body b o)
+flat h s on.EndAssume is e b o n = absurd (no_end s is on.EndAssume e refl n)
+flat h s (on.Either m) is e b o n = absurd (no_goal s.in_body b o)
+flat h s (on.Jump m) is e b o n =
+    absurd (let z : true ≡ false = sym (ap (λ fs. not (is_left_end (s.place + 5) (innermost_block fs))) e) ∙ or_false_left (not (is_left_end (s.place + 5) (innermost_block s.frames))) (not (begins_behind m is)) n in cc)
+flat h s on.Proceed is e b o n = record { terms = refl; arguments = refl; frames = refl }
+flat h s on.Not is e b o n = absurd (no_goal s.in_body b o)
+flat h s on.EndNot is e b o n = absurd (no_end s is on.EndNot e refl n)
+
+pub head_step : (h : Home) (s : State) (i : Instr) (is : List Instr) → s.frames ≡ [] → s.in_body ≡ false → breaks_order s i ≡ false → breaks_nesting s is i ≡ false → HeadStep h s i
+head_step h s i is e b o n = subst (λ (t : State). HeadStep h t i) (sym same) (flat h s i is e b o n)
+  where
+    same : s ≡ without_frames s
+    same = λ j. record s { frames = e j }

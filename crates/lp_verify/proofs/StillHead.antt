@@ -57,7 +57,7 @@ module _ (r : ℕ) (o : Option Built) where
   other_set (x ∷ xs) (suc d) ℕ.zero b e = refl
   other_set (x ∷ xs) (suc d) (suc n) b e = other_set xs d n b (λ q. e (ap (λ n. suc n) q))
 
-  set_elsewhere : (ds : List ℕ) (b : Built) (xs : List (Option Built)) → member r ds ≡ false → held (set_all xs ds b) r ≡ held xs r
+  pub set_elsewhere : (ds : List ℕ) (b : Built) (xs : List (Option Built)) → member r ds ≡ false → held (set_all xs ds b) r ≡ held xs r
   set_elsewhere [] b xs e = refl
   set_elsewhere (d ∷ ds) b xs e = set_elsewhere ds b (slice_set xs d (Some b)) (or_false_right (nat_eq r d) (member r ds) e) ∙ ap option_flatten (other_set xs d r (Some b) (eqb-false r d (or_false_left (nat_eq r d) (member r ds) e)))
 
@@ -94,7 +94,7 @@ not_set f (d ∷ ds) r e h = by_test (nat_eq r d) refl (not_set f ds r (or_false
     by_test false q go = go
 
 -- a record makes the type variables that its instructions make
-made_there : (sets : Instr → List ℕ) (run : List Instr) (i : Instr) (is : List Instr) (d : ℕ) → member d (sets i) ≡ true → is_made sets (run ++ i ∷ is) d ≡ true
+pub made_there : (sets : Instr → List ℕ) (run : List Instr) (i : Instr) (is : List Instr) (d : ℕ) → member d (sets i) ≡ true → is_made sets (run ++ i ∷ is) d ≡ true
 made_there sets [] i is d e = ap (λ b. if b then true else is_made sets is d) e
 made_there sets (j ∷ run) i is d e = by_test (member d (sets j)) (made_there sets run i is d e)
   where

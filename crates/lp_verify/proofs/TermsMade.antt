@@ -6,7 +6,7 @@ use Rattle.std.specs.List.{list_any}
 use Rattle.std.proofs.lemmas.Bool.{ne_eqb, eq-eqb}
 use Rattle.lp_lemmas.proofs.Booleans.{or_false_left, or_false_right}
 use Rattle.lp_calculus.specs.Types.{Ty, var, param, con, arrow}
-use Rattle.lp_calculus.specs.Term.{Term}
+use Rattle.lp_calculus.specs.Term.{Term, app, apply}
 use Rattle.lp_calculus.specs.Typing.{o_type}
 use Rattle.lp_term.specs.declared.node.TypeId.{TypeId}
 use Rattle.lp_code.specs.declared.instruction.Instr.{Instr}
@@ -14,7 +14,7 @@ use Rattle.lp_code.specs.declared.instruction.Instr.TheVariants as on
 use Rattle.lp_code.specs.Operands.{types_read, terms_read}
 use Rattle.lp_code.specs.Rules.{has_none, has_type, is_argument, built_types, applies, breaks_type}
 use Rattle.lp_code.specs.Steps.{constant_type, built_of, head_built, argument_at}
-use Rattle.lp_code.specs.Symbolic.{Built, held, whole, type_in, types_in, term_in, terms_in, outer, innermost, agree, agree_at, all_agree, equal_types, applied_type, argument_type, result_type, abstraction_of, application_of, all_joined, joined}
+use Rattle.lp_code.specs.Symbolic.{Built, held, whole, type_in, types_in, term_in, terms_in, outer, innermost, agree, agree_at, all_agree, equal_types, applied_type, argument_type, result_type, abstraction_of, application_of, plain_terms, all_joined, joined}
 use Rattle.lp_code.specs.States.{State, Home}
 use Rattle.lp_verify.specs.declared.built.Built as kept_built
 use Rattle.lp_verify.specs.declared.built.Head.{Head}
@@ -31,7 +31,7 @@ use Rattle.lp_verify.specs.Held.{value_in, is_lacking}
 use Rattle.lp_verify.specs.inner.Stack.{Agree}
 use Rattle.lp_verify.specs.inner.FirstNumbers.{IsType, AreTypes, TypesGrow, UsesAre, UsesStay, HasBasics, IsArrowAs}
 use Rattle.lp_verify.specs.inner.Indices.{entries_in, Store, store, StoreGrows, StandFor, AreJoined}
-use Rattle.lp_verify.specs.inner.Handed.{SameType, SameTerm, IsSame, Alike, no_loose, bare_built, closed_built}
+use Rattle.lp_verify.specs.inner.Handed.{variable_of, variable_in, SameType, SameTerm, IsSame, Alike, no_loose, bare_built, closed_built}
 use Rattle.lp_code.specs.declared.record.RecordHead.{RecordHead}
 use Rattle.lp_code.specs.declared.record.RecordHead.TheVariants.{Const, Register}
 use Rattle.lp_verify.specs.inner.Known.{given_in, IsNoConstant, IsHead, Knows}
@@ -46,8 +46,8 @@ use Rattle.lp_verify.proofs.Instructions.{no_term_typed}
 use Rattle.lp_verify.proofs.UsedConstants.{types_stay, basics_stay}
 
 -- a term without loose indices
-pub bare_same : (l : Store) (T : TypeId) (h : Head) (b : Built) → b.loose ≡ [] → IsType l.types T b.type → SameTerm l (bare_built T h) b
-bare_same l T h b e t = (nothing_loose l no_loose b.loose e refl, t)
+pub bare_same : (l : Store) (T : TypeId) (h : Head) (b : Built) → b.loose ≡ [] → IsType l.types T b.type → variable_in h ≡ variable_of b.term → SameTerm l (bare_built T h) b
+bare_same l T h b e t v = (nothing_loose l no_loose b.loose e refl, t, v)
 
 -- what stands in a register
 pub type_same : (l : Store) (rs : kept_registers.Registers TypeId) (s : State) (r : ℕ) (T : TypeId) → IsType l.types T o_type → IsSame (SameType l) rs s.now.types → IsType l.types (unwrap_or (value_in rs r) T) (type_in s.now r)
@@ -63,7 +63,7 @@ pub term_same : (l : Store) (rs : kept_registers.Registers kept_built.Built) (s 
 term_same l rs s r T t same = by_value (value_in rs r) (held s.now.terms r) (same r)
   where
     by_value : (o : Option kept_built.Built) (p : Option Built) → Agree (SameTerm l) o p → SameTerm l (unwrap_or o (closed_built T)) (unwrap_or p nothing_built)
-    by_value None None a = bare_same l T head.Other nothing_built refl t
+    by_value None None a = bare_same l T head.Other nothing_built refl t refl
     by_value (Some t) None a = absurd a
     by_value None (Some b) a = absurd a
     by_value (Some t) (Some b) a = a
@@ -221,8 +221,8 @@ pub built_makes : (m : Store) (p : Bool) (b : Built) (t : kept_built.Built) → 
 built_makes m p b t e h = subst (λ p. MakesTerm m p b (typed.Built t)) (sym e) h
 
 -- an abstraction
-pub abstraction_same : (x y : Types) (l : Lists) (b t : kept_built.Built) (B : Built) (T : Ty) → TypesGrow x y → SameTerm (store x l) b B → ((ts : List (Option Ty)) → StandFor (store x l) b.loose ts → StandFor (store x l) t.loose (outer ts)) → IsType y t.of (arrow T B.type) → SameTerm (store y l) t (abstraction_of B T)
-abstraction_same x y l b t B T g h out of = (stands_later (store x l) (store y l) t.loose (outer B.loose) (grows_same l, g) (out B.loose h.0), of)
+pub abstraction_same : (x y : Types) (l : Lists) (b t : kept_built.Built) (B : Built) (T : Ty) → TypesGrow x y → SameTerm (store x l) b B → ((ts : List (Option Ty)) → StandFor (store x l) b.loose ts → StandFor (store x l) t.loose (outer ts)) → IsType y t.of (arrow T B.type) → variable_in t.head ≡ None → SameTerm (store y l) t (abstraction_of B T)
+abstraction_same x y l b t B T g h out of none = (stands_later (store x l) (store y l) t.loose (outer B.loose) (grows_same l, g) (out B.loose h.0), of, none)
 
 -- others are joined, one behind the other
 abbrev pub IsJoinedSoFar : Store → Loose → ℕ → List (Option Ty) → List Built → Type 0
@@ -298,15 +298,19 @@ no_arguments l ts f [] a e = refl
 no_arguments l [] f (b ∷ bs) a e = absurd (a 0)
 no_arguments l (t ∷ ts) f (b ∷ bs) a e = absurd (let z : false ≡ true = sym (ne_eqb (suc (length ts)) 0 (λ q. omega (arith, q))) ∙ e in cc)
 
+no_variable : (t u : Term) (us : List Term) → variable_of (apply t (u ∷ us)) ≡ None
+no_variable t u [] = refl
+no_variable t u (v ∷ us) = no_variable (app t u) v us
+
 pub application_same : (l m : Store) (ts : List kept_built.Built) (f : Built) (bs : List Built) (o : Option TypeId) (p : Option Loose) (t : kept_built.Built) → Alike (SameTerm l) ts bs → nat_eq (length ts) 0 ≡ false → o ≡ Some t.of → p ≡ Some t.loose → Agree (IsType m.types) o (applied_type f.type (built_types bs))
-    → AreAllJoined m f.loose bs p → MakesTerm m (not (applies f bs)) (application_of f bs) (typed.Built t)
-application_same l m [] f [] o p t a e x y g h = absurd (cc)
-application_same l m [] f (b ∷ bs) o p t a e x y g h = absurd (cc)
-application_same l m (u ∷ ts) f [] o p t a e x y g h = absurd (a 0)
-application_same l m (u ∷ ts) f (b ∷ bs) o p t a e x y g h =
+    → AreAllJoined m f.loose bs p → variable_in t.head ≡ None → MakesTerm m (not (applies f bs)) (application_of f bs) (typed.Built t)
+application_same l m [] f [] o p t a e x y g h none = absurd (cc)
+application_same l m [] f (b ∷ bs) o p t a e x y g h none = absurd (cc)
+application_same l m (u ∷ ts) f [] o p t a e x y g h none = absurd (a 0)
+application_same l m (u ∷ ts) f (b ∷ bs) o p t a e x y g h none =
     let q = some_typed m.types o t.of (applied_type f.type (built_types (b ∷ bs))) x g in
     let j : (all_agree f.loose (b ∷ bs) ≡ true) × StandFor m t.loose (all_joined f.loose (b ∷ bs)) = subst (AreAllJoined m f.loose (b ∷ bs)) y h in
-    built_makes m (not (applies f (b ∷ bs))) (application_of f (b ∷ bs)) t (λ i. not (q.0 i && j.0 i)) (j.1, q.1)
+    built_makes m (not (applies f (b ∷ bs))) (application_of f (b ∷ bs)) t (λ i. not (q.0 i && j.0 i)) (j.1, q.1, none ∙ sym (no_variable f.term b.term (plain_terms bs)))
 
 -- goals
 pub both_typed : (x : Types) (t u f : TypeId) (T U F : Ty) → IsType x t T → IsType x u U → IsType x f F → (nat_eq t.0 f.0 && nat_eq u.0 f.0) ≡ (equal_types T F && (equal_types U F && true))
@@ -330,12 +334,12 @@ fine_makes m p q b t e h = subst (λ p. MakesTerm m (not p) b t) e h
 pub head_argument : (x : Types) (w : Work) (h : Home) (s : State) (i : ℕ) (o : Option TypeId) → IsHead x w.head h s → ((T : Ty) → IsType x w.head.whole T → IsType x w.head.left (result_type T w.head.arguments) → Agree (IsType x) o (argument_type T i)) → Agree (IsType x) o (argument_type (head_built h s).type i)
 head_argument x w h s i o k f = let T = (head_built h s).type in f T k.whole (subst (λ n. IsType x w.head.left (result_type T n)) (sym k.arguments) k.left)
 
-pub argument_made : (x : Types) (l : Lists) (w : Work) (h : Home) (s : State) (i : ℕ) (o : Option TypeId) (t : TypeId) (e : Term) (hd : Head) → Agree (IsType x) o (argument_type (head_built h s).type i) → o ≡ Some t → MakesTerm (store x l) (is_none (argument_type (head_built h s).type i)) (whole e (argument_at h s i)) (typed.Built (bare_built t hd))
-argument_made x l w h s i o t e hd a is = by_type (argument_type (head_built h s).type i) (subst (λ o. Agree (IsType x) o (argument_type (head_built h s).type i)) is a)
+pub argument_made : (x : Types) (l : Lists) (w : Work) (h : Home) (s : State) (i : ℕ) (o : Option TypeId) (t : TypeId) (e : Term) (hd : Head) → variable_in hd ≡ variable_of e → Agree (IsType x) o (argument_type (head_built h s).type i) → o ≡ Some t → MakesTerm (store x l) (is_none (argument_type (head_built h s).type i)) (whole e (argument_at h s i)) (typed.Built (bare_built t hd))
+argument_made x l w h s i o t e hd same a is = by_type (argument_type (head_built h s).type i) (subst (λ o. Agree (IsType x) o (argument_type (head_built h s).type i)) is a)
   where
     by_type : (p : Option Ty) → Agree (IsType x) (Some t) p → MakesTerm (store x l) (is_none p) (whole e (unwrap_or p o_type)) (typed.Built (bare_built t hd))
     by_type None k = absurd k
-    by_type (Some T) k = bare_same (store x l) t hd (whole e T) refl k
+    by_type (Some T) k = bare_same (store x l) t hd (whole e T) refl k same
 
 pub no_argument : (x : Types) (l : Lists) (o : Option TypeId) (p : Option Ty) (b : Built) → Agree (IsType x) o p → o ≡ None → MakesTerm (store x l) (is_none p) b typed.Ill
 no_argument x l o p b a is = by_type p (subst (λ o. Agree (IsType x) o p) is a)
@@ -348,7 +352,7 @@ no_argument x l o p b a is = by_type p (subst (λ o. Agree (IsType x) o p) is a)
 put_term : (m : Store) (p : Bool) (t : Typed) (T : TypeId) (b : Built) → IsType m.types T o_type → is_ill t ≡ false → MakesTerm m p b t → SameTerm m (built_or t (closed_built T)) b
 put_term m true t T b o sound h = absurd (cc)
 put_term m false typed.Ill T b o sound h = absurd h
-put_term m false typed.Fine T b o sound h = bare_same m T head.Other b h.0 (subst (IsType m.types T) (sym h.1) o)
+put_term m false typed.Fine T b o sound h = bare_same m T head.Other b h.0 (subst (IsType m.types T) (sym h.1) o) (sym h.2)
 put_term m false (typed.Built t) T b o sound h = h
 
 -- what comes of the arms of an instruction
@@ -378,23 +382,24 @@ read_in w ds es e h = ap (list_any (is_lacking w.types)) e ∙ h
 constant_known : (x y : Types) (l : Lists) (w : Work) (h : Home) (s : State) (c : ℕ) (ds es : List ℕ) (of : TypeId) → ds ≡ es → TellsConstant x y w c ds of → Knows (store x l) w h s → list_any (is_lacking w.types) es ≡ false → IsType y of (constant_type h.tables c (types_in s.now es)) × UsesAre h.tables y
 constant_known x y l w h s c ds es of e m k set = subst (λ ds. IsType y of (constant_type h.tables c (types_in s.now ds)) × UsesAre h.tables y) e (m l h s k (read_in w ds es e set))
 
-pub constant_by : (x y : Types) (l : Lists) (w : Work) (i : Instr) (d c : ℕ) (v : Vec ℕ Global) (ds : List ℕ) (t : kept_built.Built) (of : TypeId) (hd : Head) → i ≡ on.PutConst d c v → ds ≡ v.items → t ≡ bare_built of hd → TellsConstant x y w c ds of → IsMadeBy (store x l) (store y l) w i (typed.Built t)
-constant_by x y l w i d c v ds t of hd e n q m =
+pub constant_by : (x y : Types) (l : Lists) (w : Work) (i : Instr) (d c : ℕ) (v : Vec ℕ Global) (ds : List ℕ) (t : kept_built.Built) (of : TypeId) → i ≡ on.PutConst d c v → ds ≡ v.items → t ≡ bare_built of head.Other → TellsConstant x y w c ds of → IsMadeBy (store x l) (store y l) w i (typed.Built t)
+constant_by x y l w i d c v ds t of e n q m =
     made_at (store x l) (store y l) w i (on.PutConst d c v) (typed.Built t) e
-    (λ h s k set. let a = constant_known x y l w h s c ds v.items of n m k (read_types w (on.PutConst d c v) set) in (a.1, subst (λ t. SameTerm (store y l) t (term_made h s (on.PutConst d c v))) (sym q) (bare_same (store y l) of hd (term_made h s (on.PutConst d c v)) refl a.0)))
+    (λ h s k set. let a = constant_known x y l w h s c ds v.items of n m k (read_types w (on.PutConst d c v) set) in (a.1, subst (λ t. SameTerm (store y l) t (term_made h s (on.PutConst d c v))) (sym q) (bare_same (store y l) of head.Other (term_made h s (on.PutConst d c v)) refl a.0 refl)))
 
-pub integer_by : (x : Types) (l : Lists) (w : Work) (i : Instr) (d : ℕ) (z : ℤ) (t : kept_built.Built) (hd : Head) → i ≡ on.PutInt d z → t ≡ bare_built x.integer hd → IsMadeBy (store x l) (store x l) w i (typed.Built t)
-integer_by x l w i d z t hd e q =
-    made_at (store x l) (store x l) w i (on.PutInt d z) (typed.Built t) e (λ h s k set. (k.of_head.constants.uses, subst (λ t. SameTerm (store x l) t (term_made h s (on.PutInt d z))) (sym q) (bare_same (store x l) x.integer hd (term_made h s (on.PutInt d z)) refl k.of_head.constants.basics.integer)))
+pub integer_by : (x : Types) (l : Lists) (w : Work) (i : Instr) (d : ℕ) (z : ℤ) (t : kept_built.Built) → i ≡ on.PutInt d z → t ≡ bare_built x.integer head.Other → IsMadeBy (store x l) (store x l) w i (typed.Built t)
+integer_by x l w i d z t e q =
+    made_at (store x l) (store x l) w i (on.PutInt d z) (typed.Built t) e (λ h s k set. (k.of_head.constants.uses, subst (λ t. SameTerm (store x l) t (term_made h s (on.PutInt d z))) (sym q) (bare_same (store x l) x.integer head.Other (term_made h s (on.PutInt d z)) refl k.of_head.constants.basics.integer refl)))
 
-pub text_by : (x : Types) (l : Lists) (w : Work) (i : Instr) (d : ℕ) (b : Vec ℕ Global) (t : kept_built.Built) (hd : Head) → i ≡ on.PutStr d b → t ≡ bare_built x.text hd → IsMadeBy (store x l) (store x l) w i (typed.Built t)
-text_by x l w i d b t hd e q =
-    made_at (store x l) (store x l) w i (on.PutStr d b) (typed.Built t) e (λ h s k set. (k.of_head.constants.uses, subst (λ t. SameTerm (store x l) t (term_made h s (on.PutStr d b))) (sym q) (bare_same (store x l) x.text hd (term_made h s (on.PutStr d b)) refl k.of_head.constants.basics.text)))
+pub text_by : (x : Types) (l : Lists) (w : Work) (i : Instr) (d : ℕ) (b : Vec ℕ Global) (t : kept_built.Built) → i ≡ on.PutStr d b → t ≡ bare_built x.text head.Other → IsMadeBy (store x l) (store x l) w i (typed.Built t)
+text_by x l w i d b t e q =
+    made_at (store x l) (store x l) w i (on.PutStr d b) (typed.Built t) e (λ h s k set. (k.of_head.constants.uses, subst (λ t. SameTerm (store x l) t (term_made h s (on.PutStr d b))) (sym q) (bare_same (store x l) x.text head.Other (term_made h s (on.PutStr d b)) refl k.of_head.constants.basics.text refl)))
 
 -- the head, when types are put
 pub head_later : (x y : Types) (p : HeadSoFar) (h : Home) (s : State) → TypesGrow x y → IsHead x p h s → IsHead y p h s
 head_later x y p h s g k = record {
   predicate = k.predicate;
+  count = k.count;
   types = types_stay x y p.types.items s.head_types g k.types;
   arguments = k.arguments;
   whole = g.stay p.whole (head_built h s).type k.whole;
@@ -402,10 +407,10 @@ head_later x y p h s g k = record {
 }
 
 pub got_constant_by : (x y : Types) (l : Lists) (w : Work) (i : Instr) (n c : ℕ) (v : Vec ℕ Global) (ds : List ℕ) (of : TypeId) (t : Typed) → i ≡ on.GetConst n c v → ds ≡ v.items → TypesGrow x y → TellsConstant x y w c ds of
-    → ((l : Lists) (h : Home) (s : State) (T : Ty) (b : Built) → IsHead y w.head h s → IsType y of T → b.loose ≡ [] → b.type ≡ o_type → MakesTerm (store y l) (not (is_argument h s n T)) b t) → IsMadeBy (store x l) (store y l) w i t
+    → ((l : Lists) (h : Home) (s : State) (T : Ty) (b : Built) → IsHead y w.head h s → IsType y of T → b.loose ≡ [] → b.type ≡ o_type → variable_of b.term ≡ None → MakesTerm (store y l) (not (is_argument h s n T)) b t) → IsMadeBy (store x l) (store y l) w i t
 got_constant_by x y l w i n c v ds of t e same g m a =
     made_at (store x l) (store y l) w i (on.GetConst n c v) t e
-    (λ h s k set. let q = constant_known x y l w h s c ds v.items of same m k (read_types w (on.GetConst n c v) set) in (q.1, a l h s (constant_type h.tables c (types_in s.now v.items)) nothing_built (head_later x y w.head h s g k.of_head.head) q.0 refl refl))
+    (λ h s k set. let q = constant_known x y l w h s c ds v.items of same m k (read_types w (on.GetConst n c v) set) in (q.1, a l h s (constant_type h.tables c (types_in s.now v.items)) nothing_built (head_later x y w.head h s g k.of_head.head) q.0 refl refl refl))
 
 agree_later : (l m : Store) (o : Option kept_built.Built) (p : Option Built) → StoreGrows l m → Agree (SameTerm l) o p → Agree (SameTerm m) o p
 agree_later l m None None g a = tt
@@ -414,14 +419,14 @@ agree_later l m None (Some b) g a = absurd a
 agree_later l m (Some t) (Some b) g a = same_later l m t b g a
 
 pub call_by : (x y : Types) (l : Lists) (w : Work) (i : Instr) (c : ℕ) (v u : Vec ℕ Global) (ds es : List ℕ) (of : TypeId) (t : Typed) → i ≡ on.Call c v u → ds ≡ v.items → es ≡ u.items → TypesGrow x y → TellsConstant x y w c ds of
-    → ((l : Lists) (h : Home) (s : State) (T : Ty) (b : Built) → IsSame (SameTerm (store y l)) w.terms s.now.terms → HasBasics y → list_any (is_lacking w.terms) es ≡ false → IsType y of T → b.loose ≡ [] → b.type ≡ o_type → MakesTerm (store y l) (not (has_type (applied_type T (built_types (terms_in s.now es))) o_type)) b t)
+    → ((l : Lists) (h : Home) (s : State) (T : Ty) (b : Built) → IsSame (SameTerm (store y l)) w.terms s.now.terms → HasBasics y → list_any (is_lacking w.terms) es ≡ false → IsType y of T → b.loose ≡ [] → b.type ≡ o_type → variable_of b.term ≡ None → MakesTerm (store y l) (not (has_type (applied_type T (built_types (terms_in s.now es))) o_type)) b t)
     → IsMadeBy (store x l) (store y l) w i t
 call_by x y l w i c v u ds es of t e same_types same_terms g m a =
     made_at (store x l) (store y l) w i (on.Call c v u) t e
     (λ h s k set.
     let q = constant_known x y l w h s c ds v.items of same_types m k (read_types w (on.Call c v u) set) in
     let T = constant_type h.tables c (types_in s.now v.items) in
-    let r = a l h s T nothing_built (λ n. agree_later (store x l) (store y l) (value_in w.terms n) (held s.now.terms n) (grows_same l, g) (k.terms n)) (basics_stay x y g k.of_head.constants.basics) (ap (list_any (is_lacking w.terms)) same_terms ∙ read_terms w (on.Call c v u) set) q.0 refl refl in
+    let r = a l h s T nothing_built (λ n. agree_later (store x l) (store y l) (value_in w.terms n) (held s.now.terms n) (grows_same l, g) (k.terms n)) (basics_stay x y g k.of_head.constants.basics) (ap (list_any (is_lacking w.terms)) same_terms ∙ read_terms w (on.Call c v u) set) q.0 refl refl refl in
     (q.1, subst (λ es. MakesTerm (store y l) (not (has_type (applied_type T (built_types (terms_in s.now es))) o_type)) nothing_built t) same_terms r))
 
 pub abs_by : {E : Type 0} (x y : Types) (l : Lists) (w : Work) (i : Instr) (d b u : ℕ) (r : Result Typed E) → i ≡ on.PutAbs d b u → OnOk r (TypesGrow x y × UsesStay x y)
@@ -443,10 +448,12 @@ put_by l m w i t T o j = λ h s k set. put_term m (breaks_type h s i) t T (term_
 pub knows_later : (l m : Store) (w : Work) (h : Home) (s : State) → StoreGrows l m → UsesAre h.tables m.types → Knows l w h s → Knows m w h s
 knows_later l m w h s g uses k = record {
   of_head = record {
+    number = k.of_head.number;
     constants = record { tables = k.of_head.constants.tables; language = k.of_head.constants.language; basics = basics_stay l.types m.types g.1 k.of_head.constants.basics; uses = uses };
     own = k.of_head.own;
     head = head_later l.types m.types w.head h s g.1 k.of_head.head;
   };
+  taken = k.taken;
   types = λ r. type_later l m (value_in w.types r) (held s.now.types r) g (k.types r);
   terms = λ r. agree_later l m (value_in w.terms r) (held s.now.terms r) g (k.terms r);
 }
@@ -514,7 +521,7 @@ taken_known l w h s on.EndNot u T k e f = absurd (cc)
 pub fine_by : (m : Store) (w : Work) (i : Instr) → is_goal_typed i ≡ false → is_argument_typed i ≡ false → ((d t : ℕ) → i ≡ on.New d t → ⊥) → ((d c : ℕ) (v : Vec ℕ Global) → i ≡ on.PutConst d c v → ⊥) → ((d : ℕ) (z : ℤ) → i ≡ on.PutInt d z → ⊥) → ((d : ℕ) (b : Vec ℕ Global) → i ≡ on.PutStr d b → ⊥) → ((d x t : ℕ) → i ≡ on.PutIndex d x t → ⊥) → ((d b t : ℕ) → i ≡ on.PutAbs d b t → ⊥) → ((d f : ℕ) (v : Vec ℕ Global) → i ≡ on.PutApp d f v → ⊥) → ((d t : ℕ) → i ≡ on.Sigma d t → ⊥) → ((d t : ℕ) → i ≡ on.All d t → ⊥) → IsMadeBy m m w i typed.Fine
 fine_by m w i g a n0 n1 n2 n3 n4 n5 n6 n7 n8 = λ h s k set.
     let n = no_term_typed i g a n0 n1 n2 n3 n4 n5 n6 n7 n8 in
-    (k.of_head.constants.uses, subst (λ b. MakesTerm m b (term_made h s i) typed.Fine) (sym (n.0 h s)) (subst (λ b. MakesTerm m false b typed.Fine) (sym (n.1 h s)) (refl, refl)))
+    (k.of_head.constants.uses, subst (λ b. MakesTerm m b (term_made h s i) typed.Fine) (sym (n.0 h s)) (subst (λ b. MakesTerm m false b typed.Fine) (sym (n.1 h s)) (refl, refl, refl)))
 
 -- what is told where nothing was found, and where something was
 pub matched_some : {A : Type 0} (P : Type 0) (Q : A → Type 0) (o : Option A) (r : A) → o ≡ Some r → MatchOption o P Q → Q r

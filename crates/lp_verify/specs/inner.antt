@@ -11,3 +11,6 @@ pub mod FirstNumbers
 pub mod Language
 pub mod Known
 pub mod Reads
+pub mod Taken
+pub mod Low
+pub mod Alls

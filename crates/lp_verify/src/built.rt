@@ -1,70 +1,36 @@
 // What is looked at in a term that stands in a register.
 ghost use Rattle.std.specs.Prelude.{◌≡◌};
-ghost use Rattle.lp_verify.specs.inner.Handed.{handed_head, handed_built, bare_built};
+ghost use Rattle.lp_verify.specs.inner.Handed.{bare_built};
 
 use crate::loose::Loose;
-use lp_code::KeyRef;
 use lp_term::TypeId;
 
-// What a term is at its head, as far as a rule asks.
+// What a term is, as far as a rule asks.
 #[derive(Clone, Copy)]
-pub(crate) enum Head<'a> {
-    // A constant, an integer or a text, alone or applied.
-    Key(KeyRef<'a>),
-    // A variable that the record itself makes in its head.
-    Own,
-    // The variable of an ALL.
-    Bound,
+pub(crate) enum Head {
+    // The variable that was made in this register of the record of this number.
+    Variable(u16, u32),
     // Something else.
     Other,
 }
 
-// A term's type, by its first number, its loose indices and its head.
+// A term's type, by its first number, its loose indices and what it is.
 #[derive(Clone, Copy)]
-pub(crate) struct Built<'a> {
+pub(crate) struct Built {
     pub(crate) of: TypeId,
     pub(crate) loose: Loose,
-    pub(crate) head: Head<'a>,
+    pub(crate) head: Head,
 }
 
-// The head of a term in the record that it is handed to.
-fn handed_head<'a>(head: Head<'a>) -> Head<'a>
-    ensures { result ≡ handed_head head.entry }
-{
-    match head {
-        Head::Own => Head::Other,
-        _ => head,
-    }
-}
-
-impl<'a> Built<'a> {
+impl Built {
     // A term without loose indices.
-    pub(crate) fn closed(of: TypeId, head: Head<'a>) -> Built<'a>
-        ensures { result ≡ bare_built of head.entry }
+    pub(crate) fn closed(of: TypeId, head: Head) -> Built
+        ensures { result ≡ bare_built of head }
     {
         Built {
             of,
             loose: Loose::NONE,
             head,
-        }
-    }
-
-    // The term in the record that it is handed to, where it is no variable of its own.
-    pub(crate) fn handed(self) -> Built<'a>
-        ensures { result ≡ handed_built self.entry }
-    {
-        Built {
-            of: self.of,
-            loose: self.loose,
-            head: handed_head(self.head),
-        }
-    }
-
-    // The head of the term on arguments.
-    pub(crate) fn applied_head(self) -> Head<'a> {
-        match self.head {
-            Head::Key(key) => Head::Key(key),
-            _ => Head::Other,
         }
     }
 }

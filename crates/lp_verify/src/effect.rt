@@ -1,10 +1,10 @@
 // What an instruction that breaks no rule does.
 
-ghost use Rattle.std.specs.Prelude.{◌≡◌, ◌<◌, ◌^◌, ◌∷◌, map, reverse, IfOk, OnOk};
+ghost use Rattle.std.specs.Prelude.{◌≡◌, ◌<◌, ◌^◌, ◌∷◌, reverse, IfOk, OnOk};
 ghost use Rattle.lp_verify.specs.inner.Sides.{sides_in, sides_run, sides_settled, around, AreEnds};
 ghost use Rattle.lp_verify.specs.inner.Stack.{type_heights, term_heights, opens, leaves, turns_over, turning, IsTurned, IsSettled};
 ghost use Rattle.lp_verify.specs.inner.Outline.{body_behind};
-ghost use Rattle.lp_verify.specs.inner.Handed.{assumption_of, handed_built, closed_built, IsHanded, IsHandedOn};
+ghost use Rattle.lp_verify.specs.inner.Handed.{assumption_of, closed_built, IsHanded, IsHandedOn};
 ghost use Rattle.lp_verify.specs.inner.Made.{type_made, built_or};
 ghost use Rattle.lp_verify.specs.inner.At.{IsActed, IsTypedBy, kept_in};
 ghost use Rattle.std.specs.Prelude.{true, false};
@@ -35,7 +35,7 @@ fn open(
     blocks: &mut Blocks,
     block: Block,
     types: &Registers<TypeId>,
-    terms: &Registers<Built<'_>>,
+    terms: &Registers<Built>,
 ) -> Result<(), Memory>
     ensures sides { OnOk result (sides_in blocks.new.frames.items ≡ block ∷ sides_in blocks.old.frames.items) }
     ensures ends { OnOk result (AreEnds (reverse blocks.old.frames.items) → AreEnds (reverse blocks.new.frames.items)) }
@@ -46,7 +46,7 @@ fn open(
 }
 
 // Ends the innermost block: what it set is unset.
-fn close(blocks: &mut Blocks, types: &mut Registers<TypeId>, terms: &mut Registers<Built<'_>>)
+fn close(blocks: &mut Blocks, types: &mut Registers<TypeId>, terms: &mut Registers<Built>)
     ensures sides { sides_in blocks.new.frames.items ≡ around (sides_in blocks.old.frames.items) }
     ensures ends { AreEnds (reverse blocks.old.frames.items) → AreEnds (reverse blocks.new.frames.items) }
     ensures types { IsTurned leaves (type_heights (reverse blocks.old.frames.items)) types.old (type_heights (reverse blocks.new.frames.items)) types.new }
@@ -65,7 +65,7 @@ fn close(blocks: &mut Blocks, types: &mut Registers<TypeId>, terms: &mut Registe
 pub(crate) fn settle(
     blocks: &mut Blocks,
     types: &mut Registers<TypeId>,
-    terms: &mut Registers<Built<'_>>,
+    terms: &mut Registers<Built>,
     place: u64,
 )
     ensures sides { sides_in blocks.new.frames.items ≡ sides_settled place (sides_in blocks.old.frames.items) }
@@ -83,7 +83,7 @@ fn turn_over(
     blocks: &mut Blocks,
     block: Block,
     types: &mut Registers<TypeId>,
-    terms: &mut Registers<Built<'_>>,
+    terms: &mut Registers<Built>,
 ) -> Result<(), Memory>
     ensures sides { OnOk result (sides_in blocks.new.frames.items ≡ block ∷ around (sides_in blocks.old.frames.items)) }
     ensures ends { OnOk result (AreEnds (reverse blocks.old.frames.items) → AreEnds (reverse blocks.new.frames.items)) }
@@ -98,7 +98,7 @@ fn turn_over(
 fn turn(
     blocks: &mut Blocks,
     types: &mut Registers<TypeId>,
-    terms: &mut Registers<Built<'_>>,
+    terms: &mut Registers<Built>,
     place: u64,
     instr: &Instr,
 ) -> Result<(), Memory>
@@ -129,24 +129,13 @@ fn turn(
 }
 
 // Whether the body has begun behind the instruction.
-fn is_behind_neck(in_body: bool, instr: &Instr) -> bool
+pub(crate) fn is_behind_neck(in_body: bool, instr: &Instr) -> bool
     ensures { result ≡ body_behind instr.now in_body }
 {
     match instr {
         Instr::Neck => true,
         _ => in_body,
     }
-}
-
-// The terms as they are in the record that they are handed to.
-fn all_handed<'a>(alloc: Global, terms: &[Built<'a>]) -> Result<Vec<Built<'a>>, Memory>
-    ensures { IfOk result (λ handed. handed.items ≡ map handed_built terms.now) }
-{
-    let mut handed = Vec::new(alloc);
-    for term in terms {
-        handed.push(term.handed())?;
-    }
-    Ok(handed)
 }
 
 impl<'a> Work<'a> {
@@ -180,7 +169,7 @@ impl<'a> Work<'a> {
     fn hand(
         &self,
         alloc: Global,
-        handed: &mut Vec<Captured<'a>>,
+        handed: &mut Vec<Captured>,
         types: &[u16],
         terms: &[u16],
     ) -> Result<(), Memory>
@@ -188,7 +177,6 @@ impl<'a> Work<'a> {
     {
         let types = self.types.all(alloc, types)?;
         let terms = self.terms.all(alloc, terms)?;
-        let terms = all_handed(alloc, terms.as_slice())?;
         handed.push(Captured { types, terms })?;
         Ok(())
     }
@@ -196,7 +184,7 @@ impl<'a> Work<'a> {
     fn hand_on(
         &self,
         alloc: Global,
-        handed: &mut Vec<Captured<'a>>,
+        handed: &mut Vec<Captured>,
         instr: &Instr,
     ) -> Result<(), Memory>
         ensures { OnOk result (IsHandedOn (assumption_of instr.now) self.now.types self.now.terms handed.old.items handed.new.items) }
@@ -212,11 +200,11 @@ impl<'a> Work<'a> {
     // Runs an instruction, of whose types this comes.
     pub(crate) fn act(
         &mut self,
-        shared: &mut Shared<'a>,
+        shared: &mut Shared,
         instr: &Instr,
-        typed: Typed<'a>,
+        typed: Typed,
     ) -> Result<(), Memory>
-        ensures acted { OnOk result ((u : TypeId) × IsActed instr.now u (built_or typed.entry (closed_built shared.new.types.proposition)) self.old self.new × IsTypedBy instr.now (kept_in shared.old) (kept_in shared.new) self.old self.new u) }
+        ensures acted { OnOk result ((u : TypeId) × IsActed instr.now u (built_or typed (closed_built shared.new.types.proposition)) self.old self.new × IsTypedBy instr.now (kept_in shared.old) (kept_in shared.new) self.old self.new u) }
         ensures grow { OnOk result (TypesGrow shared.old.types shared.new.types) }
         ensures handed { OnOk result (IsHandedOn (assumption_of instr.now) self.old.types self.old.terms shared.old.handed.items shared.new.handed.items) }
         ensures named { shared.new.named ≡ shared.old.named }

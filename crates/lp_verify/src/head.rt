@@ -1,18 +1,21 @@
 // The head of a record at work: its type arguments, and what type is left behind the arguments so far.
 
-ghost use Rattle.std.specs.Prelude.{◌≡◌, ◌+◌, ◌<◌, ◌^◌, ◌∷◌, [], ◌++◌, ℕ, suc, List, false, unwrap_or, IfOk, OnOk, length};
+ghost use Rattle.std.specs.Prelude.{◌≡◌, ◌+◌, ◌<◌, ◌^◌, ◌∷◌, [], ◌++◌, ◌&&◌, ℕ, suc, List, false, is_some, nat_eq, nat_lt, unwrap_or, IfOk, OnOk, length};
 ghost use Rattle.lp_code.specs.States.{State, Home};
 ghost use Rattle.lp_code.specs.Steps.{constant_type, head_built};
-ghost use Rattle.lp_code.specs.Rules.{breaks_order};
+ghost use Rattle.lp_calculus.specs.Typing.{o_type};
+ghost use Rattle.lp_code.specs.Rules.{head_count, breaks_order};
+ghost use Rattle.lp_verify.specs.Scheme.{tables_in};
 ghost use Rattle.lp_verify.specs.inner.Outline.{taken_by, types_behind, arguments_behind};
 ghost use Rattle.lp_verify.specs.inner.Known.{constant_in, IsNoConstant, KnowsTables, IsHead, TakesType, TakesArgument, FollowsHead};
 ghost use Rattle.lp_calculus.specs.Types.{Ty};
-ghost use Rattle.lp_code.specs.Symbolic.{argument_type, result_type};
+ghost use Rattle.lp_code.specs.Symbolic.{equal_types, argument_type, result_type};
 ghost use Rattle.lp_verify.specs.inner.Stack.{Agree};
-ghost use Rattle.lp_verify.specs.inner.FirstNumbers.{IsType, AreTypes, TypesGrow, UsesAre, IsLeftAt};
+ghost use Rattle.lp_verify.specs.inner.FirstNumbers.{IsType, AreTypes, HasBasics, TypesGrow, UsesAre, IsLeftAt};
 
 use crate::tables::Tables;
 use crate::types::Types;
+use crate::typing::both;
 use lp_base::Memory;
 use lp_code::{Instr, RecordHead};
 use lp_term::TypeId;
@@ -52,7 +55,9 @@ fn constant_of(predicate: Option<RecordHead>) -> Option<u32>
 }
 
 // How many type arguments the predicate has.
-fn count_of(tables: &Tables<'_>, predicate: Option<RecordHead>) -> usize {
+fn count_of(tables: &Tables<'_>, predicate: Option<RecordHead>) -> usize
+    ensures { (h : Home) → h.tables ≡ tables_in tables.now → predicate ≡ h.self.head → result ≡ head_count h }
+{
     match constant_of(predicate) {
         Some(constant) => match tables.type_vars(constant) {
             Some(count) => usize::from(count),
@@ -125,7 +130,9 @@ impl HeadSoFar {
         }
     }
 
-    pub(crate) fn is_there(&self) -> bool {
+    pub(crate) fn is_there(&self) -> bool
+        ensures { result ≡ is_some self.now.predicate }
+    {
         self.predicate.is_some()
     }
 
@@ -142,7 +149,9 @@ impl HeadSoFar {
     }
 
     // Whether the predicate has a type argument of this number.
-    pub(crate) fn has_type(&self, number: usize) -> bool {
+    pub(crate) fn has_type(&self, number: usize) -> bool
+        ensures { result ≡ nat_lt number self.now.count }
+    {
         number < self.count
     }
 
@@ -175,8 +184,13 @@ impl HeadSoFar {
     }
 
     // Whether all type arguments and all arguments are there.
-    pub(crate) fn is_complete(&self, types: &Types) -> bool {
-        self.types.len() == self.count && self.left == types.proposition
+    pub(crate) fn is_complete(&self, types: &Types) -> bool
+        ensures { (h : Home) (s : State) → HasBasics types.now → IsHead types.now self.now h s → result ≡ (nat_eq (length s.head_types) (head_count h) && equal_types (result_type (head_built h s).type (length s.head_arguments)) o_type) }
+    {
+        both(
+            self.type_count() == self.count,
+            self.left.0 == types.proposition.0,
+        )
     }
 
     fn add_type(&mut self, tables: &Tables<'_>, types: &mut Types, of: TypeId) -> Result<(), Memory>

@@ -5,6 +5,7 @@ ghost use Rattle.lp_verify.specs.Scheme.{tables_in, image_tables, object_tables}
 ghost use Rattle.lp_verify.specs.inner.Language.{HasLanguage};
 ghost use Rattle.lp_verify.specs.Judged.{AreShort, IsTold};
 
+use crate::alls::Alls;
 use crate::record::{Home, Shared, judge_record};
 use crate::refusal::VerifyRefusal;
 use crate::tables::Tables;
@@ -48,6 +49,7 @@ fn judge<'a>(
     ensures { AreShort records.now → IsTold (tables_in tables.now) records.now result }
 {
     let mut shared = Shared::new(alloc)?;
+    let mut alls = Alls::new(alloc);
     let mut number: u32 = 0;
     for record in records {
         let home = Home {
@@ -56,13 +58,14 @@ fn judge<'a>(
             number,
             record,
         };
-        if let Some((at, rule)) = judge_record(&mut shared, home)? {
+        if let Some((at, rule)) = judge_record(&mut shared, &alls, home)? {
             return Err(VerifyRefusal::Invalid {
                 clause: number,
                 at: as_offset(at),
                 rule,
             });
         }
+        alls.add(alloc, record.code.as_slice())?;
         number = number.saturating_add(1);
     }
     Ok(())

@@ -1,6 +1,8 @@
 //! The judging of code: an image whose code denotes clauses, or the first rule that its code breaks.
 #![tactic(auto)]
 
+// The registers that an ALL sets.
+mod alls;
 // The blocks of a record, and where its instructions stand.
 mod blocks;
 // What is looked at in a term.

@@ -15,20 +15,23 @@ ghost use Rattle.lp_code.specs.Steps.{is_made};
 ghost use Rattle.lp_code.specs.Symbolic.{Tables as Codes};
 ghost use Rattle.lp_code.specs.States.{State, member};
 ghost use Rattle.lp_code.specs.States as States;
-ghost use Rattle.lp_code.specs.Rules.{breaks_type};
+ghost use Rattle.lp_code.specs.Rules.{breaks_type, breaks_head};
 ghost use Rattle.lp_verify.specs.Scheme.{tables_in};
 ghost use Rattle.lp_verify.specs.inner.FirstNumbers.{TypesGrow};
 ghost use Rattle.lp_verify.specs.inner.Language.{HasLanguage};
 ghost use Rattle.lp_verify.specs.inner.Known.{type_made_in, AreAbove, AreNumbered, given_in, HasOwnTypes, KnowsHead, Knows};
 ghost use Rattle.lp_verify.specs.inner.Indices.{StoreGrows};
 ghost use Rattle.lp_verify.specs.inner.Handed.{SameTerm, IsSame, captured_in, types_captured, terms_captured};
-ghost use Rattle.lp_code.specs.Denote.{run_of, any_clause, first_state, captured_of, first_key, key_is, has_right_key};
+ghost use Rattle.lp_code.specs.Denote.{run, any_clause, first_state, captured_of, first_key, key_is, has_right_key};
 ghost use Rattle.lp_code.specs.Groups.{looked_key};
 ghost use Rattle.lp_verify.specs.inner.Keys.{IsKeyOf};
-ghost use Rattle.lp_verify.specs.Judged.{judged, bytes_of};
+ghost use Rattle.lp_verify.specs.Judged.{bytes_of};
+ghost use Rattle.lp_verify.specs.inner.Low.{HandedLow};
+ghost use Rattle.lp_verify.specs.inner.Alls.{AllsAre};
 ghost use Rattle.lp_verify.specs.inner.Told.{told, IsFirst};
 ghost use Rattle.lp_verify.specs.inner.At.{home_in, IsStarted, AreNamedBefore, HandedIn, KeepsTypes, kept_in, IsRan, IsStepped};
 
+use crate::alls::Alls;
 use crate::arguments::Takings;
 use crate::blocks::{Blocks, Places};
 use crate::built::Built;
@@ -48,18 +51,18 @@ use std::collections::BTreeMap;
 
 // What an ASSUME hands to its records.
 #[derive(Drop)]
-pub(crate) struct Captured<'a> {
+pub(crate) struct Captured {
     pub(crate) types: Vec<TypeId>,
-    pub(crate) terms: Vec<Built<'a>>,
+    pub(crate) terms: Vec<Built>,
 }
 
 // What all records share: types and loose indices, what was handed on, and by number which of it a record starts with.
 #[derive(Drop)]
-pub(crate) struct Shared<'a> {
+pub(crate) struct Shared {
     pub(crate) alloc: Global,
     pub(crate) types: Types,
     pub(crate) lists: Lists,
-    pub(crate) handed: Vec<Captured<'a>>,
+    pub(crate) handed: Vec<Captured>,
     pub(crate) named: BTreeMap<u32, usize>,
 }
 
@@ -84,15 +87,15 @@ pub(crate) struct Work<'a> {
     pub(crate) place: u64,
     pub(crate) number: usize,
     pub(crate) types: Registers<TypeId>,
-    pub(crate) terms: Registers<Built<'a>>,
+    pub(crate) terms: Registers<Built>,
     // Behind the head.
     pub(crate) in_body: bool,
     pub(crate) head: HeadSoFar,
     pub(crate) blocks: Blocks,
 }
 
-impl<'a> Shared<'a> {
-    pub(crate) fn new(alloc: Global) -> Result<Shared<'a>, Memory>
+impl Shared {
+    pub(crate) fn new(alloc: Global) -> Result<Shared, Memory>
         ensures { IfOk result (λ shared. ((n : ℕ) → was_named shared.named n ≡ false) × ((t : Codes) → KeepsTypes t shared)) }
     {
         Ok(Shared {
@@ -105,7 +108,7 @@ impl<'a> Shared<'a> {
     }
 
     // What the record of this number starts with.
-    fn captured(&self, number: u32) -> Option<&Captured<'a>>
+    fn captured(&self, number: u32) -> Option<&Captured>
         ensures { option_copied result ≡ captured_in self.now.handed.items self.now.named number }
     {
         match self.named.get(&number) {
@@ -125,7 +128,7 @@ impl<'a> Shared<'a> {
         }
     }
 
-    fn filled_terms(&self, number: u32, started: u16) -> Result<Registers<Built<'a>>, Memory>
+    fn filled_terms(&self, number: u32, started: u16) -> Result<Registers<Built>, Memory>
         ensures ever { IfOk result (λ filled. (r : ℕ) → was_set filled r ≡ nat_lt r started) }
         ensures filled { IfOk result (λ filled. length (terms_captured (captured_in self.now.handed.items self.now.named number)) < 2 ^ 16 → IsFilled (terms_captured (captured_in self.now.handed.items self.now.named number)) filled) }
     {
@@ -206,7 +209,7 @@ fn own_types_of(alloc: Global, of: &Record) -> Result<BTreeMap<u16, u64>, Memory
 }
 
 // The type of a head that is a register.
-fn given_type(terms: &Registers<Built<'_>>, head: Option<RecordHead>) -> Option<TypeId>
+fn given_type(terms: &Registers<Built>, head: Option<RecordHead>) -> Option<TypeId>
     ensures { result ≡ given_in terms.now head }
 {
     match head {
@@ -248,7 +251,7 @@ impl<'a> Work<'a> {
     }
 
     // The record before its first instruction.
-    fn start(shared: &mut Shared<'a>, home: Home<'a>) -> Result<Work<'a>, Memory>
+    fn start(shared: &mut Shared, home: Home<'a>) -> Result<Work<'a>, Memory>
         requires { All Fits home.record.now.code.items }
         ensures home { IfOk result (λ work. work.home ≡ home.entry) }
         ensures named { shared.new.named ≡ shared.old.named }
@@ -283,12 +286,12 @@ impl<'a> Work<'a> {
     // Judges the next instruction, and runs it where no rule is broken.
     fn step(
         &mut self,
-        shared: &mut Shared<'a>,
+        shared: &mut Shared,
         whole: Whole,
-        instr: &'a Instr,
+        instr: &Instr,
     ) -> Result<Option<Rule>, Memory>
         requires { Fits instr.now }
-        ensures { IfOk result (λ found. (self.old.place < 2 ^ 63 → self.old.number < 2 ^ 63 → (h : States.Home) (s : State) → Knows (kept_in shared.old) self.old h s → IsFirst (told self.old shared.new.lists (was_named shared.old.named) whole (breaks_type h s instr.now) instr.now) found) × StoreGrows (kept_in shared.old) (kept_in shared.new) × IsStepped instr.now shared.old shared.new self.old self.new found) }
+        ensures { IfOk result (λ found. (self.old.place < 2 ^ 63 → self.old.number < 2 ^ 63 → (h : States.Home) (s : State) → Knows (kept_in shared.old) self.old h s → IsFirst (told self.old shared.new.lists (was_named shared.old.named) whole (breaks_type h s instr.now) (breaks_head h s instr.now) instr.now) found) × StoreGrows (kept_in shared.old) (kept_in shared.new) × IsStepped instr.now shared.old shared.new self.old self.new found) }
     {
         let typed = match self.judge(shared, whole, instr)? {
             Ok(typed) => typed,
@@ -309,17 +312,18 @@ impl<'a> Work<'a> {
 
 // The first rule that the record breaks, with its offset.
 pub(crate) fn judge_record<'a>(
-    shared: &mut Shared<'a>,
+    shared: &mut Shared,
+    alls: &Alls,
     home: Home<'a>,
 ) -> Result<Option<(u64, Rule)>, Memory>
     requires fit { All Fits home.record.now.code.items }
     requires language { HasLanguage home.tables.now }
-    ensures { IfOk result (λ found. ((before : List (ℕ × Start)) → slice_get home.entry.records.now home.entry.number ≡ Some home.entry.record.now → HandedIn shared.old home.entry.records.now before → KeepsTypes (tables_in home.entry.tables.now) shared.old → AreNamedBefore home.entry.number home.entry.records.now shared.old.named → bytes_of home.entry.record.now.code.items < 2 ^ 32
-        → IsRan (tables_in home.entry.tables.now) home.entry.records.now shared.new before (run_of judged (home_in home.entry) any_clause (first_state home.entry.record.now (captured_of before home.entry.number)) home.entry.record.now.code.items) found)
+    ensures { IfOk result (λ found. ((before : List (ℕ × Start)) → slice_get home.entry.records.now home.entry.number ≡ Some home.entry.record.now → HandedIn shared.old home.entry.records.now before → HandedLow before → AllsAre home.entry.records.now home.entry.number alls.now.records.items → KeepsTypes (tables_in home.entry.tables.now) shared.old → AreNamedBefore home.entry.number home.entry.records.now shared.old.named → bytes_of home.entry.record.now.code.items < 2 ^ 32
+        → IsRan (tables_in home.entry.tables.now) home.entry.records.now shared.new before (run (home_in home.entry) any_clause (first_state home.entry.record.now (captured_of before home.entry.number)) home.entry.record.now.code.items) found)
         × (found ≡ None → HasNamed (names_in home.entry.record.now.code.items) shared.old.named shared.new.named)) }
 {
     let mut work = Work::start(shared, home)?;
-    let mut whole = work.broken_as_a_whole(shared)?;
+    let mut whole = work.broken_as_a_whole(shared, alls)?;
     for instr in &home.record.code {
         if let Some(rule) = work.step(shared, whole, instr)? {
             return Ok(Some((work.place, rule)));

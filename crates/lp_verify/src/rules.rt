@@ -3,7 +3,7 @@
 ghost use Rattle.std.specs.Ordering.{nat_cmp};
 ghost use Rattle.std.specs.BTreeMap.{get};
 ghost use Rattle.lp_verify.specs.inner.Sides.{sides_in, nests_badly};
-ghost use Rattle.std.specs.Prelude.{◌≡◌, ◌<◌, ◌^◌, ◌+◌, ◌||◌, ◌∷◌, [], ◌++◌, IfOk, OnOk, MatchOption, Some, None, true, false, length, nat_le, nat_lt, nat_eq, ◌&&◌, slice_get, ℕ, Bool};
+ghost use Rattle.std.specs.Prelude.{◌≡◌, ◌<◌, ◌^◌, ◌+◌, ◌||◌, ◌∷◌, [], ◌++◌, IfOk, OnOk, MatchOption, Some, None, true, false, length, nat_le, nat_lt, nat_eq, ◌&&◌, not, is_some, slice_get, ℕ, Bool};
 ghost use Rattle.std.specs.List.{list_any};
 ghost use Rattle.lp_code.specs.Operands.{types_read, terms_read, type_set, term_set};
 ghost use Rattle.lp_code.specs.Rules.{breaks_term, is_count, is_no_term, starts_with_as_many, is_assumed_record, names_of};
@@ -15,16 +15,20 @@ ghost use Rattle.lp_verify.specs.inner.Indices.{StoreGrows};
 ghost use Rattle.lp_verify.specs.inner.Made.{IsJudged};
 ghost use Rattle.lp_verify.specs.Scheme.{tables_in};
 ghost use Rattle.lp_verify.specs.inner.Told.{reaches_past, is_loose, reads_loose, sets_again, has_wrong_count, is_off, is_out_of_order, is_fine, are_fine, names_badly, breaks_blocks, told, AreKept, ArePassed, IsFirst, rule_of};
-ghost use Rattle.lp_code.specs.Rules.{breaks_type};
+ghost use Rattle.lp_code.specs.Rules.{is_new_variable, breaks_type, breaks_head};
 ghost use Rattle.lp_code.specs.States.{State, Home};
 ghost use Rattle.lp_verify.specs.inner.Known.{Knows};
 ghost use Rattle.lp_verify.specs.inner.At.{kept_in};
+ghost use Rattle.lp_verify.specs.declared.loose.Lists.{Lists};
+ghost use Rattle.lp_verify.specs.inner.Indices.{store};
+ghost use Rattle.lp_verify.specs.inner.Taken.{is_before};
 
 use crate::blocks::{is_all, is_assumption, is_left_to, is_negation};
 use crate::built::Head;
 use crate::operands::{term_set, terms_read, type_set, types_read};
 use crate::record::{Shared, Work};
-use crate::typing::Typed;
+use crate::types::Types;
+use crate::typing::{Typed, both};
 use crate::whole::Whole;
 use lp_base::Memory;
 use lp_code::{Instr, Record, Rule};
@@ -144,7 +148,7 @@ impl<'a> Work<'a> {
         whole.constant || self.has_wrong_count(instr)
     }
 
-    fn is_loose(&self, shared: &Shared<'a>, register: u16) -> bool
+    fn is_loose(&self, shared: &Shared, register: u16) -> bool
         ensures { result ≡ is_loose shared.now.lists self.now.terms register }
     {
         let term = self.term_in(&shared.types, register);
@@ -152,7 +156,7 @@ impl<'a> Work<'a> {
     }
 
     // Whether an index is loose in one of the registers.
-    fn are_loose(&self, shared: &Shared<'a>, registers: &[u16]) -> bool
+    fn are_loose(&self, shared: &Shared, registers: &[u16]) -> bool
         ensures { result ≡ list_any (is_loose shared.now.lists self.now.terms) registers.now }
     {
         for register in registers {
@@ -163,7 +167,7 @@ impl<'a> Work<'a> {
         false
     }
 
-    fn breaks_index(&self, shared: &Shared<'a>, instr: &Instr, terms: &[u16]) -> bool
+    fn breaks_index(&self, shared: &Shared, instr: &Instr, terms: &[u16]) -> bool
         ensures { terms.now ≡ terms_read instr.now → result ≡ reads_loose shared.now.lists self.now.terms instr.now }
     {
         match instr {
@@ -217,24 +221,40 @@ impl<'a> Work<'a> {
         whole.order || self.is_out_of_order(instr)
     }
 
+    // Whether the variable of this record that was made in the register stands in no earlier argument.
+    fn is_new(&self, register: u16, home: u32) -> bool
+        ensures { result ≡ (nat_eq home self.now.home.number && not (is_before self.now.number (get nat_cmp self.now.takings.first register))) }
+    {
+        let taken = self.takings.is_taken_before(register, self.number);
+        both(home == self.home.number, !taken)
+    }
+
     // Whether the register has a variable of the clause that stands in no earlier argument.
-    fn is_new_variable(&self, shared: &Shared<'a>, register: u16) -> bool {
-        match self.term_in(&shared.types, register).head {
-            Head::Own => !self.takings.is_taken_before(register, self.number),
+    fn is_new_variable(&self, types: &Types, register: u16) -> bool
+        ensures { (l : Lists) (h : Home) (s : State) → Knows (store types.now l) self.now h s → self.now.in_body ≡ false → result ≡ is_new_variable h s register }
+    {
+        match self.term_in(types, register).head {
+            Head::Variable(made, home) => self.is_new(made, home),
+            Head::Other => false,
+        }
+    }
+
+    // The same where there is a head.
+    fn breaks_its_head(&self, types: &Types, instr: &Instr) -> bool
+        ensures { (l : Lists) (h : Home) (s : State) → Knows (store types.now l) self.now h s → is_out_of_order self.now.in_body (length self.now.head.types.items) self.now.head.arguments instr.now ≡ false → (is_some h.self.head && result) ≡ breaks_head h s instr.now }
+    {
+        match instr {
+            Instr::Neck => !self.head.is_complete(types),
+            Instr::GetType(number, _) => !self.head.has_type(usize::from(*number)),
+            Instr::Get(_, register) => self.is_new_variable(types, *register),
             _ => false,
         }
     }
 
-    fn breaks_head(&self, shared: &Shared<'a>, instr: &Instr) -> bool {
-        if !self.head.is_there() {
-            return false;
-        }
-        match instr {
-            Instr::Neck => !self.head.is_complete(&shared.types),
-            Instr::GetType(number, _) => !self.head.has_type(usize::from(*number)),
-            Instr::Get(_, register) => self.is_new_variable(shared, *register),
-            _ => false,
-        }
+    fn breaks_head(&self, types: &Types, instr: &Instr) -> bool
+        ensures { (l : Lists) (h : Home) (s : State) → Knows (store types.now l) self.now h s → is_out_of_order self.now.in_body (length self.now.head.types.items) self.now.head.arguments instr.now ≡ false → result ≡ breaks_head h s instr.now }
+    {
+        both(self.head.is_there(), self.breaks_its_head(types, instr))
     }
 
     fn breaks_nesting(&self, instr: &Instr) -> bool
@@ -362,12 +382,12 @@ impl<'a> Work<'a> {
     // The rules behind those on types.
     fn broken_behind(
         &self,
-        shared: &mut Shared<'a>,
+        shared: &mut Shared,
         whole: Whole,
         instr: &Instr,
         terms: &[u16],
     ) -> Result<Option<Rule>, Memory>
-        ensures first { self.now.place < 2 ^ 63 → self.now.number < 2 ^ 63 → terms.now ≡ terms_read instr.now → (t : Bool) → ArePassed (told self.now shared.old.lists (was_named shared.old.named) whole t instr.now) → IfOk result (λ found. IsFirst (told self.now shared.old.lists (was_named shared.old.named) whole t instr.now) found) }
+        ensures first { self.now.place < 2 ^ 63 → self.now.number < 2 ^ 63 → terms.now ≡ terms_read instr.now → (t : Bool) (h : Home) (s : State) → Knows (kept_in shared.old) self.now h s → ArePassed (told self.now shared.old.lists (was_named shared.old.named) whole t (breaks_head h s instr.now) instr.now) → IfOk result (λ found. IsFirst (told self.now shared.old.lists (was_named shared.old.named) whole t (breaks_head h s instr.now) instr.now) found) }
         ensures named { IfOk result (λ found. found ≡ None → IsNamed (names_of instr.now) (length shared.old.handed.items) shared.old.named shared.new.named) }
         ensures handed { shared.new.handed ≡ shared.old.handed }
         ensures lists { shared.new.lists ≡ shared.old.lists }
@@ -388,7 +408,7 @@ impl<'a> Work<'a> {
         if whole.head {
             return Ok(Some(Rule::Head));
         }
-        let head = self.breaks_head(shared, instr);
+        let head = self.breaks_head(&shared.types, instr);
         if head {
             return Ok(Some(Rule::Head));
         }
@@ -410,13 +430,13 @@ impl<'a> Work<'a> {
     // The rules before those on types.
     fn broken_before(
         &self,
-        shared: &Shared<'a>,
+        shared: &Shared,
         whole: Whole,
         instr: &Instr,
         types: &[u16],
         terms: &[u16],
     ) -> Option<Rule>
-        ensures { types.now ≡ types_read instr.now → terms.now ≡ terms_read instr.now → (t : Bool) → MatchOption result (AreKept (told self.now shared.now.lists (was_named shared.now.named) whole t instr.now)) (λ rule. IsFirst (told self.now shared.now.lists (was_named shared.now.named) whole t instr.now) (Some rule)) }
+        ensures { types.now ≡ types_read instr.now → terms.now ≡ terms_read instr.now → (t b : Bool) → MatchOption result (AreKept (told self.now shared.now.lists (was_named shared.now.named) whole t b instr.now)) (λ rule. IsFirst (told self.now shared.now.lists (was_named shared.now.named) whole t b instr.now) (Some rule)) }
     {
         let register = self.breaks_register(whole, instr, types, terms);
         if register {
@@ -440,11 +460,11 @@ impl<'a> Work<'a> {
     // What the next instruction builds, or the first rule that is broken.
     pub(crate) fn judge(
         &self,
-        shared: &mut Shared<'a>,
+        shared: &mut Shared,
         whole: Whole,
-        instr: &'a Instr,
-    ) -> Result<Result<Typed<'a>, Rule>, Memory>
-        ensures first { IfOk result (λ found. self.now.place < 2 ^ 63 → self.now.number < 2 ^ 63 → (h : Home) (s : State) → Knows (kept_in shared.old) self.now h s → IsFirst (told self.now shared.new.lists (was_named shared.old.named) whole (breaks_type h s instr.now) instr.now) (rule_of found)) }
+        instr: &Instr,
+    ) -> Result<Result<Typed, Rule>, Memory>
+        ensures first { IfOk result (λ found. self.now.place < 2 ^ 63 → self.now.number < 2 ^ 63 → (h : Home) (s : State) → Knows (kept_in shared.old) self.now h s → IsFirst (told self.now shared.new.lists (was_named shared.old.named) whole (breaks_type h s instr.now) (breaks_head h s instr.now) instr.now) (rule_of found)) }
         ensures named { IfOk result (λ found. rule_of found ≡ None → IsNamed (names_of instr.now) (length shared.old.handed.items) shared.old.named shared.new.named) }
         ensures handed { shared.new.handed ≡ shared.old.handed }
         ensures made { IfOk result (λ found. IfOk found (IsJudged (kept_in shared.old) (kept_in shared.new) self.now instr.now)) }

@@ -5,8 +5,10 @@ ghost use Rattle.lp_calculus.specs.Types.{Ty, var, con, arrow, tys, instance};
 ghost use Rattle.lp_calculus.specs.Typing.{type_at};
 ghost use Rattle.lp_term.specs.Nodes.{IsSound, type_tree};
 ghost use Rattle.lp_code.specs.Symbolic.{Tables};
+ghost use Rattle.lp_model.specs.Flatten.{ends_in_o};
+ghost use Rattle.lp_term.specs.Shapes.{type_shape};
 ghost use Rattle.lp_verify.specs.Scheme.{scheme_in};
-ghost use Rattle.lp_verify.specs.inner.FirstNumbers.{first_of, shape_of, key_at, AreFound, AreFirsts, SameBank, FirstsStay, IsType, AreTypes, TypesGrow, UsesAre, UsesStay, IsArrowAs, HasBasics, IsTypeOfConstant, IsTypeOfDeclared};
+ghost use Rattle.lp_verify.specs.inner.FirstNumbers.{first_of, shape_of, key_at, AreFound, AreFirsts, SameBank, FirstsStay, IsType, AreTypes, TypesGrow, UsesAre, UsesStay, IsArrowAs, IsEndOf, HasBasics, IsTypeOfConstant, IsTypeOfDeclared};
 
 use crate::filling::Filling;
 use crate::tables::Scheme;
@@ -242,20 +244,38 @@ impl Types {
     }
 
     // Whether the type ends in `o` behind its arguments.
-    pub(crate) fn ends_in_o(&self, id: TypeId) -> bool {
+    pub(crate) fn ends_in_o(&self, id: TypeId) -> bool
+        ensures { (T : Ty) → IsType self.now id T → result ≡ ends_in_o T }
+    {
         ends_in_o(&self.bank, id)
     }
 }
 
+// What the type of a node gives where it is a function's, or else whether it is `o`.
+fn end_of(node: TypeNode<'_>) -> Result<TypeId, bool>
+    ensures { IsEndOf (type_shape node.entry) result }
+{
+    match node {
+        TypeNode::Arrow(_, to) => Ok(to),
+        TypeNode::Con(kind, _) => Err(kind == Kind::Proposition.number()),
+        TypeNode::Var(_) => Err(false),
+        TypeNode::Param(_) => Err(false),
+    }
+}
+
 // Whether a type of the bank ends in `o` behind its arguments.
-pub(crate) fn ends_in_o(bank: &Bank, id: TypeId) -> bool {
-    let mut end = id;
+pub(crate) fn ends_in_o(bank: &Bank, id: TypeId) -> bool
+    ensures { result ≡ ends_in_o (type_tree bank.now id.0) }
+{
+    let mut last = id;
     for _ in 0..bank.type_count() {
-        match bank.type_node(end) {
-            TypeNode::Arrow(_, to) => end = to,
-            TypeNode::Con(kind, _) => return kind == Kind::Proposition.number(),
-            _ => return false,
+        match end_of(bank.type_node(last)) {
+            Ok(to) => last = to,
+            Err(ends) => return ends,
         }
     }
-    false
+    match end_of(bank.type_node(last)) {
+        Ok(_) => false,
+        Err(ends) => ends,
+    }
 }

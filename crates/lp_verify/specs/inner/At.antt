@@ -1,5 +1,5 @@
 -- A record at work, and the state that its instructions have come to.
-use Rattle.std.specs.Prelude.{◌≡◌, ℕ, ◌+◌, ◌≤◌, ◌<◌, ◌^◌, nat_eq, ◌||◌, ◌&&◌, Bool, List, [], ◌++◌, map, reverse, length, Option, Some, None, true, false, nat_lt, not, if◌then◌else◌}
+use Rattle.std.specs.Prelude.{◌≡◌, ℕ, suc, ◌+◌, ◌≤◌, ◌<◌, ◌^◌, nat_eq, ◌||◌, ◌&&◌, Bool, List, [], ◌++◌, map, reverse, length, Option, Some, None, true, false, nat_lt, not, if◌then◌else◌}
 use Rattle.std.specs.BTreeMap.{BTreeMap}
 use Rattle.lp_code.specs.declared.instruction.Instr.{Instr}
 use Rattle.lp_code.specs.declared.record.Record.{Record}
@@ -10,7 +10,7 @@ use Rattle.lp_code.specs.Operands.{type_set, term_set}
 use Rattle.lp_code.specs.Rules.{breaks_order, named_before, names_of, names_in}
 use Rattle.lp_code.specs.Symbolic.{Tables}
 use Rattle.lp_code.specs.States.{State, Home, Captured, member}
-use Rattle.lp_code.specs.Denote.{Ran, Done, Broken, broken_by_record, run_of, any_clause, first_state, captured_of, fault_from, first_fault_of, head_passes, is_known_head, has_neck, ends_with_proceed, has_right_key}
+use Rattle.lp_code.specs.Denote.{Ran, Done, Broken, broken_by_record, rules, run, any_clause, first_state, captured_of, fault_from, first_fault, head_passes, is_known_head, has_neck, ends_with_proceed, has_right_key}
 use Rattle.lp_term.specs.declared.node.TypeId.{TypeId}
 use Rattle.lp_verify.specs.declared.built.Built as kept_built
 use Rattle.lp_verify.specs.inner.FirstNumbers.{IsType, HasBasics, UsesAre}
@@ -24,13 +24,15 @@ use Rattle.lp_verify.specs.declared.whole.Whole.{Whole}
 use Rattle.lp_verify.specs.Held.{was_set, is_lacking}
 use Rattle.lp_verify.specs.Named.{was_named}
 use Rattle.lp_verify.specs.Scheme.{tables_in}
-use Rattle.lp_verify.specs.Judged.{judged, is_judged, bytes_of}
+use Rattle.lp_verify.specs.Judged.{bytes_of}
 use Rattle.lp_verify.specs.inner.Sides.{sides_in, sides_of, sides_run, sides_settled, AreEnds, HasPlaces}
 use Rattle.lp_verify.specs.declared.record.Captured as kept_captured
 use Rattle.lp_verify.specs.inner.Stack.{type_heights, term_heights, stack_of, types_in_stack, terms_in_stack, IsStack, IsFilled, IsStacked, IsStackRun}
 use Rattle.lp_verify.specs.inner.Handed.{SameType, SameTerm, captured_in, types_captured, terms_captured, IsNamed, assumption_of, IsHandedOn, AreHanded}
 use Rattle.lp_verify.specs.inner.Made.{type_made, IsPutBy}
 use Rattle.lp_verify.specs.inner.Outline.{body_behind, types_behind, arguments_behind}
+use Rattle.lp_verify.specs.inner.Taken.{before_neck, AreFirstTaken, TakenIn}
+use Rattle.lp_verify.specs.inner.Low.{AllHoldLow, HandedLow}
 
 abbrev pub home_in : code_home.Home → Home
 home_in h = record { tables = tables_in h.tables.now; records = h.records.now; number = h.number; self = h.record.now }
@@ -56,6 +58,7 @@ pub record IsAt (l : Store) (w : Work) (s : State) : Type 0 where
 pub record IsRun (i : Instr) (u : TypeId) (v : kept_built.Built) (old new : Work) : Type 0 where
   pub home_stays : new.home ≡ old.home
   pub places_stay : new.places ≡ old.places
+  pub takings_stay : new.takings ≡ old.takings
   pub own_stay : new.own_types ≡ old.own_types
   pub place_moves : old.place + length_of i < 2 ^ 64 → new.place ≡ old.place + length_of i
   pub number_moves : old.number + 1 < 2 ^ 64 → new.number ≡ old.number + 1
@@ -71,6 +74,7 @@ pub record IsRun (i : Instr) (u : TypeId) (v : kept_built.Built) (old new : Work
 pub record IsActed (i : Instr) (u : TypeId) (v : kept_built.Built) (old new : Work) : Type 0 where
   pub home_stays : new.home ≡ old.home
   pub places_stay : new.places ≡ old.places
+  pub takings_stay : new.takings ≡ old.takings
   pub own_stay : new.own_types ≡ old.own_types
   pub place_stays : new.place ≡ old.place
   pub number_stays : new.number ≡ old.number
@@ -128,6 +132,7 @@ pub record IsWhole (h : Home) (s : State) (x : Whole) : Type 0 where
   pub register_is : x.register ≡ (nat_eq s.place 0 && broken_by_record h s rule.Register)
   pub constant_is : x.constant ≡ (nat_eq s.place 0 && broken_by_record h s rule.Constant)
   pub order_is : x.order ≡ (nat_eq s.place 0 && broken_by_record h s rule.Order)
+  pub head_is : x.head ≡ (nat_eq s.place 0 && broken_by_record h s rule.Head)
   pub head_low : x.head ≡ false → HeadIsLow h
   pub block_is : x.block ≡ (nat_eq s.place 0 && broken_by_record h s rule.Block)
   pub clause_is : x.clause ≡ (nat_eq s.place 0 && broken_by_record h s rule.Clause)
@@ -139,6 +144,7 @@ pub record IsStarted (hs : List kept_captured.Captured) (m : BTreeMap ℕ ℕ) (
   pub number_is : w.number ≡ 0
   pub frames_are : w.blocks.frames.items ≡ []
   pub places_are : HasPlaces w.home.record.now.code.items w.places.jumps
+  pub takings_are : AreFirstTaken 0 (before_neck w.home.record.now.code.items) w.takings.first
   pub body_is : w.in_body ≡ false
   pub types_are : length w.head.types.items ≡ 0
   pub arguments_are : w.head.arguments ≡ 0
@@ -149,7 +155,7 @@ pub record IsStarted (hs : List kept_captured.Captured) (m : BTreeMap ℕ ℕ) (
 
 -- nothing is broken as a whole
 abbrev pub IsNoWhole : Whole → Type 0
-IsNoWhole x = (x.register ≡ false) × (x.constant ≡ false) × (x.order ≡ false) × (x.block ≡ false) × (x.clause ≡ false) × (x.key ≡ false)
+IsNoWhole x = (x.register ≡ false) × (x.constant ≡ false) × (x.order ≡ false) × (x.block ≡ false) × (x.clause ≡ false) × (x.key ≡ false) × (x.head ≡ false)
 
 -- types and constants are kept as they are in these tables
 abbrev pub KeepsTypes : Tables → Shared → Type 0
@@ -157,8 +163,8 @@ KeepsTypes t x = HasBasics x.types × UsesAre t x.types
 
 -- what is told of a run, and what is handed on where it ends
 abbrev pub IsRan : Tables → List Record → Shared → (before : List (ℕ × Captured)) → Ran → Option (ℕ × Rule) → Type 0
-IsRan t all x before ran None = (s : State) × (ran ≡ Done s) × HandedIn x all (before ++ s.assumed) × KeepsTypes t x
-IsRan t all x before ran (Some (at, r)) = is_judged r ≡ true → (ran ≡ Broken at r) × (at < 2 ^ 32)
+IsRan t all x before ran None = (s : State) × (ran ≡ Done s) × HandedIn x all (before ++ s.assumed) × KeepsTypes t x × HandedLow (before ++ s.assumed)
+IsRan t all x before ran (Some (at, r)) = (ran ≡ Broken at r) × (at < 2 ^ 32)
 
 -- those of the records before the one of a number
 abbrev pub AreNamedBefore : (number : ℕ) → List Record → BTreeMap ℕ ℕ → Type 0
@@ -182,11 +188,15 @@ pub record Past (all left : List Instr) (s : State) (w : Work) : Type 0 where
   pub count_is : w.number + length left ≡ length all
   pub places_are : HasPlaces all w.places.jumps
 
+-- in the head, it is told by the registers that were taken which variables stand in an argument
+abbrev pub TakesAre : Home → (all left : List Instr) → Work → State → Type 0
+TakesAre h all left w s = AreFirstTaken 0 (before_neck all) w.takings.first × (s.in_body ≡ false → TakenIn h all left w.number s)
+
 abbrev pub GoesOn : Home → (before : List (ℕ × Captured)) → (all left : List Instr) → Work → Shared → Whole → Type 0
 GoesOn h before all left w x whole =
-    (s : State) × (run_of judged h any_clause (first_state h.self (captured_of before h.number)) all ≡ run_of judged h any_clause s left) × IsAt (kept_in x) w s × (s.place + bytes_of left ≡ bytes_of all) × IsWhole h s whole × NamedAt h s x.named × Past all left s w
-    × HandedIn x h.records (before ++ s.assumed) × KnowsHead (kept_in x) w h s × HeadStays h s
+    (s : State) × (run h any_clause (first_state h.self (captured_of before h.number)) all ≡ run h any_clause s left) × IsAt (kept_in x) w s × (s.place + bytes_of left ≡ bytes_of all) × IsWhole h s whole × NamedAt h s x.named × Past all left s w
+    × HandedIn x h.records (before ++ s.assumed) × KnowsHead (kept_in x) w h s × HeadStays h s × TakesAre h all left w s × AllHoldLow (suc h.number) (terms_in_stack (stack_of s)) × HandedLow (before ++ s.assumed)
 
 -- the records from a number on are left: the first fault is theirs, where this was handed to them
 abbrev pub FaultsGoOn : Tables → (all : List Record) → Shared → (n : ℕ) → (left : List Record) → Type 0
-FaultsGoOn t all x n left = (handed : List (ℕ × Captured)) × (first_fault_of judged t all ≡ fault_from judged t all handed n left) × HandedIn x all handed × KeepsTypes t x
+FaultsGoOn t all x n left = (handed : List (ℕ × Captured)) × (first_fault t all ≡ fault_from rules t all handed n left) × HandedIn x all handed × KeepsTypes t x × HandedLow handed

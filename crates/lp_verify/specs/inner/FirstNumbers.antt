@@ -1,5 +1,5 @@
 -- Types as they are kept: numbers of a bank, and for each the first number of an equal type.
-use Rattle.std.specs.Prelude.{◌≡◌, ◌<◌, ◌≤◌, ◌+◌, ℕ, nat_eq, Bool, false, ◌&&◌, List, [], ◌∷◌, map, length, Option, Some, None, slice_index_or}
+use Rattle.std.specs.Prelude.{◌≡◌, ◌<◌, ◌≤◌, ◌+◌, ℕ, nat_eq, Bool, false, ◌&&◌, List, [], ◌∷◌, map, length, Option, Some, None, Result, Ok, Err, slice_index_or}
 use Rattle.std.specs.Map.{lookup}
 use Rattle.std.specs.Str.{bytes_eq}
 use Rattle.lp_calculus.specs.Types.{Ty, var, param, con, arrow, instance}
@@ -133,6 +133,17 @@ IsArrowAs x (con c Ts) None = Unit {0}
 IsArrowAs x (var i) None = Unit {0}
 IsArrowAs x (param i) None = Unit {0}
 IsArrowAs x T (Some p) = ⊥
+
+-- what a function's type gives, by its number, or whether another type is `o`
+abbrev pub IsEndOf : TypeShape → Result TypeId Bool → Type 0
+IsEndOf (arrow_node a b) (Ok t) = t.0 ≡ b
+IsEndOf (arrow_node a b) (Err is) = ⊥
+IsEndOf (con_node c ids) (Ok t) = ⊥
+IsEndOf (con_node c ids) (Err is) = is ≡ nat_eq c 0
+IsEndOf (var_node i) (Ok t) = ⊥
+IsEndOf (var_node i) (Err is) = is ≡ false
+IsEndOf (param_node k) (Ok t) = ⊥
+IsEndOf (param_node k) (Err is) = is ≡ false
 
 -- what is left of a function's type behind so many arguments, where it takes as many; an argument behind them is then one of what is left
 abbrev pub IsLeftAt : Types → Ty → ℕ → Option TypeId → Type 0

@@ -4,6 +4,7 @@ use Rattle.std.specs.Ordering.{nat_cmp}
 use Rattle.std.specs.BTreeMap.{BTreeMap, get}
 use Rattle.lp_term.specs.declared.node.TypeId.{TypeId}
 use Rattle.lp_calculus.specs.Types.{Ty}
+use Rattle.lp_calculus.specs.Term.{Term, atom, logic}
 use Rattle.lp_code.specs.declared.instruction.Instr.{Instr}
 use Rattle.lp_code.specs.declared.instruction.Instr.TheVariants as on
 use Rattle.lp_code.specs.declared.record.Record.{Record}
@@ -24,12 +25,21 @@ use Rattle.lp_verify.specs.inner.Stack.{Agree}
 use Rattle.lp_verify.specs.inner.FirstNumbers.{IsType}
 use Rattle.lp_verify.specs.inner.Indices.{Store, StandFor}
 
--- what is kept agrees with what stands there: types, and of a term its type and its loose indices
+-- what is kept agrees with what stands there: types, and of a term its type, its loose indices and the variable that it is
 abbrev pub SameType : Store → TypeId → Ty → Type 0
 SameType l t T = IsType l.types t T
 
+-- the variable that a term is, by the register in which it was made and the number of its record
+abbrev pub variable_of : Term → Option (ℕ × ℕ)
+variable_of (atom (logic r k)) = Some (r, k)
+variable_of t = None
+
+abbrev pub variable_in : Head → Option (ℕ × ℕ)
+variable_in (head.Variable r k) = Some (r, k)
+variable_in head.Other = None
+
 abbrev pub SameTerm : Store → kept_built.Built → Built → Type 0
-SameTerm l t b = StandFor l t.loose b.loose × IsType l.types t.of b.type
+SameTerm l t b = StandFor l t.loose b.loose × IsType l.types t.of b.type × (variable_in t.head ≡ variable_of b.term)
 
 -- registers hold what agrees
 abbrev pub IsSame : {T B : Type 0} → (T → B → Type 0) → Registers T → List (Option B) → Type 0
@@ -65,14 +75,6 @@ IsNamed ns p old new = (n : ℕ) → get nat_cmp new n ≡ (if member n ns then 
 abbrev pub IsNamedSoFar : (names left : List ℕ) → (place : ℕ) → (old new : BTreeMap ℕ ℕ) → Type 0
 IsNamedSoFar ns left p old new = (n : ℕ) → (if member n left then Some p else get nat_cmp new n) ≡ (if member n ns then Some p else get nat_cmp old n)
 
--- a variable that a record makes in its head is none of another record
-abbrev pub handed_head : Head → Head
-handed_head head.Own = head.Other
-handed_head h = h
-
-abbrev pub handed_built : kept_built.Built → kept_built.Built
-handed_built b = record { of = b.of; loose = b.loose; head = handed_head b.head }
-
 -- an ASSUME: the records that it names, and what it hands to them
 pub record Assumption : Type 0 where
   pub names : List ℕ
@@ -85,7 +87,7 @@ assumption_of i = None
 
 -- what stands in these registers was handed on
 abbrev pub IsHanded : (types terms : List ℕ) → Registers TypeId → Registers kept_built.Built → (old new : List kept_captured.Captured) → Type 0
-IsHanded ts rs t r old new = (k : kept_captured.Captured) × (new ≡ old ++ k ∷ []) × (k.types.items ≡ filter_map (value_in t) ts) × (k.terms.items ≡ map handed_built (filter_map (value_in r) rs))
+IsHanded ts rs t r old new = (k : kept_captured.Captured) × (new ≡ old ++ k ∷ []) × (k.types.items ≡ filter_map (value_in t) ts) × (k.terms.items ≡ filter_map (value_in r) rs)
 
 abbrev pub IsHandedOn : Option Assumption → Registers TypeId → Registers kept_built.Built → (old new : List kept_captured.Captured) → Type 0
 IsHandedOn None t r old new = new ≡ old

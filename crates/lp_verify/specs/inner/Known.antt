@@ -1,5 +1,5 @@
 -- What is known of types before an instruction: those of the registers, of the head and of constants.
-use Rattle.std.specs.Prelude.{◌≡◌, ◌≤◌, ◌<◌, slice_get, ℕ, suc, Bool, true, nat_lt, List, [], ◌∷◌, ◌++◌, Option, None, Some, option_map, length}
+use Rattle.std.specs.Prelude.{◌≡◌, ◌≤◌, ◌<◌, slice_get, ℕ, suc, Bool, true, false, nat_lt, List, [], ◌∷◌, ◌++◌, Option, None, Some, option_map, length}
 use Rattle.std.specs.Ordering.{nat_cmp}
 use Rattle.std.specs.BTreeMap.{BTreeMap, get}
 use Rattle.lp_code.specs.declared.instruction.Instr.{Instr}
@@ -8,9 +8,10 @@ use Rattle.lp_code.specs.declared.record.Record.{Record}
 use Rattle.lp_code.specs.declared.record.RecordHead.{RecordHead}
 use Rattle.lp_code.specs.declared.record.RecordHead.TheVariants.{Const, Register}
 use Rattle.lp_calculus.specs.Types.{Ty}
-use Rattle.lp_code.specs.Symbolic.{Built, held, term_in, result_type}
+use Rattle.lp_code.specs.Symbolic.{Built, variable, held, term_in, result_type}
 use Rattle.lp_code.specs.States.{State, Home, member, passing}
-use Rattle.lp_code.specs.Steps.{head_built, is_own_type}
+use Rattle.lp_code.specs.Steps.{own_variables, head_built, is_own_type}
+use Rattle.lp_code.specs.Rules.{head_count}
 use Rattle.lp_verify.specs.inner.Outline.{taken_by, arguments_behind, with_more}
 use Rattle.lp_verify.specs.inner.Stack.{stack_of, terms_in_stack}
 use Rattle.lp_term.specs.declared.node.TypeId.{TypeId}
@@ -26,10 +27,12 @@ use Rattle.lp_verify.specs.inner.FirstNumbers.{IsType, AreTypes, HasBasics, Uses
 use Rattle.lp_verify.specs.inner.Language.{HasLanguage}
 use Rattle.lp_verify.specs.inner.Indices.{Store}
 use Rattle.lp_verify.specs.inner.Handed.{SameType, SameTerm, IsSame}
+use Rattle.lp_verify.specs.inner.Taken.{is_before, stands_in_some}
 
 -- the head so far: its type arguments, the type of the predicate on these, and what is left of it behind the arguments
 pub record IsHead (x : Types) (p : HeadSoFar) (h : Home) (s : State) : Type 0 where
   pub predicate : p.predicate ≡ h.self.head
+  pub count : p.count ≡ head_count h
   pub types : AreTypes x p.types.items s.head_types
   pub arguments : p.arguments ≡ length s.head_arguments
   pub whole : IsType x p.whole (head_built h s).type
@@ -113,11 +116,18 @@ pub record KnowsTables (t : kept_tables.Tables) (x : Types) (h : Home) : Type 0 
 
 -- the same whatever stands in registers
 pub record KnowsHead (l : Store) (w : Work) (h : Home) (s : State) : Type 0 where
+  pub number : w.home.number ≡ h.number
   pub constants : KnowsTables w.home.tables.now l.types h
   pub own : HasOwnTypes h.self w.own_types
   pub head : IsHead l.types w.head h s
 
+-- in a head, a variable of the record that stands in a register is one that it makes there, and it is told whether it stands in an argument so far
+abbrev pub KnowsTaken : Work → Home → State → Type 0
+KnowsTaken w h s =
+    (v r : ℕ) → w.in_body ≡ false → (term_in s.now r).term ≡ variable v h.number → (member v (own_variables h.self) ≡ true) × (is_before w.number (get nat_cmp w.takings.first v) ≡ stands_in_some v h.number s.head_arguments)
+
 pub record Knows (l : Store) (w : Work) (h : Home) (s : State) : Type 0 where
   pub of_head : KnowsHead l w h s
+  pub taken : KnowsTaken w h s
   pub types : IsSame (SameType l) w.types s.now.types
   pub terms : IsSame (SameTerm l) w.terms s.now.terms

@@ -19,7 +19,7 @@ use Rattle.lp_verify.specs.declared.typing.Typed.TheVariants as typed
 use Rattle.lp_verify.specs.Held.{value_in, is_lacking}
 use Rattle.lp_verify.specs.inner.FirstNumbers.{UsesAre}
 use Rattle.lp_verify.specs.inner.Indices.{Store, StandFor}
-use Rattle.lp_verify.specs.inner.Handed.{SameTerm}
+use Rattle.lp_verify.specs.inner.Handed.{variable_of, SameTerm}
 use Rattle.lp_verify.specs.inner.Known.{Knows}
 use Rattle.lp_verify.specs.inner.Reads.{reads_unset}
 
@@ -64,7 +64,7 @@ is_ill t = false
 abbrev pub MakesTerm : Store → (broken : Bool) → Built → Typed → Type 0
 MakesTerm l true b t = is_ill t ≡ true
 MakesTerm l false b typed.Ill = ⊥
-MakesTerm l false b typed.Fine = (b.loose ≡ []) × (b.type ≡ o_type)
+MakesTerm l false b typed.Fine = (b.loose ≡ []) × (b.type ≡ o_type) × (variable_of b.term ≡ None)
 MakesTerm l false b (typed.Built t) = SameTerm l t b
 
 -- the term that an instruction makes, where what it reads was set

@@ -92,7 +92,7 @@ names_badly k all p f (on.Assume ns ts rs) = not (are_fine k all f (length ts.it
 names_badly k all p f (on.TyNew d) = not p
 names_badly k all p f i = false
 
--- whether each of the judged rules is broken
+-- whether each of the rules is broken
 pub record Broken : Type 0 where
   pub register : Bool
   pub unset : Bool
@@ -102,7 +102,6 @@ pub record Broken : Type 0 where
   pub index : Bool
   pub term : Bool
   pub order : Bool
-  -- of the record as a whole
   pub head : Bool
   pub block : Bool
   pub clause : Bool
@@ -119,10 +118,10 @@ breaks b rule.Term = b.term
 breaks b rule.Order = b.order
 breaks b rule.Block = b.block
 breaks b rule.Clause = b.clause
+breaks b rule.Head = b.head
 breaks b rule.Key = b.key
-breaks b r = false
 
--- the judged rules before the one on types are kept, and this one
+-- the rules before the one on types are kept, and this one
 abbrev pub AreKept : Broken → Type 0
 AreKept b = (b.register ≡ false) × (b.unset ≡ false) × (b.set ≡ false) × (b.constant ≡ false)
 
@@ -131,7 +130,7 @@ ArePassed b = AreKept b × (b.typing ≡ false)
 
 -- what is told where these are broken: a rule, before which none of them is broken, or none
 abbrev pub IsFirst : Broken → Option Rule → Type 0
-IsFirst b None = ArePassed b × (b.index ≡ false) × (b.term ≡ false) × (b.order ≡ false) × (b.block ≡ false) × (b.clause ≡ false) × (b.key ≡ false) × (b.head ≡ false)
+IsFirst b None = ArePassed b × (b.index ≡ false) × (b.term ≡ false) × (b.order ≡ false) × (b.head ≡ false) × (b.block ≡ false) × (b.clause ≡ false) × (b.key ≡ false)
 IsFirst b (Some rule.Register) = b.register ≡ true
 IsFirst b (Some rule.Unset) = (b.register ≡ false) × (b.unset ≡ true)
 IsFirst b (Some rule.Set) = (b.register ≡ false) × (b.unset ≡ false) × (b.set ≡ true)
@@ -140,10 +139,10 @@ IsFirst b (Some rule.Typing) = AreKept b × (b.typing ≡ true)
 IsFirst b (Some rule.Index) = ArePassed b × (b.index ≡ true)
 IsFirst b (Some rule.Term) = ArePassed b × (b.index ≡ false) × (b.term ≡ true)
 IsFirst b (Some rule.Order) = ArePassed b × (b.index ≡ false) × (b.term ≡ false) × (b.order ≡ true)
-IsFirst b (Some rule.Head) = ArePassed b × (b.index ≡ false) × (b.term ≡ false) × (b.order ≡ false)
-IsFirst b (Some rule.Block) = ArePassed b × (b.index ≡ false) × (b.term ≡ false) × (b.order ≡ false) × (b.block ≡ true)
-IsFirst b (Some rule.Clause) = ArePassed b × (b.index ≡ false) × (b.term ≡ false) × (b.order ≡ false) × (b.block ≡ false) × (b.clause ≡ true)
-IsFirst b (Some rule.Key) = ArePassed b × (b.index ≡ false) × (b.term ≡ false) × (b.order ≡ false) × (b.block ≡ false) × (b.clause ≡ false) × (b.key ≡ true)
+IsFirst b (Some rule.Head) = ArePassed b × (b.index ≡ false) × (b.term ≡ false) × (b.order ≡ false) × (b.head ≡ true)
+IsFirst b (Some rule.Block) = ArePassed b × (b.index ≡ false) × (b.term ≡ false) × (b.order ≡ false) × (b.head ≡ false) × (b.block ≡ true)
+IsFirst b (Some rule.Clause) = ArePassed b × (b.index ≡ false) × (b.term ≡ false) × (b.order ≡ false) × (b.head ≡ false) × (b.block ≡ false) × (b.clause ≡ true)
+IsFirst b (Some rule.Key) = ArePassed b × (b.index ≡ false) × (b.term ≡ false) × (b.order ≡ false) × (b.head ≡ false) × (b.block ≡ false) × (b.clause ≡ false) × (b.key ≡ true)
 
 -- the rule that is told in place of what an instruction builds
 abbrev pub rule_of : {A : Type 0} → Result A Rule → Option Rule
@@ -159,9 +158,9 @@ abbrev pub breaks_blocks : Work → Instr → Bool
 breaks_blocks w i =
     nat_le (first_end_of (reverse w.blocks.frames.items)) w.place || nests_badly w.place (get nat_cmp w.places.jumps) (nat_eq (w.number + 1) (length w.home.record.now.code.items)) (sides_in w.blocks.frames.items) i
 
--- those that are broken before an instruction, where these lists were put and these records named, and the rule on types is broken or not
-abbrev pub told : Work → Lists → (named : ℕ → Bool) → Whole → (typing : Bool) → Instr → Broken
-told w l f x t i = record {
+-- those that are broken before an instruction, where these lists were put and these records named, and the rules on types and on the head are broken or not
+abbrev pub told : Work → Lists → (named : ℕ → Bool) → Whole → (typing head : Bool) → Instr → Broken
+told w l f x t b i = record {
   register = x.register || reaches_past w.home.record.now.types w.home.record.now.registers i;
   unset = reads_unset (is_lacking w.types) (is_lacking w.terms) i;
   set = sets_again (was_set w.types) (was_set w.terms) i;
@@ -170,7 +169,7 @@ told w l f x t i = record {
   index = reads_loose l w.terms i;
   term = breaks_term i;
   order = x.order || is_out_of_order w.in_body (length w.head.types.items) w.head.arguments i;
-  head = x.head;
+  head = x.head || b;
   block = x.block || breaks_blocks w i;
   clause = x.clause || names_badly w.home.number w.home.records.now w.home.record.now.program f i;
   key = x.key;

@@ -1,4 +1,4 @@
-use Rattle.std.proofs.Common.{◌∙◌, sym, subst}
+use Rattle.std.proofs.Common.{◌∙◌, refl, sym, subst}
 use Rattle.std.specs.Prelude.{not, Some}
 use Rattle.lp_code.specs.Symbolic.{type_in, term_in, innermost, agree_at, abstraction_of}
 use Rattle.lp_verify.specs.declared.built.Built.{Built}
@@ -33,4 +33,4 @@ returns-clause-made c = λ h s k.
     let t = type_known l w h s c.args.of c.type_in-from.result k c.type_in-from.ensures in
     let o = subst (λ o. Agree (IsType l.types) o (innermost B.loose)) (sym c.innermost.ensures) (innermost_stands l c.term_in-body.result.loose B.loose b.0) in
     built_makes m (not (agree_at (innermost B.loose) (Some T))) (abstraction_of B T) v (sym (c.is_other-other.ensures x (innermost B.loose) T o t) ∙ c.if-other.false)
-    (abstraction_same x y c.args.lists.now c.term_in-body.result v B T c.in_ok-of.ensures.grow.0 b (c.outer-loose.ensures x) (c.in_ok-of.ensures.made T B.type t b.1))
+    (abstraction_same x y c.args.lists.now c.term_in-body.result v B T c.in_ok-of.ensures.grow.0 b (c.outer-loose.ensures x) (c.in_ok-of.ensures.made T B.type t b.1) refl)

@@ -23,6 +23,7 @@ returns-clause-acted c =
       record {
         home_stays = refl;
         places_stay = refl;
+        takings_stay = refl;
         own_stay = refl;
         place_stays = refl;
         number_stays = refl;

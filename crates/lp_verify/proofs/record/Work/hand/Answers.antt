@@ -1,9 +1,7 @@
-use Rattle.std.proofs.Common.{◌∙◌, map, ap}
 use Rattle.lp_verify.specs.declared.record.Captured.{Captured}
-use Rattle.lp_verify.specs.inner.Handed.{handed_built}
 use Rattle.lp_verify.proofs.record.Work.hand.Goals as goal
 
 pub returns : goal.returns
 returns c =
-    let k : Captured = record { types = c.in_ok-types.types; terms = c.in_ok-terms-2.terms } in
-    (k, c.in_ok-push.ensures.items, c.in_ok-types.ensures, c.in_ok-terms-2.ensures ∙ ap (map handed_built) (c.as_slice.ensures.value ∙ c.in_ok-terms.ensures))
+    let k : Captured = record { types = c.in_ok-types.types; terms = c.in_ok-terms.terms } in
+    (k, c.in_ok-push.ensures.items, c.in_ok-types.ensures, c.in_ok-terms.ensures)

@@ -1,7 +1,7 @@
 use Rattle.std.proofs.Common.{◌≡◌, length, None, ap, refl, sym, subst, arith}
 use Rattle.std.proofs.lemmas.Result.{IfOk-at_ok}
 use Rattle.lp_calculus.specs.Typing.{o_type}
-use Rattle.lp_code.specs.Rules.{names_of, breaks_type}
+use Rattle.lp_code.specs.Rules.{names_of, breaks_type, breaks_head}
 use Rattle.lp_code.specs.States.{State}
 use Rattle.lp_code.specs.States as states
 use Rattle.lp_verify.specs.declared.record.Work.{Work}
@@ -57,12 +57,12 @@ returns c =
     let acted = c.in_ok-act.ensures.acted in
     let o : (h : states.Home) (s : State) → Knows (kept_in x) old h s → IsType z.types y.types.proposition o_type = λ h s k. subst (λ t. IsType z.types t o_type) (sym c.in_ok-act.ensures.grow.proposition) (basics_stay x.types z.types before.1 k.of_head.constants.basics).proposition in
     let puts : IsPutBy (kept_in x) (kept_in z) old i put = put_by (kept_in x) (kept_in z) old i typed y.types.proposition o judged in (
-      λ low few h s k. subst (IsFirst (told old y.lists (was_named x.named) c.args.whole (breaks_type h s i) i)) none (subst (λ l. IsFirst (told old l (was_named x.named) c.args.whole (breaks_type h s i) i) (rule_of c.in_ok-typed.field-0)) lists (c.in_ok-typed.ensures.first low few h s k)),
+      λ low few h s k. subst (IsFirst (told old y.lists (was_named x.named) c.args.whole (breaks_type h s i) (breaks_head h s i) i)) none (subst (λ l. IsFirst (told old l (was_named x.named) c.args.whole (breaks_type h s i) (breaks_head h s i) i) (rule_of c.in_ok-typed.field-0)) lists (c.in_ok-typed.ensures.first low few h s k)),
       store_then (kept_in x) (kept_in z) (kept_in y) before more,
       record {
         type = acted.0;
         value = put;
-        runs = passed_on i acted.0 put old mid new acted.1 refl refl refl (λ h. omega (arith, l, f, p, h)) (λ h. omega (arith, n, h)) c.settle.ensures.sides c.settle.ensures.ends refl refl c.settle.ensures.types c.settle.ensures.terms;
+        runs = passed_on i acted.0 put old mid new acted.1 refl refl refl refl (λ h. omega (arith, l, f, p, h)) (λ h. omega (arith, n, h)) c.settle.ensures.sides c.settle.ensures.ends refl refl c.settle.ensures.types c.settle.ensures.terms;
         typed = λ h s few k set order own. let t = acted.2 h s few (knows_later (kept_in x) (kept_in z) old h s before (judged.1 h s k set).0 k) set order own in record { type = t.type; head = t.head };
         puts = λ h s k set. same_later (kept_in z) (kept_in y) put (term_made h s i) more (puts h s k set);
         names = subst (IsNamed (names_of i) (length x.handed.items) x.named) (sym c.act.ensures.named) (c.in_ok-typed.ensures.named none);

@@ -15,24 +15,24 @@ returns-in_ok-call-in-Call-clause-made c =
 pub returns-in-CallTerm-clause-made : goal.returns-in-CallTerm-clause-made
 returns-in-CallTerm-clause-made c =
     let m = store c.args.types.now c.args.lists.now in
-    made_at m m c.args.self.now c.args.instr.now _ c.is_goal.result c.in-CallTerm.is (λ h s k set. (k.of_head.constants.uses, c.is_goal.ensures c.args.lists.now h s nothing_built k refl refl))
+    made_at m m c.args.self.now c.args.instr.now _ c.is_goal.result c.in-CallTerm.is (λ h s k set. (k.of_head.constants.uses, c.is_goal.ensures c.args.lists.now h s nothing_built k refl refl refl))
 
 pub returns-in-Less-clause-made : goal.returns-in-Less-clause-made
 returns-in-Less-clause-made c =
     let m = store c.args.types.now c.args.lists.now in
     elim c.in-Less.is [
-      | inl e ↦ made_at m m c.args.self.now c.args.instr.now _ c.have_type.result e (λ h s k set. (k.of_head.constants.uses, c.have_type.ensures c.args.lists.now h s int_type nothing_built k k.of_head.constants.basics.integer refl refl))
-      | inr (inl e) ↦ made_at m m c.args.self.now c.args.instr.now _ c.have_type.result e (λ h s k set. (k.of_head.constants.uses, c.have_type.ensures c.args.lists.now h s int_type nothing_built k k.of_head.constants.basics.integer refl refl))
-      | inr (inr (inl e)) ↦ made_at m m c.args.self.now c.args.instr.now _ c.have_type.result e (λ h s k set. (k.of_head.constants.uses, c.have_type.ensures c.args.lists.now h s int_type nothing_built k k.of_head.constants.basics.integer refl refl))
-      | inr (inr (inr e)) ↦ made_at m m c.args.self.now c.args.instr.now _ c.have_type.result e (λ h s k set. (k.of_head.constants.uses, c.have_type.ensures c.args.lists.now h s int_type nothing_built k k.of_head.constants.basics.integer refl refl))
+      | inl e ↦ made_at m m c.args.self.now c.args.instr.now _ c.have_type.result e (λ h s k set. (k.of_head.constants.uses, c.have_type.ensures c.args.lists.now h s int_type nothing_built k k.of_head.constants.basics.integer refl refl refl))
+      | inr (inl e) ↦ made_at m m c.args.self.now c.args.instr.now _ c.have_type.result e (λ h s k set. (k.of_head.constants.uses, c.have_type.ensures c.args.lists.now h s int_type nothing_built k k.of_head.constants.basics.integer refl refl refl))
+      | inr (inr (inl e)) ↦ made_at m m c.args.self.now c.args.instr.now _ c.have_type.result e (λ h s k set. (k.of_head.constants.uses, c.have_type.ensures c.args.lists.now h s int_type nothing_built k k.of_head.constants.basics.integer refl refl refl))
+      | inr (inr (inr e)) ↦ made_at m m c.args.self.now c.args.instr.now _ c.have_type.result e (λ h s k set. (k.of_head.constants.uses, c.have_type.ensures c.args.lists.now h s int_type nothing_built k k.of_head.constants.basics.integer refl refl refl))
     ]
 
 pub returns-in-Equal-clause-made : goal.returns-in-Equal-clause-made
 returns-in-Equal-clause-made c =
     let m = store c.args.types.now c.args.lists.now in
     elim c.in-Equal.is [
-      | inl e ↦ made_at m m c.args.self.now c.args.instr.now _ c.have_type-in-Equal.result e (λ h s k set. (k.of_head.constants.uses, c.have_type-in-Equal.ensures c.args.lists.now h s (type_in s.now c.in-Equal.of) nothing_built k (type_known m c.args.self.now h s c.in-Equal.of c.type_in-of.result k c.type_in-of.ensures) refl refl))
-      | inr e ↦ made_at m m c.args.self.now c.args.instr.now _ c.have_type-in-Equal.result e (λ h s k set. (k.of_head.constants.uses, c.have_type-in-Equal.ensures c.args.lists.now h s (type_in s.now c.in-Equal.of) nothing_built k (type_known m c.args.self.now h s c.in-Equal.of c.type_in-of.result k c.type_in-of.ensures) refl refl))
+      | inl e ↦ made_at m m c.args.self.now c.args.instr.now _ c.have_type-in-Equal.result e (λ h s k set. (k.of_head.constants.uses, c.have_type-in-Equal.ensures c.args.lists.now h s (type_in s.now c.in-Equal.of) nothing_built k (type_known m c.args.self.now h s c.in-Equal.of c.type_in-of.result k c.type_in-of.ensures) refl refl refl))
+      | inr e ↦ made_at m m c.args.self.now c.args.instr.now _ c.have_type-in-Equal.result e (λ h s k set. (k.of_head.constants.uses, c.have_type-in-Equal.ensures c.args.lists.now h s (type_in s.now c.in-Equal.of) nothing_built k (type_known m c.args.self.now h s c.in-Equal.of c.type_in-of.result k c.type_in-of.ensures) refl refl refl))
     ]
 
 pub returns-in_default-clause-made : goal.returns-in_default-clause-made
