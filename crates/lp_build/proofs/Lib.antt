@@ -1,2 +1,8 @@
 pub mod Counting
 pub mod Telling
+pub mod Sets
+pub mod Signing
+pub mod Seeing
+pub mod Copied
+pub mod Growing
+pub mod Reading

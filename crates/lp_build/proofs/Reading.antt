@@ -1,0 +1,27 @@
+-- One more file that was read.
+use Rattle.std.specs.Global.{Global}
+use Rattle.std.proofs.Common.{◌≡◌, ℕ, ◌+◌, ◌<◌, ◌≤◌, List, [], ◌∷◌, ◌++◌, length, refl, sym, ap, subst, ◌∙◌, arith}
+use Rattle.std.specs.Prelude.{Vec, Result, Ok, Err, IfOk, string_bytes}
+use Rattle.std.proofs.lemmas.List.{length_push}
+use Rattle.lp_base.specs.declared.limits.TheConstants.{MAX_MODULES}
+use Rattle.lp_sig.specs.Refusals.{IsAt}
+use Rattle.lp_build.specs.Loads.{ending}
+use Rattle.lp_build.specs.Reads.{AreRead, IsReadFile, IsReadText}
+use Rattle.lp_build.specs.declared.sources.File.{File}
+use Rattle.lp_build.specs.declared.sources.Sources.{Sources}
+use Rattle.lp_build.proofs.Growing.{each_more}
+
+nothing_at : (n : ℕ) (f : File) → IsAt [] n f → ⊥
+nothing_at n f at = absurd (at.0)
+
+pub none_read : (sources : Sources) → sources.files.items ≡ [] → AreRead sources
+none_read sources e = record {
+  few = let n = ap length e in omega (arith, n);
+  each = λ n f at. absurd (nothing_at n f (subst (λ l. IsAt l n f) e at));
+}
+
+pub one_read : (old new : Sources) (n : ℕ) (f : File) → n ≡ length old.files.items → n < MAX_MODULES → new.files.items ≡ old.files.items ++ f ∷ [] → string_bytes f.name ≡ string_bytes f.module ++ ending f.part → IsReadText n f.text → AreRead old → AreRead new
+one_read old new n f at few e name text h = record {
+  few = let l = ap length e ∙ length_push old.files.items f in omega (arith, l, at, few);
+  each = λ k g there. each_more IsReadFile old.files.items f h.each (record { name = name; text = subst (λ x. IsReadText x f.text) at text }) k g (subst (λ l. IsAt l k g) e there);
+}

@@ -1,0 +1,4 @@
+use Rattle.lp_build.proofs.signatures.Signatures.get.Goals as goal
+
+pub returns : goal.returns
+returns c = ?
