@@ -62,7 +62,7 @@ module _ (b d : Nodes) (types : d.types ≡ b.types) where
   }
 
   bodies_same : (z : Seen) (xs ys : List AbbreviationEntry) → map abbreviation_row ys ≡ map abbreviation_row xs → All (IsBody b z) xs → All (IsBody d z) ys
-  bodies_same z xs [] e h = λ k w lt. absurd lt
+  bodies_same z xs [] e h = λ k w lt. absurd (omega (arith, lt))
   bodies_same z [] (y ∷ ys) e h = absurd (cc)
   bodies_same z (x ∷ xs) (y ∷ ys) e h =
       let first : abbreviation_row y ≡ abbreviation_row x = cc in

@@ -1,9 +1,11 @@
 -- One more text, signature or module behind those so far.
 use Rattle.std.proofs.Common.{◌≡◌, ℕ, zero, suc, ◌+◌, ◌<◌, ◌≤◌, List, [], ◌∷◌, ◌++◌, length, map, take, get_or, Option, Some, None, Bool, true, false, refl, sym, ap, subst, ◌∙◌, arith, append_assoc}
 use Rattle.std.specs.Global.{Global}
-use Rattle.std.specs.Prelude.{String, Vec, Result, Ok, Err, IfOk, string_bytes, nat_eq, if◌then◌else◌}
+use Rattle.std.specs.Borrow.{Bor}
+use Rattle.std.specs.Prelude.{String, Vec, Result, Ok, Err, IfOk, IfSome, string_bytes, nat_eq, if◌then◌else◌}
 use Rattle.std.proofs.lemmas.Bool.{eqb-true}
 use Rattle.std.proofs.lemmas.List.{length_push}
+use Rattle.indexmap.specs.IndexMap.{get}
 use Rattle.lp_syntax.specs.declared.text.ModuleText.{ModuleText}
 use Rattle.lp_syntax.specs.declared.text.SignatureText.{SignatureText}
 use Rattle.lp_lexer.specs.declared.token.Token.{Token}
@@ -14,16 +16,17 @@ use Rattle.lp_sig.specs.Refusals.{IsAt, IsAccepted}
 use Rattle.lp_sig.specs.Rows.{kind_row, fixity_row}
 use Rattle.lp_sig.specs.declared.signature.Signature.{Signature}
 use Rattle.lp_module.specs.declared.module.Module.{Module}
-use Rattle.lp_build.specs.Meant.{AreModulesAt, one_module, IsModuleAt, AreSignaturesOf, one_signature, IsSignatureOf, IsDeclaredAt, AreModules, AreModulesOf}
-use Rattle.lp_build.specs.Sights.{InForce, Sees}
+use Rattle.lp_build.specs.Meant.{AreModulesAt, one_module, IsModuleAt, AreSignaturesOf, one_signature, IsSignatureOf, IsDeclaredAt, IsOwnSignature, AreModules, AreModulesOf}
+use Rattle.lp_build.specs.Sights.{InForce, Sees, signature_of}
 use Rattle.lp_build.specs.Trees.{IsSignatureTree, IsModuleTree, AreTexts, no_text, one_text, other_text, AreSignatureTexts, AreModuleTexts}
-use Rattle.lp_build.specs.inner.Linked.{AreMade, AreTextsSoFar, IsOneMore}
+use Rattle.lp_build.specs.inner.Linked.{AreDeclared, AreMade, AreTextsSoFar, IsOneMore}
 use Rattle.lp_build.specs.declared.sources.File.{File}
 use Rattle.lp_build.specs.declared.sources.Part.{Part}
 use Rattle.lp_build.specs.declared.sources.Part.TheVariants as part
 use Rattle.lp_build.specs.declared.texts.Group.{Group}
 use Rattle.lp_build.specs.declared.texts.Texts.{Texts}
 use Rattle.lp_build.specs.declared.fault.BuildFault.{BuildFault}
+use Rattle.lp_build.specs.declared.signatures.Signatures.{Signatures}
 use Rattle.lp_build.specs.declared.sources.Sources.{Sources}
 use Rattle.lp_build.proofs.Signing.{first_ones}
 
@@ -102,7 +105,7 @@ pub made_none : (g : Group SignatureText) (made : List Signature) → made ≡ [
 made_none g made e = record { count = ap length e; each = λ place s at. absurd (nothing_at place s (subst (λ l. IsAt l place s) e at)) }
   where
     nothing_at : (place : ℕ) (s : Signature) → IsAt [] place s → ⊥
-    nothing_at place s at = absurd (at.0)
+    nothing_at place s at = let lt = at.0 in omega (arith, lt)
 
 pub made_more : (g : Group SignatureText) (old new : List Signature) (root : ℕ) (s : Signature) → AreMade g old root → new ≡ old ++ s ∷ [] → IsDeclaredAt g root s → AreMade g new (root + 1)
 made_more g old new root s h e is = record {
@@ -144,3 +147,13 @@ pub modules_are : (sources : Sources) (texts : Texts) (r : Result (Vec Module Gl
     IfOk r (λ modules. AreModules sources modules.items)
 modules_are sources texts (Ok modules) so h = record { signatures = texts.signatures; texts = texts.modules; signature_texts = so.signatures; module_texts = so.modules; meanings = h }
 modules_are sources texts (Err e) so h = tt
+
+-- a signature that is found is a module's own
+pub own_signature : (files : List File) (g : Group SignatureText) (name : List ℕ) (number : ℕ) (r : Option (Bor Signature)) → signature_of files name ≡ Some number → IfSome r (λ s. IsSignatureOf g number s.now) → IfSome r (λ s. IsOwnSignature files g name s.now)
+own_signature files g name number None e h = tt
+own_signature files g name number (Some s) e h = record { number = number; first = e; is = h }
+
+-- what stands at the place of a number is the signature of the file
+pub found_signature : (g : Group SignatureText) (signatures : Signatures) (number place : ℕ) (r : Option (Bor Signature)) → AreDeclared g signatures → get nat_eq signatures.places number ≡ Some place → IfSome r (λ x. IsAt signatures.made.items place x.now) → IfSome r (λ s. IsSignatureOf g number s.now)
+found_signature g signatures number place None h e at = tt
+found_signature g signatures number place (Some s) h e at = record { place = place; there = h.places number place e; declared = h.each place s.now at }

@@ -1,5 +1,5 @@
 -- What stands in a list of numbers with one more.
-use Rattle.std.proofs.Common.{◌≡◌, ℕ, List, [], ◌∷◌, ◌++◌, Bool, true, false, inl, inr, refl, sym, ap, subst, ◌∙◌, true≢false}
+use Rattle.std.proofs.Common.{arith, ◌≡◌, ℕ, List, [], ◌∷◌, ◌++◌, Bool, true, false, inl, inr, refl, sym, ap, subst, ◌∙◌, true≢false}
 use Rattle.std.specs.Prelude.{◌⊎◌, Contains, nat_eq, if◌then◌else◌}
 use Rattle.std.specs.List.{list_any}
 use Rattle.std.specs.Cmp.{nat_eq_equiv}
@@ -10,7 +10,15 @@ use Rattle.indexmap.specs.IndexSet.{insert_key}
 use Rattle.indexmap.proofs.CallerLemmas.{Contains-insert_key}
 
 pub nothing_in : (k : ℕ) → Contains [] k → ⊥
-nothing_in k c = absurd (c.1)
+nothing_in k c = let lt = c.1 in omega (arith, lt)
+
+-- in a list of one
+pub only_one : (n k : ℕ) → Contains (n ∷ []) k → n ≡ k
+only_one n k c = by (Contains-push_cases [] n k c)
+  where
+    by : Contains [] k ⊎ (n ≡ k) → n ≡ k
+    by (inl h) = absurd (nothing_in k h)
+    by (inr e) = e
 
 pub last_in : (ns : List ℕ) (n : ℕ) → Contains (ns ++ n ∷ []) n
 last_in ns n = Contains-push ns n

@@ -1,7 +1,8 @@
 -- Signatures by their names, one file after the other, and what words name.
 use Rattle.std.specs.Global.{Global}
 use Rattle.std.proofs.Common.{◌≡◌, ℕ, suc, ◌+◌, ◌<◌, ◌≤◌, List, [], ◌∷◌, ◌++◌, length, map, take, drop, get_or, Option, Some, None, Bool, true, false, refl, sym, ap, subst, ◌∙◌, true≢false, arith}
-use Rattle.std.specs.Prelude.{if◌then◌else◌, option_map, option_or, is_some, string_bytes, filter_map, nat_eq, Vec}
+use Rattle.std.specs.Prelude.{if◌then◌else◌, option_map, is_some, string_bytes, filter_map, nat_eq, Vec}
+use Rattle.std.specs.Option.{option_or}
 use Rattle.std.specs.Str.{bytes_eq}
 use Rattle.std.proofs.lemmas.List.{take_more, drop_more, drop_all, map-append, length-take-le}
 use Rattle.std.specs.List.{cons_option}
@@ -75,12 +76,11 @@ list_more f xs i x v old new h at is e so =
     ap lists_of e ∙ map-append (λ l. l.items) old (v ∷ []) ∙ ap (λ l. l ++ v.items ∷ []) so ∙ ap (λ y. map f (take i xs) ++ y ∷ []) is ∙ sym (map-append f (take i xs) (x ∷ [])) ∙ ap (map f) (first_ones xs i x h at)
 
 -- what one word adds
-with_one : Option ℕ → List ℕ → List ℕ
+abbrev pub with_one : Option ℕ → List ℕ → List ℕ
 with_one None ks = ks
 with_one (Some n) ks = insert_key nat_eq ks n
 
 one_word : (o : Option ℕ) (ks rest : List ℕ) → insert_all nat_eq ks (cons_option o rest) ≡ insert_all nat_eq (with_one o ks) rest
-unfolding with_one
 one_word None ks rest = refl
 one_word (Some n) ks rest = refl
 
@@ -95,14 +95,12 @@ word_more f ws i w o ks new all h at is e so =
 -- a word that names none
 pub word_passed : {W : Type 0} (f : W → Option ℕ) (ws : List W) (i : ℕ) (w : W) (o : Option ℕ) (ks all : List ℕ) → i < length ws → w ≡ get_or ws i w → o ≡ f w → o ≡ None →
     insert_all nat_eq ks (filter_map f (drop i ws)) ≡ all → insert_all nat_eq ks (filter_map f (drop (i + 1) ws)) ≡ all
-unfolding with_one
 word_passed f ws i w o ks all h at is none so = word_more f ws i w o ks ks all h at is (sym (ap (λ p. with_one p ks) none)) so
 
 pub word_taken : {W : Type 0} (f : W → Option ℕ) (ws : List W) (i : ℕ) (w : W) (o : Option ℕ) (n : ℕ) (ks new all : List ℕ) → i < length ws → w ≡ get_or ws i w → o ≡ f w → o ≡ Some n → new ≡ insert_key nat_eq ks n →
     insert_all nat_eq ks (filter_map f (drop i ws)) ≡ all → insert_all nat_eq new (filter_map f (drop (i + 1) ws)) ≡ all
-unfolding with_one
 word_taken f ws i w o n ks new all h at is some e so = word_more f ws i w o ks new all h at is (e ∙ sym (ap (λ p. with_one p ks) some)) so
 
 -- no word is left
 pub words_done : {W : Type 0} (f : W → Option ℕ) (ws : List W) (i : ℕ) (ks all : List ℕ) → length ws ≤ i → insert_all nat_eq ks (filter_map f (drop i ws)) ≡ all → ks ≡ all
-words_done f ws i ks all h so = sym (ap (λ l. insert_all nat_eq ks (filter_map f l)) (drop_all ws i h)) ∙ so
+words_done f ws i ks all h so = sym (ap (λ l. insert_all nat_eq ks (filter_map f l)) (drop_all i ws h)) ∙ so

@@ -53,7 +53,8 @@ pub fn build_program(alloc: Global, sources: &Sources) -> Result<Built, BuildFau
     let Some(root) = root_of(&modules) else {
         return Err(BuildFault::Memory);
     };
-    let assembled = assemble(alloc, &modules, root)?;
+    let list = modules.as_slice();
+    let assembled = assemble(alloc, list, root)?;
     let signature = query_signature(alloc, own, &assembled.kinds, &assembled.constants)?;
     let table = query_table(alloc, &signature)?;
     Ok(Built {

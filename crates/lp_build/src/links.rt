@@ -1,8 +1,9 @@
 // Which files the texts name.
-ghost use Rattle.std.specs.Prelude.{◌≡◌, ℕ, List, [], ◌∷◌, ◌++◌, length, map, get_or, nat_eq, option_map, option_or, Option, Some, None, IfOk, OnOk, Contains, string_bytes, if◌then◌else◌};
+ghost use Rattle.std.specs.Prelude.{◌≡◌, ℕ, List, [], ◌∷◌, ◌++◌, length, map, get_or, nat_eq, option_map, Option, Some, None, IfOk, OnOk, Contains, string_bytes, if◌then◌else◌};
+ghost use Rattle.std.specs.Option.{option_or, option_to_list};
 ghost use Rattle.std.specs.Str.{bytes_eq};
 ghost use Rattle.indexmap.specs.IndexSet.{insert_key};
-ghost use Rattle.lp_build.specs.Sights.{is_signature, named_by, signature_of, accum_sig_at, accumulate_at, SeesFirst, Sees};
+ghost use Rattle.lp_build.specs.Sights.{is_signature, named_by, signature_of, accum_sig_at, accumulate_at, Sees};
 ghost use Rattle.lp_build.specs.declared.sources.File.{File};
 ghost use Rattle.lp_build.specs.inner.Linked.{number_of, HasSignatures, AreLinks, IsPutBack, lists_of};
 
@@ -83,9 +84,9 @@ impl Numbers {
         &self,
         alloc: Global,
         source: &[u8],
-        words: &[Spot],
+        words: &Vec<Spot>,
     ) -> Result<Vec<usize>, Memory>
-        ensures { (files : List File) → HasSignatures self.now files → IfOk result (λ found. found.items ≡ named_by files source.now words.now) }
+        ensures { (files : List File) → HasSignatures self.now files → IfOk result (λ found. found.items ≡ named_by files source.now words.now.items) }
     {
         let mut seen = IndexSet::new(alloc);
         let mut found = Vec::new(alloc);
@@ -149,10 +150,8 @@ impl Links {
         for at in 0..sources.files.len() {
             let file = &sources.files[at];
             let source = file.text.bytes.as_slice();
-            let words = file.text.references.accum_sig.as_slice();
-            let uses = file.text.references.accumulate.as_slice();
-            let more = signatures.named(alloc, source, words)?;
-            let used = signatures.named(alloc, source, uses)?;
+            let more = signatures.named(alloc, source, &file.text.references.accum_sig)?;
+            let used = signatures.named(alloc, source, &file.text.references.accumulate)?;
             push_both(&mut named, &mut accumulated, more, used)?;
         }
         Ok(Links {
@@ -163,10 +162,10 @@ impl Links {
     }
 
     // The number of a module's own signature.
-    pub(crate) fn own(&self, module: &str) -> Option<usize>
-        ensures { (files : List File) → AreLinks files self.now → result ≡ signature_of files module.now }
+    pub(crate) fn own(&self, name: &str) -> Option<usize>
+        ensures { (files : List File) → AreLinks files self.now → result ≡ signature_of files name.now }
     {
-        self.signatures.number(module.as_bytes())
+        self.signatures.number(name.as_bytes())
     }
 
     // The numbers of the signatures that a file names by accum_sig.
@@ -189,13 +188,13 @@ impl Links {
         &self,
         alloc: Global,
         file: usize,
-        module: &str,
+        name: &str,
     ) -> Result<IndexSet<usize>, Memory>
-        ensures seen { (files : List File) → AreLinks files self.now → IfOk result (λ seen. (k : ℕ) → Contains seen.keys k → Sees files file module.now k) }
-        ensures all { (files : List File) → AreLinks files self.now → IfOk result (λ seen. (k : ℕ) → Sees files file module.now k → Contains seen.keys k) }
+        ensures seen { (files : List File) → AreLinks files self.now → IfOk result (λ seen. (k : ℕ) → Contains seen.keys k → Sees files file name.now k) }
+        ensures all { (files : List File) → AreLinks files self.now → IfOk result (λ seen. (k : ℕ) → Sees files file name.now k → Contains seen.keys k) }
     {
         let mut seen = IndexSet::new(alloc);
-        let mut work = self.first(alloc, file, module)?;
+        let mut work = self.first(alloc, file, name)?;
         for _ in 0..u64::MAX {
             match work.pop() {
                 None => return Ok(seen),
@@ -206,17 +205,19 @@ impl Links {
     }
 
     // The signatures that a module file sees first.
-    fn first(&self, alloc: Global, file: usize, module: &str) -> Result<Vec<usize>, Memory>
-        ensures seen { (files : List File) → AreLinks files self.now → IfOk result (λ work. (k : ℕ) → Contains work.items k → SeesFirst files file module.now k) }
-        ensures all { (files : List File) → AreLinks files self.now → IfOk result (λ work. (k : ℕ) → SeesFirst files file module.now k → Contains work.items k) }
+    fn first(&self, alloc: Global, file: usize, name: &str) -> Result<Vec<usize>, Memory>
+        ensures { (files : List File) → AreLinks files self.now → IfOk result (λ work. work.items ≡ accum_sig_at files file ++ accumulate_at files file ++ option_to_list (signature_of files name.now)) }
     {
         let mut work = Vec::new(alloc);
         work.extend_from_slice(self.named(file))?;
         work.extend_from_slice(self.accumulated(file))?;
-        if let Some(own) = self.own(module) {
-            work.push(own)?;
+        match self.own(name) {
+            None => Ok(work),
+            Some(own) => {
+                work.push(own)?;
+                Ok(work)
+            }
         }
-        Ok(work)
     }
 
     // One more signature that is seen; those that it names are to be seen too.

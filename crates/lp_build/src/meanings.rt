@@ -10,7 +10,7 @@ ghost use Rattle.lp_build.specs.inner.Linked.{AreDeclared, AreLinks};
 use crate::fault::BuildFault;
 use crate::links::Links;
 use crate::signatures::Signatures;
-use crate::texts::Group;
+use crate::texts::{Group, found_at};
 use lp_base::Memory;
 use lp_module::{Module, elaborate, order};
 use lp_sig::Signature;
@@ -44,16 +44,16 @@ pub(crate) fn module_at(
     ensures refused { IfErr result IsOfTexts }
     ensures meaning { (files : List File) (g : Group SignatureText) → AreLinks files links.now → AreDeclared g signatures.now → IfOk result (IsModuleAt files g group.now place) }
 {
-    let Some(name) = group.names.get(place) else {
+    let Some(name) = found_at(&group.names, place) else {
         return Err(BuildFault::Memory);
     };
-    let Some(source) = group.sources.get(place) else {
+    let Some(source) = found_at(&group.sources, place) else {
         return Err(BuildFault::Memory);
     };
-    let Some(text) = group.texts.get(place) else {
+    let Some(text) = found_at(&group.texts, place) else {
         return Err(BuildFault::Memory);
     };
-    let Some(number) = group.numbers.get(place) else {
+    let Some(number) = found_at(&group.numbers, place) else {
         return Err(BuildFault::Memory);
     };
     let Some(own) = own_of(links, signatures, name.as_str()) else {
@@ -70,11 +70,13 @@ pub(crate) fn module_at(
 pub(crate) fn own_of<'a>(
     links: &Links,
     signatures: &'a Signatures,
-    module: &str,
+    name: &str,
 ) -> Option<&'a Signature>
-    ensures { (files : List File) (g : Group SignatureText) → AreLinks files links.now → AreDeclared g signatures.now → IfSome result (λ own. IsOwnSignature files g module.now own.now) }
+    ensures { (files : List File) (g : Group SignatureText) → AreLinks files links.now → AreDeclared g signatures.now → IfSome result (λ own. IsOwnSignature files g name.now own.now) }
 {
-    let number = links.own(module)?;
+    let Some(number) = links.own(name) else {
+        return None;
+    };
     signatures.get(number)
 }
 

@@ -60,12 +60,14 @@ fn text_of(alloc: Global, bytes: Vec<u8>, number: u32) -> Result<Text, BuildFaul
     ensures read { IfOk result (IsReadText number) }
     ensures fault { IfErr result (IsFaultOf bytes.items) }
 {
-    let tokens = match tokens(alloc, &bytes) {
+    let text = bytes.as_slice();
+    let tokens = match tokens(alloc, text) {
         Ok(tokens) => tokens,
         Err(LexFault::Memory) => return Err(BuildFault::Memory),
         Err(fault) => return Err(BuildFault::Lex(number, fault)),
     };
-    let references = references(alloc, &bytes, &tokens, number)?;
+    let found = tokens.as_slice();
+    let references = references(alloc, text, found, number)?;
     Ok(Text {
         bytes,
         tokens,

@@ -10,7 +10,7 @@ ghost use Rattle.lp_build.specs.inner.Linked.{AreDeclared, AreMade, IsCopy, IsNo
 
 use crate::fault::BuildFault;
 use crate::sources::as_number;
-use crate::texts::Group;
+use crate::texts::{Group, found_at};
 use indexmap::IndexMap;
 use lp_base::Memory;
 use lp_sig::{SigFault, Signature, elaborate};
@@ -37,12 +37,13 @@ fn put_place(
 }
 
 // The places of files in a group, by number.
-fn places_of(alloc: Global, numbers: &[usize]) -> Result<IndexMap<usize, usize>, Memory>
-    ensures { IfOk result (λ places. (number place : ℕ) → get nat_eq places number ≡ Some place → IsAt numbers.now place number) }
+fn places_of(alloc: Global, numbers: &Vec<usize>) -> Result<IndexMap<usize, usize>, Memory>
+    ensures { IfOk result (λ places. (number place : ℕ) → get nat_eq places number ≡ Some place → IsAt numbers.now.items place number) }
 {
     let mut places = IndexMap::new(alloc);
     for place in 0..numbers.len() {
-        put_place(&mut places, numbers[place], place)?;
+        let number = numbers[place];
+        put_place(&mut places, number, place)?;
     }
     Ok(places)
 }
@@ -115,8 +116,7 @@ impl Signatures {
         ensures declared { length group.now.texts.items ≤ 2 ^ 32 → IfOk result (AreDeclared group.now) }
     {
         let made = elaborate_all(alloc, group)?;
-        let numbers = group.numbers.as_slice();
-        let places = places_of(alloc, numbers)?;
+        let places = places_of(alloc, &group.numbers)?;
         Ok(Signatures { made, places })
     }
 
@@ -127,7 +127,7 @@ impl Signatures {
         let Some(place) = self.places.get(&number) else {
             return None;
         };
-        self.made.get(*place)
+        found_at(&self.made, *place)
     }
 
     // Adds a copy of the signature of this number.

@@ -1,7 +1,7 @@
 // The syntax of all files.
-ghost use Rattle.std.specs.Prelude.{◌≡◌, ◌+◌, ◌<◌, ◌≤◌, ◌^◌, ℕ, List, [], length, IfErr, IfOk, OnOk, string_bytes};
+ghost use Rattle.std.specs.Prelude.{◌≡◌, ◌+◌, ◌<◌, ◌≤◌, ◌^◌, ℕ, List, [], length, IfErr, IfOk, IfSome, OnOk, Contains};
 ghost use Rattle.lp_base.specs.declared.limits.TheConstants.{MAX_MODULES};
-ghost use Rattle.lp_fixity.specs.Table.{entry_of};
+ghost use Rattle.lp_fixity.specs.Table.{entry_of, standard};
 ghost use Rattle.lp_syntax.specs.Modules.{DeclaresOne};
 ghost use Rattle.lp_sig.specs.Pieces.{spelled};
 ghost use Rattle.lp_sig.specs.Refusals.{IsAt};
@@ -12,6 +12,7 @@ ghost use Rattle.lp_build.specs.inner.Linked.{AreLinks, AreTextsSoFar, IsOneMore
 use crate::fault::BuildFault;
 use crate::links::Links;
 use crate::sources::{File, Part, Sources, as_number};
+use indexmap::IndexSet;
 use lp_base::Memory;
 use lp_fixity::Table;
 use lp_sig::spelled_at;
@@ -56,6 +57,16 @@ impl<T: Drop> Group<T> {
     }
 }
 
+// What stands at a place, if something does.
+pub(crate) fn found_at<T>(list: &Vec<T>, place: usize) -> Option<&T>
+    ensures { IfSome result (λ found. IsAt list.now.items place found.now) }
+{
+    if place >= list.len() {
+        return None;
+    }
+    Some(&list[place])
+}
+
 // The texts of all files.
 #[derive(Drop)]
 pub(crate) struct Texts {
@@ -89,26 +100,40 @@ fn declare_all(table: &mut Table, file: &File) -> Result<(), BuildFault>
     Ok(())
 }
 
+// Adds the fixities of the files that are seen to the standard table, in load order.
+fn declare_seen(
+    table: &mut Table,
+    sources: &Sources,
+    seen: &IndexSet<usize>,
+) -> Result<(), BuildFault>
+    ensures refused { IfErr result IsOfTexts }
+    ensures force { ((name : List ℕ) → entry_of table.old name ≡ standard name) → OnOk result (InForce sources.now.files.items (Contains seen.now.keys) (length sources.now.files.items) (entry_of table.new)) }
+{
+    for other in 0..sources.files.len() {
+        let number = other;
+        if !seen.contains(&number) {
+            continue;
+        }
+        let file = &sources.files[other];
+        declare_all(table, file)?;
+    }
+    Ok(())
+}
+
 // The table that a module begins with: the standard one, with the fixities of the signatures that it sees, in load order.
 fn table_for(
     alloc: Global,
     sources: &Sources,
     links: &Links,
     place: usize,
-    module: &str,
+    name: &str,
 ) -> Result<Table, BuildFault>
     ensures refused { IfErr result IsOfTexts }
-    ensures force { AreLinks sources.now.files.items links.now → IfOk result (λ table. InForce sources.now.files.items (Sees sources.now.files.items place module.now) (length sources.now.files.items) (entry_of table)) }
+    ensures force { AreLinks sources.now.files.items links.now → IfOk result (λ table. InForce sources.now.files.items (Sees sources.now.files.items place name.now) (length sources.now.files.items) (entry_of table)) }
 {
     let mut table = Table::standard(alloc)?;
-    let seen = links.seen(alloc, place, module)?;
-    for other in 0..sources.files.len() {
-        if !seen.contains(&other) {
-            continue;
-        }
-        let file = &sources.files[other];
-        declare_all(&mut table, file)?;
-    }
+    let seen = links.seen(alloc, place, name)?;
+    declare_seen(&mut table, sources, &seen)?;
     Ok(table)
 }
 

@@ -37,8 +37,8 @@ pub record AreLinks (files : List File) (links : Links) : Type 0 where
   pub accumulate : lists_of links.accumulated.items ≡ map (accumulate_of files) files
 
 -- the signatures so far are what the first texts of a group declare
-pub record AreMade (g : Group SignatureText) (made : List Signature) (count : ℕ) : Type 0 where
-  pub count : length made ≡ count
+pub record AreMade (g : Group SignatureText) (made : List Signature) (n : ℕ) : Type 0 where
+  pub count : length made ≡ n
   pub each : (place : ℕ) (s : Signature) → IsAt made place s → IsDeclaredAt g place s
 
 -- the signatures are what the texts of a group declare, and their places are those of their numbers

@@ -4,7 +4,7 @@ use Rattle.lp_build.specs.inner.Linked.{AreTextsSoFar}
 use Rattle.lp_build.proofs.texts.texts_of.Goals as goal
 
 pub loop-place-init : goal.loop-place-init
-loop-place-init c = λ few links. c.new.ensures c.args.sources.now.files.items
+loop-place-init c = λ few links. c.new-texts.ensures c.args.sources.now.files.items
 
 pub loop-place-preserved : goal.loop-place-preserved
 loop-place-preserved c = λ few links.

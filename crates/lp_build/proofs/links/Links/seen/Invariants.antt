@@ -4,4 +4,4 @@ use Rattle.lp_build.specs.inner.Linked.{AreLinks, IsSeenSoFar}
 use Rattle.lp_build.proofs.links.Links.seen.Given as goal
 
 abbrev pub invariant-loop : goal.invariant-loop
-invariant-loop l = (files : List File) → AreLinks files l.self → IsSeenSoFar files l.file l.module l.seen.keys l.work.items
+invariant-loop l = (files : List File) → AreLinks files l.self → IsSeenSoFar files l.file l.name l.seen.keys l.work.items

@@ -3,6 +3,6 @@ use Rattle.lp_build.proofs.texts.Texts.new.Goals as goal
 
 pub returns : goal.returns
 returns c = λ files. record {
-  signatures = empty_texts _ _ files _ _ _ _ c.new-signatures.ensures.numbers c.new-signatures.ensures.names c.new-signatures.ensures.sources c.new-signatures.ensures.texts;
-  modules = empty_texts _ _ files _ _ _ _ c.new-modules.ensures.numbers c.new-modules.ensures.names c.new-modules.ensures.sources c.new-modules.ensures.texts;
+  signatures = empty_texts _ _ files _ _ _ _ c.new.ensures.numbers c.new.ensures.names c.new.ensures.sources c.new.ensures.texts;
+  modules = empty_texts _ _ files _ _ _ _ c.new-2.ensures.numbers c.new-2.ensures.names c.new-2.ensures.sources c.new-2.ensures.texts;
 }
