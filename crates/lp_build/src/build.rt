@@ -56,12 +56,14 @@ pub fn build_program(alloc: Global, sources: &Sources) -> Result<Built, BuildFau
     let list = modules.as_slice();
     let assembled = assemble(alloc, list, root)?;
     let signature = query_signature(alloc, own, &assembled.kinds, &assembled.constants)?;
-    let table = query_table(alloc, &signature)?;
-    Ok(Built {
-        assembled,
-        signature,
-        table,
-    })
+    match query_table(alloc, &signature) {
+        Ok(table) => Ok(Built {
+            assembled,
+            signature,
+            table,
+        }),
+        Err(Memory) => Err(BuildFault::Memory),
+    }
 }
 
 // The number of the last module. There are no more modules than files.

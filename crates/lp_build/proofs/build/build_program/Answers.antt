@@ -1,17 +1,11 @@
 use Rattle.std.proofs.Common.{◌≤◌, length, arith, subst}
 use Rattle.std.specs.Prelude.{◌^◌}
-use Rattle.lp_lemmas.proofs.Results.{passed_up}
 use Rattle.lp_module.specs.Program.{IsProgram}
-use Rattle.lp_build.specs.Faults.{IsOfTexts}
-use Rattle.lp_build.specs.declared.fault.BuildFault.TheVariants as fault
 use Rattle.lp_build.proofs.Growing.{few_texts}
 use Rattle.lp_build.proofs.build.build_program.Goals as goal
 
-pub returns-in_err-table-clause-refused : goal.returns-in_err-table-clause-refused
-returns-in_err-table-clause-refused c = passed_up c.from_residual-in_err-table.result fault.Memory IsOfTexts c.from_residual-in_err-table.ensures.1 tt
-
-pub returns-clause-program : goal.returns-clause-program
-returns-clause-program c = λ read.
+pub returns-in-Ok-clause-program : goal.returns-in-Ok-clause-program
+returns-in-Ok-clause-program c = λ read.
     let texts = c.in_ok-texts.ensures.texts read.few c.in_ok-links.ensures in
     let count = few_texts texts.signatures in
     let few = read.few in
