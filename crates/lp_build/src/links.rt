@@ -80,12 +80,7 @@ impl Numbers {
     }
 
     // The numbers of the signatures that words name, each once, by first place.
-    fn named(
-        &self,
-        alloc: Global,
-        source: &[u8],
-        words: &Vec<Spot>,
-    ) -> Result<Vec<usize>, Memory>
+    fn named(&self, alloc: Global, source: &[u8], words: &Vec<Spot>) -> Result<Vec<usize>, Memory>
         ensures { (files : List File) → HasSignatures self.now files → IfOk result (λ found. found.items ≡ named_by files source.now words.now.items) }
     {
         let mut seen = IndexSet::new(alloc);

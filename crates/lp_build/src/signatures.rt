@@ -25,11 +25,7 @@ pub(crate) struct Signatures {
 }
 
 // One more place.
-fn put_place(
-    places: &mut IndexMap<usize, usize>,
-    number: usize,
-    place: usize,
-) -> Result<(), Memory>
+fn put_place(places: &mut IndexMap<usize, usize>, number: usize, place: usize) -> Result<(), Memory>
     ensures { OnOk result ((n : ℕ) → get nat_eq places.new n ≡ (if nat_eq number n then Some place else get nat_eq places.old n)) }
 {
     places.insert(number, place)?;
@@ -131,7 +127,12 @@ impl Signatures {
     }
 
     // Adds a copy of the signature of this number.
-    fn copy_one(&self, alloc: Global, number: usize, copies: &mut Vec<Signature>) -> Result<(), Memory>
+    fn copy_one(
+        &self,
+        alloc: Global,
+        number: usize,
+        copies: &mut Vec<Signature>,
+    ) -> Result<(), Memory>
         ensures { (g : Group SignatureText) → AreDeclared g self.now → OnOk result ((s : Signature) × IsSignatureOf g number s × (copies.new.items ≡ copies.old.items ++ s ∷ [])) }
     {
         let Some(signature) = self.get(number) else {

@@ -11,7 +11,7 @@ pub returns-in-Signature : goal.returns-in-Signature
 returns-in-Signature c =
     on_ok_weaker c.add_name.result
     (λ h files at has name. one_signature_more c.args.file.now files name c.args.number (number_of c.add_name.new.self name) (number_of c.args.self.now name) c.in-Signature.is at (has name)
-        (h name ∙ ap (λ l. option_or (number_of c.args.self.now name) (if bytes_eq name l then Some c.args.number else None)) c.as_bytes.ensures.value)) c.add_name.ensures
+    (h name ∙ ap (λ l. option_or (number_of c.args.self.now name) (if bytes_eq name l then Some c.args.number else None)) c.as_bytes.ensures.value)) c.add_name.ensures
 
 pub returns-in-Module : goal.returns-in-Module
 returns-in-Module c = λ files at has name. no_signature_more c.args.file.now files name (number_of c.args.self.now name) c.in-Module.is (has name)
