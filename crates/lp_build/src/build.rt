@@ -1,6 +1,8 @@
 // The program of the files.
 ghost use Rattle.std.specs.Prelude.{◌<◌, length, IfErr, IfOk};
 ghost use Rattle.lp_build.specs.Faults.{IsOfTexts};
+ghost use Rattle.lp_build.specs.Meant.{AreModules};
+ghost use Rattle.lp_build.specs.Reads.{AreRead};
 
 use crate::fault::BuildFault;
 use crate::links::Links;
@@ -200,6 +202,7 @@ fn image_of(alloc: Global, modules: &mut Vec<Module>) -> Result<Image, BuildFaul
 /// accumulate, then the first fault of a module, accumulated ones first.
 pub fn modules(alloc: Global, sources: &Sources) -> Result<Vec<Module>, BuildFault>
     ensures refused { IfErr result IsOfTexts }
+    ensures meanings { AreRead sources.now → IfOk result (λ modules. AreModules sources.now modules.items) }
 {
     let links = Links::of(alloc, sources)?;
     let texts = texts_of(alloc, sources, &links)?;

@@ -1,11 +1,16 @@
 // What all modules mean.
-ghost use Rattle.std.specs.Prelude.{IfErr};
+ghost use Rattle.std.specs.Prelude.{ℕ, ◌++◌, List, IfErr, IfOk, IfSome};
+ghost use Rattle.lp_syntax.specs.declared.text.SignatureText.{SignatureText};
 ghost use Rattle.lp_build.specs.Faults.{IsOfTexts};
+ghost use Rattle.lp_build.specs.Meant.{AreModulesOf, AreSignaturesOf, IsModuleAt, IsOwnSignature};
+ghost use Rattle.lp_build.specs.Sights.{accum_sig_at, accumulate_at};
+ghost use Rattle.lp_build.specs.declared.sources.File.{File};
+ghost use Rattle.lp_build.specs.inner.Linked.{AreDeclared, AreLinks};
 
 use crate::fault::BuildFault;
 use crate::links::Links;
 use crate::signatures::Signatures;
-use crate::texts::Group;
+use crate::texts::{Group, found_at};
 use lp_base::Memory;
 use lp_module::{Module, elaborate, order};
 use lp_sig::Signature;
@@ -19,7 +24,9 @@ fn used_by(
     links: &Links,
     signatures: &Signatures,
     number: usize,
-) -> Result<Vec<Signature>, Memory> {
+) -> Result<Vec<Signature>, Memory>
+    ensures { (files : List File) (g : Group SignatureText) → AreLinks files links.now → AreDeclared g signatures.now → IfOk result (λ used. AreSignaturesOf g (accum_sig_at files number ++ accumulate_at files number) used.items) }
+{
     let mut used = Vec::new(alloc);
     signatures.copy_into(alloc, links.named(number), &mut used)?;
     signatures.copy_into(alloc, links.accumulated(number), &mut used)?;
@@ -34,30 +41,42 @@ pub(crate) fn module_at(
     group: &Group<ModuleText>,
     place: usize,
 ) -> Result<Module, BuildFault>
-    ensures { IfErr result IsOfTexts }
+    ensures refused { IfErr result IsOfTexts }
+    ensures meaning { (files : List File) (g : Group SignatureText) → AreLinks files links.now → AreDeclared g signatures.now → IfOk result (IsModuleAt files g group.now place) }
 {
-    let (Some(name), Some(source), Some(text), Some(number)) = (
-        group.names.get(place),
-        group.sources.get(place),
-        group.texts.get(place),
-        group.numbers.get(place),
-    ) else {
+    let Some(name) = found_at(&group.names, place) else {
+        return Err(BuildFault::Memory);
+    };
+    let Some(source) = found_at(&group.sources, place) else {
+        return Err(BuildFault::Memory);
+    };
+    let Some(text) = found_at(&group.texts, place) else {
+        return Err(BuildFault::Memory);
+    };
+    let Some(number) = found_at(&group.numbers, place) else {
         return Err(BuildFault::Memory);
     };
     let Some(own) = own_of(links, signatures, name.as_str()) else {
         return Err(BuildFault::Memory);
     };
     let used = used_by(alloc, links, signatures, *number)?;
-    Ok(elaborate(alloc, source, text, name.as_str(), own, &used)?)
+    let bytes = source.as_slice();
+    let seen = used.as_slice();
+    let module = elaborate(alloc, bytes, text, name.as_str(), own, seen)?;
+    Ok(module)
 }
 
 // A module's own signature.
 pub(crate) fn own_of<'a>(
     links: &Links,
     signatures: &'a Signatures,
-    module: &str,
-) -> Option<&'a Signature> {
-    let number = links.own(module)?;
+    name: &str,
+) -> Option<&'a Signature>
+    ensures { (files : List File) (g : Group SignatureText) → AreLinks files links.now → AreDeclared g signatures.now → IfSome result (λ own. IsOwnSignature files g name.now own.now) }
+{
+    let Some(number) = links.own(name) else {
+        return None;
+    };
     signatures.get(number)
 }
 
@@ -68,12 +87,18 @@ pub(crate) fn modules_of(
     signatures: &Signatures,
     group: &Group<ModuleText>,
 ) -> Result<Vec<Module>, BuildFault>
-    ensures { IfErr result IsOfTexts }
+    ensures refused { IfErr result IsOfTexts }
+    ensures meanings { (files : List File) (g : Group SignatureText) → AreLinks files links.now → AreDeclared g signatures.now → IfOk result (λ modules. AreModulesOf files g group.now modules.items) }
 {
-    let places = order(alloc, &group.names, &group.sources, &group.texts, 0)?;
+    let names = group.names.as_slice();
+    let sources = group.sources.as_slice();
+    let texts = group.texts.as_slice();
+    let places = order(alloc, names, sources, texts, 0)?;
     let mut modules = Vec::new(alloc);
-    for place in &places {
-        modules.push(module_at(alloc, links, signatures, group, *place as usize)?)?;
+    for at in 0..places.len() {
+        let place = places[at];
+        let module = module_at(alloc, links, signatures, group, place as usize)?;
+        modules.push(module)?;
     }
     Ok(modules)
 }

@@ -1,10 +1,16 @@
 // What all signatures mean.
-ghost use Rattle.std.specs.Prelude.{IfErr};
+ghost use Rattle.std.specs.Prelude.{◌≡◌, ◌<◌, ◌≤◌, ◌^◌, ◌++◌, ◌∷◌, [], ℕ, List, length, nat_eq, Some, IfErr, IfOk, IfSome, OnOk, if◌then◌else◌};
+ghost use Rattle.indexmap.specs.IndexMap.{get};
+ghost use Rattle.lp_syntax.specs.declared.text.SignatureText.{SignatureText};
+ghost use Rattle.lp_sig.specs.Refusals.{IsAt};
 ghost use Rattle.lp_build.specs.Faults.{IsOfTexts};
+ghost use Rattle.lp_build.specs.Meant.{AreSignaturesOf, IsSignatureOf};
+ghost use Rattle.lp_build.specs.declared.texts.Group.{Group};
+ghost use Rattle.lp_build.specs.inner.Linked.{AreDeclared, AreMade, IsCopy, IsNoted};
 
 use crate::fault::BuildFault;
 use crate::sources::as_number;
-use crate::texts::Group;
+use crate::texts::{Group, found_at};
 use indexmap::IndexMap;
 use lp_base::Memory;
 use lp_sig::{SigFault, Signature, elaborate};
@@ -18,39 +24,66 @@ pub(crate) struct Signatures {
     places: IndexMap<usize, usize>,
 }
 
+// One more place.
+fn put_place(places: &mut IndexMap<usize, usize>, number: usize, place: usize) -> Result<(), Memory>
+    ensures { OnOk result ((n : ℕ) → get nat_eq places.new n ≡ (if nat_eq number n then Some place else get nat_eq places.old n)) }
+{
+    places.insert(number, place)?;
+    Ok(())
+}
+
 // The places of files in a group, by number.
-fn places_of(alloc: Global, numbers: &[usize]) -> Result<IndexMap<usize, usize>, Memory> {
+fn places_of(alloc: Global, numbers: &Vec<usize>) -> Result<IndexMap<usize, usize>, Memory>
+    ensures { IfOk result (λ places. (number place : ℕ) → get nat_eq places number ≡ Some place → IsAt numbers.now.items place number) }
+{
     let mut places = IndexMap::new(alloc);
-    for (place, number) in numbers.iter().enumerate() {
-        places.insert(*number, place)?;
+    for place in 0..numbers.len() {
+        let number = numbers[place];
+        put_place(&mut places, number, place)?;
     }
     Ok(places)
 }
 
+// Takes what was answered of a signature. A circle of accum_sig is refused at once, of the other faults the first one at the end.
+fn note(
+    made: &mut Vec<Signature>,
+    refused: &mut Option<SigFault>,
+    answer: Result<Signature, SigFault>,
+) -> Result<(), BuildFault>
+    ensures refused { IfErr result IsOfTexts }
+    ensures noted { OnOk result (IsNoted answer made.old.items made.new.items refused.old refused.new) }
+{
+    match answer {
+        Ok(signature) => {
+            made.push(signature)?;
+            Ok(())
+        }
+        Err(SigFault::CyclicSignature(word)) => {
+            Err(BuildFault::Sig(SigFault::CyclicSignature(word)))
+        }
+        Err(fault) => {
+            if refused.is_some() {
+                return Ok(());
+            }
+            *refused = Some(fault);
+            Ok(())
+        }
+    }
+}
+
 // What the signatures mean, in load order. A circle of accum_sig goes before all other faults; else the first fault is refused.
 fn elaborate_all(alloc: Global, group: &Group<SignatureText>) -> Result<Vec<Signature>, BuildFault>
-    ensures { IfErr result IsOfTexts }
+    ensures refused { IfErr result IsOfTexts }
+    ensures made { length group.now.texts.items ≤ 2 ^ 32 → IfOk result (λ made. AreMade group.now made.items (length group.now.texts.items)) }
 {
+    let names = group.names.as_slice();
+    let sources = group.sources.as_slice();
+    let texts = group.texts.as_slice();
     let mut made = Vec::new(alloc);
     let mut refused = None;
     for root in 0..group.texts.len() {
-        match elaborate(
-            alloc,
-            &group.names,
-            &group.sources,
-            &group.texts,
-            as_number(root),
-        ) {
-            Ok(signature) => made.push(signature)?,
-            Err(SigFault::CyclicSignature(word)) => {
-                return Err(BuildFault::Sig(SigFault::CyclicSignature(word)));
-            }
-            Err(fault) => {
-                if refused.is_none() {
-                    refused = Some(fault);
-                }
-            }
-        }
+        let answer = elaborate(alloc, names, sources, texts, as_number(root));
+        note(&mut made, &mut refused, answer)?;
     }
     match refused {
         Some(fault) => Err(BuildFault::from(fault)),
@@ -59,20 +92,24 @@ fn elaborate_all(alloc: Global, group: &Group<SignatureText>) -> Result<Vec<Sign
 }
 
 // A signature with the same entries.
-fn copy_of(alloc: Global, signature: &Signature) -> Result<Signature, Memory> {
-    Signature::from_entries(
+fn copy_of(alloc: Global, signature: &Signature) -> Result<Signature, Memory>
+    ensures { IfOk result (IsCopy signature.now) }
+{
+    let copy = Signature::from_entries(
         alloc,
         signature.bank(),
         signature.kinds(),
         signature.constants(),
         signature.abbreviations(),
         signature.fixities(),
-    )
+    )?;
+    Ok(copy)
 }
 
 impl Signatures {
     pub(crate) fn of(alloc: Global, group: &Group<SignatureText>) -> Result<Signatures, BuildFault>
-        ensures { IfErr result IsOfTexts }
+        ensures refused { IfErr result IsOfTexts }
+        ensures declared { length group.now.texts.items ≤ 2 ^ 32 → IfOk result (AreDeclared group.now) }
     {
         let made = elaborate_all(alloc, group)?;
         let places = places_of(alloc, &group.numbers)?;
@@ -80,9 +117,29 @@ impl Signatures {
     }
 
     // The signature whose file has this number.
-    pub(crate) fn get(&self, number: usize) -> Option<&Signature> {
-        let place = self.places.get(&number)?;
-        self.made.get(*place)
+    pub(crate) fn get(&self, number: usize) -> Option<&Signature>
+        ensures { (g : Group SignatureText) → AreDeclared g self.now → IfSome result (λ s. IsSignatureOf g number s.now) }
+    {
+        let Some(place) = self.places.get(&number) else {
+            return None;
+        };
+        found_at(&self.made, *place)
+    }
+
+    // Adds a copy of the signature of this number.
+    fn copy_one(
+        &self,
+        alloc: Global,
+        number: usize,
+        copies: &mut Vec<Signature>,
+    ) -> Result<(), Memory>
+        ensures { (g : Group SignatureText) → AreDeclared g self.now → OnOk result ((s : Signature) × IsSignatureOf g number s × (copies.new.items ≡ copies.old.items ++ s ∷ [])) }
+    {
+        let Some(signature) = self.get(number) else {
+            return Err(Memory);
+        };
+        copies.push(copy_of(alloc, signature)?)?;
+        Ok(())
     }
 
     // Adds copies of the signatures of these numbers.
@@ -91,12 +148,11 @@ impl Signatures {
         alloc: Global,
         numbers: &[usize],
         copies: &mut Vec<Signature>,
-    ) -> Result<(), Memory> {
-        for number in numbers {
-            let Some(signature) = self.get(*number) else {
-                return Err(Memory);
-            };
-            copies.push(copy_of(alloc, signature)?)?;
+    ) -> Result<(), Memory>
+        ensures { (g : Group SignatureText) (ns : List ℕ) → AreDeclared g self.now → AreSignaturesOf g ns copies.old.items → OnOk result (AreSignaturesOf g (ns ++ numbers.now) copies.new.items) }
+    {
+        for at in 0..numbers.len() {
+            self.copy_one(alloc, numbers[at], copies)?;
         }
         Ok(())
     }

@@ -1,5 +1,5 @@
 // Files as they were loaded.
-ghost use Rattle.std.specs.Prelude.{◌≡◌, ◌≤◌, Option, IfSome, string_bytes};
+ghost use Rattle.std.specs.Prelude.{◌≡◌, ◌≤◌, ◌<◌, ◌^◌, Option, IfSome, string_bytes};
 ghost use Rattle.lp_base.specs.Held.{Held};
 ghost use Rattle.lp_build.specs.Told.{IsTold, AreLoaded};
 
@@ -39,7 +39,8 @@ pub(crate) struct Text {
 
 // A place as a number of 32 bits; no list of files or names is longer.
 pub(crate) fn as_number(place: usize) -> u32
-    ensures { result ≤ place }
+    ensures below { result ≤ place }
+    ensures same { place < 2 ^ 32 → result ≡ place }
 {
     place.min(u32::MAX as usize) as u32
 }

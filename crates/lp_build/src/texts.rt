@@ -1,10 +1,18 @@
 // The syntax of all files.
-ghost use Rattle.std.specs.Prelude.{IfErr};
+ghost use Rattle.std.specs.Prelude.{◌≡◌, ◌+◌, ◌<◌, ◌≤◌, ◌^◌, ℕ, List, [], length, IfErr, IfOk, IfSome, OnOk, Contains};
+ghost use Rattle.lp_base.specs.declared.limits.TheConstants.{MAX_MODULES};
+ghost use Rattle.lp_fixity.specs.Table.{entry_of, standard};
+ghost use Rattle.lp_syntax.specs.Modules.{DeclaresOne};
+ghost use Rattle.lp_sig.specs.Pieces.{spelled};
+ghost use Rattle.lp_sig.specs.Refusals.{IsAt};
 ghost use Rattle.lp_build.specs.Faults.{IsOfTexts};
+ghost use Rattle.lp_build.specs.Sights.{DeclareAll, InForce, Sees};
+ghost use Rattle.lp_build.specs.inner.Linked.{AreLinks, AreTextsSoFar, IsOneMore};
 
 use crate::fault::BuildFault;
 use crate::links::Links;
 use crate::sources::{File, Part, Sources, as_number};
+use indexmap::IndexSet;
 use lp_base::Memory;
 use lp_fixity::Table;
 use lp_sig::spelled_at;
@@ -22,7 +30,12 @@ pub(crate) struct Group<T: Drop> {
 }
 
 impl<T: Drop> Group<T> {
-    fn new(alloc: Global) -> Group<T> {
+    fn new(alloc: Global) -> Group<T>
+        ensures names { result.names.items ≡ [] }
+        ensures sources { result.sources.items ≡ [] }
+        ensures texts { result.texts.items ≡ [] }
+        ensures numbers { result.numbers.items ≡ [] }
+    {
         Group {
             names: Vec::new(alloc),
             sources: Vec::new(alloc),
@@ -31,15 +44,27 @@ impl<T: Drop> Group<T> {
         }
     }
 
-    fn add(&mut self, alloc: Global, place: usize, file: &File, text: T) -> Result<(), Memory> {
-        self.names
-            .push(String::from_str(alloc, file.module.as_str())?)?;
-        self.sources
-            .push(Vec::from_slice(alloc, file.text.bytes.as_slice())?)?;
+    fn add(&mut self, alloc: Global, place: usize, file: &File, text: T) -> Result<(), Memory>
+        ensures { OnOk result (IsOneMore place file.now text self.old self.new) }
+    {
+        let name = String::from_str(alloc, file.module.as_str())?;
+        let source = Vec::from_slice(alloc, file.text.bytes.as_slice())?;
+        self.names.push(name)?;
+        self.sources.push(source)?;
         self.numbers.push(place)?;
         self.texts.push(text)?;
         Ok(())
     }
+}
+
+// What stands at a place, if something does.
+pub(crate) fn found_at<T>(list: &Vec<T>, place: usize) -> Option<&T>
+    ensures { IfSome result (λ found. IsAt list.now.items place found.now) }
+{
+    if place >= list.len() {
+        return None;
+    }
+    Some(&list[place])
 }
 
 // The texts of all files.
@@ -50,20 +75,47 @@ pub(crate) struct Texts {
 }
 
 fn declare_one(table: &mut Table, source: &[u8], line: FixityLine) -> Result<(), BuildFault>
-    ensures { IfErr result IsOfTexts }
+    ensures refused { IfErr result IsOfTexts }
+    ensures declared { OnOk result (DeclaresOne (spelled source.now line.name) (line.fixity, line.number) (entry_of table.old) (entry_of table.new)) }
 {
     match table.declare(spelled_at(source, line.name), line.fixity, line.number) {
-        Ok(()) => Ok(()),
-        Err(fault) => Err(BuildFault::from(SyntaxFault::Operator(fault, line.name))),
+        Ok(()) => {
+            return Ok(());
+        }
+        Err(fault) => {
+            return Err(BuildFault::from(SyntaxFault::Operator(fault, line.name)));
+        }
     }
 }
 
 // Adds the fixities of a file to a table.
 fn declare_all(table: &mut Table, file: &File) -> Result<(), BuildFault>
-    ensures { IfErr result IsOfTexts }
+    ensures refused { IfErr result IsOfTexts }
+    ensures declared { OnOk result (DeclareAll file.now.text.bytes.items (entry_of table.old) file.now.text.references.fixities.items (entry_of table.new)) }
 {
-    for line in &file.text.references.fixities {
-        declare_one(table, file.text.bytes.as_slice(), *line)?;
+    for at in 0..file.text.references.fixities.len() {
+        let line = file.text.references.fixities[at];
+        declare_one(table, file.text.bytes.as_slice(), line)?;
+    }
+    Ok(())
+}
+
+// Adds the fixities of the files that are seen to the standard table, in load order.
+fn declare_seen(
+    table: &mut Table,
+    sources: &Sources,
+    seen: &IndexSet<usize>,
+) -> Result<(), BuildFault>
+    ensures refused { IfErr result IsOfTexts }
+    ensures force { ((name : List ℕ) → entry_of table.old name ≡ standard name) → OnOk result (InForce sources.now.files.items (Contains seen.now.keys) (length sources.now.files.items) (entry_of table.new)) }
+{
+    for other in 0..sources.files.len() {
+        let number = other;
+        if !seen.contains(&number) {
+            continue;
+        }
+        let file = &sources.files[other];
+        declare_all(table, file)?;
     }
     Ok(())
 }
@@ -74,26 +126,57 @@ fn table_for(
     sources: &Sources,
     links: &Links,
     place: usize,
-    module: &str,
+    name: &str,
 ) -> Result<Table, BuildFault>
-    ensures { IfErr result IsOfTexts }
+    ensures refused { IfErr result IsOfTexts }
+    ensures force { AreLinks sources.now.files.items links.now → IfOk result (λ table. InForce sources.now.files.items (Sees sources.now.files.items place name.now) (length sources.now.files.items) (entry_of table)) }
 {
     let mut table = Table::standard(alloc)?;
-    let seen = links.seen(alloc, place, module)?;
-    for (other, file) in sources.files.iter().enumerate() {
-        if seen.contains(&other) {
-            declare_all(&mut table, file)?;
-        }
-    }
+    let seen = links.seen(alloc, place, name)?;
+    declare_seen(&mut table, sources, &seen)?;
     Ok(table)
 }
 
 impl Texts {
-    fn new(alloc: Global) -> Texts {
+    fn new(alloc: Global) -> Texts
+        ensures { (files : List File) → AreTextsSoFar files 0 result }
+    {
         Texts {
             signatures: Group::new(alloc),
             modules: Group::new(alloc),
         }
+    }
+
+    // Reads the text of a signature.
+    fn add_signature(&mut self, alloc: Global, place: usize, file: &File) -> Result<(), BuildFault>
+        ensures refused { IfErr result IsOfTexts }
+        ensures texts { (files : List File) → IsAt files place file.now → file.now.part ≡ Part.Signature → place < 2 ^ 32 → AreTextsSoFar files place self.old → OnOk result (AreTextsSoFar files (place + 1) self.new) }
+    {
+        let source = file.text.bytes.as_slice();
+        let tokens = file.text.tokens.as_slice();
+        let text = signature_text(alloc, source, tokens, as_number(place))?;
+        self.signatures.add(alloc, place, file, text)?;
+        Ok(())
+    }
+
+    // Reads the text of a module.
+    fn add_module(
+        &mut self,
+        alloc: Global,
+        sources: &Sources,
+        links: &Links,
+        place: usize,
+        file: &File,
+    ) -> Result<(), BuildFault>
+        ensures refused { IfErr result IsOfTexts }
+        ensures texts { IsAt sources.now.files.items place file.now → file.now.part ≡ Part.Module → place < 2 ^ 32 → AreLinks sources.now.files.items links.now → AreTextsSoFar sources.now.files.items place self.old → OnOk result (AreTextsSoFar sources.now.files.items (place + 1) self.new) }
+    {
+        let source = file.text.bytes.as_slice();
+        let tokens = file.text.tokens.as_slice();
+        let mut table = table_for(alloc, sources, links, place, file.module.as_str())?;
+        let text = module_text(alloc, source, tokens, as_number(place), &mut table)?;
+        self.modules.add(alloc, place, file, text)?;
+        Ok(())
     }
 
     // Reads the text of one file.
@@ -105,33 +188,24 @@ impl Texts {
         place: usize,
         file: &File,
     ) -> Result<(), BuildFault>
-        ensures { IfErr result IsOfTexts }
+        ensures refused { IfErr result IsOfTexts }
+        ensures texts { IsAt sources.now.files.items place file.now → place < 2 ^ 32 → AreLinks sources.now.files.items links.now → AreTextsSoFar sources.now.files.items place self.old → OnOk result (AreTextsSoFar sources.now.files.items (place + 1) self.new) }
     {
-        let source = file.text.bytes.as_slice();
-        let tokens = file.text.tokens.as_slice();
-        let at = as_number(place);
         match file.part {
-            Part::Signature => {
-                let text = signature_text(alloc, source, tokens, at)?;
-                self.signatures.add(alloc, place, file, text)?;
-            }
-            Part::Module => {
-                let module = file.module.as_str();
-                let mut table = table_for(alloc, sources, links, place, module)?;
-                let text = module_text(alloc, source, tokens, at, &mut table)?;
-                self.modules.add(alloc, place, file, text)?;
-            }
+            Part::Signature => self.add_signature(alloc, place, file),
+            Part::Module => self.add_module(alloc, sources, links, place, file),
         }
-        Ok(())
     }
 }
 
 // The texts of all files, or the first fault in load order.
 pub(crate) fn texts_of(alloc: Global, sources: &Sources, links: &Links) -> Result<Texts, BuildFault>
-    ensures { IfErr result IsOfTexts }
+    ensures refused { IfErr result IsOfTexts }
+    ensures texts { length sources.now.files.items ≤ MAX_MODULES → AreLinks sources.now.files.items links.now → IfOk result (AreTextsSoFar sources.now.files.items (length sources.now.files.items)) }
 {
     let mut texts = Texts::new(alloc);
-    for (place, file) in sources.files.iter().enumerate() {
+    for place in 0..sources.files.len() {
+        let file = &sources.files[place];
         texts.add(alloc, sources, links, place, file)?;
     }
     Ok(texts)
