@@ -23,3 +23,5 @@ pub mod Tabled
 pub mod Frames
 pub mod Placed
 pub mod Taken
+pub mod Within
+pub mod Later

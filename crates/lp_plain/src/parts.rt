@@ -62,8 +62,8 @@ fn put_either(
     behind: Option<usize>,
 ) -> Result<(), Memory>
     ensures counts { machine.new.counts ≡ machine.old.counts }
-    ensures parts { OnOk result ((a : Around) (hs ks : Goals) (vs : List TermId) (b : Branch) → IsOf machine.old place left hs vs → IsOf machine.old place right ks vs → IsBehind machine.old a behind b →
-        (u n height : ℕ) (P : List Clause) → let g : Goal = Either (in_scope machine.old.bank vs place.values.types hs) (in_scope machine.old.bank vs place.values.types ks) in ArePartsOf machine.old machine.new a (look_goal u n P height (entry_at a place g) b g)) }
+    ensures parts { OnOk result ((a : Around) (hs ks : Goals) (σ : ℕ → Term) (b : Branch) → IsOf machine.old place left hs σ → IsOf machine.old place right ks σ → IsBehind machine.old a behind b →
+        (u n height : ℕ) (P : List Clause) → let g : Goal = Either (in_scope σ place.values.types hs) (in_scope σ place.values.types ks) in ArePartsOf machine.old machine.new a (look_goal u n P height (entry_at a place g) b g)) }
 {
     let other = machine.put_list(right, place, behind)?;
     machine.put_choice(Untried::Goals(other))?;
@@ -206,8 +206,8 @@ pub(crate) fn put_parts(
     behind: Option<usize>,
 ) -> Result<Turn, Memory>
     ensures counted { IfOk result (λ turn. IsApart turn machine.old.counts machine.new.counts) }
-    ensures either { IfOk result (λ turn. turn ≡ Turn.On → (l r : ℕ) → goal ≡ Flat.Either l r → (a : Around) (hs ks : Goals) (vs : List TermId) (b : Branch) → IsOf machine.old place l hs vs → IsOf machine.old place r ks vs → IsBehind machine.old a behind b →
-        (u n height : ℕ) (P : List Clause) → let g : Goal = Either (in_scope machine.old.bank vs place.values.types hs) (in_scope machine.old.bank vs place.values.types ks) in ArePartsOf machine.old machine.new a (look_goal u n P height (entry_at a place g) b g)) }
+    ensures either { IfOk result (λ turn. turn ≡ Turn.On → (l r : ℕ) → goal ≡ Flat.Either l r → (a : Around) (hs ks : Goals) (σ : ℕ → Term) (b : Branch) → IsOf machine.old place l hs σ → IsOf machine.old place r ks σ → IsBehind machine.old a behind b →
+        (u n height : ℕ) (P : List Clause) → let g : Goal = Either (in_scope σ place.values.types hs) (in_scope σ place.values.types ks) in ArePartsOf machine.old machine.new a (look_goal u n P height (entry_at a place g) b g)) }
 {
     if !take_apart(machine) {
         return Ok(Turn::Ended(Ending::Deep));
