@@ -25,3 +25,6 @@ pub mod Placed
 pub mod Taken
 pub mod Within
 pub mod Later
+pub mod Mapped
+pub mod Programs
+pub mod Starts

@@ -7,6 +7,7 @@ ghost use Rattle.lp_plain.specs.Cuts.{cut_off};
 ghost use Rattle.lp_plain.specs.Entries.{Around, AreTodo, IsListAt, HasAlternative, KeepsGoals, Reads, placed};
 ghost use Rattle.lp_plain.specs.Keeping.{HasOneMore, IsAround, KeepsCourse};
 ghost use Rattle.lp_plain.specs.Tables.{shown};
+ghost use Rattle.lp_plain.specs.Within.{IsTodoIn, StandsIn};
 
 use crate::act::Act;
 use crate::candidates::{Candidate, Index, candidate_after, first_candidate};
@@ -73,6 +74,7 @@ impl Machine {
     ) -> Result<Option<usize>, Memory>
         ensures course { KeepsCourse self.old self.new }
         ensures goals { OnOk result (KeepsGoals self.old self.new) }
+        ensures stands { OnOk result (StandsIn self.old → StandsIn self.new) }
         ensures reads { IfOk result (λ o. (a : Around) (gs : List Goal) (es : List Entry) → IsListAt self.old place list gs → Reads self.old a behind es → Reads self.new a o (placed a place gs ++ es)) }
     {
         let span = self.table.list(list)?;
@@ -91,6 +93,7 @@ impl Machine {
     ) -> Result<Option<usize>, Memory>
         ensures course { KeepsCourse self.old self.new }
         ensures goals { OnOk result (KeepsGoals self.old self.new) }
+        ensures stands { OnOk result (IsTodoIn (length self.old.bank.terms) todo → StandsIn self.old → StandsIn self.new) }
         ensures reads { IfOk result (λ o. (a : Around) (gs : List Goal) (es : List Entry) → AreTodo self.old.bank (shown self.old.table) self.old.scopes place todo gs → Reads self.old a behind es → Reads self.new a o (placed a place gs ++ es)) }
     {
         let number = self.frames.len();

@@ -64,7 +64,10 @@ pub(crate) struct Table {
 }
 
 impl Table {
-    pub(crate) fn new(alloc: Global) -> Table {
+    pub(crate) fn new(alloc: Global) -> Table
+        ensures goals { result.goals.items ≡ [] }
+        ensures rules { result.rules.items ≡ [] }
+    {
         Table {
             goals: Vec::new(alloc),
             lists: Vec::new(alloc),
