@@ -28,3 +28,5 @@ pub mod Later
 pub mod Mapped
 pub mod Programs
 pub mod Starts
+pub mod Growing
+pub mod Opening

@@ -12,6 +12,7 @@ use Rattle.lp_model.specs.Flat.{Written, Goal, Atomic, Cut, Either, Exists, Fora
 use Rattle.lp_model.specs.Search.{opened}
 use Rattle.lp_plain.specs.declared.types.Renewal.{Renewal}
 use Rattle.lp_plain.specs.Entries.{in_scope}
+use Rattle.lp_plain.specs.Opening.{cons}
 use Rattle.lp_plain.specs.Renewal.{renewing}
 use Rattle.lp_plain.proofs.Instances.{term_same}
 use Rattle.lp_plain.proofs.RenewedTypes.{instance_same}
@@ -89,10 +90,6 @@ lifted_past σ t =
     instantiate_subst (lifted σ) (shift 0 1 t) ∙ ap (λ f. subst f (shift 0 1 t)) (fun_ext (lifted_up σ)) ∙ ap (subst (up σ)) (shift_one t) ∙ sym (up_suc σ t) ∙ sym (shift_one (subst σ t)) ∙ ap (shift 0 1) (sym (instantiate_subst σ t))
 
 -- one more value
-pub cons : Term → (ℕ → Term) → ℕ → Term
-cons u σ zero = u
-cons u σ (suc i) = σ i
-
 past_shift : (u : Term) (σ : ℕ → Term) (t : Term) → instantiate (cons u σ) (shift 0 1 t) ≡ instantiate σ t
 past_shift u σ t = instantiate_subst (cons u σ) (shift 0 1 t) ∙ ap (subst (cons u σ)) (shift_one t) ∙ subst-rename suc (cons u σ) t ∙ sym (instantiate_subst σ t)
 

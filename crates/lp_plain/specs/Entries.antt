@@ -1,7 +1,7 @@
 -- How the goals of a branch read: the entries of the definition for which its frames stand.
-use Rattle.std.specs.Prelude.{◌≡◌, ℕ, List, [], ◌∷◌, ◌++◌, take, Option, None, Some, slice_get}
+use Rattle.std.specs.Prelude.{◌≡◌, ℕ, ◌≤◌, List, [], ◌∷◌, ◌++◌, take, Option, None, Some, slice_get}
 use Rattle.lp_calculus.specs.Term.{Term}
-use Rattle.lp_term.specs.Nodes.{Nodes, tree}
+use Rattle.lp_term.specs.Nodes.{Nodes, Extends, tree}
 use Rattle.lp_term.specs.declared.node.TermId.{TermId}
 use Rattle.lp_model.specs.Branch.{Entry, Branch, Answer, Task, Go, entries}
 use Rattle.lp_model.specs.Skeleton.{View, Parts}
@@ -16,7 +16,7 @@ use Rattle.lp_plain.specs.declared.machine.Machine.{Machine}
 use Rattle.lp_plain.specs.declared.scope.Scopes.{Scopes}
 use Rattle.lp_plain.specs.declared.types.Renewal.{Renewal}
 use Rattle.lp_plain.specs.Renewal.{renewing}
-use Rattle.lp_plain.specs.Scopes.{IsScope, block_count, value_count}
+use Rattle.lp_plain.specs.Scopes.{IsScope, KeepsScopes, block_count, value_count}
 use Rattle.lp_plain.specs.Keeping.{KeepsKnown}
 use Rattle.lp_plain.specs.Tables.{Shown, shown, AreGoals, IsListOf, Never}
 
@@ -69,6 +69,15 @@ IsOf m p list hs σ = IsListOf m.bank m.table list hs × IsAt m.bank m.scopes p 
 pub record KeepsGoals (old new : Machine) : Type 0 where
   pub known : KeepsKnown old new
   pub frames : GoesOn old.frames.items new.frames.items
+
+-- what is known of terms stays while the bank and the scopes grow, and frames only come
+pub record GrowsGoals (old new : Machine) : Type 0 where
+  pub bank : Extends old.bank new.bank
+  pub table : new.table ≡ old.table
+  pub frames : GoesOn old.frames.items new.frames.items
+  pub scopes : (nb nv : ℕ) → nb ≤ block_count old.scopes → nv ≤ value_count old.scopes → KeepsScopes old.scopes new.scopes nb nv
+  pub blocks : block_count old.scopes ≤ block_count new.scopes
+  pub values : value_count old.scopes ≤ value_count new.scopes
 
 -- the branch at work reads as one of the definition, by its goals and its next numbers
 pub record IsBranchAt (m : Machine) (a : Around) (b : Branch) : Type 0 where

@@ -6,6 +6,7 @@ ghost use Rattle.lp_model.specs.Flat.{Goal};
 ghost use Rattle.lp_plain.specs.Cuts.{cut_off};
 ghost use Rattle.lp_plain.specs.Entries.{Around, AreTodo, IsListAt, HasAlternative, KeepsGoals, Reads, placed};
 ghost use Rattle.lp_plain.specs.Keeping.{HasOneMore, IsAround, KeepsCourse};
+ghost use Rattle.lp_plain.specs.Opening.{IsNewVariable};
 ghost use Rattle.lp_plain.specs.Tables.{shown};
 ghost use Rattle.lp_plain.specs.Within.{IsTodoIn, StandsIn};
 
@@ -107,14 +108,17 @@ impl Machine {
 
     /// A new logic variable of a level.
     pub(crate) fn new_variable(&mut self, level: u64) -> Result<TermId, Memory>
-        ensures { self.new.counts ≡ self.old.counts }
+        ensures counts { self.new.counts ≡ self.old.counts }
+        ensures variable { IfOk result (IsNewVariable self.old self.new level) }
+        ensures stands { OnOk result (StandsIn self.old → StandsIn self.new) }
     {
         let id = self.branch.next;
         let Some(next) = id.checked_add(1) else {
             return Err(Memory);
         };
         self.branch.next = next;
-        put_logic(&mut self.bank, id, level)
+        let variable = put_logic(&mut self.bank, id, level)?;
+        Ok(variable)
     }
 
     /// The clause's term in a place.
@@ -160,6 +164,7 @@ impl Machine {
 
     /// Keeps what is done in the branch at work.
     pub(crate) fn note(&mut self, act: Act) -> Result<(), Memory>
+        ensures frames { self.new.frames ≡ self.old.frames }
         ensures course { KeepsCourse self.old self.new }
         ensures goals { KeepsGoals self.old self.new }
     {

@@ -60,6 +60,7 @@ impl Scopes {
         values: &[TermId],
     ) -> Result<Option<usize>, Memory>
         ensures kept { (nb nv : ℕ) → nb ≤ block_count self.old → nv ≤ value_count self.old → KeepsScopes self.old self.new nb nv }
+        ensures more { OnOk result ((block_count self.old ≤ block_count self.new) × (value_count self.old ≤ value_count self.new)) }
         ensures values { OnOk result (self.new.values.items ≡ self.old.values.items ++ values.now) }
         ensures opened { IfOk result (λ o. (vs : List TermId) → IsScope self.old (block_count self.old) (value_count self.old) around vs → IsScope self.new (block_count self.new) (value_count self.new) o (values.now ++ vs)) }
     {
