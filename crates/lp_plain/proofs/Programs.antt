@@ -1,5 +1,5 @@
 -- The clauses of a program are put into the table, formula by formula, while the bank grows.
-use Rattle.std.proofs.Common.{◌≡◌, ℕ, suc, ◌+◌, ◌<◌, List, [], ◌∷◌, ◌++◌, map, length, take, refl, sym, ap, ◌∙◌, subst, arith, add-one, Option, None, Some}
+use Rattle.std.proofs.Common.{◌≡◌, ℕ, suc, ◌+◌, ◌<◌, List, [], ◌∷◌, ◌++◌, map, length, take, inl, inr, refl, sym, ap, ◌∙◌, subst, arith, add-one, Option, None, Some}
 use Rattle.std.specs.Prelude.{All, slice_get}
 use Rattle.std.proofs.lemmas.List.{map-append}
 use Rattle.std.proofs.lemmas.List.Elements.{All-nil, All-cons, All-head, All-tail}
@@ -48,11 +48,11 @@ program_push b t (r ∷ ss) (ds ∷ css) s cs p h = (p.0, program_push b t ss cs
 
 -- the last of those that are there
 record EndsIn {A : Type 0} (xs : List (Option A)) (x : Option A) (ys : List A) : Type 0 where
-  front : List A
-  last : A
-  whole : ys ≡ front ++ last ∷ []
-  fronts : xs ≡ map Some front
-  is_last : x ≡ Some last
+  pub front : List A
+  pub last : A
+  pub whole : ys ≡ front ++ last ∷ []
+  pub fronts : xs ≡ map Some front
+  pub is_last : x ≡ Some last
 
 ends_in : {A : Type 0} (xs : List (Option A)) (x : Option A) (ys : List A) → xs ++ x ∷ [] ≡ map Some ys → EndsIn xs x ys
 ends_in [] x [] e = absurd (let q = ap length e in omega (arith, q))

@@ -52,16 +52,16 @@ variables_more b d old new t k k' x e a m h n =
 
 last_first : (k i : ℕ) (u : Term) → slice_get (reverse (vars_from k 0)) i ≡ Some u → u ≡ query_values k i
 last_first zero i u e = absurd (cc)
-last_first (suc k) i u e = go i (subst (λ l. slice_get l i ≡ Some u) (reverse_pushed (vars_from (suc k) 0) (vars_from k 0) (atom (logic k 0)) (vars_next k)) e)
+last_first (suc k) i u e = go (last_first k) i (subst (λ l. slice_get l i ≡ Some u) (reverse_pushed (vars_from (suc k) 0) (vars_from k 0) (atom (logic k 0)) (vars_next k)) e)
   where
-    go : (i : ℕ) → slice_get (atom (logic k 0) ∷ reverse (vars_from k 0)) i ≡ Some u → u ≡ query_values (suc k) i
-    go zero h =
+    go : ((j : ℕ) (v : Term) → slice_get (reverse (vars_from k 0)) j ≡ Some v → v ≡ query_values k j) → (i : ℕ) → slice_get (atom (logic k 0) ∷ reverse (vars_from k 0)) i ≡ Some u → u ≡ query_values (suc k) i
+    go f zero h =
         let q : atom (logic k 0) ≡ u = cc in
         let n : k ≡ suc k - 1 = omega arith in
         sym q ∙ ap (λ n. atom (logic n 0)) n
-    go (suc j) h =
+    go f (suc j) h =
         let n : k - suc j ≡ suc k - suc (suc j) = omega arith in
-        last_first k j u h ∙ ap (λ n. atom (logic n 0)) n
+        f j u h ∙ ap (λ n. atom (logic n 0)) n
 
 pub query_values_are : (b : Nodes) (ts : List TermId) (k : ℕ) → map (λ t. tree b t.0) ts ≡ vars_from k 0 → AreAt b (reverse ts) (query_values k)
 query_values_are b ts k e i v h =

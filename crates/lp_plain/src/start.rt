@@ -184,15 +184,19 @@ pub(crate) fn begin(
         constants,
         clauses,
     } = program;
+    let made = put_all(alloc, &mut bank, &clauses, &query)?;
     let Tabled {
         table,
         spans,
         index,
         list,
-    } = put_all(alloc, &mut bank, &clauses, &query)?;
-    let variables = query_variables(alloc, &mut bank, query.vars.len())?;
+    } = made;
+    let count = query.vars.len();
+    let variables = query_variables(alloc, &mut bank, count)?;
     let mut scopes = Scopes::new(alloc);
     let place = query_place(alloc, &mut scopes, &variables)?;
+    let choices = Vec::new(alloc);
+    let frames = Vec::new(alloc);
     let mut machine = Machine {
         alloc,
         bank,
@@ -201,16 +205,16 @@ pub(crate) fn begin(
         index,
         bindings: Bindings::new(alloc),
         scopes,
-        frames: Vec::new(alloc),
+        frames,
         assumptions: Vec::new(alloc),
         newest: Vec::new(alloc),
         standings: Vec::new(alloc),
         acts: Vec::new(alloc),
-        choices: Vec::new(alloc),
+        choices,
         denied: None,
         branch: Branch {
             goals: None,
-            next: query.vars.len() as u64,
+            next: count as u64,
             next_type: query.type_vars,
             pairs: Vec::new(alloc),
         },
@@ -221,7 +225,8 @@ pub(crate) fn begin(
             lost: false,
         },
     };
-    machine.branch.goals = machine.put_list(list, place, None)?;
+    let front = machine.put_list(list, place, None)?;
+    machine.branch.goals = front;
     let source = Source {
         clauses,
         spans,

@@ -1,4 +1,4 @@
-use Rattle.std.proofs.Common.{◌≡◌, map, ap, ◌∙◌, sym, subst, arith, add-one}
+use Rattle.std.proofs.Common.{◌≡◌, ◌∙◌, length, map, ap, arith, add-one}
 use Rattle.lp_term.specs.Nodes.{tree}
 use Rattle.lp_term.proofs.Trees.{extends_same, extends-trans}
 use Rattle.lp_model.specs.Search.{vars_from}
