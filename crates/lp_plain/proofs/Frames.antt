@@ -24,7 +24,7 @@ use Rattle.lp_plain.specs.Entries.{Around, AreEntries, no_frame, a_frame, AreTod
 use Rattle.lp_plain.specs.Tables.{Shown, shown, AreGoals, IsListOf, Never}
 
 module _ (b : Nodes) (t : Shown) (s : Scopes) (a : Around) where
-  frames_more : (fs more : List Frame) {o : Option ℕ} {es : List Entry} → AreEntries b t s a fs o es → AreEntries b t s a (fs ++ more) o es
+  pub frames_more : (fs more : List Frame) {o : Option ℕ} {es : List Entry} → AreEntries b t s a fs o es → AreEntries b t s a (fs ++ more) o es
   frames_more fs more (no_frame e z) = no_frame e z
   frames_more fs more (a_frame i f gs rest e g h k z) =
       let l = slice_get_within fs i f g in

@@ -1,5 +1,5 @@
 -- What is read of a branch stays while the bank and the scopes grow.
-use Rattle.std.proofs.Common.{◌≡◌, ℕ, suc, ◌<◌, ◌≤◌, List, [], ◌∷◌, ◌++◌, length, take, drop, refl, sym, ap, ◌∙◌, subst, arith, Option, None, Some}
+use Rattle.std.proofs.Common.{◌≡◌, ℕ, zero, suc, ◌<◌, ◌≤◌, List, [], ◌∷◌, ◌++◌, length, take, drop, refl, sym, ap, ◌∙◌, subst, arith, Option, None, Some}
 use Rattle.std.specs.Prelude.{All, slice_get}
 use Rattle.std.proofs.lemmas.List.Elements.{All-nil, All-head, All-tail, All-cons, All-weaker, All-append}
 use Rattle.lp_calculus.specs.Term.{Term}
@@ -57,9 +57,11 @@ module _ (b d : Nodes) (x : Extends b d) where
     pub place_later : (p : Place) (σ : ℕ → Term) → IsAt b s p σ → IsAt d z p σ
     place_later p σ h =
         let vs = h.0 in
-        let all = all_taken (λ (t : TermId). (t.0 < length b.terms) × LooseBelow 0 0 (tree b t.0)) (value_count s) s.values.items a in
-        (vs, scope_wider z (block_count s) (value_count s) (block_count z) (value_count z) p.values.scope vs lb lv (k p.values.scope vs h.1),
-          at_later vs σ (scope_all (λ (t : TermId). (t.0 < length b.terms) × LooseBelow 0 0 (tree b t.0)) (take (value_count s) s.values.items) (take (block_count s) s.blocks.items) p.values.scope vs all h.1) h.2)
+        let all = all_taken (λ (t : TermId). (t.0 < length b.terms) × LooseBelow 0 0 (tree b t.0)) (value_count s) s.values.items a in (
+          vs,
+          scope_wider z (block_count s) (value_count s) (block_count z) (value_count z) p.values.scope vs lb lv (k p.values.scope vs h.1),
+          at_later vs σ (scope_all (λ (t : TermId). (t.0 < length b.terms) × LooseBelow 0 0 (tree b t.0)) (take (value_count s) s.values.items) (take (block_count s) s.blocks.items) p.values.scope vs all h.1) h.2,
+        )
 
     module _ (t : Table) (i : IsTableIn (length b.terms) t) where
       todo_later : (p : Place) (w : Todo) (gs : List Goal) → IsTodoIn (length b.terms) w → AreTodo b (shown t) s p w gs → AreTodo d (shown t) z p w gs

@@ -107,35 +107,33 @@ pub some_opened : (m n o q : Machine) (p inner : Place) (t : TermId) (list : ℕ
     ((a : Around) (gs : List Goal) (es : List Entry) → IsListAt o inner list gs → Reads o a behind es → Reads q a front (placed a inner gs ++ es)) → q.branch.goals ≡ front → q.branch.next ≡ o.branch.next → q.branch.next_type ≡ o.branch.next_type → q.choices.items ≡ o.choices.items →
     (a : Around) (hs : Goals) (σ : ℕ → Term) (b : Branch) → StandsIn m → IsOf m p list hs σ → IsBehind m a behind b → (u k height : ℕ) (P : List Clause) (T : Ty) →
     ArePartsOf m q a (look_goal u k P height (entry_at a p (Exists T (in_scope (lifted σ) p.values.types hs))) b (Exists T (in_scope (lifted σ) p.values.types hs)))
-some_opened m n o q p inner t list behind front st v w reads eg en et ec a hs σ b i of r u k height P T =
-    (
-      record {
-        goals =
-            subst (λ x. Reads q a x (entries (opened (atom (logic b.next p.level)) (in_scope (lifted σ) p.values.types hs)) (a.assumed p.assumed) (a.written p.standing) p.level (a.mark p.mark) ++ b.goals)) (sym eg)
-            (reads_opened m n o q p p inner t list behind front a b hs σ i (st i) v.grows w reads of r.goals refl (atom (logic b.next p.level)) (a.assumed p.assumed) (a.written p.standing) p.level (a.mark p.mark)
-            (v.variable ∙ ap (λ x. atom (logic x p.level)) r.next) (ap a.assumed w.assumed) (ap a.written w.standing) w.level (ap a.mark w.mark));
-        next = en ∙ ap (λ z. z.next) w.branch ∙ v.next ∙ add-one m.branch.next ∙ ap suc r.next;
-        next_type = et ∙ ap (λ z. z.next_type) w.branch ∙ v.next_type ∙ r.next_type;
-      },
-      ec ∙ w.choices ∙ v.choices,
-    )
+some_opened m n o q p inner t list behind front st v w reads eg en et ec a hs σ b i of r u k height P T = (
+  record {
+    goals =
+        subst (λ x. Reads q a x (entries (opened (atom (logic b.next p.level)) (in_scope (lifted σ) p.values.types hs)) (a.assumed p.assumed) (a.written p.standing) p.level (a.mark p.mark) ++ b.goals)) (sym eg)
+        (reads_opened m n o q p p inner t list behind front a b hs σ i (st i) v.grows w reads of r.goals refl (atom (logic b.next p.level)) (a.assumed p.assumed) (a.written p.standing) p.level (a.mark p.mark)
+        (v.variable ∙ ap (λ x. atom (logic x p.level)) r.next) (ap a.assumed w.assumed) (ap a.written w.standing) w.level (ap a.mark w.mark));
+    next = en ∙ ap (λ z. z.next) w.branch ∙ v.next ∙ add-one m.branch.next ∙ ap suc r.next;
+    next_type = et ∙ ap (λ z. z.next_type) w.branch ∙ v.next_type ∙ r.next_type;
+  },
+  ec ∙ w.choices ∙ v.choices,
+)
 
 pub all_opened : (m n o q : Machine) (p above inner : Place) (t : TermId) (list : ℕ) (behind front : Option ℕ) → (StandsIn m → StandsIn n) → IsRaised m n p above t → IsBoundBy n o above inner t →
     ((a : Around) (gs : List Goal) (es : List Entry) → IsListAt o inner list gs → Reads o a behind es → Reads q a front (placed a inner gs ++ es)) → q.branch.goals ≡ front → q.branch.next ≡ o.branch.next → q.branch.next_type ≡ o.branch.next_type → q.choices.items ≡ o.choices.items →
     (a : Around) (hs : Goals) (σ : ℕ → Term) (b : Branch) → StandsIn m → IsOf m p list hs σ → IsBehind m a behind b → (u k height : ℕ) (P : List Clause) (T : Ty) →
     ArePartsOf m q a (look_goal u k P height (entry_at a p (Forall T (in_scope (lifted σ) p.values.types hs))) b (Forall T (in_scope (lifted σ) p.values.types hs)))
-all_opened m n o q p above inner t list behind front st v w reads eg en et ec a hs σ b i of r u k height P T =
-    (
-      record {
-        goals =
-            subst (λ x. Reads q a x (entries (opened (atom (eigen (suc p.level))) (in_scope (lifted σ) p.values.types hs)) (a.assumed p.assumed) (a.written p.standing) (suc p.level) (a.mark p.mark) ++ b.goals)) (sym eg)
-            (reads_opened m n o q p above inner t list behind front a b hs σ i (st i) v.grows w reads of r.goals v.values (atom (eigen (suc p.level))) (a.assumed p.assumed) (a.written p.standing) (suc p.level) (a.mark p.mark) v.eigen_is
-            (ap a.assumed (w.assumed ∙ v.assumed)) (ap a.written (w.standing ∙ v.standing)) (w.level ∙ v.level) (ap a.mark (w.mark ∙ v.mark)));
-        next = en ∙ ap (λ z. z.next) (w.branch ∙ v.branch) ∙ r.next;
-        next_type = et ∙ ap (λ z. z.next_type) (w.branch ∙ v.branch) ∙ r.next_type;
-      },
-      ec ∙ w.choices ∙ v.choices,
-    )
+all_opened m n o q p above inner t list behind front st v w reads eg en et ec a hs σ b i of r u k height P T = (
+  record {
+    goals =
+        subst (λ x. Reads q a x (entries (opened (atom (eigen (suc p.level))) (in_scope (lifted σ) p.values.types hs)) (a.assumed p.assumed) (a.written p.standing) (suc p.level) (a.mark p.mark) ++ b.goals)) (sym eg)
+        (reads_opened m n o q p above inner t list behind front a b hs σ i (st i) v.grows w reads of r.goals v.values (atom (eigen (suc p.level))) (a.assumed p.assumed) (a.written p.standing) (suc p.level) (a.mark p.mark) v.eigen_is
+        (ap a.assumed (w.assumed ∙ v.assumed)) (ap a.written (w.standing ∙ v.standing)) (w.level ∙ v.level) (ap a.mark (w.mark ∙ v.mark)));
+    next = en ∙ ap (λ z. z.next) (w.branch ∙ v.branch) ∙ r.next;
+    next_type = et ∙ ap (λ z. z.next_type) (w.branch ∙ v.branch) ∙ r.next_type;
+  },
+  ec ∙ w.choices ∙ v.choices,
+)
 
 -- once it was counted
 abbrev pub TakesQuantified : (Ty → Goals → Goal) → (old new : Machine) → Place → (list : ℕ) → (behind : Option ℕ) → Type 0

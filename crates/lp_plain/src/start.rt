@@ -142,11 +142,7 @@ fn query_variables(alloc: Global, bank: &mut Bank, count: usize) -> Result<Vec<T
 }
 
 // The place of the query's goals: the first variable is the outermost index.
-fn query_place(
-    alloc: Global,
-    scopes: &mut Scopes,
-    variables: &Vec<TermId>,
-) -> Result<Place, Memory>
+fn query_place(alloc: Global, scopes: &mut Scopes, variables: &Vec<TermId>) -> Result<Place, Memory>
     ensures values { OnOk result (scopes.new.values.items ≡ scopes.old.values.items ++ reverse variables.now.items) }
     ensures scope { IfOk result (λ p. IsScope scopes.new (block_count scopes.new) (value_count scopes.new) p.values.scope (reverse variables.now.items)) }
     ensures outside { IfOk result IsOutside }

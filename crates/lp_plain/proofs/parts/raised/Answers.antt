@@ -6,7 +6,7 @@ use Rattle.lp_plain.proofs.parts.raised.Goals as goal
 pub returns-clause-raised : goal.returns-clause-raised
 returns-clause-raised c =
     let p = c.in_ok-eigen.ensures in
-    let e = c.in-Some.ensures ∙ add-one c.args.place.level in
+    let e = c.in-Some.ensures.1 ∙ add-one c.args.place.level in
     record {
       grows = bank_grows c.args.machine.now _ p.kept refl refl refl;
       choices = refl;

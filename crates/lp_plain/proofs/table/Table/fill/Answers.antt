@@ -14,7 +14,7 @@ lists-preserved c =
     let g = c.index-goals.result.now in
     let lt : c.lists.done < length l = omega (arith, c.lists-test.true, c.len.ensures, c.lists.waiting.ok) in (
       filled_more c.args.bank.now c.args.first c.lists.done c.args.self.now c.lists.self c.add_list.new.self _ c.args.waiting.now.items l c.add_list.new.waiting.items g c.in_ok-span.span c.lists.invariant.0 lt
-      (drop_read l c.lists.done g lt c.index-goals.ensures) c.in_ok-span.ensures.put refl refl refl refl,
+          (drop_read l c.lists.done g lt c.index-goals.ensures) c.in_ok-span.ensures.put refl refl refl refl,
       late_stays n _ _ _ _ _ _ _ g c.lists.invariant.1 (late_at n c.lists.done c.lists.self l g (get_read l l c.lists.done g g refl lt c.index-goals.ensures)) c.in_ok-span.ensures.within refl refl,
     )
 
