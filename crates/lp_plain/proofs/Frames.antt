@@ -5,6 +5,7 @@ use Rattle.std.proofs.Math.Seq.{take-append_seam}
 use Rattle.std.proofs.lemmas.List.{take-append-le}
 use Rattle.std.proofs.lemmas.Option.{slice_get_within}
 use Rattle.lp_lemmas.proofs.Lists.{get_append, get_push}
+use Rattle.lp_calculus.specs.Term.{Term}
 use Rattle.lp_term.specs.Nodes.{Nodes}
 use Rattle.lp_term.specs.declared.node.TermId.{TermId}
 use Rattle.lp_model.specs.Branch.{Entry, Branch, Go}
@@ -23,7 +24,7 @@ use Rattle.lp_plain.specs.Entries.{Around, AreEntries, no_frame, a_frame, AreTod
 use Rattle.lp_plain.specs.Tables.{Shown, shown, AreGoals, IsListOf, Never}
 
 module _ (b : Nodes) (t : Shown) (s : Scopes) (a : Around) where
-  frames_more : (fs more : List Frame) {o : Option ℕ} {es : List Entry} → AreEntries b t s a fs o es → AreEntries b t s a (fs ++ more) o es
+  pub frames_more : (fs more : List Frame) {o : Option ℕ} {es : List Entry} → AreEntries b t s a fs o es → AreEntries b t s a (fs ++ more) o es
   frames_more fs more (no_frame e z) = no_frame e z
   frames_more fs more (a_frame i f gs rest e g h k z) =
       let l = slice_get_within fs i f g in
@@ -53,9 +54,9 @@ reads_on m n a o es k r =
 
 pub list_at_on : (m n : Machine) (p : Place) (list : ℕ) (gs : List Goal) → KeepsGoals m n → IsListAt m p list gs → IsListAt n p list gs
 list_at_on m n p list gs k h =
-    subst (λ b. (hs : Goals) × (vs : List TermId) × IsListOf b n.table list hs × IsAt n.scopes p vs × (gs ≡ goal_list (in_scope b vs p.values.types hs))) (sym k.known.bank)
-    (subst (λ t. (hs : Goals) × (vs : List TermId) × IsListOf m.bank t list hs × IsAt n.scopes p vs × (gs ≡ goal_list (in_scope m.bank vs p.values.types hs))) (sym k.known.table)
-    (subst (λ s. (hs : Goals) × (vs : List TermId) × IsListOf m.bank m.table list hs × IsAt s p vs × (gs ≡ goal_list (in_scope m.bank vs p.values.types hs))) (sym k.known.scopes) h))
+    subst (λ b. (hs : Goals) × (σ : ℕ → Term) × IsListOf b n.table list hs × IsAt b n.scopes p σ × (gs ≡ goal_list (in_scope σ p.values.types hs))) (sym k.known.bank)
+    (subst (λ t. (hs : Goals) × (σ : ℕ → Term) × IsListOf m.bank t list hs × IsAt m.bank n.scopes p σ × (gs ≡ goal_list (in_scope σ p.values.types hs))) (sym k.known.table)
+    (subst (λ s. (hs : Goals) × (σ : ℕ → Term) × IsListOf m.bank m.table list hs × IsAt m.bank s p σ × (gs ≡ goal_list (in_scope σ p.values.types hs))) (sym k.known.scopes) h))
 
 pub keeps_then : (m n o : Machine) → KeepsGoals m n → KeepsGoals n o → KeepsGoals m o
 keeps_then m n o k l = record {
@@ -83,7 +84,7 @@ pub list_empty : (m : Machine) (a : Around) (p : Place) (list : ℕ) (span : Spa
 list_empty m a p list span gs o es e l h r =
     let t = list_todo m p list span gs e h in
     let n = goals_none m.bank (shown m.table) m.scopes a span.from span.to t.0 t.2 l in
-    let z : gs ≡ [] = t.4 ∙ ap (λ x. goal_list (in_scope m.bank t.1 p.values.types x)) n in
+    let z : gs ≡ [] = t.4 ∙ ap (λ x. goal_list (in_scope t.1 p.values.types x)) n in
     subst (λ x. Reads m a o (placed a p x ++ es)) (sym z) r
 
 pub keeps_same : (m n n' : Machine) → KeepsGoals m n → n'.bank ≡ n.bank → n'.bindings ≡ n.bindings → n'.scopes ≡ n.scopes → n'.table ≡ n.table → n'.standings ≡ n.standings → n'.frames ≡ n.frames → KeepsGoals m n'
@@ -93,8 +94,8 @@ keeps_same m n n' k b d s t g f = record {
 }
 
 -- a list of the table in a place
-pub list_of : (m : Machine) (p : Place) (list : ℕ) (hs : Goals) (vs : List TermId) → IsOf m p list hs vs → IsListAt m p list (goal_list (in_scope m.bank vs p.values.types hs))
-list_of m p list hs vs h = (hs, vs, h.0, h.1, refl)
+pub list_of : (m : Machine) (p : Place) (list : ℕ) (hs : Goals) (σ : ℕ → Term) → IsOf m p list hs σ → IsListAt m p list (goal_list (in_scope σ p.values.types hs))
+list_of m p list hs σ h = (hs, σ, h.0, h.1, refl)
 
 -- goals are put in front, and others are an alternative
 module _ (m n p q r : Machine) (a : Around) (b : Branch) (one other : List Entry) (o : Option ℕ) (k : KeepsGoals n p) (l : KeepsGoals p q) (j : KeepsGoals q r) (nb : n.branch ≡ m.branch) (pb : p.branch ≡ n.branch) (qb : q.branch ≡ p.branch)

@@ -36,7 +36,7 @@ atom_same θ h (eigen k) = refl
 atom_same θ h (logic x l) = refl
 atom_same θ h (param k t) = ap (param k) (instance_same θ h t)
 
-term_same : (θ : ℕ → Ty) → ((i : ℕ) → θ i ≡ var i) → (t : Term) → instance_term θ t ≡ t
+pub term_same : (θ : ℕ → Ty) → ((i : ℕ) → θ i ≡ var i) → (t : Term) → instance_term θ t ≡ t
 term_same θ h (index i) = refl
 term_same θ h (atom a) = ap atom (atom_same θ h a)
 term_same θ h (abs b) = ap abs (term_same θ h b)

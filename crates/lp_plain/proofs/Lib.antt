@@ -23,3 +23,10 @@ pub mod Tabled
 pub mod Frames
 pub mod Placed
 pub mod Taken
+pub mod Within
+pub mod Later
+pub mod Mapped
+pub mod Programs
+pub mod Starts
+pub mod Growing
+pub mod Opening

@@ -13,13 +13,13 @@ use Rattle.lp_plain.specs.Apart.{apart}
 use Rattle.lp_plain.specs.Entries.{Around, ArePartsOf, IsBehind, IsOf, entry_at, in_scope}
 
 abbrev pub TakesEither : (old new : Machine) → Place → (left right : ℕ) → (behind : Option ℕ) → Type 0
-TakesEither m n p l r o = (a : Around) (hs ks : Goals) (vs : List TermId) (b : Branch) → IsOf m p l hs vs → IsOf m p r ks vs → IsBehind m a o b → (u k height : ℕ) (P : List Clause) →
-    let g : Goal = Either (in_scope m.bank vs p.values.types hs) (in_scope m.bank vs p.values.types ks) in ArePartsOf m n a (look_goal u k P height (entry_at a p g) b g)
+TakesEither m n p l r o = (a : Around) (hs ks : Goals) (σ : ℕ → Term) (b : Branch) → IsOf m p l hs σ → IsOf m p r ks σ → IsBehind m a o b → (u k height : ℕ) (P : List Clause) →
+    let g : Goal = Either (in_scope σ p.values.types hs) (in_scope σ p.values.types ks) in ArePartsOf m n a (look_goal u k P height (entry_at a p g) b g)
 
 pub either_apart : (m c n : Machine) (p : Place) (l r : ℕ) (o : Option ℕ) → c ≡ apart m → TakesEither c n p l r o → TakesEither m n p l r o
-either_apart m c n p l r o e t = λ a hs ks vs b x y w u k height P.
+either_apart m c n p l r o e t = λ a hs ks σ b x y w u k height P.
     let s : TakesEither (apart m) n p l r o = subst (λ z. TakesEither z n p l r o) e t in
-    s a hs ks vs b x y (record { goals = w.goals; next = w.next; next_type = w.next_type }) u k height P
+    s a hs ks σ b x y (record { goals = w.goals; next = w.next; next_type = w.next_type }) u k height P
 
 abbrev pub TakesForm : (old new : Machine) → Place → (Nodes → Connective) → (behind : Option ℕ) → Type 0
 TakesForm m n p f o = (a : Around) (b : Branch) → IsBehind m a o b → (u k height : ℕ) (P : List Clause) (t : Term) (g : Goal) → ArePartsOf m n a (look_form u k P height (entry_at a p g) b t (f m.bank))

@@ -1,6 +1,7 @@
 -- How the goals of a branch read: the entries of the definition for which its frames stand.
-use Rattle.std.specs.Prelude.{◌≡◌, ℕ, List, [], ◌∷◌, ◌++◌, take, Option, None, Some, slice_get}
-use Rattle.lp_term.specs.Nodes.{Nodes, tree}
+use Rattle.std.specs.Prelude.{◌≡◌, ℕ, ◌≤◌, List, [], ◌∷◌, ◌++◌, take, Option, None, Some, slice_get}
+use Rattle.lp_calculus.specs.Term.{Term}
+use Rattle.lp_term.specs.Nodes.{Nodes, Extends, tree}
 use Rattle.lp_term.specs.declared.node.TermId.{TermId}
 use Rattle.lp_model.specs.Branch.{Entry, Branch, Answer, Task, Go, entries}
 use Rattle.lp_model.specs.Skeleton.{View, Parts}
@@ -14,9 +15,8 @@ use Rattle.lp_plain.specs.declared.frame.Todo.{Todo}
 use Rattle.lp_plain.specs.declared.machine.Machine.{Machine}
 use Rattle.lp_plain.specs.declared.scope.Scopes.{Scopes}
 use Rattle.lp_plain.specs.declared.types.Renewal.{Renewal}
-use Rattle.lp_plain.specs.Instances.{values_of}
 use Rattle.lp_plain.specs.Renewal.{renewing}
-use Rattle.lp_plain.specs.Scopes.{IsScope, block_count, value_count}
+use Rattle.lp_plain.specs.Scopes.{IsScope, KeepsScopes, block_count, value_count}
 use Rattle.lp_plain.specs.Keeping.{KeepsKnown}
 use Rattle.lp_plain.specs.Tables.{Shown, shown, AreGoals, IsListOf, Never}
 
@@ -27,20 +27,24 @@ pub record Around : Type 0 where
   pub mark : ℕ → ℕ
 
 -- goals of a clause with these values for its variables and new numbers for its type variables
-abbrev pub in_scope : Nodes → List TermId → Renewal → Goals → Goals
-in_scope b vs r gs = instantiate_goals (values_of b vs) (type_goals (renewing r) gs)
+abbrev pub in_scope : (ℕ → Term) → Renewal → Goals → Goals
+in_scope σ r gs = instantiate_goals σ (type_goals (renewing r) gs)
 
 -- goals in a place
 abbrev pub placed : Around → Place → List Goal → List Entry
 placed a p gs = entries gs (a.assumed p.assumed) (a.written p.standing) p.level (a.mark p.mark)
 
--- the values of a place are these
-abbrev pub IsAt : Scopes → Place → List TermId → Type 0
-IsAt s p vs = IsScope s (block_count s) (value_count s) p.values.scope vs
+-- the terms at these numbers
+abbrev pub AreAt : Nodes → List TermId → (ℕ → Term) → Type 0
+AreAt b vs σ = (i : ℕ) (v : TermId) → slice_get vs i ≡ Some v → tree b v.0 ≡ σ i
+
+-- the values of a place are these terms; what has no value there is not told
+abbrev pub IsAt : Nodes → Scopes → Place → (ℕ → Term) → Type 0
+IsAt b s p σ = (vs : List TermId) × IsScope s (block_count s) (value_count s) p.values.scope vs × AreAt b vs σ
 
 -- the goals of a frame
 abbrev pub AreTodo : Nodes → Shown → Scopes → Place → Todo → List Goal → Type 0
-AreTodo b t s p (Todo.Goals span) gs = (hs : Goals) × (vs : List TermId) × AreGoals b Never t span.from span.to hs × IsAt s p vs × (gs ≡ goal_list (in_scope b vs p.values.types hs))
+AreTodo b t s p (Todo.Goals span) gs = (hs : Goals) × (σ : ℕ → Term) × AreGoals b Never t span.from span.to hs × IsAt b s p σ × (gs ≡ goal_list (in_scope σ p.values.types hs))
 AreTodo b t s p (Todo.Term u) gs = gs ≡ Atomic (tree b u.0) ∷ []
 
 -- the goals from a frame on. Behind each frame is an older one
@@ -55,16 +59,25 @@ Reads m a o es = AreEntries m.bank (shown m.table) m.scopes a m.frames.items o e
 
 -- the goals of a list of the table, in a place of the search
 abbrev pub IsListAt : Machine → Place → (list : ℕ) → List Goal → Type 0
-IsListAt m p list gs = (hs : Goals) × (vs : List TermId) × IsListOf m.bank m.table list hs × IsAt m.scopes p vs × (gs ≡ goal_list (in_scope m.bank vs p.values.types hs))
+IsListAt m p list gs = (hs : Goals) × (σ : ℕ → Term) × IsListOf m.bank m.table list hs × IsAt m.bank m.scopes p σ × (gs ≡ goal_list (in_scope σ p.values.types hs))
 
 -- a list of the table has these goals, and the place has these values
-abbrev pub IsOf : Machine → Place → (list : ℕ) → Goals → List TermId → Type 0
-IsOf m p list hs vs = IsListOf m.bank m.table list hs × IsAt m.scopes p vs
+abbrev pub IsOf : Machine → Place → (list : ℕ) → Goals → (ℕ → Term) → Type 0
+IsOf m p list hs σ = IsListOf m.bank m.table list hs × IsAt m.bank m.scopes p σ
 
 -- what is known of terms stays, and frames only come
 pub record KeepsGoals (old new : Machine) : Type 0 where
   pub known : KeepsKnown old new
   pub frames : GoesOn old.frames.items new.frames.items
+
+-- what is known of terms stays while the bank and the scopes grow, and frames only come
+pub record GrowsGoals (old new : Machine) : Type 0 where
+  pub bank : Extends old.bank new.bank
+  pub table : new.table ≡ old.table
+  pub frames : GoesOn old.frames.items new.frames.items
+  pub scopes : (nb nv : ℕ) → nb ≤ block_count old.scopes → nv ≤ value_count old.scopes → KeepsScopes old.scopes new.scopes nb nv
+  pub blocks : block_count old.scopes ≤ block_count new.scopes
+  pub values : value_count old.scopes ≤ value_count new.scopes
 
 -- the branch at work reads as one of the definition, by its goals and its next numbers
 pub record IsBranchAt (m : Machine) (a : Around) (b : Branch) : Type 0 where

@@ -2,3 +2,4 @@ pub mod Looking
 pub mod Collecting
 pub mod Tabling
 pub mod Placing
+pub mod Programs

@@ -8,6 +8,7 @@ ghost use Rattle.lp_model.specs.Search.{key_of, may_meet, first_key, slotted, sl
 ghost use Rattle.lp_plain.specs.Candidates.{same_texts, same_keys, meets};
 ghost use Rattle.lp_plain.specs.declared.head.Key.TheVariants as kept;
 ghost use Rattle.lp_plain.specs.Heads.{IsKey, IsTextKey, trees_of, slot_place, pair_places, pair_in, new_among, with_slot, with_pair, places_of, stands, MarksMore, HaveBecome, slot_term, pairs_at};
+ghost use Rattle.lp_plain.specs.Within.{IsKeyIn};
 ghost use Rattle.lp_plain.specs.inner.Placing.{places_weight};
 
 use lp_base::Memory;
@@ -235,7 +236,8 @@ pub(crate) fn head_args(
 
 /// The constant, integer, text or eigenconstant at the head of what is no abstraction.
 pub(crate) fn key_of(bank: &Bank, term: TermId) -> Option<Key>
-    ensures { IsKey bank.now result (key_of (tree bank.now term.0)) }
+    ensures key { IsKey bank.now result (key_of (tree bank.now term.0)) }
+    ensures within { term.0 < length bank.now.terms → IsKeyIn (length bank.now.terms) result }
 {
     let head = head_of(bank, term);
     match bank.term_node(head) {
@@ -348,7 +350,8 @@ pub(crate) fn may_meet(bank: &Bank, clause: Option<Key>, goal: Option<Key>) -> b
 
 /// The key of the first of the arguments of a clause's head.
 pub(crate) fn first_key(bank: &Bank, args: &[TermId]) -> Option<Key>
-    ensures { IsKey bank.now result (first_key (trees_of bank.now args.now)) }
+    ensures key { IsKey bank.now result (first_key (trees_of bank.now args.now)) }
+    ensures within { AreTermsOf bank.now args.now → IsKeyIn (length bank.now.terms) result }
 {
     match args.first() {
         Some(arg) => key_of(bank, *arg),

@@ -6,7 +6,9 @@ ghost use Rattle.lp_model.specs.Flat.{Goal};
 ghost use Rattle.lp_plain.specs.Cuts.{cut_off};
 ghost use Rattle.lp_plain.specs.Entries.{Around, AreTodo, IsListAt, HasAlternative, KeepsGoals, Reads, placed};
 ghost use Rattle.lp_plain.specs.Keeping.{HasOneMore, IsAround, KeepsCourse};
+ghost use Rattle.lp_plain.specs.Opening.{IsNewVariable};
 ghost use Rattle.lp_plain.specs.Tables.{shown};
+ghost use Rattle.lp_plain.specs.Within.{IsTodoIn, StandsIn};
 
 use crate::act::Act;
 use crate::candidates::{Candidate, Index, candidate_after, first_candidate};
@@ -73,6 +75,7 @@ impl Machine {
     ) -> Result<Option<usize>, Memory>
         ensures course { KeepsCourse self.old self.new }
         ensures goals { OnOk result (KeepsGoals self.old self.new) }
+        ensures stands { OnOk result (StandsIn self.old → StandsIn self.new) }
         ensures reads { IfOk result (λ o. (a : Around) (gs : List Goal) (es : List Entry) → IsListAt self.old place list gs → Reads self.old a behind es → Reads self.new a o (placed a place gs ++ es)) }
     {
         let span = self.table.list(list)?;
@@ -91,6 +94,7 @@ impl Machine {
     ) -> Result<Option<usize>, Memory>
         ensures course { KeepsCourse self.old self.new }
         ensures goals { OnOk result (KeepsGoals self.old self.new) }
+        ensures stands { OnOk result (IsTodoIn (length self.old.bank.terms) todo → StandsIn self.old → StandsIn self.new) }
         ensures reads { IfOk result (λ o. (a : Around) (gs : List Goal) (es : List Entry) → AreTodo self.old.bank (shown self.old.table) self.old.scopes place todo gs → Reads self.old a behind es → Reads self.new a o (placed a place gs ++ es)) }
     {
         let number = self.frames.len();
@@ -104,14 +108,17 @@ impl Machine {
 
     /// A new logic variable of a level.
     pub(crate) fn new_variable(&mut self, level: u64) -> Result<TermId, Memory>
-        ensures { self.new.counts ≡ self.old.counts }
+        ensures counts { self.new.counts ≡ self.old.counts }
+        ensures variable { IfOk result (IsNewVariable self.old self.new level) }
+        ensures stands { OnOk result (StandsIn self.old → StandsIn self.new) }
     {
         let id = self.branch.next;
         let Some(next) = id.checked_add(1) else {
             return Err(Memory);
         };
         self.branch.next = next;
-        put_logic(&mut self.bank, id, level)
+        let variable = put_logic(&mut self.bank, id, level)?;
+        Ok(variable)
     }
 
     /// The clause's term in a place.
@@ -157,6 +164,7 @@ impl Machine {
 
     /// Keeps what is done in the branch at work.
     pub(crate) fn note(&mut self, act: Act) -> Result<(), Memory>
+        ensures frames { self.new.frames ≡ self.old.frames }
         ensures course { KeepsCourse self.old self.new }
         ensures goals { KeepsGoals self.old self.new }
     {

@@ -1,18 +1,22 @@
 // Goals that are taken apart.
 ghost use Rattle.std.specs.Prelude.{◌≡◌, ℕ, List, IfOk, OnOk};
 ghost use Rattle.lp_calculus.specs.Term.{Term};
+ghost use Rattle.lp_calculus.specs.Types.{Ty};
 ghost use Rattle.lp_standard.specs.Connectives as two_sided;
 ghost use Rattle.lp_term.specs.Nodes.{tree};
 ghost use Rattle.lp_term.specs.declared.node.TermId.{TermId};
 ghost use Rattle.lp_model.specs.declared.connective.Connective.TheVariants as known;
 ghost use Rattle.lp_model.specs.Branch.{Branch};
 ghost use Rattle.lp_model.specs.Connected.{connective_in};
-ghost use Rattle.lp_model.specs.Flat.{Goal, Goals, Clause, Either};
+ghost use Rattle.lp_model.specs.Flat.{Goal, Goals, Clause, Either, Exists, Forall};
+ghost use Rattle.lp_model.specs.Index.{lifted};
 ghost use Rattle.lp_model.specs.Search.{look_goal, look_form};
 ghost use Rattle.lp_plain.specs.declared.outcome.Turn.{Turn};
 ghost use Rattle.lp_plain.specs.declared.table.Flat.{Flat};
 ghost use Rattle.lp_plain.specs.Apart.{IsApart};
 ghost use Rattle.lp_plain.specs.Entries.{Around, ArePartsOf, IsBehind, IsOf, entry_at, in_scope};
+ghost use Rattle.lp_plain.specs.Opening.{IsBoundBy, IsNewVariable, IsRaised};
+ghost use Rattle.lp_plain.specs.Within.{StandsIn};
 
 use crate::act::Act;
 use crate::choice::Untried;
@@ -30,7 +34,8 @@ use lp_term::{TermId, TermNode, put_applied, put_eigen};
 
 // The place inside the scope of one more variable.
 fn bound(machine: &mut Machine, place: Place, value: TermId) -> Result<Place, Memory>
-    ensures { machine.new.counts ≡ machine.old.counts }
+    ensures counts { machine.new.counts ≡ machine.old.counts }
+    ensures bound { IfOk result (λ inner. IsBoundBy machine.old machine.new place inner value) }
 {
     let one = [value];
     let scope = machine.scopes.open(place.values.scope, &one)?;
@@ -45,7 +50,9 @@ fn bound(machine: &mut Machine, place: Place, value: TermId) -> Result<Place, Me
 
 // The place one level up, and the eigenconstant of that level.
 fn raised(machine: &mut Machine, place: Place) -> Result<(Place, TermId), Memory>
-    ensures { machine.new.counts ≡ machine.old.counts }
+    ensures counts { machine.new.counts ≡ machine.old.counts }
+    ensures raised { IfOk result (λ made. IsRaised machine.old machine.new place made.0 made.1) }
+    ensures stands { OnOk result (StandsIn machine.old → StandsIn machine.new) }
 {
     let Some(level) = place.level.checked_add(1) else {
         return Err(Memory);
@@ -62,8 +69,8 @@ fn put_either(
     behind: Option<usize>,
 ) -> Result<(), Memory>
     ensures counts { machine.new.counts ≡ machine.old.counts }
-    ensures parts { OnOk result ((a : Around) (hs ks : Goals) (vs : List TermId) (b : Branch) → IsOf machine.old place left hs vs → IsOf machine.old place right ks vs → IsBehind machine.old a behind b →
-        (u n height : ℕ) (P : List Clause) → let g : Goal = Either (in_scope machine.old.bank vs place.values.types hs) (in_scope machine.old.bank vs place.values.types ks) in ArePartsOf machine.old machine.new a (look_goal u n P height (entry_at a place g) b g)) }
+    ensures parts { OnOk result ((a : Around) (hs ks : Goals) (σ : ℕ → Term) (b : Branch) → IsOf machine.old place left hs σ → IsOf machine.old place right ks σ → IsBehind machine.old a behind b →
+        (u n height : ℕ) (P : List Clause) → let g : Goal = Either (in_scope σ place.values.types hs) (in_scope σ place.values.types ks) in ArePartsOf machine.old machine.new a (look_goal u n P height (entry_at a place g) b g)) }
 {
     let other = machine.put_list(right, place, behind)?;
     machine.put_choice(Untried::Goals(other))?;
@@ -75,7 +82,9 @@ fn put_either(
 
 // The new variable at which a `sigma` is opened.
 fn opened(machine: &mut Machine, level: u64) -> Result<TermId, Memory>
-    ensures { machine.new.counts ≡ machine.old.counts }
+    ensures counts { machine.new.counts ≡ machine.old.counts }
+    ensures variable { IfOk result (IsNewVariable machine.old machine.new level) }
+    ensures stands { OnOk result (StandsIn machine.old → StandsIn machine.new) }
 {
     let variable = machine.new_variable(level)?;
     machine.note(Act::Opened(variable))?;
@@ -88,11 +97,14 @@ fn put_some(
     place: Place,
     behind: Option<usize>,
 ) -> Result<(), Memory>
-    ensures { machine.new.counts ≡ machine.old.counts }
+    ensures counts { machine.new.counts ≡ machine.old.counts }
+    ensures parts { OnOk result ((a : Around) (hs : Goals) (σ : ℕ → Term) (b : Branch) → StandsIn machine.old → IsOf machine.old place goals hs σ → IsBehind machine.old a behind b → (u n height : ℕ) (P : List Clause) (T : Ty) →
+        let g : Goal = Exists T (in_scope (lifted σ) place.values.types hs) in ArePartsOf machine.old machine.new a (look_goal u n P height (entry_at a place g) b g)) }
 {
     let variable = opened(machine, place.level)?;
     let inner = bound(machine, place, variable)?;
-    machine.branch.goals = machine.put_list(goals, inner, behind)?;
+    let front = machine.put_list(goals, inner, behind)?;
+    machine.branch.goals = front;
     Ok(())
 }
 
@@ -102,11 +114,14 @@ fn put_all(
     place: Place,
     behind: Option<usize>,
 ) -> Result<(), Memory>
-    ensures { machine.new.counts ≡ machine.old.counts }
+    ensures counts { machine.new.counts ≡ machine.old.counts }
+    ensures parts { OnOk result ((a : Around) (hs : Goals) (σ : ℕ → Term) (b : Branch) → StandsIn machine.old → IsOf machine.old place goals hs σ → IsBehind machine.old a behind b → (u n height : ℕ) (P : List Clause) (T : Ty) →
+        let g : Goal = Forall T (in_scope (lifted σ) place.values.types hs) in ArePartsOf machine.old machine.new a (look_goal u n P height (entry_at a place g) b g)) }
 {
     let (above, eigen) = raised(machine, place)?;
     let inner = bound(machine, above, eigen)?;
-    machine.branch.goals = machine.put_list(goals, inner, behind)?;
+    let front = machine.put_list(goals, inner, behind)?;
+    machine.branch.goals = front;
     Ok(())
 }
 
@@ -206,8 +221,12 @@ pub(crate) fn put_parts(
     behind: Option<usize>,
 ) -> Result<Turn, Memory>
     ensures counted { IfOk result (λ turn. IsApart turn machine.old.counts machine.new.counts) }
-    ensures either { IfOk result (λ turn. turn ≡ Turn.On → (l r : ℕ) → goal ≡ Flat.Either l r → (a : Around) (hs ks : Goals) (vs : List TermId) (b : Branch) → IsOf machine.old place l hs vs → IsOf machine.old place r ks vs → IsBehind machine.old a behind b →
-        (u n height : ℕ) (P : List Clause) → let g : Goal = Either (in_scope machine.old.bank vs place.values.types hs) (in_scope machine.old.bank vs place.values.types ks) in ArePartsOf machine.old machine.new a (look_goal u n P height (entry_at a place g) b g)) }
+    ensures either { IfOk result (λ turn. turn ≡ Turn.On → (l r : ℕ) → goal ≡ Flat.Either l r → (a : Around) (hs ks : Goals) (σ : ℕ → Term) (b : Branch) → IsOf machine.old place l hs σ → IsOf machine.old place r ks σ → IsBehind machine.old a behind b →
+        (u n height : ℕ) (P : List Clause) → let g : Goal = Either (in_scope σ place.values.types hs) (in_scope σ place.values.types ks) in ArePartsOf machine.old machine.new a (look_goal u n P height (entry_at a place g) b g)) }
+    ensures some { IfOk result (λ turn. turn ≡ Turn.On → (l : ℕ) → goal ≡ Flat.Some l → (a : Around) (hs : Goals) (σ : ℕ → Term) (b : Branch) → StandsIn machine.old → IsOf machine.old place l hs σ → IsBehind machine.old a behind b →
+        (u n height : ℕ) (P : List Clause) (T : Ty) → let g : Goal = Exists T (in_scope (lifted σ) place.values.types hs) in ArePartsOf machine.old machine.new a (look_goal u n P height (entry_at a place g) b g)) }
+    ensures all { IfOk result (λ turn. turn ≡ Turn.On → (l : ℕ) → goal ≡ Flat.All l → (a : Around) (hs : Goals) (σ : ℕ → Term) (b : Branch) → StandsIn machine.old → IsOf machine.old place l hs σ → IsBehind machine.old a behind b →
+        (u n height : ℕ) (P : List Clause) (T : Ty) → let g : Goal = Forall T (in_scope (lifted σ) place.values.types hs) in ArePartsOf machine.old machine.new a (look_goal u n P height (entry_at a place g) b g)) }
 {
     if !take_apart(machine) {
         return Ok(Turn::Ended(Ending::Deep));

@@ -1,5 +1,5 @@
 // The values of the variables that are bound around a goal. A scope is the number of a block.
-ghost use Rattle.std.specs.Prelude.{◌≡◌, ℕ, ◌≤◌, List, ◌++◌, Option, slice_get, IfOk};
+ghost use Rattle.std.specs.Prelude.{◌≡◌, ℕ, ◌≤◌, List, ◌++◌, [], Option, slice_get, IfOk, OnOk};
 ghost use Rattle.lp_term.specs.declared.node.TermId.{TermId};
 ghost use Rattle.lp_plain.specs.Scopes.{IsScope, KeepsScopes, block_count, value_count, blocks_to};
 
@@ -44,7 +44,9 @@ fn older(around: Option<usize>, number: usize) -> Option<usize>
 }
 
 impl Scopes {
-    pub(crate) fn new(alloc: Global) -> Scopes {
+    pub(crate) fn new(alloc: Global) -> Scopes
+        ensures { result.values.items ≡ [] }
+    {
         Scopes {
             blocks: Vec::new(alloc),
             values: Vec::new(alloc),
@@ -58,6 +60,8 @@ impl Scopes {
         values: &[TermId],
     ) -> Result<Option<usize>, Memory>
         ensures kept { (nb nv : ℕ) → nb ≤ block_count self.old → nv ≤ value_count self.old → KeepsScopes self.old self.new nb nv }
+        ensures more { OnOk result ((block_count self.old ≤ block_count self.new) × (value_count self.old ≤ value_count self.new)) }
+        ensures values { OnOk result (self.new.values.items ≡ self.old.values.items ++ values.now) }
         ensures opened { IfOk result (λ o. (vs : List TermId) → IsScope self.old (block_count self.old) (value_count self.old) around vs → IsScope self.new (block_count self.new) (value_count self.new) o (values.now ++ vs)) }
     {
         if values.is_empty() {

@@ -1,11 +1,13 @@
 // Flattened goals and clauses by number. A goal's parts are named by numbers of lists.
-ghost use Rattle.std.specs.Prelude.{◌≡◌, ℕ, suc, ◌+◌, List, ◌++◌, ◌∷◌, [], length, Some, slice_get, IfOk, OnOk};
+ghost use Rattle.std.specs.Prelude.{◌≡◌, ℕ, suc, ◌+◌, ◌≤◌, max, List, ◌++◌, ◌∷◌, [], length, map, Some, slice_get, IfOk, OnOk};
 ghost use Rattle.lp_term.specs.Nodes.{Nodes};
 ghost use Rattle.lp_model.specs.Flat.{Either, assuming, denied};
 ghost use Rattle.lp_model.specs.Flattened.{goal_of, goals_of, clause_of, clauses_of};
+ghost use Rattle.lp_normal.specs.Within.{AreClausesIn, AreGoalsIn, clause_term_bound, highest, term_bound};
 ghost use Rattle.lp_plain.specs.Tables.{IsGoal, IsList, AreGoals, IsRule, AreRules, IsListOf, AreClausesOf, Never, shown};
+ghost use Rattle.lp_plain.specs.Within.{IsFlatIn, IsTableIn};
 ghost use Rattle.lp_plain.specs.inner.Collecting.{goal_weight, goals_weight, clause_weight, clauses_weight};
-ghost use Rattle.lp_plain.specs.inner.Tabling.{Coming, LeadsTo, IsPut, up_to};
+ghost use Rattle.lp_plain.specs.inner.Tabling.{AreTermsIn, Coming, LeadsTo, IsPut, Stays, up_to};
 
 use crate::free::{Free, free_in_clauses, free_in_goals};
 use crate::head::{HeadPair, Key, first_key, head_args};
@@ -62,7 +64,10 @@ pub(crate) struct Table {
 }
 
 impl Table {
-    pub(crate) fn new(alloc: Global) -> Table {
+    pub(crate) fn new(alloc: Global) -> Table
+        ensures goals { result.goals.items ≡ [] }
+        ensures rules { result.rules.items ≡ [] }
+    {
         Table {
             goals: Vec::new(alloc),
             lists: Vec::new(alloc),
@@ -126,6 +131,7 @@ impl Table {
         ensures goals { self.new.goals ≡ self.old.goals }
         ensures rules { self.new.rules ≡ self.old.rules }
         ensures put { IfOk result (λ list. (b : Nodes) → IsPut b self.old self.new waiting.old.items waiting.new.items (suc (goals_weight (goals_of b goals.now))) (λ c t. IsList b c t list (goals_of b goals.now))) }
+        ensures within { OnOk result ((n : ℕ) → Stays n (highest (map term_bound goals.now)) self.old self.new waiting.old.items waiting.new.items) }
     {
         let number = self.lists.len();
         self.lists.push(Span { from: 0, to: 0 })?;
@@ -143,6 +149,7 @@ impl Table {
         ensures goals { self.new.goals ≡ self.old.goals }
         ensures one { OnOk result (length self.new.rules.items ≡ suc (length self.old.rules.items)) }
         ensures put { OnOk result (IsPut bank.now self.old self.new waiting.old.items waiting.new.items (clause_weight (clause_of bank.now clause.now)) (λ c t. IsRule bank.now c t (length self.old.rules.items) (clause_of bank.now clause.now))) }
+        ensures within { OnOk result (Stays (length bank.now.terms) (clause_term_bound clause.now) self.old self.new waiting.old.items waiting.new.items) }
     {
         let spine = spine_of(alloc, bank, clause.head)?;
         let found = head_args(alloc, bank, clause.vars.len(), spine.args.as_slice())?;
@@ -169,6 +176,7 @@ impl Table {
     ) -> Result<Span, Memory>
         ensures goals { self.new.goals ≡ self.old.goals }
         ensures put { IfOk result (λ s. IsPut bank.now self.old self.new waiting.old.items waiting.new.items (clauses_weight (clauses_of bank.now clauses.now)) (λ c t. AreRules bank.now c t s.from s.to (clauses_of bank.now clauses.now))) }
+        ensures within { OnOk result (Stays (length bank.now.terms) (highest (map clause_term_bound clauses.now)) self.old self.new waiting.old.items waiting.new.items) }
     {
         let from = self.rules.len();
         let mut rest = clauses;
@@ -191,6 +199,8 @@ impl Table {
     ) -> Result<Flat, Memory>
         ensures goals { self.new.goals ≡ self.old.goals }
         ensures put { IfOk result (λ flat. IsPut bank.now self.old self.new waiting.old.items waiting.new.items (goal_weight (assuming (clauses_of bank.now clauses.now) (goals_of bank.now goals.now))) (λ c t. IsGoal bank.now c t flat (assuming (clauses_of bank.now clauses.now) (goals_of bank.now goals.now)))) }
+        ensures within { OnOk result (Stays (length bank.now.terms) (max (highest (map clause_term_bound clauses.now)) (highest (map term_bound goals.now))) self.old self.new waiting.old.items waiting.new.items) }
+        ensures flat { IfOk result (λ flat. (n : ℕ) → IsFlatIn n flat) }
     {
         let written = free_in_clauses(alloc, bank, clauses)?;
         let assumed = self.add_clauses(alloc, bank, clauses, waiting)?;
@@ -209,6 +219,8 @@ impl Table {
     ) -> Result<Flat, Memory>
         ensures goals { self.new.goals ≡ self.old.goals }
         ensures put { IfOk result (λ flat. IsPut bank.now self.old self.new waiting.old.items waiting.new.items (goal_weight (denied (goals_of bank.now goals.now))) (λ c t. IsGoal bank.now c t flat (denied (goals_of bank.now goals.now)))) }
+        ensures within { OnOk result (Stays (length bank.now.terms) (highest (map term_bound goals.now)) self.old self.new waiting.old.items waiting.new.items) }
+        ensures flat { IfOk result (λ flat. (n : ℕ) → IsFlatIn n flat) }
     {
         let written = free_in_goals(alloc, bank, goals)?;
         let list = self.wait(goals, waiting)?;
@@ -224,6 +236,8 @@ impl Table {
     ) -> Result<Flat, Memory>
         ensures goals { self.new.goals ≡ self.old.goals }
         ensures put { IfOk result (λ flat. (b : Nodes) → IsPut b self.old self.new waiting.old.items waiting.new.items (goal_weight (Either (goals_of b left.now) (goals_of b right.now))) (λ c t. IsGoal b c t flat (Either (goals_of b left.now) (goals_of b right.now)))) }
+        ensures within { OnOk result ((n : ℕ) → Stays n (max (highest (map term_bound left.now)) (highest (map term_bound right.now))) self.old self.new waiting.old.items waiting.new.items) }
+        ensures flat { IfOk result (λ flat. (n : ℕ) → IsFlatIn n flat) }
     {
         let one = self.wait(left, waiting)?;
         let other = self.wait(right, waiting)?;
@@ -239,6 +253,8 @@ impl Table {
     ) -> Result<Flat, Memory>
         ensures goals { self.new.goals ≡ self.old.goals }
         ensures put { IfOk result (λ flat. IsPut bank.now self.old self.new waiting.old.items waiting.new.items (goal_weight (goal_of bank.now goal.now)) (λ c t. IsGoal bank.now c t flat (goal_of bank.now goal.now))) }
+        ensures within { OnOk result (Stays (length bank.now.terms) (term_bound goal.now) self.old self.new waiting.old.items waiting.new.items) }
+        ensures flat { IfOk result (λ flat. term_bound goal.now ≤ length bank.now.terms → IsFlatIn (length bank.now.terms) flat) }
     {
         match goal {
             Goal::Atom(term) => Ok(Flat::Atom(*term)),
@@ -281,6 +297,7 @@ impl Table {
         waiting: &mut Vec<&'a [Goal]>,
     ) -> Result<Span, Memory>
         ensures put { IfOk result (λ s. IsPut bank.now self.old self.new waiting.old.items waiting.new.items (goals_weight (goals_of bank.now goals.now)) (λ c t. AreGoals bank.now c t s.from s.to (goals_of bank.now goals.now))) }
+        ensures within { OnOk result (Stays (length bank.now.terms) (highest (map term_bound goals.now)) self.old self.new waiting.old.items waiting.new.items) }
     {
         let from = self.goals.len();
         let mut rest = goals;
@@ -302,7 +319,8 @@ impl Table {
         waiting: &mut Vec<&'a [Goal]>,
     ) -> Result<(), Memory>
         requires { length self.old.lists.items ≡ first + length waiting.old.items }
-        ensures { OnOk result (LeadsTo bank.now (Coming bank.now first waiting.old.items) Never (up_to first self.old) (shown self.new)) }
+        ensures filled { OnOk result (LeadsTo bank.now (Coming bank.now first waiting.old.items) Never (up_to first self.old) (shown self.new)) }
+        ensures within { OnOk result (AreTermsIn (length bank.now.terms) self.old waiting.old.items → IsTableIn (length bank.now.terms) self.new) }
     {
         let mut done = 0usize;
         'lists: while done < waiting.len() {
@@ -323,6 +341,7 @@ impl Table {
     ) -> Result<usize, Memory>
         ensures means { IfOk result (λ list. IsListOf bank.now self.new list (goals_of bank.now goals.now.items)) }
         ensures kept { OnOk result (LeadsTo bank.now Never Never (shown self.old) (shown self.new)) }
+        ensures within { OnOk result (AreGoalsIn bank.now goals.now.items → IsTableIn (length bank.now.terms) self.old → IsTableIn (length bank.now.terms) self.new) }
     {
         let first = self.lists.len();
         let mut waiting = Vec::new(alloc);
@@ -340,6 +359,7 @@ impl Table {
     ) -> Result<Span, Memory>
         ensures means { IfOk result (λ span. AreClausesOf bank.now self.new span (clauses_of bank.now clauses.now.items)) }
         ensures kept { OnOk result (LeadsTo bank.now Never Never (shown self.old) (shown self.new)) }
+        ensures within { OnOk result (AreClausesIn bank.now clauses.now.items → IsTableIn (length bank.now.terms) self.old → IsTableIn (length bank.now.terms) self.new) }
     {
         let first = self.lists.len();
         let mut waiting = Vec::new(alloc);

@@ -1,14 +1,16 @@
 -- How a table grows: by goals and clauses whose own lists have their numbers and are still to come.
-use Rattle.std.specs.Prelude.{◌≡◌, ℕ, ◌+◌, ◌<◌, ◌≤◌, List, [], ◌++◌, length, take, drop, Some, slice_get}
+use Rattle.std.specs.Prelude.{◌≡◌, ℕ, ◌+◌, ◌<◌, ◌≤◌, List, [], ◌++◌, length, map, take, drop, All, Some, slice_get}
 use Rattle.std.specs.Borrow.{Bor}
 use Rattle.lp_term.specs.Nodes.{Nodes}
 use Rattle.lp_model.specs.declared.clause.Goal.{Goal as CodeGoal}
 use Rattle.lp_model.specs.Flat.{Goals}
 use Rattle.lp_model.specs.Flattened.{goals_of}
+use Rattle.lp_normal.specs.Within.{highest, term_bound}
 use Rattle.lp_pattern.specs.Growing.{GoesOn}
 use Rattle.lp_plain.specs.declared.table.Span.{Span}
 use Rattle.lp_plain.specs.declared.table.Table.{Table}
 use Rattle.lp_plain.specs.Tables.{Shown, IsList}
+use Rattle.lp_plain.specs.Within.{IsTableIn}
 use Rattle.lp_plain.specs.inner.Looking.{weight_of_all}
 use Rattle.lp_plain.specs.inner.Collecting.{goals_weight}
 
@@ -60,3 +62,12 @@ pub record AreFilled (b : Nodes) (first : ℕ) (old new : Table) (ws left : Late
   pub within : done ≤ length left
   pub count : length new.lists.items ≡ first + length left
   pub leads : LeadsTo b (Coming b first ws) (Coming b (first + done) (drop done left)) (up_to first old) (up_to (first + done) new)
+
+-- the terms of the table, and those of the lists that are to come, are among the first n
+pub record AreTermsIn (n : ℕ) (t : Table) (l : Late) : Type 0 where
+  pub table : IsTableIn n t
+  pub late : All (λ w. highest (map term_bound w.now) ≤ n) l
+
+-- they stay so, where those of what was put, which are below a bound, are
+abbrev pub Stays : (n bound : ℕ) → (old new : Table) → (before after : Late) → Type 0
+Stays n k old new before after = k ≤ n → AreTermsIn n old before → AreTermsIn n new after

@@ -1,14 +1,34 @@
 use Rattle.std.proofs.Common.{◌≡◌, refl, subst}
+use Rattle.lp_model.specs.Flat.{Exists, Forall}
 use Rattle.lp_plain.specs.Entries.{IsOf}
+use Rattle.lp_plain.proofs.Opening.{quantified_apart}
 use Rattle.lp_plain.proofs.Taken.{either_apart}
 use Rattle.lp_plain.proofs.parts.put_parts.Goals as goal
 
 pub returns-in_ok-put_either-in-Either-clause-either : goal.returns-in_ok-put_either-in-Either-clause-either
-returns-in_ok-put_either-in-Either-clause-either c = λ e l r i a hs ks vs b x y w u n height P.
+returns-in_ok-put_either-in-Either-clause-either c = λ e l r i a hs ks σ b x y w u n height P.
     let m = c.args.machine.now in
     let p = c.args.place in
     let f = c.in-Either.is in
     let q : l ≡ c.in-Either.left = cc in
     let k : r ≡ c.in-Either.right = cc in
-    either_apart m c.take_apart.new.machine c.put_either.new.machine p c.in-Either.left c.in-Either.right c.args.behind (c.if-not-take_apart.ensures.apart refl) c.in_ok-put_either-in-Either.ensures.parts a hs ks vs b
-    (subst (λ z. IsOf m p z hs vs) q x) (subst (λ z. IsOf m p z ks vs) k y) w u n height P
+    either_apart m c.take_apart.new.machine c.put_either.new.machine p c.in-Either.left c.in-Either.right c.args.behind (c.if-not-take_apart.ensures.apart refl) c.in_ok-put_either-in-Either.ensures.parts a hs ks σ b
+    (subst (λ z. IsOf m p z hs σ) q x) (subst (λ z. IsOf m p z ks σ) k y) w u n height P
+
+pub returns-in_ok-put_some-in-Some-clause-some : goal.returns-in_ok-put_some-in-Some-clause-some
+returns-in_ok-put_some-in-Some-clause-some c = λ e l i a hs σ b s x w u n height P T.
+    let m = c.args.machine.now in
+    let p = c.args.place in
+    let f = c.in-Some.is in
+    let q : l ≡ c.in-Some.goals = cc in
+    quantified_apart Exists m c.take_apart.new.machine c.put_some.new.machine p c.in-Some.goals c.args.behind (c.if-not-take_apart.ensures.apart refl) c.in_ok-put_some-in-Some.ensures.parts a hs σ b s (subst (λ z. IsOf m p z hs σ) q x) w u n height
+    P T
+
+pub returns-in_ok-put_all-in-All-clause-all : goal.returns-in_ok-put_all-in-All-clause-all
+returns-in_ok-put_all-in-All-clause-all c = λ e l i a hs σ b s x w u n height P T.
+    let m = c.args.machine.now in
+    let p = c.args.place in
+    let f = c.in-All.is in
+    let q : l ≡ c.in-All.goals = cc in
+    quantified_apart Forall m c.take_apart.new.machine c.put_all.new.machine p c.in-All.goals c.args.behind (c.if-not-take_apart.ensures.apart refl) c.in_ok-put_all-in-All.ensures.parts a hs σ b s (subst (λ z. IsOf m p z hs σ) q x) w u n height
+    P T

@@ -6,3 +6,9 @@ returns-then-span-clause-reads c = λ a gs es h r. list_empty c.args.self.now a 
 
 pub returns-clause-reads : goal.returns-clause-reads
 returns-clause-reads c = λ a gs es h r. c.in_ok-goals.ensures.reads a gs es (list_todo c.args.self.now c.args.place c.args.list c.in_ok-span.span gs c.in_ok-span.ensures h) r
+
+pub returns-then-span-clause-stands : goal.returns-then-span-clause-stands
+returns-then-span-clause-stands c = λ i. i
+
+pub returns-clause-stands : goal.returns-clause-stands
+returns-clause-stands c = λ i. c.in_ok-goals.ensures.stands tt i

@@ -1,9 +1,11 @@
-use Rattle.std.proofs.Common.{refl, sym, ap, ◌∙◌, arith}
+use Rattle.std.proofs.Common.{refl, sym, ap, ◌∙◌, map, length, arith}
 use Rattle.lp_term.specs.Nodes.{type_tree}
 use Rattle.lp_model.specs.Flat.{Either, Exists, Forall, assuming, denied}
 use Rattle.lp_model.specs.Flattened.{goal_of, goals_of, clauses_of}
-use Rattle.lp_normal.proofs.Meanings.{atom_is, cut_is, either_is, some_is, all_is, assume_is, not_is}
+use Rattle.lp_normal.specs.Within.{highest, term_bound, clause_term_bound}
+use Rattle.lp_normal.proofs.Meanings.{atom_is, cut_is, either_is, some_is, all_is, assume_is, not_is, atom_terms, either_terms, some_terms, all_terms, assume_terms, not_terms}
 use Rattle.lp_plain.proofs.Tabled.{put_nothing, put_as, goal_put}
+use Rattle.lp_plain.proofs.Within.{stays_same, stays_by}
 use Rattle.lp_plain.proofs.table.Table.flattened.Goals as goal
 
 pub returns-in-Atom-clause-put : goal.returns-in-Atom-clause-put
@@ -51,3 +53,67 @@ pub returns-in_ok-flat-in-Not-clause-put : goal.returns-in_ok-flat-in-Not-clause
 returns-in_ok-flat-in-Not-clause-put c =
     let b = c.args.bank.now in
     goal_put b _ _ _ _ _ _ _ (ap (goal_of b) c.in-Not.is ∙ not_is b c.in-Not.goals ∙ ap (λ x. denied (goals_of b x)) (sym c.as_slice-in-Not.ensures.value)) c.in_ok-flat-in-Not.ensures.put
+
+pub returns-in-Atom-clause-within : goal.returns-in-Atom-clause-within
+returns-in-Atom-clause-within c = stays_same _ _ _ _
+
+pub returns-in-Atom-clause-flat : goal.returns-in-Atom-clause-flat
+returns-in-Atom-clause-flat c = λ h. let e = ap term_bound c.in-Atom.is ∙ atom_terms c.in-Atom.term in omega (arith, h, e)
+
+pub returns-in-Cut-clause-within : goal.returns-in-Cut-clause-within
+returns-in-Cut-clause-within c = stays_same _ _ _ _
+
+pub returns-in-Cut-clause-flat : goal.returns-in-Cut-clause-flat
+returns-in-Cut-clause-flat c = λ h. tt
+
+pub returns-in_ok-flat-in-Either-clause-within : goal.returns-in_ok-flat-in-Either-clause-within
+returns-in_ok-flat-in-Either-clause-within c =
+    let n = length c.args.bank.now.terms in
+    let e = ap term_bound c.in-Either.is ∙ either_terms c.in-Either.left c.in-Either.right in
+    let l = ap (λ x. highest (map term_bound x)) c.as_slice.ensures.value in
+    let r = ap (λ x. highest (map term_bound x)) c.as_slice-in-Either.ensures.value in
+    stays_by n _ _ _ _ _ _ (λ h. omega (arith, h, e, l, r)) (c.in_ok-flat-in-Either.ensures.within n)
+
+pub returns-in_ok-flat-in-Either-clause-flat : goal.returns-in_ok-flat-in-Either-clause-flat
+returns-in_ok-flat-in-Either-clause-flat c = λ h. c.in_ok-flat-in-Either.ensures.flat (length c.args.bank.now.terms)
+
+pub returns-in_ok-list-in-Some-clause-within : goal.returns-in_ok-list-in-Some-clause-within
+returns-in_ok-list-in-Some-clause-within c =
+    let n = length c.args.bank.now.terms in
+    let e = ap term_bound c.in-Some.is ∙ some_terms c.in-Some.field-0 c.in-Some.goals in
+    let l = ap (λ x. highest (map term_bound x)) c.as_slice-in-Some.ensures.value in
+    stays_by n _ _ _ _ _ _ (λ h. omega (arith, h, e, l)) (c.in_ok-list-in-Some.ensures.within n)
+
+pub returns-in_ok-list-in-Some-clause-flat : goal.returns-in_ok-list-in-Some-clause-flat
+returns-in_ok-list-in-Some-clause-flat c = λ h. tt
+
+pub returns-in_ok-list-in-All-clause-within : goal.returns-in_ok-list-in-All-clause-within
+returns-in_ok-list-in-All-clause-within c =
+    let n = length c.args.bank.now.terms in
+    let e = ap term_bound c.in-All.is ∙ all_terms c.in-All.field-0 c.in-All.goals in
+    let l = ap (λ x. highest (map term_bound x)) c.as_slice-in-All.ensures.value in
+    stays_by n _ _ _ _ _ _ (λ h. omega (arith, h, e, l)) (c.in_ok-list-in-All.ensures.within n)
+
+pub returns-in_ok-list-in-All-clause-flat : goal.returns-in_ok-list-in-All-clause-flat
+returns-in_ok-list-in-All-clause-flat c = λ h. tt
+
+pub returns-in_ok-flat-in-Assume-clause-within : goal.returns-in_ok-flat-in-Assume-clause-within
+returns-in_ok-flat-in-Assume-clause-within c =
+    let n = length c.args.bank.now.terms in
+    let e = ap term_bound c.in-Assume.is ∙ assume_terms c.in-Assume.clauses c.in-Assume.goals in
+    let l = ap (λ x. highest (map clause_term_bound x)) c.as_slice-in-Assume.ensures.value in
+    let r = ap (λ x. highest (map term_bound x)) c.as_slice-in-Assume-2.ensures.value in
+    stays_by n _ _ _ _ _ _ (λ h. omega (arith, h, e, l, r)) c.in_ok-flat-in-Assume.ensures.within
+
+pub returns-in_ok-flat-in-Assume-clause-flat : goal.returns-in_ok-flat-in-Assume-clause-flat
+returns-in_ok-flat-in-Assume-clause-flat c = λ h. c.in_ok-flat-in-Assume.ensures.flat (length c.args.bank.now.terms)
+
+pub returns-in_ok-flat-in-Not-clause-within : goal.returns-in_ok-flat-in-Not-clause-within
+returns-in_ok-flat-in-Not-clause-within c =
+    let n = length c.args.bank.now.terms in
+    let e = ap term_bound c.in-Not.is ∙ not_terms c.in-Not.goals in
+    let l = ap (λ x. highest (map term_bound x)) c.as_slice-in-Not.ensures.value in
+    stays_by n _ _ _ _ _ _ (λ h. omega (arith, h, e, l)) c.in_ok-flat-in-Not.ensures.within
+
+pub returns-in_ok-flat-in-Not-clause-flat : goal.returns-in_ok-flat-in-Not-clause-flat
+returns-in_ok-flat-in-Not-clause-flat c = λ h. c.in_ok-flat-in-Not.ensures.flat (length c.args.bank.now.terms)

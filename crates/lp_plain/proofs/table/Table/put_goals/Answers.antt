@@ -1,7 +1,9 @@
-use Rattle.std.proofs.Common.{subst, arith}
+use Rattle.std.proofs.Common.{◌≤◌, map, length, sym, subst, arith}
 use Rattle.lp_model.specs.Flattened.{goals_of}
+use Rattle.lp_normal.specs.Within.{highest, term_bound}
 use Rattle.lp_plain.specs.Tables.{IsListOf}
 use Rattle.lp_plain.proofs.Tabled.{list_on, put_first, put_counted, all_filled, all_kept}
+use Rattle.lp_plain.proofs.Within.{table_stays}
 use Rattle.lp_plain.proofs.table.Table.put_goals.Goals as goal
 
 pub fill-requires : goal.fill-requires
@@ -14,10 +16,15 @@ returns-clause-means c =
     let b = c.args.bank.now in
     let p = (put_first c.args.bank.now c.args.self.now c.wait.new.self c.new-waiting.result.items c.wait.new.waiting.items _ _ c.new-waiting.ensures.items (c.in_ok-list.ensures.put c.args.bank.now)) in
     subst (λ l. IsListOf b c.fill.new.self c.in_ok-list.list (goals_of b l)) c.as_slice.ensures.value
-    (list_on b _ _ _ _ (all_filled b c.args.self.now c.wait.new.self c.fill.new.self c.wait.new.waiting.items _ _ p c.len-first.result (omega (arith, c.len-first.ensures, c.args.self.now.lists.ok)) c.in_ok-fill.ensures)
+    (list_on b _ _ _ _ (all_filled b c.args.self.now c.wait.new.self c.fill.new.self c.wait.new.waiting.items _ _ p c.len-first.result (omega (arith, c.len-first.ensures, c.args.self.now.lists.ok)) c.in_ok-fill.ensures.filled)
     c.in_ok-list.list (goals_of b c.as_slice.result.now) p.means)
 
 pub returns-clause-kept : goal.returns-clause-kept
 returns-clause-kept c =
     all_kept c.args.bank.now c.args.self.now c.wait.new.self c.fill.new.self c.wait.new.waiting.items _ _
-    (put_first c.args.bank.now c.args.self.now c.wait.new.self c.new-waiting.result.items c.wait.new.waiting.items _ _ c.new-waiting.ensures.items (c.in_ok-list.ensures.put c.args.bank.now)) c.len-first.result (omega (arith, c.len-first.ensures, c.args.self.now.lists.ok)) c.in_ok-fill.ensures
+    (put_first c.args.bank.now c.args.self.now c.wait.new.self c.new-waiting.result.items c.wait.new.waiting.items _ _ c.new-waiting.ensures.items (c.in_ok-list.ensures.put c.args.bank.now)) c.len-first.result (omega (arith, c.len-first.ensures, c.args.self.now.lists.ok)) c.in_ok-fill.ensures.filled
+
+pub returns-clause-within : goal.returns-clause-within
+returns-clause-within c = λ i t.
+    let n = length c.args.bank.now.terms in
+    table_stays n _ _ _ _ _ _ c.new-waiting.ensures.items (c.in_ok-list.ensures.within n) c.in_ok-fill.ensures.within (subst (λ l. highest (map term_bound l) ≤ n) (sym c.as_slice.ensures.value) i.terms) t

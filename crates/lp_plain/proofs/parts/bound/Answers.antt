@@ -1,0 +1,22 @@
+use Rattle.std.proofs.Common.{[], sym, append-nil, refl}
+use Rattle.lp_term.proofs.Trees.{extends_same}
+use Rattle.lp_plain.proofs.Opening.{values_more, value_stands}
+use Rattle.lp_plain.proofs.parts.bound.Goals as goal
+
+pub returns-clause-bound : goal.returns-clause-bound
+returns-clause-bound c =
+    let m = c.args.machine.now in
+    let s = c.in_ok-scope.ensures in
+    record {
+      bank = refl;
+      grows = record { bank = extends_same m.bank; table = refl; frames = ([], sym (append-nil m.frames.items)); scopes = s.kept; blocks = s.more.0; values = s.more.1 };
+      choices = refl;
+      branch = refl;
+      opened = λ σ h. (_, s.opened h.0 h.1, values_more m.bank h.0 c.args.value σ h.2);
+      stands = value_stands m _ c.args.value refl refl refl s.values;
+      types = refl;
+      assumed = refl;
+      standing = refl;
+      level = refl;
+      mark = refl;
+    }

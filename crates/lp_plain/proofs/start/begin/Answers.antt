@@ -1,0 +1,65 @@
+use Rattle.std.proofs.Common.{◌≡◌, [], ◌++◌, map, reverse, length, refl, sym, ap, ◌∙◌, subst, arith}
+use Rattle.lp_lemmas.proofs.Elements.{All_empty}
+use Rattle.lp_term.specs.Nodes.{tree}
+use Rattle.lp_model.specs.Flat.{goal_list}
+use Rattle.lp_model.specs.Search.{vars_from}
+use Rattle.lp_plain.specs.declared.frame.Frame.{Frame}
+use Rattle.lp_plain.specs.Entries.{Reads, in_scope, no_frame}
+use Rattle.lp_plain.specs.Starts.{AreProgramOf, query_values}
+use Rattle.lp_plain.specs.Within.{IsTodoIn}
+use Rattle.lp_plain.proofs.Later.{list_later, rules_later, table_later}
+use Rattle.lp_plain.proofs.Programs.{program_on}
+use Rattle.lp_plain.proofs.Starts.{outside_entries, query_values_are, variables_are_values}
+use Rattle.lp_plain.proofs.start.begin.Goals as goal
+
+pub returns-clause-stands : goal.returns-clause-stands
+returns-clause-stands c =
+    let b = c.put_all.new.bank in
+    let d = c.query_variables.new.bank in
+    let m = c.in_ok-made.ensures in
+    let v = c.in_ok-variables.ensures in
+    let z = c.in_ok-front.ensures.stands (record {
+      table = table_later b d v.kept c.in_ok-made.made.table m.within;
+      values = variables_are_values d c.in_ok-variables.variables.items c.query_place.new.scopes.values.items c.len-count.result v.within v.trees (c.in_ok-place.ensures.values ∙ ap (λ l. l ++ reverse c.in_ok-variables.variables.items) c.new-scopes.ensures);
+      frames = All_empty (λ (f : Frame). IsTodoIn (length d.terms) f.todo) c.new-frames.result.items c.new-frames.ensures.items;
+    }) in
+    record { table = z.table; values = z.values; frames = z.frames }
+
+pub returns-clause-program : goal.returns-clause-program
+returns-clause-program c = λ j n k css h.
+    let b = c.put_all.new.bank in
+    let d = c.query_variables.new.bank in
+    let t = c.in_ok-made.made.table in
+    let m = c.in_ok-made.ensures in
+    let x = c.in_ok-variables.ensures.kept in
+    let ss = c.in_ok-made.made.spans.items in
+    let known = c.in_ok-front.ensures.goals.known in
+    subst (λ z. AreProgramOf z c.put_list.new.self.table ss css) (sym known.bank)
+    (subst (λ z. AreProgramOf d z ss css) (sym known.table) (program_on b d t t (λ s cs p. rules_later b d x t m.within s.from s.to cs p) ss css (m.program j n k css h)))
+
+pub returns-clause-starts : goal.returns-clause-starts
+returns-clause-starts c = λ l n k flat h a o answers.
+    let b = c.put_all.new.bank in
+    let d = c.query_variables.new.bank in
+    let t = c.in_ok-made.made.table in
+    let list = c.in_ok-made.made.list in
+    let m = c.in_ok-made.ensures in
+    let v = c.in_ok-variables.ensures in
+    let p = c.in_ok-place.place in
+    let f = c.in_ok-front.ensures in
+    let vars = c.args.query.vars in
+    let e : c.len-count.result ≡ length vars.items = omega (arith, c.len-count.ensures, vars.ok) in
+    let count = length vars.items in
+    let σ = query_values count in
+    let ts = c.in_ok-variables.variables.items in
+    let trees : map (λ t. tree d t.0) ts ≡ vars_from count 0 = v.trees ∙ ap (λ i. vars_from i 0) e in (
+      record {
+        goals =
+            subst (Reads c.put_list.new.self a c.in_ok-front.front) (outside_entries a p σ flat o c.in_ok-place.ensures.outside)
+            (f.reads a (goal_list (in_scope σ p.values.types flat)) []
+            (flat, σ, list_later b d v.kept t m.within list flat (m.query l n k flat h), (reverse ts, c.in_ok-place.ensures.scope, query_values_are d ts count trees), refl) (no_frame refl refl));
+        next = ap (λ z. z.next) f.course.branch ∙ e;
+        next_type = ap (λ z. z.next_type) f.course.branch;
+      },
+      f.course.choices ∙ c.new-choices.ensures.items,
+    )

@@ -1,0 +1,16 @@
+-- A program on the way into the table, formula by formula.
+use Rattle.std.specs.Prelude.{◌≡◌, ℕ, List, take, length, Option}
+use Rattle.lp_calculus.specs.Typing.{Scheme}
+use Rattle.lp_term.specs.Nodes.{Nodes, Extends}
+use Rattle.lp_model.specs.declared.program.ClauseFormula.{ClauseFormula}
+use Rattle.lp_model.specs.Flat.{Clauses}
+use Rattle.lp_plain.specs.declared.table.Span.{Span}
+use Rattle.lp_plain.specs.declared.table.Table.{Table}
+use Rattle.lp_plain.specs.Starts.{AreFormulasIn, AreFlat, AreProgramOf}
+use Rattle.lp_plain.specs.Within.{IsTableIn}
+
+-- the first k formulas are in the table
+pub record ArePut (fs : List ClauseFormula) (b c : Nodes) (t u : Table) (spans : List Span) (k : ℕ) : Type 0 where
+  pub kept : Extends b c
+  pub within : IsTableIn (length b.terms) t → IsTableIn (length c.terms) u
+  pub spans_are : IsTableIn (length b.terms) t → AreFormulasIn b fs → (n : ℕ) (d : ℕ → Option Scheme) (css : List Clauses) → AreFlat n d b (take k fs) css → AreProgramOf c u spans css
