@@ -1,5 +1,5 @@
 -- The numbers of a program, a query and certificates stand in the program's bank.
-use Rattle.std.specs.Prelude.{ℕ, ◌<◌, List, length, All}
+use Rattle.std.specs.Prelude.{◌≡◌, ℕ, ◌<◌, List, length, All}
 use Rattle.lp_term.specs.Nodes.{Nodes, tree}
 use Rattle.lp_term.specs.Spine.{LooseBelow}
 use Rattle.lp_model.specs.declared.certificate.Certificate.{Certificate}
@@ -8,6 +8,7 @@ use Rattle.lp_model.specs.declared.certificate.ProofNode.TheVariants as node
 use Rattle.lp_model.specs.declared.program.ClauseFormula.{ClauseFormula}
 use Rattle.lp_model.specs.declared.program.Program.{Program}
 use Rattle.lp_model.specs.declared.program.Typed.{Typed}
+use Rattle.lp_module.specs.declared.copies.Assembled.{Assembled}
 use Rattle.lp_cert.specs.Facts.{AreInside}
 use Rattle.lp_cert.specs.Inside.{AreDeclaredInside, AreTermsInside, IsQueryInside}
 
@@ -43,3 +44,10 @@ pub record AreNumbersInside (p : Program) (q : Typed) (cs : List Certificate) : 
   pub clauses : All (IsClauseInside p.bank) p.clauses.items
   pub query : IsQueryInside p.bank q
   pub certificates : All (IsCertificateInside p.bank) cs
+
+-- a program in a bank that grew: its constants, clauses and names are as they were
+pub record IsSameProgram (old new : Assembled) : Type 0 where
+  pub declared : new.program.constants ≡ old.program.constants
+  pub clauses : new.program.clauses ≡ old.program.clauses
+  pub kinds : new.kinds ≡ old.kinds
+  pub constants : new.constants ≡ old.constants

@@ -8,7 +8,7 @@ ghost use Rattle.lp_cert.specs.Facts.{AreInside, IsKnown};
 ghost use Rattle.lp_cert.specs.Inside.{AreTermsInside, IsQueryInside};
 ghost use Rattle.lp_cert.specs.Written.{Node, node_of};
 ghost use Rattle.lp_cert.specs.Run.{NeedsLargeForm, RunsIntoLarge, StopsAt};
-ghost use Rattle.lp_cert.specs.Standing.{AreNumbersInside, IsCertificateInside, IsClauseInside, IsNodeInside};
+ghost use Rattle.lp_cert.specs.Standing.{AreNumbersInside, IsCertificateInside, IsClauseInside, IsNodeInside, IsSameProgram};
 ghost use Rattle.lp_cert.specs.Inside.{AreDeclaredInside};
 ghost use Rattle.lp_cert.specs.inner.Turned.{IsReady, IsReadyWork, IsStepped};
 ghost use Rattle.lp_cert.specs.inner.Left.{CertifiesIn, ground_over, IsFilledIn, IsIdle, Left, Proves, Stays, ground_in};
@@ -213,6 +213,7 @@ pub fn check(
     certificates: &[Certificate],
 ) -> Result<CheckVerdict, Memory>
     ensures kept { Extends names.old.program.bank names.new.program.bank }
+    ensures same { IsSameProgram names.old names.new }
     ensures accepted { IfOk result (λ v. v ≡ CheckVerdict.Accepted → All (λ c. Certifies (ground_of names.new.program) (query_of names.new.program.bank query.now) (certificate_of names.new.program.bank c)) certificates.now) }
     ensures rejected { IfOk result (λ v. (i : ℕ) → v ≡ CheckVerdict.Rejected i → AreNumbersInside names.old.program query.now certificates.now → StopsAt (λ c. Certifies (ground_of names.new.program) (query_of names.new.program.bank query.now) (certificate_of names.new.program.bank c)) (λ c. Certifies (ground_of names.new.program) (query_of names.new.program.bank query.now) (certificate_of names.new.program.bank c) → ⊥) certificates.now i) }
     ensures deep { IfOk result (λ v. (i : ℕ) → v ≡ CheckVerdict.Deep i → AreNumbersInside names.old.program query.now certificates.now → StopsAt (λ c. Certifies (ground_of names.new.program) (query_of names.new.program.bank query.now) (certificate_of names.new.program.bank c)) (λ c. NeedsLargeForm (ground_of names.new.program) (query_of names.new.program.bank query.now) (certificate_of names.new.program.bank c)) certificates.now i) }

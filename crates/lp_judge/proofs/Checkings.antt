@@ -8,16 +8,16 @@ use Rattle.lp_base.specs.declared.limit.Limit.{Limit}
 use Rattle.lp_base.specs.declared.status.Status.{Status}
 use Rattle.lp_base.specs.declared.status.Status.TheVariants as variant
 use Rattle.lp_base.specs.Written.{Appends}
-use Rattle.lp_term.specs.Nodes.{Nodes, Extends}
+use Rattle.lp_term.specs.Nodes.{Extends}
 use Rattle.lp_model.specs.declared.certificate.Certificate as code
-use Rattle.lp_model.specs.declared.program.Program.{Program}
+use Rattle.lp_module.specs.declared.copies.Assembled.{Assembled}
 use Rattle.lp_model.specs.declared.program.Typed.{Typed}
-use Rattle.lp_cert.specs.Arities.{Counts}
+use Rattle.lp_cert.specs.Arities.{counts_in}
 use Rattle.lp_cert.specs.Certified.{certificate_of, ground_of, query_of}
 use Rattle.lp_cert.specs.Inside.{IsQueryInside}
 use Rattle.lp_cert.specs.Spellable.{AreCertificates}
 use Rattle.lp_cert.specs.Spelling.{spelled_certificates}
-use Rattle.lp_cert.specs.Standing.{IsCertificateInside}
+use Rattle.lp_cert.specs.Standing.{IsCertificateInside, IsSameProgram}
 use Rattle.lp_build.specs.Told.{IsTold}
 use Rattle.lp_cert.specs.declared.judging.CheckVerdict.{CheckVerdict}
 use Rattle.lp_cert.specs.declared.judging.CheckVerdict.TheVariants.{Accepted, Rejected, Deep}
@@ -109,25 +109,29 @@ check_of told name text file bytes line said e there h = record {
   checked = h.3;
 }
 
+-- the arities are those of the names, which stay
+counts_stay : (old new : Assembled) → IsSameProgram old new → counts_in old ≡ counts_in new
+counts_stay old new s = let a = s.kinds in let b = s.constants in cc
+
 -- what was judged of bytes that were read in one bank, in a later one
-pub judged_on : (bytes text : List ℕ) (before : Nodes) (between : Nodes) (after : Program) (q : Typed) (d : Counts) (cs : List code.Certificate) (count : ℕ) (verdict : CheckVerdict)
-    → IsQueryOf text before q → Extends before between → Extends between after.bank → All (IsCertificateInside between) cs
-    → AreCertificates d (map (certificate_of between) cs) → bytes ≡ spelled_certificates (map (certificate_of between) cs) → count ≡ length cs
-    → (IsQueryInside between q → All (IsCertificateInside between) cs → IsVerdictOn (ground_of after) (query_of after.bank q) (map (certificate_of after.bank) cs) verdict)
+pub judged_on : (bytes text : List ℕ) (before between after : Assembled) (q : Typed) (cs : List code.Certificate) (count : ℕ) (verdict : CheckVerdict)
+    → IsQueryOf text before.program.bank q → Extends before.program.bank between.program.bank → Extends between.program.bank after.program.bank
+    → IsSameProgram before between → IsSameProgram between after → All (IsCertificateInside between.program.bank) cs
+    → AreCertificates (counts_in before) (map (certificate_of between.program.bank) cs) → bytes ≡ spelled_certificates (map (certificate_of between.program.bank) cs) → count ≡ length cs
+    → (IsQueryInside between.program.bank q → All (IsCertificateInside between.program.bank) cs → IsVerdictOn (ground_of after.program) (query_of after.program.bank q) (map (certificate_of after.program.bank) cs) verdict)
     → IsJudgedOn bytes text count verdict
-judged_on bytes text before between after q d cs count verdict asked e f inside known spelled counted right =
-    let later = query_stays text before between q e asked in
-    let same = certificates_stay between after.bank f cs inside in
+judged_on bytes text before between after q cs count verdict asked e f s t inside known spelled counted right =
+    let later = query_stays text before.program.bank between.program.bank q e asked in
+    let same = certificates_stay between.program.bank after.program.bank f cs inside in
     record {
-      program = after;
+      names = after;
       query = q;
-      asked = query_stays text between after.bank q f later;
-      arities = d;
-      certificates = map (certificate_of after.bank) cs;
-      known = subst (AreCertificates d) (sym same) known;
+      asked = query_stays text between.program.bank after.program.bank q f later;
+      certificates = map (certificate_of after.program.bank) cs;
+      known = subst (λ z. AreCertificates z (map (certificate_of after.program.bank) cs)) (counts_stay before between s ∙ counts_stay between after t) (subst (AreCertificates (counts_in before)) (sym same) known);
       spelled = subst (λ z. bytes ≡ spelled_certificates z) (sym same) spelled;
-      counted = counted ∙ sym (length-map cs (certificate_of after.bank));
-      right = right (query_inside text between q later) inside;
+      counted = counted ∙ sym (length-map cs (certificate_of after.program.bank));
+      right = right (query_inside text between.program.bank q later) inside;
     }
 
 -- the same of what a call gave

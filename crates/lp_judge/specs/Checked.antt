@@ -8,9 +8,9 @@ use Rattle.lp_base.specs.declared.status.Status.TheVariants as variant
 use Rattle.lp_cert.specs.declared.judging.CheckVerdict.{CheckVerdict}
 use Rattle.lp_cert.specs.declared.judging.CheckVerdict.TheVariants.{Accepted, Rejected, Deep}
 use Rattle.lp_model.specs.Answers.{Query}
-use Rattle.lp_model.specs.declared.program.Program.{Program}
 use Rattle.lp_model.specs.declared.program.Typed.{Typed}
-use Rattle.lp_cert.specs.Arities.{Counts}
+use Rattle.lp_module.specs.declared.copies.Assembled.{Assembled}
+use Rattle.lp_cert.specs.Arities.{counts_in}
 use Rattle.lp_cert.specs.Certified.{Certificate, Ground, Certifies, ground_of, query_of}
 use Rattle.lp_cert.specs.Run.{NeedsLargeForm, StopsAt}
 use Rattle.lp_cert.specs.Spellable.{AreCertificates}
@@ -41,17 +41,16 @@ IsVerdictOn g q cs Accepted = All (Certifies g q) cs
 IsVerdictOn g q cs (Rejected i) = StopsAt (Certifies g q) (λ c. Certifies g q c → ⊥) cs i
 IsVerdictOn g q cs (Deep i) = StopsAt (Certifies g q) (NeedsLargeForm g q) cs i
 
--- the bytes spell so many certificates, and the verdict on them is right for the query of the text on some program
+-- the bytes spell so many certificates over the kinds and constants of some program, and the verdict on them is right for the query of the text on it
 pub record IsJudgedOn (bytes text : List ℕ) (count : ℕ) (verdict : CheckVerdict) : Type 0 where
-  pub program : Program
+  pub names : Assembled
   pub query : Typed
-  pub asked : IsQueryOf text program.bank query
-  pub arities : Counts
+  pub asked : IsQueryOf text names.program.bank query
   pub certificates : List Certificate
-  pub known : AreCertificates arities certificates
+  pub known : AreCertificates (counts_in names) certificates
   pub spelled : bytes ≡ spelled_certificates certificates
   pub counted : count ≡ length certificates
-  pub right : IsVerdictOn (ground_of program) (query_of program.bank query) certificates verdict
+  pub right : IsVerdictOn (ground_of names.program) (query_of names.program.bank query) certificates verdict
 
 -- the line and the status are those of the verdict on the certificates of a module, as the folder holds them
 pub record IsCheckOf (told : Option Held) (name text line : List ℕ) (said : Status) : Type 0 where

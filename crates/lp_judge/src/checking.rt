@@ -15,7 +15,7 @@ ghost use Rattle.lp_cert.specs.Certified.{certificate_of, ground_of, query_of};
 ghost use Rattle.lp_cert.specs.Inside.{IsQueryInside};
 ghost use Rattle.lp_cert.specs.Spellable.{AreCertificates};
 ghost use Rattle.lp_cert.specs.Spelling.{spelled_certificates};
-ghost use Rattle.lp_cert.specs.Standing.{IsCertificateInside};
+ghost use Rattle.lp_cert.specs.Standing.{IsCertificateInside, IsSameProgram};
 ghost use Rattle.lp_build.specs.Told.{IsTold};
 ghost use Rattle.lp_judge.specs.Asked.{IsQueryOf};
 ghost use Rattle.lp_judge.specs.Checked.{Checks, IsCheckOf, IsChecked, IsJudgedOn, IsVerdictOn};
@@ -111,6 +111,7 @@ fn said_of_verdict(alloc: Global, count: u64, verdict: CheckVerdict) -> Result<C
 // The certificates that the bytes spell, in the program's bank.
 fn read(alloc: Global, bytes: &[u8], names: &mut Assembled) -> Result<Vec<Certificate>, CertFault>
     ensures kept { Extends names.old.program.bank names.new.program.bank }
+    ensures same { IsSameProgram names.old names.new }
     ensures inside { IfOk result (λ cs. All (IsCertificateInside names.new.program.bank) cs.items) }
     ensures found { IfOk result (λ cs. AreCertificates (counts_in names.old) (map (certificate_of names.new.program.bank) cs.items) × (bytes.now ≡ spelled_certificates (map (certificate_of names.new.program.bank) cs.items))) }
 {
@@ -128,6 +129,7 @@ fn verdict_on(
     certificates: &[Certificate],
 ) -> Result<CheckVerdict, Memory>
     ensures kept { Extends names.old.program.bank names.new.program.bank }
+    ensures same { IsSameProgram names.old names.new }
     ensures right { IsQueryInside names.old.program.bank query.now → All (IsCertificateInside names.old.program.bank) certificates.now → IfOk result (IsVerdictOn (ground_of names.new.program) (query_of names.new.program.bank query.now) (map (certificate_of names.new.program.bank) certificates.now)) }
 {
     standing(&names.program)?;

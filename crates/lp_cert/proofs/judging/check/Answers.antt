@@ -11,6 +11,9 @@ use Rattle.lp_cert.proofs.judging.check.Goals as goal
 pub returns-clause-accepted : goal.returns-clause-accepted
 returns-clause-accepted c = verdict_certifies c.judge-verdict.new.bank c.args.names.now.program.constants.items c.args.names.now.program.clauses.items c.args.query.now c.args.certificates.now c.judge-verdict.result c.judge-verdict.ensures.accepted
 
+pub returns-clause-same : goal.returns-clause-same
+returns-clause-same c = record { declared = refl; clauses = refl; kinds = refl; constants = refl }
+
 pub returns-clause-rejected : goal.returns-clause-rejected
 returns-clause-rejected c =
     stops_now c.replace-bank.result c.judge-verdict.new.bank c.args.names.now.program.constants.items c.args.names.now.program.clauses.items c.args.query.now c.args.certificates.now _ (λ x h. h c.judge-verdict.new.bank (extends_same _)) c.judge-verdict.result verdict.Rejected
