@@ -1,21 +1,19 @@
 -- A variable is set: those around stay as they are.
 use Rattle.std.proofs.Common.{◌≡◌, ◌∙◌, ◌<◌, ◌≤◌, ℕ, zero, suc, ◌-◌, ◌+◌, ◌^◌, List, [], ◌∷◌, length, Bool, true, false, Option, Some, None, ap, refl, sym, subst, arith, true≢false, inl, inr, ◌⊎◌, ⊎_elim}
-use Rattle.std.specs.Prelude.{nat_le, if◌then◌else◌, min, slice_get, slice_set, option_map}
-use Rattle.std.proofs.lemmas.Bool.{leb-true, le-leb}
+use Rattle.std.specs.Prelude.{nat_le, ◌&&◌, ◌||◌, if◌then◌else◌, min, slice_get, slice_set, option_map}
+use Rattle.std.proofs.lemmas.Bool.{leb-true, le-leb, eq-eqb}
 use Rattle.std.proofs.lemmas.List.{length-set}
 use Rattle.lp_calculus.specs.Types.{Ty}
 use Rattle.lp_calculus.specs.Term.{Term, index, atom, abs, app}
 use Rattle.lp_code.specs.Symbolic.{Built, variable, held, whole}
 use Rattle.lp_code.specs.States.{Home}
+use Rattle.lp_code.specs.Rules.{stands_in}
 use Rattle.lp_gen.specs.Sources.{IsKnownType}
 use Rattle.lp_gen.specs.inner.Listing.{Seen, Around, level_below, level_in, at_level, marked, set_level}
 use Rattle.lp_gen.specs.inner.TermSteps.{made_variable}
-use Rattle.lp_gen.specs.inner.TermLaw.{Standing, AllLoose, of_seen, IsSeen, level_term, with_variables, SameAround}
+use Rattle.lp_gen.specs.inner.TermLaw.{Standing, AllLoose, as_set, IsSeen, level_term, with_variables, SameAround, Made}
 use Rattle.lp_gen.proofs.Denoting.{held_set}
 use Rattle.lp_gen.proofs.Registers.{held_elsewhere, by_same}
-
-abbrev as_set : Seen → Seen
-as_set v = record { register = v.register; of = v.of; is_set = true }
 
 some_seen : (v w : Seen) → ◌≡◌ {A = Option Seen} (Some v) (Some w) → v ≡ w
 some_seen v w e = cc
@@ -67,25 +65,29 @@ found_after a l m v w le e f =
     (λ s. inl (s, some_seen w (as_set v) (sym f ∙ ap (at_level (set_own a l)) s ∙ set_here a l le ∙ ap (option_map as_set) e)))
     (λ n. inr (n, sym (set_there a l m le n) ∙ f))
 
+pub found_set : (a : Around) (l m : ℕ) (v w : Seen) → a.base ≤ l → at_level a l ≡ Some v → at_level (set_level a l) m ≡ Some w →
+    ((m ≡ l) × (w ≡ as_set v)) ⊎ ((m ≡ l → ⊥) × (at_level a m ≡ Some w))
+found_set a l m v w le e f = found_after a l m v w le e (ap (λ b. at_level b m) (sym (set_is a l le)) ∙ f)
+
 -- as many variables, of the same types
 
-same_of : (o : Option Seen) → option_map of_seen (option_map as_set o) ≡ option_map of_seen o
+same_of : (o : Option Seen) → option_map as_set (option_map as_set o) ≡ option_map as_set o
 same_of None = refl
 same_of (Some v) = refl
 
 pub around_same : (a : Around) → SameAround a a
-around_same a = record { base = refl; count = refl; types = λ l. refl }
+around_same a = record { base = refl; count = refl; variables = λ l. refl }
 
 pub around_then : (a b c : Around) → SameAround a b → SameAround b c → SameAround a c
-around_then a b c x y = record { base = y.base ∙ x.base; count = y.count ∙ x.count; types = λ l. y.types l ∙ x.types l }
+around_then a b c x y = record { base = y.base ∙ x.base; count = y.count ∙ x.count; variables = λ l. y.variables l ∙ x.variables l }
 
 around_own : (a : Around) (l : ℕ) → a.base ≤ l → SameAround a (set_own a l)
 around_own a l le = record {
   base = refl;
   count = marked_length a.own (l - a.base);
-  types = λ m. by_same (option_map of_seen (at_level (set_own a l) m) ≡ option_map of_seen (at_level a m)) m l
-      (λ s. ap (λ k. option_map of_seen (at_level (set_own a l) k)) s ∙ ap (option_map of_seen) (set_here a l le) ∙ same_of (at_level a l) ∙ ap (λ k. option_map of_seen (at_level a k)) (sym s))
-      (λ n. ap (option_map of_seen) (set_there a l m le n));
+  variables = λ m. by_same (option_map as_set (at_level (set_own a l) m) ≡ option_map as_set (at_level a m)) m l
+      (λ s. ap (λ k. option_map as_set (at_level (set_own a l) k)) s ∙ ap (option_map as_set) (set_here a l le) ∙ same_of (at_level a l) ∙ ap (λ k. option_map as_set (at_level a k)) (sym s))
+      (λ n. ap (option_map as_set) (set_there a l m le n));
 }
 
 pub around_set : (a : Around) (l : ℕ) → a.base ≤ l → SameAround a (set_level a l)
@@ -94,20 +96,17 @@ around_set a l le = subst (SameAround a) (sym (set_is a l le)) (around_own a l l
 pub level_same : (a b : Around) (i : ℕ) → SameAround a b → level_in b i ≡ level_in a i
 level_same a b i s = λ k. level_below (min (s.base k + s.count k) (2 ^ 64 - 1)) i
 
-seen_of : (o : Option Seen) (T : Ty) → option_map of_seen o ≡ Some T → (v : Seen) × (o ≡ Some v) × (v.of ≡ T)
-seen_of None T e = absurd (no_type e)
-  where
-    no_type : None ≡ Some T → ⊥
-    no_type z = cc
-seen_of (Some v) T e = (v, refl, same e)
-  where
-    same : ◌≡◌ {A = Option Ty} (Some v.of) (Some T) → v.of ≡ T
-    same z = cc
+no_seen : (w : Seen) → None ≡ Some w → ⊥
+no_seen w e = cc
+
+pub seen_of : (o : Option Seen) (w : Seen) → option_map as_set o ≡ Some w → (v : Seen) × (o ≡ Some v) × (as_set v ≡ w)
+seen_of None w e = absurd (no_seen w e)
+seen_of (Some v) w e = (v, refl, some_seen (as_set v) w e)
 
 pub seen_same : (a b : Around) (Γ : List Ty) (i : ℕ) → SameAround a b → IsSeen a Γ i → IsSeen b Γ i
 seen_same a b Γ i s x =
-    let w = seen_of (at_level b x.0) x.1.of (s.types x.0 ∙ ap (option_map of_seen) x.3) in
-    (x.0, w.0, level_same a b i s ∙ x.2, w.1, x.4 ∙ ap (λ T. Some T) (sym w.2))
+    let w = seen_of (at_level b x.0) (as_set x.1) (s.variables x.0 ∙ ap (option_map as_set) x.3) in
+    (x.0, w.0, level_same a b i s ∙ x.2, w.1, x.4 ∙ ap (λ (y : Seen). Some y.of) (sym w.2))
 
 pub all_seen : (a b : Around) (Γ : List Ty) (d : ℕ) (t : Term) → SameAround a b → AllLoose (IsSeen a Γ) d t → AllLoose (IsSeen b Γ) d t
 all_seen a b Γ d (index i) s x = λ le. seen_same a b Γ (i - d) s (x le)
@@ -165,3 +164,26 @@ pub standing_set : (h : Home) (vars n : ℕ) (i : Bool) (σ : ℕ → Term) (a :
     Standing h vars n i σ (set_level a l) (made_variable h v.register v.of xs)
 standing_set h vars n i σ a xs l v x e f =
     subst (λ b. Standing h vars n i σ b (made_variable h v.register v.of xs)) (sym (set_is a l (x.unmade l v e f).2)) (standing_own h vars n i σ a xs l v x e f)
+
+-- variables that are made stand in the term
+
+pub made_same : (k : ℕ) (a : Around) (u : Term) → Made k a a u
+made_same k a u l v e s = inl e
+
+pub made_one : (k : ℕ) (a : Around) (l : ℕ) (v : Seen) (u : Term) → a.base ≤ l → at_level a l ≡ Some v → u ≡ variable v.register k → Made k a (set_level a l) u
+made_one k a l v u le e is m w f s =
+    ⊎_elim (λ q. inr (ap (λ (y : Seen). stands_in y.register k u) q.1 ∙ ap (stands_in v.register k) is ∙ (λ i. (eq-eqb v.register v.register refl i && eq-eqb k k refl i)))) (λ q. inl q.1)
+    (found_set a l m v w le e f)
+
+or_left : (p q : Bool) → p ≡ true → (p || q) ≡ true
+or_left true q e = refl
+or_left false q e = absurd (true≢false (sym e))
+
+or_right : (p q : Bool) → q ≡ true → (p || q) ≡ true
+or_right true q e = refl
+or_right false q e = e
+
+pub made_both : (k : ℕ) (a b c : Around) (t u : Term) → Made k a b t → Made k b c u → Made k a c (app t u)
+made_both k a b c t u x y l v e s =
+    ⊎_elim (λ p. ⊎_elim (λ q. inl q) (λ q. inr (or_left (stands_in v.register k t) (stands_in v.register k u) q)) (x l v p s))
+    (λ q. inr (or_right (stands_in v.register k t) (stands_in v.register k u) q)) (y l v e s)

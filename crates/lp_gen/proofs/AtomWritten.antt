@@ -1,6 +1,6 @@
 -- The code of an atom as a goal.
-use Rattle.std.proofs.Common.{◌≡◌, ◌≢◌, Bor, ◌∙◌, ◌≤◌, ◌<◌, ℕ, List, [], ◌∷◌, ◌++◌, append_assoc, map, length, Bool, true, false, Option, Some, None, ap, refl, sym, subst, arith, true≢false}
-use Rattle.std.specs.Prelude.{nat_eq, not, ◌&&◌, ◌||◌, if◌then◌else◌, is_none, slice_get, unwrap_or}
+use Rattle.std.proofs.Common.{◌≡◌, ◌≢◌, Bor, ◌∙◌, ◌≤◌, ◌<◌, ℕ, ◌+◌, List, [], ◌∷◌, ◌++◌, append_assoc, map, length, Bool, true, false, Option, Some, None, ap, refl, sym, subst, arith, true≢false}
+use Rattle.std.specs.Prelude.{nat_eq, not, ◌&&◌, ◌||◌, if◌then◌else◌, is_none, sum_by, slice_get, unwrap_or}
 use Rattle.std.specs.List.{list_any}
 use Rattle.std.proofs.lemmas.Bool.{eqb-true, ne_eqb}
 use Rattle.std.proofs.lemmas.List.{append-nil}
@@ -27,28 +27,28 @@ use Rattle.lp_term.specs.Spine.{IsNoApplication}
 use Rattle.lp_code.specs.declared.instruction.Instr.{Instr}
 use Rattle.lp_code.specs.Length.{length_of}
 use Rattle.lp_code.specs.Symbolic.{Built, Registers, held, whole, applied_type, is_closed, equal_types, types_in, term_in, terms_in, plain_terms}
-use Rattle.lp_code.specs.States.{State, Home, with_goal}
+use Rattle.lp_code.specs.States.{Frame, Captured, State, Home, with_goal, depth}
 use Rattle.lp_code.specs.Steps.{Later, constant_of}
-use Rattle.lp_code.specs.Rules.{built_types, has_count, has_type, is_no_term}
+use Rattle.lp_code.specs.Rules.{built_types, has_count, has_type, is_no_term, is_passed}
 use Rattle.lp_code.specs.Denote.{run}
 use Rattle.lp_gen.specs.declared.emitter.Emitter.{Emitter}
 use Rattle.lp_gen.specs.Sources.{types_by, IsKnownType}
 use Rattle.lp_gen.specs.inner.Reading.{from_of, to_of}
-use Rattle.lp_gen.specs.inner.Running.{TypesStand, TermsStand, Leads, AreTypesPut}
+use Rattle.lp_gen.specs.inner.Running.{HasRoom, MayEnd, ends_before, TypesStand, TermsStand, Leads, AreTypesPut}
 use Rattle.lp_gen.specs.inner.Saying.{AreGoalParts, CallPut, IsGoalTerm, TermCallPut, Turns}
 use Rattle.lp_gen.specs.inner.Listing.{Around, head_type}
 use Rattle.lp_gen.specs.inner.TermSteps.{StandIn}
 use Rattle.lp_gen.specs.inner.TermLaw.{Standing, KnownAtoms, AllLoose, IsSeen, with_variables}
 use Rattle.lp_gen.specs.inner.Written.{Goes, AreAsked, IsWell, TermWritten, AreWell, wholes, ArgumentsWritten}
-use Rattle.lp_gen.specs.inner.Doing.{Does, AtomWritten}
-use Rattle.lp_gen.proofs.Denoting.{or_none, room_front, room_behind, none_unset}
+use Rattle.lp_gen.specs.inner.Doing.{Does, Says, AtomWritten}
+use Rattle.lp_gen.proofs.Denoting.{or_none, settled_same, may_strict, room_front, room_behind, none_unset}
 use Rattle.lp_gen.proofs.TermPut.{hold_all_on, types_held, moved}
 use Rattle.lp_gen.proofs.StepPut.{all_set, all_at}
 use Rattle.lp_gen.proofs.LooseOf.{both_true, equal_self, none_some, some_same}
 use Rattle.lp_gen.proofs.TermListed.{KnownSides, known_sides, normal_parts, has_scheme}
 use Rattle.lp_gen.proofs.ConstantTypes.{known_constant}
 use Rattle.lp_gen.proofs.Courses.{mapped_types}
-use Rattle.lp_gen.proofs.TermWritten.{then_goes, room_goes}
+use Rattle.lp_gen.proofs.TermWritten.{then_goes}
 
 -- an applied head, and its arguments
 
@@ -73,7 +73,7 @@ spine_typed h v Γ a (u ∷ us) t R ty nf k p seen kc =
       ),
     )
 
-with_apply : (σ : ℕ → Term) (a : Around) (d : ℕ) (t : Term) (ts : List Term) → with_variables σ a d (apply t ts) ≡ apply (with_variables σ a d t) (map (with_variables σ a d) ts)
+pub with_apply : (σ : ℕ → Term) (a : Around) (d : ℕ) (t : Term) (ts : List Term) → with_variables σ a d (apply t ts) ≡ apply (with_variables σ a d t) (map (with_variables σ a d) ts)
 with_apply σ a d t [] = refl
 with_apply σ a d t (u ∷ us) = with_apply σ a d (app t u) us
 
@@ -81,7 +81,7 @@ arguments_apply : (t : Term) (ts us : List Term) → arguments_and (apply t ts) 
 arguments_apply t [] us = refl
 arguments_apply t (x ∷ xs) us = arguments_apply (app t x) xs us
 
-head_apply : (t : Term) (ts : List Term) → head_of (apply t ts) ≡ head_of t
+pub head_apply : (t : Term) (ts : List Term) → head_of (apply t ts) ≡ head_of t
 head_apply t [] = refl
 head_apply t (x ∷ xs) = head_apply (app t x) xs
 
@@ -93,7 +93,7 @@ applied_wholes h v Γ a f A (t ∷ ts) R w =
     ap (λ T. applied_type T (built_types (wholes T (map f (t ∷ ts))))) w.2
     ∙ ap (λ z. if z then applied_type w.1 (built_types (wholes w.1 (map f ts))) else None) (equal_self w.0) ∙ applied_wholes h v Γ a f w.1 ts R w.4
 
-plain_wholes : (A : Ty) (us : List Term) → plain_terms (wholes A us) ≡ us
+pub plain_wholes : (A : Ty) (us : List Term) → plain_terms (wholes A us) ≡ us
 plain_wholes A [] = refl
 plain_wholes A (u ∷ us) = ap (λ l. u ∷ l) (plain_wholes (to_of A) us)
 
@@ -196,9 +196,10 @@ goes_does h later vars n m k l s t is x = record {
 }
 
 pub turns_does : (h : Home) (later : Later) (vars n k : ℕ) (s t : State) (is : List Instr) (gs : Goals) (Ts : List Ty) (bs : List Built) → Turns h later vars n k s is gs Ts bs t →
-    Does h later vars n n k k s is gs Ts bs t
-turns_does h later vars n k s t is gs Ts bs x = record {
-  runs = x.runs;
+    HasRoom s (s.place + sum_by length_of is) → Does h later vars n n k k s is gs Ts bs t
+turns_does h later vars n k s t is gs Ts bs x room = record {
+  runs = λ rest. x.runs rest ∙ ap (λ (u : State). run h later u rest) (settled_same h.number (depth t.frames) t
+      (subst (λ fs. list_any (is_passed t.place) fs ≡ false) (sym x.frames_stay) (subst (λ n. list_any (is_passed n) s.frames ≡ false) (sym x.place_is) room)));
   place_is = x.place_is;
   goals_are = x.goals_are;
   head_types_are = x.head_types_are;
@@ -229,6 +230,47 @@ then_does h later vars n m o k l p s t u is js gs hs Ts Us bs cs x y nm kl = rec
   terms_stand = y.terms_stand;
 }
 
+pub may_goes : (h : Home) (later : Later) (v n m k l : ℕ) (s t : State) (is xs ys : List Instr) → Goes h later v n m k l s xs t → is ≡ xs ++ ys → MayEnd s (s.place + sum_by length_of is) →
+    MayEnd t (t.place + sum_by length_of ys)
+may_goes h later v n m k l s t is xs ys x e room =
+    let at : t.place + sum_by length_of ys ≡ s.place + sum_by length_of is = let p = ap (sum_by length_of) e in let q = sum_by-append length_of xs ys in let r = x.place_is in omega (arith, p, q, r) in
+    subst (λ n. MayEnd t n) (sym at) (subst (λ fs. list_any (λ (f : Frame). ends_before (s.place + sum_by length_of is) f.block) fs ≡ false) (sym x.same.frames) room)
+
+-- what goes, and then a goal
+pub goes_says : (h : Home) (later : Later) (vars n m k l : ℕ) (s t u : State) (is js : List Instr) (gs : Goals) → Goes h later vars n m k l s is t →
+    Turns h later vars m l t js gs t.head_types t.head_arguments u → Says h later vars n m k l s (is ++ js) gs [] u
+goes_says h later vars n m k l s t u is js gs x y = record {
+  runs = λ rest. ap (run h later s) (append_assoc is js rest) ∙ x.runs (js ++ rest) ∙ y.runs rest;
+  place_is = let i = x.place_is in let j = y.place_is in let r = sum_by-append length_of is js in omega (arith, i, j, r);
+  goals_are = y.goals_are;
+  head_types_stay = y.head_types_are ∙ x.same.head_types;
+  arguments_stay = y.arguments_are ∙ x.same.head_arguments;
+  in_body_stays = y.in_body_stays ∙ x.same.in_body;
+  frames_stay = y.frames_stay ∙ x.same.frames;
+  assumed_are = y.assumed_stay ∙ x.same.assumed ∙ sym (append-nil s.assumed);
+  types_kept = λ r q. ap (λ (z : Registers). held z.types r) y.now_stays ∙ x.types_kept r q;
+  terms_keep = λ r d q e. ap (λ (z : Registers). held z.terms r) y.now_stays ∙ x.terms_keep r d q e;
+  types_stand = y.types_stand;
+  terms_stand = y.terms_stand;
+}
+
+pub says_same : (h : Home) (later : Later) (vars n m m' k l l' : ℕ) (s t : State) (is : List Instr) (gs hs : Goals) (more : List (ℕ × Captured)) → m ≡ m' → l ≡ l' → gs ≡ hs →
+    Says h later vars n m k l s is gs more t → Says h later vars n m' k l' s is hs more t
+says_same h later vars n m m' k l l' s t is gs hs more e f g x = record {
+  runs = x.runs;
+  place_is = x.place_is;
+  goals_are = x.goals_are ∙ g;
+  head_types_stay = x.head_types_stay;
+  arguments_stay = x.arguments_stay;
+  in_body_stays = x.in_body_stays;
+  frames_stay = x.frames_stay;
+  assumed_are = x.assumed_are;
+  types_kept = x.types_kept;
+  terms_keep = x.terms_keep;
+  types_stand = subst (λ j. TypesStand h vars j t) e x.types_stand;
+  terms_stand = subst (λ j. TermsStand h j t) f x.terms_stand;
+}
+
 -- the same with other names for what it says
 pub does_same : (h : Home) (later : Later) (vars n m m' k l l' : ℕ) (s t : State) (is : List Instr) (gs : Goals) (Ts : List Ty) (bs : List Built) (hs : Goals) (Us : List Ty) (cs : List Built) → m ≡ m' → l ≡ l' →
     gs ≡ hs → Ts ≡ Us → bs ≡ cs → Does h later vars n m k l s is gs Ts bs t → Does h later vars n m' k l' s is hs Us cs t
@@ -253,7 +295,7 @@ pub standing_after : (h : Home) (vars n m : ℕ) (i j : Bool) (σ : ℕ → Term
 standing_after h vars n m i j σ a s t e f g x =
     subst (λ k. Standing h vars k i σ a t.now.terms) e (subst (λ z. Standing h vars n z σ a t.now.terms) f (subst (λ (q : Registers). Standing h vars n j σ a q.terms) (sym g) x))
 
-arguments_is : (t : Term) (ts : List Term) → IsNoApplication t → arguments (apply t ts) ≡ ts
+pub arguments_is : (t : Term) (ts : List Term) → IsNoApplication t → arguments (apply t ts) ≡ ts
 arguments_is (index i) ts n = arguments_apply (index i) ts [] ∙ append-nil ts
 arguments_is (atom s) ts n = arguments_apply (atom s) ts [] ∙ append-nil ts
 arguments_is (abs b) ts n = arguments_apply (abs b) ts [] ∙ append-nil ts
@@ -281,7 +323,9 @@ call_written K start types args new a b c Ts ts qs rs x y z = record {
       let A = sp.0 in
       let well = sp.5 (known_sides h.tables.kinds vars A (known_constant h.tables vars c Ts A asked.known sp.1 sp.3)) in
       let front = x.more ++ y.more in
-      let room_f = room_front s (front ++ z.more) front z.more refl room in
+      let size = sum_by-append length_of front z.more in
+      let some = z.some in
+      let room_f : HasRoom s (s.place + sum_by length_of front) = may_strict (s.place + sum_by length_of front) (s.place + sum_by length_of (front ++ z.more)) s.frames (omega (arith, size, some)) room in
       let w = x.denotes h later vars s st (omega (arith, low, i, k)) sp.3 (room_front s front x.more y.more refl room_f) in
       let te_w : TermsStand h start.registers w.0 = (moved h later vars start.types types.types start.registers s w.0 x.more w.1 te).terms_stand in
       let stands_w : Standing h vars types.registers w.0.in_body σ a w.0.now.terms =
@@ -309,15 +353,13 @@ call_written K start types args new a b c Ts ts qs rs x y z = record {
       let first = then_goes h later vars start.types types.types args.types start.registers start.registers args.registers s w.0 v.0 x.more y.more
       (leads_goes h later vars start.types types.types start.registers s w.0 x.more w.1 te) (subst (λ n. Goes h later vars types.types args.types n args.registers w.0 y.more v.0) stay v.1)
       x.types_grow (omega arith) in
-      let u = z.denotes h later vars v.0 std v.1.types_stand v.1.terms_stand parts (room_goes h later vars start.types args.types start.registers args.registers s v.0 (front ++ z.more) front z.more first refl room) in
-      let last = then_does h later vars start.types args.types args.types start.registers args.registers args.registers s v.0 u.0 front z.more s.goals _ s.head_types _ s.head_arguments _
-      (goes_does h later vars start.types args.types start.registers args.registers s v.0 front first) (turns_does h later vars args.types args.registers v.0 u.0 z.more _ _ _ u.1)
-      (omega (arith, i, x.types_grow)) (omega (arith, j, stay)) in
+      let u = z.denotes h later vars v.0 std v.1.types_stand v.1.terms_stand parts (may_goes h later vars start.types args.types start.registers args.registers s v.0 (front ++ z.more) front z.more first refl room) in
+      let last = goes_says h later vars start.types args.types start.registers args.registers s v.0 u.0 front z.more _ first u.1 in
       let said : apply (atom (constant c (types_in v.0.now qs))) (plain_terms (terms_in v.0.now rs)) ≡ f (apply head ts) =
       (λ i. apply (atom (constant c (types_are.0 i))) (plain_terms (terms_are i))) ∙ ap (apply head) (plain_wholes A (map f ts)) ∙ sym (with_apply σ a 0 head ts) in (
         u.0,
-        does_same h later vars start.types args.types new.types start.registers args.registers new.registers s u.0 (front ++ z.more) _ _ _ (with_goal s.goals (Atomic (f (apply head ts)))) s.head_types
-            s.head_arguments (sym k) (sym l) (λ i. with_goal (first.same.goals i) (Atomic (said i))) first.same.head_types first.same.head_arguments last,
+        says_same h later vars start.types args.types new.types start.registers args.registers new.registers s u.0 (front ++ z.more) _ (with_goal s.goals (Atomic (f (apply head ts)))) [] (sym k)
+            (sym l) (λ i. with_goal (first.same.goals i) (Atomic (said i))) last,
         standing_after h vars args.registers new.registers s.in_body w.0.in_body σ b v.0 u.0 (sym l) (w.1.same.in_body) u.1.now_stays v.4,
         v.5,
       );
@@ -379,7 +421,10 @@ term_call_written K start term new a b r t y z other = record {
         indices = good.indices;
         seen = good.seen;
       } in
-      let w = y.denotes h later vars s σ Γ o_type asked st te (omega (arith, low, k)) (omega (arith, few, l)) stands well (refl, refl) (room_front s (y.more ++ z.more) y.more z.more refl room) in
+      let size = sum_by-append length_of y.more z.more in
+      let some = z.some in
+      let room_y : HasRoom s (s.place + sum_by length_of y.more) = may_strict (s.place + sum_by length_of y.more) (s.place + sum_by length_of (y.more ++ z.more)) s.frames (omega (arith, size, some)) room in
+      let w = y.denotes h later vars s σ Γ o_type asked st te (omega (arith, low, k)) (omega (arith, few, l)) stands well (refl, refl) room_y in
       let at : term_in w.0.now r ≡ whole (f t) o_type = ap (λ o. unwrap_or o (record { term = index 0; type = o_type; loose = [] })) w.2 in
       let parts : IsGoalTerm w.0 r = record {
         behind_head = w.1.same.in_body ∙ body;
@@ -388,13 +433,11 @@ term_call_written K start term new a b r t y z other = record {
         typed = ap (λ (d : Built). equal_types d.type o_type && true) at;
       } in
       let u = z.denotes h later vars w.0 std w.1.types_stand w.1.terms_stand parts
-      (room_goes h later vars start.types term.types start.registers term.registers s w.0 (y.more ++ z.more) y.more z.more w.1 refl room) in
-      let last = then_does h later vars start.types term.types term.types start.registers term.registers term.registers s w.0 u.0 y.more z.more s.goals _ s.head_types _ s.head_arguments _
-      (goes_does h later vars start.types term.types start.registers term.registers s w.0 y.more w.1) (turns_does h later vars term.types term.registers w.0 u.0 z.more _ _ _ u.1)
-      y.types_grow y.terms_grow in (
+      (may_goes h later vars start.types term.types start.registers term.registers s w.0 (y.more ++ z.more) y.more z.more w.1 refl room) in
+      let last = goes_says h later vars start.types term.types start.registers term.registers s w.0 u.0 y.more z.more _ w.1 u.1 in (
         u.0,
-        does_same h later vars start.types term.types new.types start.registers term.registers new.registers s u.0 (y.more ++ z.more) _ _ _ (with_goal s.goals (Atomic (f t))) s.head_types
-            s.head_arguments (sym k) (sym l) (λ i. with_goal (w.1.same.goals i) (Atomic (at i).term)) w.1.same.head_types w.1.same.head_arguments last,
+        says_same h later vars start.types term.types new.types start.registers term.registers new.registers s u.0 (y.more ++ z.more) _ (with_goal s.goals (Atomic (f t))) [] (sym k) (sym l)
+            (λ i. with_goal (w.1.same.goals i) (Atomic (at i).term)) last,
         standing_after h vars term.registers new.registers s.in_body s.in_body σ b w.0 u.0 (sym l) refl u.1.now_stays w.4,
         w.5,
       );
@@ -410,7 +453,7 @@ no_list_constant : (b : Nodes) (f : ℕ) (is : List ℕ) (c : ℕ) (Ts : List Ty
 no_list_constant b f [] c Ts some e = absurd (some refl)
 no_list_constant b f (i ∷ is) c Ts some e = no_app_constant (tree b f) (tree b i) (map (tree b) is) c Ts e
 
-no_constant_node : (b : Nodes) (m k : ℕ) (n : TermNode) → ((c : ℕ) (ids : Bor (List TypeId)) → n ≡ node.Const c ids → ⊥) → TermBelow m k (term_shape n) → (c : ℕ) (Ts : List Ty) →
+pub no_constant_node : (b : Nodes) (m k : ℕ) (n : TermNode) → ((c : ℕ) (ids : Bor (List TypeId)) → n ≡ node.Const c ids → ⊥) → TermBelow m k (term_shape n) → (c : ℕ) (Ts : List Ty) →
     node_tree b (term_shape n) ≡ atom (constant c Ts) → ⊥
 no_constant_node b m k (node.Index i) x low c Ts e = cc
 no_constant_node b m k (node.Const d ids) x low c Ts e = absurd (x d ids refl)
@@ -422,7 +465,7 @@ no_constant_node b m k (node.Param j t) x low c Ts e = cc
 no_constant_node b m k (node.Abs body) x low c Ts e = cc
 no_constant_node b m k (node.App f ids) x low c Ts e = no_list_constant b f.0 (map (λ t. t.0) ids.now) c Ts low.2 e
 
-head_itself : (t : Term) → IsNoApplication t → head_of t ≡ t
+pub head_itself : (t : Term) → IsNoApplication t → head_of t ≡ t
 head_itself (index i) n = refl
 head_itself (atom s) n = refl
 head_itself (abs b) n = refl

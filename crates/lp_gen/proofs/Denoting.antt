@@ -5,7 +5,7 @@ use Rattle.std.specs.Prelude.{nat_eq, nat_le, not, min, ◌||◌, if◌then◌el
 use Rattle.std.specs.List.{list_any}
 use Rattle.std.proofs.lemmas.List.{append-nil, length-set}
 use Rattle.std.proofs.lemmas.List.Sums.{sum_by-append}
-use Rattle.std.proofs.lemmas.Bool.{ne_eqb, eqb-true, leb-false, lt-leb}
+use Rattle.std.proofs.lemmas.Bool.{ne_eqb, eqb-true, leb-false, lt-leb, ltb-false, le-ltb}
 use Rattle.lp_lemmas.proofs.Booleans.{or_false_left, or_false_right}
 use Rattle.lp_lemmas.proofs.Lists.{cons_head, cons_tail}
 use Rattle.lp_calculus.specs.Types.{Ty, Tys, var, param as type_param, con, arrow, no_types, types, tys}
@@ -23,7 +23,7 @@ use Rattle.lp_code.specs.Rules.{is_count, side_is_passed, is_passed}
 use Rattle.lp_code.specs.Denote.{rules, first_broken, broken_by_record, broken_by, unless_broken, run_on, run}
 use Rattle.lp_gen.specs.Sources.{IsKnownType, AreKnownTypes}
 use Rattle.lp_gen.specs.inner.Pieces.{Piece, type_con, type_arrow, piece, pieces, type_made, types_made}
-use Rattle.lp_gen.specs.inner.Running.{TypesStand, HasRoom, Leads, Hold, HoldAll}
+use Rattle.lp_gen.specs.inner.Running.{TypesStand, HasRoom, ends_before, Leads, Hold, HoldAll}
 
 pub or_none : (a b : Bool) → a ≡ false → b ≡ false → (a || b) ≡ false
 or_none true b e f = absurd (cc)
@@ -74,6 +74,35 @@ room_less a b [] l e = refl
 room_less a b (f ∷ fs) l e =
     or_none (side_is_passed a f.block) (list_any (is_passed a) fs) (lower a b f.block l (or_false_left (side_is_passed b f.block) (list_any (is_passed b) fs) e)) (room_less a b fs l
     (or_false_right (side_is_passed b f.block) (list_any (is_passed b) fs) e))
+
+-- a side that may end at an offset does not end before it, and one that ends behind it may
+before_strict : (a b : ℕ) (k : Block) → a < b → ends_before b k ≡ false → side_is_passed a k ≡ false
+before_strict a b (under_sigma r T) l e = refl
+before_strict a b (under_all r T) l e = refl
+before_strict a b (under_assumption cs) l e = refl
+before_strict a b under_not l e = refl
+before_strict a b (left_side n) l e = let q = ltb-false n b e in lt-leb n a (omega (arith, q, l))
+before_strict a b (right_side n g) l e = let q = ltb-false n b e in lt-leb n a (omega (arith, q, l))
+
+pub may_strict : (a b : ℕ) (fs : List Frame) → a < b → list_any (λ (f : Frame). ends_before b f.block) fs ≡ false → list_any (is_passed a) fs ≡ false
+may_strict a b [] l e = refl
+may_strict a b (f ∷ fs) l e =
+    or_none (side_is_passed a f.block) (list_any (is_passed a) fs) (before_strict a b f.block l (or_false_left (ends_before b f.block) (list_any (λ (f : Frame). ends_before b f.block) fs) e))
+    (may_strict a b fs l (or_false_right (ends_before b f.block) (list_any (λ (f : Frame). ends_before b f.block) fs) e))
+
+before_not : (a : ℕ) (k : Block) → side_is_passed a k ≡ false → ends_before a k ≡ false
+before_not a (under_sigma r T) e = refl
+before_not a (under_all r T) e = refl
+before_not a (under_assumption cs) e = refl
+before_not a under_not e = refl
+before_not a (left_side n) e = let q = leb-false n a e in le-ltb n a (omega (arith, q))
+before_not a (right_side n g) e = let q = leb-false n a e in le-ltb n a (omega (arith, q))
+
+pub strict_may : (a : ℕ) (fs : List Frame) → list_any (is_passed a) fs ≡ false → list_any (λ (f : Frame). ends_before a f.block) fs ≡ false
+strict_may a [] e = refl
+strict_may a (f ∷ fs) e =
+    or_none (ends_before a f.block) (list_any (λ (f : Frame). ends_before a f.block) fs) (before_not a f.block (or_false_left (side_is_passed a f.block) (list_any (is_passed a) fs) e))
+    (strict_may a fs (or_false_right (side_is_passed a f.block) (list_any (is_passed a) fs) e))
 
 -- registers
 pub held_within : {A : Type 0} (xs : List (Option A)) (r : ℕ) (x : A) → held xs r ≡ Some x → r < length xs

@@ -29,19 +29,19 @@ use Rattle.lp_gen.specs.declared.emitter.Emitter.{Emitter}
 use Rattle.lp_gen.specs.inner.Running.{TypesStand, TermsStand, HasRoom}
 use Rattle.lp_gen.specs.inner.Saying.{own_numbered, own_by, equation_by, order_by, turned, Turns, IsPartPut, AreGoalParts, CallPut}
 use Rattle.lp_gen.specs.inner.Saying.{IsGoalTerm, TermCallPut, IsNext, IsNextConstant, ConstantGot, IntegerGot, TextGot, IsNextTerm, TermGot, IsNextType, TypeGot}
-use Rattle.lp_gen.proofs.Denoting.{or_none, steps, settled_same, room_less}
+use Rattle.lp_gen.proofs.Bytes.{some_length}
+use Rattle.lp_gen.proofs.Denoting.{or_none, steps, may_strict}
 use Rattle.lp_gen.proofs.TermPut.{set_within, no_sides}
 
 -- an instruction that adds a goal, or a part of the head
 turns_one : (h : Home) (later : Later) (vars n k : ℕ) (s : State) (i : Instr) (gs : Goals) (Ts : List Ty) (bs : List Built) → effect h later s i ≡ Some (turned s gs Ts bs) →
     type_set i ≡ [] → term_set i ≡ [] →
-    0 < length_of i → TypesStand h vars n s → TermsStand h k s → HasRoom s (s.place + length_of i) → ((rest : List Instr) (r : Rule) → broken_by h s rest i r ≡ false) →
+    0 < length_of i → TypesStand h vars n s → TermsStand h k s → ((rest : List Instr) (r : Rule) → broken_by h s rest i r ≡ false) →
     (t : State) × Turns h later vars n k s (i ∷ []) gs Ts bs t
-turns_one h later vars n k s i gs Ts bs eff ts rs long st te room fine = (
+turns_one h later vars n k s i gs Ts bs eff ts rs long st te fine = (
   t,
   record {
-    runs = λ rest. steps h later s t i rest st.sound (fine rest)
-        (ap (option_map (λ (u : State). settled h.number (depth u.frames) (passed i u))) eff ∙ ap (λ (u : State). Some u) (settled_same h.number (depth s.frames) t room));
+    runs = λ rest. steps h later s (settled h.number (depth t.frames) t) i rest st.sound (fine rest) (ap (option_map (λ (u : State). settled h.number (depth u.frames) (passed i u))) eff);
     place_is = let one : sum_by length_of (i ∷ []) ≡ 0 + length_of i = refl in omega (arith, one);
     goals_are = refl;
     head_types_are = refl;
@@ -119,6 +119,32 @@ record Stands (h : Home) (later : Later) (s : State) (i : Instr) (ts rs : List �
   does : effect h later s i ≡ Some (turned s gs Ts bs)
   long : 0 < length_of i
 
+-- the same, one fact after the other
+read_by : {h : Home} {later : Later} {s : State} {i : Instr} {ts rs : List ℕ} {gs : Goals} {Ts : List Ty} {bs : List Built} → types_read i ≡ ts → terms_read i ≡ rs → type_set i ≡ [] → term_set i ≡ [] →
+    list_any (λ t. is_none (held s.now.types t)) ts ≡ false → list_any (λ r. is_none (held s.now.terms r)) rs ≡ false → breaks_constant h i ≡ false → breaks_type h s i ≡ false →
+    breaks_index s i ≡ false → breaks_term i ≡ false → breaks_order s i ≡ false → breaks_head h s i ≡ false → ((rest : List Instr) → breaks_nesting s rest i ≡ false) → breaks_clause h s i ≡ false →
+    effect h later s i ≡ Some (turned s gs Ts bs) → 0 < length_of i → Stands h later s i ts rs gs Ts bs
+read_by a b c d of_types of_terms counted typed closed in_terms ordered headed nested assumed does long = record {
+  reads = record {
+    types_read_is = a;
+    terms_read_is = b;
+    types_set_is = c;
+    terms_set_is = d;
+    types_are = of_types;
+    terms_are = of_terms;
+    constant_is = counted;
+    type_is = typed;
+    index_is = closed;
+    term_is = in_terms;
+    order_is = ordered;
+    head_is = headed;
+    nesting_is = nested;
+    clause_is = assumed;
+  };
+  does = does;
+  long = long;
+}
+
 -- types that are equal one way are so the other way
 mutual
   equal_flip : (T U : Ty) → equal_types T U ≡ true → equal_types U T ≡ true
@@ -167,26 +193,7 @@ StandsFor h later s i c ts rs = Stands h later s i ts rs (with_goal s.goals (Ato
     (terms_in s.now rs))))) s.head_types s.head_arguments
 
 plain_stands : (h : Home) (later : Later) (s : State) (c : ℕ) (v w : Vec ℕ Global) → AreGoalParts h s c v.items w.items → StandsFor h later s (on.Call c v w) c v.items w.items
-plain_stands h later s c v w a = record {
-  reads = record {
-    types_read_is = refl;
-    terms_read_is = refl;
-    types_set_is = refl;
-    terms_set_is = refl;
-    types_are = a.types_set;
-    terms_are = a.terms_set;
-    constant_is = ap (λ x. not x) a.declared;
-    type_is = ap (λ x. not x) a.typed;
-    index_is = a.closed;
-    term_is = a.in_goals;
-    order_is = ap (λ x. not x) a.behind_head;
-    head_is = refl;
-    nesting_is = λ rest. refl;
-    clause_is = refl;
-  };
-  does = refl;
-  long = omega arith;
-}
+plain_stands h later s c v w a = read_by refl refl refl refl a.types_set a.terms_set (ap (λ x. not x) a.declared) (ap (λ x. not x) a.typed) a.closed a.in_goals (ap (λ x. not x) a.behind_head) refl (λ rest. refl) refl refl (omega arith)
 
 abbrev StandsAs : Home → Later → State → Option Instr → Instr → (c : ℕ) → (ts rs : List ℕ) → Type 0
 StandsAs h later s o i c ts rs = o ≡ Some i → StandsFor h later s i c ts rs
@@ -197,54 +204,12 @@ equation_stands h later s standard.Equal c t l r i d n a e =
     let is : on.Equal t l r ≡ i = cc in
     let eight = number_back c standard.Equal n in
     let fits = equation_fits h s c t l r (ap h.tables.constants eight ∙ d.at 8 (omega arith)) a in
-    subst (λ i. StandsFor h later s i c (t ∷ []) (l ∷ r ∷ [])) is (record {
-      reads = record {
-        types_read_is = refl;
-        terms_read_is = refl;
-        types_set_is = refl;
-        terms_set_is = refl;
-        types_are = a.types_set;
-        terms_are = a.terms_set;
-        constant_is = refl;
-        type_is =
-            fits;
-        index_is = a.closed;
-        term_is = refl;
-        order_is = ap (λ x. not x) a.behind_head;
-        head_is = refl;
-        nesting_is = λ rest. refl;
-        clause_is = refl;
-      };
-      does = ap (λ m. Some (turned s (with_goal s.goals (Atomic (apply (atom (constant m (type_in s.now t ∷ []))) ((term_in s.now l).term ∷
-          (term_in s.now r).term ∷ [])))) s.head_types s.head_arguments)) (sym eight);
-      long = omega arith;
-    })
+    subst (λ i. StandsFor h later s i c (t ∷ []) (l ∷ r ∷ [])) is (read_by refl refl refl refl a.types_set a.terms_set refl fits a.closed refl (ap (λ x. not x) a.behind_head) refl (λ rest. refl) refl (ap (λ m. Some (turned s (with_goal s.goals (Atomic (apply (atom (constant m (type_in s.now t ∷ []))) ((term_in s.now l).term ∷ (term_in s.now r).term ∷ [])))) s.head_types s.head_arguments)) (sym eight)) (omega arith))
 equation_stands h later s standard.Is c t l r i d n a e =
     let is : on.Is t l r ≡ i = cc in
     let nine = number_back c standard.Is n in
     let fits = equation_fits h s c t l r (ap h.tables.constants nine ∙ d.at 9 (omega arith)) a in
-    subst (λ i. StandsFor h later s i c (t ∷ []) (l ∷ r ∷ [])) is (record {
-      reads = record {
-        types_read_is = refl;
-        terms_read_is = refl;
-        types_set_is = refl;
-        terms_set_is = refl;
-        types_are = a.types_set;
-        terms_are = a.terms_set;
-        constant_is = refl;
-        type_is =
-            fits;
-        index_is = a.closed;
-        term_is = refl;
-        order_is = ap (λ x. not x) a.behind_head;
-        head_is = refl;
-        nesting_is = λ rest. refl;
-        clause_is = refl;
-      };
-      does = ap (λ m. Some (turned s (with_goal s.goals (Atomic (apply (atom (constant m (type_in s.now t ∷ []))) ((term_in s.now l).term ∷
-          (term_in s.now r).term ∷ [])))) s.head_types s.head_arguments)) (sym nine);
-      long = omega arith;
-    })
+    subst (λ i. StandsFor h later s i c (t ∷ []) (l ∷ r ∷ [])) is (read_by refl refl refl refl a.types_set a.terms_set refl fits a.closed refl (ap (λ x. not x) a.behind_head) refl (λ rest. refl) refl (ap (λ m. Some (turned s (with_goal s.goals (Atomic (apply (atom (constant m (type_in s.now t ∷ []))) ((term_in s.now l).term ∷ (term_in s.now r).term ∷ [])))) s.head_types s.head_arguments)) (sym nine)) (omega arith))
 equation_stands h later s _ c t l r i d n a e = absurd (cc)
 
 order_stands : (h : Home) (later : Later) (s : State) (k : Constant) (c l r : ℕ) (i : Instr) → IsStandard h.tables.constants → numbered c ≡ Some k → AreGoalParts h s c [] (l ∷ r ∷ []) →
@@ -253,106 +218,22 @@ order_stands h later s standard.Less c l r i d n a e =
     let is : on.Less l r ≡ i = cc in
     let number = number_back c standard.Less n in
     let fits = order_fits h s c l r (ap h.tables.constants number ∙ d.at 10 (omega arith)) a in
-    subst (λ i. StandsFor h later s i c [] (l ∷ r ∷ [])) is (record {
-      reads = record {
-        types_read_is = refl;
-        terms_read_is = refl;
-        types_set_is = refl;
-        terms_set_is = refl;
-        types_are = a.types_set;
-        terms_are = a.terms_set;
-        constant_is = refl;
-        type_is =
-            fits;
-        index_is = a.closed;
-        term_is = refl;
-        order_is = ap (λ x. not x) a.behind_head;
-        head_is = refl;
-        nesting_is = λ rest. refl;
-        clause_is = refl;
-      };
-      does = ap (λ m. Some (turned s (with_goal s.goals (Atomic (apply (atom (constant m [])) ((term_in s.now l).term ∷ (term_in s.now r).term ∷ [])))) s.head_types s.head_arguments))
-          (sym number);
-      long = omega arith;
-    })
+    subst (λ i. StandsFor h later s i c [] (l ∷ r ∷ [])) is (read_by refl refl refl refl a.types_set a.terms_set refl fits a.closed refl (ap (λ x. not x) a.behind_head) refl (λ rest. refl) refl (ap (λ m. Some (turned s (with_goal s.goals (Atomic (apply (atom (constant m [])) ((term_in s.now l).term ∷ (term_in s.now r).term ∷ [])))) s.head_types s.head_arguments)) (sym number)) (omega arith))
 order_stands h later s standard.Greater c l r i d n a e =
     let is : on.Greater l r ≡ i = cc in
     let number = number_back c standard.Greater n in
     let fits = order_fits h s c l r (ap h.tables.constants number ∙ d.at 11 (omega arith)) a in
-    subst (λ i. StandsFor h later s i c [] (l ∷ r ∷ [])) is (record {
-      reads = record {
-        types_read_is = refl;
-        terms_read_is = refl;
-        types_set_is = refl;
-        terms_set_is = refl;
-        types_are = a.types_set;
-        terms_are = a.terms_set;
-        constant_is = refl;
-        type_is =
-            fits;
-        index_is = a.closed;
-        term_is = refl;
-        order_is = ap (λ x. not x) a.behind_head;
-        head_is = refl;
-        nesting_is = λ rest. refl;
-        clause_is = refl;
-      };
-      does = ap (λ m. Some (turned s (with_goal s.goals (Atomic (apply (atom (constant m [])) ((term_in s.now l).term ∷ (term_in s.now r).term ∷ [])))) s.head_types s.head_arguments))
-          (sym number);
-      long = omega arith;
-    })
+    subst (λ i. StandsFor h later s i c [] (l ∷ r ∷ [])) is (read_by refl refl refl refl a.types_set a.terms_set refl fits a.closed refl (ap (λ x. not x) a.behind_head) refl (λ rest. refl) refl (ap (λ m. Some (turned s (with_goal s.goals (Atomic (apply (atom (constant m [])) ((term_in s.now l).term ∷ (term_in s.now r).term ∷ [])))) s.head_types s.head_arguments)) (sym number)) (omega arith))
 order_stands h later s standard.AtMost c l r i d n a e =
     let is : on.AtMost l r ≡ i = cc in
     let number = number_back c standard.AtMost n in
     let fits = order_fits h s c l r (ap h.tables.constants number ∙ d.at 12 (omega arith)) a in
-    subst (λ i. StandsFor h later s i c [] (l ∷ r ∷ [])) is (record {
-      reads = record {
-        types_read_is = refl;
-        terms_read_is = refl;
-        types_set_is = refl;
-        terms_set_is = refl;
-        types_are = a.types_set;
-        terms_are = a.terms_set;
-        constant_is = refl;
-        type_is =
-            fits;
-        index_is = a.closed;
-        term_is = refl;
-        order_is = ap (λ x. not x) a.behind_head;
-        head_is = refl;
-        nesting_is = λ rest. refl;
-        clause_is = refl;
-      };
-      does = ap (λ m. Some (turned s (with_goal s.goals (Atomic (apply (atom (constant m [])) ((term_in s.now l).term ∷ (term_in s.now r).term ∷ [])))) s.head_types s.head_arguments))
-          (sym number);
-      long = omega arith;
-    })
+    subst (λ i. StandsFor h later s i c [] (l ∷ r ∷ [])) is (read_by refl refl refl refl a.types_set a.terms_set refl fits a.closed refl (ap (λ x. not x) a.behind_head) refl (λ rest. refl) refl (ap (λ m. Some (turned s (with_goal s.goals (Atomic (apply (atom (constant m [])) ((term_in s.now l).term ∷ (term_in s.now r).term ∷ [])))) s.head_types s.head_arguments)) (sym number)) (omega arith))
 order_stands h later s standard.AtLeast c l r i d n a e =
     let is : on.AtLeast l r ≡ i = cc in
     let number = number_back c standard.AtLeast n in
     let fits = order_fits h s c l r (ap h.tables.constants number ∙ d.at 13 (omega arith)) a in
-    subst (λ i. StandsFor h later s i c [] (l ∷ r ∷ [])) is (record {
-      reads = record {
-        types_read_is = refl;
-        terms_read_is = refl;
-        types_set_is = refl;
-        terms_set_is = refl;
-        types_are = a.types_set;
-        terms_are = a.terms_set;
-        constant_is = refl;
-        type_is =
-            fits;
-        index_is = a.closed;
-        term_is = refl;
-        order_is = ap (λ x. not x) a.behind_head;
-        head_is = refl;
-        nesting_is = λ rest. refl;
-        clause_is = refl;
-      };
-      does = ap (λ m. Some (turned s (with_goal s.goals (Atomic (apply (atom (constant m [])) ((term_in s.now l).term ∷ (term_in s.now r).term ∷ [])))) s.head_types s.head_arguments))
-          (sym number);
-      long = omega arith;
-    })
+    subst (λ i. StandsFor h later s i c [] (l ∷ r ∷ [])) is (read_by refl refl refl refl a.types_set a.terms_set refl fits a.closed refl (ap (λ x. not x) a.behind_head) refl (λ rest. refl) refl (ap (λ m. Some (turned s (with_goal s.goals (Atomic (apply (atom (constant m [])) ((term_in s.now l).term ∷ (term_in s.now r).term ∷ [])))) s.head_types s.head_arguments)) (sym number)) (omega arith))
 order_stands h later s _ c l r i d n a e = absurd (cc)
 
 own_stands : (h : Home) (later : Later) (s : State) (k : Constant) (c : ℕ) (ts rs : List ℕ) (i : Instr) → IsStandard h.tables.constants → numbered c ≡ Some k → AreGoalParts h s c ts rs →
@@ -376,14 +257,15 @@ part_put : (old new : Emitter) (i : Instr) (ts rs : List ℕ) (asks : Home → S
 part_put old new i ts rs asks goals head_types arguments code same_types same_registers stands = record {
   more = i ∷ [];
   code_is = code;
+  some = let long = some_length i in let one : sum_by length_of (i ∷ []) ≡ 0 + length_of i = refl in omega (arith, one, long);
   types_stay = same_types;
   registers_stay = same_registers;
   denotes = λ h later vars s d st te a room.
       let x = stands h later s d a in
       let one : sum_by length_of (i ∷ []) ≡ 0 + length_of i = refl in
-      let wide : HasRoom s (s.place + length_of i) = room_less (s.place + length_of i) (s.place + sum_by length_of (i ∷ [])) s.frames (omega (arith, one)) room in
-      let here : HasRoom s s.place = room_less s.place (s.place + length_of i) s.frames (omega arith) wide in
-      turns_one h later vars old.types old.registers s i (goals s) (head_types s) (arguments h s) x.does x.reads.types_set_is x.reads.terms_set_is x.long st te wide
+      let long = x.long in
+      let here : HasRoom s s.place = may_strict s.place (s.place + sum_by length_of (i ∷ [])) s.frames (omega (arith, one, long)) room in
+      turns_one h later vars old.types old.registers s i (goals s) (head_types s) (arguments h s) x.does x.reads.types_set_is x.reads.terms_set_is x.long st te
       (keeps_rules h vars old.types old.registers s i ts rs st te x.reads here);
 }
 
@@ -405,27 +287,7 @@ call_put old new c v w code same_types same_registers = goal_put old new (on.Cal
 pub term_call_put : (old new : Emitter) (r : ℕ) → new.code.items ≡ old.code.items ++ on.CallTerm r ∷ [] → new.types ≡ old.types → new.registers ≡ old.registers → TermCallPut old new r
 term_call_put old new r code same_types same_registers =
     part_put old new (on.CallTerm r) [] (r ∷ []) (λ h s. IsGoalTerm s r) (λ s. with_goal s.goals (Atomic (term_in s.now r).term)) (λ s. s.head_types)
-    (λ h s. s.head_arguments) code same_types same_registers (λ h later s d a. record {
-      reads = record {
-        types_read_is = refl;
-        terms_read_is = refl;
-        types_set_is = refl;
-        terms_set_is = refl;
-        types_are = refl;
-        terms_are = a.terms_set;
-        constant_is = refl;
-        type_is = ap
-            (λ x. not x) a.typed;
-        index_is = a.closed;
-        term_is = refl;
-        order_is = ap (λ x. not x) a.behind_head;
-        head_is = refl;
-        nesting_is = λ rest. refl;
-        clause_is = refl;
-      };
-      does = refl;
-      long = omega arith;
-    })
+    (λ h s. s.head_arguments) code same_types same_registers (λ h later s d a. read_by refl refl refl refl refl a.terms_set refl (ap (λ x. not x) a.typed) a.closed refl (ap (λ x. not x) a.behind_head) refl (λ rest. refl) refl refl (omega arith))
 
 -- parts of the head
 
@@ -433,124 +295,25 @@ pub constant_got : (old new : Emitter) (i c : ℕ) (v : Vec ℕ Global) → new.
     ConstantGot old new i c v.items
 constant_got old new i c v code same_types same_registers =
     part_put old new (on.GetConst i c v) v.items [] (λ h s. IsNextConstant h s i c v.items) (λ s. s.goals) (λ s. s.head_types) (λ h s. s.head_arguments ++ constant_of h.tables c
-    (types_in s.now v.items) ∷ []) code same_types same_registers (λ h later s d a. record {
-      reads = record {
-        types_read_is = refl;
-        terms_read_is = refl;
-        types_set_is = refl;
-        terms_set_is = refl;
-        types_are = a.types_set;
-        terms_are = refl;
-        constant_is = ap
-            (λ x. not x) a.declared;
-        type_is = ap (λ x. not x) a.next.typed;
-        index_is = refl;
-        term_is = a.in_terms;
-        order_is = a.next.in_turn;
-        head_is = refl;
-        nesting_is = λ rest. refl;
-        clause_is = refl;
-      };
-      does = refl;
-      long = omega arith;
-    })
+    (types_in s.now v.items) ∷ []) code same_types same_registers (λ h later s d a. read_by refl refl refl refl a.types_set refl (ap (λ x. not x) a.declared) (ap (λ x. not x) a.next.typed) refl a.in_terms a.next.in_turn refl (λ rest. refl) refl refl (omega arith))
 
 pub integer_got : (old new : Emitter) (i : ℕ) (z : ℤ) → new.code.items ≡ old.code.items ++ on.GetInt i z ∷ [] → new.types ≡ old.types → new.registers ≡ old.registers → IntegerGot old new i z
 integer_got old new i z code same_types same_registers =
     part_put old new (on.GetInt i z) [] [] (λ h s. IsNext h s i int_type) (λ s. s.goals) (λ s. s.head_types) (λ h s. s.head_arguments ++ whole (atom
-    (integer z)) int_type ∷ []) code same_types same_registers (λ h later s d a. record {
-      reads = record {
-        types_read_is = refl;
-        terms_read_is = refl;
-        types_set_is = refl;
-        terms_set_is = refl;
-        types_are = refl;
-        terms_are = refl;
-        constant_is = refl;
-        type_is = ap
-            (λ x. not x) a.typed;
-        index_is = refl;
-        term_is = refl;
-        order_is = a.in_turn;
-        head_is = refl;
-        nesting_is = λ rest. refl;
-        clause_is = refl;
-      };
-      does = refl;
-      long = omega arith;
-    })
+    (integer z)) int_type ∷ []) code same_types same_registers (λ h later s d a. read_by refl refl refl refl refl refl refl (ap (λ x. not x) a.typed) refl refl a.in_turn refl (λ rest. refl) refl refl (omega arith))
 
 pub text_got : (old new : Emitter) (i : ℕ) (v : Vec ℕ Global) → new.code.items ≡ old.code.items ++ on.GetStr i v ∷ [] → new.types ≡ old.types → new.registers ≡ old.registers →
     TextGot old new i v.items
 text_got old new i v code same_types same_registers =
     part_put old new (on.GetStr i v) [] [] (λ h s. IsNext h s i string_type) (λ s. s.goals) (λ s. s.head_types) (λ h s. s.head_arguments ++ whole (atom
-    (text v.items)) string_type ∷ []) code same_types same_registers (λ h later s d a. record {
-      reads = record {
-        types_read_is = refl;
-        terms_read_is = refl;
-        types_set_is = refl;
-        terms_set_is = refl;
-        types_are = refl;
-        terms_are = refl;
-        constant_is = refl;
-        type_is = ap
-            (λ x. not x) a.typed;
-        index_is = refl;
-        term_is = refl;
-        order_is = a.in_turn;
-        head_is = refl;
-        nesting_is = λ rest. refl;
-        clause_is = refl;
-      };
-      does = refl;
-      long = omega arith;
-    })
+    (text v.items)) string_type ∷ []) code same_types same_registers (λ h later s d a. read_by refl refl refl refl refl refl refl (ap (λ x. not x) a.typed) refl refl a.in_turn refl (λ rest. refl) refl refl (omega arith))
 
 pub term_got : (old new : Emitter) (i r : ℕ) → new.code.items ≡ old.code.items ++ on.Get i r ∷ [] → new.types ≡ old.types → new.registers ≡ old.registers → TermGot old new i r
 term_got old new i r code same_types same_registers =
     part_put old new (on.Get i r) [] (r ∷ []) (λ h s. IsNextTerm h s i r) (λ s. s.goals) (λ s. s.head_types)
-    (λ h s. s.head_arguments ++ term_in s.now r ∷ []) code same_types same_registers (λ h later s d a. record {
-      reads = record {
-        types_read_is = refl;
-        terms_read_is = refl;
-        types_set_is = refl;
-        terms_set_is = refl;
-        types_are = refl;
-        terms_are = a.terms_set;
-        constant_is = refl;
-        type_is = ap
-            (λ x. not x) a.next.typed;
-        index_is = a.closed;
-        term_is = refl;
-        order_is = a.next.in_turn;
-        head_is = a.known;
-        nesting_is = λ rest. refl;
-        clause_is = refl;
-      };
-      does = refl;
-      long = omega arith;
-    })
+    (λ h s. s.head_arguments ++ term_in s.now r ∷ []) code same_types same_registers (λ h later s d a. read_by refl refl refl refl refl a.terms_set refl (ap (λ x. not x) a.next.typed) a.closed refl a.next.in_turn a.known (λ rest. refl) refl refl (omega arith))
 
 pub type_got : (old new : Emitter) (j t : ℕ) → new.code.items ≡ old.code.items ++ on.GetType j t ∷ [] → new.types ≡ old.types → new.registers ≡ old.registers → TypeGot old new j t
 type_got old new j t code same_types same_registers =
     part_put old new (on.GetType j t) (t ∷ []) [] (λ h s. IsNextType h s j t) (λ s. s.goals) (λ s. s.head_types ++ type_in s.now t ∷ [])
-    (λ h s. s.head_arguments) code same_types same_registers (λ h later s d a. record {
-      reads = record {
-        types_read_is = refl;
-        terms_read_is = refl;
-        types_set_is = refl;
-        terms_set_is = refl;
-        types_are = a.types_set;
-        terms_are = refl;
-        constant_is = refl;
-        type_is = refl;
-        index_is = refl;
-        term_is = refl;
-        order_is = a.in_turn;
-        head_is = a.asked;
-        nesting_is = λ rest. refl;
-        clause_is = refl;
-      };
-      does = refl;
-      long = omega arith;
-    })
+    (λ h s. s.head_arguments) code same_types same_registers (λ h later s d a. read_by refl refl refl refl a.types_set refl refl refl refl refl a.in_turn a.asked (λ rest. refl) refl refl (omega arith))

@@ -13,7 +13,15 @@ mod TermListed
 mod ConstantTypes
 mod TermWritten
 mod AtomWritten
+mod VariableGot
+mod ArgumentGot
+mod HeadGot
+mod HeadWhole
+mod HeadNodes
+mod Beginning
+mod Binding
 mod Denoting
+mod Bytes
 mod Goals
 mod Arguments
 pub mod Fitting

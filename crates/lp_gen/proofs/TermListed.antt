@@ -20,10 +20,10 @@ use Rattle.lp_gen.specs.inner.Running.{built_at}
 use Rattle.lp_gen.specs.inner.Listing.{Step, make_constant, make_integer, make_text, make_index, make_variable, from_register, apply_last, abstract_last, Seen, Around, at_level, level_in, set_level}
 use Rattle.lp_gen.specs.inner.Listing.{Listed, one_step, found_listed, level_listed, bound_listed, index_listed, atom_listed, type_or, bound_or, index_type, atom_function, Headed, as_head, with_argument, applied, abstracted, listed, headed}
 use Rattle.lp_gen.specs.inner.TermSteps.{Stack, stack, made_variable, last_built, before_last, step_built, IsFine, steps_built, AreFine}
-use Rattle.lp_gen.specs.inner.TermLaw.{SameSides, Asks, AsksConstants, Standing, KnownAtoms, AllLoose, IsSeen, level_term, index_term, with_variables, AreOf, AllOf, IsBuilt, SameAround, Comes, ComesWith}
+use Rattle.lp_gen.specs.inner.TermLaw.{SameSides, Asks, AsksConstants, Standing, KnownAtoms, AllLoose, IsSeen, level_term, index_term, with_variables, AreOf, AllOf, IsBuilt, SameAround, Made, Comes, ComesWith}
 use Rattle.lp_gen.proofs.Denoting.{held_set}
 use Rattle.lp_gen.proofs.LooseOf.{both_true, none_some, some_same, all_agree_of, all_joined_of, all_of_push, bound_of, outer_of, innermost_of, apply_push, applied_more}
-use Rattle.lp_gen.proofs.AroundSet.{around_same, around_then, around_set, all_seen, variables_same, standing_set}
+use Rattle.lp_gen.proofs.AroundSet.{around_same, around_then, around_set, all_seen, variables_same, standing_set, made_same, made_one, made_both}
 
 -- steps one after the other
 
@@ -126,7 +126,7 @@ known_sides κ n (type_param j) k = tt
 known_sides κ n (con c ts) k = tt
 known_sides κ n (arrow a b) k = k
 
-is_term : (c : ℕ) → is_positive_constant c ≡ true → is_no_term c ≡ false
+pub is_term : (c : ℕ) → is_positive_constant c ≡ true → is_no_term c ≡ false
 is_term c e = go (nat_eq c 2) (nat_eq c 3) (nat_eq c 7) (nat_eq c 24) e
   where
     go : (p q r s : Bool) → not (p || q || r || s) ≡ true → (p || (q || (r || (s || false)))) ≡ false
@@ -150,20 +150,20 @@ module _ (h : Home) (v n : ℕ) (i : Bool) (σ : ℕ → Term) (Γ : List Ty) (K
   AllKnown C = (k : ℕ) (T : Ty) → slice_get C k ≡ Some T → IsKnownType h.tables.kinds v T
 
   abbrev Lists : List Ty → Around → Ty → Term → Listed → Type 0
-  Lists C a T u l = (xs : List (Option Built)) (bs : List Built) → Standing h v n i σ a xs → SameAround a l.around × Comes h v n i σ C T u l xs bs
+  Lists C a T u l = (xs : List (Option Built)) (bs : List Built) → Standing h v n i σ a xs → SameAround a l.around × Made h.number a l.around u × Comes h v n i σ C T u l xs bs
 
   -- what is known of a head with arguments: the sides of its type, what is read of it, and what stands around
   abbrev Knows : Around → Ty → Headed → Type 0
   Knows a T g = KnownSides h.tables.kinds v T × Asks g.function T × SameAround a g.around
 
   abbrev Heads : List Ty → Around → Ty → Term → Headed → Type 0
-  Heads C a T u g = (xs : List (Option Built)) (bs : List Built) → Standing h v n i σ a xs → Knows a T g × ComesWith h v n i σ C T u g xs bs
+  Heads C a T u g = (xs : List (Option Built)) (bs : List Built) → Standing h v n i σ a xs → Knows a T g × Made h.number a g.around u × ComesWith h v n i σ C T u g xs bs
 
   -- one step that adds a term
   one_comes : (C : List Ty) (a : Around) (T : Ty) (u : Term) (o : Step) (b : List (Option Built) → Built) →
       ((xs : List (Option Built)) (bs : List Built) → Standing h v n i σ a xs → IsFine h v n i o (stack xs bs) × (step_built h o (stack xs bs) ≡ stack xs (bs ++ b xs ∷ [])) × IsBuilt C T u (b xs)) →
       Lists C a T u (one_step a o)
-  one_comes C a T u o b f xs bs st = let w = f xs bs st in (around_same a, record { fine = (w.0, tt); registers = xs; built = b xs; is = w.1; good = w.2; stands = st })
+  one_comes C a T u o b f xs bs st = let w = f xs bs st in (around_same a, made_same h.number a u, record { fine = (w.0, tt); registers = xs; built = b xs; is = w.1; good = w.2; stands = st })
 
   atom_comes : (C : List Ty) (a : Around) (T : Ty) (s : Atom) → types_by h.tables s ≡ Some T → IsKnownAtom h.tables.kinds v s → is_positive (atom s) ≡ true → Lists C a T (atom s) (atom_listed C a s)
   atom_comes C a T (constant c Ts) e k p = one_comes C a T (atom (constant c Ts)) (make_constant c Ts) (λ xs. constant_of h.tables c Ts) (λ xs bs st.
@@ -191,6 +191,7 @@ module _ (h : Home) (v n : ℕ) (i : Bool) (σ : ℕ → Term) (Γ : List Ty) (K
       let here : held ys w.register ≡ Some (whole (variable w.register h.number) w.of) = held_set xs w.register (whole (variable w.register h.number) w.of) (omega (arith, low, long)) in
       let at : built_at ys w.register ≡ whole (variable w.register h.number) w.of = ap (λ o. unwrap_or o (whole (index 0) o_type)) here in (
         around_set a l own.2,
+        made_one h.number a l w u own.2 e (t ∙ own.1),
         record {
           fine = ((low, own.0, st.unset l w e s, st.known l w e), ((low, ap is_none here), tt));
           registers = ys;
@@ -240,18 +241,19 @@ module _ (h : Home) (v n : ℕ) (i : Bool) (σ : ℕ → Term) (Γ : List Ty) (K
   leaf_heads C a T F u l k s f xs bs st =
       let w = f xs bs st in (
         (k, s, w.0),
+        w.1,
         record {
-          fine = w.1.fine;
-          registers = w.1.registers;
-          head = w.1.built;
+          fine = w.2.fine;
+          registers = w.2.registers;
+          head = w.2.built;
           args = [];
-          is = w.1.is;
+          is = w.2.is;
           count = refl;
-          term = w.1.good.term;
-          type = ap (λ T. Some T) w.1.good.type;
-          loose = w.1.good.loose;
+          term = w.2.good.term;
+          type = ap (λ T. Some T) w.2.good.type;
+          loose = w.2.good.loose;
           all_loose = tt;
-          stands = w.1.stands;
+          stands = w.2.stands;
         },
       )
 
@@ -268,10 +270,11 @@ module _ (h : Home) (v n : ℕ) (i : Bool) (σ : ℕ → Term) (Γ : List Ty) (K
       Heads C a B (app t u) (with_argument g l)
   argument_heads C a A B t u g l f arg xs bs st =
       let w = f xs bs st in
-      let r = w.1 in
+      let r = w.2 in
       let y = arg w.0 r.registers (bs ++ r.head ∷ r.args) r.stands in
-      let z = y.1 in (
+      let z = y.2 in (
         (known_sides h.tables.kinds v B w.0.0.1, w.0.1.1, around_then a g.around l.around w.0.2 y.0),
+        made_both h.number a g.around l.around t u w.1 y.1,
         record {
           fine = fine_both h v n i g.steps l.steps (stack xs bs) r.fine (subst (AreFine h v n i l.steps) (sym r.is) z.fine);
           registers = z.registers;
@@ -297,7 +300,7 @@ module _ (h : Home) (v n : ℕ) (i : Bool) (σ : ℕ → Term) (Γ : List Ty) (K
   heads_listed : (C : List Ty) (a : Around) (T : Ty) (u : Term) (g : Headed) → 0 < g.count → Heads C a T u g → Lists C a T u (applied g)
   heads_listed C a T u g some f xs bs st =
       let w = f xs bs st in
-      let r = w.1 in
+      let r = w.2 in
       let count = r.count in
       let front = bs ++ r.head ∷ [] in
       let all = bs ++ r.head ∷ r.args in
@@ -310,6 +313,7 @@ module _ (h : Home) (v n : ℕ) (i : Bool) (σ : ℕ → Term) (Γ : List Ty) (K
       let top : last_built (take (length all - g.count) all) ≡ r.head = ap last_built taken ∙ last_push bs r.head in
       let bottom : before_last (take (length all - g.count) all) ≡ bs = ap before_last taken ∙ before_push bs r.head in (
         w.0.2,
+        w.1,
         record {
           fine = fine_both h v n i g.steps (apply_last g.count ∷ []) (stack xs bs) r.fine (subst (AreFine h v n i (apply_last g.count ∷ [])) (sym r.is) (
             (
@@ -331,10 +335,11 @@ module _ (h : Home) (v n : ℕ) (i : Bool) (σ : ℕ → Term) (Γ : List Ty) (K
   abstraction_comes : (C : List Ty) (a : Around) (A B : Ty) (u : Term) (l : Listed) → IsKnownType h.tables.kinds v A → Lists (A ∷ C) a B u l → Lists C a (arrow A B) (abs u) (abstracted A l)
   abstraction_comes C a A B u l k f xs bs st =
       let w = f xs bs st in
-      let r = w.1 in
+      let r = w.2 in
       let size = length-append bs (r.built ∷ []) in
       let top : last_built (bs ++ r.built ∷ []) ≡ r.built = last_push bs r.built in (
         w.0,
+        w.1,
         record {
           fine = fine_both h v n i l.steps (abstract_last A ∷ []) (stack xs bs) r.fine (subst (AreFine h v n i (abstract_last A ∷ [])) (sym r.is) (
             (

@@ -24,7 +24,7 @@ use Rattle.lp_gen.specs.inner.Running.{HasRoom}
 use Rattle.lp_gen.specs.inner.Listing.{Step, make_constant, make_integer, make_text, make_index, make_variable, from_register, apply_last, abstract_last, Around, around_of, listed, plain_step}
 use Rattle.lp_gen.specs.inner.Tasks.{Adds}
 use Rattle.lp_gen.specs.inner.TermSteps.{Stack, stack, step_built, IsFine, steps_built, AreFine, StandIn, TermOfSteps}
-use Rattle.lp_gen.specs.inner.TermLaw.{SameSides, Asks, Standing, AreOf, IsBuilt, with_variables, SameAround}
+use Rattle.lp_gen.specs.inner.TermLaw.{SameSides, Asks, Standing, AreOf, IsBuilt, with_variables, SameAround, Made}
 use Rattle.lp_gen.specs.inner.Written.{Goes, IsWell, TermWritten, AreWell, left_by, wholes, ArgumentsWritten}
 use Rattle.lp_gen.proofs.Denoting.{room_less, room_front}
 use Rattle.lp_gen.proofs.TypeWorks.{map_length}
@@ -115,7 +115,7 @@ term_written K b old new before after steps r F t x adds = record {
       let l = listed K [] a F t in
       let law = listed_comes h vars old.registers s.in_body σ Γ K asked.asks (λ c Ts U e k. known_constant h.tables vars c Ts U asked.known e k) [] a F T t well.typed well.normal well.known
       well.positive well.of well.indices same well.seen s.now.terms [] stands in
-      let c = law.1 in
+      let c = law.2 in
       let start = stack s.now.terms [] in
       let fine : AreFine h vars old.registers s.in_body (map (plain_step b) steps) start = subst (λ os. AreFine h vars old.registers s.in_body os start) (sym adds.steps) c.fine in
       let is : steps_built h (map (plain_step b) steps) start ≡ stack c.registers (c.built ∷ []) = ap (λ os. steps_built h os start) adds.steps ∙ c.is in
@@ -137,6 +137,7 @@ term_written K b old new before after steps r F t x adds = record {
         subst (λ z. Standing h vars new.registers s.in_body σ z w.0.now.terms) (sym adds.around)
             (standing_on h vars old.registers new.registers s.in_body σ l.around c.registers w.0.now.terms c.stands w.1.terms_kept grow (omega (arith, many, few))),
         subst (SameAround a) (sym adds.around) law.0,
+        subst (λ z. Made h.number a z (with_variables σ a 0 t)) (sym adds.around) law.1,
       );
 }
 
@@ -167,16 +168,16 @@ no_arguments K e a F = record {
 }
 
 -- the last argument apart
-well_last : (h : Home) (v : ℕ) (Γ : List Ty) (a : Around) (A : Ty) (ts : List Term) (t : Term) (R : Ty) → AreWell h v Γ a A (ts ++ t ∷ []) R →
+pub well_last : (h : Home) (v : ℕ) (Γ : List Ty) (a : Around) (A : Ty) (ts : List Term) (t : Term) (R : Ty) → AreWell h v Γ a A (ts ++ t ∷ []) R →
     (M : Ty) × (B : Ty) × AreWell h v Γ a A ts M × (M ≡ arrow B R) × IsWell h v Γ a t B
 well_last h v Γ a A [] t R w = (A, w.0, refl, w.2 ∙ ap (arrow w.0) w.4, w.3)
 well_last h v Γ a A (u ∷ us) t R w = let x = well_last h v Γ a w.1 us t R w.4 in (x.0, x.1, (w.0, w.1, w.2, w.3, x.2), x.3, x.4)
 
-asks_left : (h : Home) (v : ℕ) (Γ : List Ty) (a : Around) (F A : Ty) (ts : List Term) (M : Ty) → AreWell h v Γ a A ts M → Asks F A → Asks (left_by F (length ts)) M
+pub asks_left : (h : Home) (v : ℕ) (Γ : List Ty) (a : Around) (F A : Ty) (ts : List Term) (M : Ty) → AreWell h v Γ a A ts M → Asks F A → Asks (left_by F (length ts)) M
 asks_left h v Γ a F A [] M w q = subst (Asks F) w q
 asks_left h v Γ a F A (t ∷ ts) M w q = asks_left h v Γ a (to_of F) w.1 ts M w.4 (subst (Asks F) w.2 q).1
 
-wholes_last : (h : Home) (v : ℕ) (Γ : List Ty) (a : Around) (f : Term → Term) (A : Ty) (ts : List Term) (t : Term) (M B R : Ty) → AreWell h v Γ a A ts M → M ≡ arrow B R →
+pub wholes_last : (h : Home) (v : ℕ) (Γ : List Ty) (a : Around) (f : Term → Term) (A : Ty) (ts : List Term) (t : Term) (M B R : Ty) → AreWell h v Γ a A ts M → M ≡ arrow B R →
     wholes A (map f (ts ++ t ∷ [])) ≡ wholes A (map f ts) ++ whole (f t) B ∷ []
 wholes_last h v Γ a f A [] t M B R w e = ap (λ T. whole (f t) (from_of T) ∷ []) (w ∙ e)
 wholes_last h v Γ a f A (u ∷ us) t M B R w e = ap (λ l. whole (f u) (from_of A) ∷ l) (wholes_last h v Γ a f (to_of A) us t M B R (subst (λ T. AreWell h v Γ a T us M) (sym (ap to_of w.2)) w.4) e)
@@ -223,7 +224,7 @@ argument_then K old mid new a b c rs after r F G ts t x p left e = record {
       );
 }
 
-left_more : (F : Ty) (n : ℕ) → left_by F (suc n) ≡ to_of (left_by F n)
+pub left_more : (F : Ty) (n : ℕ) → left_by F (suc n) ≡ to_of (left_by F n)
 left_more F zero = refl
 left_more F (suc n) = left_more (to_of F) n
 

@@ -28,7 +28,7 @@ use Rattle.lp_gen.proofs.Registers.{held_elsewhere, by_same}
 use Rattle.lp_gen.proofs.TermPut.{moved, then_moves, put_at, types_within, one_within, no_sides}
 use Rattle.lp_gen.proofs.StepPut.{built_more, fine_parts, room_on}
 
-new_fine : (h : Home) (vars n : ℕ) (s : State) (d q : ℕ) (T : Ty) → TypesStand h vars n s → member d s.terms_set ≡ false → s.in_body ≡ false → d < h.self.registers → Hold s q T → HasRoom s s.place →
+pub new_fine : (h : Home) (vars n : ℕ) (s : State) (d q : ℕ) (T : Ty) → TypesStand h vars n s → member d s.terms_set ≡ false → s.in_body ≡ false → d < h.self.registers → Hold s q T → HasRoom s s.place →
     (rest : List Instr) (r : Rule) → broken_by h s rest (New d q) r ≡ false
 new_fine h vars n s d q T st unset unmade low a room rest rule.Register =
     or_none (list_any (λ t. nat_le h.self.types t) (q ∷ [])) (list_any (λ r. nat_le h.self.registers r) (d ∷ [])) (types_within s h.self.types (q ∷ []) (types T no_types) st.as_many

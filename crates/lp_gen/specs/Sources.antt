@@ -4,7 +4,7 @@ use Rattle.std.specs.Prelude.{◌≡◌, ℕ, zero, suc, ◌+◌, ◌<◌, ◌�
 use Rattle.lp_calculus.specs.Types.{Ty, Tys, var, param as type_param, con, arrow, no_types, types}
 use Rattle.lp_calculus.specs.Term.{Term, Atom, index, atom, abs, app, constant, integer, text, eigen, logic, param}
 use Rattle.lp_calculus.specs.Convert.{leftmost_step}
-use Rattle.lp_calculus.specs.Typing.{o_type, atom_type, HasType}
+use Rattle.lp_calculus.specs.Typing.{Scheme, o_type, atom_type, HasType}
 use Rattle.lp_calculus.specs.Spine.{head_of, arguments}
 use Rattle.lp_standard.specs.Connectives.{connective_of}
 use Rattle.lp_standard.specs.Connectives as connective
@@ -29,6 +29,10 @@ abbrev mutual
   AreKnownTypes κ n m no_types = m ≡ 0
   AreKnownTypes κ n zero (types t ts) = ⊥
   AreKnownTypes κ n (suc m) (types t ts) = IsKnownType κ n t × AreKnownTypes κ n m ts
+
+-- each constant has a type in which the kinds have their counts of arguments
+abbrev pub AreKnownSchemes : Tables → Type 0
+AreKnownSchemes t = (c : ℕ) (s : Scheme) → t.constants c ≡ Some s → IsKnownType t.kinds s.count s.body
 
 -- its constants, integers and texts alone, with known types
 abbrev pub IsKnownAtom : (kinds : ℕ → Option ℕ) → (vars : ℕ) → Atom → Type 0

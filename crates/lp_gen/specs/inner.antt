@@ -1,5 +1,8 @@
+pub mod Beginning
+pub mod Bodies
 pub mod Doing
 pub mod Fitting
+pub mod Heading
 pub mod Listing
 pub mod Pieces
 pub mod Reading

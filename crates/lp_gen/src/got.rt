@@ -1,5 +1,6 @@
 // The parts of a head as they are matched, where they stand in registers or have no parts.
 ghost use Rattle.std.specs.Prelude.{OnOk};
+ghost use Rattle.lp_gen.specs.inner.Heading.{VariableGot};
 ghost use Rattle.lp_gen.specs.inner.Saying.{ConstantGot, IntegerGot, TextGot, TermGot, TypeGot};
 
 use crate::emitter::Emitter;
@@ -11,6 +12,14 @@ pub(crate) fn get_type(emitter: &mut Emitter, at: u8, register: u16) -> Result<(
     ensures { OnOk result (TypeGot emitter.old emitter.new at register) }
 {
     emitter.emit(Instr::GetType(at, register))?;
+    Ok(())
+}
+
+/// An argument that is a variable of the clause, at its first place.
+pub(crate) fn get_variable(emitter: &mut Emitter, at: u8, register: u16) -> Result<(), GenRefusal>
+    ensures { OnOk result (VariableGot emitter.old emitter.new at register) }
+{
+    emitter.emit(Instr::GetVar(at, register))?;
     Ok(())
 }
 

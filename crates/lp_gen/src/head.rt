@@ -1,17 +1,28 @@
 // The head of a record.
+ghost use Rattle.std.specs.Prelude.{◌≡◌, [], map, IfOk, OnOk};
+ghost use Rattle.lp_term.specs.Nodes.{tree, type_tree};
+ghost use Rattle.lp_gen.specs.inner.Reading.{read};
+ghost use Rattle.lp_gen.specs.inner.Listing.{around_of, constant_function, head_type};
+ghost use Rattle.lp_gen.specs.inner.Heading.{first_place, predicate_of, ArgumentGot, ArgumentsGot, TypesGot, HeadMatched};
 
+use crate::emitter::Emitter;
+use crate::environment::Environment;
 use crate::fault::GenRefusal;
-use crate::got::{get_constant, get_integer, get_term, get_text, get_type};
+use crate::got::{get_constant, get_integer, get_term, get_text, get_type, get_variable};
 use crate::listing::type_of_head;
-use crate::terms::{Writer, put_term};
+use crate::record::Tables;
+use crate::terms::put_term;
 use crate::types::TypeView;
+use crate::written_types::{put_type, put_types};
 use lp_base::Limit;
-use lp_code::{Instr, Key, RecordHead};
+use lp_code::{Key, RecordHead};
 use lp_term::{Bank, TermId, TermNode, TypeId, head_of, spine_of};
 use std::alloc::Global;
 
 // The number of an argument.
-fn number_of(place: usize) -> Result<u8, GenRefusal> {
+fn number_of(place: usize) -> Result<u8, GenRefusal>
+    ensures { IfOk result (λ number. number ≡ place) }
+{
     match u8::try_from(place) {
         Ok(number) => Ok(number),
         Err(_) => Err(GenRefusal::Limit(Limit::Arguments)),
@@ -32,86 +43,140 @@ pub(crate) fn key_of(alloc: Global, bank: &Bank, head: TermId) -> Result<Key, Ge
     }
 }
 
-impl<'a> Writer<'a> {
-    fn get_types(&mut self, types: &[TypeId]) -> Result<(), GenRefusal> {
-        for (at, of) in types.iter().copied().enumerate() {
-            let register = self.put_type(TypeView::Of(of, None))?;
-            get_type(&mut self.emitter, number_of(at)?, register)?;
-        }
-        Ok(())
+// The level and register of a variable that the argument is, at its first place.
+fn place_of(bank: &Bank, environment: &Environment<'_>, argument: TermId) -> Option<(u64, u16)>
+    ensures { result ≡ first_place (around_of bank.now environment.now) (tree bank.now argument.0) }
+{
+    let TermNode::Index(index) = bank.term_node(argument) else {
+        return None;
+    };
+    let Some(level) = environment.level(index) else {
+        return None;
+    };
+    let Some(variable) = environment.at(level) else {
+        return None;
+    };
+    if variable.is_set {
+        return None;
     }
+    Some((level, variable.register))
+}
 
-    // The level and register of a variable that the argument is, at its first place.
-    fn first_place(&self, argument: TermId) -> Option<(u64, u16)> {
-        let TermNode::Index(index) = self.tables.bank.term_node(argument) else {
-            return None;
-        };
-        let level = self.environment.level(index)?;
-        let variable = self.environment.at(level)?;
-        if variable.is_set {
-            return None;
-        }
-        Some((level, variable.register))
+// An argument that is matched as it stands.
+fn get_argument(
+    alloc: Global,
+    tables: Tables<'_>,
+    emitter: &mut Emitter,
+    environment: &mut Environment<'_>,
+    at: u8,
+    argument: TermId,
+    of: TypeView,
+) -> Result<(), GenRefusal>
+    ensures { OnOk result (ArgumentGot (constant_function tables.entry.bank.now tables.entry.constants.now) emitter.old emitter.new (around_of tables.entry.bank.now environment.old) (around_of tables.entry.bank.now environment.new) at (read tables.entry.bank.now of) (tree tables.entry.bank.now argument.0)) }
+{
+    if let Some((level, register)) = place_of(tables.bank, environment, argument) {
+        get_variable(emitter, at, register)?;
+        environment.set(level);
+        return Ok(());
     }
-
-    // An argument that is matched as it stands.
-    fn get_argument(&mut self, at: u8, argument: TermId, of: TypeView) -> Result<(), GenRefusal> {
-        if let Some((level, register)) = self.first_place(argument) {
-            self.emitter.emit(Instr::GetVar(at, register))?;
-            self.environment.set(level);
-            return Ok(());
+    match tables.bank.term_node(argument) {
+        TermNode::Const(number, types) => {
+            let registers = put_types(alloc, tables.bank, emitter, types)?;
+            get_constant(emitter, at, number, registers)?;
+            Ok(())
         }
-        match self.tables.bank.term_node(argument) {
-            TermNode::Const(number, types) => {
-                let registers = self.put_types(types)?;
-                get_constant(&mut self.emitter, at, number, registers)
-            }
-            TermNode::Int(value) => get_integer(&mut self.emitter, at, value),
-            TermNode::Text(bytes) => {
-                let text = Vec::from_slice(self.alloc, bytes)?;
-                get_text(&mut self.emitter, at, text)
-            }
-            _ => {
-                let register = put_term(
-                    self.alloc,
-                    self.tables,
-                    &mut self.emitter,
-                    &mut self.environment,
-                    argument,
-                    of,
-                )?;
-                get_term(&mut self.emitter, at, register)
-            }
+        TermNode::Int(value) => {
+            get_integer(emitter, at, value)?;
+            Ok(())
+        }
+        TermNode::Text(bytes) => {
+            let text = Vec::from_slice(alloc, bytes)?;
+            get_text(emitter, at, text)?;
+            Ok(())
+        }
+        _ => {
+            let register = put_term(alloc, tables, emitter, environment, argument, of)?;
+            get_term(emitter, at, register)?;
+            Ok(())
         }
     }
+}
 
-    // The register of the head's predicate, or its number.
-    fn predicate(&self, head: TermId) -> RecordHead {
-        match self.tables.bank.term_node(head) {
-            TermNode::Const(number, _) => RecordHead::Const(number),
-            TermNode::Index(index) => match self.environment.level(index) {
-                Some(level) => match self.environment.at(level) {
-                    Some(variable) => RecordHead::Register(variable.register),
-                    None => RecordHead::Register(0),
-                },
+// The arguments of a head.
+fn get_arguments(
+    alloc: Global,
+    tables: Tables<'_>,
+    emitter: &mut Emitter,
+    environment: &mut Environment<'_>,
+    head: TermId,
+    args: &[TermId],
+) -> Result<(), GenRefusal>
+    ensures { OnOk result (ArgumentsGot (constant_function tables.entry.bank.now tables.entry.constants.now) emitter.old emitter.new (around_of tables.entry.bank.now environment.old) (around_of tables.entry.bank.now environment.new) (head_type (constant_function tables.entry.bank.now tables.entry.constants.now) [] (around_of tables.entry.bank.now environment.old) (tree tables.entry.bank.now head.0)) (map (λ t. tree tables.entry.bank.now t.0) args.now)) }
+{
+    let mut function = type_of_head(tables, environment, &[], head);
+    for at in 0..args.len() {
+        let (of, left) = function.next(tables.bank);
+        let number = number_of(at)?;
+        let argument = args[at];
+        get_argument(alloc, tables, emitter, environment, number, argument, of)?;
+        function = left;
+    }
+    Ok(())
+}
+
+// The types of a head.
+fn get_types(
+    alloc: Global,
+    bank: &Bank,
+    emitter: &mut Emitter,
+    types: &[TypeId],
+) -> Result<(), GenRefusal>
+    ensures { OnOk result (TypesGot emitter.old emitter.new (map (λ t. type_tree bank.now t.0) types.now)) }
+{
+    for at in 0..types.len() {
+        let of = types[at];
+        let register = put_type(alloc, bank, emitter, TypeView::Of(of, None))?;
+        let number = number_of(at)?;
+        get_type(emitter, number, register)?;
+    }
+    Ok(())
+}
+
+// The register of the head's predicate, or its number.
+fn predicate(bank: &Bank, environment: &Environment<'_>, head: TermId) -> RecordHead
+    ensures { result ≡ predicate_of (around_of bank.now environment.now) (tree bank.now head.0) }
+{
+    match bank.term_node(head) {
+        TermNode::Const(number, _) => RecordHead::Const(number),
+        TermNode::Index(index) => match environment.level(index) {
+            Some(level) => match environment.at(level) {
+                Some(variable) => RecordHead::Register(variable.register),
                 None => RecordHead::Register(0),
             },
-            _ => RecordHead::Register(0),
-        }
+            None => RecordHead::Register(0),
+        },
+        _ => RecordHead::Register(0),
     }
+}
 
-    /// Matches the head; says its predicate.
-    pub(crate) fn get_head(&mut self, head: TermId) -> Result<RecordHead, GenRefusal> {
-        let spine = spine_of(self.alloc, self.tables.bank, head)?;
-        if let TermNode::Const(_, types) = self.tables.bank.term_node(spine.head) {
-            self.get_types(types)?;
-        }
-        let mut function = type_of_head(self.tables, &self.environment, &[], spine.head);
-        for (at, argument) in spine.args.iter().copied().enumerate() {
-            let (of, left) = function.next(self.tables.bank);
-            self.get_argument(number_of(at)?, argument, of)?;
-            function = left;
-        }
-        Ok(self.predicate(spine.head))
+/// Matches the head; says its predicate.
+pub(crate) fn get_head(
+    alloc: Global,
+    tables: Tables<'_>,
+    emitter: &mut Emitter,
+    environment: &mut Environment<'_>,
+    head: TermId,
+) -> Result<RecordHead, GenRefusal>
+    ensures { IfOk result (λ predicate. HeadMatched (constant_function tables.entry.bank.now tables.entry.constants.now) emitter.old emitter.new (around_of tables.entry.bank.now environment.old) (around_of tables.entry.bank.now environment.new) predicate (tree tables.entry.bank.now head.0)) }
+{
+    let spine = spine_of(alloc, tables.bank, head)?;
+    let named = predicate(tables.bank, environment, spine.head);
+    let args = spine.args.as_slice();
+    if let TermNode::Const(_, types) = tables.bank.term_node(spine.head) {
+        get_types(alloc, tables.bank, emitter, types)?;
+        get_arguments(alloc, tables, emitter, environment, spine.head, args)?;
+        return Ok(named);
     }
+    get_arguments(alloc, tables, emitter, environment, spine.head, args)?;
+    Ok(named)
 }

@@ -5,7 +5,7 @@ ghost use Rattle.lp_code.specs.Length.{Fits, length_of};
 use crate::emitter::Emitter;
 use crate::environment::{Environment, Variable};
 use crate::fault::GenRefusal;
-use crate::head::key_of;
+use crate::head::{get_head, key_of};
 use crate::plan::{Assumption, Origin, Part};
 use crate::terms::Writer;
 use crate::written_types::register_of_type;
@@ -146,7 +146,13 @@ impl<'a> Writer<'a> {
         match origin {
             Origin::Clause(clause) => {
                 self.enter_clause(clause.vars.as_slice())?;
-                let head = self.get_head(clause.head)?;
+                let head = get_head(
+                    self.alloc,
+                    self.tables,
+                    &mut self.emitter,
+                    &mut self.environment,
+                    clause.head,
+                )?;
                 self.make_variables(true)?;
                 Ok(Some(head))
             }

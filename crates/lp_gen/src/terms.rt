@@ -12,9 +12,9 @@ use crate::listing::{list_steps, type_of_head};
 use crate::record::{Starts, Tables};
 use crate::term_steps::put_steps;
 use crate::types::TypeView;
-use crate::written_types::{put_type, put_types};
+use crate::written_types::put_type;
 use lp_code::Instr;
-use lp_term::{TermId, TypeId};
+use lp_term::TermId;
 use std::alloc::Global;
 
 /// A record in the making: its code, its variables, and what the records start with that are assumed so far.
@@ -69,11 +69,6 @@ impl<'a> Writer<'a> {
     /// The type in a register.
     pub(crate) fn put_type(&mut self, of: TypeView) -> Result<u16, GenRefusal> {
         put_type(self.alloc, self.tables.bank, &mut self.emitter, of)
-    }
-
-    /// Types of the clause in registers.
-    pub(crate) fn put_types(&mut self, types: &[TypeId]) -> Result<Vec<u16>, GenRefusal> {
-        put_types(self.alloc, self.tables.bank, &mut self.emitter, types)
     }
 
     /// Makes a variable of the clause.

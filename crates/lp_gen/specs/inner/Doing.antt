@@ -1,5 +1,5 @@
 -- Instructions that make what is asked for and then say a goal or a part of the head.
-use Rattle.std.specs.Prelude.{◌≡◌, ℕ, ◌+◌, ◌≤◌, ◌<◌, true, List, ◌++◌, sum_by, None, Some}
+use Rattle.std.specs.Prelude.{◌≡◌, ℕ, ◌+◌, ◌≤◌, ◌<◌, true, List, [], ◌++◌, sum_by, None, Some}
 use Rattle.lp_calculus.specs.Types.{Ty}
 use Rattle.lp_calculus.specs.Term.{Term}
 use Rattle.lp_calculus.specs.Typing.{o_type, HasType}
@@ -14,12 +14,12 @@ use Rattle.lp_model.specs.Flatten.{is_goal_head}
 use Rattle.lp_code.specs.declared.instruction.Instr.{Instr}
 use Rattle.lp_code.specs.Length.{length_of}
 use Rattle.lp_code.specs.Symbolic.{Built, held}
-use Rattle.lp_code.specs.States.{State, Home, with_goal}
-use Rattle.lp_code.specs.Steps.{Later}
+use Rattle.lp_code.specs.States.{Captured, State, Home, with_goal, depth}
+use Rattle.lp_code.specs.Steps.{Later, settled}
 use Rattle.lp_code.specs.Denote.{run}
 use Rattle.lp_gen.specs.declared.emitter.Emitter.{Emitter}
 use Rattle.lp_gen.specs.Sources.{types_by, IsKnownType}
-use Rattle.lp_gen.specs.inner.Running.{TypesStand, TermsStand, HasRoom}
+use Rattle.lp_gen.specs.inner.Running.{TypesStand, TermsStand, MayEnd}
 use Rattle.lp_gen.specs.inner.Listing.{Around}
 use Rattle.lp_gen.specs.inner.TermLaw.{Standing, KnownAtoms, AllLoose, IsSeen, with_variables, SameAround}
 use Rattle.lp_gen.specs.inner.Written.{AreAsked}
@@ -34,6 +34,21 @@ pub record Does (h : Home) (later : Later) (vars types types' terms terms' : ℕ
   pub in_body_stays : t.in_body ≡ s.in_body
   pub frames_stay : t.frames ≡ s.frames
   pub assumed_stay : t.assumed ≡ s.assumed
+  pub types_kept : (r : ℕ) → r < types → held t.now.types r ≡ held s.now.types r
+  pub terms_keep : (r : ℕ) (b : Built) → r < terms → held s.now.terms r ≡ Some b → held t.now.terms r ≡ Some b
+  pub types_stand : TypesStand h vars types' t
+  pub terms_stand : TermsStand h terms' t
+
+-- the same for goals: right sides that end there are left, and records may be assumed
+pub record Says (h : Home) (later : Later) (vars types types' terms terms' : ℕ) (s : State) (is : List Instr) (gs : Goals) (more : List (ℕ × Captured)) (t : State) : Type 0 where
+  pub runs : (rest : List Instr) → run h later s (is ++ rest) ≡ run h later (settled h.number (depth t.frames) t) rest
+  pub place_is : t.place ≡ s.place + sum_by length_of is
+  pub goals_are : t.goals ≡ gs
+  pub head_types_stay : t.head_types ≡ s.head_types
+  pub arguments_stay : t.head_arguments ≡ s.head_arguments
+  pub in_body_stays : t.in_body ≡ s.in_body
+  pub frames_stay : t.frames ≡ s.frames
+  pub assumed_are : t.assumed ≡ s.assumed ++ more
   pub types_kept : (r : ℕ) → r < types → held t.now.types r ≡ held s.now.types r
   pub terms_keep : (r : ℕ) (b : Built) → r < terms → held s.now.terms r ≡ Some b → held t.now.terms r ≡ Some b
   pub types_stand : TypesStand h vars types' t
@@ -58,6 +73,6 @@ pub record AtomWritten (K : ℕ → List Ty → Ty) (old new : Emitter) (a a' : 
   pub terms_grow : old.registers ≤ new.registers
   pub denotes : (h : Home) (later : Later) (vars : ℕ) (s : State) (σ : ℕ → Term) (Γ : List Ty) → IsStandard h.tables.constants → AreAsked h K → TypesStand h vars old.types s →
       TermsStand h old.registers s → new.types ≤ h.self.types → new.registers ≤ h.self.registers → s.in_body ≡ true → Standing h vars old.registers s.in_body σ a s.now.terms →
-      IsGoalAtom h vars Γ a t → HasRoom s (s.place + sum_by length_of more) →
-      (u : State) × Does h later vars old.types new.types old.registers new.registers s more (with_goal s.goals (Atomic (with_variables σ a 0 t))) s.head_types s.head_arguments u
+      IsGoalAtom h vars Γ a t → MayEnd s (s.place + sum_by length_of more) →
+      (u : State) × Says h later vars old.types new.types old.registers new.registers s more (with_goal s.goals (Atomic (with_variables σ a 0 t))) [] u
       × Standing h vars new.registers s.in_body σ a' u.now.terms × SameAround a a'

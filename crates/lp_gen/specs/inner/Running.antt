@@ -1,5 +1,5 @@
 -- What the code of types and terms does where it is run: from a state in which no rule is broken to one in which the type or term stands in its register.
-use Rattle.std.specs.Prelude.{◌≡◌, ℕ, ℤ, All, ◌+◌, ◌≤◌, ◌<◌, nat_eq, true, false, List, [], ◌∷◌, ◌++◌, length, map, sum_by, is_none, Option, Some, None}
+use Rattle.std.specs.Prelude.{◌≡◌, ℕ, ℤ, All, ◌+◌, ◌≤◌, ◌<◌, nat_eq, nat_lt, Bool, true, false, List, [], ◌∷◌, ◌++◌, length, map, sum_by, is_none, Option, Some, None}
 use Rattle.std.specs.List.{list_any}
 use Rattle.lp_calculus.specs.Types.{Ty, Tys, var, no_types, types, tys}
 use Rattle.lp_calculus.specs.Term.{atom, integer, text}
@@ -8,7 +8,7 @@ use Rattle.lp_code.specs.declared.instruction.Instr.{Instr}
 use Rattle.lp_code.specs.declared.rule.Rule.{Rule}
 use Rattle.lp_code.specs.Length.{length_of}
 use Rattle.lp_code.specs.Symbolic.{held, Built, whole, bound_index, term_in, application_of, abstraction_of, agree_at, innermost}
-use Rattle.lp_code.specs.States.{State, Home, member}
+use Rattle.lp_code.specs.States.{Block, left_side, right_side, Frame, State, Home, member}
 use Rattle.lp_code.specs.Steps.{Later, constant_of}
 use Rattle.lp_code.specs.Rules.{is_passed, has_count, is_no_term, applies}
 use Rattle.lp_code.specs.Denote.{run, broken_by_record}
@@ -27,6 +27,15 @@ pub record TypesStand (h : Home) (vars next : ℕ) (s : State) : Type 0 where
 -- no side of a block ends up to this offset
 abbrev pub HasRoom : State → ℕ → Type 0
 HasRoom s n = list_any (is_passed n) s.frames ≡ false
+
+-- a side of a block may end at this offset, but none ends before it
+abbrev pub ends_before : ℕ → Block → Bool
+ends_before n (left_side e) = nat_lt e n
+ends_before n (right_side e l) = nat_lt e n
+ends_before n b = false
+
+abbrev pub MayEnd : State → ℕ → Type 0
+MayEnd s n = list_any (λ (f : Frame). ends_before n f.block) s.frames ≡ false
 
 -- the states differ in the types that are set, and in the place
 pub record SameButTypes (s t : State) : Type 0 where

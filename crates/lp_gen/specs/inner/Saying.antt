@@ -1,5 +1,5 @@
 -- The code of a goal, and of a part of the head, where the parts stand in registers. Equations and orders have instructions of their own.
-use Rattle.std.specs.Prelude.{◌≡◌, ℕ, ℤ, ◌+◌, nat_eq, nat_le, not, ◌&&◌, ◌||◌, true, false, List, [], ◌∷◌, ◌++◌, length, sum_by, is_none, is_some, Option, Some, None}
+use Rattle.std.specs.Prelude.{◌≡◌, ℕ, ℤ, ◌+◌, ◌<◌, nat_eq, nat_le, not, ◌&&◌, ◌||◌, true, false, List, [], ◌∷◌, ◌++◌, length, sum_by, is_none, is_some, Option, Some, None}
 use Rattle.std.specs.List.{list_any}
 use Rattle.lp_calculus.specs.Types.{Ty}
 use Rattle.lp_calculus.specs.Term.{Term, atom, apply, constant, integer, text}
@@ -12,12 +12,12 @@ use Rattle.lp_code.specs.declared.instruction.Instr.{Instr}
 use Rattle.lp_code.specs.declared.instruction.Instr.TheVariants as on
 use Rattle.lp_code.specs.Length.{length_of}
 use Rattle.lp_code.specs.Symbolic.{Built, held, whole, applied_type, is_closed, type_in, term_in, terms_in, types_in, plain_terms}
-use Rattle.lp_code.specs.States.{State, Home, with_goal}
-use Rattle.lp_code.specs.Steps.{Later, constant_of}
+use Rattle.lp_code.specs.States.{State, Home, with_goal, depth}
+use Rattle.lp_code.specs.Steps.{Later, constant_of, settled}
 use Rattle.lp_code.specs.Rules.{has_count, has_type, have_type, has_none, head_count, is_argument, is_new_variable, out_of_turn, built_types, is_no_term}
 use Rattle.lp_code.specs.Denote.{run}
 use Rattle.lp_gen.specs.declared.emitter.Emitter.{Emitter}
-use Rattle.lp_gen.specs.inner.Running.{TypesStand, TermsStand, HasRoom}
+use Rattle.lp_gen.specs.inner.Running.{TypesStand, TermsStand, MayEnd}
 
 abbrev pub equation_by : Constant → (of left right : ℕ) → Option Instr
 equation_by standard.Equal t l r = Some (on.Equal t l r)
@@ -61,9 +61,9 @@ turned s gs Ts bs = record {
   assumed = s.assumed;
 }
 
--- instructions lead from one state to another with these goals and this head so far, in which the same is set
+-- instructions lead from one state to another with these goals and this head so far, in which the same is set. Right sides that end there are left
 pub record Turns (h : Home) (later : Later) (vars types terms : ℕ) (s : State) (is : List Instr) (gs : Goals) (Ts : List Ty) (bs : List Built) (t : State) : Type 0 where
-  pub runs : (rest : List Instr) → run h later s (is ++ rest) ≡ run h later t rest
+  pub runs : (rest : List Instr) → run h later s (is ++ rest) ≡ run h later (settled h.number (depth t.frames) t) rest
   pub place_is : t.place ≡ s.place + sum_by length_of is
   pub goals_are : t.goals ≡ gs
   pub head_types_are : t.head_types ≡ Ts
@@ -75,14 +75,15 @@ pub record Turns (h : Home) (later : Later) (vars types terms : ℕ) (s : State)
   pub types_stand : TypesStand h vars types t
   pub terms_stand : TermsStand h terms t
 
--- more code, which says a goal or a part of the head wherever it is run and what it asks for is so
+-- some more code, which says a goal or a part of the head wherever it is run and what it asks for is so
 pub record IsPartPut (old new : Emitter) (asks : Home → State → Type 0) (goals : State → Goals) (head_types : State → List Ty) (arguments : Home → State → List Built) : Type 0 where
   pub more : List Instr
   pub code_is : new.code.items ≡ old.code.items ++ more
+  pub some : 0 < sum_by length_of more
   pub types_stay : new.types ≡ old.types
   pub registers_stay : new.registers ≡ old.registers
   pub denotes : (h : Home) (later : Later) (vars : ℕ) (s : State) → IsStandard h.tables.constants → TypesStand h vars old.types s → TermsStand h old.registers s → asks h s →
-      HasRoom s (s.place + sum_by length_of more) →
+      MayEnd s (s.place + sum_by length_of more) →
       (t : State) × Turns h later vars old.types old.registers s more (goals s) (head_types s) (arguments h s) t
 
 abbrev pub IsGoalPut : (old new : Emitter) → (asks : Home → State → Type 0) → (goal : State → Term) → Type 0

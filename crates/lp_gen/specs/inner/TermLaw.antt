@@ -1,19 +1,15 @@
 -- What the law of terms speaks of: variables that stand in registers, and what the steps of a term make where its indices are those of a list of types.
-use Rattle.std.specs.Prelude.{◌≡◌, ℕ, suc, ◌-◌, ◌<◌, ◌≤◌, Bool, true, false, nat_lt, if◌then◌else◌, List, [], ◌∷◌, ◌++◌, length, Option, Some, None, option_map, slice_get}
+use Rattle.std.specs.Prelude.{◌≡◌, ◌⊎◌, ℕ, suc, ◌-◌, ◌<◌, ◌≤◌, Bool, true, false, nat_lt, if◌then◌else◌, List, [], ◌∷◌, ◌++◌, length, Option, Some, None, option_map, slice_get}
 use Rattle.lp_calculus.specs.Types.{Ty, var, param as type_param, con, arrow}
 use Rattle.lp_calculus.specs.Term.{Term, index, atom, abs, app, apply, replace}
-use Rattle.lp_calculus.specs.Typing.{Scheme, scheme_type}
+use Rattle.lp_calculus.specs.Typing.{scheme_type}
 use Rattle.lp_code.specs.Symbolic.{Tables, Built, variable, held, whole, applied_type, plain_terms}
 use Rattle.lp_code.specs.States.{Home}
-use Rattle.lp_code.specs.Rules.{built_types}
+use Rattle.lp_code.specs.Rules.{built_types, stands_in}
 use Rattle.lp_gen.specs.Sources.{IsKnownType, IsKnownAtom}
 use Rattle.lp_gen.specs.inner.Reading.{from_of, to_of}
 use Rattle.lp_gen.specs.inner.Listing.{Seen, Around, at_level, level_in, Listed, Headed}
 use Rattle.lp_gen.specs.inner.TermSteps.{stack, steps_built, AreFine}
-
--- each constant has a type in which kinds have their counts of arguments
-abbrev pub AreKnownSchemes : Tables → Type 0
-AreKnownSchemes t = (c : ℕ) (s : Scheme) → t.constants c ≡ Some s → IsKnownType t.kinds s.count s.body
 
 -- what is read of a function's type, for its arguments: where an abstraction can stand its type, else any
 abbrev pub SameSides : (read T : Ty) → Type 0
@@ -54,9 +50,6 @@ AllLoose P d (abs b) = AllLoose P (suc d) b
 AllLoose P d (app t u) = AllLoose P d t × AllLoose P d u
 
 -- an index is that of a variable of this type
-abbrev pub of_seen : Seen → Ty
-of_seen v = v.of
-
 abbrev pub IsSeen : Around → List Ty → ℕ → Type 0
 IsSeen a Γ i = (l : ℕ) × (v : Seen) × (level_in a i ≡ Some l) × (at_level a l ≡ Some v) × (slice_get Γ i ≡ Some v.of)
 
@@ -91,10 +84,17 @@ pub record IsBuilt (C : List Ty) (T : Ty) (u : Term) (b : Built) : Type 0 where
   pub loose : AreOf C b.loose
 
 -- what stands around has the same variables, of which more may be set
+abbrev pub as_set : Seen → Seen
+as_set v = record { register = v.register; of = v.of; is_set = true }
+
 pub record SameAround (a b : Around) : Type 0 where
   pub base : b.base ≡ a.base
   pub count : length b.own ≡ length a.own
-  pub types : (l : ℕ) → option_map of_seen (at_level b l) ≡ option_map of_seen (at_level a l)
+  pub variables : (l : ℕ) → option_map as_set (at_level b l) ≡ option_map as_set (at_level a l)
+
+-- a variable that is set now was set before, or stands in the term
+abbrev pub Made : (home : ℕ) → (a b : Around) → Term → Type 0
+Made k a b u = (l : ℕ) (v : Seen) → at_level b l ≡ Some v → v.is_set ≡ true → (at_level a l ≡ Some v) ⊎ (stands_in v.register k u ≡ true)
 
 -- the steps are fine behind any stack, and add one term to it
 pub record Comes (h : Home) (vars next : ℕ) (in_body : Bool) (σ : ℕ → Term) (C : List Ty) (T : Ty) (u : Term) (l : Listed) (xs : List (Option Built)) (bs : List Built) : Type 0 where

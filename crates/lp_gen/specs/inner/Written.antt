@@ -12,12 +12,12 @@ use Rattle.lp_code.specs.States.{State, Home}
 use Rattle.lp_code.specs.Steps.{Later}
 use Rattle.lp_code.specs.Denote.{run}
 use Rattle.lp_gen.specs.declared.emitter.Emitter.{Emitter}
-use Rattle.lp_gen.specs.Sources.{types_by, IsKnownType}
+use Rattle.lp_gen.specs.Sources.{AreKnownSchemes, types_by, IsKnownType}
 use Rattle.lp_gen.specs.inner.Reading.{from_of, to_of}
 use Rattle.lp_gen.specs.inner.Running.{TypesStand, TermsStand, SameButRegisters, HasRoom}
 use Rattle.lp_gen.specs.inner.Listing.{Around}
 use Rattle.lp_gen.specs.inner.TermSteps.{StandIn}
-use Rattle.lp_gen.specs.inner.TermLaw.{AreKnownSchemes, SameSides, Asks, AsksConstants, Standing, KnownAtoms, AllLoose, IsSeen, with_variables, SameAround}
+use Rattle.lp_gen.specs.inner.TermLaw.{SameSides, Asks, AsksConstants, Standing, KnownAtoms, AllLoose, IsSeen, with_variables, SameAround, Made}
 
 -- instructions lead from one state to another, in which what was set stays
 pub record Goes (h : Home) (later : Later) (vars types types' terms terms' : ℕ) (s : State) (is : List Instr) (t : State) : Type 0 where
@@ -54,7 +54,7 @@ pub record TermWritten (K : ℕ → List Ty → Ty) (old new : Emitter) (a a' : 
       new.types ≤ h.self.types → new.registers ≤ h.self.registers → Standing h vars old.registers s.in_body σ a s.now.terms → IsWell h vars Γ a t T → SameSides F T →
       HasRoom s (s.place + sum_by length_of more) →
       (u : State) × Goes h later vars old.types new.types old.registers new.registers s more u × (held u.now.terms register ≡ Some (whole (with_variables σ a 0 t) T)) × (register < new.registers)
-      × Standing h vars new.registers s.in_body σ a' u.now.terms × SameAround a a'
+      × Standing h vars new.registers s.in_body σ a' u.now.terms × SameAround a a' × Made h.number a a' (with_variables σ a 0 t)
 
 -- arguments of a function of this type, behind which another one is left
 
