@@ -252,7 +252,10 @@ module _ (d : Declared) (W : List Ty) where
     is : s ≡ made ++ more
     solved : map (put_all s) ls ≡ map (put_all s) rs
 
-  unify_step : (l r : Term) (T : Ty) (ls rs : List Term) (made : List Binding) → EachOf (IsBinding d W) made → IsArgument d W [] l T → IsArgument d W [] r T → ((made' : List Binding) → EachOf (IsBinding d W) made' → (s : List Binding) → unify ls rs made' ≡ Some s → Unified made' ls rs s) → (o : Option (List Binding)) → unify_two (put_all made l) (put_all made r) ≡ o → (s : List Binding) → unify_on made o (unify ls rs) ≡ Some s → Unified made (l ∷ ls) (r ∷ rs) s
+  unify_step : (l r : Term) (T : Ty) (ls rs : List Term) (made : List Binding) → EachOf (IsBinding d W) made → IsArgument d W [] l T → IsArgument d W
+      [] r T → ((made' : List Binding) → EachOf (IsBinding d W) made' → (s : List Binding) → unify ls rs made' ≡ Some s → Unified made' ls rs s) →
+      (o : Option (List Binding)) → unify_two (put_all made l) (put_all made r) ≡ o → (s : List Binding) → unify_on made o (unify ls rs) ≡ Some s →
+      Unified made (l ∷ ls) (r ∷ rs) s
   unify_step l r T ls rs made B hl hr ih None e s f = cc
   unify_step l r T ls rs made B hl hr ih (Some new) e s f =
       let ll = put_more made B l T hl in

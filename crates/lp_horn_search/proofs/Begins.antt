@@ -10,7 +10,10 @@ use Rattle.lp_horn_search.specs.declared.atom.Choice.TheVariants.{Going}
 use Rattle.lp_horn_search.specs.Held.{Held}
 use Rattle.lp_horn_search.specs.Stack.{clauses_of, stack_of, tasks_of, at_state, IsFirst, reach_of, reach, HaveRoom}
 
-pub started : (rules : List Rule) (P : List model.Horn) (stack : List Choice) (first : Branch) (q : model.HornQuery) (steps answers : ℕ) (b : Nodes) → clauses_of rules ≡ P → stack ≡ Going first ∷ [] → IsFirst q first → (h : Held) → h ≡ record { clauses = clauses_of rules; state = at_state steps (answers - 0) 0 (stack_of (clauses_of rules) stack); bank = b; failed = false } → h ≡ record { clauses = P; state = start by_number q steps answers; bank = b; failed = false }
+pub started : (rules : List Rule) (P : List model.Horn) (stack : List Choice) (first : Branch) (q : model.HornQuery) (steps answers : ℕ) (b : Nodes) →
+    clauses_of rules ≡ P → stack ≡ Going first ∷ [] → IsFirst q first → (h : Held) → h ≡ record
+    { clauses = clauses_of rules; state = at_state steps (answers - 0) 0 (stack_of (clauses_of rules) stack); bank = b; failed = false } → h ≡ record
+    { clauses = P; state = start by_number q steps answers; bank = b; failed = false }
 unfolding stack_of tasks_of
 started rules P stack first q steps answers b e f g h i =
     let z : answers - 0 ≡ answers = omega arith in

@@ -18,7 +18,9 @@ reversed : (f g : Term → Term) (old body : List Term) → reverse (map f old +
 reversed f g old body =
     reverse-append (map f old) (map f (map g body)) ∙ ap (λ xs. xs ++ reverse (map f old)) (reverse_map f (map g body) ∙ ap (map f) (reverse_map g body)) ∙ ap (λ xs. map f (map g (reverse body)) ++ xs) (reverse_map f old) ∙ sym (map-append f (map g (reverse body)) (reverse old))
 
-pub after_is : (r : Rule) (bs : List Binding) (b made : Branch) → made.vars ≡ b.vars + r.vars → map goal_term made.goals.items ≡ map (put_all (bindings_of bs)) (map goal_term b.goals.items) ++ map (put_all (bindings_of bs)) (map (renamed b.vars) (map pattern_term r.body.items)) → map value_term made.query.items ≡ map (put_all (bindings_of bs)) (map value_term b.query.items) → branch_state made ≡ state_after r bs b
+pub after_is : (r : Rule) (bs : List Binding) (b made : Branch) → made.vars ≡ b.vars + r.vars → map goal_term made.goals.items ≡ map
+    (put_all (bindings_of bs)) (map goal_term b.goals.items) ++ map (put_all (bindings_of bs)) (map (renamed b.vars) (map pattern_term r.body.items))
+    → map value_term made.query.items ≡ map (put_all (bindings_of bs)) (map value_term b.query.items) → branch_state made ≡ state_after r bs b
 unfolding branch_state state_after rule_clause
 after_is r bs b made e f g =
     let h = ap reverse f ∙ reversed (put_all (bindings_of bs)) (renamed b.vars) (map goal_term b.goals.items) (map pattern_term r.body.items) in

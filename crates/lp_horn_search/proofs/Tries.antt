@@ -36,7 +36,10 @@ candidates g b [] = refl
 candidates g b (r ∷ rs) =
     ap (λ t. map (λ c. Try c (goal_term g) (branch_state b)) (cond t (rule_clause r ∷ filter (is_candidate (goal_term g)) (map rule_clause rs)) (filter (is_candidate (goal_term g)) (map rule_clause rs)))) (test g r) ∙ go (is_named g.name r) (candidates g b rs)
   where
-    go : (t : Bool) → map (λ c. Try c (goal_term g) (branch_state b)) (filter (is_candidate (goal_term g)) (map rule_clause rs)) ≡ map (λ x. Try (rule_clause x) (goal_term g) (branch_state b)) (filter (is_named g.name) rs) → map (λ c. Try c (goal_term g) (branch_state b)) (cond t (rule_clause r ∷ filter (is_candidate (goal_term g)) (map rule_clause rs)) (filter (is_candidate (goal_term g)) (map rule_clause rs))) ≡ map (λ x. Try (rule_clause x) (goal_term g) (branch_state b)) (cond t (r ∷ filter (is_named g.name) rs) (filter (is_named g.name) rs))
+    go : (t : Bool) → map (λ c. Try c (goal_term g) (branch_state b)) (filter (is_candidate (goal_term g)) (map rule_clause rs)) ≡ map
+        (λ x. Try (rule_clause x) (goal_term g) (branch_state b)) (filter (is_named g.name) rs) → map (λ c. Try c (goal_term g) (branch_state b))
+        (cond t (rule_clause r ∷ filter (is_candidate (goal_term g)) (map rule_clause rs)) (filter (is_candidate (goal_term g)) (map rule_clause rs)))
+        ≡ map (λ x. Try (rule_clause x) (goal_term g) (branch_state b)) (cond t (r ∷ filter (is_named g.name) rs) (filter (is_named g.name) rs))
     go true e = ap (λ ts. Try (rule_clause r) (goal_term g) (branch_state b) ∷ ts) e
     go false e = e
 
@@ -80,7 +83,10 @@ resolves r g b o e =
     ∙ ap (resumed by_number (rule_clause r) (branch_state b)) (sym e)
 
 -- a clause that does not fit is passed over
-pub passed_over : (rules : List Rule) (name from at : ℕ) (r : Rule) (g : Goal) (b : Branch) (o : Option ℕ) (rest : List (TaskOf ℕ)) (n : ℕ) → g.name ≡ name → IsHere rules name from at → slice_get rules at ≡ Some r → None ≡ unify (map value_term g.args.items) (map (renamed b.vars) (map slot_term r.head.args.items)) [] → IsFound rules g.name (at + 1) o → Passes (clauses_of rules) n (tasks_left (clauses_of rules) (Some at) g b ++ rest) n (tasks_left (clauses_of rules) o g b ++ rest)
+pub passed_over : (rules : List Rule) (name from at : ℕ) (r : Rule) (g : Goal) (b : Branch) (o : Option ℕ) (rest : List (TaskOf ℕ)) (n : ℕ) → g.name ≡
+    name → IsHere rules name from at → slice_get rules at ≡ Some r → None ≡ unify (map value_term g.args.items)
+    (map (renamed b.vars) (map slot_term r.head.args.items)) [] → IsFound rules g.name (at + 1) o → Passes (clauses_of rules) n
+    (tasks_left (clauses_of rules) (Some at) g b ++ rest) n (tasks_left (clauses_of rules) o g b ++ rest)
 unfolding try_of
 passed_over rules name from at r g b o rest n e h s u f =
     let first = ap (λ ts. ts ++ rest) (first_task rules name from at r g b e h s) in
@@ -105,7 +111,10 @@ unfolding state_after rule_clause branch_state
 resumes r bs b = refl
 
 -- a clause that fits leaves its branch in front, and the others below it
-pub fitted : (rules : List Rule) (name from at : ℕ) (r : Rule) (g : Goal) (b : Branch) (o : Option ℕ) (bs : List Binding) (old new : List Choice) (n : ℕ) → g.name ≡ name → IsHere rules name from at → slice_get rules at ≡ Some r → Some (bindings_of bs) ≡ unify (map value_term g.args.items) (map (renamed b.vars) (map slot_term r.head.args.items)) [] → IsFound rules g.name (at + 1) o → Pushes r bs o g b old new → Passes (clauses_of rules) n (tasks_left (clauses_of rules) (Some at) g b ++ stack_of (clauses_of rules) old) n (stack_of (clauses_of rules) new)
+pub fitted : (rules : List Rule) (name from at : ℕ) (r : Rule) (g : Goal) (b : Branch) (o : Option ℕ) (bs : List Binding) (old new : List Choice)
+    (n : ℕ) → g.name ≡ name → IsHere rules name from at → slice_get rules at ≡ Some r → Some (bindings_of bs) ≡ unify (map value_term g.args.items)
+    (map (renamed b.vars) (map slot_term r.head.args.items)) [] → IsFound rules g.name (at + 1) o → Pushes r bs o g b old new → Passes
+    (clauses_of rules) n (tasks_left (clauses_of rules) (Some at) g b ++ stack_of (clauses_of rules) old) n (stack_of (clauses_of rules) new)
 unfolding try_of
 fitted rules name from at r g b o bs old new n e h s u f p =
     let P = clauses_of rules in

@@ -27,7 +27,11 @@ pub uneven_lists : (goal : List Value) (head : List Slot) (i : ℕ) → length g
 uneven_lists goal head i h = uneven (map value_term goal) (map (renamed i) (map slot_term head)) [] (λ e. h (sym (length_map value_term goal) ∙ e ∙ length_map (renamed i) (map slot_term head) ∙ length_map slot_term head))
 
 -- the two sides of the next pair, and what they add
-pub next_pair : (goal : List Value) (head : List Slot) (base i : ℕ) (d : Value) (e : Slot) (made : List fill.Binding) (left right : Term) (o : Option (List fill.Binding)) → i < length goal → i < length head → left ≡ fill.put_all made (value_term (get_or goal i d)) → right ≡ fill.put_all made (renamed base (slot_term (get_or head i e))) → o ≡ unify_two left right → unify (map value_term (drop i goal)) (map (renamed base) (map slot_term (drop i head))) made ≡ unify_on made o (unify (map value_term (drop (i + 1) goal)) (map (renamed base) (map slot_term (drop (i + 1) head))))
+pub next_pair : (goal : List Value) (head : List Slot) (base i : ℕ) (d : Value) (e : Slot) (made : List fill.Binding) (left right : Term)
+    (o : Option (List fill.Binding)) → i < length goal → i < length head → left ≡ fill.put_all made (value_term (get_or goal i d)) → right ≡
+    fill.put_all made (renamed base (slot_term (get_or head i e))) → o ≡ unify_two left right → unify (map value_term (drop i goal))
+    (map (renamed base) (map slot_term (drop i head))) made ≡ unify_on made o (unify (map value_term (drop (i + 1) goal))
+    (map (renamed base) (map slot_term (drop (i + 1) head))))
 next_pair goal head base i d e made left right o h k l r u =
     ap (λ xs. unify (map value_term xs) (map (renamed base) (map slot_term (drop i head))) made) (drop_more goal i d h)
     ∙ ap (λ ys. unify (value_term (get_or goal i d) ∷ map value_term (drop (i + 1) goal)) (map (renamed base) (map slot_term ys)) made) (drop_more head i e k)

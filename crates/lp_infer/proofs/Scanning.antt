@@ -162,7 +162,10 @@ module _ (sig : Signature) (text : List ℕ) (nodes : List RawNode) where
       (finds_none nothing names.fault names.fault refl (λ s q. q)) (λ s q. absurd q) (λ s p. application_pending S.scope n f a ts s e p) (λ s p. application_parted S.scope n f a ts s e p)
 
   -- an abstraction
-  abstraction_parted : (scope : List (List ℕ)) (n : ℕ) (x : Spot) (given : Option RawType) (b : ℕ) (ts : List Task) (s : Spot) → slice_get nodes n ≡ Some (Abs x given b) → Undeclared sig text nodes scope n s ⊎ Pending sig text nodes scope ts s → (Contains (note_words given) s × IsNoKind sig (spelled text s)) ⊎ (Undeclared sig text nodes (spelled text x ∷ scope) b s ⊎ Pending sig text nodes scope ts s)
+  abstraction_parted : (scope : List (List ℕ)) (n : ℕ) (x : Spot) (given : Option RawType) (b : ℕ) (ts : List Task) (s : Spot) → slice_get nodes n ≡
+      Some (Abs x given b) → Undeclared sig text nodes scope n s ⊎ Pending sig text nodes scope ts s →
+      (Contains (note_words given) s × IsNoKind sig (spelled text s)) ⊎ (Undeclared sig text nodes (spelled text x ∷ scope) b s ⊎ Pending sig text
+      nodes scope ts s)
   abstraction_parted scope n x given b ts s e (inl u) = parts (subst (λ o. Below scope o s) e (opened scope n s u)) where
     parts : (Contains (note_words given) s × IsNoKind sig (spelled text s)) ⊎ Undeclared sig text nodes (spelled text x ∷ scope) b s → (Contains (note_words given) s × IsNoKind sig (spelled text s)) ⊎ (Undeclared sig text nodes (spelled text x ∷ scope) b s ⊎ Pending sig text nodes scope ts s)
     parts (inl w) = inl w
@@ -173,7 +176,10 @@ module _ (sig : Signature) (text : List ℕ) (nodes : List RawNode) where
   abstraction_pending scope n x given b ts s e (inl u) = inl (in_body e u)
   abstraction_pending scope n x given b ts s e (inr p) = inr p
 
-  pub past_abstraction : (root : ℕ) (old new : Names) (n : ℕ) (x : Spot) (given : Option RawType) (b : ℕ) (outside : Option ℕ) (ts : List Task) → slice_get nodes n ≡ Some (Abs x given b) → Finds (λ s. Contains (note_words given) s × IsNoKind sig (spelled text s)) old.fault new.fault → IsEntered (spelled text x) old new outside → Scanned sig text nodes root old (Visit n ∷ ts) → Scanned sig text nodes root new (Visit b ∷ Leave x outside ∷ ts)
+  pub past_abstraction : (root : ℕ) (old new : Names) (n : ℕ) (x : Spot) (given : Option RawType) (b : ℕ) (outside : Option ℕ) (ts : List Task) →
+      slice_get nodes n ≡ Some (Abs x given b) → Finds (λ s. Contains (note_words given) s × IsNoKind sig (spelled text s)) old.fault new.fault →
+      IsEntered (spelled text x) old new outside → Scanned sig text nodes root old (Visit n ∷ ts) → Scanned sig text nodes root new
+      (Visit b ∷ Leave x outside ∷ ts)
   past_abstraction root old new n x given b outside ts e found entered S =
       moved root old new (Visit n ∷ ts) (Visit b ∷ Leave x outside ∷ ts) S (spelled text x ∷ S.scope) (λ s. Contains (note_words given) s × IsNoKind sig (spelled text s))
       (tracks_inside S.scope (spelled text x) entered.level old new S.tracks entered.inside)

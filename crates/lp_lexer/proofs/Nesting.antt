@@ -55,7 +55,10 @@ joined : (d n k : ℕ) (bs : List ℕ) → n ≡ 2 + k → Chain (suc (suc d)) k
 joined d n k bs e (i, m, f, h, (j, l, g, v, w)) =
     (suc (suc (i + j)), l, omega (arith, e, f, g), nested _ i j bs refl h v, subst (Chain d l) (drop-drop j i bs) w)
 
-found_by : (d b c : ℕ) (bs : List ℕ) → Found (suc (suc d)) bs → ((e : ℕ) → d ≡ suc e → Found d bs) → Found (suc d) (c ∷ bs) → (t u : Bool) → (nat_eq b 47 && nat_eq c 42) ≡ t → (nat_eq b 42 && nat_eq c 47) ≡ u → (n : ℕ) → (if t then later 2 (comment_len (suc (suc d)) bs) else (if u then (if nat_eq (suc d) 1 then Some 2 else later 2 (comment_len (suc d - 1) bs)) else later 1 (comment_len (suc d) (c ∷ bs)))) ≡ Some n → Chain (suc d) n (b ∷ c ∷ bs)
+found_by : (d b c : ℕ) (bs : List ℕ) → Found (suc (suc d)) bs → ((e : ℕ) → d ≡ suc e → Found d bs) → Found (suc d) (c ∷ bs) → (t u : Bool) →
+    (nat_eq b 47 && nat_eq c 42) ≡ t → (nat_eq b 42 && nat_eq c 47) ≡ u → (n : ℕ) →
+    (if t then later 2 (comment_len (suc (suc d)) bs) else (if u then (if nat_eq (suc d) 1 then Some 2 else later 2 (comment_len (suc d - 1) bs)) else
+    later 1 (comment_len (suc d) (c ∷ bs)))) ≡ Some n → Chain (suc d) n (b ∷ c ∷ bs)
 found_by d b c bs r s q true u e f n h =
     let z = later_some 2 n _ h in
     let p = and_parts _ _ e in

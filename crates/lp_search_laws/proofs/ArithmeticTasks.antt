@@ -231,7 +231,9 @@ module _ {L : Leaves} (n : ℕ) (d : Declared) (std : IsSetting L d) (P : List C
       (a.0, a.1, record { typed = equal_branch a.0 l r w v k; keeps = to_equal a.0 l r w v k; gives = from_equal a.0 l r w v k })
 
 -- a branch by its first goal
-pub by_first : (n : ℕ) (d : Declared) (q : Query) (X : BranchTyping → Branch → Type 0) (y : BranchTyping) (b : Branch) (e : Entry) (es : List Entry) → b.goals ≡ e ∷ es → ((E : List Ty) (Es : List (List Ty)) → IsTypedBranch n d q (record { answer = y.answer; eigens = E ∷ Es }) (with_goals b (e ∷ es)) → X (record { answer = y.answer; eigens = E ∷ Es }) (with_goals b (e ∷ es))) → IsTypedBranch n d q y b → X y b
+pub by_first : (n : ℕ) (d : Declared) (q : Query) (X : BranchTyping → Branch → Type 0) (y : BranchTyping) (b : Branch) (e : Entry) (es : List Entry) →
+    b.goals ≡ e ∷ es → ((E : List Ty) (Es : List (List Ty)) → IsTypedBranch n d q (record { answer = y.answer; eigens = E ∷ Es })
+    (with_goals b (e ∷ es)) → X (record { answer = y.answer; eigens = E ∷ Es }) (with_goals b (e ∷ es))) → IsTypedBranch n d q y b → X y b
 by_first n d q X y b e es g h typed = go y.eigens refl
   where
     same_branch : b ≡ with_goals b (e ∷ es)
@@ -247,10 +249,16 @@ by_first n d q X y b e es g h typed = go y.eigens refl
         let all : IsTypedBranch n d q (record { answer = y.answer; eigens = Fs }) (with_goals b (e ∷ es)) = transport (λ x. IsTypedBranch n d q x (with_goals b (e ∷ es))) typings (transport (IsTypedBranch n d q y) same_branch typed) in
         transport (X y) (sym same_branch) (transport (λ x. X x (with_goals b (e ∷ es))) (sym typings) (first Fs all))
 
-pub comparisons_stand : {L : Leaves} (n : ℕ) (d : Declared) → IsSetting L d → (P : List Clause) (q : Query) (y : BranchTyping) (b : Branch) (e : Entry) (es : List Entry) (t u : Term) (k : ℕ) (ts : List Ty) (l r : Term) → b.goals ≡ e ∷ es → e.goal ≡ Atomic t → head_normal n t ≡ Some u → u ≡ two k ts l r → 10 ≤ k → k ≤ 13 → IsTypedBranch n d q y b → StandFor L n d P q (going y b) (compared k (with_goals b es) (evaluate n l) (evaluate n r))
+pub comparisons_stand : {L : Leaves} (n : ℕ) (d : Declared) → IsSetting L d → (P : List Clause) (q : Query) (y : BranchTyping) (b : Branch)
+    (e : Entry) (es : List Entry) (t u : Term) (k : ℕ) (ts : List Ty) (l r : Term) → b.goals ≡ e ∷ es → e.goal ≡ Atomic t → head_normal n t ≡ Some u →
+    u ≡ two k ts l r → 10 ≤ k → k ≤ 13 → IsTypedBranch n d q y b → StandFor L n d P q (going y b)
+    (compared k (with_goals b es) (evaluate n l) (evaluate n r))
 comparisons_stand {L} n d std P q y b e es t u k ts l r g is normal shape low high typed =
     by_first n d q (λ x c. StandFor L n d P q (going x c) (compared k (with_goals b es) (evaluate n l) (evaluate n r))) y b e es g (λ E Es w. compared_here n d std P q y.answer b E Es e es t u is normal w k low high ts l r shape) typed
 
-pub assignments_are_equalities : {L : Leaves} (n : ℕ) (d : Declared) → IsSetting L d → (P : List Clause) (q : Query) (y : BranchTyping) (b : Branch) (e : Entry) (es : List Entry) (t u : Term) (ts : List Ty) (l r : Term) (v : Value) → b.goals ≡ e ∷ es → e.goal ≡ Atomic t → head_normal n t ≡ Some u → u ≡ two 9 ts l r → evaluate n r ≡ Some (Is v) → IsTypedBranch n d q y b → (T : Ty) × (ts ≡ T ∷ []) × SolvesAs L n d P q y b (with_goals b (with_atom e (two 8 (T ∷ []) l (term_of v)) ∷ es))
+pub assignments_are_equalities : {L : Leaves} (n : ℕ) (d : Declared) → IsSetting L d → (P : List Clause) (q : Query) (y : BranchTyping) (b : Branch)
+    (e : Entry) (es : List Entry) (t u : Term) (ts : List Ty) (l r : Term) (v : Value) → b.goals ≡ e ∷ es → e.goal ≡ Atomic t → head_normal n t ≡ Some
+    u → u ≡ two 9 ts l r → evaluate n r ≡ Some (Is v) → IsTypedBranch n d q y b → (T : Ty) × (ts ≡ T ∷ []) × SolvesAs L n d P q y b
+    (with_goals b (with_atom e (two 8 (T ∷ []) l (term_of v)) ∷ es))
 assignments_are_equalities {L} n d std P q y b e es t u ts l r v g is normal shape value typed =
     by_first n d q (λ x c. (T : Ty) × (ts ≡ T ∷ []) × SolvesAs L n d P q x c (with_goals b (with_atom e (two 8 (T ∷ []) l (term_of v)) ∷ es))) y b e es g (λ E Es w. same_as_equality n d std P q y.answer b E Es e es t u is normal w ts l r shape v value) typed

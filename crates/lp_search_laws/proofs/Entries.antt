@@ -262,7 +262,10 @@ assumed_both g h [] = refl
 assumed_both g h (u ∷ us) = ap (λ z. z ++ assumed (g (h u)) ∷ []) (assumed_both g h us)
 
 -- the formulas of an entry, before and behind
-each_pair : (d : Declared) (V W : List Variable) (c z : Closing) (bs : List Binding) (ts : List TypeBinding) → LeadsThrough V c z bs ts → (E D F : List Ty) → ((t : Term) → IsTypedAt d E V ts t → IsFormula d F (closed c t)) → ((t : Term) → IsTyped d D W t o_type → IsFormula d F (closed z t)) → (us : List Term) → EachOf (λ t. IsTypedAt d E V ts t) us → EachOf (λ t. IsTyped d D W t o_type) (map (put_in bs ts) us) →
+each_pair : (d : Declared) (V W : List Variable) (c z : Closing) (bs : List Binding) (ts : List TypeBinding) → LeadsThrough V c z bs ts →
+    (E D F : List Ty) → ((t : Term) → IsTypedAt d E V ts t → IsFormula d F (closed c t)) →
+    ((t : Term) → IsTyped d D W t o_type → IsFormula d F (closed z t)) → (us : List Term) → EachOf (λ t. IsTypedAt d E V ts t) us → EachOf
+    (λ t. IsTyped d D W t o_type) (map (put_in bs ts) us) →
     EachOf (λ t. IsFormula d F (closed c t) × IsFormula d F (closed z (put_in bs ts t)) × Converts (closed c t) (closed z (put_in bs ts t))) us
 each_pair d V W c z bs ts k E D F f g [] a b = tt
 each_pair d V W c z bs ts k E D F f g (u ∷ us) a b = ((f u a.0, g (put_in bs ts u) b.0, term_leads d E V c z bs ts k u a.0), each_pair d V W c z bs ts k E D F f g us a.1 b.1)
@@ -297,7 +300,10 @@ entry_leads {L} d conv V W P c z bs ts k s cl zl E e h h' =
           (converted_all d conv F (λ u. closed z (put_in bs ts u)) (closed c) (closed z t') us qs S (transport (λ X. ProvableBy L d F X (closed z t')) y (transport (λ X. ProvableBy L d X (clauses_at P e'.assumed z) (closed z t')) same_eigens p))))),
     )
 
-pub entries_lead : {L : Leaves} (d : Declared) → ((P : List ClauseFormula) → Converting L d P) → (V W : List Variable) (P : List Clause) (c z : Closing) (bs : List Binding) (ts : List TypeBinding) → LeadsThrough V c z bs ts → AreShut bs → IsMore (variables_of (types_of ts) V) W → AreTypedBindings d W (map (instance_binding (types_of ts)) bs) → Closes d V c → Closes d W z → (Es : List (List Ty)) (es : List Entry) → AreEntriesAt d V ts Es es →
+pub entries_lead : {L : Leaves} (d : Declared) → ((P : List ClauseFormula) → Converting L d P) → (V W : List Variable) (P : List Clause)
+    (c z : Closing) (bs : List Binding) (ts : List TypeBinding) → LeadsThrough V c z bs ts → AreShut bs → IsMore (variables_of (types_of ts) V) W →
+    AreTypedBindings d W (map (instance_binding (types_of ts)) bs) → Closes d V c → Closes d W z → (Es : List (List Ty)) (es : List Entry) →
+    AreEntriesAt d V ts Es es →
     (AreProved L d P c Es es → AreProved L d P z (eigens_of (types_of ts) Es) (behind bs ts es)) × (AreProved L d P z (eigens_of (types_of ts) Es) (behind bs ts es) → AreProved L d P c Es es)
 entries_lead {L} d conv V W P c z bs ts k s m b cl zl [] [] h = ((λ p. transport (AreProved L d P z []) (sym (behind_none bs ts)) tt), (λ p. tt))
 entries_lead {L} d conv V W P c z bs ts k s m b cl zl [] (e ∷ es) h = absurd h

@@ -17,11 +17,16 @@ use Rattle.lp_unify_laws.proofs.Principal.{closings_are_the_same}
 use Rattle.lp_calculus.specs.Instance.{instance_term}
 use Rattle.lp_search_laws.proofs.Connectives.{equal_holds}
 
-pub refused_equalities : {L : Leaves} (d : Declared) → IsSetting L d → (V : List Variable) (E : List Ty) (P : List ClauseFormula) (n limit k : ℕ) (T : Ty) (l r : Term) (ds : List Pair) (c : Closing) → IsTypedInput c.types d (closed_variables c V) [] (equation l r k) ds → solve n limit [] (equation l r k) ds (length V) ≡ Some Fail → Closes d V c → SolvesAll c ds → IsFormula d E (closed c (two 8 (T ∷ []) l r)) → Holds L d E P c (two 8 (T ∷ []) l r) → ⊥
+pub refused_equalities : {L : Leaves} (d : Declared) → IsSetting L d → (V : List Variable) (E : List Ty) (P : List ClauseFormula) (n limit k : ℕ)
+    (T : Ty) (l r : Term) (ds : List Pair) (c : Closing) → IsTypedInput c.types d (closed_variables c V) [] (equation l r k) ds → solve n limit []
+    (equation l r k) ds (length V) ≡ Some Fail → Closes d V c → SolvesAll c ds → IsFormula d E (closed c (two 8 (T ∷ []) l r)) → Holds L d E P c
+    (two 8 (T ∷ []) l r) → ⊥
 refused_equalities {L} d std V E P n limit k T l r ds c i e h s f p =
     closings_have_none d V n limit [] (equation l r k) ds c i e (record { closes = h; types = tt; pairs = ((equal_holds d std E P c T l r f).0 p, tt); delayed = s })
 
-pub equalities_are_solved : {L : Leaves} (d : Declared) → IsSetting L d → (V : List Variable) (E : List Ty) (P : List ClauseFormula) (n limit k : ℕ) (T : Ty) (l r : Term) (ds : List Pair) (s : State) (θ : ℕ → Ty) → IsTypedInput θ d V [] (equation l r k) ds → solve n limit [] (equation l r k) ds (length V) ≡ Some (Solution s) → AreStuck n ds → Satisfies θ s.types → EqualityHolds L θ d V E P T l r ds s
+pub equalities_are_solved : {L : Leaves} (d : Declared) → IsSetting L d → (V : List Variable) (E : List Ty) (P : List ClauseFormula) (n limit k : ℕ)
+    (T : Ty) (l r : Term) (ds : List Pair) (s : State) (θ : ℕ → Ty) → IsTypedInput θ d V [] (equation l r k) ds → solve n limit [] (equation l r k) ds
+    (length V) ≡ Some (Solution s) → AreStuck n ds → Satisfies θ s.types → EqualityHolds L θ d V E P T l r ds s
 equalities_are_solved {L} d std V E P n limit k T l r ds s θ i e q m =
     let h = closings_are_the_same d V n limit [] (equation l r k) ds s θ i e q m in
     record {

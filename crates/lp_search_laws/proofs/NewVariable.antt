@@ -198,7 +198,9 @@ module _ (n : ℕ) (d : Declared) (P : List Clause) (q : Query) (z : AnswerTypin
   abbrev pub Splits : Leaves → Term → List (List Ty) → List Entry → Type 0
   Splits L B Fs fs = (c : Closing) → Closes d (z.variables ++ record { type = T; scope = E } ∷ []) c → (Holds L d (map (instance c.types) E) (clauses_at P e.assumed c) c B → AreProved L d P c Fs fs) × (AreProved L d P c Fs fs → Holds L d (map (instance c.types) E) (clauses_at P e.assumed c) c B)
 
-  pub stands_new : {L : Leaves} (B : Term) (Fs : List (List Ty)) (fs : List Entry) → MayStand d (z.variables ++ record { type = T; scope = E } ∷ []) b.next_type Fs fs → IsPut n e.goal E z.variables (z.variables ++ record { type = T; scope = E } ∷ []) fs Fs → Says L B → Splits L B Fs fs → StandFor L n d P q (going (Typings n d P q z b E Es e es (E ∷ Es)) (with_goals b (e ∷ es))) (Go (wider_branch (fs ++ es)) ∷ [])
+  pub stands_new : {L : Leaves} (B : Term) (Fs : List (List Ty)) (fs : List Entry) → MayStand d (z.variables ++ record { type = T; scope = E } ∷ [])
+      b.next_type Fs fs → IsPut n e.goal E z.variables (z.variables ++ record { type = T; scope = E } ∷ []) fs Fs → Says L B → Splits L B Fs fs →
+      StandFor L n d P q (going (Typings n d P q z b E Es e es (E ∷ Es)) (with_goals b (e ∷ es))) (Go (wider_branch (fs ++ es)) ∷ [])
   stands_new {L} B Fs fs m x says splits = record {
     typed = going (wider_typing (Fs ++ Es)) (wider_branch (fs ++ es)) ∷ [];
     is = refl;

@@ -142,7 +142,10 @@ module _ {L : Leaves} (d : Declared) (std : IsSetting L d) where
       let y = flattened x.0 d D cs x.3 in
       transport (Serves L d [] (D ∷ F)) (sym (ap (map sentence_of) x.5 ∙ map-append sentence_of (clause_list cs) R)) (record { at = go x.0 cs R y rest })
     where
-      go : (n : ℕ) (cs : Clauses) (R : List Clause) → IsFlattened n d D cs → Serves L d [] F (map sentence_of R) → (i : ℕ) (K : ClauseFormula) → slice_get (D ∷ F) i ≡ Some K → (ts : List Ty) → length ts ≡ K.type_vars → AreClosed ts → (G : List Ty) → Extends [] G → (Q : List ClauseFormula) (A : Term) → IsAtomHead (head_of A) → FocusableBy L d G Q (instance_term (type_at ts) K.formula) A → Served L d G Q (map sentence_of (clause_list cs) ++ map sentence_of R) A
+      go : (n : ℕ) (cs : Clauses) (R : List Clause) → IsFlattened n d D cs → Serves L d [] F (map sentence_of R) → (i : ℕ) (K : ClauseFormula) →
+          slice_get (D ∷ F) i ≡ Some K → (ts : List Ty) → length ts ≡ K.type_vars → AreClosed ts → (G : List Ty) → Extends [] G →
+          (Q : List ClauseFormula) (A : Term) → IsAtomHead (head_of A) → FocusableBy L d G Q (instance_term (type_at ts) K.formula) A → Served L d G Q
+          (map sentence_of (clause_list cs) ++ map sentence_of R) A
       go n cs R y rest zero K e ts l k G g Q A h r =
           let q : K ≡ D = cc in
           served_in_front d G Q (map sentence_of (clause_list cs)) (map sentence_of R) A (serving_clause d std n D cs y s.0 ts (l ∙ ap (λ w. w.type_vars) q) k G Q A h (transport (λ w. FocusableBy L d G Q (instance_term (type_at ts) w.formula) A) q r))

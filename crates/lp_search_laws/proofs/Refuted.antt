@@ -67,7 +67,10 @@ module _ (P : List Clause) (start : Task) (n looks j rows k p : ℕ) (ns : List 
   pub taken_within : (run (look units looks P) j j (starts_within limit start limit 1)).steps ≡ k
   taken_within = ap (λ (t : Told Answer). t.steps) same ∙ refuted_steps (look unit_limit looks P) is_final j (starts_within rows start n 1) k p ns r
 
-module _ (d : Declared) (F : List ClauseFormula) (P : List Clause) (flat : AreFlattened d F P) (E : List Ty) (V : List Variable) (next_type : ℕ) (below : (x : ℕ) (v : Variable) → slice_get V x ≡ Some v → IsVariableBelow next_type v) (G : Term) (gs : Goals) (stands : StandsForGoal d E V next_type G gs) (Ds : List ClauseFormula) (css : List Clauses) (assumed : StandForClauses d E V next_type Ds css) where
+module _ (d : Declared) (F : List ClauseFormula) (P : List Clause) (flat : AreFlattened d F P) (E : List Ty) (V : List Variable) (next_type : ℕ)
+    (below : (x : ℕ) (v : Variable) → slice_get V x ≡ Some v → IsVariableBelow next_type v) (G : Term) (gs : Goals)
+    (stands : StandsForGoal d E V next_type G gs) (Ds : List ClauseFormula) (css : List Clauses) (assumed : StandForClauses d E V next_type Ds css)
+    where
   module _ (w : Written) (n looks j rows k p : ℕ) (ns : List Note) (is_final : Answer → Bool) (r : inner (look unit_limit looks P) j is_final (starts_within rows (denied_task (length V) next_type gs (newest_first css) w (length E)) n 1) ≡ Refuted k ns p) where
     leaf : Failure
     leaf = record { limit = bound n rows; looks = looks; moves = j; variables = V; next_type = next_type; goals = gs; assumed = css; written = w; program = P }

@@ -94,7 +94,10 @@ assumed_put : (k : ℕ) (c z : Closing) (bs : List Binding) (ts : List TypeBindi
 assumed_put k c z bs ts f [] w = tt
 assumed_put k c z bs ts f (x ∷ A) w = (f (formula_of_clause x) (clause_below k [] x w.0.1), assumed_put k c z bs ts f A w.1)
 
-behind_agree : (k : ℕ) (c z : Closing) (bs : List Binding) (ts : List TypeBinding) → AreShut bs → ((E : List Ty) → AreTypesBelow k E → map (instance c.types) (map (instance (types_of ts)) E) ≡ map (instance z.types) (map (instance (types_of ts)) E)) → ((t : Term) → IsBelow k t → IsSame c z (put_in bs ts t)) → (Es : List (List Ty)) (es : List Entry) → ArePlainEntries k Es es → AreSame c z (eigens_of (types_of ts) Es) (behind bs ts es)
+behind_agree : (k : ℕ) (c z : Closing) (bs : List Binding) (ts : List TypeBinding) → AreShut bs →
+    ((E : List Ty) → AreTypesBelow k E → map (instance c.types) (map (instance (types_of ts)) E) ≡ map (instance z.types)
+    (map (instance (types_of ts)) E)) → ((t : Term) → IsBelow k t → IsSame c z (put_in bs ts t)) → (Es : List (List Ty)) (es : List Entry) →
+    ArePlainEntries k Es es → AreSame c z (eigens_of (types_of ts) Es) (behind bs ts es)
 behind_agree k c z bs ts s a f [] [] w = transport (AreSame c z []) (sym (behind_none bs ts)) tt
 behind_agree k c z bs ts s a f [] (e ∷ es) w = absurd w
 behind_agree k c z bs ts s a f (E ∷ Es) [] w = absurd w
@@ -397,7 +400,10 @@ with_typed n d q y b eqs h = record {
 not_done : Deep ≢ NoMore
 not_done e = absurd (cc)
 
-pub follows : {L : Leaves} (n : ℕ) (d : Declared) → IsSetting L d → (P : List Clause) (q : Query) (y : BranchTyping) (b : Branch) (eqs : List TypePair) (ps : List Pair) → IsBranchWith n d q eqs y b → ((θ : ℕ → Ty) → Unifies θ eqs → HaveTypings d (variables_of θ y.answer.variables) (at_types θ ps)) → EachOf (λ x. IsTypeBelow b.next_type x.left × IsTypeBelow b.next_type x.right) eqs → EachOf (IsPlainPair b.next_type) ps →
+pub follows : {L : Leaves} (n : ℕ) (d : Declared) → IsSetting L d → (P : List Clause) (q : Query) (y : BranchTyping) (b : Branch)
+    (eqs : List TypePair) (ps : List Pair) → IsBranchWith n d q eqs y b → ((θ : ℕ → Ty) → Unifies θ eqs → HaveTypings d
+    (variables_of θ y.answer.variables) (at_types θ ps)) → EachOf (λ x. IsTypeBelow b.next_type x.left × IsTypeBelow b.next_type x.right) eqs → EachOf
+    (IsPlainPair b.next_type) ps →
     (T : TypedTask) → ((i : Instance) → Sol L d P q i T → SolvesWith L d P q i y b eqs ps) → ((i : Instance) → SolvesWith L d P q i y b eqs ps → Sol L d P q i T) → ((y' : BranchTyping) (b' : Branch) → IsLeftBehind n d y b y' b' → IsTypedFrom n d T (going y' b')) → StandFor L n d P q T (follow b (solve n unit_limit eqs ps b.pairs b.next))
 follows {L} n d std P q y b eqs ps h input pe pp T on back tell = go (solve n unit_limit eqs ps b.pairs b.next) refl
   where

@@ -198,7 +198,9 @@ value_behind d V W bs ts m b t T h p =
     let r = term_behind d V W [] bs ts m b t T (record { typed = h.typed; scoped = value_scoped d V t T h.typed h.outermost }) in
     record { typed = r.typed; outermost = scoped_value d W (put_in bs ts t) (instance (types_of ts) T) r.typed r.scoped; positive = p }
 
-values_behind : (d : Declared) (V W : List Variable) (bs : List Binding) (ts : List TypeBinding) → IsMore (variables_of (types_of ts) V) W → AreTypedBindings d W (map (instance_binding (types_of ts)) bs) → (us : List Term) (Ts : List Ty) → AreTypedValues d V us Ts → (k : ℕ) → EachOf (IsPlainTerm k) (map (put_in bs ts) us) → AreTypedValues d W (map (put_in bs ts) us) (map (instance (types_of ts)) Ts)
+values_behind : (d : Declared) (V W : List Variable) (bs : List Binding) (ts : List TypeBinding) → IsMore (variables_of (types_of ts) V) W →
+    AreTypedBindings d W (map (instance_binding (types_of ts)) bs) → (us : List Term) (Ts : List Ty) → AreTypedValues d V us Ts → (k : ℕ) → EachOf
+    (IsPlainTerm k) (map (put_in bs ts) us) → AreTypedValues d W (map (put_in bs ts) us) (map (instance (types_of ts)) Ts)
 values_behind d V W bs ts m b [] [] h k p = tt
 values_behind d V W bs ts m b [] (T ∷ Ts) h k p = absurd h
 values_behind d V W bs ts m b (u ∷ us) [] h k p = absurd h
@@ -255,7 +257,9 @@ entries_plain k bs ts pb pt (E ∷ Es) (e ∷ es) h =
 abbrev pub typing_behind : (k : ℕ) (ts : List TypeBinding) → BranchTyping → (W : List Variable) → List PairTyping → BranchTyping
 typing_behind k ts y W qs = record { answer = record { variables = variables_of (χ k ts) W; pairs = qs }; eigens = eigens_of (types_of ts) y.eigens }
 
-pub resumed_typed : (n : ℕ) (d : Declared) (q : Query) (y : BranchTyping) (b : Branch) (s : State) (W : List Variable) → (eqs : List TypePair) → IsBranchWith n d q eqs y b → Unifies (types_of s.types) eqs → AreMade b.next_type s.types → ArePlainBindings b.next_type s.bindings → EachOf (IsPlainPair b.next_type) s.delayed → AreStuck n s.delayed → IsMore (variables_of (types_of s.types) y.answer.variables) W → length W ≡ s.next →
+pub resumed_typed : (n : ℕ) (d : Declared) (q : Query) (y : BranchTyping) (b : Branch) (s : State) (W : List Variable) → (eqs : List TypePair) →
+    IsBranchWith n d q eqs y b → Unifies (types_of s.types) eqs → AreMade b.next_type s.types → ArePlainBindings b.next_type s.bindings → EachOf
+    (IsPlainPair b.next_type) s.delayed → AreStuck n s.delayed → IsMore (variables_of (types_of s.types) y.answer.variables) W → length W ≡ s.next →
     AreTypedBindings d W (map (instance_binding (types_of s.types)) s.bindings) → (r : HaveTypings d (variables_of (χ b.next_type s.types) W) s.delayed) → IsTypedBranch n d q (typing_behind b.next_type s.types y W r.0) (resume b s)
 resumed_typed n d q y b s W eqs h u m pb pp st mo len tb r =
     let k = b.next_type in

@@ -149,7 +149,10 @@ module _ (n : ℕ) (d : Declared) (P : List Clause) (q : Query) (L : Leaves) (j 
         abbrev rest : List Task
         rest = map task_of Rest
 
-        denied_right : (u : Task) (f : Answer → Bool) (ts : List Task) (r : DeniesTyped L n d P q T u f ts) → ((a : TypedAnswer) → IsGivenFrom n d P (going r.rest_typing r.rest) a → IsGivenFrom n d P T a) → Denied u → EachOf Kept ts → (m k g rows : ℕ) (x : Inner) → inner (look unit_limit n P) j f (starts_within rows u m 1) ≡ x → RightRun lost (T ∷ Rest) (told_after go (move_denied m k g rows lost ts rest x))
+        denied_right : (u : Task) (f : Answer → Bool) (ts : List Task) (r : DeniesTyped L n d P q T u f ts) →
+            ((a : TypedAnswer) → IsGivenFrom n d P (going r.rest_typing r.rest) a → IsGivenFrom n d P T a) → Denied u → EachOf Kept ts →
+            (m k g rows : ℕ) (x : Inner) → inner (look unit_limit n P) j f (starts_within rows u m 1) ≡ x → RightRun lost (T ∷ Rest)
+            (told_after go (move_denied m k g rows lost ts rest x))
         denied_right u f ts r v a b m k g rows (Refuted c ns p) e =
             let Us = going r.rest_typing r.rest ∷ [] in
             let w : map task_of Us ≡ ts = sym r.goes_on in

@@ -147,6 +147,9 @@ module _ (n m : ℕ) (more : n ≤ m) where
 
   pub view_same : (P : List Clause) (height : ℕ) (t : Task) → HasEnough n t → look unit_limit m P height t ≡ look unit_limit n P height t
   view_same P height (Go b) f = branch_same P height b b.goals refl f
-  view_same P height (Try (clause k vs h body) t e b mark) f = opens_same P height k vs h body t e b mark (found_same (solve n unit_limit (type_pairs (head_of t) (head_of (instance_term (renewed k b.next_type) h))) (pairs_of (slotted (slots_of [] (arguments (instance_term (renewed k b.next_type) h)) (arguments t)) b.next e.level) e.level [] (arguments (instance_term (renewed k b.next_type) h)) (arguments t)) b.pairs (b.next + length vs)) _ (solve_more n m more unit_limit _ _ _ _) f)
+  view_same P height (Try (clause k vs h body) t e b mark) f = opens_same P height k vs h body t e b mark
+      (found_same (solve n unit_limit (type_pairs (head_of t) (head_of (instance_term (renewed k b.next_type) h)))
+      (pairs_of (slotted (slots_of [] (arguments (instance_term (renewed k b.next_type) h)) (arguments t)) b.next e.level) e.level []
+      (arguments (instance_term (renewed k b.next_type) h)) (arguments t)) b.pairs (b.next + length vs)) _ (solve_more n m more unit_limit _ _ _ _) f)
   view_same P height (Stop e) f = refl
   view_same P height Lack f = refl

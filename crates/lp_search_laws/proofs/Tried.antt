@@ -187,7 +187,10 @@ module _ {L : Leaves} (n height : ℕ) (d : Declared) (std : IsSetting L d) (P :
   }
 
 -- a branch by its first goal
-pub atoms_are_tried : {L : Leaves} (n height : ℕ) (d : Declared) → IsSetting L d → (P : List Clause) → EachOf (IsProgramTyped d) P → (q : Query) (y : BranchTyping) (b : Branch) (e : Entry) (es : List Entry) (t u : Term) → b.goals ≡ e ∷ es → e.goal ≡ Atomic t → head_normal n t ≡ Some u → IsAtomHead (head_of u) → IsTypedBranch n d q y b → StandFor L n d P q (going y b) (tries P u e (with_goals b es) height (goal_key n (arguments u)))
+pub atoms_are_tried : {L : Leaves} (n height : ℕ) (d : Declared) → IsSetting L d → (P : List Clause) → EachOf (IsProgramTyped d) P → (q : Query)
+    (y : BranchTyping) (b : Branch) (e : Entry) (es : List Entry) (t u : Term) → b.goals ≡ e ∷ es → e.goal ≡ Atomic t → head_normal n t ≡ Some u →
+    IsAtomHead (head_of u) → IsTypedBranch n d q y b → StandFor L n d P q (going y b)
+    (tries P u e (with_goals b es) height (goal_key n (arguments u)))
 atoms_are_tried {L} n height d std P program q y b e es t u g is normal at_atom typed = go y.eigens refl
   where
     same_branch : b ≡ with_goals b (e ∷ es)

@@ -37,7 +37,10 @@ list_tree old mid is js v x t u w e g b l f h =
     let b' = subst (AreItemsBelow (length old)) (sym e) (items_push (length old) is (v, x) b l) in
     h ∙ (λ k. wrap (done_kept old mid js g b' k) (f k)) ∙ ap (λ d. wrap d w) (ap (done_of (trees old)) e ∙ done_push (trees old) is (v, x))
 
-pub bar_steps : (old : List Node) (hs hs' : List Held) (v : ℕ) (fn : Option ℕ) (done done' : Items) (x : ℕ) → done'.items ≡ done.items ++ (v, x) ∷ [] → hs' ≡ hs ++ held.Tail fn done' ∷ [] → EachBelow (length old) hs → IsMaybeBelow (length old) fn → AreItemsBelow (length old) done.items → x < length old → Steps old old hs' (step.Goes doing.Wants) (close (Item v (maybe (trees old) fn) (done_of (trees old) done.items) ∷ frames_of (trees old) hs) (at (trees old) x) Bar)
+pub bar_steps : (old : List Node) (hs hs' : List Held) (v : ℕ) (fn : Option ℕ) (done done' : Items) (x : ℕ) → done'.items ≡ done.items ++ (v, x) ∷ []
+    → hs' ≡ hs ++ held.Tail fn done' ∷ [] → EachBelow (length old) hs → IsMaybeBelow (length old) fn → AreItemsBelow (length old) done.items → x <
+    length old → Steps old old hs' (step.Goes doing.Wants) (close (Item v (maybe (trees old) fn) (done_of (trees old) done.items) ∷ frames_of
+    (trees old) hs) (at (trees old) x) Bar)
 bar_steps old hs hs' v fn done done' x d q e f b l = record {
   is = ap (λ k. Goes (st (frames_of (trees old) k) Wants)) q ∙ ap (λ fs. Goes (st fs Wants)) (frames_push (trees old) hs (held.Tail fn done')) ∙ ap (λ is. Goes (st (Tail (maybe (trees old) fn) is ∷ frames_of (trees old) hs) Wants)) (ap (done_of (trees old)) d ∙ done_push (trees old) done.items (v, x));
   grows = grows_none old;
@@ -47,7 +50,10 @@ bar_steps old hs hs' v fn done done' x d q e f b l = record {
 pub close_top : (ts : List Tree) (ks hs : List Held) (h : Held) (t : Tree) (c : Sym) (m : Move) → ks ≡ hs ++ h ∷ [] → close (frames_of ts ks) t c ≡ m → close (frame_of ts h ∷ frames_of ts hs) t c ≡ m
 close_top ts ks hs h t c m e s = ap (λ fs. close fs t c) (sym (ap (frames_of ts) e ∙ frames_push ts hs h)) ∙ s
 
-pub waits_closed : (now new : List Node) (ks hs : List Held) (h : Held) (x x' : ℕ) (c : Sym) (m : Move) (u : Tree) → ks ≡ hs ++ h ∷ [] → Grows now new → EachBelow (length now) hs → at (trees new) x' ≡ u → close (frame_of (trees now) h ∷ frames_of (trees now) hs) (at (trees now) x) c ≡ close (frames_of (trees now) hs) u c → close (frames_of (trees now) ks) (at (trees now) x) c ≡ m → close (frames_of (trees new) hs) (at (trees new) x') c ≡ m
+pub waits_closed : (now new : List Node) (ks hs : List Held) (h : Held) (x x' : ℕ) (c : Sym) (m : Move) (u : Tree) → ks ≡ hs ++ h ∷ [] → Grows now new
+    → EachBelow (length now) hs → at (trees new) x' ≡ u → close (frame_of (trees now) h ∷ frames_of (trees now) hs) (at (trees now) x) c ≡ close
+    (frames_of (trees now) hs) u c → close (frames_of (trees now) ks) (at (trees now) x) c ≡ m → close (frames_of (trees new) hs) (at (trees new) x')
+    c ≡ m
 waits_closed now new ks hs h x x' c m u e g b t k s = (λ i. close (frames_kept now new hs g b i) (t i) c) ∙ sym k ∙ close_top (trees now) ks hs h (at (trees now) x) c m e s
 
 pub closes_with : (old now new : List Node) (ks hs hs'' : List Held) (h : Held) (x : ℕ) (c : Sym) (m : Move) → Grows old now → ks ≡ hs ++ h ∷ [] → close (frames_of (trees now) ks) (at (trees now) x) c ≡ m → {E : Type 0} → (r : Result Step E) → IfOk r (λ s. Steps now new hs'' s (close (frame_of (trees now) h ∷ frames_of (trees now) hs) (at (trees now) x) c)) → IfOk r (λ s. Steps old new hs'' s m)

@@ -68,7 +68,9 @@ below_front : (n : ℕ) (xs : List ℕ) (a : ℕ) → AreBelow n (xs ++ a ∷ []
 below_front n [] a h = (tt, h.0)
 below_front n (x ∷ xs) a h = let r = below_front n xs a h.1 in ((h.0, r.0), r.1)
 
-pub argument_depth : (spot : ℕ → Spot) (nodes : List RawTypeNode) (ds : List ℕ) (w d a : ℕ) (xs ys : List ℕ) (t : TypeTree) → AreTypeDepths nodes ds → AreBelow (length ds) ys → ys ≡ xs ++ a ∷ [] → ((u : TypeTree) → AreBelow (length ds) xs → ShowsType spot nodes (OnNodes w xs) u → d ≡ counted (type_depth u)) → ShowsType spot nodes (OnNodes w ys) t → max d (min (get_or ds a 0 + 1) (2 ^ 64 - 1)) ≡ counted (type_depth t)
+pub argument_depth : (spot : ℕ → Spot) (nodes : List RawTypeNode) (ds : List ℕ) (w d a : ℕ) (xs ys : List ℕ) (t : TypeTree) → AreTypeDepths nodes ds →
+    AreBelow (length ds) ys → ys ≡ xs ++ a ∷ [] → ((u : TypeTree) → AreBelow (length ds) xs → ShowsType spot nodes (OnNodes w xs) u → d ≡ counted
+    (type_depth u)) → ShowsType spot nodes (OnNodes w ys) t → max d (min (get_or ds a 0 + 1) (2 ^ 64 - 1)) ≡ counted (type_depth t)
 argument_depth spot nodes ds w d a xs ys t h b e k (on_none _ _ f) = absurd (snoc_some xs a (sym f ∙ e))
 argument_depth spot nodes ds w d a xs ys t h b e k (on_more _ c zs _ u v f p q) =
     let r = same_from_push zs xs c a (sym f ∙ e) in
@@ -243,6 +245,9 @@ head_depth spot ls nodes i t n node e (abs_node _ x v y ann b f l w p) = ap (λ 
 pub head_is : (spot : ℕ → Spot) (ls : List Lexeme) (nodes : List RawNode) (i : ℕ) (node : RawNode) (b c : Bool) → slice_get nodes i ≡ Some node → b ≡ binds node → b ≡ c → (t : Tree) → Shows spot ls nodes i t → (n : ℕ) → as_head t n ≡ (if c then n + 1 else n)
 head_is spot ls nodes i node b c e f g t s n = head_depth spot ls nodes i t n node e s ∙ ap (λ z. if z then n + 1 else n) (sym f ∙ g)
 
-pub abstraction_told : {E : Type 0} (r : Result ℕ E) (nodes : List RawNode) (ds : List ℕ) (node : RawNode) (s : Spot) (ann : Option RawType) (x : ℕ) → node ≡ raw.Abs s ann x → IfOk r (λ d. (n : ℕ) × IsNoteDepth ann n × (d ≡ counted (max (get_or ds x 0) n + 1))) → IfOk r (λ d. (spot : ℕ → Spot) (ls : List Lexeme) (i : ℕ) (t : Tree) → AreDepths nodes ds → i ≡ length ds → slice_get nodes i ≡ Some node → Shows spot ls nodes i t → IsDepth ls t d)
+pub abstraction_told : {E : Type 0} (r : Result ℕ E) (nodes : List RawNode) (ds : List ℕ) (node : RawNode) (s : Spot) (ann : Option RawType) (x : ℕ) →
+    node ≡ raw.Abs s ann x → IfOk r (λ d. (n : ℕ) × IsNoteDepth ann n × (d ≡ counted (max (get_or ds x 0) n + 1))) → IfOk r
+    (λ d. (spot : ℕ → Spot) (ls : List Lexeme) (i : ℕ) (t : Tree) → AreDepths nodes ds → i ≡ length ds → slice_get nodes i ≡ Some node → Shows spot ls
+    nodes i t → IsDepth ls t d)
 abstraction_told (Ok d) nodes ds node s ann x is k = λ spot ls i t h m e q. abstraction_count spot ls nodes ds i x d k.0 s ann t h (e ∙ ap Some is) m k.1 k.2 q
 abstraction_told (Err f) nodes ds node s ann x is k = tt

@@ -11,7 +11,10 @@ use Rattle.lp_syntax.proofs.Arena.{grows_on}
 use Rattle.lp_syntax.proofs.Views.{frames_kept}
 use Rattle.lp_syntax.proofs.Stepping.{on_top}
 
-pub waits_finished : (now new : List Node) (ks hs : List Held) (h : Held) (x x' : ℕ) (m : Option Tree) (u : Tree) → ks ≡ hs ++ h ∷ [] → Grows now new → EachBelow (length now) hs → at (trees new) x' ≡ u → finish (frame_of (trees now) h ∷ frames_of (trees now) hs) (at (trees now) x) ≡ finish (frames_of (trees now) hs) u → finish (frames_of (trees now) ks) (at (trees now) x) ≡ m → finish (frames_of (trees new) hs) (at (trees new) x') ≡ m
+pub waits_finished : (now new : List Node) (ks hs : List Held) (h : Held) (x x' : ℕ) (m : Option Tree) (u : Tree) → ks ≡ hs ++ h ∷ [] → Grows now new
+    → EachBelow (length now) hs → at (trees new) x' ≡ u → finish (frame_of (trees now) h ∷ frames_of (trees now) hs) (at (trees now) x) ≡ finish
+    (frames_of (trees now) hs) u → finish (frames_of (trees now) ks) (at (trees now) x) ≡ m → finish (frames_of (trees new) hs) (at (trees new) x') ≡
+    m
 waits_finished now new ks hs h x x' m u e g b t k s =
     (λ i. finish (frames_kept now new hs g b i) (t i)) ∙ sym k ∙ on_top (λ fs. finish fs (at (trees now) x)) (trees now) ks hs h e ∙ s
 

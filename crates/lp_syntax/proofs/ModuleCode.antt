@@ -189,7 +189,9 @@ said_more spot ls [] d (x ∷ ss) s a h = absurd a
 said_more spot ls (c ∷ ds) d [] s a h = absurd a
 said_more spot ls (c ∷ ds) d (x ∷ ss) s a h = (a.0, said_more spot ls ds d ss s a.1 h)
 
-pub one_more_said : (file : ℕ) (source : List ℕ) (ts : List Token) (ops now after : Operators) (i j : ℕ) (ds es : List Sentence) (d : Sentence) → SentencesRead (spot_at file source ts) (lexemes source ts) ops now i ds → IsSentenceText (spot_at file source ts) now (lexemes source ts) i j d → SentenceFollows source d now after → es ≡ ds ++ d ∷ [] → SentencesRead (spot_at file source ts) (lexemes source ts) ops after j es
+pub one_more_said : (file : ℕ) (source : List ℕ) (ts : List Token) (ops now after : Operators) (i j : ℕ) (ds es : List Sentence) (d : Sentence) →
+    SentencesRead (spot_at file source ts) (lexemes source ts) ops now i ds → IsSentenceText (spot_at file source ts) now (lexemes source ts) i j d →
+    SentenceFollows source d now after → es ≡ ds ++ d ∷ [] → SentencesRead (spot_at file source ts) (lexemes source ts) ops after j es
 one_more_said file source ts ops now after i j ds es d r t p e = record {
   before = r.before ++ t.clause ∷ [];
   sentences = one_sentence now after i j r.before (r.before ++ t.clause ∷ []) t.clause r.sentences t.is (follows file source ts t.clause d now after t.said p) refl;
@@ -251,7 +253,10 @@ line_refuses file source ts (AccumulateLine ns) (Fixities ss k n) now f h p = ab
 line_refuses file source ts (AccumSigLine ns) (Fixities ss k n) now f h p = absurd h
 line_refuses file source ts (FixityLine ns g m) (Fixities ss k n) now f h p = operator_fault file source ts ns ss.items g m now f h.0 (subst (λ x. NameFault source ss.items x now f) (λ i. (h.1 i, h.2 i)) p)
 
-pub operator_refused : (file : ℕ) (source : List ℕ) (ts : List Token) (ops now : Operators) (i j : ℕ) (ds : List Sentence) (d : Sentence) (f : SyntaxFault) → IsHeader (lexemes source ts) keyword.Module → SentencesRead (spot_at file source ts) (lexemes source ts) ops now i ds → i < length (lexemes source ts) → IsSentenceText (spot_at file source ts) now (lexemes source ts) i j d → MemoryOr f (SentenceRefuses source d now f) → IsModuleRefusal (spot_at file source ts) ops (lexemes source ts) f
+pub operator_refused : (file : ℕ) (source : List ℕ) (ts : List Token) (ops now : Operators) (i j : ℕ) (ds : List Sentence) (d : Sentence)
+    (f : SyntaxFault) → IsHeader (lexemes source ts) keyword.Module → SentencesRead (spot_at file source ts) (lexemes source ts) ops now i ds → i <
+    length (lexemes source ts) → IsSentenceText (spot_at file source ts) now (lexemes source ts) i j d → MemoryOr f (SentenceRefuses source d now f) →
+    IsModuleRefusal (spot_at file source ts) ops (lexemes source ts) f
 operator_refused file source ts ops now i j ds d f h r l t (inl m) = inl m
 operator_refused file source ts ops now i j ds d f h r l t (inr x) = inr (inr (record { header = h; at = i; now = now; before = r.before; sentences = r.sentences; fit = r.fit; there = l; refuses = inr (go t.clause d t.is t.said x) }))
   where

@@ -112,7 +112,9 @@ two_parts : {A : Type 0} {a b c d : List A} → a ≡ b → c ≡ d → a ++ c �
 two_parts e f = λ i. e i ++ f i
 
 -- one more of them
-pub one_more_refers : (spot : ℕ → Spot) (ls : List Lexeme) (i j : ℕ) (d : Declaration) (old new : References) → AreReferences spot ls i old → IsReferenceAt spot ls i (Some d) → NextSentence ls i j → new.accumulate.items ≡ old.accumulate.items ++ words_in d → new.accum_sig.items ≡ old.accum_sig.items ++ sig_words_in d → new.fixities.items ≡ old.fixities.items ++ entries_in d → AreReferences spot ls j new
+pub one_more_refers : (spot : ℕ → Spot) (ls : List Lexeme) (i j : ℕ) (d : Declaration) (old new : References) → AreReferences spot ls i old →
+    IsReferenceAt spot ls i (Some d) → NextSentence ls i j → new.accumulate.items ≡ old.accumulate.items ++ words_in d → new.accum_sig.items ≡
+    old.accum_sig.items ++ sig_words_in d → new.fixities.items ≡ old.fixities.items ++ entries_in d → AreReferences spot ls j new
 one_more_refers spot ls i j d old new a h n e f g =
     let l = h.1 in
     let s = says spot l d h.3 h.4 in
@@ -130,6 +132,9 @@ none_more_refers spot ls i j found a h n = record { lines = a.lines; refer = non
 pub none_found : (spot : ℕ → Spot) (ls : List Lexeme) (found : References) → found.accumulate.items ≡ [] → found.accum_sig.items ≡ [] → found.fixities.items ≡ [] → AreReferences spot ls 0 found
 none_found spot ls found e f g = record { lines = []; refer = none_yet; accumulate = e; accum_sig = f; fixities = g }
 
-pub added : {E : Type 0} (spot : ℕ → Spot) (ls : List Lexeme) (i : ℕ) (d : Declaration) (old new : References) (r : Result (Unit {0}) E) → IsReferenceAt spot ls i (Some d) → OnOk r (new.accumulate.items ≡ old.accumulate.items ++ words_in d) → OnOk r (new.accum_sig.items ≡ old.accum_sig.items ++ sig_words_in d) → OnOk r (new.fixities.items ≡ old.fixities.items ++ entries_in d) → OnOk r ((j : ℕ) → NextSentence ls i j → AreReferences spot ls i old → AreReferences spot ls j new)
+pub added : {E : Type 0} (spot : ℕ → Spot) (ls : List Lexeme) (i : ℕ) (d : Declaration) (old new : References) (r : Result (Unit {0}) E) →
+    IsReferenceAt spot ls i (Some d) → OnOk r (new.accumulate.items ≡ old.accumulate.items ++ words_in d) → OnOk r
+    (new.accum_sig.items ≡ old.accum_sig.items ++ sig_words_in d) → OnOk r (new.fixities.items ≡ old.fixities.items ++ entries_in d) → OnOk r
+    ((j : ℕ) → NextSentence ls i j → AreReferences spot ls i old → AreReferences spot ls j new)
 added spot ls i d old new (Ok x) h e f g = λ j n a. one_more_refers spot ls i j d old new a h n e f g
 added spot ls i d old new (Err x) h e f g = tt

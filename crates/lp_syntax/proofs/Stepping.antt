@@ -50,7 +50,10 @@ whole_operates fs t o p = rw p refl
 pub after_node : (f : List Frame → Tree → Move) (old mid new : List Node) (hs hs' : List Held) (x : ℕ) (t : Tree) (m : Move) → Grows old mid → EachBelow (length old) hs → at (trees mid) x ≡ t → f (frames_of (trees old) hs) t ≡ m → {E : Type 0} → (r : Result Step E) → IfOk r (λ s. Steps mid new hs' s (f (frames_of (trees mid) hs) (at (trees mid) x))) → IfOk r (λ s. Steps old new hs' s m)
 after_node f old mid new hs hs' x t m g b e s r i = if_ok old mid new hs' _ m g ((λ k. f (frames_kept old mid hs g b k) (e k)) ∙ s) r i
 
-pub operates_after : (old mid new : List Node) (hs hs' : List Held) (x : ℕ) (t : Tree) (o : Oper) → Grows old mid → EachBelow (length old) hs → at (trees mid) x ≡ t → is_prefix o.fixity ≡ false → {E : Type 0} → (r : Result Step E) → IfOk r (λ s. Steps mid new hs' s (attach (frames_of (trees mid) hs) (at (trees mid) x) o)) → IfOk r (λ s. Steps old new hs' s (operator (frames_of (trees old) hs) Whole t o))
+pub operates_after : (old mid new : List Node) (hs hs' : List Held) (x : ℕ) (t : Tree) (o : Oper) → Grows old mid → EachBelow (length old) hs → at
+    (trees mid) x ≡ t → is_prefix o.fixity ≡ false → {E : Type 0} → (r : Result Step E) → IfOk r
+    (λ s. Steps mid new hs' s (attach (frames_of (trees mid) hs) (at (trees mid) x) o)) → IfOk r
+    (λ s. Steps old new hs' s (operator (frames_of (trees old) hs) Whole t o))
 operates_after old mid new hs hs' x t o g b e p r i = after_node (λ fs u. attach fs u o) old mid new hs hs' x t _ g b e (whole_operates (frames_of (trees old) hs) t o p) r i
 
 pub waits_else : (ns new : List Node) (hs hs' hs'' : List Held) (o : Oper) (c : Sym) → hs' ≡ hs ++ held.Waits o None ∷ [] → is_prefix o.fixity ≡ true → {E : Type 0} → (r : Result Step E) → IfOk r (λ s. Steps ns new hs'' s (wants (frames_of (trees ns) hs') c)) → IfOk r (λ s. Steps ns new hs'' s (named_else (frames_of (trees ns) hs) o c))

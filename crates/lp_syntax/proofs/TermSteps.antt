@@ -55,7 +55,10 @@ stopped r d ns hs c m x e s = sym s.is ∙ ap (move_of (trees ns) hs) e
 below_went : (n : ℕ) (hs : List Held) (next : Doing) (m : Step) → m ≡ taken.Goes next → IsStepBelow n hs m → EachBelow n hs × IsDoingBelow n next
 below_went n hs next m e b = subst (IsStepBelow n hs) e b
 
-pub token_reads : (ops : Operators) (ls : List Lexeme) (r : Reader) (d next : Doing) (i : ℕ) (ns : Vec Node Global) (hs : Vec Held Global) (os : Vec ℕ Global) (c : Sym) (m : Step) → IsReading ops ls r d i → i < length ls → class_at ls i ≢ Colon → c ≡ symbol_at ops ls i → m ≡ taken.Goes next → Steps r.nodes.items ns.items hs.items m (step (state_of r d) c) → os.items ≡ open_behind i (class_at ls i) r.opens.items → IsReading ops ls (reader r.from ns hs os) next (i + 1)
+pub token_reads : (ops : Operators) (ls : List Lexeme) (r : Reader) (d next : Doing) (i : ℕ) (ns : Vec Node Global) (hs : Vec Held Global)
+    (os : Vec ℕ Global) (c : Sym) (m : Step) → IsReading ops ls r d i → i < length ls → class_at ls i ≢ Colon → c ≡ symbol_at ops ls i → m ≡
+    taken.Goes next → Steps r.nodes.items ns.items hs.items m (step (state_of r d) c) → os.items ≡ open_behind i (class_at ls i) r.opens.items →
+    IsReading ops ls (reader r.from ns hs os) next (i + 1)
 token_reads ops ls r d next i ns hs os c m v l n e g s b =
     let w = below_went (length ns.items) hs.items next m g s.below in
     record {
@@ -148,7 +151,10 @@ a_binder r (doing.Has fn x (Some w)) y n = (_, refl)
 a_binder r (doing.Formed f k x) y n = absurd n
 
 -- behind an annotation
-pub note_reads : (ops : Operators) (ls : List Lexeme) (r : Reader) (d next : Doing) (i k : ℕ) (ns : Vec Node Global) (hs : Vec Held Global) (m : Step) → IsReading ops ls r d i → i < k → k < length ls → class_at ls i ≡ Colon → ComesTo ls (i + 1) k Ends → class_at ls k ≡ Backslash → m ≡ taken.Goes next → Steps r.nodes.items ns.items hs.items m (step (state_of r d) (Binds (Some i))) → IsReading ops ls (reader r.from ns hs r.opens) next (k + 1)
+pub note_reads : (ops : Operators) (ls : List Lexeme) (r : Reader) (d next : Doing) (i k : ℕ) (ns : Vec Node Global) (hs : Vec Held Global) (m : Step)
+    → IsReading ops ls r d i → i < k → k < length ls → class_at ls i ≡ Colon → ComesTo ls (i + 1) k Ends → class_at ls k ≡ Backslash → m ≡ taken.Goes
+    next → Steps r.nodes.items ns.items hs.items m (step (state_of r d) (Binds (Some i))) → IsReading ops ls (reader r.from ns hs r.opens) next
+    (k + 1)
 note_reads ops ls r d next i k ns hs m v u l c y b g s =
     let w = below_went (length ns.items) hs.items next m g s.below in
     let z = subst (λ j. ComesTo ls j k Ends) (sym (suc-eq-add-one i)) y in
@@ -297,7 +303,10 @@ end_faults spot ops ls r d i f v o e k = record {
     go (inr h) text a = dot_over ops text r.from i (state_of r d) (same_read ops i ls text (agree_less i (suc i) ls text (omega arith) a) r.from (state_of r d) v.read) (class_same (suc i) i ls text a (omega arith) ∙ h)
 
 -- a term that ends here, whose nodes are handed out
-pub end_term : (spot : ℕ → Spot) (ops : Operators) (ls : List Lexeme) (r : Reader) (d : Doing) (i root : ℕ) (ns : List Node) (o : Option ℕ) (text : TermText) → IsReading ops ls r d i → o ≡ Some root → Finishes r.nodes.items ns o (ended (state_of r d)) → i ≡ text.end → AreRaw spot ls ns text.term.nodes.items → root ≡ text.term.root → text.term.first ≡ spot r.from → ((t : Tree) → Shows spot ls text.term.nodes.items root t → IsDepth ls t text.depth) → IsTermText spot ops ls r.from text
+pub end_term : (spot : ℕ → Spot) (ops : Operators) (ls : List Lexeme) (r : Reader) (d : Doing) (i root : ℕ) (ns : List Node) (o : Option ℕ)
+    (text : TermText) → IsReading ops ls r d i → o ≡ Some root → Finishes r.nodes.items ns o (ended (state_of r d)) → i ≡ text.end → AreRaw spot ls ns
+    text.term.nodes.items → root ≡ text.term.root → text.term.first ≡ spot r.from →
+    ((t : Tree) → Shows spot ls text.term.nodes.items root t → IsDepth ls t text.depth) → IsTermText spot ops ls r.from text
 end_term spot ops ls r d i root ns o text v e f g a h k w =
     let t = at (trees ns) root in
     let z : ended (state_of r d) ≡ Some t = sym f.is ∙ ap (maybe (trees ns)) e in

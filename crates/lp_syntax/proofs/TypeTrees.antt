@@ -159,7 +159,9 @@ node_of_word : (x : TypeText) (old new : List RawTypeNode) (w n : ℕ) (s : Spot
 node_of_word x old new w n s xs t e d b k g f = word_node n w xs t (g ∙ ap (λ z. Some (raw.Word z xs)) e) (subst (λ m. AreBelow m xs.items) (sym f) b) (kept_shows x.spot old new k _ t d)
 
 -- an argument that is one word
-pub one_word : (x : TypeText) (old new : List RawTypeNode) (hs : List Waiting) (at n : ℕ) (s a : Spot) (xs ys none : Vec ℕ Global) → IsApplied x old hs at s xs → AreKept old new → slice_get new n ≡ Some (raw.Word a none) → n ≡ length old → n < length new → a ≡ x.spot at → none.items ≡ [] → IsType x.lexemes Argument at (suc at) (Named at) → ys.items ≡ xs.items ++ n ∷ [] → IsApplied x new hs (at + 1) s ys
+pub one_word : (x : TypeText) (old new : List RawTypeNode) (hs : List Waiting) (at n : ℕ) (s a : Spot) (xs ys none : Vec ℕ Global) → IsApplied x old
+    hs at s xs → AreKept old new → slice_get new n ≡ Some (raw.Word a none) → n ≡ length old → n < length new → a ≡ x.spot at → none.items ≡ [] →
+    IsType x.lexemes Argument at (suc at) (Named at) → ys.items ≡ xs.items ++ n ∷ [] → IsApplied x new hs (at + 1) s ys
 one_word x old new hs at n s a xs ys none d k g f b q z y e =
     more_applied x new hs s xs ys at (at + 1) n (Named at) (kept_applied x old new hs at s xs k d)
     (node_of_word x old new at n a none (Named at) q (on_none at none.items z) (subst (AreBelow (length old)) (sym z) tt) k g f)

@@ -92,7 +92,9 @@ took_infix old hs x o p e l = record {
   below = (each_push (length old) hs _ e l, tt);
 }
 
-pub took_form : (old mid new : List Node) (hs : List Held) (x j i : ℕ) (o : Oper) → is_postfix o.fixity ≡ true → EachBelow (length old) hs → x < length old → Grows old mid → Grows mid new → at (trees mid) j ≡ Leaf o.spot → i < length new → at (trees new) i ≡ App (at (trees mid) j) (at (trees mid) x) → Steps old new hs (step.Goes (doing.Formed o.fixity o.number i)) (takes (frames_of (trees old) hs) (at (trees old) x) o)
+pub took_form : (old mid new : List Node) (hs : List Held) (x j i : ℕ) (o : Oper) → is_postfix o.fixity ≡ true → EachBelow (length old) hs → x <
+    length old → Grows old mid → Grows mid new → at (trees mid) j ≡ Leaf o.spot → i < length new → at (trees new) i ≡ App (at (trees mid) j)
+    (at (trees mid) x) → Steps old new hs (step.Goes (doing.Formed o.fixity o.number i)) (takes (frames_of (trees old) hs) (at (trees old) x) o)
 took_form old mid new hs x j i o p e h g g' f l t = took_postfix old new hs x i o p e (grows_on old mid new g g') l (t ∙ (λ k. App (f k) (g.kept x h k)))
 
 pub took_waiting : (old : List Node) (hs hs' : List Held) (x : ℕ) (o : Oper) → hs' ≡ hs ++ held.Waits o (Some x) ∷ [] → is_postfix o.fixity ≡ false → EachBelow (length old) hs → x < length old → Steps old old hs' (step.Goes doing.Wants) (takes (frames_of (trees old) hs) (at (trees old) x) o)
@@ -104,7 +106,10 @@ pushed_below n hs hs' h q e i = rw q (each_push n hs h e i)
 pub item_takes : (ts : List Tree) (hs hs' : List Held) (v : ℕ) (fn : Option ℕ) (done : Items) (t : Tree) (o : Oper) → hs' ≡ hs ++ held.Item v fn done ∷ [] → is_item (By o.fixity o.number) ≡ true → takes (frames_of ts hs') t o ≡ attach (Item v (maybe ts fn) (done_of ts done.items) ∷ frames_of ts hs) t o
 item_takes ts hs hs' v fn done t o q i = ap (λ l. takes (frames_of ts l) t o) q ∙ ap (λ fs. takes fs t o) (frames_push ts hs (held.Item v fn done)) ∙ rw i refl
 
-pub item_separates : (old : List Node) (hs hs' : List Held) (v : ℕ) (fn : Option ℕ) (done done' : Items) (x : ℕ) (o : Oper) → done'.items ≡ done.items ++ (v, x) ∷ [] → hs' ≡ hs ++ held.Item o.spot fn done' ∷ [] → is_item (By o.fixity o.number) ≡ false → separates o ≡ true → EachBelow (length old) hs → IsMaybeBelow (length old) fn → AreItemsBelow (length old) done.items → x < length old → Steps old old hs' (step.Goes doing.Wants) (attach (Item v (maybe (trees old) fn) (done_of (trees old) done.items) ∷ frames_of (trees old) hs) (at (trees old) x) o)
+pub item_separates : (old : List Node) (hs hs' : List Held) (v : ℕ) (fn : Option ℕ) (done done' : Items) (x : ℕ) (o : Oper) → done'.items ≡ done.items
+    ++ (v, x) ∷ [] → hs' ≡ hs ++ held.Item o.spot fn done' ∷ [] → is_item (By o.fixity o.number) ≡ false → separates o ≡ true → EachBelow (length old)
+    hs → IsMaybeBelow (length old) fn → AreItemsBelow (length old) done.items → x < length old → Steps old old hs' (step.Goes doing.Wants)
+    (attach (Item v (maybe (trees old) fn) (done_of (trees old) done.items) ∷ frames_of (trees old) hs) (at (trees old) x) o)
 item_separates old hs hs' v fn done done' x o d q i p e f g l = record {
   is = ap (λ l. Goes (st (frames_of (trees old) l) Wants)) q ∙ ap (λ fs. Goes (st fs Wants)) (frames_push (trees old) hs (held.Item o.spot fn done')) ∙ ap (λ is. Goes (st (Item o.spot (maybe (trees old) fn) is ∷ frames_of (trees old) hs) Wants)) (ap (done_of (trees old)) d ∙ done_push (trees old) done.items (v, x)) ∙ rw (i, p) refl;
   grows = grows_none old;
@@ -122,14 +127,21 @@ frames_top : (ts : List Tree) (ks hs : List Held) (h : Held) (t : Tree) (o : Ope
 frames_top ts ks hs h t o m e s = ap (λ fs. attach fs t o) (sym (ap (frames_of ts) e ∙ frames_push ts hs h)) ∙ s
 
 -- an operator is taken above what stands on the stack
-pub ends_takes : (old now new : List Node) (ks hs hs' hs'' : List Held) (h : Held) (x : ℕ) (o : Oper) (m : Move) → Grows old now → ks ≡ hs ++ h ∷ [] → hs' ≡ hs ++ h ∷ [] → attach (frame_of (trees now) h ∷ frames_of (trees now) hs) (at (trees now) x) o ≡ takes (frame_of (trees now) h ∷ frames_of (trees now) hs) (at (trees now) x) o → attach (frames_of (trees now) ks) (at (trees now) x) o ≡ m → {E : Type 0} → (r : Result Step E) → IfOk r (λ s. Steps now new hs'' s (takes (frames_of (trees now) hs') (at (trees now) x) o)) → IfOk r (λ s. Steps old new hs'' s m)
+pub ends_takes : (old now new : List Node) (ks hs hs' hs'' : List Held) (h : Held) (x : ℕ) (o : Oper) (m : Move) → Grows old now → ks ≡ hs ++ h ∷ [] →
+    hs' ≡ hs ++ h ∷ [] → attach (frame_of (trees now) h ∷ frames_of (trees now) hs) (at (trees now) x) o ≡ takes
+    (frame_of (trees now) h ∷ frames_of (trees now) hs) (at (trees now) x) o → attach (frames_of (trees now) ks) (at (trees now) x) o ≡ m →
+    {E : Type 0} → (r : Result Step E) → IfOk r (λ s. Steps now new hs'' s (takes (frames_of (trees now) hs') (at (trees now) x) o)) → IfOk r
+    (λ s. Steps old new hs'' s m)
 ends_takes old now new ks hs hs' hs'' h x o m g e e' t s r i =
     if_ok old now new hs'' _ m g (ap (λ fs. takes fs (at (trees now) x) o) (ap (frames_of (trees now)) e' ∙ frames_push (trees now) hs h) ∙ sym t ∙ frames_top (trees now) ks hs h (at (trees now) x) o m e s) r i
 
 pub waits_takes : (fs : List Frame) (p : Oper) (l : Option Tree) (t : Tree) (o : Oper) → fits_right (By o.fixity o.number) p.fixity p.number ≡ true → attach (Waits p l ∷ fs) t o ≡ takes (Waits p l ∷ fs) t o
 waits_takes fs p l t o h = rw h refl
 
-pub ends_item : (old now new : List Node) (ks hs hs'' : List Held) (v : ℕ) (fn : Option ℕ) (done : Items) (x : ℕ) (o : Oper) (m : Move) → Grows old now → ks ≡ hs ++ held.Item v fn done ∷ [] → attach (frames_of (trees now) ks) (at (trees now) x) o ≡ m → {E : Type 0} → (r : Result Step E) → IfOk r (λ s. Steps now new hs'' s (attach (Item v (maybe (trees now) fn) (done_of (trees now) done.items) ∷ frames_of (trees now) hs) (at (trees now) x) o)) → IfOk r (λ s. Steps old new hs'' s m)
+pub ends_item : (old now new : List Node) (ks hs hs'' : List Held) (v : ℕ) (fn : Option ℕ) (done : Items) (x : ℕ) (o : Oper) (m : Move) → Grows old
+    now → ks ≡ hs ++ held.Item v fn done ∷ [] → attach (frames_of (trees now) ks) (at (trees now) x) o ≡ m → {E : Type 0} → (r : Result Step E) → IfOk
+    r (λ s. Steps now new hs'' s (attach (Item v (maybe (trees now) fn) (done_of (trees now) done.items) ∷ frames_of (trees now) hs)
+    (at (trees now) x) o)) → IfOk r (λ s. Steps old new hs'' s m)
 ends_item old now new ks hs hs'' v fn done x o m g e s r i = if_ok old now new hs'' _ m g (frames_top (trees now) ks hs (held.Item v fn done) (at (trees now) x) o m e s) r i
 
 waits_reduces : (fs : List Frame) (p : Oper) (l : Option Tree) (t : Tree) (o : Oper) → fits_right (By o.fixity o.number) p.fixity p.number ≡ false → fits_left (By p.fixity p.number) o.fixity o.number ≡ true → attach (Waits p l ∷ fs) t o ≡ attach fs (operated p l t) o
@@ -138,7 +150,10 @@ waits_reduces fs p l t o h k = rw (h, k) refl
 waits_stops : (fs : List Frame) (p : Oper) (l : Option Tree) (t : Tree) (o : Oper) → fits_right (By o.fixity o.number) p.fixity p.number ≡ false → fits_left (By p.fixity p.number) o.fixity o.number ≡ false → attach (Waits p l ∷ fs) t o ≡ Stops Ambiguous
 waits_stops fs p l t o h k = rw (h, k) refl
 
-pub reduced : (now new : List Node) (ks hs : List Held) (p : Oper) (l : Option ℕ) (x x' : ℕ) (o : Oper) (m : Move) → ks ≡ hs ++ held.Waits p l ∷ [] → Grows now new → EachBelow (length now) hs → fits_right (By o.fixity o.number) p.fixity p.number ≡ false → fits_left (By p.fixity p.number) o.fixity o.number ≡ true → at (trees new) x' ≡ operated p (maybe (trees now) l) (at (trees now) x) → attach (frames_of (trees now) ks) (at (trees now) x) o ≡ m → attach (frames_of (trees new) hs) (at (trees new) x') o ≡ m
+pub reduced : (now new : List Node) (ks hs : List Held) (p : Oper) (l : Option ℕ) (x x' : ℕ) (o : Oper) (m : Move) → ks ≡ hs ++ held.Waits p l ∷ [] →
+    Grows now new → EachBelow (length now) hs → fits_right (By o.fixity o.number) p.fixity p.number ≡ false → fits_left (By p.fixity p.number)
+    o.fixity o.number ≡ true → at (trees new) x' ≡ operated p (maybe (trees now) l) (at (trees now) x) → attach (frames_of (trees now) ks)
+    (at (trees now) x) o ≡ m → attach (frames_of (trees new) hs) (at (trees new) x') o ≡ m
 reduced now new ks hs p l x x' o m e g b h k t s =
     (λ i. attach (frames_kept now new hs g b i) (t i) o)
     ∙ sym (waits_reduces (frames_of (trees now) hs) p (maybe (trees now) l) (at (trees now) x) o h k)
@@ -171,7 +186,9 @@ item_below m (i ∷ is) zero l h = h.0
 item_below m (i ∷ is) (suc n) l h = item_below m is n (omega arith) h.1
 
 -- one item in front
-pub wrapped : (old now new : List Node) (is : List (ℕ × ℕ)) (n t t' : ℕ) (x : ℕ × ℕ) (m : Tree) → n < length is → x ≡ get_or is n (0, 0) → Grows old now → Grows now new → AreItemsBelow (length old) is → at (trees new) t' ≡ cons x.0 (at (trees now) x.1) (at (trees now) t) → wrap (done_of (trees now) (take (n + 1) is)) (at (trees now) t) ≡ m → wrap (done_of (trees new) (take n is)) (at (trees new) t') ≡ m
+pub wrapped : (old now new : List Node) (is : List (ℕ × ℕ)) (n t t' : ℕ) (x : ℕ × ℕ) (m : Tree) → n < length is → x ≡ get_or is n (0, 0) → Grows old
+    now → Grows now new → AreItemsBelow (length old) is → at (trees new) t' ≡ cons x.0 (at (trees now) x.1) (at (trees now) t) → wrap
+    (done_of (trees now) (take (n + 1) is)) (at (trees now) t) ≡ m → wrap (done_of (trees new) (take n is)) (at (trees new) t') ≡ m
 wrapped old now new is n t t' x m l e g g' b h s =
     (λ k. wrap (done_kept now new (take n is) g' (items_take (length now) is n (items_more (length old) (length now) is g.longer b)) k) (h k))
     ∙ sym (ap (λ l. wrap l (at (trees now) t)) (ap (done_of (trees now)) (take_more is n l) ∙ done_push (trees now) (take n is) (get_or is n (0, 0)) ∙ ap (λ y. (y.0, at (trees now) y.1) ∷ done_of (trees now) (take n is)) (sym e)))

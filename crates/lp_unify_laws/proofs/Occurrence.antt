@@ -290,7 +290,10 @@ apply_last h (t ∷ ts) u = apply_last (app h t) ts u
 rigid_variable : (h : Term) (y m : ℕ) → IsRigid h → atom (logic y m) ≡ h → ⊥
 rigid_variable h y m r e = transport IsRigid (sym e) r
 
-occ_strict : (s : Side) (σ : ℕ → ℕ → Term) → IsClosing σ → (next : ℕ) (κ : Atom → Ty) → ((j : ℕ) (B : Ty) → κ (param j B) ≡ B) → s.level ≤ s.pair → (h : Term) → IsRigid h → {k : ℕ} {t : Term} → Occurs s k t → (hs : List Term) → Converts t (apply h hs) → s.pair ≤ k → (τ : Atom → Ty) → Fits s.level κ τ → (T : Ty) → Within (Seen next s.pair k) 0 t → HasTotal τ [] t T → FoundStrict κ (κ (logic s.id s.level)) (σ s.id s.level) T (put_low s σ τ t)
+occ_strict : (s : Side) (σ : ℕ → ℕ → Term) → IsClosing σ → (next : ℕ) (κ : Atom → Ty) → ((j : ℕ) (B : Ty) → κ (param j B) ≡ B) → s.level ≤ s.pair →
+    (h : Term) → IsRigid h → {k : ℕ} {t : Term} → Occurs s k t → (hs : List Term) → Converts t (apply h hs) → s.pair ≤ k → (τ : Atom → Ty) → Fits
+    s.level κ τ → (T : Ty) → Within (Seen next s.pair k) 0 t → HasTotal τ [] t T → FoundStrict κ (κ (logic s.id s.level)) (σ s.id s.level) T
+    (put_low s σ τ t)
 occ_strict s σ c next κ p low h rh (occurs_here {t = t} b r d a) hs e high τ f T w ty =
     absurd (rigid_variable h s.id s.level rh (heads_joint (atom (logic s.id s.level)) h (eigens b) hs tt (rigid_head h rh) (converts_on (converts_sym (converts_reduces r)) e)).heads)
 occ_strict s σ c next κ p low h rh (occurs_under {k = k} {t = t} b r d) hs e high τ f T w ty =

@@ -86,7 +86,11 @@ no_argument_typed on.Not n0 n1 n2 n3 n4 = refl
 no_argument_typed on.EndNot n0 n1 n2 n3 n4 = refl
 
 -- an instruction that builds no term and is never ill typed
-pub no_term_typed : (i : Instr) → is_goal_typed i ≡ false → is_argument_typed i ≡ false → ((d t : ℕ) → i ≡ on.New d t → ⊥) → ((d c : ℕ) (v : Vec ℕ Global) → i ≡ on.PutConst d c v → ⊥) → ((d : ℕ) (z : ℤ) → i ≡ on.PutInt d z → ⊥) → ((d : ℕ) (b : Vec ℕ Global) → i ≡ on.PutStr d b → ⊥) → ((d x t : ℕ) → i ≡ on.PutIndex d x t → ⊥) → ((d b t : ℕ) → i ≡ on.PutAbs d b t → ⊥) → ((d f : ℕ) (v : Vec ℕ Global) → i ≡ on.PutApp d f v → ⊥) → ((d t : ℕ) → i ≡ on.Sigma d t → ⊥) → ((d t : ℕ) → i ≡ on.All d t → ⊥) → ((h : Home) (s : State) → breaks_type h s i ≡ false) × ((h : Home) (s : State) → term_made h s i ≡ nothing_built)
+pub no_term_typed : (i : Instr) → is_goal_typed i ≡ false → is_argument_typed i ≡ false → ((d t : ℕ) → i ≡ on.New d t → ⊥) →
+    ((d c : ℕ) (v : Vec ℕ Global) → i ≡ on.PutConst d c v → ⊥) → ((d : ℕ) (z : ℤ) → i ≡ on.PutInt d z → ⊥) →
+    ((d : ℕ) (b : Vec ℕ Global) → i ≡ on.PutStr d b → ⊥) → ((d x t : ℕ) → i ≡ on.PutIndex d x t → ⊥) → ((d b t : ℕ) → i ≡ on.PutAbs d b t → ⊥) →
+    ((d f : ℕ) (v : Vec ℕ Global) → i ≡ on.PutApp d f v → ⊥) → ((d t : ℕ) → i ≡ on.Sigma d t → ⊥) → ((d t : ℕ) → i ≡ on.All d t → ⊥) →
+    ((h : Home) (s : State) → breaks_type h s i ≡ false) × ((h : Home) (s : State) → term_made h s i ≡ nothing_built)
 no_term_typed (on.TyCon d k ts) g0 a0 n0 n1 n2 n3 n4 n5 n6 n7 n8 = (λ h s. refl, λ h s. refl)
 no_term_typed (on.TyArr d a b) g0 a0 n0 n1 n2 n3 n4 n5 n6 n7 n8 = (λ h s. refl, λ h s. refl)
 no_term_typed (on.TyNew d) g0 a0 n0 n1 n2 n3 n4 n5 n6 n7 n8 = (λ h s. refl, λ h s. refl)

@@ -90,8 +90,15 @@ first_some b rule.Clause h = with_head b h.0 h.1 h.2 h.3 h.4 ∙ skip (Some rule
 first_some b rule.Key h = with_head b h.0 h.1 h.2 h.3 h.4 ∙ skip (Some rule.Block) (from_clause b) b.block h.5 ∙ skip (Some rule.Clause) (from_key b) b.clause h.6 ∙ stop (Some rule.Key) None b.key h.7
 
 -- tests that agree on the rules find the same one
-pub first_same : (f g : Rule → Bool) → f rule.Register ≡ g rule.Register → f rule.Unset ≡ g rule.Unset → f rule.Set ≡ g rule.Set → f rule.Constant ≡ g rule.Constant → f rule.Typing ≡ g rule.Typing → f rule.Index ≡ g rule.Index → f rule.Term ≡ g rule.Term → f rule.Order ≡ g rule.Order → f rule.Head ≡ g rule.Head → f rule.Block ≡ g rule.Block → f rule.Clause ≡ g rule.Clause → f rule.Key ≡ g rule.Key → first_broken f rules ≡ first_broken g rules
-first_same f g a u b c t x d e h o l k = λ i. if a i then Some rule.Register else (if u i then Some rule.Unset else (if b i then Some rule.Set else (if c i then Some rule.Constant else (if t i then Some rule.Typing else (if x i then Some rule.Index else (if d i then Some rule.Term else (if e i then Some rule.Order else (if h i then Some rule.Head else (if o i then Some rule.Block else (if l i then Some rule.Clause else (if k i then Some rule.Key else None)))))))))))
+pub first_same : (f g : Rule → Bool) → f rule.Register ≡ g rule.Register → f rule.Unset ≡ g rule.Unset → f rule.Set ≡ g rule.Set → f rule.Constant ≡ g
+    rule.Constant → f rule.Typing ≡ g rule.Typing → f rule.Index ≡ g rule.Index → f rule.Term ≡ g rule.Term → f rule.Order ≡ g rule.Order → f
+    rule.Head ≡ g rule.Head → f rule.Block ≡ g rule.Block → f rule.Clause ≡ g rule.Clause → f rule.Key ≡ g rule.Key → first_broken f rules ≡
+    first_broken g rules
+first_same f g a u b c t x d e h o l k = λ i. if a i then Some rule.Register else (if u i then Some rule.Unset else
+    (if b i then Some rule.Set else (if c i then Some rule.Constant else (if t i then Some rule.Typing else
+    (if x i then Some rule.Index else (if d i then Some rule.Term else (if e i then Some rule.Order else
+    (if h i then Some rule.Head else (if o i then Some rule.Block else (if l i then Some rule.Clause else
+    (if k i then Some rule.Key else None)))))))))))
 
 -- the rule on the head, of the record as a whole or of an instruction
 pub headed : (a b : Bool) → b ≡ true → (a || b) ≡ true

@@ -518,7 +518,11 @@ taken_known l w h s on.Not u T k e f = absurd (cc)
 taken_known l w h s on.EndNot u T k e f = absurd (cc)
 
 -- an instruction that builds no term
-pub fine_by : (m : Store) (w : Work) (i : Instr) → is_goal_typed i ≡ false → is_argument_typed i ≡ false → ((d t : ℕ) → i ≡ on.New d t → ⊥) → ((d c : ℕ) (v : Vec ℕ Global) → i ≡ on.PutConst d c v → ⊥) → ((d : ℕ) (z : ℤ) → i ≡ on.PutInt d z → ⊥) → ((d : ℕ) (b : Vec ℕ Global) → i ≡ on.PutStr d b → ⊥) → ((d x t : ℕ) → i ≡ on.PutIndex d x t → ⊥) → ((d b t : ℕ) → i ≡ on.PutAbs d b t → ⊥) → ((d f : ℕ) (v : Vec ℕ Global) → i ≡ on.PutApp d f v → ⊥) → ((d t : ℕ) → i ≡ on.Sigma d t → ⊥) → ((d t : ℕ) → i ≡ on.All d t → ⊥) → IsMadeBy m m w i typed.Fine
+pub fine_by : (m : Store) (w : Work) (i : Instr) → is_goal_typed i ≡ false → is_argument_typed i ≡ false → ((d t : ℕ) → i ≡ on.New d t → ⊥) →
+    ((d c : ℕ) (v : Vec ℕ Global) → i ≡ on.PutConst d c v → ⊥) → ((d : ℕ) (z : ℤ) → i ≡ on.PutInt d z → ⊥) →
+    ((d : ℕ) (b : Vec ℕ Global) → i ≡ on.PutStr d b → ⊥) → ((d x t : ℕ) → i ≡ on.PutIndex d x t → ⊥) → ((d b t : ℕ) → i ≡ on.PutAbs d b t → ⊥) →
+    ((d f : ℕ) (v : Vec ℕ Global) → i ≡ on.PutApp d f v → ⊥) → ((d t : ℕ) → i ≡ on.Sigma d t → ⊥) → ((d t : ℕ) → i ≡ on.All d t → ⊥) → IsMadeBy m m w
+    i typed.Fine
 fine_by m w i g a n0 n1 n2 n3 n4 n5 n6 n7 n8 = λ h s k set.
     let n = no_term_typed i g a n0 n1 n2 n3 n4 n5 n6 n7 n8 in
     (k.of_head.constants.uses, subst (λ b. MakesTerm m b (term_made h s i) typed.Fine) (sym (n.0 h s)) (subst (λ b. MakesTerm m false b typed.Fine) (sym (n.1 h s)) (refl, refl, refl)))

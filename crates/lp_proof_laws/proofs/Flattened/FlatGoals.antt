@@ -91,7 +91,10 @@ module _ {L : Leaves} (d : Declared) (std : IsSetting L d) where
       opens = open_two d Γ 0 _ _ (connective d std.standard 0 (omega arith)) o r
 
   -- a formula provable where another is
-  pub instead_of : (Γ : List Ty) (t u : Term) (rest gs : Goals) → GoalLaw Γ t rest gs → ((E : List Ty) (P : List ClauseFormula) (θ : ℕ → Term) → Fits d E Γ θ → ProvableBy L d E P (instantiate θ u) → ProvableBy L d E P (instantiate θ t)) → ((E : List Ty) (P : List ClauseFormula) (θ : ℕ → Term) → Fits d E Γ θ → ProvableBy L d E P (instantiate θ t) → ProvableBy L d E P (instantiate θ u)) → GoalLaw Γ u rest gs
+  pub instead_of : (Γ : List Ty) (t u : Term) (rest gs : Goals) → GoalLaw Γ t rest gs →
+      ((E : List Ty) (P : List ClauseFormula) (θ : ℕ → Term) → Fits d E Γ θ → ProvableBy L d E P (instantiate θ u) → ProvableBy L d E P
+      (instantiate θ t)) → ((E : List Ty) (P : List ClauseFormula) (θ : ℕ → Term) → Fits d E Γ θ → ProvableBy L d E P (instantiate θ t) → ProvableBy L
+      d E P (instantiate θ u)) → GoalLaw Γ u rest gs
   instead_of Γ t u rest gs l to from = record {
     opens = l.opens;
     apart = λ E P θ f p. let r = l.apart E P θ f p in (from E P θ f r.0, r.1);

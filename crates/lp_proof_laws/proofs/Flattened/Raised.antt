@@ -60,7 +60,10 @@ one_stays : (p : Bool) (X X' : Connective) → (X ≡ connective.Atomic → ⊥)
 one_stays true X X' f e = absurd (f e)
 one_stays false X X' f e = refl
 
-four_stay : (p q r s : Bool) (a b a' b' : Term) → (if p then connective.And a b else (if q then connective.Or a b else (if r then connective.Implies a b else (if s then connective.Implies b a else connective.Atomic)))) ≡ connective.Atomic → (if p then connective.And a' b' else (if q then connective.Or a' b' else (if r then connective.Implies a' b' else (if s then connective.Implies b' a' else connective.Atomic)))) ≡ connective.Atomic
+four_stay : (p q r s : Bool) (a b a' b' : Term) → (if p then connective.And a b else
+    (if q then connective.Or a b else (if r then connective.Implies a b else (if s then connective.Implies b a else connective.Atomic)))) ≡
+    connective.Atomic → (if p then connective.And a' b' else (if q then connective.Or a' b' else
+    (if r then connective.Implies a' b' else (if s then connective.Implies b' a' else connective.Atomic)))) ≡ connective.Atomic
 four_stay true q r s a b a' b' e = cc
 four_stay false true r s a b a' b' e = cc
 four_stay false false true s a b a' b' e = cc

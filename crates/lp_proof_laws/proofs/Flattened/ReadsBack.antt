@@ -48,7 +48,10 @@ from_flat {L} d std n c cs e f E =
     let l = flattened_clause d std n [] c cs [] e (open_closed d c f) in
     λ F x R A i r. subst (λ z. FocusableBy L d F R z A) (itself c) (l.from F R (λ i. index i) A (nothing_to_fit d F) i (subst (λ z. FocusableBy L d F R z A) (sym (itself (formula_of_clauses cs))) r))
 
-pub clauses_read_back : (d : Declared) → IsStandard d → (n : ℕ) (c : Term) (cs : Clauses) → flat_clause n d [] c [] [] ≡ Some cs → IsFormula d [] c → (E : List Ty) (P : List ClauseFormula) (G : Term) → (PlainlyProvable d E (P ++ assumed c ∷ []) G → PlainlyProvable d E (P ++ assumed (formula_of_clauses cs) ∷ []) G) × (PlainlyProvable d E (P ++ assumed (formula_of_clauses cs) ∷ []) G → PlainlyProvable d E (P ++ assumed c ∷ []) G)
+pub clauses_read_back : (d : Declared) → IsStandard d → (n : ℕ) (c : Term) (cs : Clauses) → flat_clause n d [] c [] [] ≡ Some cs → IsFormula d [] c →
+    (E : List Ty) (P : List ClauseFormula) (G : Term) → (PlainlyProvable d E (P ++ assumed c ∷ []) G → PlainlyProvable d E
+    (P ++ assumed (formula_of_clauses cs) ∷ []) G) × (PlainlyProvable d E (P ++ assumed (formula_of_clauses cs) ∷ []) G → PlainlyProvable d E
+    (P ++ assumed c ∷ []) G)
 clauses_read_back d std n c cs e f E P G =
     let l = flattened_clause d (without_leaves d std) n [] c cs [] e (open_closed d c f) in
     let kc = subst (λ z. IsClosedAt (length E) z) (itself c) (closed_open d E [] (λ i. index i) c o_type (nothing_to_fit d E) (open_closed d c f)).1 in

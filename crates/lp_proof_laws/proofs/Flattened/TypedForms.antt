@@ -63,7 +63,11 @@ one_typed θ true q T a = ap (connective.ForAll (instance θ T)) (body_typed θ 
 one_typed θ false true T a = ap (connective.Exists (instance θ T)) (body_typed θ a)
 one_typed θ false false T a = refl
 
-two_typed : (θ : ℕ → Ty) (p q r s : Bool) (a b : Term) → (if p then connective.And (instance_term θ a) (instance_term θ b) else (if q then connective.Or (instance_term θ a) (instance_term θ b) else (if r then connective.Implies (instance_term θ a) (instance_term θ b) else (if s then connective.Implies (instance_term θ b) (instance_term θ a) else connective.Atomic)))) ≡ type_form θ (if p then connective.And a b else (if q then connective.Or a b else (if r then connective.Implies a b else (if s then connective.Implies b a else connective.Atomic))))
+two_typed : (θ : ℕ → Ty) (p q r s : Bool) (a b : Term) → (if p then connective.And (instance_term θ a) (instance_term θ b) else
+    (if q then connective.Or (instance_term θ a) (instance_term θ b) else (if r then connective.Implies (instance_term θ a) (instance_term θ b) else
+    (if s then connective.Implies (instance_term θ b) (instance_term θ a) else connective.Atomic)))) ≡ type_form θ
+    (if p then connective.And a b else (if q then connective.Or a b else (if r then connective.Implies a b else
+    (if s then connective.Implies b a else connective.Atomic))))
 two_typed θ true q r s a b = refl
 two_typed θ false true r s a b = refl
 two_typed θ false false true s a b = refl

@@ -53,7 +53,9 @@ module _ (L : Leaves) where
         );
   }
 
-  get_end : (d : Declared) (E : List Ty) (P R : List ClauseFormula) → length P ≡ length R → (A B : ClauseFormula) → Replaced d E A B → ((i : ℕ) (D : ClauseFormula) → slice_get P i ≡ Some D → (D' : ClauseFormula) × (slice_get R i ≡ Some D') × Replaced d E D D') → (i : ℕ) (D : ClauseFormula) → slice_get (P ++ A ∷ []) i ≡ Some D → (D' : ClauseFormula) × (slice_get (R ++ B ∷ []) i ≡ Some D') × Replaced d E D D'
+  get_end : (d : Declared) (E : List Ty) (P R : List ClauseFormula) → length P ≡ length R → (A B : ClauseFormula) → Replaced d E A B →
+      ((i : ℕ) (D : ClauseFormula) → slice_get P i ≡ Some D → (D' : ClauseFormula) × (slice_get R i ≡ Some D') × Replaced d E D D') → (i : ℕ)
+      (D : ClauseFormula) → slice_get (P ++ A ∷ []) i ≡ Some D → (D' : ClauseFormula) × (slice_get (R ++ B ∷ []) i ≡ Some D') × Replaced d E D D'
   get_end d E [] [] l A B h f zero D e = let g : A ≡ D = cc in (B, refl, subst (λ X. Replaced d E X B) g h)
   get_end d E [] [] l A B h f (suc i) D e = cc
   get_end d E [] (r ∷ R) l A B h f i D e = cc
@@ -136,7 +138,10 @@ module _ (L : Leaves) where
       subst (λ Q. Stand d E Q (R ++ D ∷ S)) (append_assoc P (D ∷ []) S) (subst (Stand d E ((P ++ D ∷ []) ++ S)) (append_assoc R (D ∷ []) S) (and_more d E (P ++ D ∷ []) (R ++ D ∷ []) S (same_more d E P R D st)))
 
   -- a clause among others in the place of another on which one can focus instead, with each types for their type variables
-  pub replaced_clause : (d : Declared) (E : List Ty) (P S : List ClauseFormula) (D D' : ClauseFormula) (G : Term) → D'.type_vars ≡ D.type_vars → AreKept E (P ++ D ∷ []) (P ++ D' ∷ []) → ((ts : List Ty) → length ts ≡ D.type_vars → AreClosed ts → Focuses d E (instance_term (type_at ts) D.formula) (instance_term (type_at ts) D'.formula)) → ProvableBy L d E (P ++ D ∷ S) G → ProvableBy L d E (P ++ D' ∷ S) G
+  pub replaced_clause : (d : Declared) (E : List Ty) (P S : List ClauseFormula) (D D' : ClauseFormula) (G : Term) → D'.type_vars ≡ D.type_vars →
+      AreKept E (P ++ D ∷ []) (P ++ D' ∷ []) → ((ts : List Ty) → length ts ≡ D.type_vars → AreClosed ts → Focuses d E
+      (instance_term (type_at ts) D.formula) (instance_term (type_at ts) D'.formula)) → ProvableBy L d E (P ++ D ∷ S) G → ProvableBy L d E
+      (P ++ D' ∷ S) G
   replaced_clause d E P S D D' G v k f h =
       let st = and_more d E (P ++ D ∷ []) (P ++ D' ∷ []) S (one_more d E P P D D' (all_same d E P) (record { type_vars = v; stands = inr f }) k) in
       let p = subst (λ Q. ProvableBy L d E Q G) (sym (append_assoc P (D ∷ []) S)) h in

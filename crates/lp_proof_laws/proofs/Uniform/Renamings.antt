@@ -162,7 +162,10 @@ module _ {L M : Leaves} {W : List Ty → List Ty → (ℕ → ℕ) → Type 0} (
             h.0,
             renamed ρ h.1,
             ap (renamed ρ) h.2,
-            subst (λ Q. proves_by M d (F ++ h.0 ∷ []) Q (app (renamed ρ h.1) (atom (eigen (suc (length F))))) a.proof) c (subst (λ v. proves_by M d (F ++ h.0 ∷ []) (map (renamed_clause τ) P) (app v (atom (eigen (suc (length F))))) a.proof) s (subst (λ k. proves_by M d (F ++ h.0 ∷ []) (map (renamed_clause τ) P) (app (renamed τ h.1) (atom (eigen k))) a.proof) (wider_new ρ (length E) (length F)) a.holds)),
+            subst (λ Q. proves_by M d (F ++ h.0 ∷ []) Q (app (renamed ρ h.1) (atom (eigen (suc (length F))))) a.proof) c
+                (subst (λ v. proves_by M d (F ++ h.0 ∷ []) (map (renamed_clause τ) P) (app v (atom (eigen (suc (length F))))) a.proof) s
+                (subst (λ k. proves_by M d (F ++ h.0 ∷ []) (map (renamed_clause τ) P) (app (renamed τ h.1) (atom (eigen k))) a.proof)
+                (wider_new ρ (length E) (length F)) a.holds)),
           );
         }
     proof_renamed d E F ρ i P G (Assume p) l m h =

@@ -96,7 +96,10 @@ module _ {Task Answer Inst : Type 0} (look : ℕ → Task → View Task Answer) 
 
   -- where nothing more is left and nothing was cut away, a solution of a task is an instance of an answer to come
   module _ (i : Inst) (m' : ℕ) (ih : (s : State Task) → s.steps ≤ b → EachOf Ok s.stack → (run look j m' s).ending ≡ Some NoMore → AnyOf (Sol i) s.stack → AnyOf (Is i) (run look j m' s).answers) where
-    exhausts_denied : (n k g u : ℕ) (lost' : Bool) (t : Task) (ts rest : List Task) (r : Inner) → BreaksRightly r → ((c p : ℕ) (ns : List Note) → r ≡ Refuted c ns p → Sol i t → AnyOf (Sol i) ts) → ((c p : ℕ) (ns : List Note) → r ≡ Held c ns p → Sol i t → ⊥) → n < b → EachOf Ok ts → EachOf Ok rest → (told_after (run look j m') (move_denied n k g u lost' ts rest r)).ending ≡ Some NoMore → Sol i t ⊎ AnyOf (Sol i) rest → AnyOf (Is i) (told_after (run look j m') (move_denied n k g u lost' ts rest r)).answers
+    exhausts_denied : (n k g u : ℕ) (lost' : Bool) (t : Task) (ts rest : List Task) (r : Inner) → BreaksRightly r →
+        ((c p : ℕ) (ns : List Note) → r ≡ Refuted c ns p → Sol i t → AnyOf (Sol i) ts) → ((c p : ℕ) (ns : List Note) → r ≡ Held c ns p → Sol i t → ⊥)
+        → n < b → EachOf Ok ts → EachOf Ok rest → (told_after (run look j m') (move_denied n k g u lost' ts rest r)).ending ≡ Some NoMore → Sol i t ⊎
+        AnyOf (Sol i) rest → AnyOf (Is i) (told_after (run look j m') (move_denied n k g u lost' ts rest r)).answers
     exhausts_denied n k g u lost' t ts rest (Refuted c ns p) w d d' hn ok oks e h =
         let q : n - c ≤ b = omega arith in
         ih _ q (each_append Ok ts rest ok oks) e (elim h [ inl x ↦ any_front (Sol i) ts rest (d c p ns refl x) | inr x ↦ any_back (Sol i) ts rest x ])
@@ -106,7 +109,10 @@ module _ {Task Answer Inst : Type 0} (look : ℕ → Task → View Task Answer) 
     exhausts_denied n k g u lost' t ts rest (Broke c ns x) w d d' hn ok oks e h = let y : x ≡ NoMore = cc in absurd (w y)
     exhausts_denied n k g u lost' t ts rest (Lasts c ns) w d d' hn ok oks e h = cc
 
-    exhausts_view : (n k g u p : ℕ) (lost' : Bool) (t : Task) (rest : List Task) (v : View Task Answer) → (Sol i t → Covers (Unit {0}) Sol Is i v) → ((w : Task) (f : Answer → Bool) (ts : List Task) → v ≡ Denies w f ts → Denied look b Sol t w f ts) → AreFine Ok Fine v → n ≤ b → EachOf Ok rest → (told_after (run look j m') (move_view (inner look j) n k g u p lost' rest v)).ending ≡ Some NoMore → Sol i t ⊎ AnyOf (Sol i) rest → AnyOf (Is i) (told_after (run look j m') (move_view (inner look j) n k g u p lost' rest v)).answers
+    exhausts_view : (n k g u p : ℕ) (lost' : Bool) (t : Task) (rest : List Task) (v : View Task Answer) → (Sol i t → Covers (Unit {0}) Sol Is i v) →
+        ((w : Task) (f : Answer → Bool) (ts : List Task) → v ≡ Denies w f ts → Denied look b Sol t w f ts) → AreFine Ok Fine v → n ≤ b → EachOf Ok
+        rest → (told_after (run look j m') (move_view (inner look j) n k g u p lost' rest v)).ending ≡ Some NoMore → Sol i t ⊎ AnyOf (Sol i) rest →
+        AnyOf (Is i) (told_after (run look j m') (move_view (inner look j) n k g u p lost' rest v)).answers
     exhausts_view n k g u p lost' t rest (Gives a) c d ok hn oks e h = elim h [ inl x ↦ inl (c x) | inr x ↦ inr (ih _ hn oks e x) ]
     exhausts_view n k g u p lost' t rest (Opens ts) c d ok hn oks e h =
         ih _ hn (each_append Ok ts rest ok oks) e (elim h [ inl x ↦ any_front (Sol i) ts rest (c x) | inr x ↦ any_back (Sol i) ts rest x ])

@@ -73,7 +73,10 @@ module _ {T A : Type 0} (L M : ℕ → T → View T A) (Dead : T → Type 0) (de
   Inners j = (f : A → Bool) (n n' k g u u' p p' : ℕ) (lost : Bool) (stack : List T) → n ≤ n' → u ≤ u' → p ≤ p' → IsDecided (inner L j f (st n k g u p lost stack)) → IsWithin (inner L j f (st n k g u p lost stack)) (inner M j f (st n' k g u' p' lost stack))
 
   module _ (j : ℕ) (f : A → Bool) (ih : Inners j) where
-    denied_within : (q q' n n' k g u u' : ℕ) (lost : Bool) (ts rest : List T) (r r' : Inner) → (IsDecided r → IsWithin r r') → n ≤ n' → u ≤ u' → IsDecided (inner_after (inner L j f) f q (move_denied {Task = T} {Answer = A} n k g u lost ts rest r)) → IsWithin (inner_after (inner L j f) f q (move_denied {Task = T} {Answer = A} n k g u lost ts rest r)) (inner_after (inner M j f) f q' (move_denied {Task = T} {Answer = A} n' k g u' lost ts rest r'))
+    denied_within : (q q' n n' k g u u' : ℕ) (lost : Bool) (ts rest : List T) (r r' : Inner) → (IsDecided r → IsWithin r r') → n ≤ n' → u ≤ u' →
+        IsDecided (inner_after (inner L j f) f q (move_denied {Task = T} {Answer = A} n k g u lost ts rest r)) → IsWithin
+        (inner_after (inner L j f) f q (move_denied {Task = T} {Answer = A} n k g u lost ts rest r))
+        (inner_after (inner M j f) f q' (move_denied {Task = T} {Answer = A} n' k g u' lost ts rest r'))
     unfolding Inners
     denied_within q q' n n' k g u u' lost ts rest (Refuted c ns p) r' b l l' h =
         let x = b tt in

@@ -18,7 +18,10 @@ returns-in_ok-text-in-Text-clause-leads c = λ end g o h.
     h ∙ ap (λ t. within c.args.bank.now end (reverse c.args.around.now.items) (value t)) (sym c.in-Text.ensures.tree) ∙ ap (λ bs. within c.args.bank.now end (reverse c.args.around.now.items) (Is (Bytes bs))) (sym (c.in_ok-text-in-Text.ensures.put end g))
 
 pub returns-in-App-clause-leads : goal.returns-in-App-clause-leads
-returns-in-App-clause-leads c = enters_on c.enter_application.result c.args.texts.now.bytes.items c.args.bank.now (tree c.args.bank.now c.args.term.0) c.args.around.now.items c.enter_application.new.around.items (given_that c.enter_application.result _ _ (application c.args.bank.now _ (tree c.args.bank.now c.args.term.0) c.in-App.field-1.now c.in-App.ensures.within.2 c.in-App.ensures.tree) c.enter_application.ensures)
+returns-in-App-clause-leads c = enters_on c.enter_application.result c.args.texts.now.bytes.items c.args.bank.now (tree c.args.bank.now c.args.term.0)
+    c.args.around.now.items c.enter_application.new.around.items (given_that c.enter_application.result _ _
+    (application c.args.bank.now _ (tree c.args.bank.now c.args.term.0) c.in-App.field-1.now c.in-App.ensures.within.2 c.in-App.ensures.tree)
+    c.enter_application.ensures)
 
 pub returns-in-Index-clause-leads : goal.returns-in-Index-clause-leads
 returns-in-Index-clause-leads c = λ end g o h. none_leads c.args.bank.now end (reverse c.args.around.now.items) o (value (tree c.args.bank.now c.args.term.0)) (NotClosed, ap value (sym c.in-Index.ensures.tree)) h

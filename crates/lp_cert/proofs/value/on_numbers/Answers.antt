@@ -17,7 +17,14 @@ pub returns-then-operation-divide : goal.returns-then-operation-divide
 returns-then-operation-divide c = λ end. by_quotient end c.args.operation c.args.left c.args.right _ _ (to_z-of_z w64 c.args.left c.ranges.left) (to_z-of_z w64 c.args.right c.ranges.right) c.checked_div.result c.state_of-then-operation-divide.result c.state_of-then-operation-divide.ensures (c.if-operation-divide.true ∙ c.number-divide.ensures.number) c.ranges.right c.checked_div.ensures
 
 pub returns-then-operation-remainder : goal.returns-then-operation-remainder
-returns-then-operation-remainder c = λ end. by_remainder end c.args.operation c.args.left c.args.right _ _ (to_z-of_z w64 c.args.left c.ranges.left) (to_z-of_z w64 c.args.right c.ranges.right) c.checked_rem.result c.state_of-then-operation-remainder.result c.state_of-then-operation-remainder.ensures (c.if-operation-remainder.true ∙ c.number-remainder.ensures.number) c.ranges.right c.checked_rem.ensures c.ranges.left
+returns-then-operation-remainder c = λ end. by_remainder end c.args.operation c.args.left c.args.right _ _ (to_z-of_z w64 c.args.left c.ranges.left)
+    (to_z-of_z w64 c.args.right c.ranges.right) c.checked_rem.result c.state_of-then-operation-remainder.result
+    c.state_of-then-operation-remainder.ensures (c.if-operation-remainder.true ∙ c.number-remainder.ensures.number) c.ranges.right
+    c.checked_rem.ensures c.ranges.left
 
 pub returns : goal.returns
-returns c = λ end. no_numbers c.args.operation c.args.left c.args.right (λ e. c.if-operation-add.false (e ∙ sym c.number-add.ensures.number)) (λ e. c.if-operation-subtract.false (e ∙ sym c.number-subtract.ensures.number)) (λ e. c.if-operation-multiply.false (e ∙ sym c.number-multiply.ensures.number)) (λ e. c.if-operation-divide.false (e ∙ sym c.number-divide.ensures.number)) (λ e. c.if-operation-remainder.false (e ∙ sym c.number-remainder.ensures.number))
+returns c = λ end. no_numbers c.args.operation c.args.left c.args.right (λ e. c.if-operation-add.false (e ∙ sym c.number-add.ensures.number))
+    (λ e. c.if-operation-subtract.false (e ∙ sym c.number-subtract.ensures.number))
+    (λ e. c.if-operation-multiply.false (e ∙ sym c.number-multiply.ensures.number))
+    (λ e. c.if-operation-divide.false (e ∙ sym c.number-divide.ensures.number)) (λ e. c.if-operation-remainder.false
+    (e ∙ sym c.number-remainder.ensures.number))

@@ -10,11 +10,17 @@ pub returns-in_err-all-clause-refused : goal.returns-in_err-all-clause-refused
 returns-in_err-all-clause-refused c =
     passed_up c.from_residual.result c.in_err-all.field-0.0 (λ e. (e ≡ fault.Limit limit.Names) × (1048576 < constants_end c.args.modules.now c.args.root c.args.order.now.items)) c.from_residual.ensures.1 (
       c.in_err-all.ensures.refused.0,
-      begun_passed (λ x. length x.hidden_constants.items) (λ x. length x.signature.constants.items - length x.hidden_constants.items) 32 c.args.root c.args.modules.now c.args.order.now.items c.index-modules-root.result c.exported-exported.result c.requires.root c.index-modules-root.is (omega (arith, c.exported-exported.ensures, ap length c.constants.ensures, c.len.ensures, c.index-modules-root.result.hidden_constants.ok)) c.in_err-all.ensures.refused.1,
+      begun_passed (λ x. length x.hidden_constants.items) (λ x. length x.signature.constants.items - length x.hidden_constants.items) 32 c.args.root
+          c.args.modules.now c.args.order.now.items c.index-modules-root.result c.exported-exported.result c.requires.root c.index-modules-root.is
+          (omega (arith, c.exported-exported.ensures, ap length c.constants.ensures, c.len.ensures, c.index-modules-root.result.hidden_constants.ok))
+          c.in_err-all.ensures.refused.1,
     )
 
 pub loop-at-init : goal.loop-at-init
 loop-at-init c = (
-  sum_begun (λ x. length x.hidden_constants.items) (λ x. length x.signature.constants.items - length x.hidden_constants.items) 32 c.args.root c.args.modules.now c.args.order.now.items c.index-modules-root.result c.exported-exported.result c.in_ok-all.all c.requires.root c.index-modules-root.is (omega (arith, c.exported-exported.ensures, ap length c.constants.ensures, c.len.ensures, c.index-modules-root.result.hidden_constants.ok)) c.in_ok-all.ensures.sum.0,
+  sum_begun (λ x. length x.hidden_constants.items) (λ x. length x.signature.constants.items - length x.hidden_constants.items) 32 c.args.root
+      c.args.modules.now c.args.order.now.items c.index-modules-root.result c.exported-exported.result c.in_ok-all.all c.requires.root
+      c.index-modules-root.is (omega (arith, c.exported-exported.ensures, ap length c.constants.ensures, c.len.ensures,
+      c.index-modules-root.result.hidden_constants.ok)) c.in_ok-all.ensures.sum.0,
   c.in_ok-all.ensures.sum.1,
 )

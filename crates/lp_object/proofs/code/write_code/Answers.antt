@@ -9,7 +9,11 @@ use Rattle.lp_object.proofs.code.write_code.Goals as goal
 
 pub returns-in_ok-low_four-in-Ok : goal.returns-in_ok-low_four-in-Ok
 unfolding spelled_code
-returns-in_ok-low_four-in-Ok c = let all = all_written _ (flat_map (spelled_instr c.args.width) (map plain_instr c.args.code.now)) c.in-Ok.bytes.items (behind_so _ _ _ _ c.new-inside.ensures c.in_ok-write_instructions.ensures) c.in-Ok.ensures.bytes in let count : c.len.result ≡ length (flat_map (spelled_instr c.args.width) (map plain_instr c.args.code.now)) = omega (arith, c.len.ensures, c.in-Ok.bytes.ok, ap length all.0) in more_last c.put.result _ _ _ _ _ (counted_so (λ n. spelled_four n) _ _ _ _ count c.in_ok-low_four-in-Ok.ensures) (written_last c.put.result (λ x. x) _ _ _ _ (c.as_slice.ensures.value ∙ all.0) c.put.ensures)
+returns-in_ok-low_four-in-Ok c = let all = all_written _ (flat_map (spelled_instr c.args.width) (map plain_instr c.args.code.now)) c.in-Ok.bytes.items
+    (behind_so _ _ _ _ c.new-inside.ensures c.in_ok-write_instructions.ensures) c.in-Ok.ensures.bytes in let count : c.len.result ≡ length
+    (flat_map (spelled_instr c.args.width) (map plain_instr c.args.code.now)) = omega (arith, c.len.ensures, c.in-Ok.bytes.ok, ap length all.0) in
+    more_last c.put.result _ _ _ _ _ (counted_so (λ n. spelled_four n) _ _ _ _ count c.in_ok-low_four-in-Ok.ensures)
+    (written_last c.put.result (λ x. x) _ _ _ _ (c.as_slice.ensures.value ∙ all.0) c.put.ensures)
 
 pub returns-in-Err : goal.returns-in-Err
 unfolding spelled_code

@@ -19,7 +19,10 @@ pub returns-in-Param-clause-less : goal.returns-in-Param-clause-less
 returns-in-Param-clause-less c = rw c.in-Param.is (on_ok_always c.write_variable-in-Param.result _ (less_than (0 ∷ spelled_one c.in-Param.variable) _ (omega arith)))
 
 pub returns-in_ok-write_number-in-Con-clause-text : goal.returns-in_ok-write_number-in-Con-clause-text
-returns-in_ok-write_number-in-Con-clause-text c = let head = more_then _ _ _ _ _ c.in_ok-byte-in-Con.ensures (counted_so (λ n. spelled_number c.args.width n) _ _ _ _ c.from.ensures c.in_ok-write_number-in-Con.ensures) in rw c.in-Con.is (on_ok_so c.push_last_first.result _ _ (λ e. rest_so _ _ _ _ _ head (kind_waits c.args.width c.args.bank.now c.in-Con.kind c.in-Con.arguments.now _ _ e)) c.push_last_first.ensures)
+returns-in_ok-write_number-in-Con-clause-text c = let head = more_then _ _ _ _ _ c.in_ok-byte-in-Con.ensures
+    (counted_so (λ n. spelled_number c.args.width n) _ _ _ _ c.from.ensures c.in_ok-write_number-in-Con.ensures) in rw c.in-Con.is
+    (on_ok_so c.push_last_first.result _ _ (λ e. rest_so _ _ _ _ _ head (kind_waits c.args.width c.args.bank.now c.in-Con.kind c.in-Con.arguments.now
+    _ _ e)) c.push_last_first.ensures)
 
 pub returns-in_ok-write_number-in-Con-clause-less : goal.returns-in_ok-write_number-in-Con-clause-less
 returns-in_ok-write_number-in-Con-clause-less c = rw c.in-Con.is (on_ok_so c.push_last_first.result _ _ (λ e. kind_less c.args.width c.args.bank.now c.in-Con.kind c.in-Con.arguments.now _ _ e) c.push_last_first.ensures)

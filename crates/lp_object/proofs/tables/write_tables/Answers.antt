@@ -10,4 +10,9 @@ use Rattle.lp_object.proofs.tables.write_tables.Goals as goal
 
 pub returns : goal.returns
 unfolding spelled_tables
-returns c = let heads : c.in_ok-heads.heads.items ≡ heads_of (map plain_record c.args.image.now.code.records.items) = c.in_ok-heads.ensures.heads ∙ heads_are c.args.image.now.code.records.items in let count : c.len.result ≡ length (heads_of (map plain_record c.args.image.now.code.records.items)) = omega (arith, c.len.ensures, c.in_ok-heads.heads.ok, ap length heads) in more_then _ _ _ _ _ (counted_so (λ n. spelled_four n) _ _ _ _ count c.in_ok-low_four.ensures) (written_so (λ cs. flat_map (spelled_groups (map plain_record c.args.image.now.code.records.items)) cs) _ _ _ _ (c.as_slice.ensures.value ∙ heads) c.in_ok-write_grouped.ensures)
+returns c = let heads : c.in_ok-heads.heads.items ≡ heads_of (map plain_record c.args.image.now.code.records.items) = c.in_ok-heads.ensures.heads ∙
+    heads_are c.args.image.now.code.records.items in let count : c.len.result ≡ length
+    (heads_of (map plain_record c.args.image.now.code.records.items)) = omega (arith, c.len.ensures, c.in_ok-heads.heads.ok, ap length heads) in
+    more_then _ _ _ _ _ (counted_so (λ n. spelled_four n) _ _ _ _ count c.in_ok-low_four.ensures)
+    (written_so (λ cs. flat_map (spelled_groups (map plain_record c.args.image.now.code.records.items)) cs) _ _ _ _ (c.as_slice.ensures.value ∙ heads)
+    c.in_ok-write_grouped.ensures)

@@ -77,7 +77,10 @@ terms-preserved-in-Abs c = record {
   same = with_body c.args.bank.now c.terms.left.items c.pop.new.self.items c.in-Some.next c.in-Some.ensures.items c.terms.seen.keys c.in-Abs.body c.push-in-Abs.new.self.items c.in_ok-push-in-Abs.ensures.items c.in-Abs.ensures.tree ∙ c.terms.invariant.same;
   within =
       subst (All (λ t. t.0 < length c.args.bank.now.terms)) (sym c.in_ok-push-in-Abs.ensures.items)
-      (All-push (λ t. t.0 < length c.args.bank.now.terms) c.pop.new.self.items c.in-Abs.body (within_rest c.args.bank.now c.terms.left.items c.pop.new.self.items c.in-Some.next c.in-Some.ensures.items c.terms.invariant.within) (omega (arith, c.in-Abs.ensures.older, within_next c.args.bank.now c.terms.left.items c.pop.new.self.items c.in-Some.next c.in-Some.ensures.items c.terms.invariant.within)));
+      (All-push (λ t. t.0 < length c.args.bank.now.terms) c.pop.new.self.items c.in-Abs.body
+          (within_rest c.args.bank.now c.terms.left.items c.pop.new.self.items c.in-Some.next c.in-Some.ensures.items c.terms.invariant.within)
+          (omega (arith, c.in-Abs.ensures.older, within_next c.args.bank.now c.terms.left.items c.pop.new.self.items c.in-Some.next
+          c.in-Some.ensures.items c.terms.invariant.within)));
 }
 
 pub terms-smaller-in-App : goal.terms-smaller-in-App

@@ -36,7 +36,10 @@ returns-clause-taken c = λ z rows k a t.
     (both_ok c.declare.result (λ done. AreTakenConstants (seen_count z) (seen_text z bytes lines) rows (constants_in bytes lines)) (λ done. AllStand (seen_count z) (seen_text z bytes lines)) (c.declare.ensures.declared z rows k a t) (c.declare.ensures.stand z k)))
 
 pub returns-clause-operators : goal.returns-clause-operators
-returns-clause-operators c = on_ok_weaker c.declare.result (λ h said k. subst (λ z. KnowsOperators c.declare.new.self.operators (said ++ z)) (ap (λ b. fixities_in b c.in-Some-get.text.now.lines.items) c.as_slice.ensures.value ∙ sym (at_text fixities_in c.args.sources.now c.args.texts.now c.args.at c.in-Some.source.now c.in-Some-get.text.now c.in-Some.ensures.lookup.3.0 c.in-Some.ensures.lookup.1 c.in-Some-get.ensures.lookup.3.0 c.in-Some-get.ensures.lookup.1)) (h said k)) c.declare.ensures.operators
+returns-clause-operators c = on_ok_weaker c.declare.result (λ h said k. subst (λ z. KnowsOperators c.declare.new.self.operators (said ++ z))
+    (ap (λ b. fixities_in b c.in-Some-get.text.now.lines.items) c.as_slice.ensures.value ∙ sym
+    (at_text fixities_in c.args.sources.now c.args.texts.now c.args.at c.in-Some.source.now c.in-Some-get.text.now c.in-Some.ensures.lookup.3.0
+    c.in-Some.ensures.lookup.1 c.in-Some-get.ensures.lookup.3.0 c.in-Some-get.ensures.lookup.1)) (h said k)) c.declare.ensures.operators
 
 pub returns-clause-seen : goal.returns-clause-seen
 returns-clause-seen c =

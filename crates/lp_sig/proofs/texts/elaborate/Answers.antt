@@ -48,7 +48,10 @@ returns-in_err-take-clause-refused c =
     passed_up c.from_residual-in_err-take.result e (IsRefusal c.args.names.now c.args.sources.now c.args.texts.now c.args.root) c.from_residual-in_err-take.ensures.1
     (step_at_fault c.args.names.now c.args.sources.now c.args.texts.now c.args.root steps c.deref-step-items.result.now c.loop-step.step-index _ e c.deref-step-items.ensures.value
     (free_steps c.args.names.now c.args.sources.now c.args.texts.now c.args.root (map (λ out. out.items) c.in_ok-ways.ways.ways.items) steps c.as_slice.result.now c.in_ok-ways.ensures c.as_slice.ensures.value c.in_ok-steps.ensures c.in_ok-check_circles.ensures.none)
-    c.loop-step-test.true c.loop-step.invariant.taken (c.in_err-take.ensures.refused (seen_before c.args.names.now c.args.sources.now c.args.texts.now c.deref-step-items.result.now c.loop-step.step-index) (constants_before c.args.names.now c.args.sources.now c.args.texts.now c.deref-step-items.result.now c.loop-step.step-index) c.loop-step.invariant.seen c.loop-step.invariant.constants c.loop-step.invariant.typed))
+    c.loop-step-test.true c.loop-step.invariant.taken (c.in_err-take.ensures.refused
+        (seen_before c.args.names.now c.args.sources.now c.args.texts.now c.deref-step-items.result.now c.loop-step.step-index)
+        (constants_before c.args.names.now c.args.sources.now c.args.texts.now c.deref-step-items.result.now c.loop-step.step-index)
+        c.loop-step.invariant.seen c.loop-step.invariant.constants c.loop-step.invariant.typed))
 
 pub returns-clause-accepted : goal.returns-clause-accepted
 returns-clause-accepted c = record {
@@ -57,10 +60,33 @@ returns-clause-accepted c = record {
   taken = all_taken c.args.names.now c.args.sources.now c.args.texts.now c.in_ok-steps.steps.items c.deref-step-items.result.now c.loop-step.step-index c.deref-step-items.ensures.value c.loop-step-test.false c.loop-step.invariant.taken;
   kinds_are = c.in_ok-signature.ensures.kinds ∙ ap (numbered 8) (c.loop-step.invariant.seen.names.kinds ∙ ap (λ z. kinds_among (declared_names z.said)) (all_seen c.args.names.now c.args.sources.now c.args.texts.now c.deref-step-items.result.now c.loop-step.step-index c.in_ok-steps.steps.items c.deref-step-items.ensures.value c.loop-step-test.false));
   fixities_are = ap (λ v. map fixity_row v.items) c.in_ok-signature.ensures.fixities ∙ c.loop-step.invariant.operators.rows ∙ ap (firsts []) (all_steps_said fixities_in c.args.sources.now c.args.texts.now c.in_ok-steps.steps.items c.deref-step-items.result.now c.loop-step.step-index c.deref-step-items.ensures.value c.loop-step-test.false);
-  abbreviations_are = subst (λ z. AreAbbreviations c.in_ok-signature.signature.bank z c.in_ok-signature.signature.abbreviations.items) (all_seen c.args.names.now c.args.sources.now c.args.texts.now c.deref-step-items.result.now c.loop-step.step-index c.in_ok-steps.steps.items c.deref-step-items.ensures.value c.loop-step-test.false) (c.in_ok-signature.ensures.abbreviations _ c.loop-step.invariant.seen);
+  abbreviations_are = subst (λ z. AreAbbreviations c.in_ok-signature.signature.bank z c.in_ok-signature.signature.abbreviations.items)
+      (all_seen c.args.names.now c.args.sources.now c.args.texts.now c.deref-step-items.result.now c.loop-step.step-index c.in_ok-steps.steps.items
+      c.deref-step-items.ensures.value c.loop-step-test.false) (c.in_ok-signature.ensures.abbreviations _ c.loop-step.invariant.seen);
   alike = subst (λ z. AreAlike z.said z.definitions z.definitions) (all_seen c.args.names.now c.args.sources.now c.args.texts.now c.deref-step-items.result.now c.loop-step.step-index c.in_ok-steps.steps.items c.deref-step-items.ensures.value c.loop-step-test.false) c.loop-step.invariant.seen.alike;
-  constants_are = subst (λ rows. AreConstants c.in_ok-signature.signature.bank (seen_in c.args.names.now c.args.sources.now c.args.texts.now c.in_ok-steps.steps.items).said (seen_in c.args.names.now c.args.sources.now c.args.texts.now c.in_ok-steps.steps.items).definitions rows c.in_ok-signature.signature.constants.items) (all_constants c.args.names.now c.args.sources.now c.args.texts.now c.deref-step-items.result.now c.loop-step.step-index c.in_ok-steps.steps.items c.deref-step-items.ensures.value c.loop-step-test.false)
-      (subst (λ z. AreConstants c.in_ok-signature.signature.bank z.said z.definitions (constants_before c.args.names.now c.args.sources.now c.args.texts.now c.deref-step-items.result.now c.loop-step.step-index) c.in_ok-signature.signature.constants.items) (all_seen c.args.names.now c.args.sources.now c.args.texts.now c.deref-step-items.result.now c.loop-step.step-index c.in_ok-steps.steps.items c.deref-step-items.ensures.value c.loop-step-test.false) (c.in_ok-signature.ensures.constants (seen_before c.args.names.now c.args.sources.now c.args.texts.now c.deref-step-items.result.now c.loop-step.step-index) (constants_before c.args.names.now c.args.sources.now c.args.texts.now c.deref-step-items.result.now c.loop-step.step-index) c.loop-step.invariant.constants).0);
-  numbers = subst HaveNumbers (all_constants c.args.names.now c.args.sources.now c.args.texts.now c.deref-step-items.result.now c.loop-step.step-index c.in_ok-steps.steps.items c.deref-step-items.ensures.value c.loop-step-test.false) (c.in_ok-signature.ensures.constants (seen_before c.args.names.now c.args.sources.now c.args.texts.now c.deref-step-items.result.now c.loop-step.step-index) (constants_before c.args.names.now c.args.sources.now c.args.texts.now c.deref-step-items.result.now c.loop-step.step-index) c.loop-step.invariant.constants).1;
-  typed = subst (λ r. HaveFirstTypes (seen_in c.args.names.now c.args.sources.now c.args.texts.now c.in_ok-steps.steps.items).said (seen_in c.args.names.now c.args.sources.now c.args.texts.now c.in_ok-steps.steps.items).definitions r r) (all_constants c.args.names.now c.args.sources.now c.args.texts.now c.deref-step-items.result.now c.loop-step.step-index c.in_ok-steps.steps.items c.deref-step-items.ensures.value c.loop-step-test.false) (subst (λ z. HaveFirstTypes z.said z.definitions (constants_before c.args.names.now c.args.sources.now c.args.texts.now c.deref-step-items.result.now c.loop-step.step-index) (constants_before c.args.names.now c.args.sources.now c.args.texts.now c.deref-step-items.result.now c.loop-step.step-index)) (all_seen c.args.names.now c.args.sources.now c.args.texts.now c.deref-step-items.result.now c.loop-step.step-index c.in_ok-steps.steps.items c.deref-step-items.ensures.value c.loop-step-test.false) c.loop-step.invariant.typed.1);
+  constants_are = subst (λ rows. AreConstants c.in_ok-signature.signature.bank (seen_in c.args.names.now c.args.sources.now c.args.texts.now
+      c.in_ok-steps.steps.items).said (seen_in c.args.names.now c.args.sources.now c.args.texts.now c.in_ok-steps.steps.items).definitions rows
+      c.in_ok-signature.signature.constants.items) (all_constants c.args.names.now c.args.sources.now c.args.texts.now c.deref-step-items.result.now
+      c.loop-step.step-index c.in_ok-steps.steps.items c.deref-step-items.ensures.value c.loop-step-test.false)
+      (subst (λ z. AreConstants c.in_ok-signature.signature.bank z.said z.definitions
+          (constants_before c.args.names.now c.args.sources.now c.args.texts.now c.deref-step-items.result.now c.loop-step.step-index)
+          c.in_ok-signature.signature.constants.items) (all_seen c.args.names.now c.args.sources.now c.args.texts.now c.deref-step-items.result.now
+          c.loop-step.step-index c.in_ok-steps.steps.items c.deref-step-items.ensures.value c.loop-step-test.false)
+          (c.in_ok-signature.ensures.constants (seen_before c.args.names.now c.args.sources.now c.args.texts.now c.deref-step-items.result.now
+          c.loop-step.step-index) (constants_before c.args.names.now c.args.sources.now c.args.texts.now c.deref-step-items.result.now
+          c.loop-step.step-index) c.loop-step.invariant.constants).0);
+  numbers = subst HaveNumbers (all_constants c.args.names.now c.args.sources.now c.args.texts.now c.deref-step-items.result.now c.loop-step.step-index
+      c.in_ok-steps.steps.items c.deref-step-items.ensures.value c.loop-step-test.false)
+      (c.in_ok-signature.ensures.constants (seen_before c.args.names.now c.args.sources.now c.args.texts.now c.deref-step-items.result.now
+      c.loop-step.step-index) (constants_before c.args.names.now c.args.sources.now c.args.texts.now c.deref-step-items.result.now
+      c.loop-step.step-index) c.loop-step.invariant.constants).1;
+  typed = subst (λ r. HaveFirstTypes (seen_in c.args.names.now c.args.sources.now c.args.texts.now c.in_ok-steps.steps.items).said
+      (seen_in c.args.names.now c.args.sources.now c.args.texts.now c.in_ok-steps.steps.items).definitions r r)
+      (all_constants c.args.names.now c.args.sources.now c.args.texts.now c.deref-step-items.result.now c.loop-step.step-index
+      c.in_ok-steps.steps.items c.deref-step-items.ensures.value c.loop-step-test.false)
+      (subst (λ z. HaveFirstTypes z.said z.definitions (constants_before c.args.names.now c.args.sources.now c.args.texts.now
+      c.deref-step-items.result.now c.loop-step.step-index) (constants_before c.args.names.now c.args.sources.now c.args.texts.now
+      c.deref-step-items.result.now c.loop-step.step-index)) (all_seen c.args.names.now c.args.sources.now c.args.texts.now
+      c.deref-step-items.result.now c.loop-step.step-index c.in_ok-steps.steps.items c.deref-step-items.ensures.value c.loop-step-test.false)
+      c.loop-step.invariant.typed.1);
 }

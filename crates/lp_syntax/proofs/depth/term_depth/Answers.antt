@@ -20,7 +20,10 @@ loop-node-preserved c =
     let w = length-append c.loop-node.depths.items (c.in_ok-depth.depth ∷ []) in
     record {
       as_many = omega (arith, m, n, w);
-      are = depth_more c.args.nodes.now c.loop-node.depths.items _ c.in_ok-depth.depth v.are (λ spot ls i t p s. c.in_ok-depth.ensures spot ls i t (subst (AreDepths c.args.nodes.now) (sym c.deref.ensures.value) v.are) (p ∙ ap length (sym c.deref.ensures.value)) (ap (slice_get c.args.nodes.now) (p ∙ m) ∙ slice_get-get_or c.args.nodes.now c.loop-node.node-index c.node-item.result l ∙ ap Some (sym c.node-item.is)) s) e;
+      are = depth_more c.args.nodes.now c.loop-node.depths.items _ c.in_ok-depth.depth v.are
+          (λ spot ls i t p s. c.in_ok-depth.ensures spot ls i t (subst (AreDepths c.args.nodes.now) (sym c.deref.ensures.value) v.are)
+          (p ∙ ap length (sym c.deref.ensures.value)) (ap (slice_get c.args.nodes.now) (p ∙ m) ∙ slice_get-get_or c.args.nodes.now
+          c.loop-node.node-index c.node-item.result l ∙ ap Some (sym c.node-item.is)) s) e;
     }
 
 pub returns : goal.returns

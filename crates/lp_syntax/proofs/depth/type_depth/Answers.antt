@@ -20,7 +20,10 @@ loop-node-preserved c =
     let w = length-append c.loop-node.depths.items (c.type_node_depth-depth.result ∷ []) in
     record {
       as_many = omega (arith, m, n, w);
-      are = type_depth_more c.args.nodes.now c.loop-node.depths.items _ c.type_node_depth-depth.result v.are (λ spot i t p s. c.type_node_depth-depth.ensures spot i t (subst (AreTypeDepths c.args.nodes.now) (sym c.deref.ensures.value) v.are) (p ∙ ap length (sym c.deref.ensures.value)) (ap (slice_get c.args.nodes.now) (p ∙ m) ∙ slice_get-get_or c.args.nodes.now c.loop-node.node-index c.node-item.result l ∙ ap Some (sym c.node-item.is)) s) e;
+      are = type_depth_more c.args.nodes.now c.loop-node.depths.items _ c.type_node_depth-depth.result v.are
+          (λ spot i t p s. c.type_node_depth-depth.ensures spot i t (subst (AreTypeDepths c.args.nodes.now) (sym c.deref.ensures.value) v.are)
+          (p ∙ ap length (sym c.deref.ensures.value)) (ap (slice_get c.args.nodes.now) (p ∙ m) ∙ slice_get-get_or c.args.nodes.now
+          c.loop-node.node-index c.node-item.result l ∙ ap Some (sym c.node-item.is)) s) e;
     }
 
 pub returns : goal.returns

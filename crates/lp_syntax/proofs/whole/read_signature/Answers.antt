@@ -9,7 +9,10 @@ use Rattle.lp_syntax.proofs.SignatureCode.{refused_header, none_read, refused_li
 use Rattle.lp_syntax.proofs.whole.read_signature.Goals as goal
 
 pub returns-in_err-header-clause-fault : goal.returns-in_err-header-clause-fault
-returns-in_err-header-clause-fault c = passed_up c.from_residual.result c.in_err-header.field-0.0 (IsSignatureRefusal (spot_at c.args.file c.args.source.now c.args.tokens.now) (lexemes c.args.source.now c.args.tokens.now)) c.from_residual.ensures.1 (refused_header (spot_at c.args.file c.args.source.now c.args.tokens.now) (lexemes c.args.source.now c.args.tokens.now) _ c.in_err-header.ensures.fault)
+returns-in_err-header-clause-fault c = passed_up c.from_residual.result c.in_err-header.field-0.0
+    (IsSignatureRefusal (spot_at c.args.file c.args.source.now c.args.tokens.now) (lexemes c.args.source.now c.args.tokens.now))
+    c.from_residual.ensures.1 (refused_header (spot_at c.args.file c.args.source.now c.args.tokens.now) (lexemes c.args.source.now c.args.tokens.now)
+    _ c.in_err-header.ensures.fault)
 
 pub over-init : goal.over-init
 over-init c = record { within = c.in_ok-header.ensures.within; header = c.in_ok-header.ensures.header; read = none_read (spot_at c.args.file c.args.source.now c.args.tokens.now) (lexemes c.args.source.now c.args.tokens.now) _ _ c.in_ok-header.ensures.end c.new-lines.ensures.items }
@@ -19,7 +22,10 @@ returns-in_err-line-clause-fault c =
     let w : c.over.at < length c.args.tokens.now = grind (arith, common_steps) in
     let l = length_lexemes c.args.source.now c.args.tokens.now in
     let v = c.over.invariant in
-    passed_up c.from_residual-in_err-line.result c.in_err-line.field-0.0 (IsSignatureRefusal (spot_at c.args.file c.args.source.now c.args.tokens.now) (lexemes c.args.source.now c.args.tokens.now)) c.from_residual-in_err-line.ensures.1 (refused_line (spot_at c.args.file c.args.source.now c.args.tokens.now) (lexemes c.args.source.now c.args.tokens.now) c.over.at c.over.lines.items _ v.header v.read (omega (arith, w, l)) c.in_err-line.ensures.fault)
+    passed_up c.from_residual-in_err-line.result c.in_err-line.field-0.0 (IsSignatureRefusal (spot_at c.args.file c.args.source.now c.args.tokens.now)
+        (lexemes c.args.source.now c.args.tokens.now)) c.from_residual-in_err-line.ensures.1
+        (refused_line (spot_at c.args.file c.args.source.now c.args.tokens.now) (lexemes c.args.source.now c.args.tokens.now) c.over.at
+        c.over.lines.items _ v.header v.read (omega (arith, w, l)) c.in_err-line.ensures.fault)
 
 pub over-preserved : goal.over-preserved
 over-preserved c =

@@ -12,7 +12,10 @@ loop-node-preserved-in_default c =
     let h : c.loop-node.node-index < length nodes = subst (λ l. c.loop-node.node-index < length l) c.deref-node-items.ensures.value c.loop-node-test.true in
     let at : c.node-item.result ≡ get_or nodes c.loop-node.node-index c.node-item.result = c.node-item.is ∙ ap (λ l. get_or l c.loop-node.node-index c.node-item.result) c.deref-node-items.ensures.value in
     record {
-      found = arrow_step (λ s. IsNoKind c.args.signature.now (spelled c.args.source.now s)) (words_of (take c.loop-node.node-index nodes)) (words_of (take (c.loop-node.node-index + 1) nodes)) c.args.self.now.fault c.loop-node.self.fault c.loop-node.self.fault (one_more nodes c.loop-node.node-index c.node-item.result h at ∙ no_word (words_of (take c.loop-node.node-index nodes)) c.node-item.result c.in_default.not-Word) refl c.loop-node.invariant.found;
+      found = arrow_step (λ s. IsNoKind c.args.signature.now (spelled c.args.source.now s)) (words_of (take c.loop-node.node-index nodes))
+          (words_of (take (c.loop-node.node-index + 1) nodes)) c.args.self.now.fault c.loop-node.self.fault c.loop-node.self.fault
+          (one_more nodes c.loop-node.node-index c.node-item.result h at ∙ no_word (words_of (take c.loop-node.node-index nodes)) c.node-item.result
+          c.in_default.not-Word) refl c.loop-node.invariant.found;
       bound = c.loop-node.invariant.bound;
     }
 
@@ -22,7 +25,10 @@ loop-node-preserved c =
     let h : c.loop-node.node-index < length nodes = subst (λ l. c.loop-node.node-index < length l) c.deref-node-items.ensures.value c.loop-node-test.true in
     let at : c.node-item.result ≡ get_or nodes c.loop-node.node-index c.node-item.result = c.node-item.is ∙ ap (λ l. get_or l c.loop-node.node-index c.node-item.result) c.deref-node-items.ensures.value in
     record {
-      found = word_step (λ s. IsNoKind c.args.signature.now (spelled c.args.source.now s)) (words_of (take c.loop-node.node-index nodes)) (words_of (take (c.loop-node.node-index + 1) nodes)) c.args.self.now.fault c.loop-node.self.fault c.check_word.new.self.fault c.in-Word.spot (one_more nodes c.loop-node.node-index c.node-item.result h at ∙ has_word (words_of (take c.loop-node.node-index nodes)) c.node-item.result c.in-Word.spot c.in-Word.field-1 c.in-Word.is) c.loop-node.invariant.found c.check_word.ensures.fault;
+      found = word_step (λ s. IsNoKind c.args.signature.now (spelled c.args.source.now s)) (words_of (take c.loop-node.node-index nodes))
+          (words_of (take (c.loop-node.node-index + 1) nodes)) c.args.self.now.fault c.loop-node.self.fault c.check_word.new.self.fault c.in-Word.spot
+          (one_more nodes c.loop-node.node-index c.node-item.result h at ∙ has_word (words_of (take c.loop-node.node-index nodes)) c.node-item.result
+          c.in-Word.spot c.in-Word.field-1 c.in-Word.is) c.loop-node.invariant.found c.check_word.ensures.fault;
       bound = c.check_word.ensures.bound ∙ c.loop-node.invariant.bound;
     }
 

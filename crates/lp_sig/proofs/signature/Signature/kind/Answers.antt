@@ -12,4 +12,7 @@ returns-in_err-entry c =
     none_past (λ e. e.name.items) c.args.name.now c.args.self.now.kinds.items c.deref.result.now c.of.result (place_of c.args.self.now.kind_places c.args.name.now) c.in_ok-at.at c.of.ensures (c.args.self.now.kinds_found c.args.name.now) c.in_ok-at.was c.deref.ensures.value c.in_err-entry.ensures.lookup.3
 
 pub returns : goal.returns
-returns c = sym (behind c.args.name.now standard_kinds _ (sym c.in_default.ensures) ∙ (entry_found (λ e. e.name.items) c.args.name.now (λ e. (e.number, e.arity)) c.args.self.now.kinds.items c.deref.result.now c.of.result (place_of c.args.self.now.kind_places c.args.name.now) c.in_ok-at.at c.in_ok-entry.entry.now c.of.ensures (c.args.self.now.kinds_found c.args.name.now) c.in_ok-at.was c.deref.ensures.value c.in_ok-entry.ensures.lookup.1))
+returns c = sym (behind c.args.name.now standard_kinds _ (sym c.in_default.ensures) ∙
+    (entry_found (λ e. e.name.items) c.args.name.now (λ e. (e.number, e.arity)) c.args.self.now.kinds.items c.deref.result.now c.of.result
+    (place_of c.args.self.now.kind_places c.args.name.now) c.in_ok-at.at c.in_ok-entry.entry.now c.of.ensures
+    (c.args.self.now.kinds_found c.args.name.now) c.in_ok-at.was c.deref.ensures.value c.in_ok-entry.ensures.lookup.1))

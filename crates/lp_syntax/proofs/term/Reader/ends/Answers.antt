@@ -17,4 +17,7 @@ returns-clause-term c =
     end_term (spot_at c.args.input.now.file c.args.input.now.source.now c.args.input.now.tokens.now) (entry_of c.args.table.now) (lexemes c.args.input.now.source.now c.args.input.now.tokens.now) c.args.self c.args.doing c.args.at c.in-Some.root c.finish.new.nodes.items _ _ c.requires.reading c.in-Some.is c.in_ok-finish.ensures refl
     (subst (λ ns. AreRaw (spot_at c.args.input.now.file c.args.input.now.source.now c.args.input.now.tokens.now) (lexemes c.args.input.now.source.now c.args.input.now.tokens.now) ns c.in_ok-nodes-in-Some.nodes.items) c.deref.ensures.value c.in_ok-nodes-in-Some.ensures)
     refl c.spot.ensures
-    (λ t s. let v = c.deref-in-Some.ensures.value in c.in_ok-depth-in-Some.ensures (spot_at c.args.input.now.file c.args.input.now.source.now c.args.input.now.tokens.now) (lexemes c.args.input.now.source.now c.args.input.now.tokens.now) t (subst (λ l. Shows (spot_at c.args.input.now.file c.args.input.now.source.now c.args.input.now.tokens.now) (lexemes c.args.input.now.source.now c.args.input.now.tokens.now) l c.in-Some.root t) (sym v) s))
+    (λ t s. let v = c.deref-in-Some.ensures.value in c.in_ok-depth-in-Some.ensures (spot_at c.args.input.now.file c.args.input.now.source.now
+        c.args.input.now.tokens.now) (lexemes c.args.input.now.source.now c.args.input.now.tokens.now) t
+        (subst (λ l. Shows (spot_at c.args.input.now.file c.args.input.now.source.now c.args.input.now.tokens.now)
+        (lexemes c.args.input.now.source.now c.args.input.now.tokens.now) l c.in-Some.root t) (sym v) s))

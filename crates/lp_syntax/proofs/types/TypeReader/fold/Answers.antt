@@ -24,7 +24,10 @@ over-preserved c =
     record {
       closed = ap (λ w. closed (waits_of w.items)) c.in_ok-node-in-Some-Arrow.ensures.waiting ∙ on_wait closed _ _ (Arrow c.in-Some-Arrow.left) st ∙ c.over.invariant.closed;
       left = ap (λ w. left (waits_of w.items)) c.in_ok-node-in-Some-Arrow.ensures.waiting ∙ on_wait left _ _ (Arrow c.in-Some-Arrow.left) st ∙ c.over.invariant.left;
-      held = λ x at w. let e = c.in_ok-node-in-Some-Arrow.ensures in subst (λ v. IsWhole x c.arrow.new.self.nodes.items v.items at c.in_ok-node-in-Some-Arrow.node) (sym e.waiting) (fold_arrow x c.over.self.nodes.items c.arrow.new.self.nodes.items c.over.self.waiting.items c.pop.new.self.items c.in-Some-Arrow.left c.over.node c.in_ok-node-in-Some-Arrow.node at st (c.over.invariant.held x at w) e.kept e.node e.number e.below);
+      held = λ x at w. let e = c.in_ok-node-in-Some-Arrow.ensures in subst (λ v. IsWhole x c.arrow.new.self.nodes.items v.items at
+          c.in_ok-node-in-Some-Arrow.node) (sym e.waiting) (fold_arrow x c.over.self.nodes.items c.arrow.new.self.nodes.items
+          c.over.self.waiting.items c.pop.new.self.items c.in-Some-Arrow.left c.over.node c.in_ok-node-in-Some-Arrow.node at st
+          (c.over.invariant.held x at w) e.kept e.node e.number e.below);
     }
 
 pub returns-in-Some-Group-clause-closed : goal.returns-in-Some-Group-clause-closed

@@ -33,7 +33,10 @@ returns-clause-acted c =
         types_are = c.in_ok-take.ensures.types;
         arguments_are = c.in_ok-take.ensures.arguments;
         types_act = acted_on i c.type_set.result _ _ _ old.types c.turn.new.types c.make.new.self c.in_ok-of.of c.type_set.ensures c.in_ok-turn.ensures.types c.in_ok-make.ensures;
-        terms_act = subst (λ v. IsStacked i (term_set i) v (term_heights (reverse old.blocks.frames.items)) old.terms (term_heights (reverse c.turn.new.blocks.frames.items)) c.make-2.new.self) (c.built-built.ensures ∙ ap (built_or c.args.typed) c.closed.ensures) (acted_on i c.term_set.result _ _ _ old.terms c.turn.new.terms c.make-2.new.self c.built-built.result c.term_set.ensures c.in_ok-turn.ensures.terms m);
+        terms_act = subst (λ v. IsStacked i (term_set i) v (term_heights (reverse old.blocks.frames.items)) old.terms
+            (term_heights (reverse c.turn.new.blocks.frames.items)) c.make-2.new.self)
+            (c.built-built.ensures ∙ ap (built_or c.args.typed) c.closed.ensures) (acted_on i c.term_set.result _ _ _ old.terms c.turn.new.terms
+            c.make-2.new.self c.built-built.result c.term_set.ensures c.in_ok-turn.ensures.terms m);
       },
       λ h s few k set order own.
           let known = knows_later (store x l) (store y l) old h s (grows_same l, c.in_ok-of.ensures.grow.0) (c.in_ok-of.ensures.grow.1 h.tables k.of_head.constants.uses) k in
