@@ -15,3 +15,11 @@ pub mod Judging
 pub mod Parting
 pub mod Owning
 pub mod Forming
+pub mod Tabling
+pub mod Totals
+pub mod Assembling
+pub mod Composing
+pub mod Placing
+pub mod Summing
+pub mod Stepping
+pub mod Adding

@@ -1,9 +1,9 @@
 -- A program in the making.
-use Rattle.std.specs.Prelude.{◌≡◌, ℕ, length}
+use Rattle.std.specs.Prelude.{◌≡◌, length}
+use Rattle.lp_term.specs.Nodes.{Extends}
 use Rattle.lp_module.specs.Numbering.{AreCounted, AreNumbered}
 use Rattle.lp_module.specs.Sentences.{AreWithin}
 use Rattle.lp_module.specs.declared.copies.Making.{Making}
-use Rattle.lp_module.specs.declared.numbers.Open.{Open}
 
 -- its formulas stand in its bank, its constants have their names, and hidden names have their numbers
 abbrev pub IsSoFar : Making → Type 0
@@ -17,8 +17,4 @@ IsMade old new = IsSoFar old → IsSoFar new
 
 -- names were added, and no clauses
 abbrev pub MakesNames : Making → Making → Type 0
-MakesNames old new = IsMade old new × (new.clauses.items ≡ old.clauses.items)
-
--- how many clauses the module of an open copy has
-abbrev pub clauses_of : Open → ℕ
-clauses_of o = length o.module.now.clauses.items
+MakesNames old new = IsMade old new × (new.clauses.items ≡ old.clauses.items) × Extends old.bank new.bank × (new.next ≡ old.next)

@@ -7,10 +7,9 @@ use Rattle.lp_module.specs.declared.numbers.Numbers.{Numbers}
 use Rattle.lp_module.specs.declared.numbers.Names.{Names}
 
 -- the number that is kept at a place, if there is one
-abbrev pub kept_or : Option (Option ℕ) → ℕ → ℕ
+abbrev pub kept_or : Option ℕ → ℕ → ℕ
 kept_or None k = k
-kept_or (Some None) k = k
-kept_or (Some (Some new)) k = new
+kept_or (Some new) k = new
 
 -- a number below the first stays
 abbrev pub number_in : Numbers → ℕ → ℕ

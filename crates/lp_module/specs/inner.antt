@@ -1,2 +1,4 @@
 pub mod Judging
 pub mod Typed
+pub mod Tables
+pub mod Assembling

@@ -3,25 +3,27 @@ ghost use Rattle.std.specs.Prelude.{◌≡◌, ℕ, ◌+◌, ◌<◌, ◌≤◌,
 ghost use Rattle.std.specs.Str.{bytes_eq};
 ghost use Rattle.lp_base.specs.declared.limits.TheConstants.{MAX_COPIES};
 ghost use Rattle.lp_copies.specs.declared.names.TheConstants.{END_OF_IMAGE_NUMBERS};
-ghost use Rattle.lp_copies.specs.Copies.{Copies};
 ghost use Rattle.lp_copies.specs.Trees.{lists_in};
-ghost use Rattle.lp_module.specs.Copies.{IsOrder, IsTooMany, IsProgramRefusal, counts_of, total, kinds_end, constants_end};
-ghost use Rattle.lp_module.specs.Making.{IsSoFar, IsMade, MakesNames, clauses_of};
+ghost use Rattle.lp_model.specs.Readings.{formula_of};
+ghost use Rattle.lp_module.specs.Copies.{IsOrder, IsTooMany, IsProgramRefusal, counts_of, total, kinds_end, constants_end, uses_of};
+ghost use Rattle.lp_module.specs.Making.{IsSoFar, MakesNames};
 ghost use Rattle.lp_module.specs.Numbering.{AreNumbered, count_in, following};
-ghost use Rattle.lp_module.specs.Program.{IsProgram};
+ghost use Rattle.lp_module.specs.Program.{Copy, IsProgram, AreCopies, first_of, clauses_of as program_clauses};
 ghost use Rattle.lp_module.specs.Sentences.{AreWithin};
+ghost use Rattle.lp_module.specs.declared.numbers.Open.{Open};
+ghost use Rattle.lp_module.specs.inner.Assembling.{next_of, AddsClauses, Opens, Leaves, IsPlanned};
 
 use crate::fault::ModuleFault;
 use crate::module::Module;
-use crate::numbers::{Names, Open};
-use crate::tree::{Copied, end_of_constants, end_of_kinds, firsts_of, order_of, uses_of};
+use crate::numbers::{Firsts, Names, Open, places_in};
+use crate::tree::{Hidden, below_of, end_of_constants, end_of_kinds, order_of, totals_of, uses_of};
 use indexmap::IndexMap;
 use itoa::Buffer;
 use lp_base::Memory;
 use lp_copies::{Copying, Turn};
 use lp_model::{ClauseFormula, Declared, Program};
 use lp_sig::{ConstantEntry, FIRST_CONSTANT, FIRST_KIND};
-use lp_term::{Bank, Changed, TermId, TypeId};
+use lp_term::{Bank, Changed, TypeId};
 use std::alloc::Global;
 
 /// A kind or constant of a program: its name, and 0 where it is global; else it is the hidden one of this number among those of its name, from 1.
@@ -51,7 +53,7 @@ struct Making {
     constants: Vec<GlobalName>,
     hidden_kinds: IndexMap<Vec<u8>, u16>,
     hidden_constants: IndexMap<Vec<u8>, u16>,
-    entered: usize,
+    next: Hidden,
 }
 
 // How many hidden names of this name there are.
@@ -98,10 +100,25 @@ fn shown(alloc: Global, name: &[u8], hidden: u16) -> Result<Vec<u8>, Memory> {
 }
 
 impl Making {
-    fn new(alloc: Global) -> Making
+    // The hidden names come behind the standard ones and those that the root exports.
+    fn new(alloc: Global, top: &Module) -> Making
+        requires kinds { 8 + length top.now.signature.kinds.items ≤ 1048576 }
+        requires constants { 32 + length top.now.signature.constants.items ≤ 1048576 }
         ensures made { IsSoFar result }
         ensures none { result.clauses.items ≡ [] }
+        ensures next { next_of result.next ≡ first_of top.now }
     {
+        let kinds = top
+            .signature
+            .kinds()
+            .len()
+            .saturating_sub(top.hidden_kinds.len());
+        let constants = top
+            .signature
+            .constants()
+            .len()
+            .saturating_sub(top.hidden_constants.len());
+
         Making {
             alloc,
             bank: Bank::new(alloc),
@@ -111,7 +128,10 @@ impl Making {
             constants: Vec::new(alloc),
             hidden_kinds: IndexMap::new(alloc),
             hidden_constants: IndexMap::new(alloc),
-            entered: 0,
+            next: Hidden {
+                kinds: FIRST_KIND as usize + kinds,
+                constants: FIRST_CONSTANT as usize + constants,
+            },
         }
     }
 
@@ -181,20 +201,43 @@ impl Making {
         Ok(())
     }
 
-    // The global names, which are those that the root exports.
-    fn add_global(&mut self, root: &Open<'_>) -> Result<(), Memory>
+    // The global kinds, which are those that the root exports.
+    fn add_global_kinds(&mut self, root: &Open<'_>) -> Result<(), Memory>
         ensures { OnOk result (MakesNames self.old self.new) }
     {
-        let signature = &root.module.signature;
-        for kind in root.names.exported_kinds.iter().copied() {
-            let Some(entry) = signature.kinds().get(kind) else {
+        let kinds = root.module.signature.kinds();
+        let hidden = root.module.hidden_kinds.as_slice();
+        let places = places_in(self.alloc, FIRST_KIND, kinds.len(), hidden)?;
+        for at in 0..places.len() {
+            if places[at] != 0 {
+                continue;
+            }
+            let Some(entry) = kinds.get(at) else {
                 return Err(Memory);
             };
             self.add_global_kind(entry.name.as_slice(), entry.arity)?;
         }
+        Ok(())
+    }
+
+    // The global constants.
+    fn add_global_constants(&mut self, root: &Open<'_>) -> Result<(), Memory>
+        ensures { OnOk result (MakesNames self.old self.new) }
+    {
+        let signature = &root.module.signature;
+        let hidden = root.module.hidden_constants.as_slice();
+        let places = places_in(
+            self.alloc,
+            FIRST_CONSTANT,
+            signature.constants().len(),
+            hidden,
+        )?;
         let mut types = Changed::new(self.alloc);
-        for constant in root.names.exported_constants.iter().copied() {
-            let Some(entry) = signature.constants().get(constant) else {
+        for at in 0..places.len() {
+            if places[at] != 0 {
+                continue;
+            }
+            let Some(entry) = signature.constants().get(at) else {
                 return Err(Memory);
             };
             let scheme = types.copy_type(
@@ -246,19 +289,9 @@ impl Making {
         Ok(())
     }
 
-    fn add_clause(&mut self, type_vars: u32, formula: TermId) -> Result<(), Memory>
-        requires { formula.0 < length self.old.bank.terms }
-        ensures made { OnOk result (IsMade self.old self.new) }
-        ensures count { OnOk result (length self.new.clauses.items ≡ length self.old.clauses.items + 1) }
-    {
-        self.clauses.push(ClauseFormula { type_vars, formula })?;
-        Ok(())
-    }
-
     // The clauses of a copy.
     fn add_clauses(&mut self, copy: &Open<'_>) -> Result<(), Memory>
-        ensures made { OnOk result (IsMade self.old self.new) }
-        ensures count { OnOk result (length self.new.clauses.items ≡ length self.old.clauses.items + length copy.now.module.now.clauses.items) }
+        ensures { OnOk result (AddsClauses self.old self.new copy.now) }
     {
         let mut terms = Changed::new(self.alloc);
         let clauses = &copy.module.clauses;
@@ -271,15 +304,17 @@ impl Making {
                 clause.formula,
                 &mut self.bank,
             )?;
-            self.add_clause(clause.type_vars, formula)?;
+            self.clauses.push(ClauseFormula {
+                type_vars: clause.type_vars,
+                formula,
+            })?;
         }
         Ok(())
     }
 
     // A copy, behind those below it.
     fn add_copy(&mut self, copy: &Open<'_>) -> Result<(), Memory>
-        ensures made { OnOk result (IsMade self.old self.new) }
-        ensures count { OnOk result (length self.new.clauses.items ≡ length self.old.clauses.items + length copy.now.module.now.clauses.items) }
+        ensures { OnOk result (AddsClauses self.old self.new copy.now) }
     {
         self.add_hidden_kinds(copy)?;
         self.add_hidden_constants(copy)?;
@@ -306,44 +341,59 @@ impl Making {
         }
     }
 
-    // Enters a copy: its names are known from those of the copy above, which is the last open one.
+    // Enters a copy: its names are known from those of the copy above, which is the last open one. Its hidden names come behind those that
+    // are still to come below it.
     fn enter<'a>(
         &mut self,
         member: &'a Module,
-        firsts: &[Copied],
+        below: Hidden,
         around: &mut Vec<Open<'a>>,
     ) -> Result<(), Memory>
+        requires hidden_kinds { self.old.next.kinds + below.kinds + length member.now.hidden_kinds.items ≤ 1048576 }
+        requires hidden_constants { self.old.next.constants + below.constants + length member.now.hidden_constants.items ≤ 1048576 }
+        requires kinds { around.old.items ≡ [] → 8 + length member.now.signature.kinds.items ≤ 1048576 }
+        requires constants { around.old.items ≡ [] → 32 + length member.now.signature.constants.items ≤ 1048576 }
         ensures made { OnOk result (MakesNames self.old self.new) }
-        ensures inside { OnOk result (map clauses_of around.new.items ≡ map clauses_of around.old.items ++ length member.now.clauses.items ∷ []) }
+        ensures opened { OnOk result (Opens around.old.items around.new.items member.now (record { kinds = self.old.next.kinds + below.kinds; constants = self.old.next.constants + below.constants })) }
     {
-        let Some(copied) = firsts.get(self.entered).copied() else {
-            return Err(Memory);
+        let firsts = Firsts {
+            kind: (self.next.kinds + below.kinds) as u32,
+            constant: (self.next.constants + below.constants) as u32,
         };
-        self.entered = self.entered.saturating_add(1);
-        let names = match around.as_slice().last() {
-            None => Names::of_root(self.alloc, member, copied)?,
-            Some(above) => Names::below(self.alloc, member, copied, above)?,
-        };
-        let copy = Open {
-            module: member,
-            names,
-        };
-        if around.is_empty() {
-            self.add_global(&copy)?;
+        match around.as_slice().last() {
+            None => {
+                let names = Names::of_root(self.alloc, member, firsts)?;
+                let copy = Open {
+                    module: member,
+                    names,
+                };
+                self.add_global_kinds(&copy)?;
+                self.add_global_constants(&copy)?;
+                around.push(copy)?;
+                Ok(())
+            }
+            Some(above) => {
+                let names = Names::below(self.alloc, member, firsts, above)?;
+                around.push(Open {
+                    module: member,
+                    names,
+                })?;
+                Ok(())
+            }
         }
-        around.push(copy)?;
-        Ok(())
     }
 
     // Leaves the last open copy.
     fn leave(&mut self, around: &mut Vec<Open<'_>>) -> Result<(), Memory>
-        ensures made { OnOk result (IsMade self.old self.new) }
-        ensures left { OnOk result ((outer : List ℕ) (n : ℕ) → map clauses_of around.old.items ≡ outer ++ n ∷ [] → (map clauses_of around.new.items ≡ outer) × (length self.new.clauses.items ≡ length self.old.clauses.items + n)) }
+        requires kinds { (o : Open) → (rest : List Open) → around.old.items ≡ rest ++ o ∷ [] → self.old.next.kinds + length o.module.now.hidden_kinds.items ≤ 1048576 }
+        requires constants { (o : Open) → (rest : List Open) → around.old.items ≡ rest ++ o ∷ [] → self.old.next.constants + length o.module.now.hidden_constants.items ≤ 1048576 }
+        ensures { OnOk result (Leaves self.old self.new around.old.items around.new.items) }
     {
         match around.pop() {
             None => Err(Memory),
             Some(copy) => {
                 self.add_copy(&copy)?;
+                self.next = self.next.behind(copy.module);
                 Ok(())
             }
         }
@@ -355,26 +405,32 @@ fn make(
     alloc: Global,
     modules: &[Module],
     uses: &Vec<Vec<usize>>,
-    firsts: &[Copied],
+    totals: &Vec<Hidden>,
     root: usize,
 ) -> Result<Assembled, ModuleFault>
-    requires root { root < length uses.now.items }
-    requires modules { length modules.now ≡ length uses.now.items }
+    requires root { root < length modules.now }
+    requires uses { lists_in uses.now.items ≡ uses_of modules.now }
     requires within { All (λ out. All (λ m. m < length uses.now.items) out) (lists_in uses.now.items) }
+    requires totals { length totals.now.items ≡ length modules.now }
+    requires plan { (order : List ℕ) × IsPlanned modules.now root totals.now.items order }
     ensures clauses { IfOk result (λ a. AreWithin a.program.bank a.program.clauses.items) }
     ensures constants { IfOk result (λ a. length a.program.constants.items ≡ length a.constants.items) }
     ensures hidden_kinds { IfOk result (λ a. AreNumbered a.kinds.items) }
     ensures hidden_constants { IfOk result (λ a. AreNumbered a.constants.items) }
-    ensures count { IfOk result (λ a. (order : List ℕ) × Copies (lists_in uses.now.items) (root ∷ []) order × (length a.program.clauses.items ≡ total counts_of modules.now order)) }
+    ensures copied { IfOk result (λ a. (copied : List Copy) × AreCopies modules.now root copied × IsOrder modules.now root (map (λ c. c.member) copied) × (map (formula_of a.program.bank) a.program.clauses.items ≡ program_clauses modules.now copied)) }
     ensures refused { IfErr result (IsTooMany (lists_in uses.now.items) root) }
 {
-    let mut making = Making::new(alloc);
+    let top = &modules[root];
+    let mut making = Making::new(alloc, top);
     let mut around = Vec::new(alloc);
-    making.enter(&modules[root], firsts, &mut around)?;
+    making.enter(top, below_of(totals, &uses[root]), &mut around)?;
     let mut copying = Copying::new(alloc, uses, root);
     'copies: loop {
         match copying.go_on(uses)? {
-            Turn::Entered(at) => making.enter(&modules[at], firsts, &mut around)?,
+            Turn::Entered(at) => {
+                let below = below_of(totals, &uses[at]);
+                making.enter(&modules[at], below, &mut around)?;
+            }
             Turn::Left(_) => making.leave(&mut around)?,
             Turn::Ended(_) => {
                 making.leave(&mut around)?;
@@ -407,7 +463,7 @@ pub fn assemble(alloc: Global, modules: &[Module], root: u32) -> Result<Assemble
     let order = order_of(alloc, &uses, root)?;
     end_of_kinds(modules, &order, root)?;
     end_of_constants(modules, &order, root)?;
-    let firsts = firsts_of(alloc, modules, &uses, root)?;
-    let made = make(alloc, modules, &uses, firsts.as_slice(), root)?;
+    let totals = totals_of(alloc, modules, &uses, &order)?;
+    let made = make(alloc, modules, &uses, &totals, root)?;
     Ok(made)
 }

@@ -1,9 +1,11 @@
 // The numbers that the names of a copy have in the program.
-ghost use Rattle.std.specs.Prelude.{◌≡◌};
+ghost use Rattle.std.specs.Prelude.{◌≡◌, ℕ, ◌+◌, ◌<◌, ◌≤◌, length, get_or, nat_eq, if◌then◌else◌, Option, IfOk};
+ghost use Rattle.lp_module.specs.Program.{hidden_or, one_if_none, exported_before, IsNumbered, IsRoot, IsBelow, kind_in, constant_in, kind_at, constant_at};
 ghost use Rattle.lp_module.specs.Renumbering.{number_in, renumbered};
+ghost use Rattle.lp_module.specs.inner.Assembling.{copy_of};
+ghost use Rattle.lp_module.specs.inner.Tables.{coded, ArePlaces};
 
 use crate::module::Module;
-use crate::tree::Copied;
 use lp_base::Memory;
 use lp_sig::{FIRST_CONSTANT, FIRST_KIND};
 use lp_term::{Mapping, TermChange, TypeChange};
@@ -13,58 +15,10 @@ use std::alloc::Global;
 #[derive(Drop)]
 pub(crate) struct Numbers {
     first: u32,
-    numbers: Vec<Option<u32>>,
-}
-
-fn number_of(place: usize) -> u32 {
-    place.min(u32::MAX as usize) as u32
+    numbers: Vec<u32>,
 }
 
 impl Numbers {
-    // The hidden ones have the numbers from `from` on; the others have none yet.
-    fn hidden(
-        alloc: Global,
-        first: u32,
-        count: usize,
-        hidden: &[u32],
-        from: u32,
-    ) -> Result<Numbers, Memory> {
-        let mut numbers = Vec::new(alloc);
-        for _ in 0..count {
-            numbers.push(None)?;
-        }
-        let mut all = Numbers { first, numbers };
-        for (at, number) in hidden.iter().enumerate() {
-            let place = number.saturating_sub(first) as usize;
-            all.set(place, from.saturating_add(number_of(at)));
-        }
-        Ok(all)
-    }
-
-    // The places that have no number yet.
-    fn places_without(&self, alloc: Global) -> Result<Vec<usize>, Memory> {
-        let mut places = Vec::new(alloc);
-        for (at, number) in self.numbers.iter().enumerate() {
-            if number.is_none() {
-                places.push(at)?;
-            }
-        }
-        Ok(places)
-    }
-
-    fn set(&mut self, place: usize, number: u32) {
-        if let Some(slot) = self.numbers.get_mut(place) {
-            *slot = Some(number);
-        }
-    }
-
-    // These places have the first numbers, in order.
-    fn number_in_order(&mut self, places: &[usize]) {
-        for (at, place) in places.iter().enumerate() {
-            self.set(*place, self.first.saturating_add(number_of(at)));
-        }
-    }
-
     /// The number in the program; one without it stays.
     pub(crate) fn of(&self, number: u32) -> u32
         ensures { result ≡ number_in self.now number }
@@ -73,111 +27,248 @@ impl Numbers {
             return number;
         }
         match self.numbers.get((number - self.first) as usize) {
-            Some(Some(new)) => *new,
-            Some(None) => number,
             None => number,
+            Some(new) => *new,
         }
     }
 }
 
-/// The numbers of a copy's kinds and constants, and the places of the exported ones in its tables.
+// Notes the place of a number, counted from 1.
+fn set_place(places: &mut Vec<usize>, first: u32, number: u32, place: usize)
+    ensures count { length places.new.items ≡ length places.old.items }
+    ensures set { (i : ℕ) → i < length places.old.items → get_or places.new.items i 0 ≡ (if nat_eq number (first + i) then place else get_or places.old.items i 0) }
+{
+    if number < first {
+        return;
+    }
+    let at = (number - first) as usize;
+    if at < places.len() {
+        places[at] = place;
+    }
+}
+
+/// The place of each of so many numbers in a list, counted from 1; 0 where there is none.
+pub(crate) fn places_in(
+    alloc: Global,
+    first: u32,
+    count: usize,
+    list: &[u32],
+) -> Result<Vec<usize>, Memory>
+    ensures { IfOk result (λ places. ArePlaces first count list.now 0 places.items) }
+{
+    let mut places = Vec::from_elem(alloc, 0usize, count)?;
+    let end = list.len();
+    for at in 0..end {
+        let place = end - 1 - at;
+        set_place(&mut places, first, list[place], place + 1);
+    }
+    Ok(places)
+}
+
+// The number of a name that is hidden at a place, or this other one.
+fn hidden_or(from: u32, place: usize, other: u32) -> u32
+    requires { from + place ≤ 4294967295 }
+    ensures { (o : Option ℕ) → place ≡ coded 0 o → result ≡ hidden_or from o other }
+{
+    if place == 0 {
+        return other;
+    }
+    from + (place - 1) as u32
+}
+
+fn one_if_none(place: usize) -> u32
+    ensures one { (o : Option ℕ) → place ≡ coded 0 o → result ≡ one_if_none o }
+    ensures few { result ≤ 1 }
+{
+    if place == 0 { 1 } else { 0 }
+}
+
+// At the root the exported names are global, and have the first numbers in order.
+fn root_numbers(
+    alloc: Global,
+    first: u32,
+    count: usize,
+    hidden: &[u32],
+    from: u32,
+) -> Result<Numbers, Memory>
+    requires hidden { from + length hidden.now ≤ 1048576 }
+    requires names { first + count ≤ 1048576 }
+    ensures { IfOk result (λ n. IsNumbered first count hidden.now from (λ i. first + exported_before first hidden.now i) (number_in n)) }
+{
+    let places = places_in(alloc, first, count, hidden)?;
+    let mut numbers = Vec::new(alloc);
+    let mut next = first;
+    for at in 0..count {
+        let place = places[at];
+        let number = hidden_or(from, place, next);
+        numbers.push(number)?;
+        next += one_if_none(place);
+    }
+    Ok(Numbers { first, numbers })
+}
+
+// The number of a kind of a module, by its name, in the copy above.
+fn kind_above(member: &Module, at: usize, above: &Open<'_>) -> Result<u32, Memory>
+    requires { at < length member.now.signature.kinds.items }
+    ensures { IfOk result (λ n. n ≡ kind_in above.now.module.now (number_in above.now.names.kinds) (kind_at member.now at)) }
+{
+    let entry = &member.signature.kinds()[at];
+    match above.module.signature.kind(entry.name.as_slice()) {
+        None => Err(Memory),
+        Some(found) => Ok(above.names.kinds.of(found.0)),
+    }
+}
+
+fn kind_or(
+    member: &Module,
+    at: usize,
+    above: &Open<'_>,
+    from: u32,
+    place: usize,
+) -> Result<u32, Memory>
+    requires kind { at < length member.now.signature.kinds.items }
+    requires place { from + place ≤ 4294967295 }
+    ensures { IfOk result (λ n. (o : Option ℕ) → place ≡ coded 0 o → n ≡ hidden_or from o (kind_in above.now.module.now (number_in above.now.names.kinds) (kind_at member.now at))) }
+{
+    if place == 0 {
+        let number = kind_above(member, at, above)?;
+        return Ok(number);
+    }
+    Ok(from + (place - 1) as u32)
+}
+
+// Below the root an exported name is the name that the copy above has.
+fn kinds_below(
+    alloc: Global,
+    member: &Module,
+    from: u32,
+    above: &Open<'_>,
+) -> Result<Numbers, Memory>
+    requires { from + length member.now.hidden_kinds.items ≤ 1048576 }
+    ensures { IfOk result (λ n. IsNumbered 8 (length member.now.signature.kinds.items) member.now.hidden_kinds.items from (λ i. kind_in above.now.module.now (number_in above.now.names.kinds) (kind_at member.now i)) (number_in n)) }
+{
+    let count = member.signature.kinds().len();
+    let places = places_in(alloc, FIRST_KIND, count, member.hidden_kinds.as_slice())?;
+    let mut numbers = Vec::new(alloc);
+    for at in 0..count {
+        let number = kind_or(member, at, above, from, places[at])?;
+        numbers.push(number)?;
+    }
+    Ok(Numbers {
+        first: FIRST_KIND,
+        numbers,
+    })
+}
+
+// The number of a constant of a module, by its name, in the copy above.
+fn constant_above(member: &Module, at: usize, above: &Open<'_>) -> Result<u32, Memory>
+    requires { at < length member.now.signature.constants.items }
+    ensures { IfOk result (λ n. n ≡ constant_in above.now.module.now (number_in above.now.names.constants) (constant_at member.now at)) }
+{
+    let entry = &member.signature.constants()[at];
+    match above.module.signature.constant(entry.name.as_slice()) {
+        None => Err(Memory),
+        Some(found) => Ok(above.names.constants.of(found)),
+    }
+}
+
+fn constant_or(
+    member: &Module,
+    at: usize,
+    above: &Open<'_>,
+    from: u32,
+    place: usize,
+) -> Result<u32, Memory>
+    requires constant { at < length member.now.signature.constants.items }
+    requires place { from + place ≤ 4294967295 }
+    ensures { IfOk result (λ n. (o : Option ℕ) → place ≡ coded 0 o → n ≡ hidden_or from o (constant_in above.now.module.now (number_in above.now.names.constants) (constant_at member.now at))) }
+{
+    if place == 0 {
+        let number = constant_above(member, at, above)?;
+        return Ok(number);
+    }
+    Ok(from + (place - 1) as u32)
+}
+
+fn constants_below(
+    alloc: Global,
+    member: &Module,
+    from: u32,
+    above: &Open<'_>,
+) -> Result<Numbers, Memory>
+    requires { from + length member.now.hidden_constants.items ≤ 1048576 }
+    ensures { IfOk result (λ n. IsNumbered 32 (length member.now.signature.constants.items) member.now.hidden_constants.items from (λ i. constant_in above.now.module.now (number_in above.now.names.constants) (constant_at member.now i)) (number_in n)) }
+{
+    let count = member.signature.constants().len();
+    let places = places_in(
+        alloc,
+        FIRST_CONSTANT,
+        count,
+        member.hidden_constants.as_slice(),
+    )?;
+    let mut numbers = Vec::new(alloc);
+    for at in 0..count {
+        let number = constant_or(member, at, above, from, places[at])?;
+        numbers.push(number)?;
+    }
+    Ok(Numbers {
+        first: FIRST_CONSTANT,
+        numbers,
+    })
+}
+
+/// The numbers of a copy's kinds and constants.
 #[derive(Drop)]
 pub(crate) struct Names {
     pub kinds: Numbers,
     pub constants: Numbers,
-    pub exported_kinds: Vec<usize>,
-    pub exported_constants: Vec<usize>,
+}
+
+/// The numbers of the first hidden kind and constant of a copy.
+#[derive(Clone, Copy)]
+pub(crate) struct Firsts {
+    pub kind: u32,
+    pub constant: u32,
 }
 
 impl Names {
-    // The copy's hidden names alone.
-    fn hidden(alloc: Global, module: &Module, copied: Copied) -> Result<Names, Memory> {
-        let kinds = Numbers::hidden(
+    pub(crate) fn of_root(alloc: Global, member: &Module, firsts: Firsts) -> Result<Names, Memory>
+        requires hidden_kinds { firsts.kind + length member.now.hidden_kinds.items ≤ 1048576 }
+        requires hidden_constants { firsts.constant + length member.now.hidden_constants.items ≤ 1048576 }
+        requires kinds { 8 + length member.now.signature.kinds.items ≤ 1048576 }
+        requires constants { 32 + length member.now.signature.constants.items ≤ 1048576 }
+        ensures { IfOk result (λ n. IsRoot member.now (record { kinds = firsts.kind; constants = firsts.constant }) (record { member = 0; kinds = number_in n.kinds; constants = number_in n.constants })) }
+    {
+        let kinds = root_numbers(
             alloc,
             FIRST_KIND,
-            module.signature.kinds().len(),
-            module.hidden_kinds.as_slice(),
-            copied.first_kind,
+            member.signature.kinds().len(),
+            member.hidden_kinds.as_slice(),
+            firsts.kind,
         )?;
-        let constants = Numbers::hidden(
+        let constants = root_numbers(
             alloc,
             FIRST_CONSTANT,
-            module.signature.constants().len(),
-            module.hidden_constants.as_slice(),
-            copied.first_constant,
+            member.signature.constants().len(),
+            member.hidden_constants.as_slice(),
+            firsts.constant,
         )?;
-        let exported_kinds = kinds.places_without(alloc)?;
-        let exported_constants = constants.places_without(alloc)?;
-        Ok(Names {
-            kinds,
-            constants,
-            exported_kinds,
-            exported_constants,
-        })
+        Ok(Names { kinds, constants })
     }
 
-    /// At the root the exported names are global, and have the first numbers in order.
-    pub(crate) fn of_root(alloc: Global, module: &Module, copied: Copied) -> Result<Names, Memory> {
-        let mut names = Names::hidden(alloc, module, copied)?;
-        names.kinds.number_in_order(names.exported_kinds.as_slice());
-        names
-            .constants
-            .number_in_order(names.exported_constants.as_slice());
-        Ok(names)
-    }
-
-    // The kind that has this name in the copy above.
-    fn link_kind(&mut self, place: usize, module: &Module, above: &Open<'_>) -> Result<(), Memory> {
-        let Some(entry) = module.signature.kinds().get(place) else {
-            return Err(Memory);
-        };
-        let Some((number, _)) = above.module.signature.kind(entry.name.as_slice()) else {
-            return Err(Memory);
-        };
-        let new = above.names.kinds.of(number);
-        self.kinds.set(place, new);
-        Ok(())
-    }
-
-    // The constant that has this name in the copy above.
-    fn link_constant(
-        &mut self,
-        place: usize,
-        module: &Module,
-        above: &Open<'_>,
-    ) -> Result<(), Memory> {
-        let Some(entry) = module.signature.constants().get(place) else {
-            return Err(Memory);
-        };
-        let Some(number) = above.module.signature.constant(entry.name.as_slice()) else {
-            return Err(Memory);
-        };
-        let new = above.names.constants.of(number);
-        self.constants.set(place, new);
-        Ok(())
-    }
-
-    /// Below the root an exported name is the name that the copy above has.
     pub(crate) fn below(
         alloc: Global,
-        module: &Module,
-        copied: Copied,
+        member: &Module,
+        firsts: Firsts,
         above: &Open<'_>,
-    ) -> Result<Names, Memory> {
-        let mut names = Names::hidden(alloc, module, copied)?;
-        for at in 0..names.exported_kinds.len() {
-            let Some(place) = names.exported_kinds.get(at).copied() else {
-                return Err(Memory);
-            };
-            names.link_kind(place, module, above)?;
-        }
-        for at in 0..names.exported_constants.len() {
-            let Some(place) = names.exported_constants.get(at).copied() else {
-                return Err(Memory);
-            };
-            names.link_constant(place, module, above)?;
-        }
-        Ok(names)
+    ) -> Result<Names, Memory>
+        requires hidden_kinds { firsts.kind + length member.now.hidden_kinds.items ≤ 1048576 }
+        requires hidden_constants { firsts.constant + length member.now.hidden_constants.items ≤ 1048576 }
+        ensures { IfOk result (λ n. IsBelow above.now.module.now (copy_of 0 above.now) member.now (record { kinds = firsts.kind; constants = firsts.constant }) (record { member = 0; kinds = number_in n.kinds; constants = number_in n.constants })) }
+    {
+        let kinds = kinds_below(alloc, member, firsts.kind, above)?;
+        let constants = constants_below(alloc, member, firsts.constant, above)?;
+        Ok(Names { kinds, constants })
     }
 }
 

@@ -1,9 +1,11 @@
 // The tree of copies: how its modules stand in order, and whether there are too many copies or names.
-ghost use Rattle.std.specs.Prelude.{◌≡◌, ℕ, ◌+◌, ◌-◌, ◌<◌, ◌≤◌, ◌⊎◌, List, [], ◌∷◌, length, map, All, IfOk, IfErr};
+ghost use Rattle.std.specs.Prelude.{◌≡◌, ℕ, ◌+◌, ◌-◌, ◌<◌, ◌≤◌, List, [], ◌∷◌, length, map, sum_by, All, IfOk, IfErr};
 ghost use Rattle.lp_copies.specs.Copies.{Copies};
 ghost use Rattle.lp_copies.specs.Trees.{lists_in};
 ghost use Rattle.lp_module.specs.Copies.{IsTooMany, names_of, numbers_of, uses_of, kinds_end, constants_end};
 ghost use Rattle.lp_module.specs.Files.{HasNames};
+ghost use Rattle.lp_module.specs.Program.{behind};
+ghost use Rattle.lp_module.specs.inner.Assembling.{counted, in_all, AreTotals, AreBehind, SetsTotal, next_of, own_kinds, own_constants};
 ghost use Rattle.lp_module.specs.declared.fault.ModuleFault.TheVariants as fault;
 ghost use Rattle.lp_base.specs.declared.limit.Limit.TheVariants as limit;
 ghost use Rattle.lp_base.specs.declared.limits.TheConstants.{MAX_COPIES};
@@ -17,11 +19,47 @@ use lp_copies::{Copying, END_OF_IMAGE_NUMBERS, Turn};
 use lp_sig::{FIRST_CONSTANT, FIRST_KIND};
 use std::alloc::Global;
 
-/// The numbers of the first hidden kind and constant of a copy.
+/// How many hidden kinds and constants there are.
 #[derive(Clone, Copy)]
-pub(crate) struct Copied {
-    pub first_kind: u32,
-    pub first_constant: u32,
+pub(crate) struct Hidden {
+    pub kinds: usize,
+    pub constants: usize,
+}
+
+impl Hidden {
+    /// Those of a module by itself.
+    pub(crate) fn of(member: &Module) -> Hidden
+        ensures kinds { result.kinds ≡ length member.now.hidden_kinds.items }
+        ensures constants { result.constants ≡ length member.now.hidden_constants.items }
+    {
+        Hidden {
+            kinds: member.hidden_kinds.len(),
+            constants: member.hidden_constants.len(),
+        }
+    }
+
+    /// The numbers behind those of a module.
+    pub(crate) fn behind(self, member: &Module) -> Hidden
+        requires kinds { self.kinds + length member.now.hidden_kinds.items ≤ 1048576 }
+        requires constants { self.constants + length member.now.hidden_constants.items ≤ 1048576 }
+        ensures { next_of result ≡ behind member.now (next_of self) }
+    {
+        Hidden {
+            kinds: self.kinds + member.hidden_kinds.len(),
+            constants: self.constants + member.hidden_constants.len(),
+        }
+    }
+
+    // Both together.
+    fn with(self, more: Hidden) -> Hidden
+        ensures kinds { result.kinds ≡ counted (self.kinds + more.kinds) }
+        ensures constants { result.constants ≡ counted (self.constants + more.constants) }
+    {
+        Hidden {
+            kinds: self.kinds.saturating_add(more.kinds),
+            constants: self.constants.saturating_add(more.constants),
+        }
+    }
 }
 
 // The numbers of the modules that one accumulates.
@@ -134,80 +172,55 @@ pub(crate) fn end_of_constants(
     Ok(all)
 }
 
-// The copies by the number of their entry, those that are open, and the next numbers of hidden names.
-#[derive(Drop)]
-struct Numbering {
-    firsts: Vec<Copied>,
-    inside: Vec<usize>,
-    next_kind: usize,
-    next_constant: usize,
+/// The hidden names of all copies of these modules and below them.
+pub(crate) fn below_of(totals: &Vec<Hidden>, out: &Vec<usize>) -> Hidden
+    requires { All (λ m. m < length totals.now.items) out.now.items }
+    ensures kinds { result.kinds ≡ counted (sum_by (in_all (λ h. h.kinds) totals.now.items) out.now.items) }
+    ensures constants { result.constants ≡ counted (sum_by (in_all (λ h. h.constants) totals.now.items) out.now.items) }
+{
+    let mut all = Hidden {
+        kinds: 0,
+        constants: 0,
+    };
+    for at in 0..out.len() {
+        all = all.with(totals[out[at]]);
+    }
+    all
 }
 
-// A number below the end of numbers, as it is written.
-fn written(number: usize) -> u32 {
-    number.min(u32::MAX as usize) as u32
+// Keeps the total of a module.
+fn set_total(totals: &mut Vec<Hidden>, at: usize, total: Hidden)
+    requires { at < length totals.old.items }
+    ensures { SetsTotal totals.old.items totals.new.items at total }
+{
+    totals[at] = total;
 }
 
-impl Numbering {
-    fn new(alloc: Global, top: &Module) -> Numbering {
-        let kinds = exported(top.signature.kinds().len(), top.hidden_kinds.len());
-        let constants = exported(top.signature.constants().len(), top.hidden_constants.len());
-        Numbering {
-            firsts: Vec::new(alloc),
-            inside: Vec::new(alloc),
-            next_kind: kinds.saturating_add(FIRST_KIND as usize),
-            next_constant: constants.saturating_add(FIRST_CONSTANT as usize),
-        }
-    }
-
-    fn enter(&mut self) -> Result<(), Memory> {
-        self.inside.push(self.firsts.len())?;
-        self.firsts.push(Copied {
-            first_kind: 0,
-            first_constant: 0,
-        })?;
-        Ok(())
-    }
-
-    // The hidden names of the innermost copy have the next numbers.
-    fn leave(&mut self, member: &Module) {
-        let Some(entry) = self.inside.pop() else {
-            return;
-        };
-        if let Some(copied) = self.firsts.get_mut(entry) {
-            copied.first_kind = written(self.next_kind);
-            copied.first_constant = written(self.next_constant);
-        }
-        self.next_kind = self.next_kind.saturating_add(member.hidden_kinds.len());
-        self.next_constant = self
-            .next_constant
-            .saturating_add(member.hidden_constants.len());
-    }
-}
-
-/// The first numbers of the hidden names of each copy, by the order of entry. The names of a copy come behind those of the copies below it.
-pub(crate) fn firsts_of(
+/// For each module of a copy the hidden names of a copy of it and of all that stands below it.
+pub(crate) fn totals_of(
     alloc: Global,
     modules: &[Module],
     uses: &Vec<Vec<usize>>,
-    root: usize,
-) -> Result<Vec<Copied>, ModuleFault>
-    requires root { root < length uses.now.items }
+    order: &Vec<usize>,
+) -> Result<Vec<Hidden>, Memory>
     requires modules { length modules.now ≡ length uses.now.items }
+    requires order { All (λ m. m < length modules.now) order.now.items }
+    requires behind { AreBehind (lists_in uses.now.items) [] order.now.items }
     requires within { All (λ out. All (λ m. m < length uses.now.items) out) (lists_in uses.now.items) }
-    ensures refused { IfErr result (IsTooMany (lists_in uses.now.items) root) }
+    ensures count { IfOk result (λ t. length t.items ≡ length modules.now) }
+    ensures kinds { IfOk result (λ t. AreTotals (lists_in uses.now.items) (own_kinds modules.now) (in_all (λ h. h.kinds) t.items) order.now.items) }
+    ensures constants { IfOk result (λ t. AreTotals (lists_in uses.now.items) (own_constants modules.now) (in_all (λ h. h.constants) t.items) order.now.items) }
 {
-    let mut numbering = Numbering::new(alloc, &modules[root]);
-    numbering.enter()?;
-    let mut copying = Copying::new(alloc, uses, root);
-    'copies: loop {
-        match copying.go_on(uses)? {
-            Turn::Entered(_) => numbering.enter()?,
-            Turn::Left(at) => numbering.leave(&modules[at]),
-            Turn::Ended(at) => {
-                numbering.leave(&modules[at]);
-                return Ok(numbering.firsts);
-            }
-        }
+    let none = Hidden {
+        kinds: 0,
+        constants: 0,
+    };
+    let mut totals = Vec::from_elem(alloc, none, modules.len())?;
+    for at in 0..order.len() {
+        let place = order[at];
+        let below = below_of(&totals, &uses[place]);
+        let total = Hidden::of(&modules[place]).with(below);
+        set_total(&mut totals, place, total);
     }
+    Ok(totals)
 }

@@ -1,56 +1,91 @@
-use Rattle.std.proofs.Common.{ℕ, ◌∙◌, sym, ap, subst, length, map, reverse, get_or, arith, [], ◌∷◌}
-use Rattle.std.specs.Prelude.{sum_by}
-use Rattle.lp_copies.specs.Copies.{Copies}
-use Rattle.lp_module.specs.Copies.{counts_of}
-use Rattle.lp_module.specs.Making.{clauses_of}
-use Rattle.lp_copies.specs.Trees.{lists_in, Turns, frames_of}
-use Rattle.lp_module.proofs.Uses.{last_apart, count_at, total_more, around_more}
-use Rattle.lp_copies.proofs.Copied.{rows_are}
+use Rattle.std.proofs.Common.{◌∙◌, [], subst}
+use Rattle.lp_copies.specs.Trees.{lists_in, frames_of, Turns, Moves}
+use Rattle.lp_module.specs.inner.Assembling.{Opens}
+use Rattle.lp_module.proofs.Stepping.{root_names, root_kinds, root_constants, root_begun, never_empty, left_within, ended_within, entered_kinds, entered_constants, turn_entered, turn_left, turn_ended}
 use Rattle.lp_module.proofs.copies.make.Goals as goal
 
+pub new-making-requires-clause-kinds : goal.new-making-requires-clause-kinds
+new-making-requires-clause-kinds c = (root_names c.args.modules.now c.args.root c.args.totals.now.items c.args.uses.now.items c.requires.uses c.requires.plan.0 c.requires.plan.1 c.index-modules-root.result c.requires.root c.index-modules-root.is).0
+
+pub new-making-requires-clause-constants : goal.new-making-requires-clause-constants
+new-making-requires-clause-constants c = (root_names c.args.modules.now c.args.root c.args.totals.now.items c.args.uses.now.items c.requires.uses c.requires.plan.0 c.requires.plan.1 c.index-modules-root.result c.requires.root c.index-modules-root.is).1
+
+pub enter-requires-clause-hidden_kinds : goal.enter-requires-clause-hidden_kinds
+enter-requires-clause-hidden_kinds c = root_kinds c.args.modules.now c.args.root c.args.totals.now.items c.args.uses.now.items c.requires.uses c.requires.plan.0 c.requires.plan.1 c.index-modules-root.result c.requires.root c.index-modules-root.is c.new-making.result.next c.below_of.result c.index.result.now c.index.ensures c.new-making.ensures.next c.below_of.ensures.kinds
+
+pub enter-requires-clause-hidden_constants : goal.enter-requires-clause-hidden_constants
+enter-requires-clause-hidden_constants c = root_constants c.args.modules.now c.args.root c.args.totals.now.items c.args.uses.now.items c.requires.uses c.requires.plan.0 c.requires.plan.1 c.index-modules-root.result c.requires.root c.index-modules-root.is c.new-making.result.next c.below_of.result c.index.result.now c.index.ensures c.new-making.ensures.next c.below_of.ensures.constants
+
+pub enter-requires-clause-kinds : goal.enter-requires-clause-kinds
+enter-requires-clause-kinds c = λ e. (root_names c.args.modules.now c.args.root c.args.totals.now.items c.args.uses.now.items c.requires.uses c.requires.plan.0 c.requires.plan.1 c.index-modules-root.result c.requires.root c.index-modules-root.is).0
+
+pub enter-requires-clause-constants : goal.enter-requires-clause-constants
+enter-requires-clause-constants c = λ e. (root_names c.args.modules.now c.args.root c.args.totals.now.items c.args.uses.now.items c.requires.uses c.requires.plan.0 c.requires.plan.1 c.index-modules-root.result c.requires.root c.index-modules-root.is).1
+
 pub copies-init : goal.copies-init
-copies-init c =
-    let g : ℕ → ℕ = λ m. get_or (map counts_of c.args.modules.now) m 0 in
-    let fr = ap (map (λ f. f.0)) c.new-copying.ensures.frames in (
-      c.new-copying.ensures.copying,
-      c.new-copying.ensures.root,
-      c.in_ok-enter.ensures.made.0 c.new-making.ensures.made,
-      around_more g (map (λ f. f.0) (frames_of c.new-copying.result)) [] c.args.root (length c.index-modules-root.result.clauses.items) (map clauses_of c.new-around.result.items) (map clauses_of c.enter.new.around.items) fr
-          (count_at counts_of c.args.modules.now c.args.root c.index-modules-root.result (omega (arith, c.requires.root, c.requires.modules)) c.index-modules-root.is) c.in_ok-enter.ensures.inside (ap (map clauses_of) c.new-around.ensures.items),
-      ap length (c.in_ok-enter.ensures.made.1 ∙ c.new-making.ensures.none) ∙ sym (ap (sum_by g) c.new-copying.ensures.left),
-    )
+copies-init c = (
+  c.new-copying.ensures.copying,
+  c.new-copying.ensures.root,
+  root_begun c.args.modules.now c.args.root c.args.totals.now.items c.args.uses.now.items c.requires.uses c.requires.plan.0 c.requires.plan.1 c.index-modules-root.result c.requires.root c.index-modules-root.is c.new-making.result c.enter.new.self c.enter.new.around.items c.index.result.now c.below_of.result c.new-copying.result c.index.ensures c.below_of.ensures.kinds c.below_of.ensures.constants c.new-making.ensures.made c.new-making.ensures.none c.new-making.ensures.next c.in_ok-enter.ensures.made
+      (subst (λ l. Opens l c.enter.new.around.items c.index-modules-root.result _) c.new-around.ensures.items c.in_ok-enter.ensures.opened) c.new-copying.ensures.left c.new-copying.ensures.frames,
+)
+
+pub enter-requires-in-Entered-clause-hidden_kinds : goal.enter-requires-in-Entered-clause-hidden_kinds
+enter-requires-in-Entered-clause-hidden_kinds c =
+    let t = subst (Turns (lists_in c.args.uses.now.items) c.copies.copying c.go_on.new.self) c.in-Entered.is c.in_ok-at.ensures.turns in
+    let m = subst (Moves (lists_in c.args.uses.now.items) (frames_of c.copies.copying) (frames_of c.go_on.new.self)) c.in-Entered.is c.in_ok-at.ensures.moves in
+    entered_kinds c.args.modules.now c.args.root c.args.totals.now.items c.args.uses.now.items c.requires.uses c.requires.plan.0 c.requires.plan.1 c.copies.copying c.go_on.new.self c.copies.making c.copies.around.items c.copies.invariant.2 c.copies.invariant.1 c.in-Entered.at t m c.index-modules-at.result c.index-in-Entered.result.now c.below_of-below.result c.index-modules-at.is c.index-in-Entered.ensures c.below_of-below.ensures.kinds c.below_of-below.ensures.constants
+
+pub enter-requires-in-Entered-clause-hidden_constants : goal.enter-requires-in-Entered-clause-hidden_constants
+enter-requires-in-Entered-clause-hidden_constants c =
+    let t = subst (Turns (lists_in c.args.uses.now.items) c.copies.copying c.go_on.new.self) c.in-Entered.is c.in_ok-at.ensures.turns in
+    let m = subst (Moves (lists_in c.args.uses.now.items) (frames_of c.copies.copying) (frames_of c.go_on.new.self)) c.in-Entered.is c.in_ok-at.ensures.moves in
+    entered_constants c.args.modules.now c.args.root c.args.totals.now.items c.args.uses.now.items c.requires.uses c.requires.plan.0 c.requires.plan.1 c.copies.copying c.go_on.new.self c.copies.making c.copies.around.items c.copies.invariant.2 c.copies.invariant.1 c.in-Entered.at t m c.index-modules-at.result c.index-in-Entered.result.now c.below_of-below.result c.index-modules-at.is c.index-in-Entered.ensures c.below_of-below.ensures.kinds c.below_of-below.ensures.constants
+
+pub enter-requires-in-Entered-clause-kinds : goal.enter-requires-in-Entered-clause-kinds
+enter-requires-in-Entered-clause-kinds c = λ e. absurd (never_empty c.args.modules.now c.args.root c.args.totals.now.items c.args.uses.now.items c.requires.uses c.requires.plan.0 c.requires.plan.1 c.copies.copying c.go_on.new.self c.copies.making c.copies.around.items c.copies.invariant.2 c.copies.invariant.1 e)
+
+pub enter-requires-in-Entered-clause-constants : goal.enter-requires-in-Entered-clause-constants
+enter-requires-in-Entered-clause-constants c = λ e. absurd (never_empty c.args.modules.now c.args.root c.args.totals.now.items c.args.uses.now.items c.requires.uses c.requires.plan.0 c.requires.plan.1 c.copies.copying c.go_on.new.self c.copies.making c.copies.around.items c.copies.invariant.2 c.copies.invariant.1 e)
 
 pub copies-preserved-in-Continue-branch-4 : goal.copies-preserved-in-Continue-branch-4
 copies-preserved-in-Continue-branch-4 c =
-    let g : ℕ → ℕ = λ m. get_or (map counts_of c.args.modules.now) m 0 in
     let t = subst (Turns (lists_in c.args.uses.now.items) c.copies.copying c.go_on.new.self) c.in-Entered.is c.in_ok-at.ensures.turns in
-    let n = rows_are c.args.uses.now.items in (
-      t.0,
-      t.1 ∙ c.copies.invariant.1,
-      c.in_ok-enter-in-Entered.ensures.made.0 c.copies.invariant.2,
-      around_more g (map (λ f. f.0) (frames_of c.go_on.new.self)) (map (λ f. f.0) (frames_of c.copies.copying)) c.in-Entered.at (length c.index-modules-at.result.clauses.items) (map clauses_of c.copies.around.items) (map clauses_of c.enter-in-Entered.new.around.items) t.5
-          (count_at counts_of c.args.modules.now c.in-Entered.at c.index-modules-at.result (omega (arith, t.4, n, c.requires.modules)) c.index-modules-at.is) c.in_ok-enter-in-Entered.ensures.inside c.copies.invariant.3,
-      ap length c.in_ok-enter-in-Entered.ensures.made.1 ∙ c.copies.invariant.4 ∙ sym (ap (sum_by g) t.3),
-    )
+    let m = subst (Moves (lists_in c.args.uses.now.items) (frames_of c.copies.copying) (frames_of c.go_on.new.self)) c.in-Entered.is c.in_ok-at.ensures.moves in
+    (t.0, t.1 ∙ c.copies.invariant.1, turn_entered c.args.modules.now c.args.root c.args.totals.now.items c.args.uses.now.items c.requires.uses c.requires.plan.0 c.requires.plan.1 c.copies.copying c.go_on.new.self c.copies.making c.copies.around.items c.copies.invariant.2 c.copies.invariant.1 c.in-Entered.at t m c.index-modules-at.result c.index-in-Entered.result.now c.below_of-below.result c.index-modules-at.is c.index-in-Entered.ensures c.below_of-below.ensures.kinds c.below_of-below.ensures.constants c.enter-in-Entered.new.self c.enter-in-Entered.new.around.items c.in_ok-enter-in-Entered.ensures.made c.in_ok-enter-in-Entered.ensures.opened)
+
+pub leave-requires-clause-kinds : goal.leave-requires-clause-kinds
+leave-requires-clause-kinds c =
+    let t = subst (Turns (lists_in c.args.uses.now.items) c.copies.copying c.go_on.new.self) c.in-Left.is c.in_ok-at.ensures.turns in
+    let m = subst (Moves (lists_in c.args.uses.now.items) (frames_of c.copies.copying) (frames_of c.go_on.new.self)) c.in-Left.is c.in_ok-at.ensures.moves in
+    λ o rest e. (left_within c.args.modules.now c.args.root c.args.totals.now.items c.args.uses.now.items c.requires.uses c.requires.plan.0 c.requires.plan.1 c.copies.copying c.go_on.new.self c.copies.making c.copies.around.items c.copies.invariant.2 c.copies.invariant.1 c.in-Left.field-0 t m o rest e).0
+
+pub leave-requires-clause-constants : goal.leave-requires-clause-constants
+leave-requires-clause-constants c =
+    let t = subst (Turns (lists_in c.args.uses.now.items) c.copies.copying c.go_on.new.self) c.in-Left.is c.in_ok-at.ensures.turns in
+    let m = subst (Moves (lists_in c.args.uses.now.items) (frames_of c.copies.copying) (frames_of c.go_on.new.self)) c.in-Left.is c.in_ok-at.ensures.moves in
+    λ o rest e. (left_within c.args.modules.now c.args.root c.args.totals.now.items c.args.uses.now.items c.requires.uses c.requires.plan.0 c.requires.plan.1 c.copies.copying c.go_on.new.self c.copies.making c.copies.around.items c.copies.invariant.2 c.copies.invariant.1 c.in-Left.field-0 t m o rest e).1
 
 pub copies-preserved : goal.copies-preserved
 copies-preserved c =
-    let g : ℕ → ℕ = λ m. get_or (map counts_of c.args.modules.now) m 0 in
     let t = subst (Turns (lists_in c.args.uses.now.items) c.copies.copying c.go_on.new.self) c.in-Left.is c.in_ok-at.ensures.turns in
-    let l = c.in_ok-leave-in-Left.ensures.left (reverse (map g (map (λ f. f.0) (frames_of c.go_on.new.self)))) (g c.in-Left.field-0) (c.copies.invariant.3 ∙ last_apart g (map (λ f. f.0) (frames_of c.copies.copying)) (map (λ f. f.0) (frames_of c.go_on.new.self)) c.in-Left.field-0 t.5) in (
-      t.0,
-      t.1 ∙ c.copies.invariant.1,
-      c.in_ok-leave-in-Left.ensures.made c.copies.invariant.2,
-      l.0,
-      total_more g c.copies.copying.left.items c.go_on.new.self.left.items c.in-Left.field-0 (length c.copies.making.clauses.items) (length c.leave.new.self.clauses.items) t.3 c.copies.invariant.4 l.1,
-    )
+    let m = subst (Moves (lists_in c.args.uses.now.items) (frames_of c.copies.copying) (frames_of c.go_on.new.self)) c.in-Left.is c.in_ok-at.ensures.moves in
+    (t.0, t.1 ∙ c.copies.invariant.1, turn_left c.args.modules.now c.args.root c.args.totals.now.items c.args.uses.now.items c.requires.uses c.requires.plan.0 c.requires.plan.1 c.copies.copying c.go_on.new.self c.copies.making c.copies.around.items c.copies.invariant.2 c.copies.invariant.1 c.in-Left.field-0 t m c.leave.new.self c.leave.new.around.items c.in_ok-leave-in-Left.ensures)
 
-pub returns-in-Ended-clause-count : goal.returns-in-Ended-clause-count
-returns-in-Ended-clause-count c =
-    let g : ℕ → ℕ = λ m. get_or (map counts_of c.args.modules.now) m 0 in
+pub leave-requires-in-Ended-clause-kinds : goal.leave-requires-in-Ended-clause-kinds
+leave-requires-in-Ended-clause-kinds c =
     let t = subst (Turns (lists_in c.args.uses.now.items) c.copies.copying c.go_on.new.self) c.in-Ended.is c.in_ok-at.ensures.turns in
-    let l = c.in_ok-leave-in-Ended.ensures.left [] (g c.in-Ended.field-0) (c.copies.invariant.3 ∙ ap (λ fs. reverse (map g fs)) t.4) in (
-      c.go_on.new.self.left.items,
-      subst (λ r. Copies (lists_in c.args.uses.now.items) (r ∷ []) c.go_on.new.self.left.items) c.copies.invariant.1 t.0,
-      ap length c.finish.ensures.same ∙ total_more g c.copies.copying.left.items c.go_on.new.self.left.items c.in-Ended.field-0 (length c.copies.making.clauses.items) (length c.leave-in-Ended.new.self.clauses.items) t.2 c.copies.invariant.4 l.1,
-    )
+    let m = subst (Moves (lists_in c.args.uses.now.items) (frames_of c.copies.copying) (frames_of c.go_on.new.self)) c.in-Ended.is c.in_ok-at.ensures.moves in
+    λ o rest e. (ended_within c.args.modules.now c.args.root c.args.totals.now.items c.args.uses.now.items c.requires.uses c.requires.plan.0 c.requires.plan.1 c.copies.copying c.go_on.new.self c.copies.making c.copies.around.items c.copies.invariant.2 c.copies.invariant.1 c.in-Ended.field-0 t m o rest e).0
+
+pub leave-requires-in-Ended-clause-constants : goal.leave-requires-in-Ended-clause-constants
+leave-requires-in-Ended-clause-constants c =
+    let t = subst (Turns (lists_in c.args.uses.now.items) c.copies.copying c.go_on.new.self) c.in-Ended.is c.in_ok-at.ensures.turns in
+    let m = subst (Moves (lists_in c.args.uses.now.items) (frames_of c.copies.copying) (frames_of c.go_on.new.self)) c.in-Ended.is c.in_ok-at.ensures.moves in
+    λ o rest e. (ended_within c.args.modules.now c.args.root c.args.totals.now.items c.args.uses.now.items c.requires.uses c.requires.plan.0 c.requires.plan.1 c.copies.copying c.go_on.new.self c.copies.making c.copies.around.items c.copies.invariant.2 c.copies.invariant.1 c.in-Ended.field-0 t m o rest e).1
+
+pub returns-in-Ended-clause-copied : goal.returns-in-Ended-clause-copied
+returns-in-Ended-clause-copied c =
+    let t = subst (Turns (lists_in c.args.uses.now.items) c.copies.copying c.go_on.new.self) c.in-Ended.is c.in_ok-at.ensures.turns in
+    let m = subst (Moves (lists_in c.args.uses.now.items) (frames_of c.copies.copying) (frames_of c.go_on.new.self)) c.in-Ended.is c.in_ok-at.ensures.moves in
+    turn_ended c.args.modules.now c.args.root c.args.totals.now.items c.args.uses.now.items c.requires.uses c.requires.plan.0 c.requires.plan.1 c.copies.copying c.go_on.new.self c.copies.making c.copies.around.items c.copies.invariant.2 c.copies.invariant.1 c.in-Ended.field-0 t m c.leave-in-Ended.new.self c.leave-in-Ended.new.around.items c.in_ok-leave-in-Ended.ensures
