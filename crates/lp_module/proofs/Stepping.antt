@@ -5,15 +5,18 @@ use Rattle.std.specs.Prelude.{sum_by, slice_get, Vec}
 use Rattle.std.proofs.lemmas.Option.{slice_get-get_or}
 use Rattle.std.proofs.lemmas.List.Sums.{sum_by-append, sum_by_push}
 use Rattle.std.proofs.lemmas.List.{append-nil, reverse-append}
-use Rattle.lp_copies.specs.Copies.{Copies, RestOfCopies, IsOpened, IsClosed}
+use Rattle.lp_copies.specs.Copies.{Copies, RestOfCopies, IsOpened, IsClosed, IsTooMany as AreTooMany}
 use Rattle.lp_copies.specs.Trees.{lists_in, IsCopying, frames_of, Turns, Moves}
 use Rattle.lp_copies.specs.declared.copying.Copying.{Copying}
 use Rattle.lp_copies.specs.declared.copying.Turn.TheVariants.{Entered, Left, Ended}
+use Rattle.lp_copies.specs.declared.fault.TreeRefusal.{TreeRefusal}
+use Rattle.lp_copies.specs.declared.fault.TreeRefusal.TheVariants as refusal
 use Rattle.lp_copies.proofs.Copied.{row_is, rows_are, copies_begin}
 use Rattle.lp_model.specs.Readings.{formula_of}
-use Rattle.lp_module.specs.Copies.{IsOrder, uses_of}
+use Rattle.lp_module.specs.Copies.{IsOrder, IsTooMany, uses_of}
 use Rattle.lp_module.specs.Making.{IsSoFar, MakesNames}
 use Rattle.lp_module.specs.Program.{Copy, Next, first_of, AreCopies, clauses_of}
+use Rattle.lp_module.specs.Trees.{fault_of}
 use Rattle.lp_module.specs.declared.copies.Making.{Making}
 use Rattle.lp_module.specs.declared.module.Module.{Module}
 use Rattle.lp_module.specs.declared.numbers.Open.{Open}
@@ -22,6 +25,10 @@ use Rattle.lp_module.specs.inner.Assembling.{counted, in_all, past, AreOpen, nex
 use Rattle.lp_module.proofs.Uses.{uses_count}
 use Rattle.lp_module.proofs.Totals.{Fits, fits, rest_more}
 use Rattle.lp_module.proofs.Composing.{own_at, making_begun, making_entered, making_left, making_ended, plan_fits}
+
+pub tree_told : (uses : List (List ℕ)) (root : ℕ) (r : TreeRefusal) → AreTooMany uses root r → IsTooMany uses root (fault_of r)
+tree_told uses root refusal.TooMany h = h
+tree_told uses root refusal.Memory h = tt
 
 -- the bounds of what is entered
 pub enter_fits : (own T : ℕ → ℕ) (first : ℕ) (left : List ℕ) (m : ℕ) (inside out : List ℕ) (next below mine : ℕ) → Fits own T first left m inside → out ≡ inside → next ≡ first + sum_by own left → below ≡ counted (sum_by T out) → own m ≡ mine → next + below + mine ≤ 1048576

@@ -326,6 +326,7 @@ impl Making {
         requires { IsSoFar self }
         ensures clauses { AreWithin result.program.bank result.program.clauses.items }
         ensures constants { length result.program.constants.items ≡ length result.constants.items }
+        ensures bank { result.program.bank ≡ self.bank }
         ensures same { result.program.clauses.items ≡ self.clauses.items }
         ensures kinds { AreNumbered result.kinds.items }
         ensures numbers { AreNumbered result.constants.items }

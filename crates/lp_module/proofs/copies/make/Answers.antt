@@ -1,7 +1,15 @@
-use Rattle.std.proofs.Common.{◌∙◌, [], subst}
+use Rattle.std.proofs.Common.{◌+◌, ◌∙◌, [], length, map, sym, ap, subst, arith}
+use Rattle.lp_lemmas.proofs.Results.{passed_up}
+use Rattle.lp_copies.specs.Copies.{IsTooMany as AreTooMany}
 use Rattle.lp_copies.specs.Trees.{lists_in, frames_of, Turns, Moves}
+use Rattle.lp_copies.proofs.Copied.{rows_are}
+use Rattle.lp_model.specs.Readings.{formula_of}
+use Rattle.lp_module.specs.Copies.{IsTooMany}
+use Rattle.lp_module.specs.Trees.{fault_of}
 use Rattle.lp_module.specs.inner.Assembling.{Opens}
-use Rattle.lp_module.proofs.Stepping.{root_names, root_kinds, root_constants, root_begun, never_empty, left_within, ended_within, entered_kinds, entered_constants, turn_entered, turn_left, turn_ended}
+use Rattle.lp_module.proofs.Summing.{within_totals}
+use Rattle.lp_module.proofs.Uses.{uses_count}
+use Rattle.lp_module.proofs.Stepping.{tree_told, root_names, root_kinds, root_constants, root_begun, never_empty, left_within, ended_within, entered_kinds, entered_constants, turn_entered, turn_left, turn_ended}
 use Rattle.lp_module.proofs.copies.make.Goals as goal
 
 pub new-making-requires-clause-kinds : goal.new-making-requires-clause-kinds
@@ -27,7 +35,7 @@ copies-init c = (
   c.new-copying.ensures.copying,
   c.new-copying.ensures.root,
   root_begun c.args.modules.now c.args.root c.args.totals.now.items c.args.uses.now.items c.requires.uses c.requires.plan.0 c.requires.plan.1 c.index-modules-root.result c.requires.root c.index-modules-root.is c.new-making.result c.enter.new.self c.enter.new.around.items c.index.result.now c.below_of.result c.new-copying.result c.index.ensures c.below_of.ensures.kinds c.below_of.ensures.constants c.new-making.ensures.made c.new-making.ensures.none c.new-making.ensures.next c.in_ok-enter.ensures.made
-      (subst (λ l. Opens l c.enter.new.around.items c.index-modules-root.result _) c.new-around.ensures.items c.in_ok-enter.ensures.opened) c.new-copying.ensures.left c.new-copying.ensures.frames,
+      (subst (λ l. Opens l c.enter.new.around.items c.index-modules-root.result (record { kinds = c.new-making.result.next.kinds + c.below_of.result.kinds; constants = c.new-making.result.next.constants + c.below_of.result.constants })) c.new-around.ensures.items c.in_ok-enter.ensures.opened) c.new-copying.ensures.left c.new-copying.ensures.frames,
 )
 
 pub enter-requires-in-Entered-clause-hidden_kinds : goal.enter-requires-in-Entered-clause-hidden_kinds
@@ -88,4 +96,25 @@ pub returns-in-Ended-clause-copied : goal.returns-in-Ended-clause-copied
 returns-in-Ended-clause-copied c =
     let t = subst (Turns (lists_in c.args.uses.now.items) c.copies.copying c.go_on.new.self) c.in-Ended.is c.in_ok-at.ensures.turns in
     let m = subst (Moves (lists_in c.args.uses.now.items) (frames_of c.copies.copying) (frames_of c.go_on.new.self)) c.in-Ended.is c.in_ok-at.ensures.moves in
-    turn_ended c.args.modules.now c.args.root c.args.totals.now.items c.args.uses.now.items c.requires.uses c.requires.plan.0 c.requires.plan.1 c.copies.copying c.go_on.new.self c.copies.making c.copies.around.items c.copies.invariant.2 c.copies.invariant.1 c.in-Ended.field-0 t m c.leave-in-Ended.new.self c.leave-in-Ended.new.around.items c.in_ok-leave-in-Ended.ensures
+    let (copied, are, order, clauses) = turn_ended c.args.modules.now c.args.root c.args.totals.now.items c.args.uses.now.items c.requires.uses c.requires.plan.0 c.requires.plan.1 c.copies.copying c.go_on.new.self c.copies.making c.copies.around.items c.copies.invariant.2 c.copies.invariant.1 c.in-Ended.field-0 t m c.leave-in-Ended.new.self c.leave-in-Ended.new.around.items c.in_ok-leave-in-Ended.ensures in
+    (copied, are, order, ap (λ b. map (formula_of b) c.finish.result.program.clauses.items) c.finish.ensures.bank ∙ ap (map (formula_of c.leave-in-Ended.new.self.bank)) c.finish.ensures.same ∙ clauses)
+
+pub below_of-requires : goal.below_of-requires
+below_of-requires c =
+    let n = uses_count c.args.modules.now c.args.uses.now.items c.requires.uses in
+    within_totals c.args.uses.now.items c.args.root c.index.result.now (length c.args.totals.now.items) (omega (arith, c.requires.root, n)) c.index.ensures (c.requires.totals ∙ sym n) c.requires.within
+
+pub below_of-below-requires : goal.below_of-below-requires
+below_of-below-requires c =
+    let n = uses_count c.args.modules.now c.args.uses.now.items c.requires.uses in
+    let r = rows_are c.args.uses.now.items in
+    let t = subst (Turns (lists_in c.args.uses.now.items) c.copies.copying c.go_on.new.self) c.in-Entered.is c.in_ok-at.ensures.turns in
+    within_totals c.args.uses.now.items c.in-Entered.at c.index-in-Entered.result.now (length c.args.totals.now.items) (omega (arith, t.4, r)) c.index-in-Entered.ensures (c.requires.totals ∙ sym n) c.requires.within
+
+pub returns-in_err-at-clause-refused : goal.returns-in_err-at-clause-refused
+returns-in_err-at-clause-refused c =
+    passed_up c.from_residual-in_err-at.result (fault_of c.in_err-at.field-0.0) (IsTooMany (lists_in c.args.uses.now.items) c.args.root) c.from_residual-in_err-at.ensures.1
+    (tree_told (lists_in c.args.uses.now.items) c.args.root c.in_err-at.field-0.0 (subst (λ m. AreTooMany (lists_in c.args.uses.now.items) m c.in_err-at.field-0.0) c.copies.invariant.1 c.in_err-at.ensures.refused))
+
+pub finish-requires : goal.finish-requires
+finish-requires c = c.in_ok-leave-in-Ended.ensures.made c.copies.invariant.2.sofar
