@@ -20,7 +20,7 @@ use Rattle.lp_module.specs.declared.module.Module.{Module}
 use Rattle.lp_module.specs.declared.numbers.Open.{Open}
 use Rattle.lp_module.specs.declared.tree.Hidden.{Hidden}
 use Rattle.lp_module.specs.inner.Assembling.{copy_of, next_of, IsOpen, AddsClauses, Opens, Leaves}
-use Rattle.lp_module.proofs.Composing.{formulas_later, within_later}
+use Rattle.lp_module.proofs.Composing.{formulas_later, within_later, typed_later}
 
 pub names_none : (m : Making) → MakesNames m m
 names_none m = ((λ x. x), refl, extends_same m.bank, refl)
@@ -43,6 +43,7 @@ module _ (old self : Making) (to : Nodes) (ks : Vec code.ClauseFormula Global) (
         x.3,
         x.4,
         x.5,
+        typed_later self.bank to self.declared.items grown x.6,
       )
 
   pub clause_next : at < length o.module.now.clauses.items → clause ≡ get_or o.module.now.clauses.items at clause → IsMade old self → formula_of to k ≡ in_copy (copy_of 0 o) (formula_of o.module.now.bank clause) →

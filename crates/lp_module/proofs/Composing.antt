@@ -9,11 +9,12 @@ use Rattle.lp_term.proofs.Trees.{extends-trans}
 use Rattle.lp_model.specs.Flatten.{ClauseFormula}
 use Rattle.lp_model.specs.Readings.{formula_of}
 use Rattle.lp_model.specs.declared.program.ClauseFormula as code
+use Rattle.lp_model.specs.declared.program.Declared.{Declared}
 use Rattle.lp_copies.specs.Copies.{Copies, RestOfCopies, IsOpened, IsClosed}
 use Rattle.lp_copies.specs.Trees.{IsCopying, frames_of}
 use Rattle.lp_copies.specs.declared.copying.Copying.{Copying}
 use Rattle.lp_module.specs.Copies.{uses_of}
-use Rattle.lp_module.specs.Making.{IsSoFar, IsMade, MakesNames}
+use Rattle.lp_module.specs.Making.{AreTyped, IsSoFar, IsMade, MakesNames}
 use Rattle.lp_module.specs.Program.{Copy, Next, first_of, behind, IsRoot, IsBelow, AreCopies, in_copy, clauses_in, clauses_of}
 use Rattle.lp_module.specs.Sentences.{AreWithin}
 use Rattle.lp_module.specs.declared.copies.Making.{Making}
@@ -170,8 +171,11 @@ with_bank m b = record { alloc = m.alloc; bank = b; declared = m.declared; claus
 pub within_later : (b c : Nodes) (ks : List code.ClauseFormula) → Extends b c → AreWithin b ks → AreWithin c ks
 within_later b c ks e w = λ i d h. let q = w i d h in omega (arith, q, e.more_terms)
 
+pub typed_later : (b c : Nodes) (ds : List Declared) → Extends b c → AreTyped b ds → AreTyped c ds
+typed_later b c ds e w = λ i d h. let q = w i d h in omega (arith, q, e.more_types)
+
 pub bank_grown : (m : Making) (b : Nodes) → Extends m.bank b → MakesNames m (with_bank m b)
-bank_grown m b e = ((λ x. (within_later m.bank b m.clauses.items e x.0, x.1, x.2, x.3, x.4, x.5)), refl, e, refl)
+bank_grown m b e = ((λ x. (within_later m.bank b m.clauses.items e x.0, x.1, x.2, x.3, x.4, x.5, typed_later m.bank b m.declared.items e x.6)), refl, e, refl)
 
 -- the numbers of a copy that was entered are below the limit
 pub plan_fits : (modules : List Module) (root : ℕ) (ts : List Hidden) (order : List ℕ) (top : Module) → slice_get modules root ≡ Some top → IsPlanned modules root ts order → (c : Copying) → IsCopying (uses_of modules) c → c.root ≡ root → (m : ℕ) (fs : List (ℕ × ℕ)) → frames_of c ≡ (m, 0) ∷ fs →

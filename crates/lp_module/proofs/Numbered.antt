@@ -1,11 +1,15 @@
 -- One more name behind others, and what its number is.
-use Rattle.std.proofs.Common.{◌≡◌, ℕ, zero, suc, ◌+◌, ◌≤◌, List, [], ◌∷◌, ◌++◌, length, refl, sym, ap, subst, ◌∙◌, arith, Bool, true, false, nat_lt, inl, inr, append_assoc, Option, Some}
+use Rattle.std.proofs.Common.{◌≡◌, ℕ, zero, suc, ◌+◌, ◌<◌, ◌≤◌, List, [], ◌∷◌, ◌++◌, length, refl, sym, ap, subst, ◌∙◌, arith, Bool, true, false, nat_lt, inl, inr, append_assoc, Option, Some}
 use Rattle.std.specs.Prelude.{◌⊎◌, if◌then◌else◌}
 use Rattle.std.specs.Str.{bytes_eq}
 use Rattle.std.proofs.lemmas.Bool.{ltb-true, ltb-false}
 use Rattle.std.proofs.lemmas.List.{append-nil, length-append}
 use Rattle.std.proofs.lemmas.Slice.Eq.{bytes_eq-Decides}
 use Rattle.lp_module.specs.Numbering.{hidden_one, hidden_ones, capped, NumberedFrom, AreNumbered, following, or_none}
+use Rattle.std.proofs.lemmas.List.Elements.{All-push}
+use Rattle.lp_term.specs.Nodes.{Nodes}
+use Rattle.lp_model.specs.declared.program.Declared.{Declared}
+use Rattle.lp_module.specs.Making.{AreTyped}
 use Rattle.lp_module.specs.declared.copies.GlobalName.{GlobalName}
 
 hidden_push : (name : List ℕ) (gs : List GlobalName) (g : GlobalName) → hidden_ones name (gs ++ g ∷ []) ≡ hidden_ones name gs + (if bytes_eq name g.name.items then hidden_one g.hidden else 0)
@@ -102,3 +106,7 @@ none_counted count gs e none name = none name ∙ sym (ap (λ l. capped (hidden_
 
 pub none_numbered : (gs : List GlobalName) → gs ≡ [] → AreNumbered gs
 none_numbered gs e = subst AreNumbered (sym e) tt
+
+-- one more type of a constant
+pub typed_push : (b : Nodes) (ds ds_then : List Declared) (d : Declared) → ds_then ≡ ds ++ d ∷ [] → AreTyped b ds → d.scheme.0 < length b.types → AreTyped b ds_then
+typed_push b ds ds_then d e all h = subst (AreTyped b) (sym e) (All-push (λ d. d.scheme.0 < length b.types) ds d all h)

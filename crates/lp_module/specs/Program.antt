@@ -11,6 +11,7 @@ use Rattle.lp_model.specs.Readings.{formula_of}
 use Rattle.lp_sig.specs.Rows.{found, kind_row, number_row}
 use Rattle.lp_sig.specs.Standard.{standard_kinds, standard_constants}
 use Rattle.lp_module.specs.Copies.{IsOrder, uses_of, counts_of, total, kinds_end, constants_end}
+use Rattle.lp_module.specs.Making.{AreTyped}
 use Rattle.lp_module.specs.Numbering.{AreNumbered, or_none}
 use Rattle.lp_module.specs.Sentences.{AreWithin}
 use Rattle.lp_module.specs.declared.copies.Assembled.{Assembled}
@@ -140,5 +141,6 @@ pub record IsProgram (modules : List Module) (root : ℕ) (a : Assembled) : Type
   pub count : length a.program.clauses.items ≡ total counts_of modules order
   pub clauses : AreWithin a.program.bank a.program.clauses.items
   pub constants : length a.program.constants.items ≡ length a.constants.items
+  pub typed : AreTyped a.program.bank a.program.constants.items
   pub hidden_kinds : AreNumbered a.kinds.items
   pub hidden_constants : AreNumbered a.constants.items

@@ -6,7 +6,7 @@ ghost use Rattle.lp_copies.specs.declared.names.TheConstants.{END_OF_IMAGE_NUMBE
 ghost use Rattle.lp_copies.specs.Trees.{lists_in};
 ghost use Rattle.lp_model.specs.Readings.{formula_of};
 ghost use Rattle.lp_module.specs.Copies.{IsOrder, IsTooMany, IsProgramRefusal, counts_of, total, kinds_end, constants_end, uses_of};
-ghost use Rattle.lp_module.specs.Making.{IsSoFar, MakesNames};
+ghost use Rattle.lp_module.specs.Making.{AreTyped, IsSoFar, MakesNames};
 ghost use Rattle.lp_module.specs.Numbering.{AreNumbered, count_in, following};
 ghost use Rattle.lp_module.specs.Program.{Copy, IsProgram, AreCopies, first_of, clauses_of as program_clauses};
 ghost use Rattle.lp_module.specs.Sentences.{AreWithin};
@@ -161,6 +161,7 @@ impl Making {
     }
 
     fn add_global_constant(&mut self, entry: &ConstantEntry, scheme: TypeId) -> Result<(), Memory>
+        requires { scheme.0 < length self.old.bank.types }
         ensures { OnOk result (MakesNames self.old self.new) }
     {
         let name = Vec::from_slice(self.alloc, entry.name.as_slice())?;
@@ -179,6 +180,7 @@ impl Making {
     }
 
     fn add_hidden_constant(&mut self, entry: &ConstantEntry, scheme: TypeId) -> Result<(), Memory>
+        requires { scheme.0 < length self.old.bank.types }
         ensures { OnOk result (MakesNames self.old self.new) }
     {
         let hidden = next_hidden(
@@ -326,6 +328,7 @@ impl Making {
         requires { IsSoFar self }
         ensures clauses { AreWithin result.program.bank result.program.clauses.items }
         ensures constants { length result.program.constants.items ≡ length result.constants.items }
+        ensures typed { AreTyped result.program.bank result.program.constants.items }
         ensures bank { result.program.bank ≡ self.bank }
         ensures same { result.program.clauses.items ≡ self.clauses.items }
         ensures kinds { AreNumbered result.kinds.items }
@@ -416,6 +419,7 @@ fn make(
     requires plan { (order : List ℕ) × IsPlanned modules.now root totals.now.items order }
     ensures clauses { IfOk result (λ a. AreWithin a.program.bank a.program.clauses.items) }
     ensures constants { IfOk result (λ a. length a.program.constants.items ≡ length a.constants.items) }
+    ensures typed { IfOk result (λ a. AreTyped a.program.bank a.program.constants.items) }
     ensures hidden_kinds { IfOk result (λ a. AreNumbered a.kinds.items) }
     ensures hidden_constants { IfOk result (λ a. AreNumbered a.constants.items) }
     ensures copied { IfOk result (λ a. (copied : List Copy) × AreCopies modules.now root copied × IsOrder modules.now root (map (λ c. c.member) copied) × (map (formula_of a.program.bank) a.program.clauses.items ≡ program_clauses modules.now copied)) }

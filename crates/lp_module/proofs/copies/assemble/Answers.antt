@@ -60,6 +60,7 @@ returns-clause-program c =
       count = sym (length-map c.in_ok-made.made.program.clauses.items (formula_of c.in_ok-made.made.program.bank)) ∙ ap length clauses ∙ clauses_count c.args.modules.now copied ∙ ap (total counts_of c.args.modules.now) same;
       clauses = c.in_ok-made.ensures.clauses;
       constants = c.in_ok-made.ensures.constants;
+      typed = c.in_ok-made.ensures.typed;
       hidden_kinds = c.in_ok-made.ensures.hidden_kinds;
       hidden_constants = c.in_ok-made.ensures.hidden_constants;
     }

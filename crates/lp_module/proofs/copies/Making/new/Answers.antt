@@ -16,4 +16,5 @@ returns-clause-made c = (
   none_numbered c.new-4.result.items c.new-4.ensures.items,
   none_counted (count_in c.new-7.result) c.new-5.result.items c.new-5.ensures.items (λ name. ap (λ es. or_none (lookup (λ k. bytes_eq name k.items) es)) c.new-7.ensures.empty),
   none_numbered c.new-5.result.items c.new-5.ensures.items,
+  subst (All (λ d. d.scheme.0 < length c.new.result.types)) (sym c.new-2.ensures.items) (All-nil (λ d. d.scheme.0 < length c.new.result.types)),
 )
