@@ -16,17 +16,17 @@ end_of_kinds-requires-clause-order c = order_within c.in_ok-uses.uses.items c.ar
 pub end_of_constants-requires-clause-order : goal.end_of_constants-requires-clause-order
 end_of_constants-requires-clause-order c = order_within c.in_ok-uses.uses.items c.args.modules.now c.args.root c.in_ok-order.order.items c.in_ok-uses.ensures.uses (omega (arith, c.if-root-modules.false)) c.in_ok-order.ensures.copies
 
-pub totals_of-totals-requires-clause-modules : goal.totals_of-totals-requires-clause-modules
-totals_of-totals-requires-clause-modules c = sym (uses_count c.args.modules.now c.in_ok-uses.uses.items c.in_ok-uses.ensures.uses)
+pub totals_of-requires-clause-modules : goal.totals_of-requires-clause-modules
+totals_of-requires-clause-modules c = sym (uses_count c.args.modules.now c.in_ok-uses.uses.items c.in_ok-uses.ensures.uses)
 
-pub totals_of-totals-requires-clause-order : goal.totals_of-totals-requires-clause-order
-totals_of-totals-requires-clause-order c = order_within c.in_ok-uses.uses.items c.args.modules.now c.args.root c.in_ok-order.order.items c.in_ok-uses.ensures.uses (omega (arith, c.if-root-modules.false)) c.in_ok-order.ensures.copies
+pub totals_of-requires-clause-order : goal.totals_of-requires-clause-order
+totals_of-requires-clause-order c = order_within c.in_ok-uses.uses.items c.args.modules.now c.args.root c.in_ok-order.order.items c.in_ok-uses.ensures.uses (omega (arith, c.if-root-modules.false)) c.in_ok-order.ensures.copies
 
-pub totals_of-totals-requires-clause-behind : goal.totals_of-totals-requires-clause-behind
-totals_of-totals-requires-clause-behind c = copies_behind _ (c.args.root ∷ []) c.in_ok-order.order.items c.in_ok-order.ensures.copies []
+pub totals_of-requires-clause-behind : goal.totals_of-requires-clause-behind
+totals_of-requires-clause-behind c = copies_behind _ (c.args.root ∷ []) c.in_ok-order.order.items c.in_ok-order.ensures.copies []
 
-pub make-made-requires-clause-plan : goal.make-made-requires-clause-plan
-make-made-requires-clause-plan c =
+pub make-requires-clause-plan : goal.make-requires-clause-plan
+make-requires-clause-plan c =
     let us = c.in_ok-uses.ensures.uses in
     let (is_kinds, kinds) = c.in_ok-end_of_kinds.ensures.sum in
     let (is_constants, constants) = c.in_ok-end_of_constants.ensures.sum in (
