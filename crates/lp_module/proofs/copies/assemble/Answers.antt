@@ -64,3 +64,18 @@ returns-clause-program c =
       hidden_kinds = c.in_ok-made.ensures.hidden_kinds;
       hidden_constants = c.in_ok-made.ensures.hidden_constants;
     }
+
+pub returns-clause-copies : goal.returns-clause-copies
+returns-clause-copies c =
+    let us = c.in_ok-uses.ensures.uses in
+    let (copied, are, copies, clauses) = c.in_ok-made.ensures.copied in
+    let (is_kinds, kinds) = c.in_ok-end_of_kinds.ensures.sum in
+    let (is_constants, constants) = c.in_ok-end_of_constants.ensures.sum in
+    let same = c.in_ok-order.ensures.only (map (λ c. c.member) copied) (subst (λ u. Copies u (c.args.root ∷ []) (map (λ c. c.member) copied)) (sym us) copies) in (
+      c.in_ok-order.order.items,
+      subst (λ u. Copies u (c.args.root ∷ []) c.in_ok-order.order.items) us c.in_ok-order.ensures.copies,
+      c.in_ok-order.ensures.few,
+      subst (λ n. n ≤ END_OF_IMAGE_NUMBERS) is_kinds kinds,
+      subst (λ n. n ≤ END_OF_IMAGE_NUMBERS) is_constants constants,
+      sym (length-map c.in_ok-made.made.program.clauses.items (formula_of c.in_ok-made.made.program.bank)) ∙ ap length clauses ∙ clauses_count c.args.modules.now copied ∙ ap (total counts_of c.args.modules.now) same,
+    )
