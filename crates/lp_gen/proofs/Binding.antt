@@ -1,18 +1,19 @@
 -- A variable that is bound: its terms give way to index 0, and the goals are those below one binder more.
-use Rattle.std.proofs.Common.{◌≡◌, ◌∙◌, ◌≤◌, ◌<◌, ℕ, suc, ◌+◌, ◌-◌, List, [], ◌∷◌, map, Bool, true, false, Option, Some, None, ap, refl, sym, arith}
-use Rattle.std.specs.Prelude.{nat_eq, nat_lt, if◌then◌else◌}
-use Rattle.std.proofs.lemmas.Bool.{eq-eqb, ne_eqb, lt-ltb, le-ltb, ltb-true, ltb-false}
+use Rattle.std.proofs.Common.{◌≡◌, ◌∙◌, ◌≤◌, ◌<◌, ℕ, zero, suc, ◌+◌, ◌-◌, ◌^◌, List, [], ◌∷◌, ◌++◌, map, length, Bool, true, false, Option, Some, None, ap, refl, sym, subst, arith, true≢false}
+use Rattle.std.specs.Prelude.{nat_eq, nat_lt, nat_le, if◌then◌else◌, min, slice_get}
+use Rattle.std.proofs.lemmas.Bool.{eqb-true, eq-eqb, ne_eqb, lt-ltb, le-ltb, ltb-true, ltb-false, le-leb}
 use Rattle.std.proofs.lemmas.List.{length-append}
 use Rattle.lp_calculus.specs.Types.{Ty}
 use Rattle.lp_calculus.specs.Term.{Term, Atom, index, atom, abs, app, shift, constant, integer, text, eigen, logic, param}
 use Rattle.lp_calculus.specs.Fill.{raise, fill, at_variables}
-use Rattle.lp_model.specs.Flat.{Goal, Goals, Clauses, Atomic, Cut, Either, Exists, Forall, Assume, Not, no_goals, goals, clause, no_clauses, clauses, under_all, map_goal, map_goals, map_clauses, same_type}
+use Rattle.lp_model.specs.Flat.{Goal, Goals, Clause, Clauses, Atomic, Cut, Either, Exists, Forall, Assume, Not, no_goals, goals, clause, no_clauses, clauses, under_all, map_goal, map_goals, map_clauses, same_type}
 use Rattle.lp_code.specs.Symbolic.{variable}
-use Rattle.lp_code.specs.States.{placed, index_or, bound_at, bind_term}
+use Rattle.lp_code.specs.States.{placed, index_or, bound_at, bind_term, bind_goals}
 use Rattle.lp_code.specs.Written.{nothing_written}
-use Rattle.lp_gen.specs.inner.Listing.{Seen, Around, count_around, level_below, level_in}
+use Rattle.lp_gen.specs.inner.Listing.{Seen, Around, count_around, level_below, level_in, at_level}
 use Rattle.lp_gen.specs.inner.TermLaw.{KnownAtoms, AllLoose, level_term, index_term, with_variables}
-use Rattle.lp_gen.specs.inner.Bodies.{pushed, new_level, IsShort, with_level, bare_goal, IsThrough, AreThrough, AllThrough, HasLevel, Binds, said_goals, said_clauses}
+use Rattle.lp_gen.specs.inner.Bodies.{pushed, new_level, IsShort, with_level, bare_goal, bare_goals, bare_clauses, IsThrough, AreThrough, AllThrough, HasLevel, Binds, said_goals, said_clauses}
+use Rattle.lp_gen.proofs.Registers.{by_same}
 
 -- the levels of indices, where a variable was pushed
 
@@ -183,6 +184,9 @@ module _ (κ : ℕ → Option ℕ) (n home m : ℕ) (rs : List ℕ) (σ τ : ℕ
 
 bind_itself : (r home d : ℕ) → bind_term (r ∷ []) home d (variable r home) ≡ index d
 bind_itself r home d = (λ i. index_or (if eq-eqb home home refl i then (if eq-eqb r r refl i then Some d else None) else None) (atom (logic r home)))
+
+pub bind_another : (r k home d : ℕ) → (k ≡ r → ⊥) → bind_term (r ∷ []) home d (variable k home) ≡ variable k home
+bind_another r k home d e = (λ i. index_or (if eq-eqb home home refl i then (if ne_eqb k r e i then Some d else None) else None) (atom (logic k home)))
 
 pub one_binds : (home r : ℕ) (σ : ℕ → Term) (a : Around) (v : Seen) → IsShort a → ((i l d : ℕ) → level_in a i ≡ Some l → bind_term (r ∷ []) home d (σ l) ≡ σ l) →
     Binds home (r ∷ []) 1 (with_level σ (new_level a) (variable r home)) (pushed a v) σ a

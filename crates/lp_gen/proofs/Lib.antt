@@ -20,6 +20,14 @@ mod HeadWhole
 mod HeadNodes
 mod Beginning
 mod Binding
+mod Blocks
+mod BlockEnds
+mod Quantified
+mod Sides
+mod EitherSaid
+mod Calm
+mod Pushed
+mod BodySaid
 mod Denoting
 mod Bytes
 mod Goals

@@ -1,5 +1,5 @@
 -- Instructions that make what is asked for and then say a goal or a part of the head.
-use Rattle.std.specs.Prelude.{◌≡◌, ℕ, ◌+◌, ◌≤◌, ◌<◌, true, List, [], ◌++◌, sum_by, None, Some}
+use Rattle.std.specs.Prelude.{◌≡◌, ℕ, ◌+◌, ◌≤◌, ◌<◌, true, List, [], ◌∷◌, ◌++◌, sum_by, None, Some}
 use Rattle.lp_calculus.specs.Types.{Ty}
 use Rattle.lp_calculus.specs.Term.{Term}
 use Rattle.lp_calculus.specs.Typing.{o_type, HasType}
@@ -39,9 +39,9 @@ pub record Does (h : Home) (later : Later) (vars types types' terms terms' : ℕ
   pub types_stand : TypesStand h vars types' t
   pub terms_stand : TermsStand h terms' t
 
--- the same for goals: right sides that end there are left, and records may be assumed
+-- the same for goals, behind which more code stands: right sides that end there are left, and records may be assumed
 pub record Says (h : Home) (later : Later) (vars types types' terms terms' : ℕ) (s : State) (is : List Instr) (gs : Goals) (more : List (ℕ × Captured)) (t : State) : Type 0 where
-  pub runs : (rest : List Instr) → run h later s (is ++ rest) ≡ run h later (settled h.number (depth t.frames) t) rest
+  pub runs : (i : Instr) (rest : List Instr) → run h later s (is ++ i ∷ rest) ≡ run h later (settled h.number (depth t.frames) t) (i ∷ rest)
   pub place_is : t.place ≡ s.place + sum_by length_of is
   pub goals_are : t.goals ≡ gs
   pub head_types_stay : t.head_types ≡ s.head_types
