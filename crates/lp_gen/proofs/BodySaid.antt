@@ -2,7 +2,7 @@
 use Rattle.std.proofs.Common.{◌≡◌, ◌∙◌, ◌≤◌, ◌<◌, ℕ, zero, suc, ◌+◌, ◌-◌, List, [], ◌∷◌, ◌++◌, length, Bool, true, false, Option, Some, None, ap, refl, sym, subst, arith, true≢false}
 use Rattle.std.specs.Prelude.{nat_lt, nat_le, ◌||◌, sum_by}
 use Rattle.std.specs.List.{list_any}
-use Rattle.std.proofs.lemmas.Bool.{eqb-true, leb-false, le-ltb}
+use Rattle.std.proofs.lemmas.Bool.{eqb-true, leb-false, le-ltb, ltb-false}
 use Rattle.std.proofs.lemmas.List.{append-nil}
 use Rattle.std.proofs.lemmas.List.Sums.{sum_by-append}
 use Rattle.lp_calculus.specs.Types.{Ty}
@@ -12,16 +12,16 @@ use Rattle.lp_code.specs.declared.instruction.Instr.{Instr}
 use Rattle.lp_code.specs.declared.instruction.Instr.TheVariants as on
 use Rattle.lp_code.specs.Length.{length_of}
 use Rattle.lp_code.specs.Symbolic.{Built, variable, held, whole}
-use Rattle.lp_code.specs.States.{Block, under_sigma, under_all, under_not, left_side, right_side, Frame, State, Home, member, with_goal, depth, bind_goals}
+use Rattle.lp_code.specs.States.{Block, under_sigma, under_all, under_assumption, under_not, left_side, right_side, Frame, State, Home, member, with_goal, depth, bind_goals}
 use Rattle.lp_code.specs.Steps.{Later}
 use Rattle.lp_code.specs.Written.{nothing_written}
 use Rattle.lp_code.specs.Rules.{is_passed, side_is_passed, nesting_limit}
-use Rattle.lp_gen.specs.Sources.{IsKnownType, goal_depth, goals_depth}
+use Rattle.lp_gen.specs.Sources.{IsKnownType, goal_depth, goals_depth, ends_list}
 use Rattle.lp_gen.specs.inner.Running.{TypesStand, TermsStand, HasRoom, ends_before, MayEnd, Hold, Leads}
 use Rattle.lp_gen.specs.inner.Listing.{Around}
 use Rattle.lp_gen.specs.inner.TermLaw.{Standing, KnownAtoms, AllLoose, IsSeen}
 use Rattle.lp_gen.specs.inner.Doing.{Says}
-use Rattle.lp_gen.specs.inner.Bodies.{pushed, new_level, IsShort, with_level, IsThrough, AreThrough, HasLevel, said_goal, said_goals, GoalsSaid, frame_of}
+use Rattle.lp_gen.specs.inner.Bodies.{pushed, new_level, IsShort, with_level, IsThrough, AreThrough, HasLevel, said_goal, said_goals, GoalsSaid, Opened, frame_of}
 use Rattle.lp_gen.specs.inner.GoalCode.{quantified, AtomCode, KindCode, GoalCode, GoalsCode}
 use Rattle.lp_gen.specs.inner.BodyLaw.{AtomFits, one_more, GoalFits, GoalsFit, IsAround}
 use Rattle.lp_gen.proofs.Denoting.{or_none, may_strict}
@@ -263,11 +263,6 @@ right_stands h vars n m k l mr s u gl body st te su ue = (
   },
 )
 
--- goals that are no `sigma` are said one by one
-abbrev IsPiece : Goal → Type 0
-IsPiece (Exists T gs) = ⊥
-IsPiece g = Unit {0}
-
 no_goal_more : (g : Goal) (gs : Goals) → goals g gs ≡ no_goals → ⊥
 no_goal_more g gs e = cc
 
@@ -278,15 +273,129 @@ some_code_is K a n n' k k' g gs is c e =
     let w : sum_by length_of [] ≡ 0 = refl in
     omega (arith, z, y, w)
 
+-- a right side may end at an offset, and so at those before it
+may_le : (n m : ℕ) (fs : List Frame) → n ≤ m → list_any (λ (f : Frame). ends_before m f.block) fs ≡ false → list_any (λ (f : Frame). ends_before n f.block) fs ≡ false
+may_le n m [] l e = refl
+may_le n m (f ∷ fs) l e =
+    or_none (ends_before n f.block) (list_any (λ (f : Frame). ends_before n f.block) fs) (side f.block (left_of (ends_before m f.block) (list_any (λ (f : Frame). ends_before m f.block) fs) e))
+    (may_le n m fs l (right_of (ends_before m f.block) (list_any (λ (f : Frame). ends_before m f.block) fs) e))
+  where
+    left_of : (c d : Bool) → (c || d) ≡ false → c ≡ false
+    left_of true d e = absurd (true≢false e)
+    left_of false d e = refl
+
+    right_of : (c d : Bool) → (c || d) ≡ false → d ≡ false
+    right_of true d e = absurd (true≢false e)
+    right_of false d e = e
+
+    side : (b : Block) → ends_before m b ≡ false → ends_before n b ≡ false
+    side (under_sigma r T) e = refl
+    side (under_all r T) e = refl
+    side (under_assumption cs) e = refl
+    side under_not e = refl
+    side (left_side q) e = let z = ltb-false q m e in le-ltb q n (omega (arith, z, l))
+    side (right_side q gs) e = let z = ltb-false q m e in le-ltb q n (omega (arith, z, l))
+
+-- what a goal says: a `sigma` stays open up to the end of the block around it
+abbrev SaidBy : Home → Later → (vars n n' k k' : ℕ) → State → List Instr → Goal → (said : Goal) → State → Type 0
+SaidBy h later vars n n' k k' s is (Atomic t) said u = Says h later vars n n' k k' s is (with_goal s.goals said) [] u
+SaidBy h later vars n n' k k' s is Cut said u = Says h later vars n n' k k' s is (with_goal s.goals said) [] u
+SaidBy h later vars n n' k k' s is (Either gs hs) said u = Says h later vars n n' k k' s is (with_goal s.goals said) [] u
+SaidBy h later vars n n' k k' s is (Exists T gs) said u = GoalsSaid h later vars n n' k k' s is (goals said no_goals) [] u
+SaidBy h later vars n n' k k' s is (Forall T gs) said u = Says h later vars n n' k k' s is (with_goal s.goals said) [] u
+SaidBy h later vars n n' k k' s is (Assume w cs gs) said u = Says h later vars n n' k k' s is (with_goal s.goals said) [] u
+SaidBy h later vars n n' k k' s is (Not w gs) said u = Says h later vars n n' k k' s is (with_goal s.goals said) [] u
+
+-- goals behind a goal
+abbrev Behind : Home → Later → (vars n m n' k l k' : ℕ) → State → (js ks : List Instr) → (said : Goal) → (others : Goals) → Type 0
+Behind h later vars n m n' k l k' s js ks said others =
+    (t : State) → Says h later vars n m k l s js (with_goal s.goals said) [] t → (u : State) × GoalsSaid h later vars m n' l k' t ks others [] u × (ks ≡ [] → u ≡ t)
+
+-- a goal that is no `sigma`, and what is behind it
+piece_joined : (h : Home) (later : Later) (K : ℕ → List Ty → Ty) (vars n m n' k l k' : ℕ) (σ : ℕ → Term) (a : Around) (s v : State) (g : Goal) (rest : Goals) (is js ks : List Instr) → 0 < sum_by length_of js →
+    n ≤ m → k ≤ l → GoalsCode K a m n' l k' rest ks → is ≡ js ++ ks → MayEnd s (s.place + sum_by length_of is) → Says h later vars n m k l s js (with_goal s.goals (said_goal σ a 0 g)) [] v →
+    Behind h later vars n m n' k l k' s js ks (said_goal σ a 0 g) (said_goals σ a 0 rest) → (u : State) × GoalsSaid h later vars n n' k k' s is (said_goals σ a 0 (goals g rest)) [] u
+piece_joined h later K vars n m n' k l k' σ a s v g no_goals is js ks some nm kl d e room x others =
+    let f : js ≡ is = sym (append-nil js) ∙ ap (λ z. js ++ z) (sym d.2) ∙ sym e in
+    let said = goals (said_goal σ a 0 g) no_goals in
+    (v, said_as h later vars n m k l n n' k k' s v js is said said refl (sym d.0) refl (sym d.1) f refl (one_said h later vars n m k l s v js (said_goal σ a 0 g) [] some x))
+piece_joined h later K vars n m n' k l k' σ a s v g (goals g2 gs2) is js ks some nm kl d e room x others =
+    let y = others v x in
+    let said = said_goals σ a 0 (goals g (goals g2 gs2)) in
+    let z = then_said h later vars n m n' k l k' s v y.0 js ks (said_goal σ a 0 g) (said_goals σ a 0 (goals g2 gs2)) [] [] (goals_some K a m n' l k' g2 gs2 ks d) x y.1 nm kl
+        (subst (λ q. MayEnd s (s.place + sum_by length_of q)) e room) in
+    (y.0, said_as h later vars n n' k k' n n' k k' s y.0 (js ++ ks) is said said refl refl refl refl (sym e) refl z)
+
+-- a `sigma` ends its list
+last_joined : (h : Home) (later : Later) (K : ℕ → List Ty → Ty) (vars n m n' k l k' : ℕ) (σ : ℕ → Term) (a : Around) (s v : State) (T : Ty) (gs rest : Goals) (is js ks : List Instr) →
+    GoalsCode K a m n' l k' rest ks → rest ≡ no_goals → is ≡ js ++ ks → GoalsSaid h later vars n m k l s js (goals (said_goal σ a 0 (Exists T gs)) no_goals) [] v →
+    (u : State) × GoalsSaid h later vars n n' k k' s is (said_goals σ a 0 (goals (Exists T gs) rest)) [] u
+last_joined h later K vars n m n' k l k' σ a s v T gs (goals g2 gs2) is js ks d last e x = absurd (no_goal_more g2 gs2 last)
+last_joined h later K vars n m n' k l k' σ a s v T gs no_goals is js ks d last e x =
+    let f : js ≡ is = sym (append-nil js) ∙ ap (λ z. js ++ z) (sym d.2) ∙ sym e in
+    let said = goals (said_goal σ a 0 (Exists T gs)) no_goals in
+    (v, said_as h later vars n m k l n n' k k' s v js is said said refl (sym d.0) refl (sym d.1) f refl x)
+
+goals_joined : (h : Home) (later : Later) (K : ℕ → List Ty → Ty) (vars n m n' k l k' : ℕ) (σ : ℕ → Term) (a : Around) (s v : State) (g : Goal) (rest : Goals) (is js ks : List Instr) →
+    GoalCode K a n m k l g js → GoalsCode K a m n' l k' rest ks → ends_list g rest → is ≡ js ++ ks → MayEnd s (s.place + sum_by length_of is) →
+    SaidBy h later vars n m k l s js g (said_goal σ a 0 g) v → Behind h later vars n m n' k l k' s js ks (said_goal σ a 0 g) (said_goals σ a 0 rest) →
+    (u : State) × GoalsSaid h later vars n n' k k' s is (said_goals σ a 0 (goals g rest)) [] u
+goals_joined h later K vars n m n' k l k' σ a s v (Exists T gs) rest is js ks c d last e room x others = last_joined h later K vars n m n' k l k' σ a s v T gs rest is js ks d last e x
+goals_joined h later K vars n m n' k l k' σ a s v (Atomic t) rest is js ks c d last e room x others =
+    let grow = goal_grows K a n m k l (Atomic t) js c in
+    piece_joined h later K vars n m n' k l k' σ a s v (Atomic t) rest is js ks (goal_some K a n m k l (Atomic t) js c) grow.0 grow.1 d e room x others
+goals_joined h later K vars n m n' k l k' σ a s v Cut rest is js ks c d last e room x others =
+    let grow = goal_grows K a n m k l Cut js c in
+    piece_joined h later K vars n m n' k l k' σ a s v Cut rest is js ks (goal_some K a n m k l Cut js c) grow.0 grow.1 d e room x others
+goals_joined h later K vars n m n' k l k' σ a s v (Either gs hs) rest is js ks c d last e room x others =
+    let grow = goal_grows K a n m k l (Either gs hs) js c in
+    piece_joined h later K vars n m n' k l k' σ a s v (Either gs hs) rest is js ks (goal_some K a n m k l (Either gs hs) js c) grow.0 grow.1 d e room x others
+goals_joined h later K vars n m n' k l k' σ a s v (Forall T gs) rest is js ks c d last e room x others =
+    let grow = goal_grows K a n m k l (Forall T gs) js c in
+    piece_joined h later K vars n m n' k l k' σ a s v (Forall T gs) rest is js ks (goal_some K a n m k l (Forall T gs) js c) grow.0 grow.1 d e room x others
+goals_joined h later K vars n m n' k l k' σ a s v (Assume w cs gs) rest is js ks c d last e room x others = absurd c
+goals_joined h later K vars n m n' k l k' σ a s v (Not w gs) rest is js ks c d last e room x others =
+    let grow = goal_grows K a n m k l (Not w gs) js c in
+    piece_joined h later K vars n m n' k l k' σ a s v (Not w gs) rest is js ks (goal_some K a n m k l (Not w gs) js c) grow.0 grow.1 d e room x others
+
+-- goals below `sigma`, by what they say in its block
+abbrev Within : Home → Later → (vars m o k p : ℕ) → (opening : State) → (register : ℕ) → Ty → Block → (is js : List Instr) → (said : Goals) → Type 0
+Within h later vars m o k p r q T B is js said =
+    (t : State) → Opened h later vars m m k (k + 1) r is (frame_of r B) [] t → held t.now.terms k ≡ Some (whole (variable k h.number) T) → (u : State) × GoalsSaid h later vars m o (k + 1) p t js said [] u
+
+sigma_by : (h : Home) (later : Later) (K : ℕ → List Ty → Ty) (vars n m n' k k' q : ℕ) (σ : ℕ → Term) (Γ : List Ty) (a : Around) (Q : ℕ → Type 0) (s r : State) (T : Ty) (gs : Goals) (ts js : List Instr) →
+    IsAround h K vars n k σ Γ a Q s → GoalsFit h vars (T ∷ Γ) (one_more Q) gs → GoalsCode K (pushed a (quantified k T)) m n' (k + 1) k' gs js → n ≤ m → k < h.self.registers →
+    MayEnd s (s.place + sum_by length_of (ts ++ (on.Sigma k q ∷ [] ++ js))) → Leads h later vars n m s ts r → Hold r q T →
+    Within h later vars m n' k k' r q T (under_sigma k T) (on.Sigma k q ∷ []) js (said_goals (with_level σ (new_level a) (variable k h.number)) (pushed a (quantified k T)) 0 gs) →
+    (u : State) × GoalsSaid h later vars n n' k k' s (ts ++ (on.Sigma k q ∷ [] ++ js)) (goals (said_goal σ a 0 (Exists T gs)) no_goals) [] u
+sigma_by h later K vars n m n' k k' q σ Γ a Q s r T no_goals ts js x fit c nm low room leads holds inner =
+    let code = ts ++ on.Sigma k q ∷ [] in
+    let f : code ≡ ts ++ (on.Sigma k q ∷ [] ++ js) = ap (λ z. ts ++ (on.Sigma k q ∷ z)) (sym c.2) in
+    let w = sigma_alone h later vars n m k q s r ts T x.body x.terms_stand low leads holds (subst (λ l. MayEnd s (s.place + sum_by length_of l)) (sym f) room) in
+    let said = goals (Exists T no_goals) no_goals in
+    (w.0, said_as h later vars n m k (k + 1) n n' k k' s w.0 code (ts ++ (on.Sigma k q ∷ [] ++ js)) said said refl (sym c.0) refl (sym c.1) f refl w.1)
+sigma_by h later K vars n m n' k k' q σ Γ a Q s r T (goals g3 gs3) ts js x fit c nm low room leads holds inner =
+    let gs = goals g3 gs3 in
+    let b = pushed a (quantified k T) in
+    let said = said_goals (with_level σ (new_level a) (variable k h.number)) b 0 gs in
+    let grow = goals_grow K b m n' (k + 1) k' gs js c in
+    let w = sigma_said h later vars n m n' k k' q s r ts js T said [] x.body x.terms_stand low leads holds nm grow.0 room (goals_some K b m n' (k + 1) k' g3 gs3 js c) inner in
+    let code = ts ++ (on.Sigma k q ∷ [] ++ js) in
+    (
+      w.0,
+      said_as h later vars n n' k k' n n' k k' s w.0 code code (goals (Exists T (bind_goals (k ∷ []) h.number said)) no_goals) (goals (Exists T (said_goals σ a 1 gs)) no_goals) refl refl refl refl refl
+          (ap (λ z. goals (Exists T z) no_goals) (bound_again h K vars n k σ Γ a Q s T gs x fit)) w.1,
+    )
+
 mutual
-  pub goal_says : (h : Home) (later : Later) (K : ℕ → List Ty → Ty) (vars n n' k k' : ℕ) (σ : ℕ → Term) (Γ : List Ty) (a : Around) (Q : ℕ → Type 0) (s : State) (g : Goal) (is : List Instr) → IsPiece g →
+  pub goal_says : (h : Home) (later : Later) (K : ℕ → List Ty → Ty) (vars n n' k k' : ℕ) (σ : ℕ → Term) (Γ : List Ty) (a : Around) (Q : ℕ → Type 0) (s : State) (g : Goal) (is : List Instr) →
       GoalCode K a n n' k k' g is → IsAround h K vars n k σ Γ a Q s → GoalFits h vars Γ Q g → n' ≤ h.self.types → k' ≤ h.self.registers → depth s.frames + goal_depth g ≤ nesting_limit →
-      MayEnd s (s.place + sum_by length_of is) → (v : State) × Says h later vars n n' k k' s is (with_goal s.goals (said_goal σ a 0 g)) [] v
-  goal_says h later K vars n n' k k' σ Γ a Q s (Atomic t) is p c x fit few low nest room = atom_says h later K vars n n' k k' σ Γ a Q s t is c x fit few low room
-  goal_says h later K vars n n' k k' σ Γ a Q s Cut is p c x fit few low nest room =
+      MayEnd s (s.place + sum_by length_of is) → (v : State) × SaidBy h later vars n n' k k' s is g (said_goal σ a 0 g) v
+  goal_says h later K vars n n' k k' σ Γ a Q s (Atomic t) is c x fit few low nest room = atom_says h later K vars n n' k k' σ Γ a Q s t is c x fit few low room
+  goal_says h later K vars n n' k k' σ Γ a Q s Cut is c x fit few low nest room =
       let w = cut_said h later vars n k s x.body x.types_stand x.terms_stand (subst (λ l. MayEnd s (s.place + sum_by length_of l)) c.2 room) in
       (w.0, says_as h later vars n n k k n n' k k' s w.0 (on.Cut ∷ []) is (with_goal s.goals Cut) (with_goal s.goals Cut) refl (sym c.0) refl (sym c.1) (sym c.2) refl w.1)
-  goal_says h later K vars n n' k k' σ Γ a Q s (Either gs hs) is p (m, l, nl, mr, ls, rs, cl, cr, el, er, e) x fit few low nest room =
+  goal_says h later K vars n n' k k' σ Γ a Q s (Either gs hs) is (m, l, nl, mr, ls, rs, cl, cr, el, er, e) x fit few low nest room =
       let code = on.Either nl ∷ (ls ++ on.Jump mr ∷ rs) in
       let room_s : MayEnd s (s.place + sum_by length_of code) = subst (λ l. MayEnd s (s.place + sum_by length_of l)) e room in
       let z1 = first_bytes (on.Either nl) (ls ++ on.Jump mr ∷ rs) in
@@ -317,8 +426,35 @@ mutual
           (subst (λ q. list_any (λ (f : Frame). ends_before q f.block) s.frames ≡ false) (sym same) room_s)) in
       let v = either_said h later vars n m n' k l k' s u.0 w.0 ls rs said (said_goals σ a 0 hs) [] [] nl mr el er x.body (omega (arith, nest)) x.types_stand x.terms_stand room_s u.1 w.1 w.2 nm kl in
       (v.0, says_as h later vars n n' k k' n n' k k' s v.0 code is (with_goal s.goals (Either said (said_goals σ a 0 hs))) (with_goal s.goals (Either said (said_goals σ a 0 hs))) refl refl refl refl (sym e) refl v.1)
-  goal_says h later K vars n n' k k' σ Γ a Q s (Exists T gs) is p c x fit few low nest room = absurd p
-  goal_says h later K vars n n' k k' σ Γ a Q s (Forall T gs) is p (m, q, ts, js, kind, short, c, e) x fit few low nest room =
+  goal_says h later K vars n n' k k' σ Γ a Q s (Exists T gs) is (m, q, ts, js, kind, short, c, e) x fit few low nest room =
+      let b = pushed a (quantified k T) in
+      let τ = with_level σ (new_level a) (variable k h.number) in
+      let code = ts ++ (on.Sigma k q ∷ [] ++ js) in
+      let room_s : MayEnd s (s.place + sum_by length_of code) = subst (λ l. MayEnd s (s.place + sum_by length_of l)) e room in
+      let z1 = sum_by-append length_of ts (on.Sigma k q ∷ [] ++ js) in
+      let z2 = sum_by-append length_of (on.Sigma k q ∷ []) js in
+      let five : sum_by length_of (on.Sigma k q ∷ []) ≡ 5 = refl in
+      let nm = kind_grows n m q T ts kind in
+      let grow = goals_grow K b m n' (k + 1) k' gs js c in
+      let mn = grow.0 in
+      let kk = grow.1 in
+      let r = kind_leads h later vars n m q T ts s kind x.types_stand (omega (arith, few, mn)) fit.0
+          (may_strict (s.place + sum_by length_of ts) (s.place + sum_by length_of code) s.frames (omega (arith, z1, z2, five)) room_s) in
+      let at_r = r.1.place_is in
+      let w = sigma_by h later K vars n m n' k k' q σ Γ a Q s r.0 T gs ts js x fit.1 c nm (omega (arith, kk, low)) room_s r.1 r.2 (λ t o made.
+          let at_t = o.place_is in
+          let deep = ap depth o.frames_are ∙ ap depth r.1.same.frames in
+          let y = around_pushed h K vars n m k σ Γ a Q s t T x short fit.0 o.types_stand o.terms_stand (omega (arith, kk, low)) (o.in_body_stays ∙ r.1.same.in_body ∙ x.body)
+              (λ z d lt f. o.terms_keep z d lt (ap (λ xs. held xs z) r.1.same.terms ∙ f)) made in
+          let end = t.place + sum_by length_of js in
+          let same : s.place + sum_by length_of code ≡ end = omega (arith, z1, z2, five, at_r, at_t) in
+          let g = goals_say h later K vars m n' (k + 1) k' τ (T ∷ Γ) b (one_more Q) t gs js c y fit.1 few low (omega (arith, nest, deep))
+              (may_in end (frame_of r.0 (under_sigma k T)) r.0 t o.frames_are refl
+              (subst (λ fs. list_any (λ (f : Frame). ends_before end f.block) fs ≡ false) (sym r.1.same.frames) (subst (λ z. MayEnd s z) same room_s))) in
+          (g.0, g.1)) in
+      let said = goals (said_goal σ a 0 (Exists T gs)) no_goals in
+      (w.0, said_as h later vars n n' k k' n n' k k' s w.0 code is said said refl refl refl refl (sym e) refl w.1)
+  goal_says h later K vars n n' k k' σ Γ a Q s (Forall T gs) is (m, q, ts, js, kind, short, c, e) x fit few low nest room =
       let v = quantified k T in
       let b = pushed a v in
       let τ = with_level σ (new_level a) (variable k h.number) in
@@ -353,8 +489,8 @@ mutual
         says_as h later vars n n' k k' n n' k k' s w.0 code is (with_goal s.goals (Forall T (bind_goals (k ∷ []) h.number said))) (with_goal s.goals (Forall T (said_goals σ a 1 gs))) refl refl refl refl (sym e)
             (ap (λ z. with_goal s.goals (Forall T z)) (bound_again h K vars n k σ Γ a Q s T gs x fit.1)) w.1,
       )
-  goal_says h later K vars n n' k k' σ Γ a Q s (Assume w cs gs) is p c x fit few low nest room = absurd c
-  goal_says h later K vars n n' k k' σ Γ a Q s (Not w gs) is p (js, c, e) x fit few low nest room =
+  goal_says h later K vars n n' k k' σ Γ a Q s (Assume w cs gs) is c x fit few low nest room = absurd c
+  goal_says h later K vars n n' k k' σ Γ a Q s (Not w gs) is (js, c, e) x fit few low nest room =
       let code = on.Not ∷ [] ++ (js ++ on.EndNot ∷ []) in
       let room_s : MayEnd s (s.place + sum_by length_of code) = subst (λ l. MayEnd s (s.place + sum_by length_of l)) e room in
       let z1 = first_bytes on.Not (js ++ on.EndNot ∷ []) in
@@ -379,109 +515,21 @@ mutual
       MayEnd s (s.place + sum_by length_of is) → (u : State) × GoalsSaid h later vars n n' k k' s is (said_goals σ a 0 gs) [] u × (is ≡ [] → u ≡ s)
   goals_say h later K vars n n' k k' σ Γ a Q s no_goals is c x fit few low nest room =
       (s, said_as h later vars n n k k n n' k k' s s [] is no_goals no_goals refl (sym c.0) refl (sym c.1) (sym c.2) refl (nothing_said h later vars n k s x.types_stand x.terms_stand), λ z. refl)
-  goals_say h later K vars n n' k k' σ Γ a Q s (goals (Exists T gs) rest) is c x fit few low nest room =
-      let w = sigma_says h later K vars n n' k k' σ Γ a Q s T gs rest is c x fit few low nest room in
-      (w.0, w.1, λ z. absurd (some_code_is K a n n' k k' (Exists T gs) rest is c z))
-  goals_say h later K vars n n' k k' σ Γ a Q s (goals (Atomic t) rest) is c x fit few low nest room = piece_says h later K vars n n' k k' σ Γ a Q s (Atomic t) rest is tt c x fit few low nest room
-  goals_say h later K vars n n' k k' σ Γ a Q s (goals Cut rest) is c x fit few low nest room = piece_says h later K vars n n' k k' σ Γ a Q s Cut rest is tt c x fit few low nest room
-  goals_say h later K vars n n' k k' σ Γ a Q s (goals (Either gs hs) rest) is c x fit few low nest room = piece_says h later K vars n n' k k' σ Γ a Q s (Either gs hs) rest is tt c x fit few low nest room
-  goals_say h later K vars n n' k k' σ Γ a Q s (goals (Forall T gs) rest) is c x fit few low nest room = piece_says h later K vars n n' k k' σ Γ a Q s (Forall T gs) rest is tt c x fit few low nest room
-  goals_say h later K vars n n' k k' σ Γ a Q s (goals (Assume w cs gs) rest) is c x fit few low nest room = absurd c.4
-  goals_say h later K vars n n' k k' σ Γ a Q s (goals (Not w gs) rest) is c x fit few low nest room = piece_says h later K vars n n' k k' σ Γ a Q s (Not w gs) rest is tt c x fit few low nest room
-
-  piece_says : (h : Home) (later : Later) (K : ℕ → List Ty → Ty) (vars n n' k k' : ℕ) (σ : ℕ → Term) (Γ : List Ty) (a : Around) (Q : ℕ → Type 0) (s : State) (g : Goal) (rest : Goals) (is : List Instr) → IsPiece g →
-      GoalsCode K a n n' k k' (goals g rest) is → IsAround h K vars n k σ Γ a Q s → GoalsFit h vars Γ Q (goals g rest) → n' ≤ h.self.types → k' ≤ h.self.registers →
-      depth s.frames + goals_depth (goals g rest) ≤ nesting_limit →
-      MayEnd s (s.place + sum_by length_of is) → (u : State) × GoalsSaid h later vars n n' k k' s is (said_goals σ a 0 (goals g rest)) [] u × (is ≡ [] → u ≡ s)
-  piece_says h later K vars n n' k k' σ Γ a Q s g no_goals is p (m, l, js, ks, c, d, last, e) x fit few low nest room =
-      let f : js ≡ is = sym (append-nil js) ∙ ap (λ z. js ++ z) (sym d.2) ∙ sym e in
-      let d0 = d.0 in
-      let d1 = d.1 in
-      let w = goal_says h later K vars n m k l σ Γ a Q s g js p c x fit.0 (omega (arith, few, d0)) (omega (arith, low, d1)) (omega (arith, nest)) (subst (λ l. MayEnd s (s.place + sum_by length_of l)) (sym f) room) in
-      let said = goals (said_goal σ a 0 g) no_goals in
-      let y = one_said h later vars n m k l s w.0 js (said_goal σ a 0 g) [] (goal_some K a n m k l g js c) w.1 in
-      (w.0, said_as h later vars n m k l n n' k k' s w.0 js is said said refl (sym d0) refl (sym d1) f refl y, λ z. absurd (some_code_is K a n n' k k' g no_goals is (m, l, js, ks, c, d, last, e) z))
-  piece_says h later K vars n n' k k' σ Γ a Q s g (goals g2 gs2) is p (m, l, js, ks, c, d, last, e) x fit few low nest room =
-      let others = goals g2 gs2 in
+  goals_say h later K vars n n' k k' σ Γ a Q s (goals g rest) is (m, l, js, ks, c, d, last, e) x fit few low nest room =
       let room_s : MayEnd s (s.place + sum_by length_of (js ++ ks)) = subst (λ l. MayEnd s (s.place + sum_by length_of l)) e room in
       let size = sum_by-append length_of js ks in
-      let some = goals_some K a m n' l k' g2 gs2 ks d in
       let gl = goal_grows K a n m k l g js c in
-      let gr = goals_grow K a m n' l k' others ks d in
-      let nm = gl.0 in
+      let gr = goals_grow K a m n' l k' rest ks d in
       let kl = gl.1 in
       let mn = gr.0 in
       let lk = gr.1 in
-      let w = goal_says h later K vars n m k l σ Γ a Q s g js p c x fit.0 (omega (arith, few, mn)) (omega (arith, low, lk)) (omega (arith, nest))
-          (may_less (s.place + sum_by length_of js) (s.place + sum_by length_of (js ++ ks)) s.frames (omega (arith, size, some)) room_s) in
-      let t = w.0 in
-      let i = w.1.place_is in
-      let deep = ap depth w.1.frames_stay in
-      let same : s.place + sum_by length_of (js ++ ks) ≡ t.place + sum_by length_of ks = omega (arith, i, size) in
-      let y = goals_say h later K vars m n' l k' σ Γ a Q t others ks d
-          (around_kept h K vars n m k l σ Γ a Q s t x w.1.types_stand w.1.terms_stand (omega (arith, lk, low)) (w.1.in_body_stays ∙ x.body) kl w.1.terms_keep) fit.1 few low (omega (arith, nest, deep))
-          (subst (λ z. MayEnd t z) same (subst (λ fs. list_any (λ (f : Frame). ends_before (s.place + sum_by length_of (js ++ ks)) f.block) fs ≡ false) (sym w.1.frames_stay) room_s)) in
-      let said = said_goals σ a 0 (goals g others) in
-      let z = then_said h later vars n m n' k l k' s t y.0 js ks (said_goal σ a 0 g) (said_goals σ a 0 others) [] [] some w.1 y.1 nm kl room_s in
-      (
-        y.0,
-        said_as h later vars n n' k k' n n' k k' s y.0 (js ++ ks) is said said refl refl refl refl (sym e) refl z,
-        λ q. absurd (some_code_is K a n n' k k' g others is (m, l, js, ks, c, d, last, e) q),
-      )
-
-  sigma_says : (h : Home) (later : Later) (K : ℕ → List Ty → Ty) (vars n n' k k' : ℕ) (σ : ℕ → Term) (Γ : List Ty) (a : Around) (Q : ℕ → Type 0) (s : State) (T : Ty) (gs rest : Goals) (is : List Instr) →
-      GoalsCode K a n n' k k' (goals (Exists T gs) rest) is → IsAround h K vars n k σ Γ a Q s → GoalsFit h vars Γ Q (goals (Exists T gs) rest) → n' ≤ h.self.types → k' ≤ h.self.registers →
-      depth s.frames + goals_depth (goals (Exists T gs) rest) ≤ nesting_limit →
-      MayEnd s (s.place + sum_by length_of is) → (u : State) × GoalsSaid h later vars n n' k k' s is (said_goals σ a 0 (goals (Exists T gs) rest)) [] u
-  sigma_says h later K vars n n' k k' σ Γ a Q s T gs (goals g2 gs2) is (m, l, js, ks, c, d, last, e) x fit few low nest room = absurd (no_goal_more g2 gs2 last)
-  sigma_says h later K vars n n' k k' σ Γ a Q s T no_goals no_goals is (m, l, js, ks, (m1, q, ts, js1, kind, short, c, e1), d, last, e) x fit few low nest room =
-      let code = ts ++ on.Sigma k q ∷ [] in
-      let f : code ≡ is = ap (λ z. ts ++ (on.Sigma k q ∷ z)) (sym c.2) ∙ sym e1 ∙ sym (append-nil js) ∙ ap (λ z. js ++ z) (sym d.2) ∙ sym e in
-      let room_s : MayEnd s (s.place + sum_by length_of code) = subst (λ l. MayEnd s (s.place + sum_by length_of l)) (sym f) room in
-      let c0 = c.0 in
-      let c1 = c.1 in
-      let d0 = d.0 in
-      let d1 = d.1 in
-      let z1 = sum_by-append length_of ts (on.Sigma k q ∷ []) in
-      let five : sum_by length_of (on.Sigma k q ∷ []) ≡ 5 = refl in
-      let r = kind_leads h later vars n m1 q T ts s kind x.types_stand (omega (arith, few, c0, d0)) fit.0.0
-          (may_strict (s.place + sum_by length_of ts) (s.place + sum_by length_of code) s.frames (omega (arith, z1, five)) room_s) in
-      let w = sigma_alone h later vars n m1 k q s r.0 ts T x.body x.terms_stand (omega (arith, low, c1, d1)) r.1 r.2 room_s in
-      let said = goals (Exists T no_goals) no_goals in
-      (w.0, said_as h later vars n m1 k (k + 1) n n' k k' s w.0 code is said said refl (sym c0 ∙ sym d0) refl (sym c1 ∙ sym d1) f refl w.1)
-  sigma_says h later K vars n n' k k' σ Γ a Q s T (goals g3 gs3) no_goals is (m, l, js, ks, (m1, q, ts, js1, kind, short, c, e1), d, last, e) x fit few low nest room =
-      let gs = goals g3 gs3 in
-      let b = pushed a (quantified k T) in
-      let τ = with_level σ (new_level a) (variable k h.number) in
-      let code = ts ++ (on.Sigma k q ∷ [] ++ js1) in
-      let f : code ≡ is = sym e1 ∙ sym (append-nil js) ∙ ap (λ z. js ++ z) (sym d.2) ∙ sym e in
-      let room_s : MayEnd s (s.place + sum_by length_of code) = subst (λ l. MayEnd s (s.place + sum_by length_of l)) (sym f) room in
-      let d0 = d.0 in
-      let d1 = d.1 in
-      let z1 = sum_by-append length_of ts (on.Sigma k q ∷ [] ++ js1) in
-      let z2 = sum_by-append length_of (on.Sigma k q ∷ []) js1 in
-      let five : sum_by length_of (on.Sigma k q ∷ []) ≡ 5 = refl in
-      let nm = kind_grows n m1 q T ts kind in
-      let grow = goals_grow K b m1 m (k + 1) l gs js1 c in
-      let mn = grow.0 in
-      let kk = grow.1 in
-      let r = kind_leads h later vars n m1 q T ts s kind x.types_stand (omega (arith, few, mn, d0)) fit.0.0
-          (may_strict (s.place + sum_by length_of ts) (s.place + sum_by length_of code) s.frames (omega (arith, z1, z2, five)) room_s) in
-      let at_r = r.1.place_is in
-      let said = said_goals τ b 0 gs in
-      let w = sigma_said h later vars n m1 m k l q s r.0 ts js1 T said [] x.body x.terms_stand (omega (arith, kk, low, d1)) r.1 r.2 nm mn room_s (goals_some K b m1 m (k + 1) l g3 gs3 js1 c) (λ t o made.
-          let at_t = o.place_is in
-          let deep = ap depth o.frames_are ∙ ap depth r.1.same.frames in
-          let y = around_pushed h K vars n m1 k σ Γ a Q s t T x short fit.0.0 o.types_stand o.terms_stand (omega (arith, kk, low, d1)) (o.in_body_stays ∙ r.1.same.in_body ∙ x.body)
-              (λ z d lt f. o.terms_keep z d lt (ap (λ xs. held xs z) r.1.same.terms ∙ f)) made in
-          let end = t.place + sum_by length_of js1 in
-          let same : s.place + sum_by length_of code ≡ end = omega (arith, z1, z2, five, at_r, at_t) in
-          let g = goals_say h later K vars m1 m (k + 1) l τ (T ∷ Γ) b (one_more Q) t gs js1 c y fit.0.1 (omega (arith, few, d0)) (omega (arith, low, d1)) (omega (arith, nest, deep))
-              (may_in end (frame_of r.0 (under_sigma k T)) r.0 t o.frames_are refl
-              (subst (λ fs. list_any (λ (f : Frame). ends_before end f.block) fs ≡ false) (sym r.1.same.frames) (subst (λ z. MayEnd s z) same room_s))) in
-          (g.0, g.1)) in
-      (
-        w.0,
-        said_as h later vars n m k l n n' k k' s w.0 code is (goals (Exists T (bind_goals (k ∷ []) h.number said)) no_goals) (goals (Exists T (said_goals σ a 1 gs)) no_goals) refl (sym d0) refl (sym d1) f
-            (ap (λ z. goals (Exists T z) no_goals) (bound_again h K vars n k σ Γ a Q s T gs x fit.0.1)) w.1,
-      )
+      let v = goal_says h later K vars n m k l σ Γ a Q s g js c x fit.0 (omega (arith, few, mn)) (omega (arith, low, lk)) (omega (arith, nest))
+          (may_le (s.place + sum_by length_of js) (s.place + sum_by length_of (js ++ ks)) s.frames (omega (arith, size)) room_s) in
+      let w = goals_joined h later K vars n m n' k l k' σ a s v.0 g rest is js ks c d last e room v.1 (λ t y.
+          let i = y.place_is in
+          let deep = ap depth y.frames_stay in
+          let same : s.place + sum_by length_of (js ++ ks) ≡ t.place + sum_by length_of ks = omega (arith, i, size) in
+          goals_say h later K vars m n' l k' σ Γ a Q t rest ks d
+              (around_kept h K vars n m k l σ Γ a Q s t x y.types_stand y.terms_stand (omega (arith, lk, low)) (y.in_body_stays ∙ x.body) kl y.terms_keep) fit.1 few low (omega (arith, nest, deep))
+              (subst (λ z. MayEnd t z) same (subst (λ fs. list_any (λ (f : Frame). ends_before (s.place + sum_by length_of (js ++ ks)) f.block) fs ≡ false) (sym y.frames_stay) room_s))) in
+      (w.0, w.1, λ q. absurd (some_code_is K a n n' k k' g rest is (m, l, js, ks, c, d, last, e) q))
