@@ -60,7 +60,7 @@ pub left_is : (home : ℕ) (s t u : State) (F : Frame) (gs : Goals) (g : Goal) �
     goal_of_block home F.block gs ≡ Some g → leave home u ≡ left_state s u g
 left_is home s t u F gs g x none frames kept before registers is =
     let ends : (◌≡◌ {A = Ended} (end_variables home u.goals u.frames) (record { goals = gs; frames = F ∷ s.frames })) =
-        x.same ∙ (λ i. end_variables home (add_goals (none i) gs) (frames i)) ∙ kept_frame home gs F s.frames kept in
+    x.same ∙ (λ i. end_variables home (add_goals (none i) gs) (frames i)) ∙ kept_frame home gs F s.frames kept in
     (λ i. leave_from home u (ends i).goals (ends i).frames) ∙ ap (leave_block u F s.frames) is
     ∙ (λ i. record {
       place = u.place;
@@ -87,14 +87,14 @@ block_ends h later vars n m o k l p s t u F is js e gs g a b x y before register
     let inner = sum_by-append length_of js (e ∷ []) in
     let one : sum_by length_of (e ∷ []) ≡ 0 + length_of e = refl in
     let strict : HasRoom u u.place = y.closes.sides (is_passed u.place) (sigma_passes u.place) ∙ ap (list_any (is_passed u.place)) x.frames_are
-        ∙ or_none (side_is_passed u.place F.block) (list_any (is_passed u.place) s.frames) (no_side u.place)
-        (may_strict u.place (s.place + sum_by length_of (is ++ (js ++ e ∷ []))) s.frames (omega (arith, first, second, size, inner, one, long)) room) in
+    ∙ or_none (side_is_passed u.place F.block) (list_any (is_passed u.place) s.frames) (no_side u.place)
+    (may_strict u.place (s.place + sum_by length_of (is ++ (js ++ e ∷ []))) s.frames (omega (arith, first, second, size, inner, one, long)) room) in
     let innermost = y.closes.innermost ∙ ap innermost_block x.frames_are ∙ innermost_kept F s.frames kept in
     let w = left_state s u g in
     let v = passed e w in
     let step : (rest : List Instr) → run h later u (e ∷ rest) ≡ run h later (settled h.number (depth v.frames) v) rest = λ rest. steps h later u (settled h.number (depth v.frames) v) e rest
-        y.types_stand.sound (fine strict innermost rest) (ap (option_map (λ (z : State). settled h.number (depth z.frames) (passed e z))) (eff ∙ ap (λ (z : State). Some z) (left_is h.number s t u F gs g
-        y.closes x.goals_are x.frames_are kept before registers is_goal))) in
+    y.types_stand.sound (fine strict innermost rest) (ap (option_map (λ (z : State). settled h.number (depth z.frames) (passed e z))) (eff ∙ ap (λ (z : State). Some z) (left_is h.number s t u F gs g
+    y.closes x.goals_are x.frames_are kept before registers is_goal))) in
     let stays : u.in_body ≡ true = y.in_body_stays ∙ x.in_body_stays ∙ body in (
       v,
       record {

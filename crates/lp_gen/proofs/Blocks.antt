@@ -81,7 +81,7 @@ then_said h later vars n m o k l p s t u is js g gs a b some x y nm kl room =
     let i = x.place_is in
     let j = y.place_is in
     let strict : HasRoom t t.place = subst (λ fs. list_any (is_passed t.place) fs ≡ false) (sym x.frames_stay)
-        (may_strict t.place (s.place + sum_by length_of (is ++ js)) s.frames (omega (arith, i, size, some)) room) in
+    (may_strict t.place (s.place + sum_by length_of (is ++ js)) s.frames (omega (arith, i, size, some)) room) in
     let whole : 0 < sum_by length_of (is ++ js) = omega (arith, size, some) in
     record {
       runs = λ e rest. ap (run h later s) (append_assoc is js (e ∷ rest)) ∙ head_runs js e rest some ∙ ap (λ (z : State). run h later z (js ++ e ∷ rest)) (settled_same h.number (depth t.frames) t strict)

@@ -142,11 +142,11 @@ pub bound_again : (h : Home) (K : ℕ → List Ty → Ty) (vars n k : ℕ) (σ :
 bound_again h K vars n k σ Γ a Q s T gs x fit =
     let b = pushed a (quantified k T) in
     bind_goals_with h.tables.kinds vars h.number 1 (k ∷ []) (with_level σ (new_level a) (variable k h.number)) σ b a
-        (one_binds h.number k σ a (quantified k T) x.short (λ i l d e. x.free i l k d (omega arith) e)) 0 1 gs refl
-        (goals_through h vars (HasLevel b) (one_more Q) (T ∷ Γ) 0 gs (λ i q le.
-        let w = seen_pushed k a Γ T Q x.short x.seen i q in
-        let z : i ≡ i - 0 = omega arith in
-        subst (HasLevel b) z (w.0, w.2)) fit)
+    (one_binds h.number k σ a (quantified k T) x.short (λ i l d e. x.free i l k d (omega arith) e)) 0 1 gs refl
+    (goals_through h vars (HasLevel b) (one_more Q) (T ∷ Γ) 0 gs (λ i q le.
+    let w = seen_pushed k a Γ T Q x.short x.seen i q in
+    let z : i ≡ i - 0 = omega arith in
+    subst (HasLevel b) z (w.0, w.2)) fit)
 
 -- room in blocks
 
@@ -209,9 +209,9 @@ atom_says h later K vars n n' k k' σ Γ a Q s t is c x fit few low room =
     let a0 = c.after.types_are in
     let a1 = c.after.registers_are in
     let w = c.written.denotes h later vars s σ Γ x.std x.asked (subst (λ z. TypesStand h vars z s) (sym c.before.types_are) x.types_stand)
-        (subst (λ z. TermsStand h z s) (sym c.before.registers_are) x.terms_stand) (omega (arith, few, a0)) (omega (arith, low, a1)) x.body
-        (subst (λ z. Standing h vars z s.in_body σ a s.now.terms) (sym c.before.registers_are) x.standing)
-        (record {
+    (subst (λ z. TermsStand h z s) (sym c.before.registers_are) x.terms_stand) (omega (arith, few, a0)) (omega (arith, low, a1)) x.body
+    (subst (λ z. Standing h vars z s.in_body σ a s.now.terms) (sym c.before.registers_are) x.standing)
+    (record {
       typed = fit.typed;
       normal = fit.normal;
       known = fit.known;
@@ -323,7 +323,7 @@ piece_joined h later K vars n m n' k l k' σ a s v g (goals g2 gs2) is js ks som
     let y = others v x in
     let said = said_goals σ a 0 (goals g (goals g2 gs2)) in
     let z = then_said h later vars n m n' k l k' s v y.0 js ks (said_goal σ a 0 g) (said_goals σ a 0 (goals g2 gs2)) [] [] (goals_some K a m n' l k' g2 gs2 ks d) x y.1 nm kl
-        (subst (λ q. MayEnd s (s.place + sum_by length_of q)) e room) in
+    (subst (λ q. MayEnd s (s.place + sum_by length_of q)) e room) in
     (y.0, said_as h later vars n n' k k' n n' k k' s y.0 (js ++ ks) is said said refl refl refl refl (sym e) refl z)
 
 -- a `sigma` ends its list
@@ -380,8 +380,7 @@ sigma_by h later K vars n m n' k k' q σ Γ a Q s r T (goals g3 gs3) ts js x fit
     let said = said_goals (with_level σ (new_level a) (variable k h.number)) b 0 gs in
     let grow = goals_grow K b m n' (k + 1) k' gs js c in
     let w = sigma_said h later vars n m n' k k' q s r ts js T said [] x.body x.terms_stand low leads holds nm grow.0 room (goals_some K b m n' (k + 1) k' g3 gs3 js c) inner in
-    let code = ts ++ (on.Sigma k q ∷ [] ++ js) in
-    (
+    let code = ts ++ (on.Sigma k q ∷ [] ++ js) in (
       w.0,
       said_as h later vars n n' k k' n n' k k' s w.0 code code (goals (Exists T (bind_goals (k ∷ []) h.number said)) no_goals) (goals (Exists T (said_goals σ a 1 gs)) no_goals) refl refl refl refl refl
           (ap (λ z. goals (Exists T z) no_goals) (bound_again h K vars n k σ Γ a Q s T gs x fit)) w.1,
@@ -410,10 +409,10 @@ mutual
       let t = left_begins s nl in
       let lands = left_stands h vars n k nl s x.types_stand x.terms_stand in
       let u = goals_say h later K vars n m k l σ Γ a Q t gs ls cl
-          (around_kept h K vars n n k k σ Γ a Q s t x lands.0 lands.1 (omega (arith, kl, lk, low)) x.body (omega arith) (λ r b q z. z)) fit.0 (omega (arith, mn, few)) (omega (arith, lk, low)) (omega (arith, nest))
-          (or_none (nat_lt (s.place + 5 + nl) (s.place + 5 + sum_by length_of ls)) (list_any (λ (f : Frame). ends_before (s.place + 5 + sum_by length_of ls) f.block) s.frames)
-          (le-ltb (s.place + 5 + nl) (s.place + 5 + sum_by length_of ls) (omega (arith, el)))
-          (may_less (s.place + 5 + sum_by length_of ls) (s.place + sum_by length_of code) s.frames (omega (arith, z1, z2, z3)) room_s)) in
+      (around_kept h K vars n n k k σ Γ a Q s t x lands.0 lands.1 (omega (arith, kl, lk, low)) x.body (omega arith) (λ r b q z. z)) fit.0 (omega (arith, mn, few)) (omega (arith, lk, low)) (omega (arith, nest))
+      (or_none (nat_lt (s.place + 5 + nl) (s.place + 5 + sum_by length_of ls)) (list_any (λ (f : Frame). ends_before (s.place + 5 + sum_by length_of ls) f.block) s.frames)
+      (le-ltb (s.place + 5 + nl) (s.place + 5 + sum_by length_of ls) (omega (arith, el)))
+      (may_less (s.place + 5 + sum_by length_of ls) (s.place + sum_by length_of code) s.frames (omega (arith, z1, z2, z3)) room_s)) in
       let i = u.1.place_is in
       let said = said_goals σ a 0 gs in
       let r = right_begins s u.0 mr said in
@@ -421,9 +420,9 @@ mutual
       let rands = right_stands h vars n m k l mr s u.0 said body_u x.types_stand x.terms_stand u.1.types_stand u.1.terms_stand in
       let same : (u.0).place + 5 + sum_by length_of rs ≡ s.place + sum_by length_of code = omega (arith, z1, z2, z3, i) in
       let w = goals_say h later K vars m n' l k' σ Γ a Q r hs rs cr (around_kept h K vars n m k l σ Γ a Q s r x rands.0 rands.1 (omega (arith, lk, low)) body_u kl (λ r b q z. z)) fit.1 few low (omega (arith, nest))
-          (or_none (nat_lt ((u.0).place + 5 + mr) ((u.0).place + 5 + sum_by length_of rs)) (list_any (λ (f : Frame). ends_before ((u.0).place + 5 + sum_by length_of rs) f.block) s.frames)
-          (le-ltb ((u.0).place + 5 + mr) ((u.0).place + 5 + sum_by length_of rs) (omega (arith, er)))
-          (subst (λ q. list_any (λ (f : Frame). ends_before q f.block) s.frames ≡ false) (sym same) room_s)) in
+      (or_none (nat_lt ((u.0).place + 5 + mr) ((u.0).place + 5 + sum_by length_of rs)) (list_any (λ (f : Frame). ends_before ((u.0).place + 5 + sum_by length_of rs) f.block) s.frames)
+      (le-ltb ((u.0).place + 5 + mr) ((u.0).place + 5 + sum_by length_of rs) (omega (arith, er)))
+      (subst (λ q. list_any (λ (f : Frame). ends_before q f.block) s.frames ≡ false) (sym same) room_s)) in
       let v = either_said h later vars n m n' k l k' s u.0 w.0 ls rs said (said_goals σ a 0 hs) [] [] nl mr el er x.body (omega (arith, nest)) x.types_stand x.terms_stand room_s u.1 w.1 w.2 nm kl in
       (v.0, says_as h later vars n n' k k' n n' k k' s v.0 code is (with_goal s.goals (Either said (said_goals σ a 0 hs))) (with_goal s.goals (Either said (said_goals σ a 0 hs))) refl refl refl refl (sym e) refl v.1)
   goal_says h later K vars n n' k k' σ Γ a Q s (Exists T gs) is (m, q, ts, js, kind, short, c, e) x fit few low nest room =
@@ -439,19 +438,19 @@ mutual
       let mn = grow.0 in
       let kk = grow.1 in
       let r = kind_leads h later vars n m q T ts s kind x.types_stand (omega (arith, few, mn)) fit.0
-          (may_strict (s.place + sum_by length_of ts) (s.place + sum_by length_of code) s.frames (omega (arith, z1, z2, five)) room_s) in
+      (may_strict (s.place + sum_by length_of ts) (s.place + sum_by length_of code) s.frames (omega (arith, z1, z2, five)) room_s) in
       let at_r = r.1.place_is in
       let w = sigma_by h later K vars n m n' k k' q σ Γ a Q s r.0 T gs ts js x fit.1 c nm (omega (arith, kk, low)) room_s r.1 r.2 (λ t o made.
-          let at_t = o.place_is in
-          let deep = ap depth o.frames_are ∙ ap depth r.1.same.frames in
-          let y = around_pushed h K vars n m k σ Γ a Q s t T x short fit.0 o.types_stand o.terms_stand (omega (arith, kk, low)) (o.in_body_stays ∙ r.1.same.in_body ∙ x.body)
-              (λ z d lt f. o.terms_keep z d lt (ap (λ xs. held xs z) r.1.same.terms ∙ f)) made in
-          let end = t.place + sum_by length_of js in
-          let same : s.place + sum_by length_of code ≡ end = omega (arith, z1, z2, five, at_r, at_t) in
-          let g = goals_say h later K vars m n' (k + 1) k' τ (T ∷ Γ) b (one_more Q) t gs js c y fit.1 few low (omega (arith, nest, deep))
-              (may_in end (frame_of r.0 (under_sigma k T)) r.0 t o.frames_are refl
-              (subst (λ fs. list_any (λ (f : Frame). ends_before end f.block) fs ≡ false) (sym r.1.same.frames) (subst (λ z. MayEnd s z) same room_s))) in
-          (g.0, g.1)) in
+      let at_t = o.place_is in
+      let deep = ap depth o.frames_are ∙ ap depth r.1.same.frames in
+      let y = around_pushed h K vars n m k σ Γ a Q s t T x short fit.0 o.types_stand o.terms_stand (omega (arith, kk, low)) (o.in_body_stays ∙ r.1.same.in_body ∙ x.body)
+      (λ z d lt f. o.terms_keep z d lt (ap (λ xs. held xs z) r.1.same.terms ∙ f)) made in
+      let end = t.place + sum_by length_of js in
+      let same : s.place + sum_by length_of code ≡ end = omega (arith, z1, z2, five, at_r, at_t) in
+      let g = goals_say h later K vars m n' (k + 1) k' τ (T ∷ Γ) b (one_more Q) t gs js c y fit.1 few low (omega (arith, nest, deep))
+      (may_in end (frame_of r.0 (under_sigma k T)) r.0 t o.frames_are refl
+      (subst (λ fs. list_any (λ (f : Frame). ends_before end f.block) fs ≡ false) (sym r.1.same.frames) (subst (λ z. MayEnd s z) same room_s))) in
+      (g.0, g.1)) in
       let said = goals (said_goal σ a 0 (Exists T gs)) no_goals in
       (w.0, said_as h later vars n n' k k' n n' k k' s w.0 code is said said refl refl refl refl (sym e) refl w.1)
   goal_says h later K vars n n' k k' σ Γ a Q s (Forall T gs) is (m, q, ts, js, kind, short, c, e) x fit few low nest room =
@@ -471,20 +470,19 @@ mutual
       let mn = grow.0 in
       let kk = grow.1 in
       let r = kind_leads h later vars n m q T ts s kind x.types_stand (omega (arith, mn, few)) fit.0
-          (may_strict (s.place + sum_by length_of ts) (s.place + sum_by length_of code) s.frames (omega (arith, z1, z2, z3, one)) room_s) in
+      (may_strict (s.place + sum_by length_of ts) (s.place + sum_by length_of code) s.frames (omega (arith, z1, z2, z3, one)) room_s) in
       let at_r = r.1.place_is in
       let said = said_goals τ b 0 gs in
       let w = all_said h later vars n m n' k k' q s r.0 ts js T said [] x.body (omega (arith, nest)) x.terms_stand (omega (arith, kk, low)) r.1 r.2 nm mn room_s (λ t o made.
-          let at_t = o.place_is in
-          let deep = ap depth o.frames_are ∙ ap (λ fs. suc (depth fs)) r.1.same.frames in
-          let y = around_pushed h K vars n m k σ Γ a Q s t T x short fit.0 o.types_stand o.terms_stand (omega (arith, kk, low)) (o.in_body_stays ∙ r.1.same.in_body ∙ x.body)
-              (λ z d lt f. o.terms_keep z d lt (ap (λ xs. held xs z) r.1.same.terms ∙ f)) made in
-          let end = t.place + sum_by length_of js in
-          let g = goals_say h later K vars m n' (k + 1) k' τ (T ∷ Γ) b (one_more Q) t gs js c y fit.1 few low (omega (arith, nest, deep)) (may_in end (frame_of r.0 (under_all k T)) r.0 t o.frames_are refl
-              (subst (λ fs. list_any (λ (f : Frame). ends_before end f.block) fs ≡ false) (sym r.1.same.frames)
-              (may_less end (s.place + sum_by length_of code) s.frames (omega (arith, z1, z2, z3, one, five, at_r, at_t)) room_s))) in
-          (g.0, g.1)) in
-      (
+      let at_t = o.place_is in
+      let deep = ap depth o.frames_are ∙ ap (λ fs. suc (depth fs)) r.1.same.frames in
+      let y = around_pushed h K vars n m k σ Γ a Q s t T x short fit.0 o.types_stand o.terms_stand (omega (arith, kk, low)) (o.in_body_stays ∙ r.1.same.in_body ∙ x.body)
+      (λ z d lt f. o.terms_keep z d lt (ap (λ xs. held xs z) r.1.same.terms ∙ f)) made in
+      let end = t.place + sum_by length_of js in
+      let g = goals_say h later K vars m n' (k + 1) k' τ (T ∷ Γ) b (one_more Q) t gs js c y fit.1 few low (omega (arith, nest, deep)) (may_in end (frame_of r.0 (under_all k T)) r.0 t o.frames_are refl
+      (subst (λ fs. list_any (λ (f : Frame). ends_before end f.block) fs ≡ false) (sym r.1.same.frames)
+      (may_less end (s.place + sum_by length_of code) s.frames (omega (arith, z1, z2, z3, one, five, at_r, at_t)) room_s))) in
+      (g.0, g.1)) in (
         w.0,
         says_as h later vars n n' k k' n n' k k' s w.0 code is (with_goal s.goals (Forall T (bind_goals (k ∷ []) h.number said))) (with_goal s.goals (Forall T (said_goals σ a 1 gs))) refl refl refl refl (sym e)
             (ap (λ z. with_goal s.goals (Forall T z)) (bound_again h K vars n k σ Γ a Q s T gs x fit.1)) w.1,
@@ -501,13 +499,13 @@ mutual
       let kk = grow.1 in
       let said = said_goals σ a 0 gs in
       let v = not_said h later vars n n' k k' s js said [] x.body (omega (arith, nest)) x.types_stand x.terms_stand room_s (λ t o.
-          let at_t = o.place_is in
-          let deep = ap depth o.frames_are in
-          let end = t.place + sum_by length_of js in
-          let g = goals_say h later K vars n n' k k' σ Γ a Q t gs js c
-              (around_kept h K vars n n k k σ Γ a Q s t x o.types_stand o.terms_stand (omega (arith, kk, low)) (o.in_body_stays ∙ x.body) (omega arith) o.terms_keep) fit few low (omega (arith, nest, deep))
-              (may_in end (frame_of s under_not) s t o.frames_are refl (may_less end (s.place + sum_by length_of code) s.frames (omega (arith, z1, z2, one, first, at_t)) room_s)) in
-          (g.0, g.1)) grow.0 in
+      let at_t = o.place_is in
+      let deep = ap depth o.frames_are in
+      let end = t.place + sum_by length_of js in
+      let g = goals_say h later K vars n n' k k' σ Γ a Q t gs js c
+      (around_kept h K vars n n k k σ Γ a Q s t x o.types_stand o.terms_stand (omega (arith, kk, low)) (o.in_body_stays ∙ x.body) (omega arith) o.terms_keep) fit few low (omega (arith, nest, deep))
+      (may_in end (frame_of s under_not) s t o.frames_are refl (may_less end (s.place + sum_by length_of code) s.frames (omega (arith, z1, z2, one, first, at_t)) room_s)) in
+      (g.0, g.1)) grow.0 in
       (v.0, says_as h later vars n n' k k' n n' k k' s v.0 code is (with_goal s.goals (Not nothing_written said)) (with_goal s.goals (Not nothing_written said)) refl refl refl refl (sym e) refl v.1)
 
   pub goals_say : (h : Home) (later : Later) (K : ℕ → List Ty → Ty) (vars n n' k k' : ℕ) (σ : ℕ → Term) (Γ : List Ty) (a : Around) (Q : ℕ → Type 0) (s : State) (gs : Goals) (is : List Instr) →
@@ -524,12 +522,12 @@ mutual
       let mn = gr.0 in
       let lk = gr.1 in
       let v = goal_says h later K vars n m k l σ Γ a Q s g js c x fit.0 (omega (arith, few, mn)) (omega (arith, low, lk)) (omega (arith, nest))
-          (may_le (s.place + sum_by length_of js) (s.place + sum_by length_of (js ++ ks)) s.frames (omega (arith, size)) room_s) in
+      (may_le (s.place + sum_by length_of js) (s.place + sum_by length_of (js ++ ks)) s.frames (omega (arith, size)) room_s) in
       let w = goals_joined h later K vars n m n' k l k' σ a s v.0 g rest is js ks c d last e room v.1 (λ t y.
-          let i = y.place_is in
-          let deep = ap depth y.frames_stay in
-          let same : s.place + sum_by length_of (js ++ ks) ≡ t.place + sum_by length_of ks = omega (arith, i, size) in
-          goals_say h later K vars m n' l k' σ Γ a Q t rest ks d
-              (around_kept h K vars n m k l σ Γ a Q s t x y.types_stand y.terms_stand (omega (arith, lk, low)) (y.in_body_stays ∙ x.body) kl y.terms_keep) fit.1 few low (omega (arith, nest, deep))
-              (subst (λ z. MayEnd t z) same (subst (λ fs. list_any (λ (f : Frame). ends_before (s.place + sum_by length_of (js ++ ks)) f.block) fs ≡ false) (sym y.frames_stay) room_s))) in
+      let i = y.place_is in
+      let deep = ap depth y.frames_stay in
+      let same : s.place + sum_by length_of (js ++ ks) ≡ t.place + sum_by length_of ks = omega (arith, i, size) in
+      goals_say h later K vars m n' l k' σ Γ a Q t rest ks d
+      (around_kept h K vars n m k l σ Γ a Q s t x y.types_stand y.terms_stand (omega (arith, lk, low)) (y.in_body_stays ∙ x.body) kl y.terms_keep) fit.1 few low (omega (arith, nest, deep))
+      (subst (λ z. MayEnd t z) same (subst (λ fs. list_any (λ (f : Frame). ends_before (s.place + sum_by length_of (js ++ ks)) f.block) fs ≡ false) (sym y.frames_stay) room_s))) in
       (w.0, w.1, λ q. absurd (some_code_is K a n n' k k' g rest is (m, l, js, ks, c, d, last, e) q))

@@ -6,7 +6,7 @@ use Rattle.lp_calculus.specs.Term.{Term, Atom, index, atom, abs, app, constant, 
 use Rattle.lp_calculus.specs.Typing.{o_type}
 use Rattle.lp_gen.specs.inner.Reading.{from_of, to_of}
 use Rattle.lp_gen.specs.inner.Listing.{make_variable, from_register, Seen, Around, level_in, at_level, set_level, Listed, one_step, seen_listed, found_listed, level_listed, bound_listed, index_listed, atom_listed, listed, headed}
-use Rattle.lp_gen.specs.inner.Bodies.{AreSet}
+use Rattle.lp_gen.specs.inner.TermLaw.{AreSet}
 
 abbrev around_by : Listed → Around
 around_by l = l.around
@@ -33,7 +33,6 @@ atom_calm C a (logic x l) s = index_calm C a 0 (slice_get C 0) s
 atom_calm C a (param k T) s = index_calm C a 0 (slice_get C 0) s
 
 module _ (K : ℕ → List Ty → Ty) where
-
   mutual
     pub listed_calm : (C : List Ty) (a : Around) (T : Ty) (t : Term) → AreSet a → (listed K C a T t).around ≡ a
     listed_calm C a T (index i) s = index_calm C a i (slice_get C i) s

@@ -114,17 +114,17 @@ either_said h later vars n m o k l p s u w ls rs gl gr a b nl mr en em body shal
     let left_room : HasRoom t t.place = or_none (nat_le (s.place + 5 + nl) t.place) (list_any (is_passed t.place) s.frames) (lt-leb (s.place + 5 + nl) t.place (omega (arith, en))) after in
     let outer : HasRoom s u.place = may_strict u.place (s.place + sum_by length_of whole) s.frames (omega (arith, z1, z2, z3, i)) room in
     let strict : HasRoom u u.place = x.closes.sides (is_passed u.place) (sigma_passes u.place)
-        ∙ or_none (nat_le (s.place + 5 + nl) u.place) (list_any (is_passed u.place) s.frames) (lt-leb (s.place + 5 + nl) u.place (omega (arith, en, i))) outer in
+    ∙ or_none (nat_le (s.place + 5 + nl) u.place) (list_any (is_passed u.place) s.frames) (lt-leb (s.place + 5 + nl) u.place (omega (arith, en, i))) outer in
     let v = left_state s w (Either gl gr) in
     let depth_is : depth w.frames ≡ suc (depth s.frames) = y.closes.deep in
     let ends_at : settled h.number (depth w.frames) w ≡ settled h.number (depth s.frames) v = right_ends h.number w (depth s.frames) (u.place + 5 + mr) gl depth_is y.closes.innermost (omega (arith, j, em))
-        ∙ ap (settled h.number (depth s.frames)) (left_is h.number s r w (right_frame s u mr gl) gr (Either gl gr) y.closes refl refl refl refl refl refl) in
+    ∙ ap (settled h.number (depth s.frames)) (left_is h.number s r w (right_frame s u mr gl) gr (Either gl gr) y.closes refl refl refl refl refl refl) in
     let turned : (e : Instr) (rest : List Instr) → run h later u (on.Jump mr ∷ (rs ++ e ∷ rest)) ≡ run h later (settled h.number (depth r.frames) r) (rs ++ e ∷ rest) = λ e rest.
-        steps h later u (settled h.number (depth r.frames) r) (on.Jump mr) (rs ++ e ∷ rest) x.types_stand.sound
-        (jump_rules h u mr (s.place + 5 + nl) (rs ++ e ∷ rest) x.closes.innermost (omega (arith, en, i)) (begins rs e rest mr em) strict)
-        (ap (λ q. Some (settled h.number (depth q.frames) (passed (on.Jump mr) q))) (turn_is h.number s u nl mr gl x.closes)) in
+    steps h later u (settled h.number (depth r.frames) r) (on.Jump mr) (rs ++ e ∷ rest) x.types_stand.sound
+    (jump_rules h u mr (s.place + 5 + nl) (rs ++ e ∷ rest) x.closes.innermost (omega (arith, en, i)) (begins rs e rest mr em) strict)
+    (ap (λ q. Some (settled h.number (depth q.frames) (passed (on.Jump mr) q))) (turn_is h.number s u nl mr gl x.closes)) in
     let opened : (rest : List Instr) → ends_with_jump nl rest ≡ true → run h later s (on.Either nl ∷ rest) ≡ run h later t rest = λ rest q.
-        steps h later s t (on.Either nl) rest st.sound (either_rules h s nl rest body shallow q here) (ap (λ (z : State). Some z) (settled_same h.number (depth t.frames) t left_room)) in
+    steps h later s t (on.Either nl) rest st.sound (either_rules h s nl rest body shallow q here) (ap (λ (z : State). Some z) (settled_same h.number (depth t.frames) t left_room)) in
     let stays : w.in_body ≡ true = y.in_body_stays ∙ x.in_body_stays ∙ body in (
       v,
       record {
@@ -166,5 +166,5 @@ either_said h later vars n m o k l p s u w ls rs gl gr a b nl mr en em body shal
         let z3 = first_bytes (on.Jump mr) rs in
         let some : 0 < sum_by length_of rs = let all = ap (sum_by length_of) q in let one = first_bytes c cs in let more = some_length c in omega (arith, all, one, more) in
         let strict : HasRoom r r.place = or_none (nat_le (u.place + 5 + mr) r.place) (list_any (is_passed r.place) s.frames) (lt-leb (u.place + 5 + mr) r.place (omega (arith, em, some)))
-            (may_strict r.place (s.place + sum_by length_of (on.Either nl ∷ (ls ++ behind))) s.frames (omega (arith, z1, z2, z3, i, some)) room) in
+        (may_strict r.place (s.place + sum_by length_of (on.Either nl ∷ (ls ++ behind))) s.frames (omega (arith, z1, z2, z3, i, some)) room) in
         ap (λ (z : State). run h later z (rs ++ e ∷ rest)) (settled_same h.number (depth r.frames) r strict) ∙ y.runs e rest ∙ ap (λ (z : State). run h later z (e ∷ rest)) (some_code h rs w some)

@@ -34,3 +34,4 @@ mod Goals
 mod Arguments
 pub mod Fitting
 mod Records
+mod OwnMade

@@ -9,8 +9,8 @@ use Rattle.lp_code.specs.States.{State, Home, bind_term}
 use Rattle.lp_gen.specs.Sources.{IsKnownType}
 use Rattle.lp_gen.specs.inner.Running.{TypesStand, TermsStand}
 use Rattle.lp_gen.specs.inner.Listing.{Seen, Around, level_in, at_level}
-use Rattle.lp_gen.specs.inner.TermLaw.{Standing, IsSeen}
-use Rattle.lp_gen.specs.inner.Bodies.{pushed, new_level, AreSet, IsShort, with_level}
+use Rattle.lp_gen.specs.inner.TermLaw.{Standing, IsSeen, AreSet}
+use Rattle.lp_gen.specs.inner.Bodies.{pushed, new_level, IsShort, with_level}
 use Rattle.lp_gen.specs.inner.GoalCode.{quantified}
 use Rattle.lp_gen.specs.inner.BodyLaw.{one_more, IsAround}
 use Rattle.lp_gen.proofs.Binding.{level_first, level_next, level_lower, bind_another}
@@ -107,7 +107,7 @@ around_pushed h K vars n m k σ Γ a Q s t T x short known_T st te low body keep
         (λ q. let z = x.standing.low l w q.1 in (let y : w.register < k + 1 = omega (arith, z) in y)) (at_pushed a v w l e);
     set = λ l w e is_set. ⊎_elim
         (λ q. ap (λ (y : Seen). held t.now.terms y.register) q.1 ∙ made ∙ ap (λ y. Some (whole y T)) (sym (level_same σ (new_level a) l (variable k h.number) q.0))
-            ∙ ap (λ (y : Seen). Some (whole (with_level σ (new_level a) (variable k h.number) l) y.of)) (sym q.1))
+        ∙ ap (λ (y : Seen). Some (whole (with_level σ (new_level a) (variable k h.number) l) y.of)) (sym q.1))
         (λ q. keep w.register (whole (σ l) w.of) (x.standing.low l w q.1) (x.standing.set l w q.1 is_set) ∙ ap (λ y. Some (whole y w.of)) (sym (level_other σ (new_level a) l (variable k h.number) q.0)))
         (at_pushed a v w l e);
     unset = λ l w e none. absurd (true≢false (sym (all_set l w e) ∙ none));

@@ -59,7 +59,7 @@ pub cut_said : (h : Home) (later : Later) (vars n k : ℕ) (s : State) → s.in_
 cut_said h later vars n k s body st te room =
     let here : HasRoom s s.place = may_strict s.place (s.place + 1) s.frames (omega arith) room in
     let w = turns_one h later vars n k s on.Cut (with_goal s.goals Cut) s.head_types s.head_arguments refl refl refl (omega arith) st te
-        (plain_rules h vars n k s on.Cut st te refl refl refl refl refl refl refl refl (ap not body) refl (λ rest. refl) refl here) in
+    (plain_rules h vars n k s on.Cut st te refl refl refl refl refl refl refl refl (ap not body) refl (λ rest. refl) refl here) in
     (w.0, turns_says h later vars n k s w.0 (on.Cut ∷ []) (with_goal s.goals Cut) w.1)
 
 -- goals that are denied
@@ -75,7 +75,7 @@ not_said h later vars n o k p s js gs b body shallow st te room inner le =
     let after : HasRoom s (s.place + 1) = may_strict (s.place + 1) (s.place + sum_by length_of (on.Not ∷ [] ++ (js ++ on.EndNot ∷ []))) s.frames (omega (arith, size, more, one, last)) room in
     let here : HasRoom s s.place = room_less s.place (s.place + 1) s.frames (omega arith) after in
     let opened = opened_by h later vars n k s on.Not under_not [] (ap (λ l. Some (opened_state s under_not l)) (sym (append-nil s.assumed))) refl refl (omega arith)
-        (plain_rules h vars n k s on.Not st te refl refl refl refl refl refl refl refl (ap not body) refl (λ rest. not_deep s shallow) refl here) body refl st te after in
+    (plain_rules h vars n k s on.Not st te refl refl refl refl refl refl refl refl (ap not body) refl (λ rest. not_deep s shallow) refl here) body refl st te after in
     let w = inner opened.0 opened.1 in
     let u = w.0 in
     let y = w.1 in
@@ -189,7 +189,7 @@ all_said h later vars n m o k p q s r is js T gs b body shallow te low x held_q 
     let size = sum_by-append length_of is tail in
     let place = x.place_is in
     let room_r : MayEnd r (r.place + sum_by length_of tail) = subst (λ n. MayEnd r n) (let z : s.place + sum_by length_of (is ++ tail) ≡ r.place + sum_by length_of tail = omega (arith, place, size) in z)
-        (subst (λ fs. list_any (λ (f : Frame). ends_before (s.place + sum_by length_of (is ++ tail)) f.block) fs ≡ false) (sym x.same.frames) room) in
+    (subst (λ fs. list_any (λ (f : Frame). ends_before (s.place + sum_by length_of (is ++ tail)) f.block) fs ≡ false) (sym x.same.frames) room) in
     let body_r : r.in_body ≡ true = x.same.in_body ∙ body in
     let te_r : TermsStand h k r = (moved h later vars n m k s r is x te).terms_stand in
     let first = sum_by-append length_of (on.All k q ∷ []) (js ++ on.EndAll ∷ []) in
@@ -200,14 +200,14 @@ all_said h later vars n m o k p q s r is js T gs b body shallow te low x held_q 
     let here : HasRoom r r.place = room_less r.place (r.place + 5) r.frames (omega arith) after in
     let deep : depth r.frames < nesting_limit = subst (λ fs. depth fs < nesting_limit) (sym x.same.frames) shallow in
     let y = variable_opened h later vars m r (on.All k q) k (under_all k T) (whole (variable k h.number) T)
-        (ap (λ o. Some (variable_state r (under_all k (unwrap_or o o_type)) k (whole (variable k h.number) (unwrap_or o o_type)))) held_q) refl refl (omega arith)
-        (variable_rules h vars m r (on.All k q) k q T refl refl refl refl refl refl refl refl (ap not body_r) refl (λ rest. not_deep r deep) refl x.stands te_r low held_q here) body_r (λ q. refl) x.stands te_r low after in
+    (ap (λ o. Some (variable_state r (under_all k (unwrap_or o o_type)) k (whole (variable k h.number) (unwrap_or o o_type)))) held_q) refl refl (omega arith)
+    (variable_rules h vars m r (on.All k q) k q T refl refl refl refl refl refl refl refl (ap not body_r) refl (λ rest. not_deep r deep) refl x.stands te_r low held_q here) body_r (λ q. refl) x.stands te_r low after in
     let w = inner y.0 y.1 y.2 in
     let u = w.0 in
     let g = w.1 in
     let z = block_ends h later vars m m o k (k + 1) p r y.0 u (frame_of r (under_all k T)) (on.All k q ∷ []) js on.EndAll gs (Forall T (bind_goals (k ∷ []) h.number gs)) [] b y.1 g refl refl refl (λ q. refl) refl refl refl
-        (omega arith) refl (λ strict innermost. plain_rules h vars o p u on.EndAll g.types_stand g.terms_stand refl refl refl refl refl refl refl refl refl refl
-        (λ rest. ap (λ k. not (ends_block on.EndAll k)) innermost) refl strict) body_r x.stands te_r room_r in
+    (omega arith) refl (λ strict innermost. plain_rules h vars o p u on.EndAll g.types_stand g.terms_stand refl refl refl refl refl refl refl refl refl refl
+    (λ rest. ap (λ k. not (ends_block on.EndAll k)) innermost) refl strict) body_r x.stands te_r room_r in
     (z.0, leads_says h later vars n m o k p s r z.0 is tail _ (with_goal s.goals (Forall T (bind_goals (k ∷ []) h.number gs))) b x z.1 (ap (λ l. with_goal l (Forall T (bind_goals (k ∷ []) h.number gs))) x.same.goals) le)
 
 -- goals below `sigma`, which is open up to the end of the block around it
@@ -221,7 +221,7 @@ sigma_said h later vars n m o k p q s r is js T gs b body te low x held_q le mo 
     let size = sum_by-append length_of is tail in
     let place = x.place_is in
     let room_r : MayEnd r (r.place + sum_by length_of tail) = subst (λ n. MayEnd r n) (let z : s.place + sum_by length_of (is ++ tail) ≡ r.place + sum_by length_of tail = omega (arith, place, size) in z)
-        (subst (λ fs. list_any (λ (f : Frame). ends_before (s.place + sum_by length_of (is ++ tail)) f.block) fs ≡ false) (sym x.same.frames) room) in
+    (subst (λ fs. list_any (λ (f : Frame). ends_before (s.place + sum_by length_of (is ++ tail)) f.block) fs ≡ false) (sym x.same.frames) room) in
     let body_r : r.in_body ≡ true = x.same.in_body ∙ body in
     let te_r : TermsStand h k r = (moved h later vars n m k s r is x te).terms_stand in
     let first = sum_by-append length_of (on.Sigma k q ∷ []) js in
@@ -229,8 +229,8 @@ sigma_said h later vars n m o k p q s r is js T gs b body te low x held_q le mo 
     let after : HasRoom r (r.place + 5) = may_strict (r.place + 5) (r.place + sum_by length_of tail) r.frames (omega (arith, first, five, some)) room_r in
     let here : HasRoom r r.place = room_less r.place (r.place + 5) r.frames (omega arith) after in
     let y = variable_opened h later vars m r (on.Sigma k q) k (under_sigma k T) (whole (variable k h.number) T)
-        (ap (λ o. Some (variable_state r (under_sigma k (unwrap_or o o_type)) k (whole (variable k h.number) (unwrap_or o o_type)))) held_q) refl refl (omega arith)
-        (variable_rules h vars m r (on.Sigma k q) k q T refl refl refl refl refl refl refl refl (ap not body_r) refl (λ rest. refl) refl x.stands te_r low held_q here) body_r (λ q. refl) x.stands te_r low after in
+    (ap (λ o. Some (variable_state r (under_sigma k (unwrap_or o o_type)) k (whole (variable k h.number) (unwrap_or o o_type)))) held_q) refl refl (omega arith)
+    (variable_rules h vars m r (on.Sigma k q) k q T refl refl refl refl refl refl refl refl (ap not body_r) refl (λ rest. refl) refl x.stands te_r low held_q here) body_r (λ q. refl) x.stands te_r low after in
     let w = inner y.0 y.1 y.2 in
     let u = w.0 in
     let g = w.1 in
@@ -273,10 +273,10 @@ sigma_alone h later vars n m k q s r is T body te low x held_q room =
     let body_r : r.in_body ≡ true = x.same.in_body ∙ body in
     let te_r : TermsStand h k r = (moved h later vars n m k s r is x te).terms_stand in
     let room_r : MayEnd r (r.place + 5) = subst (λ n. MayEnd r n) (let z : s.place + sum_by length_of (is ++ sigma ∷ []) ≡ r.place + 5 = omega (arith, place, size, five) in z)
-        (subst (λ fs. list_any (λ (f : Frame). ends_before (s.place + sum_by length_of (is ++ sigma ∷ [])) f.block) fs ≡ false) (sym x.same.frames) room) in
+    (subst (λ fs. list_any (λ (f : Frame). ends_before (s.place + sum_by length_of (is ++ sigma ∷ [])) f.block) fs ≡ false) (sym x.same.frames) room) in
     let here : HasRoom r r.place = may_strict r.place (r.place + 5) r.frames (omega arith) room_r in
     let eff : effect h later r sigma ≡ Some (variable_state r B k v) =
-        ap (λ o. Some (variable_state r (under_sigma k (unwrap_or o o_type)) k (whole (variable k h.number) (unwrap_or o o_type)))) held_q in
+    ap (λ o. Some (variable_state r (under_sigma k (unwrap_or o o_type)) k (whole (variable k h.number) (unwrap_or o o_type)))) held_q in
     let fine = variable_rules h vars m r sigma k q T refl refl refl refl refl refl refl refl (ap not body_r) refl (λ rest. refl) refl x.stands te_r low held_q here in
     let stands = variable_stands h vars m r sigma k B v refl refl (omega arith) body_r x.stands te_r in (
       u,

@@ -35,6 +35,8 @@ mod term_steps;
 mod terms;
 // Types as they are read.
 mod types;
+// Variables that do not stand in the head.
+mod variables;
 // Types in registers.
 mod written_types;
 

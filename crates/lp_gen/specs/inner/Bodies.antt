@@ -23,10 +23,6 @@ pushed a v = record { own = a.own ++ v ∷ []; base = a.base; captured = a.captu
 abbrev pub new_level : Around → ℕ
 new_level a = a.base + length a.own
 
--- all variables are set
-abbrev pub AreSet : Around → Type 0
-AreSet a = (l : ℕ) (v : Seen) → at_level a l ≡ Some v → v.is_set ≡ true
-
 -- levels count all variables
 abbrev pub IsShort : Around → Type 0
 IsShort a = new_level a < 2 ^ 64 - 1

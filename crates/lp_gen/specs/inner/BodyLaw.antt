@@ -15,9 +15,9 @@ use Rattle.lp_code.specs.States.{State, Home, bind_term}
 use Rattle.lp_gen.specs.Sources.{types_by, IsKnownType}
 use Rattle.lp_gen.specs.inner.Running.{TypesStand, TermsStand}
 use Rattle.lp_gen.specs.inner.Listing.{Around, level_in}
-use Rattle.lp_gen.specs.inner.TermLaw.{Standing, KnownAtoms, AllLoose, IsSeen}
+use Rattle.lp_gen.specs.inner.TermLaw.{Standing, KnownAtoms, AllLoose, IsSeen, AreSet}
 use Rattle.lp_gen.specs.inner.Written.{AreAsked}
-use Rattle.lp_gen.specs.inner.Bodies.{AreSet, IsShort}
+use Rattle.lp_gen.specs.inner.Bodies.{IsShort}
 
 -- an atom as a goal, where indices that pass Q are those of variables
 pub record AtomFits (h : Home) (vars : ℕ) (Γ : List Ty) (Q : ℕ → Type 0) (t : Term) : Type 0 where
