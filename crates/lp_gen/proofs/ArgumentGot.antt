@@ -1,37 +1,33 @@
 -- The code of an argument of the head, of each form.
-use Rattle.std.proofs.Common.{◌≡◌, ◌∙◌, ◌≤◌, ◌<◌, ℕ, ℤ, zero, suc, ◌+◌, ◌-◌, List, [], ◌∷◌, ◌++◌, append_assoc, map, length, Bool, true, false, Option, Some, None, ap, refl, sym, subst, arith, true≢false, inl, inr, ◌⊎◌, ⊎_elim}
-use Rattle.std.specs.Prelude.{All, nat_eq, nat_lt, nat_le, not, ◌&&◌, ◌||◌, if◌then◌else◌, is_none, is_some, sum_by, slice_get, slice_set, unwrap_or}
+use Rattle.std.proofs.Common.{◌≡◌, ◌∙◌, ◌≤◌, ◌<◌, ℕ, ℤ, ◌+◌, ◌-◌, List, [], ◌∷◌, ◌++◌, append_assoc, length, Bool, true, false, Option, Some, None, ap, refl, sym, subst, arith, true≢false, ⊎_elim}
+use Rattle.std.specs.Prelude.{nat_eq, nat_le, not, ◌&&◌, ◌||◌, if◌then◌else◌, is_none, is_some, sum_by, unwrap_or}
 use Rattle.std.specs.List.{list_any}
-use Rattle.std.proofs.lemmas.Bool.{eqb-true, eq-eqb, leb-true, leb-false, le-leb, le-ltb}
+use Rattle.std.proofs.lemmas.Bool.{eqb-true, eq-eqb, leb-true, leb-false, le-ltb}
 use Rattle.lp_calculus.specs.Types.{Ty, tys}
 use Rattle.lp_calculus.specs.Term.{Term, index, atom, abs, app, constant, integer, text, eigen, logic, param}
 use Rattle.lp_calculus.specs.Typing.{o_type, int_type, string_type}
-use Rattle.lp_standard.specs.Positive.{is_positive}
 use Rattle.lp_code.specs.declared.record.RecordHead.{RecordHead}
 use Rattle.lp_code.specs.declared.record.RecordHead.TheVariants.{Const, Register}
-use Rattle.lp_code.specs.declared.instruction.Instr.{Instr}
 use Rattle.lp_code.specs.Length.{length_of}
-use Rattle.lp_code.specs.Symbolic.{Built, Registers, variable, held, whole, is_closed, equal_types, argument_type, types_in, term_in}
-use Rattle.lp_code.specs.States.{State, Home, member}
-use Rattle.lp_code.specs.Steps.{Later, constant_of, own_variables, built_of, head_built}
-use Rattle.lp_code.specs.Rules.{has_type, has_count, out_of_turn, is_argument, is_variable_of, stands_in, is_new_variable, is_no_term}
+use Rattle.lp_code.specs.Symbolic.{Built, variable, held, whole, is_closed, equal_types, argument_type, types_in, term_in}
+use Rattle.lp_code.specs.States.{State, Home}
+use Rattle.lp_code.specs.Steps.{constant_of, own_variables, built_of, head_built}
+use Rattle.lp_code.specs.Rules.{has_type, has_count, out_of_turn, is_argument, is_variable_of, stands_in, is_new_variable}
 use Rattle.lp_gen.specs.declared.emitter.Emitter.{Emitter}
-use Rattle.lp_gen.specs.Sources.{IsKnownType}
-use Rattle.lp_gen.specs.inner.Running.{TypesStand, TermsStand, HasRoom, HoldAll, AreTypesPut}
-use Rattle.lp_gen.specs.inner.Saying.{IsNext, IsNextConstant, ConstantGot, IntegerGot, TextGot, IsNextTerm, TermGot, Turns}
+use Rattle.lp_gen.specs.inner.Running.{TermsStand, AreTypesPut}
+use Rattle.lp_gen.specs.inner.Saying.{ConstantGot, IntegerGot, TextGot, TermGot}
 use Rattle.lp_gen.specs.inner.Listing.{Seen, Around, at_level, level_in, set_level}
 use Rattle.lp_gen.specs.inner.TermSteps.{made_variable}
-use Rattle.lp_gen.specs.inner.TermLaw.{SameSides, Standing, IsSeen, as_set, level_term, index_term, with_variables, SameAround, Made}
-use Rattle.lp_gen.specs.inner.Written.{Goes, AreAsked, IsWell, TermWritten}
+use Rattle.lp_gen.specs.inner.TermLaw.{Standing, IsSeen, level_term, with_variables}
+use Rattle.lp_gen.specs.inner.Written.{IsWell, TermWritten}
 use Rattle.lp_gen.specs.inner.Doing.{Does}
 use Rattle.lp_gen.specs.inner.Heading.{VariableGot, if_unset, level_first, first_place, AreOwn, HaveStood, PredicateStands, ArgumentGot}
 use Rattle.lp_gen.proofs.Denoting.{or_none, strict_may, room_front, room_behind, none_unset}
-use Rattle.lp_gen.proofs.TermPut.{hold_all_on, types_held, moved}
-use Rattle.lp_gen.proofs.Registers.{by_same}
+use Rattle.lp_gen.proofs.TermPut.{types_held, moved}
 use Rattle.lp_gen.proofs.LooseOf.{equal_self, some_same}
 use Rattle.lp_gen.proofs.AroundSet.{around_same, around_set, found_set, standing_set}
 use Rattle.lp_gen.proofs.TermListed.{has_scheme, is_term}
-use Rattle.lp_gen.proofs.TermWritten.{then_goes, room_goes}
+use Rattle.lp_gen.proofs.TermWritten.{room_goes}
 use Rattle.lp_gen.proofs.AtomWritten.{leads_goes, goes_does, turns_does, then_does, does_same, standing_after}
 
 and_false : (t : Bool) → (t && false) ≡ false

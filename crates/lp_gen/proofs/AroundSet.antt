@@ -1,5 +1,5 @@
 -- A variable is set: those around stay as they are.
-use Rattle.std.proofs.Common.{◌≡◌, ◌∙◌, ◌<◌, ◌≤◌, ℕ, zero, suc, ◌-◌, ◌+◌, ◌^◌, List, [], ◌∷◌, map, length, Bool, true, false, Option, Some, None, ap, refl, sym, subst, arith, true≢false, inl, inr, ◌⊎◌, ⊎_elim}
+use Rattle.std.proofs.Common.{◌≡◌, ◌∙◌, ◌<◌, ◌≤◌, ℕ, zero, suc, ◌-◌, ◌+◌, ◌^◌, List, [], ◌∷◌, length, Bool, true, false, Option, Some, None, ap, refl, sym, subst, arith, true≢false, inl, inr, ◌⊎◌, ⊎_elim}
 use Rattle.std.specs.Prelude.{nat_le, ◌&&◌, ◌||◌, if◌then◌else◌, min, slice_get, slice_set, option_map}
 use Rattle.std.proofs.lemmas.Bool.{leb-true, le-leb, eq-eqb}
 use Rattle.std.proofs.lemmas.List.{length-set}
@@ -9,9 +9,9 @@ use Rattle.lp_code.specs.Symbolic.{Built, variable, held, whole}
 use Rattle.lp_code.specs.States.{Home}
 use Rattle.lp_code.specs.Rules.{stands_in}
 use Rattle.lp_gen.specs.Sources.{IsKnownType}
-use Rattle.lp_gen.specs.inner.Listing.{Seen, Around, count_around, level_below, level_in, at_level, seen_in, marked, set_level}
+use Rattle.lp_gen.specs.inner.Listing.{Seen, Around, level_below, level_in, at_level, marked, set_level}
 use Rattle.lp_gen.specs.inner.TermSteps.{made_variable}
-use Rattle.lp_gen.specs.inner.TermLaw.{Standing, AllLoose, as_set, IsSeen, level_term, index_term, with_variables, SameAround, Made}
+use Rattle.lp_gen.specs.inner.TermLaw.{Standing, AllLoose, as_set, IsSeen, level_term, with_variables, SameAround, Made}
 use Rattle.lp_gen.proofs.Denoting.{held_set}
 use Rattle.lp_gen.proofs.Registers.{held_elsewhere, by_same}
 

@@ -1,14 +1,14 @@
 -- The code of an atom as a goal.
-use Rattle.std.proofs.Common.{◌≡◌, ◌≢◌, Bor, ◌∙◌, ◌≤◌, ◌<◌, ℕ, zero, suc, ◌+◌, List, [], ◌∷◌, ◌++◌, append_assoc, map, length, Bool, true, false, Option, Some, None, ap, refl, sym, subst, arith, true≢false}
-use Rattle.std.specs.Prelude.{All, nat_eq, not, ◌&&◌, ◌||◌, if◌then◌else◌, is_none, sum_by, slice_get, unwrap_or}
-use Rattle.std.specs.List.{list_any, list_all}
+use Rattle.std.proofs.Common.{◌≡◌, ◌≢◌, Bor, ◌∙◌, ◌≤◌, ◌<◌, ℕ, ◌+◌, List, [], ◌∷◌, ◌++◌, append_assoc, map, length, Bool, true, false, Option, Some, None, ap, refl, sym, subst, arith, true≢false}
+use Rattle.std.specs.Prelude.{nat_eq, not, ◌&&◌, ◌||◌, if◌then◌else◌, is_none, sum_by, slice_get, unwrap_or}
+use Rattle.std.specs.List.{list_any}
 use Rattle.std.proofs.lemmas.Bool.{eqb-true, ne_eqb}
 use Rattle.std.proofs.lemmas.List.{append-nil}
 use Rattle.std.proofs.lemmas.List.Sums.{sum_by-append}
 use Rattle.lp_lemmas.proofs.Booleans.{and_true_left, and_true_right}
 use Rattle.lp_calculus.specs.Types.{Ty, arrow, tys, instance}
 use Rattle.lp_calculus.specs.Term.{Term, index, atom, abs, app, apply, constant, integer, text, eigen, logic, param}
-use Rattle.lp_calculus.specs.Typing.{Scheme, o_type, scheme_type, type_at, HasType}
+use Rattle.lp_calculus.specs.Typing.{o_type, scheme_type, type_at, HasType}
 use Rattle.lp_calculus.specs.Convert.{leftmost_step}
 use Rattle.lp_calculus.specs.Spine.{head_of, arguments, arguments_and}
 use Rattle.lp_standard.specs.Connectives.{connective_of, connective_at, connective_of_constant}
@@ -34,13 +34,13 @@ use Rattle.lp_code.specs.Denote.{run}
 use Rattle.lp_gen.specs.declared.emitter.Emitter.{Emitter}
 use Rattle.lp_gen.specs.Sources.{types_by, IsKnownType}
 use Rattle.lp_gen.specs.inner.Reading.{from_of, to_of}
-use Rattle.lp_gen.specs.inner.Running.{HasRoom, MayEnd, ends_before, TypesStand, TermsStand, Leads, HoldAll, AreTypesPut}
+use Rattle.lp_gen.specs.inner.Running.{HasRoom, MayEnd, ends_before, TypesStand, TermsStand, Leads, AreTypesPut}
 use Rattle.lp_gen.specs.inner.Saying.{AreGoalParts, CallPut, IsGoalTerm, TermCallPut, Turns}
 use Rattle.lp_gen.specs.inner.Listing.{Around, head_type}
 use Rattle.lp_gen.specs.inner.TermSteps.{StandIn}
-use Rattle.lp_gen.specs.inner.TermLaw.{Asks, Standing, KnownAtoms, AllLoose, IsSeen, with_variables, SameAround}
+use Rattle.lp_gen.specs.inner.TermLaw.{Standing, KnownAtoms, AllLoose, IsSeen, with_variables}
 use Rattle.lp_gen.specs.inner.Written.{Goes, AreAsked, IsWell, TermWritten, AreWell, wholes, ArgumentsWritten}
-use Rattle.lp_gen.specs.inner.Doing.{Does, Says, IsGoalAtom, AtomWritten}
+use Rattle.lp_gen.specs.inner.Doing.{Does, Says, AtomWritten}
 use Rattle.lp_gen.proofs.Denoting.{or_none, settled_same, may_strict, room_front, room_behind, none_unset}
 use Rattle.lp_gen.proofs.TermPut.{hold_all_on, types_held, moved}
 use Rattle.lp_gen.proofs.StepPut.{all_set, all_at}
@@ -48,7 +48,7 @@ use Rattle.lp_gen.proofs.LooseOf.{both_true, equal_self, none_some, some_same}
 use Rattle.lp_gen.proofs.TermListed.{KnownSides, known_sides, normal_parts, has_scheme}
 use Rattle.lp_gen.proofs.ConstantTypes.{known_constant}
 use Rattle.lp_gen.proofs.Courses.{mapped_types}
-use Rattle.lp_gen.proofs.TermWritten.{then_goes, room_goes, standing_on}
+use Rattle.lp_gen.proofs.TermWritten.{then_goes}
 
 -- an applied head, and its arguments
 

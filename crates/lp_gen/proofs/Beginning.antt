@@ -1,13 +1,9 @@
 -- Variables that are made behind the head, and NECK.
-use Rattle.std.proofs.Common.{◌≡◌, ◌∙◌, ◌≤◌, ◌<◌, ℕ, suc, ◌+◌, List, [], ◌∷◌, ◌++◌, append_assoc, length, Bool, true, false, Option, Some, None, ap, refl, sym, subst, arith, true≢false}
-use Rattle.std.specs.Prelude.{◌||◌, sum_by, slice_set, unwrap_or, option_map}
-use Rattle.std.specs.List.{list_any}
+use Rattle.std.proofs.Common.{◌≡◌, ◌∙◌, ◌≤◌, ◌<◌, ℕ, ◌+◌, List, [], ◌∷◌, ◌++◌, append_assoc, true, false, Some, None, ap, refl, sym, subst, arith, true≢false}
+use Rattle.std.specs.Prelude.{sum_by, slice_set, unwrap_or}
 use Rattle.std.proofs.lemmas.Bool.{eqb-true}
 use Rattle.std.proofs.lemmas.List.{append-nil}
-use Rattle.std.proofs.lemmas.List.Sums.{sum_by-append}
 use Rattle.lp_lemmas.proofs.Lists.{append_nil_sym}
-use Rattle.lp_calculus.specs.Types.{Ty}
-use Rattle.lp_calculus.specs.Term.{Term}
 use Rattle.lp_calculus.specs.Typing.{o_type}
 use Rattle.lp_code.specs.declared.instruction.Instr.{Instr}
 use Rattle.lp_code.specs.declared.instruction.Instr.TheVariants.{New, Neck}
@@ -16,19 +12,19 @@ use Rattle.lp_code.specs.declared.rule.Rule.TheVariants as rule
 use Rattle.lp_code.specs.Length.{length_of}
 use Rattle.lp_code.specs.Symbolic.{Built, variable, held, whole}
 use Rattle.lp_code.specs.States.{State, Home, member, depth}
-use Rattle.lp_code.specs.Steps.{Later, put_term, settled, passed}
-use Rattle.lp_code.specs.Rules.{breaks_head, is_passed}
-use Rattle.lp_code.specs.Denote.{broken_by, run}
+use Rattle.lp_code.specs.Steps.{put_term, passed}
+use Rattle.lp_code.specs.Rules.{breaks_head}
+use Rattle.lp_code.specs.Denote.{broken_by}
 use Rattle.lp_gen.specs.declared.emitter.Emitter.{Emitter}
-use Rattle.lp_gen.specs.inner.Running.{TypesStand, TermsStand, HasRoom, IsTypePut}
+use Rattle.lp_gen.specs.inner.Running.{TermsStand, HasRoom, IsTypePut}
 use Rattle.lp_gen.specs.inner.Listing.{Seen, Around, at_level, set_level}
 use Rattle.lp_gen.specs.inner.TermSteps.{made_variable}
-use Rattle.lp_gen.specs.inner.TermLaw.{Standing, SameAround}
+use Rattle.lp_gen.specs.inner.TermLaw.{Standing}
 use Rattle.lp_gen.specs.inner.Written.{Goes}
 use Rattle.lp_gen.specs.inner.Beginning.{VariableMade, VariablesMade, behind_head, NeckPut}
 use Rattle.lp_gen.proofs.Denoting.{steps, settled_same, room_less, room_front, room_behind}
 use Rattle.lp_gen.proofs.Registers.{held_elsewhere}
-use Rattle.lp_gen.proofs.TermPut.{moved, put_at, no_sides}
+use Rattle.lp_gen.proofs.TermPut.{put_at, no_sides}
 use Rattle.lp_gen.proofs.VariablePut.{new_fine}
 use Rattle.lp_gen.proofs.AroundSet.{around_same, around_then, around_set, standing_set}
 use Rattle.lp_gen.proofs.TermWritten.{standing_on, then_goes, room_goes}

@@ -1,19 +1,18 @@
 -- A variable that is bound: its terms give way to index 0, and the goals are those below one binder more.
-use Rattle.std.proofs.Common.{◌≡◌, ◌∙◌, ◌≤◌, ◌<◌, ℕ, zero, suc, ◌+◌, ◌-◌, ◌^◌, List, [], ◌∷◌, ◌++◌, map, length, Bool, true, false, Option, Some, None, ap, refl, sym, subst, arith, true≢false}
-use Rattle.std.specs.Prelude.{nat_eq, nat_lt, nat_le, if◌then◌else◌, min, slice_get}
-use Rattle.std.proofs.lemmas.Bool.{eqb-true, eq-eqb, ne_eqb, lt-ltb, le-ltb, ltb-true, ltb-false, le-leb}
+use Rattle.std.proofs.Common.{◌≡◌, ◌∙◌, ◌≤◌, ◌<◌, ℕ, suc, ◌+◌, ◌-◌, List, [], ◌∷◌, map, Bool, true, false, Option, Some, None, ap, refl, sym, arith}
+use Rattle.std.specs.Prelude.{nat_eq, nat_lt, if◌then◌else◌}
+use Rattle.std.proofs.lemmas.Bool.{eq-eqb, ne_eqb, lt-ltb, le-ltb, ltb-true, ltb-false}
 use Rattle.std.proofs.lemmas.List.{length-append}
 use Rattle.lp_calculus.specs.Types.{Ty}
 use Rattle.lp_calculus.specs.Term.{Term, Atom, index, atom, abs, app, shift, constant, integer, text, eigen, logic, param}
 use Rattle.lp_calculus.specs.Fill.{raise, fill, at_variables}
-use Rattle.lp_model.specs.Flat.{Goal, Goals, Clause, Clauses, Atomic, Cut, Either, Exists, Forall, Assume, Not, no_goals, goals, clause, no_clauses, clauses, under_all, map_goal, map_goals, map_clauses, same_type}
+use Rattle.lp_model.specs.Flat.{Goal, Goals, Clauses, Atomic, Cut, Either, Exists, Forall, Assume, Not, no_goals, goals, clause, no_clauses, clauses, under_all, map_goal, map_goals, map_clauses, same_type}
 use Rattle.lp_code.specs.Symbolic.{variable}
-use Rattle.lp_code.specs.States.{placed, index_or, bound_at, bind_term, bind_goals}
+use Rattle.lp_code.specs.States.{placed, index_or, bound_at, bind_term}
 use Rattle.lp_code.specs.Written.{nothing_written}
-use Rattle.lp_gen.specs.inner.Listing.{Seen, Around, count_around, level_below, level_in, at_level}
+use Rattle.lp_gen.specs.inner.Listing.{Seen, Around, count_around, level_below, level_in}
 use Rattle.lp_gen.specs.inner.TermLaw.{KnownAtoms, AllLoose, level_term, index_term, with_variables}
-use Rattle.lp_gen.specs.inner.Bodies.{pushed, new_level, IsShort, with_level, bare_goal, bare_goals, bare_clauses, IsThrough, AreThrough, AllThrough, HasLevel, Binds, said_goals, said_clauses}
-use Rattle.lp_gen.proofs.Registers.{by_same}
+use Rattle.lp_gen.specs.inner.Bodies.{pushed, new_level, IsShort, with_level, bare_goal, IsThrough, AreThrough, AllThrough, HasLevel, Binds, said_goals, said_clauses}
 
 -- the levels of indices, where a variable was pushed
 

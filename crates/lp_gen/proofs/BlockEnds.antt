@@ -1,18 +1,15 @@
 -- A block that an instruction opens and another one ends.
-use Rattle.std.proofs.Common.{◌≡◌, ◌∙◌, ◌≤◌, ◌<◌, ℕ, zero, suc, ◌+◌, List, [], ◌∷◌, ◌++◌, append_assoc, map, length, Bool, true, false, Option, Some, None, ap, refl, sym, subst, arith, true≢false}
-use Rattle.std.specs.Prelude.{◌||◌, if◌then◌else◌, is_none, sum_by, option_map, slice_set, unwrap_or}
+use Rattle.std.proofs.Common.{◌≡◌, ◌∙◌, ◌<◌, ℕ, ◌+◌, List, [], ◌∷◌, ◌++◌, append_assoc, true, false, Some, ap, refl, sym, arith, true≢false}
+use Rattle.std.specs.Prelude.{if◌then◌else◌, sum_by, option_map}
 use Rattle.std.specs.List.{list_any}
 use Rattle.std.proofs.lemmas.Bool.{eqb-true}
-use Rattle.std.proofs.lemmas.List.{append-nil, length-set}
+use Rattle.std.proofs.lemmas.List.{append-nil}
 use Rattle.std.proofs.lemmas.List.Sums.{sum_by-append}
-use Rattle.lp_calculus.specs.Types.{Ty}
-use Rattle.lp_calculus.specs.Typing.{o_type}
-use Rattle.lp_model.specs.Flat.{Goal, Goals, no_goals, goals, add_goals}
+use Rattle.lp_model.specs.Flat.{Goal, Goals, no_goals, add_goals}
 use Rattle.lp_code.specs.declared.instruction.Instr.{Instr}
 use Rattle.lp_code.specs.declared.rule.Rule.{Rule}
 use Rattle.lp_code.specs.Length.{length_of}
 use Rattle.lp_code.specs.Operands.{type_set, term_set}
-use Rattle.lp_code.specs.Symbolic.{Built, variable, held, whole, set_term}
 use Rattle.lp_code.specs.States.{Block, under_sigma, under_all, under_assumption, under_not, left_side, right_side, Frame, Captured, State, Home, member, with_goal, is_sigma, depth, innermost_block, Ended, end_variables}
 use Rattle.lp_code.specs.Steps.{Later, goal_of_block, leave_block, leave_from, leave, settled, passed, effect}
 use Rattle.lp_code.specs.Rules.{side_is_passed, is_passed}
@@ -20,7 +17,7 @@ use Rattle.lp_code.specs.Denote.{broken_by, run}
 use Rattle.lp_gen.specs.inner.Running.{TypesStand, TermsStand, HasRoom, MayEnd}
 use Rattle.lp_gen.specs.inner.Doing.{Says}
 use Rattle.lp_gen.specs.inner.Bodies.{behind_code, Closes, GoalsSaid, Opened, frame_of, opened_state}
-use Rattle.lp_gen.proofs.Denoting.{or_none, steps, settled_same, may_strict, room_less, held_below, member_more}
+use Rattle.lp_gen.proofs.Denoting.{or_none, steps, settled_same, may_strict}
 use Rattle.lp_gen.proofs.Blocks.{kept_frame}
 
 pub sigma_passes : (q : ℕ) (x : Frame) → is_sigma x.block ≡ true → is_passed q x ≡ false

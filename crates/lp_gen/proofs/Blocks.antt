@@ -1,24 +1,20 @@
 -- Blocks of goals: what is said in one, and its end.
-use Rattle.std.proofs.Common.{◌≡◌, ◌∙◌, ◌≤◌, ◌<◌, ℕ, zero, suc, ◌+◌, List, [], ◌∷◌, ◌++◌, append_assoc, map, length, Bool, true, false, Option, Some, None, ap, refl, sym, subst, arith, true≢false}
-use Rattle.std.specs.Prelude.{◌||◌, if◌then◌else◌, sum_by, option_map}
+use Rattle.std.proofs.Common.{◌≡◌, ◌∙◌, ◌≤◌, ◌<◌, ℕ, ◌+◌, List, [], ◌∷◌, ◌++◌, append_assoc, false, ap, refl, sym, subst, arith, true≢false}
+use Rattle.std.specs.Prelude.{sum_by}
 use Rattle.std.specs.List.{list_any}
-use Rattle.std.proofs.lemmas.Bool.{eqb-true}
 use Rattle.std.proofs.lemmas.List.{append-nil}
 use Rattle.std.proofs.lemmas.List.Sums.{sum_by-append}
 use Rattle.lp_model.specs.Flat.{Goal, Goals, Exists, no_goals, goals, add_goals}
 use Rattle.lp_code.specs.declared.instruction.Instr.{Instr}
-use Rattle.lp_code.specs.declared.rule.Rule.{Rule}
 use Rattle.lp_code.specs.Length.{length_of}
-use Rattle.lp_code.specs.Operands.{type_set, term_set}
-use Rattle.lp_code.specs.Symbolic.{Built, held}
-use Rattle.lp_code.specs.States.{Block, under_sigma, under_all, under_assumption, under_not, left_side, right_side, Frame, Captured, State, Home, member, with_goal, is_sigma, depth, innermost_block, Ended, end_variables, bind_goals}
-use Rattle.lp_code.specs.Steps.{Later, goal_of_block, leave_block, leave_from, leave, settled, passed, effect}
-use Rattle.lp_code.specs.Rules.{side_is_passed, is_passed}
-use Rattle.lp_code.specs.Denote.{broken_by, run}
-use Rattle.lp_gen.specs.inner.Running.{TypesStand, TermsStand, HasRoom, ends_before, MayEnd}
+use Rattle.lp_code.specs.States.{Block, under_sigma, under_all, under_assumption, under_not, left_side, right_side, Frame, Captured, State, Home, with_goal, is_sigma, depth, innermost_block, Ended, end_variables, bind_goals}
+use Rattle.lp_code.specs.Steps.{Later, settled}
+use Rattle.lp_code.specs.Rules.{is_passed}
+use Rattle.lp_code.specs.Denote.{run}
+use Rattle.lp_gen.specs.inner.Running.{TypesStand, TermsStand, HasRoom, MayEnd}
 use Rattle.lp_gen.specs.inner.Doing.{Says}
-use Rattle.lp_gen.specs.inner.Bodies.{behind_code, Closes, GoalsSaid, Opened}
-use Rattle.lp_gen.proofs.Denoting.{or_none, steps, settled_same, may_strict}
+use Rattle.lp_gen.specs.inner.Bodies.{behind_code, GoalsSaid}
+use Rattle.lp_gen.proofs.Denoting.{settled_same, may_strict}
 
 -- goals that are added
 

@@ -1,6 +1,6 @@
 -- The law of bodies: the code of goals, by their form, says them.
-use Rattle.std.proofs.Common.{◌≡◌, ◌∙◌, ◌≤◌, ◌<◌, ℕ, zero, suc, ◌+◌, ◌-◌, List, [], ◌∷◌, ◌++◌, length, Bool, true, false, Option, Some, None, ap, refl, sym, subst, arith, true≢false}
-use Rattle.std.specs.Prelude.{nat_lt, nat_le, ◌||◌, sum_by}
+use Rattle.std.proofs.Common.{◌≡◌, ◌∙◌, ◌≤◌, ◌<◌, ℕ, zero, suc, ◌+◌, ◌-◌, List, [], ◌∷◌, ◌++◌, Bool, true, false, Some, ap, refl, sym, subst, arith, true≢false}
+use Rattle.std.specs.Prelude.{nat_lt, ◌||◌, sum_by}
 use Rattle.std.specs.List.{list_any}
 use Rattle.std.proofs.lemmas.Bool.{eqb-true, leb-false, le-ltb, ltb-false}
 use Rattle.std.proofs.lemmas.List.{append-nil}
@@ -11,7 +11,7 @@ use Rattle.lp_model.specs.Flat.{Goal, Goals, Atomic, Cut, Either, Exists, Forall
 use Rattle.lp_code.specs.declared.instruction.Instr.{Instr}
 use Rattle.lp_code.specs.declared.instruction.Instr.TheVariants as on
 use Rattle.lp_code.specs.Length.{length_of}
-use Rattle.lp_code.specs.Symbolic.{Built, variable, held, whole}
+use Rattle.lp_code.specs.Symbolic.{variable, held, whole}
 use Rattle.lp_code.specs.States.{Block, under_sigma, under_all, under_assumption, under_not, left_side, right_side, Frame, State, Home, member, with_goal, depth, bind_goals}
 use Rattle.lp_code.specs.Steps.{Later}
 use Rattle.lp_code.specs.Written.{nothing_written}
@@ -21,7 +21,7 @@ use Rattle.lp_gen.specs.inner.Running.{TypesStand, TermsStand, HasRoom, ends_bef
 use Rattle.lp_gen.specs.inner.Listing.{Around}
 use Rattle.lp_gen.specs.inner.TermLaw.{Standing, KnownAtoms, AllLoose, IsSeen}
 use Rattle.lp_gen.specs.inner.Doing.{Says}
-use Rattle.lp_gen.specs.inner.Bodies.{pushed, new_level, IsShort, with_level, IsThrough, AreThrough, HasLevel, said_goal, said_goals, GoalsSaid, Opened, frame_of}
+use Rattle.lp_gen.specs.inner.Bodies.{pushed, new_level, with_level, IsThrough, AreThrough, HasLevel, said_goal, said_goals, GoalsSaid, Opened, frame_of}
 use Rattle.lp_gen.specs.inner.GoalCode.{quantified, AtomCode, KindCode, GoalCode, GoalsCode}
 use Rattle.lp_gen.specs.inner.BodyLaw.{AtomFits, one_more, GoalFits, GoalsFit, IsAround}
 use Rattle.lp_gen.proofs.Denoting.{or_none, may_strict}

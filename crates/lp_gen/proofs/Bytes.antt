@@ -1,5 +1,5 @@
 -- The bytes of instructions.
-use Rattle.std.proofs.Common.{◌<◌, ℕ, ◌+◌, ◌*◌, length, arith}
+use Rattle.std.proofs.Common.{◌<◌, arith}
 use Rattle.lp_code.specs.declared.instruction.Instr.{Instr}
 use Rattle.lp_code.specs.declared.instruction.Instr.TheVariants as on
 use Rattle.lp_code.specs.Length.{length_of}

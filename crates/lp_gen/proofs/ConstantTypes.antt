@@ -1,6 +1,6 @@
 -- What is read of the types of constants, and that they are known.
-use Rattle.std.proofs.Common.{◌≡◌, ◌∙◌, ◌<◌, ◌≤◌, ℕ, zero, suc, ◌-◌, List, [], ◌∷◌, ◌++◌, map, length, Bool, true, false, Option, Some, None, ap, refl, sym, subst, arith}
-use Rattle.std.specs.Prelude.{All, nat_eq, nat_lt, nat_le, if◌then◌else◌, slice_get, slice_index_or, option_map, option_and_then}
+use Rattle.std.proofs.Common.{◌≡◌, ◌∙◌, ◌<◌, ℕ, zero, suc, ◌-◌, List, [], ◌∷◌, ◌++◌, map, length, Bool, true, false, Option, Some, None, ap, refl, sym, subst, arith}
+use Rattle.std.specs.Prelude.{All, nat_eq, nat_lt, nat_le, if◌then◌else◌, slice_get, option_and_then}
 use Rattle.std.proofs.lemmas.Bool.{eqb-true, ne_eqb, ltb-true, ltb-false, lt-leb, le-leb}
 use Rattle.std.proofs.lemmas.List.Elements.{All-head, All-tail}
 use Rattle.lp_calculus.specs.Types.{Ty, Tys, var, param as type_param, con, arrow, no_types, types, instance, instances}
@@ -10,13 +10,13 @@ use Rattle.lp_standard.specs.declared.constant.Constant.TheVariants as standard
 use Rattle.lp_standard.specs.Constants.{numbered, language, first_declared}
 use Rattle.lp_standard.specs.Schemes.{plain, over_one, on_two, scheme, standard_schemes, entry}
 use Rattle.lp_model.specs.declared.program.Declared.{Declared}
-use Rattle.lp_model.specs.Readings.{scheme_of, declared_by}
+use Rattle.lp_model.specs.Readings.{scheme_of}
 use Rattle.lp_term.specs.Nodes.{Nodes, type_tree}
 use Rattle.lp_code.specs.Symbolic.{Tables}
 use Rattle.lp_gen.specs.Sources.{AreKnownSchemes, IsKnownType, AreKnownTypes}
 use Rattle.lp_gen.specs.Contract.{tables_of}
-use Rattle.lp_gen.specs.inner.Listing.{as_asked, scheme_body, standard_type, standard_function, declared_function, declared_type, constant_function}
-use Rattle.lp_gen.specs.inner.TermLaw.{SameSides, Asks, AsksConstants}
+use Rattle.lp_gen.specs.inner.Listing.{as_asked, scheme_body, standard_function, declared_function, declared_type, constant_function}
+use Rattle.lp_gen.specs.inner.TermLaw.{Asks, AsksConstants}
 use Rattle.lp_gen.proofs.LooseOf.{none_some, some_same}
 use Rattle.lp_gen.proofs.TermListed.{asks_same}
 

@@ -1,5 +1,5 @@
 -- A task for a term gives way to the tasks for its parts.
-use Rattle.std.proofs.Common.{◌≡◌, ◌∙◌, ◌≢◌, ℕ, suc, ◌+◌, ◌-◌, ◌^◌, List, [], ◌∷◌, ◌++◌, append_assoc, map, length, reverse, take, Bor, ℤ, zero, ◌<◌, ◌≤◌, get_or, set, Bool, true, false, Option, Some, None, Vec, Global, ap, refl, sym, subst, arith, true≢false}
+use Rattle.std.proofs.Common.{◌≡◌, ◌∙◌, ◌≢◌, ℕ, suc, ◌+◌, ◌-◌, ◌^◌, List, [], ◌∷◌, ◌++◌, append_assoc, map, length, reverse, take, Bor, ℤ, zero, ◌<◌, ◌≤◌, get_or, set, true, Option, Some, None, Vec, Global, ap, refl, sym, subst, arith}
 use Rattle.std.specs.Prelude.{min, nat_eq, if◌then◌else◌, option_map, slice_get}
 use Rattle.indexmap.specs.IndexMap.{get}
 use Rattle.std.proofs.lemmas.Bool.{le-leb}
@@ -27,8 +27,8 @@ use Rattle.lp_gen.specs.declared.listing.Lists.{Lists}
 use Rattle.lp_gen.specs.declared.listing.Task.{Task}
 use Rattle.lp_gen.specs.declared.listing.Task.TheVariants as on
 use Rattle.lp_gen.specs.inner.Reading.{read, from_of, to_of}
-use Rattle.lp_gen.specs.inner.Listing.{Step, plain_step, make_constant, make_index, make_variable, from_register, apply_last, abstract_last, Seen, seen, Around, around_of, level_below, level_in, at_level, marked, set_level}
-use Rattle.lp_gen.specs.inner.Listing.{Listed, one_step, seen_listed, found_listed, level_listed, bound_listed, index_listed, node_listed, term_function, head_type, read_function, Headed, as_head, with_argument, applied, abstracted, listed, headed, with_arguments}
+use Rattle.lp_gen.specs.inner.Listing.{Step, plain_step, make_constant, make_index, apply_last, abstract_last, Seen, seen, Around, around_of, level_below, level_in, marked, set_level}
+use Rattle.lp_gen.specs.inner.Listing.{Listed, one_step, level_listed, bound_listed, index_listed, node_listed, term_function, head_type, read_function, Headed, as_head, with_argument, applied, listed, headed, with_arguments}
 use Rattle.lp_gen.specs.inner.Tasks.{Course, course, behind, with_step, all_but_first, without_arguments, of_head, act, done, Adds}
 use Rattle.lp_gen.proofs.TypeWorks.{map_length}
 

@@ -1,23 +1,22 @@
 -- Goals with two sides.
-use Rattle.std.proofs.Common.{◌≡◌, ◌∙◌, ◌≤◌, ◌<◌, ℕ, zero, suc, ◌+◌, List, [], ◌∷◌, ◌++◌, append_assoc, map, length, Bool, true, false, Option, Some, None, ap, refl, sym, subst, arith, true≢false}
-use Rattle.std.specs.Prelude.{nat_eq, nat_le, not, ◌||◌, if◌then◌else◌, sum_by, option_map}
+use Rattle.std.proofs.Common.{◌≡◌, ◌∙◌, ◌≤◌, ◌<◌, ℕ, suc, ◌+◌, List, [], ◌∷◌, ◌++◌, append_assoc, true, false, Some, ap, refl, sym, arith, true≢false}
+use Rattle.std.specs.Prelude.{nat_le, not, ◌||◌, if◌then◌else◌, sum_by}
 use Rattle.std.specs.List.{list_any}
 use Rattle.std.proofs.lemmas.Bool.{eqb-true, eq-eqb, lt-leb}
-use Rattle.std.proofs.lemmas.List.{append-nil}
 use Rattle.std.proofs.lemmas.List.Sums.{sum_by-append}
-use Rattle.lp_model.specs.Flat.{Goal, Goals, Either, no_goals, goals, add_goals}
+use Rattle.lp_model.specs.Flat.{Goals, Either, no_goals}
 use Rattle.lp_code.specs.declared.instruction.Instr.{Instr}
 use Rattle.lp_code.specs.declared.instruction.Instr.TheVariants as on
 use Rattle.lp_code.specs.declared.rule.Rule.{Rule}
 use Rattle.lp_code.specs.declared.rule.Rule.TheVariants as rule
 use Rattle.lp_code.specs.Length.{length_of}
-use Rattle.lp_code.specs.States.{Block, left_side, right_side, Frame, Captured, State, Home, member, with_goal, depth, innermost_block, Ended, end_variables}
-use Rattle.lp_code.specs.Steps.{Later, leave, turn, turn_from, is_right_end, settled, passed, effect}
-use Rattle.lp_code.specs.Rules.{is_passed, is_too_deep, is_left_end, ends_with_jump, begins_behind, nesting_limit}
+use Rattle.lp_code.specs.States.{left_side, right_side, Frame, Captured, State, Home, with_goal, depth, innermost_block, Ended, end_variables}
+use Rattle.lp_code.specs.Steps.{Later, leave, turn, turn_from, is_right_end, settled, passed}
+use Rattle.lp_code.specs.Rules.{is_passed, is_left_end, ends_with_jump, begins_behind, nesting_limit}
 use Rattle.lp_code.specs.Denote.{broken_by, run}
-use Rattle.lp_gen.specs.inner.Running.{TypesStand, TermsStand, HasRoom, ends_before, MayEnd}
+use Rattle.lp_gen.specs.inner.Running.{TypesStand, TermsStand, HasRoom, MayEnd}
 use Rattle.lp_gen.specs.inner.Doing.{Says}
-use Rattle.lp_gen.specs.inner.Bodies.{behind_code, Closes, GoalsSaid, frame_of, opened_state}
+use Rattle.lp_gen.specs.inner.Bodies.{Closes, GoalsSaid, frame_of, opened_state}
 use Rattle.lp_gen.proofs.Denoting.{or_none, steps, settled_same, may_strict}
 use Rattle.lp_gen.proofs.TermPut.{no_sides}
 use Rattle.lp_gen.proofs.Blocks.{kept_frame, some_code}

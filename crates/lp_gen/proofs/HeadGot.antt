@@ -1,14 +1,13 @@
 -- The code of the head: its types, and its arguments one after the other.
-use Rattle.std.proofs.Common.{◌≡◌, ◌∙◌, ◌≤◌, ◌<◌, ℕ, zero, suc, ◌+◌, List, [], ◌∷◌, ◌++◌, append_assoc, map, length, Bool, true, false, Option, Some, None, ap, refl, sym, subst, arith, true≢false}
-use Rattle.std.specs.Prelude.{All, nat_eq, nat_le, not, ◌&&◌, ◌||◌, is_none, is_some, sum_by, option_map, unwrap_or}
+use Rattle.std.proofs.Common.{◌≡◌, ◌∙◌, ◌≤◌, ◌<◌, ℕ, suc, ◌+◌, List, [], ◌∷◌, ◌++◌, append_assoc, map, length, Bool, true, false, Option, Some, None, ap, refl, sym, subst, arith}
+use Rattle.std.specs.Prelude.{nat_eq, nat_le, not, ◌&&◌, ◌||◌, is_none, is_some, sum_by, option_map, unwrap_or}
 use Rattle.std.specs.List.{list_any}
 use Rattle.std.proofs.lemmas.Bool.{eq-eqb, lt-leb}
 use Rattle.std.proofs.lemmas.List.{map-append, length-append}
-use Rattle.std.proofs.lemmas.List.Elements.{All-nil}
 use Rattle.std.proofs.lemmas.List.Sums.{sum_by-append}
 use Rattle.lp_lemmas.proofs.Lists.{append_nil_sym, length_push_suc}
 use Rattle.lp_lemmas.proofs.Elements.{All_push_parts}
-use Rattle.lp_calculus.specs.Types.{Ty, arrow, tys}
+use Rattle.lp_calculus.specs.Types.{Ty, arrow}
 use Rattle.lp_calculus.specs.Term.{Term}
 use Rattle.lp_calculus.specs.Typing.{o_type}
 use Rattle.lp_model.specs.Flat.{Goals}
@@ -19,23 +18,22 @@ use Rattle.lp_code.specs.Length.{length_of}
 use Rattle.lp_code.specs.Symbolic.{Built, Registers, variable, held, whole, argument_type, type_in}
 use Rattle.lp_code.specs.States.{State, Home}
 use Rattle.lp_code.specs.Steps.{Later, head_built}
-use Rattle.lp_code.specs.Rules.{head_count, has_none, is_passed, is_variable_of}
+use Rattle.lp_code.specs.Rules.{head_count, has_none, is_passed}
 use Rattle.lp_gen.specs.declared.emitter.Emitter.{Emitter}
 use Rattle.lp_gen.specs.Sources.{IsKnownType}
 use Rattle.lp_gen.specs.inner.Reading.{from_of, to_of}
 use Rattle.lp_gen.specs.inner.Running.{TypesStand, TermsStand, HasRoom, IsTypePut}
-use Rattle.lp_gen.specs.inner.Saying.{TypeGot, IsNextType}
+use Rattle.lp_gen.specs.inner.Saying.{TypeGot}
 use Rattle.lp_gen.specs.inner.Listing.{Seen, Around, at_level}
 use Rattle.lp_gen.specs.inner.TermLaw.{SameSides, Asks, Standing, as_set, with_variables, SameAround}
-use Rattle.lp_gen.specs.inner.Written.{AreAsked, IsWell, AreWell, left_by, wholes}
+use Rattle.lp_gen.specs.inner.Written.{IsWell, AreWell, left_by, wholes}
 use Rattle.lp_gen.specs.inner.Doing.{Does}
 use Rattle.lp_gen.specs.inner.Heading.{AreOwn, HaveStood, PredicateStands, ArgumentGot, ArgumentsGot, TypesGot}
-use Rattle.lp_gen.proofs.Denoting.{or_none, strict_may, room_less, room_front, room_behind, none_unset}
-use Rattle.lp_gen.proofs.TermPut.{moved}
+use Rattle.lp_gen.proofs.Denoting.{or_none, strict_may, room_less, room_front}
 use Rattle.lp_gen.proofs.TypeWorks.{map_length}
 use Rattle.lp_gen.proofs.AroundSet.{around_same, around_then, all_seen, variables_same, seen_of}
 use Rattle.lp_gen.proofs.TermWritten.{well_last, asks_left, wholes_last, left_more}
-use Rattle.lp_gen.proofs.AtomWritten.{leads_goes, goes_does, turns_does, then_does, does_same, standing_after}
+use Rattle.lp_gen.proofs.AtomWritten.{leads_goes, goes_does, turns_does, then_does, does_same}
 use Rattle.lp_gen.proofs.ArgumentGot.{built_same}
 
 pub room_does : (h : Home) (later : Later) (v n m k l : ℕ) (s t : State) (is xs ys : List Instr) (gs : Goals) (Ts : List Ty) (bs : List Built) → Does h later v n m k l s xs gs Ts bs t →

@@ -1,5 +1,5 @@
 -- The code of the head by the nodes of its parts.
-use Rattle.std.proofs.Common.{◌≡◌, ◌≢◌, ◌∙◌, ◌<◌, ◌≤◌, ℕ, zero, suc, ◌+◌, List, [], ◌∷◌, ◌++◌, map, length, take, get_or, Bor, Option, Some, None, ap, refl, sym, subst, arith}
+use Rattle.std.proofs.Common.{◌≡◌, ◌≢◌, ◌∙◌, ◌<◌, ℕ, zero, suc, ◌+◌, List, [], ◌∷◌, ◌++◌, map, length, take, get_or, Bor, Some, None, ap, refl, sym, subst, arith}
 use Rattle.std.specs.Prelude.{slice_index_or}
 use Rattle.std.proofs.lemmas.List.{map-append, take_more, length-take-le}
 use Rattle.lp_calculus.specs.Types.{Ty}
@@ -17,15 +17,15 @@ use Rattle.lp_gen.specs.declared.emitter.Emitter.{Emitter}
 use Rattle.lp_gen.specs.inner.Reading.{from_of, to_of}
 use Rattle.lp_gen.specs.inner.Running.{AreTypesPut, IsTypePut}
 use Rattle.lp_gen.specs.inner.Saying.{ConstantGot, TypeGot}
-use Rattle.lp_gen.specs.inner.Listing.{Seen, Around, at_level, level_in, set_level, head_type}
+use Rattle.lp_gen.specs.inner.Listing.{Around, set_level, head_type}
 use Rattle.lp_gen.specs.inner.Written.{left_by}
-use Rattle.lp_gen.specs.inner.Heading.{VariableGot, first_place, ArgumentGot, ArgumentsGot, TypesGot, predicate_of, level_register, seen_register, HeadMatched}
+use Rattle.lp_gen.specs.inner.Heading.{VariableGot, first_place, ArgumentGot, ArgumentsGot, TypesGot, predicate_of, HeadMatched}
 use Rattle.lp_gen.proofs.TypeWorks.{map_length}
 use Rattle.lp_gen.proofs.Courses.{mapped_types}
 use Rattle.lp_gen.proofs.AtomWritten.{no_constant_node}
 use Rattle.lp_gen.proofs.ArgumentGot.{first_argument, constant_argument}
 use Rattle.lp_gen.proofs.HeadGot.{next_head_argument, head_type_then}
-use Rattle.lp_gen.proofs.HeadWhole.{constant_matched, variable_matched, other_matched}
+use Rattle.lp_gen.proofs.HeadWhole.{constant_matched, other_matched}
 
 no_pair : (p : ℕ × ℕ) → None ≡ Some p → ⊥
 no_pair p e = cc

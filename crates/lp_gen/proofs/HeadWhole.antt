@@ -1,32 +1,26 @@
 -- The head as a whole.
-use Rattle.std.proofs.Common.{◌≡◌, ◌∙◌, ◌≤◌, ◌<◌, ℕ, zero, suc, ◌+◌, ◌-◌, List, [], ◌∷◌, ◌++◌, append_assoc, map, length, Bool, true, false, Option, Some, None, ap, refl, sym, subst, arith, true≢false}
-use Rattle.std.specs.Prelude.{All, nat_eq, nat_le, not, ◌&&◌, ◌||◌, is_none, is_some, sum_by, slice_get, unwrap_or, option_and_then}
+use Rattle.std.proofs.Common.{◌≡◌, ◌∙◌, ℕ, suc, ◌-◌, List, [], ◌∷◌, ◌++◌, append_assoc, map, length, Bool, true, false, Option, Some, None, ap, refl, sym, subst, arith, true≢false}
+use Rattle.std.specs.Prelude.{nat_eq, not, ◌&&◌, ◌||◌, is_some, unwrap_or, option_and_then}
 use Rattle.std.proofs.lemmas.Bool.{eqb-true, eq-eqb}
-use Rattle.lp_calculus.specs.Types.{Ty, arrow}
+use Rattle.lp_calculus.specs.Types.{Ty}
 use Rattle.lp_calculus.specs.Spine.{head_of}
 use Rattle.lp_term.specs.Spine.{IsNoApplication}
 use Rattle.lp_calculus.specs.Term.{Term, index, atom, abs, app, apply, constant, integer, text, eigen, logic, param}
-use Rattle.lp_calculus.specs.Typing.{Scheme, o_type, scheme_type, HasType}
+use Rattle.lp_calculus.specs.Typing.{Scheme, o_type}
 use Rattle.lp_standard.specs.Positive.{are_positive}
 use Rattle.lp_code.specs.declared.record.RecordHead.{RecordHead}
 use Rattle.lp_code.specs.declared.record.RecordHead.TheVariants.{Const, Register}
-use Rattle.lp_code.specs.declared.instruction.Instr.{Instr}
 use Rattle.lp_code.specs.declared.instruction.Instr.TheVariants as on
-use Rattle.lp_code.specs.Length.{length_of}
-use Rattle.lp_code.specs.Symbolic.{Built, Registers, held, whole, result_type, equal_types, plain_terms, term_in}
+use Rattle.lp_code.specs.Symbolic.{Built, held, whole, result_type, equal_types, plain_terms}
 use Rattle.lp_code.specs.States.{State, Home}
-use Rattle.lp_code.specs.Steps.{Later, constant_of, built_of, head_built}
+use Rattle.lp_code.specs.Steps.{constant_of, built_of, head_built}
 use Rattle.lp_code.specs.Rules.{count_of, head_count, scheme_count, has_count, breaks_head}
-use Rattle.lp_code.specs.Denote.{head_term}
 use Rattle.lp_gen.specs.declared.emitter.Emitter.{Emitter}
-use Rattle.lp_gen.specs.Sources.{types_by, IsKnownType}
-use Rattle.lp_gen.specs.inner.Reading.{from_of, to_of}
-use Rattle.lp_gen.specs.inner.Running.{TypesStand, TermsStand, HasRoom}
-use Rattle.lp_gen.specs.inner.Listing.{Seen, Around, at_level, level_in, seen_in, type_or, index_type, head_type}
-use Rattle.lp_gen.specs.inner.TermLaw.{Asks, Standing, IsSeen, with_variables, SameAround}
-use Rattle.lp_gen.specs.inner.Written.{AreAsked, AreWell, wholes}
-use Rattle.lp_gen.specs.inner.Doing.{Does}
-use Rattle.lp_gen.specs.inner.Heading.{AreOwn, HaveStood, PredicateStands, ArgumentsGot, TypesGot, seen_register, level_register, predicate_of, IsPredicate, IsHeadAtom, HeadMatched}
+use Rattle.lp_gen.specs.inner.Running.{TermsStand}
+use Rattle.lp_gen.specs.inner.Listing.{Seen, Around, at_level, level_in, seen_in, type_or, head_type}
+use Rattle.lp_gen.specs.inner.TermLaw.{Asks, Standing, with_variables}
+use Rattle.lp_gen.specs.inner.Written.{AreWell, wholes}
+use Rattle.lp_gen.specs.inner.Heading.{ArgumentsGot, TypesGot, seen_register, level_register, predicate_of, IsPredicate, HeadMatched}
 use Rattle.lp_gen.proofs.Denoting.{room_front}
 use Rattle.lp_gen.proofs.TypeWorks.{map_length}
 use Rattle.lp_gen.proofs.LooseOf.{equal_self, some_same}

@@ -1,14 +1,11 @@
 -- The own variables of a record are made one after the other.
-use Rattle.std.proofs.Common.{◌≡◌, ◌∙◌, ◌≤◌, ◌<◌, ℕ, zero, suc, ◌+◌, ◌-◌, ◌^◌, List, [], ◌∷◌, ◌++◌, append_assoc, length, Bool, true, false, Option, Some, None, ap, refl, sym, subst, arith, true≢false}
-use Rattle.std.specs.Prelude.{nat_le, if◌then◌else◌, min, sum_by, slice_get, option_map}
+use Rattle.std.proofs.Common.{◌≡◌, ◌∙◌, ◌≤◌, ◌<◌, ℕ, zero, suc, ◌+◌, ◌-◌, ◌^◌, List, [], ◌∷◌, ◌++◌, append_assoc, length, Bool, true, false, Option, Some, None, ap, refl, sym, subst, arith}
+use Rattle.std.specs.Prelude.{nat_le, if◌then◌else◌, min, slice_get, option_map}
 use Rattle.std.proofs.lemmas.Bool.{leb-true, le-leb}
-use Rattle.lp_calculus.specs.Term.{Term}
-use Rattle.lp_code.specs.Length.{length_of}
-use Rattle.lp_code.specs.States.{State, Home}
 use Rattle.lp_gen.specs.declared.emitter.Emitter.{Emitter}
 use Rattle.lp_gen.specs.inner.Running.{TermsStand}
 use Rattle.lp_gen.specs.inner.Listing.{Seen, Around, at_level, marked, set_level}
-use Rattle.lp_gen.specs.inner.TermLaw.{Standing, as_set, AreSet}
+use Rattle.lp_gen.specs.inner.TermLaw.{Standing, as_set}
 use Rattle.lp_gen.specs.inner.Written.{Goes}
 use Rattle.lp_gen.specs.inner.Bodies.{IsShort}
 use Rattle.lp_gen.specs.inner.Beginning.{VariableMade, VariablesMade, IsSetAt, SomeMade, PlaceMade, IsPassed, PlacesMade, OwnMade}

@@ -1,6 +1,6 @@
 -- What stands around goals below a quantifier: one variable more, in a register of its own.
 use Rattle.std.proofs.Common.{◌≡◌, ◌∙◌, ◌≤◌, ◌<◌, ℕ, zero, suc, ◌+◌, ◌-◌, List, [], ◌∷◌, ◌++◌, length, Bool, true, false, Option, Some, None, ap, refl, sym, subst, arith, true≢false, inl, inr, ◌⊎◌, ⊎_elim}
-use Rattle.std.specs.Prelude.{nat_eq, nat_le, if◌then◌else◌, slice_get}
+use Rattle.std.specs.Prelude.{nat_le, if◌then◌else◌, slice_get}
 use Rattle.std.proofs.lemmas.Bool.{eq-eqb, ne_eqb, leb-true, leb-false, le-leb}
 use Rattle.lp_calculus.specs.Types.{Ty}
 use Rattle.lp_calculus.specs.Term.{Term}
@@ -9,7 +9,7 @@ use Rattle.lp_code.specs.States.{State, Home, bind_term}
 use Rattle.lp_gen.specs.Sources.{IsKnownType}
 use Rattle.lp_gen.specs.inner.Running.{TypesStand, TermsStand}
 use Rattle.lp_gen.specs.inner.Listing.{Seen, Around, level_in, at_level}
-use Rattle.lp_gen.specs.inner.TermLaw.{Standing, IsSeen, AreSet}
+use Rattle.lp_gen.specs.inner.TermLaw.{IsSeen, AreSet}
 use Rattle.lp_gen.specs.inner.Bodies.{pushed, new_level, IsShort, with_level}
 use Rattle.lp_gen.specs.inner.GoalCode.{quantified}
 use Rattle.lp_gen.specs.inner.BodyLaw.{one_more, IsAround}

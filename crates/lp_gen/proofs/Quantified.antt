@@ -1,13 +1,13 @@
 -- Goals with a block: those that are denied, and those below a quantifier.
-use Rattle.std.proofs.Common.{◌≡◌, ◌∙◌, ◌≤◌, ◌<◌, ℕ, zero, suc, ◌+◌, List, [], ◌∷◌, ◌++◌, append_assoc, map, length, Bool, true, false, Option, Some, None, ap, refl, sym, subst, arith, true≢false}
-use Rattle.std.specs.Prelude.{nat_le, not, ◌||◌, is_none, sum_by, option_map, slice_set, unwrap_or}
+use Rattle.std.proofs.Common.{◌≡◌, ◌∙◌, ◌≤◌, ◌<◌, ℕ, ◌+◌, List, [], ◌∷◌, ◌++◌, append_assoc, length, Bool, true, false, Some, ap, refl, sym, subst, arith, true≢false}
+use Rattle.std.specs.Prelude.{nat_le, not, ◌||◌, is_none, sum_by, option_map, unwrap_or}
 use Rattle.std.specs.List.{list_any}
 use Rattle.std.proofs.lemmas.Bool.{eqb-true, lt-leb}
 use Rattle.std.proofs.lemmas.List.{append-nil, length-set}
 use Rattle.std.proofs.lemmas.List.Sums.{sum_by-append}
 use Rattle.lp_calculus.specs.Types.{Ty, no_types, types}
 use Rattle.lp_calculus.specs.Typing.{o_type}
-use Rattle.lp_model.specs.Flat.{Goal, Goals, Cut, Exists, Forall, Not, no_goals, goals, add_goals}
+use Rattle.lp_model.specs.Flat.{Goals, Cut, Exists, Forall, Not, no_goals, goals, add_goals}
 use Rattle.lp_code.specs.declared.instruction.Instr.{Instr}
 use Rattle.lp_code.specs.declared.instruction.Instr.TheVariants as on
 use Rattle.lp_code.specs.declared.rule.Rule.{Rule}
@@ -15,7 +15,7 @@ use Rattle.lp_code.specs.declared.rule.Rule.TheVariants as rule
 use Rattle.lp_code.specs.Length.{length_of}
 use Rattle.lp_code.specs.Operands.{types_read, terms_read, type_set, term_set}
 use Rattle.lp_code.specs.Symbolic.{Built, Registers, variable, held, whole}
-use Rattle.lp_code.specs.States.{Block, under_sigma, under_all, under_not, Frame, Captured, State, Home, member, with_goal, is_sigma, depth, innermost_block, Ended, end_variables, bind_goals}
+use Rattle.lp_code.specs.States.{Block, under_sigma, under_all, under_not, Frame, Captured, State, Home, member, with_goal, depth, innermost_block, end_variables, bind_goals}
 use Rattle.lp_code.specs.Steps.{Later, put_term, settled, passed, effect}
 use Rattle.lp_code.specs.Rules.{side_is_passed, is_passed, is_too_deep, ends_block, nesting_limit, breaks_constant, breaks_type, breaks_index, breaks_term, breaks_order, breaks_head, breaks_nesting, breaks_clause}
 use Rattle.lp_code.specs.Denote.{broken_by, run}
@@ -23,7 +23,7 @@ use Rattle.lp_code.specs.Written.{nothing_written}
 use Rattle.lp_gen.specs.inner.Running.{TypesStand, TermsStand, HasRoom, ends_before, MayEnd, Hold, Leads}
 use Rattle.lp_gen.specs.inner.Saying.{Turns}
 use Rattle.lp_gen.specs.inner.Doing.{Says}
-use Rattle.lp_gen.specs.inner.Bodies.{Closes, GoalsSaid, Opened, frame_of, opened_state}
+use Rattle.lp_gen.specs.inner.Bodies.{GoalsSaid, Opened, frame_of, opened_state}
 use Rattle.lp_gen.proofs.Denoting.{or_none, steps, settled_same, room_less, may_strict, none_unset, held_set, held_below, member_more}
 use Rattle.lp_gen.proofs.TermPut.{moved, types_within, one_within, one_unset, no_sides}
 use Rattle.lp_gen.proofs.GoalPut.{plain_rules, turns_one}

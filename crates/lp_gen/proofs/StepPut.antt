@@ -6,25 +6,22 @@ use Rattle.std.proofs.lemmas.List.{length-take}
 use Rattle.std.proofs.lemmas.List.Sums.{sum_by-append}
 use Rattle.std.proofs.lemmas.List.Elements.{All-nil, All-head, All-tail, All-cons, All-push}
 use Rattle.lp_lemmas.proofs.Lists.{append_nil_sym}
-use Rattle.lp_calculus.specs.Types.{Ty}
 use Rattle.lp_calculus.specs.Term.{index}
 use Rattle.lp_calculus.specs.Typing.{o_type}
 use Rattle.lp_term.specs.Nodes.{Nodes}
 use Rattle.lp_code.specs.declared.instruction.Instr.{Instr}
-use Rattle.lp_code.specs.declared.instruction.Instr.TheVariants.{New}
 use Rattle.lp_code.specs.Length.{length_of}
 use Rattle.lp_code.specs.Symbolic.{Built, held, whole, application_of, abstraction_of, agree_at, innermost}
 use Rattle.lp_code.specs.States.{State, Home}
 use Rattle.lp_code.specs.Steps.{Later}
 use Rattle.lp_code.specs.Rules.{applies, is_passed}
-use Rattle.lp_term.specs.declared.node.TypeId.{TypeId}
 use Rattle.lp_gen.specs.declared.emitter.Emitter.{Emitter}
 use Rattle.lp_gen.specs.declared.types.TypeView.{TypeView}
 use Rattle.lp_gen.specs.declared.term_steps.TermStep.{TermStep}
 use Rattle.lp_gen.specs.declared.term_steps.TermStep.TheVariants as on
 use Rattle.lp_gen.specs.inner.Reading.{read}
 use Rattle.lp_gen.specs.inner.Works.{last_of, first_of}
-use Rattle.lp_gen.specs.inner.Running.{HasRoom, Moves, IsTermPut, IsTypePut, built_at, AreParts, ApplicationPut, IsBody, AbstractionPut}
+use Rattle.lp_gen.specs.inner.Running.{HasRoom, Moves, IsTermPut, built_at, AreParts, ApplicationPut, IsBody, AbstractionPut}
 use Rattle.lp_gen.specs.inner.Listing.{plain_step}
 use Rattle.lp_gen.specs.inner.TermSteps.{Stack, stack, last_built, before_last, step_built, IsFine, steps_built, AreFine, StandIn, StepsPut, TermOfSteps}
 use Rattle.lp_gen.proofs.Denoting.{or_none, room_less, room_front}

@@ -1,10 +1,10 @@
 -- The law of terms: the steps of a term that is typed, known and in normal form are fine, and make the term.
-use Rattle.std.proofs.Common.{◌≡◌, ◌∙◌, ◌<◌, ◌≤◌, ℕ, zero, suc, ◌+◌, ◌-◌, List, [], ◌∷◌, ◌++◌, append_assoc, map, length, take, drop, Bool, true, false, Option, Some, None, ap, refl, sym, subst, arith, true≢false}
-use Rattle.std.specs.Prelude.{All, nat_eq, nat_lt, not, ◌&&◌, ◌||◌, if◌then◌else◌, is_none, is_some, slice_get, slice_index_or, unwrap_or, option_and_then}
-use Rattle.std.proofs.lemmas.Bool.{eqb-true, eq-eqb, lt-ltb, ltb-false, le-ltb}
-use Rattle.std.proofs.lemmas.List.{append-nil, map-append, length-append}
+use Rattle.std.proofs.Common.{◌≡◌, ◌∙◌, ◌<◌, ◌≤◌, ℕ, zero, suc, ◌+◌, ◌-◌, List, [], ◌∷◌, ◌++◌, append_assoc, length, take, drop, Bool, true, false, Option, Some, None, ap, refl, sym, subst, arith, true≢false}
+use Rattle.std.specs.Prelude.{All, nat_eq, nat_lt, not, ◌||◌, if◌then◌else◌, is_none, is_some, slice_get, slice_index_or, unwrap_or, option_and_then}
+use Rattle.std.proofs.lemmas.Bool.{eqb-true, eq-eqb, lt-ltb, le-ltb}
+use Rattle.std.proofs.lemmas.List.{map-append, length-append}
 use Rattle.std.proofs.lemmas.Option.{slice_get_within, slice_get_past}
-use Rattle.lp_lemmas.proofs.Booleans.{and_true_left, and_true_right, or_false_left, or_false_right, or_assoc}
+use Rattle.lp_lemmas.proofs.Booleans.{and_true_left, and_true_right}
 use Rattle.lp_calculus.specs.Types.{Ty, var, param as type_param, con, arrow, instance}
 use Rattle.lp_calculus.specs.Term.{Term, Atom, index, atom, abs, app, apply, constant, integer, text, eigen, logic, param}
 use Rattle.lp_calculus.specs.Typing.{Scheme, o_type, int_type, string_type, scheme_type, type_at, HasType}
@@ -17,8 +17,8 @@ use Rattle.lp_code.specs.Rules.{applies, built_types, has_count, is_no_term}
 use Rattle.lp_gen.specs.Sources.{types_by, IsKnownType, IsKnownAtom, IsKnownTerm}
 use Rattle.lp_gen.specs.inner.Reading.{from_of, to_of}
 use Rattle.lp_gen.specs.inner.Running.{built_at}
-use Rattle.lp_gen.specs.inner.Listing.{Step, make_constant, make_integer, make_text, make_index, make_variable, from_register, apply_last, abstract_last, Seen, Around, at_level, level_in, seen_in, set_level}
-use Rattle.lp_gen.specs.inner.Listing.{Listed, one_step, seen_listed, found_listed, level_listed, bound_listed, index_listed, atom_listed, type_or, bound_or, index_type, atom_function, Headed, as_head, with_argument, applied, abstracted, listed, headed}
+use Rattle.lp_gen.specs.inner.Listing.{Step, make_constant, make_integer, make_text, make_index, make_variable, from_register, apply_last, abstract_last, Seen, Around, at_level, level_in, set_level}
+use Rattle.lp_gen.specs.inner.Listing.{Listed, one_step, found_listed, level_listed, bound_listed, index_listed, atom_listed, type_or, bound_or, index_type, atom_function, Headed, as_head, with_argument, applied, abstracted, listed, headed}
 use Rattle.lp_gen.specs.inner.TermSteps.{Stack, stack, made_variable, last_built, before_last, step_built, IsFine, steps_built, AreFine}
 use Rattle.lp_gen.specs.inner.TermLaw.{SameSides, Asks, AsksConstants, Standing, KnownAtoms, AllLoose, IsSeen, level_term, index_term, with_variables, AreOf, AllOf, IsBuilt, SameAround, Made, Comes, ComesWith}
 use Rattle.lp_gen.proofs.Denoting.{held_set}

@@ -1,10 +1,10 @@
 -- The code of a term, and of arguments one after the other.
 use Rattle.std.proofs.Common.{◌≡◌, ◌∙◌, ◌≤◌, ◌<◌, ℕ, zero, suc, ◌+◌, List, [], ◌∷◌, ◌++◌, append_assoc, map, length, Bool, false, Option, Some, None, ap, refl, sym, subst, arith}
-use Rattle.std.specs.Prelude.{All, sum_by, slice_get}
+use Rattle.std.specs.Prelude.{All, sum_by}
 use Rattle.std.specs.List.{list_any}
-use Rattle.std.proofs.lemmas.List.{map-append, length-append}
+use Rattle.std.proofs.lemmas.List.{map-append}
 use Rattle.std.proofs.lemmas.List.Sums.{sum_by-append}
-use Rattle.std.proofs.lemmas.List.Elements.{All-nil, All-head, All-tail, All-push}
+use Rattle.std.proofs.lemmas.List.Elements.{All-nil, All-push}
 use Rattle.lp_lemmas.proofs.Lists.{append_nil_sym, length_push_suc}
 use Rattle.lp_calculus.specs.Types.{Ty, arrow}
 use Rattle.lp_calculus.specs.Term.{Term}
@@ -20,12 +20,12 @@ use Rattle.lp_gen.specs.declared.emitter.Emitter.{Emitter}
 use Rattle.lp_gen.specs.declared.environment.Environment.{Environment}
 use Rattle.lp_gen.specs.declared.term_steps.TermStep.{TermStep}
 use Rattle.lp_gen.specs.inner.Reading.{from_of, to_of}
-use Rattle.lp_gen.specs.inner.Running.{HasRoom, SameButRegisters, Moves}
-use Rattle.lp_gen.specs.inner.Listing.{Step, make_constant, make_integer, make_text, make_index, make_variable, from_register, apply_last, abstract_last, Seen, Around, around_of, at_level, listed, plain_step}
+use Rattle.lp_gen.specs.inner.Running.{HasRoom}
+use Rattle.lp_gen.specs.inner.Listing.{Step, make_constant, make_integer, make_text, make_index, make_variable, from_register, apply_last, abstract_last, Around, around_of, listed, plain_step}
 use Rattle.lp_gen.specs.inner.Tasks.{Adds}
 use Rattle.lp_gen.specs.inner.TermSteps.{Stack, stack, step_built, IsFine, steps_built, AreFine, StandIn, TermOfSteps}
 use Rattle.lp_gen.specs.inner.TermLaw.{SameSides, Asks, Standing, AreOf, IsBuilt, with_variables, SameAround, AreSet, Made}
-use Rattle.lp_gen.specs.inner.Written.{Goes, AreAsked, IsWell, TermWritten, AreWell, left_by, wholes, ArgumentsWritten}
+use Rattle.lp_gen.specs.inner.Written.{Goes, IsWell, TermWritten, AreWell, left_by, wholes, ArgumentsWritten}
 use Rattle.lp_gen.proofs.Denoting.{room_less, room_front}
 use Rattle.lp_gen.proofs.TypeWorks.{map_length}
 use Rattle.lp_gen.proofs.Registers.{held_elsewhere}

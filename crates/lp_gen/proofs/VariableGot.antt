@@ -1,7 +1,6 @@
 -- A variable of the clause at its first place, where that is an argument of the head.
-use Rattle.std.proofs.Common.{◌≡◌, ◌∙◌, ◌≤◌, ◌<◌, ℕ, suc, ◌+◌, List, [], ◌∷◌, ◌++◌, map, length, Bool, true, false, Option, Some, None, ap, refl, sym, subst, arith, true≢false}
-use Rattle.std.specs.Prelude.{nat_le, ◌||◌, is_none, sum_by, slice_set, unwrap_or, option_map}
-use Rattle.std.specs.List.{list_any}
+use Rattle.std.proofs.Common.{◌≡◌, ◌∙◌, ◌<◌, ℕ, ◌+◌, List, [], ◌∷◌, ◌++◌, length, false, Some, None, ap, refl, sym, subst, arith}
+use Rattle.std.specs.Prelude.{is_none, sum_by, unwrap_or, option_map}
 use Rattle.std.proofs.lemmas.Bool.{eqb-true}
 use Rattle.std.proofs.lemmas.List.{append-nil, length-set}
 use Rattle.lp_calculus.specs.Types.{Ty}
@@ -13,13 +12,13 @@ use Rattle.lp_code.specs.declared.rule.Rule.TheVariants as rule
 use Rattle.lp_code.specs.Length.{length_of}
 use Rattle.lp_code.specs.Symbolic.{Built, variable, held, whole, argument_type}
 use Rattle.lp_code.specs.States.{State, Home, member, depth}
-use Rattle.lp_code.specs.Steps.{Later, head_built, argument_at, put_term, with_argument, settled, passed}
+use Rattle.lp_code.specs.Steps.{head_built, argument_at, put_term, with_argument, settled, passed}
 use Rattle.lp_code.specs.Rules.{out_of_turn}
 use Rattle.lp_code.specs.Denote.{broken_by}
 use Rattle.lp_gen.specs.declared.emitter.Emitter.{Emitter}
-use Rattle.lp_gen.specs.inner.Running.{TypesStand, TermsStand, HasRoom}
+use Rattle.lp_gen.specs.inner.Running.{HasRoom}
 use Rattle.lp_gen.specs.inner.Heading.{VariableGot}
-use Rattle.lp_gen.proofs.Denoting.{or_none, steps, settled_same, room_less, held_set, member_more}
+use Rattle.lp_gen.proofs.Denoting.{or_none, steps, settled_same, room_less, member_more}
 use Rattle.lp_gen.proofs.Registers.{held_elsewhere, fresh_set}
 use Rattle.lp_gen.proofs.TermPut.{one_within, no_sides}
 

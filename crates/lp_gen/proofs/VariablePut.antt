@@ -1,9 +1,8 @@
 -- A variable of the clause that is made among the steps of a term, before NECK.
-use Rattle.std.proofs.Common.{◌≡◌, ◌∙◌, ◌≤◌, ◌<◌, ℕ, suc, ◌+◌, List, [], ◌∷◌, ◌++◌, append_assoc, map, length, Bool, true, false, Option, Some, None, ap, refl, sym, subst, arith, true≢false}
-use Rattle.std.specs.Prelude.{All, nat_le, ◌||◌, is_none, sum_by, slice_set, unwrap_or}
+use Rattle.std.proofs.Common.{◌≡◌, ◌∙◌, ◌<◌, ℕ, ◌+◌, List, [], ◌∷◌, ◌++◌, append_assoc, map, length, false, Option, Some, None, ap, refl, sym, subst, arith}
+use Rattle.std.specs.Prelude.{All, nat_le, is_none, sum_by, slice_set, unwrap_or}
 use Rattle.std.specs.List.{list_any}
 use Rattle.std.proofs.lemmas.List.{length-set}
-use Rattle.std.proofs.lemmas.List.Sums.{sum_by-append}
 use Rattle.std.proofs.lemmas.List.Elements.{All-head, All-tail}
 use Rattle.lp_calculus.specs.Types.{Ty, no_types, types}
 use Rattle.lp_calculus.specs.Typing.{o_type}
@@ -16,13 +15,13 @@ use Rattle.lp_code.specs.declared.rule.Rule.TheVariants as rule
 use Rattle.lp_code.specs.Length.{length_of}
 use Rattle.lp_code.specs.Symbolic.{Built, variable, held, whole}
 use Rattle.lp_code.specs.States.{State, Home, member}
-use Rattle.lp_code.specs.Steps.{Later, put_term}
+use Rattle.lp_code.specs.Steps.{put_term}
 use Rattle.lp_code.specs.Denote.{broken_by}
 use Rattle.lp_gen.specs.declared.emitter.Emitter.{Emitter}
 use Rattle.lp_gen.specs.declared.term_steps.TermStep.{TermStep}
 use Rattle.lp_gen.specs.declared.term_steps.TermStep.TheVariants as on
 use Rattle.lp_gen.specs.inner.Listing.{Step, make_constant, make_integer, make_text, make_index, make_variable, from_register, apply_last, abstract_last, plain_step}
-use Rattle.lp_gen.specs.inner.Running.{TypesStand, TermsStand, HasRoom, Hold, Moves, IsTypePut}
+use Rattle.lp_gen.specs.inner.Running.{TypesStand, HasRoom, Hold, Moves, IsTypePut}
 use Rattle.lp_gen.specs.inner.TermSteps.{Stack, stack, made_variable, step_built, steps_built, StandIn, StepsPut}
 use Rattle.lp_gen.proofs.Denoting.{or_none, room_less, room_front, none_unset, held_set}
 use Rattle.lp_gen.proofs.Registers.{held_elsewhere, by_same}

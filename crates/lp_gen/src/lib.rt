@@ -21,6 +21,8 @@ mod forms;
 mod got;
 // The head of a record.
 mod head;
+// What the code of goals says.
+mod laws;
 // The steps of a term.
 mod listing;
 // A clause with those that it assumes, each as a list of steps.
@@ -42,3 +44,4 @@ mod written_types;
 
 pub use codes::{generate, generate_query};
 pub use fault::GenRefusal;
+pub use laws::goals_are_said;

@@ -1,8 +1,7 @@
 -- The goals of a body: below binders, without what is written in them, and with variables for their indices.
-use Rattle.std.specs.Prelude.{◌≡◌, ℕ, suc, Bool, true, false, sum_by, ◌+◌, ◌<◌, ◌≤◌, ◌^◌, ◌-◌, nat_eq, if◌then◌else◌, List, [], ◌∷◌, ◌++◌, length, Option, Some}
-use Rattle.lp_calculus.specs.Types.{Ty}
+use Rattle.std.specs.Prelude.{◌≡◌, ℕ, suc, Bool, true, false, sum_by, ◌+◌, ◌<◌, ◌≤◌, ◌^◌, ◌-◌, nat_eq, if◌then◌else◌, List, [], ◌∷◌, ◌++◌, length, Some}
 use Rattle.lp_calculus.specs.Term.{Term, index}
-use Rattle.lp_model.specs.Flat.{Goal, Goals, Clause, Clauses, Atomic, Cut, Either, Exists, Forall, Assume, Not, no_goals, goals, clause, no_clauses, clauses, add_goals, under_all, map_goal, map_goals, map_clauses, same_type}
+use Rattle.lp_model.specs.Flat.{Goal, Goals, Clauses, Atomic, Cut, Either, Exists, Forall, Assume, Not, no_goals, goals, clause, no_clauses, clauses, add_goals, under_all, map_goal, map_goals, map_clauses, same_type}
 use Rattle.std.specs.List.{list_any}
 use Rattle.lp_code.specs.declared.instruction.Instr.{Instr}
 use Rattle.lp_code.specs.Length.{length_of}
@@ -12,7 +11,7 @@ use Rattle.lp_code.specs.Steps.{Later, settled}
 use Rattle.lp_code.specs.Denote.{run}
 use Rattle.lp_gen.specs.inner.Running.{TypesStand, TermsStand}
 use Rattle.lp_code.specs.Written.{nothing_written}
-use Rattle.lp_gen.specs.inner.Listing.{Seen, Around, at_level, level_in}
+use Rattle.lp_gen.specs.inner.Listing.{Seen, Around, level_in}
 use Rattle.lp_gen.specs.inner.TermLaw.{level_term, with_variables}
 
 -- one variable more, innermost

@@ -1,5 +1,5 @@
 -- What the law of bodies (proofs/BodySaid) asks of goals and of what stands around them.
-use Rattle.std.specs.Prelude.{◌≡◌, ℕ, zero, suc, ◌≤◌, true, List, [], ◌∷◌, Some, None, slice_get}
+use Rattle.std.specs.Prelude.{◌≡◌, ℕ, zero, suc, ◌+◌, ◌≤◌, true, sum_by, List, [], ◌∷◌, Some, None, slice_get}
 use Rattle.lp_calculus.specs.Types.{Ty}
 use Rattle.lp_calculus.specs.Term.{Term}
 use Rattle.lp_calculus.specs.Typing.{o_type, HasType}
@@ -11,13 +11,18 @@ use Rattle.lp_standard.specs.Positive.{are_positive}
 use Rattle.lp_standard.specs.Schemes.{IsStandard}
 use Rattle.lp_model.specs.Flat.{Goal, Goals, Atomic, Cut, Either, Exists, Forall, Assume, Not, no_goals, goals}
 use Rattle.lp_model.specs.Flatten.{is_goal_head}
-use Rattle.lp_code.specs.States.{State, Home, bind_term}
-use Rattle.lp_gen.specs.Sources.{types_by, IsKnownType}
-use Rattle.lp_gen.specs.inner.Running.{TypesStand, TermsStand}
+use Rattle.lp_code.specs.declared.instruction.Instr.{Instr}
+use Rattle.lp_code.specs.Length.{length_of}
+use Rattle.lp_code.specs.States.{State, Home, depth, bind_term}
+use Rattle.lp_code.specs.Steps.{Later}
+use Rattle.lp_code.specs.Rules.{nesting_limit}
+use Rattle.lp_gen.specs.Sources.{types_by, IsKnownType, goals_depth}
+use Rattle.lp_gen.specs.inner.Running.{TypesStand, TermsStand, MayEnd}
 use Rattle.lp_gen.specs.inner.Listing.{Around, level_in}
 use Rattle.lp_gen.specs.inner.TermLaw.{Standing, KnownAtoms, AllLoose, IsSeen, AreSet}
 use Rattle.lp_gen.specs.inner.Written.{AreAsked}
-use Rattle.lp_gen.specs.inner.Bodies.{IsShort}
+use Rattle.lp_gen.specs.inner.Bodies.{IsShort, said_goals, GoalsSaid}
+use Rattle.lp_gen.specs.inner.GoalCode.{GoalsCode}
 
 -- an atom as a goal, where indices that pass Q are those of variables
 pub record AtomFits (h : Home) (vars : ℕ) (Γ : List Ty) (Q : ℕ → Type 0) (t : Term) : Type 0 where
@@ -61,3 +66,10 @@ pub record IsAround (h : Home) (K : ℕ → List Ty → Ty) (vars types terms : 
   pub seen : (i : ℕ) → Q i → IsSeen a Γ i
   -- the variables are not those that the record makes from here on
   pub free : (i l x d : ℕ) → terms ≤ x → level_in a i ≡ Some l → bind_term (x ∷ []) h.number d (σ l) ≡ σ l
+
+-- the law: where goals fit and code stands for them by their form, it says them
+abbrev pub GoalsAreSaid : Type 0
+GoalsAreSaid =
+    (h : Home) (later : Later) (K : ℕ → List Ty → Ty) (vars n n' k k' : ℕ) (σ : ℕ → Term) (Γ : List Ty) (a : Around) (s : State) (gs : Goals) (is : List Instr) → GoalsCode K a n n' k k' gs is →
+    IsAround h K vars n k σ Γ a (IsSeen a Γ) s → GoalsFit h vars Γ (IsSeen a Γ) gs → n' ≤ h.self.types → k' ≤ h.self.registers → depth s.frames + goals_depth gs ≤ nesting_limit →
+    MayEnd s (s.place + sum_by length_of is) → (u : State) × GoalsSaid h later vars n n' k k' s is (said_goals σ a 0 gs) [] u

@@ -1,6 +1,6 @@
 -- The steps that a term comes to, those of its parts before its own. What stands around it: types of the indices that are bound in the term, the innermost first,
 -- and variables by their levels.
-use Rattle.std.specs.Prelude.{ℕ, zero, suc, ℤ, ◌+◌, ◌-◌, ◌^◌, nat_lt, nat_le, nat_eq, Bool, true, if◌then◌else◌, min, List, [], ◌∷◌, ◌++◌, length, map, reverse, Option, Some, None, slice_get, option_map, option_and_then}
+use Rattle.std.specs.Prelude.{ℕ, zero, suc, ℤ, ◌+◌, ◌-◌, ◌^◌, nat_lt, nat_le, nat_eq, Bool, true, if◌then◌else◌, min, List, [], ◌∷◌, ◌++◌, length, map, Option, Some, None, slice_get, option_map, option_and_then}
 use Rattle.indexmap.specs.IndexMap.{get}
 use Rattle.lp_calculus.specs.Types.{Ty, var, param as type_param, con, arrow, instance}
 use Rattle.lp_calculus.specs.Term.{Term, Atom, index, atom, abs, app, constant, integer, text, eigen, logic, param}

@@ -4,7 +4,6 @@ use Rattle.lp_calculus.specs.Types.{Ty}
 use Rattle.lp_term.specs.Nodes.{Nodes, tree}
 use Rattle.lp_gen.specs.declared.environment.Environment.{Environment}
 use Rattle.lp_gen.specs.declared.term_steps.TermStep.{TermStep}
-use Rattle.lp_gen.specs.declared.types.TypeView.{TypeView}
 use Rattle.lp_gen.specs.declared.listing.Lists.{Lists}
 use Rattle.lp_gen.specs.declared.listing.Task.{Task}
 use Rattle.lp_gen.specs.declared.listing.Task.TheVariants as on

@@ -1,14 +1,14 @@
 -- What the law of terms speaks of: variables that stand in registers, and what the steps of a term make where its indices are those of a list of types.
-use Rattle.std.specs.Prelude.{◌≡◌, ◌⊎◌, ℕ, suc, ◌+◌, ◌-◌, ◌<◌, ◌≤◌, Bool, true, false, nat_lt, if◌then◌else◌, List, [], ◌∷◌, ◌++◌, map, length, Option, Some, None, option_map, slice_get}
+use Rattle.std.specs.Prelude.{◌≡◌, ◌⊎◌, ℕ, suc, ◌-◌, ◌<◌, ◌≤◌, Bool, true, false, nat_lt, if◌then◌else◌, List, [], ◌∷◌, ◌++◌, length, Option, Some, None, option_map, slice_get}
 use Rattle.lp_calculus.specs.Types.{Ty, var, param as type_param, con, arrow}
 use Rattle.lp_calculus.specs.Term.{Term, index, atom, abs, app, apply, replace}
-use Rattle.lp_calculus.specs.Typing.{Scheme, scheme_type}
+use Rattle.lp_calculus.specs.Typing.{scheme_type}
 use Rattle.lp_code.specs.Symbolic.{Tables, Built, variable, held, whole, applied_type, plain_terms}
 use Rattle.lp_code.specs.States.{Home}
 use Rattle.lp_code.specs.Rules.{built_types, stands_in}
 use Rattle.lp_gen.specs.Sources.{IsKnownType, IsKnownAtom}
 use Rattle.lp_gen.specs.inner.Reading.{from_of, to_of}
-use Rattle.lp_gen.specs.inner.Listing.{Seen, Around, at_level, level_in, seen_in, Listed, Headed}
+use Rattle.lp_gen.specs.inner.Listing.{Seen, Around, at_level, level_in, Listed, Headed}
 use Rattle.lp_gen.specs.inner.TermSteps.{stack, steps_built, AreFine}
 
 -- what is read of a function's type, for its arguments: where an abstraction can stand its type, else any

@@ -1,5 +1,5 @@
 -- What the code of a term and of arguments does where it is run: from a state in which the variables around stand to one in which the term stands in its register.
-use Rattle.std.specs.Prelude.{◌≡◌, ℕ, zero, suc, ◌+◌, ◌≤◌, ◌<◌, All, true, List, [], ◌∷◌, ◌++◌, map, length, sum_by, Option, Some, None, slice_get}
+use Rattle.std.specs.Prelude.{◌≡◌, ℕ, zero, suc, ◌+◌, ◌≤◌, ◌<◌, All, true, List, [], ◌∷◌, ◌++◌, map, sum_by, Some, None, slice_get}
 use Rattle.lp_calculus.specs.Types.{Ty, arrow}
 use Rattle.lp_calculus.specs.Term.{Term}
 use Rattle.lp_calculus.specs.Typing.{HasType}
@@ -12,7 +12,7 @@ use Rattle.lp_code.specs.States.{State, Home}
 use Rattle.lp_code.specs.Steps.{Later}
 use Rattle.lp_code.specs.Denote.{run}
 use Rattle.lp_gen.specs.declared.emitter.Emitter.{Emitter}
-use Rattle.lp_gen.specs.Sources.{AreKnownSchemes, types_by, IsKnownType, IsKnownAtom}
+use Rattle.lp_gen.specs.Sources.{AreKnownSchemes, types_by, IsKnownType}
 use Rattle.lp_gen.specs.inner.Reading.{from_of, to_of}
 use Rattle.lp_gen.specs.inner.Running.{TypesStand, TermsStand, SameButRegisters, HasRoom}
 use Rattle.lp_gen.specs.inner.Listing.{Around}

@@ -1,7 +1,6 @@
-use Rattle.std.proofs.Common.{◌≡◌, ◌∙◌, ap, sym, subst, refl, arith, w64, to_z, of_z}
+use Rattle.std.proofs.Common.{◌≡◌, ◌∙◌, sym, subst, arith, w64, to_z, of_z}
 use Rattle.std.proofs.lemmas.Int.{to_z-of_z}
 use Rattle.lp_term.specs.Nodes.{tree}
-use Rattle.lp_calculus.specs.Term.{atom, integer, text}
 use Rattle.lp_gen.specs.inner.Reading.{read}
 use Rattle.lp_gen.specs.inner.Saying.{IntegerGot, TextGot}
 use Rattle.lp_gen.specs.inner.Listing.{around_of, constant_function}

@@ -1,4 +1,4 @@
-use Rattle.std.proofs.Common.{[], map, take, length, arith, subst, ◌≡◌}
+use Rattle.std.proofs.Common.{[], map, arith, subst}
 use Rattle.std.specs.Prelude.{slice_index_or}
 use Rattle.std.proofs.lemmas.List.{take_all}
 use Rattle.lp_term.specs.Nodes.{tree}

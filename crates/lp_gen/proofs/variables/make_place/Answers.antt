@@ -1,4 +1,4 @@
-use Rattle.std.proofs.Common.{◌≡◌, ◌∙◌, ap, sym}
+use Rattle.std.proofs.Common.{◌∙◌, ap, sym}
 use Rattle.std.specs.Prelude.{option_map}
 use Rattle.lp_gen.specs.inner.Listing.{around_of, seen}
 use Rattle.lp_gen.proofs.OwnMade.{place_empty, place_was_set, place_made}

@@ -1,5 +1,5 @@
-use Rattle.std.proofs.Common.{◌≡◌, ◌∙◌, ap, sym, arith, length}
-use Rattle.std.specs.Prelude.{map, if◌then◌else◌, ◌-◌}
+use Rattle.std.proofs.Common.{◌≡◌, ◌∙◌, ap, sym, arith}
+use Rattle.std.specs.Prelude.{if◌then◌else◌, ◌-◌}
 use Rattle.lp_gen.specs.inner.Listing.{around_of, seen}
 use Rattle.lp_gen.proofs.TypeWorks.{map_length}
 use Rattle.lp_gen.proofs.OwnMade.{place_at, no_places, places_then, all_places}

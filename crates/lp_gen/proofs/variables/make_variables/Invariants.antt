@@ -1,4 +1,3 @@
-use Rattle.std.proofs.Common.{◌≡◌, length}
 use Rattle.lp_gen.specs.inner.Listing.{around_of}
 use Rattle.lp_gen.specs.inner.Beginning.{PlacesMade}
 use Rattle.lp_gen.proofs.variables.make_variables.Given as goal
