@@ -18,24 +18,24 @@ use Rattle.lp_gen.proofs.Registers.{held_elsewhere, by_same}
 some_seen : (v w : Seen) → ◌≡◌ {A = Option Seen} (Some v) (Some w) → v ≡ w
 some_seen v w e = cc
 
-marked_length : (vs : List Seen) (i : ℕ) → length (marked vs i) ≡ length vs
+pub marked_length : (vs : List Seen) (i : ℕ) → length (marked vs i) ≡ length vs
 marked_length [] i = refl
 marked_length (v ∷ vs) zero = refl
 marked_length (v ∷ vs) (suc i) = ap suc (marked_length vs i)
 
-marked_here : (vs : List Seen) (i : ℕ) → slice_get (marked vs i) i ≡ option_map as_set (slice_get vs i)
+pub marked_here : (vs : List Seen) (i : ℕ) → slice_get (marked vs i) i ≡ option_map as_set (slice_get vs i)
 marked_here [] i = refl
 marked_here (v ∷ vs) zero = refl
 marked_here (v ∷ vs) (suc i) = marked_here vs i
 
-marked_there : (vs : List Seen) (i j : ℕ) → (j ≡ i → ⊥) → slice_get (marked vs i) j ≡ slice_get vs j
+pub marked_there : (vs : List Seen) (i j : ℕ) → (j ≡ i → ⊥) → slice_get (marked vs i) j ≡ slice_get vs j
 marked_there [] i j n = refl
 marked_there (v ∷ vs) zero zero n = absurd (n refl)
 marked_there (v ∷ vs) zero (suc j) n = refl
 marked_there (v ∷ vs) (suc i) zero n = refl
 marked_there (v ∷ vs) (suc i) (suc j) n = marked_there vs i j (λ e. n (ap suc e))
 
-abbrev set_own : Around → ℕ → Around
+abbrev pub set_own : Around → ℕ → Around
 set_own a l = record { own = marked a.own (l - a.base); base = a.base; captured = a.captured }
 
 set_is : (a : Around) (l : ℕ) → a.base ≤ l → set_level a l ≡ set_own a l

@@ -240,7 +240,7 @@ may_goes h later v n m k l s t is xs ys x e room =
 pub goes_says : (h : Home) (later : Later) (vars n m k l : ℕ) (s t u : State) (is js : List Instr) (gs : Goals) → Goes h later vars n m k l s is t →
     Turns h later vars m l t js gs t.head_types t.head_arguments u → Says h later vars n m k l s (is ++ js) gs [] u
 goes_says h later vars n m k l s t u is js gs x y = record {
-  runs = λ rest. ap (run h later s) (append_assoc is js rest) ∙ x.runs (js ++ rest) ∙ y.runs rest;
+  runs = λ i rest. ap (run h later s) (append_assoc is js (i ∷ rest)) ∙ x.runs (js ++ i ∷ rest) ∙ y.runs (i ∷ rest);
   place_is = let i = x.place_is in let j = y.place_is in let r = sum_by-append length_of is js in omega (arith, i, j, r);
   goals_are = y.goals_are;
   head_types_stay = y.head_types_are ∙ x.same.head_types;
@@ -311,6 +311,8 @@ call_written K start types args new a b c Ts ts qs rs x y z = record {
       ∙ append_assoc start.code.items (x.more ++ y.more) z.more;
   types_grow = let i = x.types_grow in let j = y.types_grow in let k = z.types_stay in omega (arith, i, j, k);
   terms_grow = let i = x.registers_stay in let j = y.terms_grow in let k = z.registers_stay in omega (arith, i, j, k);
+  calm = y.calm;
+  some = let i = z.some in let j = sum_by-append length_of (x.more ++ y.more) z.more in omega (arith, i, j);
   denotes = λ h later vars s σ Γ std asked st te low few body stands good room.
       let head = atom (constant c Ts) in
       let f = with_variables σ a 0 in
@@ -407,6 +409,8 @@ term_call_written K start term new a b r t y z other = record {
   code_is = z.code_is ∙ ap (λ l. l ++ z.more) y.code_is ∙ append_assoc start.code.items y.more z.more;
   types_grow = let j = y.types_grow in let k = z.types_stay in omega (arith, j, k);
   terms_grow = let j = y.terms_grow in let k = z.registers_stay in omega (arith, j, k);
+  calm = y.calm;
+  some = let i = z.some in let j = sum_by-append length_of y.more z.more in omega (arith, i, j);
   denotes = λ h later vars s σ Γ std asked st te low few body stands good room.
       let f = with_variables σ a 0 in
       let k = z.types_stay in

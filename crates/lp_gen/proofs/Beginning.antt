@@ -100,9 +100,8 @@ no_variables e a = record {
   );
 }
 
-pub variable_then : (old mid new : Emitter) (a b : Around) (l : ℕ) (v : Seen) → VariablesMade old mid a b → VariableMade mid new b l v → at_level b l ≡ Some v → v.is_set ≡ false → b.base ≤ l →
-    VariablesMade old new a (set_level b l)
-variable_then old mid new a b l v x p found unset own = record {
+pub variable_then : (old mid new : Emitter) (a b : Around) (l : ℕ) (v : Seen) → VariablesMade old mid a b → VariableMade mid new b l v → at_level b l ≡ Some v → v.is_set ≡ false → VariablesMade old new a (set_level b l)
+variable_then old mid new a b l v x p found unset = record {
   more = x.more ++ p.more;
   code_is = p.code_is ∙ ap (λ l. l ++ p.more) x.code_is ∙ append_assoc old.code.items x.more p.more;
   types_grow = let i = x.types_grow in let j = p.types_grow in omega (arith, i, j);
@@ -121,7 +120,7 @@ variable_then old mid new a b l v x p found unset own = record {
         then_goes h later vars old.types mid.types new.types old.registers old.registers old.registers s w.0 y.0 x.more p.more w.1 (subst (λ n. Goes h later vars mid.types new.types n n w.0 p.more y.0)
             stay y.1) x.types_grow (omega arith),
         subst (λ n. Standing h vars n s.in_body σ (set_level b l) y.0.now.terms) stay (subst (λ z. Standing h vars mid.registers z σ (set_level b l) y.0.now.terms) body y.2),
-        around_then a b (set_level b l) w.3 (around_set b l own),
+        around_then a b (set_level b l) w.3 (around_set b l (here.unmade l v found unset).2),
       );
 }
 

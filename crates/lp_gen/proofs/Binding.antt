@@ -184,6 +184,9 @@ module _ (κ : ℕ → Option ℕ) (n home m : ℕ) (rs : List ℕ) (σ τ : ℕ
 bind_itself : (r home d : ℕ) → bind_term (r ∷ []) home d (variable r home) ≡ index d
 bind_itself r home d = (λ i. index_or (if eq-eqb home home refl i then (if eq-eqb r r refl i then Some d else None) else None) (atom (logic r home)))
 
+pub bind_another : (r k home d : ℕ) → (k ≡ r → ⊥) → bind_term (r ∷ []) home d (variable k home) ≡ variable k home
+bind_another r k home d e = (λ i. index_or (if eq-eqb home home refl i then (if ne_eqb k r e i then Some d else None) else None) (atom (logic k home)))
+
 pub one_binds : (home r : ℕ) (σ : ℕ → Term) (a : Around) (v : Seen) → IsShort a → ((i l d : ℕ) → level_in a i ≡ Some l → bind_term (r ∷ []) home d (σ l) ≡ σ l) →
     Binds home (r ∷ []) 1 (with_level σ (new_level a) (variable r home)) (pushed a v) σ a
 one_binds home r σ a v short free = record {

@@ -34,7 +34,7 @@ use Rattle.lp_gen.proofs.Denoting.{or_none, steps, may_strict}
 use Rattle.lp_gen.proofs.TermPut.{set_within, no_sides}
 
 -- an instruction that adds a goal, or a part of the head
-turns_one : (h : Home) (later : Later) (vars n k : ℕ) (s : State) (i : Instr) (gs : Goals) (Ts : List Ty) (bs : List Built) → effect h later s i ≡ Some (turned s gs Ts bs) →
+pub turns_one : (h : Home) (later : Later) (vars n k : ℕ) (s : State) (i : Instr) (gs : Goals) (Ts : List Ty) (bs : List Built) → effect h later s i ≡ Some (turned s gs Ts bs) →
     type_set i ≡ [] → term_set i ≡ [] →
     0 < length_of i → TypesStand h vars n s → TermsStand h k s → ((rest : List Instr) (r : Rule) → broken_by h s rest i r ≡ false) →
     (t : State) × Turns h later vars n k s (i ∷ []) gs Ts bs t
@@ -112,6 +112,27 @@ keeps_rules h vars n k s i ts rs st te b room rest rule.Head = b.head_is
 keeps_rules h vars n k s i ts rs st te b room rest rule.Block = ap (λ x. list_any (is_passed s.place) s.frames || x) (b.nesting_is rest) ∙ no_sides s room
 keeps_rules h vars n k s i ts rs st te b room rest rule.Clause = b.clause_is
 keeps_rules h vars n k s i ts rs st te b room rest rule.Key = refl
+
+-- an instruction that reads and sets no register
+pub plain_rules : (h : Home) (vars n k : ℕ) (s : State) (i : Instr) → TypesStand h vars n s → TermsStand h k s → types_read i ≡ [] → terms_read i ≡ [] → type_set i ≡ [] → term_set i ≡ [] →
+    breaks_constant h i ≡ false → breaks_type h s i ≡ false → breaks_index s i ≡ false → breaks_term i ≡ false → breaks_order s i ≡ false → breaks_head h s i ≡ false →
+    ((rest : List Instr) → breaks_nesting s rest i ≡ false) → breaks_clause h s i ≡ false → HasRoom s s.place → (rest : List Instr) (r : Rule) → broken_by h s rest i r ≡ false
+plain_rules h vars n k s i st te a b c d counted typed closed in_terms ordered headed nested assumed room = keeps_rules h vars n k s i [] [] st te (record {
+  types_read_is = a;
+  terms_read_is = b;
+  types_set_is = c;
+  terms_set_is = d;
+  types_are = refl;
+  terms_are = refl;
+  constant_is = counted;
+  type_is = typed;
+  index_is = closed;
+  term_is = in_terms;
+  order_is = ordered;
+  head_is = headed;
+  nesting_is = nested;
+  clause_is = assumed;
+}) room
 
 -- what an instruction does, and what it reads
 record Stands (h : Home) (later : Later) (s : State) (i : Instr) (ts rs : List ℕ) (gs : Goals) (Ts : List Ty) (bs : List Built) : Type 0 where

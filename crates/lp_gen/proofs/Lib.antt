@@ -20,9 +20,18 @@ mod HeadWhole
 mod HeadNodes
 mod Beginning
 mod Binding
+mod Blocks
+mod BlockEnds
+mod Quantified
+mod Sides
+mod EitherSaid
+mod Calm
+mod Pushed
+mod BodySaid
 mod Denoting
 mod Bytes
 mod Goals
 mod Arguments
 pub mod Fitting
 mod Records
+mod OwnMade

@@ -189,7 +189,7 @@ types_within s n (r ∷ rs) (types T Ts) e a = or_none (nat_le n r) (list_any (�
 pub one_within : (n d : ℕ) → d < n → list_any (λ r. nat_le n r) (d ∷ []) ≡ false
 one_within n d l = or_none (nat_le n d) false (lt-leb n d l) refl
 
-one_unset : (h : Home) (d : ℕ) (s : State) → TermsStand h d s → list_any (λ r. member r s.terms_set) (d ∷ []) ≡ false
+pub one_unset : (h : Home) (d : ℕ) (s : State) → TermsStand h d s → list_any (λ r. member r s.terms_set) (d ∷ []) ≡ false
 one_unset h d s te = or_none (member d s.terms_set) false (te.unset d (omega arith)) refl
 
 pub no_sides : (s : State) → HasRoom s s.place → (list_any (is_passed s.place) s.frames || false) ≡ false

@@ -24,7 +24,7 @@ use Rattle.lp_gen.specs.inner.Running.{HasRoom}
 use Rattle.lp_gen.specs.inner.Listing.{Step, make_constant, make_integer, make_text, make_index, make_variable, from_register, apply_last, abstract_last, Around, around_of, listed, plain_step}
 use Rattle.lp_gen.specs.inner.Tasks.{Adds}
 use Rattle.lp_gen.specs.inner.TermSteps.{Stack, stack, step_built, IsFine, steps_built, AreFine, StandIn, TermOfSteps}
-use Rattle.lp_gen.specs.inner.TermLaw.{SameSides, Asks, Standing, AreOf, IsBuilt, with_variables, SameAround, Made}
+use Rattle.lp_gen.specs.inner.TermLaw.{SameSides, Asks, Standing, AreOf, IsBuilt, with_variables, SameAround, AreSet, Made}
 use Rattle.lp_gen.specs.inner.Written.{Goes, IsWell, TermWritten, AreWell, left_by, wholes, ArgumentsWritten}
 use Rattle.lp_gen.proofs.Denoting.{room_less, room_front}
 use Rattle.lp_gen.proofs.TypeWorks.{map_length}
@@ -33,6 +33,7 @@ use Rattle.lp_gen.proofs.StepPut.{stand_push}
 use Rattle.lp_gen.proofs.VariablePut.{stand_past}
 use Rattle.lp_gen.proofs.AroundSet.{around_same, around_then, all_seen, variables_same}
 use Rattle.lp_gen.proofs.TermListed.{listed_comes}
+use Rattle.lp_gen.proofs.Calm.{listed_calm}
 use Rattle.lp_gen.proofs.ConstantTypes.{known_constant}
 
 -- what holds stays
@@ -110,6 +111,7 @@ term_written K b old new before after steps r F t x adds = record {
   code_is = x.code_is;
   types_grow = x.types_grow;
   terms_grow = x.terms_grow;
+  calm = λ set. adds.around ∙ listed_calm K [] (around_of b before) F t set;
   denotes = λ h later vars s σ Γ T asked st te low few stands well same room.
       let a = around_of b before in
       let l = listed K [] a F t in
@@ -149,6 +151,7 @@ no_arguments K e a F = record {
   code_is = append_nil_sym e.code.items;
   types_grow = omega arith;
   terms_grow = omega arith;
+  calm = λ set. refl;
   denotes = λ h later vars s σ Γ A R asked st te low few stands well asks room. (
     s,
     record {
@@ -189,6 +192,7 @@ argument_then K old mid new a b c rs after r F G ts t x p left e = record {
   code_is = p.code_is ∙ ap (λ l. l ++ p.more) x.code_is ∙ append_assoc old.code.items x.more p.more;
   types_grow = let i = x.types_grow in let j = p.types_grow in omega (arith, i, j);
   terms_grow = let i = x.terms_grow in let j = p.terms_grow in omega (arith, i, j);
+  calm = λ set. p.calm (subst AreSet (sym (x.calm set)) set) ∙ x.calm set;
   denotes = λ h later vars s σ Γ A R asked st te low few stands well asks room.
       let i = p.types_grow in
       let j = p.terms_grow in

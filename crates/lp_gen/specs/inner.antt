@@ -1,7 +1,9 @@
 pub mod Beginning
 pub mod Bodies
+pub mod BodyLaw
 pub mod Doing
 pub mod Fitting
+pub mod GoalCode
 pub mod Heading
 pub mod Listing
 pub mod Pieces

@@ -6,6 +6,7 @@ use crate::fault::GenRefusal;
 use crate::plan::Step;
 use crate::terms::Writer;
 use crate::types::TypeView;
+use crate::variables::put_neck;
 use lp_code::Instr;
 use lp_term::TypeId;
 
@@ -123,7 +124,7 @@ impl<'a> Writer<'a> {
 
     /// The code behind the head.
     pub(crate) fn write_body(&mut self, steps: &[Step]) -> Result<(), GenRefusal> {
-        self.emitter.emit(Instr::Neck)?;
+        put_neck(&mut self.emitter)?;
         let mut blocks = Vec::new(self.alloc);
         for step in steps.iter().copied() {
             self.step(&mut blocks, step)?;

@@ -21,6 +21,8 @@ mod forms;
 mod got;
 // The head of a record.
 mod head;
+// What the code of goals says.
+mod laws;
 // The steps of a term.
 mod listing;
 // A clause with those that it assumes, each as a list of steps.
@@ -35,8 +37,11 @@ mod term_steps;
 mod terms;
 // Types as they are read.
 mod types;
+// Variables that do not stand in the head.
+mod variables;
 // Types in registers.
 mod written_types;
 
 pub use codes::{generate, generate_query};
 pub use fault::GenRefusal;
+pub use laws::goals_are_said;

@@ -8,6 +8,7 @@ use crate::fault::GenRefusal;
 use crate::head::{get_head, key_of};
 use crate::plan::{Assumption, Origin, Part};
 use crate::terms::Writer;
+use crate::variables::make_variables;
 use crate::written_types::register_of_type;
 use indexmap::IndexMap;
 use lp_base::{Limit, Memory};
@@ -125,20 +126,14 @@ impl<'a> Writer<'a> {
         Ok(())
     }
 
-    // The variables that do not stand in the head, by their registers.
     fn make_variables(&mut self, is_clause: bool) -> Result<(), GenRefusal> {
-        let base = self.environment.base;
-        let count = self.environment.own.len();
-        for at in 0..count {
-            let place = if is_clause { count - 1 - at } else { at };
-            let level = base.saturating_add(place as u64);
-            if let Some(variable) = self.environment.at(level)
-                && !variable.is_set
-            {
-                self.put_variable(level, variable)?;
-            }
-        }
-        Ok(())
+        make_variables(
+            self.alloc,
+            self.tables.bank,
+            &mut self.emitter,
+            &mut self.environment,
+            is_clause,
+        )
     }
 
     // The head, and what is made before NECK.

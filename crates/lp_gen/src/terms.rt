@@ -6,14 +6,13 @@ ghost use Rattle.lp_gen.specs.inner.Listing.{around_of, constant_function, head_
 ghost use Rattle.lp_gen.specs.inner.Written.{TermWritten, ArgumentsWritten};
 
 use crate::emitter::Emitter;
-use crate::environment::{Environment, Variable};
+use crate::environment::Environment;
 use crate::fault::GenRefusal;
 use crate::listing::{list_steps, type_of_head};
 use crate::record::{Starts, Tables};
 use crate::term_steps::put_steps;
 use crate::types::TypeView;
 use crate::written_types::put_type;
-use lp_code::Instr;
 use lp_term::TermId;
 use std::alloc::Global;
 
@@ -69,13 +68,5 @@ impl<'a> Writer<'a> {
     /// The type in a register.
     pub(crate) fn put_type(&mut self, of: TypeView) -> Result<u16, GenRefusal> {
         put_type(self.alloc, self.tables.bank, &mut self.emitter, of)
-    }
-
-    /// Makes a variable of the clause.
-    pub(crate) fn put_variable(&mut self, level: u64, of: Variable) -> Result<(), GenRefusal> {
-        let register = self.put_type(TypeView::Of(of.of, None))?;
-        self.emitter.emit(Instr::New(of.register, register))?;
-        self.environment.set(level);
-        Ok(())
     }
 }

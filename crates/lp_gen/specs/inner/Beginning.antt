@@ -1,5 +1,5 @@
 -- The code between the head and the body: variables that do not stand in the head are made, and NECK.
-use Rattle.std.specs.Prelude.{◌≡◌, ℕ, ◌+◌, ◌≤◌, true, false, List, ◌++◌, sum_by, Some}
+use Rattle.std.specs.Prelude.{◌≡◌, ℕ, ◌+◌, ◌<◌, ◌≤◌, Bool, true, false, List, ◌++◌, length, sum_by, Some, slice_get}
 use Rattle.lp_calculus.specs.Term.{Term}
 use Rattle.lp_code.specs.declared.instruction.Instr.{Instr}
 use Rattle.lp_code.specs.declared.instruction.Instr.TheVariants.{Neck}
@@ -13,6 +13,7 @@ use Rattle.lp_gen.specs.inner.Running.{TypesStand, TermsStand, HasRoom}
 use Rattle.lp_gen.specs.inner.Listing.{Seen, Around, at_level, set_level}
 use Rattle.lp_gen.specs.inner.TermLaw.{Standing, SameAround}
 use Rattle.lp_gen.specs.inner.Written.{Goes}
+use Rattle.lp_gen.specs.inner.Bodies.{IsShort}
 
 -- more code, which makes the variable of a level
 pub record VariableMade (old new : Emitter) (a : Around) (l : ℕ) (v : Seen) : Type 0 where
@@ -33,6 +34,37 @@ pub record VariablesMade (old new : Emitter) (a a' : Around) : Type 0 where
   pub denotes : (h : Home) (later : Later) (vars : ℕ) (s : State) (σ : ℕ → Term) → TypesStand h vars old.types s → TermsStand h old.registers s → new.types ≤ h.self.types →
       old.registers ≤ h.self.registers → Standing h vars old.registers s.in_body σ a s.now.terms → HasRoom s (s.place + sum_by length_of more) →
       (u : State) × Goes h later vars old.types new.types old.registers old.registers s more u × Standing h vars old.registers s.in_body σ a' u.now.terms × SameAround a a'
+
+-- the own variable at a place is set
+abbrev pub IsSetAt : Around → ℕ → Type 0
+IsSetAt a p = (v : Seen) → slice_get a.own p ≡ Some v → v.is_set ≡ true
+
+-- the same variables, some of which are made; what was set is set
+pub record SomeMade (old new : Emitter) (a a' : Around) : Type 0 where
+  pub made : VariablesMade old new a a'
+  pub base : a'.base ≡ a.base
+  pub count : length a'.own ≡ length a.own
+  pub captured : (l : ℕ) → a'.captured l ≡ a.captured l
+  pub kept : (p : ℕ) → IsSetAt a p → IsSetAt a' p
+
+-- that of a place among them
+pub record PlaceMade (old new : Emitter) (a a' : Around) (p : ℕ) : Type 0 where
+  pub some : SomeMade old new a a'
+  pub set : IsShort a → IsSetAt a' p
+
+-- so many places from the last one, or from the first one on
+abbrev pub IsPassed : (is_clause : Bool) → (count n p : ℕ) → Type 0
+IsPassed true count n p = count ≤ p + n
+IsPassed false count n p = p < n
+
+pub record PlacesMade (old new : Emitter) (a a' : Around) (is_clause : Bool) (count n : ℕ) : Type 0 where
+  pub some : SomeMade old new a a'
+  pub set : IsShort a → (p : ℕ) → IsPassed is_clause count n p → IsSetAt a' p
+
+-- all of them
+pub record OwnMade (old new : Emitter) (a a' : Around) : Type 0 where
+  pub some : SomeMade old new a a'
+  pub set : IsShort a → (p : ℕ) → IsSetAt a' p
 
 -- the state behind the head
 abbrev pub behind_head : State → State

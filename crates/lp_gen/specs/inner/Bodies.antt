@@ -1,8 +1,15 @@
 -- The goals of a body: below binders, without what is written in them, and with variables for their indices.
-use Rattle.std.specs.Prelude.{◌≡◌, ℕ, suc, ◌+◌, ◌<◌, ◌≤◌, ◌^◌, ◌-◌, nat_eq, if◌then◌else◌, List, [], ◌∷◌, ◌++◌, length, Some}
+use Rattle.std.specs.Prelude.{◌≡◌, ℕ, suc, Bool, true, false, sum_by, ◌+◌, ◌<◌, ◌≤◌, ◌^◌, ◌-◌, nat_eq, if◌then◌else◌, List, [], ◌∷◌, ◌++◌, length, Some}
 use Rattle.lp_calculus.specs.Term.{Term, index}
-use Rattle.lp_model.specs.Flat.{Goal, Goals, Clauses, Atomic, Cut, Either, Exists, Forall, Assume, Not, no_goals, goals, clause, no_clauses, clauses, under_all, map_goals, map_clauses, same_type}
-use Rattle.lp_code.specs.States.{bind_term}
+use Rattle.lp_model.specs.Flat.{Goal, Goals, Clauses, Atomic, Cut, Either, Exists, Forall, Assume, Not, no_goals, goals, clause, no_clauses, clauses, add_goals, under_all, map_goal, map_goals, map_clauses, same_type}
+use Rattle.std.specs.List.{list_any}
+use Rattle.lp_code.specs.declared.instruction.Instr.{Instr}
+use Rattle.lp_code.specs.Length.{length_of}
+use Rattle.lp_code.specs.Symbolic.{Built, held}
+use Rattle.lp_code.specs.States.{Block, Frame, Captured, State, Home, is_sigma, depth, innermost_block, end_variables, bind_term}
+use Rattle.lp_code.specs.Steps.{Later, settled}
+use Rattle.lp_code.specs.Denote.{run}
+use Rattle.lp_gen.specs.inner.Running.{TypesStand, TermsStand}
 use Rattle.lp_code.specs.Written.{nothing_written}
 use Rattle.lp_gen.specs.inner.Listing.{Seen, Around, level_in}
 use Rattle.lp_gen.specs.inner.TermLaw.{level_term, with_variables}
@@ -69,8 +76,70 @@ pub record Binds (home : ℕ) (rs : List ℕ) (n : ℕ) (σ : ℕ → Term) (a :
   pub inner : (d j : ℕ) → j < n → bind_term rs home d (level_term σ (level_in a j)) ≡ index (d + j)
   pub outer : (d j : ℕ) → n ≤ j → HasLevel a j → bind_term rs home d (level_term σ (level_in a j)) ≡ level_term τ (level_in b (j - n))
 
+abbrev pub said_goal : (ℕ → Term) → Around → (d : ℕ) → Goal → Goal
+said_goal σ a d g = map_goal suc (with_variables σ a) same_type d (bare_goal g)
+
 abbrev pub said_goals : (ℕ → Term) → Around → (d : ℕ) → Goals → Goals
 said_goals σ a d gs = map_goals suc (with_variables σ a) same_type d (bare_goals gs)
 
 abbrev pub said_clauses : (ℕ → Term) → Around → (d : ℕ) → Clauses → Clauses
 said_clauses σ a d cs = map_clauses suc (with_variables σ a) same_type d (bare_clauses cs)
+
+-- the state behind code: right sides that end there are left
+abbrev pub behind_code : Home → List Instr → State → State
+behind_code h [] u = u
+behind_code h (i ∷ is) u = settled h.number (depth u.frames) u
+
+-- what a block comes to, where these goals were added: sigmas that are open are closed with it
+pub record Closes (home : ℕ) (s : State) (gs : Goals) (u : State) : Type 0 where
+  pub same : end_variables home u.goals u.frames ≡ end_variables home (add_goals s.goals gs) s.frames
+  pub innermost : innermost_block u.frames ≡ innermost_block s.frames
+  pub deep : depth u.frames ≡ depth s.frames
+  pub sides : (f : Frame → Bool) → ((x : Frame) → is_sigma x.block ≡ true → f x ≡ false) → list_any f u.frames ≡ list_any f s.frames
+
+-- instructions say these goals in a block, behind which more code stands
+pub record GoalsSaid (h : Home) (later : Later) (vars types types' terms terms' : ℕ) (s : State) (is : List Instr) (gs : Goals) (more : List (ℕ × Captured)) (u : State) : Type 0 where
+  pub runs : (i : Instr) (rest : List Instr) → run h later s (is ++ i ∷ rest) ≡ run h later (behind_code h is u) (i ∷ rest)
+  pub place_is : u.place ≡ s.place + sum_by length_of is
+  pub closes : Closes h.number s gs u
+  pub head_types_stay : u.head_types ≡ s.head_types
+  pub arguments_stay : u.head_arguments ≡ s.head_arguments
+  pub in_body_stays : u.in_body ≡ s.in_body
+  pub assumed_are : u.assumed ≡ s.assumed ++ more
+  pub types_kept : (r : ℕ) → r < types → held u.now.types r ≡ held s.now.types r
+  pub terms_keep : (r : ℕ) (b : Built) → r < terms → held s.now.terms r ≡ Some b → held u.now.terms r ≡ Some b
+  pub types_stand : TypesStand h vars types' u
+  pub terms_stand : TermsStand h terms' u
+
+-- instructions open a block
+pub record Opened (h : Home) (later : Later) (vars types types' terms terms' : ℕ) (s : State) (is : List Instr) (F : Frame) (more : List (ℕ × Captured)) (t : State) : Type 0 where
+  pub runs : (rest : List Instr) → run h later s (is ++ rest) ≡ run h later t rest
+  pub place_is : t.place ≡ s.place + sum_by length_of is
+  pub goals_are : t.goals ≡ no_goals
+  pub frames_are : t.frames ≡ F ∷ s.frames
+  pub head_types_stay : t.head_types ≡ s.head_types
+  pub arguments_stay : t.head_arguments ≡ s.head_arguments
+  pub in_body_stays : t.in_body ≡ s.in_body
+  pub assumed_are : t.assumed ≡ s.assumed ++ more
+  pub types_kept : (r : ℕ) → r < types → held t.now.types r ≡ held s.now.types r
+  pub terms_keep : (r : ℕ) (b : Built) → r < terms → held s.now.terms r ≡ Some b → held t.now.terms r ≡ Some b
+  pub types_stand : TypesStand h vars types' t
+  pub terms_stand : TermsStand h terms' t
+
+-- the frame of a block that is opened here, and the state in it
+abbrev pub frame_of : State → Block → Frame
+frame_of s b = record { block = b; from = s.place; before = s.goals; registers = s.now }
+
+abbrev pub opened_state : State → Block → (assumed : List (ℕ × Captured)) → State
+opened_state s b l = record {
+  place = s.place;
+  now = s.now;
+  types_set = s.types_set;
+  terms_set = s.terms_set;
+  in_body = s.in_body;
+  head_types = s.head_types;
+  head_arguments = s.head_arguments;
+  goals = no_goals;
+  frames = frame_of s b ∷ s.frames;
+  assumed = l;
+}

@@ -1,5 +1,5 @@
 -- Instructions that make what is asked for and then say a goal or a part of the head.
-use Rattle.std.specs.Prelude.{◌≡◌, ℕ, ◌+◌, ◌≤◌, ◌<◌, true, List, [], ◌++◌, sum_by, None, Some}
+use Rattle.std.specs.Prelude.{◌≡◌, ℕ, ◌+◌, ◌≤◌, ◌<◌, true, List, [], ◌∷◌, ◌++◌, sum_by, None, Some}
 use Rattle.lp_calculus.specs.Types.{Ty}
 use Rattle.lp_calculus.specs.Term.{Term}
 use Rattle.lp_calculus.specs.Typing.{o_type, HasType}
@@ -21,7 +21,7 @@ use Rattle.lp_gen.specs.declared.emitter.Emitter.{Emitter}
 use Rattle.lp_gen.specs.Sources.{types_by, IsKnownType}
 use Rattle.lp_gen.specs.inner.Running.{TypesStand, TermsStand, MayEnd}
 use Rattle.lp_gen.specs.inner.Listing.{Around}
-use Rattle.lp_gen.specs.inner.TermLaw.{Standing, KnownAtoms, AllLoose, IsSeen, with_variables, SameAround}
+use Rattle.lp_gen.specs.inner.TermLaw.{Standing, KnownAtoms, AllLoose, IsSeen, with_variables, SameAround, AreSet}
 use Rattle.lp_gen.specs.inner.Written.{AreAsked}
 
 -- instructions lead from one state to another with these goals and this head so far, in which what was set stays
@@ -39,9 +39,9 @@ pub record Does (h : Home) (later : Later) (vars types types' terms terms' : ℕ
   pub types_stand : TypesStand h vars types' t
   pub terms_stand : TermsStand h terms' t
 
--- the same for goals: right sides that end there are left, and records may be assumed
+-- the same for goals, behind which more code stands: right sides that end there are left, and records may be assumed
 pub record Says (h : Home) (later : Later) (vars types types' terms terms' : ℕ) (s : State) (is : List Instr) (gs : Goals) (more : List (ℕ × Captured)) (t : State) : Type 0 where
-  pub runs : (rest : List Instr) → run h later s (is ++ rest) ≡ run h later (settled h.number (depth t.frames) t) rest
+  pub runs : (i : Instr) (rest : List Instr) → run h later s (is ++ i ∷ rest) ≡ run h later (settled h.number (depth t.frames) t) (i ∷ rest)
   pub place_is : t.place ≡ s.place + sum_by length_of is
   pub goals_are : t.goals ≡ gs
   pub head_types_stay : t.head_types ≡ s.head_types
@@ -71,6 +71,9 @@ pub record AtomWritten (K : ℕ → List Ty → Ty) (old new : Emitter) (a a' : 
   pub code_is : new.code.items ≡ old.code.items ++ more
   pub types_grow : old.types ≤ new.types
   pub terms_grow : old.registers ≤ new.registers
+  -- where all variables are set, none is made
+  pub calm : AreSet a → a' ≡ a
+  pub some : 0 < sum_by length_of more
   pub denotes : (h : Home) (later : Later) (vars : ℕ) (s : State) (σ : ℕ → Term) (Γ : List Ty) → IsStandard h.tables.constants → AreAsked h K → TypesStand h vars old.types s →
       TermsStand h old.registers s → new.types ≤ h.self.types → new.registers ≤ h.self.registers → s.in_body ≡ true → Standing h vars old.registers s.in_body σ a s.now.terms →
       IsGoalAtom h vars Γ a t → MayEnd s (s.place + sum_by length_of more) →

@@ -92,6 +92,10 @@ pub record SameAround (a b : Around) : Type 0 where
   pub count : length b.own ≡ length a.own
   pub variables : (l : ℕ) → option_map as_set (at_level b l) ≡ option_map as_set (at_level a l)
 
+-- all variables are set
+abbrev pub AreSet : Around → Type 0
+AreSet a = (l : ℕ) (v : Seen) → at_level a l ≡ Some v → v.is_set ≡ true
+
 -- a variable that is set now was set before, or stands in the term
 abbrev pub Made : (home : ℕ) → (a b : Around) → Term → Type 0
 Made k a b u = (l : ℕ) (v : Seen) → at_level b l ≡ Some v → v.is_set ≡ true → (at_level a l ≡ Some v) ⊎ (stands_in v.register k u ≡ true)

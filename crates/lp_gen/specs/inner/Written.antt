@@ -17,7 +17,7 @@ use Rattle.lp_gen.specs.inner.Reading.{from_of, to_of}
 use Rattle.lp_gen.specs.inner.Running.{TypesStand, TermsStand, SameButRegisters, HasRoom}
 use Rattle.lp_gen.specs.inner.Listing.{Around}
 use Rattle.lp_gen.specs.inner.TermSteps.{StandIn}
-use Rattle.lp_gen.specs.inner.TermLaw.{SameSides, Asks, AsksConstants, Standing, KnownAtoms, AllLoose, IsSeen, with_variables, SameAround, Made}
+use Rattle.lp_gen.specs.inner.TermLaw.{SameSides, Asks, AsksConstants, Standing, KnownAtoms, AllLoose, IsSeen, with_variables, SameAround, AreSet, Made}
 
 -- instructions lead from one state to another, in which what was set stays
 pub record Goes (h : Home) (later : Later) (vars types types' terms terms' : ℕ) (s : State) (is : List Instr) (t : State) : Type 0 where
@@ -50,6 +50,8 @@ pub record TermWritten (K : ℕ → List Ty → Ty) (old new : Emitter) (a a' : 
   pub code_is : new.code.items ≡ old.code.items ++ more
   pub types_grow : old.types ≤ new.types
   pub terms_grow : old.registers ≤ new.registers
+  -- where all variables are set, none is made
+  pub calm : AreSet a → a' ≡ a
   pub denotes : (h : Home) (later : Later) (vars : ℕ) (s : State) (σ : ℕ → Term) (Γ : List Ty) (T : Ty) → AreAsked h K → TypesStand h vars old.types s → TermsStand h old.registers s →
       new.types ≤ h.self.types → new.registers ≤ h.self.registers → Standing h vars old.registers s.in_body σ a s.now.terms → IsWell h vars Γ a t T → SameSides F T →
       HasRoom s (s.place + sum_by length_of more) →
@@ -76,6 +78,7 @@ pub record ArgumentsWritten (K : ℕ → List Ty → Ty) (old new : Emitter) (a 
   pub code_is : new.code.items ≡ old.code.items ++ more
   pub types_grow : old.types ≤ new.types
   pub terms_grow : old.registers ≤ new.registers
+  pub calm : AreSet a → a' ≡ a
   pub denotes : (h : Home) (later : Later) (vars : ℕ) (s : State) (σ : ℕ → Term) (Γ : List Ty) (A R : Ty) → AreAsked h K → TypesStand h vars old.types s → TermsStand h old.registers s →
       new.types ≤ h.self.types → new.registers ≤ h.self.registers → Standing h vars old.registers s.in_body σ a s.now.terms → AreWell h vars Γ a A ts R → Asks F A →
       HasRoom s (s.place + sum_by length_of more) →

@@ -1,0 +1,79 @@
+// Variables that do not stand in the head, and the end of the head.
+ghost use Rattle.std.specs.Prelude.{◌≡◌, OnOk};
+ghost use Rattle.lp_gen.specs.inner.Listing.{around_of, seen, set_level};
+ghost use Rattle.lp_gen.specs.inner.Beginning.{VariableMade, PlaceMade, OwnMade, NeckPut};
+
+use crate::emitter::Emitter;
+use crate::environment::{Environment, Variable};
+use crate::fault::GenRefusal;
+use crate::types::TypeView;
+use crate::written_types::put_type;
+use lp_code::Instr;
+use lp_term::Bank;
+use std::alloc::Global;
+
+// Makes a variable of the clause.
+fn put_variable(
+    alloc: Global,
+    bank: &Bank,
+    emitter: &mut Emitter,
+    environment: &mut Environment<'_>,
+    level: u64,
+    variable: Variable,
+) -> Result<(), GenRefusal>
+    ensures made { OnOk result (VariableMade emitter.old emitter.new (around_of bank.now environment.old) level (seen bank.now variable)) }
+    ensures set { OnOk result (around_of bank.now environment.new ≡ set_level (around_of bank.now environment.old) level) }
+{
+    let of = TypeView::Of(variable.of, None);
+    let register = put_type(alloc, bank, emitter, of)?;
+    emitter.emit(Instr::New(variable.register, register))?;
+    environment.set(level);
+    Ok(())
+}
+
+// Makes the own variable of a place, where it is not set.
+fn make_place(
+    alloc: Global,
+    bank: &Bank,
+    emitter: &mut Emitter,
+    environment: &mut Environment<'_>,
+    place: usize,
+) -> Result<(), GenRefusal>
+    ensures { OnOk result (PlaceMade emitter.old emitter.new (around_of bank.now environment.old) (around_of bank.now environment.new) place) }
+{
+    let level = environment.base.saturating_add(place as u64);
+    let Some(variable) = environment.at(level) else {
+        return Ok(());
+    };
+    if variable.is_set {
+        return Ok(());
+    }
+    put_variable(alloc, bank, emitter, environment, level, variable)?;
+    Ok(())
+}
+
+/// The variables that do not stand in the head, by their registers: those of a clause from the last one on.
+pub(crate) fn make_variables(
+    alloc: Global,
+    bank: &Bank,
+    emitter: &mut Emitter,
+    environment: &mut Environment<'_>,
+    is_clause: bool,
+) -> Result<(), GenRefusal>
+    ensures { OnOk result (OwnMade emitter.old emitter.new (around_of bank.now environment.old) (around_of bank.now environment.new)) }
+{
+    let count = environment.own.len();
+    for at in 0..count {
+        let place = if is_clause { count - 1 - at } else { at };
+        make_place(alloc, bank, emitter, environment, place)?;
+    }
+    Ok(())
+}
+
+/// The end of the head.
+pub(crate) fn put_neck(emitter: &mut Emitter) -> Result<(), GenRefusal>
+    ensures { OnOk result (NeckPut emitter.old emitter.new) }
+{
+    emitter.emit(Instr::Neck)?;
+    Ok(())
+}
