@@ -30,3 +30,7 @@ pub mod Programs
 pub mod Starts
 pub mod Growing
 pub mod Opening
+pub mod LaterIndex
+pub mod Stacking
+pub mod AppliedGoals
+pub mod Restored

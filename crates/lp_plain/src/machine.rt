@@ -1,12 +1,15 @@
 // What a search works on: one bank and one list of bindings for all branches. An alternative holds what leads back to
 // its branch.
-ghost use Rattle.std.specs.Prelude.{◌≡◌, ◌++◌, List, OnOk, IfOk, IfSome, length, nat_lt, take, slice_get};
+ghost use Rattle.std.specs.Prelude.{◌≡◌, ◌∷◌, ◌++◌, [], List, OnOk, IfOk, IfSome, length, nat_lt, take, slice_get, Some};
+ghost use Rattle.lp_plain.specs.declared.choice.Choice.{Choice};
 ghost use Rattle.lp_model.specs.Branch.{Entry};
 ghost use Rattle.lp_model.specs.Flat.{Goal};
 ghost use Rattle.lp_plain.specs.Cuts.{cut_off};
 ghost use Rattle.lp_plain.specs.Entries.{Around, AreTodo, IsListAt, HasAlternative, KeepsGoals, Reads, placed};
 ghost use Rattle.lp_plain.specs.Keeping.{HasOneMore, IsAround, KeepsCourse};
 ghost use Rattle.lp_plain.specs.Opening.{IsNewVariable};
+ghost use Rattle.lp_plain.specs.Restoring.{IsRestored, IsTaken};
+ghost use Rattle.lp_plain.specs.Scopes.{block_count, blocks_of, value_count};
 ghost use Rattle.lp_plain.specs.Tables.{shown};
 ghost use Rattle.lp_plain.specs.Within.{IsTodoIn, StandsIn};
 
@@ -95,7 +98,7 @@ impl Machine {
         ensures course { KeepsCourse self.old self.new }
         ensures goals { OnOk result (KeepsGoals self.old self.new) }
         ensures stands { OnOk result (IsTodoIn (length self.old.bank.terms) todo → StandsIn self.old → StandsIn self.new) }
-        ensures reads { IfOk result (λ o. (a : Around) (gs : List Goal) (es : List Entry) → AreTodo self.old.bank (shown self.old.table) self.old.scopes place todo gs → Reads self.old a behind es → Reads self.new a o (placed a place gs ++ es)) }
+        ensures reads { IfOk result (λ o. (a : Around) (gs : List Goal) (es : List Entry) → AreTodo self.old.bank (shown self.old.table) (blocks_of self.old.scopes) place todo gs → Reads self.old a behind es → Reads self.new a o (placed a place gs ++ es)) }
     {
         let number = self.frames.len();
         self.frames.push(Frame {
@@ -151,7 +154,11 @@ impl Machine {
         )
     }
 
-    fn lengths(&self) -> Lengths {
+    fn lengths(&self) -> Lengths
+        ensures frames { result.frames ≡ length self.now.frames.items }
+        ensures blocks { result.scopes.blocks ≡ block_count self.now.scopes }
+        ensures values { result.scopes.values ≡ value_count self.now.scopes }
+    {
         Lengths {
             frames: self.frames.len(),
             assumptions: self.assumptions.len(),
@@ -195,7 +202,9 @@ impl Machine {
     }
 
     // Goes back to the branch of an alternative.
-    fn restore(&mut self, choice: &Choice) -> Result<(), Memory> {
+    fn restore(&mut self, choice: &Choice) -> Result<(), Memory>
+        ensures { OnOk result (IsRestored self.old self.new choice.now) }
+    {
         self.bindings.undo(choice.bindings);
         self.frames.truncate(choice.lengths.frames);
         self.assumptions.truncate(choice.lengths.assumptions);
@@ -210,7 +219,9 @@ impl Machine {
     }
 
     /// Takes the newest alternative: goes back to its branch, and gives what was left to try.
-    pub(crate) fn take_choice(&mut self) -> Result<Option<Untried>, Memory> {
+    pub(crate) fn take_choice(&mut self) -> Result<Option<Untried>, Memory>
+        ensures { IfOk result (λ o. (c : Choice) (rest : List Choice) → self.old.choices.items ≡ rest ++ c ∷ [] → (o ≡ Some c.untried) × IsTaken self.old self.new c rest) }
+    {
         let Some(choice) = self.choices.pop() else {
             return Ok(None);
         };
@@ -247,6 +258,7 @@ impl Machine {
 
     /// Keeps only the oldest alternatives.
     pub(crate) fn cut(&mut self, mark: usize)
+        ensures denied { self.new.denied ≡ self.old.denied }
         ensures choices { self.new.choices.items ≡ take mark self.old.choices.items }
         ensures counts { self.new.counts ≡ cut_off self.old.counts (nat_lt mark (length self.old.choices.items)) }
         ensures branch { self.new.branch ≡ self.old.branch }

@@ -1,20 +1,22 @@
 // Goals that are taken apart.
-ghost use Rattle.std.specs.Prelude.{◌≡◌, ℕ, List, IfOk, OnOk};
-ghost use Rattle.lp_calculus.specs.Term.{Term};
+ghost use Rattle.std.specs.Prelude.{◌≡◌, ℕ, ◌<◌, List, [], ◌∷◌, ◌++◌, length, IfOk, OnOk};
+ghost use Rattle.lp_calculus.specs.Term.{Term, app};
 ghost use Rattle.lp_calculus.specs.Types.{Ty};
+ghost use Rattle.lp_standard.specs.Connectives.{body_of};
 ghost use Rattle.lp_standard.specs.Connectives as two_sided;
 ghost use Rattle.lp_term.specs.Nodes.{tree};
 ghost use Rattle.lp_term.specs.declared.node.TermId.{TermId};
+ghost use Rattle.lp_term.specs.declared.node.TypeId.{TypeId};
 ghost use Rattle.lp_model.specs.declared.connective.Connective.TheVariants as known;
-ghost use Rattle.lp_model.specs.Branch.{Branch};
-ghost use Rattle.lp_model.specs.Connected.{connective_in};
-ghost use Rattle.lp_model.specs.Flat.{Goal, Goals, Clause, Either, Exists, Forall};
+ghost use Rattle.lp_model.specs.Branch.{Branch, Entry};
+ghost use Rattle.lp_model.specs.Connected.{IsConnectiveIn, connective_in};
+ghost use Rattle.lp_model.specs.Flat.{Goal, Goals, Clause, Atomic, Either, Exists, Forall};
 ghost use Rattle.lp_model.specs.Index.{lifted};
 ghost use Rattle.lp_model.specs.Search.{look_goal, look_form};
 ghost use Rattle.lp_plain.specs.declared.outcome.Turn.{Turn};
 ghost use Rattle.lp_plain.specs.declared.table.Flat.{Flat};
 ghost use Rattle.lp_plain.specs.Apart.{IsApart};
-ghost use Rattle.lp_plain.specs.Entries.{Around, ArePartsOf, IsBehind, IsOf, entry_at, in_scope};
+ghost use Rattle.lp_plain.specs.Entries.{Around, ArePartsOf, GoesOnWith, HeadsTo, IsBehind, IsOf, Reads, entry_at, in_scope, placed};
 ghost use Rattle.lp_plain.specs.Opening.{IsBoundBy, IsNewVariable, IsRaised};
 ghost use Rattle.lp_plain.specs.Within.{StandsIn};
 
@@ -299,10 +301,45 @@ fn put_goal_of(
     place: Place,
     behind: Option<usize>,
 ) -> Result<(), Memory>
-    ensures { machine.new.counts ≡ machine.old.counts }
+    ensures counts { machine.new.counts ≡ machine.old.counts }
+    ensures front { OnOk result ((a : Around) (es : List Entry) (v : Term) → StandsIn machine.old → HeadsTo (app (tree machine.old.bank term.0) (tree machine.old.bank value.0)) v → Reads machine.old a behind es →
+        GoesOnWith machine.old machine.new a (placed a place (Atomic v ∷ []) ++ es)) }
 {
     let goal = put_applied(&mut machine.bank, term, value)?;
-    machine.branch.goals = machine.put_frame(Todo::Term(goal), place, behind)?;
+    let front = machine.put_frame(Todo::Term(goal), place, behind)?;
+    machine.branch.goals = front;
+    Ok(())
+}
+
+// A `pi` of a term at the next eigenconstant.
+fn put_for_all(
+    machine: &mut Machine,
+    term: TermId,
+    place: Place,
+    behind: Option<usize>,
+) -> Result<(), Memory>
+    ensures counts { machine.new.counts ≡ machine.old.counts }
+    ensures parts { OnOk result ((a : Around) (b : Branch) → StandsIn machine.old → term.0 < length machine.old.bank.terms → IsBehind machine.old a behind b → (u n height : ℕ) (P : List Clause) (t : Term) (g : Goal) (T : Ty) →
+        ArePartsOf machine.old machine.new a (look_form u n P height (entry_at a place g) b t (two_sided.ForAll T (body_of (tree machine.old.bank term.0))))) }
+{
+    let (above, eigen) = raised(machine, place)?;
+    put_goal_of(machine, term, eigen, above, behind)?;
+    Ok(())
+}
+
+// A `sigma` of a term at a new variable.
+fn put_exists(
+    machine: &mut Machine,
+    term: TermId,
+    place: Place,
+    behind: Option<usize>,
+) -> Result<(), Memory>
+    ensures counts { machine.new.counts ≡ machine.old.counts }
+    ensures parts { OnOk result ((a : Around) (b : Branch) → StandsIn machine.old → term.0 < length machine.old.bank.terms → IsBehind machine.old a behind b → (u n height : ℕ) (P : List Clause) (t : Term) (g : Goal) (T : Ty) →
+        ArePartsOf machine.old machine.new a (look_form u n P height (entry_at a place g) b t (two_sided.Exists T (body_of (tree machine.old.bank term.0))))) }
+{
+    let variable = opened(machine, place.level)?;
+    put_goal_of(machine, term, variable, place, behind)?;
     Ok(())
 }
 
@@ -318,6 +355,12 @@ pub(crate) fn put_connective(
         ArePartsOf machine.old machine.new a (look_form u n P height (entry_at a place g) b t (connective_in machine.old.bank connective))) }
     ensures or { IfOk result (λ turn. turn ≡ Turn.On → (l r : TermId) → connective ≡ known.Or l r → (a : Around) (b : Branch) → IsBehind machine.old a behind b → (u n height : ℕ) (P : List Clause) (t : Term) (g : Goal) →
         ArePartsOf machine.old machine.new a (look_form u n P height (entry_at a place g) b t (connective_in machine.old.bank connective))) }
+    ensures truth { IfOk result (λ turn. turn ≡ Turn.On → connective ≡ known.True → (a : Around) (b : Branch) → IsBehind machine.old a behind b → (u n height : ℕ) (P : List Clause) (t : Term) (g : Goal) →
+        ArePartsOf machine.old machine.new a (look_form u n P height (entry_at a place g) b t (connective_in machine.old.bank connective))) }
+    ensures forall { IfOk result (λ turn. turn ≡ Turn.On → (of : TypeId) (s : TermId) → connective ≡ known.ForAll of s → (a : Around) (b : Branch) → StandsIn machine.old → IsConnectiveIn machine.old.bank connective → IsBehind machine.old a behind b → (u n height : ℕ) (P : List Clause) (t : Term) (g : Goal) →
+        ArePartsOf machine.old machine.new a (look_form u n P height (entry_at a place g) b t (connective_in machine.old.bank connective))) }
+    ensures exists { IfOk result (λ turn. turn ≡ Turn.On → (of : TypeId) (s : TermId) → connective ≡ known.Exists of s → (a : Around) (b : Branch) → StandsIn machine.old → IsConnectiveIn machine.old.bank connective → IsBehind machine.old a behind b → (u n height : ℕ) (P : List Clause) (t : Term) (g : Goal) →
+        ArePartsOf machine.old machine.new a (look_form u n P height (entry_at a place g) b t (connective_in machine.old.bank connective))) }
 {
     if !take_apart(machine) {
         return Ok(Turn::Ended(Ending::Deep));
@@ -332,16 +375,18 @@ pub(crate) fn put_connective(
             Ok(Turn::On)
         }
         Connective::ForAll(_, term) => {
-            let (above, eigen) = raised(machine, place)?;
-            put_goal_of(machine, term, eigen, above, behind)?;
+            put_for_all(machine, term, place, behind)?;
             Ok(Turn::On)
         }
         Connective::Exists(_, term) => {
-            let variable = opened(machine, place.level)?;
-            put_goal_of(machine, term, variable, place, behind)?;
+            put_exists(machine, term, place, behind)?;
             Ok(Turn::On)
         }
-        _ => {
+        Connective::True => {
+            machine.branch.goals = behind;
+            Ok(Turn::On)
+        }
+        Connective::Cut | Connective::Implies(_, _) | Connective::Not(_) | Connective::Atomic => {
             machine.branch.goals = behind;
             Ok(Turn::On)
         }

@@ -2,10 +2,11 @@ use Rattle.std.proofs.Common.{◌∙◌, refl, ap, take, length}
 use Rattle.std.specs.Prelude.{nat_lt}
 use Rattle.lp_plain.specs.Cuts.{one_step, cut_off}
 use Rattle.lp_plain.proofs.Frames.{reads_on, keeps_then}
+use Rattle.lp_plain.proofs.Stacking.{cut_tasks}
 use Rattle.lp_plain.proofs.atomic.take_cut.Goals as goal
 
-pub returns : goal.returns
-returns g c =
+pub returns-clause-cuts : goal.returns-clause-cuts
+returns-clause-cuts g c =
     let m = c.args.machine.now in
     let s = c.if-not-take_step.ensures in
     let k = c.args.place.mark in
@@ -18,3 +19,11 @@ returns g c =
         next_type = ap (λ z. z.next_type) (c.cut.ensures.branch ∙ s.branch) ∙ w.next_type;
       };
     }
+
+pub returns-clause-tasks : goal.returns-clause-tasks
+returns-clause-tasks g c = λ e tss keep h i.
+    let m = c.args.machine.now in
+    let s = c.if-not-take_step.ensures in
+    let k = c.args.place.mark in
+    let counts = c.cut.ensures.counts ∙ ap (λ z. cut_off z (nat_lt k (length c.take_step.new.machine.choices.items))) (s.counts refl) ∙ ap (λ z. cut_off (one_step m.counts) (nat_lt k (length z.items))) s.choices in
+    cut_tasks m c.cut.new.self k keep tss (c.cut.ensures.denied ∙ s.denied) (c.cut.ensures.choices ∙ ap (λ z. take k z.items) s.choices) (ap (λ z. z.lost) counts) h i

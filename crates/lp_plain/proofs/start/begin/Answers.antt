@@ -1,5 +1,10 @@
 use Rattle.std.proofs.Common.{◌≡◌, [], ◌++◌, map, reverse, length, refl, sym, ap, ◌∙◌, subst, arith}
+use Rattle.std.specs.Prelude.{nat_eq}
+use Rattle.std.specs.HashMap.{get}
 use Rattle.lp_lemmas.proofs.Elements.{All_empty}
+use Rattle.lp_pattern.proofs.Keeps.{goes_on_same}
+use Rattle.lp_plain.specs.Candidates.{IsIndex, numbers}
+use Rattle.lp_plain.proofs.LaterIndex.{index_later}
 use Rattle.lp_term.specs.Nodes.{tree}
 use Rattle.lp_model.specs.Flat.{goal_list}
 use Rattle.lp_model.specs.Search.{vars_from}
@@ -9,6 +14,7 @@ use Rattle.lp_plain.specs.Starts.{AreProgramOf, query_values}
 use Rattle.lp_plain.specs.Within.{IsTodoIn}
 use Rattle.lp_plain.proofs.Later.{list_later, rules_later, table_later}
 use Rattle.lp_plain.proofs.Programs.{program_on}
+use Rattle.lp_plain.proofs.Scoped.{scope_whole}
 use Rattle.lp_plain.proofs.Starts.{outside_entries, query_values_are, variables_are_values}
 use Rattle.lp_plain.proofs.start.begin.Goals as goal
 
@@ -57,9 +63,20 @@ returns-clause-starts c = λ l n k flat h a o answers.
         goals =
             subst (Reads c.put_list.new.self a c.in_ok-front.front) (outside_entries a p σ flat o c.in_ok-place.ensures.outside)
             (f.reads a (goal_list (in_scope σ p.values.types flat)) []
-            (flat, σ, list_later b d v.kept t m.within list flat (m.query l n k flat h), (reverse ts, c.in_ok-place.ensures.scope, query_values_are d ts count trees), refl) (no_frame refl refl));
+            (flat, σ, list_later b d v.kept t m.within list flat (m.query l n k flat h), (reverse ts, scope_whole c.query_place.new.scopes p.values.scope (reverse ts) c.in_ok-place.ensures.scope, query_values_are d ts count trees), refl) (no_frame refl refl));
         next = ap (λ z. z.next) f.course.branch ∙ e;
         next_type = ap (λ z. z.next_type) f.course.branch;
       },
       f.course.choices ∙ c.new-choices.ensures.items,
     )
+
+pub returns-clause-index : goal.returns-clause-index
+returns-clause-index c =
+    let b = c.put_all.new.bank in
+    let d = c.query_variables.new.bank in
+    let m = c.in_ok-made.ensures in
+    let known = c.in_ok-front.ensures.goals.known in
+    let ks = numbers c.in_ok-made.made.spans.items in
+    subst (λ z. IsIndex z c.put_list.new.self.table.rules.items (λ k. get nat_eq c.put_list.new.self.index k) ks) (sym known.bank)
+    (subst (λ z. IsIndex d z.rules.items (λ k. get nat_eq c.put_list.new.self.index k) ks) (sym known.table)
+    (subst (λ z. IsIndex d c.in_ok-made.made.table.rules.items (λ k. get nat_eq z k) ks) (sym known.index) (index_later b d c.in_ok-made.made.table.rules.items c.in_ok-made.made.table.rules.items _ ks c.in_ok-variables.ensures.kept (goes_on_same c.in_ok-made.made.table.rules.items) m.within.rules m.ends m.index)))

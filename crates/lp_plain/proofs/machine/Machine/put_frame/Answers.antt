@@ -3,6 +3,7 @@ use Rattle.lp_lemmas.proofs.Elements.{All_pushed}
 use Rattle.lp_plain.specs.declared.frame.Frame.{Frame}
 use Rattle.lp_plain.specs.Entries.{AreEntries, placed}
 use Rattle.lp_plain.specs.Tables.{shown}
+use Rattle.lp_plain.specs.Scopes.{blocks_of}
 use Rattle.lp_plain.specs.Within.{IsTodoIn}
 use Rattle.lp_plain.proofs.Frames.{frame_put}
 use Rattle.lp_plain.proofs.machine.Machine.put_frame.Goals as goal
@@ -12,8 +13,8 @@ returns-clause-reads c = λ a gs es h r.
     let m = c.args.self.now in
     let p = c.args.place in
     let n : c.len-number.result ≡ length m.frames.items = omega (arith, c.len-number.ensures, m.frames.ok) in
-    subst (λ k. AreEntries m.bank (shown m.table) m.scopes a c.push.new.self.items (Some k) (placed a p gs ++ es)) (sym n)
-    (frame_put m.bank (shown m.table) m.scopes a m.frames.items c.push.new.self.items (record { todo = c.args.todo; place = p; behind = c.args.behind }) gs es c.in_ok-push.ensures.items h r)
+    subst (λ k. AreEntries m.bank (shown m.table) (blocks_of m.scopes) a c.push.new.self.items (Some k) (placed a p gs ++ es)) (sym n)
+    (frame_put m.bank (shown m.table) (blocks_of m.scopes) a m.frames.items c.push.new.self.items (record { todo = c.args.todo; place = p; behind = c.args.behind }) gs es c.in_ok-push.ensures.items h r)
 
 pub returns-clause-stands : goal.returns-clause-stands
 returns-clause-stands c = λ t i.

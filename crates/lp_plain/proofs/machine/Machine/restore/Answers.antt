@@ -1,0 +1,17 @@
+use Rattle.std.proofs.Common.{refl, ◌∙◌}
+use Rattle.lp_plain.proofs.machine.Machine.restore.Goals as goal
+
+pub returns : goal.returns
+returns c = record {
+  frames = c.truncate.ensures.items;
+  blocks = c.undo-2.ensures.taken.0;
+  values = c.undo-2.ensures.taken.1;
+  bank = refl;
+  table = refl;
+  next = refl;
+  next_type = refl;
+  pairs = c.in_ok-from_slice.ensures.items ∙ c.as_slice.ensures.value;
+  choices = refl;
+  counts = refl;
+  denied = refl;
+}
