@@ -4,6 +4,7 @@ use Rattle.lp_calculus.specs.Convert.{head_step, steps}
 use Rattle.lp_calculus.specs.Term.{Term, index, atom, abs, app, shift, substitute, eigen, logic}
 use Rattle.lp_calculus.specs.Types.{Ty}
 use Rattle.lp_calculus.proofs.Commutations.{substitute_shift}
+use Rattle.lp_calculus.proofs.Plain.{shift-none}
 use Rattle.lp_standard.specs.Connectives.{body_of}
 use Rattle.lp_standard.specs.Connectives as connective
 use Rattle.lp_term.specs.Nodes.{tree}
@@ -22,17 +23,17 @@ use Rattle.lp_plain.proofs.Frames.{keeps_then, reads_on}
 use Rattle.lp_plain.proofs.Growing.{reads_later}
 
 shifted_back : (t u : Term) → app t u ≡ substitute u (app (shift 0 1 t) (index 0))
-shifted_back t u = ap (λ s. app s u) (sym (substitute_shift u t))
+shifted_back t u = λ i. app (sym (substitute_shift u t) i) (sym (shift-none u) i)
 
 -- by one step where the term is an abstraction, else by none
 pub applied_body : (t u : Term) → HeadsTo (app t u) (substitute u (body_of t))
 applied_body (abs b) u = (1, refl)
 applied_body (index i) u = (0, ap Some (shifted_back (index i) u))
-applied_body (atom a) u = (0, refl)
+applied_body (atom a) u = (0, ap (λ x. Some (app (atom a) x)) (sym (shift-none u)))
 applied_body (app t v) u = (0, ap Some (shifted_back (app t v) u))
 
 -- in front of the goals behind it
-FrontOf : Machine → Machine → Place → (behind : Option ℕ) → (term value : TermId) → Type 0
+abbrev pub FrontOf : Machine → Machine → Place → (behind : Option ℕ) → (term value : TermId) → Type 0
 FrontOf n q p behind s t = (a : Around) (es : List Entry) (v : Term) → StandsIn n → HeadsTo (app (tree n.bank s.0) (tree n.bank t.0)) v → Reads n a behind es → GoesOnWith n q a (placed a p (Atomic v ∷ []) ++ es)
 
 one_entry : (v : Term) (A B : List Clause) (w x : Written) (l m j k : ℕ) → A ≡ B → w ≡ x → l ≡ m → j ≡ k → (es : List Entry) →

@@ -17,7 +17,7 @@ use Rattle.lp_plain.specs.declared.frame.Todo.{Todo}
 use Rattle.lp_plain.specs.declared.machine.Machine.{Machine}
 use Rattle.lp_plain.specs.declared.scope.Block.{Block}
 use Rattle.lp_plain.specs.declared.table.Table.{Table}
-use Rattle.lp_plain.specs.Entries.{Around, AreAt, IsAt, AreTodo, AreEntries, no_frame, a_frame, HeadsTo, IsOf, GrowsGoals, KeepsGoals, Reads, in_scope}
+use Rattle.lp_plain.specs.Entries.{Around, AreAt, HasValues, IsAt, AreTodo, AreEntries, no_frame, a_frame, HeadsTo, IsOf, GrowsGoals, KeepsGoals, Reads, in_scope}
 use Rattle.lp_plain.specs.Instances.{AreValues}
 use Rattle.lp_plain.specs.Scopes.{Blocks, Holds, outermost, inside, blocks_of}
 use Rattle.lp_plain.specs.Tables.{shown, IsListOf}
@@ -27,7 +27,7 @@ use Rattle.lp_plain.proofs.Later.{goals_later, list_later, table_later}
 use Rattle.lp_plain.proofs.Scoped.{holds_more}
 use Rattle.lp_plain.proofs.Within.{all_at}
 
-all_taken : {X : Type 0} (P : X → Type 0) (n : ℕ) (xs : List X) → All P xs → All P (take n xs)
+pub all_taken : {X : Type 0} (P : X → Type 0) (n : ℕ) (xs : List X) → All P xs → All P (take n xs)
 all_taken P zero xs a = All-nil P
 all_taken P (suc n) [] a = a
 all_taken P (suc n) (x ∷ xs) a = All-cons P x (take n xs) (All-head P x xs a) (all_taken P n xs (All-tail P x xs a))
@@ -54,12 +54,15 @@ module _ (b d : Nodes) (x : Extends b d) where
       (λ t h. ((let m = x.more_terms in let l = h.0 in omega (arith, l, m)), subst (LooseBelow 0 0) (sym (x.same_terms t.0 h.0)) h.1)) vs a
 
   module _ (s z : Blocks) (a : AreValues b s.values) (kb : GoesOn s.blocks z.blocks) (kv : GoesOn s.values z.values) where
-    pub place_later : (p : Place) (σ : ℕ → Term) → IsAt b s p σ → IsAt d z p σ
-    place_later p σ h =
+    pub scope_later : (o : Option ℕ) (σ : ℕ → Term) → HasValues b s o σ → HasValues d z o σ
+    scope_later o σ h =
         let vs = h.0 in
         (vs,
-          subst (λ bs. Holds z.values bs p.values.scope vs) (sym kb.1) (subst (λ us. Holds us (s.blocks ++ kb.0) p.values.scope vs) (sym kv.1) (holds_more s.values kv.0 s.blocks kb.0 p.values.scope vs h.1)),
-          at_later vs σ (scope_all (λ (t : TermId). (t.0 < length b.terms) × LooseBelow 0 0 (tree b t.0)) s.values s.blocks p.values.scope vs a h.1) h.2)
+          subst (λ bs. Holds z.values bs o vs) (sym kb.1) (subst (λ us. Holds us (s.blocks ++ kb.0) o vs) (sym kv.1) (holds_more s.values kv.0 s.blocks kb.0 o vs h.1)),
+          at_later vs σ (scope_all (λ (t : TermId). (t.0 < length b.terms) × LooseBelow 0 0 (tree b t.0)) s.values s.blocks o vs a h.1) h.2)
+
+    pub place_later : (p : Place) (σ : ℕ → Term) → IsAt b s p σ → IsAt d z p σ
+    place_later p σ h = scope_later p.values.scope σ h
 
     module _ (t : Table) (i : IsTableIn (length b.terms) t) where
       todo_later : (p : Place) (w : Todo) (gs : List Goal) → IsTodoIn (length b.terms) w → AreTodo b (shown t) s p w gs → AreTodo d (shown t) z p w gs

@@ -28,7 +28,7 @@ spans_below [] m a = All-nil (λ k. k < m)
 spans_below (s ∷ ss) m a =
     All-append (λ k. k < m) (numbers_in s) (numbers ss) (span_below s m (All-head (λ (s : Span). s.to ≤ m) s ss a)) (spans_below ss m (All-tail (λ (s : Span). s.to ≤ m) s ss a))
 
-chain_longer : (xs ys : List (Option ℕ)) (o : Option ℕ) (ks : List ℕ) → IsChain xs o ks → IsChain (xs ++ ys) o ks
+pub chain_longer : (xs ys : List (Option ℕ)) (o : Option ℕ) (ks : List ℕ) → IsChain xs o ks → IsChain (xs ++ ys) o ks
 chain_longer xs ys o [] h = h
 chain_longer xs ys o (k ∷ ks) h = (h.0, h.1, get_append xs ys k h.0 h.2, chain_longer xs ys h.0 ks h.3)
 

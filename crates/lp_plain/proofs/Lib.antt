@@ -34,3 +34,6 @@ pub mod LaterIndex
 pub mod Stacking
 pub mod AppliedGoals
 pub mod Restored
+pub mod Assumed
+pub mod Assuming
+pub mod Trying

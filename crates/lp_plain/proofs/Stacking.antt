@@ -3,11 +3,12 @@ use Rattle.std.proofs.Common.{◌≡◌, ℕ, zero, suc, ◌+◌, ◌-◌, ◌<�
 use Rattle.std.specs.Prelude.{All, ◌||◌}
 use Rattle.std.proofs.lemmas.Bool.Decides.{nat_tests}
 use Rattle.std.proofs.lemmas.List.{length-append}
-use Rattle.std.proofs.lemmas.List.Elements.{All-nil, All-cons, All-head, All-tail}
+use Rattle.std.proofs.lemmas.List.Elements.{All-head, All-tail}
 use Rattle.lp_model.specs.Branch.{Task}
 use Rattle.lp_model.specs.Skeleton.{oldest}
 use Rattle.lp_plain.specs.declared.choice.Choice.{Choice}
 use Rattle.lp_plain.specs.declared.machine.Machine.{Machine}
+use Rattle.lp_plain.proofs.Growing.{all_taken}
 use Rattle.lp_plain.specs.Stacks.{stack_of, base_of, HaveTasks, up_to_mark, IsMarkOf, CutsTasks}
 
 dropped_front : {X : Type 0} (xs ys : List X) (n : ℕ) → n ≡ length xs → drop n (xs ++ ys) ≡ ys
@@ -66,11 +67,6 @@ kept_lost k tss a =
     let r = is_below k tss a in
     let n = ap length r.whole ∙ length-append r.above (stack_of (take k tss)) in
     less_same k (length tss) (length (stack_of (take k tss))) (length (stack_of tss)) (λ l. let m = r.more l in omega (arith, n, m)) (λ l. let m = r.none l in omega (arith, n, m))
-
-all_taken : {X : Type 0} (P : X → Type 0) (n : ℕ) (xs : List X) → All P xs → All P (take n xs)
-all_taken P zero xs a = All-nil P
-all_taken P (suc n) [] a = a
-all_taken P (suc n) (x ∷ xs) a = All-cons P x (take n xs) (All-head P x xs a) (all_taken P n xs (All-tail P x xs a))
 
 taken_count : {X Y : Type 0} (b : ℕ) (mark : ℕ) (tss : List X) (cs : List Y) → b ≤ mark → b + length tss ≡ length cs → b + length (take (mark - b) tss) ≡ length (take mark cs)
 taken_count b mark tss cs l e = let p = short (mark - b) tss in let q = short mark cs in omega (arith, l, e, p, q)

@@ -38,9 +38,13 @@ placed a p gs = entries gs (a.assumed p.assumed) (a.written p.standing) p.level 
 abbrev pub AreAt : Nodes → List TermId → (ℕ → Term) → Type 0
 AreAt b vs σ = (i : ℕ) (v : TermId) → slice_get vs i ≡ Some v → tree b v.0 ≡ σ i
 
--- the values of a place are these terms; what has no value there is not told
+-- the values of a scope are these terms; what has no value there is not told
+abbrev pub HasValues : Nodes → Blocks → (scope : Option ℕ) → (ℕ → Term) → Type 0
+HasValues b s o σ = (vs : List TermId) × Holds s.values s.blocks o vs × AreAt b vs σ
+
+-- so are those of a place
 abbrev pub IsAt : Nodes → Blocks → Place → (ℕ → Term) → Type 0
-IsAt b s p σ = (vs : List TermId) × Holds s.values s.blocks p.values.scope vs × AreAt b vs σ
+IsAt b s p σ = HasValues b s p.values.scope σ
 
 -- head reduction leads from the one term to the other, and on from there
 abbrev pub HeadsTo : Term → Term → Type 0

@@ -4,6 +4,7 @@ ghost use Rattle.std.specs.Prelude.{◌≡◌, ◌∷◌, ◌++◌, [], List, On
 ghost use Rattle.lp_plain.specs.declared.choice.Choice.{Choice};
 ghost use Rattle.lp_model.specs.Branch.{Entry};
 ghost use Rattle.lp_model.specs.Flat.{Goal};
+ghost use Rattle.lp_plain.specs.Assuming.{HasFrameAt, KeepsAssumed};
 ghost use Rattle.lp_plain.specs.Cuts.{cut_off};
 ghost use Rattle.lp_plain.specs.Entries.{Around, AreTodo, IsListAt, HasAlternative, KeepsGoals, Reads, placed};
 ghost use Rattle.lp_plain.specs.Keeping.{HasOneMore, IsAround, KeepsCourse};
@@ -78,6 +79,8 @@ impl Machine {
     ) -> Result<Option<usize>, Memory>
         ensures course { KeepsCourse self.old self.new }
         ensures goals { OnOk result (KeepsGoals self.old self.new) }
+        ensures assumed { OnOk result (KeepsAssumed self.old self.new) }
+        ensures frame { OnOk result (HasFrameAt self.old self.new place) }
         ensures stands { OnOk result (StandsIn self.old → StandsIn self.new) }
         ensures reads { IfOk result (λ o. (a : Around) (gs : List Goal) (es : List Entry) → IsListAt self.old place list gs → Reads self.old a behind es → Reads self.new a o (placed a place gs ++ es)) }
     {
@@ -97,6 +100,8 @@ impl Machine {
     ) -> Result<Option<usize>, Memory>
         ensures course { KeepsCourse self.old self.new }
         ensures goals { OnOk result (KeepsGoals self.old self.new) }
+        ensures assumed { OnOk result (KeepsAssumed self.old self.new) }
+        ensures frame { OnOk result (HasFrameAt self.old self.new place) }
         ensures stands { OnOk result (IsTodoIn (length self.old.bank.terms) todo → StandsIn self.old → StandsIn self.new) }
         ensures reads { IfOk result (λ o. (a : Around) (gs : List Goal) (es : List Entry) → AreTodo self.old.bank (shown self.old.table) (blocks_of self.old.scopes) place todo gs → Reads self.old a behind es → Reads self.new a o (placed a place gs ++ es)) }
     {
@@ -174,6 +179,7 @@ impl Machine {
         ensures frames { self.new.frames ≡ self.old.frames }
         ensures course { KeepsCourse self.old self.new }
         ensures goals { KeepsGoals self.old self.new }
+        ensures assumed { KeepsAssumed self.old self.new }
     {
         self.acts.push(act)?;
         Ok(())

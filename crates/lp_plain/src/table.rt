@@ -96,8 +96,13 @@ impl Table {
     }
 
     /// The clause of a number.
-    pub(crate) fn rule(&self, number: usize) -> Result<&Rule, Memory> {
-        self.rules.get(number).ok_or(Memory)
+    pub(crate) fn rule(&self, number: usize) -> Result<&Rule, Memory>
+        ensures { IfOk result (λ rule. slice_get self.now.rules.items number ≡ Some rule.now) }
+    {
+        match self.rules.get(number) {
+            Some(rule) => Ok(rule),
+            None => Err(Memory),
+        }
     }
 
     /// What is written in goals or clauses, by its number.

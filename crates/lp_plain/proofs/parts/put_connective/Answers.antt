@@ -5,7 +5,6 @@ use Rattle.lp_term.specs.Nodes.{type_tree}
 use Rattle.lp_model.specs.Connected.{IsConnectiveIn, connective_in}
 use Rattle.lp_model.specs.Search.{look_form}
 use Rattle.lp_plain.specs.Entries.{ArePartsOf, entry_at}
-use Rattle.lp_pattern.proofs.Keeps.{goes_on_same}
 use Rattle.lp_plain.proofs.AppliedGoals.{term_apart, true_apart}
 use Rattle.lp_plain.proofs.Taken.{and_apart, or_apart}
 use Rattle.lp_plain.proofs.parts.put_connective.Goals as goal
@@ -41,4 +40,7 @@ returns-in_ok-put_exists-in-Exists-clause-exists c = λ e of s i a b st l w u n 
 pub returns-in-True-clause-truth : goal.returns-in-True-clause-truth
 returns-in-True-clause-truth c = λ e i a b w u n height P t g.
     let m = c.args.machine.now in
-    subst (λ z. ArePartsOf m _ a (look_form u n P height (entry_at a c.args.place g) b t (connective_in m.bank z))) (sym c.in-True.is) (true_apart m c.take_apart.new.machine _ c.args.behind (c.if-not-take_apart.ensures.apart refl) (record { known = record { bank = refl; bindings = refl; scopes = refl; table = refl; standings = refl; index = refl }; frames = goes_on_same c.take_apart.new.machine.frames.items }) refl refl refl refl a b w)
+    let q = c.go_behind-in-True.new.machine in
+    let s = c.go_behind-in-True.ensures in
+    subst (λ z. ArePartsOf m q a (look_form u n P height (entry_at a c.args.place g) b t (connective_in m.bank z))) (sym c.in-True.is)
+    (true_apart m c.take_apart.new.machine q c.args.behind (c.if-not-take_apart.ensures.apart refl) s.known s.goals s.next s.next_type s.choices a b w)

@@ -1,9 +1,7 @@
-use Rattle.std.proofs.Common.{[], ◌∷◌, refl, ap}
+use Rattle.std.proofs.Common.{[], ◌∷◌, ◌∙◌, refl, ap, subst, sym}
 use Rattle.lp_model.specs.Flat.{Atomic}
 use Rattle.lp_plain.specs.Entries.{HeadsTo}
-use Rattle.std.proofs.Common.{subst, sym}
 use Rattle.lp_plain.proofs.Growing.{reads_later}
-use Rattle.lp_plain.proofs.Opening.{bank_grows}
 use Rattle.lp_plain.proofs.parts.put_goal_of.Goals as goal
 
 pub returns-clause-front : goal.returns-clause-front
@@ -12,8 +10,8 @@ returns-clause-front c = λ a es v i h r.
     let p = c.in_ok-goal.ensures in
     let f = c.in_ok-front.ensures in
     record {
-      goals = f.reads a (Atomic v ∷ []) es (v, subst (λ z. HeadsTo z v) (sym p.tree) h, refl) (reads_later m _ i (bank_grows m _ p.kept refl refl refl) a c.args.behind es r);
-      next = ap (λ b. b.next) f.course.branch;
-      next_type = ap (λ b. b.next_type) f.course.branch;
-      choices = f.course.choices;
+      goals = f.reads a (Atomic v ∷ []) es (v, subst (λ z. HeadsTo z v) (sym p.tree) h, refl) (reads_later m c.applied.new.machine i p.grows a c.args.behind es r);
+      next = ap (λ b. b.next) (f.course.branch ∙ p.course.branch);
+      next_type = ap (λ b. b.next_type) (f.course.branch ∙ p.course.branch);
+      choices = f.course.choices ∙ p.course.choices;
     }

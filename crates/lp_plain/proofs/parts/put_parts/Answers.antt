@@ -1,6 +1,8 @@
 use Rattle.std.proofs.Common.{◌≡◌, refl, subst}
-use Rattle.lp_model.specs.Flat.{Exists, Forall}
+use Rattle.lp_model.specs.Flat.{Exists, Forall, collect_clauses}
 use Rattle.lp_plain.specs.Entries.{IsOf}
+use Rattle.lp_plain.specs.Tables.{AreClausesOf, IsNumbered, shown}
+use Rattle.lp_plain.proofs.Assuming.{assume_apart}
 use Rattle.lp_plain.proofs.Opening.{quantified_apart}
 use Rattle.lp_plain.proofs.Taken.{either_apart}
 use Rattle.lp_plain.proofs.parts.put_parts.Goals as goal
@@ -32,3 +34,14 @@ returns-in_ok-put_all-in-All-clause-all c = λ e l i a hs σ b s x w u n height 
     let q : l ≡ c.in-All.goals = cc in
     quantified_apart Forall m c.take_apart.new.machine c.put_all.new.machine p c.in-All.goals c.args.behind (c.if-not-take_apart.ensures.apart refl) c.in_ok-put_all-in-All.ensures.parts a hs σ b s (subst (λ z. IsOf m p z hs σ) q x) w u n height
     P T
+
+pub returns-in_ok-put_assume-in-Assume-clause-assume : goal.returns-in_ok-put_assume-in-Assume-clause-assume
+returns-in_ok-put_assume-in-Assume-clause-assume c = λ e s l f i a cs hs σ b st pl h k nu x w u n height P.
+    let m = c.args.machine.now in
+    let p = c.args.place in
+    let y = c.in-Assume.is in
+    let qs : s ≡ c.in-Assume.rules = cc in
+    let ql : l ≡ c.in-Assume.goals = cc in
+    let qf : f ≡ c.in-Assume.free = cc in
+    assume_apart m c.take_apart.new.machine c.put_assume.new.machine p c.in-Assume.rules c.in-Assume.goals c.in-Assume.free c.args.behind (c.if-not-take_apart.ensures.apart refl) c.in_ok-put_assume-in-Assume.ensures.parts a cs hs σ b st pl h
+    (subst (λ z. AreClausesOf m.bank m.table z cs) qs k) (subst (λ z. IsNumbered (shown m.table).frees z (λ f. collect_clauses f 0 cs)) qf nu) (subst (λ z. IsOf m p z hs σ) ql x) w u n height P

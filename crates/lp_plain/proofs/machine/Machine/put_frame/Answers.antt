@@ -1,4 +1,4 @@
-use Rattle.std.proofs.Common.{◌≡◌, ◌++◌, length, Some, sym, subst, arith}
+use Rattle.std.proofs.Common.{◌≡◌, ◌++◌, length, Some, inr, refl, sym, subst, arith}
 use Rattle.lp_lemmas.proofs.Elements.{All_pushed}
 use Rattle.lp_plain.specs.declared.frame.Frame.{Frame}
 use Rattle.lp_plain.specs.Entries.{AreEntries, placed}
@@ -20,3 +20,9 @@ pub returns-clause-stands : goal.returns-clause-stands
 returns-clause-stands c = λ t i.
     let m = c.args.self.now in
     record { table = i.table; values = i.values; frames = All_pushed (λ (f : Frame). IsTodoIn (length m.bank.terms) f.todo) c.push.new.self.items m.frames.items _ c.in_ok-push.ensures.items i.frames t }
+
+pub returns-clause-assumed : goal.returns-clause-assumed
+returns-clause-assumed c = record { assumptions = refl; newest = refl }
+
+pub returns-clause-frame : goal.returns-clause-frame
+returns-clause-frame c = inr (_, refl, c.in_ok-push.ensures.items)
