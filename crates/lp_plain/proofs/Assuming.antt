@@ -134,7 +134,7 @@ module _ (m n o q r : Machine) (p : Place) (rules : Span) (list free : ℕ) (beh
     ]
 
     number_is : number ≡ length m.standings.items
-    number_is = s.number ∙ ap (λ z. length z.items) g.goals.known.standings
+    number_is = s.counted ∙ ap (λ z. length z.items) g.goals.known.standings
 
     later : IsLaterAround (length m.newest.items) (length m.standings.items) a now
     later = later_around a (length m.newest.items) (length m.standings.items) p.assumed tree whole number says fresh (let e = number_is in omega (arith, e))
@@ -172,10 +172,10 @@ module _ (m n o q r : Machine) (p : Place) (rules : Span) (list free : ℕ) (beh
     there : slice_get r.standings.items number ≡ Some standing
     there =
         subst (λ l. slice_get l.standings number ≡ Some standing) (lists_noted o q k ka ∙ same)
-        (subst (λ z. slice_get o.standings.items z ≡ Some standing) (sym s.number) (subst (λ z. slice_get z (length n.standings.items) ≡ Some standing) (sym s.more) (get_push n.standings.items standing)))
+        (subst (λ z. slice_get o.standings.items z ≡ Some standing) (sym s.counted) (subst (λ z. slice_get z (length n.standings.items) ≡ Some standing) (sym s.more) (get_push n.standings.items standing)))
 
     standing_in : number < length r.standings.items
-    standing_in = subst (λ l. number < length l.standings) (lists_noted o q k ka ∙ same) (let e = ap length s.more ∙ length-append n.standings.items (standing ∷ []) in let f = s.number in omega (arith, e, f))
+    standing_in = subst (λ l. number < length l.standings) (lists_noted o q k ka ∙ same) (let e = ap length s.more ∙ length-append n.standings.items (standing ∷ []) in let f = s.counted in omega (arith, e, f))
 
     at_inside : IsPlaceAt (lists_of r) now (inside p tree number)
     at_inside = record {

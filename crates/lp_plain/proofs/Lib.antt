@@ -37,3 +37,4 @@ pub mod Restored
 pub mod Assumed
 pub mod Assuming
 pub mod Trying
+pub mod Tries

@@ -1,10 +1,10 @@
 -- The query's variables, their place, and the branch that a search begins with.
-use Rattle.std.proofs.Common.{◌≡◌, ℕ, zero, suc, ◌+◌, ◌-◌, ◌<◌, List, [], ◌∷◌, ◌++◌, map, reverse, length, refl, sym, ap, ◌∙◌, subst, arith, append-nil, Option, None, Some, nat_lt, Bool, true, false, if◌then◌else◌}
-use Rattle.std.specs.Prelude.{All, slice_get, min, ◌^◌}
+use Rattle.std.proofs.Common.{◌≡◌, ℕ, zero, suc, ◌+◌, ◌-◌, ◌<◌, List, [], ◌∷◌, ◌++◌, map, reverse, length, refl, sym, ap, ◌∙◌, subst, arith, append-nil, inl, inr, Option, None, Some, nat_lt, Bool, true, false, if◌then◌else◌}
+use Rattle.std.specs.Prelude.{◌⊎◌, All, slice_get, min, ◌^◌}
 use Rattle.std.proofs.lemmas.Bool.Decides.{nat_tests}
 use Rattle.std.proofs.lemmas.List.{map-append}
 use Rattle.std.proofs.lemmas.List.Elements.{All-nil, All-cons, All-weaker, All-push}
-use Rattle.lp_lemmas.proofs.Elements.{All_reverse, All_unmap}
+use Rattle.lp_lemmas.proofs.Elements.{All_empty, All_pushed, All_reverse, All_unmap}
 use Rattle.lp_lemmas.proofs.Lists.{get_map, map_agree_on, map_reverse, reverse_pushed}
 use Rattle.lp_calculus.specs.Types.{var}
 use Rattle.lp_calculus.specs.Term.{Term, atom, logic}
@@ -15,8 +15,11 @@ use Rattle.lp_term.specs.declared.node.TermId.{TermId}
 use Rattle.lp_model.specs.Branch.{Entry, entries, nothing_written}
 use Rattle.lp_model.specs.Flat.{Goals, goal_list, instantiate_goals}
 use Rattle.lp_model.specs.Search.{vars_from}
+use Rattle.lp_plain.specs.declared.frame.Frame.{Frame}
 use Rattle.lp_plain.specs.declared.frame.Place.{Place}
 use Rattle.lp_plain.specs.declared.types.Renewal.{Renewal}
+use Rattle.lp_plain.specs.Assuming.{Lists, HasAssumed, IsNumberIn, IsPlaceAt, no_standing}
+use Rattle.lp_plain.specs.Newest.{nothing}
 use Rattle.lp_plain.specs.Entries.{Around, AreAt, in_scope, placed}
 use Rattle.lp_plain.specs.Instances.{AreValues}
 use Rattle.lp_plain.specs.Renewal.{renewing}
@@ -97,3 +100,23 @@ outside_entries a p σ gs h o =
     ap (λ A. entries (goal_list (instantiate_goals σ gs)) A (a.written p.standing) p.level (a.mark p.mark)) (ap a.assumed o.assumed ∙ h.assumed) ∙
     ap (λ w. entries (goal_list (instantiate_goals σ gs)) [] w p.level (a.mark p.mark)) (ap a.written o.standing ∙ h.written) ∙
     ap (λ l. entries (goal_list (instantiate_goals σ gs)) [] nothing_written l (a.mark p.mark)) o.level ∙ ap (entries (goal_list (instantiate_goals σ gs)) [] nothing_written 0) (ap a.mark o.mark ∙ h.mark)
+
+-- nothing is assumed outside of all goals
+no_clauses_found : (l : Lists) → HasAssumed l None []
+no_clauses_found l h = record { newest = None; numbers = []; found = nothing refl refl; chain = refl; clauses = tt }
+
+outside_place : (l : Lists) (a : Around) (p : Place) → IsOutermost a → IsOutside p → IsPlaceAt l a p
+outside_place l a p i o = record {
+  tree = subst (IsNumberIn (length l.newest)) (sym o.assumed) tt;
+  standing = subst (IsNumberIn (length l.standings)) (sym o.standing) tt;
+  assumed = subst (λ x. HasAssumed l x (a.assumed x)) (sym o.assumed) (subst (HasAssumed l None) (sym i.assumed) (no_clauses_found l));
+  written = no_standing o.standing (ap a.written o.standing ∙ i.written);
+}
+
+pub outermost_placed : (l : Lists) (a : Around) (p : Place) (old new : List Frame) → old ≡ [] → (new ≡ old) ⊎ ((f : Frame) × (f.place ≡ p) × (new ≡ old ++ f ∷ [])) → IsOutermost a → IsOutside p → All (λ (f : Frame). IsPlaceAt l a f.place) new
+outermost_placed l a p old new e h i o =
+    let none = All_empty (λ (f : Frame). IsPlaceAt l a f.place) old e in
+    elim h [
+      | inl q ↦ subst (All (λ (f : Frame). IsPlaceAt l a f.place)) (sym q) none
+      | inr x ↦ All_pushed (λ (f : Frame). IsPlaceAt l a f.place) new old x.0 x.2 none (subst (IsPlaceAt l a) (sym x.1) (outside_place l a p i o))
+    ]

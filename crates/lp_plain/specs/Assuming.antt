@@ -172,7 +172,7 @@ pub record IsStood (old new : Machine) (free : ℕ) (p : Place) (number : ℕ) :
   pub frames : new.frames ≡ old.frames
   pub course : KeepsCourse old new
   pub assumed : KeepsAssumed old new
-  pub number : number ≡ length old.standings.items
+  pub counted : number ≡ length old.standings.items
   pub more : new.standings.items ≡ old.standings.items ++ record { free = free; values = p.values; older = p.standing } ∷ []
 
 -- no frame more, or one of this place

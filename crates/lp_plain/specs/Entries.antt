@@ -115,6 +115,12 @@ pub record HasAlternative (old new : Machine) (untried : Untried) : Type 0 where
   pub frames : choice.lengths.frames ≡ length old.frames.items
   pub blocks : choice.lengths.scopes.blocks ≡ block_count old.scopes
   pub values : choice.lengths.scopes.values ≡ value_count old.scopes
+  pub assumptions : choice.lengths.assumptions ≡ length old.assumptions.items
+  pub newest : choice.lengths.newest ≡ length old.newest.items
+  pub standings : choice.lengths.standings ≡ length old.standings.items
+  pub bound_terms : choice.bindings.terms ≡ length old.bindings.terms.entries
+  pub bound_types : choice.bindings.types ≡ length old.bindings.types.entries
+  pub pairs : choice.pairs.items ≡ old.branch.pairs.items
 
 -- an alternative goes on with a branch that reads so, within what there was when it was put
 pub record IsChoiceAt (m : Machine) (a : Around) (c : Choice) (b : Branch) : Type 0 where

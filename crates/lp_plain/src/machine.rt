@@ -1,10 +1,12 @@
 // What a search works on: one bank and one list of bindings for all branches. An alternative holds what leads back to
 // its branch.
-ghost use Rattle.std.specs.Prelude.{◌≡◌, ◌∷◌, ◌++◌, [], List, OnOk, IfOk, IfSome, length, nat_lt, take, slice_get, Some};
+ghost use Rattle.std.specs.Prelude.{◌≡◌, ℕ, ◌∷◌, ◌++◌, [], List, OnOk, IfOk, IfSome, length, nat_lt, take, slice_get, Option, Some};
+ghost use Rattle.lp_calculus.specs.Term.{Atom, Term};
 ghost use Rattle.lp_plain.specs.declared.choice.Choice.{Choice};
 ghost use Rattle.lp_model.specs.Branch.{Entry};
-ghost use Rattle.lp_model.specs.Flat.{Goal};
-ghost use Rattle.lp_plain.specs.Assuming.{HasFrameAt, KeepsAssumed};
+ghost use Rattle.lp_model.specs.Flat.{Clause, Clauses, Goal};
+ghost use Rattle.lp_model.specs.Search.{candidates};
+ghost use Rattle.lp_plain.specs.Assuming.{HasAssumed, HasFrameAt, KeepsAssumed, lists_of};
 ghost use Rattle.lp_plain.specs.Cuts.{cut_off};
 ghost use Rattle.lp_plain.specs.Entries.{Around, AreTodo, IsListAt, HasAlternative, KeepsGoals, Reads, placed};
 ghost use Rattle.lp_plain.specs.Keeping.{HasOneMore, IsAround, KeepsCourse};
@@ -12,6 +14,7 @@ ghost use Rattle.lp_plain.specs.Opening.{IsNewVariable};
 ghost use Rattle.lp_plain.specs.Restoring.{IsRestored, IsTaken};
 ghost use Rattle.lp_plain.specs.Scopes.{block_count, blocks_of, value_count};
 ghost use Rattle.lp_plain.specs.Tables.{shown};
+ghost use Rattle.lp_plain.specs.Trying.{AreApplied, AreOfProgram, AreTries, HasProgram, IsCallOf, IsTried, all_clauses, first_in};
 ghost use Rattle.lp_plain.specs.Within.{IsTodoIn, StandsIn};
 
 use crate::act::Act;
@@ -134,35 +137,47 @@ impl Machine {
         instance(self.alloc, &mut self.bank, &self.scopes, place.values, term)
     }
 
-    pub(crate) fn first_candidate(&self, call: &Call) -> Result<Option<Candidate>, Memory> {
-        first_candidate(
+    /// The first of the clauses that are tried for a call.
+    pub(crate) fn first_candidate(&self, call: &Call) -> Result<Option<Candidate>, Memory>
+        ensures tries { IfOk result (λ found. (ar : ℕ → ℕ) (css : List Clauses) (before : List Clause) (t : Term) (key : Option Atom) → HasProgram self.now css → HasAssumed (lists_of self.now) call.now.place.assumed before → IsCallOf ar self.now.bank call.now t key →
+            AreOfProgram ar (all_clauses css) → AreApplied ar before → AreTries (lists_of self.now) (first_in self.now call.now.head) call.now.key found (candidates (all_clauses css) before t key)) }
+    {
+        let found = first_candidate(
             &self.bank,
             &self.table.rules,
             &self.index,
             &self.newest,
             call,
-        )
+        )?;
+        Ok(found)
     }
 
+    /// The next one behind a candidate.
     pub(crate) fn candidate_after(
         &self,
         call: &Call,
         candidate: Candidate,
-    ) -> Result<Option<Candidate>, Memory> {
-        candidate_after(
+    ) -> Result<Option<Candidate>, Memory>
+        ensures tries { IfOk result (λ found. (cs : List Clause) → AreTries (lists_of self.now) (first_in self.now call.now.head) call.now.key (Some candidate) cs → IsTried (lists_of self.now) (first_in self.now call.now.head) call.now.key candidate found cs) }
+    {
+        let found = candidate_after(
             &self.bank,
             &self.table.rules,
             &self.index,
             &self.assumptions,
             call,
             candidate,
-        )
+        )?;
+        Ok(found)
     }
 
     fn lengths(&self) -> Lengths
         ensures frames { result.frames ≡ length self.now.frames.items }
         ensures blocks { result.scopes.blocks ≡ block_count self.now.scopes }
         ensures values { result.scopes.values ≡ value_count self.now.scopes }
+        ensures assumptions { result.assumptions ≡ length self.now.assumptions.items }
+        ensures newest { result.newest ≡ length self.now.newest.items }
+        ensures standings { result.standings ≡ length self.now.standings.items }
     {
         Lengths {
             frames: self.frames.len(),

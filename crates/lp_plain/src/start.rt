@@ -10,6 +10,7 @@ ghost use Rattle.lp_model.specs.Flattened.{clauses_of, goals_of};
 ghost use Rattle.lp_model.specs.Readings.{formula_of};
 ghost use Rattle.lp_model.specs.Search.{start, vars_from};
 ghost use Rattle.lp_normal.specs.Within.{AreGoalsIn, AreClausesIn};
+ghost use Rattle.lp_plain.specs.Assuming.{ArePlaced};
 ghost use Rattle.lp_plain.specs.Candidates.{IsIndex, numbers};
 ghost use Rattle.lp_plain.specs.Entries.{Around};
 ghost use Rattle.lp_plain.specs.Scopes.{IsScope, block_count, value_count};
@@ -180,6 +181,7 @@ pub(crate) fn begin(
     ensures program { IfOk result (λ s. AreFormulasIn program.bank program.clauses.items → (n : ℕ) (d : ℕ → Option Scheme) (css : List Clauses) → AreFlat n d program.bank program.clauses.items css → AreProgramOf s.machine.bank s.machine.table s.source.spans.items css) }
     ensures starts { IfOk result (λ s. query.formula.0 < length program.bank.terms → (n : ℕ) (d : ℕ → Option Scheme) (flat : Goals) → flatten_query n d (tree program.bank query.formula.0) ≡ Some flat → (a : Around) → IsOutermost a → (answers : ℕ) →
         IsAlone s.machine a (start query.type_vars (length query.vars.items) flat limit answers).stack) }
+    ensures placed { IfOk result (λ s. (a : Around) → IsOutermost a → ArePlaced s.machine a) }
 {
     let Program {
         mut bank,

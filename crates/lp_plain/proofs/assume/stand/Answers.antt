@@ -9,6 +9,6 @@ returns-clause-stood c = record {
   frames = refl;
   course = record { choices = refl; counts = refl; denied = refl; branch = refl };
   assumed = record { assumptions = refl; newest = refl };
-  number = omega (arith, c.len-number.ensures, c.args.machine.now.standings.ok);
+  counted = omega (arith, c.len-number.ensures, c.args.machine.now.standings.ok);
   more = c.in_ok-push.ensures.items;
 }

@@ -3,6 +3,7 @@ use Rattle.std.specs.Prelude.{nat_eq}
 use Rattle.std.specs.HashMap.{get}
 use Rattle.lp_lemmas.proofs.Elements.{All_empty}
 use Rattle.lp_pattern.proofs.Keeps.{goes_on_same}
+use Rattle.lp_plain.specs.Assuming.{lists_of}
 use Rattle.lp_plain.specs.Candidates.{IsIndex, numbers}
 use Rattle.lp_plain.proofs.LaterIndex.{index_later}
 use Rattle.lp_term.specs.Nodes.{tree}
@@ -15,7 +16,7 @@ use Rattle.lp_plain.specs.Within.{IsTodoIn}
 use Rattle.lp_plain.proofs.Later.{list_later, rules_later, table_later}
 use Rattle.lp_plain.proofs.Programs.{program_on}
 use Rattle.lp_plain.proofs.Scoped.{scope_whole}
-use Rattle.lp_plain.proofs.Starts.{outside_entries, query_values_are, variables_are_values}
+use Rattle.lp_plain.proofs.Starts.{outermost_placed, outside_entries, query_values_are, variables_are_values}
 use Rattle.lp_plain.proofs.start.begin.Goals as goal
 
 pub returns-clause-stands : goal.returns-clause-stands
@@ -80,3 +81,6 @@ returns-clause-index c =
     subst (λ z. IsIndex z c.put_list.new.self.table.rules.items (λ k. get nat_eq c.put_list.new.self.index k) ks) (sym known.bank)
     (subst (λ z. IsIndex d z.rules.items (λ k. get nat_eq c.put_list.new.self.index k) ks) (sym known.table)
     (subst (λ z. IsIndex d c.in_ok-made.made.table.rules.items (λ k. get nat_eq z k) ks) (sym known.index) (index_later b d c.in_ok-made.made.table.rules.items c.in_ok-made.made.table.rules.items _ ks c.in_ok-variables.ensures.kept (goes_on_same c.in_ok-made.made.table.rules.items) m.within.rules m.ends m.index)))
+
+pub returns-clause-placed : goal.returns-clause-placed
+returns-clause-placed c = λ a i. outermost_placed (lists_of c.put_list.new.self) a c.in_ok-place.place c.new-frames.result.items c.put_list.new.self.frames.items c.new-frames.ensures.items c.in_ok-front.ensures.frame i c.in_ok-place.ensures.outside
