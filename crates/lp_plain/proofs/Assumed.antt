@@ -303,7 +303,7 @@ more_noted m n o g k c f a = more_then m n o g (record {
 pub tree_noted : (m n o : Machine) (from to : ℕ) (before tree : Option ℕ) → KeepsAssumed n o → IsTreeOf m n from to before tree → IsTreeOf m o from to before tree
 tree_noted m n o from to before tree a h = subst (λ z. ((tree ≡ before) × (to ≤ from)) ⊎ ((i : ℕ) × (tree ≡ Some i) × (length m.newest.items ≤ i) × (i < length z.items))) (sym a.newest) h
 
-lists_noted : (n o : Machine) → KeepsGoals n o → KeepsAssumed n o → lists_of n ≡ lists_of o
+pub lists_noted : (n o : Machine) → KeepsGoals n o → KeepsAssumed n o → lists_of n ≡ lists_of o
 lists_noted n o k a = λ i. record {
   bank = sym k.known.bank i;
   table = sym k.known.table i;

@@ -106,13 +106,13 @@ module _ (m n o q r : Machine) (p : Place) (rules : Span) (list free : ℕ) (beh
     (en : r.branch.next ≡ q.branch.next) (et : r.branch.next_type ≡ q.branch.next_type) (ec : r.choices ≡ q.choices) where
   module _ (a : Around) (cs : Clauses) (hs : Goals) (σ : ℕ → Term) (b : Branch) (i : StandsIn m) (placed_all : ArePlaced m a) (h : IsPlaceAt (lists_of m) a p) (clauses_are : AreClausesOf m.bank m.table rules cs)
       (numbered : IsNumbered (shown m.table).frees free (λ f. collect_clauses f 0 cs)) (of : IsOf m p list hs σ) (w : IsBehind m a behind b) where
-    whole : List Clause
+    abbrev whole : List Clause
     whole = clause_list (clauses_in σ p.values.types cs) ++ a.assumed p.assumed
 
-    says : Written
+    abbrev says : Written
     says = both_written (written_at σ p.values.types (written_in_clauses cs)) (a.written p.standing)
 
-    now : Around
+    abbrev now : Around
     now = around a tree whole number says
 
     stands : StandsIn n
@@ -166,7 +166,7 @@ module _ (m n o q r : Machine) (p : Place) (rules : Span) (list free : ℕ) (beh
       | inr x ↦ subst (IsNumberIn (length r.newest.items)) (sym x.1) (let l = longer_list n.newest.items r.newest.items grows_on.newest in let j = x.3 in omega (arith, l, j))
     ]
 
-    standing : Standing
+    abbrev standing : Standing
     standing = record { free = free; values = p.values; older = p.standing }
 
     there : slice_get r.standings.items number ≡ Some standing

@@ -230,9 +230,9 @@ eigen_of_head k (app t v) e = absurd (cc)
 pub candidates_are : (l : Lists) (ar : ℕ → ℕ) (h : Head) (key : Option Key) (goal : Term) (a : Option Atom) (ss : List Span) (css : List Clauses) (before : List Clause) (ns : List ℕ) → AreProgramOf l.bank l.table ss css → head_term (head_of goal) ≡ Some h → HasArity ar (head_of goal) →
     AreOfProgram ar (all_clauses css) → AreApplied ar before → IsKey l.bank key a → AreAssumed l ns (filter (is_for h) before) →
     AreCandidates l (in_turn l.bank l.table.rules.items key ns (program_for l.bank l.table.rules.items h (numbers ss))) (candidates (all_clauses css) before goal a)
-candidates_are l ar h key goal a ss css before ns p e w wp wb k as =
+candidates_are l ar h key goal a ss css before ns p e w wp wb k found =
     candidates_append l (map (λ i. candidate.Assumed i) ns) (map (λ i. candidate.Program i) (filter (passes l.bank l.table.rules.items key) (program_for l.bank l.table.rules.items h (numbers ss)))) (filter (has_head goal) before) (filter (lets_pass goal a) (all_clauses css))
-    (assumed_candidates l ns (filter (has_head goal) before) (subst (AreAssumed l ns) (sym (filter_heads ar goal h before wb w e)) as)) (of_program h e)
+    (assumed_candidates l ns (filter (has_head goal) before) (subst (AreAssumed l ns) (sym (filter_heads ar goal h before wb w e)) found)) (of_program h e)
   where
     of_program : (x : Head) → head_term (head_of goal) ≡ Some x → AreCandidates l (map (λ i. candidate.Program i) (filter (passes l.bank l.table.rules.items key) (program_for l.bank l.table.rules.items x (numbers ss)))) (filter (lets_pass goal a) (all_clauses css))
     of_program (head.Constant c) q =

@@ -26,4 +26,4 @@ returns-clause-tasks g c = λ e tss keep h i.
     let s = c.if-not-take_step.ensures in
     let k = c.args.place.mark in
     let counts = c.cut.ensures.counts ∙ ap (λ z. cut_off z (nat_lt k (length c.take_step.new.machine.choices.items))) (s.counts refl) ∙ ap (λ z. cut_off (one_step m.counts) (nat_lt k (length z.items))) s.choices in
-    cut_tasks m c.cut.new.self k keep tss (c.cut.ensures.denied ∙ s.denied) (c.cut.ensures.choices ∙ ap (λ z. take k z.items) s.choices) (ap (λ z. z.lost) counts) h i
+    cut_tasks m _ k keep tss (c.cut.ensures.denied ∙ s.denied) (c.cut.ensures.choices ∙ ap (λ z. take k z.items) s.choices) (ap (λ z. z.lost) counts) h i

@@ -40,7 +40,7 @@ returns-in_ok-put_exists-in-Exists-clause-exists c = λ e of s i a b st l w u n 
 pub returns-in-True-clause-truth : goal.returns-in-True-clause-truth
 returns-in-True-clause-truth c = λ e i a b w u n height P t g.
     let m = c.args.machine.now in
-    let q = c.go_behind-in-True.new.machine in
-    let s = c.go_behind-in-True.ensures in
+    let q = c.go_behind.new.machine in
+    let s = c.go_behind.ensures in
     subst (λ z. ArePartsOf m q a (look_form u n P height (entry_at a c.args.place g) b t (connective_in m.bank z))) (sym c.in-True.is)
     (true_apart m c.take_apart.new.machine q c.args.behind (c.if-not-take_apart.ensures.apart refl) s.known s.goals s.next s.next_type s.choices a b w)

@@ -3,7 +3,7 @@ use Rattle.lp_plain.proofs.machine.Machine.put_choice.Goals as goal
 
 pub returns-clause-alternative : goal.returns-clause-alternative
 returns-clause-alternative c =
-    let l = c.lengths.ensures in
+    let l = c.lengths-lengths.ensures in
     record {
       choice = _;
       more = c.in_ok-push.ensures.items;
