@@ -104,7 +104,8 @@ module _ (k l : Lists) (i : IsTableIn (length k.bank.terms) k.table) (v : AreVal
   pub written_on : {o : Option ℕ} {w : Written} → HasWritten k o w → HasWritten l o w
   written_on (no_standing e z) = no_standing e z
   written_on (a_standing j s cs σ before e q f h r z) =
-      a_standing j s cs σ before e (subst (λ xs. slice_get xs j ≡ Some s) (sym g.standings.1) (get_append k.standings g.standings.0 j s q)) (numbered_on s.free cs f) (values_on s.values.scope σ h) (written_on r) z
+      a_standing j s cs σ before e (subst (λ xs. slice_get xs j ≡ Some s) (sym g.standings.1) (get_append k.standings g.standings.0 j s q))
+      (numbered_on s.free cs f) (values_on s.values.scope σ h) (written_on r) z
 
   pub place_on : (a d : Around) (p : Place) → IsLaterAround (length k.newest) (length k.standings) a d → IsPlaceAt k a p → IsPlaceAt l d p
   place_on a d p e h = record {
@@ -114,11 +115,13 @@ module _ (k l : Lists) (i : IsTableIn (length k.bank.terms) k.table) (v : AreVal
     written = subst (HasWritten l p.standing) (sym (e.written p.standing h.standing)) (written_on h.written);
   }
 
-  pub places_on : (a d : Around) (fs : List Frame) → IsLaterAround (length k.newest) (length k.standings) a d → All (λ (f : Frame). IsPlaceAt k a f.place) fs → All (λ (f : Frame). IsPlaceAt l d f.place) fs
+  pub places_on : (a d : Around) (fs : List Frame) → IsLaterAround (length k.newest) (length k.standings) a d → All
+      (λ (f : Frame). IsPlaceAt k a f.place) fs → All (λ (f : Frame). IsPlaceAt l d f.place) fs
   places_on a d fs e h = All-weaker (λ (f : Frame). IsPlaceAt k a f.place) (λ (f : Frame). IsPlaceAt l d f.place) (λ f z. place_on a d f.place e z) fs h
 
   -- one standing more
-  pub stood : (number : ℕ) (s : Standing) (cs : Clauses) (σ : ℕ → Term) (before : Written) → slice_get l.standings number ≡ Some s → IsNumbered (shown k.table).frees s.free (λ f. collect_clauses f 0 cs) → HasValues k.bank k.blocks s.values.scope σ →
+  pub stood : (number : ℕ) (s : Standing) (cs : Clauses) (σ : ℕ → Term) (before : Written) → slice_get l.standings number ≡ Some s → IsNumbered
+      (shown k.table).frees s.free (λ f. collect_clauses f 0 cs) → HasValues k.bank k.blocks s.values.scope σ →
       HasWritten k s.older before → HasWritten l (Some number) (both_written (written_at σ s.values.types (written_in_clauses cs)) before)
   stood number s cs σ before q f h r = a_standing number s cs σ before refl q (numbered_on s.free cs f) (values_on s.values.scope σ h) (written_on r) refl
 
@@ -127,10 +130,12 @@ module _ (l : Lists) (a d : Around) (e : IsLaterAround (length l.newest) (length
   placed_same : (p : Place) (gs : List Goal) → IsPlaceAt l a p → placed a p gs ≡ placed d p gs
   placed_same p gs h = λ i. entries gs (sym (e.assumed p.assumed h.tree) i) (sym (e.written p.standing h.standing) i) p.level (sym e.mark i p.mark)
 
-  pub entries_on : (b : Nodes) (t : Shown) (s : Blocks) {fs : List Frame} {o : Option ℕ} {es : List Entry} → All (λ (f : Frame). IsPlaceAt l a f.place) fs → AreEntries b t s a fs o es → AreEntries b t s d fs o es
+  pub entries_on : (b : Nodes) (t : Shown) (s : Blocks) {fs : List Frame} {o : Option ℕ} {es : List Entry} → All
+      (λ (f : Frame). IsPlaceAt l a f.place) fs → AreEntries b t s a fs o es → AreEntries b t s d fs o es
   entries_on b t s h (no_frame q z) = no_frame q z
   entries_on b t s {fs} h (a_frame j f gs rest q g k w z) =
-      a_frame j f gs rest q g k (entries_on b t s (all_taken (λ (f : Frame). IsPlaceAt l a f.place) j fs h) w) (z ∙ ap (λ x. x ++ rest) (placed_same f.place gs (all_at (λ (f : Frame). IsPlaceAt l a f.place) fs j f g h)))
+      a_frame j f gs rest q g k (entries_on b t s (all_taken (λ (f : Frame). IsPlaceAt l a f.place) j fs h) w)
+      (z ∙ ap (λ x. x ++ rest) (placed_same f.place gs (all_at (λ (f : Frame). IsPlaceAt l a f.place) fs j f g h)))
 
 -- heads
 
@@ -159,24 +164,33 @@ eigen_below (v ∷ vs) σ zero a i e h = absurd (omega (arith, e))
 eigen_below (v ∷ vs) σ (suc k) a i e h = ap (shift 0 1) (eigen_below vs σ k a i (omega (arith, e)) h)
 
 -- the head of a clause is a constant, or the value of a variable around the clause
-pub constant_head : (b : Nodes) (t : Shown) (rule : ℕ) (c : Clause) (r : Renewal) (σ : ℕ → Term) (number : ℕ) (ts : List Ty) (got : Rule) → IsRule b Never t rule c → slice_get t.rules rule ≡ Some got → atom (constant number ts) ≡ tree b got.head.0 → head_at (clause_in σ r c) ≡ Some (head.Constant number)
+pub constant_head : (b : Nodes) (t : Shown) (rule : ℕ) (c : Clause) (r : Renewal) (σ : ℕ → Term) (number : ℕ) (ts : List Ty) (got : Rule) → IsRule b
+    Never t rule c → slice_get t.rules rule ≡ Some got → atom (constant number ts) ≡ tree b got.head.0 → head_at (clause_in σ r c) ≡ Some
+    (head.Constant number)
 constant_head b t rule (clause n vs h body) r σ number ts got k e q =
     let same : k.0 ≡ got = (let z = k.1 in cc) in
     let w : atom (constant number ts) ≡ head_of h = q ∙ ap (λ (x : Rule). tree b x.head.0) (sym same) ∙ k.3.head in
-    ap head_term (head_instanced (under_all lifted (map (instance (renewing r)) vs) σ) (renewing r) h ∙ ap (λ z. head_of (instantiate (under_all lifted (map (instance (renewing r)) vs) σ) (instance_term (renewing r) z))) (sym w))
+    ap head_term (head_instanced (under_all lifted (map (instance (renewing r)) vs) σ) (renewing r) h ∙ ap
+    (λ z. head_of (instantiate (under_all lifted (map (instance (renewing r)) vs) σ) (instance_term (renewing r) z))) (sym w))
 
-pub eigen_head : (b : Nodes) (t : Shown) (rule : ℕ) (c : Clause) (r : Renewal) (σ : ℕ → Term) (place outer level : ℕ) (got : Rule) → IsRule b Never t rule c → slice_get t.rules rule ≡ Some got → index place ≡ tree b got.head.0 → place ≡ length got.slots.items + outer →
+pub eigen_head : (b : Nodes) (t : Shown) (rule : ℕ) (c : Clause) (r : Renewal) (σ : ℕ → Term) (place outer level : ℕ) (got : Rule) → IsRule b Never t
+    rule c → slice_get t.rules rule ≡ Some got → index place ≡ tree b got.head.0 → place ≡ length got.slots.items + outer →
     σ outer ≡ atom (eigen level) → head_at (clause_in σ r c) ≡ Some (head.Eigen level)
 eigen_head b t rule (clause n vs h body) r σ place outer level got k e q l v =
     let same : k.0 ≡ got = (let z = k.1 in cc) in
     let w : index place ≡ head_of h = q ∙ ap (λ (x : Rule). tree b x.head.0) (sym same) ∙ k.3.head in
-    let count : place ≡ length (map (instance (renewing r)) vs) + outer = l ∙ ap (λ (x : Rule). length x.slots.items + outer) (sym same) ∙ ap (λ z. z + outer) (k.3.count ∙ sym (length-map vs (instance (renewing r)))) in
-    ap head_term (head_instanced (under_all lifted (map (instance (renewing r)) vs) σ) (renewing r) h ∙ ap (λ z. head_of (instantiate (under_all lifted (map (instance (renewing r)) vs) σ) (instance_term (renewing r) z))) (sym w) ∙
+    let count : place ≡ length (map (instance (renewing r)) vs) + outer = l ∙ ap (λ (x : Rule). length x.slots.items + outer) (sym same) ∙ ap
+    (λ z. z + outer) (k.3.count ∙ sym (length-map vs (instance (renewing r)))) in
+    ap head_term (head_instanced (under_all lifted (map (instance (renewing r)) vs) σ) (renewing r) h ∙ ap
+    (λ z. head_of (instantiate (under_all lifted (map (instance (renewing r)) vs) σ) (instance_term (renewing r) z))) (sym w) ∙
     ap head_of (eigen_below (map (instance (renewing r)) vs) σ place (eigen level) outer count v))
 
 -- one clause more
-module _ (m n : Machine) (rule : ℕ) (values : Values) (before : Option ℕ) (h : Head) (root : ℕ) (i : StandsIn m) (g : ListsGrow (lists_of m) (lists_of n)) (one : IsOneMore m n rule values before h root) where
-  pub has_more : (cs : List Clause) (w c : Clause) (σ : ℕ → Term) → HasAssumed (lists_of m) before cs → IsRule m.bank Never (shown m.table) rule w → HasValues m.bank (blocks_of m.scopes) values.scope σ → c ≡ clause_in σ values.types w → head_at c ≡ Some h → HasAssumed (lists_of n) (Some root) (c ∷ cs)
+module _ (m n : Machine) (rule : ℕ) (values : Values) (before : Option ℕ) (h : Head) (root : ℕ) (i : StandsIn m)
+    (g : ListsGrow (lists_of m) (lists_of n)) (one : IsOneMore m n rule values before h root) where
+  pub has_more : (cs : List Clause) (w c : Clause) (σ : ℕ → Term) → HasAssumed (lists_of m) before cs → IsRule m.bank Never (shown m.table) rule w →
+      HasValues m.bank (blocks_of m.scopes) values.scope σ → c ≡ clause_in σ values.types w → head_at c ≡ Some h → HasAssumed (lists_of n) (Some root)
+      (c ∷ cs)
   has_more cs w c σ u r v e q = λ other. go other (is_head other (Some h)) refl
     where
       for_it : (other : Head) (t : Bool) → is_head other (Some h) ≡ t → is_for other c ≡ t
@@ -220,7 +234,8 @@ module _ (m n : Machine) (rule : ℕ) (values : Values) (before : Option ℕ) (h
             numbers = o.numbers;
             found = one.others other o.newest (heads_apart other h z) o.found;
             chain = links_on (lists_of m) (lists_of n) i.table i.values g o.newest o.numbers o.chain;
-            clauses = subst (λ t. AreAssumed (lists_of n) o.numbers (cond t (c ∷ filter (is_for other) cs) (filter (is_for other) cs))) (sym (for_it other false z)) (all_on (lists_of m) (lists_of n) i.table i.values g o.numbers (filter (is_for other) cs) o.clauses);
+            clauses = subst (λ t. AreAssumed (lists_of n) o.numbers (cond t (c ∷ filter (is_for other) cs) (filter (is_for other) cs)))
+                (sym (for_it other false z)) (all_on (lists_of m) (lists_of n) i.table i.values g o.numbers (filter (is_for other) cs) o.clauses);
           }
 
 -- clauses by their numbers
@@ -261,10 +276,13 @@ Assumes m n from to p tree = (cs : Clauses) (before : List Clause) (σ : ℕ →
     HasValues m.bank (blocks_of m.scopes) p.values.scope σ → HasAssumed (lists_of n) tree (clause_list (clauses_in σ p.values.types cs) ++ before)
 
 pub assumes_none : (m : Machine) (to : ℕ) (p : Place) → Assumes m m to to p p.assumed
-assumes_none m to p cs before σ i h r v = subst (λ z. HasAssumed (lists_of m) p.assumed (clause_list (clauses_in σ p.values.types z) ++ before)) (sym (rules_none m.bank (shown m.table) to to cs r (omega arith))) h
+assumes_none m to p cs before σ i h r v = subst (λ z. HasAssumed (lists_of m) p.assumed (clause_list (clauses_in σ p.values.types z) ++ before))
+    (sym (rules_none m.bank (shown m.table) to to cs r (omega arith))) h
 
-module _ (m n o : Machine) (from to left : ℕ) (p : Place) (tree : Option ℕ) (e : Head) (root : ℕ) (g : AssumesMore m n) (one : IsOneMore n o from p.values tree e root) (a : Assumes m n left to p tree) (above : left ≡ suc from) (within : left ≤ to)
-    (head_is : (c : Clause) (σ : ℕ → Term) → IsRule n.bank Never (shown n.table) from c → HasValues n.bank (blocks_of n.scopes) p.values.scope σ → (r : Renewal) → head_at (clause_in σ r c) ≡ Some e) where
+module _ (m n o : Machine) (from to left : ℕ) (p : Place) (tree : Option ℕ) (e : Head) (root : ℕ) (g : AssumesMore m n)
+    (one : IsOneMore n o from p.values tree e root) (a : Assumes m n left to p tree) (above : left ≡ suc from) (within : left ≤ to)
+    (head_is : (c : Clause) (σ : ℕ → Term) → IsRule n.bank Never (shown n.table) from c → HasValues n.bank (blocks_of n.scopes) p.values.scope σ →
+    (r : Renewal) → head_at (clause_in σ r c) ≡ Some e) where
   pub assumes_more : Assumes m o from to p (Some root)
   assumes_more no_clauses before σ i h r v = absurd (omega (arith, r, above, within))
   assumes_more (clauses c cs) before σ i h r v =

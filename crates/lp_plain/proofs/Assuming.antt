@@ -56,7 +56,8 @@ not_fresh n i (Some j) h l = grind (arith, nat_tests, h, l)
 abbrev around : Around → (tree : Option ℕ) → List Clause → (number : ℕ) → Written → Around
 around a tree cs number w = record { assumed = λ o. if same_number o tree then cs else a.assumed o; written = λ o. if same_number o (Some number) then w else a.written o; mark = a.mark }
 
-later_around : (a : Around) (trees standings : ℕ) (before tree : Option ℕ) (cs : List Clause) (number : ℕ) (w : Written) → ((tree ≡ before) × (cs ≡ a.assumed before)) ⊎ ((i : ℕ) × (tree ≡ Some i) × (trees ≤ i)) → standings ≤ number →
+later_around : (a : Around) (trees standings : ℕ) (before tree : Option ℕ) (cs : List Clause) (number : ℕ) (w : Written) →
+    ((tree ≡ before) × (cs ≡ a.assumed before)) ⊎ ((i : ℕ) × (tree ≡ Some i) × (trees ≤ i)) → standings ≤ number →
     IsLaterAround trees standings a (around a tree cs number w)
 later_around a trees standings before tree cs number w t l = record {
   assumed = λ o h. by_tree o h t;
@@ -68,7 +69,8 @@ later_around a trees standings before tree cs number w t l = record {
     same_tree o e f true q = f ∙ ap a.assumed (sym e ∙ sym (same_number_is o tree q))
     same_tree o e f false q = refl
 
-    by_tree : (o : Option ℕ) → IsNumberIn trees o → ((tree ≡ before) × (cs ≡ a.assumed before)) ⊎ ((i : ℕ) × (tree ≡ Some i) × (trees ≤ i)) → (if same_number o tree then cs else a.assumed o) ≡ a.assumed o
+    by_tree : (o : Option ℕ) → IsNumberIn trees o → ((tree ≡ before) × (cs ≡ a.assumed before)) ⊎ ((i : ℕ) × (tree ≡ Some i) × (trees ≤ i)) →
+        (if same_number o tree then cs else a.assumed o) ≡ a.assumed o
     by_tree o h (inl x) = same_tree o x.0 x.1 (same_number o tree) refl
     by_tree o h (inr x) = ap (λ b. if b then cs else a.assumed o) (ap (same_number o) x.1 ∙ not_fresh trees x.0 o h x.2)
 
@@ -100,11 +102,14 @@ stood_grows n o free p number s = record {
 abbrev inside : Place → (tree : Option ℕ) → (number : ℕ) → Place
 inside p tree number = record { values = p.values; assumed = tree; standing = Some number; level = p.level; mark = p.mark }
 
-module _ (m n o q r : Machine) (p : Place) (rules : Span) (list free : ℕ) (behind front tree : Option ℕ) (number : ℕ) (g : AssumesMore m n) (t : IsTreeOf m n rules.from rules.to p.assumed tree) (assumes : Assumes m n rules.from rules.to p tree)
+module _ (m n o q r : Machine) (p : Place) (rules : Span) (list free : ℕ) (behind front tree : Option ℕ) (number : ℕ) (g : AssumesMore m n)
+    (t : IsTreeOf m n rules.from rules.to p.assumed tree) (assumes : Assumes m n rules.from rules.to p tree)
     (s : IsStood n o free p number) (k : KeepsGoals o q) (course : KeepsCourse o q) (ka : KeepsAssumed o q) (frame : HasFrameAt o r (inside p tree number))
-    (reads : (a : Around) (gs : List Goal) (es : List Entry) → IsListAt o (inside p tree number) list gs → Reads o a behind es → Reads r a front (placed a (inside p tree number) gs ++ es)) (same : lists_of q ≡ lists_of r) (eg : r.branch.goals ≡ front)
+    (reads : (a : Around) (gs : List Goal) (es : List Entry) → IsListAt o (inside p tree number) list gs → Reads o a behind es → Reads r a front
+    (placed a (inside p tree number) gs ++ es)) (same : lists_of q ≡ lists_of r) (eg : r.branch.goals ≡ front)
     (en : r.branch.next ≡ q.branch.next) (et : r.branch.next_type ≡ q.branch.next_type) (ec : r.choices ≡ q.choices) where
-  module _ (a : Around) (cs : Clauses) (hs : Goals) (σ : ℕ → Term) (b : Branch) (i : StandsIn m) (placed_all : ArePlaced m a) (h : IsPlaceAt (lists_of m) a p) (clauses_are : AreClausesOf m.bank m.table rules cs)
+  module _ (a : Around) (cs : Clauses) (hs : Goals) (σ : ℕ → Term) (b : Branch) (i : StandsIn m) (placed_all : ArePlaced m a)
+      (h : IsPlaceAt (lists_of m) a p) (clauses_are : AreClausesOf m.bank m.table rules cs)
       (numbered : IsNumbered (shown m.table).frees free (λ f. collect_clauses f 0 cs)) (of : IsOf m p list hs σ) (w : IsBehind m a behind b) where
     abbrev whole : List Clause
     whole = clause_list (clauses_in σ p.values.types cs) ++ a.assumed p.assumed
@@ -162,7 +167,8 @@ module _ (m n o q r : Machine) (p : Place) (rules : Span) (list free : ℕ) (beh
 
     tree_in : IsNumberIn (length r.newest.items) tree
     tree_in = elim t [
-      | inl x ↦ subst (IsNumberIn (length r.newest.items)) (sym x.0) (number_in_more (length m.newest.items) (length r.newest.items) p.assumed (longer_list m.newest.items r.newest.items grows_all.newest) h.tree)
+      | inl x ↦ subst (IsNumberIn (length r.newest.items)) (sym x.0) (number_in_more (length m.newest.items) (length r.newest.items) p.assumed
+          (longer_list m.newest.items r.newest.items grows_all.newest) h.tree)
       | inr x ↦ subst (IsNumberIn (length r.newest.items)) (sym x.1) (let l = longer_list n.newest.items r.newest.items grows_on.newest in let j = x.3 in omega (arith, l, j))
     ]
 
@@ -172,21 +178,26 @@ module _ (m n o q r : Machine) (p : Place) (rules : Span) (list free : ℕ) (beh
     there : slice_get r.standings.items number ≡ Some standing
     there =
         subst (λ l. slice_get l.standings number ≡ Some standing) (lists_noted o q k ka ∙ same)
-        (subst (λ z. slice_get o.standings.items z ≡ Some standing) (sym s.counted) (subst (λ z. slice_get z (length n.standings.items) ≡ Some standing) (sym s.more) (get_push n.standings.items standing)))
+        (subst (λ z. slice_get o.standings.items z ≡ Some standing) (sym s.counted)
+        (subst (λ z. slice_get z (length n.standings.items) ≡ Some standing) (sym s.more) (get_push n.standings.items standing)))
 
     standing_in : number < length r.standings.items
-    standing_in = subst (λ l. number < length l.standings) (lists_noted o q k ka ∙ same) (let e = ap length s.more ∙ length-append n.standings.items (standing ∷ []) in let f = s.counted in omega (arith, e, f))
+    standing_in = subst (λ l. number < length l.standings) (lists_noted o q k ka ∙ same)
+        (let e = ap length s.more ∙ length-append n.standings.items (standing ∷ []) in let f = s.counted in omega (arith, e, f))
 
     at_inside : IsPlaceAt (lists_of r) now (inside p tree number)
     at_inside = record {
       tree = tree_in;
       standing = standing_in;
-      assumed = subst (HasAssumed (lists_of r) tree) (sym assumed_now) (has_on (lists_of n) (lists_of r) stands.table stands.values grows_on tree whole (assumes cs (a.assumed p.assumed) σ i h.assumed clauses_are of.1));
-      written = subst (HasWritten (lists_of r) (Some number)) (sym written_now) (stood (lists_of m) (lists_of r) i.table i.values grows_all number standing cs σ (a.written p.standing) there numbered of.1 h.written);
+      assumed = subst (HasAssumed (lists_of r) tree) (sym assumed_now) (has_on (lists_of n) (lists_of r) stands.table stands.values grows_on tree
+          whole (assumes cs (a.assumed p.assumed) σ i h.assumed clauses_are of.1));
+      written = subst (HasWritten (lists_of r) (Some number)) (sym written_now) (stood (lists_of m) (lists_of r) i.table i.values grows_all number
+          standing cs σ (a.written p.standing) there numbered of.1 h.written);
     }
 
     before : All (λ (f : Frame). IsPlaceAt (lists_of r) now f.place) o.frames.items
-    before = subst (λ z. All (λ (f : Frame). IsPlaceAt (lists_of r) now f.place) z.items) (sym (s.frames ∙ g.frames)) (places_on (lists_of m) (lists_of r) i.table i.values grows_all a now m.frames.items later placed_all)
+    before = subst (λ z. All (λ (f : Frame). IsPlaceAt (lists_of r) now f.place) z.items) (sym (s.frames ∙ g.frames))
+        (places_on (lists_of m) (lists_of r) i.table i.values grows_all a now m.frames.items later placed_all)
 
     placed_now : ArePlaced r now
     placed_now = elim frame [
@@ -194,7 +205,8 @@ module _ (m n o q r : Machine) (p : Place) (rules : Span) (list free : ℕ) (beh
       | inr x ↦ All_pushed (λ (f : Frame). IsPlaceAt (lists_of r) now f.place) r.frames.items o.frames.items x.0 x.2 before (subst (IsPlaceAt (lists_of r) now) (sym x.1) at_inside)
     ]
 
-    pub assumes_for : (u z height : ℕ) (P : List Clause) → let goal : Goal = Assume (written_at σ p.values.types (written_in_clauses cs)) (clauses_in σ p.values.types cs) (in_scope σ p.values.types hs) in AssumesFor m r a (look_goal u z P height (entry_at a p goal) b goal)
+    pub assumes_for : (u z height : ℕ) (P : List Clause) → let goal : Goal = Assume (written_at σ p.values.types (written_in_clauses cs))
+        (clauses_in σ p.values.types cs) (in_scope σ p.values.types hs) in AssumesFor m r a (look_goal u z P height (entry_at a p goal) b goal)
     assumes_for u z height P = (
       now,
       later,
@@ -211,9 +223,11 @@ module _ (m n o q r : Machine) (p : Place) (rules : Span) (list free : ℕ) (beh
 
 -- once it was counted
 abbrev pub TakesAssume : (old new : Machine) → Place → Span → (list free : ℕ) → (behind : Option ℕ) → Type 0
-TakesAssume m n p s l f o = (a : Around) (cs : Clauses) (hs : Goals) (σ : ℕ → Term) (b : Branch) → StandsIn m → ArePlaced m a → IsPlaceAt (lists_of m) a p → AreClausesOf m.bank m.table s cs → IsNumbered (shown m.table).frees f (λ f. collect_clauses f 0 cs) →
+TakesAssume m n p s l f o = (a : Around) (cs : Clauses) (hs : Goals) (σ : ℕ → Term) (b : Branch) → StandsIn m → ArePlaced m a → IsPlaceAt (lists_of m)
+    a p → AreClausesOf m.bank m.table s cs → IsNumbered (shown m.table).frees f (λ f. collect_clauses f 0 cs) →
     IsOf m p l hs σ → IsBehind m a o b → (u z height : ℕ) (P : List Clause) →
-    let goal : Goal = Assume (written_at σ p.values.types (written_in_clauses cs)) (clauses_in σ p.values.types cs) (in_scope σ p.values.types hs) in AssumesFor m n a (look_goal u z P height (entry_at a p goal) b goal)
+    let goal : Goal = Assume (written_at σ p.values.types (written_in_clauses cs)) (clauses_in σ p.values.types cs) (in_scope σ p.values.types hs) in
+    AssumesFor m n a (look_goal u z P height (entry_at a p goal) b goal)
 
 pub assume_apart : (m c n : Machine) (p : Place) (s : Span) (l f : ℕ) (o : Option ℕ) → c ≡ apart m → TakesAssume c n p s l f o → TakesAssume m n p s l f o
 assume_apart m c n p s l f o e t = λ a cs hs σ b i pl h k nu x w u z height P.

@@ -56,10 +56,11 @@ module _ (b d : Nodes) (x : Extends b d) where
   module _ (s z : Blocks) (a : AreValues b s.values) (kb : GoesOn s.blocks z.blocks) (kv : GoesOn s.values z.values) where
     pub scope_later : (o : Option ℕ) (σ : ℕ → Term) → HasValues b s o σ → HasValues d z o σ
     scope_later o σ h =
-        let vs = h.0 in
-        (vs,
+        let vs = h.0 in (
+          vs,
           subst (λ bs. Holds z.values bs o vs) (sym kb.1) (subst (λ us. Holds us (s.blocks ++ kb.0) o vs) (sym kv.1) (holds_more s.values kv.0 s.blocks kb.0 o vs h.1)),
-          at_later vs σ (scope_all (λ (t : TermId). (t.0 < length b.terms) × LooseBelow 0 0 (tree b t.0)) s.values s.blocks o vs a h.1) h.2)
+          at_later vs σ (scope_all (λ (t : TermId). (t.0 < length b.terms) × LooseBelow 0 0 (tree b t.0)) s.values s.blocks o vs a h.1) h.2,
+        )
 
     pub place_later : (p : Place) (σ : ℕ → Term) → IsAt b s p σ → IsAt d z p σ
     place_later p σ h = scope_later p.values.scope σ h

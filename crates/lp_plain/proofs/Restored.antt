@@ -10,7 +10,8 @@ use Rattle.lp_plain.specs.Scopes.{Blocks, blocks_of, blocks_at}
 use Rattle.lp_plain.specs.Tables.{shown}
 use Rattle.lp_plain.proofs.Frames.{reads_on}
 
-reads_restored : (m n : Machine) (c : Choice) (rest : List Choice) (a : Around) (o : Option ℕ) (es : List Entry) → IsTaken m n c rest → AreEntries m.bank (shown m.table) (blocks_at c.lengths.scopes m.scopes) a (take c.lengths.frames m.frames.items) o es → Reads n a o es
+reads_restored : (m n : Machine) (c : Choice) (rest : List Choice) (a : Around) (o : Option ℕ) (es : List Entry) → IsTaken m n c rest → AreEntries
+    m.bank (shown m.table) (blocks_at c.lengths.scopes m.scopes) a (take c.lengths.frames m.frames.items) o es → Reads n a o es
 reads_restored m n c rest a o es t r =
     let z : blocks_at c.lengths.scopes m.scopes ≡ blocks_of n.scopes = (λ i. record { blocks = sym t.blocks i; values = sym t.values i }) in
     subst (λ b. AreEntries b (shown n.table) (blocks_of n.scopes) a n.frames.items o es) (sym t.bank)
@@ -32,7 +33,8 @@ last_same (a ∷ xs) (b ∷ ys) x y e =
 goals_same : (x y : Option ℕ) → Untried.Goals x ≡ Untried.Goals y → x ≡ y
 goals_same x y e = cc
 
-pub goes_back : (m n q : Machine) (c : Choice) (rest : List Choice) (from : Option ℕ) → c.untried ≡ Untried.Goals from → IsTaken m n c rest → KeepsGoals n q → q.branch.goals ≡ from → q.branch.next ≡ n.branch.next → q.branch.next_type ≡ n.branch.next_type →
+pub goes_back : (m n q : Machine) (c : Choice) (rest : List Choice) (from : Option ℕ) → c.untried ≡ Untried.Goals from → IsTaken m n c rest →
+    KeepsGoals n q → q.branch.goals ≡ from → q.branch.next ≡ n.branch.next → q.branch.next_type ≡ n.branch.next_type →
     q.choices.items ≡ n.choices.items → q.counts ≡ n.counts → q.denied ≡ n.denied → GoesBack m q c rest
 goes_back m n q c rest from u t k eg en et ec eq ed = record {
   choices = ec ∙ t.choices;

@@ -76,7 +76,8 @@ taken_count b mark tss cs l e = let p = short (mark - b) tss in let q = short ma
     short (suc n) [] = omega arith
     short (suc n) (x ∷ xs) = let h = short n xs in omega (arith, h)
 
-pub cut_tasks : (m n : Machine) (mark keep : ℕ) (tss : List (List Task)) → n.denied ≡ m.denied → n.choices.items ≡ take mark m.choices.items → n.counts.lost ≡ (m.counts.lost || nat_lt mark (length m.choices.items)) → HaveTasks m tss → IsMarkOf m tss mark keep →
+pub cut_tasks : (m n : Machine) (mark keep : ℕ) (tss : List (List Task)) → n.denied ≡ m.denied → n.choices.items ≡ take mark m.choices.items →
+    n.counts.lost ≡ (m.counts.lost || nat_lt mark (length m.choices.items)) → HaveTasks m tss → IsMarkOf m tss mark keep →
     CutsTasks m n mark keep tss
 cut_tasks m n mark keep tss d c l h k =
     let b = base_of m.denied in

@@ -26,10 +26,12 @@ program_chain m css p (head.Eigen k) = refl
 
 -- what the first candidate is found to be, and what the next one is
 abbrev pub IsFirst : Machine → Call → Option Candidate → Type 0
-IsFirst m call found = (older : List (Option ℕ)) (assumed : Option ℕ) (ns ks : List ℕ) → IsNewest m.newest.items call.place.assumed call.head assumed → IsChain older assumed ns → IsChain (nexts m.table.rules.items) (first_in m call.head) ks →
+IsFirst m call found = (older : List (Option ℕ)) (assumed : Option ℕ) (ns ks : List ℕ) → IsNewest m.newest.items call.place.assumed call.head assumed
+    → IsChain older assumed ns → IsChain (nexts m.table.rules.items) (first_in m call.head) ks →
     AreLeft m.bank m.table.rules.items older (first_in m call.head) call.key found (in_turn m.bank m.table.rules.items call.key ns ks)
 
-pub first_tries : (m : Machine) (call : Call) (found : Option Candidate) → IsFirst m call found → (ar : ℕ → ℕ) (css : List Clauses) (before : List Clause) (t : Term) (key : Option Atom) → HasProgram m css → HasAssumed (lists_of m) call.place.assumed before →
+pub first_tries : (m : Machine) (call : Call) (found : Option Candidate) → IsFirst m call found → (ar : ℕ → ℕ) (css : List Clauses)
+    (before : List Clause) (t : Term) (key : Option Atom) → HasProgram m css → HasAssumed (lists_of m) call.place.assumed before →
     IsCallOf ar m.bank call t key → AreOfProgram ar (all_clauses css) → AreApplied ar before → AreTries (lists_of m) (first_in m call.head) call.key found (candidates (all_clauses css) before t key)
 first_tries m call found f ar css before t key p a c wp wb =
     let u = a call.head in
@@ -45,12 +47,14 @@ abbrev pub IsNext : Machine → Call → Candidate → Option Candidate → Type
 IsNext m call candidate found = (left : List Candidate) → AreLeft m.bank m.table.rules.items (links m.assumptions.items) (first_in m call.head) call.key (Some candidate) left →
     (rest : List Candidate) × (left ≡ candidate ∷ rest) × AreLeft m.bank m.table.rules.items (links m.assumptions.items) (first_in m call.head) call.key found rest
 
-taken_first : (l : Lists) (first : Option ℕ) (key : Option Key) (candidate : Candidate) (found : Option Candidate) (rest : List Candidate) (cs : List Clause) → AreCandidates l (candidate ∷ rest) cs → AreLeft l.bank l.table.rules.items (links l.assumptions) first key found rest →
+taken_first : (l : Lists) (first : Option ℕ) (key : Option Key) (candidate : Candidate) (found : Option Candidate) (rest : List Candidate)
+    (cs : List Clause) → AreCandidates l (candidate ∷ rest) cs → AreLeft l.bank l.table.rules.items (links l.assumptions) first key found rest →
     IsTried l first key candidate found cs
 taken_first l first key candidate found rest [] h a = absurd h
 taken_first l first key candidate found rest (c ∷ cs) h a = record { tried = c; rest = cs; whole = refl; is = h.0; others = record { left = rest; found_left = a; clauses = h.1 } }
 
-pub one_tried : (m : Machine) (call : Call) (candidate : Candidate) (found : Option Candidate) → IsNext m call candidate found → (cs : List Clause) → AreTries (lists_of m) (first_in m call.head) call.key (Some candidate) cs →
+pub one_tried : (m : Machine) (call : Call) (candidate : Candidate) (found : Option Candidate) → IsNext m call candidate found → (cs : List Clause) →
+    AreTries (lists_of m) (first_in m call.head) call.key (Some candidate) cs →
     IsTried (lists_of m) (first_in m call.head) call.key candidate found cs
 one_tried m call candidate found f cs t =
     let r = f t.left t.found_left in
@@ -67,6 +71,7 @@ lists_back m n c rest t = λ i. record {
   standings = sym t.standings i;
 }
 
-pub tries_back : (m n : Machine) (c : Choice) (rest : List Choice) (h : Head) (key : Option Key) (found : Option Candidate) (cs : List Clause) → IsTaken m n c rest → AreTries (lists_at c m) (first_in m h) key found cs → AreTries (lists_of n) (first_in n h) key found cs
+pub tries_back : (m n : Machine) (c : Choice) (rest : List Choice) (h : Head) (key : Option Key) (found : Option Candidate) (cs : List Clause) →
+    IsTaken m n c rest → AreTries (lists_at c m) (first_in m h) key found cs → AreTries (lists_of n) (first_in n h) key found cs
 tries_back m n c rest h key found cs t a =
     subst (λ l. AreTries l (first_in n h) key found cs) (lists_back m n c rest t) (subst (λ x. AreTries (lists_at c m) (first_for (λ d. get nat_eq x d) h) key found cs) (sym t.index) a)

@@ -34,8 +34,10 @@ numbers-preserved c =
       begun = inl (omega (arith, t));
       counts = one.more.course.counts ∙ i.counts;
       more = more_then m c.numbers.machine c.assume_one.new.machine i.more one.more;
-      tree = tree_more m c.numbers.machine c.assume_one.new.machine (c.numbers.left - 1) c.args.rules.to c.numbers.left c.args.place c.numbers.tree c.in_ok-head.head c.in_ok-newest.newest i.more one i.assumed k w c.in_ok-head.ensures;
-      assumed = assumes_more m c.numbers.machine c.assume_one.new.machine (c.numbers.left - 1) c.args.rules.to c.numbers.left c.args.place c.numbers.tree c.in_ok-head.head c.in_ok-newest.newest i.more one i.assumed k w c.in_ok-head.ensures;
+      tree = tree_more m c.numbers.machine c.assume_one.new.machine (c.numbers.left - 1) c.args.rules.to c.numbers.left c.args.place c.numbers.tree
+          c.in_ok-head.head c.in_ok-newest.newest i.more one i.assumed k w c.in_ok-head.ensures;
+      assumed = assumes_more m c.numbers.machine c.assume_one.new.machine (c.numbers.left - 1) c.args.rules.to c.numbers.left c.args.place
+          c.numbers.tree c.in_ok-head.head c.in_ok-newest.newest i.more one i.assumed k w c.in_ok-head.ensures;
     }
 
 pub returns-clause-counts : goal.returns-clause-counts
@@ -48,4 +50,5 @@ pub returns-clause-tree : goal.returns-clause-tree
 returns-clause-tree c = tree_all c.args.machine.now c.numbers.machine c.args.rules.from c.args.rules.to c.numbers.left c.args.place.assumed c.numbers.tree c.numbers.invariant.tree c.numbers-test.false
 
 pub returns-clause-assumed : goal.returns-clause-assumed
-returns-clause-assumed c = assumes_all c.args.machine.now c.numbers.machine c.args.rules.from c.args.rules.to c.numbers.left c.args.place c.numbers.tree c.numbers.invariant.assumed c.numbers-test.false c.numbers.invariant.begun
+returns-clause-assumed c = assumes_all c.args.machine.now c.numbers.machine c.args.rules.from c.args.rules.to c.numbers.left c.args.place
+    c.numbers.tree c.numbers.invariant.assumed c.numbers-test.false c.numbers.invariant.begun

@@ -16,7 +16,8 @@ invariant-numbers l = record {
   counts : l.machine.counts ≡ l.fn.machine.counts;
   more : AssumesMore l.fn.machine l.machine;
   tree : IsTreeOf l.fn.machine l.machine l.left l.rules.to l.place.assumed l.tree;
-  assumed : (cs : Clauses) (before : List Clause) (σ : ℕ → Term) → StandsIn l.fn.machine → HasAssumed (lists_of l.fn.machine) l.place.assumed before → AreRules l.fn.machine.bank Never (shown l.fn.machine.table) l.left l.rules.to cs →
+  assumed : (cs : Clauses) (before : List Clause) (σ : ℕ → Term) → StandsIn l.fn.machine → HasAssumed (lists_of l.fn.machine) l.place.assumed before →
+      AreRules l.fn.machine.bank Never (shown l.fn.machine.table) l.left l.rules.to cs →
       HasValues l.fn.machine.bank (blocks_of l.fn.machine.scopes) l.place.values.scope σ → HasAssumed (lists_of l.machine) l.tree (clause_list (clauses_in σ l.place.values.types cs) ++ before);
 }
 

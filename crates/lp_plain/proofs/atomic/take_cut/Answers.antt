@@ -12,7 +12,8 @@ returns-clause-cuts g c =
     let k = c.args.place.mark in
     record {
       choices = c.cut.ensures.choices ∙ ap (λ z. take k z.items) s.choices;
-      counts = c.cut.ensures.counts ∙ ap (λ z. cut_off z (nat_lt k (length c.take_step.new.machine.choices.items))) (s.counts refl) ∙ ap (λ z. cut_off (one_step m.counts) (nat_lt k (length z.items))) s.choices;
+      counts = c.cut.ensures.counts ∙ ap (λ z. cut_off z (nat_lt k (length c.take_step.new.machine.choices.items))) (s.counts refl) ∙ ap
+          (λ z. cut_off (one_step m.counts) (nat_lt k (length z.items))) s.choices;
       branch = λ a b w. record {
         goals = reads_on m c.cut.new.self a c.args.behind b.goals (keeps_then m c.take_step.new.machine c.cut.new.self s.goals c.cut.ensures.goals) w.goals;
         next = ap (λ z. z.next) (c.cut.ensures.branch ∙ s.branch) ∙ w.next;
@@ -25,5 +26,6 @@ returns-clause-tasks g c = λ e tss keep h i.
     let m = c.args.machine.now in
     let s = c.if-not-take_step.ensures in
     let k = c.args.place.mark in
-    let counts = c.cut.ensures.counts ∙ ap (λ z. cut_off z (nat_lt k (length c.take_step.new.machine.choices.items))) (s.counts refl) ∙ ap (λ z. cut_off (one_step m.counts) (nat_lt k (length z.items))) s.choices in
+    let counts = c.cut.ensures.counts ∙ ap (λ z. cut_off z (nat_lt k (length c.take_step.new.machine.choices.items))) (s.counts refl) ∙ ap
+    (λ z. cut_off (one_step m.counts) (nat_lt k (length z.items))) s.choices in
     cut_tasks m _ k keep tss (c.cut.ensures.denied ∙ s.denied) (c.cut.ensures.choices ∙ ap (λ z. take k z.items) s.choices) (ap (λ z. z.lost) counts) h i
