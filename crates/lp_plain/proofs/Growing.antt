@@ -9,25 +9,25 @@ use Rattle.lp_term.specs.declared.node.TermId.{TermId}
 use Rattle.lp_term.proofs.Trees.{extends_same, extends-trans}
 use Rattle.lp_model.specs.Branch.{Entry}
 use Rattle.lp_model.specs.Flat.{Goal, Atomic, Goals, goal_list}
-use Rattle.lp_pattern.proofs.Keeps.{goes_on_then}
+use Rattle.lp_pattern.specs.Growing.{GoesOn}
+use Rattle.lp_pattern.proofs.Keeps.{goes_on_same, goes_on_then}
 use Rattle.lp_plain.specs.declared.frame.Frame.{Frame}
 use Rattle.lp_plain.specs.declared.frame.Place.{Place}
 use Rattle.lp_plain.specs.declared.frame.Todo.{Todo}
 use Rattle.lp_plain.specs.declared.machine.Machine.{Machine}
 use Rattle.lp_plain.specs.declared.scope.Block.{Block}
-use Rattle.lp_plain.specs.declared.scope.Scopes.{Scopes}
 use Rattle.lp_plain.specs.declared.table.Table.{Table}
-use Rattle.lp_plain.specs.Entries.{Around, AreAt, IsAt, AreTodo, AreEntries, no_frame, a_frame, IsListAt, IsOf, GrowsGoals, KeepsGoals, Reads, in_scope}
+use Rattle.lp_plain.specs.Entries.{Around, AreAt, HasValues, IsAt, AreTodo, AreEntries, no_frame, a_frame, HeadsTo, IsOf, GrowsGoals, KeepsGoals, Reads, in_scope}
 use Rattle.lp_plain.specs.Instances.{AreValues}
-use Rattle.lp_plain.specs.Scopes.{Holds, outermost, inside, IsScope, KeepsScopes, block_count, value_count}
+use Rattle.lp_plain.specs.Scopes.{Blocks, Holds, outermost, inside, blocks_of}
 use Rattle.lp_plain.specs.Tables.{shown, IsListOf}
 use Rattle.lp_plain.specs.Within.{IsTableIn, IsTodoIn, StandsIn}
 use Rattle.lp_plain.proofs.Frames.{frames_more, reads_on}
 use Rattle.lp_plain.proofs.Later.{goals_later, list_later, table_later}
-use Rattle.lp_plain.proofs.Scoped.{scope_wider}
+use Rattle.lp_plain.proofs.Scoped.{holds_more}
 use Rattle.lp_plain.proofs.Within.{all_at}
 
-all_taken : {X : Type 0} (P : X → Type 0) (n : ℕ) (xs : List X) → All P xs → All P (take n xs)
+pub all_taken : {X : Type 0} (P : X → Type 0) (n : ℕ) (xs : List X) → All P xs → All P (take n xs)
 all_taken P zero xs a = All-nil P
 all_taken P (suc n) [] a = a
 all_taken P (suc n) (x ∷ xs) a = All-cons P x (take n xs) (All-head P x xs a) (all_taken P n xs (All-tail P x xs a))
@@ -53,20 +53,22 @@ module _ (b d : Nodes) (x : Extends b d) where
       All-weaker (λ (t : TermId). (t.0 < length b.terms) × LooseBelow 0 0 (tree b t.0)) (λ (t : TermId). (t.0 < length d.terms) × LooseBelow 0 0 (tree d t.0))
       (λ t h. ((let m = x.more_terms in let l = h.0 in omega (arith, l, m)), subst (LooseBelow 0 0) (sym (x.same_terms t.0 h.0)) h.1)) vs a
 
-  module _ (s z : Scopes) (a : AreValues b s.values.items) (k : KeepsScopes s z (block_count s) (value_count s)) (lb : block_count s ≤ block_count z) (lv : value_count s ≤ value_count z) where
-    pub place_later : (p : Place) (σ : ℕ → Term) → IsAt b s p σ → IsAt d z p σ
-    place_later p σ h =
-        let vs = h.0 in
-        let all = all_taken (λ (t : TermId). (t.0 < length b.terms) × LooseBelow 0 0 (tree b t.0)) (value_count s) s.values.items a in (
+  module _ (s z : Blocks) (a : AreValues b s.values) (kb : GoesOn s.blocks z.blocks) (kv : GoesOn s.values z.values) where
+    pub scope_later : (o : Option ℕ) (σ : ℕ → Term) → HasValues b s o σ → HasValues d z o σ
+    scope_later o σ h =
+        let vs = h.0 in (
           vs,
-          scope_wider z (block_count s) (value_count s) (block_count z) (value_count z) p.values.scope vs lb lv (k p.values.scope vs h.1),
-          at_later vs σ (scope_all (λ (t : TermId). (t.0 < length b.terms) × LooseBelow 0 0 (tree b t.0)) (take (value_count s) s.values.items) (take (block_count s) s.blocks.items) p.values.scope vs all h.1) h.2,
+          subst (λ bs. Holds z.values bs o vs) (sym kb.1) (subst (λ us. Holds us (s.blocks ++ kb.0) o vs) (sym kv.1) (holds_more s.values kv.0 s.blocks kb.0 o vs h.1)),
+          at_later vs σ (scope_all (λ (t : TermId). (t.0 < length b.terms) × LooseBelow 0 0 (tree b t.0)) s.values s.blocks o vs a h.1) h.2,
         )
+
+    pub place_later : (p : Place) (σ : ℕ → Term) → IsAt b s p σ → IsAt d z p σ
+    place_later p σ h = scope_later p.values.scope σ h
 
     module _ (t : Table) (i : IsTableIn (length b.terms) t) where
       todo_later : (p : Place) (w : Todo) (gs : List Goal) → IsTodoIn (length b.terms) w → AreTodo b (shown t) s p w gs → AreTodo d (shown t) z p w gs
       todo_later p (Todo.Goals span) gs l h = (h.0, h.1, goals_later b d x t i span.from span.to h.0 h.2, place_later p h.1 h.3, h.4)
-      todo_later p (Todo.Term u) gs l h = h ∙ ap (λ v. Atomic v ∷ []) (sym (x.same_terms u.0 l))
+      todo_later p (Todo.Term u) gs l h = (h.0, subst (λ z. HeadsTo z h.0) (sym (x.same_terms u.0 l)) h.1, h.2)
 
       pub entries_later : (r : Around) {fs : List Frame} {o : Option ℕ} {es : List Entry} → All (λ f. IsTodoIn (length b.terms) f.todo) fs → AreEntries b (shown t) s r fs o es → AreEntries d (shown t) z r fs o es
       entries_later r l (no_frame e q) = no_frame e q
@@ -74,19 +76,13 @@ module _ (b d : Nodes) (x : Extends b d) where
           a_frame j f gs rest e g (todo_later f.place f.todo gs (all_at (λ (f : Frame). IsTodoIn (length b.terms) f.todo) fs j f g l) h) (entries_later r (all_taken (λ (f : Frame). IsTodoIn (length b.terms) f.todo) j fs l) w) q
 
 pub grows_then : (m n o : Machine) → GrowsGoals m n → GrowsGoals n o → GrowsGoals m o
-grows_then m n o g h =
-    let gb = g.blocks in
-    let gv = g.values in
-    let hb = h.blocks in
-    let hv = h.values in
-    record {
-      bank = extends-trans m.bank n.bank o.bank g.bank h.bank;
-      table = h.table ∙ g.table;
-      frames = goes_on_then m.frames.items n.frames.items o.frames.items g.frames h.frames;
-      scopes = λ nb nv lb lv w vs e. h.scopes nb nv (omega (arith, lb, gb)) (omega (arith, lv, gv)) w vs (g.scopes nb nv lb lv w vs e);
-      blocks = omega (arith, gb, hb);
-      values = omega (arith, gv, hv);
-    }
+grows_then m n o g h = record {
+  bank = extends-trans m.bank n.bank o.bank g.bank h.bank;
+  table = h.table ∙ g.table;
+  frames = goes_on_then m.frames.items n.frames.items o.frames.items g.frames h.frames;
+  blocks = goes_on_then m.scopes.blocks.items n.scopes.blocks.items o.scopes.blocks.items g.blocks h.blocks;
+  values = goes_on_then m.scopes.values.items n.scopes.values.items o.scopes.values.items g.values h.values;
+}
 
 pub grows_kept : (m n : Machine) → KeepsGoals m n → GrowsGoals m n
 grows_kept m n k =
@@ -95,21 +91,17 @@ grows_kept m n k =
       bank = subst (λ b. Extends m.bank b) (sym k.known.bank) (extends_same m.bank);
       table = k.known.table;
       frames = k.frames;
-      scopes = λ nb nv lb lv w vs e. subst (λ z. IsScope z nb nv w vs) (sym s) e;
-      blocks = subst (λ z. block_count m.scopes ≤ block_count z) (sym s) (omega arith);
-      values = subst (λ z. value_count m.scopes ≤ value_count z) (sym s) (omega arith);
+      blocks = subst (λ z. GoesOn m.scopes.blocks.items z.blocks.items) (sym s) (goes_on_same m.scopes.blocks.items);
+      values = subst (λ z. GoesOn m.scopes.values.items z.values.items) (sym s) (goes_on_same m.scopes.values.items);
     }
 
 -- in a search
 module _ (m n : Machine) (i : StandsIn m) (g : GrowsGoals m n) where
-  keeps_all : KeepsScopes m.scopes n.scopes (block_count m.scopes) (value_count m.scopes)
-  keeps_all = g.scopes (block_count m.scopes) (value_count m.scopes) (omega arith) (omega arith)
-
   pub reads_later : (a : Around) (o : Option ℕ) (es : List Entry) → Reads m a o es → Reads n a o es
   reads_later a o es r =
-      subst (λ t. AreEntries n.bank (shown t) n.scopes a n.frames.items o es) (sym g.table)
-      (subst (λ fs. AreEntries n.bank (shown m.table) n.scopes a fs o es) (sym g.frames.1)
-      (frames_more n.bank (shown m.table) n.scopes a m.frames.items g.frames.0 (entries_later m.bank n.bank g.bank m.scopes n.scopes i.values keeps_all g.blocks g.values m.table i.table a i.frames r)))
+      subst (λ t. AreEntries n.bank (shown t) (blocks_of n.scopes) a n.frames.items o es) (sym g.table)
+      (subst (λ fs. AreEntries n.bank (shown m.table) (blocks_of n.scopes) a fs o es) (sym g.frames.1)
+      (frames_more n.bank (shown m.table) (blocks_of n.scopes) a m.frames.items g.frames.0 (entries_later m.bank n.bank g.bank (blocks_of m.scopes) (blocks_of n.scopes) i.values g.blocks g.values m.table i.table a i.frames r)))
 
   pub of_later : (p : Place) (list : ℕ) (hs : Goals) (σ : ℕ → Term) → IsOf m p list hs σ → IsOf n p list hs σ
-  of_later p list hs σ h = (subst (λ t. IsListOf n.bank t list hs) (sym g.table) (list_later m.bank n.bank g.bank m.table i.table list hs h.0), place_later m.bank n.bank g.bank m.scopes n.scopes i.values keeps_all g.blocks g.values p σ h.1)
+  of_later p list hs σ h = (subst (λ t. IsListOf n.bank t list hs) (sym g.table) (list_later m.bank n.bank g.bank m.table i.table list hs h.0), place_later m.bank n.bank g.bank (blocks_of m.scopes) (blocks_of n.scopes) i.values g.blocks g.values p σ h.1)

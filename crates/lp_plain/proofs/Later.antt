@@ -88,7 +88,7 @@ module _ (b d : Nodes) (x : Extends b d) where
       goals_later from to no_goals h = h
       goals_later from to (goals g gs) h = (h.0, h.1, goal_later h.0 g (all_at (IsFlatIn (length b.terms)) t.goals.items from h.0 h.1 i.goals) h.2, goals_later (suc from) to gs h.3)
 
-      rule_later : (k : ℕ) (c : Clause) → IsRule b Never (shown t) k c → IsRule d Never (shown t) k c
+      pub rule_later : (k : ℕ) (c : Clause) → IsRule b Never (shown t) k c → IsRule d Never (shown t) k c
       rule_later k (clause n vs h body) r =
           (r.0, r.1, r.2, head_later (length vs) r.0 h (all_at (IsRuleIn (length b.terms)) t.rules.items k r.0 r.1 i.rules) r.3, listed_later r.0.body body (λ i j. goals_later i j body) r.4)
 

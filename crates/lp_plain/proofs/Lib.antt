@@ -30,3 +30,11 @@ pub mod Programs
 pub mod Starts
 pub mod Growing
 pub mod Opening
+pub mod LaterIndex
+pub mod Stacking
+pub mod AppliedGoals
+pub mod Restored
+pub mod Assumed
+pub mod Assuming
+pub mod Trying
+pub mod Tries

@@ -1,6 +1,6 @@
 -- A tree with a new node for a head, and copies of the nodes on the way to it, finds the new assumption for this head, and for each other head what the old tree finds.
-use Rattle.std.proofs.Common.{◌≡◌, ℕ, zero, suc, ◌/◌, List, [], ◌∷◌, ◌++◌, reverse, length, Option, Some, None, refl, sym, ap, ◌∙◌, subst, inl, inr}
-use Rattle.std.proofs.lemmas.List.{reverse-append}
+use Rattle.std.proofs.Common.{◌≡◌, ℕ, zero, suc, ◌/◌, List, [], ◌∷◌, ◌++◌, reverse, length, Option, Some, None, refl, sym, ap, ◌∙◌, subst, arith, inl, inr}
+use Rattle.std.proofs.lemmas.List.{length-append, reverse-append}
 use Rattle.std.specs.Prelude.{Bool, true, false, slice_get, ◌⊎◌}
 use Rattle.lp_pattern.specs.Growing.{GoesOn}
 use Rattle.lp_pattern.proofs.Keeps.{goes_on_then}
@@ -162,6 +162,8 @@ built_begins old new head tree number root steps end w e r = record {
   bits = w.bits;
   comes = w.comes;
   stands = end_put old new head number w.place w.bits end root w.is_end e r;
+  fresh = omega (arith, r);
+  within = (let l = ap length e ∙ length-append old (node_of end head number ∷ []) in omega (arith, l, r));
 }
 
 -- the last step is taken back
@@ -178,6 +180,8 @@ back old now new head tree number below root left s {o = o} {bits = bits} (goes_
       bits = b;
       comes = subst (λ z. Comes old head tree z (Some i) b) others rest;
       stands = copied old now new head number o bits below root i b s g w (subst (λ (z : Step). slice_get old i ≡ Some z.node) same got) (λ p. h (ap (λ (z : Step). z.node.head) same ∙ p)) (ap (λ (z : Step). z.is_odd) (sym same) ∙ d) (c ∙ ap (λ (z : Step). child_of z.node (is_odd b)) same) l n r;
+      fresh = (let m = ap length g.1 ∙ length-append old g.0 in omega (arith, m, r));
+      within = (let m = ap length n ∙ length-append now (set_child s.node s.is_odd below ∷ []) in omega (arith, m, r));
     }
 
 pub built_further : (old now new : List Newest) (head : Head) (tree : Option ℕ) (number below root : ℕ) (steps left : List Step) (s : Step) → IsBuilt old now head tree number (reverse steps) below → steps ≡ left ++ s ∷ [] → new ≡ now ++ set_child s.node s.is_odd below ∷ [] → root ≡ length now

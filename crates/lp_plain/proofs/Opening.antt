@@ -21,7 +21,7 @@ use Rattle.lp_plain.specs.declared.types.Renewal.{Renewal}
 use Rattle.lp_plain.specs.Apart.{apart}
 use Rattle.lp_plain.specs.Entries.{Around, AreAt, ArePartsOf, IsAt, IsBehind, IsBranchAt, IsListAt, IsOf, GrowsGoals, KeepsGoals, Reads, entry_at, in_scope, placed}
 use Rattle.lp_plain.specs.Opening.{cons, IsNewVariable, IsRaised, IsBoundBy}
-use Rattle.lp_plain.specs.Scopes.{IsScope, block_count, value_count}
+use Rattle.lp_plain.specs.Scopes.{Holds}
 use Rattle.lp_plain.specs.Instances.{AreValues}
 use Rattle.lp_plain.specs.Within.{IsTableIn, IsTodoIn, StandsIn}
 use Rattle.lp_plain.proofs.Growing.{grows_then, grows_kept, of_later, reads_later, values_later}
@@ -35,9 +35,8 @@ bank_grows m n x t f s = record {
   bank = x;
   table = t;
   frames = ([], ap (λ v. v.items) f ∙ sym (append-nil m.frames.items));
-  scopes = λ nb nv lb lv o vs h. subst (λ z. IsScope z nb nv o vs) (sym s) h;
-  blocks = subst (λ z. block_count m.scopes ≤ block_count z) (sym s) (omega arith);
-  values = subst (λ z. value_count m.scopes ≤ value_count z) (sym s) (omega arith);
+  blocks = ([], ap (λ v. v.blocks.items) s ∙ sym (append-nil m.scopes.blocks.items));
+  values = ([], ap (λ v. v.values.items) s ∙ sym (append-nil m.scopes.values.items));
 }
 
 pub bank_stands : (m n : Machine) → Extends m.bank n.bank → n.table ≡ m.table → n.frames ≡ m.frames → n.scopes ≡ m.scopes → StandsIn m → StandsIn n
@@ -93,7 +92,7 @@ module _ (m n o q : Machine) (p above inner : Place) (t : TermId) (list : ℕ) (
   later_list =
       let z = of_later m n i g p list hs σ of in
       let y = of_later n o j w.grows p list hs σ z in
-      (hs, cons (tree n.bank t.0) σ, y.0, w.opened σ (subst (λ x. (vs : List TermId) × IsScope n.scopes (block_count n.scopes) (value_count n.scopes) x.scope vs × AreAt n.bank vs σ) (sym v) z.1), refl)
+      (hs, cons (tree n.bank t.0) σ, y.0, w.opened σ (subst (λ x. (vs : List TermId) × Holds n.scopes.values.items n.scopes.blocks.items x.scope vs × AreAt n.bank vs σ) (sym v) z.1), refl)
 
   pub reads_opened : (u : Term) (A : List Clause) (wr : Written) (l k : ℕ) → tree n.bank t.0 ≡ u → a.assumed inner.assumed ≡ A → a.written inner.standing ≡ wr → inner.level ≡ l → a.mark inner.mark ≡ k →
       Reads q a front (entries (opened u (in_scope (lifted σ) p.values.types hs)) A wr l k ++ b.goals)

@@ -1,9 +1,9 @@
 -- The clauses of a program are put into the table, formula by formula, while the bank grows.
-use Rattle.std.proofs.Common.{◌≡◌, ℕ, suc, ◌+◌, ◌<◌, List, [], ◌∷◌, ◌++◌, map, length, take, inl, inr, refl, sym, ap, ◌∙◌, subst, arith, add-one, Option, None, Some}
+use Rattle.std.proofs.Common.{◌≡◌, ℕ, suc, ◌+◌, ◌<◌, ◌≤◌, List, [], ◌∷◌, ◌++◌, map, length, take, inl, inr, refl, sym, ap, ◌∙◌, subst, arith, add-one, Option, None, Some}
 use Rattle.std.specs.Prelude.{All, slice_get}
 use Rattle.std.proofs.lemmas.List.{map-append}
-use Rattle.std.proofs.lemmas.List.Elements.{All-nil, All-cons, All-head, All-tail}
-use Rattle.lp_lemmas.proofs.Elements.{All_empty}
+use Rattle.std.proofs.lemmas.List.Elements.{All-cons, All-head, All-tail, All-weaker}
+use Rattle.lp_lemmas.proofs.Elements.{All_empty, All_pushed}
 use Rattle.lp_lemmas.proofs.Lists.{get_map, get_from_map, take_suc}
 use Rattle.lp_calculus.specs.Typing.{Scheme}
 use Rattle.lp_calculus.specs.Term.{Term}
@@ -27,7 +27,7 @@ use Rattle.lp_plain.specs.inner.Programs.{ArePut}
 use Rattle.lp_plain.specs.inner.Tabling.{LeadsTo}
 use Rattle.lp_plain.proofs.Later.{rules_later}
 use Rattle.lp_plain.proofs.Tabled.{rules_on}
-use Rattle.lp_plain.proofs.Within.{all_at}
+use Rattle.lp_plain.proofs.Within.{all_at, longer_list}
 
 pub empty_within : (n : ℕ) (t : Table) → t.goals.items ≡ [] → t.rules.items ≡ [] → IsTableIn n t
 empty_within n t g r = record { goals = All_empty (IsFlatIn n) t.goals.items g; rules = All_empty (IsRuleIn n) t.rules.items r }
@@ -68,7 +68,7 @@ ends_in (w ∷ xs) x (y ∷ ys) e =
 
 -- nothing is put yet
 pub none_put : (fs : List ClauseFormula) (b : Nodes) (t : Table) (spans : List Span) → spans ≡ [] → ArePut fs b b t t spans 0
-none_put fs b t spans e = record { kept = extends_same b; within = λ i. i; spans_are = λ i f n d css h. subst (λ ss. AreProgramOf b t ss css) (sym e) (go css h) }
+none_put fs b t spans e = record { kept = extends_same b; ends = All_empty (λ (s : Span). s.to ≤ length t.rules.items) spans e; within = λ i. i; spans_are = λ i f n d css h. subst (λ ss. AreProgramOf b t ss css) (sym e) (go css h) }
   where
     go : (css : List Clauses) → [] ≡ map Some css → AreProgramOf b t [] css
     go [] h = tt
@@ -77,7 +77,7 @@ none_put fs b t spans e = record { kept = extends_same b; within = λ i. i; span
 -- the clauses of one formula more
 module _ (fs : List ClauseFormula) (a b d : Nodes) (t u v : Table) (spans spans' : List Span) (k k' : ℕ) (f : ClauseFormula) (cs : List CodeClause) (s : Span) (p : ArePut fs a b t u spans k) (x : Extends b d) (got : slice_get fs k ≡ Some f)
     (flat : (n : ℕ) (e : ℕ → Option Scheme) (g : Clauses) (later : Nodes) → flatten n e (formula_of b f) ≡ Some g → Extends d later → clauses_of later cs ≡ g)
-    (inside : IsTableIn (length b.terms) u → IsTableIn (length d.terms) v) (means : AreClausesOf d v s (clauses_of d cs)) (leads : LeadsTo d Never Never (shown u) (shown v)) (more : spans' ≡ spans ++ s ∷ []) (next : k' ≡ suc k) where
+    (inside : IsTableIn (length b.terms) u → IsTableIn (length d.terms) v) (means : AreClausesOf d v s (clauses_of d cs)) (leads : LeadsTo d Never Never (shown u) (shown v)) (more : spans' ≡ spans ++ s ∷ []) (next : k' ≡ suc k) (end : s.to ≤ length v.rules.items) where
   same_formula : f.formula.0 < length a.terms → formula_of b f ≡ formula_of a f
   same_formula l = ap (λ z. record { type_vars = f.type_vars; formula = z }) (p.kept.same_terms f.formula.0 l)
 
@@ -94,8 +94,13 @@ module _ (fs : List ClauseFormula) (a b d : Nodes) (t u v : Table) (spans spans'
       subst (λ ss. AreProgramOf d v ss css) (sym more)
       (subst (AreProgramOf d v (spans ++ s ∷ [])) (sym r.whole) (program_push d v spans r.front s r.last (older r.front (p.within i) (p.spans_are i j n e r.front r.fronts)) (subst (AreClausesOf d v s) q means)))
 
+  ends_more : All (λ s. s.to ≤ length v.rules.items) spans'
+  ends_more =
+      let l = longer_list u.rules.items v.rules.items leads.rules in
+      All_pushed (λ (s : Span). s.to ≤ length v.rules.items) spans' spans s more (All-weaker (λ (s : Span). s.to ≤ length u.rules.items) (λ (s : Span). s.to ≤ length v.rules.items) (λ r h. omega (arith, h, l)) spans p.ends) end
+
   pub one_put : ArePut fs a d t v spans' k'
-  one_put = record { kept = extends-trans a b d p.kept x; within = λ i. inside (p.within i); spans_are = spans_more }
+  one_put = record { kept = extends-trans a b d p.kept x; ends = ends_more; within = λ i. inside (p.within i); spans_are = spans_more }
 
 -- clauses whose links are others
 

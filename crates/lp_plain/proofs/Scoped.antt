@@ -140,6 +140,13 @@ scope_opened s z k us vs p q f n w i e =
     mine : take k.count (drop k.from (s.values.items ++ us)) ≡ us
     mine = (λ j. take (n j) (drop (f j) (s.values.items ++ us))) ∙ ap (take (length us)) (dropped s.values.items us) ∙ take_whole us
 
+-- all blocks and values
+pub whole_scope : (s : Scopes) (o : Option ℕ) (vs : List TermId) → Holds s.values.items s.blocks.items o vs → IsScope s (length s.blocks.items) (length s.values.items) o vs
+whole_scope s o vs h = transport (λ bs. Holds (take (length s.values.items) s.values.items) bs o vs) (sym (take_whole s.blocks.items)) (transport (λ l. Holds l s.blocks.items o vs) (sym (take_whole s.values.items)) h)
+
+pub scope_whole : (s : Scopes) (o : Option ℕ) (vs : List TermId) → IsScope s (length s.blocks.items) (length s.values.items) o vs → Holds s.values.items s.blocks.items o vs
+scope_whole s o vs h = transport (λ bs. Holds s.values.items bs o vs) (take_whole s.blocks.items) (transport (λ l. Holds l (take (length s.blocks.items) s.blocks.items) o vs) (take_whole s.values.items) h)
+
 -- no values: the scope around
 pub scope_stays : (s : Scopes) (o : Option ℕ) (us vs : List TermId) → us ≡ [] → IsScope s (length s.blocks.items) (length s.values.items) o vs → IsScope s (length s.blocks.items) (length s.values.items) o (us ++ vs)
 scope_stays s o us vs e w = transport (λ l. IsScope s (length s.blocks.items) (length s.values.items) o (l ++ vs)) (sym e) w

@@ -1,12 +1,14 @@
 -- Terms of a table stay among those of a bank while goals and clauses are put there.
-use Rattle.std.proofs.Common.{◌≡◌, ℕ, zero, suc, ◌<◌, ◌≤◌, List, [], ◌∷◌, ◌++◌, map, refl, sym, ap, ◌∙◌, subst, arith, Bor}
+use Rattle.std.proofs.Common.{◌≡◌, ℕ, zero, suc, ◌<◌, ◌≤◌, List, [], ◌∷◌, ◌++◌, length, map, refl, sym, ap, ◌∙◌, subst, arith, Bor}
 use Rattle.std.specs.Prelude.{All, slice_get, Some}
 use Rattle.std.proofs.lemmas.List.Elements.{All-head, All-tail}
 use Rattle.lp_lemmas.proofs.Elements.{All_empty, All_pushed}
+use Rattle.lp_lemmas.proofs.Lists.{length_front}
 use Rattle.lp_model.specs.declared.clause.Goal.{Goal as CodeGoal}
 use Rattle.lp_model.specs.declared.clause.Clause.{Clause as CodeClause}
 use Rattle.lp_normal.specs.Within.{highest, term_bound, clause_term_bound}
 use Rattle.lp_normal.proofs.Meanings.{clause_terms}
+use Rattle.lp_pattern.specs.Growing.{GoesOn}
 use Rattle.lp_plain.specs.declared.table.Flat.{Flat}
 use Rattle.lp_plain.specs.declared.table.Rule.{Rule}
 use Rattle.lp_plain.specs.declared.table.Table.{Table}
@@ -28,6 +30,9 @@ highest_parts f n (y ∷ ys) x h =
 
 pub table_same : (n : ℕ) (t u : Table) → u.goals ≡ t.goals → u.rules ≡ t.rules → IsTableIn n t → IsTableIn n u
 table_same n t u eg er h = record { goals = subst (λ v. All (IsFlatIn n) v.items) (sym eg) h.goals; rules = subst (λ v. All (IsRuleIn n) v.items) (sym er) h.rules }
+
+pub longer_list : {X : Type 0} (xs ys : List X) → GoesOn xs ys → length xs ≤ length ys
+longer_list xs ys g = subst (λ l. length xs ≤ length l) (sym g.1) (length_front xs g.0)
 
 -- nothing is put
 pub stays_same : (n : ℕ) (t : Table) (l : Late) (k : ℕ) → Stays n k t t l l

@@ -24,10 +24,11 @@ IsAround (Denied d) m = (m.denied ≡ d.around) × (m.counts.lost ≡ d.lost)
 IsAround (Goals g) m = Unit {0}
 IsAround (Clauses k c) m = Unit {0}
 
--- what is known of terms: the bank, the bindings, the values of variables, the clauses and what is written in them
+-- what is known of terms: the bank, the bindings, the values of variables, the clauses and what is written in them, and where clauses are found
 pub record KeepsKnown (old new : Machine) : Type 0 where
   pub bank : new.bank ≡ old.bank
   pub bindings : new.bindings ≡ old.bindings
   pub scopes : new.scopes ≡ old.scopes
   pub table : new.table ≡ old.table
   pub standings : new.standings ≡ old.standings
+  pub index : new.index ≡ old.index

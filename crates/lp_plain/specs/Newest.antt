@@ -1,5 +1,5 @@
 -- The trees of newest assumptions: what a tree finds for a head.
-use Rattle.std.specs.Prelude.{◌≡◌, ℕ, ◌+◌, ◌*◌, ◌/◌, ◌%◌, ◌^◌, Bool, if◌then◌else◌, List, [], ◌∷◌, Option, Some, None, slice_get, nat_eq}
+use Rattle.std.specs.Prelude.{◌≡◌, ℕ, ◌<◌, ◌≤◌, length, ◌+◌, ◌*◌, ◌/◌, ◌%◌, ◌^◌, Bool, if◌then◌else◌, List, [], ◌∷◌, Option, Some, None, slice_get, nat_eq}
 use Rattle.lp_pattern.specs.Growing.{GoesOn}
 use Rattle.lp_plain.specs.declared.head.Head.{Head}
 use Rattle.lp_plain.specs.declared.head.Head.TheVariants.{Constant, Eigen}
@@ -68,3 +68,5 @@ pub record IsBuilt (old new : List Newest) (head : Head) (tree : Option ℕ) (nu
   pub bits : ℕ
   pub comes : Comes old head tree left place bits
   pub stands : IsWith old new head number place bits root
+  pub fresh : length old ≤ root
+  pub within : root < length new

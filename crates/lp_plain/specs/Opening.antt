@@ -7,6 +7,7 @@ use Rattle.lp_term.specs.declared.node.TermId.{TermId}
 use Rattle.lp_plain.specs.declared.frame.Place.{Place}
 use Rattle.lp_plain.specs.declared.machine.Machine.{Machine}
 use Rattle.lp_plain.specs.Entries.{GrowsGoals, IsAt}
+use Rattle.lp_plain.specs.Scopes.{blocks_of}
 use Rattle.lp_plain.specs.Within.{StandsIn}
 
 -- one more value for an index, the innermost one
@@ -42,7 +43,7 @@ pub record IsBoundBy (old new : Machine) (place inner : Place) (value : TermId) 
   pub grows : GrowsGoals old new
   pub choices : new.choices.items ≡ old.choices.items
   pub branch : new.branch ≡ old.branch
-  pub opened : (σ : ℕ → Term) → IsAt old.bank old.scopes place σ → IsAt new.bank new.scopes inner (cons (tree old.bank value.0) σ)
+  pub opened : (σ : ℕ → Term) → IsAt old.bank (blocks_of old.scopes) place σ → IsAt new.bank (blocks_of new.scopes) inner (cons (tree old.bank value.0) σ)
   pub stands : value.0 < length old.bank.terms → LooseBelow 0 0 (tree old.bank value.0) → StandsIn old → StandsIn new
   pub types : inner.values.types ≡ place.values.types
   pub assumed : inner.assumed ≡ place.assumed

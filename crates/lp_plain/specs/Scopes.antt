@@ -2,6 +2,7 @@
 use Rattle.std.specs.Prelude.{◌≡◌, ℕ, suc, ◌+◌, ◌≤◌, List, [], ◌++◌, length, take, drop, Option, Some, None, slice_get}
 use Rattle.lp_term.specs.declared.node.TermId.{TermId}
 use Rattle.lp_plain.specs.declared.scope.Block.{Block}
+use Rattle.lp_plain.specs.declared.scope.ScopeMark.{ScopeMark}
 use Rattle.lp_plain.specs.declared.scope.Scopes.{Scopes}
 
 -- the values of a scope, innermost first. Around each block is an older one
@@ -13,6 +14,18 @@ pub data Holds (values : List TermId) : List Block → Option ℕ → List TermI
 -- so within the oldest blocks and values, as many as this
 abbrev pub IsScope : Scopes → (blocks values : ℕ) → Option ℕ → List TermId → Type 0
 IsScope s nb nv o vs = Holds (take nv s.values.items) (take nb s.blocks.items) o vs
+
+-- the blocks and values of scopes
+pub record Blocks : Type 0 where
+  pub blocks : List Block
+  pub values : List TermId
+
+abbrev pub blocks_of : Scopes → Blocks
+blocks_of s = record { blocks = s.blocks.items; values = s.values.items }
+
+-- the oldest of them, up to a mark
+abbrev pub blocks_at : ScopeMark → Scopes → Blocks
+blocks_at k s = record { blocks = take k.blocks s.blocks.items; values = take k.values s.values.items }
 
 abbrev pub block_count : Scopes → ℕ
 block_count s = length s.blocks.items

@@ -1,6 +1,9 @@
 // Atomic goals: a step each.
-ghost use Rattle.std.specs.Prelude.{IfOk};
+ghost use Rattle.std.specs.Prelude.{◌≡◌, ℕ, List, IfOk};
+ghost use Rattle.lp_model.specs.Branch.{Task};
+ghost use Rattle.lp_plain.specs.declared.outcome.Turn.{Turn};
 ghost use Rattle.lp_plain.specs.Cuts.{CutsOff};
+ghost use Rattle.lp_plain.specs.Stacks.{CutsTasks, HaveTasks, IsMarkOf};
 
 use crate::arithmetic::{Outcome, Value, evaluate, holds, term_of};
 use crate::attempt::attempt;
@@ -166,7 +169,8 @@ pub(crate) fn take_cut<W: Watch>(
     place: Place,
     behind: Option<usize>,
 ) -> Result<Turn, Memory>
-    ensures { IfOk result (λ turn. CutsOff turn machine.old machine.new place.mark behind) }
+    ensures cuts { IfOk result (λ turn. CutsOff turn machine.old machine.new place.mark behind) }
+    ensures tasks { IfOk result (λ turn. turn ≡ Turn.On → (tss : List (List Task)) (keep : ℕ) → HaveTasks machine.old tss → IsMarkOf machine.old tss place.mark keep → CutsTasks machine.old machine.new place.mark keep tss) }
 {
     if !take_step(machine) {
         return Ok(Turn::Ended(Ending::Steps));

@@ -7,6 +7,8 @@ mod act;
 mod answer;
 // The values of expressions.
 mod arithmetic;
+// Clauses that are assumed.
+mod assume;
 // One try of a clause for a goal.
 mod attempt;
 // Atomic goals: a step each.

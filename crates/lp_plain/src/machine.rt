@@ -1,13 +1,20 @@
 // What a search works on: one bank and one list of bindings for all branches. An alternative holds what leads back to
 // its branch.
-ghost use Rattle.std.specs.Prelude.{◌≡◌, ◌++◌, List, OnOk, IfOk, IfSome, length, nat_lt, take, slice_get};
+ghost use Rattle.std.specs.Prelude.{◌≡◌, ℕ, ◌∷◌, ◌++◌, [], List, OnOk, IfOk, IfSome, length, nat_lt, take, slice_get, Option, Some};
+ghost use Rattle.lp_calculus.specs.Term.{Atom, Term};
+ghost use Rattle.lp_plain.specs.declared.choice.Choice.{Choice};
 ghost use Rattle.lp_model.specs.Branch.{Entry};
-ghost use Rattle.lp_model.specs.Flat.{Goal};
+ghost use Rattle.lp_model.specs.Flat.{Clause, Clauses, Goal};
+ghost use Rattle.lp_model.specs.Search.{candidates};
+ghost use Rattle.lp_plain.specs.Assuming.{HasAssumed, HasFrameAt, KeepsAssumed, lists_of};
 ghost use Rattle.lp_plain.specs.Cuts.{cut_off};
 ghost use Rattle.lp_plain.specs.Entries.{Around, AreTodo, IsListAt, HasAlternative, KeepsGoals, Reads, placed};
 ghost use Rattle.lp_plain.specs.Keeping.{HasOneMore, IsAround, KeepsCourse};
 ghost use Rattle.lp_plain.specs.Opening.{IsNewVariable};
+ghost use Rattle.lp_plain.specs.Restoring.{IsRestored, IsTaken};
+ghost use Rattle.lp_plain.specs.Scopes.{block_count, blocks_of, value_count};
 ghost use Rattle.lp_plain.specs.Tables.{shown};
+ghost use Rattle.lp_plain.specs.Trying.{AreApplied, AreOfProgram, AreTries, HasProgram, IsCallOf, IsTried, all_clauses, first_in};
 ghost use Rattle.lp_plain.specs.Within.{IsTodoIn, StandsIn};
 
 use crate::act::Act;
@@ -75,6 +82,8 @@ impl Machine {
     ) -> Result<Option<usize>, Memory>
         ensures course { KeepsCourse self.old self.new }
         ensures goals { OnOk result (KeepsGoals self.old self.new) }
+        ensures assumed { OnOk result (KeepsAssumed self.old self.new) }
+        ensures frame { OnOk result (HasFrameAt self.old self.new place) }
         ensures stands { OnOk result (StandsIn self.old → StandsIn self.new) }
         ensures reads { IfOk result (λ o. (a : Around) (gs : List Goal) (es : List Entry) → IsListAt self.old place list gs → Reads self.old a behind es → Reads self.new a o (placed a place gs ++ es)) }
     {
@@ -94,8 +103,10 @@ impl Machine {
     ) -> Result<Option<usize>, Memory>
         ensures course { KeepsCourse self.old self.new }
         ensures goals { OnOk result (KeepsGoals self.old self.new) }
+        ensures assumed { OnOk result (KeepsAssumed self.old self.new) }
+        ensures frame { OnOk result (HasFrameAt self.old self.new place) }
         ensures stands { OnOk result (IsTodoIn (length self.old.bank.terms) todo → StandsIn self.old → StandsIn self.new) }
-        ensures reads { IfOk result (λ o. (a : Around) (gs : List Goal) (es : List Entry) → AreTodo self.old.bank (shown self.old.table) self.old.scopes place todo gs → Reads self.old a behind es → Reads self.new a o (placed a place gs ++ es)) }
+        ensures reads { IfOk result (λ o. (a : Around) (gs : List Goal) (es : List Entry) → AreTodo self.old.bank (shown self.old.table) (blocks_of self.old.scopes) place todo gs → Reads self.old a behind es → Reads self.new a o (placed a place gs ++ es)) }
     {
         let number = self.frames.len();
         self.frames.push(Frame {
@@ -126,32 +137,48 @@ impl Machine {
         instance(self.alloc, &mut self.bank, &self.scopes, place.values, term)
     }
 
-    pub(crate) fn first_candidate(&self, call: &Call) -> Result<Option<Candidate>, Memory> {
-        first_candidate(
+    /// The first of the clauses that are tried for a call.
+    pub(crate) fn first_candidate(&self, call: &Call) -> Result<Option<Candidate>, Memory>
+        ensures tries { IfOk result (λ found. (ar : ℕ → ℕ) (css : List Clauses) (before : List Clause) (t : Term) (key : Option Atom) → HasProgram self.now css → HasAssumed (lists_of self.now) call.now.place.assumed before → IsCallOf ar self.now.bank call.now t key →
+            AreOfProgram ar (all_clauses css) → AreApplied ar before → AreTries (lists_of self.now) (first_in self.now call.now.head) call.now.key found (candidates (all_clauses css) before t key)) }
+    {
+        let found = first_candidate(
             &self.bank,
             &self.table.rules,
             &self.index,
             &self.newest,
             call,
-        )
+        )?;
+        Ok(found)
     }
 
+    /// The next one behind a candidate.
     pub(crate) fn candidate_after(
         &self,
         call: &Call,
         candidate: Candidate,
-    ) -> Result<Option<Candidate>, Memory> {
-        candidate_after(
+    ) -> Result<Option<Candidate>, Memory>
+        ensures tries { IfOk result (λ found. (cs : List Clause) → AreTries (lists_of self.now) (first_in self.now call.now.head) call.now.key (Some candidate) cs → IsTried (lists_of self.now) (first_in self.now call.now.head) call.now.key candidate found cs) }
+    {
+        let found = candidate_after(
             &self.bank,
             &self.table.rules,
             &self.index,
             &self.assumptions,
             call,
             candidate,
-        )
+        )?;
+        Ok(found)
     }
 
-    fn lengths(&self) -> Lengths {
+    fn lengths(&self) -> Lengths
+        ensures frames { result.frames ≡ length self.now.frames.items }
+        ensures blocks { result.scopes.blocks ≡ block_count self.now.scopes }
+        ensures values { result.scopes.values ≡ value_count self.now.scopes }
+        ensures assumptions { result.assumptions ≡ length self.now.assumptions.items }
+        ensures newest { result.newest ≡ length self.now.newest.items }
+        ensures standings { result.standings ≡ length self.now.standings.items }
+    {
         Lengths {
             frames: self.frames.len(),
             assumptions: self.assumptions.len(),
@@ -167,6 +194,7 @@ impl Machine {
         ensures frames { self.new.frames ≡ self.old.frames }
         ensures course { KeepsCourse self.old self.new }
         ensures goals { KeepsGoals self.old self.new }
+        ensures assumed { KeepsAssumed self.old self.new }
     {
         self.acts.push(act)?;
         Ok(())
@@ -195,7 +223,9 @@ impl Machine {
     }
 
     // Goes back to the branch of an alternative.
-    fn restore(&mut self, choice: &Choice) -> Result<(), Memory> {
+    fn restore(&mut self, choice: &Choice) -> Result<(), Memory>
+        ensures { OnOk result (IsRestored self.old self.new choice.now) }
+    {
         self.bindings.undo(choice.bindings);
         self.frames.truncate(choice.lengths.frames);
         self.assumptions.truncate(choice.lengths.assumptions);
@@ -210,7 +240,9 @@ impl Machine {
     }
 
     /// Takes the newest alternative: goes back to its branch, and gives what was left to try.
-    pub(crate) fn take_choice(&mut self) -> Result<Option<Untried>, Memory> {
+    pub(crate) fn take_choice(&mut self) -> Result<Option<Untried>, Memory>
+        ensures { IfOk result (λ o. (c : Choice) (rest : List Choice) → self.old.choices.items ≡ rest ++ c ∷ [] → (o ≡ Some c.untried) × IsTaken self.old self.new c rest) }
+    {
         let Some(choice) = self.choices.pop() else {
             return Ok(None);
         };
@@ -247,6 +279,7 @@ impl Machine {
 
     /// Keeps only the oldest alternatives.
     pub(crate) fn cut(&mut self, mark: usize)
+        ensures denied { self.new.denied ≡ self.old.denied }
         ensures choices { self.new.choices.items ≡ take mark self.old.choices.items }
         ensures counts { self.new.counts ≡ cut_off self.old.counts (nat_lt mark (length self.old.choices.items)) }
         ensures branch { self.new.branch ≡ self.old.branch }

@@ -1,5 +1,5 @@
 // The newest assumption of each head: a digital search tree (Coffman and Eve 1970) whose nodes are shared by branches. A change copies the way to it.
-ghost use Rattle.std.specs.Prelude.{◌≡◌, ◌++◌, ◌∷◌, [], true, false, length, reverse, IfOk};
+ghost use Rattle.std.specs.Prelude.{◌≡◌, ◌<◌, ◌≤◌, ◌++◌, ◌∷◌, [], true, false, length, reverse, IfOk};
 ghost use Rattle.lp_pattern.specs.Growing.{GoesOn};
 ghost use Rattle.lp_plain.specs.Newest.{code_of, is_odd, child_of, set_child, node_of, IsNewest, IsWith, IsWay};
 
@@ -182,6 +182,8 @@ pub(crate) fn with_newest(
 ) -> Result<usize, Memory>
     ensures kept { GoesOn nodes.old.items nodes.new.items }
     ensures newest { IfOk result (λ root. IsWith nodes.old.items nodes.new.items head number tree (code_of head) root) }
+    ensures fresh { IfOk result (λ root. length nodes.old.items ≤ root) }
+    ensures within { IfOk result (λ root. root < length nodes.new.items) }
 {
     let Way { mut steps, end } = way_to(alloc, nodes, tree, head)?;
     let mut below = put(nodes, node_for(end, head, number))?;

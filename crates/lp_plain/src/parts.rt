@@ -1,36 +1,40 @@
 // Goals that are taken apart.
-ghost use Rattle.std.specs.Prelude.{◌≡◌, ℕ, List, IfOk, OnOk};
-ghost use Rattle.lp_calculus.specs.Term.{Term};
+ghost use Rattle.std.specs.Prelude.{◌≡◌, ℕ, ◌<◌, List, [], ◌∷◌, ◌++◌, length, IfOk, OnOk};
+ghost use Rattle.lp_calculus.specs.Term.{Term, app};
 ghost use Rattle.lp_calculus.specs.Types.{Ty};
+ghost use Rattle.lp_standard.specs.Connectives.{body_of};
 ghost use Rattle.lp_standard.specs.Connectives as two_sided;
 ghost use Rattle.lp_term.specs.Nodes.{tree};
 ghost use Rattle.lp_term.specs.declared.node.TermId.{TermId};
+ghost use Rattle.lp_term.specs.declared.node.TypeId.{TypeId};
 ghost use Rattle.lp_model.specs.declared.connective.Connective.TheVariants as known;
-ghost use Rattle.lp_model.specs.Branch.{Branch};
-ghost use Rattle.lp_model.specs.Connected.{connective_in};
-ghost use Rattle.lp_model.specs.Flat.{Goal, Goals, Clause, Either, Exists, Forall};
+ghost use Rattle.lp_model.specs.Branch.{Branch, Entry};
+ghost use Rattle.lp_model.specs.Connected.{IsConnectiveIn, connective_in};
+ghost use Rattle.lp_model.specs.Flat.{Goal, Goals, Clause, Clauses, Assume, Atomic, Either, Exists, Forall, collect_clauses, written_in_clauses};
 ghost use Rattle.lp_model.specs.Index.{lifted};
 ghost use Rattle.lp_model.specs.Search.{look_goal, look_form};
 ghost use Rattle.lp_plain.specs.declared.outcome.Turn.{Turn};
 ghost use Rattle.lp_plain.specs.declared.table.Flat.{Flat};
+ghost use Rattle.lp_plain.specs.declared.table.Span.{Span};
 ghost use Rattle.lp_plain.specs.Apart.{IsApart};
-ghost use Rattle.lp_plain.specs.Entries.{Around, ArePartsOf, IsBehind, IsOf, entry_at, in_scope};
+ghost use Rattle.lp_plain.specs.Assuming.{ArePlaced, AssumesFor, IsPlaceAt, clauses_in, lists_of, written_at};
+ghost use Rattle.lp_plain.specs.Entries.{Around, ArePartsOf, GoesOnWith, GrowsGoals, HeadsTo, IsBehind, IsOf, KeepsGoals, Reads, entry_at, in_scope, placed};
+ghost use Rattle.lp_plain.specs.Keeping.{KeepsCourse};
 ghost use Rattle.lp_plain.specs.Opening.{IsBoundBy, IsNewVariable, IsRaised};
+ghost use Rattle.lp_plain.specs.Tables.{AreClausesOf, IsNumbered, shown};
 ghost use Rattle.lp_plain.specs.Within.{StandsIn};
 
 use crate::act::Act;
+use crate::assume::put_assume;
 use crate::choice::Untried;
-use crate::frame::{Assumption, Place, Todo};
-use crate::head::Head;
+use crate::frame::{Place, Todo};
 use crate::instance::Values;
 use crate::machine::Machine;
-use crate::newest::{newest_of, with_newest};
-use crate::openness::Standing;
 use crate::outcome::{Turn, take_apart};
-use crate::table::{Flat, Span};
+use crate::table::Flat;
 use lp_base::Memory;
 use lp_model::{Connective, Ending};
-use lp_term::{TermId, TermNode, put_applied, put_eigen};
+use lp_term::{TermId, put_applied, put_eigen};
 
 // The place inside the scope of one more variable.
 fn bound(machine: &mut Machine, place: Place, value: TermId) -> Result<Place, Memory>
@@ -125,94 +129,6 @@ fn put_all(
     Ok(())
 }
 
-// The head of an assumed clause, in the place in which it is assumed. An index there is a variable that a `pi` around the clause binds.
-fn assumed_head(machine: &Machine, rule: usize, place: Place) -> Result<Head, Memory> {
-    let found = machine.table.rule(rule)?;
-    match machine.bank.term_node(found.head) {
-        TermNode::Const(number, _) => Ok(Head::Constant(number)),
-        TermNode::Index(at) => {
-            let Some(outer) = at.checked_sub(found.slots.len() as u64) else {
-                return Err(Memory);
-            };
-            bound_head(machine, place, outer)
-        }
-        _ => Err(Memory),
-    }
-}
-
-// The head that the value of a variable around a clause is.
-fn bound_head(machine: &Machine, place: Place, variable: u64) -> Result<Head, Memory> {
-    let Some(value) = machine.scopes.value(place.values.scope, variable) else {
-        return Err(Memory);
-    };
-    match machine.bank.term_node(value) {
-        TermNode::Eigen(level) => Ok(Head::Eigen(level)),
-        _ => Err(Memory),
-    }
-}
-
-// Assumes a clause of this head. The tree of the newest assumptions then.
-fn assume_one(
-    machine: &mut Machine,
-    rule: usize,
-    place: Place,
-    tree: Option<usize>,
-    head: Head,
-) -> Result<usize, Memory>
-    ensures { machine.new.counts ≡ machine.old.counts }
-{
-    let older = newest_of(&machine.newest, tree, head)?;
-    let number = machine.assumptions.len();
-    machine.assumptions.push(Assumption {
-        rule,
-        values: place.values,
-        older,
-    })?;
-    with_newest(machine.alloc, &mut machine.newest, tree, head, number)
-}
-
-// Assumes clauses, the first of them to be tried first. The tree of the newest assumptions then.
-fn assume(machine: &mut Machine, rules: Span, place: Place) -> Result<Option<usize>, Memory>
-    ensures { machine.new.counts ≡ machine.old.counts }
-{
-    let mut tree = place.assumed;
-    'rules: for rule in (rules.from..rules.to).rev() {
-        let head = assumed_head(machine, rule, place)?;
-        let newest = assume_one(machine, rule, place, tree, head)?;
-        tree = Some(newest);
-    }
-    Ok(tree)
-}
-
-fn put_assume(
-    machine: &mut Machine,
-    rules: Span,
-    goals: usize,
-    free: usize,
-    place: Place,
-    behind: Option<usize>,
-) -> Result<(), Memory>
-    ensures { machine.new.counts ≡ machine.old.counts }
-{
-    let first = machine.assumptions.len();
-    let assumed = assume(machine, rules, place)?;
-    let count = machine.assumptions.len().saturating_sub(first);
-    machine.note(Act::Assumed(count, first))?;
-    let number = machine.standings.len();
-    machine.standings.push(Standing {
-        free,
-        values: place.values,
-        older: place.standing,
-    })?;
-    let inner = Place {
-        assumed,
-        standing: Some(number),
-        ..place
-    };
-    machine.branch.goals = machine.put_list(goals, inner, behind)?;
-    Ok(())
-}
-
 /// Takes a flattened goal apart.
 pub(crate) fn put_parts(
     machine: &mut Machine,
@@ -227,6 +143,9 @@ pub(crate) fn put_parts(
         (u n height : ℕ) (P : List Clause) (T : Ty) → let g : Goal = Exists T (in_scope (lifted σ) place.values.types hs) in ArePartsOf machine.old machine.new a (look_goal u n P height (entry_at a place g) b g)) }
     ensures all { IfOk result (λ turn. turn ≡ Turn.On → (l : ℕ) → goal ≡ Flat.All l → (a : Around) (hs : Goals) (σ : ℕ → Term) (b : Branch) → StandsIn machine.old → IsOf machine.old place l hs σ → IsBehind machine.old a behind b →
         (u n height : ℕ) (P : List Clause) (T : Ty) → let g : Goal = Forall T (in_scope (lifted σ) place.values.types hs) in ArePartsOf machine.old machine.new a (look_goal u n P height (entry_at a place g) b g)) }
+    ensures assume { IfOk result (λ turn. turn ≡ Turn.On → (s : Span) (l free : ℕ) → goal ≡ Flat.Assume s l free → (a : Around) (cs : Clauses) (hs : Goals) (σ : ℕ → Term) (b : Branch) → StandsIn machine.old → ArePlaced machine.old a → IsPlaceAt (lists_of machine.old) a place →
+        AreClausesOf machine.old.bank machine.old.table s cs → IsNumbered (shown machine.old.table).frees free (λ f. collect_clauses f 0 cs) → IsOf machine.old place l hs σ → IsBehind machine.old a behind b → (u n height : ℕ) (P : List Clause) →
+        let g : Goal = Assume (written_at σ place.values.types (written_in_clauses cs)) (clauses_in σ place.values.types cs) (in_scope σ place.values.types hs) in AssumesFor machine.old machine.new a (look_goal u n P height (entry_at a place g) b g)) }
 {
     if !take_apart(machine) {
         return Ok(Turn::Ended(Ending::Deep));
@@ -291,6 +210,17 @@ fn put_or(
     Ok(())
 }
 
+// The term on a value.
+fn applied(machine: &mut Machine, term: TermId, value: TermId) -> Result<TermId, Memory>
+    ensures counts { machine.new.counts ≡ machine.old.counts }
+    ensures grows { OnOk result (GrowsGoals machine.old machine.new) }
+    ensures course { KeepsCourse machine.old machine.new }
+    ensures tree { IfOk result (λ t. tree machine.new.bank t.0 ≡ app (tree machine.old.bank term.0) (tree machine.old.bank value.0)) }
+{
+    let goal = put_applied(&mut machine.bank, term, value)?;
+    Ok(goal)
+}
+
 // The term on a value, as the goal of a place.
 fn put_goal_of(
     machine: &mut Machine,
@@ -299,11 +229,58 @@ fn put_goal_of(
     place: Place,
     behind: Option<usize>,
 ) -> Result<(), Memory>
-    ensures { machine.new.counts ≡ machine.old.counts }
+    ensures counts { machine.new.counts ≡ machine.old.counts }
+    ensures front { OnOk result ((a : Around) (es : List Entry) (v : Term) → StandsIn machine.old → HeadsTo (app (tree machine.old.bank term.0) (tree machine.old.bank value.0)) v → Reads machine.old a behind es →
+        GoesOnWith machine.old machine.new a (placed a place (Atomic v ∷ []) ++ es)) }
 {
-    let goal = put_applied(&mut machine.bank, term, value)?;
-    machine.branch.goals = machine.put_frame(Todo::Term(goal), place, behind)?;
+    let goal = applied(machine, term, value)?;
+    let front = machine.put_frame(Todo::Term(goal), place, behind)?;
+    machine.branch.goals = front;
     Ok(())
+}
+
+// A `pi` of a term at the next eigenconstant.
+fn put_for_all(
+    machine: &mut Machine,
+    term: TermId,
+    place: Place,
+    behind: Option<usize>,
+) -> Result<(), Memory>
+    ensures counts { machine.new.counts ≡ machine.old.counts }
+    ensures parts { OnOk result ((a : Around) (b : Branch) → StandsIn machine.old → term.0 < length machine.old.bank.terms → IsBehind machine.old a behind b → (u n height : ℕ) (P : List Clause) (t : Term) (g : Goal) (T : Ty) →
+        ArePartsOf machine.old machine.new a (look_form u n P height (entry_at a place g) b t (two_sided.ForAll T (body_of (tree machine.old.bank term.0))))) }
+{
+    let (above, eigen) = raised(machine, place)?;
+    put_goal_of(machine, term, eigen, above, behind)?;
+    Ok(())
+}
+
+// A `sigma` of a term at a new variable.
+fn put_exists(
+    machine: &mut Machine,
+    term: TermId,
+    place: Place,
+    behind: Option<usize>,
+) -> Result<(), Memory>
+    ensures counts { machine.new.counts ≡ machine.old.counts }
+    ensures parts { OnOk result ((a : Around) (b : Branch) → StandsIn machine.old → term.0 < length machine.old.bank.terms → IsBehind machine.old a behind b → (u n height : ℕ) (P : List Clause) (t : Term) (g : Goal) (T : Ty) →
+        ArePartsOf machine.old machine.new a (look_form u n P height (entry_at a place g) b t (two_sided.Exists T (body_of (tree machine.old.bank term.0))))) }
+{
+    let variable = opened(machine, place.level)?;
+    put_goal_of(machine, term, variable, place, behind)?;
+    Ok(())
+}
+
+// Goes on with the goals behind.
+fn go_behind(machine: &mut Machine, behind: Option<usize>)
+    ensures counts { machine.new.counts ≡ machine.old.counts }
+    ensures known { KeepsGoals machine.old machine.new }
+    ensures goals { machine.new.branch.goals ≡ behind }
+    ensures next { machine.new.branch.next ≡ machine.old.branch.next }
+    ensures next_type { machine.new.branch.next_type ≡ machine.old.branch.next_type }
+    ensures choices { machine.new.choices ≡ machine.old.choices }
+{
+    machine.branch.goals = behind;
 }
 
 /// Takes a goal that is known at run time apart.
@@ -317,6 +294,12 @@ pub(crate) fn put_connective(
     ensures and { IfOk result (λ turn. turn ≡ Turn.On → (l r : TermId) → connective ≡ known.And l r → (a : Around) (b : Branch) → IsBehind machine.old a behind b → (u n height : ℕ) (P : List Clause) (t : Term) (g : Goal) →
         ArePartsOf machine.old machine.new a (look_form u n P height (entry_at a place g) b t (connective_in machine.old.bank connective))) }
     ensures or { IfOk result (λ turn. turn ≡ Turn.On → (l r : TermId) → connective ≡ known.Or l r → (a : Around) (b : Branch) → IsBehind machine.old a behind b → (u n height : ℕ) (P : List Clause) (t : Term) (g : Goal) →
+        ArePartsOf machine.old machine.new a (look_form u n P height (entry_at a place g) b t (connective_in machine.old.bank connective))) }
+    ensures truth { IfOk result (λ turn. turn ≡ Turn.On → connective ≡ known.True → (a : Around) (b : Branch) → IsBehind machine.old a behind b → (u n height : ℕ) (P : List Clause) (t : Term) (g : Goal) →
+        ArePartsOf machine.old machine.new a (look_form u n P height (entry_at a place g) b t (connective_in machine.old.bank connective))) }
+    ensures forall { IfOk result (λ turn. turn ≡ Turn.On → (of : TypeId) (s : TermId) → connective ≡ known.ForAll of s → (a : Around) (b : Branch) → StandsIn machine.old → IsConnectiveIn machine.old.bank connective → IsBehind machine.old a behind b → (u n height : ℕ) (P : List Clause) (t : Term) (g : Goal) →
+        ArePartsOf machine.old machine.new a (look_form u n P height (entry_at a place g) b t (connective_in machine.old.bank connective))) }
+    ensures exists { IfOk result (λ turn. turn ≡ Turn.On → (of : TypeId) (s : TermId) → connective ≡ known.Exists of s → (a : Around) (b : Branch) → StandsIn machine.old → IsConnectiveIn machine.old.bank connective → IsBehind machine.old a behind b → (u n height : ℕ) (P : List Clause) (t : Term) (g : Goal) →
         ArePartsOf machine.old machine.new a (look_form u n P height (entry_at a place g) b t (connective_in machine.old.bank connective))) }
 {
     if !take_apart(machine) {
@@ -332,17 +315,19 @@ pub(crate) fn put_connective(
             Ok(Turn::On)
         }
         Connective::ForAll(_, term) => {
-            let (above, eigen) = raised(machine, place)?;
-            put_goal_of(machine, term, eigen, above, behind)?;
+            put_for_all(machine, term, place, behind)?;
             Ok(Turn::On)
         }
         Connective::Exists(_, term) => {
-            let variable = opened(machine, place.level)?;
-            put_goal_of(machine, term, variable, place, behind)?;
+            put_exists(machine, term, place, behind)?;
             Ok(Turn::On)
         }
-        _ => {
-            machine.branch.goals = behind;
+        Connective::True => {
+            go_behind(machine, behind);
+            Ok(Turn::On)
+        }
+        Connective::Cut | Connective::Implies(_, _) | Connective::Not(_) | Connective::Atomic => {
+            go_behind(machine, behind);
             Ok(Turn::On)
         }
     }

@@ -1,6 +1,7 @@
 // The values of the variables that are bound around a goal. A scope is the number of a block.
-ghost use Rattle.std.specs.Prelude.{◌≡◌, ℕ, ◌≤◌, List, ◌++◌, [], Option, slice_get, IfOk, OnOk};
+ghost use Rattle.std.specs.Prelude.{◌≡◌, ℕ, ◌≤◌, List, ◌++◌, [], take, Option, slice_get, IfOk, OnOk};
 ghost use Rattle.lp_term.specs.declared.node.TermId.{TermId};
+ghost use Rattle.lp_pattern.specs.Growing.{GoesOn};
 ghost use Rattle.lp_plain.specs.Scopes.{IsScope, KeepsScopes, block_count, value_count, blocks_to};
 
 use lp_base::Memory;
@@ -60,7 +61,7 @@ impl Scopes {
         values: &[TermId],
     ) -> Result<Option<usize>, Memory>
         ensures kept { (nb nv : ℕ) → nb ≤ block_count self.old → nv ≤ value_count self.old → KeepsScopes self.old self.new nb nv }
-        ensures more { OnOk result ((block_count self.old ≤ block_count self.new) × (value_count self.old ≤ value_count self.new)) }
+        ensures blocks { OnOk result (GoesOn self.old.blocks.items self.new.blocks.items) }
         ensures values { OnOk result (self.new.values.items ≡ self.old.values.items ++ values.now) }
         ensures opened { IfOk result (λ o. (vs : List TermId) → IsScope self.old (block_count self.old) (value_count self.old) around vs → IsScope self.new (block_count self.new) (value_count self.new) o (values.now ++ vs)) }
     {
@@ -115,6 +116,7 @@ impl Scopes {
     /// Takes back what was opened since the mark.
     pub(crate) fn undo(&mut self, mark: ScopeMark)
         ensures kept { (nb nv : ℕ) → nb ≤ mark.blocks → nv ≤ mark.values → KeepsScopes self.old self.new nb nv }
+        ensures taken { (self.new.blocks.items ≡ take mark.blocks self.old.blocks.items) × (self.new.values.items ≡ take mark.values self.old.values.items) }
         ensures blocks { mark.blocks ≤ block_count self.old → block_count self.new ≡ mark.blocks }
         ensures values { mark.values ≤ value_count self.old → value_count self.new ≡ mark.values }
     {

@@ -1,5 +1,6 @@
 // The start of a search: clauses and query flattened and put into tables.
-ghost use Rattle.std.specs.Prelude.{◌≡◌, ◌<◌, ℕ, List, ◌++◌, [], length, map, reverse, IfOk, OnOk, Option, Some};
+ghost use Rattle.std.specs.Prelude.{◌≡◌, ◌<◌, ◌≤◌, ℕ, List, ◌++◌, [], length, map, reverse, All, IfOk, OnOk, Option, Some, nat_eq};
+ghost use Rattle.std.specs.HashMap.{get};
 ghost use Rattle.lp_calculus.specs.Typing.{Scheme};
 ghost use Rattle.lp_term.specs.Nodes.{Nodes, Extends, tree};
 ghost use Rattle.lp_term.specs.Within.{AreTermsOf};
@@ -9,6 +10,8 @@ ghost use Rattle.lp_model.specs.Flattened.{clauses_of, goals_of};
 ghost use Rattle.lp_model.specs.Readings.{formula_of};
 ghost use Rattle.lp_model.specs.Search.{start, vars_from};
 ghost use Rattle.lp_normal.specs.Within.{AreGoalsIn, AreClausesIn};
+ghost use Rattle.lp_plain.specs.Assuming.{ArePlaced};
+ghost use Rattle.lp_plain.specs.Candidates.{IsIndex, numbers};
 ghost use Rattle.lp_plain.specs.Entries.{Around};
 ghost use Rattle.lp_plain.specs.Scopes.{IsScope, block_count, value_count};
 ghost use Rattle.lp_plain.specs.Starts.{AreFlat, AreFormulasIn, AreProgramOf, IsAlone, IsOutermost, IsOutside};
@@ -83,6 +86,7 @@ fn put_program(
 ) -> Result<Vec<Span>, Memory>
     ensures kept { OnOk result (Extends bank.old bank.new) }
     ensures within { OnOk result (IsTableIn (length bank.old.terms) table.old → IsTableIn (length bank.new.terms) table.new) }
+    ensures ends { IfOk result (λ spans. All (λ s. s.to ≤ length table.new.rules.items) spans.items) }
     ensures program { IfOk result (λ spans. IsTableIn (length bank.old.terms) table.old → AreFormulasIn bank.old formulas.now.items → (n : ℕ) (d : ℕ → Option Scheme) (css : List Clauses) → AreFlat n d bank.old formulas.now.items css → AreProgramOf bank.new table.new spans.items css) }
 {
     let mut spans = Vec::new(alloc);
@@ -111,6 +115,8 @@ fn put_all(
 ) -> Result<Tabled, Memory>
     ensures kept { OnOk result (Extends bank.old bank.new) }
     ensures within { IfOk result (λ made. IsTableIn (length bank.new.terms) made.table) }
+    ensures ends { IfOk result (λ made. All (λ k. k < length made.table.rules.items) (numbers made.spans.items)) }
+    ensures index { IfOk result (λ made. IsIndex bank.new made.table.rules.items (λ c. get nat_eq made.index c) (numbers made.spans.items)) }
     ensures program { IfOk result (λ made. AreFormulasIn bank.old formulas.now.items → (n : ℕ) (d : ℕ → Option Scheme) (css : List Clauses) → AreFlat n d bank.old formulas.now.items css → AreProgramOf bank.new made.table made.spans.items css) }
     ensures query { IfOk result (λ made. query.now.formula.0 < length bank.old.terms → (n : ℕ) (d : ℕ → Option Scheme) (flat : Goals) → flatten_query n d (tree bank.old query.now.formula.0) ≡ Some flat → IsListOf bank.new made.table made.list flat) }
 {
@@ -171,9 +177,11 @@ pub(crate) fn begin(
     ensures variables { IfOk result (λ s. length s.variables.items ≡ length query.vars.items) }
     ensures query { IfOk result (λ s. s.source.query ≡ query) }
     ensures stands { IfOk result (λ s. StandsIn s.machine) }
+    ensures index { IfOk result (λ s. IsIndex s.machine.bank s.machine.table.rules.items (λ c. get nat_eq s.machine.index c) (numbers s.source.spans.items)) }
     ensures program { IfOk result (λ s. AreFormulasIn program.bank program.clauses.items → (n : ℕ) (d : ℕ → Option Scheme) (css : List Clauses) → AreFlat n d program.bank program.clauses.items css → AreProgramOf s.machine.bank s.machine.table s.source.spans.items css) }
     ensures starts { IfOk result (λ s. query.formula.0 < length program.bank.terms → (n : ℕ) (d : ℕ → Option Scheme) (flat : Goals) → flatten_query n d (tree program.bank query.formula.0) ≡ Some flat → (a : Around) → IsOutermost a → (answers : ℕ) →
         IsAlone s.machine a (start query.type_vars (length query.vars.items) flat limit answers).stack) }
+    ensures placed { IfOk result (λ s. (a : Around) → IsOutermost a → ArePlaced s.machine a) }
 {
     let Program {
         mut bank,

@@ -96,8 +96,13 @@ impl Table {
     }
 
     /// The clause of a number.
-    pub(crate) fn rule(&self, number: usize) -> Result<&Rule, Memory> {
-        self.rules.get(number).ok_or(Memory)
+    pub(crate) fn rule(&self, number: usize) -> Result<&Rule, Memory>
+        ensures { IfOk result (λ rule. slice_get self.now.rules.items number ≡ Some rule.now) }
+    {
+        match self.rules.get(number) {
+            Some(rule) => Ok(rule),
+            None => Err(Memory),
+        }
     }
 
     /// What is written in goals or clauses, by its number.
@@ -177,6 +182,7 @@ impl Table {
         ensures goals { self.new.goals ≡ self.old.goals }
         ensures put { IfOk result (λ s. IsPut bank.now self.old self.new waiting.old.items waiting.new.items (clauses_weight (clauses_of bank.now clauses.now)) (λ c t. AreRules bank.now c t s.from s.to (clauses_of bank.now clauses.now))) }
         ensures within { OnOk result (Stays (length bank.now.terms) (highest (map clause_term_bound clauses.now)) self.old self.new waiting.old.items waiting.new.items) }
+        ensures ends { IfOk result (λ s. s.to ≡ length self.new.rules.items) }
     {
         let from = self.rules.len();
         let mut rest = clauses;
@@ -360,6 +366,7 @@ impl Table {
         ensures means { IfOk result (λ span. AreClausesOf bank.now self.new span (clauses_of bank.now clauses.now.items)) }
         ensures kept { OnOk result (LeadsTo bank.now Never Never (shown self.old) (shown self.new)) }
         ensures within { OnOk result (AreClausesIn bank.now clauses.now.items → IsTableIn (length bank.now.terms) self.old → IsTableIn (length bank.now.terms) self.new) }
+        ensures ends { IfOk result (λ span. span.to ≤ length self.new.rules.items) }
     {
         let first = self.lists.len();
         let mut waiting = Vec::new(alloc);

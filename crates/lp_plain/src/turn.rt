@@ -1,4 +1,10 @@
 // The next goal of the branch at work, and the way back to an alternative.
+ghost use Rattle.std.specs.Prelude.{◌≡◌, ℕ, ◌∷◌, ◌++◌, [], List, Option, IfOk, OnOk};
+ghost use Rattle.lp_plain.specs.declared.choice.Choice.{Choice};
+ghost use Rattle.lp_plain.specs.declared.choice.Untried.{Untried};
+ghost use Rattle.lp_plain.specs.declared.outcome.Turn.{Turn};
+ghost use Rattle.lp_plain.specs.Entries.{KeepsGoals};
+ghost use Rattle.lp_plain.specs.Restoring.{GoesBack};
 
 use crate::act::Act;
 use crate::atomic::{take_atom, take_cut, try_candidate};
@@ -103,17 +109,40 @@ pub(crate) fn tell_back<W: Watch>(
     Ok(())
 }
 
+// Goes on with the right side of a `;`.
+fn go_right(machine: &mut Machine, goals: Option<usize>) -> Result<(), Memory>
+    ensures known { OnOk result (KeepsGoals machine.old machine.new) }
+    ensures goals { OnOk result (machine.new.branch.goals ≡ goals) }
+    ensures next { OnOk result (machine.new.branch.next ≡ machine.old.branch.next) }
+    ensures next_type { OnOk result (machine.new.branch.next_type ≡ machine.old.branch.next_type) }
+    ensures choices { OnOk result (machine.new.choices.items ≡ machine.old.choices.items) }
+    ensures counts { OnOk result (machine.new.counts ≡ machine.old.counts) }
+    ensures denied { OnOk result (machine.new.denied ≡ machine.old.denied) }
+{
+    machine.note(Act::Right)?;
+    machine.branch.goals = goals;
+    Ok(())
+}
+
 /// Goes on with the newest alternative.
-pub(crate) fn go_back(machine: &mut Machine) -> Result<Turn, Memory> {
-    match machine.take_choice()? {
-        Some(Untried::Goals(goals)) => {
-            machine.note(Act::Right)?;
-            machine.branch.goals = goals;
+pub(crate) fn go_back(machine: &mut Machine) -> Result<Turn, Memory>
+    ensures { IfOk result (λ turn. (c : Choice) (rest : List Choice) (from : Option ℕ) → machine.old.choices.items ≡ rest ++ c ∷ [] → c.untried ≡ Untried.Goals from → (turn ≡ Turn.On) × GoesBack machine.old machine.new c rest) }
+{
+    let Some(untried) = machine.take_choice()? else {
+        if machine.counts.lost {
+            return Ok(Turn::Ended(Ending::NoMoreCut));
+        }
+        return Ok(Turn::Ended(Ending::NoMore));
+    };
+    match untried {
+        Untried::Goals(goals) => {
+            go_right(machine, goals)?;
             Ok(Turn::On)
         }
-        Some(Untried::Clauses(call, candidate)) => try_candidate(machine, &call, candidate),
-        Some(Untried::Denied(denial)) => Ok(end_denial(machine, denial)),
-        None if machine.counts.lost => Ok(Turn::Ended(Ending::NoMoreCut)),
-        None => Ok(Turn::Ended(Ending::NoMore)),
+        Untried::Clauses(call, candidate) => {
+            let turn = try_candidate(machine, &call, candidate)?;
+            Ok(turn)
+        }
+        Untried::Denied(denial) => Ok(end_denial(machine, denial)),
     }
 }

@@ -1,5 +1,5 @@
 -- A program on the way into the table, formula by formula.
-use Rattle.std.specs.Prelude.{◌≡◌, ℕ, List, take, length, Option}
+use Rattle.std.specs.Prelude.{◌≡◌, ℕ, ◌≤◌, List, take, All, length, Option}
 use Rattle.lp_calculus.specs.Typing.{Scheme}
 use Rattle.lp_term.specs.Nodes.{Nodes, Extends}
 use Rattle.lp_model.specs.declared.program.ClauseFormula.{ClauseFormula}
@@ -12,5 +12,6 @@ use Rattle.lp_plain.specs.Within.{IsTableIn}
 -- the first k formulas are in the table
 pub record ArePut (fs : List ClauseFormula) (b c : Nodes) (t u : Table) (spans : List Span) (k : ℕ) : Type 0 where
   pub kept : Extends b c
+  pub ends : All (λ s. s.to ≤ length u.rules.items) spans
   pub within : IsTableIn (length b.terms) t → IsTableIn (length c.terms) u
   pub spans_are : IsTableIn (length b.terms) t → AreFormulasIn b fs → (n : ℕ) (d : ℕ → Option Scheme) (css : List Clauses) → AreFlat n d b (take k fs) css → AreProgramOf c u spans css

@@ -2,19 +2,30 @@ use Rattle.std.proofs.Common.{◌∙◌, refl, ap, take, length}
 use Rattle.std.specs.Prelude.{nat_lt}
 use Rattle.lp_plain.specs.Cuts.{one_step, cut_off}
 use Rattle.lp_plain.proofs.Frames.{reads_on, keeps_then}
+use Rattle.lp_plain.proofs.Stacking.{cut_tasks}
 use Rattle.lp_plain.proofs.atomic.take_cut.Goals as goal
 
-pub returns : goal.returns
-returns g c =
+pub returns-clause-cuts : goal.returns-clause-cuts
+returns-clause-cuts g c =
     let m = c.args.machine.now in
     let s = c.if-not-take_step.ensures in
     let k = c.args.place.mark in
     record {
       choices = c.cut.ensures.choices ∙ ap (λ z. take k z.items) s.choices;
-      counts = c.cut.ensures.counts ∙ ap (λ z. cut_off z (nat_lt k (length c.take_step.new.machine.choices.items))) (s.counts refl) ∙ ap (λ z. cut_off (one_step m.counts) (nat_lt k (length z.items))) s.choices;
+      counts = c.cut.ensures.counts ∙ ap (λ z. cut_off z (nat_lt k (length c.take_step.new.machine.choices.items))) (s.counts refl) ∙ ap
+          (λ z. cut_off (one_step m.counts) (nat_lt k (length z.items))) s.choices;
       branch = λ a b w. record {
         goals = reads_on m c.cut.new.self a c.args.behind b.goals (keeps_then m c.take_step.new.machine c.cut.new.self s.goals c.cut.ensures.goals) w.goals;
         next = ap (λ z. z.next) (c.cut.ensures.branch ∙ s.branch) ∙ w.next;
         next_type = ap (λ z. z.next_type) (c.cut.ensures.branch ∙ s.branch) ∙ w.next_type;
       };
     }
+
+pub returns-clause-tasks : goal.returns-clause-tasks
+returns-clause-tasks g c = λ e tss keep h i.
+    let m = c.args.machine.now in
+    let s = c.if-not-take_step.ensures in
+    let k = c.args.place.mark in
+    let counts = c.cut.ensures.counts ∙ ap (λ z. cut_off z (nat_lt k (length c.take_step.new.machine.choices.items))) (s.counts refl) ∙ ap
+    (λ z. cut_off (one_step m.counts) (nat_lt k (length z.items))) s.choices in
+    cut_tasks m _ k keep tss (c.cut.ensures.denied ∙ s.denied) (c.cut.ensures.choices ∙ ap (λ z. take k z.items) s.choices) (ap (λ z. z.lost) counts) h i

@@ -21,3 +21,9 @@ returns-clause-newest c =
 
 pub returns-clause-kept : goal.returns-clause-kept
 returns-clause-kept c = c.steps.invariant.grown
+
+pub returns-clause-fresh : goal.returns-clause-fresh
+returns-clause-fresh c = c.steps.invariant.fresh
+
+pub returns-clause-within : goal.returns-clause-within
+returns-clause-within c = c.steps.invariant.within

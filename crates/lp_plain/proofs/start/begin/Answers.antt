@@ -1,5 +1,11 @@
 use Rattle.std.proofs.Common.{◌≡◌, [], ◌++◌, map, reverse, length, refl, sym, ap, ◌∙◌, subst, arith}
+use Rattle.std.specs.Prelude.{nat_eq}
+use Rattle.std.specs.HashMap.{get}
 use Rattle.lp_lemmas.proofs.Elements.{All_empty}
+use Rattle.lp_pattern.proofs.Keeps.{goes_on_same}
+use Rattle.lp_plain.specs.Assuming.{lists_of}
+use Rattle.lp_plain.specs.Candidates.{IsIndex, numbers}
+use Rattle.lp_plain.proofs.LaterIndex.{index_later}
 use Rattle.lp_term.specs.Nodes.{tree}
 use Rattle.lp_model.specs.Flat.{goal_list}
 use Rattle.lp_model.specs.Search.{vars_from}
@@ -9,7 +15,8 @@ use Rattle.lp_plain.specs.Starts.{AreProgramOf, query_values}
 use Rattle.lp_plain.specs.Within.{IsTodoIn}
 use Rattle.lp_plain.proofs.Later.{list_later, rules_later, table_later}
 use Rattle.lp_plain.proofs.Programs.{program_on}
-use Rattle.lp_plain.proofs.Starts.{outside_entries, query_values_are, variables_are_values}
+use Rattle.lp_plain.proofs.Scoped.{scope_whole}
+use Rattle.lp_plain.proofs.Starts.{outermost_placed, outside_entries, query_values_are, variables_are_values}
 use Rattle.lp_plain.proofs.start.begin.Goals as goal
 
 pub returns-clause-stands : goal.returns-clause-stands
@@ -20,7 +27,8 @@ returns-clause-stands c =
     let v = c.in_ok-variables.ensures in
     let z = c.in_ok-front.ensures.stands (record {
       table = table_later b d v.kept c.in_ok-made.made.table m.within;
-      values = variables_are_values d c.in_ok-variables.variables.items c.query_place.new.scopes.values.items c.len-count.result v.within v.trees (c.in_ok-place.ensures.values ∙ ap (λ l. l ++ reverse c.in_ok-variables.variables.items) c.new-scopes.ensures);
+      values = variables_are_values d c.in_ok-variables.variables.items c.query_place.new.scopes.values.items c.len-count.result v.within v.trees
+          (c.in_ok-place.ensures.values ∙ ap (λ l. l ++ reverse c.in_ok-variables.variables.items) c.new-scopes.ensures);
       frames = All_empty (λ (f : Frame). IsTodoIn (length d.terms) f.todo) c.new-frames.result.items c.new-frames.ensures.items;
     }) in
     record { table = z.table; values = z.values; frames = z.frames }
@@ -56,10 +64,37 @@ returns-clause-starts c = λ l n k flat h a o answers.
       record {
         goals =
             subst (Reads c.put_list.new.self a c.in_ok-front.front) (outside_entries a p σ flat o c.in_ok-place.ensures.outside)
-            (f.reads a (goal_list (in_scope σ p.values.types flat)) []
-            (flat, σ, list_later b d v.kept t m.within list flat (m.query l n k flat h), (reverse ts, c.in_ok-place.ensures.scope, query_values_are d ts count trees), refl) (no_frame refl refl));
+            (f.reads a (goal_list (in_scope σ p.values.types flat)) [] (
+              flat,
+              σ,
+              list_later b d v.kept t m.within list flat (m.query l n k flat h),
+              (
+                reverse ts,
+                scope_whole c.query_place.new.scopes p.values.scope (reverse ts) c.in_ok-place.ensures.scope,
+                query_values_are d ts count
+                    trees,
+              ),
+              refl,
+            ) (no_frame refl refl));
         next = ap (λ z. z.next) f.course.branch ∙ e;
         next_type = ap (λ z. z.next_type) f.course.branch;
       },
       f.course.choices ∙ c.new-choices.ensures.items,
     )
+
+pub returns-clause-index : goal.returns-clause-index
+returns-clause-index c =
+    let b = c.put_all.new.bank in
+    let d = c.query_variables.new.bank in
+    let m = c.in_ok-made.ensures in
+    let known = c.in_ok-front.ensures.goals.known in
+    let ks = numbers c.in_ok-made.made.spans.items in
+    subst (λ z. IsIndex z c.put_list.new.self.table.rules.items (λ k. get nat_eq c.put_list.new.self.index k) ks) (sym known.bank)
+    (subst (λ z. IsIndex d z.rules.items (λ k. get nat_eq c.put_list.new.self.index k) ks) (sym known.table)
+    (subst (λ z. IsIndex d c.in_ok-made.made.table.rules.items (λ k. get nat_eq z k) ks) (sym known.index)
+    (index_later b d c.in_ok-made.made.table.rules.items c.in_ok-made.made.table.rules.items _ ks c.in_ok-variables.ensures.kept
+    (goes_on_same c.in_ok-made.made.table.rules.items) m.within.rules m.ends m.index)))
+
+pub returns-clause-placed : goal.returns-clause-placed
+returns-clause-placed c = λ a i. outermost_placed (lists_of c.put_list.new.self) a c.in_ok-place.place c.new-frames.result.items
+    c.put_list.new.self.frames.items c.new-frames.ensures.items c.in_ok-front.ensures.frame i c.in_ok-place.ensures.outside

@@ -1,3 +1,4 @@
+use Rattle.std.proofs.Common.{inl, refl}
 use Rattle.lp_plain.proofs.Frames.{list_todo, list_empty}
 use Rattle.lp_plain.proofs.machine.Machine.put_list.Goals as goal
 
@@ -12,3 +13,15 @@ returns-then-span-clause-stands c = λ i. i
 
 pub returns-clause-stands : goal.returns-clause-stands
 returns-clause-stands c = λ i. c.in_ok-goals.ensures.stands tt i
+
+pub returns-then-span-clause-assumed : goal.returns-then-span-clause-assumed
+returns-then-span-clause-assumed c = record { assumptions = refl; newest = refl }
+
+pub returns-clause-assumed : goal.returns-clause-assumed
+returns-clause-assumed c = c.in_ok-goals.ensures.assumed
+
+pub returns-then-span-clause-frame : goal.returns-then-span-clause-frame
+returns-then-span-clause-frame c = inl refl
+
+pub returns-clause-frame : goal.returns-clause-frame
+returns-clause-frame c = c.in_ok-goals.ensures.frame

@@ -10,3 +10,6 @@ pub returns-clause-opened : goal.returns-clause-opened
 returns-clause-opened c = λ vs w.
     scope_opened c.args.self.now (record { blocks = c.push.new.self; values = c.extend_from_slice.new.self }) _ c.args.values.now vs c.in_ok-push.ensures.items c.in_ok-extend_from_slice.ensures.items
     (omega (arith, c.len-from.ensures, c.args.self.now.values.ok)) refl w c.len-number.result (omega (arith, c.len-number.ensures, c.args.self.now.blocks.ok))
+
+pub returns-clause-blocks : goal.returns-clause-blocks
+returns-clause-blocks c = (_, c.in_ok-push.ensures.items)

@@ -11,3 +11,6 @@ returns-clause-blocks c = λ h. ap length c.truncate.ensures.items ∙ length_ta
 
 pub returns-clause-values : goal.returns-clause-values
 returns-clause-values c = λ h. ap length c.truncate-2.ensures.items ∙ length_taken c.args.mark.values c.args.self.now.values.items h
+
+pub returns-clause-taken : goal.returns-clause-taken
+returns-clause-taken c = (c.truncate.ensures.items, c.truncate-2.ensures.items)

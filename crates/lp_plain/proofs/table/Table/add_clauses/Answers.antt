@@ -34,3 +34,8 @@ pub returns-clause-within : goal.returns-clause-within
 returns-clause-within c =
     let i = c.clauses.invariant in
     stays_all clause_term_bound _ _ _ _ _ c.args.clauses.now i.1.0 c.clauses.rest.now i.1.3 i.1.1 (nil_from_length c.clauses.rest.now c.in_default.ensures.cases)
+
+pub returns-clause-ends : goal.returns-clause-ends
+returns-clause-ends c =
+    let e : c.len-to.result ≡ vec_len c.clauses.self.rules = c.len-to.ensures in
+    omega (arith, e, c.clauses.self.rules.ok)

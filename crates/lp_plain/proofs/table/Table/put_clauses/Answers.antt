@@ -3,7 +3,7 @@ use Rattle.lp_model.specs.Flattened.{clauses_of}
 use Rattle.lp_normal.specs.Within.{highest, clause_term_bound}
 use Rattle.lp_plain.specs.Tables.{AreClausesOf}
 use Rattle.lp_plain.proofs.Tabled.{rules_on, put_first, put_counted, all_filled, all_kept}
-use Rattle.lp_plain.proofs.Within.{table_stays}
+use Rattle.lp_plain.proofs.Within.{table_stays, longer_list}
 use Rattle.lp_plain.proofs.table.Table.put_clauses.Goals as goal
 
 pub fill-requires : goal.fill-requires
@@ -28,3 +28,9 @@ pub returns-clause-within : goal.returns-clause-within
 returns-clause-within c = λ i t.
     let n = length c.args.bank.now.terms in
     table_stays n _ _ _ _ _ _ c.new-waiting.ensures.items c.in_ok-span.ensures.within c.in_ok-fill.ensures.within (subst (λ l. highest (map clause_term_bound l) ≤ n) (sym c.as_slice.ensures.value) i.terms) t
+
+pub returns-clause-ends : goal.returns-clause-ends
+returns-clause-ends c =
+    let l = longer_list c.add_clauses.new.self.rules.items c.fill.new.self.rules.items c.in_ok-fill.ensures.filled.rules in
+    let e = c.in_ok-span.ensures.ends in
+    omega (arith, l, e)

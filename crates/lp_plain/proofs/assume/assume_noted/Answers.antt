@@ -1,0 +1,18 @@
+use Rattle.std.proofs.Common.{[], ◌∷◌, refl}
+use Rattle.lp_plain.proofs.Assumed.{tree_noted, assumes_noted, more_noted}
+use Rattle.lp_plain.proofs.assume.assume_noted.Goals as goal
+
+pub returns-clause-more : goal.returns-clause-more
+returns-clause-more c =
+    let n = c.in_ok-note.ensures in
+    more_noted c.args.machine.now c.assume.new.machine c.note.new.self c.in_ok-assumed.ensures.more n.goals n.course n.frames n.assumed
+
+pub returns-clause-tree : goal.returns-clause-tree
+returns-clause-tree c =
+    let n = c.in_ok-note.ensures in
+    tree_noted c.args.machine.now c.assume.new.machine c.note.new.self c.args.rules.from c.args.rules.to c.args.place.assumed c.in_ok-assumed.assumed n.assumed c.in_ok-assumed.ensures.tree
+
+pub returns-clause-assumed : goal.returns-clause-assumed
+returns-clause-assumed c =
+    let n = c.in_ok-note.ensures in
+    assumes_noted c.args.machine.now c.assume.new.machine c.note.new.self c.args.rules.from c.args.rules.to c.args.place c.in_ok-assumed.assumed n.goals n.assumed c.in_ok-assumed.ensures.assumed

@@ -1,0 +1,6 @@
+use Rattle.std.proofs.Common.{refl}
+use Rattle.lp_plain.proofs.Opening.{bank_grows}
+use Rattle.lp_plain.proofs.parts.applied.Goals as goal
+
+pub returns-clause-grows : goal.returns-clause-grows
+returns-clause-grows c = bank_grows c.args.machine.now _ c.in_ok-goal.ensures.kept refl refl refl
