@@ -9,3 +9,7 @@ mod Uses
 mod Refusing
 mod Sums
 mod Takes
+mod MovedTerms
+mod MovedGoals
+mod MovedStates
+mod MovedSteps

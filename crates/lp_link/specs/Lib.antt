@@ -5,5 +5,6 @@ pub mod Edges
 pub mod Refusals
 pub mod Sizes
 pub mod Numbers
+pub mod Linked
 pub mod Told
 pub mod inner
