@@ -13,3 +13,14 @@ mod MovedTerms
 mod MovedGoals
 mod MovedStates
 mod MovedSteps
+mod MovedOperands
+mod MovedEffects
+mod MovedRules
+mod MovedFaults
+mod MovedWritten
+mod MovedRecords
+mod MovedRuns
+mod NamedRecords
+mod ReachedRecords
+mod MovedCode
+mod LinkedCode

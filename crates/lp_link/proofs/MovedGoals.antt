@@ -52,7 +52,7 @@ module _ (f g : ℕ → ℕ) (n : ℕ) where
   fill_moved h k e (app t u) = λ j. app (fill_moved h k e t j) (fill_moved h k e u j)
 
   -- the variables of a record, which goes up
-  same_home : (h k : ℕ) → nat_eq (h + n) (k + n) ≡ nat_eq h k
+  pub same_home : (h k : ℕ) → nat_eq (h + n) (k + n) ≡ nat_eq h k
   same_home h k = go (nat_eq h k) refl
     where
       go : (b : Bool) → nat_eq h k ≡ b → nat_eq (h + n) (k + n) ≡ b

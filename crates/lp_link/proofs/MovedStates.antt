@@ -14,7 +14,7 @@ use Rattle.lp_link.specs.inner.Renumbering.{moving, moved_loose, moved_built, mo
 use Rattle.lp_link.proofs.MovedGoals.{goals_bound}
 
 -- what stands in registers
-held_moved : {A B : Type 0} (f : A → B) (xs : List (Option A)) (r : ℕ) → held (map (option_map f) xs) r ≡ option_map f (held xs r)
+pub held_moved : {A B : Type 0} (f : A → B) (xs : List (Option A)) (r : ℕ) → held (map (option_map f) xs) r ≡ option_map f (held xs r)
 held_moved f [] r = refl
 held_moved f (None ∷ xs) zero = refl
 held_moved f (Some x ∷ xs) zero = refl
@@ -141,7 +141,7 @@ module _ (f g : ℕ → ℕ) (n : ℕ) (proposition : f 0 ≡ 0) where
       ap (λ (x : Ended). leave_from (home + n) (at_rest s) x.goals x.frames) e ∙ left_from home s (end_variables home s.goals s.frames).goals (end_variables home s.goals s.frames).frames
 
   -- right sides that end at a place
-  innermost_moved : (fs : List Frame) → innermost_block (map (moved_frame m) fs) ≡ option_map (moved_block m) (innermost_block fs)
+  pub innermost_moved : (fs : List Frame) → innermost_block (map (moved_frame m) fs) ≡ option_map (moved_block m) (innermost_block fs)
   innermost_moved [] = refl
   innermost_moved (x ∷ fs) = by x.block (innermost_moved fs)
     where

@@ -23,7 +23,7 @@ module _ (f g : ℕ → ℕ) (n : ℕ) (proposition : f 0 ≡ 0) where
   abbrev at_rest : State → State
   at_rest s = moved_state m n s
 
-  same_o : mapped_type m o_type ≡ o_type
+  pub same_o : mapped_type m o_type ≡ o_type
   same_o = ap (λ k. con k no_types) proposition
 
   -- types
@@ -111,7 +111,7 @@ module _ (f g : ℕ → ℕ) (n : ℕ) (proposition : f 0 ≡ 0) where
       ap (λ (x : Ended). turn_from (at_rest s) k x.goals x.frames) e ∙ turned_from s k (end_variables home s.goals s.frames).goals (end_variables home s.goals s.frames).frames
 
   -- the type of an argument of the head
-  argument_left : (T : Ty) (i : ℕ) → argument_type (mapped_type m T) i ≡ option_map (mapped_type m) (argument_type T i)
+  pub argument_left : (T : Ty) (i : ℕ) → argument_type (mapped_type m T) i ≡ option_map (mapped_type m) (argument_type T i)
   argument_left (arrow a b) zero = refl
   argument_left (arrow a b) (suc i) = argument_left b i
   argument_left (var x) i = refl

@@ -83,7 +83,7 @@ module _ (m : Map) where
   apply_moved t (u ∷ us) = apply_moved (app t u) us
 
   -- loose indices
-  agree_at_moved : (o p : Option Ty) → agree_at o p ≡ true → agree_at (option_map (mapped_type m) o) (option_map (mapped_type m) p) ≡ true
+  pub agree_at_moved : (o p : Option Ty) → agree_at o p ≡ true → agree_at (option_map (mapped_type m) o) (option_map (mapped_type m) p) ≡ true
   agree_at_moved (Some T) (Some U) e = equal_moved T U e
   agree_at_moved (Some T) None e = refl
   agree_at_moved None o e = refl

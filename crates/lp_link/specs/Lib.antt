@@ -6,5 +6,6 @@ pub mod Refusals
 pub mod Sizes
 pub mod Numbers
 pub mod Linked
+pub mod Put
 pub mod Told
 pub mod inner

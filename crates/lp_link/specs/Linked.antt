@@ -11,6 +11,7 @@ use Rattle.lp_model.specs.Flat.{Clause, map_clause}
 use Rattle.lp_code.specs.declared.object.Object.{Object}
 use Rattle.lp_code.specs.declared.object.ObjectKind.{ObjectKind}
 use Rattle.lp_code.specs.declared.object.ObjectConstant.{ObjectConstant}
+use Rattle.lp_code.specs.declared.record.Record.{Record}
 use Rattle.lp_code.specs.declared.image.Image.{Image}
 use Rattle.lp_code.specs.declared.image.ImageKind.{ImageKind}
 use Rattle.lp_code.specs.declared.image.ImageConstant.{ImageConstant}
@@ -90,19 +91,22 @@ pub data Linked (os : List Object) : (above : Option Copy) → (entries : List �
 abbrev pub first_ends : Object → Ends
 first_ends o = record { kinds = 8 + (length o.kinds.items - hidden_kinds o.kinds.items); constants = 32 + (length o.constants.items - hidden_constants o.constants.items) }
 
--- a clause with its kinds and constants renumbered
-abbrev pub map_of : Copy → Map
-map_of c = record { kinds = renumbered 8 c.kinds; constants = renumbered 32 c.constants; types = var; terms = λ x k. atom (logic x k) }
+-- a clause with its kinds and constants renumbered; a logic variable, of which clauses have none, would go with its record, whose number is behind n others
+abbrev pub map_of : (n : ℕ) → Copy → Map
+map_of n c = record { kinds = renumbered 8 c.kinds; constants = renumbered 32 c.constants; types = var; terms = λ x k. atom (logic x (k + n)) }
 
-abbrev pub renumbered_clause : Copy → Clause → Clause
-renumbered_clause c d = map_clause (λ (u : ℕ). u) (λ u t. mapped (map_of c) t) (mapped_type (map_of c)) 0 d
+abbrev pub renumbered_clause : (n : ℕ) → Copy → Clause → Clause
+renumbered_clause n c d = map_clause (λ (u : ℕ). u) (λ u t. mapped (map_of n c) t) (mapped_type (map_of n c)) 0 d
 
--- the clauses of copies, one copy behind the other, where the objects denote some
-abbrev pub AreDenoted : List Copy → List Clause → Type 0
-AreDenoted [] ds = ds ≡ []
-AreDenoted (c ∷ cs) ds = (own : List Clause) × (rest : List Clause) × (denote (tables_of_object c.object) c.object.code.records.items ≡ Some own) × AreDenoted cs rest × (ds ≡ map (renumbered_clause c) own ++ rest)
+abbrev pub records_of : Copy → List Record
+records_of c = c.object.code.records.items
+
+-- the clauses of copies, one copy behind the other, where the objects denote some; n records stand before them
+abbrev pub AreDenoted : (n : ℕ) → List Copy → List Clause → Type 0
+AreDenoted n [] ds = ds ≡ []
+AreDenoted n (c ∷ cs) ds = (own : List Clause) × (rest : List Clause) × (denote (tables_of_object c.object) (records_of c) ≡ Some own) × AreDenoted (n + length (records_of c)) cs rest × (ds ≡ map (renumbered_clause n c) own ++ rest)
 
 -- the image denotes the clauses of the copies, where the objects denote clauses
 abbrev pub IsLinked : List Object → (root : ℕ) → Image → Type 0
 IsLinked os root i =
-    (o : Object) (end : Ends) (copies : List Copy) (ds : List Clause) → slice_get os root ≡ Some o → Linked os None (root ∷ []) (first_ends o) copies end → AreDenoted copies ds → denote (tables_of_image i) i.code.records.items ≡ Some ds
+    (o : Object) (end : Ends) (copies : List Copy) (ds : List Clause) → slice_get os root ≡ Some o → Linked os None (root ∷ []) (first_ends o) copies end → AreDenoted 0 copies ds → denote (tables_of_image i) i.code.records.items ≡ Some ds

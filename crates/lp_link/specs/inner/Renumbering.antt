@@ -1,5 +1,5 @@
 -- Code at work with its kinds and constants renumbered, and its records moved up: what stands in registers, and instructions.
-use Rattle.std.specs.Prelude.{◌≡◌, ℕ, ◌+◌, List, map, Option, None, Some, option_map, Vec}
+use Rattle.std.specs.Prelude.{◌≡◌, ℕ, ◌+◌, nat_lt, Bool, true, false, List, [], ◌∷◌, map, Option, None, Some, option_map, slice_get, Vec}
 use Rattle.std.specs.Global.{Global}
 use Rattle.lp_calculus.specs.Types.{Ty, var}
 use Rattle.lp_calculus.specs.Term.{Term, atom, logic}
@@ -8,8 +8,13 @@ use Rattle.lp_term.specs.Mapped.{Map, mapped, mapped_type}
 use Rattle.lp_model.specs.Flat.{Goals, Clauses, map_goals, map_clauses}
 use Rattle.lp_code.specs.declared.instruction.Instr.{Instr}
 use Rattle.lp_code.specs.declared.instruction.Instr.TheVariants as on
+use Rattle.lp_code.specs.declared.record.Record.{Record}
+use Rattle.lp_code.specs.declared.record.RecordHead.{RecordHead}
+use Rattle.lp_code.specs.declared.record.RecordHead.TheVariants.{Const, Register}
 use Rattle.lp_code.specs.Symbolic.{Tables, Built, Registers}
-use Rattle.lp_code.specs.States.{Block, under_sigma, under_all, under_assumption, under_not, left_side, right_side, Frame, Captured, State}
+use Rattle.lp_code.specs.Groups.{PlainKey, no_key, constant, integer, text, plain_key}
+use Rattle.lp_code.specs.Rules.{named_before}
+use Rattle.lp_code.specs.States.{Block, under_sigma, under_all, under_assumption, under_not, left_side, right_side, Frame, Captured, State, Home, member}
 
 -- kinds and constants have other numbers, and the variables of a record go with it
 abbrev pub moving : (kinds constants : ℕ → ℕ) → (first : ℕ) → Map
@@ -89,3 +94,48 @@ moved_state m n s = record {
   frames = map (moved_frame m) s.frames;
   assumed = map (λ (a : ℕ × Captured). (n + a.0, moved_captured m a.1)) s.assumed;
 }
+
+-- the numbers of the language stay, and no other one becomes one of its constants
+pub record KeepsStandard (f g : ℕ → ℕ) : Type 0 where
+  pub kinds : (k : ℕ) → nat_lt k 8 ≡ true → f k ≡ k
+  pub constants : (c : ℕ) → nat_lt c 32 ≡ true → g c ≡ c
+  pub declared : (c : ℕ) → nat_lt c 32 ≡ false → nat_lt (g c) 32 ≡ false
+
+-- a record of the image is one of the object
+abbrev pub moved_head : Map → RecordHead → RecordHead
+moved_head m (Const c) = Const (m.constants c)
+moved_head m (Register r) = Register r
+
+abbrev pub moved_key : Map → PlainKey → PlainKey
+moved_key m (constant c) = constant (m.constants c)
+moved_key m k = k
+
+abbrev pub AllMoved : Map → (first : ℕ) → List Instr → List Instr → Type 0
+AllMoved m n [] [] = Unit {0}
+AllMoved m n [] (j ∷ js) = ⊥
+AllMoved m n (i ∷ is) [] = ⊥
+AllMoved m n (i ∷ is) (j ∷ js) = IsMoved m n i j × AllMoved m n is js
+
+pub record IsMovedRecord (m : Map) (first : ℕ) (r q : Record) : Type 0 where
+  pub program : q.program ≡ r.program
+  pub head : q.head ≡ option_map (moved_head m) r.head
+  pub captured_types : q.captured_types ≡ r.captured_types
+  pub captured : q.captured ≡ r.captured
+  pub types : q.types ≡ r.types
+  pub registers : q.registers ≡ r.registers
+  pub key : plain_key q.key ≡ moved_key m (plain_key r.key)
+  pub code : AllMoved m first r.code.items q.code.items
+
+abbrev pub AllRecordsMoved : Map → (first : ℕ) → List Record → List Record → Type 0
+AllRecordsMoved m n [] [] = Unit {0}
+AllRecordsMoved m n [] (q ∷ qs) = ⊥
+AllRecordsMoved m n (r ∷ rs) [] = ⊥
+AllRecordsMoved m n (r ∷ rs) (q ∷ qs) = IsMovedRecord m n r q × AllRecordsMoved m n rs qs
+
+-- the records around it are there too, further up, and those before it name what they named
+pub record IsMovedHome (m : Map) (first : ℕ) (old new : Home) : Type 0 where
+  pub tables : AreMoved m old.tables new.tables
+  pub number : new.number ≡ old.number + first
+  pub self : IsMovedRecord m first old.self new.self
+  pub others : (k : ℕ) (r : Record) → slice_get old.records k ≡ Some r → (q : Record) × (slice_get new.records (first + k) ≡ Some q) × IsMovedRecord m first r q
+  pub named : (k : ℕ) → member (first + k) (named_before new.number new.records) ≡ member k (named_before old.number old.records)
